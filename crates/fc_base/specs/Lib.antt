@@ -1,0 +1,4 @@
+pub mod Ascending
+pub mod Growth
+pub mod OneKey
+pub mod Parts

@@ -1,0 +1,99 @@
+-- Which lines are commands.
+use Rattle.std.specs.Prelude.{◌≡◌, ℕ, ◌^◌, ◌&&◌, Bool, List, [], ◌∷◌, length, nat_eq, nat_lt, nat_le, codes, Option, Some, None, if◌then◌else◌}
+use Rattle.std.specs.List.{list_all}
+use Rattle.std.specs.Cmp.Lexicographic.{pointwise}
+use Rattle.std.specs.Char.{is_ascii_digit}
+use Rattle.std.specs.Str.Parse.{digits_value}
+use Rattle.fc_command.specs.declared.command.world.Side.{Side}
+use Rattle.fc_command.specs.declared.command.world.Side.TheVariants.{First, Second}
+use Rattle.fc_command.specs.declared.command.world.Command.{Command}
+use Rattle.fc_command.specs.declared.command.world.Command.TheVariants.{Insert, Get, Remove, Len}
+use Rattle.fc_command.specs.Lines.{words_of}
+
+-- What follows is asked only where something is there.
+infixl 10 ◌>>=◌
+abbrev pub ◌>>=◌ : {A B : Type 0} → Option A → (A → Option B) → Option B
+None >>= f = None
+(Some x) >>= f = f x
+
+-- Whether a word is this text.
+abbrev pub is_text : List ℕ → List ℕ → Bool
+is_text word text = pointwise nat_eq word text
+
+-- A number is 1 to 20 digits, of a value below 2 ^ 64.
+abbrev pub is_number : List ℕ → Bool
+is_number word = nat_lt 0 (length word) && nat_le (length word) 20 && list_all is_ascii_digit word && nat_lt (digits_value 10 word) (2 ^ 64)
+
+-- The number that a word writes.
+abbrev pub number_of : List ℕ → Option ℕ
+number_of word = if is_number word then Some (digits_value 10 word) else None
+
+-- The map that a word names.
+abbrev pub map_of : List ℕ → Option Side
+map_of word = if is_text word (codes "a") then Some First else if is_text word (codes "b") then Some Second else None
+
+-- The first word, and the words after it.
+abbrev pub word_at : List (List ℕ) → Option (List ℕ × List (List ℕ))
+word_at [] = None
+word_at (word ∷ words) = Some (word, words)
+
+-- The map that the first word names, and the words after it.
+unfoldable pub map_at : List (List ℕ) → Option (Side × List (List ℕ))
+map_at words = do
+  first ← word_at words
+  side ← map_of first.0
+  Some (side, first.1)
+
+-- The number that the first word writes, and the words after it.
+unfoldable pub number_at : List (List ℕ) → Option (ℕ × List (List ℕ))
+number_at words = do
+  first ← word_at words
+  n ← number_of first.0
+  Some (n, first.1)
+
+-- The command, if no word is left.
+abbrev pub ends : Command ℕ ℕ → List (List ℕ) → Option (Command ℕ ℕ)
+ends command [] = Some command
+ends command (word ∷ words) = None
+
+-- The words after `insert` are a map, a key and a value.
+unfoldable pub insert_of : List (List ℕ) → Option (Command ℕ ℕ)
+insert_of words = do
+  m ← map_at words
+  k ← number_at m.1
+  v ← number_at k.1
+  ends (Insert m.0 k.0 v.0) v.1
+
+-- The words after `get` are a map and a key.
+unfoldable pub get_of : List (List ℕ) → Option (Command ℕ ℕ)
+get_of words = do
+  m ← map_at words
+  k ← number_at m.1
+  ends (Get m.0 k.0) k.1
+
+-- The words after `remove` are a map and a key.
+unfoldable pub remove_of : List (List ℕ) → Option (Command ℕ ℕ)
+remove_of words = do
+  m ← map_at words
+  k ← number_at m.1
+  ends (Remove m.0 k.0) k.1
+
+-- The word after `len` is a map.
+unfoldable pub len_of : List (List ℕ) → Option (Command ℕ ℕ)
+len_of words = do
+  m ← map_at words
+  ends (Len m.0) m.1
+
+-- The command that the words ask for, by the first of them.
+unfoldable pub command_of_words : List (List ℕ) → Option (Command ℕ ℕ)
+command_of_words words = do
+  first ← word_at words
+  if is_text first.0 (codes "insert") then insert_of first.1
+      else if is_text first.0 (codes "get") then get_of first.1
+      else if is_text first.0 (codes "remove") then remove_of first.1
+      else if is_text first.0 (codes "len") then len_of first.1
+      else None
+
+-- The command that a line of at most 4096 bytes asks for, if it is one.
+unfoldable pub command_of : List ℕ → Option (Command ℕ ℕ)
+command_of line = if nat_le (length line) 4096 then command_of_words (words_of line) else None

@@ -1,0 +1,6 @@
+pub mod Grammar
+pub mod Lines
+pub mod Session
+pub mod Spoken
+pub mod Step
+pub mod Texts

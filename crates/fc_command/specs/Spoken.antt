@@ -1,0 +1,72 @@
+-- What is written for lines.
+use Rattle.std.specs.Prelude.{◌≡◌, ℕ, ◌+◌, ◌-◌, ◌^◌, min, ◌⊎◌, IfSome, List, [], ◌∷◌, ◌++◌, length, map, codes, Option, Some, None, Result, Ok, Err}
+use Rattle.std.specs.List.{flat_map}
+use Rattle.std.specs.Ordering.{nat_cmp}
+use Rattle.std.specs.Io.KnownBytes.{Appends, Consumes, IsAtEnd}
+use Rattle.fc_command.specs.declared.command.world.World.{World}
+use Rattle.fc_command.specs.declared.command.world.Command.{Command}
+use Rattle.fc_command.specs.declared.command.world.Reply.{Reply}
+use Rattle.fc_command.specs.Step.{IsNew, Runs}
+use Rattle.fc_base.specs.declared.try_reserve_error.TryReserveError.TheVariants.{AllocError}
+use Rattle.fc_command.specs.declared.command.session.ServeEnd.{ServeEnd}
+use Rattle.fc_command.specs.declared.command.session.ServeEnd.TheVariants.{Finished, NotACommand}
+use Rattle.fc_command.specs.declared.command.session.ServeError.{ServeError}
+use Rattle.fc_command.specs.declared.command.session.ServeError.TheVariants.{Memory, Read, Write}
+use Rattle.fc_command.specs.Lines.{lines_of, whole_lines_of}
+use Rattle.fc_command.specs.Grammar.{command_of}
+use Rattle.fc_command.specs.Texts.{text_of, fault_text}
+
+-- The lines are commands that lead from a new world to this one, and the text is that of their replies.
+pub record SpokenTo (lines : List (List ℕ)) (text : List ℕ) (world : World ℕ ℕ) : Type 0 where
+  pub start : World ℕ ℕ
+  pub new : IsNew start
+  pub commands : List (Command ℕ ℕ)
+  pub replies : List (Reply ℕ ℕ)
+  pub each : map command_of lines ≡ map Some commands
+  pub run : Runs nat_cmp start commands replies world
+  pub says : text ≡ flat_map text_of replies
+
+-- The lines are commands, and the text is that of their replies.
+abbrev pub Spoken : List (List ℕ) → List ℕ → Type 0
+Spoken lines text = (world : World ℕ ℕ) × SpokenTo lines text world
+
+-- Some front of the lines is spoken.
+abbrev pub SpokenFront : List (List ℕ) → List ℕ → Type 0
+SpokenFront lines text = (front after : List (List ℕ)) × (lines ≡ front ++ after) × Spoken front text
+
+-- The lines before line n are spoken, line n is not a command, and its fault line follows.
+pub record Faulted (lines : List (List ℕ)) (text : List ℕ) (n : ℕ) : Type 0 where
+  pub front : List (List ℕ)
+  pub line : List ℕ
+  pub after : List (List ℕ)
+  pub said : List ℕ
+  pub place : lines ≡ front ++ line ∷ after
+  pub bad : command_of line ≡ None
+  pub spoken : Spoken front said
+  pub number : n ≡ min (length front + 1) (2 ^ 64 - 1)
+  pub text_is : text ≡ said ++ fault_text n
+
+-- The text is a beginning of what is written for some front of the lines, whose last may be a line that is not a command.
+abbrev pub Cut : List (List ℕ) → List ℕ → Type 0
+Cut lines text = (tail : List ℕ) × (SpokenFront lines (text ++ tail) ⊎ ((n : ℕ) × Faulted lines (text ++ tail) n))
+
+-- What was written at each end, by the bytes that the source had before (old) and has left (new), as far as it tells them.
+abbrev pub Served : Option (List ℕ) → Option (List ℕ) → List ℕ → Result ServeEnd ServeError → Type 0
+-- Finished: the whole source was read, and its lines are spoken.
+Served old new text (Ok Finished) = IsAtEnd new × IfSome old (λ source. Spoken (lines_of source) text)
+-- NotACommand: the lines before that line are spoken, and its fault line follows.
+Served old new text (Ok (NotACommand n)) = IfSome old (λ source. Faulted (lines_of source) text n)
+-- Memory: some front of the lines is spoken, and nothing more is written.
+Served old new text (Err (Memory e)) = (e ≡ AllocError) × IfSome old (λ source. SpokenFront (lines_of source) text)
+-- Read: the lines that were read to their line feed are spoken.
+Served old new text (Err Read) = (read : List ℕ) × Consumes old new read × Spoken (whole_lines_of read) text
+-- Write: a beginning was written.
+Served old new text (Err Write) = IfSome old (λ source. Cut (lines_of source) text)
+
+-- The exit status of an end, and the line for standard error.
+abbrev pub ending_of : Result ServeEnd ServeError → ℕ × List ℕ
+ending_of (Ok Finished) = (0, [])
+ending_of (Ok (NotACommand n)) = (1, [])
+ending_of (Err Read) = (2, codes "input failed")
+ending_of (Err Write) = (2, codes "output failed")
+ending_of (Err (Memory e)) = (2, codes "no memory")

@@ -1,0 +1,80 @@
+-- What a command does to a world, and what it answers.
+use Rattle.std.specs.Prelude.{◌≡◌, ℕ, ◌-◌, ◌^◌, List, [], ◌∷◌, length, None, Option, IsNone, IsSome}
+use Rattle.std.specs.declared.cmp.Ordering.{Ordering}
+use Rattle.fc_base.specs.declared.try_reserve_error.TryReserveError.{TryReserveError}
+use Rattle.fc_base.specs.Growth.{growth_error}
+use Rattle.fc_base.specs.OneKey.{put, cut}
+use Rattle.fc_base.specs.Parts.{at, value_at}
+use Rattle.fc_map.specs.Entries.{Map, entries}
+use Rattle.fc_command.specs.declared.command.world.World.{World}
+use Rattle.fc_command.specs.declared.command.world.Side.{Side}
+use Rattle.fc_command.specs.declared.command.world.Side.TheVariants.{First, Second}
+use Rattle.fc_command.specs.declared.command.world.Command.{Command}
+use Rattle.fc_command.specs.declared.command.world.Command.TheVariants.{Insert, Get, Remove, Len as CountPairs}
+use Rattle.fc_command.specs.declared.command.world.Reply.{Reply}
+use Rattle.fc_command.specs.declared.command.world.Reply.TheVariants.{Value, Len, Refused}
+
+-- A new world has no pairs.
+abbrev pub IsNew : {K V : Type 0} → World K V → Type 0
+IsNew w = (entries w.a ≡ []) × (entries w.b ≡ [])
+
+-- The side that a command names.
+abbrev pub side_of : {K V : Type 0} → Command K V → Side
+side_of (Insert side k v) = side
+side_of (Get side k) = side
+side_of (Remove side k) = side
+side_of (CountPairs side) = side
+
+-- The map that a side names.
+abbrev pub named : {K V : Type 0} → Side → World K V → Map K V
+named First w = w.a
+named Second w = w.b
+
+-- The other map.
+abbrev pub other : {K V : Type 0} → Side → World K V → Map K V
+other First w = w.b
+other Second w = w.a
+
+-- What a command makes of the list m of the named map and of the list o of the other, and its reply.
+pub record Outcome (K V : Type 0) : Type 0 where
+  pub m : List (K × V)
+  pub o : List (K × V)
+  pub reply : Reply K V
+
+module _ {K V : Type 0} (cmp : K → K → Ordering) where
+  -- The table of commands, where they are answered: the list of the named map, that of the other, and the reply.
+  abbrev pub answer : Command K V → List (K × V) → List (K × V) → Outcome K V
+  answer (Insert side k v) m o = record { m = put cmp m k v; o = o; reply = Value (value_at cmp m k) }
+  answer (Get side k) m o = record { m = m; o = o; reply = Value (value_at cmp m k) }
+  answer (Remove side k) m o = record { m = cut cmp m k; o = o; reply = Value (value_at cmp m k) }
+  answer (CountPairs side) m o = record { m = m; o = o; reply = Len (length m) }
+
+  -- Whether a command may be refused, and by which error: an insertion at a new key, and a copy that may be refused.
+  abbrev pub MayRefuse : Command K V → List (K × V) → List (K × V) → TryReserveError → Type 0
+  MayRefuse (Insert side k v) m o e = (at cmp m k ≡ None) × (e ≡ growth_error (length m))
+  MayRefuse (Get side k) m o e = IsSome (value_at cmp m k)
+  MayRefuse (Remove side k) m o e = ⊥
+  MayRefuse (CountPairs side) m o e = ⊥
+
+  -- Whether a command is always refused: an insertion of a new key into a map of the greatest length.
+  abbrev pub MustRefuse : Command K V → List (K × V) → List (K × V) → Type 0
+  MustRefuse (Insert side k v) m o = (at cmp m k ≡ None) × (length m ≡ 2 ^ 64 - 1)
+  MustRefuse (Get side k) m o = ⊥
+  MustRefuse (Remove side k) m o = ⊥
+  MustRefuse (CountPairs side) m o = ⊥
+
+  -- A command on the named map m and the other map o is answered by the table, or it is refused and changes nothing.
+  pub data StepOn (c : Command K V) (m o : Map K V) (r : Reply K V) (m' o' : Map K V) : Type 0 where
+    answered : (MustRefuse c (entries m) (entries o) → ⊥) → (let out = answer c (entries m) (entries o) in (r ≡ out.reply) × (entries m' ≡ out.m) × (entries o' ≡ out.o)) → StepOn c m o r m' o'
+    refused : (e : TryReserveError) → MayRefuse c (entries m) (entries o) e → (r ≡ Refused e) × (m' ≡ m) × (o' ≡ o) → StepOn c m o r m' o'
+
+  -- A command may lead from one world to another with this reply.
+  abbrev pub Step : World K V → Command K V → Reply K V → World K V → Type 0
+  Step w c r w' = let side = side_of c in StepOn c (named side w) (other side w) r (named side w') (other side w')
+
+  -- The commands may lead from one world to another, with a reply to each.
+  abbrev pub Runs : World K V → List (Command K V) → List (Reply K V) → World K V → Type 0
+  Runs w [] [] w' = w' ≡ w
+  Runs w (c ∷ cs) (r ∷ rs) w' = (mid : World K V) × Step w c r mid × Runs mid cs rs w'
+  Runs w [] (r ∷ rs) w' = ⊥
+  Runs w (c ∷ cs) [] w' = ⊥

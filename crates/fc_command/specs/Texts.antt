@@ -1,0 +1,33 @@
+-- Replies as text.
+use Rattle.std.specs.Prelude.{◌≡◌, ℕ, List, [], ◌∷◌, ◌++◌, codes, Option, Some, None}
+use Rattle.std.specs.Fmt.{decimal}
+use Rattle.fc_base.specs.declared.try_reserve_error.TryReserveError.{TryReserveError}
+use Rattle.fc_base.specs.declared.try_reserve_error.TryReserveError.TheVariants.{AllocError, CapacityOverflow}
+use Rattle.fc_command.specs.declared.command.world.Reply.{Reply}
+use Rattle.fc_command.specs.declared.command.world.Reply.TheVariants.{Done, Key, Value, Len, Refused}
+
+-- A number that may be missing.
+abbrev pub option_text : Option ℕ → List ℕ
+option_text None = codes "none"
+option_text (Some n) = codes "some " ++ decimal n
+
+-- Why a command was refused.
+abbrev pub refusal_text : TryReserveError → List ℕ
+refusal_text AllocError = codes "refused alloc"
+refusal_text CapacityOverflow = codes "refused overflow"
+
+-- A reply without its line feed.
+abbrev pub words_of_reply : Reply ℕ ℕ → List ℕ
+words_of_reply Done = codes "done"
+words_of_reply (Key k) = option_text k
+words_of_reply (Value v) = option_text v
+words_of_reply (Len n) = decimal n
+words_of_reply (Refused e) = refusal_text e
+
+-- The line that is written for a reply.
+unfoldable pub text_of : Reply ℕ ℕ → List ℕ
+text_of reply = words_of_reply reply ++ 10 ∷ []
+
+-- The line that is written for line n where that is not a command.
+unfoldable pub fault_text : ℕ → List ℕ
+fault_text n = codes "line " ++ decimal n ++ codes ": not a command\n"
