@@ -1,0 +1,11 @@
+//! Collections in which every call that takes memory answers a `Result`, and a refused call does no harm.
+//!
+//! `btree` has the ordered map, `command` a world of maps behind commands and lines of text. The error of a refused call is
+//! `TryReserveError`; `TryClone` is for types whose copies may be refused.
+#![tactic(auto)]
+
+pub mod btree;
+
+pub use fc_base::{TryClone, TryReserveError};
+pub use fc_base::{try_clone, try_reserve_error};
+pub use fc_command::command;

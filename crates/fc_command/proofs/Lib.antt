@@ -1,0 +1,6 @@
+mod CutFacts
+mod ExampleFacts
+mod LineFacts
+mod RunFacts
+mod ServeFacts
+mod SpokenFacts

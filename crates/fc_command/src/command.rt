@@ -1,0 +1,9 @@
+//! Commands over a world of ordered maps, their lines and the text of their replies.
+
+mod lines;
+mod replies;
+mod session;
+mod world;
+
+pub use session::{ServeEnd, ServeError, ending, serve};
+pub use world::{Command, Reply, Side, World};

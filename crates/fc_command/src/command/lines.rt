@@ -1,0 +1,184 @@
+//! Lines as commands.
+ghost use Rattle.std.specs.Prelude.{◌≡◌, ◌^◌, ◌∷◌, ◌==◌, position, nat_lt, Some, None, IsTrue, if◌then◌else◌};
+ghost use Rattle.std.specs.List.{list_all};
+ghost use Rattle.std.specs.Char.{is_ascii_digit};
+ghost use Rattle.std.specs.Str.Parse.{digits_value};
+ghost use Rattle.std.specs.Option.{option_map};
+ghost use Rattle.fc_command.specs.Lines.{words_of, words_left};
+ghost use Rattle.fc_command.specs.Grammar.{
+  command_of,
+  number_of,
+  map_of,
+  word_at,
+  map_at,
+  number_at,
+  ends,
+  insert_of,
+  get_of,
+  remove_of,
+  len_of,
+  command_of_words,
+};
+
+use crate::command::world::{Command, Side};
+
+/// The most bytes that a line has, without its line feed.
+pub const MAX_LINE: usize = 4096;
+
+/// The command that a line asks for.
+#[tactic(auto, unfolding(crate::specs::Grammar::command_of))]
+pub fn command_in(line: &[u8]) -> Option<Command<u64, u64>>
+    ensures { result ≡ command_of line.now }
+{
+    if line.len() <= MAX_LINE {
+        command_in_words(Some(line))
+    } else {
+        None
+    }
+}
+
+#[tactic(auto, unfolding(crate::specs::Grammar::command_of_words))]
+fn command_in_words(words: Option<&[u8]>) -> Option<Command<u64, u64>>
+    ensures { result ≡ command_of_words (words_left words.entry) }
+{
+    let (word, words) = next_word(words)?;
+    if word == b"insert".as_slice() {
+        insert_in(words)
+    } else if word == b"get".as_slice() {
+        get_in(words)
+    } else if word == b"remove".as_slice() {
+        remove_in(words)
+    } else if word == b"len".as_slice() {
+        len_in(words)
+    } else {
+        None
+    }
+}
+
+#[tactic(auto, unfolding(crate::specs::Grammar::insert_of))]
+fn insert_in(words: Option<&[u8]>) -> Option<Command<u64, u64>>
+    ensures { result ≡ insert_of (words_left words.entry) }
+{
+    let (side, words) = next_map(words)?;
+    let (key, words) = next_number(words)?;
+    let (value, words) = next_number(words)?;
+    ending(Command::Insert(side, key, value), words)
+}
+
+#[tactic(auto, unfolding(crate::specs::Grammar::get_of))]
+fn get_in(words: Option<&[u8]>) -> Option<Command<u64, u64>>
+    ensures { result ≡ get_of (words_left words.entry) }
+{
+    let (side, words) = next_map(words)?;
+    let (key, words) = next_number(words)?;
+    ending(Command::Get(side, key), words)
+}
+
+#[tactic(auto, unfolding(crate::specs::Grammar::remove_of))]
+fn remove_in(words: Option<&[u8]>) -> Option<Command<u64, u64>>
+    ensures { result ≡ remove_of (words_left words.entry) }
+{
+    let (side, words) = next_map(words)?;
+    let (key, words) = next_number(words)?;
+    ending(Command::Remove(side, key), words)
+}
+
+#[tactic(auto, unfolding(crate::specs::Grammar::len_of))]
+fn len_in(words: Option<&[u8]>) -> Option<Command<u64, u64>>
+    ensures { result ≡ len_of (words_left words.entry) }
+{
+    let (side, words) = next_map(words)?;
+    ending(Command::Len(side), words)
+}
+
+// The command, if no word is left.
+fn ending(command: Command<u64, u64>, words: Option<&[u8]>) -> Option<Command<u64, u64>>
+    ensures { result ≡ ends command (words_left words.entry) }
+{
+    match words {
+        None => Some(command),
+        Some(_) => None,
+    }
+}
+
+#[tactic(auto, unfolding(crate::specs::Grammar::map_at))]
+fn next_map(words: Option<&[u8]>) -> Option<(Side, Option<&[u8]>)>
+    ensures { option_map (λ x. (x.0, words_left x.1)) result ≡ map_at (words_left words.entry) }
+{
+    let (word, words) = next_word(words)?;
+    let side = map_in(word)?;
+    Some((side, words))
+}
+
+#[tactic(auto, unfolding(crate::specs::Grammar::number_at))]
+fn next_number(words: Option<&[u8]>) -> Option<(u64, Option<&[u8]>)>
+    ensures { option_map (λ x. (x.0, words_left x.1)) result ≡ number_at (words_left words.entry) }
+{
+    let (word, words) = next_word(words)?;
+    let n = number_in(word)?;
+    Some((n, words))
+}
+
+fn map_in(word: &[u8]) -> Option<Side>
+    ensures { result ≡ map_of word.now }
+{
+    if word == b"a".as_slice() {
+        Some(Side::First)
+    } else if word == b"b".as_slice() {
+        Some(Side::Second)
+    } else {
+        None
+    }
+}
+
+fn number_in(word: &[u8]) -> Option<u64>
+    ensures { result ≡ number_of word.now }
+{
+    if !word.is_empty() && word.len() <= 20 && are_digits(word) {
+        value_in(word)
+    } else {
+        None
+    }
+}
+
+// The value of digits, if it is below 2^64.
+fn value_in(digits: &[u8]) -> Option<u64>
+    requires { IsTrue (list_all is_ascii_digit digits.now) }
+    ensures { result ≡ if nat_lt (digits_value 10 digits.now) (2 ^ 64) then Some (digits_value 10 digits.now) else None }
+{
+    let mut n: u64 = 0;
+    for digit in digits {
+        let tens = n.checked_mul(10)?;
+        n = tens.checked_add(u64::from(*digit - b'0'))?;
+    }
+    Some(n)
+}
+
+// The word before the first space, and what follows that space.
+fn next_word(words: Option<&[u8]>) -> Option<(&[u8], Option<&[u8]>)>
+    ensures { option_map (λ x. (x.0.now, words_left x.1)) result ≡ word_at (words_left words.entry) }
+{
+    let line = words?;
+    Some(first_word(line))
+}
+
+fn first_word(line: &[u8]) -> (&[u8], Option<&[u8]>)
+    ensures { words_of line.now ≡ result.0.now ∷ words_left result.1 }
+{
+    match space_in(line) {
+        Some(end) => (&line[..end], Some(&line[end + 1..])),
+        None => (line, None),
+    }
+}
+
+fn space_in(line: &[u8]) -> Option<usize>
+    ensures { result ≡ position (λ x. x == 32) line.now }
+{
+    line.iter().position(|b| *b == b' ')
+}
+
+fn are_digits(word: &[u8]) -> bool
+    ensures { result ≡ list_all is_ascii_digit word.now }
+{
+    word.iter().all(|b| b.is_ascii_digit())
+}

@@ -1,0 +1,207 @@
+//! Lines from a reader, and replies to a writer.
+ghost use Rattle.std.specs.Prelude.{◌≡◌, ◌+◌, ◌-◌, ◌^◌, ◌≤◌, List, [], ◌∷◌, ◌++◌, min, length, ℕ, MatchResult, Ok, None};
+ghost use Rattle.std.specs.Io.KnownBytes.{Appends, Keeps};
+ghost use Rattle.fc_command.specs.declared.command.session.ServeError.TheVariants as ServeError;
+ghost use Rattle.fc_command.specs.Spoken.{Served, SpokenTo, ending_of};
+ghost use Rattle.fc_command.specs.Session.{Written, LineRun, IsAfter, HasRoom, PieceRun, FaultTold, Ended};
+
+use crate::command::lines::{MAX_LINE, command_in};
+use crate::command::replies::{write_fault, write_reply};
+use crate::command::world::World;
+use fc_base::TryReserveError;
+use std::alloc::Global;
+use std::io::{Read, Write};
+
+/// How `serve` ends where nothing failed.
+#[derive(Clone, Copy, PartialEq, Eq, Debug)]
+pub enum ServeEnd {
+    /// The source ended, and each of its lines was run.
+    Finished,
+    /// The line of this number, counted from 1, is not a command.
+    NotACommand(u64),
+}
+
+/// Why `serve` gave up.
+#[derive(Clone, Copy, PartialEq, Eq, Debug)]
+pub enum ServeError {
+    /// Memory was refused for a line or for the text of a reply.
+    Memory(TryReserveError),
+    /// The source failed.
+    Read,
+    /// The writer failed.
+    Write,
+}
+
+// How many bytes one read asks for.
+const PIECE: usize = 8192;
+
+// What is kept between two reads: the world, the line so far, how many lines were whole, and the text of the last reply.
+#[derive(Drop)]
+struct Session {
+    world: World<u64, u64>,
+    line: Vec<u8>,
+    number: u64,
+    text: String,
+}
+
+/// Runs the lines of the source on a new world, and writes the text of each reply.
+///
+/// `Ok(Finished)`: the source was read to its end, and all replies are written and flushed. `Ok(NotACommand(n))`: the replies of
+/// the lines before line n are written, then the line `line n: not a command`, and all is flushed; how much of the source was
+/// read past line n is open.
+///
+/// # Errors
+/// The replies of complete lines before the error are written. `Memory`: room for a line, which is taken before the first read,
+/// or for a reply's text was refused. `Read`: a read failed, was interrupted, or the source hadn't ended after `u64::MAX` reads;
+/// a line that has not ended is not run. `Write`: a write failed, was interrupted or took no byte, or the flush failed.
+pub fn serve<R: Read, W: Write>(
+    alloc: Global,
+    src: &mut R,
+    out: &mut W,
+) -> Result<ServeEnd, ServeError>
+    ensures { (text : List ℕ) × Appends (W.contents out.old) (W.contents out.new) text
+        × Served (R.remaining src.old) (R.remaining src.new) text result }
+{
+    let world = World::new(alloc);
+    let line = match Vec::with_capacity(alloc, MAX_LINE) {
+        Ok(line) => line,
+        Err(_) => return Err(ServeError::Memory(TryReserveError::AllocError)),
+    };
+    let mut session = Session {
+        world,
+        line,
+        number: 0,
+        text: String::new(alloc),
+    };
+    let mut piece = [0u8; PIECE];
+    for _ in 0..u64::MAX {
+        let n = match src.read(&mut piece) {
+            Ok(n) => n,
+            Err(_) => return Err(ServeError::Read),
+        };
+        if n == 0 {
+            return session.finish(out);
+        }
+        match session.take(out, &piece[..n])? {
+            Some(n) => return flushed(out, ServeEnd::NotACommand(n)),
+            None => (),
+        }
+    }
+    Err(ServeError::Read)
+}
+
+impl Session {
+    // Runs the line that the source ended in, if any.
+    fn finish<W: Write>(&mut self, out: &mut W) -> Result<ServeEnd, ServeError>
+        ensures { (seen said : List ℕ) → IsAfter self.old seen said → (more : List ℕ)
+            × Appends (W.contents out.old) (W.contents out.new) more
+            × Ended seen (said ++ more) result }
+    {
+        if !self.line.is_empty() {
+            match self.run_line(out)? {
+                Some(n) => return flushed(out, ServeEnd::NotACommand(n)),
+                None => (),
+            }
+        }
+        flushed(out, ServeEnd::Finished)
+    }
+
+    // Takes bytes of the source. It answers the number of a line that is not a command.
+    fn take<W: Write>(&mut self, out: &mut W, piece: &[u8]) -> Result<Option<u64>, ServeError>
+        requires { HasRoom self.old }
+        ensures room { result ≡ Ok None → HasRoom self.new }
+        ensures ran { (seen said : List ℕ) → IsAfter self.old seen said → (more : List ℕ)
+            × Appends (W.contents out.old) (W.contents out.new) more
+            × PieceRun self.new (seen ++ piece.now) (said ++ more) result }
+    {
+        for byte in piece {
+            if *byte == b'\n' {
+                match self.run_line(out)? {
+                    Some(n) => return Ok(Some(n)),
+                    None => (),
+                }
+            } else if self.line.len() == MAX_LINE {
+                return refuse(&mut self.text, out, self.number);
+            } else {
+                self.line.push(*byte).unwrap();
+            }
+        }
+        Ok(None)
+    }
+
+    // Runs the line. It answers the line's number where it is not a command.
+    fn run_line<W: Write>(&mut self, out: &mut W) -> Result<Option<u64>, ServeError>
+        ensures room { HasRoom self.old → result ≡ Ok None → HasRoom self.new }
+        ensures ran { (front : List (List ℕ)) (said : List ℕ) → SpokenTo front said self.old.world
+            → (more : List ℕ) × Appends (W.contents out.old) (W.contents out.new) more
+            × LineRun self.old self.new front said more result }
+    {
+        match command_in(&self.line) {
+            None => refuse(&mut self.text, out, self.number),
+            Some(command) => {
+                let reply = self.world.step(command);
+                self.text.clear();
+                match write_reply(&mut self.text, &reply) {
+                    Ok(()) => write_text(out, self.text.as_bytes())?,
+                    Err(_) => return Err(ServeError::Memory(TryReserveError::AllocError)),
+                }
+                self.line.clear();
+                self.number = self.number.saturating_add(1);
+                Ok(None)
+            }
+        }
+    }
+}
+
+// Writes that the line after so many is not a command, and answers its number.
+fn refuse<W: Write>(text: &mut String, out: &mut W, number: u64) -> Result<Option<u64>, ServeError>
+    ensures { (more : List ℕ) × Appends (W.contents out.old) (W.contents out.new) more
+        × FaultTold (min (number + 1) (2 ^ 64 - 1)) more result }
+{
+    let n = number.saturating_add(1);
+    text.clear();
+    match write_fault(text, n) {
+        Ok(()) => write_text(out, text.as_bytes())?,
+        Err(_) => return Err(ServeError::Memory(TryReserveError::AllocError)),
+    }
+    Ok(Some(n))
+}
+
+// Flushes the writer before the end is answered.
+fn flushed<W: Write>(out: &mut W, end: ServeEnd) -> Result<ServeEnd, ServeError>
+    ensures { Keeps (W.contents out.old) (W.contents out.new) × MatchResult result (λ x. x ≡ end) (λ e. e ≡ ServeError.Write) }
+{
+    match out.flush() {
+        Ok(()) => Ok(end),
+        Err(_) => Err(ServeError::Write),
+    }
+}
+
+// Writes all of the text, or a beginning of it.
+fn write_text<W: Write>(out: &mut W, text: &[u8]) -> Result<(), ServeError>
+    ensures { (more : List ℕ) × Appends (W.contents out.old) (W.contents out.new) more
+        × Written text.now more result }
+{
+    let mut rest = text;
+    while !rest.is_empty() {
+        match out.write(rest) {
+            Ok(0) => return Err(ServeError::Write),
+            Ok(n) => (_, rest) = rest.split_at(n),
+            Err(_) => return Err(ServeError::Write),
+        }
+    }
+    Ok(())
+}
+
+/// The exit status of an end, and the line for standard error without its line feed: the empty text where there is none.
+pub fn ending(end: &Result<ServeEnd, ServeError>) -> (u8, &'static str)
+    ensures { (result.0, result.1.now) ≡ ending_of end.now }
+{
+    match end {
+        Ok(ServeEnd::Finished) => (0, ""),
+        Ok(ServeEnd::NotACommand(_)) => (1, ""),
+        Err(ServeError::Read) => (2, "input failed"),
+        Err(ServeError::Write) => (2, "output failed"),
+        Err(ServeError::Memory(_)) => (2, "no memory"),
+    }
+}

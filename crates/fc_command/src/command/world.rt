@@ -1,0 +1,147 @@
+//! A world of maps, and the commands over it.
+ghost use Rattle.std.specs.Prelude.{◌≡◌, List, [], IfOk, OnErr, IfErr};
+ghost use Rattle.fc_base.specs.declared.try_reserve_error.TryReserveError.TheVariants.{AllocError};
+ghost use Rattle.fc_map.specs.Entries.{Map};
+ghost use Rattle.fc_command.specs.Step.{IsNew, Step, StepOn, Runs, side_of};
+
+use fc_base::{TryClone, TryReserveError};
+use fc_map::map::BTreeMap;
+use std::alloc::Global;
+
+/// Two maps, `a` and `b`, that commands work on.
+#[derive(Drop)]
+pub struct World<K: Ord, V> {
+    /// The map that `Side::First` names.
+    pub a: BTreeMap<K, V>,
+    /// The map that `Side::Second` names.
+    pub b: BTreeMap<K, V>,
+    alloc: Global,
+}
+
+/// Which of the two maps a command names.
+#[derive(Clone, Copy, PartialEq, Eq, Debug)]
+pub enum Side {
+    /// The map `a`.
+    First,
+    /// The map `b`.
+    Second,
+}
+
+/// A command on the map that its side names.
+#[derive(Drop)]
+pub enum Command<K, V> {
+    /// `try_insert` of the key and the value; replies `Value`, the old one. A new key may be refused.
+    Insert(Side, K, V),
+    /// `get`; replies `Value`, a copy. The copy may be refused.
+    Get(Side, K),
+    /// `remove`; replies `Value`, the one taken out.
+    Remove(Side, K),
+    /// `len`; replies `Len`.
+    Len(Side),
+}
+
+/// What a command answers.
+#[derive(Drop)]
+pub enum Reply<K, V> {
+    /// The command was done and has nothing to tell.
+    Done,
+    /// A key, if there was one.
+    Key(Option<K>),
+    /// A number of pairs.
+    Len(usize),
+    /// A value, if there was one.
+    Value(Option<V>),
+    /// The command was refused, and the world is as before.
+    Refused(TryReserveError),
+}
+
+impl<K: Ord + TryClone, V: TryClone> World<K, V> {
+    /// A world of empty maps, which takes no memory. Later requests go to `alloc`.
+    pub fn new(alloc: Global) -> World<K, V>
+        ensures { IsNew result }
+    {
+        World {
+            a: BTreeMap::new(alloc),
+            b: BTreeMap::new(alloc),
+            alloc,
+        }
+    }
+
+    /// Runs one command. A refusal is the reply `Refused`, and the world is then as it was.
+    ///
+    /// A caller shows that copies of values are the values themselves.
+    pub fn step(&mut self, command: Command<K, V>) -> Reply<K, V>
+        requires copied { V.can_clone }
+        requires same { (x y : V) → V.same x y → y ≡ x }
+        ensures { Step K.cmp self.old command result self.new }
+    {
+        match command.side() {
+            Side::First => step_on(&mut self.a, command),
+            Side::Second => step_on(&mut self.b, command),
+        }
+    }
+
+    /// Runs the commands in order, and answers a reply to each. A command that is refused replies so, and the next one follows.
+    ///
+    /// # Errors
+    /// `AllocError` where the room for all replies, which is taken first, is refused: then no command ran.
+    pub fn run(
+        &mut self,
+        commands: Vec<Command<K, V>>,
+    ) -> Result<Vec<Reply<K, V>>, TryReserveError>
+        requires copied { V.can_clone }
+        requires same { (x y : V) → V.same x y → y ≡ x }
+        ensures ran { IfOk result (λ replies. Runs K.cmp self.old commands.items replies.items self.new) }
+        ensures error { IfErr result (λ e. e ≡ AllocError) }
+        ensures unchanged { OnErr result (self.new ≡ self.old) }
+    {
+        let mut replies = match Vec::with_capacity(self.alloc, commands.len()) {
+            Ok(replies) => replies,
+            Err(_) => return Err(TryReserveError::AllocError),
+        };
+        for command in commands {
+            replies.push(self.step(command)).unwrap();
+        }
+        Ok(replies)
+    }
+}
+
+impl<K, V> Command<K, V> {
+    // The side that the command names.
+    fn side(&self) -> Side
+        ensures { result ≡ side_of self.now }
+    {
+        match self {
+            Command::Insert(side, _, _) => *side,
+            Command::Get(side, _) => *side,
+            Command::Remove(side, _) => *side,
+            Command::Len(side) => *side,
+        }
+    }
+}
+
+// Runs a command on the map that it names. The other map, whatever it is, stays.
+fn step_on<K: Ord + TryClone, V: TryClone>(
+    map: &mut BTreeMap<K, V>,
+    command: Command<K, V>,
+) -> Reply<K, V>
+    requires copied { V.can_clone }
+    requires same { (x y : V) → V.same x y → y ≡ x }
+    ensures { (o : Map K V) → StepOn K.cmp command map.old o result map.new o }
+{
+    match command {
+        Command::Insert(_, key, value) => match map.try_insert(key, value) {
+            Ok(old) => Reply::Value(old),
+            Err(e) => Reply::Refused(e),
+        },
+        Command::Get(_, key) => match map.get(&key) {
+            Some(value) => match value.try_clone() {
+                Ok(copy) => Reply::Value(Some(copy)),
+                Err(e) => Reply::Refused(e),
+            },
+            None => Reply::Value(None),
+        },
+        Command::Remove(_, key) => Reply::Value(map.remove(&key)),
+        Command::Len(_) => Reply::Len(map.len()),
+    }
+}
