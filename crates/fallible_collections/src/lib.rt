@@ -6,6 +6,5 @@
 
 pub mod btree;
 
-pub use fc_base::{TryClone, TryReserveError};
-pub use fc_base::{try_clone, try_reserve_error};
+pub use fc_base::{TryClone, TryReserveError, try_clone, try_reserve_error};
 pub use fc_command::command;

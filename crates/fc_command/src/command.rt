@@ -3,6 +3,8 @@
 mod lines;
 mod replies;
 mod session;
+#[cfg(test)]
+mod tests;
 mod world;
 
 pub use session::{ServeEnd, ServeError, ending, serve};

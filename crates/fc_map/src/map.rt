@@ -112,3 +112,37 @@ fn place_of<K: Ord, V>(pairs: &[(K, V)], key: &K) -> Result<usize, usize>
     }
     Err(place)
 }
+
+#[cfg(test)]
+mod tests {
+    use super::*;
+    use std::test::Fail;
+
+    #[test]
+    fn an_insertion_answers_the_value_before(rt: HostRuntime) -> Result<(), Fail> {
+        let mut map = BTreeMap::new(rt.alloc());
+        assert_eq!(rt; map.try_insert(37u64, "a")?, None);
+        assert_eq!(rt; map.try_insert(37, "b")?, Some("a"));
+        assert_eq!(rt; map.try_insert(37, "c")?, Some("b"));
+        assert_eq!(rt; map.get(&37).copied(), Some("c"));
+        assert_eq!(rt; map.len(), 1);
+        Ok(())
+    }
+
+    #[test]
+    fn a_removal_answers_the_value_once(rt: HostRuntime) -> Result<(), Fail> {
+        let mut map = BTreeMap::new(rt.alloc());
+        map.try_insert(1u64, "a")?;
+        assert_eq!(rt; map.remove(&1), Some("a"));
+        assert_eq!(rt; map.remove(&1), None);
+        assert_eq!(rt; map.len(), 0);
+        Ok(())
+    }
+
+    #[test]
+    fn an_empty_map_has_nothing(rt: HostRuntime) {
+        let map: BTreeMap<u64, &str> = BTreeMap::new(rt.alloc());
+        assert_eq!(rt; map.get(&1).copied(), None);
+        assert_eq!(rt; map.len(), 0);
+    }
+}

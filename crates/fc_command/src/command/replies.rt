@@ -21,9 +21,7 @@ pub fn write_reply(text: &mut String, reply: &Reply<u64, u64>) -> Result<(), All
         Reply::Key(Some(n)) | Reply::Value(Some(n)) => write!(text, "some {n}\n"),
         Reply::Len(n) => write!(text, "{n}\n"),
         Reply::Refused(TryReserveError::AllocError) => write!(text, "refused alloc\n"),
-        Reply::Refused(TryReserveError::CapacityOverflow) => {
-            write!(text, "refused overflow\n")
-        }
+        Reply::Refused(TryReserveError::CapacityOverflow) => { write!(text, "refused overflow\n") }
     }
 }
 

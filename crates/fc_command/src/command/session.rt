@@ -33,7 +33,7 @@ pub enum ServeError {
 }
 
 // How many bytes one read asks for.
-const PIECE: usize = 8192;
+pub const PIECE: usize = 8192;
 
 // What is kept between two reads: the world, the line so far, how many lines were whole, and the text of the last reply.
 #[derive(Drop)]

@@ -28,7 +28,7 @@ pub enum Side {
 }
 
 /// A command on the map that its side names.
-#[derive(Drop)]
+#[derive(PartialEq, Eq, Debug, Drop)]
 pub enum Command<K, V> {
     /// `try_insert` of the key and the value; replies `Value`, the old one. A new key may be refused.
     Insert(Side, K, V),
@@ -41,7 +41,7 @@ pub enum Command<K, V> {
 }
 
 /// What a command answers.
-#[derive(Drop)]
+#[derive(PartialEq, Eq, Debug, Drop)]
 pub enum Reply<K, V> {
     /// The command was done and has nothing to tell.
     Done,
@@ -85,10 +85,7 @@ impl<K: Ord + TryClone, V: TryClone> World<K, V> {
     ///
     /// # Errors
     /// `AllocError` where the room for all replies, which is taken first, is refused: then no command ran.
-    pub fn run(
-        &mut self,
-        commands: Vec<Command<K, V>>,
-    ) -> Result<Vec<Reply<K, V>>, TryReserveError>
+    pub fn run(&mut self, commands: Vec<Command<K, V>>) -> Result<Vec<Reply<K, V>>, TryReserveError>
         requires copied { V.can_clone }
         requires same { (x y : V) → V.same x y → y ≡ x }
         ensures ran { IfOk result (λ replies. Runs K.cmp self.old commands.items replies.items self.new) }
@@ -96,7 +93,7 @@ impl<K: Ord + TryClone, V: TryClone> World<K, V> {
         ensures unchanged { OnErr result (self.new ≡ self.old) }
     {
         let mut replies = match Vec::with_capacity(self.alloc, commands.len()) {
-            Ok(replies) => replies,
+            Ok(room) => room,
             Err(_) => return Err(TryReserveError::AllocError),
         };
         for command in commands {
