@@ -1,4 +1,5 @@
 pub mod Ascending
+pub mod Copies
 pub mod Growth
 pub mod OneKey
 pub mod Parts

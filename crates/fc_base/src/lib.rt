@@ -1,8 +1,12 @@
-//! What all crates of the library share: the error of refused memory, and copies that may be refused.
+//! What all crates of the library share: the error of refused memory, copies and boxes that may be refused, and counts.
 #![tactic(auto)]
 
+pub mod boxed;
+pub mod count;
 pub mod try_clone;
 pub mod try_reserve_error;
 
+pub use boxed::FallibleBox;
+pub use count::{Count, compare};
 pub use try_clone::TryClone;
 pub use try_reserve_error::TryReserveError;

@@ -1,10 +1,12 @@
 -- How a run goes on.
-use Rattle.std.proofs.Common.{◌≡◌, List, [], ◌∷◌, ◌++◌, refl}
+use Rattle.std.proofs.Common.{◌≡◌, List, [], ◌∷◌, ◌++◌, refl, inl, inr}
 use Rattle.std.specs.declared.cmp.Ordering.{Ordering}
+use Rattle.fc_base.specs.declared.try_reserve_error.TryReserveError.{TryReserveError}
+use Rattle.fc_map.specs.Entries.{Map, entries}
 use Rattle.fc_command.specs.declared.command.world.World.{World}
 use Rattle.fc_command.specs.declared.command.world.Command.{Command}
 use Rattle.fc_command.specs.declared.command.world.Reply.{Reply}
-use Rattle.fc_command.specs.Step.{Step, Runs}
+use Rattle.fc_command.specs.Step.{answer, MayRefuse, MustRefuse, StepOn, answered, refused, Step, Runs, IsCopied}
 
 module _ {K V : Type 0} (cmp : K → K → Ordering) where
   -- a run, and one step more
@@ -13,3 +15,9 @@ module _ {K V : Type 0} (cmp : K → K → Ordering) where
   runs_more w mid w' (c0 ∷ cs) (r0 ∷ rs) c r run step = (run.0, run.1, runs_more run.0 mid w' cs rs c r run.2 step)
   runs_more w mid w' [] (r0 ∷ rs) c r run step = absurd run
   runs_more w mid w' (c0 ∷ cs) [] c r run step = absurd run
+
+  -- a command that copies for its reply, and changes nothing
+  pub step_copied : (c : Command K V) (m o : Map K V) (r : Reply K V) → (MustRefuse cmp c (entries m) (entries o) → ⊥) → entries m ≡ (answer cmp c (entries m) (entries o)).m → entries o ≡ (answer cmp c (entries m) (entries o)).o
+      → (something : Type 0) → ((e : TryReserveError) → something → MayRefuse cmp c (entries m) (entries o) e) → IsCopied r (answer cmp c (entries m) (entries o)).reply something → StepOn cmp c m o r m o
+  step_copied c m o r must same_m same_o something may (inl is) = answered must (is, same_m, same_o)
+  step_copied c m o r must same_m same_o something may (inr (some, why)) = refused why.0 (may why.0 some) (why.1, refl, refl)

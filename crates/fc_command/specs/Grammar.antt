@@ -7,7 +7,7 @@ use Rattle.std.specs.Str.Parse.{digits_value}
 use Rattle.fc_command.specs.declared.command.world.Side.{Side}
 use Rattle.fc_command.specs.declared.command.world.Side.TheVariants.{First, Second}
 use Rattle.fc_command.specs.declared.command.world.Command.{Command}
-use Rattle.fc_command.specs.declared.command.world.Command.TheVariants.{Insert, Get, Remove, Len}
+use Rattle.fc_command.specs.declared.command.world.Command.TheVariants.{Insert, Get, GetKeyValue, ContainsKey, Remove, Len, Clear}
 use Rattle.fc_command.specs.Lines.{words_of}
 
 -- What follows is asked only where something is there.
@@ -71,6 +71,20 @@ get_of words = do
   k ← number_at m.1
   ends (Get m.0 k.0) k.1
 
+-- The words after `pair` are a map and a key.
+unfoldable pub pair_of : List (List ℕ) → Option (Command ℕ ℕ)
+pair_of words = do
+  m ← map_at words
+  k ← number_at m.1
+  ends (GetKeyValue m.0 k.0) k.1
+
+-- The words after `has` are a map and a key.
+unfoldable pub has_of : List (List ℕ) → Option (Command ℕ ℕ)
+has_of words = do
+  m ← map_at words
+  k ← number_at m.1
+  ends (ContainsKey m.0 k.0) k.1
+
 -- The words after `remove` are a map and a key.
 unfoldable pub remove_of : List (List ℕ) → Option (Command ℕ ℕ)
 remove_of words = do
@@ -84,14 +98,23 @@ len_of words = do
   m ← map_at words
   ends (Len m.0) m.1
 
+-- The word after `clear` is a map.
+unfoldable pub clear_of : List (List ℕ) → Option (Command ℕ ℕ)
+clear_of words = do
+  m ← map_at words
+  ends (Clear m.0) m.1
+
 -- The command that the words ask for, by the first of them.
 unfoldable pub command_of_words : List (List ℕ) → Option (Command ℕ ℕ)
 command_of_words words = do
   first ← word_at words
   if is_text first.0 (codes "insert") then insert_of first.1
       else if is_text first.0 (codes "get") then get_of first.1
+      else if is_text first.0 (codes "pair") then pair_of first.1
+      else if is_text first.0 (codes "has") then has_of first.1
       else if is_text first.0 (codes "remove") then remove_of first.1
       else if is_text first.0 (codes "len") then len_of first.1
+      else if is_text first.0 (codes "clear") then clear_of first.1
       else None
 
 -- The command that a line of at most 4096 bytes asks for, if it is one.

@@ -1,8 +1,8 @@
 -- What a command does to a world, and what it answers.
-use Rattle.std.specs.Prelude.{◌≡◌, ℕ, ◌-◌, ◌^◌, List, [], ◌∷◌, length, None, Option, IsNone, IsSome}
+use Rattle.std.specs.Prelude.{◌≡◌, ℕ, ◌-◌, ◌^◌, List, [], ◌∷◌, ◌⊎◌, ◌≤◌, length, None, Option, IsNone, IsSome, is_some}
 use Rattle.std.specs.declared.cmp.Ordering.{Ordering}
 use Rattle.fc_base.specs.declared.try_reserve_error.TryReserveError.{TryReserveError}
-use Rattle.fc_base.specs.Growth.{growth_error}
+use Rattle.fc_base.specs.Growth.{MayGrowRefuse}
 use Rattle.fc_base.specs.OneKey.{put, cut}
 use Rattle.fc_base.specs.Parts.{at, value_at}
 use Rattle.fc_map.specs.Entries.{Map, entries}
@@ -10,9 +10,9 @@ use Rattle.fc_command.specs.declared.command.world.World.{World}
 use Rattle.fc_command.specs.declared.command.world.Side.{Side}
 use Rattle.fc_command.specs.declared.command.world.Side.TheVariants.{First, Second}
 use Rattle.fc_command.specs.declared.command.world.Command.{Command}
-use Rattle.fc_command.specs.declared.command.world.Command.TheVariants.{Insert, Get, Remove, Len as CountPairs}
+use Rattle.fc_command.specs.declared.command.world.Command.TheVariants.{Insert, Get, GetKeyValue, ContainsKey, Remove, Len as CountPairs, Clear}
 use Rattle.fc_command.specs.declared.command.world.Reply.{Reply}
-use Rattle.fc_command.specs.declared.command.world.Reply.TheVariants.{Value, Len, Refused}
+use Rattle.fc_command.specs.declared.command.world.Reply.TheVariants.{Done, Flag, Value, Pair, Len, Refused}
 
 -- A new world has no pairs.
 abbrev pub IsNew : {K V : Type 0} → World K V → Type 0
@@ -22,8 +22,11 @@ IsNew w = (entries w.a ≡ []) × (entries w.b ≡ [])
 abbrev pub side_of : {K V : Type 0} → Command K V → Side
 side_of (Insert side k v) = side
 side_of (Get side k) = side
+side_of (GetKeyValue side k) = side
+side_of (ContainsKey side k) = side
 side_of (Remove side k) = side
 side_of (CountPairs side) = side
+side_of (Clear side) = side
 
 -- The map that a side names.
 abbrev pub named : {K V : Type 0} → Side → World K V → Map K V
@@ -46,22 +49,32 @@ module _ {K V : Type 0} (cmp : K → K → Ordering) where
   abbrev pub answer : Command K V → List (K × V) → List (K × V) → Outcome K V
   answer (Insert side k v) m o = record { m = put cmp m k v; o = o; reply = Value (value_at cmp m k) }
   answer (Get side k) m o = record { m = m; o = o; reply = Value (value_at cmp m k) }
+  answer (GetKeyValue side k) m o = record { m = m; o = o; reply = Pair (at cmp m k) }
+  answer (ContainsKey side k) m o = record { m = m; o = o; reply = Flag (is_some (at cmp m k)) }
   answer (Remove side k) m o = record { m = cut cmp m k; o = o; reply = Value (value_at cmp m k) }
   answer (CountPairs side) m o = record { m = m; o = o; reply = Len (length m) }
+  answer (Clear side) m o = record { m = []; o = o; reply = Done }
 
-  -- Whether a command may be refused, and by which error: an insertion at a new key, and a copy that may be refused.
+  -- Whether a command may be refused, and by which error: an insertion at a new key, where the map is empty or has enough pairs to
+  -- fill a leaf, and a copy.
   abbrev pub MayRefuse : Command K V → List (K × V) → List (K × V) → TryReserveError → Type 0
-  MayRefuse (Insert side k v) m o e = (at cmp m k ≡ None) × (e ≡ growth_error (length m))
+  MayRefuse (Insert side k v) m o e = (at cmp m k ≡ None) × MayGrowRefuse (length m) e
   MayRefuse (Get side k) m o e = IsSome (value_at cmp m k)
+  MayRefuse (GetKeyValue side k) m o e = IsSome (at cmp m k)
+  MayRefuse (ContainsKey side k) m o e = ⊥
   MayRefuse (Remove side k) m o e = ⊥
   MayRefuse (CountPairs side) m o e = ⊥
+  MayRefuse (Clear side) m o e = ⊥
 
   -- Whether a command is always refused: an insertion of a new key into a map of the greatest length.
   abbrev pub MustRefuse : Command K V → List (K × V) → List (K × V) → Type 0
   MustRefuse (Insert side k v) m o = (at cmp m k ≡ None) × (length m ≡ 2 ^ 64 - 1)
   MustRefuse (Get side k) m o = ⊥
+  MustRefuse (GetKeyValue side k) m o = ⊥
+  MustRefuse (ContainsKey side k) m o = ⊥
   MustRefuse (Remove side k) m o = ⊥
   MustRefuse (CountPairs side) m o = ⊥
+  MustRefuse (Clear side) m o = ⊥
 
   -- A command on the named map m and the other map o is answered by the table, or it is refused and changes nothing.
   pub data StepOn (c : Command K V) (m o : Map K V) (r : Reply K V) (m' o' : Map K V) : Type 0 where
@@ -78,3 +91,7 @@ module _ {K V : Type 0} (cmp : K → K → Ordering) where
   Runs w (c ∷ cs) (r ∷ rs) w' = (mid : World K V) × Step w c r mid × Runs mid cs rs w'
   Runs w [] (r ∷ rs) w' = ⊥
   Runs w (c ∷ cs) [] w' = ⊥
+
+-- The reply is this one, or the copy in it was refused, which is possible only where there is something to copy.
+abbrev pub IsCopied : {K V : Type 0} → Reply K V → Reply K V → Type 0 → Type 0
+IsCopied r reply something = (r ≡ reply) ⊎ (something × ((e : TryReserveError) × (r ≡ Refused e)))

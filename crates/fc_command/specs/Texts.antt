@@ -1,15 +1,25 @@
 -- Replies as text.
-use Rattle.std.specs.Prelude.{◌≡◌, ℕ, List, [], ◌∷◌, ◌++◌, codes, Option, Some, None}
+use Rattle.std.specs.Prelude.{◌≡◌, ℕ, List, [], ◌∷◌, ◌++◌, codes, Bool, true, false, Option, Some, None}
 use Rattle.std.specs.Fmt.{decimal}
 use Rattle.fc_base.specs.declared.try_reserve_error.TryReserveError.{TryReserveError}
 use Rattle.fc_base.specs.declared.try_reserve_error.TryReserveError.TheVariants.{AllocError, CapacityOverflow}
 use Rattle.fc_command.specs.declared.command.world.Reply.{Reply}
-use Rattle.fc_command.specs.declared.command.world.Reply.TheVariants.{Done, Key, Value, Len, Refused}
+use Rattle.fc_command.specs.declared.command.world.Reply.TheVariants.{Done, Flag, Key, Value, Pair, Len, Refused}
 
 -- A number that may be missing.
 abbrev pub option_text : Option ℕ → List ℕ
 option_text None = codes "none"
 option_text (Some n) = codes "some " ++ decimal n
+
+-- A pair of numbers that may be missing.
+abbrev pub pair_text : Option (ℕ × ℕ) → List ℕ
+pair_text None = codes "none"
+pair_text (Some (k, v)) = codes "some " ++ decimal k ++ codes " " ++ decimal v
+
+-- A yes or no.
+abbrev pub flag_text : Bool → List ℕ
+flag_text true = codes "true"
+flag_text false = codes "false"
 
 -- Why a command was refused.
 abbrev pub refusal_text : TryReserveError → List ℕ
@@ -19,8 +29,10 @@ refusal_text CapacityOverflow = codes "refused overflow"
 -- A reply without its line feed.
 abbrev pub words_of_reply : Reply ℕ ℕ → List ℕ
 words_of_reply Done = codes "done"
+words_of_reply (Flag b) = flag_text b
 words_of_reply (Key k) = option_text k
 words_of_reply (Value v) = option_text v
+words_of_reply (Pair p) = pair_text p
 words_of_reply (Len n) = decimal n
 words_of_reply (Refused e) = refusal_text e
 

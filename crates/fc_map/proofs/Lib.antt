@@ -1,1 +1,6 @@
-mod PairFacts
+mod AscendingFacts
+mod CountFacts
+mod InsertFacts
+mod PlaceFacts
+mod RemoveFacts
+mod WrittenFacts

@@ -1,2 +1,4 @@
 pub mod Entries
+pub mod Counts
 pub mod Place
+pub mod Lends

@@ -1,21 +1,16 @@
--- Where a key stands in an ascending list of pairs, or would go.
-use Rattle.std.specs.Prelude.{◌≡◌, ℕ, ◌<◌, ◌≤◌, take, drop, slice_index_or, suc, List, length, Some, None}
+-- Where a search of a map ends.
+use Rattle.std.specs.Prelude.{◌≡◌, ℕ, List, [], Some, None}
 use Rattle.std.specs.declared.cmp.Ordering.{Ordering}
-use Rattle.std.specs.declared.cmp.Ordering.TheVariants.{Equal}
-use Rattle.fc_base.specs.Parts.{below, above, at}
+use Rattle.fc_node.specs.Found.{IsFound, IsGap}
+use Rattle.fc_map.specs.Entries.{Map}
 
-module _ {K V : Type 0} (cmp : K → K → Ordering) where
-  -- The pair at place i has the key.
-  pub record IsHeldAt (s : List (K × V)) (k : K) (i : ℕ) : Type 0 where
-    pub in_range : i < length s
-    pub front : take i s ≡ below cmp s k
-    pub same : (d : K × V) → cmp (slice_index_or s i d).0 k ≡ Equal
-    pub held : (d : K × V) → at cmp s k ≡ Some (slice_index_or s i d)
-    pub back : drop (suc i) s ≡ above cmp s k
+module _ {K V : Type 0} (cmp : K → K → Ordering) (k : K) where
+  -- The path leads to the pair whose key is equal to k.
+  abbrev pub IsHeldAt : Map K V → List ℕ → Type 0
+  IsHeldAt None path = ⊥
+  IsHeldAt (Some root) path = IsFound cmp k root path
 
-  -- No pair has the key, which would go at place i.
-  pub record IsGapAt (s : List (K × V)) (k : K) (i : ℕ) : Type 0 where
-    pub in_range : i ≤ length s
-    pub front : take i s ≡ below cmp s k
-    pub absent : at cmp s k ≡ None
-    pub back : drop i s ≡ above cmp s k
+  -- The path leads to the gap where k would go; it has no step where there is no root.
+  abbrev pub IsOpenAt : Map K V → List ℕ → Type 0
+  IsOpenAt None path = path ≡ []
+  IsOpenAt (Some root) path = IsGap cmp k root path

@@ -1,33 +1,57 @@
-//! The ordered map, kept as one sorted vector of pairs.
-ghost use Rattle.std.specs.Prelude.{◌≡◌, ◌-◌, ◌^◌, [], length, IsOk, IsErr, IfOk, IfErr, MatchResult, None, Ok};
+//! The ordered map, a B-tree.
+ghost use Rattle.std.specs.Prelude.{◌≡◌, ◌+◌, ◌-◌, ◌^◌, ◌<◌, ◌≤◌, ◌↔◌, ◌⊎◌, [], ◌∷◌, length, IsTrue, IsSome, IsOk, IsErr, IfOk, IfErr, OnOk, OnErr, MatchResult, None, Some, Ok, option_copied};
+ghost use Rattle.std.specs.Option.{option_map};
 ghost use Rattle.fc_base.specs.Ascending.{IsAscending};
-ghost use Rattle.fc_base.specs.Growth.{growth_error};
+ghost use Rattle.fc_base.specs.Growth.{MayGrowRefuse};
 ghost use Rattle.fc_base.specs.OneKey.{put, cut};
 ghost use Rattle.fc_base.specs.Parts.{at, value_at};
-ghost use Rattle.fc_map.specs.Entries.{entries, now_value};
-ghost use Rattle.fc_map.specs.Place.{IsHeldAt, IsGapAt};
+ghost use Rattle.fc_node.specs.Found.{IsGap};
+ghost use Rattle.fc_node.specs.Node.{pairs_of};
+ghost use Rattle.fc_map.specs.Counts.{IsBounded, IsMoved};
+ghost use Rattle.fc_map.specs.Entries.{entries, now_value, now_pair, passed_in, IsSoundMap};
+ghost use Rattle.fc_map.specs.Place.{IsHeldAt, IsOpenAt};
 
-use fc_base::TryReserveError;
+#[cfg(test)]
+mod shapes;
+#[cfg(test)]
+mod tests;
+mod values;
+
+use fc_base::{Count, TryReserveError};
+use fc_node::btree::node::Node;
+use fc_node::btree::node::insertion::{first_leaf, insert};
+use fc_node::btree::node::removal::remove;
+use fc_node::btree::node::room::try_room;
+use fc_node::btree::path::Path;
+use fc_node::btree::search;
 use std::alloc::Global;
-use std::cmp::Ordering;
 use std::marker::Model;
 use std::mem;
 
-/// An ordered map: pairs in strictly ascending order of their keys. Only calls that answer a `Result` take memory.
+/// An ordered map: pairs in strictly ascending order of their keys, in a B-tree whose nodes hold 5 to 11 pairs. Only calls that
+/// answer a `Result` take memory.
 #[derive(Drop)]
 pub struct BTreeMap<K: Ord, V> {
-    pairs: Vec<(K, V)>,
+    root: Option<Box<Node<K, V>>>,
+    len: usize,
+    alloc: Global,
 }
 
 impl<K: Ord, V> Model for BTreeMap<K, V> {
+    ghost use Rattle.std.specs.Prelude.{◌≡◌, length};
+    ghost use Rattle.std.specs.Coded.{coded_option};
+    ghost use borrow.Follows.Maybe.{bare};
     ghost use Rattle.fc_base.specs.Ascending.{IsAscending};
-    ghost use Rattle.fc_map.specs.Entries.{Map};
+    ghost use Rattle.fc_node.specs.contracts.btree.node.Node as node;
+    ghost use Rattle.fc_map.specs.Entries.{Map, entries, root_of, IsSoundMap};
 
     ghost Value = { Map K V };
 
-    ghost view = { λ m. m.pairs.items };
+    ghost coded = { coded_option ((node.the_row (bare K K.code) (bare V V.code)).coded) };
 
-    ghost invariant = { λ m. IsAscending K.cmp m.pairs.items };
+    ghost view = { λ m. root_of m.root };
+
+    ghost invariant = { λ m. IsAscending K.cmp (entries (root_of m.root)) × IsSoundMap (root_of m.root) × (m.len ≡ length (entries (root_of m.root))) };
 }
 
 impl<K: Ord + Drop, V: Drop> BTreeMap<K, V> {
@@ -36,25 +60,100 @@ impl<K: Ord + Drop, V: Drop> BTreeMap<K, V> {
         ensures { entries result ≡ [] }
     {
         BTreeMap {
-            pairs: Vec::new(alloc),
+            root: None,
+            len: 0,
+            alloc,
         }
+    }
+
+    /// An empty map, as `new` makes it. Upstream: `BTreeMap::default`.
+    pub fn default(alloc: Global) -> BTreeMap<K, V>
+        ensures { entries result ≡ [] }
+    {
+        BTreeMap::new(alloc)
     }
 
     /// The number of pairs. Upstream: `BTreeMap::len`.
     pub fn len(&self) -> usize
-        ensures { result ≡ length (entries self.now) }
+        ensures value { result ≡ length (entries self.now) }
+        ensures sound { IsSoundMap self.now }
     {
-        self.pairs.len()
+        self.len
+    }
+
+    /// Whether the map has no pair. Upstream: `BTreeMap::is_empty`.
+    pub fn is_empty(&self) -> bool
+        ensures { IsTrue result ↔ (entries self.now ≡ []) }
+    {
+        self.len == 0
+    }
+
+    /// Drops all pairs. It takes no memory. Upstream: `BTreeMap::clear`.
+    pub fn clear(&mut self)
+        ensures { entries self.new ≡ [] }
+    {
+        self.root = None;
+        self.len = 0;
     }
 
     /// The value at an equal key, or `None` where there is none. Upstream: `BTreeMap::get`.
     pub fn get(&self, key: &K) -> Option<&V>
         ensures { now_value result ≡ value_at K.cmp (entries self.now) key.now }
     {
-        match place_of(&self.pairs, key) {
-            Ok(at) => Some(&self.pairs[at].1),
-            Err(_) => None,
+        self.get_counted(key, &mut Count::new())
+    }
+
+    /// `get`, with its comparisons added to the count: exactly those keys that a search from the left passes. It moves no pair.
+    pub fn get_counted(&self, key: &K, count: &mut Count) -> Option<&V>
+        ensures value { now_value result ≡ value_at K.cmp (entries self.now) key.now }
+        ensures comparisons { count.new.comparisons ≡ count.old.comparisons + passed_in K.cmp key.now self.now }
+        ensures moves { count.new.moves ≡ count.old.moves }
+        ensures bounded { IsBounded (length (entries self.now)) count.old count.new }
+    {
+        let pair = self.pair_at(key, count);
+        match pair {
+            Some(pair) => Some(&pair.1),
+            None => None,
         }
+    }
+
+    /// The pair with an equal key, or `None` where there is none. Upstream: `BTreeMap::get_key_value`.
+    pub fn get_key_value(&self, key: &K) -> Option<(&K, &V)>
+        ensures { now_pair result ≡ at K.cmp (entries self.now) key.now }
+    {
+        self.get_key_value_counted(key, &mut Count::new())
+    }
+
+    /// `get_key_value`, with its comparisons added to the count: exactly those keys that a search from the left passes. It moves
+    /// no pair.
+    pub fn get_key_value_counted(&self, key: &K, count: &mut Count) -> Option<(&K, &V)>
+        ensures pair { now_pair result ≡ at K.cmp (entries self.now) key.now }
+        ensures comparisons { count.new.comparisons ≡ count.old.comparisons + passed_in K.cmp key.now self.now }
+        ensures moves { count.new.moves ≡ count.old.moves }
+        ensures bounded { IsBounded (length (entries self.now)) count.old count.new }
+    {
+        match self.pair_at(key, count) {
+            Some(pair) => Some((&pair.0, &pair.1)),
+            None => None,
+        }
+    }
+
+    /// Whether an equal key is there. Upstream: `BTreeMap::contains_key`.
+    pub fn contains_key(&self, key: &K) -> bool
+        ensures { IsTrue result ↔ IsSome (at K.cmp (entries self.now) key.now) }
+    {
+        self.contains_key_counted(key, &mut Count::new())
+    }
+
+    /// `contains_key`, with its comparisons added to the count: exactly those keys that a search from the left passes. It moves
+    /// no pair.
+    pub fn contains_key_counted(&self, key: &K, count: &mut Count) -> bool
+        ensures there { IsTrue result ↔ IsSome (at K.cmp (entries self.now) key.now) }
+        ensures comparisons { count.new.comparisons ≡ count.old.comparisons + passed_in K.cmp key.now self.now }
+        ensures moves { count.new.moves ≡ count.old.moves }
+        ensures bounded { IsBounded (length (entries self.now)) count.old count.new }
+    {
+        self.pair_at(key, count).is_some()
     }
 
     /// Puts the value at the key. Where an equal key is there, that key stays, its value is replaced and answered, and no memory
@@ -62,87 +161,210 @@ impl<K: Ord + Drop, V: Drop> BTreeMap<K, V> {
     ///
     /// # Errors
     /// Only at a new key: `CapacityOverflow` where the map holds `usize::MAX` pairs, and then always; else `AllocError`, where a
-    /// request for memory was refused. The map is then as it was, and key and value are dropped.
+    /// request for memory was refused, which takes an empty map or a full leaf. The map is then as it was, tree and all, and key
+    /// and value are dropped.
     pub fn try_insert(&mut self, key: K, value: V) -> Result<Option<V>, TryReserveError>
         ensures old { IfOk result (λ old. old ≡ value_at K.cmp (entries self.old) key) }
         ensures put { IfOk result (λ _. entries self.new ≡ put K.cmp (entries self.old) key value) }
         ensures unchanged { IfErr result (λ _. self.new ≡ self.old) }
         ensures new_key { IfErr result (λ _. at K.cmp (entries self.old) key ≡ None) }
-        ensures error { IfErr result (λ e. e ≡ growth_error (length (entries self.old))) }
+        ensures error { IfErr result (MayGrowRefuse (length (entries self.old))) }
         ensures full { at K.cmp (entries self.old) key ≡ None → length (entries self.old) ≡ usize.MAX → IsErr result }
+        ensures sound { IsSoundMap self.new }
     {
-        let place = match place_of(&self.pairs, &key) {
-            Ok(at) => return Ok(Some(mem::replace(&mut self.pairs[at].1, value))),
-            Err(place) => place,
-        };
-        if self.pairs.len() == usize::MAX {
-            return Err(TryReserveError::CapacityOverflow);
-        }
-        match self.pairs.insert(place, (key, value)) {
-            Ok(()) => Ok(None),
-            Err(_) => Err(TryReserveError::AllocError),
+        self.try_insert_counted(key, value, &mut Count::new())
+    }
+
+    /// `try_insert`, with its comparisons and moves added to the count: exactly the comparisons of the keys that a search from the
+    /// left passes, and for a new pair the moves of its insertion; a value replaced and a refused insertion move no pair.
+    ///
+    /// # Errors
+    /// As `try_insert`.
+    pub fn try_insert_counted(
+        &mut self,
+        key: K,
+        value: V,
+        count: &mut Count,
+    ) -> Result<Option<V>, TryReserveError>
+        ensures old { IfOk result (λ old. old ≡ value_at K.cmp (entries self.old) key) }
+        ensures put { IfOk result (λ _. entries self.new ≡ put K.cmp (entries self.old) key value) }
+        ensures unchanged { IfErr result (λ _. self.new ≡ self.old) }
+        ensures new_key { IfErr result (λ _. at K.cmp (entries self.old) key ≡ None) }
+        ensures error { IfErr result (MayGrowRefuse (length (entries self.old))) }
+        ensures full { at K.cmp (entries self.old) key ≡ None → length (entries self.old) ≡ usize.MAX → IsErr result }
+        ensures sound { IsSoundMap self.new }
+        ensures comparisons { count.new.comparisons ≡ count.old.comparisons + passed_in K.cmp key self.old }
+        ensures no_move { IsErr result ⊎ IsSome (at K.cmp (entries self.old) key) → count.new.moves ≡ count.old.moves }
+        ensures bounded { IsBounded (length (entries self.new)) count.old count.new }
+    {
+        match self.locate(&key, count) {
+            Ok(path) => Ok(Some(self.replace_at(&path, &key, value))),
+            Err(path) => match self.insert_at(&path, key, value, count) {
+                Ok(()) => Ok(None),
+                Err(e) => Err(e),
+            },
         }
     }
 
-    /// Takes the pair with an equal key out and answers its value; the key is dropped. `None` where there is none, and the map
-    /// is as it was. It takes no memory. Upstream: `BTreeMap::remove`.
+    /// Takes the pair with an equal key out and answers its value; the key is dropped. `None` where there is none, and the map is
+    /// as it was. It takes no memory. Upstream: `BTreeMap::remove`.
     pub fn remove(&mut self, key: &K) -> Option<V>
         ensures value { result ≡ value_at K.cmp (entries self.old) key.now }
         ensures rest { entries self.new ≡ cut K.cmp (entries self.old) key.now }
+        ensures absent { at K.cmp (entries self.old) key.now ≡ None → self.new ≡ self.old }
+        ensures sound { IsSoundMap self.new }
     {
-        match place_of(&self.pairs, key) {
-            Ok(at) => Some(self.pairs.remove(at).1),
+        self.remove_counted(key, &mut Count::new())
+    }
+
+    /// `remove`, with its comparisons and moves added to the count: exactly the comparisons of the keys that a search from the left
+    /// passes, and where there is an equal key the moves of its removal.
+    pub fn remove_counted(&mut self, key: &K, count: &mut Count) -> Option<V>
+        ensures value { result ≡ value_at K.cmp (entries self.old) key.now }
+        ensures rest { entries self.new ≡ cut K.cmp (entries self.old) key.now }
+        ensures absent { at K.cmp (entries self.old) key.now ≡ None → self.new ≡ self.old }
+        ensures sound { IsSoundMap self.new }
+        ensures comparisons { count.new.comparisons ≡ count.old.comparisons + passed_in K.cmp key.now self.old }
+        ensures no_move { at K.cmp (entries self.old) key.now ≡ None → count.new.moves ≡ count.old.moves }
+        ensures bounded { IsBounded (length (entries self.old)) count.old count.new }
+    {
+        match self.locate(key, count) {
+            Ok(path) => Some(self.remove_at(&path, key, count).1),
             Err(_) => None,
         }
     }
-}
 
-// Where the key stands in the pairs, or where it would go.
-fn place_of<K: Ord, V>(pairs: &[(K, V)], key: &K) -> Result<usize, usize>
-    requires { IsAscending K.cmp pairs.now }
-    ensures { MatchResult result (IsHeldAt K.cmp pairs.now key.now) (IsGapAt K.cmp pairs.now key.now) }
-{
-    let mut place = 0;
-    for pair in pairs {
-        match pair.0.cmp(key) {
-            Ordering::Less => place += 1,
-            Ordering::Equal => return Ok(place),
-            Ordering::Greater => return Err(place),
+    // Puts another value at the key, to which the path leads, and answers the old one.
+    fn replace_at(&mut self, path: &Path, key: &K, value: V) -> V
+        requires held { IsHeldAt K.cmp key.now self.old path.now }
+        requires sound { IsSoundMap self.old }
+        ensures old { value_at K.cmp (entries self.old) key.now ≡ Some result }
+        ensures put { entries self.new ≡ put K.cmp (entries self.old) key.now value }
+        ensures length { length (entries self.new) ≡ length (entries self.old) }
+        ensures sound { IsSoundMap self.new }
+    {
+        mem::replace(self.value_mut(path), value)
+    }
+
+    // Puts a pair with a new key into the gap that the path leads to.
+    fn insert_at(
+        &mut self,
+        path: &Path,
+        key: K,
+        value: V,
+        count: &mut Count,
+    ) -> Result<(), TryReserveError>
+        requires gap { IsOpenAt K.cmp key self.old path.now }
+        ensures put { OnOk result (entries self.new ≡ put K.cmp (entries self.old) key value) }
+        ensures unchanged { OnErr result (self.new ≡ self.old) }
+        ensures error { IfErr result (MayGrowRefuse (length (entries self.old))) }
+        ensures full { length (entries self.old) ≡ usize.MAX → IsErr result }
+        ensures sound { IsSoundMap self.new }
+        ensures comparisons { count.new.comparisons ≡ count.old.comparisons }
+        ensures no_move { OnErr result (count.new.moves ≡ count.old.moves) }
+        ensures length { OnOk result (length (entries self.new) ≡ length (entries self.old) + 1) }
+        ensures moves { OnOk result (IsMoved (length (entries self.new)) count.old count.new) }
+    {
+        if self.len == usize::MAX {
+            return Err(TryReserveError::CapacityOverflow);
+        }
+        let Some(root) = &mut self.root else {
+            return self.insert_first(key, value, count);
+        };
+        insert_in(self.alloc, root, path.as_slice(), (key, value), count)?;
+        self.len += 1;
+        Ok(())
+    }
+
+    // Puts the first pair into an empty map.
+    fn insert_first(&mut self, key: K, value: V, count: &mut Count) -> Result<(), TryReserveError>
+        requires { self.old ≡ None }
+        ensures put { OnOk result (entries self.new ≡ (key, value) ∷ []) }
+        ensures unchanged { OnErr result (self.new ≡ self.old) }
+        ensures error { IfErr result (λ e. e ≡ TryReserveError.AllocError) }
+        ensures sound { IsSoundMap self.new }
+        ensures comparisons { count.new.comparisons ≡ count.old.comparisons }
+        ensures no_move { OnErr result (count.new.moves ≡ count.old.moves) }
+        ensures moves { OnOk result (IsMoved 1 count.old count.new) }
+    {
+        let root = first_leaf(self.alloc, (key, value), count)?;
+        self.root = Some(root);
+        self.len = 1;
+        Ok(())
+    }
+
+    // Takes the pair with the key, to which the path leads, out.
+    fn remove_at(&mut self, path: &Path, key: &K, count: &mut Count) -> (K, V)
+        requires { IsHeldAt K.cmp key.now self.old path.now }
+        ensures pair { at K.cmp (entries self.old) key.now ≡ Some result }
+        ensures rest { entries self.new ≡ cut K.cmp (entries self.old) key.now }
+        ensures length { length (entries self.old) ≡ length (entries self.new) + 1 }
+        ensures sound { IsSoundMap self.new }
+        ensures comparisons { count.new.comparisons ≡ count.old.comparisons }
+        ensures moves { IsMoved (length (entries self.old)) count.old count.new }
+    {
+        let Some(root) = self.root.take() else {
+            unreachable!()
+        };
+        let (pair, root) = remove(root, path.as_slice(), count);
+        self.root = root;
+        self.len -= 1;
+        pair
+    }
+
+    // Where the key stands, or where it would go.
+    fn locate(&self, key: &K, count: &mut Count) -> Result<Path, Path>
+        ensures found { IfOk result (IsHeldAt K.cmp key.now self.now) }
+        ensures gap { IfErr result (IsOpenAt K.cmp key.now self.now) }
+        ensures present { OnOk result (IsSome (at K.cmp (entries self.now) key.now)) }
+        ensures absent { OnErr result (at K.cmp (entries self.now) key.now ≡ None) }
+        ensures sound { IsSoundMap self.now }
+        ensures comparisons { count.new.comparisons ≡ count.old.comparisons + passed_in K.cmp key.now self.now }
+        ensures moves { count.new.moves ≡ count.old.moves }
+        ensures bounded { IsBounded (length (entries self.now)) count.old count.new }
+    {
+        match &self.root {
+            None => Err(Path::new()),
+            Some(root) => search::search(root, key, count),
         }
     }
-    Err(place)
+
+    // The pair with an equal key.
+    fn pair_at(&self, key: &K, count: &mut Count) -> Option<&(K, V)>
+        ensures pair { option_copied result ≡ at K.cmp (entries self.now) key.now }
+        ensures comparisons { count.new.comparisons ≡ count.old.comparisons + passed_in K.cmp key.now self.now }
+        ensures moves { count.new.moves ≡ count.old.moves }
+        ensures bounded { IsBounded (length (entries self.now)) count.old count.new }
+    {
+        match &self.root {
+            None => None,
+            Some(root) => search::get(root, key, count),
+        }
+    }
 }
 
-#[cfg(test)]
-mod tests {
-    use super::*;
-    use std::test::Fail;
-
-    #[test]
-    fn an_insertion_answers_the_value_before(rt: HostRuntime) -> Result<(), Fail> {
-        let mut map = BTreeMap::new(rt.alloc());
-        assert_eq!(rt; map.try_insert(37u64, "a")?, None);
-        assert_eq!(rt; map.try_insert(37, "b")?, Some("a"));
-        assert_eq!(rt; map.try_insert(37, "c")?, Some("b"));
-        assert_eq!(rt; map.get(&37).copied(), Some("c"));
-        assert_eq!(rt; map.len(), 1);
-        Ok(())
-    }
-
-    #[test]
-    fn a_removal_answers_the_value_once(rt: HostRuntime) -> Result<(), Fail> {
-        let mut map = BTreeMap::new(rt.alloc());
-        map.try_insert(1u64, "a")?;
-        assert_eq!(rt; map.remove(&1), Some("a"));
-        assert_eq!(rt; map.remove(&1), None);
-        assert_eq!(rt; map.len(), 0);
-        Ok(())
-    }
-
-    #[test]
-    fn an_empty_map_has_nothing(rt: HostRuntime) {
-        let map: BTreeMap<u64, &str> = BTreeMap::new(rt.alloc());
-        assert_eq!(rt; map.get(&1).copied(), None);
-        assert_eq!(rt; map.len(), 0);
-    }
+// Puts a pair with a new key into the gap of the tree that the path leads to.
+fn insert_in<K: Ord + Drop, V: Drop>(
+    alloc: Global,
+    root: &mut Box<Node<K, V>>,
+    path: &[usize],
+    pair: (K, V),
+    count: &mut Count,
+) -> Result<(), TryReserveError>
+    requires gap { IsGap K.cmp pair.0 root.old.value path.now }
+    requires sound { IsSoundMap (Some root.old.value) }
+    requires fits { length (pairs_of root.old.value) < usize.MAX }
+    ensures put { OnOk result (pairs_of root.new.value ≡ put K.cmp (pairs_of root.old.value) pair.0 pair.1) }
+    ensures length { OnOk result (length (pairs_of root.new.value) ≡ length (pairs_of root.old.value) + 1) }
+    ensures sound { IsSoundMap (Some root.new.value) }
+    ensures unchanged { OnErr result (root.new ≡ root.old) }
+    ensures error { IfErr result (λ e. e ≡ TryReserveError.AllocError) }
+    ensures leaf { OnErr result (11 ≤ length (pairs_of root.old.value)) }
+    ensures comparisons { count.new.comparisons ≡ count.old.comparisons }
+    ensures no_move { OnErr result (count.new.moves ≡ count.old.moves) }
+    ensures moves { OnOk result (IsMoved (length (pairs_of root.new.value)) count.old count.new) }
+{
+    let room = try_room(alloc, root, path)?;
+    insert(root, path, pair, room, count);
+    Ok(())
 }

@@ -15,8 +15,11 @@ ghost use Rattle.fc_command.specs.Grammar.{
   ends,
   insert_of,
   get_of,
+  pair_of,
+  has_of,
   remove_of,
   len_of,
+  clear_of,
   command_of_words,
 };
 
@@ -46,10 +49,16 @@ fn command_in_words(words: Option<&[u8]>) -> Option<Command<u64, u64>>
         insert_in(words)
     } else if word == b"get".as_slice() {
         get_in(words)
+    } else if word == b"pair".as_slice() {
+        pair_in(words)
+    } else if word == b"has".as_slice() {
+        has_in(words)
     } else if word == b"remove".as_slice() {
         remove_in(words)
     } else if word == b"len".as_slice() {
         len_in(words)
+    } else if word == b"clear".as_slice() {
+        clear_in(words)
     } else {
         None
     }
@@ -74,6 +83,24 @@ fn get_in(words: Option<&[u8]>) -> Option<Command<u64, u64>>
     ending(Command::Get(side, key), words)
 }
 
+#[tactic(auto, unfolding(crate::specs::Grammar::pair_of))]
+fn pair_in(words: Option<&[u8]>) -> Option<Command<u64, u64>>
+    ensures { result ≡ pair_of (words_left words.entry) }
+{
+    let (side, words) = next_map(words)?;
+    let (key, words) = next_number(words)?;
+    ending(Command::GetKeyValue(side, key), words)
+}
+
+#[tactic(auto, unfolding(crate::specs::Grammar::has_of))]
+fn has_in(words: Option<&[u8]>) -> Option<Command<u64, u64>>
+    ensures { result ≡ has_of (words_left words.entry) }
+{
+    let (side, words) = next_map(words)?;
+    let (key, words) = next_number(words)?;
+    ending(Command::ContainsKey(side, key), words)
+}
+
 #[tactic(auto, unfolding(crate::specs::Grammar::remove_of))]
 fn remove_in(words: Option<&[u8]>) -> Option<Command<u64, u64>>
     ensures { result ≡ remove_of (words_left words.entry) }
@@ -89,6 +116,14 @@ fn len_in(words: Option<&[u8]>) -> Option<Command<u64, u64>>
 {
     let (side, words) = next_map(words)?;
     ending(Command::Len(side), words)
+}
+
+#[tactic(auto, unfolding(crate::specs::Grammar::clear_of))]
+fn clear_in(words: Option<&[u8]>) -> Option<Command<u64, u64>>
+    ensures { result ≡ clear_of (words_left words.entry) }
+{
+    let (side, words) = next_map(words)?;
+    ending(Command::Clear(side), words)
 }
 
 // The command, if no word is left.

@@ -17,8 +17,11 @@ pub fn write_reply(text: &mut String, reply: &Reply<u64, u64>) -> Result<(), All
 {
     match reply {
         Reply::Done => write!(text, "done\n"),
-        Reply::Key(None) | Reply::Value(None) => write!(text, "none\n"),
+        Reply::Flag(true) => write!(text, "true\n"),
+        Reply::Flag(false) => write!(text, "false\n"),
+        Reply::Key(None) | Reply::Value(None) | Reply::Pair(None) => write!(text, "none\n"),
         Reply::Key(Some(n)) | Reply::Value(Some(n)) => write!(text, "some {n}\n"),
+        Reply::Pair(Some((key, value))) => write!(text, "some {key} {value}\n"),
         Reply::Len(n) => write!(text, "{n}\n"),
         Reply::Refused(TryReserveError::AllocError) => write!(text, "refused alloc\n"),
         Reply::Refused(TryReserveError::CapacityOverflow) => { write!(text, "refused overflow\n") }

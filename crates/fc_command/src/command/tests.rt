@@ -171,6 +171,18 @@ fn lines_are_served(rt: HostRuntime) -> Result<(), Fail> {
 }
 
 #[test]
+fn pairs_tests_and_clears_are_served(rt: HostRuntime) -> Result<(), Fail> {
+    let (out, end) = served(
+        rt.alloc(),
+        b"insert b 5 6\npair b 5\npair a 5\nhas b 5\nhas a 5\nclear b\nlen b\nhas b 5",
+    )?;
+    assert_eq!(rt; end, Ok(ServeEnd::Finished));
+    let expected = "none\nsome 5 6\nnone\ntrue\nfalse\ndone\n0\nfalse\n";
+    assert_eq!(rt; out.as_slice(), expected.as_bytes());
+    Ok(())
+}
+
+#[test]
 fn an_empty_source_writes_nothing(rt: HostRuntime) -> Result<(), Fail> {
     let (out, end) = served(rt.alloc(), b"")?;
     assert_eq!(rt; end, Ok(ServeEnd::Finished));
@@ -211,6 +223,9 @@ fn lines_that_are_not_commands(rt: HostRuntime) -> Result<(), Fail> {
         "get s 1\n",
         "Insert a 1 1\n",
         "get a 1\u{0}\n",
+        "pair a\n",
+        "has a 1 2\n",
+        "clear\n",
     ];
     for line in lines {
         let (out, end) = served(rt.alloc(), line.as_bytes())?;

@@ -1,8 +1,11 @@
 //! A world of maps, and the commands over it.
-ghost use Rattle.std.specs.Prelude.{◌≡◌, List, [], IfOk, OnErr, IfErr};
+ghost use Rattle.std.specs.Prelude.{◌≡◌, List, [], IfOk, OnErr, IfErr, IsSome};
 ghost use Rattle.fc_base.specs.declared.try_reserve_error.TryReserveError.TheVariants.{AllocError};
-ghost use Rattle.fc_map.specs.Entries.{Map};
-ghost use Rattle.fc_command.specs.Step.{IsNew, Step, StepOn, Runs, side_of};
+ghost use Rattle.fc_base.specs.Copies.{IsExact};
+ghost use Rattle.fc_base.specs.Parts.{at, value_at};
+ghost use Rattle.fc_map.specs.Entries.{Map, entries};
+ghost use Rattle.fc_command.specs.declared.command.world.Reply.TheVariants.{Value, Pair};
+ghost use Rattle.fc_command.specs.Step.{IsNew, Step, StepOn, Runs, IsCopied, side_of};
 
 use fc_base::{TryClone, TryReserveError};
 use fc_map::map::BTreeMap;
@@ -34,10 +37,16 @@ pub enum Command<K, V> {
     Insert(Side, K, V),
     /// `get`; replies `Value`, a copy. The copy may be refused.
     Get(Side, K),
+    /// `get_key_value`; replies `Pair`, a copy. The copy may be refused.
+    GetKeyValue(Side, K),
+    /// `contains_key`; replies `Flag`.
+    ContainsKey(Side, K),
     /// `remove`; replies `Value`, the one taken out.
     Remove(Side, K),
     /// `len`; replies `Len`.
     Len(Side),
+    /// `clear`; replies `Done`.
+    Clear(Side),
 }
 
 /// What a command answers.
@@ -45,12 +54,16 @@ pub enum Command<K, V> {
 pub enum Reply<K, V> {
     /// The command was done and has nothing to tell.
     Done,
+    /// A yes or no.
+    Flag(bool),
     /// A key, if there was one.
     Key(Option<K>),
     /// A number of pairs.
     Len(usize),
     /// A value, if there was one.
     Value(Option<V>),
+    /// A pair, if there was one.
+    Pair(Option<(K, V)>),
     /// The command was refused, and the world is as before.
     Refused(TryReserveError),
 }
@@ -69,10 +82,10 @@ impl<K: Ord + TryClone, V: TryClone> World<K, V> {
 
     /// Runs one command. A refusal is the reply `Refused`, and the world is then as it was.
     ///
-    /// A caller shows that copies of values are the values themselves.
+    /// A caller shows that a copy of a key or of a value is that key or value itself.
     pub fn step(&mut self, command: Command<K, V>) -> Reply<K, V>
-        requires copied { V.can_clone }
-        requires same { (x y : V) → V.same x y → y ≡ x }
+        requires copied { K.can_clone × V.can_clone }
+        requires same { IsExact K.same × IsExact V.same }
         ensures { Step K.cmp self.old command result self.new }
     {
         match command.side() {
@@ -86,8 +99,8 @@ impl<K: Ord + TryClone, V: TryClone> World<K, V> {
     /// # Errors
     /// `AllocError` where the room for all replies, which is taken first, is refused: then no command ran.
     pub fn run(&mut self, commands: Vec<Command<K, V>>) -> Result<Vec<Reply<K, V>>, TryReserveError>
-        requires copied { V.can_clone }
-        requires same { (x y : V) → V.same x y → y ≡ x }
+        requires copied { K.can_clone × V.can_clone }
+        requires same { IsExact K.same × IsExact V.same }
         ensures ran { IfOk result (λ replies. Runs K.cmp self.old commands.items replies.items self.new) }
         ensures error { IfErr result (λ e. e ≡ AllocError) }
         ensures unchanged { OnErr result (self.new ≡ self.old) }
@@ -111,8 +124,11 @@ impl<K, V> Command<K, V> {
         match self {
             Command::Insert(side, _, _) => *side,
             Command::Get(side, _) => *side,
+            Command::GetKeyValue(side, _) => *side,
+            Command::ContainsKey(side, _) => *side,
             Command::Remove(side, _) => *side,
             Command::Len(side) => *side,
+            Command::Clear(side) => *side,
         }
     }
 }
@@ -122,8 +138,8 @@ fn step_on<K: Ord + TryClone, V: TryClone>(
     map: &mut BTreeMap<K, V>,
     command: Command<K, V>,
 ) -> Reply<K, V>
-    requires copied { V.can_clone }
-    requires same { (x y : V) → V.same x y → y ≡ x }
+    requires copied { K.can_clone × V.can_clone }
+    requires same { IsExact K.same × IsExact V.same }
     ensures { (o : Map K V) → StepOn K.cmp command map.old o result map.new o }
 {
     match command {
@@ -131,14 +147,55 @@ fn step_on<K: Ord + TryClone, V: TryClone>(
             Ok(old) => Reply::Value(old),
             Err(e) => Reply::Refused(e),
         },
-        Command::Get(_, key) => match map.get(&key) {
-            Some(value) => match value.try_clone() {
-                Ok(copy) => Reply::Value(Some(copy)),
-                Err(e) => Reply::Refused(e),
-            },
-            None => Reply::Value(None),
-        },
+        Command::Get(_, key) => get(map, &key),
+        Command::GetKeyValue(_, key) => get_key_value(map, &key),
+        Command::ContainsKey(_, key) => Reply::Flag(map.contains_key(&key)),
         Command::Remove(_, key) => Reply::Value(map.remove(&key)),
         Command::Len(_) => Reply::Len(map.len()),
+        Command::Clear(_) => {
+            map.clear();
+            Reply::Done
+        }
     }
+}
+
+// A copy of the value at the key.
+fn get<K: Ord + TryClone, V: TryClone>(map: &BTreeMap<K, V>, key: &K) -> Reply<K, V>
+    requires copied { V.can_clone }
+    requires same { IsExact V.same }
+    ensures { IsCopied result (Value (value_at K.cmp (entries map.now) key.now)) (IsSome (value_at K.cmp (entries map.now) key.now)) }
+{
+    match map.get(key) {
+        Some(value) => match value.try_clone() {
+            Ok(copy) => Reply::Value(Some(copy)),
+            Err(e) => Reply::Refused(e),
+        },
+        None => Reply::Value(None),
+    }
+}
+
+// A copy of the pair at the key.
+fn get_key_value<K: Ord + TryClone, V: TryClone>(map: &BTreeMap<K, V>, key: &K) -> Reply<K, V>
+    requires copied { K.can_clone × V.can_clone }
+    requires same { IsExact K.same × IsExact V.same }
+    ensures { IsCopied result (Pair (at K.cmp (entries map.now) key.now)) (IsSome (at K.cmp (entries map.now) key.now)) }
+{
+    match map.get_key_value(key) {
+        Some((held, value)) => match copy_pair(held, value) {
+            Ok(copy) => Reply::Pair(Some(copy)),
+            Err(e) => Reply::Refused(e),
+        },
+        None => Reply::Pair(None),
+    }
+}
+
+// A copy of a key and a value, or the refusal of one of them.
+fn copy_pair<K: TryClone, V: TryClone>(key: &K, value: &V) -> Result<(K, V), TryReserveError>
+    requires copied { K.can_clone × V.can_clone }
+    requires same { IsExact K.same × IsExact V.same }
+    ensures { IfOk result (λ copy. copy ≡ (key.now, value.now)) }
+{
+    let key = key.try_clone()?;
+    let value = value.try_clone()?;
+    Ok((key, value))
 }

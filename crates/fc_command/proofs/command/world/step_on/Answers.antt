@@ -1,13 +1,17 @@
-use Rattle.std.proofs.Common.{IsSome, refl, subst}
-use Rattle.fc_command.specs.Step.{answered, refused}
+use Rattle.std.proofs.Common.{refl}
+use Rattle.fc_command.specs.Step.{refused}
+use Rattle.fc_command.proofs.RunFacts.{step_copied}
 use Rattle.fc_command.proofs.command.world.step_on.Goals as goal
 
 -- a new key was refused
-pub returns-in-Insert : goal.returns-in-Insert
-returns-in-Insert g c o =
+pub returns-in-Err : goal.returns-in-Err
+returns-in-Err g c o =
     let why = c.in-Err.ensures in
     rw c.in-Insert.is (refused c.in-Err.e (why.new_key, why.error) (refl, why.unchanged, refl))
 
--- the copy was refused
-pub returns-in-Some : goal.returns-in-Some
-returns-in-Some g c o = rw c.in-Get.is (refused c.in-Err-try_clone.e (subst IsSome c.in-Some.ensures refl) (refl, refl, refl))
+-- the reply holds a copy, or its refusal
+pub returns-in-Get : goal.returns-in-Get
+returns-in-Get g c o = rw c.in-Get.is (step_copied g.K.Ord.cmp _ c.args.map.now o c.get.result (λ h. h) refl refl _ (λ e some. some) c.get.ensures)
+
+pub returns-in-GetKeyValue : goal.returns-in-GetKeyValue
+returns-in-GetKeyValue g c o = rw c.in-GetKeyValue.is (step_copied g.K.Ord.cmp _ c.args.map.now o c.get_key_value.result (λ h. h) refl refl _ (λ e some. some) c.get_key_value.ensures)

@@ -1,0 +1,112 @@
+//! Jobs over the ordered map for a driver outside Rattle, which measures them and compares their answers.
+#![tactic(auto)]
+
+use fc_map::map::BTreeMap;
+use std::alloc::Global;
+use std::mem::ManuallyDrop;
+
+// A checksum of all answers so far, which depends on each of them and on their order.
+fn mixed(checksum: u64, answer: Option<u64>) -> u64 {
+    let word = match answer {
+        Some(value) => value.wrapping_add(1),
+        None => 0,
+    };
+    checksum.rotate_left(5) ^ word
+}
+
+// Inserts each key, with itself as the value; `None` where memory was refused.
+fn insert_all(map: &mut BTreeMap<u64, u64>, keys: &[u64]) -> Option<u64> {
+    let mut checksum = 0;
+    for key in keys {
+        match map.try_insert(*key, *key) {
+            Ok(old) => checksum = mixed(checksum, old),
+            Err(_) => return None,
+        }
+    }
+    Some(checksum)
+}
+
+fn get_all(map: &BTreeMap<u64, u64>, keys: &[u64], start: u64) -> u64 {
+    let mut checksum = start;
+    for key in keys {
+        checksum = mixed(checksum, map.get(key).copied());
+    }
+    checksum
+}
+
+fn remove_all(map: &mut BTreeMap<u64, u64>, keys: &[u64], start: u64) -> u64 {
+    let mut checksum = start;
+    for key in keys {
+        checksum = mixed(checksum, map.remove(key));
+    }
+    checksum
+}
+
+/// Inserts `keys` into a new map, looks `sought` up and takes `removed` out. Then the map is dropped, or where `leaked` is true
+/// it is let go without a drop, so that the time of a drop can be told. The checksum of all answers goes to `checksum`. False
+/// where memory was refused.
+#[unsafe(no_mangle)]
+pub extern "C" fn bench_map_run(
+    alloc: Global,
+    keys: &[u64],
+    sought: &[u64],
+    removed: &[u64],
+    leaked: bool,
+    checksum: &mut u64,
+) -> bool {
+    let mut map = BTreeMap::new(alloc);
+    let Some(inserted) = insert_all(&mut map, keys) else {
+        return false;
+    };
+    let found = get_all(&map, sought, inserted);
+    *checksum = remove_all(&mut map, removed, found);
+    if leaked {
+        let _leaked = ManuallyDrop::new(map);
+    }
+    true
+}
+
+/// A call on the map, and what it answered.
+#[repr(C)]
+pub struct Step {
+    /// 0 inserts, 1 removes, and anything else looks up.
+    pub call: u64,
+    /// The key.
+    pub key: u64,
+    /// The value to be inserted.
+    pub value: u64,
+    /// Whether the call answered a value.
+    pub found: bool,
+    /// The value that it answered, or 0.
+    pub answer: u64,
+    /// The number of pairs after the call.
+    pub len: usize,
+}
+
+// Makes the call and keeps what it answered; false where memory was refused.
+fn take(map: &mut BTreeMap<u64, u64>, step: &mut Step) -> bool {
+    let answer = match step.call {
+        0 => match map.try_insert(step.key, step.value) {
+            Ok(old) => old,
+            Err(_) => return false,
+        },
+        1 => map.remove(&step.key),
+        _ => map.get(&step.key).copied(),
+    };
+    step.found = answer.is_some();
+    step.answer = answer.unwrap_or(0);
+    step.len = map.len();
+    true
+}
+
+/// Makes all calls in turn on a new map and keeps what each answered. False where memory was refused.
+#[unsafe(no_mangle)]
+pub extern "C" fn bench_map_follow(alloc: Global, steps: &mut [Step]) -> bool {
+    let mut map = BTreeMap::new(alloc);
+    for step in steps {
+        if !take(&mut map, step) {
+            return false;
+        }
+    }
+    true
+}

@@ -1,0 +1,77 @@
+//! Counts of comparisons and moves, for proofs alone: a `Count` has no bytes.
+//!
+//! What adds to a count is a call in this module. Only `compare` adds a comparison, since the function that both numbers
+//! grow by is private. `add_moves` is public because the lists of `fc_node` are in another crate: only that crate's
+//! module `slots` may call it, and the gate searches the sources for any other caller.
+ghost use Rattle.std.specs.Prelude.{◌≡◌, ℕ, ◌+◌};
+ghost use Rattle.std.specs.Borrow.{ftrue};
+
+use std::cmp::Ordering;
+use std::marker::{Model, PhantomData};
+
+/// How many comparisons and how many moves were made. Contracts see both numbers, and a program sees none.
+#[derive(Drop)]
+pub struct Count {
+    marker: PhantomData<()>,
+    pub ghost comparisons: { ℕ },
+    pub ghost moves: { ℕ },
+}
+
+impl Model for Count {
+    ghost also_owns = { λ _. ftrue };
+}
+
+impl Count {
+    /// A count of nothing.
+    pub fn new() -> Count
+        ensures { (result.comparisons ≡ 0) × (result.moves ≡ 0) }
+    {
+        Count {
+            marker: PhantomData,
+        }
+    }
+
+    // Does nothing at run time. The two proofs of `new` and of this function are all that ties the numbers to code.
+    fn record(&mut self, comparisons: u64, moves: u64)
+        ensures { (self.new.comparisons ≡ self.old.comparisons + comparisons) × (self.new.moves ≡ self.old.moves + moves) }
+    {}
+
+    /// Adds moves. Only the calls of `fc_node`'s module `slots` may do so.
+    pub fn add_moves(&mut self, moves: usize)
+        ensures comparisons { self.new.comparisons ≡ self.old.comparisons }
+        ensures moves { self.new.moves ≡ self.old.moves + moves }
+    {
+        self.record(0, moves as u64)
+    }
+}
+
+/// How the first key compares to the second, by the keys' own order. It adds one comparison to the count.
+///
+/// No other call adds a comparison.
+pub fn compare<K: Ord>(a: &K, b: &K, count: &mut Count) -> Ordering
+    ensures value { result ≡ K.cmp a.now b.now }
+    ensures comparisons { count.new.comparisons ≡ count.old.comparisons + 1 }
+    ensures moves { count.new.moves ≡ count.old.moves }
+{
+    count.record(1, 0);
+    a.cmp(b)
+}
+
+#[cfg(test)]
+mod tests {
+    use super::*;
+    use std::mem::size_of;
+
+    #[test]
+    fn takes_no_bytes(rt: HostRuntime) {
+        assert_eq!(rt; size_of::<Count>(), 0);
+    }
+
+    #[test]
+    fn compares_by_the_keys_order(rt: HostRuntime) {
+        let mut count = Count::new();
+        assert_eq!(rt; compare(&1u64, &2u64, &mut count), Ordering::Less);
+        assert_eq!(rt; compare(&2u64, &2u64, &mut count), Ordering::Equal);
+        assert_eq!(rt; compare(&3u64, &2u64, &mut count), Ordering::Greater);
+    }
+}

@@ -1,0 +1,67 @@
+-- What a search of a map found.
+use Rattle.std.proofs.Common.{◌≡◌, ℕ, ◌+◌, List, [], ◌∷◌, ◌++◌, length, Some, None, Option, Result, Ok, Err, IsSome, refl, sym, ap, ◌∙◌}
+use Rattle.std.specs.Prelude.{OnOk, OnErr, IfOk, IfErr}
+use Rattle.std.specs.Option.{option_map}
+use Rattle.std.specs.declared.cmp.Ordering.{Ordering}
+use Rattle.fc_base.specs.OneKey.{put, cut}
+use Rattle.fc_base.specs.Parts.{at, value_at}
+use Rattle.fc_node.specs.declared.btree.node.Node.{Node}
+use Rattle.fc_node.specs.Found.{IsFound, IsGap}
+use Rattle.fc_node.specs.Node.{pairs_of}
+use Rattle.fc_node.proofs.Gaps.{gap_pairs, place_pairs}
+use Rattle.fc_node.proofs.SearchFacts.{found_at, gap_at}
+use Rattle.fc_node.proofs.WrittenPairs.{written_levels, written_put}
+use Rattle.fc_map.specs.Entries.{Map, entries, IsSoundMap}
+use Rattle.fc_map.specs.Lends.{pair_in, written_in}
+use Rattle.fc_map.specs.Place.{IsHeldAt, IsOpenAt}
+use Rattle.fc_map.proofs.WrittenFacts.{written_length}
+
+module _ {K V : Type 0} (cmp : K → K → Ordering) (k : K) where
+  -- The pair that the path leads to is the one with an equal key.
+  pub held_pair : (m : Map K V) (path : List ℕ) → IsSoundMap m → IsHeldAt cmp k m path → at cmp (entries m) k ≡ pair_in m path
+  held_pair None path sound held = absurd held
+  held_pair (Some root) path sound held = (found_at cmp k path sound.0 root sound.2.1 held).here
+
+  pub held_some : (m : Map K V) (path : List ℕ) → IsSoundMap m → IsHeldAt cmp k m path → IsSome (at cmp (entries m) k)
+  held_some None path sound held = absurd held
+  held_some (Some root) path sound held =
+      let cut = place_pairs path sound.0 root sound.2.1 held.place in
+      rw (held_pair (Some root) path sound held ∙ cut.is) refl
+
+  -- At a gap there is no equal key.
+  pub open_none : (m : Map K V) (path : List ℕ) → IsSoundMap m → IsOpenAt cmp k m path → at cmp (entries m) k ≡ None
+  open_none None path sound gap = refl
+  open_none (Some root) path sound gap = (gap_at cmp k path sound.0 root sound.2.1 gap).here
+
+  -- Without an equal key nothing is cut out.
+  pub open_cut : (m : Map K V) (path : List ℕ) → IsSoundMap m → IsOpenAt cmp k m path → entries m ≡ cut cmp (entries m) k
+  open_cut None path sound gap = refl
+  open_cut (Some root) path sound gap =
+      let a = gap_at cmp k path sound.0 root sound.2.1 gap in
+      gap_pairs path sound.0 root sound.2.1 (gap.levels sound.0 sound.2.1) gap.way ∙ rw (a.lower, a.upper) refl
+
+  -- What a search answers tells whether an equal key is there.
+  pub found_there : (m : Map K V) (r : Result (List ℕ) (List ℕ)) → IsSoundMap m → IfOk r (IsHeldAt cmp k m) → OnOk r (IsSome (at cmp (entries m) k))
+  found_there m (Ok path) sound held = held_some m path sound held
+  found_there m (Err path) sound held = tt
+
+  pub found_none : (m : Map K V) (r : Result (List ℕ) (List ℕ)) → IsSoundMap m → IfErr r (IsOpenAt cmp k m) → OnErr r (at cmp (entries m) k ≡ None)
+  found_none m (Ok path) sound gap = tt
+  found_none m (Err path) sound gap = open_none m path sound gap
+
+  -- The map with another value at the key.
+  pub record IsReplaced (old new : Map K V) (v : V) : Type 0 where
+    pub put_is : entries new ≡ put cmp (entries old) k v
+    pub length_is : length (entries new) ≡ length (entries old)
+    pub sound : IsSoundMap new
+
+  pub replaced : (m : Map K V) (path : List ℕ) (w : V) → IsSoundMap m → IsHeldAt cmp k m path → IsReplaced m (written_in m path w) w
+  replaced None path w sound held = absurd held
+  replaced (Some root) path w sound held =
+      let l = written_levels path sound.0 root w sound.2.1 held.place in
+      let same = l.1 in
+      record {
+        put_is = written_put cmp k path sound.0 root w sound.2.1 held;
+        length_is = sym (written_length cmp root path w held.place sound);
+        sound = (sound.0, sound.1, (rw same sound.2.0, l.0));
+      }

@@ -1,0 +1,27 @@
+-- A map in which a value was written.
+use Rattle.std.proofs.Common.{◌≡◌, ℕ, ◌+◌, ◌<◌, ◌≤◌, List, [], ◌∷◌, ◌++◌, length, Some, None, sym, ap, ◌∙◌, arith, length-append}
+use Rattle.std.specs.declared.cmp.Ordering.{Ordering}
+use Rattle.fc_base.specs.Ascending.{IsAscending}
+use Rattle.fc_node.specs.declared.btree.node.Node.{Node}
+use Rattle.fc_node.specs.Node.{pairs_of}
+use Rattle.fc_node.specs.Place.{IsPlace, place_ahead, place_behind}
+use Rattle.fc_node.specs.Written.{written}
+use Rattle.fc_node.proofs.Gaps.{place_pairs}
+use Rattle.fc_node.proofs.WrittenPairs.{written_levels, written_pairs, written_ascending}
+use Rattle.fc_map.specs.Entries.{IsSoundMap}
+
+module _ {K V : Type 0} (cmp : K → K → Ordering) (root : Node K V) (path : List ℕ) (w : V) (place : IsPlace path root) (sound : IsSoundMap (Some root)) where
+  -- There are as many pairs.
+  pub written_length : length (pairs_of root) ≡ length (pairs_of (written root path w))
+  written_length =
+      let cut = place_pairs path sound.0 root sound.2.1 place in
+      let old = ap length cut.parts ∙ length-append (place_ahead path root) (cut.pair ∷ place_behind path root) in
+      let new = ap length (written_pairs path sound.0 root cut.pair w sound.2.1 place cut.is) ∙ length-append (place_ahead path root) ((cut.pair.0, w) ∷ place_behind path root) in
+      omega (arith, old, new)
+
+  -- The map's invariant holds whatever was written.
+  pub written_kept : IsAscending cmp (pairs_of root) → IsAscending cmp (pairs_of (written root path w)) × IsSoundMap (Some (written root path w)) × (length (pairs_of root) ≡ length (pairs_of (written root path w)))
+  written_kept ascending =
+      let l = written_levels path sound.0 root w sound.2.1 place in
+      let same = l.1 in
+      (written_ascending cmp path sound.0 root w sound.2.1 place ascending, (sound.0, sound.1, (omega arith, l.0)), written_length)

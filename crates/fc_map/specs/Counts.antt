@@ -1,0 +1,14 @@
+-- What a call on one key may cost.
+use Rattle.std.specs.Prelude.{◌≡◌, ℕ, ◌+◌, ◌*◌, ◌<◌, ◌≤◌}
+use Rattle.fc_base.specs.declared.count.Count.{Count}
+use Rattle.fc_node.specs.Depth.{IsDeep}
+
+-- A call on one key among n pairs counts nothing where n is 0, and else at most 11 comparisons and 18 moves for each of the
+-- h + 1 levels of some height h that n pairs can have.
+abbrev pub IsBounded : ℕ → Count → Count → Type 0
+IsBounded n old new = (n ≡ 0 → (new.comparisons ≡ old.comparisons) × (new.moves ≡ old.moves))
+    × (0 < n → (h : ℕ) × IsDeep h n × (new.comparisons ≤ old.comparisons + 11 * (h + 1)) × (new.moves ≤ old.moves + 18 * (h + 1)))
+
+-- Pairs were moved, at most 18 for each of the h + 1 levels of some height h that n pairs can have.
+abbrev pub IsMoved : ℕ → Count → Count → Type 0
+IsMoved n old new = (h : ℕ) × IsDeep h n × (new.moves ≤ old.moves + 18 * (h + 1))

@@ -1,0 +1,36 @@
+-- What a map ends as, once a borrow of a value in it has ended.
+use Rattle.std.specs.Prelude.{ℕ, Bool, List, Option, Some, None}
+use Rattle.std.specs.declared.cmp.Ordering.{Ordering}
+use Rattle.std.specs.Borrow.{Fml, RattleType, MutBor, Lends}
+use Rattle.fc_node.specs.declared.btree.node.Node.{Node}
+use Rattle.fc_node.specs.Place.{IsPlace, place_pair}
+use Rattle.fc_node.specs.Written.{written}
+use Rattle.fc_map.specs.Entries.{Map}
+use Rattle.fc_map.specs.contracts.map.BTreeMap.{the_row}
+
+-- What a clause has as K.Ord.
+abbrev pub OrdMembers : Type 0 → Type 0
+OrdMembers K = record { partial_cmp : K → K → Option Ordering; eq : K → K → Bool; cmp : K → K → Ordering }
+
+-- The map's type, as the logic holds it.
+abbrev pub map_row : (K V : RattleType) → OrdMembers K.Denot → RattleType
+map_row K V g = the_row K V (record { cmp = g.cmp }) (record { eq = g.eq }) (record { partial_cmp = g.partial_cmp })
+
+-- The path leads to a pair of the map.
+abbrev pub IsPlaceIn : {K V : Type 0} → Map K V → List ℕ → Type 0
+IsPlaceIn None path = ⊥
+IsPlaceIn (Some root) path = IsPlace path root
+
+-- The pair that the path leads to, if there is one.
+abbrev pub pair_in : {K V : Type 0} → Map K V → List ℕ → Option (K × V)
+pair_in None path = None
+pair_in (Some root) path = place_pair path root
+
+-- The map with this value at the place that the path leads to: the tree keeps its shape.
+abbrev pub written_in : {K V : Type 0} → Map K V → List ℕ → V → Map K V
+written_in None path w = None
+written_in (Some root) path w = Some (written root path w)
+
+-- Once the borrow r of the value at the place ends, the map has there what was written through r.
+abbrev pub lends_at : (K V : RattleType) → OrdMembers K.Denot → MutBor (Map K.Denot V.Denot) → List ℕ → MutBor V.Denot → Fml
+lends_at K V g m path r = Lends (map_row K V g) V m r (written_in m.now path)

@@ -1,0 +1,22 @@
+//! Values lent for writing.
+ghost use Rattle.std.specs.Prelude.{◌≡◌, Some};
+ghost use Rattle.std.specs.Option.{option_map};
+ghost use Rattle.std.specs.Borrow.{sem};
+
+use super::BTreeMap;
+use fc_node::btree::node::lend;
+use fc_node::btree::path::Path;
+
+impl<K: Ord, V> BTreeMap<K, V> {
+    ghost use Rattle.fc_map.specs.Lends.{lends_at, IsPlaceIn, pair_in};
+
+    // The value of the pair that the path leads to, lent for writing.
+    pub(crate) fn value_mut(&mut self, path: &Path) -> &mut V
+        requires { IsPlaceIn self.old path.now }
+        ensures* writes_back { sem 𝓛 (lends_at K.row V.row K.Ord self.entry path.now result) }
+        ensures value { option_map (λ e. e.1) (pair_in self.old path.now) ≡ Some result.now }
+    {
+        let root = self.root.as_mut().unwrap();
+        lend::value_mut(root, path)
+    }
+}

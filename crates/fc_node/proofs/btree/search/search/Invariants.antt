@@ -1,0 +1,10 @@
+use Rattle.std.proofs.Common.{◌≡◌, ◌+◌, ◌-◌, length}
+use Rattle.fc_node.specs.Passed.{passed}
+use Rattle.fc_node.proofs.SearchFacts.{IsOnWay}
+use Rattle.fc_node.proofs.btree.search.search.Given as goal
+
+abbrev pub invariant-down : goal.invariant-down
+invariant-down g l = IsOnWay g.K.Ord.cmp l.key l.root l.node l.path × (l.count.comparisons + passed g.K.Ord.cmp l.key l.node ≡ l.initial.count.comparisons + passed g.K.Ord.cmp l.key l.root) × (l.count.moves ≡ l.initial.count.moves)
+
+abbrev pub decreases-down : goal.decreases-down
+decreases-down g l = 25 - length l.path
