@@ -44,36 +44,38 @@ fn two_levels(
     Ok((keys(alloc, root)?, below))
 }
 
-// The levels below the node, where all leaves lie at one depth, each node has at most 11 pairs and each but the first at least
-// `least`, each inner node has a child more than pairs, and the keys ascend within each node.
-fn levels(node: &Node<u64, u64>, least: usize, steps: u8) -> Option<u8> {
-    if node.len() < least || node.len() > 11 || steps == 0 {
-        return None;
-    }
+// Whether the keys of the node ascend.
+fn ascends(node: &Node<u64, u64>) -> bool {
     for i in 1..node.len() {
         if node.pair(i - 1).0 >= node.pair(i).0 {
-            return None;
+            return false;
         }
+    }
+    true
+}
+
+// The levels below the node, of which there are fewer than `steps`, where all leaves lie at one depth, each node has at most 11
+// pairs and each but the first at least `least`, and each inner node has a child more than pairs.
+fn levels(node: &Node<u64, u64>, least: usize, steps: u8) -> Option<u8> {
+    if node.len() < least || node.len() > 11 || steps == 0 || !ascends(node) {
+        return None;
     }
     if node.is_leaf() {
         return Some(0);
     }
-    levels_of_children(node, steps - 1)
-}
-
-fn levels_of_children(node: &Node<u64, u64>, steps: u8) -> Option<u8> {
     let mut height = None;
-    if node.child_count() != node.len() + 1 {
-        return None;
-    }
     for i in 0..node.child_count() {
-        let here = levels(node.child(i), 5, steps)?;
+        let here = levels(node.child(i), 5, steps - 1)?;
         if height.is_some_and(|known: u8| known != here) {
             return None;
         }
         height = Some(here);
     }
-    height?.checked_add(1)
+    if node.child_count() == node.len() + 1 {
+        height?.checked_add(1)
+    } else {
+        None
+    }
 }
 
 // Whether the tree is sound.
