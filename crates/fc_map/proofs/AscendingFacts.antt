@@ -1,14 +1,12 @@
 -- An ascending list with a pair put in or taken out is ascending.
-use Rattle.std.proofs.Common.{◌≡◌, ℕ, ◌+◌, ◌<◌, ◌≤◌, suc, zero, List, [], ◌∷◌, ◌++◌, length, take, drop, get_or, Some, None, Option, refl, sym, ap, ◌∙◌, arith, append_assoc, append-nil, add-one, drop-cons, cond, true, false, Bool, set}
+use Rattle.std.proofs.Common.{◌≡◌, List, [], ◌∷◌, ◌++◌, Some, refl, ap, ◌∙◌, cond, true, false, Bool}
 use Rattle.std.specs.List.{filter}
 use Rattle.std.specs.Ordering.{is_lt, is_eq, is_gt}
-use Rattle.std.proofs.lemmas.List.{drop_all, get_or_default}
 use Rattle.std.specs.declared.cmp.Ordering.{Ordering}
 use Rattle.std.specs.declared.cmp.Ordering.TheVariants.{Less, Equal, Greater}
 use Rattle.std.specs.Ordering.{ordering_reverse}
 use Rattle.std.specs.Cmp.{IsTotalOrder}
 use Rattle.std.specs.List.{AllByRecursion}
-use Rattle.std.proofs.lemmas.List.{take_more}
 use Rattle.fc_base.specs.Ascending.{IsAscending}
 use Rattle.fc_base.specs.Parts.{below, above, at}
 use Rattle.fc_base.specs.OneKey.{put}
@@ -43,7 +41,7 @@ module _ {K V : Type 0} (cmp : K → K → Ordering) where
   asc_join [] a hb ha all = ha
   asc_join (e ∷ b) a hb ha all = (all_append (λ y. cmp e.0 y.0 ≡ Less) b a hb.0 all.0, asc_join b a hb.1 ha all.1)
 
-  all_below : (s : List (K × V)) (k : K) → AllByRecursion (λ e. cmp e.0 k ≡ Less) (below cmp s k)
+  pub all_below : (s : List (K × V)) (k : K) → AllByRecursion (λ e. cmp e.0 k ≡ Less) (below cmp s k)
   all_below [] k = tt
   all_below (e ∷ s) k = go (cmp e.0 k) refl (all_below s k)
     where
@@ -52,7 +50,7 @@ module _ {K V : Type 0} (cmp : K → K → Ordering) where
       go Equal h rest = rest
       go Greater h rest = rest
 
-  all_above : (s : List (K × V)) (k : K) → AllByRecursion (λ e. cmp e.0 k ≡ Greater) (above cmp s k)
+  pub all_above : (s : List (K × V)) (k : K) → AllByRecursion (λ e. cmp e.0 k ≡ Greater) (above cmp s k)
   all_above [] k = tt
   all_above (e ∷ s) k = go (cmp e.0 k) refl (all_above s k)
     where
@@ -60,6 +58,17 @@ module _ {K V : Type 0} (cmp : K → K → Ordering) where
       go Less h rest = rest
       go Equal h rest = rest
       go Greater h rest = (h, rest)
+
+  module _ (total : IsTotalOrder cmp) (k : K) where
+    -- The key that `put` leaves is equal to k.
+    pub at_key : (s : List (K × V)) → cmp (unwrap_or (option_map (λ (e : K × V). e.0) (at cmp s k)) k) k ≡ Equal
+    at_key [] = tied_itself total k
+    at_key (e ∷ s) = go (cmp e.0 k) refl (at_key s)
+      where
+        go : (o : Ordering) → cmp e.0 k ≡ o → cmp (unwrap_or (option_map (λ (e : K × V). e.0) (at cmp s k)) k) k ≡ Equal → cmp (unwrap_or (option_map (λ (e : K × V). e.0) (cond (is_eq o) (Some e) (at cmp s k))) k) k ≡ Equal
+        go Less h rest = rest
+        go Equal h rest = h
+        go Greater h rest = rest
 
   module _ (total : IsTotalOrder cmp) (s : List (K × V)) (a : IsAscending cmp s) (k : K) where
     pub asc_cut : IsAscending cmp (below cmp s k ++ above cmp s k)
@@ -70,15 +79,6 @@ module _ {K V : Type 0} (cmp : K → K → Ordering) where
         (all_map _ _ (λ y more. total.congr x.0 k y.0 same ∙ under_one cmp total k y.0 more) (above cmp s k) (all_above s k), asc_filter _ s a)
         (all_map _ _ (λ e less. (under_one cmp total e.0 x.0 (total.congr x.0 k e.0 same ∙ over_one cmp total e.0 k less), all_map _ _ (λ y more. total.trans e.0 k y.0 less (under_one cmp total k y.0 more)) (above cmp s k) (all_above s k))) (below cmp s k) (all_below s k))
 
-    at_key : (s : List (K × V)) → cmp (unwrap_or (option_map (λ (e : K × V). e.0) (at cmp s k)) k) k ≡ Equal
-    at_key [] = tied_itself total k
-    at_key (e ∷ s) = go (cmp e.0 k) refl (at_key s)
-      where
-        go : (o : Ordering) → cmp e.0 k ≡ o → cmp (unwrap_or (option_map (λ (e : K × V). e.0) (at cmp s k)) k) k ≡ Equal → cmp (unwrap_or (option_map (λ (e : K × V). e.0) (cond (is_eq o) (Some e) (at cmp s k))) k) k ≡ Equal
-        go Less h rest = rest
-        go Equal h rest = h
-        go Greater h rest = rest
-
     -- A list with a value put at a key is ascending.
     pub ascending_put : (v : V) → IsAscending cmp (put cmp s k v)
-    ascending_put v = asc_put (unwrap_or (option_map (λ (e : K × V). e.0) (at cmp s k)) k, v) (at_key s)
+    ascending_put v = asc_put (unwrap_or (option_map (λ (e : K × V). e.0) (at cmp s k)) k, v) (at_key total k s)

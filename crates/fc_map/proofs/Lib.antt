@@ -4,3 +4,4 @@ mod InsertFacts
 mod PlaceFacts
 mod RemoveFacts
 mod WrittenFacts
+pub mod PutFacts

@@ -2,3 +2,4 @@ pub mod Entries
 pub mod Counts
 pub mod Place
 pub mod Lends
+pub mod LendsKey

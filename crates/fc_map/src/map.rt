@@ -9,12 +9,15 @@ ghost use Rattle.fc_node.specs.Found.{IsGap};
 ghost use Rattle.fc_node.specs.Node.{pairs_of};
 ghost use Rattle.fc_map.specs.Counts.{IsBounded, IsMoved};
 ghost use Rattle.fc_map.specs.Entries.{entries, now_value, now_pair, passed_in, IsSoundMap};
+ghost use Rattle.fc_map.specs.LendsKey.{path_in};
 ghost use Rattle.fc_map.specs.Place.{IsHeldAt, IsOpenAt};
 
 #[cfg(test)]
 mod shapes;
 #[cfg(test)]
 mod tests;
+mod get_mut;
+mod index;
 mod values;
 
 use fc_base::{Count, TryReserveError};
@@ -316,6 +319,7 @@ impl<K: Ord + Drop, V: Drop> BTreeMap<K, V> {
     fn locate(&self, key: &K, count: &mut Count) -> Result<Path, Path>
         ensures found { IfOk result (IsHeldAt K.cmp key.now self.now) }
         ensures gap { IfErr result (IsOpenAt K.cmp key.now self.now) }
+        ensures path { MatchResult result (λ p. p ≡ path_in K.cmp key.now self.now) (λ p. p ≡ path_in K.cmp key.now self.now) }
         ensures present { OnOk result (IsSome (at K.cmp (entries self.now) key.now)) }
         ensures absent { OnErr result (at K.cmp (entries self.now) key.now ≡ None) }
         ensures sound { IsSoundMap self.now }
@@ -365,6 +369,6 @@ fn insert_in<K: Ord + Drop, V: Drop>(
     ensures moves { OnOk result (IsMoved (length (pairs_of root.new.value)) count.old count.new) }
 {
     let room = try_room(alloc, root, path)?;
-    insert(root, path, pair, room, count);
+    let _ = insert(root, path, pair, room, count);
     Ok(())
 }

@@ -66,6 +66,16 @@ module _ {K V : Type 0} where
       let t = mul-le-mul_right (6 ^ suc h) two in
       omega arith
 
+  -- a full root makes a tree of one level more where it is split
+  pub deep_full : (h : ℕ) (n : Node K V) → length (own_pairs n) ≡ 11 → IsLevelled h n → IsDeep (suc h) (length (pairs_of n))
+  deep_full zero n e l = let m : length (pairs_of n) ≡ length (own_pairs n) = ap length (leaf_pairs n l.1) in omega arith
+  deep_full (suc h) n e l =
+      let a = each (λ c. (5 ≤ length (own_pairs c)) × IsLevelled h c) (λ c. 6 ^ suc h ≤ length (pairs_of c) + 1) (λ c p. many_below h c p.0 p.1) (children_of n) l.2 in
+      let b = many_in n (6 ^ suc h) l.1 a in
+      let all : length (children_of n) ≡ 12 = let m : length (children_of n) ≡ length (own_pairs n) + 1 = l.1 in omega arith in
+      let t : 12 * 6 ^ suc h ≤ length (pairs_of n) + 1 = rw all at b in
+      omega arith
+
 -- so that a tree of at most 2^64 - 1 pairs has at most 24 levels below its root
 pub few_levels : (h n : ℕ) → IsDeep h n → n < 2 ^ 64 → h ≤ 24
 few_levels h n d s = within (cases_lt 24 h)

@@ -15,6 +15,7 @@ pub mod Nodes
 pub mod DepthFacts
 pub mod WrittenFacts
 pub mod WrittenPairs
+pub mod WayFacts
 pub mod PathSteps
 pub mod InsertedPairs
 pub mod InsertedLevels
@@ -22,3 +23,5 @@ pub mod Spares
 pub mod Cascades
 pub mod Mended
 pub mod Removed
+pub mod ArrivalSteps
+pub mod Arrivals

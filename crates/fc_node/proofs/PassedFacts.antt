@@ -40,7 +40,7 @@ module _ {K V : Type 0} (cmp : K → K → Ordering) (k : K) where
   passed_is n = fold_out-Node K V ℕ (passed_step cmp k) n ∙ folded (own_pairs n) (out-Node K V n).children
 
   -- keys below k are counted, and stop nothing
-  past_lower : (L s : List (K × V)) (ns : List ℕ) → AllBelow cmp k L → lower_count cmp k (L ++ s) ≡ length L + lower_count cmp k s
+  pub past_lower : (L s : List (K × V)) (ns : List ℕ) → AllBelow cmp k L → lower_count cmp k (L ++ s) ≡ length L + lower_count cmp k s
   past_lower [] s ns a = omega arith
   past_lower (e ∷ L) s ns a = rw a.0 (let i = past_lower L s ns a.1 in omega arith)
 
@@ -48,12 +48,12 @@ module _ {K V : Type 0} (cmp : K → K → Ordering) (k : K) where
   past_stop [] s a = refl
   past_stop (e ∷ L) s a = rw a.0 (past_stop L s a.1)
 
-  past_equal : (L s : List (K × V)) → AllBelow cmp k L → list_any (λ e. is_eq (cmp e.0 k)) (L ++ s) ≡ list_any (λ e. is_eq (cmp e.0 k)) s
+  pub past_equal : (L s : List (K × V)) → AllBelow cmp k L → list_any (λ e. is_eq (cmp e.0 k)) (L ++ s) ≡ list_any (λ e. is_eq (cmp e.0 k)) s
   past_equal [] s a = refl
   past_equal (e ∷ L) s a = rw a.0 (past_equal L s a.1)
 
   -- keys above k are neither below it nor equal to it
-  upper_none : (R : List (K × V)) → AllAbove cmp k R → (lower_count cmp k R ≡ 0) × (list_any (λ e. is_eq (cmp e.0 k)) R ≡ list_any (λ (e : K × V). is_eq (cmp e.0 k)) [])
+  pub upper_none : (R : List (K × V)) → AllAbove cmp k R → (lower_count cmp k R ≡ 0) × (list_any (λ e. is_eq (cmp e.0 k)) R ≡ list_any (λ (e : K × V). is_eq (cmp e.0 k)) [])
   upper_none [] a = (refl, refl)
   upper_none (e ∷ R) a = let i = upper_none R a.1 in (rw a.0 i.0, rw a.0 i.1)
 
@@ -114,7 +114,7 @@ module _ {K V : Type 0} {cmp : K → K → Ordering} (o : IsTotalOrder cmp) (k :
       passed_is cmp k n ∙ ap (λ ps. passed_in cmp k ps ns) cut ∙ passed_equal cmp k (take i s) (drop (suc i) s) p ns f.1 e sides.1
       ∙ ap (λ j. j + 1) (length_take i s (omega (arith, f.0)))
 
-  upper_rest : (s : List (K × V)) (i : ℕ) → IsAscending cmp s → IsGapAt cmp k s i → AllAbove cmp k (drop i s)
+  pub upper_rest : (s : List (K × V)) (i : ℕ) → IsAscending cmp s → IsGapAt cmp k s i → AllAbove cmp k (drop i s)
   upper_rest [] zero a f = tt
   upper_rest [] (suc i) a f = tt
   upper_rest (e ∷ s) zero a f = side_upper o k [] s e a (f.2 e (omega arith))

@@ -9,6 +9,7 @@ pub mod Bordered
 pub mod Place
 pub mod Depth
 pub mod Passed
+pub mod Way
 pub mod Found
 pub mod Written
 pub mod Cascade
@@ -16,3 +17,4 @@ pub mod Room
 pub mod Insertion
 pub mod Mending
 pub mod Removal
+pub mod Arrival

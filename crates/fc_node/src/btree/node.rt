@@ -7,6 +7,7 @@ use crate::slots::Slots;
 use fc_base::TryReserveError;
 use std::alloc::Global;
 
+mod arrival;
 mod bulk;
 mod costs;
 pub mod insertion;

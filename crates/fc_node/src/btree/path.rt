@@ -1,5 +1,5 @@
 //! Paths down a tree.
-ghost use Rattle.std.specs.Prelude.{◌≡◌, ◌+◌, ◌<◌, ◌≤◌, [], ◌∷◌, ◌++◌, length, slice_index};
+ghost use Rattle.std.specs.Prelude.{◌≡◌, ◌+◌, ◌<◌, ◌≤◌, [], ◌∷◌, ◌++◌, length, slice_index, slice_set};
 
 use arrayvec::ArrayVec;
 use std::marker::Model;
@@ -64,5 +64,31 @@ impl Path {
         ensures { self.new ≡ self.old ++ step ∷ [] }
     {
         self.steps.push(step);
+    }
+
+    /// A path of these steps.
+    pub(crate) fn of(steps: &[usize]) -> Path
+        requires { length steps.now ≤ 25 }
+        ensures { result ≡ steps.now }
+    {
+        let mut all = ArrayVec::new();
+        all.try_extend_from_slice(steps).unwrap();
+        Path { steps: all }
+    }
+
+    /// Puts another step in the place of the one at `index`.
+    pub(crate) fn set(&mut self, index: usize, step: usize)
+        requires { index < length self.old }
+        ensures { self.new ≡ slice_set self.old index step }
+    {
+        self.steps.as_mut_slice()[index] = step;
+    }
+
+    /// Puts a step at the front.
+    pub(crate) fn push_front(&mut self, step: usize)
+        requires { length self.old < 25 }
+        ensures { self.new ≡ step ∷ self.old }
+    {
+        self.steps.insert(0, step);
     }
 }

@@ -1,10 +1,11 @@
 //! Search for a key, in a node and down a tree.
-ghost use Rattle.std.specs.Prelude.{◌≡◌, ◌+◌, length, IfOk, IfErr, option_copied};
+ghost use Rattle.std.specs.Prelude.{◌≡◌, ◌+◌, length, IfOk, IfErr, MatchResult, option_copied};
 ghost use Rattle.fc_base.specs.Ascending.{IsAscending};
 ghost use Rattle.fc_base.specs.Parts.{at};
 ghost use Rattle.fc_node.specs.Node.{own_pairs, pairs_of};
 ghost use Rattle.fc_node.specs.Found.{IsTree, IsFoundAt, IsGapAt, IsFound, IsGap, seen};
 ghost use Rattle.fc_node.specs.Passed.{passed};
+ghost use Rattle.fc_node.specs.Way.{path_to};
 
 use crate::btree::node::Node;
 use crate::btree::path::Path;
@@ -37,6 +38,7 @@ pub fn search<K: Ord, V>(root: &Node<K, V>, key: &K, count: &mut Count) -> Resul
     requires order { IsAscending K.cmp (pairs_of root.now) }
     ensures found { IfOk result (IsFound K.cmp key.now root.now) }
     ensures gap { IfErr result (IsGap K.cmp key.now root.now) }
+    ensures path { MatchResult result (λ p. p ≡ path_to K.cmp key.now root.now) (λ p. p ≡ path_to K.cmp key.now root.now) }
     ensures comparisons { count.new.comparisons ≡ count.old.comparisons + passed K.cmp key.now root.now }
     ensures moves { count.new.moves ≡ count.old.moves }
 {

@@ -5,29 +5,37 @@ ghost use Rattle.fc_node.specs.Node.{own_pairs, children_of, pairs_of, IsLeaf, I
 ghost use Rattle.fc_node.specs.Path.{IsPath, before, after};
 ghost use Rattle.fc_node.specs.Cascade.{all_full, cascade, nodes_needed, insertion_moves, IsSpareLeaf, AreSpareInner};
 ghost use Rattle.fc_node.specs.Insertion.{spread, own_pairs_after, children_after, IsHalved};
+ghost use Rattle.fc_node.specs.Split.{left_length};
+ghost use Rattle.fc_node.specs.Arrival.{steps_after, path_after, IsPutAt, HasArrived};
 
+use super::arrival::arrival;
 use super::room::{Room, Spares, take_spare};
 use super::{CAPACITY, Node};
+use crate::btree::path::Path;
 use fc_base::{Count, TryReserveError};
 use std::alloc::Global;
 use std::mem;
 
 /// Puts `pair` into the gap that the path leads to. Each node that this takes is in `room`, so nothing can be refused once
-/// the first pair moves.
+/// the first pair moves. The answer is the path to the pair in the tree as it then is.
 pub fn insert<K: Drop, V: Drop>(
     root: &mut Box<Node<K, V>>,
     path: &[usize],
     pair: (K, V),
     room: Room<K, V>,
     count: &mut Count,
-)
+) -> Path
     requires some { 0 < length path.now }
+    requires short { steps_after path.now root.old.value ≤ 25 }
     requires path { IsPath path.now root.old.value }
     requires sound { IsSoundRoot (length path.now - 1) root.old.value }
     requires room { room ≡ nodes_needed path.now root.old.value }
 
     // The pairs before the gap, the new pair and the pairs after the gap.
     ensures pairs { pairs_of root.new.value ≡ before path.now root.old.value ++ pair ∷ after path.now root.old.value }
+
+    // The answer leads to the new pair, with the pairs that were before the gap ahead of it and those after the gap behind it.
+    ensures place { IsPutAt result root.new.value pair (before path.now root.old.value) (after path.now root.old.value) }
 
     // The tree is as high as before, unless each node of the path was full: then a new root stands above it, with one pair.
     ensures same_height { IsFalse (all_full path.now root.old.value) → IsSoundRoot (length path.now - 1) root.new.value }
@@ -36,8 +44,10 @@ pub fn insert<K: Drop, V: Drop>(
     ensures moves { count.new.moves ≤ count.old.moves + insertion_moves path.now root.old.value }
     ensures few_moves { count.new.moves ≤ count.old.moves + 18 * length path.now }
 {
+    let place = arrival(path, room.len());
     let Room { leaf, mut inner } = room;
     insert_with(root, path, pair, leaf, &mut inner, count);
+    place
 }
 
 // Inserts with the nodes made ahead, and uses up all of them.
@@ -57,6 +67,7 @@ fn insert_with<K: Drop, V: Drop>(
     requires blank { AreSpareInner inner.old.items }
     ensures used_up { array_vec_len inner.new ≡ 0 }
     ensures pairs { pairs_of root.new.value ≡ before path.now root.old.value ++ pair ∷ after path.now root.old.value }
+    ensures place { IsPutAt (path_after (nodes_needed path.now root.old.value) path.now) root.new.value pair (before path.now root.old.value) (after path.now root.old.value) }
     ensures same_height { IsFalse (all_full path.now root.old.value) → IsSoundRoot (length path.now - 1) root.new.value }
     ensures higher { IsTrue (all_full path.now root.old.value) → IsSoundRoot (length path.now) root.new.value × (length (own_pairs root.new.value) ≡ 1) }
     ensures comparisons { count.new.comparisons ≡ count.old.comparisons }
@@ -116,6 +127,9 @@ fn insert_below<K: Drop, V: Drop>(
     // The pairs are those that were before the gap, the new pair and those that were after it.
     ensures pairs { spread node.new result ≡ before path.now node.old ++ pair ∷ after path.now node.old }
 
+    // The new pair stands where the path leads it, in the node or in the one that is handed out.
+    ensures arrived { HasArrived path.now node.old node.new result }
+
     // The levels are as before, in each half of a node that was full.
     ensures levels { IsLevelled (length path.now - 1) node.new × IfSome result (λ s. IsLevelled (length path.now - 1) s.1.value) }
     ensures size { MatchOption result (length (own_pairs node.old) ≤ length (own_pairs node.new)) (λ s. IsHalved node.new × IsHalved s.1.value) }
@@ -160,6 +174,7 @@ fn put_leaf<K: Drop, V: Drop>(
     ensures leaf { IsLeaf node.new × IfSome result (λ s. IsLeaf s.1.value) }
     ensures size { MatchOption result (length (own_pairs node.new) ≤ 11) (λ s. IsHalved node.new × IsHalved s.1.value) }
     ensures halved { MatchOption result (length (own_pairs node.old) < 11) (λ _. length (own_pairs node.old) ≡ 11) }
+    ensures left { IfSome result (λ _. length (own_pairs node.new) ≡ left_length i) }
     ensures comparisons { count.new.comparisons ≡ count.old.comparisons }
     ensures moves { MatchOption result (count.new.moves ≤ count.old.moves + 11) (λ _. count.new.moves ≤ count.old.moves + 12) }
 {
@@ -190,6 +205,7 @@ fn put_inner<K: Drop, V: Drop>(
     ensures inner { IsInner node.new × IfSome result (λ s. IsInner s.1.value) }
     ensures size { MatchOption result (length (own_pairs node.new) ≤ 11) (λ s. IsHalved node.new × IsHalved s.1.value) }
     ensures halved { MatchOption result (length (own_pairs node.old) < 11) (λ _. length (own_pairs node.old) ≡ 11) }
+    ensures left { IfSome result (λ _. length (own_pairs node.new) ≡ left_length i) }
     ensures used { MatchOption result (array_vec_len spares.new ≡ array_vec_len spares.old) (λ _. array_vec_len spares.new + 1 ≡ array_vec_len spares.old) }
     ensures blank { AreSpareInner spares.new.items }
     ensures comparisons { count.new.comparisons ≡ count.old.comparisons }

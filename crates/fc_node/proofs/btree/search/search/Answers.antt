@@ -1,6 +1,7 @@
 use Rattle.std.proofs.Common.{arith, refl}
 use Rattle.fc_node.proofs.SearchFacts.{one_longer, child_there, way_levels, way_room, way_ascending, way_more, way_gap, way_found}
 use Rattle.fc_node.proofs.PassedFacts.{passed_found, passed_down, passed_leaf}
+use Rattle.fc_node.proofs.WayFacts.{path_ends, path_ends_leaf, path_goes_on}
 use Rattle.fc_node.proofs.btree.search.search.Goals as goal
 
 pub push-requires : goal.push-requires
@@ -19,6 +20,10 @@ returns-in-Ok-clause-comparisons g c =
     let f = passed_found g.met.K.Ord.total c.args.key.now c.down.node.now c.in-Ok.i a c.in-Ok.ensures.found in
     omega (arith, c.in-Ok.ensures.comparisons)
 
+pub returns-in-Ok-clause-path : goal.returns-in-Ok-clause-path
+returns-in-Ok-clause-path g c =
+    path_ends g.met.K.Ord.total c.args.key.now c.requires.levels c.requires.order c.down.invariant.0 c.down.invariant.3 c.in-Ok.i _ c.push.ensures c.in-Ok.ensures.found
+
 pub returns-then-is_leaf-clause-gap : goal.returns-then-is_leaf-clause-gap
 returns-then-is_leaf-clause-gap g c =
     way_gap g.met.K.Ord.total c.args.key.now c.requires.levels c.requires.order c.down.invariant.0 c.in-Err.i _ c.push-in-Err.ensures c.in-Err.ensures.gap (c.if-is_leaf.ensures.0 refl)
@@ -28,6 +33,10 @@ returns-then-is_leaf-clause-comparisons g c =
     let a = way_ascending _ _ c.requires.levels c.requires.order c.down.invariant.0 in
     let f = passed_leaf g.met.K.Ord.total c.args.key.now c.down.node.now c.in-Err.i a c.in-Err.ensures.gap (c.if-is_leaf.ensures.0 refl) in
     omega (arith, c.in-Err.ensures.comparisons)
+
+pub returns-then-is_leaf-clause-path : goal.returns-then-is_leaf-clause-path
+returns-then-is_leaf-clause-path g c =
+    path_ends_leaf g.met.K.Ord.total c.args.key.now c.requires.levels c.requires.order c.down.invariant.0 c.down.invariant.3 c.in-Err.i _ c.push-in-Err.ensures c.in-Err.ensures.gap (c.if-is_leaf.ensures.0 refl)
 
 pub child-node-requires : goal.child-node-requires
 child-node-requires g c =
@@ -52,4 +61,5 @@ down-preserved g c =
     let a = way_ascending _ _ c.requires.levels c.requires.order c.down.invariant.0 in
     let w = way_more o key c.requires.levels c.requires.order c.down.invariant.0 c.in-Err.i child _ c.push-in-Err.ensures c.in-Err.ensures.gap there c.child-node.ensures in
     let p = passed_down o key node child c.in-Err.i a c.in-Err.ensures.gap there c.child-node.ensures in
-    (w, omega (arith, c.in-Err.ensures.comparisons), omega (arith, c.in-Err.ensures.moves))
+    let q = path_goes_on o key c.requires.levels c.requires.order c.down.invariant.0 c.down.invariant.3 c.in-Err.i child _ c.push-in-Err.ensures c.in-Err.ensures.gap there c.child-node.ensures in
+    (w, omega (arith, c.in-Err.ensures.comparisons), omega (arith, c.in-Err.ensures.moves), q)

@@ -5,6 +5,7 @@ ghost use Rattle.fc_node.specs.Node.{children_of, IsLevelled};
 ghost use Rattle.fc_node.specs.Path.{IsPath};
 
 use super::{first_leaf, insert};
+use crate::btree::node::lend::pair_at;
 use crate::btree::node::room::try_room;
 use crate::btree::node::{MIN_LEN, Node};
 use arrayvec::ArrayVec;
@@ -72,7 +73,7 @@ fn child_shows(node: &Node<u64, u64>, index: usize, keys: &[u64]) -> bool {
     index < child_count(node) && shows(node.child(index), keys)
 }
 
-// Inserts the key at the path, with a room of as many nodes.
+// Inserts the key at the path, with a room of as many nodes, and looks for it where the insertion says.
 fn put(
     rt: &impl Abort,
     alloc: Global,
@@ -81,12 +82,13 @@ fn put(
     key: u64,
     nodes: usize,
 ) -> Result<(), TryReserveError> {
-    assert!(rt; !path.is_empty() && path.len() <= 25 && root.len() > 0);
+    assert!(rt; !path.is_empty() && path.len() <= 24 && root.len() > 0);
     assert!(rt; is_levelled(root, path.len() - 1));
     assert!(rt; is_path(root, path));
     let room = try_room(alloc, root, path)?;
     assert_eq!(rt; room.len(), nodes);
-    insert(root, path, (key, key), room, &mut Count::new());
+    let place = insert(root, path, (key, key), room, &mut Count::new());
+    assert_eq!(rt; pair_at(root, &place).0, key);
     Ok(())
 }
 
@@ -149,6 +151,21 @@ fn between_even_keys(rt: HostRuntime) -> Result<(), Fail> {
             [&[2, 4, 6, 8, 10], &[13, 14, 16, 18, 20, 22]]
         };
         assert!(rt; child_shows(&root, 0, left) && child_shows(&root, 1, right));
+    }
+    Ok(())
+}
+
+#[test]
+fn each_place_of_a_full_leaf(rt: HostRuntime) -> Result<(), Fail> {
+    for place in 0..12usize {
+        let mut root = first_leaf(rt.alloc(), (1, 1), &mut Count::new())?;
+        for key in 2..12u64 {
+            let path = last_path(&root, 0);
+            put(&rt, rt.alloc(), &mut root, path.as_slice(), key * 2 - 1, 0)?;
+        }
+        let new = place as u64 * 2;
+        put(&rt, rt.alloc(), &mut root, &[place], new, 2)?;
+        assert!(rt; is_levelled(&root, 1) && child_count(&root) == 2);
     }
     Ok(())
 }

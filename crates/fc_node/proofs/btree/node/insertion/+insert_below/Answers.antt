@@ -9,6 +9,7 @@ use Rattle.fc_node.proofs.Made.{child_set}
 use Rattle.fc_node.proofs.InsertedPairs.{put_in_leaf, put_below, put_above}
 use Rattle.fc_node.proofs.InsertedLevels.{levelled_stay, levelled_put, inner_kept, grown}
 use Rattle.fc_node.proofs.Cascades.{cascade_step, leaf_passed, above_halved, above_used, above_moves}
+use Rattle.fc_node.proofs.Arrivals.{arrived_below, arrived_above, arrived_leaf}
 use Rattle.fc_node.proofs.btree.node.insertion.+insert_below.Goals as goal
 
 pub returns-then-path-eq1-clause-pairs : goal.returns-then-path-eq1-clause-pairs
@@ -149,3 +150,31 @@ returns-in-Some-below-clause-moves g t c =
     let f = subst (λ ps. MatchOption c.put_inner.result (length ps < 11) (λ _. length ps ≡ 11)) m.same c.put_inner.ensures.halved in
     let halved = c.in-Some-below.ensures.halved in
     above_moves c.put_inner.result c.args.path.now c.args.node.now c.deref_mut-child.result.now _ _ _ s k (omega arith) f c.in-Some-below.ensures.moves c.put_inner.ensures.moves
+
+pub returns-then-path-eq1-clause-arrived : goal.returns-then-path-eq1-clause-arrived
+returns-then-path-eq1-clause-arrived g t c =
+    let e : length c.args.path.now - 1 ≡ 0 = omega arith in
+    let l = subst (λ h. IsLevelled h c.args.node.now) e c.requires.levels in
+    let o = one_step _ c.if-path-eq1.true in
+    let w = subst (λ p. IsPath p c.args.node.now) o c.requires.path in
+    let i = c.put_leaf.ensures in
+    arrived_leaf c.args.path.now c.args.node.now c.put_leaf.new.node c.put_leaf.result c.args.pair o l.1 i.leaf.0 i.leaf.1 w.0 i.pairs i.halved i.left
+
+pub returns-in-None-below-clause-arrived : goal.returns-in-None-below-clause-arrived
+returns-in-None-below-clause-arrived g t c =
+    let s = step_of c.args.path.now c.args.node.now (omega arith) c.requires.path c.requires.levels in
+    let ci = child_lent c.args.path.now c.args.node.now _ _ c.deref_mut-child.result.now s c.in-Some.is c.get_mut.ensures.value c.deref_mut-child.ensures.value in
+    let k = cascade_step c.args.path.now c.args.node.now c.deref_mut-child.result.now s ci in
+    let m = child_set c.args.node.now c.in-Some.children _ (with_value c.get_mut.result.now c.insert_below-below.new.node) c.in-Some.is in
+    arrived_below c.args.path.now c.args.node.now _ c.insert_below-below.new.node c.deref_mut-child.result.now s k m ci c.in-None-below.ensures.halved c.in-None-below.ensures.arrived
+
+pub returns-in-Some-below-clause-arrived : goal.returns-in-Some-below-clause-arrived
+returns-in-Some-below-clause-arrived g t c =
+    let s = step_of c.args.path.now c.args.node.now (omega arith) c.requires.path c.requires.levels in
+    let ci = child_lent c.args.path.now c.args.node.now _ _ c.deref_mut-child.result.now s c.in-Some.is c.get_mut.ensures.value c.deref_mut-child.ensures.value in
+    let k = cascade_step c.args.path.now c.args.node.now c.deref_mut-child.result.now s ci in
+    let m = child_set c.args.node.now c.in-Some.children _ (with_value c.get_mut.result.now c.insert_below-below.new.node) c.in-Some.is in
+    let f = subst (λ ps. MatchOption c.put_inner.result (length ps < 11) (λ _. length ps ≡ 11)) m.same c.put_inner.ensures.halved in
+    let halved = c.in-Some-below.ensures.halved in
+    let i = c.put_inner.ensures in
+    arrived_above c.args.path.now c.args.node.now _ c.insert_below-below.new.node c.deref_mut-child.result.now c.put_inner.new.node c.put_inner.result c.in-Some-below.up c.in-Some-below.right s k m ci (omega arith) f i.pairs i.children i.inner.0 i.left c.in-Some-below.ensures.arrived
