@@ -1,10 +1,12 @@
 //! Collections in which every call that takes memory answers a `Result`, and a refused call does no harm.
 //!
 //! `btree` has the ordered map, `command` a world of maps behind commands and lines of text. The error of a refused call is
-//! `TryReserveError`; `TryClone` is for types whose copies may be refused.
+//! `TryReserveError`; `TryClone` is for types whose copies may be refused, `FallibleBox` makes boxes that may be. `count` counts
+//! comparisons and moves for contracts alone.
 #![tactic(auto)]
 
 pub mod btree;
 
-pub use fc_base::{TryClone, TryReserveError, try_clone, try_reserve_error};
+pub use fc_base::{FallibleBox, TryClone, TryReserveError};
+pub use fc_base::{boxed, count, try_clone, try_reserve_error};
 pub use fc_command::command;
