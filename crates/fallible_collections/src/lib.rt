@@ -7,6 +7,7 @@
 
 pub mod btree;
 
-pub use fc_base::{FallibleBox, TryClone, TryReserveError};
-pub use fc_base::{boxed, count, try_clone, try_reserve_error};
+pub use fc_base::{
+    FallibleBox, TryClone, TryReserveError, boxed, count, try_clone, try_reserve_error,
+};
 pub use fc_command::command;

@@ -12,12 +12,12 @@ ghost use Rattle.fc_map.specs.Entries.{entries, now_value, now_pair, passed_in, 
 ghost use Rattle.fc_map.specs.LendsKey.{path_in};
 ghost use Rattle.fc_map.specs.Place.{IsHeldAt, IsOpenAt};
 
+mod get_mut;
+mod index;
 #[cfg(test)]
 mod shapes;
 #[cfg(test)]
 mod tests;
-mod get_mut;
-mod index;
 mod values;
 
 use fc_base::{Count, TryReserveError};

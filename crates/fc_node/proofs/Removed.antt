@@ -15,7 +15,7 @@ use Rattle.fc_node.proofs.Lists.{length_take, take_drop, set_is, length_set, all
 use Rattle.fc_node.proofs.Weaves.{weave_parts}
 use Rattle.fc_node.proofs.Pairs.{pairs_is, leaf_children, leaf_pairs, child_is, child_below}
 use Rattle.fc_node.proofs.Made.{IsChildSet, children_in, inner_length}
-use Rattle.fc_node.proofs.Gaps.{inner_gap, item_there}
+use Rattle.fc_node.proofs.Gaps.{drop_item, inner_gap, item_there}
 use Rattle.fc_node.proofs.Siblings.{around_one}
 
 module _ {X : Type 0} where
@@ -33,11 +33,6 @@ module _ {X : Type 0} where
   at_set [] i y d h = absurd (omega arith)
   at_set (x ∷ xs) zero y d h = refl
   at_set (x ∷ xs) (suc i) y d h = at_set xs i y d (omega arith)
-
-  drop_next : (xs : List X) (i : ℕ) (d : X) → i < length xs → drop i xs ≡ get_or xs i d ∷ drop (suc i) xs
-  drop_next [] i d h = absurd (omega arith)
-  drop_next (x ∷ xs) zero d h = refl
-  drop_next (x ∷ xs) (suc i) d h = drop_next xs i d (omega arith)
 
   no_pairs : (xs : List X) → length xs ≡ 0 → xs ≡ []
   no_pairs [] e = refl
@@ -157,7 +152,7 @@ module _ {K V : Type 0} where
       ∙ ap (λ zs. weave zs (ps ++ next ∷ qs)) (map-append pairs_of cs (c ∷ ds))
       ∙ weave_parts (map pairs_of cs) (map pairs_of (c ∷ ds)) ps next qs n (omega arith)
       ∙ ap (λ zs. ahead_in old i ++ zs)
-      (ap (λ zs. weave (zs ∷ map pairs_of ds) qs) (sym q ∙ ap pairs_of ci) ∙ ap (λ zs. weave (map pairs_of zs) qs) (sym (drop_next (children_of old) (suc i) old (omega arith))))
+      (ap (λ zs. weave (zs ∷ map pairs_of ds) qs) (sym q ∙ ap pairs_of ci) ∙ ap (λ zs. weave (map pairs_of zs) qs) (sym (drop_item (children_of old) (suc i) old (omega arith))))
 
 module _ {K V : Type 0} where
   pub empty_leaf : (root : Node K V) → IsLeaf root → length (own_pairs root) ≡ 0 → pairs_of root ≡ []

@@ -1,11 +1,11 @@
-use Rattle.std.proofs.Common.{◌≡◌, ℕ, zero, suc, ◌+◌, ◌*◌, ◌<◌, List, [], ◌∷◌, ◌++◌, length, refl, sym, ap, subst, ◌∙◌, arith, length-append}
+use Rattle.std.proofs.Common.{◌≡◌, ℕ, ◌+◌, ◌*◌, ◌<◌, List, [], ◌∷◌, ◌++◌, length, refl, sym, ap, subst, ◌∙◌, arith, length-append}
 use Rattle.std.specs.List.{AllByRecursion, insert}
 use Rattle.std.specs.Ordering.{nat_cmp, on}
 use Rattle.std.specs.Cmp.{nat_cmp_is}
 use Rattle.std.specs.declared.cmp.Ordering.TheVariants.{Less}
 use Rattle.fc_base.specs.Ascending.{IsAscending}
 use Rattle.fc_node.specs.declared.btree.search.tests.Key.{Key}
-use Rattle.fc_node.specs.Node.{own_pairs, pairs_of}
+use Rattle.fc_node.specs.Node.{own_pairs}
 use Rattle.fc_node.proofs.Lists.{all_both}
 use Rattle.fc_node.proofs.Pairs.{leaf_pairs}
 use Rattle.fc_node.proofs.btree.search.tests.full_leaf.Goals as goal
