@@ -10,17 +10,21 @@ const SIX_LINES: &[u8] = b"insert a 37 1\ninsert a 037 2\nget a 37\nlen a\nremov
 
 const SIX_REPLIES: &str = "none\nsome 1\nsome 2\n1\nsome 2\nnone\n";
 
-// A reader of memory in pieces of at most so many bytes, which fails after the last if it is told to.
+// A reader of memory in pieces of at most so many bytes. If it is told to, it is interrupted once behind the last, and would then
+// go on with the later bytes.
 #[derive(Drop)]
 struct Pieces<'a> {
     rest: &'a [u8],
     size: usize,
     fails: bool,
+    later: &'a [u8],
 }
 
 impl Read for Pieces<'_> {
     fn read(&mut self, buf: &mut [u8]) -> io::Result<usize> {
         if self.rest.is_empty() && self.fails {
+            self.fails = false;
+            self.rest = self.later;
             return Err(io::Error::from(ErrorKind::Interrupted));
         }
         let n = self.size.min(self.rest.len()).min(buf.len());
@@ -267,6 +271,7 @@ fn a_line_is_too_long_at_its_4097th_byte(rt: HostRuntime) -> Result<(), Fail> {
             rest: &text,
             size: usize::MAX,
             fails: true,
+            later: b"",
         };
         let mut out = Vec::new(rt.alloc());
         assert_eq!(rt; serve(rt.alloc(), &mut src, &mut out), expected);
@@ -281,6 +286,7 @@ fn a_reader_may_give_one_byte_a_time(rt: HostRuntime) -> Result<(), Fail> {
             rest: SIX_LINES,
             size,
             fails: false,
+            later: b"",
         };
         let mut out = Vec::new(rt.alloc());
         assert_eq!(rt;
@@ -293,11 +299,12 @@ fn a_reader_may_give_one_byte_a_time(rt: HostRuntime) -> Result<(), Fail> {
 }
 
 #[test]
-fn a_reader_fails_inside_the_second_line(rt: HostRuntime) -> Result<(), Fail> {
+fn a_reader_interrupted_inside_the_second_line_has_failed(rt: HostRuntime) -> Result<(), Fail> {
     let mut src = Pieces {
         rest: b"insert a 37 1\ninsert a 0",
         size: 4,
         fails: true,
+        later: b"37 2\nget a 37\n",
     };
     let mut out = Vec::new(rt.alloc());
     let end = serve(rt.alloc(), &mut src, &mut out);
