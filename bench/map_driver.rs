@@ -49,6 +49,12 @@ unsafe extern "C" {
         checksum: *mut u64,
     ) -> bool;
     fn bench_map_follow(steps: *mut Step, step_count: usize) -> bool;
+    fn bench_map_count(
+        keys: *const u64,
+        key_count: usize,
+        by_entry: bool,
+        len: *mut usize,
+    ) -> bool;
 }
 
 struct Random(u64);
@@ -258,6 +264,45 @@ fn measure(pairs: usize, rounds: usize) -> [[f64; 4]; 2] {
     })
 }
 
+// Different keys of a count, and rounds of runs; each key comes ten times or so.
+const COUNTS: [(u64, usize); 2] = [(1_000, 200), (100_000, 10)];
+
+fn count_ours(keys: &[u64], by_entry: bool) -> usize {
+    let mut len = 0;
+    let done = unsafe { bench_map_count(keys.as_ptr(), keys.len(), by_entry, &mut len) };
+    assert!(done, "memory was refused");
+    len
+}
+
+fn count_std(keys: &[u64]) -> usize {
+    let mut map = BTreeMap::new();
+    for key in keys {
+        *map.entry(*key).or_insert(0u64) += 1;
+    }
+    map.len()
+}
+
+// Nanoseconds a key: ours by entries, ours by look-ups and insertions, std's by entries.
+fn measure_counts(different: u64, rounds: usize) -> [f64; 3] {
+    let mut random = Random(different);
+    let keys: Vec<u64> = (0..10 * different).map(|_| random.below(different)).collect();
+    let mut best = [f64::INFINITY; 3];
+    for _ in 0..rounds {
+        let mut lens = [0; 3];
+        for way in 0..3 {
+            let start = Instant::now();
+            lens[way] = match way {
+                0 => count_ours(black_box(&keys), true),
+                1 => count_ours(black_box(&keys), false),
+                _ => count_std(black_box(&keys)),
+            };
+            best[way] = best[way].min(start.elapsed().as_secs_f64() * 1e9 / keys.len() as f64);
+        }
+        assert!(lens[0] == lens[2] && lens[1] == lens[2]);
+    }
+    best
+}
+
 fn main() {
     compare_answers();
     println!(
@@ -285,5 +330,10 @@ fn main() {
             ours[3],
             stds[3]
         );
+    }
+    println!("counting keys, ten times each: ours by entries, ours by get and insert, std's by entries");
+    for (different, rounds) in COUNTS {
+        let [entries, insertions, stds] = measure_counts(different, rounds);
+        println!("{different:>9}  {entries:.1} {insertions:.1} {stds:.1}");
     }
 }

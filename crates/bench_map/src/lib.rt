@@ -110,3 +110,47 @@ pub extern "C" fn bench_map_follow(alloc: Global, steps: &mut [Step]) -> bool {
     }
     true
 }
+
+// One more at the key, by its entry; false where memory was refused.
+fn count_by_entry(map: &mut BTreeMap<u64, u64>, key: u64) -> bool {
+    match map.try_entry(key) {
+        Ok(entry) => match entry.or_try_insert(0) {
+            Ok(count) => {
+                *count = count.wrapping_add(1);
+                true
+            }
+            Err(_) => false,
+        },
+        Err(_) => false,
+    }
+}
+
+// One more at the key, by a look-up and then an insertion; false where memory was refused.
+fn count_by_insertion(map: &mut BTreeMap<u64, u64>, key: u64) -> bool {
+    let before = map.get(&key).copied().unwrap_or(0);
+    map.try_insert(key, before.wrapping_add(1)).is_ok()
+}
+
+/// Counts how often each of `keys` comes, by entries where `by_entry` is true and else by look-ups and insertions. The number of
+/// different keys goes to `len`. False where memory was refused.
+#[unsafe(no_mangle)]
+pub extern "C" fn bench_map_count(
+    alloc: Global,
+    keys: &[u64],
+    by_entry: bool,
+    len: &mut usize,
+) -> bool {
+    let mut map = BTreeMap::new(alloc);
+    for key in keys {
+        let done = if by_entry {
+            count_by_entry(&mut map, *key)
+        } else {
+            count_by_insertion(&mut map, *key)
+        };
+        if !done {
+            return false;
+        }
+    }
+    *len = map.len();
+    true
+}

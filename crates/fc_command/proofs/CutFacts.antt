@@ -1,8 +1,8 @@
 -- How bytes are cut into lines, one byte more at a time.
-use Rattle.std.proofs.Common.{◌≡◌, ◌≢◌, ℕ, ◌+◌, ◌<◌, ◌≤◌, suc, eqb, List, [], ◌∷◌, ◌++◌, length, take, drop, Some, None, refl, sym, ap, ◌∙◌, arith, if◌then◌else◌, true, false, append_assoc, append-nil}
+use Rattle.std.proofs.Common.{◌≡◌, ◌≢◌, ℕ, ◌<◌, eqb, List, [], ◌∷◌, ◌++◌, length, None, refl, sym, ap, ◌∙◌, arith, false, append_assoc, append-nil}
 use Rattle.std.specs.List.{AllByRecursion}
 use Rattle.std.proofs.lemmas.Bool.Decides.{nat_tests}
-use Rattle.fc_command.specs.Lines.{lines_of, whole_lines_of, onto_first, onto_whole}
+use Rattle.fc_command.specs.Lines.{lines_of, whole_lines_of, onto_first}
 use Rattle.fc_command.specs.Grammar.{command_of}
 use Rattle.fc_command.specs.Session.{Cuts}
 

@@ -1,25 +1,23 @@
 -- How the steps of `serve` go on from one another.
-use Rattle.std.proofs.Common.{◌≡◌, ◌≢◌, ℕ, ◌+◌, ◌-◌, ◌^◌, ◌<◌, ◌≤◌, min, List, [], ◌∷◌, ◌++◌, length, take, drop, get_or, Some, None, Option, Result, Ok, Err, MatchResult, IfSome, refl, sym, ap, subst, ◌∙◌, inl, inr, arith, append_assoc, append-nil, take-append-drop, add-one, drop-cons, length-append}
+use Rattle.std.proofs.Common.{◌≡◌, ◌≢◌, ℕ, ◌+◌, ◌-◌, ◌^◌, ◌<◌, min, List, [], ◌∷◌, ◌++◌, length, take, drop, get_or, Some, None, Option, Result, Ok, Err, MatchResult, IfSome, refl, sym, ap, subst, ◌∙◌, inl, inr, arith, append_assoc, append-nil, take-append-drop, add-one, drop-cons, length-append}
 use Rattle.std.proofs.lemmas.List.{take_more, length_push}
-use Rattle.std.proofs.KnownBytes.{Appends-trans, Appends-kept, Appends-nil, Consumes-trans, Consumes-kept, Consumes-nil}
 use Rattle.std.specs.Ordering.{nat_cmp}
-use Rattle.std.specs.Io.KnownBytes.{Appends, Consumes, IsAtEnd}
+use Rattle.std.specs.Io.KnownBytes.{Consumes, IsAtEnd}
 use Rattle.fc_command.specs.declared.command.world.World.{World}
 use Rattle.fc_command.specs.declared.command.world.Command.{Command}
 use Rattle.fc_command.specs.declared.command.world.Reply.{Reply}
-use Rattle.fc_base.specs.declared.try_reserve_error.TryReserveError.TheVariants.{AllocError}
 use Rattle.fc_command.specs.declared.command.session.Session.{Session}
 use Rattle.fc_command.specs.declared.command.session.ServeEnd.{ServeEnd}
 use Rattle.fc_command.specs.declared.command.session.ServeEnd.TheVariants.{Finished, NotACommand}
 use Rattle.fc_command.specs.declared.command.session.ServeError.{ServeError}
 use Rattle.fc_command.specs.declared.command.session.ServeError.TheVariants.{Memory, Read, Write}
 use Rattle.fc_command.specs.Step.{Step, IsNew}
-use Rattle.fc_command.specs.Lines.{lines_of, whole_lines_of}
+use Rattle.fc_command.specs.Lines.{lines_of}
 use Rattle.fc_command.specs.Grammar.{command_of}
 use Rattle.fc_command.specs.Texts.{text_of, fault_text}
 use Rattle.fc_command.specs.Spoken.{SpokenTo, Spoken, SpokenFront, Faulted, Cut, Served}
-use Rattle.fc_command.specs.Session.{Written, FaultTold, LineRun, Cuts, IsAfter, HasRoom, Failed, PieceRun, Ended}
-use Rattle.fc_command.proofs.CutFacts.{Open, cuts_none, cuts_byte, cuts_feed, cuts_whole, lines_feed, lines_open, lines_begin_any, open_push, too_long}
+use Rattle.fc_command.specs.Session.{Written, FaultTold, LineRun, Cuts, IsAfter, Failed, PieceRun, Ended}
+use Rattle.fc_command.proofs.CutFacts.{cuts_none, cuts_byte, cuts_feed, cuts_whole, lines_feed, lines_open, lines_begin_any, open_push, too_long}
 use Rattle.fc_command.proofs.SpokenFacts.{spoken_none, spoken_more}
 
 -- the line is not a command

@@ -1,5 +1,5 @@
 -- What is spoken, one line more at a time.
-use Rattle.std.proofs.Common.{◌≡◌, ℕ, List, [], ◌∷◌, ◌++◌, map, Some, None, refl, sym, ap, ◌∙◌, append_assoc, append-nil}
+use Rattle.std.proofs.Common.{◌≡◌, ℕ, List, [], ◌∷◌, ◌++◌, map, Some, refl, sym, ap, ◌∙◌, append_assoc, append-nil}
 use Rattle.std.specs.List.{flat_map}
 use Rattle.std.specs.Ordering.{nat_cmp}
 use Rattle.fc_command.specs.declared.command.world.World.{World}
@@ -8,7 +8,7 @@ use Rattle.fc_command.specs.declared.command.world.Reply.{Reply}
 use Rattle.fc_command.specs.Step.{Step, IsNew}
 use Rattle.fc_command.specs.Grammar.{command_of}
 use Rattle.fc_command.specs.Texts.{text_of}
-use Rattle.fc_command.specs.Spoken.{SpokenTo, Spoken}
+use Rattle.fc_command.specs.Spoken.{SpokenTo}
 use Rattle.fc_command.proofs.RunFacts.{runs_more}
 
 pub spoken_none : (w : World ℕ ℕ) → IsNew w → SpokenTo [] [] w

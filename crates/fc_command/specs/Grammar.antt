@@ -1,5 +1,5 @@
 -- Which lines are commands.
-use Rattle.std.specs.Prelude.{◌≡◌, ℕ, ◌^◌, ◌&&◌, Bool, List, [], ◌∷◌, length, nat_eq, nat_lt, nat_le, codes, Option, Some, None, if◌then◌else◌}
+use Rattle.std.specs.Prelude.{ℕ, ◌^◌, ◌&&◌, Bool, List, [], ◌∷◌, length, nat_eq, nat_lt, nat_le, codes, Option, Some, None, if◌then◌else◌}
 use Rattle.std.specs.List.{list_all}
 use Rattle.std.specs.Cmp.Lexicographic.{pointwise}
 use Rattle.std.specs.Char.{is_ascii_digit}
@@ -7,7 +7,7 @@ use Rattle.std.specs.Str.Parse.{digits_value}
 use Rattle.fc_command.specs.declared.command.world.Side.{Side}
 use Rattle.fc_command.specs.declared.command.world.Side.TheVariants.{First, Second}
 use Rattle.fc_command.specs.declared.command.world.Command.{Command}
-use Rattle.fc_command.specs.declared.command.world.Command.TheVariants.{Insert, Get, GetKeyValue, ContainsKey, Remove, Len, Clear}
+use Rattle.fc_command.specs.declared.command.world.Command.TheVariants.{Insert, Get, GetKeyValue, ContainsKey, Remove, Set, Entry, RemoveEntry, Len, Clear}
 use Rattle.fc_command.specs.Lines.{words_of}
 
 -- What follows is asked only where something is there.
@@ -92,6 +92,30 @@ remove_of words = do
   k ← number_at m.1
   ends (Remove m.0 k.0) k.1
 
+-- The words after `set` are a map, a key and a value.
+unfoldable pub set_of : List (List ℕ) → Option (Command ℕ ℕ)
+set_of words = do
+  m ← map_at words
+  k ← number_at m.1
+  v ← number_at k.1
+  ends (Set m.0 k.0 v.0) v.1
+
+-- The words after `entry` are a map, a key and two values.
+unfoldable pub entry_of : List (List ℕ) → Option (Command ℕ ℕ)
+entry_of words = do
+  m ← map_at words
+  k ← number_at m.1
+  v ← number_at k.1
+  w ← number_at v.1
+  ends (Entry m.0 k.0 v.0 w.0) w.1
+
+-- The words after `evict` are a map and a key.
+unfoldable pub evict_of : List (List ℕ) → Option (Command ℕ ℕ)
+evict_of words = do
+  m ← map_at words
+  k ← number_at m.1
+  ends (RemoveEntry m.0 k.0) k.1
+
 -- The word after `len` is a map.
 unfoldable pub len_of : List (List ℕ) → Option (Command ℕ ℕ)
 len_of words = do
@@ -113,6 +137,9 @@ command_of_words words = do
       else if is_text first.0 (codes "pair") then pair_of first.1
       else if is_text first.0 (codes "has") then has_of first.1
       else if is_text first.0 (codes "remove") then remove_of first.1
+      else if is_text first.0 (codes "set") then set_of first.1
+      else if is_text first.0 (codes "entry") then entry_of first.1
+      else if is_text first.0 (codes "evict") then evict_of first.1
       else if is_text first.0 (codes "len") then len_of first.1
       else if is_text first.0 (codes "clear") then clear_of first.1
       else None

@@ -1,7 +1,6 @@
 -- What the private steps of `serve` keep.
 use Rattle.std.specs.Prelude.{◌≡◌, ℕ, ◌+◌, ◌-◌, ◌^◌, ◌≤◌, ◌≢◌, min, ◌⊎◌, List, [], ◌∷◌, ◌++◌, length, Option, Some, None, Result, Ok, Err, vec_capacity}
 use Rattle.std.specs.List.{AllByRecursion}
-use Rattle.fc_command.specs.declared.command.world.World.{World}
 use Rattle.fc_base.specs.declared.try_reserve_error.TryReserveError.TheVariants.{AllocError}
 use Rattle.fc_command.specs.declared.command.session.Session.{Session}
 use Rattle.fc_command.specs.declared.command.session.ServeEnd.{ServeEnd}

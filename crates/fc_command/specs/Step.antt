@@ -1,5 +1,5 @@
 -- What a command does to a world, and what it answers.
-use Rattle.std.specs.Prelude.{◌≡◌, ℕ, ◌-◌, ◌^◌, List, [], ◌∷◌, ◌⊎◌, ◌≤◌, length, None, Option, IsNone, IsSome, is_some}
+use Rattle.std.specs.Prelude.{◌≡◌, ◌-◌, ◌^◌, List, [], ◌∷◌, ◌⊎◌, length, None, IsSome, is_some, if◌then◌else◌}
 use Rattle.std.specs.declared.cmp.Ordering.{Ordering}
 use Rattle.fc_base.specs.declared.try_reserve_error.TryReserveError.{TryReserveError}
 use Rattle.fc_base.specs.Growth.{MayGrowRefuse}
@@ -10,7 +10,7 @@ use Rattle.fc_command.specs.declared.command.world.World.{World}
 use Rattle.fc_command.specs.declared.command.world.Side.{Side}
 use Rattle.fc_command.specs.declared.command.world.Side.TheVariants.{First, Second}
 use Rattle.fc_command.specs.declared.command.world.Command.{Command}
-use Rattle.fc_command.specs.declared.command.world.Command.TheVariants.{Insert, Get, GetKeyValue, ContainsKey, Remove, Len as CountPairs, Clear}
+use Rattle.fc_command.specs.declared.command.world.Command.TheVariants.{Insert, Get, GetKeyValue, ContainsKey, Remove, Set, Entry, RemoveEntry, Len as CountPairs, Clear}
 use Rattle.fc_command.specs.declared.command.world.Reply.{Reply}
 use Rattle.fc_command.specs.declared.command.world.Reply.TheVariants.{Done, Flag, Value, Pair, Len, Refused}
 
@@ -25,6 +25,9 @@ side_of (Get side k) = side
 side_of (GetKeyValue side k) = side
 side_of (ContainsKey side k) = side
 side_of (Remove side k) = side
+side_of (Set side k v) = side
+side_of (Entry side k v w) = side
+side_of (RemoveEntry side k) = side
 side_of (CountPairs side) = side
 side_of (Clear side) = side
 
@@ -52,6 +55,9 @@ module _ {K V : Type 0} (cmp : K → K → Ordering) where
   answer (GetKeyValue side k) m o = record { m = m; o = o; reply = Pair (at cmp m k) }
   answer (ContainsKey side k) m o = record { m = m; o = o; reply = Flag (is_some (at cmp m k)) }
   answer (Remove side k) m o = record { m = cut cmp m k; o = o; reply = Value (value_at cmp m k) }
+  answer (Set side k v) m o = record { m = if is_some (at cmp m k) then put cmp m k v else m; o = o; reply = Value (value_at cmp m k) }
+  answer (Entry side k v w) m o = record { m = put cmp m k (if is_some (at cmp m k) then v else w); o = o; reply = Flag (is_some (at cmp m k)) }
+  answer (RemoveEntry side k) m o = record { m = cut cmp m k; o = o; reply = Pair (at cmp m k) }
   answer (CountPairs side) m o = record { m = m; o = o; reply = Len (length m) }
   answer (Clear side) m o = record { m = []; o = o; reply = Done }
 
@@ -63,6 +69,9 @@ module _ {K V : Type 0} (cmp : K → K → Ordering) where
   MayRefuse (GetKeyValue side k) m o e = IsSome (at cmp m k)
   MayRefuse (ContainsKey side k) m o e = ⊥
   MayRefuse (Remove side k) m o e = ⊥
+  MayRefuse (Set side k v) m o e = ⊥
+  MayRefuse (Entry side k v w) m o e = (at cmp m k ≡ None) × MayGrowRefuse (length m) e
+  MayRefuse (RemoveEntry side k) m o e = ⊥
   MayRefuse (CountPairs side) m o e = ⊥
   MayRefuse (Clear side) m o e = ⊥
 
@@ -73,6 +82,9 @@ module _ {K V : Type 0} (cmp : K → K → Ordering) where
   MustRefuse (GetKeyValue side k) m o = ⊥
   MustRefuse (ContainsKey side k) m o = ⊥
   MustRefuse (Remove side k) m o = ⊥
+  MustRefuse (Set side k v) m o = ⊥
+  MustRefuse (Entry side k v w) m o = (at cmp m k ≡ None) × (length m ≡ 2 ^ 64 - 1)
+  MustRefuse (RemoveEntry side k) m o = ⊥
   MustRefuse (CountPairs side) m o = ⊥
   MustRefuse (Clear side) m o = ⊥
 

@@ -1,5 +1,5 @@
 -- Costs by the height of a map's tree.
-use Rattle.std.proofs.Common.{◌≡◌, ℕ, ◌+◌, ◌*◌, ◌<◌, ◌≤◌, List, length, arith, lit<, Some, None, zero, suc, refl, ◌⊎◌, inl, inr}
+use Rattle.std.proofs.Common.{◌≡◌, ℕ, ◌+◌, ◌*◌, ◌<◌, ◌≤◌, length, arith, lit<, Some, zero, suc, refl, ◌⊎◌, inl, inr}
 use Rattle.std.proofs.Math.Nat.{one-le-pow}
 use Rattle.std.proofs.lemmas.Bool.{cases_lt}
 use Rattle.std.specs.declared.cmp.Ordering.{Ordering}
@@ -45,3 +45,7 @@ moved_after n n' old mid new b still same m le some = ((λ z. absurd (omega arit
     go : ((n ≡ 0) ⊎ (0 < n)) → (h : ℕ) × IsDeep h n' × (new.comparisons ≤ old.comparisons + 11 * (h + 1)) × (new.moves ≤ old.moves + 18 * (h + 1))
     go (inl z) = let e = b.0 z in (m.0, m.1, omega (arith, e.0), omega (arith, m.2))
     go (inr p) = let e = b.1 p in highest e.0 m.0 (cases_lt e.0 m.0) (deeper e.0 n n' e.1 le) m.1 e.2 m.2
+
+-- Moves alone, among n pairs.
+pub only_moved : (n : ℕ) (old new : Count) → 0 < n → new.comparisons ≡ old.comparisons → IsMoved n old new → IsBounded n old new
+only_moved n old new some same m = ((λ z. absurd (omega arith)), λ _. (m.0, m.1, omega arith, m.2))

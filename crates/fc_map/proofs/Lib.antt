@@ -4,4 +4,5 @@ mod InsertFacts
 mod PlaceFacts
 mod RemoveFacts
 mod WrittenFacts
+mod EntryFacts
 pub mod PutFacts

@@ -1,13 +1,9 @@
 -- What a search of a map found.
-use Rattle.std.proofs.Common.{◌≡◌, ℕ, ◌+◌, List, [], ◌∷◌, ◌++◌, length, Some, None, Option, Result, Ok, Err, IsSome, refl, sym, ap, ◌∙◌}
+use Rattle.std.proofs.Common.{◌≡◌, ℕ, List, length, Some, None, Result, Ok, Err, IsSome, refl, sym, ◌∙◌}
 use Rattle.std.specs.Prelude.{OnOk, OnErr, IfOk, IfErr}
-use Rattle.std.specs.Option.{option_map}
 use Rattle.std.specs.declared.cmp.Ordering.{Ordering}
 use Rattle.fc_base.specs.OneKey.{put, cut}
-use Rattle.fc_base.specs.Parts.{at, value_at}
-use Rattle.fc_node.specs.declared.btree.node.Node.{Node}
-use Rattle.fc_node.specs.Found.{IsFound, IsGap}
-use Rattle.fc_node.specs.Node.{pairs_of}
+use Rattle.fc_base.specs.Parts.{at}
 use Rattle.fc_node.proofs.Gaps.{gap_pairs, place_pairs}
 use Rattle.fc_node.proofs.SearchFacts.{found_at, gap_at}
 use Rattle.fc_node.proofs.WrittenPairs.{written_levels, written_put}

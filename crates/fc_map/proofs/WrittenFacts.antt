@@ -1,5 +1,5 @@
 -- A map in which a value was written.
-use Rattle.std.proofs.Common.{◌≡◌, ℕ, ◌+◌, ◌<◌, ◌≤◌, List, [], ◌∷◌, ◌++◌, length, Some, None, sym, ap, ◌∙◌, arith, length-append}
+use Rattle.std.proofs.Common.{◌≡◌, ℕ, List, ◌∷◌, length, Some, ap, ◌∙◌, arith, length-append}
 use Rattle.std.specs.declared.cmp.Ordering.{Ordering}
 use Rattle.fc_base.specs.Ascending.{IsAscending}
 use Rattle.fc_node.specs.declared.btree.node.Node.{Node}

@@ -2,7 +2,6 @@
 use Rattle.std.specs.Prelude.{ℕ, Bool, List, Option, Some, None}
 use Rattle.std.specs.declared.cmp.Ordering.{Ordering}
 use Rattle.std.specs.Borrow.{Fml, RattleType, MutBor, Lends}
-use Rattle.fc_node.specs.declared.btree.node.Node.{Node}
 use Rattle.fc_node.specs.Place.{IsPlace, place_pair}
 use Rattle.fc_node.specs.Written.{written}
 use Rattle.fc_map.specs.Entries.{Map}

@@ -3,3 +3,5 @@ pub mod Counts
 pub mod Place
 pub mod Lends
 pub mod LendsKey
+pub mod Unique
+pub mod Entry

@@ -5,25 +5,29 @@ ghost use Rattle.fc_base.specs.Ascending.{IsAscending};
 ghost use Rattle.fc_base.specs.Growth.{MayGrowRefuse};
 ghost use Rattle.fc_base.specs.OneKey.{put, cut};
 ghost use Rattle.fc_base.specs.Parts.{at, value_at};
+ghost use Rattle.fc_node.specs.Arrival.{IsPutAt};
 ghost use Rattle.fc_node.specs.Found.{IsGap};
 ghost use Rattle.fc_node.specs.Node.{pairs_of};
+ghost use Rattle.fc_node.specs.Path.{before, after};
 ghost use Rattle.fc_map.specs.Counts.{IsBounded, IsMoved};
 ghost use Rattle.fc_map.specs.Entries.{entries, now_value, now_pair, passed_in, IsSoundMap};
 ghost use Rattle.fc_map.specs.LendsKey.{path_in};
-ghost use Rattle.fc_map.specs.Place.{IsHeldAt, IsOpenAt};
+ghost use Rattle.fc_map.specs.Place.{IsHeldAt, IsOpenAt, IsPutIn, before_of, after_of};
 
+pub mod entry;
 mod get_mut;
 mod index;
+mod places;
 #[cfg(test)]
 mod shapes;
 #[cfg(test)]
 mod tests;
 mod values;
 
+pub use entry::{Entry, OccupiedEntry, VacantEntry};
 use fc_base::{Count, TryReserveError};
 use fc_node::btree::node::Node;
 use fc_node::btree::node::insertion::{first_leaf, insert};
-use fc_node::btree::node::removal::remove;
 use fc_node::btree::node::room::try_room;
 use fc_node::btree::path::Path;
 use fc_node::btree::search;
@@ -203,7 +207,7 @@ impl<K: Ord + Drop, V: Drop> BTreeMap<K, V> {
         match self.locate(&key, count) {
             Ok(path) => Ok(Some(self.replace_at(&path, &key, value))),
             Err(path) => match self.insert_at(&path, key, value, count) {
-                Ok(()) => Ok(None),
+                Ok(_) => Ok(None),
                 Err(e) => Err(e),
             },
         }
@@ -249,16 +253,17 @@ impl<K: Ord + Drop, V: Drop> BTreeMap<K, V> {
         mem::replace(self.value_mut(path), value)
     }
 
-    // Puts a pair with a new key into the gap that the path leads to.
+    // Puts a pair with a new key into the gap that the path leads to, and answers the path to it.
     fn insert_at(
         &mut self,
         path: &Path,
         key: K,
         value: V,
         count: &mut Count,
-    ) -> Result<(), TryReserveError>
+    ) -> Result<Path, TryReserveError>
         requires gap { IsOpenAt K.cmp key self.old path.now }
         ensures put { OnOk result (entries self.new ≡ put K.cmp (entries self.old) key value) }
+        ensures place { IfOk result (λ place. IsPutIn place self.new (key, value) (before_of self.old path.now) (after_of self.old path.now)) }
         ensures unchanged { OnErr result (self.new ≡ self.old) }
         ensures error { IfErr result (MayGrowRefuse (length (entries self.old))) }
         ensures full { length (entries self.old) ≡ usize.MAX → IsErr result }
@@ -274,15 +279,16 @@ impl<K: Ord + Drop, V: Drop> BTreeMap<K, V> {
         let Some(root) = &mut self.root else {
             return self.insert_first(key, value, count);
         };
-        insert_in(self.alloc, root, path.as_slice(), (key, value), count)?;
+        let place = insert_in(self.alloc, root, path.as_slice(), (key, value), count)?;
         self.len += 1;
-        Ok(())
+        Ok(place)
     }
 
-    // Puts the first pair into an empty map.
-    fn insert_first(&mut self, key: K, value: V, count: &mut Count) -> Result<(), TryReserveError>
+    // Puts the first pair into an empty map, and answers the path to it.
+    fn insert_first(&mut self, key: K, value: V, count: &mut Count) -> Result<Path, TryReserveError>
         requires { self.old ≡ None }
         ensures put { OnOk result (entries self.new ≡ (key, value) ∷ []) }
+        ensures place { IfOk result (λ place. IsPutIn place self.new (key, value) [] []) }
         ensures unchanged { OnErr result (self.new ≡ self.old) }
         ensures error { IfErr result (λ e. e ≡ TryReserveError.AllocError) }
         ensures sound { IsSoundMap self.new }
@@ -293,12 +299,13 @@ impl<K: Ord + Drop, V: Drop> BTreeMap<K, V> {
         let root = first_leaf(self.alloc, (key, value), count)?;
         self.root = Some(root);
         self.len = 1;
-        Ok(())
+        Ok(Path::of(&[0]))
     }
 
     // Takes the pair with the key, to which the path leads, out.
     fn remove_at(&mut self, path: &Path, key: &K, count: &mut Count) -> (K, V)
-        requires { IsHeldAt K.cmp key.now self.old path.now }
+        requires held { IsHeldAt K.cmp key.now self.old path.now }
+        requires sound { IsSoundMap self.old }
         ensures pair { at K.cmp (entries self.old) key.now ≡ Some result }
         ensures rest { entries self.new ≡ cut K.cmp (entries self.old) key.now }
         ensures length { length (entries self.old) ≡ length (entries self.new) + 1 }
@@ -306,13 +313,7 @@ impl<K: Ord + Drop, V: Drop> BTreeMap<K, V> {
         ensures comparisons { count.new.comparisons ≡ count.old.comparisons }
         ensures moves { IsMoved (length (entries self.old)) count.old count.new }
     {
-        let Some(root) = self.root.take() else {
-            unreachable!()
-        };
-        let (pair, root) = remove(root, path.as_slice(), count);
-        self.root = root;
-        self.len -= 1;
-        pair
+        self.take_at(path, count)
     }
 
     // Where the key stands, or where it would go.
@@ -347,18 +348,19 @@ impl<K: Ord + Drop, V: Drop> BTreeMap<K, V> {
     }
 }
 
-// Puts a pair with a new key into the gap of the tree that the path leads to.
+// Puts a pair with a new key into the gap of the tree that the path leads to, and answers the path to it.
 fn insert_in<K: Ord + Drop, V: Drop>(
     alloc: Global,
     root: &mut Box<Node<K, V>>,
     path: &[usize],
     pair: (K, V),
     count: &mut Count,
-) -> Result<(), TryReserveError>
+) -> Result<Path, TryReserveError>
     requires gap { IsGap K.cmp pair.0 root.old.value path.now }
     requires sound { IsSoundMap (Some root.old.value) }
     requires fits { length (pairs_of root.old.value) < usize.MAX }
     ensures put { OnOk result (pairs_of root.new.value ≡ put K.cmp (pairs_of root.old.value) pair.0 pair.1) }
+    ensures place { IfOk result (λ place. IsPutAt place root.new.value pair (before path.now root.old.value) (after path.now root.old.value)) }
     ensures length { OnOk result (length (pairs_of root.new.value) ≡ length (pairs_of root.old.value) + 1) }
     ensures sound { IsSoundMap (Some root.new.value) }
     ensures unchanged { OnErr result (root.new ≡ root.old) }
@@ -369,6 +371,5 @@ fn insert_in<K: Ord + Drop, V: Drop>(
     ensures moves { OnOk result (IsMoved (length (pairs_of root.new.value)) count.old count.new) }
 {
     let room = try_room(alloc, root, path)?;
-    let _ = insert(root, path, pair, room, count);
-    Ok(())
+    Ok(insert(root, path, pair, room, count))
 }

@@ -18,6 +18,9 @@ ghost use Rattle.fc_command.specs.Grammar.{
   pair_of,
   has_of,
   remove_of,
+  set_of,
+  entry_of,
+  evict_of,
   len_of,
   clear_of,
   command_of_words,
@@ -55,6 +58,12 @@ fn command_in_words(words: Option<&[u8]>) -> Option<Command<u64, u64>>
         has_in(words)
     } else if word == b"remove".as_slice() {
         remove_in(words)
+    } else if word == b"set".as_slice() {
+        set_in(words)
+    } else if word == b"entry".as_slice() {
+        entry_in(words)
+    } else if word == b"evict".as_slice() {
+        evict_in(words)
     } else if word == b"len".as_slice() {
         len_in(words)
     } else if word == b"clear".as_slice() {
@@ -108,6 +117,36 @@ fn remove_in(words: Option<&[u8]>) -> Option<Command<u64, u64>>
     let (side, words) = next_map(words)?;
     let (key, words) = next_number(words)?;
     ending(Command::Remove(side, key), words)
+}
+
+#[tactic(auto, unfolding(crate::specs::Grammar::set_of))]
+fn set_in(words: Option<&[u8]>) -> Option<Command<u64, u64>>
+    ensures { result ≡ set_of (words_left words.entry) }
+{
+    let (side, words) = next_map(words)?;
+    let (key, words) = next_number(words)?;
+    let (value, words) = next_number(words)?;
+    ending(Command::Set(side, key, value), words)
+}
+
+#[tactic(auto, unfolding(crate::specs::Grammar::entry_of))]
+fn entry_in(words: Option<&[u8]>) -> Option<Command<u64, u64>>
+    ensures { result ≡ entry_of (words_left words.entry) }
+{
+    let (side, words) = next_map(words)?;
+    let (key, words) = next_number(words)?;
+    let (there, words) = next_number(words)?;
+    let (new, words) = next_number(words)?;
+    ending(Command::Entry(side, key, there, new), words)
+}
+
+#[tactic(auto, unfolding(crate::specs::Grammar::evict_of))]
+fn evict_in(words: Option<&[u8]>) -> Option<Command<u64, u64>>
+    ensures { result ≡ evict_of (words_left words.entry) }
+{
+    let (side, words) = next_map(words)?;
+    let (key, words) = next_number(words)?;
+    ending(Command::RemoveEntry(side, key), words)
 }
 
 #[tactic(auto, unfolding(crate::specs::Grammar::len_of))]

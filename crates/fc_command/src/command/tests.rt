@@ -187,6 +187,31 @@ fn pairs_tests_and_clears_are_served(rt: HostRuntime) -> Result<(), Fail> {
 }
 
 #[test]
+fn entries_are_served(rt: HostRuntime) -> Result<(), Fail> {
+    let (out, end) = served(
+        rt.alloc(),
+        b"entry a 7 43 42\nentry a 7 43 42\nget a 7\nget a 18446744073709551616\n",
+    )?;
+    assert_eq!(rt; end, Ok(ServeEnd::NotACommand(4)));
+    let expected = "false\ntrue\nsome 43\nline 4: not a command\n";
+    assert_eq!(rt; out.as_slice(), expected.as_bytes());
+    assert_eq!(rt; ending(&end), (1, ""));
+    Ok(())
+}
+
+#[test]
+fn values_are_set_and_pairs_evicted(rt: HostRuntime) -> Result<(), Fail> {
+    let (out, end) = served(
+        rt.alloc(),
+        b"set a 7 1\nlen a\nentry a 7 8 9\nset a 7 2\nset b 7 3\nget a 7\nevict b 7\nevict a 7\nevict a 7\nlen a\n",
+    )?;
+    assert_eq!(rt; end, Ok(ServeEnd::Finished));
+    let expected = "none\n0\nfalse\nsome 9\nnone\nsome 2\nnone\nsome 7 2\nnone\n0\n";
+    assert_eq!(rt; out.as_slice(), expected.as_bytes());
+    Ok(())
+}
+
+#[test]
 fn an_empty_source_writes_nothing(rt: HostRuntime) -> Result<(), Fail> {
     let (out, end) = served(rt.alloc(), b"")?;
     assert_eq!(rt; end, Ok(ServeEnd::Finished));
@@ -230,6 +255,9 @@ fn lines_that_are_not_commands(rt: HostRuntime) -> Result<(), Fail> {
         "pair a\n",
         "has a 1 2\n",
         "clear\n",
+        "set a 1\n",
+        "entry a 1 2\n",
+        "evict a 1 2\n",
     ];
     for line in lines {
         let (out, end) = served(rt.alloc(), line.as_bytes())?;

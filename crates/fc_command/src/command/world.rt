@@ -1,15 +1,17 @@
 //! A world of maps, and the commands over it.
-ghost use Rattle.std.specs.Prelude.{◌≡◌, List, [], IfOk, OnErr, IfErr, IsSome};
+ghost use Rattle.std.specs.Prelude.{◌≡◌, List, [], IfOk, OnErr, IfErr, IsSome, is_some, if◌then◌else◌};
 ghost use Rattle.fc_base.specs.declared.try_reserve_error.TryReserveError.TheVariants.{AllocError};
 ghost use Rattle.fc_base.specs.Copies.{IsExact};
+ghost use Rattle.fc_base.specs.OneKey.{put, cut};
 ghost use Rattle.fc_base.specs.Parts.{at, value_at};
 ghost use Rattle.fc_map.specs.Entries.{Map, entries};
 ghost use Rattle.fc_command.specs.declared.command.world.Reply.TheVariants.{Value, Pair};
 ghost use Rattle.fc_command.specs.Step.{IsNew, Step, StepOn, Runs, IsCopied, side_of};
 
 use fc_base::{TryClone, TryReserveError};
-use fc_map::map::BTreeMap;
+use fc_map::map::{BTreeMap, Entry};
 use std::alloc::Global;
+use std::mem;
 
 /// Two maps, `a` and `b`, that commands work on.
 #[derive(Drop)]
@@ -43,6 +45,13 @@ pub enum Command<K, V> {
     ContainsKey(Side, K),
     /// `remove`; replies `Value`, the one taken out.
     Remove(Side, K),
+    /// Writes the value through `get_mut` where the key is there; replies `Value`, the old one.
+    Set(Side, K, V),
+    /// By `try_entry`: `and_modify` to the first value where the key is there, else `or_try_insert` of the second; replies `Flag`,
+    /// true where the key was there. A new key may be refused.
+    Entry(Side, K, V, V),
+    /// `remove_entry` of the key's entry where it is there; replies `Pair`, the one taken out.
+    RemoveEntry(Side, K),
     /// `len`; replies `Len`.
     Len(Side),
     /// `clear`; replies `Done`.
@@ -127,6 +136,9 @@ impl<K, V> Command<K, V> {
             Command::GetKeyValue(side, _) => *side,
             Command::ContainsKey(side, _) => *side,
             Command::Remove(side, _) => *side,
+            Command::Set(side, _, _) => *side,
+            Command::Entry(side, _, _, _) => *side,
+            Command::RemoveEntry(side, _) => *side,
             Command::Len(side) => *side,
             Command::Clear(side) => *side,
         }
@@ -151,11 +163,57 @@ fn step_on<K: Ord + TryClone, V: TryClone>(
         Command::GetKeyValue(_, key) => get_key_value(map, &key),
         Command::ContainsKey(_, key) => Reply::Flag(map.contains_key(&key)),
         Command::Remove(_, key) => Reply::Value(map.remove(&key)),
+        Command::Set(_, key, value) => Reply::Value(set(map, &key, value)),
+        Command::Entry(_, key, there, new) => entry(map, key, there, new),
+        Command::RemoveEntry(_, key) => Reply::Pair(evict(map, key)),
         Command::Len(_) => Reply::Len(map.len()),
         Command::Clear(_) => {
             map.clear();
             Reply::Done
         }
+    }
+}
+
+// Writes the value where the key is there, and answers the old one.
+fn set<K: Ord + TryClone, V: TryClone>(map: &mut BTreeMap<K, V>, key: &K, value: V) -> Option<V>
+    ensures old { result ≡ value_at K.cmp (entries map.old) key.now }
+    ensures written { entries map.new ≡ if is_some (at K.cmp (entries map.old) key.now) then put K.cmp (entries map.old) key.now value else entries map.old }
+{
+    match map.get_mut(key) {
+        Some(held) => Some(mem::replace(held, value)),
+        None => None,
+    }
+}
+
+// Puts `there` at the key where it is there, and else `new`.
+fn entry<K: Ord + TryClone, V: TryClone>(
+    map: &mut BTreeMap<K, V>,
+    key: K,
+    there: V,
+    new: V,
+) -> Reply<K, V>
+    ensures { (o : Map K V) (side : Side) → StepOn K.cmp (Command.Entry side key there new) map.old o result map.new o }
+{
+    let held = match map.try_entry(key) {
+        Ok(held) => held,
+        Err(e) => return Reply::Refused(e),
+    };
+    let found = matches!(held, Entry::Occupied(_));
+    match held.and_modify(|value| *value = there).or_try_insert(new) {
+        Ok(_) => Reply::Flag(found),
+        Err(e) => Reply::Refused(e),
+    }
+}
+
+// Takes out the pair at the key, if it is there.
+fn evict<K: Ord + TryClone, V: TryClone>(map: &mut BTreeMap<K, V>, key: K) -> Option<(K, V)>
+    ensures pair { result ≡ at K.cmp (entries map.old) key }
+    ensures taken { entries map.new ≡ cut K.cmp (entries map.old) key }
+{
+    match map.try_entry(key) {
+        Ok(Entry::Occupied(held)) => Some(held.remove_entry()),
+        Ok(Entry::Vacant(_gap)) => None,
+        Err(_refused) => None,
     }
 }
 

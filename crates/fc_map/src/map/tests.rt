@@ -5,6 +5,8 @@ ghost use Rattle.std.specs.Cmp.{partial_order_from_own_ties};
 ghost use Rattle.std.specs.Cmp.Rules.{comparing};
 ghost use Rattle.std.specs.Ordering.{nat_cmp, on, as_partial_cmp};
 
+mod entries;
+
 use super::*;
 use fc_base::{Count, TryReserveError};
 use std::alloc::{AllocError, Global};

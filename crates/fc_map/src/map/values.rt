@@ -8,13 +8,16 @@ use fc_node::btree::node::lend;
 use fc_node::btree::path::Path;
 
 impl<K: Ord, V> BTreeMap<K, V> {
-    ghost use Rattle.fc_map.specs.Lends.{lends_at, IsPlaceIn, pair_in};
+    ghost use Rattle.fc_map.specs.Entries.{IsSoundMap};
+    ghost use Rattle.fc_map.specs.Lends.{lends_at, IsPlaceIn, pair_in, written_in};
 
     // The value of the pair that the path leads to, lent for writing.
     pub(crate) fn value_mut(&mut self, path: &Path) -> &mut V
         requires { IsPlaceIn self.old path.now }
         ensures* writes_back { sem 𝓛 (lends_at K.row V.row K.Ord self.entry path.now result) }
         ensures value { option_map (λ e. e.1) (pair_in self.old path.now) ≡ Some result.now }
+        ensures sound { IsSoundMap self.old }
+        ensures kept { (w : V) → IsSoundMap (written_in self.old path.now w) }
     {
         let root = self.root.as_mut().unwrap();
         lend::value_mut(root, path)

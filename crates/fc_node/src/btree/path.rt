@@ -67,7 +67,7 @@ impl Path {
     }
 
     /// A path of these steps.
-    pub(crate) fn of(steps: &[usize]) -> Path
+    pub fn of(steps: &[usize]) -> Path
         requires { length steps.now ≤ 25 }
         ensures { result ≡ steps.now }
     {

@@ -1,4 +1,4 @@
-use Rattle.std.proofs.Common.{rules, ◌≡◌, ◌+◌, ◌<◌, ◌^◌, length, arith}
+use Rattle.std.proofs.Common.{rules, ◌≡◌, ◌<◌, ◌^◌, length, arith}
 use Rattle.fc_node.specs.Cascade.{leaf_at}
 use Rattle.fc_node.specs.Node.{own_pairs, pairs_of}
 use Rattle.fc_node.proofs.Arrivals.{steps_few}

@@ -1,4 +1,4 @@
-use Rattle.std.proofs.Common.{◌≡◌, ◌+◌, ◌-◌, length, take, drop, sym, ap, ◌∙◌, ◌∷◌, arith, take_all, length-drop}
+use Rattle.std.proofs.Common.{◌+◌, ◌-◌, length, take, drop, sym, ap, ◌∙◌, ◌∷◌, arith, take_all, length-drop}
 use Rattle.fc_command.specs.Lines.{words_of}
 use Rattle.fc_command.proofs.LineFacts.{words_found, words_whole}
 use Rattle.fc_command.proofs.command.lines.first_word.Goals as goal

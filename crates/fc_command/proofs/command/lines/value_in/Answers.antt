@@ -1,4 +1,4 @@
-use Rattle.std.proofs.Common.{◌≡◌, ℕ, ◌≤◌, ◌+◌, ◌*◌, take, get_or, sym, ap, ◌∙◌, arith, take_all}
+use Rattle.std.proofs.Common.{◌≡◌, take, ap, ◌∙◌, arith, take_all}
 use Rattle.std.specs.Str.Parse.{digits_value}
 use Rattle.fc_command.proofs.LineFacts.{digit_step, number_small, number_big}
 use Rattle.fc_command.proofs.command.lines.value_in.Goals as goal

@@ -1,4 +1,4 @@
-use Rattle.std.proofs.Common.{◌≡◌, ℕ, ◌<◌, length, [], ◌∷◌, ◌++◌, Some, None, sym, ◌∙◌, arith, subst, refl, take, append-nil, ap, Ok}
+use Rattle.std.proofs.Common.{◌≡◌, length, [], ◌++◌, ◌∙◌, arith, refl, take, append-nil, ap, Ok}
 use Rattle.std.proofs.KnownBytes.{Appends-trans, Appends-kept, Appends-nil, Consumes-trans, Consumes-kept, Consumes-nil}
 use Rattle.std.proofs.lemmas.Result.{err_from_is_err_and}
 use Rattle.fc_command.proofs.ServeFacts.{served_nothing, after_nothing, served_read, served_end, served_failed, served_fault}

@@ -1,4 +1,4 @@
-use Rattle.std.proofs.Common.{◌≡◌, ℕ, List, ◌++◌}
+use Rattle.std.proofs.Common.{ℕ, List}
 use Rattle.std.specs.Io.KnownBytes.{Appends, Consumes}
 use Rattle.fc_command.specs.Session.{IsAfter, HasRoom}
 use Rattle.fc_command.proofs.command.session.serve.Given as goal

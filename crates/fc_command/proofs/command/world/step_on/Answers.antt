@@ -15,3 +15,7 @@ returns-in-Get g c o = rw c.in-Get.is (step_copied g.K.Ord.cmp _ c.args.map.now 
 
 pub returns-in-GetKeyValue : goal.returns-in-GetKeyValue
 returns-in-GetKeyValue g c o = rw c.in-GetKeyValue.is (step_copied g.K.Ord.cmp _ c.args.map.now o c.get_key_value.result (λ h. h) refl refl _ (λ e some. some) c.get_key_value.ensures)
+
+-- what an entry did, on whichever side
+pub returns-in-Entry : goal.returns-in-Entry
+returns-in-Entry g c o = rw c.in-Entry.is (c.entry.ensures o c.in-Entry.field-0)

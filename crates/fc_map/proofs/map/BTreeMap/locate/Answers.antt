@@ -1,7 +1,5 @@
 use Rattle.std.proofs.Common.{◌≡◌, ◌∙◌, ap, sym, Some}
 use Rattle.fc_map.specs.Entries.{root_of, IsSoundMap}
-use Rattle.fc_map.specs.Place.{IsHeldAt, IsOpenAt}
-use Rattle.std.specs.Prelude.{IfOk, IfErr}
 use Rattle.fc_map.proofs.CountFacts.{looked_up}
 use Rattle.fc_map.proofs.PlaceFacts.{found_there, found_none}
 use Rattle.fc_map.proofs.map.BTreeMap.locate.Goals as goal

@@ -1,5 +1,5 @@
 use Rattle.std.proofs.Common.{◌≡◌, ◌∙◌, ap, sym, Some}
-use Rattle.fc_map.specs.Entries.{root_of, IsSoundMap}
+use Rattle.fc_map.specs.Entries.{root_of}
 use Rattle.fc_map.proofs.CountFacts.{looked_up}
 use Rattle.fc_map.proofs.map.BTreeMap.pair_at.Goals as goal
 

@@ -1,74 +1,13 @@
-use Rattle.std.proofs.Common.{◌≡◌, ◌∙◌, ◌-◌, length, ap, sym, Some, arith}
-use Rattle.fc_base.specs.Ascending.{IsAscending}
-use Rattle.fc_base.specs.OneKey.{cut}
-use Rattle.fc_base.specs.Parts.{at}
-use Rattle.fc_node.specs.Found.{IsFound}
-use Rattle.fc_node.specs.Node.{pairs_of}
-use Rattle.fc_map.specs.Counts.{IsMoved}
-use Rattle.fc_map.specs.Entries.{entries, root_of, IsSoundMap}
+use Rattle.std.proofs.Common.{◌∙◌}
+use Rattle.fc_map.proofs.EntryFacts.{held_place, held_cut}
 use Rattle.fc_map.proofs.PlaceFacts.{held_pair}
-use Rattle.fc_map.proofs.RemoveFacts.{left_cut, left_length, left_kept, left_moves}
 use Rattle.fc_map.proofs.map.BTreeMap.remove_at.Goals as goal
 
-pub overflow_sub-self : goal.overflow_sub-self
-overflow_sub-self g c =
-    let root = c.in-Some.root.value in
-    let taken : c.self.inside.root ≡ Some c.in-Some.root = sym c.take.ensures.value ∙ c.in-Some.is in
-    let is : c.args.self.now ≡ Some root = sym c.self.view_is ∙ ap root_of taken in
-    let sound : IsSoundMap (Some root) = rw taken at c.self.invariant.1 in
-    let held : IsFound g.K.Ord.cmp c.args.key.now root c.args.path.now = rw is at c.requires in
-    let rest = rw c.as_slice.ensures.value at c.remove-pair.ensures.pairs in
-    let longer = left_length g.K.Ord.cmp c.args.key.now root c.args.path.now sound held c.remove-pair.result.1 rest in
-    let len : c.self.inside.len ≡ length (pairs_of root) = c.self.invariant.2 ∙ ap (λ r. length (entries (root_of r))) taken in
-    omega arith
-
-pub invariant_of-self : goal.invariant_of-self
-invariant_of-self g c =
-    let root = c.in-Some.root.value in
-    let taken : c.self.inside.root ≡ Some c.in-Some.root = sym c.take.ensures.value ∙ c.in-Some.is in
-    let is : c.args.self.now ≡ Some root = sym c.self.view_is ∙ ap root_of taken in
-    let sound : IsSoundMap (Some root) = rw taken at c.self.invariant.1 in
-    let held : IsFound g.K.Ord.cmp c.args.key.now root c.args.path.now = rw is at c.requires in
-    let rest = rw c.as_slice.ensures.value at c.remove-pair.ensures.pairs in
-    let longer = left_length g.K.Ord.cmp c.args.key.now root c.args.path.now sound held c.remove-pair.result.1 rest in
-    let len : c.self.inside.len ≡ length (pairs_of root) = c.self.invariant.2 ∙ ap (λ r. length (entries (root_of r))) taken in
-    let ascending : IsAscending g.K.Ord.cmp (pairs_of root) = rw taken at c.self.invariant.0 in
-    let kept = left_kept g.K.Ord.cmp c.args.key.now root c.args.path.now sound held c.remove-pair.result.1 rest g.met.K.Ord.total ascending (c.remove-pair.ensures.levels sound.0 sound.2) in
-    (kept.0, kept.1, omega arith)
+pub take_at-requires : goal.take_at-requires
+take_at-requires g c = held_place g.K.Ord.cmp c.args.key.now c.args.self.now c.args.path.now c.requires.held
 
 pub returns-clause-pair : goal.returns-clause-pair
-returns-clause-pair g c =
-    let root = c.in-Some.root.value in
-    let taken : c.self.inside.root ≡ Some c.in-Some.root = sym c.take.ensures.value ∙ c.in-Some.is in
-    let is : c.args.self.now ≡ Some root = sym c.self.view_is ∙ ap root_of taken in
-    let sound : IsSoundMap (Some root) = rw taken at c.self.invariant.1 in
-    let held : IsFound g.K.Ord.cmp c.args.key.now root c.args.path.now = rw is at c.requires in
-    rw is (held_pair g.K.Ord.cmp c.args.key.now (Some root) c.args.path.now sound held ∙ rw c.as_slice.ensures.value at c.remove-pair.ensures.pair)
+returns-clause-pair g c = held_pair g.K.Ord.cmp c.args.key.now c.args.self.now c.args.path.now c.requires.sound c.requires.held ∙ c.take_at.ensures.pair
 
 pub returns-clause-rest : goal.returns-clause-rest
-returns-clause-rest g c =
-    let root = c.in-Some.root.value in
-    let taken : c.self.inside.root ≡ Some c.in-Some.root = sym c.take.ensures.value ∙ c.in-Some.is in
-    let is : c.args.self.now ≡ Some root = sym c.self.view_is ∙ ap root_of taken in
-    let sound : IsSoundMap (Some root) = rw taken at c.self.invariant.1 in
-    let held : IsFound g.K.Ord.cmp c.args.key.now root c.args.path.now = rw is at c.requires in
-    let rest = rw c.as_slice.ensures.value at c.remove-pair.ensures.pairs in
-    rw is (left_cut g.K.Ord.cmp c.args.key.now root c.args.path.now sound held c.remove-pair.result.1 rest)
-
-pub returns-clause-length : goal.returns-clause-length
-returns-clause-length g c =
-    let root = c.in-Some.root.value in
-    let taken : c.self.inside.root ≡ Some c.in-Some.root = sym c.take.ensures.value ∙ c.in-Some.is in
-    let is : c.args.self.now ≡ Some root = sym c.self.view_is ∙ ap root_of taken in
-    let sound : IsSoundMap (Some root) = rw taken at c.self.invariant.1 in
-    let held : IsFound g.K.Ord.cmp c.args.key.now root c.args.path.now = rw is at c.requires in
-    let rest = rw c.as_slice.ensures.value at c.remove-pair.ensures.pairs in
-    rw is (left_length g.K.Ord.cmp c.args.key.now root c.args.path.now sound held c.remove-pair.result.1 rest)
-
-pub returns-clause-moves : goal.returns-clause-moves
-returns-clause-moves g c =
-    let root = c.in-Some.root.value in
-    let taken : c.self.inside.root ≡ Some c.in-Some.root = sym c.take.ensures.value ∙ c.in-Some.is in
-    let is : c.args.self.now ≡ Some root = sym c.self.view_is ∙ ap root_of taken in
-    let sound : IsSoundMap (Some root) = rw taken at c.self.invariant.1 in
-    rw is (left_moves root sound c.args.count.now c.remove-pair.new.count (c.remove-pair.ensures.moves sound.0 sound.2))
+returns-clause-rest g c = c.take_at.ensures.rest ∙ held_cut g.K.Ord.cmp c.args.key.now c.args.self.now c.args.path.now c.requires.sound c.requires.held

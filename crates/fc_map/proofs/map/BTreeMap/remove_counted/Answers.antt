@@ -1,4 +1,4 @@
-use Rattle.std.proofs.Common.{◌<◌, ◌≤◌, length, arith}
+use Rattle.std.proofs.Common.{length, arith}
 use Rattle.fc_map.specs.Entries.{entries}
 use Rattle.fc_map.proofs.CountFacts.{moved_after}
 use Rattle.fc_map.proofs.PlaceFacts.{open_cut}

@@ -1,4 +1,4 @@
-use Rattle.std.proofs.Common.{◌≡◌, ◌∙◌, ap, sym, Some, rules}
+use Rattle.std.proofs.Common.{◌∙◌, ap, sym, Some}
 use Rattle.std.specs.Option.{option_map}
 use Rattle.fc_map.proofs.PlaceFacts.{held_pair, replaced}
 use Rattle.fc_map.proofs.map.BTreeMap.replace_at.Goals as goal

@@ -1,4 +1,4 @@
-use Rattle.std.proofs.Common.{◌≡◌, ◌∙◌, Some, length, ap, sym, rules}
+use Rattle.std.proofs.Common.{◌≡◌, ◌∙◌, Some, length, ap, rules}
 use Rattle.fc_base.specs.Ascending.{IsAscending}
 use Rattle.fc_node.specs.Place.{IsPlace}
 use Rattle.fc_map.specs.Entries.{root_of, entries, IsSoundMap}

@@ -1,7 +1,7 @@
-use Rattle.std.proofs.Common.{◌≡◌, ℕ, ◌<◌, length, [], ◌∷◌, ◌++◌, Some, None, sym, ◌∙◌, arith, subst, refl, take, take_all, ap, Ok, get_or}
+use Rattle.std.proofs.Common.{◌≡◌, length, [], ◌∷◌, ◌++◌, arith, subst, refl, take, take_all, ap, Ok, get_or}
 use Rattle.std.proofs.lemmas.List.{length_push}
 use Rattle.fc_command.specs.Session.{IsAfter}
-use Rattle.std.proofs.KnownBytes.{Appends-trans, Appends-kept, Appends-nil}
+use Rattle.std.proofs.KnownBytes.{Appends-trans}
 use Rattle.std.proofs.lemmas.Result.{err_from_is_err_and}
 use Rattle.fc_command.proofs.ServeFacts.{fed_failed, fed_fault, fed_on, byte_on, long_refused}
 use Rattle.fc_command.proofs.command.session.Session.take.Goals as goal

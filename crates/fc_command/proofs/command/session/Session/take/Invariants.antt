@@ -1,4 +1,4 @@
-use Rattle.std.proofs.Common.{◌≡◌, ℕ, List, ◌++◌, take}
+use Rattle.std.proofs.Common.{ℕ, List, ◌++◌, take}
 use Rattle.std.specs.Io.KnownBytes.{Appends}
 use Rattle.fc_command.specs.Session.{IsAfter, HasRoom}
 use Rattle.fc_command.proofs.command.session.Session.take.Given as goal

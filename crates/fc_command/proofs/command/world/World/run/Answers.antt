@@ -1,4 +1,6 @@
-use Rattle.std.proofs.Common.{◌≡◌, ◌++◌, ◌∷◌, [], sym, ◌∙◌, ap, append_assoc, arith, length-append, length}
+use Rattle.std.proofs.Common.{rules, ◌≡◌, append-nil, ◌++◌, ◌∷◌, [], sym, ◌∙◌, ap, append_assoc, arith, length-append, length}
+use Rattle.std.proofs.lemmas.List.{nil_from_length}
+use Rattle.std.specs.Vec.Iter.{into_iter_items}
 use Rattle.fc_command.proofs.RunFacts.{runs_more}
 use Rattle.fc_command.proofs.command.world.World.run.Goals as goal
 
@@ -11,3 +13,10 @@ loop-command-preserved g c =
       ran = rw told (runs_more g.K.Ord.cmp _ _ _ _ _ _ _ c.loop-command.invariant.ran c.step.ensures);
       room = omega (arith, c.loop-command.invariant.room, simp length-append at (ap length told), ap length c.in-Some.ensures.steps.0, c.push.ensures.capacity);
     }
+
+-- all commands ran
+pub returns-clause-ran : goal.returns-clause-ran
+returns-clause-ran g c =
+    let rest = nil_from_length (into_iter_items c.loop-command.command-iterator) (search rules) in
+    let all : c.args.commands.items ≡ c.loop-command.yielded = c.loop-command.invariant.all ∙ ap (λ l. c.loop-command.yielded ++ l) rest ∙ append-nil c.loop-command.yielded in
+    rw all c.loop-command.invariant.ran

@@ -1,0 +1,27 @@
+use Rattle.std.proofs.Common.{◌≡◌, ◌∙◌, Some, arith, ap, refl, sym}
+use Rattle.std.specs.Option.{option_map}
+use Rattle.fc_map.specs.Place.{before_of, after_of}
+use Rattle.fc_map.proofs.CountFacts.{only_moved}
+use Rattle.fc_map.proofs.EntryFacts.{put_place, put_written}
+use Rattle.fc_map.proofs.map.entry.VacantEntry.try_insert_counted.Goals as goal
+
+pub returns-in-Ok : goal.returns-in-Ok
+returns-in-Ok g c =
+    let e = c.args.self in
+    let front = before_of e.map.now e.path in
+    let back = after_of e.map.now e.path in
+    let m = c.insert_at.new.self in
+    let put = c.in-Ok.ensures.place in
+    let there = put_place m c.in-Ok.place (e.key, c.args.value) front back put in
+    let lent : Some c.value_mut.result.now ≡ Some c.args.value = sym c.value_mut.ensures.value ∙ ap (option_map (λ p. p.1)) there.1 in (
+      (refl, (λ w _. (put_written m c.in-Ok.place e.key c.args.value w front back c.value_mut.ensures.sound put, c.value_mut.ensures.kept w)), tt),
+      record {
+        writes_back = tt;
+        value = cc;
+        error = tt;
+        full = c.in-Ok.ensures.full;
+        comparisons = c.in-Ok.ensures.comparisons;
+        no_move = tt;
+        bounded = only_moved _ c.args.count.now c.insert_at.new.count (omega arith) c.in-Ok.ensures.comparisons (rw c.in-Ok.ensures.length at c.in-Ok.ensures.moves);
+      },
+    )

@@ -1,0 +1,92 @@
+-- What the contracts of an entry cite. The words serve its two kinds too, as `entry_key (Vacant e)`.
+pub use Rattle.fc_map.specs.declared.map.entry.Entry.TheVariants.{Occupied, Vacant}
+use Rattle.std.specs.Prelude.{◌≡◌, ℕ, List, [], ◌∷◌, ◌++◌, Option, None, Some, Result}
+use Rattle.std.specs.Option.{option_map}
+use Rattle.std.specs.Borrow.{Fml, RattleType, MutBor, follows, LendsSoOk, RestsIfErr}
+use Rattle.std.specs.declared.cmp.Ord as ord
+use Rattle.std.specs.declared.cmp.PartialEq as eq
+use Rattle.std.specs.declared.cmp.PartialOrd as partial
+use mir.Syntax.{named}
+use Rattle.fc_node.proofs.WrittenPairs.{written_place}
+use Rattle.fc_map.specs.Entries.{Map, entries, IsSoundMap}
+use Rattle.fc_map.specs.Lends.{IsPlaceIn, pair_in, written_in}
+use Rattle.fc_map.specs.Place.{before_of, after_of, ahead_of, behind_of}
+use Rattle.fc_map.specs.declared.map.entry.Entry.{Entry}
+use Rattle.fc_map.specs.declared.map.entry.OccupiedEntry.{OccupiedEntry}
+use Rattle.fc_map.specs.contracts.map.BTreeMap.{the_row}
+use Rattle.fc_map.specs.contracts.map.entry.OccupiedEntry as occupied
+
+module _ {K V : Type 0} where
+  -- A place stays one, whatever is written there.
+  pub place_stays : (m : Map K V) (path : List ℕ) (v : V) → IsPlaceIn m path → IsPlaceIn (written_in m path v) path
+  place_stays None path v p = p
+  place_stays (Some root) path v p = written_place path root v p
+
+module _ {K V : Type 0} {g : ord.Ghosts K} {g' : eq.Ghosts K} {g'' : partial.Ghosts K} where
+  -- The reference to the map.
+  abbrev pub entry_map_ref : Entry K V g g' g'' → MutBor (Map K V)
+  entry_map_ref (Vacant e) = e.map
+  entry_map_ref (Occupied o) = o.map
+
+  -- The map, as the entry holds it.
+  abbrev pub entry_map : Entry K V g g' g'' → Map K V
+  entry_map e = (entry_map_ref e).now
+
+  -- The pair that is there, if there is one.
+  abbrev pub entry_pair : Entry K V g g' g'' → Option (K × V)
+  entry_pair (Vacant e) = None
+  entry_pair (Occupied o) = pair_in o.map.now o.path
+
+  -- The value that is there, if there is one.
+  abbrev pub entry_value : Entry K V g g' g'' → Option V
+  entry_value e = option_map (λ p. p.1) (entry_pair e)
+
+  -- The key that is there, and else the one that was searched for.
+  abbrev pub entry_key : Entry K V g g' g'' → Option K
+  entry_key (Vacant e) = Some e.key
+  entry_key (Occupied o) = option_map (λ p. p.0) (pair_in o.map.now o.path)
+
+  -- The map with v in the pair of an occupied entry: the tree keeps its shape.
+  abbrev pub map_written : OccupiedEntry K V g g' g'' → V → Map K V
+  map_written o v = written_in o.map.now o.path v
+
+  -- The pairs of the map, once v is the value at the entry's key.
+  abbrev pub list_with : Entry K V g g' g'' → V → List (K × V)
+  list_with (Vacant e) v = before_of e.map.now e.path ++ (e.key, v) ∷ after_of e.map.now e.path
+  list_with (Occupied o) v = entries (map_written o v)
+
+  -- The pairs of the map, once there is none at the entry's key.
+  abbrev pub list_without : Entry K V g g' g'' → List (K × V)
+  list_without (Vacant e) = entries e.map.now
+  list_without (Occupied o) = ahead_of o.map.now o.path ++ behind_of o.map.now o.path
+
+  -- An occupied entry, once v is its value.
+  abbrev pub with_entry_value : OccupiedEntry K V g g' g'' → V → OccupiedEntry K V g g' g''
+  with_entry_value o v = record {
+    map = record o.map { now = map_written o v };
+    path = o.path;
+    place = place_stays o.map.now o.path v o.place;
+  }
+
+  -- The new entry is the old one, once v is its value.
+  abbrev pub IsWritten : OccupiedEntry K V g g' g'' → V → OccupiedEntry K V g g' g'' → Type 0
+  IsWritten old v new = (new.map.ghost_name ≡ old.map.ghost_name) × (new.map.now ≡ map_written old v) × (entry_key (Occupied new) ≡ entry_key (Occupied old)) × (entry_value (Occupied new) ≡ Some v)
+      × ((w : V) → list_with (Occupied new) w ≡ list_with (Occupied old) w) × (list_without (Occupied new) ≡ list_without (Occupied old))
+
+module _ (K V : RattleType) {g : ord.Ghosts K.Denot} {g' : eq.Ghosts K.Denot} {g'' : partial.Ghosts K.Denot} where
+  -- Once the borrow r ends, the map has the last value written through r in the entry's pair.
+  abbrev pub occupied_lends_whole : OccupiedEntry K.Denot V.Denot g g' g'' → MutBor V.Denot → Fml
+  occupied_lends_whole o r = follows (the_row K V g g' g'') V o.map.ghost_name r.ghost_name (map_written o)
+
+  -- Once the borrow r ends, the entry behind o has the last value written through r. Its lifetime is the second of the signature.
+  abbrev pub occupied_lends : MutBor (OccupiedEntry K.Denot V.Denot g g' g'') → MutBor V.Denot → Fml
+  occupied_lends o r = follows (occupied.the_row (record { mir = named 1; lft = [] }) K V g g' g'') V o.ghost_name r.ghost_name (with_entry_value o.now)
+
+  -- Once the borrow r ends, the map's pairs are those with the last value written through r at the entry's key; where there is
+  -- none, the map stays as it is.
+  abbrev pub entry_lends_ok : {E : Type 0} → Entry K.Denot V.Denot g g' g'' → Result (MutBor V.Denot) E → Fml
+  entry_lends_ok e r = LendsSoOk (the_row K V g g' g'') V (entry_map_ref e) r (λ n w. (entries n ≡ list_with e w) × IsSoundMap n) (λ n. n ≡ entry_map e)
+
+  -- Where r has no entry, the map behind m stays as it is.
+  abbrev pub rests_if_refused : {E : Type 0} → MutBor (Map K.Denot V.Denot) → Result (Entry K.Denot V.Denot g g' g'') E → Fml
+  rests_if_refused m r = RestsIfErr (the_row K V g g' g'') m (λ e. (entry_map_ref e).ghost_name) r (λ n. n ≡ m.now)

@@ -1,0 +1,34 @@
+-- What an entry keeps of its place holds in one way only.
+use Rattle.std.specs.Prelude.{ℕ, List, [], ◌∷◌, Some, None}
+use Rattle.std.specs.Coded.{×_prop, Unit-prop, le_prop}
+use Rattle.std.proofs.Props.{props}
+use Rattle.std.specs.declared.cmp.Ordering.{Ordering}
+use Rattle.fc_node.specs.declared.btree.node.Node.{Node}
+use Rattle.fc_node.specs.Node.{child_at}
+use Rattle.fc_node.specs.Path.{IsPath}
+use Rattle.fc_node.specs.Place.{IsPlace}
+use Rattle.fc_map.specs.Entries.{Map}
+use Rattle.fc_map.specs.Lends.{IsPlaceIn}
+use Rattle.fc_map.specs.Place.{IsOpenAt}
+
+module _ {K V : Type 0} where
+  -- That each step of a path is a place or the one after them.
+  way-prop : (path : List ℕ) (n : Node K V) → IsProp (IsPath path n)
+  way-prop [] n = Unit-prop
+  way-prop (i ∷ path) n = ×_prop le_prop (way-prop path (child_at n i))
+
+  -- That a path leads to a pair of the tree below a node.
+  end-prop : (path : List ℕ) (n : Node K V) → IsProp (IsPlace path n)
+  end-prop [] n = λ x. absurd x
+  end-prop (i ∷ []) n = le_prop
+  end-prop (i ∷ j ∷ path) n = ×_prop le_prop (end-prop (j ∷ path) (child_at n i))
+
+  -- That a path leads to a pair of a map.
+  pub place-prop : (m : Map K V) (path : List ℕ) → IsProp (IsPlaceIn m path)
+  place-prop None path = λ x. absurd x
+  place-prop (Some root) path = end-prop path root
+
+  -- That a path leads to the gap of a key in a map.
+  pub open-prop : (cmp : K → K → Ordering) (k : K) (m : Map K V) (path : List ℕ) → IsProp (IsOpenAt cmp k m path)
+  open-prop cmp k None path = hlevel props
+  open-prop cmp k (Some root) path = hlevel (props, way-prop path root)

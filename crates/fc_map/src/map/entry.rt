@@ -1,0 +1,54 @@
+//! A key's place in a map: it was searched for once, and is written, filled or emptied without another comparison.
+ghost use Rattle.std.specs.Prelude.{◌≡◌};
+ghost use Rattle.fc_map.specs.Lends.{IsPlaceIn};
+ghost use Rattle.fc_map.specs.Place.{IsOpenAt};
+ghost use Rattle.fc_map.specs.Unique.{open-prop, place-prop};
+
+#[cfg(test)]
+mod callers;
+mod calls;
+mod occupied;
+mod try_entry;
+mod vacant;
+
+use super::BTreeMap;
+use fc_node::btree::path::Path;
+
+/// The place of a key in a map. Dropped, it leaves the map as it was. Upstream: `Entry`.
+#[derive(Drop)]
+pub enum Entry<'a, K: Ord, V> {
+    /// No equal key is there.
+    Vacant(VacantEntry<'a, K, V>),
+    /// An equal key is there.
+    Occupied(OccupiedEntry<'a, K, V>),
+}
+
+/// The gap where a key would go that the map does not have. Upstream: `VacantEntry`.
+pub struct VacantEntry<'a, K: Ord, V> {
+    pub(crate) map: &'a mut BTreeMap<K, V>,
+    pub(crate) key: K,
+    pub(crate) path: Path,
+    ghost gap: { IsOpenAt K.cmp key map.now path } by { open-prop K.cmp key map.now path },
+}
+
+/// A pair of the map. Upstream: `OccupiedEntry`.
+#[derive(Drop)]
+pub struct OccupiedEntry<'a, K: Ord, V> {
+    pub(crate) map: &'a mut BTreeMap<K, V>,
+    pub(crate) path: Path,
+    ghost place: { IsPlaceIn map.now path } by { place-prop map.now path },
+}
+
+// Dropped, it leaves the map as it was: a derived `drop` would not say so.
+impl<K: Ord + Drop, V> Drop for VacantEntry<'_, K, V> {
+    fn drop(self)
+        ensures { self.exit.0.now ≡ self.entry.map.now }
+    {
+        let VacantEntry {
+            map: _,
+            key,
+            path: _,
+        } = self;
+        drop(key);
+    }
+}

@@ -1,0 +1,72 @@
+//! The gap of a key that is not there.
+ghost use Rattle.std.specs.Prelude.{◌≡◌, ◌+◌, length, IsErr, IfOk, IfErr, OnErr, Some};
+ghost use Rattle.std.specs.Borrow.{sem};
+ghost use Rattle.fc_base.specs.Growth.{MayGrowRefuse};
+ghost use Rattle.fc_map.specs.Counts.{IsBounded};
+ghost use Rattle.fc_map.specs.Entries.{entries};
+ghost use Rattle.fc_map.specs.Entry.{Vacant, entry_key, entry_lends_ok, entry_map};
+
+use super::VacantEntry;
+use fc_base::{Count, TryReserveError};
+
+impl<'a, K: Ord + Drop, V: Drop> VacantEntry<'a, K, V> {
+    /// The key that was searched for. Upstream: `VacantEntry::key`.
+    pub fn key(&self) -> &K
+        ensures { entry_key (Vacant self.now) ≡ Some result.now }
+    {
+        &self.key
+    }
+
+    /// The key that was searched for, given back. The map stays as it was. Upstream: `VacantEntry::into_key`.
+    pub fn into_key(self) -> K
+        ensures key { entry_key (Vacant self.entry) ≡ Some result }
+        ensures unchanged { self.exit.0.now ≡ entry_map (Vacant self.entry) }
+    {
+        let VacantEntry {
+            map: _,
+            key,
+            path: _,
+        } = self;
+        key
+    }
+
+    /// Puts the key with the value into the gap, and lends the value for writing for as long as the map was. Upstream:
+    /// `VacantEntry::try_insert`.
+    ///
+    /// # Errors
+    /// `CapacityOverflow` where the map holds `usize::MAX` pairs, and then always; else `AllocError`, where a request for memory
+    /// was refused, which takes an empty map or a full leaf. The map is then as it was, tree and all, and key and value are
+    /// dropped.
+    pub fn try_insert(self, value: V) -> Result<&'a mut V, TryReserveError>
+        ensures* writes_back { sem 𝓛 (entry_lends_ok K.row V.row (Vacant self.entry) result) }
+        ensures value { IfOk result (λ v. v.now ≡ value) }
+        ensures error { IfErr result (MayGrowRefuse (length (entries (entry_map (Vacant self.entry))))) }
+        ensures full { length (entries (entry_map (Vacant self.entry))) ≡ usize.MAX → IsErr result }
+    {
+        self.try_insert_counted(value, &mut Count::new())
+    }
+
+    /// `try_insert`, with its moves added to the count. It compares nothing, and a refused insertion moves no pair.
+    ///
+    /// # Errors
+    /// As `try_insert`.
+    pub fn try_insert_counted(
+        self,
+        value: V,
+        count: &mut Count,
+    ) -> Result<&'a mut V, TryReserveError>
+        ensures* writes_back { sem 𝓛 (entry_lends_ok K.row V.row (Vacant self.entry) result) }
+        ensures value { IfOk result (λ v. v.now ≡ value) }
+        ensures error { IfErr result (MayGrowRefuse (length (entries (entry_map (Vacant self.entry))))) }
+        ensures full { length (entries (entry_map (Vacant self.entry))) ≡ usize.MAX → IsErr result }
+        ensures comparisons { count.new.comparisons ≡ count.old.comparisons }
+        ensures no_move { OnErr result (count.new.moves ≡ count.old.moves) }
+        ensures bounded { IsBounded (length (entries (entry_map (Vacant self.entry))) + 1) count.old count.new }
+    {
+        let VacantEntry { map, key, path } = self;
+        match map.insert_at(&path, key, value, count) {
+            Ok(place) => Ok(map.value_mut(&place)),
+            Err(refused) => Err(refused),
+        }
+    }
+}

@@ -1,0 +1,44 @@
+//! The pair at a place that a search found.
+ghost use Rattle.std.specs.Prelude.{◌≡◌, ◌+◌, ◌++◌, length, Some};
+ghost use Rattle.fc_map.specs.Counts.{IsMoved};
+ghost use Rattle.fc_map.specs.Entries.{entries, IsSoundMap};
+ghost use Rattle.fc_map.specs.Lends.{IsPlaceIn, pair_in};
+ghost use Rattle.fc_map.specs.Place.{ahead_of, behind_of};
+
+use super::BTreeMap;
+use fc_base::Count;
+use fc_node::btree::node::lend;
+use fc_node::btree::node::removal::remove;
+use fc_node::btree::path::Path;
+
+impl<K: Ord + Drop, V: Drop> BTreeMap<K, V> {
+    // The pair that the path leads to.
+    pub(crate) fn pair_of(&self, path: &Path) -> &(K, V)
+        requires { IsPlaceIn self.now path.now }
+        ensures { pair_in self.now path.now ≡ Some result.now }
+    {
+        match &self.root {
+            None => unreachable!(),
+            Some(root) => lend::pair_at(root, path),
+        }
+    }
+
+    // Takes the pair that the path leads to out.
+    pub(crate) fn take_at(&mut self, path: &Path, count: &mut Count) -> (K, V)
+        requires { IsPlaceIn self.old path.now }
+        ensures pair { pair_in self.old path.now ≡ Some result }
+        ensures rest { entries self.new ≡ ahead_of self.old path.now ++ behind_of self.old path.now }
+        ensures length { length (entries self.old) ≡ length (entries self.new) + 1 }
+        ensures sound { IsSoundMap self.new }
+        ensures comparisons { count.new.comparisons ≡ count.old.comparisons }
+        ensures moves { IsMoved (length (entries self.old)) count.old count.new }
+    {
+        let Some(root) = self.root.take() else {
+            unreachable!()
+        };
+        let (pair, root) = remove(root, path.as_slice(), count);
+        self.root = root;
+        self.len -= 1;
+        pair
+    }
+}
