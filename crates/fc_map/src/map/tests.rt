@@ -196,6 +196,30 @@ fn an_empty_map_compares_nothing(rt: HostRuntime) -> Result<(), Fail> {
 }
 
 #[test]
+fn a_key_has_its_last_value(rt: HostRuntime) -> Result<(), Fail> {
+    let mut map = BTreeMap::new(rt.alloc());
+    assert_eq!(rt; map.try_insert(37, "a")?, None);
+    assert_eq!(rt; map.try_insert(37, "b")?, Some("a"));
+    assert_eq!(rt; map.try_insert(37, "c")?, Some("b"));
+    assert!(rt; map.contains_key(&37));
+    if map.contains_key(&37) {
+        assert_eq!(rt; map[&37], "c");
+    }
+    assert_eq!(rt; map.len(), 1);
+    Ok(())
+}
+
+#[test]
+fn a_key_is_removed_once(rt: HostRuntime) -> Result<(), Fail> {
+    let mut map = BTreeMap::new(rt.alloc());
+    assert_eq!(rt; map.try_insert(1, "a")?, None);
+    assert_eq!(rt; map.remove(&1), Some("a"));
+    assert_eq!(rt; map.remove(&1), None);
+    assert_eq!(rt; map.len(), 0);
+    Ok(())
+}
+
+#[test]
 fn twelve_ascending_keys(rt: HostRuntime) -> Result<(), Fail> {
     let made = Cell::new(0);
     let map = ascending(rt.alloc(), 12, &made)?;
