@@ -3,3 +3,4 @@ pub mod Copies
 pub mod Growth
 pub mod OneKey
 pub mod Parts
+pub mod Ranges

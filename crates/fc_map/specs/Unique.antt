@@ -1,4 +1,4 @@
--- What an entry keeps of its place holds in one way only.
+-- What entries and walks keep of their places holds in one way only.
 use Rattle.std.specs.Prelude.{ℕ, List, [], ◌∷◌, Some, None}
 use Rattle.std.specs.Coded.{×_prop, Unit-prop, le_prop}
 use Rattle.std.proofs.Props.{props}
@@ -8,6 +8,7 @@ use Rattle.fc_node.specs.Node.{child_at}
 use Rattle.fc_node.specs.Path.{IsPath}
 use Rattle.fc_node.specs.Place.{IsPlace}
 use Rattle.fc_map.specs.Entries.{Map}
+use Rattle.fc_map.specs.Gap.{IsGapIn, AreEndsIn}
 use Rattle.fc_map.specs.Lends.{IsPlaceIn}
 use Rattle.fc_map.specs.Place.{IsOpenAt}
 
@@ -32,3 +33,12 @@ module _ {K V : Type 0} where
   pub open-prop : (cmp : K → K → Ordering) (k : K) (m : Map K V) (path : List ℕ) → IsProp (IsOpenAt cmp k m path)
   open-prop cmp k None path = hlevel props
   open-prop cmp k (Some root) path = hlevel (props, way-prop path root)
+
+  -- That a path leads to a gap of a map.
+  gap-prop : (m : Map K V) (path : List ℕ) → IsProp (IsGapIn m path)
+  gap-prop None path = hlevel props
+  gap-prop (Some root) path = hlevel (props, way-prop path root)
+
+  -- That two paths lead to gaps of a map, the first to no later one.
+  pub ends-prop : (m : Map K V) (front back : List ℕ) → IsProp (AreEndsIn m front back)
+  ends-prop m front back = hlevel (props, gap-prop m front, gap-prop m back)

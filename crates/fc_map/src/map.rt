@@ -14,16 +14,29 @@ ghost use Rattle.fc_map.specs.Entries.{entries, now_value, now_pair, passed_in, 
 ghost use Rattle.fc_map.specs.LendsKey.{path_in};
 ghost use Rattle.fc_map.specs.Place.{IsHeldAt, IsOpenAt, IsPutIn, before_of, after_of};
 
-pub mod entry;
+mod bounds;
+mod entry;
+mod gaps;
 mod get_mut;
 mod index;
+mod into_iter;
+mod iter;
+mod iter_mut;
+mod meeting;
 mod places;
+mod range;
+mod range_mut;
+mod seek;
 #[cfg(test)]
 mod shapes;
+mod span;
+mod stack;
 #[cfg(test)]
 mod tests;
+mod trail;
 mod values;
 
+pub use bounds::is_range;
 pub use entry::{Entry, OccupiedEntry, VacantEntry};
 use fc_base::{Count, TryReserveError};
 use fc_node::btree::node::Node;
@@ -31,6 +44,11 @@ use fc_node::btree::node::insertion::{first_leaf, insert};
 use fc_node::btree::node::room::try_room;
 use fc_node::btree::path::Path;
 use fc_node::btree::search;
+pub use into_iter::IntoIter;
+pub use iter::{Iter, Keys, Values};
+pub use iter_mut::{IterMut, ValuesMut};
+pub use range::Range;
+pub use range_mut::RangeMut;
 use std::alloc::Global;
 use std::marker::Model;
 use std::mem;

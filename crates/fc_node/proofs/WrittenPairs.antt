@@ -57,7 +57,7 @@ module _ {K V : Type 0} where
   get_value (e ∷ s) zero w p h = let q : e ≡ p = cc in ap (λ x. Some (x.0, w)) q
   get_value (e ∷ s) (suc i) w p h = get_value s i w p h
 
-  length_value : (s : List (K × V)) (i : ℕ) (w : V) → length (set_value s i w) ≡ length s
+  pub length_value : (s : List (K × V)) (i : ℕ) (w : V) → length (set_value s i w) ≡ length s
   length_value [] i w = refl
   length_value (e ∷ s) zero w = refl
   length_value (e ∷ s) (suc i) w = ap suc (length_value s i w)
@@ -68,20 +68,20 @@ module _ {K V : Type 0} where
   boxed_with (b ∷ bs) (suc i) c = ap (λ zs. b.value ∷ zs) (boxed_with bs i c)
 
   -- the parts of the changed nodes
-  value_own : (n : Node K V) (i : ℕ) (w : V) → own_pairs (with_value n i w) ≡ set_value (own_pairs n) i w
+  pub value_own : (n : Node K V) (i : ℕ) (w : V) → own_pairs (with_value n i w) ≡ set_value (own_pairs n) i w
   value_own n i w = own_made _
 
-  value_children : (n : Node K V) (i : ℕ) (w : V) → children_of (with_value n i w) ≡ children_of n
+  pub value_children : (n : Node K V) (i : ℕ) (w : V) → children_of (with_value n i w) ≡ children_of n
   value_children n i w = children_made _
 
-  child_own : (n : Node K V) (i : ℕ) (c : Node K V) → own_pairs (with_child n i c) ≡ own_pairs n
+  pub child_own : (n : Node K V) (i : ℕ) (c : Node K V) → own_pairs (with_child n i c) ≡ own_pairs n
   child_own n i c = own_made _
 
   with_in : (o : Option (List (Box (Node K V) Global))) (i : ℕ) (c : Node K V) → boxed (items_or_none (option_map (λ bs. set_boxed bs i c) o)) ≡ slice_set (boxed (items_or_none o)) i c
   with_in None i c = refl
   with_in (Some bs) i c = boxed_with bs i c
 
-  child_children : (n : Node K V) (i : ℕ) (c : Node K V) → children_of (with_child n i c) ≡ slice_set (children_of n) i c
+  pub child_children : (n : Node K V) (i : ℕ) (c : Node K V) → children_of (with_child n i c) ≡ slice_set (children_of n) i c
   child_children n i c = children_made _ ∙ with_in (out-Node K V n).children i c
 
   -- the levels stay

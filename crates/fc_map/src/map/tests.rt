@@ -16,9 +16,9 @@ use std::test::Fail;
 
 // A number as a key, which counts each of its comparisons.
 #[derive(Clone, Copy)]
-struct CountingKey<'a> {
-    number: u64,
-    comparisons: &'a Cell<u64>,
+pub(crate) struct CountingKey<'a> {
+    pub(crate) number: u64,
+    pub(crate) comparisons: &'a Cell<u64>,
 }
 
 impl PartialEq for CountingKey<'_> {
@@ -139,7 +139,7 @@ fn map_of<'a>(
 }
 
 // A map of the numbers 1 to `last`, inserted in this order.
-fn ascending<'a>(
+pub(crate) fn ascending<'a>(
     alloc: Global,
     last: u64,
     comparisons: &'a Cell<u64>,

@@ -13,6 +13,7 @@ mod costs;
 pub mod insertion;
 pub mod lend;
 mod mend;
+pub mod opening;
 pub mod removal;
 pub mod room;
 mod split;

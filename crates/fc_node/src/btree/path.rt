@@ -59,7 +59,7 @@ impl Path {
     }
 
     /// Puts a step at the end.
-    pub(crate) fn push(&mut self, step: usize)
+    pub fn push(&mut self, step: usize)
         requires { length self.old < 25 }
         ensures { self.new ≡ self.old ++ step ∷ [] }
     {

@@ -1,0 +1,11 @@
+use Rattle.std.proofs.Common.{arith, refl, ◌∙◌}
+use Rattle.fc_map.specs.Entries.{entries}
+use Rattle.fc_map.proofs.EndFacts.{place_item}
+use Rattle.fc_map.proofs.map.range_mut.RangeMut.peek_back.Goals as goal
+
+pub returns : goal.returns
+returns g c =
+    let e = c.is_done.ensures in
+    let m = c.args.self.now.map.now in
+    let is = c.if-is_done.false in
+    (grind (arith, e.1, is), place_item m c.step_ahead.result.0 (entries m) _ c.step_ahead.ensures.sound c.step_ahead.ensures.place refl (omega (arith, c.step_ahead.ensures.ahead)) ∙ c.pair_of-pair.ensures)

@@ -1,0 +1,74 @@
+-- What the contracts of writing walks over a map cite.
+use Rattle.std.specs.Prelude.{◌≡◌, ◌-◌, ◌<◌, ◌≤◌, [], length, slice_get, Option, Some, MatchOption}
+use Rattle.std.specs.Borrow.{Fml, RattleType, Bor, MutBor, follows_so}
+use Rattle.std.specs.Option.{OnSome, IfNone, ghost_name_of, option_map}
+use Rattle.std.specs.declared.cmp.Ord as ord
+use Rattle.std.specs.declared.cmp.PartialEq as eq
+use Rattle.std.specs.declared.cmp.PartialOrd as partial
+use mir.Syntax.{named}
+use Rattle.fc_map.specs.Entries.{Map, entries}
+use Rattle.fc_map.specs.Place.{before_of}
+use Rattle.fc_map.specs.Writing.{Stretch, wrote_first, wrote_last}
+use Rattle.fc_map.specs.declared.map.range_mut.RangeMut.{RangeMut}
+use Rattle.fc_map.specs.declared.map.iter_mut.IterMut.{IterMut}
+use Rattle.fc_map.specs.contracts.map.range_mut.RangeMut as range
+use Rattle.fc_map.specs.contracts.map.iter_mut.IterMut as iter
+
+module _ {K V : Type 0} where
+  -- The value at the first place not yet lent, and `None` exactly where there is none.
+  abbrev pub IsFirstValue : Stretch K V → Option (MutBor V) → Type 0
+  IsFirstValue t r = MatchOption r (t.back ≤ t.front) (λ v. (t.front < t.back) × (option_map (λ p. p.1) (slice_get t.list t.front) ≡ Some v.now))
+
+  -- The value at the last place not yet lent, and `None` exactly where there is none.
+  abbrev pub IsLastValue : Stretch K V → Option (MutBor V) → Type 0
+  IsLastValue t r = MatchOption r (t.back ≤ t.front) (λ v. (t.front < t.back) × (option_map (λ p. p.1) (slice_get t.list (t.back - 1)) ≡ Some v.now))
+
+  -- The pair at the first place not yet lent, and `None` exactly where there is none.
+  abbrev pub IsFirstPair : Stretch K V → Option (Bor K × Bor V) → Type 0
+  IsFirstPair t r = MatchOption r (t.back ≤ t.front) (λ p. (t.front < t.back) × (slice_get t.list t.front ≡ Some (p.0.now, p.1.now)))
+
+  -- The pair at the last place not yet lent, and `None` exactly where there is none.
+  abbrev pub IsLastPair : Stretch K V → Option (Bor K × Bor V) → Type 0
+  IsLastPair t r = MatchOption r (t.back ≤ t.front) (λ p. (t.front < t.back) × (slice_get t.list (t.back - 1) ≡ Some (p.0.now, p.1.now)))
+
+module _ {K V : Type 0} {g : ord.Ghosts K} {g' : eq.Ghosts K} {g'' : partial.Ghosts K} where
+  -- The reference to the map.
+  abbrev pub range_map_ref : RangeMut K V g g' g'' → MutBor (Map K V)
+  range_map_ref w = w.map
+
+  -- The map's list as it stands, and the places not yet lent.
+  abbrev pub stretch : RangeMut K V g g' g'' → Stretch K V
+  stretch w = record { list = entries w.map.now; front = length (before_of w.map.now w.front); back = length (before_of w.map.now w.back) }
+
+  -- The same of a walk over all values.
+  abbrev pub iter_map_ref : IterMut K V g g' g'' → MutBor (Map K V)
+  iter_map_ref w = w.map
+
+  abbrev pub iter_stretch : IterMut K V g g' g'' → Stretch K V
+  iter_stretch w = record { list = entries w.map.now; front = length (before_of w.map.now w.front); back = length (before_of w.map.now w.back) }
+
+module _ (K V : RattleType) {g : ord.Ghosts K.Denot} {g' : eq.Ghosts K.Denot} {g'' : partial.Ghosts K.Denot} where
+  -- Once the borrow r ends, the first place has the last value written through r, and is lent; at `None` nothing changes. The
+  -- walk's lifetime is the second of the signature.
+  abbrev pub range_lends_first : MutBor (RangeMut K.Denot V.Denot g g' g'') → Option (MutBor V.Denot) → Fml
+  range_lends_first s r = follows_so (range.the_row (record { mir = named 1; lft = [] }) K V g g' g'') V s.ghost_name (ghost_name_of r)
+      (λ w n. OnSome r (((range_map_ref n).ghost_name ≡ (range_map_ref s.now).ghost_name) × (stretch n ≡ wrote_first (stretch s.now) w)))
+      (λ n. IfNone r (n ≡ s.now))
+
+  -- The same at the last place.
+  abbrev pub range_lends_last : MutBor (RangeMut K.Denot V.Denot g g' g'') → Option (MutBor V.Denot) → Fml
+  range_lends_last s r = follows_so (range.the_row (record { mir = named 1; lft = [] }) K V g g' g'') V s.ghost_name (ghost_name_of r)
+      (λ w n. OnSome r (((range_map_ref n).ghost_name ≡ (range_map_ref s.now).ghost_name) × (stretch n ≡ wrote_last (stretch s.now) w)))
+      (λ n. IfNone r (n ≡ s.now))
+
+  -- The same of the walk over all pairs, at its first place.
+  abbrev pub iter_lends_first : MutBor (IterMut K.Denot V.Denot g g' g'') → Option (MutBor V.Denot) → Fml
+  iter_lends_first s r = follows_so (iter.the_row (record { mir = named 1; lft = [] }) K V g g' g'') V s.ghost_name (ghost_name_of r)
+      (λ w n. OnSome r (((iter_map_ref n).ghost_name ≡ (iter_map_ref s.now).ghost_name) × (iter_stretch n ≡ wrote_first (iter_stretch s.now) w)))
+      (λ n. IfNone r (n ≡ s.now))
+
+  -- And at its last place.
+  abbrev pub iter_lends_last : MutBor (IterMut K.Denot V.Denot g g' g'') → Option (MutBor V.Denot) → Fml
+  iter_lends_last s r = follows_so (iter.the_row (record { mir = named 1; lft = [] }) K V g g' g'') V s.ghost_name (ghost_name_of r)
+      (λ w n. OnSome r (((iter_map_ref n).ghost_name ≡ (iter_map_ref s.now).ghost_name) × (iter_stretch n ≡ wrote_last (iter_stretch s.now) w)))
+      (λ n. IfNone r (n ≡ s.now))

@@ -1,0 +1,30 @@
+//! Writing walks over all values of a map, from both ends.
+ghost use Rattle.std.specs.Prelude.{◌≡◌, ◌+◌, length};
+ghost use Rattle.fc_map.specs.Gap.{AreEndsIn};
+ghost use Rattle.fc_map.specs.Place.{before_of};
+ghost use Rattle.fc_map.specs.Unique.{ends-prop};
+
+#[cfg(test)]
+mod callers;
+mod calls;
+#[cfg(test)]
+mod tests;
+
+use super::BTreeMap;
+use fc_node::btree::path::Path;
+
+/// The values that are still to be lent for writing, in ascending order of their keys. `next` lends the first of them and
+/// `next_back` the last, each once; once there is none, both answer `None` ever after. No call compares keys or takes memory.
+/// Upstream: `btree_map::IterMut`.
+#[derive(Drop)]
+pub struct IterMut<'a, K: Ord, V> {
+    pub(crate) map: &'a mut BTreeMap<K, V>,
+    pub(crate) front: Path,
+    pub(crate) back: Path,
+    pub(crate) left: usize,
+    ghost ends: { AreEndsIn map.now front back } by { ends-prop map.now front back },
+    ghost counted: { left + length (before_of map.now front) ≡ length (before_of map.now back) },
+}
+
+/// A walk that lends all values for writing: `IterMut` lends no key, so it is that walk. Upstream: `btree_map::ValuesMut`.
+pub type ValuesMut<'a, K, V> = IterMut<'a, K, V>;

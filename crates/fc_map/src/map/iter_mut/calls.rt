@@ -1,0 +1,131 @@
+//! The calls of writing walks over all values.
+ghost use Rattle.std.specs.Prelude.{◌≡◌, ◌+◌, ◌-◌, ◌<◌, ◌≤◌, ◌↔◌, length, IsTrue, MatchOption, None};
+ghost use Rattle.std.specs.Borrow.{sem};
+ghost use Rattle.fc_map.specs.Entries.{entries};
+ghost use Rattle.fc_map.specs.Lends.{IsPlaceIn};
+ghost use Rattle.fc_map.specs.Place.{ahead_of};
+ghost use Rattle.fc_map.specs.Stretches.{iter_stretch, iter_map_ref, iter_lends_first, iter_lends_last, IsFirstPair, IsFirstValue, IsLastPair, IsLastValue};
+ghost use Rattle.fc_map.specs.Writing.{whole};
+
+use super::super::BTreeMap;
+use super::{IterMut, ValuesMut};
+use fc_node::btree::path::Path;
+
+impl<K: Ord, V> BTreeMap<K, V> {
+    /// A writing walk over all pairs. Upstream: `BTreeMap::iter_mut`.
+    pub fn iter_mut(&mut self) -> IterMut<'_, K, V>
+        ensures same_map { (iter_map_ref result).ghost_name ≡ self.entry.ghost_name }
+        ensures start { iter_stretch result ≡ whole (entries self.old) }
+    {
+        let left = self.len;
+        let (front, back) = self.whole_ends();
+        IterMut {
+            map: self,
+            front,
+            back,
+            left,
+        }
+    }
+
+    /// A writing walk over all values. Upstream: `BTreeMap::values_mut`.
+    pub fn values_mut(&mut self) -> ValuesMut<'_, K, V>
+        ensures same_map { (iter_map_ref result).ghost_name ≡ self.entry.ghost_name }
+        ensures start { iter_stretch result ≡ whole (entries self.old) }
+    {
+        self.iter_mut()
+    }
+}
+
+impl<'a, K: Ord, V> IterMut<'a, K, V> {
+    /// How many values are still to be lent. Upstream: `IterMut::len`.
+    pub fn len(&self) -> usize
+        ensures { result ≡ (iter_stretch self.now).back - (iter_stretch self.now).front }
+    {
+        self.left
+    }
+
+    /// Whether all values were lent.
+    pub fn is_done(&self) -> bool
+        ensures { IsTrue result ↔ ((iter_stretch self.now).back ≤ (iter_stretch self.now).front) }
+    {
+        self.len() == 0
+    }
+
+    /// The first value that is still to be lent, lent for writing. Upstream: `IterMut::next`, which lends the key beside it:
+    /// `peek` shows that.
+    pub fn next(&mut self) -> Option<&mut V>
+        ensures* writes_back { sem 𝓛 (iter_lends_first K.row V.row self.entry result) }
+        ensures value { IsFirstValue (iter_stretch self.old) result }
+    {
+        match self.step() {
+            Some(place) => Some(self.map.value_mut(&place)),
+            None => None,
+        }
+    }
+
+    /// The last value that is still to be lent, lent for writing. Upstream: `IterMut::next_back`, which lends the key beside it:
+    /// `peek_back` shows that.
+    pub fn next_back(&mut self) -> Option<&mut V>
+        ensures* writes_back { sem 𝓛 (iter_lends_last K.row V.row self.entry result) }
+        ensures value { IsLastValue (iter_stretch self.old) result }
+    {
+        match self.step_back() {
+            Some(place) => Some(self.map.value_mut(&place)),
+            None => None,
+        }
+    }
+
+    // Goes on past the first pair, and answers its place.
+    fn step(&mut self) -> Option<Path>
+        ensures same_map { self.new.map ≡ self.old.map }
+        ensures none { result ≡ None → self.new ≡ self.old }
+        ensures step { MatchOption result ((iter_stretch self.old).back ≤ (iter_stretch self.old).front) (λ place. IsPlaceIn self.new.map.now place × (length (ahead_of self.new.map.now place) ≡ (iter_stretch self.old).front) × ((iter_stretch self.old).front < (iter_stretch self.old).back) × ((iter_stretch self.new).front ≡ (iter_stretch self.old).front + 1) × ((iter_stretch self.new).back ≡ (iter_stretch self.old).back)) }
+    {
+        if self.left == 0 {
+            return None;
+        }
+        let (place, next) = self.map.step_behind(&self.front);
+        self.front = next;
+        self.left -= 1;
+        Some(place)
+    }
+
+    // Goes back past the last pair, and answers its place.
+    fn step_back(&mut self) -> Option<Path>
+        ensures same_map { self.new.map ≡ self.old.map }
+        ensures none { result ≡ None → self.new ≡ self.old }
+        ensures step { MatchOption result ((iter_stretch self.old).back ≤ (iter_stretch self.old).front) (λ place. IsPlaceIn self.new.map.now place × (length (ahead_of self.new.map.now place) + 1 ≡ (iter_stretch self.old).back) × ((iter_stretch self.old).front < (iter_stretch self.old).back) × ((iter_stretch self.new).front ≡ (iter_stretch self.old).front) × ((iter_stretch self.new).back + 1 ≡ (iter_stretch self.old).back)) }
+    {
+        if self.left == 0 {
+            return None;
+        }
+        let (place, next) = self.map.step_ahead(&self.back);
+        self.back = next;
+        self.left -= 1;
+        Some(place)
+    }
+}
+
+impl<'a, K: Ord + Drop, V: Drop> IterMut<'a, K, V> {
+    /// The pair whose value `next` lends.
+    pub fn peek(&self) -> Option<(&K, &V)>
+        ensures { IsFirstPair (iter_stretch self.now) result }
+    {
+        if self.left == 0 {
+            return None;
+        }
+        let pair = self.map.pair_of(&self.map.step_behind(&self.front).0);
+        Some((&pair.0, &pair.1))
+    }
+
+    /// The pair whose value `next_back` lends.
+    pub fn peek_back(&self) -> Option<(&K, &V)>
+        ensures { IsLastPair (iter_stretch self.now) result }
+    {
+        if self.left == 0 {
+            return None;
+        }
+        let pair = self.map.pair_of(&self.map.step_ahead(&self.back).0);
+        Some((&pair.0, &pair.1))
+    }
+}

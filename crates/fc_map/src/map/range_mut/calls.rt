@@ -1,0 +1,117 @@
+//! The calls of writing walks over a range.
+ghost use Rattle.std.specs.Prelude.{◌≡◌, ◌+◌, ◌<◌, ◌≤◌, ◌↔◌, length, IsTrue, MatchOption, None};
+ghost use Rattle.std.specs.Borrow.{sem};
+ghost use Rattle.fc_base.specs.Ranges.{bound_now, is_range};
+ghost use Rattle.fc_map.specs.Entries.{entries};
+ghost use Rattle.fc_map.specs.Lends.{IsPlaceIn};
+ghost use Rattle.fc_map.specs.Place.{ahead_of};
+ghost use Rattle.fc_map.specs.Stretches.{stretch, range_map_ref, range_lends_first, range_lends_last, IsFirstPair, IsFirstValue, IsLastPair, IsLastValue};
+ghost use Rattle.fc_map.specs.Writing.{starting};
+
+use super::super::BTreeMap;
+use super::RangeMut;
+use fc_node::btree::path::Path;
+use std::ops::Bound;
+
+impl<K: Ord, V> BTreeMap<K, V> {
+    /// A writing walk over the pairs whose keys lie within both bounds. Two searches find its ends; its steps compare no key. The
+    /// bounds have to be a range, of which `is_range` is the test: upstream panics where they are none. Upstream:
+    /// `BTreeMap::range_mut`.
+    pub fn range_mut(&mut self, bounds: (Bound<&K>, Bound<&K>)) -> RangeMut<'_, K, V>
+        requires { IsTrue (is_range K.cmp (bound_now bounds.0) (bound_now bounds.1)) }
+        ensures same_map { (range_map_ref result).ghost_name ≡ self.entry.ghost_name }
+        ensures start { stretch result ≡ starting K.cmp (bound_now bounds.entry.0) (bound_now bounds.entry.1) (entries self.old) }
+    {
+        let (front, back) = self.range_ends(&bounds.0, &bounds.1);
+        RangeMut {
+            map: self,
+            front,
+            back,
+        }
+    }
+}
+
+impl<'a, K: Ord, V> RangeMut<'a, K, V> {
+    /// Whether all values were lent.
+    pub fn is_done(&self) -> bool
+        ensures { IsTrue result ↔ ((stretch self.now).back ≤ (stretch self.now).front) }
+    {
+        self.map.is_same_gap(&self.front, &self.back)
+    }
+
+    /// The first value that is still to be lent, lent for writing. Upstream: `RangeMut::next`, which lends the key beside it:
+    /// `peek` shows that.
+    pub fn next(&mut self) -> Option<&mut V>
+        ensures* writes_back { sem 𝓛 (range_lends_first K.row V.row self.entry result) }
+        ensures value { IsFirstValue (stretch self.old) result }
+    {
+        match self.step() {
+            Some(place) => Some(self.map.value_mut(&place)),
+            None => None,
+        }
+    }
+
+    /// The last value that is still to be lent, lent for writing. Upstream: `RangeMut::next_back`, which lends the key beside it:
+    /// `peek_back` shows that.
+    pub fn next_back(&mut self) -> Option<&mut V>
+        ensures* writes_back { sem 𝓛 (range_lends_last K.row V.row self.entry result) }
+        ensures value { IsLastValue (stretch self.old) result }
+    {
+        match self.step_back() {
+            Some(place) => Some(self.map.value_mut(&place)),
+            None => None,
+        }
+    }
+
+    // Goes on past the first pair, and answers its place.
+    fn step(&mut self) -> Option<Path>
+        ensures same_map { self.new.map ≡ self.old.map }
+        ensures none { result ≡ None → self.new ≡ self.old }
+        ensures step { MatchOption result ((stretch self.old).back ≤ (stretch self.old).front) (λ place. IsPlaceIn self.new.map.now place × (length (ahead_of self.new.map.now place) ≡ (stretch self.old).front) × ((stretch self.old).front < (stretch self.old).back) × ((stretch self.new).front ≡ (stretch self.old).front + 1) × ((stretch self.new).back ≡ (stretch self.old).back)) }
+    {
+        if self.is_done() {
+            return None;
+        }
+        let (place, next) = self.map.step_behind(&self.front);
+        self.front = next;
+        Some(place)
+    }
+
+    // Goes back past the last pair, and answers its place.
+    fn step_back(&mut self) -> Option<Path>
+        ensures same_map { self.new.map ≡ self.old.map }
+        ensures none { result ≡ None → self.new ≡ self.old }
+        ensures step { MatchOption result ((stretch self.old).back ≤ (stretch self.old).front) (λ place. IsPlaceIn self.new.map.now place × (length (ahead_of self.new.map.now place) + 1 ≡ (stretch self.old).back) × ((stretch self.old).front < (stretch self.old).back) × ((stretch self.new).front ≡ (stretch self.old).front) × ((stretch self.new).back + 1 ≡ (stretch self.old).back)) }
+    {
+        if self.is_done() {
+            return None;
+        }
+        let (place, next) = self.map.step_ahead(&self.back);
+        self.back = next;
+        Some(place)
+    }
+}
+
+impl<'a, K: Ord + Drop, V: Drop> RangeMut<'a, K, V> {
+    /// The pair whose value `next` lends.
+    pub fn peek(&self) -> Option<(&K, &V)>
+        ensures { IsFirstPair (stretch self.now) result }
+    {
+        if self.is_done() {
+            return None;
+        }
+        let pair = self.map.pair_of(&self.map.step_behind(&self.front).0);
+        Some((&pair.0, &pair.1))
+    }
+
+    /// The pair whose value `next_back` lends.
+    pub fn peek_back(&self) -> Option<(&K, &V)>
+        ensures { IsLastPair (stretch self.now) result }
+    {
+        if self.is_done() {
+            return None;
+        }
+        let pair = self.map.pair_of(&self.map.step_ahead(&self.back).0);
+        Some((&pair.0, &pair.1))
+    }
+}
