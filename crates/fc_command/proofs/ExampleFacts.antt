@@ -5,12 +5,15 @@ use Rattle.std.specs.Fmt.{digits}
 use Rattle.std.specs.List.{flat_map}
 use Rattle.std.specs.Ordering.{nat_cmp}
 use Rattle.fc_base.specs.declared.try_reserve_error.TryReserveError.TheVariants.{AllocError, CapacityOverflow}
+use Rattle.std.specs.declared.ops.Bound.TheVariants.{Included, Excluded, Unbounded}
 use Rattle.fc_command.specs.declared.command.world.Side.TheVariants.{First, Second}
-use Rattle.fc_command.specs.declared.command.world.Command.TheVariants.{Insert, Get, GetKeyValue, ContainsKey, Remove, Set, Entry, RemoveEntry, Len as CountPairs, Clear}
-use Rattle.fc_command.specs.declared.command.world.Reply.TheVariants.{Done, Flag, Value, Pair, Len, Refused}
+use Rattle.fc_command.specs.declared.command.world.End.TheVariants.{Front, Back}
+use Rattle.fc_command.specs.declared.command.world.Command.TheVariants.{Insert, Get, GetKeyValue, ContainsKey, Remove, Set, Entry, RemoveEntry, Len as CountPairs, Clear, Walk, Write}
+use Rattle.fc_command.specs.declared.command.world.Reply.TheVariants.{Done, Flag, Value, Pair, Len, Pairs, BadRange, Refused}
 use Rattle.fc_command.specs.Step.{answer}
 use Rattle.fc_command.specs.Lines.{lines_of}
-use Rattle.fc_command.specs.Grammar.{command_of, command_of_words, insert_of, get_of, pair_of, has_of, remove_of, set_of, entry_of, evict_of, len_of, clear_of, map_at, number_at}
+use Rattle.fc_command.specs.Grammar.{command_of, command_of_words, insert_of, get_of, pair_of, has_of, remove_of, set_of, entry_of, evict_of, len_of, clear_of, walk_of, write_of, map_at, number_at, bound_at}
+use Rattle.fc_map.specs.Writing.{wrote}
 use Rattle.fc_command.specs.Texts.{text_of}
 
 abbrev six : List ℕ
@@ -55,3 +58,35 @@ more_commands = refl
 more_texts : flat_map text_of (Pair None ∷ Pair (Some (1, 2)) ∷ Flag true ∷ Flag false ∷ Done ∷ Refused AllocError ∷ Refused CapacityOverflow ∷ []) ≡ codes "none\nsome 1 2\ntrue\nfalse\ndone\nrefused alloc\nrefused overflow\n"
 unfolding text_of digits
 more_texts = refl
+
+-- Walks: bounds, the letters of ends, and writes.
+walk_commands : map command_of (codes "walk a =4 =8 bffb" ∷ codes "walk b !5 !5 f" ∷ codes "walk a * =007 b" ∷ codes "write a =4 * f=9" ∷ codes "write b * * f=10 b=30" ∷ [])
+    ≡ Some (Walk First (Included 4) (Included 8) (Back ∷ Front ∷ Front ∷ Back ∷ [])) ∷ Some (Walk Second (Excluded 5) (Excluded 5) (Front ∷ [])) ∷ Some (Walk First Unbounded (Included 7) (Back ∷ []))
+    ∷ Some (Write First (Included 4) Unbounded ((Front, 9) ∷ [])) ∷ Some (Write Second Unbounded Unbounded ((Front, 10) ∷ (Back, 30) ∷ [])) ∷ []
+unfolding command_of command_of_words walk_of write_of map_at bound_at
+walk_commands = refl
+
+-- Another letter, a space in a write, no ends, a bare number as a bound, a bound without its number, no writes, a write without its
+-- number, another end, another map, a number that is too great, and words behind the letters.
+bad_walks : map command_of (codes "walk a * * fx" ∷ codes "write a * * f 1" ∷ codes "walk a * *" ∷ codes "walk a * * " ∷ codes "walk a 5 * f" ∷ codes "walk a = * f" ∷ codes "walk a =  * f" ∷ codes "walk a ** * f" ∷ codes "write a * *" ∷ codes "write a * * f=" ∷ codes "write a * * g=1" ∷ codes "write a * * f=1 " ∷ codes "walk s * * f" ∷ codes "walk a =18446744073709551616 * f" ∷ codes "walk a * * f b" ∷ [])
+    ≡ None ∷ None ∷ None ∷ None ∷ None ∷ None ∷ None ∷ None ∷ None ∷ None ∷ None ∷ None ∷ None ∷ None ∷ None ∷ []
+unfolding command_of command_of_words walk_of write_of map_at bound_at
+bad_walks = refl
+
+abbrev three : List (ℕ × ℕ)
+three = (3, 1) ∷ (5, 2) ∷ (8, 3) ∷ []
+
+-- Walks from both ends that meet, bounds that are no range or hold nothing, and writes that change the value alone.
+walk_answers : (answer nat_cmp (Walk First (Included 4) (Included 8) (Back ∷ Front ∷ Front ∷ Back ∷ [])) three [] ≡ record { m = three; o = []; reply = Pairs (Some (8, 3) ∷ Some (5, 2) ∷ None ∷ None ∷ []) })
+    × (answer nat_cmp (Walk First (Excluded 5) (Excluded 5) (Front ∷ [])) three [] ≡ record { m = three; o = []; reply = BadRange })
+    × (answer nat_cmp (Walk First (Included 5) (Excluded 5) (Front ∷ [])) three [] ≡ record { m = three; o = []; reply = Pairs (None ∷ []) })
+    × (answer nat_cmp (Walk First (Included 6) (Included 5) (Front ∷ [])) three [] ≡ record { m = three; o = []; reply = BadRange })
+    × (answer nat_cmp (Write First (Included 4) Unbounded ((Front, 9) ∷ [])) three [] ≡ record { m = (3, 1) ∷ (5, 9) ∷ (8, 3) ∷ []; o = []; reply = Len 1 })
+    × (answer nat_cmp (Write First Unbounded Unbounded ((Front, 10) ∷ (Back, 30) ∷ (Front, 20) ∷ (Back, 99) ∷ [])) three [] ≡ record { m = (3, 10) ∷ (5, 20) ∷ (8, 30) ∷ []; o = []; reply = Len 3 })
+    × (answer nat_cmp (Write First (Excluded 5) (Excluded 5) ((Front, 9) ∷ [])) three [] ≡ record { m = three; o = []; reply = BadRange })
+unfolding wrote
+walk_answers = (refl, refl, refl, refl, refl, refl, refl)
+
+walk_texts : flat_map text_of (Pairs (Some (8, 3) ∷ Some (5, 2) ∷ None ∷ None ∷ []) ∷ Pairs [] ∷ BadRange ∷ []) ≡ codes "list 8:3 5:2 - -\nlist\nbad range\n"
+unfolding text_of digits
+walk_texts = refl

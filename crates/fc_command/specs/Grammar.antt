@@ -1,13 +1,18 @@
 -- Which lines are commands.
-use Rattle.std.specs.Prelude.{ℕ, ◌^◌, ◌&&◌, Bool, List, [], ◌∷◌, length, nat_eq, nat_lt, nat_le, codes, Option, Some, None, if◌then◌else◌}
+use Rattle.std.specs.Prelude.{ℕ, ◌^◌, ◌==◌, ◌&&◌, Bool, List, [], ◌∷◌, length, nat_eq, nat_lt, nat_le, codes, Option, Some, None, if◌then◌else◌}
 use Rattle.std.specs.List.{list_all}
+use Rattle.std.specs.Option.{option_map}
 use Rattle.std.specs.Cmp.Lexicographic.{pointwise}
 use Rattle.std.specs.Char.{is_ascii_digit}
 use Rattle.std.specs.Str.Parse.{digits_value}
+use Rattle.std.specs.declared.ops.Bound.{Bound}
+use Rattle.std.specs.declared.ops.Bound.TheVariants.{Included, Excluded, Unbounded}
 use Rattle.fc_command.specs.declared.command.world.Side.{Side}
 use Rattle.fc_command.specs.declared.command.world.Side.TheVariants.{First, Second}
+use Rattle.fc_command.specs.declared.command.world.End.{End}
+use Rattle.fc_command.specs.declared.command.world.End.TheVariants.{Front, Back}
 use Rattle.fc_command.specs.declared.command.world.Command.{Command}
-use Rattle.fc_command.specs.declared.command.world.Command.TheVariants.{Insert, Get, GetKeyValue, ContainsKey, Remove, Set, Entry, RemoveEntry, Len, Clear}
+use Rattle.fc_command.specs.declared.command.world.Command.TheVariants.{Insert, Get, GetKeyValue, ContainsKey, Remove, Set, Entry, RemoveEntry, Len, Clear, Walk, Write}
 use Rattle.fc_command.specs.Lines.{words_of}
 
 -- What follows is asked only where something is there.
@@ -32,6 +37,33 @@ number_of word = if is_number word then Some (digits_value 10 word) else None
 abbrev pub map_of : List ℕ → Option Side
 map_of word = if is_text word (codes "a") then Some First else if is_text word (codes "b") then Some Second else None
 
+-- The bound that a word writes: `*` is 42, `=` is 61 and `!` is 33.
+abbrev pub bound_of : List ℕ → Option (Bound ℕ)
+bound_of [] = None
+bound_of (x ∷ digits) = if x == 61 then option_map Included (number_of digits)
+    else if x == 33 then option_map Excluded (number_of digits)
+    else if is_text (x ∷ digits) (codes "*") then Some Unbounded
+    else None
+
+-- The end that a letter names: `f` is 102 and `b` is 98.
+abbrev pub end_of : ℕ → Option End
+end_of x = if x == 102 then Some Front else if x == 98 then Some Back else None
+
+-- The end and the value that a word writes: a letter, then `=`, which is 61, and a number.
+abbrev pub one_write_of : List ℕ → Option (End × ℕ)
+one_write_of (letter ∷ x ∷ digits) = if x == 61 then (end_of letter >>= λ end. option_map (λ v. (end, v)) (number_of digits)) else None
+one_write_of (letter ∷ []) = None
+one_write_of [] = None
+
+-- What each of them is read as, if each is.
+abbrev pub all_read : {A B : Type 0} → (A → Option B) → List A → Option (List B)
+all_read f [] = Some []
+all_read f (x ∷ xs) = f x >>= λ y. option_map (λ ys. y ∷ ys) (all_read f xs)
+
+-- The same of one or more.
+abbrev pub some_read : {A B : Type 0} → (A → Option B) → List A → Option (List B)
+some_read f xs = if nat_lt 0 (length xs) then all_read f xs else None
+
 -- The first word, and the words after it.
 abbrev pub word_at : List (List ℕ) → Option (List ℕ × List (List ℕ))
 word_at [] = None
@@ -50,6 +82,13 @@ number_at words = do
   first ← word_at words
   n ← number_of first.0
   Some (n, first.1)
+
+-- The bound that the first word writes, and the words after it.
+unfoldable pub bound_at : List (List ℕ) → Option (Bound ℕ × List (List ℕ))
+bound_at words = do
+  first ← word_at words
+  bound ← bound_of first.0
+  Some (bound, first.1)
 
 -- The command, if no word is left.
 abbrev pub ends : Command ℕ ℕ → List (List ℕ) → Option (Command ℕ ℕ)
@@ -128,6 +167,25 @@ clear_of words = do
   m ← map_at words
   ends (Clear m.0) m.1
 
+-- The words after `walk` are a map, two bounds and one word of letters.
+unfoldable pub walk_of : List (List ℕ) → Option (Command ℕ ℕ)
+walk_of words = do
+  m ← map_at words
+  lo ← bound_at m.1
+  hi ← bound_at lo.1
+  letters ← word_at hi.1
+  list ← some_read end_of letters.0
+  ends (Walk m.0 lo.0 hi.0 list) letters.1
+
+-- The words after `write` are a map, two bounds and one or more writes.
+unfoldable pub write_of : List (List ℕ) → Option (Command ℕ ℕ)
+write_of words = do
+  m ← map_at words
+  lo ← bound_at m.1
+  hi ← bound_at lo.1
+  writes ← some_read one_write_of hi.1
+  Some (Write m.0 lo.0 hi.0 writes)
+
 -- The command that the words ask for, by the first of them.
 unfoldable pub command_of_words : List (List ℕ) → Option (Command ℕ ℕ)
 command_of_words words = do
@@ -142,6 +200,8 @@ command_of_words words = do
       else if is_text first.0 (codes "evict") then evict_of first.1
       else if is_text first.0 (codes "len") then len_of first.1
       else if is_text first.0 (codes "clear") then clear_of first.1
+      else if is_text first.0 (codes "walk") then walk_of first.1
+      else if is_text first.0 (codes "write") then write_of first.1
       else None
 
 -- The command that a line of at most 4096 bytes asks for, if it is one.

@@ -4,3 +4,5 @@ pub mod Session
 pub mod Spoken
 pub mod Step
 pub mod Texts
+pub mod Walks
+pub mod Writing

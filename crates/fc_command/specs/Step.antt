@@ -1,18 +1,21 @@
 -- What a command does to a world, and what it answers.
-use Rattle.std.specs.Prelude.{◌≡◌, ◌-◌, ◌^◌, List, [], ◌∷◌, ◌⊎◌, length, None, IsSome, is_some, if◌then◌else◌}
+use Rattle.std.specs.Prelude.{◌≡◌, ◌-◌, ◌^◌, ◌<◌, min, List, [], ◌∷◌, ◌⊎◌, length, None, IsSome, is_some, IsTrue, if◌then◌else◌}
 use Rattle.std.specs.declared.cmp.Ordering.{Ordering}
 use Rattle.fc_base.specs.declared.try_reserve_error.TryReserveError.{TryReserveError}
 use Rattle.fc_base.specs.Growth.{MayGrowRefuse}
 use Rattle.fc_base.specs.OneKey.{put, cut}
 use Rattle.fc_base.specs.Parts.{at, value_at}
+use Rattle.fc_base.specs.Ranges.{is_range, within}
 use Rattle.fc_map.specs.Entries.{Map, entries}
 use Rattle.fc_command.specs.declared.command.world.World.{World}
 use Rattle.fc_command.specs.declared.command.world.Side.{Side}
 use Rattle.fc_command.specs.declared.command.world.Side.TheVariants.{First, Second}
 use Rattle.fc_command.specs.declared.command.world.Command.{Command}
-use Rattle.fc_command.specs.declared.command.world.Command.TheVariants.{Insert, Get, GetKeyValue, ContainsKey, Remove, Set, Entry, RemoveEntry, Len as CountPairs, Clear}
+use Rattle.fc_command.specs.declared.command.world.Command.TheVariants.{Insert, Get, GetKeyValue, ContainsKey, Remove, Set, Entry, RemoveEntry, Len as CountPairs, Clear, Walk, Write}
 use Rattle.fc_command.specs.declared.command.world.Reply.{Reply}
-use Rattle.fc_command.specs.declared.command.world.Reply.TheVariants.{Done, Flag, Value, Pair, Len, Refused}
+use Rattle.fc_command.specs.declared.command.world.Reply.TheVariants.{Done, Flag, Value, Pair, Len, Pairs, BadRange, Refused}
+use Rattle.fc_command.specs.Walks.{walked}
+use Rattle.fc_command.specs.Writing.{rewritten}
 
 -- A new world has no pairs.
 abbrev pub IsNew : {K V : Type 0} → World K V → Type 0
@@ -30,6 +33,8 @@ side_of (Entry side k v w) = side
 side_of (RemoveEntry side k) = side
 side_of (CountPairs side) = side
 side_of (Clear side) = side
+side_of (Walk side lo hi ends) = side
+side_of (Write side lo hi writes) = side
 
 -- The map that a side names.
 abbrev pub named : {K V : Type 0} → Side → World K V → Map K V
@@ -60,9 +65,15 @@ module _ {K V : Type 0} (cmp : K → K → Ordering) where
   answer (RemoveEntry side k) m o = record { m = cut cmp m k; o = o; reply = Pair (at cmp m k) }
   answer (CountPairs side) m o = record { m = m; o = o; reply = Len (length m) }
   answer (Clear side) m o = record { m = []; o = o; reply = Done }
+  answer (Walk side lo hi ends) m o = record { m = m; o = o; reply = if is_range cmp lo hi then Pairs (walked (within cmp lo hi m) ends) else BadRange }
+  answer (Write side lo hi writes) m o = record {
+    m = if is_range cmp lo hi then rewritten cmp lo hi m writes else m;
+    o = o;
+    reply = if is_range cmp lo hi then Len (min (length writes) (length (within cmp lo hi m))) else BadRange;
+  }
 
   -- Whether a command may be refused, and by which error: an insertion at a new key, where the map is empty or has enough pairs to
-  -- fill a leaf, and a copy.
+  -- fill a leaf, a copy, and the room for copies.
   abbrev pub MayRefuse : Command K V → List (K × V) → List (K × V) → TryReserveError → Type 0
   MayRefuse (Insert side k v) m o e = (at cmp m k ≡ None) × MayGrowRefuse (length m) e
   MayRefuse (Get side k) m o e = IsSome (value_at cmp m k)
@@ -74,6 +85,8 @@ module _ {K V : Type 0} (cmp : K → K → Ordering) where
   MayRefuse (RemoveEntry side k) m o e = ⊥
   MayRefuse (CountPairs side) m o e = ⊥
   MayRefuse (Clear side) m o e = ⊥
+  MayRefuse (Walk side lo hi ends) m o e = IsTrue (is_range cmp lo hi) × (0 < length ends)
+  MayRefuse (Write side lo hi writes) m o e = ⊥
 
   -- Whether a command is always refused: an insertion of a new key into a map of the greatest length.
   abbrev pub MustRefuse : Command K V → List (K × V) → List (K × V) → Type 0
@@ -87,6 +100,8 @@ module _ {K V : Type 0} (cmp : K → K → Ordering) where
   MustRefuse (RemoveEntry side k) m o = ⊥
   MustRefuse (CountPairs side) m o = ⊥
   MustRefuse (Clear side) m o = ⊥
+  MustRefuse (Walk side lo hi ends) m o = ⊥
+  MustRefuse (Write side lo hi writes) m o = ⊥
 
   -- A command on the named map m and the other map o is answered by the table, or it is refused and changes nothing.
   pub data StepOn (c : Command K V) (m o : Map K V) (r : Reply K V) (m' o' : Map K V) : Type 0 where

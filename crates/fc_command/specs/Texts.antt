@@ -1,10 +1,11 @@
 -- Replies as text.
 use Rattle.std.specs.Prelude.{ℕ, List, [], ◌∷◌, ◌++◌, codes, Bool, true, false, Option, Some, None}
+use Rattle.std.specs.List.{flat_map}
 use Rattle.std.specs.Fmt.{decimal}
 use Rattle.fc_base.specs.declared.try_reserve_error.TryReserveError.{TryReserveError}
 use Rattle.fc_base.specs.declared.try_reserve_error.TryReserveError.TheVariants.{AllocError, CapacityOverflow}
 use Rattle.fc_command.specs.declared.command.world.Reply.{Reply}
-use Rattle.fc_command.specs.declared.command.world.Reply.TheVariants.{Done, Flag, Key, Value, Pair, Len, Refused}
+use Rattle.fc_command.specs.declared.command.world.Reply.TheVariants.{Done, Flag, Key, Value, Pair, Len, Pairs, BadRange, Refused}
 
 -- A number that may be missing.
 abbrev pub option_text : Option ℕ → List ℕ
@@ -15,6 +16,11 @@ option_text (Some n) = codes "some " ++ decimal n
 abbrev pub pair_text : Option (ℕ × ℕ) → List ℕ
 pair_text None = codes "none"
 pair_text (Some (k, v)) = codes "some " ++ decimal k ++ codes " " ++ decimal v
+
+-- What a step of a walk gave.
+abbrev pub step_text : Option (ℕ × ℕ) → List ℕ
+step_text None = codes " -"
+step_text (Some (k, v)) = codes " " ++ decimal k ++ codes ":" ++ decimal v
 
 -- A yes or no.
 abbrev pub flag_text : Bool → List ℕ
@@ -34,6 +40,8 @@ words_of_reply (Key k) = option_text k
 words_of_reply (Value v) = option_text v
 words_of_reply (Pair p) = pair_text p
 words_of_reply (Len n) = decimal n
+words_of_reply (Pairs steps) = codes "list" ++ flat_map step_text steps
+words_of_reply BadRange = codes "bad range"
 words_of_reply (Refused e) = refusal_text e
 
 -- The line that is written for a reply.

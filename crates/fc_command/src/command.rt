@@ -1,5 +1,6 @@
 //! Commands over a world of ordered maps, their lines and the text of their replies.
 
+mod items;
 mod lines;
 mod replies;
 mod session;
@@ -7,5 +8,6 @@ mod session;
 mod tests;
 mod world;
 
+pub use items::Items;
 pub use session::{ServeEnd, ServeError, ending, serve};
-pub use world::{Command, Reply, Side, World};
+pub use world::{Command, End, Reply, Side, World};

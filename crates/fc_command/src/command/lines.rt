@@ -1,5 +1,5 @@
 //! Lines as commands.
-ghost use Rattle.std.specs.Prelude.{◌≡◌, ◌^◌, ◌∷◌, ◌==◌, position, nat_lt, Some, None, IsTrue, if◌then◌else◌};
+ghost use Rattle.std.specs.Prelude.{◌≡◌, ◌^◌, ◌∷◌, ◌==◌, IfOk, position, nat_lt, Some, None, IsTrue, vec_items, if◌then◌else◌};
 ghost use Rattle.std.specs.List.{list_all};
 ghost use Rattle.std.specs.Char.{is_ascii_digit};
 ghost use Rattle.std.specs.Str.Parse.{digits_value};
@@ -9,9 +9,14 @@ ghost use Rattle.fc_command.specs.Grammar.{
   command_of,
   number_of,
   map_of,
+  bound_of,
+  end_of,
+  one_write_of,
+  some_read,
   word_at,
   map_at,
   number_at,
+  bound_at,
   ends,
   insert_of,
   get_of,
@@ -23,53 +28,70 @@ ghost use Rattle.fc_command.specs.Grammar.{
   evict_of,
   len_of,
   clear_of,
+  walk_of,
+  write_of,
   command_of_words,
 };
 
-use crate::command::world::{Command, Side};
+use crate::command::items::Items;
+use crate::command::world::{Command, End, Side};
+use std::alloc::{AllocError, Global};
+use std::ops::Bound;
 
 /// The most bytes that a line has, without its line feed.
 pub const MAX_LINE: usize = 4096;
 
-/// The command that a line asks for.
+/// The command that a line asks for, if it is one.
+///
+/// # Errors
+/// `AllocError` where room for a list in the command was refused.
 #[tactic(auto, unfolding(crate::specs::Grammar::command_of))]
-pub fn command_in(line: &[u8]) -> Option<Command<u64, u64>>
-    ensures { result ≡ command_of line.now }
+pub fn command_in(alloc: Global, line: &[u8]) -> Result<Option<Command<u64, u64>>, AllocError>
+    ensures { IfOk result (λ command. command ≡ command_of line.now) }
 {
     if line.len() <= MAX_LINE {
-        command_in_words(Some(line))
+        command_in_words(alloc, Some(line))
     } else {
-        None
+        Ok(None)
     }
 }
 
 #[tactic(auto, unfolding(crate::specs::Grammar::command_of_words))]
-fn command_in_words(words: Option<&[u8]>) -> Option<Command<u64, u64>>
-    ensures { result ≡ command_of_words (words_left words.entry) }
+fn command_in_words(
+    alloc: Global,
+    words: Option<&[u8]>,
+) -> Result<Option<Command<u64, u64>>, AllocError>
+    ensures { IfOk result (λ command. command ≡ command_of_words (words_left words.entry)) }
 {
-    let (word, words) = next_word(words)?;
+    let Some((word, words)) = next_word(words) else {
+        return Ok(None)
+    };
     if word == b"insert".as_slice() {
-        insert_in(words)
+        Ok(insert_in(words))
     } else if word == b"get".as_slice() {
-        get_in(words)
+        Ok(get_in(words))
     } else if word == b"pair".as_slice() {
-        pair_in(words)
+        Ok(pair_in(words))
     } else if word == b"has".as_slice() {
-        has_in(words)
+        Ok(has_in(words))
     } else if word == b"remove".as_slice() {
-        remove_in(words)
+        Ok(remove_in(words))
     } else if word == b"set".as_slice() {
-        set_in(words)
+        Ok(set_in(words))
     } else if word == b"entry".as_slice() {
-        entry_in(words)
+        Ok(entry_in(words))
     } else if word == b"evict".as_slice() {
-        evict_in(words)
+        Ok(evict_in(words))
     } else if word == b"len".as_slice() {
-        len_in(words)
+        Ok(len_in(words))
     } else if word == b"clear".as_slice() {
-        clear_in(words)
+        Ok(clear_in(words))
+    } else if word == b"walk".as_slice() {
+        walk_in(alloc, words)
+    } else if word == b"write".as_slice() {
+        write_in(alloc, words)
     } else {
-        None
+        Ok(None)
     }
 }
 
@@ -165,6 +187,85 @@ fn clear_in(words: Option<&[u8]>) -> Option<Command<u64, u64>>
     ending(Command::Clear(side), words)
 }
 
+#[tactic(auto, unfolding(crate::specs::Grammar::walk_of))]
+fn walk_in(alloc: Global, words: Option<&[u8]>) -> Result<Option<Command<u64, u64>>, AllocError>
+    ensures { IfOk result (λ command. command ≡ walk_of (words_left words.entry)) }
+{
+    let Some((side, words)) = next_map(words) else {
+        return Ok(None)
+    };
+    let Some((lo, words)) = next_bound(words) else {
+        return Ok(None)
+    };
+    let Some((hi, words)) = next_bound(words) else {
+        return Ok(None)
+    };
+    let Some((letters, words)) = next_word(words) else {
+        return Ok(None)
+    };
+    let Some(list) = ends_in(alloc, letters)? else {
+        return Ok(None)
+    };
+    Ok(ending(Command::Walk(side, lo, hi, Items::from(list)), words))
+}
+
+#[tactic(auto, unfolding(crate::specs::Grammar::write_of))]
+fn write_in(alloc: Global, words: Option<&[u8]>) -> Result<Option<Command<u64, u64>>, AllocError>
+    ensures { IfOk result (λ command. command ≡ write_of (words_left words.entry)) }
+{
+    let Some((side, words)) = next_map(words) else {
+        return Ok(None)
+    };
+    let Some((lo, words)) = next_bound(words) else {
+        return Ok(None)
+    };
+    let Some((hi, words)) = next_bound(words) else {
+        return Ok(None)
+    };
+    let Some(list) = writes_in(alloc, words)? else {
+        return Ok(None)
+    };
+    Ok(Some(Command::Write(side, lo, hi, Items::from(list))))
+}
+
+// The ends that the letters of a word name.
+fn ends_in(alloc: Global, letters: &[u8]) -> Result<Option<Vec<End>>, AllocError>
+    ensures { IfOk result (λ list. option_map vec_items list ≡ some_read end_of letters.now) }
+{
+    if letters.is_empty() {
+        return Ok(None);
+    }
+    let mut list = Vec::with_capacity(alloc, letters.len())?;
+    for letter in letters {
+        let Some(end) = end_in(*letter) else {
+            return Ok(None)
+        };
+        list.push(end)?;
+    }
+    Ok(Some(list))
+}
+
+// The writes of all words that are left.
+fn writes_in(alloc: Global, words: Option<&[u8]>) -> Result<Option<Vec<(End, u64)>>, AllocError>
+    ensures { IfOk result (λ list. option_map vec_items list ≡ some_read one_write_of (words_left words.entry)) }
+{
+    let mut list = Vec::new(alloc);
+    let mut words = words;
+    while let Some(line) = words {
+        let (word, rest) = first_word(line);
+        let Some(write) = one_write_in(word) else {
+            return Ok(None)
+        };
+        list.push(write)?;
+        words = rest;
+    }
+    if list.is_empty() {
+        Ok(None)
+    } else {
+        Ok(Some(list))
+    }
+}
+
 // The command, if no word is left.
 fn ending(command: Command<u64, u64>, words: Option<&[u8]>) -> Option<Command<u64, u64>>
     ensures { result ≡ ends command (words_left words.entry) }
@@ -191,6 +292,45 @@ fn next_number(words: Option<&[u8]>) -> Option<(u64, Option<&[u8]>)>
     let (word, words) = next_word(words)?;
     let n = number_in(word)?;
     Some((n, words))
+}
+
+#[tactic(auto, unfolding(crate::specs::Grammar::bound_at))]
+fn next_bound(words: Option<&[u8]>) -> Option<(Bound<u64>, Option<&[u8]>)>
+    ensures { option_map (λ x. (x.0, words_left x.1)) result ≡ bound_at (words_left words.entry) }
+{
+    let (word, words) = next_word(words)?;
+    let bound = bound_in(word)?;
+    Some((bound, words))
+}
+
+fn bound_in(word: &[u8]) -> Option<Bound<u64>>
+    ensures { result ≡ bound_of word.now }
+{
+    match word {
+        [b'*'] => Some(Bound::Unbounded),
+        [b'=', digits @ ..] => Some(Bound::Included(number_in(digits)?)),
+        [b'!', digits @ ..] => Some(Bound::Excluded(number_in(digits)?)),
+        _ => None,
+    }
+}
+
+fn one_write_in(word: &[u8]) -> Option<(End, u64)>
+    ensures { result ≡ one_write_of word.now }
+{
+    match word {
+        [letter, b'=', digits @ ..] => Some((end_in(*letter)?, number_in(digits)?)),
+        _ => None,
+    }
+}
+
+fn end_in(letter: u8) -> Option<End>
+    ensures { result ≡ end_of letter }
+{
+    match letter {
+        b'f' => Some(End::Front),
+        b'b' => Some(End::Back),
+        _ => None,
+    }
 }
 
 fn map_in(word: &[u8]) -> Option<Side>

@@ -1,6 +1,7 @@
 //! Replies as text.
-ghost use Rattle.std.specs.Prelude.{◌≡◌, ◌++◌, OnOk, string_bytes};
-ghost use Rattle.fc_command.specs.Texts.{text_of, fault_text};
+ghost use Rattle.std.specs.Prelude.{◌≡◌, ◌++◌, OnOk, codes, string_bytes};
+ghost use Rattle.std.specs.List.{flat_map};
+ghost use Rattle.fc_command.specs.Texts.{text_of, step_text, fault_text};
 
 use crate::command::world::Reply;
 use fc_base::TryReserveError;
@@ -23,9 +24,25 @@ pub fn write_reply(text: &mut String, reply: &Reply<u64, u64>) -> Result<(), All
         Reply::Key(Some(n)) | Reply::Value(Some(n)) => write!(text, "some {n}\n"),
         Reply::Pair(Some((key, value))) => write!(text, "some {key} {value}\n"),
         Reply::Len(n) => write!(text, "{n}\n"),
+        Reply::Pairs(steps) => write_steps(text, steps.as_slice()),
+        Reply::BadRange => write!(text, "bad range\n"),
         Reply::Refused(TryReserveError::AllocError) => write!(text, "refused alloc\n"),
         Reply::Refused(TryReserveError::CapacityOverflow) => { write!(text, "refused overflow\n") }
     }
+}
+
+// Appends what each step of a walk gave.
+fn write_steps(text: &mut String, steps: &[Option<(u64, u64)>]) -> Result<(), AllocError>
+    ensures { OnOk result (string_bytes text.new ≡ string_bytes text.old ++ codes "list" ++ flat_map step_text steps.now ++ codes "\n") }
+{
+    write!(text, "list")?;
+    for step in steps {
+        match step {
+            Some((key, value)) => write!(text, " {key}:{value}")?,
+            None => write!(text, " -")?,
+        }
+    }
+    write!(text, "\n")
 }
 
 /// Appends the line that is written for line `n`, which is not a command.

@@ -35,9 +35,11 @@ pub enum ServeError {
 // How many bytes one read asks for.
 pub const PIECE: usize = 8192;
 
-// What is kept between two reads: the world, the line so far, how many lines were whole, and the text of the last reply.
+// What is kept between two reads: the world, the line so far, how many lines were whole, and the text of the last reply. The lists
+// of commands are taken from `alloc`.
 #[derive(Drop)]
 struct Session {
+    alloc: Global,
     world: World<u64, u64>,
     line: Vec<u8>,
     number: u64,
@@ -52,7 +54,7 @@ struct Session {
 ///
 /// # Errors
 /// The replies of complete lines before the error are written. `Memory`: room for a line, which is taken before the first read,
-/// or for a reply's text was refused. `Read`: a read failed, was interrupted, or the source hadn't ended after `u64::MAX` reads;
+/// for the lists of a command or for a reply's text was refused. `Read`: a read failed, was interrupted, or the source hadn't ended after `u64::MAX` reads;
 /// a line that has not ended is not run. `Write`: a write failed, was interrupted or took no byte, or the flush failed.
 pub fn serve<R: Read, W: Write>(
     alloc: Global,
@@ -68,6 +70,7 @@ pub fn serve<R: Read, W: Write>(
         Err(_) => return Err(ServeError::Memory(TryReserveError::AllocError)),
     };
     let mut session = Session {
+        alloc,
         world,
         line,
         number: 0,
@@ -136,7 +139,11 @@ impl Session {
             → (more : List ℕ) × Appends (W.contents out.old) (W.contents out.new) more
             × LineRun self.old self.new front said more result }
     {
-        match command_in(&self.line) {
+        let command = match command_in(self.alloc, &self.line) {
+            Ok(command) => command,
+            Err(_) => return Err(ServeError::Memory(TryReserveError::AllocError)),
+        };
+        match command {
             None => refuse(&mut self.text, out, self.number),
             Some(command) => {
                 let reply = self.world.step(command);

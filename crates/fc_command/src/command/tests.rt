@@ -1,4 +1,6 @@
 //! `World` and `serve` over memory.
+mod walks;
+
 use super::*;
 use crate::command::session::PIECE;
 use fc_base::TryReserveError;

@@ -1,17 +1,24 @@
 //! A world of maps, and the commands over it.
-ghost use Rattle.std.specs.Prelude.{◌≡◌, List, [], IfOk, OnErr, IfErr, IsSome, is_some, if◌then◌else◌};
+ghost use Rattle.std.specs.Prelude.{◌≡◌, ◌<◌, ◌↔◌, min, List, [], length, IfOk, OnErr, IfErr, IsSome, is_some, IsTrue, if◌then◌else◌};
 ghost use Rattle.fc_base.specs.declared.try_reserve_error.TryReserveError.TheVariants.{AllocError};
 ghost use Rattle.fc_base.specs.Copies.{IsExact};
 ghost use Rattle.fc_base.specs.OneKey.{put, cut};
 ghost use Rattle.fc_base.specs.Parts.{at, value_at};
-ghost use Rattle.fc_map.specs.Entries.{Map, entries};
+ghost use Rattle.fc_base.specs.Ranges.{bound_now, is_range, within};
+ghost use Rattle.fc_map.specs.Writing.{wrote};
+ghost use Rattle.fc_map.specs.Stretches.{range_map_ref, stretch};
+ghost use Rattle.fc_command.specs.Writing.{flagged, rewritten};
+ghost use Rattle.fc_map.specs.Entries.{Map, entries, now_pair};
 ghost use Rattle.fc_command.specs.declared.command.world.Reply.TheVariants.{Value, Pair};
+ghost use Rattle.fc_command.specs.Walks.{given, left, walked};
 ghost use Rattle.fc_command.specs.Step.{IsNew, Step, StepOn, Runs, IsCopied, side_of};
 
+use crate::command::items::Items;
 use fc_base::{TryClone, TryReserveError};
-use fc_map::map::{BTreeMap, Entry};
+use fc_map::map::{BTreeMap, Entry, Range, RangeMut, is_range};
 use std::alloc::Global;
 use std::mem;
+use std::ops::Bound;
 
 /// Two maps, `a` and `b`, that commands work on.
 #[derive(Drop)]
@@ -30,6 +37,15 @@ pub enum Side {
     First,
     /// The map `b`.
     Second,
+}
+
+/// An end of a walk.
+#[derive(Clone, Copy, PartialEq, Eq, Debug)]
+pub enum End {
+    /// Where `next` gives.
+    Front,
+    /// Where `next_back` gives.
+    Back,
 }
 
 /// A command on the map that its side names.
@@ -56,6 +72,12 @@ pub enum Command<K, V> {
     Len(Side),
     /// `clear`; replies `Done`.
     Clear(Side),
+    /// A `range` between the two bounds, and one `next` or `next_back` for each end; replies `Pairs`, copies, or `BadRange` where the
+    /// bounds are no range. Where there is an end, room for the copies or one of them may be refused.
+    Walk(Side, Bound<K>, Bound<K>, Items<End>),
+    /// A `range_mut` between the two bounds, which writes each value at the pair that its end lends, or drops it where no pair is
+    /// left; replies `Len`, how many were written, or `BadRange` where the bounds are no range.
+    Write(Side, Bound<K>, Bound<K>, Items<(End, V)>),
 }
 
 /// What a command answers.
@@ -73,6 +95,10 @@ pub enum Reply<K, V> {
     Value(Option<V>),
     /// A pair, if there was one.
     Pair(Option<(K, V)>),
+    /// What each step of a walk gave.
+    Pairs(Items<Option<(K, V)>>),
+    /// The bounds are no range.
+    BadRange,
     /// The command was refused, and the world is as before.
     Refused(TryReserveError),
 }
@@ -98,8 +124,8 @@ impl<K: Ord + TryClone, V: TryClone> World<K, V> {
         ensures { Step K.cmp self.old command result self.new }
     {
         match command.side() {
-            Side::First => step_on(&mut self.a, command),
-            Side::Second => step_on(&mut self.b, command),
+            Side::First => step_on(self.alloc, &mut self.a, command),
+            Side::Second => step_on(self.alloc, &mut self.b, command),
         }
     }
 
@@ -141,12 +167,15 @@ impl<K, V> Command<K, V> {
             Command::RemoveEntry(side, _) => *side,
             Command::Len(side) => *side,
             Command::Clear(side) => *side,
+            Command::Walk(side, _, _, _) => *side,
+            Command::Write(side, _, _, _) => *side,
         }
     }
 }
 
 // Runs a command on the map that it names. The other map, whatever it is, stays.
 fn step_on<K: Ord + TryClone, V: TryClone>(
+    alloc: Global,
     map: &mut BTreeMap<K, V>,
     command: Command<K, V>,
 ) -> Reply<K, V>
@@ -171,6 +200,134 @@ fn step_on<K: Ord + TryClone, V: TryClone>(
             map.clear();
             Reply::Done
         }
+        Command::Walk(_, lo, hi, ends) => walk(alloc, map, lo, hi, ends),
+        Command::Write(_, lo, hi, writes) => write(map, lo, hi, writes),
+    }
+}
+
+// Copies of what the range between the bounds gives, one for each end.
+fn walk<K: Ord + TryClone, V: TryClone>(
+    alloc: Global,
+    map: &BTreeMap<K, V>,
+    lo: Bound<K>,
+    hi: Bound<K>,
+    ends: Items<End>,
+) -> Reply<K, V>
+    requires copied { K.can_clone × V.can_clone }
+    requires same { IsExact K.same × IsExact V.same }
+    ensures { (o : Map K V) (side : Side) → StepOn K.cmp (Command.Walk side lo hi ends) map.now o result map.now o }
+{
+    let bounds = (lo.as_ref(), hi.as_ref());
+    if !is_range(&bounds.0, &bounds.1) {
+        return Reply::BadRange;
+    }
+    match copies(alloc, map.range(bounds), ends.as_slice()) {
+        Ok(steps) => Reply::Pairs(Items::from(steps)),
+        Err(e) => Reply::Refused(e),
+    }
+}
+
+// A copy of the pair at each end in turn.
+fn copies<K: Ord + TryClone, V: TryClone>(
+    alloc: Global,
+    pairs: Range<'_, K, V>,
+    ends: &[End],
+) -> Result<Vec<Option<(K, V)>>, TryReserveError>
+    requires copied { K.can_clone × V.can_clone }
+    requires same { IsExact K.same × IsExact V.same }
+    ensures steps { IfOk result (λ steps. steps.items ≡ walked pairs.entry ends.now) }
+    ensures refused { IfErr result (λ _. 0 < length ends.now) }
+{
+    let mut steps = Vec::with_capacity(alloc, ends.len())?;
+    let mut pairs = pairs;
+    for end in ends {
+        let step = copy_step(step_at(&mut pairs, *end))?;
+        steps.push(step).unwrap();
+    }
+    Ok(steps)
+}
+
+// The pair at the end, which is then given.
+fn step_at<'a, K: Ord, V>(pairs: &mut Range<'a, K, V>, end: End) -> Option<(&'a K, &'a V)>
+    ensures gives { now_pair result ≡ given end pairs.old }
+    ensures leaves { pairs.new ≡ left end pairs.old }
+{
+    match end {
+        End::Front => pairs.next(),
+        End::Back => pairs.next_back(),
+    }
+}
+
+// A copy of a pair, if there is one.
+fn copy_step<K: TryClone, V: TryClone>(
+    pair: Option<(&K, &V)>,
+) -> Result<Option<(K, V)>, TryReserveError>
+    requires copied { K.can_clone × V.can_clone }
+    requires same { IsExact K.same × IsExact V.same }
+    ensures { IfOk result (λ copy. copy ≡ now_pair pair.entry) }
+{
+    match pair {
+        Some((key, value)) => Ok(Some(copy_pair(key, value)?)),
+        None => Ok(None),
+    }
+}
+
+// Writes each value at the pair that its end lends, between the bounds.
+fn write<K: Ord + TryClone, V: TryClone>(
+    map: &mut BTreeMap<K, V>,
+    lo: Bound<K>,
+    hi: Bound<K>,
+    writes: Items<(End, V)>,
+) -> Reply<K, V>
+    ensures { (o : Map K V) (side : Side) → StepOn K.cmp (Command.Write side lo hi writes) map.old o result map.new o }
+{
+    let bounds = (lo.as_ref(), hi.as_ref());
+    if is_range(&bounds.0, &bounds.1) {
+        Reply::Len(write_all(map, bounds, writes.into_vec()))
+    } else {
+        Reply::BadRange
+    }
+}
+
+// Answers how many values were written.
+fn write_all<K: Ord, V: Drop>(
+    map: &mut BTreeMap<K, V>,
+    bounds: (Bound<&K>, Bound<&K>),
+    writes: Vec<(End, V)>,
+) -> usize
+    requires { IsTrue (is_range K.cmp (bound_now bounds.0) (bound_now bounds.1)) }
+    ensures written { entries map.new ≡ rewritten K.cmp (bound_now bounds.entry.0) (bound_now bounds.entry.1) (entries map.old) writes.items }
+    ensures count { result ≡ min (length writes.items) (length (within K.cmp (bound_now bounds.entry.0) (bound_now bounds.entry.1) (entries map.old))) }
+{
+    let mut walk = map.range_mut(bounds);
+    let mut count: usize = 0;
+    for (end, value) in writes {
+        count += usize::from(write_at(&mut walk, end, value));
+    }
+    count
+}
+
+// Writes the value at the pair that the end lends, if there is one.
+fn write_at<K: Ord, V: Drop>(walk: &mut RangeMut<'_, K, V>, end: End, value: V) -> bool
+    ensures lent { IsTrue result ↔ ((stretch walk.old).front < (stretch walk.old).back) }
+    ensures written { stretch walk.new ≡ wrote (stretch walk.old) (flagged (end, value)) }
+    ensures same_map { (range_map_ref walk.new).ghost_name ≡ (range_map_ref walk.old).ghost_name }
+{
+    match end {
+        End::Front => match walk.next() {
+            Some(held) => {
+                *held = value;
+                true
+            }
+            None => false,
+        },
+        End::Back => match walk.next_back() {
+            Some(held) => {
+                *held = value;
+                true
+            }
+            None => false,
+        },
     }
 }
 

@@ -19,3 +19,10 @@ returns-in-GetKeyValue g c o = rw c.in-GetKeyValue.is (step_copied g.K.Ord.cmp _
 -- what an entry did, on whichever side
 pub returns-in-Entry : goal.returns-in-Entry
 returns-in-Entry g c o = rw c.in-Entry.is (c.entry.ensures o c.in-Entry.field-0)
+
+-- what a walk gave or wrote, on whichever side
+pub returns-in-Walk : goal.returns-in-Walk
+returns-in-Walk g c o = rw c.in-Walk.is (c.walk.ensures o c.in-Walk.field-0)
+
+pub returns-in-Write : goal.returns-in-Write
+returns-in-Write g c o = rw c.in-Write.is (c.write.ensures o c.in-Write.field-0)

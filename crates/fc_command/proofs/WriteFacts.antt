@@ -1,0 +1,73 @@
+-- One write of a walk that writes.
+use Rattle.std.proofs.Common.{◌≡◌, ℕ, ◌+◌, ◌-◌, ◌<◌, ◌≤◌, List, [], ◌∷◌, length, suc, Bool, true, false, not, cond, refl, ap, ◌∙◌, inl, inr, arith}
+use Rattle.std.specs.Prelude.{nat_lt, ◌&&◌, filter, min, IsTrue, ◌↔◌}
+use Rattle.std.specs.Int.{from_bool}
+use Rattle.std.specs.Cmp.{IsTotalOrder}
+use Rattle.std.specs.declared.cmp.Ordering.{Ordering}
+use Rattle.std.specs.declared.ops.Bound.{Bound}
+use Rattle.std.proofs.lemmas.Bool.{cases_lt}
+use Rattle.std.proofs.lemmas.List.Filters.{length-filter_both}
+use Rattle.std.proofs.lemmas.Bool.Decides.{nat_tests}
+use Rattle.fc_base.specs.Ranges.{starts, stops, is_range, within}
+use Rattle.fc_map.proofs.Within.{not_past}
+use Rattle.fc_map.specs.Writing.{starting, Stretch, wrote, wrote_all, wrote_first, wrote_last}
+
+module _ {K V : Type 0} where
+  pub wrote_front : (t : Stretch K V) (v : V) → t.front < t.back → wrote t (true, v) ≡ wrote_first t v
+  unfolding wrote
+  wrote_front t v l = let p : nat_lt t.front t.back ≡ true = grind (arith, nat_tests) in rw p refl
+
+  pub wrote_back : (t : Stretch K V) (v : V) → t.front < t.back → wrote t (false, v) ≡ wrote_last t v
+  unfolding wrote
+  wrote_back t v l = let p : nat_lt t.front t.back ≡ true = grind (arith, nat_tests) in rw p refl
+
+  pub wrote_none : (t : Stretch K V) (w : Bool × V) → t.back ≤ t.front → wrote t w ≡ t
+  unfolding wrote
+  wrote_none t w l = let p : nat_lt t.front t.back ≡ false = grind (arith, nat_tests) in rw p refl
+
+  -- the other writes give what all gave
+  pub wrote_more : (t n : Stretch K V) (w : Bool × V) (ws : List (Bool × V)) (s : List (K × V)) → n ≡ wrote t w → (wrote_all t (w ∷ ws)).list ≡ s → (wrote_all n ws).list ≡ s
+  wrote_more t n w ws s e h = rw e h
+
+  -- one place less is left, if there was one
+  left_wrote : (t : Stretch K V) (w : Bool × V) → (wrote t w).back - (wrote t w).front ≡ (t.back - t.front) - 1
+  left_wrote t (true, v) = elim (cases_lt t.front t.back) [
+    | inl l ↦ ap (λ t. t.back - t.front) (wrote_front t v l) ∙ (omega (arith, l))
+    | inr l ↦ ap (λ t. t.back - t.front) (wrote_none t (true, v) l) ∙ (omega (arith, l))
+  ]
+  left_wrote t (false, v) = elim (cases_lt t.front t.back) [
+    | inl l ↦ ap (λ t. t.back - t.front) (wrote_back t v l) ∙ (omega (arith, l))
+    | inr l ↦ ap (λ t. t.back - t.front) (wrote_none t (false, v) l) ∙ (omega (arith, l))
+  ]
+
+  pub places_more : (t n : Stretch K V) (w : Bool × V) (y places : ℕ) → n ≡ wrote t w → t.back - t.front ≡ places - y → n.back - n.front ≡ places - (y + 1)
+  places_more t n w y places e h = rw e (omega (arith, left_wrote t w, h))
+
+-- one write more, of y so far over n places
+pub count_more : (lent : Bool) (count y n front back : ℕ) → count ≡ min y n → back - front ≡ n - y → (IsTrue lent ↔ (front < back)) → count + from_bool lent ≡ min (y + 1) n
+count_more true count y n front back e left is = omega (arith, is.0 refl)
+count_more false count y n front back e left is = elim (cases_lt front back) [
+  | inl l ↦ (let bad : false ≡ true = is.1 l in absurd cc)
+  | inr l ↦ omega (arith, l)
+]
+
+-- Where each item passes one of two tests: how many pass both.
+both_pass : {X : Type 0} (p q : X → Bool) (other : (x : X) → p x ≡ false → q x ≡ true) (s : List X) → length (filter q s) + length (filter p s) ≡ length s + length (filter (λ x. p x && q x) s)
+both_pass p q other [] = refl
+both_pass p q other (x ∷ s) = go (p x) (q x) (other x) (both_pass p q other s)
+  where
+    go : (a b : Bool) → (a ≡ false → b ≡ true) → length (filter q s) + length (filter p s) ≡ length s + length (filter (λ y. p y && q y) s)
+        → length (cond b (x ∷ filter q s) (filter q s)) + length (cond a (x ∷ filter p s) (filter p s)) ≡ suc (length s) + length (cond (a && b) (x ∷ filter (λ y. p y && q y) s) (filter (λ y. p y && q y) s))
+    go true true one e = omega (arith, e)
+    go true false one e = omega (arith, e)
+    go false true one e = omega (arith, e)
+    go false false one e = absurd (false_true (one refl))
+      where
+        false_true : false ≡ true → ⊥
+        false_true e = absurd cc
+
+-- a range has as many places to lend as pairs
+pub places_within : {K V : Type 0} {cmp : K → K → Ordering} → IsTotalOrder cmp → (lo hi : Bound K) → is_range cmp lo hi ≡ true → (s : List (K × V)) → (starting cmp lo hi s).back - (starting cmp lo hi s).front ≡ length (within cmp lo hi s)
+places_within {cmp = cmp} order lo hi range s =
+    let both = both_pass (λ e. starts cmp lo e.0) (λ e. stops cmp hi e.0) (λ e. not_past order lo hi range e.0) s in
+    omega (arith, both, length-filter_both (λ e. starts cmp lo e.0) (λ e. not (starts cmp lo e.0)) (λ e. refl) s)

@@ -1,0 +1,19 @@
+-- What a walk over a list gives, one answer for each end that is asked.
+use Rattle.std.specs.Prelude.{◌-◌, List, [], ◌∷◌, length, take, drop, Option, slice_get}
+use Rattle.fc_command.specs.declared.command.world.End.{End}
+use Rattle.fc_command.specs.declared.command.world.End.TheVariants.{Front, Back}
+
+-- The member at an end, if there is one.
+abbrev pub given : {X : Type 0} → End → List X → Option X
+given Front s = slice_get s 0
+given Back s = slice_get s (length s - 1)
+
+-- The list without that member.
+abbrev pub left : {X : Type 0} → End → List X → List X
+left Front s = drop 1 s
+left Back s = take (length s - 1) s
+
+-- Each step gives the member at its end, and leaves the others to the next.
+abbrev pub walked : {X : Type 0} → List X → List End → List (Option X)
+walked s [] = []
+walked s (end ∷ more) = given end s ∷ walked (left end s) more
