@@ -1,6 +1,8 @@
 //! Jobs over the ordered map for a driver outside Rattle, which measures them and compares their answers.
 #![tactic(auto)]
 
+mod walks;
+
 use fc_map::map::BTreeMap;
 use std::alloc::Global;
 use std::mem::ManuallyDrop;

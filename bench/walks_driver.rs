@@ -1,0 +1,166 @@
+//! Times walks over the library's ordered map beside std's `BTreeMap` on the same random keys, and compares what both saw.
+//!
+//! A job builds a map and then walks over it; the time of the walks is that of the job less that of the job that builds the map
+//! alone. `into_iter` drops the map as it goes, so it is compared with a job that lets the map go without a drop. Each time is the
+//! best of some runs, the two maps in turn.
+use std::collections::BTreeMap;
+use std::hint::black_box;
+use std::mem::ManuallyDrop;
+use std::time::Instant;
+
+// Pairs, walks over all of them, and rounds of runs.
+const SIZES: [(u64, u64, usize); 2] = [(1_000, 400, 60), (1_000_000, 40, 5)];
+const RANGE: u64 = 100;
+const RANGES: usize = 2_000;
+const WAYS: [&str; 5] = ["iter", "both ends", "range of 100", "values_mut", "into_iter"];
+
+unsafe extern "C" {
+    fn bench_map_walk(
+        keys: *const u64,
+        key_count: usize,
+        starts: *const u64,
+        start_count: usize,
+        way: u64,
+        times: u64,
+        checksum: *mut u64,
+    ) -> bool;
+}
+
+struct Random(u64);
+
+impl Random {
+    fn next(&mut self) -> u64 {
+        self.0 = self.0.wrapping_add(0x9e37_79b9_7f4a_7c15);
+        let mut word = self.0;
+        word = (word ^ (word >> 30)).wrapping_mul(0xbf58_476d_1ce4_e5b9);
+        word = (word ^ (word >> 27)).wrapping_mul(0x94d0_49bb_1331_11eb);
+        word ^ (word >> 31)
+    }
+
+    fn below(&mut self, n: u64) -> u64 {
+        self.next() % n
+    }
+}
+
+struct Job {
+    keys: Vec<u64>,
+    starts: Vec<u64>,
+    way: u64,
+    times: u64,
+}
+
+fn mixed(checksum: u64, answer: Option<u64>) -> u64 {
+    checksum.rotate_left(5) ^ answer.map_or(0, |value| value.wrapping_add(1))
+}
+
+#[inline(never)]
+fn run_ours(job: &Job) -> u64 {
+    let mut checksum = 0;
+    let done = unsafe {
+        bench_map_walk(
+            job.keys.as_ptr(),
+            job.keys.len(),
+            job.starts.as_ptr(),
+            job.starts.len(),
+            job.way,
+            job.times,
+            &mut checksum,
+        )
+    };
+    assert!(done, "memory was refused");
+    checksum
+}
+
+#[inline(never)]
+fn run_std(job: &Job) -> u64 {
+    let mut map = BTreeMap::new();
+    let mut seen = 0;
+    for key in &job.keys {
+        seen = mixed(seen, map.insert(*key, *key));
+    }
+    for _ in 0..job.times {
+        match job.way {
+            0 => {
+                for (key, value) in &map {
+                    seen = mixed(seen, Some(key ^ value));
+                }
+            }
+            1 => {
+                let mut walk = map.iter();
+                while let Some((key, _)) = walk.next() {
+                    seen = mixed(seen, Some(*key));
+                    if let Some((_, value)) = walk.next_back() {
+                        seen = mixed(seen, Some(*value));
+                    }
+                }
+            }
+            2 => {
+                for from in &job.starts {
+                    for (key, value) in map.range(*from..from.saturating_add(RANGE)) {
+                        seen = mixed(seen, Some(key ^ value));
+                    }
+                }
+            }
+            3 => map.values_mut().for_each(|value| *value = value.wrapping_add(1)),
+            _ => {}
+        }
+    }
+    match job.way {
+        4 => {
+            for (key, value) in map {
+                seen = mixed(seen, Some(key ^ value));
+            }
+        }
+        5 => {
+            let _leaked = ManuallyDrop::new(map);
+        }
+        _ => {}
+    }
+    seen
+}
+
+// Nanoseconds a pair that a walk gives: ours, then std's.
+fn measure(pairs: u64, times: u64, rounds: usize, way: u64) -> [f64; 2] {
+    let mut random = Random(pairs);
+    let mut keys: Vec<u64> = (0..pairs).collect();
+    for i in (1..keys.len()).rev() {
+        keys.swap(i, random.below(i as u64 + 1) as usize);
+    }
+    let starts: Vec<u64> = (0..RANGES).map(|_| random.below(pairs - RANGE)).collect();
+    let times = if way == 4 { 1 } else { times };
+    let given = match way {
+        2 => times * RANGES as u64 * RANGE,
+        _ => times * pairs,
+    };
+    let built = if way == 4 { (5, 0) } else { (way, 0) };
+    let jobs = [(way, times), built].map(|(way, times)| Job {
+        keys: keys.clone(),
+        starts: starts.clone(),
+        way,
+        times,
+    });
+    let mut best = [[f64::MAX; 2]; 2];
+    for round in 0..rounds {
+        for (i, job) in jobs.iter().enumerate() {
+            let mut seen = [0; 2];
+            for who in [round % 2, 1 - round % 2] {
+                let run = [run_ours as fn(&Job) -> u64, run_std][who];
+                let start = Instant::now();
+                seen[who] = run(black_box(job));
+                best[who][i] = best[who][i].min(start.elapsed().as_secs_f64() * 1e9);
+            }
+            assert_eq!(seen[0], seen[1], "what the two maps gave differs");
+        }
+    }
+    best.map(|[walked, built]| (walked - built) / given as f64)
+}
+
+fn main() {
+    println!("nanoseconds a pair, best of some runs: ours / std's BTreeMap (ours as a multiple of std's)");
+    for (pairs, times, rounds) in SIZES {
+        for (way, name) in WAYS.iter().enumerate() {
+            let [ours, stds] = measure(pairs, times, rounds, way as u64);
+            println!("{pairs:>9}  {name:<14} {ours:>7.2} / {stds:<7.2} ({:4.2})", ours / stds);
+        }
+    }
+}
