@@ -3,6 +3,9 @@
 //! First all answers and lengths of the two are compared, call by call. Then each time is the best of some runs, in turn.
 //! A job is built of up to three phases (insert all keys, look keys up, take all keys out), and the time of a phase is that of the
 //! job with it less that of the job without it. A job without a drop lets its map go, so that the time of a drop stands by itself.
+mod random;
+
+use random::Random;
 use std::collections::BTreeMap;
 use std::hint::black_box;
 use std::mem::ManuallyDrop;
@@ -55,28 +58,6 @@ unsafe extern "C" {
         by_entry: bool,
         len: *mut usize,
     ) -> bool;
-}
-
-struct Random(u64);
-
-impl Random {
-    fn next(&mut self) -> u64 {
-        self.0 = self.0.wrapping_add(0x9e37_79b9_7f4a_7c15);
-        let mut word = self.0;
-        word = (word ^ (word >> 30)).wrapping_mul(0xbf58_476d_1ce4_e5b9);
-        word = (word ^ (word >> 27)).wrapping_mul(0x94d0_49bb_1331_11eb);
-        word ^ (word >> 31)
-    }
-
-    fn below(&mut self, n: u64) -> u64 {
-        self.next() % n
-    }
-
-    fn shuffle(&mut self, keys: &mut [u64]) {
-        for i in (1..keys.len()).rev() {
-            keys.swap(i, self.below(i as u64 + 1) as usize);
-        }
-    }
 }
 
 // A million random inserts and removals, and then a look-up of every key.

@@ -3,6 +3,9 @@
 //! A job builds a map and then walks over it; the time of the walks is that of the job less that of the job that builds the map
 //! alone. `into_iter` drops the map as it goes, so it is compared with a job that lets the map go without a drop. Each time is the
 //! best of some runs, the two maps in turn.
+mod random;
+
+use random::Random;
 use std::collections::BTreeMap;
 use std::hint::black_box;
 use std::mem::ManuallyDrop;
@@ -24,22 +27,6 @@ unsafe extern "C" {
         times: u64,
         checksum: *mut u64,
     ) -> bool;
-}
-
-struct Random(u64);
-
-impl Random {
-    fn next(&mut self) -> u64 {
-        self.0 = self.0.wrapping_add(0x9e37_79b9_7f4a_7c15);
-        let mut word = self.0;
-        word = (word ^ (word >> 30)).wrapping_mul(0xbf58_476d_1ce4_e5b9);
-        word = (word ^ (word >> 27)).wrapping_mul(0x94d0_49bb_1331_11eb);
-        word ^ (word >> 31)
-    }
-
-    fn below(&mut self, n: u64) -> u64 {
-        self.next() % n
-    }
 }
 
 struct Job {
@@ -123,9 +110,7 @@ fn run_std(job: &Job) -> u64 {
 fn measure(pairs: u64, times: u64, rounds: usize, way: u64) -> [f64; 2] {
     let mut random = Random(pairs);
     let mut keys: Vec<u64> = (0..pairs).collect();
-    for i in (1..keys.len()).rev() {
-        keys.swap(i, random.below(i as u64 + 1) as usize);
-    }
+    random.shuffle(&mut keys);
     let starts: Vec<u64> = (0..RANGES).map(|_| random.below(pairs - RANGE)).collect();
     let times = if way == 4 { 1 } else { times };
     let given = match way {

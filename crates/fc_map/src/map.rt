@@ -101,6 +101,7 @@ impl<K: Ord + Drop, V: Drop> BTreeMap<K, V> {
     /// The number of pairs. Upstream: `BTreeMap::len`.
     pub fn len(&self) -> usize
         ensures value { result ≡ length (entries self.now) }
+        ensures ascending { IsAscending K.cmp (entries self.now) }
         ensures sound { IsSoundMap self.now }
     {
         self.len

@@ -20,7 +20,7 @@ use fc_node::btree::node::Node;
 use fc_node::btree::path::Path;
 use std::ops::Bound;
 
-// The step to a pair of the node itself, where there are any.
+// One step, to a pair of the node itself, where it has so many on that side; 0 where it has none.
 fn one_of(count: usize) -> usize
     ensures none { result ≡ 0 → count ≡ 0 }
     ensures one { 0 < result → (result ≡ 1) × (0 < count) }
@@ -132,6 +132,7 @@ impl<K: Ord, V> BTreeMap<K, V> {
         requires { IsGapIn self.now a.now × IsGapIn self.now b.now }
         ensures { IsTrue result ↔ (length (before_of self.now a.now) ≡ length (before_of self.now b.now)) }
     {
+        // Read for the proof alone: it shows that the tree is sound.
         let _ = &self.root;
         a.as_slice() == b.as_slice()
     }

@@ -110,11 +110,13 @@ impl<'a, K, V> ExactSizeIterator for Iter<'a, K, V> {
 impl<'a, K, V> FusedIterator for Iter<'a, K, V> {}
 
 impl<K: Ord, V> BTreeMap<K, V> {
+    ghost use Rattle.fc_base.specs.Ascending.{IsAscending};
     ghost use Rattle.fc_map.specs.Entries.{entries};
 
     /// A walk over all pairs, in ascending order of their keys. Upstream: `BTreeMap::iter`.
     pub fn iter(&self) -> Iter<'_, K, V>
-        ensures { result ≡ entries self.now }
+        ensures pairs { result ≡ entries self.now }
+        ensures ascending { IsAscending K.cmp result }
     {
         Iter {
             span: Span::whole(&self.root),

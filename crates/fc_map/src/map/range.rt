@@ -1,6 +1,6 @@
 //! Reading walks over the pairs of a map within two bounds, from both ends.
-ghost use Rattle.std.specs.Prelude.{◌≡◌, ◌≤◌, ⊤, length, IsTrue};
-ghost use Rattle.std.specs.Iterator.{YieldsFirstBy, YieldsLastBy, item_count};
+ghost use Rattle.std.specs.Prelude.{◌≡◌, ◌≤◌, ⊤, length, IsTrue, IfSome, None};
+ghost use Rattle.std.specs.Iterator.{YieldsFirstBy, YieldsLastBy, item_count, UpTo, at_most};
 
 #[cfg(test)]
 mod callers;
@@ -58,6 +58,15 @@ impl<'a, K, V> Iterator for Range<'a, K, V> {
         }
         let pair = self.span.next();
         Some((&pair.0, &pair.1))
+    }
+
+    /// Nothing is known without a walk to the end: `(0, None)`.
+    fn size_hint(&self) -> (usize, Option<usize>)
+        ensures lower { result.0 ≤ length self.now }
+        ensures upper { IfSome result.1 (UpTo (at_most (length self.now))) }
+        ensures exact { result ≡ (0, None) }
+    {
+        (0, None)
     }
 }
 
