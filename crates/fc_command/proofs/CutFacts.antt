@@ -2,8 +2,8 @@
 use Rattle.std.proofs.Common.{◌≡◌, ◌≢◌, ℕ, ◌<◌, eqb, List, [], ◌∷◌, ◌++◌, length, None, refl, sym, ap, ◌∙◌, arith, false, append_assoc, append-nil}
 use Rattle.std.specs.List.{AllByRecursion}
 use Rattle.std.proofs.lemmas.Bool.Decides.{nat_tests}
-use Rattle.fc_command.specs.Lines.{lines_of, whole_lines_of, onto_first}
-use Rattle.fc_command.specs.Grammar.{command_of}
+use Rattle.fc_lines.specs.Lines.{lines_of, whole_lines_of, onto_first}
+use Rattle.fc_lines.specs.Grammar.{command_of}
 use Rattle.fc_command.specs.Session.{Cuts}
 
 abbrev pub Open : List ℕ → Type 0

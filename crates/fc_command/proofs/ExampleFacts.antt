@@ -6,15 +6,15 @@ use Rattle.std.specs.List.{flat_map}
 use Rattle.std.specs.Ordering.{nat_cmp}
 use Rattle.fc_base.specs.declared.try_reserve_error.TryReserveError.TheVariants.{AllocError, CapacityOverflow}
 use Rattle.std.specs.declared.ops.Bound.TheVariants.{Included, Excluded, Unbounded}
-use Rattle.fc_command.specs.declared.command.world.Side.TheVariants.{First, Second}
-use Rattle.fc_command.specs.declared.command.world.End.TheVariants.{Front, Back}
-use Rattle.fc_command.specs.declared.command.world.Command.TheVariants.{Insert, Get, GetKeyValue, ContainsKey, Remove, Set, Entry, RemoveEntry, Len as CountPairs, Clear, Walk, Write}
-use Rattle.fc_command.specs.declared.command.world.Reply.TheVariants.{Done, Flag, Value, Pair, Len, Pairs, BadRange, Refused}
+use Rattle.fc_lines.specs.declared.command.Side.TheVariants.{First, Second}
+use Rattle.fc_lines.specs.declared.command.End.TheVariants.{Front, Back}
+use Rattle.fc_lines.specs.declared.command.Command.TheVariants.{Insert, Get, GetKeyValue, ContainsKey, Remove, Set, Entry, RemoveEntry, Len as CountPairs, Clear, Walk, Write}
+use Rattle.fc_lines.specs.declared.command.Reply.TheVariants.{Done, Flag, Value, Pair, Len, Pairs, BadRange, Refused}
 use Rattle.fc_command.specs.Step.{answer}
-use Rattle.fc_command.specs.Lines.{lines_of}
-use Rattle.fc_command.specs.Grammar.{command_of, command_of_words, insert_of, get_of, pair_of, has_of, remove_of, set_of, entry_of, evict_of, len_of, clear_of, walk_of, write_of, map_at, number_at, bound_at}
+use Rattle.fc_lines.specs.Lines.{lines_of}
+use Rattle.fc_lines.specs.Grammar.{command_of, command_of_words, insert_of, get_of, pair_of, has_of, remove_of, set_of, entry_of, evict_of, len_of, clear_of, walk_of, write_of, map_at, number_at, bound_at}
 use Rattle.fc_map.specs.Writing.{wrote}
-use Rattle.fc_command.specs.Texts.{text_of}
+use Rattle.fc_lines.specs.Texts.{text_of}
 
 abbrev six : List ℕ
 six = codes "insert a 37 1\ninsert a 037 2\nget a 37\nlen a\nremove a 37\nget b 1\n"

@@ -1,7 +1,5 @@
 mod CutFacts
 mod ExampleFacts
-mod LineFacts
-mod ReadFacts
 mod RunFacts
 mod ServeFacts
 mod SpokenFacts

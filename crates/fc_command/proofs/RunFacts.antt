@@ -4,8 +4,8 @@ use Rattle.std.specs.declared.cmp.Ordering.{Ordering}
 use Rattle.fc_base.specs.declared.try_reserve_error.TryReserveError.{TryReserveError}
 use Rattle.fc_map.specs.Entries.{Map, entries}
 use Rattle.fc_command.specs.declared.command.world.World.{World}
-use Rattle.fc_command.specs.declared.command.world.Command.{Command}
-use Rattle.fc_command.specs.declared.command.world.Reply.{Reply}
+use Rattle.fc_lines.specs.declared.command.Command.{Command}
+use Rattle.fc_lines.specs.declared.command.Reply.{Reply}
 use Rattle.fc_command.specs.Step.{answer, MayRefuse, MustRefuse, StepOn, answered, refused, Step, Runs, IsCopied}
 
 module _ {K V : Type 0} (cmp : K → K → Ordering) where

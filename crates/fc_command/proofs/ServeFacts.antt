@@ -4,17 +4,17 @@ use Rattle.std.proofs.lemmas.List.{take_more, length_push}
 use Rattle.std.specs.Ordering.{nat_cmp}
 use Rattle.std.specs.Io.KnownBytes.{Consumes, IsAtEnd}
 use Rattle.fc_command.specs.declared.command.world.World.{World}
-use Rattle.fc_command.specs.declared.command.world.Command.{Command}
-use Rattle.fc_command.specs.declared.command.world.Reply.{Reply}
+use Rattle.fc_lines.specs.declared.command.Command.{Command}
+use Rattle.fc_lines.specs.declared.command.Reply.{Reply}
 use Rattle.fc_command.specs.declared.command.session.Session.{Session}
 use Rattle.fc_command.specs.declared.command.session.ServeEnd.{ServeEnd}
 use Rattle.fc_command.specs.declared.command.session.ServeEnd.TheVariants.{Finished, NotACommand}
 use Rattle.fc_command.specs.declared.command.session.ServeError.{ServeError}
 use Rattle.fc_command.specs.declared.command.session.ServeError.TheVariants.{Memory, Read, Write}
 use Rattle.fc_command.specs.Step.{Step, IsNew}
-use Rattle.fc_command.specs.Lines.{lines_of}
-use Rattle.fc_command.specs.Grammar.{command_of}
-use Rattle.fc_command.specs.Texts.{text_of, fault_text}
+use Rattle.fc_lines.specs.Lines.{lines_of}
+use Rattle.fc_lines.specs.Grammar.{command_of}
+use Rattle.fc_lines.specs.Texts.{text_of, fault_text}
 use Rattle.fc_command.specs.Spoken.{SpokenTo, Spoken, SpokenFront, Faulted, Cut, Served}
 use Rattle.fc_command.specs.Session.{Written, FaultTold, LineRun, Cuts, IsAfter, Failed, PieceRun, Ended}
 use Rattle.fc_command.proofs.CutFacts.{cuts_none, cuts_byte, cuts_feed, cuts_whole, lines_feed, lines_open, lines_begin_any, open_push, too_long}
@@ -196,7 +196,3 @@ served_nothing w new (Some source) = ([], lines_of source, refl, (w, spoken_none
 
 pub after_nothing : (s : Session) → IsNew s.world → s.line.items ≡ [] → s.number ≡ 0 → IsAfter s [] []
 after_nothing s new line number = record { front = []; cuts = rw line cuts_none; spoken = spoken_none s.world new; number = number }
-
-pub empty_of : {A : Type 0} (l : List A) → length l ≡ 0 → l ≡ []
-empty_of [] e = refl
-empty_of (x ∷ l) e = absurd (omega arith)

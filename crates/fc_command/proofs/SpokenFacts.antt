@@ -3,11 +3,11 @@ use Rattle.std.proofs.Common.{◌≡◌, ℕ, List, [], ◌∷◌, ◌++◌, map
 use Rattle.std.specs.List.{flat_map}
 use Rattle.std.specs.Ordering.{nat_cmp}
 use Rattle.fc_command.specs.declared.command.world.World.{World}
-use Rattle.fc_command.specs.declared.command.world.Command.{Command}
-use Rattle.fc_command.specs.declared.command.world.Reply.{Reply}
+use Rattle.fc_lines.specs.declared.command.Command.{Command}
+use Rattle.fc_lines.specs.declared.command.Reply.{Reply}
 use Rattle.fc_command.specs.Step.{Step, IsNew}
-use Rattle.fc_command.specs.Grammar.{command_of}
-use Rattle.fc_command.specs.Texts.{text_of}
+use Rattle.fc_lines.specs.Grammar.{command_of}
+use Rattle.fc_lines.specs.Texts.{text_of}
 use Rattle.fc_command.specs.Spoken.{SpokenTo}
 use Rattle.fc_command.proofs.RunFacts.{runs_more}
 

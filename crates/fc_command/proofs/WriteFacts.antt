@@ -9,7 +9,7 @@ use Rattle.std.proofs.lemmas.Bool.{cases_lt}
 use Rattle.std.proofs.lemmas.List.Filters.{length-filter_both}
 use Rattle.std.proofs.lemmas.Bool.Decides.{nat_tests}
 use Rattle.fc_base.specs.Ranges.{starts, stops, is_range, within}
-use Rattle.fc_map.proofs.Within.{not_past}
+use Rattle.fc_base.proofs.Within.{not_past}
 use Rattle.fc_map.specs.Writing.{starting, Stretch, wrote, wrote_all, wrote_first, wrote_last}
 
 module _ {K V : Type 0} where

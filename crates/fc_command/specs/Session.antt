@@ -7,9 +7,9 @@ use Rattle.fc_command.specs.declared.command.session.ServeEnd.{ServeEnd}
 use Rattle.fc_command.specs.declared.command.session.ServeEnd.TheVariants.{Finished, NotACommand}
 use Rattle.fc_command.specs.declared.command.session.ServeError.{ServeError}
 use Rattle.fc_command.specs.declared.command.session.ServeError.TheVariants.{Memory, Read, Write}
-use Rattle.fc_command.specs.Lines.{lines_of, whole_lines_of}
-use Rattle.fc_command.specs.Grammar.{command_of}
-use Rattle.fc_command.specs.Texts.{fault_text}
+use Rattle.fc_lines.specs.Lines.{lines_of, whole_lines_of}
+use Rattle.fc_lines.specs.Grammar.{command_of}
+use Rattle.fc_lines.specs.Texts.{fault_text}
 use Rattle.fc_command.specs.Spoken.{SpokenTo, Spoken, SpokenFront, Faulted, Cut}
 
 -- All of the text was written, or a beginning of it.

@@ -4,17 +4,17 @@ use Rattle.std.specs.List.{flat_map}
 use Rattle.std.specs.Ordering.{nat_cmp}
 use Rattle.std.specs.Io.KnownBytes.{Consumes, IsAtEnd}
 use Rattle.fc_command.specs.declared.command.world.World.{World}
-use Rattle.fc_command.specs.declared.command.world.Command.{Command}
-use Rattle.fc_command.specs.declared.command.world.Reply.{Reply}
+use Rattle.fc_lines.specs.declared.command.Command.{Command}
+use Rattle.fc_lines.specs.declared.command.Reply.{Reply}
 use Rattle.fc_command.specs.Step.{IsNew, Runs}
 use Rattle.fc_base.specs.declared.try_reserve_error.TryReserveError.TheVariants.{AllocError}
 use Rattle.fc_command.specs.declared.command.session.ServeEnd.{ServeEnd}
 use Rattle.fc_command.specs.declared.command.session.ServeEnd.TheVariants.{Finished, NotACommand}
 use Rattle.fc_command.specs.declared.command.session.ServeError.{ServeError}
 use Rattle.fc_command.specs.declared.command.session.ServeError.TheVariants.{Memory, Read, Write}
-use Rattle.fc_command.specs.Lines.{lines_of, whole_lines_of}
-use Rattle.fc_command.specs.Grammar.{command_of}
-use Rattle.fc_command.specs.Texts.{text_of, fault_text}
+use Rattle.fc_lines.specs.Lines.{lines_of, whole_lines_of}
+use Rattle.fc_lines.specs.Grammar.{command_of}
+use Rattle.fc_lines.specs.Texts.{text_of, fault_text}
 
 -- The lines are commands that lead from a new world to this one, and the text is that of their replies.
 pub record SpokenTo (lines : List (List ℕ)) (text : List ℕ) (world : World ℕ ℕ) : Type 0 where

@@ -8,33 +8,19 @@ use Rattle.fc_base.specs.Parts.{at, value_at}
 use Rattle.fc_base.specs.Ranges.{is_range, within}
 use Rattle.fc_map.specs.Entries.{Map, entries}
 use Rattle.fc_command.specs.declared.command.world.World.{World}
-use Rattle.fc_command.specs.declared.command.world.Side.{Side}
-use Rattle.fc_command.specs.declared.command.world.Side.TheVariants.{First, Second}
-use Rattle.fc_command.specs.declared.command.world.Command.{Command}
-use Rattle.fc_command.specs.declared.command.world.Command.TheVariants.{Insert, Get, GetKeyValue, ContainsKey, Remove, Set, Entry, RemoveEntry, Len as CountPairs, Clear, Walk, Write}
-use Rattle.fc_command.specs.declared.command.world.Reply.{Reply}
-use Rattle.fc_command.specs.declared.command.world.Reply.TheVariants.{Done, Flag, Value, Pair, Len, Pairs, BadRange, Refused}
+use Rattle.fc_lines.specs.declared.command.Side.{Side}
+use Rattle.fc_lines.specs.Sides.{side_of}
+use Rattle.fc_lines.specs.declared.command.Side.TheVariants.{First, Second}
+use Rattle.fc_lines.specs.declared.command.Command.{Command}
+use Rattle.fc_lines.specs.declared.command.Command.TheVariants.{Insert, Get, GetKeyValue, ContainsKey, Remove, Set, Entry, RemoveEntry, Len as CountPairs, Clear, Walk, Write}
+use Rattle.fc_lines.specs.declared.command.Reply.{Reply}
+use Rattle.fc_lines.specs.declared.command.Reply.TheVariants.{Done, Flag, Value, Pair, Len, Pairs, BadRange, Refused}
 use Rattle.fc_command.specs.Walks.{walked}
 use Rattle.fc_command.specs.Writing.{rewritten}
 
 -- A new world has no pairs.
 abbrev pub IsNew : {K V : Type 0} → World K V → Type 0
 IsNew w = (entries w.a ≡ []) × (entries w.b ≡ [])
-
--- The side that a command names.
-abbrev pub side_of : {K V : Type 0} → Command K V → Side
-side_of (Insert side k v) = side
-side_of (Get side k) = side
-side_of (GetKeyValue side k) = side
-side_of (ContainsKey side k) = side
-side_of (Remove side k) = side
-side_of (Set side k v) = side
-side_of (Entry side k v w) = side
-side_of (RemoveEntry side k) = side
-side_of (CountPairs side) = side
-side_of (Clear side) = side
-side_of (Walk side lo hi ends) = side
-side_of (Write side lo hi writes) = side
 
 -- The map that a side names.
 abbrev pub named : {K V : Type 0} → Side → World K V → Map K V

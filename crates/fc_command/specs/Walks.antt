@@ -1,7 +1,7 @@
 -- What a walk over a list gives, one answer for each end that is asked.
 use Rattle.std.specs.Prelude.{◌-◌, List, [], ◌∷◌, length, take, drop, Option, slice_get}
-use Rattle.fc_command.specs.declared.command.world.End.{End}
-use Rattle.fc_command.specs.declared.command.world.End.TheVariants.{Front, Back}
+use Rattle.fc_lines.specs.declared.command.End.{End}
+use Rattle.fc_lines.specs.declared.command.End.TheVariants.{Front, Back}
 
 -- The member at an end, if there is one.
 abbrev pub given : {X : Type 0} → End → List X → Option X

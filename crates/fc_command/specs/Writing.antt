@@ -3,8 +3,8 @@ use Rattle.std.specs.Prelude.{Bool, true, false, List, map}
 use Rattle.std.specs.declared.cmp.Ordering.{Ordering}
 use Rattle.std.specs.declared.ops.Bound.{Bound}
 use Rattle.fc_map.specs.Writing.{starting, wrote_all}
-use Rattle.fc_command.specs.declared.command.world.End.{End}
-use Rattle.fc_command.specs.declared.command.world.End.TheVariants.{Front, Back}
+use Rattle.fc_lines.specs.declared.command.End.{End}
+use Rattle.fc_lines.specs.declared.command.End.TheVariants.{Front, Back}
 
 -- Whether it is the front.
 abbrev pub is_front : End → Bool

@@ -4,12 +4,12 @@ use Rattle.std.proofs.Math.Nat.{one-le-pow}
 use Rattle.std.proofs.lemmas.Bool.{cases_lt}
 use Rattle.std.specs.declared.cmp.Ordering.{Ordering}
 use Rattle.fc_base.specs.declared.count.Count.{Count}
-use Rattle.fc_node.specs.declared.btree.node.Node.{Node}
+use Rattle.fc_node.specs.declared.node.Node.{Node}
 use Rattle.fc_node.specs.Node.{pairs_of, IsSoundRoot}
 use Rattle.fc_node.specs.Depth.{IsDeep}
-use Rattle.fc_node.specs.Passed.{passed}
+use Rattle.fc_search.specs.Passed.{passed}
 use Rattle.fc_node.proofs.DepthFacts.{deep_root}
-use Rattle.fc_node.proofs.PassedFacts.{passed_bound}
+use Rattle.fc_search.proofs.PassedFacts.{passed_bound}
 use Rattle.fc_map.specs.Counts.{IsBounded, IsMoved}
 use Rattle.fc_map.specs.Entries.{Map, entries, IsSoundMap}
 

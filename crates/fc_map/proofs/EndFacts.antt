@@ -4,21 +4,22 @@ use Rattle.std.specs.Borrow.{Bor}
 use Rattle.std.specs.Option.{option_map}
 use Rattle.std.specs.Cmp.Lexicographic.{pointwise, other_text}
 use Rattle.std.proofs.lemmas.List.{length-map}
-use Rattle.fc_node.specs.declared.btree.node.Node.{Node}
+use Rattle.fc_node.specs.declared.node.Node.{Node}
 use Rattle.fc_node.specs.Path.{before, after}
 use Rattle.fc_node.specs.Place.{place_ahead, place_behind}
 use Rattle.fc_node.proofs.Gaps.{gap_pairs, place_pairs}
 use Rattle.fc_map.specs.Entries.{Map, entries, IsSoundMap}
-use Rattle.fc_map.specs.Gap.{IsGapIn, AreEndsIn}
-use Rattle.fc_node.specs.Written.{set_value}
+use Rattle.fc_walk.specs.Gap.{IsGapIn, AreEndsIn}
+use Rattle.fc_search.specs.Written.{set_value}
 use Rattle.fc_map.specs.Writing.{Stretch, wrote_first, wrote_last}
 use Rattle.fc_map.proofs.ShapeFacts.{gap_stays, entries_written}
-use Rattle.fc_map.specs.Lends.{IsPlaceIn, pair_in, written_in}
-use Rattle.fc_map.specs.Place.{before_of, ahead_of}
-use Rattle.fc_map.specs.Trail.{rest_of, lead_of, places_of, IsTrail}
-use Rattle.fc_map.proofs.Meeting.{same_path}
-use Rattle.fc_map.proofs.GapFacts.{one_height}
-use Rattle.fc_map.proofs.Trails.{chain_of_trail, chain_lead, trail_way, trail_depth, trail_entries}
+use Rattle.fc_node.specs.Tree.{IsPlaceIn, pair_in}
+use Rattle.fc_map.specs.Lends.{written_in}
+use Rattle.fc_node.specs.Tree.{before_of, ahead_of}
+use Rattle.fc_walk.specs.Trail.{rest_of, lead_of, places_of, IsTrail}
+use Rattle.fc_walk.proofs.Meetings.{same_path}
+use Rattle.fc_walk.proofs.GapFacts.{one_height}
+use Rattle.fc_walk.proofs.Trails.{chain_of_trail, chain_lead, trail_way, trail_depth, trail_entries}
 
 module _ {K V : Type 0} where
   -- the gap that a trail leads to

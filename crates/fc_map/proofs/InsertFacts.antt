@@ -4,16 +4,16 @@ use Rattle.std.specs.Prelude.{OnErr}
 use Rattle.std.specs.declared.cmp.Ordering.{Ordering}
 use Rattle.fc_base.specs.declared.count.Count.{Count}
 use Rattle.fc_base.specs.OneKey.{put}
-use Rattle.fc_node.specs.declared.btree.node.Node.{Node}
-use Rattle.fc_node.specs.Cascade.{leaf_at, all_full}
-use Rattle.fc_node.specs.Found.{IsGap}
+use Rattle.fc_node.specs.declared.node.Node.{Node}
+use Rattle.fc_insertion.specs.Cascade.{leaf_at, all_full}
+use Rattle.fc_search.specs.Found.{IsGap}
 use Rattle.fc_node.specs.Node.{own_pairs, child_at, pairs_of, IsLevelled, IsSoundRoot}
 use Rattle.fc_node.specs.Path.{IsPath, before, after}
 use Rattle.fc_node.proofs.DepthFacts.{deep_root, few_levels}
 use Rattle.fc_node.specs.Place.{lead_in, rest_in}
 use Rattle.fc_node.proofs.Gaps.{inner_gap, gap_pairs}
 use Rattle.fc_node.proofs.Pairs.{child_below, leaf_pairs}
-use Rattle.fc_node.proofs.SearchFacts.{gap_at}
+use Rattle.fc_search.proofs.SearchFacts.{gap_at}
 use Rattle.fc_map.specs.Counts.{IsMoved}
 use Rattle.fc_map.specs.Entries.{IsSoundMap}
 

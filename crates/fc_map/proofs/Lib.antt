@@ -1,20 +1,10 @@
-mod AscendingFacts
-mod CountFacts
-mod InsertFacts
-mod PlaceFacts
-mod RemoveFacts
-mod WrittenFacts
-mod EntryFacts
-mod GapFacts
-mod ShapeFacts
-mod EndFacts
-mod WritingFacts
-pub mod Meeting
-pub mod Seeking
-pub mod Within
+pub mod CountFacts
+pub mod InsertFacts
+pub mod PlaceFacts
+pub mod RemoveFacts
+pub mod WrittenFacts
+pub mod EntryFacts
+pub mod ShapeFacts
+pub mod EndFacts
+pub mod WritingFacts
 pub mod PutFacts
-mod Cells
-pub mod Trails
-mod Spans
-mod Opening
-mod SpanEnds

@@ -12,11 +12,11 @@ use Rattle.std.proofs.lemmas.Map.Entries.{lookup-filter-keys}
 use Rattle.fc_base.specs.Ascending.{IsAscending}
 use Rattle.fc_base.specs.OneKey.{put}
 use Rattle.fc_base.specs.Parts.{below, above, at, value_at}
-use Rattle.fc_node.proofs.Ordered.{around_pair}
-use Rattle.fc_node.proofs.WayFacts.{written_to_put}
+use Rattle.fc_search.proofs.Ordered.{around_pair}
+use Rattle.fc_search.proofs.WayFacts.{written_to_put}
 use Rattle.fc_map.specs.Entries.{Map, entries, IsSoundMap}
 use Rattle.fc_map.specs.LendsKey.{written_at}
-use Rattle.fc_map.proofs.AscendingFacts.{all_below, all_above, at_key}
+use Rattle.fc_base.proofs.AscendingFacts.{all_below, all_above, at_key}
 
 is_equal : (r : Ordering) → is_eq r ≡ true → r ≡ Equal
 is_equal Less h = absurd cc

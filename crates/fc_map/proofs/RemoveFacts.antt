@@ -6,10 +6,10 @@ use Rattle.std.specs.declared.cmp.Ordering.TheVariants.{Less}
 use Rattle.std.specs.List.{AllByRecursion}
 use Rattle.fc_base.specs.declared.count.Count.{Count}
 use Rattle.fc_base.specs.Ascending.{IsAscending}
-use Rattle.fc_node.specs.declared.btree.node.Node.{Node}
+use Rattle.fc_node.specs.declared.node.Node.{Node}
 use Rattle.fc_node.specs.Node.{pairs_of}
 use Rattle.fc_node.specs.Place.{IsPlace, place_ahead, place_behind}
-use Rattle.fc_node.specs.Removal.{IsTreeLeft, tree_pairs}
+use Rattle.fc_removal.specs.Removal.{IsTreeLeft, tree_pairs}
 use Rattle.fc_node.proofs.DepthFacts.{deep_root}
 use Rattle.fc_node.proofs.Gaps.{place_pairs}
 use Rattle.fc_map.specs.Counts.{IsMoved}

@@ -2,19 +2,20 @@
 use Rattle.std.proofs.Common.{◌≡◌, ℕ, zero, suc, ◌+◌, ◌<◌, ◌≤◌, List, [], ◌∷◌, ◌++◌, length, map, take, get_or, Some, None, refl, sym, ap, subst, ◌∙◌, arith, length-append, ◌⊎◌, inl, inr}
 use Rattle.std.specs.Prelude.{slice_set}
 use Rattle.fc_node.specs.Weave.{ahead}
-use Rattle.fc_node.specs.declared.btree.node.Node.{Node}
+use Rattle.fc_node.specs.declared.node.Node.{Node}
 use Rattle.fc_node.specs.Node.{own_pairs, children_of, child_at, pairs_of, IsLevelled}
 use Rattle.fc_node.specs.Path.{IsPath, before}
 use Rattle.fc_node.specs.Place.{lead_in, IsPlace, place_ahead, place_behind}
-use Rattle.fc_node.specs.Written.{set_value, with_value, with_child, written}
+use Rattle.fc_search.specs.Written.{set_value, with_value, with_child, written}
 use Rattle.fc_node.proofs.Pairs.{leaf_children, child_below}
 use Rattle.fc_node.proofs.Gaps.{item_there, place_pairs}
-use Rattle.fc_node.proofs.WrittenPairs.{value_own, value_children, child_own, child_children, length_value, written_levels, written_pairs}
+use Rattle.fc_search.proofs.WrittenPairs.{value_own, value_children, child_own, child_children, length_value, written_levels, written_pairs}
 use Rattle.fc_map.specs.Entries.{Map, entries, IsSoundMap}
-use Rattle.fc_map.specs.Gap.{IsGapIn}
-use Rattle.fc_map.specs.Lends.{IsPlaceIn, written_in}
-use Rattle.fc_map.specs.Place.{before_of, ahead_of}
-use Rattle.fc_map.proofs.GapFacts.{one_height}
+use Rattle.fc_walk.specs.Gap.{IsGapIn}
+use Rattle.fc_node.specs.Tree.{IsPlaceIn}
+use Rattle.fc_map.specs.Lends.{written_in}
+use Rattle.fc_node.specs.Tree.{before_of, ahead_of}
+use Rattle.fc_walk.proofs.GapFacts.{one_height}
 
 module _ {X : Type 0} where
   taken : (i : ℕ) (xs ys : List X) → length xs ≡ length ys → length (take i xs) ≡ length (take i ys)

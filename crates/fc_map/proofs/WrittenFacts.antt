@@ -2,12 +2,12 @@
 use Rattle.std.proofs.Common.{◌≡◌, ℕ, List, ◌∷◌, length, Some, ap, ◌∙◌, arith, length-append}
 use Rattle.std.specs.declared.cmp.Ordering.{Ordering}
 use Rattle.fc_base.specs.Ascending.{IsAscending}
-use Rattle.fc_node.specs.declared.btree.node.Node.{Node}
+use Rattle.fc_node.specs.declared.node.Node.{Node}
 use Rattle.fc_node.specs.Node.{pairs_of}
 use Rattle.fc_node.specs.Place.{IsPlace, place_ahead, place_behind}
-use Rattle.fc_node.specs.Written.{written}
+use Rattle.fc_search.specs.Written.{written}
 use Rattle.fc_node.proofs.Gaps.{place_pairs}
-use Rattle.fc_node.proofs.WrittenPairs.{written_levels, written_pairs, written_ascending}
+use Rattle.fc_search.proofs.WrittenPairs.{written_levels, written_pairs, written_ascending}
 use Rattle.fc_map.specs.Entries.{IsSoundMap}
 
 module _ {K V : Type 0} (cmp : K → K → Ordering) (root : Node K V) (path : List ℕ) (w : V) (place : IsPlace path root) (sound : IsSoundMap (Some root)) where

@@ -1,32 +1,10 @@
 -- A map as contracts see it: the tree at its root, whose pairs are the map's list.
-use Rattle.std.specs.Prelude.{ℕ, ◌≤◌, List, [], Option, Some, None}
+use Rattle.std.specs.Prelude.{ℕ, Option, Some, None}
 use Rattle.std.specs.Option.{option_map}
 use Rattle.std.specs.Borrow.{Bor}
-use Rattle.std.specs.declared.boxed.Box.{Box}
-use Rattle.std.specs.declared.alloc.Global.{Global}
 use Rattle.std.specs.declared.cmp.Ordering.{Ordering}
-use Rattle.fc_node.specs.declared.btree.node.Node.{Node}
-use Rattle.fc_node.specs.Node.{pairs_of, IsSoundRoot}
-use Rattle.fc_node.specs.Passed.{passed}
-
--- What contracts see of a map: the node at the root of its tree, if there is one.
-abbrev pub Map : Type 0 → Type 0 → Type 0
-Map K V = Option (Node K V)
-
--- The pairs of a map, in ascending order of their keys.
-abbrev pub entries : {K V : Type 0} → Map K V → List (K × V)
-entries None = []
-entries (Some root) = pairs_of root
-
--- The node in the box, if there is one.
-abbrev pub root_of : {K V : Type 0} → Option (Box (Node K V) Global) → Map K V
-root_of None = None
-root_of (Some root) = Some root.value
-
--- The tree is sound, with one height of at most 24, if there is one.
-abbrev pub IsSoundMap : {K V : Type 0} → Map K V → Type 0
-IsSoundMap None = Unit {0}
-IsSoundMap (Some root) = (h : ℕ) × (h ≤ 24) × IsSoundRoot h root
+use Rattle.fc_search.specs.Passed.{passed}
+pub use Rattle.fc_node.specs.Tree.{Map, entries, root_of, IsSoundMap}
 
 -- How many keys a search for k passes in a map: none where there is no root.
 abbrev pub passed_in : {K V : Type 0} → (K → K → Ordering) → K → Map K V → ℕ

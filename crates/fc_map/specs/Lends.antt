@@ -2,8 +2,7 @@
 use Rattle.std.specs.Prelude.{ℕ, Bool, List, Option, Some, None}
 use Rattle.std.specs.declared.cmp.Ordering.{Ordering}
 use Rattle.std.specs.Borrow.{Fml, RattleType, MutBor, Lends}
-use Rattle.fc_node.specs.Place.{IsPlace, place_pair}
-use Rattle.fc_node.specs.Written.{written}
+use Rattle.fc_search.specs.Written.{written}
 use Rattle.fc_map.specs.Entries.{Map}
 use Rattle.fc_map.specs.contracts.map.BTreeMap.{the_row}
 
@@ -14,16 +13,6 @@ OrdMembers K = record { partial_cmp : K → K → Option Ordering; eq : K → K 
 -- The map's type, as the logic holds it.
 abbrev pub map_row : (K V : RattleType) → OrdMembers K.Denot → RattleType
 map_row K V g = the_row K V (record { cmp = g.cmp }) (record { eq = g.eq }) (record { partial_cmp = g.partial_cmp })
-
--- The path leads to a pair of the map.
-abbrev pub IsPlaceIn : {K V : Type 0} → Map K V → List ℕ → Type 0
-IsPlaceIn None path = ⊥
-IsPlaceIn (Some root) path = IsPlace path root
-
--- The pair that the path leads to, if there is one.
-abbrev pub pair_in : {K V : Type 0} → Map K V → List ℕ → Option (K × V)
-pair_in None path = None
-pair_in (Some root) path = place_pair path root
 
 -- The map with this value at the place that the path leads to: the tree keeps its shape.
 abbrev pub written_in : {K V : Type 0} → Map K V → List ℕ → V → Map K V

@@ -5,11 +5,6 @@ pub mod Lends
 pub mod LendsKey
 pub mod Unique
 pub mod Entry
-pub mod Stack
-pub mod Trail
-pub mod Gap
 pub mod Writing
-pub mod Span
 pub mod Walks
-pub mod Opened
 pub mod Stretches

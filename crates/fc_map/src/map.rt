@@ -5,14 +5,15 @@ ghost use Rattle.fc_base.specs.Ascending.{IsAscending};
 ghost use Rattle.fc_base.specs.Growth.{MayGrowRefuse};
 ghost use Rattle.fc_base.specs.OneKey.{put, cut};
 ghost use Rattle.fc_base.specs.Parts.{at, value_at};
-ghost use Rattle.fc_node.specs.Arrival.{IsPutAt};
-ghost use Rattle.fc_node.specs.Found.{IsGap};
+ghost use Rattle.fc_insertion.specs.Arrival.{IsPutAt};
+ghost use Rattle.fc_search.specs.Found.{IsGap};
 ghost use Rattle.fc_node.specs.Node.{pairs_of};
 ghost use Rattle.fc_node.specs.Path.{before, after};
 ghost use Rattle.fc_map.specs.Counts.{IsBounded, IsMoved};
-ghost use Rattle.fc_map.specs.Entries.{entries, now_value, now_pair, passed_in, IsSoundMap};
+ghost use Rattle.fc_map.specs.Entries.{entries, IsSoundMap, now_value, now_pair, passed_in};
 ghost use Rattle.fc_map.specs.LendsKey.{path_in};
-ghost use Rattle.fc_map.specs.Place.{IsHeldAt, IsOpenAt, IsPutIn, before_of, after_of};
+ghost use Rattle.fc_map.specs.Place.{IsHeldAt, IsOpenAt, IsPutIn};
+ghost use Rattle.fc_node.specs.Tree.{before_of, after_of};
 
 mod bounds;
 mod entry;
@@ -22,28 +23,19 @@ mod index;
 mod into_iter;
 mod iter;
 mod iter_mut;
-mod meeting;
 mod places;
 mod range;
 mod range_mut;
-mod seek;
-#[cfg(test)]
-mod shapes;
-mod span;
-mod stack;
-#[cfg(test)]
-mod tests;
-mod trail;
 mod values;
 
 pub use bounds::is_range;
 pub use entry::{Entry, OccupiedEntry, VacantEntry};
 use fc_base::{Count, TryReserveError};
-use fc_node::btree::node::Node;
-use fc_node::btree::node::insertion::{first_leaf, insert};
-use fc_node::btree::node::room::try_room;
-use fc_node::btree::path::Path;
-use fc_node::btree::search;
+use fc_insertion::insertion::{first_leaf, insert};
+use fc_insertion::room::try_room;
+use fc_node::node::Node;
+use fc_node::path::Path;
+use fc_search::search;
 pub use into_iter::IntoIter;
 pub use iter::{Iter, Keys, Values};
 pub use iter_mut::{IterMut, ValuesMut};
@@ -67,7 +59,7 @@ impl<K: Ord, V> Model for BTreeMap<K, V> {
     ghost use Rattle.std.specs.Coded.{coded_option};
     ghost use borrow.Follows.Maybe.{bare};
     ghost use Rattle.fc_base.specs.Ascending.{IsAscending};
-    ghost use Rattle.fc_node.specs.contracts.btree.node.Node as node;
+    ghost use Rattle.fc_node.specs.contracts.node.Node as node;
     ghost use Rattle.fc_map.specs.Entries.{Map, entries, root_of, IsSoundMap};
 
     ghost Value = { Map K V };

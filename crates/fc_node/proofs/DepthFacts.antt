@@ -5,10 +5,10 @@ use Rattle.std.proofs.lemmas.List.{length-map}
 use Rattle.std.proofs.lemmas.Bool.{cases_lt}
 use Rattle.std.proofs.Math.Nat.{mul-le-mul_right, pow-le-pow_right}
 use Rattle.fc_node.specs.Weave.{weave, behind}
-use Rattle.fc_node.specs.declared.btree.node.Node.{Node}
+use Rattle.fc_node.specs.declared.node.Node.{Node}
 use Rattle.fc_node.specs.Node.{own_pairs, children_of, pairs_of, IsLevelled, IsSoundRoot}
 use Rattle.fc_node.specs.Depth.{IsDeep}
-use Rattle.fc_node.specs.Found.{IsTree}
+use Rattle.fc_node.specs.Node.{IsTree}
 use Rattle.fc_node.proofs.Pairs.{pairs_is, leaf_pairs}
 
 module _ {X : Type 0} (b : ℕ) where

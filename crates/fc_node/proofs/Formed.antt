@@ -1,7 +1,7 @@
 -- Nodes that are leaves or have one child more than pairs.
 use Rattle.std.proofs.Common.{◌≡◌, ◌+◌, List, [], length, ap, Box, Some, inl, inr, arith}
 use Rattle.std.specs.declared.alloc.Global.{Global}
-use Rattle.fc_node.specs.declared.btree.node.Node.{Node, out-Node, roll-Node}
+use Rattle.fc_node.specs.declared.node.Node.{Node, out-Node, roll-Node}
 use Rattle.fc_node.specs.Node.{own_pairs, children_of, IsLeaf, IsInner}
 use Rattle.fc_node.specs.Siblings.{IsFormed, AreAlike}
 use Rattle.fc_node.proofs.Made.{inner_made, inner_length}

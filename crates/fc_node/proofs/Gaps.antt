@@ -2,7 +2,7 @@
 use Rattle.std.proofs.Common.{◌≡◌, ℕ, zero, suc, ◌+◌, ◌<◌, ◌≤◌, List, [], ◌∷◌, ◌++◌, length, map, take, drop, get_or, slice_get, Some, refl, sym, ap, ◌∙◌, arith, append_assoc, append-nil}
 use Rattle.std.proofs.lemmas.List.{length-map, map-append, length-drop}
 use Rattle.fc_node.specs.Weave.{weave, ahead, behind}
-use Rattle.fc_node.specs.declared.btree.node.Node.{Node}
+use Rattle.fc_node.specs.declared.node.Node.{Node}
 use Rattle.fc_node.specs.Node.{own_pairs, children_of, child_at, pairs_of, IsLeaf, IsInner, IsLevelled}
 use Rattle.fc_node.specs.Path.{IsPath, before, after}
 use Rattle.fc_node.specs.Place.{lead_in, rest_in, ahead_in, behind_in, IsDescent, node_at, IsPlace, place_pair, place_ahead, place_behind}

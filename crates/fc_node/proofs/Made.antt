@@ -4,7 +4,7 @@ use Rattle.std.specs.Prelude.{slice_set}
 use Rattle.std.specs.declared.alloc.Global.{Global}
 use Rattle.std.specs.List.{insert, remove}
 use Rattle.std.proofs.lemmas.List.{map-append}
-use Rattle.fc_node.specs.declared.btree.node.Node.{Node, Node-F, out-Node, roll-Node, out-roll-Node}
+use Rattle.fc_node.specs.declared.node.Node.{Node, Node-F, out-Node, roll-Node, out-roll-Node}
 use Rattle.fc_node.specs.Node.{items_or_none, own_pairs, children_of, boxed, IsInner}
 use Rattle.fc_node.proofs.Pairs.{boxed_length}
 

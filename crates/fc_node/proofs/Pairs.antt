@@ -3,7 +3,7 @@ use Rattle.std.proofs.Common.{◌≡◌, ℕ, suc, zero, ◌+◌, ◌<◌, ◌�
 use Rattle.std.specs.declared.alloc.Global.{Global}
 use Rattle.std.proofs.lemmas.List.{length-map}
 use Rattle.fc_node.specs.Weave.{weave}
-use Rattle.fc_node.specs.declared.btree.node.Node.{Node, out-Node, map-Node, fold_out-Node}
+use Rattle.fc_node.specs.declared.node.Node.{Node, out-Node, map-Node, fold_out-Node}
 use Rattle.fc_node.specs.Node.{items_or_none, own_pairs, children_of, child_at, boxed, pairs_step, pairs_of, IsLeaf, IsLevelled}
 use Rattle.fc_node.proofs.Lists.{all_at}
 

@@ -2,7 +2,7 @@
 use Rattle.std.proofs.Common.{◌≡◌, ℕ, suc, zero, ◌+◌, ◌-◌, ◌<◌, ◌≤◌, List, [], ◌∷◌, length, get_or, take, refl, sym, ap, subst, arith, Option, Some, Box}
 use Rattle.std.specs.Prelude.{slice_range}
 use Rattle.std.specs.declared.alloc.Global.{Global}
-use Rattle.fc_node.specs.declared.btree.node.Node.{Node, out-Node}
+use Rattle.fc_node.specs.declared.node.Node.{Node, out-Node}
 use Rattle.fc_node.specs.Node.{items_or_none, own_pairs, child_at, IsLevelled, IsInner}
 use Rattle.fc_node.proofs.Pairs.{child_is}
 use Rattle.fc_node.proofs.Made.{inner_len}

@@ -3,7 +3,7 @@ use Rattle.std.proofs.Common.{◌≡◌, ℕ, suc, ◌+◌, ◌<◌, ◌≤◌, 
 use Rattle.std.specs.List.{insert}
 use Rattle.std.proofs.lemmas.List.{length-map, map-append, append-nil, set-get_or, take_more}
 use Rattle.fc_node.specs.Weave.{weave, ahead, behind}
-use Rattle.fc_node.specs.declared.btree.node.Node.{Node}
+use Rattle.fc_node.specs.declared.node.Node.{Node}
 use Rattle.fc_node.specs.Node.{own_pairs, children_of, child_at, pairs_of, IsLeaf, IsInner}
 use Rattle.fc_node.specs.Path.{before, after}
 use Rattle.fc_node.specs.Siblings.{AreAlike}

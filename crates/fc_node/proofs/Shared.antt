@@ -6,7 +6,7 @@ use Rattle.std.specs.declared.alloc.Global.{Global}
 use Rattle.std.proofs.lemmas.List.{get_or-set_other, get_or_default}
 use Rattle.std.proofs.lemmas.List.Edits.{get_or-remove_below}
 use Rattle.std.specs.Option.{option_to_list}
-use Rattle.fc_node.specs.declared.btree.node.Node.{Node, out-Node, roll-Node}
+use Rattle.fc_node.specs.declared.node.Node.{Node, out-Node, roll-Node}
 use Rattle.fc_node.specs.Node.{own_pairs, children_of, child_at, boxed}
 use Rattle.fc_node.specs.Siblings.{AreAlike, IsShared, IsMerged}
 use Rattle.fc_node.proofs.Lists.{set_next, set_around, item_in}

@@ -5,7 +5,7 @@ use Rattle.std.specs.List.{AllByRecursion, remove}
 use Rattle.std.proofs.lemmas.List.{length-map, map-append}
 use Rattle.std.proofs.lemmas.List.Edits.{length-remove}
 use Rattle.fc_node.specs.Weave.{weave, ahead, behind}
-use Rattle.fc_node.specs.declared.btree.node.Node.{Node}
+use Rattle.fc_node.specs.declared.node.Node.{Node}
 use Rattle.fc_node.specs.Node.{own_pairs, children_of, child_at, pairs_of, IsInner, IsLevelled}
 use Rattle.fc_node.specs.Siblings.{AreAlike, IsMerged, IsShared}
 use Rattle.fc_node.proofs.Lists.{set_is, length_set, length_take, all_front, all_back, all_both}

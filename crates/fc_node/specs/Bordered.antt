@@ -1,7 +1,7 @@
 -- Nodes that are sound but for the border on one side, as a cut through a tree leaves them.
 use Rattle.std.specs.Prelude.{ℕ, zero, suc, ◌≤◌, List, [], ◌∷◌, length}
 use Rattle.std.specs.List.{AllByRecursion}
-use Rattle.fc_node.specs.declared.btree.node.Node.{Node}
+use Rattle.fc_node.specs.declared.node.Node.{Node}
 use Rattle.fc_node.specs.Node.{own_pairs, children_of, IsLeaf, IsInner, IsSound}
 
 module _ {X : Type 0} (P Q : X → Type 0) where

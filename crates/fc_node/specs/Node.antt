@@ -4,7 +4,7 @@ use Rattle.std.specs.List.{AllByRecursion}
 use Rattle.fc_node.specs.Weave.{weave}
 use Rattle.std.specs.declared.boxed.Box.{Box}
 use Rattle.std.specs.declared.alloc.Global.{Global}
-use Rattle.fc_node.specs.declared.btree.node.Node.{Node, Node-F, out-Node, fold-Node}
+use Rattle.fc_node.specs.declared.node.Node.{Node, Node-F, out-Node, fold-Node}
 
 -- The items, if there is a list of them, and else none.
 abbrev pub items_or_none : {X : Type 0} → Option (List X) → List X
@@ -48,6 +48,10 @@ module _ {K V : Type 0} where
   abbrev pub IsLevelled : ℕ → Node K V → Type 0
   IsLevelled zero n = (length (own_pairs n) ≤ 11) × IsLeaf n
   IsLevelled (suc h) n = (length (own_pairs n) ≤ 11) × IsInner n × AllByRecursion (λ c. (5 ≤ length (own_pairs c)) × IsLevelled h c) (children_of n)
+
+  -- Its levels are those of a tree that is not too high for a path.
+  abbrev pub IsTree : Node K V → Type 0
+  IsTree n = (h : ℕ) × (h ≤ 24) × IsLevelled h n
 
   -- The node is levelled and holds at least 5 pairs itself.
   abbrev pub IsSound : ℕ → Node K V → Type 0

@@ -1,7 +1,7 @@
 -- Paths from a node down to a gap between the pairs of a leaf.
 use Rattle.std.specs.Prelude.{ℕ, suc, ◌≤◌, List, [], ◌∷◌, ◌++◌, length, map, take, drop}
 use Rattle.fc_node.specs.Weave.{ahead, behind}
-use Rattle.fc_node.specs.declared.btree.node.Node.{Node}
+use Rattle.fc_node.specs.declared.node.Node.{Node}
 use Rattle.fc_node.specs.Node.{own_pairs, children_of, child_at, pairs_of}
 
 module _ {K V : Type 0} where

@@ -1,7 +1,7 @@
 -- Places in a tree: a gap between the pairs of a node, and a pair of any node.
 use Rattle.std.specs.Prelude.{ℕ, suc, ◌<◌, List, [], ◌∷◌, ◌++◌, length, map, take, drop, Option, None, slice_get}
 use Rattle.fc_node.specs.Weave.{weave, ahead, behind}
-use Rattle.fc_node.specs.declared.btree.node.Node.{Node}
+use Rattle.fc_node.specs.declared.node.Node.{Node}
 use Rattle.fc_node.specs.Node.{own_pairs, children_of, child_at, pairs_of}
 
 module _ {K V : Type 0} where

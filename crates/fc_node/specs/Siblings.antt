@@ -1,6 +1,6 @@
 -- Two neighbouring children of a node, before and after pairs went from one to the other, or both became one node.
 use Rattle.std.specs.Prelude.{◌≡◌, ℕ, ◌+◌, ◌∷◌, ◌++◌, length, slice_index_or, slice_set, remove, ◌⊎◌}
-use Rattle.fc_node.specs.declared.btree.node.Node.{Node}
+use Rattle.fc_node.specs.declared.node.Node.{Node}
 use Rattle.fc_node.specs.Node.{own_pairs, children_of, child_at, IsLeaf, IsInner}
 
 module _ {K V : Type 0} where

@@ -1,6 +1,5 @@
-//! Nodes of a B-tree, and the lists that they are made of.
+//! Nodes of a B-tree, and the calls on one node.
 #![tactic(auto)]
 
-pub mod btree;
-mod children;
-mod slots;
+pub mod node;
+pub mod path;

@@ -5,10 +5,10 @@ ghost use Rattle.fc_command.specs.declared.command.session.ServeError.TheVariant
 ghost use Rattle.fc_command.specs.Spoken.{Served, SpokenTo, ending_of};
 ghost use Rattle.fc_command.specs.Session.{Written, LineRun, IsAfter, HasRoom, PieceRun, FaultTold, Ended};
 
-use crate::command::lines::{MAX_LINE, command_in};
-use crate::command::replies::{write_fault, write_reply};
 use crate::command::world::World;
 use fc_base::TryReserveError;
+use fc_lines::lines::{MAX_LINE, command_in};
+use fc_lines::replies::{write_fault, write_reply};
 use std::alloc::Global;
 use std::io::{Read, Write};
 

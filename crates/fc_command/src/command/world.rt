@@ -9,12 +9,13 @@ ghost use Rattle.fc_map.specs.Writing.{wrote};
 ghost use Rattle.fc_map.specs.Stretches.{range_map_ref, stretch};
 ghost use Rattle.fc_command.specs.Writing.{flagged, rewritten};
 ghost use Rattle.fc_map.specs.Entries.{Map, entries, now_pair};
-ghost use Rattle.fc_command.specs.declared.command.world.Reply.TheVariants.{Value, Pair};
+ghost use Rattle.fc_lines.specs.declared.command.Reply.TheVariants.{Value, Pair};
 ghost use Rattle.fc_command.specs.Walks.{given, left, walked};
-ghost use Rattle.fc_command.specs.Step.{IsNew, Step, StepOn, Runs, IsCopied, side_of};
+ghost use Rattle.fc_command.specs.Step.{IsNew, Step, StepOn, Runs, IsCopied};
 
-use crate::command::items::Items;
 use fc_base::{TryClone, TryReserveError};
+use fc_lines::command::{Command, End, Reply, Side};
+use fc_lines::items::Items;
 use fc_map::map::{BTreeMap, Entry, Range, RangeMut, is_range};
 use std::alloc::Global;
 use std::mem;
@@ -28,79 +29,6 @@ pub struct World<K: Ord, V> {
     /// The map that `Side::Second` names.
     pub b: BTreeMap<K, V>,
     alloc: Global,
-}
-
-/// Which of the two maps a command names.
-#[derive(Clone, Copy, PartialEq, Eq, Debug)]
-pub enum Side {
-    /// The map `a`.
-    First,
-    /// The map `b`.
-    Second,
-}
-
-/// An end of a walk.
-#[derive(Clone, Copy, PartialEq, Eq, Debug)]
-pub enum End {
-    /// Where `next` gives.
-    Front,
-    /// Where `next_back` gives.
-    Back,
-}
-
-/// A command on the map that its side names.
-#[derive(PartialEq, Eq, Debug, Drop)]
-pub enum Command<K, V> {
-    /// `try_insert` of the key and the value; replies `Value`, the old one. A new key may be refused.
-    Insert(Side, K, V),
-    /// `get`; replies `Value`, a copy. The copy may be refused.
-    Get(Side, K),
-    /// `get_key_value`; replies `Pair`, a copy. The copy may be refused.
-    GetKeyValue(Side, K),
-    /// `contains_key`; replies `Flag`.
-    ContainsKey(Side, K),
-    /// `remove`; replies `Value`, the one taken out.
-    Remove(Side, K),
-    /// Writes the value through `get_mut` where the key is there; replies `Value`, the old one.
-    Set(Side, K, V),
-    /// By `try_entry`: `and_modify` to the first value where the key is there, else `or_try_insert` of the second; replies `Flag`,
-    /// true where the key was there. A new key may be refused.
-    Entry(Side, K, V, V),
-    /// `remove_entry` of the key's entry where it is there; replies `Pair`, the one taken out.
-    RemoveEntry(Side, K),
-    /// `len`; replies `Len`.
-    Len(Side),
-    /// `clear`; replies `Done`.
-    Clear(Side),
-    /// A `range` between the two bounds, and one `next` or `next_back` for each end; replies `Pairs`, copies, or `BadRange` where the
-    /// bounds are no range. Where there is an end, room for the copies or one of them may be refused.
-    Walk(Side, Bound<K>, Bound<K>, Items<End>),
-    /// A `range_mut` between the two bounds, which writes each value at the pair that its end lends, or drops it where no pair is
-    /// left; replies `Len`, how many were written, or `BadRange` where the bounds are no range.
-    Write(Side, Bound<K>, Bound<K>, Items<(End, V)>),
-}
-
-/// What a command answers.
-#[derive(PartialEq, Eq, Debug, Drop)]
-pub enum Reply<K, V> {
-    /// The command was done and has nothing to tell.
-    Done,
-    /// A yes or no.
-    Flag(bool),
-    /// A key, if there was one.
-    Key(Option<K>),
-    /// A number of pairs.
-    Len(usize),
-    /// A value, if there was one.
-    Value(Option<V>),
-    /// A pair, if there was one.
-    Pair(Option<(K, V)>),
-    /// What each step of a walk gave.
-    Pairs(Items<Option<(K, V)>>),
-    /// The bounds are no range.
-    BadRange,
-    /// The command was refused, and the world is as before.
-    Refused(TryReserveError),
 }
 
 impl<K: Ord + TryClone, V: TryClone> World<K, V> {
@@ -148,28 +76,6 @@ impl<K: Ord + TryClone, V: TryClone> World<K, V> {
             replies.push(self.step(command)).unwrap();
         }
         Ok(replies)
-    }
-}
-
-impl<K, V> Command<K, V> {
-    // The side that the command names.
-    fn side(&self) -> Side
-        ensures { result ≡ side_of self.now }
-    {
-        match self {
-            Command::Insert(side, _, _) => *side,
-            Command::Get(side, _) => *side,
-            Command::GetKeyValue(side, _) => *side,
-            Command::ContainsKey(side, _) => *side,
-            Command::Remove(side, _) => *side,
-            Command::Set(side, _, _) => *side,
-            Command::Entry(side, _, _, _) => *side,
-            Command::RemoveEntry(side, _) => *side,
-            Command::Len(side) => *side,
-            Command::Clear(side) => *side,
-            Command::Walk(side, _, _, _) => *side,
-            Command::Write(side, _, _, _) => *side,
-        }
     }
 }
 

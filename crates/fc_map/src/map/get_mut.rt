@@ -4,7 +4,7 @@ ghost use Rattle.std.specs.Borrow.{sem};
 ghost use Rattle.fc_base.specs.OneKey.{put};
 ghost use Rattle.fc_base.specs.Parts.{value_at};
 ghost use Rattle.fc_map.specs.Counts.{IsBounded};
-ghost use Rattle.fc_map.specs.Entries.{entries, passed_in, IsSoundMap};
+ghost use Rattle.fc_map.specs.Entries.{entries, IsSoundMap, passed_in};
 
 use super::BTreeMap;
 use fc_base::Count;
@@ -40,6 +40,3 @@ impl<K: Ord + Drop, V: Drop> BTreeMap<K, V> {
         }
     }
 }
-
-#[cfg(test)]
-mod tests;

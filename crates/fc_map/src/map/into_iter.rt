@@ -6,15 +6,9 @@ ghost use Rattle.std.specs.Iterator.Runs.{YieldsInOrder, YieldsInReverse};
 ghost use Rattle.fc_base.specs.Ascending.{IsAscending};
 ghost use Rattle.fc_map.specs.Entries.{entries};
 
-#[cfg(test)]
-mod callers;
-mod steps;
-#[cfg(test)]
-mod tests;
-
-use self::steps::{Nodes, fill_back, fill_front, give_first, give_last, opened};
 use super::BTreeMap;
-use super::stack::Stack;
+use fc_walk::owned::{Nodes, fill_back, fill_front, give_first, give_last, opened};
+use fc_walk::stack::Stack;
 use std::iter::FusedIterator;
 use std::marker::Model;
 
@@ -29,7 +23,7 @@ pub struct IntoIter<K, V> {
 
 impl<K, V> Model for IntoIter<K, V> {
     ghost use Rattle.std.specs.Prelude.{◌≡◌, ◌++◌, List, length};
-    ghost use Rattle.fc_map.specs.Opened.{IsFalling, front_of, back_of};
+    ghost use Rattle.fc_walk.specs.Opened.{IsFalling, front_of, back_of};
 
     ghost Value = { List (K × V) };
 

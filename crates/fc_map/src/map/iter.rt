@@ -2,15 +2,11 @@
 ghost use Rattle.std.specs.Prelude.{◌≡◌, ◌≤◌, ⊤, length, Some, IfSome};
 ghost use Rattle.std.specs.Iterator.{YieldsFirstBy, YieldsLastBy, UpTo, at_most, item_count};
 
-#[cfg(test)]
-mod callers;
 mod keys;
-#[cfg(test)]
-mod tests;
 mod values;
 
 use super::BTreeMap;
-use super::span::Span;
+use fc_walk::span::Span;
 pub use keys::Keys;
 use std::alloc::AllocError;
 use std::iter::FusedIterator;

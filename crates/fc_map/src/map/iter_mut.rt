@@ -1,17 +1,13 @@
 //! Writing walks over all values of a map, from both ends.
 ghost use Rattle.std.specs.Prelude.{◌≡◌, ◌+◌, length};
-ghost use Rattle.fc_map.specs.Gap.{AreEndsIn};
-ghost use Rattle.fc_map.specs.Place.{before_of};
+ghost use Rattle.fc_walk.specs.Gap.{AreEndsIn};
+ghost use Rattle.fc_node.specs.Tree.{before_of};
 ghost use Rattle.fc_map.specs.Unique.{ends-prop};
 
-#[cfg(test)]
-mod callers;
 mod calls;
-#[cfg(test)]
-mod tests;
 
 use super::BTreeMap;
-use fc_node::btree::path::Path;
+use fc_node::path::Path;
 
 /// The values that are still to be lent for writing, in ascending order of their keys. `next` lends the first of them and
 /// `next_back` the last, each once; once there is none, both answer `None` ever after. No call compares keys or takes memory.

@@ -2,14 +2,14 @@
 ghost use Rattle.std.specs.Prelude.{◌≡◌, ◌+◌, ◌++◌, length, Some};
 ghost use Rattle.fc_map.specs.Counts.{IsMoved};
 ghost use Rattle.fc_map.specs.Entries.{entries, IsSoundMap};
-ghost use Rattle.fc_map.specs.Lends.{IsPlaceIn, pair_in};
-ghost use Rattle.fc_map.specs.Place.{ahead_of, behind_of};
+ghost use Rattle.fc_node.specs.Tree.{IsPlaceIn, pair_in};
+ghost use Rattle.fc_node.specs.Tree.{ahead_of, behind_of};
 
 use super::BTreeMap;
 use fc_base::Count;
-use fc_node::btree::node::lend;
-use fc_node::btree::node::removal::remove;
-use fc_node::btree::path::Path;
+use fc_node::path::Path;
+use fc_removal::removal::remove;
+use fc_search::lend;
 
 impl<K: Ord + Drop, V: Drop> BTreeMap<K, V> {
     // The pair that the path leads to.

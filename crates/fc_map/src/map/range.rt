@@ -2,13 +2,8 @@
 ghost use Rattle.std.specs.Prelude.{◌≡◌, ◌≤◌, ⊤, length, IsTrue, IfSome, None};
 ghost use Rattle.std.specs.Iterator.{YieldsFirstBy, YieldsLastBy, item_count, UpTo, at_most};
 
-#[cfg(test)]
-mod callers;
-#[cfg(test)]
-mod tests;
-
 use super::BTreeMap;
-use super::span::Span;
+use fc_walk::span::Span;
 use std::alloc::AllocError;
 use std::iter::FusedIterator;
 use std::marker::Model;

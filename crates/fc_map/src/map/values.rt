@@ -4,12 +4,13 @@ ghost use Rattle.std.specs.Option.{option_map};
 ghost use Rattle.std.specs.Borrow.{sem};
 
 use super::BTreeMap;
-use fc_node::btree::node::lend;
-use fc_node::btree::path::Path;
+use fc_node::path::Path;
+use fc_search::lend;
 
 impl<K: Ord, V> BTreeMap<K, V> {
     ghost use Rattle.fc_map.specs.Entries.{IsSoundMap};
-    ghost use Rattle.fc_map.specs.Lends.{lends_at, IsPlaceIn, pair_in, written_in};
+    ghost use Rattle.fc_map.specs.Lends.{lends_at, written_in};
+    ghost use Rattle.fc_node.specs.Tree.{IsPlaceIn, pair_in};
 
     // The value of the pair that the path leads to, lent for writing.
     pub(crate) fn value_mut(&mut self, path: &Path) -> &mut V

@@ -1,7 +1,7 @@
 use Rattle.std.proofs.Common.{rules, ◌≡◌, ◌<◌, ◌^◌, length, arith}
-use Rattle.fc_node.specs.Cascade.{leaf_at}
+use Rattle.fc_insertion.specs.Cascade.{leaf_at}
 use Rattle.fc_node.specs.Node.{own_pairs, pairs_of}
-use Rattle.fc_node.proofs.Arrivals.{steps_few}
+use Rattle.fc_insertion.proofs.Arrivals.{steps_few}
 use Rattle.fc_map.proofs.InsertFacts.{on_err, leaf_within, gap_steps, gap_sound, put_in, length_in, sound_in, moves_in}
 use Rattle.fc_map.proofs.map.insert_in.Goals as goal
 

@@ -8,7 +8,7 @@ ghost use Rattle.fc_map.specs.Entry.{Occupied, entry_key, entry_map, entry_pair,
 
 use super::OccupiedEntry;
 use fc_base::Count;
-use fc_node::btree::path::Path;
+use fc_node::path::Path;
 use std::mem;
 
 impl<'a, K: Ord + Drop, V: Drop> OccupiedEntry<'a, K, V> {

@@ -2,14 +2,14 @@
 ghost use Rattle.std.specs.Prelude.{◌≡◌, ◌+◌, ◌-◌, ◌<◌, ◌≤◌, ◌↔◌, length, IsTrue, MatchOption, None};
 ghost use Rattle.std.specs.Borrow.{sem};
 ghost use Rattle.fc_map.specs.Entries.{entries};
-ghost use Rattle.fc_map.specs.Lends.{IsPlaceIn};
-ghost use Rattle.fc_map.specs.Place.{ahead_of};
+ghost use Rattle.fc_node.specs.Tree.{IsPlaceIn};
+ghost use Rattle.fc_node.specs.Tree.{ahead_of};
 ghost use Rattle.fc_map.specs.Stretches.{iter_stretch, iter_map_ref, iter_lends_first, iter_lends_last, IsFirstPair, IsFirstValue, IsLastPair, IsLastValue};
 ghost use Rattle.fc_map.specs.Writing.{whole};
 
 use super::super::BTreeMap;
 use super::{IterMut, ValuesMut};
-use fc_node::btree::path::Path;
+use fc_node::path::Path;
 
 impl<K: Ord, V> BTreeMap<K, V> {
     /// A writing walk over all pairs. Upstream: `BTreeMap::iter_mut`.

@@ -3,7 +3,7 @@ use Rattle.std.proofs.lemmas.List.{length_push}
 use Rattle.std.specs.Vec.Iter.{into_iter_items}
 use Rattle.fc_map.specs.Entries.{entries}
 use Rattle.fc_map.specs.Writing.{Stretch}
-use Rattle.fc_command.specs.declared.command.world.End.{End}
+use Rattle.fc_lines.specs.declared.command.End.{End}
 use Rattle.fc_map.specs.Stretches.{stretch}
 use Rattle.fc_command.specs.Writing.{flagged}
 use Rattle.fc_command.proofs.WriteFacts.{places_within, wrote_more, places_more, count_more}

@@ -2,7 +2,7 @@ use Rattle.std.proofs.Common.{◌≡◌, ◌∙◌, length, ap, arith}
 use Rattle.fc_base.specs.Ascending.{IsAscending}
 use Rattle.fc_node.specs.Node.{pairs_of}
 use Rattle.fc_map.specs.Entries.{root_of, entries}
-use Rattle.fc_map.proofs.AscendingFacts.{ascending_put}
+use Rattle.fc_base.proofs.AscendingFacts.{ascending_put}
 use Rattle.fc_map.proofs.map.BTreeMap.insert_at.Goals as goal
 
 pub invariant_of-self-2 : goal.invariant_of-self-2

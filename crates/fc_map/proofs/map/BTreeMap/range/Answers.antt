@@ -1,4 +1,4 @@
-use Rattle.fc_map.proofs.Within.{within_fits}
+use Rattle.fc_base.proofs.Within.{within_fits}
 use Rattle.fc_map.proofs.map.BTreeMap.range.Goals as goal
 
 pub returns-clause-fits : goal.returns-clause-fits

@@ -1,10 +1,10 @@
 use Rattle.std.proofs.Common.{arith, length, ap}
 use Rattle.fc_base.specs.Ranges.{bound_now, starts, stops}
 use Rattle.fc_map.specs.Entries.{entries}
-use Rattle.fc_map.specs.Trail.{rest_of, lead_of}
+use Rattle.fc_walk.specs.Trail.{rest_of, lead_of}
 use Rattle.fc_map.proofs.EndFacts.{spread}
-use Rattle.fc_map.proofs.Trails.{trail_entries}
-use Rattle.fc_map.proofs.Within.{between_tests, not_past}
+use Rattle.fc_walk.proofs.Trails.{trail_entries}
+use Rattle.fc_base.proofs.Within.{between_tests, not_past}
 use Rattle.fc_map.proofs.map.BTreeMap.range_ends.Goals as goal
 
 pub returns : goal.returns

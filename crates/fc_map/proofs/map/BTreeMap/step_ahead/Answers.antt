@@ -1,8 +1,8 @@
 use Rattle.std.proofs.Common.{◌≡◌, ◌-◌, ◌∷◌, ◌++◌, [], take, get_or, length, Some, arith, sym, ap, subst, ◌∙◌}
 use Rattle.fc_node.specs.Place.{place_ahead}
 use Rattle.fc_map.specs.Entries.{root_of}
-use Rattle.fc_map.specs.Gap.{GoesOn}
-use Rattle.fc_map.proofs.GapFacts.{IsLast, some_last, place_back, stepped_ahead}
+use Rattle.fc_walk.specs.Gap.{GoesOn}
+use Rattle.fc_walk.proofs.GapFacts.{IsLast, some_last, place_back, stepped_ahead}
 use Rattle.fc_map.proofs.map.BTreeMap.step_ahead.Goals as goal
 
 pub overflow_sub-gap : goal.overflow_sub-gap

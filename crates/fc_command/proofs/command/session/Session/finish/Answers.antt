@@ -3,9 +3,10 @@ use Rattle.std.proofs.KnownBytes.{Appends-kept, Appends-nil}
 use Rattle.std.proofs.lemmas.Result.{err_from_is_err_and}
 use Rattle.std.proofs.lemmas.Bool.Decides.{nat_tests}
 use Rattle.fc_command.specs.declared.command.session.ServeEnd.TheVariants.{Finished, NotACommand}
-use Rattle.fc_command.specs.Lines.{lines_of}
+use Rattle.fc_lines.specs.Lines.{lines_of}
 use Rattle.fc_command.specs.Spoken.{Spoken}
-use Rattle.fc_command.proofs.ServeFacts.{line_failed, faulted_here, place_end, place_none, ended_flushed, cut_spoken, cut_faulted, empty_of}
+use Rattle.fc_command.proofs.ServeFacts.{line_failed, faulted_here, place_end, place_none, ended_flushed, cut_spoken, cut_faulted}
+use Rattle.fc_lines.proofs.ReadFacts.{empty_of}
 use Rattle.fc_command.proofs.command.session.Session.finish.Goals as goal
 use Rattle.fc_command.proofs.command.session.Session.finish.Goals.{then-not-is_empty+in_ok-n+in-None, else-not-is_empty}
 

@@ -1,8 +1,8 @@
 use Rattle.std.proofs.Common.{◌≡◌, Some, None, sym, ◌∙◌, ap, subst, ◌++◌, ◌∷◌, []}
 use Rattle.fc_command.specs.Spoken.{SpokenTo}
 use Rattle.std.proofs.lemmas.Result.{err_from_is_err_and}
-use Rattle.fc_command.specs.Grammar.{command_of}
-use Rattle.fc_command.specs.Texts.{text_of}
+use Rattle.fc_lines.specs.Grammar.{command_of}
+use Rattle.fc_lines.specs.Texts.{text_of}
 use Rattle.fc_command.proofs.ServeFacts.{line_refused, reply_failed}
 use Rattle.fc_command.proofs.SpokenFacts.{spoken_more}
 use Rattle.fc_command.proofs.command.session.Session.run_line.Goals as goal

@@ -2,7 +2,7 @@ use Rattle.std.proofs.Common.{arith, length, sym, ap, ◌∙◌, subst}
 use Rattle.fc_base.specs.Ascending.{IsAscending}
 use Rattle.arrayvec.proofs.IterLemmas.{rest_runs, rest_runs_back}
 use Rattle.fc_map.specs.Entries.{entries}
-use Rattle.fc_map.proofs.Opening.{whole}
+use Rattle.fc_walk.proofs.Opening.{whole}
 use Rattle.fc_map.proofs.map.into_iter.BTreeMapIntoIterator.into_iter.Goals as goal
 
 pub returns : goal.returns

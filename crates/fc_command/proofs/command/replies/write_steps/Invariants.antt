@@ -1,8 +1,0 @@
-use Rattle.std.proofs.Common.{◌≡◌, ◌++◌, take}
-use Rattle.std.specs.Prelude.{codes, string_bytes}
-use Rattle.std.specs.List.{flat_map}
-use Rattle.fc_command.specs.Texts.{step_text}
-use Rattle.fc_command.proofs.command.replies.write_steps.Given as goal
-
-abbrev pub invariant-loop-step : goal.invariant-loop-step
-invariant-loop-step l = string_bytes l.text ≡ string_bytes l.fn.text ++ codes "list" ++ flat_map step_text (take l.step-index l.steps)

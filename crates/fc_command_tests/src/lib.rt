@@ -1,0 +1,5 @@
+//! Tests of commands, lines and sessions through their public calls.
+#![tactic(auto)]
+
+#[cfg(test)]
+mod command;

@@ -1,0 +1,6 @@
+pub mod InsertedPairs
+pub mod InsertedLevels
+pub mod Spares
+pub mod Cascades
+pub mod ArrivalSteps
+pub mod Arrivals

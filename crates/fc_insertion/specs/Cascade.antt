@@ -1,0 +1,47 @@
+-- How far up an insertion splits nodes, and how many nodes it needs.
+use Rattle.std.specs.Prelude.{◌≡◌, ℕ, suc, ◌+◌, ◌≤◌, ◌*◌, ◌==◌, Bool, true, ◌&&◌, if◌then◌else◌, List, [], ◌∷◌, length, Option, Some, None}
+use Rattle.std.specs.declared.boxed.Box.{Box}
+use Rattle.std.specs.declared.alloc.Global.{Global}
+use Rattle.fc_node.specs.declared.node.Node.{Node}
+use Rattle.fc_node.specs.Node.{own_pairs, child_at, IsBlankLeaf, IsBlankInner}
+
+module _ {K V : Type 0} where
+  -- The leaf that the path ends in.
+  abbrev pub leaf_at : List ℕ → Node K V → Node K V
+  leaf_at [] n = n
+  leaf_at (i ∷ []) n = n
+  leaf_at (i ∷ j ∷ path) n = leaf_at (j ∷ path) (child_at n i)
+
+  -- Whether each node of the path is full.
+  abbrev pub all_full : List ℕ → Node K V → Bool
+  all_full [] n = true
+  all_full (i ∷ path) n = (length (own_pairs n) == 11) && all_full path (child_at n i)
+
+  -- How many nodes are full one after another, from the leaf upwards: those that an insertion splits.
+  abbrev pub cascade : List ℕ → Node K V → ℕ
+  cascade [] n = 0
+  cascade (i ∷ path) n = if all_full (i ∷ path) n then suc (length path) else cascade path (child_at n i)
+
+  -- A new node for each that is split, and one more for a new root where each node of the path is full.
+  abbrev pub nodes_needed : List ℕ → Node K V → ℕ
+  nodes_needed path n = if all_full path n then cascade path n + 1 else cascade path n
+
+  -- The most moves that an insertion makes: 12 at each node that it splits, then 1 for a new root, or 11 in a node with room.
+  abbrev pub insertion_moves : List ℕ → Node K V → ℕ
+  insertion_moves path n = 12 * cascade path n + (if all_full path n then 1 else 11)
+
+  -- A leaf that holds nothing where there is one to be split, and else none.
+  abbrev pub IsSpareLeaf : Option (Box (Node K V) Global) → ℕ → Type 0
+  IsSpareLeaf None splits = splits ≡ 0
+  IsSpareLeaf (Some b) splits = (1 ≤ splits) × IsBlankLeaf b.value
+
+  -- Each of these is there, and is an inner node that holds nothing.
+  abbrev pub AreSpareInner : List (Option (Box (Node K V) Global)) → Type 0
+  AreSpareInner [] = Unit {0}
+  AreSpareInner (None ∷ spares) = ⊥
+  AreSpareInner (Some b ∷ spares) = IsBlankInner b.value × AreSpareInner spares
+
+  -- How many nodes there are, of a leaf and inner nodes made ahead.
+  abbrev pub spare_count : Option (Box (Node K V) Global) → List (Option (Box (Node K V) Global)) → ℕ
+  spare_count None inner = length inner
+  spare_count (Some b) inner = suc (length inner)

@@ -1,0 +1,4 @@
+pub mod Cascade
+pub mod Room
+pub mod Insertion
+pub mod Arrival

@@ -1,0 +1,78 @@
+//! Where a new pair stands once it is put in.
+ghost use Rattle.std.specs.Prelude.{◌≡◌, ◌+◌, ◌<◌, ◌≤◌, nat_lt, if◌then◌else◌, length};
+ghost use Rattle.std.specs.List.{AllByRecursion};
+ghost use Rattle.fc_node.specs.Split.{left_length};
+ghost use Rattle.fc_insertion.specs.Arrival.{step_from as child_step, goes_right as is_beyond, half_step as step_in_half, is_right, arrival as arrival_steps, path_after};
+
+use fc_node::path::Path;
+
+// The path to a new pair, by the path to its gap and the number of nodes that are made for it: as many nodes of the path are
+// split, from the leaf upwards, and one more than the path has makes a new root. A new pair stays in a leaf.
+pub(crate) fn arrival(path: &[usize], nodes: usize) -> Path
+    requires steps { AllByRecursion (λ i. i ≤ 11) path.now }
+    requires short { length path.now + (if nat_lt (length path.now) nodes then 1 else 0) ≤ 25 }
+    ensures { result ≡ path_after nodes path.now }
+{
+    let mut place = Path::of(path);
+    if path.len() < nodes {
+        let right = settle(&mut place, 0);
+        place.push_front(step_from(0, right));
+        return place;
+    }
+    let _right = settle(&mut place, path.len() - nodes);
+    place
+}
+
+// Turns the path to a gap into the path to the pair that is put into it, where `whole` nodes of the path stay whole. Answers
+// whether the pair is then in the right half of the first node.
+fn settle(place: &mut Path, whole: usize) -> bool
+    requires { AllByRecursion (λ i. i ≤ 11) place.old }
+    ensures steps { place.new ≡ arrival_steps whole place.old }
+    ensures right { result ≡ is_right whole place.old }
+{
+    let mut right = false;
+    let mut at = place.len();
+    while at > 0 {
+        at -= 1;
+        let index = place.step(at);
+        let step = step_from(index, right);
+        if at < whole {
+            place.set(at, step);
+            right = false;
+        } else {
+            place.set(at, half_step(index, step));
+            right = goes_right(index, step);
+        }
+    }
+    right
+}
+
+// The step to the child at `index`, or to the node that was split off on its right.
+fn step_from(index: usize, right: bool) -> usize
+    requires { index ≤ 11 }
+    ensures { result ≡ child_step index right }
+{
+    if right { index + 1 } else { index }
+}
+
+// Whether what stands at `step` of a node that is split for a pair at `index` is in the right half.
+fn goes_right(index: usize, step: usize) -> bool
+    ensures { result ≡ is_beyond index step }
+{
+    step > left_len(index)
+}
+
+// The step to it in its half.
+fn half_step(index: usize, step: usize) -> usize
+    ensures { result ≡ step_in_half index step }
+{
+    let kept = left_len(index);
+    if step > kept { step - (kept + 1) } else { step }
+}
+
+// How many pairs stay in a node that is split for a pair at `index`.
+fn left_len(index: usize) -> usize
+    ensures { result ≡ left_length index }
+{
+    if index == 5 || index > 6 { 6 } else { 5 }
+}

@@ -1,0 +1,241 @@
+//! Insertion at a path, with the nodes that were made ahead for it.
+ghost use Rattle.std.specs.Prelude.{◌≡◌, ℕ, ◌+◌, ◌-◌, ◌*◌, ◌<◌, ◌≤◌, [], ◌∷◌, ◌++◌, length, insert, MatchOption, IfSome, IfOk, IfErr, IsTrue, IsFalse};
+ghost use Rattle.arrayvec.specs.ArrayVec.{array_vec_len};
+ghost use Rattle.fc_node.specs.Node.{own_pairs, children_of, pairs_of, IsLeaf, IsInner, IsLevelled, IsSoundRoot, IsBlankLeaf, IsBlankInner};
+ghost use Rattle.fc_node.specs.Path.{IsPath, before, after};
+ghost use Rattle.fc_insertion.specs.Cascade.{all_full, cascade, nodes_needed, insertion_moves, IsSpareLeaf, AreSpareInner};
+ghost use Rattle.fc_insertion.specs.Insertion.{spread, own_pairs_after, children_after, IsHalved};
+ghost use Rattle.fc_node.specs.Split.{left_length};
+ghost use Rattle.fc_insertion.specs.Arrival.{steps_after, path_after, IsPutAt, HasArrived};
+
+use crate::arrival::arrival;
+use crate::room::{Room, Spares, take_spare};
+use fc_base::{Count, TryReserveError};
+use fc_node::node::{CAPACITY, Node};
+use fc_node::path::Path;
+use std::alloc::Global;
+use std::mem;
+
+/// Puts `pair` into the gap that the path leads to. Each node that this takes is in `room`, so nothing can be refused once
+/// the first pair moves. The answer is the path to the pair in the tree as it then is.
+pub fn insert<K: Drop, V: Drop>(
+    root: &mut Box<Node<K, V>>,
+    path: &[usize],
+    pair: (K, V),
+    room: Room<K, V>,
+    count: &mut Count,
+) -> Path
+    requires some { 0 < length path.now }
+    requires short { steps_after path.now root.old.value ≤ 25 }
+    requires path { IsPath path.now root.old.value }
+    requires sound { IsSoundRoot (length path.now - 1) root.old.value }
+    requires room { room ≡ nodes_needed path.now root.old.value }
+
+    // The pairs before the gap, the new pair and the pairs after the gap.
+    ensures pairs { pairs_of root.new.value ≡ before path.now root.old.value ++ pair ∷ after path.now root.old.value }
+
+    // The answer leads to the new pair, with the pairs that were before the gap ahead of it and those after the gap behind it.
+    ensures place { IsPutAt result root.new.value pair (before path.now root.old.value) (after path.now root.old.value) }
+
+    // The tree is as high as before, unless each node of the path was full: then a new root stands above it, with one pair.
+    ensures same_height { IsFalse (all_full path.now root.old.value) → IsSoundRoot (length path.now - 1) root.new.value }
+    ensures higher { IsTrue (all_full path.now root.old.value) → IsSoundRoot (length path.now) root.new.value × (length (own_pairs root.new.value) ≡ 1) }
+    ensures comparisons { count.new.comparisons ≡ count.old.comparisons }
+    ensures moves { count.new.moves ≤ count.old.moves + insertion_moves path.now root.old.value }
+    ensures few_moves { count.new.moves ≤ count.old.moves + 18 * length path.now }
+{
+    let place = arrival(path, room.len());
+    let Room { leaf, mut inner } = room;
+    insert_with(root, path, pair, leaf, &mut inner, count);
+    place
+}
+
+// Inserts with the nodes made ahead, and uses up all of them.
+fn insert_with<K: Drop, V: Drop>(
+    root: &mut Box<Node<K, V>>,
+    path: &[usize],
+    pair: (K, V),
+    leaf: Option<Box<Node<K, V>>>,
+    inner: &mut Spares<K, V>,
+    count: &mut Count,
+)
+    requires some { 0 < length path.now }
+    requires path { IsPath path.now root.old.value }
+    requires sound { IsSoundRoot (length path.now - 1) root.old.value }
+    requires leaf { IsSpareLeaf leaf (cascade path.now root.old.value) }
+    requires inner { array_vec_len inner.old ≡ nodes_needed path.now root.old.value - 1 }
+    requires blank { AreSpareInner inner.old.items }
+    ensures used_up { array_vec_len inner.new ≡ 0 }
+    ensures pairs { pairs_of root.new.value ≡ before path.now root.old.value ++ pair ∷ after path.now root.old.value }
+    ensures place { IsPutAt (path_after (nodes_needed path.now root.old.value) path.now) root.new.value pair (before path.now root.old.value) (after path.now root.old.value) }
+    ensures same_height { IsFalse (all_full path.now root.old.value) → IsSoundRoot (length path.now - 1) root.new.value }
+    ensures higher { IsTrue (all_full path.now root.old.value) → IsSoundRoot (length path.now) root.new.value × (length (own_pairs root.new.value) ≡ 1) }
+    ensures comparisons { count.new.comparisons ≡ count.old.comparisons }
+    ensures moves { count.new.moves ≤ count.old.moves + insertion_moves path.now root.old.value }
+    ensures few_moves { count.new.moves ≤ count.old.moves + 18 * length path.now }
+{
+    match insert_below(root, path, pair, leaf, inner, count) {
+        None => {}
+        Some((up, right)) => {
+            let blank = take_spare(inner);
+            grow(root, up, right, blank, count);
+        }
+    }
+}
+
+// Puts a new root above the root and the node on its right, with the pair between them.
+fn grow<K: Drop, V: Drop>(
+    root: &mut Box<Node<K, V>>,
+    pair: (K, V),
+    right: Box<Node<K, V>>,
+    blank: Box<Node<K, V>>,
+    count: &mut Count,
+)
+    requires { IsBlankInner blank.value }
+    ensures pairs { own_pairs root.new.value ≡ pair ∷ [] }
+    ensures children { children_of root.new.value ≡ root.old.value ∷ right.value ∷ [] }
+    ensures comparisons { count.new.comparisons ≡ count.old.comparisons }
+    ensures moves { count.new.moves ≡ count.old.moves + 1 }
+{
+    let left = mem::replace(root, blank);
+    let Node { pairs, children } = &mut **root;
+    let Some(children) = children else {
+        unreachable!()
+    };
+    pairs.insert(0, pair, count);
+    children.insert(0, left);
+    children.insert(1, right);
+}
+
+// Puts `pair` into the gap below the node. A full node is halved: it hands out the pair in its middle and a node of those
+// behind it.
+fn insert_below<K: Drop, V: Drop>(
+    node: &mut Node<K, V>,
+    path: &[usize],
+    pair: (K, V),
+    leaf: Option<Box<Node<K, V>>>,
+    inner: &mut Spares<K, V>,
+    count: &mut Count,
+) -> Option<((K, V), Box<Node<K, V>>)>
+    requires some { 0 < length path.now }
+    requires path { IsPath path.now node.old }
+    requires levels { IsLevelled (length path.now - 1) node.old }
+    requires leaf { IsSpareLeaf leaf (cascade path.now node.old) }
+    requires inner { cascade path.now node.old ≤ array_vec_len inner.old + 1 }
+    requires blank { AreSpareInner inner.old.items }
+
+    // The pairs are those that were before the gap, the new pair and those that were after it.
+    ensures pairs { spread node.new result ≡ before path.now node.old ++ pair ∷ after path.now node.old }
+
+    // The new pair stands where the path leads it, in the node or in the one that is handed out.
+    ensures arrived { HasArrived path.now node.old node.new result }
+
+    // The levels are as before, in each half of a node that was full.
+    ensures levels { IsLevelled (length path.now - 1) node.new × IfSome result (λ s. IsLevelled (length path.now - 1) s.1.value) }
+    ensures size { MatchOption result (length (own_pairs node.old) ≤ length (own_pairs node.new)) (λ s. IsHalved node.new × IsHalved s.1.value) }
+
+    // The node is halved where all of the path was full, and an inner node is used for each that was halved above the leaf.
+    ensures halved { MatchOption result (cascade path.now node.old < length path.now) (λ _. cascade path.now node.old ≡ length path.now) }
+    ensures used { array_vec_len inner.new + (cascade path.now node.old - 1) ≡ array_vec_len inner.old }
+    ensures blank { AreSpareInner inner.new.items }
+    ensures comparisons { count.new.comparisons ≡ count.old.comparisons }
+    ensures moves { MatchOption result (count.new.moves ≤ count.old.moves + 12 * cascade path.now node.old + 11) (λ _. count.new.moves ≤ count.old.moves + 12 * cascade path.now node.old) }
+{
+    let i = path[0];
+    if path.len() == 1 {
+        return put_leaf(node, i, pair, leaf, count);
+    }
+    let rest = &path[1..];
+    let below = match &mut node.children {
+        None => unreachable!(),
+        Some(children) => {
+            let child: &mut Node<K, V> = children.get_mut(i);
+            insert_below(child, rest, pair, leaf, inner, count)
+        }
+    };
+    match below {
+        None => None,
+        Some((up, right)) => put_inner(node, i, up, right, inner, count),
+    }
+}
+
+// Puts `pair` into a leaf, which is halved with the spare leaf where it is full.
+fn put_leaf<K: Drop, V: Drop>(
+    node: &mut Node<K, V>,
+    i: usize,
+    pair: (K, V),
+    spare: Option<Box<Node<K, V>>>,
+    count: &mut Count,
+) -> Option<((K, V), Box<Node<K, V>>)>
+    requires in_bounds { i ≤ length (own_pairs node.old) }
+    requires leaf { IsLeaf node.old }
+    requires spare { MatchOption spare (length (own_pairs node.old) < 11) (λ b. (length (own_pairs node.old) ≡ 11) × IsBlankLeaf b.value) }
+    ensures pairs { own_pairs_after node.new result ≡ insert (own_pairs node.old) i pair }
+    ensures leaf { IsLeaf node.new × IfSome result (λ s. IsLeaf s.1.value) }
+    ensures size { MatchOption result (length (own_pairs node.new) ≤ 11) (λ s. IsHalved node.new × IsHalved s.1.value) }
+    ensures halved { MatchOption result (length (own_pairs node.old) < 11) (λ _. length (own_pairs node.old) ≡ 11) }
+    ensures left { IfSome result (λ _. length (own_pairs node.new) ≡ left_length i) }
+    ensures comparisons { count.new.comparisons ≡ count.old.comparisons }
+    ensures moves { MatchOption result (count.new.moves ≤ count.old.moves + 11) (λ _. count.new.moves ≤ count.old.moves + 12) }
+{
+    match spare {
+        None => {
+            node.insert_leaf(i, pair, count);
+            None
+        }
+        Some(right) => Some(node.split_leaf(i, pair, right, count)),
+    }
+}
+
+// Puts `pair` into an inner node with the child on its right. The node is halved with one of the spare nodes where it is full.
+fn put_inner<K: Drop, V: Drop>(
+    node: &mut Node<K, V>,
+    i: usize,
+    pair: (K, V),
+    child: Box<Node<K, V>>,
+    spares: &mut Spares<K, V>,
+    count: &mut Count,
+) -> Option<((K, V), Box<Node<K, V>>)>
+    requires in_bounds { i ≤ length (own_pairs node.old) }
+    requires inner { IsInner node.old }
+    requires some { length (own_pairs node.old) ≡ 11 → 0 < array_vec_len spares.old }
+    requires blank { AreSpareInner spares.old.items }
+    ensures pairs { own_pairs_after node.new result ≡ insert (own_pairs node.old) i pair }
+    ensures children { children_after node.new result ≡ insert (children_of node.old) (i + 1) child.value }
+    ensures inner { IsInner node.new × IfSome result (λ s. IsInner s.1.value) }
+    ensures size { MatchOption result (length (own_pairs node.new) ≤ 11) (λ s. IsHalved node.new × IsHalved s.1.value) }
+    ensures halved { MatchOption result (length (own_pairs node.old) < 11) (λ _. length (own_pairs node.old) ≡ 11) }
+    ensures left { IfSome result (λ _. length (own_pairs node.new) ≡ left_length i) }
+    ensures used { MatchOption result (array_vec_len spares.new ≡ array_vec_len spares.old) (λ _. array_vec_len spares.new + 1 ≡ array_vec_len spares.old) }
+    ensures blank { AreSpareInner spares.new.items }
+    ensures comparisons { count.new.comparisons ≡ count.old.comparisons }
+    ensures moves { MatchOption result (count.new.moves ≤ count.old.moves + 11) (λ _. count.new.moves ≤ count.old.moves + 12) }
+{
+    if node.len() < CAPACITY {
+        node.insert_inner(i, pair, child, count);
+        return None;
+    }
+    let right = take_spare(spares);
+    Some(node.split_inner(i, pair, child, right, count))
+}
+
+/// The root of a tree of one pair: a leaf.
+///
+/// # Errors
+/// `AllocError` if the leaf is refused. The pair is then dropped.
+pub fn first_leaf<K: Drop, V: Drop>(
+    alloc: Global,
+    pair: (K, V),
+    count: &mut Count,
+) -> Result<Box<Node<K, V>>, TryReserveError>
+    ensures pairs { IfOk result (λ root. pairs_of root.value ≡ pair ∷ []) }
+    ensures sound { IfOk result (λ root. IsSoundRoot 0 root.value) }
+    ensures err { IfErr result (λ e. e ≡ TryReserveError.AllocError) }
+    ensures comparisons { count.new.comparisons ≡ count.old.comparisons }
+    ensures moves { IfOk result (λ _. count.new.moves ≡ count.old.moves + 1) }
+    ensures no_move { IfErr result (λ _. count.new.moves ≡ count.old.moves) }
+{
+    let mut root = Node::try_leaf(alloc)?;
+    root.insert_leaf(0, pair, count);
+    Ok(root)
+}

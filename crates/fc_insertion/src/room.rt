@@ -1,0 +1,145 @@
+//! The nodes that an insertion needs, made before a pair moves.
+ghost use Rattle.std.specs.Prelude.{◌≡◌, ◌+◌, ◌-◌, ◌<◌, ◌≤◌, length, IfOk, IfErr, OnErr, IsOkAnd};
+ghost use Rattle.arrayvec.specs.ArrayVec.{array_vec_len};
+ghost use Rattle.fc_node.specs.Node.{own_pairs, IsLevelled, IsBlankInner};
+ghost use Rattle.fc_node.specs.Path.{IsPath};
+ghost use Rattle.fc_insertion.specs.Cascade.{leaf_at, cascade, nodes_needed, AreSpareInner};
+
+use arrayvec::ArrayVec;
+use fc_base::TryReserveError;
+use fc_node::node::{CAPACITY, Node};
+use std::alloc::Global;
+use std::marker::Model;
+
+/// Inner nodes made ahead: one for each level above the leaves at most, and one for a new root.
+pub type Spares<K, V> = ArrayVec<Option<Box<Node<K, V>>>, 25>;
+
+/// Nodes that hold nothing, made ahead for one insertion: a leaf for the leaf that it splits, and an inner node for each
+/// further node that it splits and for a new root. A contract sees how many there are.
+#[derive(Drop)]
+pub struct Room<K, V> {
+    pub(crate) leaf: Option<Box<Node<K, V>>>,
+    pub(crate) inner: Spares<K, V>,
+}
+
+impl<K, V> Model for Room<K, V> {
+    ghost use Rattle.std.specs.Prelude.{ℕ};
+    ghost use Rattle.std.specs.Coded.{coded_ℕ};
+
+    ghost Value = { ℕ };
+
+    ghost coded = { coded_ℕ };
+
+    ghost use Rattle.fc_insertion.specs.Room.{room_len, IsRoom};
+
+    ghost view = { λ r. room_len r };
+
+    ghost invariant = { λ r. IsRoom r };
+}
+
+impl<K, V> Room<K, V> {
+    /// How many nodes there are.
+    pub fn len(&self) -> usize
+        ensures { result ≡ self.now }
+    {
+        if self.leaf.is_none() {
+            0
+        } else {
+            self.inner.len() + 1
+        }
+    }
+}
+
+/// Makes the nodes that an insertion at the path needs. The tree is only read.
+///
+/// # Errors
+/// `AllocError` if one of them is refused, and those made before are dropped. Where the leaf has room nothing is asked for.
+pub fn try_room<K: Drop, V: Drop>(
+    alloc: Global,
+    root: &Node<K, V>,
+    path: &[usize],
+) -> Result<Room<K, V>, TryReserveError>
+    requires some { 0 < length path.now }
+    requires short { length path.now ≤ 25 }
+    requires path { IsPath path.now root.now }
+    requires levels { IsLevelled (length path.now - 1) root.now }
+
+    // As many nodes as the insertion uses.
+    ensures ok { IfOk result (λ room. room ≡ nodes_needed path.now root.now) }
+
+    // An insertion into a leaf with room needs none, and only one into a full leaf can be refused.
+    ensures leaf_with_room { length (own_pairs (leaf_at path.now root.now)) < 11 → IsOkAnd result (λ room. room ≡ 0) }
+    ensures refused { OnErr result (length (own_pairs (leaf_at path.now root.now)) ≡ 11) }
+    ensures err { IfErr result (λ e. e ≡ TryReserveError.AllocError) }
+{
+    let split = count_full(root, path);
+    if split == 0 {
+        return Ok(Room {
+            leaf: None,
+            inner: ArrayVec::new(),
+        });
+    }
+    let leaf = Node::try_leaf(alloc)?;
+    let above = if split == path.len() {
+        split
+    } else {
+        split - 1
+    };
+    let inner = try_spares(alloc, above)?;
+    Ok(Room {
+        leaf: Some(leaf),
+        inner,
+    })
+}
+
+// Makes as many inner nodes.
+fn try_spares<K: Drop, V: Drop>(
+    alloc: Global,
+    count: usize,
+) -> Result<Spares<K, V>, TryReserveError>
+    requires { count ≤ 25 }
+    ensures len { IfOk result (λ spares. array_vec_len spares ≡ count) }
+    ensures blank { IfOk result (λ spares. AreSpareInner spares.items) }
+    ensures err { IfErr result (λ e. e ≡ TryReserveError.AllocError) }
+{
+    let mut spares = ArrayVec::new();
+    for _i in 0..count {
+        let node = Node::try_inner(alloc)?;
+        spares.push(Some(node));
+    }
+    Ok(spares)
+}
+
+// How many nodes of the path are full, one after another from the leaf upwards.
+fn count_full<K, V>(node: &Node<K, V>, path: &[usize]) -> usize
+    requires some { 0 < length path.now }
+    requires path { IsPath path.now node.now }
+    requires levels { IsLevelled (length path.now - 1) node.now }
+    ensures { result ≡ cascade path.now node.now }
+{
+    if path.len() == 1 {
+        return if node.len() == CAPACITY { 1 } else { 0 };
+    }
+    let rest = &path[1..];
+    let below = count_full(node.child(path[0]), rest);
+    if below == rest.len() && node.len() == CAPACITY {
+        path.len()
+    } else {
+        below
+    }
+}
+
+// Takes the last of the inner nodes out.
+pub(crate) fn take_spare<K: Drop, V: Drop>(spares: &mut Spares<K, V>) -> Box<Node<K, V>>
+    requires some { 0 < array_vec_len spares.old }
+    requires blank { AreSpareInner spares.old.items }
+    ensures node { IsBlankInner result.value }
+    ensures len { array_vec_len spares.new + 1 ≡ array_vec_len spares.old }
+    ensures blank { AreSpareInner spares.new.items }
+{
+    let Some(last) = spares.pop() else {
+        unreachable!()
+    };
+    let Some(node) = last else { unreachable!() };
+    node
+}

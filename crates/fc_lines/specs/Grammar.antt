@@ -1,0 +1,209 @@
+-- Which lines are commands.
+use Rattle.std.specs.Prelude.{ℕ, ◌^◌, ◌==◌, ◌&&◌, Bool, List, [], ◌∷◌, length, nat_eq, nat_lt, nat_le, codes, Option, Some, None, if◌then◌else◌}
+use Rattle.std.specs.List.{list_all}
+use Rattle.std.specs.Option.{option_map}
+use Rattle.std.specs.Cmp.Lexicographic.{pointwise}
+use Rattle.std.specs.Char.{is_ascii_digit}
+use Rattle.std.specs.Str.Parse.{digits_value}
+use Rattle.std.specs.declared.ops.Bound.{Bound}
+use Rattle.std.specs.declared.ops.Bound.TheVariants.{Included, Excluded, Unbounded}
+use Rattle.fc_lines.specs.declared.command.Side.{Side}
+use Rattle.fc_lines.specs.declared.command.Side.TheVariants.{First, Second}
+use Rattle.fc_lines.specs.declared.command.End.{End}
+use Rattle.fc_lines.specs.declared.command.End.TheVariants.{Front, Back}
+use Rattle.fc_lines.specs.declared.command.Command.{Command}
+use Rattle.fc_lines.specs.declared.command.Command.TheVariants.{Insert, Get, GetKeyValue, ContainsKey, Remove, Set, Entry, RemoveEntry, Len, Clear, Walk, Write}
+use Rattle.fc_lines.specs.Lines.{words_of}
+
+-- What follows is asked only where something is there.
+infixl 10 ◌>>=◌
+abbrev pub ◌>>=◌ : {A B : Type 0} → Option A → (A → Option B) → Option B
+None >>= f = None
+(Some x) >>= f = f x
+
+-- Whether a word is this text.
+abbrev pub is_text : List ℕ → List ℕ → Bool
+is_text word text = pointwise nat_eq word text
+
+-- A number is 1 to 20 digits, of a value below 2 ^ 64.
+abbrev pub is_number : List ℕ → Bool
+is_number word = nat_lt 0 (length word) && nat_le (length word) 20 && list_all is_ascii_digit word && nat_lt (digits_value 10 word) (2 ^ 64)
+
+-- The number that a word writes.
+abbrev pub number_of : List ℕ → Option ℕ
+number_of word = if is_number word then Some (digits_value 10 word) else None
+
+-- The map that a word names.
+abbrev pub map_of : List ℕ → Option Side
+map_of word = if is_text word (codes "a") then Some First else if is_text word (codes "b") then Some Second else None
+
+-- The bound that a word writes: `*` is 42, `=` is 61 and `!` is 33.
+abbrev pub bound_of : List ℕ → Option (Bound ℕ)
+bound_of [] = None
+bound_of (x ∷ digits) = if x == 61 then option_map Included (number_of digits)
+    else if x == 33 then option_map Excluded (number_of digits)
+    else if is_text (x ∷ digits) (codes "*") then Some Unbounded
+    else None
+
+-- The end that a letter names: `f` is 102 and `b` is 98.
+abbrev pub end_of : ℕ → Option End
+end_of x = if x == 102 then Some Front else if x == 98 then Some Back else None
+
+-- The end and the value that a word writes: a letter, then `=`, which is 61, and a number.
+abbrev pub one_write_of : List ℕ → Option (End × ℕ)
+one_write_of (letter ∷ x ∷ digits) = if x == 61 then (end_of letter >>= λ end. option_map (λ v. (end, v)) (number_of digits)) else None
+one_write_of (letter ∷ []) = None
+one_write_of [] = None
+
+-- What each of them is read as, if each is.
+abbrev pub all_read : {A B : Type 0} → (A → Option B) → List A → Option (List B)
+all_read f [] = Some []
+all_read f (x ∷ xs) = f x >>= λ y. option_map (λ ys. y ∷ ys) (all_read f xs)
+
+-- The same of one or more.
+abbrev pub some_read : {A B : Type 0} → (A → Option B) → List A → Option (List B)
+some_read f xs = if nat_lt 0 (length xs) then all_read f xs else None
+
+-- The first word, and the words after it.
+abbrev pub word_at : List (List ℕ) → Option (List ℕ × List (List ℕ))
+word_at [] = None
+word_at (word ∷ words) = Some (word, words)
+
+-- The map that the first word names, and the words after it.
+unfoldable pub map_at : List (List ℕ) → Option (Side × List (List ℕ))
+map_at words = do
+  first ← word_at words
+  side ← map_of first.0
+  Some (side, first.1)
+
+-- The number that the first word writes, and the words after it.
+unfoldable pub number_at : List (List ℕ) → Option (ℕ × List (List ℕ))
+number_at words = do
+  first ← word_at words
+  n ← number_of first.0
+  Some (n, first.1)
+
+-- The bound that the first word writes, and the words after it.
+unfoldable pub bound_at : List (List ℕ) → Option (Bound ℕ × List (List ℕ))
+bound_at words = do
+  first ← word_at words
+  bound ← bound_of first.0
+  Some (bound, first.1)
+
+-- The command, if no word is left.
+abbrev pub ends : Command ℕ ℕ → List (List ℕ) → Option (Command ℕ ℕ)
+ends command [] = Some command
+ends command (word ∷ words) = None
+
+-- The words after `insert` are a map, a key and a value.
+unfoldable pub insert_of : List (List ℕ) → Option (Command ℕ ℕ)
+insert_of words = do
+  m ← map_at words
+  k ← number_at m.1
+  v ← number_at k.1
+  ends (Insert m.0 k.0 v.0) v.1
+
+-- The words after `get` are a map and a key.
+unfoldable pub get_of : List (List ℕ) → Option (Command ℕ ℕ)
+get_of words = do
+  m ← map_at words
+  k ← number_at m.1
+  ends (Get m.0 k.0) k.1
+
+-- The words after `pair` are a map and a key.
+unfoldable pub pair_of : List (List ℕ) → Option (Command ℕ ℕ)
+pair_of words = do
+  m ← map_at words
+  k ← number_at m.1
+  ends (GetKeyValue m.0 k.0) k.1
+
+-- The words after `has` are a map and a key.
+unfoldable pub has_of : List (List ℕ) → Option (Command ℕ ℕ)
+has_of words = do
+  m ← map_at words
+  k ← number_at m.1
+  ends (ContainsKey m.0 k.0) k.1
+
+-- The words after `remove` are a map and a key.
+unfoldable pub remove_of : List (List ℕ) → Option (Command ℕ ℕ)
+remove_of words = do
+  m ← map_at words
+  k ← number_at m.1
+  ends (Remove m.0 k.0) k.1
+
+-- The words after `set` are a map, a key and a value.
+unfoldable pub set_of : List (List ℕ) → Option (Command ℕ ℕ)
+set_of words = do
+  m ← map_at words
+  k ← number_at m.1
+  v ← number_at k.1
+  ends (Set m.0 k.0 v.0) v.1
+
+-- The words after `entry` are a map, a key and two values.
+unfoldable pub entry_of : List (List ℕ) → Option (Command ℕ ℕ)
+entry_of words = do
+  m ← map_at words
+  k ← number_at m.1
+  v ← number_at k.1
+  w ← number_at v.1
+  ends (Entry m.0 k.0 v.0 w.0) w.1
+
+-- The words after `evict` are a map and a key.
+unfoldable pub evict_of : List (List ℕ) → Option (Command ℕ ℕ)
+evict_of words = do
+  m ← map_at words
+  k ← number_at m.1
+  ends (RemoveEntry m.0 k.0) k.1
+
+-- The word after `len` is a map.
+unfoldable pub len_of : List (List ℕ) → Option (Command ℕ ℕ)
+len_of words = do
+  m ← map_at words
+  ends (Len m.0) m.1
+
+-- The word after `clear` is a map.
+unfoldable pub clear_of : List (List ℕ) → Option (Command ℕ ℕ)
+clear_of words = do
+  m ← map_at words
+  ends (Clear m.0) m.1
+
+-- The words after `walk` are a map, two bounds and one word of letters.
+unfoldable pub walk_of : List (List ℕ) → Option (Command ℕ ℕ)
+walk_of words = do
+  m ← map_at words
+  lo ← bound_at m.1
+  hi ← bound_at lo.1
+  letters ← word_at hi.1
+  list ← some_read end_of letters.0
+  ends (Walk m.0 lo.0 hi.0 list) letters.1
+
+-- The words after `write` are a map, two bounds and one or more writes.
+unfoldable pub write_of : List (List ℕ) → Option (Command ℕ ℕ)
+write_of words = do
+  m ← map_at words
+  lo ← bound_at m.1
+  hi ← bound_at lo.1
+  writes ← some_read one_write_of hi.1
+  Some (Write m.0 lo.0 hi.0 writes)
+
+-- The command that the words ask for, by the first of them.
+unfoldable pub command_of_words : List (List ℕ) → Option (Command ℕ ℕ)
+command_of_words words = do
+  first ← word_at words
+  if is_text first.0 (codes "insert") then insert_of first.1
+      else if is_text first.0 (codes "get") then get_of first.1
+      else if is_text first.0 (codes "pair") then pair_of first.1
+      else if is_text first.0 (codes "has") then has_of first.1
+      else if is_text first.0 (codes "remove") then remove_of first.1
+      else if is_text first.0 (codes "set") then set_of first.1
+      else if is_text first.0 (codes "entry") then entry_of first.1
+      else if is_text first.0 (codes "evict") then evict_of first.1
+      else if is_text first.0 (codes "len") then len_of first.1
+      else if is_text first.0 (codes "clear") then clear_of first.1
+      else if is_text first.0 (codes "walk") then walk_of first.1
+      else if is_text first.0 (codes "write") then write_of first.1
+      else None
+
+-- The command that a line of at most 4096 bytes asks for, if it is one.
+unfoldable pub command_of : List ℕ → Option (Command ℕ ℕ)
+command_of line = if nat_le (length line) 4096 then command_of_words (words_of line) else None

@@ -1,0 +1,398 @@
+//! Lines as commands.
+ghost use Rattle.std.specs.Prelude.{◌≡◌, ◌^◌, ◌∷◌, ◌==◌, IfOk, position, nat_lt, Some, None, IsTrue, vec_items, if◌then◌else◌};
+ghost use Rattle.std.specs.List.{list_all};
+ghost use Rattle.std.specs.Char.{is_ascii_digit};
+ghost use Rattle.std.specs.Str.Parse.{digits_value};
+ghost use Rattle.std.specs.Option.{option_map};
+ghost use Rattle.fc_lines.specs.Lines.{words_of, words_left};
+ghost use Rattle.fc_lines.specs.Grammar.{
+  command_of,
+  number_of,
+  map_of,
+  bound_of,
+  end_of,
+  one_write_of,
+  some_read,
+  word_at,
+  map_at,
+  number_at,
+  bound_at,
+  ends,
+  insert_of,
+  get_of,
+  pair_of,
+  has_of,
+  remove_of,
+  set_of,
+  entry_of,
+  evict_of,
+  len_of,
+  clear_of,
+  walk_of,
+  write_of,
+  command_of_words,
+};
+
+use crate::command::{Command, End, Side};
+use crate::items::Items;
+use std::alloc::{AllocError, Global};
+use std::ops::Bound;
+
+/// The most bytes that a line has, without its line feed.
+pub const MAX_LINE: usize = 4096;
+
+/// The command that a line asks for, if it is one.
+///
+/// # Errors
+/// `AllocError` where room for a list in the command was refused.
+#[tactic(auto, unfolding(crate::specs::Grammar::command_of))]
+pub fn command_in(alloc: Global, line: &[u8]) -> Result<Option<Command<u64, u64>>, AllocError>
+    ensures { IfOk result (λ command. command ≡ command_of line.now) }
+{
+    if line.len() <= MAX_LINE {
+        command_in_words(alloc, Some(line))
+    } else {
+        Ok(None)
+    }
+}
+
+#[tactic(auto, unfolding(crate::specs::Grammar::command_of_words))]
+fn command_in_words(
+    alloc: Global,
+    words: Option<&[u8]>,
+) -> Result<Option<Command<u64, u64>>, AllocError>
+    ensures { IfOk result (λ command. command ≡ command_of_words (words_left words.entry)) }
+{
+    let Some((word, words)) = next_word(words) else {
+        return Ok(None)
+    };
+    if word == b"insert".as_slice() {
+        Ok(insert_in(words))
+    } else if word == b"get".as_slice() {
+        Ok(get_in(words))
+    } else if word == b"pair".as_slice() {
+        Ok(pair_in(words))
+    } else if word == b"has".as_slice() {
+        Ok(has_in(words))
+    } else if word == b"remove".as_slice() {
+        Ok(remove_in(words))
+    } else if word == b"set".as_slice() {
+        Ok(set_in(words))
+    } else if word == b"entry".as_slice() {
+        Ok(entry_in(words))
+    } else if word == b"evict".as_slice() {
+        Ok(evict_in(words))
+    } else if word == b"len".as_slice() {
+        Ok(len_in(words))
+    } else if word == b"clear".as_slice() {
+        Ok(clear_in(words))
+    } else if word == b"walk".as_slice() {
+        walk_in(alloc, words)
+    } else if word == b"write".as_slice() {
+        write_in(alloc, words)
+    } else {
+        Ok(None)
+    }
+}
+
+#[tactic(auto, unfolding(crate::specs::Grammar::insert_of))]
+fn insert_in(words: Option<&[u8]>) -> Option<Command<u64, u64>>
+    ensures { result ≡ insert_of (words_left words.entry) }
+{
+    let (side, words) = next_map(words)?;
+    let (key, words) = next_number(words)?;
+    let (value, words) = next_number(words)?;
+    ending(Command::Insert(side, key, value), words)
+}
+
+#[tactic(auto, unfolding(crate::specs::Grammar::get_of))]
+fn get_in(words: Option<&[u8]>) -> Option<Command<u64, u64>>
+    ensures { result ≡ get_of (words_left words.entry) }
+{
+    let (side, words) = next_map(words)?;
+    let (key, words) = next_number(words)?;
+    ending(Command::Get(side, key), words)
+}
+
+#[tactic(auto, unfolding(crate::specs::Grammar::pair_of))]
+fn pair_in(words: Option<&[u8]>) -> Option<Command<u64, u64>>
+    ensures { result ≡ pair_of (words_left words.entry) }
+{
+    let (side, words) = next_map(words)?;
+    let (key, words) = next_number(words)?;
+    ending(Command::GetKeyValue(side, key), words)
+}
+
+#[tactic(auto, unfolding(crate::specs::Grammar::has_of))]
+fn has_in(words: Option<&[u8]>) -> Option<Command<u64, u64>>
+    ensures { result ≡ has_of (words_left words.entry) }
+{
+    let (side, words) = next_map(words)?;
+    let (key, words) = next_number(words)?;
+    ending(Command::ContainsKey(side, key), words)
+}
+
+#[tactic(auto, unfolding(crate::specs::Grammar::remove_of))]
+fn remove_in(words: Option<&[u8]>) -> Option<Command<u64, u64>>
+    ensures { result ≡ remove_of (words_left words.entry) }
+{
+    let (side, words) = next_map(words)?;
+    let (key, words) = next_number(words)?;
+    ending(Command::Remove(side, key), words)
+}
+
+#[tactic(auto, unfolding(crate::specs::Grammar::set_of))]
+fn set_in(words: Option<&[u8]>) -> Option<Command<u64, u64>>
+    ensures { result ≡ set_of (words_left words.entry) }
+{
+    let (side, words) = next_map(words)?;
+    let (key, words) = next_number(words)?;
+    let (value, words) = next_number(words)?;
+    ending(Command::Set(side, key, value), words)
+}
+
+#[tactic(auto, unfolding(crate::specs::Grammar::entry_of))]
+fn entry_in(words: Option<&[u8]>) -> Option<Command<u64, u64>>
+    ensures { result ≡ entry_of (words_left words.entry) }
+{
+    let (side, words) = next_map(words)?;
+    let (key, words) = next_number(words)?;
+    let (there, words) = next_number(words)?;
+    let (new, words) = next_number(words)?;
+    ending(Command::Entry(side, key, there, new), words)
+}
+
+#[tactic(auto, unfolding(crate::specs::Grammar::evict_of))]
+fn evict_in(words: Option<&[u8]>) -> Option<Command<u64, u64>>
+    ensures { result ≡ evict_of (words_left words.entry) }
+{
+    let (side, words) = next_map(words)?;
+    let (key, words) = next_number(words)?;
+    ending(Command::RemoveEntry(side, key), words)
+}
+
+#[tactic(auto, unfolding(crate::specs::Grammar::len_of))]
+fn len_in(words: Option<&[u8]>) -> Option<Command<u64, u64>>
+    ensures { result ≡ len_of (words_left words.entry) }
+{
+    let (side, words) = next_map(words)?;
+    ending(Command::Len(side), words)
+}
+
+#[tactic(auto, unfolding(crate::specs::Grammar::clear_of))]
+fn clear_in(words: Option<&[u8]>) -> Option<Command<u64, u64>>
+    ensures { result ≡ clear_of (words_left words.entry) }
+{
+    let (side, words) = next_map(words)?;
+    ending(Command::Clear(side), words)
+}
+
+#[tactic(auto, unfolding(crate::specs::Grammar::walk_of))]
+fn walk_in(alloc: Global, words: Option<&[u8]>) -> Result<Option<Command<u64, u64>>, AllocError>
+    ensures { IfOk result (λ command. command ≡ walk_of (words_left words.entry)) }
+{
+    let Some((side, words)) = next_map(words) else {
+        return Ok(None)
+    };
+    let Some((lo, words)) = next_bound(words) else {
+        return Ok(None)
+    };
+    let Some((hi, words)) = next_bound(words) else {
+        return Ok(None)
+    };
+    let Some((letters, words)) = next_word(words) else {
+        return Ok(None)
+    };
+    let Some(list) = ends_in(alloc, letters)? else {
+        return Ok(None)
+    };
+    Ok(ending(Command::Walk(side, lo, hi, Items::from(list)), words))
+}
+
+#[tactic(auto, unfolding(crate::specs::Grammar::write_of))]
+fn write_in(alloc: Global, words: Option<&[u8]>) -> Result<Option<Command<u64, u64>>, AllocError>
+    ensures { IfOk result (λ command. command ≡ write_of (words_left words.entry)) }
+{
+    let Some((side, words)) = next_map(words) else {
+        return Ok(None)
+    };
+    let Some((lo, words)) = next_bound(words) else {
+        return Ok(None)
+    };
+    let Some((hi, words)) = next_bound(words) else {
+        return Ok(None)
+    };
+    let Some(list) = writes_in(alloc, words)? else {
+        return Ok(None)
+    };
+    Ok(Some(Command::Write(side, lo, hi, Items::from(list))))
+}
+
+// The ends that the letters of a word name.
+fn ends_in(alloc: Global, letters: &[u8]) -> Result<Option<Vec<End>>, AllocError>
+    ensures { IfOk result (λ list. option_map vec_items list ≡ some_read end_of letters.now) }
+{
+    if letters.is_empty() {
+        return Ok(None);
+    }
+    let mut list = Vec::with_capacity(alloc, letters.len())?;
+    for letter in letters {
+        let Some(end) = end_in(*letter) else {
+            return Ok(None)
+        };
+        list.push(end)?;
+    }
+    Ok(Some(list))
+}
+
+// The writes of all words that are left.
+fn writes_in(alloc: Global, words: Option<&[u8]>) -> Result<Option<Vec<(End, u64)>>, AllocError>
+    ensures { IfOk result (λ list. option_map vec_items list ≡ some_read one_write_of (words_left words.entry)) }
+{
+    let mut list = Vec::new(alloc);
+    let mut words = words;
+    while let Some(line) = words {
+        let (word, rest) = first_word(line);
+        let Some(write) = one_write_in(word) else {
+            return Ok(None)
+        };
+        list.push(write)?;
+        words = rest;
+    }
+    if list.is_empty() {
+        Ok(None)
+    } else {
+        Ok(Some(list))
+    }
+}
+
+// The command, if no word is left.
+fn ending(command: Command<u64, u64>, words: Option<&[u8]>) -> Option<Command<u64, u64>>
+    ensures { result ≡ ends command (words_left words.entry) }
+{
+    match words {
+        None => Some(command),
+        Some(_) => None,
+    }
+}
+
+#[tactic(auto, unfolding(crate::specs::Grammar::map_at))]
+fn next_map(words: Option<&[u8]>) -> Option<(Side, Option<&[u8]>)>
+    ensures { option_map (λ x. (x.0, words_left x.1)) result ≡ map_at (words_left words.entry) }
+{
+    let (word, words) = next_word(words)?;
+    let side = map_in(word)?;
+    Some((side, words))
+}
+
+#[tactic(auto, unfolding(crate::specs::Grammar::number_at))]
+fn next_number(words: Option<&[u8]>) -> Option<(u64, Option<&[u8]>)>
+    ensures { option_map (λ x. (x.0, words_left x.1)) result ≡ number_at (words_left words.entry) }
+{
+    let (word, words) = next_word(words)?;
+    let n = number_in(word)?;
+    Some((n, words))
+}
+
+#[tactic(auto, unfolding(crate::specs::Grammar::bound_at))]
+fn next_bound(words: Option<&[u8]>) -> Option<(Bound<u64>, Option<&[u8]>)>
+    ensures { option_map (λ x. (x.0, words_left x.1)) result ≡ bound_at (words_left words.entry) }
+{
+    let (word, words) = next_word(words)?;
+    let bound = bound_in(word)?;
+    Some((bound, words))
+}
+
+fn bound_in(word: &[u8]) -> Option<Bound<u64>>
+    ensures { result ≡ bound_of word.now }
+{
+    match word {
+        [b'*'] => Some(Bound::Unbounded),
+        [b'=', digits @ ..] => Some(Bound::Included(number_in(digits)?)),
+        [b'!', digits @ ..] => Some(Bound::Excluded(number_in(digits)?)),
+        _ => None,
+    }
+}
+
+fn one_write_in(word: &[u8]) -> Option<(End, u64)>
+    ensures { result ≡ one_write_of word.now }
+{
+    match word {
+        [letter, b'=', digits @ ..] => Some((end_in(*letter)?, number_in(digits)?)),
+        _ => None,
+    }
+}
+
+fn end_in(letter: u8) -> Option<End>
+    ensures { result ≡ end_of letter }
+{
+    match letter {
+        b'f' => Some(End::Front),
+        b'b' => Some(End::Back),
+        _ => None,
+    }
+}
+
+fn map_in(word: &[u8]) -> Option<Side>
+    ensures { result ≡ map_of word.now }
+{
+    if word == b"a".as_slice() {
+        Some(Side::First)
+    } else if word == b"b".as_slice() {
+        Some(Side::Second)
+    } else {
+        None
+    }
+}
+
+fn number_in(word: &[u8]) -> Option<u64>
+    ensures { result ≡ number_of word.now }
+{
+    if !word.is_empty() && word.len() <= 20 && are_digits(word) {
+        value_in(word)
+    } else {
+        None
+    }
+}
+
+// The value of digits, if it is below 2^64.
+fn value_in(digits: &[u8]) -> Option<u64>
+    requires { IsTrue (list_all is_ascii_digit digits.now) }
+    ensures { result ≡ if nat_lt (digits_value 10 digits.now) (2 ^ 64) then Some (digits_value 10 digits.now) else None }
+{
+    let mut n: u64 = 0;
+    for digit in digits {
+        let tens = n.checked_mul(10)?;
+        n = tens.checked_add(u64::from(*digit - b'0'))?;
+    }
+    Some(n)
+}
+
+// The word before the first space, and what follows that space.
+fn next_word(words: Option<&[u8]>) -> Option<(&[u8], Option<&[u8]>)>
+    ensures { option_map (λ x. (x.0.now, words_left x.1)) result ≡ word_at (words_left words.entry) }
+{
+    let line = words?;
+    Some(first_word(line))
+}
+
+fn first_word(line: &[u8]) -> (&[u8], Option<&[u8]>)
+    ensures { words_of line.now ≡ result.0.now ∷ words_left result.1 }
+{
+    match space_in(line) {
+        Some(end) => (&line[..end], Some(&line[end + 1..])),
+        None => (line, None),
+    }
+}
+
+fn space_in(line: &[u8]) -> Option<usize>
+    ensures { result ≡ position (λ x. x == 32) line.now }
+{
+    line.iter().position(|b| *b == b' ')
+}
+
+fn are_digits(word: &[u8]) -> bool
+    ensures { result ≡ list_all is_ascii_digit word.now }
+{
+    word.iter().all(|b| b.is_ascii_digit())
+}

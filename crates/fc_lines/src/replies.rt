@@ -1,0 +1,57 @@
+//! Replies as text.
+ghost use Rattle.std.specs.Prelude.{◌≡◌, ◌++◌, OnOk, codes, string_bytes};
+ghost use Rattle.std.specs.List.{flat_map};
+ghost use Rattle.fc_lines.specs.Texts.{text_of, step_text, fault_text};
+
+use crate::command::Reply;
+use fc_base::TryReserveError;
+use std::alloc::AllocError;
+use std::fmt::Write;
+
+/// Appends the line that is written for a reply.
+///
+/// # Errors
+/// `AllocError` where the text has no room and growing it was refused.
+#[tactic(auto, unfolding(crate::specs::Texts::text_of))]
+pub fn write_reply(text: &mut String, reply: &Reply<u64, u64>) -> Result<(), AllocError>
+    ensures { OnOk result (string_bytes text.new ≡ string_bytes text.old ++ text_of reply.now) }
+{
+    match reply {
+        Reply::Done => write!(text, "done\n"),
+        Reply::Flag(true) => write!(text, "true\n"),
+        Reply::Flag(false) => write!(text, "false\n"),
+        Reply::Key(None) | Reply::Value(None) | Reply::Pair(None) => write!(text, "none\n"),
+        Reply::Key(Some(n)) | Reply::Value(Some(n)) => write!(text, "some {n}\n"),
+        Reply::Pair(Some((key, value))) => write!(text, "some {key} {value}\n"),
+        Reply::Len(n) => write!(text, "{n}\n"),
+        Reply::Pairs(steps) => write_steps(text, steps.as_slice()),
+        Reply::BadRange => write!(text, "bad range\n"),
+        Reply::Refused(TryReserveError::AllocError) => write!(text, "refused alloc\n"),
+        Reply::Refused(TryReserveError::CapacityOverflow) => { write!(text, "refused overflow\n") }
+    }
+}
+
+// Appends what each step of a walk gave.
+fn write_steps(text: &mut String, steps: &[Option<(u64, u64)>]) -> Result<(), AllocError>
+    ensures { OnOk result (string_bytes text.new ≡ string_bytes text.old ++ codes "list" ++ flat_map step_text steps.now ++ codes "\n") }
+{
+    write!(text, "list")?;
+    for step in steps {
+        match step {
+            Some((key, value)) => write!(text, " {key}:{value}")?,
+            None => write!(text, " -")?,
+        }
+    }
+    write!(text, "\n")
+}
+
+/// Appends the line that is written for line `n`, which is not a command.
+///
+/// # Errors
+/// `AllocError` where the text has no room and growing it was refused.
+#[tactic(auto, unfolding(crate::specs::Texts::fault_text))]
+pub fn write_fault(text: &mut String, n: u64) -> Result<(), AllocError>
+    ensures { OnOk result (string_bytes text.new ≡ string_bytes text.old ++ fault_text n) }
+{
+    write!(text, "line {n}: not a command\n")
+}

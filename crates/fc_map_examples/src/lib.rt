@@ -1,0 +1,8 @@
+//! Callers of the ordered map whose contracts are proved from the map's public clauses alone: forms to start from.
+#![tactic(auto)]
+
+pub mod entry;
+pub mod into_iter;
+pub mod iter;
+pub mod iter_mut;
+pub mod range;

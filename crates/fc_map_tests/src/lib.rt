@@ -1,0 +1,15 @@
+//! Tests of the ordered map through its public calls.
+#![tactic(auto)]
+
+#[cfg(test)]
+mod get_mut;
+#[cfg(test)]
+mod into_iter;
+#[cfg(test)]
+mod iter;
+#[cfg(test)]
+mod iter_mut;
+#[cfg(test)]
+mod map;
+#[cfg(test)]
+mod range;

@@ -1,0 +1,132 @@
+//! How many moves calls on lists of given lengths make: numbers, proved from the contracts of the calls.
+ghost use Rattle.std.specs.Prelude.{◌≡◌, ◌+◌, ◌<◌, ◌≤◌, [], length};
+ghost use Rattle.fc_node.specs.Node.{own_pairs, child_at, IsLeaf, IsInner, IsBlankLeaf};
+ghost use Rattle.fc_node.specs.Siblings.{AreAlike};
+
+use fc_base::Count;
+use fc_node::node::Node;
+use fc_slots::slots::Slots;
+
+/// An insertion at 3 into 7 items makes 5 moves.
+pub fn insert_at_three_of_seven<T: Drop>(list: &mut Slots<T, 11>, item: T) -> Count
+    requires { length list.old ≡ 7 }
+    ensures { result.moves ≡ 5 }
+{
+    let mut count = Count::new();
+    list.insert(3, item, &mut count);
+    count
+}
+
+/// The removal at 3 of 7 items makes 4 moves.
+pub fn remove_at_three_of_seven<T: Drop>(list: &mut Slots<T, 11>) -> Count
+    requires { length list.old ≡ 7 }
+    ensures { result.moves ≡ 4 }
+{
+    let mut count = Count::new();
+    drop(list.remove(3, &mut count));
+    count
+}
+
+/// To move the items from 7 on, of 11, makes 4 moves.
+pub fn move_from_seven_of_eleven<T: Drop>(
+    list: &mut Slots<T, 11>,
+    other: &mut Slots<T, 11>,
+) -> Count
+    requires full { length list.old ≡ 11 }
+    requires room { length other.old ≤ 7 }
+    ensures { result.moves ≡ 4 }
+{
+    let mut count = Count::new();
+    list.move_tail(7, other, &mut count);
+    count
+}
+
+/// To move the first 2 of 8 items makes 8 moves.
+pub fn move_first_two_of_eight<T: Drop>(list: &mut Slots<T, 11>, other: &mut Slots<T, 11>) -> Count
+    requires eight { length list.old ≡ 8 }
+    requires room { length other.old ≤ 9 }
+    ensures { result.moves ≡ 8 }
+{
+    let mut count = Count::new();
+    list.move_front(2, other, &mut count);
+    count
+}
+
+/// To move the last 3 items to the front of a list of 4 makes 7 moves.
+pub fn move_last_three_before_four<T: Drop>(
+    list: &mut Slots<T, 11>,
+    other: &mut Slots<T, 11>,
+) -> Count
+    requires some { 3 ≤ length list.old }
+    requires four { length other.old ≡ 4 }
+    ensures { result.moves ≡ 7 }
+{
+    let mut count = Count::new();
+    list.move_back(3, other, &mut count);
+    count
+}
+
+/// The split of a full node makes 12, 7, 12, 10 or 6 moves where the new pair goes to 0, 5, 6, 7 or 11.
+pub fn split_full<K: Drop, V: Drop>(
+    node: &mut Node<K, V>,
+    index: usize,
+    pair: (K, V),
+    right: Box<Node<K, V>>,
+) -> Count
+    requires full { length (own_pairs node.old) ≡ 11 }
+    requires in_bounds { index ≤ 11 }
+    requires leaf { IsLeaf node.old }
+    requires blank { IsBlankLeaf right.value }
+    ensures first { index ≡ 0 → result.moves ≡ 12 }
+    ensures before_middle { index ≡ 5 → result.moves ≡ 7 }
+    ensures after_middle { index ≡ 6 → result.moves ≡ 12 }
+    ensures behind_middle { index ≡ 7 → result.moves ≡ 10 }
+    ensures last { index ≡ 11 → result.moves ≡ 6 }
+{
+    let mut count = Count::new();
+    let (_up, _right) = node.split_leaf(index, pair, right, &mut count);
+    count
+}
+
+/// A theft from the left into a node of 4 pairs makes 8 moves.
+pub fn steal_left_into_four<K: Drop, V: Drop>(node: &mut Node<K, V>, index: usize) -> Count
+    requires in_bounds { index < length (own_pairs node.old) }
+    requires inner { IsInner node.old }
+    requires alike { AreAlike (child_at node.old index) (child_at node.old (index + 1)) }
+    requires some { 0 < length (own_pairs (child_at node.old index)) }
+    requires four { length (own_pairs (child_at node.old (index + 1))) ≡ 4 }
+    ensures { result.moves ≡ 8 }
+{
+    let mut count = Count::new();
+    node.steal_left(index, &mut count);
+    count
+}
+
+/// A theft from the right, of 11 pairs, into a node of 4 makes 14 moves.
+pub fn steal_right_of_eleven<K: Drop, V: Drop>(node: &mut Node<K, V>, index: usize) -> Count
+    requires in_bounds { index < length (own_pairs node.old) }
+    requires inner { IsInner node.old }
+    requires alike { AreAlike (child_at node.old index) (child_at node.old (index + 1)) }
+    requires eleven { length (own_pairs (child_at node.old (index + 1))) ≡ 11 }
+    requires four { length (own_pairs (child_at node.old index)) ≡ 4 }
+    ensures { result.moves ≡ 14 }
+{
+    let mut count = Count::new();
+    node.steal_right(index, &mut count);
+    count
+}
+
+/// A merge makes at most 18 moves where the parent is full, the child that takes it holds 4 pairs and its sibling 6.
+pub fn merge_four_and_six<K: Drop, V: Drop>(node: &mut Node<K, V>, index: usize) -> Count
+    requires in_bounds { index < length (own_pairs node.old) }
+    requires fits { length (own_pairs node.old) ≤ 11 }
+    requires inner { IsInner node.old }
+    requires alike { AreAlike (child_at node.old index) (child_at node.old (index + 1)) }
+    requires four { length (own_pairs (child_at node.old index)) ≡ 4 }
+    requires six { length (own_pairs (child_at node.old (index + 1))) ≤ 6 }
+    ensures { result.moves ≤ 18 }
+{
+    let mut count = Count::new();
+    node.merge(index, &mut count);
+    count
+}

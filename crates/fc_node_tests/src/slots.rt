@@ -1,0 +1,119 @@
+// Each item is dropped once, by a type that counts its drops.
+use fc_base::Count;
+use fc_slots::slots::Slots;
+use std::alloc::{AllocError, Global};
+use std::cell::Cell;
+use std::process::Abort;
+use std::test::Fail;
+
+// An item that counts its drop.
+struct Token<'a> {
+    id: u64,
+    drops: &'a Cell<u64>,
+}
+
+impl Drop for Token<'_> {
+    fn drop(self) {
+        let Token { id: _, drops } = self;
+        drops.set(drops.get().wrapping_add(1));
+    }
+}
+
+// A list of `n` items that are numbered from `first` on.
+fn list<'a>(
+    rt: &impl Abort,
+    alloc: Global,
+    first: u64,
+    n: usize,
+    drops: &'a Cell<u64>,
+) -> Result<Slots<Token<'a>, 4>, Fail> {
+    let mut slots = Slots::try_new(alloc)?;
+    for i in 0..n {
+        let len = slots.len();
+        assert!(rt; len < 4);
+        let id = first.wrapping_add(i as u64);
+        slots.insert(len, Token { id, drops }, &mut Count::new());
+    }
+    Ok(slots)
+}
+
+// The list holds the items of these numbers.
+fn assert_ids(rt: &impl Abort, slots: &Slots<Token<'_>, 4>, ids: &[u64]) {
+    assert_eq!(rt; slots.len(), ids.len());
+    for i in 0..ids.len() {
+        assert_eq!(rt; slots.get(i).id, ids[i]);
+    }
+}
+
+#[test]
+fn a_dropped_list_drops_each_item_once(rt: HostRuntime) -> Result<(), Fail> {
+    for n in [0, 1, 4] {
+        let drops = Cell::new(0);
+        let slots = list(&rt, rt.alloc(), 0, n, &drops)?;
+        assert_eq!(&rt; drops.get(), 0);
+        drop(slots);
+        assert_eq!(&rt; drops.get(), n as u64);
+    }
+    Ok(())
+}
+
+#[test]
+fn a_removed_or_replaced_item_is_handed_out(rt: HostRuntime) -> Result<(), Fail> {
+    let drops = Cell::new(0);
+    let mut slots = list(&rt, rt.alloc(), 0, 4, &drops)?;
+    assert_eq!(&rt; slots.len(), 4);
+    let gone = slots.remove(1, &mut Count::new());
+    assert!(&rt; gone.id == 1 && drops.get() == 0);
+    drop(gone);
+    assert_eq!(&rt; drops.get(), 1);
+    assert_ids(&rt, &slots, &[0, 2, 3]);
+    let token = Token {
+        id: 9,
+        drops: &drops,
+    };
+    let gone = slots.replace(2, token, &mut Count::new());
+    assert!(&rt; gone.id == 3 && drops.get() == 1);
+    drop(gone);
+    assert_ids(&rt, &slots, &[0, 2, 9]);
+    drop(slots);
+    assert_eq!(&rt; drops.get(), 5);
+    Ok(())
+}
+
+#[test]
+fn moved_items_are_dropped_by_the_list_that_has_them(rt: HostRuntime) -> Result<(), Fail> {
+    for call in 0..3 {
+        let drops = Cell::new(0);
+        let mut count = Count::new();
+        let mut slots = list(&rt, rt.alloc(), 0, 4, &drops)?;
+        let mut other = list(&rt, rt.alloc(), 7, 1, &drops)?;
+        assert!(&rt; slots.len() == 4 && other.len() == 1);
+        match call {
+            0 => slots.move_tail(1, &mut other, &mut count),
+            1 => slots.move_front(3, &mut other, &mut count),
+            _ => slots.move_back(3, &mut other, &mut count),
+        }
+        assert_eq!(&rt; drops.get(), 0);
+        let (kept, moved) = match call {
+            0 => ([0], [7, 1, 2, 3]),
+            1 => ([3], [7, 0, 1, 2]),
+            _ => ([0], [1, 2, 3, 7]),
+        };
+        assert_ids(&rt, &slots, &kept);
+        assert_ids(&rt, &other, &moved);
+        drop(slots);
+        assert_eq!(&rt; drops.get(), 1);
+        drop(other);
+        assert_eq!(&rt; drops.get(), 5);
+    }
+    Ok(())
+}
+
+#[test]
+fn what_is_written_to_a_lent_item_stays(rt: HostRuntime) -> Result<(), Fail> {
+    let mut slots: Slots<u64, 4> = Slots::try_new(rt.alloc())?;
+    slots.insert(0, 5, &mut Count::new());
+    *slots.get_mut(0) = 3;
+    assert_eq!(&rt; *slots.get(0), 3);
+    Ok(())
+}

@@ -1,0 +1,147 @@
+//! Removal at a place, which mends the nodes above it on its way up.
+ghost use Rattle.std.specs.Prelude.{◌≡◌, ℕ, suc, ◌+◌, ◌-◌, ◌*◌, ◌<◌, ◌≤◌, [], ◌∷◌, ◌++◌, length};
+ghost use Rattle.fc_node.specs.Node.{own_pairs, child_at, pairs_of, IsLevelled, IsSoundRoot};
+ghost use Rattle.fc_node.specs.Place.{IsPlace, place_pair, place_ahead, place_behind};
+ghost use Rattle.fc_node.specs.Siblings.{IsMerged, IsShared};
+ghost use Rattle.fc_removal.specs.Mending.{together, IsShortAt};
+ghost use Rattle.fc_removal.specs.Removal.{IsShrunk, IsTreeLeft, tree_pairs};
+
+use fc_base::Count;
+use fc_node::node::{CAPACITY, MIN_LEN, Node};
+
+/// Takes the pair at the place out of the tree below `root`, and hands out what is left of the tree: none where that was the
+/// only pair. It compares nothing and takes no memory.
+pub fn remove<K: Drop, V: Drop>(
+    root: Box<Node<K, V>>,
+    path: &[usize],
+    count: &mut Count,
+) -> ((K, V), Option<Box<Node<K, V>>>)
+    requires sound { (h : ℕ) × IsSoundRoot h root.value }
+    requires place { IsPlace path.now root.value }
+    ensures pair { place_pair path.now root.value ≡ Some result.0 }
+    ensures pairs { tree_pairs result.1 ≡ place_ahead path.now root.value ++ place_behind path.now root.value }
+
+    // The tree is as high as before or one level lower.
+    ensures levels { (h : ℕ) → IsSoundRoot h root.value → IsTreeLeft h result.1 }
+    ensures moves { (h : ℕ) → IsSoundRoot h root.value → count.new.moves ≤ count.old.moves + 18 * (h + 1) }
+    ensures comparisons { count.new.comparisons ≡ count.old.comparisons }
+{
+    let mut root = root;
+    let node: &mut Node<K, V> = &mut root;
+    let pair = remove_at(node, path, count);
+    (pair, without_empty_root(root))
+}
+
+// A root without pairs gives way to its only child.
+fn without_empty_root<K: Drop, V: Drop>(root: Box<Node<K, V>>) -> Option<Box<Node<K, V>>>
+    requires { (h : ℕ) × IsLevelled h root.value }
+    ensures pairs { tree_pairs result ≡ pairs_of root.value }
+    ensures levels { (h : ℕ) → IsLevelled h root.value → IsTreeLeft h result }
+{
+    if root.len() > 0 {
+        return Some(root);
+    }
+    let Node { pairs: _, children } = Box::into_inner(root);
+    match children {
+        None => None,
+        Some(mut children) => Some(children.remove(0)),
+    }
+}
+
+// Takes the pair at the place out, and mends the nodes below `node`.
+fn remove_at<K: Drop, V: Drop>(node: &mut Node<K, V>, path: &[usize], count: &mut Count) -> (K, V)
+    requires sound { (h : ℕ) × IsSoundRoot h node.old }
+    requires place { IsPlace path.now node.old }
+    ensures pair { place_pair path.now node.old ≡ Some result }
+    ensures pairs { pairs_of node.new ≡ place_ahead path.now node.old ++ place_behind path.now node.old }
+    ensures levels { (h : ℕ) → IsSoundRoot h node.old → IsShrunk h node.old node.new }
+    ensures moves { (h : ℕ) → IsSoundRoot h node.old → count.new.moves ≤ count.old.moves + (13 + 18 * h) }
+    ensures comparisons { count.new.comparisons ≡ count.old.comparisons }
+{
+    let i = path[0];
+    if path.len() == 1 {
+        return remove_own(node, i, count);
+    }
+    let rest = &path[1..];
+    let pair = match &mut node.children {
+        None => unreachable!(),
+        Some(children) => {
+            let child: &mut Node<K, V> = children.get_mut(i);
+            remove_at(child, rest, count)
+        }
+    };
+    mend_child(node, i, count);
+    pair
+}
+
+// Takes the node's own pair at `index` out. In an inner node the first pair of the subtree on its right takes its place.
+fn remove_own<K: Drop, V: Drop>(node: &mut Node<K, V>, index: usize, count: &mut Count) -> (K, V)
+    requires sound { (h : ℕ) × IsSoundRoot h node.old }
+    requires place { IsPlace (index ∷ []) node.old }
+    ensures pair { place_pair (index ∷ []) node.old ≡ Some result }
+    ensures pairs { pairs_of node.new ≡ place_ahead (index ∷ []) node.old ++ place_behind (index ∷ []) node.old }
+    ensures levels { (h : ℕ) → IsSoundRoot h node.old → IsShrunk h node.old node.new }
+    ensures moves { (h : ℕ) → IsSoundRoot h node.old → count.new.moves ≤ count.old.moves + (13 + 18 * h) }
+    ensures comparisons { count.new.comparisons ≡ count.old.comparisons }
+{
+    let next = match &mut node.children {
+        None => return node.remove_leaf(index, count),
+        Some(children) => {
+            let child: &mut Node<K, V> = children.get_mut(index + 1);
+            remove_first(child, count)
+        }
+    };
+    let pair = node.replace_pair(index, next, count);
+    mend_child(node, index + 1, count);
+    pair
+}
+
+// Takes the first pair in the node or below it out.
+fn remove_first<K: Drop, V: Drop>(node: &mut Node<K, V>, count: &mut Count) -> (K, V)
+    requires sound { (h : ℕ) × IsSoundRoot h node.old }
+    ensures pairs { pairs_of node.old ≡ result ∷ pairs_of node.new }
+    ensures levels { (h : ℕ) → IsSoundRoot h node.old → IsShrunk h node.old node.new }
+    ensures moves { (h : ℕ) → IsSoundRoot h node.old → count.new.moves ≤ count.old.moves + (11 + 18 * h) }
+    ensures comparisons { count.new.comparisons ≡ count.old.comparisons }
+{
+    let pair = match &mut node.children {
+        None => return node.remove_leaf(0, count),
+        Some(children) => {
+            let child: &mut Node<K, V> = children.get_mut(0);
+            remove_first(child, count)
+        }
+    };
+    mend_child(node, 0, count);
+    pair
+}
+
+// Mends the child at `index` where it has fewer than 5 pairs: with the child on its left where there is one, else with the one
+// on its right. Where both and the pair between them fit in one node, they are merged, and else one pair is stolen.
+fn mend_child<K: Drop, V: Drop>(node: &mut Node<K, V>, index: usize, count: &mut Count)
+    requires { (h : ℕ) × IsShortAt h node.old index }
+
+    // A child that has 5 pairs stays.
+    ensures whole { 5 ≤ length (own_pairs (child_at node.old index)) → node.new ≡ node.old }
+    ensures merged { length (own_pairs (child_at node.old index)) < 5 → together node.old (index - 1) ≤ 11 → IsMerged (index - 1) node.old node.new }
+    ensures stolen_left { length (own_pairs (child_at node.old index)) < 5 → 11 < together node.old (index - 1) → 0 < index → IsShared (index - 1) (length (own_pairs (child_at node.old (index - 1))) - 1) node.old node.new }
+    ensures stolen_right { length (own_pairs (child_at node.old index)) < 5 → 11 < together node.old (index - 1) → index ≡ 0 → IsShared 0 5 node.old node.new }
+
+    // All pairs stay, and no child is short.
+    ensures pairs { pairs_of node.new ≡ pairs_of node.old }
+    ensures levels { (h : ℕ) → IsShortAt h node.old index → IsShrunk (suc h) node.old node.new }
+    ensures moves { count.new.moves ≤ count.old.moves + 18 }
+    ensures theft_moves { 11 < together node.old (index - 1) → count.new.moves ≤ count.old.moves + 14 }
+    ensures comparisons { count.new.comparisons ≡ count.old.comparisons }
+{
+    if node.child(index).len() >= MIN_LEN {
+        return;
+    }
+    let place = index.saturating_sub(1);
+    if node.child(place).len() + node.child(place + 1).len() < CAPACITY {
+        node.merge(place, count);
+    } else if index > 0 {
+        node.steal_left(place, count);
+    } else {
+        node.steal_right(place, count);
+    }
+}

@@ -1,0 +1,7 @@
+pub mod Ordered
+pub mod SearchFacts
+pub mod PassedFacts
+pub mod Nodes
+pub mod WrittenFacts
+pub mod WrittenPairs
+pub mod WayFacts

@@ -1,0 +1,213 @@
+-- What a search knows of the place that it has come to.
+use Rattle.std.proofs.Common.{◌≡◌, ℕ, zero, suc, ◌+◌, ◌<◌, ◌≤◌, List, [], ◌∷◌, ◌++◌, length, take, get_or, slice_get, Some, None, IfSome, refl, sym, ap, subst, ◌∙◌, arith, append_assoc, ◌⊎◌, inl, inr, length-append}
+use Rattle.std.specs.Option.{option_map}
+use Rattle.std.specs.Prelude.{unwrap_or, IsTrue, true, false}
+use Rattle.std.specs.Ordering.{ordering_reverse}
+use Rattle.std.specs.Cmp.{IsTotalOrder}
+use Rattle.std.specs.declared.cmp.Ordering.{Ordering}
+use Rattle.std.specs.declared.cmp.Ordering.TheVariants.{Less, Equal, Greater}
+use Rattle.std.proofs.lemmas.Bool.{cases_lt}
+use Rattle.fc_base.specs.Ascending.{IsAscending}
+use Rattle.fc_base.specs.OneKey.{put, cut}
+use Rattle.fc_base.specs.Parts.{below, above, at}
+use Rattle.fc_node.specs.declared.node.Node.{Node}
+use Rattle.fc_node.specs.Node.{own_pairs, children_of, child_at, pairs_of, IsLeaf, IsLevelled}
+use Rattle.fc_node.specs.Path.{before, after}
+use Rattle.fc_node.specs.Place.{lead_in, rest_in, ahead_in, behind_in, IsDescent, node_at, place_pair, place_ahead, place_behind}
+use Rattle.fc_node.specs.Node.{IsTree}
+use Rattle.fc_search.specs.Found.{AllBelow, AllAbove, IsFoundAt, IsGapAt, IsFound, IsGap}
+use Rattle.fc_node.proofs.Lists.{all_back, all_both}
+use Rattle.fc_node.proofs.Pairs.{leaf_children}
+use Rattle.fc_search.proofs.Ordered.{all_more, ascending_middle, sides_equal, side_lower, side_upper, IsAround, around_gap, around_pair}
+use Rattle.fc_node.proofs.Gaps.{take_item, item_there, own_pair, lead_pair, rest_pair, rest_none, descent_levels, descent_pairs, node_more, descent_more, before_more, after_more, path_more, place_more, pair_more, ahead_more, behind_more, gap_pairs, place_pairs}
+
+module _ {K V : Type 0} {cmp : K → K → Ordering} (o : IsTotalOrder cmp) (k : K) where
+  -- the order of the same keys, the other way round
+  turned : (s : List (K × V)) (i : ℕ) (p : K × V) (r : Ordering) (d : K × V) → i < length s → p ≡ get_or s i p → r ≡ cmp k p.0 → cmp (get_or s i d).0 k ≡ ordering_reverse r
+  turned s i p r d h e q =
+      let t = item_there s i h in
+      ap (λ x. cmp x.0 k) (t.1 d ∙ sym (t.1 p) ∙ sym e) ∙ o.antisymm p.0 k ∙ ap ordering_reverse (sym q)
+
+  -- one comparison in a node, from the left
+  pub found_here : (s : List (K × V)) (i : ℕ) (p : K × V) → i < length s → AllBelow cmp k (take i s) → p ≡ get_or s i p → Equal ≡ cmp k p.0 → IsFoundAt cmp k s i
+  found_here s i p h a e q = (h, a, λ d. turned s i p Equal d h e q)
+
+  pub gap_here : (s : List (K × V)) (i : ℕ) (p : K × V) → i < length s → AllBelow cmp k (take i s) → p ≡ get_or s i p → Less ≡ cmp k p.0 → IsGapAt cmp k s i
+  gap_here s i p h a e q = (omega arith, a, λ d _. turned s i p Less d h e q)
+
+  pub lower_here : (s : List (K × V)) (i : ℕ) (p : K × V) → i < length s → AllBelow cmp k (take i s) → p ≡ get_or s i p → Greater ≡ cmp k p.0 → AllBelow cmp k (take (i + 1) s)
+  lower_here s i p h a e q = all_more (λ x. cmp x.0 k ≡ Less) s i p h a (turned s i p Greater p h e q)
+
+-- a path with one more step
+pub one_longer : (path more : List ℕ) (i : ℕ) → more ≡ path ++ i ∷ [] → length more ≡ length path + 1
+one_longer path more i e = ap length e ∙ length-append path (i ∷ [])
+
+-- a levelled node that is no leaf has a child at each gap
+pub child_there : {K V : Type 0} (h : ℕ) (n : Node K V) (i : ℕ) → IsLevelled h n → (IsLeaf n → IsTrue false) → i ≤ length (own_pairs n) → i < length (children_of n)
+child_there zero n i l not_leaf le = let no : false ≡ true = not_leaf l.1 in absurd cc
+child_there (suc h) n i l not_leaf le = let e : length (children_of n) ≡ length (own_pairs n) + 1 = l.1 in omega arith
+
+-- a descent has come to the node, with smaller keys before it and greater keys after it
+pub record IsOnWay {K V : Type 0} (cmp : K → K → Ordering) (k : K) (root node : Node K V) (path : List ℕ) : Type 0 where
+  pub descent : IsDescent path root
+  pub here : node ≡ node_at path root
+  pub front : AllBelow cmp k (before path root)
+  pub back : AllAbove cmp k (after path root)
+
+module _ {K V : Type 0} (cmp : K → K → Ordering) (k : K) where
+  -- the levels of the node that a search has come to
+  pub way_levels : {root node : Node K V} {path : List ℕ} (t : IsTree root) → IsOnWay cmp k root node path → (g : ℕ) × (length path + g ≡ t.0) × IsLevelled g node
+  way_levels {root} {node} {path} t w = let d = descent_levels path t.0 root t.2 w.descent in (d.0, d.1, subst (IsLevelled d.0) (sym w.here) d.2)
+
+  -- a path has room for its steps
+  pub way_room : {root node : Node K V} {path : List ℕ} → IsTree root → IsOnWay cmp k root node path → length path < 25
+  way_room t w = let d = way_levels t w in omega (arith, d.1, t.1)
+
+  -- its pairs are ascending
+  pub way_ascending : {root node : Node K V} {path : List ℕ} → IsTree root → IsAscending cmp (pairs_of root) → IsOnWay cmp k root node path → IsAscending cmp (pairs_of node)
+  way_ascending {root} {node} {path} t a w =
+      let b = subst (IsAscending cmp) (descent_pairs path t.0 root t.2 w.descent) a in
+      subst (λ n. IsAscending cmp (pairs_of n)) (sym w.here) (ascending_middle cmp (before path root) (pairs_of (node_at path root)) (after path root) b)
+
+module _ {K V : Type 0} {cmp : K → K → Ordering} (o : IsTotalOrder cmp) (k : K) where
+  -- what leads to a gap between a node's own pairs is below the key
+  lead_below : (h : ℕ) (n : Node K V) (i : ℕ) → IsLevelled h n → IsAscending cmp (pairs_of n) → IsGapAt cmp k (own_pairs n) i → AllBelow cmp k (lead_in n i)
+  lead_below h n zero l a f = tt
+  lead_below h n (suc i) l a f =
+      let s = own_pairs n in
+      let lt : i < length s = omega (arith, f.0) in
+      let t = item_there s i lt in
+      let p = t.0 in
+      let at_end : AllBelow cmp k (take i s ++ get_or s i p ∷ []) = subst (AllBelow cmp k) (take_item s i p lt) f.1 in
+      let lower = (all_back (λ x. cmp x.0 k ≡ Less) (take i s) (get_or s i p ∷ []) at_end).0 in
+      let b = subst (IsAscending cmp) (own_pair h n i p l lt) a in
+      subst (AllBelow cmp k) (sym (lead_pair h n i p l lt)) (side_lower o k (ahead_in n i) (behind_in n i) (get_or s i p) b lower)
+
+  -- and what is behind it is above the key
+  rest_above : (h : ℕ) (n : Node K V) (i : ℕ) → IsLevelled h n → IsAscending cmp (pairs_of n) → IsGapAt cmp k (own_pairs n) i → (i < length (own_pairs n)) ⊎ (length (own_pairs n) ≤ i) → AllAbove cmp k (rest_in n i)
+  rest_above h n i l a f (inr le) = subst (AllAbove cmp k) (sym (rest_none n i le)) tt
+  rest_above h n i l a f (inl lt) =
+      let t = item_there (own_pairs n) i lt in
+      let p = get_or (own_pairs n) i t.0 in
+      let b = subst (IsAscending cmp) (own_pair h n i t.0 l lt) a in
+      subst (AllAbove cmp k) (sym (rest_pair n i t.0 lt)) (side_upper o k (ahead_in n i) (behind_in n i) p b (f.2 t.0 lt))
+
+  module _ {root node : Node K V} {path : List ℕ} (t : IsTree root) (a : IsAscending cmp (pairs_of root)) (w : IsOnWay cmp k root node path) where
+    -- the path, with a gap of the node as its last step
+    way_front : (i : ℕ) → IsGapAt cmp k (own_pairs node) i → AllBelow cmp k (before (path ++ i ∷ []) root)
+    way_front i f =
+        let d = way_levels cmp k t w in
+        let b = lead_below d.0 node i d.2 (way_ascending cmp k t a w) f in
+        subst (AllBelow cmp k) (sym (before_more path i root ∙ ap (λ n. before path root ++ lead_in n i) (sym w.here)))
+        (all_both (λ x. cmp x.0 k ≡ Less) (before path root) (lead_in node i) w.front b)
+
+    way_back : (i : ℕ) → IsGapAt cmp k (own_pairs node) i → AllAbove cmp k (after (path ++ i ∷ []) root)
+    way_back i f =
+        let d = way_levels cmp k t w in
+        let b = rest_above d.0 node i d.2 (way_ascending cmp k t a w) f (cases_lt i (length (own_pairs node))) in
+        subst (AllAbove cmp k) (sym (after_more path i root ∙ ap (λ n. rest_in n i ++ after path root) (sym w.here)))
+        (all_both (λ x. cmp x.0 k ≡ Greater) (rest_in node i) (after path root) b w.back)
+
+    -- the search goes on in a child
+    pub way_more : (i : ℕ) (child : Node K V) (more : List ℕ) → more ≡ path ++ i ∷ [] → IsGapAt cmp k (own_pairs node) i → i < length (children_of node) → child ≡ child_at node i → IsOnWay cmp k root child more
+    way_more i child more is f lt e = subst (IsOnWay cmp k root child) (sym is) record {
+      descent = descent_more path i root w.descent (subst (λ n. i < length (children_of n)) w.here lt);
+      here = e ∙ ap (λ n. child_at n i) w.here ∙ sym (node_more path i root);
+      front = way_front i f;
+      back = way_back i f;
+    }
+
+    -- the search ends at a gap of a leaf
+    pub way_gap : (i : ℕ) (more : List ℕ) → more ≡ path ++ i ∷ [] → IsGapAt cmp k (own_pairs node) i → IsLeaf node → IsGap cmp k root more
+    way_gap i more is f leaf = subst (IsGap cmp k root) (sym is) record {
+      way = path_more path i t.0 root t.2 w.descent (subst (λ n. i ≤ length (own_pairs n)) w.here f.0);
+      levels = λ h l. let d = descent_levels path h root l w.descent in last h d.0 d.1 (subst (IsLevelled d.0) (sym w.here) d.2);
+      front = way_front i f;
+      back = way_back i f;
+    }
+      where
+        last : (g j : ℕ) → length path + j ≡ g → IsLevelled j node → length (path ++ i ∷ []) ≡ g + 1
+        last g zero e m = omega (arith, length-append path (i ∷ []))
+        last g (suc j) e m =
+            let inner : length (children_of node) ≡ length (own_pairs node) + 1 = m.1 in
+            let none : length (children_of node) ≡ 0 = ap length (leaf_children node leaf) in
+            absurd (omega arith)
+
+    -- the search ends at a pair of the node
+    pub way_found : (i : ℕ) (more : List ℕ) → more ≡ path ++ i ∷ [] → IsFoundAt cmp k (own_pairs node) i → IsFound cmp k root more
+    way_found i more same f =
+        let d = way_levels cmp k t w in
+        let x = item_there (own_pairs node) i f.0 in
+        let p = x.0 in
+        let cut : pairs_of node ≡ ahead_in node i ++ p ∷ behind_in node i = own_pair d.0 node i p d.2 f.0 ∙ ap (λ z. ahead_in node i ++ z ∷ behind_in node i) (x.1 p) in
+        let whole : pairs_of root ≡ (before path root ++ ahead_in node i) ++ p ∷ (behind_in node i ++ after path root) =
+        descent_pairs path t.0 root t.2 w.descent
+        ∙ ap (λ n. before path root ++ (pairs_of n ++ after path root)) (sym w.here)
+        ∙ ap (λ s. before path root ++ (s ++ after path root)) cut
+        ∙ regroup (before path root) (ahead_in node i) (behind_in node i) (after path root) p in
+        let equal : cmp p.0 k ≡ Equal = ap (λ x. cmp x.0 k) (sym (x.1 p)) ∙ f.2 p in
+        let sides = sides_equal o k (before path root ++ ahead_in node i) (behind_in node i ++ after path root) p (subst (IsAscending cmp) whole a) equal in
+        let is : place_pair (path ++ i ∷ []) root ≡ Some p = pair_more path i root ∙ ap (λ n. slice_get (own_pairs n) i) (sym w.here) ∙ x.2 in
+        subst (IsFound cmp k root) (sym same) record {
+          place = place_more path i root w.descent (subst (λ n. i < length (own_pairs n)) w.here f.0);
+          equal = subst (λ x. IfSome x (λ e. cmp e.0 k ≡ Equal)) (sym is) equal;
+          ahead = subst (AllBelow cmp k) (sym (ahead_more path i root ∙ ap (λ n. before path root ++ ahead_in n i) (sym w.here))) sides.0;
+          behind = subst (AllAbove cmp k) (sym (behind_more path i root ∙ ap (λ n. behind_in n i ++ after path root) (sym w.here))) sides.1;
+        }
+      where
+        regroup : (x y z u : List (K × V)) (p : K × V) → x ++ ((y ++ p ∷ z) ++ u) ≡ (x ++ y) ++ p ∷ (z ++ u)
+        regroup x y z u p = simp append_assoc
+
+module _ {K V : Type 0} (cmp : K → K → Ordering) (k : K) where
+  -- what a path to a found pair says of the tree's list
+  pub found_at : (path : List ℕ) (h : ℕ) (root : Node K V) → IsLevelled h root → IsFound cmp k root path → IsAround cmp k (pairs_of root) (place_ahead path root) (place_behind path root) (place_pair path root)
+  found_at path h root l f =
+      let c = place_pairs path h root l f.place in
+      let equal : cmp c.pair.0 k ≡ Equal = subst (λ x. IfSome x (λ e. cmp e.0 k ≡ Equal)) c.is f.equal in
+      let r = around_pair cmp k (place_ahead path root) (place_behind path root) c.pair f.ahead equal f.behind in
+      record {
+        lower = ap (λ s. below cmp s k) c.parts ∙ r.lower;
+        upper = ap (λ s. above cmp s k) c.parts ∙ r.upper;
+        here = ap (λ s. at cmp s k) c.parts ∙ r.here ∙ sym c.is;
+      }
+
+  -- what a path to a gap says of the tree's list
+  pub gap_at : (path : List ℕ) (h : ℕ) (root : Node K V) → IsLevelled h root → IsGap cmp k root path → IsAround cmp k (pairs_of root) (before path root) (after path root) None
+  gap_at path h root l f =
+      let e = gap_pairs path h root l (f.levels h l) f.way in
+      let r = around_gap cmp k (before path root) (after path root) f.front f.back in
+      record {
+        lower = ap (λ s. below cmp s k) e ∙ r.lower;
+        upper = ap (λ s. above cmp s k) e ∙ r.upper;
+        here = ap (λ s. at cmp s k) e ∙ r.here;
+      }
+
+  -- the list with a value at a key that is not there
+  pub gap_put : (path : List ℕ) (h : ℕ) (root : Node K V) (v : V) → IsLevelled h root → IsGap cmp k root path → put cmp (pairs_of root) k v ≡ before path root ++ (k, v) ∷ after path root
+  gap_put path h root v l f =
+      let a = gap_at path h root l f in
+      ap (λ s. s ++ (unwrap_or (option_map (λ e. e.0) (at cmp (pairs_of root) k)) k, v) ∷ above cmp (pairs_of root) k) a.lower
+      ∙ ap (λ x. before path root ++ (unwrap_or (option_map (λ e. e.0) x) k, v) ∷ above cmp (pairs_of root) k) a.here
+      ∙ ap (λ s. before path root ++ (k, v) ∷ s) a.upper
+
+  -- the list without the pair at a key, where there is one and where there is none
+  pub found_cut : (path : List ℕ) (h : ℕ) (root : Node K V) → IsLevelled h root → IsFound cmp k root path → cut cmp (pairs_of root) k ≡ place_ahead path root ++ place_behind path root
+  found_cut path h root l f = let a = found_at path h root l f in ap (λ s. s ++ above cmp (pairs_of root) k) a.lower ∙ ap (λ s. place_ahead path root ++ s) a.upper
+
+  pub gap_cut : (path : List ℕ) (h : ℕ) (root : Node K V) → IsLevelled h root → IsGap cmp k root path → cut cmp (pairs_of root) k ≡ pairs_of root
+  gap_cut path h root l f =
+      let a = gap_at path h root l f in
+      ap (λ s. s ++ above cmp (pairs_of root) k) a.lower ∙ ap (λ s. before path root ++ s) a.upper ∙ sym (gap_pairs path h root l (f.levels h l) f.way)
+
+module _ {K V : Type 0} {cmp : K → K → Ordering} (o : IsTotalOrder cmp) (k : K) {root node : Node K V} {path : List ℕ} (t : IsTree root) (a : IsAscending cmp (pairs_of root)) (w : IsOnWay cmp k root node path) where
+  -- what the look-up of the key gives, where the search ends at a pair
+  pub value_found : (i : ℕ) (p : K × V) → IsFoundAt cmp k (own_pairs node) i → p ≡ get_or (own_pairs node) i p → Some p ≡ at cmp (pairs_of root) k
+  value_found i p f e =
+      let x = item_there (own_pairs node) i f.0 in
+      let is : place_pair (path ++ i ∷ []) root ≡ Some p = pair_more path i root ∙ ap (λ n. slice_get (own_pairs n) i) (sym w.here) ∙ x.2 ∙ ap Some (sym (x.1 p) ∙ sym e) in
+      let r = found_at cmp k (path ++ i ∷ []) t.0 root t.2 (way_found o k t a w i _ refl f) in
+      sym (r.here ∙ is)
+
+  -- and where it ends at a gap of a leaf
+  pub value_none : (i : ℕ) → IsGapAt cmp k (own_pairs node) i → IsLeaf node → None ≡ at cmp (pairs_of root) k
+  value_none i f leaf = let r = gap_at cmp k (path ++ i ∷ []) t.0 root t.2 (way_gap o k t a w i _ refl f leaf) in sym r.here

@@ -1,0 +1,4 @@
+pub mod Found
+pub mod Passed
+pub mod Way
+pub mod Written

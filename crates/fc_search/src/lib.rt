@@ -1,0 +1,5 @@
+//! Search for a key down a tree, and what stands at the place that a search found.
+#![tactic(auto)]
+
+pub mod lend;
+pub mod search;

@@ -1,0 +1,86 @@
+//! Search for a key, in a node and down a tree.
+ghost use Rattle.std.specs.Prelude.{◌≡◌, ◌+◌, length, IfOk, IfErr, MatchResult, option_copied};
+ghost use Rattle.fc_base.specs.Ascending.{IsAscending};
+ghost use Rattle.fc_base.specs.Parts.{at};
+ghost use Rattle.fc_node.specs.Node.{own_pairs, pairs_of};
+ghost use Rattle.fc_node.specs.Node.{IsTree};
+ghost use Rattle.fc_search.specs.Found.{IsFoundAt, IsGapAt, IsFound, IsGap, seen};
+ghost use Rattle.fc_search.specs.Passed.{passed};
+ghost use Rattle.fc_search.specs.Way.{path_to};
+
+use fc_base::{Count, compare};
+use fc_node::node::Node;
+use fc_node::path::Path;
+use std::cmp::Ordering;
+
+// Where the key stands among the node's own, or else the gap where it would go. From the left each key is compared, until
+// one is not below it.
+fn search_node<K: Ord, V>(node: &Node<K, V>, key: &K, count: &mut Count) -> Result<usize, usize>
+    ensures found { IfOk result (IsFoundAt K.cmp key.now (own_pairs node.now)) }
+    ensures gap { IfErr result (IsGapAt K.cmp key.now (own_pairs node.now)) }
+    ensures comparisons { count.new.comparisons ≡ count.old.comparisons + seen result (length (own_pairs node.now)) }
+    ensures moves { count.new.moves ≡ count.old.moves }
+{
+    let n = node.len();
+    for i in 0..n {
+        match compare(key, &node.pair(i).0, count) {
+            Ordering::Less => return Err(i),
+            Ordering::Equal => return Ok(i),
+            Ordering::Greater => {}
+        }
+    }
+    Err(n)
+}
+
+/// Where the key stands in the tree at `root`: `Ok` with the path to the pair that has an equal key, or `Err` with the path
+/// down to the gap between the pairs of a leaf where it would go. It compares each key that it passes once, and moves no pair.
+pub fn search<K: Ord, V>(root: &Node<K, V>, key: &K, count: &mut Count) -> Result<Path, Path>
+    requires levels { IsTree root.now }
+    requires order { IsAscending K.cmp (pairs_of root.now) }
+    ensures found { IfOk result (IsFound K.cmp key.now root.now) }
+    ensures gap { IfErr result (IsGap K.cmp key.now root.now) }
+    ensures path { MatchResult result (λ p. p ≡ path_to K.cmp key.now root.now) (λ p. p ≡ path_to K.cmp key.now root.now) }
+    ensures comparisons { count.new.comparisons ≡ count.old.comparisons + passed K.cmp key.now root.now }
+    ensures moves { count.new.moves ≡ count.old.moves }
+{
+    let mut path = Path::new();
+    let mut node = root;
+    'down: loop {
+        match search_node(node, key, count) {
+            Ok(i) => {
+                path.push(i);
+                return Ok(path);
+            }
+            Err(i) => {
+                path.push(i);
+                if node.is_leaf() {
+                    return Err(path);
+                }
+                node = node.child(i);
+            }
+        }
+    }
+}
+
+/// The pair in the tree at `root` whose key is equal to `key`, if there is one. It compares each key that it passes once, and
+/// moves no pair.
+pub fn get<'a, K: Ord, V>(root: &'a Node<K, V>, key: &K, count: &mut Count) -> Option<&'a (K, V)>
+    requires levels { IsTree root.now }
+    requires order { IsAscending K.cmp (pairs_of root.now) }
+    ensures value { option_copied result ≡ at K.cmp (pairs_of root.now) key.now }
+    ensures comparisons { count.new.comparisons ≡ count.old.comparisons + passed K.cmp key.now root.now }
+    ensures moves { count.new.moves ≡ count.old.moves }
+{
+    let mut node = root;
+    'down: loop {
+        match search_node(node, key, count) {
+            Ok(i) => return Some(node.pair(i)),
+            Err(gap) => {
+                if node.is_leaf() {
+                    return None;
+                }
+                node = node.child(gap);
+            }
+        }
+    }
+}

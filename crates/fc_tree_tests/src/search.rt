@@ -1,0 +1,161 @@
+// Searches in a full leaf, by a key that counts how often it is compared.
+ghost use Rattle.std.specs.Prelude.{◌≡◌, ◌==◌, ℕ, ◌+◌, ◌*◌, ◌<◌, ◌≤◌, length, IfOk};
+ghost use Rattle.std.specs.Ordering.{nat_cmp, on, as_partial_cmp};
+ghost use Rattle.std.specs.Cmp.{partial_order_from_own_ties};
+ghost use Rattle.std.specs.Cmp.Rules.{comparing};
+ghost use Rattle.std.proofs.Common.{rules};
+ghost use Rattle.fc_base.specs.Ascending.{IsAscending};
+ghost use Rattle.fc_node.specs.Node.{pairs_of};
+ghost use Rattle.fc_node.specs.Node.{IsTree};
+ghost use Rattle.fc_node.specs.Place.{IsPlace};
+ghost use Rattle.fc_search.specs.Written.{written};
+
+use fc_base::{Count, TryReserveError};
+use fc_node::node::Node;
+use fc_node::path::Path;
+use fc_search::lend::{pair_at, value_mut};
+use fc_search::search::{get, search};
+use std::alloc::Global;
+use std::cell::Cell;
+use std::cmp::Ordering;
+use std::process::Abort;
+use std::test::Fail;
+
+#[derive(Drop)]
+struct Key<'a> {
+    value: u32,
+    calls: &'a Cell<u32>,
+}
+
+impl PartialEq for Key<'_> {
+    ghost eq = { on (λ k. k.value) ◌==◌ };
+
+    ghost laws = { Prim.search (comparing, rules) };
+
+    fn eq(&self, other: &Self) -> bool {
+        self.value == other.value
+    }
+}
+
+impl Eq for Key<'_> {
+    ghost laws = { Prim.search (comparing, rules) };
+}
+
+impl PartialOrd for Key<'_> {
+    ghost partial_cmp = { as_partial_cmp (on (λ k. k.value) nat_cmp) };
+
+    ghost laws = { partial_order_from_own_ties (Prim.search (comparing, rules)) (Prim.search (comparing, rules)) };
+
+    fn partial_cmp(&self, other: &Self) -> Option<Ordering> {
+        Some(self.cmp(other))
+    }
+}
+
+impl Ord for Key<'_> {
+    ghost cmp = { on (λ k. k.value) nat_cmp };
+
+    ghost total = { Prim.search (comparing, rules) };
+
+    ghost matches_partial_cmp = { Prim.search (comparing, rules) };
+
+    ghost matches_eq = { Prim.search (comparing, rules) };
+
+    fn cmp(&self, other: &Self) -> Ordering {
+        self.calls.set(self.calls.get().wrapping_add(1));
+        self.value.cmp(&other.value)
+    }
+}
+
+// A leaf of the keys 2, 4 and so on to 22, each with its half as the value.
+fn full_leaf<'a>(
+    alloc: Global,
+    calls: &'a Cell<u32>,
+) -> Result<Box<Node<Key<'a>, u32>>, TryReserveError>
+    ensures { IfOk result (λ b. IsTree b.value × IsAscending (on (λ k. k.value) nat_cmp) (pairs_of b.value)) }
+{
+    let mut leaf = Node::try_leaf(alloc)?;
+    let mut count = Count::new();
+    for half in 1..12u32 {
+        let key = Key {
+            value: 2 * half,
+            calls,
+        };
+        let end = leaf.len();
+        leaf.insert_leaf(end, (key, half), &mut count);
+    }
+    Ok(leaf)
+}
+
+#[test]
+fn compares_each_key_that_it_passes_once(rt: HostRuntime) -> Result<(), Fail> {
+    let calls = Cell::new(0);
+    let leaf = full_leaf(rt.alloc(), &calls)?;
+    for (value, passed) in [
+        (1, 1),
+        (2, 1),
+        (3, 2),
+        (4, 2),
+        (12, 6),
+        (13, 7),
+        (21, 11),
+        (22, 11),
+        (23, 11),
+    ] {
+        let key = Key {
+            value,
+            calls: &calls,
+        };
+        let mut count = Count::new();
+        calls.set(0);
+        let half = get(&leaf, &key, &mut count).map(|pair| pair.1);
+        assert_eq!(rt; calls.get(), passed, "get of {value}");
+        assert_eq!(rt;
+            half,
+            if value % 2 == 0 && value < 23 {
+                Some(value / 2)
+            } else {
+                None
+            }
+        );
+        calls.set(0);
+        let end = search(&leaf, &key, &mut count);
+        assert_eq!(rt; calls.get(), passed, "search for {value}");
+        assert_eq!(rt; end.is_ok(), value % 2 == 0);
+        let path = match end {
+            Ok(path) => path,
+            Err(path) => path,
+        };
+        assert_eq!(rt; path.as_slice(), [(value as usize - 1) / 2].as_slice());
+    }
+    Ok(())
+}
+
+// Writes 100 at the place, and reads it there and by the key.
+fn write_at<'a>(rt: &impl Abort, root: &mut Node<Key<'a>, u32>, path: &Path, key: &Key<'a>)
+    requires levels { IsTree root.old }
+    requires order { IsAscending (on (λ k. k.value) nat_cmp) (pairs_of root.old) }
+    requires place { IsPlace path.now root.old }
+    ensures { root.new ≡ written root.old path.now 100 }
+{
+    *value_mut(root, path) = 100;
+    assert_eq!(rt; pair_at(root, path).1, 100);
+    let mut count = Count::new();
+    assert_eq!(rt; get(root, key, &mut count).map(|pair| pair.1), Some(100));
+}
+
+#[test]
+fn lends_the_value_at_a_found_place(rt: HostRuntime) -> Result<(), Fail> {
+    let calls = Cell::new(0);
+    let mut leaf = full_leaf(rt.alloc(), &calls)?;
+    let key = Key {
+        value: 8,
+        calls: &calls,
+    };
+    let mut count = Count::new();
+    let path = search(&leaf, &key, &mut count)
+        .ok()
+        .ok_or("the key is there")?;
+    assert_eq!(rt; pair_at(&leaf, &path).1, 4);
+    write_at(&rt, &mut leaf, &path, &key);
+    Ok(())
+}

@@ -1,0 +1,41 @@
+-- What lies between two trails of one map, when one of them goes on.
+use Rattle.std.proofs.Common.{◌≡◌, ℕ, ◌-◌, ◌<◌, List, [], ◌∷◌, ◌++◌, length, arith}
+use Rattle.std.specs.Borrow.{Bor}
+use Rattle.fc_node.specs.declared.node.Node.{Node}
+use Rattle.fc_node.specs.Tree.{Map, entries, IsSoundMap}
+use Rattle.fc_walk.specs.Trail.{rest_of, lead_of, IsStanding, IsTrail}
+use Rattle.fc_walk.specs.Span.{between, AreEnds}
+use Rattle.fc_walk.proofs.Spans.{taken_some, whole_between, next_between, back_between}
+use Rattle.fc_walk.proofs.Trails.{trail_entries, trail_standing}
+
+module _ {K V : Type 0} where
+  -- A pair between two ends can be given by either.
+  pub front_gives : (front back : List (Bor (Node K V) × ℕ)) → AreEnds front back → 0 < length (between front back) → IsStanding front × (0 < length (rest_of front))
+  front_gives front back ends some = (trail_standing ends.0 front ends.1 ends.2, (taken_some _ (rest_of front) some).1)
+
+  pub back_gives : (front back : List (Bor (Node K V) × ℕ)) → AreEnds front back → 0 < length (between front back) → IsStanding back × (0 < length (lead_of back))
+  back_gives front back ends some =
+      let apart = (taken_some (length (lead_of back) - length (lead_of front)) (rest_of front) some).0 in
+      (trail_standing ends.0 back ends.1 ends.3, omega arith)
+
+  pub ends_whole : (m : Map K V) (front back : List (Bor (Node K V) × ℕ)) → IsSoundMap m → IsTrail m front → IsTrail m back → rest_of front ≡ entries m → lead_of back ≡ entries m
+      → AreEnds front back × (between front back ≡ entries m)
+  ends_whole m front back sound f b rest lead =
+      let s = whole_between (lead_of front) (rest_of front) (lead_of back) (entries m) (trail_entries m front sound f) rest lead in
+      ((m, sound, f, b, s.0), s.1)
+
+  pub ends_next : (front back new : List (Bor (Node K V) × ℕ)) (x : K × V) → AreEnds front back → 0 < length (between front back) → rest_of front ≡ x ∷ rest_of new → ((m : Map K V) → IsTrail m front → IsTrail m new)
+      → AreEnds new back × (between front back ≡ x ∷ between new back)
+  ends_next front back new x ends some e goes =
+      let m = ends.0 in
+      let t = goes m ends.2 in
+      let s = next_between (lead_of front) (rest_of front) (lead_of new) (rest_of new) (lead_of back) (entries m) x (trail_entries m front ends.1 ends.2) (trail_entries m new ends.1 t) e some in
+      ((m, ends.1, t, ends.3, s.0), s.1)
+
+  pub ends_back : (front back new : List (Bor (Node K V) × ℕ)) (x : K × V) → AreEnds front back → 0 < length (between front back) → lead_of back ≡ lead_of new ++ x ∷ [] → ((m : Map K V) → IsTrail m back → IsTrail m new)
+      → AreEnds front new × (between front back ≡ between front new ++ x ∷ [])
+  ends_back front back new x ends some e goes =
+      let m = ends.0 in
+      let t = goes m ends.3 in
+      let s = back_between (lead_of front) (rest_of front) (lead_of back) (rest_of back) (lead_of new) (rest_of new) (entries m) x (trail_entries m front ends.1 ends.2) (trail_entries m back ends.1 ends.3) (trail_entries m new ends.1 t) e ends.4 some in
+      ((m, ends.1, ends.2, t, s.0), s.1)

@@ -1,0 +1,5 @@
+pub mod Stack
+pub mod Trail
+pub mod Span
+pub mod Gap
+pub mod Opened

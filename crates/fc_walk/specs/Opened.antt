@@ -1,0 +1,50 @@
+-- Nodes that are taken apart from their ends, and the two stacks of them that an owned walk keeps.
+use Rattle.std.specs.Prelude.{◌≡◌, ℕ, zero, suc, ◌+◌, ◌-◌, ◌<◌, ◌≤◌, List, [], ◌∷◌, ◌++◌, length, map}
+use Rattle.std.specs.List.{AllByRecursion}
+use Rattle.std.specs.declared.boxed.Box.{Box}
+use Rattle.std.specs.declared.alloc.Global.{Global}
+use Rattle.fc_node.specs.declared.node.Node.{Node}
+use Rattle.fc_node.specs.Node.{own_pairs, children_of, pairs_of, IsSound, IsSoundRoot}
+use Rattle.fc_node.specs.Weave.{ahead, behind}
+
+-- Lists and items in turn up to an item: with no item more than lists a list comes first, and else an item.
+abbrev pub closing : {X : Type 0} → ℕ → List X → List (List X) → List X
+closing zero ps cs = ahead cs ps
+closing (suc k) ps cs = behind ps cs
+
+module _ {K V : Type 0} where
+  -- The nodes are sound and lie one level below this one; below a leaf there is none.
+  abbrev pub AreBelow : ℕ → List (Node K V) → Type 0
+  AreBelow zero cs = cs ≡ []
+  AreBelow (suc h) cs = AllByRecursion (IsSound h) cs
+
+  -- What is left of a node at this level: as many children as pairs or one fewer, or pairs alone.
+  abbrev pub IsOpened : ℕ → Node K V → Type 0
+  IsOpened h n = (length (children_of n) ≤ length (own_pairs n)) × (0 < length (children_of n) → length (own_pairs n) ≤ length (children_of n) + 1) × AreBelow h (children_of n)
+
+  -- The pairs in a node and below it, where it begins with a pair.
+  abbrev pub front_in : Node K V → List (K × V)
+  front_in n = behind (own_pairs n) (map pairs_of (children_of n))
+
+  -- The pairs in a node and below it, where it ends with a pair.
+  abbrev pub back_in : Node K V → List (K × V)
+  back_in n = closing (length (own_pairs n) - length (children_of n)) (own_pairs n) (map pairs_of (children_of n))
+
+  -- From the bottom to the top, each node has a pair and is opened at a lower level than the one before, all within these bounds.
+  abbrev pub IsFalling : ℕ → ℕ → List (Box (Node K V) Global) → Type 0
+  IsFalling low high [] = low ≤ high
+  IsFalling low high (b ∷ s) = (h : ℕ) × (h < high) × (0 < length (own_pairs b.value)) × IsOpened h b.value × IsFalling low h s
+
+  -- The node is a sound root at a level below the stack.
+  abbrev pub IsUnder : Node K V → List (Box (Node K V) Global) → Type 0
+  IsUnder n s = (h : ℕ) × IsSoundRoot h n × IsFalling (suc h) 25 s
+
+  -- The pairs of the front's stack in order: the top first.
+  abbrev pub front_of : List (Box (Node K V) Global) → List (K × V)
+  front_of [] = []
+  front_of (b ∷ s) = front_of s ++ front_in b.value
+
+  -- The pairs of the back's stack in order: the bottom first.
+  abbrev pub back_of : List (Box (Node K V) Global) → List (K × V)
+  back_of [] = []
+  back_of (b ∷ s) = back_in b.value ++ back_of s

@@ -1,0 +1,95 @@
+//! From a gap between two pairs to the pair on either side, and to the gap on the other side of it.
+//!
+//! A gap is a path to a gap of a leaf. It stays one where values are written.
+ghost use Rattle.std.specs.Prelude.{◌≡◌, ℕ, ◌+◌, ◌-◌, ◌<◌, ◌≤◌, ◌∷◌, ◌++◌, length, slice_index, take};
+ghost use Rattle.fc_node.specs.Node.{pairs_of, IsLevelled};
+ghost use Rattle.fc_node.specs.Path.{IsPath, before};
+ghost use Rattle.fc_node.specs.Place.{IsPlace, place_ahead};
+ghost use Rattle.fc_walk.specs.Gap.{one_back, zeros, GoesOn};
+
+use fc_node::node::Node;
+use fc_node::path::Path;
+
+// One step, to a pair of the node itself, where it has so many on that side; 0 where it has none.
+fn one_of(count: usize) -> usize
+    ensures none { result ≡ 0 → count ≡ 0 }
+    ensures one { 0 < result → (result ≡ 1) × (0 < count) }
+{
+    if 0 < count { 1 } else { 0 }
+}
+
+/// How many steps of the path to a gap lead to the pair behind it: 0 where there is none.
+pub fn steps_behind<K, V>(node: &Node<K, V>, gap: &[usize]) -> usize
+    requires some { 0 < length gap.now }
+    requires path { IsPath gap.now node.now }
+    requires levels { IsLevelled (length gap.now - 1) node.now }
+    ensures within { result ≤ length gap.now }
+    ensures none { result ≡ 0 → length (before gap.now node.now) ≡ length (pairs_of node.now) }
+    ensures place { 0 < result → IsPlace (take result gap.now) node.now }
+    ensures ahead { 0 < result → length (place_ahead (take result gap.now) node.now) ≡ length (before gap.now node.now) }
+{
+    let own = one_of(node.len() - gap[0]);
+    if gap.len() == 1 {
+        return own;
+    }
+    let below = steps_behind(node.child(gap[0]), &gap[1..]);
+    if below == 0 { own } else { below + 1 }
+}
+
+/// How many steps of the path to a gap lead past the pair ahead of it: 0 where there is none.
+pub fn steps_ahead<K, V>(node: &Node<K, V>, gap: &[usize]) -> usize
+    requires some { 0 < length gap.now }
+    requires path { IsPath gap.now node.now }
+    requires levels { IsLevelled (length gap.now - 1) node.now }
+    ensures within { result ≤ length gap.now }
+    ensures none { result ≡ 0 → length (before gap.now node.now) ≡ 0 }
+    ensures place { 0 < result → IsPlace (one_back (take result gap.now)) node.now }
+    ensures ahead { 0 < result → length (place_ahead (one_back (take result gap.now)) node.now) + 1 ≡ length (before gap.now node.now) }
+    ensures step { (last : ℕ) → last + 1 ≡ result → 0 < slice_index gap.now last }
+{
+    let own = one_of(gap[0]);
+    if gap.len() == 1 {
+        return own;
+    }
+    let below = steps_ahead(node.child(gap[0]), &gap[1..]);
+    if below == 0 { own } else { below + 1 }
+}
+
+/// The first gap of the leaf that the path leads to with one step more, in a tree whose leaves lie that many steps down.
+pub fn first_gap(path: &[usize], step: usize, depth: usize) -> Path
+    requires fits { (length path.now < depth) × (depth ≤ 25) }
+    ensures { result ≡ path.now ++ step ∷ zeros (depth - length path.now - 1) }
+{
+    let mut gap = Path::of(path);
+    gap.push(step);
+    for _i in path.len() + 1..depth {
+        gap.push(0);
+    }
+    gap
+}
+
+/// Goes on to the last gap below the node.
+pub fn push_last<K, V>(node: &Node<K, V>, gap: &mut Path)
+    requires levels { (h : ℕ) × IsLevelled h node.now × (length gap.old + h < 25) }
+    ensures { GoesOn gap.old gap.new node.now (length (pairs_of node.now)) }
+{
+    let end = node.len();
+    gap.push(end);
+    if end < node.child_count() {
+        push_last(node.child(end), gap);
+    }
+}
+
+/// Goes on to the gap ahead of the pair that the path leads to.
+pub fn push_ahead<K, V>(node: &Node<K, V>, place: &[usize], gap: &mut Path)
+    requires place { IsPlace place.now node.now }
+    requires levels { (h : ℕ) × IsLevelled h node.now × (length gap.old + h < 25) }
+    ensures { GoesOn gap.old gap.new node.now (length (place_ahead place.now node.now)) }
+{
+    gap.push(place[0]);
+    if place.len() > 1 {
+        push_ahead(node.child(place[0]), &place[1..], gap);
+    } else if place[0] < node.child_count() {
+        push_last(node.child(place[0]), gap);
+    }
+}

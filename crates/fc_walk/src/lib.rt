@@ -1,0 +1,10 @@
+//! Ways through a tree from pair to pair: trails and paths to gaps between pairs, and nodes taken apart from their ends.
+#![tactic(auto)]
+
+pub mod gaps;
+mod meeting;
+pub mod owned;
+pub mod seek;
+pub mod span;
+pub mod stack;
+pub mod trail;

@@ -1,0 +1,156 @@
+//! Steps of an owned walk: nodes opened down to a leaf, and pairs given out of the node on the top.
+ghost use Rattle.std.specs.Prelude.{◌≡◌, ℕ, suc, ◌<◌, [], ◌∷◌, ◌++◌, length};
+ghost use Rattle.fc_node.specs.Node.{pairs_of};
+ghost use Rattle.fc_node.specs.Tree.{entries, root_of, IsSoundMap};
+ghost use Rattle.fc_walk.specs.Opened.{IsOpened, IsFalling, IsUnder, front_in, back_in, front_of, back_of};
+
+use crate::stack::Stack;
+use fc_node::node::Node;
+
+/// Nodes that are partly given out, each above one of a higher level.
+pub type Nodes<K, V> = Stack<Box<Node<K, V>>>;
+
+// A stack of all nodes on the way to the first leaf.
+pub fn opened<K: Drop, V: Drop>(root: Option<Box<Node<K, V>>>) -> Nodes<K, V>
+    requires { IsSoundMap (root_of root) }
+    ensures pairs { front_of result ≡ entries (root_of root) }
+    ensures levels { IsFalling 0 25 result }
+{
+    let mut stack = Stack::new();
+    let Some(root) = root else {
+        return stack;
+    };
+    open_first(&mut stack, root);
+    stack
+}
+
+// Goes down to the first leaf, and leaves each node on the way without its first child.
+pub fn open_first<K: Drop, V: Drop>(stack: &mut Nodes<K, V>, node: Box<Node<K, V>>)
+    requires { IsUnder node.value stack.old }
+    ensures pairs { front_of stack.new ≡ pairs_of node.value ++ front_of stack.old }
+    ensures levels { IsFalling 0 25 stack.new }
+    ensures some { 0 < length stack.new }
+{
+    let mut node = node;
+    if node.child_count() == 0 {
+        stack.push(node);
+        return;
+    }
+    let child = node.take_first_child();
+    stack.push(node);
+    open_first(stack, child);
+}
+
+// Goes down to the last leaf, and leaves each node on the way without its last child.
+pub fn open_last<K: Drop, V: Drop>(stack: &mut Nodes<K, V>, node: Box<Node<K, V>>)
+    requires { IsUnder node.value stack.old }
+    ensures pairs { back_of stack.new ≡ back_of stack.old ++ pairs_of node.value }
+    ensures levels { IsFalling 0 25 stack.new }
+    ensures some { 0 < length stack.new }
+{
+    let mut node = node;
+    if node.child_count() == 0 {
+        stack.push(node);
+        return;
+    }
+    let child = node.take_last_child();
+    stack.push(node);
+    open_last(stack, child);
+}
+
+// Puts a node back, if it still has a pair.
+fn keep<K: Drop, V: Drop>(stack: &mut Nodes<K, V>, node: Box<Node<K, V>>)
+    requires { (h : ℕ) × IsOpened h node.value × IsFalling (suc h) 25 stack.old }
+    ensures front { front_of stack.new ≡ front_in node.value ++ front_of stack.old }
+    ensures back { back_of stack.new ≡ back_of stack.old ++ back_in node.value }
+    ensures levels { (h : ℕ) → IsOpened h node.value → IsFalling (suc h) 25 stack.old → IsFalling h 25 stack.new }
+{
+    if node.len() == 0 {
+        return;
+    }
+    stack.push(node);
+}
+
+// Gives the first pair out, and opens the child behind it.
+pub fn give_first<K: Drop, V: Drop>(stack: &mut Nodes<K, V>) -> (K, V)
+    requires some { 0 < length stack.old }
+    requires levels { IsFalling 0 25 stack.old }
+    ensures pairs { front_of stack.old ≡ result ∷ front_of stack.new }
+    ensures levels { IsFalling 0 25 stack.new }
+{
+    let mut node = stack.pop();
+    let pair = node.take_first_pair();
+    if node.child_count() == 0 {
+        keep(stack, node);
+        return pair;
+    }
+    let child = node.take_first_child();
+    keep(stack, node);
+    open_first(stack, child);
+    pair
+}
+
+// Gives the last pair out, and opens the child ahead of it.
+pub fn give_last<K: Drop, V: Drop>(stack: &mut Nodes<K, V>) -> (K, V)
+    requires some { 0 < length stack.old }
+    requires levels { IsFalling 0 25 stack.old }
+    ensures pairs { back_of stack.old ≡ back_of stack.new ++ result ∷ [] }
+    ensures levels { IsFalling 0 25 stack.new }
+{
+    let mut node = stack.pop();
+    let pair = node.take_last_pair();
+    if node.child_count() == 0 {
+        keep(stack, node);
+        return pair;
+    }
+    let child = node.take_last_child();
+    keep(stack, node);
+    open_last(stack, child);
+    pair
+}
+
+// Sees to it that the front has a node: where it has none, the lowest of the back goes over, with its first child opened.
+pub fn fill_front<K: Drop, V: Drop>(front: &mut Nodes<K, V>, back: &mut Nodes<K, V>)
+    requires some { 0 < length (front_of front.old ++ back_of back.old) }
+    requires front { IsFalling 0 25 front.old }
+    requires back { IsFalling 0 25 back.old }
+    ensures pairs { front_of front.new ++ back_of back.new ≡ front_of front.old ++ back_of back.old }
+    ensures front { IsFalling 0 25 front.new }
+    ensures back { IsFalling 0 25 back.new }
+    ensures some { 0 < length front.new }
+{
+    if front.len() > 0 {
+        return;
+    }
+    let mut node = back.take_bottom();
+    if node.child_count() < node.len() {
+        front.push(node);
+        return;
+    }
+    let child = node.take_first_child();
+    front.push(node);
+    open_first(front, child);
+}
+
+// Sees to it that the back has a node: where it has none, the lowest of the front goes over, with its last child opened.
+pub fn fill_back<K: Drop, V: Drop>(front: &mut Nodes<K, V>, back: &mut Nodes<K, V>)
+    requires some { 0 < length (front_of front.old ++ back_of back.old) }
+    requires front { IsFalling 0 25 front.old }
+    requires back { IsFalling 0 25 back.old }
+    ensures pairs { front_of front.new ++ back_of back.new ≡ front_of front.old ++ back_of back.old }
+    ensures front { IsFalling 0 25 front.new }
+    ensures back { IsFalling 0 25 back.new }
+    ensures some { 0 < length back.new }
+{
+    if back.len() > 0 {
+        return;
+    }
+    let mut node = front.take_bottom();
+    if node.child_count() < node.len() {
+        back.push(node);
+        return;
+    }
+    let child = node.take_last_child();
+    back.push(node);
+    open_last(back, child);
+}

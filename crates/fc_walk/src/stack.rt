@@ -1,0 +1,119 @@
+//! A stack of as many items as a path has steps, which takes no memory.
+ghost use Rattle.std.specs.Prelude.{◌≡◌, ◌+◌, ◌<◌, ◌≤◌, List, [], ◌∷◌, ◌++◌, length, slice_index_or};
+ghost use Rattle.fc_walk.specs.Stack.{IsTopOf};
+
+use arrayvec::ArrayVec;
+use fc_node::path::MAX_STEPS;
+use std::marker::Model;
+
+/// At most 25 items, in order.
+#[derive(Drop)]
+pub struct Stack<T> {
+    cells: ArrayVec<Option<T>, MAX_STEPS>,
+}
+
+impl<T> Model for Stack<T> {
+    ghost use Rattle.std.specs.Prelude.{◌≡◌, ◌≤◌, List, length};
+    ghost use Rattle.fc_walk.specs.Stack.{filled, IsFilled};
+
+    ghost Value = { List T };
+
+    ghost view = { λ s. filled s.cells.items };
+
+    ghost invariant = { λ s. IsFilled s.cells.items × (length s.cells.items ≤ 25) };
+}
+
+impl<T> Stack<T> {
+    // How many items there are.
+    pub fn len(&self) -> usize
+        ensures value { result ≡ length self.now }
+        ensures fits { length self.now ≤ 25 }
+    {
+        self.cells.len()
+    }
+
+    // The item at `index`, from the bottom.
+    pub fn get(&self, index: usize) -> &T
+        requires { index < length self.now }
+        ensures { result.now ≡ slice_index_or self.now index result.now }
+    {
+        match &self.cells.as_slice()[index] {
+            Some(item) => item,
+            None => unreachable!(),
+        }
+    }
+}
+
+impl<T: Drop> Stack<T> {
+    // A stack of no item.
+    pub fn new() -> Stack<T>
+        ensures { result ≡ [] }
+    {
+        Stack {
+            cells: ArrayVec::new(),
+        }
+    }
+
+    // Puts an item on top.
+    pub fn push(&mut self, item: T)
+        requires { length self.old < 25 }
+        ensures { self.new ≡ self.old ++ item ∷ [] }
+    {
+        self.cells.push(Some(item));
+    }
+
+    // Takes the item on top.
+    pub fn pop(&mut self) -> T
+        requires { 0 < length self.old }
+        ensures { self.old ≡ self.new ++ result ∷ [] }
+    {
+        let Some(cell) = self.cells.pop() else {
+            unreachable!()
+        };
+        let Some(item) = cell else { unreachable!() };
+        item
+    }
+
+    // Takes the item at the bottom.
+    pub fn take_bottom(&mut self) -> T
+        requires { 0 < length self.old }
+        ensures { self.old ≡ result ∷ self.new }
+    {
+        let Some(item) = self.cells.remove(0) else {
+            unreachable!()
+        };
+        item
+    }
+}
+
+impl<T: Copy> Stack<T> {
+    // The item on top.
+    pub fn top(&self) -> T
+        requires { 0 < length self.now }
+        ensures { IsTopOf self.now result }
+    {
+        *self.get(self.len() - 1)
+    }
+}
+
+impl<T: Copy + Drop> Stack<T> {
+    // Puts an item in the place of the one on top.
+    pub fn set_top(&mut self, item: T)
+        requires { 0 < length self.old }
+        ensures { (front : List T) → (x : T) → self.old ≡ front ++ x ∷ [] → self.new ≡ front ++ item ∷ [] }
+    {
+        let last = self.cells.len() - 1;
+        self.cells.as_mut_slice()[last] = Some(item);
+    }
+
+    // A second stack of the same items.
+    pub fn copied(&self) -> Stack<T>
+        ensures { result ≡ self.now }
+    {
+        let mut all = Stack::new();
+        for i in 0..self.len() {
+            all.push(*self.get(i));
+        }
+        all
+    }
+}
