@@ -5,7 +5,7 @@ ghost use Rattle.fc_node.specs.Node.{own_pairs, children_of, pairs_of, IsLeaf, I
 ghost use Rattle.fc_node.specs.Path.{IsPath, before, after};
 ghost use Rattle.fc_insertion.specs.Cascade.{all_full, cascade, nodes_needed, insertion_moves, IsSpareLeaf, AreSpareInner};
 ghost use Rattle.fc_insertion.specs.Insertion.{spread, own_pairs_after, children_after, IsHalved};
-ghost use Rattle.fc_node.specs.Split.{left_length};
+ghost use Rattle.fc_node.specs.Split.{left_length, split_moves};
 ghost use Rattle.fc_insertion.specs.Arrival.{steps_after, path_after, IsPutAt, HasArrived};
 
 use crate::arrival::arrival;
@@ -43,6 +43,7 @@ pub fn insert<K: Drop, V: Drop>(
     ensures comparisons { count.new.comparisons ≡ count.old.comparisons }
     ensures moves { count.new.moves ≤ count.old.moves + insertion_moves path.now root.old.value }
     ensures few_moves { count.new.moves ≤ count.old.moves + 18 * length path.now }
+    ensures moved { count.old.moves < count.new.moves }
 {
     let place = arrival(path, room.len());
     let Room { leaf, mut inner } = room;
@@ -73,6 +74,7 @@ fn insert_with<K: Drop, V: Drop>(
     ensures comparisons { count.new.comparisons ≡ count.old.comparisons }
     ensures moves { count.new.moves ≤ count.old.moves + insertion_moves path.now root.old.value }
     ensures few_moves { count.new.moves ≤ count.old.moves + 18 * length path.now }
+    ensures moved { count.old.moves < count.new.moves }
 {
     match insert_below(root, path, pair, leaf, inner, count) {
         None => {}
@@ -140,6 +142,7 @@ fn insert_below<K: Drop, V: Drop>(
     ensures blank { AreSpareInner inner.new.items }
     ensures comparisons { count.new.comparisons ≡ count.old.comparisons }
     ensures moves { MatchOption result (count.new.moves ≤ count.old.moves + 12 * cascade path.now node.old + 11) (λ _. count.new.moves ≤ count.old.moves + 12 * cascade path.now node.old) }
+    ensures moved { count.old.moves < count.new.moves }
 {
     let i = path[0];
     if path.len() == 1 {
@@ -177,6 +180,7 @@ fn put_leaf<K: Drop, V: Drop>(
     ensures left { IfSome result (λ _. length (own_pairs node.new) ≡ left_length i) }
     ensures comparisons { count.new.comparisons ≡ count.old.comparisons }
     ensures moves { MatchOption result (count.new.moves ≤ count.old.moves + 11) (λ _. count.new.moves ≤ count.old.moves + 12) }
+    ensures exact { MatchOption result (count.new.moves ≡ count.old.moves + (length (own_pairs node.old) - i + 1)) (λ _. count.new.moves ≡ count.old.moves + split_moves i) }
 {
     match spare {
         None => {
@@ -210,6 +214,7 @@ fn put_inner<K: Drop, V: Drop>(
     ensures blank { AreSpareInner spares.new.items }
     ensures comparisons { count.new.comparisons ≡ count.old.comparisons }
     ensures moves { MatchOption result (count.new.moves ≤ count.old.moves + 11) (λ _. count.new.moves ≤ count.old.moves + 12) }
+    ensures exact { MatchOption result (count.new.moves ≡ count.old.moves + (length (own_pairs node.old) - i + 1)) (λ _. count.new.moves ≡ count.old.moves + split_moves i) }
 {
     if node.len() < CAPACITY {
         node.insert_inner(i, pair, child, count);

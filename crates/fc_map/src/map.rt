@@ -71,7 +71,7 @@ impl<K: Ord, V> Model for BTreeMap<K, V> {
     ghost invariant = { λ m. IsAscending K.cmp (entries (root_of m.root)) × IsSoundMap (root_of m.root) × (m.len ≡ length (entries (root_of m.root))) };
 }
 
-impl<K: Ord + Drop, V: Drop> BTreeMap<K, V> {
+impl<K: Ord, V> BTreeMap<K, V> {
     /// An empty map, which takes no memory. Later requests go to `alloc`. Upstream: `BTreeMap::new`.
     pub fn new(alloc: Global) -> BTreeMap<K, V>
         ensures { entries result ≡ [] }
@@ -106,17 +106,10 @@ impl<K: Ord + Drop, V: Drop> BTreeMap<K, V> {
         self.len == 0
     }
 
-    /// Drops all pairs. It takes no memory. Upstream: `BTreeMap::clear`.
-    pub fn clear(&mut self)
-        ensures { entries self.new ≡ [] }
-    {
-        self.root = None;
-        self.len = 0;
-    }
-
     /// The value at an equal key, or `None` where there is none. Upstream: `BTreeMap::get`.
     pub fn get(&self, key: &K) -> Option<&V>
-        ensures { now_value result ≡ value_at K.cmp (entries self.now) key.now }
+        ensures value { now_value result ≡ value_at K.cmp (entries self.now) key.now }
+        ensures ascending { IsAscending K.cmp (entries self.now) }
     {
         self.get_counted(key, &mut Count::new())
     }
@@ -124,6 +117,7 @@ impl<K: Ord + Drop, V: Drop> BTreeMap<K, V> {
     /// `get`, with its comparisons added to the count: exactly those keys that a search from the left passes. It moves no pair.
     pub fn get_counted(&self, key: &K, count: &mut Count) -> Option<&V>
         ensures value { now_value result ≡ value_at K.cmp (entries self.now) key.now }
+        ensures ascending { IsAscending K.cmp (entries self.now) }
         ensures comparisons { count.new.comparisons ≡ count.old.comparisons + passed_in K.cmp key.now self.now }
         ensures moves { count.new.moves ≡ count.old.moves }
         ensures bounded { IsBounded (length (entries self.now)) count.old count.new }
@@ -137,7 +131,8 @@ impl<K: Ord + Drop, V: Drop> BTreeMap<K, V> {
 
     /// The pair with an equal key, or `None` where there is none. Upstream: `BTreeMap::get_key_value`.
     pub fn get_key_value(&self, key: &K) -> Option<(&K, &V)>
-        ensures { now_pair result ≡ at K.cmp (entries self.now) key.now }
+        ensures pair { now_pair result ≡ at K.cmp (entries self.now) key.now }
+        ensures ascending { IsAscending K.cmp (entries self.now) }
     {
         self.get_key_value_counted(key, &mut Count::new())
     }
@@ -146,6 +141,7 @@ impl<K: Ord + Drop, V: Drop> BTreeMap<K, V> {
     /// no pair.
     pub fn get_key_value_counted(&self, key: &K, count: &mut Count) -> Option<(&K, &V)>
         ensures pair { now_pair result ≡ at K.cmp (entries self.now) key.now }
+        ensures ascending { IsAscending K.cmp (entries self.now) }
         ensures comparisons { count.new.comparisons ≡ count.old.comparisons + passed_in K.cmp key.now self.now }
         ensures moves { count.new.moves ≡ count.old.moves }
         ensures bounded { IsBounded (length (entries self.now)) count.old count.new }
@@ -158,7 +154,8 @@ impl<K: Ord + Drop, V: Drop> BTreeMap<K, V> {
 
     /// Whether an equal key is there. Upstream: `BTreeMap::contains_key`.
     pub fn contains_key(&self, key: &K) -> bool
-        ensures { IsTrue result ↔ IsSome (at K.cmp (entries self.now) key.now) }
+        ensures there { IsTrue result ↔ IsSome (at K.cmp (entries self.now) key.now) }
+        ensures ascending { IsAscending K.cmp (entries self.now) }
     {
         self.contains_key_counted(key, &mut Count::new())
     }
@@ -167,11 +164,55 @@ impl<K: Ord + Drop, V: Drop> BTreeMap<K, V> {
     /// no pair.
     pub fn contains_key_counted(&self, key: &K, count: &mut Count) -> bool
         ensures there { IsTrue result ↔ IsSome (at K.cmp (entries self.now) key.now) }
+        ensures ascending { IsAscending K.cmp (entries self.now) }
         ensures comparisons { count.new.comparisons ≡ count.old.comparisons + passed_in K.cmp key.now self.now }
         ensures moves { count.new.moves ≡ count.old.moves }
         ensures bounded { IsBounded (length (entries self.now)) count.old count.new }
     {
         self.pair_at(key, count).is_some()
+    }
+
+    // Where the key stands, or where it would go.
+    fn locate(&self, key: &K, count: &mut Count) -> Result<Path, Path>
+        ensures found { IfOk result (IsHeldAt K.cmp key.now self.now) }
+        ensures gap { IfErr result (IsOpenAt K.cmp key.now self.now) }
+        ensures path { MatchResult result (λ p. p ≡ path_in K.cmp key.now self.now) (λ p. p ≡ path_in K.cmp key.now self.now) }
+        ensures present { OnOk result (IsSome (at K.cmp (entries self.now) key.now)) }
+        ensures absent { OnErr result (at K.cmp (entries self.now) key.now ≡ None) }
+        ensures sound { IsSoundMap self.now }
+        ensures ascending { IsAscending K.cmp (entries self.now) }
+        ensures comparisons { count.new.comparisons ≡ count.old.comparisons + passed_in K.cmp key.now self.now }
+        ensures moves { count.new.moves ≡ count.old.moves }
+        ensures bounded { IsBounded (length (entries self.now)) count.old count.new }
+    {
+        match &self.root {
+            None => Err(Path::new()),
+            Some(root) => search::search(root, key, count),
+        }
+    }
+
+    // The pair with an equal key.
+    fn pair_at(&self, key: &K, count: &mut Count) -> Option<&(K, V)>
+        ensures pair { option_copied result ≡ at K.cmp (entries self.now) key.now }
+        ensures ascending { IsAscending K.cmp (entries self.now) }
+        ensures comparisons { count.new.comparisons ≡ count.old.comparisons + passed_in K.cmp key.now self.now }
+        ensures moves { count.new.moves ≡ count.old.moves }
+        ensures bounded { IsBounded (length (entries self.now)) count.old count.new }
+    {
+        match &self.root {
+            None => None,
+            Some(root) => search::get(root, key, count),
+        }
+    }
+}
+
+impl<K: Ord + Drop, V: Drop> BTreeMap<K, V> {
+    /// Drops all pairs. It takes no memory. Upstream: `BTreeMap::clear`.
+    pub fn clear(&mut self)
+        ensures { entries self.new ≡ [] }
+    {
+        self.root = None;
+        self.len = 0;
     }
 
     /// Puts the value at the key. Where an equal key is there, that key stays, its value is replaced and answered, and no memory
@@ -188,6 +229,7 @@ impl<K: Ord + Drop, V: Drop> BTreeMap<K, V> {
         ensures new_key { IfErr result (λ _. at K.cmp (entries self.old) key ≡ None) }
         ensures error { IfErr result (MayGrowRefuse (length (entries self.old))) }
         ensures full { at K.cmp (entries self.old) key ≡ None → length (entries self.old) ≡ usize.MAX → IsErr result }
+        ensures ascending { IsAscending K.cmp (entries self.new) }
         ensures sound { IsSoundMap self.new }
     {
         self.try_insert_counted(key, value, &mut Count::new())
@@ -210,9 +252,11 @@ impl<K: Ord + Drop, V: Drop> BTreeMap<K, V> {
         ensures new_key { IfErr result (λ _. at K.cmp (entries self.old) key ≡ None) }
         ensures error { IfErr result (MayGrowRefuse (length (entries self.old))) }
         ensures full { at K.cmp (entries self.old) key ≡ None → length (entries self.old) ≡ usize.MAX → IsErr result }
+        ensures ascending { IsAscending K.cmp (entries self.new) }
         ensures sound { IsSoundMap self.new }
         ensures comparisons { count.new.comparisons ≡ count.old.comparisons + passed_in K.cmp key self.old }
         ensures no_move { IsErr result ⊎ IsSome (at K.cmp (entries self.old) key) → count.new.moves ≡ count.old.moves }
+        ensures moved { OnOk result (at K.cmp (entries self.old) key ≡ None → count.old.moves < count.new.moves) }
         ensures bounded { IsBounded (length (entries self.new)) count.old count.new }
     {
         match self.locate(&key, count) {
@@ -230,6 +274,7 @@ impl<K: Ord + Drop, V: Drop> BTreeMap<K, V> {
         ensures value { result ≡ value_at K.cmp (entries self.old) key.now }
         ensures rest { entries self.new ≡ cut K.cmp (entries self.old) key.now }
         ensures absent { at K.cmp (entries self.old) key.now ≡ None → self.new ≡ self.old }
+        ensures ascending { IsAscending K.cmp (entries self.new) }
         ensures sound { IsSoundMap self.new }
     {
         self.remove_counted(key, &mut Count::new())
@@ -241,9 +286,11 @@ impl<K: Ord + Drop, V: Drop> BTreeMap<K, V> {
         ensures value { result ≡ value_at K.cmp (entries self.old) key.now }
         ensures rest { entries self.new ≡ cut K.cmp (entries self.old) key.now }
         ensures absent { at K.cmp (entries self.old) key.now ≡ None → self.new ≡ self.old }
+        ensures ascending { IsAscending K.cmp (entries self.new) }
         ensures sound { IsSoundMap self.new }
         ensures comparisons { count.new.comparisons ≡ count.old.comparisons + passed_in K.cmp key.now self.old }
         ensures no_move { at K.cmp (entries self.old) key.now ≡ None → count.new.moves ≡ count.old.moves }
+        ensures moved { IsSome (at K.cmp (entries self.old) key.now) → count.old.moves < count.new.moves }
         ensures bounded { IsBounded (length (entries self.old)) count.old count.new }
     {
         match self.locate(key, count) {
@@ -259,6 +306,7 @@ impl<K: Ord + Drop, V: Drop> BTreeMap<K, V> {
         ensures old { value_at K.cmp (entries self.old) key.now ≡ Some result }
         ensures put { entries self.new ≡ put K.cmp (entries self.old) key.now value }
         ensures length { length (entries self.new) ≡ length (entries self.old) }
+        ensures ascending { IsAscending K.cmp (entries self.new) }
         ensures sound { IsSoundMap self.new }
     {
         mem::replace(self.value_mut(path), value)
@@ -278,11 +326,13 @@ impl<K: Ord + Drop, V: Drop> BTreeMap<K, V> {
         ensures unchanged { OnErr result (self.new ≡ self.old) }
         ensures error { IfErr result (MayGrowRefuse (length (entries self.old))) }
         ensures full { length (entries self.old) ≡ usize.MAX → IsErr result }
+        ensures ascending { IsAscending K.cmp (entries self.new) }
         ensures sound { IsSoundMap self.new }
         ensures comparisons { count.new.comparisons ≡ count.old.comparisons }
         ensures no_move { OnErr result (count.new.moves ≡ count.old.moves) }
         ensures length { OnOk result (length (entries self.new) ≡ length (entries self.old) + 1) }
         ensures moves { OnOk result (IsMoved (length (entries self.new)) count.old count.new) }
+        ensures moved { OnOk result (count.old.moves < count.new.moves) }
     {
         if self.len == usize::MAX {
             return Err(TryReserveError::CapacityOverflow);
@@ -302,10 +352,12 @@ impl<K: Ord + Drop, V: Drop> BTreeMap<K, V> {
         ensures place { IfOk result (λ place. IsPutIn place self.new (key, value) [] []) }
         ensures unchanged { OnErr result (self.new ≡ self.old) }
         ensures error { IfErr result (λ e. e ≡ TryReserveError.AllocError) }
+        ensures ascending { IsAscending K.cmp (entries self.new) }
         ensures sound { IsSoundMap self.new }
         ensures comparisons { count.new.comparisons ≡ count.old.comparisons }
         ensures no_move { OnErr result (count.new.moves ≡ count.old.moves) }
         ensures moves { OnOk result (IsMoved 1 count.old count.new) }
+        ensures moved { OnOk result (count.old.moves < count.new.moves) }
     {
         let root = first_leaf(self.alloc, (key, value), count)?;
         self.root = Some(root);
@@ -320,42 +372,13 @@ impl<K: Ord + Drop, V: Drop> BTreeMap<K, V> {
         ensures pair { at K.cmp (entries self.old) key.now ≡ Some result }
         ensures rest { entries self.new ≡ cut K.cmp (entries self.old) key.now }
         ensures length { length (entries self.old) ≡ length (entries self.new) + 1 }
+        ensures ascending { IsAscending K.cmp (entries self.new) }
         ensures sound { IsSoundMap self.new }
         ensures comparisons { count.new.comparisons ≡ count.old.comparisons }
         ensures moves { IsMoved (length (entries self.old)) count.old count.new }
+        ensures moved { count.old.moves < count.new.moves }
     {
         self.take_at(path, count)
-    }
-
-    // Where the key stands, or where it would go.
-    fn locate(&self, key: &K, count: &mut Count) -> Result<Path, Path>
-        ensures found { IfOk result (IsHeldAt K.cmp key.now self.now) }
-        ensures gap { IfErr result (IsOpenAt K.cmp key.now self.now) }
-        ensures path { MatchResult result (λ p. p ≡ path_in K.cmp key.now self.now) (λ p. p ≡ path_in K.cmp key.now self.now) }
-        ensures present { OnOk result (IsSome (at K.cmp (entries self.now) key.now)) }
-        ensures absent { OnErr result (at K.cmp (entries self.now) key.now ≡ None) }
-        ensures sound { IsSoundMap self.now }
-        ensures comparisons { count.new.comparisons ≡ count.old.comparisons + passed_in K.cmp key.now self.now }
-        ensures moves { count.new.moves ≡ count.old.moves }
-        ensures bounded { IsBounded (length (entries self.now)) count.old count.new }
-    {
-        match &self.root {
-            None => Err(Path::new()),
-            Some(root) => search::search(root, key, count),
-        }
-    }
-
-    // The pair with an equal key.
-    fn pair_at(&self, key: &K, count: &mut Count) -> Option<&(K, V)>
-        ensures pair { option_copied result ≡ at K.cmp (entries self.now) key.now }
-        ensures comparisons { count.new.comparisons ≡ count.old.comparisons + passed_in K.cmp key.now self.now }
-        ensures moves { count.new.moves ≡ count.old.moves }
-        ensures bounded { IsBounded (length (entries self.now)) count.old count.new }
-    {
-        match &self.root {
-            None => None,
-            Some(root) => search::get(root, key, count),
-        }
     }
 }
 
@@ -380,6 +403,7 @@ fn insert_in<K: Ord + Drop, V: Drop>(
     ensures comparisons { count.new.comparisons ≡ count.old.comparisons }
     ensures no_move { OnErr result (count.new.moves ≡ count.old.moves) }
     ensures moves { OnOk result (IsMoved (length (pairs_of root.new.value)) count.old count.new) }
+    ensures moved { OnOk result (count.old.moves < count.new.moves) }
 {
     let room = try_room(alloc, root, path)?;
     Ok(insert(root, path, pair, room, count))

@@ -24,6 +24,7 @@ pub fn remove<K: Drop, V: Drop>(
     // The tree is as high as before or one level lower.
     ensures levels { (h : ℕ) → IsSoundRoot h root.value → IsTreeLeft h result.1 }
     ensures moves { (h : ℕ) → IsSoundRoot h root.value → count.new.moves ≤ count.old.moves + 18 * (h + 1) }
+    ensures moved { count.old.moves < count.new.moves }
     ensures comparisons { count.new.comparisons ≡ count.old.comparisons }
 {
     let mut root = root;
@@ -56,6 +57,7 @@ fn remove_at<K: Drop, V: Drop>(node: &mut Node<K, V>, path: &[usize], count: &mu
     ensures pairs { pairs_of node.new ≡ place_ahead path.now node.old ++ place_behind path.now node.old }
     ensures levels { (h : ℕ) → IsSoundRoot h node.old → IsShrunk h node.old node.new }
     ensures moves { (h : ℕ) → IsSoundRoot h node.old → count.new.moves ≤ count.old.moves + (13 + 18 * h) }
+    ensures moved { count.old.moves < count.new.moves }
     ensures comparisons { count.new.comparisons ≡ count.old.comparisons }
 {
     let i = path[0];
@@ -82,6 +84,7 @@ fn remove_own<K: Drop, V: Drop>(node: &mut Node<K, V>, index: usize, count: &mut
     ensures pairs { pairs_of node.new ≡ place_ahead (index ∷ []) node.old ++ place_behind (index ∷ []) node.old }
     ensures levels { (h : ℕ) → IsSoundRoot h node.old → IsShrunk h node.old node.new }
     ensures moves { (h : ℕ) → IsSoundRoot h node.old → count.new.moves ≤ count.old.moves + (13 + 18 * h) }
+    ensures moved { count.old.moves < count.new.moves }
     ensures comparisons { count.new.comparisons ≡ count.old.comparisons }
 {
     let next = match &mut node.children {
@@ -102,6 +105,7 @@ fn remove_first<K: Drop, V: Drop>(node: &mut Node<K, V>, count: &mut Count) -> (
     ensures pairs { pairs_of node.old ≡ result ∷ pairs_of node.new }
     ensures levels { (h : ℕ) → IsSoundRoot h node.old → IsShrunk h node.old node.new }
     ensures moves { (h : ℕ) → IsSoundRoot h node.old → count.new.moves ≤ count.old.moves + (11 + 18 * h) }
+    ensures moved { count.old.moves < count.new.moves }
     ensures comparisons { count.new.comparisons ≡ count.old.comparisons }
 {
     let pair = match &mut node.children {
@@ -129,6 +133,10 @@ fn mend_child<K: Drop, V: Drop>(node: &mut Node<K, V>, index: usize, count: &mut
     // All pairs stay, and no child is short.
     ensures pairs { pairs_of node.new ≡ pairs_of node.old }
     ensures levels { (h : ℕ) → IsShortAt h node.old index → IsShrunk (suc h) node.old node.new }
+    ensures whole_moves { 5 ≤ length (own_pairs (child_at node.old index)) → count.new.moves ≡ count.old.moves }
+    ensures merge_moves { length (own_pairs (child_at node.old index)) < 5 → together node.old (index - 1) ≤ 11 → count.new.moves ≡ count.old.moves + ((length (own_pairs node.old) - (index - 1)) + (length (own_pairs (child_at node.old (index - 1 + 1))) + 1)) }
+    ensures left_theft_moves { length (own_pairs (child_at node.old index)) < 5 → 11 < together node.old (index - 1) → 0 < index → count.new.moves ≡ count.old.moves + (length (own_pairs (child_at node.old (index - 1 + 1))) + 4) }
+    ensures right_theft_moves { length (own_pairs (child_at node.old index)) < 5 → 11 < together node.old (index - 1) → index ≡ 0 → count.new.moves ≡ count.old.moves + (length (own_pairs (child_at node.old 1)) + 3) }
     ensures moves { count.new.moves ≤ count.old.moves + 18 }
     ensures theft_moves { 11 < together node.old (index - 1) → count.new.moves ≤ count.old.moves + 14 }
     ensures comparisons { count.new.comparisons ≡ count.old.comparisons }

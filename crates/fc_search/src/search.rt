@@ -1,9 +1,8 @@
 //! Search for a key, in a node and down a tree.
-ghost use Rattle.std.specs.Prelude.{◌≡◌, ◌+◌, length, IfOk, IfErr, MatchResult, option_copied};
+ghost use Rattle.std.specs.Prelude.{◌≡◌, ℕ, ◌+◌, ◌*◌, ◌≤◌, length, IfOk, IfErr, MatchResult, option_copied};
 ghost use Rattle.fc_base.specs.Ascending.{IsAscending};
 ghost use Rattle.fc_base.specs.Parts.{at};
-ghost use Rattle.fc_node.specs.Node.{own_pairs, pairs_of};
-ghost use Rattle.fc_node.specs.Node.{IsTree};
+ghost use Rattle.fc_node.specs.Node.{own_pairs, pairs_of, IsLevelled, IsTree};
 ghost use Rattle.fc_search.specs.Found.{IsFoundAt, IsGapAt, IsFound, IsGap, seen};
 ghost use Rattle.fc_search.specs.Passed.{passed};
 ghost use Rattle.fc_search.specs.Way.{path_to};
@@ -41,6 +40,7 @@ pub fn search<K: Ord, V>(root: &Node<K, V>, key: &K, count: &mut Count) -> Resul
     ensures gap { IfErr result (IsGap K.cmp key.now root.now) }
     ensures path { MatchResult result (λ p. p ≡ path_to K.cmp key.now root.now) (λ p. p ≡ path_to K.cmp key.now root.now) }
     ensures comparisons { count.new.comparisons ≡ count.old.comparisons + passed K.cmp key.now root.now }
+    ensures bounded { (h : ℕ) → IsLevelled h root.now → count.new.comparisons ≤ count.old.comparisons + 11 * (h + 1) }
     ensures moves { count.new.moves ≡ count.old.moves }
 {
     let mut path = Path::new();
@@ -69,6 +69,7 @@ pub fn get<'a, K: Ord, V>(root: &'a Node<K, V>, key: &K, count: &mut Count) -> O
     requires order { IsAscending K.cmp (pairs_of root.now) }
     ensures value { option_copied result ≡ at K.cmp (pairs_of root.now) key.now }
     ensures comparisons { count.new.comparisons ≡ count.old.comparisons + passed K.cmp key.now root.now }
+    ensures bounded { (h : ℕ) → IsLevelled h root.now → count.new.comparisons ≤ count.old.comparisons + 11 * (h + 1) }
     ensures moves { count.new.moves ≡ count.old.moves }
 {
     let mut node = root;

@@ -9,7 +9,7 @@ ghost use Rattle.fc_map.specs.Entries.{entries, IsSoundMap, passed_in};
 use super::BTreeMap;
 use fc_base::Count;
 
-impl<K: Ord + Drop, V: Drop> BTreeMap<K, V> {
+impl<K: Ord, V> BTreeMap<K, V> {
     ghost use Rattle.fc_map.specs.LendsKey.{lends_get, lent_value, written_at};
 
     /// The value at an equal key, lent for writing, or `None` where there is none. The map ends with what the caller leaves in

@@ -4,7 +4,7 @@ ghost use Rattle.std.specs.Prelude.{◌≡◌, IsSome, Some};
 use super::BTreeMap;
 use std::ops::Index;
 
-impl<'key, K: Ord + Drop, V: Drop> Index<&'key K> for BTreeMap<K, V> {
+impl<'key, K: Ord, V> Index<&'key K> for BTreeMap<K, V> {
     ghost use Rattle.fc_base.specs.Parts.{at, value_at};
     ghost use Rattle.fc_map.specs.Entries.{entries};
 

@@ -12,7 +12,6 @@ use fc_node::path::Path;
 /// The values that are still to be lent for writing, in ascending order of their keys. `next` lends the first of them and
 /// `next_back` the last, each once; once there is none, both answer `None` ever after. No call compares keys or takes memory.
 /// Upstream: `btree_map::IterMut`.
-#[derive(Drop)]
 pub struct IterMut<'a, K: Ord, V> {
     pub(crate) map: &'a mut BTreeMap<K, V>,
     pub(crate) front: Path,
@@ -24,3 +23,17 @@ pub struct IterMut<'a, K: Ord, V> {
 
 /// A walk that lends all values for writing: `IterMut` lends no key, so it is that walk. Upstream: `btree_map::ValuesMut`.
 pub type ValuesMut<'a, K, V> = IterMut<'a, K, V>;
+
+// Dropped, a walk leaves the map with what was written: a derived `drop` would not say so.
+impl<K: Ord, V> Drop for IterMut<'_, K, V> {
+    fn drop(self)
+        ensures { self.exit.0.now ≡ self.entry.map.now }
+    {
+        let IterMut {
+            map: _,
+            front: _,
+            back: _,
+            left: _,
+        } = self;
+    }
+}

@@ -1,5 +1,6 @@
 //! The pair at a place that a search found.
-ghost use Rattle.std.specs.Prelude.{◌≡◌, ◌+◌, ◌++◌, length, Some};
+ghost use Rattle.std.specs.Prelude.{◌≡◌, ◌+◌, ◌<◌, ◌++◌, length, Some};
+ghost use Rattle.fc_base.specs.Ascending.{IsAscending};
 ghost use Rattle.fc_map.specs.Counts.{IsMoved};
 ghost use Rattle.fc_map.specs.Entries.{entries, IsSoundMap};
 ghost use Rattle.fc_node.specs.Tree.{IsPlaceIn, pair_in};
@@ -29,9 +30,11 @@ impl<K: Ord + Drop, V: Drop> BTreeMap<K, V> {
         ensures pair { pair_in self.old path.now ≡ Some result }
         ensures rest { entries self.new ≡ ahead_of self.old path.now ++ behind_of self.old path.now }
         ensures length { length (entries self.old) ≡ length (entries self.new) + 1 }
+        ensures ascending { IsAscending K.cmp (entries self.new) }
         ensures sound { IsSoundMap self.new }
         ensures comparisons { count.new.comparisons ≡ count.old.comparisons }
         ensures moves { IsMoved (length (entries self.old)) count.old count.new }
+        ensures moved { count.old.moves < count.new.moves }
     {
         let Some(root) = self.root.take() else {
             unreachable!()

@@ -82,6 +82,7 @@ impl<'a, K, V> DoubleEndedIterator for Range<'a, K, V> {
 impl<'a, K, V> FusedIterator for Range<'a, K, V> {}
 
 impl<K: Ord, V> BTreeMap<K, V> {
+    ghost use Rattle.fc_base.specs.Ascending.{IsAscending};
     ghost use Rattle.fc_base.specs.Ranges.{bound_now, is_range, within};
     ghost use Rattle.fc_map.specs.Entries.{entries};
 
@@ -92,6 +93,7 @@ impl<K: Ord, V> BTreeMap<K, V> {
         requires { IsTrue (is_range K.cmp (bound_now bounds.0) (bound_now bounds.1)) }
         ensures pairs { result ≡ within K.cmp (bound_now bounds.entry.0) (bound_now bounds.entry.1) (entries self.now) }
         ensures fits { length result ≤ usize.MAX }
+        ensures ascending { IsAscending K.cmp (entries self.now) }
     {
         // As many pairs as the map has can be counted, and so can those of a range.
         prove!(self.len <= usize::MAX);

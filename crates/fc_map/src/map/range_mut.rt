@@ -1,4 +1,5 @@
 //! Writing walks over the pairs of a map within two bounds, from both ends.
+ghost use Rattle.std.specs.Prelude.{◌≡◌};
 ghost use Rattle.fc_walk.specs.Gap.{AreEndsIn};
 ghost use Rattle.fc_map.specs.Unique.{ends-prop};
 
@@ -10,10 +11,22 @@ use fc_node::path::Path;
 /// The values of a range that are still to be lent for writing, in ascending order of their keys. `next` lends the first of them
 /// and `next_back` the last, each once; once there is none, both answer `None` ever after. No call compares keys or takes memory.
 /// Upstream: `btree_map::RangeMut`.
-#[derive(Drop)]
 pub struct RangeMut<'a, K: Ord, V> {
     pub(crate) map: &'a mut BTreeMap<K, V>,
     pub(crate) front: Path,
     pub(crate) back: Path,
     ghost ends: { AreEndsIn map.now front back } by { ends-prop map.now front back },
+}
+
+// Dropped, a walk leaves the map with what was written: a derived `drop` would not say so.
+impl<K: Ord, V> Drop for RangeMut<'_, K, V> {
+    fn drop(self)
+        ensures { self.exit.0.now ≡ self.entry.map.now }
+    {
+        let RangeMut {
+            map: _,
+            front: _,
+            back: _,
+        } = self;
+    }
 }

@@ -8,7 +8,8 @@ use fc_node::path::Path;
 use fc_search::lend;
 
 impl<K: Ord, V> BTreeMap<K, V> {
-    ghost use Rattle.fc_map.specs.Entries.{IsSoundMap};
+    ghost use Rattle.fc_base.specs.Ascending.{IsAscending};
+    ghost use Rattle.fc_map.specs.Entries.{entries, IsSoundMap};
     ghost use Rattle.fc_map.specs.Lends.{lends_at, written_in};
     ghost use Rattle.fc_node.specs.Tree.{IsPlaceIn, pair_in};
 
@@ -19,6 +20,7 @@ impl<K: Ord, V> BTreeMap<K, V> {
         ensures value { option_map (λ e. e.1) (pair_in self.old path.now) ≡ Some result.now }
         ensures sound { IsSoundMap self.old }
         ensures kept { (w : V) → IsSoundMap (written_in self.old path.now w) }
+        ensures ascends { (w : V) → IsAscending K.cmp (entries (written_in self.old path.now w)) }
     {
         let root = self.root.as_mut().unwrap();
         lend::value_mut(root, path)

@@ -1,5 +1,5 @@
 //! The pair at a key that is there.
-ghost use Rattle.std.specs.Prelude.{◌≡◌, length, Some};
+ghost use Rattle.std.specs.Prelude.{◌≡◌, ◌<◌, length, Some};
 ghost use Rattle.std.specs.Option.{option_map};
 ghost use Rattle.std.specs.Borrow.{sem};
 ghost use Rattle.fc_map.specs.Counts.{IsBounded};
@@ -79,6 +79,7 @@ impl<'a, K: Ord + Drop, V: Drop> OccupiedEntry<'a, K, V> {
         ensures removed { entries self.exit.0.now ≡ list_without (Occupied self.entry) }
         ensures sound { IsSoundMap self.exit.0.now }
         ensures comparisons { count.new.comparisons ≡ count.old.comparisons }
+        ensures moved { count.old.moves < count.new.moves }
         ensures bounded { IsBounded (length (entries (entry_map (Occupied self.entry)))) count.old count.new }
     {
         let path = self.path;

@@ -1,5 +1,5 @@
 //! The gap of a key that is not there.
-ghost use Rattle.std.specs.Prelude.{◌≡◌, ◌+◌, length, IsErr, IfOk, IfErr, OnErr, Some};
+ghost use Rattle.std.specs.Prelude.{◌≡◌, ◌+◌, ◌<◌, length, IsErr, IfOk, IfErr, OnErr, OnOk, Some};
 ghost use Rattle.std.specs.Borrow.{sem};
 ghost use Rattle.fc_base.specs.Growth.{MayGrowRefuse};
 ghost use Rattle.fc_map.specs.Counts.{IsBounded};
@@ -61,6 +61,7 @@ impl<'a, K: Ord + Drop, V: Drop> VacantEntry<'a, K, V> {
         ensures full { length (entries (entry_map (Vacant self.entry))) ≡ usize.MAX → IsErr result }
         ensures comparisons { count.new.comparisons ≡ count.old.comparisons }
         ensures no_move { OnErr result (count.new.moves ≡ count.old.moves) }
+        ensures moved { OnOk result (count.old.moves < count.new.moves) }
         ensures bounded { IsBounded (length (entries (entry_map (Vacant self.entry))) + 1) count.old count.new }
     {
         let VacantEntry { map, key, path } = self;

@@ -87,11 +87,13 @@ impl<'a, K, V> FusedIterator for Keys<'a, K, V> {}
 
 impl<K: Ord, V> BTreeMap<K, V> {
     ghost use Rattle.fc_map.specs.Entries.{entries};
+    ghost use Rattle.fc_base.specs.Ascending.{IsAscending};
     ghost use Rattle.fc_map.specs.Walks.{keys_of};
 
     /// A walk over all keys, in ascending order. Upstream: `BTreeMap::keys`.
     pub fn keys(&self) -> Keys<'_, K, V>
-        ensures { result ≡ keys_of (entries self.now) }
+        ensures keys { result ≡ keys_of (entries self.now) }
+        ensures ascending { IsAscending K.cmp (entries self.now) }
     {
         Keys { pairs: self.iter() }
     }

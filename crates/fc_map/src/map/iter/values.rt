@@ -87,11 +87,13 @@ impl<'a, K, V> FusedIterator for Values<'a, K, V> {}
 
 impl<K: Ord, V> BTreeMap<K, V> {
     ghost use Rattle.fc_map.specs.Entries.{entries};
+    ghost use Rattle.fc_base.specs.Ascending.{IsAscending};
     ghost use Rattle.fc_map.specs.Walks.{values_of};
 
     /// A walk over all values, in ascending order of their keys. Upstream: `BTreeMap::values`.
     pub fn values(&self) -> Values<'_, K, V>
-        ensures { result ≡ values_of (entries self.now) }
+        ensures values { result ≡ values_of (entries self.now) }
+        ensures ascending { IsAscending K.cmp (entries self.now) }
     {
         Values { pairs: self.iter() }
     }

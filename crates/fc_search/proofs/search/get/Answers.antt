@@ -1,6 +1,6 @@
 use Rattle.std.proofs.Common.{arith, refl}
 use Rattle.fc_search.proofs.SearchFacts.{child_there, way_levels, way_ascending, way_more, value_found, value_none}
-use Rattle.fc_search.proofs.PassedFacts.{passed_found, passed_down, passed_leaf}
+use Rattle.fc_search.proofs.PassedFacts.{passed_found, passed_down, passed_leaf, passed_bound}
 use Rattle.fc_search.proofs.Nodes.{fewer_nodes}
 use Rattle.fc_search.proofs.search.get.Goals as goal
 
@@ -13,6 +13,11 @@ returns-in-Ok-clause-comparisons g c =
     let f = passed_found g.met.K.Ord.total c.args.key.now c.down.node.now c.in-Ok.i a c.in-Ok.ensures.found in
     omega (arith, c.in-Ok.ensures.comparisons)
 
+pub returns-in-Ok-clause-bounded : goal.returns-in-Ok-clause-bounded
+returns-in-Ok-clause-bounded g c =
+    let e = returns-in-Ok-clause-comparisons g c in
+    λ h l. let b = passed_bound g.K.Ord.cmp c.args.key.now h c.args.root.now l in omega (arith, e)
+
 pub returns-then-is_leaf-clause-value : goal.returns-then-is_leaf-clause-value
 returns-then-is_leaf-clause-value g c = value_none g.met.K.Ord.total c.args.key.now c.requires.levels c.requires.order c.down.invariant.0.1 c.in-Err.gap c.in-Err.ensures.gap (c.if-is_leaf.ensures.0 refl)
 
@@ -21,6 +26,11 @@ returns-then-is_leaf-clause-comparisons g c =
     let a = way_ascending _ _ c.requires.levels c.requires.order c.down.invariant.0.1 in
     let f = passed_leaf g.met.K.Ord.total c.args.key.now c.down.node.now c.in-Err.gap a c.in-Err.ensures.gap (c.if-is_leaf.ensures.0 refl) in
     omega (arith, c.in-Err.ensures.comparisons)
+
+pub returns-then-is_leaf-clause-bounded : goal.returns-then-is_leaf-clause-bounded
+returns-then-is_leaf-clause-bounded g c =
+    let e = returns-then-is_leaf-clause-comparisons g c in
+    λ h l. let b = passed_bound g.K.Ord.cmp c.args.key.now h c.args.root.now l in omega (arith, e)
 
 pub child-node-requires : goal.child-node-requires
 child-node-requires g c =

@@ -1,6 +1,6 @@
 use Rattle.std.proofs.Common.{arith, refl}
 use Rattle.fc_search.proofs.SearchFacts.{one_longer, child_there, way_levels, way_room, way_ascending, way_more, way_gap, way_found}
-use Rattle.fc_search.proofs.PassedFacts.{passed_found, passed_down, passed_leaf}
+use Rattle.fc_search.proofs.PassedFacts.{passed_found, passed_down, passed_leaf, passed_bound}
 use Rattle.fc_search.proofs.WayFacts.{path_ends, path_ends_leaf, path_goes_on}
 use Rattle.fc_search.proofs.search.search.Goals as goal
 
@@ -20,6 +20,11 @@ returns-in-Ok-clause-comparisons g c =
     let f = passed_found g.met.K.Ord.total c.args.key.now c.down.node.now c.in-Ok.i a c.in-Ok.ensures.found in
     omega (arith, c.in-Ok.ensures.comparisons)
 
+pub returns-in-Ok-clause-bounded : goal.returns-in-Ok-clause-bounded
+returns-in-Ok-clause-bounded g c =
+    let e = returns-in-Ok-clause-comparisons g c in
+    λ h l. let b = passed_bound g.K.Ord.cmp c.args.key.now h c.args.root.now l in omega (arith, e)
+
 pub returns-in-Ok-clause-path : goal.returns-in-Ok-clause-path
 returns-in-Ok-clause-path g c =
     path_ends g.met.K.Ord.total c.args.key.now c.requires.levels c.requires.order c.down.invariant.0 c.down.invariant.3 c.in-Ok.i _ c.push.ensures c.in-Ok.ensures.found
@@ -33,6 +38,11 @@ returns-then-is_leaf-clause-comparisons g c =
     let a = way_ascending _ _ c.requires.levels c.requires.order c.down.invariant.0 in
     let f = passed_leaf g.met.K.Ord.total c.args.key.now c.down.node.now c.in-Err.i a c.in-Err.ensures.gap (c.if-is_leaf.ensures.0 refl) in
     omega (arith, c.in-Err.ensures.comparisons)
+
+pub returns-then-is_leaf-clause-bounded : goal.returns-then-is_leaf-clause-bounded
+returns-then-is_leaf-clause-bounded g c =
+    let e = returns-then-is_leaf-clause-comparisons g c in
+    λ h l. let b = passed_bound g.K.Ord.cmp c.args.key.now h c.args.root.now l in omega (arith, e)
 
 pub returns-then-is_leaf-clause-path : goal.returns-then-is_leaf-clause-path
 returns-then-is_leaf-clause-path g c =

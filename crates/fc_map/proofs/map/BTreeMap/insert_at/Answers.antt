@@ -11,3 +11,6 @@ invariant_of-self-2 g c =
     let ascending : IsAscending g.K.Ord.cmp (pairs_of c.in-Some.root.value) = rw c.in-Some.is at c.self.invariant.0 in
     let len : c.self.inside.len ≡ length (pairs_of c.in-Some.root.value) = c.self.invariant.2 ∙ ap (λ r. length (entries (root_of r))) c.in-Some.is in
     (rw ok.put (ascending_put g.K.Ord.cmp g.met.K.Ord.total _ ascending c.args.key c.args.value), ok.sound, omega (arith, ok.length, len))
+
+pub returns-clause-ascending : goal.returns-clause-ascending
+returns-clause-ascending g c = (invariant_of-self-2 g c).0

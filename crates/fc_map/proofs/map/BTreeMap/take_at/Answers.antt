@@ -68,3 +68,6 @@ returns-clause-moves g c =
     let is : c.args.self.now ≡ Some root = sym c.self.view_is ∙ ap root_of taken in
     let sound : IsSoundMap (Some root) = rw taken at c.self.invariant.1 in
     rw is (left_moves root sound c.args.count.now c.remove-pair.new.count (c.remove-pair.ensures.moves sound.0 sound.2))
+
+pub returns-clause-ascending : goal.returns-clause-ascending
+returns-clause-ascending g c = (invariant_of-self g c).0

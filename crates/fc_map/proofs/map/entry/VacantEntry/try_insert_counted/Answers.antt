@@ -22,6 +22,7 @@ returns-in-Ok g c =
         full = c.in-Ok.ensures.full;
         comparisons = c.in-Ok.ensures.comparisons;
         no_move = tt;
+        moved = c.in-Ok.ensures.moved;
         bounded = only_moved _ c.args.count.now c.insert_at.new.count (omega arith) c.in-Ok.ensures.comparisons (rw c.in-Ok.ensures.length at c.in-Ok.ensures.moves);
       },
     )
