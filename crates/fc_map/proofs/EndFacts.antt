@@ -13,9 +13,8 @@ use Rattle.fc_walk.specs.Gap.{IsGapIn, AreEndsIn}
 use Rattle.fc_search.specs.Written.{set_value}
 use Rattle.fc_map.specs.Writing.{Stretch, wrote_first, wrote_last}
 use Rattle.fc_map.proofs.ShapeFacts.{gap_stays, entries_written}
-use Rattle.fc_node.specs.Tree.{IsPlaceIn, pair_in}
+use Rattle.fc_node.specs.TreePlace.{IsPlaceIn, pair_in, before_of, ahead_of}
 use Rattle.fc_map.specs.Lends.{written_in}
-use Rattle.fc_node.specs.Tree.{before_of, ahead_of}
 use Rattle.fc_walk.specs.Trail.{rest_of, lead_of, places_of, IsTrail}
 use Rattle.fc_walk.proofs.Meetings.{same_path}
 use Rattle.fc_walk.proofs.GapFacts.{one_height}

@@ -13,10 +13,9 @@ use Rattle.fc_node.proofs.Gaps.{place_pairs}
 use Rattle.fc_search.proofs.SearchFacts.{gap_put, found_cut}
 use Rattle.fc_search.proofs.WrittenPairs.{written_levels, written_at, written_pairs}
 use Rattle.fc_map.specs.Entries.{Map, entries, IsSoundMap}
-use Rattle.fc_node.specs.Tree.{pair_in, IsPlaceIn}
+use Rattle.fc_node.specs.TreePlace.{pair_in, IsPlaceIn, before_of, after_of, ahead_of, behind_of}
 use Rattle.fc_map.specs.Lends.{written_in}
 use Rattle.fc_map.specs.Place.{IsHeldAt, IsOpenAt, IsPutIn}
-use Rattle.fc_node.specs.Tree.{before_of, after_of, ahead_of, behind_of}
 use Rattle.fc_map.specs.Entry.{map_written, with_entry_value}
 use Rattle.fc_map.specs.Unique.{place-prop}
 use Rattle.fc_map.specs.declared.map.entry.OccupiedEntry.{OccupiedEntry}

@@ -8,7 +8,7 @@ use Rattle.fc_node.proofs.Gaps.{gap_pairs, place_pairs}
 use Rattle.fc_search.proofs.SearchFacts.{found_at, gap_at}
 use Rattle.fc_search.proofs.WrittenPairs.{written_levels, written_put}
 use Rattle.fc_map.specs.Entries.{Map, entries, IsSoundMap}
-use Rattle.fc_node.specs.Tree.{pair_in}
+use Rattle.fc_node.specs.TreePlace.{pair_in}
 use Rattle.fc_map.specs.Lends.{written_in}
 use Rattle.fc_map.specs.Place.{IsHeldAt, IsOpenAt}
 use Rattle.fc_map.proofs.WrittenFacts.{written_length}

@@ -12,9 +12,8 @@ use Rattle.fc_node.proofs.Gaps.{item_there, place_pairs}
 use Rattle.fc_search.proofs.WrittenPairs.{value_own, value_children, child_own, child_children, length_value, written_levels, written_pairs}
 use Rattle.fc_map.specs.Entries.{Map, entries, IsSoundMap}
 use Rattle.fc_walk.specs.Gap.{IsGapIn}
-use Rattle.fc_node.specs.Tree.{IsPlaceIn}
+use Rattle.fc_node.specs.TreePlace.{IsPlaceIn, before_of, ahead_of}
 use Rattle.fc_map.specs.Lends.{written_in}
-use Rattle.fc_node.specs.Tree.{before_of, ahead_of}
 use Rattle.fc_walk.proofs.GapFacts.{one_height}
 
 module _ {X : Type 0} where

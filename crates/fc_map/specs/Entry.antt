@@ -9,9 +9,8 @@ use Rattle.std.specs.declared.cmp.PartialOrd as partial
 use mir.Syntax.{named}
 use Rattle.fc_search.proofs.WrittenPairs.{written_place}
 use Rattle.fc_map.specs.Entries.{Map, entries, IsSoundMap}
-use Rattle.fc_node.specs.Tree.{IsPlaceIn, pair_in}
+use Rattle.fc_node.specs.TreePlace.{IsPlaceIn, pair_in, before_of, after_of, ahead_of, behind_of}
 use Rattle.fc_map.specs.Lends.{written_in}
-use Rattle.fc_node.specs.Tree.{before_of, after_of, ahead_of, behind_of}
 use Rattle.fc_map.specs.declared.map.entry.Entry.{Entry}
 use Rattle.fc_map.specs.declared.map.entry.OccupiedEntry.{OccupiedEntry}
 use Rattle.fc_map.specs.contracts.map.BTreeMap.{the_row}

@@ -7,7 +7,7 @@ use Rattle.std.specs.declared.cmp.PartialEq as eq
 use Rattle.std.specs.declared.cmp.PartialOrd as partial
 use mir.Syntax.{named}
 use Rattle.fc_map.specs.Entries.{Map, entries}
-use Rattle.fc_node.specs.Tree.{before_of}
+use Rattle.fc_node.specs.TreePlace.{before_of}
 use Rattle.fc_map.specs.Writing.{Stretch, wrote_first, wrote_last}
 use Rattle.fc_map.specs.declared.map.range_mut.RangeMut.{RangeMut}
 use Rattle.fc_map.specs.declared.map.iter_mut.IterMut.{IterMut}

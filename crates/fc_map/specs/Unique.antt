@@ -9,7 +9,7 @@ use Rattle.fc_node.specs.Path.{IsPath}
 use Rattle.fc_node.specs.Place.{IsPlace}
 use Rattle.fc_map.specs.Entries.{Map}
 use Rattle.fc_walk.specs.Gap.{IsGapIn, AreEndsIn}
-use Rattle.fc_node.specs.Tree.{IsPlaceIn}
+use Rattle.fc_node.specs.TreePlace.{IsPlaceIn}
 use Rattle.fc_map.specs.Place.{IsOpenAt}
 
 module _ {K V : Type 0} where

@@ -13,7 +13,7 @@ ghost use Rattle.fc_map.specs.Counts.{IsBounded, IsMoved};
 ghost use Rattle.fc_map.specs.Entries.{entries, IsSoundMap, now_value, now_pair, passed_in};
 ghost use Rattle.fc_map.specs.LendsKey.{path_in};
 ghost use Rattle.fc_map.specs.Place.{IsHeldAt, IsOpenAt, IsPutIn};
-ghost use Rattle.fc_node.specs.Tree.{before_of, after_of};
+ghost use Rattle.fc_node.specs.TreePlace.{before_of, after_of};
 
 mod bounds;
 mod entry;

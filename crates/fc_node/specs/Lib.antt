@@ -1,6 +1,7 @@
 pub mod Weave
 pub mod Node
 pub mod Tree
+pub mod TreePlace
 pub mod Path
 pub mod Split
 pub mod Siblings

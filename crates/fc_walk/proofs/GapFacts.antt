@@ -11,8 +11,7 @@ use Rattle.fc_node.proofs.Gaps.{leaf_gap, inner_gap, own_pair, lead_pair, rest_p
 use Rattle.fc_node.proofs.Lists.{length_take}
 use Rattle.fc_node.specs.Tree.{Map, entries, IsSoundMap}
 use Rattle.fc_walk.specs.Gap.{zeros, one_back, IsLeafGap, GoesOn, IsGapIn}
-use Rattle.fc_node.specs.Tree.{IsPlaceIn}
-use Rattle.fc_node.specs.Tree.{before_of, ahead_of}
+use Rattle.fc_node.specs.TreePlace.{IsPlaceIn, before_of, ahead_of}
 
 length_zeros : (k : ℕ) → length (zeros k) ≡ k
 length_zeros zero = refl

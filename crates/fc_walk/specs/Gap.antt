@@ -4,7 +4,7 @@ use Rattle.fc_node.specs.declared.node.Node.{Node}
 use Rattle.fc_node.specs.Node.{IsLevelled}
 use Rattle.fc_node.specs.Path.{IsPath, before}
 use Rattle.fc_node.specs.Tree.{Map}
-use Rattle.fc_node.specs.Tree.{before_of}
+use Rattle.fc_node.specs.TreePlace.{before_of}
 
 -- So many zeros.
 abbrev pub zeros : ℕ → List ℕ

@@ -1,6 +1,6 @@
 //! A key's place in a map: it was searched for once, and is written, filled or emptied without another comparison.
 ghost use Rattle.std.specs.Prelude.{◌≡◌};
-ghost use Rattle.fc_node.specs.Tree.{IsPlaceIn};
+ghost use Rattle.fc_node.specs.TreePlace.{IsPlaceIn};
 ghost use Rattle.fc_map.specs.Place.{IsOpenAt};
 ghost use Rattle.fc_map.specs.Unique.{open-prop, place-prop};
 

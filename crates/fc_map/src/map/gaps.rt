@@ -4,7 +4,7 @@
 //! call.
 ghost use Rattle.std.specs.Prelude.{◌≡◌, ◌+◌, ◌<◌, ◌↔◌, List, ℕ, length, IsTrue};
 ghost use Rattle.fc_base.specs.Ranges.{bound_now, is_range};
-ghost use Rattle.fc_node.specs.Tree.{ahead_of, before_of, IsPlaceIn};
+ghost use Rattle.fc_node.specs.TreePlace.{ahead_of, before_of, IsPlaceIn};
 ghost use Rattle.fc_walk.specs.Gap.{IsGapIn, AreEndsIn};
 ghost use Rattle.fc_map.specs.Entries.{entries, IsSoundMap};
 ghost use Rattle.fc_map.specs.Writing.{starting};

@@ -1,7 +1,7 @@
 //! Writing walks over all values of a map, from both ends.
 ghost use Rattle.std.specs.Prelude.{◌≡◌, ◌+◌, length};
 ghost use Rattle.fc_walk.specs.Gap.{AreEndsIn};
-ghost use Rattle.fc_node.specs.Tree.{before_of};
+ghost use Rattle.fc_node.specs.TreePlace.{before_of};
 ghost use Rattle.fc_map.specs.Unique.{ends-prop};
 
 mod calls;

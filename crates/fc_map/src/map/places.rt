@@ -3,8 +3,7 @@ ghost use Rattle.std.specs.Prelude.{◌≡◌, ◌+◌, ◌<◌, ◌++◌, lengt
 ghost use Rattle.fc_base.specs.Ascending.{IsAscending};
 ghost use Rattle.fc_map.specs.Counts.{IsMoved};
 ghost use Rattle.fc_map.specs.Entries.{entries, IsSoundMap};
-ghost use Rattle.fc_node.specs.Tree.{IsPlaceIn, pair_in};
-ghost use Rattle.fc_node.specs.Tree.{ahead_of, behind_of};
+ghost use Rattle.fc_node.specs.TreePlace.{IsPlaceIn, pair_in, ahead_of, behind_of};
 
 use super::BTreeMap;
 use fc_base::Count;

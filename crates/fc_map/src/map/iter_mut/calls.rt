@@ -2,8 +2,7 @@
 ghost use Rattle.std.specs.Prelude.{◌≡◌, ◌+◌, ◌-◌, ◌<◌, ◌≤◌, ◌↔◌, length, IsTrue, MatchOption, None};
 ghost use Rattle.std.specs.Borrow.{sem};
 ghost use Rattle.fc_map.specs.Entries.{entries};
-ghost use Rattle.fc_node.specs.Tree.{IsPlaceIn};
-ghost use Rattle.fc_node.specs.Tree.{ahead_of};
+ghost use Rattle.fc_node.specs.TreePlace.{IsPlaceIn, ahead_of};
 ghost use Rattle.fc_map.specs.Stretches.{iter_stretch, iter_map_ref, iter_lends_first, iter_lends_last, IsFirstPair, IsFirstValue, IsLastPair, IsLastValue};
 ghost use Rattle.fc_map.specs.Writing.{whole};
 

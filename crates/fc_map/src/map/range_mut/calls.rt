@@ -3,8 +3,7 @@ ghost use Rattle.std.specs.Prelude.{◌≡◌, ◌+◌, ◌<◌, ◌≤◌, ◌�
 ghost use Rattle.std.specs.Borrow.{sem};
 ghost use Rattle.fc_base.specs.Ranges.{bound_now, is_range};
 ghost use Rattle.fc_map.specs.Entries.{entries};
-ghost use Rattle.fc_node.specs.Tree.{IsPlaceIn};
-ghost use Rattle.fc_node.specs.Tree.{ahead_of};
+ghost use Rattle.fc_node.specs.TreePlace.{IsPlaceIn, ahead_of};
 ghost use Rattle.fc_map.specs.Stretches.{stretch, range_map_ref, range_lends_first, range_lends_last, IsFirstPair, IsFirstValue, IsLastPair, IsLastValue};
 ghost use Rattle.fc_map.specs.Writing.{starting};
 

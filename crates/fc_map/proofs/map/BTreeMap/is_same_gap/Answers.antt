@@ -1,6 +1,6 @@
 use Rattle.std.proofs.Common.{sym, ap, length, ◌∙◌}
 use Rattle.std.specs.Cmp.Lexicographic.{same_text}
-use Rattle.fc_node.specs.Tree.{before_of}
+use Rattle.fc_node.specs.TreePlace.{before_of}
 use Rattle.fc_map.proofs.EndFacts.{same_gap, text_same}
 use Rattle.fc_map.proofs.map.BTreeMap.is_same_gap.Goals as goal
 

@@ -1,7 +1,7 @@
 use Rattle.std.proofs.Common.{◌-◌, ◌≤◌, ◌<◌, length, get_or, Some, arith, rules, sym, ap, subst, ◌∙◌}
 use Rattle.fc_map.specs.Entries.{entries, root_of}
 use Rattle.fc_walk.specs.Gap.{IsGapIn}
-use Rattle.fc_node.specs.Tree.{before_of}
+use Rattle.fc_node.specs.TreePlace.{before_of}
 use Rattle.fc_map.proofs.EndFacts.{gap_within}
 use Rattle.fc_walk.proofs.GapFacts.{IsNext, some_next, stepped_behind, gap_small}
 use Rattle.fc_map.proofs.map.BTreeMap.step_behind.Goals as goal

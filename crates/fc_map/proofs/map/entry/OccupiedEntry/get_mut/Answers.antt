@@ -1,6 +1,6 @@
 use Rattle.std.proofs.Common.{◌≡◌, refl, subst, sym, ◌∙◌}
 use Rattle.fc_map.specs.Entry.{place_stays}
-use Rattle.fc_node.specs.Tree.{IsPlaceIn}
+use Rattle.fc_node.specs.TreePlace.{IsPlaceIn}
 use Rattle.fc_map.specs.Lends.{written_in}
 use Rattle.fc_map.proofs.EntryFacts.{occupied_written}
 use Rattle.fc_map.proofs.map.entry.OccupiedEntry.get_mut.Goals as goal

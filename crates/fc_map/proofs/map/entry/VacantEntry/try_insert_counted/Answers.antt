@@ -1,6 +1,6 @@
 use Rattle.std.proofs.Common.{◌≡◌, ◌∙◌, Some, arith, ap, refl, sym}
 use Rattle.std.specs.Option.{option_map}
-use Rattle.fc_node.specs.Tree.{before_of, after_of}
+use Rattle.fc_node.specs.TreePlace.{before_of, after_of}
 use Rattle.fc_map.proofs.CountFacts.{only_moved}
 use Rattle.fc_map.proofs.EntryFacts.{put_place, put_written}
 use Rattle.fc_map.proofs.map.entry.VacantEntry.try_insert_counted.Goals as goal
