@@ -2,11 +2,11 @@
 use Rattle.std.proofs.Common.{◌≡◌, ℕ, zero, suc, ◌+◌, ◌<◌, ◌≤◌, List, [], ◌∷◌, ◌++◌, length, take, get_or, slice_get, Some, None, IfSome, refl, sym, ap, subst, ◌∙◌, arith, append_assoc, ◌⊎◌, inl, inr, length-append}
 use Rattle.std.specs.Option.{option_map}
 use Rattle.std.specs.Prelude.{unwrap_or, IsTrue, true, false}
-use Rattle.std.specs.Ordering.{ordering_reverse}
+use Rattle.std.specs.Ordering.{ordering_reverse, is_gt}
 use Rattle.std.specs.Cmp.{IsTotalOrder}
 use Rattle.std.specs.declared.cmp.Ordering.{Ordering}
 use Rattle.std.specs.declared.cmp.Ordering.TheVariants.{Less, Equal, Greater}
-use Rattle.std.proofs.lemmas.Bool.{cases_lt}
+use Rattle.std.proofs.lemmas.Bool.{cases_lt, false≢true}
 use Rattle.fc_base.specs.Ascending.{IsAscending}
 use Rattle.fc_base.specs.OneKey.{put, cut}
 use Rattle.fc_base.specs.Parts.{below, above, at}
@@ -21,19 +21,18 @@ use Rattle.fc_node.proofs.Pairs.{leaf_children}
 use Rattle.fc_search.proofs.Ordered.{all_more, ascending_middle, sides_equal, side_lower, side_upper, IsAround, around_gap, around_pair}
 use Rattle.fc_node.proofs.Gaps.{take_item, item_there, own_pair, lead_pair, rest_pair, rest_none, descent_levels, descent_pairs, node_more, descent_more, before_more, after_more, path_more, place_more, pair_more, ahead_more, behind_more, gap_pairs, place_pairs}
 
+-- what is_gt says
+pub greater_from : (r : Ordering) → is_gt r ≡ true → Greater ≡ r
+greater_from Less e = absurd (false≢true e)
+greater_from Equal e = absurd (false≢true e)
+greater_from Greater e = refl
+
 module _ {K V : Type 0} {cmp : K → K → Ordering} (o : IsTotalOrder cmp) (k : K) where
   -- the order of the same keys, the other way round
   turned : (s : List (K × V)) (i : ℕ) (p : K × V) (r : Ordering) (d : K × V) → i < length s → p ≡ get_or s i p → r ≡ cmp k p.0 → cmp (get_or s i d).0 k ≡ ordering_reverse r
   turned s i p r d h e q =
       let t = item_there s i h in
       ap (λ x. cmp x.0 k) (t.1 d ∙ sym (t.1 p) ∙ sym e) ∙ o.antisymm p.0 k ∙ ap ordering_reverse (sym q)
-
-  -- one comparison in a node, from the left
-  pub found_here : (s : List (K × V)) (i : ℕ) (p : K × V) → i < length s → AllBelow cmp k (take i s) → p ≡ get_or s i p → Equal ≡ cmp k p.0 → IsFoundAt cmp k s i
-  found_here s i p h a e q = (h, a, λ d. turned s i p Equal d h e q)
-
-  pub gap_here : (s : List (K × V)) (i : ℕ) (p : K × V) → i < length s → AllBelow cmp k (take i s) → p ≡ get_or s i p → Less ≡ cmp k p.0 → IsGapAt cmp k s i
-  gap_here s i p h a e q = (omega arith, a, λ d _. turned s i p Less d h e q)
 
   pub lower_here : (s : List (K × V)) (i : ℕ) (p : K × V) → i < length s → AllBelow cmp k (take i s) → p ≡ get_or s i p → Greater ≡ cmp k p.0 → AllBelow cmp k (take (i + 1) s)
   lower_here s i p h a e q = all_more (λ x. cmp x.0 k ≡ Less) s i p h a (turned s i p Greater p h e q)

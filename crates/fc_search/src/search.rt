@@ -10,7 +10,6 @@ ghost use Rattle.fc_search.specs.Way.{path_to};
 use fc_base::{Count, compare};
 use fc_node::node::Node;
 use fc_node::path::Path;
-use std::cmp::Ordering;
 
 // Where the key stands among the node's own, or else the gap where it would go. From the left each key is compared, until
 // one is not below it.
@@ -22,11 +21,11 @@ fn search_node<K: Ord, V>(node: &Node<K, V>, key: &K, count: &mut Count) -> Resu
 {
     let n = node.len();
     for i in 0..n {
-        match compare(key, &node.pair(i).0, count) {
-            Ordering::Less => return Err(i),
-            Ordering::Equal => return Ok(i),
-            Ordering::Greater => {}
+        let order = compare(key, &node.pair(i).0, count);
+        if order.is_gt() {
+            continue;
         }
+        return if order.is_eq() { Ok(i) } else { Err(i) };
     }
     Err(n)
 }
