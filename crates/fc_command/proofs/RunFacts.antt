@@ -1,12 +1,20 @@
 -- How a run goes on.
 use Rattle.std.proofs.Common.{◌≡◌, List, [], ◌∷◌, ◌++◌, refl, inl, inr}
+use Rattle.std.specs.List.{AllZip}
 use Rattle.std.specs.declared.cmp.Ordering.{Ordering}
 use Rattle.fc_base.specs.declared.try_reserve_error.TryReserveError.{TryReserveError}
 use Rattle.fc_map.specs.Entries.{Map, entries}
 use Rattle.fc_command.specs.declared.command.world.World.{World}
 use Rattle.fc_lines.specs.declared.command.Command.{Command}
 use Rattle.fc_lines.specs.declared.command.Reply.{Reply}
-use Rattle.fc_command.specs.Step.{answer, MayRefuse, MustRefuse, StepOn, answered, refused, Step, Runs, IsCopied}
+use Rattle.fc_command.specs.Step.{answer, MayRefuse, MustRefuse, StepOn, answered, refused, Step, Runs, IsCopied, IsCopyTold}
+
+-- each copy so far was told, and one command more
+pub told_more : {K V : Type 0} (cs : List (Command K V)) (rs : List (Reply K V)) (c : Command K V) (r : Reply K V) → AllZip IsCopyTold cs rs → IsCopyTold c r → AllZip IsCopyTold (cs ++ c ∷ []) (rs ++ r ∷ [])
+told_more [] [] c r h one = (one, tt)
+told_more (c0 ∷ cs) (r0 ∷ rs) c r h one = (h.0, told_more cs rs c r h.1 one)
+told_more [] (r0 ∷ rs) c r h one = absurd h
+told_more (c0 ∷ cs) [] c r h one = absurd h
 
 module _ {K V : Type 0} (cmp : K → K → Ordering) where
   -- a run, and one step more

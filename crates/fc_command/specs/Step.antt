@@ -1,5 +1,5 @@
 -- What a command does to a world, and what it answers.
-use Rattle.std.specs.Prelude.{◌≡◌, ◌-◌, ◌^◌, ◌<◌, min, List, [], ◌∷◌, ◌⊎◌, length, None, IsSome, is_some, IsTrue, if◌then◌else◌}
+use Rattle.std.specs.Prelude.{◌≡◌, ◌≢◌, ◌-◌, ◌^◌, ◌<◌, min, ⊤, List, [], ◌∷◌, ◌⊎◌, length, None, IsSome, is_some, IsTrue, if◌then◌else◌}
 use Rattle.std.specs.declared.cmp.Ordering.{Ordering}
 use Rattle.fc_base.specs.declared.try_reserve_error.TryReserveError.{TryReserveError}
 use Rattle.fc_base.specs.Growth.{MayGrowRefuse}
@@ -104,6 +104,16 @@ module _ {K V : Type 0} (cmp : K → K → Ordering) where
   Runs w (c ∷ cs) (r ∷ rs) w' = (mid : World K V) × Step w c r mid × Runs mid cs rs w'
   Runs w [] (r ∷ rs) w' = ⊥
   Runs w (c ∷ cs) [] w' = ⊥
+
+-- The reply is not that a request was refused.
+abbrev pub IsNotRefused : {K V : Type 0} → Reply K V → Type 0
+IsNotRefused r = (e : TryReserveError) → r ≢ Refused e
+
+-- A command that needs memory for nothing but a copy is answered, and not refused. Of the other commands this says nothing.
+abbrev pub IsCopyTold : {K V : Type 0} → Command K V → Reply K V → Type 0
+IsCopyTold (Get side k) r = IsNotRefused r
+IsCopyTold (GetKeyValue side k) r = IsNotRefused r
+IsCopyTold c r = ⊤
 
 -- The reply is this one, or the copy in it was refused, which is possible only where there is something to copy.
 abbrev pub IsCopied : {K V : Type 0} → Reply K V → Reply K V → Type 0 → Type 0

@@ -1,5 +1,6 @@
 //! A world of maps, and the commands over it.
 ghost use Rattle.std.specs.Prelude.{◌≡◌, ◌<◌, ◌↔◌, min, List, [], length, IfOk, OnErr, IfErr, IsSome, is_some, IsTrue, if◌then◌else◌};
+ghost use Rattle.std.specs.List.{AllZip};
 ghost use Rattle.fc_base.specs.declared.try_reserve_error.TryReserveError.TheVariants.{AllocError};
 ghost use Rattle.fc_base.specs.Copies.{IsExact};
 ghost use Rattle.fc_base.specs.OneKey.{put, cut};
@@ -11,7 +12,7 @@ ghost use Rattle.fc_command.specs.Writing.{flagged, rewritten};
 ghost use Rattle.fc_map.specs.Entries.{Map, entries, now_pair};
 ghost use Rattle.fc_lines.specs.declared.command.Reply.TheVariants.{Value, Pair};
 ghost use Rattle.fc_command.specs.Walks.{given, left, walked};
-ghost use Rattle.fc_command.specs.Step.{IsNew, Step, StepOn, Runs, IsCopied};
+ghost use Rattle.fc_command.specs.Step.{IsNew, Step, StepOn, Runs, IsCopied, IsNotRefused, IsCopyTold};
 
 use fc_base::{TryClone, TryReserveError};
 use fc_lines::command::{Command, End, Reply, Side};
@@ -45,11 +46,13 @@ impl<K: Ord + TryClone, V: TryClone> World<K, V> {
 
     /// Runs one command. A refusal is the reply `Refused`, and the world is then as it was.
     ///
-    /// A caller shows that a copy of a key or of a value is that key or value itself.
+    /// A caller shows that a copy of a key or of a value is that key or value itself. Where no copy of a key or of a value is ever
+    /// refused, as of numbers, a command that only copies is answered.
     pub fn step(&mut self, command: Command<K, V>) -> Reply<K, V>
         requires copied { K.can_clone × V.can_clone }
         requires same { IsExact K.same × IsExact V.same }
-        ensures { Step K.cmp self.old command result self.new }
+        ensures step { Step K.cmp self.old command result self.new }
+        ensures copies { ((k : K) → K.never_refuses k) → ((v : V) → V.never_refuses v) → IsCopyTold command result }
     {
         match command.side() {
             Side::First => step_on(self.alloc, &mut self.a, command),
@@ -65,6 +68,8 @@ impl<K: Ord + TryClone, V: TryClone> World<K, V> {
         requires copied { K.can_clone × V.can_clone }
         requires same { IsExact K.same × IsExact V.same }
         ensures ran { IfOk result (λ replies. Runs K.cmp self.old commands.items replies.items self.new) }
+        ensures copies { ((k : K) → K.never_refuses k) → ((v : V) → V.never_refuses v)
+            → IfOk result (λ replies. AllZip IsCopyTold commands.items replies.items) }
         ensures error { IfErr result (λ e. e ≡ AllocError) }
         ensures unchanged { OnErr result (self.new ≡ self.old) }
     {
@@ -87,7 +92,8 @@ fn step_on<K: Ord + TryClone, V: TryClone>(
 ) -> Reply<K, V>
     requires copied { K.can_clone × V.can_clone }
     requires same { IsExact K.same × IsExact V.same }
-    ensures { (o : Map K V) → StepOn K.cmp command map.old o result map.new o }
+    ensures step { (o : Map K V) → StepOn K.cmp command map.old o result map.new o }
+    ensures copies { ((k : K) → K.never_refuses k) → ((v : V) → V.never_refuses v) → IsCopyTold command result }
 {
     match command {
         Command::Insert(_, key, value) => match map.try_insert(key, value) {
@@ -284,7 +290,8 @@ fn evict<K: Ord + TryClone, V: TryClone>(map: &mut BTreeMap<K, V>, key: K) -> Op
 fn get<K: Ord + TryClone, V: TryClone>(map: &BTreeMap<K, V>, key: &K) -> Reply<K, V>
     requires copied { V.can_clone }
     requires same { IsExact V.same }
-    ensures { IsCopied result (Value (value_at K.cmp (entries map.now) key.now)) (IsSome (value_at K.cmp (entries map.now) key.now)) }
+    ensures value { IsCopied result (Value (value_at K.cmp (entries map.now) key.now)) (IsSome (value_at K.cmp (entries map.now) key.now)) }
+    ensures copies { ((v : V) → V.never_refuses v) → IsNotRefused result }
 {
     match map.get(key) {
         Some(value) => match value.try_clone() {
@@ -299,7 +306,8 @@ fn get<K: Ord + TryClone, V: TryClone>(map: &BTreeMap<K, V>, key: &K) -> Reply<K
 fn get_key_value<K: Ord + TryClone, V: TryClone>(map: &BTreeMap<K, V>, key: &K) -> Reply<K, V>
     requires copied { K.can_clone × V.can_clone }
     requires same { IsExact K.same × IsExact V.same }
-    ensures { IsCopied result (Pair (at K.cmp (entries map.now) key.now)) (IsSome (at K.cmp (entries map.now) key.now)) }
+    ensures pair { IsCopied result (Pair (at K.cmp (entries map.now) key.now)) (IsSome (at K.cmp (entries map.now) key.now)) }
+    ensures copies { ((k : K) → K.never_refuses k) → ((v : V) → V.never_refuses v) → IsNotRefused result }
 {
     match map.get_key_value(key) {
         Some((held, value)) => match copy_pair(held, value) {
@@ -314,7 +322,8 @@ fn get_key_value<K: Ord + TryClone, V: TryClone>(map: &BTreeMap<K, V>, key: &K) 
 fn copy_pair<K: TryClone, V: TryClone>(key: &K, value: &V) -> Result<(K, V), TryReserveError>
     requires copied { K.can_clone × V.can_clone }
     requires same { IsExact K.same × IsExact V.same }
-    ensures { IfOk result (λ copy. copy ≡ (key.now, value.now)) }
+    ensures copy { IfOk result (λ copy. copy ≡ (key.now, value.now)) }
+    ensures refused { OnErr result (K.never_refuses key.now → ¬ (V.never_refuses value.now)) }
 {
     let key = key.try_clone()?;
     let value = value.try_clone()?;
