@@ -1,5 +1,5 @@
 -- The laws of lists of pairs: what stands at each key once a pair is put or cut, how many pairs there are then, the first and the last pair, and the part between two bounds.
-use Rattle.std.proofs.Common.{◌≡◌, ℕ, zero, suc, ◌+◌, ◌-◌, ◌≤◌, Bool, true, false, cond, List, [], ◌∷◌, ◌++◌, length, take, drop, Option, Some, None, IsSome, IsTrue, All, refl, sym, ap, ◌∙◌, arith, append-nil, length-append}
+use Rattle.std.proofs.Common.{◌≡◌, suc, ◌+◌, ◌-◌, Bool, true, false, cond, List, [], ◌∷◌, ◌++◌, length, take, drop, Option, Some, None, IsSome, IsTrue, All, refl, sym, ap, ◌∙◌, subst, arith, append-nil, length-append, length-take-le, take-append-drop}
 use Rattle.std.specs.Prelude.{◌&&◌, unwrap_or}
 use Rattle.std.specs.List.{AllByRecursion, filter, find}
 use Rattle.std.specs.Option.{option_map, option_or, option_to_list}
@@ -17,6 +17,7 @@ use Rattle.fc_base.specs.Ascending.{IsAscending}
 use Rattle.fc_base.specs.OneKey.{put, cut}
 use Rattle.fc_base.specs.Parts.{below, above, at, value_at}
 use Rattle.fc_base.specs.Ranges.{starts, stops, is_range, within}
+use Rattle.fc_base.proofs.Within.{between_tests, not_past}
 use Rattle.fc_base.proofs.AscendingFacts.{over_one, under_one, all_map, all_below, all_above, at_key, asc_filter, asc_cut, asc_put}
 
 is_equal : (r : Ordering) → is_eq r ≡ true → r ≡ Equal
@@ -47,6 +48,39 @@ module _ {X : Type 0} (p : X → Bool) where
       go true false e h i = i ∙ rw (sym (h refl)) refl
       go false true e h i = rw e i
       go false false e h i = i
+
+module _ {K : Type 0} (cmp : K → K → Ordering) where
+  -- Where a key is not in front of a range, no greater key is.
+  starts_on : IsTotalOrder cmp → (lo : Bound K) (x y : K) → cmp x y ≡ Less → starts cmp lo x ≡ true → starts cmp lo y ≡ true
+  starts_on total Unbounded x y l h = refl
+  starts_on total (Included a) x y l h = go (cmp x a) refl h
+    where
+      go : (r : Ordering) → cmp x a ≡ r → is_ge r ≡ true → is_ge (cmp y a) ≡ true
+      go Less e h = absurd cc
+      go Equal e h = ap is_ge (over_one cmp total a y (sym (total.congr x a y e) ∙ l))
+      go Greater e h = ap is_ge (over_one cmp total a y (total.trans a x y (under_one cmp total a x e) l))
+  starts_on total (Excluded a) x y l h = go (cmp x a) refl h
+    where
+      go : (r : Ordering) → cmp x a ≡ r → is_gt r ≡ true → is_gt (cmp y a) ≡ true
+      go Less e h = absurd cc
+      go Equal e h = absurd cc
+      go Greater e h = ap is_gt (over_one cmp total a y (total.trans a x y (under_one cmp total a x e) l))
+
+  -- Where a key is behind a range, each greater key is.
+  stops_on : IsTotalOrder cmp → (hi : Bound K) (x y : K) → cmp x y ≡ Less → stops cmp hi x ≡ false → stops cmp hi y ≡ false
+  stops_on total Unbounded x y l h = absurd cc
+  stops_on total (Included b) x y l h = go (cmp x b) refl h
+    where
+      go : (r : Ordering) → cmp x b ≡ r → is_le r ≡ false → is_le (cmp y b) ≡ false
+      go Less e h = absurd cc
+      go Equal e h = absurd cc
+      go Greater e h = ap is_le (over_one cmp total b y (total.trans b x y (under_one cmp total b x e) l))
+  stops_on total (Excluded b) x y l h = go (cmp x b) refl h
+    where
+      go : (r : Ordering) → cmp x b ≡ r → is_lt r ≡ false → is_lt (cmp y b) ≡ false
+      go Less e h = absurd cc
+      go Equal e h = ap is_lt (over_one cmp total b y (sym (total.congr x b y e) ∙ l))
+      go Greater e h = ap is_lt (over_one cmp total b y (total.trans b x y (under_one cmp total b x e) l))
 
 module _ {K V : Type 0} (cmp : K → K → Ordering) where
   -- a test of how the keys compare to k
@@ -154,7 +188,7 @@ module _ {K V : Type 0} (cmp : K → K → Ordering) where
       x = (unwrap_or (option_map (λ (e : K × V). e.0) (at cmp s k)) k, v)
 
       same : (q : Ordering → Bool) → q Equal ≡ false → filter (λ e. q (cmp e.0 k)) (put cmp s k v) ≡ filter (λ e. q (cmp e.0 k)) (below cmp s k) ++ filter (λ e. q (cmp e.0 k)) (above cmp s k)
-      same q no = filter-append _ (below cmp s k) (x ∷ above cmp s k) ∙ rw (at_key cmp total k s, no) refl
+      same q away = filter-append _ (below cmp s k) (x ∷ above cmp s k) ∙ rw (at_key cmp total k s, away) refl
 
       lower : below cmp (put cmp s k v) k ≡ below cmp s k
       lower = same is_lt refl ∙ rw (kept _ _ (passes is_lt Less k _ (all_below cmp s k)), left_out _ _ (passes is_lt Greater k _ (all_above cmp s k))) (append-nil (below cmp s k))
@@ -195,3 +229,126 @@ module _ {K V : Type 0} (cmp : K → K → Ordering) where
   -- A put adds one pair where no equal key is there.
   pub length_put_new : (s : List (K × V)) (k : K) (v : V) → IsTotalOrder cmp → IsAscending cmp s → at cmp s k ≡ None → length (put cmp s k v) ≡ length s + 1
   length_put_new s k v total a none = length_put s k v ∙ ap (λ n. n + 1) (length_cut_absent s k total a none)
+
+  both_parts : (P : K × V → Type 0) (s t : List (K × V)) → AllByRecursion P (s ++ t) → AllByRecursion P s × AllByRecursion P t
+  both_parts P [] t a = (tt, a)
+  both_parts P (e ∷ s) t a = let i = both_parts P s t a.1 in ((a.0, i.0), i.1)
+
+  lower_front : (front back : List (K × V)) (e : K × V) → IsAscending cmp (front ++ e ∷ back) → AllByRecursion (λ x. cmp x.0 e.0 ≡ Less) front
+  lower_front [] back e a = tt
+  lower_front (x ∷ front) back e a = ((both_parts _ front (e ∷ back) a.0).1.0, lower_front front back e a.1)
+
+  -- A part of an ascending list is ascending: its front and its back.
+  pub ascending_front : (front back : List (K × V)) → IsAscending cmp (front ++ back) → IsAscending cmp front
+  ascending_front [] back a = tt
+  ascending_front (e ∷ front) back a = ((both_parts _ front back a.0).0, ascending_front front back a.1)
+
+  pub ascending_back : (front back : List (K × V)) → IsAscending cmp (front ++ back) → IsAscending cmp back
+  ascending_back [] back a = a
+  ascending_back (e ∷ front) back a = ascending_back front back a.1
+
+  -- A cut at the key of a pair of an ascending list leaves what stands around that pair.
+  pub cut_between : (s front back : List (K × V)) (k : K) (v : V) → IsTotalOrder cmp → IsAscending cmp s → s ≡ front ++ (k, v) ∷ back → cut cmp s k ≡ front ++ back
+  cut_between s front back k v total a e = ap (λ t. cut cmp t k) e ∙ rw (lower, upper) refl
+    where
+      e' : K × V
+      e' = (k, v)
+
+      all : IsAscending cmp (front ++ e' ∷ back)
+      all = subst (IsAscending cmp) e a
+
+      ahead : AllByRecursion (λ x. cmp x.0 k ≡ Less) front
+      ahead = lower_front front back e' all
+
+      behind : AllByRecursion (λ x. cmp x.0 k ≡ Greater) back
+      behind = later_above e' back k total (ascending_back front (e' ∷ back) all) Equal (tied_itself total k) refl
+
+      lower : below cmp (front ++ e' ∷ back) k ≡ front
+      lower = filter-append _ front (e' ∷ back) ∙ rw (tied_itself total k, kept _ _ (passes is_lt Less k _ ahead), left_out _ _ (passes is_lt Greater k _ behind)) (append-nil front)
+
+      upper : above cmp (front ++ e' ∷ back) k ≡ back
+      upper = filter-append _ front (e' ∷ back) ∙ rw (tied_itself total k, left_out _ _ (passes is_gt Less k _ ahead), kept _ _ (passes is_gt Greater k _ behind)) refl
+
+  -- The keys behind the first are above it.
+  pub first_is_least : (s rest : List (K × V)) (k : K) (v : V) → IsAscending cmp s → s ≡ (k, v) ∷ rest → All (λ e. cmp k e.0 ≡ Less) rest
+  first_is_least s rest k v a e = All-from_recursion _ rest (subst (IsAscending cmp) e a).0
+
+  -- The keys in front of the last are below it.
+  pub last_is_greatest : (s front : List (K × V)) (k : K) (v : V) → IsAscending cmp s → s ≡ front ++ (k, v) ∷ [] → All (λ e. cmp e.0 k ≡ Less) front
+  last_is_greatest s front k v a e = All-from_recursion _ front (lower_front front [] (k, v) (subst (IsAscending cmp) e a))
+
+  -- What stands behind the first pair is ascending.
+  pub ascending_rest : (s rest : List (K × V)) (e : K × V) → IsAscending cmp s → s ≡ e ∷ rest → IsAscending cmp rest
+  ascending_rest s rest e a is = (subst (IsAscending cmp) is a).1
+
+  -- What stands in front of the last pair is ascending.
+  pub ascending_lead : (s front : List (K × V)) (e : K × V) → IsAscending cmp s → s ≡ front ++ e ∷ [] → IsAscending cmp front
+  ascending_lead s front e a is = ascending_front front (e ∷ []) (subst (IsAscending cmp) is a)
+
+  -- A cut at the first key leaves what stands behind it.
+  pub cut_first : (s rest : List (K × V)) (k : K) (v : V) → IsTotalOrder cmp → IsAscending cmp s → s ≡ (k, v) ∷ rest → cut cmp s k ≡ rest
+  cut_first s rest k v total a e = cut_between s [] rest k v total a e
+
+  -- A cut at the last key leaves what stands in front of it.
+  pub cut_last : (s front : List (K × V)) (k : K) (v : V) → IsTotalOrder cmp → IsAscending cmp s → s ≡ front ++ (k, v) ∷ [] → cut cmp s k ≡ front
+  cut_last s front k v total a e = cut_between s front [] k v total a e ∙ append-nil front
+
+  -- All pairs lie within no bounds.
+  pub within_all : (s : List (K × V)) → within cmp Unbounded Unbounded s ≡ s
+  within_all [] = refl
+  within_all (e ∷ s) = ap (λ zs. e ∷ zs) (within_all s)
+
+  -- Each key of the pairs within two bounds is within them.
+  pub within_bounds : (lo hi : Bound K) (s : List (K × V)) → All (λ e. IsTrue (starts cmp lo e.0) × IsTrue (stops cmp hi e.0)) (within cmp lo hi s)
+  within_bounds lo hi s = All-weaker _ _ (λ e h. parts (starts cmp lo e.0) (stops cmp hi e.0) h) (within cmp lo hi s) (filter_passes (λ e. starts cmp lo e.0 && stops cmp hi e.0) s)
+    where
+      parts : (a b : Bool) → (a && b) ≡ true → IsTrue a × IsTrue b
+      parts true true h = (refl, refl)
+      parts true false h = absurd cc
+      parts false b h = absurd cc
+
+  -- The pairs of an ascending list that lie within two bounds are ascending.
+  pub ascending_within : (lo hi : Bound K) (s : List (K × V)) → IsAscending cmp s → IsAscending cmp (within cmp lo hi s)
+  ascending_within lo hi s a = asc_filter cmp _ s a
+
+  -- From where a range starts on, all pairs of an ascending list pass.
+  started : (lo : Bound K) (s : List (K × V)) → IsTotalOrder cmp → IsAscending cmp s → drop (length s - length (filter (λ e. starts cmp lo e.0) s)) s ≡ filter (λ e. starts cmp lo e.0) s
+  started lo [] total a = refl
+  started lo (e ∷ s) total a = go (starts cmp lo e.0) refl (started lo s total a.1)
+    where
+      rest : List (K × V)
+      rest = filter (λ e. starts cmp lo e.0) s
+
+      go : (b : Bool) → starts cmp lo e.0 ≡ b → drop (length s - length rest) s ≡ rest → drop (suc (length s) - length (cond b (e ∷ rest) rest)) (e ∷ s) ≡ cond b (e ∷ rest) rest
+      go true h i =
+          let all : rest ≡ s = kept (λ e. starts cmp lo e.0) s (all_map _ _ (λ x l. starts_on cmp total lo e.0 x.0 l h) s a.0) in
+          let n : suc (length s) - suc (length rest) ≡ 0 = let l = ap length all in omega arith in
+          rw n (ap (λ zs. e ∷ zs) (sym all))
+      go false h i =
+          let n : suc (length s) - length rest ≡ suc (length s - length rest) = omega (arith, length-filter (λ (e : K × V). starts cmp lo e.0) s, count_by-le-length (λ (e : K × V). starts cmp lo e.0) s) in
+          rw n i
+
+  -- Up to where a range ends, all pairs of an ascending list pass.
+  stopped : (hi : Bound K) (s : List (K × V)) → IsTotalOrder cmp → IsAscending cmp s → take (length (filter (λ e. stops cmp hi e.0) s)) s ≡ filter (λ e. stops cmp hi e.0) s
+  stopped hi [] total a = refl
+  stopped hi (e ∷ s) total a = go (stops cmp hi e.0) refl (stopped hi s total a.1)
+    where
+      rest : List (K × V)
+      rest = filter (λ e. stops cmp hi e.0) s
+
+      go : (b : Bool) → stops cmp hi e.0 ≡ b → take (length rest) s ≡ rest → take (length (cond b (e ∷ rest) rest)) (e ∷ s) ≡ cond b (e ∷ rest) rest
+      go true h i = ap (λ zs. e ∷ zs) i
+      go false h i =
+          let none : rest ≡ [] = left_out (λ e. stops cmp hi e.0) s (all_map _ _ (λ x l. stops_on cmp total hi e.0 x.0 l h) s a.0) in
+          rw none refl
+
+  -- The places of an ascending list from where a range starts up to where it ends are the pairs within its bounds.
+  pub places_are_within : (lo hi : Bound K) (s : List (K × V)) → IsTotalOrder cmp → IsAscending cmp s → IsTrue (is_range cmp lo hi) → let front = length s - length (filter (λ e. starts cmp lo e.0) s) in let back = length (filter (λ e. stops cmp hi e.0) s) in take (back - front) (drop front s) ≡ within cmp lo hi s
+  places_are_within lo hi s total a range =
+      let front = length s - length (filter (λ e. starts cmp lo e.0) s) in
+      let back = length (filter (λ e. stops cmp hi e.0) s) in
+      let ahead : length (take front s) ≡ front = length-take-le front s (omega arith) in
+      let behind : length (take back s) ≡ back = ap length (stopped hi s total a) in
+      let n : back - front ≡ length (take back s) - length (take front s) = omega (arith, ahead, behind) in
+      let between = between_tests (λ (e : K × V). starts cmp lo e.0) (λ e. stops cmp hi e.0) (λ e. not_past total lo hi range e.0) s (take front s) (drop front s) (take back s) (drop back s) (take-append-drop front s) (take-append-drop back s) (started lo s total a) (stopped hi s total a) in
+      ap (λ m. take m (drop front s)) n ∙ between.is
