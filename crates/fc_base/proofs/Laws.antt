@@ -10,7 +10,7 @@ use Rattle.std.specs.declared.cmp.Ordering.TheVariants.{Less, Equal, Greater}
 use Rattle.std.specs.declared.ops.Bound.{Bound}
 use Rattle.std.specs.declared.ops.Bound.TheVariants.{Included, Excluded, Unbounded}
 use Rattle.std.proofs.lemmas.Cmp.{tied_itself}
-use Rattle.std.proofs.lemmas.List.Elements.{filter-append, filter_passes, All-from_recursion, All-weaker}
+use Rattle.std.proofs.lemmas.List.Elements.{filter-append, filter_agree, filter_passes, All-from_recursion, All-weaker}
 use Rattle.std.proofs.lemmas.List.Folds.{find-append}
 use Rattle.std.proofs.lemmas.List.Sums.{length-filter, count_by-le-length}
 use Rattle.fc_base.specs.Ascending.{IsAscending}
@@ -50,6 +50,10 @@ module _ {X : Type 0} (p : X → Bool) where
       go false false e h i = i
 
 module _ {K : Type 0} (cmp : K → K → Ordering) where
+  -- Each key compares to equal keys alike.
+  alike : (k j x : K) → IsTotalOrder cmp → cmp j k ≡ Equal → cmp x j ≡ cmp x k
+  alike k j x total same = total.antisymm x j ∙ ap ordering_reverse (total.congr j k x same) ∙ sym (total.antisymm x k)
+
   -- Where a key is not in front of a range, no greater key is.
   starts_on : IsTotalOrder cmp → (lo : Bound K) (x y : K) → cmp x y ≡ Less → starts cmp lo x ≡ true → starts cmp lo y ≡ true
   starts_on total Unbounded x y l h = refl
@@ -109,6 +113,19 @@ module _ {K V : Type 0} (cmp : K → K → Ordering) where
   -- nothing stands at k below it or above it
   past : (s t : List (K × V)) (k : K) → at cmp (below cmp s k ++ t) k ≡ at cmp t k
   past s t k = find-append _ (below cmp s k) t ∙ ap (λ o. option_or o (at cmp t k)) (not_found _ (below cmp s k) (passes is_eq Less k _ (all_below cmp s k)))
+
+  -- At equal keys the same pair stands.
+  pub at_equal : (s : List (K × V)) (k j : K) → IsTotalOrder cmp → cmp j k ≡ Equal → at cmp s j ≡ at cmp s k
+  at_equal [] k j total same = refl
+  at_equal (e ∷ s) k j total same = rw (alike cmp k j e.0 total same) (ap (λ o. cond (is_eq (cmp e.0 k)) (Some e) o) (at_equal s k j total same))
+
+  -- At equal keys the same value stands.
+  pub value_at_equal : (s : List (K × V)) (k j : K) → IsTotalOrder cmp → cmp j k ≡ Equal → value_at cmp s j ≡ value_at cmp s k
+  value_at_equal s k j total same = ap (option_map (λ e. e.1)) (at_equal s k j total same)
+
+  -- A cut at an equal key leaves the same pairs.
+  pub cut_equal : (s : List (K × V)) (k j : K) → IsTotalOrder cmp → cmp j k ≡ Equal → cut cmp s j ≡ cut cmp s k
+  cut_equal s k j total same = rw (filter_agree (λ (e : K × V). is_lt (cmp e.0 j)) (λ e. is_lt (cmp e.0 k)) (λ e. ap is_lt (alike cmp k j e.0 total same)) s, filter_agree (λ (e : K × V). is_gt (cmp e.0 j)) (λ e. is_gt (cmp e.0 k)) (λ e. ap is_gt (alike cmp k j e.0 total same)) s) refl
 
   -- What was put at a key stands there, with the equal key that was there before, if there was one.
   pub at_put : (s : List (K × V)) (k : K) (v : V) → IsTotalOrder cmp → at cmp (put cmp s k v) k ≡ Some (unwrap_or (option_map (λ e. e.0) (at cmp s k)) k, v)
