@@ -137,6 +137,10 @@ module _ {K V : Type 0} (cmp : K → K → Ordering) where
   pub value_at_put : (s : List (K × V)) (k : K) (v : V) → IsTotalOrder cmp → value_at cmp (put cmp s k v) k ≡ Some v
   value_at_put s k v total = ap (option_map (λ e. e.1)) (at_put s k v total)
 
+  -- The value that was put at a key stands at each equal key.
+  pub value_at_put_equal : (s : List (K × V)) (k : K) (v : V) (j : K) → IsTotalOrder cmp → cmp j k ≡ Equal → value_at cmp (put cmp s k v) j ≡ Some v
+  value_at_put_equal s k v j total same = value_at_equal (put cmp s k v) k j total same ∙ value_at_put s k v total
+
   -- The pairs at other keys stay where one is put.
   pub at_put_other : (s : List (K × V)) (k : K) (v : V) (j : K) → IsTotalOrder cmp → ¬ (cmp j k ≡ Equal) → at cmp (put cmp s k v) j ≡ at cmp s j
   at_put_other s k v j total other = stays s (x ∷ []) k j total other (apart (cmp x.0 j) refl)
@@ -217,6 +221,10 @@ module _ {K V : Type 0} (cmp : K → K → Ordering) where
   pub cut_put_new : (s : List (K × V)) (k : K) (v : V) → IsTotalOrder cmp → IsAscending cmp s → at cmp s k ≡ None → cut cmp (put cmp s k v) k ≡ s
   cut_put_new s k v total a none = cut_put s k v total ∙ cut_absent s k total a none
 
+  -- So does a cut at an equal key.
+  pub cut_put_equal : (s : List (K × V)) (k : K) (v : V) (j : K) → IsTotalOrder cmp → IsAscending cmp s → cmp j k ≡ Equal → at cmp s k ≡ None → cut cmp (put cmp s k v) j ≡ s
+  cut_put_equal s k v j total a same none = cut_equal (put cmp s k v) k j total same ∙ cut_put_new s k v total a none
+
   length_cut : (s : List (K × V)) (k : K) → IsTotalOrder cmp → IsAscending cmp s → length s ≡ length (cut cmp s k) + length (option_to_list (at cmp s k))
   length_cut s k total a =
       let e = ap length (sym (parts_joined s k total a)) ∙ length-append (below cmp s k) (option_to_list (at cmp s k) ++ above cmp s k) in
@@ -264,27 +272,33 @@ module _ {K V : Type 0} (cmp : K → K → Ordering) where
   ascending_back [] back a = a
   ascending_back (e ∷ front) back a = ascending_back front back a.1
 
+  -- what stands around a pair of an ascending list
+  ahead : (s front back : List (K × V)) (k : K) (v : V) → IsAscending cmp s → s ≡ front ++ (k, v) ∷ back → AllByRecursion (λ x. cmp x.0 k ≡ Less) front
+  ahead s front back k v a e = lower_front front back (k, v) (subst (IsAscending cmp) e a)
+
+  behind : (s front back : List (K × V)) (k : K) (v : V) → IsTotalOrder cmp → IsAscending cmp s → s ≡ front ++ (k, v) ∷ back → AllByRecursion (λ x. cmp x.0 k ≡ Greater) back
+  behind s front back k v total a e = later_above (k, v) back k total (ascending_back front ((k, v) ∷ back) (subst (IsAscending cmp) e a)) Equal (tied_itself total k) refl
+
+  -- At the key of a pair of an ascending list stands that pair.
+  pub at_between : (s front back : List (K × V)) (k : K) (v : V) → IsTotalOrder cmp → IsAscending cmp s → s ≡ front ++ (k, v) ∷ back → at cmp s k ≡ Some (k, v)
+  at_between s front back k v total a e =
+      ap (λ t. at cmp t k) e ∙ find-append _ front ((k, v) ∷ back) ∙ rw (not_found _ front (passes is_eq Less k _ (ahead s front back k v a e)), tied_itself total k) refl
+
   -- A cut at the key of a pair of an ascending list leaves what stands around that pair.
   pub cut_between : (s front back : List (K × V)) (k : K) (v : V) → IsTotalOrder cmp → IsAscending cmp s → s ≡ front ++ (k, v) ∷ back → cut cmp s k ≡ front ++ back
   cut_between s front back k v total a e = ap (λ t. cut cmp t k) e ∙ rw (lower, upper) refl
     where
-      e' : K × V
-      e' = (k, v)
+      less : AllByRecursion (λ x. cmp x.0 k ≡ Less) front
+      less = ahead s front back k v a e
 
-      all : IsAscending cmp (front ++ e' ∷ back)
-      all = subst (IsAscending cmp) e a
+      more : AllByRecursion (λ x. cmp x.0 k ≡ Greater) back
+      more = behind s front back k v total a e
 
-      ahead : AllByRecursion (λ x. cmp x.0 k ≡ Less) front
-      ahead = lower_front front back e' all
+      lower : below cmp (front ++ (k, v) ∷ back) k ≡ front
+      lower = filter-append _ front ((k, v) ∷ back) ∙ rw (tied_itself total k, kept _ _ (passes is_lt Less k _ less), left_out _ _ (passes is_lt Greater k _ more)) (append-nil front)
 
-      behind : AllByRecursion (λ x. cmp x.0 k ≡ Greater) back
-      behind = later_above e' back k total (ascending_back front (e' ∷ back) all) Equal (tied_itself total k) refl
-
-      lower : below cmp (front ++ e' ∷ back) k ≡ front
-      lower = filter-append _ front (e' ∷ back) ∙ rw (tied_itself total k, kept _ _ (passes is_lt Less k _ ahead), left_out _ _ (passes is_lt Greater k _ behind)) (append-nil front)
-
-      upper : above cmp (front ++ e' ∷ back) k ≡ back
-      upper = filter-append _ front (e' ∷ back) ∙ rw (tied_itself total k, left_out _ _ (passes is_gt Less k _ ahead), kept _ _ (passes is_gt Greater k _ behind)) refl
+      upper : above cmp (front ++ (k, v) ∷ back) k ≡ back
+      upper = filter-append _ front ((k, v) ∷ back) ∙ rw (tied_itself total k, left_out _ _ (passes is_gt Less k _ less), kept _ _ (passes is_gt Greater k _ more)) refl
 
   -- The keys behind the first are above it.
   pub first_is_least : (s rest : List (K × V)) (k : K) (v : V) → IsAscending cmp s → s ≡ (k, v) ∷ rest → All (λ e. cmp k e.0 ≡ Less) rest
@@ -301,6 +315,14 @@ module _ {K V : Type 0} (cmp : K → K → Ordering) where
   -- What stands in front of the last pair is ascending.
   pub ascending_lead : (s front : List (K × V)) (e : K × V) → IsAscending cmp s → s ≡ front ++ e ∷ [] → IsAscending cmp front
   ascending_lead s front e a is = ascending_front front (e ∷ []) (subst (IsAscending cmp) is a)
+
+  -- At the first key stands the first pair.
+  pub at_first : (s rest : List (K × V)) (k : K) (v : V) → IsTotalOrder cmp → IsAscending cmp s → s ≡ (k, v) ∷ rest → at cmp s k ≡ Some (k, v)
+  at_first s rest k v total a e = at_between s [] rest k v total a e
+
+  -- At the last key stands the last pair.
+  pub at_last : (s front : List (K × V)) (k : K) (v : V) → IsTotalOrder cmp → IsAscending cmp s → s ≡ front ++ (k, v) ∷ [] → at cmp s k ≡ Some (k, v)
+  at_last s front k v total a e = at_between s front [] k v total a e
 
   -- A cut at the first key leaves what stands behind it.
   pub cut_first : (s rest : List (K × V)) (k : K) (v : V) → IsTotalOrder cmp → IsAscending cmp s → s ≡ (k, v) ∷ rest → cut cmp s k ≡ rest

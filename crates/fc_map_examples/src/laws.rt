@@ -1,5 +1,5 @@
 //! What callers prove of several calls in turn, through their public clauses and the laws of lists of pairs alone.
-ghost use Rattle.std.specs.Prelude.{◌≡◌, ◌+◌, List, length, IsSome, IfOk, OnOk, OnErr, None, Some, false};
+ghost use Rattle.std.specs.Prelude.{◌≡◌, ◌+◌, List, [], ◌∷◌, ◌++◌, length, IsSome, IfOk, OnOk, OnErr, MatchOption, None, Some};
 ghost use Rattle.std.specs.declared.cmp.Ordering.TheVariants.{Equal};
 ghost use Rattle.fc_base.specs.Ascending.{IsAscending};
 ghost use Rattle.fc_base.specs.OneKey.{put, cut};
@@ -10,6 +10,7 @@ use fc_base::TryReserveError;
 use fc_map::map::BTreeMap;
 
 /// Puts a value at a key, and looks an equal key up: the value stands there.
+#[tactic(auto, using(fc_base::proofs::Laws::value_at_put_equal))]
 pub fn insert_then_get<K: Ord + Drop, V: Copy + Drop>(
     map: &mut BTreeMap<K, V>,
     key: K,
@@ -69,7 +70,7 @@ pub fn take_back<K: Ord + Drop, V: Drop>(map: &mut BTreeMap<K, V>, key: &K) -> O
 
 /// Puts a pair with a new key into the map and takes it out again: the numbers of pairs before and in between, and the value.
 /// The list is then as it was.
-#[tactic(auto, using(fc_base::proofs::Laws::length_put_new))]
+#[tactic(auto, using(fc_base::proofs::Laws::value_at_put_equal, fc_base::proofs::Laws::cut_put_equal, fc_base::proofs::Laws::length_put_new))]
 pub fn insert_then_remove<K: Ord + Drop, V: Drop>(
     map: &mut BTreeMap<K, V>,
     key: K,
@@ -109,7 +110,10 @@ pub fn lengths_of_insert<K: Ord + Drop, V: Drop>(
 
 /// The numbers of pairs before and after a removal: one less where the key is there, and else as many.
 #[tactic(auto, using(fc_base::proofs::Laws::length_cut_absent, fc_base::proofs::Laws::length_cut_there))]
-pub fn lengths_of_remove<K: Ord + Drop, V: Drop>(map: &mut BTreeMap<K, V>, key: &K) -> (usize, usize)
+pub fn lengths_of_remove<K: Ord + Drop, V: Drop>(
+    map: &mut BTreeMap<K, V>,
+    key: &K,
+) -> (usize, usize)
     ensures before { result.0 ≡ length (entries map.old) }
     ensures absent { at K.cmp (entries map.old) key.now ≡ None → result.1 ≡ result.0 }
     ensures present { IsSome (at K.cmp (entries map.old) key.now) → result.1 + 1 ≡ result.0 }
@@ -117,5 +121,45 @@ pub fn lengths_of_remove<K: Ord + Drop, V: Drop>(map: &mut BTreeMap<K, V>, key: 
 {
     let before = map.len();
     map.remove(key);
-    (before, map.len())
+    let after = map.len();
+    (before, after)
+}
+
+/// Takes the first pair out, if there is one.
+pub fn pop_first<K: Ord + Copy + Drop, V: Drop>(map: &mut BTreeMap<K, V>) -> Option<(K, V)>
+    ensures { MatchOption result (entries map.old ≡ []) (λ first. entries map.old ≡ first ∷ entries map.new) }
+{
+    map.len();
+    let key = first_key(map)?;
+    let value = map.remove(&key)?;
+    Some((key, value))
+}
+
+/// Takes the last pair out, if there is one.
+#[tactic(auto, using(fc_base::proofs::Laws::cut_last, fc_base::proofs::Laws::at_last))]
+pub fn pop_last<K: Ord + Copy + Drop, V: Drop>(map: &mut BTreeMap<K, V>) -> Option<(K, V)>
+    ensures { MatchOption result (entries map.old ≡ []) (λ last. entries map.old ≡ entries map.new ++ last ∷ []) }
+{
+    map.len();
+    let key = last_key(map)?;
+    let value = map.remove(&key)?;
+    Some((key, value))
+}
+
+// The first key, if there is one.
+fn first_key<K: Ord + Copy + Drop, V: Drop>(map: &BTreeMap<K, V>) -> Option<K>
+    ensures { MatchOption result (entries map.now ≡ []) (λ key. (value : V) × (rest : List (K × V)) × (entries map.now ≡ (key, value) ∷ rest)) }
+{
+    let mut walk = map.iter();
+    let (key, _value) = walk.next()?;
+    Some(*key)
+}
+
+// The last key, if there is one.
+fn last_key<K: Ord + Copy + Drop, V: Drop>(map: &BTreeMap<K, V>) -> Option<K>
+    ensures { MatchOption result (entries map.now ≡ []) (λ key. (value : V) × (front : List (K × V)) × (entries map.now ≡ front ++ (key, value) ∷ [])) }
+{
+    let mut walk = map.iter();
+    let (key, _value) = walk.next_back()?;
+    Some(*key)
 }

@@ -1,11 +1,7 @@
-use Rattle.std.proofs.Common.{◌≡◌, ap, ◌∙◌, rules}
+use Rattle.std.proofs.Common.{arith}
+use Rattle.std.proofs.lemmas.Grind.{common_steps}
 use Rattle.fc_base.proofs.Laws.{value_at_cut_other}
-use Rattle.fc_base.specs.Parts.{value_at}
-use Rattle.fc_map.specs.Entries.{entries}
 use Rattle.fc_map_examples.proofs.laws.remove_then_get.Goals as goal
 
 pub returns-clause-stays : goal.returns-clause-stays
-returns-clause-stays g c =
-    let cmp = g.K.Ord.cmp in
-    let stays : value_at cmp (entries c.remove.new.self) c.args.other.now ≡ value_at cmp (entries c.args.map.now) c.args.other.now = ap (λ s. value_at cmp s c.args.other.now) c.remove.ensures.rest ∙ value_at_cut_other cmp _ c.args.key.now c.args.other.now g.met.K.Ord.total c.requires in
-    search rules
+returns-clause-stays g c = grind (arith, common_steps, value_at_cut_other, c.requires)
