@@ -221,7 +221,7 @@ module _ {K V : Type 0} (cmp : K → K → Ordering) where
   pub cut_put_new : (s : List (K × V)) (k : K) (v : V) → IsTotalOrder cmp → IsAscending cmp s → at cmp s k ≡ None → cut cmp (put cmp s k v) k ≡ s
   cut_put_new s k v total a none = cut_put s k v total ∙ cut_absent s k total a none
 
-  -- So does a cut at an equal key.
+  -- A new pair that was put and is cut at an equal key leaves the list as it was.
   pub cut_put_equal : (s : List (K × V)) (k : K) (v : V) (j : K) → IsTotalOrder cmp → IsAscending cmp s → cmp j k ≡ Equal → at cmp s k ≡ None → cut cmp (put cmp s k v) j ≡ s
   cut_put_equal s k v j total a same none = cut_equal (put cmp s k v) k j total same ∙ cut_put_new s k v total a none
 
@@ -259,22 +259,24 @@ module _ {K V : Type 0} (cmp : K → K → Ordering) where
   both_parts P [] t a = (tt, a)
   both_parts P (e ∷ s) t a = let i = both_parts P s t a.1 in ((a.0, i.0), i.1)
 
-  lower_front : (front back : List (K × V)) (e : K × V) → IsAscending cmp (front ++ e ∷ back) → AllByRecursion (λ x. cmp x.0 e.0 ≡ Less) front
-  lower_front [] back e a = tt
-  lower_front (x ∷ front) back e a = ((both_parts _ front (e ∷ back) a.0).1.0, lower_front front back e a.1)
+  -- The keys in front of a pair of an ascending list are below its own.
+  pub smaller_ahead : (front back : List (K × V)) (e : K × V) → IsAscending cmp (front ++ e ∷ back) → AllByRecursion (λ x. cmp x.0 e.0 ≡ Less) front
+  smaller_ahead [] back e a = tt
+  smaller_ahead (x ∷ front) back e a = ((both_parts _ front (e ∷ back) a.0).1.0, smaller_ahead front back e a.1)
 
-  -- A part of an ascending list is ascending: its front and its back.
+  -- The front of an ascending list is ascending.
   pub ascending_front : (front back : List (K × V)) → IsAscending cmp (front ++ back) → IsAscending cmp front
   ascending_front [] back a = tt
   ascending_front (e ∷ front) back a = ((both_parts _ front back a.0).0, ascending_front front back a.1)
 
+  -- The back of an ascending list is ascending.
   pub ascending_back : (front back : List (K × V)) → IsAscending cmp (front ++ back) → IsAscending cmp back
   ascending_back [] back a = a
   ascending_back (e ∷ front) back a = ascending_back front back a.1
 
   -- what stands around a pair of an ascending list
   ahead : (s front back : List (K × V)) (k : K) (v : V) → IsAscending cmp s → s ≡ front ++ (k, v) ∷ back → AllByRecursion (λ x. cmp x.0 k ≡ Less) front
-  ahead s front back k v a e = lower_front front back (k, v) (subst (IsAscending cmp) e a)
+  ahead s front back k v a e = smaller_ahead front back (k, v) (subst (IsAscending cmp) e a)
 
   behind : (s front back : List (K × V)) (k : K) (v : V) → IsTotalOrder cmp → IsAscending cmp s → s ≡ front ++ (k, v) ∷ back → AllByRecursion (λ x. cmp x.0 k ≡ Greater) back
   behind s front back k v total a e = later_above (k, v) back k total (ascending_back front ((k, v) ∷ back) (subst (IsAscending cmp) e a)) Equal (tied_itself total k) refl
@@ -306,7 +308,7 @@ module _ {K V : Type 0} (cmp : K → K → Ordering) where
 
   -- The keys in front of the last are below it.
   pub last_is_greatest : (s front : List (K × V)) (k : K) (v : V) → IsAscending cmp s → s ≡ front ++ (k, v) ∷ [] → All (λ e. cmp e.0 k ≡ Less) front
-  last_is_greatest s front k v a e = All-from_recursion _ front (lower_front front [] (k, v) (subst (IsAscending cmp) e a))
+  last_is_greatest s front k v a e = All-from_recursion _ front (smaller_ahead front [] (k, v) (subst (IsAscending cmp) e a))
 
   -- What stands behind the first pair is ascending.
   pub ascending_rest : (s rest : List (K × V)) (e : K × V) → IsAscending cmp s → s ≡ e ∷ rest → IsAscending cmp rest

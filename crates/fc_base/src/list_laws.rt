@@ -1,11 +1,25 @@
 //! Laws of lists of pairs by a lawful order of the keys. Each function does nothing: its contract is the law.
-ghost use Rattle.std.specs.Prelude.{◌≡◌, ◌-◌, List, [], ◌∷◌, ◌++◌, length, take, drop, filter, All, IsTrue};
+ghost use Rattle.std.specs.Prelude.{◌≡◌, ◌-◌, List, [], ◌∷◌, ◌++◌, length, take, drop, filter, option_to_list, All, IsTrue};
 ghost use Rattle.std.specs.declared.cmp.Ordering.TheVariants.{Less};
 ghost use Rattle.std.specs.declared.ops.Bound.{Bound};
 ghost use Rattle.std.specs.declared.ops.Bound.TheVariants.{Unbounded};
 ghost use Rattle.fc_base.specs.Ascending.{IsAscending};
-ghost use Rattle.fc_base.specs.OneKey.{cut};
+ghost use Rattle.fc_base.specs.OneKey.{put, cut};
+ghost use Rattle.fc_base.specs.Parts.{below, above, at};
 ghost use Rattle.fc_base.specs.Ranges.{starts, stops, is_range, within};
+
+/// An ascending list is what is below a key, the pair at that key, if there is one, and what is above it.
+#[tactic(auto, using(crate::proofs::Laws::parts_joined))]
+pub fn parts_of_list<K: Ord, V>()
+    ensures { (s : List (K × V)) (k : K) → IsAscending K.cmp s → below K.cmp s k ++ (option_to_list (at K.cmp s k) ++ above K.cmp s k) ≡ s }
+{}
+
+/// An ascending list in which a pair is put, or from which one is cut, is ascending.
+#[tactic(auto, using(crate::proofs::Laws::ascending_put, crate::proofs::Laws::ascending_cut))]
+pub fn still_ascending<K: Ord, V>()
+    ensures put { (s : List (K × V)) (k : K) (v : V) → IsAscending K.cmp s → IsAscending K.cmp (put K.cmp s k v) }
+    ensures cut { (s : List (K × V)) (k : K) → IsAscending K.cmp s → IsAscending K.cmp (cut K.cmp s k) }
+{}
 
 /// Behind the first pair of an ascending list stand greater keys, in ascending order, and a cut at the first key leaves just
 /// these.
