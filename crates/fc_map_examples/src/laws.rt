@@ -129,7 +129,6 @@ pub fn lengths_of_remove<K: Ord + Drop, V: Drop>(
 pub fn pop_first<K: Ord + Copy + Drop, V: Drop>(map: &mut BTreeMap<K, V>) -> Option<(K, V)>
     ensures { MatchOption result (entries map.old ≡ []) (λ first. entries map.old ≡ first ∷ entries map.new) }
 {
-    map.len();
     let key = first_key(map)?;
     let value = map.remove(&key)?;
     Some((key, value))
@@ -140,24 +139,25 @@ pub fn pop_first<K: Ord + Copy + Drop, V: Drop>(map: &mut BTreeMap<K, V>) -> Opt
 pub fn pop_last<K: Ord + Copy + Drop, V: Drop>(map: &mut BTreeMap<K, V>) -> Option<(K, V)>
     ensures { MatchOption result (entries map.old ≡ []) (λ last. entries map.old ≡ entries map.new ++ last ∷ []) }
 {
-    map.len();
     let key = last_key(map)?;
     let value = map.remove(&key)?;
     Some((key, value))
 }
 
-// The first key, if there is one.
+// The first key, if there is one, of a list that ascends.
 fn first_key<K: Ord + Copy + Drop, V: Drop>(map: &BTreeMap<K, V>) -> Option<K>
-    ensures { MatchOption result (entries map.now ≡ []) (λ key. (value : V) × (rest : List (K × V)) × (entries map.now ≡ (key, value) ∷ rest)) }
+    ensures key { MatchOption result (entries map.now ≡ []) (λ key. (value : V) × (rest : List (K × V)) × (entries map.now ≡ (key, value) ∷ rest)) }
+    ensures ascending { IsAscending K.cmp (entries map.now) }
 {
     let mut walk = map.iter();
     let (key, _value) = walk.next()?;
     Some(*key)
 }
 
-// The last key, if there is one.
+// The last key, if there is one, of a list that ascends.
 fn last_key<K: Ord + Copy + Drop, V: Drop>(map: &BTreeMap<K, V>) -> Option<K>
-    ensures { MatchOption result (entries map.now ≡ []) (λ key. (value : V) × (front : List (K × V)) × (entries map.now ≡ front ++ (key, value) ∷ [])) }
+    ensures key { MatchOption result (entries map.now ≡ []) (λ key. (value : V) × (front : List (K × V)) × (entries map.now ≡ front ++ (key, value) ∷ [])) }
+    ensures ascending { IsAscending K.cmp (entries map.now) }
 {
     let mut walk = map.iter();
     let (key, _value) = walk.next_back()?;
