@@ -9,15 +9,14 @@ use Rattle.std.specs.Cmp.{IsTotalOrder}
 use Rattle.std.specs.List.{AllByRecursion}
 use Rattle.fc_base.specs.Ascending.{IsAscending}
 use Rattle.fc_base.specs.Parts.{below, above, at}
-use Rattle.fc_base.specs.OneKey.{put}
 use Rattle.std.specs.Option.{option_map}
 use Rattle.std.specs.Prelude.{unwrap_or}
 use Rattle.std.specs.Cmp.{tied_itself}
 
-over_one : {K : Type 0} (cmp : K → K → Ordering) (total : IsTotalOrder cmp) (k y : K) → cmp k y ≡ Less → cmp y k ≡ Greater
+pub over_one : {K : Type 0} (cmp : K → K → Ordering) (total : IsTotalOrder cmp) (k y : K) → cmp k y ≡ Less → cmp y k ≡ Greater
 over_one cmp total k y h = total.antisymm y k ∙ ap ordering_reverse h
 
-under_one : {K : Type 0} (cmp : K → K → Ordering) (total : IsTotalOrder cmp) (k y : K) → cmp y k ≡ Greater → cmp k y ≡ Less
+pub under_one : {K : Type 0} (cmp : K → K → Ordering) (total : IsTotalOrder cmp) (k y : K) → cmp y k ≡ Greater → cmp k y ≡ Less
 under_one cmp total k y h = total.antisymm k y ∙ ap ordering_reverse h
 
 all_filter : {X : Type 0} (P : X → Type 0) (p : X → Bool) (s : List X) → AllByRecursion P s → AllByRecursion P (filter p s)
@@ -28,12 +27,12 @@ all_append : {X : Type 0} (P : X → Type 0) (a b : List X) → AllByRecursion P
 all_append P [] b h o = o
 all_append P (e ∷ a) b h o = (h.0, all_append P a b h.1 o)
 
-all_map : {X : Type 0} (P Q : X → Type 0) (f : (x : X) → P x → Q x) (a : List X) → AllByRecursion P a → AllByRecursion Q a
+pub all_map : {X : Type 0} (P Q : X → Type 0) (f : (x : X) → P x → Q x) (a : List X) → AllByRecursion P a → AllByRecursion Q a
 all_map P Q f [] h = tt
 all_map P Q f (e ∷ a) h = (f e h.0, all_map P Q f a h.1)
 
 module _ {K V : Type 0} (cmp : K → K → Ordering) where
-  asc_filter : (p : K × V → Bool) (s : List (K × V)) → IsAscending cmp s → IsAscending cmp (filter p s)
+  pub asc_filter : (p : K × V → Bool) (s : List (K × V)) → IsAscending cmp s → IsAscending cmp (filter p s)
   asc_filter p [] a = tt
   asc_filter p (e ∷ s) a = elim (p e) as (λ b. IsAscending cmp (cond b (e ∷ filter p s) (filter p s))) [ true ↦ (all_filter _ p s a.0, asc_filter p s a.1) | false ↦ asc_filter p s a.1 ]
 
@@ -78,7 +77,3 @@ module _ {K V : Type 0} (cmp : K → K → Ordering) where
     asc_put x same = asc_join _ _ (asc_filter _ s a)
         (all_map _ _ (λ y more. total.congr x.0 k y.0 same ∙ under_one cmp total k y.0 more) (above cmp s k) (all_above s k), asc_filter _ s a)
         (all_map _ _ (λ e less. (under_one cmp total e.0 x.0 (total.congr x.0 k e.0 same ∙ over_one cmp total e.0 k less), all_map _ _ (λ y more. total.trans e.0 k y.0 less (under_one cmp total k y.0 more)) (above cmp s k) (all_above s k))) (below cmp s k) (all_below s k))
-
-    -- A list with a value put at a key is ascending.
-    pub ascending_put : (v : V) → IsAscending cmp (put cmp s k v)
-    ascending_put v = asc_put (unwrap_or (option_map (λ (e : K × V). e.0) (at cmp s k)) k, v) (at_key total k s)

@@ -3,6 +3,7 @@
 
 pub mod boxed;
 pub mod count;
+pub mod list_laws;
 pub mod try_clone;
 pub mod try_reserve_error;
 

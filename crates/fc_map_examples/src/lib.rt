@@ -5,4 +5,5 @@ pub mod entry;
 pub mod into_iter;
 pub mod iter;
 pub mod iter_mut;
+pub mod laws;
 pub mod range;

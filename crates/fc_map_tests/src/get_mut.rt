@@ -20,7 +20,7 @@ fn overwrite<K: Ord + Drop, V: Drop>(map: &mut BTreeMap<K, V>, key: &K, value: V
 }
 
 // Writes over the value at a key, if there is one, and looks it up.
-#[tactic(auto, using(fc_map::proofs::PutFacts::value_at_put))]
+#[tactic(auto, using(fc_base::proofs::Laws::value_at_put))]
 fn overwrite_and_get<K: Ord + Drop>(map: &mut BTreeMap<K, u32>, key: &K, value: u32) -> Option<u32>
     ensures there { IsSome (at K.cmp (entries map.old) key.now) → result ≡ Some value }
     ensures absent { at K.cmp (entries map.old) key.now ≡ None → result ≡ None }

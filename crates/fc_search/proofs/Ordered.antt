@@ -8,8 +8,9 @@ use Rattle.std.specs.declared.cmp.Ordering.TheVariants.{Less, Equal, Greater}
 use Rattle.std.proofs.lemmas.List.Elements.{filter-append}
 use Rattle.fc_base.specs.Ascending.{IsAscending}
 use Rattle.fc_base.specs.Parts.{below, above, at}
+use Rattle.fc_base.proofs.Laws.{ascending_front, ascending_back, smaller_ahead}
 use Rattle.fc_search.specs.Found.{AllBelow, AllAbove}
-use Rattle.fc_node.proofs.Lists.{all_front, all_back, all_both}
+use Rattle.fc_node.proofs.Lists.{all_both}
 
 module _ {X : Type 0} (P : X → Type 0) where
   more_suc : (xs : List X) (i : ℕ) (d : X) → i < length xs → AllByRecursion P (take i xs) → P (get_or xs i d) → AllByRecursion P (take (suc i) xs)
@@ -23,21 +24,8 @@ module _ {X : Type 0} (P : X → Type 0) where
 
 module _ {K V : Type 0} (cmp : K → K → Ordering) where
   -- a part of an ascending list
-  pub ascending_back : (xs ys : List (K × V)) → IsAscending cmp (xs ++ ys) → IsAscending cmp ys
-  ascending_back [] ys a = a
-  ascending_back (x ∷ xs) ys a = ascending_back xs ys a.1
-
-  pub ascending_front : (xs ys : List (K × V)) → IsAscending cmp (xs ++ ys) → IsAscending cmp xs
-  ascending_front [] ys a = tt
-  ascending_front (x ∷ xs) ys a = (all_front (λ e. cmp x.0 e.0 ≡ Less) xs ys a.0, ascending_front xs ys a.1)
-
   pub ascending_middle : (xs ys zs : List (K × V)) → IsAscending cmp (xs ++ (ys ++ zs)) → IsAscending cmp ys
-  ascending_middle xs ys zs a = ascending_front ys zs (ascending_back xs (ys ++ zs) a)
-
-  -- the pairs ahead of a pair have smaller keys
-  smaller_ahead : (L R : List (K × V)) (p : K × V) → IsAscending cmp (L ++ p ∷ R) → AllByRecursion (λ e. cmp e.0 p.0 ≡ Less) L
-  smaller_ahead [] R p a = tt
-  smaller_ahead (x ∷ L) R p a = ((all_back (λ e. cmp x.0 e.0 ≡ Less) L (p ∷ R) a.0).0, smaller_ahead L R p a.1)
+  ascending_middle xs ys zs a = ascending_front cmp ys zs (ascending_back cmp xs (ys ++ zs) a)
 
 module _ {K V : Type 0} (cmp : K → K → Ordering) (k : K) where
   -- what is around a key, in a list of smaller keys and in a list of greater keys

@@ -17,7 +17,8 @@ use Rattle.fc_search.specs.Passed.{lower_count, stop_count, down_count, passed_s
 use Rattle.fc_search.specs.Found.{AllBelow, AllAbove, IsFoundAt, IsGapAt}
 use Rattle.fc_node.proofs.Lists.{all_back, length_take, take_drop}
 use Rattle.fc_node.proofs.Pairs.{pairs_is, leaf_children}
-use Rattle.fc_search.proofs.Ordered.{sides_equal, side_upper, ascending_back}
+use Rattle.fc_base.proofs.Laws.{ascending_back}
+use Rattle.fc_search.proofs.Ordered.{sides_equal, side_upper}
 use Rattle.fc_node.proofs.Gaps.{cut_item, item_there}
 
 module _ {K V : Type 0} (cmp : K → K → Ordering) (k : K) where
