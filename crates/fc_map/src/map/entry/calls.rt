@@ -94,7 +94,7 @@ impl<'a, K: Ord + Drop, V: Drop> Entry<'a, K, V> {
         ensures full { entry_value self.entry ≡ None → length (entries (entry_map self.entry)) ≡ usize.MAX → IsErr result }
     {
         match self {
-            Entry::Occupied(entry) => Ok(entry.into_mut()),
+            Entry::Occupied(held) => Ok(held.into_mut()),
             Entry::Vacant(entry) => entry.try_insert(V::default()),
         }
     }
