@@ -1,5 +1,6 @@
 // Expected pairs and children are written out from the rules of splits, merges and thefts.
 ghost use Rattle.std.specs.Bool.{OnTrue};
+ghost use Rattle.fc_node.specs.Node.{IsBlankLeaf};
 ghost use Rattle.fc_node.specs.Siblings.{AreAlike};
 
 use fc_base::{Count, TryReserveError};
@@ -32,8 +33,8 @@ fn push_child<V: Drop>(
 // A leaf of these keys, each with ten times itself as its value.
 fn leaf(rt: &impl Abort, alloc: Global, keys: &[u64]) -> Result<Box<Node<u64, u64>>, Fail> {
     let mut node = Node::try_leaf(alloc)?;
-    for key in keys {
-        push(rt, &mut node, *key, key.wrapping_mul(10));
+    for i in 0..keys.len() {
+        push(rt, &mut node, keys[i], keys[i].wrapping_mul(10));
     }
     Ok(node)
 }
@@ -155,14 +156,27 @@ fn children(place: usize) -> (&'static [u64], &'static [u64]) {
     }
 }
 
+// Splits a full leaf where the pair goes to a place, into itself and an empty leaf: what goes up, and the right half.
+fn split_leaf<V: Drop>(
+    rt: &impl Abort,
+    node: &mut Node<u64, V>,
+    place: usize,
+    pair: (u64, V),
+    right: Box<Node<u64, V>>,
+) -> ((u64, V), Box<Node<u64, V>>)
+    requires { IsBlankLeaf right.value }
+{
+    assert!(rt; place < 12 && node.is_leaf() && node.len() == 11);
+    node.split_leaf(place, pair, right, &mut Count::new())
+}
+
 #[test]
 fn splits_a_leaf_at_each_place(rt: HostRuntime) -> Result<(), Fail> {
     for place in 0..12usize {
         let mut node = leaf(&rt, rt.alloc(), &FULL)?;
         let right = Node::try_leaf(rt.alloc())?;
         let key = 10 * place as u64 + 5;
-        assert!(&rt; node.is_leaf() && node.len() == 11);
-        let (up, right) = node.split_leaf(place, (key, 10 * key), right, &mut Count::new());
+        let (up, right) = split_leaf(&rt, &mut node, place, (key, 10 * key), right);
         let (left_keys, middle, right_keys) = halves(place);
         assert!(&rt; is_tenfold(&up, middle) && node.is_leaf() && right.is_leaf());
         assert!(&rt; shows(&node, left_keys) && shows(&right, right_keys));
@@ -439,23 +453,28 @@ fn children_go_with_their_pairs(rt: HostRuntime) -> Result<(), Fail> {
     Ok(())
 }
 
+// Moves what stands behind the first pair.
+fn move_behind_first<V: Drop>(
+    rt: &impl Abort,
+    node: &mut Node<u64, V>,
+    other: &mut Node<u64, V>,
+) {
+    assert!(rt; are_alike(node, other));
+    assert!(rt; 1 <= node.len() && node.len() <= CAPACITY && other.len() <= 1);
+    node.move_suffix(1, other, &mut Count::new());
+}
+
 #[test]
 fn moves_what_stands_after_a_place(rt: HostRuntime) -> Result<(), Fail> {
     let mut node = leaf(&rt, rt.alloc(), LOW)?;
     let mut other = leaf(&rt, rt.alloc(), &[5])?;
-    assert!(&rt; node.is_leaf() && other.is_leaf() && node.len() == 4 && other.len() == 1);
-    node.move_suffix(1, &mut other, &mut Count::new());
+    move_behind_first(&rt, &mut node, &mut other);
     assert!(&rt; shows(&node, &[10]) && shows(&other, &[5, 20, 30, 40]));
-    Ok(())
-}
+    assert!(&rt; node.is_leaf() && other.is_leaf());
 
-#[test]
-fn moves_children_that_stand_after_a_place(rt: HostRuntime) -> Result<(), Fail> {
     let mut node = inner(&rt, rt.alloc(), &[10, 20, 30], &[1, 11, 21, 31])?;
     let mut other = inner(&rt, rt.alloc(), &[], &[15])?;
-    assert!(&rt; node.len() == 3 && node.child_count() == 4);
-    assert!(&rt; other.len() == 0 && other.child_count() == 1);
-    node.move_suffix(1, &mut other, &mut Count::new());
+    move_behind_first(&rt, &mut node, &mut other);
     assert!(&rt; shows(&node, &[10]) && children_show(&node, &[1, 11]));
     assert!(&rt; shows(&other, &[20, 30]) && children_show(&other, &[15, 21, 31]));
     Ok(())
@@ -506,9 +525,8 @@ fn a_split_drops_no_pair(rt: HostRuntime) -> Result<(), Fail> {
     let drops = Cell::new(0);
     let mut node = tokens(&rt, rt.alloc(), 0, 11, &drops)?;
     let right = Node::try_leaf(rt.alloc())?;
-    assert!(&rt; node.len() == 11 && node.is_leaf());
     let pair = (11, Token { drops: &drops });
-    let (up, right) = node.split_leaf(11, pair, right, &mut Count::new());
+    let (up, right) = split_leaf(&rt, &mut node, 11, pair, right);
     assert!(&rt; drops.get() == 0);
     drop(up);
     assert!(&rt; drops.get() == 1);
@@ -554,6 +572,10 @@ fn a_merge_and_thefts_drop_no_pair(rt: HostRuntime) -> Result<(), Fail> {
     Ok(())
 }
 
+fn has_one_child_alone<V: Drop>(node: &Node<u64, V>) -> bool {
+    node.child_count() == 1 && !node.is_leaf() && node.len() == 0
+}
+
 // An inner node over two leaves of one pair, with the number of the pairs that were made.
 fn one_of_each(
     rt: &impl Abort,
@@ -565,7 +587,7 @@ fn one_of_each(
     *made = 1;
     let mut node = Node::try_inner(alloc)?;
     node.adopt(below);
-    assert!(rt; node.child_count() == 1 && !node.is_leaf() && node.len() == 0);
+    assert!(rt; has_one_child_alone(&node));
     let right = tokens(rt, alloc, 2, 1, drops)?;
     *made = 2;
     push_child(rt, &mut node, 1, Token { drops }, right);
