@@ -454,11 +454,7 @@ fn children_go_with_their_pairs(rt: HostRuntime) -> Result<(), Fail> {
 }
 
 // Moves what stands behind the first pair.
-fn move_behind_first<V: Drop>(
-    rt: &impl Abort,
-    node: &mut Node<u64, V>,
-    other: &mut Node<u64, V>,
-) {
+fn move_behind_first<V: Drop>(rt: &impl Abort, node: &mut Node<u64, V>, other: &mut Node<u64, V>) {
     assert!(rt; are_alike(node, other));
     assert!(rt; 1 <= node.len() && node.len() <= CAPACITY && other.len() <= 1);
     node.move_suffix(1, other, &mut Count::new());

@@ -2,38 +2,54 @@
 use super::*;
 use std::ops::Bound;
 
-#[test]
-fn one_command_at_a_time_over_any_keys(rt: HostRuntime) -> Result<(), Fail> {
-    let mut world = World::new(rt.alloc());
-    let reply = world.step(Command::Insert(Side::Second, true, 7u8));
-    assert!(rt; matches!(reply, Reply::Value(None)) && world.b.len() == 1);
-    let reply = world.step(Command::Get(Side::First, true));
-    assert!(rt; matches!(reply, Reply::Value(None)));
-    let reply = world.step(Command::Get(Side::Second, true));
-    assert!(rt; matches!(reply, Reply::Value(Some(7))));
-    let mut writes = Vec::new(rt.alloc());
+// One step, of which the tests know only what they see of its reply.
+fn step(world: &mut World<bool, u8>, command: Command<bool, u8>) -> Reply<bool, u8> {
+    world.step(command)
+}
+
+fn write_from_both_ends(alloc: Global) -> Result<Command<bool, u8>, AllocError> {
+    let mut writes = Vec::new(alloc);
     writes.push((End::Back, 8u8))?;
     writes.push((End::Front, 9u8))?;
-    let reply = world.step(Command::Write(
+    Ok(Command::Write(
         Side::Second,
         Bound::Excluded(false),
         Bound::Included(true),
         Items::from(writes),
-    ));
-    assert!(rt; matches!(reply, Reply::Len(1)));
-    let mut ends = Vec::new(rt.alloc());
+    ))
+}
+
+fn walk_of_two_steps(alloc: Global) -> Result<Command<bool, u8>, AllocError> {
+    let mut ends = Vec::new(alloc);
     ends.push(End::Front)?;
     ends.push(End::Front)?;
-    let reply = world.step(Command::Walk(
+    Ok(Command::Walk(
         Side::Second,
         Bound::Unbounded,
         Bound::Unbounded,
         Items::from(ends),
-    ));
-    let Reply::Pairs(steps) = reply else {
-        return Err("no pairs".into());
-    };
-    assert!(rt; matches!(steps.as_slice(), [Some((true, 8)), None]));
+    ))
+}
+
+#[test]
+fn one_command_at_a_time_over_any_keys(rt: HostRuntime) -> Result<(), Fail> {
+    let mut world = World::new(rt.alloc());
+    let reply = step(&mut world, Command::Insert(Side::Second, true, 7));
+    assert!(rt; matches!(reply, Reply::Value(None)) && world.b.len() == 1);
+    let reply = step(&mut world, Command::Get(Side::First, true));
+    assert!(rt; matches!(reply, Reply::Value(None)));
+    let reply = step(&mut world, Command::Get(Side::Second, true));
+    assert!(rt; matches!(reply, Reply::Value(Some(7))));
+    let reply = step(&mut world, write_from_both_ends(rt.alloc())?);
+    assert!(rt; matches!(reply, Reply::Len(1)));
+    match step(&mut world, walk_of_two_steps(rt.alloc())?) {
+        Reply::Pairs(steps) => {
+            let steps = steps.as_slice();
+            assert!(rt; steps.len() == 2);
+            assert!(rt; matches!(steps[0], Some((true, 8))) && matches!(steps[1], None));
+        }
+        _ => assert!(rt; false),
+    }
     Ok(())
 }
 
