@@ -4,9 +4,8 @@ ghost use Rattle.fc_base.specs.OneKey.{put};
 ghost use Rattle.fc_base.specs.Parts.{at};
 ghost use Rattle.fc_map.specs.Entries.{entries};
 
-use fc_base::TryReserveError;
+use crate::numbers::{has, is_number, numbers};
 use fc_map::map::BTreeMap;
-use std::alloc::Global;
 use std::test::Fail;
 
 // Writes over the value at a key, if there is one.
@@ -21,7 +20,7 @@ fn overwrite<K: Ord + Drop, V: Drop>(map: &mut BTreeMap<K, V>, key: &K, value: V
 
 // Writes over the value at a key, if there is one, and looks it up.
 #[tactic(auto, using(fc_base::proofs::Laws::value_at_put))]
-fn overwrite_and_get<K: Ord + Drop>(map: &mut BTreeMap<K, u32>, key: &K, value: u32) -> Option<u32>
+fn overwrite_and_get<K: Ord + Drop>(map: &mut BTreeMap<K, u64>, key: &K, value: u64) -> Option<u64>
     ensures there { IsSome (at K.cmp (entries map.old) key.now) → result ≡ Some value }
     ensures absent { at K.cmp (entries map.old) key.now ≡ None → result ≡ None }
 {
@@ -31,31 +30,48 @@ fn overwrite_and_get<K: Ord + Drop>(map: &mut BTreeMap<K, u32>, key: &K, value: 
     map.get(key).copied()
 }
 
-// The numbers below n, each with itself as its value.
-fn numbers(alloc: Global, n: u32) -> Result<BTreeMap<u32, u32>, TryReserveError> {
-    let mut map = BTreeMap::new(alloc);
-    for k in 0..n {
-        map.try_insert(k, k)?;
+// Whether the write of this value is seen by a look-up of the key.
+fn overwrites(map: &mut BTreeMap<u64, u64>, key: u64, value: u64) -> bool {
+    is_number(overwrite_and_get(map, &key, value), value)
+}
+
+// Whether the writes of 100 more at each number below n are seen at once, and all of them at last.
+fn overwrites_all(map: &mut BTreeMap<u64, u64>, n: u64) -> bool {
+    for key in 0..n {
+        if !overwrites(map, key, key.wrapping_add(100)) {
+            return false;
+        }
     }
-    Ok(map)
+    has_all(map, n)
+}
+
+fn has_all(map: &BTreeMap<u64, u64>, n: u64) -> bool {
+    for key in 0..n {
+        if !has(map, key, key.wrapping_add(100)) {
+            return false;
+        }
+    }
+    true
+}
+
+// Whether the write of this value is seen by an index.
+fn overwrites_by_index(map: &mut BTreeMap<u64, u64>, key: u64, value: u64) -> bool {
+    overwrite(map, &key, value);
+    map.contains_key(&key) && map[&key] == value
+}
+
+// Whether no value is lent at the key, and none written.
+fn lends_none(map: &mut BTreeMap<u64, u64>, key: u64) -> bool {
+    map.get_mut(&key).is_none() && overwrite_and_get(map, &key, 7).is_none()
 }
 
 // Forty pairs stand on two levels of nodes: the value of each is written, and found again by `get` and by an index.
 #[test]
 fn writes_values_on_two_levels(rt: HostRuntime) -> Result<(), Fail> {
     let mut map = numbers(rt.alloc(), 40)?;
-    for k in 0..40u32 {
-        assert_eq!(rt; overwrite_and_get(&mut map, &k, 100 + k), Some(100 + k));
-    }
-    for k in 0..40u32 {
-        assert_eq!(rt; map.get(&k).copied(), Some(100 + k));
-    }
-    overwrite(&mut map, &37, 7);
-    if map.contains_key(&37) {
-        assert_eq!(rt; map[&37], 7);
-    }
-    assert!(rt; map.get_mut(&40).is_none());
-    assert_eq!(rt; overwrite_and_get(&mut map, &40, 7), None);
+    assert!(rt; overwrites_all(&mut map, 40));
+    assert!(rt; overwrites_by_index(&mut map, 37, 7));
+    assert!(rt; lends_none(&mut map, 40));
     assert_eq!(rt; map.len(), 40);
     Ok(())
 }

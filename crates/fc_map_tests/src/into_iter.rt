@@ -1,4 +1,6 @@
 //! Owned walks from both ends: the pairs they give, the lengths they tell, and what is dropped.
+use crate::map::{TrackedKey, TrackedValue};
+use crate::numbers::{is_number, is_pair, numbers, tells};
 use fc_base::TryReserveError;
 use fc_map::map::{BTreeMap, IntoIter};
 use fc_map_examples::into_iter::{collected, ends_of};
@@ -6,33 +8,24 @@ use std::alloc::{AllocError, Global};
 use std::cell::Cell;
 use std::test::Fail;
 
-// The numbers below `count`, each with itself as the value.
-fn numbers(alloc: Global, count: usize) -> Result<BTreeMap<usize, usize>, TryReserveError> {
-    let mut map = BTreeMap::new(alloc);
-    for number in 0..count {
-        map.try_insert(number, number)?;
-    }
-    Ok(map)
-}
-
 // Whether a walk over the numbers below `count` answers as a list of them, where each bit of `ends` tells an end, the lowest first.
-fn follows(mut walk: IntoIter<usize, usize>, count: usize, ends: u64) -> bool {
-    let mut low = 0usize;
+fn follows(mut walk: IntoIter<u64, u64>, count: u64, ends: u64) -> bool {
+    let mut low = 0u64;
     let mut high = count;
     let mut ends = ends;
     for _ in 0..count {
-        let left = high.wrapping_sub(low);
-        if walk.len() != left || walk.size_hint() != (left, Some(left)) {
+        let left = walk.len();
+        if left as u64 != high.wrapping_sub(low) || !tells(walk.size_hint(), left) {
             return false;
         }
         if ends % 2 == 0 {
-            if walk.next() != Some((low, low)) {
+            if !is_pair(walk.next(), low, low) {
                 return false;
             }
             low = low.wrapping_add(1);
         } else {
             high = high.wrapping_sub(1);
-            if walk.next_back() != Some((high, high)) {
+            if !is_pair(walk.next_back(), high, high) {
                 return false;
             }
         }
@@ -42,13 +35,13 @@ fn follows(mut walk: IntoIter<usize, usize>, count: usize, ends: u64) -> bool {
 }
 
 // Whether both ends answer None, three times over.
-fn stays_at_none(walk: &mut IntoIter<usize, usize>) -> bool {
+fn stays_at_none(walk: &mut IntoIter<u64, u64>) -> bool {
     for _ in 0..3 {
         if walk.next().is_some() || walk.next_back().is_some() || walk.len() != 0 {
             return false;
         }
     }
-    walk.size_hint() == (0, Some(0))
+    tells(walk.size_hint(), 0)
 }
 
 // All from the front, all from the back, and from both ends in turn.
@@ -58,23 +51,6 @@ fn a_thousand_from_each_end(rt: HostRuntime) -> Result<(), Fail> {
         let walk = numbers(rt.alloc(), 1000)?.into_iter();
         assert!(rt; follows(walk, 1000, ends));
     }
-    Ok(())
-}
-
-#[test]
-fn a_thousand_from_the_back(rt: HostRuntime) -> Result<(), Fail> {
-    let mut walk = numbers(rt.alloc(), 1000)?.into_iter();
-    for number in 0..1000usize {
-        assert_eq!(rt; walk.next_back(), Some((999 - number, 999 - number)));
-    }
-    assert!(rt; stays_at_none(&mut walk));
-    Ok(())
-}
-
-#[test]
-fn an_empty_map_gives_nothing(rt: HostRuntime) -> Result<(), Fail> {
-    let mut walk = numbers(rt.alloc(), 0)?.into_iter();
-    assert!(rt; stays_at_none(&mut walk));
     Ok(())
 }
 
@@ -90,10 +66,10 @@ fn small_maps_from_either_end(rt: HostRuntime) -> Result<(), Fail> {
     Ok(())
 }
 
-// Each list of ends over up to 14 pairs, which stand on one level or two.
+// Each list of ends over no pair and up to 14 pairs, which stand on one level or two.
 #[test]
 fn each_list_of_ends_over_small_maps(rt: HostRuntime) -> Result<(), Fail> {
-    for count in 0..15usize {
+    for count in 0..15u64 {
         let lists = 1u64 << count;
         for ends in 0..lists {
             let walk = numbers(rt.alloc(), count)?.into_iter();
@@ -120,12 +96,9 @@ fn lists_of_ends_over_three_levels(rt: HostRuntime) -> Result<(), Fail> {
 #[test]
 fn a_tree_after_removals(rt: HostRuntime) -> Result<(), Fail> {
     for ends in [0, u64::MAX, 0x5555_5555_5555_5555, 0x0123_4567_89ab_cdef] {
-        let mut map = numbers(rt.alloc(), 150)?;
-        for number in 150..450usize {
-            map.try_insert(number, number)?;
-        }
-        for number in 150..450usize {
-            assert_eq!(rt; map.remove(&number), Some(number));
+        let mut map = numbers(rt.alloc(), 450)?;
+        for number in 150..450u64 {
+            assert!(rt; is_number(map.remove(&number), number));
         }
         assert!(rt; follows(map.into_iter(), 150, ends));
     }
@@ -134,7 +107,7 @@ fn a_tree_after_removals(rt: HostRuntime) -> Result<(), Fail> {
 
 #[test]
 fn a_loop_takes_each_pair(rt: HostRuntime) -> Result<(), Fail> {
-    let mut sum = 0usize;
+    let mut sum = 0u64;
     for (key, value) in numbers(rt.alloc(), 200)? {
         sum = sum.wrapping_add(key).wrapping_add(value);
     }
@@ -142,49 +115,51 @@ fn a_loop_takes_each_pair(rt: HostRuntime) -> Result<(), Fail> {
     Ok(())
 }
 
+// Whether a reversed loop takes the numbers below `count`, each with itself.
+fn counts_down(map: BTreeMap<u64, u64>, count: u64) -> bool {
+    let mut expected = count;
+    for (key, value) in map.into_iter().rev() {
+        expected = expected.wrapping_sub(1);
+        if key != expected || value != expected {
+            return false;
+        }
+    }
+    expected == 0
+}
+
 #[test]
 fn a_walk_is_reversed(rt: HostRuntime) -> Result<(), Fail> {
-    let mut expected = 200usize;
-    for (key, value) in numbers(rt.alloc(), 200)?.into_iter().rev() {
-        expected = expected.wrapping_sub(1);
-        assert_eq!(rt; (key, value), (expected, expected));
-    }
-    assert_eq!(rt; expected, 0);
+    assert!(rt; counts_down(numbers(rt.alloc(), 200)?, 200));
     Ok(())
+}
+
+// Whether the pairs are the numbers from 0 on, each with itself.
+fn counts_up(pairs: &[(u64, u64)]) -> bool {
+    for i in 0..pairs.len() {
+        if pairs[i].0 != i as u64 || pairs[i].1 != i as u64 {
+            return false;
+        }
+    }
+    true
 }
 
 #[test]
 fn pairs_are_collected(rt: HostRuntime) -> Result<(), Fail> {
     let all = collected(rt.alloc(), numbers(rt.alloc(), 100)?)?;
-    assert_eq!(rt; all.len(), 100);
-    for (number, pair) in all.iter().enumerate() {
-        assert_eq!(rt; *pair, (number, number));
-    }
-    assert_eq!(rt;
-        ends_of(numbers(rt.alloc(), 100)?),
-        (Some((0, 0)), Some((99, 99)))
-    );
-    assert_eq!(rt; ends_of(numbers(rt.alloc(), 1)?), (Some((0, 0)), None));
+    assert!(rt; all.len() == 100 && counts_up(&all));
     Ok(())
 }
 
-// A number as a key or a value, which counts its drops.
-#[derive_where(PartialEq, Eq, PartialOrd, Ord)]
-struct Tracked<'a> {
-    number: usize,
-    #[derive_where(skip)]
-    drops: &'a Cell<u64>,
+#[test]
+fn the_ends_are_the_first_and_the_last_pair(rt: HostRuntime) -> Result<(), Fail> {
+    let (first, last) = ends_of(numbers(rt.alloc(), 100)?);
+    assert!(rt; is_pair(first, 0, 0) && is_pair(last, 99, 99));
+    let (first, last) = ends_of(numbers(rt.alloc(), 1)?);
+    assert!(rt; is_pair(first, 0, 0) && last.is_none());
+    Ok(())
 }
 
-impl Drop for Tracked<'_> {
-    fn drop(self) {
-        self.drops.set(self.drops.get().wrapping_add(1));
-        let Tracked {
-            number: _,
-            drops: _,
-        } = self;
-    }
-}
+type Walk<'a> = IntoIter<TrackedKey<'a>, TrackedValue<'a>>;
 
 fn fresh_cells(alloc: Global, count: usize) -> Result<Vec<Cell<u64>>, AllocError> {
     let mut all = Vec::with_capacity(alloc, count)?;
@@ -194,53 +169,58 @@ fn fresh_cells(alloc: Global, count: usize) -> Result<Vec<Cell<u64>>, AllocError
     Ok(all)
 }
 
-// A map of as many pairs as there are cells: key and value count their drops in the same one.
-fn tracked_map(
-    alloc: Global,
-    drops: &[Cell<u64>],
-) -> Result<BTreeMap<Tracked<'_>, Tracked<'_>>, TryReserveError> {
+// A walk over as many pairs as there are cells: key and value count their drops in the same one.
+fn tracked_walk(alloc: Global, drops: &[Cell<u64>]) -> Result<Walk<'_>, TryReserveError> {
     let mut map = BTreeMap::new(alloc);
     for (number, drops) in drops.iter().enumerate() {
-        map.try_insert(Tracked { number, drops }, Tracked { number, drops })?;
+        map.try_insert(TrackedKey { number, drops }, TrackedValue { drops })?;
     }
-    Ok(map)
+    Ok(map.into_iter())
+}
+
+// Whether the pairs from `start` to `end` were dropped twice, key and value, and the others not at all.
+fn dropped_between(drops: &[Cell<u64>], start: usize, end: usize) -> bool {
+    for i in 0..drops.len() {
+        let dropped = if i < start || i >= end { 0 } else { 2 };
+        if drops[i].get() != dropped {
+            return false;
+        }
+    }
+    true
 }
 
 // Of 20 pairs three are given from the front and two from the back: the walk drops the other 15, and the caller these five.
 #[test]
 fn a_walk_that_is_dropped_early_drops_the_rest(rt: HostRuntime) -> Result<(), Fail> {
     let drops = fresh_cells(rt.alloc(), 20)?;
-    let mut walk = tracked_map(rt.alloc(), &drops)?.into_iter();
+    let mut walk = tracked_walk(rt.alloc(), &drops)?;
     let front = (walk.next(), walk.next(), walk.next());
     let back = (walk.next_back(), walk.next_back());
     assert_eq!(rt; walk.len(), 15);
     drop(walk);
-    for (number, each) in drops.iter().enumerate() {
-        let dropped = if number < 3 || number > 17 { 0 } else { 2 };
-        assert_eq!(rt; each.get(), dropped);
-    }
+    assert!(rt; dropped_between(&drops, 3, 18));
     drop(front);
     drop(back);
-    for each in &drops {
-        assert_eq!(rt; each.get(), 2);
-    }
+    assert!(rt; dropped_between(&drops, 0, 20));
     Ok(())
+}
+
+// Drops a pair from each end.
+fn drop_two(walk: &mut Walk<'_>) {
+    let _ = walk.next();
+    let _ = walk.next_back();
 }
 
 // A walk over three levels that is dropped in the middle drops each pair once.
 #[test]
 fn each_pair_of_a_large_walk_is_dropped_once(rt: HostRuntime) -> Result<(), Fail> {
     let drops = fresh_cells(rt.alloc(), 300)?;
-    {
-        let mut walk = tracked_map(rt.alloc(), &drops)?.into_iter();
-        for _ in 0..70 {
-            let _ = walk.next();
-            let _ = walk.next_back();
-        }
-        assert_eq!(rt; walk.len(), 160);
+    let mut walk = tracked_walk(rt.alloc(), &drops)?;
+    for _ in 0..70 {
+        drop_two(&mut walk);
     }
-    for each in &drops {
-        assert_eq!(rt; each.get(), 2);
-    }
+    assert_eq!(rt; walk.len(), 160);
+    drop(walk);
+    assert!(rt; dropped_between(&drops, 0, 300));
     Ok(())
 }

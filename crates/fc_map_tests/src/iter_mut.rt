@@ -1,5 +1,6 @@
 //! Writing walks, against lists.
-use crate::map::ascending;
+use crate::map::{CountingKey, TrackedValue, ascending};
+use crate::numbers::{has, is_lent_pair, numbers};
 use fc_base::TryReserveError;
 use fc_map::map::{BTreeMap, IterMut, RangeMut, is_range};
 use fc_map_examples::iter_mut::{write_all, write_first, write_range};
@@ -8,35 +9,17 @@ use std::cell::Cell;
 use std::ops::Bound;
 use std::test::Fail;
 
-// A map of the numbers below n, each with itself as its value.
-fn numbers(alloc: Global, n: u64) -> Result<BTreeMap<u64, u64>, TryReserveError> {
-    let mut map = BTreeMap::new(alloc);
-    for number in 0..n {
-        map.try_insert(number, number)?;
-    }
-    Ok(map)
-}
-
-fn read(item: Option<(&u64, &u64)>) -> Option<(u64, u64)> {
-    match item {
-        Some((key, value)) => Some((*key, *value)),
-        None => None,
-    }
-}
-
-// Writes over the value at one end, and answers the old one.
-fn write_one(walk: &mut IterMut<'_, u64, u64>, from_front: bool, new: u64) -> Option<u64> {
-    if from_front {
-        let v = walk.next()?;
-        let old = *v;
-        *v = new;
-        Some(old)
+// Writes over the value at one end; whether there was one, this.
+fn writes_over(walk: &mut IterMut<'_, u64, u64>, from_front: bool, old: u64, new: u64) -> bool {
+    let lent = if from_front {
+        walk.next()
     } else {
-        let v = walk.next_back()?;
-        let old = *v;
-        *v = new;
-        Some(old)
-    }
+        walk.next_back()
+    };
+    let Some(value) = lent else { return false };
+    let was = *value;
+    *value = new;
+    was == old
 }
 
 // Whether both ends have nothing to lend.
@@ -63,14 +46,14 @@ fn writes_each(map: &mut BTreeMap<u64, u64>, n: u64, pattern: u64) -> bool {
             end.wrapping_sub(1)
         };
         let shown = if from_front {
-            read(walk.peek())
+            walk.peek()
         } else {
-            read(walk.peek_back())
+            walk.peek_back()
         };
-        if shown != Some((number, number)) || walk.len() as u64 != end.wrapping_sub(first) {
+        if !is_lent_pair(shown, number, number) || walk.len() as u64 != end.wrapping_sub(first) {
             return false;
         }
-        if write_one(&mut walk, from_front, number.wrapping_add(1000)) != Some(number) {
+        if !writes_over(&mut walk, from_front, number, number.wrapping_add(1000)) {
             return false;
         }
         if from_front {
@@ -90,7 +73,7 @@ fn is_written(map: &BTreeMap<u64, u64>, n: u64, first: u64, end: u64) -> bool {
         } else {
             0
         };
-        if map.get(&number).copied() != Some(number.wrapping_add(more)) {
+        if !has(map, number, number.wrapping_add(more)) {
             return false;
         }
     }
@@ -128,7 +111,7 @@ fn a_walk_dropped_half_way_leaves_the_rest(rt: HostRuntime) -> Result<(), Fail> 
         let mut map = numbers(rt.alloc(), 100)?;
         let mut walk = map.iter_mut();
         for number in 0..met {
-            assert_eq!(rt; write_one(&mut walk, true, number + 1000), Some(number));
+            assert!(rt; writes_over(&mut walk, true, number, number + 1000));
         }
         assert_eq!(rt; walk.len() as u64, 100 - met);
         assert_eq!(rt; walk.is_done(), met == 100);
@@ -137,7 +120,7 @@ fn a_walk_dropped_half_way_leaves_the_rest(rt: HostRuntime) -> Result<(), Fail> 
         let mut again = map.iter_mut();
         for below in met..100 {
             let number = 99 - (below - met);
-            assert_eq!(rt; write_one(&mut again, false, number + 1000), Some(number));
+            assert!(rt; writes_over(&mut again, false, number, number + 1000));
         }
         assert_eq!(rt; again.len() as u64, met);
         drop(again);
@@ -149,10 +132,11 @@ fn a_walk_dropped_half_way_leaves_the_rest(rt: HostRuntime) -> Result<(), Fail> 
 // Whether a walk over a range lends the numbers from `first` on below `end`, and no other.
 fn lends(walk: &mut RangeMut<'_, u64, u64>, first: u64, end: u64) -> bool {
     for number in first..end {
-        if walk.is_done() || read(walk.peek()) != Some((number, number)) {
+        if walk.is_done() || !is_lent_pair(walk.peek(), number, number) {
             return false;
         }
-        if read(walk.peek_back()) != Some((end.wrapping_sub(1), end.wrapping_sub(1))) {
+        let last = end.wrapping_sub(1);
+        if !is_lent_pair(walk.peek_back(), last, last) {
             return false;
         }
         let Some(v) = walk.next() else { return false };
@@ -169,7 +153,7 @@ fn lends(walk: &mut RangeMut<'_, u64, u64>, first: u64, end: u64) -> bool {
 fn lends_back(walk: &mut RangeMut<'_, u64, u64>, first: u64, end: u64) -> bool {
     for below in first..end {
         let number = end.wrapping_sub(1).wrapping_sub(below.wrapping_sub(first));
-        if walk.is_done() || read(walk.peek_back()) != Some((number, number)) {
+        if walk.is_done() || !is_lent_pair(walk.peek_back(), number, number) {
             return false;
         }
         let Some(v) = walk.next_back() else {
@@ -233,38 +217,34 @@ fn a_range_lends_its_values_alone(rt: HostRuntime) -> Result<(), Fail> {
     Ok(())
 }
 
+fn has_three(map: &BTreeMap<u64, u64>, values: [u64; 3]) -> bool {
+    has(map, 0, values[0]) && has(map, 1, values[1]) && has(map, 2, values[2])
+}
+
+// Whether the writes between the bounds meet so many values.
+fn writes_in_range(
+    map: &mut BTreeMap<u64, u64>,
+    start: u64,
+    writes: &[(bool, u64)],
+    met: usize,
+) -> bool {
+    let bounds = (Bound::Included(&start), Bound::Unbounded);
+    is_range(&bounds.0, &bounds.1) && write_range(map, bounds, writes) == met
+}
+
 #[test]
 fn callers_write_in_turn(rt: HostRuntime) -> Result<(), Fail> {
     let mut map = numbers(rt.alloc(), 3)?;
-    if map.len() > 0 {
-        write_first(&mut map, 7);
-    }
-    assert_eq!(rt; map.get(&0).copied(), Some(7));
+    assert!(rt; map.len() > 0);
+    write_first(&mut map, 7);
+    assert!(rt; has_three(&map, [7, 1, 2]));
     write_all(
         &mut map,
         &[(true, 10), (false, 20), (false, 30), (true, 40)],
     );
-    assert_eq!(rt;
-        (
-            map.get(&0).copied(),
-            map.get(&1).copied(),
-            map.get(&2).copied()
-        ),
-        (Some(10), Some(30), Some(20))
-    );
-    let bounds = (Bound::Included(&1), Bound::Unbounded);
-    if is_range(&bounds.0, &bounds.1) {
-        let writes = [(false, 50), (true, 60), (true, 70)];
-        assert_eq!(rt; write_range(&mut map, bounds, &writes), 2);
-    }
-    assert_eq!(rt;
-        (
-            map.get(&0).copied(),
-            map.get(&1).copied(),
-            map.get(&2).copied()
-        ),
-        (Some(10), Some(60), Some(50))
-    );
+    assert!(rt; has_three(&map, [10, 30, 20]));
+    assert!(rt; writes_in_range(&mut map, 1, &[(false, 50), (true, 60), (true, 70)], 2));
+    assert!(rt; has_three(&map, [10, 60, 50]));
     Ok(())
 }
 
@@ -273,69 +253,86 @@ fn all_values_are_lent_for_writing(rt: HostRuntime) -> Result<(), Fail> {
     let mut map = numbers(rt.alloc(), 30)?;
     let mut values = map.values_mut();
     for number in 0..30u64 {
-        assert_eq!(rt;
-            write_one(&mut values, number % 2 == 0, number).is_some(),
-            true
-        );
+        let lent = if number % 2 == 0 {
+            number / 2
+        } else {
+            29 - number / 2
+        };
+        assert!(rt; writes_over(&mut values, number % 2 == 0, lent, number));
     }
     assert!(rt; is_met(&mut values));
     drop(values);
-    assert_eq!(rt;
-        (
-            map.get(&0).copied(),
-            map.get(&29).copied(),
-            map.get(&14).copied()
-        ),
-        (Some(0), Some(1), Some(28))
-    );
+    assert!(rt; has(&map, 0, 0) && has(&map, 29, 1) && has(&map, 14, 28));
     Ok(())
 }
 
-// A value that counts its drops.
-struct Tallied<'a> {
-    drops: &'a Cell<u64>,
-}
-
-impl Drop for Tallied<'_> {
-    fn drop(self) {
-        let Tallied { drops } = self;
-        drops.set(drops.get().wrapping_add(1));
-    }
-}
-
 // A map of the numbers below n, whose values count their drops.
-fn tallied_up_to<'a>(
+fn tracked_up_to<'a>(
     alloc: Global,
     n: u64,
     drops: &'a Cell<u64>,
-) -> Result<BTreeMap<u64, Tallied<'a>>, TryReserveError> {
+) -> Result<BTreeMap<u64, TrackedValue<'a>>, TryReserveError> {
     let mut map = BTreeMap::new(alloc);
     for number in 0..n {
-        map.try_insert(number, Tallied { drops })?;
+        map.try_insert(number, TrackedValue { drops })?;
     }
     Ok(map)
+}
+
+fn writes_next<'a>(walk: &mut IterMut<'_, u64, TrackedValue<'a>>, drops: &'a Cell<u64>) -> bool {
+    match walk.next() {
+        Some(value) => {
+            *value = TrackedValue { drops };
+            true
+        }
+        None => false,
+    }
+}
+
+fn has_both_ends(map: &BTreeMap<u64, TrackedValue<'_>>) -> bool {
+    map.len() == 30 && map.contains_key(&0) && map.contains_key(&29)
 }
 
 // Each value that is written over is dropped once, and each key stays.
 #[test]
 fn a_value_written_over_is_dropped_once(rt: HostRuntime) -> Result<(), Fail> {
     let (old, new) = (Cell::new(0), Cell::new(0));
-    let mut map = tallied_up_to(rt.alloc(), 30, &old)?;
+    let mut map = tracked_up_to(rt.alloc(), 30, &old)?;
     let mut walk = map.iter_mut();
     for number in 0..20u64 {
-        if let Some(v) = walk.next() {
-            *v = Tallied { drops: &new };
-        }
-        assert_eq!(rt; (old.get(), new.get()), (number + 1, 0));
+        assert!(rt; writes_next(&mut walk, &new));
+        assert!(rt; old.get() == number + 1 && new.get() == 0);
     }
     drop(walk);
-    assert_eq!(rt;
-        (map.len(), map.contains_key(&0), map.contains_key(&29)),
-        (30, true, true)
-    );
+    assert!(rt; has_both_ends(&map));
     drop(map);
-    assert_eq!(rt; (old.get(), new.get()), (30, 20));
+    assert!(rt; old.get() == 30 && new.get() == 20);
     Ok(())
+}
+
+// Whether a writing walk lends as many values as there are, and shows one as long as it isn't done.
+fn walk_writes(walk: &mut IterMut<'_, CountingKey<'_>, u64>) -> bool {
+    for _ in 0..101 {
+        if walk.peek().is_some() == walk.is_done() {
+            return false;
+        }
+        if let Some(value) = walk.next() {
+            *value = 7;
+        }
+    }
+    walk.is_done()
+}
+
+fn range_writes(range: &mut RangeMut<'_, CountingKey<'_>, u64>) -> bool {
+    for _ in 0..101 {
+        if range.peek_back().is_some() == range.is_done() {
+            return false;
+        }
+        if let Some(value) = range.next_back() {
+            *value = 8;
+        }
+    }
+    range.is_done()
 }
 
 // Only the searches for the two ends of a range compare.
@@ -344,23 +341,9 @@ fn writing_walks_compare_nothing(rt: HostRuntime) -> Result<(), Fail> {
     let comparisons = Cell::new(0);
     let mut map = ascending(rt.alloc(), 100, &comparisons)?;
     comparisons.set(0);
-    let mut walk = map.iter_mut();
-    for _i in 0..101u64 {
-        assert_eq!(rt; walk.peek().is_some(), !walk.is_done());
-        if let Some(v) = walk.next() {
-            *v = 7;
-        }
-    }
-    drop(walk);
+    assert!(rt; walk_writes(&mut map.iter_mut()));
     assert_eq!(rt; comparisons.get(), 0);
-    let mut range = map.range_mut((Bound::Unbounded, Bound::Unbounded));
-    for _i in 0..101u64 {
-        assert_eq!(rt; range.peek_back().is_some(), !range.is_done());
-        if let Some(v) = range.next_back() {
-            *v = 8;
-        }
-    }
-    drop(range);
+    assert!(rt; range_writes(&mut map.range_mut((Bound::Unbounded, Bound::Unbounded))));
     assert_eq!(rt; comparisons.get(), 0);
     Ok(())
 }

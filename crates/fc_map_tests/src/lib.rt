@@ -12,4 +12,6 @@ mod iter_mut;
 #[cfg(test)]
 mod map;
 #[cfg(test)]
+mod numbers;
+#[cfg(test)]
 mod range;

@@ -7,6 +7,7 @@ ghost use Rattle.std.specs.Ordering.{nat_cmp, on, as_partial_cmp};
 
 mod entries;
 
+use crate::numbers::{are_same, is_lent, is_number};
 use fc_base::{Count, TryReserveError};
 use fc_map::map::BTreeMap;
 use std::alloc::{AllocError, Global};
@@ -72,10 +73,10 @@ struct Tagged {
 
 // A number as a key, which counts its drops.
 #[derive_where(PartialEq, Eq, PartialOrd, Ord)]
-struct TrackedKey<'a> {
-    number: usize,
+pub(crate) struct TrackedKey<'a> {
+    pub(crate) number: usize,
     #[derive_where(skip)]
-    drops: &'a Cell<u64>,
+    pub(crate) drops: &'a Cell<u64>,
 }
 
 impl Drop for TrackedKey<'_> {
@@ -89,8 +90,8 @@ impl Drop for TrackedKey<'_> {
 }
 
 // A value that counts its drops.
-struct TrackedValue<'a> {
-    drops: &'a Cell<u64>,
+pub(crate) struct TrackedValue<'a> {
+    pub(crate) drops: &'a Cell<u64>,
 }
 
 impl Drop for TrackedValue<'_> {
@@ -185,26 +186,67 @@ fn get_and_count<'a>(
     (value, comparisons.get())
 }
 
+// Whether `get` answers the number itself after so many comparisons.
+fn finds<'a>(
+    map: &BTreeMap<CountingKey<'a>, u64>,
+    number: u64,
+    comparisons: &'a Cell<u64>,
+    made: u64,
+) -> bool {
+    let (value, of_get) = get_and_count(map, number, comparisons);
+    is_number(value, number) && of_get == made
+}
+
+fn takes_out<'a>(
+    map: &mut BTreeMap<CountingKey<'a>, u64>,
+    number: u64,
+    comparisons: &'a Cell<u64>,
+) -> bool {
+    is_number(remove(map, number, comparisons), number)
+}
+
 #[test]
 fn an_empty_map_compares_nothing(rt: HostRuntime) -> Result<(), Fail> {
     let made = Cell::new(0);
     let mut map = ascending(rt.alloc(), 1, &made)?;
-    assert_eq!(rt; remove(&mut map, 1, &made), Some(1));
-    assert_eq!(rt; remove(&mut map, 1, &made), None);
-    assert_eq!(rt; get_and_count(&map, 1, &made), (None, 0));
+    assert!(rt; takes_out(&mut map, 1, &made));
+    assert!(rt; remove(&mut map, 1, &made).is_none());
+    let (value, of_get) = get_and_count(&map, 1, &made);
+    assert!(rt; value.is_none() && of_get == 0);
     Ok(())
+}
+
+// Inserts the text at 37; the old one, of which the tests know only what they see.
+fn insert_text(
+    map: &mut BTreeMap<u64, &'static str>,
+    number: u64,
+    text: &'static str,
+) -> Result<Option<&'static str>, TryReserveError> {
+    map.try_insert(number, text)
+}
+
+fn remove_text(map: &mut BTreeMap<u64, &'static str>, number: u64) -> Option<&'static str> {
+    map.remove(&number)
+}
+
+fn is_text(item: Option<&'static str>, wanted: &str) -> bool {
+    match item {
+        Some(text) => text == wanted,
+        None => false,
+    }
+}
+
+fn shows_text(map: &BTreeMap<u64, &'static str>, number: u64, wanted: &str) -> bool {
+    map.contains_key(&number) && map[&number] == wanted
 }
 
 #[test]
 fn a_key_has_its_last_value(rt: HostRuntime) -> Result<(), Fail> {
     let mut map = BTreeMap::new(rt.alloc());
-    assert_eq!(rt; map.try_insert(37, "a")?, None);
-    assert_eq!(rt; map.try_insert(37, "b")?, Some("a"));
-    assert_eq!(rt; map.try_insert(37, "c")?, Some("b"));
-    assert!(rt; map.contains_key(&37));
-    if map.contains_key(&37) {
-        assert_eq!(rt; map[&37], "c");
-    }
+    assert!(rt; insert_text(&mut map, 37, "a")?.is_none());
+    assert!(rt; is_text(insert_text(&mut map, 37, "b")?, "a"));
+    assert!(rt; is_text(insert_text(&mut map, 37, "c")?, "b"));
+    assert!(rt; shows_text(&map, 37, "c"));
     assert_eq!(rt; map.len(), 1);
     Ok(())
 }
@@ -212,49 +254,60 @@ fn a_key_has_its_last_value(rt: HostRuntime) -> Result<(), Fail> {
 #[test]
 fn a_key_is_removed_once(rt: HostRuntime) -> Result<(), Fail> {
     let mut map = BTreeMap::new(rt.alloc());
-    assert_eq!(rt; map.try_insert(1, "a")?, None);
-    assert_eq!(rt; map.remove(&1), Some("a"));
-    assert_eq!(rt; map.remove(&1), None);
+    assert!(rt; insert_text(&mut map, 1, "a")?.is_none());
+    assert!(rt; is_text(remove_text(&mut map, 1), "a"));
+    assert!(rt; remove_text(&mut map, 1).is_none());
     assert_eq!(rt; map.len(), 0);
     Ok(())
 }
 
 #[test]
-fn twelve_ascending_keys(rt: HostRuntime) -> Result<(), Fail> {
+fn twelve_ascending_or_descending_keys(rt: HostRuntime) -> Result<(), Fail> {
     let made = Cell::new(0);
     let map = ascending(rt.alloc(), 12, &made)?;
-    assert_eq!(rt; get_and_count(&map, 12, &made), (Some(12), 6));
+    assert!(rt; finds(&map, 12, &made, 6));
+    let map = map_of(rt.alloc(), &[12, 11, 10, 9, 8, 7, 6, 5, 4, 3, 2, 1], &made)?;
+    assert!(rt; finds(&map, 1, &made, 2));
     Ok(())
 }
 
-#[test]
-fn twelve_descending_keys(rt: HostRuntime) -> Result<(), Fail> {
-    let made = Cell::new(0);
-    let map = map_of(rt.alloc(), &[12, 11, 10, 9, 8, 7, 6, 5, 4, 3, 2, 1], &made)?;
-    assert_eq!(rt; get_and_count(&map, 1, &made), (Some(1), 2));
-    Ok(())
+// Whether a new key in a full leaf of even ones is found after so many comparisons.
+fn finds_among_even_keys<'a>(
+    alloc: Global,
+    new: u64,
+    comparisons: &'a Cell<u64>,
+    made: u64,
+) -> Result<bool, TryReserveError> {
+    let even = [2, 4, 6, 8, 10, 12, 14, 16, 18, 20, 22];
+    let mut map = map_of(alloc, &even, comparisons)?;
+    let old = insert(&mut map, new, comparisons)?;
+    Ok(old.is_none() && finds(&map, new, comparisons, made))
 }
 
 #[test]
 fn a_full_leaf_is_split_by_the_place_of_the_new_key(rt: HostRuntime) -> Result<(), Fail> {
     let made = Cell::new(0);
-    let even = [2, 4, 6, 8, 10, 12, 14, 16, 18, 20, 22];
-    for (new, expected) in [(11, 7), (13, 2)] {
-        let mut map = map_of(rt.alloc(), &even, &made)?;
-        assert_eq!(rt; insert(&mut map, new, &made)?, None);
-        assert_eq!(rt; get_and_count(&map, new, &made), (Some(new), expected));
-    }
+    assert!(rt; finds_among_even_keys(rt.alloc(), 11, &made, 7)?);
+    assert!(rt; finds_among_even_keys(rt.alloc(), 13, &made, 2)?);
     Ok(())
+}
+
+// Whether one of twelve keys is taken out, and another then found after eleven comparisons.
+fn finds_in_one_leaf<'a>(
+    alloc: Global,
+    gone: u64,
+    left: u64,
+    comparisons: &'a Cell<u64>,
+) -> Result<bool, TryReserveError> {
+    let mut map = ascending(alloc, 12, comparisons)?;
+    Ok(takes_out(&mut map, gone, comparisons) && finds(&map, left, comparisons, 11))
 }
 
 #[test]
 fn two_leaves_that_fit_in_one_are_merged(rt: HostRuntime) -> Result<(), Fail> {
     let made = Cell::new(0);
-    for (gone, left) in [(12, 11), (7, 12)] {
-        let mut map = ascending(rt.alloc(), 12, &made)?;
-        assert_eq!(rt; remove(&mut map, gone, &made), Some(gone));
-        assert_eq!(rt; get_and_count(&map, left, &made), (Some(left), 11));
-    }
+    assert!(rt; finds_in_one_leaf(rt.alloc(), 12, 11, &made)?);
+    assert!(rt; finds_in_one_leaf(rt.alloc(), 7, 12, &made)?);
     Ok(())
 }
 
@@ -262,9 +315,8 @@ fn two_leaves_that_fit_in_one_are_merged(rt: HostRuntime) -> Result<(), Fail> {
 fn a_pair_is_stolen_where_two_leaves_do_not_fit_in_one(rt: HostRuntime) -> Result<(), Fail> {
     let made = Cell::new(0);
     let mut map = ascending(rt.alloc(), 12, &made)?;
-    assert_eq!(rt; insert(&mut map, 0, &made)?, None);
-    assert_eq!(rt; remove(&mut map, 12, &made), Some(12));
-    assert_eq!(rt; get_and_count(&map, 11, &made), (Some(11), 6));
+    assert!(rt; insert(&mut map, 0, &made)?.is_none());
+    assert!(rt; takes_out(&mut map, 12, &made) && finds(&map, 11, &made, 6));
     Ok(())
 }
 
@@ -272,7 +324,7 @@ fn a_pair_is_stolen_where_two_leaves_do_not_fit_in_one(rt: HostRuntime) -> Resul
 fn eighty_nine_ascending_keys(rt: HostRuntime) -> Result<(), Fail> {
     let made = Cell::new(0);
     let map = ascending(rt.alloc(), 89, &made)?;
-    assert_eq!(rt; get_and_count(&map, 89, &made), (Some(89), 11));
+    assert!(rt; finds(&map, 89, &made, 11));
     Ok(())
 }
 
@@ -283,12 +335,13 @@ fn holds_up_to<'a>(
     comparisons: &'a Cell<u64>,
 ) -> bool {
     for number in 0..100 {
-        let expected = if number == 0 || number > last {
-            None
+        let found = get(map, number, comparisons);
+        let is_right = if number == 0 || number > last {
+            found.is_none()
         } else {
-            Some(number)
+            is_number(found, number)
         };
-        if get(map, number, comparisons) != expected {
+        if !is_right {
             return false;
         }
     }
@@ -302,9 +355,9 @@ fn a_refused_insertion_leaves_every_pair(rt: HostRuntime) -> Result<(), Fail> {
     let mut map = BTreeMap::new(rt.alloc());
     for present in 0..89u64 {
         match insert(&mut map, present + 1, &made) {
-            Ok(old) => assert_eq!(rt; old, None),
+            Ok(old) => assert!(rt; old.is_none()),
             Err(e) => {
-                assert_eq!(rt; e, TryReserveError::AllocError);
+                assert!(rt; matches!(e, TryReserveError::AllocError));
                 assert!(rt; holds_up_to(&map, present, &made));
                 return Ok(println!(rt; "refused at {}", present + 1)?);
             }
@@ -355,39 +408,70 @@ fn with_all_memory_refused_only_a_full_leaf_refuses(rt: HostRuntime) -> Result<(
     let twelfth = insert(&mut small, 12, &made);
     let lowest = insert(&mut large, 0, &made);
     drop(held);
-    assert_eq!(rt; eleventh, Ok(None));
-    assert_eq!(rt; again, Ok(Some(5)));
-    assert_eq!(rt; twelfth, Err(TryReserveError::AllocError));
-    assert_eq!(rt; lowest, Ok(None));
+    assert!(rt; matches!(eleventh, Ok(None)));
+    assert!(rt; matches!(again, Ok(Some(5))));
+    assert!(rt; matches!(twelfth, Err(TryReserveError::AllocError)));
+    assert!(rt; matches!(lowest, Ok(None)));
     assert!(rt; holds_up_to(&small, 11, &made));
     assert_eq!(rt; large.len(), 89);
     Ok(())
+}
+
+// Whether the map in reversed order has the numbers from 50 on below 100, each with itself.
+fn has_upper_half(map: &BTreeMap<Reverse<u64>, u64>) -> bool {
+    for number in 0..100u64 {
+        let found = map.get(&Reverse(number));
+        let is_right = if number < 50 {
+            found.is_none()
+        } else {
+            is_lent(found, number)
+        };
+        if !is_right {
+            return false;
+        }
+    }
+    map.len() == 50
 }
 
 #[test]
 fn keys_in_reversed_order(rt: HostRuntime) -> Result<(), Fail> {
     let mut map = BTreeMap::new(rt.alloc());
     for number in 0..100u64 {
-        assert_eq!(rt; map.try_insert(Reverse(number), number)?, None);
+        assert!(rt; map.try_insert(Reverse(number), number)?.is_none());
     }
-    for number in 0..50 {
-        assert_eq!(rt; map.remove(&Reverse(number)), Some(number));
+    for number in 0..50u64 {
+        assert!(rt; is_number(map.remove(&Reverse(number)), number));
     }
-    for number in 0..100 {
-        let expected = if number < 50 { None } else { Some(number) };
-        assert_eq!(rt; map.get(&Reverse(number)).copied(), expected);
-    }
-    assert_eq!(rt; map.len(), 50);
+    assert!(rt; has_upper_half(&map));
     Ok(())
+}
+
+// Whether key and value were dropped so often.
+fn were_dropped(drops: &Drops, key: u64, value: u64) -> bool {
+    drops.key.get() == key && drops.value.get() == value
+}
+
+fn no_drops() -> Drops {
+    Drops {
+        key: Cell::new(0),
+        value: Cell::new(0),
+    }
+}
+
+// Whether each key and each value were dropped so often.
+fn were_all_dropped(drops: &[Drops], times: u64) -> bool {
+    for i in 0..drops.len() {
+        if !were_dropped(&drops[i], times, times) {
+            return false;
+        }
+    }
+    true
 }
 
 fn fresh_drops(alloc: Global, count: usize) -> Result<Vec<Drops>, AllocError> {
     let mut all = Vec::with_capacity(alloc, count)?;
     for _ in 0..count {
-        all.push(Drops {
-            key: Cell::new(0),
-            value: Cell::new(0),
-        })?;
+        all.push(no_drops())?;
     }
     Ok(all)
 }
@@ -423,6 +507,16 @@ fn remove_tracked<'a>(
     });
 }
 
+// Whether the even ones of the first sixty were dropped once.
+fn were_even_ones_dropped(drops: &[Drops]) -> bool {
+    for i in 0..drops.len() {
+        if i < 60 && i % 2 == 0 && !were_dropped(&drops[i], 1, 1) {
+            return false;
+        }
+    }
+    true
+}
+
 // Each request is refused in turn by the sweep. Where a pair is refused, its key and value are dropped at once.
 #[test]
 fn each_key_and_value_is_dropped_once(rt: HostRuntime) -> Result<(), Fail> {
@@ -434,88 +528,84 @@ fn each_key_and_value_is_dropped_once(rt: HostRuntime) -> Result<(), Fail> {
         let mut map = BTreeMap::new(rt.alloc());
         for (number, each) in drops.iter().enumerate() {
             let dropped = u64::from(insert_tracked(&mut map, number, each));
-            assert_eq!(rt; each.key.get(), dropped);
-            assert_eq!(rt; each.value.get(), dropped);
+            assert!(rt; were_dropped(each, dropped, dropped));
         }
         for number in 0..30 {
             remove_tracked(&mut map, number * 2, &sought);
         }
-        for (number, each) in drops.iter().enumerate() {
-            if number < 60 && number % 2 == 0 {
-                assert_eq!(rt; each.key.get(), 1);
-                assert_eq!(rt; each.value.get(), 1);
-            }
-        }
+        assert!(rt; were_even_ones_dropped(&drops));
     }
-    for each in &drops {
-        assert_eq!(rt; each.key.get(), 1);
-        assert_eq!(rt; each.value.get(), 1);
-    }
+    assert!(rt; were_all_dropped(&drops, 1));
     Ok(())
 }
 
 // The new key and the old value are dropped; the old key stays.
 #[test]
 fn a_replaced_value_is_dropped_and_its_key_stays(rt: HostRuntime) -> Result<(), Fail> {
-    let first = Drops {
-        key: Cell::new(0),
-        value: Cell::new(0),
-    };
-    let second = Drops {
-        key: Cell::new(0),
-        value: Cell::new(0),
-    };
+    let (first, second) = (no_drops(), no_drops());
     {
         let mut map = BTreeMap::new(rt.alloc());
         assert!(rt; !insert_tracked(&mut map, 7, &first));
         assert!(rt; !insert_tracked(&mut map, 7, &second));
         assert_eq!(rt; map.len(), 1);
-        assert_eq!(rt; (first.key.get(), first.value.get()), (0, 1));
-        assert_eq!(rt; (second.key.get(), second.value.get()), (1, 0));
+        assert!(rt; were_dropped(&first, 0, 1) && were_dropped(&second, 1, 0));
     }
-    assert_eq!(rt; (first.key.get(), first.value.get()), (1, 1));
-    assert_eq!(rt; (second.key.get(), second.value.get()), (1, 1));
+    assert!(rt; were_dropped(&first, 1, 1) && were_dropped(&second, 1, 1));
     Ok(())
 }
 
-// How many comparisons each of the six look-ups makes; `None` where they don't answer alike.
-fn comparisons_of_look_ups<'a>(
+// Whether the look-ups of a number answer alike, `found` or nothing, and make as many comparisons, which are counted in the key.
+fn values_are_found_alike<'a>(
+    map: &BTreeMap<CountingKey<'a>, u64>,
+    key: &CountingKey<'a>,
+    found: Option<u64>,
+    made: u64,
+) -> bool {
+    let mut count = Count::new();
+    key.comparisons.set(0);
+    let value = map.get_counted(key, &mut count).copied();
+    let of_value = key.comparisons.replace(0);
+    let pair = map.get_key_value(key).map(|pair| *pair.1);
+    let of_pair = key.comparisons.replace(0);
+    let counted_pair = map
+        .get_key_value_counted(key, &mut count)
+        .map(|pair| *pair.1);
+    let of_counted_pair = key.comparisons.replace(0);
+    are_same(value, found)
+        && are_same(pair, found)
+        && are_same(counted_pair, found)
+        && of_value == made
+        && of_pair == made
+        && of_counted_pair == made
+}
+
+fn keys_are_found_alike<'a>(
+    map: &BTreeMap<CountingKey<'a>, u64>,
+    key: &CountingKey<'a>,
+    found: bool,
+    made: u64,
+) -> bool {
+    key.comparisons.set(0);
+    let present = map.contains_key(key);
+    let of_present = key.comparisons.replace(0);
+    let counted_present = map.contains_key_counted(key, &mut Count::new());
+    let of_counted_present = key.comparisons.replace(0);
+    present == found && counted_present == found && of_present == made && of_counted_present == made
+}
+
+// Whether the other five look-ups answer as `get`, and make as many comparisons.
+fn look_ups_are_alike<'a>(
     map: &BTreeMap<CountingKey<'a>, u64>,
     number: u64,
     comparisons: &'a Cell<u64>,
-) -> Option<[u64; 6]> {
+) -> bool {
     let key = CountingKey {
         number,
         comparisons,
     };
-    let (value, of_get) = get_and_count(map, number, comparisons);
-    comparisons.set(0);
-    let counted = map.get_counted(&key, &mut Count::new()).copied();
-    let of_counted = comparisons.replace(0);
-    let pair = map.get_key_value(&key).map(|pair| *pair.1);
-    let of_pair = comparisons.replace(0);
-    let counted_pair = map
-        .get_key_value_counted(&key, &mut Count::new())
-        .map(|pair| *pair.1);
-    let of_counted_pair = comparisons.replace(0);
-    let present = map.contains_key(&key);
-    let of_present = comparisons.replace(0);
-    let counted_present = map.contains_key_counted(&key, &mut Count::new());
-    let of_counted_present = comparisons.get();
-    if counted != value || pair != value || counted_pair != value {
-        return None;
-    }
-    if present != value.is_some() || counted_present != value.is_some() {
-        return None;
-    }
-    Some([
-        of_get,
-        of_counted,
-        of_pair,
-        of_counted_pair,
-        of_present,
-        of_counted_present,
-    ])
+    let (found, made) = get_and_count(map, number, comparisons);
+    values_are_found_alike(map, &key, found, made)
+        && keys_are_found_alike(map, &key, found.is_some(), made)
 }
 
 #[test]
@@ -524,9 +614,7 @@ fn all_look_ups_compare_alike(rt: HostRuntime) -> Result<(), Fail> {
     for last in [0, 1, 11, 12, 40, 89, 500] {
         let map = ascending(rt.alloc(), last, &made)?;
         for number in 0..last + 2 {
-            let (_, of_get) = get_and_count(&map, number, &made);
-            let all = comparisons_of_look_ups(&map, number, &made);
-            assert_eq!(rt; all, Some([of_get; 6]), "{number} of {last}");
+            assert!(rt; look_ups_are_alike(&map, number, &made));
         }
     }
     Ok(())
@@ -561,54 +649,60 @@ fn insertions_and_removals_compare_as_a_look_up(rt: HostRuntime) -> Result<(), F
             of_plain = made.replace(0);
             counted_answer = counted.try_insert_counted(key, step, &mut Count::new())?;
         }
-        assert_eq!(rt; (answer, of_plain), (value, of_get));
-        assert_eq!(rt; (counted_answer, made.get()), (value, of_get));
+        assert!(rt; are_same(answer, value) && of_plain == of_get);
+        assert!(rt; are_same(counted_answer, value) && made.get() == of_get);
         assert_eq!(rt; plain.len(), counted.len());
     }
     Ok(())
 }
 
+// Whether the key stands in the map with this letter and value.
+fn shows_letter(map: &BTreeMap<Tagged, u64>, key: &Tagged, letter: char, value: u64) -> bool {
+    match map.get_key_value(key) {
+        Some(pair) => pair.0.letter == letter && *pair.1 == value,
+        None => false,
+    }
+}
+
 #[test]
 fn the_old_of_two_equal_keys_stays(rt: HostRuntime) -> Result<(), Fail> {
     let mut map = BTreeMap::new(rt.alloc());
-    let [x, y, z] = ['x', 'y', 'z'].map(|letter| Tagged { number: 1, letter });
-    assert_eq!(rt; map.try_insert(x, 10u64)?, None);
-    assert_eq!(rt; map.try_insert(y, 11)?, Some(10));
-    let (letter, value) = map
-        .get_key_value(&z)
-        .map(|pair| (pair.0.letter, *pair.1))
-        .ok_or("no pair")?;
-    assert_eq!(rt; (letter, value), ('x', 11));
-    assert_eq!(rt; map.remove(&z), Some(11));
-    assert_eq!(rt; map.try_insert(y, 12)?, None);
-    let letter = map.get_key_value(&z).map(|pair| pair.0.letter);
-    assert_eq!(rt; letter, Some('y'));
+    let tagged = |letter| Tagged { number: 1, letter };
+    let (x, y, z) = (tagged('x'), tagged('y'), tagged('z'));
+    assert!(rt; map.try_insert(x, 10u64)?.is_none());
+    assert!(rt; is_number(map.try_insert(y, 11)?, 10));
+    assert!(rt; shows_letter(&map, &z, 'x', 11));
+    assert!(rt; is_number(map.remove(&z), 11));
+    assert!(rt; map.try_insert(y, 12)?.is_none());
+    assert!(rt; shows_letter(&map, &z, 'y', 12));
     Ok(())
+}
+
+// Inserts pairs of all numbers in order; whether each was taken and none dropped by then.
+fn takes_all<'a>(map: &mut BTreeMap<TrackedKey<'a>, TrackedValue<'a>>, drops: &'a [Drops]) -> bool {
+    for i in 0..drops.len() {
+        if insert_tracked(map, i, &drops[i]) || map.is_empty() || !were_dropped(&drops[i], 0, 0) {
+            return false;
+        }
+    }
+    true
+}
+
+fn is_cleared<'a>(map: &mut BTreeMap<TrackedKey<'a>, TrackedValue<'a>>) -> bool {
+    map.clear();
+    map.is_empty() && map.len() == 0
 }
 
 #[test]
 fn clear_drops_each_key_and_value_once(rt: HostRuntime) -> Result<(), Fail> {
     let drops = fresh_drops(rt.alloc(), 100)?;
-    let again = Drops {
-        key: Cell::new(0),
-        value: Cell::new(0),
-    };
+    let again = no_drops();
     let mut map = BTreeMap::new(rt.alloc());
     assert!(rt; map.is_empty());
-    for (number, each) in drops.iter().enumerate() {
-        assert!(rt; !insert_tracked(&mut map, number, each));
-        assert!(rt; !map.is_empty());
-        assert_eq!(rt; (each.key.get(), each.value.get()), (0, 0));
-    }
-    map.clear();
-    for each in &drops {
-        assert_eq!(rt; (each.key.get(), each.value.get()), (1, 1));
-    }
-    assert!(rt; map.is_empty());
-    assert_eq!(rt; map.len(), 0);
+    assert!(rt; takes_all(&mut map, &drops));
+    assert!(rt; is_cleared(&mut map) && were_all_dropped(&drops, 1));
     assert!(rt; !insert_tracked(&mut map, 5, &again));
     assert_eq!(rt; map.len(), 1);
-    map.clear();
-    assert_eq!(rt; (again.key.get(), again.value.get()), (1, 1));
+    assert!(rt; is_cleared(&mut map) && were_dropped(&again, 1, 1));
     Ok(())
 }

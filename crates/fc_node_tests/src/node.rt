@@ -1,4 +1,8 @@
 // Expected pairs and children are written out from the rules of splits, merges and thefts.
+ghost use Rattle.std.specs.Bool.{OnTrue};
+ghost use Rattle.fc_node.specs.Node.{IsBlankLeaf};
+ghost use Rattle.fc_node.specs.Siblings.{AreAlike};
+
 use fc_base::{Count, TryReserveError};
 use fc_node::node::{CAPACITY, Node};
 use std::alloc::Global;
@@ -6,56 +10,110 @@ use std::cell::Cell;
 use std::process::Abort;
 use std::test::Fail;
 
+// Puts the pair behind those of a leaf. The helpers are generic, so that they are proved once for numbers and tokens.
+fn push<V: Drop>(rt: &impl Abort, leaf: &mut Node<u64, V>, key: u64, value: V) {
+    let len = leaf.len();
+    assert!(rt; len < CAPACITY && leaf.is_leaf());
+    leaf.insert_leaf(len, (key, value), &mut Count::new());
+}
+
+// Puts the pair and the child behind those of an inner node.
+fn push_child<V: Drop>(
+    rt: &impl Abort,
+    node: &mut Node<u64, V>,
+    key: u64,
+    value: V,
+    child: Box<Node<u64, V>>,
+) {
+    let len = node.len();
+    assert!(rt; len < CAPACITY && node.child_count() == len + 1);
+    node.insert_inner(len, (key, value), child, &mut Count::new());
+}
+
 // A leaf of these keys, each with ten times itself as its value.
 fn leaf(rt: &impl Abort, alloc: Global, keys: &[u64]) -> Result<Box<Node<u64, u64>>, Fail> {
     let mut node = Node::try_leaf(alloc)?;
-    for key in keys {
-        let len = node.len();
-        assert!(rt; len < CAPACITY && node.is_leaf());
-        node.insert_leaf(len, (*key, key.wrapping_mul(10)), &mut Count::new());
+    for i in 0..keys.len() {
+        push(rt, &mut node, keys[i], keys[i].wrapping_mul(10));
     }
     Ok(node)
 }
 
-// An inner node of these keys, between leaves of one key each.
+// An inner node of these keys, between leaves of these keys.
+fn family(
+    rt: &impl Abort,
+    alloc: Global,
+    keys: &[u64],
+    below: &[&[u64]],
+) -> Result<Box<Node<u64, u64>>, Fail> {
+    assert!(rt; below.len() == keys.len() + 1);
+    let mut node = Node::try_inner(alloc)?;
+    node.adopt(leaf(rt, alloc, below[0])?);
+    for i in 0..keys.len() {
+        let child = leaf(rt, alloc, below[i + 1])?;
+        push_child(rt, &mut node, keys[i], keys[i].wrapping_mul(10), child);
+    }
+    Ok(node)
+}
+
+// The same between leaves of one key each.
 fn inner(
     rt: &impl Abort,
     alloc: Global,
     keys: &[u64],
     below: &[u64],
 ) -> Result<Box<Node<u64, u64>>, Fail> {
-    assert_eq!(rt; below.len(), keys.len() + 1);
+    assert!(rt; below.len() == keys.len() + 1);
     let mut node = Node::try_inner(alloc)?;
     node.adopt(leaf(rt, alloc, &below[..1])?);
     for i in 0..keys.len() {
-        let len = node.len();
-        assert!(rt; len < CAPACITY && node.child_count() == len + 1);
         let child = leaf(rt, alloc, &below[i + 1..i + 2])?;
-        node.insert_inner(
-            len,
-            (keys[i], keys[i].wrapping_mul(10)),
-            child,
-            &mut Count::new(),
-        );
+        push_child(rt, &mut node, keys[i], keys[i].wrapping_mul(10), child);
     }
     Ok(node)
 }
 
-// The node holds these keys itself, with their values.
-fn assert_pairs(rt: &impl Abort, node: &Node<u64, u64>, keys: &[u64]) {
-    assert_eq!(rt; node.len(), keys.len());
-    for i in 0..keys.len() {
-        assert_eq!(rt; *node.pair(i), (keys[i], keys[i].wrapping_mul(10)));
-    }
+fn is_tenfold(pair: &(u64, u64), key: u64) -> bool {
+    pair.0 == key && pair.1 == key.wrapping_mul(10)
 }
 
-// The node's children are leaves of one key each, these.
-fn assert_children(rt: &impl Abort, node: &Node<u64, u64>, keys: &[u64]) {
-    assert_eq!(rt; node.child_count(), keys.len());
-    for i in 0..keys.len() {
-        assert!(rt; node.child(i).is_leaf());
-        assert_pairs(rt, node.child(i), &keys[i..i + 1]);
+// Whether the node holds these keys itself, with their values.
+fn shows(node: &Node<u64, u64>, keys: &[u64]) -> bool {
+    if node.len() != keys.len() {
+        return false;
     }
+    for i in 0..keys.len() {
+        if !is_tenfold(node.pair(i), keys[i]) {
+            return false;
+        }
+    }
+    true
+}
+
+// Whether the node's children are leaves of these keys.
+fn leaves_show(node: &Node<u64, u64>, below: &[&[u64]]) -> bool {
+    if node.child_count() != below.len() {
+        return false;
+    }
+    for i in 0..below.len() {
+        if !node.child(i).is_leaf() || !shows(node.child(i), below[i]) {
+            return false;
+        }
+    }
+    true
+}
+
+// Whether the node's children are leaves of one key each, these.
+fn children_show(node: &Node<u64, u64>, keys: &[u64]) -> bool {
+    if node.child_count() != keys.len() {
+        return false;
+    }
+    for i in 0..keys.len() {
+        if !node.child(i).is_leaf() || !shows(node.child(i), &keys[i..i + 1]) {
+            return false;
+        }
+    }
+    true
 }
 
 const FULL: [u64; 11] = [10, 20, 30, 40, 50, 60, 70, 80, 90, 100, 110];
@@ -98,26 +156,37 @@ fn children(place: usize) -> (&'static [u64], &'static [u64]) {
     }
 }
 
+// Splits a full leaf where the pair goes to a place, into itself and an empty leaf: what goes up, and the right half.
+fn split_leaf<V: Drop>(
+    rt: &impl Abort,
+    node: &mut Node<u64, V>,
+    place: usize,
+    pair: (u64, V),
+    right: Box<Node<u64, V>>,
+) -> ((u64, V), Box<Node<u64, V>>)
+    requires { IsBlankLeaf right.value }
+{
+    assert!(rt; place < 12 && node.is_leaf() && node.len() == 11);
+    node.split_leaf(place, pair, right, &mut Count::new())
+}
+
 #[test]
 fn splits_a_leaf_at_each_place(rt: HostRuntime) -> Result<(), Fail> {
-    for place in 0..12 {
+    for place in 0..12usize {
         let mut node = leaf(&rt, rt.alloc(), &FULL)?;
         let right = Node::try_leaf(rt.alloc())?;
         let key = 10 * place as u64 + 5;
-        assert!(&rt; node.is_leaf() && node.len() == 11);
-        let (up, right) = node.split_leaf(place, (key, 10 * key), right, &mut Count::new());
+        let (up, right) = split_leaf(&rt, &mut node, place, (key, 10 * key), right);
         let (left_keys, middle, right_keys) = halves(place);
-        assert_pairs(&rt, &node, left_keys);
-        assert_eq!(&rt; up, (middle, middle.wrapping_mul(10)));
-        assert_pairs(&rt, &right, right_keys);
-        assert!(&rt; node.is_leaf() && right.is_leaf());
+        assert!(&rt; is_tenfold(&up, middle) && node.is_leaf() && right.is_leaf());
+        assert!(&rt; shows(&node, left_keys) && shows(&right, right_keys));
     }
     Ok(())
 }
 
 #[test]
 fn splits_an_inner_node_at_each_place(rt: HostRuntime) -> Result<(), Fail> {
-    for place in 0..12 {
+    for place in 0..12usize {
         let mut node = inner(&rt, rt.alloc(), &FULL, &BELOW)?;
         let right = Node::try_inner(rt.alloc())?;
         let key = 10 * place as u64 + 5;
@@ -125,129 +194,168 @@ fn splits_an_inner_node_at_each_place(rt: HostRuntime) -> Result<(), Fail> {
         assert!(&rt; node.child_count() == 12 && node.len() == 11);
         let (up, right) = node.split_inner(place, (key, 10 * key), child, right, &mut Count::new());
         let (left_keys, middle, right_keys) = halves(place);
-        assert_pairs(&rt, &node, left_keys);
-        assert_eq!(&rt; up, (middle, middle.wrapping_mul(10)));
-        assert_pairs(&rt, &right, right_keys);
         let (left_children, right_children) = children(place);
-        assert_children(&rt, &node, left_children);
-        assert_children(&rt, &right, right_children);
+        assert!(&rt; is_tenfold(&up, middle));
+        assert!(&rt; shows(&node, left_keys) && children_show(&node, left_children));
+        assert!(&rt; shows(&right, right_keys) && children_show(&right, right_children));
     }
     Ok(())
 }
 
-// An inner node of these keys, between leaves of any keys.
-fn family(
-    rt: &impl Abort,
-    alloc: Global,
-    keys: &[u64],
-    below: &[&[u64]],
-) -> Result<Box<Node<u64, u64>>, Fail> {
-    assert_eq!(rt; below.len(), keys.len() + 1);
-    let mut node = Node::try_inner(alloc)?;
-    node.adopt(leaf(rt, alloc, below[0])?);
-    for i in 0..keys.len() {
-        let len = node.len();
-        assert!(rt; len < CAPACITY && node.child_count() == len + 1);
-        let child = leaf(rt, alloc, below[i + 1])?;
-        node.insert_inner(
-            len,
-            (keys[i], keys[i].wrapping_mul(10)),
-            child,
-            &mut Count::new(),
-        );
-    }
-    Ok(node)
+// What moves pairs between two neighbouring children, and how many where it moves several.
+#[derive(Clone, Copy)]
+enum Call {
+    Merge,
+    StealLeft,
+    StealRight,
+    BulkStealLeft(usize),
+    BulkStealRight(usize),
 }
 
-// The node holds these keys, between leaves of these keys.
-fn assert_family(rt: &impl Abort, node: &Node<u64, u64>, keys: &[u64], below: &[&[u64]]) {
-    assert_pairs(rt, node, keys);
-    assert_eq!(rt; node.child_count(), below.len());
-    for i in 0..below.len() {
-        assert!(rt; node.child(i).is_leaf());
-        assert_pairs(rt, node.child(i), below[i]);
+fn are_alike<V: Drop>(left: &Node<u64, V>, right: &Node<u64, V>) -> bool
+    ensures { OnTrue result (AreAlike left.now right.now) }
+{
+    if left.is_leaf() {
+        right.is_leaf()
+    } else {
+        left.child_count() == left.len() + 1 && right.child_count() == right.len() + 1
     }
 }
 
-const LOW: [u64; 4] = [10, 20, 30, 40];
-
-const MIDDLE: [u64; 4] = [60, 70, 80, 90];
-
-const HIGH: [u64; 4] = [110, 120, 130, 140];
-
-#[test]
-fn merges_leaves_at_both_ends(rt: HostRuntime) -> Result<(), Fail> {
-    for index in 0..2 {
-        let mut node = family(&rt, rt.alloc(), &[50, 100], &[&LOW, &MIDDLE, &HIGH])?;
-        assert!(&rt; node.len() == 2 && node.child_count() == 3);
-        assert!(&rt; node.child(index).is_leaf() && node.child(index + 1).is_leaf());
-        assert!(&rt; node.child(index).len() == 4 && node.child(index + 1).len() == 4);
-        node.merge(index, &mut Count::new());
-        if index == 0 {
-            let whole = [10, 20, 30, 40, 50, 60, 70, 80, 90];
-            assert_family(&rt, &node, &[100], &[&whole, &HIGH]);
-        } else {
-            let whole = [60, 70, 80, 90, 100, 110, 120, 130, 140];
-            assert_family(&rt, &node, &[50], &[&LOW, &whole]);
+// Makes the call on the children at the place and behind it.
+fn mend<V: Drop>(rt: &impl Abort, node: &mut Node<u64, V>, index: usize, call: Call) {
+    let mut count = Count::new();
+    assert!(rt; index < node.len() && node.child_count() == node.len() + 1);
+    assert!(rt; are_alike(node.child(index), node.child(index + 1)));
+    let (left, right) = (node.child(index).len(), node.child(index + 1).len());
+    assert!(rt; left < CAPACITY && right < CAPACITY);
+    match call {
+        Call::Merge => {
+            assert!(rt; left + right < CAPACITY);
+            node.merge(index, &mut count);
+        }
+        Call::StealLeft => {
+            assert!(rt; 0 < left);
+            node.steal_left(index, &mut count);
+        }
+        Call::StealRight => {
+            assert!(rt; 0 < right);
+            node.steal_right(index, &mut count);
+        }
+        Call::BulkStealLeft(n) => {
+            assert!(rt; 1 <= n && n <= left && n <= CAPACITY - right);
+            node.bulk_steal_left(index, n, &mut count);
+        }
+        Call::BulkStealRight(n) => {
+            assert!(rt; 1 <= n && n <= right && n <= CAPACITY - left);
+            node.bulk_steal_right(index, n, &mut count);
         }
     }
-    Ok(())
 }
 
-#[test]
-fn steals_from_the_left_at_both_ends(rt: HostRuntime) -> Result<(), Fail> {
-    for index in 0..2 {
-        let low = [10, 20, 30, 40, 45];
-        let middle = [60, 70, 80, 90, 95];
-        let mut node = family(&rt, rt.alloc(), &[50, 100], &[&low, &middle, &HIGH])?;
-        assert!(&rt; node.len() == 2 && node.child_count() == 3);
-        assert!(&rt; node.child(index).is_leaf() && node.child(index + 1).is_leaf());
-        assert!(&rt; node.child(index).len() == 5 && node.child(index + 1).len() < 6);
-        node.steal_left(index, &mut Count::new());
-        if index == 0 {
-            assert_family(
-                &rt,
-                &node,
-                &[45, 100],
-                &[&LOW, &[50, 60, 70, 80, 90, 95], &HIGH],
-            );
-        } else {
-            assert_family(
-                &rt,
-                &node,
-                &[50, 95],
-                &[&low, &MIDDLE, &[100, 110, 120, 130, 140]],
-            );
+// A call on a node over leaves, the leaves' keys before it, and the node's keys and the leaves' behind it. Before it the node
+// has the keys 50 and 100, or 50 alone over two leaves.
+#[derive(Drop)]
+struct Row {
+    call: Call,
+    index: usize,
+    before: &'static [&'static [u64]],
+    keys: &'static [u64],
+    after: &'static [&'static [u64]],
+}
+
+const LOW: &[u64] = &[10, 20, 30, 40];
+
+const LOW_AND_45: &[u64] = &[10, 20, 30, 40, 45];
+
+const MIDDLE: &[u64] = &[60, 70, 80, 90];
+
+const MIDDLE_AND_55: &[u64] = &[55, 60, 70, 80, 90];
+
+const MIDDLE_AND_95: &[u64] = &[60, 70, 80, 90, 95];
+
+const HIGH: &[u64] = &[110, 120, 130, 140];
+
+const HIGH_AND_105: &[u64] = &[105, 110, 120, 130, 140];
+
+fn row_of_one_pair(number: usize) -> Row {
+    match number {
+        0 => Row {
+            call: Call::Merge,
+            index: 0,
+            before: &[LOW, MIDDLE, HIGH],
+            keys: &[100],
+            after: &[&[10, 20, 30, 40, 50, 60, 70, 80, 90], HIGH],
+        },
+        1 => Row {
+            call: Call::Merge,
+            index: 1,
+            before: &[LOW, MIDDLE, HIGH],
+            keys: &[50],
+            after: &[LOW, &[60, 70, 80, 90, 100, 110, 120, 130, 140]],
+        },
+        2 => Row {
+            call: Call::StealLeft,
+            index: 0,
+            before: &[LOW_AND_45, MIDDLE_AND_95, HIGH],
+            keys: &[45, 100],
+            after: &[LOW, &[50, 60, 70, 80, 90, 95], HIGH],
+        },
+        3 => Row {
+            call: Call::StealLeft,
+            index: 1,
+            before: &[LOW_AND_45, MIDDLE_AND_95, HIGH],
+            keys: &[50, 95],
+            after: &[LOW_AND_45, MIDDLE, &[100, 110, 120, 130, 140]],
+        },
+        4 => Row {
+            call: Call::StealRight,
+            index: 0,
+            before: &[LOW, MIDDLE_AND_55, HIGH_AND_105],
+            keys: &[55, 100],
+            after: &[&[10, 20, 30, 40, 50], MIDDLE, HIGH_AND_105],
+        },
+        _ => Row {
+            call: Call::StealRight,
+            index: 1,
+            before: &[LOW, MIDDLE_AND_55, HIGH_AND_105],
+            keys: &[50, 105],
+            after: &[LOW, &[55, 60, 70, 80, 90, 100], HIGH],
+        },
+    }
+}
+
+fn row_of_several_pairs(left: bool) -> Row {
+    if left {
+        Row {
+            call: Call::BulkStealLeft(3),
+            index: 0,
+            before: &[LOW, MIDDLE],
+            keys: &[20],
+            after: &[&[10], &[30, 40, 50, 60, 70, 80, 90]],
+        }
+    } else {
+        Row {
+            call: Call::BulkStealRight(3),
+            index: 0,
+            before: &[LOW, MIDDLE],
+            keys: &[80],
+            after: &[&[10, 20, 30, 40, 50, 60, 70], &[90]],
         }
     }
-    Ok(())
+}
+
+// Whether the call leaves what the row says.
+fn is_mended(rt: &impl Abort, alloc: Global, keys: &[u64], row: &Row) -> Result<bool, Fail> {
+    let mut node = family(rt, alloc, keys, row.before)?;
+    mend(rt, &mut node, row.index, row.call);
+    Ok(shows(&node, row.keys) && leaves_show(&node, row.after))
 }
 
 #[test]
-fn steals_from_the_right_at_both_ends(rt: HostRuntime) -> Result<(), Fail> {
-    for index in 0..2 {
-        let middle = [55, 60, 70, 80, 90];
-        let high = [105, 110, 120, 130, 140];
-        let mut node = family(&rt, rt.alloc(), &[50, 100], &[&LOW, &middle, &high])?;
-        assert!(&rt; node.len() == 2 && node.child_count() == 3);
-        assert!(&rt; node.child(index).is_leaf() && node.child(index + 1).is_leaf());
-        assert!(&rt; node.child(index).len() < 6 && node.child(index + 1).len() == 5);
-        node.steal_right(index, &mut Count::new());
-        if index == 0 {
-            assert_family(
-                &rt,
-                &node,
-                &[55, 100],
-                &[&[10, 20, 30, 40, 50], &MIDDLE, &high],
-            );
-        } else {
-            assert_family(
-                &rt,
-                &node,
-                &[50, 105],
-                &[&LOW, &[55, 60, 70, 80, 90, 100], &HIGH],
-            );
-        }
+fn merges_leaves_and_steals_from_either_side_at_both_ends(rt: HostRuntime) -> Result<(), Fail> {
+    for number in 0..6usize {
+        assert!(&rt; is_mended(&rt, rt.alloc(), &[50, 100], &row_of_one_pair(number))?);
     }
     Ok(())
 }
@@ -255,17 +363,7 @@ fn steals_from_the_right_at_both_ends(rt: HostRuntime) -> Result<(), Fail> {
 #[test]
 fn steals_several_from_either_side(rt: HostRuntime) -> Result<(), Fail> {
     for left in [true, false] {
-        let mut node = family(&rt, rt.alloc(), &[50], &[&LOW, &MIDDLE])?;
-        assert!(&rt; node.len() == 1 && node.child_count() == 2);
-        assert!(&rt; node.child(0).is_leaf() && node.child(1).is_leaf());
-        assert!(&rt; node.child(0).len() == 4 && node.child(1).len() == 4);
-        if left {
-            node.bulk_steal_left(0, 3, &mut Count::new());
-            assert_family(&rt, &node, &[20], &[&[10], &[30, 40, 50, 60, 70, 80, 90]]);
-        } else {
-            node.bulk_steal_right(0, 3, &mut Count::new());
-            assert_family(&rt, &node, &[80], &[&[10, 20, 30, 40, 50, 60, 70], &[90]]);
-        }
+        assert!(&rt; is_mended(&rt, rt.alloc(), &[50], &row_of_several_pairs(left))?);
     }
     Ok(())
 }
@@ -275,87 +373,119 @@ fn three_levels(rt: &impl Abort, alloc: Global) -> Result<Box<Node<u64, u64>>, F
     let mut node = Node::try_inner(alloc)?;
     node.adopt(inner(rt, alloc, &[10, 20], &[1, 11, 21])?);
     let right = inner(rt, alloc, &[40, 50], &[31, 41, 51])?;
-    assert_eq!(rt; node.len(), 0);
-    node.insert_inner(0, (30, 300), right, &mut Count::new());
+    push_child(rt, &mut node, 30, 300, right);
     Ok(node)
 }
 
 // What a call leaves: the parent's keys, and the keys and children of its first and second child.
-fn after_call(call: u8) -> [&'static [u64]; 5] {
-    match call {
-        0 => [
-            &[],
-            &[10, 20, 30, 40, 50],
-            &[1, 11, 21, 31, 41, 51],
-            &[],
-            &[],
-        ],
-        1 => [&[20], &[10], &[1, 11], &[30, 40, 50], &[21, 31, 41, 51]],
-        2 => [&[40], &[10, 20, 30], &[1, 11, 21, 31], &[50], &[41, 51]],
-        3 => [&[10], &[], &[1], &[20, 30, 40, 50], &[11, 21, 31, 41, 51]],
-        _ => [&[50], &[10, 20, 30, 40], &[1, 11, 21, 31, 41], &[], &[51]],
+#[derive(Drop)]
+struct Grandchildren {
+    call: Call,
+    keys: &'static [u64],
+    first: &'static [u64],
+    below_first: &'static [u64],
+    second: &'static [u64],
+    below_second: &'static [u64],
+}
+
+fn row_of_grandchildren(number: usize) -> Grandchildren {
+    match number {
+        0 => Grandchildren {
+            call: Call::Merge,
+            keys: &[],
+            first: &[10, 20, 30, 40, 50],
+            below_first: &[1, 11, 21, 31, 41, 51],
+            second: &[],
+            below_second: &[],
+        },
+        1 => Grandchildren {
+            call: Call::StealLeft,
+            keys: &[20],
+            first: &[10],
+            below_first: &[1, 11],
+            second: &[30, 40, 50],
+            below_second: &[21, 31, 41, 51],
+        },
+        2 => Grandchildren {
+            call: Call::StealRight,
+            keys: &[40],
+            first: &[10, 20, 30],
+            below_first: &[1, 11, 21, 31],
+            second: &[50],
+            below_second: &[41, 51],
+        },
+        3 => Grandchildren {
+            call: Call::BulkStealLeft(2),
+            keys: &[10],
+            first: &[],
+            below_first: &[1],
+            second: &[20, 30, 40, 50],
+            below_second: &[11, 21, 31, 41, 51],
+        },
+        _ => Grandchildren {
+            call: Call::BulkStealRight(2),
+            keys: &[50],
+            first: &[10, 20, 30, 40],
+            below_first: &[1, 11, 21, 31, 41],
+            second: &[],
+            below_second: &[51],
+        },
     }
+}
+
+// Whether the node has such a child, which holds these keys over leaves of one key each.
+fn child_shows(node: &Node<u64, u64>, index: usize, keys: &[u64], below: &[u64]) -> bool {
+    index < node.child_count()
+        && shows(node.child(index), keys)
+        && children_show(node.child(index), below)
 }
 
 #[test]
 fn children_go_with_their_pairs(rt: HostRuntime) -> Result<(), Fail> {
-    for call in 0..5 {
+    for number in 0..5usize {
         let mut node = three_levels(&rt, rt.alloc())?;
-        let mut count = Count::new();
-        assert!(&rt; node.len() == 1 && node.child_count() == 2);
-        assert!(&rt; node.child(0).len() == 2 && node.child(0).child_count() == 3);
-        assert!(&rt; node.child(1).len() == 2 && node.child(1).child_count() == 3);
-        match call {
-            0 => node.merge(0, &mut count),
-            1 => node.steal_left(0, &mut count),
-            2 => node.steal_right(0, &mut count),
-            3 => node.bulk_steal_left(0, 2, &mut count),
-            _ => node.bulk_steal_right(0, 2, &mut count),
-        }
-        let [keys, first, below_first, second, below_second] = after_call(call);
-        assert_pairs(&rt, &node, keys);
-        assert_eq!(&rt; node.child_count(), keys.len() + 1);
-        assert_pairs(&rt, node.child(0), first);
-        assert_children(&rt, node.child(0), below_first);
-        if node.child_count() == 2 {
-            assert_pairs(&rt, node.child(1), second);
-            assert_children(&rt, node.child(1), below_second);
-        }
+        let row = row_of_grandchildren(number);
+        mend(&rt, &mut node, 0, row.call);
+        assert!(&rt; shows(&node, row.keys) && node.child_count() == row.keys.len() + 1);
+        assert!(&rt; child_shows(&node, 0, row.first, row.below_first));
+        assert!(&rt; number == 0 || child_shows(&node, 1, row.second, row.below_second));
     }
     Ok(())
 }
 
+// Moves what stands behind the first pair.
+fn move_behind_first<V: Drop>(rt: &impl Abort, node: &mut Node<u64, V>, other: &mut Node<u64, V>) {
+    assert!(rt; are_alike(node, other));
+    assert!(rt; 1 <= node.len() && node.len() <= CAPACITY && other.len() <= 1);
+    node.move_suffix(1, other, &mut Count::new());
+}
+
 #[test]
 fn moves_what_stands_after_a_place(rt: HostRuntime) -> Result<(), Fail> {
-    let mut count = Count::new();
-    let mut node = leaf(&rt, rt.alloc(), &LOW)?;
+    let mut node = leaf(&rt, rt.alloc(), LOW)?;
     let mut other = leaf(&rt, rt.alloc(), &[5])?;
-    assert!(&rt; node.is_leaf() && other.is_leaf() && node.len() == 4 && other.len() == 1);
-    node.move_suffix(1, &mut other, &mut count);
-    assert_pairs(&rt, &node, &[10]);
-    assert_pairs(&rt, &other, &[5, 20, 30, 40]);
+    move_behind_first(&rt, &mut node, &mut other);
+    assert!(&rt; shows(&node, &[10]) && shows(&other, &[5, 20, 30, 40]));
+    assert!(&rt; node.is_leaf() && other.is_leaf());
 
     let mut node = inner(&rt, rt.alloc(), &[10, 20, 30], &[1, 11, 21, 31])?;
     let mut other = inner(&rt, rt.alloc(), &[], &[15])?;
-    assert!(&rt; node.len() == 3 && node.child_count() == 4);
-    assert!(&rt; other.len() == 0 && other.child_count() == 1);
-    node.move_suffix(1, &mut other, &mut count);
-    assert_pairs(&rt, &node, &[10]);
-    assert_children(&rt, &node, &[1, 11]);
-    assert_pairs(&rt, &other, &[20, 30]);
-    assert_children(&rt, &other, &[15, 21, 31]);
+    move_behind_first(&rt, &mut node, &mut other);
+    assert!(&rt; shows(&node, &[10]) && children_show(&node, &[1, 11]));
+    assert!(&rt; shows(&other, &[20, 30]) && children_show(&other, &[15, 21, 31]));
     Ok(())
 }
 
 #[test]
 fn takes_out_and_replaces_a_pair(rt: HostRuntime) -> Result<(), Fail> {
     let mut count = Count::new();
-    let mut node = leaf(&rt, rt.alloc(), &LOW)?;
+    let mut node = leaf(&rt, rt.alloc(), LOW)?;
     assert!(&rt; node.is_leaf() && node.len() == 4);
-    assert_eq!(&rt; node.remove_leaf(1, &mut count), (20, 200));
-    assert_pairs(&rt, &node, &[10, 30, 40]);
-    assert_eq!(&rt; node.replace_pair(2, (45, 450), &mut count), (40, 400));
-    assert_pairs(&rt, &node, &[10, 30, 45]);
+    let gone = node.remove_leaf(1, &mut count);
+    assert!(&rt; is_tenfold(&gone, 20) && shows(&node, &[10, 30, 40]));
+    assert!(&rt; node.len() == 3);
+    let old = node.replace_pair(2, (45, 450), &mut count);
+    assert!(&rt; is_tenfold(&old, 40) && shows(&node, &[10, 30, 45]));
     Ok(())
 }
 
@@ -376,15 +506,12 @@ fn tokens<'a>(
     rt: &impl Abort,
     alloc: Global,
     first: u64,
-    n: usize,
+    n: u64,
     drops: &'a Cell<u64>,
 ) -> Result<Box<Node<u64, Token<'a>>>, TryReserveError> {
     let mut node = Node::try_leaf(alloc)?;
     for i in 0..n {
-        let len = node.len();
-        assert!(rt; len < CAPACITY && node.is_leaf());
-        let key = first.wrapping_add(i as u64);
-        node.insert_leaf(len, (key, Token { drops }), &mut Count::new());
+        push(rt, &mut node, first.wrapping_add(i), Token { drops });
     }
     Ok(node)
 }
@@ -394,54 +521,58 @@ fn a_split_drops_no_pair(rt: HostRuntime) -> Result<(), Fail> {
     let drops = Cell::new(0);
     let mut node = tokens(&rt, rt.alloc(), 0, 11, &drops)?;
     let right = Node::try_leaf(rt.alloc())?;
-    assert!(&rt; node.len() == 11 && node.is_leaf());
     let pair = (11, Token { drops: &drops });
-    let (up, right) = node.split_leaf(11, pair, right, &mut Count::new());
-    assert_eq!(&rt; drops.get(), 0);
+    let (up, right) = split_leaf(&rt, &mut node, 11, pair, right);
+    assert!(&rt; drops.get() == 0);
     drop(up);
-    assert_eq!(&rt; drops.get(), 1);
+    assert!(&rt; drops.get() == 1);
     drop(node);
-    assert_eq!(&rt; drops.get(), 7);
+    assert!(&rt; drops.get() == 7);
     drop(right);
-    assert_eq!(&rt; drops.get(), 12);
+    assert!(&rt; drops.get() == 12);
     Ok(())
 }
 
-// One of the calls on a node over leaves of 4 and 5 pairs: the ten pairs are dropped with the node, and none before.
-fn ten_pairs(rt: &impl Abort, alloc: Global, call: u8) -> Result<(), Fail> {
-    let drops = Cell::new(0);
-    let mut count = Count::new();
-    let left = tokens(rt, alloc, 0, 4, &drops)?;
-    let mut node: Box<Node<u64, Token>> = Node::try_inner(alloc)?;
+// A node over leaves of 4 and 5 pairs.
+fn ten_pairs<'a>(
+    rt: &impl Abort,
+    alloc: Global,
+    drops: &'a Cell<u64>,
+) -> Result<Box<Node<u64, Token<'a>>>, TryReserveError> {
+    let left = tokens(rt, alloc, 0, 4, drops)?;
+    let right = tokens(rt, alloc, 5, 5, drops)?;
+    let mut node = Node::try_inner(alloc)?;
     node.adopt(left);
-    let right = tokens(rt, alloc, 5, 5, &drops)?;
-    assert_eq!(rt; node.len(), 0);
-    node.insert_inner(0, (4, Token { drops: &drops }), right, &mut count);
-    assert!(rt; node.len() == 1 && node.child_count() == 2);
-    assert!(rt; node.child(0).is_leaf() && node.child(1).is_leaf());
-    assert!(rt; node.child(0).len() == 4 && node.child(1).len() == 5);
-    match call {
-        0 => node.merge(0, &mut count),
-        1 => node.steal_left(0, &mut count),
-        2 => node.steal_right(0, &mut count),
-        3 => node.bulk_steal_left(0, 3, &mut count),
-        _ => node.bulk_steal_right(0, 3, &mut count),
-    }
-    assert_eq!(rt; drops.get(), 0);
-    drop(node);
-    assert_eq!(rt; drops.get(), 10);
-    Ok(())
+    push_child(rt, &mut node, 4, Token { drops }, right);
+    Ok(node)
 }
 
+// The ten pairs are dropped with the node, and none before.
 #[test]
 fn a_merge_and_thefts_drop_no_pair(rt: HostRuntime) -> Result<(), Fail> {
-    for call in 0..5 {
-        ten_pairs(&rt, rt.alloc(), call)?;
+    for number in 0..5usize {
+        let drops = Cell::new(0);
+        let mut node = ten_pairs(&rt, rt.alloc(), &drops)?;
+        let call = match number {
+            0 => Call::Merge,
+            1 => Call::StealLeft,
+            2 => Call::StealRight,
+            3 => Call::BulkStealLeft(3),
+            _ => Call::BulkStealRight(3),
+        };
+        mend(&rt, &mut node, 0, call);
+        assert!(&rt; drops.get() == 0);
+        drop(node);
+        assert!(&rt; drops.get() == 10);
     }
     Ok(())
 }
 
-// A leaf of one pair and an inner node over it, with the number of the pairs that were made.
+fn has_one_child_alone<V: Drop>(node: &Node<u64, V>) -> bool {
+    node.child_count() == 1 && !node.is_leaf() && node.len() == 0
+}
+
+// An inner node over two leaves of one pair, with the number of the pairs that were made.
 fn one_of_each(
     rt: &impl Abort,
     alloc: Global,
@@ -450,13 +581,12 @@ fn one_of_each(
 ) -> Result<(), TryReserveError> {
     let below = tokens(rt, alloc, 0, 1, drops)?;
     *made = 1;
-    let mut node: Box<Node<u64, Token>> = Node::try_inner(alloc)?;
+    let mut node = Node::try_inner(alloc)?;
     node.adopt(below);
-    assert!(rt; node.child_count() == 1 && !node.is_leaf());
+    assert!(rt; has_one_child_alone(&node));
     let right = tokens(rt, alloc, 2, 1, drops)?;
     *made = 2;
-    assert_eq!(rt; node.len(), 0);
-    node.insert_inner(0, (1, Token { drops }), right, &mut Count::new());
+    push_child(rt, &mut node, 1, Token { drops }, right);
     *made = 3;
     Ok(())
 }
@@ -467,8 +597,8 @@ fn makes_an_inner_node(rt: HostRuntime) {
     let drops = Cell::new(0);
     let mut made = 0;
     match one_of_each(&rt, rt.alloc(), &drops, &mut made) {
-        Ok(()) => assert_eq!(&rt; made, 3),
-        Err(refused) => assert_eq!(&rt; refused, TryReserveError::AllocError),
+        Ok(()) => assert!(&rt; made == 3),
+        Err(refused) => assert!(&rt; matches!(refused, TryReserveError::AllocError)),
     }
-    assert_eq!(&rt; drops.get(), made);
+    assert!(&rt; drops.get() == made);
 }

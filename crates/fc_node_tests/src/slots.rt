@@ -1,7 +1,7 @@
 // Each item is dropped once, by a type that counts its drops.
 use fc_base::Count;
 use fc_slots::slots::Slots;
-use std::alloc::{AllocError, Global};
+use std::alloc::Global;
 use std::cell::Cell;
 use std::process::Abort;
 use std::test::Fail;
@@ -19,30 +19,40 @@ impl Drop for Token<'_> {
     }
 }
 
+// Puts the item behind the others.
+fn push<T: Drop>(rt: &impl Abort, slots: &mut Slots<T, 4>, item: T) {
+    let len = slots.len();
+    assert!(rt; len < 4);
+    slots.insert(len, item, &mut Count::new());
+}
+
 // A list of `n` items that are numbered from `first` on.
 fn list<'a>(
     rt: &impl Abort,
     alloc: Global,
     first: u64,
-    n: usize,
+    n: u64,
     drops: &'a Cell<u64>,
 ) -> Result<Slots<Token<'a>, 4>, Fail> {
     let mut slots = Slots::try_new(alloc)?;
     for i in 0..n {
-        let len = slots.len();
-        assert!(rt; len < 4);
-        let id = first.wrapping_add(i as u64);
-        slots.insert(len, Token { id, drops }, &mut Count::new());
+        let id = first.wrapping_add(i);
+        push(rt, &mut slots, Token { id, drops });
     }
     Ok(slots)
 }
 
-// The list holds the items of these numbers.
-fn assert_ids(rt: &impl Abort, slots: &Slots<Token<'_>, 4>, ids: &[u64]) {
-    assert_eq!(rt; slots.len(), ids.len());
-    for i in 0..ids.len() {
-        assert_eq!(rt; slots.get(i).id, ids[i]);
+// Whether the list holds the items of these numbers.
+fn has_ids(slots: &Slots<Token<'_>, 4>, ids: &[u64]) -> bool {
+    if slots.len() != ids.len() {
+        return false;
     }
+    for i in 0..ids.len() {
+        if slots.get(i).id != ids[i] {
+            return false;
+        }
+    }
+    true
 }
 
 #[test]
@@ -50,9 +60,9 @@ fn a_dropped_list_drops_each_item_once(rt: HostRuntime) -> Result<(), Fail> {
     for n in [0, 1, 4] {
         let drops = Cell::new(0);
         let slots = list(&rt, rt.alloc(), 0, n, &drops)?;
-        assert_eq!(&rt; drops.get(), 0);
+        assert!(&rt; drops.get() == 0);
         drop(slots);
-        assert_eq!(&rt; drops.get(), n as u64);
+        assert!(&rt; drops.get() == n);
     }
     Ok(())
 }
@@ -61,12 +71,11 @@ fn a_dropped_list_drops_each_item_once(rt: HostRuntime) -> Result<(), Fail> {
 fn a_removed_or_replaced_item_is_handed_out(rt: HostRuntime) -> Result<(), Fail> {
     let drops = Cell::new(0);
     let mut slots = list(&rt, rt.alloc(), 0, 4, &drops)?;
-    assert_eq!(&rt; slots.len(), 4);
+    assert!(&rt; slots.len() == 4);
     let gone = slots.remove(1, &mut Count::new());
     assert!(&rt; gone.id == 1 && drops.get() == 0);
     drop(gone);
-    assert_eq!(&rt; drops.get(), 1);
-    assert_ids(&rt, &slots, &[0, 2, 3]);
+    assert!(&rt; drops.get() == 1 && has_ids(&slots, &[0, 2, 3]));
     let token = Token {
         id: 9,
         drops: &drops,
@@ -74,37 +83,50 @@ fn a_removed_or_replaced_item_is_handed_out(rt: HostRuntime) -> Result<(), Fail>
     let gone = slots.replace(2, token, &mut Count::new());
     assert!(&rt; gone.id == 3 && drops.get() == 1);
     drop(gone);
-    assert_ids(&rt, &slots, &[0, 2, 9]);
+    assert!(&rt; has_ids(&slots, &[0, 2, 9]));
     drop(slots);
-    assert_eq!(&rt; drops.get(), 5);
+    assert!(&rt; drops.get() == 5);
     Ok(())
+}
+
+// Moves three of four items into a list of one.
+fn move_three<T: Drop>(
+    rt: &impl Abort,
+    slots: &mut Slots<T, 4>,
+    other: &mut Slots<T, 4>,
+    call: usize,
+) {
+    let mut count = Count::new();
+    assert!(rt; slots.len() == 4 && other.len() == 1);
+    match call {
+        0 => slots.move_tail(1, other, &mut count),
+        1 => slots.move_front(3, other, &mut count),
+        _ => slots.move_back(3, other, &mut count),
+    }
+}
+
+// The numbers of the items that a move leaves, and of those in the other list.
+fn moved(call: usize) -> (&'static [u64], &'static [u64]) {
+    match call {
+        0 => (&[0], &[7, 1, 2, 3]),
+        1 => (&[3], &[7, 0, 1, 2]),
+        _ => (&[0], &[1, 2, 3, 7]),
+    }
 }
 
 #[test]
 fn moved_items_are_dropped_by_the_list_that_has_them(rt: HostRuntime) -> Result<(), Fail> {
-    for call in 0..3 {
+    for call in 0..3usize {
         let drops = Cell::new(0);
-        let mut count = Count::new();
         let mut slots = list(&rt, rt.alloc(), 0, 4, &drops)?;
         let mut other = list(&rt, rt.alloc(), 7, 1, &drops)?;
-        assert!(&rt; slots.len() == 4 && other.len() == 1);
-        match call {
-            0 => slots.move_tail(1, &mut other, &mut count),
-            1 => slots.move_front(3, &mut other, &mut count),
-            _ => slots.move_back(3, &mut other, &mut count),
-        }
-        assert_eq!(&rt; drops.get(), 0);
-        let (kept, moved) = match call {
-            0 => ([0], [7, 1, 2, 3]),
-            1 => ([3], [7, 0, 1, 2]),
-            _ => ([0], [1, 2, 3, 7]),
-        };
-        assert_ids(&rt, &slots, &kept);
-        assert_ids(&rt, &other, &moved);
+        move_three(&rt, &mut slots, &mut other, call);
+        let (kept, gone) = moved(call);
+        assert!(&rt; drops.get() == 0 && has_ids(&slots, kept) && has_ids(&other, gone));
         drop(slots);
-        assert_eq!(&rt; drops.get(), 1);
+        assert!(&rt; drops.get() == 1);
         drop(other);
-        assert_eq!(&rt; drops.get(), 5);
+        assert!(&rt; drops.get() == 5);
     }
     Ok(())
 }
@@ -114,6 +136,6 @@ fn what_is_written_to_a_lent_item_stays(rt: HostRuntime) -> Result<(), Fail> {
     let mut slots: Slots<u64, 4> = Slots::try_new(rt.alloc())?;
     slots.insert(0, 5, &mut Count::new());
     *slots.get_mut(0) = 3;
-    assert_eq!(&rt; *slots.get(0), 3);
+    assert!(&rt; *slots.get(0) == 3);
     Ok(())
 }

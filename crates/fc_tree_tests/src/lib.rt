@@ -7,3 +7,5 @@ mod insertion;
 mod removal;
 #[cfg(test)]
 mod search;
+#[cfg(test)]
+mod trees;

@@ -1,5 +1,6 @@
 //! Entries: what a search found is written, filled or emptied with no further comparison.
 use super::*;
+use crate::numbers::has;
 use fc_map::map::Entry;
 
 // The value at the number's entry, made by a call that is counted where there is none.
@@ -25,16 +26,21 @@ fn one_more_or_42(map: &mut BTreeMap<u64, u64>, number: u64) -> Result<u64, TryR
     )
 }
 
+fn count_letter(map: &mut BTreeMap<char, u64>, letter: char) -> Result<(), TryReserveError> {
+    let count = map.try_entry(letter)?.or_try_insert(0)?;
+    *count = count.wrapping_add(1);
+    Ok(())
+}
+
 #[test]
 fn letters_are_counted(rt: HostRuntime) -> Result<(), Fail> {
     let mut map = BTreeMap::new(rt.alloc());
     for letter in ['a', 'b', 'a', 'c', 'a', 'b'] {
-        let count = map.try_entry(letter)?.or_try_insert(0u64)?;
-        *count = count.wrapping_add(1);
+        count_letter(&mut map, letter)?;
     }
-    for (letter, count) in [('a', 3), ('b', 2), ('c', 1)] {
-        assert_eq!(rt; map.get(&letter).copied(), Some(count));
-    }
+    assert!(rt; is_lent(map.get(&'a'), 3));
+    assert!(rt; is_lent(map.get(&'b'), 2));
+    assert!(rt; is_lent(map.get(&'c'), 1));
     assert_eq!(rt; map.len(), 3);
     Ok(())
 }
@@ -44,7 +50,7 @@ fn a_value_is_modified_or_else_inserted(rt: HostRuntime) -> Result<(), Fail> {
     let mut map = BTreeMap::new(rt.alloc());
     assert_eq!(rt; one_more_or_42(&mut map, 1)?, 42);
     assert_eq!(rt; one_more_or_42(&mut map, 1)?, 43);
-    assert_eq!(rt; map.get(&1).copied(), Some(43));
+    assert!(rt; has(&map, 1, 43));
     Ok(())
 }
 
@@ -73,11 +79,36 @@ fn an_occupied_entry_gives_the_old_value_and_the_pair(rt: HostRuntime) -> Result
             assert_eq!(rt; entry.insert(15), 12);
             assert_eq!(rt; *entry.get(), 15);
             *entry.get_mut() = 16;
-            assert_eq!(rt; entry.remove_entry(), (3, 16));
+            let (key, value) = entry.remove_entry();
+            assert!(rt; key == 3 && value == 16);
         }
     }
     assert!(rt; map.is_empty());
     Ok(())
+}
+
+// Fills the gap at the vacant number, and writes 7 to the value where it was put.
+fn fills(map: &mut BTreeMap<u64, u64>, number: u64) -> Result<bool, TryReserveError> {
+    match map.try_entry(number)? {
+        Entry::Vacant(entry) => {
+            let is_key = *entry.key() == number;
+            let value = entry.try_insert(0)?;
+            let is_put = *value == 0;
+            *value = 7;
+            Ok(is_key && is_put)
+        }
+        Entry::Occupied(_entry) => Ok(false),
+    }
+}
+
+// Whether the map has the eleven even numbers from 2 on, each with its place.
+fn has_even_ones(map: &BTreeMap<u64, u64>) -> bool {
+    for below in 0..11u64 {
+        if !has(map, 2 * below + 2, below) {
+            return false;
+        }
+    }
+    true
 }
 
 // Each gap of a full leaf is filled, on a map of its own, and the new value written where it was put.
@@ -88,20 +119,8 @@ fn each_gap_of_a_full_leaf_is_filled(rt: HostRuntime) -> Result<(), Fail> {
         for below in 0..11u64 {
             map.try_insert(2 * below + 2, below)?;
         }
-        match map.try_entry(2 * gap + 1)? {
-            Entry::Vacant(entry) => {
-                assert_eq!(rt; *entry.key(), 2 * gap + 1);
-                let value = entry.try_insert(0)?;
-                assert_eq!(rt; *value, 0);
-                *value = 7;
-            }
-            Entry::Occupied(_entry) => assert!(rt; false),
-        }
-        assert_eq!(rt; map.get(&(2 * gap + 1)).copied(), Some(7));
-        assert_eq!(rt; map.len(), 12);
-        for below in 0..11u64 {
-            assert_eq!(rt; map.get(&(2 * below + 2)).copied(), Some(below));
-        }
+        assert!(rt; fills(&mut map, 2 * gap + 1)? && has(&map, 2 * gap + 1, 7));
+        assert!(rt; map.len() == 12 && has_even_ones(&map));
     }
     Ok(())
 }
@@ -144,11 +163,10 @@ fn a_dropped_entry_drops_its_key_alone(rt: HostRuntime) -> Result<(), Fail> {
     let (first, second) = (no_drops(), no_drops());
     let mut map = BTreeMap::new(rt.alloc());
     drop(entry_of(&mut map, &first)?);
-    assert_eq!(rt; (first.key.get(), map.len()), (1, 0));
+    assert!(rt; first.key.get() == 1 && map.len() == 0);
     assert!(rt; !insert_tracked(&mut map, 7, &first));
     drop(entry_of(&mut map, &second)?);
-    assert_eq!(rt; (second.key.get(), map.len()), (1, 1));
-    assert_eq!(rt; (first.key.get(), first.value.get()), (1, 0));
+    assert!(rt; second.key.get() == 1 && map.len() == 1 && were_dropped(&first, 1, 0));
     Ok(())
 }
 
@@ -177,16 +195,8 @@ fn a_refused_entry_calls_its_closure_once_and_drops_the_value(rt: HostRuntime) -
     drop(held);
     assert!(rt; is_refused);
     assert_eq!(rt; calls.get(), 1);
-    assert_eq!(rt; (refused.key.get(), refused.value.get()), (1, 1));
-    assert_eq!(rt; map.len(), 11);
+    assert!(rt; were_dropped(&refused, 1, 1) && map.len() == 11);
     Ok(())
-}
-
-fn no_drops() -> Drops {
-    Drops {
-        key: Cell::new(0),
-        value: Cell::new(0),
-    }
 }
 
 // The numbers from 1 on, whose drops are counted together; `None` where memory was refused.
@@ -244,8 +254,7 @@ fn a_refused_entry_leaves_every_pair(rt: HostRuntime) -> Result<(), Fail> {
             .is_err();
         assert_eq!(rt; calls.get(), 1);
         let (length, dropped) = if is_refused { (last, 1) } else { (last + 1, 0) };
-        assert_eq!(rt; (new.key.get(), new.value.get()), (dropped, dropped));
-        assert_eq!(rt; (kept.key.get(), kept.value.get()), (0, 0));
+        assert!(rt; were_dropped(&new, dropped, dropped) && were_dropped(&kept, 0, 0));
         assert!(rt; has_up_to(&map, length, &sought.key));
         if is_refused {
             return Ok(println!(rt; "refused at {last}")?);

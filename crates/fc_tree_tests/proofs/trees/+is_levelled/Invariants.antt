@@ -2,7 +2,7 @@ use Rattle.std.proofs.Common.{◌-◌, take}
 use Rattle.std.specs.List.{AllByRecursion}
 use Rattle.fc_node.specs.Node.{children_of}
 use Rattle.fc_node.proofs.Pairs.{IsBelow}
-use Rattle.fc_tree_tests.proofs.insertion.+is_levelled.Given as goal
+use Rattle.fc_tree_tests.proofs.trees.+is_levelled.Given as goal
 
 abbrev pub decreases-is_levelled : goal.decreases-is_levelled
 decreases-is_levelled l = l.height
