@@ -1,5 +1,5 @@
 //! The pair at a place of a tree, lent for reading, and its value for writing.
-ghost use Rattle.std.specs.Prelude.{◌≡◌, ℕ, ◌<◌, ◌≤◌, ◌^◌, length, slice_get, IsSome};
+ghost use Rattle.std.specs.Prelude.{◌≡◌, ℕ, suc, ◌<◌, ◌≤◌, length, slice_get, IsSome};
 ghost use Rattle.std.specs.Option.{option_map};
 ghost use Rattle.std.specs.Borrow.{sem};
 ghost use Rattle.fc_node.specs.Node.{own_pairs};
@@ -8,6 +8,7 @@ ghost use Rattle.fc_search.specs.Written.{lends_content, lends_value, lends_at, 
 
 use fc_node::node::Node;
 use fc_node::path::Path;
+use std::marker::PhantomData;
 
 /// The pair at the end of the path.
 pub fn pair_at<'a, K, V>(root: &'a Node<K, V>, path: &Path) -> &'a (K, V)
@@ -70,16 +71,35 @@ fn step<'a, D: Descend, K, V>(node: &'a mut Node<K, V>, path: &[usize]) -> &'a m
     }
 }
 
-// The whole way.
-struct Down;
+// No step.
+struct Here;
 
-impl Descend for Down {
-    ghost bound = { 2 ^ 64 };
+impl Descend for Here {
+    ghost bound = { 0 };
 
-    fn value_mut<'a, K, V>(node: &'a mut Node<K, V>, path: &[usize]) -> &'a mut V {
-        step::<Down, K, V>(node, path)
+    fn value_mut<'a, K, V>(_node: &'a mut Node<K, V>, _path: &[usize]) -> &'a mut V {
+        unreachable!()
     }
 }
+
+// One step more than D takes.
+struct Below<D: Descend> {
+    rest: PhantomData<D>,
+}
+
+impl<D: Descend> Descend for Below<D> {
+    ghost bound = { suc D.bound };
+
+    fn value_mut<'a, K, V>(node: &'a mut Node<K, V>, path: &[usize]) -> &'a mut V {
+        step::<D, K, V>(node, path)
+    }
+}
+
+type FiveBelow<D> = Below<Below<Below<Below<Below<D>>>>>;
+
+// As many steps as a path may have. A type for each level stands for a recursion, of which a value can't be lent without a proof
+// by hand.
+type Down = Below<FiveBelow<FiveBelow<FiveBelow<FiveBelow<FiveBelow<Here>>>>>>;
 
 /// The value of the pair at the end of the path, lent for writing: the tree ends with what is written in its place.
 pub fn value_mut<'a, K, V>(root: &'a mut Node<K, V>, path: &Path) -> &'a mut V

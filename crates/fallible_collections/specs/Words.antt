@@ -1,0 +1,21 @@
+-- The words of the contracts, for a crate that names `fallible_collections` alone.
+-- lists of pairs
+pub use Rattle.fc_base.specs.Ascending.{IsAscending}
+pub use Rattle.fc_base.specs.Parts.{below, above, at, value_at}
+pub use Rattle.fc_base.specs.OneKey.{put, cut}
+pub use Rattle.fc_base.specs.Ranges.{bound_now, starts, stops, is_range, within}
+pub use Rattle.fc_base.specs.Growth.{growth_error, MayGrowRefuse}
+pub use Rattle.fc_base.specs.Copies.{IsExact}
+-- maps, their entries and walks
+pub use Rattle.fc_map.specs.Entries.{Map, entries, IsSoundMap, passed_in, now_value, now_pair}
+pub use Rattle.fc_map.specs.Counts.{IsBounded}
+pub use Rattle.fc_map.specs.LendsKey.{lends_get, lent_value, written_at}
+pub use Rattle.fc_map.specs.Entry.{entry_map, entry_map_ref, entry_key, entry_pair, entry_value, list_with, list_without, IsWritten}
+pub use Rattle.fc_map.specs.Walks.{deref_pair, keys_of, values_of}
+pub use Rattle.fc_map.specs.Writing.{Stretch, whole, starting, wrote_first, wrote_last, wrote, wrote_all, set_value}
+pub use Rattle.fc_map.specs.Stretches.{range_map_ref, stretch, iter_map_ref, iter_stretch, IsFirstValue, IsLastValue, IsFirstPair, IsLastPair}
+-- commands
+pub use Rattle.fc_command.specs.Step.{IsNew, Step, Runs}
+pub use Rattle.fc_command.specs.Spoken.{Served, Spoken, ending_of}
+pub use Rattle.fc_lines.specs.Grammar.{command_of}
+pub use Rattle.fc_lines.specs.Texts.{text_of}
