@@ -216,7 +216,7 @@ fn an_empty_map_compares_nothing(rt: HostRuntime) -> Result<(), Fail> {
     Ok(())
 }
 
-// Inserts the text at 37; the old one, of which the tests know only what they see.
+// An insertion, of which the tests know only what it answers.
 fn insert_text(
     map: &mut BTreeMap<u64, &'static str>,
     number: u64,
