@@ -1,4 +1,5 @@
 -- The laws of lists of pairs: what stands at each key once a pair is put or cut, how many pairs there are then, the first and the last pair, and the part between two bounds.
+-- A caller names one on a function, as `#[tactic(auto, using(fc_base::proofs::Laws::value_at_put))]`, or cites it in an answer.
 use Rattle.std.proofs.Common.{◌≡◌, suc, ◌+◌, ◌-◌, Bool, true, false, cond, List, [], ◌∷◌, ◌++◌, length, take, drop, Option, Some, None, IsSome, IsTrue, All, refl, sym, ap, ◌∙◌, subst, arith, append-nil, length-append, length-take-le, take-append-drop}
 use Rattle.std.specs.Prelude.{◌&&◌, unwrap_or}
 use Rattle.std.specs.List.{AllByRecursion, filter, find}
@@ -20,6 +21,7 @@ use Rattle.fc_base.specs.Ranges.{starts, stops, is_range, within}
 use Rattle.fc_base.proofs.Within.{between_tests, not_past}
 use Rattle.fc_base.proofs.AscendingFacts.{over_one, under_one, all_map, all_below, all_above, at_key, asc_filter, asc_cut, asc_put}
 
+-- the one answer that is equal
 is_equal : (r : Ordering) → is_eq r ≡ true → r ≡ Equal
 is_equal Less h = absurd cc
 is_equal Equal h = refl
@@ -27,6 +29,7 @@ is_equal Greater h = absurd cc
 
 -- filters and searches by a test
 module _ {X : Type 0} (p : X → Bool) where
+  -- a filter that keeps all, one that keeps nothing, a search that finds nothing, and one in a filtered list
   kept : (s : List X) → AllByRecursion (λ x. p x ≡ true) s → filter p s ≡ s
   kept [] a = refl
   kept (x ∷ s) a = rw a.0 (ap (λ zs. x ∷ zs) (kept s a.1))
@@ -93,7 +96,10 @@ module _ {K V : Type 0} (cmp : K → K → Ordering) where
 
   -- what stands at another key is where it was, whatever stands between what is below and above k
   stays : (s between : List (K × V)) (k j : K) → IsTotalOrder cmp → ¬ (cmp j k ≡ Equal) → at cmp between j ≡ None → at cmp (below cmp s k ++ (between ++ above cmp s k)) j ≡ at cmp s j
-  stays s between k j total other none = find-append test (below cmp s k) (between ++ above cmp s k) ∙ ap (option_or (at cmp (below cmp s k) j)) (find-append test between (above cmp s k) ∙ ap (λ o. option_or o (at cmp (above cmp s k) j)) none) ∙ go (cmp j k) refl
+  stays s between k j total other none =
+      find-append test (below cmp s k) (between ++ above cmp s k)
+      ∙ ap (option_or (at cmp (below cmp s k) j)) (find-append test between (above cmp s k) ∙ ap (λ o. option_or o (at cmp (above cmp s k) j)) none)
+      ∙ go (cmp j k) refl
     where
       test : K × V → Bool
       test e = is_eq (cmp e.0 j)
@@ -177,6 +183,7 @@ module _ {K V : Type 0} (cmp : K → K → Ordering) where
   pub ascending_cut : (s : List (K × V)) (k : K) → IsTotalOrder cmp → IsAscending cmp s → IsAscending cmp (cut cmp s k)
   ascending_cut s k total a = asc_cut cmp total s a k
 
+  -- what stands behind a pair whose key is not below k is above k
   later_above : (e : K × V) (s : List (K × V)) (k : K) → IsTotalOrder cmp → IsAscending cmp (e ∷ s) → (r : Ordering) → cmp e.0 k ≡ r → is_lt r ≡ false → AllByRecursion (λ x. cmp x.0 k ≡ Greater) s
   later_above e s k total a Less h n = absurd cc
   later_above e s k total a Equal h n = all_map _ _ (λ x l. over_one cmp total k x.0 (sym (total.congr e.0 k x.0 h) ∙ l)) s a.0
@@ -225,6 +232,7 @@ module _ {K V : Type 0} (cmp : K → K → Ordering) where
   pub cut_put_equal : (s : List (K × V)) (k : K) (v : V) (j : K) → IsTotalOrder cmp → IsAscending cmp s → cmp j k ≡ Equal → at cmp s k ≡ None → cut cmp (put cmp s k v) j ≡ s
   cut_put_equal s k v j total a same none = cut_equal (put cmp s k v) k j total same ∙ cut_put_new s k v total a none
 
+  -- how many pairs a cut and a put leave
   length_cut : (s : List (K × V)) (k : K) → IsTotalOrder cmp → IsAscending cmp s → length s ≡ length (cut cmp s k) + length (option_to_list (at cmp s k))
   length_cut s k total a =
       let e = ap length (sym (parts_joined s k total a)) ∙ length-append (below cmp s k) (option_to_list (at cmp s k) ++ above cmp s k) in
@@ -255,6 +263,7 @@ module _ {K V : Type 0} (cmp : K → K → Ordering) where
   pub length_put_new : (s : List (K × V)) (k : K) (v : V) → IsTotalOrder cmp → IsAscending cmp s → at cmp s k ≡ None → length (put cmp s k v) ≡ length s + 1
   length_put_new s k v total a none = length_put s k v ∙ ap (λ n. n + 1) (length_cut_absent s k total a none)
 
+  -- what holds of all pairs of two lists joined
   both_parts : (P : K × V → Type 0) (s t : List (K × V)) → AllByRecursion P (s ++ t) → AllByRecursion P s × AllByRecursion P t
   both_parts P [] t a = (tt, a)
   both_parts P (e ∷ s) t a = let i = both_parts P s t a.1 in ((a.0, i.0), i.1)
