@@ -3,3 +3,7 @@
 
 #[cfg(test)]
 mod command;
+#[cfg(test)]
+mod copies;
+#[cfg(test)]
+mod devices;
