@@ -1,5 +1,5 @@
 -- A descent to the pair at a place, and what a tree is once a value is written there.
-use Rattle.std.proofs.Common.{◌≡◌, ℕ, zero, suc, ◌+◌, ◌-◌, ◌<◌, List, [], ◌∷◌, length, take, drop, get_or, slice_get, slice_set, Some, Box, refl, sym, ap, subst, ◌∙◌, arith, add-one}
+use Rattle.std.proofs.Common.{◌≡◌, ℕ, zero, suc, ◌+◌, ◌-◌, ◌<◌, ◌≤◌, List, [], ◌∷◌, length, take, drop, get_or, slice_get, slice_set, Some, Box, refl, sym, ap, subst, ◌∙◌, arith, add-one}
 use Rattle.std.specs.Option.{option_map}
 use Rattle.std.specs.Box.{with_value as set_box}
 use Rattle.std.specs.declared.alloc.Global.{Global}
@@ -52,6 +52,12 @@ module _ {K V : Type 0} where
 
   pub own_there : (n : Node K V) (i : ℕ) (p : K × V) → i < length (own_pairs n) → p ≡ get_or (own_pairs n) i p → slice_get (own_pairs n) i ≡ Some p
   own_there n i p h e = let x = item_there (own_pairs n) i h in x.2 ∙ ap Some (sym (x.1 p) ∙ sym e)
+
+  -- a place that is no further down has one step
+  pub one_step_place : (path : List ℕ) (n : Node K V) → IsPlace path n → length path ≤ 1 → length path ≡ 1
+  one_step_place [] n p le = absurd p
+  one_step_place (i ∷ []) n p le = refl
+  one_step_place (i ∷ j ∷ path) n p le = absurd (omega arith)
 
   pub here_pair : (path : List ℕ) (n : Node K V) → length path ≡ 1 → place_pair path n ≡ slice_get (own_pairs n) (get_or path 0 0)
   here_pair [] n e = absurd (omega arith)

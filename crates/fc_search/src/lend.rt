@@ -44,62 +44,54 @@ fn own_value<K, V>(node: &mut Node<K, V>, index: usize) -> &mut V
     &mut node.pairs.get_mut(index).1
 }
 
-// A descent along a path that has fewer steps than a bound.
+// A descent along a path of at most so many steps.
 trait Descend {
-    ghost bound: { ℕ };
+    ghost steps: { ℕ };
 
     // The value of the pair at the end of the path.
     fn value_mut<'a, K, V>(node: &'a mut Node<K, V>, path: &[usize]) -> &'a mut V
         requires place { IsPlace path.now node.old }
-        requires bounded { length path.now < bound }
+        requires bounded { length path.now ≤ steps }
         ensures* writes_back { sem 𝓛 (lends_at K.row V.row node.entry path.now result) }
         ensures value { option_map (λ e. e.1) (place_pair path.now node.old) ≡ Some result.now };
 }
 
-// One step, and the rest of the way by D.
-fn step<'a, D: Descend, K, V>(node: &'a mut Node<K, V>, path: &[usize]) -> &'a mut V
-    requires place { IsPlace path.now node.old }
-    requires bounded { length path.now ≤ D.bound }
-    ensures* writes_back { sem 𝓛 (lends_at K.row V.row node.entry path.now result) }
-    ensures value { option_map (λ e. e.1) (place_pair path.now node.old) ≡ Some result.now }
-{
-    let place = path[0];
-    if path.len() == 1 {
-        own_value(node, place)
-    } else {
-        D::value_mut(content(&mut node.children).get_mut(place), &path[1..])
-    }
-}
-
-// No step.
+// To a pair of the node itself.
 struct Here;
 
 impl Descend for Here {
-    ghost bound = { 0 };
+    ghost steps = { 1 };
 
-    fn value_mut<'a, K, V>(_node: &'a mut Node<K, V>, _path: &[usize]) -> &'a mut V {
-        unreachable!()
+    fn value_mut<'a, K, V>(node: &'a mut Node<K, V>, path: &[usize]) -> &'a mut V {
+        own_value(node, path[0])
     }
 }
 
-// One step more than D takes.
+// One step further than D goes.
 struct Below<D: Descend> {
     rest: PhantomData<D>,
 }
 
 impl<D: Descend> Descend for Below<D> {
-    ghost bound = { suc D.bound };
+    ghost steps = { suc D.steps };
 
     fn value_mut<'a, K, V>(node: &'a mut Node<K, V>, path: &[usize]) -> &'a mut V {
-        step::<D, K, V>(node, path)
+        let place = path[0];
+        if path.len() == 1 {
+            own_value(node, place)
+        } else {
+            D::value_mut(content(&mut node.children).get_mut(place), &path[1..])
+        }
     }
 }
 
-type FiveBelow<D> = Below<Below<Below<Below<Below<D>>>>>;
+type FourBelow<D> = Below<Below<Below<Below<D>>>>;
+
+type TwelveBelow<D> = FourBelow<FourBelow<FourBelow<D>>>;
 
 // As many steps as a path may have. A type for each level stands for a recursion, of which a value can't be lent without a proof
 // by hand.
-type Down = Below<FiveBelow<FiveBelow<FiveBelow<FiveBelow<FiveBelow<Here>>>>>>;
+type Down = TwelveBelow<TwelveBelow<Here>>;
 
 /// The value of the pair at the end of the path, lent for writing: the tree ends with what is written in its place.
 pub fn value_mut<'a, K, V>(root: &'a mut Node<K, V>, path: &Path) -> &'a mut V

@@ -1,7 +1,7 @@
 use Rattle.std.proofs.Common.{refl, ap, ◌∙◌}
 use Rattle.std.specs.Option.{option_map}
 use Rattle.fc_search.proofs.WrittenFacts.{here_pair, here_written, below_pair, below_written, child_in}
-use Rattle.fc_search.proofs.lend.step.Goals as goal
+use Rattle.fc_search.proofs.lend.BelowDescend.value_mut.Goals as goal
 
 pub returns-then-path-eq1 : goal.returns-then-path-eq1
 returns-then-path-eq1 g c = (
