@@ -26,6 +26,7 @@ pub fn raise(prices: &mut BTreeMap<u64, u64>) -> u64 {
             *price = price.saturating_add(1); // one value is lent at a time
         }
     }
+    drop(walk); // the map is free again
     let mut highest = 0;
     for (_, price) in prices.range((Bound::Included(&10), Bound::Unbounded)) {
         highest = highest.max(*price); // of the keys from 10 on
