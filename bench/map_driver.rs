@@ -1,15 +1,17 @@
 //! Times the library's ordered map beside std's `BTreeMap` on the same random keys, after following both through a million calls.
 //!
-//! First all answers and lengths of the two are compared, call by call. Then each time is the best of some runs, in turn.
-//! A job is built of up to three phases (insert all keys, look keys up, take all keys out), and the time of a phase is that of the
-//! job with it less that of the job without it. A job without a drop lets its map go, so that the time of a drop stands by itself.
+//! First all answers and lengths of the two are compared, call by call. Then each time is the best of some runs, the two maps in
+//! turn, of the processor time between two marks of a job (`phases.rs`).
+//!
+//! With two words, as `std insert`, it runs one job of a thousand pairs alone, for `bench/instructions`.
+mod phases;
 mod random;
 
+use phases::{machine, mark, phases, weights};
 use random::Random;
 use std::collections::BTreeMap;
 use std::hint::black_box;
 use std::mem::ManuallyDrop;
-use std::time::Instant;
 
 const CALLS_PER_BLOCK: usize = 100_000;
 // Keys below, and inserts in a hundred of the inserts and removals of a block.
@@ -48,7 +50,7 @@ unsafe extern "C" {
         sought_count: usize,
         removed: *const u64,
         removed_count: usize,
-        leaked: bool,
+        way: u64,
         checksum: *mut u64,
     ) -> bool;
     fn bench_map_follow(steps: *mut Step, step_count: usize) -> bool;
@@ -122,13 +124,19 @@ fn mixed(checksum: u64, answer: Option<u64>) -> u64 {
     checksum.rotate_left(5) ^ answer.map_or(0, |value| value.wrapping_add(1))
 }
 
-// One job: what it inserts, looks up and takes out, and whether it lets the map go without a drop.
+// What a job does with its map in the end.
+const DROP: u64 = 0;
+const CLEAR: u64 = 1;
+const GIVE_OUT: u64 = 2;
+const LET_GO: u64 = 3;
+
+// One job: what it inserts, looks up and takes out, and how its map ends. Each of these is a phase.
 #[derive(Clone, Copy)]
 struct Job<'a> {
     keys: &'a [u64],
     sought: &'a [u64],
     removed: &'a [u64],
-    leaked: bool,
+    way: u64,
 }
 
 type Run = fn(Job) -> u64;
@@ -140,7 +148,7 @@ fn run_ours(job: Job) -> u64 {
         keys,
         sought,
         removed,
-        leaked,
+        way,
     } = job;
     let done = unsafe {
         bench_map_run(
@@ -150,7 +158,7 @@ fn run_ours(job: Job) -> u64 {
             sought.len(),
             removed.as_ptr(),
             removed.len(),
-            leaked,
+            way,
             &mut checksum,
         )
     };
@@ -162,71 +170,103 @@ fn run_ours(job: Job) -> u64 {
 fn run_std(job: Job) -> u64 {
     let mut map = BTreeMap::new();
     let mut checksum = 0;
+    mark();
     for key in job.keys {
         checksum = mixed(checksum, map.insert(*key, *key));
     }
+    mark();
     for key in job.sought {
         checksum = mixed(checksum, map.get(key).copied());
     }
+    mark();
     for key in job.removed {
         checksum = mixed(checksum, map.remove(key));
     }
-    if job.leaked {
-        let _leaked = ManuallyDrop::new(map);
+    mark();
+    match job.way {
+        DROP => drop(map),
+        CLEAR => {
+            map.clear();
+            black_box(&map);
+        }
+        GIVE_OUT => {
+            for (key, value) in map {
+                checksum = mixed(checksum, Some(key ^ value));
+            }
+        }
+        _ => {
+            let _leaked = ManuallyDrop::new(map);
+        }
     }
+    mark();
     checksum
 }
 
-fn nanoseconds(run: Run, job: Job) -> (f64, u64) {
-    let start = Instant::now();
-    let checksum = run(black_box(job));
-    (start.elapsed().as_secs_f64() * 1e9, checksum)
+const RUNS: [Run; 2] = [run_ours, run_std];
+
+// The rows of the table, and the phase and the end of the job that each one times.
+const ROWS: [(&str, usize, u64); 6] = [
+    ("insert", 0, DROP),
+    ("get", 1, DROP),
+    ("remove", 2, LET_GO),
+    ("drop, a pair", 3, DROP),
+    ("clear, a pair", 3, CLEAR),
+    ("into_iter, a pair", 3, GIVE_OUT),
+];
+
+// The keys of a job in the order that they come in, the look-ups and the removals.
+struct Keys {
+    inserted: Vec<u64>,
+    sought: Vec<u64>,
+    removed: Vec<u64>,
 }
 
-// Nanoseconds a call of insert, get and remove, and nanoseconds a pair of the drop: ours, then std's.
-fn measure(pairs: usize, rounds: usize) -> [[f64; 4]; 2] {
-    let mut random = Random(pairs as u64);
-    let keys: Vec<u64> = (0..pairs).map(|_| random.next()).collect();
-    let mut removed = keys.clone();
-    random.shuffle(&mut removed);
-    let mut sought = Vec::new();
-    while sought.len() < LEAST_LOOKUPS.max(pairs) {
-        let mut once = keys.clone();
-        random.shuffle(&mut once);
-        sought.extend(once);
+impl Keys {
+    fn new(pairs: usize) -> Keys {
+        let mut random = Random(pairs as u64);
+        let inserted: Vec<u64> = (0..pairs).map(|_| random.next()).collect();
+        let mut removed = inserted.clone();
+        random.shuffle(&mut removed);
+        let mut sought = Vec::new();
+        while sought.len() < LEAST_LOOKUPS.max(pairs) {
+            let mut once = inserted.clone();
+            random.shuffle(&mut once);
+            sought.extend(once);
+        }
+        Keys {
+            inserted,
+            sought,
+            removed,
+        }
     }
-    let inserts = Job {
-        keys: &keys,
-        sought: &[],
-        removed: &[],
-        leaked: true,
-    };
-    let inserts_and_drop = Job {
-        leaked: false,
-        ..inserts
-    };
-    let jobs = [
-        inserts,
-        inserts_and_drop,
+
+    // The job that ends so; only one that lets its map go takes the pairs out before.
+    fn job(&self, way: u64) -> Job<'_> {
         Job {
-            sought: &sought,
-            ..inserts_and_drop
-        },
-        Job {
-            removed: &removed,
-            ..inserts
-        },
-    ];
-    let mut best = [[f64::MAX; 4]; 2];
+            keys: &self.inserted,
+            sought: if way == DROP { &self.sought } else { &[] },
+            removed: if way == LET_GO { &self.removed } else { &[] },
+            way,
+        }
+    }
+}
+
+// Nanoseconds of processor time a call or a pair, by rows: ours, then std's.
+fn measure(keys: &Keys, rounds: usize) -> [[f64; 2]; 6] {
+    let mut best = [[f64::MAX; 2]; 6];
     for round in 0..rounds {
-        for (i, job) in jobs.into_iter().enumerate() {
+        for way in [DROP, CLEAR, GIVE_OUT, LET_GO] {
             // Who runs first finds another heap, so they take turns.
             let mut checksums = [0; 2];
             for who in [round % 2, 1 - round % 2] {
-                let run = [run_ours as Run, run_std][who];
-                let (time, checksum) = nanoseconds(run, job);
-                best[who][i] = best[who][i].min(time);
-                checksums[who] = checksum;
+                let job = keys.job(way);
+                let times = phases(|| checksums[who] = RUNS[who](black_box(job)));
+                for (row, (_, phase, end)) in ROWS.into_iter().enumerate() {
+                    if end == way {
+                        let calls = if phase == 1 { keys.sought.len() } else { keys.inserted.len() };
+                        best[row][who] = best[row][who].min(times[phase] / calls as f64);
+                    }
+                }
             }
             assert_eq!(
                 checksums[0], checksums[1],
@@ -234,19 +274,11 @@ fn measure(pairs: usize, rounds: usize) -> [[f64; 4]; 2] {
             );
         }
     }
-    best.map(|[insert, dropped, get, remove]| {
-        let (n, lookups) = (pairs as f64, sought.len() as f64);
-        [
-            insert / n,
-            (get - dropped) / lookups,
-            (remove - insert) / n,
-            (dropped - insert) / n,
-        ]
-    })
+    best
 }
 
 // Different keys of a count, and rounds of runs; each key comes ten times or so.
-const COUNTS: [(u64, usize); 2] = [(1_000, 200), (100_000, 10)];
+const COUNTS: [(u64, usize); 3] = [(1_000, 200), (100_000, 10), (1_000_000, 3)];
 
 fn count_ours(keys: &[u64], by_entry: bool) -> usize {
     let mut len = 0;
@@ -257,64 +289,100 @@ fn count_ours(keys: &[u64], by_entry: bool) -> usize {
 
 fn count_std(keys: &[u64]) -> usize {
     let mut map = BTreeMap::new();
+    mark();
     for key in keys {
         *map.entry(*key).or_insert(0u64) += 1;
     }
+    mark();
     map.len()
 }
 
-// Nanoseconds a key: ours by entries, ours by look-ups and insertions, std's by entries.
-fn measure_counts(different: u64, rounds: usize) -> [f64; 3] {
+fn count_keys(different: u64) -> Vec<u64> {
     let mut random = Random(different);
-    let keys: Vec<u64> = (0..10 * different).map(|_| random.below(different)).collect();
+    (0..10 * different).map(|_| random.below(different)).collect()
+}
+
+fn count(way: usize, keys: &[u64]) -> usize {
+    match way {
+        0 => count_ours(keys, true),
+        1 => count_ours(keys, false),
+        _ => count_std(keys),
+    }
+}
+
+// Nanoseconds of processor time a key: ours by entries, ours by look-ups and insertions, std's by entries.
+fn measure_counts(keys: &[u64], rounds: usize) -> [f64; 3] {
     let mut best = [f64::INFINITY; 3];
     for _ in 0..rounds {
         let mut lens = [0; 3];
         for way in 0..3 {
-            let start = Instant::now();
-            lens[way] = match way {
-                0 => count_ours(black_box(&keys), true),
-                1 => count_ours(black_box(&keys), false),
-                _ => count_std(black_box(&keys)),
-            };
-            best[way] = best[way].min(start.elapsed().as_secs_f64() * 1e9 / keys.len() as f64);
+            let times = phases(|| lens[way] = count(way, black_box(keys)));
+            best[way] = best[way].min(times[0] / keys.len() as f64);
         }
         assert!(lens[0] == lens[2] && lens[1] == lens[2]);
     }
     best
 }
 
-fn main() {
-    compare_answers();
-    println!(
-        "nanoseconds a call, best of some runs: ours / std's BTreeMap (ours as a multiple of std's)"
-    );
-    println!(
-        "{:>9}  {:^25} {:^25} {:^25}  drop, a pair",
-        "pairs", "insert", "get", "remove"
-    );
+fn print_times() {
+    println!("nanoseconds of processor time, best of so many runs: ours / std's BTreeMap (ours as a multiple of std's)");
+    println!("{}", machine());
     for (pairs, rounds) in SIZES {
-        let [ours, stds] = measure(pairs, rounds);
-        let columns: Vec<String> = (0..3)
-            .map(|i| {
-                format!(
-                    "{:>8.1} / {:<6.1} ({:4.2})",
-                    ours[i],
-                    stds[i],
-                    ours[i] / stds[i]
-                )
-            })
-            .collect();
+        let keys = Keys::new(pairs);
+        println!("{pairs} pairs, {rounds} runs");
+        let best = measure(&keys, rounds);
+        for ((name, _, _), [ours, stds]) in ROWS.iter().zip(best) {
+            println!("  {name:<18} {ours:>7.1} / {stds:<7.1} ({:4.2})", ours / stds);
+        }
+        let held = RUNS.map(|run| {
+            let bytes = weights(|| {
+                run(keys.job(LET_GO));
+            });
+            bytes[0] as f64 / pairs as f64
+        });
+        println!("  {:<18} {:>7.1} / {:<7.1} ({:4.2})", "bytes, a pair", held[0], held[1], held[0] / held[1]);
+    }
+    println!("counting keys, ten times each: by entries, then ours by get and try_insert");
+    for (different, rounds) in COUNTS {
+        let [entries, insertions, stds] = measure_counts(&count_keys(different), rounds);
         println!(
-            "{pairs:>9}  {}  {:.1} / {:.1}",
-            columns.join(" "),
-            ours[3],
-            stds[3]
+            "{different} keys, {rounds} runs: {entries:.1} / {stds:.1} ({:4.2}), {insertions:.1}",
+            entries / stds
         );
     }
-    println!("counting keys, ten times each: ours by entries, ours by get and insert, std's by entries");
-    for (different, rounds) in COUNTS {
-        let [entries, insertions, stds] = measure_counts(different, rounds);
-        println!("{different:>9}  {entries:.1} {insertions:.1} {stds:.1}");
+}
+
+// One job of a thousand pairs, whose instructions `bench/instructions` counts. `none` only makes the keys.
+fn run_one(who: &str, phase: &str) {
+    let keys = Keys::new(1_000);
+    let counted = count_keys(1_000);
+    let (inserted, sought, removed): (&[u64], &[u64], &[u64]) = match phase {
+        "insert" => (&keys.inserted, &[], &[]),
+        "get" => (&keys.inserted, &keys.sought, &[]),
+        "remove" => (&keys.inserted, &[], &keys.removed),
+        _ => (&[], &[], &[]),
+    };
+    let job = Job {
+        keys: inserted,
+        sought,
+        removed,
+        way: LET_GO,
+    };
+    let who = usize::from(who == "std");
+    phases(|| {
+        if phase == "entry" {
+            black_box(count(2 * who, &counted));
+        } else {
+            black_box(RUNS[who](job));
+        }
+    });
+}
+
+fn main() {
+    let words: Vec<String> = std::env::args().skip(1).collect();
+    if let [who, phase] = &words[..] {
+        return run_one(who, phase);
     }
+    compare_answers();
+    print_times();
 }

@@ -1,21 +1,20 @@
 //! Times walks over the library's ordered map beside std's `BTreeMap` on the same random keys, and compares what both saw.
 //!
-//! A job builds a map and then walks over it; the time of the walks is that of the job less that of the job that builds the map
-//! alone. `into_iter` drops the map as it goes, so it is compared with a job that lets the map go without a drop. Each time is the
-//! best of some runs, the two maps in turn.
+//! Each time is the best of some runs, the two maps in turn, of the processor time that the walks of a job took (`phases.rs`).
+//! `into_iter` stands with the other calls that end a map, in `bench/map`.
+mod phases;
 mod random;
 
+use phases::{machine, mark, phases};
 use random::Random;
 use std::collections::BTreeMap;
 use std::hint::black_box;
-use std::mem::ManuallyDrop;
-use std::time::Instant;
 
 // Pairs, walks over all of them, and rounds of runs.
 const SIZES: [(u64, u64, usize); 2] = [(1_000, 400, 60), (1_000_000, 40, 5)];
 const RANGE: u64 = 100;
 const RANGES: usize = 2_000;
-const WAYS: [&str; 5] = ["iter", "both ends", "range of 100", "values_mut", "into_iter"];
+const WAYS: [&str; 4] = ["iter", "both ends", "range of 100", "values_mut"];
 
 unsafe extern "C" {
     fn bench_map_walk(
@@ -65,6 +64,7 @@ fn run_std(job: &Job) -> u64 {
     for key in &job.keys {
         seen = mixed(seen, map.insert(*key, *key));
     }
+    mark();
     for _ in 0..job.times {
         match job.way {
             0 => {
@@ -88,64 +88,50 @@ fn run_std(job: &Job) -> u64 {
                     }
                 }
             }
-            3 => map.values_mut().for_each(|value| *value = value.wrapping_add(1)),
-            _ => {}
+            _ => map.values_mut().for_each(|value| *value = value.wrapping_add(1)),
         }
     }
-    match job.way {
-        4 => {
-            for (key, value) in map {
-                seen = mixed(seen, Some(key ^ value));
-            }
-        }
-        5 => {
-            let _leaked = ManuallyDrop::new(map);
-        }
-        _ => {}
-    }
+    mark();
     seen
 }
 
-// Nanoseconds a pair that a walk gives: ours, then std's.
+// Nanoseconds of processor time a pair that a walk gives: ours, then std's.
 fn measure(pairs: u64, times: u64, rounds: usize, way: u64) -> [f64; 2] {
     let mut random = Random(pairs);
     let mut keys: Vec<u64> = (0..pairs).collect();
     random.shuffle(&mut keys);
     let starts: Vec<u64> = (0..RANGES).map(|_| random.below(pairs - RANGE)).collect();
-    let times = if way == 4 { 1 } else { times };
     let given = match way {
         2 => times * RANGES as u64 * RANGE,
         _ => times * pairs,
     };
-    let built = if way == 4 { (5, 0) } else { (way, 0) };
-    let jobs = [(way, times), built].map(|(way, times)| Job {
-        keys: keys.clone(),
-        starts: starts.clone(),
+    let job = Job {
+        keys,
+        starts,
         way,
         times,
-    });
-    let mut best = [[f64::MAX; 2]; 2];
+    };
+    let mut best = [f64::MAX; 2];
     for round in 0..rounds {
-        for (i, job) in jobs.iter().enumerate() {
-            let mut seen = [0; 2];
-            for who in [round % 2, 1 - round % 2] {
-                let run = [run_ours as fn(&Job) -> u64, run_std][who];
-                let start = Instant::now();
-                seen[who] = run(black_box(job));
-                best[who][i] = best[who][i].min(start.elapsed().as_secs_f64() * 1e9);
-            }
-            assert_eq!(seen[0], seen[1], "what the two maps gave differs");
+        let mut seen = [0; 2];
+        for who in [round % 2, 1 - round % 2] {
+            let run = [run_ours as fn(&Job) -> u64, run_std][who];
+            let walked = phases(|| seen[who] = run(black_box(&job)));
+            best[who] = best[who].min(walked[0]);
         }
+        assert_eq!(seen[0], seen[1], "what the two maps gave differs");
     }
-    best.map(|[walked, built]| (walked - built) / given as f64)
+    best.map(|walked| walked / given as f64)
 }
 
 fn main() {
-    println!("nanoseconds a pair, best of some runs: ours / std's BTreeMap (ours as a multiple of std's)");
+    println!("nanoseconds of processor time a pair, best of so many runs: ours / std's BTreeMap (ours as a multiple of std's)");
+    println!("{}", machine());
     for (pairs, times, rounds) in SIZES {
+        println!("{pairs} pairs, {times} walks a run, {rounds} runs");
         for (way, name) in WAYS.iter().enumerate() {
             let [ours, stds] = measure(pairs, times, rounds, way as u64);
-            println!("{pairs:>9}  {name:<14} {ours:>7.2} / {stds:<7.2} ({:4.2})", ours / stds);
+            println!("  {name:<14} {ours:>7.2} / {stds:<7.2} ({:4.2})", ours / stds);
         }
     }
 }

@@ -6,6 +6,7 @@ mod walks;
 use fc_map::map::BTreeMap;
 use std::alloc::Global;
 use std::mem::ManuallyDrop;
+use walks::take_all;
 
 // A checksum of all answers so far, which depends on each of them and on their order.
 fn mixed(checksum: u64, answer: Option<u64>) -> u64 {
@@ -44,28 +45,59 @@ fn remove_all(map: &mut BTreeMap<u64, u64>, keys: &[u64], start: u64) -> u64 {
     checksum
 }
 
-/// Inserts `keys` into a new map, looks `sought` up and takes `removed` out. Then the map is dropped, or where `leaked` is true
-/// it is let go without a drop, so that the time of a drop can be told. The checksum of all answers goes to `checksum`. False
-/// where memory was refused.
+// Ends a phase: the driver's allocator refuses a request of so many bytes, and takes the time.
+fn mark(alloc: Global) -> bool {
+    Vec::<u8>::with_capacity(alloc, 1 << 62).is_err()
+}
+
+/// How a job lets its map go.
+const DROP: u64 = 0;
+
+const CLEAR: u64 = 1;
+
+const GIVE_OUT: u64 = 2;
+
+// Lets the map go: by a drop, cleared, all its pairs given out, or without a drop.
+fn end(map: BTreeMap<u64, u64>, way: u64, start: u64) -> u64 {
+    match way {
+        DROP => drop(map),
+        CLEAR => {
+            let mut map = map;
+            map.clear();
+        }
+        GIVE_OUT => return take_all(map, start),
+        _ => {
+            let _leaked = ManuallyDrop::new(map);
+        }
+    }
+    start
+}
+
+/// Inserts `keys` into a new map, looks `sought` up and takes `removed` out. Then the map is dropped where `way` is 0, cleared
+/// where it is 1, gives all its pairs out where it is 2, and else is let go without a drop. Each of the four is a phase. The
+/// checksum of all answers goes to `checksum`. False where memory was refused.
 #[unsafe(no_mangle)]
 pub extern "C" fn bench_map_run(
     alloc: Global,
     keys: &[u64],
     sought: &[u64],
     removed: &[u64],
-    leaked: bool,
+    way: u64,
     checksum: &mut u64,
 ) -> bool {
     let mut map = BTreeMap::new(alloc);
+    let started = mark(alloc);
     let Some(inserted) = insert_all(&mut map, keys) else {
         return false;
     };
+    let filled = mark(alloc);
     let found = get_all(&map, sought, inserted);
-    *checksum = remove_all(&mut map, removed, found);
-    if leaked {
-        let _leaked = ManuallyDrop::new(map);
-    }
-    true
+    let searched = mark(alloc);
+    let taken = remove_all(&mut map, removed, found);
+    let emptied = mark(alloc);
+    *checksum = end(map, way, taken);
+    let ended = mark(alloc);
+    started && filled && searched && emptied && ended
 }
 
 /// A call on the map, and what it answered.
@@ -134,7 +166,7 @@ fn count_by_insertion(map: &mut BTreeMap<u64, u64>, key: u64) -> bool {
 }
 
 /// Counts how often each of `keys` comes, by entries where `by_entry` is true and else by look-ups and insertions. The number of
-/// different keys goes to `len`. False where memory was refused.
+/// different keys goes to `len`. The counting is a phase. False where memory was refused.
 #[unsafe(no_mangle)]
 pub extern "C" fn bench_map_count(
     alloc: Global,
@@ -143,6 +175,7 @@ pub extern "C" fn bench_map_count(
     len: &mut usize,
 ) -> bool {
     let mut map = BTreeMap::new(alloc);
+    let started = mark(alloc);
     for key in keys {
         let done = if by_entry {
             count_by_entry(&mut map, *key)
@@ -153,6 +186,7 @@ pub extern "C" fn bench_map_count(
             return false;
         }
     }
+    let counted = mark(alloc);
     *len = map.len();
-    true
+    started && counted
 }

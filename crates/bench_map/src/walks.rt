@@ -1,8 +1,7 @@
 //! Jobs that walk over the ordered map.
-use super::{insert_all, mixed};
+use super::{insert_all, mark, mixed};
 use fc_map::map::{BTreeMap, is_range};
 use std::alloc::Global;
-use std::mem::ManuallyDrop;
 use std::ops::Bound;
 
 // How many pairs a walk over a range gives.
@@ -58,7 +57,7 @@ fn write_all(map: &mut BTreeMap<u64, u64>, add: u64) {
     }
 }
 
-fn take_all(map: BTreeMap<u64, u64>, start: u64) -> u64 {
+pub fn take_all(map: BTreeMap<u64, u64>, start: u64) -> u64 {
     let mut checksum = start;
     for (key, value) in map {
         checksum = mixed(checksum, Some(key ^ value));
@@ -66,21 +65,9 @@ fn take_all(map: BTreeMap<u64, u64>, start: u64) -> u64 {
     checksum
 }
 
-// Gives all pairs out where `way` is 4, lets the map go without a drop where it is 5, and else drops it.
-fn end(map: BTreeMap<u64, u64>, way: u64, start: u64) -> u64 {
-    match way {
-        4 => take_all(map, start),
-        5 => {
-            let _leaked = ManuallyDrop::new(map);
-            start
-        }
-        _ => start,
-    }
-}
-
 /// Inserts `keys` into a new map and walks over it as often as `times` says: 0 walks over all pairs, 1 over all from both ends, 2
-/// over a range of 100 keys from each of `starts` on, 3 writes to all values. Then 4 gives all pairs out, 5 lets the map go without
-/// a drop, and anything else drops it. The checksum of what was seen goes to `checksum`. False where memory was refused.
+/// over a range of 100 keys from each of `starts` on, 3 writes to all values. All walks together are a phase. The checksum of what
+/// was seen goes to `checksum`. False where memory was refused.
 #[unsafe(no_mangle)]
 pub extern "C" fn bench_map_walk(
     alloc: Global,
@@ -94,15 +81,16 @@ pub extern "C" fn bench_map_walk(
     let Some(mut seen) = insert_all(&mut map, keys) else {
         return false;
     };
+    let started = mark(alloc);
     for _ in 0..times {
         match way {
             0 => seen = walk_all(&map, seen),
             1 => seen = walk_from_both_ends(&map, seen),
             2 => seen = walk_ranges(&map, starts, seen),
-            3 => write_all(&mut map, 1),
-            _ => {}
+            _ => write_all(&mut map, 1),
         }
     }
-    *checksum = end(map, way, seen);
-    true
+    let walked = mark(alloc);
+    *checksum = seen;
+    started && walked
 }

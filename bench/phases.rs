@@ -1,0 +1,117 @@
+//! The phases of a job: when each ended, and how much memory the allocator then held.
+//!
+//! A job runs inside the library and can read no clock. So it asks for `MARK` bytes between two phases: this program's `malloc`
+//! answers none, and takes the time. All requests of both maps go through that `malloc`, so neither is the slower for it.
+use std::ffi::{c_int, c_long, c_void};
+use std::fs;
+use std::ptr;
+
+/// What a job asks for where a phase ends, as `mark` of the crate `bench_map` does.
+pub const MARK: usize = 1 << 62;
+const MOST: usize = 8;
+const PROCESS_CPUTIME: c_int = 2;
+
+#[repr(C)]
+struct Time {
+    seconds: i64,
+    nanoseconds: c_long,
+}
+
+// What glibc tells of its heap: the eighth number is the bytes in blocks that are in use.
+#[repr(C)]
+struct Heap([usize; 10]);
+
+unsafe extern "C" {
+    fn __real_malloc(size: usize) -> *mut c_void;
+    fn clock_gettime(clock: c_int, time: *mut Time) -> c_int;
+    fn mallinfo2() -> Heap;
+}
+
+#[derive(Clone, Copy)]
+struct Mark {
+    // Processor time when the phase ended, and when the next began.
+    ended: f64,
+    begun: f64,
+    // What the allocator held, where that is asked for.
+    bytes: usize,
+}
+
+const NONE: Mark = Mark {
+    ended: 0.0,
+    begun: 0.0,
+    bytes: 0,
+};
+static mut MARKS: [Mark; MOST] = [NONE; MOST];
+static mut COUNT: usize = 0;
+static mut WEIGHED: bool = false;
+
+/// The linker puts this in the place of `malloc` (`--wrap=malloc`).
+#[unsafe(no_mangle)]
+pub unsafe extern "C" fn __wrap_malloc(size: usize) -> *mut c_void {
+    if size == MARK {
+        mark();
+        return ptr::null_mut();
+    }
+    unsafe { __real_malloc(size) }
+}
+
+fn processor_time() -> f64 {
+    let mut time = Time {
+        seconds: 0,
+        nanoseconds: 0,
+    };
+    unsafe { clock_gettime(PROCESS_CPUTIME, &mut time) };
+    time.seconds as f64 * 1e9 + time.nanoseconds as f64
+}
+
+/// Ends a phase.
+pub fn mark() {
+    let ended = processor_time();
+    unsafe {
+        let bytes = if WEIGHED { mallinfo2().0[7] } else { 0 };
+        MARKS[COUNT] = Mark {
+            ended,
+            begun: processor_time(),
+            bytes,
+        };
+        COUNT += 1;
+    }
+}
+
+/// Nanoseconds of processor time that each phase of the job took: what lies between two marks.
+pub fn phases(job: impl FnOnce()) -> Vec<f64> {
+    unsafe { COUNT = 0 };
+    job();
+    let marks = unsafe { MARKS };
+    let count = unsafe { COUNT };
+    (1..count)
+        .map(|i| marks[i].ended - marks[i - 1].begun)
+        .collect()
+}
+
+#[allow(dead_code)] // Walks are not weighed.
+/// Bytes that the allocator held at the end of each phase more than when the first began, its own heads of blocks among them.
+pub fn weights(job: impl FnOnce()) -> Vec<usize> {
+    unsafe { WEIGHED = true };
+    let count = phases(job).len();
+    unsafe { WEIGHED = false };
+    let marks = unsafe { MARKS };
+    (1..=count).map(|i| marks[i].bytes - marks[0].bytes).collect()
+}
+
+/// The machine, and what else it does.
+pub fn machine() -> String {
+    let text = |file| fs::read_to_string(file).unwrap_or_default();
+    let info = text("/proc/cpuinfo");
+    let models: Vec<&str> = info
+        .lines()
+        .filter_map(|line| line.strip_prefix("model name\t: "))
+        .collect();
+    let load = text("/proc/loadavg");
+    format!(
+        "{} cores ({}), load {}",
+        models.len(),
+        models.first().unwrap_or(&"unknown"),
+        load.split(' ').next().unwrap_or("unknown")
+    )
+}
