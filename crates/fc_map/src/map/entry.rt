@@ -52,6 +52,7 @@ impl<K: Ord + Drop, V> Drop for VacantEntry<'_, K, V> {
     }
 }
 
+// As above.
 impl<K: Ord, V> Drop for OccupiedEntry<'_, K, V> {
     fn drop(self)
         ensures { self.exit.0.now ≡ self.entry.map.now }

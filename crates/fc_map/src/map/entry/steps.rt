@@ -1,11 +1,11 @@
 //! How an entry keeps its path.
-ghost use Rattle.std.specs.Prelude.{◌≡◌, ◌≤◌, length};
+ghost use Rattle.std.specs.Prelude.{◌≡◌};
 
-use fc_node::path::{Path, MAX_STEPS};
+use fc_node::path::{MAX_STEPS, Path};
 use std::marker::Model;
 
-/// A path that can be copied. A field that has to be moved out would keep an entry with a written `drop` from being taken apart once
-/// its pair is gone.
+/// A path that can be copied, with zeros past its end. An entry of a `Path`, which can't be, could not be taken apart once its pair is
+/// gone: its `drop` is written out, and to move a field out takes a whole entry.
 #[derive(Clone, Copy)]
 pub(crate) struct Steps {
     steps: [usize; MAX_STEPS],
@@ -31,6 +31,7 @@ impl Model for Steps {
 }
 
 impl Steps {
+    /// The steps of `path`.
     pub(crate) fn of(path: &Path) -> Steps
         ensures { result ≡ path.now }
     {
@@ -43,6 +44,7 @@ impl Steps {
         }
     }
 
+    /// The path of these steps.
     pub(crate) fn to_path(&self) -> Path
         ensures { result ≡ self.now }
     {
