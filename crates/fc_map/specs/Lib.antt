@@ -7,4 +7,5 @@ pub mod Unique
 pub mod Entry
 pub mod Writing
 pub mod Walks
+pub mod Steps
 pub mod Stretches

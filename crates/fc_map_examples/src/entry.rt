@@ -1,5 +1,5 @@
 //! What callers prove of entries through their public clauses alone.
-ghost use Rattle.std.specs.Prelude.{◌≡◌, ◌+◌, ◌<◌, true, false, unwrap_or, OnOk, OnErr, IfOk, None, Some};
+ghost use Rattle.std.specs.Prelude.{◌≡◌, ◌+◌, ◌<◌, true, false, unwrap_or, OnOk, OnErr, IfOk, IfSome, None, Some};
 ghost use Rattle.std.specs.Option.{UnwrapsOrElse};
 ghost use Rattle.fc_base.specs.OneKey.{put, cut};
 ghost use Rattle.fc_base.specs.Parts.{at, value_at};
@@ -105,4 +105,66 @@ pub fn has<K: Ord + Drop, V: Drop>(
         Entry::Vacant(_entry) => Ok(false),
         Entry::Occupied(_entry) => Ok(true),
     }
+}
+
+/// An entry of either kind that is dropped leaves the map as it was.
+pub fn has_by_drop<K: Ord + Drop, V: Drop>(
+    map: &mut BTreeMap<K, V>,
+    key: K,
+) -> Result<bool, TryReserveError>
+    ensures { map.new ≡ map.old }
+{
+    match map.try_entry(key)? {
+        Entry::Vacant(entry) => {
+            drop(entry);
+            Ok(false)
+        }
+        Entry::Occupied(held) => {
+            drop(held);
+            Ok(true)
+        }
+    }
+}
+
+/// An entry that is never matched leaves the map as it was.
+pub fn look_up_alone<K: Ord + Drop, V: Drop>(
+    map: &mut BTreeMap<K, V>,
+    key: K,
+) -> Result<(), TryReserveError>
+    ensures { map.new ≡ map.old }
+{
+    let _entry = map.try_entry(key)?;
+    Ok(())
+}
+
+/// Puts the pair in where the key is new, tells whether it was, and else leaves the map as it was.
+pub fn put_if_new<K: Ord + Drop, V: Drop>(
+    map: &mut BTreeMap<K, V>,
+    key: K,
+    value: V,
+) -> Result<bool, TryReserveError>
+    ensures new { IfOk result (λ new. new ≡ true → entries map.new ≡ put K.cmp (entries map.old) key value) }
+    ensures there { IfOk result (λ new. new ≡ false → map.new ≡ map.old) }
+    ensures unchanged { OnErr result (map.new ≡ map.old) }
+{
+    if let Entry::Vacant(entry) = map.try_entry(key)? {
+        entry.try_insert(value)?;
+        return Ok(true);
+    }
+    Ok(false)
+}
+
+/// Takes the value at the key out, if there is one, and else leaves the map as it was.
+pub fn take_if_there<K: Ord + Drop, V: Drop>(
+    map: &mut BTreeMap<K, V>,
+    key: K,
+) -> Result<Option<V>, TryReserveError>
+    ensures taken { IfOk result (λ value. IfSome value (λ v. entries map.new ≡ cut K.cmp (entries map.old) key)) }
+    ensures absent { IfOk result (λ value. value ≡ None → map.new ≡ map.old) }
+    ensures unchanged { OnErr result (map.new ≡ map.old) }
+{
+    if let Entry::Occupied(entry) = map.try_entry(key)? {
+        return Ok(Some(entry.remove()));
+    }
+    Ok(None)
 }

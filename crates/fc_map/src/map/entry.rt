@@ -6,11 +6,13 @@ ghost use Rattle.fc_map.specs.Unique.{open-prop, place-prop};
 
 mod calls;
 mod occupied;
+mod steps;
 mod try_entry;
 mod vacant;
 
 use super::BTreeMap;
 use fc_node::path::Path;
+use steps::Steps;
 
 /// The place of a key in a map. Dropped, it leaves the map as it was. Upstream: `Entry`.
 #[derive(Drop)]
@@ -30,10 +32,9 @@ pub struct VacantEntry<'a, K: Ord, V> {
 }
 
 /// A pair of the map. Upstream: `OccupiedEntry`.
-#[derive(Drop)]
 pub struct OccupiedEntry<'a, K: Ord, V> {
     pub(crate) map: &'a mut BTreeMap<K, V>,
-    pub(crate) path: Path,
+    pub(crate) path: Steps,
     ghost place: { IsPlaceIn map.now path } by { place-prop map.now path },
 }
 
@@ -48,5 +49,14 @@ impl<K: Ord + Drop, V> Drop for VacantEntry<'_, K, V> {
             path: _,
         } = self;
         drop(key);
+    }
+}
+
+// As above.
+impl<K: Ord, V> Drop for OccupiedEntry<'_, K, V> {
+    fn drop(self)
+        ensures { self.exit.0.now ≡ self.entry.map.now }
+    {
+        let OccupiedEntry { map: _, path: _ } = self;
     }
 }

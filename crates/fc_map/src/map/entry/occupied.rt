@@ -8,7 +8,6 @@ ghost use Rattle.fc_map.specs.Entry.{Occupied, entry_key, entry_map, entry_pair,
 
 use super::OccupiedEntry;
 use fc_base::Count;
-use fc_node::path::Path;
 use std::mem;
 
 impl<'a, K: Ord + Drop, V: Drop> OccupiedEntry<'a, K, V> {
@@ -16,14 +15,16 @@ impl<'a, K: Ord + Drop, V: Drop> OccupiedEntry<'a, K, V> {
     pub fn key(&self) -> &K
         ensures { entry_key (Occupied self.now) ≡ Some result.now }
     {
-        &self.map.pair_of(&self.path).0
+        let path = self.path.to_path();
+        &self.map.pair_of(&path).0
     }
 
     /// The value of the pair. Upstream: `OccupiedEntry::get`.
     pub fn get(&self) -> &V
         ensures { entry_value (Occupied self.now) ≡ Some result.now }
     {
-        &self.map.pair_of(&self.path).1
+        let path = self.path.to_path();
+        &self.map.pair_of(&path).1
     }
 
     /// The value of the pair, lent for writing; the entry stays in use. Upstream: `OccupiedEntry::get_mut`.
@@ -32,7 +33,7 @@ impl<'a, K: Ord + Drop, V: Drop> OccupiedEntry<'a, K, V> {
         ensures value { entry_value (Occupied self.old) ≡ Some result.now }
         ensures sound { IsSoundMap (entry_map (Occupied self.old)) }
     {
-        let path = Path::of(self.path.as_slice());
+        let path = self.path.to_path();
         self.map.value_mut(&path)
     }
 
@@ -43,8 +44,8 @@ impl<'a, K: Ord + Drop, V: Drop> OccupiedEntry<'a, K, V> {
         ensures value { entry_value (Occupied self.entry) ≡ Some result.now }
         ensures sound { (w : V) → IsSoundMap (map_written self.entry w) }
     {
-        let map = self.map;
-        map.value_mut(&self.path)
+        let OccupiedEntry { map, path } = self;
+        map.value_mut(&path.to_path())
     }
 
     /// Puts another value into the pair, which keeps its key, and answers the old one. Upstream: `OccupiedEntry::insert`.
@@ -82,7 +83,9 @@ impl<'a, K: Ord + Drop, V: Drop> OccupiedEntry<'a, K, V> {
         ensures moved { count.old.moves < count.new.moves }
         ensures bounded { IsBounded (length (entries (entry_map (Occupied self.entry)))) count.old count.new }
     {
-        let path = self.path;
-        self.map.take_at(&path, count)
+        let steps = self.path;
+        let pair = self.map.take_at(&steps.to_path(), count);
+        let OccupiedEntry { map: _, path: _ } = self;
+        pair
     }
 }
