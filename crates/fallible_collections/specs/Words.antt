@@ -2,7 +2,8 @@
 -- lists of pairs
 pub use Rattle.fc_base.specs.Ascending.{IsAscending}
 pub use Rattle.fc_base.specs.Parts.{below, above, at, value_at}
-pub use Rattle.fc_base.specs.OneKey.{put, cut}
+pub use Rattle.fc_base.specs.OneKey.{put, put_by, cut}
+pub use Rattle.fc_base.specs.Query.{IsQueryOrder, text_order, items_order}
 pub use Rattle.fc_base.specs.Ranges.{bound_now, starts, stops, is_range, within}
 pub use Rattle.fc_base.specs.Growth.{growth_error, MayGrowRefuse}
 pub use Rattle.fc_base.specs.Copies.{IsExact}

@@ -8,6 +8,7 @@
 pub mod btree;
 
 pub use fc_base::{
-    FallibleBox, TryClone, TryReserveError, boxed, count, try_clone, try_reserve_error,
+    FallibleBox, Query, TryClone, TryReserveError, boxed, count, query, try_clone,
+    try_reserve_error,
 };
 pub use fc_command::command;

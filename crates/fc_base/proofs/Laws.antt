@@ -1,7 +1,7 @@
 -- The laws of lists of pairs: what stands at each key once a pair is put or cut, how many pairs there are then, the first and the last pair, and the part between two bounds.
 -- A caller names one on a function, as `#[tactic(auto, using(fc_base::proofs::Laws::value_at_put))]`, or cites it in an answer.
 use Rattle.std.proofs.Common.{◌≡◌, suc, ◌+◌, ◌-◌, Bool, true, false, cond, List, [], ◌∷◌, ◌++◌, length, take, drop, Option, Some, None, IsSome, IsTrue, All, refl, sym, ap, ◌∙◌, subst, arith, append-nil, length-append, length-take-le, take-append-drop}
-use Rattle.std.specs.Prelude.{◌&&◌, unwrap_or}
+use Rattle.std.specs.Prelude.{◌&&◌, unwrap_or, ⊤}
 use Rattle.std.specs.List.{AllByRecursion, filter, find}
 use Rattle.std.specs.Option.{option_map, option_or, option_to_list}
 use Rattle.std.specs.Cmp.{IsTotalOrder}
@@ -15,8 +15,9 @@ use Rattle.std.proofs.lemmas.List.Elements.{filter-append, filter_agree, filter_
 use Rattle.std.proofs.lemmas.List.Folds.{find-append}
 use Rattle.std.proofs.lemmas.List.Sums.{length-filter, count_by-le-length}
 use Rattle.fc_base.specs.Ascending.{IsAscending}
-use Rattle.fc_base.specs.OneKey.{put, cut}
+use Rattle.fc_base.specs.OneKey.{put, put_by, cut}
 use Rattle.fc_base.specs.Parts.{below, above, at, value_at}
+use Rattle.fc_base.specs.Query.{IsQueryOrder}
 use Rattle.fc_base.specs.Ranges.{starts, stops, is_range, within}
 use Rattle.fc_base.proofs.Within.{between_tests, not_past}
 use Rattle.fc_base.proofs.AscendingFacts.{over_one, under_one, all_map, all_below, all_above, at_key, asc_filter, asc_cut, asc_put}
@@ -402,3 +403,24 @@ module _ {K V : Type 0} (cmp : K → K → Ordering) where
       let n : back - front ≡ length (take back s) - length (take front s) = omega (arith, ahead, behind) in
       let between = between_tests (λ (e : K × V). starts cmp lo e.0) (λ e. stops cmp hi e.0) (λ e. not_past total lo hi range e.0) s (take front s) (drop front s) (take back s) (drop back s) (take-append-drop front s) (take-append-drop back s) (started lo s total a) (stopped hi s total a) in
       ap (λ m. take m (drop front s)) n ∙ between.is
+
+-- a query to which a key is equal
+module _ {K Q V : Type 0} {cmp : K → K → Ordering} {order : K → Q → Ordering} (fits : IsQueryOrder cmp order) (s : List (K × V)) (q : Q) (k : K) (equal : order k q ≡ Equal) where
+  stands : ◌≡◌ {A = K → Ordering} (λ x. order x q) (λ x. cmp x k)
+  stands = λ i x. fits.same q k x equal i
+
+  -- At a query stands the pair that stands at a key equal to it.
+  pub at_query : at order s q ≡ at cmp s k
+  at_query = ap (λ (f : K → Ordering). at (λ x (u : ⊤). f x) s tt) stands
+
+  -- At a query stands the value that stands at a key equal to it.
+  pub value_at_query : value_at order s q ≡ value_at cmp s k
+  value_at_query = ap (option_map (λ e. e.1)) at_query
+
+  -- A value is put at a query as at a key equal to it.
+  pub put_by_query : (v : V) → put_by order s q k v ≡ put cmp s k v
+  put_by_query v = ap (λ (f : K → Ordering). put_by (λ x (u : ⊤). f x) s tt k v) stands
+
+  -- A cut at a query takes out what a cut at a key equal to it takes out.
+  pub cut_query : cut order s q ≡ cut cmp s k
+  cut_query = ap (λ (f : K → Ordering). cut (λ x (u : ⊤). f x) s tt) stands

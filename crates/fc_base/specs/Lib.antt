@@ -4,3 +4,5 @@ pub mod Growth
 pub mod OneKey
 pub mod Parts
 pub mod Ranges
+pub mod Query
+pub mod Viewed

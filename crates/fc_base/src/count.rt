@@ -6,6 +6,7 @@
 ghost use Rattle.std.specs.Prelude.{◌≡◌, ℕ, ◌+◌};
 ghost use Rattle.std.specs.Borrow.{ftrue};
 
+use crate::query::Query;
 use std::cmp::Ordering;
 use std::marker::{Model, PhantomData};
 
@@ -45,16 +46,16 @@ impl Count {
     }
 }
 
-/// How the first key compares to the second, by the keys' own order. It adds one comparison to the count.
+/// How the key stands to the query. It adds one comparison to the count.
 ///
 /// No other call adds a comparison.
-pub fn compare<K: Ord>(a: &K, b: &K, count: &mut Count) -> Ordering
-    ensures value { result ≡ K.cmp a.now b.now }
+pub fn compare<K: Ord, Q: Query<K>>(key: &K, query: Q, count: &mut Count) -> Ordering
+    ensures value { result ≡ Q.order key.now query }
     ensures comparisons { count.new.comparisons ≡ count.old.comparisons + 1 }
     ensures moves { count.new.moves ≡ count.old.moves }
 {
     count.record(1, 0);
-    a.cmp(b)
+    query.order_of(key)
 }
 
 #[cfg(test)]

@@ -4,10 +4,12 @@
 pub mod boxed;
 pub mod count;
 pub mod list_laws;
+pub mod query;
 pub mod try_clone;
 pub mod try_reserve_error;
 
 pub use boxed::FallibleBox;
 pub use count::{Count, compare};
+pub use query::Query;
 pub use try_clone::TryClone;
 pub use try_reserve_error::TryReserveError;

@@ -19,7 +19,7 @@ module _ {K V : Type 0} where
   some_pairs h root s = let deep = deep_root h root s in let one = one-le-pow h 6 (lit< tt) in omega arith
 
   -- A look-up counts what its search passes.
-  pub looked_up : (cmp : K → K → Ordering) (k : K) (m : Map K V) (root : Node K V) (old new : Count) → m ≡ Some root → IsSoundMap m → new.comparisons ≡ old.comparisons + passed cmp k root → new.moves ≡ old.moves → IsBounded (length (entries m)) old new
+  pub looked_up : {Q : Type 0} (cmp : K → Q → Ordering) (k : Q) (m : Map K V) (root : Node K V) (old new : Count) → m ≡ Some root → IsSoundMap m → new.comparisons ≡ old.comparisons + passed cmp k root → new.moves ≡ old.moves → IsBounded (length (entries m)) old new
   looked_up cmp k m root old new is sound c e =
       let s = rw is at sound in
       let some = some_pairs s.0 root s.2 in

@@ -21,6 +21,15 @@ use Rattle.fc_map.specs.Unique.{place-prop}
 use Rattle.fc_map.specs.declared.map.entry.OccupiedEntry.{OccupiedEntry}
 use Rattle.fc_map.proofs.PlaceFacts.{held_pair, open_none}
 
+module _ {K Q V : Type 0} (cmp : K → Q → Ordering) (k : Q) where
+  pub held_place : (m : Map K V) (path : List ℕ) → IsHeldAt cmp k m path → IsPlaceIn m path
+  held_place None path held = absurd held
+  held_place (Some root) path held = held.place
+
+  pub held_cut : (m : Map K V) (path : List ℕ) → IsSoundMap m → IsHeldAt cmp k m path → ahead_of m path ++ behind_of m path ≡ cut cmp (entries m) k
+  held_cut None path sound held = absurd held
+  held_cut (Some root) path sound held = sym (found_cut cmp k path sound.0 root sound.2.1 held)
+
 module _ {K V : Type 0} (cmp : K → K → Ordering) (k : K) where
   -- The key that `put` leaves in a map's list.
   abbrev pub left_key : Map K V → K
@@ -29,19 +38,11 @@ module _ {K V : Type 0} (cmp : K → K → Ordering) (k : K) where
   pub open_key : (m : Map K V) (path : List ℕ) → IsSoundMap m → IsOpenAt cmp k m path → Some k ≡ Some (left_key m)
   open_key m path sound gap = rw (open_none cmp k m path sound gap) refl
 
-  pub held_place : (m : Map K V) (path : List ℕ) → IsHeldAt cmp k m path → IsPlaceIn m path
-  held_place None path held = absurd held
-  held_place (Some root) path held = held.place
-
   pub held_key : (m : Map K V) (path : List ℕ) → IsSoundMap m → IsHeldAt cmp k m path → option_map (λ p. p.0) (pair_in m path) ≡ Some (left_key m)
   held_key None path sound held = absurd held
   held_key (Some root) path sound held =
       let c = place_pairs path sound.0 root sound.2.1 held.place in
       ap (option_map (λ p. p.0)) c.is ∙ rw (held_pair cmp k (Some root) path sound held ∙ c.is) refl
-
-  pub held_cut : (m : Map K V) (path : List ℕ) → IsSoundMap m → IsHeldAt cmp k m path → ahead_of m path ++ behind_of m path ≡ cut cmp (entries m) k
-  held_cut None path sound held = absurd held
-  held_cut (Some root) path sound held = sym (found_cut cmp k path sound.0 root sound.2.1 held)
 
   pub open_put : (m : Map K V) (path : List ℕ) (v : V) → IsSoundMap m → IsOpenAt cmp k m path → before_of m path ++ (k, v) ∷ after_of m path ≡ put cmp (entries m) k v
   open_put None path v sound gap = refl

@@ -2,7 +2,7 @@
 use Rattle.std.proofs.Common.{◌≡◌, ℕ, List, length, Some, None, Result, Ok, Err, IsSome, refl, sym, ◌∙◌}
 use Rattle.std.specs.Prelude.{OnOk, OnErr, IfOk, IfErr}
 use Rattle.std.specs.declared.cmp.Ordering.{Ordering}
-use Rattle.fc_base.specs.OneKey.{put, cut}
+use Rattle.fc_base.specs.OneKey.{put_by, cut}
 use Rattle.fc_base.specs.Parts.{at}
 use Rattle.fc_node.proofs.Gaps.{gap_pairs, place_pairs}
 use Rattle.fc_search.proofs.SearchFacts.{found_at, gap_at}
@@ -13,7 +13,7 @@ use Rattle.fc_map.specs.Lends.{written_in}
 use Rattle.fc_map.specs.Place.{IsHeldAt, IsOpenAt}
 use Rattle.fc_map.proofs.WrittenFacts.{written_length}
 
-module _ {K V : Type 0} (cmp : K → K → Ordering) (k : K) where
+module _ {K Q V : Type 0} (cmp : K → Q → Ordering) (k : Q) where
   -- The pair that the path leads to is the one with an equal key.
   pub held_pair : (m : Map K V) (path : List ℕ) → IsSoundMap m → IsHeldAt cmp k m path → at cmp (entries m) k ≡ pair_in m path
   held_pair None path sound held = absurd held
@@ -48,7 +48,7 @@ module _ {K V : Type 0} (cmp : K → K → Ordering) (k : K) where
 
   -- The map with another value at the key.
   pub record IsReplaced (old new : Map K V) (v : V) : Type 0 where
-    pub put_is : entries new ≡ put cmp (entries old) k v
+    pub put_is : (j : K) → entries new ≡ put_by cmp (entries old) k j v
     pub length_is : length (entries new) ≡ length (entries old)
     pub sound : IsSoundMap new
 
@@ -58,7 +58,7 @@ module _ {K V : Type 0} (cmp : K → K → Ordering) (k : K) where
       let l = written_levels path sound.0 root w sound.2.1 held.place in
       let same = l.1 in
       record {
-        put_is = written_put cmp k path sound.0 root w sound.2.1 held;
-        length_is = sym (written_length cmp root path w held.place sound);
+        put_is = λ j. written_put cmp k path sound.0 root j w sound.2.1 held;
+        length_is = sym (written_length root path w held.place sound);
         sound = (sound.0, sound.1, (rw same sound.2.0, l.0));
       }

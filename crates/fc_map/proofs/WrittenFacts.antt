@@ -10,7 +10,7 @@ use Rattle.fc_node.proofs.Gaps.{place_pairs}
 use Rattle.fc_search.proofs.WrittenPairs.{written_levels, written_pairs, written_ascending}
 use Rattle.fc_map.specs.Entries.{IsSoundMap}
 
-module _ {K V : Type 0} (cmp : K → K → Ordering) (root : Node K V) (path : List ℕ) (w : V) (place : IsPlace path root) (sound : IsSoundMap (Some root)) where
+module _ {K V : Type 0} (root : Node K V) (path : List ℕ) (w : V) (place : IsPlace path root) (sound : IsSoundMap (Some root)) where
   -- There are as many pairs.
   pub written_length : length (pairs_of root) ≡ length (pairs_of (written root path w))
   written_length =
@@ -20,8 +20,8 @@ module _ {K V : Type 0} (cmp : K → K → Ordering) (root : Node K V) (path : L
       omega (arith, old, new)
 
   -- The map's invariant holds whatever was written.
-  pub written_kept : IsAscending cmp (pairs_of root) → IsAscending cmp (pairs_of (written root path w)) × IsSoundMap (Some (written root path w)) × (length (pairs_of root) ≡ length (pairs_of (written root path w)))
-  written_kept ascending =
+  pub written_kept : (cmp : K → K → Ordering) → IsAscending cmp (pairs_of root) → IsAscending cmp (pairs_of (written root path w)) × IsSoundMap (Some (written root path w)) × (length (pairs_of root) ≡ length (pairs_of (written root path w)))
+  written_kept cmp ascending =
       let l = written_levels path sound.0 root w sound.2.1 place in
       let same = l.1 in
       (written_ascending cmp path sound.0 root w sound.2.1 place ascending, (sound.0, sound.1, (omega arith, l.0)), written_length)

@@ -7,7 +7,7 @@ use Rattle.fc_search.specs.Passed.{passed}
 pub use Rattle.fc_node.specs.Tree.{Map, entries, root_of, IsSoundMap}
 
 -- How many keys a search for k passes in a map: none where there is no root.
-abbrev pub passed_in : {K V : Type 0} → (K → K → Ordering) → K → Map K V → ℕ
+abbrev pub passed_in : {K Q V : Type 0} → (K → Q → Ordering) → Q → Map K V → ℕ
 passed_in cmp k None = 0
 passed_in cmp k (Some root) = passed cmp k root
 

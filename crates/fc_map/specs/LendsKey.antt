@@ -7,7 +7,7 @@ use Rattle.fc_search.specs.Way.{path_to}
 use Rattle.fc_map.specs.Entries.{Map}
 use Rattle.fc_map.specs.Lends.{OrdMembers, map_row, written_in}
 
-module _ {K V : Type 0} (cmp : K → K → Ordering) (k : K) where
+module _ {K Q V : Type 0} (cmp : K → Q → Ordering) (k : Q) where
   -- The path that a search for k takes in a map: no step where there is no root.
   abbrev pub path_in : Map K V → List ℕ
   path_in None = []
@@ -23,5 +23,5 @@ lent_value o = option_map (λ r. r.now) o
 
 -- Once the borrow r of the value at a key equal to k ends, the map has there what was written through r; where there is none,
 -- the map stays as it is.
-abbrev pub lends_get : (K V : RattleType) → OrdMembers K.Denot → MutBor (Map K.Denot V.Denot) → K.Denot → Option (MutBor V.Denot) → Fml
-lends_get K V g m k r = LendsIf (map_row K V g) V m r (written_at g.cmp k m.now) m.now
+abbrev pub lends_get : {Q : Type 0} (K V : RattleType) → OrdMembers K.Denot → (K.Denot → Q → Ordering) → MutBor (Map K.Denot V.Denot) → Q → Option (MutBor V.Denot) → Fml
+lends_get K V g cmp m k r = LendsIf (map_row K V g) V m r (written_at cmp k m.now) m.now

@@ -5,7 +5,7 @@ use Rattle.fc_insertion.specs.Arrival.{IsPutAt}
 use Rattle.fc_search.specs.Found.{IsFound, IsGap}
 use Rattle.fc_map.specs.Entries.{Map}
 
-module _ {K V : Type 0} (cmp : K → K → Ordering) (k : K) where
+module _ {K Q V : Type 0} (cmp : K → Q → Ordering) (k : Q) where
   -- The path leads to the pair whose key is equal to k.
   abbrev pub IsHeldAt : Map K V → List ℕ → Type 0
   IsHeldAt None path = ⊥

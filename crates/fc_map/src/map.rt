@@ -30,7 +30,7 @@ mod values;
 
 pub use bounds::is_range;
 pub use entry::{Entry, OccupiedEntry, VacantEntry};
-use fc_base::{Count, TryReserveError};
+use fc_base::{Count, Query, TryReserveError};
 use fc_insertion::insertion::{first_leaf, insert};
 use fc_insertion::room::try_room;
 use fc_node::node::Node;
@@ -107,18 +107,18 @@ impl<K: Ord, V> BTreeMap<K, V> {
     }
 
     /// The value at an equal key, or `None` where there is none. Upstream: `BTreeMap::get`.
-    pub fn get(&self, key: &K) -> Option<&V>
-        ensures value { now_value result ≡ value_at K.cmp (entries self.now) key.now }
+    pub fn get<Q: Query<K>>(&self, key: Q) -> Option<&V>
+        ensures value { now_value result ≡ value_at Q.order (entries self.now) key }
         ensures ascending { IsAscending K.cmp (entries self.now) }
     {
         self.get_counted(key, &mut Count::new())
     }
 
     /// `get`, with its comparisons added to the count: exactly those keys that a search from the left passes. It moves no pair.
-    pub fn get_counted(&self, key: &K, count: &mut Count) -> Option<&V>
-        ensures value { now_value result ≡ value_at K.cmp (entries self.now) key.now }
+    pub fn get_counted<Q: Query<K>>(&self, key: Q, count: &mut Count) -> Option<&V>
+        ensures value { now_value result ≡ value_at Q.order (entries self.now) key }
         ensures ascending { IsAscending K.cmp (entries self.now) }
-        ensures comparisons { count.new.comparisons ≡ count.old.comparisons + passed_in K.cmp key.now self.now }
+        ensures comparisons { count.new.comparisons ≡ count.old.comparisons + passed_in Q.order key self.now }
         ensures moves { count.new.moves ≡ count.old.moves }
         ensures bounded { IsBounded (length (entries self.now)) count.old count.new }
     {
@@ -130,8 +130,8 @@ impl<K: Ord, V> BTreeMap<K, V> {
     }
 
     /// The pair with an equal key, or `None` where there is none. Upstream: `BTreeMap::get_key_value`.
-    pub fn get_key_value(&self, key: &K) -> Option<(&K, &V)>
-        ensures pair { now_pair result ≡ at K.cmp (entries self.now) key.now }
+    pub fn get_key_value<Q: Query<K>>(&self, key: Q) -> Option<(&K, &V)>
+        ensures pair { now_pair result ≡ at Q.order (entries self.now) key }
         ensures ascending { IsAscending K.cmp (entries self.now) }
     {
         self.get_key_value_counted(key, &mut Count::new())
@@ -139,10 +139,10 @@ impl<K: Ord, V> BTreeMap<K, V> {
 
     /// `get_key_value`, with its comparisons added to the count: exactly those keys that a search from the left passes. It moves
     /// no pair.
-    pub fn get_key_value_counted(&self, key: &K, count: &mut Count) -> Option<(&K, &V)>
-        ensures pair { now_pair result ≡ at K.cmp (entries self.now) key.now }
+    pub fn get_key_value_counted<Q: Query<K>>(&self, key: Q, count: &mut Count) -> Option<(&K, &V)>
+        ensures pair { now_pair result ≡ at Q.order (entries self.now) key }
         ensures ascending { IsAscending K.cmp (entries self.now) }
-        ensures comparisons { count.new.comparisons ≡ count.old.comparisons + passed_in K.cmp key.now self.now }
+        ensures comparisons { count.new.comparisons ≡ count.old.comparisons + passed_in Q.order key self.now }
         ensures moves { count.new.moves ≡ count.old.moves }
         ensures bounded { IsBounded (length (entries self.now)) count.old count.new }
     {
@@ -153,8 +153,8 @@ impl<K: Ord, V> BTreeMap<K, V> {
     }
 
     /// Whether an equal key is there. Upstream: `BTreeMap::contains_key`.
-    pub fn contains_key(&self, key: &K) -> bool
-        ensures there { IsTrue result ↔ IsSome (at K.cmp (entries self.now) key.now) }
+    pub fn contains_key<Q: Query<K>>(&self, key: Q) -> bool
+        ensures there { IsTrue result ↔ IsSome (at Q.order (entries self.now) key) }
         ensures ascending { IsAscending K.cmp (entries self.now) }
     {
         self.contains_key_counted(key, &mut Count::new())
@@ -162,10 +162,10 @@ impl<K: Ord, V> BTreeMap<K, V> {
 
     /// `contains_key`, with its comparisons added to the count: exactly those keys that a search from the left passes. It moves
     /// no pair.
-    pub fn contains_key_counted(&self, key: &K, count: &mut Count) -> bool
-        ensures there { IsTrue result ↔ IsSome (at K.cmp (entries self.now) key.now) }
+    pub fn contains_key_counted<Q: Query<K>>(&self, key: Q, count: &mut Count) -> bool
+        ensures there { IsTrue result ↔ IsSome (at Q.order (entries self.now) key) }
         ensures ascending { IsAscending K.cmp (entries self.now) }
-        ensures comparisons { count.new.comparisons ≡ count.old.comparisons + passed_in K.cmp key.now self.now }
+        ensures comparisons { count.new.comparisons ≡ count.old.comparisons + passed_in Q.order key self.now }
         ensures moves { count.new.moves ≡ count.old.moves }
         ensures bounded { IsBounded (length (entries self.now)) count.old count.new }
     {
@@ -173,15 +173,15 @@ impl<K: Ord, V> BTreeMap<K, V> {
     }
 
     // Where the key stands, or where it would go.
-    fn locate(&self, key: &K, count: &mut Count) -> Result<Path, Path>
-        ensures found { IfOk result (IsHeldAt K.cmp key.now self.now) }
-        ensures gap { IfErr result (IsOpenAt K.cmp key.now self.now) }
-        ensures path { MatchResult result (λ p. p ≡ path_in K.cmp key.now self.now) (λ p. p ≡ path_in K.cmp key.now self.now) }
-        ensures present { OnOk result (IsSome (at K.cmp (entries self.now) key.now)) }
-        ensures absent { OnErr result (at K.cmp (entries self.now) key.now ≡ None) }
+    fn locate<Q: Query<K>>(&self, key: Q, count: &mut Count) -> Result<Path, Path>
+        ensures found { IfOk result (IsHeldAt Q.order key self.now) }
+        ensures gap { IfErr result (IsOpenAt Q.order key self.now) }
+        ensures path { MatchResult result (λ p. p ≡ path_in Q.order key self.now) (λ p. p ≡ path_in Q.order key self.now) }
+        ensures present { OnOk result (IsSome (at Q.order (entries self.now) key)) }
+        ensures absent { OnErr result (at Q.order (entries self.now) key ≡ None) }
         ensures sound { IsSoundMap self.now }
         ensures ascending { IsAscending K.cmp (entries self.now) }
-        ensures comparisons { count.new.comparisons ≡ count.old.comparisons + passed_in K.cmp key.now self.now }
+        ensures comparisons { count.new.comparisons ≡ count.old.comparisons + passed_in Q.order key self.now }
         ensures moves { count.new.moves ≡ count.old.moves }
         ensures bounded { IsBounded (length (entries self.now)) count.old count.new }
     {
@@ -192,10 +192,10 @@ impl<K: Ord, V> BTreeMap<K, V> {
     }
 
     // The pair with an equal key.
-    fn pair_at(&self, key: &K, count: &mut Count) -> Option<&(K, V)>
-        ensures pair { option_copied result ≡ at K.cmp (entries self.now) key.now }
+    fn pair_at<Q: Query<K>>(&self, key: Q, count: &mut Count) -> Option<&(K, V)>
+        ensures pair { option_copied result ≡ at Q.order (entries self.now) key }
         ensures ascending { IsAscending K.cmp (entries self.now) }
-        ensures comparisons { count.new.comparisons ≡ count.old.comparisons + passed_in K.cmp key.now self.now }
+        ensures comparisons { count.new.comparisons ≡ count.old.comparisons + passed_in Q.order key self.now }
         ensures moves { count.new.moves ≡ count.old.moves }
         ensures bounded { IsBounded (length (entries self.now)) count.old count.new }
     {
@@ -270,10 +270,10 @@ impl<K: Ord + Drop, V: Drop> BTreeMap<K, V> {
 
     /// Takes the pair with an equal key out and answers its value; the key is dropped. `None` where there is none, and the map is
     /// as it was. It takes no memory. Upstream: `BTreeMap::remove`.
-    pub fn remove(&mut self, key: &K) -> Option<V>
-        ensures value { result ≡ value_at K.cmp (entries self.old) key.now }
-        ensures rest { entries self.new ≡ cut K.cmp (entries self.old) key.now }
-        ensures absent { at K.cmp (entries self.old) key.now ≡ None → self.new ≡ self.old }
+    pub fn remove<Q: Query<K>>(&mut self, key: Q) -> Option<V>
+        ensures value { result ≡ value_at Q.order (entries self.old) key }
+        ensures rest { entries self.new ≡ cut Q.order (entries self.old) key }
+        ensures absent { at Q.order (entries self.old) key ≡ None → self.new ≡ self.old }
         ensures ascending { IsAscending K.cmp (entries self.new) }
         ensures sound { IsSoundMap self.new }
     {
@@ -282,15 +282,15 @@ impl<K: Ord + Drop, V: Drop> BTreeMap<K, V> {
 
     /// `remove`, with its comparisons and moves added to the count: exactly the comparisons of the keys that a search from the left
     /// passes, and where there is an equal key the moves of its removal.
-    pub fn remove_counted(&mut self, key: &K, count: &mut Count) -> Option<V>
-        ensures value { result ≡ value_at K.cmp (entries self.old) key.now }
-        ensures rest { entries self.new ≡ cut K.cmp (entries self.old) key.now }
-        ensures absent { at K.cmp (entries self.old) key.now ≡ None → self.new ≡ self.old }
+    pub fn remove_counted<Q: Query<K>>(&mut self, key: Q, count: &mut Count) -> Option<V>
+        ensures value { result ≡ value_at Q.order (entries self.old) key }
+        ensures rest { entries self.new ≡ cut Q.order (entries self.old) key }
+        ensures absent { at Q.order (entries self.old) key ≡ None → self.new ≡ self.old }
         ensures ascending { IsAscending K.cmp (entries self.new) }
         ensures sound { IsSoundMap self.new }
-        ensures comparisons { count.new.comparisons ≡ count.old.comparisons + passed_in K.cmp key.now self.old }
-        ensures no_move { at K.cmp (entries self.old) key.now ≡ None → count.new.moves ≡ count.old.moves }
-        ensures moved { IsSome (at K.cmp (entries self.old) key.now) → count.old.moves < count.new.moves }
+        ensures comparisons { count.new.comparisons ≡ count.old.comparisons + passed_in Q.order key self.old }
+        ensures no_move { at Q.order (entries self.old) key ≡ None → count.new.moves ≡ count.old.moves }
+        ensures moved { IsSome (at Q.order (entries self.old) key) → count.old.moves < count.new.moves }
         ensures bounded { IsBounded (length (entries self.old)) count.old count.new }
     {
         match self.locate(key, count) {
@@ -366,11 +366,11 @@ impl<K: Ord + Drop, V: Drop> BTreeMap<K, V> {
     }
 
     // Takes the pair with the key, to which the path leads, out.
-    fn remove_at(&mut self, path: &Path, key: &K, count: &mut Count) -> (K, V)
-        requires held { IsHeldAt K.cmp key.now self.old path.now }
+    fn remove_at<Q: Query<K>>(&mut self, path: &Path, key: Q, count: &mut Count) -> (K, V)
+        requires held { IsHeldAt Q.order key self.old path.now }
         requires sound { IsSoundMap self.old }
-        ensures pair { at K.cmp (entries self.old) key.now ≡ Some result }
-        ensures rest { entries self.new ≡ cut K.cmp (entries self.old) key.now }
+        ensures pair { at Q.order (entries self.old) key ≡ Some result }
+        ensures rest { entries self.new ≡ cut Q.order (entries self.old) key }
         ensures length { length (entries self.old) ≡ length (entries self.new) + 1 }
         ensures ascending { IsAscending K.cmp (entries self.new) }
         ensures sound { IsSoundMap self.new }

@@ -6,4 +6,5 @@ pub mod into_iter;
 pub mod iter;
 pub mod iter_mut;
 pub mod laws;
+pub mod queries;
 pub mod range;

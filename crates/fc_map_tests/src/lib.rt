@@ -14,4 +14,6 @@ mod map;
 #[cfg(test)]
 mod numbers;
 #[cfg(test)]
+mod queries;
+#[cfg(test)]
 mod range;

@@ -1,13 +1,13 @@
 -- An ascending list of pairs, cut at a pair or at a gap, and what is below, at and above a key.
-use Rattle.std.proofs.Common.{◌≡◌, ℕ, zero, suc, ◌+◌, ◌<◌, List, [], ◌∷◌, ◌++◌, length, take, get_or, Option, Some, None, refl, sym, ap, ◌∙◌, arith, add-one, append-nil}
+use Rattle.std.proofs.Common.{◌≡◌, ℕ, zero, suc, ◌+◌, ◌<◌, List, [], ◌∷◌, ◌++◌, length, take, get_or, Option, Some, None, refl, ap, ◌∙◌, arith, add-one, append-nil}
 use Rattle.std.specs.List.{AllByRecursion}
-use Rattle.std.specs.Ordering.{is_lt, is_gt, ordering_reverse}
-use Rattle.std.specs.Cmp.{IsTotalOrder}
+use Rattle.std.specs.Ordering.{is_lt, is_gt}
 use Rattle.std.specs.declared.cmp.Ordering.{Ordering}
 use Rattle.std.specs.declared.cmp.Ordering.TheVariants.{Less, Equal, Greater}
 use Rattle.std.proofs.lemmas.List.Elements.{filter-append}
 use Rattle.fc_base.specs.Ascending.{IsAscending}
 use Rattle.fc_base.specs.Parts.{below, above, at}
+use Rattle.fc_base.specs.Query.{IsQueryOrder}
 use Rattle.fc_base.proofs.Laws.{ascending_front, ascending_back, smaller_ahead}
 use Rattle.fc_search.specs.Found.{AllBelow, AllAbove}
 use Rattle.fc_node.proofs.Lists.{all_both}
@@ -27,7 +27,7 @@ module _ {K V : Type 0} (cmp : K → K → Ordering) where
   pub ascending_middle : (xs ys zs : List (K × V)) → IsAscending cmp (xs ++ (ys ++ zs)) → IsAscending cmp ys
   ascending_middle xs ys zs a = ascending_front cmp ys zs (ascending_back cmp xs (ys ++ zs) a)
 
-module _ {K V : Type 0} (cmp : K → K → Ordering) (k : K) where
+module _ {K Q V : Type 0} (cmp : K → Q → Ordering) (k : Q) where
   -- what is around a key, in a list of smaller keys and in a list of greater keys
   pub record IsAround (s below_k above_k : List (K × V)) (at_k : Option (K × V)) : Type 0 where
     pub lower : below cmp s k ≡ below_k
@@ -70,42 +70,32 @@ module _ {K V : Type 0} (cmp : K → K → Ordering) (k : K) where
         here = at_past L (p ∷ R) a ∙ r.here;
       }
 
-module _ {K : Type 0} {cmp : K → K → Ordering} (o : IsTotalOrder cmp) where
-  -- a key compares to k as to an equal key
-  equal_right : (k x y : K) → cmp y k ≡ Equal → cmp x k ≡ cmp x y
-  equal_right k x y h = o.antisymm x k ∙ ap ordering_reverse (sym (o.congr y k x h)) ∙ sym (o.antisymm x y)
-
-  greater_turned : (x y : K) → cmp x y ≡ Less → cmp y x ≡ Greater
-  greater_turned x y h = o.antisymm y x ∙ ap ordering_reverse h
-
-module _ {K V : Type 0} {cmp : K → K → Ordering} (o : IsTotalOrder cmp) (k : K) where
+module _ {K Q V : Type 0} {own : K → K → Ordering} {cmp : K → Q → Ordering} (o : IsQueryOrder own cmp) (k : Q) where
   -- the pairs with keys smaller than one that is at most k
-  below_lower : (p : K × V) (xs : List (K × V)) → cmp p.0 k ≡ Less → AllByRecursion (λ e. cmp e.0 p.0 ≡ Less) xs → AllBelow cmp k xs
+  below_lower : (p : K × V) (xs : List (K × V)) → cmp p.0 k ≡ Less → AllByRecursion (λ e. own e.0 p.0 ≡ Less) xs → AllBelow cmp k xs
   below_lower p [] h a = tt
-  below_lower p (x ∷ xs) h a = (o.trans x.0 p.0 k a.0 h, below_lower p xs h a.1)
+  below_lower p (x ∷ xs) h a = (o.lower k x.0 p.0 a.0 h, below_lower p xs h a.1)
 
-  below_equal : (p : K × V) (xs : List (K × V)) → cmp p.0 k ≡ Equal → AllByRecursion (λ e. cmp e.0 p.0 ≡ Less) xs → AllBelow cmp k xs
+  below_equal : (p : K × V) (xs : List (K × V)) → cmp p.0 k ≡ Equal → AllByRecursion (λ e. own e.0 p.0 ≡ Less) xs → AllBelow cmp k xs
   below_equal p [] h a = tt
-  below_equal p (x ∷ xs) h a = (equal_right o k x.0 p.0 h ∙ a.0, below_equal p xs h a.1)
+  below_equal p (x ∷ xs) h a = (o.same k p.0 x.0 h ∙ a.0, below_equal p xs h a.1)
 
-  above_equal : (p : K × V) (xs : List (K × V)) → cmp p.0 k ≡ Equal → AllByRecursion (λ e. cmp p.0 e.0 ≡ Less) xs → AllAbove cmp k xs
+  above_equal : (p : K × V) (xs : List (K × V)) → cmp p.0 k ≡ Equal → AllByRecursion (λ e. own p.0 e.0 ≡ Less) xs → AllAbove cmp k xs
   above_equal p [] h a = tt
-  above_equal p (x ∷ xs) h a = (equal_right o k x.0 p.0 h ∙ greater_turned o p.0 x.0 a.0, above_equal p xs h a.1)
+  above_equal p (x ∷ xs) h a = (o.past k p.0 x.0 a.0 h, above_equal p xs h a.1)
 
-  above_upper : (p : K × V) (xs : List (K × V)) → cmp p.0 k ≡ Greater → AllByRecursion (λ e. cmp p.0 e.0 ≡ Less) xs → AllAbove cmp k xs
+  above_upper : (p : K × V) (xs : List (K × V)) → cmp p.0 k ≡ Greater → AllByRecursion (λ e. own p.0 e.0 ≡ Less) xs → AllAbove cmp k xs
   above_upper p [] h a = tt
-  above_upper p (x ∷ xs) h a =
-      let l : cmp k p.0 ≡ Less = o.antisymm k p.0 ∙ ap ordering_reverse h in
-      (greater_turned o k x.0 (o.trans k p.0 x.0 l a.0), above_upper p xs h a.1)
+  above_upper p (x ∷ xs) h a = (o.upper k p.0 x.0 a.0 h, above_upper p xs h a.1)
 
   -- in an ascending list, at a pair with an equal key
-  pub sides_equal : (L R : List (K × V)) (p : K × V) → IsAscending cmp (L ++ p ∷ R) → cmp p.0 k ≡ Equal → AllBelow cmp k L × AllAbove cmp k R
-  sides_equal L R p a e = (below_equal p L e (smaller_ahead cmp L R p a), above_equal p R e (ascending_back cmp L (p ∷ R) a).0)
+  pub sides_equal : (L R : List (K × V)) (p : K × V) → IsAscending own (L ++ p ∷ R) → cmp p.0 k ≡ Equal → AllBelow cmp k L × AllAbove cmp k R
+  sides_equal L R p a e = (below_equal p L e (smaller_ahead own L R p a), above_equal p R e (ascending_back own L (p ∷ R) a).0)
 
   -- up to a pair with a smaller key
-  pub side_lower : (L R : List (K × V)) (p : K × V) → IsAscending cmp (L ++ p ∷ R) → cmp p.0 k ≡ Less → AllBelow cmp k (L ++ p ∷ [])
-  side_lower L R p a e = all_both (λ x. cmp x.0 k ≡ Less) L (p ∷ []) (below_lower p L e (smaller_ahead cmp L R p a)) (e, tt)
+  pub side_lower : (L R : List (K × V)) (p : K × V) → IsAscending own (L ++ p ∷ R) → cmp p.0 k ≡ Less → AllBelow cmp k (L ++ p ∷ [])
+  side_lower L R p a e = all_both (λ x. cmp x.0 k ≡ Less) L (p ∷ []) (below_lower p L e (smaller_ahead own L R p a)) (e, tt)
 
   -- from a pair with a greater key on
-  pub side_upper : (L R : List (K × V)) (p : K × V) → IsAscending cmp (L ++ p ∷ R) → cmp p.0 k ≡ Greater → AllAbove cmp k (p ∷ R)
-  side_upper L R p a e = (e, above_upper p R e (ascending_back cmp L (p ∷ R) a).0)
+  pub side_upper : (L R : List (K × V)) (p : K × V) → IsAscending own (L ++ p ∷ R) → cmp p.0 k ≡ Greater → AllAbove cmp k (p ∷ R)
+  side_upper L R p a e = (e, above_upper p R e (ascending_back own L (p ∷ R) a).0)

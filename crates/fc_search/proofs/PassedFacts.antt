@@ -4,12 +4,12 @@ use Rattle.std.specs.Prelude.{Bool, true, false, cond, min, not, ◌||◌, slice
 use Rattle.std.specs.List.{list_any}
 use Rattle.std.specs.List.{AllByRecursion}
 use Rattle.std.specs.Ordering.{is_lt, is_eq}
-use Rattle.std.specs.Cmp.{IsTotalOrder}
 use Rattle.std.specs.declared.alloc.Global.{Global}
 use Rattle.std.specs.declared.cmp.Ordering.{Ordering}
 use Rattle.std.specs.declared.cmp.Ordering.TheVariants.{Less, Equal}
 use Rattle.fc_base.specs.Ascending.{IsAscending}
 use Rattle.fc_base.specs.Parts.{below}
+use Rattle.fc_base.specs.Query.{IsQueryOrder}
 use Rattle.fc_node.specs.Weave.{weave, behind}
 use Rattle.fc_node.specs.declared.node.Node.{Node, out-Node, map-Node, fold_out-Node}
 use Rattle.fc_node.specs.Node.{items_or_none, own_pairs, children_of, child_at, boxed, pairs_of, IsLeaf, IsLevelled}
@@ -21,7 +21,7 @@ use Rattle.fc_base.proofs.Laws.{ascending_back}
 use Rattle.fc_search.proofs.Ordered.{sides_equal, side_upper}
 use Rattle.fc_node.proofs.Gaps.{cut_item, item_there}
 
-module _ {K V : Type 0} (cmp : K → K → Ordering) (k : K) where
+module _ {K Q V : Type 0} (cmp : K → Q → Ordering) (k : Q) where
   abbrev refilled : Box (Node K V) Global → Box ℕ Global
   refilled d = record { ptr = d.ptr; alloc = d.alloc; value = passed cmp k d.value }
 
@@ -101,32 +101,32 @@ module _ {K V : Type 0} (cmp : K → K → Ordering) where
   pub own_ascending : (n : Node K V) → IsAscending cmp (pairs_of n) → IsAscending cmp (own_pairs n)
   own_ascending n a = own_woven (map pairs_of (children_of n)) (own_pairs n) (subst (IsAscending cmp) (pairs_is n) a)
 
-module _ {K V : Type 0} {cmp : K → K → Ordering} (o : IsTotalOrder cmp) (k : K) where
+module _ {K Q V : Type 0} {own : K → K → Ordering} {cmp : K → Q → Ordering} (o : IsQueryOrder own cmp) (k : Q) where
   -- a search that finds the key in the node
-  pub passed_found : (n : Node K V) (i : ℕ) → IsAscending cmp (pairs_of n) → IsFoundAt cmp k (own_pairs n) i → passed cmp k n ≡ i + 1
+  pub passed_found : (n : Node K V) (i : ℕ) → IsAscending own (pairs_of n) → IsFoundAt cmp k (own_pairs n) i → passed cmp k n ≡ i + 1
   passed_found n i a f =
       let s = own_pairs n in
       let t = item_there s i f.0 in
       let p = get_or s i t.0 in
       let cut = cut_item s i t.0 f.0 in
       let e = f.2 t.0 in
-      let sides = sides_equal o k (take i s) (drop (suc i) s) p (subst (IsAscending cmp) cut (own_ascending cmp n a)) e in
+      let sides = sides_equal o k (take i s) (drop (suc i) s) p (subst (IsAscending own) cut (own_ascending own n a)) e in
       let ns = map (passed cmp k) (children_of n) in
       passed_is cmp k n ∙ ap (λ ps. passed_in cmp k ps ns) cut ∙ passed_equal cmp k (take i s) (drop (suc i) s) p ns f.1 e sides.1
       ∙ ap (λ j. j + 1) (length_take i s (omega (arith, f.0)))
 
-  pub upper_rest : (s : List (K × V)) (i : ℕ) → IsAscending cmp s → IsGapAt cmp k s i → AllAbove cmp k (drop i s)
+  pub upper_rest : (s : List (K × V)) (i : ℕ) → IsAscending own s → IsGapAt cmp k s i → AllAbove cmp k (drop i s)
   upper_rest [] zero a f = tt
   upper_rest [] (suc i) a f = tt
   upper_rest (e ∷ s) zero a f = side_upper o k [] s e a (f.2 e (omega arith))
   upper_rest (e ∷ s) (suc i) a f = upper_rest s i a.1 (omega (arith, f.0), f.1.1, λ d h. f.2 d (omega arith))
 
   -- a search that goes on from a gap in the node
-  pub passed_gap : (n : Node K V) (i : ℕ) → IsAscending cmp (pairs_of n) → IsGapAt cmp k (own_pairs n) i → passed cmp k n ≡ min (i + 1) (length (own_pairs n)) + slice_index (map (passed cmp k) (children_of n)) i
+  pub passed_gap : (n : Node K V) (i : ℕ) → IsAscending own (pairs_of n) → IsGapAt cmp k (own_pairs n) i → passed cmp k n ≡ min (i + 1) (length (own_pairs n)) + slice_index (map (passed cmp k) (children_of n)) i
   passed_gap n i a f =
       let s = own_pairs n in
       let ns = map (passed cmp k) (children_of n) in
-      let b = upper_rest s i (own_ascending cmp n a) f in
+      let b = upper_rest s i (own_ascending own n a) f in
       let t = length_take i s f.0 in
       let x = passed_between cmp k (take i s) (drop i s) ns f.1 b in
       let y = stop_upper cmp k (drop i s) b in
@@ -145,12 +145,12 @@ module _ {K V : Type 0} {cmp : K → K → Ordering} (o : IsTotalOrder cmp) (k :
   count_there (c ∷ cs) (suc i) n h = count_there cs i n (omega arith)
 
   -- from a gap into the child there
-  pub passed_down : (n c : Node K V) (i : ℕ) → IsAscending cmp (pairs_of n) → IsGapAt cmp k (own_pairs n) i → i < length (children_of n) → c ≡ child_at n i → passed cmp k n ≡ min (i + 1) (length (own_pairs n)) + passed cmp k c
+  pub passed_down : (n c : Node K V) (i : ℕ) → IsAscending own (pairs_of n) → IsGapAt cmp k (own_pairs n) i → i < length (children_of n) → c ≡ child_at n i → passed cmp k n ≡ min (i + 1) (length (own_pairs n)) + passed cmp k c
   passed_down n c i a f h e =
       passed_gap n i a f ∙ ap (λ m. min (i + 1) (length (own_pairs n)) + m) (count_there (children_of n) i n h ∙ ap (passed cmp k) (sym e))
 
   -- at a gap in a leaf
-  pub passed_leaf : (n : Node K V) (i : ℕ) → IsAscending cmp (pairs_of n) → IsGapAt cmp k (own_pairs n) i → IsLeaf n → passed cmp k n ≡ min (i + 1) (length (own_pairs n))
+  pub passed_leaf : (n : Node K V) (i : ℕ) → IsAscending own (pairs_of n) → IsGapAt cmp k (own_pairs n) i → IsLeaf n → passed cmp k n ≡ min (i + 1) (length (own_pairs n))
   passed_leaf n i a f l =
       let none : slice_index (map (passed cmp k) (children_of n)) i ≡ 0 = ap (λ cs. slice_index (map (passed cmp k) cs) i) (leaf_children n l) in
       let g = passed_gap n i a f in
@@ -165,7 +165,7 @@ if_down true d m h = omega arith
 if_down false d m h = h
 
 -- at most 11 keys are passed a level
-module _ {K V : Type 0} (cmp : K → K → Ordering) (k : K) where
+module _ {K Q V : Type 0} (cmp : K → Q → Ordering) (k : Q) where
   few_own : (s : List (K × V)) → lower_count cmp k s + stop_count cmp k s ≤ length s
   few_own [] = omega arith
   few_own (e ∷ s) = one_key (is_lt (cmp e.0 k)) (list_any (λ e. not (is_lt (cmp e.0 k))) s) e (below cmp s k) (length s) (few_own s)

@@ -2,14 +2,14 @@
 use Rattle.std.proofs.Common.{◌≡◌, ℕ, zero, suc, ◌+◌, ◌<◌, ◌≤◌, List, [], ◌∷◌, ◌++◌, length, take, get_or, slice_get, Some, None, IfSome, refl, sym, ap, subst, ◌∙◌, arith, append_assoc, ◌⊎◌, inl, inr, length-append}
 use Rattle.std.specs.Option.{option_map}
 use Rattle.std.specs.Prelude.{unwrap_or, IsTrue, true, false}
-use Rattle.std.specs.Ordering.{ordering_reverse, is_gt}
-use Rattle.std.specs.Cmp.{IsTotalOrder}
+use Rattle.std.specs.Ordering.{is_lt}
 use Rattle.std.specs.declared.cmp.Ordering.{Ordering}
 use Rattle.std.specs.declared.cmp.Ordering.TheVariants.{Less, Equal, Greater}
 use Rattle.std.proofs.lemmas.Bool.{cases_lt, false≢true}
 use Rattle.fc_base.specs.Ascending.{IsAscending}
 use Rattle.fc_base.specs.OneKey.{put, cut}
 use Rattle.fc_base.specs.Parts.{below, above, at}
+use Rattle.fc_base.specs.Query.{IsQueryOrder}
 use Rattle.fc_node.specs.declared.node.Node.{Node}
 use Rattle.fc_node.specs.Node.{own_pairs, children_of, child_at, pairs_of, IsLeaf, IsLevelled}
 use Rattle.fc_node.specs.Path.{before, after}
@@ -21,21 +21,16 @@ use Rattle.fc_node.proofs.Pairs.{leaf_children}
 use Rattle.fc_search.proofs.Ordered.{all_more, ascending_middle, sides_equal, side_lower, side_upper, IsAround, around_gap, around_pair}
 use Rattle.fc_node.proofs.Gaps.{take_item, item_there, own_pair, lead_pair, rest_pair, rest_none, descent_levels, descent_pairs, node_more, descent_more, before_more, after_more, path_more, place_more, pair_more, ahead_more, behind_more, gap_pairs, place_pairs}
 
--- what is_gt says
-pub greater_from : (r : Ordering) → is_gt r ≡ true → Greater ≡ r
-greater_from Less e = absurd (false≢true e)
-greater_from Equal e = absurd (false≢true e)
-greater_from Greater e = refl
+-- what is_lt says
+pub less_from : (r : Ordering) → is_lt r ≡ true → Less ≡ r
+less_from Less e = refl
+less_from Equal e = absurd (false≢true e)
+less_from Greater e = absurd (false≢true e)
 
-module _ {K V : Type 0} {cmp : K → K → Ordering} (o : IsTotalOrder cmp) (k : K) where
-  -- the order of the same keys, the other way round
-  turned : (s : List (K × V)) (i : ℕ) (p : K × V) (r : Ordering) (d : K × V) → i < length s → p ≡ get_or s i p → r ≡ cmp k p.0 → cmp (get_or s i d).0 k ≡ ordering_reverse r
-  turned s i p r d h e q =
-      let t = item_there s i h in
-      ap (λ x. cmp x.0 k) (t.1 d ∙ sym (t.1 p) ∙ sym e) ∙ o.antisymm p.0 k ∙ ap ordering_reverse (sym q)
-
-  pub lower_here : (s : List (K × V)) (i : ℕ) (p : K × V) → i < length s → AllBelow cmp k (take i s) → p ≡ get_or s i p → Greater ≡ cmp k p.0 → AllBelow cmp k (take (i + 1) s)
-  lower_here s i p h a e q = all_more (λ x. cmp x.0 k ≡ Less) s i p h a (turned s i p Greater p h e q)
+module _ {K Q V : Type 0} (cmp : K → Q → Ordering) (k : Q) where
+  -- what the pair that was compared says of its place
+  pub lower_here : (s : List (K × V)) (i : ℕ) (p : K × V) → i < length s → AllBelow cmp k (take i s) → p ≡ get_or s i p → Less ≡ cmp p.0 k → AllBelow cmp k (take (i + 1) s)
+  lower_here s i p h a e q = all_more (λ x. cmp x.0 k ≡ Less) s i p h a (ap (λ x. cmp x.0 k) (sym e) ∙ sym q)
 
 -- a path with one more step
 pub one_longer : (path more : List ℕ) (i : ℕ) → more ≡ path ++ i ∷ [] → length more ≡ length path + 1
@@ -47,13 +42,13 @@ child_there zero n i l not_leaf le = let no : false ≡ true = not_leaf l.1 in a
 child_there (suc h) n i l not_leaf le = let e : length (children_of n) ≡ length (own_pairs n) + 1 = l.1 in omega arith
 
 -- a descent has come to the node, with smaller keys before it and greater keys after it
-pub record IsOnWay {K V : Type 0} (cmp : K → K → Ordering) (k : K) (root node : Node K V) (path : List ℕ) : Type 0 where
+pub record IsOnWay {K Q V : Type 0} (cmp : K → Q → Ordering) (k : Q) (root node : Node K V) (path : List ℕ) : Type 0 where
   pub descent : IsDescent path root
   pub here : node ≡ node_at path root
   pub front : AllBelow cmp k (before path root)
   pub back : AllAbove cmp k (after path root)
 
-module _ {K V : Type 0} (cmp : K → K → Ordering) (k : K) where
+module _ {K Q V : Type 0} (cmp : K → Q → Ordering) (k : Q) where
   -- the levels of the node that a search has come to
   pub way_levels : {root node : Node K V} {path : List ℕ} (t : IsTree root) → IsOnWay cmp k root node path → (g : ℕ) × (length path + g ≡ t.0) × IsLevelled g node
   way_levels {root} {node} {path} t w = let d = descent_levels path t.0 root t.2 w.descent in (d.0, d.1, subst (IsLevelled d.0) (sym w.here) d.2)
@@ -63,14 +58,14 @@ module _ {K V : Type 0} (cmp : K → K → Ordering) (k : K) where
   way_room t w = let d = way_levels t w in omega (arith, d.1, t.1)
 
   -- its pairs are ascending
-  pub way_ascending : {root node : Node K V} {path : List ℕ} → IsTree root → IsAscending cmp (pairs_of root) → IsOnWay cmp k root node path → IsAscending cmp (pairs_of node)
-  way_ascending {root} {node} {path} t a w =
-      let b = subst (IsAscending cmp) (descent_pairs path t.0 root t.2 w.descent) a in
-      subst (λ n. IsAscending cmp (pairs_of n)) (sym w.here) (ascending_middle cmp (before path root) (pairs_of (node_at path root)) (after path root) b)
+  pub way_ascending : (own : K → K → Ordering) {root node : Node K V} {path : List ℕ} → IsTree root → IsAscending own (pairs_of root) → IsOnWay cmp k root node path → IsAscending own (pairs_of node)
+  way_ascending own {root} {node} {path} t a w =
+      let b = subst (IsAscending own) (descent_pairs path t.0 root t.2 w.descent) a in
+      subst (λ n. IsAscending own (pairs_of n)) (sym w.here) (ascending_middle own (before path root) (pairs_of (node_at path root)) (after path root) b)
 
-module _ {K V : Type 0} {cmp : K → K → Ordering} (o : IsTotalOrder cmp) (k : K) where
+module _ {K Q V : Type 0} {own : K → K → Ordering} {cmp : K → Q → Ordering} (o : IsQueryOrder own cmp) (k : Q) where
   -- what leads to a gap between a node's own pairs is below the key
-  lead_below : (h : ℕ) (n : Node K V) (i : ℕ) → IsLevelled h n → IsAscending cmp (pairs_of n) → IsGapAt cmp k (own_pairs n) i → AllBelow cmp k (lead_in n i)
+  lead_below : (h : ℕ) (n : Node K V) (i : ℕ) → IsLevelled h n → IsAscending own (pairs_of n) → IsGapAt cmp k (own_pairs n) i → AllBelow cmp k (lead_in n i)
   lead_below h n zero l a f = tt
   lead_below h n (suc i) l a f =
       let s = own_pairs n in
@@ -79,31 +74,31 @@ module _ {K V : Type 0} {cmp : K → K → Ordering} (o : IsTotalOrder cmp) (k :
       let p = t.0 in
       let at_end : AllBelow cmp k (take i s ++ get_or s i p ∷ []) = subst (AllBelow cmp k) (take_item s i p lt) f.1 in
       let lower = (all_back (λ x. cmp x.0 k ≡ Less) (take i s) (get_or s i p ∷ []) at_end).0 in
-      let b = subst (IsAscending cmp) (own_pair h n i p l lt) a in
+      let b = subst (IsAscending own) (own_pair h n i p l lt) a in
       subst (AllBelow cmp k) (sym (lead_pair h n i p l lt)) (side_lower o k (ahead_in n i) (behind_in n i) (get_or s i p) b lower)
 
   -- and what is behind it is above the key
-  rest_above : (h : ℕ) (n : Node K V) (i : ℕ) → IsLevelled h n → IsAscending cmp (pairs_of n) → IsGapAt cmp k (own_pairs n) i → (i < length (own_pairs n)) ⊎ (length (own_pairs n) ≤ i) → AllAbove cmp k (rest_in n i)
+  rest_above : (h : ℕ) (n : Node K V) (i : ℕ) → IsLevelled h n → IsAscending own (pairs_of n) → IsGapAt cmp k (own_pairs n) i → (i < length (own_pairs n)) ⊎ (length (own_pairs n) ≤ i) → AllAbove cmp k (rest_in n i)
   rest_above h n i l a f (inr le) = subst (AllAbove cmp k) (sym (rest_none n i le)) tt
   rest_above h n i l a f (inl lt) =
       let t = item_there (own_pairs n) i lt in
       let p = get_or (own_pairs n) i t.0 in
-      let b = subst (IsAscending cmp) (own_pair h n i t.0 l lt) a in
+      let b = subst (IsAscending own) (own_pair h n i t.0 l lt) a in
       subst (AllAbove cmp k) (sym (rest_pair n i t.0 lt)) (side_upper o k (ahead_in n i) (behind_in n i) p b (f.2 t.0 lt))
 
-  module _ {root node : Node K V} {path : List ℕ} (t : IsTree root) (a : IsAscending cmp (pairs_of root)) (w : IsOnWay cmp k root node path) where
+  module _ {root node : Node K V} {path : List ℕ} (t : IsTree root) (a : IsAscending own (pairs_of root)) (w : IsOnWay cmp k root node path) where
     -- the path, with a gap of the node as its last step
     way_front : (i : ℕ) → IsGapAt cmp k (own_pairs node) i → AllBelow cmp k (before (path ++ i ∷ []) root)
     way_front i f =
         let d = way_levels cmp k t w in
-        let b = lead_below d.0 node i d.2 (way_ascending cmp k t a w) f in
+        let b = lead_below d.0 node i d.2 (way_ascending cmp k own t a w) f in
         subst (AllBelow cmp k) (sym (before_more path i root ∙ ap (λ n. before path root ++ lead_in n i) (sym w.here)))
         (all_both (λ x. cmp x.0 k ≡ Less) (before path root) (lead_in node i) w.front b)
 
     way_back : (i : ℕ) → IsGapAt cmp k (own_pairs node) i → AllAbove cmp k (after (path ++ i ∷ []) root)
     way_back i f =
         let d = way_levels cmp k t w in
-        let b = rest_above d.0 node i d.2 (way_ascending cmp k t a w) f (cases_lt i (length (own_pairs node))) in
+        let b = rest_above d.0 node i d.2 (way_ascending cmp k own t a w) f (cases_lt i (length (own_pairs node))) in
         subst (AllAbove cmp k) (sym (after_more path i root ∙ ap (λ n. rest_in n i ++ after path root) (sym w.here)))
         (all_both (λ x. cmp x.0 k ≡ Greater) (rest_in node i) (after path root) b w.back)
 
@@ -145,7 +140,7 @@ module _ {K V : Type 0} {cmp : K → K → Ordering} (o : IsTotalOrder cmp) (k :
         ∙ ap (λ s. before path root ++ (s ++ after path root)) cut
         ∙ regroup (before path root) (ahead_in node i) (behind_in node i) (after path root) p in
         let equal : cmp p.0 k ≡ Equal = ap (λ x. cmp x.0 k) (sym (x.1 p)) ∙ f.2 p in
-        let sides = sides_equal o k (before path root ++ ahead_in node i) (behind_in node i ++ after path root) p (subst (IsAscending cmp) whole a) equal in
+        let sides = sides_equal o k (before path root ++ ahead_in node i) (behind_in node i ++ after path root) p (subst (IsAscending own) whole a) equal in
         let is : place_pair (path ++ i ∷ []) root ≡ Some p = pair_more path i root ∙ ap (λ n. slice_get (own_pairs n) i) (sym w.here) ∙ x.2 in
         subst (IsFound cmp k root) (sym same) record {
           place = place_more path i root w.descent (subst (λ n. i < length (own_pairs n)) w.here f.0);
@@ -157,7 +152,7 @@ module _ {K V : Type 0} {cmp : K → K → Ordering} (o : IsTotalOrder cmp) (k :
         regroup : (x y z u : List (K × V)) (p : K × V) → x ++ ((y ++ p ∷ z) ++ u) ≡ (x ++ y) ++ p ∷ (z ++ u)
         regroup x y z u p = simp append_assoc
 
-module _ {K V : Type 0} (cmp : K → K → Ordering) (k : K) where
+module _ {K Q V : Type 0} (cmp : K → Q → Ordering) (k : Q) where
   -- what a path to a found pair says of the tree's list
   pub found_at : (path : List ℕ) (h : ℕ) (root : Node K V) → IsLevelled h root → IsFound cmp k root path → IsAround cmp k (pairs_of root) (place_ahead path root) (place_behind path root) (place_pair path root)
   found_at path h root l f =
@@ -181,14 +176,6 @@ module _ {K V : Type 0} (cmp : K → K → Ordering) (k : K) where
         here = ap (λ s. at cmp s k) e ∙ r.here;
       }
 
-  -- the list with a value at a key that is not there
-  pub gap_put : (path : List ℕ) (h : ℕ) (root : Node K V) (v : V) → IsLevelled h root → IsGap cmp k root path → put cmp (pairs_of root) k v ≡ before path root ++ (k, v) ∷ after path root
-  gap_put path h root v l f =
-      let a = gap_at path h root l f in
-      ap (λ s. s ++ (unwrap_or (option_map (λ e. e.0) (at cmp (pairs_of root) k)) k, v) ∷ above cmp (pairs_of root) k) a.lower
-      ∙ ap (λ x. before path root ++ (unwrap_or (option_map (λ e. e.0) x) k, v) ∷ above cmp (pairs_of root) k) a.here
-      ∙ ap (λ s. before path root ++ (k, v) ∷ s) a.upper
-
   -- the list without the pair at a key, where there is one and where there is none
   pub found_cut : (path : List ℕ) (h : ℕ) (root : Node K V) → IsLevelled h root → IsFound cmp k root path → cut cmp (pairs_of root) k ≡ place_ahead path root ++ place_behind path root
   found_cut path h root l f = let a = found_at path h root l f in ap (λ s. s ++ above cmp (pairs_of root) k) a.lower ∙ ap (λ s. place_ahead path root ++ s) a.upper
@@ -198,7 +185,16 @@ module _ {K V : Type 0} (cmp : K → K → Ordering) (k : K) where
       let a = gap_at path h root l f in
       ap (λ s. s ++ above cmp (pairs_of root) k) a.lower ∙ ap (λ s. before path root ++ s) a.upper ∙ sym (gap_pairs path h root l (f.levels h l) f.way)
 
-module _ {K V : Type 0} {cmp : K → K → Ordering} (o : IsTotalOrder cmp) (k : K) {root node : Node K V} {path : List ℕ} (t : IsTree root) (a : IsAscending cmp (pairs_of root)) (w : IsOnWay cmp k root node path) where
+module _ {K V : Type 0} (cmp : K → K → Ordering) (k : K) where
+  -- the list with a value at a key that is not there
+  pub gap_put : (path : List ℕ) (h : ℕ) (root : Node K V) (v : V) → IsLevelled h root → IsGap cmp k root path → put cmp (pairs_of root) k v ≡ before path root ++ (k, v) ∷ after path root
+  gap_put path h root v l f =
+      let a = gap_at cmp k path h root l f in
+      ap (λ s. s ++ (unwrap_or (option_map (λ e. e.0) (at cmp (pairs_of root) k)) k, v) ∷ above cmp (pairs_of root) k) a.lower
+      ∙ ap (λ x. before path root ++ (unwrap_or (option_map (λ e. e.0) x) k, v) ∷ above cmp (pairs_of root) k) a.here
+      ∙ ap (λ s. before path root ++ (k, v) ∷ s) a.upper
+
+module _ {K Q V : Type 0} {own : K → K → Ordering} {cmp : K → Q → Ordering} (o : IsQueryOrder own cmp) (k : Q) {root node : Node K V} {path : List ℕ} (t : IsTree root) (a : IsAscending own (pairs_of root)) (w : IsOnWay cmp k root node path) where
   -- what the look-up of the key gives, where the search ends at a pair
   pub value_found : (i : ℕ) (p : K × V) → IsFoundAt cmp k (own_pairs node) i → p ≡ get_or (own_pairs node) i p → Some p ≡ at cmp (pairs_of root) k
   value_found i p f e =

@@ -8,6 +8,8 @@ use Rattle.std.specs.declared.cmp.Ordering.{Ordering}
 use Rattle.std.specs.declared.cmp.Ordering.TheVariants.{Less, Equal, Greater}
 use Rattle.fc_base.specs.Ascending.{IsAscending}
 use Rattle.fc_base.specs.Parts.{at}
+use Rattle.fc_base.specs.Query.{IsQueryOrder}
+use Rattle.fc_base.specs.Viewed.{own_order}
 use Rattle.fc_base.specs.OneKey.{put}
 use Rattle.fc_node.specs.declared.node.Node.{Node, out-Node, map-Node, fold_out-Node}
 use Rattle.fc_node.specs.Node.{items_or_none, own_pairs, children_of, child_at, boxed, pairs_of, IsLeaf, IsLevelled}
@@ -24,7 +26,7 @@ use Rattle.fc_search.proofs.PassedFacts.{past_lower, past_equal, upper_none, own
 use Rattle.fc_search.proofs.SearchFacts.{IsOnWay, way_ascending, way_more, way_gap, way_found, gap_at}
 use Rattle.fc_search.proofs.WrittenPairs.{written_put}
 
-module _ {K V : Type 0} (cmp : K → K → Ordering) (k : K) where
+module _ {K Q V : Type 0} (cmp : K → Q → Ordering) (k : Q) where
   paths_of : (bs : List (Box (Node K V) Global)) → map (λ (b : Box (List ℕ) Global). b.value) (map (λ (d : Box (Node K V) Global). record { ptr = d.ptr; alloc = d.alloc; value = path_to cmp k d.value }) bs) ≡ map (path_to cmp k) (boxed bs)
   paths_of [] = refl
   paths_of (b ∷ bs) = ap (λ zs. path_to cmp k b.value ∷ zs) (paths_of bs)
@@ -56,26 +58,26 @@ module _ {K V : Type 0} (cmp : K → K → Ordering) (k : K) where
       let d : onward cmp k (L ++ R) paths ≡ get_or paths (length L) [] = rw (past_equal cmp k L R a) (rw n.1 (ap (λ j. get_or paths j []) i)) in
       ap (λ q. lower_count cmp k (L ++ R) ∷ q) d ∙ ap (λ j. j ∷ get_or paths (length L) []) i
 
-module _ {K V : Type 0} {cmp : K → K → Ordering} (o : IsTotalOrder cmp) (k : K) where
+module _ {K Q V : Type 0} {own : K → K → Ordering} {cmp : K → Q → Ordering} (o : IsQueryOrder own cmp) (k : Q) where
   -- the path ends at a key that is equal to k
-  pub path_found : (n : Node K V) (i : ℕ) → IsAscending cmp (pairs_of n) → IsFoundAt cmp k (own_pairs n) i → path_to cmp k n ≡ i ∷ []
+  pub path_found : (n : Node K V) (i : ℕ) → IsAscending own (pairs_of n) → IsFoundAt cmp k (own_pairs n) i → path_to cmp k n ≡ i ∷ []
   path_found n i a f =
       let s = own_pairs n in
       let t = item_there s i f.0 in
       let p = get_or s i t.0 in
       let cut = cut_item s i t.0 f.0 in
       let e = f.2 t.0 in
-      let sides = sides_equal o k (take i s) (drop (suc i) s) p (subst (IsAscending cmp) cut (own_ascending cmp n a)) e in
+      let sides = sides_equal o k (take i s) (drop (suc i) s) p (subst (IsAscending own) cut (own_ascending own n a)) e in
       let paths = map (path_to cmp k) (children_of n) in
       path_is cmp k n ∙ ap (λ ps. way_in cmp k ps paths) cut ∙ way_equal cmp k (take i s) (drop (suc i) s) p paths f.1 e sides.1
       ∙ ap (λ j. j ∷ []) (length_take i s (omega (arith, f.0)))
 
-  path_gap : (n : Node K V) (i : ℕ) → IsAscending cmp (pairs_of n) → IsGapAt cmp k (own_pairs n) i → path_to cmp k n ≡ i ∷ get_or (map (path_to cmp k) (children_of n)) i []
+  path_gap : (n : Node K V) (i : ℕ) → IsAscending own (pairs_of n) → IsGapAt cmp k (own_pairs n) i → path_to cmp k n ≡ i ∷ get_or (map (path_to cmp k) (children_of n)) i []
   path_gap n i a f =
       let s = own_pairs n in
       let paths = map (path_to cmp k) (children_of n) in
       path_is cmp k n ∙ ap (λ ps. way_in cmp k ps paths) (sym (take_drop i s))
-      ∙ way_between cmp k (take i s) (drop i s) paths f.1 (upper_rest o k s i (own_ascending cmp n a) f)
+      ∙ way_between cmp k (take i s) (drop i s) paths f.1 (upper_rest o k s i (own_ascending own n a) f)
       ∙ ap (λ j. j ∷ get_or paths j []) (length_take i s f.0)
 
   path_there : (cs : List (Node K V)) (i : ℕ) (n : Node K V) → i < length cs → get_or (map (path_to cmp k) cs) i [] ≡ path_to cmp k (get_or cs i n)
@@ -84,31 +86,31 @@ module _ {K V : Type 0} {cmp : K → K → Ordering} (o : IsTotalOrder cmp) (k :
   path_there (c ∷ cs) (suc i) n h = path_there cs i n (omega arith)
 
   -- from a gap into the child there
-  pub path_down : (n c : Node K V) (i : ℕ) → IsAscending cmp (pairs_of n) → IsGapAt cmp k (own_pairs n) i → i < length (children_of n) → c ≡ child_at n i → path_to cmp k n ≡ i ∷ path_to cmp k c
+  pub path_down : (n c : Node K V) (i : ℕ) → IsAscending own (pairs_of n) → IsGapAt cmp k (own_pairs n) i → i < length (children_of n) → c ≡ child_at n i → path_to cmp k n ≡ i ∷ path_to cmp k c
   path_down n c i a f h e = path_gap n i a f ∙ ap (λ q. i ∷ q) (path_there (children_of n) i n h ∙ ap (path_to cmp k) (sym e))
 
   -- the path ends at a gap in a leaf
-  pub path_leaf : (n : Node K V) (i : ℕ) → IsAscending cmp (pairs_of n) → IsGapAt cmp k (own_pairs n) i → IsLeaf n → path_to cmp k n ≡ i ∷ []
+  pub path_leaf : (n : Node K V) (i : ℕ) → IsAscending own (pairs_of n) → IsGapAt cmp k (own_pairs n) i → IsLeaf n → path_to cmp k n ≡ i ∷ []
   path_leaf n i a f l = path_gap n i a f ∙ ap (λ cs. i ∷ get_or (map (path_to cmp k) cs) i []) (leaf_children n l)
 
 -- a descent along the path
-module _ {K V : Type 0} {cmp : K → K → Ordering} (o : IsTotalOrder cmp) (k : K) {root node : Node K V} {path : List ℕ} (t : IsTree root) (a : IsAscending cmp (pairs_of root)) (w : IsOnWay cmp k root node path) (q : path_to cmp k root ≡ path ++ path_to cmp k node) where
+module _ {K Q V : Type 0} {own : K → K → Ordering} {cmp : K → Q → Ordering} (o : IsQueryOrder own cmp) (k : Q) {root node : Node K V} {path : List ℕ} (t : IsTree root) (a : IsAscending own (pairs_of root)) (w : IsOnWay cmp k root node path) (q : path_to cmp k root ≡ path ++ path_to cmp k node) where
   grown : (i : ℕ) (more rest : List ℕ) → more ≡ path ++ i ∷ [] → path_to cmp k node ≡ i ∷ rest → path_to cmp k root ≡ more ++ rest
   grown i more rest e f = q ∙ ap (λ p. path ++ p) f ∙ sym (append_assoc path (i ∷ []) rest) ∙ ap (λ p. p ++ rest) (sym e)
 
   -- it ends at a pair of the node
   pub path_ends : (i : ℕ) (more : List ℕ) → more ≡ path ++ i ∷ [] → IsFoundAt cmp k (own_pairs node) i → more ≡ path_to cmp k root
-  path_ends i more e f = sym (grown i more [] e (path_found o k node i (way_ascending cmp k t a w) f) ∙ append-nil more)
+  path_ends i more e f = sym (grown i more [] e (path_found o k node i (way_ascending cmp k own t a w) f) ∙ append-nil more)
 
   -- it ends at a gap of a leaf
   pub path_ends_leaf : (i : ℕ) (more : List ℕ) → more ≡ path ++ i ∷ [] → IsGapAt cmp k (own_pairs node) i → IsLeaf node → more ≡ path_to cmp k root
-  path_ends_leaf i more e f leaf = sym (grown i more [] e (path_leaf o k node i (way_ascending cmp k t a w) f leaf) ∙ append-nil more)
+  path_ends_leaf i more e f leaf = sym (grown i more [] e (path_leaf o k node i (way_ascending cmp k own t a w) f leaf) ∙ append-nil more)
 
   -- it goes on in a child
   pub path_goes_on : (i : ℕ) (child : Node K V) (more : List ℕ) → more ≡ path ++ i ∷ [] → IsGapAt cmp k (own_pairs node) i → i < length (children_of node) → child ≡ child_at node i → path_to cmp k root ≡ more ++ path_to cmp k child
-  path_goes_on i child more e f lt c = grown i more (path_to cmp k child) e (path_down o k node child i (way_ascending cmp k t a w) f lt c)
+  path_goes_on i child more e f lt c = grown i more (path_to cmp k child) e (path_down o k node child i (way_ascending cmp k own t a w) f lt c)
 
-module _ {K V : Type 0} {cmp : K → K → Ordering} (o : IsTotalOrder cmp) (k : K) where
+module _ {K Q V : Type 0} {own : K → K → Ordering} {cmp : K → Q → Ordering} (o : IsQueryOrder own cmp) (k : Q) where
   -- in a node the key is found, or its gap
   seek : (s : List (K × V)) → ((i : ℕ) × IsFoundAt cmp k s i) ⊎ ((i : ℕ) × IsGapAt cmp k s i)
   seek [] = inr (0, (omega arith, tt, λ d h. absurd (omega arith)))
@@ -120,7 +122,7 @@ module _ {K V : Type 0} {cmp : K → K → Ordering} (o : IsTotalOrder cmp) (k :
       go Equal h f = inl (0, (omega arith, tt, λ d. h))
       go Greater h f = inr (0, (omega arith, tt, λ d lt. h))
 
-  module _ {root : Node K V} (t : IsTree root) (a : IsAscending cmp (pairs_of root)) where
+  module _ {root : Node K V} (t : IsTree root) (a : IsAscending own (pairs_of root)) where
     abbrev Leads : Type 0
     Leads = IsFound cmp k root (path_to cmp k root) ⊎ IsGap cmp k root (path_to cmp k root)
 
@@ -144,6 +146,7 @@ module _ {K V : Type 0} {cmp : K → K → Ordering} (o : IsTotalOrder cmp) (k :
         go (inl f) = f
         go (inr f) = absurd (let none = (gap_at cmp k (path_to cmp k root) t.0 root t.2 f).here in let no : is_some (let o : Option (K × V) = None in o) ≡ true = rw none at some in cc)
 
-    -- and a value written there is put at the key
-    pub written_to_put : (w : V) → IsSome (at cmp (pairs_of root) k) → pairs_of (written root (path_to cmp k root) w) ≡ put cmp (pairs_of root) k w
-    written_to_put w some = written_put cmp k (path_to cmp k root) t.0 root w t.2 (path_held some)
+module _ {K V : Type 0} {cmp : K → K → Ordering} (o : IsTotalOrder cmp) (k : K) {root : Node K V} (t : IsTree root) (a : IsAscending cmp (pairs_of root)) where
+  -- a value written there is put at the key
+  pub written_to_put : (w : V) → IsSome (at cmp (pairs_of root) k) → pairs_of (written root (path_to cmp k root) w) ≡ put cmp (pairs_of root) k w
+  written_to_put w some = written_put cmp k (path_to cmp k root) t.0 root k w t.2 (path_held (own_order o) k t a some)

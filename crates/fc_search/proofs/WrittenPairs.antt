@@ -9,7 +9,7 @@ use Rattle.std.specs.declared.cmp.Ordering.{Ordering}
 use Rattle.std.specs.declared.cmp.Ordering.TheVariants.{Less}
 use Rattle.fc_base.specs.Ascending.{IsAscending}
 use Rattle.fc_base.specs.Parts.{below, at}
-use Rattle.fc_base.specs.OneKey.{put}
+use Rattle.fc_base.specs.OneKey.{put_by}
 use Rattle.fc_node.specs.Weave.{weave, ahead, behind}
 use Rattle.fc_node.specs.declared.node.Node.{Node, out-Node}
 use Rattle.fc_node.specs.Node.{items_or_none, own_pairs, children_of, child_at, boxed, pairs_of, IsLevelled}
@@ -195,7 +195,7 @@ module _ {K V : Type 0} (cmp : K → K → Ordering) where
       subst (IsAscending cmp) (sym (written_pairs path h n c.pair w l q c.is)) (ascending_value (place_ahead path n) (place_behind path n) c.pair w (subst (IsAscending cmp) c.parts a))
 
 -- what a search passes stays
-module _ {K V : Type 0} (cmp : K → K → Ordering) (k : K) where
+module _ {K Q V : Type 0} (cmp : K → Q → Ordering) (k : Q) where
   value_lower : (s : List (K × V)) (i : ℕ) (w : V) → lower_count cmp k (set_value s i w) ≡ lower_count cmp k s
   value_lower [] i w = refl
   value_lower (e ∷ s) zero w = one (is_lt (cmp e.0 k)) (e.0, w) e (below cmp s k)
@@ -239,11 +239,11 @@ module _ {K V : Type 0} (cmp : K → K → Ordering) (k : K) where
       ∙ ap (λ s. passed_in cmp k s (map (passed cmp k) (children_of n))) (child_own n i c) ∙ sym (passed_is cmp k n)
 
   -- a value written at the place of a key's pair is the value put at the key
-  pub written_put : (path : List ℕ) (h : ℕ) (n : Node K V) (w : V) → IsLevelled h n → IsFound cmp k n path → pairs_of (written n path w) ≡ put cmp (pairs_of n) k w
-  written_put path h n w l f =
+  pub written_put : (path : List ℕ) (h : ℕ) (n : Node K V) (j : K) (w : V) → IsLevelled h n → IsFound cmp k n path → pairs_of (written n path w) ≡ put_by cmp (pairs_of n) k j w
+  written_put path h n j w l f =
       let c = place_pairs path h n l f.place in
       let a = found_at cmp k path h n l f in
       written_pairs path h n c.pair w l f.place c.is
       ∙ ap (λ zs. zs ++ (c.pair.0, w) ∷ place_behind path n) (sym a.lower)
-      ∙ ap (λ o. below cmp (pairs_of n) k ++ (unwrap_or (option_map (λ e. e.0) o) k, w) ∷ place_behind path n) (sym (a.here ∙ c.is))
-      ∙ ap (λ zs. below cmp (pairs_of n) k ++ (unwrap_or (option_map (λ e. e.0) (at cmp (pairs_of n) k)) k, w) ∷ zs) (sym a.upper)
+      ∙ ap (λ o. below cmp (pairs_of n) k ++ (unwrap_or (option_map (λ e. e.0) o) j, w) ∷ place_behind path n) (sym (a.here ∙ c.is))
+      ∙ ap (λ zs. below cmp (pairs_of n) k ++ (unwrap_or (option_map (λ e. e.0) (at cmp (pairs_of n) k)) j, w) ∷ zs) (sym a.upper)

@@ -7,7 +7,7 @@ use Rattle.fc_base.specs.Parts.{below}
 use Rattle.fc_node.specs.declared.node.Node.{Node, Node-F, fold-Node}
 use Rattle.fc_node.specs.Node.{items_or_none}
 
-module _ {K V : Type 0} (cmp : K → K → Ordering) (k : K) where
+module _ {K Q V : Type 0} (cmp : K → Q → Ordering) (k : Q) where
   -- How many of the pairs have a key below k.
   abbrev pub lower_count : List (K × V) → ℕ
   lower_count s = length (below cmp s k)

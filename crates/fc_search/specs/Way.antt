@@ -7,7 +7,7 @@ use Rattle.fc_node.specs.declared.node.Node.{Node, Node-F, fold-Node}
 use Rattle.fc_node.specs.Node.{items_or_none}
 use Rattle.fc_search.specs.Passed.{lower_count}
 
-module _ {K V : Type 0} (cmp : K → K → Ordering) (k : K) where
+module _ {K Q V : Type 0} (cmp : K → Q → Ordering) (k : Q) where
   -- No step where a pair has a key equal to k, and else the path of the child after the keys below k, if there is one.
   abbrev pub onward : List (K × V) → List (List ℕ) → List ℕ
   onward s paths = if list_any (λ e. is_eq (cmp e.0 k)) s then [] else slice_index_or paths (lower_count cmp k s) []

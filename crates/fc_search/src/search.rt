@@ -7,22 +7,26 @@ ghost use Rattle.fc_search.specs.Found.{IsFoundAt, IsGapAt, IsFound, IsGap, seen
 ghost use Rattle.fc_search.specs.Passed.{passed};
 ghost use Rattle.fc_search.specs.Way.{path_to};
 
-use fc_base::{Count, compare};
+use fc_base::{Count, Query, compare};
 use fc_node::node::Node;
 use fc_node::path::Path;
 
 // Where the key stands among the node's own, or else the gap where it would go. From the left each key is compared, until
 // one is not below it.
-fn search_node<K: Ord, V>(node: &Node<K, V>, key: &K, count: &mut Count) -> Result<usize, usize>
-    ensures found { IfOk result (IsFoundAt K.cmp key.now (own_pairs node.now)) }
-    ensures gap { IfErr result (IsGapAt K.cmp key.now (own_pairs node.now)) }
+fn search_node<K: Ord, V, Q: Query<K>>(
+    node: &Node<K, V>,
+    key: Q,
+    count: &mut Count,
+) -> Result<usize, usize>
+    ensures found { IfOk result (IsFoundAt Q.order key (own_pairs node.now)) }
+    ensures gap { IfErr result (IsGapAt Q.order key (own_pairs node.now)) }
     ensures comparisons { count.new.comparisons ≡ count.old.comparisons + seen result (length (own_pairs node.now)) }
     ensures moves { count.new.moves ≡ count.old.moves }
 {
     let n = node.len();
     for i in 0..n {
-        let order = compare(key, &node.pair(i).0, count);
-        if order.is_gt() {
+        let order = compare(&node.pair(i).0, key, count);
+        if order.is_lt() {
             continue;
         }
         return if order.is_eq() { Ok(i) } else { Err(i) };
@@ -32,13 +36,17 @@ fn search_node<K: Ord, V>(node: &Node<K, V>, key: &K, count: &mut Count) -> Resu
 
 /// Where the key stands in the tree at `root`: `Ok` with the path to the pair that has an equal key, or `Err` with the path
 /// down to the gap between the pairs of a leaf where it would go. It compares each key that it passes once, and moves no pair.
-pub fn search<K: Ord, V>(root: &Node<K, V>, key: &K, count: &mut Count) -> Result<Path, Path>
+pub fn search<K: Ord, V, Q: Query<K>>(
+    root: &Node<K, V>,
+    key: Q,
+    count: &mut Count,
+) -> Result<Path, Path>
     requires levels { IsTree root.now }
     requires order { IsAscending K.cmp (pairs_of root.now) }
-    ensures found { IfOk result (IsFound K.cmp key.now root.now) }
-    ensures gap { IfErr result (IsGap K.cmp key.now root.now) }
-    ensures path { MatchResult result (λ p. p ≡ path_to K.cmp key.now root.now) (λ p. p ≡ path_to K.cmp key.now root.now) }
-    ensures comparisons { count.new.comparisons ≡ count.old.comparisons + passed K.cmp key.now root.now }
+    ensures found { IfOk result (IsFound Q.order key root.now) }
+    ensures gap { IfErr result (IsGap Q.order key root.now) }
+    ensures path { MatchResult result (λ p. p ≡ path_to Q.order key root.now) (λ p. p ≡ path_to Q.order key root.now) }
+    ensures comparisons { count.new.comparisons ≡ count.old.comparisons + passed Q.order key root.now }
     ensures bounded { (h : ℕ) → IsLevelled h root.now → count.new.comparisons ≤ count.old.comparisons + 11 * (h + 1) }
     ensures moves { count.new.moves ≡ count.old.moves }
 {
@@ -63,11 +71,15 @@ pub fn search<K: Ord, V>(root: &Node<K, V>, key: &K, count: &mut Count) -> Resul
 
 /// The pair in the tree at `root` whose key is equal to `key`, if there is one. It compares each key that it passes once, and
 /// moves no pair.
-pub fn get<'a, K: Ord, V>(root: &'a Node<K, V>, key: &K, count: &mut Count) -> Option<&'a (K, V)>
+pub fn get<'a, K: Ord, V, Q: Query<K>>(
+    root: &'a Node<K, V>,
+    key: Q,
+    count: &mut Count,
+) -> Option<&'a (K, V)>
     requires levels { IsTree root.now }
     requires order { IsAscending K.cmp (pairs_of root.now) }
-    ensures value { option_copied result ≡ at K.cmp (pairs_of root.now) key.now }
-    ensures comparisons { count.new.comparisons ≡ count.old.comparisons + passed K.cmp key.now root.now }
+    ensures value { option_copied result ≡ at Q.order (pairs_of root.now) key }
+    ensures comparisons { count.new.comparisons ≡ count.old.comparisons + passed Q.order key root.now }
     ensures bounded { (h : ℕ) → IsLevelled h root.now → count.new.comparisons ≤ count.old.comparisons + 11 * (h + 1) }
     ensures moves { count.new.moves ≡ count.old.moves }
 {

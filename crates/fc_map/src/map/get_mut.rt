@@ -1,36 +1,36 @@
 //! The value at a key, lent for writing.
 ghost use Rattle.std.specs.Prelude.{◌≡◌, ◌+◌, length, OnSome, Some};
 ghost use Rattle.std.specs.Borrow.{sem};
-ghost use Rattle.fc_base.specs.OneKey.{put};
+ghost use Rattle.fc_base.specs.OneKey.{put_by};
 ghost use Rattle.fc_base.specs.Parts.{value_at};
 ghost use Rattle.fc_map.specs.Counts.{IsBounded};
 ghost use Rattle.fc_map.specs.Entries.{entries, IsSoundMap, passed_in};
 
 use super::BTreeMap;
-use fc_base::Count;
+use fc_base::{Count, Query};
 
 impl<K: Ord, V> BTreeMap<K, V> {
     ghost use Rattle.fc_map.specs.LendsKey.{lends_get, lent_value, written_at};
 
     /// The value at an equal key, lent for writing, or `None` where there is none. The map ends with what the caller leaves in
     /// the value's place, and the tree's shape stays. Upstream: `BTreeMap::get_mut`.
-    pub fn get_mut(&mut self, key: &K) -> Option<&mut V>
-        ensures* writes_back { sem 𝓛 (lends_get K.row V.row K.Ord self.entry key.now result) }
-        ensures value { lent_value result ≡ value_at K.cmp (entries self.old) key.now }
-        ensures put { OnSome result ((w : V) → entries (written_at K.cmp key.now self.old w) ≡ put K.cmp (entries self.old) key.now w) }
-        ensures sound { OnSome result ((w : V) → IsSoundMap (written_at K.cmp key.now self.old w)) }
+    pub fn get_mut<Q: Query<K>>(&mut self, key: Q) -> Option<&mut V>
+        ensures* writes_back { sem 𝓛 (lends_get K.row V.row K.Ord Q.order self.entry key result) }
+        ensures value { lent_value result ≡ value_at Q.order (entries self.old) key }
+        ensures put { OnSome result ((k : K) (w : V) → entries (written_at Q.order key self.old w) ≡ put_by Q.order (entries self.old) key k w) }
+        ensures sound { OnSome result ((w : V) → IsSoundMap (written_at Q.order key self.old w)) }
     {
         self.get_mut_counted(key, &mut Count::new())
     }
 
     /// `get_mut`, with its comparisons added to the count: exactly those keys that a search from the left passes. It moves no
     /// pair.
-    pub fn get_mut_counted(&mut self, key: &K, count: &mut Count) -> Option<&mut V>
-        ensures* writes_back { sem 𝓛 (lends_get K.row V.row K.Ord self.entry key.now result) }
-        ensures value { lent_value result ≡ value_at K.cmp (entries self.old) key.now }
-        ensures put { OnSome result ((w : V) → entries (written_at K.cmp key.now self.old w) ≡ put K.cmp (entries self.old) key.now w) }
-        ensures sound { OnSome result ((w : V) → IsSoundMap (written_at K.cmp key.now self.old w)) }
-        ensures comparisons { count.new.comparisons ≡ count.old.comparisons + passed_in K.cmp key.now self.old }
+    pub fn get_mut_counted<Q: Query<K>>(&mut self, key: Q, count: &mut Count) -> Option<&mut V>
+        ensures* writes_back { sem 𝓛 (lends_get K.row V.row K.Ord Q.order self.entry key result) }
+        ensures value { lent_value result ≡ value_at Q.order (entries self.old) key }
+        ensures put { OnSome result ((k : K) (w : V) → entries (written_at Q.order key self.old w) ≡ put_by Q.order (entries self.old) key k w) }
+        ensures sound { OnSome result ((w : V) → IsSoundMap (written_at Q.order key self.old w)) }
+        ensures comparisons { count.new.comparisons ≡ count.old.comparisons + passed_in Q.order key self.old }
         ensures moves { count.new.moves ≡ count.old.moves }
         ensures bounded { IsBounded (length (entries self.old)) count.old count.new }
     {

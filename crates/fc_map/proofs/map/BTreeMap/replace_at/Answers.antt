@@ -9,7 +9,7 @@ returns-clause-old g c =
 
 pub returns-clause-put : goal.returns-clause-put
 returns-clause-put g c =
-    rw c.replace.ensures.after ((replaced g.K.Ord.cmp c.args.key.now c.args.self.now c.args.path.now c.args.value c.requires.sound c.requires.held).put_is)
+    rw c.replace.ensures.after ((replaced g.K.Ord.cmp c.args.key.now c.args.self.now c.args.path.now c.args.value c.requires.sound c.requires.held).put_is c.args.key.now)
 
 pub returns-clause-length : goal.returns-clause-length
 returns-clause-length g c = (replaced g.K.Ord.cmp c.args.key.now c.args.self.now c.args.path.now c.replace.new.dest c.requires.sound c.requires.held).length_is

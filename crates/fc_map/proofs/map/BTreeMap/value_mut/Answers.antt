@@ -13,5 +13,5 @@ invariant_of-self-lent g c = λ w.
     let sound : IsSoundMap (Some n) = rw same at c.self.invariant.1 in
     let ascending : IsAscending g.K.Ord.cmp (entries (Some n)) = rw same at c.self.invariant.0 in
     let len = c.self.invariant.2 ∙ ap (λ r. length (entries r)) same in
-    let kept = written_kept g.K.Ord.cmp n c.args.path.now w place sound ascending in
+    let kept = written_kept n c.args.path.now w place sound g.K.Ord.cmp ascending in
     (kept.0, kept.1, len ∙ kept.2)
