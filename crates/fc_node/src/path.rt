@@ -8,10 +8,10 @@ use std::marker::Model;
 pub const MAX_STEPS: usize = 25;
 
 /// A path down a tree: in each node that it leads through, the place of the child where it goes on, and at its end the
-/// place of a pair or of a gap. It takes no memory.
+/// place of a pair or of a gap. It takes no memory, and a byte a step, since a node has few places.
 #[derive(Drop)]
 pub struct Path {
-    steps: ArrayVec<usize, MAX_STEPS>,
+    steps: ArrayVec<u8, MAX_STEPS>,
 }
 
 impl Model for Path {
@@ -47,11 +47,11 @@ impl Path {
         requires { index < length self.now }
         ensures { result ≡ slice_index self.now index }
     {
-        self.steps.as_slice()[index]
+        self.steps.as_slice()[index] as usize
     }
 
     /// The steps in order.
-    pub fn as_slice(&self) -> &[usize]
+    pub fn as_slice(&self) -> &[u8]
         ensures value { result.now ≡ self.now }
         ensures fits { length self.now ≤ 25 }
     {
@@ -60,14 +60,15 @@ impl Path {
 
     /// Puts a step at the end.
     pub fn push(&mut self, step: usize)
-        requires { length self.old < 25 }
+        requires room { length self.old < 25 }
+        requires small { step < 256 }
         ensures { self.new ≡ self.old ++ step ∷ [] }
     {
-        self.steps.push(step);
+        self.steps.push(step as u8);
     }
 
     /// A path of these steps.
-    pub fn of(steps: &[usize]) -> Path
+    pub fn of(steps: &[u8]) -> Path
         requires { length steps.now ≤ 25 }
         ensures { result ≡ steps.now }
     {
@@ -78,17 +79,19 @@ impl Path {
 
     /// Puts another step in the place of the one at `index`.
     pub fn set(&mut self, index: usize, step: usize)
-        requires { index < length self.old }
+        requires in_bounds { index < length self.old }
+        requires small { step < 256 }
         ensures { self.new ≡ slice_set self.old index step }
     {
-        self.steps.as_mut_slice()[index] = step;
+        self.steps.as_mut_slice()[index] = step as u8;
     }
 
     /// Puts a step at the front.
     pub fn push_front(&mut self, step: usize)
-        requires { length self.old < 25 }
+        requires room { length self.old < 25 }
+        requires small { step < 256 }
         ensures { self.new ≡ step ∷ self.old }
     {
-        self.steps.insert(0, step);
+        self.steps.insert(0, step as u8);
     }
 }
