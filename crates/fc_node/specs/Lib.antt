@@ -3,6 +3,7 @@ pub mod Node
 pub mod Tree
 pub mod TreePlace
 pub mod Path
+pub mod Steps
 pub mod Split
 pub mod Siblings
 pub mod Bordered

@@ -1,27 +1,35 @@
 //! Paths down a tree.
 ghost use Rattle.std.specs.Prelude.{◌≡◌, ◌+◌, ◌<◌, ◌≤◌, [], ◌∷◌, ◌++◌, length, slice_index, slice_set};
 
-use arrayvec::ArrayVec;
 use std::marker::Model;
 
 /// The most steps that a path has: a tree of at most `usize::MAX` pairs has at most 25 levels of nodes.
 pub const MAX_STEPS: usize = 25;
 
 /// A path down a tree: in each node that it leads through, the place of the child where it goes on, and at its end the
-/// place of a pair or of a gap. It takes no memory.
-#[derive(Drop)]
+/// place of a pair or of a gap. It takes no memory, and a byte a step, since a node has few places. Past its end all bytes are zero.
+#[derive(Clone, Copy)]
 pub struct Path {
-    steps: ArrayVec<usize, MAX_STEPS>,
+    steps: [u8; MAX_STEPS],
+    len: usize,
 }
 
 impl Model for Path {
-    ghost use Rattle.std.specs.Prelude.{ℕ, ◌≤◌, List, length};
+    ghost use Rattle.std.specs.Prelude.{ℕ, List, length};
 
     ghost Value = { List ℕ };
 
-    ghost view = { λ p. p.steps.items };
+    ghost use Rattle.fc_node.specs.Steps.{path_of, filled, IsFilled};
 
-    ghost invariant = { λ p. length p.steps.items ≤ 25 };
+    ghost view = { path_of };
+
+    ghost invariant = { IsFilled };
+
+    ghost inverse = { λ path. record { steps = filled path; len = length path } };
+
+    ghost use Rattle.fc_node.specs.Steps.{gives_back};
+
+    ghost inverse_ok = { gives_back };
 }
 
 impl Path {
@@ -30,7 +38,8 @@ impl Path {
         ensures { result ≡ [] }
     {
         Path {
-            steps: ArrayVec::new(),
+            steps: [0; MAX_STEPS],
+            len: 0,
         }
     }
 
@@ -39,7 +48,7 @@ impl Path {
         ensures value { result ≡ length self.now }
         ensures fits { length self.now ≤ 25 }
     {
-        self.steps.len()
+        self.len
     }
 
     /// The step at `index`.
@@ -47,48 +56,59 @@ impl Path {
         requires { index < length self.now }
         ensures { result ≡ slice_index self.now index }
     {
-        self.steps.as_slice()[index]
+        self.as_slice()[index] as usize
     }
 
     /// The steps in order.
-    pub fn as_slice(&self) -> &[usize]
+    pub fn as_slice(&self) -> &[u8]
         ensures value { result.now ≡ self.now }
         ensures fits { length self.now ≤ 25 }
     {
-        self.steps.as_slice()
+        &self.steps[..self.len]
     }
 
     /// Puts a step at the end.
     pub fn push(&mut self, step: usize)
-        requires { length self.old < 25 }
+        requires room { length self.old < 25 }
+        requires small { step < 256 }
         ensures { self.new ≡ self.old ++ step ∷ [] }
     {
-        self.steps.push(step);
+        self.steps[self.len] = step as u8;
+        self.len += 1;
     }
 
     /// A path of these steps.
-    pub fn of(steps: &[usize]) -> Path
+    pub fn of(steps: &[u8]) -> Path
         requires { length steps.now ≤ 25 }
         ensures { result ≡ steps.now }
     {
-        let mut all = ArrayVec::new();
-        all.try_extend_from_slice(steps).unwrap();
-        Path { steps: all }
+        let mut all = [0; MAX_STEPS];
+        all[..steps.len()].copy_from_slice(steps);
+        Path {
+            steps: all,
+            len: steps.len(),
+        }
     }
 
     /// Puts another step in the place of the one at `index`.
     pub fn set(&mut self, index: usize, step: usize)
-        requires { index < length self.old }
+        requires in_bounds { index < length self.old }
+        requires small { step < 256 }
         ensures { self.new ≡ slice_set self.old index step }
     {
-        self.steps.as_mut_slice()[index] = step;
+        self.steps[index] = step as u8;
     }
 
     /// Puts a step at the front.
     pub fn push_front(&mut self, step: usize)
-        requires { length self.old < 25 }
+        requires room { length self.old < 25 }
+        requires small { step < 256 }
         ensures { self.new ≡ step ∷ self.old }
     {
-        self.steps.insert(0, step);
+        let mut all = [0; MAX_STEPS];
+        all[0] = step as u8;
+        all[1..self.len + 1].copy_from_slice(&self.steps[..self.len]);
+        self.steps = all;
+        self.len += 1;
     }
 }
