@@ -80,8 +80,6 @@ module _ {K V : Type 0} where
   put_place (Some root) path p front back put = (put.place, put.pair_is)
 
 module _ {K V : Type 0} {g : ord.Ghosts K} {g' : eq.Ghosts K} {g'' : partial.Ghosts K} where
-  pub occupied_written : (o : OccupiedEntry K V g g' g'') (path : List ℕ) (v : V) → path ≡ o.path → (p : IsPlaceIn (written_in o.map.now path v) o.path)
-      → record { map = record o.map { now = written_in o.map.now path v }; path = o.path; place = p } ≡ with_entry_value o v
-  occupied_written o path v is =
-      subst (λ (q : List ℕ). (p : IsPlaceIn (written_in o.map.now q v) o.path) → record { map = record o.map { now = written_in o.map.now q v }; path = o.path; place = p } ≡ with_entry_value o v) (sym is)
-      (λ p. ap (λ q. record (with_entry_value o v) { place = q }) (place-prop (map_written o v) o.path p (with_entry_value o v).place))
+  pub occupied_written : (o : OccupiedEntry K V g g' g'') (v : V) (p : IsPlaceIn (map_written o v) o.path)
+      → record { map = record o.map { now = map_written o v }; path = o.path; place = p } ≡ with_entry_value o v
+  occupied_written o v p = ap (λ q. record (with_entry_value o v) { place = q }) (place-prop (map_written o v) o.path p (with_entry_value o v).place)

@@ -7,5 +7,4 @@ pub mod Unique
 pub mod Entry
 pub mod Writing
 pub mod Walks
-pub mod Steps
 pub mod Stretches

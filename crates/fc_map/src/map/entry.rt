@@ -6,13 +6,11 @@ ghost use Rattle.fc_map.specs.Unique.{open-prop, place-prop};
 
 mod calls;
 mod occupied;
-mod steps;
 mod try_entry;
 mod vacant;
 
 use super::BTreeMap;
 use fc_node::path::Path;
-use steps::Steps;
 
 /// The place of a key in a map. Dropped, it leaves the map as it was. Upstream: `Entry`.
 #[derive(Drop)]
@@ -34,7 +32,7 @@ pub struct VacantEntry<'a, K: Ord, V> {
 /// A pair of the map. Upstream: `OccupiedEntry`.
 pub struct OccupiedEntry<'a, K: Ord, V> {
     pub(crate) map: &'a mut BTreeMap<K, V>,
-    pub(crate) path: Steps,
+    pub(crate) path: Path,
     ghost place: { IsPlaceIn map.now path } by { place-prop map.now path },
 }
 

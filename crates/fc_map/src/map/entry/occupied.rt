@@ -15,16 +15,14 @@ impl<'a, K: Ord + Drop, V: Drop> OccupiedEntry<'a, K, V> {
     pub fn key(&self) -> &K
         ensures { entry_key (Occupied self.now) ≡ Some result.now }
     {
-        let path = self.path.to_path();
-        &self.map.pair_of(&path).0
+        &self.map.pair_of(&self.path).0
     }
 
     /// The value of the pair. Upstream: `OccupiedEntry::get`.
     pub fn get(&self) -> &V
         ensures { entry_value (Occupied self.now) ≡ Some result.now }
     {
-        let path = self.path.to_path();
-        &self.map.pair_of(&path).1
+        &self.map.pair_of(&self.path).1
     }
 
     /// The value of the pair, lent for writing; the entry stays in use. Upstream: `OccupiedEntry::get_mut`.
@@ -33,7 +31,7 @@ impl<'a, K: Ord + Drop, V: Drop> OccupiedEntry<'a, K, V> {
         ensures value { entry_value (Occupied self.old) ≡ Some result.now }
         ensures sound { IsSoundMap (entry_map (Occupied self.old)) }
     {
-        let path = self.path.to_path();
+        let path = self.path;
         self.map.value_mut(&path)
     }
 
@@ -45,7 +43,7 @@ impl<'a, K: Ord + Drop, V: Drop> OccupiedEntry<'a, K, V> {
         ensures sound { (w : V) → IsSoundMap (map_written self.entry w) }
     {
         let OccupiedEntry { map, path } = self;
-        map.value_mut(&path.to_path())
+        map.value_mut(&path)
     }
 
     /// Puts another value into the pair, which keeps its key, and answers the old one. Upstream: `OccupiedEntry::insert`.
@@ -83,8 +81,8 @@ impl<'a, K: Ord + Drop, V: Drop> OccupiedEntry<'a, K, V> {
         ensures moved { count.old.moves < count.new.moves }
         ensures bounded { IsBounded (length (entries (entry_map (Occupied self.entry)))) count.old count.new }
     {
-        let steps = self.path;
-        let pair = self.map.take_at(&steps.to_path(), count);
+        let path = self.path;
+        let pair = self.map.take_at(&path, count);
         let OccupiedEntry { map: _, path: _ } = self;
         pair
     }

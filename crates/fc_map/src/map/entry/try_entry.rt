@@ -9,7 +9,6 @@ ghost use Rattle.fc_map.specs.Entries.{entries, passed_in};
 ghost use Rattle.fc_map.specs.Entry.{entry_map, entry_map_ref, entry_key, entry_pair, list_with, list_without, rests_if_refused};
 
 use super::super::BTreeMap;
-use super::steps::Steps;
 use super::{Entry, OccupiedEntry, VacantEntry};
 use fc_base::{Count, TryReserveError};
 
@@ -55,10 +54,7 @@ impl<K: Ord + Drop, V: Drop> BTreeMap<K, V> {
         ensures bounded { IsBounded (length (entries self.old)) count.old count.new }
     {
         match self.locate(&key, count) {
-            Ok(path) => Ok(Entry::Occupied(OccupiedEntry {
-                map: self,
-                path: Steps::of(&path),
-            })),
+            Ok(path) => Ok(Entry::Occupied(OccupiedEntry { map: self, path })),
             Err(path) => Ok(Entry::Vacant(VacantEntry {
                 map: self,
                 key,

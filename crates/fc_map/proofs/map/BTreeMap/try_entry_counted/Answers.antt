@@ -1,5 +1,4 @@
-use Rattle.std.proofs.Common.{refl, sym, subst}
-use Rattle.fc_map.specs.Place.{IsHeldAt}
+use Rattle.std.proofs.Common.{refl, sym}
 use Rattle.fc_map.proofs.PlaceFacts.{held_pair, open_none, open_cut, replaced}
 use Rattle.fc_map.proofs.EntryFacts.{held_key, held_cut, open_key, open_put}
 use Rattle.fc_map.proofs.map.BTreeMap.try_entry_counted.Goals as goal
@@ -9,8 +8,8 @@ returns-in-Ok g c =
     let cmp = g.K.Ord.cmp in
     let m = c.args.self.now in
     let k = c.args.key in
-    let path = c.of.result in
-    let found = subst (IsHeldAt cmp k m) (sym c.of.ensures) c.in-Ok.ensures.found in
+    let path = c.in-Ok.path in
+    let found = c.in-Ok.ensures.found in
     let sound = c.in-Ok.ensures.sound in (
       (refl, λ w. refl, tt),
       record {
