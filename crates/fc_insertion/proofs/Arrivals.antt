@@ -222,12 +222,17 @@ module _ {K V : Type 0} where
             ∙ sym (ap (λ x. take x (own_pairs n ++ up ∷ own_pairs r)) at_pairs ∙ take-append-add (own_pairs n) (up ∷ own_pairs r) (suc (i - (k + 1)))) ∙ g,
       )
 
+  -- in one that was not split
+  leaf_place : (old new : Node K V) (i : ℕ) (pair : K × V) → IsLeaf old → IsLeaf new → i ≤ length (own_pairs old) → own_pairs new ≡ insert (own_pairs old) i pair → IsPlace (i ∷ []) new × (place_ahead (i ∷ []) new ≡ before (i ∷ []) old)
+  leaf_place old new i pair l₁ l₂ le e =
+      let n : length (own_pairs new) ≡ length (own_pairs old) + 1 = ap length e ∙ length-insert (own_pairs old) i pair le in
+      (omega arith, leaf_front new i l₂ ∙ ap (take i) e ∙ take_put (own_pairs old) i pair le ∙ sym (leaf_lead old i l₁))
+
   leaf_settled : (old new : Node K V) (i : ℕ) (s : Split K V) (pair : K × V) → IsLeaf old → IsLeaf new → IfSome s (λ x. IsLeaf x.1.value) → i ≤ length (own_pairs old) → own_pairs_after new s ≡ insert (own_pairs old) i pair
       → MatchOption s (length (own_pairs old) < 11) (λ _. length (own_pairs old) ≡ 11) → IfSome s (λ _. length (own_pairs new) ≡ left_length i) → HasArrived (i ∷ []) old new s
   leaf_settled old new i None pair l₁ l₂ l₃ le e room left =
       let none = leaf_room (i ∷ []) old refl room in
-      let n : length (own_pairs new) ≡ length (own_pairs old) + 1 = ap length e ∙ length-insert (own_pairs old) i pair le in
-      by_steps (i ∷ []) (i ∷ []) old new None 1 refl (omega arith) (omega arith, leaf_front new i l₂ ∙ ap (take i) e ∙ take_put (own_pairs old) i pair le ∙ sym (leaf_lead old i l₁))
+      by_steps (i ∷ []) (i ∷ []) old new None 1 refl (omega arith) (leaf_place old new i pair l₁ l₂ le e)
   leaf_settled old new i (Some x) pair l₁ l₂ l₃ le e room left =
       let all = leaf_full (i ∷ []) old refl room in
       let n : length (own_pairs new ++ x.0 ∷ own_pairs x.1.value) ≡ length (own_pairs old) + 1 = ap length e ∙ length-insert (own_pairs old) i pair le in
@@ -243,6 +248,22 @@ module _ {K V : Type 0} where
       let c = place_pairs p h n l w.0 in
       let d = same_cut (place_ahead p n) (place_behind p n) front back c.pair pair (sym c.parts ∙ e) w.1 in
       record { place = w.0; pair_is = c.is ∙ ap Some d.0; ahead = w.1; behind = d.1 }
+
+  -- into a leaf that has room
+  pub put_in_room : (p : List ℕ) (old new : Node K V) (pair : K × V) → p ≡ get_or p 0 0 ∷ [] → IsLeaf old → IsLeaf new → length (own_pairs old) < 11 → get_or p 0 0 ≤ length (own_pairs old) → own_pairs new ≡ insert (own_pairs old) (get_or p 0 0) pair → pairs_of new ≡ before p old ++ pair ∷ after p old
+      → IsPutAt p new pair (before p old) (after p old)
+  put_in_room p old new pair o l₁ l₂ room le e parts =
+      let n : length (own_pairs new) ≡ length (own_pairs old) + 1 = ap length e ∙ length-insert (own_pairs old) (get_or p 0 0) pair le in
+      put_at p new pair _ _ 0 (omega arith, l₂) parts (subst (λ q. IsPlace q new × (place_ahead q new ≡ before q old)) (sym o) (leaf_place old new (get_or p 0 0) pair l₁ l₂ le e))
+
+  -- below an inner node that stays whole
+  pub put_in_room_below : (p : List ℕ) (old mid c child : Node K V) (pair : K × V) (h : ℕ) → IsStep p old → IsChildSet old mid (get_or p 0 0) c → child ≡ child_at old (get_or p 0 0) → IsLevelled h mid → pairs_of mid ≡ before p old ++ pair ∷ after p old
+      → IsPutAt (slice_range p 1 (length p)) c pair (before (slice_range p 1 (length p)) child) (after (slice_range p 1 (length p)) child) → IsPutAt p mid pair (before p old) (after p old)
+  put_in_room_below p old mid c child pair h s m ci l parts w =
+      let rest : List ℕ = slice_range p 1 (length p) in
+      let i : ℕ = get_or p 0 0 in
+      let b = settled_below old i s.le s.inner mid c false rest (before rest child) m (w.place, w.ahead) in
+      put_at p mid pair _ _ h l parts (subst (λ q. IsPlace q mid × (place_ahead q mid ≡ before q old)) (sym s.path_is) (subst (λ x. IsPlace (i ∷ rest) mid × (place_ahead (i ∷ rest) mid ≡ lead_in old i ++ before rest x)) ci b))
 
   -- in a tree that is as high as before
   pub put_same : (p : List ℕ) (old new : Node K V) (pair : K × V) (h : ℕ) → cascade p old < length p → IsLevelled h new → pairs_of new ≡ before p old ++ pair ∷ after p old → HasArrived p old new None → IsPutAt (path_after (nodes_needed p old) p) new pair (before p old) (after p old)

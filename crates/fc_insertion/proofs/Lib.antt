@@ -4,3 +4,4 @@ pub mod Spares
 pub mod Cascades
 pub mod ArrivalSteps
 pub mod Arrivals
+pub mod Leaves

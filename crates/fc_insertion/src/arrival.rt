@@ -8,7 +8,7 @@ use fc_node::path::Path;
 
 // The path to a new pair, by the path to its gap and the number of nodes that are made for it: as many nodes of the path are
 // split, from the leaf upwards, and one more than the path has makes a new root. A new pair stays in a leaf.
-pub(crate) fn arrival(path: &[usize], nodes: usize) -> Path
+pub(crate) fn arrival(path: &[u8], nodes: usize) -> Path
     requires steps { AllByRecursion (λ i. i ≤ 11) path.now }
     requires short { length path.now + (if nat_lt (length path.now) nodes then 1 else 0) ≤ 25 }
     ensures { result ≡ path_after nodes path.now }

@@ -20,7 +20,7 @@ use std::mem;
 /// the first pair moves. The answer is the path to the pair in the tree as it then is.
 pub fn insert<K: Drop, V: Drop>(
     root: &mut Box<Node<K, V>>,
-    path: &[usize],
+    path: &[u8],
     pair: (K, V),
     room: Room<K, V>,
     count: &mut Count,
@@ -54,7 +54,7 @@ pub fn insert<K: Drop, V: Drop>(
 // Inserts with the nodes made ahead, and uses up all of them.
 fn insert_with<K: Drop, V: Drop>(
     root: &mut Box<Node<K, V>>,
-    path: &[usize],
+    path: &[u8],
     pair: (K, V),
     leaf: Option<Box<Node<K, V>>>,
     inner: &mut Spares<K, V>,
@@ -113,7 +113,7 @@ fn grow<K: Drop, V: Drop>(
 // behind it.
 fn insert_below<K: Drop, V: Drop>(
     node: &mut Node<K, V>,
-    path: &[usize],
+    path: &[u8],
     pair: (K, V),
     leaf: Option<Box<Node<K, V>>>,
     inner: &mut Spares<K, V>,
@@ -144,7 +144,7 @@ fn insert_below<K: Drop, V: Drop>(
     ensures moves { MatchOption result (count.new.moves ≤ count.old.moves + 12 * cascade path.now node.old + 11) (λ _. count.new.moves ≤ count.old.moves + 12 * cascade path.now node.old) }
     ensures moved { count.old.moves < count.new.moves }
 {
-    let i = path[0];
+    let i = path[0] as usize;
     if path.len() == 1 {
         return put_leaf(node, i, pair, leaf, count);
     }

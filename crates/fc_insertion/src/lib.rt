@@ -3,4 +3,5 @@
 
 mod arrival;
 pub mod insertion;
+pub mod leaf;
 pub mod room;

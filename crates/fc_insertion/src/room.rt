@@ -57,7 +57,7 @@ impl<K, V> Room<K, V> {
 pub fn try_room<K: Drop, V: Drop>(
     alloc: Global,
     root: &Node<K, V>,
-    path: &[usize],
+    path: &[u8],
 ) -> Result<Room<K, V>, TryReserveError>
     requires some { 0 < length path.now }
     requires short { length path.now ≤ 25 }
@@ -111,7 +111,7 @@ fn try_spares<K: Drop, V: Drop>(
 }
 
 // How many nodes of the path are full, one after another from the leaf upwards.
-fn count_full<K, V>(node: &Node<K, V>, path: &[usize]) -> usize
+fn count_full<K, V>(node: &Node<K, V>, path: &[u8]) -> usize
     requires some { 0 < length path.now }
     requires path { IsPath path.now node.now }
     requires levels { IsLevelled (length path.now - 1) node.now }
@@ -121,7 +121,7 @@ fn count_full<K, V>(node: &Node<K, V>, path: &[usize]) -> usize
         return if node.len() == CAPACITY { 1 } else { 0 };
     }
     let rest = &path[1..];
-    let below = count_full(node.child(path[0]), rest);
+    let below = count_full(node.child(path[0] as usize), rest);
     if below == rest.len() && node.len() == CAPACITY {
         path.len()
     } else {

@@ -32,6 +32,7 @@ pub use bounds::is_range;
 pub use entry::{Entry, OccupiedEntry, VacantEntry};
 use fc_base::{Count, Query, TryReserveError};
 use fc_insertion::insertion::{first_leaf, insert};
+use fc_insertion::leaf::{has_room, insert_in_leaf};
 use fc_insertion::room::try_room;
 use fc_node::node::Node;
 use fc_node::path::Path;
@@ -386,7 +387,7 @@ impl<K: Ord + Drop, V: Drop> BTreeMap<K, V> {
 fn insert_in<K: Ord + Drop, V: Drop>(
     alloc: Global,
     root: &mut Box<Node<K, V>>,
-    path: &[usize],
+    path: &[u8],
     pair: (K, V),
     count: &mut Count,
 ) -> Result<Path, TryReserveError>
@@ -405,6 +406,10 @@ fn insert_in<K: Ord + Drop, V: Drop>(
     ensures moves { OnOk result (IsMoved (length (pairs_of root.new.value)) count.old count.new) }
     ensures moved { OnOk result (count.old.moves < count.new.moves) }
 {
+    if has_room(root, path) {
+        insert_in_leaf(root, path, pair, count);
+        return Ok(Path::of(path));
+    }
     let room = try_room(alloc, root, path)?;
     Ok(insert(root, path, pair, room, count))
 }

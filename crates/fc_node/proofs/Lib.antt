@@ -10,3 +10,4 @@ pub mod Places
 pub mod Gaps
 pub mod DepthFacts
 pub mod PathSteps
+pub mod Sizes

@@ -34,10 +34,6 @@ module _ {K V : Type 0} where
   all_last P (c ∷ cs) zero d h a = (a.0, tt)
   all_last P (c ∷ cs) (suc i) d h a = let r = all_last P cs i d (omega arith) a.1 in (r.0, (a.0, r.1))
 
-  pub level_size : (h : ℕ) (n : Node K V) → IsLevelled h n → length (own_pairs n) ≤ 11
-  level_size zero n l = l.0
-  level_size (suc h) n l = l.0
-
   -- the short child and the sibling that it is mended with
   pub pair_short : (h : ℕ) (n : Node K V) (i j : ℕ) → j ≡ i - 1 → IsShortAt h n i → IsPairAt h n j
   pair_short h n zero j e s =

@@ -13,7 +13,7 @@ use fc_node::node::{CAPACITY, MIN_LEN, Node};
 /// only pair. It compares nothing and takes no memory.
 pub fn remove<K: Drop, V: Drop>(
     root: Box<Node<K, V>>,
-    path: &[usize],
+    path: &[u8],
     count: &mut Count,
 ) -> ((K, V), Option<Box<Node<K, V>>>)
     requires sound { (h : ℕ) × IsSoundRoot h root.value }
@@ -50,7 +50,7 @@ fn without_empty_root<K: Drop, V: Drop>(root: Box<Node<K, V>>) -> Option<Box<Nod
 }
 
 // Takes the pair at the place out, and mends the nodes below `node`.
-fn remove_at<K: Drop, V: Drop>(node: &mut Node<K, V>, path: &[usize], count: &mut Count) -> (K, V)
+fn remove_at<K: Drop, V: Drop>(node: &mut Node<K, V>, path: &[u8], count: &mut Count) -> (K, V)
     requires sound { (h : ℕ) × IsSoundRoot h node.old }
     requires place { IsPlace path.now node.old }
     ensures pair { place_pair path.now node.old ≡ Some result }
@@ -60,7 +60,7 @@ fn remove_at<K: Drop, V: Drop>(node: &mut Node<K, V>, path: &[usize], count: &mu
     ensures moved { count.old.moves < count.new.moves }
     ensures comparisons { count.new.comparisons ≡ count.old.comparisons }
 {
-    let i = path[0];
+    let i = path[0] as usize;
     if path.len() == 1 {
         return remove_own(node, i, count);
     }
@@ -119,31 +119,46 @@ fn remove_first<K: Drop, V: Drop>(node: &mut Node<K, V>, count: &mut Count) -> (
     pair
 }
 
-// Mends the child at `index` where it has fewer than 5 pairs: with the child on its left where there is one, else with the one
-// on its right. Where both and the pair between them fit in one node, they are merged, and else one pair is stolen.
+// Mends the child at `index` where it has fewer than 5 pairs.
+#[inline]
 fn mend_child<K: Drop, V: Drop>(node: &mut Node<K, V>, index: usize, count: &mut Count)
     requires { (h : ℕ) × IsShortAt h node.old index }
 
     // A child that has 5 pairs stays.
     ensures whole { 5 ≤ length (own_pairs (child_at node.old index)) → node.new ≡ node.old }
-    ensures merged { length (own_pairs (child_at node.old index)) < 5 → together node.old (index - 1) ≤ 11 → IsMerged (index - 1) node.old node.new }
-    ensures stolen_left { length (own_pairs (child_at node.old index)) < 5 → 11 < together node.old (index - 1) → 0 < index → IsShared (index - 1) (length (own_pairs (child_at node.old (index - 1))) - 1) node.old node.new }
-    ensures stolen_right { length (own_pairs (child_at node.old index)) < 5 → 11 < together node.old (index - 1) → index ≡ 0 → IsShared 0 5 node.old node.new }
+    ensures whole_moves { 5 ≤ length (own_pairs (child_at node.old index)) → count.new.moves ≡ count.old.moves }
 
     // All pairs stay, and no child is short.
     ensures pairs { pairs_of node.new ≡ pairs_of node.old }
     ensures levels { (h : ℕ) → IsShortAt h node.old index → IsShrunk (suc h) node.old node.new }
-    ensures whole_moves { 5 ≤ length (own_pairs (child_at node.old index)) → count.new.moves ≡ count.old.moves }
-    ensures merge_moves { length (own_pairs (child_at node.old index)) < 5 → together node.old (index - 1) ≤ 11 → count.new.moves ≡ count.old.moves + ((length (own_pairs node.old) - (index - 1)) + (length (own_pairs (child_at node.old (index - 1 + 1))) + 1)) }
-    ensures left_theft_moves { length (own_pairs (child_at node.old index)) < 5 → 11 < together node.old (index - 1) → 0 < index → count.new.moves ≡ count.old.moves + (length (own_pairs (child_at node.old (index - 1 + 1))) + 4) }
-    ensures right_theft_moves { length (own_pairs (child_at node.old index)) < 5 → 11 < together node.old (index - 1) → index ≡ 0 → count.new.moves ≡ count.old.moves + (length (own_pairs (child_at node.old 1)) + 3) }
+    ensures kept_moves { count.old.moves ≤ count.new.moves }
     ensures moves { count.new.moves ≤ count.old.moves + 18 }
-    ensures theft_moves { 11 < together node.old (index - 1) → count.new.moves ≤ count.old.moves + 14 }
     ensures comparisons { count.new.comparisons ≡ count.old.comparisons }
 {
     if node.child(index).len() >= MIN_LEN {
         return;
     }
+    mend_short(node, index, count);
+}
+
+// Mends the child at `index`, which has 4 pairs: with the child on its left where there is one, else with the one on its right.
+// Where both and the pair between them fit in one node, they are merged, and else one pair is stolen.
+fn mend_short<K: Drop, V: Drop>(node: &mut Node<K, V>, index: usize, count: &mut Count)
+    requires at { (h : ℕ) × IsShortAt h node.old index }
+    requires short { length (own_pairs (child_at node.old index)) < 5 }
+    ensures merged { together node.old (index - 1) ≤ 11 → IsMerged (index - 1) node.old node.new }
+    ensures stolen_left { 11 < together node.old (index - 1) → 0 < index → IsShared (index - 1) (length (own_pairs (child_at node.old (index - 1))) - 1) node.old node.new }
+    ensures stolen_right { 11 < together node.old (index - 1) → index ≡ 0 → IsShared 0 5 node.old node.new }
+    ensures pairs { pairs_of node.new ≡ pairs_of node.old }
+    ensures levels { (h : ℕ) → IsShortAt h node.old index → IsShrunk (suc h) node.old node.new }
+    ensures merge_moves { together node.old (index - 1) ≤ 11 → count.new.moves ≡ count.old.moves + ((length (own_pairs node.old) - (index - 1)) + (length (own_pairs (child_at node.old (index - 1 + 1))) + 1)) }
+    ensures left_theft_moves { 11 < together node.old (index - 1) → 0 < index → count.new.moves ≡ count.old.moves + (length (own_pairs (child_at node.old (index - 1 + 1))) + 4) }
+    ensures right_theft_moves { 11 < together node.old (index - 1) → index ≡ 0 → count.new.moves ≡ count.old.moves + (length (own_pairs (child_at node.old 1)) + 3) }
+    ensures kept_moves { count.old.moves ≤ count.new.moves }
+    ensures moves { count.new.moves ≤ count.old.moves + 18 }
+    ensures theft_moves { 11 < together node.old (index - 1) → count.new.moves ≤ count.old.moves + 14 }
+    ensures comparisons { count.new.comparisons ≡ count.old.comparisons }
+{
     let place = index.saturating_sub(1);
     if node.child(place).len() + node.child(place + 1).len() < CAPACITY {
         node.merge(place, count);

@@ -18,6 +18,7 @@ use Rattle.fc_node.specs.Node.{IsTree}
 use Rattle.fc_search.specs.Found.{AllBelow, AllAbove, IsFoundAt, IsGapAt, IsFound, IsGap}
 use Rattle.fc_node.proofs.Lists.{all_back, all_both}
 use Rattle.fc_node.proofs.Pairs.{leaf_children}
+use Rattle.fc_node.proofs.Sizes.{level_size}
 use Rattle.fc_search.proofs.Ordered.{all_more, ascending_middle, sides_equal, side_lower, side_upper, IsAround, around_gap, around_pair}
 use Rattle.fc_node.proofs.Gaps.{take_item, item_there, own_pair, lead_pair, rest_pair, rest_none, descent_levels, descent_pairs, node_more, descent_more, before_more, after_more, path_more, place_more, pair_more, ahead_more, behind_more, gap_pairs, place_pairs}
 
@@ -56,6 +57,10 @@ module _ {K Q V : Type 0} (cmp : K → Q → Ordering) (k : Q) where
   -- a path has room for its steps
   pub way_room : {root node : Node K V} {path : List ℕ} → IsTree root → IsOnWay cmp k root node path → length path < 25
   way_room t w = let d = way_levels t w in omega (arith, d.1, t.1)
+
+  -- a place in it fits a byte
+  pub way_small : {root node : Node K V} {path : List ℕ} (i : ℕ) → IsTree root → IsOnWay cmp k root node path → i ≤ length (own_pairs node) → i < 256
+  way_small i t w le = let d = way_levels t w in let fits = level_size d.0 _ d.2 in omega arith
 
   -- its pairs are ascending
   pub way_ascending : (own : K → K → Ordering) {root node : Node K V} {path : List ℕ} → IsTree root → IsAscending own (pairs_of root) → IsOnWay cmp k root node path → IsAscending own (pairs_of node)

@@ -49,7 +49,7 @@ trait Descend {
     ghost steps: { ℕ };
 
     // The value of the pair at the end of the path.
-    fn value_mut<'a, K, V>(node: &'a mut Node<K, V>, path: &[usize]) -> &'a mut V
+    fn value_mut<'a, K, V>(node: &'a mut Node<K, V>, path: &[u8]) -> &'a mut V
         requires place { IsPlace path.now node.old }
         requires bounded { length path.now ≤ steps }
         ensures* writes_back { sem 𝓛 (lends_at K.row V.row node.entry path.now result) }
@@ -62,8 +62,8 @@ struct Here;
 impl Descend for Here {
     ghost steps = { 1 };
 
-    fn value_mut<'a, K, V>(node: &'a mut Node<K, V>, path: &[usize]) -> &'a mut V {
-        own_value(node, path[0])
+    fn value_mut<'a, K, V>(node: &'a mut Node<K, V>, path: &[u8]) -> &'a mut V {
+        own_value(node, path[0] as usize)
     }
 }
 
@@ -75,8 +75,8 @@ struct Below<D: Descend> {
 impl<D: Descend> Descend for Below<D> {
     ghost steps = { suc D.steps };
 
-    fn value_mut<'a, K, V>(node: &'a mut Node<K, V>, path: &[usize]) -> &'a mut V {
-        let place = path[0];
+    fn value_mut<'a, K, V>(node: &'a mut Node<K, V>, path: &[u8]) -> &'a mut V {
+        let place = path[0] as usize;
         if path.len() == 1 {
             own_value(node, place)
         } else {

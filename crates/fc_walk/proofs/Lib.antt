@@ -6,3 +6,4 @@ pub mod Spans
 pub mod SpanEnds
 pub mod Opening
 pub mod GapFacts
+pub mod Steps

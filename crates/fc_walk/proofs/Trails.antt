@@ -12,6 +12,7 @@ use Rattle.fc_node.proofs.Lists.{take_nil, length_take}
 use Rattle.fc_node.proofs.Weaves.{behind_nil, weave_at}
 use Rattle.fc_node.proofs.Pairs.{leaf_children, child_below}
 use Rattle.fc_node.proofs.Formed.{leaf_or_inner}
+use Rattle.fc_node.proofs.Sizes.{level_size}
 use Rattle.fc_node.proofs.Gaps.{take_item, drop_item, rest_pair, rest_none, leaf_gap, inner_gap, lead_pair, gap_pairs, node_more}
 use Rattle.fc_node.specs.Tree.{Map, entries, IsSoundMap}
 use Rattle.fc_walk.specs.Trail.{rest_of, lead_of, places_of, IsStack, IsStanding, IsChain, IsTrailFrom, IsTrail}
@@ -34,10 +35,6 @@ module _ {K V : Type 0} where
   inner_of : (h : ℕ) (n : Node K V) → IsLevelled h n → 0 < length (children_of n) → IsInner n
   inner_of zero n l k = absurd (let e : length (children_of n) ≡ 0 = ap length (leaf_children n l.1) in omega arith)
   inner_of (suc h) n l k = l.1
-
-  fits_in : (h : ℕ) (n : Node K V) → IsLevelled h n → length (own_pairs n) ≤ 11
-  fits_in zero n l = l.0
-  fits_in (suc h) n l = l.0
 
   behind_leaf : (n : Node K V) (i : ℕ) → IsLeaf n → behind_in n i ≡ rest_in n (suc i)
   behind_leaf n i l =
@@ -110,7 +107,7 @@ module _ {K V : Type 0} where
   stack_top : (m : ℕ) (s : List (Spot K V)) (x : Spot K V) → IsStack m (s ++ x ∷ []) → IsTop x
   stack_top zero [] x h = absurd h
   stack_top zero (y ∷ s) x h = absurd h
-  stack_top (suc m) [] x h = record { height = m; levels = h.1; le = h.0; fits = fits_in m x.0.now h.1 }
+  stack_top (suc m) [] x h = record { height = m; levels = h.1; le = h.0; fits = level_size m x.0.now h.1 }
   stack_top (suc m) (y ∷ s) x h = stack_top m s x h.2
 
   pub standing_top : (s : List (Spot K V)) (x : Spot K V) → IsStanding (s ++ x ∷ []) → IsTop x

@@ -19,7 +19,7 @@ fn one_of(count: usize) -> usize
 }
 
 /// How many steps of the path to a gap lead to the pair behind it: 0 where there is none.
-pub fn steps_behind<K, V>(node: &Node<K, V>, gap: &[usize]) -> usize
+pub fn steps_behind<K, V>(node: &Node<K, V>, gap: &[u8]) -> usize
     requires some { 0 < length gap.now }
     requires path { IsPath gap.now node.now }
     requires levels { IsLevelled (length gap.now - 1) node.now }
@@ -28,16 +28,16 @@ pub fn steps_behind<K, V>(node: &Node<K, V>, gap: &[usize]) -> usize
     ensures place { 0 < result → IsPlace (take result gap.now) node.now }
     ensures ahead { 0 < result → length (place_ahead (take result gap.now) node.now) ≡ length (before gap.now node.now) }
 {
-    let own = one_of(node.len() - gap[0]);
+    let own = one_of(node.len() - gap[0] as usize);
     if gap.len() == 1 {
         return own;
     }
-    let below = steps_behind(node.child(gap[0]), &gap[1..]);
+    let below = steps_behind(node.child(gap[0] as usize), &gap[1..]);
     if below == 0 { own } else { below + 1 }
 }
 
 /// How many steps of the path to a gap lead past the pair ahead of it: 0 where there is none.
-pub fn steps_ahead<K, V>(node: &Node<K, V>, gap: &[usize]) -> usize
+pub fn steps_ahead<K, V>(node: &Node<K, V>, gap: &[u8]) -> usize
     requires some { 0 < length gap.now }
     requires path { IsPath gap.now node.now }
     requires levels { IsLevelled (length gap.now - 1) node.now }
@@ -47,17 +47,18 @@ pub fn steps_ahead<K, V>(node: &Node<K, V>, gap: &[usize]) -> usize
     ensures ahead { 0 < result → length (place_ahead (one_back (take result gap.now)) node.now) + 1 ≡ length (before gap.now node.now) }
     ensures step { (last : ℕ) → last + 1 ≡ result → 0 < slice_index gap.now last }
 {
-    let own = one_of(gap[0]);
+    let own = one_of(gap[0] as usize);
     if gap.len() == 1 {
         return own;
     }
-    let below = steps_ahead(node.child(gap[0]), &gap[1..]);
+    let below = steps_ahead(node.child(gap[0] as usize), &gap[1..]);
     if below == 0 { own } else { below + 1 }
 }
 
 /// The first gap of the leaf that the path leads to with one step more, in a tree whose leaves lie that many steps down.
-pub fn first_gap(path: &[usize], step: usize, depth: usize) -> Path
+pub fn first_gap(path: &[u8], step: usize, depth: usize) -> Path
     requires fits { (length path.now < depth) × (depth ≤ 25) }
+    requires small { step < 256 }
     ensures { result ≡ path.now ++ step ∷ zeros (depth - length path.now - 1) }
 {
     let mut gap = Path::of(path);
@@ -81,15 +82,16 @@ pub fn push_last<K, V>(node: &Node<K, V>, gap: &mut Path)
 }
 
 /// Goes on to the gap ahead of the pair that the path leads to.
-pub fn push_ahead<K, V>(node: &Node<K, V>, place: &[usize], gap: &mut Path)
+pub fn push_ahead<K, V>(node: &Node<K, V>, place: &[u8], gap: &mut Path)
     requires place { IsPlace place.now node.now }
     requires levels { (h : ℕ) × IsLevelled h node.now × (length gap.old + h < 25) }
     ensures { GoesOn gap.old gap.new node.now (length (place_ahead place.now node.now)) }
 {
-    gap.push(place[0]);
+    let step = place[0] as usize;
+    gap.push(step);
     if place.len() > 1 {
-        push_ahead(node.child(place[0]), &place[1..], gap);
-    } else if place[0] < node.child_count() {
-        push_last(node.child(place[0]), gap);
+        push_ahead(node.child(step), &place[1..], gap);
+    } else if step < node.child_count() {
+        push_last(node.child(step), gap);
     }
 }

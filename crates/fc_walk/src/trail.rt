@@ -71,6 +71,7 @@ pub fn along<'a, K, V>(root: &'a Node<K, V>, path: &Path) -> Trail<'a, K, V>
 
 /// The places of a trail.
 pub fn places<K, V>(trail: &Trail<'_, K, V>) -> Path
+    requires { IsStanding trail.now }
     ensures { result ≡ places_of trail.now }
 {
     let mut all = Path::new();

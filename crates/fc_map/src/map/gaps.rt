@@ -66,7 +66,7 @@ impl<K: Ord, V> BTreeMap<K, V> {
         let gap = gap.as_slice();
         let steps = steps_behind(root, gap);
         let last = steps - 1;
-        let next = first_gap(&gap[..last], gap[last] + 1, gap.len());
+        let next = first_gap(&gap[..last], gap[last] as usize + 1, gap.len());
         (Path::of(&gap[..steps]), next)
     }
 
@@ -87,7 +87,7 @@ impl<K: Ord, V> BTreeMap<K, V> {
         let gap = gap.as_slice();
         let last = steps_ahead(root, gap) - 1;
         let mut place = Path::of(&gap[..last]);
-        place.push(gap[last] - 1);
+        place.push(gap[last] as usize - 1);
         let mut next = Path::new();
         push_ahead(root, place.as_slice(), &mut next);
         (place, next)

@@ -1,14 +1,14 @@
 use Rattle.std.proofs.Common.{arith, refl}
-use Rattle.fc_search.proofs.SearchFacts.{one_longer, child_there, way_levels, way_room, way_ascending, way_more, way_gap, way_found}
+use Rattle.fc_search.proofs.SearchFacts.{one_longer, child_there, way_levels, way_room, way_small, way_ascending, way_more, way_gap, way_found}
 use Rattle.fc_search.proofs.PassedFacts.{passed_found, passed_down, passed_leaf, passed_bound}
 use Rattle.fc_search.proofs.WayFacts.{path_ends, path_ends_leaf, path_goes_on}
 use Rattle.fc_search.proofs.search.search.Goals as goal
 
 pub push-requires : goal.push-requires
-push-requires g c = way_room _ _ c.requires.levels c.down.invariant.0
+push-requires g c = record { room = way_room _ _ c.requires.levels c.down.invariant.0; small = way_small _ _ c.in-Ok.i c.requires.levels c.down.invariant.0 (let found = c.in-Ok.ensures.found.0 in omega arith) }
 
 pub push-requires-in-Err : goal.push-requires-in-Err
-push-requires-in-Err g c = way_room _ _ c.requires.levels c.down.invariant.0
+push-requires-in-Err g c = record { room = way_room _ _ c.requires.levels c.down.invariant.0; small = way_small _ _ c.in-Err.i c.requires.levels c.down.invariant.0 c.in-Err.ensures.gap.0 }
 
 pub returns-in-Ok-clause-found : goal.returns-in-Ok-clause-found
 returns-in-Ok-clause-found g c =

@@ -15,15 +15,15 @@ returns-then-place-gt1 g t c =
     subst (λ (r : List _). GoesOn c.args.gap.now c.push_ahead.new.gap c.args.node.now (length (place_ahead r c.args.node.now))) (sym all)
     (pair_gap_below c.args.gap.now c.push.new.self c.push_ahead.new.gap _ _ _ c.args.node.now c.child.result.now c.requires.levels (subst (λ r. IsPlace r c.args.node.now) all c.requires.place) c.push.ensures c.child.ensures (subst (λ r. GoesOn c.push.new.self c.push_ahead.new.gap c.child.result.now (length (place_ahead r c.child.result.now))) q c.push_ahead.ensures))
 
-pub returns-then-place-child_count : goal.returns-then-place-child_count
-returns-then-place-child_count g t c =
+pub returns-then-step-child_count : goal.returns-then-step-child_count
+returns-then-step-child_count g t c =
     let place = c.args.place.now in
     let all = end_step place c.args.node.now c.requires.place (omega arith) in
     subst (λ (r : List _). GoesOn c.args.gap.now c.push_last.new.gap c.args.node.now (length (place_ahead r c.args.node.now))) (sym all)
-    (pair_gap_child c.args.gap.now c.push.new.self c.push_last.new.gap _ c.args.node.now c.child-then-place-child_count.result.now c.requires.levels (subst (λ r. IsPlace r c.args.node.now) all c.requires.place) (omega arith) c.push.ensures c.child-then-place-child_count.ensures c.push_last.ensures)
+    (pair_gap_child c.args.gap.now c.push.new.self c.push_last.new.gap _ c.args.node.now c.child-then-step-child_count.result.now c.requires.levels (subst (λ r. IsPlace r c.args.node.now) all c.requires.place) (omega arith) c.push.ensures c.child-then-step-child_count.ensures c.push_last.ensures)
 
-pub returns-else-place-child_count : goal.returns-else-place-child_count
-returns-else-place-child_count g t c =
+pub returns-else-step-child_count : goal.returns-else-step-child_count
+returns-else-step-child_count g t c =
     let place = c.args.place.now in
     let all = end_step place c.args.node.now c.requires.place (omega arith) in
     subst (λ (r : List _). GoesOn c.args.gap.now c.push.new.self c.args.node.now (length (place_ahead r c.args.node.now))) (sym all)

@@ -20,8 +20,8 @@ overflow_sub-last g c =
     let e = c.steps_behind-steps.ensures in
     omega (arith, some_next m _ p c.steps_behind-steps.result is (record { within = e.within; none = e.none; place = e.place; ahead = e.ahead }) (rw same fewer))
 
-pub overflow_add-gap : goal.overflow_add-gap
-overflow_add-gap g c =
+pub first_gap-next-requires-clause-small : goal.first_gap-next-requires-clause-small
+first_gap-next-requires-clause-small g c =
     let m = c.args.self.now in
     let p = c.as_slice-gap.result.now in
     let same = c.as_slice-gap.ensures.value in
