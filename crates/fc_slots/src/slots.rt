@@ -2,35 +2,46 @@
 //!
 //! These calls alone add to a count's moves. Only the type's invariant speaks of the room, so that a contract above never
 //! does, and an insertion into a list of fewer than `N` items can't be refused.
-ghost use Rattle.std.specs.Prelude.{◌≡◌, ◌+◌, ◌-◌, ◌<◌, ◌≤◌, [], ◌∷◌, ◌++◌, length, take, drop, slice_index_or, slice_set, slice_range, insert, remove, vec_len, vec_capacity, IfOk};
-ghost use Rattle.std.specs.List.{remove_range};
+ghost use Rattle.std.specs.Prelude.{◌≡◌, ℕ, ◌+◌, ◌-◌, ◌^◌, ◌<◌, ◌≤◌, List, [], ◌∷◌, ◌++◌, length, take, drop, slice_index_or, slice_set, insert, remove, IfOk};
 ghost use Rattle.std.specs.Borrow.{sem};
 ghost use Rattle.fc_slots.specs.Lends.{lends_slot};
+ghost use Rattle.fc_slots.specs.Cells.{row, HasRow};
 
+use crate::cells::Cells;
 use fc_base::Count;
 use std::alloc::{AllocError, Global};
 use std::marker::Model;
-use std::mem;
 
 /// At most `N` items, in order. Only `try_new` takes memory.
 ///
 /// Each call that moves items adds its moves to a count: a move is an item written into a place, or handed out.
-#[derive(Drop)]
 pub struct Slots<T, const N: usize> {
-    items: Vec<T>,
+    cells: Cells<T>,
+    len: usize,
 }
 
 impl<T, const N: usize> Model for Slots<T, N> {
-    ghost use Rattle.std.specs.Prelude.{◌≤◌, List, length, vec_capacity};
+    ghost use Rattle.std.specs.Prelude.{List};
     ghost use Rattle.std.specs.Coded.{coded_list};
+    ghost use Rattle.fc_slots.specs.Cells.{somes, IsPacked};
 
     ghost Value = { List T };
 
     ghost coded = { coded_list T.code };
 
-    ghost view = { λ s. s.items.items };
+    ghost view = { λ s. somes s.cells };
 
-    ghost invariant = { λ s. (length s.items.items ≤ N) × (N ≤ vec_capacity s.items) };
+    ghost invariant = { λ s. IsPacked s.cells s.len N };
+}
+
+impl<T: Drop, const N: usize> Drop for Slots<T, N> {
+    fn drop(self) {
+        let Slots { mut cells, len } = self;
+        for i in 0..len {
+            drop(cells.take(i));
+        }
+        cells.free(N);
+    }
 }
 
 impl<T, const N: usize> Slots<T, N> {
@@ -42,7 +53,8 @@ impl<T, const N: usize> Slots<T, N> {
         ensures { IfOk result (λ s. s ≡ []) }
     {
         Ok(Slots {
-            items: Vec::with_capacity(alloc, N)?,
+            cells: Cells::try_new(alloc, N)?,
+            len: 0,
         })
     }
 
@@ -51,7 +63,7 @@ impl<T, const N: usize> Slots<T, N> {
         ensures value { result ≡ length self.now }
         ensures fits { length self.now ≤ N }
     {
-        self.items.len()
+        self.len
     }
 
     /// The item at `index`.
@@ -59,7 +71,7 @@ impl<T, const N: usize> Slots<T, N> {
         requires { index < length self.now }
         ensures { result.now ≡ slice_index_or self.now index result.now }
     {
-        &self.items[index]
+        self.cells.get(index)
     }
 
     /// The item at `index`, lent for writing: the list ends with what is written in its place.
@@ -69,7 +81,7 @@ impl<T, const N: usize> Slots<T, N> {
         ensures value { result.now ≡ slice_index_or self.old index result.now }
         ensures fits { length self.old ≤ N }
     {
-        &mut self.items[index]
+        self.cells.get_mut(index)
     }
 
     /// Takes the item at `index` out, and moves those after it down.
@@ -80,8 +92,11 @@ impl<T, const N: usize> Slots<T, N> {
         ensures moves { count.new.moves ≡ count.old.moves + (length self.old - index) }
         ensures comparisons { count.new.comparisons ≡ count.old.comparisons }
     {
-        count.add_moves(self.items.len() - index);
-        self.items.remove(index)
+        count.add_moves(1);
+        let item = self.cells.take(index);
+        shift_down(&mut self.cells, index + 1, 1, self.len, count);
+        self.len -= 1;
+        item
     }
 
     /// Puts `item` in the place of the one at `index`, which is handed out.
@@ -92,8 +107,10 @@ impl<T, const N: usize> Slots<T, N> {
         ensures moves { count.new.moves ≡ count.old.moves + 2 }
         ensures comparisons { count.new.comparisons ≡ count.old.comparisons }
     {
-        count.add_moves(2);
-        mem::replace(&mut self.items[index], item)
+        count.add_moves(1);
+        let old = self.cells.take(index);
+        self.cells.set(index, item, count);
+        old
     }
 }
 
@@ -106,10 +123,10 @@ impl<T: Drop, const N: usize> Slots<T, N> {
         ensures moves { count.new.moves ≡ count.old.moves + (length self.old - index + 1) }
         ensures comparisons { count.new.comparisons ≡ count.old.comparisons }
     {
-        count.add_moves(self.items.len() - index + 1);
-        if let Err(_) = self.items.insert(index, item) {
-            unreachable!()
-        }
+        let end = self.len + 1;
+        shift_up(&mut self.cells, index, 1, end, count);
+        self.cells.set(index, item, count);
+        self.len = end;
     }
 
     /// Moves the items from `from` on to the end of `other`.
@@ -121,9 +138,17 @@ impl<T: Drop, const N: usize> Slots<T, N> {
         ensures moves { count.new.moves ≡ count.old.moves + (length self.old - from) }
         ensures comparisons { count.new.comparisons ≡ count.old.comparisons }
     {
-        let len = self.items.len();
-        count.add_moves(len - from);
-        move_items(&mut self.items, from, len, &mut other.items);
+        let end = other.len + (self.len - from);
+        carry(
+            &mut self.cells,
+            from,
+            &mut other.cells,
+            other.len,
+            end,
+            count,
+        );
+        self.len = from;
+        other.len = end;
     }
 
     /// Moves the first `n` items to the end of `other`, and those after them down.
@@ -135,8 +160,11 @@ impl<T: Drop, const N: usize> Slots<T, N> {
         ensures moves { count.new.moves ≡ count.old.moves + length self.old }
         ensures comparisons { count.new.comparisons ≡ count.old.comparisons }
     {
-        count.add_moves(self.items.len());
-        move_items(&mut self.items, 0, n, &mut other.items);
+        let end = other.len + n;
+        carry(&mut self.cells, 0, &mut other.cells, other.len, end, count);
+        shift_down(&mut self.cells, n, n, self.len, count);
+        self.len -= n;
+        other.len = end;
     }
 
     /// Moves the last `n` items to the front of `other`, whose own move up.
@@ -148,26 +176,63 @@ impl<T: Drop, const N: usize> Slots<T, N> {
         ensures moves { count.new.moves ≡ count.old.moves + (length other.old + n) }
         ensures comparisons { count.new.comparisons ≡ count.old.comparisons }
     {
-        count.add_moves(other.items.len() + n);
-        let len = self.items.len();
-        move_items(&mut self.items, len - n, len, &mut other.items);
-        other.items.rotate_right(n);
+        let end = other.len + n;
+        let from = self.len - n;
+        shift_up(&mut other.cells, 0, n, end, count);
+        carry(&mut self.cells, from, &mut other.cells, 0, n, count);
+        self.len = from;
+        other.len = end;
     }
 }
 
-// Moves the items from `start` to `end` to the end of another list, which has the room, each in turn.
-fn move_items<T: Drop>(source: &mut Vec<T>, start: usize, end: usize, target: &mut Vec<T>)
-    requires in_order { start ≤ end }
-    requires in_bounds { end ≤ vec_len source.old }
-    requires room { vec_len target.old + (end - start) ≤ vec_capacity target.old }
-    ensures source { source.new.items ≡ remove_range source.old.items start end }
-    ensures target { target.new.items ≡ target.old.items ++ slice_range source.old.items start end }
-    ensures source_room { vec_capacity source.new ≡ vec_capacity source.old }
-    ensures target_room { vec_capacity target.old ≤ vec_capacity target.new }
+// Moves the items from `from` to `end` down by `by` cells, which are empty.
+fn shift_down<T>(cells: &mut Cells<T>, from: usize, by: usize, end: usize, count: &mut Count)
+    requires in_order { (by ≤ from) × (from ≤ end) }
+    requires laid { HasRow cells.old (from - by) by (end - from) }
+    ensures items { (xs ys : List T) (m : ℕ) → cells.old ≡ row xs by ys m → length xs ≡ from - by → end - from ≤ length ys → cells.new ≡ row (xs ++ take (end - from) ys) by (drop (end - from) ys) m }
+    ensures moves { count.new.moves ≡ count.old.moves + (end - from) }
+    ensures comparisons { count.new.comparisons ≡ count.old.comparisons }
 {
-    for item in source.drain(start..end) {
-        if let Err(_) = target.push(item) {
-            unreachable!()
-        }
+    for i in from..end {
+        let item = cells.take(i);
+        cells.set(i - by, item, count);
+    }
+}
+
+// Moves the items from `from` on up by `by` cells, which are empty, so that they reach up to `end`.
+fn shift_up<T>(cells: &mut Cells<T>, from: usize, by: usize, end: usize, count: &mut Count)
+    requires in_order { from + by ≤ end }
+    requires laid { (zs : List T) × (m : ℕ) × (cells.old ≡ row zs by [] m) × (length zs ≡ end - by) }
+    ensures items { (zs : List T) (m : ℕ) → cells.old ≡ row zs by [] m → length zs ≡ end - by → cells.new ≡ row (take from zs) by (drop from zs) m }
+    ensures moves { count.new.moves ≡ count.old.moves + (end - by - from) }
+    ensures comparisons { count.new.comparisons ≡ count.old.comparisons }
+{
+    let above = end - by - from;
+    for i in 0..above {
+        let item = cells.take(end - by - 1 - i);
+        cells.set(end - 1 - i, item, count);
+    }
+}
+
+// Moves the items from `from` on into the empty cells of another row from `to` to `end`.
+fn carry<T>(
+    source: &mut Cells<T>,
+    from: usize,
+    target: &mut Cells<T>,
+    to: usize,
+    end: usize,
+    count: &mut Count,
+)
+    requires in_order { (to ≤ end) × (from + (end - to) < 2 ^ 64) }
+    requires source_laid { HasRow source.old from 0 (end - to) }
+    requires target_laid { HasRow target.old to (end - to) 0 }
+    ensures source { (xs ys : List T) (m : ℕ) → source.old ≡ row xs 0 ys m → length xs ≡ from → end - to ≤ length ys → source.new ≡ row xs (end - to) (drop (end - to) ys) m }
+    ensures target { (xs ys us vs : List T) (m w : ℕ) → source.old ≡ row xs 0 ys m → length xs ≡ from → end - to ≤ length ys → target.old ≡ row us (end - to) vs w → length us ≡ to → target.new ≡ row (us ++ take (end - to) ys) 0 vs w }
+    ensures moves { count.new.moves ≡ count.old.moves + (end - to) }
+    ensures comparisons { count.new.comparisons ≡ count.old.comparisons }
+{
+    for i in to..end {
+        let item = source.take(from + (i - to));
+        target.set(i, item, count);
     }
 }

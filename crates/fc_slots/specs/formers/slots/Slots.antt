@@ -1,9 +1,7 @@
 -- `Slots` as a type that may hold the type that holds it.
-use Rattle.std.specs.Prelude.{ℕ, ◌≤◌, length}
-use mathlib.Core.Path.{◌≡◌, refl, sym, subst}
-use mathlib.Core.List.{List}
-use mathlib.Core.Former.{Former, this, list, via, children}
-use lib.ListN.{length-map}
+use Rattle.std.specs.Prelude.{◌≡◌, ℕ, true, false, List, [], ◌∷◌, map, Option, Some, None}
+use mathlib.Core.Path.{refl, sym, ap, ◌∙◌}
+use mathlib.Core.Former.{one_more, Former, this, const, pair, list, via, children}
 use base.Stored.{code_map}
 use denote.RattleType.{RattleType}
 use denote.HoleLaws.{Alike}
@@ -11,13 +9,12 @@ use denote.HolePlaces.{Recodes, struct_places, laid}
 use denote.Hole.Carrier.{listed, list-listed}
 use denote.Hole.Fix.{over}
 use denote.Param.Weighed.{Weighed, w_list}
-use denote.Model.Placed.{view_places}
+use denote.Model.Placed.{held, view_places}
 use denote.Param.{value_of}
 use denote.Struct.Props.{props}
-use Rattle.std.specs.formers.vec.Vec as vec
-use Rattle.std.specs.declared.alloc.Global.{Global}
-use Rattle.std.specs.contracts.alloc.Global as heap
-use Rattle.std.specs.contracts.impls.GlobalAllocator.TheImpl.{ghosts}
+use Rattle.fc_slots.specs.Maybe.{maybe}
+use Rattle.fc_slots.specs.Cells.{somes, holds}
+use Rattle.fc_slots.specs.formers.cells.Cells as cells
 use Rattle.fc_slots.specs.declared.slots.Slots.TheInside.{Inside}
 use Rattle.fc_slots.specs.declared.slots.Slots.TheView.{view, invariant}
 use Rattle.fc_slots.specs.contracts.slots.Slots as C
@@ -36,21 +33,38 @@ pub the_items_listed : (N : ℕ) (X : Type 0) (d : List X) → listed _ (childre
 the_items_listed N X d = list-listed X d
 
 abbrev fields : ℕ → Former {0}
-fields N = via (vec.the_former this Global) (λ X. Inside X N) (λ X a. a.items) (λ X v. record { items = v }) (λ X a. refl) (λ X v. refl)
+fields N = via (pair (cells.the_former this) (const ℕ)) (λ X. Inside X N) (λ X a. (a.cells, a.len)) (λ X v. record { cells = v.0; len = v.1 }) (λ X a. refl) (λ X v. refl)
+
+module _ (X Y : Type 0) (h : X → Y) where
+  abbrev on : Option X → Option Y
+  on = (maybe this).map X Y h
+
+  somes-map : (cs : List (Option X)) → somes (map on cs) ≡ map h (somes cs)
+  somes-map [] = refl
+  somes-map (None ∷ cs) = somes-map cs
+  somes-map (Some x ∷ cs) = ap (λ l. h x ∷ l) (somes-map cs)
+
+somes-held : (X : Type 0) (cs : List (Option X)) → held (list this) X (somes cs) ≡ held (list (maybe this)) X cs
+somes-held X [] = refl
+somes-held X (None ∷ cs) = somes-held X cs
+somes-held X (Some x ∷ cs) = λ i. (one_more (somes-held X cs i).0, (x, (somes-held X cs i).1))
+
+holds-on : (X Y : Type 0) (h : X → Y) (cs : List (Option X)) → map holds (map (on X Y h) cs) ≡ map holds cs
+holds-on X Y h [] = refl
+holds-on X Y h (None ∷ cs) = ap (λ l. false ∷ l) (holds-on X Y h cs)
+holds-on X Y h (Some x ∷ cs) = ap (λ l. true ∷ l) (holds-on X Y h cs)
 
 module _ (N : RattleType) (R S : RattleType) (h : R.Denot → S.Denot) where
   abbrev n : ℕ
   n = value_of N
 
-  abbrev Fits : {X : Type 0} → Inside X n → Type 0
-  Fits u = (length u.items.items ≤ n) × (n ≤ u.items.cap)
-
   pub the_places : Alike R S h → Alike (C.the_row R N) (C.the_row S N) ((the_former this n).map R.Denot S.Denot h)
-  the_places a = view_places (fields n) (list this) (λ X. view X n) (λ X Y k u. refl) (λ X u. refl) R.Denot S.Denot h (C.the_row R N).coded (C.the_row S N).coded
+  the_places a = view_places (fields n) (list this) (λ X. view X n) (λ X Y k u. somes-map X Y k u.cells) (λ X u. somes-held X u.cells) R.Denot S.Denot h (C.the_row R N).coded (C.the_row S N).coded
       (invariant R.Denot n) (invariant S.Denot n) (λ u. hlevel props) (λ u. hlevel props)
-      (λ u e. (subst (λ l. l ≤ n) (sym (length-map u.items.items h)) e.0, e.1)) (λ u e. (subst (λ l. l ≤ n) (length-map u.items.items h) e.0, e.1))
+      (λ u e. (e.0, holds-on R.Denot S.Denot h u.cells ∙ e.1)) (λ u e. (e.0, sym (holds-on R.Denot S.Denot h u.cells) ∙ e.1))
       (over (I.the_row R N)) (over (I.the_row S N))
-      (struct_places (I.the_type R N) (I.the_type S N) (vec.mapped h, tt) _ (λ d. refl) refl (laid _ _ _ (vec.the_places heap.the_row ghosts R S h a), tt))
+      (struct_places (I.the_type R N) (I.the_type S N) ((cells.the_former this).map R.Denot S.Denot h, (λ k. k, tt)) _ (λ d. refl) refl
+      (laid _ _ _ (cells.the_places R S h a), ((refl, (λ k. refl, λ k. refl)), tt)))
 
   pub the_codes_placed : Recodes R S h → Recodes (C.the_row R N) (C.the_row S N) ((the_former this n).map R.Denot S.Denot h)
   the_codes_placed e d = sym (code_map R.coded.code S.coded.code h (λ x. sym (e x)) d)

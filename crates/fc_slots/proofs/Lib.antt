@@ -1,0 +1,5 @@
+mod Laid
+mod Memory
+mod Rows
+mod Sharing
+mod Steps

@@ -1,0 +1,46 @@
+-- `put` writes the item into the room of its place.
+use Rattle.fc_slots.proofs.Steps.{◌≡◌, ◌+◌, ◌*◌, ◌<◌, [], ◌∷◌, ◌++◌, get_or, Some, None, refl, ◌∙◌, vptr, vstruct, of_list, inst_fn, emp, ftrue, flft, ◌⊑◌, fact, fact_i, tables, WpFn, ‵, raw, ◌⊛◌, prop, at_ret, ◌$◌, ◌∵◌, !, qed, by, move, drop, use0, split, join, rewrite, regoal, fsplit, fjoin, feq_i, whole, sub, enter, stop, fld, of_opd, bin, size_lit, first, blocks, exec, returns, alloc_all, pass_all, free_all, look_at, get, get_in, through, sets, env, owns, types_at, nothing, heard, Stays, stay_dropped, walk_of, Goes-dropped, param_at, fat, full_share, layout, word-Good, take_at, give_at, vunit, unit_lit, init, assigns_last, length, List, Val, stay_ref, Goes-ref, plain, opens, closes, fsplit3, fjoin3, set, word, proved_at, leaves, after, El, R, args, keep}
+use Rattle.std_alloc.proofs.RawLayout.{as_written}
+use Rattle.core.proofs.mem.Param.{elτ, lawful, one}
+use Rattle.std.specs.Mem.{type_size}
+use Rattle.fc_slots.specs.Ownership.{place}
+use Rattle.fc_slots.proofs.Memory.{reach, rejoin, value_in}
+use Rattle.fc_slots.specs.contracts.raw.Places.put as f
+use Rattle.fc_slots.proofs.raw.Places.put.Statement.{statement}
+use Rattle.fc_slots.proofs.raw.Places.put.Code as code
+
+use Rattle.fc_slots.specs.contracts.raw.Base as B
+use Rattle.fc_slots.specs.contracts.raw.Places as P
+
+pub put_spec : {M : Type 1} → statement M
+put_spec 𝓤 𝓛 𝓜 𝓡 wired T L =
+    let E : El = record { row = T; laws = L } in let fn = inst_fn (args E) code.function in
+    let En = f.ended T in let ps = En.signature.params in let c = f.clauses T 𝓛 𝓜.mem 𝓡.returns in let 𝓣 = tables 𝓤 𝓛.H 𝓜 𝓡 𝓡.env in let Pr = P.the_row (R E) in
+    let hs : Stays ps En.kept = (stay_ref (0 ∷ []) tt (plain (λ _. Pr)), (stay_dropped _ _, (stay_dropped _ _, (stay_dropped _ _, tt)))) in
+    proved_at 𝓛 En hs c 𝓜 𝓡 (Goes-ref 𝓛 2 0 tt (plain (λ _. Pr)), (Goes-dropped 𝓛 2 (param_at 1 ps) En.kept.1.0 (λ κs x f. refl), (Goes-dropped 𝓛 2 (param_at 2 ps) En.kept.1.1.0 (λ κs x f. refl), (Goes-dropped 𝓛 2 (param_at 3 ps) En.kept.1.1.1.0 (λ κs x f. refl), tt))))
+    (f.Key.name (args E)) fn (code.unfolded 𝓤 𝓛.H 𝓜 𝓡 wired (T, tt)) (λ z are.
+    let κ = z.0.0.0 in let r = z.0.3.0 in let rb = r.ref_ptr.0 in let ro = r.ref_ptr.1 in let d = r.now in let base = z.0.3.1.0 in let i = z.0.3.1.1.0 in let item = z.0.3.1.1.1.0 in let Post = (walk_of 𝓛 En hs c).post z in
+    let word_is : z.0.4.1.0 ≡ word base.ptr ∷ [] = are.1.0.1.0 ∙ (λ j. vstruct (of_list (are.1.0.1.1.0 j ++ [])) ∷ []) in
+    let got = one E z.0.4.1.1.1.0 ((lawful E 𝓛).typed item z.0.4.1.1.1.0 are.1.1.1.0) in let v = got.0 in let ok = got.2 in
+    let Asks = (base.ptr ≡ d.start) × (i < length d.cells) × (get_or d.cells i None ≡ None) in
+    qed 𝓛 (((‵ (flft κ z.0.1.0) ⊛ ‵ (flft z.0.0.1.0 z.0.1.1.0) ⊛ ‵ ftrue) ⊛ ‵ (owns (types_at ps z.0.0) z.0.3 z.0.4)) ∷ (raw (fact 𝓤 (z.0.0.1.0 ⊑ T.lives)) ⊛ raw (fact 𝓤 Asks)) ∷ []) ∵
+    move ! (1 ∷ []) $ split ! $ drop ! $ heard ! Asks (λ asked. split ! $ split ! $ move ! (2 ∷ []) $ fsplit ! $ fsplit3 ! $ move ! (3 ∷ []) $ fsplit ! $ drop ! $ fsplit ! $ drop ! $ fsplit ! $
+    rewrite ! 0 (λ us. ‵ (E.row.own_val item us)) got.1 refl $ keep ! (3 ∷ 4 ∷ 5 ∷ 6 ∷ 0 ∷ []) $
+    let new : Pr.Denot = record { marker = d.marker; start = d.start; cells = set d.cells i (Some item) } in
+    regoal ! (λ us. prop (WpFn 𝓤 𝓛.H 𝓣.C 𝓣.Λ fn us Post)) (λ j. are.0.0 j ++ (word_is j ++ (are.1.1.0.0 j ++ (got.1 j ++ [])))) refl $
+    enter ! _ _ _ _ _ $ alloc_all ! (λ l. pass_all ! refl ((tt, tt), (word-Good [] base.ptr, ((tt, record { fits = are.1.1.0.1 }), (ok, tt)))) $
+    opens ! tt Pr {h = d} rb ro (λ vs. move ! (1 ∷ []) $ fsplit ! $ move ! (1 ∷ []) $
+    reach (R E) ! d.start d.cells i asked.1 (λ b o e fits. let at = i * type_size (R E) + o in
+    take_at ! 2 $ rewrite ! 0 (λ p. ‵ (fat full_share (layout (B.the_row (R E))) (l 2) 0 (word p))) (asked.0 ∙ e) refl $ give_at ! 2 $ first ! $ blocks ! $
+    rewrite ! 0 (λ y. ‵ (place (R E) b at y)) asked.2 refl $ as_written ! (elτ E) b at $
+    sets ! (bin ! (get ! refl) (size_lit ! (record { fits = fits.0 })) (record { fits = fits.1 })) refl (tt, record { fits = fits.1 }) $
+    sets ! (bin ! (get_in ! (fld ! refl (stop !)) (sub ! 0 refl (whole !))) (get ! refl) tt) refl (tt, tt) $
+    sets ! (of_opd ! (get ! refl)) refl ok $ assigns_last ! (of_opd ! (get ! refl)) (through ! refl (stop !)) (init ! 0 refl ok) $ exec ! 𝓣.C 𝓣.Λ (env fn.locals l) (after 1 fn.body) (at_ret _ Post) $ sets ! (of_opd ! (unit_lit !)) refl (tt, tt) $
+    -- [the item's bytes; the other places; the marker; its cell; the open borrow, in three entries; the other token; what the item owns]
+    move ! (0 ∷ 8 ∷ []) $ value_in E ! item b at v $ rejoin (R E) ! d.start b o e d.cells i asked.1 (Some item) $
+    move ! (1 ∷ 0 ∷ []) $ fjoin ! $ move ! (1 ∷ 0 ∷ []) $ closes ! tt Pr new vs rb ro $
+    returns ! (look_at ! 0 refl) $ free_all ! refl $ feq_i ! (List Val) z.0.4.0 (vptr rb ro ∷ []) are.0.0 $ fjoin3 ! $
+    nothing ! $ nothing ! $ fjoin ! $ nothing ! $ fjoin ! $ nothing ! $ fjoin ! $ move ! (1 ∷ 0 ∷ []) $ fjoin ! $ move ! (1 ∷ 2 ∷ []) $ join ! $
+    feq_i ! (List Val) (vunit ∷ []) (vunit ∷ []) refl $ let gives = (new.start ≡ d.start) × (new.cells ≡ set d.cells i (Some item)) in
+    use0 𝓛 (raw (fact 𝓤 gives)) (fact_i 𝓤 gives (emp 𝓤) (refl, refl)) $ move ! (2 ∷ 3 ∷ 1 ∷ 0 ∷ []) $
+    by ! (leaves 𝓛 En hs c z vunit tt (new, (tt, (tt, (tt, tt)))) (tt, (tt, (tt, (tt, tt))))))))))

@@ -1,0 +1,51 @@
+-- What a row of places owns and lends, and what the right to its room is, at items of the row R.
+use Rattle.std.specs.Prelude.{ℕ, zero, suc, ◌+◌, ◌*◌, ◌^◌, List, [], ◌∷◌, length, Option, Some, None}
+use Rattle.std.specs.Mem.{type_size}
+use base.Fraction.{full_share}
+use base.Fml.{Lft, Fml, ftrue, ffalse, fsep, flt, froom}
+use mir.Syntax.{Ty, ty_array}
+use mir.Raw.{raw}
+use denote.RattleType.{RattleType}
+use denote.Memory.{lone, part_at, shared_of}
+use denote.Sharing.{nothing, said, beside}
+use denote.RawPtr.{Ptr, block_ptr, null_ptr}
+
+-- no room is asked for where an item has no size
+abbrev pub if_sized : ℕ → Fml → Fml
+if_sized zero owned = ftrue
+if_sized (suc s) owned = owned
+
+module _ (R : RattleType) where
+  -- a place in the block b, at the offset o: room, or an item
+  abbrev pub place : ℕ → ℕ → Option R.Denot → Fml
+  place b o None = froom (raw (lone R.mir)) b o
+  place b o (Some x) = part_at R full_share x b o
+
+  -- places that follow one another
+  abbrev pub places : ℕ → ℕ → List (Option R.Denot) → Fml
+  places b o [] = ftrue
+  places b o (c ∷ cs) = fsep (place b o c) (places b (o + type_size R) cs)
+
+  abbrev pub place_lent : ℕ → ℕ → Option R.Denot → Lft → Fml
+  place_lent b o None = nothing
+  place_lent b o (Some x) = shared_of R x b o
+
+  abbrev pub places_lent : ℕ → ℕ → List (Option R.Denot) → Lft → Fml
+  places_lent b o [] = nothing
+  places_lent b o (c ∷ cs) = beside (place_lent b o c) (places_lent b (o + type_size R) cs)
+
+  -- no block takes 2 ^ 63 bytes
+  abbrev pub bounded : List (Option R.Denot) → Fml
+  bounded cs = flt (length cs * type_size R) (2 ^ 63)
+
+  abbrev pub row_owned : Ptr → List (Option R.Denot) → Fml
+  row_owned null_ptr cs = ffalse
+  row_owned (block_ptr b o) cs = fsep (bounded cs) (places b o cs)
+
+  abbrev pub row_lent : Ptr → List (Option R.Denot) → Lft → Fml
+  row_lent null_ptr cs = said ffalse
+  row_lent (block_ptr b o) cs = beside (said (bounded cs)) (places_lent b o cs)
+
+  -- the allocator's token for the room of n places
+  abbrev pub deed_owned : (Ty → Ptr → Fml) → Ptr → ℕ → Fml
+  deed_owned token p n = if_sized (type_size R) (token (raw (ty_array (lone R.mir) n)) p)

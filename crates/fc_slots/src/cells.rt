@@ -1,0 +1,102 @@
+//! Cells over raw memory: each is empty or holds an item.
+ghost use Rattle.std.specs.Prelude.{◌≡◌, ◌+◌, ◌<◌, Some, None, length, replicate, get_or, slice_set, IfOk};
+ghost use Rattle.std.specs.Borrow.{sem};
+
+use crate::raw::{Base, Deed, Places, claim, release};
+use fc_base::Count;
+use std::alloc::{AllocError, Global};
+use std::marker::Model;
+use std_alloc::room::may_hold;
+
+/// A row of cells in a block of memory of their own.
+pub struct Cells<T> {
+    base: Base<T>,
+    places: Places<T>,
+    deed: Deed<T, Global>,
+    alloc: Global,
+}
+
+impl<T> Model for Cells<T> {
+    ghost use Rattle.std.specs.Prelude.{◌≡◌, List, Option, length};
+    ghost use Rattle.std.specs.Coded.{coded_list, coded_option};
+
+    ghost Value = { List (Option T) };
+
+    ghost coded = { coded_list (coded_option T.code) };
+
+    ghost view = { λ c. c.places.cells };
+
+    ghost invariant = { λ c. (c.places.start ≡ c.base.ptr) × (c.deed.start ≡ c.base.ptr) × (c.deed.len ≡ length c.places.cells) × (c.deed.owner ≡ c.alloc) };
+}
+
+impl<T> Cells<T> {
+    ghost use Rattle.fc_slots.specs.Cells.{IsFilled};
+    ghost use Rattle.fc_slots.specs.CellLends.{lends_cell};
+
+    /// A row of `len` empty cells, taken in one request, or in none where items have no size.
+    pub(crate) fn try_new(alloc: Global, len: usize) -> Result<Self, AllocError>
+        ensures { IfOk result (λ c. c ≡ replicate len None) }
+    {
+        if !may_hold::<T>(len) {
+            return Err(AllocError);
+        }
+        let (base, places, deed) = claim(&alloc, len)?;
+        Ok(Cells {
+            base,
+            places,
+            deed,
+            alloc,
+        })
+    }
+
+    /// The item in the cell at `index`.
+    pub(crate) fn get(&self, index: usize) -> &T
+        requires { IsFilled self.now index }
+        ensures { get_or self.now index None ≡ Some result.now }
+    {
+        self.places.get(self.base, index)
+    }
+
+    /// The item in the cell at `index`, lent for writing.
+    pub(crate) fn get_mut(&mut self, index: usize) -> &mut T
+        requires { IsFilled self.old index }
+        ensures* writes_back { sem 𝓛 (lends_cell T.row self.entry index result) }
+        ensures value { get_or self.old index None ≡ Some result.now }
+    {
+        let base = self.base;
+        self.places.get_mut(base, index)
+    }
+
+    /// Takes the item out of the cell at `index`.
+    pub(crate) fn take(&mut self, index: usize) -> T
+        requires { IsFilled self.old index }
+        ensures value { get_or self.old index None ≡ Some result }
+        ensures cells { self.new ≡ slice_set self.old index None }
+    {
+        self.places.take(self.base, index)
+    }
+
+    /// Puts `item` into the cell at `index`, which is empty.
+    pub(crate) fn set(&mut self, index: usize, item: T, count: &mut Count)
+        requires { (index < length self.old) × (get_or self.old index None ≡ None) }
+        ensures cells { self.new ≡ slice_set self.old index (Some item) }
+        ensures moves { count.new.moves ≡ count.old.moves + 1 }
+        ensures comparisons { count.new.comparisons ≡ count.old.comparisons }
+    {
+        count.add_moves(1);
+        self.places.put(self.base, index, item)
+    }
+
+    /// Gives the room back.
+    pub(crate) fn free(self, len: usize)
+        requires { self ≡ replicate len None }
+    {
+        let Cells {
+            base,
+            places,
+            deed,
+            alloc,
+        } = self;
+        release(&alloc, base, len, places, deed);
+    }
+}
