@@ -1,7 +1,7 @@
-// Each item is dropped once, by a type that counts its drops.
+// Each item is dropped once, by a type that counts its drops. Room is taken by one request, and for items of no size by none.
 use fc_base::Count;
 use fc_slots::slots::Slots;
-use std::alloc::Global;
+use std::alloc::{AllocError, Global};
 use std::cell::Cell;
 use std::process::Abort;
 use std::test::Fail;
@@ -137,5 +137,62 @@ fn what_is_written_to_a_lent_item_stays(rt: HostRuntime) -> Result<(), Fail> {
     slots.insert(0, 5, &mut Count::new());
     *slots.get_mut(0) = 3;
     assert!(&rt; *slots.get(0) == 3);
+    Ok(())
+}
+
+// Its one request is refused by the sweep, which also sees that there is no other.
+#[test]
+fn room_is_taken_in_one_request(rt: HostRuntime) -> Result<(), Fail> {
+    let mut slots = match Slots::try_new(rt.alloc()) {
+        Ok(slots) => slots,
+        Err(AllocError) => return Ok(()),
+    };
+    for i in 0..4u64 {
+        push(&rt, &mut slots, i);
+    }
+    assert!(&rt; slots.len() == 4);
+    Ok(())
+}
+
+#[test]
+fn room_for_too_many_bytes_is_refused(rt: HostRuntime) -> Result<(), Fail> {
+    let refused: Result<Slots<u64, 0x1000_0000_0000_0000>, AllocError> =
+        Slots::try_new(rt.alloc());
+    assert!(&rt; refused.is_err());
+    Ok(())
+}
+
+// The sweep sees that no request is made.
+#[test]
+fn items_of_no_size_take_no_room(rt: HostRuntime) -> Result<(), Fail> {
+    for call in 0..3usize {
+        let mut slots: Slots<(), 4> = Slots::try_new(rt.alloc())?;
+        let mut other: Slots<(), 4> = Slots::try_new(rt.alloc())?;
+        for _ in 0..4u64 {
+            push(&rt, &mut slots, ());
+        }
+        push(&rt, &mut other, ());
+        assert!(&rt; slots.len() == 4 && slots.as_slice().len() == 4);
+        move_three(&rt, &mut slots, &mut other, call);
+        assert!(&rt; slots.len() == 1 && other.len() == 4);
+        slots.replace(0, (), &mut Count::new());
+        *slots.get_mut(0) = ();
+        assert!(&rt; *slots.get(0) == ());
+        other.remove(3, &mut Count::new());
+        assert!(&rt; other.len() == 3);
+    }
+    Ok(())
+}
+
+#[test]
+fn the_items_are_lent_as_a_slice(rt: HostRuntime) -> Result<(), Fail> {
+    let mut slots = Slots::try_new(rt.alloc())?;
+    assert!(&rt; slots.as_slice().is_empty());
+    for i in 5..9u64 {
+        push(&rt, &mut slots, i);
+    }
+    assert!(&rt; slots.as_slice() == [5, 6, 7, 8].as_slice());
+    slots.remove(1, &mut Count::new());
+    assert!(&rt; slots.as_slice() == [5, 7, 8].as_slice());
     Ok(())
 }

@@ -1,5 +1,6 @@
 -- A list at the start of a row of places.
-use Rattle.std.proofs.Common.{◌≡◌, ℕ, zero, suc, ◌+◌, ◌-◌, ◌<◌, ◌≤◌, List, [], ◌∷◌, ◌++◌, length, take, drop, set, get_or, Option, Some, None, refl, sym, ap, ◌∙◌, arith, length-append, length-take, length-drop, append_assoc, take-append-drop, drop-drop}
+use Rattle.std.proofs.lemmas.List.{length-map}
+use Rattle.std.proofs.Common.{◌≡◌, ℕ, zero, suc, ◌+◌, ◌-◌, ◌<◌, ◌≤◌, List, [], ◌∷◌, ◌++◌, length, take, drop, set, get_or, Option, Some, None, refl, sym, ap, ◌∙◌, arith, length-append, length-take, length-drop, append_assoc, take_at, map, replicate, take-append-drop, drop-drop}
 use Rattle.fc_slots.specs.Cells.{somes, IsPacked, row}
 use Rattle.fc_slots.proofs.Rows.{unpacks, packs, row_open, row_cut, cut_at, leave_done, get_first, set_first, length-row}
 
@@ -70,3 +71,12 @@ module _ {X : Type 0} where
       let ys = take i xs in let zs = drop i xs in
       let is : ds ≡ row (ys ++ x ∷ []) 0 zs m = f ∙ ap (λ l. set l i (Some x)) e ∙ set_first ys 0 zs m i x (omega (arith, length-take i xs)) in
       packed ds (ys ++ x ∷ zs) 0 m k n (is ∙ sym (row_cut (ys ++ x ∷ []) zs m) ∙ (λ j. row (append_assoc ys (x ∷ []) zs j) 0 [] m)) (omega (arith, length-append ys (x ∷ zs), length-take i xs, length-drop i xs)) (omega arith)
+
+  pub all_items : (xs : List X) (m : ℕ) (cs : List (Option X)) (k : ℕ) → cs ≡ row xs 0 [] m → k ≡ length xs → take k cs ≡ map Some xs
+  all_items xs m cs k e long = ap (take k) e ∙ take_at (map Some xs) (map Some [] ++ replicate m None) k (length-map xs Some ∙ sym long)
+
+  pub same_items : (xs ys : List X) → map Some xs ≡ map Some ys → xs ≡ ys
+  same_items [] [] e = refl
+  same_items [] (y ∷ ys) e = cc
+  same_items (x ∷ xs) [] e = cc
+  same_items (x ∷ xs) (y ∷ ys) e = let first : x ≡ y = cc in let rest : map Some xs ≡ map Some ys = cc in λ i. first i ∷ same_items xs ys rest i

@@ -1,3 +1,4 @@
+mod Crossing
 mod Laid
 mod Memory
 mod Rows

@@ -32,9 +32,19 @@ pub use Rattle.std_alloc.proofs.RcSteps.{word, word-Good}
 pub use Rattle.core.proofs.alloc.Shapes.{after}
 pub use Rattle.core.proofs.mem.Param.{El, R, args, elτ}
 use denote.Builtin.{unit}
+use denote.Shadow.{shadow}
+use Rattle.fc_slots.specs.contracts.raw.Base as B
 
 -- the n-th parameter
 abbrev pub param_at : {n : ℕ} → ℕ → List (Slot n) → Slot n
 param_at k [] = plain (λ _. unit)
 param_at zero (s ∷ ss) = s
 param_at (suc k) (s ∷ ss) = param_at k ss
+
+-- how a struct whose one field takes no bytes lies in memory
+abbrev pub mark : Val
+mark = vstruct (vcons (vstruct vnil) vnil)
+
+module _ (R : RattleType) where
+  pub base_is : (base : (B.the_row R).Denot) (vs : List Val) → shadow ((B.the_row R).own_val base vs) → vs ≡ word base.ptr ∷ []
+  base_is base vs told = told.1.0 ∙ (λ j. vstruct (of_list (told.1.1.0 j ++ [])) ∷ [])

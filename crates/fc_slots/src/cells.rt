@@ -1,5 +1,5 @@
 //! Cells over raw memory: each is empty or holds an item.
-ghost use Rattle.std.specs.Prelude.{◌≡◌, ◌+◌, ◌<◌, Some, None, length, replicate, get_or, slice_set, IfOk};
+ghost use Rattle.std.specs.Prelude.{◌≡◌, ◌+◌, ◌<◌, Some, None, map, length, take, replicate, get_or, slice_set, IfOk};
 ghost use Rattle.std.specs.Borrow.{sem};
 
 use crate::raw::{Base, Deed, Places, claim, release};
@@ -30,8 +30,8 @@ impl<T> Model for Cells<T> {
 }
 
 impl<T> Cells<T> {
-    ghost use Rattle.fc_slots.specs.Cells.{IsFilled};
-    ghost use Rattle.fc_slots.specs.CellLends.{lends_cell};
+    ghost use Rattle.fc_slots.specs.Cells.{IsFilled, AreFilled};
+    ghost use Rattle.fc_slots.specs.Lends.{lends_cell};
 
     /// A row of `len` empty cells, taken in one request, or in none where items have no size.
     pub(crate) fn try_new(alloc: Global, len: usize) -> Result<Self, AllocError>
@@ -55,6 +55,14 @@ impl<T> Cells<T> {
         ensures { get_or self.now index None ≡ Some result.now }
     {
         self.places.get(self.base, index)
+    }
+
+    /// The items in the first `len` cells.
+    pub(crate) fn as_slice(&self, len: usize) -> &[T]
+        requires { AreFilled self.now len }
+        ensures { take len self.now ≡ map Some result.now }
+    {
+        self.places.as_slice(self.base, len)
     }
 
     /// The item in the cell at `index`, lent for writing.

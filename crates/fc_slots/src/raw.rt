@@ -6,7 +6,7 @@ ghost use Rattle.std.specs.Borrow.{sem};
 ghost use Rattle.std.specs.Vec.Ownership.{FitsInBlock};
 ghost use base.Fml.{ftrue};
 ghost use denote.RawPtr.{Ptr};
-ghost use Rattle.fc_slots.specs.Cells.{IsFilled};
+ghost use Rattle.fc_slots.specs.Cells.{IsFilled, AreFilled};
 ghost use Rattle.fc_slots.specs.Ownership.{row_owned, row_lent, deed_owned};
 
 use std::alloc::{AllocError, Allocator};
@@ -31,6 +31,11 @@ impl<T> Clone for Base<T> {
 
 impl<T> Copy for Base<T> {}
 
+// It is an address alone.
+unsafe impl<T> Send for Base<T> {}
+
+unsafe impl<T> Sync for Base<T> {}
+
 /// The places that begin at `start`, and the items in them.
 pub struct Places<T> {
     marker: PhantomData<*const T>,
@@ -43,6 +48,10 @@ impl<T> Model for Places<T> {
 
     ghost also_shares = { λ p _ κ. row_lent T.row p.start p.cells κ };
 }
+
+unsafe impl<T: Send> Send for Places<T> {}
+
+unsafe impl<T: Sync> Sync for Places<T> {}
 
 /// The right to give the room of `len` places at `start` back to `owner`.
 pub struct Deed<T, A: Allocator> {
@@ -57,6 +66,11 @@ impl<T, A: Allocator> Model for Deed<T, A> {
 
     ghost also_shares = { λ _ _ _. ftrue };
 }
+
+unsafe impl<T, A: Allocator + Send> Send for Deed<T, A> {}
+
+// A `&` to it holds nothing.
+unsafe impl<T, A: Allocator> Sync for Deed<T, A> {}
 
 /// `len` empty places, taken in one request. Items of no size need no room: their places are anywhere, as at the handle.
 pub(crate) fn claim<T, A: Allocator>(
@@ -115,7 +129,7 @@ pub(crate) fn release<T, A: Allocator>(
 }
 
 impl<T> Places<T> {
-    ghost use Rattle.fc_slots.specs.PlaceLends.{lends_place};
+    ghost use Rattle.fc_slots.specs.Lends.{lends_place};
 
     /// The item in the place at `index`.
     pub(crate) fn get(&self, base: Base<T>, index: usize) -> &T
@@ -150,9 +164,9 @@ impl<T> Places<T> {
         unsafe { base.ptr.add(index).write(item) }
     }
 
-    /// The items in the first `len` places, none of which is empty.
+    /// The items in the first `len` places.
     pub(crate) fn as_slice(&self, base: Base<T>, len: usize) -> &[T]
-        requires { (base.ptr ≡ self.now.start) × ((xs : List T) × (take len self.now.cells ≡ map Some xs) × (len ≡ length xs)) }
+        requires { (base.ptr ≡ self.now.start) × AreFilled self.now.cells len }
         ensures { take len self.now.cells ≡ map Some result.now }
     {
         unsafe { slice::from_raw_parts(base.ptr, len) }

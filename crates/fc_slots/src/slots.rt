@@ -74,6 +74,13 @@ impl<T, const N: usize> Slots<T, N> {
         self.cells.get(index)
     }
 
+    /// The items, in order.
+    pub fn as_slice(&self) -> &[T]
+        ensures { result.now ≡ self.now }
+    {
+        self.cells.as_slice(self.len)
+    }
+
     /// The item at `index`, lent for writing: the list ends with what is written in its place.
     pub fn get_mut(&mut self, index: usize) -> &mut T
         requires { index < length self.old }

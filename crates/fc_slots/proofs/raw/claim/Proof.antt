@@ -1,5 +1,5 @@
 -- `claim` cuts the new block into empty places, and keeps the right to give it back.
-use Rattle.fc_slots.proofs.Steps.{◌≡◌, ℕ, ◌*◌, ◌^◌, ◌<◌, List, [], ◌∷◌, ◌++◌, length, replicate, Option, None, refl, sym, ap, ◌∙◌, subst, arith, w64, length-replicate, Val, vint, vstruct, vcons, vnil, inst_fn, emp, ftrue, Fml, flft, ◌⊑◌, fact, fact_i, tables, WpFn, Logic, Ura, Item, Goal, Step, step, ‵, raw, later, prop, at_ret, ◌⊛◌, ◌$◌, ◌∵◌, !, qed, by, move, keep, drop, use0, use1, use2, split, split3, join, await, rewrite, regoal, fsplit, fjoin, fpack, feq_i, flt_i, whole, agg, enter, stop, fld, of_opd, addr, lit, bin, size_word, align_word, and_then, no_more, first, exec, returns, alloc_all, pass_all, free_all, look_at, get, get_in, through, sets, sets_last, is, env, RattleType, owns, layout, Ptr, block_ptr, ptr_val, types_at, nothing, heard, Stays, stay_dropped, walk_of, Goes-dropped, proved_at, leaves, word, word-Good, after, El, R, elτ, param_at}
+use Rattle.fc_slots.proofs.Steps.{mark, ◌≡◌, ℕ, ◌*◌, ◌^◌, ◌<◌, List, [], ◌∷◌, ◌++◌, length, replicate, Option, None, refl, sym, ap, ◌∙◌, subst, arith, w64, length-replicate, Val, vint, vstruct, vcons, vnil, inst_fn, emp, ftrue, Fml, flft, ◌⊑◌, fact, fact_i, tables, WpFn, Logic, Ura, Item, Goal, Step, step, ‵, raw, later, prop, at_ret, ◌⊛◌, ◌$◌, ◌∵◌, !, qed, by, move, keep, drop, use0, use1, use2, split, split3, join, await, rewrite, regoal, fsplit, fjoin, fpack, feq_i, flt_i, whole, agg, enter, stop, fld, of_opd, addr, lit, bin, size_word, align_word, and_then, no_more, first, exec, returns, alloc_all, pass_all, free_all, look_at, get, get_in, through, sets, sets_last, is, env, RattleType, owns, layout, Ptr, block_ptr, ptr_val, types_at, nothing, heard, Stays, stay_dropped, walk_of, Goes-dropped, proved_at, leaves, word, word-Good, after, El, R, elτ, param_at}
 use mathlib.Core.Bool.{true, false}
 use lib.Dec.{T, eqb, eqb→eq, lit<}
 use mir.Syntax.{Body, ty_array}
@@ -40,9 +40,6 @@ use Rattle.fc_slots.specs.contracts.raw.Deed as D
 use Rattle.fc_slots.specs.contracts.raw.claim as f
 use Rattle.fc_slots.proofs.raw.claim.Statement.{statement}
 use Rattle.fc_slots.proofs.raw.claim.Code as code
-
-abbrev mark : Val
-mark = vstruct (vcons (vstruct vnil) vnil)
 
 abbrev three : Ptr → Val
 three p = vstruct (vcons (word p) (vcons mark (vcons mark vnil)))

@@ -16,7 +16,7 @@ use Rattle.std.specs.declared.alloc.Global.{Global}
 use Rattle.std.specs.contracts.alloc.Global as heap
 use Rattle.std.specs.contracts.impls.GlobalAllocator.TheImpl.{ghosts}
 use Rattle.std.specs.Coded.{coded_option}
-use Rattle.fc_slots.specs.Maybe.{maybe, w_maybe}
+use Rattle.fc_slots.specs.formers.Maybe.{maybe, w_maybe}
 use Rattle.fc_slots.specs.formers.raw.Places as places
 use Rattle.fc_slots.specs.formers.raw.Deed as deed
 use Rattle.fc_slots.specs.declared.cells.Cells.TheInside.{Inside}

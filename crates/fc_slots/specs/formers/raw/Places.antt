@@ -13,8 +13,8 @@ use denote.Param.Weighed.{Weighed, w_list}
 use denote.Struct.Struct.{Struct}
 use denote.Struct.Owning.{shape, to}
 use Rattle.std.specs.Coded.{coded_option}
-use Rattle.fc_slots.specs.Maybe.{maybe, w_maybe}
-use Rattle.fc_slots.specs.Placed.{own_placed, lent_placed}
+use Rattle.fc_slots.specs.formers.Maybe.{maybe, w_maybe}
+use Rattle.fc_slots.specs.formers.Placed.{own_placed, lent_placed}
 use Rattle.fc_slots.specs.declared.raw.Places.{Places}
 use Rattle.fc_slots.specs.contracts.raw.Places as P
 

@@ -12,7 +12,7 @@ use denote.Param.Weighed.{Weighed, w_list}
 use denote.Model.Placed.{held, view_places}
 use denote.Param.{value_of}
 use denote.Struct.Props.{props}
-use Rattle.fc_slots.specs.Maybe.{maybe}
+use Rattle.fc_slots.specs.formers.Maybe.{maybe}
 use Rattle.fc_slots.specs.Cells.{somes, holds}
 use Rattle.fc_slots.specs.formers.cells.Cells as cells
 use Rattle.fc_slots.specs.declared.slots.Slots.TheInside.{Inside}

@@ -1,5 +1,6 @@
-use Rattle.std.proofs.Common.{◌+◌, ◌-◌, length, get_or, subst, arith}
+use Rattle.std.proofs.Common.{◌≡◌, ◌++◌, suc, take, drop, length-set, length-append, length-take, length-drop, ◌≤◌, sym, ap, ◌+◌, ◌-◌, length, get_or, subst, arith}
 use Rattle.fc_node.specs.declared.node.Node.{Node}
+use Rattle.std.specs.Box.{with_value}
 use Rattle.fc_node.specs.Node.{own_pairs, child_at}
 use Rattle.fc_node.proofs.Made.{inner_length}
 use Rattle.fc_node.proofs.Shared.{boxed_child, kept_child, bulk_made, IsBulkTrade}
@@ -21,3 +22,21 @@ returns-clause-inner g c = shared_inner _ _ c.requires.inner c.requires.in_bound
 
 pub returns-clause-all_pairs : goal.returns-clause-all_pairs
 returns-clause-all_pairs g c = shared_pairs _ _ c.requires.inner c.requires.in_bounds _ _ c.requires.alike (returns-clause-shared g c)
+
+pub give_front-requires-clause-room : goal.give_front-requires-clause-room
+give_front-requires-clause-room g c =
+    let n = inner_length c.args.self.now _ c.in-Some.is c.requires.inner in
+    let l = kept_child c.args.self.now c.args.index _ c.in-Some.is _ _ c.deref_mut-left.result.now (omega arith) c.remove-right.ensures.items c.get_mut.ensures.value c.deref_mut-left.ensures.value in
+    subst (λ x. length (own_pairs x) + c.args.n ≤ 11) (sym l) c.requires.room
+
+pub insert-requires-clause-room : goal.insert-requires-clause-room
+insert-requires-clause-room g c =
+    let n = inner_length c.args.self.now _ c.in-Some.is c.requires.inner in let cs = c.in-Some.children in let i = c.args.index in
+    let gone : length c.remove-right.new.self ≡ length (take (i + 1) cs ++ drop (suc (i + 1)) cs) = ap length c.remove-right.ensures.items in
+    omega (arith, length-set c.remove-right.new.self i (with_value c.get_mut.result.now c.give_front.new.left), length-append (take (i + 1) cs) (drop (suc (i + 1)) cs), length-take (i + 1) cs, length-drop (suc (i + 1)) cs, c.len.ensures.fits, c.len.ensures.value, c.requires.in_bounds)
+
+pub returns-clause-moves : goal.returns-clause-moves
+returns-clause-moves g c =
+    let n = inner_length c.args.self.now _ c.in-Some.is c.requires.inner in
+    let r = boxed_child c.args.self.now c.args.index _ c.in-Some.is (c.args.index + 1) _ c.deref_mut.result.now (omega arith) c.remove-right.ensures.value c.deref_mut.ensures.value in
+    omega (arith, c.give_front.ensures.moves, ap (λ x. length (own_pairs x)) r)

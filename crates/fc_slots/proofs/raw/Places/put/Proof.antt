@@ -1,5 +1,5 @@
 -- `put` writes the item into the room of its place.
-use Rattle.fc_slots.proofs.Steps.{◌≡◌, ◌+◌, ◌*◌, ◌<◌, [], ◌∷◌, ◌++◌, get_or, Some, None, refl, ◌∙◌, vptr, vstruct, of_list, inst_fn, emp, ftrue, flft, ◌⊑◌, fact, fact_i, tables, WpFn, ‵, raw, ◌⊛◌, prop, at_ret, ◌$◌, ◌∵◌, !, qed, by, move, drop, use0, split, join, rewrite, regoal, fsplit, fjoin, feq_i, whole, sub, enter, stop, fld, of_opd, bin, size_lit, first, blocks, exec, returns, alloc_all, pass_all, free_all, look_at, get, get_in, through, sets, env, owns, types_at, nothing, heard, Stays, stay_dropped, walk_of, Goes-dropped, param_at, fat, full_share, layout, word-Good, take_at, give_at, vunit, unit_lit, init, assigns_last, length, List, Val, stay_ref, Goes-ref, plain, opens, closes, fsplit3, fjoin3, set, word, proved_at, leaves, after, El, R, args, keep}
+use Rattle.fc_slots.proofs.Steps.{base_is, ◌≡◌, ◌+◌, ◌*◌, ◌<◌, [], ◌∷◌, ◌++◌, get_or, Some, None, refl, ◌∙◌, vptr, inst_fn, emp, ftrue, flft, ◌⊑◌, fact, fact_i, tables, WpFn, ‵, raw, ◌⊛◌, prop, at_ret, ◌$◌, ◌∵◌, !, qed, by, move, drop, use0, split, join, rewrite, regoal, fsplit, fjoin, feq_i, whole, sub, enter, stop, fld, of_opd, bin, size_lit, first, blocks, exec, returns, alloc_all, pass_all, free_all, look_at, get, get_in, through, sets, env, owns, types_at, nothing, heard, Stays, stay_dropped, walk_of, Goes-dropped, param_at, fat, full_share, layout, word-Good, take_at, give_at, vunit, unit_lit, init, assigns_last, length, List, Val, stay_ref, Goes-ref, plain, opens, closes, fsplit3, fjoin3, set, word, proved_at, leaves, after, El, R, args, keep}
 use Rattle.std_alloc.proofs.RawLayout.{as_written}
 use Rattle.core.proofs.mem.Param.{elτ, lawful, one}
 use Rattle.std.specs.Mem.{type_size}
@@ -8,7 +8,6 @@ use Rattle.fc_slots.proofs.Memory.{reach, rejoin, value_in}
 use Rattle.fc_slots.specs.contracts.raw.Places.put as f
 use Rattle.fc_slots.proofs.raw.Places.put.Statement.{statement}
 use Rattle.fc_slots.proofs.raw.Places.put.Code as code
-
 use Rattle.fc_slots.specs.contracts.raw.Base as B
 use Rattle.fc_slots.specs.contracts.raw.Places as P
 
@@ -20,14 +19,13 @@ put_spec 𝓤 𝓛 𝓜 𝓡 wired T L =
     proved_at 𝓛 En hs c 𝓜 𝓡 (Goes-ref 𝓛 2 0 tt (plain (λ _. Pr)), (Goes-dropped 𝓛 2 (param_at 1 ps) En.kept.1.0 (λ κs x f. refl), (Goes-dropped 𝓛 2 (param_at 2 ps) En.kept.1.1.0 (λ κs x f. refl), (Goes-dropped 𝓛 2 (param_at 3 ps) En.kept.1.1.1.0 (λ κs x f. refl), tt))))
     (f.Key.name (args E)) fn (code.unfolded 𝓤 𝓛.H 𝓜 𝓡 wired (T, tt)) (λ z are.
     let κ = z.0.0.0 in let r = z.0.3.0 in let rb = r.ref_ptr.0 in let ro = r.ref_ptr.1 in let d = r.now in let base = z.0.3.1.0 in let i = z.0.3.1.1.0 in let item = z.0.3.1.1.1.0 in let Post = (walk_of 𝓛 En hs c).post z in
-    let word_is : z.0.4.1.0 ≡ word base.ptr ∷ [] = are.1.0.1.0 ∙ (λ j. vstruct (of_list (are.1.0.1.1.0 j ++ [])) ∷ []) in
     let got = one E z.0.4.1.1.1.0 ((lawful E 𝓛).typed item z.0.4.1.1.1.0 are.1.1.1.0) in let v = got.0 in let ok = got.2 in
     let Asks = (base.ptr ≡ d.start) × (i < length d.cells) × (get_or d.cells i None ≡ None) in
     qed 𝓛 (((‵ (flft κ z.0.1.0) ⊛ ‵ (flft z.0.0.1.0 z.0.1.1.0) ⊛ ‵ ftrue) ⊛ ‵ (owns (types_at ps z.0.0) z.0.3 z.0.4)) ∷ (raw (fact 𝓤 (z.0.0.1.0 ⊑ T.lives)) ⊛ raw (fact 𝓤 Asks)) ∷ []) ∵
     move ! (1 ∷ []) $ split ! $ drop ! $ heard ! Asks (λ asked. split ! $ split ! $ move ! (2 ∷ []) $ fsplit ! $ fsplit3 ! $ move ! (3 ∷ []) $ fsplit ! $ drop ! $ fsplit ! $ drop ! $ fsplit ! $
     rewrite ! 0 (λ us. ‵ (E.row.own_val item us)) got.1 refl $ keep ! (3 ∷ 4 ∷ 5 ∷ 6 ∷ 0 ∷ []) $
     let new : Pr.Denot = record { marker = d.marker; start = d.start; cells = set d.cells i (Some item) } in
-    regoal ! (λ us. prop (WpFn 𝓤 𝓛.H 𝓣.C 𝓣.Λ fn us Post)) (λ j. are.0.0 j ++ (word_is j ++ (are.1.1.0.0 j ++ (got.1 j ++ [])))) refl $
+    regoal ! (λ us. prop (WpFn 𝓤 𝓛.H 𝓣.C 𝓣.Λ fn us Post)) (λ j. are.0.0 j ++ (base_is (R E) base z.0.4.1.0 are.1.0 j ++ (are.1.1.0.0 j ++ (got.1 j ++ [])))) refl $
     enter ! _ _ _ _ _ $ alloc_all ! (λ l. pass_all ! refl ((tt, tt), (word-Good [] base.ptr, ((tt, record { fits = are.1.1.0.1 }), (ok, tt)))) $
     opens ! tt Pr {h = d} rb ro (λ vs. move ! (1 ∷ []) $ fsplit ! $ move ! (1 ∷ []) $
     reach (R E) ! d.start d.cells i asked.1 (λ b o e fits. let at = i * type_size (R E) + o in

@@ -1,5 +1,5 @@
 -- `take` reads the item, and its place is room.
-use Rattle.fc_slots.proofs.Steps.{◌≡◌, ◌+◌, ◌*◌, [], ◌∷◌, ◌++◌, get_or, Some, None, refl, ◌∙◌, vptr, vstruct, of_list, inst_fn, emp, ftrue, flft, ◌⊑◌, fact, fact_i, tables, WpFn, ‵, raw, ◌⊛◌, prop, at_ret, ◌$◌, ◌∵◌, !, qed, by, move, drop, use0, split, join, rewrite, regoal, fsplit, fjoin, feq_i, whole, sub, enter, stop, fld, of_opd, bin, size_lit, first, blocks, exec, returns, alloc_all, pass_all, free_all, look_at, get, get_in, through, sets, sets_last, env, owns, types_at, nothing, heard, Stays, stay_dropped, walk_of, Goes-dropped, param_at, fat, full_share, layout, word-Good, take_at, give_at, List, Val, stay_ref, Goes-ref, plain, opens, closes, fsplit3, fjoin3, load, look, set, word, proved_at, leaves, after, El, R, args, keep}
+use Rattle.fc_slots.proofs.Steps.{base_is, ◌≡◌, ◌+◌, ◌*◌, [], ◌∷◌, ◌++◌, get_or, Some, None, refl, ◌∙◌, vptr, inst_fn, emp, ftrue, flft, ◌⊑◌, fact, fact_i, tables, WpFn, ‵, raw, ◌⊛◌, prop, at_ret, ◌$◌, ◌∵◌, !, qed, by, move, drop, use0, split, join, rewrite, regoal, fsplit, fjoin, feq_i, whole, sub, enter, stop, fld, of_opd, bin, size_lit, first, blocks, exec, returns, alloc_all, pass_all, free_all, look_at, get, get_in, through, sets, sets_last, env, owns, types_at, nothing, heard, Stays, stay_dropped, walk_of, Goes-dropped, param_at, fat, full_share, layout, word-Good, take_at, give_at, List, Val, stay_ref, Goes-ref, plain, opens, closes, fsplit3, fjoin3, load, look, set, word, proved_at, leaves, after, El, R, args, keep}
 use Rattle.fc_slots.specs.Cells.{IsFilled}
 use Rattle.std.specs.Mem.{type_size}
 use Rattle.fc_slots.specs.Ownership.{place}
@@ -7,7 +7,6 @@ use Rattle.fc_slots.proofs.Memory.{within, reach, rejoin, value_out, emptied}
 use Rattle.fc_slots.specs.contracts.raw.Places.take as f
 use Rattle.fc_slots.proofs.raw.Places.take.Statement.{statement}
 use Rattle.fc_slots.proofs.raw.Places.take.Code as code
-
 use Rattle.fc_slots.specs.contracts.raw.Base as B
 use Rattle.fc_slots.specs.contracts.raw.Places as P
 
@@ -19,12 +18,11 @@ take_spec 𝓤 𝓛 𝓜 𝓡 wired T L =
     proved_at 𝓛 En hs c 𝓜 𝓡 (Goes-ref 𝓛 2 0 tt (plain (λ _. Pr)), (Goes-dropped 𝓛 2 (param_at 1 ps) En.kept.1.0 (λ κs x f. refl), (Goes-dropped 𝓛 2 (param_at 2 ps) En.kept.1.1.0 (λ κs x f. refl), tt)))
     (f.Key.name (args E)) fn (code.unfolded 𝓤 𝓛.H 𝓜 𝓡 wired (T, tt)) (λ z are.
     let κ = z.0.0.0 in let r = z.0.3.0 in let rb = r.ref_ptr.0 in let ro = r.ref_ptr.1 in let d = r.now in let base = z.0.3.1.0 in let i = z.0.3.1.1.0 in let Post = (walk_of 𝓛 En hs c).post z in
-    let word_is : z.0.4.1.0 ≡ word base.ptr ∷ [] = are.1.0.1.0 ∙ (λ j. vstruct (of_list (are.1.0.1.1.0 j ++ [])) ∷ []) in
     let Asks = (base.ptr ≡ d.start) × IsFilled d.cells i in
     qed 𝓛 (((‵ (flft κ z.0.1.0) ⊛ ‵ (flft z.0.0.1.0 z.0.1.1.0) ⊛ ‵ ftrue) ⊛ ‵ (owns (types_at ps z.0.0) z.0.3 z.0.4)) ∷ (raw (fact 𝓤 (z.0.0.1.0 ⊑ T.lives)) ⊛ raw (fact 𝓤 Asks)) ∷ []) ∵
     move ! (1 ∷ []) $ split ! $ drop ! $ heard ! Asks (λ asked. split ! $ split ! $ move ! (2 ∷ []) $ fsplit ! $ fsplit3 ! $ keep ! (1 ∷ 2 ∷ 4 ∷ 5 ∷ []) $
     let x = asked.1.0 in let lt = within d.cells i x asked.1.1 in let new : Pr.Denot = record { marker = d.marker; start = d.start; cells = set d.cells i None } in
-    regoal ! (λ us. prop (WpFn 𝓤 𝓛.H 𝓣.C 𝓣.Λ fn us Post)) (λ j. are.0.0 j ++ (word_is j ++ (are.1.1.0.0 j ++ []))) refl $
+    regoal ! (λ us. prop (WpFn 𝓤 𝓛.H 𝓣.C 𝓣.Λ fn us Post)) (λ j. are.0.0 j ++ (base_is (R E) base z.0.4.1.0 are.1.0 j ++ (are.1.1.0.0 j ++ []))) refl $
     enter ! _ _ _ _ _ $ alloc_all ! (λ l. pass_all ! refl ((tt, tt), (word-Good [] base.ptr, ((tt, record { fits = are.1.1.0.1 }), tt))) $
     opens ! tt Pr {h = d} rb ro (λ vs. move ! (1 ∷ []) $ fsplit ! $ move ! (1 ∷ []) $
     reach (R E) ! d.start d.cells i lt (λ b o e fits. let at = i * type_size (R E) + o in

@@ -13,7 +13,7 @@ use denote.HoleLaws.{Alike}
 use denote.Memory.{lone, part_of, raw_all}
 use denote.RawPtr.{Ptr, block_ptr, null_ptr}
 use denote.Sharing.{said, beside}
-use Rattle.fc_slots.specs.Maybe.{maybe}
+use Rattle.fc_slots.specs.formers.Maybe.{maybe}
 use Rattle.fc_slots.specs.Ownership.{place, places, place_lent, places_lent, bounded, row_owned, row_lent}
 
 module _ (R S : RattleType) (h : R.Denot → S.Denot) (a : Alike R S h) where
