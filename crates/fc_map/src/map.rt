@@ -1,5 +1,5 @@
 //! The ordered map, a B-tree.
-ghost use Rattle.std.specs.Prelude.{◌≡◌, ◌+◌, ◌-◌, ◌^◌, ◌<◌, ◌≤◌, ◌↔◌, ◌⊎◌, [], ◌∷◌, length, IsTrue, IsSome, IsOk, IsErr, IfOk, IfErr, OnOk, OnErr, MatchResult, None, Some, Ok, option_copied};
+ghost use Rattle.std.specs.Prelude.{◌≡◌, ◌+◌, ◌-◌, ◌^◌, ◌<◌, ◌≤◌, ◌↔◌, ◌⊎◌, [], ◌∷◌, length, IsTrue, IsSome, IsOk, IsErr, IfOk, IfErr, OnOk, OnErr, MatchResult, None, Some, Ok, option_copied, unwrap_or};
 ghost use Rattle.std.specs.Option.{option_map};
 ghost use Rattle.fc_base.specs.Ascending.{IsAscending};
 ghost use Rattle.fc_base.specs.Growth.{MayGrowRefuse};
@@ -262,7 +262,7 @@ impl<K: Ord + Drop, V: Drop> BTreeMap<K, V> {
     {
         match self.locate(&key, count) {
             Ok(path) => Ok(Some(self.replace_at(&path, &key, value))),
-            Err(path) => match self.insert_at(&path, key, value, count) {
+            Err(path) => match self.insert_at(path, key, value, count) {
                 Ok(_) => Ok(None),
                 Err(e) => Err(e),
             },
@@ -314,16 +314,17 @@ impl<K: Ord + Drop, V: Drop> BTreeMap<K, V> {
     }
 
     // Puts a pair with a new key into the gap that the path leads to, and answers the path to it.
+    #[inline(always)]
     fn insert_at(
         &mut self,
-        path: &Path,
+        path: Path,
         key: K,
         value: V,
         count: &mut Count,
     ) -> Result<Path, TryReserveError>
-        requires gap { IsOpenAt K.cmp key self.old path.now }
+        requires gap { IsOpenAt K.cmp key self.old path }
         ensures put { OnOk result (entries self.new ≡ put K.cmp (entries self.old) key value) }
-        ensures place { IfOk result (λ place. IsPutIn place self.new (key, value) (before_of self.old path.now) (after_of self.old path.now)) }
+        ensures place { IfOk result (λ place. IsPutIn place self.new (key, value) (before_of self.old path) (after_of self.old path)) }
         ensures unchanged { OnErr result (self.new ≡ self.old) }
         ensures error { IfErr result (MayGrowRefuse (length (entries self.old))) }
         ensures full { length (entries self.old) ≡ usize.MAX → IsErr result }
@@ -341,12 +342,13 @@ impl<K: Ord + Drop, V: Drop> BTreeMap<K, V> {
         let Some(root) = &mut self.root else {
             return self.insert_first(key, value, count);
         };
-        let place = insert_in(self.alloc, root, path.as_slice(), (key, value), count)?;
+        let moved = insert_in(self.alloc, root, path.as_slice(), (key, value), count)?;
         self.len += 1;
-        Ok(place)
+        Ok(moved.unwrap_or(path))
     }
 
     // Puts the first pair into an empty map, and answers the path to it.
+    #[inline(never)]
     fn insert_first(&mut self, key: K, value: V, count: &mut Count) -> Result<Path, TryReserveError>
         requires { self.old ≡ None }
         ensures put { OnOk result (entries self.new ≡ (key, value) ∷ []) }
@@ -383,8 +385,40 @@ impl<K: Ord + Drop, V: Drop> BTreeMap<K, V> {
     }
 }
 
-// Puts a pair with a new key into the gap of the tree that the path leads to, and answers the path to it.
+// Puts a pair with a new key into the gap of the tree that the path leads to, and answers the path to it where that is another.
+#[inline(always)]
 fn insert_in<K: Ord + Drop, V: Drop>(
+    alloc: Global,
+    root: &mut Box<Node<K, V>>,
+    path: &[u8],
+    pair: (K, V),
+    count: &mut Count,
+) -> Result<Option<Path>, TryReserveError>
+    requires gap { IsGap K.cmp pair.0 root.old.value path.now }
+    requires sound { IsSoundMap (Some root.old.value) }
+    requires fits { length (pairs_of root.old.value) < usize.MAX }
+    ensures put { OnOk result (pairs_of root.new.value ≡ put K.cmp (pairs_of root.old.value) pair.0 pair.1) }
+    ensures place { IfOk result (λ moved. IsPutAt (unwrap_or moved path.now) root.new.value pair (before path.now root.old.value) (after path.now root.old.value)) }
+    ensures length { OnOk result (length (pairs_of root.new.value) ≡ length (pairs_of root.old.value) + 1) }
+    ensures sound { IsSoundMap (Some root.new.value) }
+    ensures unchanged { OnErr result (root.new ≡ root.old) }
+    ensures error { IfErr result (λ e. e ≡ TryReserveError.AllocError) }
+    ensures leaf { OnErr result (11 ≤ length (pairs_of root.old.value)) }
+    ensures comparisons { count.new.comparisons ≡ count.old.comparisons }
+    ensures no_move { OnErr result (count.new.moves ≡ count.old.moves) }
+    ensures moves { OnOk result (IsMoved (length (pairs_of root.new.value)) count.old count.new) }
+    ensures moved { OnOk result (count.old.moves < count.new.moves) }
+{
+    if has_room(root, path) {
+        insert_in_leaf(root, path, pair, count);
+        return Ok(None);
+    }
+    Ok(Some(insert_split(alloc, root, path, pair, count)?))
+}
+
+// As `insert_in`, where a leaf is split. It is not inlined, since its caller would then pay for its locals where none is split.
+#[inline(never)]
+fn insert_split<K: Ord + Drop, V: Drop>(
     alloc: Global,
     root: &mut Box<Node<K, V>>,
     path: &[u8],
@@ -406,10 +440,6 @@ fn insert_in<K: Ord + Drop, V: Drop>(
     ensures moves { OnOk result (IsMoved (length (pairs_of root.new.value)) count.old count.new) }
     ensures moved { OnOk result (count.old.moves < count.new.moves) }
 {
-    if has_room(root, path) {
-        insert_in_leaf(root, path, pair, count);
-        return Ok(Path::of(path));
-    }
     let room = try_room(alloc, root, path)?;
     Ok(insert(root, path, pair, room, count))
 }

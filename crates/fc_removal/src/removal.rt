@@ -143,6 +143,7 @@ fn mend_child<K: Drop, V: Drop>(node: &mut Node<K, V>, index: usize, count: &mut
 
 // Mends the child at `index`, which has 4 pairs: with the child on its left where there is one, else with the one on its right.
 // Where both and the pair between them fit in one node, they are merged, and else one pair is stolen.
+#[inline(never)]
 fn mend_short<K: Drop, V: Drop>(node: &mut Node<K, V>, index: usize, count: &mut Count)
     requires at { (h : ℕ) × IsShortAt h node.old index }
     requires short { length (own_pairs (child_at node.old index)) < 5 }

@@ -65,7 +65,7 @@ impl<'a, K: Ord + Drop, V: Drop> VacantEntry<'a, K, V> {
         ensures bounded { IsBounded (length (entries (entry_map (Vacant self.entry))) + 1) count.old count.new }
     {
         let VacantEntry { map, key, path } = self;
-        match map.insert_at(&path, key, value, count) {
+        match map.insert_at(path, key, value, count) {
             Ok(place) => Ok(map.value_mut(&place)),
             Err(refused) => Err(refused),
         }
