@@ -31,16 +31,8 @@ pub all_map : {X : Type 0} (P Q : X → Type 0) (f : (x : X) → P x → Q x) (a
 all_map P Q f [] h = tt
 all_map P Q f (e ∷ a) h = (f e h.0, all_map P Q f a h.1)
 
-module _ {K V : Type 0} (cmp : K → K → Ordering) where
-  pub asc_filter : (p : K × V → Bool) (s : List (K × V)) → IsAscending cmp s → IsAscending cmp (filter p s)
-  asc_filter p [] a = tt
-  asc_filter p (e ∷ s) a = elim (p e) as (λ b. IsAscending cmp (cond b (e ∷ filter p s) (filter p s))) [ true ↦ (all_filter _ p s a.0, asc_filter p s a.1) | false ↦ asc_filter p s a.1 ]
-
-  asc_join : (b a : List (K × V)) → IsAscending cmp b → IsAscending cmp a → AllByRecursion (λ x. AllByRecursion (λ y. cmp x.0 y.0 ≡ Less) a) b → IsAscending cmp (b ++ a)
-  asc_join [] a hb ha all = ha
-  asc_join (e ∷ b) a hb ha all = (all_append (λ y. cmp e.0 y.0 ≡ Less) b a hb.0 all.0, asc_join b a hb.1 ha all.1)
-
-  pub all_below : (s : List (K × V)) (k : K) → AllByRecursion (λ e. cmp e.0 k ≡ Less) (below cmp s k)
+module _ {K Q V : Type 0} (cmp : K → Q → Ordering) where
+  pub all_below : (s : List (K × V)) (k : Q) → AllByRecursion (λ e. cmp e.0 k ≡ Less) (below cmp s k)
   all_below [] k = tt
   all_below (e ∷ s) k = go (cmp e.0 k) refl (all_below s k)
     where
@@ -49,7 +41,7 @@ module _ {K V : Type 0} (cmp : K → K → Ordering) where
       go Equal h rest = rest
       go Greater h rest = rest
 
-  pub all_above : (s : List (K × V)) (k : K) → AllByRecursion (λ e. cmp e.0 k ≡ Greater) (above cmp s k)
+  pub all_above : (s : List (K × V)) (k : Q) → AllByRecursion (λ e. cmp e.0 k ≡ Greater) (above cmp s k)
   all_above [] k = tt
   all_above (e ∷ s) k = go (cmp e.0 k) refl (all_above s k)
     where
@@ -57,6 +49,15 @@ module _ {K V : Type 0} (cmp : K → K → Ordering) where
       go Less h rest = rest
       go Equal h rest = rest
       go Greater h rest = (h, rest)
+
+module _ {K V : Type 0} (cmp : K → K → Ordering) where
+  pub asc_filter : (p : K × V → Bool) (s : List (K × V)) → IsAscending cmp s → IsAscending cmp (filter p s)
+  asc_filter p [] a = tt
+  asc_filter p (e ∷ s) a = elim (p e) as (λ b. IsAscending cmp (cond b (e ∷ filter p s) (filter p s))) [ true ↦ (all_filter _ p s a.0, asc_filter p s a.1) | false ↦ asc_filter p s a.1 ]
+
+  asc_join : (b a : List (K × V)) → IsAscending cmp b → IsAscending cmp a → AllByRecursion (λ x. AllByRecursion (λ y. cmp x.0 y.0 ≡ Less) a) b → IsAscending cmp (b ++ a)
+  asc_join [] a hb ha all = ha
+  asc_join (e ∷ b) a hb ha all = (all_append (λ y. cmp e.0 y.0 ≡ Less) b a hb.0 all.0, asc_join b a hb.1 ha all.1)
 
   module _ (total : IsTotalOrder cmp) (k : K) where
     -- The key that `put` leaves is equal to k.
@@ -71,9 +72,9 @@ module _ {K V : Type 0} (cmp : K → K → Ordering) where
 
   module _ (total : IsTotalOrder cmp) (s : List (K × V)) (a : IsAscending cmp s) (k : K) where
     pub asc_cut : IsAscending cmp (below cmp s k ++ above cmp s k)
-    asc_cut = asc_join _ _ (asc_filter _ s a) (asc_filter _ s a) (all_map _ _ (λ x less. all_map _ _ (λ y more. total.trans x.0 k y.0 less (under_one cmp total k y.0 more)) (above cmp s k) (all_above s k)) (below cmp s k) (all_below s k))
+    asc_cut = asc_join _ _ (asc_filter _ s a) (asc_filter _ s a) (all_map _ _ (λ x less. all_map _ _ (λ y more. total.trans x.0 k y.0 less (under_one cmp total k y.0 more)) (above cmp s k) (all_above cmp s k)) (below cmp s k) (all_below cmp s k))
 
     pub asc_put : (x : K × V) → cmp x.0 k ≡ Equal → IsAscending cmp (below cmp s k ++ x ∷ above cmp s k)
     asc_put x same = asc_join _ _ (asc_filter _ s a)
-        (all_map _ _ (λ y more. total.congr x.0 k y.0 same ∙ under_one cmp total k y.0 more) (above cmp s k) (all_above s k), asc_filter _ s a)
-        (all_map _ _ (λ e less. (under_one cmp total e.0 x.0 (total.congr x.0 k e.0 same ∙ over_one cmp total e.0 k less), all_map _ _ (λ y more. total.trans e.0 k y.0 less (under_one cmp total k y.0 more)) (above cmp s k) (all_above s k))) (below cmp s k) (all_below s k))
+        (all_map _ _ (λ y more. total.congr x.0 k y.0 same ∙ under_one cmp total k y.0 more) (above cmp s k) (all_above cmp s k), asc_filter _ s a)
+        (all_map _ _ (λ e less. (under_one cmp total e.0 x.0 (total.congr x.0 k e.0 same ∙ over_one cmp total e.0 k less), all_map _ _ (λ y more. total.trans e.0 k y.0 less (under_one cmp total k y.0 more)) (above cmp s k) (all_above cmp s k))) (below cmp s k) (all_below cmp s k))

@@ -18,6 +18,7 @@ use Rattle.fc_base.specs.Ascending.{IsAscending}
 use Rattle.fc_base.specs.OneKey.{put, put_by, cut}
 use Rattle.fc_base.specs.Parts.{below, above, at, value_at}
 use Rattle.fc_base.specs.Query.{IsQueryOrder}
+use Rattle.fc_base.specs.Viewed.{own_order}
 use Rattle.fc_base.specs.Ranges.{starts, stops, is_range, within}
 use Rattle.fc_base.proofs.Within.{between_tests, not_past}
 use Rattle.fc_base.proofs.AscendingFacts.{over_one, under_one, all_map, all_below, all_above, at_key, asc_filter, asc_cut, asc_put}
@@ -58,6 +59,10 @@ module _ {K : Type 0} (cmp : K → K → Ordering) where
   alike : (k j x : K) → IsTotalOrder cmp → cmp j k ≡ Equal → cmp x j ≡ cmp x k
   alike k j x total same = total.antisymm x j ∙ ap ordering_reverse (total.congr j k x same) ∙ sym (total.antisymm x k)
 
+  -- Two keys that are not equal are not so the other way round.
+  apart : (j k : K) → IsTotalOrder cmp → ¬ (cmp j k ≡ Equal) → ¬ (cmp k j ≡ Equal)
+  apart j k total other e = other (total.antisymm j k ∙ ap ordering_reverse e)
+
   -- Where a key is not in front of a range, no greater key is.
   starts_on : IsTotalOrder cmp → (lo : Bound K) (x y : K) → cmp x y ≡ Less → starts cmp lo x ≡ true → starts cmp lo y ≡ true
   starts_on total Unbounded x y l h = refl
@@ -90,37 +95,59 @@ module _ {K : Type 0} (cmp : K → K → Ordering) where
       go Equal e h = ap is_lt (over_one cmp total b y (sym (total.congr x b y e) ∙ l))
       go Greater e h = ap is_lt (over_one cmp total b y (total.trans b x y (under_one cmp total b x e) l))
 
-module _ {K V : Type 0} (cmp : K → K → Ordering) where
+module _ {K Q V : Type 0} (cmp : K → Q → Ordering) where
   -- a test of how the keys compare to k
-  passes : (q : Ordering → Bool) (r : Ordering) (k : K) (s : List (K × V)) → AllByRecursion (λ e. cmp e.0 k ≡ r) s → AllByRecursion (λ e. q (cmp e.0 k) ≡ q r) s
-  passes q r k s a = all_map _ _ (λ e h. ap q h) s a
+  passes : (p : Ordering → Bool) (r : Ordering) (k : Q) (s : List (K × V)) → AllByRecursion (λ e. cmp e.0 k ≡ r) s → AllByRecursion (λ e. p (cmp e.0 k) ≡ p r) s
+  passes p r k s a = all_map _ _ (λ e h. ap p h) s a
 
-  -- what stands at another key is where it was, whatever stands between what is below and above k
-  stays : (s between : List (K × V)) (k j : K) → IsTotalOrder cmp → ¬ (cmp j k ≡ Equal) → at cmp between j ≡ None → at cmp (below cmp s k ++ (between ++ above cmp s k)) j ≡ at cmp s j
-  stays s between k j total other none =
+  -- nothing stands at k below it or above it
+  past : (s t : List (K × V)) (k : Q) → at cmp (below cmp s k ++ t) k ≡ at cmp t k
+  past s t k = find-append _ (below cmp s k) t ∙ ap (λ o. option_or o (at cmp t k)) (not_found _ (below cmp s k) (passes is_eq Less k _ (all_below cmp s k)))
+
+  -- Nothing stands at a key whose pair was cut.
+  pub at_cut : (s : List (K × V)) (k : Q) → at cmp (cut cmp s k) k ≡ None
+  at_cut s k = past s (above cmp s k) k ∙ not_found _ (above cmp s k) (passes is_eq Greater k _ (all_above cmp s k))
+
+module _ {K Q V : Type 0} (cmp : K → K → Ordering) (order : K → Q → Ordering) where
+  -- what stands at a query that k is not equal to is where it was, whatever stands between what is below and above k
+  stays : (s between : List (K × V)) (k : K) (q : Q) → IsTotalOrder cmp → IsQueryOrder cmp order → ¬ (order k q ≡ Equal) → at order between q ≡ None → at order (below cmp s k ++ (between ++ above cmp s k)) q ≡ at order s q
+  stays s between k q total fits other none =
       find-append test (below cmp s k) (between ++ above cmp s k)
-      ∙ ap (option_or (at cmp (below cmp s k) j)) (find-append test between (above cmp s k) ∙ ap (λ o. option_or o (at cmp (above cmp s k) j)) none)
-      ∙ go (cmp j k) refl
+      ∙ ap (option_or (at order (below cmp s k) q)) (find-append test between (above cmp s k) ∙ ap (λ o. option_or o (at order (above cmp s k) q)) none)
+      ∙ go (order k q) refl
     where
       test : K × V → Bool
-      test e = is_eq (cmp e.0 j)
+      test e = is_eq (order e.0 q)
 
-      found : (q : Ordering → Bool) (r : Ordering) → cmp j k ≡ r → find test (filter (λ e. q (cmp e.0 k)) s) ≡ cond (q r) (at cmp s j) None
-      found q r e = found_in test (λ x. q (cmp x.0 k)) (q r) (λ x h. ap q (total.congr x.0 j k (is_equal (cmp x.0 j) h) ∙ e)) s
+      found : (p : Ordering → Bool) (r : Ordering) → order k q ≡ r → find test (filter (λ e. p (cmp e.0 k)) s) ≡ cond (p (ordering_reverse r)) (at order s q) None
+      found p r e = found_in test (λ x. p (cmp x.0 k)) (p (ordering_reverse r)) (λ x h. ap p (total.antisymm x.0 k ∙ ap ordering_reverse (sym (fits.same q x.0 k (is_equal (order x.0 q) h)) ∙ e))) s
 
       no_more : (o : Option (K × V)) → option_or o None ≡ o
       no_more None = refl
       no_more (Some x) = refl
 
-      go : (r : Ordering) → cmp j k ≡ r → option_or (at cmp (below cmp s k) j) (at cmp (above cmp s k) j) ≡ at cmp s j
-      go Less e = ap (option_or (at cmp (below cmp s k) j)) (found is_gt Less e) ∙ no_more (at cmp (below cmp s k) j) ∙ found is_lt Less e
+      go : (r : Ordering) → order k q ≡ r → option_or (at order (below cmp s k) q) (at order (above cmp s k) q) ≡ at order s q
+      go Less e = ap (λ o. option_or o (at order (above cmp s k) q)) (found is_lt Less e) ∙ found is_gt Less e
       go Equal e = absurd (other e)
-      go Greater e = ap (λ o. option_or o (at cmp (above cmp s k) j)) (found is_lt Greater e) ∙ found is_gt Greater e
+      go Greater e = ap (option_or (at order (below cmp s k) q)) (found is_gt Greater e) ∙ no_more (at order (below cmp s k) q) ∙ found is_lt Greater e
 
-  -- nothing stands at k below it or above it
-  past : (s t : List (K × V)) (k : K) → at cmp (below cmp s k ++ t) k ≡ at cmp t k
-  past s t k = find-append _ (below cmp s k) t ∙ ap (λ o. option_or o (at cmp t k)) (not_found _ (below cmp s k) (passes is_eq Less k _ (all_below cmp s k)))
+  -- The pair at a query stays where one is put at a key that is not equal to it.
+  pub at_put_other_query : (s : List (K × V)) (k : K) (v : V) (q : Q) → IsTotalOrder cmp → IsQueryOrder cmp order → ¬ (order k q ≡ Equal) → at order (put cmp s k v) q ≡ at order s q
+  at_put_other_query s k v q total fits other = stays s (x ∷ []) k q total fits other (none (order x.0 q) refl)
+    where
+      x : K × V
+      x = (unwrap_or (option_map (λ (e : K × V). e.0) (at cmp s k)) k, v)
 
+      none : (r : Ordering) → order x.0 q ≡ r → cond (is_eq r) (Some x) None ≡ None
+      none Less e = refl
+      none Equal e = absurd (other (fits.same q x.0 k e ∙ total.antisymm k x.0 ∙ ap ordering_reverse (at_key cmp total k s)))
+      none Greater e = refl
+
+  -- The value at a query stays where a pair is put at a key that is not equal to it.
+  pub value_at_put_other_query : (s : List (K × V)) (k : K) (v : V) (q : Q) → IsTotalOrder cmp → IsQueryOrder cmp order → ¬ (order k q ≡ Equal) → value_at order (put cmp s k v) q ≡ value_at order s q
+  value_at_put_other_query s k v q total fits other = ap (option_map (λ e. e.1)) (at_put_other_query s k v q total fits other)
+
+module _ {K V : Type 0} (cmp : K → K → Ordering) where
   -- At equal keys the same pair stands.
   pub at_equal : (s : List (K × V)) (k j : K) → IsTotalOrder cmp → cmp j k ≡ Equal → at cmp s j ≡ at cmp s k
   at_equal [] k j total same = refl
@@ -138,7 +165,7 @@ module _ {K V : Type 0} (cmp : K → K → Ordering) where
   pub at_put : (s : List (K × V)) (k : K) (v : V) → IsTotalOrder cmp → at cmp (put cmp s k v) k ≡ Some (unwrap_or (option_map (λ e. e.0) (at cmp s k)) k, v)
   at_put s k v total =
       let x : K × V = (unwrap_or (option_map (λ (e : K × V). e.0) (at cmp s k)) k, v) in
-      past s (x ∷ above cmp s k) k ∙ ap (λ r. cond (is_eq r) (Some x) (at cmp (above cmp s k) k)) (at_key cmp total k s)
+      past cmp s (x ∷ above cmp s k) k ∙ ap (λ r. cond (is_eq r) (Some x) (at cmp (above cmp s k) k)) (at_key cmp total k s)
 
   -- The value that was put at a key stands there.
   pub value_at_put : (s : List (K × V)) (k : K) (v : V) → IsTotalOrder cmp → value_at cmp (put cmp s k v) k ≡ Some v
@@ -150,27 +177,15 @@ module _ {K V : Type 0} (cmp : K → K → Ordering) where
 
   -- The pairs at other keys stay where one is put.
   pub at_put_other : (s : List (K × V)) (k : K) (v : V) (j : K) → IsTotalOrder cmp → ¬ (cmp j k ≡ Equal) → at cmp (put cmp s k v) j ≡ at cmp s j
-  at_put_other s k v j total other = stays s (x ∷ []) k j total other (apart (cmp x.0 j) refl)
-    where
-      x : K × V
-      x = (unwrap_or (option_map (λ (e : K × V). e.0) (at cmp s k)) k, v)
-
-      apart : (r : Ordering) → cmp x.0 j ≡ r → cond (is_eq r) (Some x) None ≡ None
-      apart Less e = refl
-      apart Equal e = absurd (other (total.antisymm j k ∙ ap ordering_reverse (sym (total.congr x.0 k j (at_key cmp total k s)) ∙ e)))
-      apart Greater e = refl
+  at_put_other s k v j total other = at_put_other_query cmp cmp s k v j total (own_order total) (apart cmp j k total other)
 
   -- The values at other keys stay where one is put.
   pub value_at_put_other : (s : List (K × V)) (k : K) (v : V) (j : K) → IsTotalOrder cmp → ¬ (cmp j k ≡ Equal) → value_at cmp (put cmp s k v) j ≡ value_at cmp s j
   value_at_put_other s k v j total other = ap (option_map (λ e. e.1)) (at_put_other s k v j total other)
 
-  -- Nothing stands at a key whose pair was cut.
-  pub at_cut : (s : List (K × V)) (k : K) → at cmp (cut cmp s k) k ≡ None
-  at_cut s k = past s (above cmp s k) k ∙ not_found _ (above cmp s k) (passes is_eq Greater k _ (all_above cmp s k))
-
   -- The pairs at other keys stay where one is cut.
   pub at_cut_other : (s : List (K × V)) (k j : K) → IsTotalOrder cmp → ¬ (cmp j k ≡ Equal) → at cmp (cut cmp s k) j ≡ at cmp s j
-  at_cut_other s k j total other = stays s [] k j total other refl
+  at_cut_other s k j total other = stays cmp cmp s [] k j total (own_order total) (apart cmp j k total other) refl
 
   -- The values at other keys stay where a pair is cut.
   pub value_at_cut_other : (s : List (K × V)) (k j : K) → IsTotalOrder cmp → ¬ (cmp j k ≡ Equal) → value_at cmp (cut cmp s k) j ≡ value_at cmp s j
@@ -198,7 +213,7 @@ module _ {K V : Type 0} (cmp : K → K → Ordering) where
       later : (r : Ordering) → cmp e.0 k ≡ r → is_lt r ≡ false → (below cmp s k ≡ []) × (above cmp s k ≡ s) × (at cmp s k ≡ None)
       later r h n =
           let g = later_above e s k total a r h n in
-          (left_out _ s (passes is_lt Greater k s g), kept _ s (passes is_gt Greater k s g), not_found _ s (passes is_eq Greater k s g))
+          (left_out _ s (passes cmp is_lt Greater k s g), kept _ s (passes cmp is_gt Greater k s g), not_found _ s (passes cmp is_eq Greater k s g))
 
       go : (r : Ordering) → cmp e.0 k ≡ r → below cmp s k ++ (option_to_list (at cmp s k) ++ above cmp s k) ≡ s → cond (is_lt r) (e ∷ below cmp s k) (below cmp s k) ++ (option_to_list (cond (is_eq r) (Some e) (at cmp s k)) ++ cond (is_gt r) (e ∷ above cmp s k) (above cmp s k)) ≡ e ∷ s
       go Less h i = ap (λ zs. e ∷ zs) i
@@ -220,10 +235,10 @@ module _ {K V : Type 0} (cmp : K → K → Ordering) where
       same q away = filter-append _ (below cmp s k) (x ∷ above cmp s k) ∙ rw (at_key cmp total k s, away) refl
 
       lower : below cmp (put cmp s k v) k ≡ below cmp s k
-      lower = same is_lt refl ∙ rw (kept _ _ (passes is_lt Less k _ (all_below cmp s k)), left_out _ _ (passes is_lt Greater k _ (all_above cmp s k))) (append-nil (below cmp s k))
+      lower = same is_lt refl ∙ rw (kept _ _ (passes cmp is_lt Less k _ (all_below cmp s k)), left_out _ _ (passes cmp is_lt Greater k _ (all_above cmp s k))) (append-nil (below cmp s k))
 
       upper : above cmp (put cmp s k v) k ≡ above cmp s k
-      upper = same is_gt refl ∙ rw (left_out _ _ (passes is_gt Less k _ (all_below cmp s k)), kept _ _ (passes is_gt Greater k _ (all_above cmp s k))) refl
+      upper = same is_gt refl ∙ rw (left_out _ _ (passes cmp is_gt Less k _ (all_below cmp s k)), kept _ _ (passes cmp is_gt Greater k _ (all_above cmp s k))) refl
 
   -- A new pair that was put and is cut again leaves the list as it was.
   pub cut_put_new : (s : List (K × V)) (k : K) (v : V) → IsTotalOrder cmp → IsAscending cmp s → at cmp s k ≡ None → cut cmp (put cmp s k v) k ≡ s
@@ -294,7 +309,7 @@ module _ {K V : Type 0} (cmp : K → K → Ordering) where
   -- At the key of a pair of an ascending list stands that pair.
   pub at_between : (s front back : List (K × V)) (k : K) (v : V) → IsTotalOrder cmp → IsAscending cmp s → s ≡ front ++ (k, v) ∷ back → at cmp s k ≡ Some (k, v)
   at_between s front back k v total a e =
-      ap (λ t. at cmp t k) e ∙ find-append _ front ((k, v) ∷ back) ∙ rw (not_found _ front (passes is_eq Less k _ (ahead s front back k v a e)), tied_itself total k) refl
+      ap (λ t. at cmp t k) e ∙ find-append _ front ((k, v) ∷ back) ∙ rw (not_found _ front (passes cmp is_eq Less k _ (ahead s front back k v a e)), tied_itself total k) refl
 
   -- A cut at the key of a pair of an ascending list leaves what stands around that pair.
   pub cut_between : (s front back : List (K × V)) (k : K) (v : V) → IsTotalOrder cmp → IsAscending cmp s → s ≡ front ++ (k, v) ∷ back → cut cmp s k ≡ front ++ back
@@ -307,10 +322,10 @@ module _ {K V : Type 0} (cmp : K → K → Ordering) where
       more = behind s front back k v total a e
 
       lower : below cmp (front ++ (k, v) ∷ back) k ≡ front
-      lower = filter-append _ front ((k, v) ∷ back) ∙ rw (tied_itself total k, kept _ _ (passes is_lt Less k _ less), left_out _ _ (passes is_lt Greater k _ more)) (append-nil front)
+      lower = filter-append _ front ((k, v) ∷ back) ∙ rw (tied_itself total k, kept _ _ (passes cmp is_lt Less k _ less), left_out _ _ (passes cmp is_lt Greater k _ more)) (append-nil front)
 
       upper : above cmp (front ++ (k, v) ∷ back) k ≡ back
-      upper = filter-append _ front ((k, v) ∷ back) ∙ rw (tied_itself total k, left_out _ _ (passes is_gt Less k _ less), kept _ _ (passes is_gt Greater k _ more)) refl
+      upper = filter-append _ front ((k, v) ∷ back) ∙ rw (tied_itself total k, left_out _ _ (passes cmp is_gt Less k _ less), kept _ _ (passes cmp is_gt Greater k _ more)) refl
 
   -- The keys behind the first are above it.
   pub first_is_least : (s rest : List (K × V)) (k : K) (v : V) → IsAscending cmp s → s ≡ (k, v) ∷ rest → All (λ e. cmp k e.0 ≡ Less) rest
@@ -404,23 +419,27 @@ module _ {K V : Type 0} (cmp : K → K → Ordering) where
       let between = between_tests (λ (e : K × V). starts cmp lo e.0) (λ e. stops cmp hi e.0) (λ e. not_past total lo hi range e.0) s (take front s) (drop front s) (take back s) (drop back s) (take-append-drop front s) (take-append-drop back s) (started lo s total a) (stopped hi s total a) in
       ap (λ m. take m (drop front s)) n ∙ between.is
 
--- a query to which a key is equal
-module _ {K Q V : Type 0} {cmp : K → K → Ordering} {order : K → Q → Ordering} (fits : IsQueryOrder cmp order) (s : List (K × V)) (q : Q) (k : K) (equal : order k q ≡ Equal) where
-  stands : ◌≡◌ {A = K → Ordering} (λ x. order x q) (λ x. cmp x k)
-  stands = λ i x. fits.same q k x equal i
+-- each key stands to a query as to a key that is equal to it
+pub alike_query : {K Q : Type 0} (cmp : K → K → Ordering) (order : K → Q → Ordering) (k : K) (q : Q) → IsQueryOrder cmp order → order k q ≡ Equal → ◌≡◌ {A = K → Ordering} (λ x. order x q) (λ x. cmp x k)
+alike_query cmp order k q fits equal = λ i x. fits.same q k x equal i
 
+module _ {K Q V : Type 0} (cmp : K → K → Ordering) (order : K → Q → Ordering) where
   -- At a query stands the pair that stands at a key equal to it.
-  pub at_query : at order s q ≡ at cmp s k
-  at_query = ap (λ (f : K → Ordering). at (λ x (u : ⊤). f x) s tt) stands
+  pub at_query : (s : List (K × V)) (k : K) (q : Q) → IsQueryOrder cmp order → order k q ≡ Equal → at order s q ≡ at cmp s k
+  at_query s k q fits equal = ap (λ (f : K → Ordering). at (λ x (u : ⊤). f x) s tt) (alike_query cmp order k q fits equal)
 
   -- At a query stands the value that stands at a key equal to it.
-  pub value_at_query : value_at order s q ≡ value_at cmp s k
-  value_at_query = ap (option_map (λ e. e.1)) at_query
+  pub value_at_query : (s : List (K × V)) (k : K) (q : Q) → IsQueryOrder cmp order → order k q ≡ Equal → value_at order s q ≡ value_at cmp s k
+  value_at_query s k q fits equal = ap (option_map (λ e. e.1)) (at_query s k q fits equal)
+
+  -- The value that was put at a key stands at each query equal to it.
+  pub value_at_put_query : (s : List (K × V)) (k : K) (v : V) (q : Q) → IsTotalOrder cmp → IsQueryOrder cmp order → order k q ≡ Equal → value_at order (put cmp s k v) q ≡ Some v
+  value_at_put_query s k v q total fits equal = value_at_query (put cmp s k v) k q fits equal ∙ value_at_put cmp s k v total
 
   -- A value is put at a query as at a key equal to it.
-  pub put_by_query : (v : V) → put_by order s q k v ≡ put cmp s k v
-  put_by_query v = ap (λ (f : K → Ordering). put_by (λ x (u : ⊤). f x) s tt k v) stands
+  pub put_by_query : (s : List (K × V)) (k : K) (v : V) (q : Q) → IsQueryOrder cmp order → order k q ≡ Equal → put_by order s q k v ≡ put cmp s k v
+  put_by_query s k v q fits equal = ap (λ (f : K → Ordering). put_by (λ x (u : ⊤). f x) s tt k v) (alike_query cmp order k q fits equal)
 
   -- A cut at a query takes out what a cut at a key equal to it takes out.
-  pub cut_query : cut order s q ≡ cut cmp s k
-  cut_query = ap (λ (f : K → Ordering). cut (λ x (u : ⊤). f x) s tt) stands
+  pub cut_query : (s : List (K × V)) (k : K) (q : Q) → IsQueryOrder cmp order → order k q ≡ Equal → cut order s q ≡ cut cmp s k
+  cut_query s k q fits equal = ap (λ (f : K → Ordering). cut (λ x (u : ⊤). f x) s tt) (alike_query cmp order k q fits equal)

@@ -50,7 +50,7 @@ impl Count {
 ///
 /// No other call adds a comparison.
 pub fn compare<K: Ord, Q: Query<K>>(key: &K, query: Q, count: &mut Count) -> Ordering
-    ensures value { result ≡ Q.order key.now query }
+    ensures value { result ≡ Q.order key.now (Q.sought query) }
     ensures comparisons { count.new.comparisons ≡ count.old.comparisons + 1 }
     ensures moves { count.new.moves ≡ count.old.moves }
 {

@@ -1,30 +1,38 @@
 //! What the keys of a map are searched by.
-ghost use Rattle.std.specs.Prelude.{◌≡◌};
+ghost use Rattle.std.specs.Prelude.{◌≡◌, ℕ, List};
 ghost use Rattle.std.specs.declared.cmp.Ordering.{Ordering};
 ghost use Rattle.std.specs.Cmp.Lexicographic.{slice_cmp, lists_total, nat_list_cmp_total};
 ghost use Rattle.std.specs.String.{string_bytes};
 ghost use Rattle.fc_base.specs.Query.{IsQueryOrder, text_order, items_order};
-ghost use Rattle.fc_base.specs.Viewed.{viewed};
+ghost use Rattle.fc_base.specs.Viewed.{viewed, own_order};
 
 use std::cmp::Ordering;
 
 /// What keys can be searched by: a reference to a key, or a borrowed form of it, as `&str` of a `String`. Upstream: `Borrow<Q>`.
 pub trait Query<K: Ord>: Copy {
-    // How a key stands to the query.
-    ghost order: { K → Self → Ordering };
+    // What is sought, as contracts see it: a key, the bytes of a text, or the items of a slice.
+    ghost Sought: { Type 0 };
+
+    ghost sought: { Self → Sought };
+    // How a key stands to what is sought.
+    ghost order: { K → Sought → Ordering };
 
     /// How the key stands to the query.
     fn order_of(&self, key: &K) -> Ordering
-        ensures { result ≡ order key.now self.now };
+        ensures { result ≡ order key.now (sought self.now) };
 
-    // The keys below a query come first, then those equal to it, then those above it.
+    // The keys below what is sought come first, then those equal to it, then those above it.
     ghost fits: { IsQueryOrder K.cmp order };
 }
 
 impl<K: Ord> Query<K> for &K {
-    ghost order = { λ x q. K.cmp x q.now };
+    ghost Sought = { K };
 
-    ghost fits = { viewed K.total (λ x. x) (λ q. q.now) };
+    ghost sought = { λ q. q.now };
+
+    ghost order = { K.cmp };
+
+    ghost fits = { own_order K.total };
 
     fn order_of(&self, key: &K) -> Ordering {
         key.cmp(*self)
@@ -33,9 +41,13 @@ impl<K: Ord> Query<K> for &K {
 
 /// A `String` by its text.
 impl Query<String> for &str {
-    ghost order = { λ x q. text_order x q.now };
+    ghost Sought = { List ℕ };
 
-    ghost fits = { viewed nat_list_cmp_total string_bytes (λ q. q.now) };
+    ghost sought = { λ q. q.now };
+
+    ghost order = { text_order };
+
+    ghost fits = { viewed nat_list_cmp_total string_bytes (λ text. text) };
 
     fn order_of(&self, key: &String) -> Ordering {
         compare_slices(key.as_bytes(), self.as_bytes())
@@ -44,9 +56,13 @@ impl Query<String> for &str {
 
 /// A `Vec` by its items.
 impl<T: Ord> Query<Vec<T>> for &[T] {
-    ghost order = { λ x q. items_order T.cmp x q.now };
+    ghost Sought = { List T };
 
-    ghost fits = { viewed (lists_total T.total) (λ x. x.items) (λ q. q.now) };
+    ghost sought = { λ q. q.now };
+
+    ghost order = { items_order T.cmp };
+
+    ghost fits = { viewed (lists_total T.total) (λ v. v.items) (λ items. items) };
 
     fn order_of(&self, key: &Vec<T>) -> Ordering {
         compare_slices(key.as_slice(), *self)

@@ -109,7 +109,7 @@ impl<K: Ord, V> BTreeMap<K, V> {
 
     /// The value at an equal key, or `None` where there is none. Upstream: `BTreeMap::get`.
     pub fn get<Q: Query<K>>(&self, key: Q) -> Option<&V>
-        ensures value { now_value result ≡ value_at Q.order (entries self.now) key }
+        ensures value { now_value result ≡ value_at Q.order (entries self.now) (Q.sought key) }
         ensures ascending { IsAscending K.cmp (entries self.now) }
     {
         self.get_counted(key, &mut Count::new())
@@ -117,9 +117,9 @@ impl<K: Ord, V> BTreeMap<K, V> {
 
     /// `get`, with its comparisons added to the count: exactly those keys that a search from the left passes. It moves no pair.
     pub fn get_counted<Q: Query<K>>(&self, key: Q, count: &mut Count) -> Option<&V>
-        ensures value { now_value result ≡ value_at Q.order (entries self.now) key }
+        ensures value { now_value result ≡ value_at Q.order (entries self.now) (Q.sought key) }
         ensures ascending { IsAscending K.cmp (entries self.now) }
-        ensures comparisons { count.new.comparisons ≡ count.old.comparisons + passed_in Q.order key self.now }
+        ensures comparisons { count.new.comparisons ≡ count.old.comparisons + passed_in Q.order (Q.sought key) self.now }
         ensures moves { count.new.moves ≡ count.old.moves }
         ensures bounded { IsBounded (length (entries self.now)) count.old count.new }
     {
@@ -132,7 +132,7 @@ impl<K: Ord, V> BTreeMap<K, V> {
 
     /// The pair with an equal key, or `None` where there is none. Upstream: `BTreeMap::get_key_value`.
     pub fn get_key_value<Q: Query<K>>(&self, key: Q) -> Option<(&K, &V)>
-        ensures pair { now_pair result ≡ at Q.order (entries self.now) key }
+        ensures pair { now_pair result ≡ at Q.order (entries self.now) (Q.sought key) }
         ensures ascending { IsAscending K.cmp (entries self.now) }
     {
         self.get_key_value_counted(key, &mut Count::new())
@@ -141,9 +141,9 @@ impl<K: Ord, V> BTreeMap<K, V> {
     /// `get_key_value`, with its comparisons added to the count: exactly those keys that a search from the left passes. It moves
     /// no pair.
     pub fn get_key_value_counted<Q: Query<K>>(&self, key: Q, count: &mut Count) -> Option<(&K, &V)>
-        ensures pair { now_pair result ≡ at Q.order (entries self.now) key }
+        ensures pair { now_pair result ≡ at Q.order (entries self.now) (Q.sought key) }
         ensures ascending { IsAscending K.cmp (entries self.now) }
-        ensures comparisons { count.new.comparisons ≡ count.old.comparisons + passed_in Q.order key self.now }
+        ensures comparisons { count.new.comparisons ≡ count.old.comparisons + passed_in Q.order (Q.sought key) self.now }
         ensures moves { count.new.moves ≡ count.old.moves }
         ensures bounded { IsBounded (length (entries self.now)) count.old count.new }
     {
@@ -155,7 +155,7 @@ impl<K: Ord, V> BTreeMap<K, V> {
 
     /// Whether an equal key is there. Upstream: `BTreeMap::contains_key`.
     pub fn contains_key<Q: Query<K>>(&self, key: Q) -> bool
-        ensures there { IsTrue result ↔ IsSome (at Q.order (entries self.now) key) }
+        ensures there { IsTrue result ↔ IsSome (at Q.order (entries self.now) (Q.sought key)) }
         ensures ascending { IsAscending K.cmp (entries self.now) }
     {
         self.contains_key_counted(key, &mut Count::new())
@@ -164,9 +164,9 @@ impl<K: Ord, V> BTreeMap<K, V> {
     /// `contains_key`, with its comparisons added to the count: exactly those keys that a search from the left passes. It moves
     /// no pair.
     pub fn contains_key_counted<Q: Query<K>>(&self, key: Q, count: &mut Count) -> bool
-        ensures there { IsTrue result ↔ IsSome (at Q.order (entries self.now) key) }
+        ensures there { IsTrue result ↔ IsSome (at Q.order (entries self.now) (Q.sought key)) }
         ensures ascending { IsAscending K.cmp (entries self.now) }
-        ensures comparisons { count.new.comparisons ≡ count.old.comparisons + passed_in Q.order key self.now }
+        ensures comparisons { count.new.comparisons ≡ count.old.comparisons + passed_in Q.order (Q.sought key) self.now }
         ensures moves { count.new.moves ≡ count.old.moves }
         ensures bounded { IsBounded (length (entries self.now)) count.old count.new }
     {
@@ -175,14 +175,14 @@ impl<K: Ord, V> BTreeMap<K, V> {
 
     // Where the key stands, or where it would go.
     fn locate<Q: Query<K>>(&self, key: Q, count: &mut Count) -> Result<Path, Path>
-        ensures found { IfOk result (IsHeldAt Q.order key self.now) }
-        ensures gap { IfErr result (IsOpenAt Q.order key self.now) }
-        ensures path { MatchResult result (λ p. p ≡ path_in Q.order key self.now) (λ p. p ≡ path_in Q.order key self.now) }
-        ensures present { OnOk result (IsSome (at Q.order (entries self.now) key)) }
-        ensures absent { OnErr result (at Q.order (entries self.now) key ≡ None) }
+        ensures found { IfOk result (IsHeldAt Q.order (Q.sought key) self.now) }
+        ensures gap { IfErr result (IsOpenAt Q.order (Q.sought key) self.now) }
+        ensures path { MatchResult result (λ p. p ≡ path_in Q.order (Q.sought key) self.now) (λ p. p ≡ path_in Q.order (Q.sought key) self.now) }
+        ensures present { OnOk result (IsSome (at Q.order (entries self.now) (Q.sought key))) }
+        ensures absent { OnErr result (at Q.order (entries self.now) (Q.sought key) ≡ None) }
         ensures sound { IsSoundMap self.now }
         ensures ascending { IsAscending K.cmp (entries self.now) }
-        ensures comparisons { count.new.comparisons ≡ count.old.comparisons + passed_in Q.order key self.now }
+        ensures comparisons { count.new.comparisons ≡ count.old.comparisons + passed_in Q.order (Q.sought key) self.now }
         ensures moves { count.new.moves ≡ count.old.moves }
         ensures bounded { IsBounded (length (entries self.now)) count.old count.new }
     {
@@ -194,9 +194,9 @@ impl<K: Ord, V> BTreeMap<K, V> {
 
     // The pair with an equal key.
     fn pair_at<Q: Query<K>>(&self, key: Q, count: &mut Count) -> Option<&(K, V)>
-        ensures pair { option_copied result ≡ at Q.order (entries self.now) key }
+        ensures pair { option_copied result ≡ at Q.order (entries self.now) (Q.sought key) }
         ensures ascending { IsAscending K.cmp (entries self.now) }
-        ensures comparisons { count.new.comparisons ≡ count.old.comparisons + passed_in Q.order key self.now }
+        ensures comparisons { count.new.comparisons ≡ count.old.comparisons + passed_in Q.order (Q.sought key) self.now }
         ensures moves { count.new.moves ≡ count.old.moves }
         ensures bounded { IsBounded (length (entries self.now)) count.old count.new }
     {
@@ -272,9 +272,9 @@ impl<K: Ord + Drop, V: Drop> BTreeMap<K, V> {
     /// Takes the pair with an equal key out and answers its value; the key is dropped. `None` where there is none, and the map is
     /// as it was. It takes no memory. Upstream: `BTreeMap::remove`.
     pub fn remove<Q: Query<K>>(&mut self, key: Q) -> Option<V>
-        ensures value { result ≡ value_at Q.order (entries self.old) key }
-        ensures rest { entries self.new ≡ cut Q.order (entries self.old) key }
-        ensures absent { at Q.order (entries self.old) key ≡ None → self.new ≡ self.old }
+        ensures value { result ≡ value_at Q.order (entries self.old) (Q.sought key) }
+        ensures rest { entries self.new ≡ cut Q.order (entries self.old) (Q.sought key) }
+        ensures absent { at Q.order (entries self.old) (Q.sought key) ≡ None → self.new ≡ self.old }
         ensures ascending { IsAscending K.cmp (entries self.new) }
         ensures sound { IsSoundMap self.new }
     {
@@ -284,14 +284,14 @@ impl<K: Ord + Drop, V: Drop> BTreeMap<K, V> {
     /// `remove`, with its comparisons and moves added to the count: exactly the comparisons of the keys that a search from the left
     /// passes, and where there is an equal key the moves of its removal.
     pub fn remove_counted<Q: Query<K>>(&mut self, key: Q, count: &mut Count) -> Option<V>
-        ensures value { result ≡ value_at Q.order (entries self.old) key }
-        ensures rest { entries self.new ≡ cut Q.order (entries self.old) key }
-        ensures absent { at Q.order (entries self.old) key ≡ None → self.new ≡ self.old }
+        ensures value { result ≡ value_at Q.order (entries self.old) (Q.sought key) }
+        ensures rest { entries self.new ≡ cut Q.order (entries self.old) (Q.sought key) }
+        ensures absent { at Q.order (entries self.old) (Q.sought key) ≡ None → self.new ≡ self.old }
         ensures ascending { IsAscending K.cmp (entries self.new) }
         ensures sound { IsSoundMap self.new }
-        ensures comparisons { count.new.comparisons ≡ count.old.comparisons + passed_in Q.order key self.old }
-        ensures no_move { at Q.order (entries self.old) key ≡ None → count.new.moves ≡ count.old.moves }
-        ensures moved { IsSome (at Q.order (entries self.old) key) → count.old.moves < count.new.moves }
+        ensures comparisons { count.new.comparisons ≡ count.old.comparisons + passed_in Q.order (Q.sought key) self.old }
+        ensures no_move { at Q.order (entries self.old) (Q.sought key) ≡ None → count.new.moves ≡ count.old.moves }
+        ensures moved { IsSome (at Q.order (entries self.old) (Q.sought key)) → count.old.moves < count.new.moves }
         ensures bounded { IsBounded (length (entries self.old)) count.old count.new }
     {
         match self.locate(key, count) {
@@ -370,10 +370,10 @@ impl<K: Ord + Drop, V: Drop> BTreeMap<K, V> {
 
     // Takes the pair with the key, to which the path leads, out.
     fn remove_at<Q: Query<K>>(&mut self, path: &Path, key: Q, count: &mut Count) -> (K, V)
-        requires held { IsHeldAt Q.order key self.old path.now }
+        requires held { IsHeldAt Q.order (Q.sought key) self.old path.now }
         requires sound { IsSoundMap self.old }
-        ensures pair { at Q.order (entries self.old) key ≡ Some result }
-        ensures rest { entries self.new ≡ cut Q.order (entries self.old) key }
+        ensures pair { at Q.order (entries self.old) (Q.sought key) ≡ Some result }
+        ensures rest { entries self.new ≡ cut Q.order (entries self.old) (Q.sought key) }
         ensures length { length (entries self.old) ≡ length (entries self.new) + 1 }
         ensures ascending { IsAscending K.cmp (entries self.new) }
         ensures sound { IsSoundMap self.new }

@@ -124,8 +124,44 @@ pub fn get_items<'a, T: Ord, V>(map: &'a BTreeMap<Vec<T>, V>, items: &[T]) -> Op
     map.get(items)
 }
 
-/// Puts a value at a string, and looks the same text up: the value stands there.
-#[tactic(auto, using(fc_base::proofs::Laws::value_at_put))]
+/// Puts a value at a key, and looks up what the key is equal to: the value stands there.
+pub fn insert_then_get_equal<K: Ord + Drop, V: Copy + Drop, Q: Query<K>>(
+    map: &mut BTreeMap<K, V>,
+    key: K,
+    value: V,
+    query: Q,
+) -> Result<Option<V>, TryReserveError>
+    requires { Q.order key (Q.sought query) ≡ Equal }
+    ensures { IfOk result (λ found. found ≡ Some value) }
+{
+    map.try_insert(key, value)?;
+    Ok(map.get(query).copied())
+}
+
+/// Puts a value at a key, and looks up what the key is not equal to: what stood there stands there still.
+pub fn insert_then_get_unequal<K: Ord + Drop, V: Copy + Drop, Q: Query<K>>(
+    map: &mut BTreeMap<K, V>,
+    key: K,
+    value: V,
+    query: Q,
+) -> Result<Option<V>, TryReserveError>
+    requires { ¬ (Q.order key (Q.sought query) ≡ Equal) }
+    ensures { IfOk result (λ found. found ≡ value_at Q.order (entries map.old) (Q.sought query)) }
+{
+    map.try_insert(key, value)?;
+    Ok(map.get(query).copied())
+}
+
+/// Takes out what is sought, and looks it up: nothing stands there.
+#[tactic(auto, using(fc_base::proofs::Laws::at_cut))]
+pub fn remove_then_get_text<V: Copy + Drop>(map: &mut BTreeMap<String, V>, text: &str) -> Option<V>
+    ensures { result ≡ None }
+{
+    map.remove(text);
+    map.get(text).copied()
+}
+
+/// Puts a value at a string, and looks its text up: the value stands there.
 pub fn insert_then_get_text<V: Copy + Drop>(
     map: &mut BTreeMap<String, V>,
     key: String,
@@ -135,8 +171,7 @@ pub fn insert_then_get_text<V: Copy + Drop>(
     requires { text.now ≡ string_bytes key }
     ensures { IfOk result (λ found. found ≡ Some value) }
 {
-    map.try_insert(key, value)?;
-    Ok(map.get(text).copied())
+    insert_then_get_equal(map, key, value, text)
 }
 
 /// Looks up what a key is equal to: the answer and its cost are those of the key.
@@ -146,7 +181,7 @@ pub fn get_equal<'a, K: Ord, V, Q: Query<K>>(
     key: &K,
     count: &mut Count,
 ) -> Option<&'a V>
-    requires { Q.order key.now query ≡ Equal }
+    requires { Q.order key.now (Q.sought query) ≡ Equal }
     ensures value { now_value result ≡ value_at K.cmp (entries map.now) key.now }
     ensures comparisons { count.new.comparisons ≡ count.old.comparisons + passed_in K.cmp key.now map.now }
 {
@@ -160,7 +195,7 @@ pub fn set_equal<K: Ord, V: Drop, Q: Query<K>>(
     key: &K,
     value: V,
 )
-    requires { Q.order key.now query ≡ Equal }
+    requires { Q.order key.now (Q.sought query) ≡ Equal }
     ensures there { IsSome (at K.cmp (entries map.old) key.now) → entries map.new ≡ put K.cmp (entries map.old) key.now value }
     ensures absent { at K.cmp (entries map.old) key.now ≡ None → map.new ≡ map.old }
 {
@@ -175,7 +210,7 @@ pub fn remove_equal<K: Ord + Drop, V: Drop, Q: Query<K>>(
     query: Q,
     key: &K,
 ) -> Option<V>
-    requires { Q.order key.now query ≡ Equal }
+    requires { Q.order key.now (Q.sought query) ≡ Equal }
     ensures value { result ≡ value_at K.cmp (entries map.old) key.now }
     ensures rest { entries map.new ≡ cut K.cmp (entries map.old) key.now }
 {

@@ -1,5 +1,5 @@
 //! Look-ups by borrowed forms of a key, by keys of several parts, and by a query of the tests' own.
-ghost use Rattle.std.specs.Prelude.{◌≡◌};
+ghost use Rattle.std.specs.Prelude.{◌≡◌, ℕ};
 ghost use Rattle.std.specs.Ordering.{nat_cmp};
 ghost use Rattle.std.proofs.lemmas.Cmp.{nat_cmp_total};
 ghost use Rattle.fc_base.specs.Viewed.{viewed};
@@ -145,9 +145,13 @@ fn keys_of_several_parts_are_found_by_a_reference(rt: HostRuntime) -> Result<(),
 struct Number(u64);
 
 impl Query<CountingKey<'_>> for Number {
-    ghost order = { λ key query. nat_cmp key.number query.0 };
+    ghost Sought = { ℕ };
 
-    ghost fits = { viewed nat_cmp_total (λ key. key.number) (λ query. query.0) };
+    ghost sought = { λ query. query.0 };
+
+    ghost order = { λ key number. nat_cmp key.number number };
+
+    ghost fits = { viewed nat_cmp_total (λ key. key.number) (λ number. number) };
 
     fn order_of(&self, key: &CountingKey<'_>) -> Ordering {
         key.comparisons.set(key.comparisons.get().wrapping_add(1));

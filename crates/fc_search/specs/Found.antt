@@ -25,30 +25,19 @@ module _ {K Q V : Type 0} (cmp : K → Q → Ordering) (k : Q) where
   abbrev pub IsGapAt : List (K × V) → ℕ → Type 0
   IsGapAt s i = (i ≤ length s) × AllBelow (take i s) × ((d : K × V) → i < length s → cmp (slice_index_or s i d).0 k ≡ Greater)
 
--- Where a search ends, by how each key stands to what is searched for.
-module _ {K V : Type 0} (stands : K → Ordering) where
-  -- The path leads to a pair whose key is equal, between keys below and keys above.
-  pub record IsFoundBy (root : Node K V) (path : List ℕ) : Type 0 where
-    pub place : IsPlace path root
-    pub equal : IfSome (place_pair path root) (λ e. stands e.0 ≡ Equal)
-    pub ahead : AllByRecursion (λ e. stands e.0 ≡ Less) (place_ahead path root)
-    pub behind : AllByRecursion (λ e. stands e.0 ≡ Greater) (place_behind path root)
-
-  -- The path leads down to a gap between the pairs of a leaf, with the keys below before it and those above after it.
-  pub record IsGapBy (root : Node K V) (path : List ℕ) : Type 0 where
-    pub way : IsPath path root
-    pub levels : (h : ℕ) → IsLevelled h root → length path ≡ h + 1
-    pub front : AllByRecursion (λ e. stands e.0 ≡ Less) (before path root)
-    pub back : AllByRecursion (λ e. stands e.0 ≡ Greater) (after path root)
-
-module _ {K Q V : Type 0} (cmp : K → Q → Ordering) (k : Q) where
   -- The path leads to a pair whose key is equal to k, between keys below k and keys above k.
-  abbrev pub IsFound : Node K V → List ℕ → Type 0
-  IsFound root path = IsFoundBy (λ x. cmp x k) root path
+  pub record IsFound (root : Node K V) (path : List ℕ) : Type 0 where
+    pub place : IsPlace path root
+    pub equal : IfSome (place_pair path root) (λ e. cmp e.0 k ≡ Equal)
+    pub ahead : AllBelow (place_ahead path root)
+    pub behind : AllAbove (place_behind path root)
 
   -- The path leads down to a gap between the pairs of a leaf, with the keys below k before it and those above k after it.
-  abbrev pub IsGap : Node K V → List ℕ → Type 0
-  IsGap root path = IsGapBy (λ x. cmp x k) root path
+  pub record IsGap (root : Node K V) (path : List ℕ) : Type 0 where
+    pub way : IsPath path root
+    pub levels : (h : ℕ) → IsLevelled h root → length path ≡ h + 1
+    pub front : AllBelow (before path root)
+    pub back : AllAbove (after path root)
 
 -- How many of a node's n keys a search from the left compares.
 abbrev pub seen : Result ℕ ℕ → ℕ → ℕ

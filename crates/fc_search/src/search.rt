@@ -18,8 +18,8 @@ fn search_node<K: Ord, V, Q: Query<K>>(
     key: Q,
     count: &mut Count,
 ) -> Result<usize, usize>
-    ensures found { IfOk result (IsFoundAt Q.order key (own_pairs node.now)) }
-    ensures gap { IfErr result (IsGapAt Q.order key (own_pairs node.now)) }
+    ensures found { IfOk result (IsFoundAt Q.order (Q.sought key) (own_pairs node.now)) }
+    ensures gap { IfErr result (IsGapAt Q.order (Q.sought key) (own_pairs node.now)) }
     ensures comparisons { count.new.comparisons ≡ count.old.comparisons + seen result (length (own_pairs node.now)) }
     ensures moves { count.new.moves ≡ count.old.moves }
 {
@@ -43,10 +43,10 @@ pub fn search<K: Ord, V, Q: Query<K>>(
 ) -> Result<Path, Path>
     requires levels { IsTree root.now }
     requires order { IsAscending K.cmp (pairs_of root.now) }
-    ensures found { IfOk result (IsFound Q.order key root.now) }
-    ensures gap { IfErr result (IsGap Q.order key root.now) }
-    ensures path { MatchResult result (λ p. p ≡ path_to Q.order key root.now) (λ p. p ≡ path_to Q.order key root.now) }
-    ensures comparisons { count.new.comparisons ≡ count.old.comparisons + passed Q.order key root.now }
+    ensures found { IfOk result (IsFound Q.order (Q.sought key) root.now) }
+    ensures gap { IfErr result (IsGap Q.order (Q.sought key) root.now) }
+    ensures path { MatchResult result (λ p. p ≡ path_to Q.order (Q.sought key) root.now) (λ p. p ≡ path_to Q.order (Q.sought key) root.now) }
+    ensures comparisons { count.new.comparisons ≡ count.old.comparisons + passed Q.order (Q.sought key) root.now }
     ensures bounded { (h : ℕ) → IsLevelled h root.now → count.new.comparisons ≤ count.old.comparisons + 11 * (h + 1) }
     ensures moves { count.new.moves ≡ count.old.moves }
 {
@@ -78,8 +78,8 @@ pub fn get<'a, K: Ord, V, Q: Query<K>>(
 ) -> Option<&'a (K, V)>
     requires levels { IsTree root.now }
     requires order { IsAscending K.cmp (pairs_of root.now) }
-    ensures value { option_copied result ≡ at Q.order (pairs_of root.now) key }
-    ensures comparisons { count.new.comparisons ≡ count.old.comparisons + passed Q.order key root.now }
+    ensures value { option_copied result ≡ at Q.order (pairs_of root.now) (Q.sought key) }
+    ensures comparisons { count.new.comparisons ≡ count.old.comparisons + passed Q.order (Q.sought key) root.now }
     ensures bounded { (h : ℕ) → IsLevelled h root.now → count.new.comparisons ≤ count.old.comparisons + 11 * (h + 1) }
     ensures moves { count.new.moves ≡ count.old.moves }
 {

@@ -15,10 +15,10 @@ impl<K: Ord, V> BTreeMap<K, V> {
     /// The value at an equal key, lent for writing, or `None` where there is none. The map ends with what the caller leaves in
     /// the value's place, and the tree's shape stays. Upstream: `BTreeMap::get_mut`.
     pub fn get_mut<Q: Query<K>>(&mut self, key: Q) -> Option<&mut V>
-        ensures* writes_back { sem 𝓛 (lends_get K.row V.row K.Ord Q.order self.entry key result) }
-        ensures value { lent_value result ≡ value_at Q.order (entries self.old) key }
-        ensures put { OnSome result ((k : K) (w : V) → entries (written_at Q.order key self.old w) ≡ put_by Q.order (entries self.old) key k w) }
-        ensures sound { OnSome result ((w : V) → IsSoundMap (written_at Q.order key self.old w)) }
+        ensures* writes_back { sem 𝓛 (lends_get K.row V.row K.Ord Q.order self.entry (Q.sought key) result) }
+        ensures value { lent_value result ≡ value_at Q.order (entries self.old) (Q.sought key) }
+        ensures put { OnSome result ((k : K) (w : V) → entries (written_at Q.order (Q.sought key) self.old w) ≡ put_by Q.order (entries self.old) (Q.sought key) k w) }
+        ensures sound { OnSome result ((w : V) → IsSoundMap (written_at Q.order (Q.sought key) self.old w)) }
     {
         self.get_mut_counted(key, &mut Count::new())
     }
@@ -26,11 +26,11 @@ impl<K: Ord, V> BTreeMap<K, V> {
     /// `get_mut`, with its comparisons added to the count: exactly those keys that a search from the left passes. It moves no
     /// pair.
     pub fn get_mut_counted<Q: Query<K>>(&mut self, key: Q, count: &mut Count) -> Option<&mut V>
-        ensures* writes_back { sem 𝓛 (lends_get K.row V.row K.Ord Q.order self.entry key result) }
-        ensures value { lent_value result ≡ value_at Q.order (entries self.old) key }
-        ensures put { OnSome result ((k : K) (w : V) → entries (written_at Q.order key self.old w) ≡ put_by Q.order (entries self.old) key k w) }
-        ensures sound { OnSome result ((w : V) → IsSoundMap (written_at Q.order key self.old w)) }
-        ensures comparisons { count.new.comparisons ≡ count.old.comparisons + passed_in Q.order key self.old }
+        ensures* writes_back { sem 𝓛 (lends_get K.row V.row K.Ord Q.order self.entry (Q.sought key) result) }
+        ensures value { lent_value result ≡ value_at Q.order (entries self.old) (Q.sought key) }
+        ensures put { OnSome result ((k : K) (w : V) → entries (written_at Q.order (Q.sought key) self.old w) ≡ put_by Q.order (entries self.old) (Q.sought key) k w) }
+        ensures sound { OnSome result ((w : V) → IsSoundMap (written_at Q.order (Q.sought key) self.old w)) }
+        ensures comparisons { count.new.comparisons ≡ count.old.comparisons + passed_in Q.order (Q.sought key) self.old }
         ensures moves { count.new.moves ≡ count.old.moves }
         ensures bounded { IsBounded (length (entries self.old)) count.old count.new }
     {

@@ -11,9 +11,9 @@ impl<K: Ord, V, Q: Query<K>> Index<Q> for BTreeMap<K, V> {
 
     type Output = V;
 
-    ghost can_index = { λ m key. IsSome (at Q.order (entries m) key) };
+    ghost can_index = { λ m key. IsSome (at Q.order (entries m) (Q.sought key)) };
 
-    ghost index_gives = { λ m key v. value_at Q.order (entries m) key ≡ Some v };
+    ghost index_gives = { λ m key v. value_at Q.order (entries m) (Q.sought key) ≡ Some v };
 
     /// The value at an equal key, which has to be there, as `contains_key` tells.
     fn index(&self, key: Q) -> &V {

@@ -5,32 +5,32 @@ use Rattle.fc_search.proofs.Nodes.{fewer_nodes}
 use Rattle.fc_search.proofs.search.get.Goals as goal
 
 pub returns-in-Ok-clause-value : goal.returns-in-Ok-clause-value
-returns-in-Ok-clause-value g c = value_found g.met.Q.Query.fits c.args.key c.requires.levels c.requires.order c.down.invariant.0.1 c.in-Ok.i c.pair.result.now c.in-Ok.ensures.found c.pair.ensures
+returns-in-Ok-clause-value g c = value_found g.met.Q.Query.fits (g.Q.Query.sought c.args.key) c.requires.levels c.requires.order c.down.invariant.0.1 c.in-Ok.i c.pair.result.now c.in-Ok.ensures.found c.pair.ensures
 
 pub returns-in-Ok-clause-comparisons : goal.returns-in-Ok-clause-comparisons
 returns-in-Ok-clause-comparisons g c =
     let a = way_ascending _ _ _ c.requires.levels c.requires.order c.down.invariant.0.1 in
-    let f = passed_found g.met.Q.Query.fits c.args.key c.down.node.now c.in-Ok.i a c.in-Ok.ensures.found in
+    let f = passed_found g.met.Q.Query.fits (g.Q.Query.sought c.args.key) c.down.node.now c.in-Ok.i a c.in-Ok.ensures.found in
     omega (arith, c.in-Ok.ensures.comparisons)
 
 pub returns-in-Ok-clause-bounded : goal.returns-in-Ok-clause-bounded
 returns-in-Ok-clause-bounded g c =
     let e = returns-in-Ok-clause-comparisons g c in
-    λ h l. let b = passed_bound g.Q.Query.order c.args.key h c.args.root.now l in omega (arith, e)
+    λ h l. let b = passed_bound g.Q.Query.order (g.Q.Query.sought c.args.key) h c.args.root.now l in omega (arith, e)
 
 pub returns-then-is_leaf-clause-value : goal.returns-then-is_leaf-clause-value
-returns-then-is_leaf-clause-value g c = value_none g.met.Q.Query.fits c.args.key c.requires.levels c.requires.order c.down.invariant.0.1 c.in-Err.gap c.in-Err.ensures.gap (c.if-is_leaf.ensures.0 refl)
+returns-then-is_leaf-clause-value g c = value_none g.met.Q.Query.fits (g.Q.Query.sought c.args.key) c.requires.levels c.requires.order c.down.invariant.0.1 c.in-Err.gap c.in-Err.ensures.gap (c.if-is_leaf.ensures.0 refl)
 
 pub returns-then-is_leaf-clause-comparisons : goal.returns-then-is_leaf-clause-comparisons
 returns-then-is_leaf-clause-comparisons g c =
     let a = way_ascending _ _ _ c.requires.levels c.requires.order c.down.invariant.0.1 in
-    let f = passed_leaf g.met.Q.Query.fits c.args.key c.down.node.now c.in-Err.gap a c.in-Err.ensures.gap (c.if-is_leaf.ensures.0 refl) in
+    let f = passed_leaf g.met.Q.Query.fits (g.Q.Query.sought c.args.key) c.down.node.now c.in-Err.gap a c.in-Err.ensures.gap (c.if-is_leaf.ensures.0 refl) in
     omega (arith, c.in-Err.ensures.comparisons)
 
 pub returns-then-is_leaf-clause-bounded : goal.returns-then-is_leaf-clause-bounded
 returns-then-is_leaf-clause-bounded g c =
     let e = returns-then-is_leaf-clause-comparisons g c in
-    λ h l. let b = passed_bound g.Q.Query.order c.args.key h c.args.root.now l in omega (arith, e)
+    λ h l. let b = passed_bound g.Q.Query.order (g.Q.Query.sought c.args.key) h c.args.root.now l in omega (arith, e)
 
 pub child-node-requires : goal.child-node-requires
 child-node-requires g c =
@@ -47,7 +47,7 @@ down-smaller g c =
 pub down-preserved : goal.down-preserved
 down-preserved g c =
     let o = g.met.Q.Query.fits in
-    let key = c.args.key in
+    let key = g.Q.Query.sought c.args.key in
     let node = c.down.node.now in
     let child = c.child-node.result.now in
     let d = way_levels _ _ c.requires.levels c.down.invariant.0.1 in

@@ -12,41 +12,41 @@ push-requires-in-Err g c = record { room = way_room _ _ c.requires.levels c.down
 
 pub returns-in-Ok-clause-found : goal.returns-in-Ok-clause-found
 returns-in-Ok-clause-found g c =
-    way_found g.met.Q.Query.fits c.args.key c.requires.levels c.requires.order c.down.invariant.0 c.in-Ok.i _ c.push.ensures c.in-Ok.ensures.found
+    way_found g.met.Q.Query.fits (g.Q.Query.sought c.args.key) c.requires.levels c.requires.order c.down.invariant.0 c.in-Ok.i _ c.push.ensures c.in-Ok.ensures.found
 
 pub returns-in-Ok-clause-comparisons : goal.returns-in-Ok-clause-comparisons
 returns-in-Ok-clause-comparisons g c =
     let a = way_ascending _ _ _ c.requires.levels c.requires.order c.down.invariant.0 in
-    let f = passed_found g.met.Q.Query.fits c.args.key c.down.node.now c.in-Ok.i a c.in-Ok.ensures.found in
+    let f = passed_found g.met.Q.Query.fits (g.Q.Query.sought c.args.key) c.down.node.now c.in-Ok.i a c.in-Ok.ensures.found in
     omega (arith, c.in-Ok.ensures.comparisons)
 
 pub returns-in-Ok-clause-bounded : goal.returns-in-Ok-clause-bounded
 returns-in-Ok-clause-bounded g c =
     let e = returns-in-Ok-clause-comparisons g c in
-    λ h l. let b = passed_bound g.Q.Query.order c.args.key h c.args.root.now l in omega (arith, e)
+    λ h l. let b = passed_bound g.Q.Query.order (g.Q.Query.sought c.args.key) h c.args.root.now l in omega (arith, e)
 
 pub returns-in-Ok-clause-path : goal.returns-in-Ok-clause-path
 returns-in-Ok-clause-path g c =
-    path_ends g.met.Q.Query.fits c.args.key c.requires.levels c.requires.order c.down.invariant.0 c.down.invariant.3 c.in-Ok.i _ c.push.ensures c.in-Ok.ensures.found
+    path_ends g.met.Q.Query.fits (g.Q.Query.sought c.args.key) c.requires.levels c.requires.order c.down.invariant.0 c.down.invariant.3 c.in-Ok.i _ c.push.ensures c.in-Ok.ensures.found
 
 pub returns-then-is_leaf-clause-gap : goal.returns-then-is_leaf-clause-gap
 returns-then-is_leaf-clause-gap g c =
-    way_gap g.met.Q.Query.fits c.args.key c.requires.levels c.requires.order c.down.invariant.0 c.in-Err.i _ c.push-in-Err.ensures c.in-Err.ensures.gap (c.if-is_leaf.ensures.0 refl)
+    way_gap g.met.Q.Query.fits (g.Q.Query.sought c.args.key) c.requires.levels c.requires.order c.down.invariant.0 c.in-Err.i _ c.push-in-Err.ensures c.in-Err.ensures.gap (c.if-is_leaf.ensures.0 refl)
 
 pub returns-then-is_leaf-clause-comparisons : goal.returns-then-is_leaf-clause-comparisons
 returns-then-is_leaf-clause-comparisons g c =
     let a = way_ascending _ _ _ c.requires.levels c.requires.order c.down.invariant.0 in
-    let f = passed_leaf g.met.Q.Query.fits c.args.key c.down.node.now c.in-Err.i a c.in-Err.ensures.gap (c.if-is_leaf.ensures.0 refl) in
+    let f = passed_leaf g.met.Q.Query.fits (g.Q.Query.sought c.args.key) c.down.node.now c.in-Err.i a c.in-Err.ensures.gap (c.if-is_leaf.ensures.0 refl) in
     omega (arith, c.in-Err.ensures.comparisons)
 
 pub returns-then-is_leaf-clause-bounded : goal.returns-then-is_leaf-clause-bounded
 returns-then-is_leaf-clause-bounded g c =
     let e = returns-then-is_leaf-clause-comparisons g c in
-    λ h l. let b = passed_bound g.Q.Query.order c.args.key h c.args.root.now l in omega (arith, e)
+    λ h l. let b = passed_bound g.Q.Query.order (g.Q.Query.sought c.args.key) h c.args.root.now l in omega (arith, e)
 
 pub returns-then-is_leaf-clause-path : goal.returns-then-is_leaf-clause-path
 returns-then-is_leaf-clause-path g c =
-    path_ends_leaf g.met.Q.Query.fits c.args.key c.requires.levels c.requires.order c.down.invariant.0 c.down.invariant.3 c.in-Err.i _ c.push-in-Err.ensures c.in-Err.ensures.gap (c.if-is_leaf.ensures.0 refl)
+    path_ends_leaf g.met.Q.Query.fits (g.Q.Query.sought c.args.key) c.requires.levels c.requires.order c.down.invariant.0 c.down.invariant.3 c.in-Err.i _ c.push-in-Err.ensures c.in-Err.ensures.gap (c.if-is_leaf.ensures.0 refl)
 
 pub child-node-requires : goal.child-node-requires
 child-node-requires g c =
@@ -63,7 +63,7 @@ down-smaller g c =
 pub down-preserved : goal.down-preserved
 down-preserved g c =
     let o = g.met.Q.Query.fits in
-    let key = c.args.key in
+    let key = g.Q.Query.sought c.args.key in
     let node = c.down.node.now in
     let child = c.child-node.result.now in
     let d = way_levels _ _ c.requires.levels c.down.invariant.0 in

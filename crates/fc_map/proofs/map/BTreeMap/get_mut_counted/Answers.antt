@@ -8,7 +8,7 @@ use Rattle.fc_map.proofs.map.BTreeMap.get_mut_counted.Goals as goal
 pub returns-in-Ok : goal.returns-in-Ok
 returns-in-Ok g c =
     let m = c.args.self.now in
-    let k = c.args.key in
+    let k = g.Q.Query.sought c.args.key in
     let cmp = g.Q.Query.order in
     let f = c.in-Ok.ensures in
     let there = rw f.path at f.found in (

@@ -10,4 +10,4 @@ returns-in-Ok-clause-bounded g c =
     moved_after (length (entries c.args.self.now)) (length (entries c.args.self.now)) c.args.count.now c.locate.new.count c.remove_at.new.count c.locate.ensures.bounded c.locate.ensures.moves c.remove_at.ensures.comparisons c.remove_at.ensures.moves (omega arith) (omega arith)
 
 pub returns-in-Err-clause-rest : goal.returns-in-Err-clause-rest
-returns-in-Err-clause-rest g c = open_cut g.Q.Query.order c.args.key c.args.self.now _ c.locate.ensures.sound c.in-Err.ensures.gap
+returns-in-Err-clause-rest g c = open_cut g.Q.Query.order (g.Q.Query.sought c.args.key) c.args.self.now _ c.locate.ensures.sound c.in-Err.ensures.gap
