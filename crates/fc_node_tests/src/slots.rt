@@ -1,8 +1,10 @@
 // Each item is dropped once, by a type that counts its drops. Room is taken by one request, and for items of no size by none.
 use fc_base::Count;
+use fc_node::node::Node;
 use fc_slots::slots::Slots;
 use std::alloc::{AllocError, Global};
 use std::cell::Cell;
+use std::mem::size_of;
 use std::process::Abort;
 use std::test::Fail;
 
@@ -194,5 +196,12 @@ fn the_items_are_lent_as_a_slice(rt: HostRuntime) -> Result<(), Fail> {
     assert!(&rt; slots.as_slice() == [5, 6, 7, 8].as_slice());
     slots.remove(1, &mut Count::new());
     assert!(&rt; slots.as_slice() == [5, 7, 8].as_slice());
+    Ok(())
+}
+
+#[test]
+fn a_list_is_a_pointer_and_a_length(rt: HostRuntime) -> Result<(), Fail> {
+    assert!(&rt; size_of::<Slots<u64, 11>>() == 16);
+    assert!(&rt; size_of::<Node<u64, u64>>() == 40);
     Ok(())
 }

@@ -1,6 +1,7 @@
 -- A list at the start of a row of places.
 use Rattle.std.proofs.lemmas.List.{length-map}
 use Rattle.std.proofs.Common.{◌≡◌, ℕ, zero, suc, ◌+◌, ◌-◌, ◌<◌, ◌≤◌, List, [], ◌∷◌, ◌++◌, length, take, drop, set, get_or, Option, Some, None, refl, sym, ap, ◌∙◌, arith, length-append, length-take, length-drop, append_assoc, take_at, map, replicate, take-append-drop, drop-drop}
+use Rattle.fc_slots.specs.declared.slots.Slots.TheInside.{Inside}
 use Rattle.fc_slots.specs.Cells.{somes, IsPacked, row}
 use Rattle.fc_slots.proofs.Rows.{unpacks, packs, row_open, row_cut, cut_at, leave_done, get_first, set_first, length-row}
 
@@ -11,8 +12,8 @@ module _ {X : Type 0} where
     pub long : length xs ≡ k
     pub fits : k ≤ n
 
-  pub opened : (cs : List (Option X)) (k n : ℕ) (xs : List X) → IsPacked cs k n → somes cs ≡ xs → IsLaid cs xs k n
-  opened cs k n xs h e = let u = unpacks cs k n h in record { is = u.0 ∙ (λ i. row (e i) 0 [] (n - k)); long = ap length (sym e) ∙ u.1; fits = h.0 }
+  pub opened : {n : ℕ} (u : Inside X n) (xs : List X) → IsPacked u.cells u.len n → somes u.cells ≡ xs → IsLaid u.cells xs u.len n
+  opened {n = n} u xs h e = let p = unpacks u.cells u.len n h in record { is = p.0 ∙ (λ i. row (e i) 0 [] (n - u.len)); long = ap length (sym e) ∙ p.1; fits = h.0 }
 
   pub packed : (cs : List (Option X)) (xs : List X) (h m k n : ℕ) → cs ≡ row xs h [] m → k ≡ length xs → n ≡ k + (h + m) → IsPacked cs k n × (somes cs ≡ xs)
   packed cs xs h m k n e long whole = packs cs xs (h + m) k n (e ∙ sym (row_open xs h m (h + m) refl)) long whole
@@ -58,8 +59,8 @@ module _ {X : Type 0} where
       ∙ (λ j. row (take i xs) 1 (drop-drop 1 i xs j) m) ∙ (λ j. row (take i xs) 1 (drop (next j) xs) m)
 
   -- the list has room for one more
-  pub laid_up : (cs : List (Option X)) (xs : List X) (k n : ℕ) → IsPacked cs k n → somes cs ≡ xs → length xs < n → (cs ≡ row xs 1 [] (n - (k + 1))) × (length xs ≡ k + 1 - 1)
-  laid_up cs xs k n h e room = let o = opened cs k n xs h e in (o.is ∙ open_up xs 1 n k (omega (arith, o.long)), omega (arith, o.long))
+  pub laid_up : {n : ℕ} (u : Inside X n) (xs : List X) → IsPacked u.cells u.len n → somes u.cells ≡ xs → length xs < n → (u.cells ≡ row xs 1 [] (n - (u.len + 1))) × (length xs ≡ u.len + 1 - 1)
+  laid_up {n = n} u xs h e room = let o = opened u xs h e in (o.is ∙ open_up xs 1 n u.len (omega (arith, o.long)), omega (arith, o.long))
 
   pub hole_free : (xs ys : List X) (m : ℕ) (cs : List (Option X)) (i : ℕ) → cs ≡ row xs 1 ys m → i ≡ length xs → (i < length cs) × (get_or cs i None ≡ None)
   hole_free xs ys m cs i e at = let size = length-row xs 1 ys m in let same : length cs ≡ length (row xs 1 ys m) = ap length e in (omega arith, ap (λ l. get_or l i None) e ∙ get_first xs 0 ys m i at)
