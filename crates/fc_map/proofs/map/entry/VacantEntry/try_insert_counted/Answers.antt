@@ -1,5 +1,6 @@
 use Rattle.std.proofs.Common.{◌≡◌, ◌∙◌, Some, arith, ap, refl, sym}
 use Rattle.std.specs.Option.{option_map}
+use Rattle.std.proofs.lemmas.Bool.{false≢true}
 use Rattle.fc_node.specs.TreePlace.{before_of, after_of}
 use Rattle.fc_map.proofs.CountFacts.{only_moved}
 use Rattle.fc_map.proofs.EntryFacts.{put_place, put_written}
@@ -24,5 +25,20 @@ returns-in-Ok g c =
         no_move = tt;
         moved = c.in-Ok.ensures.moved;
         bounded = only_moved _ c.args.count.now c.insert_at.new.count (omega arith) c.in-Ok.ensures.comparisons (rw c.in-Ok.ensures.length at c.in-Ok.ensures.moves);
+      },
+    )
+
+pub returns-in-Err : goal.returns-in-Err
+returns-in-Err g c = (
+      (refl, (λ w e. absurd (false≢true e)), c.in-Err.ensures.unchanged),
+      record {
+        writes_back = tt;
+        value = tt;
+        error = c.in-Err.ensures.error;
+        full = λ _. refl;
+        comparisons = c.in-Err.ensures.comparisons;
+        no_move = c.in-Err.ensures.no_move;
+        moved = tt;
+        bounded = (λ _. (c.in-Err.ensures.comparisons, c.in-Err.ensures.no_move), λ _. (0, omega arith, rw c.in-Err.ensures.comparisons (omega arith), rw c.in-Err.ensures.no_move (omega arith)));
       },
     )
