@@ -158,8 +158,7 @@ fn room_is_taken_in_one_request(rt: HostRuntime) -> Result<(), Fail> {
 
 #[test]
 fn room_for_too_many_bytes_is_refused(rt: HostRuntime) -> Result<(), Fail> {
-    let refused: Result<Slots<u64, 0x1000_0000_0000_0000>, AllocError> =
-        Slots::try_new(rt.alloc());
+    let refused: Result<Slots<u64, 0x1000_0000_0000_0000>, AllocError> = Slots::try_new(rt.alloc());
     assert!(&rt; refused.is_err());
     Ok(())
 }
