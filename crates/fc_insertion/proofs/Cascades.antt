@@ -120,8 +120,8 @@ module _ {K V : Type 0} where
   leaf_passed (Some b) p n child s k f h = (positive _ _ k.none h.0, h.1)
 
   -- what a room holds, by the cascade
-  pub room_given : (o : Option (Box (Node K V) Global)) (inner : List (Option (Box (Node K V) Global))) (p : List ℕ) (n : Node K V) → spare_count o inner ≡ nodes_needed p n → IsSpareLeaf o (spare_count o inner)
-      → 0 < length p → IsSpareLeaf o (cascade p n) × (length inner ≡ nodes_needed p n - 1)
+  pub room_given : (o : Option (Box (Node K V) Global)) (inner : ℕ) (p : List ℕ) (n : Node K V) → spare_count o inner ≡ nodes_needed p n → IsSpareLeaf o (spare_count o inner)
+      → 0 < length p → IsSpareLeaf o (cascade p n) × (inner ≡ nodes_needed p n - 1)
   room_given None inner p n e h l = let w = needed_least p n in (omega arith, omega arith)
   room_given (Some b) inner p n e h l = let w = needed_positive p n l in ((omega arith, h.1), omega arith)
 

@@ -1,6 +1,5 @@
 pub mod InsertedPairs
 pub mod InsertedLevels
-pub mod Spares
 pub mod Cascades
 pub mod ArrivalSteps
 pub mod Arrivals

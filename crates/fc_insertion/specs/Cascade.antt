@@ -3,7 +3,7 @@ use Rattle.std.specs.Prelude.{◌≡◌, ℕ, suc, ◌+◌, ◌≤◌, ◌*◌, 
 use Rattle.std.specs.declared.boxed.Box.{Box}
 use Rattle.std.specs.declared.alloc.Global.{Global}
 use Rattle.fc_node.specs.declared.node.Node.{Node}
-use Rattle.fc_node.specs.Node.{own_pairs, child_at, IsBlankLeaf, IsBlankInner}
+use Rattle.fc_node.specs.Node.{own_pairs, child_at, IsBlankLeaf}
 
 module _ {K V : Type 0} where
   -- The leaf that the path ends in.
@@ -35,13 +35,7 @@ module _ {K V : Type 0} where
   IsSpareLeaf None splits = splits ≡ 0
   IsSpareLeaf (Some b) splits = (1 ≤ splits) × IsBlankLeaf b.value
 
-  -- Each of these is there, and is an inner node that holds nothing.
-  abbrev pub AreSpareInner : List (Option (Box (Node K V) Global)) → Type 0
-  AreSpareInner [] = Unit {0}
-  AreSpareInner (None ∷ spares) = ⊥
-  AreSpareInner (Some b ∷ spares) = IsBlankInner b.value × AreSpareInner spares
-
-  -- How many nodes there are, of a leaf and inner nodes made ahead.
-  abbrev pub spare_count : Option (Box (Node K V) Global) → List (Option (Box (Node K V) Global)) → ℕ
-  spare_count None inner = length inner
-  spare_count (Some b) inner = suc (length inner)
+  -- How many nodes there are, of a leaf and so many inner nodes made ahead.
+  abbrev pub spare_count : Option (Box (Node K V) Global) → ℕ → ℕ
+  spare_count None inner = inner
+  spare_count (Some b) inner = suc inner

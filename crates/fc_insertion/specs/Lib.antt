@@ -1,4 +1,5 @@
 pub mod Cascade
+pub mod Chain
 pub mod Room
 pub mod Insertion
 pub mod Arrival

@@ -1,15 +1,15 @@
 //! Insertion at a path, with the nodes that were made ahead for it.
 ghost use Rattle.std.specs.Prelude.{◌≡◌, ℕ, ◌+◌, ◌-◌, ◌*◌, ◌<◌, ◌≤◌, [], ◌∷◌, ◌++◌, length, insert, MatchOption, IfSome, IfOk, IfErr, IsTrue, IsFalse};
-ghost use Rattle.arrayvec.specs.ArrayVec.{array_vec_len};
 ghost use Rattle.fc_node.specs.Node.{own_pairs, children_of, pairs_of, IsLeaf, IsInner, IsLevelled, IsSoundRoot, IsBlankLeaf, IsBlankInner};
 ghost use Rattle.fc_node.specs.Path.{IsPath, before, after};
-ghost use Rattle.fc_insertion.specs.Cascade.{all_full, cascade, nodes_needed, insertion_moves, IsSpareLeaf, AreSpareInner};
+ghost use Rattle.fc_insertion.specs.Cascade.{all_full, cascade, nodes_needed, insertion_moves, IsSpareLeaf};
 ghost use Rattle.fc_insertion.specs.Insertion.{spread, own_pairs_after, children_after, IsHalved};
 ghost use Rattle.fc_node.specs.Split.{left_length, split_moves};
 ghost use Rattle.fc_insertion.specs.Arrival.{steps_after, path_after, IsPutAt, HasArrived};
 
 use crate::arrival::arrival;
-use crate::room::{Room, Spares, take_spare};
+use crate::room::Room;
+use crate::spares::Spares;
 use fc_base::{Count, TryReserveError};
 use fc_node::node::{CAPACITY, Node};
 use fc_node::path::Path;
@@ -64,9 +64,8 @@ fn insert_with<K: Drop, V: Drop>(
     requires path { IsPath path.now root.old.value }
     requires sound { IsSoundRoot (length path.now - 1) root.old.value }
     requires leaf { IsSpareLeaf leaf (cascade path.now root.old.value) }
-    requires inner { array_vec_len inner.old ≡ nodes_needed path.now root.old.value - 1 }
-    requires blank { AreSpareInner inner.old.items }
-    ensures used_up { array_vec_len inner.new ≡ 0 }
+    requires inner { inner.old ≡ nodes_needed path.now root.old.value - 1 }
+    ensures used_up { inner.new ≡ 0 }
     ensures pairs { pairs_of root.new.value ≡ before path.now root.old.value ++ pair ∷ after path.now root.old.value }
     ensures place { IsPutAt (path_after (nodes_needed path.now root.old.value) path.now) root.new.value pair (before path.now root.old.value) (after path.now root.old.value) }
     ensures same_height { IsFalse (all_full path.now root.old.value) → IsSoundRoot (length path.now - 1) root.new.value }
@@ -79,7 +78,7 @@ fn insert_with<K: Drop, V: Drop>(
     match insert_below(root, path, pair, leaf, inner, count) {
         None => {}
         Some((up, right)) => {
-            let blank = take_spare(inner);
+            let blank = inner.take();
             grow(root, up, right, blank, count);
         }
     }
@@ -123,8 +122,7 @@ fn insert_below<K: Drop, V: Drop>(
     requires path { IsPath path.now node.old }
     requires levels { IsLevelled (length path.now - 1) node.old }
     requires leaf { IsSpareLeaf leaf (cascade path.now node.old) }
-    requires inner { cascade path.now node.old ≤ array_vec_len inner.old + 1 }
-    requires blank { AreSpareInner inner.old.items }
+    requires inner { cascade path.now node.old ≤ inner.old + 1 }
 
     // The pairs are those that were before the gap, the new pair and those that were after it.
     ensures pairs { spread node.new result ≡ before path.now node.old ++ pair ∷ after path.now node.old }
@@ -138,8 +136,7 @@ fn insert_below<K: Drop, V: Drop>(
 
     // The node is halved where all of the path was full, and an inner node is used for each that was halved above the leaf.
     ensures halved { MatchOption result (cascade path.now node.old < length path.now) (λ _. cascade path.now node.old ≡ length path.now) }
-    ensures used { array_vec_len inner.new + (cascade path.now node.old - 1) ≡ array_vec_len inner.old }
-    ensures blank { AreSpareInner inner.new.items }
+    ensures used { inner.new + (cascade path.now node.old - 1) ≡ inner.old }
     ensures comparisons { count.new.comparisons ≡ count.old.comparisons }
     ensures moves { MatchOption result (count.new.moves ≤ count.old.moves + 12 * cascade path.now node.old + 11) (λ _. count.new.moves ≤ count.old.moves + 12 * cascade path.now node.old) }
     ensures moved { count.old.moves < count.new.moves }
@@ -202,16 +199,14 @@ fn put_inner<K: Drop, V: Drop>(
 ) -> Option<((K, V), Box<Node<K, V>>)>
     requires in_bounds { i ≤ length (own_pairs node.old) }
     requires inner { IsInner node.old }
-    requires some { length (own_pairs node.old) ≡ 11 → 0 < array_vec_len spares.old }
-    requires blank { AreSpareInner spares.old.items }
+    requires some { length (own_pairs node.old) ≡ 11 → 0 < spares.old }
     ensures pairs { own_pairs_after node.new result ≡ insert (own_pairs node.old) i pair }
     ensures children { children_after node.new result ≡ insert (children_of node.old) (i + 1) child.value }
     ensures inner { IsInner node.new × IfSome result (λ s. IsInner s.1.value) }
     ensures size { MatchOption result (length (own_pairs node.new) ≤ 11) (λ s. IsHalved node.new × IsHalved s.1.value) }
     ensures halved { MatchOption result (length (own_pairs node.old) < 11) (λ _. length (own_pairs node.old) ≡ 11) }
     ensures left { IfSome result (λ _. length (own_pairs node.new) ≡ left_length i) }
-    ensures used { MatchOption result (array_vec_len spares.new ≡ array_vec_len spares.old) (λ _. array_vec_len spares.new + 1 ≡ array_vec_len spares.old) }
-    ensures blank { AreSpareInner spares.new.items }
+    ensures used { MatchOption result (spares.new ≡ spares.old) (λ _. spares.new + 1 ≡ spares.old) }
     ensures comparisons { count.new.comparisons ≡ count.old.comparisons }
     ensures moves { MatchOption result (count.new.moves ≤ count.old.moves + 11) (λ _. count.new.moves ≤ count.old.moves + 12) }
     ensures exact { MatchOption result (count.new.moves ≡ count.old.moves + (length (own_pairs node.old) - i + 1)) (λ _. count.new.moves ≡ count.old.moves + split_moves i) }
@@ -220,7 +215,7 @@ fn put_inner<K: Drop, V: Drop>(
         node.insert_inner(i, pair, child, count);
         return None;
     }
-    let right = take_spare(spares);
+    let right = spares.take();
     Some(node.split_inner(i, pair, child, right, count))
 }
 

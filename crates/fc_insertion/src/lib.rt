@@ -5,3 +5,4 @@ mod arrival;
 pub mod insertion;
 pub mod leaf;
 pub mod room;
+mod spares;

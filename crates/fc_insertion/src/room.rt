@@ -1,18 +1,14 @@
 //! The nodes that an insertion needs, made before a pair moves.
 ghost use Rattle.std.specs.Prelude.{◌≡◌, ◌+◌, ◌-◌, ◌<◌, ◌≤◌, length, IfOk, IfErr, OnErr, IsOkAnd};
-ghost use Rattle.arrayvec.specs.ArrayVec.{array_vec_len};
-ghost use Rattle.fc_node.specs.Node.{own_pairs, IsLevelled, IsBlankInner};
+ghost use Rattle.fc_node.specs.Node.{own_pairs, IsLevelled};
 ghost use Rattle.fc_node.specs.Path.{IsPath};
-ghost use Rattle.fc_insertion.specs.Cascade.{leaf_at, cascade, nodes_needed, AreSpareInner};
+ghost use Rattle.fc_insertion.specs.Cascade.{leaf_at, cascade, nodes_needed};
 
-use arrayvec::ArrayVec;
+use crate::spares::Spares;
 use fc_base::TryReserveError;
 use fc_node::node::{CAPACITY, Node};
 use std::alloc::Global;
 use std::marker::Model;
-
-/// Inner nodes made ahead: one for each level above the leaves at most, and one for a new root.
-pub type Spares<K, V> = ArrayVec<Option<Box<Node<K, V>>>, 25>;
 
 /// Nodes that hold nothing, made ahead for one insertion: a leaf for the leaf that it splits, and an inner node for each
 /// further node that it splits and for a new root. A contract sees how many there are.
@@ -76,7 +72,7 @@ pub fn try_room<K: Drop, V: Drop>(
     if split == 0 {
         return Ok(Room {
             leaf: None,
-            inner: ArrayVec::new(),
+            inner: Spares::new(),
         });
     }
     let leaf = Node::try_leaf(alloc)?;
@@ -98,14 +94,13 @@ fn try_spares<K: Drop, V: Drop>(
     count: usize,
 ) -> Result<Spares<K, V>, TryReserveError>
     requires { count ≤ 25 }
-    ensures len { IfOk result (λ spares. array_vec_len spares ≡ count) }
-    ensures blank { IfOk result (λ spares. AreSpareInner spares.items) }
+    ensures len { IfOk result (λ spares. spares ≡ count) }
     ensures err { IfErr result (λ e. e ≡ TryReserveError.AllocError) }
 {
-    let mut spares = ArrayVec::new();
+    let mut spares = Spares::new();
     for _i in 0..count {
         let node = Node::try_inner(alloc)?;
-        spares.push(Some(node));
+        spares.push(node);
     }
     Ok(spares)
 }
@@ -127,19 +122,4 @@ fn count_full<K, V>(node: &Node<K, V>, path: &[u8]) -> usize
     } else {
         below
     }
-}
-
-// Takes the last of the inner nodes out.
-pub(crate) fn take_spare<K: Drop, V: Drop>(spares: &mut Spares<K, V>) -> Box<Node<K, V>>
-    requires some { 0 < array_vec_len spares.old }
-    requires blank { AreSpareInner spares.old.items }
-    ensures node { IsBlankInner result.value }
-    ensures len { array_vec_len spares.new + 1 ≡ array_vec_len spares.old }
-    ensures blank { AreSpareInner spares.new.items }
-{
-    let Some(last) = spares.pop() else {
-        unreachable!()
-    };
-    let Some(node) = last else { unreachable!() };
-    node
 }

@@ -7,6 +7,7 @@ ghost use Rattle.fc_node.specs.Path.{IsPath};
 use crate::trees::{child_shows, is_levelled, shows, shows_two_levels};
 use fc_base::{Count, TryReserveError};
 use fc_insertion::insertion::{first_leaf, insert};
+use fc_insertion::leaf::has_room;
 use fc_insertion::room::try_room;
 use fc_node::node::Node;
 use fc_search::lend::pair_at;
@@ -15,15 +16,16 @@ use std::process::Abort;
 use std::test::Fail;
 
 // Whether each step of the path is a place in the node that it has come to.
-fn is_path(node: &Node<u64, u64>, path: &[usize]) -> bool
+fn is_path(node: &Node<u64, u64>, path: &[u8]) -> bool
     requires some { 0 < length path.now }
     requires levels { IsLevelled (length path.now - 1) node.now }
     ensures { OnTrue result (IsPath path.now node.now) }
 {
-    if path[0] > node.len() {
+    let step = path[0] as usize;
+    if step > node.len() {
         return false;
     }
-    path.len() == 1 || is_path(node.child(path[0]), &path[1..])
+    path.len() == 1 || is_path(node.child(step), &path[1..])
 }
 
 // Inserts the key at the path, with a room of as many nodes, and looks for it where the insertion says.
@@ -31,13 +33,14 @@ fn put(
     rt: &impl Abort,
     alloc: Global,
     root: &mut Box<Node<u64, u64>>,
-    path: &[usize],
+    path: &[u8],
     key: u64,
     nodes: usize,
 ) -> Result<(), TryReserveError> {
     assert!(rt; !path.is_empty() && path.len() <= 24 && root.len() > 0);
     assert!(rt; is_levelled(root, path.len() - 1));
     assert!(rt; is_path(root, path));
+    assert!(rt; has_room(root, path) == (nodes == 0));
     let room = try_room(alloc, root, path)?;
     assert!(rt; room.len() == nodes);
     let place = insert(root, path, (key, key), room, &mut Count::new());
@@ -56,9 +59,9 @@ fn put_last(
     let len = root.len();
     if len < root.child_count() {
         let below = root.child(len).len();
-        put(rt, alloc, root, &[len, below], key, nodes)
+        put(rt, alloc, root, &[len as u8, below as u8], key, nodes)
     } else {
-        put(rt, alloc, root, &[len], key, nodes)
+        put(rt, alloc, root, &[len as u8], key, nodes)
     }
 }
 
@@ -83,7 +86,7 @@ fn split(
     rt: &impl Abort,
     alloc: Global,
     (first, distance): (u64, u64),
-    place: usize,
+    place: u8,
     key: u64,
 ) -> Result<Box<Node<u64, u64>>, TryReserveError> {
     let mut root = full_leaf(rt, alloc, first, distance)?;
@@ -120,7 +123,7 @@ fn between_even_keys(rt: HostRuntime) -> Result<(), Fail> {
 
 #[test]
 fn each_place_of_a_full_leaf(rt: HostRuntime) -> Result<(), Fail> {
-    for place in 0..12usize {
+    for place in 0..12u8 {
         let root = split(&rt, rt.alloc(), (1, 2), place, place as u64 * 2)?;
         assert!(&rt; is_levelled(&root, 1) && root.child_count() == 2);
     }

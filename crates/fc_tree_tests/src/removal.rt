@@ -11,13 +11,13 @@ use std::process::Abort;
 use std::test::Fail;
 
 // Whether the path leads to a pair.
-fn is_place(node: &Node<u64, u64>, path: &[usize]) -> bool
+fn is_place(node: &Node<u64, u64>, path: &[u8]) -> bool
     ensures { OnTrue result (IsPlace path.now node.now) }
 {
     if path.is_empty() {
         return false;
     }
-    let i = path[0];
+    let i = path[0] as usize;
     if path.len() == 1 {
         return i < node.len();
     }
@@ -80,7 +80,7 @@ fn without(
     rt: &impl Abort,
     root: Box<Node<u64, u64>>,
     height: usize,
-    path: &[usize],
+    path: &[u8],
     key: u64,
 ) -> Option<Box<Node<u64, u64>>> {
     assert!(rt; root.len() > 0 && is_levelled(&root, height));
@@ -95,7 +95,7 @@ fn of_two_leaves(
     rt: &impl Abort,
     alloc: Global,
     (start, middle, end): (u64, u64, u64),
-    path: &[usize],
+    path: &[u8],
     key: u64,
 ) -> Result<Box<Node<u64, u64>>, Fail> {
     let left = leaf(rt, alloc, start, middle)?;
@@ -108,7 +108,7 @@ fn of_two_leaves(
 fn of_twelve_leaves(
     rt: &impl Abort,
     alloc: Global,
-    path: &[usize],
+    path: &[u8],
     key: u64,
 ) -> Result<Box<Node<u64, u64>>, Fail> {
     let left = six_leaves(rt, alloc, 1)?;

@@ -105,8 +105,8 @@ fn is_half(half: Option<u32>, value: u32) -> bool {
     }
 }
 
-fn is_place(path: &[usize], place: usize) -> bool {
-    path.len() == 1 && path[0] == place
+fn is_place(path: &[u8], place: usize) -> bool {
+    path.len() == 1 && path[0] as usize == place
 }
 
 #[test]

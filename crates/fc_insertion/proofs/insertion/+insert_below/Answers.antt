@@ -1,4 +1,4 @@
-use Rattle.std.proofs.Common.{◌≡◌, ◌+◌, ◌-◌, ◌<◌, length, MatchOption, rules, ap, sym, subst, ◌∙◌, arith, lit<}
+use Rattle.std.proofs.Common.{◌≡◌, ◌+◌, ◌-◌, ◌<◌, length, MatchOption, rules, ap, sym, subst, ◌∙◌, arith}
 use Rattle.std.proofs.lemmas.List.Edits.{length-insert}
 use Rattle.fc_node.specs.Node.{own_pairs, IsLevelled}
 use Rattle.fc_node.specs.Path.{IsPath}
@@ -33,7 +33,7 @@ insert_below-below-requires g t c κs within =
     let long = s.long in
     let height = s.height in
     let more = k.more in
-    (search rules, (search rules, (search rules, (lit< tt, (omega arith, (subst (IsPath _) (sym ci) s.onward, (subst (IsLevelled _) (sym ci) b.1, (leaf_passed _ _ _ _ s k s.levels.0 c.requires.leaf, (omega arith, c.requires.blank)))))))))
+    (search rules, (search rules, (search rules, (omega arith, (subst (IsPath _) (sym ci) s.onward, (subst (IsLevelled _) (sym ci) b.1, (leaf_passed _ _ _ _ s k s.levels.0 c.requires.leaf, omega arith)))))))
 
 pub put_inner-requires : goal.put_inner-requires
 put_inner-requires g t c =
@@ -47,7 +47,7 @@ put_inner-requires g t c =
     let full = k.full in
     let halved = c.in-Some-below.ensures.halved in
     let used = c.insert_below-below.ensures.used in
-    (lit< tt, (omega arith, (inner_kept _ _ _ _ m s.inner, ((λ h. let e = full (omega arith) (omega arith) in omega arith), c.insert_below-below.ensures.blank))))
+    record { in_bounds = omega arith; inner = inner_kept _ _ _ _ m s.inner; some = λ h. let e = full (omega arith) (omega arith) in omega arith }
 
 pub returns-in-None-below-clause-pairs : goal.returns-in-None-below-clause-pairs
 returns-in-None-below-clause-pairs g t c =

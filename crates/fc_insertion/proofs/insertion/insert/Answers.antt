@@ -1,4 +1,4 @@
-use Rattle.std.proofs.Common.{◌≡◌, ◌+◌, ◌-◌, length, sym, ap, subst, ◌∙◌, arith, lit<}
+use Rattle.std.proofs.Common.{◌≡◌, ◌+◌, ◌-◌, length, sym, ap, subst, ◌∙◌, arith}
 use Rattle.fc_node.specs.Path.{before, after}
 use Rattle.fc_insertion.specs.Arrival.{path_after, IsPutAt}
 use Rattle.fc_insertion.proofs.Arrivals.{small_steps, steps_fit}
@@ -7,8 +7,8 @@ use Rattle.fc_insertion.proofs.insertion.insert.Goals as goal
 
 pub insert_with-requires : goal.insert_with-requires
 insert_with-requires g c =
-    let r = room_given c.room.inside.leaf c.room.inside.inner.items c.args.path.now c.args.root.now.value (c.room.view_is ∙ c.requires.room) c.room.invariant.0 c.requires.some in
-    (lit< tt, (c.requires.some, (c.requires.path, (c.requires.sound, (r.0, (r.1, c.room.invariant.1))))))
+    let r = room_given c.room.inside.leaf c.room.inside.inner c.args.path.now c.args.root.now.value (c.room.view_is ∙ c.requires.room) c.room.invariant c.requires.some in
+    record { some = c.requires.some; path = c.requires.path; sound = c.requires.sound; leaf = r.0; inner = r.1 }
 
 pub arrival-place-requires : goal.arrival-place-requires
 arrival-place-requires g c =

@@ -1,4 +1,4 @@
-use Rattle.std.proofs.Common.{◌≡◌, ◌-◌, length, ◌++◌, ◌∷◌, ap, sym, subst, ◌∙◌, arith, lit<}
+use Rattle.std.proofs.Common.{◌≡◌, ◌-◌, length, ◌++◌, ◌∷◌, ap, sym, subst, ◌∙◌, arith}
 use Rattle.fc_node.specs.Node.{pairs_of, IsLevelled}
 use Rattle.fc_node.specs.Path.{IsPath, before, after}
 use Rattle.fc_insertion.specs.Cascade.{cascade, nodes_needed, IsSpareLeaf}
@@ -13,15 +13,21 @@ insert_below-requires g c =
     let root = c.deref_mut.ensures.value in
     let same = ap (cascade c.args.path.now) root in
     let enough = needed_least c.args.path.now c.args.root.now.value in
-    (lit< tt, (c.requires.some, (subst (IsPath _) (sym root) c.requires.path, (subst (IsLevelled _) (sym root) c.requires.sound.1, (subst (IsSpareLeaf _) (sym same) c.requires.leaf, (omega arith, c.requires.blank))))))
+    record {
+      some = c.requires.some;
+      path = subst (IsPath _) (sym root) c.requires.path;
+      levels = subst (IsLevelled _) (sym root) c.requires.sound.1;
+      leaf = subst (IsSpareLeaf _) (sym same) c.requires.leaf;
+      inner = omega arith;
+    }
 
-pub take_spare-blank-requires : goal.take_spare-blank-requires
-take_spare-blank-requires g c =
+pub take-blank-requires : goal.take-blank-requires
+take-blank-requires g c =
     let root = c.deref_mut.ensures.value in
     let same = ap (cascade c.args.path.now) root in
     let halved = c.in-Some.ensures.halved in
     let e = needed_whole c.args.path.now c.args.root.now.value (omega arith) in
-    (lit< tt, (omega arith, c.insert_below.ensures.blank))
+    omega arith
 
 pub returns-in-None-clause-used_up : goal.returns-in-None-clause-used_up
 returns-in-None-clause-used_up g c =

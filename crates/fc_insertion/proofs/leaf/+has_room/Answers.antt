@@ -1,4 +1,4 @@
-use Rattle.std.proofs.Common.{length, ◌∙◌, rules, ap, arith, sym, subst}
+use Rattle.std.proofs.Common.{length, rules, ap, arith, sym, subst}
 use Rattle.std.proofs.lemmas.Bool.{ltb-true, lt-ltb}
 use Rattle.fc_node.specs.Node.{own_pairs, IsLevelled}
 use Rattle.fc_node.specs.Path.{IsPath}

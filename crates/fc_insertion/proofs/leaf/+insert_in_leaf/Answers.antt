@@ -1,4 +1,4 @@
-use Rattle.std.proofs.Common.{◌≡◌, ◌-◌, ◌<◌, length, None, rules, ap, sym, subst, ◌∙◌, arith}
+use Rattle.std.proofs.Common.{◌≡◌, ◌-◌, length, None, rules, ap, sym, subst, arith}
 use Rattle.std.specs.Box.{with_value}
 use Rattle.fc_node.specs.Node.{own_pairs, IsLevelled}
 use Rattle.fc_node.specs.Path.{IsPath}

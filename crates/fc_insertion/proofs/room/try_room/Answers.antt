@@ -1,4 +1,4 @@
-use Rattle.std.proofs.Common.{length, lit<, arith, Result, Ok, Err, OnErr, ap}
+use Rattle.std.proofs.Common.{arith, Result, Ok, Err, OnErr}
 use Rattle.fc_insertion.proofs.Cascades.{cascade_most, cascade_leaf, needed_whole, needed_part}
 use Rattle.fc_insertion.proofs.room.try_room.Goals as goal
 use Rattle.fc_insertion.proofs.room.try_room.Goals.{then-split-path, else-split-path}
@@ -8,7 +8,7 @@ on_err (Ok x) p = tt
 on_err (Err e) p = p
 
 pub returns-then-split-eq0-clause-ok : goal.returns-then-split-eq0-clause-ok
-returns-then-split-eq0-clause-ok g c = let e = needed_part c.args.path.now c.args.root.now (omega arith) in let z = ap length c.new.ensures in omega arith
+returns-then-split-eq0-clause-ok g c = let e = needed_part c.args.path.now c.args.root.now (omega arith) in let z = c.new.ensures in omega arith
 
 pub returns-in_err-leaf-clause-refused : goal.returns-in_err-leaf-clause-refused
 returns-in_err-leaf-clause-refused g c = on_err _ (cascade_leaf c.args.path.now c.args.root.now (omega arith) (omega arith))
@@ -16,7 +16,7 @@ returns-in_err-leaf-clause-refused g c = on_err _ (cascade_leaf c.args.path.now 
 pub try_spares-requires : goal.try_spares-requires
 try_spares-requires g c =
     let most = cascade_most c.args.path.now c.args.root.now in
-    (lit< tt, elim c.if-split-path.branch [ then-split-path w ↦ omega arith | else-split-path w ↦ omega arith ])
+    elim c.if-split-path.branch [ then-split-path w ↦ omega arith | else-split-path w ↦ omega arith ]
 
 pub returns-in_err-inner-clause-refused : goal.returns-in_err-inner-clause-refused
 returns-in_err-inner-clause-refused g c = on_err _ (cascade_leaf c.args.path.now c.args.root.now (omega arith) (omega arith))

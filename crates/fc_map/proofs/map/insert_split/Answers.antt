@@ -1,4 +1,4 @@
-use Rattle.std.proofs.Common.{rules, ◌≡◌, ◌<◌, ◌^◌, length, arith}
+use Rattle.std.proofs.Common.{◌≡◌, ◌<◌, ◌^◌, length, arith}
 use Rattle.fc_insertion.specs.Cascade.{leaf_at}
 use Rattle.fc_node.specs.Node.{own_pairs, pairs_of}
 use Rattle.fc_insertion.proofs.Arrivals.{steps_few}
@@ -17,7 +17,7 @@ insert-requires g c =
     let steps = gap_steps c.args.root.now.value c.args.path.now c.requires.sound g.K.Ord.cmp c.args.pair.0 c.requires.gap in
     let sound = gap_sound c.args.root.now.value c.args.path.now c.requires.sound steps in
     let short = steps_few c.args.path.now c.args.root.now.value (omega arith) sound (omega arith) in
-    (search rules, (omega arith, (short, (c.requires.gap.way, (sound, rw (← c.deref.ensures) c.in_ok-room.ensures.ok)))))
+    record { some = omega arith; short = short; path = c.requires.gap.way; sound = sound; room = rw (← c.deref.ensures) c.in_ok-room.ensures.ok }
 
 pub returns-clause-put : goal.returns-clause-put
 returns-clause-put g c = put_in c.args.root.now.value c.args.path.now c.requires.sound g.K.Ord.cmp c.args.pair.0 c.args.pair.1 _ c.requires.gap c.insert.ensures.pairs
