@@ -2,7 +2,7 @@
 use Rattle.std.proofs.lemmas.List.{length-map}
 use Rattle.std.proofs.Common.{◌≡◌, ℕ, zero, suc, ◌+◌, ◌-◌, ◌<◌, ◌≤◌, List, [], ◌∷◌, ◌++◌, length, take, drop, set, get_or, Option, Some, None, refl, sym, ap, ◌∙◌, arith, length-append, length-take, length-drop, append_assoc, take_at, map, replicate, take-append-drop, drop-drop}
 use Rattle.fc_slots.specs.declared.slots.Slots.TheInside.{Inside}
-use Rattle.fc_slots.specs.Cells.{somes, IsPacked, row}
+use Rattle.fc_slots.specs.Cells.{present, IsPacked, row}
 use Rattle.fc_slots.proofs.Rows.{unpacks, packs, row_open, row_cut, cut_at, leave_done, get_first, set_first, length-row}
 
 module _ {X : Type 0} where
@@ -12,10 +12,10 @@ module _ {X : Type 0} where
     pub long : length xs ≡ k
     pub fits : k ≤ n
 
-  pub opened : {n : ℕ} (u : Inside X n) (xs : List X) → IsPacked u.cells u.len n → somes u.cells ≡ xs → IsLaid u.cells xs u.len n
+  pub opened : {n : ℕ} (u : Inside X n) (xs : List X) → IsPacked u.cells u.len n → present u.cells ≡ xs → IsLaid u.cells xs u.len n
   opened {n = n} u xs h e = let p = unpacks u.cells u.len n h in record { is = p.0 ∙ (λ i. row (e i) 0 [] (n - u.len)); long = ap length (sym e) ∙ p.1; fits = h.0 }
 
-  pub packed : (cs : List (Option X)) (xs : List X) (h m k n : ℕ) → cs ≡ row xs h [] m → k ≡ length xs → n ≡ k + (h + m) → IsPacked cs k n × (somes cs ≡ xs)
+  pub packed : (cs : List (Option X)) (xs : List X) (h m k n : ℕ) → cs ≡ row xs h [] m → k ≡ length xs → n ≡ k + (h + m) → IsPacked cs k n × (present cs ≡ xs)
   packed cs xs h m k n e long whole = packs cs xs (h + m) k n (e ∙ sym (row_open xs h m (h + m) refl)) long whole
 
   pub cut_row : (xs : List X) (i m : ℕ) → row xs 0 [] m ≡ row (take i xs) 0 (drop i xs) m
@@ -59,7 +59,7 @@ module _ {X : Type 0} where
       ∙ (λ j. row (take i xs) 1 (drop-drop 1 i xs j) m) ∙ (λ j. row (take i xs) 1 (drop (next j) xs) m)
 
   -- the list has room for one more
-  pub laid_up : {n : ℕ} (u : Inside X n) (xs : List X) → IsPacked u.cells u.len n → somes u.cells ≡ xs → length xs < n → (u.cells ≡ row xs 1 [] (n - (u.len + 1))) × (length xs ≡ u.len + 1 - 1)
+  pub laid_up : {n : ℕ} (u : Inside X n) (xs : List X) → IsPacked u.cells u.len n → present u.cells ≡ xs → length xs < n → (u.cells ≡ row xs 1 [] (n - (u.len + 1))) × (length xs ≡ u.len + 1 - 1)
   laid_up {n = n} u xs h e room = let o = opened u xs h e in (o.is ∙ open_up xs 1 n u.len (omega (arith, o.long)), omega (arith, o.long))
 
   pub hole_free : (xs ys : List X) (m : ℕ) (cs : List (Option X)) (i : ℕ) → cs ≡ row xs 1 ys m → i ≡ length xs → (i < length cs) × (get_or cs i None ≡ None)
@@ -67,7 +67,7 @@ module _ {X : Type 0} where
 
   -- an item is put into the hole at i
   pub put_in : (xs : List X) (m i k n : ℕ) (cs ds : List (Option X)) (x : X) → cs ≡ row (take i xs) 1 (drop i xs) m → i ≤ length xs → ds ≡ set cs i (Some x) → k ≡ length xs + 1 → n ≡ k + m
-      → IsPacked ds k n × (somes ds ≡ take i xs ++ x ∷ drop i xs)
+      → IsPacked ds k n × (present ds ≡ take i xs ++ x ∷ drop i xs)
   put_in xs m i k n cs ds x e le f long whole =
       let ys = take i xs in let zs = drop i xs in
       let is : ds ≡ row (ys ++ x ∷ []) 0 zs m = f ∙ ap (λ l. set l i (Some x)) e ∙ set_first ys 0 zs m i x (omega (arith, length-take i xs)) in

@@ -5,7 +5,7 @@
 --     get_end, set_end     the hole's last place is filled
 use Rattle.std.proofs.Common.{◌≡◌, ℕ, zero, suc, ◌+◌, ◌-◌, ◌<◌, List, [], ◌∷◌, ◌++◌, map, length, take, drop, set, get_or, replicate, Option, Some, None, refl, sym, ap, ◌∙◌, arith, length-append, length-take, append_assoc, append-nil}
 use Rattle.std.specs.Prelude.{true, false}
-use Rattle.fc_slots.specs.Cells.{somes, holds, IsPacked, row}
+use Rattle.fc_slots.specs.Cells.{present, holds, IsPacked, row}
 
 module _ {X : Type 0} where
   pub length-row : (xs : List X) (k : ℕ) (ys : List X) (m : ℕ) → length (row xs k ys m) ≡ length xs + (k + (length ys + m))
@@ -82,41 +82,41 @@ module _ {X : Type 0} where
   row_cut [] ys m = refl
   row_cut (x ∷ xs) ys m = ap (λ l. Some x ∷ l) (row_cut xs ys m)
 
-  pub somes_row : (xs : List X) (k : ℕ) (ys : List X) (m : ℕ) → somes (row xs k ys m) ≡ xs ++ ys
-  somes_row [] zero [] zero = refl
-  somes_row [] zero [] (suc m) = somes_row [] zero [] m
-  somes_row [] zero (y ∷ ys) m = ap (λ l. y ∷ l) (somes_row [] zero ys m)
-  somes_row [] (suc k) ys m = somes_row [] k ys m
-  somes_row (x ∷ xs) k ys m = ap (λ l. x ∷ l) (somes_row xs k ys m)
+  pub present_row : (xs : List X) (k : ℕ) (ys : List X) (m : ℕ) → present (row xs k ys m) ≡ xs ++ ys
+  present_row [] zero [] zero = refl
+  present_row [] zero [] (suc m) = present_row [] zero [] m
+  present_row [] zero (y ∷ ys) m = ap (λ l. y ∷ l) (present_row [] zero ys m)
+  present_row [] (suc k) ys m = present_row [] k ys m
+  present_row (x ∷ xs) k ys m = ap (λ l. x ∷ l) (present_row xs k ys m)
 
   holds_row : (xs : List X) (m : ℕ) → map holds (row xs 0 [] m) ≡ replicate (length xs) true ++ replicate m false
   holds_row [] zero = refl
   holds_row [] (suc m) = ap (λ l. false ∷ l) (holds_row [] m)
   holds_row (x ∷ xs) m = ap (λ l. true ∷ l) (holds_row xs m)
 
-  pub packs : (cs : List (Option X)) (xs : List X) (m k n : ℕ) → cs ≡ row xs 0 [] m → k ≡ length xs → n ≡ k + m → IsPacked cs k n × (somes cs ≡ xs)
+  pub packs : (cs : List (Option X)) (xs : List X) (m k n : ℕ) → cs ≡ row xs 0 [] m → k ≡ length xs → n ≡ k + m → IsPacked cs k n × (present cs ≡ xs)
   packs cs xs m k n e long whole =
       let left : m ≡ n - k = omega arith in
-      ((omega arith, ap (map holds) e ∙ holds_row xs m ∙ (λ i. replicate (sym long i) true ++ replicate (left i) false)), ap somes e ∙ somes_row xs 0 [] m ∙ append-nil xs)
+      ((omega arith, ap (map holds) e ∙ holds_row xs m ∙ (λ i. replicate (sym long i) true ++ replicate (left i) false)), ap present e ∙ present_row xs 0 [] m ∙ append-nil xs)
 
   empty : (xs : List X) → length xs ≡ 0 → xs ≡ []
   empty [] e = refl
   empty (x ∷ xs) e = absurd (omega arith)
 
-  laid : (cs : List (Option X)) (k m : ℕ) → map holds cs ≡ replicate k true ++ replicate m false → (cs ≡ row (somes cs) 0 [] m) × (length (somes cs) ≡ k)
+  laid : (cs : List (Option X)) (k m : ℕ) → map holds cs ≡ replicate k true ++ replicate m false → (cs ≡ row (present cs) 0 [] m) × (length (present cs) ≡ k)
   laid [] zero zero e = (refl, refl)
   laid [] zero (suc m) e = cc
   laid [] (suc k) m e = cc
   laid (None ∷ cs) zero zero e = cc
   laid (None ∷ cs) zero (suc m) e = let rest : map holds cs ≡ replicate m false = cc in let on = laid cs zero m rest in
-      let none : somes cs ≡ [] = empty (somes cs) on.1 in
+      let none : present cs ≡ [] = empty (present cs) on.1 in
       (ap (λ l. None ∷ l) on.0 ∙ (λ i. None ∷ row (none i) 0 [] m) ∙ (λ i. row (sym none i) 0 [] (suc m)), on.1)
   laid (None ∷ cs) (suc k) m e = cc
   laid (Some x ∷ cs) zero zero e = cc
   laid (Some x ∷ cs) zero (suc m) e = cc
   laid (Some x ∷ cs) (suc k) m e = let rest : map holds cs ≡ replicate k true ++ replicate m false = cc in let on = laid cs k m rest in (ap (λ l. Some x ∷ l) on.0, ap suc on.1)
 
-  pub unpacks : (cs : List (Option X)) (k n : ℕ) → IsPacked cs k n → (cs ≡ row (somes cs) 0 [] (n - k)) × (length (somes cs) ≡ k)
+  pub unpacks : (cs : List (Option X)) (k n : ℕ) → IsPacked cs k n → (cs ≡ row (present cs) 0 [] (n - k)) × (length (present cs) ≡ k)
   unpacks cs k n h = laid cs k (n - k) h.1
 
   -- the place p is one of them, and empty

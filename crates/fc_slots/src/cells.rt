@@ -30,7 +30,7 @@ impl<T> Model for Cells<T> {
 }
 
 impl<T> Cells<T> {
-    ghost use Rattle.fc_slots.specs.Cells.{IsFilled, AreFilled};
+    ghost use Rattle.fc_slots.specs.Cells.{IsPresent, ArePresent};
     ghost use Rattle.fc_slots.specs.Lends.{lends_cell};
 
     /// A row of `len` empty cells, taken in one request, or in none where items have no size.
@@ -51,7 +51,7 @@ impl<T> Cells<T> {
 
     /// The item in the cell at `index`.
     pub(crate) fn get(&self, index: usize) -> &T
-        requires { IsFilled self.now index }
+        requires { IsPresent self.now index }
         ensures { get_or self.now index None ≡ Some result.now }
     {
         self.places.get(self.base, index)
@@ -59,7 +59,7 @@ impl<T> Cells<T> {
 
     /// The items in the first `len` cells.
     pub(crate) fn as_slice(&self, len: usize) -> &[T]
-        requires { AreFilled self.now len }
+        requires { ArePresent self.now len }
         ensures { take len self.now ≡ map Some result.now }
     {
         self.places.as_slice(self.base, len)
@@ -67,7 +67,7 @@ impl<T> Cells<T> {
 
     /// The item in the cell at `index`, lent for writing.
     pub(crate) fn get_mut(&mut self, index: usize) -> &mut T
-        requires { IsFilled self.old index }
+        requires { IsPresent self.old index }
         ensures* writes_back { sem 𝓛 (lends_cell T.row self.entry index result) }
         ensures value { get_or self.old index None ≡ Some result.now }
     {
@@ -77,7 +77,7 @@ impl<T> Cells<T> {
 
     /// Takes the item out of the cell at `index`.
     pub(crate) fn take(&mut self, index: usize) -> T
-        requires { IsFilled self.old index }
+        requires { IsPresent self.old index }
         ensures value { get_or self.old index None ≡ Some result }
         ensures cells { self.new ≡ slice_set self.old index None }
     {

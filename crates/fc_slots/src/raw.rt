@@ -6,7 +6,7 @@ ghost use Rattle.std.specs.Borrow.{sem};
 ghost use Rattle.std.specs.Vec.Ownership.{FitsInBlock};
 ghost use base.Fml.{ftrue};
 ghost use denote.RawPtr.{Ptr};
-ghost use Rattle.fc_slots.specs.Cells.{IsFilled, AreFilled};
+ghost use Rattle.fc_slots.specs.Cells.{IsPresent, ArePresent};
 ghost use Rattle.fc_slots.specs.Ownership.{row_owned, row_lent, deed_owned};
 
 use std::alloc::{AllocError, Allocator};
@@ -133,7 +133,7 @@ impl<T> Places<T> {
 
     /// The item in the place at `index`.
     pub(crate) fn get(&self, base: Base<T>, index: usize) -> &T
-        requires { (base.ptr ≡ self.now.start) × IsFilled self.now.cells index }
+        requires { (base.ptr ≡ self.now.start) × IsPresent self.now.cells index }
         ensures { get_or self.now.cells index None ≡ Some result.now }
     {
         unsafe { &*base.ptr.add(index) }
@@ -141,7 +141,7 @@ impl<T> Places<T> {
 
     /// The item in the place at `index`, lent for writing.
     pub(crate) fn get_mut(&mut self, base: Base<T>, index: usize) -> &mut T
-        requires { (base.ptr ≡ self.old.start) × IsFilled self.old.cells index }
+        requires { (base.ptr ≡ self.old.start) × IsPresent self.old.cells index }
         ensures* writes_back { sem 𝓛 (lends_place T.row self.entry index result) }
         ensures value { get_or self.old.cells index None ≡ Some result.now }
     {
@@ -150,7 +150,7 @@ impl<T> Places<T> {
 
     /// Moves the item out of the place at `index`.
     pub(crate) fn take(&mut self, base: Base<T>, index: usize) -> T
-        requires { (base.ptr ≡ self.old.start) × IsFilled self.old.cells index }
+        requires { (base.ptr ≡ self.old.start) × IsPresent self.old.cells index }
         ensures { (get_or self.old.cells index None ≡ Some result) × (self.new.start ≡ self.old.start) × (self.new.cells ≡ slice_set self.old.cells index None) }
     {
         unsafe { base.ptr.add(index).read() }
@@ -166,7 +166,7 @@ impl<T> Places<T> {
 
     /// The items in the first `len` places.
     pub(crate) fn as_slice(&self, base: Base<T>, len: usize) -> &[T]
-        requires { (base.ptr ≡ self.now.start) × AreFilled self.now.cells len }
+        requires { (base.ptr ≡ self.now.start) × ArePresent self.now.cells len }
         ensures { take len self.now.cells ≡ map Some result.now }
     {
         unsafe { slice::from_raw_parts(base.ptr, len) }

@@ -23,13 +23,13 @@ pub struct Slots<T, const N: usize> {
 impl<T, const N: usize> Model for Slots<T, N> {
     ghost use Rattle.std.specs.Prelude.{List};
     ghost use Rattle.std.specs.Coded.{coded_list};
-    ghost use Rattle.fc_slots.specs.Cells.{somes, IsPacked};
+    ghost use Rattle.fc_slots.specs.Cells.{present, IsPacked};
 
     ghost Value = { List T };
 
     ghost coded = { coded_list T.code };
 
-    ghost view = { λ s. somes s.cells };
+    ghost view = { λ s. present s.cells };
 
     ghost invariant = { λ s. IsPacked s.cells s.len N };
 }

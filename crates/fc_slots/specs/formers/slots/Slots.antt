@@ -13,7 +13,7 @@ use denote.Model.Placed.{held, view_places}
 use denote.Param.{value_of}
 use denote.Struct.Props.{props}
 use Rattle.fc_slots.specs.formers.Maybe.{maybe}
-use Rattle.fc_slots.specs.Cells.{somes, holds}
+use Rattle.fc_slots.specs.Cells.{present, holds}
 use Rattle.fc_slots.specs.formers.cells.Cells as cells
 use Rattle.fc_slots.specs.declared.slots.Slots.TheInside.{Inside}
 use Rattle.fc_slots.specs.declared.slots.Slots.TheView.{view, invariant}
@@ -39,15 +39,15 @@ module _ (X Y : Type 0) (h : X → Y) where
   abbrev on : Option X → Option Y
   on = (maybe this).map X Y h
 
-  somes-map : (cs : List (Option X)) → somes (map on cs) ≡ map h (somes cs)
-  somes-map [] = refl
-  somes-map (None ∷ cs) = somes-map cs
-  somes-map (Some x ∷ cs) = ap (λ l. h x ∷ l) (somes-map cs)
+  present-map : (cs : List (Option X)) → present (map on cs) ≡ map h (present cs)
+  present-map [] = refl
+  present-map (None ∷ cs) = present-map cs
+  present-map (Some x ∷ cs) = ap (λ l. h x ∷ l) (present-map cs)
 
-somes-held : (X : Type 0) (cs : List (Option X)) → held (list this) X (somes cs) ≡ held (list (maybe this)) X cs
-somes-held X [] = refl
-somes-held X (None ∷ cs) = somes-held X cs
-somes-held X (Some x ∷ cs) = λ i. (one_more (somes-held X cs i).0, (x, (somes-held X cs i).1))
+present-held : (X : Type 0) (cs : List (Option X)) → held (list this) X (present cs) ≡ held (list (maybe this)) X cs
+present-held X [] = refl
+present-held X (None ∷ cs) = present-held X cs
+present-held X (Some x ∷ cs) = λ i. (one_more (present-held X cs i).0, (x, (present-held X cs i).1))
 
 holds-on : (X Y : Type 0) (h : X → Y) (cs : List (Option X)) → map holds (map (on X Y h) cs) ≡ map holds cs
 holds-on X Y h [] = refl
@@ -59,7 +59,7 @@ module _ (N : RattleType) (R S : RattleType) (h : R.Denot → S.Denot) where
   n = value_of N
 
   pub the_places : Alike R S h → Alike (C.the_row R N) (C.the_row S N) ((the_former this n).map R.Denot S.Denot h)
-  the_places a = view_places (fields n) (list this) (λ X. view X n) (λ X Y k u. somes-map X Y k u.cells) (λ X u. somes-held X u.cells) R.Denot S.Denot h (C.the_row R N).coded (C.the_row S N).coded
+  the_places a = view_places (fields n) (list this) (λ X. view X n) (λ X Y k u. present-map X Y k u.cells) (λ X u. present-held X u.cells) R.Denot S.Denot h (C.the_row R N).coded (C.the_row S N).coded
       (invariant R.Denot n) (invariant S.Denot n) (λ u. hlevel props) (λ u. hlevel props)
       (λ u e. (e.0, holds-on R.Denot S.Denot h u.cells ∙ e.1)) (λ u e. (e.0, sym (holds-on R.Denot S.Denot h u.cells) ∙ e.1))
       (over (I.the_row R N)) (over (I.the_row S N))

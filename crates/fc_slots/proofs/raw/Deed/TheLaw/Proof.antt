@@ -1,4 +1,4 @@
--- A `&` to a deed holds nothing. Assumes `Logic`.
+-- Nobody gives room back by a `&` to a deed. Assumes `Logic`.
 use denote.RattleType.{RattleType}
 use denote.RawPtr.{RawPtr}
 use denote.Param.Laws.{Laws}

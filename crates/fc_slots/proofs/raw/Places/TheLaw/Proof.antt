@@ -1,4 +1,4 @@
--- A `&` to the places reaches each item. Assumes `Logic`.
+-- Whoever has a `&` to the places has one to each item. Assumes `Logic`.
 use mathlib.Core.List.{[], ◌++◌}
 use base.Fml.{Incl-trans}
 use contract.BorrowLft.{meet_⊑_left}

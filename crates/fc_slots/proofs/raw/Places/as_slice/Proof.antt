@@ -3,7 +3,7 @@ use Rattle.fc_slots.proofs.Steps.{base_is, ◌≡◌, ◌*◌, ◌^◌, ◌<◌,
 use lib.ListN.{take}
 use denote.Slice.{slice_val}
 use Rattle.std.specs.Mem.{type_size}
-use Rattle.fc_slots.specs.Cells.{AreFilled}
+use Rattle.fc_slots.specs.Cells.{ArePresent}
 use Rattle.fc_slots.proofs.Memory.{run_seen}
 use Rattle.fc_slots.specs.contracts.raw.Places.as_slice as f
 use Rattle.fc_slots.proofs.raw.Places.as_slice.Statement.{statement}
@@ -17,7 +17,7 @@ as_slice_spec 𝓤 𝓛 𝓜 𝓡 wired T L =
     proved_at 𝓛 En hs c 𝓜 𝓡 (Goes-dropped 𝓛 2 (param_at 0 ps) En.kept.0 (λ κs x f. refl), (Goes-dropped 𝓛 2 (param_at 1 ps) En.kept.1.0 (λ κs x f. refl), (Goes-dropped 𝓛 2 (param_at 2 ps) En.kept.1.1.0 (λ κs x f. refl), tt)))
     (f.Key.name (args E)) fn (code.unfolded 𝓤 𝓛.H 𝓜 𝓡 wired (T, tt)) (λ z are.
     let κ = z.0.0.0 in let d = z.0.3.0.now in let base = z.0.3.1.0 in let len = z.0.3.1.1.0 in let Post = (walk_of 𝓛 En hs c).post z in
-    let Asks = (base.ptr ≡ d.start) × AreFilled d.cells len in
+    let Asks = (base.ptr ≡ d.start) × ArePresent d.cells len in
     qed 𝓛 (((‵ (flft κ z.0.1.0) ⊛ ‵ (flft z.0.0.1.0 z.0.1.1.0) ⊛ ‵ ftrue) ⊛ ‵ (owns (types_at ps z.0.0) z.0.3 z.0.4)) ∷ (raw (fact 𝓤 (z.0.0.1.0 ⊑ T.lives)) ⊛ raw (fact 𝓤 Asks)) ∷ []) ∵
     move ! (1 ∷ []) $ split ! $ drop ! $ heard ! Asks (λ asked. split ! $ move ! (1 ∷ []) $ fsplit ! $ fsplit ! $ drop ! $ unhide ! $ fsplit ! $ drop ! $
     let xs = asked.1.0 in let long = asked.1.2 in

@@ -1,6 +1,6 @@
 -- `get_mut` lends the item, and the places follow it.
 use Rattle.fc_slots.proofs.Steps.{base_is, ◌≡◌, ℕ, ◌+◌, ◌*◌, ◌<◌, [], ◌∷◌, ◌++◌, get_or, Some, None, refl, ◌∙◌, vptr, inst_fn, emp, ftrue, flft, ◌⊑◌, fact, fact_i, tables, WpFn, ‵, raw, ◌⊛◌, prop, at_ret, ◌$◌, !, qed, by, move, drop, use0, split, join, rewrite, regoal, fsplit, fjoin, whole, sub, enter, stop, fld, of_opd, addr, bin, size_lit, first, blocks, exec, returns, alloc_all, pass_all, free_all, look_at, get, get_in, through, sets, sets_last, env, owns, block_ptr, types_at, nothing, heard, Stays, stay_dropped, walk_of, Goes-dropped, param_at, Ura, Logic, RattleType, length, addr, named, GName, ent, sem, ◌∵◌, fpack, done, later, some, await, pick, group, use1, split3, Fml, fsep, later, fat, full_share, layout, word-Good, take_at, give_at, List, Val, Goes-spent_ref, plain, opens, fsplit3, fjoin3, set, word, proved_at, leaves, after, El, R, args, keep}
-use Rattle.fc_slots.specs.Cells.{IsFilled}
+use Rattle.fc_slots.specs.Cells.{IsPresent}
 use base.Logic.{sep}
 use denote.Follow.{follows, lends_Part}
 use denote.Memory.{mem, cell_at, part_of}
@@ -42,7 +42,7 @@ get_mut_spec 𝓤 𝓛 𝓜 𝓡 wired T L =
     proved_at 𝓛 En hs c 𝓜 𝓡 (Goes-spent_ref 𝓛 2 (0 ∷ []) tt (plain (λ _. Pr)), (Goes-dropped 𝓛 2 (param_at 1 ps) En.kept.1.0 (λ κs x f. refl), (Goes-dropped 𝓛 2 (param_at 2 ps) En.kept.1.1.0 (λ κs x f. refl), tt)))
     (f.Key.name (args E)) fn (code.unfolded 𝓤 𝓛.H 𝓜 𝓡 wired (T, tt)) (λ z are.
     let κ = z.0.0.0 in let q = z.0.1.0 in let r = z.0.3.0 in let rb = r.ref_ptr.0 in let ro = r.ref_ptr.1 in let d = r.now in let base = z.0.3.1.0 in let i = z.0.3.1.1.0 in let Post = (walk_of 𝓛 En hs c).post z in
-    let Asks = (base.ptr ≡ d.start) × IsFilled d.cells i in
+    let Asks = (base.ptr ≡ d.start) × IsPresent d.cells i in
     qed 𝓛 (((‵ (flft κ q) ⊛ ‵ (flft z.0.0.1.0 z.0.1.1.0) ⊛ ‵ ftrue) ⊛ ‵ (owns (types_at ps z.0.0) z.0.3 z.0.4)) ∷ (raw (fact 𝓤 (z.0.0.1.0 ⊑ T.lives)) ⊛ raw (fact 𝓤 Asks)) ∷ []) ∵
     move ! (1 ∷ []) $ split ! $ drop ! $ heard ! Asks (λ asked. split ! $ split ! $ move ! (2 ∷ []) $ fsplit ! $ fsplit3 ! $ keep ! (1 ∷ 2 ∷ 4 ∷ 5 ∷ []) $
     let x = asked.1.0 in let lt = within d.cells i x asked.1.1 in
@@ -52,13 +52,12 @@ get_mut_spec 𝓤 𝓛 𝓜 𝓡 wired T L =
     reach (R E) ! d.start d.cells i lt (λ b o e fits. let at = i * type_size (R E) + o in
     take_at ! 2 $ rewrite ! 0 (λ p. ‵ (fat full_share (layout (B.the_row (R E))) (l 2) 0 (word p))) (asked.0 ∙ e) refl $ give_at ! 2 $ first ! $ blocks ! $
     rewrite ! 0 (λ y. ‵ (place (R E) b at y)) asked.1.1 refl $
-    sets ! (bin ! (get ! refl) (size_lit ! (record { fits = fits.0 })) (record { fits = fits.1 })) refl (tt, record { fits = fits.1 }) $
-    sets ! (bin ! (get_in ! (fld ! refl (stop !)) (sub ! 0 refl (whole !))) (get ! refl) tt) refl (tt, tt) $
+    sets ! (bin ! (get ! refl) (size_lit ! (record { fits = fits.0 })) (record { fits = fits.1 })) refl (tt, record { fits = fits.1 }) $ sets ! (bin ! (get_in ! (fld ! refl (stop !)) (sub ! 0 refl (whole !))) (get ! refl) tt) refl (tt, tt) $
     sets_last ! (addr ! (through ! refl (stop !))) refl (tt, tt) $ exec ! 𝓣.C 𝓣.Λ (env fn.locals l) (after 1 fn.body) (at_ret _ Post) $ sets ! (of_opd ! (get ! refl)) refl (tt, tt) $
     -- [the item; the other places; the marker; its cell; the open borrow, in three entries; the other token]
     let F = new E rb ro b o d i vs in let way = back E rb ro b o d i vs 𝓛 e lt in let X = sem 𝓛 (Kept E rb ro b o d i vs) in let code_is = Pr.coded.code d in
-    move ! (1 ∷ 2 ∷ 3 ∷ []) $ fjoin3 ! $ move ! (2 ∷ 3 ∷ 4 ∷ 1 ∷ 0 ∷ []) $ group ! 5 $
-    use1 𝓛 (later (some (λ (δ : GName). ‵ ((MutRef (named 0) κ (R E)).own_val (record { ref_ptr = (b, at); ghost_name = δ; now = x }) (vptr b at ∷ [])) ⊛ ‵ (flft κ q) ⊛ ‵ (follows Pr (R E) r.ghost_name δ F))))
+    move ! (1 ∷ 2 ∷ 3 ∷ []) $ fjoin3 ! $
+    move ! (2 ∷ 3 ∷ 4 ∷ 1 ∷ 0 ∷ []) $ group ! 5 $ use1 𝓛 (later (some (λ (δ : GName). ‵ ((MutRef (named 0) κ (R E)).own_val (record { ref_ptr = (b, at); ghost_name = δ; now = x }) (vptr b at ∷ [])) ⊛ ‵ (flft κ q) ⊛ ‵ (follows Pr (R E) r.ghost_name δ F))))
     (lends_Part 𝓛 Pr (R E) F (named 0) κ q rb ro b at r.ghost_name X way code_is code_is x) $ await ! tt $ pick ! (λ δ. split3 ! $
     returns ! (look_at ! 0 refl) $ free_all ! refl $ move ! (1 ∷ 3 ∷ []) $ join ! $
     use0 𝓛 (raw (fact 𝓤 (get_or d.cells i None ≡ Some x))) (fact_i 𝓤 _ (emp 𝓤) asked.1.1) $ move ! (3 ∷ 0 ∷ []) $ join ! $

@@ -31,14 +31,12 @@ put_spec 𝓤 𝓛 𝓜 𝓡 wired T L =
     reach (R E) ! d.start d.cells i asked.1 (λ b o e fits. let at = i * type_size (R E) + o in
     take_at ! 2 $ rewrite ! 0 (λ p. ‵ (fat full_share (layout (B.the_row (R E))) (l 2) 0 (word p))) (asked.0 ∙ e) refl $ give_at ! 2 $ first ! $ blocks ! $
     rewrite ! 0 (λ y. ‵ (place (R E) b at y)) asked.2 refl $ as_written ! (elτ E) b at $
-    sets ! (bin ! (get ! refl) (size_lit ! (record { fits = fits.0 })) (record { fits = fits.1 })) refl (tt, record { fits = fits.1 }) $
-    sets ! (bin ! (get_in ! (fld ! refl (stop !)) (sub ! 0 refl (whole !))) (get ! refl) tt) refl (tt, tt) $
+    sets ! (bin ! (get ! refl) (size_lit ! (record { fits = fits.0 })) (record { fits = fits.1 })) refl (tt, record { fits = fits.1 }) $ sets ! (bin ! (get_in ! (fld ! refl (stop !)) (sub ! 0 refl (whole !))) (get ! refl) tt) refl (tt, tt) $
     sets ! (of_opd ! (get ! refl)) refl ok $ assigns_last ! (of_opd ! (get ! refl)) (through ! refl (stop !)) (init ! 0 refl ok) $ exec ! 𝓣.C 𝓣.Λ (env fn.locals l) (after 1 fn.body) (at_ret _ Post) $ sets ! (of_opd ! (unit_lit !)) refl (tt, tt) $
     -- [the item's bytes; the other places; the marker; its cell; the open borrow, in three entries; the other token; what the item owns]
     move ! (0 ∷ 8 ∷ []) $ value_in E ! item b at v $ rejoin (R E) ! d.start b o e d.cells i asked.1 (Some item) $
     move ! (1 ∷ 0 ∷ []) $ fjoin ! $ move ! (1 ∷ 0 ∷ []) $ closes ! tt Pr new vs rb ro $
-    returns ! (look_at ! 0 refl) $ free_all ! refl $ feq_i ! (List Val) z.0.4.0 (vptr rb ro ∷ []) are.0.0 $ fjoin3 ! $
-    nothing ! $ nothing ! $ fjoin ! $ nothing ! $ fjoin ! $ nothing ! $ fjoin ! $ move ! (1 ∷ 0 ∷ []) $ fjoin ! $ move ! (1 ∷ 2 ∷ []) $ join ! $
+    returns ! (look_at ! 0 refl) $ free_all ! refl $ feq_i ! (List Val) z.0.4.0 (vptr rb ro ∷ []) are.0.0 $ fjoin3 ! $ nothing ! $ nothing ! $ fjoin ! $ nothing ! $ fjoin ! $ nothing ! $ fjoin ! $ move ! (1 ∷ 0 ∷ []) $ fjoin ! $ move ! (1 ∷ 2 ∷ []) $ join ! $
     feq_i ! (List Val) (vunit ∷ []) (vunit ∷ []) refl $ let gives = (new.start ≡ d.start) × (new.cells ≡ set d.cells i (Some item)) in
     use0 𝓛 (raw (fact 𝓤 gives)) (fact_i 𝓤 gives (emp 𝓤) (refl, refl)) $ move ! (2 ∷ 3 ∷ 1 ∷ 0 ∷ []) $
     by ! (leaves 𝓛 En hs c z vunit tt (new, (tt, (tt, (tt, tt)))) (tt, (tt, (tt, (tt, tt))))))))))

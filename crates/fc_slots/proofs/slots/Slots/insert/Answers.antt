@@ -1,5 +1,5 @@
 use Rattle.std.proofs.Common.{◌≡◌, ◌+◌, ◌-◌, ◌∷◌, ◌++◌, take, drop, arith, length-take}
-use Rattle.fc_slots.specs.Cells.{somes, IsPacked}
+use Rattle.fc_slots.specs.Cells.{present, IsPacked}
 use Rattle.fc_slots.proofs.Laid.{opened, laid_up, hole_free, put_in}
 use Rattle.fc_slots.proofs.slots.Slots.insert.Given as given
 use Rattle.fc_slots.proofs.slots.Slots.insert.Goals as goal
@@ -19,7 +19,7 @@ set-requires g c =
     let s = c.self.inside in let xs = c.args.self.now in let i = c.args.index in let m = g.row.N - (s.len + 1) in let is = c.shift_up.ensures.items xs m (laid_up s xs c.self.invariant c.self.view_is c.requires.room).0 (laid_up s xs c.self.invariant c.self.view_is c.requires.room).1 in
     hole_free (take i xs) (drop i xs) m c.shift_up.new.cells i is (omega (arith, length-take i xs, c.requires.in_bounds))
 
-after : (g : given.Over) (c : goal.After-self-1 g) → IsPacked c.set.new.self (c.self.inside.len + 1) g.row.N × (somes c.set.new.self ≡ take c.args.index c.args.self.now ++ c.args.item ∷ drop c.args.index c.args.self.now)
+after : (g : given.Over) (c : goal.After-self-1 g) → IsPacked c.set.new.self (c.self.inside.len + 1) g.row.N × (present c.set.new.self ≡ take c.args.index c.args.self.now ++ c.args.item ∷ drop c.args.index c.args.self.now)
 after g c =
     let s = c.self.inside in let xs = c.args.self.now in let i = c.args.index in let m = g.row.N - (s.len + 1) in let up = laid_up s xs c.self.invariant c.self.view_is c.requires.room in
     put_in xs m i (s.len + 1) g.row.N c.shift_up.new.cells c.set.new.self c.args.item (c.shift_up.ensures.items xs m up.0 up.1) c.requires.in_bounds c.set.ensures.cells (omega (arith, up.1)) (omega (arith, c.requires.room, up.1))

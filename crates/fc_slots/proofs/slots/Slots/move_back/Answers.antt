@@ -1,6 +1,6 @@
 use Rattle.std.proofs.Common.{◌≡◌, ◌+◌, ◌-◌, [], ◌++◌, length, take, drop, refl, sym, ◌∙◌, arith, length-append, length-take, length-drop, take_all}
 use Rattle.std.proofs.lemmas.List.{drop_all}
-use Rattle.fc_slots.specs.Cells.{somes, row, IsPacked}
+use Rattle.fc_slots.specs.Cells.{present, row, IsPacked}
 use Rattle.fc_slots.proofs.Rows.{row_cut}
 use Rattle.fc_slots.proofs.Laid.{opened, packed, cut_row, open_up}
 use Rattle.fc_slots.proofs.slots.Slots.move_back.Given as given
@@ -28,7 +28,7 @@ carry-requires-clause-target_laid g c =
     let n = c.args.n in let all : n ≡ n - 0 = omega arith in let w = g.row.N - (t.len + n) in
     ([], ys, w, c.shift_up.ensures.items ys w (u.is ∙ open_up ys n g.row.N t.len (omega (arith, u.long))) (omega (arith, u.long)) ∙ (λ d. row [] (all d) ys w), refl, omega arith)
 
-source : (g : given.Over) (c : goal.After-other-1 g) → IsPacked c.carry.new.source (c.self.inside.len - c.args.n) g.row.N × (somes c.carry.new.source ≡ take (length c.args.self.now - c.args.n) c.args.self.now)
+source : (g : given.Over) (c : goal.After-other-1 g) → IsPacked c.carry.new.source (c.self.inside.len - c.args.n) g.row.N × (present c.carry.new.source ≡ take (length c.args.self.now - c.args.n) c.args.self.now)
 source g c =
     let s = c.self.inside in let xs = c.args.self.now in let o = opened s xs c.self.invariant c.self.view_is in let r = c.requires.room in let b = c.requires.in_bounds in let m = g.row.N - s.len in
     let n = c.args.n in let all : n ≡ n - 0 = omega arith in let f = s.len - n in let far : length (take f xs) ≡ f = omega (arith, o.long, length-take f xs) in let size : length (drop f xs) ≡ n = omega (arith, o.long, length-drop f xs, b) in let same : f ≡ length xs - n = omega (arith, o.long) in
@@ -36,7 +36,7 @@ source g c =
     (c.carry.ensures.source (take f xs) (drop f xs) m (o.is ∙ cut_row xs f m) far (omega arith) ∙ (λ d. row (take f xs) (n - 0) (drop_all (n - 0) (drop f xs) (omega arith) d) m)) (sym far) (omega (arith, o.long, o.fits, b)) in
     (got.0, got.1 ∙ (λ d. take (same d) xs))
 
-target : (g : given.Over) (c : goal.After-other-1 g) → IsPacked c.carry.new.target (c.other.inside.len + c.args.n) g.row.N × (somes c.carry.new.target ≡ drop (length c.args.self.now - c.args.n) c.args.self.now ++ c.args.other.now)
+target : (g : given.Over) (c : goal.After-other-1 g) → IsPacked c.carry.new.target (c.other.inside.len + c.args.n) g.row.N × (present c.carry.new.target ≡ drop (length c.args.self.now - c.args.n) c.args.self.now ++ c.args.other.now)
 target g c =
     let s = c.self.inside in let xs = c.args.self.now in let o = opened s xs c.self.invariant c.self.view_is in let t = c.other.inside in let ys = c.args.other.now in let u = opened t ys c.other.invariant c.other.view_is in let r = c.requires.room in let b = c.requires.in_bounds in let m = g.row.N - s.len in
     let n = c.args.n in let all : n ≡ n - 0 = omega arith in let f = s.len - n in let w = g.row.N - (t.len + n) in let far : length (take f xs) ≡ f = omega (arith, o.long, length-take f xs) in let size : length (drop f xs) ≡ n = omega (arith, o.long, length-drop f xs, b) in let same : f ≡ length xs - n = omega (arith, o.long) in

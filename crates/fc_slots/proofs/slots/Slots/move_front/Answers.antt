@@ -1,6 +1,6 @@
 use Rattle.std.proofs.Common.{◌≡◌, ◌+◌, ◌-◌, [], ◌++◌, length, take, drop, refl, ◌∙◌, arith, length-append, length-take, length-drop, take_all}
 use Rattle.std.proofs.lemmas.List.{drop_all}
-use Rattle.fc_slots.specs.Cells.{somes, row, IsPacked}
+use Rattle.fc_slots.specs.Cells.{present, row, IsPacked}
 use Rattle.fc_slots.proofs.Rows.{row_cut}
 use Rattle.fc_slots.proofs.Laid.{opened, packed, open_up}
 use Rattle.fc_slots.proofs.slots.Slots.move_front.Given as given
@@ -29,7 +29,7 @@ shift_down-requires-clause-laid g c =
 pub overflow_sub-self : goal.overflow_sub-self
 overflow_sub-self g c = let s = c.self.inside in let xs = c.args.self.now in let o = opened s xs c.self.invariant c.self.view_is in let r = c.requires.room in let b = c.requires.in_bounds in omega (arith, o.long, b)
 
-source : (g : given.Over) (c : goal.After-other-1 g) → IsPacked c.shift_down.new.cells (c.self.inside.len - c.args.n) g.row.N × (somes c.shift_down.new.cells ≡ drop c.args.n c.args.self.now)
+source : (g : given.Over) (c : goal.After-other-1 g) → IsPacked c.shift_down.new.cells (c.self.inside.len - c.args.n) g.row.N × (present c.shift_down.new.cells ≡ drop c.args.n c.args.self.now)
 source g c =
     let s = c.self.inside in let xs = c.args.self.now in let o = opened s xs c.self.invariant c.self.view_is in let t = c.other.inside in let r = c.requires.room in let b = c.requires.in_bounds in let m = g.row.N - s.len in
     let n = c.args.n in let same : t.len + n - t.len ≡ n = omega arith in let k = s.len - n in let zs = drop n xs in let size : length zs ≡ k = omega (arith, o.long, length-drop n xs) in let none : 0 ≡ n - n = omega arith in
@@ -37,7 +37,7 @@ source g c =
     (c.shift_down.ensures.items [] zs m (c.carry.ensures.source [] xs m (o.is ∙ row_cut [] xs m) refl (omega (arith, b)) ∙ (λ d. row [] (same d) (drop (same d) xs) m)) none (omega arith)
     ∙ (λ d. row (take_all k zs (omega arith) d) n (drop_all k zs (omega arith) d) m)) (omega arith) (omega (arith, o.fits, o.long, b))
 
-target : (g : given.Over) (c : goal.After-other-1 g) → IsPacked c.carry.new.target (c.other.inside.len + c.args.n) g.row.N × (somes c.carry.new.target ≡ c.args.other.now ++ take c.args.n c.args.self.now)
+target : (g : given.Over) (c : goal.After-other-1 g) → IsPacked c.carry.new.target (c.other.inside.len + c.args.n) g.row.N × (present c.carry.new.target ≡ c.args.other.now ++ take c.args.n c.args.self.now)
 target g c =
     let s = c.self.inside in let xs = c.args.self.now in let o = opened s xs c.self.invariant c.self.view_is in let t = c.other.inside in let ys = c.args.other.now in let u = opened t ys c.other.invariant c.other.view_is in let r = c.requires.room in let b = c.requires.in_bounds in let m = g.row.N - s.len in
     let n = c.args.n in let q = t.len + n - t.len in let same : q ≡ n = omega arith in let w = g.row.N - (t.len + q) in

@@ -1,6 +1,6 @@
 use Rattle.std.proofs.Common.{◌≡◌, ◌+◌, ◌-◌, [], ◌++◌, length, take, drop, sym, ◌∙◌, arith, length-append, length-take, length-drop, take_all}
 use Rattle.std.proofs.lemmas.List.{drop_all}
-use Rattle.fc_slots.specs.Cells.{somes, row, IsPacked}
+use Rattle.fc_slots.specs.Cells.{present, row, IsPacked}
 use Rattle.fc_slots.proofs.Laid.{opened, packed, cut_row, open_up}
 use Rattle.fc_slots.proofs.slots.Slots.move_tail.Given as given
 use Rattle.fc_slots.proofs.slots.Slots.move_tail.Goals as goal
@@ -22,14 +22,14 @@ carry-requires-clause-target_laid g c =
     let q = t.len + (s.len - c.args.from) - t.len in
     (ys, [], g.row.N - (t.len + q), u.is ∙ open_up ys q g.row.N t.len (omega (arith, o.long, u.long)), u.long, omega arith)
 
-source : (g : given.Over) (c : goal.After-other-1 g) → IsPacked c.carry.new.source c.args.from g.row.N × (somes c.carry.new.source ≡ take c.args.from c.args.self.now)
+source : (g : given.Over) (c : goal.After-other-1 g) → IsPacked c.carry.new.source c.args.from g.row.N × (present c.carry.new.source ≡ take c.args.from c.args.self.now)
 source g c =
     let s = c.self.inside in let xs = c.args.self.now in let o = opened s xs c.self.invariant c.self.view_is in let t = c.other.inside in let r = c.requires.room in let b = c.requires.in_bounds in let m = g.row.N - s.len in
     let f = c.args.from in let q = t.len + (s.len - f) - t.len in let far : length (take f xs) ≡ f = omega (arith, o.long, length-take f xs) in let size : length (drop f xs) ≡ q = omega (arith, o.long, length-drop f xs) in
     packed c.carry.new.source (take f xs) q m f g.row.N
     (c.carry.ensures.source (take f xs) (drop f xs) m (o.is ∙ cut_row xs f m) far (omega arith) ∙ (λ d. row (take f xs) q (drop_all q (drop f xs) (omega arith) d) m)) (sym far) (omega (arith, o.long, o.fits))
 
-target : (g : given.Over) (c : goal.After-other-1 g) → IsPacked c.carry.new.target (c.other.inside.len + (c.self.inside.len - c.args.from)) g.row.N × (somes c.carry.new.target ≡ c.args.other.now ++ drop c.args.from c.args.self.now)
+target : (g : given.Over) (c : goal.After-other-1 g) → IsPacked c.carry.new.target (c.other.inside.len + (c.self.inside.len - c.args.from)) g.row.N × (present c.carry.new.target ≡ c.args.other.now ++ drop c.args.from c.args.self.now)
 target g c =
     let s = c.self.inside in let xs = c.args.self.now in let o = opened s xs c.self.invariant c.self.view_is in let t = c.other.inside in let ys = c.args.other.now in let u = opened t ys c.other.invariant c.other.view_is in let r = c.requires.room in let b = c.requires.in_bounds in let m = g.row.N - s.len in
     let f = c.args.from in let q = t.len + (s.len - f) - t.len in let w = g.row.N - (t.len + q) in let far : length (take f xs) ≡ f = omega (arith, o.long, length-take f xs) in let size : length (drop f xs) ≡ q = omega (arith, o.long, length-drop f xs) in

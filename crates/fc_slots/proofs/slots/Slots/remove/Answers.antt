@@ -1,6 +1,6 @@
 use Rattle.std.proofs.Common.{◌≡◌, suc, ◌+◌, ◌-◌, ◌++◌, length, take, drop, ◌∙◌, arith, length-append, length-take, length-drop, take_all}
 use Rattle.std.proofs.lemmas.List.{drop_all}
-use Rattle.fc_slots.specs.Cells.{somes, row, IsPacked}
+use Rattle.fc_slots.specs.Cells.{present, row, IsPacked}
 use Rattle.fc_slots.proofs.Laid.{opened, packed, holds_at, value_at, left_out}
 use Rattle.fc_slots.proofs.slots.Slots.remove.Given as given
 use Rattle.fc_slots.proofs.slots.Slots.remove.Goals as goal
@@ -19,7 +19,7 @@ shift_down-requires-clause-laid g c =
 pub overflow_sub-self : goal.overflow_sub-self
 overflow_sub-self g c = let s = c.self.inside in let o = opened s _ c.self.invariant c.self.view_is in omega (arith, o.long, c.requires)
 
-after : (g : given.Over) (c : goal.After-self-1 g) → IsPacked c.shift_down.new.cells (c.self.inside.len - 1) g.row.N × (somes c.shift_down.new.cells ≡ take c.args.index c.args.self.now ++ drop (suc c.args.index) c.args.self.now)
+after : (g : given.Over) (c : goal.After-self-1 g) → IsPacked c.shift_down.new.cells (c.self.inside.len - 1) g.row.N × (present c.shift_down.new.cells ≡ take c.args.index c.args.self.now ++ drop (suc c.args.index) c.args.self.now)
 after g c =
     let s = c.self.inside in let xs = c.args.self.now in let i = c.args.index in let m = g.row.N - s.len in let o = opened s xs c.self.invariant c.self.view_is in let lt = c.requires in
     let n = s.len - (i + 1) in let ys = drop (suc i) xs in let zs = take i xs in
