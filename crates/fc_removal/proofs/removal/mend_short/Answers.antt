@@ -1,4 +1,4 @@
-use Rattle.std.proofs.Common.{◌≡◌, ℕ, ◌+◌, length, ap, ◌∙◌, arith}
+use Rattle.std.proofs.Common.{◌≡◌, ℕ, ◌+◌, length, ap, arith}
 use Rattle.fc_node.specs.declared.node.Node.{Node}
 use Rattle.fc_node.specs.Node.{own_pairs, child_at}
 use Rattle.fc_removal.specs.Mending.{together}
