@@ -1,8 +1,8 @@
 //! The README's examples, in a crate that names `fallible_collections` alone.
 #![tactic(auto)]
 
-ghost use Rattle.std.specs.Prelude.{◌≡◌, IfOk, OnErr, Some};
-ghost use Rattle.fallible_collections.specs.Words.{entries, put};
+ghost use Rattle.std.specs.Prelude.{◌≡◌, IfOk, IsOk, IsSome, OnErr, Some};
+ghost use Rattle.fallible_collections.specs.Words.{at, entries, put, text_order};
 
 use fallible_collections::TryReserveError;
 use fallible_collections::btree::BTreeMap;
@@ -16,6 +16,23 @@ pub fn first_words(alloc: Global) -> Result<BTreeMap<u64, &'static str>, TryRese
     words.try_insert(1, "uno")?; // Ok(Some("one")): the key stays, the value is replaced
     *words.try_entry(2)?.or_try_insert("two")? = "dos"; // one search, and a value to write to
     Ok(words)
+}
+
+/// Counts a word: one that is known is counted, and one that is refused leaves the counts as they were.
+pub fn count_word(
+    counts: &mut BTreeMap<String, u64>,
+    alloc: Global,
+    word: &str,
+) -> Result<(), TryReserveError>
+    ensures known { IsSome (at text_order (entries counts.old) word.now) → IsOk result }
+    ensures unchanged { OnErr result (counts.new ≡ counts.old) }
+{
+    if let Some(count) = counts.get_mut(word) {
+        *count = count.saturating_add(1); // a known word is never refused
+        return Ok(());
+    }
+    counts.try_insert(String::from_str(alloc, word)?, 1)?;
+    Ok(())
 }
 
 /// Raises each price by one, and answers the highest of the keys from 10 on.
