@@ -9,6 +9,6 @@ returns-clause-there g c =
     let k = c.args.key.now in
     let found = value_at_put g.K.Ord.cmp (entries c.args.map.now) k c.args.value g.met.K.Ord.total in
     elim c.match-get_mut.branch [
-      in-Some w ↦ (let put = w.in-Some.ensures.put k c.args.value in search rules) |
-      in_default w ↦ search rules
+      | in-Some w ↦ (let put = w.in-Some.ensures.put k c.args.value in search rules)
+      | in_default w ↦ search rules
     ]
