@@ -1,8 +1,8 @@
 //! Collections in which every call that takes memory answers a `Result`, and a refused call does no harm.
 //!
 //! `btree` has the ordered map, `command` a world of maps behind commands and lines of text. The error of a refused call is
-//! `TryReserveError`; `TryClone` is for types whose copies may be refused, `FallibleBox` makes boxes that may be. `count` counts
-//! comparisons and moves for contracts alone.
+//! `TryReserveError`; `TryClone` is for types whose copies may be refused, `FallibleBox` makes boxes that may be; a `Query` is what
+//! keys are looked up by. `count` counts comparisons and moves for contracts alone.
 #![tactic(auto)]
 
 pub mod btree;

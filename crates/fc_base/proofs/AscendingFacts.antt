@@ -9,12 +9,10 @@ use Rattle.std.specs.Cmp.{IsTotalOrder}
 use Rattle.std.specs.List.{AllByRecursion}
 use Rattle.fc_base.specs.Ascending.{IsAscending}
 use Rattle.fc_base.specs.Parts.{below, above, at}
+use Rattle.fc_base.specs.Viewed.{over_one}
 use Rattle.std.specs.Option.{option_map}
 use Rattle.std.specs.Prelude.{unwrap_or}
 use Rattle.std.specs.Cmp.{tied_itself}
-
-pub over_one : {K : Type 0} (cmp : K → K → Ordering) (total : IsTotalOrder cmp) (k y : K) → cmp k y ≡ Less → cmp y k ≡ Greater
-over_one cmp total k y h = total.antisymm y k ∙ ap ordering_reverse h
 
 pub under_one : {K : Type 0} (cmp : K → K → Ordering) (total : IsTotalOrder cmp) (k y : K) → cmp y k ≡ Greater → cmp k y ≡ Less
 under_one cmp total k y h = total.antisymm k y ∙ ap ordering_reverse h

@@ -11,17 +11,17 @@ use Rattle.std.specs.declared.cmp.Ordering.TheVariants.{Less, Equal, Greater}
 use Rattle.std.specs.declared.ops.Bound.{Bound}
 use Rattle.std.specs.declared.ops.Bound.TheVariants.{Included, Excluded, Unbounded}
 use Rattle.std.proofs.lemmas.Cmp.{tied_itself}
-use Rattle.std.proofs.lemmas.List.Elements.{filter-append, filter_agree, filter_passes, All-from_recursion, All-weaker}
+use Rattle.std.proofs.lemmas.List.Elements.{filter-append, filter_passes, All-from_recursion, All-weaker}
 use Rattle.std.proofs.lemmas.List.Folds.{find-append}
 use Rattle.std.proofs.lemmas.List.Sums.{length-filter, count_by-le-length}
 use Rattle.fc_base.specs.Ascending.{IsAscending}
 use Rattle.fc_base.specs.OneKey.{put, put_by, cut}
 use Rattle.fc_base.specs.Parts.{below, above, at, value_at}
 use Rattle.fc_base.specs.Query.{IsQueryOrder}
-use Rattle.fc_base.specs.Viewed.{own_order}
+use Rattle.fc_base.specs.Viewed.{over_one, own_order}
 use Rattle.fc_base.specs.Ranges.{starts, stops, is_range, within}
 use Rattle.fc_base.proofs.Within.{between_tests, not_past}
-use Rattle.fc_base.proofs.AscendingFacts.{over_one, under_one, all_map, all_below, all_above, at_key, asc_filter, asc_cut, asc_put}
+use Rattle.fc_base.proofs.AscendingFacts.{under_one, all_map, all_below, all_above, at_key, asc_filter, asc_cut, asc_put}
 
 -- the one answer that is equal
 is_equal : (r : Ordering) → is_eq r ≡ true → r ≡ Equal
@@ -55,10 +55,6 @@ module _ {X : Type 0} (p : X → Bool) where
       go false false e h i = i
 
 module _ {K : Type 0} (cmp : K → K → Ordering) where
-  -- Each key compares to equal keys alike.
-  alike : (k j x : K) → IsTotalOrder cmp → cmp j k ≡ Equal → cmp x j ≡ cmp x k
-  alike k j x total same = total.antisymm x j ∙ ap ordering_reverse (total.congr j k x same) ∙ sym (total.antisymm x k)
-
   -- Two keys that are not equal are not so the other way round.
   apart : (j k : K) → IsTotalOrder cmp → ¬ (cmp j k ≡ Equal) → ¬ (cmp k j ≡ Equal)
   apart j k total other e = other (total.antisymm j k ∙ ap ordering_reverse e)
@@ -94,6 +90,27 @@ module _ {K : Type 0} (cmp : K → K → Ordering) where
       go Less e h = absurd cc
       go Equal e h = ap is_lt (over_one cmp total b y (sym (total.congr x b y e) ∙ l))
       go Greater e h = ap is_lt (over_one cmp total b y (total.trans b x y (under_one cmp total b x e) l))
+
+-- each key stands to a query as to a key that is equal to it
+pub alike_query : {K Q : Type 0} (cmp : K → K → Ordering) (order : K → Q → Ordering) (k : K) (q : Q) → IsQueryOrder cmp order → order k q ≡ Equal → ◌≡◌ {A = K → Ordering} (λ x. order x q) (λ x. cmp x k)
+alike_query cmp order k q fits equal = λ i x. fits.same q k x equal i
+
+module _ {K Q V : Type 0} (cmp : K → K → Ordering) (order : K → Q → Ordering) where
+  -- At a query stands the pair that stands at a key equal to it.
+  pub at_query : (s : List (K × V)) (k : K) (q : Q) → IsQueryOrder cmp order → order k q ≡ Equal → at order s q ≡ at cmp s k
+  at_query s k q fits equal = ap (λ (f : K → Ordering). at (λ x (u : ⊤). f x) s tt) (alike_query cmp order k q fits equal)
+
+  -- At a query stands the value that stands at a key equal to it.
+  pub value_at_query : (s : List (K × V)) (k : K) (q : Q) → IsQueryOrder cmp order → order k q ≡ Equal → value_at order s q ≡ value_at cmp s k
+  value_at_query s k q fits equal = ap (option_map (λ e. e.1)) (at_query s k q fits equal)
+
+  -- A value is put at a query as at a key equal to it.
+  pub put_by_query : (s : List (K × V)) (k : K) (v : V) (q : Q) → IsQueryOrder cmp order → order k q ≡ Equal → put_by order s q k v ≡ put cmp s k v
+  put_by_query s k v q fits equal = ap (λ (f : K → Ordering). put_by (λ x (u : ⊤). f x) s tt k v) (alike_query cmp order k q fits equal)
+
+  -- A cut at a query takes out what a cut at a key equal to it takes out.
+  pub cut_query : (s : List (K × V)) (k : K) (q : Q) → IsQueryOrder cmp order → order k q ≡ Equal → cut order s q ≡ cut cmp s k
+  cut_query s k q fits equal = ap (λ (f : K → Ordering). cut (λ x (u : ⊤). f x) s tt) (alike_query cmp order k q fits equal)
 
 module _ {K Q V : Type 0} (cmp : K → Q → Ordering) where
   -- a test of how the keys compare to k
@@ -150,8 +167,7 @@ module _ {K Q V : Type 0} (cmp : K → K → Ordering) (order : K → Q → Orde
 module _ {K V : Type 0} (cmp : K → K → Ordering) where
   -- At equal keys the same pair stands.
   pub at_equal : (s : List (K × V)) (k j : K) → IsTotalOrder cmp → cmp j k ≡ Equal → at cmp s j ≡ at cmp s k
-  at_equal [] k j total same = refl
-  at_equal (e ∷ s) k j total same = rw (alike cmp k j e.0 total same) (ap (λ o. cond (is_eq (cmp e.0 k)) (Some e) o) (at_equal s k j total same))
+  at_equal s k j total same = sym (at_query cmp cmp s j k (own_order total) same)
 
   -- At equal keys the same value stands.
   pub value_at_equal : (s : List (K × V)) (k j : K) → IsTotalOrder cmp → cmp j k ≡ Equal → value_at cmp s j ≡ value_at cmp s k
@@ -159,7 +175,7 @@ module _ {K V : Type 0} (cmp : K → K → Ordering) where
 
   -- A cut at an equal key leaves the same pairs.
   pub cut_equal : (s : List (K × V)) (k j : K) → IsTotalOrder cmp → cmp j k ≡ Equal → cut cmp s j ≡ cut cmp s k
-  cut_equal s k j total same = rw (filter_agree (λ (e : K × V). is_lt (cmp e.0 j)) (λ e. is_lt (cmp e.0 k)) (λ e. ap is_lt (alike cmp k j e.0 total same)) s, filter_agree (λ (e : K × V). is_gt (cmp e.0 j)) (λ e. is_gt (cmp e.0 k)) (λ e. ap is_gt (alike cmp k j e.0 total same)) s) refl
+  cut_equal s k j total same = sym (cut_query cmp cmp s j k (own_order total) same)
 
   -- What was put at a key stands there, with the equal key that was there before, if there was one.
   pub at_put : (s : List (K × V)) (k : K) (v : V) → IsTotalOrder cmp → at cmp (put cmp s k v) k ≡ Some (unwrap_or (option_map (λ e. e.0) (at cmp s k)) k, v)
@@ -419,27 +435,7 @@ module _ {K V : Type 0} (cmp : K → K → Ordering) where
       let between = between_tests (λ (e : K × V). starts cmp lo e.0) (λ e. stops cmp hi e.0) (λ e. not_past total lo hi range e.0) s (take front s) (drop front s) (take back s) (drop back s) (take-append-drop front s) (take-append-drop back s) (started lo s total a) (stopped hi s total a) in
       ap (λ m. take m (drop front s)) n ∙ between.is
 
--- each key stands to a query as to a key that is equal to it
-pub alike_query : {K Q : Type 0} (cmp : K → K → Ordering) (order : K → Q → Ordering) (k : K) (q : Q) → IsQueryOrder cmp order → order k q ≡ Equal → ◌≡◌ {A = K → Ordering} (λ x. order x q) (λ x. cmp x k)
-alike_query cmp order k q fits equal = λ i x. fits.same q k x equal i
-
 module _ {K Q V : Type 0} (cmp : K → K → Ordering) (order : K → Q → Ordering) where
-  -- At a query stands the pair that stands at a key equal to it.
-  pub at_query : (s : List (K × V)) (k : K) (q : Q) → IsQueryOrder cmp order → order k q ≡ Equal → at order s q ≡ at cmp s k
-  at_query s k q fits equal = ap (λ (f : K → Ordering). at (λ x (u : ⊤). f x) s tt) (alike_query cmp order k q fits equal)
-
-  -- At a query stands the value that stands at a key equal to it.
-  pub value_at_query : (s : List (K × V)) (k : K) (q : Q) → IsQueryOrder cmp order → order k q ≡ Equal → value_at order s q ≡ value_at cmp s k
-  value_at_query s k q fits equal = ap (option_map (λ e. e.1)) (at_query s k q fits equal)
-
   -- The value that was put at a key stands at each query equal to it.
   pub value_at_put_query : (s : List (K × V)) (k : K) (v : V) (q : Q) → IsTotalOrder cmp → IsQueryOrder cmp order → order k q ≡ Equal → value_at order (put cmp s k v) q ≡ Some v
-  value_at_put_query s k v q total fits equal = value_at_query (put cmp s k v) k q fits equal ∙ value_at_put cmp s k v total
-
-  -- A value is put at a query as at a key equal to it.
-  pub put_by_query : (s : List (K × V)) (k : K) (v : V) (q : Q) → IsQueryOrder cmp order → order k q ≡ Equal → put_by order s q k v ≡ put cmp s k v
-  put_by_query s k v q fits equal = ap (λ (f : K → Ordering). put_by (λ x (u : ⊤). f x) s tt k v) (alike_query cmp order k q fits equal)
-
-  -- A cut at a query takes out what a cut at a key equal to it takes out.
-  pub cut_query : (s : List (K × V)) (k : K) (q : Q) → IsQueryOrder cmp order → order k q ≡ Equal → cut order s q ≡ cut cmp s k
-  cut_query s k q fits equal = ap (λ (f : K → Ordering). cut (λ x (u : ⊤). f x) s tt) (alike_query cmp order k q fits equal)
+  value_at_put_query s k v q total fits equal = value_at_query cmp order (put cmp s k v) k q fits equal ∙ value_at_put cmp s k v total

@@ -1,4 +1,5 @@
-//! What all crates of the library share: the error of refused memory, copies and boxes that may be refused, and counts.
+//! What all crates of the library share: the error of refused memory, copies and boxes that may be refused, what
+//! keys are searched by, and counts.
 #![tactic(auto)]
 
 pub mod boxed;

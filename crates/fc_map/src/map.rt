@@ -107,7 +107,8 @@ impl<K: Ord, V> BTreeMap<K, V> {
         self.len == 0
     }
 
-    /// The value at an equal key, or `None` where there is none. Upstream: `BTreeMap::get`.
+    /// The value at an equal key, or `None` where there is none. `key` is a `Query`: `get(&key)`, or `get("word")` where the keys are
+    /// `String`s. Upstream: `BTreeMap::get`.
     pub fn get<Q: Query<K>>(&self, key: Q) -> Option<&V>
         ensures value { now_value result ≡ value_at Q.order (entries self.now) (Q.sought key) }
         ensures ascending { IsAscending K.cmp (entries self.now) }

@@ -380,7 +380,7 @@ fn take_blocks(alloc: Global, size: usize, held: &mut Vec<Vec<u8>>) {
 }
 
 // Takes blocks until every request is refused, large ones first.
-fn take_all_memory(alloc: Global) -> Result<Vec<Vec<u8>>, AllocError> {
+pub(crate) fn take_all_memory(alloc: Global) -> Result<Vec<Vec<u8>>, AllocError> {
     let mut held = Vec::with_capacity(alloc, 60_000)?;
     let mut size = 1 << 46;
     for _ in 0..36 {

@@ -4,7 +4,7 @@ ghost use Rattle.std.specs.Ordering.{nat_cmp};
 ghost use Rattle.std.proofs.lemmas.Cmp.{nat_cmp_total};
 ghost use Rattle.fc_base.specs.Viewed.{viewed};
 
-use crate::map::{CountingKey, ascending};
+use crate::map::{CountingKey, ascending, take_all_memory};
 use crate::numbers::{is_lent, is_number};
 use fc_base::{Query, TryReserveError};
 use fc_map::map::BTreeMap;
@@ -74,6 +74,23 @@ fn a_text_is_written_at_and_removed(rt: HostRuntime) -> Result<(), Fail> {
     assert!(rt; is_number(map.remove("word"), 70) && map.remove("word").is_none());
     assert!(rt; is_number(map.remove(""), 0) && map.remove("").is_none());
     assert_eq!(rt; map.len(), 18);
+    Ok(())
+}
+
+// Where a run gets its memory from elsewhere, as one without proof does, this shows nothing.
+#[test]
+fn with_all_memory_refused_a_text_is_found(rt: HostRuntime) -> Result<(), Fail> {
+    let mut map = words(rt.alloc())?;
+    let held = take_all_memory(rt.alloc())?;
+    if Vec::<u8>::with_capacity(rt.alloc(), 1).is_ok() {
+        return Ok(());
+    }
+    let refused = String::from_str(rt.alloc(), "word").is_err();
+    let found = finds_each(&map) && finds_no_other(&map);
+    let written = write_text(&mut map, "word", 70);
+    let taken = map.remove("word");
+    drop(held);
+    assert!(rt; refused && found && written && is_number(taken, 70));
     Ok(())
 }
 
