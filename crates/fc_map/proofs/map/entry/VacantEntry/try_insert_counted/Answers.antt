@@ -30,15 +30,15 @@ returns-in-Ok g c =
 
 pub returns-in-Err : goal.returns-in-Err
 returns-in-Err g c = (
-      (refl, (λ w e. absurd (false≢true e)), c.in-Err.ensures.unchanged),
-      record {
-        writes_back = tt;
-        value = tt;
-        error = c.in-Err.ensures.error;
-        full = λ _. refl;
-        comparisons = c.in-Err.ensures.comparisons;
-        no_move = c.in-Err.ensures.no_move;
-        moved = tt;
-        bounded = (λ _. (c.in-Err.ensures.comparisons, c.in-Err.ensures.no_move), λ _. (0, omega arith, rw c.in-Err.ensures.comparisons (omega arith), rw c.in-Err.ensures.no_move (omega arith)));
-      },
-    )
+  (refl, (λ w e. absurd (false≢true e)), c.in-Err.ensures.unchanged),
+  record {
+    writes_back = tt;
+    value = tt;
+    error = c.in-Err.ensures.error;
+    full = λ _. refl;
+    comparisons = c.in-Err.ensures.comparisons;
+    no_move = c.in-Err.ensures.no_move;
+    moved = tt;
+    bounded = (λ _. (c.in-Err.ensures.comparisons, c.in-Err.ensures.no_move), λ _. (0, omega arith, rw c.in-Err.ensures.comparisons (omega arith), rw c.in-Err.ensures.no_move (omega arith)));
+  },
+)
