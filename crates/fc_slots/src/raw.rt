@@ -69,7 +69,7 @@ impl<T, A: Allocator> Model for Deed<T, A> {
 
 unsafe impl<T, A: Allocator + Send> Send for Deed<T, A> {}
 
-// A `&` to it holds nothing.
+// Room is given back by the deed itself, so one that is only shared has nothing to tell.
 unsafe impl<T, A: Allocator> Sync for Deed<T, A> {}
 
 /// `len` empty places, taken in one request. Items of no size need no room: their places are anywhere, as at the handle.
