@@ -2,7 +2,10 @@ pub mod Ascending
 pub mod Copies
 pub mod Growth
 pub mod OneKey
+pub mod Joined
+pub mod Extended
 pub mod Parts
+pub mod Halves
 pub mod Ranges
 pub mod Query
 pub mod Viewed

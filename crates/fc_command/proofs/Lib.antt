@@ -1,5 +1,6 @@
 mod CutFacts
 mod ExampleFacts
+mod ItemFacts
 mod RunFacts
 mod ServeFacts
 mod SpokenFacts

@@ -1,10 +1,14 @@
 -- What a command does to a world, and what it answers.
-use Rattle.std.specs.Prelude.{◌≡◌, ◌≢◌, ◌-◌, ◌^◌, ◌<◌, min, ⊤, List, [], ◌∷◌, ◌⊎◌, length, None, IsSome, is_some, IsTrue, if◌then◌else◌}
+use Rattle.std.specs.Prelude.{◌≡◌, ◌≢◌, ◌+◌, ◌-◌, ◌^◌, ◌<◌, min, ⊤, List, [], ◌∷◌, ◌⊎◌, length, None, IsSome, is_some, IsTrue, if◌then◌else◌}
 use Rattle.std.specs.declared.cmp.Ordering.{Ordering}
 use Rattle.fc_base.specs.declared.try_reserve_error.TryReserveError.{TryReserveError}
-use Rattle.fc_base.specs.Growth.{MayGrowRefuse}
+use Rattle.fc_base.specs.declared.try_reserve_error.TryReserveError.TheVariants.{AllocError}
+use Rattle.fc_base.specs.Extended.{extended, IsExtendedUpTo}
+use Rattle.fc_base.specs.Growth.{MayGrowRefuse, MayAppendRefuse}
+use Rattle.fc_base.specs.Halves.{not_below}
+use Rattle.fc_base.specs.Joined.{joined}
 use Rattle.fc_base.specs.OneKey.{put, cut}
-use Rattle.fc_base.specs.Parts.{at, value_at}
+use Rattle.fc_base.specs.Parts.{below, at, value_at}
 use Rattle.fc_base.specs.Ranges.{is_range, within}
 use Rattle.fc_map.specs.Entries.{Map, entries}
 use Rattle.fc_command.specs.declared.command.world.World.{World}
@@ -12,7 +16,7 @@ use Rattle.fc_lines.specs.declared.command.Side.{Side}
 use Rattle.fc_lines.specs.Sides.{side_of}
 use Rattle.fc_lines.specs.declared.command.Side.TheVariants.{First, Second}
 use Rattle.fc_lines.specs.declared.command.Command.{Command}
-use Rattle.fc_lines.specs.declared.command.Command.TheVariants.{Insert, Get, GetKeyValue, ContainsKey, Remove, Set, Entry, RemoveEntry, Len as CountPairs, Clear, Walk, Write}
+use Rattle.fc_lines.specs.declared.command.Command.TheVariants.{Insert, Get, GetKeyValue, ContainsKey, Remove, Set, Entry, RemoveEntry, Len as CountPairs, Clear, Walk, Write, Append, SplitOff, TryClone, Extend}
 use Rattle.fc_lines.specs.declared.command.Reply.{Reply}
 use Rattle.fc_lines.specs.declared.command.Reply.TheVariants.{Done, Flag, Value, Pair, Len, Pairs, BadRange, Refused}
 use Rattle.fc_command.specs.Walks.{walked}
@@ -57,42 +61,45 @@ module _ {K V : Type 0} (cmp : K → K → Ordering) where
     o = o;
     reply = if is_range cmp lo hi then Len (min (length writes) (length (within cmp lo hi m))) else BadRange;
   }
+  answer (Append side) m o = record { m = joined cmp m o; o = []; reply = Done }
+  answer (SplitOff side k) m o = record { m = below cmp m k; o = not_below cmp m k; reply = Done }
+  answer (TryClone side) m o = record { m = m; o = m; reply = Done }
+  answer (Extend side pairs) m o = record { m = extended cmp m pairs; o = o; reply = Done }
 
-  -- Whether a command may be refused, and by which error: an insertion at a new key, where the map is empty or has enough pairs to
-  -- fill a leaf, a copy, and the room for copies.
+  -- Whether a command may be refused and change nothing, and by which error: an insertion at a new key, where the map is empty or has
+  -- enough pairs to fill a leaf, a copy, the room for copies, an append where neither map is empty, and a split and a copy of a map
+  -- that is not empty.
   abbrev pub MayRefuse : Command K V → List (K × V) → List (K × V) → TryReserveError → Type 0
   MayRefuse (Insert side k v) m o e = (at cmp m k ≡ None) × MayGrowRefuse (length m) e
   MayRefuse (Get side k) m o e = IsSome (value_at cmp m k)
   MayRefuse (GetKeyValue side k) m o e = IsSome (at cmp m k)
-  MayRefuse (ContainsKey side k) m o e = ⊥
-  MayRefuse (Remove side k) m o e = ⊥
-  MayRefuse (Set side k v) m o e = ⊥
   MayRefuse (Entry side k v w) m o e = (at cmp m k ≡ None) × MayGrowRefuse (length m) e
-  MayRefuse (RemoveEntry side k) m o e = ⊥
-  MayRefuse (CountPairs side) m o e = ⊥
-  MayRefuse (Clear side) m o e = ⊥
   MayRefuse (Walk side lo hi ends) m o e = IsTrue (is_range cmp lo hi) × (0 < length ends)
-  MayRefuse (Write side lo hi writes) m o e = ⊥
+  MayRefuse (Append side) m o e = MayAppendRefuse (length m) (length o) e
+  MayRefuse (SplitOff side k) m o e = (e ≡ AllocError) × (0 < length m)
+  MayRefuse (TryClone side) m o e = 0 < length m
+  MayRefuse c m o e = ⊥
 
-  -- Whether a command is always refused: an insertion of a new key into a map of the greatest length.
+  -- Whether a command may be refused when a part of it is done, what it has then made of the list, and by which error: an extension
+  -- at a pair with a new key, as an insertion of it there. The pairs before it stay.
+  abbrev pub MayStop : Command K V → List (K × V) → List (K × V) → TryReserveError → Type 0
+  MayStop (Extend side pairs) m m' e = IsExtendedUpTo cmp m pairs m' e
+  MayStop c m m' e = ⊥
+
+  -- Whether a command is always refused: an insertion of a new key into a map of the greatest length, and an append where neither
+  -- map is empty and the lengths add past it.
   abbrev pub MustRefuse : Command K V → List (K × V) → List (K × V) → Type 0
   MustRefuse (Insert side k v) m o = (at cmp m k ≡ None) × (length m ≡ 2 ^ 64 - 1)
-  MustRefuse (Get side k) m o = ⊥
-  MustRefuse (GetKeyValue side k) m o = ⊥
-  MustRefuse (ContainsKey side k) m o = ⊥
-  MustRefuse (Remove side k) m o = ⊥
-  MustRefuse (Set side k v) m o = ⊥
   MustRefuse (Entry side k v w) m o = (at cmp m k ≡ None) × (length m ≡ 2 ^ 64 - 1)
-  MustRefuse (RemoveEntry side k) m o = ⊥
-  MustRefuse (CountPairs side) m o = ⊥
-  MustRefuse (Clear side) m o = ⊥
-  MustRefuse (Walk side lo hi ends) m o = ⊥
-  MustRefuse (Write side lo hi writes) m o = ⊥
+  MustRefuse (Append side) m o = (0 < length m) × (0 < length o) × (2 ^ 64 - 1 < length m + length o)
+  MustRefuse c m o = ⊥
 
-  -- A command on the named map m and the other map o is answered by the table, or it is refused and changes nothing.
+  -- A command on the named map m and the other map o is answered by the table, or it is refused and changes nothing, or it is refused
+  -- when a part of it is done.
   pub data StepOn (c : Command K V) (m o : Map K V) (r : Reply K V) (m' o' : Map K V) : Type 0 where
     answered : (MustRefuse c (entries m) (entries o) → ⊥) → (let out = answer c (entries m) (entries o) in (r ≡ out.reply) × (entries m' ≡ out.m) × (entries o' ≡ out.o)) → StepOn c m o r m' o'
     refused : (e : TryReserveError) → MayRefuse c (entries m) (entries o) e → (r ≡ Refused e) × (m' ≡ m) × (o' ≡ o) → StepOn c m o r m' o'
+    stopped : (e : TryReserveError) → MayStop c (entries m) (entries m') e → (r ≡ Refused e) × (o' ≡ o) → StepOn c m o r m' o'
 
   -- A command may lead from one world to another with this reply.
   abbrev pub Step : World K V → Command K V → Reply K V → World K V → Type 0

@@ -4,14 +4,9 @@ use Rattle.std.specs.declared.boxed.Box.{Box}
 use Rattle.std.specs.declared.alloc.Global.{Global}
 use Rattle.fc_node.specs.declared.node.Node.{Node}
 use Rattle.fc_node.specs.Node.{own_pairs, child_at, IsBlankLeaf}
+pub use Rattle.fc_node.specs.Leaf.{leaf_at}
 
 module _ {K V : Type 0} where
-  -- The leaf that the path ends in.
-  abbrev pub leaf_at : List ℕ → Node K V → Node K V
-  leaf_at [] n = n
-  leaf_at (i ∷ []) n = n
-  leaf_at (i ∷ j ∷ path) n = leaf_at (j ∷ path) (child_at n i)
-
   -- Whether each node of the path is full.
   abbrev pub all_full : List ℕ → Node K V → Bool
   all_full [] n = true

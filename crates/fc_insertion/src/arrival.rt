@@ -6,21 +6,20 @@ ghost use Rattle.fc_insertion.specs.Arrival.{step_from as child_step, goes_right
 
 use fc_node::path::Path;
 
-// The path to a new pair, by the path to its gap and the number of nodes that are made for it: as many nodes of the path are
-// split, from the leaf upwards, and one more than the path has makes a new root. A new pair stays in a leaf.
-pub(crate) fn arrival(path: &[u8], nodes: usize) -> Path
-    requires steps { AllByRecursion (λ i. i ≤ 11) path.now }
-    requires short { length path.now + (if nat_lt (length path.now) nodes then 1 else 0) ≤ 25 }
-    ensures { result ≡ path_after nodes path.now }
+// Turns the path to a gap into the path to the pair that was put into it, by the number of nodes that were made for it: as many
+// nodes of the path were split, from the leaf upwards, and one more than the path has made a new root. A new pair stays in a leaf.
+pub(crate) fn arrive(path: &mut Path, nodes: usize)
+    requires steps { AllByRecursion (λ i. i ≤ 11) path.old }
+    requires short { length path.old + (if nat_lt (length path.old) nodes then 1 else 0) ≤ 25 }
+    ensures { path.new ≡ path_after nodes path.old }
 {
-    let mut place = Path::of(path);
     if path.len() < nodes {
-        let right = settle(&mut place, 0);
-        place.push_front(step_from(0, right));
-        return place;
+        let right = settle(path, 0);
+        path.push_front(step_from(0, right));
+    } else {
+        let whole = path.len() - nodes;
+        let _right = settle(path, whole);
     }
-    let _right = settle(&mut place, path.len() - nodes);
-    place
 }
 
 // Turns the path to a gap into the path to the pair that is put into it, where `whole` nodes of the path stay whole. Answers

@@ -7,7 +7,7 @@ ghost use Rattle.fc_insertion.specs.Insertion.{spread, own_pairs_after, children
 ghost use Rattle.fc_node.specs.Split.{left_length, split_moves};
 ghost use Rattle.fc_insertion.specs.Arrival.{steps_after, path_after, IsPutAt, HasArrived};
 
-use crate::arrival::arrival;
+use crate::arrival::arrive;
 use crate::room::Room;
 use crate::spares::Spares;
 use fc_base::{Count, TryReserveError};
@@ -17,38 +17,38 @@ use std::alloc::Global;
 use std::mem;
 
 /// Puts `pair` into the gap that the path leads to. Each node that this takes is in `room`, so nothing can be refused once
-/// the first pair moves. The answer is the path to the pair in the tree as it then is.
+/// the first pair moves. The path then leads to the pair in the tree as it is now.
 pub fn insert<K: Drop, V: Drop>(
     root: &mut Box<Node<K, V>>,
-    path: &[u8],
+    path: &mut Path,
     pair: (K, V),
     room: Room<K, V>,
     count: &mut Count,
-) -> Path
-    requires some { 0 < length path.now }
-    requires short { steps_after path.now root.old.value ≤ 25 }
-    requires path { IsPath path.now root.old.value }
-    requires sound { IsSoundRoot (length path.now - 1) root.old.value }
-    requires room { room ≡ nodes_needed path.now root.old.value }
+)
+    requires some { 0 < length path.old }
+    requires short { steps_after path.old root.old.value ≤ 25 }
+    requires path { IsPath path.old root.old.value }
+    requires sound { IsSoundRoot (length path.old - 1) root.old.value }
+    requires room { room ≡ nodes_needed path.old root.old.value }
 
     // The pairs before the gap, the new pair and the pairs after the gap.
-    ensures pairs { pairs_of root.new.value ≡ before path.now root.old.value ++ pair ∷ after path.now root.old.value }
+    ensures pairs { pairs_of root.new.value ≡ before path.old root.old.value ++ pair ∷ after path.old root.old.value }
 
-    // The answer leads to the new pair, with the pairs that were before the gap ahead of it and those after the gap behind it.
-    ensures place { IsPutAt result root.new.value pair (before path.now root.old.value) (after path.now root.old.value) }
+    // The path leads to the new pair, with the pairs that were before the gap ahead of it and those after the gap behind it.
+    ensures place { IsPutAt path.new root.new.value pair (before path.old root.old.value) (after path.old root.old.value) }
 
     // The tree is as high as before, unless each node of the path was full: then a new root stands above it, with one pair.
-    ensures same_height { IsFalse (all_full path.now root.old.value) → IsSoundRoot (length path.now - 1) root.new.value }
-    ensures higher { IsTrue (all_full path.now root.old.value) → IsSoundRoot (length path.now) root.new.value × (length (own_pairs root.new.value) ≡ 1) }
+    ensures same_height { IsFalse (all_full path.old root.old.value) → IsSoundRoot (length path.old - 1) root.new.value }
+    ensures higher { IsTrue (all_full path.old root.old.value) → IsSoundRoot (length path.old) root.new.value × (length (own_pairs root.new.value) ≡ 1) }
     ensures comparisons { count.new.comparisons ≡ count.old.comparisons }
-    ensures moves { count.new.moves ≤ count.old.moves + insertion_moves path.now root.old.value }
-    ensures few_moves { count.new.moves ≤ count.old.moves + 18 * length path.now }
+    ensures moves { count.new.moves ≤ count.old.moves + insertion_moves path.old root.old.value }
+    ensures few_moves { count.new.moves ≤ count.old.moves + 18 * length path.old }
     ensures moved { count.old.moves < count.new.moves }
 {
-    let place = arrival(path, room.len());
+    let nodes = room.len();
     let Room { leaf, mut inner } = room;
-    insert_with(root, path, pair, leaf, &mut inner, count);
-    place
+    insert_with(root, path.as_slice(), pair, leaf, &mut inner, count);
+    arrive(path, nodes);
 }
 
 // Inserts with the nodes made ahead, and uses up all of them.

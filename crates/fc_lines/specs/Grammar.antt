@@ -12,7 +12,7 @@ use Rattle.fc_lines.specs.declared.command.Side.TheVariants.{First, Second}
 use Rattle.fc_lines.specs.declared.command.End.{End}
 use Rattle.fc_lines.specs.declared.command.End.TheVariants.{Front, Back}
 use Rattle.fc_lines.specs.declared.command.Command.{Command}
-use Rattle.fc_lines.specs.declared.command.Command.TheVariants.{Insert, Get, GetKeyValue, ContainsKey, Remove, Set, Entry, RemoveEntry, Len, Clear, Walk, Write}
+use Rattle.fc_lines.specs.declared.command.Command.TheVariants.{Insert, Get, GetKeyValue, ContainsKey, Remove, Set, Entry, RemoveEntry, Len, Clear, Walk, Write, Append, SplitOff, TryClone, Extend}
 use Rattle.fc_lines.specs.Lines.{words_of}
 
 -- What follows is asked only where something is there.
@@ -89,6 +89,26 @@ bound_at words = do
   first ← word_at words
   bound ← bound_of first.0
   Some (bound, first.1)
+
+-- The key and the value that the first two words write, and the words after them.
+unfoldable pub pair_at : List (List ℕ) → Option ((ℕ × ℕ) × List (List ℕ))
+pair_at words = do
+  k ← number_at words
+  v ← number_at k.1
+  Some ((k.0, v.0), v.1)
+
+-- The pairs that the words write, a key and a value each.
+abbrev pub all_pairs : List (List ℕ) → Option (List (ℕ × ℕ))
+all_pairs [] = Some []
+all_pairs (k ∷ []) = None
+all_pairs (k ∷ v ∷ words) = do
+  key ← number_of k
+  value ← number_of v
+  option_map (λ pairs. (key, value) ∷ pairs) (all_pairs words)
+
+-- The same of one or more.
+abbrev pub some_pairs : List (List ℕ) → Option (List (ℕ × ℕ))
+some_pairs words = if nat_lt 0 (length words) then all_pairs words else None
 
 -- The command, if no word is left.
 abbrev pub ends : Command ℕ ℕ → List (List ℕ) → Option (Command ℕ ℕ)
@@ -186,23 +206,57 @@ write_of words = do
   writes ← some_read one_write_of hi.1
   Some (Write m.0 lo.0 hi.0 writes)
 
+-- The word after `append` is a map.
+unfoldable pub append_of : List (List ℕ) → Option (Command ℕ ℕ)
+append_of words = do
+  m ← map_at words
+  ends (Append m.0) m.1
+
+-- The words after `split` are a map and a key.
+unfoldable pub split_of : List (List ℕ) → Option (Command ℕ ℕ)
+split_of words = do
+  m ← map_at words
+  k ← number_at m.1
+  ends (SplitOff m.0 k.0) k.1
+
+-- The word after `copy` is a map.
+unfoldable pub copy_of : List (List ℕ) → Option (Command ℕ ℕ)
+copy_of words = do
+  m ← map_at words
+  ends (TryClone m.0) m.1
+
+-- The words after `extend` are a map and one or more pairs.
+unfoldable pub extend_of : List (List ℕ) → Option (Command ℕ ℕ)
+extend_of words = do
+  m ← map_at words
+  pairs ← some_pairs m.1
+  Some (Extend m.0 pairs)
+
+-- The command without a list that the words after its word ask for.
+unfoldable pub plain_of : List ℕ → List (List ℕ) → Option (Command ℕ ℕ)
+plain_of word words = if is_text word (codes "insert") then insert_of words
+    else if is_text word (codes "get") then get_of words
+    else if is_text word (codes "pair") then pair_of words
+    else if is_text word (codes "has") then has_of words
+    else if is_text word (codes "remove") then remove_of words
+    else if is_text word (codes "set") then set_of words
+    else if is_text word (codes "entry") then entry_of words
+    else if is_text word (codes "evict") then evict_of words
+    else if is_text word (codes "len") then len_of words
+    else if is_text word (codes "clear") then clear_of words
+    else if is_text word (codes "append") then append_of words
+    else if is_text word (codes "split") then split_of words
+    else if is_text word (codes "copy") then copy_of words
+    else None
+
 -- The command that the words ask for, by the first of them.
 unfoldable pub command_of_words : List (List ℕ) → Option (Command ℕ ℕ)
 command_of_words words = do
   first ← word_at words
-  if is_text first.0 (codes "insert") then insert_of first.1
-      else if is_text first.0 (codes "get") then get_of first.1
-      else if is_text first.0 (codes "pair") then pair_of first.1
-      else if is_text first.0 (codes "has") then has_of first.1
-      else if is_text first.0 (codes "remove") then remove_of first.1
-      else if is_text first.0 (codes "set") then set_of first.1
-      else if is_text first.0 (codes "entry") then entry_of first.1
-      else if is_text first.0 (codes "evict") then evict_of first.1
-      else if is_text first.0 (codes "len") then len_of first.1
-      else if is_text first.0 (codes "clear") then clear_of first.1
-      else if is_text first.0 (codes "walk") then walk_of first.1
+  if is_text first.0 (codes "walk") then walk_of first.1
       else if is_text first.0 (codes "write") then write_of first.1
-      else None
+      else if is_text first.0 (codes "extend") then extend_of first.1
+      else plain_of first.0 first.1
 
 -- The command that a line of at most 4096 bytes asks for, if it is one.
 unfoldable pub command_of : List ℕ → Option (Command ℕ ℕ)

@@ -1,7 +1,7 @@
 -- Which of the two maps a command names.
 use Rattle.fc_lines.specs.declared.command.Side.{Side}
 use Rattle.fc_lines.specs.declared.command.Command.{Command}
-use Rattle.fc_lines.specs.declared.command.Command.TheVariants.{Insert, Get, GetKeyValue, ContainsKey, Remove, Set, Entry, RemoveEntry, Len as CountPairs, Clear, Walk, Write}
+use Rattle.fc_lines.specs.declared.command.Command.TheVariants.{Insert, Get, GetKeyValue, ContainsKey, Remove, Set, Entry, RemoveEntry, Len as CountPairs, Clear, Walk, Write, Append, SplitOff, TryClone, Extend}
 
 -- The side that a command names.
 abbrev pub side_of : {K V : Type 0} → Command K V → Side
@@ -17,3 +17,7 @@ side_of (CountPairs side) = side
 side_of (Clear side) = side
 side_of (Walk side lo hi ends) = side
 side_of (Write side lo hi writes) = side
+side_of (Append side) = side
+side_of (SplitOff side k) = side
+side_of (TryClone side) = side
+side_of (Extend side pairs) = side

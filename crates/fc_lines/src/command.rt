@@ -24,7 +24,7 @@ pub enum End {
     Back,
 }
 
-/// A command on the map that its side names.
+/// A command on the map that its side names, and in three of the last four on the other map too.
 #[derive(PartialEq, Eq, Debug, Drop)]
 pub enum Command<K, V> {
     /// `try_insert` of the key and the value; replies `Value`, the old one. A new key may be refused.
@@ -54,6 +54,17 @@ pub enum Command<K, V> {
     /// A `range_mut` between the two bounds, which writes each value at the pair that its end lends, or drops it where no pair is
     /// left; replies `Len`, how many were written, or `BadRange` where the bounds are no range.
     Write(Side, Bound<K>, Bound<K>, Items<(End, V)>),
+    /// `append` of the other map, which is then empty; replies `Done`. It may be refused where neither map is empty.
+    Append(Side),
+    /// The other map becomes `split_off` of this one at the key, and its own pairs are dropped; replies `Done`. It may be refused
+    /// where this map is not empty.
+    SplitOff(Side, K),
+    /// The other map becomes `try_clone` of this one, and its own pairs are dropped; replies `Done`. It may be refused where this map
+    /// is not empty.
+    TryClone(Side),
+    /// `try_extend` by the pairs; replies `Done`. It may be refused at a pair with a new key, as `Insert` there: the pairs before it
+    /// are then in the map.
+    Extend(Side, Items<(K, V)>),
 }
 
 /// What a command answers.
@@ -75,7 +86,7 @@ pub enum Reply<K, V> {
     Pairs(Items<Option<(K, V)>>),
     /// The bounds are no range.
     BadRange,
-    /// The command was refused, and the world is as before.
+    /// The command was refused, and the world is as before, but for the pairs that `Extend` had put in.
     Refused(TryReserveError),
 }
 
@@ -97,6 +108,10 @@ impl<K, V> Command<K, V> {
             Command::Clear(side) => *side,
             Command::Walk(side, _, _, _) => *side,
             Command::Write(side, _, _, _) => *side,
+            Command::Append(side) => *side,
+            Command::SplitOff(side, _) => *side,
+            Command::TryClone(side) => *side,
+            Command::Extend(side, _) => *side,
         }
     }
 }

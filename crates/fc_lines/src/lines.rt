@@ -17,6 +17,8 @@ ghost use Rattle.fc_lines.specs.Grammar.{
   map_at,
   number_at,
   bound_at,
+  pair_at,
+  some_pairs,
   ends,
   insert_of,
   get_of,
@@ -30,6 +32,11 @@ ghost use Rattle.fc_lines.specs.Grammar.{
   clear_of,
   walk_of,
   write_of,
+  append_of,
+  split_of,
+  copy_of,
+  extend_of,
+  plain_of,
   command_of_words,
 };
 
@@ -66,32 +73,50 @@ fn command_in_words(
     let Some((word, words)) = next_word(words) else {
         return Ok(None)
     };
-    if word == b"insert".as_slice() {
-        Ok(insert_in(words))
-    } else if word == b"get".as_slice() {
-        Ok(get_in(words))
-    } else if word == b"pair".as_slice() {
-        Ok(pair_in(words))
-    } else if word == b"has".as_slice() {
-        Ok(has_in(words))
-    } else if word == b"remove".as_slice() {
-        Ok(remove_in(words))
-    } else if word == b"set".as_slice() {
-        Ok(set_in(words))
-    } else if word == b"entry".as_slice() {
-        Ok(entry_in(words))
-    } else if word == b"evict".as_slice() {
-        Ok(evict_in(words))
-    } else if word == b"len".as_slice() {
-        Ok(len_in(words))
-    } else if word == b"clear".as_slice() {
-        Ok(clear_in(words))
-    } else if word == b"walk".as_slice() {
+    if word == b"walk".as_slice() {
         walk_in(alloc, words)
     } else if word == b"write".as_slice() {
         write_in(alloc, words)
+    } else if word == b"extend".as_slice() {
+        extend_in(alloc, words)
     } else {
-        Ok(None)
+        Ok(plain_in(word, words))
+    }
+}
+
+// The command without a list that the words after its word ask for.
+#[tactic(auto, unfolding(crate::specs::Grammar::plain_of))]
+fn plain_in(word: &[u8], words: Option<&[u8]>) -> Option<Command<u64, u64>>
+    ensures { result ≡ plain_of word.entry.now (words_left words.entry) }
+{
+    if word == b"insert".as_slice() {
+        insert_in(words)
+    } else if word == b"get".as_slice() {
+        get_in(words)
+    } else if word == b"pair".as_slice() {
+        pair_in(words)
+    } else if word == b"has".as_slice() {
+        has_in(words)
+    } else if word == b"remove".as_slice() {
+        remove_in(words)
+    } else if word == b"set".as_slice() {
+        set_in(words)
+    } else if word == b"entry".as_slice() {
+        entry_in(words)
+    } else if word == b"evict".as_slice() {
+        evict_in(words)
+    } else if word == b"len".as_slice() {
+        len_in(words)
+    } else if word == b"clear".as_slice() {
+        clear_in(words)
+    } else if word == b"append".as_slice() {
+        append_in(words)
+    } else if word == b"split".as_slice() {
+        split_in(words)
+    } else if word == b"copy".as_slice() {
+        copy_in(words)
+    } else {
+        None
     }
 }
 
@@ -228,6 +253,44 @@ fn write_in(alloc: Global, words: Option<&[u8]>) -> Result<Option<Command<u64, u
     Ok(Some(Command::Write(side, lo, hi, Items::from(list))))
 }
 
+#[tactic(auto, unfolding(crate::specs::Grammar::append_of))]
+fn append_in(words: Option<&[u8]>) -> Option<Command<u64, u64>>
+    ensures { result ≡ append_of (words_left words.entry) }
+{
+    let (side, words) = next_map(words)?;
+    ending(Command::Append(side), words)
+}
+
+#[tactic(auto, unfolding(crate::specs::Grammar::split_of))]
+fn split_in(words: Option<&[u8]>) -> Option<Command<u64, u64>>
+    ensures { result ≡ split_of (words_left words.entry) }
+{
+    let (side, words) = next_map(words)?;
+    let (key, words) = next_number(words)?;
+    ending(Command::SplitOff(side, key), words)
+}
+
+#[tactic(auto, unfolding(crate::specs::Grammar::copy_of))]
+fn copy_in(words: Option<&[u8]>) -> Option<Command<u64, u64>>
+    ensures { result ≡ copy_of (words_left words.entry) }
+{
+    let (side, words) = next_map(words)?;
+    ending(Command::TryClone(side), words)
+}
+
+#[tactic(auto, unfolding(crate::specs::Grammar::extend_of))]
+fn extend_in(alloc: Global, words: Option<&[u8]>) -> Result<Option<Command<u64, u64>>, AllocError>
+    ensures { IfOk result (λ command. command ≡ extend_of (words_left words.entry)) }
+{
+    let Some((side, words)) = next_map(words) else {
+        return Ok(None)
+    };
+    let Some(list) = pairs_in(alloc, words)? else {
+        return Ok(None)
+    };
+    Ok(Some(Command::Extend(side, Items::from(list))))
+}
+
 // The ends that the letters of a word name.
 fn ends_in(alloc: Global, letters: &[u8]) -> Result<Option<Vec<End>>, AllocError>
     ensures { IfOk result (λ list. option_map vec_items list ≡ some_read end_of letters.now) }
@@ -266,6 +329,25 @@ fn writes_in(alloc: Global, words: Option<&[u8]>) -> Result<Option<Vec<(End, u64
     }
 }
 
+// The pairs of all words that are left.
+fn pairs_in(alloc: Global, words: Option<&[u8]>) -> Result<Option<Vec<(u64, u64)>>, AllocError>
+    ensures { IfOk result (λ list. option_map vec_items list ≡ some_pairs (words_left words.entry)) }
+{
+    if words.is_none() {
+        return Ok(None);
+    }
+    let mut list = Vec::new(alloc);
+    let mut words = words;
+    while words.is_some() {
+        let Some((pair, rest)) = next_pair(words) else {
+            return Ok(None)
+        };
+        list.push(pair)?;
+        words = rest;
+    }
+    Ok(Some(list))
+}
+
 // The command, if no word is left.
 fn ending(command: Command<u64, u64>, words: Option<&[u8]>) -> Option<Command<u64, u64>>
     ensures { result ≡ ends command (words_left words.entry) }
@@ -292,6 +374,15 @@ fn next_number(words: Option<&[u8]>) -> Option<(u64, Option<&[u8]>)>
     let (word, words) = next_word(words)?;
     let n = number_in(word)?;
     Some((n, words))
+}
+
+#[tactic(auto, unfolding(crate::specs::Grammar::pair_at))]
+fn next_pair(words: Option<&[u8]>) -> Option<((u64, u64), Option<&[u8]>)>
+    ensures { option_map (λ x. (x.0, words_left x.1)) result ≡ pair_at (words_left words.entry) }
+{
+    let (key, words) = next_number(words)?;
+    let (value, words) = next_number(words)?;
+    Some(((key, value), words))
 }
 
 #[tactic(auto, unfolding(crate::specs::Grammar::bound_at))]

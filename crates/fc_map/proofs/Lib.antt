@@ -8,3 +8,7 @@ pub mod ShapeFacts
 pub mod EndFacts
 pub mod WritingFacts
 pub mod PutFacts
+pub mod ExtendFacts
+pub mod PopFacts
+pub mod SplitFacts
+pub mod CopyFacts

@@ -1,6 +1,6 @@
 -- What a search of a map found.
 use Rattle.std.proofs.Common.{◌≡◌, ℕ, List, length, Some, None, Result, Ok, Err, IsSome, refl, sym, ◌∙◌}
-use Rattle.std.specs.Prelude.{OnOk, OnErr, IfOk, IfErr}
+use Rattle.std.specs.Prelude.{OnOk, OnErr}
 use Rattle.std.specs.declared.cmp.Ordering.{Ordering}
 use Rattle.fc_base.specs.OneKey.{put_by, cut}
 use Rattle.fc_base.specs.Parts.{at}
@@ -38,13 +38,13 @@ module _ {K Q V : Type 0} (cmp : K → Q → Ordering) (k : Q) where
       gap_pairs path sound.0 root sound.2.1 (gap.levels sound.0 sound.2.1) gap.way ∙ rw (a.lower, a.upper) refl
 
   -- What a search answers tells whether an equal key is there.
-  pub found_there : (m : Map K V) (r : Result (List ℕ) (List ℕ)) → IsSoundMap m → IfOk r (IsHeldAt cmp k m) → OnOk r (IsSome (at cmp (entries m) k))
-  found_there m (Ok path) sound held = held_some m path sound held
-  found_there m (Err path) sound held = tt
+  pub found_there : {A B : Type 0} (m : Map K V) (path : List ℕ) (r : Result A B) → IsSoundMap m → OnOk r (IsHeldAt cmp k m path) → OnOk r (IsSome (at cmp (entries m) k))
+  found_there m path (Ok x) sound held = held_some m path sound held
+  found_there m path (Err x) sound held = tt
 
-  pub found_none : (m : Map K V) (r : Result (List ℕ) (List ℕ)) → IsSoundMap m → IfErr r (IsOpenAt cmp k m) → OnErr r (at cmp (entries m) k ≡ None)
-  found_none m (Ok path) sound gap = tt
-  found_none m (Err path) sound gap = open_none m path sound gap
+  pub found_none : {A B : Type 0} (m : Map K V) (path : List ℕ) (r : Result A B) → IsSoundMap m → OnErr r (IsOpenAt cmp k m path) → OnErr r (at cmp (entries m) k ≡ None)
+  found_none m path (Ok x) sound gap = tt
+  found_none m path (Err x) sound gap = open_none m path sound gap
 
   -- The map with another value at the key.
   pub record IsReplaced (old new : Map K V) (v : V) : Type 0 where

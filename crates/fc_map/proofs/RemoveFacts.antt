@@ -9,11 +9,12 @@ use Rattle.fc_base.specs.Ascending.{IsAscending}
 use Rattle.fc_node.specs.declared.node.Node.{Node}
 use Rattle.fc_node.specs.Node.{pairs_of}
 use Rattle.fc_node.specs.Place.{IsPlace, place_ahead, place_behind}
-use Rattle.fc_removal.specs.Removal.{IsTreeLeft, tree_pairs}
+use Rattle.fc_node.specs.TreePlace.{IsPlaceIn, ahead_of, behind_of}
+use Rattle.fc_removal.specs.Removal.{IsSoundTree, IsTreeLeft, tree_pairs}
 use Rattle.fc_node.proofs.DepthFacts.{deep_root}
 use Rattle.fc_node.proofs.Gaps.{place_pairs}
 use Rattle.fc_map.specs.Counts.{IsMoved}
-use Rattle.fc_map.specs.Entries.{entries, root_of, IsSoundMap}
+use Rattle.fc_map.specs.Entries.{Map, entries, root_of, IsSoundMap}
 
 module _ {K V : Type 0} where
   -- The list of the map at what is left of a tree.
@@ -28,7 +29,7 @@ module _ {K V : Type 0} where
   left_sound h (Some root) le (inr lower) = (h - 1, omega arith, lower.1)
 
   -- An ascending list without one of its pairs is ascending.
-  without_ascending : (cmp : K → K → Ordering) (front back : List (K × V)) (p : K × V) → IsAscending cmp (front ++ p ∷ back) → IsAscending cmp (front ++ back)
+  pub without_ascending : (cmp : K → K → Ordering) (front back : List (K × V)) (p : K × V) → IsAscending cmp (front ++ p ∷ back) → IsAscending cmp (front ++ back)
   without_ascending cmp [] back p a = a.1
   without_ascending cmp (x ∷ front) back p a = (dropped front a.0, without_ascending cmp front back p a.1)
     where
@@ -57,3 +58,20 @@ module _ {K V : Type 0} where
   -- The moves of a removal from a tree.
   pub left_moves : (root : Node K V) (sound : IsSoundMap (Some root)) (old new : Count) → new.moves ≤ old.moves + 18 * (sound.0 + 1) → IsMoved (length (pairs_of root)) old new
   left_moves root sound old new few = (sound.0, deep_root sound.0 root sound.2, few)
+
+  -- The same of a map.
+  pub map_height : (m : Map K V) (path : List ℕ) → IsSoundMap m → IsPlaceIn m path → (h : ℕ) × IsSoundTree h m
+  map_height None path sound place = absurd place
+  map_height (Some root) path sound place = (sound.0, sound.2)
+
+  pub map_length : (m : Map K V) (path : List ℕ) → IsSoundMap m → IsPlaceIn m path → (left : Option (Box (Node K V) Global)) → tree_pairs left ≡ ahead_of m path ++ behind_of m path → length (entries m) ≡ length (entries (root_of left)) + 1
+  map_length None path sound place left rest = absurd place
+  map_length (Some root) path sound place left rest = left_length root path sound place left rest
+
+  pub map_kept : (m : Map K V) (path : List ℕ) → IsSoundMap m → IsPlaceIn m path → (left : Option (Box (Node K V) Global)) → tree_pairs left ≡ ahead_of m path ++ behind_of m path → (cmp : K → K → Ordering) → IsAscending cmp (entries m) → ((h : ℕ) → IsSoundTree h m → IsTreeLeft h left) → IsAscending cmp (entries (root_of left)) × IsSoundMap (root_of left)
+  map_kept None path sound place left rest cmp ascending l = absurd place
+  map_kept (Some root) path sound place left rest cmp ascending l = left_kept root path sound place left rest cmp ascending (l sound.0 sound.2)
+
+  pub map_moves : (m : Map K V) (path : List ℕ) → IsSoundMap m → IsPlaceIn m path → (old new : Count) → ((h : ℕ) → IsSoundTree h m → new.moves ≤ old.moves + 18 * (h + 1)) → IsMoved (length (entries m)) old new
+  map_moves None path sound place old new few = absurd place
+  map_moves (Some root) path sound place old new few = left_moves root sound old new (few sound.0 sound.2)

@@ -8,3 +8,5 @@ pub mod Entry
 pub mod Writing
 pub mod Walks
 pub mod Stretches
+pub mod Compare
+pub mod CompareLaws

@@ -1,5 +1,5 @@
 //! The ordered map, a B-tree.
-ghost use Rattle.std.specs.Prelude.{◌≡◌, ◌+◌, ◌-◌, ◌^◌, ◌<◌, ◌≤◌, ◌↔◌, ◌⊎◌, [], ◌∷◌, length, IsTrue, IsSome, IsOk, IsErr, IfOk, IfErr, OnOk, OnErr, MatchResult, None, Some, Ok, option_copied, unwrap_or};
+ghost use Rattle.std.specs.Prelude.{◌≡◌, ◌+◌, ◌-◌, ◌^◌, ◌<◌, ◌≤◌, ◌↔◌, ◌⊎◌, [], ◌∷◌, length, IsTrue, IsSome, IsOk, IsErr, IfOk, IfErr, OnOk, OnErr, None, Some, option_copied};
 ghost use Rattle.std.specs.Option.{option_map};
 ghost use Rattle.fc_base.specs.Ascending.{IsAscending};
 ghost use Rattle.fc_base.specs.Growth.{MayGrowRefuse};
@@ -7,16 +7,22 @@ ghost use Rattle.fc_base.specs.OneKey.{put, cut};
 ghost use Rattle.fc_base.specs.Parts.{at, value_at};
 ghost use Rattle.fc_insertion.specs.Arrival.{IsPutAt};
 ghost use Rattle.fc_search.specs.Found.{IsGap};
-ghost use Rattle.fc_node.specs.Node.{pairs_of};
+ghost use Rattle.fc_node.specs.Leaf.{leaf_at};
+ghost use Rattle.fc_node.specs.Node.{own_pairs, pairs_of};
 ghost use Rattle.fc_node.specs.Path.{before, after};
 ghost use Rattle.fc_map.specs.Counts.{IsBounded, IsMoved};
 ghost use Rattle.fc_map.specs.Entries.{entries, IsSoundMap, now_value, now_pair, passed_in};
 ghost use Rattle.fc_map.specs.LendsKey.{path_in};
-ghost use Rattle.fc_map.specs.Place.{IsHeldAt, IsOpenAt, IsPutIn};
+ghost use Rattle.fc_map.specs.Place.{IsHeldAt, IsOpenAt, IsPutIn, TellsRoom};
 ghost use Rattle.fc_node.specs.TreePlace.{before_of, after_of};
 
+mod append;
 mod bounds;
+mod compare;
+mod copy;
+mod ends;
 mod entry;
+mod extend;
 mod gaps;
 mod get_mut;
 mod index;
@@ -26,17 +32,18 @@ mod iter_mut;
 mod places;
 mod range;
 mod range_mut;
+mod split_off;
 mod values;
 
 pub use bounds::is_range;
 pub use entry::{Entry, OccupiedEntry, VacantEntry};
 use fc_base::{Count, Query, TryReserveError};
 use fc_insertion::insertion::{first_leaf, insert};
-use fc_insertion::leaf::{has_room, insert_in_leaf};
+use fc_insertion::leaf::insert_in_leaf;
 use fc_insertion::room::try_room;
 use fc_node::node::Node;
 use fc_node::path::Path;
-use fc_search::search;
+use fc_search::search::{self, Gap};
 pub use into_iter::IntoIter;
 pub use iter::{Iter, Keys, Values};
 pub use iter_mut::{IterMut, ValuesMut};
@@ -174,11 +181,13 @@ impl<K: Ord, V> BTreeMap<K, V> {
         self.pair_at(key, count).is_some()
     }
 
-    // Where the key stands, or where it would go.
-    fn locate<Q: Query<K>>(&self, key: Q, count: &mut Count) -> Result<Path, Path>
-        ensures found { IfOk result (IsHeldAt Q.order (Q.sought key) self.now) }
-        ensures gap { IfErr result (IsOpenAt Q.order (Q.sought key) self.now) }
-        ensures path { MatchResult result (λ p. p ≡ path_in Q.order (Q.sought key) self.now) (λ p. p ≡ path_in Q.order (Q.sought key) self.now) }
+    // Fills `path`, which has no step yet, with the way to where the key stands, or else to where it would go.
+    fn locate<Q: Query<K>>(&self, key: Q, path: &mut Path, count: &mut Count) -> Result<(), Gap>
+        requires start { path.old ≡ [] }
+        ensures found { OnOk result (IsHeldAt Q.order (Q.sought key) self.now path.new) }
+        ensures gap { OnErr result (IsOpenAt Q.order (Q.sought key) self.now path.new) }
+        ensures room { IfErr result (λ gap. TellsRoom gap.has_room path.new self.now) }
+        ensures path { path.new ≡ path_in Q.order (Q.sought key) self.now }
         ensures present { OnOk result (IsSome (at Q.order (entries self.now) (Q.sought key))) }
         ensures absent { OnErr result (at Q.order (entries self.now) (Q.sought key) ≡ None) }
         ensures sound { IsSoundMap self.now }
@@ -188,8 +197,8 @@ impl<K: Ord, V> BTreeMap<K, V> {
         ensures bounded { IsBounded (length (entries self.now)) count.old count.new }
     {
         match &self.root {
-            None => Err(Path::new()),
-            Some(root) => search::search(root, key, count),
+            None => Err(Gap { has_room: false }),
+            Some(root) => search::search(root, key, path, count),
         }
     }
 
@@ -261,10 +270,11 @@ impl<K: Ord + Drop, V: Drop> BTreeMap<K, V> {
         ensures moved { OnOk result (at K.cmp (entries self.old) key ≡ None → count.old.moves < count.new.moves) }
         ensures bounded { IsBounded (length (entries self.new)) count.old count.new }
     {
-        match self.locate(&key, count) {
-            Ok(path) => Ok(Some(self.replace_at(&path, &key, value))),
-            Err(path) => match self.insert_at(path, key, value, count) {
-                Ok(_) => Ok(None),
+        let mut path = Path::new();
+        match self.locate(&key, &mut path, count) {
+            Ok(()) => Ok(Some(self.replace_at(&path, &key, value))),
+            Err(gap) => match self.insert_at(&mut path, gap.has_room, key, value, count) {
+                Ok(()) => Ok(None),
                 Err(e) => Err(e),
             },
         }
@@ -295,8 +305,9 @@ impl<K: Ord + Drop, V: Drop> BTreeMap<K, V> {
         ensures moved { IsSome (at Q.order (entries self.old) (Q.sought key)) → count.old.moves < count.new.moves }
         ensures bounded { IsBounded (length (entries self.old)) count.old count.new }
     {
-        match self.locate(key, count) {
-            Ok(path) => Some(self.remove_at(&path, key, count).1),
+        let mut path = Path::new();
+        match self.locate(key, &mut path, count) {
+            Ok(()) => Some(self.remove_at(&path, key, count).1),
             Err(_) => None,
         }
     }
@@ -314,18 +325,20 @@ impl<K: Ord + Drop, V: Drop> BTreeMap<K, V> {
         mem::replace(self.value_mut(path), value)
     }
 
-    // Puts a pair with a new key into the gap that the path leads to, and answers the path to it.
+    // Puts a pair with a new key into the gap that the path leads to, by what is known of its leaf. The path then leads to the pair.
     #[inline(always)]
     fn insert_at(
         &mut self,
-        path: Path,
+        path: &mut Path,
+        has_room: bool,
         key: K,
         value: V,
         count: &mut Count,
-    ) -> Result<Path, TryReserveError>
-        requires gap { IsOpenAt K.cmp key self.old path }
+    ) -> Result<(), TryReserveError>
+        requires gap { IsOpenAt K.cmp key self.old path.old }
+        requires room { TellsRoom has_room path.old self.old }
         ensures put { OnOk result (entries self.new ≡ put K.cmp (entries self.old) key value) }
-        ensures place { IfOk result (λ place. IsPutIn place self.new (key, value) (before_of self.old path) (after_of self.old path)) }
+        ensures place { OnOk result (IsPutIn path.new self.new (key, value) (before_of self.old path.old) (after_of self.old path.old)) }
         ensures unchanged { OnErr result (self.new ≡ self.old) }
         ensures error { IfErr result (MayGrowRefuse (length (entries self.old))) }
         ensures full { length (entries self.old) ≡ usize.MAX → IsErr result }
@@ -341,19 +354,26 @@ impl<K: Ord + Drop, V: Drop> BTreeMap<K, V> {
             return Err(TryReserveError::CapacityOverflow);
         }
         let Some(root) = &mut self.root else {
-            return self.insert_first(key, value, count);
+            return self.insert_first(path, key, value, count);
         };
-        let moved = insert_in(self.alloc, root, path.as_slice(), (key, value), count)?;
+        insert_in(self.alloc, root, path, has_room, (key, value), count)?;
         self.len += 1;
-        Ok(moved.unwrap_or(path))
+        Ok(())
     }
 
-    // Puts the first pair into an empty map, and answers the path to it.
+    // Puts the first pair into an empty map. The path, which has no step, then leads to it.
     #[inline(never)]
-    fn insert_first(&mut self, key: K, value: V, count: &mut Count) -> Result<Path, TryReserveError>
-        requires { self.old ≡ None }
+    fn insert_first(
+        &mut self,
+        path: &mut Path,
+        key: K,
+        value: V,
+        count: &mut Count,
+    ) -> Result<(), TryReserveError>
+        requires empty { self.old ≡ None }
+        requires start { path.old ≡ [] }
         ensures put { OnOk result (entries self.new ≡ (key, value) ∷ []) }
-        ensures place { IfOk result (λ place. IsPutIn place self.new (key, value) [] []) }
+        ensures place { OnOk result (IsPutIn path.new self.new (key, value) [] []) }
         ensures unchanged { OnErr result (self.new ≡ self.old) }
         ensures error { IfErr result (λ e. e ≡ TryReserveError.AllocError) }
         ensures ascending { IsAscending K.cmp (entries self.new) }
@@ -366,7 +386,8 @@ impl<K: Ord + Drop, V: Drop> BTreeMap<K, V> {
         let root = first_leaf(self.alloc, (key, value), count)?;
         self.root = Some(root);
         self.len = 1;
-        Ok(Path::of(&[0]))
+        path.push(0);
+        Ok(())
     }
 
     // Takes the pair with the key, to which the path leads, out.
@@ -386,20 +407,23 @@ impl<K: Ord + Drop, V: Drop> BTreeMap<K, V> {
     }
 }
 
-// Puts a pair with a new key into the gap of the tree that the path leads to, and answers the path to it where that is another.
+// Puts a pair with a new key into the gap of the tree that the path leads to, by what is known of its leaf. The path then leads to
+// the pair.
 #[inline(always)]
 fn insert_in<K: Ord + Drop, V: Drop>(
     alloc: Global,
     root: &mut Box<Node<K, V>>,
-    path: &[u8],
+    path: &mut Path,
+    has_room: bool,
     pair: (K, V),
     count: &mut Count,
-) -> Result<Option<Path>, TryReserveError>
-    requires gap { IsGap K.cmp pair.0 root.old.value path.now }
+) -> Result<(), TryReserveError>
+    requires gap { IsGap K.cmp pair.0 root.old.value path.old }
+    requires room { IsTrue has_room ↔ (length (own_pairs (leaf_at path.old root.old.value)) < 11) }
     requires sound { IsSoundMap (Some root.old.value) }
     requires fits { length (pairs_of root.old.value) < usize.MAX }
     ensures put { OnOk result (pairs_of root.new.value ≡ put K.cmp (pairs_of root.old.value) pair.0 pair.1) }
-    ensures place { IfOk result (λ moved. IsPutAt (unwrap_or moved path.now) root.new.value pair (before path.now root.old.value) (after path.now root.old.value)) }
+    ensures place { OnOk result (IsPutAt path.new root.new.value pair (before path.old root.old.value) (after path.old root.old.value)) }
     ensures length { OnOk result (length (pairs_of root.new.value) ≡ length (pairs_of root.old.value) + 1) }
     ensures sound { IsSoundMap (Some root.new.value) }
     ensures unchanged { OnErr result (root.new ≡ root.old) }
@@ -410,11 +434,11 @@ fn insert_in<K: Ord + Drop, V: Drop>(
     ensures moves { OnOk result (IsMoved (length (pairs_of root.new.value)) count.old count.new) }
     ensures moved { OnOk result (count.old.moves < count.new.moves) }
 {
-    if has_room(root, path) {
-        insert_in_leaf(root, path, pair, count);
-        return Ok(None);
+    if has_room {
+        insert_in_leaf(root, path.as_slice(), pair, count);
+        return Ok(());
     }
-    Ok(Some(insert_split(alloc, root, path, pair, count)?))
+    insert_split(alloc, root, path, pair, count)
 }
 
 // As `insert_in`, where a leaf is split. It is not inlined, since its caller would then pay for its locals where none is split.
@@ -422,15 +446,15 @@ fn insert_in<K: Ord + Drop, V: Drop>(
 fn insert_split<K: Ord + Drop, V: Drop>(
     alloc: Global,
     root: &mut Box<Node<K, V>>,
-    path: &[u8],
+    path: &mut Path,
     pair: (K, V),
     count: &mut Count,
-) -> Result<Path, TryReserveError>
-    requires gap { IsGap K.cmp pair.0 root.old.value path.now }
+) -> Result<(), TryReserveError>
+    requires gap { IsGap K.cmp pair.0 root.old.value path.old }
     requires sound { IsSoundMap (Some root.old.value) }
     requires fits { length (pairs_of root.old.value) < usize.MAX }
     ensures put { OnOk result (pairs_of root.new.value ≡ put K.cmp (pairs_of root.old.value) pair.0 pair.1) }
-    ensures place { IfOk result (λ place. IsPutAt place root.new.value pair (before path.now root.old.value) (after path.now root.old.value)) }
+    ensures place { OnOk result (IsPutAt path.new root.new.value pair (before path.old root.old.value) (after path.old root.old.value)) }
     ensures length { OnOk result (length (pairs_of root.new.value) ≡ length (pairs_of root.old.value) + 1) }
     ensures sound { IsSoundMap (Some root.new.value) }
     ensures unchanged { OnErr result (root.new ≡ root.old) }
@@ -441,6 +465,7 @@ fn insert_split<K: Ord + Drop, V: Drop>(
     ensures moves { OnOk result (IsMoved (length (pairs_of root.new.value)) count.old count.new) }
     ensures moved { OnOk result (count.old.moves < count.new.moves) }
 {
-    let room = try_room(alloc, root, path)?;
-    Ok(insert(root, path, pair, room, count))
+    let room = try_room(alloc, root, path.as_slice())?;
+    insert(root, path, pair, room, count);
+    Ok(())
 }

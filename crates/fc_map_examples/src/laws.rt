@@ -2,11 +2,12 @@
 ghost use Rattle.std.specs.Prelude.{◌≡◌, ◌+◌, List, [], ◌∷◌, ◌++◌, length, IsSome, IfOk, OnOk, OnErr, MatchOption, None, Some};
 ghost use Rattle.std.specs.declared.cmp.Ordering.TheVariants.{Equal};
 ghost use Rattle.fc_base.specs.Ascending.{IsAscending};
+ghost use Rattle.fc_base.specs.Copies.{IsExact};
 ghost use Rattle.fc_base.specs.OneKey.{put, cut};
 ghost use Rattle.fc_base.specs.Parts.{at, value_at};
 ghost use Rattle.fc_map.specs.Entries.{entries};
 
-use fc_base::TryReserveError;
+use fc_base::{TryClone, TryReserveError};
 use fc_map::map::BTreeMap;
 
 /// Puts a value at a key, and looks an equal key up: the value stands there.
@@ -162,4 +163,15 @@ fn last_key<K: Ord + Copy + Drop, V: Drop>(map: &BTreeMap<K, V>) -> Option<K>
     let mut walk = map.iter();
     let (key, _value) = walk.next_back()?;
     Some(*key)
+}
+
+/// A copy of a map whose keys and values have exact copies: it holds the same pairs.
+pub fn exact_copy<K: Ord + TryClone, V: TryClone>(
+    map: &BTreeMap<K, V>,
+) -> Result<BTreeMap<K, V>, TryReserveError>
+    requires copied { ⟦<BTreeMap<K, V> as TryClone>⟧.can_clone }
+    requires exact { IsExact K.same × IsExact V.same }
+    ensures { IfOk result (λ copy. entries copy ≡ entries map.now) }
+{
+    map.try_clone()
 }

@@ -1,7 +1,9 @@
 //! Callers of the ordered map whose contracts are proved from the map's public clauses alone: forms to start from.
 #![tactic(auto)]
 
+pub mod compare;
 pub mod entry;
+pub mod extend;
 pub mod into_iter;
 pub mod iter;
 pub mod iter_mut;

@@ -2,6 +2,10 @@
 #![tactic(auto)]
 
 #[cfg(test)]
+mod compare;
+#[cfg(test)]
+mod ends;
+#[cfg(test)]
 mod get_mut;
 #[cfg(test)]
 mod into_iter;

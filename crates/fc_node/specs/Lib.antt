@@ -8,4 +8,5 @@ pub mod Split
 pub mod Siblings
 pub mod Bordered
 pub mod Place
+pub mod Leaf
 pub mod Depth

@@ -23,3 +23,8 @@ root_of (Some root) = Some root.value
 abbrev pub IsSoundMap : {K V : Type 0} → Map K V → Type 0
 IsSoundMap None = Unit {0}
 IsSoundMap (Some root) = (h : ℕ) × (h ≤ 24) × IsSoundRoot h root
+
+-- The tree is sound and has at most h levels below its root, if there is one.
+abbrev pub IsSoundWithin : {K V : Type 0} → ℕ → Map K V → Type 0
+IsSoundWithin h None = Unit {0}
+IsSoundWithin h (Some root) = (g : ℕ) × (g ≤ h) × IsSoundRoot g root

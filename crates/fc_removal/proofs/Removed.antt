@@ -1,5 +1,5 @@
 -- A node from which a pair was removed, by what is left below it.
-use Rattle.std.proofs.Common.{◌≡◌, ℕ, suc, zero, ◌+◌, ◌-◌, ◌<◌, ◌≤◌, List, [], ◌∷◌, ◌++◌, length, get_or, map, take, drop, refl, sym, ap, subst, ◌∙◌, arith, append_assoc, add-one, append-nil, inr, Box, Some}
+use Rattle.std.proofs.Common.{length-append, ◌≡◌, ℕ, suc, zero, ◌+◌, ◌-◌, ◌<◌, ◌≤◌, List, [], ◌∷◌, ◌++◌, length, get_or, map, take, drop, refl, sym, ap, subst, ◌∙◌, arith, append_assoc, add-one, append-nil, inr, Box, Some}
 use Rattle.std.specs.Prelude.{slice_set, slice_range, slice_get, ◌⊎◌}
 use Rattle.std.specs.List.{AllByRecursion, remove}
 use Rattle.std.proofs.lemmas.List.Edits.{length-remove}
@@ -15,7 +15,8 @@ use Rattle.fc_node.proofs.Lists.{length_take, take_drop, set_is, length_set, all
 use Rattle.fc_node.proofs.Weaves.{weave_parts}
 use Rattle.fc_node.proofs.Pairs.{pairs_is, leaf_children, leaf_pairs, child_is, child_below}
 use Rattle.fc_node.proofs.Made.{IsChildSet, children_in, inner_length}
-use Rattle.fc_node.proofs.Gaps.{drop_item, inner_gap, item_there}
+use Rattle.fc_node.proofs.Cuts.{last_out}
+use Rattle.fc_node.proofs.Gaps.{drop_item, inner_gap, item_there, lead_pair, rest_none}
 use Rattle.fc_node.proofs.Siblings.{around_one}
 
 module _ {X : Type 0} where
@@ -121,6 +122,28 @@ module _ {K V : Type 0} where
   pub first_removed : (old mid child c : Node K V) (x : K × V) → IsInner old → IsChildSet old mid 0 c → child ≡ child_at old 0 → pairs_of child ≡ x ∷ pairs_of c → pairs_of old ≡ x ∷ pairs_of mid
   first_removed old mid child c x inner m ci e =
       inner_gap old 0 inner (omega arith) ∙ ap (λ n. pairs_of n ++ rest_in old 0) (sym ci) ∙ ap (λ zs. zs ++ rest_in old 0) e ∙ ap (λ zs. x ∷ zs) (sym (set_gap old mid c 0 inner (omega arith) m))
+
+  pub last_removed : (old mid child c : Node K V) (i : ℕ) (x : K × V) → i ≡ length (own_pairs old) → IsInner old → IsChildSet old mid i c → child ≡ child_at old i → pairs_of child ≡ pairs_of c ++ x ∷ [] → pairs_of old ≡ pairs_of mid ++ x ∷ []
+  last_removed old mid child c i x end inner m ci e =
+      let lead = lead_in old i in
+      let none = rest_none old i (omega arith) in
+      inner_gap old i inner (omega arith) ∙ ap (λ r. lead ++ (pairs_of (child_at old i) ++ r)) none ∙ ap (λ zs. lead ++ zs) (append-nil (pairs_of (child_at old i)) ∙ sym (ap pairs_of ci) ∙ e)
+      ∙ sym (append_assoc lead (pairs_of c) (x ∷ []))
+      ∙ ap (λ zs. zs ++ x ∷ []) (sym (set_gap old mid c i inner (omega arith) m ∙ ap (λ r. lead ++ (pairs_of c ++ r)) none ∙ ap (λ zs. lead ++ zs) (append-nil (pairs_of c))))
+
+  pub last_taken : (old new : Node K V) (i : ℕ) (x : K × V) → IsLeaf old → IsLeaf new → i + 1 ≡ length (own_pairs old) → x ≡ get_or (own_pairs old) i x → own_pairs new ≡ remove (own_pairs old) i → pairs_of old ≡ pairs_of new ++ x ∷ []
+  last_taken old new i x l l' end e f = leaf_pairs old l ∙ last_out (own_pairs old) i x end e ∙ ap (λ ps. ps ++ x ∷ []) (sym (leaf_pairs new l' ∙ f))
+
+  -- the last child holds fewer pairs than the node
+  pub fewer_last : (h : ℕ) (n child : Node K V) (i : ℕ) → IsLevelled (suc h) n → 1 ≤ length (own_pairs n) → i ≡ length (own_pairs n) → child ≡ child_at n i → length (pairs_of child) < length (pairs_of n)
+  fewer_last h n child zero l some end ci = absurd (omega arith)
+  fewer_last h n child (suc j) l some end ci =
+      let d = (item_there (own_pairs n) j (omega arith)).0 in
+      let lead = ap length (lead_pair (suc h) n j d l (omega arith)) ∙ length-append (ahead_in n j) (get_or (own_pairs n) j d ∷ []) in
+      let whole = ap length (inner_gap n (suc j) l.1 (omega arith)) ∙ length-append (lead_in n (suc j)) (pairs_of (child_at n (suc j)) ++ rest_in n (suc j)) in
+      let back = length-append (pairs_of (child_at n (suc j))) (rest_in n (suc j)) in
+      let same : length (pairs_of child) ≡ length (pairs_of (child_at n (suc j))) = ap (λ m. length (pairs_of m)) ci in
+      omega arith
 
   -- the node with another pair of its own at a place and another child behind it
   pub record IsOwnSet (old mid : Node K V) (i : ℕ) (next : K × V) (c : Node K V) : Type 0 where

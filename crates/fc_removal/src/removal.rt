@@ -1,40 +1,61 @@
 //! Removal at a place, which mends the nodes above it on its way up.
-ghost use Rattle.std.specs.Prelude.{◌≡◌, ℕ, suc, ◌+◌, ◌-◌, ◌*◌, ◌<◌, ◌≤◌, [], ◌∷◌, ◌++◌, length};
+ghost use Rattle.std.specs.Prelude.{◌≡◌, ℕ, suc, ◌+◌, ◌-◌, ◌*◌, ◌<◌, ◌≤◌, [], ◌∷◌, ◌++◌, length, Some};
+ghost use Rattle.std.specs.declared.boxed.Box.{Box};
+ghost use Rattle.std.specs.declared.alloc.Global.{Global};
 ghost use Rattle.fc_node.specs.Node.{own_pairs, child_at, pairs_of, IsLevelled, IsSoundRoot};
 ghost use Rattle.fc_node.specs.Place.{IsPlace, place_pair, place_ahead, place_behind};
 ghost use Rattle.fc_node.specs.Siblings.{IsMerged, IsShared};
+ghost use Rattle.fc_node.specs.Tree.{root_of};
+ghost use Rattle.fc_node.specs.TreePlace.{IsPlaceIn, pair_in, ahead_of, behind_of};
 ghost use Rattle.fc_removal.specs.Mending.{together, IsShortAt};
-ghost use Rattle.fc_removal.specs.Removal.{IsShrunk, IsTreeLeft, tree_pairs};
+ghost use Rattle.fc_removal.specs.Removal.{IsShrunk, IsSoundTree, IsTreeLeft, tree_pairs};
 
 use fc_base::Count;
 use fc_node::node::{CAPACITY, MIN_LEN, Node};
 
-/// Takes the pair at the place out of the tree below `root`, and hands out what is left of the tree: none where that was the
-/// only pair. It compares nothing and takes no memory.
+/// Takes the pair at the place out of the tree, of which nothing is left where that was the only pair. It compares nothing and takes
+/// no memory.
 pub fn remove<K: Drop, V: Drop>(
-    root: Box<Node<K, V>>,
+    tree: &mut Option<Box<Node<K, V>>>,
     path: &[u8],
     count: &mut Count,
-) -> ((K, V), Option<Box<Node<K, V>>>)
-    requires sound { (h : ℕ) × IsSoundRoot h root.value }
-    requires place { IsPlace path.now root.value }
-    ensures pair { place_pair path.now root.value ≡ Some result.0 }
-    ensures pairs { tree_pairs result.1 ≡ place_ahead path.now root.value ++ place_behind path.now root.value }
+) -> (K, V)
+    requires sound { (h : ℕ) × IsSoundTree h (root_of tree.old) }
+    requires place { IsPlaceIn (root_of tree.old) path.now }
+    ensures pair { pair_in (root_of tree.old) path.now ≡ Some result }
+    ensures pairs { tree_pairs tree.new ≡ ahead_of (root_of tree.old) path.now ++ behind_of (root_of tree.old) path.now }
 
     // The tree is as high as before or one level lower.
-    ensures levels { (h : ℕ) → IsSoundRoot h root.value → IsTreeLeft h result.1 }
-    ensures moves { (h : ℕ) → IsSoundRoot h root.value → count.new.moves ≤ count.old.moves + 18 * (h + 1) }
+    ensures levels { (h : ℕ) → IsSoundTree h (root_of tree.old) → IsTreeLeft h tree.new }
+    ensures moves { (h : ℕ) → IsSoundTree h (root_of tree.old) → count.new.moves ≤ count.old.moves + 18 * (h + 1) }
     ensures moved { count.old.moves < count.new.moves }
     ensures comparisons { count.new.comparisons ≡ count.old.comparisons }
 {
-    let mut root = root;
-    let node: &mut Node<K, V> = &mut root;
+    let Some(root) = tree else { unreachable!() };
+    let node: &mut Node<K, V> = root;
     let pair = remove_at(node, path, count);
-    (pair, without_empty_root(root))
+    if node.len() > 0 {
+        return pair;
+    }
+    take_empty_root(tree);
+    pair
+}
+
+// Takes a root without pairs out of the tree. It is not inlined, since few removals come to it.
+#[inline(never)]
+fn take_empty_root<K: Drop, V: Drop>(tree: &mut Option<Box<Node<K, V>>>)
+    requires { (root : Box (Node K V) Global) × (tree.old ≡ Some root) × (h : ℕ) × IsLevelled h root.value }
+    ensures pairs { tree_pairs tree.new ≡ tree_pairs tree.old }
+    ensures levels { (root : Box (Node K V) Global) → tree.old ≡ Some root → (h : ℕ) → IsLevelled h root.value → IsTreeLeft h tree.new }
+{
+    let Some(root) = tree.take() else {
+        unreachable!()
+    };
+    *tree = without_empty_root(root);
 }
 
 // A root without pairs gives way to its only child.
-fn without_empty_root<K: Drop, V: Drop>(root: Box<Node<K, V>>) -> Option<Box<Node<K, V>>>
+pub(crate) fn without_empty_root<K: Drop, V: Drop>(root: Box<Node<K, V>>) -> Option<Box<Node<K, V>>>
     requires { (h : ℕ) × IsLevelled h root.value }
     ensures pairs { tree_pairs result ≡ pairs_of root.value }
     ensures levels { (h : ℕ) → IsLevelled h root.value → IsTreeLeft h result }
@@ -100,7 +121,7 @@ fn remove_own<K: Drop, V: Drop>(node: &mut Node<K, V>, index: usize, count: &mut
 }
 
 // Takes the first pair in the node or below it out.
-fn remove_first<K: Drop, V: Drop>(node: &mut Node<K, V>, count: &mut Count) -> (K, V)
+pub(crate) fn remove_first<K: Drop, V: Drop>(node: &mut Node<K, V>, count: &mut Count) -> (K, V)
     requires sound { (h : ℕ) × IsSoundRoot h node.old }
     ensures pairs { pairs_of node.old ≡ result ∷ pairs_of node.new }
     ensures levels { (h : ℕ) → IsSoundRoot h node.old → IsShrunk h node.old node.new }
@@ -121,7 +142,7 @@ fn remove_first<K: Drop, V: Drop>(node: &mut Node<K, V>, count: &mut Count) -> (
 
 // Mends the child at `index` where it has fewer than 5 pairs.
 #[inline]
-fn mend_child<K: Drop, V: Drop>(node: &mut Node<K, V>, index: usize, count: &mut Count)
+pub(crate) fn mend_child<K: Drop, V: Drop>(node: &mut Node<K, V>, index: usize, count: &mut Count)
     requires { (h : ℕ) × IsShortAt h node.old index }
 
     // A child that has 5 pairs stays.

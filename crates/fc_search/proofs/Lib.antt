@@ -5,3 +5,4 @@ pub mod Nodes
 pub mod WrittenFacts
 pub mod WrittenPairs
 pub mod WayFacts
+pub mod EndFacts

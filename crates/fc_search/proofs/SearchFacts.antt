@@ -12,6 +12,7 @@ use Rattle.fc_base.specs.Parts.{below, above, at}
 use Rattle.fc_base.specs.Query.{IsQueryOrder}
 use Rattle.fc_node.specs.declared.node.Node.{Node}
 use Rattle.fc_node.specs.Node.{own_pairs, children_of, child_at, pairs_of, IsLeaf, IsLevelled}
+use Rattle.fc_node.specs.Leaf.{leaf_at}
 use Rattle.fc_node.specs.Path.{before, after}
 use Rattle.fc_node.specs.Place.{lead_in, rest_in, ahead_in, behind_in, IsDescent, node_at, place_pair, place_ahead, place_behind}
 use Rattle.fc_node.specs.Node.{IsTree}
@@ -37,6 +38,12 @@ module _ {K Q V : Type 0} (cmp : K → Q → Ordering) (k : Q) where
 pub one_longer : (path more : List ℕ) (i : ℕ) → more ≡ path ++ i ∷ [] → length more ≡ length path + 1
 one_longer path more i e = ap length e ∙ length-append path (i ∷ [])
 
+-- a path ends in the node that all its steps but the last lead to
+leaf_more : {K V : Type 0} (path : List ℕ) (i : ℕ) (n : Node K V) → leaf_at (path ++ i ∷ []) n ≡ node_at path n
+leaf_more [] i n = refl
+leaf_more (j ∷ []) i n = refl
+leaf_more (j ∷ k ∷ path) i n = leaf_more (k ∷ path) i (child_at n j)
+
 -- a levelled node that is no leaf has a child at each gap
 pub child_there : {K V : Type 0} (h : ℕ) (n : Node K V) (i : ℕ) → IsLevelled h n → (IsLeaf n → IsTrue false) → i ≤ length (own_pairs n) → i < length (children_of n)
 child_there zero n i l not_leaf le = let no : false ≡ true = not_leaf l.1 in absurd cc
@@ -53,6 +60,10 @@ module _ {K Q V : Type 0} (cmp : K → Q → Ordering) (k : Q) where
   -- the levels of the node that a search has come to
   pub way_levels : {root node : Node K V} {path : List ℕ} (t : IsTree root) → IsOnWay cmp k root node path → (g : ℕ) × (length path + g ≡ t.0) × IsLevelled g node
   way_levels {root} {node} {path} t w = let d = descent_levels path t.0 root t.2 w.descent in (d.0, d.1, subst (IsLevelled d.0) (sym w.here) d.2)
+
+  -- the path with one more step ends in it
+  pub way_leaf : {root node : Node K V} {path : List ℕ} (i : ℕ) (more : List ℕ) → more ≡ path ++ i ∷ [] → IsOnWay cmp k root node path → leaf_at more root ≡ node
+  way_leaf {root} {node} {path} i more e w = ap (λ p. leaf_at p root) e ∙ leaf_more path i root ∙ sym w.here
 
   -- a path has room for its steps
   pub way_room : {root node : Node K V} {path : List ℕ} → IsTree root → IsOnWay cmp k root node path → length path < 25

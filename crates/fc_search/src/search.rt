@@ -1,14 +1,15 @@
 //! Search for a key, in a node and down a tree.
-ghost use Rattle.std.specs.Prelude.{◌≡◌, ℕ, ◌+◌, ◌*◌, ◌≤◌, length, IfOk, IfErr, MatchResult, option_copied};
+ghost use Rattle.std.specs.Prelude.{◌≡◌, ℕ, ◌+◌, ◌*◌, ◌<◌, ◌≤◌, ◌↔◌, [], length, IsTrue, IfOk, IfErr, OnOk, OnErr, option_copied};
 ghost use Rattle.fc_base.specs.Ascending.{IsAscending};
 ghost use Rattle.fc_base.specs.Parts.{at};
+ghost use Rattle.fc_node.specs.Leaf.{leaf_at};
 ghost use Rattle.fc_node.specs.Node.{own_pairs, pairs_of, IsLevelled, IsTree};
 ghost use Rattle.fc_search.specs.Found.{IsFoundAt, IsGapAt, IsFound, IsGap, seen};
 ghost use Rattle.fc_search.specs.Passed.{passed};
 ghost use Rattle.fc_search.specs.Way.{path_to};
 
 use fc_base::{Count, Query, compare};
-use fc_node::node::Node;
+use fc_node::node::{CAPACITY, Node};
 use fc_node::path::Path;
 
 // Where the key stands among the node's own, or else the gap where it would go. From the left each key is compared, until
@@ -34,34 +35,45 @@ fn search_node<K: Ord, V, Q: Query<K>>(
     Err(n)
 }
 
-/// Where the key stands in the tree at `root`: `Ok` with the path to the pair that has an equal key, or `Err` with the path
-/// down to the gap between the pairs of a leaf where it would go. It compares each key that it passes once, and moves no pair.
+/// What a search tells of the gap that it ends in.
+#[derive(Clone, Copy)]
+pub struct Gap {
+    /// Whether the leaf has room for another pair.
+    pub has_room: bool,
+}
+
+/// Fills `path`, which has no step yet, with the way down the tree at `root` to where the key stands: `Ok` where it leads to the
+/// pair that has an equal key, or `Err` where it leads to the gap between the pairs of a leaf where the key would go. It compares
+/// each key that it passes once, and moves no pair.
 pub fn search<K: Ord, V, Q: Query<K>>(
     root: &Node<K, V>,
     key: Q,
+    path: &mut Path,
     count: &mut Count,
-) -> Result<Path, Path>
+) -> Result<(), Gap>
     requires levels { IsTree root.now }
     requires order { IsAscending K.cmp (pairs_of root.now) }
-    ensures found { IfOk result (IsFound Q.order (Q.sought key) root.now) }
-    ensures gap { IfErr result (IsGap Q.order (Q.sought key) root.now) }
-    ensures path { MatchResult result (λ p. p ≡ path_to Q.order (Q.sought key) root.now) (λ p. p ≡ path_to Q.order (Q.sought key) root.now) }
+    requires start { path.old ≡ [] }
+    ensures found { OnOk result (IsFound Q.order (Q.sought key) root.now path.new) }
+    ensures gap { OnErr result (IsGap Q.order (Q.sought key) root.now path.new) }
+    ensures room { IfErr result (λ gap. IsTrue gap.has_room ↔ (length (own_pairs (leaf_at path.new root.now)) < 11)) }
+    ensures path { path.new ≡ path_to Q.order (Q.sought key) root.now }
     ensures comparisons { count.new.comparisons ≡ count.old.comparisons + passed Q.order (Q.sought key) root.now }
     ensures bounded { (h : ℕ) → IsLevelled h root.now → count.new.comparisons ≤ count.old.comparisons + 11 * (h + 1) }
     ensures moves { count.new.moves ≡ count.old.moves }
 {
-    let mut path = Path::new();
     let mut node = root;
     'down: loop {
         match search_node(node, key, count) {
             Ok(i) => {
                 path.push(i);
-                return Ok(path);
+                return Ok(());
             }
             Err(i) => {
                 path.push(i);
                 if node.is_leaf() {
-                    return Err(path);
+                    let has_room = node.len() < CAPACITY;
+                    return Err(Gap { has_room });
                 }
                 node = node.child(i);
             }

@@ -1,4 +1,4 @@
--- What the places own and lend may cross threads as their items may.
+-- What a row owns and lends may cross threads as its items may.
 use Rattle.std.specs.Prelude.{ℕ, zero, suc, ◌+◌, List, [], ◌∷◌, Option, Some, None}
 use Rattle.std.specs.Mem.{type_size}
 use base.Fraction.{full_share}
@@ -7,7 +7,12 @@ use base.Shift.{Keyless}
 use denote.RattleType.{RattleType}
 use denote.RawPtr.{Ptr, block_ptr, null_ptr}
 use denote.Param.Send.{IsSend, IsSync, Common, part_keyless}
+use Rattle.libc.specs.Heap.{chunk-Keyless}
 use Rattle.fc_slots.specs.Ownership.{places, places_lent, row_owned, row_lent, if_sized}
+
+if_crosses : (n : ℕ) (owned : Fml) → Keyless owned → Keyless (if_sized n owned)
+if_crosses zero owned k = tt
+if_crosses (suc n) owned k = k
 
 module _ (R : RattleType) where
   places_cross : IsSend R → (b o : ℕ) (cs : List (Option R.Denot)) → Keyless (places R b o cs)
@@ -17,7 +22,7 @@ module _ (R : RattleType) where
 
   pub row_crosses : IsSend R → (p : Ptr) (cs : List (Option R.Denot)) → Keyless (row_owned R p cs)
   row_crosses sent null_ptr cs = tt
-  row_crosses sent (block_ptr b o) cs = (tt, places_cross sent b o cs)
+  row_crosses sent (block_ptr b o) cs = ((tt, if_crosses (type_size R) _ (chunk-Keyless _ (block_ptr b o))), places_cross sent b o cs)
 
   lent_cross : IsSync R → (b o : ℕ) (cs : List (Option R.Denot)) → Common (places_lent R b o cs)
   lent_cross shared b o [] κ = tt
@@ -27,7 +32,3 @@ module _ (R : RattleType) where
   pub row_shared : IsSync R → (p : Ptr) (cs : List (Option R.Denot)) → Common (row_lent R p cs)
   row_shared shared null_ptr cs κ = tt
   row_shared shared (block_ptr b o) cs κ = (tt, lent_cross shared b o cs κ)
-
-pub deed_crosses : (n : ℕ) (owned : Fml) → Keyless owned → Keyless (if_sized n owned)
-deed_crosses zero owned k = tt
-deed_crosses (suc n) owned k = k

@@ -1,6 +1,8 @@
 mod Crossing
+mod Heap
 mod Laid
 mod Memory
+mod Opening
 mod Rows
 mod Sharing
 mod Steps

@@ -5,7 +5,7 @@
 --     cut, glued     room for an array is a row of empty places
 --     nowhere     where an item has no size, empty places are made of nothing
 --     sized, unsized     whether there is a block to give back
-use Rattle.fc_slots.proofs.Steps.{◌≡◌, ℕ, zero, suc, ◌+◌, ◌*◌, ◌^◌, ◌<◌, List, [], ◌∷◌, length, set, get_or, Option, Some, None, refl, sym, ap, ◌∙◌, subst, arith, length-set, Ura, Lft, Fml, fsep, never, id⊢, Logic, Item, Goal, Seq, Step, step, ‵, ◌$◌, use1, move, drop, rewrite, fsplit, fjoin, flt_i, flt_l, RattleType, Ptr, block_ptr, in_a_block, ftrue, fat, froom, full_share, Val, El, R, elτ, some, given, pick, learn, split, use2, ◌⊛◌, nothing, map, ◌++◌, replicate, use0, raw}
+use Rattle.fc_slots.proofs.Steps.{◌≡◌, ℕ, zero, suc, ◌+◌, ◌*◌, ◌^◌, ◌<◌, List, [], ◌∷◌, length, set, get_or, Option, Some, None, refl, sym, ap, ◌∙◌, arith, length-set, Ura, Lft, Fml, fsep, never, id⊢, Logic, Item, Goal, Seq, Step, step, ‵, ◌$◌, use1, move, drop, rewrite, fsplit, fjoin, flt_i, flt_l, RattleType, Ptr, block_ptr, in_a_block, ftrue, fat, froom, full_share, Val, El, R, elτ, some, given, pick, learn, split, use2, ◌⊛◌, nothing, map, ◌++◌, replicate, use0, raw}
 use lib.ListN.{take, take-append-drop, length-take, length-map}
 use lib.ListN.{drop as drop_l}
 use denote.Slice.{elements_shared}
@@ -19,12 +19,12 @@ use Rattle.core.proofs.mem.Param.{Good}
 use Rattle.std_alloc.proofs.RawLayout.{as_raw, as_written}
 use Rattle.core.proofs.ptr.Rows.{times_below, one_below}
 use Rattle.std.specs.Mem.{type_size}
-use Rattle.fc_slots.specs.Ownership.{place, places, place_lent, places_lent, bounded, row_owned, row_lent, if_sized}
+use Rattle.fc_slots.specs.Ownership.{place, places, place_lent, places_lent, block, row_owned, row_lent, if_sized}
 
-pub within : {X : Type 0} (cs : List (Option X)) (i : ℕ) (x : X) → get_or cs i None ≡ Some x → i < length cs
-within [] i x e = cc
-within (c ∷ cs) zero x e = omega arith
-within (c ∷ cs) (suc i) x e = omega (arith, within cs i x e)
+pub inside : {X : Type 0} (cs : List (Option X)) (i : ℕ) (x : X) → get_or cs i None ≡ Some x → i < length cs
+inside [] i x e = cc
+inside (c ∷ cs) zero x e = omega arith
+inside (c ∷ cs) (suc i) x e = omega (arith, inside cs i x e)
 
 module _ (R : RattleType) where
   abbrev s : ℕ
@@ -37,7 +37,7 @@ module _ (R : RattleType) where
   others b o (c ∷ cs) (suc i) = fsep (place R b o c) (others b (o + s) cs i)
 
   abbrev pub Rest : ℕ → ℕ → List (Option R.Denot) → ℕ → Fml
-  Rest b o cs i = fsep (bounded R cs) (others b o cs i)
+  Rest b o cs i = fsep (block R (block_ptr b o) (length cs)) (others b o cs i)
 
   next : (o i : ℕ) → i * s + (o + s) ≡ suc i * s + o
   next o i = omega (arith, suc-mul i s)
@@ -63,13 +63,13 @@ module _ (R : RattleType) where
 
     pub reach : K → (p : Ptr) (cs : List (Option R.Denot)) (i : ℕ) → i < length cs → {Γ : List (Item 𝓤)}
         → ((b o : ℕ) → p ≡ block_ptr b o → (s < 2 ^ 64) × (i * s < 2 ^ 64) → Seq K 𝓛 (‵ (place R b (i * s + o) (get_or cs i None)) ∷ ‵ (Rest b o cs i) ∷ Γ) G) → Seq K 𝓛 (‵ (row_owned R p cs) ∷ Γ) G
-    reach t p cs i lt k = in_a_block t p (λ r. row_owned R r cs) (id⊢ 𝓤 (never 𝓤)) (λ b o e. fsplit t $ flt_l t (λ small.
-        out t b o cs i lt $ move t (1 ∷ []) $ flt_i t (length cs * s) (2 ^ 63) small $ fjoin t $ move t (1 ∷ []) $ k b o e (small_step (length cs) i lt small)))
+    reach t p cs i lt k = in_a_block t p (λ r. row_owned R r cs) (id⊢ 𝓤 (never 𝓤)) (λ b o e. fsplit t $ fsplit t $ flt_l t (λ small. flt_i t (length cs * s) (2 ^ 63) small $ fjoin t $
+        move t (1 ∷ []) $ out t b o cs i lt $ move t (2 ∷ 1 ∷ []) $ fjoin t $ move t (1 ∷ []) $ k b o e (small_step (length cs) i lt small)))
 
     pub rejoin : K → (p : Ptr) (b o : ℕ) → p ≡ block_ptr b o → (cs : List (Option R.Denot)) (i : ℕ) → i < length cs → (c : Option R.Denot)
         → {Γ : List (Item 𝓤)} → Step K 𝓛 (‵ (row_owned R p (set cs i c)) ∷ Γ) G (‵ (place R b (i * s + o) c) ∷ ‵ (Rest b o cs i) ∷ Γ) G
-    rejoin t p b o e cs i lt c = step (λ k. move t (1 ∷ []) $ fsplit t $ flt_l t (λ small. move t (1 ∷ 0 ∷ []) $ into t b o cs i lt c $
-        flt_i t (length (set cs i c) * s) (2 ^ 63) (subst (λ n. n * s < 2 ^ 63) (sym (length-set cs i c)) small) $ fjoin t $ rewrite t 0 (λ r. ‵ (row_owned R r (set cs i c))) (sym e) refl $ k))
+    rejoin t p b o e cs i lt c = step (λ k. move t (1 ∷ []) $ fsplit t $ rewrite t 0 (λ n. ‵ (block R (block_ptr b o) n)) (sym (length-set cs i c)) refl $
+        move t (2 ∷ 1 ∷ []) $ into t b o cs i lt c $ move t (1 ∷ 0 ∷ []) $ fjoin t $ rewrite t 0 (λ r. ‵ (row_owned R r (set cs i c))) (sym e) refl $ k)
 
     seen : K → (κ : Lft) (b o : ℕ) (cs : List (Option R.Denot)) (i : ℕ) → i < length cs → {Γ : List (Item 𝓤)} → Step K 𝓛 (‵ (place_lent R b (i * s + o) (get_or cs i None) κ) ∷ Γ) G (‵ (places_lent R b o cs κ) ∷ Γ) G
     seen t κ b o [] i lt = absurd (omega arith)

@@ -1,14 +1,15 @@
--- What a row of places owns and lends, and what the right to its room is, at items of the row R.
+-- What a row of places owns and lends, and the right to its room, at items of the row R.
 use Rattle.std.specs.Prelude.{ℕ, zero, suc, ◌+◌, ◌*◌, ◌^◌, List, [], ◌∷◌, length, Option, Some, None}
 use Rattle.std.specs.Mem.{type_size}
 use base.Fraction.{full_share}
 use base.Fml.{Lft, Fml, ftrue, ffalse, fsep, flt, froom}
-use mir.Syntax.{Ty, ty_array}
+use mir.Syntax.{ty_array}
 use mir.Raw.{raw}
 use denote.RattleType.{RattleType}
 use denote.Memory.{lone, part_at, shared_of}
 use denote.Sharing.{nothing, said, beside}
 use denote.RawPtr.{Ptr, block_ptr, null_ptr}
+use Rattle.libc.specs.Heap.{chunk}
 
 -- no room is asked for where an item has no size
 abbrev pub if_sized : ℕ → Fml → Fml
@@ -35,17 +36,17 @@ module _ (R : RattleType) where
   places_lent b o (c ∷ cs) = beside (place_lent b o c) (places_lent b (o + type_size R) cs)
 
   -- no block takes 2 ^ 63 bytes
-  abbrev pub bounded : List (Option R.Denot) → Fml
-  bounded cs = flt (length cs * type_size R) (2 ^ 63)
+  abbrev pub bounded : ℕ → Fml
+  bounded n = flt (n * type_size R) (2 ^ 63)
+
+  -- a block of n places, and the token that gives it back
+  abbrev pub block : Ptr → ℕ → Fml
+  block p n = fsep (bounded n) (if_sized (type_size R) (chunk (raw (ty_array (lone R.mir) n)) p))
 
   abbrev pub row_owned : Ptr → List (Option R.Denot) → Fml
   row_owned null_ptr cs = ffalse
-  row_owned (block_ptr b o) cs = fsep (bounded cs) (places b o cs)
+  row_owned (block_ptr b o) cs = fsep (block (block_ptr b o) (length cs)) (places b o cs)
 
   abbrev pub row_lent : Ptr → List (Option R.Denot) → Lft → Fml
   row_lent null_ptr cs = said ffalse
-  row_lent (block_ptr b o) cs = beside (said (bounded cs)) (places_lent b o cs)
-
-  -- the allocator's token for the room of n places
-  abbrev pub deed_owned : (Ty → Ptr → Fml) → Ptr → ℕ → Fml
-  deed_owned token p n = if_sized (type_size R) (token (raw (ty_array (lone R.mir) n)) p)
+  row_lent (block_ptr b o) cs = beside (said (bounded (length cs))) (places_lent b o cs)

@@ -2,7 +2,7 @@
 ghost use Rattle.std.specs.Prelude.{◌≡◌, ◌+◌, ◌<◌, Some, None, map, length, take, replicate, get_or, slice_set, IfOk};
 ghost use Rattle.std.specs.Borrow.{sem};
 
-use crate::raw::{Base, Deed, Places, claim, release};
+use crate::raw::Row;
 use fc_base::Count;
 use std::alloc::{AllocError, Global};
 use std::marker::Model;
@@ -10,23 +10,19 @@ use std_alloc::room::may_hold;
 
 /// A row of cells in a block of memory of their own.
 pub struct Cells<T> {
-    base: Base<T>,
-    places: Places<T>,
-    deed: Deed<T, Global>,
+    row: Row<T>,
     alloc: Global,
 }
 
 impl<T> Model for Cells<T> {
-    ghost use Rattle.std.specs.Prelude.{◌≡◌, List, Option, length};
+    ghost use Rattle.std.specs.Prelude.{List, Option};
     ghost use Rattle.std.specs.Coded.{coded_list, coded_option};
 
     ghost Value = { List (Option T) };
 
     ghost coded = { coded_list (coded_option T.code) };
 
-    ghost view = { λ c. c.places.cells };
-
-    ghost invariant = { λ c. (c.places.start ≡ c.base.ptr) × (c.deed.start ≡ c.base.ptr) × (c.deed.len ≡ length c.places.cells) × (c.deed.owner ≡ c.alloc) };
+    ghost view = { λ c. c.row.held };
 }
 
 impl<T> Cells<T> {
@@ -40,13 +36,8 @@ impl<T> Cells<T> {
         if !may_hold::<T>(len) {
             return Err(AllocError);
         }
-        let (base, places, deed) = claim(&alloc, len)?;
-        Ok(Cells {
-            base,
-            places,
-            deed,
-            alloc,
-        })
+        let row = Row::claim(&alloc, len)?;
+        Ok(Cells { row, alloc })
     }
 
     /// The item in the cell at `index`.
@@ -54,7 +45,7 @@ impl<T> Cells<T> {
         requires { IsPresent self.now index }
         ensures { get_or self.now index None ≡ Some result.now }
     {
-        self.places.get(self.base, index)
+        self.row.item(index)
     }
 
     /// The items in the first `len` cells.
@@ -62,7 +53,7 @@ impl<T> Cells<T> {
         requires { ArePresent self.now len }
         ensures { take len self.now ≡ map Some result.now }
     {
-        self.places.as_slice(self.base, len)
+        self.row.items(len)
     }
 
     /// The item in the cell at `index`, lent for writing.
@@ -71,8 +62,7 @@ impl<T> Cells<T> {
         ensures* writes_back { sem 𝓛 (lends_cell T.row self.entry index result) }
         ensures value { get_or self.old index None ≡ Some result.now }
     {
-        let base = self.base;
-        self.places.get_mut(base, index)
+        self.row.item_mut(index)
     }
 
     /// Takes the item out of the cell at `index`.
@@ -81,7 +71,7 @@ impl<T> Cells<T> {
         ensures value { get_or self.old index None ≡ Some result }
         ensures cells { self.new ≡ slice_set self.old index None }
     {
-        self.places.take(self.base, index)
+        self.row.take(index)
     }
 
     /// Puts `item` into the cell at `index`, which is empty.
@@ -92,19 +82,14 @@ impl<T> Cells<T> {
         ensures comparisons { count.new.comparisons ≡ count.old.comparisons }
     {
         count.add_moves(1);
-        self.places.put(self.base, index, item)
+        self.row.put(index, item)
     }
 
     /// Gives the room back.
     pub(crate) fn free(self, len: usize)
         requires { self ≡ replicate len None }
     {
-        let Cells {
-            base,
-            places,
-            deed,
-            alloc,
-        } = self;
-        release(&alloc, base, len, places, deed);
+        let Cells { row, alloc } = self;
+        row.release(&alloc, len);
     }
 }

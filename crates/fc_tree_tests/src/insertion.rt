@@ -10,6 +10,7 @@ use fc_insertion::insertion::{first_leaf, insert};
 use fc_insertion::leaf::has_room;
 use fc_insertion::room::try_room;
 use fc_node::node::Node;
+use fc_node::path::Path;
 use fc_search::lend::pair_at;
 use std::alloc::Global;
 use std::process::Abort;
@@ -43,7 +44,8 @@ fn put(
     assert!(rt; has_room(root, path) == (nodes == 0));
     let room = try_room(alloc, root, path)?;
     assert!(rt; room.len() == nodes);
-    let place = insert(root, path, (key, key), room, &mut Count::new());
+    let mut place = Path::of(path);
+    insert(root, &mut place, (key, key), room, &mut Count::new());
     assert!(rt; pair_at(root, &place).0 == key);
     Ok(())
 }

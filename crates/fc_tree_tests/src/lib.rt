@@ -1,6 +1,8 @@
-//! Tests of search, insertion and removal down a tree, by paths that are written out.
+//! Tests of search, insertion, removal and cuts down a tree, by paths that are written out.
 #![tactic(auto)]
 
+#[cfg(test)]
+mod cutting;
 #[cfg(test)]
 mod insertion;
 #[cfg(test)]

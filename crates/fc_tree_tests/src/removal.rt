@@ -1,79 +1,14 @@
 //! Removals at paths that are written out, and the trees that they leave.
-ghost use Rattle.std.specs.Bool.{OnTrue};
-ghost use Rattle.fc_node.specs.Place.{IsPlace};
 
-use crate::trees::{child_shows, is_levelled, is_pair_of, shows, shows_two_levels};
+use crate::trees::{
+    child_shows, is_levelled, is_pair_of, is_place, join, leaf, shows, shows_two_levels, six_leaves,
+};
 use fc_base::Count;
-use fc_node::node::{CAPACITY, Node};
+use fc_node::node::Node;
 use fc_removal::removal::remove;
 use std::alloc::Global;
 use std::process::Abort;
 use std::test::Fail;
-
-// Whether the path leads to a pair.
-fn is_place(node: &Node<u64, u64>, path: &[u8]) -> bool
-    ensures { OnTrue result (IsPlace path.now node.now) }
-{
-    if path.is_empty() {
-        return false;
-    }
-    let i = path[0] as usize;
-    if path.len() == 1 {
-        return i < node.len();
-    }
-    i < node.child_count() && is_place(node.child(i), &path[1..])
-}
-
-// Puts the key behind those of a leaf.
-fn push(rt: &impl Abort, leaf: &mut Node<u64, u64>, key: u64) {
-    let len = leaf.len();
-    assert!(rt; len < CAPACITY && leaf.is_leaf());
-    leaf.insert_leaf(len, (key, key), &mut Count::new());
-}
-
-// Puts the key and the child behind those of an inner node.
-fn push_child(rt: &impl Abort, node: &mut Node<u64, u64>, key: u64, child: Box<Node<u64, u64>>) {
-    let len = node.len();
-    assert!(rt; len < CAPACITY && node.child_count() == len + 1);
-    node.insert_inner(len, (key, key), child, &mut Count::new());
-}
-
-// A leaf of the keys from `start` to `end`.
-fn leaf(rt: &impl Abort, alloc: Global, start: u64, end: u64) -> Result<Box<Node<u64, u64>>, Fail> {
-    let mut node = Node::try_leaf(alloc)?;
-    for key in start..end {
-        push(rt, &mut node, key);
-    }
-    Ok(node)
-}
-
-// An inner node of these two subtrees and the key between them.
-fn join(
-    rt: &impl Abort,
-    alloc: Global,
-    left: Box<Node<u64, u64>>,
-    key: u64,
-    right: Box<Node<u64, u64>>,
-) -> Result<Box<Node<u64, u64>>, Fail> {
-    let mut node = Node::try_inner(alloc)?;
-    node.adopt(left);
-    push_child(rt, &mut node, key, right);
-    Ok(node)
-}
-
-// An inner node of 5 keys between 6 leaves of 5 keys each, from `start` on.
-fn six_leaves(rt: &impl Abort, alloc: Global, start: u64) -> Result<Box<Node<u64, u64>>, Fail> {
-    let mut node = Node::try_inner(alloc)?;
-    let mut key = start.wrapping_add(5);
-    node.adopt(leaf(rt, alloc, start, key)?);
-    for _ in 0..5 {
-        let first = key.wrapping_add(1);
-        let end = key.wrapping_add(6);
-        push_child(rt, &mut node, key, leaf(rt, alloc, first, end)?);
-        key = end;
-    }
-    Ok(node)
-}
 
 // Removes the key at the path from a tree of this height, and hands out what is left.
 fn without(
@@ -85,9 +20,10 @@ fn without(
 ) -> Option<Box<Node<u64, u64>>> {
     assert!(rt; root.len() > 0 && is_levelled(&root, height));
     assert!(rt; is_place(&root, path));
-    let (pair, left) = remove(root, path, &mut Count::new());
+    let mut tree = Some(root);
+    let pair = remove(&mut tree, path, &mut Count::new());
     assert!(rt; is_pair_of(&pair, key));
-    left
+    tree
 }
 
 // What a removal leaves of a root over two leaves: the leaves of the keys from `start` to `end`, the root of `middle` between them.

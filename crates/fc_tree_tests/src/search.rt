@@ -123,12 +123,9 @@ fn compares_each_key_that_it_passes_once(rt: HostRuntime) -> Result<(), Fail> {
         let half = get(&leaf, &key, &mut count).map(|pair| pair.1);
         assert!(rt; calls.get() == passed(value) && is_half(half, value));
         calls.set(0);
-        let end = search(&leaf, &key, &mut count);
-        assert!(rt; calls.get() == passed(value) && end.is_ok() == (value % 2 == 0));
-        let path = match end {
-            Ok(path) => path,
-            Err(path) => path,
-        };
+        let mut path = Path::new();
+        let is_there = search(&leaf, &key, &mut path, &mut count).is_ok();
+        assert!(rt; calls.get() == passed(value) && is_there == (value % 2 == 0));
         assert!(rt; value > 0 && is_place(path.as_slice(), (value as usize - 1) / 2));
     }
     Ok(())
@@ -156,7 +153,8 @@ fn lends_the_value_at_a_found_place(rt: HostRuntime) -> Result<(), Fail> {
         calls: &calls,
     };
     let mut count = Count::new();
-    let path = search(&leaf, &key, &mut count)
+    let mut path = Path::new();
+    search(&leaf, &key, &mut path, &mut count)
         .ok()
         .ok_or("the key is there")?;
     assert!(rt; pair_at(&leaf, &path).1 == 4);

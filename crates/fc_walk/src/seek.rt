@@ -61,9 +61,10 @@ fn ahead_of_key<'a, K: Ord, V>(root: &'a Node<K, V>, key: &K) -> Trail<'a, K, V>
     ensures rest { rest_of result ≡ filter (λ e. is_ge (K.cmp e.0 key.now)) (pairs_of root.now) }
     ensures trail { IsTrailFrom root.now result }
 {
-    match search::search(root, key, &mut Count::new()) {
-        Ok(place) => ahead_of_pair(root, &place),
-        Err(gap) => along(root, &gap),
+    let mut path = Path::new();
+    match search::search(root, key, &mut path, &mut Count::new()) {
+        Ok(()) => ahead_of_pair(root, &path),
+        Err(_) => along(root, &path),
     }
 }
 
@@ -76,9 +77,10 @@ fn behind_key<'a, K: Ord, V>(root: &'a Node<K, V>, key: &K) -> Trail<'a, K, V>
     ensures rest { rest_of result ≡ filter (λ e. is_gt (K.cmp e.0 key.now)) (pairs_of root.now) }
     ensures trail { IsTrailFrom root.now result }
 {
-    match search::search(root, key, &mut Count::new()) {
-        Ok(place) => behind_pair(root, &place),
-        Err(gap) => along(root, &gap),
+    let mut path = Path::new();
+    match search::search(root, key, &mut path, &mut Count::new()) {
+        Ok(()) => behind_pair(root, &path),
+        Err(_) => along(root, &path),
     }
 }
 

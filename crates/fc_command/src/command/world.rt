@@ -44,7 +44,8 @@ impl<K: Ord + TryClone, V: TryClone> World<K, V> {
         }
     }
 
-    /// Runs one command. A refusal is the reply `Refused`, and the world is then as it was.
+    /// Runs one command. A refusal is the reply `Refused`, and the world is then as it was, but for the pairs that a refused `Extend`
+    /// has put in.
     ///
     /// A caller shows that a copy of a key or of a value is that key or value itself. Where no copy of a key or of a value is ever
     /// refused, as of numbers, a command that only copies is answered.
@@ -55,8 +56,8 @@ impl<K: Ord + TryClone, V: TryClone> World<K, V> {
         ensures copies { ((k : K) → K.never_refuses k) → ((v : V) → V.never_refuses v) → IsCopyTold command result }
     {
         match command.side() {
-            Side::First => step_on(self.alloc, &mut self.a, command),
-            Side::Second => step_on(self.alloc, &mut self.b, command),
+            Side::First => step_on(self.alloc, &mut self.a, &mut self.b, command),
+            Side::Second => step_on(self.alloc, &mut self.b, &mut self.a, command),
         }
     }
 
@@ -84,15 +85,16 @@ impl<K: Ord + TryClone, V: TryClone> World<K, V> {
     }
 }
 
-// Runs a command on the map that it names. The other map, whatever it is, stays.
+// Runs a command on the map that it names and on the other one.
 fn step_on<K: Ord + TryClone, V: TryClone>(
     alloc: Global,
     map: &mut BTreeMap<K, V>,
+    other: &mut BTreeMap<K, V>,
     command: Command<K, V>,
 ) -> Reply<K, V>
     requires copied { K.can_clone × V.can_clone }
     requires same { IsExact K.same × IsExact V.same }
-    ensures step { (o : Map K V) → StepOn K.cmp command map.old o result map.new o }
+    ensures step { StepOn K.cmp command map.old other.old result map.new other.new }
     ensures copies { ((k : K) → K.never_refuses k) → ((v : V) → V.never_refuses v) → IsCopyTold command result }
 {
     match command {
@@ -114,6 +116,40 @@ fn step_on<K: Ord + TryClone, V: TryClone>(
         }
         Command::Walk(_, lo, hi, ends) => walk(alloc, map, lo, hi, ends),
         Command::Write(_, lo, hi, writes) => write(map, lo, hi, writes),
+        Command::Append(_) => append(map, other),
+        Command::SplitOff(_, key) => split_off(map, other, key),
+        Command::TryClone(_) => copy(map, other),
+        Command::Extend(_, pairs) => extend(map, pairs),
+    }
+}
+
+// Takes the pairs of the other map.
+fn append<K: Ord + TryClone, V: TryClone>(
+    map: &mut BTreeMap<K, V>,
+    other: &mut BTreeMap<K, V>,
+) -> Reply<K, V>
+    ensures { (side : Side) → StepOn K.cmp (Command.Append side) map.old other.old result map.new other.new }
+{
+    match map.append(other) {
+        Ok(()) => Reply::Done,
+        Err(e) => Reply::Refused(e),
+    }
+}
+
+// Splits the map at the key, and leaves the part from there on in the other map.
+fn split_off<K: Ord + TryClone, V: TryClone>(
+    map: &mut BTreeMap<K, V>,
+    other: &mut BTreeMap<K, V>,
+    key: K,
+) -> Reply<K, V>
+    ensures { (side : Side) → StepOn K.cmp (Command.SplitOff side key) map.old other.old result map.new other.new }
+{
+    match map.split_off(&key) {
+        Ok(rest) => {
+            *other = rest;
+            Reply::Done
+        }
+        Err(e) => Reply::Refused(e),
     }
 }
 
@@ -240,6 +276,37 @@ fn write_at<K: Ord, V: Drop>(walk: &mut RangeMut<'_, K, V>, end: End, value: V) 
             }
             None => false,
         },
+    }
+}
+
+// Makes the other map a copy of the map.
+fn copy<K: Ord + TryClone, V: TryClone>(
+    map: &BTreeMap<K, V>,
+    other: &mut BTreeMap<K, V>,
+) -> Reply<K, V>
+    requires copied { K.can_clone × V.can_clone }
+    requires same { IsExact K.same × IsExact V.same }
+    ensures { (side : Side) → StepOn K.cmp (Command.TryClone side) map.now other.old result map.now other.new }
+{
+    match map.try_clone() {
+        Ok(pairs) => {
+            *other = pairs;
+            Reply::Done
+        }
+        Err(e) => Reply::Refused(e),
+    }
+}
+
+// Puts the pairs in, in turn, up to the one that is refused.
+fn extend<K: Ord + TryClone, V: TryClone>(
+    map: &mut BTreeMap<K, V>,
+    pairs: Items<(K, V)>,
+) -> Reply<K, V>
+    ensures { (o : Map K V) (side : Side) → StepOn K.cmp (Command.Extend side pairs) map.old o result map.new o }
+{
+    match map.try_extend(pairs.into_vec()) {
+        Ok(()) => Reply::Done,
+        Err(e) => Reply::Refused(e),
     }
 }
 

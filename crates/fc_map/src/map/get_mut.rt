@@ -8,6 +8,7 @@ ghost use Rattle.fc_map.specs.Entries.{entries, IsSoundMap, passed_in};
 
 use super::BTreeMap;
 use fc_base::{Count, Query};
+use fc_node::path::Path;
 
 impl<K: Ord, V> BTreeMap<K, V> {
     ghost use Rattle.fc_map.specs.LendsKey.{lends_get, lent_value, written_at};
@@ -34,8 +35,9 @@ impl<K: Ord, V> BTreeMap<K, V> {
         ensures moves { count.new.moves ≡ count.old.moves }
         ensures bounded { IsBounded (length (entries self.old)) count.old count.new }
     {
-        match self.locate(key, count) {
-            Ok(path) => Some(self.value_mut(&path)),
+        let mut path = Path::new();
+        match self.locate(key, &mut path, count) {
+            Ok(()) => Some(self.value_mut(&path)),
             Err(_) => None,
         }
     }

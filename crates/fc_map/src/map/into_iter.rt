@@ -1,91 +1,12 @@
-//! The owned walk: all pairs given out in ascending order, from both ends.
-ghost use Rattle.std.specs.Prelude.{◌≡◌, ◌^◌, ◌<◌, length, IfSome, Some};
-ghost use Rattle.std.specs.Iterator.{YieldsFirst, YieldsLast, item_count, at_most, UpTo};
-ghost use Rattle.std.specs.Iterator.SizeHint.{IsWithinCount};
+//! The owned walk over a map.
+ghost use Rattle.std.specs.Prelude.{◌≡◌, ◌^◌, ◌<◌, length};
+ghost use Rattle.std.specs.Iterator.{YieldsFirst, YieldsLast};
 ghost use Rattle.std.specs.Iterator.Runs.{YieldsInOrder, YieldsInReverse};
 ghost use Rattle.fc_base.specs.Ascending.{IsAscending};
 ghost use Rattle.fc_map.specs.Entries.{entries};
 
 use super::BTreeMap;
-use fc_walk::owned::{Nodes, fill_back, fill_front, give_first, give_last, opened};
-use fc_walk::stack::Stack;
-use std::iter::FusedIterator;
-use std::marker::Model;
-
-/// The pairs of a map by value, seen as the list of those that are left. It compares nothing, takes no memory, and drops what is
-/// left. Upstream: `btree_map::IntoIter`.
-#[derive(Drop)]
-pub struct IntoIter<K, V> {
-    front: Nodes<K, V>,
-    back: Nodes<K, V>,
-    left: usize,
-}
-
-impl<K, V> Model for IntoIter<K, V> {
-    ghost use Rattle.std.specs.Prelude.{◌≡◌, ◌++◌, List, length};
-    ghost use Rattle.fc_walk.specs.Opened.{IsFalling, front_of, back_of};
-
-    ghost Value = { List (K × V) };
-
-    ghost view = { λ a. front_of a.front ++ back_of a.back };
-
-    ghost invariant = { λ a. IsFalling 0 25 a.front × IsFalling 0 25 a.back × (a.left ≡ length (front_of a.front ++ back_of a.back)) };
-}
-
-impl<K, V> IntoIter<K, V> {
-    /// The number of pairs that are left. Upstream: `IntoIter::len`.
-    pub fn len(&self) -> usize
-        ensures { result ≡ length self.now }
-    {
-        self.left
-    }
-}
-
-impl<K: Drop, V: Drop> Iterator for IntoIter<K, V> {
-    type Item = (K, V);
-
-    ghost next_gives = { YieldsFirst (λ s. s) };
-
-    ghost remaining = { item_count (λ s. s) };
-
-    fn next(&mut self) -> Option<(K, V)> {
-        if self.left == 0 {
-            return None;
-        }
-        self.left -= 1;
-        fill_front(&mut self.front, &mut self.back);
-        Some(give_first(&mut self.front))
-    }
-
-    fn size_hint(&self) -> (usize, Option<usize>)
-        ensures lower { IsWithinCount result.0 (at_most (length self.now)) }
-        ensures upper { IfSome result.1 (UpTo (at_most (length self.now))) }
-        ensures exact { result ≡ (length self.now, Some (length self.now)) }
-    {
-        (self.left, Some(self.left))
-    }
-}
-
-impl<K: Drop, V: Drop> DoubleEndedIterator for IntoIter<K, V> {
-    ghost next_back_gives = { YieldsLast (λ s. s) };
-
-    fn next_back(&mut self) -> Option<(K, V)> {
-        if self.left == 0 {
-            return None;
-        }
-        self.left -= 1;
-        fill_back(&mut self.front, &mut self.back);
-        Some(give_last(&mut self.back))
-    }
-}
-
-impl<K: Drop, V: Drop> ExactSizeIterator for IntoIter<K, V> {
-    fn len(&self) -> usize {
-        self.left
-    }
-}
-
-impl<K: Drop, V: Drop> FusedIterator for IntoIter<K, V> {}
+pub use fc_iter::into_iter::IntoIter;
 
 /// The pairs in ascending order of their keys. The walk takes no memory. Upstream: `BTreeMap::into_iter`.
 impl<K: Ord + Drop, V: Drop> IntoIterator for BTreeMap<K, V> {
@@ -104,10 +25,6 @@ impl<K: Ord + Drop, V: Drop> IntoIterator for BTreeMap<K, V> {
             len: _,
             alloc: _,
         } = self;
-        IntoIter {
-            front: opened(root),
-            back: Stack::new(),
-            left,
-        }
+        IntoIter::over(root, left)
     }
 }

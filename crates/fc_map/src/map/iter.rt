@@ -1,129 +1,39 @@
-//! Reading walks over all pairs of a map, from both ends.
-ghost use Rattle.std.specs.Prelude.{◌≡◌, ◌≤◌, ⊤, length, Some, IfSome};
-ghost use Rattle.std.specs.Iterator.{YieldsFirstBy, YieldsLastBy, UpTo, at_most, item_count};
-
-mod keys;
-mod values;
+//! Reading walks over all pairs of a map, over its keys and over its values, from both ends.
+ghost use Rattle.std.specs.Prelude.{◌≡◌};
+ghost use Rattle.fc_base.specs.Ascending.{IsAscending};
+ghost use Rattle.fc_map.specs.Entries.{entries};
+ghost use Rattle.fc_map.specs.Walks.{keys_of, values_of};
 
 use super::BTreeMap;
-use fc_walk::span::Span;
-pub use keys::Keys;
-use std::alloc::AllocError;
-use std::iter::FusedIterator;
-use std::marker::Model;
-pub use values::Values;
-
-/// The pairs that are still to come, in ascending order of their keys. `next` gives the first of them and `next_back` the last;
-/// once there is none, both answer `None` ever after. No call compares keys or takes memory. Upstream: `btree_map::Iter`.
-#[derive(Drop)]
-pub struct Iter<'a, K, V> {
-    span: Span<'a, K, V>,
-    left: usize,
-}
-
-impl<'a, K, V> Model for Iter<'a, K, V> {
-    ghost use Rattle.std.specs.Prelude.{◌≡◌, List, length};
-
-    ghost Value = { List (K × V) };
-
-    ghost view = { λ w. w.span };
-
-    ghost invariant = { λ w. w.left ≡ length w.span };
-}
-
-impl<'a, K, V> Iter<'a, K, V> {
-    /// The number of pairs still to come. Upstream: `Iter::len`.
-    pub fn len(&self) -> usize
-        ensures { result ≡ length self.now }
-    {
-        self.left
-    }
-}
-
-impl<'a, K, V> Clone for Iter<'a, K, V> {
-    ghost is_clone = { λ s r. r ≡ s };
-
-    ghost is_infallible = { λ _. ⊤ };
-
-    /// A second walk over the pairs still to come, which takes no memory.
-    fn clone(&self) -> Result<Iter<'a, K, V>, AllocError> {
-        Ok(Iter {
-            span: self.span.copied(),
-            left: self.left,
-        })
-    }
-}
-
-impl<'a, K, V> Iterator for Iter<'a, K, V> {
-    ghost use Rattle.fc_map.specs.Walks.{deref_pair};
-
-    type Item = (&'a K, &'a V);
-
-    ghost next_gives = { YieldsFirstBy deref_pair (λ s. s) };
-
-    ghost remaining = { item_count (λ s. s) };
-
-    fn next(&mut self) -> Option<(&'a K, &'a V)> {
-        if self.left == 0 {
-            return None;
-        }
-        self.left -= 1;
-        let pair = self.span.next();
-        Some((&pair.0, &pair.1))
-    }
-
-    /// The number of pairs still to come, twice.
-    fn size_hint(&self) -> (usize, Option<usize>)
-        ensures lower { result.0 ≤ length self.now }
-        ensures upper { IfSome result.1 (UpTo (at_most (length self.now))) }
-        ensures exact { result ≡ (length self.now, Some (length self.now)) }
-    {
-        (self.left, Some(self.left))
-    }
-}
-
-impl<'a, K, V> DoubleEndedIterator for Iter<'a, K, V> {
-    ghost use Rattle.fc_map.specs.Walks.{deref_pair};
-
-    ghost next_back_gives = { YieldsLastBy deref_pair (λ s. s) };
-
-    fn next_back(&mut self) -> Option<(&'a K, &'a V)> {
-        if self.left == 0 {
-            return None;
-        }
-        self.left -= 1;
-        let pair = self.span.next_back();
-        Some((&pair.0, &pair.1))
-    }
-}
-
-impl<'a, K, V> ExactSizeIterator for Iter<'a, K, V> {
-    fn len(&self) -> usize {
-        self.left
-    }
-}
-
-impl<'a, K, V> FusedIterator for Iter<'a, K, V> {}
+pub use fc_iter::iter::{Iter, Keys, Values};
 
 impl<K: Ord, V> BTreeMap<K, V> {
-    ghost use Rattle.fc_base.specs.Ascending.{IsAscending};
-    ghost use Rattle.fc_map.specs.Entries.{entries};
-
     /// A walk over all pairs, in ascending order of their keys. Upstream: `BTreeMap::iter`.
     pub fn iter(&self) -> Iter<'_, K, V>
         ensures pairs { result ≡ entries self.now }
         ensures ascending { IsAscending K.cmp result }
     {
-        Iter {
-            span: Span::whole(&self.root),
-            left: self.len,
-        }
+        Iter::over(&self.root, self.len)
+    }
+
+    /// A walk over all keys, in ascending order. Upstream: `BTreeMap::keys`.
+    pub fn keys(&self) -> Keys<'_, K, V>
+        ensures keys { result ≡ keys_of (entries self.now) }
+        ensures ascending { IsAscending K.cmp (entries self.now) }
+    {
+        Keys::of(self.iter())
+    }
+
+    /// A walk over all values, in ascending order of their keys. Upstream: `BTreeMap::values`.
+    pub fn values(&self) -> Values<'_, K, V>
+        ensures values { result ≡ values_of (entries self.now) }
+        ensures ascending { IsAscending K.cmp (entries self.now) }
+    {
+        Values::of(self.iter())
     }
 }
 
 impl<'a, K: Ord, V> IntoIterator for &'a BTreeMap<K, V> {
-    ghost use Rattle.fc_map.specs.Entries.{entries};
-
     type Item = (&'a K, &'a V);
 
     type IntoIter = Iter<'a, K, V>;

@@ -3,10 +3,12 @@ ghost use Rattle.std.specs.Prelude.{◌≡◌, ◌+◌, ◌<◌, ◌++◌, lengt
 ghost use Rattle.fc_base.specs.Ascending.{IsAscending};
 ghost use Rattle.fc_map.specs.Counts.{IsMoved};
 ghost use Rattle.fc_map.specs.Entries.{entries, IsSoundMap};
+ghost use Rattle.fc_map.specs.Place.{IsOpenAt, TellsRoom};
 ghost use Rattle.fc_node.specs.TreePlace.{IsPlaceIn, pair_in, ahead_of, behind_of};
 
 use super::BTreeMap;
 use fc_base::Count;
+use fc_insertion::leaf::has_room;
 use fc_node::path::Path;
 use fc_removal::removal::remove;
 use fc_search::lend;
@@ -23,6 +25,17 @@ impl<K: Ord + Drop, V: Drop> BTreeMap<K, V> {
         }
     }
 
+    // Whether the leaf of the gap that the path leads to has room for a pair; false where there is no leaf.
+    pub(crate) fn has_room_at(&self, path: &Path) -> bool
+        requires { (key : K) × IsOpenAt K.cmp key self.now path.now }
+        ensures { TellsRoom result path.now self.now }
+    {
+        match &self.root {
+            None => false,
+            Some(root) => has_room(root, path.as_slice()),
+        }
+    }
+
     // Takes the pair that the path leads to out.
     pub(crate) fn take_at(&mut self, path: &Path, count: &mut Count) -> (K, V)
         requires { IsPlaceIn self.old path.now }
@@ -35,11 +48,7 @@ impl<K: Ord + Drop, V: Drop> BTreeMap<K, V> {
         ensures moves { IsMoved (length (entries self.old)) count.old count.new }
         ensures moved { count.old.moves < count.new.moves }
     {
-        let Some(root) = self.root.take() else {
-            unreachable!()
-        };
-        let (pair, root) = remove(root, path.as_slice(), count);
-        self.root = root;
+        let pair = remove(&mut self.root, path.as_slice(), count);
         self.len -= 1;
         pair
     }

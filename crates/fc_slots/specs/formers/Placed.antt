@@ -1,5 +1,5 @@
 -- The texts of `Ownership.antt` only place what the values own and lend.
-use Rattle.std.specs.Prelude.{◌≡◌, ℕ, ◌+◌, ◌*◌, ◌^◌, List, [], ◌∷◌, map, Option, Some, None}
+use Rattle.std.specs.Prelude.{◌≡◌, ℕ, ◌+◌, ◌*◌, ◌^◌, List, [], ◌∷◌, map, length, Option, Some, None}
 use Rattle.std.specs.Mem.{type_size}
 use mathlib.Core.Path.{refl, ◌∙◌}
 use mathlib.Core.Former.{this}
@@ -7,6 +7,7 @@ use lib.ListN.{length-map}
 use base.Fraction.{full_share}
 use base.Fml.{fsep, flt, froom}
 use mir.Raw.{raw}
+use mir.Syntax.{ty_array}
 use prog.Memory.{size}
 use denote.RattleType.{RattleType}
 use denote.HoleLaws.{Alike}
@@ -14,7 +15,8 @@ use denote.Memory.{lone, part_of, raw_all}
 use denote.RawPtr.{Ptr, block_ptr, null_ptr}
 use denote.Sharing.{said, beside}
 use Rattle.fc_slots.specs.formers.Maybe.{maybe}
-use Rattle.fc_slots.specs.Ownership.{place, places, place_lent, places_lent, bounded, row_owned, row_lent}
+use Rattle.libc.specs.Heap.{chunk}
+use Rattle.fc_slots.specs.Ownership.{if_sized, place, places, place_lent, places_lent, bounded, block, row_owned, row_lent}
 
 module _ (R S : RattleType) (h : R.Denot → S.Denot) (a : Alike R S h) where
   abbrev on : Option R.Denot → Option S.Denot
@@ -34,11 +36,14 @@ module _ (R S : RattleType) (h : R.Denot → S.Denot) (a : Alike R S h) where
       let rest : places S b (o + type_size S) (map on cs) ≡ places R b (o + type_size R) cs = (λ i. places S b (o + width i) (map on cs)) ∙ places_placed b (o + type_size R) cs in
       λ i. fsep (place_placed b o c i) (rest i)
 
-  bounded_placed : (cs : List (Option R.Denot)) → bounded S (map on cs) ≡ bounded R cs
+  bounded_placed : (cs : List (Option R.Denot)) → bounded S (length (map on cs)) ≡ bounded R (length cs)
   bounded_placed cs = λ i. flt (length-map cs on i * width i) (2 ^ 63)
 
+  block_placed : (p : Ptr) (cs : List (Option R.Denot)) → block S p (length (map on cs)) ≡ block R p (length cs)
+  block_placed p cs = λ i. fsep (bounded_placed cs i) (if_sized (width i) (chunk (raw (ty_array (lone (a.mir_same i)) (length-map cs on i))) p))
+
   pub own_placed : (p : Ptr) (cs : List (Option R.Denot)) → row_owned S p (map on cs) ≡ row_owned R p cs
-  own_placed (block_ptr b o) cs = λ i. fsep (bounded_placed cs i) (places_placed b o cs i)
+  own_placed (block_ptr b o) cs = λ i. fsep (block_placed (block_ptr b o) cs i) (places_placed b o cs i)
   own_placed null_ptr cs = refl
 
   place_lent_placed : (b o : ℕ) (c : Option R.Denot) → place_lent S b o (on c) ≡ place_lent R b o c

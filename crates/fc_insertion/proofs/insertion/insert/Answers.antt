@@ -1,24 +1,43 @@
 use Rattle.std.proofs.Common.{◌≡◌, ◌+◌, ◌-◌, length, sym, ap, subst, ◌∙◌, arith}
-use Rattle.fc_node.specs.Path.{before, after}
+use Rattle.fc_node.specs.Node.{IsSoundRoot}
+use Rattle.fc_node.specs.Path.{IsPath, before, after}
+use Rattle.fc_insertion.specs.Cascade.{cascade, nodes_needed, IsSpareLeaf}
 use Rattle.fc_insertion.specs.Arrival.{path_after, IsPutAt}
 use Rattle.fc_insertion.proofs.Arrivals.{small_steps, steps_fit}
 use Rattle.fc_insertion.proofs.Cascades.{room_given}
 use Rattle.fc_insertion.proofs.insertion.insert.Goals as goal
 
-pub insert_with-requires : goal.insert_with-requires
-insert_with-requires g c =
-    let r = room_given c.room.inside.leaf c.room.inside.inner c.args.path.now c.args.root.now.value (c.room.view_is ∙ c.requires.room) c.room.invariant c.requires.some in
-    record { some = c.requires.some; path = c.requires.path; sound = c.requires.sound; leaf = r.0; inner = r.1 }
+pub insert_with-requires-clause-some : goal.insert_with-requires-clause-some
+insert_with-requires-clause-some g c = rw c.as_slice.ensures.value c.requires.some
 
-pub arrival-place-requires : goal.arrival-place-requires
-arrival-place-requires g c =
+pub insert_with-requires-clause-path : goal.insert_with-requires-clause-path
+insert_with-requires-clause-path g c = subst (λ p. IsPath p c.args.root.now.value) (sym c.as_slice.ensures.value) c.requires.path
+
+pub insert_with-requires-clause-sound : goal.insert_with-requires-clause-sound
+insert_with-requires-clause-sound g c = subst (λ p. IsSoundRoot (length p - 1) c.args.root.now.value) (sym c.as_slice.ensures.value) c.requires.sound
+
+pub insert_with-requires-clause-leaf : goal.insert_with-requires-clause-leaf
+insert_with-requires-clause-leaf g c =
+    let r = room_given c.room.inside.leaf c.room.inside.inner c.args.path.now c.args.root.now.value (c.room.view_is ∙ c.requires.room) c.room.invariant c.requires.some in
+    subst (λ p. IsSpareLeaf c.room.inside.leaf (cascade p c.args.root.now.value)) (sym c.as_slice.ensures.value) r.0
+
+pub insert_with-requires-clause-inner : goal.insert_with-requires-clause-inner
+insert_with-requires-clause-inner g c =
+    let r = room_given c.room.inside.leaf c.room.inside.inner c.args.path.now c.args.root.now.value (c.room.view_is ∙ c.requires.room) c.room.invariant c.requires.some in
+    subst (λ p. c.room.inside.inner ≡ nodes_needed p c.args.root.now.value - 1) (sym c.as_slice.ensures.value) r.1
+
+pub arrive-requires : goal.arrive-requires
+arrive-requires g c =
     let h : length c.args.path.now ≡ (length c.args.path.now - 1) + 1 = omega arith in
     record {
       steps = small_steps c.args.path.now _ c.args.root.now.value h c.requires.path c.requires.sound.1;
-      short = steps_fit c.args.path.now c.args.root.now.value _ (c.len.ensures ∙ c.requires.room) c.requires.short;
+      short = steps_fit c.args.path.now c.args.root.now.value _ (c.len-nodes.ensures ∙ c.requires.room) c.requires.short;
     }
 
 pub returns-clause-place : goal.returns-clause-place
 returns-clause-place g c =
-    let nodes = c.len.ensures ∙ c.requires.room in
-    subst (λ p. IsPutAt p c.insert_with.new.root.value c.args.pair (before c.args.path.now c.args.root.now.value) (after c.args.path.now c.args.root.now.value)) (sym (c.arrival-place.ensures ∙ ap (λ n. path_after n c.args.path.now) nodes)) c.insert_with.ensures.place
+    let root = c.insert_with.new.root.value in
+    let old = c.args.root.now.value in
+    let nodes = c.len-nodes.ensures ∙ c.requires.room in
+    let put = subst (λ p. IsPutAt (path_after (nodes_needed p old) p) root c.args.pair (before p old) (after p old)) c.as_slice.ensures.value c.insert_with.ensures.place in
+    subst (λ p. IsPutAt p root c.args.pair (before c.args.path.now old) (after c.args.path.now old)) (sym (c.arrive.ensures ∙ ap (λ n. path_after n c.args.path.now) nodes)) put

@@ -9,7 +9,7 @@ pub returns-in_err-room-clause-leaf : goal.returns-in_err-room-clause-leaf
 returns-in_err-room-clause-leaf g c =
     let steps = gap_steps c.args.root.now.value c.args.path.now c.requires.sound g.K.Ord.cmp c.args.pair.0 c.requires.gap in
     let within = leaf_within c.args.path.now c.requires.sound.0 c.args.root.now.value c.requires.sound.2.1 steps c.requires.gap.way in
-    let full : length (own_pairs (leaf_at c.args.path.now c.args.root.now.value)) ≡ 11 = rw c.deref.ensures at c.in_err-room.ensures.refused in
+    let full : length (own_pairs (leaf_at c.args.path.now c.args.root.now.value)) ≡ 11 = rw (c.deref.ensures, c.as_slice.ensures.value) at c.in_err-room.ensures.refused in
     on_err c.from_residual.result _ (omega arith)
 
 pub insert-requires : goal.insert-requires
@@ -17,7 +17,7 @@ insert-requires g c =
     let steps = gap_steps c.args.root.now.value c.args.path.now c.requires.sound g.K.Ord.cmp c.args.pair.0 c.requires.gap in
     let sound = gap_sound c.args.root.now.value c.args.path.now c.requires.sound steps in
     let short = steps_few c.args.path.now c.args.root.now.value (omega arith) sound (omega arith) in
-    record { some = omega arith; short = short; path = c.requires.gap.way; sound = sound; room = rw (← c.deref.ensures) c.in_ok-room.ensures.ok }
+    record { some = omega arith; short = short; path = c.requires.gap.way; sound = sound; room = rw (← c.deref.ensures) (rw c.as_slice.ensures.value at c.in_ok-room.ensures.ok) }
 
 pub returns-clause-put : goal.returns-clause-put
 returns-clause-put g c = put_in c.args.root.now.value c.args.path.now c.requires.sound g.K.Ord.cmp c.args.pair.0 c.args.pair.1 _ c.requires.gap c.insert.ensures.pairs

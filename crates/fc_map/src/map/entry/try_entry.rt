@@ -11,6 +11,7 @@ ghost use Rattle.fc_map.specs.Entry.{entry_map, entry_map_ref, entry_key, entry_
 use super::super::BTreeMap;
 use super::{Entry, OccupiedEntry, VacantEntry};
 use fc_base::{Count, TryReserveError};
+use fc_node::path::Path;
 
 impl<K: Ord + Drop, V: Drop> BTreeMap<K, V> {
     /// The place of the key, found by one search: `Occupied` where an equal key is there, and the given key is then dropped; else
@@ -53,9 +54,10 @@ impl<K: Ord + Drop, V: Drop> BTreeMap<K, V> {
         ensures moves { count.new.moves ≡ count.old.moves }
         ensures bounded { IsBounded (length (entries self.old)) count.old count.new }
     {
-        match self.locate(&key, count) {
-            Ok(path) => Ok(Entry::Occupied(OccupiedEntry { map: self, path })),
-            Err(path) => Ok(Entry::Vacant(VacantEntry {
+        let mut path = Path::new();
+        match self.locate(&key, &mut path, count) {
+            Ok(()) => Ok(Entry::Occupied(OccupiedEntry { map: self, path })),
+            Err(_) => Ok(Entry::Vacant(VacantEntry {
                 map: self,
                 key,
                 path,

@@ -64,9 +64,10 @@ impl<'a, K: Ord + Drop, V: Drop> VacantEntry<'a, K, V> {
         ensures moved { OnOk result (count.old.moves < count.new.moves) }
         ensures bounded { IsBounded (length (entries (entry_map (Vacant self.entry))) + 1) count.old count.new }
     {
-        let VacantEntry { map, key, path } = self;
-        match map.insert_at(path, key, value, count) {
-            Ok(place) => Ok(map.value_mut(&place)),
+        let VacantEntry { map, key, mut path } = self;
+        let has_room = map.has_room_at(&path);
+        match map.insert_at(&mut path, has_room, key, value, count) {
+            Ok(()) => Ok(map.value_mut(&path)),
             Err(refused) => Err(refused),
         }
     }

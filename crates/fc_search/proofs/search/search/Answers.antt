@@ -1,5 +1,7 @@
-use Rattle.std.proofs.Common.{arith, refl}
-use Rattle.fc_search.proofs.SearchFacts.{one_longer, child_there, way_levels, way_room, way_small, way_ascending, way_more, way_gap, way_found}
+use Rattle.std.proofs.Common.{length, ap, arith, refl}
+use Rattle.std.proofs.lemmas.Bool.{ltb-true, lt-ltb}
+use Rattle.fc_node.specs.Node.{own_pairs}
+use Rattle.fc_search.proofs.SearchFacts.{one_longer, child_there, way_levels, way_leaf, way_room, way_small, way_ascending, way_more, way_gap, way_found}
 use Rattle.fc_search.proofs.PassedFacts.{passed_found, passed_down, passed_leaf, passed_bound}
 use Rattle.fc_search.proofs.WayFacts.{path_ends, path_ends_leaf, path_goes_on}
 use Rattle.fc_search.proofs.search.search.Goals as goal
@@ -32,6 +34,11 @@ returns-in-Ok-clause-path g c =
 pub returns-then-is_leaf-clause-gap : goal.returns-then-is_leaf-clause-gap
 returns-then-is_leaf-clause-gap g c =
     way_gap g.met.Q.Query.fits (g.Q.Query.sought c.args.key) c.requires.levels c.requires.order c.down.invariant.0 c.in-Err.i _ c.push-in-Err.ensures c.in-Err.ensures.gap (c.if-is_leaf.ensures.0 refl)
+
+pub returns-then-is_leaf-clause-room : goal.returns-then-is_leaf-clause-room
+returns-then-is_leaf-clause-room g c =
+    let e = ap (λ n. length (own_pairs n)) (way_leaf _ _ c.in-Err.i _ c.push-in-Err.ensures c.down.invariant.0) in
+    (λ h. let lt = ltb-true _ _ h in omega arith, λ h. lt-ltb _ _ (omega arith))
 
 pub returns-then-is_leaf-clause-comparisons : goal.returns-then-is_leaf-clause-comparisons
 returns-then-is_leaf-clause-comparisons g c =

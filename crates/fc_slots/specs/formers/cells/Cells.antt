@@ -1,24 +1,18 @@
 -- `Cells` as a type that may hold the type that holds it.
 use Rattle.std.specs.Prelude.{List, [], Option}
-use mathlib.Core.Path.{refl, sym, ◌∙◌}
+use mathlib.Core.Path.{refl, sym}
 use mathlib.Core.Former.{Former, this, const, pair, list, via}
-use lib.ListN.{length-map}
 use base.Stored.{code_map}
 use denote.RattleType.{RattleType}
-use denote.RawPtr.{Ptr}
 use denote.HoleLaws.{Alike}
 use denote.HolePlaces.{Recodes, struct_places, laid}
 use denote.Hole.Fix.{over}
 use denote.Param.Weighed.{Weighed, w_list}
 use denote.Model.Placed.{view_places}
-use denote.Struct.Props.{props}
 use Rattle.std.specs.declared.alloc.Global.{Global}
-use Rattle.std.specs.contracts.alloc.Global as heap
-use Rattle.std.specs.contracts.impls.GlobalAllocator.TheImpl.{ghosts}
 use Rattle.std.specs.Coded.{coded_option}
 use Rattle.fc_slots.specs.formers.Maybe.{maybe, w_maybe}
-use Rattle.fc_slots.specs.formers.raw.Places as places
-use Rattle.fc_slots.specs.formers.raw.Deed as deed
+use Rattle.fc_slots.specs.formers.raw.Row as row
 use Rattle.fc_slots.specs.declared.cells.Cells.TheInside.{Inside}
 use Rattle.fc_slots.specs.declared.cells.Cells.TheView.{view, invariant}
 use Rattle.fc_slots.specs.contracts.cells.Cells as C
@@ -34,16 +28,15 @@ pub the_empty : List (Option ⊥)
 the_empty = []
 
 abbrev fields : Former {0}
-fields = via (pair (places.the_former this) (pair (deed.the_former this Global) (const (Ptr × Global)))) (λ X. Inside X) (λ X a. (a.places, (a.deed, (a.base.ptr, a.alloc)))) (λ X v. record { base = record { ptr = v.1.1.0 }; places = v.0; deed = v.1.0; alloc = v.1.1.1 }) (λ X a. refl) (λ X v. refl)
+fields = via (pair (row.the_former this) (const Global)) (λ X. Inside X) (λ X a. (a.row, a.alloc)) (λ X v. record { row = v.0; alloc = v.1 }) (λ X a. refl) (λ X v. refl)
 
 module _ (R S : RattleType) (h : R.Denot → S.Denot) where
   pub the_places : Alike R S h → Alike (C.the_row R) (C.the_row S) ((the_former this).map R.Denot S.Denot h)
   the_places a = view_places fields (list (maybe this)) view (λ X Y k u. refl) (λ X u. refl) R.Denot S.Denot h (C.the_row R).coded (C.the_row S).coded
-      (invariant R.Denot) (invariant S.Denot) (λ u. hlevel props) (λ u. hlevel props)
-      (λ u e. (e.0, e.1, e.2 ∙ sym (length-map u.places.cells ((maybe this).map R.Denot S.Denot h)), e.3)) (λ u e. (e.0, e.1, e.2 ∙ length-map u.places.cells ((maybe this).map R.Denot S.Denot h), e.3))
+      (invariant R.Denot) (invariant S.Denot) (λ u p q. refl) (λ u p q. refl) (λ u e. tt) (λ u e. tt)
       (over (I.the_row R)) (over (I.the_row S))
-      (struct_places (I.the_type R) (I.the_type S) ((λ b. record { ptr = b.ptr }), ((places.the_former this).map R.Denot S.Denot h, ((deed.the_former this Global).map R.Denot S.Denot h, (λ n. n, tt)))) _ (λ d. refl) refl
-      ((refl, (λ n. refl, λ n. refl)), (laid _ _ _ (places.the_places R S h a), (laid _ _ _ (deed.the_places heap.the_row ghosts R S h a), ((refl, (λ n. refl, λ n. refl)), tt)))))
+      (struct_places (I.the_type R) (I.the_type S) ((row.the_former this).map R.Denot S.Denot h, (λ n. n, tt)) _ (λ d. refl) refl
+      (laid _ _ _ (row.the_places R S h a), ((refl, (λ n. refl, λ n. refl)), tt)))
 
   pub the_codes_placed : Recodes R S h → Recodes (C.the_row R) (C.the_row S) ((the_former this).map R.Denot S.Denot h)
-  the_codes_placed e d = sym (code_map (coded_option R.coded).code (coded_option S.coded).code ((maybe this).map R.Denot S.Denot h) (places.some_same R S h e) d)
+  the_codes_placed e d = sym (code_map (coded_option R.coded).code (coded_option S.coded).code ((maybe this).map R.Denot S.Denot h) (row.some_same R S h e) d)

@@ -15,7 +15,7 @@ returns-in-Ok g c =
       λ i. inl (c.value_mut.result.ghost_name, written_in m (f.path i)),
       record {
         writes_back = tt;
-        value = sym (ap (option_map (λ e. e.1)) (held_pair cmp k m c.in-Ok.path f.sound f.found) ∙ c.value_mut.ensures.value);
+        value = sym (ap (option_map (λ e. e.1)) (held_pair cmp k m c.locate.new.path f.sound f.found) ∙ c.value_mut.ensures.value);
         put = λ j w. (replaced cmp k m (path_in cmp k m) w f.sound there).put_is j;
         sound = λ w. (replaced cmp k m (path_in cmp k m) w f.sound there).sound;
         comparisons = search rules;

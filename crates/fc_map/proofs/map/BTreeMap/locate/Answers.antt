@@ -13,10 +13,10 @@ pub returns-in-Some-clause-present : goal.returns-in-Some-clause-present
 returns-in-Some-clause-present g c =
     let is : Some c.deref.result.now ≡ c.args.self.now = sym (sym c.self.view_is ∙ ap root_of c.in-Some.is ∙ ap Some (sym c.deref.ensures)) in
     let sound : IsSoundMap c.args.self.now = rw c.self.view_is at c.self.invariant.1 in
-    found_there g.Q.Query.order (g.Q.Query.sought c.args.key) c.args.self.now c.search.result sound (rw (← is) c.search.ensures.found)
+    found_there g.Q.Query.order (g.Q.Query.sought c.args.key) c.args.self.now c.search.new.path c.search.result sound (rw (← is) c.search.ensures.found)
 
 pub returns-in-Some-clause-absent : goal.returns-in-Some-clause-absent
 returns-in-Some-clause-absent g c =
     let is : Some c.deref.result.now ≡ c.args.self.now = sym (sym c.self.view_is ∙ ap root_of c.in-Some.is ∙ ap Some (sym c.deref.ensures)) in
     let sound : IsSoundMap c.args.self.now = rw c.self.view_is at c.self.invariant.1 in
-    found_none g.Q.Query.order (g.Q.Query.sought c.args.key) c.args.self.now c.search.result sound (rw (← is) c.search.ensures.gap)
+    found_none g.Q.Query.order (g.Q.Query.sought c.args.key) c.args.self.now c.search.new.path c.search.result sound (rw (← is) c.search.ensures.gap)

@@ -1,73 +1,60 @@
-use Rattle.std.proofs.Common.{◌≡◌, ◌∙◌, length, ap, sym, Some, arith}
-use Rattle.fc_base.specs.Ascending.{IsAscending}
-use Rattle.fc_node.specs.Place.{IsPlace}
-use Rattle.fc_node.specs.Node.{pairs_of}
-use Rattle.fc_map.specs.Entries.{entries, root_of, IsSoundMap}
-use Rattle.fc_map.proofs.RemoveFacts.{left_list, left_length, left_kept, left_moves}
+use Rattle.std.proofs.Common.{◌≡◌, ◌∙◌, ◌++◌, length, sym, subst, arith}
+use Rattle.fc_node.specs.TreePlace.{IsPlaceIn, ahead_of, behind_of}
+use Rattle.fc_map.specs.Entries.{entries, root_of}
+use Rattle.fc_removal.specs.Removal.{tree_pairs}
+use Rattle.fc_map.proofs.RemoveFacts.{left_entries, map_height, map_kept, map_length, map_moves}
 use Rattle.fc_map.proofs.map.BTreeMap.take_at.Goals as goal
+
+pub remove-pair-requires-clause-sound : goal.remove-pair-requires-clause-sound
+remove-pair-requires-clause-sound g c =
+    let place : IsPlaceIn (root_of c.self.inside.root) c.args.path.now = subst (λ m. IsPlaceIn m c.args.path.now) (sym c.self.view_is) c.requires in
+    map_height _ _ c.self.invariant.1 place
+
+pub remove-pair-requires-clause-place : goal.remove-pair-requires-clause-place
+remove-pair-requires-clause-place g c =
+    let place : IsPlaceIn (root_of c.self.inside.root) c.args.path.now = subst (λ m. IsPlaceIn m c.args.path.now) (sym c.self.view_is) c.requires in
+    subst (λ p. IsPlaceIn (root_of c.self.inside.root) p) (sym c.as_slice.ensures.value) place
 
 pub overflow_sub-self : goal.overflow_sub-self
 overflow_sub-self g c =
-    let root = c.in-Some.root.value in
-    let taken : c.self.inside.root ≡ Some c.in-Some.root = sym c.take.ensures.value ∙ c.in-Some.is in
-    let is : c.args.self.now ≡ Some root = sym c.self.view_is ∙ ap root_of taken in
-    let sound : IsSoundMap (Some root) = rw taken at c.self.invariant.1 in
-    let place : IsPlace c.args.path.now root = rw is at c.requires in
-    let rest = rw c.as_slice.ensures.value at c.remove-pair.ensures.pairs in
-    let longer = left_length root c.args.path.now sound place c.remove-pair.result.1 rest in
-    let len : c.self.inside.len ≡ length (pairs_of root) = c.self.invariant.2 ∙ ap (λ r. length (entries (root_of r))) taken in
+    let m = root_of c.self.inside.root in
+    let place : IsPlaceIn m c.args.path.now = subst (λ m. IsPlaceIn m c.args.path.now) (sym c.self.view_is) c.requires in
+    let rest : tree_pairs c.remove-pair.new.tree ≡ ahead_of m c.args.path.now ++ behind_of m c.args.path.now = rw c.as_slice.ensures.value at c.remove-pair.ensures.pairs in
+    let longer = map_length m c.args.path.now c.self.invariant.1 place c.remove-pair.new.tree rest in
+    let len : c.self.inside.len ≡ length (entries m) = c.self.invariant.2 in
     omega arith
 
 pub invariant_of-self : goal.invariant_of-self
 invariant_of-self g c =
-    let root = c.in-Some.root.value in
-    let taken : c.self.inside.root ≡ Some c.in-Some.root = sym c.take.ensures.value ∙ c.in-Some.is in
-    let is : c.args.self.now ≡ Some root = sym c.self.view_is ∙ ap root_of taken in
-    let sound : IsSoundMap (Some root) = rw taken at c.self.invariant.1 in
-    let place : IsPlace c.args.path.now root = rw is at c.requires in
-    let rest = rw c.as_slice.ensures.value at c.remove-pair.ensures.pairs in
-    let longer = left_length root c.args.path.now sound place c.remove-pair.result.1 rest in
-    let len : c.self.inside.len ≡ length (pairs_of root) = c.self.invariant.2 ∙ ap (λ r. length (entries (root_of r))) taken in
-    let ascending : IsAscending g.K.Ord.cmp (pairs_of root) = rw taken at c.self.invariant.0 in
-    let kept = left_kept root c.args.path.now sound place c.remove-pair.result.1 rest g.K.Ord.cmp ascending (c.remove-pair.ensures.levels sound.0 sound.2) in
+    let m = root_of c.self.inside.root in
+    let place : IsPlaceIn m c.args.path.now = subst (λ m. IsPlaceIn m c.args.path.now) (sym c.self.view_is) c.requires in
+    let rest : tree_pairs c.remove-pair.new.tree ≡ ahead_of m c.args.path.now ++ behind_of m c.args.path.now = rw c.as_slice.ensures.value at c.remove-pair.ensures.pairs in
+    let longer = map_length m c.args.path.now c.self.invariant.1 place c.remove-pair.new.tree rest in
+    let len : c.self.inside.len ≡ length (entries m) = c.self.invariant.2 in
+    let kept = map_kept m c.args.path.now c.self.invariant.1 place c.remove-pair.new.tree rest g.K.Ord.cmp c.self.invariant.0 c.remove-pair.ensures.levels in
     (kept.0, kept.1, omega arith)
 
 pub returns-clause-pair : goal.returns-clause-pair
-returns-clause-pair g c =
-    let root = c.in-Some.root.value in
-    let taken : c.self.inside.root ≡ Some c.in-Some.root = sym c.take.ensures.value ∙ c.in-Some.is in
-    let is : c.args.self.now ≡ Some root = sym c.self.view_is ∙ ap root_of taken in
-    let sound : IsSoundMap (Some root) = rw taken at c.self.invariant.1 in
-    let place : IsPlace c.args.path.now root = rw is at c.requires in
-    rw is (rw c.as_slice.ensures.value at c.remove-pair.ensures.pair)
+returns-clause-pair g c = rw (← c.self.view_is) (rw c.as_slice.ensures.value at c.remove-pair.ensures.pair)
 
 pub returns-clause-rest : goal.returns-clause-rest
-returns-clause-rest g c =
-    let root = c.in-Some.root.value in
-    let taken : c.self.inside.root ≡ Some c.in-Some.root = sym c.take.ensures.value ∙ c.in-Some.is in
-    let is : c.args.self.now ≡ Some root = sym c.self.view_is ∙ ap root_of taken in
-    let sound : IsSoundMap (Some root) = rw taken at c.self.invariant.1 in
-    let place : IsPlace c.args.path.now root = rw is at c.requires in
-    let rest = rw c.as_slice.ensures.value at c.remove-pair.ensures.pairs in
-    rw is (left_list root c.args.path.now sound place c.remove-pair.result.1 rest)
+returns-clause-rest g c = rw (← c.self.view_is) (left_entries c.remove-pair.new.tree ∙ rw c.as_slice.ensures.value at c.remove-pair.ensures.pairs)
 
 pub returns-clause-length : goal.returns-clause-length
 returns-clause-length g c =
-    let root = c.in-Some.root.value in
-    let taken : c.self.inside.root ≡ Some c.in-Some.root = sym c.take.ensures.value ∙ c.in-Some.is in
-    let is : c.args.self.now ≡ Some root = sym c.self.view_is ∙ ap root_of taken in
-    let sound : IsSoundMap (Some root) = rw taken at c.self.invariant.1 in
-    let place : IsPlace c.args.path.now root = rw is at c.requires in
-    let rest = rw c.as_slice.ensures.value at c.remove-pair.ensures.pairs in
-    rw is (left_length root c.args.path.now sound place c.remove-pair.result.1 rest)
+    let m = root_of c.self.inside.root in
+    let place : IsPlaceIn m c.args.path.now = subst (λ m. IsPlaceIn m c.args.path.now) (sym c.self.view_is) c.requires in
+    let rest : tree_pairs c.remove-pair.new.tree ≡ ahead_of m c.args.path.now ++ behind_of m c.args.path.now = rw c.as_slice.ensures.value at c.remove-pair.ensures.pairs in
+    rw (← c.self.view_is) (map_length m c.args.path.now c.self.invariant.1 place c.remove-pair.new.tree rest)
 
 pub returns-clause-moves : goal.returns-clause-moves
 returns-clause-moves g c =
-    let root = c.in-Some.root.value in
-    let taken : c.self.inside.root ≡ Some c.in-Some.root = sym c.take.ensures.value ∙ c.in-Some.is in
-    let is : c.args.self.now ≡ Some root = sym c.self.view_is ∙ ap root_of taken in
-    let sound : IsSoundMap (Some root) = rw taken at c.self.invariant.1 in
-    rw is (left_moves root sound c.args.count.now c.remove-pair.new.count (c.remove-pair.ensures.moves sound.0 sound.2))
+    let m = root_of c.self.inside.root in
+    let place : IsPlaceIn m c.args.path.now = subst (λ m. IsPlaceIn m c.args.path.now) (sym c.self.view_is) c.requires in
+    rw (← c.self.view_is) (map_moves m c.args.path.now c.self.invariant.1 place c.args.count.now c.remove-pair.new.count c.remove-pair.ensures.moves)
 
 pub returns-clause-ascending : goal.returns-clause-ascending
 returns-clause-ascending g c = (invariant_of-self g c).0
+
+pub returns-clause-sound : goal.returns-clause-sound
+returns-clause-sound g c = (invariant_of-self g c).1

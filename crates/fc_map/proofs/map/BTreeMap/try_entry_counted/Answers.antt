@@ -8,7 +8,7 @@ returns-in-Ok g c =
     let cmp = g.K.Ord.cmp in
     let m = c.args.self.now in
     let k = c.args.key in
-    let path = c.in-Ok.path in
+    let path = c.locate.new.path in
     let found = c.in-Ok.ensures.found in
     let sound = c.in-Ok.ensures.sound in (
       (refl, λ w. refl, tt),
@@ -32,7 +32,7 @@ returns g c =
     let cmp = g.K.Ord.cmp in
     let m = c.args.self.now in
     let k = c.args.key in
-    let path = c.in-Err.path in
+    let path = c.locate.new.path in
     let gap = c.in-Err.ensures.gap in
     let sound = c.in-Err.ensures.sound in (
       (refl, λ w. refl, tt),

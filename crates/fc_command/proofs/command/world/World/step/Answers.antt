@@ -1,7 +1,7 @@
 use Rattle.fc_command.proofs.command.world.World.step.Goals as goal
 
 pub returns-in-First-clause-step : goal.returns-in-First-clause-step
-returns-in-First-clause-step g c = rw (← c.in-First.ensures) (c.step_on.ensures.step c.args.self.now.b)
+returns-in-First-clause-step g c = rw (← c.in-First.ensures) c.step_on.ensures.step
 
 pub returns-in-Second-clause-step : goal.returns-in-Second-clause-step
-returns-in-Second-clause-step g c = rw (← c.in-Second.ensures) (c.step_on-in-Second.ensures.step c.args.self.now.a)
+returns-in-Second-clause-step g c = rw (← c.in-Second.ensures) c.step_on-in-Second.ensures.step

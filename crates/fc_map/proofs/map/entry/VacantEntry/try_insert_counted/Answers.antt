@@ -13,9 +13,9 @@ returns-in-Ok g c =
     let back = after_of e.map.now e.path in
     let m = c.insert_at.new.self in
     let put = c.in-Ok.ensures.place in
-    let there = put_place m c.in-Ok.place (e.key, c.args.value) front back put in
+    let there = put_place m c.insert_at.new.path (e.key, c.args.value) front back put in
     let lent : Some c.value_mut.result.now ≡ Some c.args.value = sym c.value_mut.ensures.value ∙ ap (option_map (λ p. p.1)) there.1 in (
-      (refl, (λ w _. (put_written m c.in-Ok.place e.key c.args.value w front back c.value_mut.ensures.sound put, c.value_mut.ensures.kept w)), tt),
+      (refl, (λ w _. (put_written m c.insert_at.new.path e.key c.args.value w front back c.value_mut.ensures.sound put, c.value_mut.ensures.kept w)), tt),
       record {
         writes_back = tt;
         value = cc;

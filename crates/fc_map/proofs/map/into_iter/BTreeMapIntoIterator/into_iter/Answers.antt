@@ -2,13 +2,12 @@ use Rattle.std.proofs.Common.{arith, length, sym, ap, ◌∙◌, subst}
 use Rattle.fc_base.specs.Ascending.{IsAscending}
 use Rattle.arrayvec.proofs.IterLemmas.{rest_runs, rest_runs_back}
 use Rattle.fc_map.specs.Entries.{entries}
-use Rattle.fc_walk.proofs.Opening.{whole}
 use Rattle.fc_map.proofs.map.into_iter.BTreeMapIntoIterator.into_iter.Goals as goal
 
 pub returns : goal.returns
 returns g c =
-    let e = whole c.opened.result c.new.result _ c.new.ensures (c.opened.ensures.pairs ∙ ap entries c.self.view_is) in
-    let a = subst (IsAscending g.K.Ord.cmp) (sym (whole c.opened.result c.new.result _ c.new.ensures c.opened.ensures.pairs)) c.self.invariant.0 in
+    let e = c.over.ensures ∙ ap entries c.self.view_is in
+    let a = subst (IsAscending g.K.Ord.cmp) (sym c.over.ensures) c.self.invariant.0 in
     let l = ap length e in
     let t = c.len-left.type_inv in
     let v = c.len-left.ensures.value in

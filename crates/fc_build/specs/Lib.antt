@@ -1,0 +1,3 @@
+pub mod Spine
+pub mod Spares
+pub mod Built

@@ -1,0 +1,6 @@
+//! Building a sound tree from pairs that come in ascending order.
+#![tactic(auto)]
+
+pub mod builder;
+pub mod spares;
+pub mod spine;

@@ -1,0 +1,103 @@
+-- A copy of a tree, made of copies of its parts.
+use Rattle.std.proofs.Common.{◌≡◌, ℕ, zero, suc, ◌+◌, ◌<◌, ◌≤◌, List, [], ◌∷◌, ◌++◌, length, map, take, get_or, sym, ap, ◌∙◌, subst, arith}
+use Rattle.std.specs.List.{AllZip, AllByRecursion}
+use Rattle.std.specs.List.{insert}
+use Rattle.std.proofs.lemmas.List.{get_or_default, take_all, length-take-le}
+use Rattle.std.proofs.lemmas.List.Edits.{insert_end}
+use Rattle.std.proofs.lemmas.List.Elements.{length_all_zip, all_zip_more}
+use Rattle.fc_node.specs.Weave.{behind, weave}
+use Rattle.fc_node.specs.declared.node.Node.{Node}
+use Rattle.fc_node.specs.Node.{own_pairs, children_of, child_at, pairs_of, IsLeaf, IsLevelled}
+use Rattle.fc_node.proofs.Pairs.{pairs_is, leaf_children}
+use Rattle.fc_copy.specs.Copy.{IsCopy, IsCopyUpTo}
+
+module _ {X : Type 0} (R : X → X → Type 0) where
+  zip_append : (xs us ys vs : List X) → AllZip R xs ys → AllZip R us vs → AllZip R (xs ++ us) (ys ++ vs)
+  zip_append [] us [] vs a b = b
+  zip_append [] us (y ∷ ys) vs a b = absurd a
+  zip_append (x ∷ xs) us [] vs a b = absurd a
+  zip_append (x ∷ xs) us (y ∷ ys) vs a b = (a.0, zip_append xs us ys vs a.1 b)
+
+  zip_behind : (ps qs : List X) (cs ds : List (List X)) → AllZip R ps qs → AllZip (AllZip R) cs ds → AllZip R (behind ps cs) (behind qs ds)
+  zip_behind [] [] cs ds a b = tt
+  zip_behind [] (q ∷ qs) cs ds a b = absurd a
+  zip_behind (p ∷ ps) [] cs ds a b = absurd a
+  zip_behind (p ∷ ps) (q ∷ qs) [] [] a b = a
+  zip_behind (p ∷ ps) (q ∷ qs) [] (d ∷ ds) a b = absurd b
+  zip_behind (p ∷ ps) (q ∷ qs) (c ∷ cs) [] a b = absurd b
+  zip_behind (p ∷ ps) (q ∷ qs) (c ∷ cs) (d ∷ ds) a b = (a.0, zip_append c (behind ps cs) d (behind qs ds) b.0 (zip_behind ps qs cs ds a.1 b.1))
+
+  zip_weave : (cs ds : List (List X)) (ps qs : List X) → AllZip (AllZip R) cs ds → AllZip R ps qs → AllZip R (weave cs ps) (weave ds qs)
+  zip_weave [] [] ps qs b a = a
+  zip_weave [] (d ∷ ds) ps qs b a = absurd b
+  zip_weave (c ∷ cs) [] ps qs b a = absurd b
+  zip_weave (c ∷ cs) (d ∷ ds) ps qs b a = zip_append c (behind ps cs) d (behind qs ds) b.0 (zip_behind ps qs cs ds a b.1)
+
+  -- As many copies as items that were copied.
+  pub many_copied : (i : ℕ) (xs ys : List X) → i ≤ length xs → AllZip R (take i xs) ys → length ys ≡ i
+  many_copied i xs ys h a = sym (length_all_zip R (take i xs) ys a) ∙ length-take-le i xs h
+
+  -- One more item was copied, and its copy put behind the others.
+  pub one_copied : (i : ℕ) (xs ys zs : List X) (x y : X) → i < length xs → x ≡ get_or xs i x → AllZip R (take i xs) ys → R x y → zs ≡ insert ys i y → AllZip R (take (i + 1) xs) zs
+  one_copied i xs ys zs x y h e a r is =
+      let many = many_copied i xs ys (omega arith) a in
+      let behind : zs ≡ ys ++ y ∷ [] = is ∙ ap (λ j. insert ys j y) (sym many) ∙ insert_end ys y in
+      subst (AllZip R (take (i + 1) xs)) (sym behind) (all_zip_more R xs ys i x y h e a r)
+
+  -- All items were copied.
+  pub all_copied : (i : ℕ) (xs ys : List X) → i ≡ length xs → AllZip R (take i xs) ys → AllZip R xs ys
+  all_copied i xs ys e a = subst (λ l. AllZip R l ys) (take_all i xs (omega arith)) a
+
+module _ {K V : Type 0} (same : K × V → K × V → Type 0) where
+  lists : (cs ds : List (Node K V)) → AllZip (IsCopy same) cs ds → AllZip (AllZip same) (map pairs_of cs) (map pairs_of ds)
+  lists [] [] a = tt
+  lists [] (d ∷ ds) a = absurd a
+  lists (c ∷ cs) [] a = absurd a
+  lists (c ∷ cs) (d ∷ ds) a = (a.0.pairs, lists cs ds a.1)
+
+  lower : (h : ℕ) (cs ds : List (Node K V)) → AllZip (IsCopy same) cs ds → AllByRecursion (λ c. (5 ≤ length (own_pairs c)) × IsLevelled h c) cs → AllByRecursion (λ c. (5 ≤ length (own_pairs c)) × IsLevelled h c) ds
+  lower h [] [] a l = tt
+  lower h [] (d ∷ ds) a l = absurd a
+  lower h (c ∷ cs) [] a l = absurd a
+  lower h (c ∷ cs) (d ∷ ds) a l =
+      let many = length_all_zip same (own_pairs c) (own_pairs d) a.0.own in
+      let five = l.0.0 in
+      ((omega (arith, many, five), a.0.levels h l.0.1), lower h cs ds a.1 l.1)
+
+  module _ (i : ℕ) (n m : Node K V) (copied : IsCopyUpTo same i n m) where
+    -- A node with a child is no leaf, and nor is the copy.
+    pub inner_copy : i < length (children_of n) → ¬ (IsLeaf m)
+    inner_copy h = copied.inner (λ l. let e = ap length (leaf_children n l) in absurd (omega arith))
+
+    pub children_copied : i ≤ length (children_of n) → length (children_of m) ≡ i
+    children_copied h = many_copied (IsCopy same) i (children_of n) (children_of m) h copied.below
+
+    -- One more child was copied, and its copy put behind the others.
+    pub child_copied : (w c d : Node K V) → i < length (children_of n) → c ≡ child_at n i → IsCopy same c d → own_pairs w ≡ own_pairs m → children_of w ≡ children_of m ++ d ∷ [] → ¬ (IsLeaf w) → IsCopyUpTo same (i + 1) n w
+    child_copied w c d h e copy own below inner = record {
+      own = subst (AllZip same (own_pairs n)) (sym own) copied.own;
+      below = subst (AllZip (IsCopy same) (take (i + 1) (children_of n))) (sym below) (all_zip_more (IsCopy same) (children_of n) (children_of m) i c d h (e ∙ get_or_default (children_of n) i n c h) copied.below copy);
+      leaf = λ l. let e = ap length (leaf_children n l) in absurd (omega arith);
+      inner = λ no. inner;
+    }
+
+    -- All children were copied: that is a copy of the tree.
+    pub tree_copied : i ≡ length (children_of n) → IsCopy same n m
+    tree_copied e = record {
+      pairs = subst (λ s. AllZip same s (pairs_of m)) (sym (pairs_is n)) (subst (AllZip same (weave (map pairs_of (children_of n)) (own_pairs n))) (sym (pairs_is m)) (zip_weave same (map pairs_of (children_of n)) (map pairs_of (children_of m)) (own_pairs n) (own_pairs m) (lists (children_of n) (children_of m) below) copied.own));
+      own = copied.own;
+      levels = levels;
+    }
+      where
+        below : AllZip (IsCopy same) (children_of n) (children_of m)
+        below = all_copied (IsCopy same) i (children_of n) (children_of m) e copied.below
+
+        many : length (own_pairs n) ≡ length (own_pairs m)
+        many = length_all_zip same (own_pairs n) (own_pairs m) copied.own
+
+        wide : length (children_of n) ≡ length (children_of m)
+        wide = length_all_zip (IsCopy same) (children_of n) (children_of m) below
+
+        levels : (h : ℕ) → IsLevelled h n → IsLevelled h m
+        levels zero l = let f = l.0 in (omega (arith, many, f), copied.leaf l.1)
+        levels (suc h) l = let f = l.0 in let k = l.1 in (omega (arith, many, f), omega (arith, many, wide, k), lower h (children_of n) (children_of m) below l.2)

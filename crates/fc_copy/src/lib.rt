@@ -1,0 +1,4 @@
+//! Copies of trees.
+#![tactic(auto)]
+
+pub mod copy;

@@ -1,0 +1,103 @@
+//! Reading walks over the pairs of a map within two bounds, from both ends.
+ghost use Rattle.std.specs.Prelude.{◌≡◌, ◌≤◌, ⊤, length, IsTrue, IfSome, None};
+ghost use Rattle.fc_base.specs.Ascending.{IsAscending};
+ghost use Rattle.fc_base.specs.Ranges.{bound_now, is_range, within};
+ghost use Rattle.fc_node.specs.Tree.{entries, root_of, IsSoundMap};
+ghost use Rattle.std.specs.Iterator.{YieldsFirstBy, YieldsLastBy, item_count, UpTo, at_most};
+
+use fc_node::node::Node;
+use fc_walk::span::Span;
+use std::alloc::AllocError;
+use std::iter::FusedIterator;
+use std::marker::Model;
+use std::ops::Bound;
+
+/// The pairs of a range that are still to come, in ascending order of their keys. `next` gives the first of them and `next_back`
+/// the last; once there is none, both answer `None` ever after. No call compares keys or takes memory. Upstream:
+/// `btree_map::Range`.
+#[derive(Drop)]
+pub struct Range<'a, K, V> {
+    span: Span<'a, K, V>,
+}
+
+impl<'a, K, V> Model for Range<'a, K, V> {
+    ghost use Rattle.std.specs.Prelude.{List};
+
+    ghost Value = { List (K × V) };
+
+    ghost view = { λ w. w.span };
+}
+
+impl<'a, K: Ord, V> Range<'a, K, V> {
+    /// A walk over the pairs of a tree whose keys lie within both bounds.
+    pub fn within(
+        root: &'a Option<Box<Node<K, V>>>,
+        lo: &Bound<&K>,
+        hi: &Bound<&K>,
+    ) -> Range<'a, K, V>
+        requires sound { IsSoundMap (root_of root.now) }
+        requires ascending { IsAscending K.cmp (entries (root_of root.now)) }
+        requires range { IsTrue (is_range K.cmp (bound_now lo.now) (bound_now hi.now)) }
+        ensures { result ≡ within K.cmp (bound_now lo.now) (bound_now hi.now) (entries (root_of root.now)) }
+    {
+        Range {
+            span: Span::within(root, lo, hi),
+        }
+    }
+}
+
+impl<'a, K, V> Clone for Range<'a, K, V> {
+    ghost is_clone = { λ s r. r ≡ s };
+
+    ghost is_infallible = { λ _. ⊤ };
+
+    /// A second walk over the pairs still to come, which takes no memory.
+    fn clone(&self) -> Result<Range<'a, K, V>, AllocError> {
+        Ok(Range {
+            span: self.span.copied(),
+        })
+    }
+}
+
+impl<'a, K, V> Iterator for Range<'a, K, V> {
+    ghost use Rattle.fc_iter.specs.Walks.{deref_pair};
+
+    type Item = (&'a K, &'a V);
+
+    ghost next_gives = { YieldsFirstBy deref_pair (λ s. s) };
+
+    ghost remaining = { item_count (λ s. s) };
+
+    fn next(&mut self) -> Option<(&'a K, &'a V)> {
+        if self.span.is_empty() {
+            return None;
+        }
+        let pair = self.span.next();
+        Some((&pair.0, &pair.1))
+    }
+
+    /// Nothing is known without a walk to the end: `(0, None)`.
+    fn size_hint(&self) -> (usize, Option<usize>)
+        ensures lower { result.0 ≤ length self.now }
+        ensures upper { IfSome result.1 (UpTo (at_most (length self.now))) }
+        ensures exact { result ≡ (0, None) }
+    {
+        (0, None)
+    }
+}
+
+impl<'a, K, V> DoubleEndedIterator for Range<'a, K, V> {
+    ghost use Rattle.fc_iter.specs.Walks.{deref_pair};
+
+    ghost next_back_gives = { YieldsLastBy deref_pair (λ s. s) };
+
+    fn next_back(&mut self) -> Option<(&'a K, &'a V)> {
+        if self.span.is_empty() {
+            return None;
+        }
+        let pair = self.span.next_back();
+        Some((&pair.0, &pair.1))
+    }
+}
+
+impl<'a, K, V> FusedIterator for Range<'a, K, V> {}

@@ -1,0 +1,10 @@
+use Rattle.std.proofs.Common.{length}
+use Rattle.fc_lines.specs.Lines.{words_left}
+use Rattle.fc_lines.proofs.PairFacts.{ReadsPairs}
+use Rattle.fc_lines.proofs.lines.pairs_in.Given as goal
+
+abbrev pub invariant-loop-words : goal.invariant-loop-words
+invariant-loop-words l = ReadsPairs (words_left l.fn.words) l.list.items (words_left l.words)
+
+abbrev pub decreases-loop-words : goal.decreases-loop-words
+decreases-loop-words l = length (words_left l.words)

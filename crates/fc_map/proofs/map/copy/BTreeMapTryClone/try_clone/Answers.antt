@@ -1,0 +1,27 @@
+use Rattle.std.proofs.Common.{◌≡◌, ◌∙◌, length, ap, sym, subst, Some}
+use Rattle.std.proofs.lemmas.List.Elements.{length_all_zip}
+use Rattle.std.proofs.lemmas.Result.{err_from_is_err_and}
+use Rattle.fc_base.specs.Ascending.{IsAscending}
+use Rattle.fc_node.specs.Node.{pairs_of}
+use Rattle.fc_copy.specs.Copy.{AreSame, IsCopy}
+use Rattle.fc_map.specs.Entries.{root_of, entries, IsSoundMap}
+use Rattle.fc_map.proofs.CopyFacts.{equal_answer, ascending_copied, sound_copied, not_empty}
+use Rattle.fc_map.proofs.map.copy.BTreeMapTryClone.try_clone.Goals as goal
+
+pub returns-in_err-copy : goal.returns-in_err-copy
+returns-in_err-copy g c =
+    let p = err_from_is_err_and c.from_residual.result c.from_residual.ensures.1 in
+    let sound : IsSoundMap (Some c.in-Some.root.value) = rw c.in-Some.is at c.self.invariant.1 in
+    rw p.1 (λ none. not_empty c.in-Some.root.value sound (sym (ap (λ r. entries (root_of r)) c.in-Some.is) ∙ ap entries c.self.view_is ∙ none))
+
+pub invariant_of-result : goal.invariant_of-result
+invariant_of-result g c =
+    let source = c.in-Some.root.value in
+    let copy = c.in_ok-copy.copy.value in
+    let same = AreSame g.K.TryClone.same g.V.TryClone.same in
+    let copied = subst (λ n. IsCopy same n copy) c.deref.ensures c.in_ok-copy.ensures in
+    let ascending : IsAscending g.K.Ord.cmp (pairs_of source) = rw c.in-Some.is at c.self.invariant.0 in
+    let sound : IsSoundMap (Some source) = rw c.in-Some.is at c.self.invariant.1 in
+    let len : c.self.inside.len ≡ length (pairs_of source) = c.self.invariant.2 ∙ ap (λ r. length (entries (root_of r))) c.in-Some.is in
+    let equal = λ (a : g.row.K.Denot) (b : g.row.K.Denot) (s : g.K.TryClone.same a b). equal_answer (g.K.Ord.cmp a b) (sym (g.met.K.Ord.matches_eq a b) ∙ c.requires.2 a b s) in
+    (ascending_copied g.K.Ord.cmp g.met.K.Ord.total g.K.TryClone.same g.V.TryClone.same equal (pairs_of source) (pairs_of copy) copied.pairs ascending, sound_copied same source copy copied sound, len ∙ length_all_zip same (pairs_of source) (pairs_of copy) copied.pairs)

@@ -1,0 +1,63 @@
+//! Two maps made one.
+ghost use Rattle.std.specs.Prelude.{◌≡◌, ◌+◌, ◌*◌, ◌^◌, ◌<◌, ◌≤◌, ◌⊎◌, [], length, IfOk, IfErr, OnErr, IsErr};
+ghost use Rattle.fc_base.specs.Ascending.{IsAscending};
+ghost use Rattle.fc_base.specs.Growth.{MayAppendRefuse};
+ghost use Rattle.fc_base.specs.Joined.{joined};
+ghost use Rattle.fc_map.specs.Entries.{entries, IsSoundMap};
+
+use super::BTreeMap;
+use fc_append::append::try_append;
+use fc_base::{Count, TryReserveError};
+
+impl<K: Ord + Drop, V: Drop> BTreeMap<K, V> {
+    /// Takes all pairs of `other`, which is then empty. Where both maps hold an equal key, key and value are `other`'s, and ours are
+    /// dropped. Where one of the two is empty nothing is asked for and nothing compared. Upstream: `BTreeMap::append`, which answers
+    /// nothing.
+    ///
+    /// # Errors
+    /// Only where neither map is empty: `CapacityOverflow` where their lengths add past `usize::MAX`, and then always; else
+    /// `AllocError`, where a request for memory was refused. Both maps are then as they were, tree and all.
+    pub fn append(&mut self, other: &mut Self) -> Result<(), TryReserveError>
+        ensures joined { IfOk result (λ _. entries self.new ≡ joined K.cmp (entries self.old) (entries other.old)) }
+        ensures emptied { IfOk result (λ _. entries other.new ≡ []) }
+        ensures unchanged { IfErr result (λ _. (self.new ≡ self.old) × (other.new ≡ other.old)) }
+        ensures error { IfErr result (MayAppendRefuse (length (entries self.old)) (length (entries other.old))) }
+        ensures full { 0 < length (entries self.old) → 0 < length (entries other.old) → usize.MAX < length (entries self.old) + length (entries other.old) → IsErr result }
+        ensures ascending { IsAscending K.cmp (entries self.new) }
+        ensures sound { IsSoundMap self.new }
+    {
+        self.append_counted(other, &mut Count::new())
+    }
+
+    /// `append`, with its comparisons added to the count: at most twice as many as there are pairs in both, and none where one of the
+    /// two is empty.
+    ///
+    /// # Errors
+    /// As `append`.
+    pub fn append_counted(
+        &mut self,
+        other: &mut Self,
+        count: &mut Count,
+    ) -> Result<(), TryReserveError>
+        ensures joined { IfOk result (λ _. entries self.new ≡ joined K.cmp (entries self.old) (entries other.old)) }
+        ensures emptied { IfOk result (λ _. entries other.new ≡ []) }
+        ensures unchanged { IfErr result (λ _. (self.new ≡ self.old) × (other.new ≡ other.old)) }
+        ensures error { IfErr result (MayAppendRefuse (length (entries self.old)) (length (entries other.old))) }
+        ensures full { 0 < length (entries self.old) → 0 < length (entries other.old) → usize.MAX < length (entries self.old) + length (entries other.old) → IsErr result }
+        ensures ascending { IsAscending K.cmp (entries self.new) }
+        ensures sound { IsSoundMap self.new }
+        ensures comparisons { count.new.comparisons ≤ count.old.comparisons + 2 * (length (entries self.old) + length (entries other.old)) }
+        ensures none { (entries self.old ≡ []) ⊎ (entries other.old ≡ []) → count.new.comparisons ≡ count.old.comparisons }
+    {
+        self.len = try_append(
+            self.alloc,
+            &mut self.root,
+            self.len,
+            &mut other.root,
+            other.len,
+            count,
+        )?;
+        other.len = 0;
+        Ok(())
+    }
+}

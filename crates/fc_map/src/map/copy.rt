@@ -1,0 +1,36 @@
+//! Copies of maps.
+ghost use Rattle.std.specs.Prelude.{◌≡◌, true, []};
+ghost use Rattle.std.specs.List.{AllZip};
+ghost use Rattle.fc_copy.specs.Copy.{AreSame};
+ghost use Rattle.fc_map.specs.Entries.{entries};
+
+use super::BTreeMap;
+use fc_base::{TryClone, TryReserveError};
+use fc_copy::copy::try_copy;
+
+/// A copy of a map has a copy of each pair, in order, made by the `try_clone` of key and value, in a tree of the same nodes; it takes its
+/// memory where the map does. Copies of keys have to be equal to them, so that they ascend as the keys do. Upstream:
+/// `BTreeMap::try_clone`.
+///
+/// # Errors
+/// `AllocError` where a node was refused, or the error of a key or a value whose copy was; never where the map is empty. What was made by
+/// then is dropped.
+impl<K: Ord + TryClone, V: TryClone> TryClone for BTreeMap<K, V> {
+    ghost same = { λ source copy. AllZip (AreSame K.same V.same) (entries source) (entries copy) };
+
+    ghost can_clone = { K.can_clone × V.can_clone × ((a b : K) → K.same a b → K.eq a b ≡ true) };
+
+    ghost never_refuses = { λ source. entries source ≡ [] };
+
+    fn try_clone(&self) -> Result<BTreeMap<K, V>, TryReserveError> {
+        let Some(root) = &self.root else {
+            return Ok(BTreeMap::new(self.alloc));
+        };
+        let copy = try_copy(self.alloc, root)?;
+        Ok(BTreeMap {
+            root: Some(copy),
+            len: self.len,
+            alloc: self.alloc,
+        })
+    }
+}

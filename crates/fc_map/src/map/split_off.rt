@@ -1,0 +1,79 @@
+//! A map cut in two.
+ghost use Rattle.std.specs.Prelude.{◌≡◌, ◌<◌, ◌≤◌, length, IfOk, IfErr};
+ghost use Rattle.fc_base.specs.Ascending.{IsAscending};
+ghost use Rattle.fc_base.specs.Halves.{not_below};
+ghost use Rattle.fc_base.specs.Parts.{below};
+ghost use Rattle.fc_base.specs.declared.try_reserve_error.TryReserveError.TheVariants.{AllocError};
+ghost use Rattle.fc_border.specs.Cut.{IsCutPathIn, IsCutInTwo};
+ghost use Rattle.fc_map.specs.Entries.{entries, root_of, IsSoundMap};
+
+use super::BTreeMap;
+use fc_base::{Count, Query, TryReserveError};
+use fc_border::counting::count_pairs;
+use fc_border::cutting::{is_left_smaller, try_split};
+use fc_node::node::Node;
+use fc_node::path::Path;
+
+impl<K: Ord + Drop, V: Drop> BTreeMap<K, V> {
+    /// Takes the pairs whose keys are not smaller than the key, which is a `Query`, out into a map of their own. The pairs with
+    /// smaller keys stay. An empty map asks for nothing. Upstream: `BTreeMap::split_off`, which answers the map alone.
+    ///
+    /// # Errors
+    /// `AllocError` where a request for memory was refused, which takes a map that is not empty. The map is then as it was, tree
+    /// and all.
+    pub fn split_off<Q: Query<K>>(&mut self, key: Q) -> Result<Self, TryReserveError>
+        ensures below { IfOk result (λ _. entries self.new ≡ below Q.order (entries self.old) (Q.sought key)) }
+        ensures from { IfOk result (λ rest. entries rest ≡ not_below Q.order (entries self.old) (Q.sought key)) }
+        ensures unchanged { IfErr result (λ _. self.new ≡ self.old) }
+        ensures error { IfErr result (λ e. (e ≡ AllocError) × (0 < length (entries self.old))) }
+        ensures ascending { IsAscending K.cmp (entries self.new) × IfOk result (λ rest. IsAscending K.cmp (entries rest)) }
+        ensures sound { IsSoundMap self.new × IfOk result (λ rest. IsSoundMap rest) }
+    {
+        if self.len == 0 {
+            return Ok(BTreeMap::new(self.alloc));
+        }
+        let mut path = Path::new();
+        // Whether the key is there or not, the path leads to where the map is cut.
+        let _found = self.locate(key, &mut path, &mut Count::new());
+        self.split_at(&path)
+    }
+
+    // Cuts the map where the path leads to: the pairs before that place stay, and the answer takes the others.
+    fn split_at(&mut self, path: &Path) -> Result<Self, TryReserveError>
+        requires path { IsCutPathIn path.now self.old }
+        ensures cut { IfOk result (IsCutInTwo path.now self.old self.new) }
+        ensures error { IfErr result (λ e. e ≡ AllocError) }
+        ensures unchanged { IfErr result (λ _. self.new ≡ self.old) }
+        ensures ascending { IsAscending K.cmp (entries self.new) × IfOk result (λ rest. IsAscending K.cmp (entries rest)) }
+        ensures sound { IsSoundMap self.new × IfOk result (λ rest. IsSoundMap rest) }
+    {
+        let Some(root) = &self.root else {
+            unreachable!()
+        };
+        let is_left_smaller = is_left_smaller(root, path.as_slice());
+        let rest = try_split(self.alloc, &mut self.root, path.as_slice())?;
+        let moved = if is_left_smaller {
+            self.len - count_in(&self.root)
+        } else {
+            count_in(&rest)
+        };
+        self.len -= moved;
+        Ok(BTreeMap {
+            root: rest,
+            len: moved,
+            alloc: self.alloc,
+        })
+    }
+}
+
+// How many pairs there are in a tree, if there is one.
+fn count_in<K, V>(root: &Option<Box<Node<K, V>>>) -> usize
+    requires sound { IsSoundMap (root_of root.now) }
+    requires fits { length (entries (root_of root.now)) ≤ usize.MAX }
+    ensures { result ≡ length (entries (root_of root.now)) }
+{
+    match root {
+        None => 0,
+        Some(root) => count_pairs(root),
+    }
+}
