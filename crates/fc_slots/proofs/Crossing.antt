@@ -7,7 +7,7 @@ use base.Shift.{Keyless}
 use denote.RattleType.{RattleType}
 use denote.RawPtr.{Ptr, block_ptr, null_ptr}
 use denote.Param.Send.{IsSend, IsSync, Common, part_keyless}
-use Rattle.libc.specs.Heap.{chunk-Keyless}
+use Rattle.std.proofs.Crossing.{frees}
 use Rattle.fc_slots.specs.Ownership.{places, places_lent, row_owned, row_lent, if_sized}
 
 if_crosses : (n : ℕ) (owned : Fml) → Keyless owned → Keyless (if_sized n owned)
@@ -22,7 +22,7 @@ module _ (R : RattleType) where
 
   pub row_crosses : IsSend R → (p : Ptr) (cs : List (Option R.Denot)) → Keyless (row_owned R p cs)
   row_crosses sent null_ptr cs = tt
-  row_crosses sent (block_ptr b o) cs = ((tt, if_crosses (type_size R) _ (chunk-Keyless _ (block_ptr b o))), places_cross sent b o cs)
+  row_crosses sent (block_ptr b o) cs = ((tt, if_crosses (type_size R) _ (frees.frees _ _ (block_ptr b o))), places_cross sent b o cs)
 
   lent_cross : IsSync R → (b o : ℕ) (cs : List (Option R.Denot)) → Common (places_lent R b o cs)
   lent_cross shared b o [] κ = tt

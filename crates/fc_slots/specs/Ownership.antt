@@ -3,13 +3,18 @@ use Rattle.std.specs.Prelude.{ℕ, zero, suc, ◌+◌, ◌*◌, ◌^◌, List, [
 use Rattle.std.specs.Mem.{type_size}
 use base.Fraction.{full_share}
 use base.Fml.{Lft, Fml, ftrue, ffalse, fsep, flt, froom}
-use mir.Syntax.{ty_array}
+use mir.Syntax.{Ty, ty_array}
 use mir.Raw.{raw}
 use denote.RattleType.{RattleType}
 use denote.Memory.{lone, part_at, shared_of}
 use denote.Sharing.{nothing, said, beside}
 use denote.RawPtr.{Ptr, block_ptr, null_ptr}
-use Rattle.libc.specs.Heap.{chunk}
+use Rattle.std.specs.declared.alloc.Global.{Global}
+use Rattle.std.specs.contracts.impls.GlobalAllocator.TheImpl.{ghosts}
+
+-- the allocator's token: the right to free the block at a pointer, which is for a value of a type
+abbrev pub token : Ty → Ptr → Fml
+token = ghosts.dealloc_token (record { memory = record { seal = tt } })
 
 -- no room is asked for where an item has no size
 abbrev pub if_sized : ℕ → Fml → Fml
@@ -41,7 +46,7 @@ module _ (R : RattleType) where
 
   -- a block of n places, and the token that gives it back
   abbrev pub block : Ptr → ℕ → Fml
-  block p n = fsep (bounded n) (if_sized (type_size R) (chunk (raw (ty_array (lone R.mir) n)) p))
+  block p n = fsep (bounded n) (if_sized (type_size R) (token (raw (ty_array (lone R.mir) n)) p))
 
   abbrev pub row_owned : Ptr → List (Option R.Denot) → Fml
   row_owned null_ptr cs = ffalse

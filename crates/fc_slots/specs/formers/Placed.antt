@@ -15,8 +15,7 @@ use denote.Memory.{lone, part_of, raw_all}
 use denote.RawPtr.{Ptr, block_ptr, null_ptr}
 use denote.Sharing.{said, beside}
 use Rattle.fc_slots.specs.formers.Maybe.{maybe}
-use Rattle.libc.specs.Heap.{chunk}
-use Rattle.fc_slots.specs.Ownership.{if_sized, place, places, place_lent, places_lent, bounded, block, row_owned, row_lent}
+use Rattle.fc_slots.specs.Ownership.{token, if_sized, place, places, place_lent, places_lent, bounded, block, row_owned, row_lent}
 
 module _ (R S : RattleType) (h : R.Denot → S.Denot) (a : Alike R S h) where
   abbrev on : Option R.Denot → Option S.Denot
@@ -40,7 +39,7 @@ module _ (R S : RattleType) (h : R.Denot → S.Denot) (a : Alike R S h) where
   bounded_placed cs = λ i. flt (length-map cs on i * width i) (2 ^ 63)
 
   block_placed : (p : Ptr) (cs : List (Option R.Denot)) → block S p (length (map on cs)) ≡ block R p (length cs)
-  block_placed p cs = λ i. fsep (bounded_placed cs i) (if_sized (width i) (chunk (raw (ty_array (lone (a.mir_same i)) (length-map cs on i))) p))
+  block_placed p cs = λ i. fsep (bounded_placed cs i) (if_sized (width i) (token (raw (ty_array (lone (a.mir_same i)) (length-map cs on i))) p))
 
   pub own_placed : (p : Ptr) (cs : List (Option R.Denot)) → row_owned S p (map on cs) ≡ row_owned R p cs
   own_placed (block_ptr b o) cs = λ i. fsep (block_placed (block_ptr b o) cs i) (places_placed b o cs i)

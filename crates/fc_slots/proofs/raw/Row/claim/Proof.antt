@@ -15,7 +15,6 @@ use denote.Steps.{owned}
 use denote.Struct.Struct.{Struct, Struct-Makes}
 use denote.Struct.Declared as Declared
 use denote.Triple.Call.{calls_at}
-use Rattle.libc.specs.Heap.{chunk}
 use Rattle.std.specs.Prelude.{IfOk, Ok, Err}
 use Rattle.std.specs.Mem.{type_size}
 use Rattle.std.specs.Vec.Ownership.{FitsInBlock}
@@ -29,7 +28,7 @@ use Rattle.std_alloc.proofs.RawLayout.{as_written}
 use Rattle.std_alloc.proofs.RcSteps.{first_Good, is_not}
 use Rattle.std_alloc.proofs.ResultValues.{ok_of, err_of}
 use Rattle.std.proofs.impls.GlobalAllocator.allocate.Met.{met}
-use Rattle.fc_slots.specs.Ownership.{places, block, if_sized}
+use Rattle.fc_slots.specs.Ownership.{token, places, block, if_sized}
 use Rattle.fc_slots.specs.declared.raw.Row.{Row}
 use Rattle.fc_slots.proofs.Heap.{Asks, asks_at, asks, asked}
 use Rattle.fc_slots.proofs.Memory.{cut, nowhere, sized, unsized}
@@ -47,7 +46,7 @@ module _ (E : El) where
 
   -- the answer is made of the places and the right to give them back
   made : {M : Type 1} {𝓤 : Ura M} {𝓛 : Logic 𝓤} {K : Type 0} {Γ : List (Item 𝓤)} {G : Goal 𝓤 𝓛.H} → K → (b o n : ℕ) → n * type_size (R E) < 2 ^ 63
-      → Step K 𝓛 (‵ (Out.own_val (Ok (empty (block_ptr b o) n)) (live 0 (vcons (word (block_ptr b o)) vnil) ∷ [])) ∷ Γ) G (‵ (if_sized (type_size (R E)) (chunk (block_ty E n) (block_ptr b o))) ∷ ‵ (places (R E) b o (replicate n None)) ∷ Γ) G
+      → Step K 𝓛 (‵ (Out.own_val (Ok (empty (block_ptr b o) n)) (live 0 (vcons (word (block_ptr b o)) vnil) ∷ [])) ∷ Γ) G (‵ (if_sized (type_size (R E)) (token (block_ty E n) (block_ptr b o))) ∷ ‵ (places (R E) b o (replicate n None)) ∷ Γ) G
   made {𝓛 = 𝓛} t b o n small = step (λ k. let p : Ptr = block_ptr b o in flt_i t (n * type_size (R E)) (2 ^ 63) small $ fjoin t $
       rewrite t 0 (λ m. ‵ (block (R E) p m)) (sym (length-replicate n None)) refl $ fjoin t $ pointer E t p $ fjoin t $
       use1 𝓛 (‵ (Out.own_val (Ok (empty p n)) (live 0 (vcons (word p) vnil) ∷ []))) (ok_of 𝓛 (Pr E) AE.the_row (empty p n) (word p)) $ k)
@@ -78,7 +77,7 @@ claim_spec 𝓤 𝓛 𝓜 𝓡 wired X L =
     (λ zero. let p : Ptr = block_ptr self.ref_ptr.0 self.ref_ptr.1 in
     sets ! (addr ! (through ! refl (stop !))) refl (tt, tt) $ sets ! (of_opd ! (get ! refl)) refl (tt, tt) $ sets ! (agg ! (and_then ! (get ! refl) (no_more !))) refl (word-Good [] p) $
     sets ! (agg ! (and_then ! (lit ! tt) (and_then ! (get ! refl) (no_more !)))) refl (typed p) $ returns_within ! Post refl (look_at ! 0 refl) $ free_all ! refl $
-    drop ! $ nowhere E ! (no_size s zero) len self.ref_ptr.0 self.ref_ptr.1 $ nothing ! $ rewrite ! 0 (λ (F : Fml). ‵ F) (sym (unsized s (chunk (block_ty E len) p) (no_size s zero))) refl $
+    drop ! $ nowhere E ! (no_size s zero) len self.ref_ptr.0 self.ref_ptr.1 $ nothing ! $ rewrite ! 0 (λ (F : Fml). ‵ F) (sym (unsized s (token (block_ty E len) p) (no_size s zero))) refl $
     made E ! self.ref_ptr.0 self.ref_ptr.1 len small $ out (Ok (empty E p len)) (live 0 (vcons (word p) vnil)) refl)
     (λ some. skips ! $ exec ! 𝓣.C 𝓣.Λ Ev (after 3 fn.body) (at_ret Ev Post) $
     let both : Body = head (after 5 fn.body) in let Then : After 𝓤 𝓛.H = any_q (after_seq 𝓤 𝓛.H (Wp 𝓤 𝓛.H 𝓣.C 𝓣.Λ Ev (after 6 fn.body) (at_return 𝓤 𝓛.H Ev Post)) (at_return 𝓤 𝓛.H Ev Post)) in
@@ -92,7 +91,7 @@ claim_spec 𝓤 𝓛 𝓜 𝓡 wired X L =
     sets ! (of_opd ! (get ! refl)) refl (tt, tt) $ sets ! (agg ! (and_then ! (get ! refl) (no_more !))) refl (word-Good [] p) $
     sets_last ! (agg ! (and_then ! (lit ! tt) (and_then ! (get ! refl) (no_more !)))) refl (typed p) $ exec ! 𝓣.C 𝓣.Λ Ev (after 6 fn.body) (at_ret Ev Post) $ sets ! (of_opd ! (get ! refl)) refl (typed p) $
     returns ! (look_at ! 0 refl) $ free_all ! refl $ as_written ! (ty_array (elτ E) len) b o $ cut E ! len b o $ move ! (1 ∷ []) $
-    rewrite ! 0 (λ (F : Fml). ‵ F) (sym (sized s (chunk τ p) (λ none. is_not (capped s) 0 some (ap capped none)))) refl $ made E ! b o len small $ out (Ok (empty E p len)) (live 0 (vcons (word p) vnil)) refl)
+    rewrite ! 0 (λ (F : Fml). ‵ F) (sym (sized s (token τ p) (λ none. is_not (capped s) 0 some (ap capped none)))) refl $ made E ! b o len small $ out (Ok (empty E p len)) (live 0 (vcons (word p) vnil)) refl)
     (λ e. let Refusal = Struct (Declared.shape AE.the_type) in let none : Val = live 1 (vcons (vstruct vnil) vnil) in lands_as ! e refl (Answer-typed false 0 0) $
     first ! $ switches_on ! (get_tag ! (vrt ! refl (fld ! refl (stop !))) (whole !)) $ exec ! 𝓣.C 𝓣.Λ Ev (arm_body 1 both) Then $ sets ! (of_opd ! (get_in ! (vrt ! refl (fld ! refl (stop !))) (in_variant ! 1 0 refl refl (whole !)))) refl (tt, tt) $
     sets_last ! (agg ! (and_then ! (lit ! tt) (and_then ! (get ! refl) (no_more !)))) refl (tt, (record { fits = lit< tt }, (tt, tt))) $ exec ! 𝓣.C 𝓣.Λ Ev (after 6 fn.body) (at_ret Ev Post) $ sets ! (of_opd ! (get ! refl)) refl (tt, (record { fits = lit< tt }, (tt, tt))) $ returns ! (look_at ! 0 refl) $ free_all ! refl $

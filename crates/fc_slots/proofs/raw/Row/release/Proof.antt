@@ -9,7 +9,6 @@ use types.Kit.{Sq}
 use types.Run.{branches, skips}
 use types.ByLocal.{lands_last}
 use denote.Triple.Call.{calls_at_last}
-use Rattle.libc.specs.Heap.{chunk}
 use Rattle.std.specs.Mem.{type_size}
 use Rattle.core.proofs.alloc.Calls.{Goes-blank}
 use Rattle.core.proofs.atomic.Steps.{fm}
@@ -17,7 +16,7 @@ use Rattle.core.proofs.slots.Leases.{uncapped, block_ty, block_size, block_align
 use Rattle.std_alloc.proofs.RawLayout.{as_raw}
 use Rattle.std_alloc.proofs.RcSteps.{is_not}
 use Rattle.std.proofs.impls.GlobalAllocator.deallocate.Met.{met}
-use Rattle.fc_slots.specs.Ownership.{row_owned}
+use Rattle.fc_slots.specs.Ownership.{token, row_owned}
 use Rattle.fc_slots.proofs.Heap.{Frees, frees_at, frees, freed}
 use Rattle.fc_slots.proofs.Memory.{glued, sized}
 use Rattle.fc_slots.specs.contracts.raw.Row.release as f
@@ -48,7 +47,7 @@ release_spec 𝓤 𝓛 𝓜 𝓡 wired X L =
     enter ! _ _ _ _ _ $ alloc_all ! (λ l. pass_all ! refl ((tt, (tt, tt)), ((tt, tt), ((tt, record { fits = are.1.1.0.1 }), tt))) $ let Ev = env fn.locals l in
     sets ! (of_opd ! (get_in ! (fld ! refl (stop !)) (sub ! 0 refl (whole !)))) refl (tt, tt) $ sets ! (of_opd ! (size_word !)) refl (tt, record { fits = capped_fits s }) $ sets ! (bin ! (get ! refl) (lit ! tt) tt) refl (tt, tt) $ first ! $ branches ! (get ! refl)
     (λ some. let τ = block_ty E len in let al = capped (align (elτ E)) in let y = frees_at 𝓛 𝓜.mem 𝓡.returns κ q self.ref_ptr self.now (len * s) al τ b o in
-    rewrite ! 0 (λ (F : Fml). ‵ F) (sized s _ (λ none. is_not (capped s) 0 some (ap capped none))) refl $ rewrite ! 0 (λ n. ‵ (chunk (block_ty E n) (block_ptr b o))) (length-replicate len None) refl $
+    rewrite ! 0 (λ (F : Fml). ‵ F) (sized s _ (λ none. is_not (capped s) 0 some (ap capped none))) refl $ rewrite ! 0 (λ n. ‵ (token (block_ty E n) (block_ptr b o))) (length-replicate len None) refl $
     move ! (1 ∷ 0 ∷ []) $ glued E ! len b o $ as_raw ! (ty_array (elτ E) len) b o $
     blocks ! $ sets ! (of_opd ! (get ! refl)) refl (tt, tt) $
     sets ! (is ! (bin ! (get ! refl) (get ! refl) (record { fits = subst (λ k. k < 2 ^ 64) (sym (uncapped len s bytes)) bytes })) (ap (vint w64) (uncapped len s bytes))) refl (tt, record { fits = bytes }) $
