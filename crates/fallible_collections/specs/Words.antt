@@ -5,8 +5,14 @@ pub use Rattle.fc_base.specs.Parts.{below, above, at, value_at}
 pub use Rattle.fc_base.specs.OneKey.{put, put_by, cut}
 pub use Rattle.fc_base.specs.Query.{IsQueryOrder, text_order, items_order}
 pub use Rattle.fc_base.specs.Ranges.{bound_now, starts, stops, is_range, within}
-pub use Rattle.fc_base.specs.Growth.{growth_error, MayGrowRefuse}
+pub use Rattle.fc_base.specs.Growth.{growth_error, MayGrowRefuse, append_error, MayAppendRefuse}
+pub use Rattle.fc_base.specs.Joined.{placed, joined}
+pub use Rattle.fc_base.specs.Halves.{not_below}
+pub use Rattle.fc_base.specs.Extended.{extended, IsExtendedUpTo}
 pub use Rattle.fc_base.specs.Copies.{IsExact}
+pub use Rattle.fc_copy.specs.Copy.{AreSame}
+-- the items of an iterator
+pub use Rattle.fc_vec.specs.Items.{GivesAll, GivesFirst}
 -- maps, their entries and walks
 pub use Rattle.fc_map.specs.Entries.{Map, entries, IsSoundMap, passed_in, now_value, now_pair}
 pub use Rattle.fc_map.specs.Counts.{IsBounded}
@@ -15,6 +21,7 @@ pub use Rattle.fc_map.specs.Entry.{entry_map, entry_map_ref, entry_key, entry_pa
 pub use Rattle.fc_map.specs.Walks.{deref_pair, keys_of, values_of}
 pub use Rattle.fc_map.specs.Writing.{Stretch, whole, starting, wrote_first, wrote_last, wrote, wrote_all, set_value}
 pub use Rattle.fc_map.specs.Stretches.{range_map_ref, stretch, iter_map_ref, iter_stretch, IsFirstValue, IsLastValue, IsFirstPair, IsLastPair}
+pub use Rattle.fc_map.specs.Compare.{pair_eq, pair_cmp, pair_partial_cmp, pair_input}
 -- commands
 pub use Rattle.fc_command.specs.Step.{IsNew, Step, Runs}
 pub use Rattle.fc_command.specs.Spoken.{Served, Spoken, ending_of}

@@ -1,8 +1,9 @@
 //! Collections in which every call that takes memory answers a `Result`, and a refused call does no harm.
 //!
 //! `btree` has the ordered map, `command` a world of maps behind commands and lines of text. The error of a refused call is
-//! `TryReserveError`; `TryClone` is for types whose copies may be refused, `FallibleBox` makes boxes that may be; a `Query` is what
-//! keys are looked up by. `count` counts comparisons and moves for contracts alone.
+//! `TryReserveError`; `TryClone` is for types whose copies may be refused, `TryFromIterator` for those that are made of an iterator's
+//! items, `FallibleBox` makes boxes that may be refused; a `Query` is what keys are looked up by. `count` counts comparisons and
+//! moves for contracts alone.
 #![tactic(auto)]
 
 pub mod btree;
@@ -12,3 +13,4 @@ pub use fc_base::{
     try_reserve_error,
 };
 pub use fc_command::command;
+pub use fc_vec::{TryFromIterator, vec};

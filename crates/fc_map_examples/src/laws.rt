@@ -1,13 +1,14 @@
 //! What callers prove of several calls in turn, through their public clauses and the laws of lists of pairs alone.
-ghost use Rattle.std.specs.Prelude.{◌≡◌, ◌+◌, List, [], ◌∷◌, ◌++◌, length, IsSome, IfOk, OnOk, OnErr, MatchOption, None, Some};
+ghost use Rattle.std.specs.Prelude.{◌≡◌, ◌+◌, ◌⊎◌, List, [], ◌∷◌, ◌++◌, length, IsSome, IfOk, IfErr, OnOk, OnErr, MatchOption, None, Some};
 ghost use Rattle.std.specs.declared.cmp.Ordering.TheVariants.{Equal};
 ghost use Rattle.fc_base.specs.Ascending.{IsAscending};
 ghost use Rattle.fc_base.specs.Copies.{IsExact};
+ghost use Rattle.fc_base.specs.Halves.{not_below};
 ghost use Rattle.fc_base.specs.OneKey.{put, cut};
-ghost use Rattle.fc_base.specs.Parts.{at, value_at};
+ghost use Rattle.fc_base.specs.Parts.{at, value_at, below};
 ghost use Rattle.fc_map.specs.Entries.{entries};
 
-use fc_base::{TryClone, TryReserveError};
+use fc_base::{Query, TryClone, TryReserveError};
 use fc_map::map::BTreeMap;
 
 /// Puts a value at a key, and looks an equal key up: the value stands there.
@@ -174,4 +175,21 @@ pub fn exact_copy<K: Ord + TryClone, V: TryClone>(
     ensures { IfOk result (λ copy. entries copy ≡ entries map.now) }
 {
     map.try_clone()
+}
+
+/// Takes the pairs whose keys are not smaller than the key out into `part`, whose own are dropped, and puts them back: the list is as it
+/// was. Where the cut was refused, both maps are as they were; where the append was, each still holds its part of the list.
+pub fn split_then_append<K: Ord + Drop, V: Drop, Q: Query<K>>(
+    map: &mut BTreeMap<K, V>,
+    key: Q,
+    part: &mut BTreeMap<K, V>,
+) -> Result<(), TryReserveError>
+    ensures list { IfOk result (λ _. entries map.new ≡ entries map.old) }
+    ensures emptied { IfOk result (λ _. entries part.new ≡ []) }
+    ensures refused { IfErr result (λ _. ((map.new ≡ map.old) × (part.new ≡ part.old)) ⊎ ((entries map.new ≡ below Q.order (entries map.old) (Q.sought key)) × (entries part.new ≡ not_below Q.order (entries map.old) (Q.sought key)))) }
+{
+    // Shows that the list ascends.
+    let _len = map.len();
+    *part = map.split_off(key)?;
+    map.append(part)
 }

@@ -1,11 +1,12 @@
 //! The README's examples, in a crate that names `fallible_collections` alone.
 #![tactic(auto)]
 
-ghost use Rattle.std.specs.Prelude.{◌≡◌, IfOk, IsOk, IsSome, OnErr, Some};
-ghost use Rattle.fallible_collections.specs.Words.{at, entries, put, text_order};
+ghost use Rattle.std.specs.Prelude.{◌≡◌, List, [], IfOk, IsOk, IsSome, OnErr, Some};
+ghost use Rattle.std.specs.Iterator.{IsFiniteIterable};
+ghost use Rattle.fallible_collections.specs.Words.{at, entries, extended, put, text_order, GivesAll};
 
-use fallible_collections::TryReserveError;
 use fallible_collections::btree::BTreeMap;
+use fallible_collections::{TryFromIterator, TryReserveError};
 use std::alloc::Global;
 use std::ops::Bound;
 
@@ -64,4 +65,15 @@ pub fn stocked<K: Ord + Copy + Drop>(
 {
     counts.try_insert(item, count)?;
     Ok(counts.get(&item).copied())
+}
+
+/// A map of the pairs that an iterator gives until its end, put in one after another.
+pub fn gathered<K: Ord + Drop, V: Drop, I: IntoIterator<Item = (K, V)>>(
+    alloc: Global,
+    pairs: I,
+) -> Result<BTreeMap<K, V>, TryReserveError>
+    requires { IsFiniteIterable I.into_iter_gives I.IntoIter.can_next I.IntoIter.remaining pairs }
+    ensures { IfOk result (λ map. (all : List (K × V)) × GivesAll I.into_iter_gives I.IntoIter.next_gives pairs all × (entries map ≡ extended K.cmp [] all)) }
+{
+    BTreeMap::try_from_iterator(alloc, pairs)
 }
