@@ -1,4 +1,5 @@
 //! `World` and `serve` over memory.
+mod maps;
 mod walks;
 
 use fc_base::TryReserveError;
