@@ -1,0 +1,16 @@
+//! Tests of the calls that join, cut or build whole trees: appends, splits, maps made of an iterator's pairs, and trees built from
+//! their first pair on.
+#![tactic(auto)]
+
+#[cfg(test)]
+mod append;
+#[cfg(test)]
+mod from_iterator;
+#[cfg(test)]
+mod odds;
+#[cfg(test)]
+mod refused;
+#[cfg(test)]
+mod split_off;
+#[cfg(test)]
+mod trees;
