@@ -1,9 +1,7 @@
-//! Tests of the calls that join, cut or build whole trees: appends, splits, maps made of an iterator's pairs, and trees built from
-//! their first pair on.
+//! Tests of the calls that join, cut or build whole trees: splits, maps made of an iterator's pairs, trees built from their first
+//! pair on, and appends where memory is refused.
 #![tactic(auto)]
 
-#[cfg(test)]
-mod append;
 #[cfg(test)]
 mod from_iterator;
 #[cfg(test)]
