@@ -1,19 +1,22 @@
 //! One map's pairs put into another's, all or none.
-ghost use Rattle.std.specs.Prelude.{◌≡◌, ◌+◌, ◌*◌, ◌<◌, ◌≤◌, ◌⊎◌, [], length, IfOk, IfErr, OnErr, IsErr};
+ghost use Rattle.std.specs.Prelude.{◌≡◌, ◌+◌, ◌*◌, ◌<◌, ◌≤◌, ◌⊎◌, [], ◌++◌, length, IfOk, IfErr, OnErr, IsErr, IsTrue};
 ghost use Rattle.fc_base.specs.Ascending.{IsAscending};
 ghost use Rattle.fc_base.specs.Growth.{MayAppendRefuse};
 ghost use Rattle.fc_base.specs.Joined.{joined};
 ghost use Rattle.fc_node.specs.Tree.{entries, root_of, IsSoundMap};
 
+use crate::join::try_join;
 use crate::merge::merge;
-use fc_base::{Count, TryReserveError};
+use fc_base::{Count, TryReserveError, compare};
 use fc_build::builder::Builder;
 use fc_node::node::Node;
+use fc_search::ends::{first_pair, last_pair};
 use std::alloc::Global;
 use std::mem;
 
 /// Moves all pairs of `theirs` into `ours`, and answers how many there are then. Of two equal keys the pair of `theirs` stays, and
-/// ours is dropped. Where either holds none nothing is asked for and nothing compared. Else each key is compared at most once.
+/// ours is dropped. Where either holds none nothing is asked for and nothing compared. Where all keys of `theirs` lie beyond ours, that
+/// takes one comparison, and a few nodes of each level from the shorter tree's root up. Else each key is compared at most once.
 ///
 /// # Errors
 /// `CapacityOverflow` where both hold pairs and their lengths pass `usize::MAX` together, and `AllocError` if a node for them is
@@ -49,8 +52,29 @@ pub fn try_append<K: Ord + Drop, V: Drop>(
     let Some(len) = our_len.checked_add(their_len) else {
         return Err(TryReserveError::CapacityOverflow);
     };
+    if is_beyond(ours, theirs, count) {
+        try_join(alloc, ours, theirs)?;
+        return Ok(len);
+    }
     let builder = Builder::try_new(alloc, len)?;
     let (root, len) = merge(ours.take(), theirs.take(), builder, count);
     *ours = root;
     Ok(len)
+}
+
+// Whether all keys of `theirs` lie beyond all of `ours`: the last of the one and the first of the other are compared.
+fn is_beyond<K: Ord, V>(
+    ours: &Option<Box<Node<K, V>>>,
+    theirs: &Option<Box<Node<K, V>>>,
+    count: &mut Count,
+) -> bool
+    requires sound { IsSoundMap (root_of ours.now) × IsSoundMap (root_of theirs.now) }
+    requires order { IsAscending K.cmp (entries (root_of ours.now)) × IsAscending K.cmp (entries (root_of theirs.now)) }
+    requires some { (0 < length (entries (root_of ours.now))) × (0 < length (entries (root_of theirs.now))) }
+    ensures beyond { IsTrue result → IsAscending K.cmp (entries (root_of ours.now) ++ entries (root_of theirs.now)) }
+    ensures comparisons { count.new.comparisons ≡ count.old.comparisons + 1 }
+{
+    let Some(left) = ours else { unreachable!() };
+    let Some(right) = theirs else { unreachable!() };
+    compare(&last_pair(left).0, &first_pair(right).0, count).is_lt()
 }

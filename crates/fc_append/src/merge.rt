@@ -12,13 +12,14 @@ use fc_walk::owned::{Nodes, give_first, opened};
 use std::cmp::Ordering;
 
 /// Merges two trees: the pairs of both in ascending order, and how many they are; of two equal keys the pair of `theirs` stays,
-/// and ours is dropped. A key is compared once for each pair that is put in, until either tree has no more.
+/// and ours is dropped. A key is compared once for each pair that is put in, until either tree has no more: never for the last one.
 pub fn merge<K: Ord + Drop, V: Drop>(
     ours: Option<Box<Node<K, V>>>,
     theirs: Option<Box<Node<K, V>>>,
     builder: Builder<K, V>,
     count: &mut Count,
 ) -> (Option<Box<Node<K, V>>>, usize)
+    requires some { (0 < length (entries (root_of ours))) × (0 < length (entries (root_of theirs))) }
     requires sound { IsSoundMap (root_of ours) × IsSoundMap (root_of theirs) }
     requires order { IsAscending K.cmp (entries (root_of ours)) × IsAscending K.cmp (entries (root_of theirs)) }
     requires blank { builder.pairs ≡ [] }
@@ -26,7 +27,7 @@ pub fn merge<K: Ord + Drop, V: Drop>(
     ensures pairs { entries (root_of result.0) ≡ joined K.cmp (entries (root_of ours)) (entries (root_of theirs)) }
     ensures sound { IsSoundMap (root_of result.0) }
     ensures len { result.1 ≡ length (entries (root_of result.0)) }
-    ensures comparisons { count.new.comparisons ≤ count.old.comparisons + (length (entries (root_of ours)) + length (entries (root_of theirs))) }
+    ensures comparisons { count.new.comparisons < count.old.comparisons + (length (entries (root_of ours)) + length (entries (root_of theirs))) }
 {
     let mut builder = builder;
     let room = builder.room();
@@ -56,6 +57,7 @@ fn step<K: Ord + Drop, V: Drop>(
     ensures order { IsAscending K.cmp (front_of ours.new) × IsAscending K.cmp (front_of theirs.new) }
     ensures room { length (front_of ours.new) + length (front_of theirs.new) ≤ builder.new.room }
     ensures pairs { builder.new.pairs ++ joined K.cmp (front_of ours.new) (front_of theirs.new) ≡ builder.old.pairs ++ joined K.cmp (front_of ours.old) (front_of theirs.old) }
+    ensures both { (0 < length (front_of ours.old)) × (0 < length (front_of theirs.old)) }
     ensures fewer { length (front_of ours.new) + length (front_of theirs.new) < length (front_of ours.old) + length (front_of theirs.old) }
     ensures filled { length builder.new.pairs + builder.new.room ≡ length builder.old.pairs + builder.old.room }
     ensures comparisons { count.new.comparisons ≡ count.old.comparisons + 1 }

@@ -32,6 +32,15 @@ module _ {X : Type 0} (P Q : X → Type 0) where
   last_split (x ∷ []) (y ∷ ys) h a = ((a.0, tt), a.1)
   last_split (x ∷ y ∷ xs) ys h a = let r = last_split (y ∷ xs) ys h a.1 in ((a.0, r.0), r.1)
 
+  first_of_all : (xs : List X) → ((x : X) → Q x → P x) → AllByRecursion Q xs → FirstThen P Q xs
+  first_of_all [] f a = tt
+  first_of_all (x ∷ xs) f a = (f x a.0, a.1)
+
+  last_of_all : (xs : List X) → ((x : X) → Q x → P x) → AllByRecursion Q xs → LastAfter P Q xs
+  last_of_all [] f a = tt
+  last_of_all (x ∷ []) f a = f x a.0
+  last_of_all (x ∷ y ∷ xs) f a = (a.0, last_of_all (y ∷ xs) f a.1)
+
   first_all : (xs : List X) → ((x : X) → P x → Q x) → FirstThen P Q xs → AllByRecursion Q xs
   first_all [] f a = tt
   first_all (x ∷ xs) f a = (f x a.0, a.1)
@@ -56,6 +65,13 @@ module _ {K V : Type 0} where
   abbrev pub RightOf : Side → ℕ → Node K V → Type 0
   RightOf Left = IsLevelled
   RightOf Right = IsRightBordered
+
+  -- a sound border is one that may be short
+  pub levelled_bordered : (s : Side) (h : ℕ) (n : Node K V) → IsLevelled h n → IsBordered s h n
+  levelled_bordered Left zero n l = l
+  levelled_bordered Right zero n l = l
+  levelled_bordered Left (suc h) n l = (l.0, l.1, first_of_all (IsLeftBordered h) (IsSound h) (children_of n) (λ c s. levelled_bordered Left h c s.1) l.2)
+  levelled_bordered Right (suc h) n l = (l.0, l.1, last_of_all (IsRightBordered h) (IsSound h) (children_of n) (λ c s. levelled_bordered Right h c s.1) l.2)
 
   pub leaf_alike : (n m : Node K V) → IsLeaf n → AreAlike n m → IsLeaf m
   leaf_alike n m l (inl a) = a.1

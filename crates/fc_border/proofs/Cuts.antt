@@ -7,7 +7,7 @@ use Rattle.std.proofs.lemmas.List.{length-drop}
 use Rattle.fc_node.specs.Weave.{weave, ahead}
 use Rattle.fc_node.specs.declared.node.Node.{Node, out-Node}
 use Rattle.fc_node.specs.Node.{own_pairs, children_of, child_at, pairs_of, IsLeaf, IsInner, IsLevelled, IsSound, IsSoundRoot, IsBlankLeaf}
-use Rattle.fc_node.specs.Bordered.{FirstThen, LastAfter, IsLeftBordered, IsRightBordered}
+use Rattle.fc_node.specs.Bordered.{FirstThen, IsLeftBordered, IsRightBordered}
 use Rattle.fc_node.specs.Path.{IsPath, before, after}
 use Rattle.fc_node.specs.Place.{lead_in, rest_in, behind_in, IsPlace, place_pair, place_ahead, place_behind}
 use Rattle.fc_node.specs.Siblings.{AreAlike}
@@ -22,7 +22,7 @@ use Rattle.fc_node.proofs.Siblings.{around_one}
 use Rattle.fc_border.specs.Cut.{IsBlank, IsCutPath, IsCutInTwo}
 use Rattle.fc_node.proofs.Formed.{leaf_or_inner}
 use Rattle.fc_border.proofs.Heights.{height_of, levelled_height}
-use Rattle.fc_border.proofs.Borders.{leaf_alike, inner_alike, first_join, border_closed, child_here}
+use Rattle.fc_border.proofs.Borders.{leaf_alike, inner_alike, first_join, border_closed, child_here, levelled_bordered}
 use Rattle.fc_border.specs.declared.mending.Side.TheVariants.{Left, Right}
 
 module _ {X : Type 0} where
@@ -31,15 +31,10 @@ module _ {X : Type 0} where
   set_last (x ∷ xs) zero y h = refl
   set_last (x ∷ xs) (suc i) y h = ap (λ zs. x ∷ zs) (set_last xs i y (omega arith))
 
-  last_all : (P Q : X → Type 0) → ((x : X) → Q x → P x) → (xs : List X) → AllByRecursion Q xs → LastAfter P Q xs
-  last_all P Q f [] a = tt
-  last_all P Q f (x ∷ []) a = f x a.0
-  last_all P Q f (x ∷ y ∷ xs) a = (a.0, last_all P Q f (y ∷ xs) a.1)
-
-  all_take : (P : X → Type 0) (i : ℕ) (xs : List X) → AllByRecursion P xs → AllByRecursion P (take i xs)
+  pub all_take : (P : X → Type 0) (i : ℕ) (xs : List X) → AllByRecursion P xs → AllByRecursion P (take i xs)
   all_take P i xs a = all_front P (take i xs) (drop i xs) (subst (AllByRecursion P) (sym (take_drop i xs)) a)
 
-  all_drop : (P : X → Type 0) (i : ℕ) (xs : List X) → AllByRecursion P xs → AllByRecursion P (drop i xs)
+  pub all_drop : (P : X → Type 0) (i : ℕ) (xs : List X) → AllByRecursion P xs → AllByRecursion P (drop i xs)
   all_drop P i xs a = all_back P (take i xs) (drop i xs) (subst (AllByRecursion P) (sym (take_drop i xs)) a)
 
 module _ {K V : Type 0} where
@@ -65,10 +60,6 @@ module _ {K V : Type 0} where
   blank_bordered (suc h) n b =
       let e : length (own_pairs n) ≡ 0 = ap length b.0 in
       (omega arith, blank_inner h n b, subst (FirstThen (IsLeftBordered h) (IsSound h)) (sym b.2) (blank_bordered h b.1 b.3, tt))
-
-  levelled_bordered : (h : ℕ) (n : Node K V) → IsLevelled h n → IsRightBordered h n
-  levelled_bordered zero n l = l
-  levelled_bordered (suc h) n l = (l.0, l.1, last_all (IsRightBordered h) (IsSound h) (λ c s. levelled_bordered h c s.1) (children_of n) l.2)
 
   -- paths that a cut may take
   pub record IsCutAlong (h : ℕ) (p : List ℕ) (n : Node K V) : Type 0 where
@@ -141,7 +132,7 @@ module _ {K V : Type 0} where
         let le = (subst (λ q. IsPath q n) (one_step p one) w).0 in
         let t = ap length e ∙ length_take last (own_pairs n) le in
         let fits = l.0 in
-        levelled_bordered (suc h) new (omega arith, inner_alike n new l.1 a, subst (AllByRecursion (IsSound h)) (sym f) (all_take (IsSound h) (last + 1) (children_of n) l.2))
+        levelled_bordered Right (suc h) new (omega arith, inner_alike n new l.1 a, subst (AllByRecursion (IsSound h)) (sym f) (all_take (IsSound h) (last + 1) (children_of n) l.2))
 
     pub end_back_levels : (h : ℕ) → IsLevelled h n → IsBlank h r → own_pairs other ≡ own_pairs r ++ drop last (own_pairs n) → children_of other ≡ children_of r ++ drop (last + 1) (children_of n) → AreAlike n other → IsLeftBordered h other
     end_back_levels zero l b e f a =

@@ -9,12 +9,12 @@ ghost use Rattle.fc_border.specs.Border.{IsBordered, border_place, IsStocked, Is
 use fc_base::Count;
 use fc_node::node::{CAPACITY, MIN_LEN, Node};
 
-// The border of a tree where nodes may hold too few pairs.
+/// The border of a tree where nodes may hold too few pairs.
 #[derive(Clone, Copy)]
-pub(crate) enum Side {
-    // The path to the first leaf.
+pub enum Side {
+    /// The path to the first leaf.
     Left,
-    // The path to the last leaf.
+    /// The path to the last leaf.
     Right,
 }
 
@@ -38,8 +38,9 @@ pub fn mend_left<K: Drop, V: Drop>(root: Box<Node<K, V>>) -> Option<Box<Node<K, 
     mend(root, Side::Left, &mut Count::new())
 }
 
-// Mends the border of a tree: while the root has no pair, its only child takes its place.
-fn mend<K: Drop, V: Drop>(
+/// Mends a tree whose nodes on that border may hold too few pairs, none too, and hands out what is left of it: none where it held
+/// no pair. It compares nothing and takes no memory.
+pub fn mend<K: Drop, V: Drop>(
     root: Box<Node<K, V>>,
     side: Side,
     count: &mut Count,
@@ -48,6 +49,7 @@ fn mend<K: Drop, V: Drop>(
     ensures pairs { entries (root_of result) ≡ pairs_of root.value }
     ensures levels { (h : ℕ) → IsBordered side h root.value → IsSoundWithin h (root_of result) }
 {
+    // While the root has no pair, its only child takes its place.
     if root.len() == 0 {
         return match only_child(root) {
             None => None,
@@ -96,8 +98,8 @@ fn mend_below<K: Drop, V: Drop>(node: &mut Node<K, V>, side: Side, count: &mut C
     }
 }
 
-// The place of the child on the border.
-fn border<K, V>(node: &Node<K, V>, side: Side) -> usize
+/// The place of the child on the border.
+pub fn border<K, V>(node: &Node<K, V>, side: Side) -> usize
     ensures value { result ≡ border_place side node.now }
     ensures fits { result ≤ 11 }
 {

@@ -7,6 +7,7 @@ use Rattle.fc_node.specs.Weave.{weave, ahead, behind}
 use Rattle.fc_node.specs.declared.node.Node.{Node}
 use Rattle.fc_node.specs.Node.{own_pairs, children_of, child_at, pairs_of, IsLeaf, IsInner}
 use Rattle.fc_node.specs.Path.{before, after}
+use Rattle.fc_node.specs.Place.{lead_in, rest_in}
 use Rattle.fc_insertion.specs.Insertion.{Split, spread, own_pairs_after, children_after}
 use Rattle.fc_node.proofs.Lists.{take_nil, length_take, take_drop, set_is, set_put}
 use Rattle.fc_node.proofs.Weaves.{behind_nil, weave_at, weave_parts}
@@ -21,9 +22,6 @@ module _ {X : Type 0} where
 
   stays_around : (A C B L R : List X) (p : X) → C ≡ L ++ p ∷ R → A ++ (C ++ B) ≡ (A ++ L) ++ p ∷ (R ++ B)
   stays_around A C B L R p e = ap (λ zs. A ++ (zs ++ B)) e ∙ around A L R B p
-
-  splits_around : (A C D B L R : List X) (p up : X) → C ++ up ∷ D ≡ L ++ p ∷ R → A ++ (C ++ up ∷ (D ++ B)) ≡ (A ++ L) ++ p ∷ (R ++ B)
-  splits_around A C D B L R p up e = ap (λ zs. A ++ zs) (sym (append_assoc C (up ∷ D) B)) ∙ stays_around A (C ++ up ∷ D) B L R p e
 
 module _ {K V : Type 0} where
   leaf_before : (n : Node K V) (i : ℕ) → IsLeaf n → before (i ∷ []) n ≡ take i (own_pairs n)
@@ -58,7 +56,7 @@ module _ {K V : Type 0} where
       ∙ sym (weave_parts (map pairs_of (children_of new)) (map pairs_of (children_of right.value)) (own_pairs new) up (own_pairs right.value) a b)
       ∙ ap (λ cs. weave cs (own_pairs new ++ up ∷ own_pairs right.value)) (sym (map-append pairs_of (children_of new) (children_of right.value)))
 
-  module _ (old : Node K V) (i : ℕ) (path : List ℕ) (le : i ≤ length (own_pairs old)) (inner : IsInner old) where
+  module _ (old : Node K V) (i : ℕ) (le : i ≤ length (own_pairs old)) (inner : IsInner old) where
     lengths : length (map pairs_of (take i (children_of old))) ≡ length (take i (own_pairs old))
     lengths =
         let n : length (children_of old) ≡ length (own_pairs old) + 1 = inner in
@@ -69,25 +67,34 @@ module _ {K V : Type 0} where
     woven_at : (c : Node K V) (ds : List (Node K V)) (qs : List (K × V)) → weave (map pairs_of (take i (children_of old) ++ c ∷ ds)) (take i (own_pairs old) ++ qs) ≡ ahead (map pairs_of (take i (children_of old))) (take i (own_pairs old)) ++ (pairs_of c ++ behind qs (map pairs_of ds))
     woven_at c ds qs = ap (λ cs. weave cs (take i (own_pairs old) ++ qs)) (map-append pairs_of (take i (children_of old)) (c ∷ ds)) ∙ weave_at (map pairs_of (take i (children_of old))) (pairs_of c) (map pairs_of ds) (take i (own_pairs old)) qs lengths
 
-    inner_stay : (mid c : Node K V) (pair : K × V) → IsChildSet old mid i c → pairs_of c ≡ before path (child_at old i) ++ pair ∷ after path (child_at old i) → pairs_of mid ≡ before (i ∷ path) old ++ pair ∷ after (i ∷ path) old
-    inner_stay mid c pair m e =
+    -- the pairs of a node whose child has become c
+    pub child_pairs : (mid c : Node K V) → IsChildSet old mid i c → pairs_of mid ≡ lead_in old i ++ (pairs_of c ++ rest_in old i)
+    child_pairs mid c m =
         let n : length (children_of old) ≡ length (own_pairs old) + 1 = inner in
         let k : i < length (children_of old) = omega arith in
         pairs_is mid ∙ ap (λ ps. weave (map pairs_of (children_of mid)) ps) (m.same ∙ sym (take_drop i (own_pairs old)))
         ∙ ap (λ cs. weave (map pairs_of cs) (take i (own_pairs old) ++ drop i (own_pairs old))) (m.child ∙ set_is (children_of old) i c k)
         ∙ woven_at c (drop (suc i) (children_of old)) (drop i (own_pairs old))
-        ∙ stays_around _ _ _ _ _ pair e
 
-    inner_put : (mid c new : Node K V) (s : Split K V) (up pair : K × V) (r : Node K V) → IsChildSet old mid i c
+    -- the same once it has taken the pair and the node that the child has handed out
+    pub split_pairs : (mid c new : Node K V) (s : Split K V) (up : K × V) (r : Node K V) → IsChildSet old mid i c
         → own_pairs_after new s ≡ insert (own_pairs mid) i up → children_after new s ≡ insert (children_of mid) (i + 1) r → IsInner new → IfSome s (λ x. IsInner x.1.value)
-        → pairs_of c ++ up ∷ pairs_of r ≡ before path (child_at old i) ++ pair ∷ after path (child_at old i) → spread new s ≡ before (i ∷ path) old ++ pair ∷ after (i ∷ path) old
-    inner_put mid c new s up pair r m p q h₁ h₂ e =
+        → spread new s ≡ lead_in old i ++ ((pairs_of c ++ up ∷ pairs_of r) ++ rest_in old i)
+    split_pairs mid c new s up r m p q h₁ h₂ =
         let n : length (children_of old) ≡ length (own_pairs old) + 1 = inner in
         let k : i < length (children_of old) = omega arith in
         inner_spread new s h₁ h₂ ∙ ap (λ ps. weave (map pairs_of (children_after new s)) ps) (p ∙ ap (λ ps. insert ps i up) m.same)
         ∙ ap (λ cs. weave (map pairs_of cs) (insert (own_pairs old) i up)) (q ∙ ap (λ cs. insert cs (i + 1) r) m.child ∙ set_put (children_of old) i c r k)
         ∙ woven_at c (r ∷ drop (suc i) (children_of old)) (up ∷ drop i (own_pairs old))
-        ∙ splits_around _ _ _ _ _ _ pair up e
+        ∙ ap (λ zs. lead_in old i ++ zs) (sym (append_assoc (pairs_of c) (up ∷ pairs_of r) (rest_in old i)))
+
+    inner_stay : (path : List ℕ) (mid c : Node K V) (pair : K × V) → IsChildSet old mid i c → pairs_of c ≡ before path (child_at old i) ++ pair ∷ after path (child_at old i) → pairs_of mid ≡ before (i ∷ path) old ++ pair ∷ after (i ∷ path) old
+    inner_stay path mid c pair m e = child_pairs mid c m ∙ stays_around _ _ _ _ _ pair e
+
+    inner_put : (path : List ℕ) (mid c new : Node K V) (s : Split K V) (up pair : K × V) (r : Node K V) → IsChildSet old mid i c
+        → own_pairs_after new s ≡ insert (own_pairs mid) i up → children_after new s ≡ insert (children_of mid) (i + 1) r → IsInner new → IfSome s (λ x. IsInner x.1.value)
+        → pairs_of c ++ up ∷ pairs_of r ≡ before path (child_at old i) ++ pair ∷ after path (child_at old i) → spread new s ≡ before (i ∷ path) old ++ pair ∷ after (i ∷ path) old
+    inner_put path mid c new s up pair r m p q h₁ h₂ e = split_pairs mid c new s up r m p q h₁ h₂ ∙ stays_around _ _ _ _ _ pair e
 
   -- below an inner node, where the child was not split
   pub put_below : (p : List ℕ) (old mid c child : Node K V) (pair : K × V) → IsStep p old → IsChildSet old mid (get_or p 0 0) c → child ≡ child_at old (get_or p 0 0)
@@ -95,7 +102,7 @@ module _ {K V : Type 0} where
   put_below p old mid c child pair s m ci e =
       let rest : List ℕ = slice_range p 1 (length p) in
       let f = subst (λ (x : Node K V). pairs_of c ≡ before rest x ++ pair ∷ after rest x) ci e in
-      subst (λ (q : List ℕ). pairs_of mid ≡ before q old ++ pair ∷ after q old) (sym s.path_is) (inner_stay old (get_or p 0 0) rest s.le s.inner mid c pair m f)
+      subst (λ (q : List ℕ). pairs_of mid ≡ before q old ++ pair ∷ after q old) (sym s.path_is) (inner_stay old (get_or p 0 0) s.le s.inner rest mid c pair m f)
 
   -- below an inner node, where the child was split
   pub put_above : (p : List ℕ) (old mid c child new : Node K V) (t : Split K V) (up pair : K × V) (r : Node K V) → IsStep p old → IsChildSet old mid (get_or p 0 0) c → child ≡ child_at old (get_or p 0 0)
@@ -104,7 +111,7 @@ module _ {K V : Type 0} where
   put_above p old mid c child new t up pair r s m ci a b h₁ h₂ e =
       let rest : List ℕ = slice_range p 1 (length p) in
       let f = subst (λ (x : Node K V). pairs_of c ++ up ∷ pairs_of r ≡ before rest x ++ pair ∷ after rest x) ci e in
-      subst (λ (q : List ℕ). spread new t ≡ before q old ++ pair ∷ after q old) (sym s.path_is) (inner_put old (get_or p 0 0) rest s.le s.inner mid c new t up pair r m a b h₁ h₂ f)
+      subst (λ (q : List ℕ). spread new t ≡ before q old ++ pair ∷ after q old) (sym s.path_is) (inner_put old (get_or p 0 0) s.le s.inner rest mid c new t up pair r m a b h₁ h₂ f)
 
   -- a new root above two nodes
   pub put_root : (root left right : Node K V) (up : K × V) → own_pairs root ≡ up ∷ [] → children_of root ≡ left ∷ right ∷ [] → pairs_of root ≡ pairs_of left ++ up ∷ pairs_of right

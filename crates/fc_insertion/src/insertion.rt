@@ -84,8 +84,8 @@ fn insert_with<K: Drop, V: Drop>(
     }
 }
 
-// Puts a new root above the root and the node on its right, with the pair between them.
-fn grow<K: Drop, V: Drop>(
+/// Puts a new root above the root and the node on its right, with the pair between them.
+pub fn grow<K: Drop, V: Drop>(
     root: &mut Box<Node<K, V>>,
     pair: (K, V),
     right: Box<Node<K, V>>,
@@ -188,8 +188,8 @@ fn put_leaf<K: Drop, V: Drop>(
     }
 }
 
-// Puts `pair` into an inner node with the child on its right. The node is halved with one of the spare nodes where it is full.
-fn put_inner<K: Drop, V: Drop>(
+/// Puts `pair` into an inner node with the child on its right. The node is halved with one of the spare nodes where it is full.
+pub fn put_inner<K: Drop, V: Drop>(
     node: &mut Node<K, V>,
     i: usize,
     pair: (K, V),

@@ -5,4 +5,4 @@ mod arrival;
 pub mod insertion;
 pub mod leaf;
 pub mod room;
-mod spares;
+pub mod spares;

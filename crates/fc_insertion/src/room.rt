@@ -88,8 +88,11 @@ pub fn try_room<K: Drop, V: Drop>(
     })
 }
 
-// Makes as many inner nodes.
-fn try_spares<K: Drop, V: Drop>(
+/// Makes as many inner nodes.
+///
+/// # Errors
+/// `AllocError` if one of them is refused, and those made before are dropped.
+pub fn try_spares<K: Drop, V: Drop>(
     alloc: Global,
     count: usize,
 ) -> Result<Spares<K, V>, TryReserveError>

@@ -11,7 +11,7 @@ use std::marker::Model;
 /// Inner nodes that hold no pair, each the only child of the one that was made next. So they need no list of their own. A contract
 /// sees how many there are.
 #[derive(Drop)]
-pub(crate) struct Spares<K, V> {
+pub struct Spares<K, V> {
     top: Option<Box<Node<K, V>>>,
     len: usize,
 }
@@ -62,8 +62,8 @@ impl<K: Drop, V: Drop> Spares<K, V> {
         self.len += 1;
     }
 
-    // Takes out the node that was added last.
-    pub(crate) fn take(&mut self) -> Box<Node<K, V>>
+    /// Takes out the node that was added last.
+    pub fn take(&mut self) -> Box<Node<K, V>>
         requires { 0 < self.old }
         ensures node { IsBlankInner result.value }
         ensures len { self.new + 1 ≡ self.old }

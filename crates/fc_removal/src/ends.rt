@@ -49,8 +49,8 @@ pub fn take_last<K: Drop, V: Drop>(
     (pair, without_empty_root(root))
 }
 
-// Takes the last pair in the node or below it out.
-fn remove_last<K: Drop, V: Drop>(node: &mut Node<K, V>, count: &mut Count) -> (K, V)
+/// Takes the last pair in the node or below it out. The levels below the node stay, and the node itself may lose a pair.
+pub fn remove_last<K: Drop, V: Drop>(node: &mut Node<K, V>, count: &mut Count) -> (K, V)
     requires sound { (h : ℕ) × IsSoundRoot h node.old }
     ensures pairs { pairs_of node.old ≡ pairs_of node.new ++ result ∷ [] }
     ensures levels { (h : ℕ) → IsSoundRoot h node.old → IsShrunk h node.old node.new }

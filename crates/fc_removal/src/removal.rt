@@ -120,8 +120,8 @@ fn remove_own<K: Drop, V: Drop>(node: &mut Node<K, V>, index: usize, count: &mut
     pair
 }
 
-// Takes the first pair in the node or below it out.
-pub(crate) fn remove_first<K: Drop, V: Drop>(node: &mut Node<K, V>, count: &mut Count) -> (K, V)
+/// Takes the first pair in the node or below it out. The levels below the node stay, and the node itself may lose a pair.
+pub fn remove_first<K: Drop, V: Drop>(node: &mut Node<K, V>, count: &mut Count) -> (K, V)
     requires sound { (h : ℕ) × IsSoundRoot h node.old }
     ensures pairs { pairs_of node.old ≡ result ∷ pairs_of node.new }
     ensures levels { (h : ℕ) → IsSoundRoot h node.old → IsShrunk h node.old node.new }

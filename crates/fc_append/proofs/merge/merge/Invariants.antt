@@ -1,4 +1,4 @@
-use Rattle.std.proofs.Common.{◌≡◌, ◌+◌, ◌≤◌, ◌++◌, length}
+use Rattle.std.proofs.Common.{◌≡◌, ◌+◌, ◌<◌, ◌≤◌, ◌++◌, length}
 use Rattle.fc_base.specs.Ascending.{IsAscending}
 use Rattle.fc_base.specs.Joined.{joined}
 use Rattle.fc_walk.specs.Opened.{IsFalling, front_of}
@@ -11,6 +11,7 @@ invariant-loop-their_nodes g l =
     × (length (front_of l.our_nodes) + length (front_of l.their_nodes) ≤ l.builder.room)
     × (l.builder.pairs ++ joined g.K.Ord.cmp (front_of l.our_nodes) (front_of l.their_nodes) ≡ l.initial.builder.pairs ++ joined g.K.Ord.cmp (front_of l.initial.our_nodes) (front_of l.initial.their_nodes))
     × (length l.builder.pairs + l.builder.room ≡ length l.initial.builder.pairs + l.initial.builder.room)
+    × (l.count.comparisons < l.initial.count.comparisons + (length (front_of l.initial.our_nodes) + length (front_of l.initial.their_nodes)))
     × (l.count.comparisons + (length (front_of l.our_nodes) + length (front_of l.their_nodes)) ≤ l.initial.count.comparisons + (length (front_of l.initial.our_nodes) + length (front_of l.initial.their_nodes)))
 
 abbrev pub decreases-loop-their_nodes : goal.decreases-loop-their_nodes

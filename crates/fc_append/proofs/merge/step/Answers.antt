@@ -1,4 +1,4 @@
-use Rattle.std.proofs.Common.{sym}
+use Rattle.std.proofs.Common.{length, sym, ap, arith}
 use Rattle.fc_append.proofs.JoinFacts.{step_less, step_equal, step_greater}
 use Rattle.fc_append.proofs.merge.step.Goals as goal
 
@@ -13,3 +13,21 @@ returns-in-Equal-clause-pairs g c =
 pub returns-in-Greater-clause-pairs : goal.returns-in-Greater-clause-pairs
 returns-in-Greater-clause-pairs g c =
     step_greater g.K.Ord.cmp g.met.K.Ord.total _ _ c.first.result.now c.first-2.result.now _ _ c.first.ensures.1 c.first-2.ensures.1 c.requires.order.0 c.requires.order.1 _ _ _ _ c.give_first-in-Greater.ensures.pairs (sym c.in-Greater.ensures.value) c.push-in-Greater.ensures.pairs
+
+pub returns-in-Less-clause-both : goal.returns-in-Less-clause-both
+returns-in-Less-clause-both g c =
+    let x = ap length c.first.ensures.1 in
+    let y = ap length c.first-2.ensures.1 in
+    (omega arith, omega arith)
+
+pub returns-in-Equal-clause-both : goal.returns-in-Equal-clause-both
+returns-in-Equal-clause-both g c =
+    let x = ap length c.first.ensures.1 in
+    let y = ap length c.first-2.ensures.1 in
+    (omega arith, omega arith)
+
+pub returns-in-Greater-clause-both : goal.returns-in-Greater-clause-both
+returns-in-Greater-clause-both g c =
+    let x = ap length c.first.ensures.1 in
+    let y = ap length c.first-2.ensures.1 in
+    (omega arith, omega arith)
