@@ -1,4 +1,5 @@
 pub mod Ascending
+pub mod Boxed
 pub mod Copies
 pub mod Growth
 pub mod OneKey

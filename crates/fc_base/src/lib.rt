@@ -6,11 +6,15 @@ pub mod boxed;
 pub mod count;
 pub mod list_laws;
 pub mod query;
+pub mod rc;
+#[cfg(test)]
+mod tokens;
 pub mod try_clone;
 pub mod try_reserve_error;
 
-pub use boxed::FallibleBox;
+pub use boxed::{FallibleBox, TryBox};
 pub use count::{Count, compare};
 pub use query::Query;
+pub use rc::FallibleRc;
 pub use try_clone::TryClone;
 pub use try_reserve_error::TryReserveError;

@@ -3,6 +3,8 @@ ghost use Rattle.std.specs.Prelude.{◌≡◌, MatchResult, ⊤};
 
 use crate::try_reserve_error::TryReserveError;
 
+mod contents;
+
 /// A type whose values can be copied, where a copy may need memory.
 pub trait TryClone: Drop {
     // Holds of a value and each value that `try_clone` may answer for it.
