@@ -12,3 +12,4 @@ pub mod ExtendFacts
 pub mod PopFacts
 pub mod SplitFacts
 pub mod CopyFacts
+pub mod ExchangeFacts

@@ -27,6 +27,7 @@ mod gaps;
 mod get_mut;
 mod index;
 mod into_iter;
+pub mod item;
 mod iter;
 mod iter_mut;
 mod places;

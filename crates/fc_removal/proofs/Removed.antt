@@ -20,17 +20,17 @@ use Rattle.fc_node.proofs.Gaps.{drop_item, inner_gap, item_there, lead_pair, res
 use Rattle.fc_node.proofs.Siblings.{around_one}
 
 module _ {X : Type 0} where
-  take_set : (xs : List X) (i : ℕ) (y : X) → take i (slice_set xs i y) ≡ take i xs
+  pub take_set : (xs : List X) (i : ℕ) (y : X) → take i (slice_set xs i y) ≡ take i xs
   take_set [] i y = refl
   take_set (x ∷ xs) zero y = refl
   take_set (x ∷ xs) (suc i) y = ap (λ zs. x ∷ zs) (take_set xs i y)
 
-  drop_set : (xs : List X) (i : ℕ) (y : X) → drop (suc i) (slice_set xs i y) ≡ drop (suc i) xs
+  pub drop_set : (xs : List X) (i : ℕ) (y : X) → drop (suc i) (slice_set xs i y) ≡ drop (suc i) xs
   drop_set [] i y = refl
   drop_set (x ∷ xs) zero y = refl
   drop_set (x ∷ xs) (suc i) y = drop_set xs i y
 
-  at_set : (xs : List X) (i : ℕ) (y d : X) → i < length xs → get_or (slice_set xs i y) i d ≡ y
+  pub at_set : (xs : List X) (i : ℕ) (y d : X) → i < length xs → get_or (slice_set xs i y) i d ≡ y
   at_set [] i y d h = absurd (omega arith)
   at_set (x ∷ xs) zero y d h = refl
   at_set (x ∷ xs) (suc i) y d h = at_set xs i y d (omega arith)
@@ -113,7 +113,7 @@ module _ {K V : Type 0} where
       subst (λ k. IsShrunk k old new) (sym e) (s.0, omega arith, omega arith)
 
   -- the pairs of a node with another child
-  set_gap : (old mid c : Node K V) (i : ℕ) → IsInner old → i ≤ length (own_pairs old) → IsChildSet old mid i c → pairs_of mid ≡ lead_in old i ++ (pairs_of c ++ rest_in old i)
+  pub set_gap : (old mid c : Node K V) (i : ℕ) → IsInner old → i ≤ length (own_pairs old) → IsChildSet old mid i c → pairs_of mid ≡ lead_in old i ++ (pairs_of c ++ rest_in old i)
   set_gap old mid c i inner le m =
       let k : length (children_of old) ≡ length (own_pairs old) + 1 = inner in
       around_one mid c (take i (children_of old)) (drop (suc i) (children_of old)) (take i (own_pairs old)) (drop i (own_pairs old)) (m.child ∙ set_is (children_of old) i c (omega arith)) (m.same ∙ sym (take_drop i (own_pairs old)))

@@ -1,0 +1,137 @@
+//! A key with its pair: looked up, taken out, and replaced. A set is a map of its items, and rests on these calls.
+ghost use Rattle.std.specs.Prelude.{◌≡◌, ◌+◌, ◌<◌, length, IsSome, IsErr, IfOk, IfErr, OnOk, Some, None};
+ghost use Rattle.fc_base.specs.Ascending.{IsAscending};
+ghost use Rattle.fc_base.specs.Growth.{MayGrowRefuse};
+ghost use Rattle.fc_base.specs.Joined.{placed};
+ghost use Rattle.fc_base.specs.OneKey.{cut};
+ghost use Rattle.fc_base.specs.Parts.{at};
+ghost use Rattle.fc_map.specs.Counts.{IsBounded, IsMoved};
+ghost use Rattle.fc_map.specs.Entries.{entries, IsSoundMap, now_pair, passed_in};
+ghost use Rattle.fc_map.specs.Place.{IsHeldAt};
+ghost use Rattle.fc_node.specs.Node.{pairs_of};
+ghost use Rattle.fc_search.specs.Found.{IsFound};
+
+use super::BTreeMap;
+use fc_base::{Count, Query, TryReserveError};
+use fc_node::node::Node;
+use fc_node::path::Path;
+use fc_removal::replacement;
+
+/// The pair with an equal key, as `BTreeMap::get_key_value_counted`.
+pub fn get<'a, K: Ord, V, Q: Query<K>>(
+    map: &'a BTreeMap<K, V>,
+    key: Q,
+    count: &mut Count,
+) -> Option<(&'a K, &'a V)>
+    ensures pair { now_pair result ≡ at Q.order (entries map.now) (Q.sought key) }
+    ensures ascending { IsAscending K.cmp (entries map.now) }
+    ensures comparisons { count.new.comparisons ≡ count.old.comparisons + passed_in Q.order (Q.sought key) map.now }
+    ensures moves { count.new.moves ≡ count.old.moves }
+    ensures bounded { IsBounded (length (entries map.now)) count.old count.new }
+{
+    map.get_key_value_counted(key, count)
+}
+
+/// Takes the pair with an equal key out and answers it. `None` where there is none, and the map is as it was. It takes no memory. To
+/// the count it adds exactly the comparisons of the keys that a search from the left passes, and where there is an equal key the
+/// moves of its removal.
+pub fn take<K: Ord + Drop, V: Drop, Q: Query<K>>(
+    map: &mut BTreeMap<K, V>,
+    key: Q,
+    count: &mut Count,
+) -> Option<(K, V)>
+    ensures pair { result ≡ at Q.order (entries map.old) (Q.sought key) }
+    ensures rest { entries map.new ≡ cut Q.order (entries map.old) (Q.sought key) }
+    ensures absent { at Q.order (entries map.old) (Q.sought key) ≡ None → map.new ≡ map.old }
+    ensures ascending { IsAscending K.cmp (entries map.new) }
+    ensures sound { IsSoundMap map.new }
+    ensures comparisons { count.new.comparisons ≡ count.old.comparisons + passed_in Q.order (Q.sought key) map.old }
+    ensures no_move { at Q.order (entries map.old) (Q.sought key) ≡ None → count.new.moves ≡ count.old.moves }
+    ensures moved { IsSome (at Q.order (entries map.old) (Q.sought key)) → count.old.moves < count.new.moves }
+    ensures bounded { IsBounded (length (entries map.old)) count.old count.new }
+{
+    let mut path = Path::new();
+    match map.locate(key, &mut path, count) {
+        Ok(()) => Some(map.remove_at(&path, key, count)),
+        Err(_) => None,
+    }
+}
+
+/// Puts the pair in the place of the one with an equal key, which is answered, and asks for no memory; else the pair is new, and the
+/// answer is `Ok(None)`. To the count it adds exactly the comparisons of the keys that a search from the left passes; the moves of an
+/// insertion for a new pair, and two in the place of another.
+///
+/// # Errors
+/// As `BTreeMap::try_insert`, only at a new key.
+pub fn replace<K: Ord + Drop, V: Drop>(
+    map: &mut BTreeMap<K, V>,
+    key: K,
+    value: V,
+    count: &mut Count,
+) -> Result<Option<(K, V)>, TryReserveError>
+    ensures old { IfOk result (λ old. old ≡ at K.cmp (entries map.old) key) }
+    ensures put { IfOk result (λ _. entries map.new ≡ placed K.cmp (entries map.old) (key, value)) }
+    ensures unchanged { IfErr result (λ _. map.new ≡ map.old) }
+    ensures new_key { IfErr result (λ _. at K.cmp (entries map.old) key ≡ None) }
+    ensures error { IfErr result (MayGrowRefuse (length (entries map.old))) }
+    ensures full { at K.cmp (entries map.old) key ≡ None → length (entries map.old) ≡ usize.MAX → IsErr result }
+    ensures ascending { IsAscending K.cmp (entries map.new) }
+    ensures sound { IsSoundMap map.new }
+    ensures comparisons { count.new.comparisons ≡ count.old.comparisons + passed_in K.cmp key map.old }
+    ensures no_move { IsErr result → count.new.moves ≡ count.old.moves }
+    ensures moved { OnOk result (count.old.moves < count.new.moves) }
+    ensures bounded { IsBounded (length (entries map.new)) count.old count.new }
+{
+    let mut path = Path::new();
+    match map.locate(&key, &mut path, count) {
+        Ok(()) => Ok(Some(map.exchange_at(&path, (key, value), count))),
+        Err(gap) => match map.insert_at(&mut path, gap.has_room, key, value, count) {
+            Ok(()) => Ok(None),
+            Err(e) => Err(e),
+        },
+    }
+}
+
+impl<K: Ord + Drop, V: Drop> BTreeMap<K, V> {
+    // Puts the pair in the place of the one with an equal key, to which the path leads, and answers that one.
+    fn exchange_at(&mut self, path: &Path, pair: (K, V), count: &mut Count) -> (K, V)
+        requires held { IsHeldAt K.cmp pair.0 self.old path.now }
+        requires sound { IsSoundMap self.old }
+        ensures old { at K.cmp (entries self.old) pair.0 ≡ Some result }
+        ensures put { entries self.new ≡ placed K.cmp (entries self.old) pair }
+        ensures length { length (entries self.new) ≡ length (entries self.old) }
+        ensures some { 0 < length (entries self.new) }
+        ensures ascending { IsAscending K.cmp (entries self.new) }
+        ensures sound { IsSoundMap self.new }
+        ensures moves { IsMoved (length (entries self.new)) count.old count.new }
+        ensures moved { count.old.moves < count.new.moves }
+        ensures comparisons { count.new.comparisons ≡ count.old.comparisons }
+    {
+        let Some(root) = &mut self.root else {
+            unreachable!()
+        };
+        exchange_in(root, path, pair, count)
+    }
+}
+
+// Puts the pair in the place of the one with an equal key, to which the path leads, and answers that one.
+fn exchange_in<K: Ord + Drop, V: Drop>(
+    root: &mut Box<Node<K, V>>,
+    path: &Path,
+    pair: (K, V),
+    count: &mut Count,
+) -> (K, V)
+    requires found { IsFound K.cmp pair.0 root.old.value path.now }
+    requires sound { IsSoundMap (Some root.old.value) }
+    ensures old { at K.cmp (pairs_of root.old.value) pair.0 ≡ Some result }
+    ensures put { pairs_of root.new.value ≡ placed K.cmp (pairs_of root.old.value) pair }
+    ensures length { length (pairs_of root.new.value) ≡ length (pairs_of root.old.value) }
+    ensures some { 0 < length (pairs_of root.new.value) }
+    ensures ascending { IsAscending K.cmp (pairs_of root.old.value) → IsAscending K.cmp (pairs_of root.new.value) }
+    ensures sound { IsSoundMap (Some root.new.value) }
+    ensures moves { IsMoved (length (pairs_of root.new.value)) count.old count.new }
+    ensures moved { count.old.moves < count.new.moves }
+    ensures comparisons { count.new.comparisons ≡ count.old.comparisons }
+{
+    replacement::replace(root, path.as_slice(), pair, count)
+}

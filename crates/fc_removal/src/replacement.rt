@@ -1,0 +1,59 @@
+//! A pair put in the place of another one, by which no other pair moves.
+ghost use Rattle.std.specs.Prelude.{◌≡◌, ℕ, ◌+◌, [], ◌∷◌, ◌++◌, length, Some};
+ghost use Rattle.fc_node.specs.Node.{own_pairs, pairs_of, IsLevelled};
+ghost use Rattle.fc_node.specs.Place.{IsPlace, place_pair, place_ahead, place_behind};
+
+use fc_base::Count;
+use fc_node::node::Node;
+
+/// Puts `pair` in the place of the one that the path leads to, which is handed out. It compares nothing and takes no memory.
+pub fn replace<K: Drop, V: Drop>(
+    node: &mut Node<K, V>,
+    path: &[u8],
+    pair: (K, V),
+    count: &mut Count,
+) -> (K, V)
+    requires levels { (h : ℕ) × IsLevelled h node.old }
+    requires place { IsPlace path.now node.old }
+    ensures old { place_pair path.now node.old ≡ Some result }
+
+    // The pairs ahead of the place, the new pair and the pairs behind the place.
+    ensures pairs { pairs_of node.new ≡ place_ahead path.now node.old ++ pair ∷ place_behind path.now node.old }
+
+    // The levels are as before.
+    ensures size { length (own_pairs node.new) ≡ length (own_pairs node.old) }
+    ensures levels { (h : ℕ) → IsLevelled h node.old → IsLevelled h node.new }
+    ensures moves { count.new.moves ≡ count.old.moves + 2 }
+    ensures comparisons { count.new.comparisons ≡ count.old.comparisons }
+{
+    let i = path[0] as usize;
+    if path.len() == 1 {
+        return replace_own(node, i, pair, count);
+    }
+    match &mut node.children {
+        None => unreachable!(),
+        Some(children) => {
+            let child: &mut Node<K, V> = children.get_mut(i);
+            replace(child, &path[1..], pair, count)
+        }
+    }
+}
+
+// Puts `pair` in the place of the node's own pair at `index`.
+fn replace_own<K: Drop, V: Drop>(
+    node: &mut Node<K, V>,
+    index: usize,
+    pair: (K, V),
+    count: &mut Count,
+) -> (K, V)
+    requires levels { (h : ℕ) × IsLevelled h node.old }
+    requires place { IsPlace (index ∷ []) node.old }
+    ensures old { place_pair (index ∷ []) node.old ≡ Some result }
+    ensures pairs { pairs_of node.new ≡ place_ahead (index ∷ []) node.old ++ pair ∷ place_behind (index ∷ []) node.old }
+    ensures size { length (own_pairs node.new) ≡ length (own_pairs node.old) }
+    ensures levels { (h : ℕ) → IsLevelled h node.old → IsLevelled h node.new }
+    ensures moves { count.new.moves ≡ count.old.moves + 2 }
+    ensures comparisons { count.new.comparisons ≡ count.old.comparisons }
+{
+    node.replace_pair(index, pair, count)
+}

@@ -1,0 +1,13 @@
+use Rattle.std.proofs.Common.{sym, ap, ◌∙◌}
+use Rattle.fc_map.specs.Entries.{entries}
+use Rattle.fc_set.proofs.ItemFacts.{keys, joined_keys, ascending_keys, no_keys_either, map_ok}
+use Rattle.fc_set.proofs.set.BTreeSet.append_counted.Goals as goal
+
+pub returns-clause-joined : goal.returns-clause-joined
+returns-clause-joined g c = rw (← c.self.view_is) (rw (← c.other.view_is) (map_ok c.append_counted.result _ _ (λ e. ap keys e ∙ sym (joined_keys g.T.Ord.cmp (entries c.self.inside.map) (entries c.other.inside.map))) c.append_counted.ensures.joined))
+
+pub returns-clause-ascending : goal.returns-clause-ascending
+returns-clause-ascending g c = ascending_keys g.T.Ord.cmp _ c.append_counted.ensures.ascending
+
+pub returns-clause-none : goal.returns-clause-none
+returns-clause-none g c = rw (← c.self.view_is) (rw (← c.other.view_is) (λ h. c.append_counted.ensures.none (no_keys_either (entries c.self.inside.map) (entries c.other.inside.map) h)))

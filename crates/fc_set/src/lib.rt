@@ -1,0 +1,4 @@
+//! The ordered set.
+#![tactic(auto)]
+
+pub mod set;

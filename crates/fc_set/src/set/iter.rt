@@ -1,0 +1,267 @@
+//! Walks over the items of a set, from both ends: those over the keys of its map.
+ghost use Rattle.std.specs.Prelude.{◌≡◌, ◌≤◌, ◌^◌, ◌<◌, ⊤, length, Some, None, IfSome, IsTrue};
+ghost use Rattle.std.specs.Iterator.{YieldsFirst, YieldsLast, YieldsFirstRef, YieldsLastRef, UpTo, at_most, item_count};
+ghost use Rattle.std.specs.Iterator.Runs.{YieldsInOrder, YieldsInReverse};
+ghost use Rattle.std.specs.Iterator.SizeHint.{IsWithinCount};
+ghost use Rattle.fc_base.specs.Ranges.{bound_now, is_range};
+ghost use Rattle.fc_set.specs.Items.{items, AreAscending, items_within};
+
+use super::BTreeSet;
+use fc_map::map;
+use std::alloc::AllocError;
+use std::iter::FusedIterator;
+use std::marker::Model;
+use std::ops::Bound;
+
+/// The items that are still to come, in ascending order. `next` gives the first of them and `next_back` the last; once there is none,
+/// both answer `None` ever after. No call compares items or takes memory. Upstream: `btree_set::Iter`.
+#[derive(Drop)]
+pub struct Iter<'a, T> {
+    keys: map::Keys<'a, T, ()>,
+}
+
+impl<'a, T> Model for Iter<'a, T> {
+    ghost use Rattle.std.specs.Prelude.{List};
+
+    ghost Value = { List T };
+
+    ghost view = { λ w. w.keys };
+}
+
+impl<'a, T> Iter<'a, T> {
+    /// The number of items still to come. Upstream: `Iter::len`.
+    pub fn len(&self) -> usize
+        ensures { result ≡ length self.now }
+    {
+        self.keys.len()
+    }
+}
+
+impl<'a, T> Clone for Iter<'a, T> {
+    ghost is_clone = { λ s r. r ≡ s };
+
+    ghost is_infallible = { λ _. ⊤ };
+
+    /// A second walk over the items still to come, which takes no memory.
+    fn clone(&self) -> Result<Iter<'a, T>, AllocError> {
+        Ok(Iter {
+            keys: self.keys.clone()?,
+        })
+    }
+}
+
+impl<'a, T> Iterator for Iter<'a, T> {
+    type Item = &'a T;
+
+    ghost next_gives = { YieldsFirstRef (λ s. s) };
+
+    ghost remaining = { item_count (λ s. s) };
+
+    fn next(&mut self) -> Option<&'a T> {
+        self.keys.next()
+    }
+
+    /// The number of items still to come, twice.
+    fn size_hint(&self) -> (usize, Option<usize>)
+        ensures lower { result.0 ≤ length self.now }
+        ensures upper { IfSome result.1 (UpTo (at_most (length self.now))) }
+        ensures exact { result ≡ (length self.now, Some (length self.now)) }
+    {
+        self.keys.size_hint()
+    }
+}
+
+impl<'a, T> DoubleEndedIterator for Iter<'a, T> {
+    ghost next_back_gives = { YieldsLastRef (λ s. s) };
+
+    fn next_back(&mut self) -> Option<&'a T> {
+        self.keys.next_back()
+    }
+}
+
+impl<'a, T> ExactSizeIterator for Iter<'a, T> {
+    fn len(&self) -> usize {
+        self.keys.len()
+    }
+}
+
+impl<'a, T> FusedIterator for Iter<'a, T> {}
+
+/// The items of a set by value, seen as the list of those that are left. It compares nothing, takes no memory, and drops what is left.
+/// Upstream: `btree_set::IntoIter`.
+#[derive(Drop)]
+pub struct IntoIter<T> {
+    pairs: map::IntoIter<T, ()>,
+}
+
+impl<T> Model for IntoIter<T> {
+    ghost use Rattle.std.specs.Prelude.{List, map};
+
+    ghost Value = { List T };
+
+    ghost view = { λ w. map (λ e. e.0) w.pairs };
+}
+
+impl<T> IntoIter<T> {
+    /// The number of items that are left. Upstream: `IntoIter::len`.
+    pub fn len(&self) -> usize
+        ensures { result ≡ length self.now }
+    {
+        self.pairs.len()
+    }
+}
+
+impl<T: Drop> Iterator for IntoIter<T> {
+    type Item = T;
+
+    ghost next_gives = { YieldsFirst (λ s. s) };
+
+    ghost remaining = { item_count (λ s. s) };
+
+    fn next(&mut self) -> Option<T> {
+        let (item, _nothing) = self.pairs.next()?;
+        Some(item)
+    }
+
+    fn size_hint(&self) -> (usize, Option<usize>)
+        ensures lower { IsWithinCount result.0 (at_most (length self.now)) }
+        ensures upper { IfSome result.1 (UpTo (at_most (length self.now))) }
+        ensures exact { result ≡ (length self.now, Some (length self.now)) }
+    {
+        self.pairs.size_hint()
+    }
+}
+
+impl<T: Drop> DoubleEndedIterator for IntoIter<T> {
+    ghost next_back_gives = { YieldsLast (λ s. s) };
+
+    fn next_back(&mut self) -> Option<T> {
+        let (item, _nothing) = self.pairs.next_back()?;
+        Some(item)
+    }
+}
+
+impl<T: Drop> ExactSizeIterator for IntoIter<T> {
+    fn len(&self) -> usize {
+        self.pairs.len()
+    }
+}
+
+impl<T: Drop> FusedIterator for IntoIter<T> {}
+
+/// The items of a range that are still to come, in ascending order. `next` gives the first of them and `next_back` the last; once
+/// there is none, both answer `None` ever after. No call compares items or takes memory. Upstream: `btree_set::Range`.
+#[derive(Drop)]
+pub struct Range<'a, T> {
+    pairs: map::Range<'a, T, ()>,
+}
+
+impl<'a, T> Model for Range<'a, T> {
+    ghost use Rattle.std.specs.Prelude.{List, map};
+
+    ghost Value = { List T };
+
+    ghost view = { λ w. map (λ e. e.0) w.pairs };
+}
+
+impl<'a, T> Clone for Range<'a, T> {
+    ghost is_clone = { λ s r. r ≡ s };
+
+    ghost is_infallible = { λ _. ⊤ };
+
+    /// A second walk over the items still to come, which takes no memory.
+    fn clone(&self) -> Result<Range<'a, T>, AllocError> {
+        Ok(Range {
+            pairs: self.pairs.clone()?,
+        })
+    }
+}
+
+impl<'a, T> Iterator for Range<'a, T> {
+    type Item = &'a T;
+
+    ghost next_gives = { YieldsFirstRef (λ s. s) };
+
+    ghost remaining = { item_count (λ s. s) };
+
+    fn next(&mut self) -> Option<&'a T> {
+        let (item, _nothing) = self.pairs.next()?;
+        Some(item)
+    }
+
+    /// Nothing is known without a walk to the end: `(0, None)`.
+    fn size_hint(&self) -> (usize, Option<usize>)
+        ensures lower { result.0 ≤ length self.now }
+        ensures upper { IfSome result.1 (UpTo (at_most (length self.now))) }
+        ensures exact { result ≡ (0, None) }
+    {
+        self.pairs.size_hint()
+    }
+}
+
+impl<'a, T> DoubleEndedIterator for Range<'a, T> {
+    ghost next_back_gives = { YieldsLastRef (λ s. s) };
+
+    fn next_back(&mut self) -> Option<&'a T> {
+        let (item, _nothing) = self.pairs.next_back()?;
+        Some(item)
+    }
+}
+
+impl<'a, T> FusedIterator for Range<'a, T> {}
+
+impl<T: Ord> BTreeSet<T> {
+    /// A walk over all items, in ascending order. Upstream: `BTreeSet::iter`.
+    pub fn iter(&self) -> Iter<'_, T>
+        ensures items { result ≡ items self.now }
+        ensures ascending { AreAscending T.cmp result }
+    {
+        Iter {
+            keys: self.map.keys(),
+        }
+    }
+
+    /// A walk over the items that lie within both bounds, in ascending order. Two searches find its ends; its steps compare no item.
+    /// The bounds have to be a range, of which `is_range` is the test: upstream panics where they are none. Upstream:
+    /// `BTreeSet::range`.
+    pub fn range<'b>(&self, bounds: (Bound<&'b T>, Bound<&'b T>)) -> Range<'_, T>
+        requires { IsTrue (is_range T.cmp (bound_now bounds.0) (bound_now bounds.1)) }
+        ensures items { result ≡ items_within T.cmp (bound_now bounds.entry.0) (bound_now bounds.entry.1) (items self.now) }
+        ensures fits { length result ≤ usize.MAX }
+        ensures ascending { AreAscending T.cmp (items self.now) }
+    {
+        Range {
+            pairs: self.map.range(bounds),
+        }
+    }
+}
+
+impl<'a, T: Ord> IntoIterator for &'a BTreeSet<T> {
+    type Item = &'a T;
+
+    type IntoIter = Iter<'a, T>;
+
+    ghost into_iter_gives = { λ set walk. walk ≡ items set.now };
+
+    fn into_iter(self) -> Iter<'a, T> {
+        self.iter()
+    }
+}
+
+/// The items in ascending order. The walk takes no memory. Upstream: `BTreeSet::into_iter`.
+impl<T: Ord + Drop> IntoIterator for BTreeSet<T> {
+    type Item = T;
+
+    type IntoIter = IntoIter<T>;
+
+    ghost into_iter_gives = { λ set walk. (walk ≡ items set) × (length walk < 2 ^ 64) × AreAscending T.cmp walk
+        × YieldsInOrder (YieldsFirst {A = T} (λ s. s)) (λ s. s)
+        × YieldsInReverse (YieldsLast {A = T} (λ s. s)) (λ s. s) };
+
+    fn into_iter(self) -> IntoIter<T> {
+        let BTreeSet { map } = self;
+        IntoIter {
+            pairs: map.into_iter(),
+        }
+    }
+}

@@ -1,0 +1,93 @@
+//! Whole sets: joined, cut in two, and extended by what an iterator gives.
+ghost use Rattle.std.specs.Prelude.{◌≡◌, ◌+◌, ◌*◌, ◌<◌, ◌≤◌, ◌⊎◌, ◌++◌, List, [], length, IfOk, IfErr, OnOk, IsErr};
+ghost use Rattle.std.specs.Iterator.{IsFiniteIterable};
+ghost use Rattle.fc_base.specs.Growth.{MayAppendRefuse};
+ghost use Rattle.fc_base.specs.declared.try_reserve_error.TryReserveError.TheVariants.{AllocError};
+ghost use Rattle.fc_map.specs.Entries.{IsSoundMap};
+ghost use Rattle.fc_vec.specs.Items.{GivesAll, GivesFirst};
+ghost use Rattle.fc_set.specs.Items.{items, smaller, not_smaller, AreAscending, joined_items, extended_items, AreExtendedUpTo};
+
+use super::BTreeSet;
+use fc_base::{Count, Query, TryReserveError};
+
+impl<T: Ord + Drop> BTreeSet<T> {
+    /// Takes all items of `other`, which is then empty. Where both sets hold an equal item, `other`'s stays, and ours is dropped. Where
+    /// one of the two is empty nothing is asked for and nothing compared. Upstream: `BTreeSet::append`, which answers nothing.
+    ///
+    /// # Errors
+    /// Only where neither set is empty: `CapacityOverflow` where their lengths add past `usize::MAX`, and then always; else
+    /// `AllocError`, where a request for memory was refused. Both sets are then as they were, tree and all.
+    pub fn append(&mut self, other: &mut Self) -> Result<(), TryReserveError>
+        ensures joined { IfOk result (λ _. items self.new ≡ joined_items T.cmp (items self.old) (items other.old)) }
+        ensures emptied { IfOk result (λ _. items other.new ≡ []) }
+        ensures unchanged { IfErr result (λ _. (self.new ≡ self.old) × (other.new ≡ other.old)) }
+        ensures error { IfErr result (MayAppendRefuse (length (items self.old)) (length (items other.old))) }
+        ensures full { 0 < length (items self.old) → 0 < length (items other.old) → usize.MAX < length (items self.old) + length (items other.old) → IsErr result }
+        ensures ascending { AreAscending T.cmp (items self.new) }
+        ensures sound { IsSoundMap self.new }
+    {
+        self.append_counted(other, &mut Count::new())
+    }
+
+    /// `append`, with its comparisons added to the count: at most twice as many as there are items in both, and none where one of the
+    /// two is empty.
+    ///
+    /// # Errors
+    /// As `append`.
+    pub fn append_counted(
+        &mut self,
+        other: &mut Self,
+        count: &mut Count,
+    ) -> Result<(), TryReserveError>
+        ensures joined { IfOk result (λ _. items self.new ≡ joined_items T.cmp (items self.old) (items other.old)) }
+        ensures emptied { IfOk result (λ _. items other.new ≡ []) }
+        ensures unchanged { IfErr result (λ _. (self.new ≡ self.old) × (other.new ≡ other.old)) }
+        ensures error { IfErr result (MayAppendRefuse (length (items self.old)) (length (items other.old))) }
+        ensures full { 0 < length (items self.old) → 0 < length (items other.old) → usize.MAX < length (items self.old) + length (items other.old) → IsErr result }
+        ensures ascending { AreAscending T.cmp (items self.new) }
+        ensures sound { IsSoundMap self.new }
+        ensures comparisons { count.new.comparisons ≤ count.old.comparisons + 2 * (length (items self.old) + length (items other.old)) }
+        ensures none { (items self.old ≡ []) ⊎ (items other.old ≡ []) → count.new.comparisons ≡ count.old.comparisons }
+    {
+        self.map.append_counted(&mut other.map, count)
+    }
+
+    /// Takes the items that are not smaller than `item`, which is a `Query`, out into a set of their own. The smaller ones stay. An
+    /// empty set asks for nothing. Upstream: `BTreeSet::try_split_off`, which answers the set alone.
+    ///
+    /// # Errors
+    /// `AllocError` where a request for memory was refused, which takes a set that is not empty. The set is then as it was, tree and
+    /// all.
+    pub fn try_split_off<Q: Query<T>>(&mut self, item: Q) -> Result<Self, TryReserveError>
+        ensures smaller { IfOk result (λ _. items self.new ≡ smaller Q.order (items self.old) (Q.sought item)) }
+        ensures from { IfOk result (λ rest. items rest ≡ not_smaller Q.order (items self.old) (Q.sought item)) }
+        ensures unchanged { IfErr result (λ _. self.new ≡ self.old) }
+        ensures error { IfErr result (λ e. (e ≡ AllocError) × (0 < length (items self.old))) }
+        ensures ascending { AreAscending T.cmp (items self.new) × IfOk result (λ rest. AreAscending T.cmp (items rest)) }
+        ensures sound { IsSoundMap self.new × IfOk result (λ rest. IsSoundMap rest) }
+    {
+        let map = self.map.split_off(item)?;
+        Ok(BTreeSet { map })
+    }
+
+    /// Puts all items that the iterator gives into the set, in turn, each as `try_insert` does: an equal item that is there stays.
+    /// Upstream: `BTreeSet::extend`, which panics where this call answers an error.
+    ///
+    /// # Errors
+    /// At the first item that `try_insert` refuses, which is new, with that error. The items before it stay in the set. It is dropped,
+    /// and so is the iterator with the items behind it.
+    pub fn try_extend<I: IntoIterator<Item = T>>(&mut self, given: I) -> Result<(), TryReserveError>
+        requires ends { IsFiniteIterable I.into_iter_gives I.IntoIter.can_next I.IntoIter.remaining given }
+        ensures all { OnOk result ((all : List T) × GivesAll I.into_iter_gives I.IntoIter.next_gives given all × (items self.new ≡ extended_items T.cmp (items self.old) all)) }
+        ensures refused { IfErr result (λ e. (taken : List T) × GivesFirst I.into_iter_gives I.IntoIter.next_gives given taken × ((rest : List T) → AreExtendedUpTo T.cmp (items self.old) (taken ++ rest) (items self.new) e)) }
+        ensures ascending { AreAscending T.cmp (items self.new) }
+        ensures sound { IsSoundMap self.new }
+    {
+        // Shows that the set is ascending and sound where no item comes.
+        let _len = self.len();
+        for item in given {
+            self.try_insert(item)?;
+        }
+        Ok(())
+    }
+}
