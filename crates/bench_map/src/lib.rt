@@ -2,6 +2,7 @@
 #![tactic(auto)]
 
 mod walks;
+mod whole;
 
 use fc_map::map::BTreeMap;
 use std::alloc::Global;

@@ -657,7 +657,12 @@ fn insertions_and_removals_compare_as_a_look_up(rt: HostRuntime) -> Result<(), F
 }
 
 // Whether the key stands in the map with this letter and value.
-pub(crate) fn shows_letter(map: &BTreeMap<Tagged, u64>, key: &Tagged, letter: char, value: u64) -> bool {
+pub(crate) fn shows_letter(
+    map: &BTreeMap<Tagged, u64>,
+    key: &Tagged,
+    letter: char,
+    value: u64,
+) -> bool {
     match map.get_key_value(key) {
         Some(pair) => pair.0.letter == letter && *pair.1 == value,
         None => false,

@@ -1,0 +1,193 @@
+//! Times calls on whole maps beside std's `BTreeMap` on the same keys, and compares what both left.
+//!
+//! Each time is the best of some runs, the two maps in turn, of the processor time that the call took (`phases.rs`).
+mod phases;
+mod random;
+
+use phases::{machine, mark, phases};
+use random::Random;
+use std::collections::BTreeMap;
+use std::hint::black_box;
+use std::mem::forget;
+
+// Pairs, and rounds of runs.
+const SIZES: [(u64, usize); 2] = [(1_000, 400), (1_000_000, 8)];
+const APPEND: u64 = 0;
+const SPLIT_OFF: u64 = 1;
+const CLONE: u64 = 2;
+const POP: u64 = 3;
+
+unsafe extern "C" {
+    fn bench_map_whole(
+        keys: *const u64,
+        key_count: usize,
+        others: *const u64,
+        other_count: usize,
+        at: u64,
+        way: u64,
+        checksum: *mut u64,
+    ) -> bool;
+    fn bench_map_collect(keys: *const u64, key_count: usize, len: *mut usize) -> bool;
+}
+
+#[derive(Default)]
+struct Job {
+    name: &'static str,
+    // The keys are collected, and nothing else is done.
+    collects: bool,
+    keys: Vec<u64>,
+    others: Vec<u64>,
+    at: u64,
+    way: u64,
+}
+
+fn mixed(checksum: u64, answer: Option<u64>) -> u64 {
+    checksum.rotate_left(5) ^ answer.map_or(0, |value| value.wrapping_add(1))
+}
+
+#[inline(never)]
+fn run_ours(job: &Job) -> u64 {
+    let mut checksum = 0;
+    let mut len = 0;
+    let done = unsafe {
+        if job.collects {
+            bench_map_collect(job.keys.as_ptr(), job.keys.len(), &mut len)
+        } else {
+            bench_map_whole(
+                job.keys.as_ptr(),
+                job.keys.len(),
+                job.others.as_ptr(),
+                job.others.len(),
+                job.at,
+                job.way,
+                &mut checksum,
+            )
+        }
+    };
+    assert!(done, "memory was refused");
+    checksum ^ len as u64
+}
+
+fn insert_all(keys: &[u64]) -> BTreeMap<u64, u64> {
+    let mut map = BTreeMap::new();
+    for key in keys {
+        map.insert(*key, *key);
+    }
+    map
+}
+
+// As `BTreeMap::from_iter` of std, which sorts all pairs first.
+fn collect_std(job: &Job) -> u64 {
+    mark();
+    let map: BTreeMap<u64, u64> = job.keys.iter().map(|key| (*key, *key)).collect();
+    mark();
+    let len = map.len() as u64;
+    forget(map);
+    len
+}
+
+#[inline(never)]
+fn run_std(job: &Job) -> u64 {
+    if job.collects {
+        return collect_std(job);
+    }
+    let mut map = insert_all(&job.keys);
+    let mut other = insert_all(&job.others);
+    let mut popped = 0;
+    mark();
+    match job.way {
+        APPEND => map.append(&mut other),
+        SPLIT_OFF => other = map.split_off(&job.at),
+        CLONE => other = map.clone(),
+        _ => {
+            while let Some((key, value)) = map.pop_first() {
+                popped = mixed(popped, Some(key ^ value));
+            }
+        }
+    }
+    mark();
+    let lengths = mixed(map.len() as u64, Some(other.len() as u64));
+    let ends = mixed(lengths, map.last_key_value().map(|pair| *pair.0));
+    let seen = mixed(ends, other.first_key_value().map(|pair| *pair.0));
+    forget(map);
+    forget(other);
+    mixed(seen, Some(popped))
+}
+
+fn jobs(pairs: u64) -> Vec<Job> {
+    let mut random = Random(pairs);
+    let mut shuffled = |mut keys: Vec<u64>| {
+        random.shuffle(&mut keys);
+        keys
+    };
+    let half = pairs / 2;
+    let all = shuffled((0..pairs).collect());
+    let made = |name, way| Job {
+        name,
+        way,
+        ..Job::default()
+    };
+    vec![
+        Job {
+            keys: shuffled((0..half).map(|key| 2 * key).collect()),
+            others: shuffled((0..half).map(|key| 2 * key + 1).collect()),
+            ..made("append, interleaved", APPEND)
+        },
+        Job {
+            keys: shuffled((0..half).collect()),
+            others: shuffled((half..pairs).collect()),
+            ..made("append, one behind the other", APPEND)
+        },
+        Job {
+            keys: all.clone(),
+            at: half,
+            ..made("split_off in the middle", SPLIT_OFF)
+        },
+        Job {
+            keys: all.clone(),
+            ..made("try_clone", CLONE)
+        },
+        Job {
+            keys: all.clone(),
+            ..made("pop_first until empty", POP)
+        },
+        Job {
+            keys: (0..pairs).collect(),
+            collects: true,
+            ..made("try_from_iterator, ascending", 0)
+        },
+        Job {
+            keys: all,
+            collects: true,
+            ..made("try_from_iterator, random", 0)
+        },
+    ]
+}
+
+// Nanoseconds of processor time of the call: ours, then std's.
+fn measure(job: &Job, rounds: usize) -> [f64; 2] {
+    let mut best = [f64::MAX; 2];
+    for round in 0..rounds {
+        let mut seen = [0; 2];
+        for who in [round % 2, 1 - round % 2] {
+            let run = [run_ours as fn(&Job) -> u64, run_std][who];
+            let taken = phases(|| seen[who] = run(black_box(job)));
+            best[who] = best[who].min(taken[0]);
+        }
+        assert_eq!(seen[0], seen[1], "what the two maps left differs");
+    }
+    best
+}
+
+fn main() {
+    println!("nanoseconds of processor time a pair of the whole, best of so many runs: ours / std's BTreeMap (ours as a multiple of std's)");
+    println!("{}", machine());
+    for (pairs, rounds) in SIZES {
+        println!("{pairs} pairs, {rounds} runs");
+        for job in jobs(pairs) {
+            let [ours, stds] = measure(&job, rounds).map(|time| time / pairs as f64);
+            let name = job.name;
+            println!("  {name:<30} {ours:>9.3} / {stds:<9.3} ({:4.2})", ours / stds);
+        }
+    }
+}
