@@ -1,0 +1,11 @@
+//! Tests of the ordered set through its public calls.
+#![tactic(auto)]
+
+#[cfg(test)]
+mod items;
+#[cfg(test)]
+mod set;
+#[cfg(test)]
+mod walks;
+#[cfg(test)]
+mod whole;
