@@ -1,1 +1,3 @@
+pub mod CopyFacts
 pub mod ItemFacts
+pub mod Refusals

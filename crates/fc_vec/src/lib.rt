@@ -3,4 +3,6 @@
 
 pub mod vec;
 
-pub use vec::TryFromIterator;
+pub use vec::{
+    FallibleCopyVec, FallibleVec, Iter, TryCollect, TryFromIterator, TryVec, try_from_elem,
+};

@@ -1,0 +1,118 @@
+-- Copies of items, made one after another.
+use Rattle.std.proofs.Common.{◌≡◌, ℕ, ◌+◌, ◌-◌, ◌<◌, ◌≤◌, List, [], ◌∷◌, ◌++◌, length, take, drop, replicate, get_or, refl, sym, ap, ◌∙◌, subst, arith}
+use Rattle.std.proofs.lemmas.List.{append-nil, append_assoc, take_all, take-append-drop, drop_more, get_or-replicate, length-replicate, length-append, take_more}
+use Rattle.std.proofs.Math.Seq.{get_or-append_seam}
+use Rattle.std.proofs.lemmas.List.Elements.{all_zip_more, length_all_zip}
+use Rattle.std.specs.List.{AllZip}
+use Rattle.fc_vec.specs.Joined.{joined}
+use Rattle.fc_vec.specs.Vectors.{Vector, IsExtended, IsFilled, IsExtendedUpTo}
+
+module _ {T : Type 0} (R : T → T → Type 0) where
+  -- No item was copied yet.
+  pub none_copied : (old xs : List T) → IsExtended R old (take 0 xs) old
+  none_copied old xs = record { copies = []; copied = tt; is = sym (append-nil old) }
+
+  -- One more item was copied, and its copy put behind the others.
+  pub one_copied : (old xs mid new : List T) (i : ℕ) (x y : T) → i < length xs → x ≡ get_or xs i x → IsExtended R old (take i xs) mid → R x y → new ≡ mid ++ y ∷ [] → IsExtended R old (take (i + 1) xs) new
+  one_copied old xs mid new i x y h e m r is = record {
+    copies = m.copies ++ y ∷ [];
+    copied = all_zip_more R xs m.copies i x y h e m.copied r;
+    is = is ∙ ap (λ l. l ++ y ∷ []) m.is ∙ append_assoc old m.copies (y ∷ []);
+  }
+
+  -- All items were copied.
+  pub all_copied : (old xs new : List T) (i : ℕ) → i ≡ length xs → IsExtended R old (take i xs) new → IsExtended R old xs new
+  all_copied old xs new i e m = subst (λ l. IsExtended R old l new) (take_all i xs (omega arith)) m
+
+  -- The copy of the next item was refused.
+  pub front_copied : (never_refuses : T → Type 0) (old xs new : List T) (i : ℕ) (x : T) → i < length xs → x ≡ get_or xs i x → IsExtended R old (take i xs) new → ¬ (never_refuses x) → IsExtendedUpTo R never_refuses old xs new
+  front_copied never_refuses old xs new i x h e m refusable = record {
+    front = take i xs;
+    source = x;
+    rest = drop (i + 1) xs;
+    taken = sym (take-append-drop i xs) ∙ ap (λ l. take i xs ++ l) (drop_more xs i x h) ∙ ap (λ z. take i xs ++ z ∷ drop (i + 1) xs) (sym e);
+    extended = m;
+    refusable = refusable;
+  }
+
+  module _ (n : ℕ) (x : T) where
+    repeated_at : (i : ℕ) → i < n → x ≡ get_or (replicate n x) i x
+    repeated_at i h = sym (get_or-replicate n i x x h)
+
+    within : (i : ℕ) → i < n → i < length (replicate n x)
+    within i h = let e = length-replicate n x in omega (arith, e, h)
+
+    -- One more copy of the same item.
+    pub one_repeated : (old mid new : List T) (i : ℕ) (y : T) → i < n → IsExtended R old (take i (replicate n x)) mid → R x y → new ≡ mid ++ y ∷ [] → IsExtended R old (take (i + 1) (replicate n x)) new
+    one_repeated old mid new i y h m r is = one_copied old (replicate n x) mid new i x y (within i h) (repeated_at i h) m r is
+
+    -- All copies of the same item.
+    pub all_repeated : (old new : List T) (i : ℕ) → i ≡ n → IsExtended R old (take i (replicate n x)) new → IsExtended R old (replicate n x) new
+    all_repeated old new i e m = all_copied old (replicate n x) new i (e ∙ sym (length-replicate n x)) m
+
+    -- The next copy of the same item was refused.
+    pub front_repeated : (never_refuses : T → Type 0) (old new : List T) (i : ℕ) → i < n → IsExtended R old (take i (replicate n x)) new → ¬ (never_refuses x) → IsExtendedUpTo R never_refuses old (replicate n x) new
+    front_repeated never_refuses old new i h m refusable = front_copied never_refuses old (replicate n x) new i x (within i h) (repeated_at i h) m refusable
+
+  zip_append : (xs us ys vs : List T) → AllZip R xs ys → AllZip R us vs → AllZip R (xs ++ us) (ys ++ vs)
+  zip_append [] us [] vs a b = b
+  zip_append [] us (y ∷ ys) vs a b = absurd a
+  zip_append (x ∷ xs) us [] vs a b = absurd a
+  zip_append (x ∷ xs) us (y ∷ ys) vs a b = (a.0, zip_append xs us ys vs a.1 b)
+
+  -- How many items there are with the copies.
+  pub length_extended : (old xs new : List T) → IsExtended R old xs new → length new ≡ length old + length xs
+  length_extended old xs new a =
+      let many = length_all_zip R xs a.copies a.copied in
+      let both = ap length a.is ∙ length-append old a.copies in
+      omega (arith, many, both)
+
+  -- Two extensions, one after the other.
+  pub extended_on : (old xs mid ys new : List T) → IsExtended R old xs mid → IsExtended R mid ys new → IsExtended R old (xs ++ ys) new
+  extended_on old xs mid ys new a b = record {
+    copies = a.copies ++ b.copies;
+    copied = zip_append xs ys a.copies b.copies a.copied b.copied;
+    is = b.is ∙ ap (λ l. l ++ b.copies) a.is ∙ append_assoc old a.copies b.copies;
+  }
+
+  -- An extension, and one that was refused on its way, before others.
+  pub refused_on : (never_refuses : T → Type 0) (old xs mid ys zs whole new : List T) → IsExtended R old xs mid → IsExtendedUpTo R never_refuses mid ys new → whole ≡ xs ++ ys ++ zs → IsExtendedUpTo R never_refuses old whole new
+  refused_on never_refuses old xs mid ys zs whole new a b e = record {
+    front = xs ++ b.front;
+    source = b.source;
+    rest = b.rest ++ zs;
+    taken = e ∙ ap (λ l. xs ++ l ++ zs) b.taken ∙ append_assoc xs (b.front ++ b.source ∷ b.rest) zs ∙ ap (λ l. xs ++ l) (append_assoc b.front (b.source ∷ b.rest) zs) ∙ sym (append_assoc xs b.front (b.source ∷ (b.rest ++ zs)));
+    extended = extended_on old xs mid b.front new a b.extended;
+    refusable = b.refusable;
+  }
+
+  -- What is refused among copies of one item is a copy of that item.
+  pub refused_repeated : (never_refuses : T → Type 0) (old new : List T) (n : ℕ) (x : T) → IsExtendedUpTo R never_refuses old (replicate n x) new → (0 < n) × ¬ (never_refuses x)
+  refused_repeated never_refuses old new n x u =
+      let long = length-replicate n x in
+      let parts = ap length u.taken ∙ length-append u.front (u.source ∷ u.rest) in
+      let is : u.source ≡ x = sym (get_or-append_seam u.front u.source u.rest x) ∙ ap (λ l. get_or l (length u.front) x) (sym u.taken) ∙ get_or-replicate n (length u.front) x x (omega (arith, long, parts)) in
+      (omega (arith, long, parts), subst (λ y. ¬ (never_refuses y)) is u.refusable)
+
+module _ {T : Type 0} where
+  joined_append : (xs ys : List (Vector T)) → joined (xs ++ ys) ≡ joined xs ++ joined ys
+  joined_append [] ys = refl
+  joined_append (x ∷ xs) ys = ap (λ l. x.items ++ l) (joined_append xs ys) ∙ sym (append_assoc x.items (joined xs) (joined ys))
+
+  -- One more part.
+  pub joined_more : (parts : List (Vector T)) (i : ℕ) (part : Vector T) → i < length parts → part ≡ get_or parts i part → joined (take (i + 1) parts) ≡ joined (take i parts) ++ part.items
+  joined_more parts i part h e =
+      ap joined (take_more parts i part h) ∙ joined_append (take i parts) (get_or parts i part ∷ []) ∙ ap (λ (p : Vector T). joined (take i parts) ++ (p.items ++ [])) (sym e) ∙ ap (λ l. joined (take i parts) ++ l) (append-nil part.items)
+
+  -- The items of the first parts, of the next one and of the others.
+  pub joined_around : (parts : List (Vector T)) (i : ℕ) (part : Vector T) → i < length parts → part ≡ get_or parts i part → joined parts ≡ joined (take i parts) ++ part.items ++ joined (drop (i + 1) parts)
+  joined_around parts i part h e =
+      ap joined (sym (take-append-drop (i + 1) parts)) ∙ joined_append (take (i + 1) parts) (drop (i + 1) parts) ∙ ap (λ l. l ++ joined (drop (i + 1) parts)) (joined_more parts i part h e)
+
+  -- How many items the first parts and the next one have, of all.
+  pub joined_length : (parts : List (Vector T)) (i : ℕ) (part : Vector T) → i < length parts → part ≡ get_or parts i part → (length (joined (take (i + 1) parts)) ≡ length (joined (take i parts)) + length part.items) × (length (joined (take i parts)) + length part.items ≤ length (joined parts))
+  joined_length parts i part h e =
+      let more = ap length (joined_more parts i part h e) ∙ length-append (joined (take i parts)) part.items in
+      let around = ap length (joined_around parts i part h e) ∙ length-append (joined (take i parts) ++ part.items) (joined (drop (i + 1) parts)) in
+      let front = length-append (joined (take i parts)) part.items in
+      (more, omega (arith, around, front))

@@ -1,0 +1,65 @@
+//! Copies of items, put behind those of a vector.
+ghost use Rattle.std.specs.Prelude.{◌≡◌, ◌+◌, ◌-◌, ◌<◌, ◌≤◌, ◌⊎◌, [], length, replicate, IfOk, IfErr, OnOk, IsOk, vec_len, vec_capacity};
+ghost use Rattle.fc_base.specs.declared.try_reserve_error.TryReserveError.TheVariants.{AllocError as NoMemory};
+ghost use Rattle.fc_vec.specs.Vectors.{IsExtended, IsFilled, IsExtendedUpTo};
+
+use super::fallible_vec::FallibleVec;
+use fc_base::{TryClone, TryReserveError};
+use std::alloc::Global;
+
+// Puts a copy of each source behind the items, for which there is room.
+pub(crate) fn push_copies<T: TryClone>(
+    v: &mut Vec<T>,
+    sources: &[T],
+) -> Result<(), TryReserveError>
+    requires copied { T.can_clone }
+    requires room { vec_len v.old + length sources.now ≤ vec_capacity v.old }
+    ensures extended { OnOk result (IsExtended T.same v.old.items sources.now v.new.items) }
+    ensures refused { IfErr result (λ _. IsExtendedUpTo T.same T.never_refuses v.old.items sources.now v.new.items) }
+    ensures room { vec_capacity v.new ≡ vec_capacity v.old }
+{
+    for i in 0..sources.len() {
+        let copy = sources[i].try_clone()?;
+        v.push_reserved(copy);
+    }
+    Ok(())
+}
+
+// Puts so many copies of the source behind the items, for which there is room.
+pub(crate) fn push_repeated<T: TryClone>(
+    v: &mut Vec<T>,
+    source: &T,
+    count: usize,
+) -> Result<(), TryReserveError>
+    requires copied { T.can_clone }
+    requires room { vec_len v.old + count ≤ vec_capacity v.old }
+    ensures extended { OnOk result (IsExtended T.same v.old.items (replicate count source.now) v.new.items) }
+    ensures refused { IfErr result (λ _. IsExtendedUpTo T.same T.never_refuses v.old.items (replicate count source.now) v.new.items) }
+    ensures room { vec_capacity v.new ≡ vec_capacity v.old }
+{
+    for i in 0..count {
+        let copy = source.try_clone()?;
+        v.push_reserved(copy);
+    }
+    Ok(())
+}
+
+/// A vector of `n` items: copies of `elem`, and at the last place `elem` itself; of none where `n` is 0. Upstream:
+/// `try_from_elem`.
+///
+/// # Errors
+/// `AllocError` where the room was refused, or the error of a refused copy. What was made by then is dropped.
+pub fn try_from_elem<T: TryClone>(
+    alloc: Global,
+    elem: T,
+    n: usize,
+) -> Result<Vec<T>, TryReserveError>
+    requires { T.can_clone }
+    ensures none { n ≡ 0 → IsOk result × IfOk result (λ v. v.items ≡ []) }
+    ensures filled { 0 < n → IfOk result (λ v. IsFilled T.same [] n elem v.items) }
+    ensures refused { IfErr result (λ e. (e ≡ NoMemory) ⊎ ((1 < n) × ¬ (T.never_refuses elem))) }
+{
+    let mut made = Vec::new(alloc);
+    made.try_resize_no_copy(n, elem)?;
+    Ok(made)
+}

@@ -1,0 +1,110 @@
+//! Vectors made of copies.
+ghost use Rattle.std.specs.Prelude.{◌≡◌, ◌+◌, ◌^◌, ◌<◌, ◌≤◌, ◌⊎◌, [], length, take, IfOk, IfErr, OnOk, IsOk, MatchOption, vec_len, vec_capacity, List};
+ghost use Rattle.std.specs.List.{AllZip};
+ghost use Rattle.fc_vec.specs.Joined.{joined};
+ghost use Rattle.fc_vec.specs.Vectors.{MayRefuse, IsExtended, IsExtendedUpTo};
+
+use super::super::copies::push_copies;
+use super::super::fallible_vec::FallibleVec;
+use super::TryVec;
+use fc_base::{TryClone, TryReserveError};
+use std::alloc::Global;
+
+impl<T: TryClone> TryVec<T> {
+    /// A vector of copies of the items, by `try_clone`, in order. Upstream: `TryVec::try_from` of a slice.
+    ///
+    /// # Errors
+    /// `AllocError` where the room was refused, or the error of a refused copy. What was made by then is dropped.
+    pub fn try_from_slice(alloc: Global, items: &[T]) -> Result<TryVec<T>, TryReserveError>
+        requires { T.can_clone }
+        ensures copied { IfOk result (λ v. AllZip T.same items.now v.items) }
+        ensures none { items.now ≡ [] → IsOk result }
+        ensures refused { IfErr result (λ e. MayRefuse 0 0 (length items.now) e ⊎ ((made : List T) × IsExtendedUpTo T.same T.never_refuses [] items.now made)) }
+    {
+        let mut made = TryVec::new(alloc);
+        made.extend_from_slice(items)?;
+        Ok(made)
+    }
+}
+
+impl TryVec<u8> {
+    /// A vector of the text's bytes. Upstream: `TryVec::try_from` of a text.
+    ///
+    /// # Errors
+    /// `AllocError` where the room was refused.
+    pub fn try_from_str(alloc: Global, text: &str) -> Result<TryVec<u8>, TryReserveError>
+        ensures bytes { IfOk result (λ v. v.items ≡ text.now) }
+        ensures refused { IfErr result (λ e. MayRefuse 0 0 (length text.now) e) }
+    {
+        TryVec::try_from_slice(alloc, text.as_bytes())
+    }
+}
+
+/// A copy of a vector has a copy of each item, by `try_clone`, in order; it takes its memory where the vector does. Upstream:
+/// `TryVec::try_clone`.
+///
+/// # Errors
+/// `AllocError` where the room was refused, or the error of a refused copy; never where the vector is empty. What was made by
+/// then is dropped.
+impl<T: TryClone> TryClone for TryVec<T> {
+    ghost same = { λ source copy. AllZip T.same source.items copy.items };
+
+    ghost can_clone = { T.can_clone };
+
+    ghost never_refuses = { λ source. source.items ≡ [] };
+
+    fn try_clone(&self) -> Result<TryVec<T>, TryReserveError> {
+        TryVec::try_from_slice(*self.inner.allocator(), self.inner.as_slice())
+    }
+}
+
+impl<T: TryClone> TryVec<TryVec<T>> {
+    /// The items of all parts in one vector, copied by `try_clone`, in order. It takes its memory where this vector does, and
+    /// all of it before the first copy. Upstream: `TryVec::concat`, which adds up lengths unchecked.
+    ///
+    /// # Errors
+    /// `CapacityOverflow` exactly where the lengths pass `usize::MAX` together, else `AllocError` where the room was refused;
+    /// or the error of a refused copy. What was made by then is dropped.
+    pub fn concat(&self) -> Result<TryVec<T>, TryReserveError>
+        requires { T.can_clone }
+        ensures joined { IfOk result (λ v. AllZip T.same (joined self.now.items) v.items) }
+        ensures length { IfOk result (λ _. length (joined self.now.items) < 2 ^ 64) }
+        ensures refused { IfErr result (λ e. MayRefuse 0 0 (length (joined self.now.items)) e ⊎ ((made : List T) × IsExtendedUpTo T.same T.never_refuses [] (joined self.now.items) made)) }
+    {
+        let Some(len) = total_len(self.as_slice()) else {
+            return Err(TryReserveError::CapacityOverflow);
+        };
+        let mut made = Vec::try_with_capacity(*self.inner.allocator(), len)?;
+        push_parts(&mut made, self.as_slice())?;
+        Ok(TryVec { inner: made })
+    }
+}
+
+// How many items all parts have, or `None` where that passes `usize::MAX`.
+fn total_len<T>(parts: &[TryVec<T>]) -> Option<usize>
+    ensures { MatchOption result (2 ^ 64 ≤ length (joined parts.now)) (λ n. n ≡ length (joined parts.now)) }
+{
+    let mut total: usize = 0;
+    for i in 0..parts.len() {
+        let part = &parts[i];
+        total = total.checked_add(part.len())?;
+    }
+    Some(total)
+}
+
+// Puts a copy of each item of each part behind the items, for which there is room.
+fn push_parts<T: TryClone>(
+    made: &mut Vec<T>,
+    parts: &[TryVec<T>],
+) -> Result<(), TryReserveError>
+    requires copied { T.can_clone }
+    requires room { vec_len made.old + length (joined parts.now) ≤ vec_capacity made.old }
+    ensures extended { OnOk result (IsExtended T.same made.old.items (joined parts.now) made.new.items) }
+    ensures refused { IfErr result (λ _. IsExtendedUpTo T.same T.never_refuses made.old.items (joined parts.now) made.new.items) }
+{
+    for i in 0..parts.len() {
+        let part = &parts[i];
+        push_copies(made, part.as_slice())?;
+    }
+    Ok(())
+}

@@ -1,0 +1,82 @@
+//! Walks over a vector.
+ghost use Rattle.std.specs.Prelude.{◌≡◌, ◌^◌, ◌<◌, length};
+ghost use Rattle.std.specs.Iterator.Runs.{EveryRun, ItemsAre, ItemsMapTo};
+ghost use Rattle.std.specs.Iterator.{YieldsFirstBy, item_count};
+ghost use Rattle.std.specs.Vec.Iter.{into_iter_items, into_iter_len, into_iter_steps};
+ghost use Rattle.std.specs.Slice.Iter.{iter_rest, iter_steps};
+
+use super::TryVec;
+use std::marker::Model;
+use std::slice;
+use std::vec;
+
+/// The items that are still to come, in order. Upstream: `vec::Iter`.
+#[derive(Drop)]
+pub struct Iter<'a, T> {
+    rest: &'a [T],
+}
+
+impl<'a, T> Model for Iter<'a, T> {
+    ghost use Rattle.std.specs.Prelude.{List};
+
+    ghost Value = { List T };
+
+    ghost view = { λ w. w.rest.now };
+}
+
+impl<T> TryVec<T> {
+    /// A walk over the items, in order. Upstream: `TryVec::iter`.
+    pub fn iter(&self) -> Iter<'_, T>
+        ensures { result ≡ self.now.items }
+    {
+        Iter {
+            rest: self.inner.as_slice(),
+        }
+    }
+}
+
+impl<'a, T> Iterator for Iter<'a, T> {
+    type Item = &'a T;
+
+    ghost next_gives = { YieldsFirstBy (λ r. r.now) (λ s. s) };
+
+    ghost remaining = { item_count (λ s. s) };
+
+    fn next(&mut self) -> Option<&'a T> {
+        let (first, rest) = self.rest.split_first()?;
+        self.rest = rest;
+        Some(first)
+    }
+
+    fn size_hint(&self) -> (usize, Option<usize>) {
+        let left = self.rest.len();
+        (left, Some(left))
+    }
+}
+
+/// The items by value, in order: std's walk, which drops what it did not give.
+impl<T: Drop> IntoIterator for TryVec<T> {
+    type Item = T;
+
+    type IntoIter = vec::IntoIter<T>;
+
+    ghost into_iter_gives = { λ v r. (into_iter_items r ≡ v.items) × (into_iter_len r ≡ length v.items) × EveryRun (into_iter_steps) (λ p. ItemsAre p (into_iter_items p.from)) };
+
+    fn into_iter(self) -> vec::IntoIter<T> {
+        let TryVec { inner } = self;
+        inner.into_iter()
+    }
+}
+
+/// The items by reference, in order: std's walk over a slice.
+impl<'a, T> IntoIterator for &'a TryVec<T> {
+    type Item = &'a T;
+
+    type IntoIter = slice::Iter<'a, T>;
+
+    ghost into_iter_gives = { λ v r. (iter_rest r ≡ v.now.items) × (length (iter_rest r) < 2 ^ 64) × EveryRun (iter_steps) (λ p. ItemsMapTo p (λ y. y.now) (iter_rest p.from)) };
+
+    fn into_iter(self) -> slice::Iter<'a, T> {
+        self.inner.as_slice().iter()
+    }
+}

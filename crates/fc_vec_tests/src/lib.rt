@@ -1,0 +1,16 @@
+//! Tests of the vectors through their public calls.
+#![tactic(auto)]
+
+pub mod callers;
+#[cfg(test)]
+mod collect;
+#[cfg(test)]
+mod copies;
+#[cfg(test)]
+mod drops;
+#[cfg(test)]
+mod refusals;
+#[cfg(test)]
+mod try_vec;
+#[cfg(test)]
+mod vectors;
