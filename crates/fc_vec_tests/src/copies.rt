@@ -32,8 +32,14 @@ impl TryClone for Scarce<'_> {
 
 fn two_of<'a>(alloc: Global, copies_left: &'a Cell<u64>) -> Result<Vec<Scarce<'a>>, AllocError> {
     let mut made = Vec::new(alloc);
-    made.push(Scarce { number: 1, copies_left })?;
-    made.push(Scarce { number: 2, copies_left })?;
+    made.push(Scarce {
+        number: 1,
+        copies_left,
+    })?;
+    made.push(Scarce {
+        number: 2,
+        copies_left,
+    })?;
     Ok(made)
 }
 
@@ -62,7 +68,13 @@ fn an_extension_keeps_the_copies_before_the_refused_one(rt: HostRuntime) -> Resu
         let mut v = two_of(rt.alloc(), &copies_left)?;
         let sources = two_of(rt.alloc(), &copies_left)?;
         let answer = v.try_extend_from_slice_no_copy(&sources);
-        assert!(rt; if given == 2 { answer.is_ok() } else { is_passed_on(answer) });
+        assert!(rt;
+            if given == 2 {
+                answer.is_ok()
+            } else {
+                is_passed_on(answer)
+            }
+        );
         assert!(rt; are(&v, AFTER_EXTENSION[given as usize]));
     }
     Ok(())
@@ -81,7 +93,13 @@ fn a_resize_keeps_the_copies_before_the_refused_one(rt: HostRuntime) -> Result<(
             copies_left: &copies_left,
         };
         let answer = v.try_resize_no_copy(5, value);
-        assert!(rt; if given == 2 { answer.is_ok() } else { is_passed_on(answer) });
+        assert!(rt;
+            if given == 2 {
+                answer.is_ok()
+            } else {
+                is_passed_on(answer)
+            }
+        );
         assert!(rt; are(&v, AFTER_RESIZE[given as usize]));
     }
     Ok(())

@@ -57,7 +57,13 @@ fn a_refused_append_leaves_both_vectors(rt: HostRuntime) {
     };
     let answer = v.try_append(&mut one);
     assert!(rt; holds_after(&answer, &v, &[1, 2, 3, 4]));
-    assert!(rt; if answer.is_ok() { one.is_empty() } else { holds(&one, &[4]) });
+    assert!(rt;
+        if answer.is_ok() {
+            one.is_empty()
+        } else {
+            holds(&one, &[4])
+        }
+    );
     let Ok(mut one) = Vec::from_slice(rt.alloc(), &[3]) else {
         return;
     };
@@ -123,9 +129,13 @@ fn is_whole(answer: Result<TryVec<u64>, TryReserveError>, whole: &[u64]) -> bool
 
 #[test]
 fn what_is_made_is_whole_or_refused(rt: HostRuntime) {
-    assert!(rt; is_whole(try_from_elem(rt.alloc(), 7, 3).map(TryVec::from), &[7, 7, 7]));
-    let collected: Result<Vec<u64>, TryReserveError> =
-        TryCollect::try_collect(0..9u64, rt.alloc());
+    assert!(rt;
+        is_whole(
+            try_from_elem(rt.alloc(), 7, 3).map(TryVec::from),
+            &[7, 7, 7]
+        )
+    );
+    let collected: Result<Vec<u64>, TryReserveError> = TryCollect::try_collect(0..9u64, rt.alloc());
     assert!(rt; is_whole(collected.map(TryVec::from), &[0, 1, 2, 3, 4, 5, 6, 7, 8]));
     let mut parts = TryVec::new(rt.alloc());
     for _ in 0..2 {

@@ -17,7 +17,12 @@ fn room_and_items(rt: HostRuntime) -> Result<(), Fail> {
     assert!(rt; v.is_empty());
     v.push(1)?;
     assert!(rt; holds(v.as_slice(), &[1]) && v.len() == 1);
-    assert!(rt; matches!(v.reserve(usize::MAX), Err(TryReserveError::CapacityOverflow)));
+    assert!(rt;
+        matches!(
+            v.reserve(usize::MAX),
+            Err(TryReserveError::CapacityOverflow)
+        )
+    );
     assert!(rt; holds(v.as_slice(), &[1]));
     assert!(rt; matches!(v.pop(), Some(1)));
     assert!(rt; v.pop().is_none());

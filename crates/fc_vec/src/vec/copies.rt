@@ -8,10 +8,7 @@ use fc_base::{TryClone, TryReserveError};
 use std::alloc::Global;
 
 // Puts a copy of each source behind the items, for which there is room.
-pub(crate) fn push_copies<T: TryClone>(
-    v: &mut Vec<T>,
-    sources: &[T],
-) -> Result<(), TryReserveError>
+pub(crate) fn push_copies<T: TryClone>(v: &mut Vec<T>, sources: &[T]) -> Result<(), TryReserveError>
     requires copied { T.can_clone }
     requires room { vec_len v.old + length sources.now ≤ vec_capacity v.old }
     ensures extended { OnOk result (IsExtended T.same v.old.items sources.now v.new.items) }

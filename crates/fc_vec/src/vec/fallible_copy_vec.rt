@@ -40,8 +40,7 @@ impl<T: Copy> FallibleCopyVec<T> for Vec<T> {
 
     ghost room = { λ v. vec_capacity v };
 
-    fn try_resize(&mut self, new_len: usize, value: T) -> Result<(), TryReserveError>
-    {
+    fn try_resize(&mut self, new_len: usize, value: T) -> Result<(), TryReserveError> {
         let len = self.len();
         if new_len <= len {
             self.truncate(new_len);
@@ -52,8 +51,7 @@ impl<T: Copy> FallibleCopyVec<T> for Vec<T> {
         Ok(())
     }
 
-    fn try_extend_from_slice(&mut self, other: &[T]) -> Result<(), TryReserveError>
-    {
+    fn try_extend_from_slice(&mut self, other: &[T]) -> Result<(), TryReserveError> {
         reserve(self, other.len())?;
         self.extend_from_slice(other)?;
         Ok(())

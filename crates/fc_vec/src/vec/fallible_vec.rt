@@ -95,7 +95,11 @@ pub trait FallibleVec<T>: Sized {
     ///
     /// # Errors
     /// `AllocError`, only where `new_len` is greater than the length. The vector is then as before, and `f` was not called.
-    fn try_resize_with<F: FnMut() -> T>(&mut self, new_len: usize, f: F) -> Result<(), TryReserveError>
+    fn try_resize_with<F: FnMut() -> T>(
+        &mut self,
+        new_len: usize,
+        f: F,
+    ) -> Result<(), TryReserveError>
     where
         T: Drop,
         requires { F.IsAlwaysCallable f }
@@ -202,7 +206,11 @@ impl<T> FallibleVec<T> for Vec<T> {
         Ok(())
     }
 
-    fn try_resize_with<F: FnMut() -> T>(&mut self, new_len: usize, f: F) -> Result<(), TryReserveError>
+    fn try_resize_with<F: FnMut() -> T>(
+        &mut self,
+        new_len: usize,
+        f: F,
+    ) -> Result<(), TryReserveError>
     where
         T: Drop,
     {

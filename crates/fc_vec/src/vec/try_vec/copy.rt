@@ -93,10 +93,7 @@ fn total_len<T>(parts: &[TryVec<T>]) -> Option<usize>
 }
 
 // Puts a copy of each item of each part behind the items, for which there is room.
-fn push_parts<T: TryClone>(
-    made: &mut Vec<T>,
-    parts: &[TryVec<T>],
-) -> Result<(), TryReserveError>
+fn push_parts<T: TryClone>(made: &mut Vec<T>, parts: &[TryVec<T>]) -> Result<(), TryReserveError>
     requires copied { T.can_clone }
     requires room { vec_len made.old + length (joined parts.now) ≤ vec_capacity made.old }
     ensures extended { OnOk result (IsExtended T.same made.old.items (joined parts.now) made.new.items) }

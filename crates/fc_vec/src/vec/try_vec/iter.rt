@@ -2,13 +2,13 @@
 ghost use Rattle.std.specs.Prelude.{◌≡◌, ◌^◌, ◌<◌, length};
 ghost use Rattle.std.specs.Iterator.Runs.{EveryRun, ItemsAre, ItemsMapTo};
 ghost use Rattle.std.specs.Iterator.{YieldsFirstBy, item_count};
+ghost use Rattle.std.specs.declared.alloc.Global.{Global};
 ghost use Rattle.std.specs.Vec.Iter.{into_iter_items, into_iter_len, into_iter_steps};
 ghost use Rattle.std.specs.Slice.Iter.{iter_rest, iter_steps};
 
 use super::TryVec;
 use std::marker::Model;
-use std::slice;
-use std::vec;
+use std::{slice, vec};
 
 /// The items that are still to come, in order. Upstream: `vec::Iter`.
 #[derive(Drop)]
@@ -60,7 +60,7 @@ impl<T: Drop> IntoIterator for TryVec<T> {
 
     type IntoIter = vec::IntoIter<T>;
 
-    ghost into_iter_gives = { λ v r. (into_iter_items r ≡ v.items) × (into_iter_len r ≡ length v.items) × EveryRun (into_iter_steps) (λ p. ItemsAre p (into_iter_items p.from)) };
+    ghost into_iter_gives = { λ v r. (into_iter_items r ≡ v.items) × (into_iter_len r ≡ length v.items) × EveryRun (into_iter_steps {X = T} {Z = Global}) (λ p. ItemsAre p (into_iter_items p.from)) };
 
     fn into_iter(self) -> vec::IntoIter<T> {
         let TryVec { inner } = self;
@@ -74,7 +74,7 @@ impl<'a, T> IntoIterator for &'a TryVec<T> {
 
     type IntoIter = slice::Iter<'a, T>;
 
-    ghost into_iter_gives = { λ v r. (iter_rest r ≡ v.now.items) × (length (iter_rest r) < 2 ^ 64) × EveryRun (iter_steps) (λ p. ItemsMapTo p (λ y. y.now) (iter_rest p.from)) };
+    ghost into_iter_gives = { λ v r. (iter_rest r ≡ v.now.items) × (length (iter_rest r) < 2 ^ 64) × EveryRun (iter_steps {A = T}) (λ p. ItemsMapTo p (λ y. y.now) (iter_rest p.from)) };
 
     fn into_iter(self) -> slice::Iter<'a, T> {
         self.inner.as_slice().iter()
