@@ -1,11 +1,11 @@
 -- Copies of items, made one after another.
-use Rattle.std.proofs.Common.{◌≡◌, ℕ, ◌+◌, ◌-◌, ◌<◌, ◌≤◌, List, [], ◌∷◌, ◌++◌, length, take, drop, replicate, get_or, refl, sym, ap, ◌∙◌, subst, arith}
+use Rattle.std.proofs.Common.{◌≡◌, ℕ, ◌+◌, ◌<◌, ◌≤◌, List, [], ◌∷◌, ◌++◌, length, take, drop, replicate, get_or, refl, sym, ap, ◌∙◌, subst, arith}
 use Rattle.std.proofs.lemmas.List.{append-nil, append_assoc, take_all, take-append-drop, drop_more, get_or-replicate, length-replicate, length-append, take_more}
 use Rattle.std.proofs.Math.Seq.{get_or-append_seam}
 use Rattle.std.proofs.lemmas.List.Elements.{all_zip_more, length_all_zip}
 use Rattle.std.specs.List.{AllZip}
 use Rattle.fc_vec.specs.Joined.{joined}
-use Rattle.fc_vec.specs.Vectors.{Vector, IsExtended, IsFilled, IsExtendedUpTo}
+use Rattle.fc_vec.specs.Vectors.{Vector, IsExtended, IsExtendedUpTo}
 
 module _ {T : Type 0} (R : T → T → Type 0) where
   -- No item was copied yet.

@@ -37,8 +37,8 @@ fn a_refused_push_leaves_the_vector(rt: HostRuntime) {
     let Ok((mut v, _one)) = full_and_one(rt.alloc()) else {
         return;
     };
-    match v.try_insert(1, 4) {
-        Ok(()) => assert!(rt; holds(&v, &[1, 4, 2, 3])),
+    match v.try_insert(0, 4) {
+        Ok(()) => assert!(rt; holds(&v, &[4, 1, 2, 3])),
         Err((item, error)) => {
             assert!(rt; item == 4 && is_refused(&error) && holds(&v, &[1, 2, 3]));
         }

@@ -71,17 +71,17 @@ fn copies_and_walks(rt: HostRuntime) -> Result<(), Fail> {
     assert!(rt; copy == v);
     let mut walk = v.iter();
     assert!(rt; walk.size_hint() == (3, Some(3)));
-    let mut sum = 0;
+    let mut sum: u64 = 0;
     while let Some(item) = walk.next() {
-        sum = sum * 10 + *item;
+        sum = sum.wrapping_mul(10).wrapping_add(*item);
     }
     assert!(rt; sum == 145 && walk.size_hint() == (0, Some(0)));
     for item in &v {
-        sum += *item;
+        sum = sum.wrapping_add(*item);
     }
     assert!(rt; sum == 155);
     for item in copy {
-        sum += item;
+        sum = sum.wrapping_add(item);
     }
     assert!(rt; sum == 165);
     Ok(())
@@ -91,7 +91,7 @@ fn copies_and_walks(rt: HostRuntime) -> Result<(), Fail> {
 fn items_are_written_over(rt: HostRuntime) -> Result<(), Fail> {
     let mut v = of(rt.alloc(), &[1, 4, 5])?;
     for item in v.iter_mut() {
-        *item *= 2;
+        *item = item.wrapping_mul(2);
     }
     assert!(rt; holds(v.as_slice(), &[2, 8, 10]));
     v.as_mut_slice()[1] = 7;

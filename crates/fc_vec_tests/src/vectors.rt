@@ -71,13 +71,13 @@ fn a_vector_is_filled_by_calls(rt: HostRuntime) -> Result<(), Fail> {
     let calls = Cell::new(0);
     let mut filled = Vec::new(rt.alloc());
     FallibleVec::try_resize_with(&mut filled, 2, || {
-        calls.set(calls.get() + 1);
+        calls.set(calls.get().wrapping_add(1));
         4
     })?;
     assert!(rt; holds(&filled, &[4, 4]) && calls.get() == 2);
     let mut cut = Vec::from_slice(rt.alloc(), &[1, 2, 3])?;
     FallibleVec::try_resize_with(&mut cut, 2, || {
-        calls.set(calls.get() + 1);
+        calls.set(calls.get().wrapping_add(1));
         4
     })?;
     assert!(rt; holds(&cut, &[1, 2]) && calls.get() == 2);
@@ -90,7 +90,7 @@ fn without_room_nothing_is_called(rt: HostRuntime) -> Result<(), Fail> {
     let calls = Cell::new(0);
     let mut v = Vec::from_slice(rt.alloc(), &[1])?;
     let refused = FallibleVec::try_resize_with(&mut v, usize::MAX, || {
-        calls.set(calls.get() + 1);
+        calls.set(calls.get().wrapping_add(1));
         4
     });
     assert!(rt; matches!(refused, Err(TryReserveError::AllocError)));

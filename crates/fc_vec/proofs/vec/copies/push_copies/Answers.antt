@@ -1,4 +1,4 @@
-use Rattle.std.proofs.Common.{◌+◌, arith, sym, refl, ◌∙◌}
+use Rattle.std.proofs.Common.{arith, refl, ◌∙◌}
 use Rattle.std.proofs.lemmas.Result.{err_from_is_err_and}
 use Rattle.fc_vec.proofs.CopyFacts.{one_copied, front_copied}
 use Rattle.fc_vec.proofs.vec.copies.push_copies.Goals as goal

@@ -1,4 +1,4 @@
-use Rattle.std.proofs.Common.{◌+◌, arith, ◌∙◌}
+use Rattle.std.proofs.Common.{arith, ◌∙◌}
 use Rattle.std.proofs.lemmas.Result.{err_from_is_err_and}
 use Rattle.fc_vec.proofs.CopyFacts.{one_repeated, front_repeated}
 use Rattle.fc_vec.proofs.vec.copies.push_repeated.Goals as goal

@@ -1,4 +1,4 @@
-use Rattle.std.proofs.Common.{◌-◌, ◌<◌, ◌⊎◌, inl, inr, length, ap, arith}
+use Rattle.std.proofs.Common.{◌-◌, inl, inr, length, ap, arith}
 use Rattle.std.proofs.lemmas.Result.{err_from_is_err_and}
 use Rattle.fc_vec.proofs.CopyFacts.{refused_repeated}
 use Rattle.fc_vec.proofs.Refusals.{either}

@@ -1,4 +1,4 @@
-use Rattle.std.proofs.Common.{◌+◌, ◌∷◌, ◌++◌, [], arith, length}
+use Rattle.std.proofs.Common.{◌∷◌, ◌++◌, [], arith, length}
 use Rattle.std.proofs.lemmas.Result.{err_from_is_err_and}
 use Rattle.fc_vec.proofs.ItemFacts.{yields_more}
 use Rattle.fc_vec.proofs.Refusals.{no_overflow, some_taken}

@@ -1,4 +1,4 @@
-use Rattle.std.proofs.Common.{◌++◌, List, length, take, drop, refl, rules}
+use Rattle.std.proofs.Common.{◌++◌, length, take, drop, refl, rules}
 use Rattle.fc_vec.proofs.vec.try_vec.TryVec.as_mut_slice.Goals as goal
 
 pub returns : goal.returns

@@ -1,4 +1,4 @@
-use Rattle.std.proofs.Common.{◌+◌, arith, refl, length, ap}
+use Rattle.std.proofs.Common.{arith, refl}
 use Rattle.fc_vec.proofs.CopyFacts.{joined_length}
 use Rattle.fc_vec.proofs.Refusals.{not_below}
 use Rattle.fc_vec.proofs.vec.try_vec.copy.total_len.Goals as goal
