@@ -68,7 +68,7 @@ fn vectors_are_resized(rt: HostRuntime) -> Result<(), Fail> {
 
 #[test]
 fn a_vector_is_filled_by_calls(rt: HostRuntime) -> Result<(), Fail> {
-    let calls = Cell::new(0);
+    let calls = Cell::new(0u64);
     let mut filled = Vec::new(rt.alloc());
     FallibleVec::try_resize_with(&mut filled, 2, || {
         calls.set(calls.get().wrapping_add(1));
@@ -87,7 +87,7 @@ fn a_vector_is_filled_by_calls(rt: HostRuntime) -> Result<(), Fail> {
 // More bytes than an allocation may have: the room is refused before the first call.
 #[test]
 fn without_room_nothing_is_called(rt: HostRuntime) -> Result<(), Fail> {
-    let calls = Cell::new(0);
+    let calls = Cell::new(0u64);
     let mut v = Vec::from_slice(rt.alloc(), &[1])?;
     let refused = FallibleVec::try_resize_with(&mut v, usize::MAX, || {
         calls.set(calls.get().wrapping_add(1));
