@@ -120,6 +120,16 @@ impl TryClone for isize {
     }
 }
 
+impl TryClone for () {
+    ghost same = { λ source copy. copy ≡ source };
+
+    ghost never_refuses = { λ _. ⊤ };
+
+    fn try_clone(&self) -> Result<(), TryReserveError> {
+        Ok(())
+    }
+}
+
 impl TryClone for bool {
     ghost same = { λ source copy. copy ≡ source };
 
