@@ -4,7 +4,11 @@
 #[cfg(test)]
 mod compare;
 #[cfg(test)]
+mod copies;
+#[cfg(test)]
 mod ends;
+#[cfg(test)]
+mod extend;
 #[cfg(test)]
 mod get_mut;
 #[cfg(test)]

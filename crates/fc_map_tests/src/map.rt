@@ -65,10 +65,10 @@ impl Ord for CountingKey<'_> {
 // Two tagged numbers are equal where the numbers are, whatever their letters.
 #[derive(Clone, Copy, Debug)]
 #[derive_where(PartialEq, Eq, PartialOrd, Ord)]
-struct Tagged {
-    number: u64,
+pub(crate) struct Tagged {
+    pub(crate) number: u64,
     #[derive_where(skip(EqHashOrd))]
-    letter: char,
+    pub(crate) letter: char,
 }
 
 // A number as a key, which counts its drops.
@@ -103,9 +103,9 @@ impl Drop for TrackedValue<'_> {
 
 // How often a key and its value were dropped.
 #[derive(Drop)]
-struct Drops {
-    key: Cell<u64>,
-    value: Cell<u64>,
+pub(crate) struct Drops {
+    pub(crate) key: Cell<u64>,
+    pub(crate) value: Cell<u64>,
 }
 
 fn add_one(count: &Cell<u64>) {
@@ -447,7 +447,7 @@ fn keys_in_reversed_order(rt: HostRuntime) -> Result<(), Fail> {
 }
 
 // Whether key and value were dropped so often.
-fn were_dropped(drops: &Drops, key: u64, value: u64) -> bool {
+pub(crate) fn were_dropped(drops: &Drops, key: u64, value: u64) -> bool {
     drops.key.get() == key && drops.value.get() == value
 }
 
@@ -459,7 +459,7 @@ fn no_drops() -> Drops {
 }
 
 // Whether each key and each value were dropped so often.
-fn were_all_dropped(drops: &[Drops], times: u64) -> bool {
+pub(crate) fn were_all_dropped(drops: &[Drops], times: u64) -> bool {
     for i in 0..drops.len() {
         if !were_dropped(&drops[i], times, times) {
             return false;
@@ -468,7 +468,7 @@ fn were_all_dropped(drops: &[Drops], times: u64) -> bool {
     true
 }
 
-fn fresh_drops(alloc: Global, count: usize) -> Result<Vec<Drops>, AllocError> {
+pub(crate) fn fresh_drops(alloc: Global, count: usize) -> Result<Vec<Drops>, AllocError> {
     let mut all = Vec::with_capacity(alloc, count)?;
     for _ in 0..count {
         all.push(no_drops())?;
@@ -657,7 +657,12 @@ fn insertions_and_removals_compare_as_a_look_up(rt: HostRuntime) -> Result<(), F
 }
 
 // Whether the key stands in the map with this letter and value.
-fn shows_letter(map: &BTreeMap<Tagged, u64>, key: &Tagged, letter: char, value: u64) -> bool {
+pub(crate) fn shows_letter(
+    map: &BTreeMap<Tagged, u64>,
+    key: &Tagged,
+    letter: char,
+    value: u64,
+) -> bool {
     match map.get_key_value(key) {
         Some(pair) => pair.0.letter == letter && *pair.1 == value,
         None => false,
