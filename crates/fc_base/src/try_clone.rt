@@ -122,6 +122,16 @@ impl TryClone for isize {
     }
 }
 
+impl TryClone for () {
+    ghost same = { λ source copy. copy ≡ source };
+
+    ghost never_refuses = { λ _. ⊤ };
+
+    fn try_clone(&self) -> Result<(), TryReserveError> {
+        Ok(())
+    }
+}
+
 impl TryClone for bool {
     ghost same = { λ source copy. copy ≡ source };
 
@@ -149,5 +159,6 @@ mod tests {
         assert_eq!(rt; i64::MIN.try_clone(), Ok(i64::MIN));
         assert_eq!(rt; isize::MIN.try_clone(), Ok(isize::MIN));
         assert_eq!(rt; true.try_clone(), Ok(true));
+        assert_eq!(rt; ().try_clone(), Ok(()));
     }
 }

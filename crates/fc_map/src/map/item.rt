@@ -1,4 +1,5 @@
-//! A key with its pair: looked up, taken out, and replaced. A set is a map of its items, and rests on these calls.
+//! A key with its pair: looked up, taken out, and replaced; and a map made of pairs in order. A set is a map of its items, and rests on
+//! these calls.
 ghost use Rattle.std.specs.Prelude.{◌≡◌, ◌+◌, ◌<◌, length, IsSome, IsErr, IfOk, IfErr, OnOk, Some, None};
 ghost use Rattle.fc_base.specs.Ascending.{IsAscending};
 ghost use Rattle.fc_base.specs.Growth.{MayGrowRefuse};
@@ -13,9 +14,11 @@ ghost use Rattle.fc_search.specs.Found.{IsFound};
 
 use super::BTreeMap;
 use fc_base::{Count, Query, TryReserveError};
+use fc_build::builder::Builder;
 use fc_node::node::Node;
 use fc_node::path::Path;
 use fc_removal::replacement;
+use std::alloc::Global;
 
 /// The pair with an equal key, as `BTreeMap::get_key_value_counted`.
 pub fn get<'a, K: Ord, V, Q: Query<K>>(
@@ -89,6 +92,29 @@ pub fn replace<K: Ord + Drop, V: Drop>(
             Ok(()) => Ok(None),
             Err(e) => Err(e),
         },
+    }
+}
+
+/// Where the map takes its memory.
+pub fn allocator<K: Ord, V>(map: &BTreeMap<K, V>) -> Global {
+    map.alloc
+}
+
+/// A map of the pairs that were put into the builder, which ascend. It takes no memory, compares nothing and moves no pair.
+pub fn from_ascending<K: Ord + Drop, V: Drop>(
+    alloc: Global,
+    builder: Builder<K, V>,
+    len: usize,
+) -> BTreeMap<K, V>
+    requires ascending { IsAscending K.cmp builder.pairs }
+    requires len { len ≡ length builder.pairs }
+    ensures pairs { entries result ≡ builder.pairs }
+    ensures sound { IsSoundMap result }
+{
+    BTreeMap {
+        root: builder.finish(),
+        len,
+        alloc,
     }
 }
 
