@@ -80,6 +80,27 @@ fn an_extension_keeps_the_copies_before_the_refused_one(rt: HostRuntime) -> Resu
     Ok(())
 }
 
+// The same by the call of `TryVec`, whose error is the copy's too.
+#[test]
+fn the_other_extension_keeps_them_too(rt: HostRuntime) -> Result<(), Fail> {
+    for given in 0..3u64 {
+        let copies_left = Cell::new(given);
+        let mut v = TryVec::from(two_of(rt.alloc(), &copies_left)?);
+        let sources = two_of(rt.alloc(), &copies_left)?;
+        let answer = v.extend_from_slice(&sources);
+        assert!(rt;
+            if given == 2 {
+                answer.is_ok()
+            } else {
+                is_passed_on(answer)
+            }
+        );
+        assert!(rt; are(v.as_slice(), AFTER_EXTENSION[given as usize]));
+        assert!(rt; copies_left.get() == 0);
+    }
+    Ok(())
+}
+
 const AFTER_RESIZE: [&[u64]; 3] = [&[1, 2], &[1, 2, 9], &[1, 2, 9, 9, 9]];
 
 // Three more items take two copies: the last place gets the value itself.

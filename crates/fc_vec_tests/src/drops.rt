@@ -1,6 +1,8 @@
 //! Items that count their drops.
-use fc_base::TryReserveError;
-use fc_vec::{FallibleVec, TryVec};
+ghost use Rattle.std.specs.Prelude.{⊤};
+
+use fc_base::{TryClone, TryReserveError};
+use fc_vec::{FallibleVec, TryVec, try_from_elem};
 use std::alloc::Global;
 use std::cell::Cell;
 use std::test::Fail;
@@ -12,6 +14,30 @@ impl Drop for Token<'_> {
     fn drop(self) {
         let Token(drops) = self;
         drops.set(drops.get().wrapping_add(1));
+    }
+}
+
+// A token of which as many copies are made as the cell says.
+#[derive(Drop)]
+struct Copied<'a> {
+    token: Token<'a>,
+    copies_left: &'a Cell<u64>,
+}
+
+impl TryClone for Copied<'_> {
+    ghost same = { λ _ _. ⊤ };
+
+    fn try_clone(&self) -> Result<Self, TryReserveError> {
+        let left = self.copies_left.get();
+        if left == 0 {
+            return Err(TryReserveError::CapacityOverflow);
+        }
+        self.copies_left.set(left - 1);
+        let Token(drops) = &self.token;
+        Ok(Copied {
+            token: Token(*drops),
+            copies_left: self.copies_left,
+        })
     }
 }
 
@@ -58,6 +84,53 @@ fn a_walk_that_is_dropped_early_drops_the_rest(rt: HostRuntime) -> Result<(), Fa
     assert!(rt; drops.get() == 1);
     drop(walk);
     assert!(rt; drops.get() == 3);
+    Ok(())
+}
+
+// What a resize to a lower length cuts off, the value of one that copies, and what a refused one would have put in.
+#[test]
+fn a_resize_drops_what_it_leaves_out(rt: HostRuntime) -> Result<(), Fail> {
+    let drops = Cell::new(0);
+    let mut v = three(rt.alloc(), &drops)?;
+    v.resize_with(2, || Token(&drops))?;
+    assert!(rt; drops.get() == 1 && v.len() == 2);
+    v.resize_with(4, || Token(&drops))?;
+    assert!(rt; drops.get() == 1 && v.len() == 4);
+    assert!(rt; v.resize_with(usize::MAX, || Token(&drops)).is_err());
+    assert!(rt; drops.get() == 1 && v.len() == 4);
+    drop(v);
+    assert!(rt; drops.get() == 5);
+    Ok(())
+}
+
+// Each copy is dropped once, also where it was made for a vector that was then refused.
+#[test]
+fn a_copy_is_dropped_once(rt: HostRuntime) -> Result<(), Fail> {
+    for given in 0..4u64 {
+        let drops = Cell::new(0);
+        let copies_left = Cell::new(given);
+        let value = Copied {
+            token: Token(&drops),
+            copies_left: &copies_left,
+        };
+        let made = try_from_elem(rt.alloc(), value, 3);
+        assert!(rt; made.is_ok() == (given >= 2));
+        drop(made);
+        assert!(rt; drops.get() == if given < 2 { given + 1 } else { 3 });
+    }
+    let drops = Cell::new(0);
+    let copies_left = Cell::new(0);
+    let value = Copied {
+        token: Token(&drops),
+        copies_left: &copies_left,
+    };
+    let mut one = try_from_elem(rt.alloc(), value, 1)?;
+    let value = Copied {
+        token: Token(&drops),
+        copies_left: &copies_left,
+    };
+    one.try_resize_no_copy(0, value)?;
+    assert!(rt; drops.get() == 2 && one.is_empty());
     Ok(())
 }
 

@@ -24,6 +24,33 @@ fn holds_after(answer: &Result<(), TryReserveError>, v: &[u64], longer: &[u64]) 
 }
 
 #[test]
+fn a_refused_push_leaves_the_vector(rt: HostRuntime) {
+    let Ok((mut v, _one)) = full_and_one(rt.alloc()) else {
+        return;
+    };
+    match v.try_push_give_back(4) {
+        Ok(()) => assert!(rt; holds(&v, &[1, 2, 3, 4])),
+        Err((item, error)) => {
+            assert!(rt; item == 4 && is_refused(&error) && holds(&v, &[1, 2, 3]));
+        }
+    }
+    let Ok((mut v, _one)) = full_and_one(rt.alloc()) else {
+        return;
+    };
+    match v.try_insert(0, 4) {
+        Ok(()) => assert!(rt; holds(&v, &[4, 1, 2, 3])),
+        Err((item, error)) => {
+            assert!(rt; item == 4 && is_refused(&error) && holds(&v, &[1, 2, 3]));
+        }
+    }
+    let Ok((mut v, _one)) = full_and_one(rt.alloc()) else {
+        return;
+    };
+    let answer = v.try_push(4);
+    assert!(rt; holds_after(&answer, &v, &[1, 2, 3, 4]));
+}
+
+#[test]
 fn a_refused_append_leaves_both_vectors(rt: HostRuntime) {
     let Ok((mut v, mut one)) = full_and_one(rt.alloc()) else {
         return;
@@ -59,6 +86,47 @@ fn a_refused_extension_leaves_the_vector(rt: HostRuntime) {
     };
     let answer = v.try_extend_from_slice_no_copy(&one);
     assert!(rt; holds_after(&answer, &v, &[1, 2, 3, 4]));
+}
+
+// The numbers from 1 on, each in a box.
+fn boxes(alloc: Global, count: u64) -> Result<Vec<Box<u64>>, AllocError> {
+    let mut made = Vec::with_capacity(alloc, count as usize)?;
+    for i in 0..count {
+        made.push(Box::new(alloc, i.wrapping_add(1))?)?;
+    }
+    Ok(made)
+}
+
+// The boxes hold the numbers from 1 on.
+fn count_up(boxes: &[Box<u64>]) -> bool {
+    for i in 0..boxes.len() {
+        if *boxes[i] != (i as u64).wrapping_add(1) {
+            return false;
+        }
+    }
+    true
+}
+
+// The room of three is asked for first, then a box for each copy. With the room refused the vector is as before, without room; with the box of
+// the copy at a place refused, the copies before it stay. What is then left of the sources goes in by a call with ample memory.
+#[test]
+fn an_extension_keeps_the_boxes_before_the_refused_one(rt: HostRuntime) {
+    let Ok(sources) = boxes(rt.alloc(), 3) else {
+        return;
+    };
+    let mut v = Vec::new(rt.alloc());
+    match v.try_extend_from_slice_no_copy(&sources) {
+        Ok(()) => assert!(rt; v.len() == 3),
+        Err(error) => {
+            assert!(rt;
+                is_refused(&error) && v.len() < 3 && (v.capacity() == 0 || v.capacity() >= 3)
+            );
+            assert!(rt; v.capacity() > 0 || v.is_empty());
+            let (_, left) = sources.split_at(v.len().min(sources.len()));
+            assert!(rt; v.try_extend_from_slice_no_copy(left).is_err() || v.len() == 3);
+        }
+    }
+    assert!(rt; count_up(&v) && count_up(&sources));
 }
 
 #[test]

@@ -1,8 +1,11 @@
 //! Calls of `TryVec` with ample memory.
+ghost use Rattle.std.specs.Prelude.{⊤};
+
 use crate::vectors::holds;
-use fc_base::TryReserveError;
-use fc_vec::TryVec;
+use fc_base::{TryClone, TryReserveError};
+use fc_vec::{FallibleCopyVec, FallibleVec, TryVec};
 use std::alloc::Global;
+use std::mem::ManuallyDrop;
 use std::test::Fail;
 
 fn of(alloc: Global, items: &[u64]) -> Result<TryVec<u64>, TryReserveError> {
@@ -64,6 +67,44 @@ fn texts_are_bytes(rt: HostRuntime) -> Result<(), Fail> {
 }
 
 #[test]
+fn copies_and_walks(rt: HostRuntime) -> Result<(), Fail> {
+    let v = of(rt.alloc(), &[1, 4, 5])?;
+    assert!(rt; holds(v.as_slice(), &[1, 4, 5]));
+    let copy = v.try_clone()?;
+    assert!(rt; copy == v);
+    let mut walk = v.iter();
+    assert!(rt; walk.size_hint() == (3, Some(3)));
+    let mut sum: u64 = 0;
+    while let Some(item) = walk.next() {
+        sum = sum.wrapping_mul(10).wrapping_add(*item);
+    }
+    assert!(rt; sum == 145 && walk.size_hint() == (0, Some(0)));
+    for item in &v {
+        sum = sum.wrapping_add(*item);
+    }
+    assert!(rt; sum == 155);
+    for item in copy {
+        sum = sum.wrapping_add(item);
+    }
+    assert!(rt; sum == 165);
+    Ok(())
+}
+
+#[test]
+fn items_are_written_over(rt: HostRuntime) -> Result<(), Fail> {
+    let mut v = of(rt.alloc(), &[1, 4, 5])?;
+    for item in v.iter_mut() {
+        *item = item.wrapping_mul(2);
+    }
+    assert!(rt; holds(v.as_slice(), &[2, 8, 10]));
+    if let Some(second) = v.as_mut_slice().get_mut(1) {
+        *second = 7;
+    }
+    assert!(rt; holds(v.as_slice(), &[2, 7, 10]));
+    Ok(())
+}
+
+#[test]
 fn parts_are_joined(rt: HostRuntime) -> Result<(), Fail> {
     let mut parts = TryVec::new(rt.alloc());
     assert!(rt; parts.concat()?.is_empty());
@@ -71,5 +112,45 @@ fn parts_are_joined(rt: HostRuntime) -> Result<(), Fail> {
     parts.push(of(rt.alloc(), &[])?)?;
     parts.push(of(rt.alloc(), &[3])?)?;
     assert!(rt; holds(parts.concat()?.as_slice(), &[1, 2, 3]));
+    Ok(())
+}
+
+// An item of no bytes, so that long vectors of it take no memory.
+#[derive(Clone, Copy)]
+struct Nothing;
+
+impl TryClone for Nothing {
+    ghost same = { λ _ _. ⊤ };
+
+    fn try_clone(&self) -> Result<Nothing, TryReserveError> {
+        Ok(Nothing)
+    }
+}
+
+// Two vectors of lengths that Fibonacci's numbers have, each grown by the other's: the two greatest ones that std's vectors hold, which is
+// `isize::MAX` items at the most.
+fn two_long(alloc: Global) -> Result<(Vec<Nothing>, Vec<Nothing>), TryReserveError> {
+    let mut shorter = Vec::new(alloc);
+    shorter.try_push(Nothing)?;
+    let mut longer = Vec::new(alloc);
+    longer.try_push(Nothing)?;
+    for _ in 0..90 {
+        shorter.try_extend_from_slice(&longer)?;
+        std::mem::swap(&mut shorter, &mut longer);
+    }
+    Ok((shorter, longer))
+}
+
+// Three vectors are too long together, and two are not. They are let go without a drop of each item.
+#[test]
+fn a_sum_of_lengths_overflows(rt: HostRuntime) -> Result<(), Fail> {
+    let (shorter, longer) = two_long(rt.alloc())?;
+    let mut parts = TryVec::new(rt.alloc());
+    parts.push(TryVec::from(Vec::from_slice(rt.alloc(), &longer)?))?;
+    parts.push(TryVec::from(longer))?;
+    assert!(rt; matches!(parts.concat(), Err(TryReserveError::AllocError)));
+    parts.push(TryVec::from(shorter))?;
+    assert!(rt; matches!(parts.concat(), Err(TryReserveError::CapacityOverflow)));
+    let _leaked = ManuallyDrop::new(parts);
     Ok(())
 }

@@ -1,6 +1,7 @@
 //! Calls on std's vectors with ample memory, and reservations at the ends of what a length can be.
 use fc_base::TryReserveError;
 use fc_vec::{FallibleCopyVec, FallibleVec, TryVec, try_from_elem};
+use std::cell::Cell;
 use std::test::Fail;
 
 pub(crate) fn holds(items: &[u64], expected: &[u64]) -> bool {
@@ -40,7 +41,10 @@ fn vectors_are_joined(rt: HostRuntime) -> Result<(), Fail> {
     assert!(rt; holds(&ours, &[3]) && theirs.is_empty());
     ours.try_append(&mut theirs)?;
     assert!(rt; holds(&ours, &[3]));
-    ours.try_extend_from_slice(&[5])?;
+    let mut extended = Vec::new(rt.alloc());
+    extended.try_extend_from_slice(&[5])?;
+    assert!(rt; holds(&extended, &[5]));
+    ours.try_extend_from_slice(&extended)?;
     assert!(rt; holds(&ours, &[3, 5]));
     ours.try_extend_from_slice_no_copy(&[7, 9])?;
     assert!(rt; holds(&ours, &[3, 5, 7, 9]));
@@ -62,6 +66,38 @@ fn vectors_are_resized(rt: HostRuntime) -> Result<(), Fail> {
     let mut longer = Vec::from_slice(rt.alloc(), &[1, 2, 3])?;
     longer.try_resize_no_copy(5, 9)?;
     assert!(rt; holds(&longer, &[1, 2, 3, 9, 9]));
+    Ok(())
+}
+
+#[test]
+fn a_vector_is_filled_by_calls(rt: HostRuntime) -> Result<(), Fail> {
+    let calls = Cell::new(0u64);
+    let mut filled = Vec::new(rt.alloc());
+    FallibleVec::try_resize_with(&mut filled, 2, || {
+        calls.set(calls.get().wrapping_add(1));
+        4
+    })?;
+    assert!(rt; holds(&filled, &[4, 4]) && calls.get() == 2);
+    let mut cut = Vec::from_slice(rt.alloc(), &[1, 2, 3])?;
+    FallibleVec::try_resize_with(&mut cut, 2, || {
+        calls.set(calls.get().wrapping_add(1));
+        4
+    })?;
+    assert!(rt; holds(&cut, &[1, 2]) && calls.get() == 2);
+    Ok(())
+}
+
+// More bytes than an allocation may have: the room is refused before the first call.
+#[test]
+fn without_room_nothing_is_called(rt: HostRuntime) -> Result<(), Fail> {
+    let calls = Cell::new(0u64);
+    let mut v = Vec::from_slice(rt.alloc(), &[1])?;
+    let refused = FallibleVec::try_resize_with(&mut v, usize::MAX, || {
+        calls.set(calls.get().wrapping_add(1));
+        4
+    });
+    assert!(rt; matches!(refused, Err(TryReserveError::AllocError)));
+    assert!(rt; holds(&v, &[1]) && calls.get() == 0);
     Ok(())
 }
 
@@ -106,6 +142,8 @@ fn reservations_of_nothing(rt: HostRuntime) -> Result<(), Fail> {
     assert!(rt; FallibleVec::try_reserve(&mut v, 0).is_ok());
     assert!(rt; FallibleVec::try_reserve(&mut v, 1).is_ok());
     assert!(rt; FallibleVec::try_reserve(&mut v, usize::MAX / 4).is_ok());
+    // More items than a vector of std's ever holds.
+    assert!(rt; is_refused(FallibleVec::try_reserve(&mut v, usize::MAX)));
     v.try_push(())?;
     assert!(rt; is_overflow(FallibleVec::try_reserve(&mut v, usize::MAX)));
     assert!(rt; v.len() == 1);
