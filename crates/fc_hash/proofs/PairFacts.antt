@@ -5,7 +5,7 @@ use Rattle.std.proofs.lemmas.List.Sorted.{IsPermutation-sym, IsPermutation-trans
 use Rattle.std.specs.Prelude.{MatchOption, IfNone}
 use Rattle.std.specs.List.Sorted.{IsPermutation}
 use Rattle.std.specs.Map.{lookup, set_value, remove_entry}
-use Rattle.fc_hash.specs.Pairs.{IsAmongOthers, IsPut, IsTaken}
+use Rattle.fc_hash.specs.Pairs.{IsPut, IsTaken}
 
 -- An item may stand in front of the others as well as among them.
 middle : {X : Type 0} (front back : List X) (x : X) → IsPermutation (x ∷ front ++ back) (front ++ x ∷ back)
