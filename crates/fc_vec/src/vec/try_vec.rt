@@ -9,6 +9,7 @@ mod compare;
 mod copy;
 mod iter;
 mod lend;
+mod std_io;
 
 use super::fallible_vec::FallibleVec;
 use fc_base::{TryClone, TryReserveError};

@@ -1,0 +1,2 @@
+mod CopyFacts
+mod PairFacts

@@ -1,0 +1,116 @@
+//! A map by the hashes of its keys.
+ghost use Rattle.std.specs.Prelude.{◌≡◌, ◌+◌, ◌<◌, ◌≤◌, [], length, None, Some, Option, if◌then◌else◌, IfOk, OnOk, IfErr, IsOk};
+ghost use Rattle.std.specs.Option.{option_copied};
+ghost use Rattle.fc_base.specs.declared.try_reserve_error.TryReserveError.TheVariants.{AllocError as NoMemory};
+ghost use Rattle.fc_hash.specs.Pairs.{MayRefuseOne, IsMap, value_at, IsPut, IsTaken};
+
+mod copy;
+mod iter;
+
+use fc_base::TryReserveError;
+use std::alloc::Global;
+use std::collections::HashMap;
+use std::hash::Hash;
+use std::marker::Model;
+
+/// A map whose keys are found by their hashes. Its pairs have no order: a walk gives them in one that any change may alter.
+/// Upstream: `TryHashMap`.
+///
+/// The hasher is std's fixed one, so whoever chooses the keys can choose many of one hash, and each call then looks at all of
+/// them. Where keys come from outside, take `BTreeMap`, whose calls compare few keys whatever these are.
+#[derive(Drop)]
+pub struct TryHashMap<K: Eq + Hash, V> {
+    inner: HashMap<K, V>,
+    alloc: Global,
+}
+
+impl<K: Eq + Hash, V> Model for TryHashMap<K, V> {
+    ghost use Rattle.std.specs.Prelude.{◌+◌, length};
+    ghost use Rattle.std.specs.HashMap.{spare};
+    ghost use Rattle.fc_hash.specs.Pairs.{Hashed};
+
+    ghost Value = { Hashed K V };
+
+    ghost view = { λ m. record { pairs = m.inner.entries; room = length m.inner.entries + spare m.inner } };
+}
+
+impl<K: Eq + Hash, V> TryHashMap<K, V> {
+    /// An empty map, which takes no memory. Later requests go to `alloc`. Upstream: `TryHashMap::default`.
+    pub fn default(alloc: Global) -> TryHashMap<K, V>
+        ensures { result.pairs ≡ [] }
+    {
+        TryHashMap {
+            inner: HashMap::new(alloc),
+            alloc,
+        }
+    }
+
+    /// An empty map with room for `capacity` pairs; none takes no memory. Upstream: `TryHashMap::with_capacity`.
+    ///
+    /// # Errors
+    /// `AllocError` where the room was refused.
+    pub fn with_capacity(
+        alloc: Global,
+        capacity: usize,
+    ) -> Result<TryHashMap<K, V>, TryReserveError>
+        ensures pairs { IfOk result (λ m. m.pairs ≡ []) }
+        ensures room { IfOk result (λ m. capacity ≤ m.room) }
+        ensures none { capacity ≡ 0 → IsOk result }
+        ensures refused { IfErr result (λ e. e ≡ NoMemory) }
+    {
+        if capacity == 0 {
+            return Ok(TryHashMap::default(alloc));
+        }
+        let inner = HashMap::with_capacity(alloc, capacity)?;
+        Ok(TryHashMap { inner, alloc })
+    }
+
+    /// The number of pairs. Upstream: `TryHashMap::len`.
+    pub fn len(&self) -> usize
+        ensures len { result ≡ length self.now.pairs }
+        ensures map { IsMap K.eq self.now.pairs }
+    {
+        self.inner.len()
+    }
+
+    /// The value at the key that is equal to this one. Upstream: `TryHashMap::get`.
+    pub fn get(&self, key: &K) -> Option<&V>
+        ensures { option_copied result ≡ value_at K.eq key.now self.now.pairs }
+    {
+        self.inner.get(key)
+    }
+
+    /// Puts the value at the key, and answers the value that was there. A key that is there stays, and `key` is dropped. Upstream:
+    /// `TryHashMap::insert`.
+    ///
+    /// # Errors
+    /// `AllocError` where room for one pair more was refused, which is asked for before the key is looked up: so a key that is
+    /// there may be refused too. The map has then the pairs that it had, and key and value are dropped.
+    pub fn insert(&mut self, key: K, value: V) -> Result<Option<V>, TryReserveError>
+    where
+        K: Drop,
+        V: Drop,
+        ensures put { IfOk result (λ old. IsPut K.eq key value old self.old.pairs self.new.pairs) }
+        ensures values { OnOk result ((q : K) → value_at K.eq q self.new.pairs ≡ (if K.eq key q then Some value else value_at K.eq q self.old.pairs)) }
+        ensures map { IsMap K.eq self.new.pairs }
+        ensures fits { length self.old.pairs < self.old.room → IsOk result }
+        ensures refused { IfErr result (λ e. MayRefuseOne self.old.room (length self.old.pairs) e × (self.new.pairs ≡ self.old.pairs)) }
+    {
+        let _len = self.inner.len();
+        self.inner.try_reserve(1)?;
+        let old = self.inner.insert(key, value)?;
+        Ok(old)
+    }
+
+    /// Takes out the pair at the key that is equal to this one, drops its key and answers its value. It takes no memory.
+    /// Upstream: `TryHashMap::remove`.
+    pub fn remove(&mut self, key: &K) -> Option<V>
+    where
+        K: Drop,
+        ensures taken { IsTaken K.eq key.now result self.old.pairs self.new.pairs }
+        ensures values { (q : K) → value_at K.eq q self.new.pairs ≡ (if K.eq key.now q then None else value_at K.eq q self.old.pairs) }
+        ensures map { IsMap K.eq self.new.pairs }
+    {
+        self.inner.remove(key)
+    }
+}

@@ -1,0 +1,50 @@
+//! Copies of hashed maps.
+ghost use Rattle.std.specs.Prelude.{◌≡◌, [], true, OnOk, IsOk};
+ghost use Rattle.fc_hash.specs.Pairs.{IsMap, AreCopies};
+
+use super::TryHashMap;
+use fc_base::{TryClone, TryReserveError};
+use std::collections::hash_map;
+use std::hash::Hash;
+
+/// A copy of a map has a copy of each pair, made by the `try_clone` of key and value, and takes its memory where the map does. Its
+/// room is taken before the first copy. Copies of keys have to be equal to them. Upstream: `TryHashMap::try_clone`.
+///
+/// # Errors
+/// `AllocError` where the room was refused, or the error of a key or a value whose copy was; never where the map is empty. What was
+/// made by then is dropped.
+impl<K: Eq + Hash + TryClone, V: TryClone> TryClone for TryHashMap<K, V> {
+    ghost same = { λ source copy. AreCopies K.same V.same source.pairs copy.pairs };
+
+    ghost can_clone = { K.can_clone × V.can_clone × ((a b : K) → K.same a b → K.eq a b ≡ true) };
+
+    ghost never_refuses = { λ source. source.pairs ≡ [] };
+
+    fn try_clone(&self) -> Result<TryHashMap<K, V>, TryReserveError> {
+        let mut made = TryHashMap::with_capacity(self.alloc, self.inner.len())?;
+        insert_copies(&mut made, self.inner.iter())?;
+        Ok(made)
+    }
+}
+
+// Puts a copy of each pair that the walk gives into the map, which has none yet.
+fn insert_copies<K: Eq + Hash + TryClone, V: TryClone>(
+    made: &mut TryHashMap<K, V>,
+    walk: hash_map::Iter<'_, K, V>,
+) -> Result<(), TryReserveError>
+    requires keys { K.can_clone }
+    requires values { V.can_clone }
+    requires equal { (a b : K) → K.same a b → K.eq a b ≡ true }
+    requires distinct { IsMap K.eq walk }
+    requires empty { made.old.pairs ≡ [] }
+    ensures copied { OnOk result (AreCopies K.same V.same walk.entry made.new.pairs) }
+    ensures none { walk.entry ≡ [] → IsOk result }
+{
+    let mut walk = walk;
+    'pairs: while let Some((key, value)) = walk.next() {
+        let key_copy = key.try_clone()?;
+        let value_copy = value.try_clone()?;
+        made.insert(key_copy, value_copy)?;
+    }
+    Ok(())
+}

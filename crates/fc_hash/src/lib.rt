@@ -1,0 +1,6 @@
+//! A hashed map whose growth may be refused.
+#![tactic(auto)]
+
+pub mod hashmap;
+
+pub use hashmap::TryHashMap;
