@@ -1,0 +1,7 @@
+//! Tests of the hashed map through its public calls.
+#![tactic(auto)]
+
+#[cfg(test)]
+mod map;
+#[cfg(test)]
+mod tokens;
