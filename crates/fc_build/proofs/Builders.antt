@@ -1,5 +1,5 @@
 -- A new builder, and one whose last leaf was full.
-use Rattle.std.proofs.Common.{◌≡◌, ℕ, zero, suc, ◌+◌, ◌-◌, ◌*◌, ◌/◌, ◌^◌, ◌<◌, ◌≤◌, List, [], ◌∷◌, ◌++◌, length, refl, sym, ap, ◌∙◌, subst, arith, append_assoc, append-nil, length-append, Box, Option, Some, None}
+use Rattle.std.proofs.Common.{◌≡◌, ℕ, zero, suc, ◌+◌, ◌*◌, ◌/◌, ◌<◌, ◌≤◌, List, [], ◌∷◌, ◌++◌, length, refl, sym, ap, ◌∙◌, subst, arith, append_assoc, append-nil, length-append, Box, Option, Some, None}
 use Rattle.std.specs.Option.{option_to_list}
 use Rattle.std.specs.declared.alloc.Global.{Global}
 use Rattle.std.specs.List.{AllByRecursion}
@@ -8,7 +8,6 @@ use Rattle.fc_node.specs.Node.{own_pairs, pairs_of, IsLeaf, IsSound, IsBlankLeaf
 use Rattle.fc_node.proofs.Lists.{all_front, all_back}
 use Rattle.fc_node.proofs.Pairs.{leaf_pairs}
 use Rattle.fc_walk.specs.Opened.{back_of}
-use Rattle.fc_build.specs.Spine.{IsSpine}
 use Rattle.fc_build.specs.Spares.{own_count, worth, IsEnough, leaves_for, AreInnerFor}
 use Rattle.fc_build.specs.Built.{last_pairs, IsLast}
 

@@ -1,5 +1,5 @@
 -- A spine with a node at its end.
-use Rattle.std.proofs.Common.{◌≡◌, ℕ, zero, suc, ◌+◌, ◌-◌, ◌*◌, ◌^◌, ◌<◌, ◌≤◌, List, [], ◌∷◌, ◌++◌, length, refl, sym, ap, ◌∙◌, subst, arith, Box, append_assoc, length-append}
+use Rattle.std.proofs.Common.{◌≡◌, ℕ, zero, suc, ◌+◌, ◌-◌, ◌*◌, ◌<◌, ◌≤◌, List, [], ◌∷◌, ◌++◌, length, refl, sym, ap, ◌∙◌, subst, arith, Box, append_assoc, length-append}
 use Rattle.std.specs.declared.alloc.Global.{Global}
 use Rattle.std.specs.List.{AllByRecursion}
 use Rattle.fc_node.specs.declared.node.Node.{Node}
@@ -7,7 +7,7 @@ use Rattle.fc_node.specs.Node.{own_pairs, children_of, pairs_of, items_or_none, 
 use Rattle.fc_node.specs.Bordered.{LastAfter, IsRightBordered}
 use Rattle.fc_node.proofs.Lists.{all_both, all_front, all_back}
 use Rattle.fc_walk.specs.Opened.{back_in, back_of}
-use Rattle.fc_walk.proofs.Opening.{no_item, back_last, whole_back, back_push, empty_back}
+use Rattle.fc_walk.proofs.Opening.{back_last, whole_back, back_push, empty_back}
 use Rattle.fc_build.specs.Spine.{IsOpenEnd, level_above, IsSpine}
 use Rattle.fc_build.specs.Spares.{own_count, digits_after, worth, IsEnough}
 

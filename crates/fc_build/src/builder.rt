@@ -1,5 +1,5 @@
 //! A tree made of pairs in order, with all of its memory taken before the first.
-ghost use Rattle.std.specs.Prelude.{◌≡◌, ◌+◌, ◌<◌, [], ◌∷◌, ◌++◌, IfOk, IfErr};
+ghost use Rattle.std.specs.Prelude.{◌≡◌, ◌+◌, ◌<◌, [], ◌∷◌, ◌++◌, IfOk, IfErr, IsOk};
 ghost use Rattle.fc_node.specs.Tree.{entries, root_of, IsSoundMap};
 
 use crate::spares::{inner_count, leaf_count, take_spare, try_inner_nodes, try_leaves};
@@ -45,10 +45,11 @@ impl<K: Drop, V: Drop> Builder<K, V> {
     /// A builder of no pair, with room for `n`: each node that they can need is made now, and none where `n` is 0.
     ///
     /// # Errors
-    /// `AllocError` if one of them or a list of them is refused. Nothing is then left behind.
+    /// `AllocError` if one of them or a list of them is refused, never where `n` is 0. Nothing is then left behind.
     pub fn try_new(alloc: Global, n: usize) -> Result<Builder<K, V>, TryReserveError>
         ensures ok { IfOk result (λ b. (b.pairs ≡ []) × (b.room ≡ n)) }
         ensures err { IfErr result (λ e. e ≡ TryReserveError.AllocError) }
+        ensures none { n ≡ 0 → IsOk result }
     {
         let mut leaves = try_leaves(alloc, leaf_count(n))?;
         let inner = try_inner_nodes(alloc, inner_count(n))?;

@@ -1,5 +1,5 @@
 //! Nodes that hold nothing, all made before the first is used.
-ghost use Rattle.std.specs.Prelude.{◌≡◌, ◌+◌, ◌*◌, ◌^◌, ◌<◌, ◌≤◌, [], ◌∷◌, ◌++◌, length, IfOk, IfErr};
+ghost use Rattle.std.specs.Prelude.{◌≡◌, ◌+◌, ◌*◌, ◌^◌, ◌<◌, ◌≤◌, [], ◌∷◌, ◌++◌, length, IfOk, IfErr, IsOk};
 ghost use Rattle.std.specs.List.{AllByRecursion};
 ghost use Rattle.fc_node.specs.Node.{IsBlankLeaf, IsBlankInner};
 ghost use Rattle.fc_build.specs.Spares.{leaves_for, AreInnerFor};
@@ -11,13 +11,14 @@ use std::alloc::Global;
 /// As many leaves.
 ///
 /// # Errors
-/// `AllocError` if one of them or the list of them is refused. Nothing is then left behind.
+/// `AllocError` if one of them or the list of them is refused, never where there are none. Nothing is then left behind.
 pub(crate) fn try_leaves<K: Drop, V: Drop>(
     alloc: Global,
     count: usize,
 ) -> Result<Vec<Box<Node<K, V>>>, TryReserveError>
     ensures ok { IfOk result (λ v. (length v.items ≡ count) × AllByRecursion (λ b. IsBlankLeaf b.value) v.items) }
     ensures err { IfErr result (λ e. e ≡ TryReserveError.AllocError) }
+    ensures none { count ≡ 0 → IsOk result }
 {
     let mut leaves = Vec::with_capacity(alloc, count)?;
     for _i in 0..count {
@@ -29,13 +30,14 @@ pub(crate) fn try_leaves<K: Drop, V: Drop>(
 /// As many inner nodes.
 ///
 /// # Errors
-/// `AllocError` if one of them or the list of them is refused. Nothing is then left behind.
+/// `AllocError` if one of them or the list of them is refused, never where there are none. Nothing is then left behind.
 pub(crate) fn try_inner_nodes<K: Drop, V: Drop>(
     alloc: Global,
     count: usize,
 ) -> Result<Vec<Box<Node<K, V>>>, TryReserveError>
     ensures ok { IfOk result (λ v. (length v.items ≡ count) × AllByRecursion (λ b. IsBlankInner b.value) v.items) }
     ensures err { IfErr result (λ e. e ≡ TryReserveError.AllocError) }
+    ensures none { count ≡ 0 → IsOk result }
 {
     let mut nodes = Vec::with_capacity(alloc, count)?;
     for _i in 0..count {
@@ -64,7 +66,8 @@ pub(crate) fn leaf_count(n: usize) -> usize
 
 /// How many inner nodes are enough for `n` pairs.
 pub(crate) fn inner_count(n: usize) -> usize
-    ensures { AreInnerFor n result }
+    ensures enough { AreInnerFor n result }
+    ensures none { n ≡ 0 → result ≡ 0 }
 {
     let between = n / (CAPACITY + 1);
     between / CAPACITY + digit_count(between)

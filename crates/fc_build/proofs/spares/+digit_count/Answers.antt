@@ -1,4 +1,4 @@
-use Rattle.std.proofs.Common.{◌/◌, ◌<◌, ◌≤◌, arith}
+use Rattle.std.proofs.Common.{◌/◌, arith}
 use Rattle.fc_build.proofs.Digits.{few_digits, digits_least}
 use Rattle.fc_build.proofs.spares.+digit_count.Goals as goal
 

@@ -1,4 +1,4 @@
-use Rattle.std.proofs.Common.{◌/◌, ◌≤◌, refl, arith}
+use Rattle.std.proofs.Common.{◌/◌, refl, arith}
 use Rattle.fc_build.proofs.Digits.{few_digits}
 use Rattle.fc_build.proofs.spares.inner_count.Goals as goal
 
@@ -8,7 +8,7 @@ overflow_add-result c =
     let few = few_digits (c.args.n / 12) c.digit_count.result (omega arith) c.digit_count.ensures.least c.digit_count.ensures.none in
     omega arith
 
-pub returns : goal.returns
-returns c =
+pub returns-clause-enough : goal.returns-clause-enough
+returns-clause-enough c =
     let n = c.ranges.n.fits in
     (c.digit_count.result, few_digits (c.args.n / 12) c.digit_count.result (omega arith) c.digit_count.ensures.least c.digit_count.ensures.none, c.digit_count.ensures.above, refl)

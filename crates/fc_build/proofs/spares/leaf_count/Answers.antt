@@ -1,4 +1,4 @@
-use Rattle.std.proofs.Common.{◌≡◌, ◌<◌, ap, arith}
+use Rattle.std.proofs.Common.{◌≡◌, ap, arith}
 use Rattle.fc_build.specs.Spares.{leaves_for}
 use Rattle.fc_build.proofs.Builders.{leaves_some}
 use Rattle.fc_build.proofs.spares.leaf_count.Goals as goal

@@ -1,7 +1,7 @@
-use Rattle.std.proofs.Common.{◌≡◌, suc, length, [], sym, ap, subst, arith}
+use Rattle.std.proofs.Common.{◌≡◌, suc, length, sym, ap, subst, arith}
 use Rattle.fc_walk.proofs.Opening.{no_item, back_push}
 use Rattle.fc_build.specs.Spine.{IsSpine}
-use Rattle.fc_build.specs.Spares.{own_count, worth}
+use Rattle.fc_build.specs.Spares.{worth}
 use Rattle.fc_build.proofs.SpineFacts.{spare_taken, blank_back, blank_end, spine_popped, worth_pushed, count_pushed}
 use Rattle.fc_build.proofs.spine.open_end.Goals as goal
 
