@@ -1,5 +1,6 @@
 //! `World` and `serve` over memory.
 mod maps;
+mod sets;
 mod walks;
 
 use fc_base::TryReserveError;
