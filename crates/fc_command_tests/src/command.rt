@@ -1,6 +1,5 @@
 //! `World` and `serve` over memory.
 mod maps;
-mod sets;
 mod walks;
 
 use fc_base::TryReserveError;
