@@ -1,7 +1,9 @@
 mod CutFacts
 mod ExampleFacts
 mod ItemFacts
+mod KindFacts
 mod RunFacts
 mod ServeFacts
+mod SetExampleFacts
 mod SpokenFacts
 mod WriteFacts
