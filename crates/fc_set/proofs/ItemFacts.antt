@@ -1,7 +1,7 @@
 -- Each word on lists of items, at the keys of a list of pairs, is the word on pairs.
 use Rattle.std.proofs.Common.{◌≡◌, Bool, true, false, cond, List, [], ◌∷◌, ◌++◌, map, filter, find, length, slice_get, ℕ, zero, suc, Option, Some, None, is_some, IsSome, IsTrue, IfOk, IfErr, Result, Ok, Err, not, ◌↔◌, ◌⊎◌, inl, inr, refl, sym, ap, ◌∙◌}
 use Rattle.std.specs.Prelude.{unwrap_or}
-use Rattle.std.specs.List.{AllByRecursion}
+use Rattle.std.specs.List.{AllByRecursion, AllZip}
 use Rattle.std.specs.Option.{option_map}
 use Rattle.std.specs.declared.cmp.Ordering.{Ordering}
 use Rattle.std.specs.declared.cmp.Ordering.TheVariants.{Less}
@@ -72,6 +72,13 @@ module _ {T V : Type 0} where
     pub ascending_keys : (s : List (T × V)) → IsAscending cmp s → AreAscending cmp (keys s)
     ascending_keys [] a = tt
     ascending_keys (e ∷ s) a = (all_keys (λ y. cmp e.0 y ≡ Less) s a.0, ascending_keys s a.1)
+
+  -- Copies of pairs have copies of their keys.
+  pub copied_keys : (R : T → T → Type 0) (S : V → V → Type 0) (s t : List (T × V)) → AllZip (λ p q. R p.0 q.0 × S p.1 q.1) s t → AllZip R (keys s) (keys t)
+  copied_keys R S [] [] a = tt
+  copied_keys R S [] (f ∷ t) a = a
+  copied_keys R S (e ∷ s) [] a = a
+  copied_keys R S (e ∷ s) (f ∷ t) a = (a.0.0, copied_keys R S s t a.1)
 
   -- How many items there are, and whether there are any.
   pub keys_length : (s : List (T × V)) → length (keys s) ≡ length s

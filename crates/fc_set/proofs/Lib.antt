@@ -1,3 +1,5 @@
 pub mod ItemFacts
 pub mod CompareFacts
 pub mod ExtendFacts
+pub mod CopiedFacts
+pub mod OperatorFacts

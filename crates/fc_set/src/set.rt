@@ -7,8 +7,10 @@ ghost use Rattle.fc_map.specs.Entries.{IsSoundMap, now_value, passed_in};
 ghost use Rattle.fc_set.specs.Items.{items, item_at, without, AreAscending, with_item, with_replaced};
 
 mod compare;
+mod copied;
 mod ends;
 mod iter;
+mod operators;
 mod whole;
 
 use fc_base::{Count, Query, TryReserveError};

@@ -2,7 +2,11 @@
 #![tactic(auto)]
 
 #[cfg(test)]
+mod copies;
+#[cfg(test)]
 mod items;
+#[cfg(test)]
+mod operators;
 #[cfg(test)]
 mod set;
 #[cfg(test)]

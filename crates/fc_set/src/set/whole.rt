@@ -1,6 +1,7 @@
-//! Whole sets: joined, cut in two, and extended by what an iterator gives.
-ghost use Rattle.std.specs.Prelude.{◌≡◌, ◌+◌, ◌*◌, ◌<◌, ◌≤◌, ◌⊎◌, ◌++◌, List, [], length, IfOk, IfErr, OnOk, IsErr};
+//! Whole sets: joined, cut in two, copied, and extended by what an iterator gives or made of it.
+ghost use Rattle.std.specs.Prelude.{◌≡◌, ◌+◌, ◌*◌, ◌<◌, ◌≤◌, ◌⊎◌, ◌++◌, true, List, [], length, IfOk, IfErr, OnOk, IsErr};
 ghost use Rattle.std.specs.Iterator.{IsFiniteIterable};
+ghost use Rattle.std.specs.List.{AllZip};
 ghost use Rattle.fc_base.specs.Growth.{MayAppendRefuse};
 ghost use Rattle.fc_base.specs.declared.try_reserve_error.TryReserveError.TheVariants.{AllocError};
 ghost use Rattle.fc_map.specs.Entries.{IsSoundMap};
@@ -8,7 +9,9 @@ ghost use Rattle.fc_vec.specs.Items.{GivesAll, GivesFirst};
 ghost use Rattle.fc_set.specs.Items.{items, smaller, not_smaller, AreAscending, joined_items, extended_items, AreExtendedUpTo};
 
 use super::BTreeSet;
-use fc_base::{Count, Query, TryReserveError};
+use fc_base::{Count, Query, TryClone, TryReserveError};
+use fc_vec::TryFromIterator;
+use std::alloc::Global;
 
 impl<T: Ord + Drop> BTreeSet<T> {
     /// Takes all items of `other`, which is then empty. Where both sets hold an equal item, `other`'s stays, and ours is dropped. Where
@@ -89,5 +92,44 @@ impl<T: Ord + Drop> BTreeSet<T> {
             self.try_insert(item)?;
         }
         Ok(())
+    }
+}
+
+/// A copy of a set has a copy of each item, in order, made by its `try_clone`, in a tree of the same nodes; it takes its memory where
+/// the set does. Copies of items have to be equal to them, so that they ascend as the items do. Not in upstream, which has `Clone`.
+///
+/// # Errors
+/// `AllocError` where a node was refused, or the error of an item whose copy was; never where the set is empty. What was made by then
+/// is dropped.
+impl<T: Ord + TryClone> TryClone for BTreeSet<T> {
+    ghost same = { λ source copy. AllZip T.same (items source) (items copy) };
+
+    ghost can_clone = { T.can_clone × ((a b : T) → T.same a b → T.eq a b ≡ true) };
+
+    ghost never_refuses = { λ source. items source ≡ [] };
+
+    fn try_clone(&self) -> Result<BTreeSet<T>, TryReserveError> {
+        let copy = self.map.try_clone()?;
+        Ok(BTreeSet { map: copy })
+    }
+}
+
+/// A set of the items that an iterator gives: insertions into an empty set, in turn, as `try_extend` does them. Of equal items the first
+/// stays.
+///
+/// # Errors
+/// As `try_extend`; the set is then dropped with the items that it has.
+impl<T: Ord + Drop> TryFromIterator<T> for BTreeSet<T> {
+    ghost made_of = { λ all set. items set ≡ extended_items T.cmp [] all };
+
+    ghost may_refuse = { λ taken e. (new : List T) × ((rest : List T) → AreExtendedUpTo T.cmp [] (taken ++ rest) new e) };
+
+    fn try_from_iterator<I: IntoIterator<Item = T>>(
+        alloc: Global,
+        given: I,
+    ) -> Result<BTreeSet<T>, TryReserveError> {
+        let mut set = BTreeSet::new(alloc);
+        set.try_extend(given)?;
+        Ok(set)
     }
 }
