@@ -1,3 +1,6 @@
 pub mod ItemFacts
 pub mod CompareFacts
 pub mod ExtendFacts
+pub mod SideFacts
+pub mod StepFacts
+pub mod OperationLaws

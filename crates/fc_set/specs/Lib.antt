@@ -1,3 +1,4 @@
 pub mod Items
 pub mod Operations
+pub mod Sides
 pub mod HashLaws

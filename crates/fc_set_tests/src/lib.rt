@@ -4,6 +4,8 @@
 #[cfg(test)]
 mod items;
 #[cfg(test)]
+mod operations;
+#[cfg(test)]
 mod set;
 #[cfg(test)]
 mod walks;
