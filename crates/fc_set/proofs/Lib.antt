@@ -3,3 +3,6 @@ pub mod CompareFacts
 pub mod ExtendFacts
 pub mod CopiedFacts
 pub mod OperatorFacts
+pub mod SideFacts
+pub mod StepFacts
+pub mod OperationLaws

@@ -6,6 +6,8 @@ mod copies;
 #[cfg(test)]
 mod items;
 #[cfg(test)]
+mod operations;
+#[cfg(test)]
 mod operators;
 #[cfg(test)]
 mod set;
