@@ -41,10 +41,7 @@ impl<T: Ord + TryClone> BTreeSet<T> {
         ensures refused { IfErr result (MayCopyRefuse T.never_refuses (symmetric_difference T.cmp (items self.now) (items other.now))) }
         ensures full { usize.MAX < length (symmetric_difference T.cmp (items self.now) (items other.now)) → IsErr result }
     {
-        try_copied(
-            item::allocator(&self.map),
-            self.symmetric_difference(other),
-        )
+        try_copied(item::allocator(&self.map), self.symmetric_difference(other))
     }
 
     /// A set of copies of the items that both sets have: those of the smaller set, of this one where both are as large. Both sets stay as
