@@ -140,10 +140,6 @@ fn in_longer<'a, T: Ord>(shorter: &'a BTreeSet<T>, longer: &'a BTreeSet<T>) -> I
     Intersection {
         ours: shorter.iter(),
         other: longer,
-        theirs: if walks_both {
-            Some(longer.iter())
-        } else {
-            None
-        },
+        theirs: if walks_both { Some(longer.iter()) } else { None },
     }
 }

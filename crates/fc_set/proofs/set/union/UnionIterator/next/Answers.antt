@@ -6,7 +6,7 @@ use Rattle.fc_set.proofs.set.union.UnionIterator.next.Goals as goal
 pub returns-clause-steps : goal.returns-clause-steps
 returns-clause-steps g c =
     rw (← c.self.view_is) (yields_first g.T.Ord.cmp g.met.T.Ord.total (union g.T.Ord.cmp) c.or.result _ _ c.next.new.self refl
-    (union_step g.T.Ord.cmp g.met.T.Ord.total c.next.result.0 c.next.result.1 c.or.result _ _ c.next.new.self c.or.ensures c.next.ensures.ours c.next.ensures.theirs c.next.ensures.firsts))
+        (union_step g.T.Ord.cmp g.met.T.Ord.total c.next.result.0 c.next.result.1 c.or.result _ _ c.next.new.self c.or.ensures c.next.ensures.ours c.next.ensures.theirs c.next.ensures.firsts))
 
 pub returns-clause-goes : goal.returns-clause-goes
 returns-clause-goes g c = first_is_progress _ _ _ _ (returns-clause-steps g c)
@@ -14,4 +14,4 @@ returns-clause-goes g c = first_is_progress _ _ _ _ (returns-clause-steps g c)
 pub returns-clause-behind : goal.returns-clause-behind
 returns-clause-behind g c =
     rw (← c.self.view_is) (stands_behind g.T.Ord.cmp g.met.T.Ord.total (union g.T.Ord.cmp) c.or.result c.self.inside.sides c.next.new.self
-    (union_step g.T.Ord.cmp g.met.T.Ord.total c.next.result.0 c.next.result.1 c.or.result _ _ c.next.new.self c.or.ensures c.next.ensures.ours c.next.ensures.theirs c.next.ensures.firsts))
+        (union_step g.T.Ord.cmp g.met.T.Ord.total c.next.result.0 c.next.result.1 c.or.result _ _ c.next.new.self c.or.ensures c.next.ensures.ours c.next.ensures.theirs c.next.ensures.firsts))
