@@ -11,7 +11,7 @@ returns-clause-lower g c =
     let right = ap (λ (w : Sifting g.row.T.Denot). w.right) c.self.view_is in
     let least = difference_at_least g.T.Ord.cmp g.met.T.Ord.total c.args.self.now.left c.args.self.now.right (subst (AreAscending g.T.Ord.cmp) left c.self.invariant.0) (subst (AreAscending g.T.Ord.cmp) right c.self.invariant.1) in
     let n = ap length left in
-    λ _. omega (arith, least, n, c.len-ours.ensures, c.len_of_other.ensures, c.saturating_sub.ensures)
+    λ _. omega (arith, least, n, c.len-ours.ensures, c.len_of_other-theirs.ensures, c.saturating_sub.ensures)
 
 pub returns-clause-upper : goal.returns-clause-upper
 returns-clause-upper g c =
