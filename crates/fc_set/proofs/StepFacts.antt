@@ -88,33 +88,56 @@ module _ {T : Type 0} (cmp : T → T → Ordering) (total : IsTotalOrder cmp) wh
         let ours : AreAlike cmp w.left (x ∷ w.left) s' = (subst (λ l. AreAlike cmp l l s') e alike.0.0).1 in
         let over_ours : AreAlike cmp w.left (y ∷ w.right) t' = (subst (λ l. AreAlike cmp (x ∷ w.left) l t') f (subst (λ l. AreAlike cmp l t t') e alike.0.1)).1 in
         let over_theirs : AreAlike cmp w.right (x ∷ w.left) s' = (subst (λ l. AreAlike cmp (y ∷ w.right) l s') e (subst (λ l. AreAlike cmp l s s') f alike.1.0)).1 in
-        let theirs : AreAlike cmp w.right (y ∷ w.right) t' = (subst (λ l. AreAlike cmp l l t') f alike.1.1).1 in
-        (same ∙ ap (λ l. symmetric_difference cmp l t) e ∙ ap (λ l. symmetric_difference cmp (x ∷ w.left) l) f ∙ symmetric_tied cmp total w.left w.right x y firsts.0 firsts.1 firsts.2,
-            ((alike_past cmp w.left w.left s' x firsts.1 ours, alike_past cmp w.left w.right t' y (below_tied cmp total y x w.left (tied_back cmp total x y firsts.0) firsts.1) over_ours),
-                (alike_past cmp w.right w.left s' x (below_tied cmp total x y w.right firsts.0 firsts.2) over_theirs, alike_past cmp w.right w.right t' y firsts.2 theirs)))
+        let theirs : AreAlike cmp w.right (y ∷ w.right) t' = (subst (λ l. AreAlike cmp l l t') f alike.1.1).1 in (
+          same ∙ ap (λ l. symmetric_difference cmp l t) e ∙ ap (λ l. symmetric_difference cmp (x ∷ w.left) l) f ∙ symmetric_tied cmp total w.left w.right x y firsts.0 firsts.1 firsts.2,
+          (
+            (alike_past cmp w.left w.left s' x firsts.1 ours, alike_past cmp w.left w.right t' y (below_tied cmp total y x w.left (tied_back cmp total x y firsts.0) firsts.1) over_ours),
+            (alike_past cmp w.right w.left s' x (below_tied cmp total x y w.right firsts.0 firsts.2) over_theirs, alike_past cmp w.right w.right t' y firsts.2 theirs),
+          ),
+        )
 
     pub symmetric_ours_given : (x : Bor T) → s ≡ x.now ∷ w.left → t ≡ w.right → AreFirsts cmp (Some x.now) None w → IsStep (symmetric_difference cmp) (Some x) s' t' w
     symmetric_ours_given x e f firsts =
         let left : greater cmp s x.now ≡ greater cmp s' x.now = (subst (λ l. AreAlike cmp l s s') e alike.0.0).0 in
-        let right : greater cmp t x.now ≡ greater cmp t' x.now = (subst (λ l. AreAlike cmp l t t') e alike.0.1).0 in
-        (same ∙ ap (λ l. symmetric_difference cmp l t) e ∙ ap (λ l. symmetric_difference cmp (x.now ∷ w.left) l) f ∙ symmetric_ours cmp total w.left w.right x.now firsts.0 firsts.1,
-            sym (behind_first cmp total x.now w.left firsts.0) ∙ ap (λ l. greater cmp l x.now) (sym e) ∙ left,
-            sym (greater_all cmp total x.now w.right firsts.1) ∙ ap (λ l. greater cmp l x.now) (sym f) ∙ right)
+        let right : greater cmp t x.now ≡ greater cmp t' x.now = (subst (λ l. AreAlike cmp l t t') e alike.0.1).0 in (
+          same ∙ ap (λ l. symmetric_difference cmp l t) e ∙ ap (λ l. symmetric_difference cmp (x.now ∷ w.left) l) f ∙ symmetric_ours cmp total w.left w.right x.now firsts.0 firsts.1,
+          sym (behind_first cmp total x.now w.left firsts.0) ∙ ap (λ l. greater cmp l x.now) (sym e) ∙ left,
+          sym (greater_all cmp total x.now w.right firsts.1) ∙ ap (λ l. greater cmp l x.now) (sym f) ∙ right,
+        )
 
     pub symmetric_theirs_given : (r : Option (Bor T)) → s ≡ w.left → t ≡ option_to_list (option_copied r) ++ w.right → AreFirsts cmp None (option_copied r) w → IsStep (symmetric_difference cmp) r s' t' w
     symmetric_theirs_given None e f firsts = (same ∙ ap (λ l. symmetric_difference cmp l t) (e ∙ firsts.0) ∙ ap (λ l. symmetric_difference cmp [] l) (f ∙ firsts.1), firsts.0, firsts.1)
     symmetric_theirs_given (Some y) e f firsts =
         let left : greater cmp s y.now ≡ greater cmp s' y.now = (subst (λ l. AreAlike cmp l s s') f alike.1.0).0 in
-        let right : greater cmp t y.now ≡ greater cmp t' y.now = (subst (λ l. AreAlike cmp l t t') f alike.1.1).0 in
-        (same ∙ ap (λ l. symmetric_difference cmp l t) e ∙ ap (λ l. symmetric_difference cmp w.left l) f ∙ symmetric_theirs cmp total w.left w.right y.now firsts.0 firsts.1,
-            sym (greater_all cmp total y.now w.left firsts.0) ∙ ap (λ l. greater cmp l y.now) (sym e) ∙ left,
-            sym (behind_first cmp total y.now w.right firsts.1) ∙ ap (λ l. greater cmp l y.now) (sym f) ∙ right)
+        let right : greater cmp t y.now ≡ greater cmp t' y.now = (subst (λ l. AreAlike cmp l t t') f alike.1.1).0 in (
+          same ∙ ap (λ l. symmetric_difference cmp l t) e ∙ ap (λ l. symmetric_difference cmp w.left l) f ∙ symmetric_theirs cmp total w.left w.right y.now firsts.0 firsts.1,
+          sym (greater_all cmp total y.now w.left firsts.0) ∙ ap (λ l. greater cmp l y.now) (sym e) ∙ left,
+          sym (behind_first cmp total y.now w.right firsts.1) ∙ ap (λ l. greater cmp l y.now) (sym f) ∙ right,
+        )
+
+    -- The same by what two walks side by side gave.
+    module _ (a b : Option (Bor T)) (ours : s ≡ option_to_list (option_copied a) ++ w.left) (theirs : t ≡ option_to_list (option_copied b) ++ w.right) (firsts : AreFirsts cmp (option_copied a) (option_copied b) w) where
+      pub symmetric_theirs_step : a ≡ None → IsStep (symmetric_difference cmp) b s' t' w
+      symmetric_theirs_step e =
+          symmetric_theirs_given b (subst (λ o. s ≡ option_to_list (option_copied o) ++ w.left) e ours) theirs (subst (λ o. AreFirsts cmp (option_copied o) (option_copied b) w) e firsts)
+
+      pub symmetric_ours_step : (x : Bor T) → a ≡ Some x → b ≡ None → IsStep (symmetric_difference cmp) (Some x) s' t' w
+      symmetric_ours_step x e f =
+          symmetric_ours_given x (subst (λ o. s ≡ option_to_list (option_copied o) ++ w.left) e ours) (subst (λ o. t ≡ option_to_list (option_copied o) ++ w.right) f theirs)
+          (subst (λ o. AreFirsts cmp (Some x.now) (option_copied o) w) f (subst (λ o. AreFirsts cmp (option_copied o) (option_copied b) w) e firsts))
+
+      pub symmetric_on_step : (x y : Bor T) → a ≡ Some x → b ≡ Some y → (symmetric_difference cmp s' t' ≡ symmetric_difference cmp w.left w.right) × BothAlike cmp w.left w.right s' t'
+      symmetric_on_step x y e f =
+          symmetric_goes_on x.now y.now (subst (λ o. s ≡ option_to_list (option_copied o) ++ w.left) e ours) (subst (λ o. t ≡ option_to_list (option_copied o) ++ w.right) f theirs)
+          (subst (λ o. AreFirsts cmp (Some x.now) (option_copied o) w) f (subst (λ o. AreFirsts cmp (option_copied o) (option_copied b) w) e firsts))
 
   module _ (s t s' t' : List T) (x : T) where
     pub apart_tied : (y : T) → cmp x y ≡ Equal → IsApart cmp (x ∷ s) (y ∷ t) s' t' → IsApart cmp s t s' t'
-    apart_tied y e a =
-        (a.0 ∙ difference_tied cmp total s t x y e a.1.0.0, (a.1.0.1, a.1.1.1),
-            (alike_past cmp s s s' x a.1.0.0 a.2.0.1, alike_past cmp s t t' y (below_tied cmp total y x s (tied_back cmp total x y e) a.1.0.0) a.2.1.1))
+    apart_tied y e a = (
+      a.0 ∙ difference_tied cmp total s t x y e a.1.0.0,
+      (a.1.0.1, a.1.1.1),
+      (alike_past cmp s s s' x a.1.0.0 a.2.0.1, alike_past cmp s t t' y (below_tied cmp total y x s (tied_back cmp total x y e) a.1.0.0) a.2.1.1),
+    )
 
     pub apart_past : (y : T) → cmp x y ≡ Greater → IsApart cmp (x ∷ s) (y ∷ t) s' t' → IsApart cmp (x ∷ s) t s' t'
     apart_past y e a =
@@ -161,6 +184,12 @@ module _ {T : Type 0} (cmp : T → T → Ordering) (total : IsTotalOrder cmp) wh
 
   pub common_theirs_end : (s t s' t' : List T) (x : T) → t ≡ [] → IsCommon cmp (x ∷ s) t s' t' → (common cmp s' t' ≡ []) × (untaken cmp s' t' ≡ s)
   common_theirs_end s t s' t' x e a = (a.0 ∙ ap (common cmp (x ∷ s)) e ∙ common_of_none cmp (x ∷ s), a.3 ∙ ap (untaken cmp (x ∷ s)) e ∙ untaken_of_none cmp x s)
+
+  pub common_init : (s u t v : List T) (x y : T) → s ≡ x ∷ u → t ≡ y ∷ v → AreAscending cmp s → AreAscending cmp t → IsCommon cmp (x ∷ u) (y ∷ v) s t
+  common_init s u t v x y e f a b = subst (λ l. IsCommon cmp l (y ∷ v) s t) e (subst (λ l. IsCommon cmp s l s t) f (common_begins s t a b))
+
+  pub common_alone : (s u t : List T) (x : T) → s ≡ x ∷ u → t ≡ [] → (common cmp s t ≡ []) × (untaken cmp s t ≡ u)
+  common_alone s u t x e f = (ap (common cmp s) f ∙ common_of_none cmp s, ap (untaken cmp s) f ∙ ap (λ l. untaken cmp l []) e ∙ untaken_of_none cmp x u)
 
   -- By the operation that it gives the items of.
   module _ (operation : List T → List T) where

@@ -56,7 +56,7 @@ module _ {T : Type 0} where
 
     -- A walk over both gave the next item that both hold, and is behind it on both sides. Or it came to the end of one.
     abbrev pub GivesCommon : List T → List T → Option (Bor T) → List T → List T → Type 0
-    GivesCommon s t r rest others = MatchOption r ((common cmp s t ≡ []) × (rest ≡ untaken s t) × ((rest ≡ []) ⊎ (others ≡ [])))
+    GivesCommon s t r rest others = MatchOption r ((common cmp s t ≡ []) × (common cmp rest others ≡ []) × (rest ≡ untaken s t) × ((rest ≡ []) ⊎ (others ≡ [])))
         (λ x. (common cmp s t ≡ x.now ∷ common cmp rest others) × (rest ≡ greater cmp s x.now) × (others ≡ greater cmp t x.now))
 
     -- The least of both sides, or both where they are equal, was taken, and this is left.

@@ -1,9 +1,12 @@
 //! The lazy set operations, and how two sets lie to one another.
+ghost use Rattle.std.specs.Prelude.{◌≡◌, ◌+◌, length};
 ghost use Rattle.std.specs.Iterator.{IsFinite};
+ghost use Rattle.fc_set.specs.Items.{items};
+ghost use Rattle.fc_set.specs.Operations.{common, union};
 
 use crate::items::{CountingItem, numbers};
 use fc_base::TryReserveError;
-use fc_set::set::BTreeSet;
+use fc_set::set::{BTreeSet, Intersection, Union};
 use std::alloc::Global;
 use std::cell::Cell;
 use std::test::Fail;
@@ -212,6 +215,25 @@ fn what_walks_tell_of_their_length(rt: HostRuntime) -> Result<(), Fail> {
     let mut all = low.union(&high);
     assert!(rt; all.next().is_some() && hints(all.size_hint(), 2, 3));
     assert!(rt; all.next().is_some() && hints(all.size_hint(), 1, 1));
+    Ok(())
+}
+
+// What a union and an intersection have to give adds up to the items of both sets.
+fn either_and_both<'a, T: Ord>(
+    ours: &'a BTreeSet<T>,
+    theirs: &'a BTreeSet<T>,
+) -> (Union<'a, T>, Intersection<'a, T>)
+    ensures { length (union T.cmp result.0.left result.0.right) + length (common T.cmp result.1.left result.1.right) ≡ length (items ours.now) + length (items theirs.now) }
+{
+    (ours.union(theirs), ours.intersection(theirs))
+}
+
+#[test]
+fn what_is_in_either_and_in_both(rt: HostRuntime) -> Result<(), Fail> {
+    let (low, high) = (numbers(rt.alloc(), 1, 9)?, numbers(rt.alloc(), 6, 11)?);
+    let (either, both) = either_and_both(&low, &high);
+    assert!(rt; are_so_many(given_by(either), 10, 55));
+    assert!(rt; are_so_many(given_by(both), 3, 21));
     Ok(())
 }
 

@@ -80,16 +80,25 @@ impl<'a, T: Ord> Iterator for Difference<'a, T> {
         ensures upper { IfSome result.1 (UpTo (item_count (λ w. difference T.cmp w.left w.right) self.now)) }
         ensures exact { result ≡ (length self.now.left - length self.now.right, Some (length self.now.left)) }
     {
+        let theirs = self.len_of_other();
         let ours = self.ours.len();
-        let theirs = match &self.theirs {
-            Some(walk) => walk.len(),
-            None => self.other.len(),
-        };
         (ours.saturating_sub(theirs), Some(ours))
     }
 }
 
 impl<'a, T: Ord> FusedIterator for Difference<'a, T> {}
+
+impl<'a, T: Ord> Difference<'a, T> {
+    // How many items the other side has: all, where items are looked up in it.
+    fn len_of_other(&self) -> usize
+        ensures { result ≡ length self.now.right }
+    {
+        match &self.theirs {
+            Some(walk) => walk.len(),
+            None => self.other.len(),
+        }
+    }
+}
 
 // The next item that has no equal in the walk over the other set.
 fn next_apart<'a, T: Ord>(ours: &mut Iter<'a, T>, theirs: &mut Ahead<'a, T>) -> Option<&'a T>

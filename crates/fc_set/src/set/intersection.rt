@@ -140,6 +140,10 @@ fn in_longer<'a, T: Ord>(shorter: &'a BTreeSet<T>, longer: &'a BTreeSet<T>) -> I
     Intersection {
         ours: shorter.iter(),
         other: longer,
-        theirs: if walks_both { Some(longer.iter()) } else { None },
+        theirs: if walks_both {
+            Some(longer.iter())
+        } else {
+            None
+        },
     }
 }
