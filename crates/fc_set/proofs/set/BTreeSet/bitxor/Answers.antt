@@ -1,4 +1,4 @@
-use Rattle.std.proofs.Common.{◌<◌, ◌-◌, ◌^◌, length, IfOk, IfErr, IsErr, sym, subst}
+use Rattle.std.proofs.Common.{refl, ◌<◌, ◌-◌, ◌^◌, length, IfOk, IfErr, IsErr, sym, subst}
 use Rattle.std.specs.List.{AllZip}
 use Rattle.fc_set.specs.Copied.{MayCopyRefuse}
 use Rattle.fc_set.specs.Items.{items, AreAscending}
@@ -7,10 +7,10 @@ use Rattle.fc_set.proofs.CopiedFacts.{lends_rest}
 use Rattle.fc_set.proofs.OperatorFacts.{ascending_symmetric_difference}
 use Rattle.fc_set.proofs.set.BTreeSet.bitxor.Goals as goal
 
-pub try_copied-requires-clause-gives : goal.try_copied-requires-clause-gives
-try_copied-requires-clause-gives g c =
+pub try_copied-requires : goal.try_copied-requires
+try_copied-requires g c =
     let w = c.symmetric_difference.result in
-    (symmetric_difference g.T.Ord.cmp w.left w.right, lends_rest (λ v. symmetric_difference g.T.Ord.cmp v.left v.right) w, subst (λ v. AreAscending g.T.Ord.cmp (symmetric_difference g.T.Ord.cmp v.left v.right)) (sym c.symmetric_difference.ensures.sides) (ascending_symmetric_difference g.T.Ord.cmp (items c.args.self.now) (items c.args.other.now) g.met.T.Ord.total c.symmetric_difference.ensures.ascending.0))
+    λ k. ((refl, tt), (c.requires.copies, (c.requires.equal, ((tt, tt), ((tt, λ other e. e), (symmetric_difference g.T.Ord.cmp w.left w.right, lends_rest (λ v. symmetric_difference g.T.Ord.cmp v.left v.right) w, subst (λ v. AreAscending g.T.Ord.cmp (symmetric_difference g.T.Ord.cmp v.left v.right)) (sym c.symmetric_difference.ensures.sides) (ascending_symmetric_difference g.T.Ord.cmp (items c.args.self.now) (items c.args.other.now) g.met.T.Ord.total c.symmetric_difference.ensures.ascending.0)))))))
 
 pub returns-clause-copied : goal.returns-clause-copied
 returns-clause-copied g c =
