@@ -1,3 +1,5 @@
+pub mod Copied
 pub mod Items
 pub mod Operations
+pub mod Sides
 pub mod HashLaws

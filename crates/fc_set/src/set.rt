@@ -6,16 +6,30 @@ ghost use Rattle.fc_map.specs.Counts.{IsBounded};
 ghost use Rattle.fc_map.specs.Entries.{IsSoundMap, now_value, passed_in};
 ghost use Rattle.fc_set.specs.Items.{items, item_at, without, AreAscending, with_item, with_replaced};
 
+mod ahead;
 mod compare;
+mod copied;
+mod difference;
 mod ends;
+mod intersection;
 mod iter;
+mod merge;
+mod operators;
+mod predicates;
+mod symmetric_difference;
+mod union;
 mod whole;
 
-use fc_base::{Count, Query, TryReserveError};
+pub use difference::Difference;
+use fc_base::{Count, Query, TryReserveError, compare};
 use fc_map::map::{BTreeMap, item};
+pub use intersection::Intersection;
 pub use iter::{IntoIter, Iter, Range};
 use std::alloc::Global;
+use std::cmp::Ordering;
 use std::marker::Model;
+pub use symmetric_difference::SymmetricDifference;
+pub use union::Union;
 
 /// An ordered set: items in strictly ascending order, as the keys of a `BTreeMap`, in a B-tree whose nodes hold 5 to 11 of them. Only
 /// calls that answer a `Result` take memory. Upstream: `BTreeSet`.
@@ -277,4 +291,11 @@ fn item_of<T>(pair: Option<(T, ())>) -> Option<T>
 {
     let (item, _nothing) = pair?;
     Some(item)
+}
+
+// How two items stand to one another. What a walk over two sets compares is counted by nobody.
+fn order_of<T: Ord>(ours: &T, theirs: &T) -> Ordering
+    ensures { result ≡ T.cmp ours.now theirs.now }
+{
+    compare(ours, theirs, &mut Count::new())
 }

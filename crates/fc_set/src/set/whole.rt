@@ -1,4 +1,4 @@
-//! Whole sets: joined, cut in two, copied, and extended by what an iterator gives.
+//! Whole sets: joined, cut in two, copied, and extended by what an iterator gives or made of it.
 ghost use Rattle.std.specs.Prelude.{◌≡◌, ◌+◌, ◌*◌, ◌<◌, ◌≤◌, ◌⊎◌, ◌++◌, true, List, [], length, IfOk, IfErr, OnOk, IsErr};
 ghost use Rattle.std.specs.Iterator.{IsFiniteIterable};
 ghost use Rattle.std.specs.List.{AllZip};
@@ -10,6 +10,8 @@ ghost use Rattle.fc_set.specs.Items.{items, smaller, not_smaller, AreAscending, 
 
 use super::BTreeSet;
 use fc_base::{Count, Query, TryClone, TryReserveError};
+use fc_vec::TryFromIterator;
+use std::alloc::Global;
 
 impl<T: Ord + Drop> BTreeSet<T> {
     /// Takes all items of `other`, which is then empty. Where both sets hold an equal item, `other`'s stays, and ours is dropped. Where
@@ -109,5 +111,25 @@ impl<T: Ord + TryClone> TryClone for BTreeSet<T> {
     fn try_clone(&self) -> Result<BTreeSet<T>, TryReserveError> {
         let copy = self.map.try_clone()?;
         Ok(BTreeSet { map: copy })
+    }
+}
+
+/// A set of the items that an iterator gives: insertions into an empty set, in turn, as `try_extend` does them. Of equal items the first
+/// stays.
+///
+/// # Errors
+/// As `try_extend`; the set is then dropped with the items that it has.
+impl<T: Ord + Drop> TryFromIterator<T> for BTreeSet<T> {
+    ghost made_of = { λ all set. items set ≡ extended_items T.cmp [] all };
+
+    ghost may_refuse = { λ taken e. (new : List T) × ((rest : List T) → AreExtendedUpTo T.cmp [] (taken ++ rest) new e) };
+
+    fn try_from_iterator<I: IntoIterator<Item = T>>(
+        alloc: Global,
+        given: I,
+    ) -> Result<BTreeSet<T>, TryReserveError> {
+        let mut set = BTreeSet::new(alloc);
+        set.try_extend(given)?;
+        Ok(set)
     }
 }

@@ -1,0 +1,23 @@
+use Rattle.std.proofs.Common.{refl, ◌<◌, ◌-◌, ◌^◌, length, IfOk, IfErr, IsErr, sym, subst}
+use Rattle.std.specs.List.{AllZip}
+use Rattle.fc_set.specs.Copied.{MayCopyRefuse}
+use Rattle.fc_set.specs.Items.{items, AreAscending}
+use Rattle.fc_set.specs.Operations.{common}
+use Rattle.fc_set.proofs.CopiedFacts.{lends_rest}
+use Rattle.fc_set.proofs.OperatorFacts.{ascending_intersection}
+use Rattle.fc_set.proofs.set.BTreeSet.bitand.Goals as goal
+
+pub try_copied-requires : goal.try_copied-requires
+try_copied-requires g c =
+    let w = c.intersection.result in
+    λ k. ((refl, tt), (c.requires.copies, (c.requires.equal, ((tt, tt), ((tt, λ other e. e), (common g.T.Ord.cmp w.left w.right, lends_rest (λ v. common g.T.Ord.cmp v.left v.right) w, subst (λ l. AreAscending g.T.Ord.cmp l) (sym c.intersection.ensures.all) (ascending_intersection g.T.Ord.cmp (items c.args.self.now) (items c.args.other.now) c.intersection.ensures.ascending.0 c.intersection.ensures.ascending.1)))))))
+
+pub returns-clause-copied : goal.returns-clause-copied
+returns-clause-copied g c =
+    let w = c.intersection.result in
+    subst (λ l. IfOk c.try_copied.result (λ made. AllZip g.T.TryClone.same l (items made))) c.intersection.ensures.all (c.try_copied.ensures.copied (common g.T.Ord.cmp w.left w.right) (lends_rest (λ v. common g.T.Ord.cmp v.left v.right) w))
+
+pub returns-clause-refused : goal.returns-clause-refused
+returns-clause-refused g c =
+    let w = c.intersection.result in
+    subst (λ l. IfErr c.try_copied.result (MayCopyRefuse g.T.TryClone.never_refuses l)) c.intersection.ensures.all (c.try_copied.ensures.refused (common g.T.Ord.cmp w.left w.right) (lends_rest (λ v. common g.T.Ord.cmp v.left v.right) w))

@@ -1,0 +1,23 @@
+use Rattle.std.proofs.Common.{refl, ◌<◌, ◌-◌, ◌^◌, length, IfOk, IfErr, IsErr, sym, subst}
+use Rattle.std.specs.List.{AllZip}
+use Rattle.fc_set.specs.Copied.{MayCopyRefuse}
+use Rattle.fc_set.specs.Items.{items, AreAscending}
+use Rattle.fc_set.specs.Operations.{difference}
+use Rattle.fc_set.proofs.CopiedFacts.{lends_rest}
+use Rattle.fc_set.proofs.OperatorFacts.{ascending_difference}
+use Rattle.fc_set.proofs.set.BTreeSet.sub.Goals as goal
+
+pub try_copied-requires : goal.try_copied-requires
+try_copied-requires g c =
+    let w = c.difference.result in
+    λ k. ((refl, tt), (c.requires.copies, (c.requires.equal, ((tt, tt), ((tt, λ other e. e), (difference g.T.Ord.cmp w.left w.right, lends_rest (λ v. difference g.T.Ord.cmp v.left v.right) w, subst (λ v. AreAscending g.T.Ord.cmp (difference g.T.Ord.cmp v.left v.right)) (sym c.difference.ensures.sides) (ascending_difference g.T.Ord.cmp (items c.args.self.now) (items c.args.other.now) c.difference.ensures.ascending.0)))))))
+
+pub returns-clause-copied : goal.returns-clause-copied
+returns-clause-copied g c =
+    let w = c.difference.result in
+    subst (λ v. IfOk c.try_copied.result (λ made. AllZip g.T.TryClone.same (difference g.T.Ord.cmp v.left v.right) (items made))) c.difference.ensures.sides (c.try_copied.ensures.copied (difference g.T.Ord.cmp w.left w.right) (lends_rest (λ v. difference g.T.Ord.cmp v.left v.right) w))
+
+pub returns-clause-refused : goal.returns-clause-refused
+returns-clause-refused g c =
+    let w = c.difference.result in
+    subst (λ v. IfErr c.try_copied.result (MayCopyRefuse g.T.TryClone.never_refuses (difference g.T.Ord.cmp v.left v.right))) c.difference.ensures.sides (c.try_copied.ensures.refused (difference g.T.Ord.cmp w.left w.right) (lends_rest (λ v. difference g.T.Ord.cmp v.left v.right) w))

@@ -1,0 +1,75 @@
+//! Sets made of copies of what a walk lends, in one pass and without a search.
+ghost use Rattle.std.specs.Prelude.{◌≡◌, ◌<◌, true, List, length, All, IfOk, IfErr, IsErr};
+ghost use Rattle.std.specs.Iterator.{IsFinite};
+ghost use Rattle.std.specs.List.{AllZip};
+ghost use Rattle.fc_base.specs.declared.try_reserve_error.TryReserveError.TheVariants.{AllocError, CapacityOverflow};
+ghost use Rattle.fc_set.specs.Copied.{Lends, MayCopyRefuse};
+ghost use Rattle.fc_set.specs.Items.{items, AreAscending};
+
+use super::BTreeSet;
+use fc_base::{TryClone, TryReserveError};
+use fc_build::builder::Builder;
+use fc_map::map::item;
+use std::alloc::Global;
+
+// A set of copies of the items that the walk lends, which ascend. A second walk counts them, so that the room for all of them is taken
+// before the first is copied.
+pub(super) fn try_copied<'a, T: Ord + TryClone + 'a, I: Iterator<Item = &'a T> + Clone + Drop>(
+    alloc: Global,
+    walk: I,
+) -> Result<BTreeSet<T>, TryReserveError>
+    requires copies { T.can_clone }
+    requires equal { (a b : T) → T.same a b → T.eq a b ≡ true }
+    requires ends { I.can_next walk × IsFinite (I.remaining walk) }
+    requires again { I.is_infallible walk × ((other : I) → I.is_clone walk other → other ≡ walk) }
+    requires gives { (all : List T) × Lends I.next_gives walk all × AreAscending T.cmp all }
+    ensures copied { (all : List T) → Lends I.next_gives walk all → IfOk result (λ made. AllZip T.same all (items made)) }
+    ensures refused { (all : List T) → Lends I.next_gives walk all → IfErr result (MayCopyRefuse T.never_refuses all) }
+    ensures full { (all : List T) → Lends I.next_gives walk all → usize.MAX < length all → IsErr result }
+{
+    let count = try_count(walk.clone()?)?;
+    if count == 0 {
+        return Ok(BTreeSet::new(alloc));
+    }
+    try_filled(alloc, count, walk)
+}
+
+// How many items the walk gives.
+fn try_count<'a, T: 'a, I: Iterator<Item = &'a T> + Drop>(walk: I) -> Result<usize, TryReserveError>
+    requires ends { I.can_next walk × IsFinite (I.remaining walk) }
+    ensures count { IfOk result (λ count. (all : List T) → Lends I.next_gives walk all → count ≡ length all) }
+    ensures error { IfErr result (λ e. (e ≡ CapacityOverflow) × ((all : List T) → Lends I.next_gives walk all → usize.MAX < length all)) }
+{
+    let mut count = 0usize;
+    for _item in walk {
+        if count == usize::MAX {
+            return Err(TryReserveError::CapacityOverflow);
+        }
+        count += 1;
+    }
+    Ok(count)
+}
+
+// A set of copies of so many items, which the walk lends and which ascend.
+fn try_filled<'a, T: Ord + TryClone + 'a, I: Iterator<Item = &'a T> + Drop>(
+    alloc: Global,
+    count: usize,
+    walk: I,
+) -> Result<BTreeSet<T>, TryReserveError>
+    requires copies { T.can_clone }
+    requires equal { (a b : T) → T.same a b → T.eq a b ≡ true }
+    requires ends { I.can_next walk × IsFinite (I.remaining walk) }
+    requires gives { (all : List T) × Lends I.next_gives walk all × AreAscending T.cmp all }
+    requires count { (all : List T) → Lends I.next_gives walk all → count ≡ length all }
+    ensures copied { IfOk result (λ made. (all : List T) → Lends I.next_gives walk all → AllZip T.same all (items made)) }
+    ensures refused { IfErr result (λ e. (all : List T) → Lends I.next_gives walk all → All T.never_refuses all → e ≡ AllocError) }
+{
+    let mut builder = Builder::try_new(alloc, count)?;
+    for item in walk {
+        let copy = item.try_clone()?;
+        builder.push((copy, ()));
+    }
+    Ok(BTreeSet {
+        map: item::from_ascending(alloc, builder, count),
+    })
+}

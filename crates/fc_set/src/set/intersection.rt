@@ -1,0 +1,149 @@
+//! The items that two sets have in common.
+ghost use Rattle.std.specs.Prelude.{◌≡◌, ◌⊎◌, ⊤, [], length, Some, IfSome, IfNone, if◌then◌else◌, MatchOption};
+ghost use Rattle.std.specs.Iterator.{YieldsFirstRef, UpTo, at_most, item_count, MakesProgress};
+ghost use Rattle.std.specs.Iterator.SizeHint.{IsWithinCount};
+ghost use Rattle.fc_set.specs.Items.{items, AreAscending};
+ghost use Rattle.fc_set.specs.Operations.{common, intersection};
+ghost use Rattle.fc_set.specs.Sides.{Sifting, begin_sifting, begin_with_shorter, untaken, sifted_behind, GivesCommon, GivesLookedUp};
+
+use super::{BTreeSet, Iter, order_of};
+use std::alloc::AllocError;
+use std::cmp::Ordering;
+use std::iter::FusedIterator;
+use std::marker::Model;
+
+/// The items of the shorter of two sets that have an equal in the other and are still to come, in ascending order. Where the other is
+/// at least sixteen times as long it looks each item up, else it walks both. No call takes memory; once `next` answered `None`, it does
+/// so ever after. Upstream: `btree_set::Intersection`.
+#[derive(Drop)]
+pub struct Intersection<'a, T: Ord> {
+    ours: Iter<'a, T>,
+    other: &'a BTreeSet<T>,
+    // The walk over the other set. Where there is none, items are looked up in it.
+    theirs: Option<Iter<'a, T>>,
+}
+
+impl<'a, T: Ord> Model for Intersection<'a, T> {
+    ghost use Rattle.std.specs.Prelude.{is_none, unwrap_or};
+    ghost use Rattle.fc_set.specs.Items.{items, AreAscending};
+    ghost use Rattle.fc_set.specs.Sides.{Sifting};
+
+    ghost Value = { Sifting T };
+
+    ghost view = { λ w. record { left = w.ours; right = unwrap_or w.theirs (items w.other.now); looks_up = is_none w.theirs } };
+
+    ghost invariant = { λ w. AreAscending T.cmp w.ours × AreAscending T.cmp (unwrap_or w.theirs (items w.other.now)) };
+}
+
+impl<'a, T: Ord> Clone for Intersection<'a, T> {
+    ghost is_clone = { λ s r. r ≡ s };
+
+    ghost is_infallible = { λ _. ⊤ };
+
+    /// A second walk over the items still to come, which takes no memory.
+    fn clone(&self) -> Result<Intersection<'a, T>, AllocError> {
+        let theirs = match &self.theirs {
+            Some(walk) => Some(walk.clone()?),
+            None => None,
+        };
+        Ok(Intersection {
+            ours: self.ours.clone()?,
+            other: self.other,
+            theirs,
+        })
+    }
+}
+
+impl<'a, T: Ord> Iterator for Intersection<'a, T> {
+    type Item = &'a T;
+
+    ghost next_gives = { YieldsFirstRef (λ w. common T.cmp w.left w.right) };
+
+    ghost remaining = { item_count (λ w. common T.cmp w.left w.right) };
+
+    fn next(&mut self) -> Option<&'a T>
+        ensures steps { YieldsFirstRef (λ w. common T.cmp w.left w.right) self.old result self.new }
+        ensures goes { MakesProgress (λ _. ⊤) (item_count (λ w. common T.cmp w.left w.right)) self.old result self.new }
+        ensures ended { IfNone result ((self.new.left ≡ []) ⊎ (self.new.right ≡ [])) }
+        ensures behind { MatchOption result (self.new.left ≡ (if self.old.looks_up then [] else untaken T.cmp self.old.left self.old.right)) (λ x. self.new ≡ sifted_behind T.cmp self.old x.now) }
+    {
+        match &mut self.theirs {
+            Some(theirs) => next_common(&mut self.ours, theirs),
+            None => next_found(&mut self.ours, self.other),
+        }
+    }
+
+    /// At most as many as were not yet taken from the shorter set.
+    fn size_hint(&self) -> (usize, Option<usize>)
+        ensures lower { IsWithinCount result.0 (item_count (λ w. common T.cmp w.left w.right) self.now) }
+        ensures upper { IfSome result.1 (UpTo (item_count (λ w. common T.cmp w.left w.right) self.now)) }
+        ensures exact { result ≡ (0, Some (length self.now.left)) }
+    {
+        (0, Some(self.ours.len()))
+    }
+}
+
+impl<'a, T: Ord> FusedIterator for Intersection<'a, T> {}
+
+// The next item that has an equal in the walk over the other set.
+fn next_common<'a, T: Ord>(ours: &mut Iter<'a, T>, theirs: &mut Iter<'a, T>) -> Option<&'a T>
+    requires ascending { AreAscending T.cmp ours.old × AreAscending T.cmp theirs.old }
+    ensures gives { GivesCommon T.cmp ours.old theirs.old result ours.new theirs.new }
+    ensures ascending { AreAscending T.cmp ours.new × AreAscending T.cmp theirs.new }
+{
+    let mut item = ours.next()?;
+    let mut other = theirs.next()?;
+    'pairs: loop {
+        match order_of(item, other) {
+            Ordering::Less => item = ours.next()?,
+            Ordering::Equal => return Some(item),
+            Ordering::Greater => other = theirs.next()?,
+        }
+    }
+}
+
+// The next item that is found in the other set.
+fn next_found<'a, T: Ord>(ours: &mut Iter<'a, T>, other: &BTreeSet<T>) -> Option<&'a T>
+    requires { AreAscending T.cmp ours.old }
+    ensures gives { GivesLookedUp T.cmp (common T.cmp) ours.old (items other.now) result ours.new }
+    ensures ascending { AreAscending T.cmp ours.new }
+{
+    'ours: while let Some(item) = ours.next() {
+        if other.contains(item) {
+            return Some(item);
+        }
+    }
+    None
+}
+
+impl<T: Ord> BTreeSet<T> {
+    /// A walk over the items that both sets have, in ascending order: those of the shorter set, and of this one where both are as
+    /// long. Upstream: `BTreeSet::intersection`.
+    pub fn intersection<'a>(&'a self, other: &'a Self) -> Intersection<'a, T>
+        ensures sides { result ≡ begin_with_shorter (items self.now) (items other.now) }
+        ensures all { common T.cmp result.left result.right ≡ intersection T.cmp (items self.now) (items other.now) }
+        ensures ascending { AreAscending T.cmp (items self.now) × AreAscending T.cmp (items other.now) }
+    {
+        if self.len() <= other.len() {
+            in_longer(self, other)
+        } else {
+            in_longer(other, self)
+        }
+    }
+}
+
+// The items of the first set that have an equal in the second, which is no shorter.
+fn in_longer<'a, T: Ord>(shorter: &'a BTreeSet<T>, longer: &'a BTreeSet<T>) -> Intersection<'a, T>
+    ensures { result ≡ begin_sifting (items shorter.now) (items longer.now) }
+{
+    let walks_both = shorter.len() > longer.len() / 16;
+    Intersection {
+        ours: shorter.iter(),
+        other: longer,
+        theirs: if walks_both {
+            Some(longer.iter())
+        } else {
+            None
+        },
+    }
+}

@@ -1,0 +1,93 @@
+//! Two walks side by side, from which the lesser item is taken, or both where they are equal.
+ghost use Rattle.std.specs.Prelude.{◌≡◌, ⊤, ◌++◌, length, option_copied, option_to_list};
+ghost use Rattle.fc_set.specs.Items.{AreAscending};
+ghost use Rattle.fc_set.specs.Sides.{AreFirsts};
+
+use super::ahead::Ahead;
+use super::{Iter, order_of};
+use std::alloc::AllocError;
+use std::cmp::Ordering;
+use std::marker::Model;
+
+#[derive(Drop)]
+pub(crate) struct Merge<'a, T: Ord> {
+    ours: Ahead<'a, T>,
+    theirs: Ahead<'a, T>,
+}
+
+impl<'a, T: Ord> Model for Merge<'a, T> {
+    ghost use Rattle.fc_set.specs.Items.{AreAscending};
+    ghost use Rattle.fc_set.specs.Sides.{Sides};
+
+    ghost Value = { Sides T };
+
+    ghost view = { λ w. record { left = w.ours; right = w.theirs } };
+
+    ghost invariant = { λ w. AreAscending T.cmp w.ours × AreAscending T.cmp w.theirs };
+}
+
+impl<'a, T: Ord> Merge<'a, T> {
+    pub(crate) fn of(ours: Iter<'a, T>, theirs: Iter<'a, T>) -> Merge<'a, T>
+        requires { AreAscending T.cmp ours × AreAscending T.cmp theirs }
+        ensures { result ≡ record { left = ours.entry; right = theirs.entry } }
+    {
+        Merge {
+            ours: Ahead::of(ours),
+            theirs: Ahead::of(theirs),
+        }
+    }
+
+    // Takes the lesser of the two items that come next, or both where they are equal.
+    pub(crate) fn next(&mut self) -> (Option<&'a T>, Option<&'a T>)
+        ensures ours { self.old.left ≡ option_to_list (option_copied result.0) ++ self.new.left }
+        ensures theirs { self.old.right ≡ option_to_list (option_copied result.1) ++ self.new.right }
+        ensures firsts { AreFirsts T.cmp (option_copied result.0) (option_copied result.1) self.new }
+        ensures ascending { AreAscending T.cmp self.new.left × AreAscending T.cmp self.new.right }
+    {
+        let Some(ours) = self.ours.first() else {
+            let theirs = self.theirs.first();
+            self.theirs.step();
+            return (None, theirs);
+        };
+        let Some(theirs) = self.theirs.first() else {
+            self.ours.step();
+            return (Some(ours), None);
+        };
+        match order_of(ours, theirs) {
+            Ordering::Less => {
+                self.ours.step();
+                (Some(ours), None)
+            }
+            Ordering::Equal => {
+                self.ours.step();
+                self.theirs.step();
+                (Some(ours), Some(theirs))
+            }
+            Ordering::Greater => {
+                self.theirs.step();
+                (None, Some(theirs))
+            }
+        }
+    }
+
+    // How many items are still to come from each side.
+    pub(crate) fn lens(&self) -> (usize, usize)
+        ensures lens { result ≡ (length self.now.left, length self.now.right) }
+        ensures ascending { AreAscending T.cmp self.now.left × AreAscending T.cmp self.now.right }
+    {
+        (self.ours.len(), self.theirs.len())
+    }
+}
+
+impl<'a, T: Ord> Clone for Merge<'a, T> {
+    ghost is_clone = { λ s r. r ≡ s };
+
+    ghost is_infallible = { λ _. ⊤ };
+
+    fn clone(&self) -> Result<Merge<'a, T>, AllocError> {
+        Ok(Merge {
+            ours: self.ours.clone()?,
+            theirs: self.theirs.clone()?,
+        })
+    }
+}

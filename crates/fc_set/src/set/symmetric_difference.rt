@@ -1,0 +1,91 @@
+//! The items that just one of two sets has.
+ghost use Rattle.std.specs.Prelude.{◌≡◌, ◌+◌, ◌^◌, ⊤, [], length, nat_lt, if◌then◌else◌, Some, None, IfSome, MatchOption};
+ghost use Rattle.std.specs.Iterator.{YieldsFirstRef, UpTo, at_most, item_count, MakesProgress};
+ghost use Rattle.std.specs.Iterator.SizeHint.{IsWithinCount};
+ghost use Rattle.fc_set.specs.Items.{items, AreAscending};
+ghost use Rattle.fc_set.specs.Operations.{symmetric_difference};
+ghost use Rattle.fc_set.specs.Sides.{Sides, behind, sum_of_lengths};
+
+use super::BTreeSet;
+use super::merge::Merge;
+use std::alloc::AllocError;
+use std::iter::FusedIterator;
+use std::marker::Model;
+
+/// The items of two sets that are in just one of them and still to come, in ascending order. `next` makes a comparison for each pair
+/// of equal items that it passes, and at most one more. No call takes memory; once `next` answered `None`, it does so ever after.
+/// Upstream: `btree_set::SymmetricDifference`.
+#[derive(Drop)]
+pub struct SymmetricDifference<'a, T: Ord> {
+    sides: Merge<'a, T>,
+}
+
+impl<'a, T: Ord> Model for SymmetricDifference<'a, T> {
+    ghost use Rattle.fc_set.specs.Sides.{Sides};
+
+    ghost Value = { Sides T };
+
+    ghost view = { λ w. w.sides };
+}
+
+impl<'a, T: Ord> Clone for SymmetricDifference<'a, T> {
+    ghost is_clone = { λ s r. r ≡ s };
+
+    ghost is_infallible = { λ _. ⊤ };
+
+    /// A second walk over the items still to come, which takes no memory.
+    fn clone(&self) -> Result<SymmetricDifference<'a, T>, AllocError> {
+        Ok(SymmetricDifference {
+            sides: self.sides.clone()?,
+        })
+    }
+}
+
+impl<'a, T: Ord> Iterator for SymmetricDifference<'a, T> {
+    type Item = &'a T;
+
+    ghost next_gives = { YieldsFirstRef (λ w. symmetric_difference T.cmp w.left w.right) };
+
+    ghost remaining = { item_count (λ w. symmetric_difference T.cmp w.left w.right) };
+
+    fn next(&mut self) -> Option<&'a T>
+        ensures steps { YieldsFirstRef (λ w. symmetric_difference T.cmp w.left w.right) self.old result self.new }
+        ensures goes { MakesProgress (λ _. ⊤) (item_count (λ w. symmetric_difference T.cmp w.left w.right)) self.old result self.new }
+        ensures behind { MatchOption result ((self.new.left ≡ []) × (self.new.right ≡ [])) (λ x. self.new ≡ behind T.cmp self.old x.now) }
+    {
+        'pairs: loop {
+            let (ours, theirs) = self.sides.next();
+            let Some(ours) = ours else {
+                return theirs;
+            };
+            let Some(_theirs) = theirs else {
+                return Some(ours);
+            };
+        }
+    }
+
+    /// At most as many as both sides have still to give, which is `None` past `usize::MAX`.
+    fn size_hint(&self) -> (usize, Option<usize>)
+        ensures lower { IsWithinCount result.0 (item_count (λ w. symmetric_difference T.cmp w.left w.right) self.now) }
+        ensures upper { IfSome result.1 (UpTo (item_count (λ w. symmetric_difference T.cmp w.left w.right) self.now)) }
+        ensures exact { result ≡ (0, sum_of_lengths self.now) }
+    {
+        let (ours, theirs) = self.sides.lens();
+        (0, ours.checked_add(theirs))
+    }
+}
+
+impl<'a, T: Ord> FusedIterator for SymmetricDifference<'a, T> {}
+
+impl<T: Ord> BTreeSet<T> {
+    /// A walk over the items that are in just one of both sets, in ascending order. Upstream:
+    /// `BTreeSet::symmetric_difference`.
+    pub fn symmetric_difference<'a>(&'a self, other: &'a Self) -> SymmetricDifference<'a, T>
+        ensures sides { result ≡ record { left = items self.now; right = items other.now } }
+        ensures ascending { AreAscending T.cmp (items self.now) × AreAscending T.cmp (items other.now) }
+    {
+        SymmetricDifference {
+            sides: Merge::of(self.iter(), other.iter()),
+        }
+    }
+}
