@@ -21,7 +21,7 @@ struct Tagged {
 }
 
 // The numbers from `first` on below `end`, with a letter.
-fn tagged(
+fn with_tag(
     alloc: Global,
     first: u64,
     end: u64,
@@ -49,6 +49,7 @@ fn hints(hint: (usize, Option<usize>), least: usize, most: usize) -> bool {
 }
 
 // What a walk gave: how many items, their sum, the bits of them all, and whether they came in order.
+#[derive(Drop)]
 struct Given {
     count: u64,
     sum: u64,
@@ -133,8 +134,8 @@ fn all_pairs_of_subsets(rt: HostRuntime) -> Result<(), Fail> {
 
 #[test]
 fn the_smaller_set_gives_what_is_common(rt: HostRuntime) -> Result<(), Fail> {
-    let ours = tagged(rt.alloc(), 1, 3, 'x')?;
-    let theirs = tagged(rt.alloc(), 2, 3, 'y')?;
+    let ours = with_tag(rt.alloc(), 1, 3, 'x')?;
+    let theirs = with_tag(rt.alloc(), 2, 3, 'y')?;
     let mut common = ours.intersection(&theirs);
     assert!(rt; is_tagged(common.next(), 2, 'y') && common.next().is_none());
     let mut back = theirs.intersection(&ours);
@@ -144,8 +145,8 @@ fn the_smaller_set_gives_what_is_common(rt: HostRuntime) -> Result<(), Fail> {
 
 #[test]
 fn of_equal_items_ours_is_given(rt: HostRuntime) -> Result<(), Fail> {
-    let ours = tagged(rt.alloc(), 1, 3, 'x')?;
-    let theirs = tagged(rt.alloc(), 2, 4, 'y')?;
+    let ours = with_tag(rt.alloc(), 1, 3, 'x')?;
+    let theirs = with_tag(rt.alloc(), 2, 4, 'y')?;
     let mut common = ours.intersection(&theirs);
     assert!(rt; is_tagged(common.next(), 2, 'x') && common.next().is_none());
     let mut all = ours.union(&theirs);
@@ -162,8 +163,8 @@ fn of_equal_items_ours_is_given(rt: HostRuntime) -> Result<(), Fail> {
 // Two items against 32 are looked up, three are walked.
 #[test]
 fn items_that_are_looked_up_or_walked(rt: HostRuntime) -> Result<(), Fail> {
-    let many = tagged(rt.alloc(), 1, 33, 'y')?;
-    let mut few = tagged(rt.alloc(), 7, 8, 'x')?;
+    let many = with_tag(rt.alloc(), 1, 33, 'y')?;
+    let mut few = with_tag(rt.alloc(), 7, 8, 'x')?;
     few.try_insert(Tagged {
         number: 40,
         letter: 'x',

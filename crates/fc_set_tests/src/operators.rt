@@ -87,7 +87,7 @@ impl TryClone for Counted<'_> {
             return Err(TryReserveError::CapacityOverflow);
         }
         self.left.set(left - 1);
-        Ok(counted(self.number, self.lives, self.left))
+        Ok(with_count(self.number, self.lives, self.left))
     }
 }
 
@@ -113,7 +113,7 @@ fn counted_set<'a>(
     let mut set = BTreeSet::new(alloc);
     for (number, lives) in all.iter().enumerate() {
         if first <= number && number < end {
-            set.try_insert(counted(number, lives, left))?;
+            set.try_insert(with_count(number, lives, left))?;
         }
     }
     Ok(set)
@@ -155,10 +155,10 @@ fn were_all_dropped(all: &[Lives]) -> bool {
 const COPIED: [usize; 5] = [10, 20, 10, 30, 20];
 
 // One of the calls that copy items; how many items the set has that it made, which is then dropped.
-fn copied_by(
+fn copied_by<'a>(
     call: usize,
-    one: &CountedSet<'_>,
-    other: &CountedSet<'_>,
+    one: &CountedSet<'a>,
+    other: &CountedSet<'a>,
 ) -> Result<usize, TryReserveError> {
     let made = match call {
         0 => one.sub(other)?,
