@@ -170,7 +170,7 @@ fn long_sources_in_steps(rt: HostRuntime) -> Result<(), Fail> {
     let mut src = in_pieces(&text, 5000);
     let mut buf = TryVec::new(rt.alloc());
     assert!(rt; is_count(&read(&mut src, 100000, &mut buf), 100000));
-    assert!(rt; holds(&buf, &text[..100000]));
+    assert!(rt; buf.len() == 100000 && text.as_slice().starts_with(buf.as_slice()));
     let mut src = in_pieces(&text, 5000);
     let mut buf = TryVec::new(rt.alloc());
     read_in_steps(&mut src, 1 << 40, &mut buf)?;
