@@ -1,0 +1,51 @@
+//! Printing into a text whose room is taken first.
+use fc_base::TryReserveError;
+use fc_format::try_format;
+use std::fmt;
+use std::test::Fail;
+
+// Its printing fails once it has written three bytes.
+#[derive(Drop)]
+struct Broken;
+
+impl fmt::Display for Broken {
+    fn fmt<W: fmt::Write>(&self, f: &mut fmt::Formatter<W>) -> fmt::Result {
+        f.write_str("abc")?;
+        Err(fmt::Error)
+    }
+}
+
+fn is_text(answer: &Result<String, TryReserveError>, wanted: &str) -> bool {
+    match answer {
+        Ok(text) => text.as_str() == wanted,
+        Err(_) => false,
+    }
+}
+
+fn is_refused(answer: &Result<String, TryReserveError>) -> bool {
+    matches!(answer, Err(TryReserveError::AllocError))
+}
+
+#[test]
+fn a_text_longer_than_its_room(rt: HostRuntime) -> Result<(), Fail> {
+    for room in [3, 0, 1, 100] {
+        assert!(rt; is_text(&try_format(rt.alloc(), room, &123u64), "123"));
+    }
+    Ok(())
+}
+
+#[test]
+fn a_failed_printing_is_refused(rt: HostRuntime) {
+    assert!(rt; is_refused(&try_format(rt.alloc(), 3, &Broken)));
+    assert!(rt; is_refused(&try_format(rt.alloc(), 100, &Broken)));
+    assert!(rt; is_refused(&try_format(rt.alloc(), usize::MAX, &123u64)));
+}
+
+// The sweep refuses the requests in turn.
+#[test]
+fn a_text_is_whole_or_refused(rt: HostRuntime) {
+    for room in [0, 3, 100] {
+        let answer = try_format(rt.alloc(), room, &1234567890u64);
+        assert!(rt; is_text(&answer, "1234567890") || is_refused(&answer));
+    }
+}
