@@ -56,7 +56,7 @@ fn add_one(count: &Cell<u64>) {
     count.set(count.get().wrapping_add(1));
 }
 
-fn counted<'a>(number: usize, lives: &'a Lives, left: &'a Cell<u64>) -> Counted<'a>
+fn with_count<'a>(number: usize, lives: &'a Lives, left: &'a Cell<u64>) -> Counted<'a>
     ensures { result.number ≡ number }
 {
     add_one(&lives.made);
