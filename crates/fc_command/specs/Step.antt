@@ -86,12 +86,13 @@ module _ {K V : Type 0} (cmp : K → K → Ordering) where
   MayStop (Extend side pairs) m m' e = IsExtendedUpTo cmp m pairs m' e
   MayStop c m m' e = ⊥
 
-  -- Whether a command is always refused: an insertion of a new key into a map of the greatest length, and an append where neither
-  -- map is empty and the lengths add past it.
+  -- Whether a command is always refused: an insertion of a new key into a map of the greatest length, an append where neither map is
+  -- empty and the lengths add past it, and an extension that would make the map longer.
   abbrev pub MustRefuse : Command K V → List (K × V) → List (K × V) → Type 0
   MustRefuse (Insert side k v) m o = (at cmp m k ≡ None) × (length m ≡ 2 ^ 64 - 1)
   MustRefuse (Entry side k v w) m o = (at cmp m k ≡ None) × (length m ≡ 2 ^ 64 - 1)
   MustRefuse (Append side) m o = (0 < length m) × (0 < length o) × (2 ^ 64 - 1 < length m + length o)
+  MustRefuse (Extend side pairs) m o = 2 ^ 64 - 1 < length (extended cmp m pairs)
   MustRefuse c m o = ⊥
 
   -- A command on the named map m and the other map o is answered by the table, or it is refused and changes nothing, or it is refused

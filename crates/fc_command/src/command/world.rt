@@ -305,7 +305,11 @@ fn extend<K: Ord + TryClone, V: TryClone>(
     ensures { (o : Map K V) (side : Side) → StepOn K.cmp (Command.Extend side pairs) map.old o result map.new o }
 {
     match map.try_extend(pairs.into_vec()) {
-        Ok(()) => Reply::Done,
+        Ok(()) => {
+            // Shows that the map isn't longer than a map can be.
+            let _len = map.len();
+            Reply::Done
+        }
         Err(e) => Reply::Refused(e),
     }
 }

@@ -1,4 +1,4 @@
-use Rattle.std.proofs.Common.{◌≡◌, Global, length, refl, ap, ◌∙◌}
+use Rattle.std.proofs.Common.{◌≡◌, Global, length, refl, ap, ◌∙◌, arith}
 use Rattle.std.specs.Vec.Iter.{into_iter_items, into_iter_steps}
 use Rattle.std.proofs.lemmas.Iterator.Adapters.{YieldsList-from_vec}
 use Rattle.fc_base.specs.Extended.{extended, IsExtendedUpTo}
@@ -12,7 +12,10 @@ pub returns-in-Ok : goal.returns-in-Ok
 returns-in-Ok g c o side =
     let steps = into_iter_steps {X = g.row.K.Denot × g.row.V.Denot} {Z = Global} in
     let put_in = given_all steps _ c.args.pairs (λ all. entries c.try_extend.new.self ≡ extended g.K.Ord.cmp (entries c.args.map.now) all) (λ walk is. YieldsList-from_vec c.args.pairs (is.0 ∙ c.into_vec.ensures) (is.1 ∙ c.into_vec.result.ok.0 ∙ ap length c.into_vec.ensures)) c.in-Ok.ensures.all in
-    answered (λ h. h) (refl, put_in, refl)
+    let all = ap length put_in in
+    let len = c.len-len.ensures.value in
+    let fits = c.len-len.type_inv in
+    answered (λ past. omega arith) (refl, put_in, refl)
 
 -- those before the one that was refused were put in
 pub returns-in-Err : goal.returns-in-Err
