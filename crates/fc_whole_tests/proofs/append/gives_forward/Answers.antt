@@ -1,0 +1,4 @@
+use Rattle.fc_whole_tests.proofs.append.gives_forward.Goals as goal
+
+pub loop-number-preserved-then-not-is_in_one : goal.loop-number-preserved-then-not-is_in_one
+loop-number-preserved-then-not-is_in_one c = (tt, tt)
