@@ -1,7 +1,9 @@
-//! Tests of the calls that join, cut or build whole trees: splits, maps made of an iterator's pairs, trees built from their first
-//! pair on, and appends where memory is refused.
+//! Tests of the calls that join, cut or build whole trees: appends, also where memory is refused, splits, maps made of an
+//! iterator's pairs, and trees built from their first pair on.
 #![tactic(auto)]
 
+#[cfg(test)]
+mod append;
 #[cfg(test)]
 mod from_iterator;
 #[cfg(test)]
