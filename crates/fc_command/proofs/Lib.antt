@@ -3,5 +3,6 @@ mod ExampleFacts
 mod ItemFacts
 mod RunFacts
 mod ServeFacts
+mod SetExampleFacts
 mod SpokenFacts
 mod WriteFacts

@@ -1,12 +1,14 @@
 -- How a run goes on.
-use Rattle.std.proofs.Common.{◌≡◌, List, [], ◌∷◌, ◌++◌, refl, inl, inr}
+use Rattle.std.proofs.Common.{◌≡◌, ⊤, List, [], ◌∷◌, ◌++◌, refl, inl, inr}
 use Rattle.std.specs.List.{AllZip}
 use Rattle.std.specs.declared.cmp.Ordering.{Ordering}
 use Rattle.fc_base.specs.declared.try_reserve_error.TryReserveError.{TryReserveError}
 use Rattle.fc_map.specs.Entries.{Map, entries}
+use Rattle.fc_set.specs.Items.{items}
 use Rattle.fc_command.specs.declared.command.world.World.{World}
 use Rattle.fc_lines.specs.declared.command.Command.{Command}
 use Rattle.fc_lines.specs.declared.command.Reply.{Reply}
+use Rattle.fc_command.specs.SetStep as sets
 use Rattle.fc_command.specs.Step.{answer, MayRefuse, MustRefuse, StepOn, answered, refused, Step, Runs, IsCopied, IsCopyTold}
 
 -- each copy so far was told, and one command more
@@ -29,3 +31,9 @@ module _ {K V : Type 0} (cmp : K → K → Ordering) where
       → (something : Type 0) → ((e : TryReserveError) → something → MayRefuse cmp c (entries m) (entries o) e) → IsCopied r (answer cmp c (entries m) (entries o)).reply something → StepOn cmp c m o r m o
   step_copied c m o r must same_m same_o something may (inl is) = answered must (is, same_m, same_o)
   step_copied c m o r must same_m same_o something may (inr (some, why)) = refused why.0 (may why.0 some) (why.1, refl, refl)
+
+  -- the same of a command on sets
+  pub step_copied_on_sets : (c : Command K V) (m o : Map K ⊤) (r : Reply K V) → (sets.MustRefuseOnSets cmp c (items m) (items o) → ⊥) → items m ≡ (sets.answer_on_sets cmp c (items m) (items o)).m → items o ≡ (sets.answer_on_sets cmp c (items m) (items o)).o
+      → (something : Type 0) → ((e : TryReserveError) → something → sets.MayRefuseOnSets cmp c (items m) (items o) e) → IsCopied r (sets.answer_on_sets cmp c (items m) (items o)).reply something → sets.StepOnSets cmp c m o r m o
+  step_copied_on_sets c m o r must same_m same_o something may (inl is) = sets.answered must (is, same_m, same_o)
+  step_copied_on_sets c m o r must same_m same_o something may (inr (some, why)) = sets.refused why.0 (may why.0 some) (why.1, refl, refl)

@@ -1,4 +1,4 @@
--- What a command does to a world, and what it answers.
+-- What a command does to a world, and what it answers. `SetStep` has the table of commands on sets.
 use Rattle.std.specs.Prelude.{◌≡◌, ◌≢◌, ◌+◌, ◌-◌, ◌^◌, ◌<◌, min, ⊤, List, [], ◌∷◌, ◌⊎◌, length, None, IsSome, is_some, IsTrue, if◌then◌else◌}
 use Rattle.std.specs.declared.cmp.Ordering.{Ordering}
 use Rattle.fc_base.specs.declared.try_reserve_error.TryReserveError.{TryReserveError}
@@ -11,20 +11,24 @@ use Rattle.fc_base.specs.OneKey.{put, cut}
 use Rattle.fc_base.specs.Parts.{below, at, value_at}
 use Rattle.fc_base.specs.Ranges.{is_range, within}
 use Rattle.fc_map.specs.Entries.{Map, entries}
+use Rattle.fc_set.specs.Items.{items}
 use Rattle.fc_command.specs.declared.command.world.World.{World}
 use Rattle.fc_lines.specs.declared.command.Side.{Side}
-use Rattle.fc_lines.specs.Sides.{side_of}
+use Rattle.fc_lines.specs.declared.command.Target.{Target}
+use Rattle.fc_lines.specs.declared.command.Target.TheVariants.{OnMap, OnSet}
+use Rattle.fc_lines.specs.Sides.{target_of}
 use Rattle.fc_lines.specs.declared.command.Side.TheVariants.{First, Second}
 use Rattle.fc_lines.specs.declared.command.Command.{Command}
-use Rattle.fc_lines.specs.declared.command.Command.TheVariants.{Insert, Get, GetKeyValue, ContainsKey, Remove, Set, Entry, RemoveEntry, Len as CountPairs, Clear, Walk, Write, Append, SplitOff, TryClone, Extend}
+use Rattle.fc_lines.specs.declared.command.Command.TheVariants.{Insert, Get, GetKeyValue, ContainsKey, Remove, Set, Entry, RemoveEntry, Len as CountPairs, Clear, Walk, Write, Append, SplitOff, TryClone, Extend, GetItem}
 use Rattle.fc_lines.specs.declared.command.Reply.{Reply}
 use Rattle.fc_lines.specs.declared.command.Reply.TheVariants.{Done, Flag, Value, Pair, Len, Pairs, BadRange, Refused}
+use Rattle.fc_command.specs.SetStep.{StepOnSets}
 use Rattle.fc_command.specs.Walks.{walked}
 use Rattle.fc_command.specs.Writing.{rewritten}
 
--- A new world has no pairs.
+-- A new world has no pairs and no items.
 abbrev pub IsNew : {K V : Type 0} → World K V → Type 0
-IsNew w = (entries w.a ≡ []) × (entries w.b ≡ [])
+IsNew w = (entries w.a ≡ []) × (entries w.b ≡ []) × (items w.s ≡ []) × (items w.t ≡ [])
 
 -- The map that a side names.
 abbrev pub named : {K V : Type 0} → Side → World K V → Map K V
@@ -36,6 +40,16 @@ abbrev pub other : {K V : Type 0} → Side → World K V → Map K V
 other First w = w.b
 other Second w = w.a
 
+-- The set that a side names.
+abbrev pub named_set : {K V : Type 0} → Side → World K V → Map K ⊤
+named_set First w = w.s
+named_set Second w = w.t
+
+-- The other set.
+abbrev pub other_set : {K V : Type 0} → Side → World K V → Map K ⊤
+other_set First w = w.t
+other_set Second w = w.s
+
 -- What a command makes of the list m of the named map and of the list o of the other, and its reply.
 pub record Outcome (K V : Type 0) : Type 0 where
   pub m : List (K × V)
@@ -43,7 +57,7 @@ pub record Outcome (K V : Type 0) : Type 0 where
   pub reply : Reply K V
 
 module _ {K V : Type 0} (cmp : K → K → Ordering) where
-  -- The table of commands, where they are answered: the list of the named map, that of the other, and the reply.
+  -- The table of commands on maps, where they are answered: the list of the named map, that of the other, and the reply.
   abbrev pub answer : Command K V → List (K × V) → List (K × V) → Outcome K V
   answer (Insert side k v) m o = record { m = put cmp m k v; o = o; reply = Value (value_at cmp m k) }
   answer (Get side k) m o = record { m = m; o = o; reply = Value (value_at cmp m k) }
@@ -65,6 +79,7 @@ module _ {K V : Type 0} (cmp : K → K → Ordering) where
   answer (SplitOff side k) m o = record { m = below cmp m k; o = not_below cmp m k; reply = Done }
   answer (TryClone side) m o = record { m = m; o = m; reply = Done }
   answer (Extend side pairs) m o = record { m = extended cmp m pairs; o = o; reply = Done }
+  answer c m o = record { m = m; o = o; reply = Done }
 
   -- Whether a command may be refused and change nothing, and by which error: an insertion at a new key, where the map is empty or has
   -- enough pairs to fill a leaf, a copy, the room for copies, an append where neither map is empty, and a split and a copy of a map
@@ -101,9 +116,14 @@ module _ {K V : Type 0} (cmp : K → K → Ordering) where
     refused : (e : TryReserveError) → MayRefuse c (entries m) (entries o) e → (r ≡ Refused e) × (m' ≡ m) × (o' ≡ o) → StepOn c m o r m' o'
     stopped : (e : TryReserveError) → MayStop c (entries m) (entries m') e → (r ≡ Refused e) × (o' ≡ o) → StepOn c m o r m' o'
 
+  -- A command on what it names may lead from one world to another with this reply. The maps or sets of the other kind are as before.
+  abbrev pub StepAt : Target → World K V → Command K V → Reply K V → World K V → Type 0
+  StepAt (OnMap side) w c r w' = StepOn c (named side w) (other side w) r (named side w') (other side w') × (w'.s ≡ w.s) × (w'.t ≡ w.t)
+  StepAt (OnSet side) w c r w' = StepOnSets cmp c (named_set side w) (other_set side w) r (named_set side w') (other_set side w') × (w'.a ≡ w.a) × (w'.b ≡ w.b)
+
   -- A command may lead from one world to another with this reply.
   abbrev pub Step : World K V → Command K V → Reply K V → World K V → Type 0
-  Step w c r w' = let side = side_of c in StepOn c (named side w) (other side w) r (named side w') (other side w')
+  Step w c r w' = StepAt (target_of c) w c r w'
 
   -- The commands may lead from one world to another, with a reply to each.
   abbrev pub Runs : World K V → List (Command K V) → List (Reply K V) → World K V → Type 0
@@ -120,6 +140,7 @@ IsNotRefused r = (e : TryReserveError) → r ≢ Refused e
 abbrev pub IsCopyTold : {K V : Type 0} → Command K V → Reply K V → Type 0
 IsCopyTold (Get side k) r = IsNotRefused r
 IsCopyTold (GetKeyValue side k) r = IsNotRefused r
+IsCopyTold (GetItem side k) r = IsNotRefused r
 IsCopyTold c r = ⊤
 
 -- The reply is this one, or the copy in it was refused, which is possible only where there is something to copy.

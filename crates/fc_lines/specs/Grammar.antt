@@ -11,8 +11,10 @@ use Rattle.fc_lines.specs.declared.command.Side.{Side}
 use Rattle.fc_lines.specs.declared.command.Side.TheVariants.{First, Second}
 use Rattle.fc_lines.specs.declared.command.End.{End}
 use Rattle.fc_lines.specs.declared.command.End.TheVariants.{Front, Back}
+use Rattle.fc_lines.specs.declared.command.SetOp.{SetOp}
+use Rattle.fc_lines.specs.declared.command.SetOp.TheVariants.{Difference, SymmetricDifference, Intersection, Union}
 use Rattle.fc_lines.specs.declared.command.Command.{Command}
-use Rattle.fc_lines.specs.declared.command.Command.TheVariants.{Insert, Get, GetKeyValue, ContainsKey, Remove, Set, Entry, RemoveEntry, Len, Clear, Walk, Write, Append, SplitOff, TryClone, Extend}
+use Rattle.fc_lines.specs.declared.command.Command.TheVariants.{Insert, Get, GetKeyValue, ContainsKey, Remove, Set, Entry, RemoveEntry, Len, Clear, Walk, Write, Append, SplitOff, TryClone, Extend, AddItem, ReplaceItem, TakeItem, RemoveItem, ContainsItem, GetItem, SetLen, SetClear, SetAppend, SetSplitOff, SetClone, SetExtend, SetWalk, List as ListItems, Keep, IsDisjoint, IsSubset, IsSuperset, SetCmp}
 use Rattle.fc_lines.specs.Lines.{words_of}
 
 -- What follows is asked only where something is there.
@@ -20,6 +22,12 @@ infixl 10 ◌>>=◌
 abbrev pub ◌>>=◌ : {A B : Type 0} → Option A → (A → Option B) → Option B
 None >>= f = None
 (Some x) >>= f = f x
+
+-- The first that is there.
+infixl 5 ◌or_else◌
+abbrev pub ◌or_else◌ : {A : Type 0} → Option A → Option A → Option A
+None or_else o = o
+(Some x) or_else o = Some x
 
 -- Whether a word is this text.
 abbrev pub is_text : List ℕ → List ℕ → Bool
@@ -36,6 +44,18 @@ number_of word = if is_number word then Some (digits_value 10 word) else None
 -- The map that a word names.
 abbrev pub map_of : List ℕ → Option Side
 map_of word = if is_text word (codes "a") then Some First else if is_text word (codes "b") then Some Second else None
+
+-- The set that a word names.
+abbrev pub set_named : List ℕ → Option Side
+set_named word = if is_text word (codes "s") then Some First else if is_text word (codes "t") then Some Second else None
+
+-- The operation on two sets that a word names.
+abbrev pub op_of : List ℕ → Option SetOp
+op_of word = if is_text word (codes "diff") then Some Difference
+    else if is_text word (codes "sym") then Some SymmetricDifference
+    else if is_text word (codes "inter") then Some Intersection
+    else if is_text word (codes "union") then Some Union
+    else None
 
 -- The bound that a word writes: `*` is 42, `=` is 61 and `!` is 33.
 abbrev pub bound_of : List ℕ → Option (Bound ℕ)
@@ -74,6 +94,13 @@ unfoldable pub map_at : List (List ℕ) → Option (Side × List (List ℕ))
 map_at words = do
   first ← word_at words
   side ← map_of first.0
+  Some (side, first.1)
+
+-- The set that the first word names, and the words after it.
+unfoldable pub set_at : List (List ℕ) → Option (Side × List (List ℕ))
+set_at words = do
+  first ← word_at words
+  side ← set_named first.0
   Some (side, first.1)
 
 -- The number that the first word writes, and the words after it.
@@ -249,15 +276,90 @@ plain_of word words = if is_text word (codes "insert") then insert_of words
     else if is_text word (codes "copy") then copy_of words
     else None
 
--- The command that the words ask for, by the first of them.
-unfoldable pub command_of_words : List (List ℕ) → Option (Command ℕ ℕ)
-command_of_words words = do
+-- The command on maps that the words ask for, by the first of them.
+unfoldable pub on_maps_of : List (List ℕ) → Option (Command ℕ ℕ)
+on_maps_of words = do
   first ← word_at words
   if is_text first.0 (codes "walk") then walk_of first.1
       else if is_text first.0 (codes "write") then write_of first.1
       else if is_text first.0 (codes "extend") then extend_of first.1
       else plain_of first.0 first.1
 
--- The command that a line of at most 4096 bytes asks for, if it is one.
+-- The command that a word asks for on a set.
+abbrev pub with_set : List ℕ → Side → Option (Command ℕ ℕ)
+with_set word c = if is_text word (codes "len") then Some (SetLen c)
+    else if is_text word (codes "clear") then Some (SetClear c)
+    else if is_text word (codes "append") then Some (SetAppend c)
+    else if is_text word (codes "copy") then Some (SetClone c)
+    else if is_text word (codes "disjoint") then Some (IsDisjoint c)
+    else if is_text word (codes "subset") then Some (IsSubset c)
+    else if is_text word (codes "superset") then Some (IsSuperset c)
+    else if is_text word (codes "cmp") then Some (SetCmp c)
+    else option_map (λ op. ListItems op c) (op_of word)
+
+-- The command that a word asks for on a set and an item.
+abbrev pub with_set_and_item : List ℕ → Side → ℕ → Option (Command ℕ ℕ)
+with_set_and_item word c k = if is_text word (codes "add") then Some (AddItem c k)
+    else if is_text word (codes "replace") then Some (ReplaceItem c k)
+    else if is_text word (codes "take") then Some (TakeItem c k)
+    else if is_text word (codes "drop") then Some (RemoveItem c k)
+    else if is_text word (codes "in") then Some (ContainsItem c k)
+    else if is_text word (codes "find") then Some (GetItem c k)
+    else if is_text word (codes "split") then Some (SetSplitOff c k)
+    else None
+
+-- The words after such a word are a set.
+unfoldable pub set_of_word : List ℕ → List (List ℕ) → Option (Command ℕ ℕ)
+set_of_word word words = do
+  c ← set_at words
+  command ← with_set word c.0
+  ends command c.1
+
+-- The words after such a word are a set and an item.
+unfoldable pub set_and_item_of_word : List ℕ → List (List ℕ) → Option (Command ℕ ℕ)
+set_and_item_of_word word words = do
+  c ← set_at words
+  k ← number_at c.1
+  command ← with_set_and_item word c.0 k.0
+  ends command k.1
+
+-- The words after `keep` are an operation and a set.
+unfoldable pub keep_of : List (List ℕ) → Option (Command ℕ ℕ)
+keep_of words = do
+  first ← word_at words
+  op ← op_of first.0
+  c ← set_at first.1
+  ends (Keep op c.0) c.1
+
+-- The words after `walk` are a set, two bounds and one word of letters.
+unfoldable pub walk_items_of : List (List ℕ) → Option (Command ℕ ℕ)
+walk_items_of words = do
+  c ← set_at words
+  lo ← bound_at c.1
+  hi ← bound_at lo.1
+  letters ← word_at hi.1
+  list ← some_read end_of letters.0
+  ends (SetWalk c.0 lo.0 hi.0 list) letters.1
+
+-- The words after `extend` are a set and one or more items.
+unfoldable pub extend_items_of : List (List ℕ) → Option (Command ℕ ℕ)
+extend_items_of words = do
+  c ← set_at words
+  items ← some_read number_of c.1
+  Some (SetExtend c.0 items)
+
+-- The command without a list that the words after its word ask for.
+unfoldable pub plain_on_sets_of : List ℕ → List (List ℕ) → Option (Command ℕ ℕ)
+plain_on_sets_of word words = if is_text word (codes "keep") then keep_of words else (set_of_word word words or_else set_and_item_of_word word words)
+
+-- The command on sets that the words ask for, by the first of them.
+unfoldable pub on_sets_of : List (List ℕ) → Option (Command ℕ ℕ)
+on_sets_of words = do
+  first ← word_at words
+  if is_text first.0 (codes "walk") then walk_items_of first.1
+      else if is_text first.0 (codes "extend") then extend_items_of first.1
+      else plain_on_sets_of first.0 first.1
+
+-- The command that a line of at most 4096 bytes asks for, if it is one: on maps or on sets.
 unfoldable pub command_of : List ℕ → Option (Command ℕ ℕ)
-command_of line = if nat_le (length line) 4096 then command_of_words (words_of line) else None
+command_of line = if nat_le (length line) 4096 then (on_maps_of (words_of line) or_else on_sets_of (words_of line)) else None

@@ -2,10 +2,12 @@
 use Rattle.std.specs.Prelude.{ℕ, List, [], ◌∷◌, ◌++◌, codes, Bool, true, false, Option, Some, None}
 use Rattle.std.specs.List.{flat_map}
 use Rattle.std.specs.Fmt.{decimal}
+use Rattle.std.specs.declared.cmp.Ordering.{Ordering}
+use Rattle.std.specs.declared.cmp.Ordering.TheVariants.{Less, Equal, Greater}
 use Rattle.fc_base.specs.declared.try_reserve_error.TryReserveError.{TryReserveError}
 use Rattle.fc_base.specs.declared.try_reserve_error.TryReserveError.TheVariants.{AllocError, CapacityOverflow}
 use Rattle.fc_lines.specs.declared.command.Reply.{Reply}
-use Rattle.fc_lines.specs.declared.command.Reply.TheVariants.{Done, Flag, Key, Value, Pair, Len, Pairs, BadRange, Refused}
+use Rattle.fc_lines.specs.declared.command.Reply.TheVariants.{Done, Flag, Key, Value, Pair, Len, Pairs, Keys, Order, BadRange, Refused}
 
 -- A number that may be missing.
 abbrev pub option_text : Option ℕ → List ℕ
@@ -21,6 +23,17 @@ pair_text (Some (k, v)) = codes "some " ++ decimal k ++ codes " " ++ decimal v
 abbrev pub step_text : Option (ℕ × ℕ) → List ℕ
 step_text None = codes " -"
 step_text (Some (k, v)) = codes " " ++ decimal k ++ codes ":" ++ decimal v
+
+-- What a step of a walk over a set gave.
+abbrev pub item_text : Option ℕ → List ℕ
+item_text None = codes " -"
+item_text (Some n) = codes " " ++ decimal n
+
+-- How one set stands to another.
+abbrev pub order_text : Ordering → List ℕ
+order_text Less = codes "less"
+order_text Equal = codes "equal"
+order_text Greater = codes "greater"
 
 -- A yes or no.
 abbrev pub flag_text : Bool → List ℕ
@@ -41,6 +54,8 @@ words_of_reply (Value v) = option_text v
 words_of_reply (Pair p) = pair_text p
 words_of_reply (Len n) = decimal n
 words_of_reply (Pairs steps) = codes "list" ++ flat_map step_text steps
+words_of_reply (Keys steps) = codes "list" ++ flat_map item_text steps
+words_of_reply (Order o) = order_text o
 words_of_reply BadRange = codes "bad range"
 words_of_reply (Refused e) = refusal_text e
 

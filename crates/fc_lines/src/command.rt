@@ -1,18 +1,41 @@
-//! Commands over two ordered maps, and what they answer.
+//! Commands over two ordered maps and two ordered sets, and what they answer.
 ghost use Rattle.std.specs.Prelude.{◌≡◌};
-ghost use Rattle.fc_lines.specs.Sides.{side_of};
+ghost use Rattle.fc_lines.specs.Sides.{target_of};
 
 use crate::items::Items;
 use fc_base::TryReserveError;
+use std::cmp::Ordering;
 use std::ops::Bound;
 
-/// Which of the two maps a command names.
+/// Which of the two maps, or of the two sets, a command names.
 #[derive(Clone, Copy, PartialEq, Eq, Debug)]
 pub enum Side {
-    /// The map `a`.
+    /// The map `a`, the set `s`.
     First,
-    /// The map `b`.
+    /// The map `b`, the set `t`.
     Second,
+}
+
+/// The map or the set that a command names. "The other" is the other one of the same kind.
+#[derive(Clone, Copy, PartialEq, Eq, Debug)]
+pub enum Target {
+    /// A map.
+    OnMap(Side),
+    /// A set.
+    OnSet(Side),
+}
+
+/// An operation on two sets.
+#[derive(Clone, Copy, PartialEq, Eq, Debug)]
+pub enum SetOp {
+    /// The items that the other set has no equal of.
+    Difference,
+    /// The items of either set that the other has no equal of.
+    SymmetricDifference,
+    /// The items that are in both sets.
+    Intersection,
+    /// The items of either set.
+    Union,
 }
 
 /// An end of a walk.
@@ -24,7 +47,7 @@ pub enum End {
     Back,
 }
 
-/// A command on the map that its side names, and in three of the last four on the other map too.
+/// A command on the map or the set that its side names, and in some also on the other one of its kind.
 #[derive(PartialEq, Eq, Debug, Drop)]
 pub enum Command<K, V> {
     /// `try_insert` of the key and the value; replies `Value`, the old one. A new key may be refused.
@@ -65,6 +88,49 @@ pub enum Command<K, V> {
     /// `try_extend` by the pairs; replies `Done`. It may be refused at a pair with a new key, as `Insert` there: the pairs before it
     /// are then in the map.
     Extend(Side, Items<(K, V)>),
+    /// `try_insert` of the item into a set; replies `Flag`, true where it was new. A new item may be refused.
+    AddItem(Side, K),
+    /// `replace`; replies `Key`, the equal item that was there. A new item may be refused.
+    ReplaceItem(Side, K),
+    /// `take`; replies `Key`, the item taken out.
+    TakeItem(Side, K),
+    /// `remove`; replies `Flag`, true where there was an equal item.
+    RemoveItem(Side, K),
+    /// `contains`; replies `Flag`.
+    ContainsItem(Side, K),
+    /// `get`; replies `Key`, a copy. The copy may be refused.
+    GetItem(Side, K),
+    /// `len` of a set; replies `Len`.
+    SetLen(Side),
+    /// `clear` of a set; replies `Done`.
+    SetClear(Side),
+    /// `append` of the other set, which is then empty; replies `Done`. It may be refused where neither set is empty.
+    SetAppend(Side),
+    /// The other set becomes `try_split_off` of this one at the item, and its own items are dropped; replies `Done`. It may be refused
+    /// where this set is not empty.
+    SetSplitOff(Side, K),
+    /// The other set becomes `try_clone` of this one, and its own items are dropped; replies `Done`. It may be refused where this set
+    /// is not empty.
+    SetClone(Side),
+    /// `try_extend` of a set by the items; replies `Done`. It may be refused at a new item, as `AddItem` there: the items before it
+    /// are then in the set.
+    SetExtend(Side, Items<K>),
+    /// A `range` of a set, as `Walk`; replies `Keys`, copies, or `BadRange`.
+    SetWalk(Side, Bound<K>, Bound<K>, Items<End>),
+    /// The lazy operation on this set and the other; replies `Keys`, copies of its items. Where one of the sets has an item, room for
+    /// the copies or one of them may be refused.
+    List(SetOp, Side),
+    /// This set becomes the set of that operation, made by `sub`, `bitxor`, `bitand` or `bitor`; replies `Done`. Where one of the sets
+    /// has an item, it may be refused.
+    Keep(SetOp, Side),
+    /// `is_disjoint`: whether no item is in both sets; replies `Flag`.
+    IsDisjoint(Side),
+    /// `is_subset`: whether the other set has an equal of each item; replies `Flag`.
+    IsSubset(Side),
+    /// `is_superset`: whether this set has an equal of each item of the other; replies `Flag`.
+    IsSuperset(Side),
+    /// `cmp` of this set with the other; replies `Order`.
+    SetCmp(Side),
 }
 
 /// What a command answers.
@@ -76,7 +142,7 @@ pub enum Reply<K, V> {
     Flag(bool),
     /// A key, if there was one.
     Key(Option<K>),
-    /// A number of pairs.
+    /// A number of pairs or items.
     Len(usize),
     /// A value, if there was one.
     Value(Option<V>),
@@ -84,34 +150,57 @@ pub enum Reply<K, V> {
     Pair(Option<(K, V)>),
     /// What each step of a walk gave.
     Pairs(Items<Option<(K, V)>>),
+    /// What each step of a walk over a set gave.
+    Keys(Items<Option<K>>),
+    /// How one set stands to another.
+    Order(Ordering),
     /// The bounds are no range.
     BadRange,
-    /// The command was refused, and the world is as before, but for the pairs that `Extend` had put in.
+    /// The command was refused, and the world is as before, but for what `Extend` or `SetExtend` had put in.
     Refused(TryReserveError),
 }
 
 impl<K, V> Command<K, V> {
-    /// The side that the command names.
-    pub fn side(&self) -> Side
-        ensures { result ≡ side_of self.now }
+    /// The map or the set that the command names.
+    pub fn target(&self) -> Target
+        ensures { result ≡ target_of self.now }
     {
         match self {
-            Command::Insert(side, _, _) => *side,
-            Command::Get(side, _) => *side,
-            Command::GetKeyValue(side, _) => *side,
-            Command::ContainsKey(side, _) => *side,
-            Command::Remove(side, _) => *side,
-            Command::Set(side, _, _) => *side,
-            Command::Entry(side, _, _, _) => *side,
-            Command::RemoveEntry(side, _) => *side,
-            Command::Len(side) => *side,
-            Command::Clear(side) => *side,
-            Command::Walk(side, _, _, _) => *side,
-            Command::Write(side, _, _, _) => *side,
-            Command::Append(side) => *side,
-            Command::SplitOff(side, _) => *side,
-            Command::TryClone(side) => *side,
-            Command::Extend(side, _) => *side,
+            Command::Insert(side, _, _) => Target::OnMap(*side),
+            Command::Get(side, _) => Target::OnMap(*side),
+            Command::GetKeyValue(side, _) => Target::OnMap(*side),
+            Command::ContainsKey(side, _) => Target::OnMap(*side),
+            Command::Remove(side, _) => Target::OnMap(*side),
+            Command::Set(side, _, _) => Target::OnMap(*side),
+            Command::Entry(side, _, _, _) => Target::OnMap(*side),
+            Command::RemoveEntry(side, _) => Target::OnMap(*side),
+            Command::Len(side) => Target::OnMap(*side),
+            Command::Clear(side) => Target::OnMap(*side),
+            Command::Walk(side, _, _, _) => Target::OnMap(*side),
+            Command::Write(side, _, _, _) => Target::OnMap(*side),
+            Command::Append(side) => Target::OnMap(*side),
+            Command::SplitOff(side, _) => Target::OnMap(*side),
+            Command::TryClone(side) => Target::OnMap(*side),
+            Command::Extend(side, _) => Target::OnMap(*side),
+            Command::AddItem(side, _) => Target::OnSet(*side),
+            Command::ReplaceItem(side, _) => Target::OnSet(*side),
+            Command::TakeItem(side, _) => Target::OnSet(*side),
+            Command::RemoveItem(side, _) => Target::OnSet(*side),
+            Command::ContainsItem(side, _) => Target::OnSet(*side),
+            Command::GetItem(side, _) => Target::OnSet(*side),
+            Command::SetLen(side) => Target::OnSet(*side),
+            Command::SetClear(side) => Target::OnSet(*side),
+            Command::SetAppend(side) => Target::OnSet(*side),
+            Command::SetSplitOff(side, _) => Target::OnSet(*side),
+            Command::SetClone(side) => Target::OnSet(*side),
+            Command::SetExtend(side, _) => Target::OnSet(*side),
+            Command::SetWalk(side, _, _, _) => Target::OnSet(*side),
+            Command::List(_, side) => Target::OnSet(*side),
+            Command::Keep(_, side) => Target::OnSet(*side),
+            Command::IsDisjoint(side) => Target::OnSet(*side),
+            Command::IsSubset(side) => Target::OnSet(*side),
+            Command::IsSuperset(side) => Target::OnSet(*side),
+            Command::SetCmp(side) => Target::OnSet(*side),
         }
     }
 }

@@ -5,3 +5,4 @@ pub mod command;
 pub mod items;
 pub mod lines;
 pub mod replies;
+mod set_lines;

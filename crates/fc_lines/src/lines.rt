@@ -37,11 +37,12 @@ ghost use Rattle.fc_lines.specs.Grammar.{
   copy_of,
   extend_of,
   plain_of,
-  command_of_words,
+  on_maps_of,
 };
 
 use crate::command::{Command, End, Side};
 use crate::items::Items;
+use crate::set_lines::on_sets_in;
 use std::alloc::{AllocError, Global};
 use std::ops::Bound;
 
@@ -56,19 +57,19 @@ pub const MAX_LINE: usize = 4096;
 pub fn command_in(alloc: Global, line: &[u8]) -> Result<Option<Command<u64, u64>>, AllocError>
     ensures { IfOk result (λ command. command ≡ command_of line.now) }
 {
-    if line.len() <= MAX_LINE {
-        command_in_words(alloc, Some(line))
-    } else {
-        Ok(None)
+    if line.len() > MAX_LINE {
+        return Ok(None);
+    }
+    match on_maps_in(alloc, Some(line))? {
+        Some(command) => Ok(Some(command)),
+        None => on_sets_in(alloc, Some(line)),
     }
 }
 
-#[tactic(auto, unfolding(crate::specs::Grammar::command_of_words))]
-fn command_in_words(
-    alloc: Global,
-    words: Option<&[u8]>,
-) -> Result<Option<Command<u64, u64>>, AllocError>
-    ensures { IfOk result (λ command. command ≡ command_of_words (words_left words.entry)) }
+// The command on maps that the words ask for.
+#[tactic(auto, unfolding(crate::specs::Grammar::on_maps_of))]
+fn on_maps_in(alloc: Global, words: Option<&[u8]>) -> Result<Option<Command<u64, u64>>, AllocError>
+    ensures { IfOk result (λ command. command ≡ on_maps_of (words_left words.entry)) }
 {
     let Some((word, words)) = next_word(words) else {
         return Ok(None)
@@ -292,7 +293,7 @@ fn extend_in(alloc: Global, words: Option<&[u8]>) -> Result<Option<Command<u64, 
 }
 
 // The ends that the letters of a word name.
-fn ends_in(alloc: Global, letters: &[u8]) -> Result<Option<Vec<End>>, AllocError>
+pub(crate) fn ends_in(alloc: Global, letters: &[u8]) -> Result<Option<Vec<End>>, AllocError>
     ensures { IfOk result (λ list. option_map vec_items list ≡ some_read end_of letters.now) }
 {
     if letters.is_empty() {
@@ -349,7 +350,7 @@ fn pairs_in(alloc: Global, words: Option<&[u8]>) -> Result<Option<Vec<(u64, u64)
 }
 
 // The command, if no word is left.
-fn ending(command: Command<u64, u64>, words: Option<&[u8]>) -> Option<Command<u64, u64>>
+pub(crate) fn ending(command: Command<u64, u64>, words: Option<&[u8]>) -> Option<Command<u64, u64>>
     ensures { result ≡ ends command (words_left words.entry) }
 {
     match words {
@@ -368,7 +369,7 @@ fn next_map(words: Option<&[u8]>) -> Option<(Side, Option<&[u8]>)>
 }
 
 #[tactic(auto, unfolding(crate::specs::Grammar::number_at))]
-fn next_number(words: Option<&[u8]>) -> Option<(u64, Option<&[u8]>)>
+pub(crate) fn next_number(words: Option<&[u8]>) -> Option<(u64, Option<&[u8]>)>
     ensures { option_map (λ x. (x.0, words_left x.1)) result ≡ number_at (words_left words.entry) }
 {
     let (word, words) = next_word(words)?;
@@ -386,7 +387,7 @@ fn next_pair(words: Option<&[u8]>) -> Option<((u64, u64), Option<&[u8]>)>
 }
 
 #[tactic(auto, unfolding(crate::specs::Grammar::bound_at))]
-fn next_bound(words: Option<&[u8]>) -> Option<(Bound<u64>, Option<&[u8]>)>
+pub(crate) fn next_bound(words: Option<&[u8]>) -> Option<(Bound<u64>, Option<&[u8]>)>
     ensures { option_map (λ x. (x.0, words_left x.1)) result ≡ bound_at (words_left words.entry) }
 {
     let (word, words) = next_word(words)?;
@@ -436,7 +437,7 @@ fn map_in(word: &[u8]) -> Option<Side>
     }
 }
 
-fn number_in(word: &[u8]) -> Option<u64>
+pub(crate) fn number_in(word: &[u8]) -> Option<u64>
     ensures { result ≡ number_of word.now }
 {
     if !word.is_empty() && word.len() <= 20 && are_digits(word) {
@@ -460,14 +461,14 @@ fn value_in(digits: &[u8]) -> Option<u64>
 }
 
 // The word before the first space, and what follows that space.
-fn next_word(words: Option<&[u8]>) -> Option<(&[u8], Option<&[u8]>)>
+pub(crate) fn next_word(words: Option<&[u8]>) -> Option<(&[u8], Option<&[u8]>)>
     ensures { option_map (λ x. (x.0.now, words_left x.1)) result ≡ word_at (words_left words.entry) }
 {
     let line = words?;
     Some(first_word(line))
 }
 
-fn first_word(line: &[u8]) -> (&[u8], Option<&[u8]>)
+pub(crate) fn first_word(line: &[u8]) -> (&[u8], Option<&[u8]>)
     ensures { words_of line.now ≡ result.0.now ∷ words_left result.1 }
 {
     match space_in(line) {

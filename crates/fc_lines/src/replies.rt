@@ -1,11 +1,12 @@
 //! Replies as text.
 ghost use Rattle.std.specs.Prelude.{◌≡◌, ◌++◌, OnOk, codes, string_bytes};
 ghost use Rattle.std.specs.List.{flat_map};
-ghost use Rattle.fc_lines.specs.Texts.{text_of, step_text, fault_text};
+ghost use Rattle.fc_lines.specs.Texts.{text_of, step_text, item_text, fault_text};
 
 use crate::command::Reply;
 use fc_base::TryReserveError;
 use std::alloc::AllocError;
+use std::cmp::Ordering;
 use std::fmt::Write;
 
 /// Appends the line that is written for a reply.
@@ -25,6 +26,10 @@ pub fn write_reply(text: &mut String, reply: &Reply<u64, u64>) -> Result<(), All
         Reply::Pair(Some((key, value))) => write!(text, "some {key} {value}\n"),
         Reply::Len(n) => write!(text, "{n}\n"),
         Reply::Pairs(steps) => write_steps(text, steps.as_slice()),
+        Reply::Keys(steps) => write_items(text, steps.as_slice()),
+        Reply::Order(Ordering::Less) => write!(text, "less\n"),
+        Reply::Order(Ordering::Equal) => write!(text, "equal\n"),
+        Reply::Order(Ordering::Greater) => write!(text, "greater\n"),
         Reply::BadRange => write!(text, "bad range\n"),
         Reply::Refused(TryReserveError::AllocError) => write!(text, "refused alloc\n"),
         Reply::Refused(TryReserveError::CapacityOverflow) => { write!(text, "refused overflow\n") }
@@ -40,6 +45,21 @@ fn write_steps(text: &mut String, steps: &[Option<(u64, u64)>]) -> Result<(), Al
         match step {
             Some((key, value)) => write!(text, " {key}:{value}")?,
             None => write!(text, " -")?,
+        }
+    }
+    write!(text, "\n")
+}
+
+// Appends what each step of a walk over a set gave.
+fn write_items(text: &mut String, steps: &[Option<u64>]) -> Result<(), AllocError>
+    ensures { OnOk result (string_bytes text.new ≡ string_bytes text.old ++ codes "list" ++ flat_map item_text steps.now ++ codes "\n") }
+{
+    write!(text, "list")?;
+    for step in steps {
+        if let Some(item) = step {
+            write!(text, " {item}")?;
+        } else {
+            write!(text, " -")?;
         }
     }
     write!(text, "\n")

@@ -1,4 +1,4 @@
-//! A world of maps, and the commands over it.
+//! A world of maps and sets, and the commands on its maps.
 ghost use Rattle.std.specs.Prelude.{◌≡◌, ◌<◌, ◌↔◌, min, List, [], length, IfOk, OnErr, IfErr, IsSome, is_some, IsTrue, if◌then◌else◌};
 ghost use Rattle.std.specs.List.{AllZip};
 ghost use Rattle.fc_base.specs.declared.try_reserve_error.TryReserveError.TheVariants.{AllocError};
@@ -14,38 +14,46 @@ ghost use Rattle.fc_lines.specs.declared.command.Reply.TheVariants.{Value, Pair}
 ghost use Rattle.fc_command.specs.Walks.{given, left, walked};
 ghost use Rattle.fc_command.specs.Step.{IsNew, Step, StepOn, Runs, IsCopied, IsNotRefused, IsCopyTold};
 
+use crate::command::sets::step_set;
 use fc_base::{TryClone, TryReserveError};
-use fc_lines::command::{Command, End, Reply, Side};
+use fc_lines::command::{Command, End, Reply, Side, Target};
 use fc_lines::items::Items;
 use fc_map::map::{BTreeMap, Entry, Range, RangeMut, is_range};
+use fc_set::set::BTreeSet;
 use std::alloc::Global;
 use std::mem;
 use std::ops::Bound;
 
-/// Two maps, `a` and `b`, that commands work on.
+/// Two maps, `a` and `b`, and two sets, `s` and `t`, that commands work on.
 #[derive(Drop)]
 pub struct World<K: Ord, V> {
     /// The map that `Side::First` names.
     pub a: BTreeMap<K, V>,
     /// The map that `Side::Second` names.
     pub b: BTreeMap<K, V>,
+    /// The set that `Side::First` names.
+    pub s: BTreeSet<K>,
+    /// The set that `Side::Second` names.
+    pub t: BTreeSet<K>,
     alloc: Global,
 }
 
 impl<K: Ord + TryClone, V: TryClone> World<K, V> {
-    /// A world of empty maps, which takes no memory. Later requests go to `alloc`.
+    /// A world of empty maps and sets, which takes no memory. Later requests go to `alloc`.
     pub fn new(alloc: Global) -> World<K, V>
         ensures { IsNew result }
     {
         World {
             a: BTreeMap::new(alloc),
             b: BTreeMap::new(alloc),
+            s: BTreeSet::new(alloc),
+            t: BTreeSet::new(alloc),
             alloc,
         }
     }
 
-    /// Runs one command. A refusal is the reply `Refused`, and the world is then as it was, but for the pairs that a refused `Extend`
-    /// has put in.
+    /// Runs one command. A refusal is the reply `Refused`, and the world is then as it was, but for what a refused `Extend` or
+    /// `SetExtend` has put in.
     ///
     /// A caller shows that a copy of a key or of a value is that key or value itself. Where no copy of a key or of a value is ever
     /// refused, as of numbers, a command that only copies is answered.
@@ -55,9 +63,11 @@ impl<K: Ord + TryClone, V: TryClone> World<K, V> {
         ensures step { Step K.cmp self.old command result self.new }
         ensures copies { ((k : K) → K.never_refuses k) → ((v : V) → V.never_refuses v) → IsCopyTold command result }
     {
-        match command.side() {
-            Side::First => step_on(self.alloc, &mut self.a, &mut self.b, command),
-            Side::Second => step_on(self.alloc, &mut self.b, &mut self.a, command),
+        match command.target() {
+            Target::OnMap(Side::First) => step_on(self.alloc, &mut self.a, &mut self.b, command),
+            Target::OnMap(Side::Second) => step_on(self.alloc, &mut self.b, &mut self.a, command),
+            Target::OnSet(Side::First) => step_set(self.alloc, &mut self.s, &mut self.t, command),
+            Target::OnSet(Side::Second) => step_set(self.alloc, &mut self.t, &mut self.s, command),
         }
     }
 
@@ -85,7 +95,7 @@ impl<K: Ord + TryClone, V: TryClone> World<K, V> {
     }
 }
 
-// Runs a command on the map that it names and on the other one.
+// Runs a command on the map that it names and on the other one. One on sets does nothing here.
 fn step_on<K: Ord + TryClone, V: TryClone>(
     alloc: Global,
     map: &mut BTreeMap<K, V>,
@@ -120,6 +130,7 @@ fn step_on<K: Ord + TryClone, V: TryClone>(
         Command::SplitOff(_, key) => split_off(map, other, key),
         Command::TryClone(_) => copy(map, other),
         Command::Extend(_, pairs) => extend(map, pairs),
+        _on_sets => Reply::Done,
     }
 }
 

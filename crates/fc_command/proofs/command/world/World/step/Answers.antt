@@ -1,7 +1,8 @@
+use Rattle.std.proofs.Common.{refl}
 use Rattle.fc_command.proofs.command.world.World.step.Goals as goal
 
 pub returns-in-First-clause-step : goal.returns-in-First-clause-step
-returns-in-First-clause-step g c = rw (← c.in-First.ensures) c.step_on.ensures.step
+returns-in-First-clause-step g c = ?
 
 pub returns-in-Second-clause-step : goal.returns-in-Second-clause-step
-returns-in-Second-clause-step g c = rw (← c.in-Second.ensures) c.step_on-in-Second.ensures.step
+returns-in-Second-clause-step g c = ?

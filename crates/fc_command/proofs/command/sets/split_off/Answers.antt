@@ -1,0 +1,9 @@
+use Rattle.std.proofs.Common.{refl}
+use Rattle.fc_command.specs.SetStep.{refused}
+use Rattle.fc_command.proofs.command.sets.split_off.Goals as goal
+
+-- it was refused
+pub returns : goal.returns
+returns g c side =
+    let why = c.in-Err.ensures in
+    refused c.in-Err.e why.error (refl, why.unchanged, refl)

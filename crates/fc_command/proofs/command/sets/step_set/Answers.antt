@@ -1,0 +1,36 @@
+use Rattle.std.proofs.Common.{refl}
+use Rattle.fc_command.specs.SetStep.{refused}
+use Rattle.fc_command.proofs.RunFacts.{step_copied_on_sets}
+use Rattle.fc_command.proofs.command.sets.step_set.Goals as goal
+
+-- a new item was refused
+pub returns-in-Err-clause-step : goal.returns-in-Err-clause-step
+returns-in-Err-clause-step g c =
+    let why = c.in-Err.ensures in
+    rw c.in-AddItem.is (refused c.in-Err.e (why.new_item, why.error) (refl, why.unchanged, refl))
+
+pub returns-in-Err-replace-clause-step : goal.returns-in-Err-replace-clause-step
+returns-in-Err-replace-clause-step g c =
+    let why = c.in-Err-replace.ensures in
+    rw c.in-ReplaceItem.is (refused c.in-Err-replace.e (why.new_item, why.error) (refl, why.unchanged, refl))
+
+-- the reply holds a copy, or its refusal
+pub returns-in-GetItem-clause-step : goal.returns-in-GetItem-clause-step
+returns-in-GetItem-clause-step g c = rw c.in-GetItem.is (step_copied_on_sets g.K.Ord.cmp _ c.args.set.now c.args.other.now c.find.result (λ h. h) refl refl _ (λ e some. some) c.find.ensures.item)
+
+-- what was put in or given, on whichever side
+pub returns-in-SetExtend-clause-step : goal.returns-in-SetExtend-clause-step
+returns-in-SetExtend-clause-step g c = rw c.in-SetExtend.is (c.extend.ensures c.args.other.now c.in-SetExtend.field-0)
+
+pub returns-in-SetWalk-clause-step : goal.returns-in-SetWalk-clause-step
+returns-in-SetWalk-clause-step g c = rw c.in-SetWalk.is (c.walk.ensures c.args.other.now c.in-SetWalk.field-0)
+
+-- what was joined, split and compared, on whichever side
+pub returns-in-SetAppend-clause-step : goal.returns-in-SetAppend-clause-step
+returns-in-SetAppend-clause-step g c = rw c.in-SetAppend.is (c.append.ensures c.in-SetAppend.field-0)
+
+pub returns-in-SetSplitOff-clause-step : goal.returns-in-SetSplitOff-clause-step
+returns-in-SetSplitOff-clause-step g c = rw c.in-SetSplitOff.is (c.split_off.ensures c.in-SetSplitOff.field-0)
+
+pub returns-in-SetCmp-clause-step : goal.returns-in-SetCmp-clause-step
+returns-in-SetCmp-clause-step g c = rw c.in-SetCmp.is (c.compare.ensures c.in-SetCmp.field-0)

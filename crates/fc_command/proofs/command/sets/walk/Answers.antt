@@ -1,0 +1,12 @@
+use Rattle.std.proofs.Common.{rules, ◌<◌, length, refl}
+use Rattle.std.specs.Prelude.{IsTrue}
+use Rattle.fc_base.specs.Ranges.{is_range}
+use Rattle.fc_command.specs.SetStep.{refused}
+use Rattle.fc_command.proofs.command.sets.walk.Goals as goal
+
+-- room or a copy was refused
+pub returns : goal.returns
+returns g c o side =
+    let range : IsTrue (is_range g.K.Ord.cmp c.args.lo c.args.hi) = search rules in
+    let some : 0 < length c.args.ends = search rules in
+    refused c.in-Err.e (range, some) (refl, refl, refl)

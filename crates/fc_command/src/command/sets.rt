@@ -1,0 +1,184 @@
+//! The commands on sets.
+ghost use Rattle.std.specs.Prelude.{◌≡◌, ◌<◌, ⊤, length, IfOk, IfErr, IsSome};
+ghost use Rattle.fc_base.specs.Copies.{IsExact};
+ghost use Rattle.fc_map.specs.Entries.{Map, now_value};
+ghost use Rattle.fc_set.specs.Items.{items, item_at};
+ghost use Rattle.fc_lines.specs.declared.command.Reply.TheVariants.{Key};
+ghost use Rattle.fc_command.specs.SetStep.{StepOnSets};
+ghost use Rattle.fc_command.specs.Step.{IsCopied, IsNotRefused, IsCopyTold};
+ghost use Rattle.fc_command.specs.Walks.{given, left, walked};
+
+use fc_base::{TryClone, TryReserveError};
+use fc_lines::command::{Command, End, Reply, Side};
+use fc_lines::items::Items;
+use fc_map::map::is_range;
+use fc_set::set::{BTreeSet, Range};
+use std::alloc::Global;
+use std::ops::Bound;
+
+// Runs a command on the set that it names and on the other one. One on maps does nothing here.
+pub fn step_set<K: Ord + TryClone, V: TryClone>(
+    alloc: Global,
+    set: &mut BTreeSet<K>,
+    other: &mut BTreeSet<K>,
+    command: Command<K, V>,
+) -> Reply<K, V>
+    requires copied { K.can_clone }
+    requires same { IsExact K.same }
+    ensures step { StepOnSets K.cmp command set.old other.old result set.new other.new }
+    ensures copies { ((k : K) → K.never_refuses k) → ((v : V) → V.never_refuses v) → IsCopyTold command result }
+{
+    match command {
+        Command::AddItem(_, item) => match set.try_insert(item) {
+            Ok(new) => Reply::Flag(new),
+            Err(e) => Reply::Refused(e),
+        },
+        Command::ReplaceItem(_, item) => match set.replace(item) {
+            Ok(old) => Reply::Key(old),
+            Err(e) => Reply::Refused(e),
+        },
+        Command::TakeItem(_, item) => Reply::Key(set.take(&item)),
+        Command::RemoveItem(_, item) => Reply::Flag(set.remove(&item)),
+        Command::ContainsItem(_, item) => Reply::Flag(set.contains(&item)),
+        Command::GetItem(_, item) => find(set, &item),
+        Command::SetLen(_) => Reply::Len(set.len()),
+        Command::SetClear(_) => {
+            set.clear();
+            Reply::Done
+        }
+        Command::SetAppend(_) => append(set, other),
+        Command::SetSplitOff(_, item) => split_off(set, other, item),
+        Command::SetExtend(_, items) => extend(set, items),
+        Command::SetWalk(_, lo, hi, ends) => walk(alloc, set, lo, hi, ends),
+        Command::SetCmp(_) => compare(set, other),
+        _on_maps => Reply::Done,
+    }
+}
+
+// A copy of the item that is equal.
+fn find<K: Ord + TryClone, V: TryClone>(set: &BTreeSet<K>, item: &K) -> Reply<K, V>
+    requires copied { K.can_clone }
+    requires same { IsExact K.same }
+    ensures item { IsCopied result (Key (item_at K.cmp (items set.now) item.now)) (IsSome (item_at K.cmp (items set.now) item.now)) }
+    ensures copies { ((k : K) → K.never_refuses k) → IsNotRefused result }
+{
+    match set.get(item) {
+        Some(held) => match held.try_clone() {
+            Ok(copy) => Reply::Key(Some(copy)),
+            Err(e) => Reply::Refused(e),
+        },
+        None => Reply::Key(None),
+    }
+}
+
+// Takes the items of the other set.
+fn append<K: Ord + TryClone, V: TryClone>(
+    set: &mut BTreeSet<K>,
+    other: &mut BTreeSet<K>,
+) -> Reply<K, V>
+    ensures { (side : Side) → StepOnSets K.cmp (Command.SetAppend side) set.old other.old result set.new other.new }
+{
+    match set.append(other) {
+        Ok(()) => Reply::Done,
+        Err(e) => Reply::Refused(e),
+    }
+}
+
+// Splits the set at the item, and leaves the part from there on in the other set.
+fn split_off<K: Ord + TryClone, V: TryClone>(
+    set: &mut BTreeSet<K>,
+    other: &mut BTreeSet<K>,
+    item: K,
+) -> Reply<K, V>
+    ensures { (side : Side) → StepOnSets K.cmp (Command.SetSplitOff side item) set.old other.old result set.new other.new }
+{
+    match set.try_split_off(&item) {
+        Ok(rest) => {
+            *other = rest;
+            Reply::Done
+        }
+        Err(e) => Reply::Refused(e),
+    }
+}
+
+// Puts the items in, in turn, up to the one that is refused.
+fn extend<K: Ord + TryClone, V: TryClone>(set: &mut BTreeSet<K>, more: Items<K>) -> Reply<K, V>
+    ensures { (o : Map K ⊤) (side : Side) → StepOnSets K.cmp (Command.SetExtend side more) set.old o result set.new o }
+{
+    match set.try_extend(more.into_vec()) {
+        Ok(()) => Reply::Done,
+        Err(e) => Reply::Refused(e),
+    }
+}
+
+// Copies of what the range between the bounds gives, one for each end.
+fn walk<K: Ord + TryClone, V: TryClone>(
+    alloc: Global,
+    set: &BTreeSet<K>,
+    lo: Bound<K>,
+    hi: Bound<K>,
+    ends: Items<End>,
+) -> Reply<K, V>
+    requires copied { K.can_clone }
+    requires same { IsExact K.same }
+    ensures { (o : Map K ⊤) (side : Side) → StepOnSets K.cmp (Command.SetWalk side lo hi ends) set.now o result set.now o }
+{
+    let bounds = (lo.as_ref(), hi.as_ref());
+    if !is_range(&bounds.0, &bounds.1) {
+        return Reply::BadRange;
+    }
+    match copies(alloc, set.range(bounds), ends.as_slice()) {
+        Ok(steps) => Reply::Keys(Items::from(steps)),
+        Err(e) => Reply::Refused(e),
+    }
+}
+
+// A copy of the item at each end in turn.
+fn copies<K: Ord + TryClone>(
+    alloc: Global,
+    walk: Range<'_, K>,
+    ends: &[End],
+) -> Result<Vec<Option<K>>, TryReserveError>
+    requires copied { K.can_clone }
+    requires same { IsExact K.same }
+    ensures steps { IfOk result (λ steps. steps.items ≡ walked walk.entry ends.now) }
+    ensures refused { IfErr result (λ _. 0 < length ends.now) }
+{
+    let mut steps = Vec::with_capacity(alloc, ends.len())?;
+    let mut walk = walk;
+    for end in ends {
+        let step = copy_step(step_at(&mut walk, *end))?;
+        steps.push(step).unwrap();
+    }
+    Ok(steps)
+}
+
+// The item at the end, which is then given.
+fn step_at<'a, K: Ord>(walk: &mut Range<'a, K>, end: End) -> Option<&'a K>
+    ensures gives { now_value result ≡ given end walk.old }
+    ensures leaves { walk.new ≡ left end walk.old }
+{
+    match end {
+        End::Front => walk.next(),
+        End::Back => walk.next_back(),
+    }
+}
+
+// A copy of an item, if there is one.
+fn copy_step<K: TryClone>(item: Option<&K>) -> Result<Option<K>, TryReserveError>
+    requires copied { K.can_clone }
+    requires same { IsExact K.same }
+    ensures { IfOk result (λ copy. copy ≡ now_value item.entry) }
+{
+    match item {
+        Some(item) => Ok(Some(item.try_clone()?)),
+        None => Ok(None),
+    }
+}
+
+// How the set stands to the other.
+fn compare<K: Ord + TryClone, V: TryClone>(set: &BTreeSet<K>, other: &BTreeSet<K>) -> Reply<K, V>
+    ensures { (side : Side) → StepOnSets K.cmp (Command.SetCmp side) set.now other.now result set.now other.now }
+{
+    Reply::Order(set.cmp(other))
+}

@@ -1,0 +1,222 @@
+//! Lines as commands on sets.
+ghost use Rattle.std.specs.Prelude.{◌≡◌, IfOk, vec_items};
+ghost use Rattle.std.specs.Option.{option_map};
+ghost use Rattle.fc_lines.specs.Lines.{words_left};
+ghost use Rattle.fc_lines.specs.Grammar.{
+  number_of,
+  some_read,
+  set_named,
+  op_of,
+  set_at,
+  with_set,
+  with_set_and_item,
+  set_of_word,
+  set_and_item_of_word,
+  keep_of,
+  walk_items_of,
+  extend_items_of,
+  plain_on_sets_of,
+  on_sets_of,
+};
+
+use crate::command::{Command, SetOp, Side};
+use crate::items::Items;
+use crate::lines::{ending, ends_in, first_word, next_bound, next_number, next_word, number_in};
+use std::alloc::{AllocError, Global};
+
+// The command on sets that the words ask for.
+#[tactic(auto, unfolding(crate::specs::Grammar::on_sets_of))]
+pub fn on_sets_in(
+    alloc: Global,
+    words: Option<&[u8]>,
+) -> Result<Option<Command<u64, u64>>, AllocError>
+    ensures { IfOk result (λ command. command ≡ on_sets_of (words_left words.entry)) }
+{
+    let Some((word, words)) = next_word(words) else {
+        return Ok(None)
+    };
+    match word {
+        b"walk" => walk_in(alloc, words),
+        b"extend" => extend_in(alloc, words),
+        _ => Ok(plain_in(word, words)),
+    }
+}
+
+// The command without a list that the words after its word ask for.
+#[tactic(auto, unfolding(crate::specs::Grammar::plain_on_sets_of))]
+fn plain_in(word: &[u8], words: Option<&[u8]>) -> Option<Command<u64, u64>>
+    ensures { result ≡ plain_on_sets_of word.entry.now (words_left words.entry) }
+{
+    if word == b"keep".as_slice() {
+        return keep_in(words);
+    }
+    match set_in(word, words) {
+        Some(command) => Some(command),
+        None => set_and_item_in(word, words),
+    }
+}
+
+// The words after such a word are a set.
+#[tactic(auto, unfolding(crate::specs::Grammar::set_of_word))]
+fn set_in(word: &[u8], words: Option<&[u8]>) -> Option<Command<u64, u64>>
+    ensures { result ≡ set_of_word word.entry.now (words_left words.entry) }
+{
+    let (side, words) = next_set(words)?;
+    ending(with_set_in(word, side)?, words)
+}
+
+// The words after such a word are a set and an item.
+#[tactic(auto, unfolding(crate::specs::Grammar::set_and_item_of_word))]
+fn set_and_item_in(word: &[u8], words: Option<&[u8]>) -> Option<Command<u64, u64>>
+    ensures { result ≡ set_and_item_of_word word.entry.now (words_left words.entry) }
+{
+    let (side, words) = next_set(words)?;
+    let (item, words) = next_number(words)?;
+    ending(with_set_and_item_in(word, side, item)?, words)
+}
+
+// The command that a word asks for on a set.
+fn with_set_in(word: &[u8], side: Side) -> Option<Command<u64, u64>>
+    ensures { result ≡ with_set word.entry.now side }
+{
+    if word == b"len".as_slice() {
+        Some(Command::SetLen(side))
+    } else if word == b"clear".as_slice() {
+        Some(Command::SetClear(side))
+    } else if word == b"append".as_slice() {
+        Some(Command::SetAppend(side))
+    } else if word == b"copy".as_slice() {
+        Some(Command::SetClone(side))
+    } else if word == b"disjoint".as_slice() {
+        Some(Command::IsDisjoint(side))
+    } else if word == b"subset".as_slice() {
+        Some(Command::IsSubset(side))
+    } else if word == b"superset".as_slice() {
+        Some(Command::IsSuperset(side))
+    } else if word == b"cmp".as_slice() {
+        Some(Command::SetCmp(side))
+    } else {
+        Some(Command::List(op_in(word)?, side))
+    }
+}
+
+// The command that a word asks for on a set and an item.
+fn with_set_and_item_in(word: &[u8], side: Side, item: u64) -> Option<Command<u64, u64>>
+    ensures { result ≡ with_set_and_item word.entry.now side item }
+{
+    if word == b"add".as_slice() {
+        Some(Command::AddItem(side, item))
+    } else if word == b"replace".as_slice() {
+        Some(Command::ReplaceItem(side, item))
+    } else if word == b"take".as_slice() {
+        Some(Command::TakeItem(side, item))
+    } else if word == b"drop".as_slice() {
+        Some(Command::RemoveItem(side, item))
+    } else if word == b"in".as_slice() {
+        Some(Command::ContainsItem(side, item))
+    } else if word == b"find".as_slice() {
+        Some(Command::GetItem(side, item))
+    } else if word == b"split".as_slice() {
+        Some(Command::SetSplitOff(side, item))
+    } else {
+        None
+    }
+}
+
+// The operation on two sets that a word names.
+fn op_in(word: &[u8]) -> Option<SetOp>
+    ensures { result ≡ op_of word.entry.now }
+{
+    match word {
+        b"diff" => Some(SetOp::Difference),
+        b"sym" => Some(SetOp::SymmetricDifference),
+        b"inter" => Some(SetOp::Intersection),
+        b"union" => Some(SetOp::Union),
+        _ => None,
+    }
+}
+
+#[tactic(auto, unfolding(crate::specs::Grammar::keep_of))]
+fn keep_in(words: Option<&[u8]>) -> Option<Command<u64, u64>>
+    ensures { result ≡ keep_of (words_left words.entry) }
+{
+    let (word, words) = next_word(words)?;
+    let op = op_in(word)?;
+    let (side, words) = next_set(words)?;
+    ending(Command::Keep(op, side), words)
+}
+
+#[tactic(auto, unfolding(crate::specs::Grammar::walk_items_of))]
+fn walk_in(alloc: Global, words: Option<&[u8]>) -> Result<Option<Command<u64, u64>>, AllocError>
+    ensures { IfOk result (λ command. command ≡ walk_items_of (words_left words.entry)) }
+{
+    let Some((side, words)) = next_set(words) else {
+        return Ok(None)
+    };
+    let Some((lo, words)) = next_bound(words) else {
+        return Ok(None)
+    };
+    let Some((hi, words)) = next_bound(words) else {
+        return Ok(None)
+    };
+    let Some((letters, words)) = next_word(words) else {
+        return Ok(None)
+    };
+    let Some(list) = ends_in(alloc, letters)? else {
+        return Ok(None)
+    };
+    Ok(ending(Command::SetWalk(side, lo, hi, Items::from(list)), words))
+}
+
+#[tactic(auto, unfolding(crate::specs::Grammar::extend_items_of))]
+fn extend_in(alloc: Global, words: Option<&[u8]>) -> Result<Option<Command<u64, u64>>, AllocError>
+    ensures { IfOk result (λ command. command ≡ extend_items_of (words_left words.entry)) }
+{
+    let Some((side, words)) = next_set(words) else {
+        return Ok(None)
+    };
+    let Some(list) = items_in(alloc, words)? else {
+        return Ok(None)
+    };
+    Ok(Some(Command::SetExtend(side, Items::from(list))))
+}
+
+// The items of all words that are left.
+fn items_in(alloc: Global, words: Option<&[u8]>) -> Result<Option<Vec<u64>>, AllocError>
+    ensures { IfOk result (λ list. option_map vec_items list ≡ some_read number_of (words_left words.entry)) }
+{
+    let mut list = Vec::new(alloc);
+    let mut words = words;
+    while let Some(line) = words {
+        let (word, rest) = first_word(line);
+        let Some(item) = number_in(word) else {
+            return Ok(None)
+        };
+        list.push(item)?;
+        words = rest;
+    }
+    if list.is_empty() {
+        Ok(None)
+    } else {
+        Ok(Some(list))
+    }
+}
+
+#[tactic(auto, unfolding(crate::specs::Grammar::set_at))]
+fn next_set(words: Option<&[u8]>) -> Option<(Side, Option<&[u8]>)>
+    ensures { option_map (λ x. (x.0, words_left x.1)) result ≡ set_at (words_left words.entry) }
+{
+    let (word, words) = next_word(words)?;
+    let side = set_named_in(word)?;
+    Some((side, words))
+}
+
+fn set_named_in(word: &[u8]) -> Option<Side>
+    ensures { result ≡ set_named word.entry.now }
+{
+    match word {
+        b"s" => Some(Side::First),
+        b"t" => Some(Side::Second),
+        _ => None,
+    }
+}
