@@ -1,6 +1,7 @@
 mod CutFacts
 mod ExampleFacts
 mod ItemFacts
+mod KindFacts
 mod RunFacts
 mod ServeFacts
 mod SetExampleFacts

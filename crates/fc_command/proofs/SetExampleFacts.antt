@@ -77,7 +77,7 @@ operation_answers : (answer_on_sets {V = ℕ} nat_cmp (ListItems Difference Firs
 operation_answers = (refl, refl, refl, refl, refl, refl, refl, refl)
 
 -- An extension can be read item by item: each is put in as it is added, and the one where it stops may be refused as it is there.
-module _ {K V : Type 0} (cmp : K → K → Ordering) (side : Side) (m o : List K) where
+module _ {K : Type 0} (V : Type 0) (cmp : K → K → Ordering) (side : Side) (m o : List K) where
   put_in_turn : (k : K) (more : List K) → answer_on_sets {V = V} cmp (SetExtend side (k ∷ more)) m o ≡ answer_on_sets cmp (SetExtend side more) (answer_on_sets {V = V} cmp (AddItem side k) m o).m o
   put_in_turn k more = refl
 

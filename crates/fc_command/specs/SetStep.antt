@@ -80,12 +80,13 @@ module _ {K V : Type 0} (cmp : K → K → Ordering) where
   MayStopOnSets (SetExtend side more) m m' e = AreExtendedUpTo cmp m more m' e
   MayStopOnSets c m m' e = ⊥
 
-  -- Whether a command is always refused: an insertion of a new item into a set of the greatest length, and an append where neither
-  -- set is empty and the lengths add past it.
+  -- Whether a command is always refused: an insertion of a new item into a set of the greatest length, an append where neither set is
+  -- empty and the lengths add past it, and an extension that would make the set longer.
   abbrev pub MustRefuseOnSets : Command K V → List K → List K → Type 0
   MustRefuseOnSets (AddItem side k) m o = (item_at cmp m k ≡ None) × (length m ≡ 2 ^ 64 - 1)
   MustRefuseOnSets (ReplaceItem side k) m o = (item_at cmp m k ≡ None) × (length m ≡ 2 ^ 64 - 1)
   MustRefuseOnSets (SetAppend side) m o = (0 < length m) × (0 < length o) × (2 ^ 64 - 1 < length m + length o)
+  MustRefuseOnSets (SetExtend side more) m o = 2 ^ 64 - 1 < length (extended_items cmp m more)
   MustRefuseOnSets c m o = ⊥
 
   -- A command on the named set m and the other set o is answered by the table, or it is refused and changes nothing, or it is refused

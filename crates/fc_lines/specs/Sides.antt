@@ -1,5 +1,4 @@
 -- Which map or set a command names.
-use Rattle.fc_lines.specs.declared.command.Side.{Side}
 use Rattle.fc_lines.specs.declared.command.Target.{Target}
 use Rattle.fc_lines.specs.declared.command.Target.TheVariants.{OnMap, OnSet}
 use Rattle.fc_lines.specs.declared.command.Command.{Command}

@@ -8,6 +8,7 @@ ghost use Rattle.fc_command.specs.SetStep.{StepOnSets};
 ghost use Rattle.fc_command.specs.Step.{IsCopied, IsNotRefused, IsCopyTold};
 ghost use Rattle.fc_command.specs.Walks.{given, left, walked};
 
+use crate::command::operations::{keep, list};
 use fc_base::{TryClone, TryReserveError};
 use fc_lines::command::{Command, End, Reply, Side};
 use fc_lines::items::Items;
@@ -48,8 +49,14 @@ pub fn step_set<K: Ord + TryClone, V: TryClone>(
         }
         Command::SetAppend(_) => append(set, other),
         Command::SetSplitOff(_, item) => split_off(set, other, item),
+        Command::SetClone(_) => copy(set, other),
         Command::SetExtend(_, items) => extend(set, items),
         Command::SetWalk(_, lo, hi, ends) => walk(alloc, set, lo, hi, ends),
+        Command::List(op, _) => list(alloc, op, set, other),
+        Command::Keep(op, _) => keep(op, set, other),
+        Command::IsDisjoint(_) => Reply::Flag(set.is_disjoint(other)),
+        Command::IsSubset(_) => Reply::Flag(set.is_subset(other)),
+        Command::IsSuperset(_) => Reply::Flag(set.is_superset(other)),
         Command::SetCmp(_) => compare(set, other),
         _on_maps => Reply::Done,
     }
@@ -106,7 +113,11 @@ fn extend<K: Ord + TryClone, V: TryClone>(set: &mut BTreeSet<K>, more: Items<K>)
     ensures { (o : Map K ⊤) (side : Side) → StepOnSets K.cmp (Command.SetExtend side more) set.old o result set.new o }
 {
     match set.try_extend(more.into_vec()) {
-        Ok(()) => Reply::Done,
+        Ok(()) => {
+            // Shows that the set isn't longer than a set can be.
+            let _len = set.len();
+            Reply::Done
+        }
         Err(e) => Reply::Refused(e),
     }
 }
@@ -181,4 +192,22 @@ fn compare<K: Ord + TryClone, V: TryClone>(set: &BTreeSet<K>, other: &BTreeSet<K
     ensures { (side : Side) → StepOnSets K.cmp (Command.SetCmp side) set.now other.now result set.now other.now }
 {
     Reply::Order(set.cmp(other))
+}
+
+// Makes the other set a copy of the set.
+fn copy<K: Ord + TryClone, V: TryClone>(
+    set: &BTreeSet<K>,
+    other: &mut BTreeSet<K>,
+) -> Reply<K, V>
+    requires copied { K.can_clone }
+    requires same { IsExact K.same }
+    ensures { (side : Side) → StepOnSets K.cmp (Command.SetClone side) set.now other.old result set.now other.new }
+{
+    match set.try_clone() {
+        Ok(items) => {
+            *other = items;
+            Reply::Done
+        }
+        Err(e) => Reply::Refused(e),
+    }
 }

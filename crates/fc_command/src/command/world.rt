@@ -12,7 +12,7 @@ ghost use Rattle.fc_command.specs.Writing.{flagged, rewritten};
 ghost use Rattle.fc_map.specs.Entries.{Map, entries, now_pair};
 ghost use Rattle.fc_lines.specs.declared.command.Reply.TheVariants.{Value, Pair};
 ghost use Rattle.fc_command.specs.Walks.{given, left, walked};
-ghost use Rattle.fc_command.specs.Step.{IsNew, Step, StepOn, Runs, IsCopied, IsNotRefused, IsCopyTold};
+ghost use Rattle.fc_command.specs.Step.{IsNew, Step, StepAt, StepOn, Runs, IsCopied, IsNotRefused, IsCopyTold};
 
 use crate::command::sets::step_set;
 use fc_base::{TryClone, TryReserveError};
@@ -64,10 +64,34 @@ impl<K: Ord + TryClone, V: TryClone> World<K, V> {
         ensures copies { ((k : K) → K.never_refuses k) → ((v : V) → V.never_refuses v) → IsCopyTold command result }
     {
         match command.target() {
-            Target::OnMap(Side::First) => step_on(self.alloc, &mut self.a, &mut self.b, command),
-            Target::OnMap(Side::Second) => step_on(self.alloc, &mut self.b, &mut self.a, command),
-            Target::OnSet(Side::First) => step_set(self.alloc, &mut self.s, &mut self.t, command),
-            Target::OnSet(Side::Second) => step_set(self.alloc, &mut self.t, &mut self.s, command),
+            Target::OnMap(side) => self.step_on_map(side, command),
+            Target::OnSet(side) => self.step_on_set(side, command),
+        }
+    }
+
+    // Runs a command on the map of the side.
+    fn step_on_map(&mut self, side: Side, command: Command<K, V>) -> Reply<K, V>
+        requires copied { K.can_clone × V.can_clone }
+        requires same { IsExact K.same × IsExact V.same }
+        ensures step { StepAt K.cmp (Target.OnMap side) self.old command result self.new }
+        ensures copies { ((k : K) → K.never_refuses k) → ((v : V) → V.never_refuses v) → IsCopyTold command result }
+    {
+        match side {
+            Side::First => step_on(self.alloc, &mut self.a, &mut self.b, command),
+            Side::Second => step_on(self.alloc, &mut self.b, &mut self.a, command),
+        }
+    }
+
+    // Runs a command on the set of the side.
+    fn step_on_set(&mut self, side: Side, command: Command<K, V>) -> Reply<K, V>
+        requires copied { K.can_clone × V.can_clone }
+        requires same { IsExact K.same × IsExact V.same }
+        ensures step { StepAt K.cmp (Target.OnSet side) self.old command result self.new }
+        ensures copies { ((k : K) → K.never_refuses k) → ((v : V) → V.never_refuses v) → IsCopyTold command result }
+    {
+        match side {
+            Side::First => step_set(self.alloc, &mut self.s, &mut self.t, command),
+            Side::Second => step_set(self.alloc, &mut self.t, &mut self.s, command),
         }
     }
 

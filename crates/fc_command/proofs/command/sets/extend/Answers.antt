@@ -1,4 +1,4 @@
-use Rattle.std.proofs.Common.{◌≡◌, Global, length, refl, ap, ◌∙◌}
+use Rattle.std.proofs.Common.{◌≡◌, Global, length, refl, ap, ◌∙◌, arith}
 use Rattle.std.specs.Vec.Iter.{into_iter_items, into_iter_steps}
 use Rattle.std.proofs.lemmas.Iterator.Adapters.{YieldsList-from_vec}
 use Rattle.fc_set.specs.Items.{items, extended_items, AreExtendedUpTo}
@@ -11,7 +11,9 @@ pub returns-in-Ok : goal.returns-in-Ok
 returns-in-Ok g c o side =
     let steps = into_iter_steps {X = g.row.K.Denot} {Z = Global} in
     let put_in = given_all steps _ c.args.more (λ all. items c.try_extend.new.self ≡ extended_items g.K.Ord.cmp (items c.args.set.now) all) (λ walk is. YieldsList-from_vec c.args.more (is.0 ∙ c.into_vec.ensures) (is.1 ∙ c.into_vec.result.ok.0 ∙ ap length c.into_vec.ensures)) c.in-Ok.ensures.all in
-    answered (λ h. h) (refl, put_in, refl)
+    let all = ap length put_in in
+    let len = c.len.ensures.value in
+    answered (λ past. omega (arith, all, len, past)) (refl, put_in, refl)
 
 -- those before the one that was refused were put in
 pub returns-in-Err : goal.returns-in-Err

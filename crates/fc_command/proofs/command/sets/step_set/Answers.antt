@@ -1,5 +1,6 @@
 use Rattle.std.proofs.Common.{refl}
 use Rattle.fc_command.specs.SetStep.{refused}
+use Rattle.fc_command.proofs.KindFacts.{not_on_sets, told_done}
 use Rattle.fc_command.proofs.RunFacts.{step_copied_on_sets}
 use Rattle.fc_command.proofs.command.sets.step_set.Goals as goal
 
@@ -25,6 +26,16 @@ returns-in-SetExtend-clause-step g c = rw c.in-SetExtend.is (c.extend.ensures c.
 pub returns-in-SetWalk-clause-step : goal.returns-in-SetWalk-clause-step
 returns-in-SetWalk-clause-step g c = rw c.in-SetWalk.is (c.walk.ensures c.args.other.now c.in-SetWalk.field-0)
 
+-- what was copied, listed and kept, on whichever side
+pub returns-in-SetClone-clause-step : goal.returns-in-SetClone-clause-step
+returns-in-SetClone-clause-step g c = rw c.in-SetClone.is (c.copy.ensures c.in-SetClone.field-0)
+
+pub returns-in-List-clause-step : goal.returns-in-List-clause-step
+returns-in-List-clause-step g c = rw c.in-List.is (c.list.ensures c.in-List.field-1)
+
+pub returns-in-Keep-clause-step : goal.returns-in-Keep-clause-step
+returns-in-Keep-clause-step g c = rw c.in-Keep.is (c.keep.ensures c.in-Keep.field-1)
+
 -- what was joined, split and compared, on whichever side
 pub returns-in-SetAppend-clause-step : goal.returns-in-SetAppend-clause-step
 returns-in-SetAppend-clause-step g c = rw c.in-SetAppend.is (c.append.ensures c.in-SetAppend.field-0)
@@ -34,3 +45,10 @@ returns-in-SetSplitOff-clause-step g c = rw c.in-SetSplitOff.is (c.split_off.ens
 
 pub returns-in-SetCmp-clause-step : goal.returns-in-SetCmp-clause-step
 returns-in-SetCmp-clause-step g c = rw c.in-SetCmp.is (c.compare.ensures c.in-SetCmp.field-0)
+
+-- a command on maps
+pub returns-in_default : goal.returns-in_default
+returns-in_default g c = record {
+  step = not_on_sets g.K.Ord.cmp c.args.set.now c.args.other.now c.args.command c.in_default.not-AddItem c.in_default.not-ReplaceItem c.in_default.not-TakeItem c.in_default.not-RemoveItem c.in_default.not-ContainsItem c.in_default.not-GetItem c.in_default.not-SetLen c.in_default.not-SetClear c.in_default.not-SetAppend c.in_default.not-SetSplitOff c.in_default.not-SetClone c.in_default.not-SetExtend c.in_default.not-SetWalk c.in_default.not-List c.in_default.not-Keep c.in_default.not-IsDisjoint c.in_default.not-IsSubset c.in_default.not-IsSuperset c.in_default.not-SetCmp;
+  copies = λ key value. told_done c.args.command;
+}

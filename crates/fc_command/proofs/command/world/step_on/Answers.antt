@@ -1,5 +1,6 @@
 use Rattle.std.proofs.Common.{refl}
 use Rattle.fc_command.specs.Step.{refused}
+use Rattle.fc_command.proofs.KindFacts.{not_on_maps, told_done}
 use Rattle.fc_command.proofs.RunFacts.{step_copied}
 use Rattle.fc_command.proofs.command.world.step_on.Goals as goal
 
@@ -40,3 +41,10 @@ returns-in-SplitOff-clause-step g c = rw c.in-SplitOff.is (c.split_off.ensures c
 
 pub returns-in-TryClone-clause-step : goal.returns-in-TryClone-clause-step
 returns-in-TryClone-clause-step g c = rw c.in-TryClone.is (c.copy.ensures c.in-TryClone.field-0)
+
+-- a command on sets
+pub returns-in_default : goal.returns-in_default
+returns-in_default g c = record {
+  step = not_on_maps g.K.Ord.cmp c.args.map.now c.args.other.now c.args.command c.in_default.not-Insert c.in_default.not-Get c.in_default.not-GetKeyValue c.in_default.not-ContainsKey c.in_default.not-Remove c.in_default.not-Set c.in_default.not-Entry c.in_default.not-RemoveEntry c.in_default.not-Len c.in_default.not-Clear c.in_default.not-Walk c.in_default.not-Write c.in_default.not-Append c.in_default.not-SplitOff c.in_default.not-TryClone c.in_default.not-Extend;
+  copies = λ key value. told_done c.args.command;
+}

@@ -1,8 +1,7 @@
-use Rattle.std.proofs.Common.{refl}
 use Rattle.fc_command.proofs.command.world.World.step.Goals as goal
 
-pub returns-in-First-clause-step : goal.returns-in-First-clause-step
-returns-in-First-clause-step g c = ?
+pub returns-in-OnMap-clause-step : goal.returns-in-OnMap-clause-step
+returns-in-OnMap-clause-step g c = rw (← c.in-OnMap.ensures) c.step_on_map.ensures.step
 
-pub returns-in-Second-clause-step : goal.returns-in-Second-clause-step
-returns-in-Second-clause-step g c = ?
+pub returns-in-OnSet-clause-step : goal.returns-in-OnSet-clause-step
+returns-in-OnSet-clause-step g c = rw (← c.in-OnSet.ensures) c.step_on_set.ensures.step
