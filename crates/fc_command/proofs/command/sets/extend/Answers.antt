@@ -12,7 +12,7 @@ returns-in-Ok g c o side =
     let steps = into_iter_steps {X = g.row.K.Denot} {Z = Global} in
     let put_in = given_all steps _ c.args.more (λ all. items c.try_extend.new.self ≡ extended_items g.K.Ord.cmp (items c.args.set.now) all) (λ walk is. YieldsList-from_vec c.args.more (is.0 ∙ c.into_vec.ensures) (is.1 ∙ c.into_vec.result.ok.0 ∙ ap length c.into_vec.ensures)) c.in-Ok.ensures.all in
     let all = ap length put_in in
-    let len = c.len.ensures.value in
+    let len = c.len-len.ensures.value in
     answered (λ past. omega (arith, all, len, past)) (refl, put_in, refl)
 
 -- those before the one that was refused were put in
