@@ -1,5 +1,5 @@
 //! Copies that may be refused.
-ghost use Rattle.std.specs.Prelude.{◌≡◌, MatchResult, ⊤};
+ghost use Rattle.std.specs.Prelude.{◌≡◌, ◌+◌, ◌≤◌, ◌++◌, length, IsTrue, MatchResult, ⊤, vec_len, vec_capacity};
 
 use crate::try_reserve_error::TryReserveError;
 
@@ -20,6 +20,29 @@ pub trait TryClone: Drop {
         Self: Sized,
         requires { can_clone }
         ensures { MatchResult result (same self.now) (λ _. ¬ (never_refuses self.now)) };
+
+    /// Puts all sources behind the items at once, where a value's bytes are a copy of it; else nothing is done. It tells which.
+    fn put_bytes(_copies: &mut Vec<Self>, _sources: &[Self]) -> bool
+    where
+        Self: Sized,
+        requires { vec_len _copies.old + length _sources.now ≤ vec_capacity _copies.old }
+        ensures put { IsTrue result → _copies.new.items ≡ _copies.old.items ++ _sources.now }
+        ensures same { IsTrue result → (x : Self) → same x x }
+        ensures left { (result ≡ false) → _copies.new ≡ _copies.old }
+        ensures room { vec_capacity _copies.old ≤ vec_capacity _copies.new }
+    {
+        false
+    }
+}
+
+// Puts the items behind the others, for which there is room.
+fn put_all<T: Copy>(copies: &mut Vec<T>, sources: &[T]) -> bool
+    requires { vec_len copies.old + length sources.now ≤ vec_capacity copies.old }
+    ensures put { copies.new.items ≡ copies.old.items ++ sources.now }
+    ensures done { IsTrue result }
+    ensures room { vec_capacity copies.old ≤ vec_capacity copies.new }
+{
+    copies.extend_from_slice(sources).is_ok()
 }
 
 impl TryClone for u8 {
@@ -29,6 +52,10 @@ impl TryClone for u8 {
 
     fn try_clone(&self) -> Result<u8, TryReserveError> {
         Ok(*self)
+    }
+
+    fn put_bytes(copies: &mut Vec<u8>, sources: &[u8]) -> bool {
+        put_all(copies, sources)
     }
 }
 
@@ -40,6 +67,10 @@ impl TryClone for u16 {
     fn try_clone(&self) -> Result<u16, TryReserveError> {
         Ok(*self)
     }
+
+    fn put_bytes(copies: &mut Vec<u16>, sources: &[u16]) -> bool {
+        put_all(copies, sources)
+    }
 }
 
 impl TryClone for u32 {
@@ -49,6 +80,10 @@ impl TryClone for u32 {
 
     fn try_clone(&self) -> Result<u32, TryReserveError> {
         Ok(*self)
+    }
+
+    fn put_bytes(copies: &mut Vec<u32>, sources: &[u32]) -> bool {
+        put_all(copies, sources)
     }
 }
 
@@ -60,6 +95,10 @@ impl TryClone for u64 {
     fn try_clone(&self) -> Result<u64, TryReserveError> {
         Ok(*self)
     }
+
+    fn put_bytes(copies: &mut Vec<u64>, sources: &[u64]) -> bool {
+        put_all(copies, sources)
+    }
 }
 
 impl TryClone for usize {
@@ -69,6 +108,10 @@ impl TryClone for usize {
 
     fn try_clone(&self) -> Result<usize, TryReserveError> {
         Ok(*self)
+    }
+
+    fn put_bytes(copies: &mut Vec<usize>, sources: &[usize]) -> bool {
+        put_all(copies, sources)
     }
 }
 
@@ -80,6 +123,10 @@ impl TryClone for i8 {
     fn try_clone(&self) -> Result<i8, TryReserveError> {
         Ok(*self)
     }
+
+    fn put_bytes(copies: &mut Vec<i8>, sources: &[i8]) -> bool {
+        put_all(copies, sources)
+    }
 }
 
 impl TryClone for i16 {
@@ -89,6 +136,10 @@ impl TryClone for i16 {
 
     fn try_clone(&self) -> Result<i16, TryReserveError> {
         Ok(*self)
+    }
+
+    fn put_bytes(copies: &mut Vec<i16>, sources: &[i16]) -> bool {
+        put_all(copies, sources)
     }
 }
 
@@ -100,6 +151,10 @@ impl TryClone for i32 {
     fn try_clone(&self) -> Result<i32, TryReserveError> {
         Ok(*self)
     }
+
+    fn put_bytes(copies: &mut Vec<i32>, sources: &[i32]) -> bool {
+        put_all(copies, sources)
+    }
 }
 
 impl TryClone for i64 {
@@ -109,6 +164,10 @@ impl TryClone for i64 {
 
     fn try_clone(&self) -> Result<i64, TryReserveError> {
         Ok(*self)
+    }
+
+    fn put_bytes(copies: &mut Vec<i64>, sources: &[i64]) -> bool {
+        put_all(copies, sources)
     }
 }
 
@@ -120,6 +179,10 @@ impl TryClone for isize {
     fn try_clone(&self) -> Result<isize, TryReserveError> {
         Ok(*self)
     }
+
+    fn put_bytes(copies: &mut Vec<isize>, sources: &[isize]) -> bool {
+        put_all(copies, sources)
+    }
 }
 
 impl TryClone for bool {
@@ -129,6 +192,10 @@ impl TryClone for bool {
 
     fn try_clone(&self) -> Result<bool, TryReserveError> {
         Ok(*self)
+    }
+
+    fn put_bytes(copies: &mut Vec<bool>, sources: &[bool]) -> bool {
+        put_all(copies, sources)
     }
 }
 

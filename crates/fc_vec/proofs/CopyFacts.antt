@@ -12,6 +12,14 @@ module _ {T : Type 0} (R : T → T → Type 0) where
   pub none_copied : (old xs : List T) → IsExtended R old (take 0 xs) old
   none_copied old xs = record { copies = []; copied = tt; is = sym (append-nil old) }
 
+  same_zip : ((x : T) → R x x) → (xs : List T) → AllZip R xs xs
+  same_zip same [] = tt
+  same_zip same (x ∷ xs) = (same x, same_zip same xs)
+
+  -- The sources themselves were put behind the items.
+  pub all_put : (old xs new : List T) → ((x : T) → R x x) → new ≡ old ++ xs → IsExtended R old xs new
+  all_put old xs new same is = record { copies = xs; copied = same_zip same xs; is = is }
+
   -- One more item was copied, and its copy put behind the others.
   pub one_copied : (old xs mid new : List T) (i : ℕ) (x y : T) → i < length xs → x ≡ get_or xs i x → IsExtended R old (take i xs) mid → R x y → new ≡ mid ++ y ∷ [] → IsExtended R old (take (i + 1) xs) new
   one_copied old xs mid new i x y h e m r is = record {

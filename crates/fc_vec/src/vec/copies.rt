@@ -7,8 +7,22 @@ use super::fallible_vec::FallibleVec;
 use fc_base::{TryClone, TryReserveError};
 use std::alloc::Global;
 
-// Puts a copy of each source behind the items, for which there is room.
+// Puts a copy of each source behind the items, for which there is room: all at once where their bytes are copies.
 pub(crate) fn push_copies<T: TryClone>(v: &mut Vec<T>, sources: &[T]) -> Result<(), TryReserveError>
+    requires copied { T.can_clone }
+    requires room { vec_len v.old + length sources.now ≤ vec_capacity v.old }
+    ensures extended { OnOk result (IsExtended T.same v.old.items sources.now v.new.items) }
+    ensures refused { IfErr result (λ _. IsExtendedUpTo T.same T.never_refuses v.old.items sources.now v.new.items) }
+    ensures room { vec_capacity v.old ≤ vec_capacity v.new }
+{
+    if T::put_bytes(v, sources) {
+        return Ok(());
+    }
+    push_each(v, sources)
+}
+
+// The same by a call for each item.
+fn push_each<T: TryClone>(v: &mut Vec<T>, sources: &[T]) -> Result<(), TryReserveError>
     requires copied { T.can_clone }
     requires room { vec_len v.old + length sources.now ≤ vec_capacity v.old }
     ensures extended { OnOk result (IsExtended T.same v.old.items sources.now v.new.items) }

@@ -34,4 +34,4 @@ loop-i-preserved g c =
     let more = subst (λ l. IsExtended g.T.TryClone.same c.loop-i.made.items l new.items) c.as_slice.ensures c.in_ok-push_copies.ensures.extended in
     let next = joined_more parts i part (omega (arith, c.loop-i-test.true, c.loop-i.invariant.0)) c.index-parts-i.is in
     let grown = subst (λ l. IsExtended g.T.TryClone.same c.args.made.now.items l new.items) (sym next) (extended_on g.T.TryClone.same c.args.made.now.items (joined (take i parts)) c.loop-i.made.items part.items new.items v.2 more) in
-    (refl, c.push_copies.ensures.room ∙ v.1, grown)
+    (refl, omega (arith, v.1, c.push_copies.ensures.room), grown)

@@ -1,7 +1,7 @@
 use Rattle.std.proofs.Common.{arith, refl, ◌∙◌}
 use Rattle.std.proofs.lemmas.Result.{err_from_is_err_and}
 use Rattle.fc_vec.proofs.CopyFacts.{one_copied, front_copied}
-use Rattle.fc_vec.proofs.vec.copies.push_copies.Goals as goal
+use Rattle.fc_vec.proofs.vec.copies.push_each.Goals as goal
 
 pub returns-in_err-copy-clause-refused : goal.returns-in_err-copy-clause-refused
 returns-in_err-copy-clause-refused g c =
