@@ -7,5 +7,3 @@ pub mod SpanEnds
 pub mod Opening
 pub mod GapFacts
 pub mod Steps
-pub mod Leaves
-pub mod Runs

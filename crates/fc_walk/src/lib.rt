@@ -4,7 +4,6 @@
 pub mod gaps;
 mod meeting;
 pub mod owned;
-mod run;
 pub mod seek;
 pub mod span;
 pub mod stack;
