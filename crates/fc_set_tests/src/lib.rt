@@ -2,13 +2,7 @@
 #![tactic(auto)]
 
 #[cfg(test)]
-mod copies;
-#[cfg(test)]
 mod items;
-#[cfg(test)]
-mod operations;
-#[cfg(test)]
-mod operators;
 #[cfg(test)]
 mod set;
 #[cfg(test)]
