@@ -90,6 +90,13 @@ impl<K, V> Node<K, V> {
         self.pairs.get(index)
     }
 
+    /// The node's own pairs, in order.
+    pub fn pairs(&self) -> &[(K, V)]
+        ensures { result.now ≡ own_pairs self.now }
+    {
+        self.pairs.as_slice()
+    }
+
     /// How many children the node has: none in a leaf.
     pub fn child_count(&self) -> usize
         ensures value { result ≡ length (children_of self.now) }

@@ -52,7 +52,7 @@ module _ {T : Type 0} where
   pub top_there : (xs : List T) (x : T) → IsTopOf xs x → 0 < length xs
   top_there xs x t = let e : length xs ≡ length t.0 + 1 = ap length t.1 ∙ length-append t.0 (x ∷ []) in omega arith
 
-  last_same : (xs ys : List T) (x y : T) → xs ++ x ∷ [] ≡ ys ++ y ∷ [] → x ≡ y
+  pub last_same : (xs ys : List T) (x y : T) → xs ++ x ∷ [] ≡ ys ++ y ∷ [] → x ≡ y
   last_same [] [] x y e = cc
   last_same [] (b ∷ ys) x y e = absurd (let k = ap length e in let l = length-append ys (y ∷ []) in omega arith)
   last_same (a ∷ xs) [] x y e = absurd (let k = ap length e in let l = length-append xs (x ∷ []) in omega arith)

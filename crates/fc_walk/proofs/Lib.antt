@@ -7,3 +7,5 @@ pub mod SpanEnds
 pub mod Opening
 pub mod GapFacts
 pub mod Steps
+pub mod Leaves
+pub mod Runs

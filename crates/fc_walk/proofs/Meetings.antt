@@ -60,7 +60,7 @@ module _ {K V : Type 0} where
       omega (arith, r)
 
   -- A path with an earlier first step has fewer pairs ahead.
-  earlier : (h : ℕ) (n : Node K V) (i j : ℕ) (p q : List ℕ) → IsLevelled h n → i < j → j ≤ length (own_pairs n) → IsPath p (child_at n i) → length p ≡ h → length (before (i ∷ p) n) < length (before (j ∷ q) n)
+  pub earlier : (h : ℕ) (n : Node K V) (i j : ℕ) (p q : List ℕ) → IsLevelled h n → i < j → j ≤ length (own_pairs n) → IsPath p (child_at n i) → length p ≡ h → length (before (i ∷ p) n) < length (before (j ∷ q) n)
   earlier h n i j p q l lt le w e =
       let d = later_lead h n i (j - suc i) l (omega arith) in
       let s : i + suc (j - suc i) ≡ j = omega arith in

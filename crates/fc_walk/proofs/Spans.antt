@@ -1,5 +1,6 @@
 -- What is left between two ends of one list, when one of them goes on.
 use Rattle.std.proofs.Common.{◌≡◌, ◌∙◌, ℕ, suc, zero, ◌+◌, ◌-◌, ◌<◌, ◌≤◌, List, [], ◌∷◌, ◌++◌, length, take, sym, ap, arith, append_assoc, length-append}
+use Rattle.std.proofs.Math.Seq.{take-append-add}
 use Rattle.std.proofs.lemmas.List.{append_cancel_left, take-append-le, take_all}
 
 module _ {X : Type 0} where
@@ -53,3 +54,22 @@ module _ {X : Type 0} where
       let then = lead_between (length new_lead - length lead) lead rest new_lead new_rest (e ∙ sym g) (omega arith) in
       let same = now ∙ l ∙ ap (λ s. s ++ x ∷ []) (sym then) ∙ append_assoc lead (take (length new_lead - length lead) rest) (x ∷ []) in
       (order, append_cancel_left lead _ _ same)
+
+  -- The front goes on by a run of items, but not past the back.
+  pub run_between : (lead rest new_lead new_rest lead₂ run all : List X) → lead ++ rest ≡ all → new_lead ++ new_rest ≡ all → rest ≡ run ++ new_rest → length new_lead ≤ length lead₂
+      → take (length lead₂ - length lead) rest ≡ run ++ take (length lead₂ - length new_lead) new_rest
+  run_between lead rest new_lead new_rest lead₂ run all e f g h =
+      let a : length lead + length rest ≡ length all = sym (length-append lead rest) ∙ ap length e in
+      let b : length new_lead + length new_rest ≡ length all = sym (length-append new_lead new_rest) ∙ ap length f in
+      let d : length rest ≡ length run + length new_rest = ap length g ∙ length-append run new_rest in
+      let n : length lead₂ - length lead ≡ length run + (length lead₂ - length new_lead) = omega arith in
+      ap (λ k. take k rest) n ∙ ap (take (length run + (length lead₂ - length new_lead))) g ∙ take-append-add run new_rest (length lead₂ - length new_lead)
+
+  -- The back goes back by a run of items, but not past the front.
+  pub run_back_between : (lead rest lead₂ rest₂ new_lead new_rest run all : List X) → lead ++ rest ≡ all → lead₂ ++ rest₂ ≡ all → new_lead ++ new_rest ≡ all → lead₂ ≡ new_lead ++ run
+      → length lead ≤ length new_lead → take (length lead₂ - length lead) rest ≡ take (length new_lead - length lead) rest ++ run
+  run_back_between lead rest lead₂ rest₂ new_lead new_rest run all e f g l h =
+      let a : length lead₂ ≡ length new_lead + length run = ap length l ∙ length-append new_lead run in
+      let now = lead_between (length lead₂ - length lead) lead rest lead₂ rest₂ (e ∙ sym f) (omega arith) in
+      let then = lead_between (length new_lead - length lead) lead rest new_lead new_rest (e ∙ sym g) (omega arith) in
+      append_cancel_left lead _ _ (now ∙ l ∙ ap (λ s. s ++ run) (sym then) ∙ append_assoc lead (take (length new_lead - length lead) rest) run)

@@ -75,7 +75,7 @@ module _ {K V : Type 0} where
 
   -- ---- one node more
 
-  rest_snoc : (s : List (Spot K V)) (x : Spot K V) → rest_of (s ++ x ∷ []) ≡ rest_in x.0.now x.1 ++ rest_of s
+  pub rest_snoc : (s : List (Spot K V)) (x : Spot K V) → rest_of (s ++ x ∷ []) ≡ rest_in x.0.now x.1 ++ rest_of s
   rest_snoc [] x = sym (append-nil _)
   rest_snoc (y ∷ s) x = ap (λ zs. zs ++ rest_in y.0.now y.1) (rest_snoc s x) ∙ append_assoc (rest_in x.0.now x.1) (rest_of s) (rest_in y.0.now y.1)
 

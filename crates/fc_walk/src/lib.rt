@@ -4,6 +4,7 @@
 pub mod gaps;
 mod meeting;
 pub mod owned;
+mod run;
 pub mod seek;
 pub mod span;
 pub mod stack;

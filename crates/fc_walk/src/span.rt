@@ -1,30 +1,36 @@
 //! The pairs between two gaps of a tree, from both ends.
+//!
+//! Each end has taken a run of pairs of its leaf, of which most steps give one: only at its end a step looks at the trail.
 ghost use Rattle.std.specs.Prelude.{◌≡◌, ◌<◌, ◌↔◌, [], ◌∷◌, ◌++◌, length, IsTrue};
 ghost use Rattle.fc_base.specs.Ascending.{IsAscending};
 ghost use Rattle.fc_base.specs.Ranges.{bound_now, is_range, within};
 ghost use Rattle.fc_node.specs.Tree.{entries, root_of, IsSoundMap};
+ghost use Rattle.fc_walk.specs.Span.{between, AreEnds};
 
 use crate::meeting::is_same_gap;
+use crate::run::{step_first_run, step_last_run, take_first_run};
 use crate::seek::{start_in, stop_in};
-use crate::trail::{Trail, first_in, last_in, step_first, step_last};
+use crate::trail::{Trail, first_in, last_in};
 use fc_node::node::Node;
 use std::marker::Model;
 use std::ops::Bound;
 
-/// The pairs between the gaps of two trails.
+/// The pairs that the front has taken, those between the gaps of two trails, and those that the back has taken.
 #[derive(Drop)]
 pub struct Span<'a, K, V> {
+    head: &'a [(K, V)],
     front: Trail<'a, K, V>,
     back: Trail<'a, K, V>,
+    tail: &'a [(K, V)],
 }
 
 impl<'a, K, V> Model for Span<'a, K, V> {
-    ghost use Rattle.std.specs.Prelude.{List};
+    ghost use Rattle.std.specs.Prelude.{◌++◌, List};
     ghost use Rattle.fc_walk.specs.Span.{between, AreEnds};
 
     ghost Value = { List (K × V) };
 
-    ghost view = { λ s. between s.front s.back };
+    ghost view = { λ s. s.head.now ++ (between s.front s.back ++ s.tail.now) };
 
     ghost invariant = { λ s. AreEnds s.front s.back };
 }
@@ -35,33 +41,80 @@ impl<'a, K, V> Span<'a, K, V> {
         requires { IsSoundMap (root_of root.now) }
         ensures { result ≡ entries (root_of root.now) }
     {
+        Span::from_ends(first_in(root), last_in(root))
+    }
+
+    // The pairs between the gaps of two trails.
+    fn from_ends(front: Trail<'a, K, V>, back: Trail<'a, K, V>) -> Span<'a, K, V>
+        requires { AreEnds front back }
+        ensures { result ≡ between front.entry back.entry }
+    {
+        let mut front = front;
+        let head = take_first_run(&mut front, &back);
         Span {
-            front: first_in(root),
-            back: last_in(root),
+            head,
+            front,
+            back,
+            tail: &[],
         }
     }
 
     /// Whether there is no pair.
+    #[inline]
     pub fn is_empty(&self) -> bool
         ensures { IsTrue result ↔ (self.now ≡ []) }
     {
+        if !self.head.is_empty() {
+            return false;
+        }
+        if !self.tail.is_empty() {
+            return false;
+        }
         is_same_gap(&self.front, &self.back)
     }
 
     /// The first of the pairs, which is then no longer there.
+    #[inline]
     pub fn next(&mut self) -> &'a (K, V)
         requires { 0 < length self.old }
         ensures { self.old ≡ result.now ∷ self.new }
     {
-        step_first(&mut self.front)
+        if let Some((pair, rest)) = self.head.split_first() {
+            self.head = rest;
+            return pair;
+        }
+        if is_same_gap(&self.front, &self.back) {
+            let Some((pair, rest)) = self.tail.split_first() else {
+                unreachable!()
+            };
+            self.tail = rest;
+            return pair;
+        }
+        let (pair, run) = step_first_run(&mut self.front, &self.back);
+        self.head = run;
+        pair
     }
 
     /// The last of the pairs, which is then no longer there.
+    #[inline]
     pub fn next_back(&mut self) -> &'a (K, V)
         requires { 0 < length self.old }
         ensures { self.old ≡ self.new ++ result.now ∷ [] }
     {
-        step_last(&mut self.back)
+        if let Some((pair, rest)) = self.tail.split_last() {
+            self.tail = rest;
+            return pair;
+        }
+        if is_same_gap(&self.front, &self.back) {
+            let Some((pair, rest)) = self.head.split_last() else {
+                unreachable!()
+            };
+            self.head = rest;
+            return pair;
+        }
+        let (pair, run) = step_last_run(&self.front, &mut self.back);
+        self.tail = run;
+        pair
     }
 
     /// The same pairs once more.
@@ -69,8 +122,10 @@ impl<'a, K, V> Span<'a, K, V> {
         ensures { result ≡ self.now }
     {
         Span {
+            head: self.head,
             front: self.front.copied(),
             back: self.back.copied(),
+            tail: self.tail,
         }
     }
 }
@@ -87,9 +142,6 @@ impl<'a, K: Ord, V> Span<'a, K, V> {
         requires range { IsTrue (is_range K.cmp (bound_now lo.now) (bound_now hi.now)) }
         ensures { result ≡ within K.cmp (bound_now lo.now) (bound_now hi.now) (entries (root_of root.now)) }
     {
-        Span {
-            front: start_in(root, lo),
-            back: stop_in(root, hi),
-        }
+        Span::from_ends(start_in(root, lo), stop_in(root, hi))
     }
 }

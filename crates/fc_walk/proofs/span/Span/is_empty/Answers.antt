@@ -1,9 +1,25 @@
-use Rattle.std.proofs.Common.{sym, ◌∙◌}
-use Rattle.fc_walk.proofs.Meetings.{met, apart}
+use Rattle.std.proofs.Common.{◌≡◌, ◌∙◌, sym, ap, length, true, false, arith}
+use Rattle.std.specs.Bool.{◌==◌}
+use Rattle.std.proofs.lemmas.Bool.Decides.{Decides-eqb}
+use Rattle.fc_walk.proofs.SpanEnds.{parts_length, no_parts, ends_met, ends_none, mid_none}
 use Rattle.fc_walk.proofs.span.Span.is_empty.Goals as goal
+
+pub returns-then-not-is_empty : goal.returns-then-not-is_empty
+returns-then-not-is_empty g c =
+    let now = sym (ap length c.self.view_is) ∙ parts_length c.self.inside.head.now _ c.self.inside.tail.now in
+    let test : false ≡ (length c.self.inside.head.now == 0) = sym c.if-not-is_empty.true ∙ c.is_empty.ensures in
+    (λ e. absurd (let no : false ≡ true = e in cc), λ e. absurd (let none = ap length e in let head : length c.self.inside.head.now ≡ 0 = omega (arith, now, none) in let no : false ≡ true = test ∙ ap (λ n. n == 0) head in cc))
+
+pub returns-then-not-is_empty-2 : goal.returns-then-not-is_empty-2
+returns-then-not-is_empty-2 g c =
+    let now = sym (ap length c.self.view_is) ∙ parts_length c.self.inside.head.now _ c.self.inside.tail.now in
+    let test : false ≡ (length c.self.inside.tail.now == 0) = sym c.if-not-is_empty-2.true ∙ c.is_empty-2.ensures in
+    (λ e. absurd (let no : false ≡ true = e in cc), λ e. absurd (let none = ap length e in let tail : length c.self.inside.tail.now ≡ 0 = omega (arith, now, none) in let no : false ≡ true = test ∙ ap (λ n. n == 0) tail in cc))
 
 pub returns : goal.returns
 returns g c =
-    let i = c.self.invariant in
-    let same = c.is_same_gap.ensures in
-    (λ r. sym c.self.view_is ∙ met i.0 _ _ i.1 i.2 i.3 (same.0 r), λ e. same.1 (apart i.0 _ _ i.1 i.2 i.3 i.4 (c.self.view_is ∙ e)))
+    let head : length c.self.inside.head.now ≡ 0 = (Decides-eqb _ 0).0 (sym (sym c.if-not-is_empty.false ∙ c.is_empty.ensures)) in
+    let tail : length c.self.inside.tail.now ≡ 0 = (Decides-eqb _ 0).0 (sym (sym c.if-not-is_empty-2.false ∙ c.is_empty-2.ensures)) in (
+      λ e. sym c.self.view_is ∙ no_parts c.self.inside.head.now _ c.self.inside.tail.now head (ends_met _ _ c.self.invariant (c.is_same_gap.ensures.0 e)) tail,
+      λ e. c.is_same_gap.ensures.1 (ends_none _ _ c.self.invariant (mid_none c.self.inside.head.now _ c.self.inside.tail.now (c.self.view_is ∙ e))),
+    )

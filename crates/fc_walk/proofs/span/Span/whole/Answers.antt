@@ -1,8 +1,9 @@
+use Rattle.std.proofs.Common.{◌∙◌, rules}
 use Rattle.fc_walk.proofs.SpanEnds.{ends_whole}
 use Rattle.fc_walk.proofs.span.Span.whole.Goals as goal
 
-pub invariant_of-result : goal.invariant_of-result
-invariant_of-result g c = (ends_whole _ _ _ c.requires c.first_in.ensures.trail c.last_in.ensures.trail c.first_in.ensures.rest c.last_in.ensures.lead).0
+pub from_ends-requires : goal.from_ends-requires
+from_ends-requires g c = (search rules, (search rules, (ends_whole _ _ _ c.requires c.first_in.ensures.trail c.last_in.ensures.trail c.first_in.ensures.rest c.last_in.ensures.lead).0))
 
 pub returns : goal.returns
-returns g c = (ends_whole _ _ _ c.requires c.first_in.ensures.trail c.last_in.ensures.trail c.first_in.ensures.rest c.last_in.ensures.lead).1
+returns g c = c.from_ends.ensures ∙ (ends_whole _ _ _ c.requires c.first_in.ensures.trail c.last_in.ensures.trail c.first_in.ensures.rest c.last_in.ensures.lead).1

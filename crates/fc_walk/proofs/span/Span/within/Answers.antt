@@ -1,20 +1,21 @@
+use Rattle.std.proofs.Common.{◌∙◌, rules}
 use Rattle.fc_base.specs.Ranges.{bound_now}
 use Rattle.fc_node.specs.Tree.{root_of}
 use Rattle.fc_walk.proofs.Trails.{trail_entries}
 use Rattle.fc_base.proofs.Within.{between_tests, not_past}
 use Rattle.fc_walk.proofs.span.Span.within.Goals as goal
 
-pub invariant_of-result : goal.invariant_of-result
-invariant_of-result g c =
+pub from_ends-requires : goal.from_ends-requires
+from_ends-requires g c =
     let m = root_of c.args.root.now in
     let t = c.start_in.ensures.trail in
     let u = c.stop_in.ensures.trail in
     let other = not_past g.met.K.Ord.total (bound_now c.args.lo.now) (bound_now c.args.hi.now) c.requires.range in
     let s = between_tests _ _ (λ e. other e.0) _ _ _ _ _ (trail_entries m _ c.requires.sound t) (trail_entries m _ c.requires.sound u) c.start_in.ensures.rest c.stop_in.ensures.lead in
-    (m, c.requires.sound, t, u, s.le)
+    (search rules, (search rules, (m, c.requires.sound, t, u, s.le)))
 
 pub returns : goal.returns
 returns g c =
     let m = root_of c.args.root.now in
     let other = not_past g.met.K.Ord.total (bound_now c.args.lo.now) (bound_now c.args.hi.now) c.requires.range in
-    (between_tests _ _ (λ e. other e.0) _ _ _ _ _ (trail_entries m _ c.requires.sound c.start_in.ensures.trail) (trail_entries m _ c.requires.sound c.stop_in.ensures.trail) c.start_in.ensures.rest c.stop_in.ensures.lead).is
+    c.from_ends.ensures ∙ (between_tests _ _ (λ e. other e.0) _ _ _ _ _ (trail_entries m _ c.requires.sound c.start_in.ensures.trail) (trail_entries m _ c.requires.sound c.stop_in.ensures.trail) c.start_in.ensures.rest c.stop_in.ensures.lead).is

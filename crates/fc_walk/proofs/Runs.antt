@@ -1,0 +1,192 @@
+-- Runs: what lies between two ends of one map, when one of them takes a run of its leaf.
+use Rattle.std.proofs.Common.{◌≡◌, ℕ, ◌+◌, ◌-◌, ◌<◌, ◌≤◌, List, [], ◌∷◌, ◌++◌, length, take, drop, sym, ap, subst, ◌∙◌, arith, append_assoc, length-append, Some, None, ◌⊎◌, inl, inr}
+use Rattle.std.specs.Borrow.{Bor}
+use Rattle.fc_node.specs.declared.node.Node.{Node}
+use Rattle.fc_node.specs.Node.{own_pairs}
+use Rattle.fc_node.specs.Place.{lead_in, rest_in}
+use Rattle.fc_node.specs.Tree.{Map, entries, IsSoundMap}
+use Rattle.fc_walk.specs.Span.{between, AreEnds}
+use Rattle.fc_walk.specs.Trail.{rest_of, lead_of, places_of, IsTrail}
+use Rattle.std.proofs.Math.Seq.{take-add}
+use Rattle.std.proofs.lemmas.Bool.{cases_lt}
+use Rattle.std.proofs.lemmas.List.{drop-drop, take-append-drop}
+use Rattle.fc_walk.proofs.Leaves.{leaf_lead, leaf_rest, trail_leaf, chain_within, lead_count, together, other_leaf, upper_places}
+use Rattle.fc_walk.proofs.Spans.{run_between, run_back_between}
+use Rattle.fc_walk.proofs.Trails.{lead_snoc, rest_snoc, chain_moved, chain_of_trail, trail_of_chain, trail_depth, trail_entries}
+
+module _ {K V : Type 0} where
+  -- A trail with another place in its leaf.
+  pub trail_moved : (m : Map K V) (s : List (Bor (Node K V) × ℕ)) (x : Bor (Node K V) × ℕ) (j : ℕ) → IsTrail m (s ++ x ∷ []) → j ≤ length (own_pairs x.0.now) → IsTrail m (s ++ (x.0, j) ∷ [])
+  trail_moved None s x j t h = absurd (let e : length (s ++ x ∷ []) ≡ 0 = ap length t in let k = length-append s (x ∷ []) in omega arith)
+  trail_moved (Some root) s x j t h = trail_of_chain s (x.0, j) root (chain_moved s x j root (chain_of_trail _ root t) h) (trail_leaf s x root t)
+
+  last_within : (m : Map K V) (s : List (Bor (Node K V) × ℕ)) (x : Bor (Node K V) × ℕ) → IsTrail m (s ++ x ∷ []) → x.1 ≤ length (own_pairs x.0.now)
+  last_within None s x t = absurd (let k = length-append s (x ∷ []) in let l : length (s ++ x ∷ []) ≡ 0 = ap length t in omega (arith, k, l))
+  last_within (Some root) s x t = chain_within s x root (chain_of_trail _ root t)
+
+  -- The front goes on over a run.
+  pub ends_run : (front back new : List (Bor (Node K V) × ℕ)) (run : List (K × V)) → AreEnds front back → ((m : Map K V) → IsTrail m front → IsTrail m new) → rest_of front ≡ run ++ rest_of new → length (lead_of new) ≤ length (lead_of back)
+      → AreEnds new back × (between front back ≡ run ++ between new back)
+  ends_run front back new run ends goes e h =
+      let m = ends.0 in
+      let t = goes m ends.2 in
+      ((m, ends.1, t, ends.3, h), run_between (lead_of front) (rest_of front) (lead_of new) (rest_of new) (lead_of back) run (entries m) (trail_entries m front ends.1 ends.2) (trail_entries m new ends.1 t) e h)
+
+  -- The back goes back over a run.
+  pub ends_run_back : (front back new : List (Bor (Node K V) × ℕ)) (run : List (K × V)) → AreEnds front back → ((m : Map K V) → IsTrail m back → IsTrail m new) → lead_of back ≡ lead_of new ++ run → length (lead_of front) ≤ length (lead_of new)
+      → AreEnds front new × (between front back ≡ between front new ++ run)
+  ends_run_back front back new run ends goes e h =
+      let m = ends.0 in
+      let t = goes m ends.3 in
+      ((m, ends.1, ends.2, t, h), run_back_between (lead_of front) (rest_of front) (lead_of back) (rest_of back) (lead_of new) (rest_of new) run (entries m) (trail_entries m front ends.1 ends.2) (trail_entries m back ends.1 ends.3) (trail_entries m new ends.1 t) e h)
+
+  -- Two trails of one map are equally long.
+  pub same_long : (m : Map K V) (a b : List (Bor (Node K V) × ℕ)) → IsSoundMap m → IsTrail m a → IsTrail m b → length a ≡ length b
+  same_long None a b o t u = ap length (t ∙ sym u)
+  same_long (Some root) a b o t u = trail_depth o.0 a root o.2.1 t ∙ sym (trail_depth o.0 b root o.2.1 u)
+
+  no_root : (s : List (Bor (Node K V) × ℕ)) (x : Bor (Node K V) × ℕ) → s ++ x ∷ [] ≡ [] → ⊥
+  no_root s x e = let k = length-append s (x ∷ []) in let l : length (s ++ x ∷ []) ≡ 0 = ap length e in omega (arith, k, l)
+
+  -- The same nodes lead to two gaps of one leaf.
+  upper_same : (s t : List (Bor (Node K V) × ℕ)) (x y : Bor (Node K V) × ℕ) → length (s ++ x ∷ []) ≡ length (t ++ y ∷ []) → take (length (s ++ x ∷ []) - 1) (places_of (s ++ x ∷ [])) ≡ take (length (s ++ x ∷ []) - 1) (places_of (t ++ y ∷ [])) → places_of s ≡ places_of t
+  upper_same s t x y k e =
+      let a = length-append s (x ∷ []) in
+      let b = length-append t (y ∷ []) in
+      let n : length (s ++ x ∷ []) - 1 ≡ length s = omega (arith, a) in
+      let o : length s ≡ length t = omega (arith, a, b, k) in
+      sym (upper_places s x) ∙ ap (λ z. take z (places_of (s ++ x ∷ []))) (sym n) ∙ e ∙ ap (λ z. take z (places_of (t ++ y ∷ []))) (n ∙ o) ∙ upper_places t y
+
+  -- Another end in the same leaf: it lies there at the place y.1.
+  pub same_end : (m : Map K V) (s t : List (Bor (Node K V) × ℕ)) (x y : Bor (Node K V) × ℕ) → IsSoundMap m → IsTrail m (s ++ x ∷ []) → IsTrail m (t ++ y ∷ []) → take (length (s ++ x ∷ []) - 1) (places_of (s ++ x ∷ [])) ≡ take (length (s ++ x ∷ []) - 1) (places_of (t ++ y ∷ []))
+      → (x.1 ≤ length (own_pairs x.0.now)) × (y.1 ≤ length (own_pairs x.0.now)) × (length (lead_of (t ++ y ∷ [])) ≡ length (lead_of (s ++ (x.0, y.1) ∷ []))) × (length (lead_of (s ++ x ∷ [])) + y.1 ≡ length (lead_of (t ++ y ∷ [])) + x.1)
+  same_end None s t x y o a b e = absurd (no_root s x a)
+  same_end (Some root) s t x y o a b e =
+      let l = trail_leaf s x root a in
+      let w = chain_within s x root (chain_of_trail _ root a) in
+      let p = together root s t x y a b (upper_same s t x y (same_long (Some root) _ _ o a b) e) in
+      let i = lead_count s x.0 x.1 l w in
+      let j = lead_count s x.0 y.1 l p.within in
+      let k = p.lead in
+      (w, p.within, k, omega (arith, i, j, k))
+
+  -- Another end in another leaf, not ahead of a gap: it is behind all gaps of the leaf.
+  pub other_end : (m : Map K V) (s b : List (Bor (Node K V) × ℕ)) (x : Bor (Node K V) × ℕ) (j : ℕ) → IsSoundMap m → IsTrail m (s ++ x ∷ []) → IsTrail m b → j ≤ length (own_pairs x.0.now) → (take (length (s ++ x ∷ []) - 1) (places_of (s ++ x ∷ [])) ≡ take (length (s ++ x ∷ []) - 1) (places_of b) → ⊥)
+      → length (lead_of (s ++ x ∷ [])) ≤ length (lead_of b) → length (lead_of (s ++ (x.0, j) ∷ [])) < length (lead_of b)
+  other_end None s b x j o t u w other le = absurd (no_root s x t)
+  other_end (Some root) s b x j o t u w other le =
+      let a = length-append s (x ∷ []) in
+      let n : length (s ++ x ∷ []) - 1 ≡ length s = omega (arith, a) in
+      other_leaf o.0 root s b x j o.2.1 t u w (λ z. other (ap (λ k. take k (places_of (s ++ x ∷ []))) n ∙ upper_places s x ∙ sym z ∙ ap (λ k. take k (places_of b)) (sym n))) le
+
+  -- And one that is not behind it is ahead of all of them.
+  pub other_start : (m : Map K V) (s b : List (Bor (Node K V) × ℕ)) (x : Bor (Node K V) × ℕ) (j : ℕ) → IsSoundMap m → IsTrail m (s ++ x ∷ []) → IsTrail m b → j ≤ length (own_pairs x.0.now) → (take (length (s ++ x ∷ []) - 1) (places_of (s ++ x ∷ [])) ≡ take (length (s ++ x ∷ []) - 1) (places_of b) → ⊥)
+      → length (lead_of b) ≤ length (lead_of (s ++ x ∷ [])) → length (lead_of b) ≤ length (lead_of (s ++ (x.0, j) ∷ []))
+  other_start m s b x j o t u w other le = order (cases_lt (length (lead_of (s ++ (x.0, j) ∷ []))) (length (lead_of b)))
+    where
+      same : take (length (s ++ (x.0, j) ∷ []) - 1) (places_of (s ++ (x.0, j) ∷ [])) ≡ take (length (s ++ (x.0, j) ∷ []) - 1) (places_of b) → take (length (s ++ x ∷ []) - 1) (places_of (s ++ x ∷ [])) ≡ take (length (s ++ x ∷ []) - 1) (places_of b)
+      same e =
+          let a = length-append s (x ∷ []) in
+          let d = length-append s ((x.0, j) ∷ []) in
+          let n : length (s ++ x ∷ []) - 1 ≡ length s = omega (arith, a) in
+          let k : length (s ++ (x.0, j) ∷ []) - 1 ≡ length s = omega (arith, d) in
+          ap (λ z. take z (places_of (s ++ x ∷ []))) n ∙ upper_places s x ∙ sym (upper_places s (x.0, j)) ∙ ap (λ z. take z (places_of (s ++ (x.0, j) ∷ []))) (sym k) ∙ e ∙ ap (λ z. take z (places_of b)) (k ∙ sym n)
+
+      place : x.1 ≤ length (own_pairs x.0.now)
+      place = last_within m s x t
+
+      order : (length (lead_of (s ++ (x.0, j) ∷ [])) < length (lead_of b)) ⊎ (length (lead_of b) ≤ length (lead_of (s ++ (x.0, j) ∷ []))) → length (lead_of b) ≤ length (lead_of (s ++ (x.0, j) ∷ []))
+      order (inl lt) = absurd (let c = other_end m s b (x.0, j) x.1 o (trail_moved m s x j t w) u place (λ e. other (same e)) (omega (arith, lt)) in omega (arith, c, le))
+      order (inr ge) = ge
+
+  -- The pairs of a run: those of the leaf between two places.
+  pub run_rest : (m : Map K V) (s : List (Bor (Node K V) × ℕ)) (x : Bor (Node K V) × ℕ) (j : ℕ) (run : List (K × V)) → IsTrail m (s ++ x ∷ []) → drop x.1 (own_pairs x.0.now) ≡ run ++ drop j (own_pairs x.0.now) → rest_of (s ++ x ∷ []) ≡ run ++ rest_of (s ++ (x.0, j) ∷ [])
+  run_rest None s x j run t e = absurd (no_root s x t)
+  run_rest (Some root) s x j run t e =
+      let l = trail_leaf s x root t in
+      rest_snoc s x ∙ ap (λ zs. zs ++ rest_of s) (leaf_rest x.0.now x.1 l ∙ e ∙ ap (λ zs. run ++ zs) (sym (leaf_rest x.0.now j l)))
+      ∙ append_assoc run (rest_in x.0.now j) (rest_of s) ∙ ap (λ zs. run ++ zs) (sym (rest_snoc s (x.0, j)))
+
+  pub run_lead : (m : Map K V) (s : List (Bor (Node K V) × ℕ)) (x : Bor (Node K V) × ℕ) (j : ℕ) (run : List (K × V)) → IsTrail m (s ++ x ∷ []) → take x.1 (own_pairs x.0.now) ≡ take j (own_pairs x.0.now) ++ run → lead_of (s ++ x ∷ []) ≡ lead_of (s ++ (x.0, j) ∷ []) ++ run
+  run_lead None s x j run t e = absurd (no_root s x t)
+  run_lead (Some root) s x j run t e =
+      let l = trail_leaf s x root t in
+      lead_snoc s x ∙ ap (λ zs. lead_of s ++ zs) (leaf_lead x.0.now x.1 l ∙ e ∙ ap (λ zs. zs ++ run) (sym (leaf_lead x.0.now j l)))
+      ∙ sym (append_assoc (lead_of s) (lead_in x.0.now j) run) ∙ ap (λ zs. zs ++ run) (sym (lead_snoc s (x.0, j)))
+
+  -- The end of the front's run, where the back is in the same leaf.
+  pub end_together : (front back s t : List (Bor (Node K V) × ℕ)) (x y : Bor (Node K V) × ℕ) → AreEnds front back → front ≡ s ++ x ∷ [] → back ≡ t ++ y ∷ [] → take (length front - 1) (places_of front) ≡ take (length front - 1) (places_of back)
+      → (x.1 ≤ y.1) × (y.1 ≤ length (own_pairs x.0.now)) × (length (lead_of (s ++ (x.0, y.1) ∷ [])) ≤ length (lead_of back))
+  end_together front back s t x y ends e f same =
+      let k = same_end ends.0 s t x y ends.1 (subst (IsTrail ends.0) e ends.2) (subst (IsTrail ends.0) f ends.3) (subst (λ z. take (length (s ++ x ∷ []) - 1) (places_of (s ++ x ∷ [])) ≡ take (length (s ++ x ∷ []) - 1) (places_of z)) f (subst (λ z. take (length z - 1) (places_of z) ≡ take (length z - 1) (places_of back)) e same)) in
+      let a : length (lead_of front) ≡ length (lead_of (s ++ x ∷ [])) = ap (λ z. length (lead_of z)) e in
+      let b : length (lead_of back) ≡ length (lead_of (t ++ y ∷ [])) = ap (λ z. length (lead_of z)) f in
+      let le = ends.4 in
+      let p = k.2 in
+      let q = k.3 in
+      (omega (arith, a, b, le, q), k.1, omega (arith, b, p))
+
+  -- The end of the front's run, where the back is in another leaf.
+  pub end_apart : (front back s : List (Bor (Node K V) × ℕ)) (x : Bor (Node K V) × ℕ) (j : ℕ) → AreEnds front back → front ≡ s ++ x ∷ [] → j ≡ length (own_pairs x.0.now) → (take (length front - 1) (places_of front) ≡ take (length front - 1) (places_of back) → ⊥)
+      → (x.1 ≤ j) × (j ≤ length (own_pairs x.0.now)) × (length (lead_of (s ++ (x.0, j) ∷ [])) ≤ length (lead_of back))
+  end_apart front back s x j ends e n other =
+      let t = subst (IsTrail ends.0) e ends.2 in
+      let w = last_within ends.0 s x t in
+      let a : length (lead_of front) ≡ length (lead_of (s ++ x ∷ [])) = ap (λ z. length (lead_of z)) e in
+      let le = ends.4 in
+      let k = other_end ends.0 s back x j ends.1 t ends.3 (omega (arith, n)) (subst (λ z. take (length z - 1) (places_of z) ≡ take (length z - 1) (places_of back) → ⊥) e other) (omega (arith, a, le)) in
+      (omega (arith, w, n), omega (arith, n), omega (arith, k))
+
+  -- The start of the back's run, where the front is in the same leaf.
+  pub start_together : (front back s t : List (Bor (Node K V) × ℕ)) (x y : Bor (Node K V) × ℕ) → AreEnds front back → back ≡ s ++ x ∷ [] → front ≡ t ++ y ∷ [] → take (length back - 1) (places_of back) ≡ take (length back - 1) (places_of front)
+      → (y.1 ≤ x.1) × (x.1 ≤ length (own_pairs x.0.now)) × (length (lead_of front) ≤ length (lead_of (s ++ (x.0, y.1) ∷ [])))
+  start_together front back s t x y ends e f same =
+      let k = same_end ends.0 s t x y ends.1 (subst (IsTrail ends.0) e ends.3) (subst (IsTrail ends.0) f ends.2) (subst (λ z. take (length (s ++ x ∷ []) - 1) (places_of (s ++ x ∷ [])) ≡ take (length (s ++ x ∷ []) - 1) (places_of z)) f (subst (λ z. take (length z - 1) (places_of z) ≡ take (length z - 1) (places_of front)) e same)) in
+      let a : length (lead_of back) ≡ length (lead_of (s ++ x ∷ [])) = ap (λ z. length (lead_of z)) e in
+      let b : length (lead_of front) ≡ length (lead_of (t ++ y ∷ [])) = ap (λ z. length (lead_of z)) f in
+      let le = ends.4 in
+      let p = k.2 in
+      let q = k.3 in
+      (omega (arith, a, b, le, q), k.0, omega (arith, b, p))
+
+  -- The start of the back's run, where the front is in another leaf.
+  pub start_apart : (front back s : List (Bor (Node K V) × ℕ)) (x : Bor (Node K V) × ℕ) → AreEnds front back → back ≡ s ++ x ∷ [] → (take (length back - 1) (places_of back) ≡ take (length back - 1) (places_of front) → ⊥)
+      → (0 ≤ x.1) × (x.1 ≤ length (own_pairs x.0.now)) × (length (lead_of front) ≤ length (lead_of (s ++ (x.0, 0) ∷ [])))
+  start_apart front back s x ends e other =
+      let t = subst (IsTrail ends.0) e ends.3 in
+      let w = last_within ends.0 s x t in
+      let a : length (lead_of back) ≡ length (lead_of (s ++ x ∷ [])) = ap (λ z. length (lead_of z)) e in
+      let le = ends.4 in
+      (omega arith, w, other_start ends.0 s front x 0 ends.1 t ends.2 (omega arith) (subst (λ z. take (length z - 1) (places_of z) ≡ take (length z - 1) (places_of front) → ⊥) e other) (omega (arith, a, le)))
+
+  -- ---- a whole run
+
+  run_behind : (i j : ℕ) (ps : List (K × V)) → i ≤ j → drop i ps ≡ take (j - i) (drop i ps) ++ drop j ps
+  run_behind i j ps h =
+      let e : i + (j - i) ≡ j = omega arith in
+      sym (take-append-drop (j - i) (drop i ps)) ∙ ap (λ zs. take (j - i) (drop i ps) ++ zs) (drop-drop (j - i) i ps ∙ ap (λ k. drop k ps) e)
+
+  run_ahead : (i j : ℕ) (ps : List (K × V)) → i ≤ j → take j ps ≡ take i ps ++ take (j - i) (drop i ps)
+  run_ahead i j ps h = let e : j ≡ i + (j - i) = omega arith in ap (λ k. take k ps) e ∙ take-add i (j - i) ps
+
+  pub front_run : (front back new s : List (Bor (Node K V) × ℕ)) (x : Bor (Node K V) × ℕ) (j : ℕ) (ps : List (K × V)) → AreEnds front back → front ≡ s ++ x ∷ [] → new ≡ s ++ (x.0, j) ∷ [] → ps ≡ own_pairs x.0.now
+      → (x.1 ≤ j) × (j ≤ length (own_pairs x.0.now)) × (length (lead_of (s ++ (x.0, j) ∷ [])) ≤ length (lead_of back))
+      → AreEnds new back × (between front back ≡ take (j - x.1) (drop x.1 ps) ++ between new back)
+  front_run front back new s x j ps ends e f g h =
+      let m = ends.0 in
+      let goes = λ (n : Map K V) (t : IsTrail n front). subst (IsTrail n) (sym f) (trail_moved n s x j (subst (IsTrail n) e t) h.1) in
+      let own : drop x.1 (own_pairs x.0.now) ≡ take (j - x.1) (drop x.1 ps) ++ drop j (own_pairs x.0.now) = run_behind x.1 j (own_pairs x.0.now) h.0 ∙ ap (λ zs. take (j - x.1) (drop x.1 zs) ++ drop j (own_pairs x.0.now)) (sym g) in
+      let rest = ap rest_of e ∙ run_rest m s x j (take (j - x.1) (drop x.1 ps)) (subst (IsTrail m) e ends.2) own ∙ ap (λ z. take (j - x.1) (drop x.1 ps) ++ rest_of z) (sym f) in
+      ends_run front back new (take (j - x.1) (drop x.1 ps)) ends goes rest (subst (λ z. length (lead_of z) ≤ length (lead_of back)) (sym f) h.2)
+
+  pub back_run : (front back new s : List (Bor (Node K V) × ℕ)) (x : Bor (Node K V) × ℕ) (i : ℕ) (ps : List (K × V)) → AreEnds front back → back ≡ s ++ x ∷ [] → new ≡ s ++ (x.0, i) ∷ [] → ps ≡ own_pairs x.0.now
+      → (i ≤ x.1) × (x.1 ≤ length (own_pairs x.0.now)) × (length (lead_of front) ≤ length (lead_of (s ++ (x.0, i) ∷ [])))
+      → AreEnds front new × (between front back ≡ between front new ++ take (x.1 - i) (drop i ps))
+  back_run front back new s x i ps ends e f g h =
+      let m = ends.0 in
+      let lower = h.0 in
+      let upper = h.1 in
+      let goes = λ (n : Map K V) (t : IsTrail n back). subst (IsTrail n) (sym f) (trail_moved n s x i (subst (IsTrail n) e t) (omega (arith, lower, upper))) in
+      let own : take x.1 (own_pairs x.0.now) ≡ take i (own_pairs x.0.now) ++ take (x.1 - i) (drop i ps) = run_ahead i x.1 (own_pairs x.0.now) h.0 ∙ ap (λ zs. take i (own_pairs x.0.now) ++ take (x.1 - i) (drop i zs)) (sym g) in
+      let lead = ap lead_of e ∙ run_lead m s x i (take (x.1 - i) (drop i ps)) (subst (IsTrail m) e ends.3) own ∙ ap (λ z. lead_of z ++ take (x.1 - i) (drop i ps)) (sym f) in
+      ends_run_back front back new (take (x.1 - i) (drop i ps)) ends goes lead (subst (λ z. length (lead_of front) ≤ length (lead_of z)) (sym f) h.2)

@@ -1,0 +1,17 @@
+use Rattle.std.proofs.Common.{◌∷◌, [], ◌++◌, ap, ◌∙◌, append_assoc, rules}
+use Rattle.fc_walk.specs.Span.{between}
+use Rattle.fc_walk.proofs.SpanEnds.{back_gives, ends_back}
+use Rattle.fc_walk.proofs.run.step_last_run.Goals as goal
+
+pub step_last-pair-requires : goal.step_last-pair-requires
+step_last-pair-requires g c = (search rules, back_gives _ _ c.requires.ends c.requires.some)
+
+pub take_last_run-requires : goal.take_last_run-requires
+take_last_run-requires g c =
+    (search rules, (ends_back _ _ _ _ c.requires.ends c.requires.some c.step_last-pair.ensures.pair c.step_last-pair.ensures.trail).0)
+
+pub returns-clause-pairs : goal.returns-clause-pairs
+returns-clause-pairs g c =
+    (ends_back _ _ _ _ c.requires.ends c.requires.some c.step_last-pair.ensures.pair c.step_last-pair.ensures.trail).1
+    ∙ ap (λ zs. zs ++ c.step_last-pair.result.now ∷ []) c.take_last_run.ensures.run
+    ∙ append_assoc (between c.args.front.now c.take_last_run.new.back) c.take_last_run.result.now (c.step_last-pair.result.now ∷ [])

@@ -1,0 +1,107 @@
+//! Runs: pairs of one leaf that an end of a walk takes all at once.
+ghost use Rattle.std.specs.Prelude.{◌≡◌, ℕ, ◌-◌, ◌<◌, ◌≤◌, ◌↔◌, List, [], ◌∷◌, ◌++◌, length, take, IsTrue};
+ghost use Rattle.std.specs.Borrow.{Bor};
+ghost use Rattle.fc_node.specs.Node.{own_pairs};
+ghost use Rattle.fc_walk.specs.Span.{between, AreEnds};
+ghost use Rattle.fc_walk.specs.Trail.{lead_of, places_of};
+
+use crate::trail::{Trail, step_first, step_last};
+use fc_node::node::Node;
+
+// Whether two trails of one root lead to gaps of the same leaf.
+fn is_same_leaf<K, V>(a: &Trail<'_, K, V>, b: &Trail<'_, K, V>) -> bool
+    requires some { 0 < length a.now }
+    requires long { length a.now ≡ length b.now }
+    ensures { IsTrue result ↔ (take (length a.now - 1) (places_of a.now) ≡ take (length a.now - 1) (places_of b.now)) }
+{
+    for i in 0..a.len() - 1 {
+        if a.get(i).1 != b.get(i).1 {
+            return false;
+        }
+    }
+    true
+}
+
+// Up to which place the pairs of the front's leaf lie ahead of the back.
+fn run_end<K, V>(front: &Trail<'_, K, V>, back: &Trail<'_, K, V>) -> usize
+    requires some { 0 < length front.now }
+    requires ends { AreEnds front.now back.now }
+    ensures { (s : List (Bor (Node K V) × ℕ)) (x : Bor (Node K V) × ℕ) → front.now ≡ s ++ x ∷ [] → (x.1 ≤ result) × (result ≤ length (own_pairs x.0.now)) × (length (lead_of (s ++ (x.0, result) ∷ [])) ≤ length (lead_of back.now)) }
+{
+    if is_same_leaf(front, back) {
+        back.top().1
+    } else {
+        front.top().0.len()
+    }
+}
+
+// From which place on the pairs of the back's leaf lie behind the front.
+fn run_start<K, V>(front: &Trail<'_, K, V>, back: &Trail<'_, K, V>) -> usize
+    requires some { 0 < length back.now }
+    requires ends { AreEnds front.now back.now }
+    ensures { (s : List (Bor (Node K V) × ℕ)) (x : Bor (Node K V) × ℕ) → back.now ≡ s ++ x ∷ [] → (result ≤ x.1) × (x.1 ≤ length (own_pairs x.0.now)) × (length (lead_of front.now) ≤ length (lead_of (s ++ (x.0, result) ∷ []))) }
+{
+    if is_same_leaf(back, front) {
+        front.top().1
+    } else {
+        0
+    }
+}
+
+/// Takes the pairs of the front's leaf from its gap on, as far as the back, and goes on behind them.
+pub fn take_first_run<'a, K, V>(front: &mut Trail<'a, K, V>, back: &Trail<'a, K, V>) -> &'a [(K, V)]
+    requires { AreEnds front.old back.now }
+    ensures ends { AreEnds front.new back.now }
+    ensures run { between front.old back.now ≡ result.now ++ between front.new back.now }
+{
+    if front.len() == 0 {
+        return &[];
+    }
+    let end = run_end(front, back);
+    let (leaf, start) = front.top();
+    front.set_top((leaf, end));
+    &leaf.pairs()[start..end]
+}
+
+// Takes the pairs of the back's leaf ahead of its gap, as far as the front, and goes back ahead of them.
+fn take_last_run<'a, K, V>(front: &Trail<'a, K, V>, back: &mut Trail<'a, K, V>) -> &'a [(K, V)]
+    requires { AreEnds front.now back.old }
+    ensures ends { AreEnds front.now back.new }
+    ensures run { between front.now back.old ≡ between front.now back.new ++ result.now }
+{
+    if back.len() == 0 {
+        return &[];
+    }
+    let start = run_start(front, back);
+    let (leaf, end) = back.top();
+    back.set_top((leaf, start));
+    &leaf.pairs()[start..end]
+}
+
+/// Goes on over a pair, which it answers, and takes the run behind it.
+pub fn step_first_run<'a, K, V>(
+    front: &mut Trail<'a, K, V>,
+    back: &Trail<'a, K, V>,
+) -> (&'a (K, V), &'a [(K, V)])
+    requires ends { AreEnds front.old back.now }
+    requires some { 0 < length (between front.old back.now) }
+    ensures ends { AreEnds front.new back.now }
+    ensures pairs { between front.old back.now ≡ result.0.now ∷ (result.1.now ++ between front.new back.now) }
+{
+    let pair = step_first(front);
+    (pair, take_first_run(front, back))
+}
+
+/// Goes back over a pair, which it answers, and takes the run ahead of it.
+pub fn step_last_run<'a, K, V>(
+    front: &Trail<'a, K, V>,
+    back: &mut Trail<'a, K, V>,
+) -> (&'a (K, V), &'a [(K, V)])
+    requires ends { AreEnds front.now back.old }
+    requires some { 0 < length (between front.now back.old) }
+    ensures ends { AreEnds front.now back.new }
+    ensures pairs { between front.now back.old ≡ between front.now back.new ++ (result.1.now ++ result.0.now ∷ []) }
+{
+    let pair = step_last(back);
+    (pair, take_last_run(front, back))
+}
