@@ -10,7 +10,7 @@ pub use Rattle.fc_base.specs.Joined.{placed, joined}
 pub use Rattle.fc_base.specs.Halves.{not_below}
 pub use Rattle.fc_base.specs.Extended.{extended, IsExtendedUpTo}
 pub use Rattle.fc_base.specs.Copies.{IsExact}
-pub use Rattle.fc_copy.specs.Copy.{AreSame}
+pub use Rattle.fc_copy.specs.Copy.{AreSame, HasSureCopy}
 -- the items of an iterator
 pub use Rattle.fc_vec.specs.Items.{GivesAll, GivesFirst}
 -- maps, their entries and walks

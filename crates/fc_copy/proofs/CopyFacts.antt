@@ -1,14 +1,15 @@
 -- A copy of a tree, made of copies of its parts.
 use Rattle.std.proofs.Common.{◌≡◌, ℕ, zero, suc, ◌+◌, ◌<◌, ◌≤◌, List, [], ◌∷◌, ◌++◌, length, map, take, get_or, sym, ap, ◌∙◌, subst, arith}
-use Rattle.std.specs.List.{AllZip, AllByRecursion}
+use Rattle.std.specs.List.{All, AllZip, AllByRecursion}
 use Rattle.std.specs.List.{insert}
-use Rattle.std.proofs.lemmas.List.{get_or_default, take_all, length-take-le}
+use Rattle.std.proofs.lemmas.List.{get_or_default, take_all, length-take-le, length-map}
 use Rattle.std.proofs.lemmas.List.Edits.{insert_end}
-use Rattle.std.proofs.lemmas.List.Elements.{length_all_zip, all_zip_more}
+use Rattle.std.proofs.lemmas.List.Elements.{length_all_zip, all_zip_more, All-from_recursion, recursion_from_All}
 use Rattle.fc_node.specs.Weave.{behind, weave}
 use Rattle.fc_node.specs.declared.node.Node.{Node}
 use Rattle.fc_node.specs.Node.{own_pairs, children_of, child_at, pairs_of, IsLeaf, IsLevelled}
-use Rattle.fc_node.proofs.Pairs.{pairs_is, leaf_children}
+use Rattle.fc_node.proofs.Lists.{all_front, all_back, all_at}
+use Rattle.fc_node.proofs.Pairs.{IsBelow, pairs_is, leaf_children}
 use Rattle.fc_copy.specs.Copy.{IsCopy, IsCopyUpTo}
 
 module _ {X : Type 0} (R : X → X → Type 0) where
@@ -101,3 +102,43 @@ module _ {K V : Type 0} (same : K × V → K × V → Type 0) where
         levels : (h : ℕ) → IsLevelled h n → IsLevelled h m
         levels zero l = let f = l.0 in (omega (arith, many, f), copied.leaf l.1)
         levels (suc h) l = let f = l.0 in let k = l.1 in (omega (arith, many, f), omega (arith, many, wide, k), lower h (children_of n) (children_of m) below l.2)
+
+-- What holds of all pairs in and below a node holds of its own pairs, and of those in and below each child.
+module _ {X : Type 0} (P : X → Type 0) where
+  own_behind : (ps : List X) (cs : List (List X)) → AllByRecursion P (behind ps cs) → AllByRecursion P ps
+  own_behind [] cs a = tt
+  own_behind (p ∷ ps) [] a = a
+  own_behind (p ∷ ps) (c ∷ cs) a = (a.0, own_behind ps cs (all_back P c (behind ps cs) a.1))
+
+  own_woven : (cs : List (List X)) (ps : List X) → AllByRecursion P (weave cs ps) → AllByRecursion P ps
+  own_woven [] ps a = a
+  own_woven (c ∷ cs) ps a = own_behind ps cs (all_back P c (behind ps cs) a)
+
+  lists_behind : (ps : List X) (cs : List (List X)) → length cs ≡ length ps → AllByRecursion P (behind ps cs) → AllByRecursion (AllByRecursion P) cs
+  lists_behind ps [] e a = tt
+  lists_behind [] (c ∷ cs) e a = absurd (omega arith)
+  lists_behind (p ∷ ps) (c ∷ cs) e a = (all_front P c (behind ps cs) a.1, lists_behind ps cs (omega arith) (all_back P c (behind ps cs) a.1))
+
+  lists_woven : (cs : List (List X)) (ps : List X) → length cs ≡ length ps + 1 → AllByRecursion P (weave cs ps) → AllByRecursion (AllByRecursion P) cs
+  lists_woven [] ps e a = tt
+  lists_woven (c ∷ cs) ps e a = (all_front P c (behind ps cs) a, lists_behind ps cs (omega arith) (all_back P c (behind ps cs) a))
+
+module _ {K V : Type 0} (P : K × V → Type 0) where
+  pub all_own : (n : Node K V) → All P (pairs_of n) → All P (own_pairs n)
+  all_own n a = All-from_recursion P (own_pairs n) (own_woven P (map pairs_of (children_of n)) (own_pairs n) (subst (AllByRecursion P) (pairs_is n) (recursion_from_All P (pairs_of n) a)))
+
+  list_at : (cs : List (Node K V)) (i : ℕ) (d : Node K V) → i < length cs → AllByRecursion (AllByRecursion P) (map pairs_of cs) → AllByRecursion P (pairs_of (get_or cs i d))
+  list_at [] i d h a = absurd (omega arith)
+  list_at (c ∷ cs) zero d h a = a.0
+  list_at (c ∷ cs) (suc i) d h a = list_at cs i d (omega arith) a.1
+
+  wide_list : (cs : List (Node K V)) (m : ℕ) → length cs ≡ m → length (map pairs_of cs) ≡ m
+  wide_list cs m e = length-map cs _ ∙ e
+
+  -- A child of a levelled node is levelled too.
+  pub all_below : (h : ℕ) (n c : Node K V) (i : ℕ) → IsLevelled h n → i < length (children_of n) → c ≡ child_at n i → All P (pairs_of n) → (g : ℕ) × IsLevelled g c × All P (pairs_of c)
+  all_below zero n c i l h e a = let w = ap length (leaf_children n l.1) in absurd (omega arith)
+  all_below (suc g) n c i l h e a =
+      let lists = lists_woven P (map pairs_of (children_of n)) (own_pairs n) (wide_list (children_of n) (length (own_pairs n) + 1) l.1) (subst (AllByRecursion P) (pairs_is n) (recursion_from_All P (pairs_of n) a)) in
+      let levels = all_at (IsBelow g) (children_of n) i n h l.2 in
+      (g, subst (IsLevelled g) (sym e) levels.1, subst (λ x. All P (pairs_of x)) (sym e) (All-from_recursion P (pairs_of (child_at n i)) (list_at (children_of n) i n h lists)))

@@ -9,6 +9,10 @@ module _ {K V : Type 0} where
   abbrev pub AreSame : (K → K → Type 0) → (V → V → Type 0) → K × V → K × V → Type 0
   AreSame same_key same_value p q = same_key p.0 q.0 × same_value p.1 q.1
 
+  -- Neither the copy of the key nor that of the value is ever refused.
+  abbrev pub HasSureCopy : (K → Type 0) → (V → Type 0) → K × V → Type 0
+  HasSureCopy sure_key sure_value p = sure_key p.0 × sure_value p.1
+
   -- A tree as another one: the same pairs, in the node itself and in all, and on as many levels.
   pub record IsCopy (same : K × V → K × V → Type 0) (source copy : Node K V) : Type 0 where
     pub pairs : AllZip same (pairs_of source) (pairs_of copy)

@@ -1,7 +1,7 @@
 //! Copies of maps.
-ghost use Rattle.std.specs.Prelude.{◌≡◌, true, []};
+ghost use Rattle.std.specs.Prelude.{◌≡◌, true, [], All, IfErr, MatchResult};
 ghost use Rattle.std.specs.List.{AllZip};
-ghost use Rattle.fc_copy.specs.Copy.{AreSame};
+ghost use Rattle.fc_copy.specs.Copy.{AreSame, HasSureCopy};
 ghost use Rattle.fc_map.specs.Entries.{entries};
 
 use super::BTreeMap;
@@ -13,8 +13,8 @@ use fc_copy::copy::try_copy;
 /// `BTreeMap::try_clone`.
 ///
 /// # Errors
-/// `AllocError` where a node was refused, or the error of a key or a value whose copy was; never where the map is empty. What was made by
-/// then is dropped.
+/// `AllocError` where a node was refused, or the error of a key or a value whose copy was; never where the map is empty. Where no copy
+/// of a key or a value of the map is ever refused, `AllocError` alone. What was made by then is dropped.
 impl<K: Ord + TryClone, V: TryClone> TryClone for BTreeMap<K, V> {
     ghost same = { λ source copy. AllZip (AreSame K.same V.same) (entries source) (entries copy) };
 
@@ -22,7 +22,11 @@ impl<K: Ord + TryClone, V: TryClone> TryClone for BTreeMap<K, V> {
 
     ghost never_refuses = { λ source. entries source ≡ [] };
 
-    fn try_clone(&self) -> Result<BTreeMap<K, V>, TryReserveError> {
+    fn try_clone(&self) -> Result<BTreeMap<K, V>, TryReserveError>
+        requires { K.can_clone × V.can_clone × ((a b : K) → K.same a b → K.eq a b ≡ true) }
+        ensures copied { MatchResult result (λ copy. AllZip (AreSame K.same V.same) (entries self.now) (entries copy)) (λ _. ¬ (entries self.now ≡ [])) }
+        ensures refused { All (HasSureCopy K.never_refuses V.never_refuses) (entries self.now) → IfErr result (λ e. e ≡ TryReserveError.AllocError) }
+    {
         let Some(root) = &self.root else {
             return Ok(BTreeMap::new(self.alloc));
         };

@@ -1,7 +1,7 @@
 use Rattle.std.proofs.Common.{◌<◌, rules, arith, sym, subst}
 use Rattle.fc_search.proofs.Nodes.{nodes_of, fewer_nodes}
-use Rattle.fc_copy.specs.Copy.{AreSame, IsCopyUpTo}
-use Rattle.fc_copy.proofs.CopyFacts.{inner_copy, children_copied, child_copied, tree_copied}
+use Rattle.fc_copy.specs.Copy.{AreSame, HasSureCopy, IsCopyUpTo}
+use Rattle.fc_copy.proofs.CopyFacts.{inner_copy, children_copied, child_copied, tree_copied, all_own, all_below}
 use Rattle.fc_copy.proofs.copy.+try_copy.Goals as goal
 
 pub try_copy-requires : goal.try_copy-requires
@@ -24,8 +24,19 @@ pub loop-i-preserved : goal.loop-i-preserved
 loop-i-preserved g t c =
     let copied = subst (IsCopyUpTo (AreSame g.K.TryClone.same g.V.TryClone.same) c.loop-i.i c.args.node.now) (sym c.deref_mut.ensures.value) c.loop-i.invariant.1 in
     let put = c.push_child.ensures in
-    (c.loop-i.invariant.0, child_copied (AreSame g.K.TryClone.same g.V.TryClone.same) c.loop-i.i c.args.node.now c.deref_mut.result.now copied c.push_child.new.node c.child.result.now c.in_ok-child.child.value (omega (arith, c.loop-i.invariant.0)) c.child.ensures c.in_ok-child.ensures put.own put.children put.inner)
+    (c.loop-i.invariant.0, child_copied (AreSame g.K.TryClone.same g.V.TryClone.same) c.loop-i.i c.args.node.now c.deref_mut.result.now copied c.push_child.new.node c.child.result.now c.in_ok-child.child.value (omega (arith, c.loop-i.invariant.0)) c.child.ensures c.in_ok-child.ensures.copied put.own put.children put.inner)
 
-pub returns : goal.returns
-returns g t c =
+pub returns-clause-copied : goal.returns-clause-copied
+returns-clause-copied g t c =
     tree_copied (AreSame g.K.TryClone.same g.V.TryClone.same) c.loop-i.i c.args.node.now c.loop-i.copy.value c.loop-i.invariant.1 (omega (arith, c.loop-i.invariant.0))
+
+pub returns-in_err-copy-clause-refused : goal.returns-in_err-copy-clause-refused
+returns-in_err-copy-clause-refused g t c h l sure =
+    let is = c.in_err-copy.ensures.refused (all_own (HasSureCopy g.K.TryClone.never_refuses g.V.TryClone.never_refuses) c.args.node.now sure) in
+    search (rules, is)
+
+pub returns-in_err-child-clause-refused : goal.returns-in_err-child-clause-refused
+returns-in_err-child-clause-refused g t c h l sure =
+    let below = all_below (HasSureCopy g.K.TryClone.never_refuses g.V.TryClone.never_refuses) h c.args.node.now c.child.result.now c.loop-i.i l (omega (arith, c.loop-i.invariant.0)) c.child.ensures sure in
+    let is = c.in_err-child.ensures.refused below.0 below.1 below.2 in
+    search (rules, is)

@@ -9,4 +9,4 @@ some_pairs (x ∷ s) some = omega arith
 
 -- a copy of a map that is not empty was refused
 pub returns-in-Err : goal.returns-in-Err
-returns-in-Err g c side = refused c.in-Err.e (some_pairs (entries c.args.map.now) c.in-Err.ensures) (refl, refl, refl)
+returns-in-Err g c side = refused c.in-Err.e (some_pairs (entries c.args.map.now) c.in-Err.ensures.copied) (refl, refl, refl)

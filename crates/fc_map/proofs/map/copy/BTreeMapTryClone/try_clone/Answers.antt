@@ -1,25 +1,35 @@
-use Rattle.std.proofs.Common.{◌≡◌, ◌∙◌, length, ap, sym, subst, Some}
+use Rattle.std.proofs.Common.{◌≡◌, ◌∙◌, length, rules, ap, sym, subst, Some}
+use Rattle.std.specs.List.{All}
 use Rattle.std.proofs.lemmas.List.Elements.{length_all_zip}
 use Rattle.std.proofs.lemmas.Result.{err_from_is_err_and}
 use Rattle.fc_base.specs.Ascending.{IsAscending}
-use Rattle.fc_node.specs.Node.{pairs_of}
-use Rattle.fc_copy.specs.Copy.{AreSame, IsCopy}
+use Rattle.fc_node.specs.Node.{pairs_of, IsLevelled}
+use Rattle.fc_copy.specs.Copy.{AreSame, HasSureCopy, IsCopy}
 use Rattle.fc_map.specs.Entries.{root_of, entries, IsSoundMap}
 use Rattle.fc_map.proofs.CopyFacts.{equal_answer, ascending_copied, sound_copied, not_empty}
 use Rattle.fc_map.proofs.map.copy.BTreeMapTryClone.try_clone.Goals as goal
 
-pub returns-in_err-copy : goal.returns-in_err-copy
-returns-in_err-copy g c =
+pub returns-in_err-copy-clause-copied : goal.returns-in_err-copy-clause-copied
+returns-in_err-copy-clause-copied g c =
     let p = err_from_is_err_and c.from_residual.result c.from_residual.ensures.1 in
     let sound : IsSoundMap (Some c.in-Some.root.value) = rw c.in-Some.is at c.self.invariant.1 in
     rw p.1 (λ none. not_empty c.in-Some.root.value sound (sym (ap (λ r. entries (root_of r)) c.in-Some.is) ∙ ap entries c.self.view_is ∙ none))
+
+pub returns-in_err-copy-clause-refused : goal.returns-in_err-copy-clause-refused
+returns-in_err-copy-clause-refused g c sure =
+    let P = HasSureCopy g.K.TryClone.never_refuses g.V.TryClone.never_refuses in
+    let sound : IsSoundMap (Some c.in-Some.root.value) = rw c.in-Some.is at c.self.invariant.1 in
+    let list : entries c.args.self.now ≡ pairs_of c.in-Some.root.value = sym (ap entries c.self.view_is) ∙ ap (λ r. entries (root_of r)) c.in-Some.is in
+    let all = subst (λ n. All P (pairs_of n)) (sym c.deref.ensures) (subst (All P) list sure) in
+    let is = c.in_err-copy.ensures.refused sound.0 (subst (IsLevelled sound.0) (sym c.deref.ensures) sound.2.1) all in
+    search (rules, is)
 
 pub invariant_of-result : goal.invariant_of-result
 invariant_of-result g c =
     let source = c.in-Some.root.value in
     let copy = c.in_ok-copy.copy.value in
     let same = AreSame g.K.TryClone.same g.V.TryClone.same in
-    let copied = subst (λ n. IsCopy same n copy) c.deref.ensures c.in_ok-copy.ensures in
+    let copied = subst (λ n. IsCopy same n copy) c.deref.ensures c.in_ok-copy.ensures.copied in
     let ascending : IsAscending g.K.Ord.cmp (pairs_of source) = rw c.in-Some.is at c.self.invariant.0 in
     let sound : IsSoundMap (Some source) = rw c.in-Some.is at c.self.invariant.1 in
     let len : c.self.inside.len ≡ length (pairs_of source) = c.self.invariant.2 ∙ ap (λ r. length (entries (root_of r))) c.in-Some.is in
