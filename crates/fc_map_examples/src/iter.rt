@@ -43,7 +43,11 @@ pub fn all_keys_reversed<K: Ord + Copy + Drop, V: Drop>(
 ) -> Result<Vec<K>, AllocError>
     ensures { IfOk result (λ all. all.items ≡ reverse (keys_of (entries map.now))) }
 {
-    map.keys().rev().copied().collect(alloc)
+    let mut all = Vec::new(alloc);
+    for key in map.keys().rev() {
+        all.push(*key)?;
+    }
+    Ok(all)
 }
 
 /// All values, in the order of their keys.
