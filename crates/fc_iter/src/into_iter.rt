@@ -4,6 +4,8 @@ ghost use Rattle.std.specs.Iterator.{YieldsFirst, YieldsLast, item_count, at_mos
 ghost use Rattle.std.specs.Iterator.SizeHint.{IsWithinCount};
 ghost use Rattle.fc_node.specs.Tree.{entries, root_of, IsSoundMap};
 
+mod debug;
+
 use fc_node::node::Node;
 use fc_walk::owned::{Nodes, fill_back, fill_front, give_first, give_last, opened};
 use fc_walk::stack::Stack;

@@ -20,6 +20,7 @@ mod append;
 mod bounds;
 mod compare;
 mod copy;
+mod debug;
 mod ends;
 mod entry;
 mod extend;

@@ -6,6 +6,8 @@ ghost use Rattle.std.specs.Iterator.SizeHint.{IsWithinCount};
 ghost use Rattle.fc_base.specs.Ranges.{bound_now, is_range};
 ghost use Rattle.fc_set.specs.Items.{items, AreAscending, items_within};
 
+mod debug;
+
 use super::BTreeSet;
 use fc_map::map;
 use std::alloc::AllocError;
