@@ -1,6 +1,7 @@
 //! Jobs over the ordered map for a driver outside Rattle, which measures them and compares their answers.
 #![tactic(auto)]
 
+mod sets;
 mod vectors;
 mod walks;
 mod whole;
