@@ -2,7 +2,13 @@
 #![tactic(auto)]
 
 #[cfg(test)]
+mod copies;
+#[cfg(test)]
 mod items;
+#[cfg(test)]
+mod operators;
+#[cfg(test)]
+mod predicates;
 #[cfg(test)]
 mod set;
 #[cfg(test)]

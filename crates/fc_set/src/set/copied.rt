@@ -1,8 +1,9 @@
 //! Sets made of copies of what a walk lends, in one pass and without a search.
-ghost use Rattle.std.specs.Prelude.{◌≡◌, ◌<◌, true, List, length, All, IfOk, IfErr, IsErr};
+ghost use Rattle.std.specs.Prelude.{◌≡◌, ◌<◌, true, List, [], length, All, IfOk, IfErr, IsErr};
 ghost use Rattle.std.specs.Iterator.{IsFinite};
 ghost use Rattle.std.specs.List.{AllZip};
 ghost use Rattle.fc_base.specs.declared.try_reserve_error.TryReserveError.TheVariants.{AllocError, CapacityOverflow};
+ghost use Rattle.fc_map.specs.Entries.{IsSoundMap};
 ghost use Rattle.fc_set.specs.Copied.{Lends, MayCopyRefuse};
 ghost use Rattle.fc_set.specs.Items.{items, AreAscending};
 
@@ -26,12 +27,25 @@ pub(super) fn try_copied<'a, T: Ord + TryClone + 'a, I: Iterator<Item = &'a T> +
     ensures copied { (all : List T) → Lends I.next_gives walk all → IfOk result (λ made. AllZip T.same all (items made)) }
     ensures refused { (all : List T) → Lends I.next_gives walk all → IfErr result (MayCopyRefuse T.never_refuses all) }
     ensures full { (all : List T) → Lends I.next_gives walk all → usize.MAX < length all → IsErr result }
+    ensures ascending { IfOk result (λ made. AreAscending T.cmp (items made)) }
+    ensures sound { IfOk result (λ made. IsSoundMap made) }
 {
     let count = try_count(walk.clone()?)?;
     if count == 0 {
-        return Ok(BTreeSet::new(alloc));
+        return Ok(empty(alloc));
     }
     try_filled(alloc, count, walk)
+}
+
+// An empty set, which is sound.
+fn empty<T: Ord>(alloc: Global) -> BTreeSet<T>
+    ensures items { items result ≡ [] }
+    ensures sound { IsSoundMap result }
+{
+    let set = BTreeSet::new(alloc);
+    // Shows that the set is sound.
+    let _len = set.len();
+    set
 }
 
 // How many items the walk gives.
@@ -63,6 +77,8 @@ fn try_filled<'a, T: Ord + TryClone + 'a, I: Iterator<Item = &'a T> + Drop>(
     requires count { (all : List T) → Lends I.next_gives walk all → count ≡ length all }
     ensures copied { IfOk result (λ made. (all : List T) → Lends I.next_gives walk all → AllZip T.same all (items made)) }
     ensures refused { IfErr result (λ e. (all : List T) → Lends I.next_gives walk all → All T.never_refuses all → e ≡ AllocError) }
+    ensures ascending { IfOk result (λ made. AreAscending T.cmp (items made)) }
+    ensures sound { IfOk result (λ made. IsSoundMap made) }
 {
     let mut builder = Builder::try_new(alloc, count)?;
     for item in walk {

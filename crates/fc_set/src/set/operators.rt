@@ -1,8 +1,9 @@
 //! Sets made of copies of the items of two others.
 ghost use Rattle.std.specs.Prelude.{◌≡◌, ◌<◌, true, length, IfOk, IfErr, IsErr};
 ghost use Rattle.std.specs.List.{AllZip};
+ghost use Rattle.fc_map.specs.Entries.{IsSoundMap};
 ghost use Rattle.fc_set.specs.Copied.{MayCopyRefuse};
-ghost use Rattle.fc_set.specs.Items.{items};
+ghost use Rattle.fc_set.specs.Items.{items, AreAscending};
 ghost use Rattle.fc_set.specs.Operations.{difference, symmetric_difference, intersection, union};
 
 use super::BTreeSet;
@@ -24,6 +25,8 @@ impl<T: Ord + TryClone> BTreeSet<T> {
         requires equal { (a b : T) → T.same a b → T.eq a b ≡ true }
         ensures copied { IfOk result (λ made. AllZip T.same (difference T.cmp (items self.now) (items other.now)) (items made)) }
         ensures refused { IfErr result (MayCopyRefuse T.never_refuses (difference T.cmp (items self.now) (items other.now))) }
+        ensures ascending { IfOk result (λ made. AreAscending T.cmp (items made)) }
+        ensures sound { IfOk result (λ made. IsSoundMap made) }
     {
         try_copied(item::allocator(&self.map), self.difference(other))
     }
@@ -40,6 +43,8 @@ impl<T: Ord + TryClone> BTreeSet<T> {
         ensures copied { IfOk result (λ made. AllZip T.same (symmetric_difference T.cmp (items self.now) (items other.now)) (items made)) }
         ensures refused { IfErr result (MayCopyRefuse T.never_refuses (symmetric_difference T.cmp (items self.now) (items other.now))) }
         ensures full { usize.MAX < length (symmetric_difference T.cmp (items self.now) (items other.now)) → IsErr result }
+        ensures ascending { IfOk result (λ made. AreAscending T.cmp (items made)) }
+        ensures sound { IfOk result (λ made. IsSoundMap made) }
     {
         try_copied(item::allocator(&self.map), self.symmetric_difference(other))
     }
@@ -54,6 +59,8 @@ impl<T: Ord + TryClone> BTreeSet<T> {
         requires equal { (a b : T) → T.same a b → T.eq a b ≡ true }
         ensures copied { IfOk result (λ made. AllZip T.same (intersection T.cmp (items self.now) (items other.now)) (items made)) }
         ensures refused { IfErr result (MayCopyRefuse T.never_refuses (intersection T.cmp (items self.now) (items other.now))) }
+        ensures ascending { IfOk result (λ made. AreAscending T.cmp (items made)) }
+        ensures sound { IfOk result (λ made. IsSoundMap made) }
     {
         try_copied(item::allocator(&self.map), self.intersection(other))
     }
@@ -69,6 +76,8 @@ impl<T: Ord + TryClone> BTreeSet<T> {
         ensures copied { IfOk result (λ made. AllZip T.same (union T.cmp (items self.now) (items other.now)) (items made)) }
         ensures refused { IfErr result (MayCopyRefuse T.never_refuses (union T.cmp (items self.now) (items other.now))) }
         ensures full { usize.MAX < length (union T.cmp (items self.now) (items other.now)) → IsErr result }
+        ensures ascending { IfOk result (λ made. AreAscending T.cmp (items made)) }
+        ensures sound { IfOk result (λ made. IsSoundMap made) }
     {
         try_copied(item::allocator(&self.map), self.union(other))
     }

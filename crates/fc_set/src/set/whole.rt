@@ -1,5 +1,5 @@
 //! Whole sets: joined, cut in two, copied, and extended by what an iterator gives or made of it.
-ghost use Rattle.std.specs.Prelude.{◌≡◌, ◌+◌, ◌*◌, ◌<◌, ◌≤◌, ◌⊎◌, ◌++◌, true, List, [], length, IfOk, IfErr, OnOk, IsErr};
+ghost use Rattle.std.specs.Prelude.{◌≡◌, ◌+◌, ◌*◌, ◌<◌, ◌≤◌, ◌⊎◌, ◌++◌, true, List, [], length, IfOk, IfErr, OnOk, IsErr, MatchResult};
 ghost use Rattle.std.specs.Iterator.{IsFiniteIterable};
 ghost use Rattle.std.specs.List.{AllZip};
 ghost use Rattle.fc_base.specs.Growth.{MayAppendRefuse};
@@ -108,8 +108,15 @@ impl<T: Ord + TryClone> TryClone for BTreeSet<T> {
 
     ghost never_refuses = { λ source. items source ≡ [] };
 
-    fn try_clone(&self) -> Result<BTreeSet<T>, TryReserveError> {
+    fn try_clone(&self) -> Result<BTreeSet<T>, TryReserveError>
+        requires { T.can_clone × ((a b : T) → T.same a b → T.eq a b ≡ true) }
+        ensures copied { MatchResult result (λ copy. AllZip T.same (items self.now) (items copy)) (λ _. ¬ (items self.now ≡ [])) }
+        ensures ascending { IfOk result (λ copy. AreAscending T.cmp (items copy)) }
+        ensures sound { IfOk result (λ copy. IsSoundMap copy) }
+    {
         let copy = self.map.try_clone()?;
+        // Shows that the copy is ascending and sound.
+        let _len = copy.len();
         Ok(BTreeSet { map: copy })
     }
 }
@@ -127,7 +134,13 @@ impl<T: Ord + Drop> TryFromIterator<T> for BTreeSet<T> {
     fn try_from_iterator<I: IntoIterator<Item = T>>(
         alloc: Global,
         given: I,
-    ) -> Result<BTreeSet<T>, TryReserveError> {
+    ) -> Result<BTreeSet<T>, TryReserveError>
+        requires ends { IsFiniteIterable I.into_iter_gives I.IntoIter.can_next I.IntoIter.remaining given }
+        ensures made { IfOk result (λ made. (all : List T) × GivesAll I.into_iter_gives I.IntoIter.next_gives given all × (items made ≡ extended_items T.cmp [] all)) }
+        ensures refused { IfErr result (λ e. (taken : List T) × GivesFirst I.into_iter_gives I.IntoIter.next_gives given taken × ((new : List T) × ((rest : List T) → AreExtendedUpTo T.cmp [] (taken ++ rest) new e))) }
+        ensures ascending { IfOk result (λ made. AreAscending T.cmp (items made)) }
+        ensures sound { IfOk result (λ made. IsSoundMap made) }
+    {
         let mut set = BTreeSet::new(alloc);
         set.try_extend(given)?;
         Ok(set)

@@ -4,7 +4,8 @@ use Rattle.std.specs.List.{AllZip}
 use Rattle.std.proofs.lemmas.List.Elements.{length_all_zip}
 use Rattle.std.proofs.lemmas.Result.{err_from_is_err_and}
 use Rattle.fc_set.specs.Copied.{Lends}
-use Rattle.fc_set.proofs.ItemFacts.{keys_length}
+use Rattle.fc_set.specs.Items.{AreAscending}
+use Rattle.fc_set.proofs.ItemFacts.{ascending_keys, keys_length}
 use Rattle.fc_set.proofs.CopiedFacts.{filled_start, filled_more, filled_all, has_room, holds_next, equal_copy, ascending_copies}
 use Rattle.fc_set.proofs.set.copied.try_filled.Goals as goal
 
@@ -40,3 +41,12 @@ returns-in_err-copy-clause-refused g c =
 pub returns-clause-copied : goal.returns-clause-copied
 returns-clause-copied g c =
     λ all lends. subst (λ s. AllZip g.T.TryClone.same all (map (λ e. e.0) s)) (sym c.from_ascending.ensures.pairs) (filled_all g.I.Iterator.next_gives all g.T.TryClone.same c.loop-item.builder c.loop-item.item-iterator c.next.new.self (c.loop-item.invariant.2 all lends) c.in-None.ensures.steps)
+
+pub returns-clause-ascending : goal.returns-clause-ascending
+returns-clause-ascending g c =
+    let gives = c.requires.gives in
+    let pairs = c.loop-item.builder.pairs in
+    let copied = filled_all g.I.Iterator.next_gives gives.0 g.T.TryClone.same c.loop-item.builder c.loop-item.item-iterator c.next.new.self (c.loop-item.invariant.2 gives.0 gives.1) c.in-None.ensures.steps in
+    let equal = λ (a : g.row.T.Denot) (b : g.row.T.Denot) (s : g.T.TryClone.same a b). equal_copy (g.T.Ord.cmp a b) (sym (g.met.T.Ord.matches_eq a b) ∙ c.requires.equal a b s) in
+    let ascending = ascending_copies g.T.Ord.cmp g.met.T.Ord.total g.T.TryClone.same equal gives.0 pairs copied gives.2 in
+    subst (λ s. AreAscending g.T.Ord.cmp (map (λ e. e.0) s)) (sym c.from_ascending.ensures.pairs) (ascending_keys g.T.Ord.cmp pairs ascending)
