@@ -1,6 +1,8 @@
 //! Jobs over the ordered map for a driver outside Rattle, which measures them and compares their answers.
 #![tactic(auto)]
 
+mod hashed;
+mod reading;
 mod sets;
 mod vectors;
 mod walks;

@@ -5,6 +5,7 @@ ghost use Rattle.fc_base.specs.declared.try_reserve_error.TryReserveError.TheVar
 ghost use Rattle.fc_hash.specs.Pairs.{MayRefuseOne, IsMap, value_at, IsPut, IsTaken};
 
 mod copy;
+mod debug;
 mod iter;
 
 use fc_base::TryReserveError;

@@ -4,4 +4,6 @@
 #[cfg(test)]
 mod map;
 #[cfg(test)]
+mod printing;
+#[cfg(test)]
 mod tokens;

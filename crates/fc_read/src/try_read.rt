@@ -1,5 +1,5 @@
 //! Reading a bounded source to its end.
-ghost use Rattle.std.specs.Prelude.{◌≡◌, ℕ, ◌+◌, ◌<◌, ◌≤◌, ◌⊎◌, Option, List, [], Ok, length, IfOk, OnOk, IfErr, OnErr};
+ghost use Rattle.std.specs.Prelude.{◌≡◌, ℕ, ◌+◌, ◌<◌, ◌≤◌, ◌⊎◌, Option, List, [], Ok, length, IfOk, IsOk, OnOk, IfErr};
 ghost use Rattle.std.specs.IoError.{error_kind};
 ghost use Rattle.std.specs.Io.Take.{take_limit, take_inner};
 ghost use Rattle.fc_read.specs.Reading.{IsMoved, IsWhole};
@@ -32,14 +32,16 @@ pub trait TryRead {
     /// The same into a new vector, which is dropped where that fails. Upstream: `TryRead::read_into_try_vec`.
     ///
     /// # Errors
-    /// As `try_read_up_to`. What was read before is lost.
+    /// As `try_read_up_to`. What was read before is lost, fewer bytes than the limit, by which the limit fell.
     fn read_into_try_vec(&mut self, alloc: Global) -> io::Result<TryVec<u8>>
     where
         Self: Sized,
         ensures whole { IfOk result (λ v. IsWhole (source self.old) (source self.new) [] v.items (bound self.old) (length v.items)) }
         ensures fallen { IfOk result (λ v. bound self.new + length v.items ≡ bound self.old) }
-        ensures none { bound self.old ≡ 0 → IfOk result (λ v. v.items ≡ []) }
-        ensures failed { OnErr result ((lost : List ℕ) × IsMoved (source self.old) (source self.new) [] lost (bound self.old) × (bound self.new + length lost ≡ bound self.old)) }
+        ensures none { bound self.old ≡ 0 → IsOk result × IfOk result (λ v. v.items ≡ []) × (source self.new ≡ source self.old) }
+        ensures failed { IfErr result (λ e.
+            ((error_kind e ≡ ErrorKind.OutOfMemory) × (source self.new ≡ source self.old) × (bound self.new ≡ bound self.old))
+            ⊎ ((lost : List ℕ) × (length lost < bound self.old) × IsMoved (source self.old) (source self.new) [] lost (bound self.old) × (bound self.new + length lost ≡ bound self.old))) }
     {
         let mut buf = TryVec::new(alloc);
         self.try_read_to_end(&mut buf)?;

@@ -22,6 +22,13 @@ fn is_text(answer: &Result<String, TryReserveError>, wanted: &str) -> bool {
     }
 }
 
+fn has_room(answer: &Result<String, TryReserveError>, room: usize) -> bool {
+    match answer {
+        Ok(text) => text.capacity() >= room,
+        Err(_) => false,
+    }
+}
+
 fn is_refused(answer: &Result<String, TryReserveError>) -> bool {
     matches!(answer, Err(TryReserveError::AllocError))
 }
@@ -29,7 +36,8 @@ fn is_refused(answer: &Result<String, TryReserveError>) -> bool {
 #[test]
 fn a_text_longer_than_its_room(rt: HostRuntime) -> Result<(), Fail> {
     for room in [3, 0, 1, 100] {
-        assert!(rt; is_text(&try_format(rt.alloc(), room, &123u64), "123"));
+        let answer = try_format(rt.alloc(), room, &123u64);
+        assert!(rt; is_text(&answer, "123") && has_room(&answer, room));
     }
     Ok(())
 }

@@ -9,6 +9,8 @@ mod copies;
 #[cfg(test)]
 mod drops;
 #[cfg(test)]
+mod printing;
+#[cfg(test)]
 mod refusals;
 #[cfg(test)]
 mod try_vec;

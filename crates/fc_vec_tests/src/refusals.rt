@@ -1,8 +1,11 @@
 //! What refused requests leave: the sweep refuses each request of these tests in turn.
+ghost use Rattle.std.specs.Prelude.{◌≡◌};
+
 use crate::vectors::holds;
 use fc_base::{TryClone, TryReserveError};
 use fc_vec::{FallibleCopyVec, FallibleVec, TryCollect, TryVec, try_from_elem};
 use std::alloc::{AllocError, Global};
+use std::cell::Cell;
 
 // Three items with no room for a fourth, and one item.
 fn full_and_one(alloc: Global) -> Result<(Vec<u64>, Vec<u64>), AllocError> {
@@ -88,40 +91,65 @@ fn a_refused_extension_leaves_the_vector(rt: HostRuntime) {
     assert!(rt; holds_after(&answer, &v, &[1, 2, 3, 4]));
 }
 
+// A number in a box. Its copies are counted before their boxes are asked for.
+#[derive(Drop)]
+struct Boxed<'a> {
+    number: Box<u64>,
+    asked: &'a Cell<u64>,
+}
+
+impl TryClone for Boxed<'_> {
+    ghost same = { λ source copy. copy.number.value ≡ source.number.value };
+
+    fn try_clone(&self) -> Result<Self, TryReserveError> {
+        self.asked.set(self.asked.get().wrapping_add(1));
+        let number = self.number.try_clone()?;
+        Ok(Boxed {
+            number,
+            asked: self.asked,
+        })
+    }
+}
+
 // The numbers from 1 on, each in a box.
-fn boxes(alloc: Global, count: u64) -> Result<Vec<Box<u64>>, AllocError> {
+fn boxes<'a>(
+    alloc: Global,
+    count: u64,
+    asked: &'a Cell<u64>,
+) -> Result<Vec<Boxed<'a>>, AllocError> {
     let mut made = Vec::with_capacity(alloc, count as usize)?;
     for i in 0..count {
-        made.push(Box::new(alloc, i.wrapping_add(1))?)?;
+        let number = Box::new(alloc, i.wrapping_add(1))?;
+        made.push(Boxed { number, asked })?;
     }
     Ok(made)
 }
 
 // The boxes hold the numbers from 1 on.
-fn count_up(boxes: &[Box<u64>]) -> bool {
+fn count_up(boxes: &[Boxed]) -> bool {
     for i in 0..boxes.len() {
-        if *boxes[i] != (i as u64).wrapping_add(1) {
+        if *boxes[i].number != (i as u64).wrapping_add(1) {
             return false;
         }
     }
     true
 }
 
-// The room of three is asked for first, then a box for each copy. With the room refused the vector is as before, without room; with the box of
-// the copy at a place refused, the copies before it stay. What is then left of the sources goes in by a call with ample memory.
+// The room of three is asked for first, then a box for each copy. With the room refused no copy is asked for; with the box of a copy refused,
+// the copies before it stay, as many as were asked for but one. What is then left of the sources goes in by a call with ample memory.
 #[test]
 fn an_extension_keeps_the_boxes_before_the_refused_one(rt: HostRuntime) {
-    let Ok(sources) = boxes(rt.alloc(), 3) else {
+    let asked = Cell::new(0);
+    let Ok(sources) = boxes(rt.alloc(), 3, &asked) else {
         return;
     };
     let mut v = Vec::new(rt.alloc());
     match v.try_extend_from_slice_no_copy(&sources) {
-        Ok(()) => assert!(rt; v.len() == 3),
+        Ok(()) => assert!(rt; v.len() == 3 && asked.get() == 3),
         Err(error) => {
-            assert!(rt;
-                is_refused(&error) && v.len() < 3 && (v.capacity() == 0 || v.capacity() >= 3)
-            );
-            assert!(rt; v.capacity() > 0 || v.is_empty());
+            assert!(rt; is_refused(&error));
+            assert!(rt; v.len() == asked.get().saturating_sub(1) as usize);
+            assert!(rt; (v.capacity() == 0) == (asked.get() == 0));
             let (_, left) = sources.split_at(v.len().min(sources.len()));
             assert!(rt; v.try_extend_from_slice_no_copy(left).is_err() || v.len() == 3);
         }

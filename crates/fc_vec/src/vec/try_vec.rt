@@ -7,6 +7,7 @@ ghost use Rattle.fc_vec.specs.Vectors.{MayRefuse, IsExtended, IsExtendedUpTo};
 
 mod compare;
 mod copy;
+mod debug;
 mod iter;
 mod lend;
 mod std_io;
