@@ -9,10 +9,18 @@ pub use Rattle.fc_base.specs.Growth.{growth_error, MayGrowRefuse, append_error, 
 pub use Rattle.fc_base.specs.Joined.{placed, joined}
 pub use Rattle.fc_base.specs.Halves.{not_below}
 pub use Rattle.fc_base.specs.Extended.{extended, IsExtendedUpTo}
-pub use Rattle.fc_base.specs.Copies.{IsExact}
+pub use Rattle.fc_base.specs.Copies.{IsExact, SameContents}
+pub use Rattle.fc_base.specs.Boxed.{boxed_value}
 pub use Rattle.fc_copy.specs.Copy.{AreSame, HasSureCopy}
 -- the items of an iterator
 pub use Rattle.fc_vec.specs.Items.{GivesAll, GivesFirst}
+-- vectors, and reading into them
+pub use Rattle.fc_vec.specs.Vectors.{Vector, MayRefuse, resized, IsExtended, IsFilled, IsExtendedUpTo as IsCopiedUpTo}
+pub use Rattle.fc_vec.specs.Joined.{joined as joined_parts}
+pub use Rattle.fc_vec.specs.Lends.{with_items, lends_slice, lends_walk}
+pub use Rattle.fc_read.specs.Reading.{front, IsMoved, IsWhole}
+-- hashed maps
+pub use Rattle.fc_hash.specs.Pairs.{Hashed, MayRefuseOne, IsMap, value_at as hashed_value_at, IsPut, IsTaken, AreCopies}
 -- maps, their entries and walks
 pub use Rattle.fc_map.specs.Entries.{Map, entries, IsSoundMap, passed_in, now_value, now_pair}
 pub use Rattle.fc_map.specs.Counts.{IsBounded}

@@ -1,16 +1,22 @@
 //! Collections in which every call that takes memory answers a `Result`, and a refused call does no harm.
 //!
-//! `btree` has the ordered map and the ordered set, `command` a world of maps and sets behind commands and lines of text. The error of a refused call is
-//! `TryReserveError`; `TryClone` is for types whose copies may be refused, `TryFromIterator` for those that are made of an iterator's
-//! items, `FallibleBox` makes boxes that may be refused; a `Query` is what keys are looked up by. `count` counts comparisons and
-//! moves for contracts alone.
+//! `btree` has the ordered map and the ordered set, `hashmap` a map by the hashes of its keys, `vec` vectors, collections that are made of an
+//! iterator's items, and bounded reading (`vec::std_io`), `boxed` and `rc` boxes and shared values, `format` printing, `command` a world of maps
+//! and sets behind commands and lines of text. The error of a refused call is `TryReserveError`; `TryClone` is for types whose copies may be
+//! refused; a `Query` is what keys are looked up by. `count` counts comparisons and moves for contracts alone.
 #![tactic(auto)]
 
 pub mod btree;
+pub mod format;
+pub mod vec;
 
 pub use fc_base::{
-    FallibleBox, Query, TryClone, TryReserveError, boxed, count, query, try_clone,
-    try_reserve_error,
+    FallibleBox, FallibleRc, Query, TryBox, TryClone, TryReserveError, boxed, count, query, rc,
+    try_clone, try_reserve_error,
 };
 pub use fc_command::command;
-pub use fc_vec::{TryFromIterator, vec};
+pub use fc_hash::{TryHashMap, hashmap};
+pub use vec::std_io::{TryRead, try_read_up_to};
+pub use vec::{
+    FallibleCopyVec, FallibleVec, Iter, TryCollect, TryFromIterator, TryVec, try_from_elem,
+};

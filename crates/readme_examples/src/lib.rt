@@ -1,13 +1,15 @@
 //! The README's examples, in a crate that names `fallible_collections` alone.
 #![tactic(auto)]
 
-ghost use Rattle.std.specs.Prelude.{◌≡◌, List, [], IfOk, IsOk, IsSome, OnErr, Some};
+ghost use Rattle.std.specs.Prelude.{◌≡◌, List, [], IfOk, IfSome, IsOk, IsSome, OnErr, Some, string_bytes, decimal};
 ghost use Rattle.std.specs.Iterator.{IsFiniteIterable};
-ghost use Rattle.fallible_collections.specs.Words.{at, entries, extended, put, text_order, GivesAll};
+ghost use Rattle.fallible_collections.specs.Words.{at, entries, extended, front, hashed_value_at, put, text_order, GivesAll};
 
 use fallible_collections::btree::BTreeMap;
-use fallible_collections::{TryFromIterator, TryReserveError};
+use fallible_collections::format::try_format;
+use fallible_collections::{TryFromIterator, TryHashMap, TryReserveError, TryVec, try_read_up_to};
 use std::alloc::Global;
+use std::io::{self, Read};
 use std::ops::Bound;
 
 /// Two words, put in by key and by entry.
@@ -76,4 +78,30 @@ pub fn gathered<K: Ord + Drop, V: Drop, I: IntoIterator<Item = (K, V)>>(
     ensures { IfOk result (λ map. (all : List (K × V)) × GivesAll I.into_iter_gives I.IntoIter.next_gives pairs all × (entries map ≡ extended K.cmp [] all)) }
 {
     BTreeMap::try_from_iterator(alloc, pairs)
+}
+
+/// Reads a chunk of as many bytes as are asked for, or of all that the source has.
+pub fn read_chunk<R: Read>(alloc: Global, src: &mut R, length: u64) -> io::Result<TryVec<u8>>
+    ensures { IfOk result (λ chunk. IfSome (R.remaining src.old) (λ left. chunk.items ≡ front left length)) }
+{
+    let mut chunk = TryVec::new(alloc);
+    try_read_up_to(src, length, &mut chunk)?; // where the room is refused, nothing is read
+    Ok(chunk)
+}
+
+/// Counts a tag, and answers how often it came.
+pub fn count_tag(counts: &mut TryHashMap<u64, u64>, tag: u64) -> Result<u64, TryReserveError>
+    ensures counted { IfOk result (λ count. hashed_value_at ⟦<u64 as PartialEq>⟧.eq tag counts.new.pairs ≡ Some count) }
+    ensures unchanged { OnErr result (counts.new.pairs ≡ counts.old.pairs) }
+{
+    let count = counts.get(&tag).copied().unwrap_or(0).saturating_add(1);
+    counts.insert(tag, count)?;
+    Ok(count)
+}
+
+/// The text of a number, in a room of 20 bytes, which the greatest one needs.
+pub fn label(alloc: Global, number: u64) -> Result<String, TryReserveError>
+    ensures { IfOk result (λ text. string_bytes text ≡ decimal number) }
+{
+    try_format(alloc, 20, &number)
 }
