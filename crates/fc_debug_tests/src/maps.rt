@@ -1,6 +1,6 @@
 //! The texts of maps, of their walks and of their entries.
 use fc_base::TryReserveError;
-use fc_map::map::{BTreeMap, Entry, IntoIter, Iter, OccupiedEntry, VacantEntry};
+use fc_map::map::{BTreeMap, Entry, IntoIter, Iter, is_range};
 use std::alloc::{AllocError, Global};
 use std::ops::Bound;
 use std::test::Fail;
@@ -19,18 +19,6 @@ fn odd(alloc: Global, count: u64) -> Result<Numbers, TryReserveError> {
 
 fn text_of_map(alloc: Global, map: &Numbers) -> Result<String, AllocError> {
     format!(in alloc; "{map:?}")
-}
-
-fn text_of_walk(alloc: Global, walk: &Iter<'_, u64, u64>) -> Result<String, AllocError> {
-    format!(in alloc; "{walk:?}")
-}
-
-fn text_of_owned_walk(alloc: Global, walk: &IntoIter<u64, u64>) -> Result<String, AllocError> {
-    format!(in alloc; "{walk:?}")
-}
-
-fn text_of_entry(alloc: Global, entry: &Entry<'_, u64, u64>) -> Result<String, AllocError> {
-    format!(in alloc; "{entry:?}")
 }
 
 // The pairs of odd numbers from the one with this index on, up to this index, between two words, with these words around each.
@@ -69,105 +57,152 @@ fn a_map_prints_its_pairs_in_order(rt: HostRuntime) -> Result<(), Fail> {
     Ok(())
 }
 
+// Whether the walk prints the pairs from the one with this index on, up to this index.
+fn prints(
+    alloc: Global,
+    walk: &Iter<'_, u64, u64>,
+    first: u64,
+    end: u64,
+) -> Result<bool, AllocError> {
+    let text = format!(in alloc; "{walk:?}")?;
+    let wanted = pairs_listed(alloc, first, end)?;
+    Ok(text.as_str() == wanted.as_str())
+}
+
+fn owned_prints(
+    alloc: Global,
+    walk: &IntoIter<u64, u64>,
+    first: u64,
+    end: u64,
+) -> Result<bool, AllocError> {
+    let text = format!(in alloc; "{walk:?}")?;
+    let wanted = pairs_listed(alloc, first, end)?;
+    Ok(text.as_str() == wanted.as_str())
+}
+
 #[test]
 fn a_walk_prints_what_is_to_come(rt: HostRuntime) -> Result<(), Fail> {
-    let map = odd(rt.alloc(), 2)?;
-    let text = text_of_walk(rt.alloc(), &map.iter())?;
-    assert!(rt; text.as_str() == "[(1, 2), (3, 4)]");
     let map = odd(rt.alloc(), 100)?;
     let mut walk = map.iter();
-    for taken in 0..50u64 {
-        let text = text_of_walk(rt.alloc(), &walk)?;
-        let wanted = pairs_listed(rt.alloc(), taken, 100 - taken)?;
-        assert!(rt; text.as_str() == wanted.as_str());
-        assert!(rt; walk.next().is_some() && walk.next_back().is_some());
+    for taken in 0..51u64 {
+        assert!(rt; prints(rt.alloc(), &walk, taken, 100 - taken)?);
+        assert!(rt; walk.next().is_some() == (taken < 50));
+        assert!(rt; walk.next_back().is_some() == (taken < 50));
     }
-    let text = text_of_walk(rt.alloc(), &walk)?;
-    assert!(rt; text.as_str() == "[]" && walk.next().is_none());
     Ok(())
 }
 
 #[test]
 fn an_owned_walk_prints_what_is_to_come(rt: HostRuntime) -> Result<(), Fail> {
-    let walk = odd(rt.alloc(), 2)?.into_iter();
-    let text = text_of_owned_walk(rt.alloc(), &walk)?;
-    assert!(rt; text.as_str() == "[(1, 2), (3, 4)]");
     let mut walk = odd(rt.alloc(), 100)?.into_iter();
-    for taken in 0..50u64 {
-        let text = text_of_owned_walk(rt.alloc(), &walk)?;
-        let wanted = pairs_listed(rt.alloc(), taken, 100 - taken)?;
-        assert!(rt; text.as_str() == wanted.as_str());
-        assert!(rt; walk.next().is_some() && walk.next_back().is_some());
+    for taken in 0..51u64 {
+        assert!(rt; owned_prints(rt.alloc(), &walk, taken, 100 - taken)?);
+        assert!(rt; walk.next().is_some() == (taken < 50));
+        assert!(rt; walk.next_back().is_some() == (taken < 50));
     }
-    let text = text_of_owned_walk(rt.alloc(), &walk)?;
-    assert!(rt; text.as_str() == "[]" && walk.next().is_none());
     Ok(())
 }
 
 #[test]
-fn a_walk_that_was_taken_from_one_end_prints_the_rest(rt: HostRuntime) -> Result<(), Fail> {
+fn an_owned_walk_that_was_taken_from_the_front_prints_the_rest(
+    rt: HostRuntime,
+) -> Result<(), Fail> {
+    let mut walk = odd(rt.alloc(), 100)?.into_iter();
     for taken in 0..100u64 {
-        let mut front = odd(rt.alloc(), 100)?.into_iter();
-        let mut back = odd(rt.alloc(), 100)?.into_iter();
-        for _ in 0..taken {
-            assert!(rt; front.next().is_some() && back.next_back().is_some());
-        }
-        let text = text_of_owned_walk(rt.alloc(), &front)?;
-        let wanted = pairs_listed(rt.alloc(), taken, 100)?;
-        assert!(rt; text.as_str() == wanted.as_str());
-        let text = text_of_owned_walk(rt.alloc(), &back)?;
-        let wanted = pairs_listed(rt.alloc(), 0, 100 - taken)?;
-        assert!(rt; text.as_str() == wanted.as_str());
+        assert!(rt; owned_prints(rt.alloc(), &walk, taken, 100)?);
+        assert!(rt; walk.next().is_some());
     }
     Ok(())
+}
+
+#[test]
+fn an_owned_walk_that_was_taken_from_the_back_prints_the_rest(rt: HostRuntime) -> Result<(), Fail> {
+    let mut walk = odd(rt.alloc(), 100)?.into_iter();
+    for taken in 0..100u64 {
+        assert!(rt; owned_prints(rt.alloc(), &walk, 0, 100 - taken)?);
+        assert!(rt; walk.next_back().is_some());
+    }
+    Ok(())
+}
+
+fn text_of_range(
+    alloc: Global,
+    map: &Numbers,
+    lo: Bound<&u64>,
+    hi: Bound<&u64>,
+) -> Result<String, AllocError> {
+    if !is_range(&lo, &hi) {
+        return Ok(String::new(alloc));
+    }
+    let range = map.range((lo, hi));
+    format!(in alloc; "{range:?}")
+}
+
+fn text_of_keys(alloc: Global, map: &Numbers) -> Result<String, AllocError> {
+    let keys = map.keys();
+    format!(in alloc; "{keys:?}")
+}
+
+fn text_of_values(alloc: Global, map: &Numbers) -> Result<String, AllocError> {
+    let values = map.values();
+    format!(in alloc; "{values:?}")
 }
 
 #[test]
 fn a_range_keys_and_values_print_what_is_to_come(rt: HostRuntime) -> Result<(), Fail> {
     let map = odd(rt.alloc(), 2)?;
-    let (range, keys, values) = (
-        map.range((Bound::Unbounded, Bound::Unbounded)),
-        map.keys(),
-        map.values(),
-    );
-    let text = format!(in rt.alloc(); "{range:?} {keys:?} {values:?}")?;
-    assert!(rt; text.as_str() == "[(1, 2), (3, 4)] [1, 3] [2, 4]");
+    let all = text_of_range(rt.alloc(), &map, Bound::Unbounded, Bound::Unbounded)?;
+    assert!(rt; all.as_str() == "[(1, 2), (3, 4)]");
+    let keys = text_of_keys(rt.alloc(), &map)?;
+    assert!(rt; keys.as_str() == "[1, 3]");
+    let values = text_of_values(rt.alloc(), &map)?;
+    assert!(rt; values.as_str() == "[2, 4]");
+    Ok(())
+}
+
+#[test]
+fn a_range_prints_the_pairs_within_it(rt: HostRuntime) -> Result<(), Fail> {
     let map = odd(rt.alloc(), 100)?;
-    let range = map.range((Bound::Included(&21), Bound::Excluded(&41)));
-    let text = format!(in rt.alloc(); "{range:?}")?;
+    let text = text_of_range(rt.alloc(), &map, Bound::Included(&21), Bound::Excluded(&41))?;
     let wanted = pairs_listed(rt.alloc(), 10, 20)?;
     assert!(rt; text.as_str() == wanted.as_str());
     Ok(())
 }
 
-fn text_of_vacant(alloc: Global, entry: &VacantEntry<'_, u64, u64>) -> Result<String, AllocError> {
-    format!(in alloc; "{entry:?}")
+// The text of a key's entry.
+fn text_at(alloc: Global, map: &mut Numbers, key: u64) -> Result<String, TryReserveError> {
+    let entry = map.try_entry(key)?;
+    Ok(format!(in alloc; "{entry:?}")?)
 }
 
-fn text_of_occupied(
+// The text of what a key's entry holds, a vacant or an occupied one.
+fn text_within(alloc: Global, map: &mut Numbers, key: u64) -> Result<String, TryReserveError> {
+    match map.try_entry(key)? {
+        Entry::Vacant(entry) => Ok(format!(in alloc; "{entry:?}")?),
+        Entry::Occupied(entry) => Ok(format!(in alloc; "{entry:?}")?),
+    }
+}
+
+fn has_text_at(
     alloc: Global,
-    entry: &OccupiedEntry<'_, u64, u64>,
-) -> Result<String, AllocError> {
-    format!(in alloc; "{entry:?}")
+    map: &mut Numbers,
+    key: u64,
+    words: [&str; 2],
+) -> Result<bool, TryReserveError> {
+    let whole = text_at(alloc, map, key)?;
+    let within = text_within(alloc, map, key)?;
+    Ok(whole.as_str() == words[0] && within.as_str() == words[1])
 }
 
 #[test]
 fn an_entry_prints_its_place(rt: HostRuntime) -> Result<(), Fail> {
     let mut map = odd(rt.alloc(), 2)?;
-    let text = text_of_entry(rt.alloc(), &map.try_entry(5)?)?;
-    assert!(rt; text.as_str() == "Entry(VacantEntry(5))");
-    let text = text_of_entry(rt.alloc(), &map.try_entry(1)?)?;
-    assert!(rt; text.as_str() == "Entry(OccupiedEntry { key: 1, value: 2 })");
-    let text = match map.try_entry(5)? {
-        Entry::Vacant(entry) => text_of_vacant(rt.alloc(), &entry)?,
-        Entry::Occupied(entry) => text_of_occupied(rt.alloc(), &entry)?,
-    };
-    assert!(rt; text.as_str() == "VacantEntry(5)");
-    let text = match map.try_entry(1)? {
-        Entry::Vacant(entry) => text_of_vacant(rt.alloc(), &entry)?,
-        Entry::Occupied(entry) => text_of_occupied(rt.alloc(), &entry)?,
-    };
-    assert!(rt; text.as_str() == "OccupiedEntry { key: 1, value: 2 }");
-    assert!(rt; map.len() == 2);
+    let vacant = ["Entry(VacantEntry(5))", "VacantEntry(5)"];
+    assert!(rt; has_text_at(rt.alloc(), &mut map, 5, vacant)?);
+    let occupied = [
+        "Entry(OccupiedEntry { key: 1, value: 2 })",
+        "OccupiedEntry { key: 1, value: 2 }",
+    ];
+    assert!(rt; has_text_at(rt.alloc(), &mut map, 1, occupied)?);
     Ok(())
 }
