@@ -1,4 +1,4 @@
-use Rattle.std.proofs.Common.{◌+◌, ◌≤◌, length, ◌++◌, ◌∙◌, arith, ap, drop, take, append_assoc}
+use Rattle.std.proofs.Common.{◌≤◌, length, ◌++◌, ◌∙◌, arith, ap, drop, take, append_assoc}
 use Rattle.std.proofs.lemmas.List.{take-append-le, length-append, length-take}
 use Rattle.std.proofs.KnownBytes.{Consumes-trans}
 use Rattle.fc_read.proofs.up_to.read_into_room.Goals as goal
