@@ -8,8 +8,9 @@ use Rattle.fc_base.specs.declared.try_reserve_error.TryReserveError.{TryReserveE
 use Rattle.fc_map.specs.Entries.{Map}
 use Rattle.fc_lines.specs.declared.command.Side.{Side}
 use Rattle.fc_lines.specs.declared.command.End.{End}
+use Rattle.fc_lines.specs.declared.command.SetOp.{SetOp}
 use Rattle.fc_lines.specs.declared.command.Command.{Command}
-use Rattle.fc_lines.specs.declared.command.Command.TheVariants.{Insert, Get, GetKeyValue, ContainsKey, Remove, Set, Entry, RemoveEntry, Len as CountPairs, Clear, Walk, Write, Append, SplitOff, TryClone, Extend, AddItem, ReplaceItem, TakeItem, RemoveItem, ContainsItem, GetItem, SetLen, SetClear, SetAppend, SetSplitOff, SetExtend, SetWalk, SetCmp}
+use Rattle.fc_lines.specs.declared.command.Command.TheVariants.{Insert, Get, GetKeyValue, ContainsKey, Remove, Set, Entry, RemoveEntry, Len as CountPairs, Clear, Walk, Write, Append, SplitOff, TryClone, Extend, AddItem, ReplaceItem, TakeItem, RemoveItem, ContainsItem, GetItem, SetLen, SetClear, SetAppend, SetSplitOff, SetClone, SetExtend, SetWalk, List as ListItems, Keep, IsDisjoint, IsSubset, IsSuperset, SetCmp}
 use Rattle.fc_lines.specs.declared.command.Reply.{Reply}
 use Rattle.fc_lines.specs.declared.command.Reply.TheVariants.{Done, Refused}
 use Rattle.fc_command.specs.SetStep as sets
@@ -48,6 +49,12 @@ told_done (SetAppend s) = tt
 told_done (SetSplitOff s k) = tt
 told_done (SetExtend s more) = tt
 told_done (SetWalk s lo hi ends) = tt
+told_done (SetClone s) = tt
+told_done (ListItems op s) = tt
+told_done (Keep op s) = tt
+told_done (IsDisjoint s) = tt
+told_done (IsSubset s) = tt
+told_done (IsSuperset s) = tt
 told_done (SetCmp s) = tt
 
 module _ {K V : Type 0} (cmp : K → K → Ordering) (m o : Map K V) where
@@ -98,6 +105,12 @@ module _ {K V : Type 0} (cmp : K → K → Ordering) (m o : Map K V) where
   not_on_maps (SetSplitOff s k) _ _ _ _ _ _ _ _ _ _ _ _ _ _ _ _ = answered (λ h. h) (refl, refl, refl)
   not_on_maps (SetExtend s more) _ _ _ _ _ _ _ _ _ _ _ _ _ _ _ _ = answered (λ h. h) (refl, refl, refl)
   not_on_maps (SetWalk s lo hi ends) _ _ _ _ _ _ _ _ _ _ _ _ _ _ _ _ = answered (λ h. h) (refl, refl, refl)
+  not_on_maps (SetClone s) _ _ _ _ _ _ _ _ _ _ _ _ _ _ _ _ = answered (λ h. h) (refl, refl, refl)
+  not_on_maps (ListItems op s) _ _ _ _ _ _ _ _ _ _ _ _ _ _ _ _ = answered (λ h. h) (refl, refl, refl)
+  not_on_maps (Keep op s) _ _ _ _ _ _ _ _ _ _ _ _ _ _ _ _ = answered (λ h. h) (refl, refl, refl)
+  not_on_maps (IsDisjoint s) _ _ _ _ _ _ _ _ _ _ _ _ _ _ _ _ = answered (λ h. h) (refl, refl, refl)
+  not_on_maps (IsSubset s) _ _ _ _ _ _ _ _ _ _ _ _ _ _ _ _ = answered (λ h. h) (refl, refl, refl)
+  not_on_maps (IsSuperset s) _ _ _ _ _ _ _ _ _ _ _ _ _ _ _ _ = answered (λ h. h) (refl, refl, refl)
   not_on_maps (SetCmp s) _ _ _ _ _ _ _ _ _ _ _ _ _ _ _ _ = answered (λ h. h) (refl, refl, refl)
 
 module _ {K V : Type 0} (cmp : K → K → Ordering) (m o : Map K ⊤) where
@@ -113,36 +126,48 @@ module _ {K V : Type 0} (cmp : K → K → Ordering) (m o : Map K ⊤) where
       → ((s : Side) → ¬ (c ≡ SetClear s))
       → ((s : Side) → ¬ (c ≡ SetAppend s))
       → ((s : Side) (k : K) → ¬ (c ≡ SetSplitOff s k))
+      → ((s : Side) → ¬ (c ≡ SetClone s))
       → ((s : Side) (more : List K) → ¬ (c ≡ SetExtend s more))
       → ((s : Side) (lo : Bound K) (hi : Bound K) (ends : List End) → ¬ (c ≡ SetWalk s lo hi ends))
+      → ((op : SetOp) (s : Side) → ¬ (c ≡ ListItems op s))
+      → ((op : SetOp) (s : Side) → ¬ (c ≡ Keep op s))
+      → ((s : Side) → ¬ (c ≡ IsDisjoint s))
+      → ((s : Side) → ¬ (c ≡ IsSubset s))
+      → ((s : Side) → ¬ (c ≡ IsSuperset s))
       → ((s : Side) → ¬ (c ≡ SetCmp s))
       → sets.StepOnSets {V = V} cmp c m o Done m o
-  not_on_sets (AddItem s k) b _ _ _ _ _ _ _ _ _ _ _ _ = absurd (b s k refl)
-  not_on_sets (ReplaceItem s k) _ b _ _ _ _ _ _ _ _ _ _ _ = absurd (b s k refl)
-  not_on_sets (TakeItem s k) _ _ b _ _ _ _ _ _ _ _ _ _ = absurd (b s k refl)
-  not_on_sets (RemoveItem s k) _ _ _ b _ _ _ _ _ _ _ _ _ = absurd (b s k refl)
-  not_on_sets (ContainsItem s k) _ _ _ _ b _ _ _ _ _ _ _ _ = absurd (b s k refl)
-  not_on_sets (GetItem s k) _ _ _ _ _ b _ _ _ _ _ _ _ = absurd (b s k refl)
-  not_on_sets (SetLen s) _ _ _ _ _ _ b _ _ _ _ _ _ = absurd (b s refl)
-  not_on_sets (SetClear s) _ _ _ _ _ _ _ b _ _ _ _ _ = absurd (b s refl)
-  not_on_sets (SetAppend s) _ _ _ _ _ _ _ _ b _ _ _ _ = absurd (b s refl)
-  not_on_sets (SetSplitOff s k) _ _ _ _ _ _ _ _ _ b _ _ _ = absurd (b s k refl)
-  not_on_sets (SetExtend s more) _ _ _ _ _ _ _ _ _ _ b _ _ = absurd (b s more refl)
-  not_on_sets (SetWalk s lo hi ends) _ _ _ _ _ _ _ _ _ _ _ b _ = absurd (b s lo hi ends refl)
-  not_on_sets (SetCmp s) _ _ _ _ _ _ _ _ _ _ _ _ b = absurd (b s refl)
-  not_on_sets (Insert s k v) _ _ _ _ _ _ _ _ _ _ _ _ _ = sets.answered (λ h. h) (refl, refl, refl)
-  not_on_sets (Get s k) _ _ _ _ _ _ _ _ _ _ _ _ _ = sets.answered (λ h. h) (refl, refl, refl)
-  not_on_sets (GetKeyValue s k) _ _ _ _ _ _ _ _ _ _ _ _ _ = sets.answered (λ h. h) (refl, refl, refl)
-  not_on_sets (ContainsKey s k) _ _ _ _ _ _ _ _ _ _ _ _ _ = sets.answered (λ h. h) (refl, refl, refl)
-  not_on_sets (Remove s k) _ _ _ _ _ _ _ _ _ _ _ _ _ = sets.answered (λ h. h) (refl, refl, refl)
-  not_on_sets (Set s k v) _ _ _ _ _ _ _ _ _ _ _ _ _ = sets.answered (λ h. h) (refl, refl, refl)
-  not_on_sets (Entry s k v w) _ _ _ _ _ _ _ _ _ _ _ _ _ = sets.answered (λ h. h) (refl, refl, refl)
-  not_on_sets (RemoveEntry s k) _ _ _ _ _ _ _ _ _ _ _ _ _ = sets.answered (λ h. h) (refl, refl, refl)
-  not_on_sets (CountPairs s) _ _ _ _ _ _ _ _ _ _ _ _ _ = sets.answered (λ h. h) (refl, refl, refl)
-  not_on_sets (Clear s) _ _ _ _ _ _ _ _ _ _ _ _ _ = sets.answered (λ h. h) (refl, refl, refl)
-  not_on_sets (Walk s lo hi ends) _ _ _ _ _ _ _ _ _ _ _ _ _ = sets.answered (λ h. h) (refl, refl, refl)
-  not_on_sets (Write s lo hi writes) _ _ _ _ _ _ _ _ _ _ _ _ _ = sets.answered (λ h. h) (refl, refl, refl)
-  not_on_sets (Append s) _ _ _ _ _ _ _ _ _ _ _ _ _ = sets.answered (λ h. h) (refl, refl, refl)
-  not_on_sets (SplitOff s k) _ _ _ _ _ _ _ _ _ _ _ _ _ = sets.answered (λ h. h) (refl, refl, refl)
-  not_on_sets (TryClone s) _ _ _ _ _ _ _ _ _ _ _ _ _ = sets.answered (λ h. h) (refl, refl, refl)
-  not_on_sets (Extend s pairs) _ _ _ _ _ _ _ _ _ _ _ _ _ = sets.answered (λ h. h) (refl, refl, refl)
+  not_on_sets (AddItem s k) b _ _ _ _ _ _ _ _ _ _ _ _ _ _ _ _ _ _ = absurd (b s k refl)
+  not_on_sets (ReplaceItem s k) _ b _ _ _ _ _ _ _ _ _ _ _ _ _ _ _ _ _ = absurd (b s k refl)
+  not_on_sets (TakeItem s k) _ _ b _ _ _ _ _ _ _ _ _ _ _ _ _ _ _ _ = absurd (b s k refl)
+  not_on_sets (RemoveItem s k) _ _ _ b _ _ _ _ _ _ _ _ _ _ _ _ _ _ _ = absurd (b s k refl)
+  not_on_sets (ContainsItem s k) _ _ _ _ b _ _ _ _ _ _ _ _ _ _ _ _ _ _ = absurd (b s k refl)
+  not_on_sets (GetItem s k) _ _ _ _ _ b _ _ _ _ _ _ _ _ _ _ _ _ _ = absurd (b s k refl)
+  not_on_sets (SetLen s) _ _ _ _ _ _ b _ _ _ _ _ _ _ _ _ _ _ _ = absurd (b s refl)
+  not_on_sets (SetClear s) _ _ _ _ _ _ _ b _ _ _ _ _ _ _ _ _ _ _ = absurd (b s refl)
+  not_on_sets (SetAppend s) _ _ _ _ _ _ _ _ b _ _ _ _ _ _ _ _ _ _ = absurd (b s refl)
+  not_on_sets (SetSplitOff s k) _ _ _ _ _ _ _ _ _ b _ _ _ _ _ _ _ _ _ = absurd (b s k refl)
+  not_on_sets (SetClone s) _ _ _ _ _ _ _ _ _ _ b _ _ _ _ _ _ _ _ = absurd (b s refl)
+  not_on_sets (SetExtend s more) _ _ _ _ _ _ _ _ _ _ _ b _ _ _ _ _ _ _ = absurd (b s more refl)
+  not_on_sets (SetWalk s lo hi ends) _ _ _ _ _ _ _ _ _ _ _ _ b _ _ _ _ _ _ = absurd (b s lo hi ends refl)
+  not_on_sets (ListItems op s) _ _ _ _ _ _ _ _ _ _ _ _ _ b _ _ _ _ _ = absurd (b op s refl)
+  not_on_sets (Keep op s) _ _ _ _ _ _ _ _ _ _ _ _ _ _ b _ _ _ _ = absurd (b op s refl)
+  not_on_sets (IsDisjoint s) _ _ _ _ _ _ _ _ _ _ _ _ _ _ _ b _ _ _ = absurd (b s refl)
+  not_on_sets (IsSubset s) _ _ _ _ _ _ _ _ _ _ _ _ _ _ _ _ b _ _ = absurd (b s refl)
+  not_on_sets (IsSuperset s) _ _ _ _ _ _ _ _ _ _ _ _ _ _ _ _ _ b _ = absurd (b s refl)
+  not_on_sets (SetCmp s) _ _ _ _ _ _ _ _ _ _ _ _ _ _ _ _ _ _ b = absurd (b s refl)
+  not_on_sets (Insert s k v) _ _ _ _ _ _ _ _ _ _ _ _ _ _ _ _ _ _ _ = sets.answered (λ h. h) (refl, refl, refl)
+  not_on_sets (Get s k) _ _ _ _ _ _ _ _ _ _ _ _ _ _ _ _ _ _ _ = sets.answered (λ h. h) (refl, refl, refl)
+  not_on_sets (GetKeyValue s k) _ _ _ _ _ _ _ _ _ _ _ _ _ _ _ _ _ _ _ = sets.answered (λ h. h) (refl, refl, refl)
+  not_on_sets (ContainsKey s k) _ _ _ _ _ _ _ _ _ _ _ _ _ _ _ _ _ _ _ = sets.answered (λ h. h) (refl, refl, refl)
+  not_on_sets (Remove s k) _ _ _ _ _ _ _ _ _ _ _ _ _ _ _ _ _ _ _ = sets.answered (λ h. h) (refl, refl, refl)
+  not_on_sets (Set s k v) _ _ _ _ _ _ _ _ _ _ _ _ _ _ _ _ _ _ _ = sets.answered (λ h. h) (refl, refl, refl)
+  not_on_sets (Entry s k v w) _ _ _ _ _ _ _ _ _ _ _ _ _ _ _ _ _ _ _ = sets.answered (λ h. h) (refl, refl, refl)
+  not_on_sets (RemoveEntry s k) _ _ _ _ _ _ _ _ _ _ _ _ _ _ _ _ _ _ _ = sets.answered (λ h. h) (refl, refl, refl)
+  not_on_sets (CountPairs s) _ _ _ _ _ _ _ _ _ _ _ _ _ _ _ _ _ _ _ = sets.answered (λ h. h) (refl, refl, refl)
+  not_on_sets (Clear s) _ _ _ _ _ _ _ _ _ _ _ _ _ _ _ _ _ _ _ = sets.answered (λ h. h) (refl, refl, refl)
+  not_on_sets (Walk s lo hi ends) _ _ _ _ _ _ _ _ _ _ _ _ _ _ _ _ _ _ _ = sets.answered (λ h. h) (refl, refl, refl)
+  not_on_sets (Write s lo hi writes) _ _ _ _ _ _ _ _ _ _ _ _ _ _ _ _ _ _ _ = sets.answered (λ h. h) (refl, refl, refl)
+  not_on_sets (Append s) _ _ _ _ _ _ _ _ _ _ _ _ _ _ _ _ _ _ _ = sets.answered (λ h. h) (refl, refl, refl)
+  not_on_sets (SplitOff s k) _ _ _ _ _ _ _ _ _ _ _ _ _ _ _ _ _ _ _ = sets.answered (λ h. h) (refl, refl, refl)
+  not_on_sets (TryClone s) _ _ _ _ _ _ _ _ _ _ _ _ _ _ _ _ _ _ _ = sets.answered (λ h. h) (refl, refl, refl)
+  not_on_sets (Extend s pairs) _ _ _ _ _ _ _ _ _ _ _ _ _ _ _ _ _ _ _ = sets.answered (λ h. h) (refl, refl, refl)

@@ -2,6 +2,7 @@ mod CutFacts
 mod ExampleFacts
 mod ItemFacts
 mod KindFacts
+mod OperationFacts
 mod RunFacts
 mod ServeFacts
 mod SetExampleFacts

@@ -1,5 +1,5 @@
 -- What a command on sets does to two sets, and what it answers.
-use Rattle.std.specs.Prelude.{◌≡◌, ◌+◌, ◌-◌, ◌^◌, ◌<◌, ⊤, List, [], length, None, IsSome, is_some, is_none, IsTrue, if◌then◌else◌}
+use Rattle.std.specs.Prelude.{◌≡◌, ◌+◌, ◌-◌, ◌^◌, ◌<◌, ⊤, Bool, true, false, List, [], ◌∷◌, length, map, Some, None, IsSome, is_some, is_none, IsTrue, if◌then◌else◌}
 use Rattle.std.specs.Cmp.Lexicographic.{slice_cmp}
 use Rattle.std.specs.declared.cmp.Ordering.{Ordering}
 use Rattle.fc_base.specs.declared.try_reserve_error.TryReserveError.{TryReserveError}
@@ -8,8 +8,11 @@ use Rattle.fc_base.specs.Growth.{MayGrowRefuse, MayAppendRefuse}
 use Rattle.fc_base.specs.Ranges.{is_range}
 use Rattle.fc_map.specs.Entries.{Map}
 use Rattle.fc_set.specs.Items.{items, item_at, smaller, not_smaller, without, with_item, with_replaced, items_within, joined_items, extended_items, AreExtendedUpTo}
+use Rattle.fc_set.specs.Operations.{difference, symmetric_difference, intersection, union}
+use Rattle.fc_lines.specs.declared.command.SetOp.{SetOp}
+use Rattle.fc_lines.specs.declared.command.SetOp.TheVariants.{Difference, SymmetricDifference, Intersection, Union}
 use Rattle.fc_lines.specs.declared.command.Command.{Command}
-use Rattle.fc_lines.specs.declared.command.Command.TheVariants.{AddItem, ReplaceItem, TakeItem, RemoveItem, ContainsItem, GetItem, SetLen, SetClear, SetAppend, SetSplitOff, SetExtend, SetWalk, SetCmp}
+use Rattle.fc_lines.specs.declared.command.Command.TheVariants.{AddItem, ReplaceItem, TakeItem, RemoveItem, ContainsItem, GetItem, SetLen, SetClear, SetAppend, SetSplitOff, SetClone, SetExtend, SetWalk, List as ListItems, Keep, IsDisjoint, IsSubset, IsSuperset, SetCmp}
 use Rattle.fc_lines.specs.declared.command.Reply.{Reply}
 use Rattle.fc_lines.specs.declared.command.Reply.TheVariants.{Done, Flag, Key, Keys, Len, Order, BadRange, Refused}
 use Rattle.fc_command.specs.Walks.{walked}
@@ -19,6 +22,19 @@ pub record SetOutcome (K V : Type 0) : Type 0 where
   pub m : List K
   pub o : List K
   pub reply : Reply K V
+
+-- Whether a list has no item.
+abbrev pub has_none : {A : Type 0} → List A → Bool
+has_none [] = true
+has_none (x ∷ s) = false
+
+module _ {K : Type 0} (cmp : K → K → Ordering) where
+  -- What an operation makes of two lists of items.
+  abbrev pub combined : SetOp → List K → List K → List K
+  combined Difference s t = difference cmp s t
+  combined SymmetricDifference s t = symmetric_difference cmp s t
+  combined Intersection s t = intersection cmp s t
+  combined Union s t = union cmp s t
 
 module _ {K V : Type 0} (cmp : K → K → Ordering) where
   -- The table of commands on sets, where they are answered: the items of the named set, those of the other, and the reply.
@@ -33,21 +49,30 @@ module _ {K V : Type 0} (cmp : K → K → Ordering) where
   answer_on_sets (SetClear side) m o = record { m = []; o = o; reply = Done }
   answer_on_sets (SetAppend side) m o = record { m = joined_items cmp m o; o = []; reply = Done }
   answer_on_sets (SetSplitOff side k) m o = record { m = smaller cmp m k; o = not_smaller cmp m k; reply = Done }
+  answer_on_sets (SetClone side) m o = record { m = m; o = m; reply = Done }
   answer_on_sets (SetExtend side more) m o = record { m = extended_items cmp m more; o = o; reply = Done }
   answer_on_sets (SetWalk side lo hi ends) m o = record { m = m; o = o; reply = if is_range cmp lo hi then Keys (walked (items_within cmp lo hi m) ends) else BadRange }
+  answer_on_sets (ListItems op side) m o = record { m = m; o = o; reply = Keys (map Some (combined cmp op m o)) }
+  answer_on_sets (Keep op side) m o = record { m = combined cmp op m o; o = o; reply = Done }
+  answer_on_sets (IsDisjoint side) m o = record { m = m; o = o; reply = Flag (has_none (intersection cmp m o)) }
+  answer_on_sets (IsSubset side) m o = record { m = m; o = o; reply = Flag (has_none (difference cmp m o)) }
+  answer_on_sets (IsSuperset side) m o = record { m = m; o = o; reply = Flag (has_none (difference cmp o m)) }
   answer_on_sets (SetCmp side) m o = record { m = m; o = o; reply = Order (slice_cmp cmp m o) }
   answer_on_sets c m o = record { m = m; o = o; reply = Done }
 
   -- Whether a command may be refused and change nothing, and by which error: an insertion of a new item, where the set is empty or has
-  -- enough items to fill a leaf, a copy, the room for copies, an append where neither set is empty, and a split of a set that is not
-  -- empty.
+  -- enough items to fill a leaf, a copy, the room for copies, an append where neither set is empty, a split and a copy of a set that
+  -- is not empty, and an operation on both sets that gives an item.
   abbrev pub MayRefuseOnSets : Command K V → List K → List K → TryReserveError → Type 0
   MayRefuseOnSets (AddItem side k) m o e = (item_at cmp m k ≡ None) × MayGrowRefuse (length m) e
   MayRefuseOnSets (ReplaceItem side k) m o e = (item_at cmp m k ≡ None) × MayGrowRefuse (length m) e
   MayRefuseOnSets (GetItem side k) m o e = IsSome (item_at cmp m k)
   MayRefuseOnSets (SetAppend side) m o e = MayAppendRefuse (length m) (length o) e
   MayRefuseOnSets (SetSplitOff side k) m o e = (e ≡ AllocError) × (0 < length m)
+  MayRefuseOnSets (SetClone side) m o e = 0 < length m
   MayRefuseOnSets (SetWalk side lo hi ends) m o e = IsTrue (is_range cmp lo hi) × (0 < length ends)
+  MayRefuseOnSets (ListItems op side) m o e = 0 < length (combined cmp op m o)
+  MayRefuseOnSets (Keep op side) m o e = 0 < length (combined cmp op m o)
   MayRefuseOnSets c m o e = ⊥
 
   -- Whether a command may be refused when a part of it is done, what it has then made of the items, and by which error: an extension

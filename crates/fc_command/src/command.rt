@@ -1,10 +1,11 @@
 //! Commands over a world of ordered maps and sets, their lines and the text of their replies.
 
+mod operations;
 mod session;
 mod sets;
 mod world;
 
-pub use fc_lines::command::{Command, End, Reply, Side, Target};
+pub use fc_lines::command::{Command, End, Reply, SetOp, Side, Target};
 pub use fc_lines::items::Items;
 pub use session::{ServeEnd, ServeError, ending, serve};
 pub use world::World;

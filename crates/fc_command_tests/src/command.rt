@@ -1,10 +1,11 @@
 //! `World` and `serve` over memory.
 mod maps;
+mod sets;
 mod walks;
 
 use fc_base::TryReserveError;
 use fc_command::command::{
-    Command, End, Items, Reply, ServeEnd, ServeError, Side, World, ending, serve,
+    Command, End, Items, Reply, ServeEnd, ServeError, SetOp, Side, World, ending, serve,
 };
 use std::alloc::{AllocError, Global};
 use std::io::{self, ErrorKind, Read, Write};

@@ -11,8 +11,10 @@ use Rattle.fc_lines.specs.declared.command.Side.{Side}
 use Rattle.fc_lines.specs.declared.command.Side.TheVariants.{First, Second}
 use Rattle.fc_lines.specs.declared.command.End.{End}
 use Rattle.fc_lines.specs.declared.command.End.TheVariants.{Front, Back}
+use Rattle.fc_lines.specs.declared.command.SetOp.{SetOp}
+use Rattle.fc_lines.specs.declared.command.SetOp.TheVariants.{Difference, SymmetricDifference, Intersection, Union}
 use Rattle.fc_lines.specs.declared.command.Command.{Command}
-use Rattle.fc_lines.specs.declared.command.Command.TheVariants.{Insert, Get, GetKeyValue, ContainsKey, Remove, Set, Entry, RemoveEntry, Len, Clear, Walk, Write, Append, SplitOff, TryClone, Extend, AddItem, ReplaceItem, TakeItem, RemoveItem, ContainsItem, GetItem, SetLen, SetClear, SetAppend, SetSplitOff, SetExtend, SetWalk, SetCmp}
+use Rattle.fc_lines.specs.declared.command.Command.TheVariants.{Insert, Get, GetKeyValue, ContainsKey, Remove, Set, Entry, RemoveEntry, Len, Clear, Walk, Write, Append, SplitOff, TryClone, Extend, AddItem, ReplaceItem, TakeItem, RemoveItem, ContainsItem, GetItem, SetLen, SetClear, SetAppend, SetSplitOff, SetClone, SetExtend, SetWalk, List as ListItems, Keep, IsDisjoint, IsSubset, IsSuperset, SetCmp}
 use Rattle.fc_lines.specs.Lines.{words_of}
 
 -- What follows is asked only where something is there.
@@ -46,6 +48,14 @@ map_of word = if is_text word (codes "a") then Some First else if is_text word (
 -- The set that a word names.
 abbrev pub set_named : List ℕ → Option Side
 set_named word = if is_text word (codes "s") then Some First else if is_text word (codes "t") then Some Second else None
+
+-- The operation on two sets that a word names.
+abbrev pub op_of : List ℕ → Option SetOp
+op_of word = if is_text word (codes "diff") then Some Difference
+    else if is_text word (codes "sym") then Some SymmetricDifference
+    else if is_text word (codes "inter") then Some Intersection
+    else if is_text word (codes "union") then Some Union
+    else None
 
 -- The bound that a word writes: `*` is 42, `=` is 61 and `!` is 33.
 abbrev pub bound_of : List ℕ → Option (Bound ℕ)
@@ -280,8 +290,12 @@ abbrev pub with_set : List ℕ → Side → Option (Command ℕ ℕ)
 with_set word c = if is_text word (codes "len") then Some (SetLen c)
     else if is_text word (codes "clear") then Some (SetClear c)
     else if is_text word (codes "append") then Some (SetAppend c)
+    else if is_text word (codes "copy") then Some (SetClone c)
+    else if is_text word (codes "disjoint") then Some (IsDisjoint c)
+    else if is_text word (codes "subset") then Some (IsSubset c)
+    else if is_text word (codes "superset") then Some (IsSuperset c)
     else if is_text word (codes "cmp") then Some (SetCmp c)
-    else None
+    else option_map (λ op. ListItems op c) (op_of word)
 
 -- The command that a word asks for on a set and an item.
 abbrev pub with_set_and_item : List ℕ → Side → ℕ → Option (Command ℕ ℕ)
@@ -309,6 +323,14 @@ set_and_item_of_word word words = do
   command ← with_set_and_item word c.0 k.0
   ends command k.1
 
+-- The words after `keep` are an operation and a set.
+unfoldable pub keep_of : List (List ℕ) → Option (Command ℕ ℕ)
+keep_of words = do
+  first ← word_at words
+  op ← op_of first.0
+  c ← set_at first.1
+  ends (Keep op c.0) c.1
+
 -- The words after `walk` are a set, two bounds and one word of letters.
 unfoldable pub walk_items_of : List (List ℕ) → Option (Command ℕ ℕ)
 walk_items_of words = do
@@ -328,7 +350,7 @@ extend_items_of words = do
 
 -- The command without a list that the words after its word ask for.
 unfoldable pub plain_on_sets_of : List ℕ → List (List ℕ) → Option (Command ℕ ℕ)
-plain_on_sets_of word words = set_of_word word words or_else set_and_item_of_word word words
+plain_on_sets_of word words = if is_text word (codes "keep") then keep_of words else (set_of_word word words or_else set_and_item_of_word word words)
 
 -- The command on sets that the words ask for, by the first of them.
 unfoldable pub on_sets_of : List (List ℕ) → Option (Command ℕ ℕ)

@@ -2,7 +2,7 @@
 use Rattle.fc_lines.specs.declared.command.Target.{Target}
 use Rattle.fc_lines.specs.declared.command.Target.TheVariants.{OnMap, OnSet}
 use Rattle.fc_lines.specs.declared.command.Command.{Command}
-use Rattle.fc_lines.specs.declared.command.Command.TheVariants.{Insert, Get, GetKeyValue, ContainsKey, Remove, Set, Entry, RemoveEntry, Len as CountPairs, Clear, Walk, Write, Append, SplitOff, TryClone, Extend, AddItem, ReplaceItem, TakeItem, RemoveItem, ContainsItem, GetItem, SetLen, SetClear, SetAppend, SetSplitOff, SetExtend, SetWalk, SetCmp}
+use Rattle.fc_lines.specs.declared.command.Command.TheVariants.{Insert, Get, GetKeyValue, ContainsKey, Remove, Set, Entry, RemoveEntry, Len as CountPairs, Clear, Walk, Write, Append, SplitOff, TryClone, Extend, AddItem, ReplaceItem, TakeItem, RemoveItem, ContainsItem, GetItem, SetLen, SetClear, SetAppend, SetSplitOff, SetClone, SetExtend, SetWalk, List as ListItems, Keep, IsDisjoint, IsSubset, IsSuperset, SetCmp}
 
 -- The map or the set that a command names.
 abbrev pub target_of : {K V : Type 0} → Command K V → Target
@@ -32,6 +32,12 @@ target_of (SetLen side) = OnSet side
 target_of (SetClear side) = OnSet side
 target_of (SetAppend side) = OnSet side
 target_of (SetSplitOff side k) = OnSet side
+target_of (SetClone side) = OnSet side
 target_of (SetExtend side items) = OnSet side
 target_of (SetWalk side lo hi ends) = OnSet side
+target_of (ListItems op side) = OnSet side
+target_of (Keep op side) = OnSet side
+target_of (IsDisjoint side) = OnSet side
+target_of (IsSubset side) = OnSet side
+target_of (IsSuperset side) = OnSet side
 target_of (SetCmp side) = OnSet side

@@ -25,6 +25,19 @@ pub enum Target {
     OnSet(Side),
 }
 
+/// An operation on two sets.
+#[derive(Clone, Copy, PartialEq, Eq, Debug)]
+pub enum SetOp {
+    /// The items that the other set has no equal of.
+    Difference,
+    /// The items of either set that the other has no equal of.
+    SymmetricDifference,
+    /// The items that are in both sets.
+    Intersection,
+    /// The items of either set.
+    Union,
+}
+
 /// An end of a walk.
 #[derive(Clone, Copy, PartialEq, Eq, Debug)]
 pub enum End {
@@ -96,11 +109,26 @@ pub enum Command<K, V> {
     /// The other set becomes `try_split_off` of this one at the item, and its own items are dropped; replies `Done`. It may be refused
     /// where this set is not empty.
     SetSplitOff(Side, K),
+    /// The other set becomes `try_clone` of this one, and its own items are dropped; replies `Done`. It may be refused where this set
+    /// is not empty.
+    SetClone(Side),
     /// `try_extend` of a set by the items; replies `Done`. It may be refused at a new item, as `AddItem` there: the items before it
     /// are then in the set.
     SetExtend(Side, Items<K>),
     /// A `range` of a set, as `Walk`; replies `Keys`, copies, or `BadRange`.
     SetWalk(Side, Bound<K>, Bound<K>, Items<End>),
+    /// The lazy operation on this set and the other; replies `Keys`, copies of its items. Where it has one, room for the copies or one
+    /// of them may be refused.
+    List(SetOp, Side),
+    /// This set becomes the set of that operation, made by `sub`, `bitxor`, `bitand` or `bitor`; replies `Done`. It may be refused where
+    /// that set has an item.
+    Keep(SetOp, Side),
+    /// `is_disjoint`: whether no item is in both sets; replies `Flag`.
+    IsDisjoint(Side),
+    /// `is_subset`: whether the other set has an equal of each item; replies `Flag`.
+    IsSubset(Side),
+    /// `is_superset`: whether this set has an equal of each item of the other; replies `Flag`.
+    IsSuperset(Side),
     /// `cmp` of this set with the other; replies `Order`.
     SetCmp(Side),
 }
@@ -164,8 +192,14 @@ impl<K, V> Command<K, V> {
             Command::SetClear(side) => Target::OnSet(*side),
             Command::SetAppend(side) => Target::OnSet(*side),
             Command::SetSplitOff(side, _) => Target::OnSet(*side),
+            Command::SetClone(side) => Target::OnSet(*side),
             Command::SetExtend(side, _) => Target::OnSet(*side),
             Command::SetWalk(side, _, _, _) => Target::OnSet(*side),
+            Command::List(_, side) => Target::OnSet(*side),
+            Command::Keep(_, side) => Target::OnSet(*side),
+            Command::IsDisjoint(side) => Target::OnSet(*side),
+            Command::IsSubset(side) => Target::OnSet(*side),
+            Command::IsSuperset(side) => Target::OnSet(*side),
             Command::SetCmp(side) => Target::OnSet(*side),
         }
     }

@@ -6,18 +6,20 @@ ghost use Rattle.fc_lines.specs.Grammar.{
   number_of,
   some_read,
   set_named,
+  op_of,
   set_at,
   with_set,
   with_set_and_item,
   set_of_word,
   set_and_item_of_word,
+  keep_of,
   walk_items_of,
   extend_items_of,
   plain_on_sets_of,
   on_sets_of,
 };
 
-use crate::command::{Command, Side};
+use crate::command::{Command, SetOp, Side};
 use crate::items::Items;
 use crate::lines::{ending, ends_in, first_word, next_bound, next_number, next_word, number_in};
 use std::alloc::{AllocError, Global};
@@ -45,6 +47,9 @@ pub fn on_sets_in(
 fn plain_in(word: &[u8], words: Option<&[u8]>) -> Option<Command<u64, u64>>
     ensures { result ≡ plain_on_sets_of word.entry.now (words_left words.entry) }
 {
+    if word == b"keep".as_slice() {
+        return keep_in(words);
+    }
     match set_in(word, words) {
         Some(command) => Some(command),
         None => set_and_item_in(word, words),
@@ -80,10 +85,18 @@ fn with_set_in(word: &[u8], side: Side) -> Option<Command<u64, u64>>
         Some(Command::SetClear(side))
     } else if word == b"append".as_slice() {
         Some(Command::SetAppend(side))
+    } else if word == b"copy".as_slice() {
+        Some(Command::SetClone(side))
+    } else if word == b"disjoint".as_slice() {
+        Some(Command::IsDisjoint(side))
+    } else if word == b"subset".as_slice() {
+        Some(Command::IsSubset(side))
+    } else if word == b"superset".as_slice() {
+        Some(Command::IsSuperset(side))
     } else if word == b"cmp".as_slice() {
         Some(Command::SetCmp(side))
     } else {
-        None
+        Some(Command::List(op_in(word)?, side))
     }
 }
 
@@ -108,6 +121,29 @@ fn with_set_and_item_in(word: &[u8], side: Side, item: u64) -> Option<Command<u6
     } else {
         None
     }
+}
+
+// The operation on two sets that a word names.
+fn op_in(word: &[u8]) -> Option<SetOp>
+    ensures { result ≡ op_of word.entry.now }
+{
+    match word {
+        b"diff" => Some(SetOp::Difference),
+        b"sym" => Some(SetOp::SymmetricDifference),
+        b"inter" => Some(SetOp::Intersection),
+        b"union" => Some(SetOp::Union),
+        _ => None,
+    }
+}
+
+#[tactic(auto, unfolding(crate::specs::Grammar::keep_of))]
+fn keep_in(words: Option<&[u8]>) -> Option<Command<u64, u64>>
+    ensures { result ≡ keep_of (words_left words.entry) }
+{
+    let (word, words) = next_word(words)?;
+    let op = op_in(word)?;
+    let (side, words) = next_set(words)?;
+    ending(Command::Keep(op, side), words)
 }
 
 #[tactic(auto, unfolding(crate::specs::Grammar::walk_items_of))]

@@ -8,6 +8,7 @@ ghost use Rattle.fc_command.specs.SetStep.{StepOnSets};
 ghost use Rattle.fc_command.specs.Step.{IsCopied, IsNotRefused, IsCopyTold};
 ghost use Rattle.fc_command.specs.Walks.{given, left, walked};
 
+use crate::command::operations::{keep, list};
 use fc_base::{TryClone, TryReserveError};
 use fc_lines::command::{Command, End, Reply, Side};
 use fc_lines::items::Items;
@@ -29,30 +30,55 @@ pub fn step_set<K: Ord + TryClone, V: TryClone>(
     ensures copies { ((k : K) → K.never_refuses k) → ((v : V) → V.never_refuses v) → IsCopyTold command result }
 {
     match command {
-        Command::AddItem(_, item) => match set.try_insert(item) {
-            Ok(new) => Reply::Flag(new),
-            Err(e) => Reply::Refused(e),
-        },
-        Command::ReplaceItem(_, item) => match set.replace(item) {
-            Ok(old) => Reply::Key(old),
-            Err(e) => Reply::Refused(e),
-        },
+        Command::AddItem(_, item) => add(set, item),
+        Command::ReplaceItem(_, item) => replace(set, item),
         Command::TakeItem(_, item) => Reply::Key(set.take(&item)),
         Command::RemoveItem(_, item) => Reply::Flag(set.remove(&item)),
         Command::ContainsItem(_, item) => Reply::Flag(set.contains(&item)),
         Command::GetItem(_, item) => find(set, &item),
         Command::SetLen(_) => Reply::Len(set.len()),
-        Command::SetClear(_) => {
-            set.clear();
-            Reply::Done
-        }
+        Command::SetClear(_) => clear(set),
         Command::SetAppend(_) => append(set, other),
         Command::SetSplitOff(_, item) => split_off(set, other, item),
+        Command::SetClone(_) => copy(set, other),
         Command::SetExtend(_, items) => extend(set, items),
         Command::SetWalk(_, lo, hi, ends) => walk(alloc, set, lo, hi, ends),
+        Command::List(op, _) => list(alloc, op, set, other),
+        Command::Keep(op, _) => keep(op, set, other),
+        Command::IsDisjoint(_) => Reply::Flag(set.is_disjoint(other)),
+        Command::IsSubset(_) => Reply::Flag(set.is_subset(other)),
+        Command::IsSuperset(_) => Reply::Flag(set.is_superset(other)),
         Command::SetCmp(_) => compare(set, other),
         _on_maps => Reply::Done,
     }
+}
+
+// Puts the item in where no equal one is.
+fn add<K: Ord + TryClone, V: TryClone>(set: &mut BTreeSet<K>, item: K) -> Reply<K, V>
+    ensures { (o : Map K ⊤) (side : Side) → StepOnSets K.cmp (Command.AddItem side item) set.old o result set.new o }
+{
+    match set.try_insert(item) {
+        Ok(new) => Reply::Flag(new),
+        Err(e) => Reply::Refused(e),
+    }
+}
+
+// Puts the item in the place of an equal one, or where it belongs.
+fn replace<K: Ord + TryClone, V: TryClone>(set: &mut BTreeSet<K>, item: K) -> Reply<K, V>
+    ensures { (o : Map K ⊤) (side : Side) → StepOnSets K.cmp (Command.ReplaceItem side item) set.old o result set.new o }
+{
+    match set.replace(item) {
+        Ok(old) => Reply::Key(old),
+        Err(e) => Reply::Refused(e),
+    }
+}
+
+// Drops all items.
+fn clear<K: Ord + TryClone, V: TryClone>(set: &mut BTreeSet<K>) -> Reply<K, V>
+    ensures { (o : Map K ⊤) (side : Side) → StepOnSets K.cmp (Command.SetClear side) set.old o result set.new o }
+{
+    set.clear();
+    Reply::Done
 }
 
 // A copy of the item that is equal.
@@ -185,4 +211,19 @@ fn compare<K: Ord + TryClone, V: TryClone>(set: &BTreeSet<K>, other: &BTreeSet<K
     ensures { (side : Side) → StepOnSets K.cmp (Command.SetCmp side) set.now other.now result set.now other.now }
 {
     Reply::Order(set.cmp(other))
+}
+
+// Makes the other set a copy of the set.
+fn copy<K: Ord + TryClone, V: TryClone>(set: &BTreeSet<K>, other: &mut BTreeSet<K>) -> Reply<K, V>
+    requires copied { K.can_clone }
+    requires same { IsExact K.same }
+    ensures { (side : Side) → StepOnSets K.cmp (Command.SetClone side) set.now other.old result set.now other.new }
+{
+    match set.try_clone() {
+        Ok(items) => {
+            *other = items;
+            Reply::Done
+        }
+        Err(e) => Reply::Refused(e),
+    }
 }

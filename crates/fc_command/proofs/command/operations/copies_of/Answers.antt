@@ -1,0 +1,26 @@
+use Rattle.std.proofs.Common.{sym, subst, rules}
+use Rattle.std.specs.Iterator.{IsFinite}
+use Rattle.fc_set.specs.Copied.{Lends}
+use Rattle.fc_command.proofs.OperationFacts.{copied_start, copied_more, copied_some, copied_all, where_refused}
+use Rattle.fc_command.proofs.command.operations.copies_of.Goals as goal
+
+pub loop-item-init : goal.loop-item-init
+loop-item-init g c =
+    let e = sym c.into_iter-item-iterator.ensures.into_iter_gives in
+    (subst g.I.Iterator.can_next e c.requires.ends.0, subst (λ w. IsFinite (g.I.Iterator.remaining w)) e c.requires.ends.1, λ all lends. copied_start g.I.Iterator.next_gives all c.new-copies.result.items c.into_iter-item-iterator.result c.new-copies.ensures.items (subst (λ w. Lends g.I.Iterator.next_gives w all) e lends))
+
+pub loop-item-preserved : goal.loop-item-preserved
+loop-item-preserved g c =
+    let exact = c.requires.same c.in-Some.item.now c.in_ok-copy.copy c.in_ok-copy.ensures in
+    (search rules, search rules, λ all lends. rw c.in_ok-push.ensures.items (copied_more g.I.Iterator.next_gives all c.loop-item.copies.items c.loop-item.item-iterator c.next.new.self c.in-Some.item c.in_ok-copy.copy (c.loop-item.invariant.2 all lends) c.in-Some.ensures.steps exact))
+
+-- an item came, and its copy or the room for it was refused
+pub returns-in_err-copy-clause-refused : goal.returns-in_err-copy-clause-refused
+returns-in_err-copy-clause-refused g c = λ all lends. where_refused c.from_residual.result (copied_some g.I.Iterator.next_gives all c.loop-item.copies.items c.loop-item.item-iterator c.next.new.self c.in-Some.item (c.loop-item.invariant.2 all lends) c.in-Some.ensures.steps)
+
+pub returns-in_err-push-clause-refused : goal.returns-in_err-push-clause-refused
+returns-in_err-push-clause-refused g c = λ all lends. where_refused c.from_residual-in_err-push.result (copied_some g.I.Iterator.next_gives all c.loop-item.copies.items c.loop-item.item-iterator c.next.new.self c.in-Some.item (c.loop-item.invariant.2 all lends) c.in-Some.ensures.steps)
+
+-- all were copied
+pub returns-clause-copies : goal.returns-clause-copies
+returns-clause-copies g c = λ all lends. copied_all g.I.Iterator.next_gives all c.loop-item.copies.items c.loop-item.item-iterator c.next.new.self (c.loop-item.invariant.2 all lends) c.in-None.ensures.steps
