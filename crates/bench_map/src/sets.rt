@@ -103,7 +103,9 @@ fn walk_all(set: &Numbers, start: u64) -> u64 {
 
 fn walk_difference(set: &Numbers, other: &Numbers, start: u64) -> u64 {
     let mut checksum = start;
-    for item in set.difference(other) {
+    let mut walk = set.difference(other);
+    for _ in 0..u64::MAX {
+        let Some(item) = walk.next() else { break };
         checksum = mixed(checksum, Some(*item));
     }
     checksum
@@ -111,7 +113,9 @@ fn walk_difference(set: &Numbers, other: &Numbers, start: u64) -> u64 {
 
 fn walk_symmetric_difference(set: &Numbers, other: &Numbers, start: u64) -> u64 {
     let mut checksum = start;
-    for item in set.symmetric_difference(other) {
+    let mut walk = set.symmetric_difference(other);
+    for _ in 0..u64::MAX {
+        let Some(item) = walk.next() else { break };
         checksum = mixed(checksum, Some(*item));
     }
     checksum
@@ -119,7 +123,9 @@ fn walk_symmetric_difference(set: &Numbers, other: &Numbers, start: u64) -> u64 
 
 fn walk_intersection(set: &Numbers, other: &Numbers, start: u64) -> u64 {
     let mut checksum = start;
-    for item in set.intersection(other) {
+    let mut walk = set.intersection(other);
+    for _ in 0..u64::MAX {
+        let Some(item) = walk.next() else { break };
         checksum = mixed(checksum, Some(*item));
     }
     checksum
@@ -127,7 +133,9 @@ fn walk_intersection(set: &Numbers, other: &Numbers, start: u64) -> u64 {
 
 fn walk_union(set: &Numbers, other: &Numbers, start: u64) -> u64 {
     let mut checksum = start;
-    for item in set.union(other) {
+    let mut walk = set.union(other);
+    for _ in 0..u64::MAX {
+        let Some(item) = walk.next() else { break };
         checksum = mixed(checksum, Some(*item));
     }
     checksum
