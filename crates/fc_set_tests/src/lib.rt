@@ -4,6 +4,8 @@
 #[cfg(test)]
 mod copies;
 #[cfg(test)]
+mod drops;
+#[cfg(test)]
 mod items;
 #[cfg(test)]
 mod operators;

@@ -6,7 +6,7 @@ use std::test::Fail;
 
 // The calls as the tests see them: they know of a set only what they find in it.
 #[derive(Clone, Copy)]
-enum Operator {
+pub(crate) enum Operator {
     Sub,
     BitXor,
     BitAnd,
