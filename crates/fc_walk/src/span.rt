@@ -83,6 +83,19 @@ impl<'a, K, V> Span<'a, K, V> {
             self.head = rest;
             return pair;
         }
+        self.next_of_any_run()
+    }
+
+    // The same wherever it lies: apart from `next`, so that a compiler takes the few lines of that one into its callers.
+    #[inline(never)]
+    fn next_of_any_run(&mut self) -> &'a (K, V)
+        requires { 0 < length self.old }
+        ensures { self.old ≡ result.now ∷ self.new }
+    {
+        if let Some((pair, rest)) = self.head.split_first() {
+            self.head = rest;
+            return pair;
+        }
         if is_same_gap(&self.front, &self.back) {
             let Some((pair, rest)) = self.tail.split_first() else {
                 unreachable!()
@@ -98,6 +111,19 @@ impl<'a, K, V> Span<'a, K, V> {
     /// The last of the pairs, which is then no longer there.
     #[inline]
     pub fn next_back(&mut self) -> &'a (K, V)
+        requires { 0 < length self.old }
+        ensures { self.old ≡ self.new ++ result.now ∷ [] }
+    {
+        if let Some((pair, rest)) = self.tail.split_last() {
+            self.tail = rest;
+            return pair;
+        }
+        self.next_back_of_any_run()
+    }
+
+    // As `next_of_any_run`.
+    #[inline(never)]
+    fn next_back_of_any_run(&mut self) -> &'a (K, V)
         requires { 0 < length self.old }
         ensures { self.old ≡ self.new ++ result.now ∷ [] }
     {

@@ -1,6 +1,6 @@
 use Rattle.std.proofs.Common.{◌≡◌, ◌∙◌, sym, ap, length, true, false, arith, rules}
 use Rattle.fc_walk.proofs.SpanEnds.{parts_length, last_of_head, ends_met, ends_apart}
-use Rattle.fc_walk.proofs.span.Span.next_back.Goals as goal
+use Rattle.fc_walk.proofs.span.Span.next_back_of_any_run.Goals as goal
 
 pub unreachable-requires : goal.unreachable-requires
 unreachable-requires g c =

@@ -1,6 +1,6 @@
 use Rattle.std.proofs.Common.{◌≡◌, ◌∙◌, sym, ap, length, true, false, arith, rules}
 use Rattle.fc_walk.proofs.SpanEnds.{parts_length, first_of_tail, ends_met, ends_apart}
-use Rattle.fc_walk.proofs.span.Span.next.Goals as goal
+use Rattle.fc_walk.proofs.span.Span.next_of_any_run.Goals as goal
 
 pub unreachable-requires : goal.unreachable-requires
 unreachable-requires g c =
