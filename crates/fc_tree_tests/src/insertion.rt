@@ -51,7 +51,7 @@ fn put(
 }
 
 // Inserts the key behind all pairs of a tree of one level or two.
-fn put_last(
+pub(crate) fn put_last(
     rt: &impl Abort,
     alloc: Global,
     root: &mut Box<Node<u64, u64>>,
@@ -68,7 +68,7 @@ fn put_last(
 }
 
 // A full leaf: the first key, and ten more at this distance.
-fn full_leaf(
+pub(crate) fn full_leaf(
     rt: &impl Abort,
     alloc: Global,
     first: u64,

@@ -6,6 +6,8 @@ mod cutting;
 #[cfg(test)]
 mod insertion;
 #[cfg(test)]
+mod pictures;
+#[cfg(test)]
 mod removal;
 #[cfg(test)]
 mod search;

@@ -11,7 +11,7 @@ use std::process::Abort;
 use std::test::Fail;
 
 // Removes the key at the path from a tree of this height, and hands out what is left.
-fn without(
+pub(crate) fn without(
     rt: &impl Abort,
     root: Box<Node<u64, u64>>,
     height: usize,
