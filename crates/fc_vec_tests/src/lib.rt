@@ -1,7 +1,6 @@
 //! Tests of the vectors through their public calls.
 #![tactic(auto)]
 
-pub mod callers;
 #[cfg(test)]
 mod collect;
 #[cfg(test)]

@@ -1,9 +1,16 @@
 //! The README's examples, in a crate that names `fallible_collections` alone.
 #![tactic(auto)]
 
-ghost use Rattle.std.specs.Prelude.{◌≡◌, List, [], IfOk, IfSome, IsOk, IsSome, OnErr, Some, string_bytes, decimal};
+ghost use Rattle.std.specs.Prelude.{◌≡◌, List, [], IfOk, IfSome, IsOk, IsSome, OnErr, Some, string_bytes, decimal, unwrap_or, ◌+◌, ◌<◌};
 ghost use Rattle.std.specs.Iterator.{IsFiniteIterable};
 ghost use Rattle.fallible_collections.specs.Words.{at, entries, extended, front, hashed_value_at, put, text_order, GivesAll};
+
+pub mod boxes;
+pub mod orders;
+pub mod refusals;
+pub mod rollback;
+pub mod sets;
+pub mod vectors;
 
 use fallible_collections::btree::BTreeMap;
 use fallible_collections::format::try_format;
@@ -89,12 +96,14 @@ pub fn read_chunk<R: Read>(alloc: Global, src: &mut R, length: u64) -> io::Resul
     Ok(chunk)
 }
 
-/// Counts a tag, and answers how often it came.
+/// Counts a tag, and answers how often it came: once more than before. Refused, the counts are as they were.
 pub fn count_tag(counts: &mut TryHashMap<u64, u64>, tag: u64) -> Result<u64, TryReserveError>
-    ensures counted { IfOk result (λ count. hashed_value_at ⟦<u64 as PartialEq>⟧.eq tag counts.new.pairs ≡ Some count) }
+    requires { unwrap_or (hashed_value_at ⟦<u64 as PartialEq>⟧.eq tag counts.old.pairs) 0 < u64.MAX }
+    ensures counted { IfOk result (λ count. count ≡ unwrap_or (hashed_value_at ⟦<u64 as PartialEq>⟧.eq tag counts.old.pairs) 0 + 1) }
+    ensures kept { IfOk result (λ count. hashed_value_at ⟦<u64 as PartialEq>⟧.eq tag counts.new.pairs ≡ Some count) }
     ensures unchanged { OnErr result (counts.new.pairs ≡ counts.old.pairs) }
 {
-    let count = counts.get(&tag).copied().unwrap_or(0).saturating_add(1);
+    let count = counts.get(&tag).copied().unwrap_or(0) + 1;
     counts.insert(tag, count)?;
     Ok(count)
 }
