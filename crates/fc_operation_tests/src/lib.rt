@@ -8,6 +8,8 @@ mod hints;
 #[cfg(test)]
 mod lengths;
 #[cfg(test)]
+mod loops;
+#[cfg(test)]
 mod numbers;
 #[cfg(test)]
 mod subsets;

@@ -1,12 +1,13 @@
 -- Each word on lists of items, at the keys of a list of pairs, is the word on pairs.
 use Rattle.std.proofs.Common.{◌≡◌, Bool, true, false, cond, List, [], ◌∷◌, ◌++◌, map, filter, find, length, slice_get, ℕ, zero, suc, Option, Some, None, is_some, IsSome, IsTrue, IfOk, IfErr, Result, Ok, Err, not, ◌↔◌, ◌⊎◌, inl, inr, refl, sym, ap, ◌∙◌}
 use Rattle.std.specs.Prelude.{unwrap_or}
-use Rattle.std.specs.List.{AllByRecursion, AllZip}
+use Rattle.std.specs.List.{All, AllByRecursion, AllZip}
 use Rattle.std.specs.Option.{option_map}
 use Rattle.std.specs.declared.cmp.Ordering.{Ordering}
 use Rattle.std.specs.declared.cmp.Ordering.TheVariants.{Less}
 use Rattle.std.specs.declared.ops.Bound.{Bound}
 use Rattle.std.proofs.lemmas.List.{map-append, length-map}
+use Rattle.std.proofs.lemmas.List.Elements.{All-from_recursion, recursion_from_All}
 use Rattle.fc_base.specs.Ascending.{IsAscending}
 use Rattle.fc_base.specs.Halves.{not_below}
 use Rattle.fc_base.specs.Joined.{placed, joined}
@@ -79,6 +80,14 @@ module _ {T V : Type 0} where
   copied_keys R S [] (f ∷ t) a = a
   copied_keys R S (e ∷ s) [] a = a
   copied_keys R S (e ∷ s) (f ∷ t) a = (a.0.0, copied_keys R S s t a.1)
+
+  -- What holds of all keys, and of all values, holds of all pairs.
+  pub all_pairs : (P : T → Type 0) (Q : V → Type 0) → ((v : V) → Q v) → (s : List (T × V)) → All P (keys s) → All (λ e. P e.0 × Q e.1) s
+  all_pairs P Q values s a = All-from_recursion (λ e. P e.0 × Q e.1) s (both s (recursion_from_All P (keys s) a))
+    where
+      both : (s : List (T × V)) → AllByRecursion P (keys s) → AllByRecursion (λ e. P e.0 × Q e.1) s
+      both [] a = tt
+      both (e ∷ s) a = ((a.0, values e.1), both s a.1)
 
   -- How many items there are, and whether there are any.
   pub keys_length : (s : List (T × V)) → length (keys s) ≡ length s

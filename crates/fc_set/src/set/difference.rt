@@ -1,6 +1,6 @@
 //! The items of one set that another has not.
 ghost use Rattle.std.specs.Prelude.{◌≡◌, ◌-◌, ⊤, [], length, Some, IfSome, MatchOption};
-ghost use Rattle.std.specs.Iterator.{YieldsFirstRef, UpTo, at_most, item_count, MakesProgress};
+ghost use Rattle.std.specs.Iterator.{YieldsFirstRef, UpTo, at_most, item_count};
 ghost use Rattle.std.specs.Iterator.SizeHint.{IsWithinCount};
 ghost use Rattle.fc_set.specs.Items.{items, AreAscending};
 ghost use Rattle.fc_set.specs.Operations.{difference};
@@ -55,6 +55,20 @@ impl<'a, T: Ord> Clone for Difference<'a, T> {
     }
 }
 
+impl<'a, T: Ord> Difference<'a, T> {
+    /// The next item, or `None` where none is left. The trait's `next`, by which a `for` walks, is this call; here stands also what it leaves
+    /// of both sides. Upstream: `Difference::next`.
+    pub fn next(&mut self) -> Option<&'a T>
+        ensures steps { YieldsFirstRef (λ w. difference T.cmp w.left w.right) self.old result self.new }
+        ensures behind { MatchOption result (self.new.left ≡ []) (λ x. self.new ≡ sifted_behind T.cmp self.old x.now) }
+    {
+        match &mut self.theirs {
+            Some(theirs) => next_apart(&mut self.ours, theirs),
+            None => next_absent(&mut self.ours, self.other),
+        }
+    }
+}
+
 impl<'a, T: Ord> Iterator for Difference<'a, T> {
     type Item = &'a T;
 
@@ -62,15 +76,8 @@ impl<'a, T: Ord> Iterator for Difference<'a, T> {
 
     ghost remaining = { item_count (λ w. difference T.cmp w.left w.right) };
 
-    fn next(&mut self) -> Option<&'a T>
-        ensures steps { YieldsFirstRef (λ w. difference T.cmp w.left w.right) self.old result self.new }
-        ensures goes { MakesProgress (λ _. ⊤) (item_count (λ w. difference T.cmp w.left w.right)) self.old result self.new }
-        ensures behind { MatchOption result (self.new.left ≡ []) (λ x. self.new ≡ sifted_behind T.cmp self.old x.now) }
-    {
-        match &mut self.theirs {
-            Some(theirs) => next_apart(&mut self.ours, theirs),
-            None => next_absent(&mut self.ours, self.other),
-        }
+    fn next(&mut self) -> Option<&'a T> {
+        Difference::next(self)
     }
 
     /// At most as many as the first set has still to give, and at least as many as these are more than the other's, or than those that

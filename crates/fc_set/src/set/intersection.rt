@@ -1,6 +1,6 @@
 //! The items that two sets have in common.
 ghost use Rattle.std.specs.Prelude.{◌≡◌, ◌⊎◌, ⊤, [], length, Some, IfSome, IfNone, if◌then◌else◌, MatchOption};
-ghost use Rattle.std.specs.Iterator.{YieldsFirstRef, UpTo, at_most, item_count, MakesProgress};
+ghost use Rattle.std.specs.Iterator.{YieldsFirstRef, UpTo, at_most, item_count};
 ghost use Rattle.std.specs.Iterator.SizeHint.{IsWithinCount};
 ghost use Rattle.fc_set.specs.Items.{items, AreAscending};
 ghost use Rattle.fc_set.specs.Operations.{common, intersection};
@@ -54,16 +54,11 @@ impl<'a, T: Ord> Clone for Intersection<'a, T> {
     }
 }
 
-impl<'a, T: Ord> Iterator for Intersection<'a, T> {
-    type Item = &'a T;
-
-    ghost next_gives = { YieldsFirstRef (λ w. common T.cmp w.left w.right) };
-
-    ghost remaining = { item_count (λ w. common T.cmp w.left w.right) };
-
-    fn next(&mut self) -> Option<&'a T>
+impl<'a, T: Ord> Intersection<'a, T> {
+    /// The next item, or `None` where none is left. The trait's `next`, by which a `for` walks, is this call; here stands also what it leaves
+    /// of both sides. Upstream: `Intersection::next`.
+    pub fn next(&mut self) -> Option<&'a T>
         ensures steps { YieldsFirstRef (λ w. common T.cmp w.left w.right) self.old result self.new }
-        ensures goes { MakesProgress (λ _. ⊤) (item_count (λ w. common T.cmp w.left w.right)) self.old result self.new }
         ensures ended { IfNone result ((self.new.left ≡ []) ⊎ (self.new.right ≡ [])) }
         ensures behind { MatchOption result (self.new.left ≡ (if self.old.looks_up then [] else untaken T.cmp self.old.left self.old.right)) (λ x. self.new ≡ sifted_behind T.cmp self.old x.now) }
     {
@@ -71,6 +66,18 @@ impl<'a, T: Ord> Iterator for Intersection<'a, T> {
             Some(theirs) => next_common(&mut self.ours, theirs),
             None => next_found(&mut self.ours, self.other),
         }
+    }
+}
+
+impl<'a, T: Ord> Iterator for Intersection<'a, T> {
+    type Item = &'a T;
+
+    ghost next_gives = { YieldsFirstRef (λ w. common T.cmp w.left w.right) };
+
+    ghost remaining = { item_count (λ w. common T.cmp w.left w.right) };
+
+    fn next(&mut self) -> Option<&'a T> {
+        Intersection::next(self)
     }
 
     /// At most as many as were not yet taken from the shorter set.

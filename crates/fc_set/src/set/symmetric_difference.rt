@@ -1,6 +1,6 @@
 //! The items that just one of two sets has.
 ghost use Rattle.std.specs.Prelude.{◌≡◌, ◌+◌, ◌^◌, ⊤, [], length, nat_lt, if◌then◌else◌, Some, None, IfSome, MatchOption};
-ghost use Rattle.std.specs.Iterator.{YieldsFirstRef, UpTo, at_most, item_count, MakesProgress};
+ghost use Rattle.std.specs.Iterator.{YieldsFirstRef, UpTo, at_most, item_count};
 ghost use Rattle.std.specs.Iterator.SizeHint.{IsWithinCount};
 ghost use Rattle.fc_set.specs.Items.{items, AreAscending};
 ghost use Rattle.fc_set.specs.Operations.{symmetric_difference};
@@ -41,16 +41,11 @@ impl<'a, T: Ord> Clone for SymmetricDifference<'a, T> {
     }
 }
 
-impl<'a, T: Ord> Iterator for SymmetricDifference<'a, T> {
-    type Item = &'a T;
-
-    ghost next_gives = { YieldsFirstRef (λ w. symmetric_difference T.cmp w.left w.right) };
-
-    ghost remaining = { item_count (λ w. symmetric_difference T.cmp w.left w.right) };
-
-    fn next(&mut self) -> Option<&'a T>
+impl<'a, T: Ord> SymmetricDifference<'a, T> {
+    /// The next item, or `None` where none is left. The trait's `next`, by which a `for` walks, is this call; here stands also what it leaves
+    /// of both sides. Upstream: `SymmetricDifference::next`.
+    pub fn next(&mut self) -> Option<&'a T>
         ensures steps { YieldsFirstRef (λ w. symmetric_difference T.cmp w.left w.right) self.old result self.new }
-        ensures goes { MakesProgress (λ _. ⊤) (item_count (λ w. symmetric_difference T.cmp w.left w.right)) self.old result self.new }
         ensures behind { MatchOption result ((self.new.left ≡ []) × (self.new.right ≡ [])) (λ x. self.new ≡ behind T.cmp self.old x.now) }
     {
         'pairs: loop {
@@ -62,6 +57,18 @@ impl<'a, T: Ord> Iterator for SymmetricDifference<'a, T> {
                 return Some(ours);
             };
         }
+    }
+}
+
+impl<'a, T: Ord> Iterator for SymmetricDifference<'a, T> {
+    type Item = &'a T;
+
+    ghost next_gives = { YieldsFirstRef (λ w. symmetric_difference T.cmp w.left w.right) };
+
+    ghost remaining = { item_count (λ w. symmetric_difference T.cmp w.left w.right) };
+
+    fn next(&mut self) -> Option<&'a T> {
+        SymmetricDifference::next(self)
     }
 
     /// At most as many as both sides have still to give, which is `None` past `usize::MAX`.

@@ -1,6 +1,6 @@
 //! The items of either of two sets.
 ghost use Rattle.std.specs.Prelude.{◌≡◌, ◌+◌, ◌^◌, ⊤, [], length, max, nat_lt, if◌then◌else◌, Some, None, IfSome, MatchOption};
-ghost use Rattle.std.specs.Iterator.{YieldsFirstRef, UpTo, at_most, item_count, MakesProgress};
+ghost use Rattle.std.specs.Iterator.{YieldsFirstRef, UpTo, at_most, item_count};
 ghost use Rattle.std.specs.Iterator.SizeHint.{IsWithinCount};
 ghost use Rattle.fc_set.specs.Items.{items, AreAscending};
 ghost use Rattle.fc_set.specs.Operations.{union};
@@ -41,6 +41,18 @@ impl<'a, T: Ord> Clone for Union<'a, T> {
     }
 }
 
+impl<'a, T: Ord> Union<'a, T> {
+    /// The next item, or `None` where none is left. The trait's `next`, by which a `for` walks, is this call; here stands also what it leaves
+    /// of both sides. Upstream: `Union::next`.
+    pub fn next(&mut self) -> Option<&'a T>
+        ensures steps { YieldsFirstRef (λ w. union T.cmp w.left w.right) self.old result self.new }
+        ensures behind { MatchOption result ((self.new.left ≡ []) × (self.new.right ≡ [])) (λ x. self.new ≡ behind T.cmp self.old x.now) }
+    {
+        let (ours, theirs) = self.sides.next();
+        ours.or(theirs)
+    }
+}
+
 impl<'a, T: Ord> Iterator for Union<'a, T> {
     type Item = &'a T;
 
@@ -48,13 +60,8 @@ impl<'a, T: Ord> Iterator for Union<'a, T> {
 
     ghost remaining = { item_count (λ w. union T.cmp w.left w.right) };
 
-    fn next(&mut self) -> Option<&'a T>
-        ensures steps { YieldsFirstRef (λ w. union T.cmp w.left w.right) self.old result self.new }
-        ensures goes { MakesProgress (λ _. ⊤) (item_count (λ w. union T.cmp w.left w.right)) self.old result self.new }
-        ensures behind { MatchOption result ((self.new.left ≡ []) × (self.new.right ≡ [])) (λ x. self.new ≡ behind T.cmp self.old x.now) }
-    {
-        let (ours, theirs) = self.sides.next();
-        ours.or(theirs)
+    fn next(&mut self) -> Option<&'a T> {
+        Union::next(self)
     }
 
     /// At least as many as the longer side has still to give, and at most as many as both, which is `None` past `usize::MAX`.

@@ -1,16 +1,12 @@
 use Rattle.std.proofs.Common.{refl}
 use Rattle.fc_set.specs.Operations.{union}
-use Rattle.fc_set.specs.Sides.{Sides}
-use Rattle.fc_set.proofs.StepFacts.{first_is_progress, union_step, yields_first, stands_behind}
-use Rattle.fc_set.proofs.set.union.UnionIterator.next.Goals as goal
+use Rattle.fc_set.proofs.StepFacts.{union_step, yields_first, stands_behind}
+use Rattle.fc_set.proofs.set.union.Union.next.Goals as goal
 
 pub returns-clause-steps : goal.returns-clause-steps
 returns-clause-steps g c =
     rw (← c.self.view_is) (yields_first g.T.Ord.cmp g.met.T.Ord.total (union g.T.Ord.cmp) c.or.result c.self.inside.sides.left c.self.inside.sides.right c.next.new.self refl
     (union_step g.T.Ord.cmp g.met.T.Ord.total c.next.result.0 c.next.result.1 c.or.result c.self.inside.sides.left c.self.inside.sides.right c.next.new.self c.or.ensures c.next.ensures.ours c.next.ensures.theirs c.next.ensures.firsts))
-
-pub returns-clause-goes : goal.returns-clause-goes
-returns-clause-goes g c = first_is_progress (λ (w : Sides g.row.T.Denot). union g.T.Ord.cmp w.left w.right) c.args.self.now c.or.result c.next.new.self (returns-clause-steps g c)
 
 pub returns-clause-behind : goal.returns-clause-behind
 returns-clause-behind g c =

@@ -1,7 +1,7 @@
 use Rattle.std.proofs.Common.{◌≡◌, length}
 use Rattle.fc_set.specs.Operations.{symmetric_difference}
 use Rattle.fc_set.proofs.StepFacts.{BothAlike}
-use Rattle.fc_set.proofs.set.symmetric_difference.SymmetricDifferenceIterator.next.Given as goal
+use Rattle.fc_set.proofs.set.symmetric_difference.SymmetricDifference.next.Given as goal
 
 abbrev pub invariant-pairs : goal.invariant-pairs
 invariant-pairs g l =
