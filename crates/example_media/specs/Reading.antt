@@ -1,6 +1,7 @@
 -- What a parser reads of its source.
-use Rattle.std.specs.Prelude.{ℕ, ◌+◌, ◌≤◌, List, length, Option}
+use Rattle.std.specs.Prelude.{◌≡◌, ℕ, ◌+◌, ◌≤◌, List, length, Option}
 use Rattle.std.specs.Io.KnownBytes.{Consumes}
+use Rattle.example_media.specs.declared.parser.Fate.TheVariants.{Kept}
 use Rattle.example_media.specs.declared.parser.Found.{Found}
 use Rattle.example_media.specs.declared.parser.Found.TheVariants.{Whole, Stray, CutOff}
 
@@ -19,3 +20,9 @@ abbrev pub depth_of : Found → ℕ
 depth_of (Whole header fate depth) = depth
 depth_of (Stray count depth) = depth
 depth_of (CutOff depth) = depth
+
+-- The payload of a box that was kept is as long as the box says, without its front.
+abbrev pub HasPayload : Found → List ℕ → Type 0
+HasPayload (Whole header fate depth) payload = fate ≡ Kept → length payload + 8 ≡ header.length
+HasPayload (Stray count depth) payload = Unit {0}
+HasPayload (CutOff depth) payload = Unit {0}

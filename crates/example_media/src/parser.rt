@@ -1,7 +1,7 @@
 //! A parser of boxes in boxes that trusts no length.
-ghost use Rattle.std.specs.Prelude.{◌≡◌, ◌+◌, ◌≤◌, ◌⊎◌, [], length, List, ℕ, IfOk, IfSome};
-ghost use Rattle.std.specs.Io.KnownBytes.{Consumes};
-ghost use Rattle.example_media.specs.Reading.{AreRead, IsWithin, depth_of};
+ghost use Rattle.std.specs.Prelude.{◌≡◌, ◌+◌, ◌≤◌, ◌⊎◌, [], length, sum, Ok, None, IfOk, IfSome};
+ghost use Rattle.std.specs.Io.KnownBytes.{Consumes, IsAtEnd};
+ghost use Rattle.example_media.specs.Reading.{AreRead, IsWithin, HasPayload, depth_of};
 
 use crate::boxes::{FRONT, Header, header_in};
 use fallible_collections::{TryReserveError, TryVec, try_read_up_to};
@@ -89,16 +89,26 @@ impl Parser {
     ///
     /// # Errors
     /// The source's own: a read failed or was interrupted. Where the parser then stands is open.
-    pub fn next<R: Read>(&mut self, src: &mut R, payload: &mut TryVec<u8>) -> io::Result<Option<Found>>
+    pub fn next<R: Read>(
+        &mut self,
+        src: &mut R,
+        payload: &mut TryVec<u8>,
+    ) -> io::Result<Option<Found>>
         ensures within { IsWithin (R.remaining src.old) (R.remaining src.new) self.old self.new }
         ensures payload { length payload.new.items ≤ KEPT }
         ensures depth { IfOk result (λ found. IfSome found (λ f. depth_of f ≤ DEPTH)) }
+        ensures kept { IfOk result (λ found. IfSome found (λ f. HasPayload f payload.new.items)) }
+        ensures end { result ≡ Ok None → (self.old ≡ 0) ⊎ IsAtEnd (R.remaining src.new) }
     {
         payload.clear();
-        self.close();
+        close(&mut self.left, &mut self.outer);
+        if self.left == 0 {
+            return Ok(None);
+        }
         let depth = self.outer.len();
         if self.left < FRONT {
-            return self.stray(src);
+            let count = self.stray(src)?;
+            return Ok(Some(Found::Stray(count, depth)));
         }
         self.left -= FRONT;
         self.scratch.clear();
@@ -114,19 +124,11 @@ impl Parser {
             None => {
                 let cut = depth > 0 || !self.scratch.is_empty();
                 self.end();
-                Ok(if cut { Some(Found::CutOff(depth)) } else { None })
-            }
-        }
-    }
-
-    // Closes the boxes of which nothing is left.
-    fn close(&mut self)
-        ensures { self.new ≡ self.old }
-    {
-        while self.left == 0 {
-            match self.outer.pop() {
-                Some(left) => self.left = left,
-                None => return,
+                Ok(if cut {
+                    Some(Found::CutOff(depth))
+                } else {
+                    None
+                })
             }
         }
     }
@@ -139,18 +141,14 @@ impl Parser {
         self.left = 0;
     }
 
-    // Passes over what is left of a box, which is too little for a front.
-    fn stray<R: Read>(&mut self, src: &mut R) -> io::Result<Option<Found>>
-        ensures within { IsWithin (R.remaining src.old) (R.remaining src.new) self.old self.new }
-        ensures depth { IfOk result (λ found. IfSome found (λ f. depth_of f ≤ DEPTH)) }
+    // Passes over what is left of a box, which is too little for a front, and answers how much that was.
+    fn stray<R: Read>(&mut self, src: &mut R) -> io::Result<u64>
+        ensures { IsWithin (R.remaining src.old) (R.remaining src.new) self.old self.new }
     {
         let left = self.left;
-        if left == 0 {
-            return Ok(None);
-        }
         self.left = 0;
         pass_over(src, left, &mut self.scratch)?;
-        Ok(Some(Found::Stray(left, self.outer.len())))
+        Ok(left)
     }
 
     // Goes into a box whose front was read, or reads its payload, or passes it over.
@@ -163,6 +161,7 @@ impl Parser {
         requires { payload.old.items ≡ [] }
         ensures within { IsWithin (R.remaining src.old) (R.remaining src.new) self.old self.new }
         ensures payload { length payload.new.items ≤ KEPT }
+        ensures kept { IfOk result (λ fate. fate ≡ Fate.Kept → length payload.new.items + FRONT ≡ header.now.length) }
     {
         let length = u64::from(header.length);
         if length < FRONT {
@@ -187,6 +186,21 @@ impl Parser {
     }
 }
 
+// Closes the boxes of which nothing is left, up to one that has some, or all.
+fn close(left: &mut u64, outer: &mut TryVec<u64>)
+    ensures same { left.new + sum outer.new.items ≡ left.old + sum outer.old.items }
+    ensures all { left.new ≡ 0 → outer.new.items ≡ [] }
+    ensures depth { length outer.new.items ≤ length outer.old.items }
+    ensures room { outer.new.room ≡ outer.old.room }
+{
+    while *left == 0 {
+        match outer.pop() {
+            Some(next) => *left = next,
+            None => return,
+        }
+    }
+}
+
 // Reads a payload into an empty vector, or passes over it.
 fn keep<R: Read>(
     src: &mut R,
@@ -206,16 +220,15 @@ fn keep<R: Read>(
         return pass(src, count, Fate::Refused, scratch);
     }
     let read = try_read_up_to(src, count, payload)?; // there is room: an error is the source's own
-    Ok(if (read as u64) < count { Fate::CutOff } else { Fate::Kept })
+    Ok(if (read as u64) < count {
+        Fate::CutOff
+    } else {
+        Fate::Kept
+    })
 }
 
 // Passes over so many bytes of a box with this fate, unless the source ends in it.
-fn pass<R: Read>(
-    src: &mut R,
-    count: u64,
-    fate: Fate,
-    scratch: &mut TryVec<u8>,
-) -> io::Result<Fate>
+fn pass<R: Read>(src: &mut R, count: u64, fate: Fate, scratch: &mut TryVec<u8>) -> io::Result<Fate>
     ensures read { AreRead (R.remaining src.old) (R.remaining src.new) count }
     ensures fate { IfOk result (λ r. (r ≡ fate) ⊎ (r ≡ Fate.CutOff)) }
 {
