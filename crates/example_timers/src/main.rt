@@ -1,0 +1,78 @@
+//! A queue of timers behind lines of text.
+#![tactic(auto)]
+
+mod commands;
+#[cfg(test)]
+mod tests;
+mod timers;
+
+use commands::{Command, LONGEST, Line, command_in};
+use std::io::{self, Read};
+use timers::{NotSet, Timers};
+
+fn main(rt: HostRuntime) -> io::Result<()> {
+    serve(&rt)
+}
+
+// Answers each line. The timers alone take memory.
+fn serve(rt: &(impl Input + Print + AllocGlobal)) -> io::Result<()> {
+    let mut timers = Timers::new(rt.alloc());
+    let mut line = Line::new();
+    for byte in rt.reader().bytes() {
+        let byte = byte?;
+        if byte == b'\n' {
+            answer(rt, &mut timers, &line)?;
+            line.clear();
+        } else {
+            line.push(byte);
+        }
+    }
+    if line.is_empty() {
+        Ok(())
+    } else {
+        answer(rt, &mut timers, &line)
+    }
+}
+
+fn answer(rt: &impl Print, timers: &mut Timers, line: &Line) -> io::Result<()> {
+    let Some(text) = line.text() else {
+        return println!(rt; "error: a line is text of at most {LONGEST} bytes");
+    };
+    match command_in(text) {
+        Some(Command::Add(id, due)) => add(rt, timers, id, due),
+        Some(Command::Cancel(id)) => match timers.cancel(id) {
+            Some(due) => println!(rt; "cancelled, was due at {due}"),
+            None => println!(rt; "error: there is no timer {id}"),
+        },
+        Some(Command::Due(now)) => pop_all(rt, timers, now),
+        Some(Command::List) => list(rt, timers),
+        None => println!(rt; "error: not a command"),
+    }
+}
+
+fn add(rt: &impl Print, timers: &mut Timers, id: u64, due: u64) -> io::Result<()> {
+    match timers.try_add(id, due) {
+        Ok(()) => println!(rt; "added"),
+        Err(NotSet::InUse) => println!(rt; "error: timer {id} is set already"),
+        Err(NotSet::Memory(_)) => println!(rt; "out of memory"),
+    }
+}
+
+// Takes out the timers that are due, one by one, and shows each.
+fn pop_all(rt: &impl Print, timers: &mut Timers, now: u64) -> io::Result<()> {
+    let mut count: u64 = 0;
+    while let Some((due, id)) = timers.pop_due(now) {
+        println!(rt; "{id} was due at {due}")?;
+        count = count.saturating_add(1);
+    }
+    println!(rt; "{count} due")
+}
+
+fn list(rt: &impl Print, timers: &Timers) -> io::Result<()> {
+    let walk = timers.iter();
+    let count = walk.len();
+    for (due, id) in walk {
+        println!(rt; "{id} is due at {due}")?;
+    }
+    println!(rt; "{count} set")
+}
