@@ -11,12 +11,12 @@ ghost use Rattle.fc_node.specs.Tree.{Map, entries, root_of, IsSoundMap};
 ghost use Rattle.fc_walk.specs.Stack.{IsTopOf};
 ghost use Rattle.fc_walk.specs.Trail.{rest_of, lead_of, places_of, IsStanding, IsChain, IsTrailFrom, IsTrail};
 
-use crate::stack::Stack;
+use crate::copy_stack::CopyStack;
 use fc_node::node::Node;
 use fc_node::path::Path;
 
 /// The nodes on the way from a root, each with the place where the way goes on.
-pub type Trail<'a, K, V> = Stack<(&'a Node<K, V>, usize)>;
+pub type Trail<'a, K, V> = CopyStack<(&'a Node<K, V>, usize)>;
 
 /// The trail to the gap ahead of all pairs: no step where there is no root.
 pub fn first_in<'a, K, V>(root: &'a Option<Box<Node<K, V>>>) -> Trail<'a, K, V>
@@ -25,7 +25,7 @@ pub fn first_in<'a, K, V>(root: &'a Option<Box<Node<K, V>>>) -> Trail<'a, K, V>
     ensures rest { rest_of result ≡ entries (root_of root.now) }
     ensures trail { IsTrail (root_of root.now) result }
 {
-    let mut trail = Stack::new();
+    let mut trail = CopyStack::new();
     if let Some(root) = root {
         descend_first(&mut trail, root);
     }
@@ -39,7 +39,7 @@ pub fn last_in<'a, K, V>(root: &'a Option<Box<Node<K, V>>>) -> Trail<'a, K, V>
     ensures lead { lead_of result ≡ entries (root_of root.now) }
     ensures trail { IsTrail (root_of root.now) result }
 {
-    let mut trail = Stack::new();
+    let mut trail = CopyStack::new();
     if let Some(root) = root {
         descend_last(&mut trail, root);
     }
@@ -56,7 +56,7 @@ pub fn along<'a, K, V>(root: &'a Node<K, V>, path: &Path) -> Trail<'a, K, V>
     ensures chain { IsChain root.now result }
     ensures trail { ((h : ℕ) → IsLevelled h root.now → length path.now ≡ h + 1) → IsTrailFrom root.now result }
 {
-    let mut trail = Stack::new();
+    let mut trail = CopyStack::new();
     let mut node = root;
     let last = path.len();
     for i in 0..last {
