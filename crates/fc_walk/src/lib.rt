@@ -3,7 +3,6 @@
 
 pub mod copy_stack;
 pub mod gaps;
-mod meeting;
 pub mod owned;
 mod run;
 pub mod seek;

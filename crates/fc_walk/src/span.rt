@@ -7,7 +7,6 @@ ghost use Rattle.fc_base.specs.Ranges.{bound_now, is_range, within};
 ghost use Rattle.fc_node.specs.Tree.{entries, root_of, IsSoundMap};
 ghost use Rattle.fc_walk.specs.Span.{between, AreEnds};
 
-use crate::meeting::is_same_gap;
 use crate::run::{step_first_run, step_last_run, take_first_run};
 use crate::seek::{start_in, stop_in};
 use crate::trail::{Trail, first_in, last_in};
@@ -22,17 +21,19 @@ pub struct Span<'a, K, V> {
     front: Trail<'a, K, V>,
     back: Trail<'a, K, V>,
     tail: &'a [(K, V)],
+    // Whether nothing is left between the two gaps: only a step to another leaf can change that.
+    has_met: bool,
 }
 
 impl<'a, K, V> Model for Span<'a, K, V> {
-    ghost use Rattle.std.specs.Prelude.{◌++◌, List};
+    ghost use Rattle.std.specs.Prelude.{◌≡◌, ◌↔◌, [], ◌++◌, List, IsTrue};
     ghost use Rattle.fc_walk.specs.Span.{between, AreEnds};
 
     ghost Value = { List (K × V) };
 
     ghost view = { λ s. s.head.now ++ (between s.front s.back ++ s.tail.now) };
 
-    ghost invariant = { λ s. AreEnds s.front s.back };
+    ghost invariant = { λ s. AreEnds s.front s.back × (IsTrue s.has_met ↔ (between s.front s.back ≡ [])) };
 }
 
 impl<'a, K, V> Span<'a, K, V> {
@@ -50,12 +51,13 @@ impl<'a, K, V> Span<'a, K, V> {
         ensures { result ≡ between front.entry back.entry }
     {
         let mut front = front;
-        let head = take_first_run(&mut front, &back);
+        let (head, has_met) = take_first_run(&mut front, &back);
         Span {
             head,
             front,
             back,
             tail: &[],
+            has_met,
         }
     }
 
@@ -70,7 +72,7 @@ impl<'a, K, V> Span<'a, K, V> {
         if !self.tail.is_empty() {
             return false;
         }
-        is_same_gap(&self.front, &self.back)
+        self.has_met
     }
 
     /// The first of the pairs, which is then no longer there.
@@ -96,16 +98,17 @@ impl<'a, K, V> Span<'a, K, V> {
             self.head = rest;
             return pair;
         }
-        if is_same_gap(&self.front, &self.back) {
+        if self.has_met {
             let Some((pair, rest)) = self.tail.split_first() else {
                 unreachable!()
             };
             self.tail = rest;
             return pair;
         }
-        let (pair, run) = step_first_run(&mut self.front, &self.back);
-        self.head = run;
-        pair
+        let step = step_first_run(&mut self.front, &self.back);
+        self.head = step.run;
+        self.has_met = step.has_met;
+        step.pair
     }
 
     /// The last of the pairs, which is then no longer there.
@@ -131,16 +134,17 @@ impl<'a, K, V> Span<'a, K, V> {
             self.tail = rest;
             return pair;
         }
-        if is_same_gap(&self.front, &self.back) {
+        if self.has_met {
             let Some((pair, rest)) = self.head.split_last() else {
                 unreachable!()
             };
             self.head = rest;
             return pair;
         }
-        let (pair, run) = step_last_run(&self.front, &mut self.back);
-        self.tail = run;
-        pair
+        let step = step_last_run(&self.front, &mut self.back);
+        self.tail = step.run;
+        self.has_met = step.has_met;
+        step.pair
     }
 
     /// The same pairs once more.
@@ -152,6 +156,7 @@ impl<'a, K, V> Span<'a, K, V> {
             front: self.front.copied(),
             back: self.back.copied(),
             tail: self.tail,
+            has_met: self.has_met,
         }
     }
 }
