@@ -7,9 +7,10 @@ ghost use Rattle.fc_base.specs.Ranges.{bound_now, is_range, within};
 ghost use Rattle.fc_node.specs.Tree.{entries, root_of, IsSoundMap};
 ghost use Rattle.fc_walk.specs.Span.{between, AreEnds};
 
+use crate::copy_stack::CopyStack;
 use crate::run::{step_first_run, step_last_run, take_first_run};
-use crate::seek::{start_in, stop_in};
-use crate::trail::{Trail, first_in, last_in};
+use crate::seek::{go_to_start, go_to_stop};
+use crate::trail::{Trail, go_to_first, go_to_last};
 use fc_node::node::Node;
 use std::marker::Model;
 use std::ops::Bound;
@@ -42,15 +43,18 @@ impl<'a, K, V> Span<'a, K, V> {
         requires { IsSoundMap (root_of root.now) }
         ensures { result ≡ entries (root_of root.now) }
     {
-        Span::from_ends(first_in(root), last_in(root))
+        let mut front = CopyStack::new();
+        let mut back = CopyStack::new();
+        go_to_first(&mut front, root);
+        go_to_last(&mut back, root);
+        Span::from_ends(front, back)
     }
 
     // The pairs between the gaps of two trails.
-    fn from_ends(front: Trail<'a, K, V>, back: Trail<'a, K, V>) -> Span<'a, K, V>
+    fn from_ends(mut front: Trail<'a, K, V>, back: Trail<'a, K, V>) -> Span<'a, K, V>
         requires { AreEnds front back }
         ensures { result ≡ between front.entry back.entry }
     {
-        let mut front = front;
         let (head, has_met) = take_first_run(&mut front, &back);
         Span {
             head,
@@ -173,6 +177,10 @@ impl<'a, K: Ord, V> Span<'a, K, V> {
         requires range { IsTrue (is_range K.cmp (bound_now lo.now) (bound_now hi.now)) }
         ensures { result ≡ within K.cmp (bound_now lo.now) (bound_now hi.now) (entries (root_of root.now)) }
     {
-        Span::from_ends(start_in(root, lo), stop_in(root, hi))
+        let mut front = CopyStack::new();
+        let mut back = CopyStack::new();
+        go_to_start(&mut front, root, lo);
+        go_to_stop(&mut back, root, hi);
+        Span::from_ends(front, back)
     }
 }
