@@ -75,7 +75,8 @@ impl<T: Copy> CopyStack<T> {
 }
 
 impl<T: Copy + Drop> CopyStack<T> {
-    // Puts an item on top.
+    // Puts an item on top. Without a call in it, a step to another leaf keeps all that it has in registers.
+    #[inline(always)]
     pub fn push(&mut self, item: T)
         requires { length self.old < 25 }
         ensures { self.new ≡ self.old ++ item ∷ [] }
