@@ -62,21 +62,6 @@ module _ {T : Type 0} where
   pub below_top : (xs ys : List T) (x y : T) → IsTopOf xs x → xs ≡ ys ++ y ∷ [] → xs ≡ ys ++ x ∷ []
   below_top xs ys x y t e = e ∙ ap (λ z. ys ++ z ∷ []) (sym (last_same t.0 ys x y (sym t.1 ∙ e)))
 
-  refilled : (cs : List (Option T)) (i : ℕ) (c : Option T) → refill (length cs) cs (set cs i c) ≡ set cs i c
-  refilled cs i c =
-      let k = length-set cs i c in
-      ap (λ ds. take (length cs) (set cs i c ++ ds)) (drop_all (length (set cs i c)) cs (omega arith)) ∙ ap (take (length cs)) (append-nil (set cs i c)) ∙ take_all (length cs) (set cs i c) (omega arith)
-
-  pub set_cells : (cells now : List (Option T)) (xs : List T) (i : ℕ) (x : T) → cells ≡ map Some xs → now ≡ cells → refill (length cells) cells (set now i (Some x)) ≡ map Some (set xs i x)
-  set_cells cells now xs i x e f =
-      ap (λ cs. refill (length cells) cells (set cs i (Some x))) f ∙ refilled cells i (Some x)
-      ∙ ap (λ cs. set cs i (Some x)) e ∙ sym (map-set Some xs i x)
-
-  pub set_last : (xs front : List T) (i : ℕ) (x y : T) → xs ≡ front ++ x ∷ [] → i + 1 ≡ length xs → set xs i y ≡ front ++ y ∷ []
-  set_last xs front i x y e h =
-      let k : length xs ≡ length front + 1 = ap length e ∙ length-append front (x ∷ []) in
-      ap (λ zs. set zs i y) e ∙ set_at front x [] y i (omega arith)
-
   -- What the first of the cells is
   pub record IsTaken (xs : List T) (rest : List (Option T)) (o : Option T) : Type 0 where
     pub item : T

@@ -11,6 +11,7 @@ use Rattle.std.proofs.Math.Seq.{take-add}
 use Rattle.std.proofs.lemmas.Bool.{cases_lt}
 use Rattle.std.proofs.lemmas.List.{drop-drop, take-append-drop}
 use Rattle.fc_walk.proofs.Leaves.{leaf_lead, leaf_rest, trail_leaf, chain_within, lead_count, together, other_leaf, upper_places}
+use Rattle.fc_walk.proofs.Meetings.{same_places}
 use Rattle.fc_walk.proofs.Spans.{run_between, run_back_between}
 use Rattle.fc_walk.proofs.Trails.{lead_snoc, rest_snoc, chain_moved, chain_of_trail, trail_of_chain, trail_depth, trail_entries}
 
@@ -79,24 +80,26 @@ module _ {K V : Type 0} where
       let n : length (s ++ x ∷ []) - 1 ≡ length s = omega (arith, a) in
       other_leaf o.0 root s b x j o.2.1 t u w (λ z. other (ap (λ k. take k (places_of (s ++ x ∷ []))) n ∙ upper_places s x ∙ sym z ∙ ap (λ k. take k (places_of b)) (sym n))) le
 
+  -- The way to a leaf is the same whatever the place in it.
+  moved_upper : (s b : List (Bor (Node K V) × ℕ)) (x : Bor (Node K V) × ℕ) (j : ℕ) → take (length (s ++ (x.0, j) ∷ []) - 1) (places_of (s ++ (x.0, j) ∷ [])) ≡ take (length (s ++ (x.0, j) ∷ []) - 1) (places_of b)
+      → take (length (s ++ x ∷ []) - 1) (places_of (s ++ x ∷ [])) ≡ take (length (s ++ x ∷ []) - 1) (places_of b)
+  moved_upper s b x j e =
+      let a = length-append s (x ∷ []) in
+      let d = length-append s ((x.0, j) ∷ []) in
+      let n : length (s ++ x ∷ []) - 1 ≡ length s = omega (arith, a) in
+      let k : length (s ++ (x.0, j) ∷ []) - 1 ≡ length s = omega (arith, d) in
+      ap (λ z. take z (places_of (s ++ x ∷ []))) n ∙ upper_places s x ∙ sym (upper_places s (x.0, j)) ∙ ap (λ z. take z (places_of (s ++ (x.0, j) ∷ []))) (sym k) ∙ e ∙ ap (λ z. take z (places_of b)) (k ∙ sym n)
+
   -- And one that is not behind it is ahead of all of them.
   pub other_start : (m : Map K V) (s b : List (Bor (Node K V) × ℕ)) (x : Bor (Node K V) × ℕ) (j : ℕ) → IsSoundMap m → IsTrail m (s ++ x ∷ []) → IsTrail m b → j ≤ length (own_pairs x.0.now) → (take (length (s ++ x ∷ []) - 1) (places_of (s ++ x ∷ [])) ≡ take (length (s ++ x ∷ []) - 1) (places_of b) → ⊥)
       → length (lead_of b) ≤ length (lead_of (s ++ x ∷ [])) → length (lead_of b) ≤ length (lead_of (s ++ (x.0, j) ∷ []))
   other_start m s b x j o t u w other le = order (cases_lt (length (lead_of (s ++ (x.0, j) ∷ []))) (length (lead_of b)))
     where
-      same : take (length (s ++ (x.0, j) ∷ []) - 1) (places_of (s ++ (x.0, j) ∷ [])) ≡ take (length (s ++ (x.0, j) ∷ []) - 1) (places_of b) → take (length (s ++ x ∷ []) - 1) (places_of (s ++ x ∷ [])) ≡ take (length (s ++ x ∷ []) - 1) (places_of b)
-      same e =
-          let a = length-append s (x ∷ []) in
-          let d = length-append s ((x.0, j) ∷ []) in
-          let n : length (s ++ x ∷ []) - 1 ≡ length s = omega (arith, a) in
-          let k : length (s ++ (x.0, j) ∷ []) - 1 ≡ length s = omega (arith, d) in
-          ap (λ z. take z (places_of (s ++ x ∷ []))) n ∙ upper_places s x ∙ sym (upper_places s (x.0, j)) ∙ ap (λ z. take z (places_of (s ++ (x.0, j) ∷ []))) (sym k) ∙ e ∙ ap (λ z. take z (places_of b)) (k ∙ sym n)
-
       place : x.1 ≤ length (own_pairs x.0.now)
       place = last_within m s x t
 
       order : (length (lead_of (s ++ (x.0, j) ∷ [])) < length (lead_of b)) ⊎ (length (lead_of b) ≤ length (lead_of (s ++ (x.0, j) ∷ []))) → length (lead_of b) ≤ length (lead_of (s ++ (x.0, j) ∷ []))
-      order (inl lt) = absurd (let c = other_end m s b (x.0, j) x.1 o (trail_moved m s x j t w) u place (λ e. other (same e)) (omega (arith, lt)) in omega (arith, c, le))
+      order (inl lt) = absurd (let c = other_end m s b (x.0, j) x.1 o (trail_moved m s x j t w) u place (λ e. other (moved_upper s b x j e)) (omega (arith, lt)) in omega (arith, c, le))
       order (inr ge) = ge
 
   -- The pairs of a run: those of the leaf between two places.
@@ -158,6 +161,22 @@ module _ {K V : Type 0} where
       let a : length (lead_of back) ≡ length (lead_of (s ++ x ∷ [])) = ap (λ z. length (lead_of z)) e in
       let le = ends.4 in
       (omega arith, w, other_start ends.0 s front x 0 ends.1 t ends.2 (omega arith) (subst (λ z. take (length z - 1) (places_of z) ≡ take (length z - 1) (places_of front) → ⊥) e other) (omega (arith, a, le)))
+
+  -- An end that takes its run as far as another end in its leaf meets it.
+  pub met_together : (m : Map K V) (a b s t : List (Bor (Node K V) × ℕ)) (x y : Bor (Node K V) × ℕ) → IsSoundMap m → IsTrail m a → IsTrail m b → a ≡ s ++ x ∷ [] → b ≡ t ++ y ∷ [] → take (length a - 1) (places_of a) ≡ take (length a - 1) (places_of b)
+      → length (lead_of (s ++ (x.0, y.1) ∷ [])) ≡ length (lead_of b)
+  met_together m a b s t x y o u v e f same =
+      let k = same_end m s t x y o (subst (IsTrail m) e u) (subst (IsTrail m) f v) (subst (λ z. take (length (s ++ x ∷ []) - 1) (places_of (s ++ x ∷ [])) ≡ take (length (s ++ x ∷ []) - 1) (places_of z)) f (subst (λ z. take (length z - 1) (places_of z) ≡ take (length z - 1) (places_of b)) e same)) in
+      sym k.2 ∙ ap (λ z. length (lead_of z)) (sym f)
+
+  -- No gap of its leaf is that of an end in another leaf.
+  pub apart_elsewhere : (m : Map K V) (a b s : List (Bor (Node K V) × ℕ)) (x : Bor (Node K V) × ℕ) (j : ℕ) → IsSoundMap m → IsTrail m a → IsTrail m b → a ≡ s ++ x ∷ [] → j ≤ length (own_pairs x.0.now) → (take (length a - 1) (places_of a) ≡ take (length a - 1) (places_of b) → ⊥)
+      → length (lead_of (s ++ (x.0, j) ∷ [])) ≡ length (lead_of b) → ⊥
+  apart_elsewhere m a b s x j o u v e w other same =
+      let t = subst (IsTrail m) e u in
+      let p = same_places m (s ++ (x.0, j) ∷ []) b o (trail_moved m s x j t w) v same in
+      let q = moved_upper s b x j (ap (λ z. take (length (s ++ (x.0, j) ∷ []) - 1) z) p) in
+      other (subst (λ z. take (length z - 1) (places_of z) ≡ take (length z - 1) (places_of b)) (sym e) q)
 
   -- ---- a whole run
 

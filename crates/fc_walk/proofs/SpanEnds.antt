@@ -1,12 +1,12 @@
 -- What lies between two trails of one map, when one of them goes on.
-use Rattle.std.proofs.Common.{◌≡◌, ℕ, ◌+◌, ◌-◌, ◌<◌, List, [], ◌∷◌, ◌++◌, length, refl, sym, ap, ◌∙◌, arith, append_assoc, append-nil, length-append}
+use Rattle.std.proofs.Common.{◌≡◌, ℕ, ◌+◌, ◌-◌, ◌<◌, List, [], ◌∷◌, ◌++◌, length, take, refl, sym, ap, ◌∙◌, arith, append_assoc, append-nil, length-append}
 use Rattle.std.specs.Borrow.{Bor}
 use Rattle.fc_node.specs.declared.node.Node.{Node}
 use Rattle.fc_node.specs.Tree.{Map, entries, IsSoundMap}
-use Rattle.fc_walk.specs.Trail.{rest_of, lead_of, places_of, IsStanding, IsTrail}
+use Rattle.fc_walk.specs.Trail.{rest_of, lead_of, IsStanding, IsTrail}
 use Rattle.fc_walk.specs.Span.{between, AreEnds}
 use Rattle.fc_walk.proofs.Spans.{taken_some, whole_between, next_between, back_between}
-use Rattle.fc_walk.proofs.Meetings.{met, apart}
+use Rattle.fc_walk.proofs.Meetings.{apart, same_sides}
 use Rattle.fc_walk.proofs.Trails.{trail_entries, trail_standing}
 
 module _ {X : Type 0} where
@@ -14,7 +14,7 @@ module _ {X : Type 0} where
   no_items [] e = refl
   no_items (x ∷ xs) e = absurd (omega arith)
 
-  some_items : (xs : List X) → (xs ≡ [] → ⊥) → 0 < length xs
+  pub some_items : (xs : List X) → (xs ≡ [] → ⊥) → 0 < length xs
   some_items [] h = absurd (h refl)
   some_items (x ∷ xs) h = omega arith
 
@@ -50,15 +50,12 @@ module _ {X : Type 0} where
       ∙ sym (append_assoc head (new ++ run) (x ∷ []))
 
 module _ {K V : Type 0} where
-  -- Between two ends with the same places there is nothing, and else something.
-  pub ends_met : (front back : List (Bor (Node K V) × ℕ)) → AreEnds front back → places_of front ≡ places_of back → between front back ≡ []
-  ends_met front back ends e = met ends.0 front back ends.1 ends.2 ends.3 e
+  -- Nothing is between two ends exactly where as many pairs are ahead of both.
+  pub level_none : (front back : List (Bor (Node K V) × ℕ)) → length (lead_of front) ≡ length (lead_of back) → between front back ≡ []
+  level_none front back e = let none : length (lead_of back) - length (lead_of front) ≡ 0 = omega (arith, e) in ap (λ n. take n (rest_of front)) none
 
-  pub ends_apart : (front back : List (Bor (Node K V) × ℕ)) → AreEnds front back → (places_of front ≡ places_of back → ⊥) → 0 < length (between front back)
-  ends_apart front back ends other = some_items (between front back) (λ e. other (apart ends.0 front back ends.1 ends.2 ends.3 ends.4 e))
-
-  pub ends_none : (front back : List (Bor (Node K V) × ℕ)) → AreEnds front back → between front back ≡ [] → places_of front ≡ places_of back
-  ends_none front back ends e = apart ends.0 front back ends.1 ends.2 ends.3 ends.4 e
+  pub none_level : (front back : List (Bor (Node K V) × ℕ)) → AreEnds front back → between front back ≡ [] → length (lead_of front) ≡ length (lead_of back)
+  none_level front back ends e = ap length (same_sides ends.0 front back ends.2 ends.3 (apart ends.0 front back ends.1 ends.2 ends.3 ends.4 e)).0
 
   -- A pair between two ends can be given by either.
   pub front_gives : (front back : List (Bor (Node K V) × ℕ)) → AreEnds front back → 0 < length (between front back) → IsStanding front × (0 < length (rest_of front))

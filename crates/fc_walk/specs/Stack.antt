@@ -1,5 +1,5 @@
 -- Stacks of cells that all hold an item.
-use Rattle.std.specs.Prelude.{◌≡◌, List, [], ◌∷◌, ◌++◌, Option, Some, None, map}
+use Rattle.std.specs.Prelude.{◌≡◌, ℕ, ◌≤◌, List, [], ◌∷◌, ◌++◌, Option, Some, None, length, map, take}
 
 -- The items that the cells hold.
 abbrev pub filled : {T : Type 0} → List (Option T) → List T
@@ -10,6 +10,16 @@ filled (None ∷ xs) = filled xs
 -- Each cell holds an item.
 abbrev pub IsFilled : {T : Type 0} → List (Option T) → Type 0
 IsFilled xs = xs ≡ map Some (filled xs)
+
+-- The items in the first cells, if there are cells.
+abbrev pub held : {T : Type 0} → Option (List T) → ℕ → List T
+held None len = []
+held (Some cells) len = take len cells
+
+-- So many of 25 cells hold an item; with no cell none does.
+abbrev pub IsHeld : {T : Type 0} → Option (List T) → ℕ → Type 0
+IsHeld None len = len ≡ 0
+IsHeld (Some cells) len = (length cells ≡ 25) × (len ≤ 25)
 
 -- The item is the last of the items.
 abbrev pub IsTopOf : {T : Type 0} → List T → T → Type 0

@@ -1,8 +1,8 @@
 //! Ways through a tree from pair to pair: trails and paths to gaps between pairs, and nodes taken apart from their ends.
 #![tactic(auto)]
 
+pub mod copy_stack;
 pub mod gaps;
-mod meeting;
 pub mod owned;
 mod run;
 pub mod seek;

@@ -22,86 +22,113 @@ fn is_same_leaf<K, V>(a: &Trail<'_, K, V>, b: &Trail<'_, K, V>) -> bool
     true
 }
 
-// Up to which place the pairs of the front's leaf lie ahead of the back.
-fn run_end<K, V>(front: &Trail<'_, K, V>, back: &Trail<'_, K, V>) -> usize
+// Up to which place the pairs of the front's leaf lie ahead of the back, and whether the back is there.
+fn run_end<K, V>(front: &Trail<'_, K, V>, back: &Trail<'_, K, V>) -> (usize, bool)
     requires some { 0 < length front.now }
     requires ends { AreEnds front.now back.now }
-    ensures { (s : List (Bor (Node K V) × ℕ)) (x : Bor (Node K V) × ℕ) → front.now ≡ s ++ x ∷ [] → (x.1 ≤ result) × (result ≤ length (own_pairs x.0.now)) × (length (lead_of (s ++ (x.0, result) ∷ [])) ≤ length (lead_of back.now)) }
+    ensures place { (s : List (Bor (Node K V) × ℕ)) (x : Bor (Node K V) × ℕ) → front.now ≡ s ++ x ∷ [] → (x.1 ≤ result.0) × (result.0 ≤ length (own_pairs x.0.now)) × (length (lead_of (s ++ (x.0, result.0) ∷ [])) ≤ length (lead_of back.now)) }
+    ensures met { (s : List (Bor (Node K V) × ℕ)) (x : Bor (Node K V) × ℕ) → front.now ≡ s ++ x ∷ [] → IsTrue result.1 ↔ (length (lead_of (s ++ (x.0, result.0) ∷ [])) ≡ length (lead_of back.now)) }
 {
     if is_same_leaf(front, back) {
-        back.top().1
+        (back.top().1, true)
     } else {
-        front.top().0.len()
+        (front.top().0.len(), false)
     }
 }
 
-// From which place on the pairs of the back's leaf lie behind the front.
-fn run_start<K, V>(front: &Trail<'_, K, V>, back: &Trail<'_, K, V>) -> usize
+// From which place on the pairs of the back's leaf lie behind the front, and whether the front is there.
+fn run_start<K, V>(front: &Trail<'_, K, V>, back: &Trail<'_, K, V>) -> (usize, bool)
     requires some { 0 < length back.now }
     requires ends { AreEnds front.now back.now }
-    ensures { (s : List (Bor (Node K V) × ℕ)) (x : Bor (Node K V) × ℕ) → back.now ≡ s ++ x ∷ [] → (result ≤ x.1) × (x.1 ≤ length (own_pairs x.0.now)) × (length (lead_of front.now) ≤ length (lead_of (s ++ (x.0, result) ∷ []))) }
+    ensures place { (s : List (Bor (Node K V) × ℕ)) (x : Bor (Node K V) × ℕ) → back.now ≡ s ++ x ∷ [] → (result.0 ≤ x.1) × (x.1 ≤ length (own_pairs x.0.now)) × (length (lead_of front.now) ≤ length (lead_of (s ++ (x.0, result.0) ∷ []))) }
+    ensures met { (s : List (Bor (Node K V) × ℕ)) (x : Bor (Node K V) × ℕ) → back.now ≡ s ++ x ∷ [] → IsTrue result.1 ↔ (length (lead_of front.now) ≡ length (lead_of (s ++ (x.0, result.0) ∷ []))) }
 {
     if is_same_leaf(back, front) {
-        front.top().1
+        (front.top().1, true)
     } else {
-        0
+        (0, false)
     }
 }
 
-/// Takes the pairs of the front's leaf from its gap on, as far as the back, and goes on behind them.
-pub fn take_first_run<'a, K, V>(front: &mut Trail<'a, K, V>, back: &Trail<'a, K, V>) -> &'a [(K, V)]
+/// Takes the pairs of the front's leaf from its gap on, as far as the back, and goes on behind them. It answers them, and whether
+/// the front has then met the back.
+pub fn take_first_run<'a, K, V>(
+    front: &mut Trail<'a, K, V>,
+    back: &Trail<'a, K, V>,
+) -> (&'a [(K, V)], bool)
     requires { AreEnds front.old back.now }
     ensures ends { AreEnds front.new back.now }
-    ensures run { between front.old back.now ≡ result.now ++ between front.new back.now }
+    ensures run { between front.old back.now ≡ result.0.now ++ between front.new back.now }
+    ensures met { IsTrue result.1 ↔ (between front.new back.now ≡ []) }
 {
     if front.len() == 0 {
-        return &[];
+        return (&[], true);
     }
-    let end = run_end(front, back);
+    let (end, has_met) = run_end(front, back);
     let (leaf, start) = front.top();
     front.set_top((leaf, end));
-    &leaf.pairs()[start..end]
+    (&leaf.pairs()[start..end], has_met)
 }
 
-// Takes the pairs of the back's leaf ahead of its gap, as far as the front, and goes back ahead of them.
-fn take_last_run<'a, K, V>(front: &Trail<'a, K, V>, back: &mut Trail<'a, K, V>) -> &'a [(K, V)]
+// Takes the pairs of the back's leaf ahead of its gap, as far as the front, and goes back ahead of them. It answers them, and
+// whether the back has then met the front.
+fn take_last_run<'a, K, V>(
+    front: &Trail<'a, K, V>,
+    back: &mut Trail<'a, K, V>,
+) -> (&'a [(K, V)], bool)
     requires { AreEnds front.now back.old }
     ensures ends { AreEnds front.now back.new }
-    ensures run { between front.now back.old ≡ between front.now back.new ++ result.now }
+    ensures run { between front.now back.old ≡ between front.now back.new ++ result.0.now }
+    ensures met { IsTrue result.1 ↔ (between front.now back.new ≡ []) }
 {
     if back.len() == 0 {
-        return &[];
+        return (&[], true);
     }
-    let start = run_start(front, back);
+    let (start, has_met) = run_start(front, back);
     let (leaf, end) = back.top();
     back.set_top((leaf, start));
-    &leaf.pairs()[start..end]
+    (&leaf.pairs()[start..end], has_met)
 }
 
-/// Goes on over a pair, which it answers, and takes the run behind it.
+/// What an end of a walk takes where its leaf has no pair left.
+#[derive(Drop)]
+pub struct Step<'a, K, V> {
+    /// The pair that it goes over.
+    pub pair: &'a (K, V),
+    /// The pairs of the next leaf.
+    pub run: &'a [(K, V)],
+    /// Whether it has then met the other end.
+    pub has_met: bool,
+}
+
+/// Goes on over a pair, and takes the run behind it.
 pub fn step_first_run<'a, K, V>(
     front: &mut Trail<'a, K, V>,
     back: &Trail<'a, K, V>,
-) -> (&'a (K, V), &'a [(K, V)])
+) -> Step<'a, K, V>
     requires ends { AreEnds front.old back.now }
     requires some { 0 < length (between front.old back.now) }
     ensures ends { AreEnds front.new back.now }
-    ensures pairs { between front.old back.now ≡ result.0.now ∷ (result.1.now ++ between front.new back.now) }
+    ensures pairs { between front.old back.now ≡ result.pair.now ∷ (result.run.now ++ between front.new back.now) }
+    ensures met { IsTrue result.has_met ↔ (between front.new back.now ≡ []) }
 {
     let pair = step_first(front);
-    (pair, take_first_run(front, back))
+    let (run, has_met) = take_first_run(front, back);
+    Step { pair, run, has_met }
 }
 
-/// Goes back over a pair, which it answers, and takes the run ahead of it.
+/// Goes back over a pair, and takes the run ahead of it.
 pub fn step_last_run<'a, K, V>(
     front: &Trail<'a, K, V>,
     back: &mut Trail<'a, K, V>,
-) -> (&'a (K, V), &'a [(K, V)])
+) -> Step<'a, K, V>
     requires ends { AreEnds front.now back.old }
     requires some { 0 < length (between front.now back.old) }
     ensures ends { AreEnds front.now back.new }
-    ensures pairs { between front.now back.old ≡ between front.now back.new ++ (result.1.now ++ result.0.now ∷ []) }
+    ensures pairs { between front.now back.old ≡ between front.now back.new ++ (result.run.now ++ result.pair.now ∷ []) }
+    ensures met { IsTrue result.has_met ↔ (between front.now back.new ≡ []) }
 {
     let pair = step_last(back);
-    (pair, take_last_run(front, back))
+    let (run, has_met) = take_last_run(front, back);
+    Step { pair, run, has_met }
 }

@@ -7,10 +7,10 @@ ghost use Rattle.fc_base.specs.Ranges.{bound_now, is_range, within};
 ghost use Rattle.fc_node.specs.Tree.{entries, root_of, IsSoundMap};
 ghost use Rattle.fc_walk.specs.Span.{between, AreEnds};
 
-use crate::meeting::is_same_gap;
+use crate::copy_stack::CopyStack;
 use crate::run::{step_first_run, step_last_run, take_first_run};
-use crate::seek::{start_in, stop_in};
-use crate::trail::{Trail, first_in, last_in};
+use crate::seek::{go_to_start, go_to_stop};
+use crate::trail::{Trail, go_to_first, go_to_last};
 use fc_node::node::Node;
 use std::marker::Model;
 use std::ops::Bound;
@@ -22,17 +22,19 @@ pub struct Span<'a, K, V> {
     front: Trail<'a, K, V>,
     back: Trail<'a, K, V>,
     tail: &'a [(K, V)],
+    // Whether nothing is left between the two gaps: only a step to another leaf can change that.
+    has_met: bool,
 }
 
 impl<'a, K, V> Model for Span<'a, K, V> {
-    ghost use Rattle.std.specs.Prelude.{◌++◌, List};
+    ghost use Rattle.std.specs.Prelude.{◌≡◌, ◌↔◌, [], ◌++◌, List, IsTrue};
     ghost use Rattle.fc_walk.specs.Span.{between, AreEnds};
 
     ghost Value = { List (K × V) };
 
     ghost view = { λ s. s.head.now ++ (between s.front s.back ++ s.tail.now) };
 
-    ghost invariant = { λ s. AreEnds s.front s.back };
+    ghost invariant = { λ s. AreEnds s.front s.back × (IsTrue s.has_met ↔ (between s.front s.back ≡ [])) };
 }
 
 impl<'a, K, V> Span<'a, K, V> {
@@ -41,21 +43,25 @@ impl<'a, K, V> Span<'a, K, V> {
         requires { IsSoundMap (root_of root.now) }
         ensures { result ≡ entries (root_of root.now) }
     {
-        Span::from_ends(first_in(root), last_in(root))
+        let mut front = CopyStack::new();
+        let mut back = CopyStack::new();
+        go_to_first(&mut front, root);
+        go_to_last(&mut back, root);
+        Span::from_ends(front, back)
     }
 
     // The pairs between the gaps of two trails.
-    fn from_ends(front: Trail<'a, K, V>, back: Trail<'a, K, V>) -> Span<'a, K, V>
+    fn from_ends(mut front: Trail<'a, K, V>, back: Trail<'a, K, V>) -> Span<'a, K, V>
         requires { AreEnds front back }
         ensures { result ≡ between front.entry back.entry }
     {
-        let mut front = front;
-        let head = take_first_run(&mut front, &back);
+        let (head, has_met) = take_first_run(&mut front, &back);
         Span {
             head,
             front,
             back,
             tail: &[],
+            has_met,
         }
     }
 
@@ -70,7 +76,7 @@ impl<'a, K, V> Span<'a, K, V> {
         if !self.tail.is_empty() {
             return false;
         }
-        is_same_gap(&self.front, &self.back)
+        self.has_met
     }
 
     /// The first of the pairs, which is then no longer there.
@@ -96,16 +102,17 @@ impl<'a, K, V> Span<'a, K, V> {
             self.head = rest;
             return pair;
         }
-        if is_same_gap(&self.front, &self.back) {
+        if self.has_met {
             let Some((pair, rest)) = self.tail.split_first() else {
                 unreachable!()
             };
             self.tail = rest;
             return pair;
         }
-        let (pair, run) = step_first_run(&mut self.front, &self.back);
-        self.head = run;
-        pair
+        let step = step_first_run(&mut self.front, &self.back);
+        self.head = step.run;
+        self.has_met = step.has_met;
+        step.pair
     }
 
     /// The last of the pairs, which is then no longer there.
@@ -131,16 +138,17 @@ impl<'a, K, V> Span<'a, K, V> {
             self.tail = rest;
             return pair;
         }
-        if is_same_gap(&self.front, &self.back) {
+        if self.has_met {
             let Some((pair, rest)) = self.head.split_last() else {
                 unreachable!()
             };
             self.head = rest;
             return pair;
         }
-        let (pair, run) = step_last_run(&self.front, &mut self.back);
-        self.tail = run;
-        pair
+        let step = step_last_run(&self.front, &mut self.back);
+        self.tail = step.run;
+        self.has_met = step.has_met;
+        step.pair
     }
 
     /// The same pairs once more.
@@ -152,6 +160,7 @@ impl<'a, K, V> Span<'a, K, V> {
             front: self.front.copied(),
             back: self.back.copied(),
             tail: self.tail,
+            has_met: self.has_met,
         }
     }
 }
@@ -168,6 +177,10 @@ impl<'a, K: Ord, V> Span<'a, K, V> {
         requires range { IsTrue (is_range K.cmp (bound_now lo.now) (bound_now hi.now)) }
         ensures { result ≡ within K.cmp (bound_now lo.now) (bound_now hi.now) (entries (root_of root.now)) }
     {
-        Span::from_ends(start_in(root, lo), stop_in(root, hi))
+        let mut front = CopyStack::new();
+        let mut back = CopyStack::new();
+        go_to_start(&mut front, root, lo);
+        go_to_stop(&mut back, root, hi);
+        Span::from_ends(front, back)
     }
 }

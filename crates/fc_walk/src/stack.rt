@@ -1,6 +1,5 @@
 //! A stack of as many items as a path has steps, which takes no memory.
 ghost use Rattle.std.specs.Prelude.{◌≡◌, ◌+◌, ◌<◌, ◌≤◌, List, [], ◌∷◌, ◌++◌, length, slice_index_or};
-ghost use Rattle.fc_walk.specs.Stack.{IsTopOf};
 
 use arrayvec::ArrayVec;
 use fc_node::path::MAX_STEPS;
@@ -83,37 +82,5 @@ impl<T: Drop> Stack<T> {
             unreachable!()
         };
         item
-    }
-}
-
-impl<T: Copy> Stack<T> {
-    // The item on top.
-    pub fn top(&self) -> T
-        requires { 0 < length self.now }
-        ensures { IsTopOf self.now result }
-    {
-        *self.get(self.len() - 1)
-    }
-}
-
-impl<T: Copy + Drop> Stack<T> {
-    // Puts an item in the place of the one on top.
-    pub fn set_top(&mut self, item: T)
-        requires { 0 < length self.old }
-        ensures { (front : List T) → (x : T) → self.old ≡ front ++ x ∷ [] → self.new ≡ front ++ item ∷ [] }
-    {
-        let last = self.cells.len() - 1;
-        self.cells.as_mut_slice()[last] = Some(item);
-    }
-
-    // A second stack of the same items.
-    pub fn copied(&self) -> Stack<T>
-        ensures { result ≡ self.now }
-    {
-        let mut all = Stack::new();
-        for i in 0..self.len() {
-            all.push(*self.get(i));
-        }
-        all
     }
 }

@@ -11,12 +11,12 @@ ghost use Rattle.fc_node.specs.Tree.{Map, entries, root_of, IsSoundMap};
 ghost use Rattle.fc_walk.specs.Stack.{IsTopOf};
 ghost use Rattle.fc_walk.specs.Trail.{rest_of, lead_of, places_of, IsStanding, IsChain, IsTrailFrom, IsTrail};
 
-use crate::stack::Stack;
+use crate::copy_stack::CopyStack;
 use fc_node::node::Node;
 use fc_node::path::Path;
 
 /// The nodes on the way from a root, each with the place where the way goes on.
-pub type Trail<'a, K, V> = Stack<(&'a Node<K, V>, usize)>;
+pub type Trail<'a, K, V> = CopyStack<(&'a Node<K, V>, usize)>;
 
 /// The trail to the gap ahead of all pairs: no step where there is no root.
 pub fn first_in<'a, K, V>(root: &'a Option<Box<Node<K, V>>>) -> Trail<'a, K, V>
@@ -25,11 +25,22 @@ pub fn first_in<'a, K, V>(root: &'a Option<Box<Node<K, V>>>) -> Trail<'a, K, V>
     ensures rest { rest_of result ≡ entries (root_of root.now) }
     ensures trail { IsTrail (root_of root.now) result }
 {
-    let mut trail = Stack::new();
-    if let Some(root) = root {
-        descend_first(&mut trail, root);
-    }
+    let mut trail = CopyStack::new();
+    go_to_first(&mut trail, root);
     trail
+}
+
+/// Goes from nowhere to the gap ahead of all pairs: no step where there is no root.
+pub fn go_to_first<'a, K, V>(trail: &mut Trail<'a, K, V>, root: &'a Option<Box<Node<K, V>>>)
+    requires fresh { trail.old ≡ [] }
+    requires sound { IsSoundMap (root_of root.now) }
+    ensures levels { IsStanding trail.new }
+    ensures rest { rest_of trail.new ≡ entries (root_of root.now) }
+    ensures trail { IsTrail (root_of root.now) trail.new }
+{
+    if let Some(root) = root {
+        descend_first(trail, root);
+    }
 }
 
 /// The trail to the gap behind all pairs: no step where there is no root.
@@ -39,24 +50,35 @@ pub fn last_in<'a, K, V>(root: &'a Option<Box<Node<K, V>>>) -> Trail<'a, K, V>
     ensures lead { lead_of result ≡ entries (root_of root.now) }
     ensures trail { IsTrail (root_of root.now) result }
 {
-    let mut trail = Stack::new();
-    if let Some(root) = root {
-        descend_last(&mut trail, root);
-    }
+    let mut trail = CopyStack::new();
+    go_to_last(&mut trail, root);
     trail
 }
 
-/// The trail along a path.
-pub fn along<'a, K, V>(root: &'a Node<K, V>, path: &Path) -> Trail<'a, K, V>
+/// Goes from nowhere to the gap behind all pairs: no step where there is no root.
+pub fn go_to_last<'a, K, V>(trail: &mut Trail<'a, K, V>, root: &'a Option<Box<Node<K, V>>>)
+    requires fresh { trail.old ≡ [] }
+    requires sound { IsSoundMap (root_of root.now) }
+    ensures levels { IsStanding trail.new }
+    ensures lead { lead_of trail.new ≡ entries (root_of root.now) }
+    ensures trail { IsTrail (root_of root.now) trail.new }
+{
+    if let Some(root) = root {
+        descend_last(trail, root);
+    }
+}
+
+/// Goes from nowhere along a path.
+pub fn along<'a, K, V>(trail: &mut Trail<'a, K, V>, root: &'a Node<K, V>, path: &Path)
+    requires fresh { trail.old ≡ [] }
     requires levels { IsTree root.now }
     requires way { IsPath path.now root.now }
     requires depth { (h : ℕ) → IsLevelled h root.now → length path.now ≤ h + 1 }
-    ensures levels { IsStanding result }
-    ensures places { places_of result ≡ path.now }
-    ensures chain { IsChain root.now result }
-    ensures trail { ((h : ℕ) → IsLevelled h root.now → length path.now ≡ h + 1) → IsTrailFrom root.now result }
+    ensures levels { IsStanding trail.new }
+    ensures places { places_of trail.new ≡ path.now }
+    ensures chain { IsChain root.now trail.new }
+    ensures trail { ((h : ℕ) → IsLevelled h root.now → length path.now ≡ h + 1) → IsTrailFrom root.now trail.new }
 {
-    let mut trail = Stack::new();
     let mut node = root;
     let last = path.len();
     for i in 0..last {
@@ -66,7 +88,6 @@ pub fn along<'a, K, V>(root: &'a Node<K, V>, path: &Path) -> Trail<'a, K, V>
             node = node.child(place);
         }
     }
-    trail
 }
 
 /// The places of a trail.

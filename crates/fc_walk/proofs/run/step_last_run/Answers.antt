@@ -6,12 +6,12 @@ use Rattle.fc_walk.proofs.run.step_last_run.Goals as goal
 pub step_last-pair-requires : goal.step_last-pair-requires
 step_last-pair-requires g c = (search rules, back_gives _ _ c.requires.ends c.requires.some)
 
-pub take_last_run-requires : goal.take_last_run-requires
-take_last_run-requires g c =
+pub take_last_run-has_met-requires : goal.take_last_run-has_met-requires
+take_last_run-has_met-requires g c =
     (search rules, (ends_back _ _ _ _ c.requires.ends c.requires.some c.step_last-pair.ensures.pair c.step_last-pair.ensures.trail).0)
 
 pub returns-clause-pairs : goal.returns-clause-pairs
 returns-clause-pairs g c =
     (ends_back _ _ _ _ c.requires.ends c.requires.some c.step_last-pair.ensures.pair c.step_last-pair.ensures.trail).1
-    ∙ ap (λ zs. zs ++ c.step_last-pair.result.now ∷ []) c.take_last_run.ensures.run
-    ∙ append_assoc (between c.args.front.now c.take_last_run.new.back) c.take_last_run.result.now (c.step_last-pair.result.now ∷ [])
+    ∙ ap (λ zs. zs ++ c.step_last-pair.result.now ∷ []) c.take_last_run-has_met.ensures.run
+    ∙ append_assoc (between c.args.front.now c.take_last_run-has_met.new.back) c.take_last_run-has_met.result.0.now (c.step_last-pair.result.now ∷ [])

@@ -6,59 +6,56 @@ use Rattle.fc_walk.proofs.Seeking.{place_path, place_depth, ahead_here, ahead_do
 use Rattle.fc_walk.proofs.Trails.{standing_room, standing_top, standing_down, top_leaf, top_inner, chain_down, trail_of_chain}
 use Rattle.fc_walk.proofs.seek.ahead_of_pair.Goals as goal
 
-pub along-trail-requires : goal.along-trail-requires
-along-trail-requires g c =
+pub along-requires : goal.along-requires
+along-requires g c =
     let l = c.requires.levels in
-    (search rules, (l, (place_path _ l.0 _ l.2 c.requires.place, λ h m. place_depth _ h _ m c.requires.place)))
-
-pub push-requires : goal.push-requires
-push-requires g c = (search rules, standing_room _ _ (subst IsStanding c.pop-end.ensures c.along-trail.ensures.levels))
+    (search rules, (c.requires.fresh, (l, (place_path _ l.0 _ l.2 c.requires.place, λ h m. place_depth _ h _ m c.requires.place))))
 
 pub descend_last-requires : goal.descend_last-requires
 descend_last-requires g c =
-    let x = c.pop-end.result in
+    let x = c.top-end.result in
     let count = c.child_count.ensures.value in
-    let st = subst IsStanding c.pop-end.ensures c.along-trail.ensures.levels in
+    let st = subst IsStanding c.top-end.ensures.1 c.along.ensures.levels in
     let d = standing_down _ x c.child.result x.1 st (omega arith) c.child.ensures in
-    (search rules, subst (λ s. IsStanding (s ++ (c.child.result, 0) ∷ [])) (sym c.push.ensures) d)
+    (search rules, subst (λ s. IsStanding (s ++ (c.child.result, 0) ∷ [])) (sym c.top-end.ensures.1) d)
 
 pub returns-then-end-child_count-clause-lead : goal.returns-then-end-child_count-clause-lead
 returns-then-end-child_count-clause-lead g c =
-    let x = c.pop-end.result in
-    let t = c.pop-end.new.self in
+    let x = c.top-end.result in
+    let t = c.top-end.ensures.0 in
     let root = c.args.root.now in
     let count = c.child_count.ensures.value in
-    let top = standing_top _ _ (subst IsStanding c.pop-end.ensures c.along-trail.ensures.levels) in
-    let chain = subst (IsChain root) c.pop-end.ensures c.along-trail.ensures.chain in
-    c.descend_last.ensures.lead ∙ ap (λ s. lead_of s ++ pairs_of c.child.result.now) c.push.ensures
+    let top = standing_top _ _ (subst IsStanding c.top-end.ensures.1 c.along.ensures.levels) in
+    let chain = subst (IsChain root) c.top-end.ensures.1 c.along.ensures.chain in
+    c.descend_last.ensures.lead ∙ ap (λ s. lead_of s ++ pairs_of c.child.result.now) c.top-end.ensures.1
     ∙ ap (λ n. lead_of (t ++ x ∷ []) ++ pairs_of n) c.child.ensures
     ∙ ahead_down t x root chain top.le (omega arith)
-    ∙ ap (λ p. place_ahead p root) (ap places_of (sym c.pop-end.ensures) ∙ c.along-trail.ensures.places)
+    ∙ ap (λ p. place_ahead p root) (ap places_of (sym c.top-end.ensures.1) ∙ c.along.ensures.places)
 
 pub returns-then-end-child_count-clause-trail : goal.returns-then-end-child_count-clause-trail
 returns-then-end-child_count-clause-trail g c =
-    let x = c.pop-end.result in
+    let x = c.top-end.result in
     let root = c.args.root.now in
     let count = c.child_count.ensures.value in
-    let inner = top_inner _ (standing_top _ x (subst IsStanding c.pop-end.ensures c.along-trail.ensures.levels)) (omega arith) in
-    let down = chain_down _ x c.child.result root (subst (IsChain root) c.pop-end.ensures c.along-trail.ensures.chain) inner c.child.ensures in
-    c.descend_last.ensures.trail root (subst (λ s. IsChain root (s ++ (c.child.result, 0) ∷ [])) (sym c.push.ensures) down)
+    let inner = top_inner _ (standing_top _ x (subst IsStanding c.top-end.ensures.1 c.along.ensures.levels)) (omega arith) in
+    let down = chain_down _ x c.child.result root (subst (IsChain root) c.top-end.ensures.1 c.along.ensures.chain) inner c.child.ensures in
+    c.descend_last.ensures.trail root (subst (λ s. IsChain root (s ++ (c.child.result, 0) ∷ [])) (sym c.top-end.ensures.1) down)
 
 pub returns-else-end-child_count-clause-lead : goal.returns-else-end-child_count-clause-lead
 returns-else-end-child_count-clause-lead g c =
-    let x = c.pop-end.result in
+    let x = c.top-end.result in
     let root = c.args.root.now in
     let count = c.child_count.ensures.value in
-    let top = standing_top _ x (subst IsStanding c.pop-end.ensures c.along-trail.ensures.levels) in
+    let top = standing_top _ x (subst IsStanding c.top-end.ensures.1 c.along.ensures.levels) in
     let leaf = top_leaf x x.1 top top.le (omega arith) in
-    let chain = subst (IsChain root) c.pop-end.ensures c.along-trail.ensures.chain in
-    ap lead_of c.push.ensures ∙ ahead_here _ x root chain leaf ∙ ap (λ p. place_ahead p root) (ap places_of (sym c.pop-end.ensures) ∙ c.along-trail.ensures.places)
+    let chain = subst (IsChain root) c.top-end.ensures.1 c.along.ensures.chain in
+    ap lead_of c.top-end.ensures.1 ∙ ahead_here _ x root chain leaf ∙ ap (λ p. place_ahead p root) (ap places_of (sym c.top-end.ensures.1) ∙ c.along.ensures.places)
 
 pub returns-else-end-child_count-clause-trail : goal.returns-else-end-child_count-clause-trail
 returns-else-end-child_count-clause-trail g c =
-    let x = c.pop-end.result in
+    let x = c.top-end.result in
     let root = c.args.root.now in
     let count = c.child_count.ensures.value in
-    let top = standing_top _ x (subst IsStanding c.pop-end.ensures c.along-trail.ensures.levels) in
+    let top = standing_top _ x (subst IsStanding c.top-end.ensures.1 c.along.ensures.levels) in
     let leaf = top_leaf x x.1 top top.le (omega arith) in
-    subst (IsTrailFrom root) (sym c.push.ensures) (trail_of_chain _ x root (subst (IsChain root) c.pop-end.ensures c.along-trail.ensures.chain) leaf)
+    subst (IsTrailFrom root) (sym c.top-end.ensures.1) (trail_of_chain _ x root (subst (IsChain root) c.top-end.ensures.1 c.along.ensures.chain) leaf)

@@ -7,17 +7,17 @@ use Rattle.fc_walk.proofs.seek.behind_pair.Goals as goal
 pub step_first-requires : goal.step_first-requires
 step_first-requires g c =
     let l = c.requires.levels in
-    let e = c.ahead_of_pair-trail.ensures in
+    let e = c.ahead_of_pair.ensures in
     let next = next_pair l.0 _ _ _ l.2 c.requires.place e.trail e.lead in
     (search rules, (e.levels, subst (λ s. 0 < length s) (sym next.then) (omega arith)))
 
 pub returns-clause-rest : goal.returns-clause-rest
 returns-clause-rest g c =
     let l = c.requires.levels in
-    let e = c.ahead_of_pair-trail.ensures in
+    let e = c.ahead_of_pair.ensures in
     let next = next_pair l.0 _ _ _ l.2 c.requires.place e.trail e.lead in
     let same : c.step_first.result.now ∷ rest_of c.step_first.new.trail ≡ next.pair ∷ place_behind c.args.place.now c.args.root.now = sym c.step_first.ensures.pair ∙ next.then in
     cc
 
 pub returns-clause-trail : goal.returns-clause-trail
-returns-clause-trail g c = c.step_first.ensures.trail (Some c.args.root.now) c.ahead_of_pair-trail.ensures.trail
+returns-clause-trail g c = c.step_first.ensures.trail (Some c.args.root.now) c.ahead_of_pair.ensures.trail

@@ -4,7 +4,7 @@ use Rattle.fc_walk.proofs.trail.along.Goals.{then-place-child_count, else-place-
 use Rattle.fc_walk.proofs.trail.along.Goals as goal
 
 pub loop-i-init : goal.loop-i-init
-loop-i-init g c = along_none c.new-trail.ensures
+loop-i-init g c = along_none c.requires.fresh
 
 pub push-requires : goal.push-requires
 push-requires g c =

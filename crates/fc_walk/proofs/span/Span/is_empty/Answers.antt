@@ -1,7 +1,7 @@
 use Rattle.std.proofs.Common.{◌≡◌, ◌∙◌, sym, ap, length, true, false, arith}
 use Rattle.std.specs.Bool.{◌==◌}
 use Rattle.std.proofs.lemmas.Bool.Decides.{Decides-eqb}
-use Rattle.fc_walk.proofs.SpanEnds.{parts_length, no_parts, ends_met, ends_none, mid_none}
+use Rattle.fc_walk.proofs.SpanEnds.{parts_length, no_parts, mid_none}
 use Rattle.fc_walk.proofs.span.Span.is_empty.Goals as goal
 
 pub returns-then-not-is_empty : goal.returns-then-not-is_empty
@@ -20,6 +20,6 @@ pub returns : goal.returns
 returns g c =
     let head : length c.self.inside.head.now ≡ 0 = (Decides-eqb _ 0).0 (sym (sym c.if-not-is_empty.false ∙ c.is_empty.ensures)) in
     let tail : length c.self.inside.tail.now ≡ 0 = (Decides-eqb _ 0).0 (sym (sym c.if-not-is_empty-2.false ∙ c.is_empty-2.ensures)) in (
-      λ e. sym c.self.view_is ∙ no_parts c.self.inside.head.now _ c.self.inside.tail.now head (ends_met _ _ c.self.invariant (c.is_same_gap.ensures.0 e)) tail,
-      λ e. c.is_same_gap.ensures.1 (ends_none _ _ c.self.invariant (mid_none c.self.inside.head.now _ c.self.inside.tail.now (c.self.view_is ∙ e))),
+      λ e. sym c.self.view_is ∙ no_parts c.self.inside.head.now _ c.self.inside.tail.now head (c.self.invariant.1.0 e) tail,
+      λ e. c.self.invariant.1.1 (mid_none c.self.inside.head.now _ c.self.inside.tail.now (c.self.view_is ∙ e)),
     )

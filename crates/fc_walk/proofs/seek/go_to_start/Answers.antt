@@ -4,7 +4,7 @@ use Rattle.std.specs.declared.ops.Bound.TheVariants.{Included, Excluded}
 use Rattle.fc_base.specs.Ranges.{bound_now, starts}
 use Rattle.fc_node.specs.Tree.{entries, root_of}
 use Rattle.fc_walk.proofs.Seeking.{all_pass}
-use Rattle.fc_walk.proofs.seek.start_in.Goals as goal
+use Rattle.fc_walk.proofs.seek.go_to_start.Goals as goal
 
 pub returns-in-Included-clause-rest : goal.returns-in-Included-clause-rest
 returns-in-Included-clause-rest g c =
@@ -20,5 +20,5 @@ returns-in-Excluded-clause-rest g c =
 
 pub returns-in-Unbounded-clause-rest : goal.returns-in-Unbounded-clause-rest
 returns-in-Unbounded-clause-rest g c =
-    c.first_in-in-Unbounded.ensures.rest ∙ sym (all_pass _)
+    c.go_to_first-in-Unbounded.ensures.rest ∙ sym (all_pass _)
     ∙ ap (λ b. filter (λ e. starts g.K.Ord.cmp (bound_now b) e.0) (entries (root_of c.args.root.now))) (sym c.in-Unbounded.is)

@@ -4,7 +4,7 @@ use Rattle.std.specs.declared.ops.Bound.TheVariants.{Included, Excluded}
 use Rattle.fc_base.specs.Ranges.{bound_now, stops}
 use Rattle.fc_node.specs.Tree.{entries, root_of}
 use Rattle.fc_walk.proofs.Seeking.{all_pass}
-use Rattle.fc_walk.proofs.seek.stop_in.Goals as goal
+use Rattle.fc_walk.proofs.seek.go_to_stop.Goals as goal
 
 pub returns-in-Included-clause-lead : goal.returns-in-Included-clause-lead
 returns-in-Included-clause-lead g c =
@@ -20,5 +20,5 @@ returns-in-Excluded-clause-lead g c =
 
 pub returns-in-Unbounded-clause-lead : goal.returns-in-Unbounded-clause-lead
 returns-in-Unbounded-clause-lead g c =
-    c.last_in-in-Unbounded.ensures.lead ∙ sym (all_pass _)
+    c.go_to_last-in-Unbounded.ensures.lead ∙ sym (all_pass _)
     ∙ ap (λ b. filter (λ e. stops g.K.Ord.cmp (bound_now b) e.0) (entries (root_of c.args.root.now))) (sym c.in-Unbounded.is)
