@@ -75,8 +75,7 @@ impl<T: Copy> CopyStack<T> {
 }
 
 impl<T: Copy + Drop> CopyStack<T> {
-    // Puts an item on top. Without a call in it, a step to another leaf keeps all that it has in registers.
-    #[inline(always)]
+    // Puts an item on top.
     pub fn push(&mut self, item: T)
         requires { length self.old < 25 }
         ensures { self.new ≡ self.old ++ item ∷ [] }
@@ -86,6 +85,15 @@ impl<T: Copy + Drop> CopyStack<T> {
             self.len = 1;
             return;
         }
+        self.push_above(item);
+    }
+
+    // Puts an item on top of another one.
+    pub fn push_above(&mut self, item: T)
+        requires some { 0 < length self.old }
+        requires room { length self.old < 25 }
+        ensures { self.new ≡ self.old ++ item ∷ [] }
+    {
         let Some(cells) = &mut self.cells else {
             unreachable!()
         };

@@ -111,7 +111,21 @@ pub fn descend_first<'a, K, V>(trail: &mut Trail<'a, K, V>, node: &'a Node<K, V>
 {
     trail.push((node, 0));
     if 0 < node.child_count() {
-        descend_first(trail, node.child(0));
+        descend_on_first(trail, node.child(0));
+    }
+}
+
+// As `descend_first`, where the trail has a step: what steps to another leaf call, so that none has to see whether it has.
+fn descend_on_first<'a, K, V>(trail: &mut Trail<'a, K, V>, node: &'a Node<K, V>)
+    requires some { 0 < length trail.old }
+    requires levels { IsStanding (trail.old ++ (node, 0) ∷ []) }
+    ensures levels { IsStanding trail.new }
+    ensures rest { rest_of trail.new ≡ pairs_of node.now ++ rest_of trail.old }
+    ensures trail { (root : Node K V) → IsChain root (trail.old ++ (node.entry, 0) ∷ []) → IsTrailFrom root trail.new }
+{
+    trail.push_above((node, 0));
+    if 0 < node.child_count() {
+        descend_on_first(trail, node.child(0));
     }
 }
 
@@ -125,7 +139,22 @@ pub fn descend_last<'a, K, V>(trail: &mut Trail<'a, K, V>, node: &'a Node<K, V>)
     let end = node.len();
     trail.push((node, end));
     if 0 < node.child_count() {
-        descend_last(trail, node.child(end));
+        descend_on_last(trail, node.child(end));
+    }
+}
+
+// As `descend_last`, where the trail has a step.
+fn descend_on_last<'a, K, V>(trail: &mut Trail<'a, K, V>, node: &'a Node<K, V>)
+    requires some { 0 < length trail.old }
+    requires levels { IsStanding (trail.old ++ (node, 0) ∷ []) }
+    ensures levels { IsStanding trail.new }
+    ensures lead { lead_of trail.new ≡ lead_of trail.old ++ pairs_of node.now }
+    ensures trail { (root : Node K V) → IsChain root (trail.old ++ (node.entry, 0) ∷ []) → IsTrailFrom root trail.new }
+{
+    let end = node.len();
+    trail.push_above((node, end));
+    if 0 < node.child_count() {
+        descend_on_last(trail, node.child(end));
     }
 }
 
@@ -176,7 +205,7 @@ pub fn step_first<'a, K, V>(trail: &mut Trail<'a, K, V>) -> &'a (K, V)
     let pair = node.pair(place);
     trail.set_top((node, place + 1));
     if place + 1 < node.child_count() {
-        descend_first(trail, node.child(place + 1));
+        descend_on_first(trail, node.child(place + 1));
         pair
     } else {
         pair
@@ -198,7 +227,7 @@ pub fn step_last<'a, K, V>(trail: &mut Trail<'a, K, V>) -> &'a (K, V)
     let pair = node.pair(place);
     trail.set_top((node, place));
     if place < node.child_count() {
-        descend_last(trail, node.child(place));
+        descend_on_last(trail, node.child(place));
         pair
     } else {
         pair

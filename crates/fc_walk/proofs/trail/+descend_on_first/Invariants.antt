@@ -1,0 +1,5 @@
+use Rattle.std.proofs.Common.{length, ◌-◌}
+use Rattle.fc_walk.proofs.trail.+descend_on_first.Given as goal
+
+abbrev pub decreases-descend_on_first : goal.decreases-descend_on_first
+decreases-descend_on_first g l = 25 - length l.trail.now
