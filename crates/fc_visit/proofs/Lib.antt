@@ -2,3 +2,4 @@ pub mod Turns
 pub mod Parts
 pub mod Steps
 pub mod Walking
+pub mod Left
