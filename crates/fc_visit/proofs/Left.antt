@@ -1,5 +1,5 @@
 -- What a walk of calls leaves of a list of pairs, and of a map.
-use Rattle.std.proofs.Common.{◌≡◌, ℕ, ◌+◌, ◌≤◌, List, [], ◌∷◌, ◌++◌, length, map, Option, Some, None, Box, refl, sym, ap, subst, ◌∙◌, arith}
+use Rattle.std.proofs.Common.{◌≡◌, ℕ, ◌+◌, ◌≤◌, List, [], ◌∷◌, ◌++◌, length, map, take, drop, Option, Some, None, Box, refl, sym, ap, subst, ◌∙◌, arith}
 use Rattle.std.proofs.lemmas.List.{length-map, map-append, length-append}
 use Rattle.std.specs.List.{AllByRecursion}
 use Rattle.std.specs.declared.cmp.Ordering.{Ordering}
@@ -10,10 +10,20 @@ use Rattle.fc_node.specs.declared.node.Node.{Node}
 use Rattle.fc_node.specs.Node.{pairs_of}
 use Rattle.fc_node.specs.Path.{before, after}
 use Rattle.fc_node.specs.Tree.{entries, root_of, IsSoundMap}
-use Rattle.fc_node.specs.TreePlace.{before_of, after_of}
+use Rattle.fc_node.specs.TreePlace.{before_of}
+use Rattle.fc_node.proofs.Lists.{take_nil, drop_nil}
 use Rattle.fc_node.proofs.Gaps.{gap_pairs}
 use Rattle.fc_walk.specs.Gap.{AreEndsIn}
 use Rattle.fc_visit.specs.Visits.{VisitsInTurn, IsVisited}
+
+module _ {X : Type 0} where
+  take_front : (xs ys : List X) → take (length xs) (xs ++ ys) ≡ xs
+  take_front [] ys = refl
+  take_front (x ∷ xs) ys = ap (λ zs. x ∷ zs) (take_front xs ys)
+
+  drop_front : (xs ys : List X) → drop (length xs) (xs ++ ys) ≡ ys
+  drop_front [] ys = refl
+  drop_front (x ∷ xs) ys = drop_front xs ys
 
 module _ {K V : Type 0} where
   abbrev keys : List (K × V) → List K
@@ -51,11 +61,30 @@ module _ {F K V : Type 0} (R : F → K × V → F → V → Type 0) where
   pub visited_length : (f g : F) (front back old new : List (K × V)) → IsVisited R f g front back old new → length new ≡ length old
   visited_length f g front back old new v = sym (length-map new _) ∙ sym (ap length (visited_keys f g front back old new v)) ∙ length-map old _
 
+  abbrev none : List (K × V)
+  none = []
+
   -- nothing was visited where there is no root
-  pub visited_none : (f : F) (m : Option (Box (Node K V) Global)) (front back : List ℕ) → m ≡ None → IsVisited R f f (before_of (root_of m) front) (after_of (root_of m) back) (entries (root_of m)) (entries (root_of m))
-  visited_none f m front back e =
-      subst (λ o. IsVisited R f f (before_of (root_of o) front) (after_of (root_of o) back) (entries (root_of o)) (entries (root_of o))) (sym e)
-      (record { within = []; left = []; old_is = refl; new_is = refl; visits = (refl, refl) })
+  pub visited_none : (f : F) (m : Option (Box (Node K V) Global)) (i j : ℕ) → m ≡ None → IsVisited R f f (take i (entries (root_of m))) (drop j (entries (root_of m))) (entries (root_of m)) (entries (root_of m))
+  visited_none f m i j e =
+      subst (λ o. IsVisited R f f (take i (entries (root_of o))) (drop j (entries (root_of o))) (entries (root_of o)) (entries (root_of o))) (sym e)
+      (record { within = []; left = []; old_is = sym (ap (λ zs. zs ++ drop j none) (take_nil i) ∙ drop_nil j); new_is = sym (ap (λ zs. zs ++ drop j none) (take_nil i) ∙ drop_nil j); visits = (refl, refl) })
+  -- the ends of a map as numbers
+  pub visited_cut : (m : Option (Box (Node K V) Global)) (b : Box (Node K V) Global) (n n' : Node K V) (front back p q : List ℕ) (f g : F) → m ≡ Some b → n ≡ b.value → p ≡ front → q ≡ back → IsSoundMap (root_of m) → AreEndsIn (root_of m) front back → IsVisited R f g (before p n) (after q n) (pairs_of n) (pairs_of n')
+      → IsVisited R f g (take (length (before_of (root_of m) front)) (entries (root_of m))) (drop (length (before_of (root_of m) back)) (entries (root_of m))) (entries (root_of m)) (pairs_of n')
+  visited_cut m b n n' front back p q f g is v i j sound ends w =
+      let s = subst (λ o. IsSoundMap (root_of o)) is sound in
+      let e = subst (λ o. AreEndsIn (root_of o) front back) is ends in
+      let h = s.0 in
+      let l = s.2.1 in
+      let cf = gap_pairs front h b.value l (e.0.1 h l) e.0.0 in
+      let cb = gap_pairs back h b.value l (e.1.1 h l) e.1.0 in
+      let tf = ap (take (length (before front b.value))) cf ∙ take_front (before front b.value) (after front b.value) in
+      let db = ap (drop (length (before back b.value))) cb ∙ drop_front (before back b.value) (after back b.value) in
+      let u = subst (λ x. IsVisited R f g (before p x) (after q x) (pairs_of x) (pairs_of n')) v w in
+      let u' : IsVisited R f g (before front b.value) (after back b.value) (pairs_of b.value) (pairs_of n') = rw (i, j) at u in
+      subst (λ o. IsVisited R f g (take (length (before_of (root_of o) front)) (entries (root_of o))) (drop (length (before_of (root_of o) back)) (entries (root_of o))) (entries (root_of o)) (pairs_of n')) (sym is)
+      (subst (λ x. IsVisited R f g x (drop (length (before back b.value)) (pairs_of b.value)) (pairs_of b.value) (pairs_of n')) (sym tf) (subst (λ x. IsVisited R f g (before front b.value) x (pairs_of b.value) (pairs_of n')) (sym db) u'))
 
 -- the ends of a map, in order in its root
 pub ends_order : {K V : Type 0} (m : Option (Box (Node K V) Global)) (b : Box (Node K V) Global) (n : Node K V) (front back p q : List ℕ) → m ≡ Some b → n ≡ b.value → p ≡ front → q ≡ back → IsSoundMap (root_of m) → AreEndsIn (root_of m) front back → length (before p n) + length (after q n) ≤ length (pairs_of n)
