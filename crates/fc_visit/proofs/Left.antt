@@ -69,6 +69,7 @@ module _ {F K V : Type 0} (R : F → K × V → F → V → Type 0) where
   visited_none f m i j e =
       subst (λ o. IsVisited R f f (take i (entries (root_of o))) (drop j (entries (root_of o))) (entries (root_of o)) (entries (root_of o))) (sym e)
       (record { within = []; left = []; old_is = sym (ap (λ zs. zs ++ drop j none) (take_nil i) ∙ drop_nil j); new_is = sym (ap (λ zs. zs ++ drop j none) (take_nil i) ∙ drop_nil j); visits = (refl, refl) })
+
   -- the ends of a map as numbers
   pub visited_cut : (m : Option (Box (Node K V) Global)) (b : Box (Node K V) Global) (n n' : Node K V) (front back p q : List ℕ) (f g : F) → m ≡ Some b → n ≡ b.value → p ≡ front → q ≡ back → IsSoundMap (root_of m) → AreEndsIn (root_of m) front back → IsVisited R f g (before p n) (after q n) (pairs_of n) (pairs_of n')
       → IsVisited R f g (take (length (before_of (root_of m) front)) (entries (root_of m))) (drop (length (before_of (root_of m) back)) (entries (root_of m))) (entries (root_of m)) (pairs_of n')

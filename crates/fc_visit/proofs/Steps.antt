@@ -11,8 +11,11 @@ use Rattle.fc_node.proofs.Formed.{leaf_or_inner}
 use Rattle.fc_node.proofs.Pairs.{IsBelow, child_below}
 use Rattle.fc_node.proofs.Gaps.{inner_gap, lead_pair, rest_none, gap_pairs}
 use Rattle.fc_search.proofs.WrittenPairs.{value_children, child_own}
+use Rattle.fc_visit.specs.Shape.{IsSameAlong}
 use Rattle.fc_visit.specs.Visits.{IsVisited, IsEnd}
 use Rattle.fc_visit.proofs.Turns.{Grown, grown_more, grown_end, visits_one}
+use Rattle.fc_visit.proofs.Left.{visited_length}
+use Rattle.fc_visit.proofs.Shapes.{same_refl, same_trans, value_same, child_same}
 use Rattle.fc_visit.proofs.Parts.{drop_next, drop_get, ahead_child, child_lead, child_rest, child_there, child_behind, child_levels, value_ahead, value_there, value_length, value_behind, value_levels}
 
 module _ {K V : Type 0} where
@@ -51,9 +54,10 @@ module _ {K V : Type 0} where
     pub own : drop i (own_pairs now) ≡ drop i (own_pairs old)
     pub below : drop j (children_of now) ≡ drop j (children_of old)
     pub levels : (h : ℕ) → IsLevelled h old → IsLevelled h now
+    pub shape : (path : List ℕ) → IsSameAlong path old now
 
   pub kept_all : (n : Node K V) (i j : ℕ) → IsKept n n i j
-  kept_all n i j = record { same = refl; own = refl; below = refl; levels = λ h l. l }
+  kept_all n i j = record { same = refl; own = refl; below = refl; levels = λ h l. l; shape = λ p. same_refl p n }
 
   -- the next child is as it was
   pub kept_child : (h : ℕ) (old now : Node K V) (i : ℕ) → IsLevelled (suc h) old → IsKept old now i i → i ≤ length (own_pairs old) → child_at now i ≡ child_at old i
@@ -90,16 +94,26 @@ module _ {F K V : Type 0} (R : F → K × V → F → V → Type 0) where
           own = value_behind n i w ∙ drop_next i (own_pairs n) (own_pairs old) k.own;
           below = ap (drop (suc i)) (value_children n i w) ∙ k.below;
           levels = λ j q. value_levels n i w j (k.levels j q);
+          shape = λ q. same_trans q old n m (k.shape q) (value_same q n i w);
         },
         grown_more R first f g front (ahead_in old i) (ahead_in n i) (e ∷ []) ((e.0, w) ∷ []) (lead_in old (suc i)) (lead_in m (suc i)) grown (visits_one R e f g w r)
             (lead_pair h old i e l lt ∙ ap (λ x. ahead_in old i ++ x ∷ []) there)
             (lead_pair h m i e (value_levels n i w h (k.levels h l)) (omega arith) ∙ ap (λ x. ahead_in m i ++ x ∷ []) (value_there n i w e e (omega arith) p) ∙ ap (λ zs. zs ++ (e.0, w) ∷ []) (value_ahead n i w)),
       )
 
+  -- the shape stays
+  pub child_shape : (h : ℕ) (old n c c' : Node K V) (i : ℕ) (rest to : List ℕ) (f g : F) → IsLevelled (suc h) old → IsKept old n i i → i ≤ length (own_pairs old) → c ≡ child_at n i → IsVisited R f g (before rest c) (after to c) (pairs_of c) (pairs_of c') → ((p : List ℕ) → IsSameAlong p c c') → (path : List ℕ) → IsSameAlong path old (with_child n i c')
+  child_shape h old n c c' i rest to f g l k le is v s path =
+      let same = k.same in
+      let ln = k.levels (suc h) l in
+      let many : length (children_of n) ≡ length (own_pairs n) + 1 = ln.1 in
+      let e : length (pairs_of (child_at n i)) ≡ length (pairs_of c') = ap (λ x. length (pairs_of x)) (sym is) ∙ sym (visited_length R f g (before rest c) (after to c) (pairs_of c) (pairs_of c') v) in
+      same_trans path old n (with_child n i c') (k.shape path) (child_same path n i c' (omega arith) e (λ p. subst (λ x. IsSameAlong p x c') is (s p)))
+
   -- after the child at a place, all of which behind an end was visited
   pub child_step : (h : ℕ) (old n c c' : Node K V) (i : ℕ) (rest : List ℕ) (first f g : F) (front : List (K × V)) → IsLevelled (suc h) old → IsKept old n i i → i < length (own_pairs old) → Grown R first f front (lead_in old i ++ before rest (child_at old i)) (lead_in n i ++ before rest (child_at old i))
-      → c ≡ child_at n i → IsVisited R f g (before rest c) [] (pairs_of c) (pairs_of c') → IsBelow h c' → IsKept old (with_child n i c') i (suc i) × Grown R first g front (ahead_in old i) (ahead_in (with_child n i c') i)
-  child_step h old n c c' i rest first f g front l k lt grown is v b =
+      → c ≡ child_at n i → IsVisited R f g (before rest c) [] (pairs_of c) (pairs_of c') → IsBelow h c' → ((p : List ℕ) → IsSameAlong p c c') → IsKept old (with_child n i c') i (suc i) × Grown R first g front (ahead_in old i) (ahead_in (with_child n i c') i)
+  child_step h old n c c' i rest first f g front l k lt grown is v b shape =
       let s = k.same in
       let m = with_child n i c' in
       let ln = k.levels (suc h) l in
@@ -114,6 +128,7 @@ module _ {F K V : Type 0} (R : F → K × V → F → V → Type 0) where
           own = ap (drop i) own ∙ k.own;
           below = child_behind n i c' ∙ drop_next i (children_of n) (children_of old) k.below;
           levels = λ j q. kept_levels j q;
+          shape = child_shape h old n c c' i rest [] f g l k (omega arith) is v shape;
         },
         grown_more R first f g front (lead_in old i ++ B) (lead_in n i ++ B) v.within v.left (ahead_in old i) (ahead_in m i) grown v.visits
             (ahead_child h old i l lt ∙ ap (λ d. lead_in old i ++ pairs_of d) (sym was) ∙ ap (λ zs. lead_in old i ++ zs) (v.old_is ∙ ap (λ zs. zs ++ (v.within ++ [])) bs ∙ ap (λ zs. B ++ zs) (append-nil v.within)) ∙ sym (append_assoc (lead_in old i) B v.within))

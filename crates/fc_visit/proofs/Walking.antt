@@ -9,6 +9,7 @@ use Rattle.fc_search.specs.Written.{with_value, with_child}
 use Rattle.fc_node.proofs.Formed.{leaf_or_inner}
 use Rattle.fc_node.proofs.Pairs.{IsBelow, child_below}
 use Rattle.fc_node.proofs.Gaps.{inner_gap, leaf_gap}
+use Rattle.fc_visit.specs.Shape.{IsSameAlong}
 use Rattle.fc_visit.specs.Visits.{IsVisited, IsEnd}
 use Rattle.fc_visit.proofs.Turns.{Grown, grown_start, grown_end}
 use Rattle.fc_visit.proofs.Parts.{in_order, drop_next, ahead_leaf}
@@ -115,9 +116,9 @@ module _ {F K V : Type 0} (R : F → K × V → F → V → Type 0) where
 
   -- past the child and the pair behind it
   pub at_next : (h : ℕ) (old now c c' : Node K V) (first f g k : F) (from : List ℕ) (i end : ℕ) (rest to : List ℕ) (e : K × V) (w : V) → IsLevelled (suc h) old → end ≤ length (own_pairs old) → IsFirstStep (suc h) old end to → IsAt old now first f from i end rest to → i < end
-      → c ≡ child_at now i → IsVisited R f g (before rest c) [] (pairs_of c) (pairs_of c') → IsBelow h c' → R g e k w → e ≡ get_or (own_pairs (with_child now i c')) i e → IsAt old (with_value (with_child now i c') i w) first k from (suc i) end [] to
-  at_next h old now c c' first f g k from i end rest to e w l le last at lt is v b r p =
-      let s = child_step R h old now c c' i rest first f g (before from old) l at.kept (omega arith) at.grown is v b in
+      → c ≡ child_at now i → IsVisited R f g (before rest c) [] (pairs_of c) (pairs_of c') → IsBelow h c' → ((p : List ℕ) → IsSameAlong p c c') → R g e k w → e ≡ get_or (own_pairs (with_child now i c')) i e → IsAt old (with_value (with_child now i c') i w) first k from (suc i) end [] to
+  at_next h old now c c' first f g k from i end rest to e w l le last at lt is v b shape r p =
+      let s = child_step R h old now c c' i rest first f g (before from old) l at.kept (omega arith) at.grown is v b shape in
       let t = own_step R (suc h) old (with_child now i c') i e w first g k (before from old) l s.0 (omega arith) s.1 r p in
       record {
         le = omega arith;
@@ -145,7 +146,7 @@ module _ {F K V : Type 0} (R : F → K × V → F → V → Type 0) where
       → IsKept old n' (suc i) (suc i) × Grown R first g front (lead_in old (suc i)) (lead_in n' (suc i))
   leaf_step old n n' i e w first f g front l k lt grown r p is =
       let s = k.same in
-      let more : IsKept old n i (suc i) = record { same = k.same; own = k.own; below = drop_next i (children_of n) (children_of old) k.below; levels = k.levels } in
+      let more : IsKept old n i (suc i) = record { same = k.same; own = k.own; below = drop_next i (children_of n) (children_of old) k.below; levels = k.levels; shape = k.shape } in
       subst (λ x. IsKept old x (suc i) (suc i) × Grown R first g front (lead_in old (suc i)) (lead_in x (suc i))) (sym is)
       (own_step R 0 old n i e w first f g front l more lt (subst (λ zs. Grown R first f front zs (ahead_in n i)) (sym (ahead_leaf old i l lt)) (subst (λ zs. Grown R first f front (lead_in old i) zs) (sym (ahead_leaf n i (k.levels 0 l) (omega arith))) grown)) r p)
 

@@ -1,10 +1,10 @@
 //! A closure called at the pairs of a map's tree between two gaps.
-ghost use Rattle.std.specs.Prelude.{◌≡◌, length, take, drop};
+ghost use Rattle.std.specs.Prelude.{◌≡◌, ℕ, List, length, take, drop};
 ghost use Rattle.std.specs.declared.cmp.Ordering.{Ordering};
 ghost use Rattle.fc_base.specs.Ascending.{IsAscending};
 ghost use Rattle.fc_node.specs.Tree.{entries, root_of, IsSoundMap};
 ghost use Rattle.fc_node.specs.TreePlace.{before_of};
-ghost use Rattle.fc_walk.specs.Gap.{AreEndsIn};
+ghost use Rattle.fc_walk.specs.Gap.{AreEndsIn, IsGapIn};
 ghost use Rattle.fc_visit.specs.Visits.{CalledAtPair, IsVisited};
 
 use crate::visit::visit;
@@ -25,6 +25,7 @@ pub fn visit_tree<K, V, F: FnMut(&K, &mut V)>(
     ensures sound { IsSoundMap (root_of root.new) }
     ensures ascending { (cmp : K → K → Ordering) → IsAscending cmp (entries (root_of root.old)) → IsAscending cmp (entries (root_of root.new)) }
     ensures length { length (entries (root_of root.new)) ≡ length (entries (root_of root.old)) }
+    ensures gaps { (path : List ℕ) → IsGapIn (root_of root.old) path → IsGapIn (root_of root.new) path × (length (before_of (root_of root.new) path) ≡ length (before_of (root_of root.old) path)) }
     ensures visited { (last : F) × IsVisited (CalledAtPair F.FnMut) f last (take (length (before_of (root_of root.old) front.now)) (entries (root_of root.old))) (drop (length (before_of (root_of root.old) back.now)) (entries (root_of root.old))) (entries (root_of root.old)) (entries (root_of root.new)) }
 {
     match root {

@@ -1,10 +1,11 @@
 //! A closure called at each pair below a node, in order.
-ghost use Rattle.std.specs.Prelude.{◌≡◌, ℕ, ◌+◌, ◌<◌, ◌≤◌, length, slice_index_or, drop, Some, IsSome};
+ghost use Rattle.std.specs.Prelude.{◌≡◌, ℕ, List, ◌+◌, ◌<◌, ◌≤◌, length, slice_index_or, drop, Some, IsSome};
 ghost use Rattle.std.specs.Borrow.{sem};
 ghost use Rattle.fc_node.specs.Node.{own_pairs, pairs_of, IsLevelled};
 ghost use Rattle.fc_node.specs.Path.{before, after};
 ghost use Rattle.fc_node.specs.Place.{lead_in, rest_in};
 ghost use Rattle.fc_search.specs.Written.{with_value, lends_content};
+ghost use Rattle.fc_visit.specs.Shape.{IsSameAlong};
 ghost use Rattle.fc_visit.specs.Visits.{CalledAtPair, IsVisited, IsEnd};
 
 use fc_node::node::Node;
@@ -18,6 +19,7 @@ pub fn visit<K, V, F: FnMut(&K, &mut V)>(node: &mut Node<K, V>, from: &[u8], to:
     requires callable { F.IsAlwaysCallable f.old }
     ensures callable { F.IsAlwaysCallable f.new }
     ensures size { length (own_pairs node.new) ≡ length (own_pairs node.old) }
+    ensures shape { (path : List ℕ) → IsSameAlong path node.old node.new }
     ensures levels { (h : ℕ) → IsLevelled h node.old → IsLevelled h node.new }
     ensures visited { IsVisited (CalledAtPair F.FnMut) f.old f.new (before from.now node.old) (after to.now node.old) (pairs_of node.old) (pairs_of node.new) }
 {
@@ -71,6 +73,7 @@ fn visit_leaf<K, V, F: FnMut(&K, &mut V)>(
     requires callable { F.IsAlwaysCallable f.old }
     ensures callable { F.IsAlwaysCallable f.new }
     ensures size { length (own_pairs node.new) ≡ length (own_pairs node.old) }
+    ensures shape { (path : List ℕ) → IsSameAlong path node.old node.new }
     ensures levels { IsLevelled 0 node.new }
     ensures visited { IsVisited (CalledAtPair F.FnMut) f.old f.new (lead_in node.old start) (rest_in node.old end) (pairs_of node.old) (pairs_of node.new) }
 {

@@ -56,6 +56,7 @@ impl<K: Ord, V> BTreeMap<K, V> {
     pub(crate) fn visit<F: FnMut(&K, &mut V)>(&mut self, front: &Path, back: &Path, f: F)
         requires ends { AreEndsIn self.old front.now back.now }
         requires callable { F.IsAlwaysCallable f }
+        ensures gaps { (path : List ℕ) → IsGapIn self.old path → IsGapIn self.new path × (length (before_of self.new path) ≡ length (before_of self.old path)) }
         ensures visited { (last : F) × IsVisited (CalledAtPair F.FnMut) f last (take (length (before_of self.old front.now)) (entries self.old)) (drop (length (before_of self.old back.now)) (entries self.old)) (entries self.old) (entries self.new) }
     {
         visit_tree(&mut self.root, front, back, f);

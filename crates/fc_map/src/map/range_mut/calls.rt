@@ -68,11 +68,7 @@ impl<'a, K: Ord, V> RangeMut<'a, K, V> {
         requires { F.IsAlwaysCallable f }
         ensures visited { IsVisitedIn (CalledAtPair F.FnMut) f (stretch self.entry) (entries self.exit.0.now) }
     {
-        let RangeMut {
-            map,
-            front,
-            back,
-        } = self;
+        let RangeMut { map, front, back } = self;
         map.visit(&front, &back, f);
     }
 

@@ -3,6 +3,7 @@ use Rattle.fc_node.specs.Node.{pairs_of}
 use Rattle.fc_node.specs.Tree.{entries, root_of}
 use Rattle.fc_visit.specs.Visits.{CalledAtPair}
 use Rattle.fc_visit.proofs.Left.{keys_ascending, visited_keys, visited_length, visited_none, visited_cut, ends_order}
+use Rattle.fc_visit.proofs.Ends.{gaps_stay}
 use Rattle.fc_visit.proofs.tree.visit_tree.Goals as goal
 
 pub returns-in-None-clause-visited : goal.returns-in-None-clause-visited
@@ -28,3 +29,7 @@ returns-clause-visited g c = (
   c.visit.new.f,
   visited_cut (CalledAtPair g.F.FnMut) c.args.root.now c.in-Some.root c.deref_mut.result.now c.visit.new.node c.args.front.now c.args.back.now c.as_slice.result.now c.as_slice-in-Some.result.now c.args.f c.visit.new.f c.in-Some.is c.deref_mut.ensures.value c.as_slice.ensures.value c.as_slice-in-Some.ensures.value c.requires.sound c.requires.ends c.visit.ensures.visited,
 )
+
+pub returns-clause-gaps : goal.returns-clause-gaps
+returns-clause-gaps g c path gap =
+    gaps_stay c.args.root.now c.in-Some.root c.deref_mut.result.now c.visit.new.node c.in-Some.is c.deref_mut.ensures.value c.requires.sound c.visit.ensures.levels c.visit.ensures.shape path gap

@@ -5,9 +5,10 @@ use Rattle.fc_node.specs.Path.{before, after}
 use Rattle.fc_node.proofs.Made.{inner_length}
 use Rattle.fc_search.specs.Written.{with_value, with_child}
 use Rattle.fc_search.proofs.Nodes.{nodes_of, fewer_nodes}
+use Rattle.fc_visit.specs.Shape.{IsSameAlong}
 use Rattle.fc_visit.specs.Visits.{CalledAtPair, IsVisited, IsEnd}
 use Rattle.fc_visit.proofs.Parts.{child_lent, child_back, child_levels}
-use Rattle.fc_visit.proofs.Steps.{one_height}
+use Rattle.fc_visit.proofs.Steps.{one_height, child_shape}
 use Rattle.fc_visit.proofs.Walking.{IsAt, leaf_steps, inner_steps, leaf_front, leaf_back, at_start, at_next, at_end, reached, end_below}
 use Rattle.fc_visit.proofs.visit.+visit.Goals as goal
 
@@ -99,7 +100,7 @@ loop-i-preserved g t c =
     let m = with_child now c.loop-i.i d' in
     let p : v.0 ≡ get_or (own_pairs m) c.loop-i.i v.0 = subst (λ x. v.0 ≡ get_or (own_pairs x) c.loop-i.i v.0) back v.3 in
     let new : c.visit_own.new.node ≡ with_value m c.loop-i.i v.1 = v.4 ∙ ap (λ x. with_value x c.loop-i.i v.1) back in
-    let next = at_next R s.h n now d d' c.args.f.now c.loop-i.f c.visit.new.f c.visit_own.new.f c.args.from.now c.loop-i.i c.split-end.result.0 c.loop-i.rest.now c.split-end.result.1.now v.0 v.1 s.levels last s.steps.last at test is c.visit.ensures.visited b v.2 p in
+    let next = at_next R s.h n now d d' c.args.f.now c.loop-i.f c.visit.new.f c.visit_own.new.f c.args.from.now c.loop-i.i c.split-end.result.0 c.loop-i.rest.now c.split-end.result.1.now v.0 v.1 s.levels last s.steps.last at test is c.visit.ensures.visited b c.visit.ensures.shape v.2 p in
     record { callable = c.visit_own.ensures.callable; at = rw (add-one, new) next }
 
 pub get_mut-requires-2 : goal.get_mut-requires-2
@@ -168,6 +169,33 @@ returns-clause-levels g t c h l =
     let b : (5 ≤ length (own_pairs d')) × IsLevelled s.h d' = (omega arith, c.visit-2.ensures.levels s.h r.levels) in
     let back = child_back now c.content-2.result.now c.get_mut-2.result.now d end c.content-2.ensures.value c.get_mut-2.ensures.value c.deref_mut-2.ensures.value d' lt in
     subst (IsLevelled h) (sym back) (subst (λ x. IsLevelled x (with_child now end d')) (one_height (suc s.h) h n s.levels l) (child_levels now end d' s.h ln b))
+
+pub returns-clause-shape : goal.returns-clause-shape
+returns-clause-shape g t c path =
+    let R = CalledAtPair g.F.FnMut in
+    let n = c.args.node.now in
+    let s = inner_steps R n c.args.from.now c.args.to.now c.split-start.result.0 c.split-end.result.0 c.len.result c.split-start.result.1.now c.split-end.result.1.now c.requires.ends (λ l. false≢true (c.if-is_leaf.ensures.1 l)) c.requires.order c.split-start.ensures.first c.split-start.ensures.rest c.split-end.ensures.first c.split-end.ensures.rest c.len.ensures.value in
+    let now = c.loop-i.node in
+    let at = c.loop-i.invariant.at in
+    let ln = at.kept.levels (suc s.h) s.levels in
+    let same = at.kept.same in
+    let last = s.steps.last.le in
+    let le = at.le in
+    let test = c.loop-i-test.false in
+    let end = c.split-end.result.0 in
+    let e : c.loop-i.i ≡ end = omega arith in
+    let there : IsAt R n now c.args.f.now c.loop-i.f c.args.from.now end end c.loop-i.rest.now c.split-end.result.1.now = subst (λ j. IsAt R n now c.args.f.now c.loop-i.f c.args.from.now j end c.loop-i.rest.now c.split-end.result.1.now) e at in
+    let many : length (children_of now) ≡ length (own_pairs now) + 1 = ln.1 in
+    let lt : end < length (children_of now) = omega arith in
+    let d = c.deref_mut-2.result.now in
+    let is = child_lent now c.content-2.result.now c.get_mut-2.result.now d end c.content-2.ensures.value c.get_mut-2.ensures.value c.deref_mut-2.ensures.value lt in
+    let r = reached R s.h n now d c.args.f.now c.loop-i.f c.args.from.now end c.split-end.result.0 c.loop-i.rest.now c.split-end.result.1.now s.levels last there is in
+    let d' = c.visit-2.new.node in
+    let size = c.visit-2.ensures.size in
+    let some = r.some in
+    let b : (5 ≤ length (own_pairs d')) × IsLevelled s.h d' = (omega arith, c.visit-2.ensures.levels s.h r.levels) in
+    let back = child_back now c.content-2.result.now c.get_mut-2.result.now d end c.content-2.ensures.value c.get_mut-2.ensures.value c.deref_mut-2.ensures.value d' lt in
+    subst (IsSameAlong path n) (sym back) (child_shape R s.h n now d d' end c.loop-i.rest.now c.split-end.result.1.now c.loop-i.f c.visit-2.new.f s.levels there.kept last is c.visit-2.ensures.visited c.visit-2.ensures.shape path)
 
 pub returns-clause-visited : goal.returns-clause-visited
 returns-clause-visited g t c =

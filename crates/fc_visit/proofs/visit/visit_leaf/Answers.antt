@@ -1,9 +1,9 @@
-use Rattle.std.proofs.Common.{◌≡◌, suc, ◌+◌, ◌<◌, length, add-one, sym, subst, arith}
+use Rattle.std.proofs.Common.{◌≡◌, suc, ◌+◌, ◌<◌, length, add-one, refl, sym, subst, arith}
 use Rattle.fc_node.specs.Node.{own_pairs}
 use Rattle.fc_node.specs.Place.{lead_in}
 use Rattle.fc_visit.specs.Visits.{CalledAtPair}
-use Rattle.fc_visit.proofs.Turns.{Grown}
-use Rattle.fc_visit.proofs.Steps.{IsKept}
+use Rattle.fc_visit.proofs.Turns.{Grown, grown_start}
+use Rattle.fc_visit.proofs.Steps.{IsKept, kept_all}
 use Rattle.fc_visit.proofs.Walking.{leaf_step, leaf_end}
 use Rattle.fc_visit.proofs.visit.visit_leaf.Goals as goal
 
@@ -33,3 +33,18 @@ returns-clause-visited g c =
     let le = at.invariant.le in
     let done = c.loop-i-test.false in
     leaf_end (CalledAtPair g.F.FnMut) c.args.node.now at.node at.i c.args.end c.args.f.now at.f (lead_in c.args.node.now c.args.start) c.requires.leaf at.invariant.kept (omega arith) at.invariant.grown
+
+pub returns-clause-shape : goal.returns-clause-shape
+returns-clause-shape g c path = c.loop-i.invariant.kept.shape path
+
+pub loop-i-init : goal.loop-i-init
+loop-i-init g c =
+    let n = c.args.node.now in
+    let o = c.requires.order in
+    let lead = lead_in n c.args.start in
+    record {
+      callable = c.requires.callable;
+      le = o.0;
+      kept = kept_all n c.args.start c.args.start;
+      grown = grown_start (CalledAtPair g.F.FnMut) c.args.f.now lead lead lead refl refl;
+    }
