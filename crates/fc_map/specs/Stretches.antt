@@ -1,11 +1,12 @@
 -- What the contracts of writing walks over a map cite.
-use Rattle.std.specs.Prelude.{◌≡◌, ◌-◌, ◌<◌, ◌≤◌, [], length, slice_get, Option, Some, MatchOption}
+use Rattle.std.specs.Prelude.{◌≡◌, ◌-◌, ◌<◌, ◌≤◌, List, [], length, take, drop, slice_get, Option, Some, MatchOption}
 use Rattle.std.specs.Borrow.{Fml, RattleType, Bor, MutBor, follows_so}
 use Rattle.std.specs.Option.{OnSome, IfNone, ghost_name_of, option_map}
 use Rattle.std.specs.declared.cmp.Ord as ord
 use Rattle.std.specs.declared.cmp.PartialEq as eq
 use Rattle.std.specs.declared.cmp.PartialOrd as partial
 use mir.Syntax.{named}
+pub use Rattle.fc_visit.specs.Visits.{CalledAtPair, IsVisited}
 use Rattle.fc_map.specs.Entries.{Map, entries}
 use Rattle.fc_node.specs.TreePlace.{before_of}
 use Rattle.fc_map.specs.Writing.{Stretch, wrote_first, wrote_last}
@@ -30,6 +31,10 @@ module _ {K V : Type 0} where
   -- The pair at the last place not yet lent, and `None` exactly where there is none.
   abbrev pub IsLastPair : Stretch K V → Option (Bor K × Bor V) → Type 0
   IsLastPair t r = MatchOption r (t.back ≤ t.front) (λ p. (t.front < t.back) × (slice_get t.list (t.back - 1) ≡ Some (p.0.now, p.1.now)))
+
+-- Calls by R in turn, from the state f on, were made at the pairs not yet lent, and ys is the list with the values that they left.
+abbrev pub IsVisitedIn : {F K V : Type 0} → (F → K × V → F → V → Type 0) → F → Stretch K V → List (K × V) → Type 0
+IsVisitedIn {F} R f t ys = (last : F) × IsVisited R f last (take t.front t.list) (drop t.back t.list) t.list ys
 
 module _ {K V : Type 0} {g : ord.Ghosts K} {g' : eq.Ghosts K} {g'' : partial.Ghosts K} where
   -- The reference to the map.

@@ -1,5 +1,5 @@
 //! What callers prove of writing walks through their public clauses alone.
-ghost use Rattle.std.specs.Prelude.{◌≡◌, ◌+◌, ◌-◌, ◌<◌, length, min, IsTrue};
+ghost use Rattle.std.specs.Prelude.{◌≡◌, ◌+◌, ◌-◌, ◌<◌, length, map, min, IsTrue};
 ghost use Rattle.fc_base.specs.Ranges.{bound_now, is_range};
 ghost use Rattle.fc_map.specs.Entries.{entries};
 ghost use Rattle.fc_map.specs.Writing.{set_value, starting, whole, wrote_all};
@@ -16,6 +16,15 @@ pub fn write_first<K: Ord, V: Drop>(map: &mut BTreeMap<K, V>, value: V)
     if let Some(v) = walk.next() {
         *v = value;
     }
+}
+
+/// Raises each value by one, as far as its numbers go.
+pub fn raise_each<K: Ord>(counts: &mut BTreeMap<K, u64>)
+    ensures { entries counts.new ≡ map (λ e. (e.0, min (e.1 + 1) u64.MAX)) (entries counts.old) }
+{
+    counts
+        .iter_mut()
+        .for_each(|_key, value| *value = value.saturating_add(1));
 }
 
 /// Writes over values from both ends, in turn.

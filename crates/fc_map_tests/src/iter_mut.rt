@@ -10,7 +10,12 @@ use std::ops::Bound;
 use std::test::Fail;
 
 // Writes over the value at one end; whether there was one, this.
-fn writes_over(walk: &mut IterMut<'_, u64, u64>, from_front: bool, old: u64, new: u64) -> bool {
+pub(crate) fn writes_over(
+    walk: &mut IterMut<'_, u64, u64>,
+    from_front: bool,
+    old: u64,
+    new: u64,
+) -> bool {
     let lent = if from_front {
         walk.next()
     } else {
@@ -66,7 +71,7 @@ fn writes_each(map: &mut BTreeMap<u64, u64>, n: u64, pattern: u64) -> bool {
 }
 
 // Whether the map has the numbers below n, each with 1000 more from `first` on below `end`, and else with itself.
-fn is_written(map: &BTreeMap<u64, u64>, n: u64, first: u64, end: u64) -> bool {
+pub(crate) fn is_written(map: &BTreeMap<u64, u64>, n: u64, first: u64, end: u64) -> bool {
     for number in 0..n {
         let more = if first <= number && number < end {
             1000

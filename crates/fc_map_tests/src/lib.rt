@@ -10,6 +10,8 @@ mod ends;
 #[cfg(test)]
 mod extend;
 #[cfg(test)]
+mod for_each;
+#[cfg(test)]
 mod get_mut;
 #[cfg(test)]
 mod into_iter;

@@ -2,9 +2,10 @@
 //!
 //! A gap stays one where values are written, so a writing walk keeps its ends as such paths and goes down from the root at each
 //! call.
-ghost use Rattle.std.specs.Prelude.{◌≡◌, ◌+◌, ◌<◌, ◌↔◌, List, ℕ, length, IsTrue};
+ghost use Rattle.std.specs.Prelude.{◌≡◌, ◌+◌, ◌<◌, ◌↔◌, List, ℕ, length, take, drop, IsTrue};
 ghost use Rattle.fc_base.specs.Ranges.{bound_now, is_range};
 ghost use Rattle.fc_node.specs.TreePlace.{ahead_of, before_of, IsPlaceIn};
+ghost use Rattle.fc_visit.specs.Visits.{CalledAtPair, IsVisited};
 ghost use Rattle.fc_walk.specs.Gap.{IsGapIn, AreEndsIn};
 ghost use Rattle.fc_map.specs.Entries.{entries, IsSoundMap};
 ghost use Rattle.fc_map.specs.Writing.{starting};
@@ -12,6 +13,7 @@ ghost use Rattle.fc_map.specs.Writing.{starting};
 use super::BTreeMap;
 use fc_node::node::Node;
 use fc_node::path::Path;
+use fc_visit::tree::visit_tree;
 use fc_walk::gaps::{first_gap, push_ahead, steps_ahead, steps_behind};
 use fc_walk::seek::{start_in, stop_in};
 use fc_walk::trail::{first_in, last_in, places};
@@ -48,6 +50,16 @@ impl<K: Ord, V> BTreeMap<K, V> {
         // Read for the proof alone: it shows that the tree is sound.
         let _ = &self.root;
         a.as_slice() == b.as_slice()
+    }
+
+    // Calls the closure at each pair between two gaps, in order, with its value lent for writing.
+    pub(crate) fn visit<F: FnMut(&K, &mut V)>(&mut self, front: &Path, back: &Path, f: F)
+        requires ends { AreEndsIn self.old front.now back.now }
+        requires callable { F.IsAlwaysCallable f }
+        ensures gaps { (path : List ℕ) → IsGapIn self.old path → IsGapIn self.new path × (length (before_of self.new path) ≡ length (before_of self.old path)) }
+        ensures visited { (last : F) × IsVisited (CalledAtPair F.FnMut) f last (take (length (before_of self.old front.now)) (entries self.old)) (drop (length (before_of self.old back.now)) (entries self.old)) (entries self.old) (entries self.new) }
+    {
+        visit_tree(&mut self.root, front, back, f);
     }
 
     // The place of the pair behind a gap, and the gap behind that pair.

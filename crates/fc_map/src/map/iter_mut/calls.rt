@@ -3,7 +3,7 @@ ghost use Rattle.std.specs.Prelude.{◌≡◌, ◌+◌, ◌-◌, ◌<◌, ◌≤
 ghost use Rattle.std.specs.Borrow.{sem};
 ghost use Rattle.fc_map.specs.Entries.{entries};
 ghost use Rattle.fc_node.specs.TreePlace.{IsPlaceIn, ahead_of};
-ghost use Rattle.fc_map.specs.Stretches.{iter_stretch, iter_map_ref, iter_lends_first, iter_lends_last, IsFirstPair, IsFirstValue, IsLastPair, IsLastValue};
+ghost use Rattle.fc_map.specs.Stretches.{CalledAtPair, IsVisitedIn, iter_stretch, iter_map_ref, iter_lends_first, iter_lends_last, IsFirstPair, IsFirstValue, IsLastPair, IsLastValue};
 ghost use Rattle.fc_map.specs.Writing.{whole};
 
 use super::super::BTreeMap;
@@ -72,6 +72,21 @@ impl<'a, K: Ord, V> IterMut<'a, K, V> {
             Some(place) => Some(self.map.value_mut(&place)),
             None => None,
         }
+    }
+
+    /// Calls the closure once at each pair that is still to be lent, in ascending order of the keys, with the value lent for writing.
+    /// The tree is walked down once; no key is compared, and no memory is taken. Upstream: `Iterator::for_each` of `IterMut`.
+    pub fn for_each<F: FnMut(&K, &mut V)>(self, f: F)
+        requires { F.IsAlwaysCallable f }
+        ensures visited { IsVisitedIn (CalledAtPair F.FnMut) f (iter_stretch self.entry) (entries self.exit.0.now) }
+    {
+        let IterMut {
+            map,
+            front,
+            back,
+            left: _,
+        } = self;
+        map.visit(&front, &back, f);
     }
 
     // Goes on past the first pair, and answers its place.

@@ -4,7 +4,7 @@ ghost use Rattle.std.specs.Borrow.{sem};
 ghost use Rattle.fc_base.specs.Ranges.{bound_now, is_range};
 ghost use Rattle.fc_map.specs.Entries.{entries};
 ghost use Rattle.fc_node.specs.TreePlace.{IsPlaceIn, ahead_of};
-ghost use Rattle.fc_map.specs.Stretches.{stretch, range_map_ref, range_lends_first, range_lends_last, IsFirstPair, IsFirstValue, IsLastPair, IsLastValue};
+ghost use Rattle.fc_map.specs.Stretches.{CalledAtPair, IsVisitedIn, stretch, range_map_ref, range_lends_first, range_lends_last, IsFirstPair, IsFirstValue, IsLastPair, IsLastValue};
 ghost use Rattle.fc_map.specs.Writing.{starting};
 
 use super::super::BTreeMap;
@@ -60,6 +60,16 @@ impl<'a, K: Ord, V> RangeMut<'a, K, V> {
             Some(place) => Some(self.map.value_mut(&place)),
             None => None,
         }
+    }
+
+    /// Calls the closure once at each pair that is still to be lent, in ascending order of the keys, with the value lent for writing.
+    /// The tree is walked down once; no key is compared, and no memory is taken. Upstream: `Iterator::for_each` of `RangeMut`.
+    pub fn for_each<F: FnMut(&K, &mut V)>(self, f: F)
+        requires { F.IsAlwaysCallable f }
+        ensures visited { IsVisitedIn (CalledAtPair F.FnMut) f (stretch self.entry) (entries self.exit.0.now) }
+    {
+        let RangeMut { map, front, back } = self;
+        map.visit(&front, &back, f);
     }
 
     // Goes on past the first pair, and answers its place.

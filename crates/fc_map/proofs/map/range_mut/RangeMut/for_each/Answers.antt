@@ -1,0 +1,12 @@
+use Rattle.std.proofs.Common.{◌≡◌, ◌+◌, ◌≤◌, length, arith}
+use Rattle.fc_map.proofs.map.range_mut.RangeMut.for_each.Goals as goal
+
+pub invariant_of-self : goal.invariant_of-self
+invariant_of-self g c =
+    let ends = c.args.self.ends in
+    let front = c.visit.ensures.gaps c.args.self.front ends.0 in
+    let back = c.visit.ensures.gaps c.args.self.back ends.1 in
+    let f = front.1 in
+    let b = back.1 in
+    let o = ends.2 in
+    record { ends = (front.0, back.0, omega arith) }
