@@ -1,0 +1,6 @@
+pub mod Across
+pub mod Clearing
+pub mod Cut
+pub mod Passing
+pub mod Steps
+pub mod Whole

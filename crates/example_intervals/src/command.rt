@@ -1,0 +1,35 @@
+//! The commands that lines spell.
+
+/// What a line asks for.
+#[derive(Clone, Copy)]
+pub enum Command {
+    /// A value for the points from the first number up to, and without, the second.
+    Put(u64, u64, u64),
+    At(u64),
+    List,
+}
+
+/// The command that a line spells: its words stand apart by single spaces. `None` where it spells none.
+pub fn parse(line: &[u8]) -> Option<Command> {
+    let text = str::from_utf8(line).ok()?;
+    let (word, rest) = text.split_once(' ').unwrap_or((text, ""));
+    match word {
+        "put" => {
+            let (start, rest) = rest.split_once(' ')?;
+            let (end, value) = rest.split_once(' ')?;
+            Some(Command::Put(number(start)?, number(end)?, number(value)?))
+        }
+        "at" => Some(Command::At(number(rest)?)),
+        "list" if text.len() == 4 => Some(Command::List),
+        _ => None,
+    }
+}
+
+// The number that a word spells by decimal digits alone.
+fn number(word: &str) -> Option<u64> {
+    if word.as_bytes().first()?.is_ascii_digit() {
+        word.parse().ok()
+    } else {
+        None
+    }
+}

@@ -1,0 +1,75 @@
+//! A map from points to values by intervals: reads lines from standard input, and answers each by lines on standard output.
+#![tactic(auto)]
+
+mod command;
+mod intervals;
+mod lines;
+mod spans;
+
+use command::Command;
+use intervals::Intervals;
+use lines::Line;
+use std::io::{self, BufReader, BufWriter, Write};
+use std::process::ExitCode;
+
+// The most bytes of a line, and how many bytes of input and of replies are kept.
+const ROOM: usize = 1024;
+
+fn main(rt: HostRuntime) -> ExitCode {
+    match run(&rt) {
+        Ok(()) => ExitCode::SUCCESS,
+        Err(e) => {
+            let _ = eprintln!(rt; "{e}");
+            ExitCode::from(2)
+        }
+    }
+}
+
+// Answers line after line. All room for lines and replies is taken before the first.
+fn run(rt: &(impl Input + Print + AllocGlobal)) -> io::Result<()> {
+    let alloc = rt.alloc();
+    let mut line = Vec::with_capacity(alloc, ROOM)?;
+    let mut source = BufReader::with_capacity(alloc, ROOM, rt.reader())?;
+    let mut out = BufWriter::with_capacity(alloc, ROOM, io::writer(rt))?;
+    let mut intervals = Intervals::new(alloc);
+    for _ in 0..u64::MAX {
+        match lines::read_line(&mut source, &mut line)? {
+            Line::End => break,
+            Line::TooLong => writeln!(out, "line too long")?,
+            Line::Whole => match command::parse(&line) {
+                Some(command) => answer(&mut intervals, command, &mut out)?,
+                None => writeln!(out, "bad line")?,
+            },
+        }
+        out.flush()?;
+    }
+    out.flush()
+}
+
+// Runs a command and writes its reply.
+fn answer<W: Write>(intervals: &mut Intervals, command: Command, out: &mut W) -> io::Result<()> {
+    match command {
+        Command::Put(start, end, _) if end <= start => writeln!(out, "empty interval"),
+        Command::Put(start, end, value) => match intervals.put(start, end, value) {
+            Ok(()) => writeln!(out, "ok"),
+            Err(_) => writeln!(out, "out of memory"),
+        },
+        Command::At(point) => match intervals.at(point) {
+            Some(value) => writeln!(out, "{value}"),
+            None => writeln!(out, "none"),
+        },
+        Command::List => list(intervals, out),
+    }
+}
+
+// Writes how many intervals there are, and each, in order.
+fn list<W: Write>(intervals: &Intervals, out: &mut W) -> io::Result<()> {
+    let count = intervals.spans.len();
+    writeln!(out, "intervals: {count}")?;
+    for (start, span) in intervals.spans.iter() {
+        let end = span.end;
+        let value = span.value;
+        writeln!(out, "{start} {end} {value}")?;
+    }
+    Ok(())
+}
