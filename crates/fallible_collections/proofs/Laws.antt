@@ -2,3 +2,4 @@
 pub use Rattle.fc_base.proofs.Laws.{at_equal, value_at_equal, cut_equal, at_put, value_at_put, value_at_put_equal, at_put_other, value_at_put_other, at_cut, at_cut_other, value_at_cut_other, ascending_put, ascending_cut, parts_joined, cut_absent, cut_put, cut_put_new, cut_put_equal, length_cut_there, length_cut_absent, length_put_there, length_put_new, smaller_ahead, ascending_front, ascending_back, at_between, cut_between, first_is_least, last_is_greatest, ascending_rest, ascending_lead, at_first, at_last, cut_first, cut_last, at_query, value_at_query, value_at_put_query, at_put_other_query, value_at_put_other_query, put_by_query, cut_query, within_all, within_bounds, ascending_within, places_are_within}
 pub use Rattle.fc_base.proofs.JoinedLaws.{halves_joined, placed_behind, joined_behind, joined_halves, ascending_joined}
 pub use Rattle.fc_set.proofs.OperationLaws.{lengths, in_common, difference_at_least, difference_at_most, common_at_most, union_at_least, union_at_most, symmetric_at_most}
+pub use Rattle.fc_map.proofs.VisitLaws.{visits_map, visited_whole}

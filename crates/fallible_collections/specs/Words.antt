@@ -28,7 +28,8 @@ pub use Rattle.fc_map.specs.LendsKey.{lends_get, lent_value, written_at}
 pub use Rattle.fc_map.specs.Entry.{entry_map, entry_map_ref, entry_key, entry_pair, entry_value, list_with, list_without, IsWritten}
 pub use Rattle.fc_map.specs.Walks.{deref_pair, keys_of, values_of}
 pub use Rattle.fc_map.specs.Writing.{Stretch, whole, starting, wrote_first, wrote_last, wrote, wrote_all, set_value}
-pub use Rattle.fc_map.specs.Stretches.{range_map_ref, stretch, iter_map_ref, iter_stretch, IsFirstValue, IsLastValue, IsFirstPair, IsLastPair}
+pub use Rattle.fc_map.specs.Stretches.{range_map_ref, stretch, iter_map_ref, iter_stretch, IsFirstValue, IsLastValue, IsFirstPair, IsLastPair, CalledAtPair, IsVisitedIn}
+pub use Rattle.fc_visit.specs.Visits.{VisitsInTurn}
 pub use Rattle.fc_map.specs.Compare.{pair_eq, pair_cmp, pair_partial_cmp, pair_input}
 -- sets
 pub use Rattle.fc_set.specs.Items.{items, item_at, smaller, greater, not_smaller, without, AreAscending, with_item, with_replaced, items_within, joined_items, extended_items, AreExtendedUpTo}

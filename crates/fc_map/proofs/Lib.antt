@@ -7,6 +7,7 @@ pub mod EntryFacts
 pub mod ShapeFacts
 pub mod EndFacts
 pub mod WritingFacts
+pub mod VisitLaws
 pub mod PutFacts
 pub mod ExtendFacts
 pub mod PopFacts

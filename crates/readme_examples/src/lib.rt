@@ -1,7 +1,7 @@
 //! The README's examples, in a crate that names `fallible_collections` alone.
 #![tactic(auto)]
 
-ghost use Rattle.std.specs.Prelude.{◌≡◌, List, [], IfOk, IfSome, IsOk, IsSome, OnErr, Some, string_bytes, decimal, unwrap_or, ◌+◌, ◌<◌};
+ghost use Rattle.std.specs.Prelude.{◌≡◌, List, map, min, [], IfOk, IfSome, IsOk, IsSome, OnErr, Some, string_bytes, decimal, unwrap_or, ◌+◌, ◌<◌};
 ghost use Rattle.std.specs.Iterator.{IsFiniteIterable};
 ghost use Rattle.fallible_collections.specs.Words.{at, entries, extended, front, hashed_value_at, put, text_order, GivesAll};
 
@@ -46,19 +46,30 @@ pub fn count_word(
 }
 
 /// Raises each price by one, and answers the highest of the keys from 10 on.
-pub fn raise(prices: &mut BTreeMap<u64, u64>) -> u64 {
-    let mut walk = prices.values_mut();
-    for _ in 0..walk.len() {
-        if let Some(price) = walk.next() {
-            *price = price.saturating_add(1); // one value is lent at a time
-        }
-    }
-    drop(walk); // the map is free again
+pub fn raise(prices: &mut BTreeMap<u64, u64>) -> u64
+    ensures { entries prices.new ≡ map (λ e. (e.0, min (e.1 + 1) u64.MAX)) (entries prices.old) }
+{
+    prices
+        .iter_mut()
+        .for_each(|_, price| *price = price.saturating_add(1));
     let mut highest = 0;
     for (_, price) in prices.range((Bound::Included(&10), Bound::Unbounded)) {
         highest = highest.max(*price); // of the keys from 10 on
     }
     highest
+}
+
+/// Numbers the values anew, from the least key on.
+pub fn renumber(prices: &mut BTreeMap<u64, u64>, from: u64) {
+    let mut walk = prices.iter_mut();
+    let mut next = from;
+    for _ in 0..walk.len() {
+        if let Some(price) = walk.next() {
+            *price = next; // one value is lent at a time
+        }
+        next = next.saturating_add(1);
+    }
+    drop(walk); // the map is free again
 }
 
 /// Puts a count at an item and looks it up: what was put is there, and a refusal leaves the counts as they were.

@@ -1,6 +1,6 @@
 use Rattle.std.proofs.Common.{rules, ◌≡◌, ◌+◌, min}
 use Rattle.fc_map.specs.Entries.{entries}
-use Rattle.fc_map_examples.proofs.VisitFacts.{visited_whole}
+use Rattle.fc_map.proofs.VisitLaws.{visited_whole}
 use Rattle.fc_map_examples.proofs.iter_mut.raise_each.Goals as goal
 
 pub returns : goal.returns

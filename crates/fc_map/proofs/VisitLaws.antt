@@ -1,4 +1,4 @@
--- What a closure that computes leaves of the list of a map.
+-- Laws of `for_each`: what a closure that computes leaves of the list of a map.
 use Rattle.std.proofs.Common.{◌≡◌, ℕ, List, [], ◌∷◌, ◌++◌, length, map, take, drop, refl, sym, ap, subst, ◌∙◌, append-nil}
 use Rattle.fc_visit.specs.Visits.{VisitsInTurn}
 use Rattle.fc_map.specs.Stretches.{IsVisitedIn}
@@ -6,7 +6,7 @@ use Rattle.fc_map.specs.Writing.{Stretch, whole}
 
 module _ {F K V : Type 0} (R : F → K × V → F → V → Type 0) (h : K × V → V) (calls : (f : F) (e : K × V) (f' : F) (w : V) → R f e f' w → w ≡ h e) where
   -- each call leaves what h gives
-  visits_map : (xs ys : List (K × V)) (f g : F) → VisitsInTurn R f xs g ys → ys ≡ map (λ e. (e.0, h e)) xs
+  pub visits_map : (xs ys : List (K × V)) (f g : F) → VisitsInTurn R f xs g ys → ys ≡ map (λ e. (e.0, h e)) xs
   visits_map [] ys f g v = v.1
   visits_map (e ∷ es) ys f g v = v.5 ∙ ap (λ w. (e.0, w) ∷ v.2) (calls f e v.0 v.1 v.3) ∙ ap (λ zs. (e.0, h e) ∷ zs) (visits_map es v.2 v.0 g v.4)
 
