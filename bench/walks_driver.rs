@@ -14,7 +14,7 @@ use std::hint::black_box;
 const SIZES: [(u64, u64, usize); 2] = [(1_000, 400, 60), (1_000_000, 40, 5)];
 const RANGE: u64 = 100;
 const RANGES: usize = 2_000;
-const WAYS: [&str; 4] = ["iter", "both ends", "range of 100", "values_mut"];
+const WAYS: [&str; 5] = ["iter", "both ends", "range of 100", "values_mut", "values_mut by for_each"];
 
 unsafe extern "C" {
     fn bench_map_walk(

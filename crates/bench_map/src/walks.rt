@@ -57,6 +57,11 @@ fn write_all(map: &mut BTreeMap<u64, u64>, add: u64) {
     }
 }
 
+fn visit_all(map: &mut BTreeMap<u64, u64>, add: u64) {
+    map.values_mut()
+        .for_each(|_key, value| *value = value.wrapping_add(add));
+}
+
 pub fn take_all(map: BTreeMap<u64, u64>, start: u64) -> u64 {
     let mut checksum = start;
     for (key, value) in map {
@@ -87,7 +92,8 @@ pub extern "C" fn bench_map_walk(
             0 => seen = walk_all(&map, seen),
             1 => seen = walk_from_both_ends(&map, seen),
             2 => seen = walk_ranges(&map, starts, seen),
-            _ => write_all(&mut map, 1),
+            3 => write_all(&mut map, 1),
+            _ => visit_all(&mut map, 1),
         }
     }
     let walked = mark(alloc);
