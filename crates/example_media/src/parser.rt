@@ -84,8 +84,8 @@ impl Parser {
         })
     }
 
-    /// What stands next in the source, or `None` at its end. The payload of a box that is `Kept` stands in `payload`, which is
-    /// emptied first; a refusal of room for it is no error: the box is `Refused`, and the next one follows.
+    /// What stands next in the source, or `None` where it has ended or nothing more may be read. The payload of a box that is `Kept`
+    /// stands in `payload`, which is emptied first; a refusal of room for it is no error: the box is `Refused`, and the next one follows.
     ///
     /// # Errors
     /// The source's own: a read failed or was interrupted. Where the parser then stands is open.
