@@ -45,16 +45,20 @@ pub fn count_word(
     Ok(())
 }
 
-/// Raises each price by one, and answers the highest of the keys from 10 on.
-pub fn raise(prices: &mut BTreeMap<u64, u64>) -> u64
+/// Raises each price by one, as far as its numbers go.
+pub fn raise<K: Ord>(prices: &mut BTreeMap<K, u64>)
     ensures { entries prices.new ≡ map (λ e. (e.0, min (e.1 + 1) u64.MAX)) (entries prices.old) }
 {
     prices
         .iter_mut()
-        .for_each(|_, price| *price = price.saturating_add(1));
+        .for_each(|_key, price| *price = price.saturating_add(1));
+}
+
+/// The highest of the prices whose keys are 10 or more, and 0 where there is none.
+pub fn highest(prices: &BTreeMap<u64, u64>) -> u64 {
     let mut highest = 0;
     for (_, price) in prices.range((Bound::Included(&10), Bound::Unbounded)) {
-        highest = highest.max(*price); // of the keys from 10 on
+        highest = highest.max(*price);
     }
     highest
 }
