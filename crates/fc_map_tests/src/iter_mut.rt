@@ -10,12 +10,7 @@ use std::ops::Bound;
 use std::test::Fail;
 
 // Writes over the value at one end; whether there was one, this.
-pub(crate) fn writes_over(
-    walk: &mut IterMut<'_, u64, u64>,
-    from_front: bool,
-    old: u64,
-    new: u64,
-) -> bool {
+fn writes_over(walk: &mut IterMut<'_, u64, u64>, from_front: bool, old: u64, new: u64) -> bool {
     let lent = if from_front {
         walk.next()
     } else {
