@@ -1,5 +1,5 @@
 -- The ends of writing walks.
-use Rattle.std.proofs.Common.{◌≡◌, ℕ, ◌+◌, ◌-◌, ◌≤◌, List, [], ◌∷◌, ◌++◌, length, slice_get, length-append, Some, None, refl, sym, ap, Bool, true, false, nat_eq, subst, ◌∙◌, arith}
+use Rattle.std.proofs.Common.{◌≡◌, ℕ, ◌+◌, ◌-◌, ◌<◌, ◌≤◌, List, [], ◌∷◌, ◌++◌, length, slice_get, length-append, Some, None, refl, sym, ap, Bool, true, false, nat_eq, subst, ◌∙◌, arith}
 use Rattle.std.specs.Borrow.{Bor}
 use Rattle.std.specs.Option.{option_map}
 use Rattle.std.specs.Cmp.Lexicographic.{pointwise, other_text}
@@ -46,6 +46,11 @@ module _ {K V : Type 0} where
       let l = sound.2.1 in
       let e = ap length (gap_pairs a h root l (s.1 h l) s.0) ∙ length-append (before a root) (after a root) in
       omega (arith, e)
+
+  -- where a pair lies ahead of a gap, all gaps are gaps of leaves
+  pub gap_some : (m : Map K V) (gap other : List ℕ) → IsSoundMap m → IsGapIn m gap → 0 < length (before_of m other) → 0 < length gap
+  gap_some None gap other sound g k = absurd (omega arith)
+  gap_some (Some root) gap other sound g k = let e = g.1 sound.0 sound.2.1 in omega arith
 
   -- the pair at a place
   pair_at : (front back : List (K × V)) (p : K × V) → slice_get (front ++ p ∷ back) (length front) ≡ Some p

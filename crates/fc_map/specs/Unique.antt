@@ -35,7 +35,7 @@ module _ {K V : Type 0} where
   open-prop cmp k (Some root) path = hlevel (props, way-prop path root)
 
   -- That a path leads to a gap of a map.
-  gap-prop : (m : Map K V) (path : List ℕ) → IsProp (IsGapIn m path)
+  pub gap-prop : (m : Map K V) (path : List ℕ) → IsProp (IsGapIn m path)
   gap-prop None path = hlevel props
   gap-prop (Some root) path = hlevel (props, way-prop path root)
 

@@ -5,3 +5,4 @@ pub mod Shapes
 pub mod Steps
 pub mod Walking
 pub mod Ends
+pub mod LeafFacts

@@ -1,5 +1,6 @@
-//! A walk down a tree that calls a closure at each pair, with its value lent for writing.
+//! What writing walks need of a tree: a closure called at each pair, with its value lent for writing, and the gaps of one leaf.
 #![tactic(auto)]
 
+pub mod leaf;
 pub mod tree;
 pub mod visit;

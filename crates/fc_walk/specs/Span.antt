@@ -1,5 +1,5 @@
 -- The pairs between two gaps of one map.
-use Rattle.std.specs.Prelude.{ℕ, ◌-◌, ◌≤◌, List, length, take}
+use Rattle.std.specs.Prelude.{ℕ, ◌-◌, ◌≤◌, List, [], ◌∷◌, ◌++◌, length, take, Option, Some, None}
 use Rattle.std.specs.Borrow.{Bor}
 use Rattle.fc_node.specs.declared.node.Node.{Node}
 use Rattle.fc_node.specs.Tree.{Map, IsSoundMap}
@@ -13,3 +13,8 @@ module _ {K V : Type 0} where
   -- Both are trails of one sound map, and the first leads to no later gap than the second.
   abbrev pub AreEnds : List (Bor (Node K V) × ℕ) → List (Bor (Node K V) × ℕ) → Type 0
   AreEnds front back = (m : Map K V) × IsSoundMap m × IsTrail m front × IsTrail m back × (length (lead_of front) ≤ length (lead_of back))
+
+  -- A pair, if there is one, and the run behind it.
+  abbrev pub linked : Option (Bor (K × V)) → List (K × V) → List (K × V)
+  linked None run = []
+  linked (Some pair) run = pair.now ∷ run

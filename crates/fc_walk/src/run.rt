@@ -1,8 +1,8 @@
 //! Runs: pairs of one leaf that an end of a walk takes all at once.
-ghost use Rattle.std.specs.Prelude.{◌≡◌, ℕ, ◌-◌, ◌<◌, ◌≤◌, ◌↔◌, List, [], ◌∷◌, ◌++◌, length, take, IsTrue};
+ghost use Rattle.std.specs.Prelude.{◌≡◌, ℕ, ◌-◌, ◌<◌, ◌≤◌, ◌↔◌, List, [], ◌∷◌, ◌++◌, length, take, None, IsTrue};
 ghost use Rattle.std.specs.Borrow.{Bor};
 ghost use Rattle.fc_node.specs.Node.{own_pairs};
-ghost use Rattle.fc_walk.specs.Span.{between, AreEnds};
+ghost use Rattle.fc_walk.specs.Span.{between, linked, AreEnds};
 ghost use Rattle.fc_walk.specs.Trail.{lead_of, places_of};
 
 use crate::trail::{Trail, step_first, step_last};
@@ -115,6 +115,45 @@ pub fn step_first_run<'a, K, V>(
     let pair = step_first(front);
     let (run, has_met) = take_first_run(front, back);
     Step { pair, run, has_met }
+}
+
+/// What an end of a walk has read ahead: the next pair behind a leaf, and the run behind that pair.
+#[derive(Drop)]
+pub struct Ahead<'a, K, V> {
+    /// The pair, if there is one.
+    pub link: Option<&'a (K, V)>,
+    /// The pairs of the leaf behind it.
+    pub run: &'a [(K, V)],
+    /// Whether the front has then met the other end.
+    pub has_met: bool,
+}
+
+/// Goes on over the next pair and the run behind it, where the front has not met the back.
+pub fn read_ahead<'a, K, V>(
+    front: &mut Trail<'a, K, V>,
+    back: &Trail<'a, K, V>,
+    has_met: bool,
+) -> Ahead<'a, K, V>
+    requires ends { AreEnds front.old back.now }
+    requires met { IsTrue has_met ↔ (between front.old back.now ≡ []) }
+    ensures ends { AreEnds front.new back.now }
+    ensures pairs { between front.old back.now ≡ linked result.link result.run.now ++ between front.new back.now }
+    ensures met { IsTrue result.has_met ↔ (between front.new back.now ≡ []) }
+    ensures all { result.link ≡ None → IsTrue result.has_met }
+{
+    if has_met {
+        return Ahead {
+            link: None,
+            run: &[],
+            has_met,
+        };
+    }
+    let Step { pair, run, has_met } = step_first_run(front, back);
+    Ahead {
+        link: Some(pair),
+        run,
+        has_met,
+    }
 }
 
 /// Goes back over a pair, and takes the run ahead of it.

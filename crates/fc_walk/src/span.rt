@@ -1,24 +1,28 @@
 //! The pairs between two gaps of a tree, from both ends.
 //!
-//! Each end has taken a run of pairs of its leaf, of which most steps give one: only at its end a step looks at the trail.
+//! Each end has taken a run of pairs of its leaf, of which most steps give one: only at its end a step looks at the trail. The front
+//! has read one leaf more, so that a processor has that leaf's pairs at hand when they are asked for.
 ghost use Rattle.std.specs.Prelude.{◌≡◌, ◌<◌, ◌↔◌, [], ◌∷◌, ◌++◌, length, IsTrue};
 ghost use Rattle.fc_base.specs.Ascending.{IsAscending};
 ghost use Rattle.fc_base.specs.Ranges.{bound_now, is_range, within};
 ghost use Rattle.fc_node.specs.Tree.{entries, root_of, IsSoundMap};
-ghost use Rattle.fc_walk.specs.Span.{between, AreEnds};
+ghost use Rattle.fc_walk.specs.Span.{between, linked, AreEnds};
 
 use crate::copy_stack::CopyStack;
-use crate::run::{step_first_run, step_last_run, take_first_run};
+use crate::run::{Ahead, read_ahead, step_last_run, take_first_run};
 use crate::seek::{go_to_start, go_to_stop};
 use crate::trail::{Trail, go_to_first, go_to_last};
 use fc_node::node::Node;
 use std::marker::Model;
 use std::ops::Bound;
 
-/// The pairs that the front has taken, those between the gaps of two trails, and those that the back has taken.
+/// The pairs that the front has taken, those that it has read ahead, those between the gaps of two trails, and those that the back
+/// has taken.
 #[derive(Drop)]
 pub struct Span<'a, K, V> {
     head: &'a [(K, V)],
+    link: Option<&'a (K, V)>,
+    run: &'a [(K, V)],
     front: Trail<'a, K, V>,
     back: Trail<'a, K, V>,
     tail: &'a [(K, V)],
@@ -27,14 +31,14 @@ pub struct Span<'a, K, V> {
 }
 
 impl<'a, K, V> Model for Span<'a, K, V> {
-    ghost use Rattle.std.specs.Prelude.{◌≡◌, ◌↔◌, [], ◌++◌, List, IsTrue};
-    ghost use Rattle.fc_walk.specs.Span.{between, AreEnds};
+    ghost use Rattle.std.specs.Prelude.{◌≡◌, ◌↔◌, [], ◌++◌, List, None, IsTrue};
+    ghost use Rattle.fc_walk.specs.Span.{between, linked, AreEnds};
 
     ghost Value = { List (K × V) };
 
-    ghost view = { λ s. s.head.now ++ (between s.front s.back ++ s.tail.now) };
+    ghost view = { λ s. s.head.now ++ ((linked s.link s.run.now ++ between s.front s.back) ++ s.tail.now) };
 
-    ghost invariant = { λ s. AreEnds s.front s.back × (IsTrue s.has_met ↔ (between s.front s.back ≡ [])) };
+    ghost invariant = { λ s. AreEnds s.front s.back × (IsTrue s.has_met ↔ (between s.front s.back ≡ [])) × (s.link ≡ None → IsTrue s.has_met) };
 }
 
 impl<'a, K, V> Span<'a, K, V> {
@@ -56,8 +60,11 @@ impl<'a, K, V> Span<'a, K, V> {
         ensures { result ≡ between front.entry back.entry }
     {
         let (head, has_met) = take_first_run(&mut front, &back);
+        let Ahead { link, run, has_met } = read_ahead(&mut front, &back, has_met);
         Span {
             head,
+            link,
+            run,
             front,
             back,
             tail: &[],
@@ -76,7 +83,10 @@ impl<'a, K, V> Span<'a, K, V> {
         if !self.tail.is_empty() {
             return false;
         }
-        self.has_met
+        match self.link {
+            Some(_) => false,
+            None => true,
+        }
     }
 
     /// The first of the pairs, which is then no longer there.
@@ -102,17 +112,19 @@ impl<'a, K, V> Span<'a, K, V> {
             self.head = rest;
             return pair;
         }
-        if self.has_met {
+        let Some(link) = self.link else {
             let Some((pair, rest)) = self.tail.split_first() else {
                 unreachable!()
             };
             self.tail = rest;
             return pair;
-        }
-        let step = step_first_run(&mut self.front, &self.back);
-        self.head = step.run;
-        self.has_met = step.has_met;
-        step.pair
+        };
+        self.head = self.run;
+        let ahead = read_ahead(&mut self.front, &self.back, self.has_met);
+        self.link = ahead.link;
+        self.run = ahead.run;
+        self.has_met = ahead.has_met;
+        link
     }
 
     /// The last of the pairs, which is then no longer there.
@@ -138,17 +150,25 @@ impl<'a, K, V> Span<'a, K, V> {
             self.tail = rest;
             return pair;
         }
-        if self.has_met {
-            let Some((pair, rest)) = self.head.split_last() else {
-                unreachable!()
-            };
-            self.head = rest;
-            return pair;
+        if !self.has_met {
+            let step = step_last_run(&self.front, &mut self.back);
+            self.tail = step.run;
+            self.has_met = step.has_met;
+            return step.pair;
         }
-        let step = step_last_run(&self.front, &mut self.back);
-        self.tail = step.run;
-        self.has_met = step.has_met;
-        step.pair
+        if let Some(link) = self.link {
+            if let Some((pair, rest)) = self.run.split_last() {
+                self.run = rest;
+                return pair;
+            }
+            self.link = None;
+            return link;
+        }
+        let Some((pair, rest)) = self.head.split_last() else {
+            unreachable!()
+        };
+        self.head = rest;
+        pair
     }
 
     /// The same pairs once more.
@@ -157,6 +177,8 @@ impl<'a, K, V> Span<'a, K, V> {
     {
         Span {
             head: self.head,
+            link: self.link,
+            run: self.run,
             front: self.front.copied(),
             back: self.back.copied(),
             tail: self.tail,

@@ -1,10 +1,11 @@
 //! The ends of writing walks: gaps between two pairs, as paths to gaps of leaves, and steps from one to the next.
 //!
-//! A gap stays one where values are written, so a writing walk keeps its ends as such paths and goes down from the root at each
-//! call.
-ghost use Rattle.std.specs.Prelude.{◌≡◌, ◌+◌, ◌<◌, ◌↔◌, List, ℕ, length, take, drop, IsTrue};
+//! A gap stays one where values are written, so a writing walk keeps its ends as such paths. Within a leaf a step changes the last
+//! step of such a path alone; only at a leaf's end it looks at the tree.
+ghost use Rattle.std.specs.Prelude.{◌≡◌, ◌+◌, ◌<◌, ◌≤◌, ◌↔◌, List, ℕ, length, take, drop, IsTrue};
 ghost use Rattle.fc_base.specs.Ranges.{bound_now, is_range};
 ghost use Rattle.fc_node.specs.TreePlace.{ahead_of, before_of, IsPlaceIn};
+ghost use Rattle.fc_visit.specs.Leaf.{gone_on};
 ghost use Rattle.fc_visit.specs.Visits.{CalledAtPair, IsVisited};
 ghost use Rattle.fc_walk.specs.Gap.{IsGapIn, AreEndsIn};
 ghost use Rattle.fc_map.specs.Entries.{entries, IsSoundMap};
@@ -13,6 +14,7 @@ ghost use Rattle.fc_map.specs.Writing.{starting};
 use super::BTreeMap;
 use fc_node::node::Node;
 use fc_node::path::Path;
+use fc_visit::leaf::{go_ahead, go_behind, pairs_behind};
 use fc_visit::tree::visit_tree;
 use fc_walk::gaps::{first_gap, push_ahead, steps_ahead, steps_behind};
 use fc_walk::seek::{start_in, stop_in};
@@ -62,8 +64,48 @@ impl<K: Ord, V> BTreeMap<K, V> {
         visit_tree(&mut self.root, front, back, f);
     }
 
-    // The place of the pair behind a gap, and the gap behind that pair.
-    pub(crate) fn step_behind(&self, gap: &Path) -> (Path, Path)
+    // How many pairs of its leaf lie behind a gap; none where there is no leaf.
+    pub(crate) fn run_behind(&self, gap: &Path) -> usize
+        requires { IsGapIn self.now gap.now }
+        ensures run { IsGapIn self.now (gone_on gap.now result) }
+        ensures all { (k : ℕ) → IsGapIn self.now (gone_on gap.now k) → 0 < length gap.now → k ≤ result }
+    {
+        match &self.root {
+            None => 0,
+            Some(root) => pairs_behind(root, gap.as_slice()),
+        }
+    }
+
+    // Goes on past the pair behind a gap, and answers that pair's place. So many pairs of the gap's leaf lie behind it.
+    #[inline]
+    pub(crate) fn step_behind(&self, gap: &mut Path, run: &mut usize) -> Path
+        requires gap { IsGapIn self.now gap.old }
+        requires run { IsGapIn self.now (gone_on gap.old run.old) }
+        requires some { (other : List ℕ) × IsGapIn self.now other × (length (before_of self.now gap.old) < length (before_of self.now other)) }
+        ensures place { IsPlaceIn self.now result }
+        ensures ahead { length (ahead_of self.now result) ≡ length (before_of self.now gap.old) }
+        ensures gap { IsGapIn self.now gap.new }
+        ensures run { IsGapIn self.now (gone_on gap.new run.new) }
+        ensures step { length (before_of self.now gap.new) ≡ length (before_of self.now gap.old) + 1 }
+        ensures sound { IsSoundMap self.now }
+    {
+        if *run == 0 {
+            let (place, next) = self.leave_behind(gap);
+            *gap = next;
+            *run = self.run_behind(gap);
+            return place;
+        }
+        // Read for the proof alone: it shows that the tree is sound.
+        let _ = &self.root;
+        let place = *gap;
+        go_behind(gap);
+        *run -= 1;
+        place
+    }
+
+    // The place of the pair behind a gap, and the gap behind that pair, by a way down from the root.
+    #[inline(never)]
+    fn leave_behind(&self, gap: &Path) -> (Path, Path)
         requires gap { IsGapIn self.now gap.now }
         requires some { (other : List ℕ) × IsGapIn self.now other × (length (before_of self.now gap.now) < length (before_of self.now other)) }
         ensures place { IsPlaceIn self.now result.0 }
@@ -82,8 +124,31 @@ impl<K: Ord, V> BTreeMap<K, V> {
         (Path::of(&gap[..steps]), next)
     }
 
-    // The place of the pair ahead of a gap, and the gap ahead of that pair.
-    pub(crate) fn step_ahead(&self, gap: &Path) -> (Path, Path)
+    // Goes back past the pair ahead of a gap, and answers that pair's place.
+    #[inline]
+    pub(crate) fn step_ahead(&self, gap: &mut Path) -> Path
+        requires gap { IsGapIn self.now gap.old }
+        requires some { 0 < length (before_of self.now gap.old) }
+        ensures place { IsPlaceIn self.now result }
+        ensures ahead { length (ahead_of self.now result) + 1 ≡ length (before_of self.now gap.old) }
+        ensures gap { IsGapIn self.now gap.new }
+        ensures step { length (before_of self.now gap.new) + 1 ≡ length (before_of self.now gap.old) }
+        ensures sound { IsSoundMap self.now }
+    {
+        if gap.step(gap.len() - 1) == 0 {
+            let (place, next) = self.leave_ahead(gap);
+            *gap = next;
+            return place;
+        }
+        // Read for the proof alone: it shows that the tree is sound.
+        let _ = &self.root;
+        go_ahead(gap);
+        *gap
+    }
+
+    // The place of the pair ahead of a gap, and the gap ahead of that pair, by a way down from the root.
+    #[inline(never)]
+    fn leave_ahead(&self, gap: &Path) -> (Path, Path)
         requires gap { IsGapIn self.now gap.now }
         requires some { 0 < length (before_of self.now gap.now) }
         ensures place { IsPlaceIn self.now result.0 }

@@ -1,8 +1,9 @@
 //! Writing walks over all values of a map, from both ends.
 ghost use Rattle.std.specs.Prelude.{◌≡◌, ◌+◌, length};
-ghost use Rattle.fc_walk.specs.Gap.{AreEndsIn};
+ghost use Rattle.fc_visit.specs.Leaf.{gone_on};
+ghost use Rattle.fc_walk.specs.Gap.{AreEndsIn, IsGapIn};
 ghost use Rattle.fc_node.specs.TreePlace.{before_of};
-ghost use Rattle.fc_map.specs.Unique.{ends-prop};
+ghost use Rattle.fc_map.specs.Unique.{ends-prop, gap-prop};
 
 mod calls;
 
@@ -15,9 +16,12 @@ use fc_node::path::Path;
 pub struct IterMut<'a, K: Ord, V> {
     pub(crate) map: &'a mut BTreeMap<K, V>,
     pub(crate) front: Path,
+    // So many pairs of the front's leaf lie behind it.
+    pub(crate) run: usize,
     pub(crate) back: Path,
     pub(crate) left: usize,
     ghost ends: { AreEndsIn map.now front back } by { ends-prop map.now front back },
+    ghost run_is: { IsGapIn map.now (gone_on front run) } by { gap-prop map.now (gone_on front run) },
     ghost counted: { left + length (before_of map.now front) ≡ length (before_of map.now back) },
 }
 
@@ -32,6 +36,7 @@ impl<K: Ord, V> Drop for IterMut<'_, K, V> {
         let IterMut {
             map: _,
             front: _,
+            run: _,
             back: _,
             left: _,
         } = self;

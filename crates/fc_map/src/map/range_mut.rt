@@ -1,7 +1,8 @@
 //! Writing walks over the pairs of a map within two bounds, from both ends.
 ghost use Rattle.std.specs.Prelude.{◌≡◌};
-ghost use Rattle.fc_walk.specs.Gap.{AreEndsIn};
-ghost use Rattle.fc_map.specs.Unique.{ends-prop};
+ghost use Rattle.fc_visit.specs.Leaf.{gone_on};
+ghost use Rattle.fc_walk.specs.Gap.{AreEndsIn, IsGapIn};
+ghost use Rattle.fc_map.specs.Unique.{ends-prop, gap-prop};
 
 mod calls;
 
@@ -14,8 +15,11 @@ use fc_node::path::Path;
 pub struct RangeMut<'a, K: Ord, V> {
     pub(crate) map: &'a mut BTreeMap<K, V>,
     pub(crate) front: Path,
+    // So many pairs of the front's leaf lie behind it.
+    pub(crate) run: usize,
     pub(crate) back: Path,
     ghost ends: { AreEndsIn map.now front back } by { ends-prop map.now front back },
+    ghost run_is: { IsGapIn map.now (gone_on front run) } by { gap-prop map.now (gone_on front run) },
 }
 
 // Dropped, a walk leaves the map with what was written: a derived `drop` would not say so.
@@ -26,6 +30,7 @@ impl<K: Ord, V> Drop for RangeMut<'_, K, V> {
         let RangeMut {
             map: _,
             front: _,
+            run: _,
             back: _,
         } = self;
     }

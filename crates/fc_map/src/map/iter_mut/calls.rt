@@ -18,9 +18,11 @@ impl<K: Ord, V> BTreeMap<K, V> {
     {
         let left = self.len;
         let (front, back) = self.whole_ends();
+        let run = self.run_behind(&front);
         IterMut {
             map: self,
             front,
+            run,
             back,
             left,
         }
@@ -83,6 +85,7 @@ impl<'a, K: Ord, V> IterMut<'a, K, V> {
         let IterMut {
             map,
             front,
+            run: _,
             back,
             left: _,
         } = self;
@@ -98,8 +101,7 @@ impl<'a, K: Ord, V> IterMut<'a, K, V> {
         if self.left == 0 {
             return None;
         }
-        let (place, next) = self.map.step_behind(&self.front);
-        self.front = next;
+        let place = self.map.step_behind(&mut self.front, &mut self.run);
         self.left -= 1;
         Some(place)
     }
@@ -113,8 +115,7 @@ impl<'a, K: Ord, V> IterMut<'a, K, V> {
         if self.left == 0 {
             return None;
         }
-        let (place, next) = self.map.step_ahead(&self.back);
-        self.back = next;
+        let place = self.map.step_ahead(&mut self.back);
         self.left -= 1;
         Some(place)
     }
@@ -128,7 +129,8 @@ impl<'a, K: Ord + Drop, V: Drop> IterMut<'a, K, V> {
         if self.left == 0 {
             return None;
         }
-        let pair = self.map.pair_of(&self.map.step_behind(&self.front).0);
+        let (mut gap, mut run) = (self.front, self.run);
+        let pair = self.map.pair_of(&self.map.step_behind(&mut gap, &mut run));
         Some((&pair.0, &pair.1))
     }
 
@@ -139,7 +141,8 @@ impl<'a, K: Ord + Drop, V: Drop> IterMut<'a, K, V> {
         if self.left == 0 {
             return None;
         }
-        let pair = self.map.pair_of(&self.map.step_ahead(&self.back).0);
+        let mut gap = self.back;
+        let pair = self.map.pair_of(&self.map.step_ahead(&mut gap));
         Some((&pair.0, &pair.1))
     }
 }

@@ -22,9 +22,11 @@ impl<K: Ord, V> BTreeMap<K, V> {
         ensures start { stretch result ≡ starting K.cmp (bound_now bounds.entry.0) (bound_now bounds.entry.1) (entries self.old) }
     {
         let (front, back) = self.range_ends(&bounds.0, &bounds.1);
+        let run = self.run_behind(&front);
         RangeMut {
             map: self,
             front,
+            run,
             back,
         }
     }
@@ -68,7 +70,12 @@ impl<'a, K: Ord, V> RangeMut<'a, K, V> {
         requires { F.IsAlwaysCallable f }
         ensures visited { IsVisitedIn (CalledAtPair F.FnMut) f (stretch self.entry) (entries self.exit.0.now) }
     {
-        let RangeMut { map, front, back } = self;
+        let RangeMut {
+            map,
+            front,
+            run: _,
+            back,
+        } = self;
         map.visit(&front, &back, f);
     }
 
@@ -81,8 +88,7 @@ impl<'a, K: Ord, V> RangeMut<'a, K, V> {
         if self.is_done() {
             return None;
         }
-        let (place, next) = self.map.step_behind(&self.front);
-        self.front = next;
+        let place = self.map.step_behind(&mut self.front, &mut self.run);
         Some(place)
     }
 
@@ -95,8 +101,7 @@ impl<'a, K: Ord, V> RangeMut<'a, K, V> {
         if self.is_done() {
             return None;
         }
-        let (place, next) = self.map.step_ahead(&self.back);
-        self.back = next;
+        let place = self.map.step_ahead(&mut self.back);
         Some(place)
     }
 }
@@ -109,7 +114,8 @@ impl<'a, K: Ord + Drop, V: Drop> RangeMut<'a, K, V> {
         if self.is_done() {
             return None;
         }
-        let pair = self.map.pair_of(&self.map.step_behind(&self.front).0);
+        let (mut gap, mut run) = (self.front, self.run);
+        let pair = self.map.pair_of(&self.map.step_behind(&mut gap, &mut run));
         Some((&pair.0, &pair.1))
     }
 
@@ -120,7 +126,8 @@ impl<'a, K: Ord + Drop, V: Drop> RangeMut<'a, K, V> {
         if self.is_done() {
             return None;
         }
-        let pair = self.map.pair_of(&self.map.step_ahead(&self.back).0);
+        let mut gap = self.back;
+        let pair = self.map.pair_of(&self.map.step_ahead(&mut gap));
         Some((&pair.0, &pair.1))
     }
 }

@@ -1,45 +1,29 @@
-use Rattle.std.proofs.Common.{◌≡◌, ◌-◌, ◌∷◌, ◌++◌, [], take, get_or, length, Some, arith, sym, ap, subst, ◌∙◌}
-use Rattle.fc_node.specs.Place.{place_ahead}
-use Rattle.fc_map.specs.Entries.{root_of}
-use Rattle.fc_walk.specs.Gap.{GoesOn}
-use Rattle.fc_walk.proofs.GapFacts.{IsLast, some_last, place_back, stepped_ahead}
+use Rattle.std.proofs.Common.{◌-◌, ◌≤◌, length, get_or, sym, ap, subst, ◌∙◌, arith}
+use Rattle.fc_walk.specs.Gap.{IsGapIn}
+use Rattle.fc_walk.proofs.GapFacts.{gap_small}
+use Rattle.fc_visit.proofs.LeafFacts.{on_length, gap_near}
+use Rattle.fc_map.proofs.EndFacts.{gap_some}
 use Rattle.fc_map.proofs.map.BTreeMap.step_ahead.Goals as goal
 
-pub overflow_sub-gap : goal.overflow_sub-gap
-overflow_sub-gap g c =
+pub go_ahead-requires-clause-small : goal.go_ahead-requires-clause-small
+go_ahead-requires-clause-small g c =
     let m = c.args.self.now in
-    let p = c.as_slice-gap.result.now in
-    let is = sym c.self.view_is ∙ ap root_of c.in-Some.is ∙ ap Some (sym c.deref-root.ensures) in
-    let e = c.steps_ahead-last.ensures in
-    let last : IsLast p c.deref-root.result.now c.steps_ahead-last.result = record { within = e.within; none = e.none; place = e.place; ahead = e.ahead; step = e.step } in
-    let some = some_last m _ p c.steps_ahead-last.result is last (rw c.as_slice-gap.ensures.value c.requires.some) in
-    let k = e.step (c.steps_ahead-last.result - 1) (omega (arith, some)) in
-    omega (arith, k)
-
-pub push_ahead-requires-clause-place : goal.push_ahead-requires-clause-place
-push_ahead-requires-clause-place g c =
-    let m = c.args.self.now in
-    let p = c.as_slice-gap.result.now in
-    let is = sym c.self.view_is ∙ ap root_of c.in-Some.is ∙ ap Some (sym c.deref-root.ensures) in
-    let e = c.steps_ahead-last.ensures in
-    let last : IsLast p c.deref-root.result.now c.steps_ahead-last.result = record { within = e.within; none = e.none; place = e.place; ahead = e.ahead; step = e.step } in
-    let some = some_last m _ p c.steps_ahead-last.result is last (rw c.as_slice-gap.ensures.value c.requires.some) in
-    let i = c.steps_ahead-last.result - 1 in
-    let place : c.as_slice.result.now ≡ take i p ++ (get_or p i 0 - 1) ∷ [] = c.as_slice.ensures.value ∙ c.push.ensures ∙ ap (λ q. q ++ (get_or p i 0 - 1) ∷ []) c.of-place.ensures in
-    (place_back c.deref-root.result.now p c.as_slice.result.now i c.steps_ahead-last.result last (omega (arith, some)) place).0
+    let gap = c.args.gap.now in
+    let sound = rw c.self.view_is at c.self.invariant.1 in
+    let some = gap_some m gap gap sound c.requires.gap c.requires.some in
+    let small : get_or gap (length gap - 1) 0 ≤ 11 = gap_small m gap (length gap - 1) sound c.requires.gap (omega arith) in
+    omega arith
 
 pub returns : goal.returns
 returns g c =
     let m = c.args.self.now in
-    let p = c.as_slice-gap.result.now in
-    let same = c.as_slice-gap.ensures.value in
-    let n = c.deref-root.result.now in
-    let is = sym c.self.view_is ∙ ap root_of c.in-Some.is ∙ ap Some (sym c.deref-root.ensures) in
-    let e = c.steps_ahead-last.ensures in
-    let last : IsLast p n c.steps_ahead-last.result = record { within = e.within; none = e.none; place = e.place; ahead = e.ahead; step = e.step } in
-    let some = some_last m _ p c.steps_ahead-last.result is last (rw same c.requires.some) in
-    let i = c.steps_ahead-last.result - 1 in
-    let place : c.push.new.self ≡ take i p ++ (get_or p i 0 - 1) ∷ [] = c.push.ensures ∙ ap (λ q. q ++ (get_or p i 0 - 1) ∷ []) c.of-place.ensures in
-    let on = subst (λ q. GoesOn q c.push_ahead.new.gap n (length (place_ahead c.push.new.self n))) c.new-next.ensures (rw c.as_slice.ensures.value at c.push_ahead.ensures) in
-    let r = stepped_ahead m n p c.push.new.self c.push_ahead.new.gap i c.steps_ahead-last.result is last (omega (arith, some)) place on in
-    record { place = r.place; ahead = rw (← same) r.ahead; gap = r.slot; step = rw (← same) r.count; sound = rw c.self.view_is at c.self.invariant.1 }
+    let gap = c.args.gap.now in
+    let next = c.go_ahead.new.gap in
+    let sound = rw c.self.view_is at c.self.invariant.1 in
+    let same = c.go_ahead.ensures in
+    let some = gap_some m gap gap sound c.requires.gap c.requires.some in
+    let long = sym (on_length next 1) ∙ ap length same in
+    let r = gap_near m next 0 sound (omega arith) (subst (IsGapIn m) (sym same) c.requires.gap) in
+    let count = rw same at r.count in
+    let ahead = r.ahead in
+    record { place = r.place; ahead = omega arith; gap = r.start; step = sym count; sound = sound }

@@ -1,55 +1,37 @@
-use Rattle.std.proofs.Common.{◌-◌, ◌≤◌, ◌<◌, length, get_or, Some, arith, rules, sym, ap, subst, ◌∙◌}
-use Rattle.fc_map.specs.Entries.{entries, root_of}
-use Rattle.fc_walk.specs.Gap.{IsGapIn}
+use Rattle.std.proofs.Common.{◌≡◌, ◌-◌, ◌<◌, ◌≤◌, length, get_or, suc, sym, ap, subst, ◌∙◌, arith}
 use Rattle.fc_node.specs.TreePlace.{before_of}
-use Rattle.fc_map.proofs.EndFacts.{gap_within}
-use Rattle.fc_walk.proofs.GapFacts.{IsNext, some_next, stepped_behind, gap_small}
+use Rattle.fc_walk.specs.Gap.{IsGapIn}
+use Rattle.fc_walk.proofs.GapFacts.{gap_small}
+use Rattle.fc_visit.specs.Leaf.{gone_on}
+use Rattle.fc_visit.proofs.LeafFacts.{on_again, gap_near}
+use Rattle.fc_map.proofs.EndFacts.{gap_some}
 use Rattle.fc_map.proofs.map.BTreeMap.step_behind.Goals as goal
 
-pub overflow_sub-last : goal.overflow_sub-last
-overflow_sub-last g c =
+pub go_behind-requires-clause-small : goal.go_behind-requires-clause-small
+go_behind-requires-clause-small g c =
     let m = c.args.self.now in
-    let p = c.as_slice-gap.result.now in
-    let same = c.as_slice-gap.ensures.value in
+    let gap = c.args.gap.now in
     let sound = rw c.self.view_is at c.self.invariant.1 in
     let o = c.requires.some in
-    let within = gap_within m o.0 sound o.1 in
-    let more = o.2 in
-    let fewer : length (before_of m c.args.gap.now) < length (entries m) = omega (arith, within, more) in
-    let is = sym c.self.view_is ∙ ap root_of c.in-Some.is ∙ ap Some (sym c.deref.ensures) in
-    let e = c.steps_behind-steps.ensures in
-    omega (arith, some_next m _ p c.steps_behind-steps.result is (record { within = e.within; none = e.none; place = e.place; ahead = e.ahead }) (rw same fewer))
-
-pub first_gap-next-requires-clause-small : goal.first_gap-next-requires-clause-small
-first_gap-next-requires-clause-small g c =
-    let m = c.args.self.now in
-    let p = c.as_slice-gap.result.now in
-    let same = c.as_slice-gap.ensures.value in
-    let sound = rw c.self.view_is at c.self.invariant.1 in
-    let o = c.requires.some in
-    let within = gap_within m o.0 sound o.1 in
-    let more = o.2 in
-    let fewer : length (before_of m c.args.gap.now) < length (entries m) = omega (arith, within, more) in
-    let is = sym c.self.view_is ∙ ap root_of c.in-Some.is ∙ ap Some (sym c.deref.ensures) in
-    let e = c.steps_behind-steps.ensures in
-    let some = some_next m _ p c.steps_behind-steps.result is (record { within = e.within; none = e.none; place = e.place; ahead = e.ahead }) (rw same fewer) in
-    let few = e.within in
-    let small : get_or p (c.steps_behind-steps.result - 1) 0 ≤ 11 = gap_small m p _ sound (subst (IsGapIn m) (sym same) c.requires.gap) (omega arith) in
-    omega (arith, small)
+    let later = o.2 in
+    let behind : 0 < length (before_of m o.0) = omega (arith, later) in
+    let some = gap_some m gap o.0 sound c.requires.gap behind in
+    let small : get_or gap (length gap - 1) 0 ≤ 11 = gap_small m gap (length gap - 1) sound c.requires.gap (omega arith) in
+    omega arith
 
 pub returns : goal.returns
 returns g c =
     let m = c.args.self.now in
-    let p = c.as_slice-gap.result.now in
-    let same = c.as_slice-gap.ensures.value in
+    let gap = c.args.gap.now in
     let sound = rw c.self.view_is at c.self.invariant.1 in
     let o = c.requires.some in
-    let within = gap_within m o.0 sound o.1 in
-    let more = o.2 in
-    let fewer : length (before_of m c.args.gap.now) < length (entries m) = omega (arith, within, more) in
-    let is = sym c.self.view_is ∙ ap root_of c.in-Some.is ∙ ap Some (sym c.deref.ensures) in
-    let e = c.steps_behind-steps.ensures in
-    let next : IsNext p c.deref.result.now c.steps_behind-steps.result = record { within = e.within; none = e.none; place = e.place; ahead = e.ahead } in
-    let some = some_next m _ p c.steps_behind-steps.result is next (rw same fewer) in
-    let r = stepped_behind m _ p c.first_gap-next.result _ _ is sound (subst (IsGapIn m) (sym same) c.requires.gap) next (omega (arith, some)) c.first_gap-next.ensures in
-    record { place = search rules; ahead = search rules; gap = r.slot; step = rw (← same) r.count; sound = sound }
+    let later = o.2 in
+    let behind : 0 < length (before_of m o.0) = omega (arith, later) in
+    let some = gap_some m gap o.0 sound c.requires.gap behind in
+    let fewer = c.args.run.now - 1 in
+    let more = c.if-run-eq0.false in
+    let one : c.args.run.now ≡ suc fewer = omega (arith, more) in
+    let run = subst (λ k. IsGapIn m (gone_on gap k)) one c.requires.run in
+    let next = c.go_behind.ensures in
+    let r = gap_near m gap fewer sound some run in
+    record { place = r.place; ahead = r.ahead; gap = subst (IsGapIn m) (sym next) r.slot; run = subst (IsGapIn m) (sym (on_again gap fewer) ∙ ap (λ p. gone_on p fewer) (sym next)) run; step = ap (λ p. length (before_of m p)) next ∙ r.count; sound = sound }

@@ -1,4 +1,5 @@
-use Rattle.std.proofs.Common.{◌≡◌, ◌+◌, ◌≤◌, length, arith}
+use Rattle.std.proofs.Common.{arith}
+use Rattle.fc_visit.specs.Leaf.{gone_on}
 use Rattle.fc_map.proofs.map.range_mut.RangeMut.for_each.Goals as goal
 
 pub invariant_of-self : goal.invariant_of-self
@@ -6,7 +7,8 @@ invariant_of-self g c =
     let ends = c.args.self.ends in
     let front = c.visit.ensures.gaps c.args.self.front ends.0 in
     let back = c.visit.ensures.gaps c.args.self.back ends.1 in
+    let run = c.visit.ensures.gaps (gone_on c.args.self.front c.args.self.run) c.args.self.run_is in
     let f = front.1 in
     let b = back.1 in
     let o = ends.2 in
-    record { ends = (front.0, back.0, omega arith) }
+    record { ends = (front.0, back.0, omega arith); run_is = run.0 }

@@ -1,13 +1,15 @@
 use Rattle.std.proofs.Common.{arith, refl, ap}
 use Rattle.fc_map.specs.Entries.{entries}
+use Rattle.fc_visit.specs.Leaf.{gone_on}
 use Rattle.fc_map.specs.Stretches.{stretch}
 use Rattle.fc_map.proofs.EndFacts.{ends_stay, last_written, place_value}
+use Rattle.fc_map.proofs.ShapeFacts.{gap_stays}
 use Rattle.fc_map.proofs.map.range_mut.RangeMut.next_back.Goals as goal
 
 pub invariant_of-self-lent : goal.invariant_of-self-lent
 invariant_of-self-lent g c = λ w.
     let n = c.step_back.new.self in
-    (ends_stay n.map.now c.in-Some.place n.front n.back w c.value_mut.ensures.sound c.in-Some.ensures.step.0 n.ends, tt)
+    (ends_stay n.map.now c.in-Some.place n.front n.back w c.value_mut.ensures.sound c.in-Some.ensures.step.0 n.ends, ((gap_stays n.map.now c.in-Some.place (gone_on n.front n.run) w c.value_mut.ensures.sound c.in-Some.ensures.step.0 n.run_is).slot, tt))
 
 pub returns-in-Some : goal.returns-in-Some
 returns-in-Some g c =
