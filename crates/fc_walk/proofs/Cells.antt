@@ -1,7 +1,7 @@
 -- Cells that hold just the items of a list.
-use Rattle.std.proofs.Common.{◌≡◌, ℕ, suc, zero, ◌+◌, ◌<◌, List, [], ◌∷◌, ◌++◌, length, get_or, map, take, set, refl, sym, ap, ◌∙◌, append-nil, length-append, Option, Some, None, arith}
-use Rattle.std.specs.List.{remove, refill}
-use Rattle.std.proofs.lemmas.List.{drop_all, take_all, length-map, length-set, map-append, map-set, set_at}
+use Rattle.std.proofs.Common.{◌≡◌, ℕ, suc, zero, ◌+◌, ◌<◌, List, [], ◌∷◌, ◌++◌, length, get_or, map, refl, sym, ap, ◌∙◌, length-append, Option, Some, None, arith}
+use Rattle.std.specs.List.{remove}
+use Rattle.std.proofs.lemmas.List.{length-map, map-append}
 use Rattle.fc_walk.specs.Stack.{filled, IsFilled, IsTopOf}
 
 module _ {T : Type 0} where

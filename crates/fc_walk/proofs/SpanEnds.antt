@@ -1,5 +1,5 @@
 -- What lies between two trails of one map, when one of them goes on.
-use Rattle.std.proofs.Common.{◌≡◌, ℕ, ◌+◌, ◌-◌, ◌<◌, List, [], ◌∷◌, ◌++◌, length, take, refl, sym, ap, ◌∙◌, arith, append_assoc, append-nil, length-append}
+use Rattle.std.proofs.Common.{◌≡◌, ℕ, ◌+◌, ◌-◌, ◌<◌, List, [], ◌∷◌, ◌++◌, length, take, ap, ◌∙◌, arith, length-append}
 use Rattle.std.specs.Borrow.{Bor}
 use Rattle.fc_node.specs.declared.node.Node.{Node}
 use Rattle.fc_node.specs.Tree.{Map, entries, IsSoundMap}
@@ -9,45 +9,9 @@ use Rattle.fc_walk.proofs.Spans.{taken_some, whole_between, next_between, back_b
 use Rattle.fc_walk.proofs.Meetings.{apart, same_sides}
 use Rattle.fc_walk.proofs.Trails.{trail_entries, trail_standing}
 
-module _ {X : Type 0} where
-  no_items : (xs : List X) → length xs ≡ 0 → xs ≡ []
-  no_items [] e = refl
-  no_items (x ∷ xs) e = absurd (omega arith)
-
-  pub some_items : (xs : List X) → (xs ≡ [] → ⊥) → 0 < length xs
-  some_items [] h = absurd (h refl)
-  some_items (x ∷ xs) h = omega arith
-
-  -- ---- what an end has taken, what is between, and what the other end has taken
-
-  pub parts_length : (head mid tail : List X) → length (head ++ (mid ++ tail)) ≡ length head + (length mid + length tail)
-  parts_length head mid tail = length-append head (mid ++ tail) ∙ ap (λ n. length head + n) (length-append mid tail)
-
-  pub no_parts : (head mid tail : List X) → length head ≡ 0 → mid ≡ [] → length tail ≡ 0 → head ++ (mid ++ tail) ≡ []
-  no_parts head mid tail h m t = no_items (head ++ (mid ++ tail)) (let p = parts_length head mid tail in let k = ap length m in omega (arith, h, k, t, p))
-
-  pub mid_none : (head mid tail : List X) → head ++ (mid ++ tail) ≡ [] → mid ≡ []
-  mid_none head mid tail e = no_items mid (let p = parts_length head mid tail in let k = ap length e in omega (arith, k, p))
-
-  pub first_of_tail : (head mid tail rest : List X) (x : X) → length head ≡ 0 → mid ≡ [] → tail ≡ x ∷ rest → head ++ (mid ++ tail) ≡ x ∷ (head ++ (mid ++ rest))
-  first_of_tail head mid tail rest x h m t =
-      let n = no_items head h in
-      ap (λ zs. zs ++ (mid ++ tail)) n ∙ ap (λ zs. zs ++ tail) m ∙ t ∙ ap (λ zs. x ∷ (zs ++ rest)) (sym m) ∙ ap (λ zs. x ∷ (zs ++ (mid ++ rest))) (sym n)
-
-  pub last_of_head : (head mid tail rest : List X) (x : X) → length tail ≡ 0 → mid ≡ [] → head ≡ rest ++ x ∷ [] → head ++ (mid ++ tail) ≡ (rest ++ (mid ++ tail)) ++ x ∷ []
-  last_of_head head mid tail rest x t m h =
-      let n = no_items tail t in
-      let e : mid ++ tail ≡ [] = ap (λ zs. zs ++ tail) m ∙ n in
-      ap (λ zs. head ++ zs) e ∙ append-nil head ∙ h ∙ ap (λ zs. zs ++ x ∷ []) (sym (append-nil rest) ∙ ap (λ zs. rest ++ zs) (sym e))
-
-  pub first_of_mid : (head mid tail run new : List X) (x : X) → length head ≡ 0 → mid ≡ x ∷ (run ++ new) → head ++ (mid ++ tail) ≡ x ∷ (run ++ (new ++ tail))
-  first_of_mid head mid tail run new x h m =
-      ap (λ zs. zs ++ (mid ++ tail)) (no_items head h) ∙ ap (λ zs. zs ++ tail) m ∙ ap (λ zs. x ∷ zs) (append_assoc run new tail)
-
-  pub last_of_mid : (head mid tail run new : List X) (x : X) → length tail ≡ 0 → mid ≡ new ++ (run ++ x ∷ []) → head ++ (mid ++ tail) ≡ (head ++ (new ++ run)) ++ x ∷ []
-  last_of_mid head mid tail run new x t m =
-      ap (λ zs. head ++ (mid ++ zs)) (no_items tail t) ∙ ap (λ zs. head ++ zs) (append-nil mid ∙ m ∙ sym (append_assoc new run (x ∷ [])))
-      ∙ sym (append_assoc head (new ++ run) (x ∷ []))
+-- what an end has taken, what is between, and what the other end has taken
+pub parts_length : {X : Type 0} (head mid tail : List X) → length (head ++ (mid ++ tail)) ≡ length head + (length mid + length tail)
+parts_length head mid tail = length-append head (mid ++ tail) ∙ ap (λ n. length head + n) (length-append mid tail)
 
 module _ {K V : Type 0} where
   -- Nothing is between two ends exactly where as many pairs are ahead of both.

@@ -117,14 +117,14 @@ pub fn step_first_run<'a, K, V>(
     Step { pair, run, has_met }
 }
 
-/// What an end of a walk has read ahead: the next pair behind a leaf, and the run behind that pair.
+/// What the front of a walk has read ahead: the next pair behind its leaf, and the run behind that pair.
 #[derive(Drop)]
 pub struct Ahead<'a, K, V> {
     /// The pair, if there is one.
     pub link: Option<&'a (K, V)>,
     /// The pairs of the leaf behind it.
     pub run: &'a [(K, V)],
-    /// Whether the front has then met the other end.
+    /// Whether the front has then met the back: only a step to another leaf can change that.
     pub has_met: bool,
 }
 

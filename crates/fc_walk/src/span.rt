@@ -1,7 +1,7 @@
 //! The pairs between two gaps of a tree, from both ends.
 //!
-//! Each end has taken a run of pairs of its leaf, of which most steps give one: only at its end a step looks at the trail. The front
-//! has read one leaf more, so that a processor has that leaf's pairs at hand when they are asked for.
+//! Each end has taken a run of pairs of its leaf, of which most steps give one: only at its end a step looks at the trail. Once the
+//! front has left its first leaf it reads one leaf ahead, so that a processor has the next leaf at hand when its pairs are asked for.
 ghost use Rattle.std.specs.Prelude.{◌≡◌, ◌<◌, ◌↔◌, [], ◌∷◌, ◌++◌, length, IsTrue};
 ghost use Rattle.fc_base.specs.Ascending.{IsAscending};
 ghost use Rattle.fc_base.specs.Ranges.{bound_now, is_range, within};
@@ -21,24 +21,21 @@ use std::ops::Bound;
 #[derive(Drop)]
 pub struct Span<'a, K, V> {
     head: &'a [(K, V)],
-    link: Option<&'a (K, V)>,
-    run: &'a [(K, V)],
+    ahead: Ahead<'a, K, V>,
     front: Trail<'a, K, V>,
     back: Trail<'a, K, V>,
     tail: &'a [(K, V)],
-    // Whether nothing is left between the two gaps: only a step to another leaf can change that.
-    has_met: bool,
 }
 
 impl<'a, K, V> Model for Span<'a, K, V> {
-    ghost use Rattle.std.specs.Prelude.{◌≡◌, ◌↔◌, [], ◌++◌, List, None, IsTrue};
+    ghost use Rattle.std.specs.Prelude.{◌≡◌, ◌↔◌, [], ◌++◌, List, IsTrue};
     ghost use Rattle.fc_walk.specs.Span.{between, linked, AreEnds};
 
     ghost Value = { List (K × V) };
 
-    ghost view = { λ s. s.head.now ++ ((linked s.link s.run.now ++ between s.front s.back) ++ s.tail.now) };
+    ghost view = { λ s. s.head.now ++ ((linked s.ahead.link s.ahead.run.now ++ between s.front s.back) ++ s.tail.now) };
 
-    ghost invariant = { λ s. AreEnds s.front s.back × (IsTrue s.has_met ↔ (between s.front s.back ≡ [])) × (s.link ≡ None → IsTrue s.has_met) };
+    ghost invariant = { λ s. AreEnds s.front s.back × (IsTrue s.ahead.has_met ↔ (between s.front s.back ≡ [])) };
 }
 
 impl<'a, K, V> Span<'a, K, V> {
@@ -60,15 +57,16 @@ impl<'a, K, V> Span<'a, K, V> {
         ensures { result ≡ between front.entry back.entry }
     {
         let (head, has_met) = take_first_run(&mut front, &back);
-        let Ahead { link, run, has_met } = read_ahead(&mut front, &back, has_met);
         Span {
             head,
-            link,
-            run,
+            ahead: Ahead {
+                link: None,
+                run: &[],
+                has_met,
+            },
             front,
             back,
             tail: &[],
-            has_met,
         }
     }
 
@@ -83,9 +81,9 @@ impl<'a, K, V> Span<'a, K, V> {
         if !self.tail.is_empty() {
             return false;
         }
-        match self.link {
+        match self.ahead.link {
             Some(_) => false,
-            None => true,
+            None => self.ahead.has_met,
         }
     }
 
@@ -112,18 +110,18 @@ impl<'a, K, V> Span<'a, K, V> {
             self.head = rest;
             return pair;
         }
-        let Some(link) = self.link else {
+        if self.ahead.link.is_none() {
+            self.ahead = read_ahead(&mut self.front, &self.back, self.ahead.has_met);
+        }
+        let Some(link) = self.ahead.link else {
             let Some((pair, rest)) = self.tail.split_first() else {
                 unreachable!()
             };
             self.tail = rest;
             return pair;
         };
-        self.head = self.run;
-        let ahead = read_ahead(&mut self.front, &self.back, self.has_met);
-        self.link = ahead.link;
-        self.run = ahead.run;
-        self.has_met = ahead.has_met;
+        self.head = self.ahead.run;
+        self.ahead = read_ahead(&mut self.front, &self.back, self.ahead.has_met);
         link
     }
 
@@ -150,18 +148,18 @@ impl<'a, K, V> Span<'a, K, V> {
             self.tail = rest;
             return pair;
         }
-        if !self.has_met {
+        if !self.ahead.has_met {
             let step = step_last_run(&self.front, &mut self.back);
             self.tail = step.run;
-            self.has_met = step.has_met;
+            self.ahead.has_met = step.has_met;
             return step.pair;
         }
-        if let Some(link) = self.link {
-            if let Some((pair, rest)) = self.run.split_last() {
-                self.run = rest;
+        if let Some(link) = self.ahead.link {
+            if let Some((pair, rest)) = self.ahead.run.split_last() {
+                self.ahead.run = rest;
                 return pair;
             }
-            self.link = None;
+            self.ahead.link = None;
             return link;
         }
         let Some((pair, rest)) = self.head.split_last() else {
@@ -177,12 +175,14 @@ impl<'a, K, V> Span<'a, K, V> {
     {
         Span {
             head: self.head,
-            link: self.link,
-            run: self.run,
+            ahead: Ahead {
+                link: self.ahead.link,
+                run: self.ahead.run,
+                has_met: self.ahead.has_met,
+            },
             front: self.front.copied(),
             back: self.back.copied(),
             tail: self.tail,
-            has_met: self.has_met,
         }
     }
 }

@@ -3,7 +3,7 @@ use Rattle.fc_node.specs.Node.{pairs_of}
 use Rattle.fc_node.specs.Place.{place_ahead}
 use Rattle.fc_walk.specs.Trail.{lead_of, places_of, IsStanding, IsChain, IsTrailFrom}
 use Rattle.fc_walk.proofs.Seeking.{place_path, place_depth, ahead_here, ahead_down}
-use Rattle.fc_walk.proofs.Trails.{standing_room, standing_top, standing_down, top_leaf, top_inner, chain_down, trail_of_chain}
+use Rattle.fc_walk.proofs.Trails.{standing_top, standing_down, top_leaf, top_inner, chain_down, trail_of_chain}
 use Rattle.fc_walk.proofs.seek.ahead_of_pair.Goals as goal
 
 pub along-requires : goal.along-requires

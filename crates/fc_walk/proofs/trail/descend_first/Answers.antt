@@ -1,4 +1,4 @@
-use Rattle.std.proofs.Common.{◌≡◌, ◌<◌, ◌-◌, ◌+◌, ◌++◌, ◌∷◌, [], length, arith, rules, ◌∙◌, ap, sym, subst, length-append}
+use Rattle.std.proofs.Common.{◌≡◌, ◌+◌, ◌++◌, ◌∷◌, [], length, arith, rules, ◌∙◌, ap, sym, subst, length-append}
 use Rattle.fc_walk.specs.Trail.{IsStanding, IsChain, IsTrailFrom}
 use Rattle.fc_walk.proofs.Trails.{standing_room, standing_top, standing_down, top_leaf, top_inner, down_leaf, down_inner, chain_down, trail_of_chain}
 use Rattle.fc_walk.proofs.trail.descend_first.Goals as goal

@@ -1,4 +1,4 @@
-use Rattle.std.proofs.Common.{◌≡◌, ◌<◌, ◌-◌, ◌+◌, ◌++◌, ◌∷◌, [], length, arith, rules, ◌∙◌, ap, sym, subst, length-append}
+use Rattle.std.proofs.Common.{◌≡◌, ◌+◌, ◌++◌, ◌∷◌, [], length, arith, rules, ◌∙◌, ap, sym, subst, length-append}
 use Rattle.fc_walk.specs.Trail.{IsStanding, IsChain, IsTrailFrom}
 use Rattle.fc_walk.proofs.Trails.{standing_room, standing_top, standing_down, standing_moved, top_leaf, top_inner, end_of_node, end_child, back_down_leaf, back_down_inner, chain_moved, chain_down, trail_of_chain}
 use Rattle.fc_walk.proofs.trail.descend_last.Goals as goal
