@@ -11,10 +11,10 @@ use std::collections::BTreeMap;
 use std::hint::black_box;
 
 // Pairs, walks over all of them, and rounds of runs.
-const SIZES: [(u64, u64, usize); 2] = [(1_000, 400, 60), (1_000_000, 40, 5)];
+const SIZES: [(u64, u64, usize); 3] = [(1_000, 400, 60), (100_000, 40, 20), (1_000_000, 10, 6)];
 const RANGE: u64 = 100;
 const RANGES: usize = 2_000;
-const WAYS: [&str; 5] = ["iter", "both ends", "range of 100", "values_mut", "values_mut by for_each"];
+const WAYS: [&str; 6] = ["iter", "both ends", "range of 100", "values_mut", "keys", "values_mut by for_each"];
 
 unsafe extern "C" {
     fn bench_map_walk(
@@ -86,6 +86,11 @@ fn run_std(job: &Job) -> u64 {
                     for (key, value) in map.range(*from..from.saturating_add(RANGE)) {
                         seen = mixed(seen, Some(key ^ value));
                     }
+                }
+            }
+            4 => {
+                for key in map.keys() {
+                    seen = mixed(seen, Some(*key));
                 }
             }
             _ => map.values_mut().for_each(|value| *value = value.wrapping_add(1)),

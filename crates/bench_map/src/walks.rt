@@ -15,6 +15,14 @@ fn walk_all(map: &BTreeMap<u64, u64>, start: u64) -> u64 {
     checksum
 }
 
+fn walk_keys(map: &BTreeMap<u64, u64>, start: u64) -> u64 {
+    let mut checksum = start;
+    for key in map.keys() {
+        checksum = mixed(checksum, Some(*key));
+    }
+    checksum
+}
+
 // One pair from the front, then one from the back, and so on.
 fn walk_from_both_ends(map: &BTreeMap<u64, u64>, start: u64) -> u64 {
     let mut checksum = start;
@@ -71,8 +79,8 @@ pub fn take_all(map: BTreeMap<u64, u64>, start: u64) -> u64 {
 }
 
 /// Inserts `keys` into a new map and walks over it as often as `times` says: 0 walks over all pairs, 1 over all from both ends, 2
-/// over a range of 100 keys from each of `starts` on, 3 writes to all values. All walks together are a phase. The checksum of what
-/// was seen goes to `checksum`. False where memory was refused.
+/// over a range of 100 keys from each of `starts` on, 3 writes to all values, 4 walks over all keys, 5 writes to all values by
+/// `for_each`. All walks together are a phase. The checksum of what was seen goes to `checksum`. False where memory was refused.
 #[unsafe(no_mangle)]
 pub extern "C" fn bench_map_walk(
     alloc: Global,
@@ -93,6 +101,7 @@ pub extern "C" fn bench_map_walk(
             1 => seen = walk_from_both_ends(&map, seen),
             2 => seen = walk_ranges(&map, starts, seen),
             3 => write_all(&mut map, 1),
+            4 => seen = walk_keys(&map, seen),
             _ => visit_all(&mut map, 1),
         }
     }
