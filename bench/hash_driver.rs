@@ -1,6 +1,6 @@
 //! Times the library's hashed map beside std's `HashMap` with the same hasher, on the same random keys, and compares their answers.
 //!
-//! Each time is the best of some runs, the two maps in turn, of the processor time that the calls took (`phases.rs`).
+//! Each time is the best of some runs, the two maps in turn, of the time that the calls took (`phases.rs`).
 #[allow(dead_code)] // These maps are not weighed.
 mod phases;
 #[allow(dead_code)]
@@ -101,7 +101,7 @@ fn random_keys(pairs: usize) -> [Vec<u64>; 2] {
     [keys, sought]
 }
 
-// Nanoseconds of processor time a call, insertions and look-ups: ours, then std's.
+// Nanoseconds a call, insertions and look-ups: ours, then std's.
 fn measure(keys: &[u64], sought: &[u64], rounds: usize) -> [[f64; 2]; 2] {
     let mut best = [[f64::MAX; 2]; 2];
     for round in 0..rounds {
@@ -121,7 +121,7 @@ fn measure(keys: &[u64], sought: &[u64], rounds: usize) -> [[f64; 2]; 2] {
 }
 
 fn main() {
-    println!("nanoseconds of processor time a call, best of so many runs: ours / std's HashMap (ours as a multiple of std's)");
+    println!("nanoseconds a call, best of so many runs: ours / std's HashMap (ours as a multiple of std's)");
     println!("{}", machine());
     for (pairs, rounds) in SIZES {
         println!("{pairs} pairs, {rounds} runs");

@@ -1,7 +1,7 @@
 //! Times the library's ordered map beside std's `BTreeMap` on the same random keys, after following both through a million calls.
 //!
 //! First all answers and lengths of the two are compared, call by call. Then each time is the best of some runs, the two maps in
-//! turn, of the processor time between two marks of a job (`phases.rs`).
+//! turn, of the time between two marks of a job (`phases.rs`).
 //!
 //! With two words, as `std insert`, it runs one job of a thousand pairs alone, for `bench/instructions`.
 mod phases;
@@ -251,7 +251,7 @@ impl Keys {
     }
 }
 
-// Nanoseconds of processor time a call or a pair, by rows: ours, then std's.
+// Nanoseconds a call or a pair, by rows: ours, then std's.
 fn measure(keys: &Keys, rounds: usize) -> [[f64; 2]; 6] {
     let mut best = [[f64::MAX; 2]; 6];
     for round in 0..rounds {
@@ -310,7 +310,7 @@ fn count(way: usize, keys: &[u64]) -> usize {
     }
 }
 
-// Nanoseconds of processor time a key: ours by entries, ours by look-ups and insertions, std's by entries.
+// Nanoseconds a key: ours by entries, ours by look-ups and insertions, std's by entries.
 fn measure_counts(keys: &[u64], rounds: usize) -> [f64; 3] {
     let mut best = [f64::INFINITY; 3];
     for _ in 0..rounds {
@@ -325,7 +325,7 @@ fn measure_counts(keys: &[u64], rounds: usize) -> [f64; 3] {
 }
 
 fn print_times() {
-    println!("nanoseconds of processor time, best of so many runs: ours / std's BTreeMap (ours as a multiple of std's)");
+    println!("nanoseconds, best of so many runs: ours / std's BTreeMap (ours as a multiple of std's)");
     println!("{}", machine());
     for (pairs, rounds) in SIZES {
         let keys = Keys::new(pairs);

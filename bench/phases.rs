@@ -9,7 +9,9 @@ use std::ptr;
 /// What a job asks for where a phase ends, as `mark` of the crate `bench_map` does.
 pub const MARK: usize = 1 << 62;
 const MOST: usize = 8;
-const PROCESS_CPUTIME: c_int = 2;
+// Not the clock of processor time: a guest's kernel takes the time that another guest stole off that one, at times in a later phase
+// than it was stolen in, so that a phase may show less than it took, or nothing. Of this clock's times the least is never too low.
+const MONOTONIC: c_int = 1;
 
 #[repr(C)]
 struct Time {
@@ -29,7 +31,7 @@ unsafe extern "C" {
 
 #[derive(Clone, Copy)]
 struct Mark {
-    // Processor time when the phase ended, and when the next began.
+    // The time when the phase ended, and when the next began.
     ended: f64,
     begun: f64,
     // What the allocator held, where that is asked for.
@@ -55,30 +57,30 @@ pub unsafe extern "C" fn __wrap_malloc(size: usize) -> *mut c_void {
     unsafe { __real_malloc(size) }
 }
 
-fn processor_time() -> f64 {
+fn now() -> f64 {
     let mut time = Time {
         seconds: 0,
         nanoseconds: 0,
     };
-    unsafe { clock_gettime(PROCESS_CPUTIME, &mut time) };
+    unsafe { clock_gettime(MONOTONIC, &mut time) };
     time.seconds as f64 * 1e9 + time.nanoseconds as f64
 }
 
 /// Ends a phase.
 pub fn mark() {
-    let ended = processor_time();
+    let ended = now();
     unsafe {
         let bytes = if WEIGHED { mallinfo2().0[7] } else { 0 };
         MARKS[COUNT] = Mark {
             ended,
-            begun: processor_time(),
+            begun: now(),
             bytes,
         };
         COUNT += 1;
     }
 }
 
-/// Nanoseconds of processor time that each phase of the job took: what lies between two marks.
+/// Nanoseconds that each phase of the job took: what lies between two marks.
 pub fn phases(job: impl FnOnce()) -> Vec<f64> {
     unsafe { COUNT = 0 };
     job();

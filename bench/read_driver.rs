@@ -1,6 +1,6 @@
 //! Times bounded reading into a new vector beside std's, from a source in memory, and compares what both read.
 //!
-//! Each time is the best of some runs, the two in turn, of the processor time that the calls took (`phases.rs`). What a vector gave back
+//! Each time is the best of some runs, the two in turn, of the time that the calls took (`phases.rs`). What a vector gave back
 //! stays with the allocator, so that no run waits for pages of the kernel's.
 #[allow(dead_code)] // Vectors are not weighed.
 mod phases;
@@ -52,7 +52,7 @@ fn run_std(bytes: &[u8], limit: u64, times: u64) -> u64 {
     seen
 }
 
-// Nanoseconds of processor time a call: ours, then std's.
+// Nanoseconds a call: ours, then std's.
 fn measure(bytes: &[u8], limit: u64, times: u64, rounds: usize) -> [f64; 2] {
     let mut best = [f64::MAX; 2];
     for round in 0..rounds {
@@ -72,7 +72,7 @@ fn main() {
         mallopt(TRIM_THRESHOLD, NEVER);
         mallopt(MMAP_THRESHOLD, NEVER);
     }
-    println!("nanoseconds of processor time a call, best of so many runs: ours / std's `read_to_end` of a `Take` (ours as a multiple of std's)");
+    println!("nanoseconds a call, best of so many runs: ours / std's `read_to_end` of a `Take` (ours as a multiple of std's)");
     println!("{}", machine());
     for (limit, times, rounds) in SIZES {
         let bytes: Vec<u8> = (0..2 * limit).map(|i| (i * 7 % 251) as u8).collect();

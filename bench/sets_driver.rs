@@ -1,7 +1,7 @@
 //! Times the library's ordered set beside std's `BTreeSet` on the same numbers, and compares what both gave: the six calls on one item,
 //! walks over all items, the four lazy operations, and a union that is built.
 //!
-//! Each time is the best of some runs, the two sets in turn, of the processor time of a phase (`phases.rs`).
+//! Each time is the best of some runs, the two sets in turn, of the time of a phase (`phases.rs`).
 mod phases;
 mod random;
 
@@ -221,7 +221,7 @@ fn measure_walks(title: &str, items: Vec<u64>, others: Vec<u64>, times: u64, rou
 }
 
 fn main() {
-    println!("processor time, best of so many runs: ours / std's BTreeSet (ours as a multiple of std's)");
+    println!("time, best of so many runs: ours / std's BTreeSet (ours as a multiple of std's)");
     println!("{}", machine());
     for (count, rounds) in SIZES {
         measure_calls(count, rounds);

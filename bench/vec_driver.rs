@@ -1,6 +1,6 @@
 //! Times calls that fill vectors beside those of std's `Vec`, and compares what both hold last.
 //!
-//! Each time is the best of some runs, the two vectors in turn, of the processor time that the calls took (`phases.rs`). What a vector gave
+//! Each time is the best of some runs, the two vectors in turn, of the time that the calls took (`phases.rs`). What a vector gave
 //! back stays with the allocator, so that no run waits for pages of the kernel's.
 #[allow(dead_code)] // Vectors are not weighed.
 mod phases;
@@ -100,7 +100,7 @@ fn run_std(job: &Job, bytes: &[u8], times: u64) -> u64 {
     seen
 }
 
-// Nanoseconds of processor time a call: ours, then std's.
+// Nanoseconds a call: ours, then std's.
 fn measure(job: &Job, bytes: &[u8], times: u64, rounds: usize) -> [f64; 2] {
     let mut best = [f64::MAX; 2];
     for round in 0..rounds {
@@ -120,7 +120,7 @@ fn main() {
         mallopt(TRIM_THRESHOLD, NEVER);
         mallopt(MMAP_THRESHOLD, NEVER);
     }
-    println!("nanoseconds of processor time a call, best of so many runs: ours / std's Vec (ours as a multiple of std's)");
+    println!("nanoseconds a call, best of so many runs: ours / std's Vec (ours as a multiple of std's)");
     println!("{}", machine());
     for (count, times, rounds) in SIZES {
         println!("{count} items, {rounds} runs of {times} calls");

@@ -1,6 +1,6 @@
 //! Times walks over the library's ordered map beside std's `BTreeMap` on the same random keys, and compares what both saw.
 //!
-//! Each time is the best of some runs, the two maps in turn, of the processor time that the walks of a job took (`phases.rs`).
+//! Each time is the best of some runs, the two maps in turn, of the time that the walks of a job took (`phases.rs`).
 //! `into_iter` stands with the other calls that end a map, in `bench/map`.
 mod phases;
 mod random;
@@ -100,7 +100,7 @@ fn run_std(job: &Job) -> u64 {
     seen
 }
 
-// Nanoseconds of processor time a pair that a walk gives: ours, then std's.
+// Nanoseconds a pair that a walk gives: ours, then std's.
 fn measure(pairs: u64, times: u64, rounds: usize, way: u64) -> [f64; 2] {
     let mut random = Random(pairs);
     let mut keys: Vec<u64> = (0..pairs).collect();
@@ -130,7 +130,7 @@ fn measure(pairs: u64, times: u64, rounds: usize, way: u64) -> [f64; 2] {
 }
 
 fn main() {
-    println!("nanoseconds of processor time a pair, best of so many runs: ours / std's BTreeMap (ours as a multiple of std's)");
+    println!("nanoseconds a pair, best of so many runs: ours / std's BTreeMap (ours as a multiple of std's)");
     println!("{}", machine());
     for (pairs, times, rounds) in SIZES {
         println!("{pairs} pairs, {times} walks a run, {rounds} runs");

@@ -1,6 +1,6 @@
 //! Times calls on whole maps beside std's `BTreeMap` on the same keys, and compares what both left.
 //!
-//! Each time is the best of some runs, the two maps in turn, of the processor time that the call took (`phases.rs`).
+//! Each time is the best of some runs, the two maps in turn, of the time that the call took (`phases.rs`).
 mod phases;
 mod random;
 
@@ -164,7 +164,7 @@ fn jobs(pairs: u64) -> Vec<Job> {
     ]
 }
 
-// Nanoseconds of processor time of the call: ours, then std's.
+// Nanoseconds of the call: ours, then std's.
 fn measure(job: &Job, rounds: usize) -> [f64; 2] {
     let mut best = [f64::MAX; 2];
     for round in 0..rounds {
@@ -180,7 +180,7 @@ fn measure(job: &Job, rounds: usize) -> [f64; 2] {
 }
 
 fn main() {
-    println!("nanoseconds of processor time a pair of the whole, best of so many runs: ours / std's BTreeMap (ours as a multiple of std's)");
+    println!("nanoseconds a pair of the whole, best of so many runs: ours / std's BTreeMap (ours as a multiple of std's)");
     println!("{}", machine());
     for (pairs, rounds) in SIZES {
         println!("{pairs} pairs, {rounds} runs");
