@@ -31,6 +31,7 @@ mod into_iter;
 pub mod item;
 mod iter;
 mod iter_mut;
+mod neighbours;
 mod places;
 mod range;
 mod range_mut;

@@ -22,6 +22,8 @@ mod iter_mut;
 #[cfg(test)]
 mod map;
 #[cfg(test)]
+mod neighbours;
+#[cfg(test)]
 mod numbers;
 #[cfg(test)]
 mod queries;

@@ -6,3 +6,4 @@ pub mod WrittenFacts
 pub mod WrittenPairs
 pub mod WayFacts
 pub mod EndFacts
+pub mod NeighbourFacts

@@ -1,4 +1,5 @@
 pub mod Found
+pub mod Neighbours
 pub mod Passed
 pub mod Way
 pub mod Written

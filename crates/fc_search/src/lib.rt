@@ -3,4 +3,5 @@
 
 pub mod ends;
 pub mod lend;
+pub mod neighbours;
 pub mod search;

@@ -14,7 +14,7 @@ use fc_node::path::Path;
 
 // Where the key stands among the node's own, or else the gap where it would go. From the left each key is compared, until
 // one is not below it.
-fn search_node<K: Ord, V, Q: Query<K>>(
+pub(crate) fn search_node<K: Ord, V, Q: Query<K>>(
     node: &Node<K, V>,
     key: Q,
     count: &mut Count,

@@ -6,3 +6,4 @@ pub mod OperatorFacts
 pub mod SideFacts
 pub mod StepFacts
 pub mod OperationLaws
+pub mod NeighbourFacts

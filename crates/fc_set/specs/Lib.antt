@@ -1,5 +1,6 @@
 pub mod Copied
 pub mod Items
+pub mod Neighbours
 pub mod Operations
 pub mod Sides
 pub mod HashLaws

@@ -14,6 +14,7 @@ mod ends;
 mod intersection;
 mod iter;
 mod merge;
+mod neighbours;
 mod operators;
 mod predicates;
 mod symmetric_difference;

@@ -8,6 +8,8 @@ mod drops;
 #[cfg(test)]
 mod items;
 #[cfg(test)]
+mod neighbours;
+#[cfg(test)]
 mod operators;
 #[cfg(test)]
 mod predicates;

@@ -1,0 +1,210 @@
+-- The first pair behind a place of a tree and the last ahead of it, and the parts of a list up to a key and from it on.
+use Rattle.std.proofs.Common.{◌≡◌, ℕ, zero, suc, ◌+◌, ◌-◌, ◌<◌, ◌≤◌, List, [], ◌∷◌, ◌++◌, length, get_or, slice_get, Some, refl, sym, ap, ◌∙◌, arith, add-one, append_assoc, append-nil, length-append}
+use Rattle.std.specs.Ordering.{is_le, is_ge}
+use Rattle.std.specs.declared.cmp.Ordering.{Ordering}
+use Rattle.std.specs.declared.cmp.Ordering.TheVariants.{Equal}
+use Rattle.std.proofs.lemmas.List.{append_cancel_left, append_cancel_right}
+use Rattle.std.proofs.lemmas.List.Elements.{filter-append}
+use Rattle.fc_base.specs.Ascending.{IsAscending}
+use Rattle.fc_base.specs.Halves.{not_below}
+use Rattle.fc_base.specs.Parts.{below, above}
+use Rattle.fc_base.specs.Query.{IsQueryOrder}
+use Rattle.fc_node.specs.declared.node.Node.{Node}
+use Rattle.fc_node.specs.Node.{own_pairs, child_at, pairs_of, IsLeaf, IsInner, IsLevelled, IsTree}
+use Rattle.fc_node.specs.Path.{before, after}
+use Rattle.fc_node.specs.Place.{lead_in, rest_in, ahead_in, behind_in, place_pair, place_ahead, place_behind}
+use Rattle.fc_node.proofs.Gaps.{leaf_gap, inner_gap, own_pair, lead_pair, rest_pair, rest_none, item_there, place_pairs, gap_pairs, before_more, after_more, pair_more, ahead_more, behind_more}
+use Rattle.fc_search.specs.Found.{AllBelow, AllAbove, IsFoundAt, IsGapAt, IsFound, IsGap}
+use Rattle.fc_search.specs.Neighbours.{first_of, last_of, not_above}
+use Rattle.fc_search.proofs.SearchFacts.{IsOnWay, way_gap, way_found, found_at, gap_at}
+
+module _ {X : Type 0} where
+  last_past : (xs : List X) (x : X) → slice_get (xs ++ x ∷ []) (length xs) ≡ Some x
+  last_past [] x = refl
+  last_past (y ∷ xs) x = last_past xs x
+
+  -- the last of a list that ends with an item
+  pub last_is : (xs : List X) (x : X) → last_of (xs ++ x ∷ []) ≡ Some x
+  last_is xs x =
+      let n : length (xs ++ x ∷ []) - 1 ≡ length xs = let l = length-append xs (x ∷ []) in omega arith in
+      ap (slice_get (xs ++ x ∷ [])) n ∙ last_past xs x
+
+  -- the last of a list is that of the whole, and the first alike
+  pub first_kept : (xs rest : List X) (x : X) → first_of xs ≡ Some x → first_of (xs ++ rest) ≡ Some x
+  first_kept [] rest x e = absurd cc
+  first_kept (y ∷ xs) rest x e = e
+
+  last_at : (lead xs : List X) (i n : ℕ) → n ≡ length lead + i → slice_get (lead ++ xs) n ≡ slice_get xs i
+  last_at [] xs i n e = ap (slice_get xs) (omega arith)
+  last_at (y ∷ lead) xs i zero e = absurd (omega arith)
+  last_at (y ∷ lead) xs i (suc n) e = last_at lead xs i n (omega arith)
+
+  pub last_kept : (lead xs : List X) (x : X) → last_of xs ≡ Some x → last_of (lead ++ xs) ≡ Some x
+  last_kept lead [] x e = absurd cc
+  last_kept lead (y ∷ xs) x e =
+      let n : length (lead ++ y ∷ xs) - 1 ≡ length lead + (length (y ∷ xs) - 1) = let l = length-append lead (y ∷ xs) in omega arith in
+      last_at lead (y ∷ xs) (length (y ∷ xs) - 1) (length (lead ++ y ∷ xs) - 1) n ∙ e
+
+module _ {K V : Type 0} where
+  -- what is behind a child begins with the own pair there
+  pub rest_first : (n : Node K V) (i : ℕ) (p : K × V) (rest : List (K × V)) → i < length (own_pairs n) → p ≡ get_or (own_pairs n) i p → Some p ≡ first_of (rest_in n i ++ rest)
+  rest_first n i p rest lt e = sym (ap (λ s. first_of (s ++ rest)) (rest_pair n i p lt) ∙ ap Some (sym e))
+
+  -- and behind the last child is what is behind the node
+  pub rest_past : (n : Node K V) (i : ℕ) (rest : List (K × V)) → length (own_pairs n) ≤ i → first_of rest ≡ first_of (rest_in n i ++ rest)
+  rest_past n i rest le = sym (ap (λ s. first_of (s ++ rest)) (rest_none n i le))
+
+  -- what is ahead of a child ends with the own pair there
+  pub lead_last : (h : ℕ) (n : Node K V) (i j : ℕ) (p : K × V) (lead : List (K × V)) → IsLevelled h n → i < length (own_pairs n) → j ≡ suc i → p ≡ get_or (own_pairs n) i p → Some p ≡ last_of (lead ++ lead_in n j)
+  lead_last h n i j p lead l lt s e =
+      sym (ap (λ s. last_of (lead ++ s)) (ap (lead_in n) s ∙ lead_pair h n i p l lt ∙ ap (λ x. ahead_in n i ++ x ∷ []) (sym e)) ∙ last_kept lead (ahead_in n i ++ p ∷ []) p (last_is (ahead_in n i) p))
+
+  -- and ahead of the first child is what is ahead of the node
+  pub lead_none : (n : Node K V) (lead : List (K × V)) → last_of lead ≡ last_of (lead ++ lead_in n 0)
+  lead_none n lead = sym (ap last_of (append-nil lead))
+
+  -- in a leaf, what is behind a pair is what is behind the next gap, and what is ahead of it what is ahead of its gap
+  pub leaf_behind : (n : Node K V) (i : ℕ) (p : K × V) (h : ℕ) → IsLevelled h n → IsLeaf n → i < length (own_pairs n) → behind_in n i ≡ rest_in n (suc i)
+  leaf_behind n i p h l leaf lt =
+      append_cancel_left (lead_in n (suc i)) (behind_in n i) (rest_in n (suc i))
+      (ap (λ s. s ++ behind_in n i) (lead_pair h n i p l lt) ∙ append_assoc (ahead_in n i) (get_or (own_pairs n) i p ∷ []) (behind_in n i) ∙ sym (own_pair h n i p l lt) ∙ leaf_gap n (suc i) leaf)
+
+  pub leaf_ahead : (n : Node K V) (i : ℕ) (p : K × V) (h : ℕ) → IsLevelled h n → IsLeaf n → i < length (own_pairs n) → ahead_in n i ≡ lead_in n i
+  leaf_ahead n i p h l leaf lt =
+      append_cancel_right (ahead_in n i) (lead_in n i) (rest_in n i)
+      (ap (λ s. ahead_in n i ++ s) (rest_pair n i p lt) ∙ sym (own_pair h n i p l lt) ∙ leaf_gap n i leaf)
+
+  -- in an inner node, what is behind a pair begins with the next child's, and what is ahead of it ends with its child's
+  pub inner_behind : (n : Node K V) (i : ℕ) (p : K × V) (h : ℕ) → IsLevelled h n → IsInner n → i < length (own_pairs n) → behind_in n i ≡ pairs_of (child_at n (suc i)) ++ rest_in n (suc i)
+  inner_behind n i p h l inner lt =
+      append_cancel_left (lead_in n (suc i)) (behind_in n i) (pairs_of (child_at n (suc i)) ++ rest_in n (suc i))
+      (ap (λ s. s ++ behind_in n i) (lead_pair h n i p l lt) ∙ append_assoc (ahead_in n i) (get_or (own_pairs n) i p ∷ []) (behind_in n i) ∙ sym (own_pair h n i p l lt) ∙ inner_gap n (suc i) inner (omega arith))
+
+  pub inner_ahead : (n : Node K V) (i : ℕ) (p : K × V) (h : ℕ) → IsLevelled h n → IsInner n → i < length (own_pairs n) → ahead_in n i ≡ lead_in n i ++ pairs_of (child_at n i)
+  inner_ahead n i p h l inner lt =
+      append_cancel_right (ahead_in n i) (lead_in n i ++ pairs_of (child_at n i)) (rest_in n i)
+      (ap (λ s. ahead_in n i ++ s) (rest_pair n i p lt) ∙ sym (own_pair h n i p l lt) ∙ inner_gap n i inner (omega arith) ∙ sym (append_assoc (lead_in n i) (pairs_of (child_at n i)) (rest_in n i)))
+
+  -- the first behind a node's own pair, and the last ahead of it: in a leaf as at a gap, in an inner node those of a child
+  pub own_behind_leaf : (h : ℕ) (n : Node K V) (i : ℕ) (rest : List (K × V)) → IsLevelled h n → IsLeaf n → i < length (own_pairs n) → first_of (rest_in n (i + 1) ++ rest) ≡ first_of (behind_in n i ++ rest)
+  own_behind_leaf h n i rest l leaf lt =
+      let p = (item_there (own_pairs n) i lt).0 in
+      ap (λ j. first_of (rest_in n j ++ rest)) (add-one i) ∙ ap (λ s. first_of (s ++ rest)) (sym (leaf_behind n i p h l leaf lt))
+
+  pub own_ahead_leaf : (h : ℕ) (n : Node K V) (i : ℕ) (lead : List (K × V)) → IsLevelled h n → IsLeaf n → i < length (own_pairs n) → last_of (lead ++ lead_in n i) ≡ last_of (lead ++ ahead_in n i)
+  own_ahead_leaf h n i lead l leaf lt =
+      let p = (item_there (own_pairs n) i lt).0 in
+      ap (λ s. last_of (lead ++ s)) (sym (leaf_ahead n i p h l leaf lt))
+
+  pub own_behind_inner : (h : ℕ) (n child : Node K V) (i : ℕ) (r : K × V) (rest : List (K × V)) → IsLevelled h n → IsInner n → i < length (own_pairs n) → child ≡ child_at n (i + 1) → first_of (pairs_of child) ≡ Some r → Some r ≡ first_of (behind_in n i ++ rest)
+  own_behind_inner h n child i r rest l inner lt e f =
+      let p = (item_there (own_pairs n) i lt).0 in
+      let s : pairs_of (child_at n (suc i)) ≡ pairs_of child = ap pairs_of (ap (child_at n) (sym (add-one i)) ∙ sym e) in
+      sym (ap (λ s. first_of (s ++ rest)) (inner_behind n i p h l inner lt ∙ ap (λ s. s ++ rest_in n (suc i)) s)
+      ∙ first_kept (pairs_of child ++ rest_in n (suc i)) rest r (first_kept (pairs_of child) (rest_in n (suc i)) r f))
+
+  pub own_ahead_inner : (h : ℕ) (n child : Node K V) (i : ℕ) (r : K × V) (lead : List (K × V)) → IsLevelled h n → IsInner n → i < length (own_pairs n) → child ≡ child_at n i → last_of (pairs_of child) ≡ Some r → Some r ≡ last_of (lead ++ ahead_in n i)
+  own_ahead_inner h n child i r lead l inner lt e f =
+      let p = (item_there (own_pairs n) i lt).0 in
+      sym (ap (λ s. last_of (lead ++ s)) (inner_ahead n i p h l inner lt ∙ ap (λ s. lead_in n i ++ s) (ap pairs_of (sym e)))
+      ∙ last_kept lead (lead_in n i ++ pairs_of child) r (last_kept (lead_in n i) (pairs_of child) r f))
+
+-- the parts of a list of smaller keys, maybe a pair with an equal key, and greater keys
+module _ {K Q V : Type 0} (cmp : K → Q → Ordering) (k : Q) where
+  lower_from : (s : List (K × V)) → AllBelow cmp k s → (not_below cmp s k ≡ []) × (not_above cmp s k ≡ s)
+  lower_from [] a = (refl, refl)
+  lower_from (e ∷ s) a = let i = lower_from s a.1 in (rw a.0 i.0, rw a.0 (ap (λ zs. e ∷ zs) i.1))
+
+  upper_from : (s : List (K × V)) → AllAbove cmp k s → (not_below cmp s k ≡ s) × (not_above cmp s k ≡ [])
+  upper_from [] a = (refl, refl)
+  upper_from (e ∷ s) a = let i = upper_from s a.1 in (rw a.0 (ap (λ zs. e ∷ zs) i.0), rw a.0 i.1)
+
+  equal_from : (p : K × V) (s : List (K × V)) → cmp p.0 k ≡ Equal → AllAbove cmp k s → (not_below cmp (p ∷ s) k ≡ p ∷ s) × (not_above cmp (p ∷ s) k ≡ p ∷ [])
+  equal_from p s e a = let i = upper_from s a in (rw e (ap (λ zs. p ∷ zs) i.0), rw e (ap (λ zs. p ∷ zs) i.1))
+
+  pub gap_from : (L R : List (K × V)) → AllBelow cmp k L → AllAbove cmp k R → (not_below cmp (L ++ R) k ≡ R) × (not_above cmp (L ++ R) k ≡ L)
+  gap_from L R a b =
+      let l = lower_from L a in let r = upper_from R b in (
+        filter-append (λ e. is_ge (cmp e.0 k)) L R ∙ ap (λ zs. zs ++ not_below cmp R k) l.0 ∙ r.0,
+        filter-append (λ e. is_le (cmp e.0 k)) L R ∙ ap (λ zs. zs ++ not_above cmp R k) l.1 ∙ ap (λ zs. L ++ zs) r.1 ∙ append-nil L,
+      )
+
+  pub pair_from : (L R : List (K × V)) (p : K × V) → AllBelow cmp k L → cmp p.0 k ≡ Equal → AllAbove cmp k R → (not_below cmp (L ++ p ∷ R) k ≡ p ∷ R) × (not_above cmp (L ++ p ∷ R) k ≡ L ++ p ∷ [])
+  pair_from L R p a e b =
+      let l = lower_from L a in let r = equal_from p R e b in (
+        filter-append (λ e. is_ge (cmp e.0 k)) L (p ∷ R) ∙ ap (λ zs. zs ++ not_below cmp (p ∷ R) k) l.0 ∙ r.0,
+        filter-append (λ e. is_le (cmp e.0 k)) L (p ∷ R) ∙ ap (λ zs. zs ++ not_above cmp (p ∷ R) k) l.1 ∙ ap (λ zs. L ++ zs) r.1,
+      )
+
+-- what is behind and ahead of a gap of the node that a way down has come to
+module _ {K Q V : Type 0} (cmp : K → Q → Ordering) (k : Q) {root node : Node K V} {path : List ℕ} (w : IsOnWay cmp k root node path) (i : ℕ) where
+  pub way_after : rest_in node i ++ after path root ≡ after (path ++ i ∷ []) root
+  way_after = sym (after_more path i root ∙ ap (λ n. rest_in n i ++ after path root) (sym w.here))
+
+  pub way_before : before path root ++ lead_in node i ≡ before (path ++ i ∷ []) root
+  way_before = sym (before_more path i root ∙ ap (λ n. before path root ++ lead_in n i) (sym w.here))
+
+-- where a way down ends
+module _ {K Q V : Type 0} {own : K → K → Ordering} {cmp : K → Q → Ordering} (o : IsQueryOrder own cmp) (k : Q) {root node : Node K V} {path : List ℕ} (t : IsTree root) (a : IsAscending own (pairs_of root)) (w : IsOnWay cmp k root node path) where
+  -- in a gap of a leaf
+  module _ (i : ℕ) (f : IsGapAt cmp k (own_pairs node) i) (leaf : IsLeaf node) where
+    here : IsGap cmp k root (path ++ i ∷ [])
+    here = way_gap o k t a w i _ refl f leaf
+
+    whole : pairs_of root ≡ before (path ++ i ∷ []) root ++ after (path ++ i ∷ []) root
+    whole = gap_pairs (path ++ i ∷ []) t.0 root t.2 (here.levels t.0 t.2) here.way
+
+    behind : rest_in node i ++ after path root ≡ after (path ++ i ∷ []) root
+    behind = way_after cmp k w i
+
+    ahead : before path root ++ lead_in node i ≡ before (path ++ i ∷ []) root
+    ahead = way_before cmp k w i
+
+    pub none_from : rest_in node i ++ after path root ≡ not_below cmp (pairs_of root) k
+    none_from = behind ∙ sym (gap_from cmp k _ _ here.front here.back).0 ∙ ap (λ s. not_below cmp s k) (sym whole)
+
+    pub none_to : before path root ++ lead_in node i ≡ not_above cmp (pairs_of root) k
+    none_to = ahead ∙ sym (gap_from cmp k _ _ here.front here.back).1 ∙ ap (λ s. not_above cmp s k) (sym whole)
+
+    pub none_after : rest_in node i ++ after path root ≡ above cmp (pairs_of root) k
+    none_after = behind ∙ sym (gap_at cmp k (path ++ i ∷ []) t.0 root t.2 here).upper
+
+    pub none_before : before path root ++ lead_in node i ≡ below cmp (pairs_of root) k
+    none_before = ahead ∙ sym (gap_at cmp k (path ++ i ∷ []) t.0 root t.2 here).lower
+
+  -- at a pair
+  module _ (i : ℕ) (f : IsFoundAt cmp k (own_pairs node) i) where
+    there : IsFound cmp k root (path ++ i ∷ [])
+    there = way_found o k t a w i _ refl f
+
+    behind_pair : behind_in node i ++ after path root ≡ place_behind (path ++ i ∷ []) root
+    behind_pair = sym (behind_more path i root ∙ ap (λ n. behind_in n i ++ after path root) (sym w.here))
+
+    ahead_pair : before path root ++ ahead_in node i ≡ place_ahead (path ++ i ∷ []) root
+    ahead_pair = sym (ahead_more path i root ∙ ap (λ n. before path root ++ ahead_in n i) (sym w.here))
+
+    pub found_after : behind_in node i ++ after path root ≡ above cmp (pairs_of root) k
+    found_after = behind_pair ∙ sym (found_at cmp k (path ++ i ∷ []) t.0 root t.2 there).upper
+
+    pub found_before : before path root ++ ahead_in node i ≡ below cmp (pairs_of root) k
+    found_before = ahead_pair ∙ sym (found_at cmp k (path ++ i ∷ []) t.0 root t.2 there).lower
+
+    module _ (p : K × V) (e : p ≡ get_or (own_pairs node) i p) where
+      is : place_pair (path ++ i ∷ []) root ≡ Some p
+      is = let x = item_there (own_pairs node) i f.0 in pair_more path i root ∙ ap (λ n. slice_get (own_pairs n) i) (sym w.here) ∙ x.2 ∙ ap Some (sym (x.1 p) ∙ sym e)
+
+      equal : cmp p.0 k ≡ Equal
+      equal = ap (λ x. cmp x.0 k) e ∙ f.2 p
+
+      cut : pairs_of root ≡ place_ahead (path ++ i ∷ []) root ++ p ∷ place_behind (path ++ i ∷ []) root
+      cut =
+          let c = place_pairs (path ++ i ∷ []) t.0 root t.2 there.place in
+          let both : Some c.pair ≡ Some p = sym c.is ∙ is in
+          let q : c.pair ≡ p = cc in
+          c.parts ∙ ap (λ x. place_ahead (path ++ i ∷ []) root ++ x ∷ place_behind (path ++ i ∷ []) root) q
+
+      pub found_from : Some p ≡ first_of (not_below cmp (pairs_of root) k)
+      found_from = sym (ap (λ s. first_of (not_below cmp s k)) cut ∙ ap first_of (pair_from cmp k _ _ p there.ahead equal there.behind).0)
+
+      pub found_to : Some p ≡ last_of (not_above cmp (pairs_of root) k)
+      found_to = sym (ap (λ s. last_of (not_above cmp s k)) cut ∙ ap last_of (pair_from cmp k _ _ p there.ahead equal there.behind).1 ∙ last_is (place_ahead (path ++ i ∷ []) root) p)

@@ -1,0 +1,200 @@
+//! The pairs next to a key: the first at it or behind it, and the last at it or ahead of it.
+ghost use Rattle.std.specs.Prelude.{◌≡◌, ℕ, ◌+◌, ◌*◌, ◌++◌, ◌<◌, ◌≤◌, List, length, option_copied};
+ghost use Rattle.fc_base.specs.Ascending.{IsAscending};
+ghost use Rattle.fc_base.specs.Halves.{not_below};
+ghost use Rattle.fc_base.specs.Parts.{below, above};
+ghost use Rattle.fc_node.specs.Node.{own_pairs, pairs_of, IsLevelled, IsTree};
+ghost use Rattle.fc_node.specs.Place.{lead_in, rest_in, ahead_in, behind_in};
+ghost use Rattle.fc_search.specs.Neighbours.{first_of, last_of, not_above};
+ghost use Rattle.fc_search.specs.Passed.{passed};
+
+use crate::ends::{first_pair, last_pair};
+use crate::search::search_node;
+use fc_base::{Count, Query};
+use fc_node::node::Node;
+
+// The first of the node's pairs behind its child at the place, or else the next one behind the node.
+fn behind_child<'a, K, V>(
+    node: &'a Node<K, V>,
+    place: usize,
+    next: Option<&'a (K, V)>,
+) -> Option<&'a (K, V)>
+    ensures { (rest : List (K × V)) → option_copied next.entry ≡ first_of rest → option_copied result ≡ first_of (rest_in node.now place ++ rest) }
+{
+    if place < node.len() {
+        Some(node.pair(place))
+    } else {
+        next
+    }
+}
+
+// The last of the node's pairs ahead of its child at the place, or else the last one ahead of the node.
+fn ahead_of_child<'a, K, V>(
+    node: &'a Node<K, V>,
+    place: usize,
+    last: Option<&'a (K, V)>,
+) -> Option<&'a (K, V)>
+    requires levels { (h : ℕ) × IsLevelled h node.now }
+    requires place { place ≤ length (own_pairs node.now) }
+    ensures { (lead : List (K × V)) → option_copied last.entry ≡ last_of lead → option_copied result ≡ last_of (lead ++ lead_in node.now place) }
+{
+    if place == 0 {
+        last
+    } else {
+        Some(node.pair(place - 1))
+    }
+}
+
+// The first of the node's pairs behind its own pair at the place, or else the next one behind the node.
+fn behind_own<'a, K, V>(
+    node: &'a Node<K, V>,
+    place: usize,
+    next: Option<&'a (K, V)>,
+) -> Option<&'a (K, V)>
+    requires levels { (h : ℕ) × IsLevelled h node.now }
+    requires place { place < length (own_pairs node.now) }
+    ensures { (rest : List (K × V)) → option_copied next.entry ≡ first_of rest → option_copied result ≡ first_of (behind_in node.now place ++ rest) }
+{
+    if node.is_leaf() {
+        behind_child(node, place + 1, next)
+    } else {
+        Some(first_pair(node.child(place + 1)))
+    }
+}
+
+// The last of the node's pairs ahead of its own pair at the place, or else the last one ahead of the node.
+fn ahead_of_own<'a, K, V>(
+    node: &'a Node<K, V>,
+    place: usize,
+    last: Option<&'a (K, V)>,
+) -> Option<&'a (K, V)>
+    requires levels { (h : ℕ) × IsLevelled h node.now }
+    requires place { place < length (own_pairs node.now) }
+    ensures { (lead : List (K × V)) → option_copied last.entry ≡ last_of lead → option_copied result ≡ last_of (lead ++ ahead_in node.now place) }
+{
+    if node.is_leaf() {
+        ahead_of_child(node, place, last)
+    } else {
+        Some(last_pair(node.child(place)))
+    }
+}
+
+/// The first pair of the tree at `root` whose key is not below `key`. It compares each key that a search
+/// passes once, and moves no pair.
+pub fn first_from<'a, K: Ord, V, Q: Query<K>>(
+    root: &'a Node<K, V>,
+    key: Q,
+    count: &mut Count,
+) -> Option<&'a (K, V)>
+    requires levels { IsTree root.now }
+    requires order { IsAscending K.cmp (pairs_of root.now) }
+    ensures value { option_copied result ≡ first_of (not_below Q.order (pairs_of root.now) (Q.sought key)) }
+    ensures comparisons { count.new.comparisons ≡ count.old.comparisons + passed Q.order (Q.sought key) root.now }
+    ensures bounded { (h : ℕ) → IsLevelled h root.now → count.new.comparisons ≤ count.old.comparisons + 11 * (h + 1) }
+    ensures moves { count.new.moves ≡ count.old.moves }
+{
+    let mut node = root;
+    let mut next = None;
+    'down: loop {
+        match search_node(node, key, count) {
+            Ok(i) => return Some(node.pair(i)),
+            Err(gap) => {
+                next = behind_child(node, gap, next);
+                if node.is_leaf() {
+                    return next;
+                }
+                node = node.child(gap);
+            }
+        }
+    }
+}
+
+/// The first pair of the tree at `root` whose key is above `key`. It compares each key that a search
+/// passes once, and moves no pair.
+pub fn first_after<'a, K: Ord, V, Q: Query<K>>(
+    root: &'a Node<K, V>,
+    key: Q,
+    count: &mut Count,
+) -> Option<&'a (K, V)>
+    requires levels { IsTree root.now }
+    requires order { IsAscending K.cmp (pairs_of root.now) }
+    ensures value { option_copied result ≡ first_of (above Q.order (pairs_of root.now) (Q.sought key)) }
+    ensures comparisons { count.new.comparisons ≡ count.old.comparisons + passed Q.order (Q.sought key) root.now }
+    ensures bounded { (h : ℕ) → IsLevelled h root.now → count.new.comparisons ≤ count.old.comparisons + 11 * (h + 1) }
+    ensures moves { count.new.moves ≡ count.old.moves }
+{
+    let mut node = root;
+    let mut next = None;
+    'down: loop {
+        match search_node(node, key, count) {
+            Ok(i) => return behind_own(node, i, next),
+            Err(gap) => {
+                next = behind_child(node, gap, next);
+                if node.is_leaf() {
+                    return next;
+                }
+                node = node.child(gap);
+            }
+        }
+    }
+}
+
+/// The last pair of the tree at `root` whose key is not above `key`. It compares each key that a search
+/// passes once, and moves no pair.
+pub fn last_to<'a, K: Ord, V, Q: Query<K>>(
+    root: &'a Node<K, V>,
+    key: Q,
+    count: &mut Count,
+) -> Option<&'a (K, V)>
+    requires levels { IsTree root.now }
+    requires order { IsAscending K.cmp (pairs_of root.now) }
+    ensures value { option_copied result ≡ last_of (not_above Q.order (pairs_of root.now) (Q.sought key)) }
+    ensures comparisons { count.new.comparisons ≡ count.old.comparisons + passed Q.order (Q.sought key) root.now }
+    ensures bounded { (h : ℕ) → IsLevelled h root.now → count.new.comparisons ≤ count.old.comparisons + 11 * (h + 1) }
+    ensures moves { count.new.moves ≡ count.old.moves }
+{
+    let mut node = root;
+    let mut last = None;
+    'down: loop {
+        match search_node(node, key, count) {
+            Ok(i) => return Some(node.pair(i)),
+            Err(gap) => {
+                last = ahead_of_child(node, gap, last);
+                if node.is_leaf() {
+                    return last;
+                }
+                node = node.child(gap);
+            }
+        }
+    }
+}
+
+/// The last pair of the tree at `root` whose key is below `key`. It compares each key that a search
+/// passes once, and moves no pair.
+pub fn last_before<'a, K: Ord, V, Q: Query<K>>(
+    root: &'a Node<K, V>,
+    key: Q,
+    count: &mut Count,
+) -> Option<&'a (K, V)>
+    requires levels { IsTree root.now }
+    requires order { IsAscending K.cmp (pairs_of root.now) }
+    ensures value { option_copied result ≡ last_of (below Q.order (pairs_of root.now) (Q.sought key)) }
+    ensures comparisons { count.new.comparisons ≡ count.old.comparisons + passed Q.order (Q.sought key) root.now }
+    ensures bounded { (h : ℕ) → IsLevelled h root.now → count.new.comparisons ≤ count.old.comparisons + 11 * (h + 1) }
+    ensures moves { count.new.moves ≡ count.old.moves }
+{
+    let mut node = root;
+    let mut last = None;
+    'down: loop {
+        match search_node(node, key, count) {
+            Ok(i) => return ahead_of_own(node, i, last),
+            Err(gap) => {
+                last = ahead_of_child(node, gap, last);
+                if node.is_leaf() {
+                    return last;
+                }
+                node = node.child(gap);
+            }
+        }
+    }
+}

@@ -1,0 +1,104 @@
+//! The items of a set next to another.
+ghost use Rattle.std.specs.Prelude.{◌≡◌, ◌+◌, length};
+ghost use Rattle.fc_map.specs.Counts.{IsBounded};
+ghost use Rattle.fc_map.specs.Entries.{now_value, passed_in};
+ghost use Rattle.fc_search.specs.Neighbours.{first_of, last_of};
+ghost use Rattle.fc_set.specs.Items.{items, smaller, greater, not_smaller, AreAscending};
+ghost use Rattle.fc_set.specs.Neighbours.{not_greater};
+
+use super::BTreeSet;
+use fc_base::{Count, Query};
+
+impl<T: Ord> BTreeSet<T> {
+    /// The first item that is not smaller than this one, or `None` where there is none. One way down the tree finds it, without a walk.
+    /// Not in upstream: std's set has it as `range(item..).next()`.
+    pub fn first_at_or_after<Q: Query<T>>(&self, item: Q) -> Option<&T>
+        ensures item { now_value result ≡ first_of (not_smaller Q.order (items self.now) (Q.sought item)) }
+        ensures ascending { AreAscending T.cmp (items self.now) }
+    {
+        self.first_at_or_after_counted(item, &mut Count::new())
+    }
+
+    /// `first_at_or_after`, with its comparisons added to the count: exactly those items that a search from the left passes. It moves no item.
+    pub fn first_at_or_after_counted<Q: Query<T>>(&self, item: Q, count: &mut Count) -> Option<&T>
+        ensures item { now_value result ≡ first_of (not_smaller Q.order (items self.now) (Q.sought item)) }
+        ensures ascending { AreAscending T.cmp (items self.now) }
+        ensures comparisons { count.new.comparisons ≡ count.old.comparisons + passed_in Q.order (Q.sought item) self.now }
+        ensures moves { count.new.moves ≡ count.old.moves }
+        ensures bounded { IsBounded (length (items self.now)) count.old count.new }
+    {
+        match self.map.first_at_or_after_counted(item, count) {
+            Some((found, _nothing)) => Some(found),
+            None => None,
+        }
+    }
+
+    /// The first item that is greater than this one, or `None` where there is none. One way down the tree finds it, without a walk.
+    /// Not in upstream: std's set has it as `range((Excluded(item), Unbounded)).next()`.
+    pub fn first_after<Q: Query<T>>(&self, item: Q) -> Option<&T>
+        ensures item { now_value result ≡ first_of (greater Q.order (items self.now) (Q.sought item)) }
+        ensures ascending { AreAscending T.cmp (items self.now) }
+    {
+        self.first_after_counted(item, &mut Count::new())
+    }
+
+    /// `first_after`, with its comparisons added to the count: exactly those items that a search from the left passes. It moves no item.
+    pub fn first_after_counted<Q: Query<T>>(&self, item: Q, count: &mut Count) -> Option<&T>
+        ensures item { now_value result ≡ first_of (greater Q.order (items self.now) (Q.sought item)) }
+        ensures ascending { AreAscending T.cmp (items self.now) }
+        ensures comparisons { count.new.comparisons ≡ count.old.comparisons + passed_in Q.order (Q.sought item) self.now }
+        ensures moves { count.new.moves ≡ count.old.moves }
+        ensures bounded { IsBounded (length (items self.now)) count.old count.new }
+    {
+        match self.map.first_after_counted(item, count) {
+            Some((found, _nothing)) => Some(found),
+            None => None,
+        }
+    }
+
+    /// The last item that is not greater than this one, or `None` where there is none. One way down the tree finds it, without a walk.
+    /// Not in upstream: std's set has it as `range(..=item).next_back()`.
+    pub fn last_at_or_before<Q: Query<T>>(&self, item: Q) -> Option<&T>
+        ensures item { now_value result ≡ last_of (not_greater Q.order (items self.now) (Q.sought item)) }
+        ensures ascending { AreAscending T.cmp (items self.now) }
+    {
+        self.last_at_or_before_counted(item, &mut Count::new())
+    }
+
+    /// `last_at_or_before`, with its comparisons added to the count: exactly those items that a search from the left passes. It moves no item.
+    pub fn last_at_or_before_counted<Q: Query<T>>(&self, item: Q, count: &mut Count) -> Option<&T>
+        ensures item { now_value result ≡ last_of (not_greater Q.order (items self.now) (Q.sought item)) }
+        ensures ascending { AreAscending T.cmp (items self.now) }
+        ensures comparisons { count.new.comparisons ≡ count.old.comparisons + passed_in Q.order (Q.sought item) self.now }
+        ensures moves { count.new.moves ≡ count.old.moves }
+        ensures bounded { IsBounded (length (items self.now)) count.old count.new }
+    {
+        match self.map.last_at_or_before_counted(item, count) {
+            Some((found, _nothing)) => Some(found),
+            None => None,
+        }
+    }
+
+    /// The last item that is smaller than this one, or `None` where there is none. One way down the tree finds it, without a walk.
+    /// Not in upstream: std's set has it as `range(..item).next_back()`.
+    pub fn last_before<Q: Query<T>>(&self, item: Q) -> Option<&T>
+        ensures item { now_value result ≡ last_of (smaller Q.order (items self.now) (Q.sought item)) }
+        ensures ascending { AreAscending T.cmp (items self.now) }
+    {
+        self.last_before_counted(item, &mut Count::new())
+    }
+
+    /// `last_before`, with its comparisons added to the count: exactly those items that a search from the left passes. It moves no item.
+    pub fn last_before_counted<Q: Query<T>>(&self, item: Q, count: &mut Count) -> Option<&T>
+        ensures item { now_value result ≡ last_of (smaller Q.order (items self.now) (Q.sought item)) }
+        ensures ascending { AreAscending T.cmp (items self.now) }
+        ensures comparisons { count.new.comparisons ≡ count.old.comparisons + passed_in Q.order (Q.sought item) self.now }
+        ensures moves { count.new.moves ≡ count.old.moves }
+        ensures bounded { IsBounded (length (items self.now)) count.old count.new }
+    {
+        match self.map.last_before_counted(item, count) {
+            Some((found, _nothing)) => Some(found),
+            None => None,
+        }
+    }
+}
