@@ -1,7 +1,7 @@
 //! Values for tests: they tell how many of them there are, and their copies can be refused.
 ghost use Rattle.std.specs.Prelude.{◌≡◌};
 
-use crate::{TryClone, TryReserveError};
+use fc_base::{TryClone, TryReserveError};
 use std::cell::Cell;
 
 /// A number that is counted while it is there, and that can be copied as often as `copies` says.
