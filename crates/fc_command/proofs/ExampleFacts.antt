@@ -15,7 +15,7 @@ use Rattle.fc_lines.specs.declared.command.Command.TheVariants.{Insert, Get, Get
 use Rattle.fc_lines.specs.declared.command.Reply.TheVariants.{Done, Flag, Value, Pair, Len, Pairs, BadRange, Refused}
 use Rattle.fc_command.specs.Step.{answer, MayRefuse, MayStop}
 use Rattle.fc_lines.specs.Lines.{lines_of}
-use Rattle.fc_lines.specs.Grammar.{command_of, on_maps_of, on_sets_of, plain_on_sets_of, set_of_word, set_and_item_of_word, walk_items_of, extend_items_of, set_at, plain_of, insert_of, get_of, pair_of, has_of, remove_of, set_of, entry_of, evict_of, len_of, clear_of, walk_of, write_of, append_of, split_of, copy_of, extend_of, map_at, number_at, bound_at}
+use Rattle.fc_lines.specs.Grammar.{command_of, on_maps_of, on_sets_of, plain_on_sets_of, set_of_word, set_and_item_of_word, walk_items_of, extend_items_of, set_at, plain_of, with_map_of, keyed_of, with_key_of, with_pair_of, entry_of, walk_of, write_of, extend_of, map_at, number_at, bound_at}
 use Rattle.fc_map.specs.Writing.{wrote}
 use Rattle.fc_lines.specs.Texts.{text_of}
 
@@ -23,19 +23,19 @@ abbrev six : List ℕ
 six = codes "insert a 37 1\ninsert a 037 2\nget a 37\nlen a\nremove a 37\nget b 1\n"
 
 six_commands : map command_of (lines_of six) ≡ Some (Insert First 37 1) ∷ Some (Insert First 37 2) ∷ Some (Get First 37) ∷ Some (CountPairs First) ∷ Some (Remove First 37) ∷ Some (Get Second 1) ∷ []
-unfolding command_of on_maps_of plain_of insert_of get_of remove_of len_of map_at number_at
+unfolding command_of on_maps_of plain_of with_map_of keyed_of with_key_of with_pair_of map_at number_at
 six_commands = refl
 
 -- The longest number, and one with leading zeros.
 numbers_read : map command_of (codes "get a 18446744073709551615" ∷ codes "get a 00000000000000000001" ∷ []) ≡ Some (Get First 18446744073709551615) ∷ Some (Get First 1) ∷ []
-unfolding command_of on_maps_of plain_of get_of map_at number_at
+unfolding command_of on_maps_of plain_of with_map_of keyed_of with_key_of with_pair_of map_at number_at
 numbers_read = refl
 
 -- An empty line, spaces that are two or at an end, a carriage return, words that are not numbers, a word too few or too many,
 -- another map, and another letter case.
 bad_lines : map command_of (codes "" ∷ codes "get  a 1" ∷ codes " get a 1" ∷ codes "get a 1 " ∷ codes "get a 1\r" ∷ codes "get a -1" ∷ codes "get a 000000000000000000001" ∷ codes "get a 18446744073709551616" ∷ codes "insert a 1" ∷ codes "len a 1" ∷ codes "get s 1" ∷ codes "Insert a 1 1" ∷ codes "bogus" ∷ codes "pair a" ∷ codes "has a 1 2" ∷ codes "clear" ∷ codes "set a 1" ∷ codes "entry a 1 2" ∷ codes "evict a 1 2" ∷ [])
     ≡ None ∷ None ∷ None ∷ None ∷ None ∷ None ∷ None ∷ None ∷ None ∷ None ∷ None ∷ None ∷ None ∷ None ∷ None ∷ None ∷ None ∷ None ∷ None ∷ []
-unfolding command_of on_maps_of on_sets_of plain_on_sets_of set_of_word set_and_item_of_word walk_items_of extend_items_of set_at plain_of insert_of get_of pair_of has_of remove_of set_of entry_of evict_of len_of clear_of map_at number_at
+unfolding command_of on_maps_of on_sets_of plain_on_sets_of set_of_word set_and_item_of_word walk_items_of extend_items_of set_at plain_of with_map_of keyed_of with_key_of with_pair_of entry_of map_at number_at
 bad_lines = refl
 
 -- The table answers the six commands, on the lists of two maps that are empty at first.
@@ -55,7 +55,7 @@ six_texts = refl
 -- The other commands and replies.
 more_commands : map command_of (codes "pair a 1" ∷ codes "has b 1" ∷ codes "clear b" ∷ codes "set a 1 2" ∷ codes "entry b 1 2 3" ∷ codes "evict a 1" ∷ [])
     ≡ Some (GetKeyValue First 1) ∷ Some (ContainsKey Second 1) ∷ Some (Clear Second) ∷ Some (Set First 1 2) ∷ Some (Entry Second 1 2 3) ∷ Some (RemoveEntry First 1) ∷ []
-unfolding command_of on_maps_of plain_of pair_of has_of clear_of set_of entry_of evict_of map_at number_at
+unfolding command_of on_maps_of plain_of with_map_of keyed_of with_key_of with_pair_of entry_of map_at number_at
 more_commands = refl
 
 more_texts : flat_map text_of (Pair None ∷ Pair (Some (1, 2)) ∷ Flag true ∷ Flag false ∷ Done ∷ Refused AllocError ∷ Refused CapacityOverflow ∷ []) ≡ codes "none\nsome 1 2\ntrue\nfalse\ndone\nrefused alloc\nrefused overflow\n"
@@ -97,13 +97,13 @@ walk_texts = refl
 -- Commands on both maps, and of many pairs.
 map_commands : map command_of (codes "append a" ∷ codes "split b 5" ∷ codes "copy a" ∷ codes "extend b 3 1" ∷ codes "extend a 3 1 5 2 8 3" ∷ [])
     ≡ Some (Append First) ∷ Some (SplitOff Second 5) ∷ Some (TryClone First) ∷ Some (Extend Second ((3, 1) ∷ [])) ∷ Some (Extend First three) ∷ []
-unfolding command_of on_maps_of plain_of append_of split_of copy_of extend_of map_at number_at
+unfolding command_of on_maps_of plain_of with_map_of keyed_of with_key_of with_pair_of extend_of map_at number_at
 map_commands = refl
 
 -- A word too many or too few, no pairs, a key without its value, another map, two spaces, a space behind, and a number that is too great.
 bad_map_commands : map command_of (codes "append a b" ∷ codes "append" ∷ codes "split a" ∷ codes "split a 5 6" ∷ codes "copy" ∷ codes "copy a 1" ∷ codes "extend a" ∷ codes "extend a 3" ∷ codes "extend a 3 1 5" ∷ codes "extend c 3 1" ∷ codes "extend a  3 1" ∷ codes "extend a 3 1 " ∷ codes "extend a 3 18446744073709551616" ∷ [])
     ≡ None ∷ None ∷ None ∷ None ∷ None ∷ None ∷ None ∷ None ∷ None ∷ None ∷ None ∷ None ∷ None ∷ []
-unfolding command_of on_maps_of on_sets_of plain_on_sets_of set_of_word set_and_item_of_word walk_items_of extend_items_of set_at plain_of append_of split_of copy_of extend_of map_at number_at
+unfolding command_of on_maps_of on_sets_of plain_on_sets_of set_of_word set_and_item_of_word walk_items_of extend_items_of set_at plain_of with_map_of keyed_of with_key_of with_pair_of extend_of map_at number_at
 bad_map_commands = refl
 
 -- Of equal keys an append takes the other map's pair; a split leaves the smaller keys; an extension writes over equal keys, in turn.
