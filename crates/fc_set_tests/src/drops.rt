@@ -1,126 +1,85 @@
-//! What is dropped of the copies where the copy of an item is refused.
-ghost use Rattle.std.specs.Prelude.{◌≡◌};
-
-use crate::operators::Operator;
-use fc_base::{TryClone, TryReserveError};
+//! How often each item is dropped.
 use fc_set::set::BTreeSet;
-use std::alloc::Global;
 use std::cell::Cell;
-use std::test::Fail;
 
-// How many items there are, and how many more may be copied.
-#[derive(Drop)]
-struct Tally {
-    living: Cell<u64>,
-    left: Cell<u64>,
-}
-
-// A number as an item, which is counted while it lives.
+// A number as an item, which counts its drops.
 #[derive_where(PartialEq, Eq, PartialOrd, Ord)]
-struct Counted<'a> {
-    number: u64,
+struct TrackedItem<'a> {
+    number: usize,
     #[derive_where(skip)]
-    tally: &'a Tally,
+    drops: &'a Cell<u64>,
 }
 
-fn with_tally<'a>(number: u64, tally: &'a Tally) -> Counted<'a>
-    ensures { result.number ≡ number }
-{
-    tally.living.set(tally.living.get().wrapping_add(1));
-    Counted { number, tally }
-}
-
-impl Drop for Counted<'_> {
+impl Drop for TrackedItem<'_> {
     fn drop(self) {
-        self.tally
-            .living
-            .set(self.tally.living.get().wrapping_sub(1));
-        let Counted {
+        self.drops.set(self.drops.get().wrapping_add(1));
+        let TrackedItem {
             number: _,
-            tally: _,
+            drops: _,
         } = self;
     }
 }
 
-impl TryClone for Counted<'_> {
-    ghost same = { λ source copy. copy.number ≡ source.number };
-
-    fn try_clone(&self) -> Result<Self, TryReserveError> {
-        let left = self.tally.left.get();
-        if left == 0 {
-            return Err(TryReserveError::CapacityOverflow);
-        }
-        self.tally.left.set(left - 1);
-        Ok(with_tally(self.number, self.tally))
-    }
+fn tracked<'a>(number: usize, drops: &'a Cell<u64>) -> TrackedItem<'a> {
+    TrackedItem { number, drops }
 }
 
-// The numbers from `first` on below `end`.
-fn counted_set<'a>(
-    alloc: Global,
-    first: u64,
-    end: u64,
-    tally: &'a Tally,
-) -> Result<BTreeSet<Counted<'a>>, TryReserveError> {
-    let mut set = BTreeSet::new(alloc);
-    for number in first..end {
-        set.try_insert(with_tally(number, tally))?;
+// How many drops there were in all.
+fn all_drops(drops: &[Cell<u64>]) -> u64 {
+    let mut all = 0u64;
+    for each in drops {
+        all = all.wrapping_add(each.get());
     }
-    Ok(set)
+    all
 }
 
-// How many items the set has that was made; none where an item refused its copy. The set is dropped.
-fn copied_by<'a>(
-    operator: Operator,
-    one: &BTreeSet<Counted<'a>>,
-    other: &BTreeSet<Counted<'a>>,
-) -> usize {
-    let made = match operator {
-        Operator::Sub => one.sub(other),
-        Operator::BitXor => one.bitxor(other),
-        Operator::BitAnd => one.bitand(other),
-        Operator::BitOr => one.bitor(other),
-    };
-    match made {
-        Ok(set) => set.len(),
-        Err(_) => 0,
+// Whether each item was dropped once.
+fn were_all_dropped_once(drops: &[Cell<u64>]) -> bool {
+    let mut once = true;
+    for each in drops {
+        once = once && each.get() == 1;
     }
+    once
 }
 
-// Whether the call is refused at each of so many copies, and leaves none of them; and then makes them all.
-fn leaves_no_copy<'a>(
-    operator: Operator,
-    one: &BTreeSet<Counted<'a>>,
-    other: &BTreeSet<Counted<'a>>,
-    tally: &Tally,
-    count: u64,
-) -> bool {
-    let before = tally.living.get();
+// Puts in each item. Whether the refused ones are dropped at once, and no other.
+fn puts_in<'a>(set: &mut BTreeSet<TrackedItem<'a>>, drops: &'a [Cell<u64>]) -> bool {
     let mut agrees = true;
-    for allowed in 0..count {
-        tally.left.set(allowed);
-        agrees = agrees && copied_by(operator, one, other) == 0;
-        agrees = agrees && tally.left.get() == 0 && tally.living.get() == before;
+    for (number, each) in drops.iter().enumerate() {
+        let is_refused = set.try_insert(tracked(number, each)).is_err();
+        agrees = agrees && each.get() == u64::from(is_refused);
     }
-    tally.left.set(count);
-    agrees && copied_by(operator, one, other) as u64 == count && tally.living.get() == before
+    agrees
 }
 
-// Of 1 to 20 and 11 to 30.
-#[test]
-fn copies_before_a_refused_one_are_dropped(rt: HostRuntime) -> Result<(), Fail> {
-    let tally = Tally {
-        living: Cell::new(0),
-        left: Cell::new(0),
-    };
-    {
-        let one = counted_set(rt.alloc(), 1, 21, &tally)?;
-        let other = counted_set(rt.alloc(), 11, 31, &tally)?;
-        assert!(rt; leaves_no_copy(Operator::Sub, &one, &other, &tally, 10));
-        assert!(rt; leaves_no_copy(Operator::BitXor, &one, &other, &tally, 20));
-        assert!(rt; leaves_no_copy(Operator::BitAnd, &one, &other, &tally, 10));
-        assert!(rt; leaves_no_copy(Operator::BitOr, &one, &other, &tally, 30));
+// Takes out 30 items. Whether each that is there is dropped at once, and no other.
+fn takes_out<'a>(
+    set: &mut BTreeSet<TrackedItem<'a>>,
+    drops: &'a [Cell<u64>],
+    sought: &'a Cell<u64>,
+) -> bool {
+    let mut agrees = true;
+    for number in 0..30usize {
+        let before = all_drops(drops);
+        let is_there = set.remove(&tracked(number * 2, sought));
+        agrees = agrees && all_drops(drops) == before.wrapping_add(u64::from(is_there));
     }
-    assert!(rt; tally.living.get() == 0);
-    Ok(())
+    agrees
+}
+
+// Each request is refused in turn by the sweep.
+#[test]
+fn each_item_is_dropped_once(rt: HostRuntime) {
+    let mut drops = Vec::new(rt.alloc());
+    for _ in 0..100 {
+        if drops.push(Cell::new(0u64)).is_err() {
+            return;
+        }
+    }
+    let sought = Cell::new(0u64);
+    {
+        let mut set = BTreeSet::new(rt.alloc());
+        assert!(rt; puts_in(&mut set, &drops) && takes_out(&mut set, &drops, &sought));
+    }
+    assert!(rt; were_all_dropped_once(&drops) && sought.get() == 30);
 }

@@ -1,8 +1,6 @@
-//! Tests of the ordered set through its public calls.
+//! Tests of the ordered set through its public calls, where memory is refused and where rows of `probe_set` can't say it.
 #![tactic(auto)]
 
-#[cfg(test)]
-mod copies;
 #[cfg(test)]
 mod drops;
 #[cfg(test)]
@@ -10,12 +8,6 @@ mod items;
 #[cfg(test)]
 mod neighbours;
 #[cfg(test)]
-mod operators;
+mod refusals;
 #[cfg(test)]
-mod predicates;
-#[cfg(test)]
-mod set;
-#[cfg(test)]
-mod walks;
-#[cfg(test)]
-mod whole;
+mod types;

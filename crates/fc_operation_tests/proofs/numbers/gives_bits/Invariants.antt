@@ -1,4 +1,0 @@
-use Rattle.fc_operation_tests.proofs.numbers.gives_bits.Given as goal
-
-abbrev pub invariant-loop-number : goal.invariant-loop-number
-invariant-loop-number g l = (goal.iterator-loop-number g).can_next l.number-iterator × (goal.iterator-loop-number g).is_finite l.number-iterator

@@ -1,0 +1,150 @@
+//! Items: numbers that may have a letter, and tell what is done with them.
+ghost use Rattle.std.specs.Prelude.{◌≡◌, ◌==◌};
+ghost use Rattle.std.proofs.Common.{rules};
+ghost use Rattle.std.specs.Cmp.{partial_order_from_own_ties};
+ghost use Rattle.std.specs.Cmp.Rules.{comparing};
+ghost use Rattle.std.specs.Ordering.{nat_cmp, on, as_partial_cmp};
+
+use fc_base::{TryClone, TryReserveError};
+use std::cell::Cell;
+use std::cmp::Ordering;
+use std::fmt::{self, Debug, Formatter};
+
+// How many comparisons there were, how many items live and how many copies of items may still be made; and how many were dropped by letter.
+#[derive(Drop)]
+pub(crate) struct Tally {
+    pub(crate) comparisons: Cell<u64>,
+    pub(crate) living: Cell<u64>,
+    pub(crate) copies_left: Cell<u64>,
+    pub(crate) plain_drops: Cell<u64>,
+    pub(crate) x_drops: Cell<u64>,
+    pub(crate) y_drops: Cell<u64>,
+    pub(crate) z_drops: Cell<u64>,
+}
+
+impl Tally {
+    pub(crate) fn new() -> Tally {
+        Tally {
+            comparisons: Cell::new(0),
+            living: Cell::new(0),
+            copies_left: Cell::new(u64::MAX),
+            plain_drops: Cell::new(0),
+            x_drops: Cell::new(0),
+            y_drops: Cell::new(0),
+            z_drops: Cell::new(0),
+        }
+    }
+
+    pub(crate) fn reset(&self) {
+        self.comparisons.set(0);
+        self.plain_drops.set(0);
+        self.x_drops.set(0);
+        self.y_drops.set(0);
+        self.z_drops.set(0);
+    }
+
+    fn drops_of(&self, letter: &str) -> &Cell<u64> {
+        match letter {
+            "x" => &self.x_drops,
+            "y" => &self.y_drops,
+            "z" => &self.z_drops,
+            _ => &self.plain_drops,
+        }
+    }
+}
+
+// Items are equal where their numbers are, whatever their letters.
+pub(crate) struct Item<'a> {
+    pub(crate) number: u64,
+    pub(crate) letter: &'static str,
+    pub(crate) tally: &'a Tally,
+}
+
+impl<'a> Item<'a> {
+    pub(crate) fn new(number: u64, letter: &'static str, tally: &'a Tally) -> Item<'a>
+        ensures { result.number ≡ number }
+    {
+        add_one(&tally.living);
+        Item {
+            number,
+            letter,
+            tally,
+        }
+    }
+}
+
+fn add_one(count: &Cell<u64>) {
+    count.set(count.get().wrapping_add(1));
+}
+
+impl Drop for Item<'_> {
+    fn drop(self) {
+        add_one(self.tally.drops_of(self.letter));
+        let living = &self.tally.living;
+        living.set(living.get().wrapping_sub(1));
+        let Item {
+            number: _,
+            letter: _,
+            tally: _,
+        } = self;
+    }
+}
+
+impl TryClone for Item<'_> {
+    ghost same = { λ source copy. copy.number ≡ source.number };
+
+    fn try_clone(&self) -> Result<Self, TryReserveError> {
+        let left = self.tally.copies_left.get();
+        if left == 0 {
+            return Err(TryReserveError::CapacityOverflow);
+        }
+        self.tally.copies_left.set(left - 1);
+        Ok(Item::new(self.number, self.letter, self.tally))
+    }
+}
+
+impl Debug for Item<'_> {
+    fn fmt<W: fmt::Write>(&self, f: &mut Formatter<W>) -> fmt::Result {
+        write!(f, "{}{}", self.number, self.letter)
+    }
+}
+
+impl PartialEq for Item<'_> {
+    ghost eq = { on (λ item. item.number) ◌==◌ };
+
+    ghost laws = { Prim.search (comparing, rules) };
+
+    fn eq(&self, other: &Self) -> bool {
+        add_one(&self.tally.comparisons);
+        self.number == other.number
+    }
+}
+
+impl Eq for Item<'_> {
+    ghost laws = { Prim.search (comparing, rules) };
+}
+
+impl PartialOrd for Item<'_> {
+    ghost partial_cmp = { as_partial_cmp (on (λ item. item.number) nat_cmp) };
+
+    ghost laws = { partial_order_from_own_ties (Prim.search (comparing, rules)) (Prim.search (comparing, rules)) };
+
+    fn partial_cmp(&self, other: &Self) -> Option<Ordering> {
+        Some(self.cmp(other))
+    }
+}
+
+impl Ord for Item<'_> {
+    ghost cmp = { on (λ item. item.number) nat_cmp };
+
+    ghost total = { Prim.search (comparing, rules) };
+
+    ghost matches_partial_cmp = { Prim.search (comparing, rules) };
+
+    ghost matches_eq = { Prim.search (comparing, rules) };
+
+    fn cmp(&self, other: &Self) -> Ordering {
+        add_one(&self.tally.comparisons);
+        self.number.cmp(&other.number)
+    }
+}

@@ -1,0 +1,99 @@
+//! The words that a row is answered with.
+use crate::item::Item;
+use fc_base::TryReserveError;
+use std::alloc::{AllocError, Global};
+use std::fmt::Debug;
+
+// An answer in the making. Where there is no memory for a word, the answer tells so in place of all.
+#[derive(Drop)]
+pub(crate) struct Out {
+    text: String,
+    failed: bool,
+}
+
+impl Out {
+    pub(crate) fn new(alloc: Global) -> Out {
+        Out {
+            text: String::new(alloc),
+            failed: false,
+        }
+    }
+
+    pub(crate) fn text(&self) -> &str {
+        if self.failed {
+            " out of memory"
+        } else {
+            self.text.as_str()
+        }
+    }
+
+    pub(crate) fn has_failed(&self) -> bool {
+        self.failed
+    }
+
+    fn note(&mut self, written: Result<(), AllocError>) {
+        self.failed = self.failed || written.is_err();
+    }
+
+    // Puts a text at the end, with no space before it.
+    pub(crate) fn put(&mut self, text: &str) {
+        let written = self.text.push_str(text);
+        self.note(written);
+    }
+
+    pub(crate) fn put_number(&mut self, number: u64) {
+        let written = write!(self.text, "{number}");
+        self.note(written);
+    }
+
+    pub(crate) fn word(&mut self, word: &str) {
+        self.put(" ");
+        self.put(word);
+    }
+
+    pub(crate) fn number(&mut self, number: u64) {
+        self.put(" ");
+        self.put_number(number);
+    }
+
+    pub(crate) fn debug<D: Debug>(&mut self, value: &D) {
+        let written = write!(self.text, " {value:?}");
+        self.note(written);
+    }
+
+    pub(crate) fn is(&mut self, answer: bool) {
+        self.word(if answer { "yes" } else { "no" });
+    }
+
+    pub(crate) fn lent(&mut self, item: Option<&Item<'_>>) {
+        match item {
+            Some(item) => self.debug(item),
+            None => self.word("none"),
+        }
+    }
+
+    pub(crate) fn owned(&mut self, item: Option<Item<'_>>) {
+        self.lent(item.as_ref());
+    }
+
+    pub(crate) fn inserted(&mut self, answer: Result<bool, TryReserveError>) {
+        match answer {
+            Ok(new) => self.is(new),
+            Err(_) => self.word("refused"),
+        }
+    }
+
+    pub(crate) fn done(&mut self, answer: Result<(), TryReserveError>) {
+        self.word(if answer.is_ok() { "done" } else { "refused" });
+    }
+
+    // What a length is told to be: at least so many, and at most so many if that is known.
+    pub(crate) fn hint(&mut self, hint: (usize, Option<usize>)) {
+        let (least, most) = hint;
+        self.number(least as u64);
+        self.put("..");
+        if let Some(most) = most {
+            self.put_number(most as u64);
+        }
+    }
+}

@@ -1,0 +1,79 @@
+//! The two sets, and the numbers of a row.
+use crate::item::{Item, Tally};
+use crate::out::Out;
+use fc_set::set::BTreeSet;
+use std::alloc::Global;
+
+pub(crate) type Set<'a> = BTreeSet<Item<'a>>;
+
+#[derive(Drop)]
+pub(crate) struct Sets<'a> {
+    pub(crate) ours: Set<'a>,
+    pub(crate) theirs: Set<'a>,
+    pub(crate) tally: &'a Tally,
+    pub(crate) alloc: Global,
+    held: Option<Item<'a>>,
+}
+
+impl<'a> Sets<'a> {
+    pub(crate) fn new(alloc: Global, tally: &'a Tally) -> Sets<'a> {
+        Sets {
+            ours: BTreeSet::new(alloc),
+            theirs: BTreeSet::default(alloc),
+            tally,
+            alloc,
+            held: None,
+        }
+    }
+
+    // Answers with an item that a call handed out, and holds it: the one that was held is dropped.
+    pub(crate) fn hold(&mut self, item: Option<Item<'a>>, out: &mut Out) {
+        out.lent(item.as_ref());
+        self.held = item;
+    }
+
+    pub(crate) fn let_go(&mut self) {
+        self.held = None;
+    }
+
+    // The item that a word like `12` or `12x` names.
+    pub(crate) fn item(&self, word: &str) -> Option<Item<'a>> {
+        let letter = letter_of(word);
+        let number = word.strip_suffix(letter)?.parse::<u64>().ok()?;
+        Some(Item::new(number, letter, self.tally))
+    }
+}
+
+fn letter_of(word: &str) -> &'static str {
+    if word.ends_with('x') {
+        "x"
+    } else if word.ends_with('y') {
+        "y"
+    } else if word.ends_with('z') {
+        "z"
+    } else {
+        ""
+    }
+}
+
+// The numbers that a word like `3..1000` or `3..1000/3` names: from the first on below the end, in steps. What comes before the dots may have a letter,
+// which each of them has.
+#[derive(Clone, Copy)]
+pub(crate) struct Numbers {
+    pub(crate) first: u64,
+    pub(crate) end: u64,
+    pub(crate) step: u64,
+    pub(crate) letter: &'static str,
+}
+
+pub(crate) fn numbers_in(word: &str) -> Option<Numbers> {
+    let (first, rest) = word.split_once("..")?;
+    let (end, step) = rest.split_once("/").unwrap_or((rest, "1"));
+    let letter = letter_of(first);
+    Some(Numbers {
+        first: first.strip_suffix(letter)?.parse::<u64>().ok()?,
+        end: end.parse::<u64>().ok()?,
+        step: step.parse::<u64>().ok()?,
+        letter,
+    })
+}
