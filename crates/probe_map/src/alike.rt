@@ -2,10 +2,7 @@
 use crate::answer::{Answer, whether};
 use crate::pieces::{Key, Map, Value, World};
 use crate::row::Row;
-use crate::walks::stretch_in;
-use crate::whole::is_fresh;
 use fc_base::Count;
-use fc_map::map::Entry;
 
 /// What a call found, and how many comparisons it made.
 type Seen = (Option<u64>, u64);
@@ -14,8 +11,6 @@ pub(crate) fn run<'a>(map: &mut Map<'a>, world: World<'a>, row: Row<'_>) -> Answ
     let number = row.number(0);
     if row.name == "look_ups" {
         whether(look_ups_are_alike(map, world, number) && is_there_alike(map, world, number))
-    } else if row.name == "entry_alike" {
-        whether(is_fresh(map, world, stretch_in(row, 1)) && is_entry_alike(map, world, number))
     } else {
         Answer::Unknown
     }
@@ -80,27 +75,6 @@ fn is_there_alike<'a>(map: &Map<'a>, world: World<'a>, number: u64) -> bool {
         && is_counted_there == is_there
         && of_call == made
         && comparisons.get() == made
-}
-
-// Whether an entry's search makes the comparisons of a look-up, and the insertion or the removal that follows makes none.
-fn is_entry_alike<'a>(map: &mut Map<'a>, world: World<'a>, number: u64) -> bool {
-    let comparisons = &world.counts.comparisons;
-    let (found, expected) = look_up(map, world, number);
-    let entry = match map.try_entry(world.key(number, 0)) {
-        Ok(entry) => entry,
-        Err(_refused) => return false,
-    };
-    let of_search = comparisons.get();
-    let is_right = match entry {
-        Entry::Vacant(entry) => {
-            found.is_none() && entry.try_insert(world.value(number, number)).is_ok()
-        }
-        Entry::Occupied(entry) => {
-            let value = entry.remove();
-            are_alike((Some(value.number), 0), (found, 0))
-        }
-    };
-    is_right && of_search == expected && comparisons.get() == expected
 }
 
 fn removed<'a>(

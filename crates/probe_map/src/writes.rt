@@ -58,14 +58,18 @@ fn is_met(walk: &mut IterMut<'_, Key<'_>, Value<'_>>) -> bool {
         && walk.next_back().is_none()
 }
 
+// Whether the walk shows the number at the end.
+fn is_shown(walk: &IterMut<'_, Key<'_>, Value<'_>>, is_front: bool, number: u64) -> bool {
+    if is_front {
+        is_pair(walk.peek(), number, 0)
+    } else {
+        is_pair(walk.peek_back(), number, 0)
+    }
+}
+
 // Writes to the value at one end, if it is shown and is that of the number.
 fn writes(walk: &mut IterMut<'_, Key<'_>, Value<'_>>, is_front: bool, number: u64) -> bool {
-    let shown = if is_front {
-        walk.peek()
-    } else {
-        walk.peek_back()
-    };
-    if !is_pair(shown, number, 0) || walk.is_done() {
+    if walk.is_done() || !is_shown(walk, is_front, number) {
         return false;
     }
     let lent = if is_front {
