@@ -9,6 +9,7 @@ ghost use Rattle.fc_lines.specs.Grammar.{
   command_of,
   number_of,
   map_of,
+  is_text,
   bound_of,
   end_of,
   one_write_of,
@@ -69,11 +70,11 @@ fn on_maps_in(alloc: Global, words: Option<&[u8]>) -> Result<Option<Command<u64,
     let Some((word, words)) = next_word(words) else {
         return Ok(None)
     };
-    if word == b"walk".as_slice() {
+    if is_word(word, b"walk") {
         walk_in(alloc, words)
-    } else if word == b"write".as_slice() {
+    } else if is_word(word, b"write") {
         write_in(alloc, words)
-    } else if word == b"extend".as_slice() {
+    } else if is_word(word, b"extend") {
         extend_in(alloc, words)
     } else {
         Ok(plain_in(word, words))
@@ -85,7 +86,7 @@ fn on_maps_in(alloc: Global, words: Option<&[u8]>) -> Result<Option<Command<u64,
 fn plain_in(word: &[u8], words: Option<&[u8]>) -> Option<Command<u64, u64>>
     ensures { result ≡ plain_of word.entry.now (words_left words.entry) }
 {
-    if word == b"entry".as_slice() {
+    if is_word(word, b"entry") {
         return entry_in(words);
     }
     match with_map_in(word, words) {
@@ -139,13 +140,13 @@ fn with_pair_in(word: &[u8], words: Option<&[u8]>) -> Option<Command<u64, u64>>
 fn on_map_in(word: &[u8], side: Side) -> Option<Command<u64, u64>>
     ensures { result ≡ on_map word.entry.now side }
 {
-    if word == b"len".as_slice() {
+    if is_word(word, b"len") {
         Some(Command::Len(side))
-    } else if word == b"clear".as_slice() {
+    } else if is_word(word, b"clear") {
         Some(Command::Clear(side))
-    } else if word == b"append".as_slice() {
+    } else if is_word(word, b"append") {
         Some(Command::Append(side))
-    } else if word == b"copy".as_slice() {
+    } else if is_word(word, b"copy") {
         Some(Command::TryClone(side))
     } else {
         None
@@ -156,17 +157,17 @@ fn on_map_in(word: &[u8], side: Side) -> Option<Command<u64, u64>>
 fn on_key_in(word: &[u8], side: Side, key: u64) -> Option<Command<u64, u64>>
     ensures { result ≡ on_key word.entry.now side key }
 {
-    if word == b"get".as_slice() {
+    if is_word(word, b"get") {
         Some(Command::Get(side, key))
-    } else if word == b"pair".as_slice() {
+    } else if is_word(word, b"pair") {
         Some(Command::GetKeyValue(side, key))
-    } else if word == b"has".as_slice() {
+    } else if is_word(word, b"has") {
         Some(Command::ContainsKey(side, key))
-    } else if word == b"remove".as_slice() {
+    } else if is_word(word, b"remove") {
         Some(Command::Remove(side, key))
-    } else if word == b"evict".as_slice() {
+    } else if is_word(word, b"evict") {
         Some(Command::RemoveEntry(side, key))
-    } else if word == b"split".as_slice() {
+    } else if is_word(word, b"split") {
         Some(Command::SplitOff(side, key))
     } else {
         None
@@ -177,9 +178,9 @@ fn on_key_in(word: &[u8], side: Side, key: u64) -> Option<Command<u64, u64>>
 fn on_pair_in(word: &[u8], side: Side, key: u64, value: u64) -> Option<Command<u64, u64>>
     ensures { result ≡ on_pair word.entry.now side key value }
 {
-    if word == b"insert".as_slice() {
+    if is_word(word, b"insert") {
         Some(Command::Insert(side, key, value))
-    } else if word == b"set".as_slice() {
+    } else if is_word(word, b"set") {
         Some(Command::Set(side, key, value))
     } else {
         None
@@ -384,12 +385,19 @@ fn end_in(letter: u8) -> Option<End>
     }
 }
 
+// Whether a word is this text.
+pub(crate) fn is_word(word: &[u8], text: &[u8]) -> bool
+    ensures { result ≡ is_text word.now text.now }
+{
+    word == text
+}
+
 fn map_in(word: &[u8]) -> Option<Side>
     ensures { result ≡ map_of word.now }
 {
-    if word == b"a".as_slice() {
+    if is_word(word, b"a") {
         Some(Side::First)
-    } else if word == b"b".as_slice() {
+    } else if is_word(word, b"b") {
         Some(Side::Second)
     } else {
         None
