@@ -30,7 +30,6 @@ pub fn set_rate_at(steps: &mut BTreeMap<u64, u64>, amount: u64, rate: u64)
 }
 
 /// Puts in a step, and answers the rate of its amount: the one that was put.
-#[tactic(auto, using(fallible_collections::proofs::Laws::last_put))]
 pub fn add_step(
     steps: &mut BTreeMap<u64, u64>,
     from: u64,
