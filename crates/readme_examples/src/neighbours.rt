@@ -1,5 +1,5 @@
 //! The pair next to a key: rates by the amounts from which on they hold, and names in order.
-ghost use Rattle.std.specs.Prelude.{◌≡◌, List, IfOk, MatchOption, OnErr, OnOk, Some};
+ghost use Rattle.std.specs.Prelude.{◌≡◌, IfOk, MatchOption, OnErr, OnOk, Some};
 ghost use Rattle.std.specs.Option.{option_map};
 ghost use Rattle.std.specs.Ordering.{nat_cmp};
 ghost use Rattle.std.specs.declared.ops.Bound.TheVariants.{Included, Unbounded};
