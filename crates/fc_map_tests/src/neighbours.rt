@@ -125,7 +125,8 @@ fn costs_a_look_up<'a>(map: &BTreeMap<CountingKey<'a>, u64>, key: &CountingKey<'
 // Of 89 ascending keys, the search for the last passes 11, and one beyond it no less.
 #[test]
 fn neighbours_cost_a_look_up(rt: HostRuntime) -> Result<(), Fail> {
-    let comparisons = &Cell::new(0);
+    let made = Cell::new(0);
+    let comparisons = &made;
     let map = ascending(rt.alloc(), 89, comparisons)?;
     for number in 0..92 {
         let key = CountingKey {

@@ -120,7 +120,8 @@ fn costs_a_look_up<'a>(set: &BTreeSet<CountingItem<'a>>, item: &CountingItem<'a>
 
 #[test]
 fn neighbours_cost_a_look_up(rt: HostRuntime) -> Result<(), Fail> {
-    let comparisons = &Cell::new(0);
+    let made = Cell::new(0);
+    let comparisons = &made;
     let mut set = BTreeSet::new(rt.alloc());
     for number in 1..90 {
         set.try_insert(CountingItem {

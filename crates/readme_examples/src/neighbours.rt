@@ -1,5 +1,5 @@
 //! The pair next to a key: rates by the amounts from which on they hold, and names in order.
-ghost use Rattle.std.specs.Prelude.{◌≡◌, List, IfOk, MatchOption, OnErr, OnOk, Some};
+ghost use Rattle.std.specs.Prelude.{◌≡◌, IfOk, MatchOption, OnErr, OnOk, Some};
 ghost use Rattle.std.specs.Option.{option_map};
 ghost use Rattle.std.specs.Ordering.{nat_cmp};
 ghost use Rattle.std.specs.declared.ops.Bound.TheVariants.{Included, Unbounded};
@@ -30,7 +30,6 @@ pub fn set_rate_at(steps: &mut BTreeMap<u64, u64>, amount: u64, rate: u64)
 }
 
 /// Puts in a step, and answers the rate of its amount: the one that was put.
-#[tactic(auto, using(fallible_collections::proofs::Laws::last_put))]
 pub fn add_step(
     steps: &mut BTreeMap<u64, u64>,
     from: u64,

@@ -1,3 +1,4 @@
+use Rattle.std.proofs.Common.{arith}
 use Rattle.fallible_collections.specs.Words.{entries}
 use Rattle.example_intervals.proofs.Across.{some_between, none_behind, none_ahead}
 use Rattle.example_intervals.proofs.spans.first_between.Goals as goal
