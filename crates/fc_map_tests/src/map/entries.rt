@@ -173,9 +173,13 @@ fn an_entry_compares_in_its_search_alone(rt: HostRuntime) -> Result<(), Fail> {
         assert!(rt; comparisons.get() == expected);
         match entry {
             Entry::Vacant(entry) => {
-                assert!(rt; !is_there && *entry.try_insert(number)? == number);
+                let value = *entry.try_insert(number)?;
+                assert!(rt; !is_there && value == number);
             }
-            Entry::Occupied(entry) => assert!(rt; is_there && entry.remove() == number),
+            Entry::Occupied(entry) => {
+                let value = entry.remove();
+                assert!(rt; is_there && value == number);
+            }
         }
         assert!(rt; comparisons.get() == expected);
     }
@@ -262,11 +266,12 @@ fn leaves_every_pair(alloc: Global, last: usize) -> Result<bool, TryReserveError
     } else {
         last.wrapping_add(1)
     };
+    let has_all = has_tracked_up_to(&map, length, &sought.key);
     Ok(
-        calls.get() == 1
+        has_all
+            && calls.get() == 1
             && were_dropped(&new, dropped, dropped)
-            && were_dropped(&kept, 0, 0)
-            && has_tracked_up_to(&map, length, &sought.key),
+            && were_dropped(&kept, 0, 0),
     )
 }
 
