@@ -39,8 +39,7 @@ pub(crate) fn run<'a>(map: &mut Map<'a>, world: World<'a>, row: Row<'_>) -> Answ
 
 fn insert<'a>(map: &mut Map<'a>, world: World<'a>, number: u64, value: u64, tag: u64) -> Answer {
     match map.try_insert(world.key(number, tag), world.value(number, value)) {
-        Ok(Some(old)) => Answer::Number(old.number),
-        Ok(None) => Answer::Nothing,
+        Ok(old) => number_or_none(old.map(|value| value.number)),
         Err(e) => refused(e),
     }
 }

@@ -57,7 +57,7 @@ fn one<'a>(map: &mut Map<'a>, world: World<'a>, row: Row<'_>) -> Answer {
         map.clear();
         Answer::Text("done")
     } else if name == "drop" {
-        *map = BTreeMap::new(world.alloc);
+        replace_by(map, BTreeMap::new(world.alloc));
         Answer::Text("done")
     } else if name == "fill" {
         done_or_refused(fill(map, world, all))
@@ -131,9 +131,14 @@ pub(crate) fn is_filled<'a>(map: &mut Map<'a>, world: World<'a>, all: Stretch) -
     is_whole && map.len() as u64 == all.count
 }
 
+// The old map is dropped.
+fn replace_by<'a>(map: &mut Map<'a>, new: Map<'a>) {
+    drop(mem::replace(map, new));
+}
+
 /// Whether a new map is made of the numbers. Nothing is counted by then.
 pub(crate) fn is_fresh<'a>(map: &mut Map<'a>, world: World<'a>, all: Stretch) -> bool {
-    *map = BTreeMap::new(world.alloc);
+    replace_by(map, BTreeMap::new(world.alloc));
     let is_filled = fill(map, world, all).is_ok();
     world.counts.comparisons.set(0);
     is_filled
@@ -149,7 +154,7 @@ pub(crate) fn holds(map: &Map<'_>, all: Stretch) -> bool {
 fn copy<'a>(map: &Map<'a>, other: &mut Map<'a>) -> Answer {
     match map.try_clone() {
         Ok(copy) => {
-            *other = copy;
+            replace_by(other, copy);
             whether(*map == *other)
         }
         Err(e) => refused(e),
@@ -219,7 +224,7 @@ fn extend<'a>(
     }
     match BTreeMap::try_from_iterator(world.alloc, pairs) {
         Ok(made) => {
-            *map = made;
+            replace_by(map, made);
             Answer::Text("done")
         }
         Err(e) => refused(e),

@@ -151,23 +151,14 @@ fn eighty_nine<'a>(
     Ok(map)
 }
 
-// Whether the entry's search makes so many comparisons, and the insertion or the removal that follows makes none.
-fn compares_in_its_search<'a>(
-    map: &mut Counted<'a>,
-    key: CountingKey<'a>,
-) -> Result<bool, TryReserveError> {
+// How many comparisons a look-up of the key makes, and whether it is there. They are then forgotten.
+fn look_up<'a>(map: &Counted<'a>, key: &CountingKey<'a>) -> (u64, bool) {
     key.comparisons.set(0);
-    let is_there = map.contains_key(&key);
-    let expected = key.comparisons.replace(0);
-    let entry = map.try_entry(key)?;
-    let is_right = key.comparisons.get() == expected
-        && match entry {
-            Entry::Vacant(entry) => !is_there && *entry.try_insert(key.number)? == key.number,
-            Entry::Occupied(entry) => is_there && entry.remove() == key.number,
-        };
-    Ok(is_right && key.comparisons.get() == expected)
+    let is_there = map.contains_key(key);
+    (key.comparisons.replace(0), is_there)
 }
 
+// The search makes the comparisons of a look-up; the insertion or the removal that follows makes none.
 #[test]
 fn an_entry_compares_in_its_search_alone(rt: HostRuntime) -> Result<(), Fail> {
     let comparisons = Cell::new(0);
@@ -177,7 +168,20 @@ fn an_entry_compares_in_its_search_alone(rt: HostRuntime) -> Result<(), Fail> {
             number,
             comparisons: &comparisons,
         };
-        assert!(rt; compares_in_its_search(&mut map, key)?);
+        let (expected, is_there) = look_up(&map, &key);
+        let entry = map.try_entry(key)?;
+        assert!(rt; comparisons.get() == expected);
+        match entry {
+            Entry::Vacant(entry) => {
+                let value = *entry.try_insert(number)?;
+                assert!(rt; !is_there && value == number);
+            }
+            Entry::Occupied(entry) => {
+                let value = entry.remove();
+                assert!(rt; is_there && value == number);
+            }
+        }
+        assert!(rt; comparisons.get() == expected);
     }
     Ok(())
 }
@@ -262,11 +266,12 @@ fn leaves_every_pair(alloc: Global, last: usize) -> Result<bool, TryReserveError
     } else {
         last.wrapping_add(1)
     };
+    let has_all = has_tracked_up_to(&map, length, &sought.key);
     Ok(
-        calls.get() == 1
+        has_all
+            && calls.get() == 1
             && were_dropped(&new, dropped, dropped)
-            && were_dropped(&kept, 0, 0)
-            && has_tracked_up_to(&map, length, &sought.key),
+            && were_dropped(&kept, 0, 0),
     )
 }
 
