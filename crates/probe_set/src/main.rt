@@ -45,10 +45,10 @@ fn answer<'a>(sets: &mut Sets<'a>, line: &str, out: &mut Out) {
     out.put(" ->");
     if name == "walk" {
         let kind = words.next().unwrap_or("");
-        walks::walk(sets, kind, words.next().unwrap_or(""), out);
+        walks::take_steps(sets, kind, words.next().unwrap_or(""), out);
     } else if name == "map" {
         let what = words.next().unwrap_or("");
-        maps::map(sets.alloc, what, words.next().unwrap_or(""), out);
+        maps::show_text(sets.alloc, what, words.next().unwrap_or(""), out);
     } else {
         call(sets, name, words, out);
     }

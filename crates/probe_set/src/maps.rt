@@ -19,7 +19,7 @@ fn odd(alloc: Global, count: u64) -> Result<Map, TryReserveError> {
 }
 
 // Answers with the texts of a map of so many pairs: of its own, of a walk over it, or of its entries.
-pub(crate) fn map(alloc: Global, what: &str, count: &str, out: &mut Out) {
+pub(crate) fn show_text(alloc: Global, what: &str, count: &str, out: &mut Out) {
     let count = count.parse::<u64>().unwrap_or(0);
     let Ok(map) = odd(alloc, count) else {
         return out.word("refused");

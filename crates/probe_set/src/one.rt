@@ -16,7 +16,9 @@ pub(crate) fn one_word<'a>(sets: &mut Sets<'a>, name: &str, word: &str, out: &mu
             _ => out.word("?"),
         }
     } else if let Some(item) = sets.item(word) {
-        look(sets, name, item, out);
+        if !look(sets, name, &item, out) {
+            take_out(sets, name, item, out);
+        }
     } else {
         out.word("?");
     }
@@ -80,16 +82,18 @@ fn is_number(item: Option<&Item<'_>>, number: u64) -> bool {
     }
 }
 
-fn look<'a>(sets: &mut Sets<'a>, name: &str, item: Item<'a>, out: &mut Out) {
+// Answers where the call only looks; whether it does.
+fn look<'a>(sets: &Sets<'a>, name: &str, item: &Item<'a>, out: &mut Out) -> bool {
     let mut count = Count::new();
     match name {
-        "contains" => out.is(sets.ours.contains(&item)),
-        "contains_counted" => out.is(sets.ours.contains_counted(&item, &mut count)),
-        "get" => out.lent(sets.ours.get(&item)),
-        "get_counted" => out.lent(sets.ours.get_counted(&item, &mut count)),
-        "lacks_above" => out.is(lacks_above(&sets.ours, &sets.theirs, &item)),
-        _ => take_out(sets, name, item, out),
+        "contains" => out.is(sets.ours.contains(item)),
+        "contains_counted" => out.is(sets.ours.contains_counted(item, &mut count)),
+        "get" => out.lent(sets.ours.get(item)),
+        "get_counted" => out.lent(sets.ours.get_counted(item, &mut count)),
+        "lacks_above" => out.is(lacks_above(&sets.ours, &sets.theirs, item)),
+        _ => return false,
     }
+    true
 }
 
 // Whether an item of ours that is above the least is missing in theirs.

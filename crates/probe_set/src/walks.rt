@@ -79,7 +79,7 @@ impl<'s, 'a> Walk<'s, 'a> {
 }
 
 // Takes the steps of a walk of this kind: one letter each.
-pub(crate) fn walk<'a>(sets: &mut Sets<'a>, kind: &str, steps: &str, out: &mut Out) {
+pub(crate) fn take_steps<'a>(sets: &mut Sets<'a>, kind: &str, steps: &str, out: &mut Out) {
     let (ours, theirs) = (&sets.ours, &sets.theirs);
     match kind {
         "iter" => borrowed(Walk::All(ours.iter()), steps, out),
