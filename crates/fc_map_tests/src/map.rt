@@ -113,16 +113,15 @@ fn only_a_full_leaf_refuses(small: &mut Numbers, large: &mut Numbers) -> bool {
         && matches!(insert(large, 0, 0), Ok(None))
 }
 
-// Where a run gets its memory from elsewhere, as one without proof does, this shows nothing.
+// A run that gets its memory from elsewhere, as one without proof does, would show nothing, and fails.
 #[test]
 fn with_all_memory_refused_only_a_full_leaf_refuses(rt: HostRuntime) -> Result<(), Fail> {
     let mut small = multiples(rt.alloc(), 1, 11, 1)?;
     let mut large = multiples(rt.alloc(), 1, 89, 1)?;
     let held = take_all_memory(rt.alloc())?;
-    let shows = !has_memory(rt.alloc());
-    let is_right = !shows || only_a_full_leaf_refuses(&mut small, &mut large);
+    let is_right = !has_memory(rt.alloc()) && only_a_full_leaf_refuses(&mut small, &mut large);
     drop(held);
-    assert!(rt; is_right && (!shows || has_up_to(&small, 11) && large.len() == 89));
+    assert!(rt; is_right && has_up_to(&small, 11) && large.len() == 89);
     Ok(())
 }
 

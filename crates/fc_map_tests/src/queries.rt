@@ -78,17 +78,17 @@ fn a_text_is_written_at_and_removed(rt: HostRuntime) -> Result<(), Fail> {
     Ok(())
 }
 
-// Where a run gets its memory from elsewhere, as one without proof does, this shows nothing.
+// A run that gets its memory from elsewhere, as one without proof does, would show nothing, and fails.
 #[test]
 fn with_all_memory_refused_a_text_is_found(rt: HostRuntime) -> Result<(), Fail> {
     let mut map = words(rt.alloc())?;
     let held = take_all_memory(rt.alloc())?;
-    let is_right = has_memory(rt.alloc())
-        || String::from_str(rt.alloc(), "word").is_err()
-            && finds_each(&map)
-            && finds_no_other(&map)
-            && write_text(&mut map, "word", 70)
-            && takes_out(&mut map, "word", 70);
+    let is_right = !has_memory(rt.alloc())
+        && String::from_str(rt.alloc(), "word").is_err()
+        && finds_each(&map)
+        && finds_no_other(&map)
+        && write_text(&mut map, "word", 70)
+        && takes_out(&mut map, "word", 70);
     drop(held);
     assert!(rt; is_right);
     Ok(())
