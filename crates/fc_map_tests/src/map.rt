@@ -1,5 +1,5 @@
 //! The map under refused memory, by keys of another order, and by keys and values that count their drops.
-mod entries;
+pub(crate) mod entries;
 
 use crate::numbers::{Numbers, has_up_to, insert, is_lent, multiples};
 use fc_base::TryReserveError;

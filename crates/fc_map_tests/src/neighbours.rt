@@ -1,10 +1,19 @@
 //! The pairs next to a key, against numbers: for each key from below the first to beyond the last.
-use crate::map::{CountingKey, Tagged, ascending};
+use crate::map::entries::CountingKey;
 use fc_base::{Count, TryReserveError};
 use fc_map::map::BTreeMap;
 use std::alloc::Global;
 use std::cell::Cell;
 use std::test::Fail;
+
+// Two tagged numbers are equal where the numbers are, whatever their letters.
+#[derive(Clone, Copy, Debug)]
+#[derive_where(PartialEq, Eq, PartialOrd, Ord)]
+struct Tagged {
+    number: u64,
+    #[derive_where(skip(EqHashOrd))]
+    letter: char,
+}
 
 // The even numbers from 2 on, so many, each with its tenfold, put in from the first on.
 fn even(alloc: Global, n: u64) -> Result<BTreeMap<u64, u64>, TryReserveError> {
@@ -104,6 +113,24 @@ fn neighbours_are_the_keys_of_the_map(rt: HostRuntime) -> Result<(), Fail> {
         assert!(rt; is_tagged(map.last_before(&key), number.wrapping_sub(1)));
     }
     Ok(())
+}
+
+// The keys from 1 to the last, in this order.
+fn ascending<'a>(
+    alloc: Global,
+    last: u64,
+    comparisons: &'a Cell<u64>,
+) -> Result<BTreeMap<CountingKey<'a>, u64>, TryReserveError> {
+    let mut map = BTreeMap::new(alloc);
+    for below in 0..last {
+        let number = below + 1;
+        let key = CountingKey {
+            number,
+            comparisons,
+        };
+        map.try_insert(key, number)?;
+    }
+    Ok(map)
 }
 
 // Whether each of the four calls compares as often as a look-up of the key does.

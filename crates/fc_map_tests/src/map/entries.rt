@@ -88,9 +88,9 @@ fn each_gap_of_a_full_leaf_is_filled(rt: HostRuntime) -> Result<(), Fail> {
 
 // A number as a key, which counts each of its comparisons.
 #[derive(Clone, Copy)]
-struct CountingKey<'a> {
-    number: u64,
-    comparisons: &'a Cell<u64>,
+pub(crate) struct CountingKey<'a> {
+    pub(crate) number: u64,
+    pub(crate) comparisons: &'a Cell<u64>,
 }
 
 impl PartialEq for CountingKey<'_> {
