@@ -1,5 +1,5 @@
 //! The items next to another, against numbers: for each item from below the first to beyond the last.
-use crate::items::CountingItem;
+use crate::counting::CountingItem;
 use fc_base::{Count, TryReserveError};
 use fc_set::set::BTreeSet;
 use std::alloc::Global;
