@@ -77,7 +77,7 @@ fn serve(rt: &(impl Input + Print), world: World<'_>) -> io::Result<()> {
     for byte in rt.reader().bytes() {
         let byte = byte?;
         if byte == b'\n' {
-            answer_line(rt, &mut map, &mut other, world, &line[..len])?;
+            answer_line(rt, &mut map, &mut other, world, front_of(&line, len))?;
             len = 0;
         } else if len < LONGEST {
             line[len] = byte;
@@ -85,6 +85,14 @@ fn serve(rt: &(impl Input + Print), world: World<'_>) -> io::Result<()> {
         }
     }
     Ok(())
+}
+
+// The first so many bytes, or all where there are no more.
+fn front_of(line: &[u8], len: usize) -> &[u8] {
+    match line.get(..len) {
+        Some(front) => front,
+        None => line,
+    }
 }
 
 // A heading is repeated; each other line is repeated with its answers.
