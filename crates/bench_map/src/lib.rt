@@ -2,6 +2,7 @@
 #![tactic(auto)]
 
 mod hashed;
+mod neighbours;
 mod reading;
 mod sets;
 mod vectors;

@@ -1,20 +1,23 @@
 -- The interval across a point, and the value at a point, by the last interval that starts there or before.
-use Rattle.std.proofs.Common.{◌≡◌, ◌∙◌, ℕ, ◌≤◌, ◌<◌, ◌⊎◌, inl, inr, Bool, true, false, List, [], Option, Some, None, refl, sym, ap, subst, arith}
-use Rattle.std.specs.Prelude.{filter, ◌&&◌, IsSome, IfSome}
+use Rattle.std.proofs.Common.{◌≡◌, ◌∙◌, ℕ, ◌≤◌, ◌<◌, ◌⊎◌, inl, inr, List, Option, Some, None, refl, sym, ap, subst, arith}
+use Rattle.std.specs.Prelude.{IsSome, IfSome}
 use Rattle.std.specs.Ordering.{nat_cmp, is_lt, is_le, is_gt}
 use Rattle.std.proofs.lemmas.Bool.{cases_order}
-use Rattle.fallible_collections.specs.Words.{value_at, at}
+use Rattle.std.proofs.lemmas.Cmp.{nat_cmp_total}
+use Rattle.std.proofs.lemmas.Map.Keys.{le_from_is_le}
+use Rattle.std.proofs.lemmas.Map.Lookups.{exact_unsigned}
+use Rattle.fallible_collections.specs.Words.{above, at, below, first_of, last_of, not_above, value_at, IsAscending}
+use Rattle.fallible_collections.proofs.Laws.{exact_pair, first_there, first_passes, first_least, first_none}
 use Rattle.example_intervals.specs.Spans.{IsIn, AreApart, HasValue, IsAcross}
 use Rattle.example_intervals.specs.declared.spans.Span.{Span}
-use Rattle.example_intervals.proofs.Passing.{IsFirst, IsLast, none_passes, is_above, is_above_to, is_below, is_below_to, is_up_to, is_up_to_to}
+use Rattle.example_intervals.proofs.Passing.{IsLast, last_passing, none_passes, is_above, is_above_to, is_below, is_below_to, is_up_to, is_up_to_to}
 
 module _ (spans : List (ℕ × Span)) (p : ℕ) where
-  -- the test of a range up to a point, without it or with it
-  pub across_some : (last : ℕ × Span) → IsLast (λ k. is_lt (nat_cmp k p)) spans last → p < last.1.end → IsAcross spans p (Some last)
-  across_some last l e = (l.held, is_below last.0 p l.passes, e)
+  pub across_some : (last : ℕ × Span) → IsAscending nat_cmp spans → Some last ≡ last_of (below nat_cmp spans p) → p < last.1.end → IsAcross spans p (Some last)
+  across_some last asc found e = let l = last_passing (λ k. is_lt (nat_cmp k p)) spans last asc found in (l.held, is_below last.0 p l.passes, e)
 
-  pub across_none : (last : ℕ × Span) → AreApart spans → IsLast (λ k. is_lt (nat_cmp k p)) spans last → last.1.end ≤ p → IsAcross spans p None
-  across_none last a l e s x h b = ended s x last p h l.held (l.greatest s x h (is_below_to s p b)) e
+  pub across_none : (last : ℕ × Span) → AreApart spans → IsAscending nat_cmp spans → Some last ≡ last_of (below nat_cmp spans p) → last.1.end ≤ p → IsAcross spans p None
+  across_none last a asc found e s x h b = let l = last_passing (λ k. is_lt (nat_cmp k p)) spans last asc found in ended s x last p h l.held (l.greatest s x h (is_below_to s p b)) e
     where
       ended : (s : ℕ) (x : Span) (last : ℕ × Span) (p : ℕ) → IsIn spans s x → IsIn spans last.0 last.1 → s ≤ last.0 → last.1.end ≤ p → x.end ≤ p
       ended s x last p h i b e = go (cases_order s last.0)
@@ -24,15 +27,18 @@ module _ (spans : List (ℕ × Span)) (p : ℕ) where
           go (inr (inl q)) = let c = a.apart s last.0 x last.1 h i q in let d = a.whole last.0 last.1 i in omega arith
           go (inr (inr q)) = absurd (omega arith)
 
-  pub across_empty : filter (λ e. is_lt (nat_cmp e.0 p)) spans ≡ [] → IsAcross spans p None
+  pub across_empty : None ≡ last_of (below nat_cmp spans p) → IsAcross spans p None
   across_empty f s x h b = absurd (none_passes (λ k. is_lt (nat_cmp k p)) spans f s x h (is_below_to s p b))
 
-  pub value_some : (last : ℕ × Span) → IsLast (λ k. is_le (nat_cmp k p)) spans last → p < last.1.end → HasValue spans p last.1.value
-  value_some last l e = record { start = last.0; span = last.1; held = l.held; from = is_up_to last.0 p l.passes; to = e; value = refl }
+  pub value_some : (last : ℕ × Span) → IsAscending nat_cmp spans → Some last ≡ last_of (not_above nat_cmp spans p) → p < last.1.end → HasValue spans p last.1.value
+  value_some last asc found e = let l = last_passing (λ k. is_le (nat_cmp k p)) spans last asc found in record { start = last.0; span = last.1; held = l.held; from = is_up_to last.0 p l.passes; to = e; value = refl }
 
-  pub value_none : (last : ℕ × Span) → AreApart spans → IsLast (λ k. is_le (nat_cmp k p)) spans last → last.1.end ≤ p → (v : ℕ) → HasValue spans p v → ⊥
-  value_none last a l e v h = go (cases_order h.start last.0)
+  pub value_none : (last : ℕ × Span) → AreApart spans → IsAscending nat_cmp spans → Some last ≡ last_of (not_above nat_cmp spans p) → last.1.end ≤ p → (v : ℕ) → HasValue spans p v → ⊥
+  value_none last a asc found e v h = go (cases_order h.start last.0)
     where
+      l : IsLast (λ k. is_le (nat_cmp k p)) spans last
+      l = last_passing (λ k. is_le (nat_cmp k p)) spans last asc found
+
       go : (h.start ≡ last.0) ⊎ ((h.start < last.0) ⊎ (last.0 < h.start)) → ⊥
       go (inl q) =
           let g : Some h.span ≡ Some last.1 = sym h.held ∙ ap (λ n. value_at nat_cmp spans n) q ∙ l.held in
@@ -42,7 +48,7 @@ module _ (spans : List (ℕ × Span)) (p : ℕ) where
       go (inr (inl q)) = let c = a.apart h.start last.0 h.span last.1 h.held l.held q in let m = h.to in let n = is_up_to last.0 p l.passes in omega arith
       go (inr (inr q)) = let m = l.greatest h.start h.span h.held (is_up_to_to h.start p h.from) in omega arith
 
-  pub value_empty : filter (λ e. is_le (nat_cmp e.0 p)) spans ≡ [] → (v : ℕ) → HasValue spans p v → ⊥
+  pub value_empty : None ≡ last_of (not_above nat_cmp spans p) → (v : ℕ) → HasValue spans p v → ⊥
   value_empty f v h = none_passes (λ k. is_le (nat_cmp k p)) spans f h.start h.span h.held (is_up_to_to h.start p h.from)
 
   absent : (o : Option (ℕ × Span)) → at nat_cmp spans p ≡ o → ((x : Span) → IsIn spans p x → ⊥) → at nat_cmp spans p ≡ None
@@ -57,27 +63,26 @@ module _ (spans : List (ℕ × Span)) (p : ℕ) where
   new_end None a c = tt
   new_end (Some e) a c = new_start e a c
 
--- the test of a range between two starts, without both
-abbrev pub between : ℕ → ℕ → ℕ → Bool
-between lo hi k = is_gt (nat_cmp k lo) && is_lt (nat_cmp k hi)
+-- the first interval that starts behind one point, where it starts in front of another, and where it does not
+module _ (spans : List (ℕ × Span)) (lo : ℕ) where
+  there : (o : Option (ℕ × Span)) (e : ℕ × Span) → at nat_cmp spans e.0 ≡ o → o ≡ Some e → IsSome (at nat_cmp spans e.0)
+  there o e q h = rw (q, h) refl
 
-both : (a b : Bool) → a && b ≡ true → (a ≡ true) × (b ≡ true)
-both true b h = (refl, h)
-both false b h = absurd cc
+  pub some_between : (hi : ℕ) (first : ℕ × Span) → IsAscending nat_cmp spans → Some first ≡ first_of (above nat_cmp spans lo) → first.0 < hi → (lo < first.0) × (first.0 < hi) × IsSome (at nat_cmp spans first.0)
+  some_between hi first a f l = (
+    is_above first.0 lo (first_passes nat_cmp (λ k. is_gt (nat_cmp k lo)) spans first (sym f)),
+    l,
+    there _ first refl (first_there nat_cmp (λ k. is_gt (nat_cmp k lo)) spans first nat_cmp_total a (sym f)),
+  )
 
-module _ (spans : List (ℕ × Span)) (lo hi : ℕ) where
-  there : (o : Option (ℕ × Span)) (k : ℕ) (x : Span) → at nat_cmp spans k ≡ o → IsIn spans k x → IsSome (at nat_cmp spans k)
-  there None k x q h = absurd (let n : None ≡ Some x = rw q at h in cc)
-  there (Some e) k x q h = rw q refl
+  nothing : (s : ℕ) → ((x : Span) → IsIn spans s x → ⊥) → (o : Option Span) → value_at nat_cmp spans s ≡ o → value_at nat_cmp spans s ≡ None
+  nothing s not None q = q
+  nothing s not (Some x) q = absurd (not x q)
 
-  pub some_between : (first : ℕ × Span) → IsFirst (between lo hi) spans first → (lo < first.0) × (first.0 < hi) × IsSome (at nat_cmp spans first.0)
-  some_between first f =
-      let b = both (is_gt (nat_cmp first.0 lo)) (is_lt (nat_cmp first.0 hi)) f.passes in
-      (is_above first.0 lo b.0, is_below first.0 hi b.1, there (at nat_cmp spans first.0) first.0 first.1 refl f.held)
+  pub none_behind : None ≡ first_of (above nat_cmp spans lo) → (s : ℕ) → lo < s → value_at nat_cmp spans s ≡ None
+  none_behind f s b = nothing s (λ x h. first_none nat_cmp (λ k. is_gt (nat_cmp k lo)) spans s (s, x) (sym f) (exact_pair nat_cmp spans s x exact_unsigned h) (is_above_to s lo b)) _ refl
 
-  pub none_between : filter (λ e. between lo hi e.0) spans ≡ [] → (s : ℕ) → lo < s → s < hi → value_at nat_cmp spans s ≡ None
-  none_between f s a b = go (value_at nat_cmp spans s) refl
-    where
-      go : (o : Option Span) → value_at nat_cmp spans s ≡ o → value_at nat_cmp spans s ≡ None
-      go None q = q
-      go (Some x) q = absurd (none_passes (between lo hi) spans f s x q (let c = is_above_to s lo a in rw c (is_below_to s hi b)))
+  pub none_ahead : (first : ℕ × Span) → IsAscending nat_cmp spans → Some first ≡ first_of (above nat_cmp spans lo) → (s : ℕ) → lo < s → s < first.0 → value_at nat_cmp spans s ≡ None
+  none_ahead first a f s b l =
+      let least = λ (x : Span) (h : IsIn spans s x). le_from_is_le first.0 s (first_least nat_cmp (λ k. is_gt (nat_cmp k lo)) spans first s (s, x) nat_cmp_total a (sym f) (exact_pair nat_cmp spans s x exact_unsigned h) (is_above_to s lo b)) in
+      nothing s (λ x h. let m = least x h in absurd (omega arith)) _ refl

@@ -6,7 +6,6 @@ ghost use Rattle.example_intervals.specs.Spans.{AreApart, HasValue, IsAcross, Is
 
 use fallible_collections::TryReserveError;
 use fallible_collections::btree::BTreeMap;
-use std::ops::Bound;
 
 /// What an interval has beside its start.
 #[derive(Clone, Copy)]
@@ -21,9 +20,7 @@ pub fn value_at(spans: &BTreeMap<u64, Span>, point: u64) -> Option<u64>
     ensures some { IfSome result (λ v. HasValue (entries spans.now) point v) }
     ensures none { IfNone result ((v : ℕ) → ¬ (HasValue (entries spans.now) point v)) }
 {
-    let (_, span) = spans
-        .range((Bound::Unbounded, Bound::Included(&point)))
-        .next_back()?;
+    let (_, span) = spans.last_at_or_before(&point)?;
     if point < span.end {
         Some(span.value)
     } else {
@@ -37,9 +34,7 @@ pub fn across(spans: &BTreeMap<u64, Span>, point: u64) -> Option<(u64, Span)>
     ensures found { IsAcross (entries spans.now) point result }
     ensures ascending { IsAscending nat_cmp (entries spans.now) }
 {
-    let (start, span) = spans
-        .range((Bound::Unbounded, Bound::Excluded(&point)))
-        .next_back()?;
+    let (start, span) = spans.last_before(&point)?;
     if point < span.end {
         Some((*start, *span))
     } else {
@@ -91,7 +86,6 @@ pub fn end_at(spans: &mut BTreeMap<u64, Span>, front: Option<(u64, Span)>, point
 
 /// Takes out all intervals that start between two points.
 pub fn clear_between(spans: &mut BTreeMap<u64, Span>, lo: u64, hi: u64)
-    requires { lo < hi }
     ensures { IsCleared (entries spans.old) (entries spans.new) lo hi }
 {
     while let Some(start) = first_between(spans, lo, hi) {
@@ -101,13 +95,10 @@ pub fn clear_between(spans: &mut BTreeMap<u64, Span>, lo: u64, hi: u64)
 
 // The first start between two points, if there is one.
 fn first_between(spans: &BTreeMap<u64, Span>, lo: u64, hi: u64) -> Option<u64>
-    requires { lo < hi }
     ensures ascending { IsAscending nat_cmp (entries spans.now) }
     ensures some { IfSome result (λ s. (lo < s) × (s < hi) × IsSome (at nat_cmp (entries spans.now) s)) }
     ensures none { IfNone result ((s : ℕ) → lo < s → s < hi → value_at nat_cmp (entries spans.now) s ≡ None) }
 {
-    let (start, _) = spans
-        .range((Bound::Excluded(&lo), Bound::Excluded(&hi)))
-        .next()?;
-    Some(*start)
+    let (start, _) = spans.first_after(&lo)?;
+    if *start < hi { Some(*start) } else { None }
 }

@@ -8,6 +8,7 @@ pub use Rattle.fc_base.specs.Ranges.{bound_now, starts, stops, is_range, within}
 pub use Rattle.fc_base.specs.Growth.{growth_error, MayGrowRefuse, append_error, MayAppendRefuse}
 pub use Rattle.fc_base.specs.Joined.{placed, joined}
 pub use Rattle.fc_base.specs.Halves.{not_below}
+pub use Rattle.fc_search.specs.Neighbours.{not_above, first_of, last_of}
 pub use Rattle.fc_base.specs.Extended.{extended, IsExtendedUpTo}
 pub use Rattle.fc_base.specs.Copies.{IsExact, SameContents}
 pub use Rattle.fc_base.specs.Boxed.{boxed_value}
@@ -33,6 +34,7 @@ pub use Rattle.fc_visit.specs.Visits.{VisitsInTurn}
 pub use Rattle.fc_map.specs.Compare.{pair_eq, pair_cmp, pair_partial_cmp, pair_input}
 -- sets
 pub use Rattle.fc_set.specs.Items.{items, item_at, smaller, greater, not_smaller, without, AreAscending, with_item, with_replaced, items_within, joined_items, extended_items, AreExtendedUpTo}
+pub use Rattle.fc_set.specs.Neighbours.{not_greater}
 pub use Rattle.fc_set.specs.Operations.{difference, common, symmetric_difference, intersection, union}
 -- commands
 pub use Rattle.fc_command.specs.Step.{IsNew, Step, Runs}

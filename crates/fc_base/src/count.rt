@@ -57,22 +57,3 @@ pub fn compare<K: Ord, Q: Query<K>>(key: &K, query: Q, count: &mut Count) -> Ord
     count.record(1, 0);
     query.order_of(key)
 }
-
-#[cfg(test)]
-mod tests {
-    use super::*;
-    use std::mem::size_of;
-
-    #[test]
-    fn takes_no_bytes(rt: HostRuntime) {
-        assert_eq!(rt; size_of::<Count>(), 0);
-    }
-
-    #[test]
-    fn compares_by_the_keys_order(rt: HostRuntime) {
-        let mut count = Count::new();
-        assert_eq!(rt; compare(&1u64, &2u64, &mut count), Ordering::Less);
-        assert_eq!(rt; compare(&2u64, &2u64, &mut count), Ordering::Equal);
-        assert_eq!(rt; compare(&3u64, &2u64, &mut count), Ordering::Greater);
-    }
-}

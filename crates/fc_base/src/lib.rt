@@ -7,8 +7,6 @@ pub mod count;
 pub mod list_laws;
 pub mod query;
 pub mod rc;
-#[cfg(test)]
-mod tokens;
 pub mod try_clone;
 pub mod try_reserve_error;
 

@@ -141,24 +141,3 @@ impl TryClone for bool {
         Ok(*self)
     }
 }
-
-#[cfg(test)]
-mod tests {
-    use super::*;
-
-    #[test]
-    fn numbers_and_bool_are_copied(rt: HostRuntime) {
-        assert_eq!(rt; 5u8.try_clone(), Ok(5));
-        assert_eq!(rt; 5u16.try_clone(), Ok(5));
-        assert_eq!(rt; 5u32.try_clone(), Ok(5));
-        assert_eq!(rt; u64::MAX.try_clone(), Ok(u64::MAX));
-        assert_eq!(rt; usize::MAX.try_clone(), Ok(usize::MAX));
-        assert_eq!(rt; (-5i8).try_clone(), Ok(-5));
-        assert_eq!(rt; (-5i16).try_clone(), Ok(-5));
-        assert_eq!(rt; (-5i32).try_clone(), Ok(-5));
-        assert_eq!(rt; i64::MIN.try_clone(), Ok(i64::MIN));
-        assert_eq!(rt; isize::MIN.try_clone(), Ok(isize::MIN));
-        assert_eq!(rt; true.try_clone(), Ok(true));
-        assert_eq!(rt; ().try_clone(), Ok(()));
-    }
-}

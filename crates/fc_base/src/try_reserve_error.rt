@@ -45,34 +45,3 @@ impl<T: Drop> From<AllocFailed<T>> for TryReserveError {
         TryReserveError::AllocError
     }
 }
-
-#[cfg(test)]
-mod tests {
-    use super::*;
-    use std::test::Fail;
-
-    #[test]
-    fn the_text_says_what_was_refused(rt: HostRuntime) -> Result<(), Fail> {
-        let overflow = TryReserveError::CapacityOverflow.to_string(rt.alloc())?;
-        assert_eq!(rt;
-            overflow.as_str(),
-            "the collection would pass usize::MAX items"
-        );
-        let alloc = TryReserveError::AllocError.to_string(rt.alloc())?;
-        assert_eq!(rt; alloc.as_str(), "the allocator refused the memory");
-        Ok(())
-    }
-
-    // More bytes than an allocation may have.
-    fn asked_for_too_much(rt: &HostRuntime) -> Result<Vec<u64>, TryReserveError> {
-        Ok(Vec::with_capacity(rt.alloc(), usize::MAX / 4)?)
-    }
-
-    #[test]
-    fn a_refused_request_is_an_alloc_error(rt: HostRuntime) {
-        assert_eq!(rt;
-            asked_for_too_much(&rt).err(),
-            Some(TryReserveError::AllocError)
-        );
-    }
-}

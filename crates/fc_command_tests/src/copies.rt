@@ -1,4 +1,4 @@
-//! Commands whose copies are refused by the key or the value itself, and runs that nothing refuses.
+//! Commands over keys and values of the tests' own, whose copies are refused by the key or by the value itself.
 ghost use Rattle.std.specs.Prelude.{◌≡◌};
 
 use fc_base::{TryClone, TryReserveError};
@@ -47,89 +47,139 @@ impl TryClone for FussyKey {
     }
 }
 
-// Whether a reply is this refusal.
-fn is_refused_by<K: Drop, V: Drop>(reply: Reply<K, V>, error: TryReserveError) -> bool {
+type Fussies = World<FussyKey, Fussy>;
+
+type FussyReply = Reply<FussyKey, Fussy>;
+
+fn step(world: &mut Fussies, command: Command<FussyKey, Fussy>) -> FussyReply {
+    world.step(command)
+}
+
+fn key(number: u64, refuses: bool) -> FussyKey {
+    FussyKey { number, refuses }
+}
+
+fn value(number: u64, refusal: Option<TryReserveError>) -> Fussy {
+    Fussy { number, refusal }
+}
+
+fn is_refused_by(reply: &FussyReply, error: TryReserveError) -> bool {
     match reply {
-        Reply::Refused(refusal) => refusal == error,
+        Reply::Refused(refusal) => *refusal == error,
         _ => false,
     }
 }
 
-// A walk of one step from the front of the first map.
-fn one_step<K, V>(alloc: Global) -> Result<Command<K, V>, AllocError> {
+fn is_none(reply: &FussyReply) -> bool {
+    matches!(reply, Reply::Value(None))
+}
+
+fn is_number(reply: &FussyReply, number: u64) -> bool {
+    match reply {
+        Reply::Value(Some(found)) => found.number == number,
+        _ => false,
+    }
+}
+
+fn is_len(reply: &FussyReply, wanted: usize) -> bool {
+    matches!(reply, Reply::Len(len) if *len == wanted)
+}
+
+// A walk of so many steps from the front.
+fn walk(alloc: Global, side: Side, steps: usize) -> Result<Command<FussyKey, Fussy>, AllocError> {
     let mut ends = Vec::new(alloc);
-    ends.push(End::Front)?;
-    Ok(Command::Walk(
-        Side::First,
-        Bound::Unbounded,
-        Bound::Unbounded,
-        Items::from(ends),
-    ))
+    for _ in 0..steps {
+        ends.push(End::Front)?;
+    }
+    Ok(Command::Walk(side, Bound::Unbounded, Bound::Unbounded, Items::from(ends)))
+}
+
+// Whether a pair is put in, of which no copy is to be had without that error.
+fn refuses_copies(
+    alloc: Global,
+    world: &mut Fussies,
+    at: FussyKey,
+    error: TryReserveError,
+) -> bool {
+    let Ok(one_step) = walk(alloc, Side::First, 1) else {
+        return false;
+    };
+    is_refused_by(&step(world, Command::GetKeyValue(Side::First, at)), error)
+        && is_refused_by(&step(world, one_step), error)
+        && is_len(&step(world, Command::Len(Side::First)), 1)
 }
 
 #[test]
-fn a_values_own_refusal_is_the_reply(rt: HostRuntime) -> Result<(), Fail> {
+fn a_values_own_refusal_is_the_reply(rt: HostRuntime) {
     for error in [
         TryReserveError::AllocError,
         TryReserveError::CapacityOverflow,
     ] {
         let mut world = World::new(rt.alloc());
-        let value = Fussy {
-            number: 7,
-            refusal: Some(error),
-        };
-        let inserted = world.step(Command::Insert(Side::First, 1u64, value));
-        assert!(rt; matches!(inserted, Reply::Value(None)));
-        assert!(rt; is_refused_by(world.step(Command::Get(Side::First, 1)), error));
-        assert!(rt; is_refused_by(world.step(Command::GetKeyValue(Side::First, 1)), error));
-        assert!(rt; is_refused_by(world.step(one_step(rt.alloc())?), error));
-        assert!(rt; world.a.len() == 1);
+        let at = key(1, false);
+        let inserted = step(
+            &mut world,
+            Command::Insert(Side::First, at, value(7, Some(error))),
+        );
+        assert!(rt; is_none(&inserted));
+        assert!(rt; is_refused_by(&step(&mut world, Command::Get(Side::First, at)), error));
+        assert!(rt; refuses_copies(rt.alloc(), &mut world, at, error));
     }
-    Ok(())
 }
 
 #[test]
-fn a_keys_own_refusal_is_the_reply(rt: HostRuntime) -> Result<(), Fail> {
+fn a_keys_own_refusal_is_the_reply(rt: HostRuntime) {
     let mut world = World::new(rt.alloc());
-    let key = FussyKey {
-        number: 1,
-        refuses: true,
-    };
-    let error = TryReserveError::CapacityOverflow;
-    let inserted = world.step(Command::Insert(Side::First, key, 5u64));
-    assert!(rt; matches!(inserted, Reply::Value(None)));
+    let at = key(1, true);
+    let inserted = step(&mut world, Command::Insert(Side::First, at, value(5, None)));
+    assert!(rt; is_none(&inserted));
+    assert!(rt; is_number(&step(&mut world, Command::Get(Side::First, at)), 5));
     assert!(rt;
-        matches!(
-            world.step(Command::Get(Side::First, key)),
-            Reply::Value(Some(5))
+        refuses_copies(
+            rt.alloc(),
+            &mut world,
+            at,
+            TryReserveError::CapacityOverflow
         )
     );
-    assert!(rt; is_refused_by(world.step(Command::GetKeyValue(Side::First, key)), error));
-    assert!(rt; is_refused_by(world.step(one_step(rt.alloc())?), error));
-    assert!(rt; world.a.len() == 1);
-    Ok(())
+}
+
+// Writes behind the key 0 up to the key 1, from both ends.
+fn write_from_both_ends(alloc: Global) -> Result<Command<FussyKey, Fussy>, AllocError> {
+    let mut writes = Vec::new(alloc);
+    writes.push((End::Back, value(8, None)))?;
+    writes.push((End::Front, value(9, None)))?;
+    Ok(Command::Write(
+        Side::Second,
+        Bound::Excluded(key(0, false)),
+        Bound::Included(key(1, false)),
+        Items::from(writes),
+    ))
+}
+
+// Whether a walk of two steps gave the key 1 with the value 8, and then nothing.
+fn is_one_pair(reply: &FussyReply) -> bool {
+    match reply {
+        Reply::Pairs(steps) => match steps.as_slice() {
+            [Some((at, found)), None] => at.number == 1 && found.number == 8,
+            _ => false,
+        },
+        _ => false,
+    }
 }
 
 #[test]
-fn a_run_of_no_commands_answers_no_reply(rt: HostRuntime) -> Result<(), Fail> {
-    let mut world: World<u64, u64> = World::new(rt.alloc());
-    let replies = world.run(Vec::new(rt.alloc()))?;
-    assert!(rt; replies.is_empty());
+fn one_command_at_a_time_over_any_keys(rt: HostRuntime) -> Result<(), Fail> {
+    let mut world = World::new(rt.alloc());
+    let at = key(1, false);
+    let insert = Command::Insert(Side::Second, at, value(7, None));
+    let write = write_from_both_ends(rt.alloc())?;
+    let two_steps = walk(rt.alloc(), Side::Second, 2)?;
+    assert!(rt; is_none(&step(&mut world, insert)));
+    assert!(rt; is_len(&step(&mut world, Command::Len(Side::Second)), 1));
+    assert!(rt; is_none(&step(&mut world, Command::Get(Side::First, at))));
+    assert!(rt; is_number(&step(&mut world, Command::Get(Side::Second, at)), 7));
+    assert!(rt; is_len(&step(&mut world, write), 1));
+    assert!(rt; is_one_pair(&step(&mut world, two_steps)));
     Ok(())
-}
-
-// Five hundred pairs stand on three levels: each new key is put in, and found.
-#[test]
-fn a_world_of_three_levels_refuses_no_new_key(rt: HostRuntime) {
-    let mut world: World<u64, u64> = World::new(rt.alloc());
-    for key in 0..500u64 {
-        let inserted = world.step(Command::Insert(Side::Second, key, key));
-        assert!(rt; matches!(inserted, Reply::Value(None)));
-    }
-    for key in 0..500u64 {
-        match world.step(Command::Get(Side::Second, key)) {
-            Reply::Value(Some(value)) => assert!(rt; value == key),
-            _ => assert!(rt; false),
-        }
-    }
 }

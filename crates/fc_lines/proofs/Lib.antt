@@ -1,3 +1,4 @@
 pub mod LineFacts
 pub mod ReadFacts
 pub mod PairFacts
+mod ExampleFacts

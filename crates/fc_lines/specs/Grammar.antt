@@ -142,49 +142,53 @@ abbrev pub ends : Command ℕ ℕ → List (List ℕ) → Option (Command ℕ �
 ends command [] = Some command
 ends command (word ∷ words) = None
 
--- The words after `insert` are a map, a key and a value.
-unfoldable pub insert_of : List (List ℕ) → Option (Command ℕ ℕ)
-insert_of words = do
+-- The command that a word asks for on a map.
+abbrev pub on_map : List ℕ → Side → Option (Command ℕ ℕ)
+on_map word m = if is_text word (codes "len") then Some (Len m)
+    else if is_text word (codes "clear") then Some (Clear m)
+    else if is_text word (codes "append") then Some (Append m)
+    else if is_text word (codes "copy") then Some (TryClone m)
+    else None
+
+-- The command that a word asks for on a map and a key.
+abbrev pub on_key : List ℕ → Side → ℕ → Option (Command ℕ ℕ)
+on_key word m k = if is_text word (codes "get") then Some (Get m k)
+    else if is_text word (codes "pair") then Some (GetKeyValue m k)
+    else if is_text word (codes "has") then Some (ContainsKey m k)
+    else if is_text word (codes "remove") then Some (Remove m k)
+    else if is_text word (codes "evict") then Some (RemoveEntry m k)
+    else if is_text word (codes "split") then Some (SplitOff m k)
+    else None
+
+-- The command that a word asks for on a map, a key and a value.
+abbrev pub on_pair : List ℕ → Side → ℕ → ℕ → Option (Command ℕ ℕ)
+on_pair word m k v = if is_text word (codes "insert") then Some (Insert m k v)
+    else if is_text word (codes "set") then Some (Set m k v)
+    else None
+
+-- The words after such a word are a map.
+unfoldable pub with_map_of : List ℕ → List (List ℕ) → Option (Command ℕ ℕ)
+with_map_of word words = do
+  m ← map_at words
+  command ← on_map word m.0
+  ends command m.1
+
+-- The words after such a word are a map and a key.
+unfoldable pub with_key_of : List ℕ → List (List ℕ) → Option (Command ℕ ℕ)
+with_key_of word words = do
+  m ← map_at words
+  k ← number_at m.1
+  command ← on_key word m.0 k.0
+  ends command k.1
+
+-- The words after such a word are a map, a key and a value.
+unfoldable pub with_pair_of : List ℕ → List (List ℕ) → Option (Command ℕ ℕ)
+with_pair_of word words = do
   m ← map_at words
   k ← number_at m.1
   v ← number_at k.1
-  ends (Insert m.0 k.0 v.0) v.1
-
--- The words after `get` are a map and a key.
-unfoldable pub get_of : List (List ℕ) → Option (Command ℕ ℕ)
-get_of words = do
-  m ← map_at words
-  k ← number_at m.1
-  ends (Get m.0 k.0) k.1
-
--- The words after `pair` are a map and a key.
-unfoldable pub pair_of : List (List ℕ) → Option (Command ℕ ℕ)
-pair_of words = do
-  m ← map_at words
-  k ← number_at m.1
-  ends (GetKeyValue m.0 k.0) k.1
-
--- The words after `has` are a map and a key.
-unfoldable pub has_of : List (List ℕ) → Option (Command ℕ ℕ)
-has_of words = do
-  m ← map_at words
-  k ← number_at m.1
-  ends (ContainsKey m.0 k.0) k.1
-
--- The words after `remove` are a map and a key.
-unfoldable pub remove_of : List (List ℕ) → Option (Command ℕ ℕ)
-remove_of words = do
-  m ← map_at words
-  k ← number_at m.1
-  ends (Remove m.0 k.0) k.1
-
--- The words after `set` are a map, a key and a value.
-unfoldable pub set_of : List (List ℕ) → Option (Command ℕ ℕ)
-set_of words = do
-  m ← map_at words
-  k ← number_at m.1
-  v ← number_at k.1
-  ends (Set m.0 k.0 v.0) v.1
+  command ← on_pair word m.0 k.0 v.0
+  ends command v.1
 
 -- The words after `entry` are a map, a key and two values.
 unfoldable pub entry_of : List (List ℕ) → Option (Command ℕ ℕ)
@@ -194,25 +198,6 @@ entry_of words = do
   v ← number_at k.1
   w ← number_at v.1
   ends (Entry m.0 k.0 v.0 w.0) w.1
-
--- The words after `evict` are a map and a key.
-unfoldable pub evict_of : List (List ℕ) → Option (Command ℕ ℕ)
-evict_of words = do
-  m ← map_at words
-  k ← number_at m.1
-  ends (RemoveEntry m.0 k.0) k.1
-
--- The word after `len` is a map.
-unfoldable pub len_of : List (List ℕ) → Option (Command ℕ ℕ)
-len_of words = do
-  m ← map_at words
-  ends (Len m.0) m.1
-
--- The word after `clear` is a map.
-unfoldable pub clear_of : List (List ℕ) → Option (Command ℕ ℕ)
-clear_of words = do
-  m ← map_at words
-  ends (Clear m.0) m.1
 
 -- The words after `walk` are a map, two bounds and one word of letters.
 unfoldable pub walk_of : List (List ℕ) → Option (Command ℕ ℕ)
@@ -233,25 +218,6 @@ write_of words = do
   writes ← some_read one_write_of hi.1
   Some (Write m.0 lo.0 hi.0 writes)
 
--- The word after `append` is a map.
-unfoldable pub append_of : List (List ℕ) → Option (Command ℕ ℕ)
-append_of words = do
-  m ← map_at words
-  ends (Append m.0) m.1
-
--- The words after `split` are a map and a key.
-unfoldable pub split_of : List (List ℕ) → Option (Command ℕ ℕ)
-split_of words = do
-  m ← map_at words
-  k ← number_at m.1
-  ends (SplitOff m.0 k.0) k.1
-
--- The word after `copy` is a map.
-unfoldable pub copy_of : List (List ℕ) → Option (Command ℕ ℕ)
-copy_of words = do
-  m ← map_at words
-  ends (TryClone m.0) m.1
-
 -- The words after `extend` are a map and one or more pairs.
 unfoldable pub extend_of : List (List ℕ) → Option (Command ℕ ℕ)
 extend_of words = do
@@ -259,22 +225,13 @@ extend_of words = do
   pairs ← some_pairs m.1
   Some (Extend m.0 pairs)
 
+-- The command on a map and a key, with a value or without.
+unfoldable pub keyed_of : List ℕ → List (List ℕ) → Option (Command ℕ ℕ)
+keyed_of word words = with_key_of word words or_else with_pair_of word words
+
 -- The command without a list that the words after its word ask for.
 unfoldable pub plain_of : List ℕ → List (List ℕ) → Option (Command ℕ ℕ)
-plain_of word words = if is_text word (codes "insert") then insert_of words
-    else if is_text word (codes "get") then get_of words
-    else if is_text word (codes "pair") then pair_of words
-    else if is_text word (codes "has") then has_of words
-    else if is_text word (codes "remove") then remove_of words
-    else if is_text word (codes "set") then set_of words
-    else if is_text word (codes "entry") then entry_of words
-    else if is_text word (codes "evict") then evict_of words
-    else if is_text word (codes "len") then len_of words
-    else if is_text word (codes "clear") then clear_of words
-    else if is_text word (codes "append") then append_of words
-    else if is_text word (codes "split") then split_of words
-    else if is_text word (codes "copy") then copy_of words
-    else None
+plain_of word words = if is_text word (codes "entry") then entry_of words else (with_map_of word words or_else keyed_of word words)
 
 -- The command on maps that the words ask for, by the first of them.
 unfoldable pub on_maps_of : List (List ℕ) → Option (Command ℕ ℕ)

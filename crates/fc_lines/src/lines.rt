@@ -9,6 +9,7 @@ ghost use Rattle.fc_lines.specs.Grammar.{
   command_of,
   number_of,
   map_of,
+  is_text,
   bound_of,
   end_of,
   one_write_of,
@@ -20,22 +21,17 @@ ghost use Rattle.fc_lines.specs.Grammar.{
   pair_at,
   some_pairs,
   ends,
-  insert_of,
-  get_of,
-  pair_of,
-  has_of,
-  remove_of,
-  set_of,
   entry_of,
-  evict_of,
-  len_of,
-  clear_of,
   walk_of,
   write_of,
-  append_of,
-  split_of,
-  copy_of,
   extend_of,
+  on_map,
+  on_key,
+  on_pair,
+  with_map_of,
+  with_key_of,
+  with_pair_of,
+  keyed_of,
   plain_of,
   on_maps_of,
 };
@@ -74,11 +70,11 @@ fn on_maps_in(alloc: Global, words: Option<&[u8]>) -> Result<Option<Command<u64,
     let Some((word, words)) = next_word(words) else {
         return Ok(None)
     };
-    if word == b"walk".as_slice() {
+    if is_word(word, b"walk") {
         walk_in(alloc, words)
-    } else if word == b"write".as_slice() {
+    } else if is_word(word, b"write") {
         write_in(alloc, words)
-    } else if word == b"extend".as_slice() {
+    } else if is_word(word, b"extend") {
         extend_in(alloc, words)
     } else {
         Ok(plain_in(word, words))
@@ -90,91 +86,105 @@ fn on_maps_in(alloc: Global, words: Option<&[u8]>) -> Result<Option<Command<u64,
 fn plain_in(word: &[u8], words: Option<&[u8]>) -> Option<Command<u64, u64>>
     ensures { result ≡ plain_of word.entry.now (words_left words.entry) }
 {
-    if word == b"insert".as_slice() {
-        insert_in(words)
-    } else if word == b"get".as_slice() {
-        get_in(words)
-    } else if word == b"pair".as_slice() {
-        pair_in(words)
-    } else if word == b"has".as_slice() {
-        has_in(words)
-    } else if word == b"remove".as_slice() {
-        remove_in(words)
-    } else if word == b"set".as_slice() {
-        set_in(words)
-    } else if word == b"entry".as_slice() {
-        entry_in(words)
-    } else if word == b"evict".as_slice() {
-        evict_in(words)
-    } else if word == b"len".as_slice() {
-        len_in(words)
-    } else if word == b"clear".as_slice() {
-        clear_in(words)
-    } else if word == b"append".as_slice() {
-        append_in(words)
-    } else if word == b"split".as_slice() {
-        split_in(words)
-    } else if word == b"copy".as_slice() {
-        copy_in(words)
+    if is_word(word, b"entry") {
+        return entry_in(words);
+    }
+    match with_map_in(word, words) {
+        Some(command) => Some(command),
+        None => keyed_in(word, words),
+    }
+}
+
+// The command on a map and a key, with a value or without.
+#[tactic(auto, unfolding(crate::specs::Grammar::keyed_of))]
+fn keyed_in(word: &[u8], words: Option<&[u8]>) -> Option<Command<u64, u64>>
+    ensures { result ≡ keyed_of word.entry.now (words_left words.entry) }
+{
+    match with_key_in(word, words) {
+        Some(command) => Some(command),
+        None => with_pair_in(word, words),
+    }
+}
+
+// The words after such a word are a map.
+#[tactic(auto, unfolding(crate::specs::Grammar::with_map_of))]
+fn with_map_in(word: &[u8], words: Option<&[u8]>) -> Option<Command<u64, u64>>
+    ensures { result ≡ with_map_of word.entry.now (words_left words.entry) }
+{
+    let (side, words) = next_map(words)?;
+    ending(on_map_in(word, side)?, words)
+}
+
+// The words after such a word are a map and a key.
+#[tactic(auto, unfolding(crate::specs::Grammar::with_key_of))]
+fn with_key_in(word: &[u8], words: Option<&[u8]>) -> Option<Command<u64, u64>>
+    ensures { result ≡ with_key_of word.entry.now (words_left words.entry) }
+{
+    let (side, words) = next_map(words)?;
+    let (key, words) = next_number(words)?;
+    ending(on_key_in(word, side, key)?, words)
+}
+
+// The words after such a word are a map, a key and a value.
+#[tactic(auto, unfolding(crate::specs::Grammar::with_pair_of))]
+fn with_pair_in(word: &[u8], words: Option<&[u8]>) -> Option<Command<u64, u64>>
+    ensures { result ≡ with_pair_of word.entry.now (words_left words.entry) }
+{
+    let (side, words) = next_map(words)?;
+    let (key, words) = next_number(words)?;
+    let (value, words) = next_number(words)?;
+    ending(on_pair_in(word, side, key, value)?, words)
+}
+
+// The command that a word asks for on a map.
+fn on_map_in(word: &[u8], side: Side) -> Option<Command<u64, u64>>
+    ensures { result ≡ on_map word.entry.now side }
+{
+    if is_word(word, b"len") {
+        Some(Command::Len(side))
+    } else if is_word(word, b"clear") {
+        Some(Command::Clear(side))
+    } else if is_word(word, b"append") {
+        Some(Command::Append(side))
+    } else if is_word(word, b"copy") {
+        Some(Command::TryClone(side))
     } else {
         None
     }
 }
 
-#[tactic(auto, unfolding(crate::specs::Grammar::insert_of))]
-fn insert_in(words: Option<&[u8]>) -> Option<Command<u64, u64>>
-    ensures { result ≡ insert_of (words_left words.entry) }
+// The command that a word asks for on a map and a key.
+fn on_key_in(word: &[u8], side: Side, key: u64) -> Option<Command<u64, u64>>
+    ensures { result ≡ on_key word.entry.now side key }
 {
-    let (side, words) = next_map(words)?;
-    let (key, words) = next_number(words)?;
-    let (value, words) = next_number(words)?;
-    ending(Command::Insert(side, key, value), words)
+    if is_word(word, b"get") {
+        Some(Command::Get(side, key))
+    } else if is_word(word, b"pair") {
+        Some(Command::GetKeyValue(side, key))
+    } else if is_word(word, b"has") {
+        Some(Command::ContainsKey(side, key))
+    } else if is_word(word, b"remove") {
+        Some(Command::Remove(side, key))
+    } else if is_word(word, b"evict") {
+        Some(Command::RemoveEntry(side, key))
+    } else if is_word(word, b"split") {
+        Some(Command::SplitOff(side, key))
+    } else {
+        None
+    }
 }
 
-#[tactic(auto, unfolding(crate::specs::Grammar::get_of))]
-fn get_in(words: Option<&[u8]>) -> Option<Command<u64, u64>>
-    ensures { result ≡ get_of (words_left words.entry) }
+// The command that a word asks for on a map, a key and a value.
+fn on_pair_in(word: &[u8], side: Side, key: u64, value: u64) -> Option<Command<u64, u64>>
+    ensures { result ≡ on_pair word.entry.now side key value }
 {
-    let (side, words) = next_map(words)?;
-    let (key, words) = next_number(words)?;
-    ending(Command::Get(side, key), words)
-}
-
-#[tactic(auto, unfolding(crate::specs::Grammar::pair_of))]
-fn pair_in(words: Option<&[u8]>) -> Option<Command<u64, u64>>
-    ensures { result ≡ pair_of (words_left words.entry) }
-{
-    let (side, words) = next_map(words)?;
-    let (key, words) = next_number(words)?;
-    ending(Command::GetKeyValue(side, key), words)
-}
-
-#[tactic(auto, unfolding(crate::specs::Grammar::has_of))]
-fn has_in(words: Option<&[u8]>) -> Option<Command<u64, u64>>
-    ensures { result ≡ has_of (words_left words.entry) }
-{
-    let (side, words) = next_map(words)?;
-    let (key, words) = next_number(words)?;
-    ending(Command::ContainsKey(side, key), words)
-}
-
-#[tactic(auto, unfolding(crate::specs::Grammar::remove_of))]
-fn remove_in(words: Option<&[u8]>) -> Option<Command<u64, u64>>
-    ensures { result ≡ remove_of (words_left words.entry) }
-{
-    let (side, words) = next_map(words)?;
-    let (key, words) = next_number(words)?;
-    ending(Command::Remove(side, key), words)
-}
-
-#[tactic(auto, unfolding(crate::specs::Grammar::set_of))]
-fn set_in(words: Option<&[u8]>) -> Option<Command<u64, u64>>
-    ensures { result ≡ set_of (words_left words.entry) }
-{
-    let (side, words) = next_map(words)?;
-    let (key, words) = next_number(words)?;
-    let (value, words) = next_number(words)?;
-    ending(Command::Set(side, key, value), words)
+    if is_word(word, b"insert") {
+        Some(Command::Insert(side, key, value))
+    } else if is_word(word, b"set") {
+        Some(Command::Set(side, key, value))
+    } else {
+        None
+    }
 }
 
 #[tactic(auto, unfolding(crate::specs::Grammar::entry_of))]
@@ -186,31 +196,6 @@ fn entry_in(words: Option<&[u8]>) -> Option<Command<u64, u64>>
     let (there, words) = next_number(words)?;
     let (new, words) = next_number(words)?;
     ending(Command::Entry(side, key, there, new), words)
-}
-
-#[tactic(auto, unfolding(crate::specs::Grammar::evict_of))]
-fn evict_in(words: Option<&[u8]>) -> Option<Command<u64, u64>>
-    ensures { result ≡ evict_of (words_left words.entry) }
-{
-    let (side, words) = next_map(words)?;
-    let (key, words) = next_number(words)?;
-    ending(Command::RemoveEntry(side, key), words)
-}
-
-#[tactic(auto, unfolding(crate::specs::Grammar::len_of))]
-fn len_in(words: Option<&[u8]>) -> Option<Command<u64, u64>>
-    ensures { result ≡ len_of (words_left words.entry) }
-{
-    let (side, words) = next_map(words)?;
-    ending(Command::Len(side), words)
-}
-
-#[tactic(auto, unfolding(crate::specs::Grammar::clear_of))]
-fn clear_in(words: Option<&[u8]>) -> Option<Command<u64, u64>>
-    ensures { result ≡ clear_of (words_left words.entry) }
-{
-    let (side, words) = next_map(words)?;
-    ending(Command::Clear(side), words)
 }
 
 #[tactic(auto, unfolding(crate::specs::Grammar::walk_of))]
@@ -252,31 +237,6 @@ fn write_in(alloc: Global, words: Option<&[u8]>) -> Result<Option<Command<u64, u
         return Ok(None)
     };
     Ok(Some(Command::Write(side, lo, hi, Items::from(list))))
-}
-
-#[tactic(auto, unfolding(crate::specs::Grammar::append_of))]
-fn append_in(words: Option<&[u8]>) -> Option<Command<u64, u64>>
-    ensures { result ≡ append_of (words_left words.entry) }
-{
-    let (side, words) = next_map(words)?;
-    ending(Command::Append(side), words)
-}
-
-#[tactic(auto, unfolding(crate::specs::Grammar::split_of))]
-fn split_in(words: Option<&[u8]>) -> Option<Command<u64, u64>>
-    ensures { result ≡ split_of (words_left words.entry) }
-{
-    let (side, words) = next_map(words)?;
-    let (key, words) = next_number(words)?;
-    ending(Command::SplitOff(side, key), words)
-}
-
-#[tactic(auto, unfolding(crate::specs::Grammar::copy_of))]
-fn copy_in(words: Option<&[u8]>) -> Option<Command<u64, u64>>
-    ensures { result ≡ copy_of (words_left words.entry) }
-{
-    let (side, words) = next_map(words)?;
-    ending(Command::TryClone(side), words)
 }
 
 #[tactic(auto, unfolding(crate::specs::Grammar::extend_of))]
@@ -425,12 +385,19 @@ fn end_in(letter: u8) -> Option<End>
     }
 }
 
+// Whether a word is this text.
+pub(crate) fn is_word(word: &[u8], text: &[u8]) -> bool
+    ensures { result ≡ is_text word.now text.now }
+{
+    word == text
+}
+
 fn map_in(word: &[u8]) -> Option<Side>
     ensures { result ≡ map_of word.now }
 {
-    if word == b"a".as_slice() {
+    if is_word(word, b"a") {
         Some(Side::First)
-    } else if word == b"b".as_slice() {
+    } else if is_word(word, b"b") {
         Some(Side::Second)
     } else {
         None

@@ -21,7 +21,9 @@ ghost use Rattle.fc_lines.specs.Grammar.{
 
 use crate::command::{Command, SetOp, Side};
 use crate::items::Items;
-use crate::lines::{ending, ends_in, first_word, next_bound, next_number, next_word, number_in};
+use crate::lines::{
+    ending, ends_in, first_word, is_word, next_bound, next_number, next_word, number_in,
+};
 use std::alloc::{AllocError, Global};
 
 // The command on sets that the words ask for.
@@ -47,7 +49,7 @@ pub fn on_sets_in(
 fn plain_in(word: &[u8], words: Option<&[u8]>) -> Option<Command<u64, u64>>
     ensures { result ≡ plain_on_sets_of word.entry.now (words_left words.entry) }
 {
-    if word == b"keep".as_slice() {
+    if is_word(word, b"keep") {
         return keep_in(words);
     }
     match set_in(word, words) {
@@ -79,21 +81,21 @@ fn set_and_item_in(word: &[u8], words: Option<&[u8]>) -> Option<Command<u64, u64
 fn with_set_in(word: &[u8], side: Side) -> Option<Command<u64, u64>>
     ensures { result ≡ with_set word.entry.now side }
 {
-    if word == b"len".as_slice() {
+    if is_word(word, b"len") {
         Some(Command::SetLen(side))
-    } else if word == b"clear".as_slice() {
+    } else if is_word(word, b"clear") {
         Some(Command::SetClear(side))
-    } else if word == b"append".as_slice() {
+    } else if is_word(word, b"append") {
         Some(Command::SetAppend(side))
-    } else if word == b"copy".as_slice() {
+    } else if is_word(word, b"copy") {
         Some(Command::SetClone(side))
-    } else if word == b"disjoint".as_slice() {
+    } else if is_word(word, b"disjoint") {
         Some(Command::IsDisjoint(side))
-    } else if word == b"subset".as_slice() {
+    } else if is_word(word, b"subset") {
         Some(Command::IsSubset(side))
-    } else if word == b"superset".as_slice() {
+    } else if is_word(word, b"superset") {
         Some(Command::IsSuperset(side))
-    } else if word == b"cmp".as_slice() {
+    } else if is_word(word, b"cmp") {
         Some(Command::SetCmp(side))
     } else {
         Some(Command::List(op_in(word)?, side))
@@ -104,19 +106,19 @@ fn with_set_in(word: &[u8], side: Side) -> Option<Command<u64, u64>>
 fn with_set_and_item_in(word: &[u8], side: Side, item: u64) -> Option<Command<u64, u64>>
     ensures { result ≡ with_set_and_item word.entry.now side item }
 {
-    if word == b"add".as_slice() {
+    if is_word(word, b"add") {
         Some(Command::AddItem(side, item))
-    } else if word == b"replace".as_slice() {
+    } else if is_word(word, b"replace") {
         Some(Command::ReplaceItem(side, item))
-    } else if word == b"take".as_slice() {
+    } else if is_word(word, b"take") {
         Some(Command::TakeItem(side, item))
-    } else if word == b"drop".as_slice() {
+    } else if is_word(word, b"drop") {
         Some(Command::RemoveItem(side, item))
-    } else if word == b"in".as_slice() {
+    } else if is_word(word, b"in") {
         Some(Command::ContainsItem(side, item))
-    } else if word == b"find".as_slice() {
+    } else if is_word(word, b"find") {
         Some(Command::GetItem(side, item))
-    } else if word == b"split".as_slice() {
+    } else if is_word(word, b"split") {
         Some(Command::SetSplitOff(side, item))
     } else {
         None
@@ -127,12 +129,16 @@ fn with_set_and_item_in(word: &[u8], side: Side, item: u64) -> Option<Command<u6
 fn op_in(word: &[u8]) -> Option<SetOp>
     ensures { result ≡ op_of word.entry.now }
 {
-    match word {
-        b"diff" => Some(SetOp::Difference),
-        b"sym" => Some(SetOp::SymmetricDifference),
-        b"inter" => Some(SetOp::Intersection),
-        b"union" => Some(SetOp::Union),
-        _ => None,
+    if is_word(word, b"diff") {
+        Some(SetOp::Difference)
+    } else if is_word(word, b"sym") {
+        Some(SetOp::SymmetricDifference)
+    } else if is_word(word, b"inter") {
+        Some(SetOp::Intersection)
+    } else if is_word(word, b"union") {
+        Some(SetOp::Union)
+    } else {
+        None
     }
 }
 

@@ -1,12 +1,11 @@
-//! Copies of maps: their pairs, what refused memory leaves, and what is dropped.
+//! Copies of maps whose memory is refused: what they leave, and what is dropped.
 ghost use Rattle.std.specs.Prelude.{◌≡◌};
 
-use crate::numbers::{has, is_lent_pair, is_number, numbers};
+use crate::map::{add_one, has_memory};
 use fc_base::{TryClone, TryReserveError};
 use fc_map::map::BTreeMap;
 use std::alloc::{AllocError, Global};
 use std::cell::Cell;
-use std::test::Fail;
 
 // How often a key or a value was copied, and how often it or a copy of it was dropped.
 #[derive(Drop)]
@@ -22,14 +21,12 @@ struct PairLives {
     value: Lives,
 }
 
-// A number whose copies and drops are counted, and whose copy is refused once no copy is left.
+// A number whose copies and drops are counted.
 #[derive_where(PartialEq, Eq, PartialOrd, Ord)]
 struct Counted<'a> {
     number: usize,
     #[derive_where(skip)]
     lives: &'a Lives,
-    #[derive_where(skip)]
-    left: &'a Cell<u64>,
 }
 
 impl Drop for Counted<'_> {
@@ -38,7 +35,6 @@ impl Drop for Counted<'_> {
         let Counted {
             number: _,
             lives: _,
-            left: _,
         } = self;
     }
 }
@@ -47,82 +43,15 @@ impl TryClone for Counted<'_> {
     ghost same = { λ source copy. copy.number ≡ source.number };
 
     fn try_clone(&self) -> Result<Self, TryReserveError> {
-        let left = self.left.get();
-        if left == 0 {
-            return Err(TryReserveError::CapacityOverflow);
-        }
-        self.left.set(left - 1);
         add_one(&self.lives.copies);
         Ok(Counted {
             number: self.number,
             lives: self.lives,
-            left: self.left,
         })
     }
 }
 
-fn add_one(count: &Cell<u64>) {
-    count.set(count.get().wrapping_add(1));
-}
-
-type Numbers = BTreeMap<u64, u64>;
-
 type CountedMap<'a> = BTreeMap<Counted<'a>, Counted<'a>>;
-
-// A copy, of which the tests know only what they see of it.
-fn copy_of(map: &Numbers) -> Result<Numbers, TryReserveError> {
-    map.try_clone()
-}
-
-// Whether the map has the numbers below `count`, each with itself, seen from both ends.
-fn counts_up_and_down(map: &Numbers, count: u64) -> bool {
-    let mut forward = map.iter();
-    let mut backward = map.iter();
-    for below in 0..count {
-        let above = count - 1 - below;
-        if !is_lent_pair(forward.next(), below, below)
-            || !is_lent_pair(backward.next_back(), above, above)
-        {
-            return false;
-        }
-    }
-    forward.next().is_none() && backward.next_back().is_none() && map.len() as u64 == count
-}
-
-#[test]
-fn a_copy_has_the_pairs_of_its_source(rt: HostRuntime) -> Result<(), Fail> {
-    for count in [0, 1, 11, 12, 100, 1500] {
-        let map = numbers(rt.alloc(), count)?;
-        let copy = copy_of(&map)?;
-        assert!(rt; map == copy);
-        assert!(rt; counts_up_and_down(&copy, count) && counts_up_and_down(&map, count));
-    }
-    Ok(())
-}
-
-// Puts a new number in, takes the first one out and writes to the last one; whether the map is then so.
-fn changes(map: &mut Numbers, count: u64) -> Result<bool, TryReserveError> {
-    let last = count.wrapping_sub(1);
-    let is_new = map.try_insert(count, 7)?.is_none();
-    let is_out = is_number(map.remove(&0), 0);
-    let is_written = is_number(map.try_insert(last, 7)?, last);
-    Ok(is_new && is_out && is_written && has(map, last, 7) && map.len() as u64 == count)
-}
-
-#[test]
-fn a_copy_and_its_source_are_written_apart(rt: HostRuntime) -> Result<(), Fail> {
-    for count in [2, 11, 12, 100, 1500] {
-        let mut map = numbers(rt.alloc(), count)?;
-        let mut copy = copy_of(&map)?;
-        assert!(rt; changes(&mut copy, count)? && counts_up_and_down(&map, count));
-        let again = copy_of(&map)?;
-        assert!(rt; changes(&mut map, count)? && counts_up_and_down(&again, count));
-        assert!(rt; map == copy);
-        drop(map);
-        assert!(rt; counts_up_and_down(&again, count) && has(&copy, count, 7));
-    }
-    Ok(())
-}
 
 fn no_lives() -> Lives {
     Lives {
@@ -143,22 +72,16 @@ fn fresh_lives(alloc: Global, count: usize) -> Result<Vec<PairLives>, AllocError
 }
 
 // A map of as many pairs as there are lives, of the numbers from 0 on, each with itself.
-fn counted_map<'a>(
-    alloc: Global,
-    all: &'a [PairLives],
-    left: &'a Cell<u64>,
-) -> Result<CountedMap<'a>, TryReserveError> {
+fn counted_map<'a>(alloc: Global, all: &'a [PairLives]) -> Result<CountedMap<'a>, TryReserveError> {
     let mut map = BTreeMap::new(alloc);
     for (number, lives) in all.iter().enumerate() {
         let key = Counted {
             number,
             lives: &lives.key,
-            left,
         };
         let value = Counted {
             number,
             lives: &lives.value,
-            left,
         };
         map.try_insert(key, value)?;
     }
@@ -206,17 +129,6 @@ fn have_lived(all: &[PairLives], copies: u64, drops: u64) -> bool {
     true
 }
 
-// How many keys and values were copied.
-fn copies_in(all: &[PairLives]) -> u64 {
-    let mut copies = 0u64;
-    for i in 0..all.len() {
-        copies = copies
-            .wrapping_add(all[i].key.copies.get())
-            .wrapping_add(all[i].value.copies.get());
-    }
-    copies
-}
-
 fn forget(lives: &Lives) {
     lives.copies.set(0);
     lives.drops.set(0);
@@ -241,50 +153,33 @@ fn is_undone(map: &CountedMap<'_>, all: &[PairLives]) -> bool {
     counts_up(map, all.len()) && are_copies_dropped(all)
 }
 
-fn has_memory(alloc: Global) -> bool {
-    Vec::<u8>::with_capacity(alloc, 1).is_ok()
+// Whether the map was copied, or the copy refused and undone; where memory is there again, it is then copied.
+fn is_copied_or_undone(alloc: Global, map: &CountedMap<'_>, all: &[PairLives]) -> bool {
+    match is_copied(map, all) {
+        Ok(copied) => copied && have_lived(all, 1, 1),
+        Err(TryReserveError::AllocError) => {
+            is_undone(map, all) && (!has_memory(alloc) || is_copied_at_last(map, all))
+        }
+        Err(_other) => false,
+    }
 }
 
-// Each request is refused in turn by the sweep. Where memory is there again, the map is copied.
+fn is_copied_at_last(map: &CountedMap<'_>, all: &[PairLives]) -> bool {
+    matches!(is_copied(map, all), Ok(true)) && have_lived(all, 1, 1)
+}
+
+// Each request is refused in turn by the sweep.
 #[test]
-fn a_refused_copy_is_dropped_and_leaves_its_source(rt: HostRuntime) -> Result<(), Fail> {
-    let left = Cell::new(u64::MAX);
+fn a_refused_copy_is_dropped_and_leaves_its_source(rt: HostRuntime) {
     let Ok(all) = fresh_lives(rt.alloc(), 100) else {
-        return Ok(());
+        return;
     };
     {
-        let Ok(map) = counted_map(rt.alloc(), &all, &left) else {
-            return Ok(());
+        let Ok(map) = counted_map(rt.alloc(), &all) else {
+            return;
         };
-        let copied = is_copied(&map, &all);
-        match copied {
-            Ok(copied) => assert!(rt; copied && have_lived(&all, 1, 1)),
-            Err(e) => {
-                assert!(rt; matches!(e, TryReserveError::AllocError) && is_undone(&map, &all));
-                if has_memory(rt.alloc()) {
-                    assert!(rt; is_copied(&map, &all)? && have_lived(&all, 1, 1));
-                }
-            }
-        }
+        assert!(rt; is_copied_or_undone(rt.alloc(), &map, &all));
         forget_all(&all);
     }
     assert!(rt; have_lived(&all, 0, 1));
-    Ok(())
-}
-
-// A pair makes two copies: the key's, and then the value's.
-#[test]
-fn a_copy_that_a_key_or_a_value_refuses_is_dropped(rt: HostRuntime) -> Result<(), Fail> {
-    let left = Cell::new(u64::MAX);
-    let all = fresh_lives(rt.alloc(), 100)?;
-    let map = counted_map(rt.alloc(), &all, &left)?;
-    for made in 0..200 {
-        left.set(made);
-        let copied = is_copied(&map, &all);
-        assert!(rt; matches!(copied, Err(TryReserveError::CapacityOverflow)));
-        assert!(rt; is_undone(&map, &all) && copies_in(&all) == made);
-    }
-    left.set(200);
-    assert!(rt; is_copied(&map, &all)? && have_lived(&all, 1, 1) && left.get() == 0);
-    Ok(())
 }

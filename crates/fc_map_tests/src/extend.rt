@@ -1,17 +1,13 @@
-//! Maps that are extended by the items of an iterator, or made of them.
+//! Maps that are extended by the items of an iterator, or made of them, where memory is refused.
 use crate::map::{
-    Drops, Tagged, TrackedKey, TrackedValue, fresh_drops, shows_letter, were_all_dropped,
-    were_dropped,
+    Drops, Tracked, TrackedKey, TrackedValue, fresh_drops, were_all_dropped, were_dropped,
 };
-use crate::numbers::{has, multiples, numbers};
+use crate::numbers::{Numbers, has, multiples};
 use fc_base::TryReserveError;
 use fc_map::map::BTreeMap;
 use fc_vec::TryFromIterator;
 use std::alloc::{AllocError, Global};
 use std::cell::Cell;
-use std::test::Fail;
-
-type Tracked<'a> = BTreeMap<TrackedKey<'a>, TrackedValue<'a>>;
 
 // The numbers below `count`, each with itself: from 0 on, always so many on, and round.
 fn pairs(alloc: Global, count: u64, step: u64) -> Result<Vec<(u64, u64)>, AllocError> {
@@ -24,66 +20,13 @@ fn pairs(alloc: Global, count: u64, step: u64) -> Result<Vec<(u64, u64)>, AllocE
 }
 
 // An extension, of which the tests know only what they see of it.
-fn extend(map: &mut BTreeMap<u64, u64>, pairs: Vec<(u64, u64)>) -> Result<(), TryReserveError> {
+fn extend(map: &mut Numbers, pairs: Vec<(u64, u64)>) -> Result<(), TryReserveError> {
     map.try_extend(pairs)
-}
-
-// A third of the keys is there, with other values.
-#[test]
-fn a_map_is_extended_in_any_order(rt: HostRuntime) -> Result<(), Fail> {
-    for count in [0, 1, 11, 12, 100] {
-        for step in [1, 37] {
-            let mut map = multiples(rt.alloc(), 0, count / 3, 5)?;
-            extend(&mut map, pairs(rt.alloc(), count, step)?)?;
-            assert!(rt; map == numbers(rt.alloc(), count)?);
-        }
-    }
-    Ok(())
-}
-
-#[test]
-fn the_later_value_stays(rt: HostRuntime) -> Result<(), Fail> {
-    let mut map = numbers(rt.alloc(), 10)?;
-    map.try_extend([(20u64, 1u64), (5, 50), (20, 2)])?;
-    assert!(rt; has(&map, 20, 2) && has(&map, 5, 50) && has(&map, 4, 4));
-    assert!(rt; map.len() == 11);
-    Ok(())
-}
-
-#[test]
-fn the_first_key_stays(rt: HostRuntime) -> Result<(), Fail> {
-    let mut map = BTreeMap::new(rt.alloc());
-    let tagged = |letter| Tagged { number: 1, letter };
-    let (x, y, z) = (tagged('x'), tagged('y'), tagged('z'));
-    map.try_extend([(x, 10u64), (y, 11)])?;
-    assert!(rt; shows_letter(&map, &z, 'x', 11));
-    map.try_extend([(z, 12)])?;
-    assert!(rt; shows_letter(&map, &y, 'x', 12) && map.len() == 1);
-    Ok(())
-}
-
-#[test]
-fn no_item_changes_nothing(rt: HostRuntime) -> Result<(), Fail> {
-    for count in [0, 1, 12, 100] {
-        let mut map = numbers(rt.alloc(), count)?;
-        extend(&mut map, Vec::new(rt.alloc()))?;
-        assert!(rt; map == numbers(rt.alloc(), count)?);
-    }
-    Ok(())
-}
-
-#[test]
-fn a_map_gives_the_items(rt: HostRuntime) -> Result<(), Fail> {
-    let mut map = multiples(rt.alloc(), 50, 120, 2)?;
-    map.try_extend(numbers(rt.alloc(), 100)?)?;
-    assert!(rt; has(&map, 0, 0) && has(&map, 99, 99) && has(&map, 100, 200));
-    assert!(rt; map.len() == 120);
-    Ok(())
 }
 
 // Whether a map of the numbers below 50, each with its threefold, was extended by a front of the pairs 37 apart and by nothing else:
 // the first new number that is not there was refused.
-fn is_extended_by_a_front(map: &BTreeMap<u64, u64>) -> bool {
+fn is_extended_by_a_front(map: &Numbers) -> bool {
     let mut is_front = true;
     for place in 0..100u64 {
         let number = place.wrapping_mul(37) % 100;
@@ -102,21 +45,26 @@ fn is_extended_by_a_front(map: &BTreeMap<u64, u64>) -> bool {
     true
 }
 
+// Whether as many pairs are there as an extension by 100 leaves: all, or fewer where the allocator refused.
+fn is_told(done: Result<(), TryReserveError>, len: usize) -> bool {
+    match done {
+        Ok(()) => len == 100,
+        Err(TryReserveError::AllocError) => len < 100,
+        Err(_other) => false,
+    }
+}
+
 // Each request is refused in turn by the sweep.
 #[test]
-fn a_refused_extension_keeps_the_items_before(rt: HostRuntime) -> Result<(), Fail> {
+fn a_refused_extension_keeps_the_items_before(rt: HostRuntime) {
     let Ok(mut map) = multiples(rt.alloc(), 0, 50, 3) else {
-        return Ok(());
+        return;
     };
     let Ok(items) = pairs(rt.alloc(), 100, 37) else {
-        return Ok(());
+        return;
     };
-    match extend(&mut map, items) {
-        Ok(()) => assert!(rt; map.len() == 100),
-        Err(e) => assert!(rt; matches!(e, TryReserveError::AllocError) && map.len() < 100),
-    }
-    assert!(rt; is_extended_by_a_front(&map));
-    Ok(())
+    let done = extend(&mut map, items);
+    assert!(rt; is_told(done, map.len()) && is_extended_by_a_front(&map));
 }
 
 // A pair for each that counts drops, of the numbers below 100, 37 apart and round.
@@ -152,55 +100,29 @@ fn has_the_front<'a>(map: &Tracked<'a>, drops: &[Drops], sought: &'a Cell<u64>) 
     true
 }
 
+fn extend_tracked<'a>(
+    map: &mut Tracked<'a>,
+    items: Vec<(TrackedKey<'a>, TrackedValue<'a>)>,
+) -> Result<(), TryReserveError> {
+    map.try_extend(items)
+}
+
 // Each request is refused in turn by the sweep.
 #[test]
-fn each_item_of_an_extension_is_dropped_once(rt: HostRuntime) -> Result<(), Fail> {
+fn each_item_of_an_extension_is_dropped_once(rt: HostRuntime) {
     let sought = Cell::new(0);
     let Ok(drops) = fresh_drops(rt.alloc(), 100) else {
-        return Ok(());
+        return;
     };
     {
         let Ok(items) = tracked_pairs(rt.alloc(), &drops) else {
-            return Ok(());
+            return;
         };
         let mut map = BTreeMap::new(rt.alloc());
-        match map.try_extend(items) {
-            Ok(()) => assert!(rt; map.len() == 100),
-            Err(e) => assert!(rt; matches!(e, TryReserveError::AllocError) && map.len() < 100),
-        }
-        assert!(rt; has_the_front(&map, &drops, &sought));
+        let done = extend_tracked(&mut map, items);
+        assert!(rt; is_told(done, map.len()) && has_the_front(&map, &drops, &sought));
     }
     assert!(rt; were_all_dropped(&drops, 1));
-    Ok(())
-}
-
-fn map_of(alloc: Global, pairs: Vec<(u64, u64)>) -> Result<BTreeMap<u64, u64>, TryReserveError> {
-    BTreeMap::try_from_iterator(alloc, pairs)
-}
-
-fn is_letter(item: Option<&char>, wanted: char) -> bool {
-    match item {
-        Some(letter) => *letter == wanted,
-        None => false,
-    }
-}
-
-#[test]
-fn of_equal_keys_a_made_map_has_the_last_value(rt: HostRuntime) -> Result<(), Fail> {
-    let map = BTreeMap::try_from_iterator(rt.alloc(), [(1u64, 'a'), (1, 'b')])?;
-    assert!(rt; is_letter(map.get(&1), 'b') && map.len() == 1);
-    Ok(())
-}
-
-#[test]
-fn a_map_is_made_in_any_order(rt: HostRuntime) -> Result<(), Fail> {
-    for count in [0, 1, 100] {
-        for step in [1, 37] {
-            let map = map_of(rt.alloc(), pairs(rt.alloc(), count, step)?)?;
-            assert!(rt; map == numbers(rt.alloc(), count)?);
-        }
-    }
-    Ok(())
 }
 
 fn tracked_map<'a>(
@@ -210,22 +132,30 @@ fn tracked_map<'a>(
     BTreeMap::try_from_iterator(alloc, items)
 }
 
+// Whether a map has all pairs, or the allocator refused.
+fn is_made<'a>(
+    made: &Result<Tracked<'a>, TryReserveError>,
+    drops: &[Drops],
+    sought: &'a Cell<u64>,
+) -> bool {
+    match made {
+        Ok(map) => map.len() == 100 && has_the_front(map, drops, sought),
+        Err(e) => matches!(e, TryReserveError::AllocError),
+    }
+}
+
 // Each request is refused in turn by the sweep.
 #[test]
-fn each_item_of_a_made_map_is_dropped_once(rt: HostRuntime) -> Result<(), Fail> {
+fn each_item_of_a_made_map_is_dropped_once(rt: HostRuntime) {
     let sought = Cell::new(0);
     let Ok(drops) = fresh_drops(rt.alloc(), 100) else {
-        return Ok(());
+        return;
     };
     {
         let Ok(items) = tracked_pairs(rt.alloc(), &drops) else {
-            return Ok(());
+            return;
         };
-        match tracked_map(rt.alloc(), items) {
-            Ok(map) => assert!(rt; map.len() == 100 && has_the_front(&map, &drops, &sought)),
-            Err(e) => assert!(rt; matches!(e, TryReserveError::AllocError)),
-        }
+        assert!(rt; is_made(&tracked_map(rt.alloc(), items), &drops, &sought));
     }
     assert!(rt; were_all_dropped(&drops, 1));
-    Ok(())
 }

@@ -4,7 +4,7 @@ ghost use Rattle.fc_base.specs.OneKey.{put};
 ghost use Rattle.fc_base.specs.Parts.{at};
 ghost use Rattle.fc_map.specs.Entries.{entries};
 
-use crate::numbers::{has, is_number, numbers};
+use crate::numbers::{Numbers, is_number, multiples};
 use fc_map::map::BTreeMap;
 use std::test::Fail;
 
@@ -31,47 +31,29 @@ fn overwrite_and_get<K: Ord + Drop>(map: &mut BTreeMap<K, u64>, key: &K, value: 
 }
 
 // Whether the write of this value is seen by a look-up of the key.
-fn overwrites(map: &mut BTreeMap<u64, u64>, key: u64, value: u64) -> bool {
+fn overwrites(map: &mut Numbers, key: u64, value: u64) -> bool {
     is_number(overwrite_and_get(map, &key, value), value)
 }
 
-// Whether the writes of 100 more at each number below n are seen at once, and all of them at last.
-fn overwrites_all(map: &mut BTreeMap<u64, u64>, n: u64) -> bool {
-    for key in 0..n {
-        if !overwrites(map, key, key.wrapping_add(100)) {
-            return false;
-        }
-    }
-    has_all(map, n)
-}
-
-fn has_all(map: &BTreeMap<u64, u64>, n: u64) -> bool {
-    for key in 0..n {
-        if !has(map, key, key.wrapping_add(100)) {
-            return false;
-        }
-    }
-    true
-}
-
 // Whether the write of this value is seen by an index.
-fn overwrites_by_index(map: &mut BTreeMap<u64, u64>, key: u64, value: u64) -> bool {
+fn overwrites_by_index(map: &mut Numbers, key: u64, value: u64) -> bool {
     overwrite(map, &key, value);
     map.contains_key(&key) && map[&key] == value
 }
 
 // Whether no value is lent at the key, and none written.
-fn lends_none(map: &mut BTreeMap<u64, u64>, key: u64) -> bool {
+fn lends_none(map: &mut Numbers, key: u64) -> bool {
     map.get_mut(&key).is_none() && overwrite_and_get(map, &key, 7).is_none()
 }
 
 // Forty pairs stand on two levels of nodes: the value of each is written, and found again by `get` and by an index.
 #[test]
 fn writes_values_on_two_levels(rt: HostRuntime) -> Result<(), Fail> {
-    let mut map = numbers(rt.alloc(), 40)?;
-    assert!(rt; overwrites_all(&mut map, 40));
-    assert!(rt; overwrites_by_index(&mut map, 37, 7));
-    assert!(rt; lends_none(&mut map, 40));
-    assert_eq!(rt; map.len(), 40);
+    let mut map = multiples(rt.alloc(), 0, 40, 1)?;
+    for key in 0..40u64 {
+        assert!(rt; overwrites(&mut map, key, key + 100));
+    }
+    assert!(rt; overwrites_by_index(&mut map, 37, 7) && lends_none(&mut map, 40));
+    assert!(rt; map.len() == 40);
     Ok(())
 }

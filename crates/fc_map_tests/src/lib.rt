@@ -1,4 +1,5 @@
-//! Tests of the ordered map through its public calls.
+//! Tests of the ordered map that are no rows of `probe_map`: under refused memory, by keys and values of other types, and by callers
+//! with clauses of their own.
 #![tactic(auto)]
 
 #[cfg(test)]
@@ -6,19 +7,11 @@ mod compare;
 #[cfg(test)]
 mod copies;
 #[cfg(test)]
-mod ends;
-#[cfg(test)]
 mod extend;
-#[cfg(test)]
-mod for_each;
 #[cfg(test)]
 mod get_mut;
 #[cfg(test)]
-mod into_iter;
-#[cfg(test)]
 mod iter;
-#[cfg(test)]
-mod iter_mut;
 #[cfg(test)]
 mod map;
 #[cfg(test)]
@@ -27,5 +20,3 @@ mod neighbours;
 mod numbers;
 #[cfg(test)]
 mod queries;
-#[cfg(test)]
-mod range;

@@ -1,10 +1,21 @@
-//! The pairs next to a key, against lists.
+//! The pairs next to a key, against numbers: for each key from below the first to beyond the last.
+use crate::map::entries::CountingKey;
 use fc_base::{Count, TryReserveError};
 use fc_map::map::BTreeMap;
 use std::alloc::Global;
+use std::cell::Cell;
 use std::test::Fail;
 
-// A map of the even numbers from 2 on, so many, each with its tenfold.
+// Two tagged numbers are equal where the numbers are, whatever their letters.
+#[derive(Clone, Copy, Debug)]
+#[derive_where(PartialEq, Eq, PartialOrd, Ord)]
+struct Tagged {
+    number: u64,
+    #[derive_where(skip(EqHashOrd))]
+    letter: char,
+}
+
+// The even numbers from 2 on, so many, each with its tenfold, put in from the first on.
 fn even(alloc: Global, n: u64) -> Result<BTreeMap<u64, u64>, TryReserveError> {
     let mut map = BTreeMap::new(alloc);
     for i in 0..n {
@@ -14,16 +25,19 @@ fn even(alloc: Global, n: u64) -> Result<BTreeMap<u64, u64>, TryReserveError> {
     Ok(map)
 }
 
-// The number that was asked for, with its tenfold, or 0 for none.
-fn is_asked(found: Option<(&u64, &u64)>, number: u64) -> bool {
-    match found {
-        Some((key, value)) => *key == number && *value == number.wrapping_mul(10),
-        None => number == 0,
+// The same, put in from the last on.
+fn even_from_last(alloc: Global, n: u64) -> Result<BTreeMap<u64, u64>, TryReserveError> {
+    let mut map = BTreeMap::new(alloc);
+    for i in 0..n {
+        let number = n.wrapping_sub(i).wrapping_mul(2);
+        map.try_insert(number, number.wrapping_mul(10))?;
     }
+    Ok(map)
 }
 
-// The number, if it is one of the even ones, or else none.
-fn or_none(number: u64, n: u64) -> u64 {
+// The first of these numbers from `from` on, and 0 where there is none.
+fn first_even(from: u64, n: u64) -> u64 {
+    let number = from.wrapping_add(from % 2).max(2);
     if number > n.wrapping_mul(2) {
         0
     } else {
@@ -31,77 +45,196 @@ fn or_none(number: u64, n: u64) -> u64 {
     }
 }
 
-fn at_most(number: u64, n: u64) -> u64 {
-    if number > n.wrapping_mul(2) {
-        n.wrapping_mul(2)
-    } else {
-        number
+// The last of these numbers up to `to`, and 0 where there is none.
+fn last_even(to: u64, n: u64) -> u64 {
+    to.wrapping_sub(to % 2).min(n.wrapping_mul(2))
+}
+
+// Whether the pair of the number is there, or none where the number is 0.
+fn is_asked(found: Option<(&u64, &u64)>, number: u64) -> bool {
+    match found {
+        Some((key, value)) => *key == number && *value == number.wrapping_mul(10),
+        None => number == 0,
     }
+}
+
+fn are_next(map: &BTreeMap<u64, u64>, key: u64, n: u64) -> bool {
+    is_asked(map.first_at_or_after(&key), first_even(key, n))
+        && is_asked(map.first_after(&key), first_even(key.wrapping_add(1), n))
+        && is_asked(map.last_at_or_before(&key), last_even(key, n))
+        && is_asked(map.last_before(&key), last_even(key.saturating_sub(1), n))
 }
 
 // Each key from 0 to beyond the last, in each of the four calls.
-fn are_next(map: &BTreeMap<u64, u64>, n: u64) -> bool {
+fn are_all_next(map: &BTreeMap<u64, u64>, n: u64) -> bool {
     for key in 0..n.wrapping_mul(2).wrapping_add(4) {
-        let up = if key == 0 {
-            2
-        } else {
-            key.wrapping_add(key % 2)
-        };
-        let above = if key % 2 == 0 {
-            key.wrapping_add(2)
-        } else {
-            key.wrapping_add(1)
-        };
-        let down = key.wrapping_sub(key % 2);
-        let under = if key == 0 {
-            0
-        } else if key % 2 == 0 {
-            key.wrapping_sub(2)
-        } else {
-            key.wrapping_sub(1)
-        };
-        let right = is_asked(map.first_at_or_after(&key), or_none(up, n))
-            && is_asked(map.first_after(&key), or_none(above, n))
-            && is_asked(map.last_at_or_before(&key), at_most(down, n))
-            && is_asked(map.last_before(&key), at_most(under, n));
-        if !right {
+        if !are_next(map, key, n) {
             return false;
         }
     }
-    true
+    are_next(map, u64::MAX / 2, n)
 }
 
+// A leaf has at most 11 pairs, so that 12 pairs have two levels; of ascending ones 89 have three, and 3000 have four.
 #[test]
-fn neighbours_are_those_of_lists(rt: HostRuntime) -> Result<(), Fail> {
-    let alloc = rt.alloc();
-    // From none to four levels.
-    for n in 0..60 {
-        assert!(rt; are_next(&even(alloc, n)?, n));
+fn neighbours_of_each_key_on_each_level(rt: HostRuntime) -> Result<(), Fail> {
+    for n in 0..30 {
+        assert!(rt; are_all_next(&even(rt.alloc(), n)?, n));
     }
-    for n in 395..405 {
-        assert!(rt; are_next(&even(alloc, n)?, n));
+    for n in 80..100 {
+        assert!(rt; are_all_next(&even(rt.alloc(), n)?, n));
+        assert!(rt; are_all_next(&even_from_last(rt.alloc(), n)?, n));
     }
-    assert!(rt; are_next(&even(alloc, 3000)?, 3000));
+    assert!(rt; are_all_next(&even(rt.alloc(), 3000)?, 3000));
     Ok(())
 }
 
+fn is_tagged(found: Option<(&Tagged, &u64)>, number: u64) -> bool {
+    match found {
+        Some((key, _value)) => key.number == number && key.letter == 'a',
+        None => number == 0,
+    }
+}
+
+// Keys equal to what is sought, but not the same: those of the map are answered, and an equal one is not passed over or taken for one behind.
+#[test]
+fn neighbours_are_the_keys_of_the_map(rt: HostRuntime) -> Result<(), Fail> {
+    let mut map = BTreeMap::new(rt.alloc());
+    for number in 1..91 {
+        let letter = 'a';
+        map.try_insert(Tagged { number, letter }, number)?;
+    }
+    for number in 1..91 {
+        let letter = 'b';
+        let key = Tagged { number, letter };
+        assert!(rt; is_tagged(map.first_at_or_after(&key), number));
+        assert!(rt; is_tagged(map.last_at_or_before(&key), number));
+        assert!(rt; is_tagged(map.first_after(&key), number.wrapping_add(1) % 91));
+        assert!(rt; is_tagged(map.last_before(&key), number.wrapping_sub(1)));
+    }
+    Ok(())
+}
+
+// The keys from 1 to the last, in this order.
+fn ascending<'a>(
+    alloc: Global,
+    last: u64,
+    comparisons: &'a Cell<u64>,
+) -> Result<BTreeMap<CountingKey<'a>, u64>, TryReserveError> {
+    let mut map = BTreeMap::new(alloc);
+    for below in 0..last {
+        let number = below + 1;
+        let key = CountingKey {
+            number,
+            comparisons,
+        };
+        map.try_insert(key, number)?;
+    }
+    Ok(map)
+}
+
+// Whether each of the four calls compares as often as a look-up of the key does.
+fn costs_a_look_up<'a>(map: &BTreeMap<CountingKey<'a>, u64>, key: &CountingKey<'a>) -> bool {
+    let made = key.comparisons;
+    made.set(0);
+    let _there = map.contains_key(key);
+    let of_one = made.get();
+    let _from = map.first_at_or_after(key);
+    let is_first = made.get() == of_one.wrapping_mul(2);
+    let _after = map.first_after(key);
+    let is_second = made.get() == of_one.wrapping_mul(3);
+    let _to = map.last_at_or_before(key);
+    let is_third = made.get() == of_one.wrapping_mul(4);
+    let _before = map.last_before(key);
+    is_first && is_second && is_third && made.get() == of_one.wrapping_mul(5)
+}
+
+// Of 89 ascending keys, the search for the last passes 11, and one beyond it no less.
+#[test]
+fn neighbours_cost_a_look_up(rt: HostRuntime) -> Result<(), Fail> {
+    let made = Cell::new(0);
+    let comparisons = &made;
+    let map = ascending(rt.alloc(), 89, comparisons)?;
+    for number in 0..92 {
+        let key = CountingKey {
+            number,
+            comparisons,
+        };
+        assert!(rt; costs_a_look_up(&map, &key));
+    }
+    let number = 89;
+    let key = CountingKey {
+        number,
+        comparisons,
+    };
+    comparisons.set(0);
+    assert!(rt; map.first_after(&key).is_none() && comparisons.get() == 11);
+    Ok(())
+}
+
+// Whether the text is the key that is found, or `-` where none is.
+fn is_text(found: Option<(&String, &u64)>, text: &str) -> bool {
+    match found {
+        Some((key, _value)) => key.as_str() == text,
+        None => text == "-",
+    }
+}
+
+fn are_next_texts(map: &BTreeMap<String, u64>, text: &str, wanted: [&str; 4]) -> bool {
+    is_text(map.last_before(text), wanted[0])
+        && is_text(map.last_at_or_before(text), wanted[1])
+        && is_text(map.first_at_or_after(text), wanted[2])
+        && is_text(map.first_after(text), wanted[3])
+}
+
+// A text comes behind its own beginnings.
 #[test]
 fn texts_are_sought_by_slices(rt: HostRuntime) -> Result<(), Fail> {
-    let alloc = rt.alloc();
-    let mut map: BTreeMap<String, u64> = BTreeMap::new(alloc);
-    map.try_insert(String::from_str(alloc, "b")?, 1)?;
-    map.try_insert(String::from_str(alloc, "d")?, 2)?;
-    let mut count = Count::new();
-    assert!(rt; holds(map.first_at_or_after_counted("b", &mut count), 1));
-    assert!(rt; holds(map.first_after("b"), 2) && holds(map.first_at_or_after("c"), 2));
-    assert!(rt; holds(map.last_at_or_before("d"), 2) && holds(map.last_before("d"), 1));
-    assert!(rt; map.first_after("d").is_none() && map.last_before("b").is_none());
+    let mut map: BTreeMap<String, u64> = BTreeMap::new(rt.alloc());
+    for text in [
+        "a", "ab", "b", "c", "e", "f", "g", "h", "i", "j", "k", "word",
+    ] {
+        map.try_insert(String::from_str(rt.alloc(), text)?, 1)?;
+    }
+    assert!(rt; are_next_texts(&map, "", ["-", "-", "a", "a"]));
+    assert!(rt; are_next_texts(&map, "a", ["-", "a", "a", "ab"]));
+    assert!(rt; are_next_texts(&map, "aa", ["a", "a", "ab", "ab"]));
+    assert!(rt; are_next_texts(&map, "ab", ["a", "ab", "ab", "b"]));
+    assert!(rt; are_next_texts(&map, "d", ["c", "c", "e", "e"]));
+    assert!(rt; are_next_texts(&map, "word", ["k", "word", "word", "-"]));
+    assert!(rt; are_next_texts(&map, "words", ["word", "word", "-", "-"]));
     Ok(())
 }
 
-fn holds(found: Option<(&String, &u64)>, value: u64) -> bool {
-    match found {
-        Some((_key, at)) => *at == value,
-        None => false,
+#[test]
+fn counted_forms_answer_the_same(rt: HostRuntime) -> Result<(), Fail> {
+    let map = even(rt.alloc(), 20)?;
+    let mut count = Count::new();
+    for key in 0..44 {
+        assert!(rt;
+            is_asked(
+                map.first_at_or_after_counted(&key, &mut count),
+                first_even(key, 20)
+            )
+        );
+        assert!(rt;
+            is_asked(
+                map.first_after_counted(&key, &mut count),
+                first_even(key.wrapping_add(1), 20)
+            )
+        );
+        assert!(rt;
+            is_asked(
+                map.last_at_or_before_counted(&key, &mut count),
+                last_even(key, 20)
+            )
+        );
+        assert!(rt;
+            is_asked(
+                map.last_before_counted(&key, &mut count),
+                last_even(key.saturating_sub(1), 20)
+            )
+        );
     }
+    Ok(())
 }

@@ -4,28 +4,45 @@ use fc_base::TryReserveError;
 use fc_map::map::BTreeMap;
 use std::alloc::Global;
 
+pub(crate) type Numbers = BTreeMap<u64, u64>;
+
+// An insertion, of which the tests know only what it answers.
+pub(crate) fn insert(
+    map: &mut Numbers,
+    key: u64,
+    value: u64,
+) -> Result<Option<u64>, TryReserveError> {
+    map.try_insert(key, value)
+}
+
 // The numbers from `first` on below `end`, each with itself times the factor.
 pub(crate) fn multiples(
     alloc: Global,
     first: u64,
     end: u64,
     factor: u64,
-) -> Result<BTreeMap<u64, u64>, TryReserveError> {
+) -> Result<Numbers, TryReserveError> {
     let mut map = BTreeMap::new(alloc);
     for number in first..end {
-        map.try_insert(number, number.wrapping_mul(factor))?;
+        insert(&mut map, number, number.wrapping_mul(factor))?;
     }
     Ok(map)
 }
 
-// The numbers below n, each with itself.
-pub(crate) fn numbers(alloc: Global, n: u64) -> Result<BTreeMap<u64, u64>, TryReserveError> {
-    multiples(alloc, 0, n, 1)
+// Whether the map has this value at the number.
+pub(crate) fn has(map: &Numbers, number: u64, value: u64) -> bool {
+    is_lent(map.get(&number), value)
 }
 
-// Whether the map has this value at the number.
-pub(crate) fn has(map: &BTreeMap<u64, u64>, number: u64, value: u64) -> bool {
-    is_lent(map.get(&number), value)
+// Whether the map has the numbers from 1 to the last, each with itself, and nothing else below 100.
+pub(crate) fn has_up_to(map: &Numbers, last: u64) -> bool {
+    for number in 0..100u64 {
+        let is_there = 1 <= number && number <= last;
+        if map.contains_key(&number) != is_there || is_there && !has(map, number, number) {
+            return false;
+        }
+    }
+    map.len() as u64 == last
 }
 
 pub(crate) fn is_lent(item: Option<&u64>, wanted: u64) -> bool {
@@ -39,34 +56,5 @@ pub(crate) fn is_number(item: Option<u64>, wanted: u64) -> bool {
     match item {
         Some(number) => number == wanted,
         None => false,
-    }
-}
-
-pub(crate) fn are_same(one: Option<u64>, other: Option<u64>) -> bool {
-    match other {
-        Some(number) => is_number(one, number),
-        None => one.is_none(),
-    }
-}
-
-pub(crate) fn is_lent_pair(item: Option<(&u64, &u64)>, key: u64, value: u64) -> bool {
-    match item {
-        Some((number, found)) => *number == key && *found == value,
-        None => false,
-    }
-}
-
-pub(crate) fn is_pair(item: Option<(u64, u64)>, key: u64, value: u64) -> bool {
-    match item {
-        Some((number, found)) => number == key && found == value,
-        None => false,
-    }
-}
-
-// Whether what an iterator tells of its length is just this.
-pub(crate) fn tells(hint: (usize, Option<usize>), left: usize) -> bool {
-    match hint {
-        (least, Some(most)) => least == left && most == left,
-        (_, None) => false,
     }
 }

@@ -1,16 +1,9 @@
-//! Look-ups by borrowed forms of a key, by keys of several parts, and by a query of the tests' own.
-ghost use Rattle.std.specs.Prelude.{◌≡◌, ℕ};
-ghost use Rattle.std.specs.Ordering.{nat_cmp};
-ghost use Rattle.std.proofs.lemmas.Cmp.{nat_cmp_total};
-ghost use Rattle.fc_base.specs.Viewed.{viewed};
-
-use crate::map::{CountingKey, ascending, take_all_memory};
+//! Look-ups by borrowed forms of a key, and by keys of several parts.
+use crate::map::{has_memory, take_all_memory};
 use crate::numbers::{is_lent, is_number};
-use fc_base::{Query, TryReserveError};
+use fc_base::TryReserveError;
 use fc_map::map::BTreeMap;
 use std::alloc::Global;
-use std::cell::Cell;
-use std::cmp::Ordering;
 use std::test::Fail;
 
 // A prefix of each text but the first is there, too, and twenty texts stand on two levels of nodes.
@@ -58,39 +51,46 @@ fn write_text(map: &mut BTreeMap<String, u64>, text: &str, number: u64) -> bool 
     }
 }
 
+// Whether the last text is found by a `String` and by an index.
+fn finds_the_last(alloc: Global, map: &BTreeMap<String, u64>) -> Result<bool, TryReserveError> {
+    let text = String::from_str(alloc, "word")?;
+    Ok(is_lent(map.get(&text), 19) && map.contains_key("word") && map["word"] == 19)
+}
+
 #[test]
 fn a_string_is_found_by_its_text(rt: HostRuntime) -> Result<(), Fail> {
     let map = words(rt.alloc())?;
     assert!(rt; finds_each(&map) && finds_no_other(&map));
-    assert!(rt; is_lent(map.get(&String::from_str(rt.alloc(), "word")?), 19));
-    assert!(rt; map.contains_key("word") && map["word"] == 19);
+    assert!(rt; finds_the_last(rt.alloc(), &map)?);
     Ok(())
+}
+
+// Whether the text's number is taken out, once.
+fn takes_out(map: &mut BTreeMap<String, u64>, text: &str, number: u64) -> bool {
+    is_number(map.remove(text), number) && map.remove(text).is_none()
 }
 
 #[test]
 fn a_text_is_written_at_and_removed(rt: HostRuntime) -> Result<(), Fail> {
     let mut map = words(rt.alloc())?;
     assert!(rt; write_text(&mut map, "word", 70) && !write_text(&mut map, "words", 70));
-    assert!(rt; is_number(map.remove("word"), 70) && map.remove("word").is_none());
-    assert!(rt; is_number(map.remove(""), 0) && map.remove("").is_none());
-    assert_eq!(rt; map.len(), 18);
+    assert!(rt; takes_out(&mut map, "word", 70) && takes_out(&mut map, "", 0) && map.len() == 18);
     Ok(())
 }
 
-// Where a run gets its memory from elsewhere, as one without proof does, this shows nothing.
+// A run that gets its memory from elsewhere, as one without proof does, would show nothing, and fails.
 #[test]
 fn with_all_memory_refused_a_text_is_found(rt: HostRuntime) -> Result<(), Fail> {
     let mut map = words(rt.alloc())?;
     let held = take_all_memory(rt.alloc())?;
-    if Vec::<u8>::with_capacity(rt.alloc(), 1).is_ok() {
-        return Ok(());
-    }
-    let refused = String::from_str(rt.alloc(), "word").is_err();
-    let found = finds_each(&map) && finds_no_other(&map);
-    let written = write_text(&mut map, "word", 70);
-    let taken = map.remove("word");
+    let is_right = !has_memory(rt.alloc())
+        && String::from_str(rt.alloc(), "word").is_err()
+        && finds_each(&map)
+        && finds_no_other(&map)
+        && write_text(&mut map, "word", 70)
+        && takes_out(&mut map, "word", 70);
     drop(held);
-    assert!(rt; refused && found && written && is_number(taken, 70));
+    assert!(rt; is_right);
     Ok(())
 }
 
@@ -108,14 +108,20 @@ fn finds_bytes(map: &BTreeMap<Vec<u8>, u64>) -> bool {
     map.get(&[][..]).is_none()
 }
 
+// The bytes of each number, with it.
+fn bytes(alloc: Global) -> Result<BTreeMap<Vec<u8>, u64>, TryReserveError> {
+    let mut map = BTreeMap::new(alloc);
+    for byte in 1..100u8 {
+        let key = Vec::from_slice(alloc, &[byte, byte / 2])?;
+        map.try_insert(key, u64::from(byte))?;
+    }
+    Ok(map)
+}
+
 #[test]
 fn a_vec_is_found_by_its_items(rt: HostRuntime) -> Result<(), Fail> {
-    let mut map = BTreeMap::new(rt.alloc());
-    for byte in 1..100u8 {
-        let key = Vec::from_slice(rt.alloc(), &[byte, byte / 2])?;
-        assert!(rt; map.try_insert(key, u64::from(byte))?.is_none());
-    }
-    assert!(rt; finds_bytes(&map));
+    let mut map = bytes(rt.alloc())?;
+    assert!(rt; map.len() == 99 && finds_bytes(&map));
     assert!(rt; is_number(map.remove(&[7, 3][..]), 7) && map.len() == 98);
     Ok(())
 }
@@ -154,47 +160,5 @@ fn keys_of_several_parts_are_found_by_a_reference(rt: HostRuntime) -> Result<(),
     let by_date = dates(rt.alloc())?;
     assert!(rt; is_lent(by_date.get(&Date { year: 3, day: 5 }), 29));
     assert!(rt; !by_date.contains_key(&Date { year: 5, day: 0 }));
-    Ok(())
-}
-
-// A number that keys which count their comparisons are searched by.
-#[derive(Clone, Copy)]
-struct Number(u64);
-
-impl Query<CountingKey<'_>> for Number {
-    ghost Sought = { ℕ };
-
-    ghost sought = { λ query. query.0 };
-
-    ghost order = { λ key number. nat_cmp key.number number };
-
-    ghost fits = { viewed nat_cmp_total (λ key. key.number) (λ number. number) };
-
-    fn order_of(&self, key: &CountingKey<'_>) -> Ordering {
-        key.comparisons.set(key.comparisons.get().wrapping_add(1));
-        key.number.cmp(&self.0)
-    }
-}
-
-// Whether the number is found by a query after so many comparisons.
-fn finds_after(
-    map: &BTreeMap<CountingKey<'_>, u64>,
-    number: u64,
-    comparisons: &Cell<u64>,
-    made: u64,
-) -> bool {
-    comparisons.set(0);
-    is_lent(map.get(Number(number)), number) && comparisons.get() == made
-}
-
-// In 89 ascending keys the search goes by the root's 42 and 84, and by each sixth key in the inner node.
-#[test]
-fn a_query_is_compared_as_a_key_is(rt: HostRuntime) -> Result<(), Fail> {
-    let made = Cell::new(0);
-    let mut map = ascending(rt.alloc(), 89, &made)?;
-    assert!(rt; finds_after(&map, 89, &made, 11) && map.get(Number(90)).is_none());
-    made.set(0);
-    assert!(rt; is_number(map.remove(Number(89)), 89));
-    assert_eq!(rt; made.get(), 11);
     Ok(())
 }

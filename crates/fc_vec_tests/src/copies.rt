@@ -5,7 +5,6 @@ use fc_base::{TryClone, TryReserveError};
 use fc_vec::{FallibleVec, TryVec, try_from_elem};
 use std::alloc::{AllocError, Global};
 use std::cell::Cell;
-use std::test::Fail;
 
 // A number of which as many copies are made as the cell says.
 #[derive(Drop)]
@@ -30,16 +29,23 @@ impl TryClone for Scarce<'_> {
     }
 }
 
-fn two_of<'a>(alloc: Global, copies_left: &'a Cell<u64>) -> Result<Vec<Scarce<'a>>, AllocError> {
+fn scarce_number<'a>(number: u64, copies_left: &'a Cell<u64>) -> Scarce<'a> {
+    Scarce {
+        number,
+        copies_left,
+    }
+}
+
+// The numbers from 1 on.
+fn scarce_up_to<'a>(
+    alloc: Global,
+    last: u64,
+    copies_left: &'a Cell<u64>,
+) -> Result<Vec<Scarce<'a>>, AllocError> {
     let mut made = Vec::new(alloc);
-    made.push(Scarce {
-        number: 1,
-        copies_left,
-    })?;
-    made.push(Scarce {
-        number: 2,
-        copies_left,
-    })?;
+    for before in 0..last {
+        made.push(scarce_number(before.wrapping_add(1), copies_left))?;
+    }
     Ok(made)
 }
 
@@ -55,104 +61,142 @@ fn are(items: &[Scarce], expected: &[u64]) -> bool {
     true
 }
 
-fn is_passed_on(answer: Result<(), TryReserveError>) -> bool {
-    matches!(answer, Err(TryReserveError::CapacityOverflow))
+// Whether the answer is Ok where the copies were to be had, and else the copy's own refusal.
+fn is_as_given(answer: &Result<(), TryReserveError>, is_enough: bool) -> bool {
+    if is_enough {
+        answer.is_ok()
+    } else {
+        matches!(answer, Err(TryReserveError::CapacityOverflow))
+    }
+}
+
+// The calls that copy, each in a helper that promises nothing.
+fn extended<'a>(v: &mut Vec<Scarce<'a>>, sources: &[Scarce<'a>]) -> Result<(), TryReserveError> {
+    v.try_extend_from_slice_no_copy(sources)
+}
+
+fn also_extended<'a>(
+    v: &mut TryVec<Scarce<'a>>,
+    sources: &[Scarce<'a>],
+) -> Result<(), TryReserveError> {
+    v.extend_from_slice(sources)
+}
+
+fn resized<'a>(
+    v: &mut Vec<Scarce<'a>>,
+    length: usize,
+    value: Scarce<'a>,
+) -> Result<(), TryReserveError> {
+    v.try_resize_no_copy(length, value)
+}
+
+fn repeated<'a>(
+    alloc: Global,
+    value: Scarce<'a>,
+    count: usize,
+) -> Result<Vec<Scarce<'a>>, TryReserveError> {
+    try_from_elem(alloc, value, count)
 }
 
 const AFTER_EXTENSION: [&[u64]; 3] = [&[1, 2], &[1, 2, 1], &[1, 2, 1, 2]];
 
+fn is_extended(alloc: Global, given: u64, after: &[u64]) -> bool {
+    let copies_left = Cell::new(given);
+    let Ok(mut v) = scarce_up_to(alloc, 2, &copies_left) else {
+        return false;
+    };
+    let Ok(sources) = scarce_up_to(alloc, 2, &copies_left) else {
+        return false;
+    };
+    let answer = extended(&mut v, &sources);
+    is_as_given(&answer, given == 2) && are(&v, after)
+}
+
 #[test]
-fn an_extension_keeps_the_copies_before_the_refused_one(rt: HostRuntime) -> Result<(), Fail> {
+fn an_extension_keeps_the_copies_before_the_refused_one(rt: HostRuntime) {
     for given in 0..3u64 {
-        let copies_left = Cell::new(given);
-        let mut v = two_of(rt.alloc(), &copies_left)?;
-        let sources = two_of(rt.alloc(), &copies_left)?;
-        let answer = v.try_extend_from_slice_no_copy(&sources);
-        assert!(rt;
-            if given == 2 {
-                answer.is_ok()
-            } else {
-                is_passed_on(answer)
-            }
-        );
-        assert!(rt; are(&v, AFTER_EXTENSION[given as usize]));
+        assert!(rt; is_extended(rt.alloc(), given, AFTER_EXTENSION[given as usize]));
     }
-    Ok(())
+}
+
+fn is_also_extended(alloc: Global, given: u64, after: &[u64]) -> bool {
+    let copies_left = Cell::new(given);
+    let Ok(items) = scarce_up_to(alloc, 2, &copies_left) else {
+        return false;
+    };
+    let mut v = TryVec::from(items);
+    let Ok(sources) = scarce_up_to(alloc, 2, &copies_left) else {
+        return false;
+    };
+    let answer = also_extended(&mut v, &sources);
+    is_as_given(&answer, given == 2) && are(v.as_slice(), after) && copies_left.get() == 0
 }
 
 // The same by the call of `TryVec`, whose error is the copy's too.
 #[test]
-fn the_other_extension_keeps_them_too(rt: HostRuntime) -> Result<(), Fail> {
+fn the_other_extension_keeps_them_too(rt: HostRuntime) {
     for given in 0..3u64 {
-        let copies_left = Cell::new(given);
-        let mut v = TryVec::from(two_of(rt.alloc(), &copies_left)?);
-        let sources = two_of(rt.alloc(), &copies_left)?;
-        let answer = v.extend_from_slice(&sources);
-        assert!(rt;
-            if given == 2 {
-                answer.is_ok()
-            } else {
-                is_passed_on(answer)
-            }
-        );
-        assert!(rt; are(v.as_slice(), AFTER_EXTENSION[given as usize]));
-        assert!(rt; copies_left.get() == 0);
+        assert!(rt; is_also_extended(rt.alloc(), given, AFTER_EXTENSION[given as usize]));
     }
-    Ok(())
 }
 
 const AFTER_RESIZE: [&[u64]; 3] = [&[1, 2], &[1, 2, 9], &[1, 2, 9, 9, 9]];
 
+// A vector of two that is resized takes so many copies.
+fn is_resized(alloc: Global, given: u64, needed: u64, after: &[u64]) -> bool {
+    let copies_left = Cell::new(given);
+    let Ok(mut v) = scarce_up_to(alloc, 2, &copies_left) else {
+        return false;
+    };
+    let answer = resized(
+        &mut v,
+        (needed as usize).saturating_add(3),
+        scarce_number(9, &copies_left),
+    );
+    is_as_given(&answer, given == needed) && are(&v, after)
+}
+
 // Three more items take two copies: the last place gets the value itself.
 #[test]
-fn a_resize_keeps_the_copies_before_the_refused_one(rt: HostRuntime) -> Result<(), Fail> {
+fn a_resize_keeps_the_copies_before_the_refused_one(rt: HostRuntime) {
     for given in 0..3u64 {
-        let copies_left = Cell::new(given);
-        let mut v = two_of(rt.alloc(), &copies_left)?;
-        let value = Scarce {
-            number: 9,
-            copies_left: &copies_left,
-        };
-        let answer = v.try_resize_no_copy(5, value);
-        assert!(rt;
-            if given == 2 {
-                answer.is_ok()
-            } else {
-                is_passed_on(answer)
-            }
-        );
-        assert!(rt; are(&v, AFTER_RESIZE[given as usize]));
+        assert!(rt; is_resized(rt.alloc(), given, 2, AFTER_RESIZE[given as usize]));
     }
-    Ok(())
 }
 
-#[test]
-fn one_element_more_takes_no_copy(rt: HostRuntime) -> Result<(), Fail> {
+fn is_repeated_once(alloc: Global) -> bool {
     let copies_left = Cell::new(0);
-    let mut v = two_of(rt.alloc(), &copies_left)?;
-    let value = Scarce {
-        number: 9,
-        copies_left: &copies_left,
-    };
-    v.try_resize_no_copy(3, value)?;
-    assert!(rt; are(&v, &[1, 2, 9]));
-    let value = Scarce {
-        number: 8,
-        copies_left: &copies_left,
-    };
-    assert!(rt; are(&try_from_elem(rt.alloc(), value, 1)?, &[8]));
-    Ok(())
+    match repeated(alloc, scarce_number(8, &copies_left), 1) {
+        Ok(made) => are(&made, &[8]),
+        Err(_refused) => false,
+    }
 }
 
 #[test]
-fn a_refused_copy_is_passed_on(rt: HostRuntime) -> Result<(), Fail> {
+fn one_element_more_takes_no_copy(rt: HostRuntime) {
+    assert!(rt; is_resized(rt.alloc(), 0, 0, &[1, 2, 9]) && is_repeated_once(rt.alloc()));
+}
+
+fn is_copy_refused(answer: &Result<TryVec<Scarce>, TryReserveError>) -> bool {
+    matches!(answer, Err(TryReserveError::CapacityOverflow))
+}
+
+fn is_slice_refused(alloc: Global, sources: &[Scarce]) -> bool {
+    is_copy_refused(&TryVec::try_from_slice(alloc, sources))
+}
+
+fn is_clone_refused(source: &TryVec<Scarce>) -> bool {
+    is_copy_refused(&source.try_clone())
+}
+
+#[test]
+fn a_refused_copy_is_passed_on(rt: HostRuntime) {
     let copies_left = Cell::new(1);
-    let sources = two_of(rt.alloc(), &copies_left)?;
-    let answer = TryVec::try_from_slice(rt.alloc(), &sources);
-    assert!(rt; matches!(answer, Err(TryReserveError::CapacityOverflow)));
-    assert!(rt; copies_left.get() == 0);
+    let Ok(sources) = scarce_up_to(rt.alloc(), 2, &copies_left) else {
+        assert!(rt; false);
+        return;
+    };
+    let is_slice_passed_on = is_slice_refused(rt.alloc(), &sources) && copies_left.get() == 0;
     copies_left.set(1);
-    let answer = TryVec::from(sources).try_clone();
-    assert!(rt; matches!(answer, Err(TryReserveError::CapacityOverflow)));
-    Ok(())
+    assert!(rt; is_slice_passed_on && is_clone_refused(&TryVec::from(sources)));
 }

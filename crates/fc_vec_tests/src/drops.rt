@@ -1,6 +1,7 @@
 //! Items that count their drops.
 ghost use Rattle.std.specs.Prelude.{⊤};
 
+use crate::calls::holds;
 use fc_base::{TryClone, TryReserveError};
 use fc_vec::{FallibleVec, TryVec, try_from_elem};
 use std::alloc::Global;
@@ -53,14 +54,28 @@ fn three<'a>(alloc: Global, drops: &'a Cell<u64>) -> Result<TryVec<Token<'a>>, T
 fn each_item_is_dropped_once(rt: HostRuntime) -> Result<(), Fail> {
     let drops = Cell::new(0);
     let mut v = three(rt.alloc(), &drops)?;
-    assert!(rt; drops.get() == 0);
+    let at_first = drops.get();
     drop(v.pop());
-    assert!(rt; drops.get() == 1 && v.len() == 2);
+    let popped = drops.get();
+    let left = v.len() as u64;
     v.clear();
-    assert!(rt; drops.get() == 3 && v.is_empty());
+    let cleared = drops.get();
+    let none = v.len() as u64;
     drop(v);
-    assert!(rt; drops.get() == 3);
+    assert!(rt;
+        holds(
+            &[at_first, popped, left, cleared, none, drops.get()],
+            &[0, 1, 2, 3, 0, 3]
+        )
+    );
     Ok(())
+}
+
+fn joined<'a>(
+    ours: &mut TryVec<Token<'a>>,
+    theirs: &mut TryVec<Token<'a>>,
+) -> Result<(), TryReserveError> {
+    ours.append(theirs)
 }
 
 #[test]
@@ -68,11 +83,12 @@ fn an_appended_item_is_dropped_by_its_new_owner(rt: HostRuntime) -> Result<(), F
     let drops = Cell::new(0);
     let mut ours = three(rt.alloc(), &drops)?;
     let mut theirs = three(rt.alloc(), &drops)?;
-    ours.append(&mut theirs)?;
+    let answer = joined(&mut ours, &mut theirs);
     drop(theirs);
-    assert!(rt; drops.get() == 0 && ours.len() == 6);
+    let kept = drops.get();
+    let length = ours.len() as u64;
     drop(ours);
-    assert!(rt; drops.get() == 6);
+    assert!(rt; answer.is_ok() && holds(&[kept, length, drops.get()], &[0, 6, 6]));
     Ok(())
 }
 
@@ -81,10 +97,14 @@ fn a_walk_that_is_dropped_early_drops_the_rest(rt: HostRuntime) -> Result<(), Fa
     let drops = Cell::new(0);
     let mut walk = three(rt.alloc(), &drops)?.into_iter();
     drop(walk.next());
-    assert!(rt; drops.get() == 1);
+    let first = drops.get();
     drop(walk);
-    assert!(rt; drops.get() == 3);
+    assert!(rt; first == 1 && drops.get() == 3);
     Ok(())
+}
+
+fn resized<'a>(v: &mut TryVec<Token<'a>>, length: usize, drops: &'a Cell<u64>) -> bool {
+    v.resize_with(length, || Token(drops)).is_ok()
 }
 
 // What a resize to a lower length cuts off, the value of one that copies, and what a refused one would have put in.
@@ -92,67 +112,111 @@ fn a_walk_that_is_dropped_early_drops_the_rest(rt: HostRuntime) -> Result<(), Fa
 fn a_resize_drops_what_it_leaves_out(rt: HostRuntime) -> Result<(), Fail> {
     let drops = Cell::new(0);
     let mut v = three(rt.alloc(), &drops)?;
-    v.resize_with(2, || Token(&drops))?;
-    assert!(rt; drops.get() == 1 && v.len() == 2);
-    v.resize_with(4, || Token(&drops))?;
-    assert!(rt; drops.get() == 1 && v.len() == 4);
-    assert!(rt; v.resize_with(usize::MAX, || Token(&drops)).is_err());
-    assert!(rt; drops.get() == 1 && v.len() == 4);
+    let is_cut = resized(&mut v, 2, &drops);
+    let after_cut = drops.get();
+    let two = v.len() as u64;
+    let is_grown = resized(&mut v, 4, &drops);
+    let after_growth = drops.get();
+    let four = v.len() as u64;
+    let is_too_long = resized(&mut v, usize::MAX, &drops);
+    let after_refusal = drops.get();
+    let still_four = v.len() as u64;
     drop(v);
-    assert!(rt; drops.get() == 5);
+    assert!(rt; is_cut && is_grown && !is_too_long);
+    assert!(rt; holds(&[after_cut, two, after_growth, four], &[1, 2, 1, 4]));
+    assert!(rt; holds(&[after_refusal, still_four, drops.get()], &[1, 4, 5]));
     Ok(())
+}
+
+fn token_with_copies<'a>(drops: &'a Cell<u64>, copies_left: &'a Cell<u64>) -> Copied<'a> {
+    Copied {
+        token: Token(drops),
+        copies_left,
+    }
+}
+
+fn repeated<'a>(
+    alloc: Global,
+    value: Copied<'a>,
+    count: usize,
+) -> Result<Vec<Copied<'a>>, TryReserveError> {
+    try_from_elem(alloc, value, count)
+}
+
+// How often items are dropped of a vector of three that is made with so many copies to be had, and whether it is made.
+fn drops_of_three(alloc: Global, given: u64) -> (bool, u64) {
+    let drops = Cell::new(0);
+    let copies_left = Cell::new(given);
+    let made = repeated(alloc, token_with_copies(&drops, &copies_left), 3);
+    let is_made = made.is_ok();
+    drop(made);
+    (is_made, drops.get())
 }
 
 // Each copy is dropped once, also where it was made for a vector that was then refused.
 #[test]
-fn a_copy_is_dropped_once(rt: HostRuntime) -> Result<(), Fail> {
+fn a_copy_is_dropped_once(rt: HostRuntime) {
     for given in 0..4u64 {
-        let drops = Cell::new(0);
-        let copies_left = Cell::new(given);
-        let value = Copied {
-            token: Token(&drops),
-            copies_left: &copies_left,
-        };
-        let made = try_from_elem(rt.alloc(), value, 3);
-        assert!(rt; made.is_ok() == (given >= 2));
-        drop(made);
-        assert!(rt; drops.get() == if given < 2 { given + 1 } else { 3 });
+        let (is_made, drops) = drops_of_three(rt.alloc(), given);
+        assert!(rt; is_made == (given >= 2));
+        assert!(rt; drops == if given < 2 { given + 1 } else { 3 });
     }
+}
+
+fn cut_without_copy<'a>(v: &mut Vec<Copied<'a>>, value: Copied<'a>) -> bool {
+    v.try_resize_no_copy(0, value).is_ok()
+}
+
+// The value of a resize to no greater length is dropped with what it cuts off.
+#[test]
+fn a_value_that_is_not_copied_is_dropped(rt: HostRuntime) -> Result<(), Fail> {
     let drops = Cell::new(0);
     let copies_left = Cell::new(0);
-    let value = Copied {
-        token: Token(&drops),
-        copies_left: &copies_left,
-    };
-    let mut one = try_from_elem(rt.alloc(), value, 1)?;
-    let value = Copied {
-        token: Token(&drops),
-        copies_left: &copies_left,
-    };
-    one.try_resize_no_copy(0, value)?;
-    assert!(rt; drops.get() == 2 && one.is_empty());
+    let mut one = repeated(rt.alloc(), token_with_copies(&drops, &copies_left), 1)?;
+    let is_cut = cut_without_copy(&mut one, token_with_copies(&drops, &copies_left));
+    assert!(rt; is_cut && one.is_empty() && drops.get() == 2);
     Ok(())
 }
 
-// The sweep refuses the request: the item of `try_push` is then dropped, and that of `try_push_give_back` comes back.
+fn pushed<'a>(v: &mut Vec<Token<'a>>, drops: &'a Cell<u64>) -> bool {
+    v.try_push(Token(drops)).is_ok()
+}
+
+// The sweep refuses the request: the item is then dropped.
 #[test]
 fn an_item_that_finds_no_room(rt: HostRuntime) {
     let drops = Cell::new(0);
-    let mut pushed = Vec::new(rt.alloc());
-    match pushed.try_push(Token(&drops)) {
-        Ok(()) => assert!(rt; drops.get() == 0 && pushed.len() == 1),
-        Err(_refused) => assert!(rt; drops.get() == 1 && pushed.is_empty()),
-    }
-    drop(pushed);
-    assert!(rt; drops.get() == 1);
-    let mut given = Vec::new(rt.alloc());
-    match given.try_push_give_back(Token(&drops)) {
-        Ok(()) => assert!(rt; given.len() == 1),
-        Err((token, _refused)) => {
-            assert!(rt; drops.get() == 1 && given.is_empty());
-            drop(token);
+    let mut v = Vec::new(rt.alloc());
+    let is_pushed = pushed(&mut v, &drops);
+    let dropped = drops.get();
+    let length = v.len() as u64;
+    drop(v);
+    assert!(rt;
+        if is_pushed {
+            dropped == 0 && length == 1
+        } else {
+            dropped == 1 && length == 0
         }
+    );
+    assert!(rt; drops.get() == 1);
+}
+
+// How many items are dropped while the item is there that found no room, if it did not.
+fn given_back<'a>(v: &mut Vec<Token<'a>>, drops: &'a Cell<u64>) -> Option<u64> {
+    match v.try_push_give_back(Token(drops)) {
+        Ok(()) => None,
+        Err((_token, _refused)) => Some(drops.get()),
     }
-    drop(given);
-    assert!(rt; drops.get() == 2);
+}
+
+// The sweep refuses the request: the item is then given back.
+#[test]
+fn an_item_that_is_given_back(rt: HostRuntime) {
+    let drops = Cell::new(0);
+    let mut v = Vec::new(rt.alloc());
+    let dropped = given_back(&mut v, &drops).unwrap_or(0);
+    let length = v.len() as u64;
+    let dropped_by_then = drops.get();
+    drop(v);
+    assert!(rt; dropped == 0 && length.wrapping_add(dropped_by_then) == 1 && drops.get() == 1);
 }

@@ -1,8 +1,11 @@
 //! Tests of the vectors through their public calls.
+//!
+//! What a test costs is its proof. So each call of the library stands in a helper of its own that promises nothing, and a test goes straight through
+//! its calls and compares what it has seen at the end.
 #![tactic(auto)]
 
 #[cfg(test)]
-mod collect;
+mod calls;
 #[cfg(test)]
 mod copies;
 #[cfg(test)]

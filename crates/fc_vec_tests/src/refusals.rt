@@ -1,94 +1,15 @@
 //! What refused requests leave: the sweep refuses each request of these tests in turn.
 ghost use Rattle.std.specs.Prelude.{◌≡◌};
 
-use crate::vectors::holds;
+use crate::calls::{calls_that_end_well, holds, is_refused};
 use fc_base::{TryClone, TryReserveError};
-use fc_vec::{FallibleCopyVec, FallibleVec, TryCollect, TryVec, try_from_elem};
+use fc_vec::{FallibleVec, TryCollect, TryVec, try_from_elem};
 use std::alloc::{AllocError, Global};
 use std::cell::Cell;
 
-// Three items with no room for a fourth, and one item.
-fn full_and_one(alloc: Global) -> Result<(Vec<u64>, Vec<u64>), AllocError> {
-    let full = Vec::from_slice(alloc, &[1, 2, 3])?;
-    let one = Vec::from_slice(alloc, &[4])?;
-    Ok((full, one))
-}
-
-fn is_refused(error: &TryReserveError) -> bool {
-    matches!(error, TryReserveError::AllocError)
-}
-
-// The vector holds what it is to hold after an answer: the longer list, or the three items that it had.
-fn holds_after(answer: &Result<(), TryReserveError>, v: &[u64], longer: &[u64]) -> bool {
-    match answer {
-        Ok(()) => holds(v, longer),
-        Err(error) => is_refused(error) && holds(v, &[1, 2, 3]),
-    }
-}
-
 #[test]
-fn a_refused_push_leaves_the_vector(rt: HostRuntime) {
-    let Ok((mut v, _one)) = full_and_one(rt.alloc()) else {
-        return;
-    };
-    match v.try_push_give_back(4) {
-        Ok(()) => assert!(rt; holds(&v, &[1, 2, 3, 4])),
-        Err((item, error)) => {
-            assert!(rt; item == 4 && is_refused(&error) && holds(&v, &[1, 2, 3]));
-        }
-    }
-    let Ok((mut v, _one)) = full_and_one(rt.alloc()) else {
-        return;
-    };
-    match v.try_insert(0, 4) {
-        Ok(()) => assert!(rt; holds(&v, &[4, 1, 2, 3])),
-        Err((item, error)) => {
-            assert!(rt; item == 4 && is_refused(&error) && holds(&v, &[1, 2, 3]));
-        }
-    }
-    let Ok((mut v, _one)) = full_and_one(rt.alloc()) else {
-        return;
-    };
-    let answer = v.try_push(4);
-    assert!(rt; holds_after(&answer, &v, &[1, 2, 3, 4]));
-}
-
-#[test]
-fn a_refused_append_leaves_both_vectors(rt: HostRuntime) {
-    let Ok((mut v, mut one)) = full_and_one(rt.alloc()) else {
-        return;
-    };
-    let answer = v.try_append(&mut one);
-    assert!(rt; holds_after(&answer, &v, &[1, 2, 3, 4]));
-    assert!(rt;
-        if answer.is_ok() {
-            one.is_empty()
-        } else {
-            holds(&one, &[4])
-        }
-    );
-    let Ok(mut one) = Vec::from_slice(rt.alloc(), &[3]) else {
-        return;
-    };
-    let mut empty = Vec::new(rt.alloc());
-    match empty.try_append(&mut one) {
-        Ok(()) => assert!(rt; holds(&empty, &[3]) && one.is_empty()),
-        Err(error) => assert!(rt; is_refused(&error) && empty.is_empty() && holds(&one, &[3])),
-    }
-}
-
-#[test]
-fn a_refused_extension_leaves_the_vector(rt: HostRuntime) {
-    let Ok((mut v, one)) = full_and_one(rt.alloc()) else {
-        return;
-    };
-    let answer = v.try_extend_from_slice(&one);
-    assert!(rt; holds_after(&answer, &v, &[1, 2, 3, 4]));
-    let Ok((mut v, one)) = full_and_one(rt.alloc()) else {
-        return;
-    };
-    let answer = v.try_extend_from_slice_no_copy(&one);
-    assert!(rt; holds_after(&answer, &v, &[1, 2, 3, 4]));
+fn a_refused_call_leaves_the_vector(rt: HostRuntime) {
+    assert_eq!(rt; calls_that_end_well(rt.alloc(), true), 25);
 }
 
 // A number in a box. Its copies are counted before their boxes are asked for.
@@ -135,8 +56,28 @@ fn count_up(boxes: &[Boxed]) -> bool {
     true
 }
 
-// The room of three is asked for first, then a box for each copy. With the room refused no copy is asked for; with the box of a copy refused,
-// the copies before it stay, as many as were asked for but one. What is then left of the sources goes in by a call with ample memory.
+fn extended<'a>(v: &mut Vec<Boxed<'a>>, sources: &[Boxed<'a>]) -> Result<(), TryReserveError> {
+    v.try_extend_from_slice_no_copy(sources)
+}
+
+// With the room refused no copy is asked for; with the box of a copy refused, the copies before it stay, as many as were asked for but one.
+fn is_refused_behind_copies(
+    answer: &Result<(), TryReserveError>,
+    v: &Vec<Boxed>,
+    asked: u64,
+) -> bool {
+    is_refused(answer)
+        && v.len() as u64 == asked.saturating_sub(1)
+        && (v.capacity() == 0) == (asked == 0)
+}
+
+// Puts in what is left of the sources, which is whole or refused again.
+fn is_completed<'a>(v: &mut Vec<Boxed<'a>>, sources: &[Boxed<'a>]) -> bool {
+    let (_, left) = sources.split_at(v.len().min(sources.len()));
+    extended(v, left).is_err() || v.len() == 3
+}
+
+// The room of three is asked for first, then a box for each copy. What is left of the sources by a refusal goes in by a call with ample memory.
 #[test]
 fn an_extension_keeps_the_boxes_before_the_refused_one(rt: HostRuntime) {
     let asked = Cell::new(0);
@@ -144,78 +85,82 @@ fn an_extension_keeps_the_boxes_before_the_refused_one(rt: HostRuntime) {
         return;
     };
     let mut v = Vec::new(rt.alloc());
-    match v.try_extend_from_slice_no_copy(&sources) {
-        Ok(()) => assert!(rt; v.len() == 3 && asked.get() == 3),
-        Err(error) => {
-            assert!(rt; is_refused(&error));
-            assert!(rt; v.len() == asked.get().saturating_sub(1) as usize);
-            assert!(rt; (v.capacity() == 0) == (asked.get() == 0));
-            let (_, left) = sources.split_at(v.len().min(sources.len()));
-            assert!(rt; v.try_extend_from_slice_no_copy(left).is_err() || v.len() == 3);
-        }
-    }
-    assert!(rt; count_up(&v) && count_up(&sources));
+    let answer = extended(&mut v, &sources);
+    let is_right = if answer.is_ok() {
+        v.len() == 3 && asked.get() == 3
+    } else {
+        is_refused_behind_copies(&answer, &v, asked.get()) && is_completed(&mut v, &sources)
+    };
+    assert!(rt; is_right && count_up(&v) && count_up(&sources));
 }
 
-#[test]
-fn a_refused_resize_leaves_the_vector(rt: HostRuntime) {
-    let Ok((mut v, _one)) = full_and_one(rt.alloc()) else {
-        return;
-    };
-    let answer = v.try_resize(5, 9);
-    assert!(rt; holds_after(&answer, &v, &[1, 2, 3, 9, 9]));
-    let Ok((mut v, _one)) = full_and_one(rt.alloc()) else {
-        return;
-    };
-    let answer = v.try_resize_no_copy(5, 9);
-    assert!(rt; holds_after(&answer, &v, &[1, 2, 3, 9, 9]));
-    let Ok((mut v, _one)) = full_and_one(rt.alloc()) else {
-        return;
-    };
-    let answer = FallibleVec::try_resize_with(&mut v, 5, || 9);
-    assert!(rt; holds_after(&answer, &v, &[1, 2, 3, 9, 9]));
+fn reserved(v: &mut TryVec<u64>, more: usize) -> Result<(), TryReserveError> {
+    v.reserve(more)
+}
+
+fn pushed(v: &mut TryVec<u64>, item: u64) -> Result<(), TryReserveError> {
+    v.push(item)
 }
 
 // After room for three, three pushes are Ok, whatever request is refused.
 #[test]
 fn reserved_room_is_not_refused(rt: HostRuntime) {
-    let mut v: TryVec<u64> = TryVec::new(rt.alloc());
-    if v.reserve(3).is_err() {
-        assert!(rt; v.is_empty());
-        return;
-    }
-    assert!(rt; v.push(1).is_ok() && v.push(2).is_ok() && v.push(3).is_ok());
-    assert!(rt; holds(v.as_slice(), &[1, 2, 3]));
+    let mut v = TryVec::new(rt.alloc());
+    let is_right = if reserved(&mut v, 3).is_err() {
+        v.is_empty()
+    } else {
+        pushed(&mut v, 1).is_ok()
+            && pushed(&mut v, 2).is_ok()
+            && pushed(&mut v, 3).is_ok()
+            && holds(v.as_slice(), &[1, 2, 3])
+    };
+    assert!(rt; is_right);
 }
 
 // What is made by a call is whole, or refused.
 fn is_whole(answer: Result<TryVec<u64>, TryReserveError>, whole: &[u64]) -> bool {
     match answer {
         Ok(made) => holds(made.as_slice(), whole),
-        Err(error) => is_refused(&error),
+        Err(error) => matches!(error, TryReserveError::AllocError),
     }
+}
+
+fn repeated(alloc: Global) -> Result<TryVec<u64>, TryReserveError> {
+    Ok(TryVec::from(try_from_elem(alloc, 7, 3)?))
+}
+
+fn collected(alloc: Global) -> Result<TryVec<u64>, TryReserveError> {
+    let made: Vec<u64> = TryCollect::try_collect(0..9u64, alloc)?;
+    Ok(TryVec::from(made))
+}
+
+fn part(alloc: Global) -> Result<TryVec<u64>, TryReserveError> {
+    TryVec::try_from_slice(alloc, &[1, 2])
+}
+
+fn copied(alloc: Global) -> Result<TryVec<u64>, TryReserveError> {
+    part(alloc)?.try_clone()
+}
+
+fn two_parts(alloc: Global) -> Result<TryVec<TryVec<u64>>, TryReserveError> {
+    let mut parts = TryVec::new(alloc);
+    for _ in 0..2 {
+        parts.push(part(alloc)?)?;
+    }
+    Ok(parts)
+}
+
+// The parts stay as they are.
+fn are_joined(parts: &TryVec<TryVec<u64>>) -> bool {
+    is_whole(parts.concat(), &[1, 2, 1, 2]) && parts.len() == 2
 }
 
 #[test]
 fn what_is_made_is_whole_or_refused(rt: HostRuntime) {
-    assert!(rt;
-        is_whole(
-            try_from_elem(rt.alloc(), 7, 3).map(TryVec::from),
-            &[7, 7, 7]
-        )
-    );
-    let collected: Result<Vec<u64>, TryReserveError> = TryCollect::try_collect(0..9u64, rt.alloc());
-    assert!(rt; is_whole(collected.map(TryVec::from), &[0, 1, 2, 3, 4, 5, 6, 7, 8]));
-    let mut parts = TryVec::new(rt.alloc());
-    for _ in 0..2 {
-        let Ok(part) = TryVec::try_from_slice(rt.alloc(), &[1, 2]) else {
-            return;
-        };
-        assert!(rt; is_whole(part.try_clone(), &[1, 2]));
-        if parts.push(part).is_err() {
-            return;
-        }
+    assert!(rt; is_whole(repeated(rt.alloc()), &[7, 7, 7]));
+    assert!(rt; is_whole(collected(rt.alloc()), &[0, 1, 2, 3, 4, 5, 6, 7, 8]));
+    assert!(rt; is_whole(copied(rt.alloc()), &[1, 2]));
+    if let Ok(parts) = two_parts(rt.alloc()) {
+        assert!(rt; are_joined(&parts));
     }
-    assert!(rt; is_whole(parts.concat(), &[1, 2, 1, 2]));
-    assert!(rt; parts.len() == 2);
 }

@@ -1,7 +1,7 @@
 //! Calls of `TryVec` with ample memory.
 ghost use Rattle.std.specs.Prelude.{⊤};
 
-use crate::vectors::holds;
+use crate::calls::{holds, is_overflow, is_refused};
 use fc_base::{TryClone, TryReserveError};
 use fc_vec::{FallibleCopyVec, FallibleVec, TryVec};
 use std::alloc::Global;
@@ -12,106 +12,156 @@ fn of(alloc: Global, items: &[u64]) -> Result<TryVec<u64>, TryReserveError> {
     TryVec::try_from_slice(alloc, items)
 }
 
+fn reserved(v: &mut TryVec<u64>, more: usize) -> Result<(), TryReserveError> {
+    v.reserve(more)
+}
+
 #[test]
 fn room_and_items(rt: HostRuntime) -> Result<(), Fail> {
-    let mut v: TryVec<u64> = TryVec::with_capacity(rt.alloc(), 2)?;
-    assert!(rt; v.is_empty());
-    v.reserve(3)?;
-    assert!(rt; v.is_empty());
-    v.push(1)?;
-    assert!(rt; holds(v.as_slice(), &[1]) && v.len() == 1);
-    assert!(rt;
-        matches!(
-            v.reserve(usize::MAX),
-            Err(TryReserveError::CapacityOverflow)
-        )
-    );
-    assert!(rt; holds(v.as_slice(), &[1]));
-    assert!(rt; matches!(v.pop(), Some(1)));
-    assert!(rt; v.pop().is_none());
+    let mut v = TryVec::with_capacity(rt.alloc(), 2)?;
+    let none = v.is_empty() && reserved(&mut v, 3).is_ok() && v.is_empty();
+    let one = v.push(1).is_ok() && holds(v.as_slice(), &[1]) && v.len() == 1;
+    let kept = is_overflow(&reserved(&mut v, usize::MAX)) && holds(v.as_slice(), &[1]);
+    let popped = matches!(v.pop(), Some(1)) && v.pop().is_none();
     let defaulted: TryVec<u64> = TryVec::default(rt.alloc());
-    assert!(rt; defaulted.is_empty());
+    assert!(rt; none && one && kept && popped && defaulted.is_empty());
     Ok(())
+}
+
+fn reserved_for_characters(v: &mut TryVec<char>, more: usize) -> Result<(), TryReserveError> {
+    v.reserve(more)
 }
 
 #[test]
 fn characters_past_the_bytes_of_an_allocation(rt: HostRuntime) {
-    let mut v: TryVec<char> = TryVec::new(rt.alloc());
-    assert!(rt; matches!(v.reserve(usize::MAX), Err(TryReserveError::AllocError)));
-    assert!(rt; matches!(v.reserve(usize::MAX / 4), Err(TryReserveError::AllocError)));
-    assert!(rt; v.reserve(0).is_ok() && v.is_empty());
+    let mut v = TryVec::new(rt.alloc());
+    assert!(rt; is_refused(&reserved_for_characters(&mut v, usize::MAX)));
+    assert!(rt; is_refused(&reserved_for_characters(&mut v, usize::MAX / 4)));
+    assert!(rt; reserved_for_characters(&mut v, 0).is_ok() && v.is_empty());
+}
+
+fn filled(v: &mut TryVec<u64>, length: usize) -> Result<(), TryReserveError> {
+    v.resize_with(length, || 4)
+}
+
+fn joined(v: &mut TryVec<u64>, other: &mut TryVec<u64>) -> Result<(), TryReserveError> {
+    v.append(other)
+}
+
+fn extended(v: &mut TryVec<u64>, items: &[u64]) -> Result<(), TryReserveError> {
+    v.extend_from_slice(items)
 }
 
 #[test]
 fn growth(rt: HostRuntime) -> Result<(), Fail> {
-    let mut filled = TryVec::new(rt.alloc());
-    filled.resize_with(2, || 4)?;
-    assert!(rt; holds(filled.as_slice(), &[4, 4]));
-    let mut ours = TryVec::new(rt.alloc());
+    let mut v = TryVec::new(rt.alloc());
+    let is_filled = filled(&mut v, 2).is_ok() && holds(v.as_slice(), &[4, 4]);
+    v.clear();
     let mut theirs = of(rt.alloc(), &[5])?;
-    ours.append(&mut theirs)?;
-    assert!(rt; holds(ours.as_slice(), &[5]) && theirs.is_empty());
-    ours.extend_from_slice(&[6, 7])?;
-    assert!(rt; holds(ours.as_slice(), &[5, 6, 7]));
-    ours.clear();
-    assert!(rt; ours.is_empty());
+    let is_joined = v.is_empty() && joined(&mut v, &mut theirs).is_ok() && theirs.is_empty();
+    assert!(rt; is_filled && is_joined && holds(v.as_slice(), &[5]));
+    assert!(rt; extended(&mut v, &[6, 7]).is_ok() && holds(v.as_slice(), &[5, 6, 7]));
     Ok(())
+}
+
+fn text(alloc: Global, text: &str) -> Result<TryVec<u8>, TryReserveError> {
+    TryVec::try_from_str(alloc, text)
 }
 
 #[test]
 fn texts_are_bytes(rt: HostRuntime) -> Result<(), Fail> {
-    let mut text = TryVec::try_from_str(rt.alloc(), "foo")?;
-    text.extend_from_slice("bar".as_bytes())?;
-    assert!(rt; text == TryVec::try_from_str(rt.alloc(), "foobar")?);
+    let mut start = text(rt.alloc(), "foo")?;
+    let is_extended = start.extend_from_slice("bar".as_bytes()).is_ok();
+    let whole = text(rt.alloc(), "foobar")?;
+    assert!(rt; is_extended && start == whole);
     Ok(())
+}
+
+// The digits, one behind the other; and how many the walk says are left, before and behind.
+fn digits(v: &TryVec<u64>) -> (u64, bool) {
+    let mut walk = v.iter();
+    let at_first = walk.size_hint() == (v.len(), Some(v.len()));
+    let mut number: u64 = 0;
+    while let Some(item) = walk.next() {
+        number = number.wrapping_mul(10).wrapping_add(*item);
+    }
+    (number, at_first && walk.size_hint() == (0, Some(0)))
+}
+
+fn sum_of_lent(v: &TryVec<u64>) -> u64 {
+    let mut sum: u64 = 0;
+    for item in v {
+        sum = sum.wrapping_add(*item);
+    }
+    sum
+}
+
+fn sum_of_given(v: TryVec<u64>) -> u64 {
+    let mut sum: u64 = 0;
+    for item in v {
+        sum = sum.wrapping_add(item);
+    }
+    sum
 }
 
 #[test]
 fn copies_and_walks(rt: HostRuntime) -> Result<(), Fail> {
     let v = of(rt.alloc(), &[1, 4, 5])?;
-    assert!(rt; holds(v.as_slice(), &[1, 4, 5]));
     let copy = v.try_clone()?;
-    assert!(rt; copy == v);
-    let mut walk = v.iter();
-    assert!(rt; walk.size_hint() == (3, Some(3)));
-    let mut sum: u64 = 0;
-    while let Some(item) = walk.next() {
-        sum = sum.wrapping_mul(10).wrapping_add(*item);
-    }
-    assert!(rt; sum == 145 && walk.size_hint() == (0, Some(0)));
-    for item in &v {
-        sum = sum.wrapping_add(*item);
-    }
-    assert!(rt; sum == 155);
-    for item in copy {
-        sum = sum.wrapping_add(item);
-    }
-    assert!(rt; sum == 165);
+    assert!(rt; holds(v.as_slice(), &[1, 4, 5]) && copy == v);
+    let (number, is_counted) = digits(&v);
+    assert!(rt;
+        is_counted
+            && holds(
+                &[number, sum_of_lent(&v), sum_of_given(copy)],
+                &[145, 10, 10]
+            )
+    );
     Ok(())
+}
+
+fn double_each(v: &mut TryVec<u64>) {
+    for item in v.iter_mut() {
+        *item = item.wrapping_mul(2);
+    }
+}
+
+fn write_second(v: &mut TryVec<u64>, number: u64) {
+    if let Some(second) = v.as_mut_slice().get_mut(1) {
+        *second = number;
+    }
 }
 
 #[test]
 fn items_are_written_over(rt: HostRuntime) -> Result<(), Fail> {
     let mut v = of(rt.alloc(), &[1, 4, 5])?;
-    for item in v.iter_mut() {
-        *item = item.wrapping_mul(2);
-    }
-    assert!(rt; holds(v.as_slice(), &[2, 8, 10]));
-    if let Some(second) = v.as_mut_slice().get_mut(1) {
-        *second = 7;
-    }
-    assert!(rt; holds(v.as_slice(), &[2, 7, 10]));
+    double_each(&mut v);
+    let are_doubled = holds(v.as_slice(), &[2, 8, 10]);
+    write_second(&mut v, 7);
+    assert!(rt; are_doubled && holds(v.as_slice(), &[2, 7, 10]));
     Ok(())
 }
+
+// Whether the first so many parts are these when they are joined.
+fn are_joined(parts: &TryVec<TryVec<u64>>, wanted: &[u64]) -> bool {
+    match parts.concat() {
+        Ok(made) => holds(made.as_slice(), wanted),
+        Err(_refused) => false,
+    }
+}
+
+const PARTS: [&[u64]; 3] = [&[1, 2], &[], &[3]];
+
+const JOINED: [&[u64]; 4] = [&[], &[1, 2], &[1, 2], &[1, 2, 3]];
 
 #[test]
 fn parts_are_joined(rt: HostRuntime) -> Result<(), Fail> {
     let mut parts = TryVec::new(rt.alloc());
-    assert!(rt; parts.concat()?.is_empty());
-    parts.push(of(rt.alloc(), &[1, 2])?)?;
-    parts.push(of(rt.alloc(), &[])?)?;
-    parts.push(of(rt.alloc(), &[3])?)?;
-    assert!(rt; holds(parts.concat()?.as_slice(), &[1, 2, 3]));
+    assert!(rt; are_joined(&parts, &[]));
+    for count in 0..3usize {
+        parts.push(of(rt.alloc(), PARTS[count])?)?;
+        assert!(rt; are_joined(&parts, JOINED[count + 1]));
+    }
     Ok(())
 }
 
@@ -141,16 +191,32 @@ fn two_long(alloc: Global) -> Result<(Vec<Nothing>, Vec<Nothing>), TryReserveErr
     Ok((shorter, longer))
 }
 
+type Parts = TryVec<TryVec<Nothing>>;
+
+fn is_joining_refused(parts: &Parts) -> bool {
+    matches!(parts.concat(), Err(TryReserveError::AllocError))
+}
+
+fn is_joining_too_long(parts: &Parts) -> bool {
+    matches!(parts.concat(), Err(TryReserveError::CapacityOverflow))
+}
+
+// The longer one twice, and the shorter one.
+fn two_parts_and_one(alloc: Global) -> Result<(Parts, Vec<Nothing>), TryReserveError> {
+    let (shorter, longer) = two_long(alloc)?;
+    let mut parts = TryVec::new(alloc);
+    parts.push(TryVec::from(Vec::from_slice(alloc, &longer)?))?;
+    parts.push(TryVec::from(longer))?;
+    Ok((parts, shorter))
+}
+
 // Three vectors are too long together, and two are not. They are let go without a drop of each item.
 #[test]
 fn a_sum_of_lengths_overflows(rt: HostRuntime) -> Result<(), Fail> {
-    let (shorter, longer) = two_long(rt.alloc())?;
-    let mut parts = TryVec::new(rt.alloc());
-    parts.push(TryVec::from(Vec::from_slice(rt.alloc(), &longer)?))?;
-    parts.push(TryVec::from(longer))?;
-    assert!(rt; matches!(parts.concat(), Err(TryReserveError::AllocError)));
-    parts.push(TryVec::from(shorter))?;
-    assert!(rt; matches!(parts.concat(), Err(TryReserveError::CapacityOverflow)));
+    let (mut parts, shorter) = two_parts_and_one(rt.alloc())?;
+    let two_are_refused = is_joining_refused(&parts);
+    let is_pushed = parts.push(TryVec::from(shorter)).is_ok();
+    assert!(rt; two_are_refused && is_pushed && is_joining_too_long(&parts));
     let _leaked = ManuallyDrop::new(parts);
     Ok(())
 }

@@ -76,24 +76,38 @@ pub fn serve<R: Read, W: Write>(
         number: 0,
         text: String::new(alloc),
     };
-    let mut piece = [0u8; PIECE];
-    for _ in 0..u64::MAX {
-        let n = match src.read(&mut piece) {
-            Ok(n) => n,
-            Err(_) => return Err(ServeError::Read),
-        };
-        if n == 0 {
-            return session.finish(out);
-        }
-        match session.take(out, &piece[..n])? {
-            Some(n) => return flushed(out, ServeEnd::NotACommand(n)),
-            None => (),
-        }
-    }
-    Err(ServeError::Read)
+    session.run_all(src, out)
 }
 
 impl Session {
+    // Runs the lines of the whole source, of which none was read yet.
+    fn run_all<R: Read, W: Write>(
+        &mut self,
+        src: &mut R,
+        out: &mut W,
+    ) -> Result<ServeEnd, ServeError>
+        requires room { HasRoom self.old }
+        requires new { IsAfter self.old [] [] }
+        ensures { (text : List ℕ) × Appends (W.contents out.old) (W.contents out.new) text
+            × Served (R.remaining src.old) (R.remaining src.new) text result }
+    {
+        let mut piece = [0u8; PIECE];
+        for _ in 0..u64::MAX {
+            let n = match src.read(&mut piece) {
+                Ok(n) => n,
+                Err(_) => return Err(ServeError::Read),
+            };
+            if n == 0 {
+                return self.finish(out);
+            }
+            match self.take(out, &piece[..n])? {
+                Some(n) => return flushed(out, ServeEnd::NotACommand(n)),
+                None => (),
+            }
+        }
+        Err(ServeError::Read)
+    }
+
     // Runs the line that the source ended in, if any.
     fn finish<W: Write>(&mut self, out: &mut W) -> Result<ServeEnd, ServeError>
         ensures { (seen said : List ℕ) → IsAfter self.old seen said → (more : List ℕ)

@@ -12,8 +12,10 @@ use fc_base::{Count, Query};
 use fc_search::neighbours::{first_after, first_from, last_before, last_to};
 
 impl<K: Ord, V> BTreeMap<K, V> {
-    /// The first pair whose key is not below `key`, or `None` where there is none. `key` is a `Query`, as in `get`. One way down the tree finds
-    /// it, without a walk. Not in upstream: std's map has it as `range(key..).next()`.
+    /// The first pair whose key is not below `key`, or `None` where there is none: what Java's maps call `ceiling`. `key` is a `Query`, as in `get`. One way
+    /// down the tree finds it, without a walk and with the comparisons of a look-up; nothing is taken. Its value is written by `get_mut` at the key
+    /// that was found. Not in upstream: std's map has it as `range(key..).next()`, and its unstable cursors as
+    /// `lower_bound(Bound::Included(&key)).peek_next()`.
     pub fn first_at_or_after<Q: Query<K>>(&self, key: Q) -> Option<(&K, &V)>
         ensures pair { now_pair result ≡ first_of (not_below Q.order (entries self.now) (Q.sought key)) }
         ensures ascending { IsAscending K.cmp (entries self.now) }
@@ -21,8 +23,7 @@ impl<K: Ord, V> BTreeMap<K, V> {
         self.first_at_or_after_counted(key, &mut Count::new())
     }
 
-    /// `first_at_or_after`, with its comparisons added to the count: exactly those keys that a search from the left passes. It moves
-    /// no pair.
+    /// `first_at_or_after`, with its comparisons added to the count: exactly those keys that a look-up passes. It moves no pair.
     pub fn first_at_or_after_counted<Q: Query<K>>(
         &self,
         key: Q,
@@ -54,8 +55,10 @@ impl<K: Ord, V> BTreeMap<K, V> {
         }
     }
 
-    /// The first pair whose key is above `key`, or `None` where there is none. `key` is a `Query`, as in `get`. One way down the tree finds
-    /// it, without a walk. Not in upstream: std's map has it as `range((Excluded(key), Unbounded)).next()`.
+    /// The first pair whose key is above `key`, or `None` where there is none: what Java's maps call `higher`. `key` is a `Query`, as in `get`. One way
+    /// down the tree finds it, without a walk and with the comparisons of a look-up; nothing is taken. Its value is written by `get_mut` at the key
+    /// that was found. Not in upstream: std's map has it as `range((Excluded(key), Unbounded)).next()`, and its unstable cursors as
+    /// `lower_bound(Bound::Excluded(&key)).peek_next()`.
     pub fn first_after<Q: Query<K>>(&self, key: Q) -> Option<(&K, &V)>
         ensures pair { now_pair result ≡ first_of (above Q.order (entries self.now) (Q.sought key)) }
         ensures ascending { IsAscending K.cmp (entries self.now) }
@@ -63,8 +66,7 @@ impl<K: Ord, V> BTreeMap<K, V> {
         self.first_after_counted(key, &mut Count::new())
     }
 
-    /// `first_after`, with its comparisons added to the count: exactly those keys that a search from the left passes. It moves
-    /// no pair.
+    /// `first_after`, with its comparisons added to the count: exactly those keys that a look-up passes. It moves no pair.
     pub fn first_after_counted<Q: Query<K>>(&self, key: Q, count: &mut Count) -> Option<(&K, &V)>
         ensures pair { now_pair result ≡ first_of (above Q.order (entries self.now) (Q.sought key)) }
         ensures ascending { IsAscending K.cmp (entries self.now) }
@@ -92,8 +94,10 @@ impl<K: Ord, V> BTreeMap<K, V> {
         }
     }
 
-    /// The last pair whose key is not above `key`, or `None` where there is none. `key` is a `Query`, as in `get`. One way down the tree finds
-    /// it, without a walk. Not in upstream: std's map has it as `range(..=key).next_back()`.
+    /// The last pair whose key is not above `key`, or `None` where there is none: what Java's maps call `floor`. `key` is a `Query`, as in `get`. One way
+    /// down the tree finds it, without a walk and with the comparisons of a look-up; nothing is taken. Its value is written by `get_mut` at the key
+    /// that was found. Not in upstream: std's map has it as `range(..=key).next_back()`, and its unstable cursors as
+    /// `upper_bound(Bound::Included(&key)).peek_prev()`.
     pub fn last_at_or_before<Q: Query<K>>(&self, key: Q) -> Option<(&K, &V)>
         ensures pair { now_pair result ≡ last_of (not_above Q.order (entries self.now) (Q.sought key)) }
         ensures ascending { IsAscending K.cmp (entries self.now) }
@@ -101,8 +105,7 @@ impl<K: Ord, V> BTreeMap<K, V> {
         self.last_at_or_before_counted(key, &mut Count::new())
     }
 
-    /// `last_at_or_before`, with its comparisons added to the count: exactly those keys that a search from the left passes. It moves
-    /// no pair.
+    /// `last_at_or_before`, with its comparisons added to the count: exactly those keys that a look-up passes. It moves no pair.
     pub fn last_at_or_before_counted<Q: Query<K>>(
         &self,
         key: Q,
@@ -134,8 +137,10 @@ impl<K: Ord, V> BTreeMap<K, V> {
         }
     }
 
-    /// The last pair whose key is below `key`, or `None` where there is none. `key` is a `Query`, as in `get`. One way down the tree finds
-    /// it, without a walk. Not in upstream: std's map has it as `range(..key).next_back()`.
+    /// The last pair whose key is below `key`, or `None` where there is none: what Java's maps call `lower`. `key` is a `Query`, as in `get`. One way
+    /// down the tree finds it, without a walk and with the comparisons of a look-up; nothing is taken. Its value is written by `get_mut` at the key
+    /// that was found. Not in upstream: std's map has it as `range(..key).next_back()`, and its unstable cursors as
+    /// `upper_bound(Bound::Excluded(&key)).peek_prev()`.
     pub fn last_before<Q: Query<K>>(&self, key: Q) -> Option<(&K, &V)>
         ensures pair { now_pair result ≡ last_of (below Q.order (entries self.now) (Q.sought key)) }
         ensures ascending { IsAscending K.cmp (entries self.now) }
@@ -143,8 +148,7 @@ impl<K: Ord, V> BTreeMap<K, V> {
         self.last_before_counted(key, &mut Count::new())
     }
 
-    /// `last_before`, with its comparisons added to the count: exactly those keys that a search from the left passes. It moves
-    /// no pair.
+    /// `last_before`, with its comparisons added to the count: exactly those keys that a look-up passes. It moves no pair.
     pub fn last_before_counted<Q: Query<K>>(&self, key: Q, count: &mut Count) -> Option<(&K, &V)>
         ensures pair { now_pair result ≡ last_of (below Q.order (entries self.now) (Q.sought key)) }
         ensures ascending { IsAscending K.cmp (entries self.now) }

@@ -1,94 +1,50 @@
-//! Entries: what a search found is written, filled or emptied with no further comparison.
+//! Entries of numbers, by keys that count their comparisons, and under refused memory.
+ghost use Rattle.std.specs.Prelude.{◌==◌};
+ghost use Rattle.std.proofs.Common.{rules};
+ghost use Rattle.std.specs.Cmp.{partial_order_from_own_ties};
+ghost use Rattle.std.specs.Cmp.Rules.{comparing};
+ghost use Rattle.std.specs.Ordering.{nat_cmp, on, as_partial_cmp};
+
 use super::*;
 use crate::numbers::has;
 use fc_map::map::Entry;
+use std::cmp::Ordering;
 
-// The value at the number's entry, made by a call that is counted where there is none.
-fn or_counted<'a>(
-    map: &'a mut BTreeMap<u64, u64>,
-    number: u64,
-    value: u64,
-    calls: &Cell<u64>,
-) -> Result<&'a mut u64, TryReserveError> {
-    map.try_entry(number)?.or_try_insert_with(|| {
-        add_one(calls);
-        value
-    })
-}
-
-// One more where there is a value, which is then handed out, and else 42.
-fn one_more_or_42(map: &mut BTreeMap<u64, u64>, number: u64) -> Result<u64, TryReserveError> {
-    let entry = map.try_entry(number)?;
-    Ok(
-        *entry
-            .and_modify(|value| *value = value.saturating_add(1))
-            .or_try_insert(42)?,
-    )
-}
-
-fn count_letter(map: &mut BTreeMap<char, u64>, letter: char) -> Result<(), TryReserveError> {
-    let count = map.try_entry(letter)?.or_try_insert(0)?;
-    *count = count.wrapping_add(1);
-    Ok(())
+// A value of its type's own, where there is none, at one number of a new map.
+fn is_default_put(alloc: Global) -> Result<bool, TryReserveError> {
+    let mut map: Numbers = BTreeMap::new(alloc);
+    let is_zero = *map.try_entry(3)?.or_default()? == 0;
+    Ok(is_zero && map.len() == 1)
 }
 
 #[test]
-fn letters_are_counted(rt: HostRuntime) -> Result<(), Fail> {
-    let mut map = BTreeMap::new(rt.alloc());
-    for letter in ['a', 'b', 'a', 'c', 'a', 'b'] {
-        count_letter(&mut map, letter)?;
+fn a_default_is_put_at_a_vacant_entry(rt: HostRuntime) -> Result<(), Fail> {
+    assert!(rt; is_default_put(rt.alloc())?);
+    Ok(())
+}
+
+// Whether an occupied entry gives the old value and then the pair, written over twice.
+fn gives_old_value_and_pair(map: &mut Numbers) -> Result<bool, TryReserveError> {
+    match map.try_entry(3)? {
+        Entry::Vacant(_entry) => Ok(false),
+        Entry::Occupied(mut entry) => {
+            let is_old = *entry.key() == 3 && entry.insert(15) == 12 && *entry.get() == 15;
+            *entry.get_mut() = 16;
+            let (key, value) = entry.remove_entry();
+            Ok(is_old && key == 3 && value == 16)
+        }
     }
-    assert!(rt; is_lent(map.get(&'a'), 3));
-    assert!(rt; is_lent(map.get(&'b'), 2));
-    assert!(rt; is_lent(map.get(&'c'), 1));
-    assert_eq!(rt; map.len(), 3);
-    Ok(())
-}
-
-#[test]
-fn a_value_is_modified_or_else_inserted(rt: HostRuntime) -> Result<(), Fail> {
-    let mut map = BTreeMap::new(rt.alloc());
-    assert_eq!(rt; one_more_or_42(&mut map, 1)?, 42);
-    assert_eq!(rt; one_more_or_42(&mut map, 1)?, 43);
-    assert!(rt; has(&map, 1, 43));
-    Ok(())
-}
-
-#[test]
-fn a_closure_is_called_at_a_vacant_entry_alone(rt: HostRuntime) -> Result<(), Fail> {
-    let calls = Cell::new(0);
-    let mut map = BTreeMap::new(rt.alloc());
-    assert_eq!(rt; *or_counted(&mut map, 3, 12, &calls)?, 12);
-    assert_eq!(rt; calls.get(), 1);
-    assert_eq!(rt; *or_counted(&mut map, 3, 15, &calls)?, 12);
-    assert_eq!(rt; calls.get(), 1);
-    let mut zero: BTreeMap<u64, u64> = BTreeMap::new(rt.alloc());
-    assert_eq!(rt; *zero.try_entry(3)?.or_default()?, 0);
-    assert_eq!(rt; zero.len(), 1);
-    Ok(())
 }
 
 #[test]
 fn an_occupied_entry_gives_the_old_value_and_the_pair(rt: HostRuntime) -> Result<(), Fail> {
-    let mut map = BTreeMap::new(rt.alloc());
-    map.try_insert(3, 12)?;
-    match map.try_entry(3)? {
-        Entry::Vacant(_entry) => assert!(rt; false),
-        Entry::Occupied(mut entry) => {
-            assert_eq!(rt; *entry.key(), 3);
-            assert_eq!(rt; entry.insert(15), 12);
-            assert_eq!(rt; *entry.get(), 15);
-            *entry.get_mut() = 16;
-            let (key, value) = entry.remove_entry();
-            assert!(rt; key == 3 && value == 16);
-        }
-    }
-    assert!(rt; map.is_empty());
+    let mut map = multiples(rt.alloc(), 3, 4, 4)?;
+    assert!(rt; gives_old_value_and_pair(&mut map)? && map.is_empty());
     Ok(())
 }
 
 // Fills the gap at the vacant number, and writes 7 to the value where it was put.
-fn fills(map: &mut BTreeMap<u64, u64>, number: u64) -> Result<bool, TryReserveError> {
+fn fills(map: &mut Numbers, number: u64) -> Result<bool, TryReserveError> {
     match map.try_entry(number)? {
         Entry::Vacant(entry) => {
             let is_key = *entry.key() == number;
@@ -101,8 +57,16 @@ fn fills(map: &mut BTreeMap<u64, u64>, number: u64) -> Result<bool, TryReserveEr
     }
 }
 
-// Whether the map has the eleven even numbers from 2 on, each with its place.
-fn has_even_ones(map: &BTreeMap<u64, u64>) -> bool {
+// The eleven even numbers from 2 on, each with its place.
+fn even_ones(alloc: Global) -> Result<Numbers, TryReserveError> {
+    let mut map = BTreeMap::new(alloc);
+    for below in 0..11u64 {
+        insert(&mut map, 2 * below + 2, below)?;
+    }
+    Ok(map)
+}
+
+fn has_even_ones(map: &Numbers) -> bool {
     for below in 0..11u64 {
         if !has(map, 2 * below + 2, below) {
             return false;
@@ -115,96 +79,135 @@ fn has_even_ones(map: &BTreeMap<u64, u64>) -> bool {
 #[test]
 fn each_gap_of_a_full_leaf_is_filled(rt: HostRuntime) -> Result<(), Fail> {
     for gap in 0..12u64 {
-        let mut map = BTreeMap::new(rt.alloc());
-        for below in 0..11u64 {
-            map.try_insert(2 * below + 2, below)?;
-        }
+        let mut map = even_ones(rt.alloc())?;
         assert!(rt; fills(&mut map, 2 * gap + 1)? && has(&map, 2 * gap + 1, 7));
         assert!(rt; map.len() == 12 && has_even_ones(&map));
     }
     Ok(())
 }
 
+// A number as a key, which counts each of its comparisons.
+#[derive(Clone, Copy)]
+pub(crate) struct CountingKey<'a> {
+    pub(crate) number: u64,
+    pub(crate) comparisons: &'a Cell<u64>,
+}
+
+impl PartialEq for CountingKey<'_> {
+    ghost eq = { on (λ key. key.number) ◌==◌ };
+
+    ghost laws = { Prim.search (comparing, rules) };
+
+    fn eq(&self, other: &Self) -> bool {
+        add_one(self.comparisons);
+        self.number == other.number
+    }
+}
+
+impl Eq for CountingKey<'_> {
+    ghost laws = { Prim.search (comparing, rules) };
+}
+
+impl PartialOrd for CountingKey<'_> {
+    ghost partial_cmp = { as_partial_cmp (on (λ key. key.number) nat_cmp) };
+
+    ghost laws = { partial_order_from_own_ties (Prim.search (comparing, rules)) (Prim.search (comparing, rules)) };
+
+    fn partial_cmp(&self, other: &Self) -> Option<Ordering> {
+        Some(self.cmp(other))
+    }
+}
+
+impl Ord for CountingKey<'_> {
+    ghost cmp = { on (λ key. key.number) nat_cmp };
+
+    ghost total = { Prim.search (comparing, rules) };
+
+    ghost matches_partial_cmp = { Prim.search (comparing, rules) };
+
+    ghost matches_eq = { Prim.search (comparing, rules) };
+
+    fn cmp(&self, other: &Self) -> Ordering {
+        add_one(self.comparisons);
+        self.number.cmp(&other.number)
+    }
+}
+
+type Counted<'a> = BTreeMap<CountingKey<'a>, u64>;
+
+// A map of the numbers from 1 to 89, each with itself.
+fn eighty_nine<'a>(
+    alloc: Global,
+    comparisons: &'a Cell<u64>,
+) -> Result<Counted<'a>, TryReserveError> {
+    let mut map = BTreeMap::new(alloc);
+    for below in 0..89u64 {
+        let key = CountingKey {
+            number: below + 1,
+            comparisons,
+        };
+        map.try_insert(key, below + 1)?;
+    }
+    Ok(map)
+}
+
+// How many comparisons a look-up of the key makes, and whether it is there. They are then forgotten.
+fn look_up<'a>(map: &Counted<'a>, key: &CountingKey<'a>) -> (u64, bool) {
+    key.comparisons.set(0);
+    let is_there = map.contains_key(key);
+    (key.comparisons.replace(0), is_there)
+}
+
 // The search makes the comparisons of a look-up; the insertion or the removal that follows makes none.
 #[test]
 fn an_entry_compares_in_its_search_alone(rt: HostRuntime) -> Result<(), Fail> {
-    let made = Cell::new(0);
+    let comparisons = Cell::new(0);
     for number in 0..91u64 {
-        let mut map = ascending(rt.alloc(), 89, &made)?;
-        let (_, expected) = get_and_count(&map, number, &made);
-        made.set(0);
-        let entry = map.try_entry(CountingKey {
+        let mut map = eighty_nine(rt.alloc(), &comparisons)?;
+        let key = CountingKey {
             number,
-            comparisons: &made,
-        })?;
-        assert_eq!(rt; made.get(), expected);
+            comparisons: &comparisons,
+        };
+        let (expected, is_there) = look_up(&map, &key);
+        let entry = map.try_entry(key)?;
+        assert!(rt; comparisons.get() == expected);
         match entry {
-            Entry::Vacant(entry) => assert_eq!(rt; *entry.try_insert(number)?, number),
-            Entry::Occupied(entry) => assert_eq!(rt; entry.remove(), number),
-        }
-        assert_eq!(rt; made.get(), expected);
-    }
-    Ok(())
-}
-
-fn entry_of<'a, 'b>(
-    map: &'b mut BTreeMap<TrackedKey<'a>, TrackedValue<'a>>,
-    drops: &'a Drops,
-) -> Result<Entry<'b, TrackedKey<'a>, TrackedValue<'a>>, TryReserveError> {
-    map.try_entry(TrackedKey {
-        number: 7,
-        drops: &drops.key,
-    })
-}
-
-// A dropped entry drops its key alone; an equal key that was searched for is dropped by the search.
-#[test]
-fn a_dropped_entry_drops_its_key_alone(rt: HostRuntime) -> Result<(), Fail> {
-    let (first, second) = (no_drops(), no_drops());
-    let mut map = BTreeMap::new(rt.alloc());
-    drop(entry_of(&mut map, &first)?);
-    assert!(rt; first.key.get() == 1 && map.len() == 0);
-    assert!(rt; !insert_tracked(&mut map, 7, &first));
-    drop(entry_of(&mut map, &second)?);
-    assert!(rt; second.key.get() == 1 && map.len() == 1 && were_dropped(&first, 1, 0));
-    Ok(())
-}
-
-// Where a run gets its memory from elsewhere, as one without proof does, this shows nothing.
-#[test]
-fn a_refused_entry_calls_its_closure_once_and_drops_the_value(rt: HostRuntime) -> Result<(), Fail> {
-    let kept = fresh_drops(rt.alloc(), 11)?;
-    let refused = no_drops();
-    let calls = Cell::new(0);
-    let mut map = BTreeMap::new(rt.alloc());
-    for (i, drops) in kept.iter().enumerate() {
-        assert!(rt; !insert_tracked(&mut map, i + 8, drops));
-    }
-    let held = take_all_memory(rt.alloc())?;
-    if Vec::<u8>::with_capacity(rt.alloc(), 1).is_ok() {
-        return Ok(());
-    }
-    let is_refused = entry_of(&mut map, &refused)?
-        .or_try_insert_with(|| {
-            add_one(&calls);
-            TrackedValue {
-                drops: &refused.value,
+            Entry::Vacant(entry) => {
+                let value = *entry.try_insert(number)?;
+                assert!(rt; !is_there && value == number);
             }
-        })
-        .is_err();
-    drop(held);
-    assert!(rt; is_refused);
-    assert_eq!(rt; calls.get(), 1);
-    assert!(rt; were_dropped(&refused, 1, 1) && map.len() == 11);
+            Entry::Occupied(entry) => {
+                let value = entry.remove();
+                assert!(rt; is_there && value == number);
+            }
+        }
+        assert!(rt; comparisons.get() == expected);
+    }
     Ok(())
+}
+
+// Fills the number's entry by a closure that counts its calls; whether it was refused.
+fn refuses_entry<'a>(
+    map: &mut Tracked<'a>,
+    number: usize,
+    drops: &'a Drops,
+    calls: &Cell<u64>,
+) -> Result<bool, TryReserveError> {
+    let key = TrackedKey {
+        number,
+        drops: &drops.key,
+    };
+    let put = map.try_entry(key)?.or_try_insert_with(|| {
+        add_one(calls);
+        TrackedValue {
+            drops: &drops.value,
+        }
+    });
+    Ok(put.is_err())
 }
 
 // The numbers from 1 on, whose drops are counted together; `None` where memory was refused.
-fn tracked_up_to<'a>(
-    alloc: Global,
-    last: usize,
-    kept: &'a Drops,
-) -> Option<BTreeMap<TrackedKey<'a>, TrackedValue<'a>>> {
+fn tracked_up_to<'a>(alloc: Global, last: usize, kept: &'a Drops) -> Option<Tracked<'a>> {
     let mut map = BTreeMap::new(alloc);
     for number in 0..last {
         if insert_tracked(&mut map, number + 1, kept) {
@@ -214,12 +217,26 @@ fn tracked_up_to<'a>(
     Some(map)
 }
 
+// A run that gets its memory from elsewhere, as one without proof does, would show nothing, and fails.
+#[test]
+fn a_refused_entry_calls_its_closure_once_and_drops_the_value(rt: HostRuntime) -> Result<(), Fail> {
+    let (kept, refused) = (no_drops(), no_drops());
+    let calls = Cell::new(0);
+    let Some(mut map) = tracked_up_to(rt.alloc(), 11, &kept) else {
+        assert!(rt; false);
+        return Ok(());
+    };
+    let held = take_all_memory(rt.alloc())?;
+    let has_none = !has_memory(rt.alloc());
+    let is_refused = refuses_entry(&mut map, 0, &refused, &calls);
+    drop(held);
+    assert!(rt; has_none && matches!(is_refused, Ok(true)) && calls.get() == 1);
+    assert!(rt; were_dropped(&refused, 1, 1) && map.len() == 11 && were_dropped(&kept, 0, 0));
+    Ok(())
+}
+
 // Whether a map has the numbers from 1 to the last, and nothing else.
-fn has_up_to<'a>(
-    map: &BTreeMap<TrackedKey<'a>, TrackedValue<'a>>,
-    last: usize,
-    sought: &'a Cell<u64>,
-) -> bool {
+fn has_tracked_up_to<'a>(map: &Tracked<'a>, last: usize, sought: &'a Cell<u64>) -> bool {
     for number in 1..100 {
         let key = TrackedKey {
             number,
@@ -232,33 +249,35 @@ fn has_up_to<'a>(
     map.len() == last
 }
 
-// Each request is refused in turn by the sweep. A run under refused memory prints where.
+// Whether the entry behind the last number is filled, or refused with its key and value dropped, and all pairs stay. A map for which
+// there is no memory shows nothing.
+fn leaves_every_pair(alloc: Global, last: usize) -> Result<bool, TryReserveError> {
+    let (kept, new, sought) = (no_drops(), no_drops(), no_drops());
+    let calls = Cell::new(0);
+    let Some(mut map) = tracked_up_to(alloc, last, &kept) else {
+        return Ok(true);
+    };
+    let is_refused = refuses_entry(&mut map, last.wrapping_add(1), &new, &calls)?;
+    let dropped = u64::from(is_refused);
+    let length = if is_refused {
+        last
+    } else {
+        last.wrapping_add(1)
+    };
+    let has_all = has_tracked_up_to(&map, length, &sought.key);
+    Ok(
+        has_all
+            && calls.get() == 1
+            && were_dropped(&new, dropped, dropped)
+            && were_dropped(&kept, 0, 0),
+    )
+}
+
+// Each request is refused in turn by the sweep.
 #[test]
 fn a_refused_entry_leaves_every_pair(rt: HostRuntime) -> Result<(), Fail> {
     for last in [11usize, 12, 88] {
-        let (kept, new, sought) = (no_drops(), no_drops(), no_drops());
-        let calls = Cell::new(0);
-        let Some(mut map) = tracked_up_to(rt.alloc(), last, &kept) else {
-            return Ok(println!(rt; "refused before {last}")?);
-        };
-        let key = TrackedKey {
-            number: last + 1,
-            drops: &new.key,
-        };
-        let is_refused = map
-            .try_entry(key)?
-            .or_try_insert_with(|| {
-                add_one(&calls);
-                TrackedValue { drops: &new.value }
-            })
-            .is_err();
-        assert_eq!(rt; calls.get(), 1);
-        let (length, dropped) = if is_refused { (last, 1) } else { (last + 1, 0) };
-        assert!(rt; were_dropped(&new, dropped, dropped) && were_dropped(&kept, 0, 0));
-        assert!(rt; has_up_to(&map, length, &sought.key));
-        if is_refused {
-            return Ok(println!(rt; "refused at {last}")?);
-        }
+        assert!(rt; leaves_every_pair(rt.alloc(), last)?);
     }
     Ok(())
 }

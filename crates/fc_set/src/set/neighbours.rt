@@ -10,8 +10,9 @@ use super::BTreeSet;
 use fc_base::{Count, Query};
 
 impl<T: Ord> BTreeSet<T> {
-    /// The first item that is not smaller than this one, or `None` where there is none. One way down the tree finds it, without a walk.
-    /// Not in upstream: std's set has it as `range(item..).next()`.
+    /// The first item that is not smaller than this one, or `None` where there is none: what Java's sets call `ceiling`. `item` is a `Query`, as in `get`. One
+    /// way down the tree finds it, without a walk and with the comparisons of a look-up; nothing is taken. Not in upstream: std's set has it as
+    /// `range(item..).next()`, and its unstable cursors as `lower_bound(Bound::Included(&item)).peek_next()`.
     pub fn first_at_or_after<Q: Query<T>>(&self, item: Q) -> Option<&T>
         ensures item { now_value result ≡ first_of (not_smaller Q.order (items self.now) (Q.sought item)) }
         ensures ascending { AreAscending T.cmp (items self.now) }
@@ -19,7 +20,7 @@ impl<T: Ord> BTreeSet<T> {
         self.first_at_or_after_counted(item, &mut Count::new())
     }
 
-    /// `first_at_or_after`, with its comparisons added to the count: exactly those items that a search from the left passes. It moves no item.
+    /// `first_at_or_after`, with its comparisons added to the count: exactly those items that a look-up passes. It moves no item.
     pub fn first_at_or_after_counted<Q: Query<T>>(&self, item: Q, count: &mut Count) -> Option<&T>
         ensures item { now_value result ≡ first_of (not_smaller Q.order (items self.now) (Q.sought item)) }
         ensures ascending { AreAscending T.cmp (items self.now) }
@@ -33,8 +34,9 @@ impl<T: Ord> BTreeSet<T> {
         }
     }
 
-    /// The first item that is greater than this one, or `None` where there is none. One way down the tree finds it, without a walk.
-    /// Not in upstream: std's set has it as `range((Excluded(item), Unbounded)).next()`.
+    /// The first item that is greater than this one, or `None` where there is none: what Java's sets call `higher`. `item` is a `Query`, as in `get`. One
+    /// way down the tree finds it, without a walk and with the comparisons of a look-up; nothing is taken. Not in upstream: std's set has it as
+    /// `range((Excluded(item), Unbounded)).next()`, and its unstable cursors as `lower_bound(Bound::Excluded(&item)).peek_next()`.
     pub fn first_after<Q: Query<T>>(&self, item: Q) -> Option<&T>
         ensures item { now_value result ≡ first_of (greater Q.order (items self.now) (Q.sought item)) }
         ensures ascending { AreAscending T.cmp (items self.now) }
@@ -42,7 +44,7 @@ impl<T: Ord> BTreeSet<T> {
         self.first_after_counted(item, &mut Count::new())
     }
 
-    /// `first_after`, with its comparisons added to the count: exactly those items that a search from the left passes. It moves no item.
+    /// `first_after`, with its comparisons added to the count: exactly those items that a look-up passes. It moves no item.
     pub fn first_after_counted<Q: Query<T>>(&self, item: Q, count: &mut Count) -> Option<&T>
         ensures item { now_value result ≡ first_of (greater Q.order (items self.now) (Q.sought item)) }
         ensures ascending { AreAscending T.cmp (items self.now) }
@@ -56,8 +58,9 @@ impl<T: Ord> BTreeSet<T> {
         }
     }
 
-    /// The last item that is not greater than this one, or `None` where there is none. One way down the tree finds it, without a walk.
-    /// Not in upstream: std's set has it as `range(..=item).next_back()`.
+    /// The last item that is not greater than this one, or `None` where there is none: what Java's sets call `floor`. `item` is a `Query`, as in `get`. One
+    /// way down the tree finds it, without a walk and with the comparisons of a look-up; nothing is taken. Not in upstream: std's set has it as
+    /// `range(..=item).next_back()`, and its unstable cursors as `upper_bound(Bound::Included(&item)).peek_prev()`.
     pub fn last_at_or_before<Q: Query<T>>(&self, item: Q) -> Option<&T>
         ensures item { now_value result ≡ last_of (not_greater Q.order (items self.now) (Q.sought item)) }
         ensures ascending { AreAscending T.cmp (items self.now) }
@@ -65,7 +68,7 @@ impl<T: Ord> BTreeSet<T> {
         self.last_at_or_before_counted(item, &mut Count::new())
     }
 
-    /// `last_at_or_before`, with its comparisons added to the count: exactly those items that a search from the left passes. It moves no item.
+    /// `last_at_or_before`, with its comparisons added to the count: exactly those items that a look-up passes. It moves no item.
     pub fn last_at_or_before_counted<Q: Query<T>>(&self, item: Q, count: &mut Count) -> Option<&T>
         ensures item { now_value result ≡ last_of (not_greater Q.order (items self.now) (Q.sought item)) }
         ensures ascending { AreAscending T.cmp (items self.now) }
@@ -79,8 +82,9 @@ impl<T: Ord> BTreeSet<T> {
         }
     }
 
-    /// The last item that is smaller than this one, or `None` where there is none. One way down the tree finds it, without a walk.
-    /// Not in upstream: std's set has it as `range(..item).next_back()`.
+    /// The last item that is smaller than this one, or `None` where there is none: what Java's sets call `lower`. `item` is a `Query`, as in `get`. One
+    /// way down the tree finds it, without a walk and with the comparisons of a look-up; nothing is taken. Not in upstream: std's set has it as
+    /// `range(..item).next_back()`, and its unstable cursors as `upper_bound(Bound::Excluded(&item)).peek_prev()`.
     pub fn last_before<Q: Query<T>>(&self, item: Q) -> Option<&T>
         ensures item { now_value result ≡ last_of (smaller Q.order (items self.now) (Q.sought item)) }
         ensures ascending { AreAscending T.cmp (items self.now) }
@@ -88,7 +92,7 @@ impl<T: Ord> BTreeSet<T> {
         self.last_before_counted(item, &mut Count::new())
     }
 
-    /// `last_before`, with its comparisons added to the count: exactly those items that a search from the left passes. It moves no item.
+    /// `last_before`, with its comparisons added to the count: exactly those items that a look-up passes. It moves no item.
     pub fn last_before_counted<Q: Query<T>>(&self, item: Q, count: &mut Count) -> Option<&T>
         ensures item { now_value result ≡ last_of (smaller Q.order (items self.now) (Q.sought item)) }
         ensures ascending { AreAscending T.cmp (items self.now) }

@@ -1,15 +1,12 @@
-use Rattle.std.proofs.Common.{◌∙◌, sym}
-use Rattle.std.specs.Ordering.{nat_cmp, is_lt}
 use Rattle.fallible_collections.specs.Words.{entries}
 use Rattle.example_intervals.proofs.Across.{across_some, across_none, across_empty}
-use Rattle.example_intervals.proofs.Passing.{last_passing}
 use Rattle.example_intervals.proofs.spans.across.Goals as goal
 
 pub returns-in_err-start-clause-found : goal.returns-in_err-start-clause-found
-returns-in_err-start-clause-found c = rw c.from_residual.ensures (across_empty (entries c.args.spans.now) c.args.point (sym c.range.ensures.pairs ∙ c.in_err-start.ensures.steps.0))
+returns-in_err-start-clause-found c = rw c.from_residual.ensures (across_empty (entries c.args.spans.now) c.args.point c.in_err-start.ensures.pair)
 
 pub returns-then-point-span-clause-found : goal.returns-then-point-span-clause-found
-returns-then-point-span-clause-found c = across_some (entries c.args.spans.now) c.args.point (c.in_ok-start.start.now, c.in_ok-start.span.now) (last_passing (λ k. is_lt (nat_cmp k c.args.point)) (entries c.args.spans.now) _ (c.in_ok-start.start.now, c.in_ok-start.span.now) c.range.ensures.ascending (sym c.range.ensures.pairs ∙ c.in_ok-start.ensures.steps)) c.if-point-span.true
+returns-then-point-span-clause-found c = across_some (entries c.args.spans.now) c.args.point (c.in_ok-start.start.now, c.in_ok-start.span.now) c.in_ok-start.ensures.ascending c.in_ok-start.ensures.pair c.if-point-span.true
 
 pub returns-else-point-span-clause-found : goal.returns-else-point-span-clause-found
-returns-else-point-span-clause-found c = across_none (entries c.args.spans.now) c.args.point (c.in_ok-start.start.now, c.in_ok-start.span.now) c.requires (last_passing (λ k. is_lt (nat_cmp k c.args.point)) (entries c.args.spans.now) _ (c.in_ok-start.start.now, c.in_ok-start.span.now) c.range.ensures.ascending (sym c.range.ensures.pairs ∙ c.in_ok-start.ensures.steps)) c.if-point-span.false
+returns-else-point-span-clause-found c = across_none (entries c.args.spans.now) c.args.point (c.in_ok-start.start.now, c.in_ok-start.span.now) c.requires c.in_ok-start.ensures.ascending c.in_ok-start.ensures.pair c.if-point-span.false

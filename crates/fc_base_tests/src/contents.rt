@@ -1,0 +1,80 @@
+//! Copies of options, boxes and vectors, made or refused.
+use crate::tokens::Token;
+use fc_base::{TryClone, TryReserveError};
+use std::alloc::Global;
+use std::cell::Cell;
+use std::test::Fail;
+
+#[test]
+fn options_and_boxes_are_copied(rt: HostRuntime) -> Result<(), Fail> {
+    assert!(rt; matches!(Some(5u64).try_clone(), Ok(Some(5))));
+    let none: Option<u64> = None;
+    assert!(rt; matches!(none.try_clone(), Ok(None)));
+    let five = Box::new(rt.alloc(), 5u64)?;
+    let copy = five.try_clone()?;
+    assert!(rt; *five == 5 && *copy == 5);
+    Ok(())
+}
+
+#[test]
+fn vectors_are_copied(rt: HostRuntime) -> Result<(), Fail> {
+    let empty: Vec<u64> = Vec::new(rt.alloc());
+    assert!(rt; empty.try_clone()?.is_empty());
+    let source = Vec::from_slice(rt.alloc(), &[1u64, 4, 5])?;
+    let copy = source.try_clone()?;
+    assert!(rt; copy.as_slice() == [1, 4, 5].as_slice());
+    assert!(rt; source.as_slice() == [1, 4, 5].as_slice());
+    Ok(())
+}
+
+// Three tokens, with the numbers 1, 4 and 5.
+fn three<'a>(
+    alloc: Global,
+    there: &'a Cell<u64>,
+    copies: &'a Cell<u64>,
+) -> Result<Vec<Token<'a>>, TryReserveError> {
+    let mut tokens = Vec::with_capacity(alloc, 3)?;
+    for number in [1u64, 4, 5] {
+        tokens.push(Token::new(number, there, copies))?;
+    }
+    Ok(tokens)
+}
+
+fn are_three(tokens: &Vec<Token<'_>>) -> bool {
+    match tokens.as_slice() {
+        [first, second, third] => first.number == 1 && second.number == 4 && third.number == 5,
+        _ => false,
+    }
+}
+
+// With the copy of each item refused in turn, and, in the sweep, with each request: a refused copy leaves the source as it was, and nothing
+// of what was made. A request is refused before an item is copied.
+#[test]
+fn a_refused_copy_leaves_the_source(rt: HostRuntime) {
+    for allowed in 0..4u64 {
+        let there = Cell::new(0);
+        let copies = Cell::new(allowed);
+        if let Ok(source) = three(rt.alloc(), &there, &copies) {
+            match source.try_clone() {
+                Ok(copy) => assert!(rt; allowed == 3 && there.get() == 6 && are_three(&copy)),
+                Err(TryReserveError::AllocError) => assert!(rt; copies.get() == allowed),
+                Err(TryReserveError::CapacityOverflow) => assert!(rt; allowed < 3),
+            }
+            assert!(rt; there.get() == 3 && are_three(&source));
+        }
+        assert!(rt; there.get() == 0);
+    }
+}
+
+#[test]
+fn an_options_own_refusal_is_passed_on(rt: HostRuntime) {
+    let there = Cell::new(0);
+    let copies = Cell::new(1);
+    let source = Some(Token::new(7, &there, &copies));
+    match source.try_clone() {
+        Ok(Some(copy)) => assert!(rt; copy.number == 7),
+        _ => assert!(rt; false),
+    }
+    assert!(rt; matches!(source.try_clone(), Err(TryReserveError::CapacityOverflow)));
+    assert!(rt; there.get() == 1);
+}

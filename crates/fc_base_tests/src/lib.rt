@@ -1,0 +1,17 @@
+//! Tests of errors, copies, boxes, shared values and counts through the public calls of `fc_base`.
+#![tactic(auto)]
+
+#[cfg(test)]
+mod boxed;
+#[cfg(test)]
+mod contents;
+#[cfg(test)]
+mod count;
+#[cfg(test)]
+mod rc;
+#[cfg(test)]
+mod tokens;
+#[cfg(test)]
+mod try_clone;
+#[cfg(test)]
+mod try_reserve_error;

@@ -1,0 +1,183 @@
+//! Lists of commands, and commands that no line asks for.
+use crate::worlds::{Kind, counts, has_value, holds, is_len, puts, puts_all, step};
+use fc_base::TryReserveError;
+use fc_command::command::{Command, Items, Reply, Side, World};
+use fc_lines::lines::command_in;
+use fc_lines::replies::write_reply;
+use std::alloc::{AllocError, Global};
+use std::ops::Bound;
+use std::test::Fail;
+
+const SIX: [&[u8]; 6] = [
+    b"insert a 37 1",
+    b"insert a 037 2",
+    b"get a 37",
+    b"len a",
+    b"remove a 37",
+    b"get b 1",
+];
+
+const SIX_REPLIES: &[u8] = b"none\nsome 1\nsome 2\n1\nsome 2\nnone\n";
+
+fn run(
+    world: &mut World<u64, u64>,
+    commands: Vec<Command<u64, u64>>,
+) -> Result<Vec<Reply<u64, u64>>, TryReserveError> {
+    world.run(commands)
+}
+
+fn command_of(alloc: Global, line: &[u8]) -> Option<Command<u64, u64>> {
+    command_in(alloc, line).unwrap_or(None)
+}
+
+// The commands of the lines, in order.
+fn commands_of(alloc: Global, lines: &[&[u8]]) -> Result<Vec<Command<u64, u64>>, AllocError> {
+    let mut commands = Vec::with_capacity(alloc, lines.len())?;
+    for line in lines {
+        if let Some(command) = command_of(alloc, *line) {
+            commands.push(command)?;
+        }
+    }
+    Ok(commands)
+}
+
+fn is_written(text: &mut String, reply: &Reply<u64, u64>) -> bool {
+    write_reply(text, reply).is_ok()
+}
+
+// Whether these are the replies, a line for each.
+fn are_written(alloc: Global, replies: &[Reply<u64, u64>], wanted: &[u8]) -> bool {
+    let mut text = String::new(alloc);
+    for reply in replies {
+        if !is_written(&mut text, reply) {
+            return false;
+        }
+    }
+    text.as_bytes() == wanted
+}
+
+#[test]
+fn a_list_of_commands_runs(rt: HostRuntime) -> Result<(), Fail> {
+    let commands = commands_of(rt.alloc(), &SIX)?;
+    let mut world = World::new(rt.alloc());
+    let replies = run(&mut world, commands)?;
+    assert!(rt; are_written(rt.alloc(), &replies, SIX_REPLIES));
+    assert!(rt; holds(&mut world, Kind::Maps, &[], &[]));
+    Ok(())
+}
+
+#[test]
+fn a_run_of_no_commands_answers_no_reply(rt: HostRuntime) -> Result<(), Fail> {
+    let mut world = World::new(rt.alloc());
+    let replies = run(&mut world, Vec::new(rt.alloc()))?;
+    assert!(rt; replies.is_empty());
+    Ok(())
+}
+
+const INSERT_AND_COUNT: [&[u8]; 2] = [b"insert a 1 10", b"len a"];
+
+fn is_refused(reply: &Reply<u64, u64>) -> bool {
+    matches!(reply, Reply::Refused(TryReserveError::AllocError))
+}
+
+// Whether the insertion was done and one pair is there, or it was refused and none is.
+fn are_replies_of(replies: &[Reply<u64, u64>], len: usize) -> bool {
+    match replies {
+        [inserted, counted] => {
+            is_len(counted, len)
+                && (if len == 0 {
+                    is_refused(inserted)
+                } else {
+                    matches!(inserted, Reply::Value(None))
+                })
+        }
+        _ => false,
+    }
+}
+
+fn pairs_of(world: &mut World<u64, u64>) -> usize {
+    if counts(world, Kind::Maps, Side::First, 0) {
+        0
+    } else {
+        1
+    }
+}
+
+// The sweep refuses the room for the replies, then the new pair's room, and at last nothing.
+#[test]
+fn a_refused_run_changes_nothing(rt: HostRuntime) {
+    let Ok(commands) = commands_of(rt.alloc(), &INSERT_AND_COUNT) else {
+        return;
+    };
+    let mut world = World::new(rt.alloc());
+    let answer = run(&mut world, commands);
+    let len = pairs_of(&mut world);
+    let is_right = match answer {
+        Err(TryReserveError::AllocError) => len == 0,
+        Err(TryReserveError::CapacityOverflow) => false,
+        Ok(replies) => are_replies_of(&replies, len),
+    };
+    assert!(rt; is_right);
+}
+
+// Whether an extension by nothing is done, and the numbers are still there and no other.
+fn is_extended_by_nothing(alloc: Global, kind: Kind, command: Command<u64, u64>) -> bool {
+    let mut world = World::new(alloc);
+    puts_all(&mut world, kind, Side::First, &[1, 2])
+        && puts(&mut world, kind, Side::Second, 9)
+        && matches!(step(&mut world, command), Reply::Done)
+        && holds(&mut world, kind, &[1, 2], &[9])
+}
+
+#[test]
+fn an_extension_by_nothing_is_done(rt: HostRuntime) {
+    let no_pairs = Command::Extend(Side::First, Items::from(Vec::new(rt.alloc())));
+    assert!(rt; is_extended_by_nothing(rt.alloc(), Kind::Maps, no_pairs));
+    let no_items = Command::SetExtend(Side::Second, Items::from(Vec::new(rt.alloc())));
+    assert!(rt; is_extended_by_nothing(rt.alloc(), Kind::Sets, no_items));
+}
+
+fn is_empty_list(reply: &Reply<u64, u64>) -> bool {
+    match reply {
+        Reply::Pairs(steps) => steps.as_slice().is_empty(),
+        _ => false,
+    }
+}
+
+#[test]
+fn a_walk_of_no_steps_gives_nothing(rt: HostRuntime) {
+    let mut world = World::new(rt.alloc());
+    let walk = Command::Walk(
+        Side::First,
+        Bound::Unbounded,
+        Bound::Unbounded,
+        Items::from(Vec::new(rt.alloc())),
+    );
+    assert!(rt; is_empty_list(&step(&mut world, walk)));
+}
+
+fn inserts(world: &mut World<u64, u64>, key: u64) -> bool {
+    matches!(
+        step(world, Command::Insert(Side::Second, key, key)),
+        Reply::Value(None)
+    )
+}
+
+fn inserts_each(world: &mut World<u64, u64>) -> bool {
+    for key in 0..500u64 {
+        if !inserts(world, key) {
+            return false;
+        }
+    }
+    true
+}
+
+// Five hundred pairs stand on three levels: each new key is put in, and found.
+#[test]
+fn a_world_of_three_levels_refuses_no_new_key(rt: HostRuntime) {
+    let mut world = World::new(rt.alloc());
+    assert!(rt; inserts_each(&mut world));
+    for key in 0..500u64 {
+        assert!(rt; has_value(&mut world, Kind::Maps, Side::Second, key, key));
+    }
+}

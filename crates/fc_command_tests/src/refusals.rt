@@ -1,0 +1,200 @@
+//! What refused commands leave of a world: the sweep refuses each request of these tests in turn.
+use crate::worlds::{Kind, counts, divided, has_value, holds, is_divided, lacks, puts_all, step};
+use fc_base::TryReserveError;
+use fc_command::command::{Command, Items, Reply, SetOp, Side, World};
+use std::alloc::{AllocError, Global};
+
+// What became of a command that is done or refused.
+#[derive(Clone, Copy)]
+enum Fate {
+    Carried,
+    Refused,
+    Wrong,
+}
+
+fn outcome(world: &mut World<u64, u64>, command: Command<u64, u64>) -> Fate {
+    match step(world, command) {
+        Reply::Done => Fate::Carried,
+        Reply::Refused(TryReserveError::AllocError) => Fate::Refused,
+        _ => Fate::Wrong,
+    }
+}
+
+fn have(world: &mut World<u64, u64>, kind: Kind, first: usize, second: usize) -> bool {
+    counts(world, kind, Side::First, first) && counts(world, kind, Side::Second, second)
+}
+
+// Whether the command is done on a divided world, or refused and leaves it as it was. Nothing where there was no memory for the world.
+fn is_done_or_undone(
+    alloc: Global,
+    kind: Kind,
+    command: Command<u64, u64>,
+    first: usize,
+    second: usize,
+) -> bool {
+    let Some(mut world) = divided(alloc, kind) else {
+        return true;
+    };
+    match outcome(&mut world, command) {
+        Fate::Carried => have(&mut world, kind, first, second),
+        Fate::Refused => is_divided(&mut world, kind),
+        Fate::Wrong => false,
+    }
+}
+
+#[test]
+fn a_refused_append_split_or_copy_changes_neither_map(rt: HostRuntime) {
+    let maps = Kind::Maps;
+    assert!(rt; is_done_or_undone(rt.alloc(), maps, Command::Append(Side::First), 100, 0));
+    assert!(rt; is_done_or_undone(rt.alloc(), maps, Command::SplitOff(Side::First, 31), 16, 34));
+    assert!(rt; is_done_or_undone(rt.alloc(), maps, Command::TryClone(Side::First), 50, 50));
+}
+
+#[test]
+fn a_refused_append_split_or_copy_changes_neither_set(rt: HostRuntime) {
+    let sets = Kind::Sets;
+    assert!(rt; is_done_or_undone(rt.alloc(), sets, Command::SetAppend(Side::First), 100, 0));
+    assert!(rt;
+        is_done_or_undone(
+            rt.alloc(),
+            sets,
+            Command::SetSplitOff(Side::First, 31),
+            16,
+            34
+        )
+    );
+    assert!(rt; is_done_or_undone(rt.alloc(), sets, Command::SetClone(Side::First), 50, 50));
+}
+
+// The numbers below 100, from 0 on, always 37 on, and round.
+fn scattered(place: u64) -> u64 {
+    place.wrapping_mul(37) % 100
+}
+
+// The scattered numbers, each with itself.
+fn more_pairs(alloc: Global) -> Result<Command<u64, u64>, AllocError> {
+    let mut items = Vec::with_capacity(alloc, 100)?;
+    for place in 0..100u64 {
+        items.push((scattered(place), scattered(place)))?;
+    }
+    Ok(Command::Extend(Side::First, Items::from(items)))
+}
+
+fn more_items(alloc: Global) -> Result<Command<u64, u64>, AllocError> {
+    let mut items = Vec::with_capacity(alloc, 100)?;
+    for place in 0..100u64 {
+        items.push(scattered(place))?;
+    }
+    Ok(Command::SetExtend(Side::First, Items::from(items)))
+}
+
+// Whether a number on the first side that no extension came to is as it was.
+fn is_untouched(world: &mut World<u64, u64>, kind: Kind, number: u64) -> bool {
+    if number % 2 == 0 {
+        has_value(world, kind, Side::First, number, number.wrapping_mul(10))
+    } else {
+        lacks(world, kind, Side::First, number)
+    }
+}
+
+// How many of the scattered numbers the first side has, each with itself, before one that is not there so.
+fn put_in(world: &mut World<u64, u64>, kind: Kind) -> u64 {
+    for place in 0..100u64 {
+        let number = scattered(place);
+        if !has_value(world, kind, Side::First, number, number) {
+            return place;
+        }
+    }
+    100
+}
+
+// Whether the first side of a divided world was extended by a front of the scattered numbers and by nothing else.
+fn is_extended_by_a_front(world: &mut World<u64, u64>, kind: Kind) -> bool {
+    let front = put_in(world, kind);
+    for place in front..100u64 {
+        if !is_untouched(world, kind, scattered(place)) {
+            return false;
+        }
+    }
+    true
+}
+
+// Whether the second side of a divided world is as it was.
+fn has_odd_ones(world: &mut World<u64, u64>, kind: Kind) -> bool {
+    for half in 0..50u64 {
+        let number = 2 * half + 1;
+        if !has_value(world, kind, Side::Second, number, number * 10) {
+            return false;
+        }
+    }
+    counts(world, kind, Side::Second, 50)
+}
+
+// Whether the divided world is extended by all of the scattered numbers, or refused at one of them.
+fn is_extended_or_refused(alloc: Global, kind: Kind, command: Command<u64, u64>) -> bool {
+    let Some(mut world) = divided(alloc, kind) else {
+        return true;
+    };
+    let is_answered = match outcome(&mut world, command) {
+        Fate::Carried => counts(&mut world, kind, Side::First, 100),
+        Fate::Refused => !counts(&mut world, kind, Side::First, 100),
+        Fate::Wrong => false,
+    };
+    is_answered && is_extended_by_a_front(&mut world, kind) && has_odd_ones(&mut world, kind)
+}
+
+#[test]
+fn a_refused_extension_keeps_the_pairs_before(rt: HostRuntime) {
+    if let Ok(command) = more_pairs(rt.alloc()) {
+        assert!(rt; is_extended_or_refused(rt.alloc(), Kind::Maps, command));
+    }
+}
+
+#[test]
+fn a_refused_extension_keeps_the_items_before(rt: HostRuntime) {
+    if let Ok(command) = more_items(rt.alloc()) {
+        assert!(rt; is_extended_or_refused(rt.alloc(), Kind::Sets, command));
+    }
+}
+
+const FIRST: &[u64] = &[1, 2, 3];
+
+const SECOND: &[u64] = &[2, 3, 4];
+
+fn overlaps(world: &mut World<u64, u64>) -> bool {
+    puts_all(world, Kind::Sets, Side::First, FIRST)
+        && puts_all(world, Kind::Sets, Side::Second, SECOND)
+}
+
+// Whether the named one of two sets that overlap keeps these items or stays, and the other one stays.
+fn keeps(alloc: Global, op: SetOp, side: Side, wanted: &[u64]) -> bool {
+    let mut world = World::new(alloc);
+    if !overlaps(&mut world) {
+        return true;
+    }
+    let (first, second) = match outcome(&mut world, Command::Keep(op, side)) {
+        Fate::Carried => match side {
+            Side::First => (wanted, SECOND),
+            Side::Second => (FIRST, wanted),
+        },
+        Fate::Refused => (FIRST, SECOND),
+        Fate::Wrong => return false,
+    };
+    holds(&mut world, Kind::Sets, first, second)
+}
+
+#[test]
+fn a_refused_operation_changes_neither_set(rt: HostRuntime) {
+    assert!(rt; keeps(rt.alloc(), SetOp::Difference, Side::First, &[1]));
+    assert!(rt; keeps(rt.alloc(), SetOp::Difference, Side::Second, &[4]));
+    assert!(rt;
+        keeps(
+            rt.alloc(),
+            SetOp::SymmetricDifference,
+            Side::Second,
+            &[1, 4]
+        )
+    );
+    assert!(rt; keeps(rt.alloc(), SetOp::Intersection, Side::First, &[2, 3]));
+    assert!(rt; keeps(rt.alloc(), SetOp::Union, Side::Second, &[1, 2, 3, 4]));
+}

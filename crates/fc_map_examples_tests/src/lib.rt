@@ -1,0 +1,5 @@
+//! Tests of callers of the map, whose clauses rest on the map's public ones.
+#![tactic(auto)]
+
+#[cfg(test)]
+mod tests;
