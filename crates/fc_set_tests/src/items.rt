@@ -1,6 +1,6 @@
 //! Sets of numbers, and whether they hold just the wanted ones.
 use fc_base::TryReserveError;
-use fc_set::set::BTreeSet;
+use fc_set::set::{BTreeSet, Iter};
 use std::alloc::Global;
 
 pub(crate) type Numbers = BTreeSet<u64>;
@@ -24,17 +24,29 @@ pub(crate) fn has_just(set: &Numbers, first: u64, end: u64) -> bool {
 
 // Whether it has just those, but none from the gap's first on below its end.
 pub(crate) fn has_all_but(set: &Numbers, within: (u64, u64), gap: (u64, u64)) -> bool {
-    let mut walk = set.iter();
     let mut count = 0u64;
     for number in within.0..within.1 {
-        if number < gap.0 || gap.1 <= number {
-            if !set.contains(&number) || !is_lent(walk.next(), number) {
+        if is_outside(number, gap) {
+            if !set.contains(&number) {
                 return false;
             }
             count = count.wrapping_add(1);
         }
     }
-    walk.next().is_none() && set.len() as u64 == count
+    gives_all_but(set.iter(), within, gap) && set.len() as u64 == count
+}
+
+fn gives_all_but(mut walk: Iter<'_, u64>, within: (u64, u64), gap: (u64, u64)) -> bool {
+    for number in within.0..within.1 {
+        if is_outside(number, gap) && !is_lent(walk.next(), number) {
+            return false;
+        }
+    }
+    walk.next().is_none()
+}
+
+fn is_outside(number: u64, gap: (u64, u64)) -> bool {
+    number < gap.0 || gap.1 <= number
 }
 
 fn is_lent(item: Option<&u64>, wanted: u64) -> bool {

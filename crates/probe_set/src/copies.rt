@@ -48,13 +48,8 @@ pub(crate) fn list(set: &Set<'_>, out: &mut Out) {
 
 // Puts a copy of our set in the place of theirs.
 pub(crate) fn copy(sets: &mut Sets<'_>, out: &mut Out) {
-    match sets.ours.try_clone() {
-        Ok(copy) => {
-            sets.theirs = copy;
-            out.word("done");
-        }
-        Err(_) => out.word("refused"),
-    }
+    let copy = sets.ours.try_clone();
+    sets.keep(copy, out);
 }
 
 // Refuses the first copy of an item that the operator makes, then the second, and so on, until it makes its set. Answers how many copies that takes

@@ -119,13 +119,10 @@ fn take_out<'a>(sets: &mut Sets<'a>, name: &str, item: Item<'a>, out: &mut Out) 
             let taken = sets.ours.take_counted(&item, &mut count);
             sets.hold(taken, out);
         }
-        "split" => match sets.ours.try_split_off(&item) {
-            Ok(upper) => {
-                sets.theirs = upper;
-                out.word("done");
-            }
-            Err(_) => out.word("refused"),
-        },
+        "split" => {
+            let upper = sets.ours.try_split_off(&item);
+            sets.keep(upper, out);
+        }
         _ => put_in(sets, name, item, out),
     }
 }

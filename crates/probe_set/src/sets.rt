@@ -1,8 +1,10 @@
 //! The two sets, and the numbers of a row.
 use crate::item::{Item, Tally};
 use crate::out::Out;
+use fc_base::TryReserveError;
 use fc_set::set::BTreeSet;
 use std::alloc::Global;
+use std::mem;
 
 pub(crate) type Set<'a> = BTreeSet<Item<'a>>;
 
@@ -23,6 +25,17 @@ impl<'a> Sets<'a> {
             tally,
             alloc,
             held: None,
+        }
+    }
+
+    // Puts a set that a call made in the place of theirs.
+    pub(crate) fn keep(&mut self, made: Result<Set<'a>, TryReserveError>, out: &mut Out) {
+        match made {
+            Ok(set) => {
+                drop(mem::replace(&mut self.theirs, set));
+                out.word("done");
+            }
+            Err(_) => out.word("refused"),
         }
     }
 
