@@ -17,36 +17,35 @@ pub(crate) fn numbers(alloc: Global, first: u64, end: u64) -> Made {
     Ok(set)
 }
 
-// Whether the set has just the numbers from `first` on below `end`, finds each of them, and gives them in order.
-pub(crate) fn has_just(set: &Numbers, first: u64, end: u64) -> bool {
-    has_all_but(set, (first, end), (end, end))
-}
-
-// Whether it has just those, but none from the gap's first on below its end.
-pub(crate) fn has_all_but(set: &Numbers, within: (u64, u64), gap: (u64, u64)) -> bool {
-    let mut count = 0u64;
-    for number in within.0..within.1 {
-        if is_outside(number, gap) {
-            if !set.contains(&number) {
-                return false;
-            }
-            count = count.wrapping_add(1);
-        }
-    }
-    gives_all_but(set.iter(), within, gap) && set.len() as u64 == count
-}
-
-fn gives_all_but(mut walk: Iter<'_, u64>, within: (u64, u64), gap: (u64, u64)) -> bool {
-    for number in within.0..within.1 {
-        if is_outside(number, gap) && !is_lent(walk.next(), number) {
+// Whether the walk gives just the numbers from `first` on below `end`.
+fn gives_just(mut walk: Iter<'_, u64>, first: u64, end: u64) -> bool {
+    for number in first..end {
+        if !is_lent(walk.next(), number) {
             return false;
         }
     }
     walk.next().is_none()
 }
 
-fn is_outside(number: u64, gap: (u64, u64)) -> bool {
-    number < gap.0 || gap.1 <= number
+// Whether the set has just the numbers from `first` on below `end`.
+pub(crate) fn has_just(set: &Numbers, first: u64, end: u64) -> bool {
+    for number in first..end {
+        if !set.contains(&number) {
+            return false;
+        }
+    }
+    gives_just(set.iter(), first, end) && set.len() as u64 == end.wrapping_sub(first)
+}
+
+// Whether the set has just the numbers whose bits are set in the mask, in order.
+pub(crate) fn has_bits(set: &Numbers, mask: u64) -> bool {
+    let mut walk = set.iter();
+    for number in 0..64u64 {
+        if (mask >> number) & 1 == 1 && !is_lent(walk.next(), number) {
+            return false;
+        }
+    }
+    walk.next().is_none()
 }
 
 fn is_lent(item: Option<&u64>, wanted: u64) -> bool {

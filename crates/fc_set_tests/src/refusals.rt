@@ -1,14 +1,17 @@
 //! What refused memory leaves. The sweep refuses each request in turn; without it, each call has all its memory.
-use crate::items::{Made, Numbers, has_all_but, has_just, is_refused, numbers};
+use crate::items::{Made, Numbers, has_bits, has_just, is_refused, numbers};
 use fc_base::{TryClone, TryReserveError};
 use fc_set::set::BTreeSet;
 use fc_vec::TryFromIterator;
 use std::alloc::Global;
 
-// Whether a set was made and has just the numbers within, but those of the gap, or was refused for want of memory.
-fn is_made(made: Made, within: (u64, u64), gap: (u64, u64)) -> bool {
+// The bits of 0 to 39.
+const FORTY: u64 = (1 << 40) - 1;
+
+// Whether a set was made and has just the numbers of the mask, or was refused for want of memory.
+fn is_made(made: Made, mask: u64) -> bool {
     match made {
-        Ok(set) => has_all_but(&set, within, gap),
+        Ok(set) => has_bits(&set, mask),
         Err(e) => matches!(e, TryReserveError::AllocError),
     }
 }
@@ -92,7 +95,7 @@ fn a_refused_copy_leaves_its_source(rt: HostRuntime) {
     let Ok(set) = numbers(rt.alloc(), 0, 40) else {
         return;
     };
-    assert!(rt; is_made(set.try_clone(), (0, 40), (40, 40)) && has_just(&set, 0, 40));
+    assert!(rt; is_made(set.try_clone(), FORTY) && has_just(&set, 0, 40));
 }
 
 fn made_below(alloc: Global, end: u64) -> Made {
@@ -101,25 +104,30 @@ fn made_below(alloc: Global, end: u64) -> Made {
 
 #[test]
 fn a_refused_set_of_an_iterator_is_dropped(rt: HostRuntime) {
-    assert!(rt; is_made(made_below(rt.alloc(), 40), (0, 40), (40, 40)));
+    assert!(rt; is_made(made_below(rt.alloc(), 40), FORTY));
 }
 
 #[test]
 fn a_set_is_made_of_items_in_any_order(rt: HostRuntime) {
     let made = BTreeSet::try_from_iterator(rt.alloc(), [3u64, 1, 2, 3, 1]);
-    assert!(rt; made.is_ok() && is_made(made, (1, 4), (4, 4)));
+    assert!(rt; made.is_ok() && is_made(made, 0b1110));
     let none = made_below(rt.alloc(), 0);
-    assert!(rt; none.is_ok() && is_made(none, (0, 0), (0, 0)));
+    assert!(rt; none.is_ok() && is_made(none, 0));
     let many = made_below(rt.alloc(), 40);
-    assert!(rt; many.is_ok() && is_made(many, (0, 40), (40, 40)));
+    assert!(rt; many.is_ok() && is_made(many, FORTY));
 }
+
+// The bits of 1 to 20, and those of 11 to 30.
+const ONE: u64 = (1 << 21) - (1 << 1);
+
+const OTHER: u64 = (1 << 31) - (1 << 11);
 
 // Whether each operator makes its set of 1 to 20 and 11 to 30, or is refused.
 fn all_are_made(one: &Numbers, other: &Numbers) -> bool {
-    is_made(one.sub(other), (1, 11), (11, 11))
-        && is_made(one.bitxor(other), (1, 31), (11, 21))
-        && is_made(one.bitand(other), (11, 21), (21, 21))
-        && is_made(one.bitor(other), (1, 31), (31, 31))
+    is_made(one.sub(other), ONE & !OTHER)
+        && is_made(one.bitxor(other), ONE ^ OTHER)
+        && is_made(one.bitand(other), ONE & OTHER)
+        && is_made(one.bitor(other), ONE | OTHER)
 }
 
 #[test]

@@ -52,14 +52,14 @@ impl<'s, 'a> Walk<'s, 'a> {
 
     // A walk over the same items from here on.
     fn again(&self) -> Option<Walk<'s, 'a>> {
-        match self {
-            Walk::All(walk) => walk.clone().ok().map(Walk::All),
-            Walk::Within(walk) => walk.clone().ok().map(Walk::Within),
-            Walk::Difference(walk) => walk.clone().ok().map(Walk::Difference),
-            Walk::SymmetricDifference(walk) => walk.clone().ok().map(Walk::SymmetricDifference),
-            Walk::Intersection(walk) => walk.clone().ok().map(Walk::Intersection),
-            Walk::Union(walk) => walk.clone().ok().map(Walk::Union),
-        }
+        Some(match self {
+            Walk::All(walk) => Walk::All(walk.clone().ok()?),
+            Walk::Within(walk) => Walk::Within(walk.clone().ok()?),
+            Walk::Difference(walk) => Walk::Difference(walk.clone().ok()?),
+            Walk::SymmetricDifference(walk) => Walk::SymmetricDifference(walk.clone().ok()?),
+            Walk::Intersection(walk) => Walk::Intersection(walk.clone().ok()?),
+            Walk::Union(walk) => Walk::Union(walk.clone().ok()?),
+        })
     }
 
     fn show(&self, out: &mut Out) {
