@@ -8,7 +8,7 @@ use Rattle.std.specs.declared.cmp.Ordering.TheVariants.{Less, Greater}
 use Rattle.std.proofs.lemmas.Cmp.{nat_cmp_total, by_ranked, ranked}
 use Rattle.std.proofs.lemmas.Map.Keys.{le_from_is_le}
 use Rattle.std.proofs.lemmas.Map.Lookups.{exact_unsigned}
-use Rattle.fallible_collections.specs.Words.{IsAscending, last_of}
+use Rattle.fallible_collections.specs.Words.{IsAscending, last_item}
 use Rattle.fallible_collections.proofs.Laws.{exact_pair, last_there, last_passes, last_greatest, last_none}
 use Rattle.example_intervals.specs.Spans.{IsIn}
 use Rattle.example_intervals.specs.declared.spans.Span.{Span}
@@ -38,12 +38,12 @@ module _ (p : ℕ → Bool) (spans : List (ℕ × Span)) where
     pub passes : p last.0 ≡ true
     pub greatest : (s : ℕ) (x : Span) → IsIn spans s x → p s ≡ true → s ≤ last.0
 
-  pub last_passing : (last : ℕ × Span) → IsAscending nat_cmp spans → Some last ≡ last_of (filter (λ e. p e.0) spans) → IsLast last
+  pub last_passing : (last : ℕ × Span) → IsAscending nat_cmp spans → Some last ≡ last_item (filter (λ e. p e.0) spans) → IsLast last
   last_passing last a l = record {
     held = ap (option_map (λ e. e.1)) (last_there nat_cmp p spans last nat_cmp_total a (sym l));
     passes = last_passes nat_cmp p spans last (sym l);
     greatest = λ s x h t. le_from_is_le s last.0 (last_greatest nat_cmp p spans last s (s, x) nat_cmp_total a (sym l) (exact_pair nat_cmp spans s x exact_unsigned h) t);
   }
 
-  pub none_passes : None ≡ last_of (filter (λ e. p e.0) spans) → (s : ℕ) (x : Span) → IsIn spans s x → p s ≡ true → ⊥
+  pub none_passes : None ≡ last_item (filter (λ e. p e.0) spans) → (s : ℕ) (x : Span) → IsIn spans s x → p s ≡ true → ⊥
   none_passes l s x h = last_none nat_cmp p spans s (s, x) (sym l) (exact_pair nat_cmp spans s x exact_unsigned h)

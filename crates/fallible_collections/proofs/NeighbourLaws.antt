@@ -20,7 +20,7 @@ use Rattle.fc_base.specs.Query.{IsQueryOrder}
 use Rattle.fc_base.specs.Ranges.{within}
 use Rattle.fc_base.proofs.AscendingFacts.{all_map, all_below, all_above, at_key, asc_filter}
 use Rattle.fc_base.proofs.Laws.{alike_query}
-use Rattle.fc_search.specs.Neighbours.{first_of, last_of, not_above}
+use Rattle.fc_search.specs.Neighbours.{first_item, last_item, not_above}
 
 -- a test that another one is joined to which always passes
 and_true : (b : Bool) → (b && true) ≡ b
@@ -57,15 +57,15 @@ module _ {K Q V : Type 0} (cmp : K → K → Ordering) (order : K → Q → Orde
   below_query = ap (λ (f : K → Ordering). filter (λ e. is_lt (f e.0)) s) (alike_query cmp order k q fits equal)
 
 module _ {X : Type 0} where
-  last_more : (x y : X) (s : List X) → last_of (x ∷ y ∷ s) ≡ last_of (y ∷ s)
+  last_more : (x y : X) (s : List X) → last_item (x ∷ y ∷ s) ≡ last_item (y ∷ s)
   last_more x y s = let n : suc (suc (length s)) - 1 ≡ suc (suc (length s) - 1) = omega arith in ap (slice_get (x ∷ y ∷ s)) n
 
   -- what holds of each item holds of the first, of the last, and of one that a search finds
-  of_first : (P : X → Type 0) (s : List X) (x : X) → AllByRecursion P s → first_of s ≡ Some x → P x
+  of_first : (P : X → Type 0) (s : List X) (x : X) → AllByRecursion P s → first_item s ≡ Some x → P x
   of_first P [] x a e = absurd cc
   of_first P (y ∷ s) x a e = let same : y ≡ x = cc in subst P same a.0
 
-  of_last : (P : X → Type 0) (s : List X) (x : X) → AllByRecursion P s → last_of s ≡ Some x → P x
+  of_last : (P : X → Type 0) (s : List X) (x : X) → AllByRecursion P s → last_item s ≡ Some x → P x
   of_last P [] x a e = absurd cc
   of_last P (y ∷ []) x a e = let same : y ≡ x = cc in subst P same a.0
   of_last P (y ∷ z ∷ s) x a e = of_last P (z ∷ s) x a.1 (sym (last_more y z s) ∙ e)
@@ -79,17 +79,17 @@ module _ {X : Type 0} where
       go false f more = more f
 
   -- a list that has no first or no last item is empty
-  no_first : (s : List X) → first_of s ≡ None → s ≡ []
+  no_first : (s : List X) → first_item s ≡ None → s ≡ []
   no_first [] e = refl
   no_first (y ∷ s) e = absurd cc
 
-  no_last : (s : List X) → last_of s ≡ None → s ≡ []
+  no_last : (s : List X) → last_item s ≡ None → s ≡ []
   no_last [] e = refl
   no_last (y ∷ []) e = absurd cc
   no_last (y ∷ z ∷ s) e = absurd (let n : z ∷ s ≡ [] = no_last (z ∷ s) (sym (last_more y z s) ∙ e) in cc)
 
   -- the last of a list that ends with an item
-  last_is : (s : List X) (x : X) → last_of (s ++ x ∷ []) ≡ Some x
+  last_is : (s : List X) (x : X) → last_item (s ++ x ∷ []) ≡ Some x
   last_is [] x = refl
   last_is (y ∷ []) x = last_more y x []
   last_is (y ∷ z ∷ s) x = last_more y z (s ++ x ∷ []) ∙ last_is (z ∷ s) x
@@ -138,13 +138,13 @@ module _ {K V : Type 0} (cmp : K → K → Ordering) where
       go Greater q h more = more h
 
   -- the first pair is not above any, and none is above the last
-  up_from : (s : List (K × V)) (e : K × V) → IsTotalOrder cmp → IsAscending cmp s → first_of s ≡ Some e → AllByRecursion (λ x. is_le (cmp e.0 x.0) ≡ true) s
+  up_from : (s : List (K × V)) (e : K × V) → IsTotalOrder cmp → IsAscending cmp s → first_item s ≡ Some e → AllByRecursion (λ x. is_le (cmp e.0 x.0) ≡ true) s
   up_from [] e total a f = tt
   up_from (y ∷ s) e total a f =
       let same : y ≡ e = cc in
       subst (λ z. AllByRecursion (λ x. is_le (cmp z.0 x.0) ≡ true) (y ∷ s)) same (ap is_le (tied_itself total y.0), all_map _ _ (λ x l. ap is_le l) s a.0)
 
-  up_to : (s : List (K × V)) (e : K × V) → IsTotalOrder cmp → IsAscending cmp s → last_of s ≡ Some e → AllByRecursion (λ x. is_le (cmp x.0 e.0) ≡ true) s
+  up_to : (s : List (K × V)) (e : K × V) → IsTotalOrder cmp → IsAscending cmp s → last_item s ≡ Some e → AllByRecursion (λ x. is_le (cmp x.0 e.0) ≡ true) s
   up_to [] e total a f = tt
   up_to (y ∷ []) e total a f = let same : y ≡ e = cc in (subst (λ z. is_le (cmp y.0 z.0) ≡ true) same (ap is_le (tied_itself total y.0)), tt)
   up_to (y ∷ z ∷ s) e total a f = let g = sym (last_more y z s) ∙ f in (ap is_le (of_last (λ x. cmp y.0 x.0 ≡ Less) (z ∷ s) e a.0 g), up_to (z ∷ s) e total a.1 g)
@@ -152,26 +152,26 @@ module _ {K V : Type 0} (cmp : K → K → Ordering) where
   -- The test p of keys is `λ k. is_ge (order k q)` for `first_at_or_after` at a query q, with `is_gt`, `is_le` and `is_lt` for the other three calls; for a range it is its two bounds.
   module _ (p : K → Bool) (s : List (K × V)) (e : K × V) where
     -- The first pair that passes stands in the list, and passes.
-    pub first_there : IsTotalOrder cmp → IsAscending cmp s → first_of (filter (λ x. p x.0) s) ≡ Some e → at cmp s e.0 ≡ Some e
+    pub first_there : IsTotalOrder cmp → IsAscending cmp s → first_item (filter (λ x. p x.0) s) ≡ Some e → at cmp s e.0 ≡ Some e
     first_there total a f = of_first _ _ e (all_kept (λ x. p x.0) _ s (each_there s total a)) f
 
-    pub first_passes : first_of (filter (λ x. p x.0) s) ≡ Some e → p e.0 ≡ true
+    pub first_passes : first_item (filter (λ x. p x.0) s) ≡ Some e → p e.0 ≡ true
     first_passes f = of_first (λ x. p x.0 ≡ true) _ e (all_pass (λ x. p x.0) s) f
 
     -- It is not above any that stands in the list and passes.
-    pub first_least : (k : K) (x : K × V) → IsTotalOrder cmp → IsAscending cmp s → first_of (filter (λ x. p x.0) s) ≡ Some e → at cmp s k ≡ Some x → p x.0 ≡ true → is_le (cmp e.0 x.0) ≡ true
+    pub first_least : (k : K) (x : K × V) → IsTotalOrder cmp → IsAscending cmp s → first_item (filter (λ x. p x.0) s) ≡ Some e → at cmp s k ≡ Some x → p x.0 ≡ true → is_le (cmp e.0 x.0) ≡ true
     first_least k x total a f there passes =
         of_found (λ y. p y.0 ≡ true → is_le (cmp e.0 y.0) ≡ true) _ s x (all_passing (λ y. p y.0) (λ y. is_le (cmp e.0 y.0) ≡ true) s (up_from _ e total (asc_filter cmp _ s a) f)) there passes
 
     -- The last pair that passes stands in the list, and passes.
-    pub last_there : IsTotalOrder cmp → IsAscending cmp s → last_of (filter (λ x. p x.0) s) ≡ Some e → at cmp s e.0 ≡ Some e
+    pub last_there : IsTotalOrder cmp → IsAscending cmp s → last_item (filter (λ x. p x.0) s) ≡ Some e → at cmp s e.0 ≡ Some e
     last_there total a f = of_last _ _ e (all_kept (λ x. p x.0) _ s (each_there s total a)) f
 
-    pub last_passes : last_of (filter (λ x. p x.0) s) ≡ Some e → p e.0 ≡ true
+    pub last_passes : last_item (filter (λ x. p x.0) s) ≡ Some e → p e.0 ≡ true
     last_passes f = of_last (λ x. p x.0 ≡ true) _ e (all_pass (λ x. p x.0) s) f
 
     -- None that stands in the list and passes is above it.
-    pub last_greatest : (k : K) (x : K × V) → IsTotalOrder cmp → IsAscending cmp s → last_of (filter (λ x. p x.0) s) ≡ Some e → at cmp s k ≡ Some x → p x.0 ≡ true → is_le (cmp x.0 e.0) ≡ true
+    pub last_greatest : (k : K) (x : K × V) → IsTotalOrder cmp → IsAscending cmp s → last_item (filter (λ x. p x.0) s) ≡ Some e → at cmp s k ≡ Some x → p x.0 ≡ true → is_le (cmp x.0 e.0) ≡ true
     last_greatest k x total a f there passes =
         of_found (λ y. p y.0 ≡ true → is_le (cmp y.0 e.0) ≡ true) _ s x (all_passing (λ y. p y.0) (λ y. is_le (cmp y.0 e.0) ≡ true) s (up_to _ e total (asc_filter cmp _ s a) f)) there passes
 
@@ -180,10 +180,10 @@ module _ {K V : Type 0} (cmp : K → K → Ordering) where
     none_kept f there = of_found (λ y. ¬ (p y.0 ≡ true)) _ s x (all_passing (λ y. p y.0) (λ y. ⊥) s (subst (AllByRecursion (λ y. ⊥)) (sym f) tt)) there
 
     -- Where there is no first pair that passes, or no last one, no pair of the list does.
-    pub first_none : first_of (filter (λ x. p x.0) s) ≡ None → at cmp s k ≡ Some x → ¬ (p x.0 ≡ true)
+    pub first_none : first_item (filter (λ x. p x.0) s) ≡ None → at cmp s k ≡ Some x → ¬ (p x.0 ≡ true)
     first_none f = none_kept (no_first _ f)
 
-    pub last_none : last_of (filter (λ x. p x.0) s) ≡ None → at cmp s k ≡ Some x → ¬ (p x.0 ≡ true)
+    pub last_none : last_item (filter (λ x. p x.0) s) ≡ None → at cmp s k ≡ Some x → ¬ (p x.0 ≡ true)
     last_none f = none_kept (no_last _ f)
 
 module _ {K Q V : Type 0} (cmp : K → Q → Ordering) (t : Ordering → Bool) (k : Q) where
@@ -234,8 +234,8 @@ module _ {K V : Type 0} (cmp : K → K → Ordering) (s : List (K × V)) (k : K)
   pub not_above_put : IsTotalOrder cmp → not_above cmp (put cmp s k v) k ≡ below cmp s k ++ (unwrap_or (option_map (λ e. e.0) (at cmp s k)) k, v) ∷ []
   not_above_put total = around cmp is_le k s (new ∷ []) ∙ rw (at_key cmp total k s) refl
 
-  pub first_put : IsTotalOrder cmp → first_of (not_below cmp (put cmp s k v) k) ≡ Some (unwrap_or (option_map (λ e. e.0) (at cmp s k)) k, v)
-  first_put total = ap first_of (not_below_put total)
+  pub first_put : IsTotalOrder cmp → first_item (not_below cmp (put cmp s k v) k) ≡ Some (unwrap_or (option_map (λ e. e.0) (at cmp s k)) k, v)
+  first_put total = ap first_item (not_below_put total)
 
-  pub last_put : IsTotalOrder cmp → last_of (not_above cmp (put cmp s k v) k) ≡ Some (unwrap_or (option_map (λ e. e.0) (at cmp s k)) k, v)
-  last_put total = ap last_of (not_above_put total) ∙ last_is (below cmp s k) _
+  pub last_put : IsTotalOrder cmp → last_item (not_above cmp (put cmp s k v) k) ≡ Some (unwrap_or (option_map (λ e. e.0) (at cmp s k)) k, v)
+  last_put total = ap last_item (not_above_put total) ∙ last_is (below cmp s k) _

@@ -8,7 +8,7 @@ pub use Rattle.fc_base.specs.Ranges.{bound_now, starts, stops, is_range, within}
 pub use Rattle.fc_base.specs.Growth.{growth_error, MayGrowRefuse, append_error, MayAppendRefuse}
 pub use Rattle.fc_base.specs.Joined.{placed, joined}
 pub use Rattle.fc_base.specs.Halves.{not_below}
-pub use Rattle.fc_search.specs.Neighbours.{not_above, first_of, last_of}
+pub use Rattle.fc_search.specs.Neighbours.{not_above, first_item, last_item}
 pub use Rattle.fc_base.specs.Extended.{extended, IsExtendedUpTo}
 pub use Rattle.fc_base.specs.Copies.{IsExact, SameContents}
 pub use Rattle.fc_base.specs.Boxed.{boxed_value}

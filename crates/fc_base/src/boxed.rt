@@ -1,5 +1,6 @@
 //! Boxes that are made or refused.
-ghost use Rattle.std.specs.Prelude.{◌≡◌, IfOk, IfErr, MatchResult, ⊤};
+ghost use Rattle.std.specs.Prelude.{◌≡◌, ◌⊎◌, IfOk, IfErr};
+ghost use Rattle.fc_base.specs.declared.try_reserve_error.TryReserveError.TheVariants.{AllocError as NoMemory};
 ghost use Rattle.fc_base.specs.Boxed.{boxed_value};
 
 use crate::{TryClone, TryReserveError};
@@ -72,11 +73,9 @@ impl<T: TryClone> TryClone for TryBox<T> {
 
     ghost can_clone = { T.can_clone };
 
-    fn try_clone(&self) -> Result<TryBox<T>, TryReserveError>
-        requires { T.can_clone }
-        ensures copied { MatchResult result (λ copy. T.same (boxed_value self.now) (boxed_value copy)) (λ _. ⊤) }
-        ensures refused { T.never_refuses (boxed_value self.now) → IfErr result (λ e. e ≡ TryReserveError.AllocError) }
-    {
+    ghost may_refuse = { λ source e. (e ≡ NoMemory) ⊎ T.may_refuse (boxed_value source) e };
+
+    fn try_clone(&self) -> Result<TryBox<T>, TryReserveError> {
         let inner = self.inner.try_clone()?;
         Ok(TryBox { inner })
     }

@@ -1,5 +1,6 @@
 //! Copies that may be refused.
 ghost use Rattle.std.specs.Prelude.{◌≡◌, MatchResult, ⊤};
+ghost use Rattle.fc_base.specs.declared.try_reserve_error.TryReserveError.{TryReserveError};
 
 use crate::try_reserve_error::TryReserveError;
 
@@ -11,21 +12,21 @@ pub trait TryClone: Drop {
     ghost same: { Self → Self → Type 0 };
     // What has to hold of the type for its values to be copied.
     ghost can_clone: { Type 0 } = { ⊤ };
-    // Holds of a value whose copy is never refused.
-    ghost never_refuses: { Self → Type 0 } = { λ _. ⊥ };
+    // Holds of a value and each error by which its copy may be refused.
+    ghost may_refuse: { Self → TryReserveError → Type 0 } = { λ _ _. ⊤ };
 
     /// A copy that is `same` as the value. An error says why memory was refused; the value stays as it is.
     fn try_clone(&self) -> Result<Self, TryReserveError>
     where
         Self: Sized,
         requires { can_clone }
-        ensures { MatchResult result (same self.now) (λ _. ¬ (never_refuses self.now)) };
+        ensures { MatchResult result (same self.now) (may_refuse self.now) };
 }
 
 impl TryClone for u8 {
     ghost same = { λ source copy. copy ≡ source };
 
-    ghost never_refuses = { λ _. ⊤ };
+    ghost may_refuse = { λ _ _. ⊥ };
 
     fn try_clone(&self) -> Result<u8, TryReserveError> {
         Ok(*self)
@@ -35,7 +36,7 @@ impl TryClone for u8 {
 impl TryClone for u16 {
     ghost same = { λ source copy. copy ≡ source };
 
-    ghost never_refuses = { λ _. ⊤ };
+    ghost may_refuse = { λ _ _. ⊥ };
 
     fn try_clone(&self) -> Result<u16, TryReserveError> {
         Ok(*self)
@@ -45,7 +46,7 @@ impl TryClone for u16 {
 impl TryClone for u32 {
     ghost same = { λ source copy. copy ≡ source };
 
-    ghost never_refuses = { λ _. ⊤ };
+    ghost may_refuse = { λ _ _. ⊥ };
 
     fn try_clone(&self) -> Result<u32, TryReserveError> {
         Ok(*self)
@@ -55,7 +56,7 @@ impl TryClone for u32 {
 impl TryClone for u64 {
     ghost same = { λ source copy. copy ≡ source };
 
-    ghost never_refuses = { λ _. ⊤ };
+    ghost may_refuse = { λ _ _. ⊥ };
 
     fn try_clone(&self) -> Result<u64, TryReserveError> {
         Ok(*self)
@@ -65,7 +66,7 @@ impl TryClone for u64 {
 impl TryClone for usize {
     ghost same = { λ source copy. copy ≡ source };
 
-    ghost never_refuses = { λ _. ⊤ };
+    ghost may_refuse = { λ _ _. ⊥ };
 
     fn try_clone(&self) -> Result<usize, TryReserveError> {
         Ok(*self)
@@ -75,7 +76,7 @@ impl TryClone for usize {
 impl TryClone for i8 {
     ghost same = { λ source copy. copy ≡ source };
 
-    ghost never_refuses = { λ _. ⊤ };
+    ghost may_refuse = { λ _ _. ⊥ };
 
     fn try_clone(&self) -> Result<i8, TryReserveError> {
         Ok(*self)
@@ -85,7 +86,7 @@ impl TryClone for i8 {
 impl TryClone for i16 {
     ghost same = { λ source copy. copy ≡ source };
 
-    ghost never_refuses = { λ _. ⊤ };
+    ghost may_refuse = { λ _ _. ⊥ };
 
     fn try_clone(&self) -> Result<i16, TryReserveError> {
         Ok(*self)
@@ -95,7 +96,7 @@ impl TryClone for i16 {
 impl TryClone for i32 {
     ghost same = { λ source copy. copy ≡ source };
 
-    ghost never_refuses = { λ _. ⊤ };
+    ghost may_refuse = { λ _ _. ⊥ };
 
     fn try_clone(&self) -> Result<i32, TryReserveError> {
         Ok(*self)
@@ -105,7 +106,7 @@ impl TryClone for i32 {
 impl TryClone for i64 {
     ghost same = { λ source copy. copy ≡ source };
 
-    ghost never_refuses = { λ _. ⊤ };
+    ghost may_refuse = { λ _ _. ⊥ };
 
     fn try_clone(&self) -> Result<i64, TryReserveError> {
         Ok(*self)
@@ -115,7 +116,7 @@ impl TryClone for i64 {
 impl TryClone for isize {
     ghost same = { λ source copy. copy ≡ source };
 
-    ghost never_refuses = { λ _. ⊤ };
+    ghost may_refuse = { λ _ _. ⊥ };
 
     fn try_clone(&self) -> Result<isize, TryReserveError> {
         Ok(*self)
@@ -125,7 +126,7 @@ impl TryClone for isize {
 impl TryClone for () {
     ghost same = { λ source copy. copy ≡ source };
 
-    ghost never_refuses = { λ _. ⊤ };
+    ghost may_refuse = { λ _ _. ⊥ };
 
     fn try_clone(&self) -> Result<(), TryReserveError> {
         Ok(())
@@ -135,7 +136,7 @@ impl TryClone for () {
 impl TryClone for bool {
     ghost same = { λ source copy. copy ≡ source };
 
-    ghost never_refuses = { λ _. ⊤ };
+    ghost may_refuse = { λ _ _. ⊥ };
 
     fn try_clone(&self) -> Result<bool, TryReserveError> {
         Ok(*self)

@@ -15,7 +15,7 @@ use Rattle.fc_node.specs.Path.{before, after}
 use Rattle.fc_node.specs.Place.{lead_in, rest_in, ahead_in, behind_in, place_pair, place_ahead, place_behind}
 use Rattle.fc_node.proofs.Gaps.{leaf_gap, inner_gap, own_pair, lead_pair, rest_pair, rest_none, item_there, place_pairs, gap_pairs, before_more, after_more, pair_more, ahead_more, behind_more}
 use Rattle.fc_search.specs.Found.{AllBelow, AllAbove, IsFoundAt, IsGapAt, IsFound, IsGap}
-use Rattle.fc_search.specs.Neighbours.{first_of, last_of, not_above}
+use Rattle.fc_search.specs.Neighbours.{first_item, last_item, not_above}
 use Rattle.fc_search.proofs.SearchFacts.{IsOnWay, way_gap, way_found, found_at, gap_at}
 
 module _ {X : Type 0} where
@@ -24,13 +24,13 @@ module _ {X : Type 0} where
   last_past (y ∷ xs) x = last_past xs x
 
   -- the last of a list that ends with an item
-  pub last_is : (xs : List X) (x : X) → last_of (xs ++ x ∷ []) ≡ Some x
+  pub last_is : (xs : List X) (x : X) → last_item (xs ++ x ∷ []) ≡ Some x
   last_is xs x =
       let n : length (xs ++ x ∷ []) - 1 ≡ length xs = let l = length-append xs (x ∷ []) in omega arith in
       ap (slice_get (xs ++ x ∷ [])) n ∙ last_past xs x
 
   -- the last of a list is that of the whole, and the first alike
-  pub first_kept : (xs rest : List X) (x : X) → first_of xs ≡ Some x → first_of (xs ++ rest) ≡ Some x
+  pub first_kept : (xs rest : List X) (x : X) → first_item xs ≡ Some x → first_item (xs ++ rest) ≡ Some x
   first_kept [] rest x e = absurd cc
   first_kept (y ∷ xs) rest x e = e
 
@@ -39,7 +39,7 @@ module _ {X : Type 0} where
   last_at (y ∷ lead) xs i zero e = absurd (omega arith)
   last_at (y ∷ lead) xs i (suc n) e = last_at lead xs i n (omega arith)
 
-  pub last_kept : (lead xs : List X) (x : X) → last_of xs ≡ Some x → last_of (lead ++ xs) ≡ Some x
+  pub last_kept : (lead xs : List X) (x : X) → last_item xs ≡ Some x → last_item (lead ++ xs) ≡ Some x
   last_kept lead [] x e = absurd cc
   last_kept lead (y ∷ xs) x e =
       let n : length (lead ++ y ∷ xs) - 1 ≡ length lead + (length (y ∷ xs) - 1) = let l = length-append lead (y ∷ xs) in omega arith in
@@ -47,21 +47,21 @@ module _ {X : Type 0} where
 
 module _ {K V : Type 0} where
   -- what is behind a child begins with the own pair there
-  pub rest_first : (n : Node K V) (i : ℕ) (p : K × V) (rest : List (K × V)) → i < length (own_pairs n) → p ≡ get_or (own_pairs n) i p → Some p ≡ first_of (rest_in n i ++ rest)
-  rest_first n i p rest lt e = sym (ap (λ s. first_of (s ++ rest)) (rest_pair n i p lt) ∙ ap Some (sym e))
+  pub rest_first : (n : Node K V) (i : ℕ) (p : K × V) (rest : List (K × V)) → i < length (own_pairs n) → p ≡ get_or (own_pairs n) i p → Some p ≡ first_item (rest_in n i ++ rest)
+  rest_first n i p rest lt e = sym (ap (λ s. first_item (s ++ rest)) (rest_pair n i p lt) ∙ ap Some (sym e))
 
   -- and behind the last child is what is behind the node
-  pub rest_past : (n : Node K V) (i : ℕ) (rest : List (K × V)) → length (own_pairs n) ≤ i → first_of rest ≡ first_of (rest_in n i ++ rest)
-  rest_past n i rest le = sym (ap (λ s. first_of (s ++ rest)) (rest_none n i le))
+  pub rest_past : (n : Node K V) (i : ℕ) (rest : List (K × V)) → length (own_pairs n) ≤ i → first_item rest ≡ first_item (rest_in n i ++ rest)
+  rest_past n i rest le = sym (ap (λ s. first_item (s ++ rest)) (rest_none n i le))
 
   -- what is ahead of a child ends with the own pair there
-  pub lead_last : (h : ℕ) (n : Node K V) (i j : ℕ) (p : K × V) (lead : List (K × V)) → IsLevelled h n → i < length (own_pairs n) → j ≡ suc i → p ≡ get_or (own_pairs n) i p → Some p ≡ last_of (lead ++ lead_in n j)
+  pub lead_last : (h : ℕ) (n : Node K V) (i j : ℕ) (p : K × V) (lead : List (K × V)) → IsLevelled h n → i < length (own_pairs n) → j ≡ suc i → p ≡ get_or (own_pairs n) i p → Some p ≡ last_item (lead ++ lead_in n j)
   lead_last h n i j p lead l lt s e =
-      sym (ap (λ s. last_of (lead ++ s)) (ap (lead_in n) s ∙ lead_pair h n i p l lt ∙ ap (λ x. ahead_in n i ++ x ∷ []) (sym e)) ∙ last_kept lead (ahead_in n i ++ p ∷ []) p (last_is (ahead_in n i) p))
+      sym (ap (λ s. last_item (lead ++ s)) (ap (lead_in n) s ∙ lead_pair h n i p l lt ∙ ap (λ x. ahead_in n i ++ x ∷ []) (sym e)) ∙ last_kept lead (ahead_in n i ++ p ∷ []) p (last_is (ahead_in n i) p))
 
   -- and ahead of the first child is what is ahead of the node
-  pub lead_none : (n : Node K V) (lead : List (K × V)) → last_of lead ≡ last_of (lead ++ lead_in n 0)
-  lead_none n lead = sym (ap last_of (append-nil lead))
+  pub lead_none : (n : Node K V) (lead : List (K × V)) → last_item lead ≡ last_item (lead ++ lead_in n 0)
+  lead_none n lead = sym (ap last_item (append-nil lead))
 
   -- in a leaf, what is behind a pair is what is behind the next gap, and what is ahead of it what is ahead of its gap
   pub leaf_behind : (n : Node K V) (i : ℕ) (p : K × V) (h : ℕ) → IsLevelled h n → IsLeaf n → i < length (own_pairs n) → behind_in n i ≡ rest_in n (suc i)
@@ -86,27 +86,27 @@ module _ {K V : Type 0} where
       (ap (λ s. ahead_in n i ++ s) (rest_pair n i p lt) ∙ sym (own_pair h n i p l lt) ∙ inner_gap n i inner (omega arith) ∙ sym (append_assoc (lead_in n i) (pairs_of (child_at n i)) (rest_in n i)))
 
   -- the first behind a node's own pair, and the last ahead of it: in a leaf as at a gap, in an inner node those of a child
-  pub own_behind_leaf : (h : ℕ) (n : Node K V) (i : ℕ) (rest : List (K × V)) → IsLevelled h n → IsLeaf n → i < length (own_pairs n) → first_of (rest_in n (i + 1) ++ rest) ≡ first_of (behind_in n i ++ rest)
+  pub own_behind_leaf : (h : ℕ) (n : Node K V) (i : ℕ) (rest : List (K × V)) → IsLevelled h n → IsLeaf n → i < length (own_pairs n) → first_item (rest_in n (i + 1) ++ rest) ≡ first_item (behind_in n i ++ rest)
   own_behind_leaf h n i rest l leaf lt =
       let p = (item_there (own_pairs n) i lt).0 in
-      ap (λ j. first_of (rest_in n j ++ rest)) (add-one i) ∙ ap (λ s. first_of (s ++ rest)) (sym (leaf_behind n i p h l leaf lt))
+      ap (λ j. first_item (rest_in n j ++ rest)) (add-one i) ∙ ap (λ s. first_item (s ++ rest)) (sym (leaf_behind n i p h l leaf lt))
 
-  pub own_ahead_leaf : (h : ℕ) (n : Node K V) (i : ℕ) (lead : List (K × V)) → IsLevelled h n → IsLeaf n → i < length (own_pairs n) → last_of (lead ++ lead_in n i) ≡ last_of (lead ++ ahead_in n i)
+  pub own_ahead_leaf : (h : ℕ) (n : Node K V) (i : ℕ) (lead : List (K × V)) → IsLevelled h n → IsLeaf n → i < length (own_pairs n) → last_item (lead ++ lead_in n i) ≡ last_item (lead ++ ahead_in n i)
   own_ahead_leaf h n i lead l leaf lt =
       let p = (item_there (own_pairs n) i lt).0 in
-      ap (λ s. last_of (lead ++ s)) (sym (leaf_ahead n i p h l leaf lt))
+      ap (λ s. last_item (lead ++ s)) (sym (leaf_ahead n i p h l leaf lt))
 
-  pub own_behind_inner : (h : ℕ) (n child : Node K V) (i : ℕ) (r : K × V) (rest : List (K × V)) → IsLevelled h n → IsInner n → i < length (own_pairs n) → child ≡ child_at n (i + 1) → first_of (pairs_of child) ≡ Some r → Some r ≡ first_of (behind_in n i ++ rest)
+  pub own_behind_inner : (h : ℕ) (n child : Node K V) (i : ℕ) (r : K × V) (rest : List (K × V)) → IsLevelled h n → IsInner n → i < length (own_pairs n) → child ≡ child_at n (i + 1) → first_item (pairs_of child) ≡ Some r → Some r ≡ first_item (behind_in n i ++ rest)
   own_behind_inner h n child i r rest l inner lt e f =
       let p = (item_there (own_pairs n) i lt).0 in
       let s : pairs_of (child_at n (suc i)) ≡ pairs_of child = ap pairs_of (ap (child_at n) (sym (add-one i)) ∙ sym e) in
-      sym (ap (λ s. first_of (s ++ rest)) (inner_behind n i p h l inner lt ∙ ap (λ s. s ++ rest_in n (suc i)) s)
+      sym (ap (λ s. first_item (s ++ rest)) (inner_behind n i p h l inner lt ∙ ap (λ s. s ++ rest_in n (suc i)) s)
       ∙ first_kept (pairs_of child ++ rest_in n (suc i)) rest r (first_kept (pairs_of child) (rest_in n (suc i)) r f))
 
-  pub own_ahead_inner : (h : ℕ) (n child : Node K V) (i : ℕ) (r : K × V) (lead : List (K × V)) → IsLevelled h n → IsInner n → i < length (own_pairs n) → child ≡ child_at n i → last_of (pairs_of child) ≡ Some r → Some r ≡ last_of (lead ++ ahead_in n i)
+  pub own_ahead_inner : (h : ℕ) (n child : Node K V) (i : ℕ) (r : K × V) (lead : List (K × V)) → IsLevelled h n → IsInner n → i < length (own_pairs n) → child ≡ child_at n i → last_item (pairs_of child) ≡ Some r → Some r ≡ last_item (lead ++ ahead_in n i)
   own_ahead_inner h n child i r lead l inner lt e f =
       let p = (item_there (own_pairs n) i lt).0 in
-      sym (ap (λ s. last_of (lead ++ s)) (inner_ahead n i p h l inner lt ∙ ap (λ s. lead_in n i ++ s) (ap pairs_of (sym e)))
+      sym (ap (λ s. last_item (lead ++ s)) (inner_ahead n i p h l inner lt ∙ ap (λ s. lead_in n i ++ s) (ap pairs_of (sym e)))
       ∙ last_kept lead (lead_in n i ++ pairs_of child) r (last_kept (lead_in n i) (pairs_of child) r f))
 
 -- the parts of a list of smaller keys, maybe a pair with an equal key, and greater keys
@@ -203,8 +203,8 @@ module _ {K Q V : Type 0} {own : K → K → Ordering} {cmp : K → Q → Orderi
           let q : c.pair ≡ p = cc in
           c.parts ∙ ap (λ x. place_ahead (path ++ i ∷ []) root ++ x ∷ place_behind (path ++ i ∷ []) root) q
 
-      pub found_from : Some p ≡ first_of (not_below cmp (pairs_of root) k)
-      found_from = sym (ap (λ s. first_of (not_below cmp s k)) cut ∙ ap first_of (pair_from cmp k _ _ p there.ahead equal there.behind).0)
+      pub found_from : Some p ≡ first_item (not_below cmp (pairs_of root) k)
+      found_from = sym (ap (λ s. first_item (not_below cmp s k)) cut ∙ ap first_item (pair_from cmp k _ _ p there.ahead equal there.behind).0)
 
-      pub found_to : Some p ≡ last_of (not_above cmp (pairs_of root) k)
-      found_to = sym (ap (λ s. last_of (not_above cmp s k)) cut ∙ ap last_of (pair_from cmp k _ _ p there.ahead equal there.behind).1 ∙ last_is (place_ahead (path ++ i ∷ []) root) p)
+      pub found_to : Some p ≡ last_item (not_above cmp (pairs_of root) k)
+      found_to = sym (ap (λ s. last_item (not_above cmp s k)) cut ∙ ap last_item (pair_from cmp k _ _ p there.ahead equal there.behind).1 ∙ last_is (place_ahead (path ++ i ∷ []) root) p)

@@ -5,12 +5,12 @@ use Rattle.std.specs.declared.cmp.Ordering.{Ordering}
 
 module _ {X : Type 0} where
   -- The first item, if there is one.
-  abbrev pub first_of : List X → Option X
-  first_of s = slice_get s 0
+  abbrev pub first_item : List X → Option X
+  first_item s = slice_get s 0
 
   -- The last item, if there is one.
-  abbrev pub last_of : List X → Option X
-  last_of s = slice_get s (length s - 1)
+  abbrev pub last_item : List X → Option X
+  last_item s = slice_get s (length s - 1)
 
 -- The pairs whose keys are not greater than the key, in order.
 abbrev pub not_above : {K Q V : Type 0} → (K → Q → Ordering) → List (K × V) → Q → List (K × V)

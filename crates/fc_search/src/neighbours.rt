@@ -5,7 +5,7 @@ ghost use Rattle.fc_base.specs.Halves.{not_below};
 ghost use Rattle.fc_base.specs.Parts.{below, above};
 ghost use Rattle.fc_node.specs.Node.{own_pairs, pairs_of, IsLevelled, IsTree};
 ghost use Rattle.fc_node.specs.Place.{lead_in, rest_in, ahead_in, behind_in};
-ghost use Rattle.fc_search.specs.Neighbours.{first_of, last_of, not_above};
+ghost use Rattle.fc_search.specs.Neighbours.{first_item, last_item, not_above};
 ghost use Rattle.fc_search.specs.Passed.{passed};
 
 use crate::ends::{first_pair, last_pair};
@@ -19,7 +19,7 @@ fn behind_child<'a, K, V>(
     place: usize,
     next: Option<&'a (K, V)>,
 ) -> Option<&'a (K, V)>
-    ensures { (rest : List (K × V)) → option_copied next.entry ≡ first_of rest → option_copied result ≡ first_of (rest_in node.now place ++ rest) }
+    ensures { (rest : List (K × V)) → option_copied next.entry ≡ first_item rest → option_copied result ≡ first_item (rest_in node.now place ++ rest) }
 {
     if place < node.len() {
         Some(node.pair(place))
@@ -36,7 +36,7 @@ fn ahead_of_child<'a, K, V>(
 ) -> Option<&'a (K, V)>
     requires levels { (h : ℕ) × IsLevelled h node.now }
     requires place { place ≤ length (own_pairs node.now) }
-    ensures { (lead : List (K × V)) → option_copied last.entry ≡ last_of lead → option_copied result ≡ last_of (lead ++ lead_in node.now place) }
+    ensures { (lead : List (K × V)) → option_copied last.entry ≡ last_item lead → option_copied result ≡ last_item (lead ++ lead_in node.now place) }
 {
     if place == 0 {
         last
@@ -53,7 +53,7 @@ fn behind_own<'a, K, V>(
 ) -> Option<&'a (K, V)>
     requires levels { (h : ℕ) × IsLevelled h node.now }
     requires place { place < length (own_pairs node.now) }
-    ensures { (rest : List (K × V)) → option_copied next.entry ≡ first_of rest → option_copied result ≡ first_of (behind_in node.now place ++ rest) }
+    ensures { (rest : List (K × V)) → option_copied next.entry ≡ first_item rest → option_copied result ≡ first_item (behind_in node.now place ++ rest) }
 {
     if node.is_leaf() {
         behind_child(node, place + 1, next)
@@ -70,7 +70,7 @@ fn ahead_of_own<'a, K, V>(
 ) -> Option<&'a (K, V)>
     requires levels { (h : ℕ) × IsLevelled h node.now }
     requires place { place < length (own_pairs node.now) }
-    ensures { (lead : List (K × V)) → option_copied last.entry ≡ last_of lead → option_copied result ≡ last_of (lead ++ ahead_in node.now place) }
+    ensures { (lead : List (K × V)) → option_copied last.entry ≡ last_item lead → option_copied result ≡ last_item (lead ++ ahead_in node.now place) }
 {
     if node.is_leaf() {
         ahead_of_child(node, place, last)
@@ -88,7 +88,7 @@ pub fn first_from<'a, K: Ord, V, Q: Query<K>>(
 ) -> Option<&'a (K, V)>
     requires levels { IsTree root.now }
     requires order { IsAscending K.cmp (pairs_of root.now) }
-    ensures value { option_copied result ≡ first_of (not_below Q.order (pairs_of root.now) (Q.sought key)) }
+    ensures value { option_copied result ≡ first_item (not_below Q.order (pairs_of root.now) (Q.sought key)) }
     ensures comparisons { count.new.comparisons ≡ count.old.comparisons + passed Q.order (Q.sought key) root.now }
     ensures bounded { (h : ℕ) → IsLevelled h root.now → count.new.comparisons ≤ count.old.comparisons + 11 * (h + 1) }
     ensures moves { count.new.moves ≡ count.old.moves }
@@ -118,7 +118,7 @@ pub fn first_after<'a, K: Ord, V, Q: Query<K>>(
 ) -> Option<&'a (K, V)>
     requires levels { IsTree root.now }
     requires order { IsAscending K.cmp (pairs_of root.now) }
-    ensures value { option_copied result ≡ first_of (above Q.order (pairs_of root.now) (Q.sought key)) }
+    ensures value { option_copied result ≡ first_item (above Q.order (pairs_of root.now) (Q.sought key)) }
     ensures comparisons { count.new.comparisons ≡ count.old.comparisons + passed Q.order (Q.sought key) root.now }
     ensures bounded { (h : ℕ) → IsLevelled h root.now → count.new.comparisons ≤ count.old.comparisons + 11 * (h + 1) }
     ensures moves { count.new.moves ≡ count.old.moves }
@@ -148,7 +148,7 @@ pub fn last_to<'a, K: Ord, V, Q: Query<K>>(
 ) -> Option<&'a (K, V)>
     requires levels { IsTree root.now }
     requires order { IsAscending K.cmp (pairs_of root.now) }
-    ensures value { option_copied result ≡ last_of (not_above Q.order (pairs_of root.now) (Q.sought key)) }
+    ensures value { option_copied result ≡ last_item (not_above Q.order (pairs_of root.now) (Q.sought key)) }
     ensures comparisons { count.new.comparisons ≡ count.old.comparisons + passed Q.order (Q.sought key) root.now }
     ensures bounded { (h : ℕ) → IsLevelled h root.now → count.new.comparisons ≤ count.old.comparisons + 11 * (h + 1) }
     ensures moves { count.new.moves ≡ count.old.moves }
@@ -178,7 +178,7 @@ pub fn last_before<'a, K: Ord, V, Q: Query<K>>(
 ) -> Option<&'a (K, V)>
     requires levels { IsTree root.now }
     requires order { IsAscending K.cmp (pairs_of root.now) }
-    ensures value { option_copied result ≡ last_of (below Q.order (pairs_of root.now) (Q.sought key)) }
+    ensures value { option_copied result ≡ last_item (below Q.order (pairs_of root.now) (Q.sought key)) }
     ensures comparisons { count.new.comparisons ≡ count.old.comparisons + passed Q.order (Q.sought key) root.now }
     ensures bounded { (h : ℕ) → IsLevelled h root.now → count.new.comparisons ≤ count.old.comparisons + 11 * (h + 1) }
     ensures moves { count.new.moves ≡ count.old.moves }

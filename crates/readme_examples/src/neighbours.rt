@@ -3,14 +3,14 @@ ghost use Rattle.std.specs.Prelude.{◌≡◌, IfOk, MatchOption, OnErr, OnOk, S
 ghost use Rattle.std.specs.Option.{option_map};
 ghost use Rattle.std.specs.Ordering.{nat_cmp};
 ghost use Rattle.std.specs.declared.ops.Bound.TheVariants.{Included, Unbounded};
-ghost use Rattle.fallible_collections.specs.Words.{above, below, entries, first_of, greater, items, last_of, not_above, now_pair, put, text_order, within};
+ghost use Rattle.fallible_collections.specs.Words.{above, below, entries, first_item, greater, items, last_item, not_above, now_pair, put, text_order, within};
 
 use fallible_collections::TryReserveError;
 use fallible_collections::btree::{BTreeMap, BTreeSet};
 
 /// The rate of an amount: that of the last step at it or before it.
 pub fn rate_at(steps: &BTreeMap<u64, u64>, amount: u64) -> Option<u64>
-    ensures { result ≡ option_map (λ e. e.1) (last_of (not_above nat_cmp (entries steps.now) amount)) }
+    ensures { result ≡ option_map (λ e. e.1) (last_item (not_above nat_cmp (entries steps.now) amount)) }
 {
     let (_from, rate) = steps.last_at_or_before(&amount)?;
     Some(*rate)
@@ -18,7 +18,7 @@ pub fn rate_at(steps: &BTreeMap<u64, u64>, amount: u64) -> Option<u64>
 
 /// Writes the rate of an amount, where it has one: it lends the value by the key that was found.
 pub fn set_rate_at(steps: &mut BTreeMap<u64, u64>, amount: u64, rate: u64)
-    ensures { MatchOption (last_of (not_above nat_cmp (entries steps.old) amount)) (steps.new ≡ steps.old) (λ step. entries steps.new ≡ put nat_cmp (entries steps.old) step.0 rate) }
+    ensures { MatchOption (last_item (not_above nat_cmp (entries steps.old) amount)) (steps.new ≡ steps.old) (λ step. entries steps.new ≡ put nat_cmp (entries steps.old) step.0 rate) }
 {
     let Some((from, _rate)) = steps.last_at_or_before(&amount) else {
         return;
@@ -46,7 +46,7 @@ pub fn add_step(
 /// Takes out a step, and answers the rate that its amount has then: that of the last step before it.
 #[tactic(auto, using(fallible_collections::proofs::Laws::not_above_cut))]
 pub fn remove_step(steps: &mut BTreeMap<u64, u64>, from: u64) -> Option<u64>
-    ensures { result ≡ option_map (λ e. e.1) (last_of (below nat_cmp (entries steps.old) from)) }
+    ensures { result ≡ option_map (λ e. e.1) (last_item (below nat_cmp (entries steps.old) from)) }
 {
     steps.remove(&from);
     rate_at(steps, from)
@@ -58,21 +58,21 @@ pub fn first_from<'a, K: Ord + Drop, V: Drop>(
     map: &'a BTreeMap<K, V>,
     key: &K,
 ) -> Option<(&'a K, &'a V)>
-    ensures { now_pair result ≡ first_of (within K.cmp (Included key.now) Unbounded (entries map.now)) }
+    ensures { now_pair result ≡ first_item (within K.cmp (Included key.now) Unbounded (entries map.now)) }
 {
     map.first_at_or_after(key)
 }
 
 /// The first name behind this one, which is itself no `String`.
 pub fn next_name<'a>(ages: &'a BTreeMap<String, u64>, name: &str) -> Option<(&'a String, &'a u64)>
-    ensures { now_pair result ≡ first_of (above text_order (entries ages.now) name.now) }
+    ensures { now_pair result ≡ first_item (above text_order (entries ages.now) name.now) }
 {
     ages.first_after(name)
 }
 
 /// The first number behind this one.
 pub fn next_number(numbers: &BTreeSet<u64>, number: u64) -> Option<u64>
-    ensures { result ≡ first_of (greater nat_cmp (items numbers.now) number) }
+    ensures { result ≡ first_item (greater nat_cmp (items numbers.now) number) }
 {
     numbers.first_after(&number).copied()
 }

@@ -1,7 +1,8 @@
 // Copies of what holds values: each value is copied by its own `try_clone`.
-ghost use Rattle.std.specs.Prelude.{◌≡◌, [], IfSome, IfErr, MatchResult, All, ⊤};
+ghost use Rattle.std.specs.Prelude.{◌≡◌, ◌⊎◌, MatchOption};
 ghost use Rattle.std.specs.List.{AllZip};
-ghost use Rattle.fc_base.specs.Copies.{SameContents};
+ghost use Rattle.fc_base.specs.declared.try_reserve_error.TryReserveError.TheVariants.{AllocError as NoMemory};
+ghost use Rattle.fc_base.specs.Copies.{SameContents, MayRefuseCopies};
 
 use super::TryClone;
 use crate::boxed::FallibleBox;
@@ -16,7 +17,7 @@ impl<T: TryClone> TryClone for Option<T> {
 
     ghost can_clone = { T.can_clone };
 
-    ghost never_refuses = { λ source. IfSome source T.never_refuses };
+    ghost may_refuse = { λ source e. MatchOption source ⊥ (λ value. T.may_refuse value e) };
 
     fn try_clone(&self) -> Result<Option<T>, TryReserveError> {
         match self {
@@ -38,11 +39,9 @@ impl<T: TryClone> TryClone for Box<T> {
 
     ghost can_clone = { T.can_clone };
 
-    fn try_clone(&self) -> Result<Box<T>, TryReserveError>
-        requires { T.can_clone }
-        ensures copied { MatchResult result (λ copy. T.same self.now.value copy.value) (λ _. ⊤) }
-        ensures refused { T.never_refuses self.now.value → IfErr result (λ e. e ≡ TryReserveError.AllocError) }
-    {
+    ghost may_refuse = { λ source e. (e ≡ NoMemory) ⊎ T.may_refuse source.value e };
+
+    fn try_clone(&self) -> Result<Box<T>, TryReserveError> {
         let copy = self.as_ref().try_clone()?;
         Box::try_new(*Box::allocator(self), copy)
     }
@@ -57,13 +56,9 @@ impl<T: TryClone> TryClone for Vec<T> {
 
     ghost can_clone = { T.can_clone };
 
-    ghost never_refuses = { λ source. source.items ≡ [] };
+    ghost may_refuse = { λ source. MayRefuseCopies T.may_refuse source.items };
 
-    fn try_clone(&self) -> Result<Vec<T>, TryReserveError>
-        requires { T.can_clone }
-        ensures copied { MatchResult result (λ copy. AllZip T.same self.now.items copy.items) (λ _. ¬ (self.now.items ≡ [])) }
-        ensures refused { All T.never_refuses self.now.items → IfErr result (λ e. e ≡ TryReserveError.AllocError) }
-    {
+    fn try_clone(&self) -> Result<Vec<T>, TryReserveError> {
         let mut copies = Vec::with_capacity(*self.allocator(), self.len())?;
         for i in 0..self.len() {
             let copy = self[i].try_clone()?;

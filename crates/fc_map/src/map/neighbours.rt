@@ -5,7 +5,7 @@ ghost use Rattle.fc_base.specs.Halves.{not_below};
 ghost use Rattle.fc_base.specs.Parts.{below, above};
 ghost use Rattle.fc_map.specs.Counts.{IsBounded};
 ghost use Rattle.fc_map.specs.Entries.{entries, now_pair, passed_in};
-ghost use Rattle.fc_search.specs.Neighbours.{first_of, last_of, not_above};
+ghost use Rattle.fc_search.specs.Neighbours.{first_item, last_item, not_above};
 
 use super::BTreeMap;
 use fc_base::{Count, Query};
@@ -17,7 +17,7 @@ impl<K: Ord, V> BTreeMap<K, V> {
     /// that was found. Not in upstream: std's map has it as `range(key..).next()`, and its unstable cursors as
     /// `lower_bound(Bound::Included(&key)).peek_next()`.
     pub fn first_at_or_after<Q: Query<K>>(&self, key: Q) -> Option<(&K, &V)>
-        ensures pair { now_pair result ≡ first_of (not_below Q.order (entries self.now) (Q.sought key)) }
+        ensures pair { now_pair result ≡ first_item (not_below Q.order (entries self.now) (Q.sought key)) }
         ensures ascending { IsAscending K.cmp (entries self.now) }
     {
         self.first_at_or_after_counted(key, &mut Count::new())
@@ -29,7 +29,7 @@ impl<K: Ord, V> BTreeMap<K, V> {
         key: Q,
         count: &mut Count,
     ) -> Option<(&K, &V)>
-        ensures pair { now_pair result ≡ first_of (not_below Q.order (entries self.now) (Q.sought key)) }
+        ensures pair { now_pair result ≡ first_item (not_below Q.order (entries self.now) (Q.sought key)) }
         ensures ascending { IsAscending K.cmp (entries self.now) }
         ensures comparisons { count.new.comparisons ≡ count.old.comparisons + passed_in Q.order (Q.sought key) self.now }
         ensures moves { count.new.moves ≡ count.old.moves }
@@ -43,7 +43,7 @@ impl<K: Ord, V> BTreeMap<K, V> {
 
     // The first pair whose key is not below `key`.
     fn pair_from<Q: Query<K>>(&self, key: Q, count: &mut Count) -> Option<&(K, V)>
-        ensures pair { option_copied result ≡ first_of (not_below Q.order (entries self.now) (Q.sought key)) }
+        ensures pair { option_copied result ≡ first_item (not_below Q.order (entries self.now) (Q.sought key)) }
         ensures ascending { IsAscending K.cmp (entries self.now) }
         ensures comparisons { count.new.comparisons ≡ count.old.comparisons + passed_in Q.order (Q.sought key) self.now }
         ensures moves { count.new.moves ≡ count.old.moves }
@@ -60,7 +60,7 @@ impl<K: Ord, V> BTreeMap<K, V> {
     /// that was found. Not in upstream: std's map has it as `range((Excluded(key), Unbounded)).next()`, and its unstable cursors as
     /// `lower_bound(Bound::Excluded(&key)).peek_next()`.
     pub fn first_after<Q: Query<K>>(&self, key: Q) -> Option<(&K, &V)>
-        ensures pair { now_pair result ≡ first_of (above Q.order (entries self.now) (Q.sought key)) }
+        ensures pair { now_pair result ≡ first_item (above Q.order (entries self.now) (Q.sought key)) }
         ensures ascending { IsAscending K.cmp (entries self.now) }
     {
         self.first_after_counted(key, &mut Count::new())
@@ -68,7 +68,7 @@ impl<K: Ord, V> BTreeMap<K, V> {
 
     /// `first_after`, with its comparisons added to the count: exactly those keys that a look-up passes. It moves no pair.
     pub fn first_after_counted<Q: Query<K>>(&self, key: Q, count: &mut Count) -> Option<(&K, &V)>
-        ensures pair { now_pair result ≡ first_of (above Q.order (entries self.now) (Q.sought key)) }
+        ensures pair { now_pair result ≡ first_item (above Q.order (entries self.now) (Q.sought key)) }
         ensures ascending { IsAscending K.cmp (entries self.now) }
         ensures comparisons { count.new.comparisons ≡ count.old.comparisons + passed_in Q.order (Q.sought key) self.now }
         ensures moves { count.new.moves ≡ count.old.moves }
@@ -82,7 +82,7 @@ impl<K: Ord, V> BTreeMap<K, V> {
 
     // The first pair whose key is above `key`.
     fn pair_after<Q: Query<K>>(&self, key: Q, count: &mut Count) -> Option<&(K, V)>
-        ensures pair { option_copied result ≡ first_of (above Q.order (entries self.now) (Q.sought key)) }
+        ensures pair { option_copied result ≡ first_item (above Q.order (entries self.now) (Q.sought key)) }
         ensures ascending { IsAscending K.cmp (entries self.now) }
         ensures comparisons { count.new.comparisons ≡ count.old.comparisons + passed_in Q.order (Q.sought key) self.now }
         ensures moves { count.new.moves ≡ count.old.moves }
@@ -99,7 +99,7 @@ impl<K: Ord, V> BTreeMap<K, V> {
     /// that was found. Not in upstream: std's map has it as `range(..=key).next_back()`, and its unstable cursors as
     /// `upper_bound(Bound::Included(&key)).peek_prev()`.
     pub fn last_at_or_before<Q: Query<K>>(&self, key: Q) -> Option<(&K, &V)>
-        ensures pair { now_pair result ≡ last_of (not_above Q.order (entries self.now) (Q.sought key)) }
+        ensures pair { now_pair result ≡ last_item (not_above Q.order (entries self.now) (Q.sought key)) }
         ensures ascending { IsAscending K.cmp (entries self.now) }
     {
         self.last_at_or_before_counted(key, &mut Count::new())
@@ -111,7 +111,7 @@ impl<K: Ord, V> BTreeMap<K, V> {
         key: Q,
         count: &mut Count,
     ) -> Option<(&K, &V)>
-        ensures pair { now_pair result ≡ last_of (not_above Q.order (entries self.now) (Q.sought key)) }
+        ensures pair { now_pair result ≡ last_item (not_above Q.order (entries self.now) (Q.sought key)) }
         ensures ascending { IsAscending K.cmp (entries self.now) }
         ensures comparisons { count.new.comparisons ≡ count.old.comparisons + passed_in Q.order (Q.sought key) self.now }
         ensures moves { count.new.moves ≡ count.old.moves }
@@ -125,7 +125,7 @@ impl<K: Ord, V> BTreeMap<K, V> {
 
     // The last pair whose key is not above `key`.
     fn pair_to<Q: Query<K>>(&self, key: Q, count: &mut Count) -> Option<&(K, V)>
-        ensures pair { option_copied result ≡ last_of (not_above Q.order (entries self.now) (Q.sought key)) }
+        ensures pair { option_copied result ≡ last_item (not_above Q.order (entries self.now) (Q.sought key)) }
         ensures ascending { IsAscending K.cmp (entries self.now) }
         ensures comparisons { count.new.comparisons ≡ count.old.comparisons + passed_in Q.order (Q.sought key) self.now }
         ensures moves { count.new.moves ≡ count.old.moves }
@@ -142,7 +142,7 @@ impl<K: Ord, V> BTreeMap<K, V> {
     /// that was found. Not in upstream: std's map has it as `range(..key).next_back()`, and its unstable cursors as
     /// `upper_bound(Bound::Excluded(&key)).peek_prev()`.
     pub fn last_before<Q: Query<K>>(&self, key: Q) -> Option<(&K, &V)>
-        ensures pair { now_pair result ≡ last_of (below Q.order (entries self.now) (Q.sought key)) }
+        ensures pair { now_pair result ≡ last_item (below Q.order (entries self.now) (Q.sought key)) }
         ensures ascending { IsAscending K.cmp (entries self.now) }
     {
         self.last_before_counted(key, &mut Count::new())
@@ -150,7 +150,7 @@ impl<K: Ord, V> BTreeMap<K, V> {
 
     /// `last_before`, with its comparisons added to the count: exactly those keys that a look-up passes. It moves no pair.
     pub fn last_before_counted<Q: Query<K>>(&self, key: Q, count: &mut Count) -> Option<(&K, &V)>
-        ensures pair { now_pair result ≡ last_of (below Q.order (entries self.now) (Q.sought key)) }
+        ensures pair { now_pair result ≡ last_item (below Q.order (entries self.now) (Q.sought key)) }
         ensures ascending { IsAscending K.cmp (entries self.now) }
         ensures comparisons { count.new.comparisons ≡ count.old.comparisons + passed_in Q.order (Q.sought key) self.now }
         ensures moves { count.new.moves ≡ count.old.moves }
@@ -164,7 +164,7 @@ impl<K: Ord, V> BTreeMap<K, V> {
 
     // The last pair whose key is below `key`.
     fn pair_before<Q: Query<K>>(&self, key: Q, count: &mut Count) -> Option<&(K, V)>
-        ensures pair { option_copied result ≡ last_of (below Q.order (entries self.now) (Q.sought key)) }
+        ensures pair { option_copied result ≡ last_item (below Q.order (entries self.now) (Q.sought key)) }
         ensures ascending { IsAscending K.cmp (entries self.now) }
         ensures comparisons { count.new.comparisons ≡ count.old.comparisons + passed_in Q.order (Q.sought key) self.now }
         ensures moves { count.new.moves ≡ count.old.moves }

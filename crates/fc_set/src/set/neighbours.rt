@@ -2,7 +2,7 @@
 ghost use Rattle.std.specs.Prelude.{◌≡◌, ◌+◌, length};
 ghost use Rattle.fc_map.specs.Counts.{IsBounded};
 ghost use Rattle.fc_map.specs.Entries.{now_value, passed_in};
-ghost use Rattle.fc_search.specs.Neighbours.{first_of, last_of};
+ghost use Rattle.fc_search.specs.Neighbours.{first_item, last_item};
 ghost use Rattle.fc_set.specs.Items.{items, smaller, greater, not_smaller, AreAscending};
 ghost use Rattle.fc_set.specs.Neighbours.{not_greater};
 
@@ -14,7 +14,7 @@ impl<T: Ord> BTreeSet<T> {
     /// way down the tree finds it, without a walk and with the comparisons of a look-up; nothing is taken. Not in upstream: std's set has it as
     /// `range(item..).next()`, and its unstable cursors as `lower_bound(Bound::Included(&item)).peek_next()`.
     pub fn first_at_or_after<Q: Query<T>>(&self, item: Q) -> Option<&T>
-        ensures item { now_value result ≡ first_of (not_smaller Q.order (items self.now) (Q.sought item)) }
+        ensures item { now_value result ≡ first_item (not_smaller Q.order (items self.now) (Q.sought item)) }
         ensures ascending { AreAscending T.cmp (items self.now) }
     {
         self.first_at_or_after_counted(item, &mut Count::new())
@@ -22,7 +22,7 @@ impl<T: Ord> BTreeSet<T> {
 
     /// `first_at_or_after`, with its comparisons added to the count: exactly those items that a look-up passes. It moves no item.
     pub fn first_at_or_after_counted<Q: Query<T>>(&self, item: Q, count: &mut Count) -> Option<&T>
-        ensures item { now_value result ≡ first_of (not_smaller Q.order (items self.now) (Q.sought item)) }
+        ensures item { now_value result ≡ first_item (not_smaller Q.order (items self.now) (Q.sought item)) }
         ensures ascending { AreAscending T.cmp (items self.now) }
         ensures comparisons { count.new.comparisons ≡ count.old.comparisons + passed_in Q.order (Q.sought item) self.now }
         ensures moves { count.new.moves ≡ count.old.moves }
@@ -38,7 +38,7 @@ impl<T: Ord> BTreeSet<T> {
     /// way down the tree finds it, without a walk and with the comparisons of a look-up; nothing is taken. Not in upstream: std's set has it as
     /// `range((Excluded(item), Unbounded)).next()`, and its unstable cursors as `lower_bound(Bound::Excluded(&item)).peek_next()`.
     pub fn first_after<Q: Query<T>>(&self, item: Q) -> Option<&T>
-        ensures item { now_value result ≡ first_of (greater Q.order (items self.now) (Q.sought item)) }
+        ensures item { now_value result ≡ first_item (greater Q.order (items self.now) (Q.sought item)) }
         ensures ascending { AreAscending T.cmp (items self.now) }
     {
         self.first_after_counted(item, &mut Count::new())
@@ -46,7 +46,7 @@ impl<T: Ord> BTreeSet<T> {
 
     /// `first_after`, with its comparisons added to the count: exactly those items that a look-up passes. It moves no item.
     pub fn first_after_counted<Q: Query<T>>(&self, item: Q, count: &mut Count) -> Option<&T>
-        ensures item { now_value result ≡ first_of (greater Q.order (items self.now) (Q.sought item)) }
+        ensures item { now_value result ≡ first_item (greater Q.order (items self.now) (Q.sought item)) }
         ensures ascending { AreAscending T.cmp (items self.now) }
         ensures comparisons { count.new.comparisons ≡ count.old.comparisons + passed_in Q.order (Q.sought item) self.now }
         ensures moves { count.new.moves ≡ count.old.moves }
@@ -62,7 +62,7 @@ impl<T: Ord> BTreeSet<T> {
     /// way down the tree finds it, without a walk and with the comparisons of a look-up; nothing is taken. Not in upstream: std's set has it as
     /// `range(..=item).next_back()`, and its unstable cursors as `upper_bound(Bound::Included(&item)).peek_prev()`.
     pub fn last_at_or_before<Q: Query<T>>(&self, item: Q) -> Option<&T>
-        ensures item { now_value result ≡ last_of (not_greater Q.order (items self.now) (Q.sought item)) }
+        ensures item { now_value result ≡ last_item (not_greater Q.order (items self.now) (Q.sought item)) }
         ensures ascending { AreAscending T.cmp (items self.now) }
     {
         self.last_at_or_before_counted(item, &mut Count::new())
@@ -70,7 +70,7 @@ impl<T: Ord> BTreeSet<T> {
 
     /// `last_at_or_before`, with its comparisons added to the count: exactly those items that a look-up passes. It moves no item.
     pub fn last_at_or_before_counted<Q: Query<T>>(&self, item: Q, count: &mut Count) -> Option<&T>
-        ensures item { now_value result ≡ last_of (not_greater Q.order (items self.now) (Q.sought item)) }
+        ensures item { now_value result ≡ last_item (not_greater Q.order (items self.now) (Q.sought item)) }
         ensures ascending { AreAscending T.cmp (items self.now) }
         ensures comparisons { count.new.comparisons ≡ count.old.comparisons + passed_in Q.order (Q.sought item) self.now }
         ensures moves { count.new.moves ≡ count.old.moves }
@@ -86,7 +86,7 @@ impl<T: Ord> BTreeSet<T> {
     /// way down the tree finds it, without a walk and with the comparisons of a look-up; nothing is taken. Not in upstream: std's set has it as
     /// `range(..item).next_back()`, and its unstable cursors as `upper_bound(Bound::Excluded(&item)).peek_prev()`.
     pub fn last_before<Q: Query<T>>(&self, item: Q) -> Option<&T>
-        ensures item { now_value result ≡ last_of (smaller Q.order (items self.now) (Q.sought item)) }
+        ensures item { now_value result ≡ last_item (smaller Q.order (items self.now) (Q.sought item)) }
         ensures ascending { AreAscending T.cmp (items self.now) }
     {
         self.last_before_counted(item, &mut Count::new())
@@ -94,7 +94,7 @@ impl<T: Ord> BTreeSet<T> {
 
     /// `last_before`, with its comparisons added to the count: exactly those items that a look-up passes. It moves no item.
     pub fn last_before_counted<Q: Query<T>>(&self, item: Q, count: &mut Count) -> Option<&T>
-        ensures item { now_value result ≡ last_of (smaller Q.order (items self.now) (Q.sought item)) }
+        ensures item { now_value result ≡ last_item (smaller Q.order (items self.now) (Q.sought item)) }
         ensures ascending { AreAscending T.cmp (items self.now) }
         ensures comparisons { count.new.comparisons ≡ count.old.comparisons + passed_in Q.order (Q.sought item) self.now }
         ensures moves { count.new.moves ≡ count.old.moves }

@@ -1,5 +1,5 @@
 use Rattle.std.proofs.Common.{arith, refl, ap, ◌∙◌}
-use Rattle.fc_search.specs.Neighbours.{first_of}
+use Rattle.fc_search.specs.Neighbours.{first_item}
 use Rattle.fc_search.proofs.SearchFacts.{child_there, way_levels, way_ascending, way_more}
 use Rattle.fc_search.proofs.PassedFacts.{passed_found, passed_down, passed_leaf, passed_bound}
 use Rattle.fc_search.proofs.Nodes.{fewer_nodes}
@@ -22,7 +22,7 @@ returns-in-Ok-clause-bounded g c =
 
 pub returns-then-is_leaf-clause-value : goal.returns-then-is_leaf-clause-value
 returns-then-is_leaf-clause-value g c =
-    c.behind_child-next.ensures _ c.down.invariant.0.2 ∙ ap first_of (none_from g.met.Q.Query.fits (g.Q.Query.sought c.args.key) c.requires.levels c.requires.order c.down.invariant.0.1 c.in-Err.gap c.in-Err.ensures.gap (c.if-is_leaf.ensures.0 refl))
+    c.behind_child-next.ensures _ c.down.invariant.0.2 ∙ ap first_item (none_from g.met.Q.Query.fits (g.Q.Query.sought c.args.key) c.requires.levels c.requires.order c.down.invariant.0.1 c.in-Err.gap c.in-Err.ensures.gap (c.if-is_leaf.ensures.0 refl))
 
 pub returns-then-is_leaf-clause-comparisons : goal.returns-then-is_leaf-clause-comparisons
 returns-then-is_leaf-clause-comparisons g c =
@@ -58,4 +58,4 @@ down-preserved g c =
     let a = way_ascending _ _ _ c.requires.levels c.requires.order c.down.invariant.0.1 in
     let w = way_more o key c.requires.levels c.requires.order c.down.invariant.0.1 c.in-Err.gap child _ refl c.in-Err.ensures.gap there c.child-node.ensures in
     let p = passed_down o key node child c.in-Err.gap a c.in-Err.ensures.gap there c.child-node.ensures in
-    ((_, w, c.behind_child-next.ensures _ c.down.invariant.0.2 ∙ ap first_of (way_after _ _ c.down.invariant.0.1 c.in-Err.gap)), omega (arith, c.in-Err.ensures.comparisons), omega (arith, c.in-Err.ensures.moves))
+    ((_, w, c.behind_child-next.ensures _ c.down.invariant.0.2 ∙ ap first_item (way_after _ _ c.down.invariant.0.1 c.in-Err.gap)), omega (arith, c.in-Err.ensures.comparisons), omega (arith, c.in-Err.ensures.moves))

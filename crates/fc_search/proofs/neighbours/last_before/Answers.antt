@@ -1,6 +1,6 @@
 use Rattle.std.proofs.Common.{arith, refl, ap, ◌∙◌}
 use Rattle.fc_node.specs.Path.{before}
-use Rattle.fc_search.specs.Neighbours.{last_of}
+use Rattle.fc_search.specs.Neighbours.{last_item}
 use Rattle.fc_search.proofs.SearchFacts.{child_there, way_levels, way_ascending, way_more}
 use Rattle.fc_search.proofs.PassedFacts.{passed_found, passed_down, passed_leaf, passed_bound}
 use Rattle.fc_search.proofs.Nodes.{fewer_nodes}
@@ -12,7 +12,7 @@ ahead_of_own-requires-clause-levels g c = let d = way_levels _ _ c.requires.leve
 
 pub returns-in-Ok-clause-value : goal.returns-in-Ok-clause-value
 returns-in-Ok-clause-value g c =
-    c.ahead_of_own.ensures (before c.down.invariant.0.0 c.args.root.now) c.down.invariant.0.2 ∙ ap last_of (found_before g.met.Q.Query.fits (g.Q.Query.sought c.args.key) c.requires.levels c.requires.order c.down.invariant.0.1 c.in-Ok.i c.in-Ok.ensures.found)
+    c.ahead_of_own.ensures (before c.down.invariant.0.0 c.args.root.now) c.down.invariant.0.2 ∙ ap last_item (found_before g.met.Q.Query.fits (g.Q.Query.sought c.args.key) c.requires.levels c.requires.order c.down.invariant.0.1 c.in-Ok.i c.in-Ok.ensures.found)
 
 pub ahead_of_child-last-requires-clause-levels : goal.ahead_of_child-last-requires-clause-levels
 ahead_of_child-last-requires-clause-levels g c = let d = way_levels _ _ c.requires.levels c.down.invariant.0.1 in (d.0, d.2)
@@ -30,7 +30,7 @@ returns-in-Ok-clause-bounded g c =
 
 pub returns-then-is_leaf-clause-value : goal.returns-then-is_leaf-clause-value
 returns-then-is_leaf-clause-value g c =
-    c.ahead_of_child-last.ensures (before c.down.invariant.0.0 c.args.root.now) c.down.invariant.0.2 ∙ ap last_of (none_before g.met.Q.Query.fits (g.Q.Query.sought c.args.key) c.requires.levels c.requires.order c.down.invariant.0.1 c.in-Err.gap c.in-Err.ensures.gap (c.if-is_leaf.ensures.0 refl))
+    c.ahead_of_child-last.ensures (before c.down.invariant.0.0 c.args.root.now) c.down.invariant.0.2 ∙ ap last_item (none_before g.met.Q.Query.fits (g.Q.Query.sought c.args.key) c.requires.levels c.requires.order c.down.invariant.0.1 c.in-Err.gap c.in-Err.ensures.gap (c.if-is_leaf.ensures.0 refl))
 
 pub returns-then-is_leaf-clause-comparisons : goal.returns-then-is_leaf-clause-comparisons
 returns-then-is_leaf-clause-comparisons g c =
@@ -66,4 +66,4 @@ down-preserved g c =
     let a = way_ascending _ _ _ c.requires.levels c.requires.order c.down.invariant.0.1 in
     let w = way_more o key c.requires.levels c.requires.order c.down.invariant.0.1 c.in-Err.gap child _ refl c.in-Err.ensures.gap there c.child-node.ensures in
     let p = passed_down o key node child c.in-Err.gap a c.in-Err.ensures.gap there c.child-node.ensures in
-    ((_, w, c.ahead_of_child-last.ensures (before c.down.invariant.0.0 c.args.root.now) c.down.invariant.0.2 ∙ ap last_of (way_before _ _ c.down.invariant.0.1 c.in-Err.gap)), omega (arith, c.in-Err.ensures.comparisons), omega (arith, c.in-Err.ensures.moves))
+    ((_, w, c.ahead_of_child-last.ensures (before c.down.invariant.0.0 c.args.root.now) c.down.invariant.0.2 ∙ ap last_item (way_before _ _ c.down.invariant.0.1 c.in-Err.gap)), omega (arith, c.in-Err.ensures.comparisons), omega (arith, c.in-Err.ensures.moves))
