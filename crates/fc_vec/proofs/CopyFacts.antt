@@ -3,7 +3,8 @@ use Rattle.std.proofs.Common.{◌≡◌, ℕ, ◌+◌, ◌<◌, ◌≤◌, List,
 use Rattle.std.proofs.lemmas.List.{append-nil, append_assoc, take_all, take-append-drop, drop_more, get_or-replicate, length-replicate, length-append, take_more}
 use Rattle.std.proofs.Math.Seq.{get_or-append_seam}
 use Rattle.std.proofs.lemmas.List.Elements.{all_zip_more, length_all_zip}
-use Rattle.std.specs.List.{AllZip}
+use Rattle.std.specs.List.{AllZip, Any}
+use Rattle.fc_base.specs.declared.try_reserve_error.TryReserveError.{TryReserveError}
 use Rattle.fc_vec.specs.Joined.{joined}
 use Rattle.fc_vec.specs.Vectors.{Vector, IsExtended, IsExtendedUpTo}
 
@@ -25,8 +26,8 @@ module _ {T : Type 0} (R : T → T → Type 0) where
   all_copied old xs new i e m = subst (λ l. IsExtended R old l new) (take_all i xs (omega arith)) m
 
   -- The copy of the next item was refused.
-  pub front_copied : (never_refuses : T → Type 0) (old xs new : List T) (i : ℕ) (x : T) → i < length xs → x ≡ get_or xs i x → IsExtended R old (take i xs) new → ¬ (never_refuses x) → IsExtendedUpTo R never_refuses old xs new
-  front_copied never_refuses old xs new i x h e m refusable = record {
+  pub front_copied : (may_refuse : T → TryReserveError → Type 0) (error : TryReserveError) (old xs new : List T) (i : ℕ) (x : T) → i < length xs → x ≡ get_or xs i x → IsExtended R old (take i xs) new → may_refuse x error → IsExtendedUpTo R may_refuse error old xs new
+  front_copied may_refuse error old xs new i x h e m refusable = record {
     front = take i xs;
     source = x;
     rest = drop (i + 1) xs;
@@ -51,8 +52,8 @@ module _ {T : Type 0} (R : T → T → Type 0) where
     all_repeated old new i e m = all_copied old (replicate n x) new i (e ∙ sym (length-replicate n x)) m
 
     -- The next copy of the same item was refused.
-    pub front_repeated : (never_refuses : T → Type 0) (old new : List T) (i : ℕ) → i < n → IsExtended R old (take i (replicate n x)) new → ¬ (never_refuses x) → IsExtendedUpTo R never_refuses old (replicate n x) new
-    front_repeated never_refuses old new i h m refusable = front_copied never_refuses old (replicate n x) new i x (within i h) (repeated_at i h) m refusable
+    pub front_repeated : (may_refuse : T → TryReserveError → Type 0) (error : TryReserveError) (old new : List T) (i : ℕ) → i < n → IsExtended R old (take i (replicate n x)) new → may_refuse x error → IsExtendedUpTo R may_refuse error old (replicate n x) new
+    front_repeated may_refuse error old new i h m refusable = front_copied may_refuse error old (replicate n x) new i x (within i h) (repeated_at i h) m refusable
 
   zip_append : (xs us ys vs : List T) → AllZip R xs ys → AllZip R us vs → AllZip R (xs ++ us) (ys ++ vs)
   zip_append [] us [] vs a b = b
@@ -76,8 +77,8 @@ module _ {T : Type 0} (R : T → T → Type 0) where
   }
 
   -- An extension, and one that was refused on its way, before others.
-  pub refused_on : (never_refuses : T → Type 0) (old xs mid ys zs whole new : List T) → IsExtended R old xs mid → IsExtendedUpTo R never_refuses mid ys new → whole ≡ xs ++ ys ++ zs → IsExtendedUpTo R never_refuses old whole new
-  refused_on never_refuses old xs mid ys zs whole new a b e = record {
+  pub refused_on : (may_refuse : T → TryReserveError → Type 0) (error : TryReserveError) (old xs mid ys zs whole new : List T) → IsExtended R old xs mid → IsExtendedUpTo R may_refuse error mid ys new → whole ≡ xs ++ ys ++ zs → IsExtendedUpTo R may_refuse error old whole new
+  refused_on may_refuse error old xs mid ys zs whole new a b e = record {
     front = xs ++ b.front;
     source = b.source;
     rest = b.rest ++ zs;
@@ -86,13 +87,19 @@ module _ {T : Type 0} (R : T → T → Type 0) where
     refusable = b.refusable;
   }
 
-  -- What is refused among copies of one item is a copy of that item.
-  pub refused_repeated : (never_refuses : T → Type 0) (old new : List T) (n : ℕ) (x : T) → IsExtendedUpTo R never_refuses old (replicate n x) new → (0 < n) × ¬ (never_refuses x)
-  refused_repeated never_refuses old new n x u =
-      let long = length-replicate n x in
+  -- What is refused is a copy of one of the sources.
+  pub one_refused : (may_refuse : T → TryReserveError → Type 0) (error : TryReserveError) (old xs new : List T) → IsExtendedUpTo R may_refuse error old xs new → Any (λ x. may_refuse x error) xs
+  one_refused may_refuse error old xs new u =
       let parts = ap length u.taken ∙ length-append u.front (u.source ∷ u.rest) in
-      let is : u.source ≡ x = sym (get_or-append_seam u.front u.source u.rest x) ∙ ap (λ l. get_or l (length u.front) x) (sym u.taken) ∙ get_or-replicate n (length u.front) x x (omega (arith, long, parts)) in
-      (omega (arith, long, parts), subst (λ y. ¬ (never_refuses y)) is u.refusable)
+      (length u.front, u.source, omega (arith, parts), ap (λ l. get_or l (length u.front) u.source) u.taken ∙ get_or-append_seam u.front u.source u.rest u.source, u.refusable)
+
+  -- What is refused among copies of one item is a copy of that item.
+  pub refused_repeated : (may_refuse : T → TryReserveError → Type 0) (error : TryReserveError) (old new : List T) (n : ℕ) (x : T) → IsExtendedUpTo R may_refuse error old (replicate n x) new → (0 < n) × may_refuse x error
+  refused_repeated may_refuse error old new n x u =
+      let one = one_refused may_refuse error old (replicate n x) new u in
+      let long = length-replicate n x in
+      let is : one.1 ≡ x = sym one.3 ∙ get_or-replicate n one.0 x one.1 (omega (arith, long, one.2)) in
+      (omega (arith, long, one.2), subst (λ y. may_refuse y error) is one.4)
 
 module _ {T : Type 0} where
   joined_append : (xs ys : List (Vector T)) → joined (xs ++ ys) ≡ joined xs ++ joined ys

@@ -32,11 +32,11 @@ module _ {T : Type 0} (same : T → T → Type 0) where
     pub extended : IsExtended old (replicate (n - length old - 1) x) before
     pub is : new ≡ before ++ x ∷ []
 
-  -- The old items, and then copies of a front of the sources; the copy of the source behind that front may be refused.
-  pub record IsExtendedUpTo (never_refuses : T → Type 0) (old sources new : List T) : Type 0 where
+  -- The old items, and then copies of a front of the sources; the copy of the source behind that front may be refused by this error.
+  pub record IsExtendedUpTo (may_refuse : T → TryReserveError → Type 0) (e : TryReserveError) (old sources new : List T) : Type 0 where
     pub front : List T
     pub source : T
     pub rest : List T
     pub taken : sources ≡ front ++ source ∷ rest
     pub extended : IsExtended old front new
-    pub refusable : ¬ (never_refuses source)
+    pub refusable : may_refuse source e

@@ -12,7 +12,7 @@ pub(crate) fn push_copies<T: TryClone>(v: &mut Vec<T>, sources: &[T]) -> Result<
     requires copied { T.can_clone }
     requires room { vec_len v.old + length sources.now ≤ vec_capacity v.old }
     ensures extended { OnOk result (IsExtended T.same v.old.items sources.now v.new.items) }
-    ensures refused { IfErr result (λ _. IsExtendedUpTo T.same T.never_refuses v.old.items sources.now v.new.items) }
+    ensures refused { IfErr result (λ e. IsExtendedUpTo T.same T.may_refuse e v.old.items sources.now v.new.items) }
     ensures room { vec_capacity v.new ≡ vec_capacity v.old }
 {
     for i in 0..sources.len() {
@@ -31,7 +31,7 @@ pub(crate) fn push_repeated<T: TryClone>(
     requires copied { T.can_clone }
     requires room { vec_len v.old + count ≤ vec_capacity v.old }
     ensures extended { OnOk result (IsExtended T.same v.old.items (replicate count source.now) v.new.items) }
-    ensures refused { IfErr result (λ _. IsExtendedUpTo T.same T.never_refuses v.old.items (replicate count source.now) v.new.items) }
+    ensures refused { IfErr result (λ e. IsExtendedUpTo T.same T.may_refuse e v.old.items (replicate count source.now) v.new.items) }
     ensures room { vec_capacity v.new ≡ vec_capacity v.old }
 {
     for i in 0..count {
@@ -54,7 +54,7 @@ pub fn try_from_elem<T: TryClone>(
     requires { T.can_clone }
     ensures none { n ≡ 0 → IsOk result × IfOk result (λ v. v.items ≡ []) }
     ensures filled { 0 < n → IfOk result (λ v. IsFilled T.same [] n elem v.items) }
-    ensures refused { IfErr result (λ e. (e ≡ NoMemory) ⊎ ((1 < n) × ¬ (T.never_refuses elem))) }
+    ensures refused { IfErr result (λ e. (e ≡ NoMemory) ⊎ ((1 < n) × T.may_refuse elem e)) }
 {
     let mut made = Vec::new(alloc);
     made.try_resize_no_copy(n, elem)?;

@@ -102,7 +102,7 @@ pub trait FallibleVec<T>: Sized {
     ) -> Result<(), TryReserveError>
     where
         T: Drop,
-        requires { F.IsAlwaysCallable f }
+        requires { length (contents self.old) < new_len → F.IsAlwaysCallable f }
         ensures filled { OnOk result (AppendsResults F.step (take new_len (contents self.old)) (contents self.new) f) }
         ensures length { OnOk result (length (contents self.new) ≡ new_len) }
         ensures kept { room self.old ≤ room self.new }
@@ -122,7 +122,7 @@ pub trait FallibleVec<T>: Sized {
         ensures cut { new_len ≤ length (contents self.old) → IsOk result × (contents self.new ≡ take new_len (contents self.old)) × (room self.new ≡ room self.old) }
         ensures filled { length (contents self.old) < new_len → OnOk result (IsFilled T.same (contents self.old) new_len value (contents self.new)) }
         ensures kept { room self.old ≤ room self.new }
-        ensures refused { IfErr result (λ e. ((room self.old < new_len) × (e ≡ NoMemory) × (contents self.new ≡ contents self.old) × (room self.new ≡ room self.old)) ⊎ IsExtendedUpTo T.same T.never_refuses (contents self.old) (replicate (new_len - length (contents self.old) - 1) value) (contents self.new)) };
+        ensures refused { IfErr result (λ e. ((room self.old < new_len) × (e ≡ NoMemory) × (contents self.new ≡ contents self.old) × (room self.new ≡ room self.old)) ⊎ IsExtendedUpTo T.same T.may_refuse e (contents self.old) (replicate (new_len - length (contents self.old) - 1) value) (contents self.new)) };
 
     /// Puts a copy of each item of `other`, by `try_clone`, behind the own ones. Upstream:
     /// `FallibleVec::try_extend_from_slice_no_copy`.
@@ -136,7 +136,7 @@ pub trait FallibleVec<T>: Sized {
         requires { T.can_clone }
         ensures extended { OnOk result (IsExtended T.same (contents self.old) other.now (contents self.new)) }
         ensures kept { room self.old ≤ room self.new }
-        ensures refused { IfErr result (λ e. (MayRefuse (room self.old) (length (contents self.old)) (length other.now) e × (contents self.new ≡ contents self.old) × (room self.new ≡ room self.old)) ⊎ IsExtendedUpTo T.same T.never_refuses (contents self.old) other.now (contents self.new)) };
+        ensures refused { IfErr result (λ e. (MayRefuse (room self.old) (length (contents self.old)) (length other.now) e × (contents self.new ≡ contents self.old) × (room self.new ≡ room self.old)) ⊎ IsExtendedUpTo T.same T.may_refuse e (contents self.old) other.now (contents self.new)) };
 }
 
 // Makes room for so many more items; what fits takes no memory.

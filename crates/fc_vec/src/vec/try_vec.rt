@@ -167,7 +167,7 @@ impl<T> TryVec<T> {
     ) -> Result<(), TryReserveError>
     where
         T: Drop,
-        requires { F.IsAlwaysCallable f }
+        requires { length self.old.items < new_len → F.IsAlwaysCallable f }
         ensures filled { OnOk result (AppendsResults F.step (take new_len self.old.items) self.new.items f) }
         ensures length { OnOk result (length self.new.items ≡ new_len) }
         ensures kept { self.old.room ≤ self.new.room }
@@ -188,7 +188,7 @@ impl<T> TryVec<T> {
         requires { T.can_clone }
         ensures extended { OnOk result (IsExtended T.same self.old.items other.now self.new.items) }
         ensures kept { self.old.room ≤ self.new.room }
-        ensures refused { IfErr result (λ e. (MayRefuse self.old.room (length self.old.items) (length other.now) e × (self.new ≡ self.old)) ⊎ IsExtendedUpTo T.same T.never_refuses self.old.items other.now self.new.items) }
+        ensures refused { IfErr result (λ e. (MayRefuse self.old.room (length self.old.items) (length other.now) e × (self.new ≡ self.old)) ⊎ IsExtendedUpTo T.same T.may_refuse e self.old.items other.now self.new.items) }
     {
         self.inner.try_extend_from_slice_no_copy(other)
     }

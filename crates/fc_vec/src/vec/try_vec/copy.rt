@@ -1,6 +1,8 @@
 //! Vectors made of copies.
-ghost use Rattle.std.specs.Prelude.{◌≡◌, ◌+◌, ◌^◌, ◌<◌, ◌≤◌, ◌⊎◌, [], length, take, IfOk, IfErr, OnOk, IsOk, MatchOption, vec_len, vec_capacity, List};
-ghost use Rattle.std.specs.List.{AllZip};
+ghost use Rattle.std.specs.Prelude.{◌≡◌, ◌+◌, ◌^◌, ◌<◌, ◌≤◌, ◌⊎◌, [], length, take, IfOk, IfErr, OnOk, IsOk, MatchOption, vec_len, vec_capacity};
+ghost use Rattle.std.specs.List.{AllZip, Any};
+ghost use Rattle.fc_base.specs.declared.try_reserve_error.TryReserveError.TheVariants.{AllocError as NoMemory};
+ghost use Rattle.fc_base.specs.Copies.{MayRefuseCopies};
 ghost use Rattle.fc_vec.specs.Joined.{joined};
 ghost use Rattle.fc_vec.specs.Vectors.{MayRefuse, IsExtended, IsExtendedUpTo};
 
@@ -18,8 +20,7 @@ impl<T: TryClone> TryVec<T> {
     pub fn try_from_slice(alloc: Global, items: &[T]) -> Result<TryVec<T>, TryReserveError>
         requires { T.can_clone }
         ensures copied { IfOk result (λ v. AllZip T.same items.now v.items) }
-        ensures none { items.now ≡ [] → IsOk result }
-        ensures refused { IfErr result (λ e. MayRefuse 0 0 (length items.now) e ⊎ ((made : List T) × IsExtendedUpTo T.same T.never_refuses [] items.now made)) }
+        ensures refused { IfErr result (MayRefuseCopies T.may_refuse items.now) }
     {
         let mut made = TryVec::new(alloc);
         made.extend_from_slice(items)?;
@@ -34,7 +35,7 @@ impl TryVec<u8> {
     /// `AllocError` where the room was refused.
     pub fn try_from_str(alloc: Global, text: &str) -> Result<TryVec<u8>, TryReserveError>
         ensures bytes { IfOk result (λ v. v.items ≡ text.now) }
-        ensures refused { IfErr result (λ e. MayRefuse 0 0 (length text.now) e) }
+        ensures refused { IfErr result (λ e. (0 < length text.now) × (e ≡ NoMemory)) }
     {
         TryVec::try_from_slice(alloc, text.as_bytes())
     }
@@ -51,7 +52,7 @@ impl<T: TryClone> TryClone for TryVec<T> {
 
     ghost can_clone = { T.can_clone };
 
-    ghost never_refuses = { λ source. source.items ≡ [] };
+    ghost may_refuse = { λ source. MayRefuseCopies T.may_refuse source.items };
 
     fn try_clone(&self) -> Result<TryVec<T>, TryReserveError> {
         TryVec::try_from_slice(*self.inner.allocator(), self.inner.as_slice())
@@ -69,7 +70,7 @@ impl<T: TryClone> TryVec<TryVec<T>> {
         requires { T.can_clone }
         ensures joined { IfOk result (λ v. AllZip T.same (joined self.now.items) v.items) }
         ensures length { IfOk result (λ _. length (joined self.now.items) < 2 ^ 64) }
-        ensures refused { IfErr result (λ e. MayRefuse 0 0 (length (joined self.now.items)) e ⊎ ((made : List T) × IsExtendedUpTo T.same T.never_refuses [] (joined self.now.items) made)) }
+        ensures refused { IfErr result (λ e. MayRefuse 0 0 (length (joined self.now.items)) e ⊎ Any (λ x. T.may_refuse x e) (joined self.now.items)) }
     {
         let Some(len) = total_len(self.as_slice()) else {
             return Err(TryReserveError::CapacityOverflow);
@@ -97,7 +98,7 @@ fn push_parts<T: TryClone>(made: &mut Vec<T>, parts: &[TryVec<T>]) -> Result<(),
     requires copied { T.can_clone }
     requires room { vec_len made.old + length (joined parts.now) ≤ vec_capacity made.old }
     ensures extended { OnOk result (IsExtended T.same made.old.items (joined parts.now) made.new.items) }
-    ensures refused { IfErr result (λ _. IsExtendedUpTo T.same T.never_refuses made.old.items (joined parts.now) made.new.items) }
+    ensures refused { IfErr result (λ e. IsExtendedUpTo T.same T.may_refuse e made.old.items (joined parts.now) made.new.items) }
 {
     for i in 0..parts.len() {
         let part = &parts[i];

@@ -11,5 +11,5 @@ returns-in_err-try_resize_no_copy-clause-refused g c =
     let none = ap length c.new-made.ensures.items in
     let old = c.new-made.result.items in
     rw (p.1, p.2) (either c.in_err-try_resize_no_copy.ensures.refused (λ r. inl r.1) (λ u.
-    let one = refused_repeated g.T.TryClone.same g.T.TryClone.never_refuses old c.try_resize_no_copy.new.self.items (c.args.n - length old - 1) c.args.elem u in
+    let one = refused_repeated g.T.TryClone.same g.T.TryClone.may_refuse _ old c.try_resize_no_copy.new.self.items (c.args.n - length old - 1) c.args.elem u in
     inr (omega (arith, one.0, none), one.1)))

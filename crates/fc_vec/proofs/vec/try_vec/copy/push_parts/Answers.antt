@@ -21,8 +21,8 @@ returns-in_err-push_copies-clause-refused g c =
     let parts = c.args.parts.now in
     let i = c.loop-i.i in
     let part = c.index-parts-i.result in
-    let refused = subst (λ l. IsExtendedUpTo g.T.TryClone.same g.T.TryClone.never_refuses c.loop-i.made.items l c.push_copies.new.v.items) c.as_slice.ensures c.in_err-push_copies.ensures.refused in
-    rw (p.1) (refused_on g.T.TryClone.same g.T.TryClone.never_refuses c.args.made.now.items (joined (take i parts)) c.loop-i.made.items part.items (joined (drop (i + 1) parts)) (joined parts) c.push_copies.new.v.items c.loop-i.invariant.2 refused (joined_around parts i part (omega (arith, c.loop-i-test.true, c.loop-i.invariant.0)) c.index-parts-i.is))
+    let refused = subst (λ l. IsExtendedUpTo g.T.TryClone.same g.T.TryClone.may_refuse c.in_err-push_copies.field-0.0 c.loop-i.made.items l c.push_copies.new.v.items) c.as_slice.ensures c.in_err-push_copies.ensures.refused in
+    rw (p.1, p.2) (refused_on g.T.TryClone.same g.T.TryClone.may_refuse _ c.args.made.now.items (joined (take i parts)) c.loop-i.made.items part.items (joined (drop (i + 1) parts)) (joined parts) c.push_copies.new.v.items c.loop-i.invariant.2 refused (joined_around parts i part (omega (arith, c.loop-i-test.true, c.loop-i.invariant.0)) c.index-parts-i.is))
 
 pub loop-i-preserved : goal.loop-i-preserved
 loop-i-preserved g c =
