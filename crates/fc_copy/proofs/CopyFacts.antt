@@ -1,6 +1,6 @@
 -- A copy of a tree, made of copies of its parts.
-use Rattle.std.proofs.Common.{◌≡◌, ℕ, zero, suc, ◌+◌, ◌<◌, ◌≤◌, List, [], ◌∷◌, ◌++◌, length, map, take, get_or, sym, ap, ◌∙◌, subst, arith}
-use Rattle.std.specs.List.{All, AllZip, AllByRecursion}
+use Rattle.std.proofs.Common.{◌≡◌, ℕ, zero, suc, ◌+◌, ◌<◌, ◌≤◌, List, [], ◌∷◌, ◌++◌, length, map, take, get_or, sym, ap, ◌∙◌, subst, inl, inr, arith}
+use Rattle.std.specs.List.{All, Any, AllZip, AllByRecursion}
 use Rattle.std.specs.List.{insert}
 use Rattle.std.proofs.lemmas.List.{get_or_default, take_all, length-take-le, length-map}
 use Rattle.std.proofs.lemmas.List.Edits.{insert_end}
@@ -10,7 +10,8 @@ use Rattle.fc_node.specs.declared.node.Node.{Node}
 use Rattle.fc_node.specs.Node.{own_pairs, children_of, child_at, pairs_of, IsLeaf, IsLevelled}
 use Rattle.fc_node.proofs.Lists.{all_front, all_back, all_at}
 use Rattle.fc_node.proofs.Pairs.{IsBelow, pairs_is, leaf_children}
-use Rattle.fc_copy.specs.Copy.{IsCopy, IsCopyUpTo}
+use Rattle.fc_base.specs.declared.try_reserve_error.TryReserveError.{TryReserveError}
+use Rattle.fc_copy.specs.Copy.{IsCopy, IsCopyUpTo, MayRefuseNodes}
 
 module _ {X : Type 0} (R : X → X → Type 0) where
   zip_append : (xs us ys vs : List X) → AllZip R xs ys → AllZip R us vs → AllZip R (xs ++ us) (ys ++ vs)
@@ -124,7 +125,7 @@ module _ {X : Type 0} (P : X → Type 0) where
   lists_woven (c ∷ cs) ps e a = (all_front P c (behind ps cs) a, lists_behind ps cs (omega arith) (all_back P c (behind ps cs) a))
 
 module _ {K V : Type 0} (P : K × V → Type 0) where
-  pub all_own : (n : Node K V) → All P (pairs_of n) → All P (own_pairs n)
+  all_own : (n : Node K V) → All P (pairs_of n) → All P (own_pairs n)
   all_own n a = All-from_recursion P (own_pairs n) (own_woven P (map pairs_of (children_of n)) (own_pairs n) (subst (AllByRecursion P) (pairs_is n) (recursion_from_All P (pairs_of n) a)))
 
   list_at : (cs : List (Node K V)) (i : ℕ) (d : Node K V) → i < length cs → AllByRecursion (AllByRecursion P) (map pairs_of cs) → AllByRecursion P (pairs_of (get_or cs i d))
@@ -136,9 +137,36 @@ module _ {K V : Type 0} (P : K × V → Type 0) where
   wide_list cs m e = length-map cs _ ∙ e
 
   -- A child of a levelled node is levelled too.
-  pub all_below : (h : ℕ) (n c : Node K V) (i : ℕ) → IsLevelled h n → i < length (children_of n) → c ≡ child_at n i → All P (pairs_of n) → (g : ℕ) × IsLevelled g c × All P (pairs_of c)
+  all_below : (h : ℕ) (n c : Node K V) (i : ℕ) → IsLevelled h n → i < length (children_of n) → c ≡ child_at n i → All P (pairs_of n) → (g : ℕ) × IsLevelled g c × All P (pairs_of c)
   all_below zero n c i l h e a = let w = ap length (leaf_children n l.1) in absurd (omega arith)
   all_below (suc g) n c i l h e a =
       let lists = lists_woven P (map pairs_of (children_of n)) (own_pairs n) (wide_list (children_of n) (length (own_pairs n) + 1) l.1) (subst (AllByRecursion P) (pairs_is n) (recursion_from_All P (pairs_of n) a)) in
       let levels = all_at (IsBelow g) (children_of n) i n h l.2 in
       (g, subst (IsLevelled g) (sym e) levels.1, subst (λ x. All P (pairs_of x)) (sym e) (All-from_recursion P (pairs_of (child_at n i)) (list_at (children_of n) i n h lists)))
+
+-- Of what implies a fact for each item, some item has it: so the fact holds.
+some_item : {X : Type 0} {R : Type 0} (P : X → Type 0) (xs : List X) → All (λ x. P x → R) xs → Any P xs → R
+some_item P xs all (k, x, h, e, p) = all k x h (subst P (sym e) p)
+
+-- An item of a list has what some item of the list has.
+each_item : {X : Type 0} (P : X → Type 0) (xs : List X) → All (λ x. P x → Any P xs) xs
+each_item P xs k d h p = (k, get_or xs k d, h, get_or_default xs k (get_or xs k d) d h, p)
+
+module _ {K V : Type 0} (may : K × V → TryReserveError → Type 0) (e : TryReserveError) where
+  -- What may refuse a copy of one of the pairs.
+  pub refused_at : (pairs : List (K × V)) (i : ℕ) (p : K × V) → i < length pairs → p ≡ get_or pairs i p → may p e → MayRefuseNodes may pairs e
+  refused_at pairs i p h is m = inr (i, p, h, sym is, m)
+
+  -- What may refuse a copy of a node's own pairs may refuse one of all in and below it, and so may what refuses that of a child.
+  pub refused_own : (n : Node K V) → MayRefuseNodes may (own_pairs n) e → MayRefuseNodes may (pairs_of n) e
+  refused_own n (inl no_memory) = inl no_memory
+  refused_own n (inr own) = inr (some_item (λ p. may p e) (own_pairs n) (all_own (λ p. may p e → Any (λ q. may q e) (pairs_of n)) n (each_item (λ p. may p e) (pairs_of n))) own)
+
+  pub refused_below : (h : ℕ) (n c : Node K V) (i : ℕ) → IsLevelled h n → i < length (children_of n) → c ≡ child_at n i → ((g : ℕ) → IsLevelled g c → MayRefuseNodes may (pairs_of c) e) → MayRefuseNodes may (pairs_of n) e
+  refused_below h n c i l less is refused =
+      let below = all_below (λ p. may p e → Any (λ q. may q e) (pairs_of n)) h n c i l less is (each_item (λ p. may p e) (pairs_of n)) in
+      widened below.2 (refused below.0 below.1)
+    where
+      widened : All (λ p. may p e → Any (λ q. may q e) (pairs_of n)) (pairs_of c) → MayRefuseNodes may (pairs_of c) e → MayRefuseNodes may (pairs_of n) e
+      widened all (inl no_memory) = inl no_memory
+      widened all (inr some) = inr (some_item (λ p. may p e) (pairs_of c) all some)

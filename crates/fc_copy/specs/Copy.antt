@@ -1,17 +1,20 @@
 -- Copies of pairs and of trees, by what is the same of keys and of values.
-use Rattle.std.specs.Prelude.{ℕ, take}
+use Rattle.std.specs.Prelude.{◌≡◌, ◌⊎◌, ℕ, List, Any, take}
 use Rattle.std.specs.List.{AllZip}
+use Rattle.fc_base.specs.declared.try_reserve_error.TryReserveError.{TryReserveError}
+use Rattle.fc_base.specs.declared.try_reserve_error.TryReserveError.TheVariants.{AllocError}
 use Rattle.fc_node.specs.declared.node.Node.{Node}
 use Rattle.fc_node.specs.Node.{own_pairs, children_of, pairs_of, IsLeaf, IsLevelled}
+
+-- By which error a copy of nodes with these pairs may be refused, given by which one a copy of each pair may be: `AllocError`, where a
+-- node was refused, or an error of one of the pairs' own.
+abbrev pub MayRefuseNodes : {A : Type 0} → (A → TryReserveError → Type 0) → List A → TryReserveError → Type 0
+MayRefuseNodes may_refuse pairs e = (e ≡ AllocError) ⊎ Any (λ p. may_refuse p e) pairs
 
 module _ {K V : Type 0} where
   -- The keys are the same, and so are the values.
   abbrev pub AreSame : (K → K → Type 0) → (V → V → Type 0) → K × V → K × V → Type 0
   AreSame same_key same_value p q = same_key p.0 q.0 × same_value p.1 q.1
-
-  -- Neither the copy of the key nor that of the value is ever refused.
-  abbrev pub HasSureCopy : (K → Type 0) → (V → Type 0) → K × V → Type 0
-  HasSureCopy sure_key sure_value p = sure_key p.0 × sure_value p.1
 
   -- A tree as another one: the same pairs, in the node itself and in all, and on as many levels.
   pub record IsCopy (same : K × V → K × V → Type 0) (source copy : Node K V) : Type 0 where

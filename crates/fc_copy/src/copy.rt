@@ -1,8 +1,9 @@
 //! A copy of a tree, node by node.
-ghost use Rattle.std.specs.Prelude.{◌≡◌, ℕ, ◌<◌, [], ◌∷◌, ◌++◌, length, All, IfOk, IfErr, OnErr};
+ghost use Rattle.std.specs.Prelude.{◌≡◌, ℕ, ◌<◌, [], ◌∷◌, ◌++◌, length, IfOk, IfErr};
 ghost use Rattle.std.specs.List.{AllZip};
+ghost use Rattle.fc_base.specs.Copies.{MayRefusePair};
 ghost use Rattle.fc_node.specs.Node.{own_pairs, children_of, pairs_of, IsLeaf, IsLevelled};
-ghost use Rattle.fc_copy.specs.Copy.{AreSame, HasSureCopy, IsCopy, IsCopyUpTo};
+ghost use Rattle.fc_copy.specs.Copy.{AreSame, MayRefuseNodes, IsCopy, IsCopyUpTo};
 
 use fc_base::{Count, TryClone, TryReserveError};
 use fc_node::node::Node;
@@ -22,7 +23,7 @@ pub fn try_copy<K: TryClone, V: TryClone>(
     requires keys { K.can_clone }
     requires values { V.can_clone }
     ensures copied { IfOk result (λ copy. IsCopy (AreSame K.same V.same) node.now copy.value) }
-    ensures refused { (h : ℕ) → IsLevelled h node.now → All (HasSureCopy K.never_refuses V.never_refuses) (pairs_of node.now) → IfErr result (λ e. e ≡ TryReserveError.AllocError) }
+    ensures refused { (h : ℕ) → IsLevelled h node.now → IfErr result (MayRefuseNodes (MayRefusePair K.may_refuse V.may_refuse) (pairs_of node.now)) }
 {
     let mut copy = try_copy_own(alloc, node)?;
     for i in 0..node.child_count() {
@@ -40,7 +41,7 @@ fn try_copy_own<K: TryClone, V: TryClone>(
     requires keys { K.can_clone }
     requires values { V.can_clone }
     ensures copied { IfOk result (λ copy. IsCopyUpTo (AreSame K.same V.same) 0 node.now copy.value) }
-    ensures refused { All (HasSureCopy K.never_refuses V.never_refuses) (own_pairs node.now) → IfErr result (λ e. e ≡ TryReserveError.AllocError) }
+    ensures refused { IfErr result (MayRefuseNodes (MayRefusePair K.may_refuse V.may_refuse) (own_pairs node.now)) }
 {
     let pairs = try_copy_pairs(alloc, &node.pairs)?;
     if node.is_leaf() {
@@ -59,7 +60,7 @@ fn try_copy_pairs<K: TryClone, V: TryClone>(
     requires keys { K.can_clone }
     requires values { V.can_clone }
     ensures copied { IfOk result (λ copies. AllZip (AreSame K.same V.same) pairs.now copies) }
-    ensures refused { All (HasSureCopy K.never_refuses V.never_refuses) pairs.now → IfErr result (λ e. e ≡ TryReserveError.AllocError) }
+    ensures refused { IfErr result (MayRefuseNodes (MayRefusePair K.may_refuse V.may_refuse) pairs.now) }
 {
     let mut copies = Slots::try_new(alloc)?;
     for i in 0..pairs.len() {
@@ -74,7 +75,7 @@ fn try_copy_pair<K: TryClone, V: TryClone>(pair: &(K, V)) -> Result<(K, V), TryR
     requires keys { K.can_clone }
     requires values { V.can_clone }
     ensures copied { IfOk result (AreSame K.same V.same pair.now) }
-    ensures refused { OnErr result (¬ (HasSureCopy K.never_refuses V.never_refuses pair.now)) }
+    ensures refused { IfErr result (MayRefusePair K.may_refuse V.may_refuse pair.now) }
 {
     let key = pair.0.try_clone()?;
     let value = pair.1.try_clone()?;

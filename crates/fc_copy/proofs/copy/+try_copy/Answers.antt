@@ -1,7 +1,9 @@
 use Rattle.std.proofs.Common.{◌<◌, rules, arith, sym, subst}
 use Rattle.fc_search.proofs.Nodes.{nodes_of, fewer_nodes}
-use Rattle.fc_copy.specs.Copy.{AreSame, HasSureCopy, IsCopyUpTo}
-use Rattle.fc_copy.proofs.CopyFacts.{inner_copy, children_copied, child_copied, tree_copied, all_own, all_below}
+use Rattle.std.proofs.lemmas.Result.{err_from_is_err_and}
+use Rattle.fc_base.specs.Copies.{MayRefusePair}
+use Rattle.fc_copy.specs.Copy.{AreSame, IsCopyUpTo}
+use Rattle.fc_copy.proofs.CopyFacts.{inner_copy, children_copied, child_copied, tree_copied, refused_own, refused_below}
 use Rattle.fc_copy.proofs.copy.+try_copy.Goals as goal
 
 pub try_copy-requires : goal.try_copy-requires
@@ -31,12 +33,13 @@ returns-clause-copied g t c =
     tree_copied (AreSame g.K.TryClone.same g.V.TryClone.same) c.loop-i.i c.args.node.now c.loop-i.copy.value c.loop-i.invariant.1 (omega (arith, c.loop-i.invariant.0))
 
 pub returns-in_err-copy-clause-refused : goal.returns-in_err-copy-clause-refused
-returns-in_err-copy-clause-refused g t c h l sure =
-    let is = c.in_err-copy.ensures.refused (all_own (HasSureCopy g.K.TryClone.never_refuses g.V.TryClone.never_refuses) c.args.node.now sure) in
-    search (rules, is)
+returns-in_err-copy-clause-refused g t c h l =
+    let may = MayRefusePair g.K.TryClone.may_refuse g.V.TryClone.may_refuse in
+    let p = err_from_is_err_and c.from_residual.result c.from_residual.ensures.1 in
+    rw (p.1, p.2) (refused_own may c.in_err-copy.field-0.0 c.args.node.now c.in_err-copy.ensures.refused)
 
 pub returns-in_err-child-clause-refused : goal.returns-in_err-child-clause-refused
-returns-in_err-child-clause-refused g t c h l sure =
-    let below = all_below (HasSureCopy g.K.TryClone.never_refuses g.V.TryClone.never_refuses) h c.args.node.now c.child.result.now c.loop-i.i l (omega (arith, c.loop-i.invariant.0)) c.child.ensures sure in
-    let is = c.in_err-child.ensures.refused below.0 below.1 below.2 in
-    search (rules, is)
+returns-in_err-child-clause-refused g t c h l =
+    let may = MayRefusePair g.K.TryClone.may_refuse g.V.TryClone.may_refuse in
+    let p = err_from_is_err_and c.from_residual-in_err-child.result c.from_residual-in_err-child.ensures.1 in
+    rw (p.1, p.2) (refused_below may c.in_err-child.field-0.0 h c.args.node.now c.child.result.now c.loop-i.i l (omega (arith, c.loop-i.invariant.0)) c.child.ensures c.in_err-child.ensures.refused)
