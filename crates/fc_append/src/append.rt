@@ -1,5 +1,5 @@
 //! One map's pairs put into another's, all or none.
-ghost use Rattle.std.specs.Prelude.{◌≡◌, ◌+◌, ◌*◌, ◌<◌, ◌≤◌, ◌⊎◌, [], ◌++◌, length, IfOk, IfErr, OnErr, IsErr, IsTrue};
+ghost use Rattle.std.specs.Prelude.{◌≡◌, ◌+◌, ◌<◌, ◌≤◌, ◌⊎◌, [], ◌++◌, length, min, IfOk, IfErr, OnErr, IsErr, IsTrue};
 ghost use Rattle.fc_base.specs.Ascending.{IsAscending};
 ghost use Rattle.fc_base.specs.Growth.{MayAppendRefuse};
 ghost use Rattle.fc_base.specs.Joined.{joined};
@@ -16,7 +16,8 @@ use std::mem;
 
 /// Moves all pairs of `theirs` into `ours`, and answers how many there are then. Of two equal keys the pair of `theirs` stays, and
 /// ours is dropped. Where either holds none nothing is asked for and nothing compared. Where all keys of `theirs` lie beyond ours, that
-/// takes one comparison, and a few nodes of each level from the shorter tree's root up. Else each key is compared at most once.
+/// takes one comparison, and a few nodes of each level from the shorter tree's root up. Else each key is compared at most once, and
+/// there are at least as many comparisons as the shorter tree has pairs. No move is counted.
 ///
 /// # Errors
 /// `CapacityOverflow` where both hold pairs and their lengths pass `usize::MAX` together, and `AllocError` if a node for them is
@@ -39,8 +40,12 @@ pub fn try_append<K: Ord + Drop, V: Drop>(
     ensures refused { IfErr result (λ e. MayAppendRefuse (length (entries (root_of ours.old))) (length (entries (root_of theirs.old))) e) }
     ensures err { OnErr result ((ours.new ≡ ours.old) × (theirs.new ≡ theirs.old)) }
     ensures full { 0 < our_len → 0 < their_len → usize.MAX < our_len + their_len → IsErr result }
-    ensures comparisons { count.new.comparisons ≤ count.old.comparisons + (length (entries (root_of ours.old)) + length (entries (root_of theirs.old))) }
+    ensures comparisons { count.new.comparisons ≤ count.old.comparisons + (our_len + their_len) }
     ensures none { (our_len ≡ 0) ⊎ (their_len ≡ 0) → count.new.comparisons ≡ count.old.comparisons }
+    ensures grown { count.old.comparisons ≤ count.new.comparisons }
+    ensures counted { IfOk result (λ _. 0 < our_len → 0 < their_len → count.old.comparisons < count.new.comparisons) }
+    ensures merged { IfOk result (λ _. ¬ IsAscending K.cmp (entries (root_of ours.old) ++ entries (root_of theirs.old)) → count.old.comparisons + min our_len their_len ≤ count.new.comparisons) }
+    ensures moves { count.new.moves ≡ count.old.moves }
 {
     if their_len == 0 {
         return Ok(our_len);
@@ -73,6 +78,7 @@ fn is_beyond<K: Ord, V>(
     requires some { (0 < length (entries (root_of ours.now))) × (0 < length (entries (root_of theirs.now))) }
     ensures beyond { IsTrue result → IsAscending K.cmp (entries (root_of ours.now) ++ entries (root_of theirs.now)) }
     ensures comparisons { count.new.comparisons ≡ count.old.comparisons + 1 }
+    ensures moves { count.new.moves ≡ count.old.moves }
 {
     let Some(left) = ours else { unreachable!() };
     let Some(right) = theirs else { unreachable!() };

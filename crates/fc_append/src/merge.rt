@@ -1,5 +1,5 @@
 //! The pairs of two ascending trees in one, by one comparison a step.
-ghost use Rattle.std.specs.Prelude.{◌≡◌, ℕ, ◌+◌, ◌-◌, ◌<◌, ◌≤◌, List, [], ◌∷◌, ◌++◌, length};
+ghost use Rattle.std.specs.Prelude.{◌≡◌, ℕ, ◌+◌, ◌-◌, ◌<◌, ◌≤◌, List, [], ◌∷◌, ◌++◌, length, min};
 ghost use Rattle.fc_base.specs.Ascending.{IsAscending};
 ghost use Rattle.fc_base.specs.Joined.{joined};
 ghost use Rattle.fc_node.specs.Tree.{entries, root_of, IsSoundMap};
@@ -12,7 +12,8 @@ use fc_walk::owned::{Nodes, give_first, opened};
 use std::cmp::Ordering;
 
 /// Merges two trees: the pairs of both in ascending order, and how many they are; of two equal keys the pair of `theirs` stays,
-/// and ours is dropped. A key is compared once for each pair that is put in, until either tree has no more: never for the last one.
+/// and ours is dropped. A key is compared once for each pair that is put in, until either tree has no more: never for the last one, and
+/// at least as often as the shorter has pairs.
 pub fn merge<K: Ord + Drop, V: Drop>(
     ours: Option<Box<Node<K, V>>>,
     theirs: Option<Box<Node<K, V>>>,
@@ -28,6 +29,8 @@ pub fn merge<K: Ord + Drop, V: Drop>(
     ensures sound { IsSoundMap (root_of result.0) }
     ensures len { result.1 ≡ length (entries (root_of result.0)) }
     ensures comparisons { count.new.comparisons < count.old.comparisons + (length (entries (root_of ours)) + length (entries (root_of theirs))) }
+    ensures least { count.old.comparisons + min (length (entries (root_of ours))) (length (entries (root_of theirs))) ≤ count.new.comparisons }
+    ensures moves { count.new.moves ≡ count.old.moves }
 {
     let mut builder = builder;
     let room = builder.room();
@@ -60,7 +63,9 @@ fn step<K: Ord + Drop, V: Drop>(
     ensures both { (0 < length (front_of ours.old)) × (0 < length (front_of theirs.old)) }
     ensures fewer { length (front_of ours.new) + length (front_of theirs.new) < length (front_of ours.old) + length (front_of theirs.old) }
     ensures filled { length builder.new.pairs + builder.new.room ≡ length builder.old.pairs + builder.old.room }
+    ensures taken { (length (front_of ours.old) ≤ length (front_of ours.new) + 1) × (length (front_of theirs.old) ≤ length (front_of theirs.new) + 1) }
     ensures comparisons { count.new.comparisons ≡ count.old.comparisons + 1 }
+    ensures moves { count.new.moves ≡ count.old.moves }
 {
     match compare(&first(ours).0, &first(theirs).0, count) {
         Ordering::Less => builder.push(give_first(ours)),

@@ -1,4 +1,4 @@
-use Rattle.std.proofs.Common.{◌≡◌, ◌⊎◌, inl, inr, [], ◌++◌, ap, ◌∙◌, arith}
+use Rattle.std.proofs.Common.{◌≡◌, ◌⊎◌, inl, inr, [], ◌++◌, length, ap, ◌∙◌, arith}
 use Rattle.fc_base.specs.Joined.{joined}
 use Rattle.fc_node.specs.Tree.{entries, root_of}
 use Rattle.fc_walk.specs.Opened.{front_of}
@@ -20,3 +20,16 @@ returns-clause-pairs g c =
     ∙ i.3 ∙ ap (λ zs. zs ++ joined g.K.Ord.cmp (front_of c.opened-our_nodes.result) (front_of c.opened-their_nodes.result)) c.requires.blank
     ∙ ap (λ zs. joined g.K.Ord.cmp zs (front_of c.opened-their_nodes.result)) c.opened-our_nodes.ensures.pairs
     ∙ ap (λ zs. joined g.K.Ord.cmp (entries (root_of c.args.ours)) zs) c.opened-their_nodes.ensures.pairs
+
+pub returns-clause-least : goal.returns-clause-least
+returns-clause-least g c =
+    let i = c.loop-their_nodes.invariant in
+    let v = c.len.ensures.value in
+    let ours = ap length c.opened-our_nodes.ensures.pairs in
+    let theirs = ap length c.opened-their_nodes.ensures.pairs in
+    let a = i.7 in
+    let b = i.8 in
+    elim c.loop-their_nodes-test.branch [
+      | then-loop-their_nodes-test+else-len-gt0 w ↦ (let x = w.len-in-loop-their_nodes.ensures.value in let z = w.if-len-gt0.false in let none = ap length (some_falling c.loop-their_nodes.their_nodes (omega arith)) in omega arith)
+      | else-loop-their_nodes-test w ↦ (let z = w.loop-their_nodes-test.false in let none = ap length (some_falling c.loop-their_nodes.our_nodes (omega arith)) in omega arith)
+    ]

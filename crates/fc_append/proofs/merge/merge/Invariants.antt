@@ -13,6 +13,9 @@ invariant-loop-their_nodes g l =
     × (length l.builder.pairs + l.builder.room ≡ length l.initial.builder.pairs + l.initial.builder.room)
     × (l.count.comparisons < l.initial.count.comparisons + (length (front_of l.initial.our_nodes) + length (front_of l.initial.their_nodes)))
     × (l.count.comparisons + (length (front_of l.our_nodes) + length (front_of l.their_nodes)) ≤ l.initial.count.comparisons + (length (front_of l.initial.our_nodes) + length (front_of l.initial.their_nodes)))
+    × (l.initial.count.comparisons + length (front_of l.initial.our_nodes) ≤ l.count.comparisons + length (front_of l.our_nodes))
+    × (l.initial.count.comparisons + length (front_of l.initial.their_nodes) ≤ l.count.comparisons + length (front_of l.their_nodes))
+    × (l.count.moves ≡ l.initial.count.moves)
 
 abbrev pub decreases-loop-their_nodes : goal.decreases-loop-their_nodes
 decreases-loop-their_nodes g l = length (front_of l.our_nodes) + length (front_of l.their_nodes)
