@@ -83,6 +83,7 @@ pub fn replace<K: Ord + Drop, V: Drop>(
     ensures comparisons { count.new.comparisons ≡ count.old.comparisons + passed_in K.cmp key map.old }
     ensures no_move { IsErr result → count.new.moves ≡ count.old.moves }
     ensures moved { OnOk result (count.old.moves < count.new.moves) }
+    ensures exchanged { IsSome (at K.cmp (entries map.old) key) → count.new.moves ≡ count.old.moves + 2 }
     ensures bounded { IsBounded (length (entries map.new)) count.old count.new }
 {
     let mut path = Path::new();
@@ -130,7 +131,7 @@ impl<K: Ord + Drop, V: Drop> BTreeMap<K, V> {
         ensures ascending { IsAscending K.cmp (entries self.new) }
         ensures sound { IsSoundMap self.new }
         ensures moves { IsMoved (length (entries self.new)) count.old count.new }
-        ensures moved { count.old.moves < count.new.moves }
+        ensures exchanged { count.new.moves ≡ count.old.moves + 2 }
         ensures comparisons { count.new.comparisons ≡ count.old.comparisons }
     {
         let Some(root) = &mut self.root else {
@@ -156,7 +157,7 @@ fn exchange_in<K: Ord + Drop, V: Drop>(
     ensures ascending { IsAscending K.cmp (pairs_of root.old.value) → IsAscending K.cmp (pairs_of root.new.value) }
     ensures sound { IsSoundMap (Some root.new.value) }
     ensures moves { IsMoved (length (pairs_of root.new.value)) count.old count.new }
-    ensures moved { count.old.moves < count.new.moves }
+    ensures exchanged { count.new.moves ≡ count.old.moves + 2 }
     ensures comparisons { count.new.comparisons ≡ count.old.comparisons }
 {
     replacement::replace(root, path.as_slice(), pair, count)
