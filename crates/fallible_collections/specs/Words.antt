@@ -21,7 +21,7 @@ pub use Rattle.fc_vec.specs.Joined.{joined as joined_parts}
 pub use Rattle.fc_vec.specs.Lends.{with_items, lends_slice, lends_walk}
 pub use Rattle.fc_read.specs.Reading.{front, IsMoved, IsWhole}
 -- hashed maps
-pub use Rattle.fc_hash.specs.Pairs.{Hashed, MayRefuseOne, IsMap, value_at as hashed_value_at, IsPut, IsTaken, AreCopies}
+pub use Rattle.fc_hash.specs.Pairs.{Hashed, IsMap, value_at as hashed_value_at, IsPut, IsTaken, AreCopies}
 -- maps, their entries and walks
 pub use Rattle.fc_map.specs.Entries.{Map, entries, IsSoundMap, passed_in, now_value, now_pair}
 pub use Rattle.fc_map.specs.Counts.{IsBounded}

@@ -1,6 +1,7 @@
 -- Copies of pairs, put into a hashed map one after another.
-use Rattle.std.proofs.Common.{◌≡◌, Bool, true, false, List, [], ◌∷◌, ◌++◌, Option, None, Some, length, sym, ap, ◌∙◌, subst, append_assoc, arith}
+use Rattle.std.proofs.Common.{◌≡◌, ◌<◌, Bool, true, false, List, [], ◌∷◌, ◌++◌, Option, None, Some, length, get_or, inl, inr, sym, ap, ◌∙◌, subst, append_assoc, arith}
 use Rattle.std.proofs.lemmas.List.{length-append}
+use Rattle.std.proofs.Math.Seq.{get_or-append_seam}
 use Rattle.std.proofs.lemmas.List.Sorted.{IsPermutation-sym, IsPermutation-trans, IsPermutation-cons, IsPermutation-to_front, All-permutation}
 use Rattle.std.proofs.lemmas.Slice.Zip.{all_zipped_more}
 use Rattle.std.proofs.lemmas.Bool.{both_ways}
@@ -10,14 +11,25 @@ use Rattle.std.specs.Cmp.{IsEquivalence}
 use Rattle.std.specs.List.{AllByRecursion, AllZip}
 use Rattle.std.specs.List.Sorted.{IsPermutation}
 use Rattle.std.specs.Map.{keys_of}
+use Rattle.fc_base.specs.declared.try_reserve_error.TryReserveError.{TryReserveError}
+use Rattle.fc_base.specs.declared.try_reserve_error.TryReserveError.TheVariants.{AllocError}
+use Rattle.fc_base.specs.Copies.{MayRefuseCopies}
 use Rattle.fc_hash.specs.Pairs.{IsMap, IsPut}
 
--- A list with something still to come is not empty.
-pub not_empty : {X : Type 0} (ps : List X) (e : X) (rest : List X) {left : List X} → ps ++ left ≡ [] → left ≡ e ∷ rest → ⊥
-not_empty ps e rest none step =
-    let long = length-append ps (e ∷ rest) in
-    let no = ap length (ap (λ l. ps ++ l) (sym step) ∙ none) in
-    omega (arith, long, no)
+module _ {X : Type 0} (may_refuse : X → TryReserveError → Type 0) (error : TryReserveError) (all done left rest : List X) (x : X) (e : all ≡ done ++ left) (step : left ≡ x ∷ rest) where
+  whole : all ≡ done ++ x ∷ rest
+  whole = e ∙ ap (λ l. done ++ l) step
+
+  longer : length done < length all
+  longer = let long = ap length whole ∙ length-append done (x ∷ rest) in omega (arith, long)
+
+  -- A copy of the next item was refused.
+  pub copy_refused : may_refuse x error → MayRefuseCopies may_refuse all error
+  copy_refused r = (omega (arith, longer), inr (length done, x, longer, ap (λ l. get_or l (length done) x) whole ∙ get_or-append_seam done x rest x, r))
+
+  -- Room for the next copy was refused.
+  pub room_refused : error ≡ AllocError → MayRefuseCopies may_refuse all error
+  room_refused r = (omega (arith, longer), inl r)
 
 module _ {K V : Type 0} (eq : K → K → Bool) where
   -- What holds of each key holds of one in the middle.

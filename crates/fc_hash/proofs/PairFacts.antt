@@ -51,16 +51,15 @@ module _ {K V : Type 0} (test : K → Bool) where
   found (e ∷ es) w h = found_first e es w (test e.0) refl h (λ q. found es w q)
 
 module _ {K V : Type 0} (eq : K → K → Bool) (k : K) where
-  -- Room is made, which may change the order, and then the value is put.
-  pub put_after_room : (v : V) (old : Option V) (ps mid qs : List (K × V)) → IsPermutation ps mid → lookup (eq k) mid ≡ lookup (eq k) ps → old ≡ lookup (eq k) mid
-      → MatchOption old (IsPermutation ((k, v) ∷ mid) qs) (λ _. qs ≡ set_value (eq k) mid v) → IsPut eq k v old ps qs
-  put_after_room v None ps mid qs p same e put = (sym same ∙ sym e, IsPermutation-trans ((k, v) ∷ ps) ((k, v) ∷ mid) qs (IsPermutation-cons (k, v) ps mid p) put)
-  put_after_room v (Some w) ps mid qs p same e put =
-      let f = found (eq k) mid w (sym e) in
+  -- The value is put at the key.
+  pub put_in : (v : V) (old : Option V) (ps qs : List (K × V)) → old ≡ lookup (eq k) ps → MatchOption old (IsPermutation ((k, v) ∷ ps) qs) (λ _. qs ≡ set_value (eq k) ps v) → IsPut eq k v old ps qs
+  put_in v None ps qs e put = (sym e, put)
+  put_in v (Some w) ps qs e put =
+      let f = found (eq k) ps w (sym e) in
       let others = f.front ++ f.back in (
         f.key,
         others,
-        (f.passes, IsPermutation-trans ((f.key, w) ∷ others) mid ps (subst (IsPermutation ((f.key, w) ∷ others)) (sym f.is) (middle f.front f.back (f.key, w))) (IsPermutation-sym ps mid p)),
+        (f.passes, subst (IsPermutation ((f.key, w) ∷ others)) (sym f.is) (middle f.front f.back (f.key, w))),
         (f.passes, subst (IsPermutation ((f.key, v) ∷ others)) (sym (put ∙ f.written v)) (middle f.front f.back (f.key, v))),
       )
 

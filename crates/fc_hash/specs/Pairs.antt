@@ -1,19 +1,13 @@
 -- A hashed map as contracts see it, and what its calls leave of it.
-use Rattle.std.specs.Prelude.{◌≡◌, ℕ, ◌+◌, ◌<◌, Bool, true, List, ◌∷◌, Option, None, MatchOption}
+use Rattle.std.specs.Prelude.{◌≡◌, ℕ, Bool, true, List, ◌∷◌, Option, None, MatchOption}
 use Rattle.std.specs.List.{AllZip, IsDistinct}
 use Rattle.std.specs.List.Sorted.{IsPermutation}
 use Rattle.std.specs.Map.{keys_of, lookup}
-use Rattle.fc_base.specs.declared.try_reserve_error.TryReserveError.{TryReserveError}
-use Rattle.fc_base.specs.Growth.{append_error}
 
--- The pairs, in an order that is left open, and how many pairs fit before the next request for memory.
+-- The pairs, in an order that is left open, and how many insertions there is room for before the next request for memory.
 pub record Hashed (K V : Type 0) : Type 0 where
   pub pairs : List (K × V)
-  pub room : ℕ
-
--- A map of n pairs, with room for so many, may refuse one more by this error: only where it does not fit.
-abbrev pub MayRefuseOne : ℕ → ℕ → TryReserveError → Type 0
-MayRefuseOne room n e = (room < n + 1) × (e ≡ append_error n 1)
+  pub spare : ℕ
 
 module _ {K V : Type 0} (eq : K → K → Bool) where
   -- No two keys are equal.

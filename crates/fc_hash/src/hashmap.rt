@@ -2,7 +2,7 @@
 ghost use Rattle.std.specs.Prelude.{◌≡◌, ◌+◌, ◌<◌, ◌≤◌, [], length, None, Some, Option, if◌then◌else◌, IfOk, OnOk, IfErr, IsOk};
 ghost use Rattle.std.specs.Option.{option_copied};
 ghost use Rattle.fc_base.specs.declared.try_reserve_error.TryReserveError.TheVariants.{AllocError as NoMemory};
-ghost use Rattle.fc_hash.specs.Pairs.{MayRefuseOne, IsMap, value_at, IsPut, IsTaken};
+ghost use Rattle.fc_hash.specs.Pairs.{IsMap, value_at, IsPut, IsTaken};
 
 mod copy;
 mod debug;
@@ -26,13 +26,12 @@ pub struct TryHashMap<K: Eq + Hash, V> {
 }
 
 impl<K: Eq + Hash, V> Model for TryHashMap<K, V> {
-    ghost use Rattle.std.specs.Prelude.{◌+◌, length};
-    ghost use Rattle.std.specs.HashMap.{spare};
+    ghost use Rattle.std.specs.HashMap.{spare as spare_of};
     ghost use Rattle.fc_hash.specs.Pairs.{Hashed};
 
     ghost Value = { Hashed K V };
 
-    ghost view = { λ m. record { pairs = m.inner.entries; room = length m.inner.entries + spare m.inner } };
+    ghost view = { λ m. record { pairs = m.inner.entries; spare = spare_of m.inner } };
 }
 
 impl<K: Eq + Hash, V> TryHashMap<K, V> {
@@ -46,7 +45,8 @@ impl<K: Eq + Hash, V> TryHashMap<K, V> {
         }
     }
 
-    /// An empty map with room for `capacity` pairs; none takes no memory. Upstream: `TryHashMap::with_capacity`.
+    /// An empty map with room for `capacity` pairs: so many insertions are `Ok`. No capacity takes no memory. Upstream:
+    /// `TryHashMap::with_capacity`.
     ///
     /// # Errors
     /// `AllocError` where the room was refused.
@@ -55,7 +55,7 @@ impl<K: Eq + Hash, V> TryHashMap<K, V> {
         capacity: usize,
     ) -> Result<TryHashMap<K, V>, TryReserveError>
         ensures pairs { IfOk result (λ m. m.pairs ≡ []) }
-        ensures room { IfOk result (λ m. capacity ≤ m.room) }
+        ensures spare { IfOk result (λ m. capacity ≤ m.spare) }
         ensures none { capacity ≡ 0 → IsOk result }
         ensures refused { IfErr result (λ e. e ≡ NoMemory) }
     {
@@ -81,12 +81,12 @@ impl<K: Eq + Hash, V> TryHashMap<K, V> {
         self.inner.get(key)
     }
 
-    /// Puts the value at the key, and answers the value that was there. A key that is there stays, and `key` is dropped. Upstream:
-    /// `TryHashMap::insert`.
+    /// Puts the value at the key, and answers the value that was there. A key that is there stays, and `key` is dropped: that takes
+    /// no memory. Where there is room, no insertion is refused, and each uses up room for at most one. Upstream: `TryHashMap::insert`.
     ///
     /// # Errors
-    /// `AllocError` where room for one pair more was refused, which is asked for before the key is looked up: so a key that is
-    /// there may be refused too. The map has then the pairs that it had, and key and value are dropped.
+    /// `AllocError` where the key is new, there was no room, and memory was refused. The map has then the pairs that it had, and key
+    /// and value are dropped.
     pub fn insert(&mut self, key: K, value: V) -> Result<Option<V>, TryReserveError>
     where
         K: Drop,
@@ -94,16 +94,16 @@ impl<K: Eq + Hash, V> TryHashMap<K, V> {
         ensures put { IfOk result (λ old. IsPut K.eq key value old self.old.pairs self.new.pairs) }
         ensures values { OnOk result ((q : K) → value_at K.eq q self.new.pairs ≡ (if K.eq key q then Some value else value_at K.eq q self.old.pairs)) }
         ensures map { IsMap K.eq self.new.pairs }
-        ensures fits { length self.old.pairs < self.old.room → IsOk result }
-        ensures refused { IfErr result (λ e. MayRefuseOne self.old.room (length self.old.pairs) e × (self.new.pairs ≡ self.old.pairs)) }
+        ensures fits { 0 < self.old.spare → IsOk result }
+        ensures kept { self.old.spare ≤ self.new.spare + 1 }
+        ensures refused { IfErr result (λ e. (self.old.spare ≡ 0) × (value_at K.eq key self.old.pairs ≡ None) × (e ≡ NoMemory) × (self.new.pairs ≡ self.old.pairs)) }
     {
-        let _len = self.inner.len();
-        self.inner.try_reserve(1)?;
         let old = self.inner.insert(key, value)?;
         Ok(old)
     }
 
-    /// Takes out the pair at the key that is equal to this one, drops its key and answers its value. It takes no memory.
+    /// Takes out the pair at the key that is equal to this one, drops its key and answers its value. It takes no memory, and there is
+    /// room for as many insertions as before.
     /// Upstream: `TryHashMap::remove`.
     pub fn remove(&mut self, key: &K) -> Option<V>
     where
@@ -111,6 +111,7 @@ impl<K: Eq + Hash, V> TryHashMap<K, V> {
         ensures taken { IsTaken K.eq key.now result self.old.pairs self.new.pairs }
         ensures values { (q : K) → value_at K.eq q self.new.pairs ≡ (if K.eq key.now q then None else value_at K.eq q self.old.pairs) }
         ensures map { IsMap K.eq self.new.pairs }
+        ensures kept { self.old.spare ≤ self.new.spare }
     {
         self.inner.remove(key)
     }

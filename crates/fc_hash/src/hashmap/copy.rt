@@ -1,5 +1,6 @@
 //! Copies of hashed maps.
-ghost use Rattle.std.specs.Prelude.{◌≡◌, [], true, OnOk, IsOk};
+ghost use Rattle.std.specs.Prelude.{◌≡◌, [], true, OnOk, IfErr};
+ghost use Rattle.fc_base.specs.Copies.{MayRefuseCopies, MayRefusePair};
 ghost use Rattle.fc_hash.specs.Pairs.{IsMap, AreCopies};
 
 use super::TryHashMap;
@@ -18,7 +19,7 @@ impl<K: Eq + Hash + TryClone, V: TryClone> TryClone for TryHashMap<K, V> {
 
     ghost can_clone = { K.can_clone × V.can_clone × ((a b : K) → K.same a b → K.eq a b ≡ true) };
 
-    ghost never_refuses = { λ source. source.pairs ≡ [] };
+    ghost may_refuse = { λ source. MayRefuseCopies (MayRefusePair K.may_refuse V.may_refuse) source.pairs };
 
     fn try_clone(&self) -> Result<TryHashMap<K, V>, TryReserveError> {
         let mut made = TryHashMap::with_capacity(self.alloc, self.inner.len())?;
@@ -38,7 +39,7 @@ fn insert_copies<K: Eq + Hash + TryClone, V: TryClone>(
     requires distinct { IsMap K.eq walk }
     requires empty { made.old.pairs ≡ [] }
     ensures copied { OnOk result (AreCopies K.same V.same walk.entry made.new.pairs) }
-    ensures none { walk.entry ≡ [] → IsOk result }
+    ensures refused { IfErr result (MayRefuseCopies (MayRefusePair K.may_refuse V.may_refuse) walk.entry) }
 {
     let mut walk = walk;
     'pairs: while let Some((key, value)) = walk.next() {

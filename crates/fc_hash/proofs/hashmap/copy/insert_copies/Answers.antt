@@ -1,20 +1,31 @@
-use Rattle.std.proofs.Common.{[], refl, sym, ◌∙◌, subst}
+use Rattle.std.proofs.Common.{[], refl, sym, subst, inl, inr}
+use Rattle.std.proofs.lemmas.Result.{err_from_is_err_and}
 use Rattle.std.proofs.lemmas.List.Sorted.{IsPermutation-refl}
 use Rattle.std.specs.List.Sorted.{IsPermutation}
-use Rattle.fc_hash.proofs.CopyFacts.{not_empty, one_more}
+use Rattle.fc_base.specs.Copies.{MayRefusePair}
+use Rattle.fc_hash.proofs.CopyFacts.{copy_refused, room_refused, one_more}
 use Rattle.fc_hash.proofs.hashmap.copy.insert_copies.Goals as goal
 
 pub pairs-init : goal.pairs-init
 pairs-init g c = ([], [], refl, tt, subst (IsPermutation []) (sym c.requires.empty) (IsPermutation-refl []))
 
-pub returns-in_err-key_copy-clause-none : goal.returns-in_err-key_copy-clause-none
-returns-in_err-key_copy-clause-none g c = λ none. absurd (not_empty c.pairs.invariant.0 (c.in-Some.key.now, c.in-Some.value.now) c.next.new.self (sym c.pairs.invariant.2 ∙ none) c.in-Some.ensures.steps)
+pub returns-in_err-key_copy-clause-refused : goal.returns-in_err-key_copy-clause-refused
+returns-in_err-key_copy-clause-refused g c =
+    let p = err_from_is_err_and c.from_residual.result c.from_residual.ensures.1 in
+    let m = c.pairs.invariant in
+    rw (p.1, p.2) (copy_refused (MayRefusePair g.K.TryClone.may_refuse g.V.TryClone.may_refuse) _ c.args.walk m.0 c.pairs.walk c.next.new.self (c.in-Some.key.now, c.in-Some.value.now) m.2 c.in-Some.ensures.steps (inl c.in_err-key_copy.ensures))
 
-pub returns-in_err-value_copy-clause-none : goal.returns-in_err-value_copy-clause-none
-returns-in_err-value_copy-clause-none g c = λ none. absurd (not_empty c.pairs.invariant.0 (c.in-Some.key.now, c.in-Some.value.now) c.next.new.self (sym c.pairs.invariant.2 ∙ none) c.in-Some.ensures.steps)
+pub returns-in_err-value_copy-clause-refused : goal.returns-in_err-value_copy-clause-refused
+returns-in_err-value_copy-clause-refused g c =
+    let p = err_from_is_err_and c.from_residual-in_err-value_copy.result c.from_residual-in_err-value_copy.ensures.1 in
+    let m = c.pairs.invariant in
+    rw (p.1, p.2) (copy_refused (MayRefusePair g.K.TryClone.may_refuse g.V.TryClone.may_refuse) _ c.args.walk m.0 c.pairs.walk c.next.new.self (c.in-Some.key.now, c.in-Some.value.now) m.2 c.in-Some.ensures.steps (inr c.in_err-value_copy.ensures))
 
-pub returns-in_err-insert-clause-none : goal.returns-in_err-insert-clause-none
-returns-in_err-insert-clause-none g c = λ none. absurd (not_empty c.pairs.invariant.0 (c.in-Some.key.now, c.in-Some.value.now) c.next.new.self (sym c.pairs.invariant.2 ∙ none) c.in-Some.ensures.steps)
+pub returns-in_err-insert-clause-refused : goal.returns-in_err-insert-clause-refused
+returns-in_err-insert-clause-refused g c =
+    let p = err_from_is_err_and c.from_residual-in_err-insert.result c.from_residual-in_err-insert.ensures.1 in
+    let m = c.pairs.invariant in
+    rw (p.1, p.2) (room_refused (MayRefusePair g.K.TryClone.may_refuse g.V.TryClone.may_refuse) _ c.args.walk m.0 c.pairs.walk c.next.new.self (c.in-Some.key.now, c.in-Some.value.now) m.2 c.in-Some.ensures.steps c.in_err-insert.ensures.refused.2)
 
 pub pairs-preserved-in_ok-insert : goal.pairs-preserved-in_ok-insert
 pairs-preserved-in_ok-insert g c =
