@@ -1,5 +1,6 @@
 /* A preloaded library that refuses memory: the Nth request by REFUSE=N, or each from the Nth on by REFUSE_FROM=N.
-   At the end it writes to the file named by REFUSE_LOG how many requests were made and how many refused. */
+   At the end it writes to the file named by REFUSE_LOG how many requests were made and how many refused, how many blocks were not
+   given back, and how many bytes were asked for. A process that ends by _exit or a signal writes none. */
 #define _GNU_SOURCE
 #include <errno.h>
 #include <fcntl.h>
@@ -12,8 +13,10 @@ extern void *__libc_malloc(size_t);
 extern void *__libc_calloc(size_t, size_t);
 extern void *__libc_realloc(void *, size_t);
 extern void *__libc_memalign(size_t, size_t);
+extern void __libc_free(void *);
 
-static unsigned long requests, refusals, nth, from;
+static unsigned long requests, refusals, bytes, nth, from;
+static long held;
 static int started;
 
 static unsigned long number_in(const char *name) {
@@ -21,38 +24,55 @@ static unsigned long number_in(const char *name) {
   return text ? strtoul(text, 0, 10) : 0;
 }
 
-static int refused(void) {
+static int refused(size_t size) {
   if (!started) {
     started = 1;
     nth = number_in("REFUSE");
     from = number_in("REFUSE_FROM");
   }
   requests++;
+  bytes += size;
   if (requests != nth && (from == 0 || requests < from)) return 0;
   refusals++;
   errno = ENOMEM;
   return 1;
 }
 
-void *malloc(size_t size) { return refused() ? 0 : __libc_malloc(size); }
+static void *given(void *block) {
+  if (block) held++;
+  return block;
+}
 
-void *calloc(size_t count, size_t size) { return refused() ? 0 : __libc_calloc(count, size); }
+void *malloc(size_t size) { return refused(size) ? 0 : given(__libc_malloc(size)); }
 
-void *realloc(void *block, size_t size) { return refused() ? 0 : __libc_realloc(block, size); }
+void *calloc(size_t count, size_t size) { return refused(count * size) ? 0 : given(__libc_calloc(count, size)); }
 
-void *aligned_alloc(size_t align, size_t size) { return refused() ? 0 : __libc_memalign(align, size); }
+void *realloc(void *block, size_t size) {
+  if (refused(size)) return 0;
+  void *moved = __libc_realloc(block, size);
+  if (!block) return given(moved);
+  if (!size && !moved) held--;
+  return moved;
+}
+
+void *aligned_alloc(size_t align, size_t size) { return refused(size) ? 0 : given(__libc_memalign(align, size)); }
 
 int posix_memalign(void **block, size_t align, size_t size) {
-  if (refused()) return ENOMEM;
-  *block = __libc_memalign(align, size);
+  if (refused(size)) return ENOMEM;
+  *block = given(__libc_memalign(align, size));
   return *block ? 0 : ENOMEM;
+}
+
+void free(void *block) {
+  if (block) held--;
+  __libc_free(block);
 }
 
 __attribute__((destructor)) static void report(void) {
   const char *path = getenv("REFUSE_LOG");
   if (!path) return;
-  char line[64];
-  int length = snprintf(line, sizeof line, "%lu %lu\n", requests, refusals);
+  char line[96];
+  int length = snprintf(line, sizeof line, "%lu %lu %ld %lu\n", requests, refusals, held, bytes);
   int file = open(path, O_WRONLY | O_CREAT | O_TRUNC, 0600);
   if (file < 0) return;
   if (write(file, line, length) < 0) _exit(3);
