@@ -1,5 +1,5 @@
 -- A copy of a map ascends as the map does, and its tree is as sound.
-use Rattle.std.proofs.Common.{◌≡◌, ◌^◌, ◌≤◌, true, List, [], ◌∷◌, length, Some, refl, sym, ap, ◌∙◌, arith, lit<}
+use Rattle.std.proofs.Common.{◌≡◌, ◌^◌, ◌<◌, ◌≤◌, true, List, [], ◌∷◌, length, Some, refl, sym, ◌∙◌, arith, lit<}
 use Rattle.std.proofs.Math.Nat.{pow-le-pow_right}
 use Rattle.std.specs.List.{AllZip, AllByRecursion}
 use Rattle.std.specs.Cmp.{IsTotalOrder}
@@ -49,10 +49,9 @@ module _ {K V : Type 0} where
       (sound.0, sound.1, (omega (arith, many, one), copy.levels sound.0 sound.2.1))
 
   -- A tree has a pair.
-  pub not_empty : (n : Node K V) → IsSoundMap (Some n) → ¬ (pairs_of n ≡ [])
-  not_empty n sound e =
+  pub has_pair : (n : Node K V) → IsSoundMap (Some n) → 0 < length (pairs_of n)
+  has_pair n sound =
       let deep = deep_root sound.0 n sound.2 in
       let low : 0 ≤ sound.0 = omega arith in
       let one : 6 ^ 0 ≤ 6 ^ sound.0 = pow-le-pow_right (lit< tt) low in
-      let none : length (pairs_of n) ≡ 0 = ap length e in
-      absurd (omega (arith, deep, one, none))
+      omega (arith, deep, one)

@@ -1,8 +1,10 @@
 //! Copies of maps.
-ghost use Rattle.std.specs.Prelude.{◌≡◌, true, [], All, IfErr, MatchResult};
+ghost use Rattle.std.specs.Prelude.{◌≡◌, true, IfOk, MatchResult};
 ghost use Rattle.std.specs.List.{AllZip};
-ghost use Rattle.fc_copy.specs.Copy.{AreSame, HasSureCopy};
-ghost use Rattle.fc_map.specs.Entries.{entries};
+ghost use Rattle.fc_base.specs.Ascending.{IsAscending};
+ghost use Rattle.fc_base.specs.Copies.{MayRefuseCopies, MayRefusePair};
+ghost use Rattle.fc_copy.specs.Copy.{AreSame};
+ghost use Rattle.fc_map.specs.Entries.{entries, IsSoundMap};
 
 use super::BTreeMap;
 use fc_base::{TryClone, TryReserveError};
@@ -13,19 +15,20 @@ use fc_copy::copy::try_copy;
 /// `BTreeMap::try_clone`.
 ///
 /// # Errors
-/// `AllocError` where a node was refused, or the error of a key or a value whose copy was; never where the map is empty. Where no copy
-/// of a key or a value of the map is ever refused, `AllocError` alone. What was made by then is dropped.
+/// `AllocError` where a node was refused, or the error of a key or a value whose copy was, as it is; never where the map is empty. What
+/// was made by then is dropped.
 impl<K: Ord + TryClone, V: TryClone> TryClone for BTreeMap<K, V> {
     ghost same = { λ source copy. AllZip (AreSame K.same V.same) (entries source) (entries copy) };
 
     ghost can_clone = { K.can_clone × V.can_clone × ((a b : K) → K.same a b → K.eq a b ≡ true) };
 
-    ghost never_refuses = { λ source. entries source ≡ [] };
+    ghost may_refuse = { λ source. MayRefuseCopies (MayRefusePair K.may_refuse V.may_refuse) (entries source) };
 
     fn try_clone(&self) -> Result<BTreeMap<K, V>, TryReserveError>
         requires { K.can_clone × V.can_clone × ((a b : K) → K.same a b → K.eq a b ≡ true) }
-        ensures copied { MatchResult result (λ copy. AllZip (AreSame K.same V.same) (entries self.now) (entries copy)) (λ _. ¬ (entries self.now ≡ [])) }
-        ensures refused { All (HasSureCopy K.never_refuses V.never_refuses) (entries self.now) → IfErr result (λ e. e ≡ TryReserveError.AllocError) }
+        ensures copied { MatchResult result (λ copy. AllZip (AreSame K.same V.same) (entries self.now) (entries copy)) (MayRefuseCopies (MayRefusePair K.may_refuse V.may_refuse) (entries self.now)) }
+        ensures ascending { IfOk result (λ copy. IsAscending K.cmp (entries copy)) }
+        ensures sound { IfOk result (λ copy. IsSoundMap copy) }
     {
         let Some(root) = &self.root else {
             return Ok(BTreeMap::new(self.alloc));

@@ -10,7 +10,7 @@ impl<K: Ord + Debug, V: Debug> Debug for BTreeMap<K, V> {
 }
 
 /// `Entry(..)`, with the text of the vacant or the occupied entry. Upstream: `Debug` for `Entry`.
-impl<'a, K: Ord + Debug + Drop, V: Debug + Drop> Debug for Entry<'a, K, V> {
+impl<'a, K: Ord + Debug, V: Debug> Debug for Entry<'a, K, V> {
     fn fmt<W: fmt::Write>(&self, f: &mut fmt::Formatter<W>) -> fmt::Result {
         match self {
             Entry::Vacant(entry) => f.debug_tuple("Entry").field(entry).finish(),
@@ -20,14 +20,14 @@ impl<'a, K: Ord + Debug + Drop, V: Debug + Drop> Debug for Entry<'a, K, V> {
 }
 
 /// `VacantEntry(key)`, with the key that was searched for. Upstream: `Debug` for `VacantEntry`.
-impl<'a, K: Ord + Debug + Drop, V: Drop> Debug for VacantEntry<'a, K, V> {
+impl<'a, K: Ord + Debug, V> Debug for VacantEntry<'a, K, V> {
     fn fmt<W: fmt::Write>(&self, f: &mut fmt::Formatter<W>) -> fmt::Result {
         f.debug_tuple("VacantEntry").field(self.key()).finish()
     }
 }
 
 /// `OccupiedEntry { key: .., value: .. }`. Upstream: `Debug` for `OccupiedEntry`.
-impl<'a, K: Ord + Debug + Drop, V: Debug + Drop> Debug for OccupiedEntry<'a, K, V> {
+impl<'a, K: Ord + Debug, V: Debug> Debug for OccupiedEntry<'a, K, V> {
     fn fmt<W: fmt::Write>(&self, f: &mut fmt::Formatter<W>) -> fmt::Result {
         f.debug_struct("OccupiedEntry")
             .field("key", self.key())

@@ -1,5 +1,5 @@
 //! The items of an iterator, put into a map one after another.
-ghost use Rattle.std.specs.Prelude.{◌≡◌, ◌++◌, List, [], OnOk, IfErr};
+ghost use Rattle.std.specs.Prelude.{◌≡◌, ◌++◌, List, [], IfOk, IfErr, OnOk};
 ghost use Rattle.std.specs.Iterator.{IsFiniteIterable};
 ghost use Rattle.fc_base.specs.Ascending.{IsAscending};
 ghost use Rattle.fc_base.specs.Extended.{extended, IsExtendedUpTo};
@@ -51,7 +51,13 @@ impl<K: Ord + Drop, V: Drop> TryFromIterator<(K, V)> for BTreeMap<K, V> {
     fn try_from_iterator<T: IntoIterator<Item = (K, V)>>(
         alloc: Global,
         iter: T,
-    ) -> Result<BTreeMap<K, V>, TryReserveError> {
+    ) -> Result<BTreeMap<K, V>, TryReserveError>
+        requires ends { IsFiniteIterable T.into_iter_gives T.IntoIter.can_next T.IntoIter.remaining iter }
+        ensures made { IfOk result (λ made. (all : List (K × V)) × GivesAll T.into_iter_gives T.IntoIter.next_gives iter all × (entries made ≡ extended K.cmp [] all)) }
+        ensures refused { IfErr result (λ e. (taken : List (K × V)) × GivesFirst T.into_iter_gives T.IntoIter.next_gives iter taken × ((new : List (K × V)) × ((rest : List (K × V)) → IsExtendedUpTo K.cmp [] (taken ++ rest) new e))) }
+        ensures ascending { IfOk result (λ made. IsAscending K.cmp (entries made)) }
+        ensures sound { IfOk result (λ made. IsSoundMap made) }
+    {
         let mut map = BTreeMap::new(alloc);
         map.try_extend(iter)?;
         Ok(map)

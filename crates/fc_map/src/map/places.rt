@@ -13,7 +13,7 @@ use fc_node::path::Path;
 use fc_removal::removal::remove;
 use fc_search::lend;
 
-impl<K: Ord + Drop, V: Drop> BTreeMap<K, V> {
+impl<K: Ord, V> BTreeMap<K, V> {
     // The pair that the path leads to.
     pub(crate) fn pair_of(&self, path: &Path) -> &(K, V)
         requires { IsPlaceIn self.now path.now }
@@ -35,7 +35,9 @@ impl<K: Ord + Drop, V: Drop> BTreeMap<K, V> {
             Some(root) => has_room(root, path.as_slice()),
         }
     }
+}
 
+impl<K: Ord + Drop, V: Drop> BTreeMap<K, V> {
     // Takes the pair that the path leads to out.
     pub(crate) fn take_at(&mut self, path: &Path, count: &mut Count) -> (K, V)
         requires { IsPlaceIn self.old path.now }

@@ -10,7 +10,7 @@ ghost use Rattle.fc_map.specs.Entry.{entry_key, entry_lends_ok, entry_map, entry
 use super::Entry;
 use fc_base::TryReserveError;
 
-impl<'a, K: Ord + Drop, V: Drop> Entry<'a, K, V> {
+impl<'a, K: Ord, V> Entry<'a, K, V> {
     /// The key that is there, or else the one that was searched for. Upstream: `Entry::key`.
     pub fn key(&self) -> &K
         ensures { entry_key self.now ≡ Some result.now }
@@ -41,7 +41,9 @@ impl<'a, K: Ord + Drop, V: Drop> Entry<'a, K, V> {
             Entry::Vacant(entry) => Entry::Vacant(entry),
         }
     }
+}
 
+impl<'a, K: Ord + Drop, V: Drop> Entry<'a, K, V> {
     /// The value that is there, or else `value` put there, lent for writing for as long as the map was. Where there is a value, no
     /// memory is asked for, and the given one is dropped. Upstream: `Entry::or_try_insert`.
     ///

@@ -10,7 +10,7 @@ use super::OccupiedEntry;
 use fc_base::Count;
 use std::mem;
 
-impl<'a, K: Ord + Drop, V: Drop> OccupiedEntry<'a, K, V> {
+impl<'a, K: Ord, V> OccupiedEntry<'a, K, V> {
     /// The key of the pair. Upstream: `OccupiedEntry::key`.
     pub fn key(&self) -> &K
         ensures { entry_key (Occupied self.now) ≡ Some result.now }
@@ -53,7 +53,9 @@ impl<'a, K: Ord + Drop, V: Drop> OccupiedEntry<'a, K, V> {
     {
         mem::replace(self.get_mut(), value)
     }
+}
 
+impl<'a, K: Ord + Drop, V: Drop> OccupiedEntry<'a, K, V> {
     /// Takes the pair out and answers its value; the key is dropped. It takes no memory. Upstream: `OccupiedEntry::remove`.
     pub fn remove(self) -> V
         ensures value { entry_value (Occupied self.entry) ≡ Some result }

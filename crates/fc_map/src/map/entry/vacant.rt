@@ -9,7 +9,7 @@ ghost use Rattle.fc_map.specs.Entry.{Vacant, entry_key, entry_lends_ok, entry_ma
 use super::VacantEntry;
 use fc_base::{Count, TryReserveError};
 
-impl<'a, K: Ord + Drop, V: Drop> VacantEntry<'a, K, V> {
+impl<'a, K: Ord, V> VacantEntry<'a, K, V> {
     /// The key that was searched for. Upstream: `VacantEntry::key`.
     pub fn key(&self) -> &K
         ensures { entry_key (Vacant self.now) ≡ Some result.now }
@@ -29,7 +29,9 @@ impl<'a, K: Ord + Drop, V: Drop> VacantEntry<'a, K, V> {
         } = self;
         key
     }
+}
 
+impl<'a, K: Ord + Drop, V: Drop> VacantEntry<'a, K, V> {
     /// Puts the key with the value into the gap, and lends the value for writing for as long as the map was. Upstream:
     /// `VacantEntry::try_insert`.
     ///

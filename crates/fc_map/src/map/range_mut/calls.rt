@@ -79,6 +79,30 @@ impl<'a, K: Ord, V> RangeMut<'a, K, V> {
         map.visit(&front, &back, f);
     }
 
+    /// The pair whose value `next` lends.
+    pub fn peek(&self) -> Option<(&K, &V)>
+        ensures { IsFirstPair (stretch self.now) result }
+    {
+        if self.is_done() {
+            return None;
+        }
+        let (mut gap, mut run) = (self.front, self.run);
+        let pair = self.map.pair_of(&self.map.step_behind(&mut gap, &mut run));
+        Some((&pair.0, &pair.1))
+    }
+
+    /// The pair whose value `next_back` lends.
+    pub fn peek_back(&self) -> Option<(&K, &V)>
+        ensures { IsLastPair (stretch self.now) result }
+    {
+        if self.is_done() {
+            return None;
+        }
+        let mut gap = self.back;
+        let pair = self.map.pair_of(&self.map.step_ahead(&mut gap));
+        Some((&pair.0, &pair.1))
+    }
+
     // Goes on past the first pair, and answers its place.
     fn step(&mut self) -> Option<Path>
         ensures same_map { self.new.map ≡ self.old.map }
@@ -103,31 +127,5 @@ impl<'a, K: Ord, V> RangeMut<'a, K, V> {
         }
         let place = self.map.step_ahead(&mut self.back);
         Some(place)
-    }
-}
-
-impl<'a, K: Ord + Drop, V: Drop> RangeMut<'a, K, V> {
-    /// The pair whose value `next` lends.
-    pub fn peek(&self) -> Option<(&K, &V)>
-        ensures { IsFirstPair (stretch self.now) result }
-    {
-        if self.is_done() {
-            return None;
-        }
-        let (mut gap, mut run) = (self.front, self.run);
-        let pair = self.map.pair_of(&self.map.step_behind(&mut gap, &mut run));
-        Some((&pair.0, &pair.1))
-    }
-
-    /// The pair whose value `next_back` lends.
-    pub fn peek_back(&self) -> Option<(&K, &V)>
-        ensures { IsLastPair (stretch self.now) result }
-    {
-        if self.is_done() {
-            return None;
-        }
-        let mut gap = self.back;
-        let pair = self.map.pair_of(&self.map.step_ahead(&mut gap));
-        Some((&pair.0, &pair.1))
     }
 }

@@ -1,4 +1,4 @@
-use Rattle.std.proofs.Common.{◌≡◌, arith, length, sym, ap, ◌∙◌, subst}
+use Rattle.std.proofs.Common.{◌≡◌, arith, length, sym, subst}
 use Rattle.fc_border.specs.Cut.{IsCutPathIn}
 use Rattle.fc_map.specs.Entries.{entries, root_of}
 use Rattle.fc_map.proofs.SplitFacts.{cut_parts, parts_length, parts_ascending}

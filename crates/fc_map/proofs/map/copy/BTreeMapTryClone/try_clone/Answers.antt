@@ -1,28 +1,24 @@
-use Rattle.std.proofs.Common.{◌≡◌, ◌∙◌, length, rules, ap, sym, subst, Some}
-use Rattle.std.specs.List.{All}
+use Rattle.std.proofs.Common.{◌≡◌, ◌<◌, ◌∙◌, length, rules, ap, sym, subst, Some}
 use Rattle.std.proofs.lemmas.List.Elements.{length_all_zip}
 use Rattle.std.proofs.lemmas.Result.{err_from_is_err_and}
 use Rattle.fc_base.specs.Ascending.{IsAscending}
+use Rattle.fc_base.specs.Copies.{MayRefusePair}
 use Rattle.fc_node.specs.Node.{pairs_of, IsLevelled}
-use Rattle.fc_copy.specs.Copy.{AreSame, HasSureCopy, IsCopy}
+use Rattle.fc_copy.specs.Copy.{AreSame, IsCopy, MayRefuseNodes}
 use Rattle.fc_map.specs.Entries.{root_of, entries, IsSoundMap}
-use Rattle.fc_map.proofs.CopyFacts.{equal_answer, ascending_copied, sound_copied, not_empty}
+use Rattle.fc_map.proofs.CopyFacts.{equal_answer, ascending_copied, sound_copied, has_pair}
 use Rattle.fc_map.proofs.map.copy.BTreeMapTryClone.try_clone.Goals as goal
 
 pub returns-in_err-copy-clause-copied : goal.returns-in_err-copy-clause-copied
 returns-in_err-copy-clause-copied g c =
+    let may = MayRefusePair g.K.TryClone.may_refuse g.V.TryClone.may_refuse in
     let p = err_from_is_err_and c.from_residual.result c.from_residual.ensures.1 in
     let sound : IsSoundMap (Some c.in-Some.root.value) = rw c.in-Some.is at c.self.invariant.1 in
-    rw p.1 (λ none. not_empty c.in-Some.root.value sound (sym (ap (λ r. entries (root_of r)) c.in-Some.is) ∙ ap entries c.self.view_is ∙ none))
-
-pub returns-in_err-copy-clause-refused : goal.returns-in_err-copy-clause-refused
-returns-in_err-copy-clause-refused g c sure =
-    let P = HasSureCopy g.K.TryClone.never_refuses g.V.TryClone.never_refuses in
-    let sound : IsSoundMap (Some c.in-Some.root.value) = rw c.in-Some.is at c.self.invariant.1 in
     let list : entries c.args.self.now ≡ pairs_of c.in-Some.root.value = sym (ap entries c.self.view_is) ∙ ap (λ r. entries (root_of r)) c.in-Some.is in
-    let all = subst (λ n. All P (pairs_of n)) (sym c.deref.ensures) (subst (All P) list sure) in
-    let is = c.in_err-copy.ensures.refused sound.0 (subst (IsLevelled sound.0) (sym c.deref.ensures) sound.2.1) all in
-    search (rules, is)
+    let is = c.in_err-copy.ensures.refused sound.0 (subst (IsLevelled sound.0) (sym c.deref.ensures) sound.2.1) in
+    let all = subst (λ n. MayRefuseNodes may (pairs_of n) c.in_err-copy.field-0.0) c.deref.ensures is in
+    let some = subst (λ s. 0 < length s) (sym list) (has_pair c.in-Some.root.value sound) in
+    rw p.1 (some, search (rules, p.2, subst (λ s. MayRefuseNodes may s c.in_err-copy.field-0.0) (sym list) all))
 
 pub invariant_of-result : goal.invariant_of-result
 invariant_of-result g c =
@@ -33,5 +29,25 @@ invariant_of-result g c =
     let ascending : IsAscending g.K.Ord.cmp (pairs_of source) = rw c.in-Some.is at c.self.invariant.0 in
     let sound : IsSoundMap (Some source) = rw c.in-Some.is at c.self.invariant.1 in
     let len : c.self.inside.len ≡ length (pairs_of source) = c.self.invariant.2 ∙ ap (λ r. length (entries (root_of r))) c.in-Some.is in
-    let equal = λ (a : g.row.K.Denot) (b : g.row.K.Denot) (s : g.K.TryClone.same a b). equal_answer (g.K.Ord.cmp a b) (sym (g.met.K.Ord.matches_eq a b) ∙ c.requires.2 a b s) in
+    let equal = λ (a : g.row.K.Denot) (b : g.row.K.Denot) (s : g.K.TryClone.same a b).
+    equal_answer (g.K.Ord.cmp a b) (sym (g.met.K.Ord.matches_eq a b) ∙ c.requires.2 a b s) in
     (ascending_copied g.K.Ord.cmp g.met.K.Ord.total g.K.TryClone.same g.V.TryClone.same equal (pairs_of source) (pairs_of copy) copied.pairs ascending, sound_copied same source copy copied sound, len ∙ length_all_zip same (pairs_of source) (pairs_of copy) copied.pairs)
+
+pub returns-clause-ascending : goal.returns-clause-ascending
+returns-clause-ascending g c =
+    let source = c.in-Some.root.value in
+    let copy = c.in_ok-copy.copy.value in
+    let copied = subst (λ n. IsCopy (AreSame g.K.TryClone.same g.V.TryClone.same) n copy) c.deref.ensures c.in_ok-copy.ensures.copied in
+    let ascending : IsAscending g.K.Ord.cmp (pairs_of source) = rw c.in-Some.is at c.self.invariant.0 in
+    let equal = λ (a : g.row.K.Denot) (b : g.row.K.Denot) (s : g.K.TryClone.same a b).
+    equal_answer (g.K.Ord.cmp a b) (sym (g.met.K.Ord.matches_eq a b) ∙ c.requires.2 a b s) in
+    ascending_copied g.K.Ord.cmp g.met.K.Ord.total g.K.TryClone.same g.V.TryClone.same equal (pairs_of source) (pairs_of copy) copied.pairs ascending
+
+pub returns-clause-sound : goal.returns-clause-sound
+returns-clause-sound g c =
+    let source = c.in-Some.root.value in
+    let copy = c.in_ok-copy.copy.value in
+    let same = AreSame g.K.TryClone.same g.V.TryClone.same in
+    let copied = subst (λ n. IsCopy same n copy) c.deref.ensures c.in_ok-copy.ensures.copied in
+    let sound : IsSoundMap (Some source) = rw c.in-Some.is at c.self.invariant.1 in
+    sound_copied same source copy copied sound
