@@ -8,7 +8,7 @@ use std::fmt;
 pub const FRONT: u64 = 8;
 
 /// The front of a box: the length of the whole box in bytes, and its type.
-#[derive(Clone, Copy, PartialEq, Eq, Debug)]
+#[derive(Clone, Copy)]
 pub struct Header {
     pub length: u32,
     pub kind: [u8; 4],

@@ -3,8 +3,6 @@
 
 mod boxes;
 mod parser;
-#[cfg(test)]
-mod tests;
 
 use boxes::shown;
 use fallible_collections::TryVec;

@@ -19,7 +19,7 @@ pub const DEPTH: usize = 3;
 const PIECE: u64 = 512;
 
 /// What became of a box.
-#[derive(Clone, Copy, PartialEq, Eq, Debug)]
+#[derive(Clone, Copy)]
 pub enum Fate {
     /// Its boxes come next.
     Opened,
@@ -40,7 +40,7 @@ pub enum Fate {
 }
 
 /// What stood next in the source, and how many boxes are open around it.
-#[derive(Clone, Copy, PartialEq, Eq, Debug)]
+#[derive(Clone, Copy)]
 pub enum Found {
     /// A box.
     Whole(Header, Fate, usize),

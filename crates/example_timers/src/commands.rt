@@ -6,7 +6,7 @@ use std::str;
 pub const LONGEST: usize = 80;
 
 /// What a line asks for.
-#[derive(Clone, Copy, PartialEq, Eq, Debug)]
+#[derive(Clone, Copy)]
 pub enum Command {
     /// Set a timer: its id, and when it is due.
     Add(u64, u64),

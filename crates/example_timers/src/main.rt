@@ -2,8 +2,6 @@
 #![tactic(auto)]
 
 mod commands;
-#[cfg(test)]
-mod tests;
 mod timers;
 
 use commands::{Command, LONGEST, Line, command_in};

@@ -13,7 +13,7 @@ use std::marker::Model;
 pub type Timer = (u64, u64);
 
 /// Why a timer was not set.
-#[derive(Clone, Copy, PartialEq, Eq, Debug)]
+#[derive(Clone, Copy)]
 pub enum NotSet {
     /// Another timer has the id.
     InUse,

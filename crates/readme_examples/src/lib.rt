@@ -8,7 +8,6 @@ ghost use Rattle.fallible_collections.specs.Words.{at, entries, extended, front,
 pub mod boxes;
 pub mod neighbours;
 pub mod orders;
-pub mod refusals;
 pub mod rollback;
 pub mod sets;
 pub mod vectors;

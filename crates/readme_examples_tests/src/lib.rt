@@ -1,0 +1,5 @@
+//! Refused memory in a caller's own tests.
+#![tactic(auto)]
+
+#[cfg(test)]
+mod refusals;
