@@ -1,5 +1,5 @@
 //! Two maps made one.
-ghost use Rattle.std.specs.Prelude.{◌≡◌, ◌+◌, ◌*◌, ◌^◌, ◌<◌, ◌≤◌, ◌⊎◌, [], length, IfOk, IfErr, OnErr, IsErr};
+ghost use Rattle.std.specs.Prelude.{◌≡◌, ◌+◌, ◌<◌, ◌≤◌, ◌⊎◌, [], length, IfOk, IfErr, OnErr, IsErr};
 ghost use Rattle.fc_base.specs.Ascending.{IsAscending};
 ghost use Rattle.fc_base.specs.Growth.{MayAppendRefuse};
 ghost use Rattle.fc_base.specs.Joined.{joined};
@@ -29,8 +29,8 @@ impl<K: Ord + Drop, V: Drop> BTreeMap<K, V> {
         self.append_counted(other, &mut Count::new())
     }
 
-    /// `append`, with its comparisons added to the count: at most twice as many as there are pairs in both, and none where one of the
-    /// two is empty.
+    /// `append`, with its comparisons added to the count: at most as many as there are pairs in both, none where one of the two is
+    /// empty, and else at least one where it is not refused.
     ///
     /// # Errors
     /// As `append`.
@@ -46,8 +46,10 @@ impl<K: Ord + Drop, V: Drop> BTreeMap<K, V> {
         ensures full { 0 < length (entries self.old) → 0 < length (entries other.old) → usize.MAX < length (entries self.old) + length (entries other.old) → IsErr result }
         ensures ascending { IsAscending K.cmp (entries self.new) }
         ensures sound { IsSoundMap self.new }
-        ensures comparisons { count.new.comparisons ≤ count.old.comparisons + 2 * (length (entries self.old) + length (entries other.old)) }
+        ensures comparisons { count.new.comparisons ≤ count.old.comparisons + (length (entries self.old) + length (entries other.old)) }
         ensures none { (entries self.old ≡ []) ⊎ (entries other.old ≡ []) → count.new.comparisons ≡ count.old.comparisons }
+        ensures grown { count.old.comparisons ≤ count.new.comparisons }
+        ensures counted { IfOk result (λ _. 0 < length (entries self.old) → 0 < length (entries other.old) → count.old.comparisons < count.new.comparisons) }
     {
         self.len = try_append(
             self.alloc,
