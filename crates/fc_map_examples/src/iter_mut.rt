@@ -1,5 +1,6 @@
 //! What callers prove of writing walks through their public clauses alone.
-ghost use Rattle.std.specs.Prelude.{◌≡◌, ◌+◌, ◌-◌, ◌<◌, length, map, min, IsTrue};
+ghost use Rattle.std.specs.Prelude.{◌≡◌, ◌+◌, ◌-◌, ◌<◌, length, map, min, slice_get, IsTrue, MatchOption, Some};
+ghost use Rattle.std.specs.Option.{option_map};
 ghost use Rattle.fc_base.specs.Ranges.{bound_now, is_range};
 ghost use Rattle.fc_map.specs.Entries.{entries};
 ghost use Rattle.fc_map.specs.Writing.{set_value, starting, whole, wrote_all};
@@ -15,6 +16,18 @@ pub fn write_first<K: Ord, V: Drop>(map: &mut BTreeMap<K, V>, value: V)
     let mut walk = map.iter_mut();
     if let Some(v) = walk.next() {
         *v = value;
+    }
+}
+
+/// The first key, as the walk shows it before it lends the value. Neither key nor value has to be of a type that can be dropped.
+pub fn first_key_to_write<K: Ord + Copy, V>(map: &mut BTreeMap<K, V>) -> Option<K>
+    ensures key { MatchOption result (length (entries map.old) ≡ 0) (λ key. option_map (λ p. p.0) (slice_get (entries map.old) 0) ≡ Some key) }
+    ensures unchanged { entries map.new ≡ entries map.old }
+{
+    let walk = map.iter_mut();
+    match walk.peek() {
+        Some((key, _value)) => Some(*key),
+        None => None,
     }
 }
 

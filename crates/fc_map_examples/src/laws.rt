@@ -1,8 +1,9 @@
 //! What callers prove of several calls in turn, through their public clauses and the laws of lists of pairs alone.
-ghost use Rattle.std.specs.Prelude.{◌≡◌, ◌+◌, ◌⊎◌, List, [], ◌∷◌, ◌++◌, length, IsSome, IfOk, IfErr, OnOk, OnErr, MatchOption, None, Some};
+ghost use Rattle.std.specs.Prelude.{◌≡◌, ◌+◌, ◌<◌, ◌⊎◌, List, [], ◌∷◌, ◌++◌, length, IsSome, IfOk, IfErr, OnOk, OnErr, MatchOption, None, Some};
 ghost use Rattle.std.specs.declared.cmp.Ordering.TheVariants.{Equal};
 ghost use Rattle.fc_base.specs.Ascending.{IsAscending};
 ghost use Rattle.fc_base.specs.Copies.{IsExact};
+ghost use Rattle.fc_base.specs.declared.try_reserve_error.TryReserveError.TheVariants.{AllocError as NoMemory};
 ghost use Rattle.fc_base.specs.Halves.{not_below};
 ghost use Rattle.fc_base.specs.OneKey.{put, cut};
 ghost use Rattle.fc_base.specs.Parts.{at, value_at, below};
@@ -173,6 +174,15 @@ pub fn exact_copy<K: Ord + TryClone, V: TryClone>(
     requires copied { ⟦<BTreeMap<K, V> as TryClone>⟧.can_clone }
     requires exact { IsExact K.same × IsExact V.same }
     ensures { IfOk result (λ copy. entries copy ≡ entries map.now) }
+{
+    map.try_clone()
+}
+
+/// A copy of a map of numbers: it holds the same pairs. Only a node can be refused, and none where the map is empty.
+pub fn copy_of_numbers(map: &BTreeMap<u64, u64>) -> Result<BTreeMap<u64, u64>, TryReserveError>
+    ensures same { IfOk result (λ copy. entries copy ≡ entries map.now) }
+    ensures ascending { IfOk result (λ copy. IsAscending ⟦<u64 as Ord>⟧.cmp (entries copy)) }
+    ensures refused { IfErr result (λ e. (e ≡ NoMemory) × (0 < length (entries map.now))) }
 {
     map.try_clone()
 }
