@@ -1,5 +1,5 @@
 -- Copies of the items that a walk gives, made one after another.
-use Rattle.std.proofs.Common.{◌≡◌, ℕ, ◌+◌, ◌<◌, List, [], ◌∷◌, ◌++◌, map, length, Option, Some, None, true, All, refl, sym, ap, ◌∙◌, subst, arith, append_assoc, append-nil}
+use Rattle.std.proofs.Common.{◌≡◌, ℕ, ◌+◌, ◌<◌, List, [], ◌∷◌, ◌++◌, map, length, Option, Some, None, true, Any, refl, sym, ap, ◌∙◌, subst, arith, append_assoc, append-nil}
 use Rattle.std.specs.Iterator.{AlwaysYields, YieldsFirstRef}
 use Rattle.std.specs.List.{AllZip, AllByRecursion}
 use Rattle.std.specs.Cmp.{IsTotalOrder}
@@ -7,13 +7,14 @@ use Rattle.std.specs.Ordering.{is_eq}
 use Rattle.std.specs.declared.cmp.Ordering.{Ordering}
 use Rattle.std.specs.declared.cmp.Ordering.TheVariants.{Less, Equal, Greater}
 use Rattle.std.proofs.lemmas.List.{map-append}
-use Rattle.std.proofs.lemmas.List.Elements.{AllZip-push, recursion_from_All}
+use Rattle.std.proofs.lemmas.List.Elements.{AllZip-push}
 use denote.Ref.{Bor}
 use Rattle.fc_base.specs.Ascending.{IsAscending}
 use Rattle.fc_base.specs.Viewed.{over_one}
 use Rattle.fc_base.proofs.AscendingFacts.{under_one}
 use Rattle.fc_build.specs.Built.{Built}
 use Rattle.fc_set.specs.Items.{AreAscending}
+use Rattle.fc_set.proofs.ItemFacts.{any_later}
 
 module _ {S A B : Type 0} (steps : S → Option A → S → Type 0) (v : A → B) where
   -- An item that a walk gives is the first of those that it had left.
@@ -113,15 +114,15 @@ module _ {S T : Type 0} (steps : S → Option (Bor T) → S → Type 0) (all : L
         let whole = f.parted ∙ ap (λ r. f.done ++ r) none ∙ append-nil f.done in
         subst (λ l. AllZip same l (map (λ e. e.0) made.pairs)) (sym whole) f.copied
 
-    -- What holds of all items holds of the one that comes.
-    pub holds_next : (P : T → Type 0) (made : Built T V) (s j : S) (x : Bor T) → IsFilled same made s → steps s (Some x) j → All P all → P x.now
-    holds_next P made s j x f h a =
+    -- What holds of the item that comes holds of one of all items.
+    pub any_next : (P : T → Type 0) (made : Built T V) (s j : S) (x : Bor T) → IsFilled same made s → steps s (Some x) j → P x.now → Any P all
+    any_next P made s j x f h p =
         let l = some_left steps (λ x. x.now) s j x f.left f.gives h in
-        at_front P f.done x.now l.0 (subst (AllByRecursion P) (f.parted ∙ ap (λ r. f.done ++ r) l.1) (recursion_from_All P all a))
+        subst (Any P) (sym (f.parted ∙ ap (λ r. f.done ++ r) l.1)) (any_behind P f.done x.now l.0 p)
       where
-        at_front : (P : T → Type 0) (done : List T) (x : T) (rest : List T) → AllByRecursion P (done ++ x ∷ rest) → P x
-        at_front P [] x rest a = a.0
-        at_front P (y ∷ done) x rest a = at_front P done x rest a.1
+        any_behind : (P : T → Type 0) (done : List T) (x : T) (rest : List T) → P x → Any P (done ++ x ∷ rest)
+        any_behind P [] x rest p = (0, x, omega arith, refl, p)
+        any_behind P (y ∷ done) x rest p = any_later P y (done ++ x ∷ rest) (any_behind P done x rest p)
 
 -- the one answer that is equal
 pub equal_copy : (r : Ordering) → is_eq r ≡ true → r ≡ Equal

@@ -1,20 +1,25 @@
 -- Each word on lists of items, at the keys of a list of pairs, is the word on pairs.
-use Rattle.std.proofs.Common.{◌≡◌, Bool, true, false, cond, List, [], ◌∷◌, ◌++◌, map, filter, find, length, slice_get, ℕ, zero, suc, Option, Some, None, is_some, IsSome, IsTrue, IfOk, IfErr, Result, Ok, Err, not, ◌↔◌, ◌⊎◌, inl, inr, refl, sym, ap, ◌∙◌}
+use Rattle.std.proofs.Common.{◌≡◌, Bool, true, false, cond, List, [], ◌∷◌, ◌++◌, map, filter, find, length, slice_get, ℕ, zero, suc, Any, Option, Some, None, is_some, IsSome, IsTrue, IfOk, IfErr, Result, Ok, Err, not, ◌↔◌, ◌⊎◌, inl, inr, refl, sym, ap, ◌∙◌, subst, arith}
 use Rattle.std.specs.Prelude.{unwrap_or}
-use Rattle.std.specs.List.{All, AllByRecursion, AllZip}
+use Rattle.std.specs.List.{AllByRecursion, AllZip}
 use Rattle.std.specs.Option.{option_map}
 use Rattle.std.specs.declared.cmp.Ordering.{Ordering}
 use Rattle.std.specs.declared.cmp.Ordering.TheVariants.{Less}
 use Rattle.std.specs.declared.ops.Bound.{Bound}
 use Rattle.std.proofs.lemmas.List.{map-append, length-map}
-use Rattle.std.proofs.lemmas.List.Elements.{All-from_recursion, recursion_from_All}
+use Rattle.fc_base.specs.declared.try_reserve_error.TryReserveError.{TryReserveError}
 use Rattle.fc_base.specs.Ascending.{IsAscending}
+use Rattle.fc_base.specs.Copies.{MayRefuseCopies, MayRefusePair}
 use Rattle.fc_base.specs.Halves.{not_below}
 use Rattle.fc_base.specs.Joined.{placed, joined}
 use Rattle.fc_base.specs.OneKey.{put, cut}
 use Rattle.fc_base.specs.Parts.{below, above, at, value_at}
 use Rattle.fc_base.specs.Ranges.{within}
 use Rattle.fc_set.specs.Items.{item_at, smaller, greater, not_smaller, without, AreAscending, with_item, with_replaced, items_within, joined_items}
+
+-- What holds of some item of a list holds of some item behind another one too.
+pub any_later : {T : Type 0} (P : T → Type 0) (x : T) (s : List T) → Any P s → Any P (x ∷ s)
+any_later P x s a = (suc a.0, a.1, omega (arith, a.2), a.3, a.4)
 
 module _ {T V : Type 0} where
   -- The keys of pairs.
@@ -81,14 +86,6 @@ module _ {T V : Type 0} where
   copied_keys R S (e ∷ s) [] a = a
   copied_keys R S (e ∷ s) (f ∷ t) a = (a.0.0, copied_keys R S s t a.1)
 
-  -- What holds of all keys, and of all values, holds of all pairs.
-  pub all_pairs : (P : T → Type 0) (Q : V → Type 0) → ((v : V) → Q v) → (s : List (T × V)) → All P (keys s) → All (λ e. P e.0 × Q e.1) s
-  all_pairs P Q values s a = All-from_recursion (λ e. P e.0 × Q e.1) s (both s (recursion_from_All P (keys s) a))
-    where
-      both : (s : List (T × V)) → AllByRecursion P (keys s) → AllByRecursion (λ e. P e.0 × Q e.1) s
-      both [] a = tt
-      both (e ∷ s) a = ((a.0, values e.1), both s a.1)
-
   -- How many items there are, and whether there are any.
   pub keys_length : (s : List (T × V)) → length (keys s) ≡ length s
   keys_length s = length-map s (λ e. e.0)
@@ -96,6 +93,21 @@ module _ {T V : Type 0} where
   pub no_keys : (s : List (T × V)) → keys s ≡ [] → s ≡ []
   no_keys [] e = refl
   no_keys (p ∷ s) e = absurd cc
+
+  -- What holds of some pair by its key holds of some key.
+  any_key : (P : T × V → Type 0) (R : T → Type 0) → ((e : T × V) → P e → R e.0) → (s : List (T × V)) → Any P s → Any R (keys s)
+  any_key P R f [] a = absurd (omega (arith, a.2))
+  any_key P R f (e ∷ s) (zero, x, l, is, p) = (0, e.0, omega arith, refl, f e (subst P (sym is) p))
+  any_key P R f (e ∷ s) (suc k, x, l, is, p) = any_later R e.0 (keys s) (any_key P R f s (k, x, omega (arith, l), is, p))
+
+  -- Copies of pairs whose values are never refused are refused as copies of their keys.
+  pub refused_keys : (may_refuse : T → TryReserveError → Type 0) (s : List (T × V)) (e : TryReserveError) → MayRefuseCopies (MayRefusePair may_refuse (λ _ _. ⊥)) s e → MayRefuseCopies may_refuse (keys s) e
+  refused_keys may_refuse s e (some, inl memory) = (rw (keys_length s) some, inl memory)
+  refused_keys may_refuse s e (some, inr own) = (rw (keys_length s) some, inr (any_key (λ p. MayRefusePair may_refuse (λ _ _. ⊥) p e) (λ x. may_refuse x e) of_key s own))
+    where
+      of_key : (p : T × V) → MayRefusePair may_refuse (λ _ _. ⊥) p e → may_refuse p.0 e
+      of_key p (inl h) = h
+      of_key p (inr h) = absurd h
 
   -- The item at a place.
   pub key_get : (s : List (T × V)) (i : ℕ) → slice_get (keys s) i ≡ option_map (λ e. e.0) (slice_get s i)

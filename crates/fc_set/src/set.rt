@@ -279,6 +279,7 @@ impl<T: Ord + Drop> BTreeSet<T> {
         ensures comparisons { count.new.comparisons ≡ count.old.comparisons + passed_in T.cmp item self.old }
         ensures no_move { IsErr result → count.new.moves ≡ count.old.moves }
         ensures moved { OnOk result (count.old.moves < count.new.moves) }
+        ensures exchanged { IsSome (item_at T.cmp (items self.old) item) → count.new.moves ≡ count.old.moves + 2 }
         ensures bounded { IsBounded (length (items self.new)) count.old count.new }
     {
         let old = item::replace(&mut self.map, item, (), count)?;

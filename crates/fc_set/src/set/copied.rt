@@ -1,5 +1,5 @@
 //! Sets made of copies of what a walk lends, in one pass and without a search.
-ghost use Rattle.std.specs.Prelude.{◌≡◌, ◌<◌, true, List, [], length, All, IfOk, IfErr, IsErr};
+ghost use Rattle.std.specs.Prelude.{◌≡◌, ◌<◌, ◌⊎◌, true, List, [], length, Any, IfOk, IfErr, IsErr};
 ghost use Rattle.std.specs.Iterator.{IsFinite};
 ghost use Rattle.std.specs.List.{AllZip};
 ghost use Rattle.fc_base.specs.declared.try_reserve_error.TryReserveError.TheVariants.{AllocError, CapacityOverflow};
@@ -25,7 +25,7 @@ pub(super) fn try_copied<'a, T: Ord + TryClone + 'a, I: Iterator<Item = &'a T> +
     requires again { I.is_infallible walk × ((other : I) → I.is_clone walk other → other ≡ walk) }
     requires gives { (all : List T) × Lends I.next_gives walk all × AreAscending T.cmp all }
     ensures copied { (all : List T) → Lends I.next_gives walk all → IfOk result (λ made. AllZip T.same all (items made)) }
-    ensures refused { (all : List T) → Lends I.next_gives walk all → IfErr result (MayCopyRefuse T.never_refuses all) }
+    ensures refused { (all : List T) → Lends I.next_gives walk all → IfErr result (MayCopyRefuse T.may_refuse all) }
     ensures full { (all : List T) → Lends I.next_gives walk all → usize.MAX < length all → IsErr result }
     ensures ascending { IfOk result (λ made. AreAscending T.cmp (items made)) }
     ensures sound { IfOk result (λ made. IsSoundMap made) }
@@ -76,7 +76,7 @@ fn try_filled<'a, T: Ord + TryClone + 'a, I: Iterator<Item = &'a T> + Drop>(
     requires gives { (all : List T) × Lends I.next_gives walk all × AreAscending T.cmp all }
     requires count { (all : List T) → Lends I.next_gives walk all → count ≡ length all }
     ensures copied { IfOk result (λ made. (all : List T) → Lends I.next_gives walk all → AllZip T.same all (items made)) }
-    ensures refused { IfErr result (λ e. (all : List T) → Lends I.next_gives walk all → All T.never_refuses all → e ≡ AllocError) }
+    ensures refused { IfErr result (λ e. (all : List T) → Lends I.next_gives walk all → (e ≡ AllocError) ⊎ Any (λ x. T.may_refuse x e) all) }
     ensures ascending { IfOk result (λ made. AreAscending T.cmp (items made)) }
     ensures sound { IfOk result (λ made. IsSoundMap made) }
 {

@@ -1,7 +1,8 @@
 //! Whole sets: joined, cut in two, copied, and extended by what an iterator gives or made of it.
-ghost use Rattle.std.specs.Prelude.{◌≡◌, ◌+◌, ◌*◌, ◌<◌, ◌≤◌, ◌⊎◌, ◌++◌, true, List, [], length, All, IfOk, IfErr, OnOk, IsErr, MatchResult};
+ghost use Rattle.std.specs.Prelude.{◌≡◌, ◌+◌, ◌*◌, ◌<◌, ◌≤◌, ◌⊎◌, ◌++◌, true, List, [], length, IfOk, IfErr, OnOk, IsErr, MatchResult};
 ghost use Rattle.std.specs.Iterator.{IsFiniteIterable};
 ghost use Rattle.std.specs.List.{AllZip};
+ghost use Rattle.fc_base.specs.Copies.{MayRefuseCopies};
 ghost use Rattle.fc_base.specs.Growth.{MayAppendRefuse};
 ghost use Rattle.fc_base.specs.declared.try_reserve_error.TryReserveError.TheVariants.{AllocError};
 ghost use Rattle.fc_map.specs.Entries.{IsSoundMap};
@@ -99,19 +100,18 @@ impl<T: Ord + Drop> BTreeSet<T> {
 /// the set does. Copies of items have to be equal to them, so that they ascend as the items do. Not in upstream, which has `Clone`.
 ///
 /// # Errors
-/// `AllocError` where a node was refused, or the error of an item whose copy was; never where the set is empty. Where no copy of an item
-/// of the set is ever refused, `AllocError` alone. What was made by then is dropped.
+/// `AllocError` where a node was refused, or an item's own error where its copy was; never where the set is empty. What was made by then
+/// is dropped.
 impl<T: Ord + TryClone> TryClone for BTreeSet<T> {
     ghost same = { λ source copy. AllZip T.same (items source) (items copy) };
 
     ghost can_clone = { T.can_clone × ((a b : T) → T.same a b → T.eq a b ≡ true) };
 
-    ghost never_refuses = { λ source. items source ≡ [] };
+    ghost may_refuse = { λ source. MayRefuseCopies T.may_refuse (items source) };
 
     fn try_clone(&self) -> Result<BTreeSet<T>, TryReserveError>
         requires { T.can_clone × ((a b : T) → T.same a b → T.eq a b ≡ true) }
-        ensures copied { MatchResult result (λ copy. AllZip T.same (items self.now) (items copy)) (λ _. ¬ (items self.now ≡ [])) }
-        ensures refused { All T.never_refuses (items self.now) → IfErr result (λ e. e ≡ TryReserveError.AllocError) }
+        ensures copied { MatchResult result (λ copy. AllZip T.same (items self.now) (items copy)) (MayRefuseCopies T.may_refuse (items self.now)) }
         ensures ascending { IfOk result (λ copy. AreAscending T.cmp (items copy)) }
         ensures sound { IfOk result (λ copy. IsSoundMap copy) }
     {

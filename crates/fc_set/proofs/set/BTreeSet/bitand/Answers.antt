@@ -20,4 +20,4 @@ returns-clause-copied g c =
 pub returns-clause-refused : goal.returns-clause-refused
 returns-clause-refused g c =
     let w = c.intersection.result in
-    subst (λ l. IfErr c.try_copied.result (MayCopyRefuse g.T.TryClone.never_refuses l)) c.intersection.ensures.all (c.try_copied.ensures.refused (common g.T.Ord.cmp w.left w.right) (lends_rest (λ v. common g.T.Ord.cmp v.left v.right) w))
+    subst (λ l. IfErr c.try_copied.result (MayCopyRefuse g.T.TryClone.may_refuse l)) c.intersection.ensures.all (c.try_copied.ensures.refused (common g.T.Ord.cmp w.left w.right) (lends_rest (λ v. common g.T.Ord.cmp v.left v.right) w))

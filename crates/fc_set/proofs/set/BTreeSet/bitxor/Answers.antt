@@ -20,7 +20,7 @@ returns-clause-copied g c =
 pub returns-clause-refused : goal.returns-clause-refused
 returns-clause-refused g c =
     let w = c.symmetric_difference.result in
-    subst (λ v. IfErr c.try_copied.result (MayCopyRefuse g.T.TryClone.never_refuses (symmetric_difference g.T.Ord.cmp v.left v.right))) c.symmetric_difference.ensures.sides (c.try_copied.ensures.refused (symmetric_difference g.T.Ord.cmp w.left w.right) (lends_rest (λ v. symmetric_difference g.T.Ord.cmp v.left v.right) w))
+    subst (λ v. IfErr c.try_copied.result (MayCopyRefuse g.T.TryClone.may_refuse (symmetric_difference g.T.Ord.cmp v.left v.right))) c.symmetric_difference.ensures.sides (c.try_copied.ensures.refused (symmetric_difference g.T.Ord.cmp w.left w.right) (lends_rest (λ v. symmetric_difference g.T.Ord.cmp v.left v.right) w))
 
 pub returns-clause-full : goal.returns-clause-full
 returns-clause-full g c =

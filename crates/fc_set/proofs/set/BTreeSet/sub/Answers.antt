@@ -20,4 +20,4 @@ returns-clause-copied g c =
 pub returns-clause-refused : goal.returns-clause-refused
 returns-clause-refused g c =
     let w = c.difference.result in
-    subst (λ v. IfErr c.try_copied.result (MayCopyRefuse g.T.TryClone.never_refuses (difference g.T.Ord.cmp v.left v.right))) c.difference.ensures.sides (c.try_copied.ensures.refused (difference g.T.Ord.cmp w.left w.right) (lends_rest (λ v. difference g.T.Ord.cmp v.left v.right) w))
+    subst (λ v. IfErr c.try_copied.result (MayCopyRefuse g.T.TryClone.may_refuse (difference g.T.Ord.cmp v.left v.right))) c.difference.ensures.sides (c.try_copied.ensures.refused (difference g.T.Ord.cmp w.left w.right) (lends_rest (λ v. difference g.T.Ord.cmp v.left v.right) w))

@@ -1,4 +1,4 @@
-use Rattle.std.proofs.Common.{◌≡◌, length, map, ◌∙◌, sym, subst, rules}
+use Rattle.std.proofs.Common.{◌≡◌, length, map, inr, ◌∙◌, sym, subst, rules}
 use Rattle.std.specs.Iterator.{IsFinite}
 use Rattle.std.specs.List.{AllZip}
 use Rattle.std.proofs.lemmas.List.Elements.{length_all_zip}
@@ -6,7 +6,7 @@ use Rattle.std.proofs.lemmas.Result.{err_from_is_err_and}
 use Rattle.fc_set.specs.Copied.{Lends}
 use Rattle.fc_set.specs.Items.{AreAscending}
 use Rattle.fc_set.proofs.ItemFacts.{ascending_keys, keys_length}
-use Rattle.fc_set.proofs.CopiedFacts.{filled_start, filled_more, filled_all, has_room, holds_next, equal_copy, ascending_copies}
+use Rattle.fc_set.proofs.CopiedFacts.{filled_start, filled_more, filled_all, has_room, any_next, equal_copy, ascending_copies}
 use Rattle.fc_set.proofs.set.copied.try_filled.Goals as goal
 
 pub loop-item-init : goal.loop-item-init
@@ -36,7 +36,7 @@ from_ascending-requires g c =
 pub returns-in_err-copy-clause-refused : goal.returns-in_err-copy-clause-refused
 returns-in_err-copy-clause-refused g c =
     let p = err_from_is_err_and c.from_residual-in_err-copy.result c.from_residual-in_err-copy.ensures.1 in
-    rw p.1 (λ all lends never. absurd (c.in_err-copy.ensures (holds_next g.I.Iterator.next_gives all g.T.TryClone.same g.T.TryClone.never_refuses c.loop-item.builder c.loop-item.item-iterator c.next.new.self c.in-Some.item (c.loop-item.invariant.2 all lends) c.in-Some.ensures.steps never)))
+    rw (p.1, p.2) (λ all lends. inr (any_next g.I.Iterator.next_gives all g.T.TryClone.same (λ x. g.T.TryClone.may_refuse x _) c.loop-item.builder c.loop-item.item-iterator c.next.new.self c.in-Some.item (c.loop-item.invariant.2 all lends) c.in-Some.ensures.steps c.in_err-copy.ensures))
 
 pub returns-clause-copied : goal.returns-clause-copied
 returns-clause-copied g c =
