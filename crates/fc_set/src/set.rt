@@ -3,7 +3,7 @@ ghost use Rattle.std.specs.Prelude.{◌≡◌, ◌+◌, ◌<◌, ◌↔◌, ◌�
 ghost use Rattle.std.specs.Option.{option_map};
 ghost use Rattle.fc_base.specs.Growth.{MayGrowRefuse};
 ghost use Rattle.fc_map.specs.Counts.{IsBounded};
-ghost use Rattle.fc_map.specs.Entries.{IsSoundMap, now_value, passed_in};
+ghost use Rattle.fc_map.specs.Entries.{IsSoundMap, now_pair, now_value, passed_in};
 ghost use Rattle.fc_set.specs.Items.{items, item_at, without, AreAscending, with_item, with_replaced};
 
 mod ahead;
@@ -124,10 +124,7 @@ impl<T: Ord> BTreeSet<T> {
         ensures moves { count.new.moves ≡ count.old.moves }
         ensures bounded { IsBounded (length (items self.now)) count.old count.new }
     {
-        match self.map.get_key_value_counted(item, count) {
-            Some((found, _nothing)) => Some(found),
-            None => None,
-        }
+        lent_item(self.map.get_key_value_counted(item, count))
     }
 }
 
@@ -290,6 +287,14 @@ impl<T: Ord + Drop> BTreeSet<T> {
 // The item of a pair.
 fn item_of<T>(pair: Option<(T, ())>) -> Option<T>
     ensures { result ≡ option_map (λ e. e.0) pair }
+{
+    let (item, _nothing) = pair?;
+    Some(item)
+}
+
+// The item of a pair that is lent.
+fn lent_item<'a, T>(pair: Option<(&'a T, &'a ())>) -> Option<&'a T>
+    ensures { now_value result ≡ option_map (λ e. e.0) (now_pair pair.entry) }
 {
     let (item, _nothing) = pair?;
     Some(item)

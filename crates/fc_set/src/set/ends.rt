@@ -4,7 +4,7 @@ ghost use Rattle.fc_map.specs.Counts.{IsBounded};
 ghost use Rattle.fc_map.specs.Entries.{IsSoundMap, now_value};
 ghost use Rattle.fc_set.specs.Items.{items, AreAscending};
 
-use super::BTreeSet;
+use super::{BTreeSet, lent_item};
 use fc_base::Count;
 
 impl<T: Ord> BTreeSet<T> {
@@ -13,8 +13,7 @@ impl<T: Ord> BTreeSet<T> {
         ensures item { now_value result ≡ slice_get (items self.now) 0 }
         ensures ascending { AreAscending T.cmp (items self.now) }
     {
-        let (item, _nothing) = self.map.first_key_value()?;
-        Some(item)
+        lent_item(self.map.first_key_value())
     }
 
     /// The greatest item, or `None` where the set is empty. It compares nothing. Not in upstream: it is that of std's set.
@@ -22,8 +21,7 @@ impl<T: Ord> BTreeSet<T> {
         ensures item { now_value result ≡ slice_get (items self.now) (length (items self.now) - 1) }
         ensures ascending { AreAscending T.cmp (items self.now) }
     {
-        let (item, _nothing) = self.map.last_key_value()?;
-        Some(item)
+        lent_item(self.map.last_key_value())
     }
 }
 

@@ -6,7 +6,7 @@ ghost use Rattle.fc_search.specs.Neighbours.{first_item, last_item};
 ghost use Rattle.fc_set.specs.Items.{items, smaller, greater, not_smaller, AreAscending};
 ghost use Rattle.fc_set.specs.Neighbours.{not_greater};
 
-use super::BTreeSet;
+use super::{BTreeSet, lent_item};
 use fc_base::{Count, Query};
 
 impl<T: Ord> BTreeSet<T> {
@@ -28,10 +28,7 @@ impl<T: Ord> BTreeSet<T> {
         ensures moves { count.new.moves ≡ count.old.moves }
         ensures bounded { IsBounded (length (items self.now)) count.old count.new }
     {
-        match self.map.first_at_or_after_counted(item, count) {
-            Some((found, _nothing)) => Some(found),
-            None => None,
-        }
+        lent_item(self.map.first_at_or_after_counted(item, count))
     }
 
     /// The first item that is greater than this one, or `None` where there is none: what Java's sets call `higher`. `item` is a `Query`, as in `get`. One
@@ -52,10 +49,7 @@ impl<T: Ord> BTreeSet<T> {
         ensures moves { count.new.moves ≡ count.old.moves }
         ensures bounded { IsBounded (length (items self.now)) count.old count.new }
     {
-        match self.map.first_after_counted(item, count) {
-            Some((found, _nothing)) => Some(found),
-            None => None,
-        }
+        lent_item(self.map.first_after_counted(item, count))
     }
 
     /// The last item that is not greater than this one, or `None` where there is none: what Java's sets call `floor`. `item` is a `Query`, as in `get`. One
@@ -76,10 +70,7 @@ impl<T: Ord> BTreeSet<T> {
         ensures moves { count.new.moves ≡ count.old.moves }
         ensures bounded { IsBounded (length (items self.now)) count.old count.new }
     {
-        match self.map.last_at_or_before_counted(item, count) {
-            Some((found, _nothing)) => Some(found),
-            None => None,
-        }
+        lent_item(self.map.last_at_or_before_counted(item, count))
     }
 
     /// The last item that is smaller than this one, or `None` where there is none: what Java's sets call `lower`. `item` is a `Query`, as in `get`. One
@@ -100,9 +91,6 @@ impl<T: Ord> BTreeSet<T> {
         ensures moves { count.new.moves ≡ count.old.moves }
         ensures bounded { IsBounded (length (items self.now)) count.old count.new }
     {
-        match self.map.last_before_counted(item, count) {
-            Some((found, _nothing)) => Some(found),
-            None => None,
-        }
+        lent_item(self.map.last_before_counted(item, count))
     }
 }

@@ -1,5 +1,5 @@
 //! Whole sets: joined, cut in two, copied, and extended by what an iterator gives or made of it.
-ghost use Rattle.std.specs.Prelude.{◌≡◌, ◌+◌, ◌*◌, ◌<◌, ◌≤◌, ◌⊎◌, ◌++◌, true, List, [], length, IfOk, IfErr, OnOk, IsErr, MatchResult};
+ghost use Rattle.std.specs.Prelude.{◌≡◌, ◌+◌, ◌<◌, ◌≤◌, ◌⊎◌, ◌++◌, true, List, [], length, IfOk, IfErr, OnOk, IsErr, MatchResult};
 ghost use Rattle.std.specs.Iterator.{IsFiniteIterable};
 ghost use Rattle.std.specs.List.{AllZip};
 ghost use Rattle.fc_base.specs.Copies.{MayRefuseCopies};
@@ -33,8 +33,8 @@ impl<T: Ord + Drop> BTreeSet<T> {
         self.append_counted(other, &mut Count::new())
     }
 
-    /// `append`, with its comparisons added to the count: at most twice as many as there are items in both, and none where one of the
-    /// two is empty.
+    /// `append`, with its comparisons added to the count: at most as many as there are items in both, none where one of the two is
+    /// empty, and else at least one where it is not refused.
     ///
     /// # Errors
     /// As `append`.
@@ -50,8 +50,10 @@ impl<T: Ord + Drop> BTreeSet<T> {
         ensures full { 0 < length (items self.old) → 0 < length (items other.old) → usize.MAX < length (items self.old) + length (items other.old) → IsErr result }
         ensures ascending { AreAscending T.cmp (items self.new) }
         ensures sound { IsSoundMap self.new }
-        ensures comparisons { count.new.comparisons ≤ count.old.comparisons + 2 * (length (items self.old) + length (items other.old)) }
+        ensures comparisons { count.new.comparisons ≤ count.old.comparisons + (length (items self.old) + length (items other.old)) }
         ensures none { (items self.old ≡ []) ⊎ (items other.old ≡ []) → count.new.comparisons ≡ count.old.comparisons }
+        ensures grown { count.old.comparisons ≤ count.new.comparisons }
+        ensures counted { IfOk result (λ _. 0 < length (items self.old) → 0 < length (items other.old) → count.old.comparisons < count.new.comparisons) }
     {
         self.map.append_counted(&mut other.map, count)
     }
