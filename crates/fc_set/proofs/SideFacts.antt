@@ -1,16 +1,16 @@
 -- How each set operation begins on two ascending lists, by how their first items stand to one another.
-use Rattle.std.proofs.Common.{◌≡◌, Bool, true, false, cond, List, [], ◌∷◌, ◌++◌, drop, filter, find, Option, Some, None, is_some, is_none, refl, sym, ap, ◌∙◌}
+use Rattle.std.proofs.Common.{◌≡◌, Bool, true, false, cond, List, [], ◌∷◌, drop, filter, Option, None, is_some, is_none, refl, sym, ap, ◌∙◌}
 use Rattle.std.specs.List.{AllByRecursion}
 use Rattle.std.specs.Cmp.{IsTotalOrder}
-use Rattle.std.specs.Ordering.{is_lt, is_eq, is_gt, ordering_reverse}
+use Rattle.std.specs.Ordering.{is_lt, is_gt, ordering_reverse}
 use Rattle.std.specs.declared.cmp.Ordering.{Ordering}
 use Rattle.std.specs.declared.cmp.Ordering.TheVariants.{Less, Equal, Greater}
 use Rattle.std.proofs.lemmas.Cmp.{tied_itself}
 use Rattle.fc_base.specs.Viewed.{over_one}
-use Rattle.fc_base.proofs.AscendingFacts.{under_one, all_map}
+use Rattle.fc_base.proofs.AscendingFacts.{all_map}
 use Rattle.fc_base.proofs.JoinedLaws.{kept, left_out}
 use Rattle.fc_set.specs.Items.{item_at, smaller, greater, AreAscending, with_replaced, joined_items}
-use Rattle.fc_set.specs.Operations.{difference, common, symmetric_difference, union}
+use Rattle.fc_set.specs.Operations.{difference, common, symmetric_difference}
 use Rattle.fc_set.specs.Sides.{untaken}
 
 -- tests that agree keep the same

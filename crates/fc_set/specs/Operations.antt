@@ -1,5 +1,5 @@
 -- The set operations: what they make of two ascending lists of items. A call may walk both sets or look each item up; the list is the same.
-use Rattle.std.specs.Prelude.{Bool, List, filter, is_none, is_some, length, nat_le, if◌then◌else◌}
+use Rattle.std.specs.Prelude.{List, filter, is_none, is_some, length, nat_le, if◌then◌else◌}
 use Rattle.std.specs.declared.cmp.Ordering.{Ordering}
 use Rattle.fc_set.specs.Items.{item_at, joined_items}
 

@@ -1,4 +1,4 @@
-use Rattle.std.proofs.Common.{refl, ◌<◌, ◌-◌, ◌^◌, length, IfOk, IfErr, IsErr, sym, subst}
+use Rattle.std.proofs.Common.{refl, IfOk, IfErr, sym, subst}
 use Rattle.std.specs.List.{AllZip}
 use Rattle.fc_set.specs.Copied.{MayCopyRefuse}
 use Rattle.fc_set.specs.Items.{items, AreAscending}

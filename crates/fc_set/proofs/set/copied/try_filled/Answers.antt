@@ -1,4 +1,4 @@
-use Rattle.std.proofs.Common.{◌≡◌, length, map, inr, ◌∙◌, sym, subst, rules}
+use Rattle.std.proofs.Common.{map, inr, ◌∙◌, sym, subst, rules}
 use Rattle.std.specs.Iterator.{IsFinite}
 use Rattle.std.specs.List.{AllZip}
 use Rattle.std.proofs.lemmas.List.Elements.{length_all_zip}

@@ -1,4 +1,4 @@
-use Rattle.std.proofs.Common.{◌≡◌, ◌≤◌, length, arith, ap}
+use Rattle.std.proofs.Common.{◌≡◌, length, arith, ap}
 use Rattle.fc_set.proofs.OperationLaws.{symmetric_at_most, within_sum}
 use Rattle.fc_set.proofs.set.symmetric_difference.SymmetricDifferenceIterator.size_hint.Goals as goal
 

@@ -1,5 +1,4 @@
-use Rattle.std.proofs.Common.{◌≡◌, ◌≤◌, max, length, rules, arith, ap}
-use Rattle.fc_set.specs.Operations.{union}
+use Rattle.std.proofs.Common.{◌≡◌, max, length, rules, arith, ap}
 use Rattle.fc_set.proofs.OperationLaws.{union_at_least, union_at_most, within_sum}
 use Rattle.fc_set.proofs.set.union.UnionIterator.size_hint.Goals as goal
 
