@@ -44,9 +44,9 @@ map_answers = (refl, refl, refl, refl)
 
 -- An extension can be read pair by pair: each is put in as an insertion puts it, and the one where it stops may be refused as an
 -- insertion there.
-module _ {K V : Type 0} (cmp : K → K → Ordering) (side : Side) (m o : List (K × V)) where
+module _ {K V : Type 0} (cmp : K → K → Ordering) (refuses_key : K → TryReserveError → Type 0) (refuses_value : V → TryReserveError → Type 0) (side : Side) (m o : List (K × V)) where
   put_in_turn : (k : K) (v : V) (pairs : List (K × V)) → answer cmp (Extend side ((k, v) ∷ pairs)) m o ≡ answer cmp (Extend side pairs) (answer cmp (Insert side k v) m o).m o
   put_in_turn k v pairs = refl
 
-  stopped_in_turn : (pairs m' : List (K × V)) (e : TryReserveError) (s : MayStop cmp (Extend side pairs) m m' e) → (m' ≡ (answer cmp (Extend side s.front) m o).m) × MayRefuse cmp (Insert side s.item.0 s.item.1) m' o e
+  stopped_in_turn : (pairs m' : List (K × V)) (e : TryReserveError) (s : MayStop cmp (Extend side pairs) m m' e) → (m' ≡ (answer cmp (Extend side s.front) m o).m) × MayRefuse cmp refuses_key refuses_value (Insert side s.item.0 s.item.1) m' o e
   stopped_in_turn pairs m' e s = (s.put_in, (s.new_key, s.error))

@@ -11,53 +11,11 @@ use Rattle.fc_lines.specs.declared.command.End.{End}
 use Rattle.fc_lines.specs.declared.command.SetOp.{SetOp}
 use Rattle.fc_lines.specs.declared.command.Command.{Command}
 use Rattle.fc_lines.specs.declared.command.Command.TheVariants.{Insert, Get, GetKeyValue, ContainsKey, Remove, Set, Entry, RemoveEntry, Len as CountPairs, Clear, Walk, Write, Append, SplitOff, TryClone, Extend, AddItem, ReplaceItem, TakeItem, RemoveItem, ContainsItem, GetItem, SetLen, SetClear, SetAppend, SetSplitOff, SetClone, SetExtend, SetWalk, List as ListItems, Keep, IsDisjoint, IsSubset, IsSuperset, SetCmp}
-use Rattle.fc_lines.specs.declared.command.Reply.{Reply}
-use Rattle.fc_lines.specs.declared.command.Reply.TheVariants.{Done, Refused}
+use Rattle.fc_lines.specs.declared.command.Reply.TheVariants.{Done}
 use Rattle.fc_command.specs.SetStep as sets
-use Rattle.fc_command.specs.Step.{StepOn, answered, IsCopyTold}
+use Rattle.fc_command.specs.Step.{StepOn, answered}
 
-done_told : {K V : Type 0} (e : TryReserveError) → ¬ (◌≡◌ {A = Reply K V} Done (Refused e))
-done_told e h = absurd cc
-
--- that is no refusal
-pub told_done : {K V : Type 0} (c : Command K V) → IsCopyTold c Done
-told_done (Insert s k v) = tt
-told_done (Get s k) = done_told
-told_done (GetKeyValue s k) = done_told
-told_done (ContainsKey s k) = tt
-told_done (Remove s k) = tt
-told_done (Set s k v) = tt
-told_done (Entry s k v w) = tt
-told_done (RemoveEntry s k) = tt
-told_done (CountPairs s) = tt
-told_done (Clear s) = tt
-told_done (Walk s lo hi ends) = tt
-told_done (Write s lo hi writes) = tt
-told_done (Append s) = tt
-told_done (SplitOff s k) = tt
-told_done (TryClone s) = tt
-told_done (Extend s pairs) = tt
-told_done (AddItem s k) = tt
-told_done (ReplaceItem s k) = tt
-told_done (TakeItem s k) = tt
-told_done (RemoveItem s k) = tt
-told_done (ContainsItem s k) = tt
-told_done (GetItem s k) = done_told
-told_done (SetLen s) = tt
-told_done (SetClear s) = tt
-told_done (SetAppend s) = tt
-told_done (SetSplitOff s k) = tt
-told_done (SetExtend s more) = tt
-told_done (SetWalk s lo hi ends) = tt
-told_done (SetClone s) = tt
-told_done (ListItems op s) = tt
-told_done (Keep op s) = tt
-told_done (IsDisjoint s) = tt
-told_done (IsSubset s) = tt
-told_done (IsSuperset s) = tt
-told_done (SetCmp s) = tt
-
-module _ {K V : Type 0} (cmp : K → K → Ordering) (m o : Map K V) where
+module _ {K V : Type 0} (cmp : K → K → Ordering) (refuses_key : K → TryReserveError → Type 0) (refuses_value : V → TryReserveError → Type 0) (m o : Map K V) where
   -- a command on sets
   pub not_on_maps : (c : Command K V)
       → ((s : Side) (k : K) (v : V) → ¬ (c ≡ Insert s k v))
@@ -76,7 +34,7 @@ module _ {K V : Type 0} (cmp : K → K → Ordering) (m o : Map K V) where
       → ((s : Side) (k : K) → ¬ (c ≡ SplitOff s k))
       → ((s : Side) → ¬ (c ≡ TryClone s))
       → ((s : Side) (pairs : List (K × V)) → ¬ (c ≡ Extend s pairs))
-      → StepOn cmp c m o Done m o
+      → StepOn cmp refuses_key refuses_value c m o Done m o
   not_on_maps (Insert s k v) b _ _ _ _ _ _ _ _ _ _ _ _ _ _ _ = absurd (b s k v refl)
   not_on_maps (Get s k) _ b _ _ _ _ _ _ _ _ _ _ _ _ _ _ = absurd (b s k refl)
   not_on_maps (GetKeyValue s k) _ _ b _ _ _ _ _ _ _ _ _ _ _ _ _ = absurd (b s k refl)
@@ -113,7 +71,7 @@ module _ {K V : Type 0} (cmp : K → K → Ordering) (m o : Map K V) where
   not_on_maps (IsSuperset s) _ _ _ _ _ _ _ _ _ _ _ _ _ _ _ _ = answered (λ h. h) (refl, refl, refl)
   not_on_maps (SetCmp s) _ _ _ _ _ _ _ _ _ _ _ _ _ _ _ _ = answered (λ h. h) (refl, refl, refl)
 
-module _ {K V : Type 0} (cmp : K → K → Ordering) (m o : Map K ⊤) where
+module _ {K V : Type 0} (cmp : K → K → Ordering) (may_refuse : K → TryReserveError → Type 0) (m o : Map K ⊤) where
   -- a command on maps
   pub not_on_sets : (c : Command K V)
       → ((s : Side) (k : K) → ¬ (c ≡ AddItem s k))
@@ -135,7 +93,7 @@ module _ {K V : Type 0} (cmp : K → K → Ordering) (m o : Map K ⊤) where
       → ((s : Side) → ¬ (c ≡ IsSubset s))
       → ((s : Side) → ¬ (c ≡ IsSuperset s))
       → ((s : Side) → ¬ (c ≡ SetCmp s))
-      → sets.StepOnSets {V = V} cmp c m o Done m o
+      → sets.StepOnSets {V = V} cmp may_refuse c m o Done m o
   not_on_sets (AddItem s k) b _ _ _ _ _ _ _ _ _ _ _ _ _ _ _ _ _ _ = absurd (b s k refl)
   not_on_sets (ReplaceItem s k) _ b _ _ _ _ _ _ _ _ _ _ _ _ _ _ _ _ _ = absurd (b s k refl)
   not_on_sets (TakeItem s k) _ _ b _ _ _ _ _ _ _ _ _ _ _ _ _ _ _ _ = absurd (b s k refl)

@@ -1,3 +1,4 @@
+mod CopyFacts
 mod CutFacts
 mod ExampleFacts
 mod ItemFacts

@@ -1,5 +1,5 @@
--- What the operations on two sets answer: copies of what a walk lends, and whether it lends anything.
-use Rattle.std.proofs.Common.{◌≡◌, ◌<◌, ◌↔◌, Bool, true, false, List, [], ◌∷◌, ◌++◌, map, length, Option, Some, None, Result, Ok, Err, IfOk, IfErr, refl, sym, ap, ◌∙◌, arith, append_assoc, append-nil, length-append}
+-- What the operations on two sets answer: copies of what a walk lends.
+use Rattle.std.proofs.Common.{◌≡◌, ◌↔◌, Bool, true, false, List, [], ◌∷◌, ◌++◌, map, Option, Some, None, Result, Ok, Err, IfOk, refl, sym, ap, ◌∙◌, append_assoc, append-nil}
 use Rattle.std.specs.Prelude.{IsTrue}
 use Rattle.std.specs.Iterator.{AlwaysYields}
 use Rattle.std.specs.List.{AllZip}
@@ -9,7 +9,6 @@ use denote.Ref.{Bor}
 use Rattle.fc_base.specs.declared.try_reserve_error.TryReserveError.{TryReserveError}
 use Rattle.fc_base.specs.Copies.{IsExact}
 use Rattle.fc_map.specs.Entries.{Map}
-use Rattle.fc_set.specs.Copied.{MayCopyRefuse}
 use Rattle.fc_set.specs.Items.{items}
 use Rattle.fc_command.specs.SetStep.{has_none}
 
@@ -19,11 +18,6 @@ none_flag true [] h = refl
 none_flag true (x ∷ s) h = let e = h.0 refl in absurd cc
 none_flag false [] h = h.1 refl
 none_flag false (x ∷ s) h = refl
-
--- a list that is not empty has a length
-pub some_items : {A : Type 0} (s : List A) → ¬ (s ≡ []) → 0 < length s
-some_items [] some = absurd (some refl)
-some_items (x ∷ s) some = omega arith
 
 module _ {S T : Type 0} (steps : S → Option (Bor T) → S → Type 0) where
   -- An item that a walk gives is the first of those that it had left.
@@ -58,26 +52,16 @@ module _ {S T : Type 0} (steps : S → Option (Bor T) → S → Type 0) where
           copied = ap (λ c. copies ++ Some c ∷ []) e ∙ ap (λ c. c ++ Some x.now ∷ []) f.copied ∙ sym (map-append Some f.done (x.now ∷ []));
         }
 
-    pub copied_some : (copies : List (Option T)) (s j : S) (x : Bor T) → IsCopiedSoFar copies s → steps s (Some x) j → 0 < length all
-    copied_some copies s j x f h =
-        let long = ap length (some_left s j x f.left f.gives h).1 in
-        let whole = simp length-append at (ap length f.parted) in
-        omega (arith, long, whole)
+    -- where the item that it gave next stands among all
+    pub next_left : (copies : List (Option T)) (s j : S) (x : Bor T) → IsCopiedSoFar copies s → steps s (Some x) j → (done rest : List T) × (all ≡ done ++ x.now ∷ rest)
+    next_left copies s j x f h = let l = some_left s j x f.left f.gives h in (f.done, l.0, f.parted ∙ ap (λ r. f.done ++ r) l.1)
 
     pub copied_all : (copies : List (Option T)) (s j : S) → IsCopiedSoFar copies s → steps s None j → copies ≡ map Some all
     copied_all copies s j f h =
         let none = none_left s j f.left f.gives h in
         f.copied ∙ ap (map Some) (sym (f.parted ∙ ap (λ r. f.done ++ r) none ∙ append-nil f.done))
 
--- where it was answered, exact copies are the items themselves; where it was refused, there was one to copy
+-- where it was answered, exact copies are the items themselves
 pub exact_items : {K V : Type 0} (same : K → K → Type 0) → IsExact same → (r : Result (Map K V) TryReserveError) (s : List K) → IfOk r (λ made. AllZip same s (items made)) → IfOk r (λ made. items made ≡ s)
 exact_items same exact (Ok made) s copied = same_from_all_zip same s (items made) copied exact
 exact_items same exact (Err e) s copied = tt
-
-pub refused_some : {K X : Type 0} (never : K → Type 0) (r : Result X TryReserveError) (s : List K) → IfErr r (MayCopyRefuse never s) → IfErr r (λ _. 0 < length s)
-refused_some never (Ok x) s why = tt
-refused_some never (Err e) s why = why.0
-
-pub where_refused : {X E P : Type 0} (r : Result X E) → P → IfErr r (λ _. P)
-where_refused (Ok x) p = tt
-where_refused (Err e) p = p

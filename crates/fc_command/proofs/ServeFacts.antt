@@ -11,7 +11,7 @@ use Rattle.fc_command.specs.declared.command.session.ServeEnd.{ServeEnd}
 use Rattle.fc_command.specs.declared.command.session.ServeEnd.TheVariants.{Finished, NotACommand}
 use Rattle.fc_command.specs.declared.command.session.ServeError.{ServeError}
 use Rattle.fc_command.specs.declared.command.session.ServeError.TheVariants.{Memory, Read, Write}
-use Rattle.fc_command.specs.Step.{Step, IsNew, IsCopyTold}
+use Rattle.fc_command.specs.Step.{Step, IsNew}
 use Rattle.fc_lines.specs.Lines.{lines_of}
 use Rattle.fc_lines.specs.Grammar.{command_of}
 use Rattle.fc_lines.specs.Texts.{text_of, fault_text}
@@ -30,11 +30,11 @@ line_refused old new front said more (Err Write) bad told = (told.0, inr (bad, t
 
 -- the line was run, and its reply was not written whole
 pub reply_failed : (old new : Session) (front : List (List ℕ)) (said more text : List ℕ) (c : Command ℕ ℕ) (r : Reply ℕ ℕ) (w' : World ℕ ℕ) (e : ServeError) → SpokenTo front said old.world
-    → command_of old.line.items ≡ Some c → Step nat_cmp old.world c r w' → IsCopyTold c r → text ≡ text_of r → Written text more (Err e) → LineRun old new front said more (Err e)
-reply_failed old new front said more text c r w' (Memory e) s is step copied told h = absurd h
-reply_failed old new front said more text c r w' Read s is step copied told h = absurd h
-reply_failed old new front said more text c r w' Write s is step copied told h =
-    (h.0, inl (w', subst (λ t. SpokenTo (front ++ old.line.items ∷ []) (said ++ t) w') (sym told ∙ h.1) (spoken_more front said old.world w' old.line.items c r s is step copied)))
+    → command_of old.line.items ≡ Some c → Step nat_cmp (λ _ _. ⊥) (λ _ _. ⊥) old.world c r w' → text ≡ text_of r → Written text more (Err e) → LineRun old new front said more (Err e)
+reply_failed old new front said more text c r w' (Memory e) s is step told h = absurd h
+reply_failed old new front said more text c r w' Read s is step told h = absurd h
+reply_failed old new front said more text c r w' Write s is step told h =
+    (h.0, inl (w', subst (λ t. SpokenTo (front ++ old.line.items ∷ []) (said ++ t) w') (sym told ∙ h.1) (spoken_more front said old.world w' old.line.items c r s is step)))
 
 next_number : (number n len : ℕ) → number ≡ min len (2 ^ 64 - 1) → n ≡ min (number + 1) (2 ^ 64 - 1) → n ≡ min (len + 1) (2 ^ 64 - 1)
 next_number number n len a b = omega arith

@@ -48,9 +48,9 @@ operation_answers : (answer_on_sets {V = ℕ} nat_cmp (ListItems Difference Firs
 operation_answers = (refl, refl, refl, refl, refl, refl, refl, refl)
 
 -- An extension can be read item by item: each is put in as it is added, and the one where it stops may be refused as it is there.
-module _ {K : Type 0} (V : Type 0) (cmp : K → K → Ordering) (side : Side) (m o : List K) where
+module _ {K : Type 0} (V : Type 0) (cmp : K → K → Ordering) (may_refuse : K → TryReserveError → Type 0) (side : Side) (m o : List K) where
   put_in_turn : (k : K) (more : List K) → answer_on_sets {V = V} cmp (SetExtend side (k ∷ more)) m o ≡ answer_on_sets cmp (SetExtend side more) (answer_on_sets {V = V} cmp (AddItem side k) m o).m o
   put_in_turn k more = refl
 
-  stopped_in_turn : (more m' : List K) (e : TryReserveError) (s : MayStopOnSets {V = V} cmp (SetExtend side more) m m' e) → (m' ≡ (answer_on_sets {V = V} cmp (SetExtend side s.front) m o).m) × MayRefuseOnSets {V = V} cmp (AddItem side s.item) m' o e
+  stopped_in_turn : (more m' : List K) (e : TryReserveError) (s : MayStopOnSets {V = V} cmp (SetExtend side more) m m' e) → (m' ≡ (answer_on_sets {V = V} cmp (SetExtend side s.front) m o).m) × MayRefuseOnSets {V = V} cmp may_refuse (AddItem side s.item) m' o e
   stopped_in_turn more m' e s = (s.put_in, (s.new_item, s.error))

@@ -1,12 +1,14 @@
 -- What a command on sets does to two sets, and what it answers.
-use Rattle.std.specs.Prelude.{◌≡◌, ◌+◌, ◌-◌, ◌^◌, ◌<◌, ⊤, Bool, true, false, List, [], ◌∷◌, length, map, Some, None, IsSome, is_some, is_none, IsTrue, if◌then◌else◌}
+use Rattle.std.specs.Prelude.{◌≡◌, ◌+◌, ◌-◌, ◌^◌, ◌<◌, ⊤, Bool, true, false, List, [], ◌∷◌, length, map, Some, None, is_some, is_none, IsTrue, if◌then◌else◌}
 use Rattle.std.specs.Cmp.Lexicographic.{slice_cmp}
 use Rattle.std.specs.declared.cmp.Ordering.{Ordering}
 use Rattle.fc_base.specs.declared.try_reserve_error.TryReserveError.{TryReserveError}
 use Rattle.fc_base.specs.declared.try_reserve_error.TryReserveError.TheVariants.{AllocError}
+use Rattle.fc_base.specs.Copies.{MayRefuseCopies}
 use Rattle.fc_base.specs.Growth.{MayGrowRefuse, MayAppendRefuse}
 use Rattle.fc_base.specs.Ranges.{is_range}
 use Rattle.fc_map.specs.Entries.{Map}
+use Rattle.fc_set.specs.Copied.{MayCopyRefuse}
 use Rattle.fc_set.specs.Items.{items, item_at, smaller, not_smaller, without, with_item, with_replaced, items_within, joined_items, extended_items, AreExtendedUpTo}
 use Rattle.fc_set.specs.Operations.{difference, symmetric_difference, intersection, union}
 use Rattle.fc_lines.specs.declared.command.SetOp.{SetOp}
@@ -15,7 +17,7 @@ use Rattle.fc_lines.specs.declared.command.Command.{Command}
 use Rattle.fc_lines.specs.declared.command.Command.TheVariants.{AddItem, ReplaceItem, TakeItem, RemoveItem, ContainsItem, GetItem, SetLen, SetClear, SetAppend, SetSplitOff, SetClone, SetExtend, SetWalk, List as ListItems, Keep, IsDisjoint, IsSubset, IsSuperset, SetCmp}
 use Rattle.fc_lines.specs.declared.command.Reply.{Reply}
 use Rattle.fc_lines.specs.declared.command.Reply.TheVariants.{Done, Flag, Key, Keys, Len, Order, BadRange, Refused}
-use Rattle.fc_command.specs.Walks.{walked}
+use Rattle.fc_command.specs.Walks.{walked, MayRefuseFound}
 
 -- What a command makes of the items m of the named set and of the items o of the other, and its reply.
 pub record SetOutcome (K V : Type 0) : Type 0 where
@@ -60,21 +62,6 @@ module _ {K V : Type 0} (cmp : K → K → Ordering) where
   answer_on_sets (SetCmp side) m o = record { m = m; o = o; reply = Order (slice_cmp cmp m o) }
   answer_on_sets c m o = record { m = m; o = o; reply = Done }
 
-  -- Whether a command may be refused and change nothing, and by which error: an insertion of a new item, where the set is empty or has
-  -- enough items to fill a leaf, a copy, the room for copies, an append where neither set is empty, a split and a copy of a set that
-  -- is not empty, and an operation on both sets that gives an item.
-  abbrev pub MayRefuseOnSets : Command K V → List K → List K → TryReserveError → Type 0
-  MayRefuseOnSets (AddItem side k) m o e = (item_at cmp m k ≡ None) × MayGrowRefuse (length m) e
-  MayRefuseOnSets (ReplaceItem side k) m o e = (item_at cmp m k ≡ None) × MayGrowRefuse (length m) e
-  MayRefuseOnSets (GetItem side k) m o e = IsSome (item_at cmp m k)
-  MayRefuseOnSets (SetAppend side) m o e = MayAppendRefuse (length m) (length o) e
-  MayRefuseOnSets (SetSplitOff side k) m o e = (e ≡ AllocError) × (0 < length m)
-  MayRefuseOnSets (SetClone side) m o e = 0 < length m
-  MayRefuseOnSets (SetWalk side lo hi ends) m o e = IsTrue (is_range cmp lo hi) × (0 < length ends)
-  MayRefuseOnSets (ListItems op side) m o e = 0 < length (combined cmp op m o)
-  MayRefuseOnSets (Keep op side) m o e = 0 < length (combined cmp op m o)
-  MayRefuseOnSets c m o e = ⊥
-
   -- Whether a command may be refused when a part of it is done, what it has then made of the items, and by which error: an extension
   -- at a new item, as an insertion of it there. The items before it stay.
   abbrev pub MayStopOnSets : Command K V → List K → List K → TryReserveError → Type 0
@@ -90,9 +77,25 @@ module _ {K V : Type 0} (cmp : K → K → Ordering) where
   MustRefuseOnSets (SetExtend side more) m o = 2 ^ 64 - 1 < length (extended_items cmp m more)
   MustRefuseOnSets c m o = ⊥
 
+module _ {K V : Type 0} (cmp : K → K → Ordering) (may_refuse : K → TryReserveError → Type 0) where
+  -- Whether a command may be refused and change nothing, and by which error, given by which one a copy of an item may be: an insertion
+  -- of a new item, where the set is empty or has enough items to fill a leaf, a copy of the item that was found, or the room for copies,
+  -- an append where neither set is empty, a split and a copy of a set that is not empty, and an operation on both sets that gives an item.
+  abbrev pub MayRefuseOnSets : Command K V → List K → List K → TryReserveError → Type 0
+  MayRefuseOnSets (AddItem side k) m o e = (item_at cmp m k ≡ None) × MayGrowRefuse (length m) e
+  MayRefuseOnSets (ReplaceItem side k) m o e = (item_at cmp m k ≡ None) × MayGrowRefuse (length m) e
+  MayRefuseOnSets (GetItem side k) m o e = MayRefuseFound may_refuse (item_at cmp m k) e
+  MayRefuseOnSets (SetAppend side) m o e = MayAppendRefuse (length m) (length o) e
+  MayRefuseOnSets (SetSplitOff side k) m o e = (e ≡ AllocError) × (0 < length m)
+  MayRefuseOnSets (SetClone side) m o e = MayRefuseCopies may_refuse m e
+  MayRefuseOnSets (SetWalk side lo hi ends) m o e = IsTrue (is_range cmp lo hi) × MayRefuseCopies (MayRefuseFound may_refuse) (walked (items_within cmp lo hi m) ends) e
+  MayRefuseOnSets (ListItems op side) m o e = MayRefuseCopies may_refuse (combined cmp op m o) e
+  MayRefuseOnSets (Keep op side) m o e = MayCopyRefuse may_refuse (combined cmp op m o) e
+  MayRefuseOnSets c m o e = ⊥
+
   -- A command on the named set m and the other set o is answered by the table, or it is refused and changes nothing, or it is refused
   -- when a part of it is done.
   pub data StepOnSets (c : Command K V) (m o : Map K ⊤) (r : Reply K V) (m' o' : Map K ⊤) : Type 0 where
-    answered : (MustRefuseOnSets c (items m) (items o) → ⊥) → (let out = answer_on_sets c (items m) (items o) in (r ≡ out.reply) × (items m' ≡ out.m) × (items o' ≡ out.o)) → StepOnSets c m o r m' o'
+    answered : (MustRefuseOnSets cmp c (items m) (items o) → ⊥) → (let out = answer_on_sets cmp c (items m) (items o) in (r ≡ out.reply) × (items m' ≡ out.m) × (items o' ≡ out.o)) → StepOnSets c m o r m' o'
     refused : (e : TryReserveError) → MayRefuseOnSets c (items m) (items o) e → (r ≡ Refused e) × (m' ≡ m) × (o' ≡ o) → StepOnSets c m o r m' o'
-    stopped : (e : TryReserveError) → MayStopOnSets c (items m) (items m') e → (r ≡ Refused e) × (o' ≡ o) → StepOnSets c m o r m' o'
+    stopped : (e : TryReserveError) → MayStopOnSets cmp c (items m) (items m') e → (r ≡ Refused e) × (o' ≡ o) → StepOnSets c m o r m' o'

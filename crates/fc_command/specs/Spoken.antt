@@ -1,12 +1,12 @@
 -- What is written for lines.
 use Rattle.std.specs.Prelude.{◌≡◌, ℕ, ◌+◌, ◌-◌, ◌^◌, min, ◌⊎◌, IfSome, List, [], ◌∷◌, ◌++◌, length, map, codes, Option, Some, None, Result, Ok, Err}
-use Rattle.std.specs.List.{flat_map, AllZip}
+use Rattle.std.specs.List.{flat_map}
 use Rattle.std.specs.Ordering.{nat_cmp}
 use Rattle.std.specs.Io.KnownBytes.{Consumes, IsAtEnd}
 use Rattle.fc_command.specs.declared.command.world.World.{World}
 use Rattle.fc_lines.specs.declared.command.Command.{Command}
 use Rattle.fc_lines.specs.declared.command.Reply.{Reply}
-use Rattle.fc_command.specs.Step.{IsNew, Runs, IsCopyTold}
+use Rattle.fc_command.specs.Step.{IsNew, Runs}
 use Rattle.fc_base.specs.declared.try_reserve_error.TryReserveError.TheVariants.{AllocError}
 use Rattle.fc_command.specs.declared.command.session.ServeEnd.{ServeEnd}
 use Rattle.fc_command.specs.declared.command.session.ServeEnd.TheVariants.{Finished, NotACommand}
@@ -16,16 +16,14 @@ use Rattle.fc_lines.specs.Lines.{lines_of, whole_lines_of}
 use Rattle.fc_lines.specs.Grammar.{command_of}
 use Rattle.fc_lines.specs.Texts.{text_of, fault_text}
 
--- The lines are commands that lead from a new world to this one, and the text is that of their replies. A number is copied without
--- memory, so a command that only copies is answered.
+-- The lines are commands that lead from a new world to this one, and the text is that of their replies. No copy of a number is refused.
 pub record SpokenTo (lines : List (List ℕ)) (text : List ℕ) (world : World ℕ ℕ) : Type 0 where
   pub start : World ℕ ℕ
   pub new : IsNew start
   pub commands : List (Command ℕ ℕ)
   pub replies : List (Reply ℕ ℕ)
   pub each : map command_of lines ≡ map Some commands
-  pub run : Runs nat_cmp start commands replies world
-  pub told : AllZip IsCopyTold commands replies
+  pub run : Runs nat_cmp (λ _ _. ⊥) (λ _ _. ⊥) start commands replies world
   pub says : text ≡ flat_map text_of replies
 
 -- The lines are commands, and the text is that of their replies.

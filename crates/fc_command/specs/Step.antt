@@ -1,8 +1,9 @@
 -- What a command does to a world, and what it answers. `SetStep` has the table of commands on sets.
-use Rattle.std.specs.Prelude.{◌≡◌, ◌≢◌, ◌+◌, ◌-◌, ◌^◌, ◌<◌, min, ⊤, List, [], ◌∷◌, ◌⊎◌, length, None, IsSome, is_some, IsTrue, if◌then◌else◌}
+use Rattle.std.specs.Prelude.{◌≡◌, ◌+◌, ◌-◌, ◌^◌, ◌<◌, min, ⊤, List, [], ◌∷◌, length, None, is_some, IsTrue, if◌then◌else◌}
 use Rattle.std.specs.declared.cmp.Ordering.{Ordering}
 use Rattle.fc_base.specs.declared.try_reserve_error.TryReserveError.{TryReserveError}
 use Rattle.fc_base.specs.declared.try_reserve_error.TryReserveError.TheVariants.{AllocError}
+use Rattle.fc_base.specs.Copies.{MayRefuseCopies, MayRefusePair}
 use Rattle.fc_base.specs.Extended.{extended, IsExtendedUpTo}
 use Rattle.fc_base.specs.Growth.{MayGrowRefuse, MayAppendRefuse}
 use Rattle.fc_base.specs.Halves.{not_below}
@@ -19,11 +20,11 @@ use Rattle.fc_lines.specs.declared.command.Target.TheVariants.{OnMap, OnSet}
 use Rattle.fc_lines.specs.Sides.{target_of}
 use Rattle.fc_lines.specs.declared.command.Side.TheVariants.{First, Second}
 use Rattle.fc_lines.specs.declared.command.Command.{Command}
-use Rattle.fc_lines.specs.declared.command.Command.TheVariants.{Insert, Get, GetKeyValue, ContainsKey, Remove, Set, Entry, RemoveEntry, Len as CountPairs, Clear, Walk, Write, Append, SplitOff, TryClone, Extend, GetItem}
+use Rattle.fc_lines.specs.declared.command.Command.TheVariants.{Insert, Get, GetKeyValue, ContainsKey, Remove, Set, Entry, RemoveEntry, Len as CountPairs, Clear, Walk, Write, Append, SplitOff, TryClone, Extend}
 use Rattle.fc_lines.specs.declared.command.Reply.{Reply}
 use Rattle.fc_lines.specs.declared.command.Reply.TheVariants.{Done, Flag, Value, Pair, Len, Pairs, BadRange, Refused}
 use Rattle.fc_command.specs.SetStep.{StepOnSets}
-use Rattle.fc_command.specs.Walks.{walked}
+use Rattle.fc_command.specs.Walks.{walked, MayRefuseFound}
 use Rattle.fc_command.specs.Writing.{rewritten}
 
 -- A new world has no pairs and no items.
@@ -81,20 +82,6 @@ module _ {K V : Type 0} (cmp : K → K → Ordering) where
   answer (Extend side pairs) m o = record { m = extended cmp m pairs; o = o; reply = Done }
   answer c m o = record { m = m; o = o; reply = Done }
 
-  -- Whether a command may be refused and change nothing, and by which error: an insertion at a new key, where the map is empty or has
-  -- enough pairs to fill a leaf, a copy, the room for copies, an append where neither map is empty, and a split and a copy of a map
-  -- that is not empty.
-  abbrev pub MayRefuse : Command K V → List (K × V) → List (K × V) → TryReserveError → Type 0
-  MayRefuse (Insert side k v) m o e = (at cmp m k ≡ None) × MayGrowRefuse (length m) e
-  MayRefuse (Get side k) m o e = IsSome (value_at cmp m k)
-  MayRefuse (GetKeyValue side k) m o e = IsSome (at cmp m k)
-  MayRefuse (Entry side k v w) m o e = (at cmp m k ≡ None) × MayGrowRefuse (length m) e
-  MayRefuse (Walk side lo hi ends) m o e = IsTrue (is_range cmp lo hi) × (0 < length ends)
-  MayRefuse (Append side) m o e = MayAppendRefuse (length m) (length o) e
-  MayRefuse (SplitOff side k) m o e = (e ≡ AllocError) × (0 < length m)
-  MayRefuse (TryClone side) m o e = 0 < length m
-  MayRefuse c m o e = ⊥
-
   -- Whether a command may be refused when a part of it is done, what it has then made of the list, and by which error: an extension
   -- at a pair with a new key, as an insertion of it there. The pairs before it stay.
   abbrev pub MayStop : Command K V → List (K × V) → List (K × V) → TryReserveError → Type 0
@@ -110,17 +97,32 @@ module _ {K V : Type 0} (cmp : K → K → Ordering) where
   MustRefuse (Extend side pairs) m o = 2 ^ 64 - 1 < length (extended cmp m pairs)
   MustRefuse c m o = ⊥
 
+module _ {K V : Type 0} (cmp : K → K → Ordering) (refuses_key : K → TryReserveError → Type 0) (refuses_value : V → TryReserveError → Type 0) where
+  -- Whether a command may be refused and change nothing, and by which error, given by which one a copy of a key or of a value may be: an
+  -- insertion at a new key, where the map is empty or has enough pairs to fill a leaf, a copy of what was found, or the room for copies,
+  -- an append where neither map is empty, and a split and a copy of a map that is not empty.
+  abbrev pub MayRefuse : Command K V → List (K × V) → List (K × V) → TryReserveError → Type 0
+  MayRefuse (Insert side k v) m o e = (at cmp m k ≡ None) × MayGrowRefuse (length m) e
+  MayRefuse (Get side k) m o e = MayRefuseFound refuses_value (value_at cmp m k) e
+  MayRefuse (GetKeyValue side k) m o e = MayRefuseFound (MayRefusePair refuses_key refuses_value) (at cmp m k) e
+  MayRefuse (Entry side k v w) m o e = (at cmp m k ≡ None) × MayGrowRefuse (length m) e
+  MayRefuse (Walk side lo hi ends) m o e = IsTrue (is_range cmp lo hi) × MayRefuseCopies (MayRefuseFound (MayRefusePair refuses_key refuses_value)) (walked (within cmp lo hi m) ends) e
+  MayRefuse (Append side) m o e = MayAppendRefuse (length m) (length o) e
+  MayRefuse (SplitOff side k) m o e = (e ≡ AllocError) × (0 < length m)
+  MayRefuse (TryClone side) m o e = MayRefuseCopies (MayRefusePair refuses_key refuses_value) m e
+  MayRefuse c m o e = ⊥
+
   -- A command on the named map m and the other map o is answered by the table, or it is refused and changes nothing, or it is refused
   -- when a part of it is done.
   pub data StepOn (c : Command K V) (m o : Map K V) (r : Reply K V) (m' o' : Map K V) : Type 0 where
-    answered : (MustRefuse c (entries m) (entries o) → ⊥) → (let out = answer c (entries m) (entries o) in (r ≡ out.reply) × (entries m' ≡ out.m) × (entries o' ≡ out.o)) → StepOn c m o r m' o'
+    answered : (MustRefuse cmp c (entries m) (entries o) → ⊥) → (let out = answer cmp c (entries m) (entries o) in (r ≡ out.reply) × (entries m' ≡ out.m) × (entries o' ≡ out.o)) → StepOn c m o r m' o'
     refused : (e : TryReserveError) → MayRefuse c (entries m) (entries o) e → (r ≡ Refused e) × (m' ≡ m) × (o' ≡ o) → StepOn c m o r m' o'
-    stopped : (e : TryReserveError) → MayStop c (entries m) (entries m') e → (r ≡ Refused e) × (o' ≡ o) → StepOn c m o r m' o'
+    stopped : (e : TryReserveError) → MayStop cmp c (entries m) (entries m') e → (r ≡ Refused e) × (o' ≡ o) → StepOn c m o r m' o'
 
   -- A command on what it names may lead from one world to another with this reply. The maps or sets of the other kind are as before.
   abbrev pub StepAt : Target → World K V → Command K V → Reply K V → World K V → Type 0
   StepAt (OnMap side) w c r w' = StepOn c (named side w) (other side w) r (named side w') (other side w') × (w'.s ≡ w.s) × (w'.t ≡ w.t)
-  StepAt (OnSet side) w c r w' = StepOnSets cmp c (named_set side w) (other_set side w) r (named_set side w') (other_set side w') × (w'.a ≡ w.a) × (w'.b ≡ w.b)
+  StepAt (OnSet side) w c r w' = StepOnSets cmp refuses_key c (named_set side w) (other_set side w) r (named_set side w') (other_set side w') × (w'.a ≡ w.a) × (w'.b ≡ w.b)
 
   -- A command may lead from one world to another with this reply.
   abbrev pub Step : World K V → Command K V → Reply K V → World K V → Type 0
@@ -132,18 +134,3 @@ module _ {K V : Type 0} (cmp : K → K → Ordering) where
   Runs w (c ∷ cs) (r ∷ rs) w' = (mid : World K V) × Step w c r mid × Runs mid cs rs w'
   Runs w [] (r ∷ rs) w' = ⊥
   Runs w (c ∷ cs) [] w' = ⊥
-
--- The reply is not that a request was refused.
-abbrev pub IsNotRefused : {K V : Type 0} → Reply K V → Type 0
-IsNotRefused r = (e : TryReserveError) → r ≢ Refused e
-
--- A command that needs memory for nothing but a copy is answered, and not refused. Of the other commands this says nothing.
-abbrev pub IsCopyTold : {K V : Type 0} → Command K V → Reply K V → Type 0
-IsCopyTold (Get side k) r = IsNotRefused r
-IsCopyTold (GetKeyValue side k) r = IsNotRefused r
-IsCopyTold (GetItem side k) r = IsNotRefused r
-IsCopyTold c r = ⊤
-
--- The reply is this one, or the copy in it was refused, which is possible only where there is something to copy.
-abbrev pub IsCopied : {K V : Type 0} → Reply K V → Reply K V → Type 0 → Type 0
-IsCopied r reply something = (r ≡ reply) ⊎ (something × ((e : TryReserveError) × (r ≡ Refused e)))

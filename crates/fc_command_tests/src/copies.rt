@@ -2,7 +2,7 @@
 ghost use Rattle.std.specs.Prelude.{◌≡◌};
 
 use fc_base::{TryClone, TryReserveError};
-use fc_command::command::{Command, End, Items, Reply, Side, World};
+use fc_command::command::{Command, End, Items, Reply, SetOp, Side, World};
 use std::alloc::{AllocError, Global};
 use std::ops::Bound;
 use std::test::Fail;
@@ -28,7 +28,7 @@ impl TryClone for Fussy {
     }
 }
 
-// A number as a key, whose copy is refused as an overflow, if it is told to.
+// A number as a key, whose copy is refused if it is told to: of an odd number as an overflow, of an even one for want of memory.
 #[derive(Clone, Copy, PartialEq, Eq, PartialOrd, Ord, Debug)]
 struct FussyKey {
     number: u64,
@@ -39,10 +39,12 @@ impl TryClone for FussyKey {
     ghost same = { λ source copy. copy ≡ source };
 
     fn try_clone(&self) -> Result<FussyKey, TryReserveError> {
-        if self.refuses {
+        if !self.refuses {
+            Ok(*self)
+        } else if self.number % 2 == 1 {
             Err(TryReserveError::CapacityOverflow)
         } else {
-            Ok(*self)
+            Err(TryReserveError::AllocError)
         }
     }
 }
@@ -74,6 +76,10 @@ fn is_none(reply: &FussyReply) -> bool {
     matches!(reply, Reply::Value(None))
 }
 
+fn is_new(reply: &FussyReply) -> bool {
+    matches!(reply, Reply::Flag(true))
+}
+
 fn is_number(reply: &FussyReply, number: u64) -> bool {
     match reply {
         Reply::Value(Some(found)) => found.number == number,
@@ -85,13 +91,23 @@ fn is_len(reply: &FussyReply, wanted: usize) -> bool {
     matches!(reply, Reply::Len(len) if *len == wanted)
 }
 
-// A walk of so many steps from the front.
-fn walk(alloc: Global, side: Side, steps: usize) -> Result<Command<FussyKey, Fussy>, AllocError> {
+// So many steps from the front.
+fn from_the_front(alloc: Global, steps: usize) -> Result<Items<End>, AllocError> {
     let mut ends = Vec::new(alloc);
     for _ in 0..steps {
         ends.push(End::Front)?;
     }
-    Ok(Command::Walk(side, Bound::Unbounded, Bound::Unbounded, Items::from(ends)))
+    Ok(Items::from(ends))
+}
+
+// A walk over a whole map.
+fn walk(side: Side, ends: Items<End>) -> Command<FussyKey, Fussy> {
+    Command::Walk(side, Bound::Unbounded, Bound::Unbounded, ends)
+}
+
+// A walk over a whole set.
+fn walk_items(side: Side, ends: Items<End>) -> Command<FussyKey, Fussy> {
+    Command::SetWalk(side, Bound::Unbounded, Bound::Unbounded, ends)
 }
 
 // Whether a pair is put in, of which no copy is to be had without that error.
@@ -101,11 +117,12 @@ fn refuses_copies(
     at: FussyKey,
     error: TryReserveError,
 ) -> bool {
-    let Ok(one_step) = walk(alloc, Side::First, 1) else {
+    let Ok(one_step) = from_the_front(alloc, 1) else {
         return false;
     };
     is_refused_by(&step(world, Command::GetKeyValue(Side::First, at)), error)
-        && is_refused_by(&step(world, one_step), error)
+        && is_refused_by(&step(world, walk(Side::First, one_step)), error)
+        && is_refused_by(&step(world, Command::TryClone(Side::First)), error)
         && is_len(&step(world, Command::Len(Side::First)), 1)
 }
 
@@ -127,21 +144,44 @@ fn a_values_own_refusal_is_the_reply(rt: HostRuntime) {
     }
 }
 
+// Whether the value of a key whose copy is refused is answered, and each copy of the pair is refused by that error.
+fn refuses_pairs_of(alloc: Global, at: FussyKey, error: TryReserveError) -> bool {
+    let mut world = World::new(alloc);
+    is_none(&step(&mut world, Command::Insert(Side::First, at, value(5, None))))
+        && is_number(&step(&mut world, Command::Get(Side::First, at)), 5)
+        && refuses_copies(alloc, &mut world, at, error)
+}
+
 #[test]
 fn a_keys_own_refusal_is_the_reply(rt: HostRuntime) {
-    let mut world = World::new(rt.alloc());
-    let at = key(1, true);
-    let inserted = step(&mut world, Command::Insert(Side::First, at, value(5, None)));
-    assert!(rt; is_none(&inserted));
-    assert!(rt; is_number(&step(&mut world, Command::Get(Side::First, at)), 5));
-    assert!(rt;
-        refuses_copies(
-            rt.alloc(),
-            &mut world,
-            at,
-            TryReserveError::CapacityOverflow
+    assert!(rt; refuses_pairs_of(rt.alloc(), key(1, true), TryReserveError::CapacityOverflow));
+    assert!(rt; refuses_pairs_of(rt.alloc(), key(2, true), TryReserveError::AllocError));
+}
+
+// Whether each command that copies the one item of a set is refused by that error.
+fn refuses_items_of(alloc: Global, item: FussyKey, error: TryReserveError) -> bool {
+    let mut world = World::new(alloc);
+    let Ok(one_step) = from_the_front(alloc, 1) else {
+        return false;
+    };
+    let list = Command::List(SetOp::Union, Side::First);
+    let keep = Command::Keep(SetOp::Difference, Side::First);
+    is_new(&step(&mut world, Command::AddItem(Side::First, item)))
+        && is_refused_by(
+            &step(&mut world, Command::GetItem(Side::First, item)),
+            error,
         )
-    );
+        && is_refused_by(&step(&mut world, walk_items(Side::First, one_step)), error)
+        && is_refused_by(&step(&mut world, list), error)
+        && is_refused_by(&step(&mut world, keep), error)
+        && is_refused_by(&step(&mut world, Command::SetClone(Side::First)), error)
+        && is_len(&step(&mut world, Command::SetLen(Side::First)), 1)
+}
+
+#[test]
+fn an_items_own_refusal_is_the_reply(rt: HostRuntime) {
+    assert!(rt; refuses_items_of(rt.alloc(), key(1, true), TryReserveError::CapacityOverflow));
+    assert!(rt; refuses_items_of(rt.alloc(), key(2, true), TryReserveError::AllocError));
 }
 
 // Writes behind the key 0 up to the key 1, from both ends.
@@ -174,12 +214,12 @@ fn one_command_at_a_time_over_any_keys(rt: HostRuntime) -> Result<(), Fail> {
     let at = key(1, false);
     let insert = Command::Insert(Side::Second, at, value(7, None));
     let write = write_from_both_ends(rt.alloc())?;
-    let two_steps = walk(rt.alloc(), Side::Second, 2)?;
+    let two_steps = from_the_front(rt.alloc(), 2)?;
     assert!(rt; is_none(&step(&mut world, insert)));
     assert!(rt; is_len(&step(&mut world, Command::Len(Side::Second)), 1));
     assert!(rt; is_none(&step(&mut world, Command::Get(Side::First, at))));
     assert!(rt; is_number(&step(&mut world, Command::Get(Side::Second, at)), 7));
     assert!(rt; is_len(&step(&mut world, write), 1));
-    assert!(rt; is_one_pair(&step(&mut world, two_steps)));
+    assert!(rt; is_one_pair(&step(&mut world, walk(Side::Second, two_steps))));
     Ok(())
 }

@@ -152,11 +152,11 @@ fn a_writer_may_take_one_byte_a_time(rt: HostRuntime) {
     assert!(rt; answers_six(rt.alloc(), usize::MAX, 1));
 }
 
-// A line of so many bytes, of one word.
-fn long_line(alloc: Global, length: usize) -> Result<Vec<u8>, AllocError> {
+// The part so many times, one behind the other.
+fn repeated(alloc: Global, part: &[u8], times: usize) -> Result<Vec<u8>, AllocError> {
     let mut text = Vec::new(alloc);
-    for _ in 0..length {
-        text.push(b'x')?;
+    for _ in 0..times {
+        text.extend_from_slice(part)?;
     }
     Ok(text)
 }
@@ -171,9 +171,9 @@ fn end_behind(alloc: Global, text: &[u8]) -> Result<ServeEnd, ServeError> {
 // The failure of the reader shows that the line was still open behind the 4,096th byte, and behind the 4,097th that it was not.
 #[test]
 fn a_line_is_too_long_at_its_4097th_byte(rt: HostRuntime) -> Result<(), Fail> {
-    let longest = long_line(rt.alloc(), 4096)?;
+    let longest = repeated(rt.alloc(), b"x", 4096)?;
     assert!(rt; is_read_error(&end_behind(rt.alloc(), &longest)));
-    let too_long = long_line(rt.alloc(), 4097)?;
+    let too_long = repeated(rt.alloc(), b"x", 4097)?;
     assert!(rt;
         matches!(
             end_behind(rt.alloc(), &too_long),
@@ -240,6 +240,19 @@ fn a_reader_fails_after_good_reads(rt: HostRuntime) {
     assert!(rt; is_read_so_often(rt.alloc(), b"len a\n", b"0\n", 2));
     assert!(rt; is_read_so_often(rt.alloc(), b"len a\nlen a\n", b"0\n0\n", 3));
     assert!(rt; is_read_so_often(rt.alloc(), b"len a\nlen a\nlen a\n", b"0\n0\n0\n", 4));
+}
+
+// One line a read, and one read more, which finds the end.
+#[test]
+fn a_reader_that_never_fails_is_read_to_its_end(rt: HostRuntime) -> Result<(), Fail> {
+    let lines = repeated(rt.alloc(), b"len a\n", 1000)?;
+    let replies = repeated(rt.alloc(), b"0\n", 1000)?;
+    let mut src = in_pieces(&lines, 6);
+    let mut out = wide(Vec::new(rt.alloc()));
+    let end = served(rt.alloc(), &mut src, &mut out);
+    assert!(rt; is_finished(&end) && src.reads == 1001);
+    assert!(rt; out.kept.as_slice() == replies.as_slice());
+    Ok(())
 }
 
 fn is_flushed_once(alloc: Global, text: &[u8]) -> bool {

@@ -1,9 +1,9 @@
 //! The commands that make lists and sets of the items of both sets.
-ghost use Rattle.std.specs.Prelude.{◌≡◌, ◌<◌, List, length, map, Some, IfOk, IfErr};
+ghost use Rattle.std.specs.Prelude.{◌≡◌, List, map, Some, IfOk, IfErr};
 ghost use Rattle.std.specs.Iterator.{IsFinite};
-ghost use Rattle.fc_base.specs.Copies.{IsExact};
+ghost use Rattle.fc_base.specs.Copies.{IsExact, MayRefuseCopies};
 ghost use Rattle.fc_set.specs.Items.{items};
-ghost use Rattle.fc_set.specs.Copied.{Lends};
+ghost use Rattle.fc_set.specs.Copied.{Lends, MayCopyRefuse};
 ghost use Rattle.fc_command.specs.SetStep.{StepOnSets, combined};
 
 use fc_base::{TryClone, TryReserveError};
@@ -21,7 +21,7 @@ pub fn list<K: Ord + TryClone, V: TryClone>(
 ) -> Reply<K, V>
     requires copied { K.can_clone }
     requires same { IsExact K.same }
-    ensures { (side : Side) → StepOnSets K.cmp (Command.List op side) set.now other.now result set.now other.now }
+    ensures { (side : Side) → StepOnSets K.cmp K.may_refuse (Command.List op side) set.now other.now result set.now other.now }
 {
     match listed(alloc, op, set, other) {
         Ok(items) => Reply::Keys(Items::from(items)),
@@ -39,7 +39,7 @@ fn listed<K: Ord + TryClone>(
     requires copied { K.can_clone }
     requires same { IsExact K.same }
     ensures copies { IfOk result (λ copies. copies.items ≡ map Some (combined K.cmp op (items set.now) (items other.now))) }
-    ensures refused { IfErr result (λ _. 0 < length (combined K.cmp op (items set.now) (items other.now))) }
+    ensures refused { IfErr result (MayRefuseCopies K.may_refuse (combined K.cmp op (items set.now) (items other.now))) }
 {
     match op {
         SetOp::Difference => copies_of(alloc, set.difference(other)),
@@ -58,7 +58,7 @@ fn copies_of<'a, K: Ord + TryClone + 'a, I: Iterator<Item = &'a K> + Drop>(
     requires same { IsExact K.same }
     requires ends { I.can_next walk × IsFinite (I.remaining walk) }
     ensures copies { (all : List K) → Lends I.next_gives walk all → IfOk result (λ copies. copies.items ≡ map Some all) }
-    ensures refused { (all : List K) → Lends I.next_gives walk all → IfErr result (λ _. 0 < length all) }
+    ensures refused { (all : List K) → Lends I.next_gives walk all → IfErr result (MayRefuseCopies K.may_refuse all) }
 {
     let mut copies = Vec::new(alloc);
     for item in walk {
@@ -76,7 +76,7 @@ pub fn keep<K: Ord + TryClone, V: TryClone>(
 ) -> Reply<K, V>
     requires copied { K.can_clone }
     requires same { IsExact K.same }
-    ensures { (side : Side) → StepOnSets K.cmp (Command.Keep op side) set.old other.now result set.new other.now }
+    ensures { (side : Side) → StepOnSets K.cmp K.may_refuse (Command.Keep op side) set.old other.now result set.new other.now }
 {
     match kept(op, set, other) {
         Ok(made) => {
@@ -96,7 +96,7 @@ fn kept<K: Ord + TryClone>(
     requires copied { K.can_clone }
     requires same { IsExact K.same }
     ensures made { IfOk result (λ made. items made ≡ combined K.cmp op (items set.now) (items other.now)) }
-    ensures refused { IfErr result (λ _. 0 < length (combined K.cmp op (items set.now) (items other.now))) }
+    ensures refused { IfErr result (MayCopyRefuse K.may_refuse (combined K.cmp op (items set.now) (items other.now))) }
 {
     match op {
         SetOp::Difference => set.sub(other),

@@ -1,12 +1,9 @@
 //! The commands on sets.
-ghost use Rattle.std.specs.Prelude.{◌≡◌, ◌<◌, ⊤, length, IfOk, IfErr, IsSome};
-ghost use Rattle.fc_base.specs.Copies.{IsExact};
+ghost use Rattle.std.specs.Prelude.{◌≡◌, ⊤, IfOk, IfErr, MatchResult};
+ghost use Rattle.fc_base.specs.Copies.{IsExact, MayRefuseCopies};
 ghost use Rattle.fc_map.specs.Entries.{Map, now_value};
-ghost use Rattle.fc_set.specs.Items.{items, item_at};
-ghost use Rattle.fc_lines.specs.declared.command.Reply.TheVariants.{Key};
 ghost use Rattle.fc_command.specs.SetStep.{StepOnSets};
-ghost use Rattle.fc_command.specs.Step.{IsCopied, IsNotRefused, IsCopyTold};
-ghost use Rattle.fc_command.specs.Walks.{given, left, walked};
+ghost use Rattle.fc_command.specs.Walks.{given, left, walked, MayRefuseFound};
 
 use crate::command::operations::{keep, list};
 use fc_base::{TryClone, TryReserveError};
@@ -26,8 +23,7 @@ pub fn step_set<K: Ord + TryClone, V: TryClone>(
 ) -> Reply<K, V>
     requires copied { K.can_clone }
     requires same { IsExact K.same }
-    ensures step { StepOnSets K.cmp command set.old other.old result set.new other.new }
-    ensures copies { ((k : K) → K.never_refuses k) → ((v : V) → V.never_refuses v) → IsCopyTold command result }
+    ensures { StepOnSets K.cmp K.may_refuse command set.old other.old result set.new other.new }
 {
     match command {
         Command::AddItem(_, item) => add(set, item),
@@ -55,7 +51,7 @@ pub fn step_set<K: Ord + TryClone, V: TryClone>(
 
 // Puts the item in where no equal one is.
 fn add<K: Ord + TryClone, V: TryClone>(set: &mut BTreeSet<K>, item: K) -> Reply<K, V>
-    ensures { (o : Map K ⊤) (side : Side) → StepOnSets K.cmp (Command.AddItem side item) set.old o result set.new o }
+    ensures { (o : Map K ⊤) (side : Side) → StepOnSets K.cmp K.may_refuse (Command.AddItem side item) set.old o result set.new o }
 {
     match set.try_insert(item) {
         Ok(new) => Reply::Flag(new),
@@ -65,7 +61,7 @@ fn add<K: Ord + TryClone, V: TryClone>(set: &mut BTreeSet<K>, item: K) -> Reply<
 
 // Puts the item in the place of an equal one, or where it belongs.
 fn replace<K: Ord + TryClone, V: TryClone>(set: &mut BTreeSet<K>, item: K) -> Reply<K, V>
-    ensures { (o : Map K ⊤) (side : Side) → StepOnSets K.cmp (Command.ReplaceItem side item) set.old o result set.new o }
+    ensures { (o : Map K ⊤) (side : Side) → StepOnSets K.cmp K.may_refuse (Command.ReplaceItem side item) set.old o result set.new o }
 {
     match set.replace(item) {
         Ok(old) => Reply::Key(old),
@@ -75,7 +71,7 @@ fn replace<K: Ord + TryClone, V: TryClone>(set: &mut BTreeSet<K>, item: K) -> Re
 
 // Drops all items.
 fn clear<K: Ord + TryClone, V: TryClone>(set: &mut BTreeSet<K>) -> Reply<K, V>
-    ensures { (o : Map K ⊤) (side : Side) → StepOnSets K.cmp (Command.SetClear side) set.old o result set.new o }
+    ensures { (o : Map K ⊤) (side : Side) → StepOnSets K.cmp K.may_refuse (Command.SetClear side) set.old o result set.new o }
 {
     set.clear();
     Reply::Done
@@ -85,8 +81,7 @@ fn clear<K: Ord + TryClone, V: TryClone>(set: &mut BTreeSet<K>) -> Reply<K, V>
 fn find<K: Ord + TryClone, V: TryClone>(set: &BTreeSet<K>, item: &K) -> Reply<K, V>
     requires copied { K.can_clone }
     requires same { IsExact K.same }
-    ensures item { IsCopied result (Key (item_at K.cmp (items set.now) item.now)) (IsSome (item_at K.cmp (items set.now) item.now)) }
-    ensures copies { ((k : K) → K.never_refuses k) → IsNotRefused result }
+    ensures { (o : Map K ⊤) (side : Side) → StepOnSets K.cmp K.may_refuse (Command.GetItem side item.now) set.now o result set.now o }
 {
     match set.get(item) {
         Some(held) => match held.try_clone() {
@@ -102,7 +97,7 @@ fn append<K: Ord + TryClone, V: TryClone>(
     set: &mut BTreeSet<K>,
     other: &mut BTreeSet<K>,
 ) -> Reply<K, V>
-    ensures { (side : Side) → StepOnSets K.cmp (Command.SetAppend side) set.old other.old result set.new other.new }
+    ensures { (side : Side) → StepOnSets K.cmp K.may_refuse (Command.SetAppend side) set.old other.old result set.new other.new }
 {
     match set.append(other) {
         Ok(()) => Reply::Done,
@@ -116,7 +111,7 @@ fn split_off<K: Ord + TryClone, V: TryClone>(
     other: &mut BTreeSet<K>,
     item: K,
 ) -> Reply<K, V>
-    ensures { (side : Side) → StepOnSets K.cmp (Command.SetSplitOff side item) set.old other.old result set.new other.new }
+    ensures { (side : Side) → StepOnSets K.cmp K.may_refuse (Command.SetSplitOff side item) set.old other.old result set.new other.new }
 {
     match set.try_split_off(&item) {
         Ok(rest) => {
@@ -129,7 +124,7 @@ fn split_off<K: Ord + TryClone, V: TryClone>(
 
 // Puts the items in, in turn, up to the one that is refused.
 fn extend<K: Ord + TryClone, V: TryClone>(set: &mut BTreeSet<K>, more: Items<K>) -> Reply<K, V>
-    ensures { (o : Map K ⊤) (side : Side) → StepOnSets K.cmp (Command.SetExtend side more) set.old o result set.new o }
+    ensures { (o : Map K ⊤) (side : Side) → StepOnSets K.cmp K.may_refuse (Command.SetExtend side more) set.old o result set.new o }
 {
     match set.try_extend(more.into_vec()) {
         Ok(()) => {
@@ -151,7 +146,7 @@ fn walk<K: Ord + TryClone, V: TryClone>(
 ) -> Reply<K, V>
     requires copied { K.can_clone }
     requires same { IsExact K.same }
-    ensures { (o : Map K ⊤) (side : Side) → StepOnSets K.cmp (Command.SetWalk side lo hi ends) set.now o result set.now o }
+    ensures { (o : Map K ⊤) (side : Side) → StepOnSets K.cmp K.may_refuse (Command.SetWalk side lo hi ends) set.now o result set.now o }
 {
     let bounds = (lo.as_ref(), hi.as_ref());
     if !is_range(&bounds.0, &bounds.1) {
@@ -172,7 +167,7 @@ fn copies<K: Ord + TryClone>(
     requires copied { K.can_clone }
     requires same { IsExact K.same }
     ensures steps { IfOk result (λ steps. steps.items ≡ walked walk.entry ends.now) }
-    ensures refused { IfErr result (λ _. 0 < length ends.now) }
+    ensures refused { IfErr result (MayRefuseCopies (MayRefuseFound K.may_refuse) (walked walk.entry ends.now)) }
 {
     let mut steps = Vec::with_capacity(alloc, ends.len())?;
     let mut walk = walk;
@@ -198,7 +193,7 @@ fn step_at<'a, K: Ord>(walk: &mut Range<'a, K>, end: End) -> Option<&'a K>
 fn copy_step<K: TryClone>(item: Option<&K>) -> Result<Option<K>, TryReserveError>
     requires copied { K.can_clone }
     requires same { IsExact K.same }
-    ensures { IfOk result (λ copy. copy ≡ now_value item.entry) }
+    ensures { MatchResult result (λ copy. copy ≡ now_value item.entry) (MayRefuseFound K.may_refuse (now_value item.entry)) }
 {
     match item {
         Some(item) => Ok(Some(item.try_clone()?)),
@@ -208,7 +203,7 @@ fn copy_step<K: TryClone>(item: Option<&K>) -> Result<Option<K>, TryReserveError
 
 // How the set stands to the other.
 fn compare<K: Ord + TryClone, V: TryClone>(set: &BTreeSet<K>, other: &BTreeSet<K>) -> Reply<K, V>
-    ensures { (side : Side) → StepOnSets K.cmp (Command.SetCmp side) set.now other.now result set.now other.now }
+    ensures { (side : Side) → StepOnSets K.cmp K.may_refuse (Command.SetCmp side) set.now other.now result set.now other.now }
 {
     Reply::Order(set.cmp(other))
 }
@@ -217,7 +212,7 @@ fn compare<K: Ord + TryClone, V: TryClone>(set: &BTreeSet<K>, other: &BTreeSet<K
 fn copy<K: Ord + TryClone, V: TryClone>(set: &BTreeSet<K>, other: &mut BTreeSet<K>) -> Reply<K, V>
     requires copied { K.can_clone }
     requires same { IsExact K.same }
-    ensures { (side : Side) → StepOnSets K.cmp (Command.SetClone side) set.now other.old result set.now other.new }
+    ensures { (side : Side) → StepOnSets K.cmp K.may_refuse (Command.SetClone side) set.now other.old result set.now other.new }
 {
     match set.try_clone() {
         Ok(items) => {

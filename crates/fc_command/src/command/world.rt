@@ -1,8 +1,7 @@
 //! A world of maps and sets, and the commands on its maps.
-ghost use Rattle.std.specs.Prelude.{◌≡◌, ◌<◌, ◌↔◌, min, List, [], length, IfOk, OnErr, IfErr, IsSome, is_some, IsTrue, if◌then◌else◌};
-ghost use Rattle.std.specs.List.{AllZip};
+ghost use Rattle.std.specs.Prelude.{◌≡◌, ◌<◌, ◌↔◌, min, List, [], length, IfOk, OnErr, IfErr, MatchResult, is_some, IsTrue, if◌then◌else◌};
 ghost use Rattle.fc_base.specs.declared.try_reserve_error.TryReserveError.TheVariants.{AllocError};
-ghost use Rattle.fc_base.specs.Copies.{IsExact};
+ghost use Rattle.fc_base.specs.Copies.{IsExact, MayRefuseCopies, MayRefusePair};
 ghost use Rattle.fc_base.specs.OneKey.{put, cut};
 ghost use Rattle.fc_base.specs.Parts.{at, value_at};
 ghost use Rattle.fc_base.specs.Ranges.{bound_now, is_range, within};
@@ -10,9 +9,8 @@ ghost use Rattle.fc_map.specs.Writing.{wrote};
 ghost use Rattle.fc_map.specs.Stretches.{range_map_ref, stretch};
 ghost use Rattle.fc_command.specs.Writing.{flagged, rewritten};
 ghost use Rattle.fc_map.specs.Entries.{Map, entries, now_pair};
-ghost use Rattle.fc_lines.specs.declared.command.Reply.TheVariants.{Value, Pair};
-ghost use Rattle.fc_command.specs.Walks.{given, left, walked};
-ghost use Rattle.fc_command.specs.Step.{IsNew, Step, StepAt, StepOn, Runs, IsCopied, IsNotRefused, IsCopyTold};
+ghost use Rattle.fc_command.specs.Walks.{given, left, walked, MayRefuseFound};
+ghost use Rattle.fc_command.specs.Step.{IsNew, Step, StepAt, StepOn, Runs};
 
 use crate::command::sets::step_set;
 use fc_base::{TryClone, TryReserveError};
@@ -55,13 +53,12 @@ impl<K: Ord + TryClone, V: TryClone> World<K, V> {
     /// Runs one command. A refusal is the reply `Refused`, and the world is then as it was, but for what a refused `Extend` or
     /// `SetExtend` has put in.
     ///
-    /// A caller shows that a copy of a key or of a value is that key or value itself. Where no copy of a key or of a value is ever
-    /// refused, as of numbers, a command that only copies is answered.
+    /// A caller shows that a copy of a key or of a value is that key or value itself. The reply names the error of a copy as it came;
+    /// where no copy of a key or of a value is ever refused, as of numbers, a command that only copies is answered.
     pub fn step(&mut self, command: Command<K, V>) -> Reply<K, V>
         requires copied { K.can_clone × V.can_clone }
         requires same { IsExact K.same × IsExact V.same }
-        ensures step { Step K.cmp self.old command result self.new }
-        ensures copies { ((k : K) → K.never_refuses k) → ((v : V) → V.never_refuses v) → IsCopyTold command result }
+        ensures { Step K.cmp K.may_refuse V.may_refuse self.old command result self.new }
     {
         match command.target() {
             Target::OnMap(side) => self.step_on_map(side, command),
@@ -73,8 +70,7 @@ impl<K: Ord + TryClone, V: TryClone> World<K, V> {
     fn step_on_map(&mut self, side: Side, command: Command<K, V>) -> Reply<K, V>
         requires copied { K.can_clone × V.can_clone }
         requires same { IsExact K.same × IsExact V.same }
-        ensures step { StepAt K.cmp (Target.OnMap side) self.old command result self.new }
-        ensures copies { ((k : K) → K.never_refuses k) → ((v : V) → V.never_refuses v) → IsCopyTold command result }
+        ensures { StepAt K.cmp K.may_refuse V.may_refuse (Target.OnMap side) self.old command result self.new }
     {
         match side {
             Side::First => step_on(self.alloc, &mut self.a, &mut self.b, command),
@@ -86,8 +82,7 @@ impl<K: Ord + TryClone, V: TryClone> World<K, V> {
     fn step_on_set(&mut self, side: Side, command: Command<K, V>) -> Reply<K, V>
         requires copied { K.can_clone × V.can_clone }
         requires same { IsExact K.same × IsExact V.same }
-        ensures step { StepAt K.cmp (Target.OnSet side) self.old command result self.new }
-        ensures copies { ((k : K) → K.never_refuses k) → ((v : V) → V.never_refuses v) → IsCopyTold command result }
+        ensures { StepAt K.cmp K.may_refuse V.may_refuse (Target.OnSet side) self.old command result self.new }
     {
         match side {
             Side::First => step_set(self.alloc, &mut self.s, &mut self.t, command),
@@ -102,9 +97,7 @@ impl<K: Ord + TryClone, V: TryClone> World<K, V> {
     pub fn run(&mut self, commands: Vec<Command<K, V>>) -> Result<Vec<Reply<K, V>>, TryReserveError>
         requires copied { K.can_clone × V.can_clone }
         requires same { IsExact K.same × IsExact V.same }
-        ensures ran { IfOk result (λ replies. Runs K.cmp self.old commands.items replies.items self.new) }
-        ensures copies { ((k : K) → K.never_refuses k) → ((v : V) → V.never_refuses v)
-            → IfOk result (λ replies. AllZip IsCopyTold commands.items replies.items) }
+        ensures ran { IfOk result (λ replies. Runs K.cmp K.may_refuse V.may_refuse self.old commands.items replies.items self.new) }
         ensures error { IfErr result (λ e. e ≡ AllocError) }
         ensures unchanged { OnErr result (self.new ≡ self.old) }
     {
@@ -128,8 +121,7 @@ fn step_on<K: Ord + TryClone, V: TryClone>(
 ) -> Reply<K, V>
     requires copied { K.can_clone × V.can_clone }
     requires same { IsExact K.same × IsExact V.same }
-    ensures step { StepOn K.cmp command map.old other.old result map.new other.new }
-    ensures copies { ((k : K) → K.never_refuses k) → ((v : V) → V.never_refuses v) → IsCopyTold command result }
+    ensures { StepOn K.cmp K.may_refuse V.may_refuse command map.old other.old result map.new other.new }
 {
     match command {
         Command::Insert(_, key, value) => match map.try_insert(key, value) {
@@ -140,7 +132,7 @@ fn step_on<K: Ord + TryClone, V: TryClone>(
         Command::GetKeyValue(_, key) => get_key_value(map, &key),
         Command::ContainsKey(_, key) => Reply::Flag(map.contains_key(&key)),
         Command::Remove(_, key) => Reply::Value(map.remove(&key)),
-        Command::Set(_, key, value) => Reply::Value(set(map, &key, value)),
+        Command::Set(_, key, value) => set(map, key, value),
         Command::Entry(_, key, there, new) => entry(map, key, there, new),
         Command::RemoveEntry(_, key) => Reply::Pair(evict(map, key)),
         Command::Len(_) => Reply::Len(map.len()),
@@ -163,7 +155,7 @@ fn append<K: Ord + TryClone, V: TryClone>(
     map: &mut BTreeMap<K, V>,
     other: &mut BTreeMap<K, V>,
 ) -> Reply<K, V>
-    ensures { (side : Side) → StepOn K.cmp (Command.Append side) map.old other.old result map.new other.new }
+    ensures { (side : Side) → StepOn K.cmp K.may_refuse V.may_refuse (Command.Append side) map.old other.old result map.new other.new }
 {
     match map.append(other) {
         Ok(()) => Reply::Done,
@@ -177,7 +169,7 @@ fn split_off<K: Ord + TryClone, V: TryClone>(
     other: &mut BTreeMap<K, V>,
     key: K,
 ) -> Reply<K, V>
-    ensures { (side : Side) → StepOn K.cmp (Command.SplitOff side key) map.old other.old result map.new other.new }
+    ensures { (side : Side) → StepOn K.cmp K.may_refuse V.may_refuse (Command.SplitOff side key) map.old other.old result map.new other.new }
 {
     match map.split_off(&key) {
         Ok(rest) => {
@@ -198,7 +190,7 @@ fn walk<K: Ord + TryClone, V: TryClone>(
 ) -> Reply<K, V>
     requires copied { K.can_clone × V.can_clone }
     requires same { IsExact K.same × IsExact V.same }
-    ensures { (o : Map K V) (side : Side) → StepOn K.cmp (Command.Walk side lo hi ends) map.now o result map.now o }
+    ensures { (o : Map K V) (side : Side) → StepOn K.cmp K.may_refuse V.may_refuse (Command.Walk side lo hi ends) map.now o result map.now o }
 {
     let bounds = (lo.as_ref(), hi.as_ref());
     if !is_range(&bounds.0, &bounds.1) {
@@ -219,7 +211,7 @@ fn copies<K: Ord + TryClone, V: TryClone>(
     requires copied { K.can_clone × V.can_clone }
     requires same { IsExact K.same × IsExact V.same }
     ensures steps { IfOk result (λ steps. steps.items ≡ walked pairs.entry ends.now) }
-    ensures refused { IfErr result (λ _. 0 < length ends.now) }
+    ensures refused { IfErr result (MayRefuseCopies (MayRefuseFound (MayRefusePair K.may_refuse V.may_refuse)) (walked pairs.entry ends.now)) }
 {
     let mut steps = Vec::with_capacity(alloc, ends.len())?;
     let mut pairs = pairs;
@@ -247,7 +239,7 @@ fn copy_step<K: TryClone, V: TryClone>(
 ) -> Result<Option<(K, V)>, TryReserveError>
     requires copied { K.can_clone × V.can_clone }
     requires same { IsExact K.same × IsExact V.same }
-    ensures { IfOk result (λ copy. copy ≡ now_pair pair.entry) }
+    ensures { MatchResult result (λ copy. copy ≡ now_pair pair.entry) (MayRefuseFound (MayRefusePair K.may_refuse V.may_refuse) (now_pair pair.entry)) }
 {
     match pair {
         Some((key, value)) => Ok(Some(copy_pair(key, value)?)),
@@ -262,7 +254,7 @@ fn write<K: Ord + TryClone, V: TryClone>(
     hi: Bound<K>,
     writes: Items<(End, V)>,
 ) -> Reply<K, V>
-    ensures { (o : Map K V) (side : Side) → StepOn K.cmp (Command.Write side lo hi writes) map.old o result map.new o }
+    ensures { (o : Map K V) (side : Side) → StepOn K.cmp K.may_refuse V.may_refuse (Command.Write side lo hi writes) map.old o result map.new o }
 {
     let bounds = (lo.as_ref(), hi.as_ref());
     if is_range(&bounds.0, &bounds.1) {
@@ -321,7 +313,7 @@ fn copy<K: Ord + TryClone, V: TryClone>(
 ) -> Reply<K, V>
     requires copied { K.can_clone × V.can_clone }
     requires same { IsExact K.same × IsExact V.same }
-    ensures { (side : Side) → StepOn K.cmp (Command.TryClone side) map.now other.old result map.now other.new }
+    ensures { (side : Side) → StepOn K.cmp K.may_refuse V.may_refuse (Command.TryClone side) map.now other.old result map.now other.new }
 {
     match map.try_clone() {
         Ok(pairs) => {
@@ -337,7 +329,7 @@ fn extend<K: Ord + TryClone, V: TryClone>(
     map: &mut BTreeMap<K, V>,
     pairs: Items<(K, V)>,
 ) -> Reply<K, V>
-    ensures { (o : Map K V) (side : Side) → StepOn K.cmp (Command.Extend side pairs) map.old o result map.new o }
+    ensures { (o : Map K V) (side : Side) → StepOn K.cmp K.may_refuse V.may_refuse (Command.Extend side pairs) map.old o result map.new o }
 {
     match map.try_extend(pairs.into_vec()) {
         Ok(()) => {
@@ -350,13 +342,12 @@ fn extend<K: Ord + TryClone, V: TryClone>(
 }
 
 // Writes the value where the key is there, and answers the old one.
-fn set<K: Ord + TryClone, V: TryClone>(map: &mut BTreeMap<K, V>, key: &K, value: V) -> Option<V>
-    ensures old { result ≡ value_at K.cmp (entries map.old) key.now }
-    ensures written { entries map.new ≡ if is_some (at K.cmp (entries map.old) key.now) then put K.cmp (entries map.old) key.now value else entries map.old }
+fn set<K: Ord + TryClone, V: TryClone>(map: &mut BTreeMap<K, V>, key: K, value: V) -> Reply<K, V>
+    ensures { (o : Map K V) (side : Side) → StepOn K.cmp K.may_refuse V.may_refuse (Command.Set side key value) map.old o result map.new o }
 {
-    match map.get_mut(key) {
-        Some(held) => Some(mem::replace(held, value)),
-        None => None,
+    match map.get_mut(&key) {
+        Some(held) => Reply::Value(Some(mem::replace(held, value))),
+        None => Reply::Value(None),
     }
 }
 
@@ -367,7 +358,7 @@ fn entry<K: Ord + TryClone, V: TryClone>(
     there: V,
     new: V,
 ) -> Reply<K, V>
-    ensures { (o : Map K V) (side : Side) → StepOn K.cmp (Command.Entry side key there new) map.old o result map.new o }
+    ensures { (o : Map K V) (side : Side) → StepOn K.cmp K.may_refuse V.may_refuse (Command.Entry side key there new) map.old o result map.new o }
 {
     let held = match map.try_entry(key) {
         Ok(held) => held,
@@ -396,8 +387,7 @@ fn evict<K: Ord + TryClone, V: TryClone>(map: &mut BTreeMap<K, V>, key: K) -> Op
 fn get<K: Ord + TryClone, V: TryClone>(map: &BTreeMap<K, V>, key: &K) -> Reply<K, V>
     requires copied { V.can_clone }
     requires same { IsExact V.same }
-    ensures value { IsCopied result (Value (value_at K.cmp (entries map.now) key.now)) (IsSome (value_at K.cmp (entries map.now) key.now)) }
-    ensures copies { ((v : V) → V.never_refuses v) → IsNotRefused result }
+    ensures { (o : Map K V) (side : Side) → StepOn K.cmp K.may_refuse V.may_refuse (Command.Get side key.now) map.now o result map.now o }
 {
     match map.get(key) {
         Some(value) => match value.try_clone() {
@@ -412,8 +402,7 @@ fn get<K: Ord + TryClone, V: TryClone>(map: &BTreeMap<K, V>, key: &K) -> Reply<K
 fn get_key_value<K: Ord + TryClone, V: TryClone>(map: &BTreeMap<K, V>, key: &K) -> Reply<K, V>
     requires copied { K.can_clone × V.can_clone }
     requires same { IsExact K.same × IsExact V.same }
-    ensures pair { IsCopied result (Pair (at K.cmp (entries map.now) key.now)) (IsSome (at K.cmp (entries map.now) key.now)) }
-    ensures copies { ((k : K) → K.never_refuses k) → ((v : V) → V.never_refuses v) → IsNotRefused result }
+    ensures { (o : Map K V) (side : Side) → StepOn K.cmp K.may_refuse V.may_refuse (Command.GetKeyValue side key.now) map.now o result map.now o }
 {
     match map.get_key_value(key) {
         Some((held, value)) => match copy_pair(held, value) {
@@ -428,8 +417,7 @@ fn get_key_value<K: Ord + TryClone, V: TryClone>(map: &BTreeMap<K, V>, key: &K) 
 fn copy_pair<K: TryClone, V: TryClone>(key: &K, value: &V) -> Result<(K, V), TryReserveError>
     requires copied { K.can_clone × V.can_clone }
     requires same { IsExact K.same × IsExact V.same }
-    ensures copy { IfOk result (λ copy. copy ≡ (key.now, value.now)) }
-    ensures refused { OnErr result (K.never_refuses key.now → ¬ (V.never_refuses value.now)) }
+    ensures { MatchResult result (λ copy. copy ≡ (key.now, value.now)) (MayRefusePair K.may_refuse V.may_refuse (key.now, value.now)) }
 {
     let key = key.try_clone()?;
     let value = value.try_clone()?;

@@ -1,7 +1,9 @@
 use Rattle.std.proofs.Common.{sym, subst, rules}
+use Rattle.std.proofs.lemmas.Result.{err_from_is_err_and}
 use Rattle.std.specs.Iterator.{IsFinite}
 use Rattle.fc_set.specs.Copied.{Lends}
-use Rattle.fc_command.proofs.OperationFacts.{copied_start, copied_more, copied_some, copied_all, where_refused}
+use Rattle.fc_command.proofs.CopyFacts.{refused_item, refused_room}
+use Rattle.fc_command.proofs.OperationFacts.{copied_start, copied_more, copied_all, next_left}
 use Rattle.fc_command.proofs.command.operations.copies_of.Goals as goal
 
 pub loop-item-init : goal.loop-item-init
@@ -16,10 +18,16 @@ loop-item-preserved g c =
 
 -- an item came, and its copy or the room for it was refused
 pub returns-in_err-copy-clause-refused : goal.returns-in_err-copy-clause-refused
-returns-in_err-copy-clause-refused g c = λ all lends. where_refused c.from_residual.result (copied_some g.I.Iterator.next_gives all c.loop-item.copies.items c.loop-item.item-iterator c.next.new.self c.in-Some.item (c.loop-item.invariant.2 all lends) c.in-Some.ensures.steps)
+returns-in_err-copy-clause-refused g c = λ all lends.
+    let p = err_from_is_err_and c.from_residual.result c.from_residual.ensures.1 in
+    let at = next_left g.I.Iterator.next_gives all c.loop-item.copies.items c.loop-item.item-iterator c.next.new.self c.in-Some.item (c.loop-item.invariant.2 all lends) c.in-Some.ensures.steps in
+    rw (p.1, p.2) (refused_item g.K.TryClone.may_refuse all at.0 at.1 c.in-Some.item.now c.in_err-copy.field-0.0 at.2 c.in_err-copy.ensures)
 
 pub returns-in_err-push-clause-refused : goal.returns-in_err-push-clause-refused
-returns-in_err-push-clause-refused g c = λ all lends. where_refused c.from_residual-in_err-push.result (copied_some g.I.Iterator.next_gives all c.loop-item.copies.items c.loop-item.item-iterator c.next.new.self c.in-Some.item (c.loop-item.invariant.2 all lends) c.in-Some.ensures.steps)
+returns-in_err-push-clause-refused g c = λ all lends.
+    let p = err_from_is_err_and c.from_residual-in_err-push.result c.from_residual-in_err-push.ensures.1 in
+    let at = next_left g.I.Iterator.next_gives all c.loop-item.copies.items c.loop-item.item-iterator c.next.new.self c.in-Some.item (c.loop-item.invariant.2 all lends) c.in-Some.ensures.steps in
+    rw (p.1, p.2) (refused_room g.K.TryClone.may_refuse all at.0 at.1 c.in-Some.item.now at.2)
 
 -- all were copied
 pub returns-clause-copies : goal.returns-clause-copies

@@ -1,28 +1,28 @@
 use Rattle.fc_set.specs.Items.{items}
 use Rattle.fc_set.specs.Operations.{difference, symmetric_difference, intersection, union}
-use Rattle.fc_command.proofs.OperationFacts.{exact_items, refused_some}
+use Rattle.fc_command.proofs.OperationFacts.{exact_items}
 use Rattle.fc_command.proofs.command.operations.kept.Goals as goal
 
 pub returns-in-Difference-clause-made : goal.returns-in-Difference-clause-made
 returns-in-Difference-clause-made g c = rw c.in-Difference.is (exact_items g.K.TryClone.same c.requires.same c.sub.result (difference g.K.Ord.cmp (items c.args.set.now) (items c.args.other.now)) c.sub.ensures.copied)
 
 pub returns-in-Difference-clause-refused : goal.returns-in-Difference-clause-refused
-returns-in-Difference-clause-refused g c = rw c.in-Difference.is (refused_some g.K.TryClone.never_refuses c.sub.result (difference g.K.Ord.cmp (items c.args.set.now) (items c.args.other.now)) c.sub.ensures.refused)
+returns-in-Difference-clause-refused g c = rw c.in-Difference.is c.sub.ensures.refused
 
 pub returns-in-SymmetricDifference-clause-made : goal.returns-in-SymmetricDifference-clause-made
 returns-in-SymmetricDifference-clause-made g c = rw c.in-SymmetricDifference.is (exact_items g.K.TryClone.same c.requires.same c.bitxor.result (symmetric_difference g.K.Ord.cmp (items c.args.set.now) (items c.args.other.now)) c.bitxor.ensures.copied)
 
 pub returns-in-SymmetricDifference-clause-refused : goal.returns-in-SymmetricDifference-clause-refused
-returns-in-SymmetricDifference-clause-refused g c = rw c.in-SymmetricDifference.is (refused_some g.K.TryClone.never_refuses c.bitxor.result (symmetric_difference g.K.Ord.cmp (items c.args.set.now) (items c.args.other.now)) c.bitxor.ensures.refused)
+returns-in-SymmetricDifference-clause-refused g c = rw c.in-SymmetricDifference.is c.bitxor.ensures.refused
 
 pub returns-in-Intersection-clause-made : goal.returns-in-Intersection-clause-made
 returns-in-Intersection-clause-made g c = rw c.in-Intersection.is (exact_items g.K.TryClone.same c.requires.same c.bitand.result (intersection g.K.Ord.cmp (items c.args.set.now) (items c.args.other.now)) c.bitand.ensures.copied)
 
 pub returns-in-Intersection-clause-refused : goal.returns-in-Intersection-clause-refused
-returns-in-Intersection-clause-refused g c = rw c.in-Intersection.is (refused_some g.K.TryClone.never_refuses c.bitand.result (intersection g.K.Ord.cmp (items c.args.set.now) (items c.args.other.now)) c.bitand.ensures.refused)
+returns-in-Intersection-clause-refused g c = rw c.in-Intersection.is c.bitand.ensures.refused
 
 pub returns-in-Union-clause-made : goal.returns-in-Union-clause-made
 returns-in-Union-clause-made g c = rw c.in-Union.is (exact_items g.K.TryClone.same c.requires.same c.bitor.result (union g.K.Ord.cmp (items c.args.set.now) (items c.args.other.now)) c.bitor.ensures.copied)
 
 pub returns-in-Union-clause-refused : goal.returns-in-Union-clause-refused
-returns-in-Union-clause-refused g c = rw c.in-Union.is (refused_some g.K.TryClone.never_refuses c.bitor.result (union g.K.Ord.cmp (items c.args.set.now) (items c.args.other.now)) c.bitor.ensures.refused)
+returns-in-Union-clause-refused g c = rw c.in-Union.is c.bitor.ensures.refused

@@ -1,4 +1,5 @@
-use Rattle.std.proofs.Common.{◌≡◌, ◌<◌, IfOk, IfErr, length, map, Some, refl, subst}
+use Rattle.std.proofs.Common.{◌≡◌, IfOk, IfErr, map, Some, refl, subst}
+use Rattle.fc_base.specs.Copies.{MayRefuseCopies}
 use Rattle.fc_set.specs.Operations.{difference, symmetric_difference, common, union}
 use Rattle.fc_set.proofs.CopiedFacts.{lends_rest}
 use Rattle.fc_command.proofs.command.operations.listed.Goals as goal
@@ -14,7 +15,7 @@ returns-in-Difference-clause-copies g c =
 pub returns-in-Difference-clause-refused : goal.returns-in-Difference-clause-refused
 returns-in-Difference-clause-refused g c =
     let w = c.difference.result in
-    rw c.in-Difference.is (subst (λ v. IfErr c.copies_of.result (λ _. 0 < length (difference g.K.Ord.cmp v.left v.right))) c.difference.ensures.sides (c.copies_of.ensures.refused (difference g.K.Ord.cmp w.left w.right) (lends_rest (λ v. difference g.K.Ord.cmp v.left v.right) w)))
+    rw c.in-Difference.is (subst (λ v. IfErr c.copies_of.result (MayRefuseCopies g.K.TryClone.may_refuse (difference g.K.Ord.cmp v.left v.right))) c.difference.ensures.sides (c.copies_of.ensures.refused (difference g.K.Ord.cmp w.left w.right) (lends_rest (λ v. difference g.K.Ord.cmp v.left v.right) w)))
 
 pub copies_of-requires-in-SymmetricDifference : goal.copies_of-requires-in-SymmetricDifference
 copies_of-requires-in-SymmetricDifference g c = λ k. ((refl, tt), (c.requires.copied, (c.requires.same, (tt, tt))))
@@ -27,7 +28,7 @@ returns-in-SymmetricDifference-clause-copies g c =
 pub returns-in-SymmetricDifference-clause-refused : goal.returns-in-SymmetricDifference-clause-refused
 returns-in-SymmetricDifference-clause-refused g c =
     let w = c.symmetric_difference.result in
-    rw c.in-SymmetricDifference.is (subst (λ v. IfErr c.copies_of-in-SymmetricDifference.result (λ _. 0 < length (symmetric_difference g.K.Ord.cmp v.left v.right))) c.symmetric_difference.ensures.sides (c.copies_of-in-SymmetricDifference.ensures.refused (symmetric_difference g.K.Ord.cmp w.left w.right) (lends_rest (λ v. symmetric_difference g.K.Ord.cmp v.left v.right) w)))
+    rw c.in-SymmetricDifference.is (subst (λ v. IfErr c.copies_of-in-SymmetricDifference.result (MayRefuseCopies g.K.TryClone.may_refuse (symmetric_difference g.K.Ord.cmp v.left v.right))) c.symmetric_difference.ensures.sides (c.copies_of-in-SymmetricDifference.ensures.refused (symmetric_difference g.K.Ord.cmp w.left w.right) (lends_rest (λ v. symmetric_difference g.K.Ord.cmp v.left v.right) w)))
 
 pub copies_of-requires-in-Intersection : goal.copies_of-requires-in-Intersection
 copies_of-requires-in-Intersection g c = λ k. ((refl, tt), (c.requires.copied, (c.requires.same, (tt, tt))))
@@ -40,7 +41,7 @@ returns-in-Intersection-clause-copies g c =
 pub returns-in-Intersection-clause-refused : goal.returns-in-Intersection-clause-refused
 returns-in-Intersection-clause-refused g c =
     let w = c.intersection.result in
-    rw c.in-Intersection.is (subst (λ l. IfErr c.copies_of-in-Intersection.result (λ _. 0 < length l)) c.intersection.ensures.all (c.copies_of-in-Intersection.ensures.refused (common g.K.Ord.cmp w.left w.right) (lends_rest (λ v. common g.K.Ord.cmp v.left v.right) w)))
+    rw c.in-Intersection.is (subst (λ l. IfErr c.copies_of-in-Intersection.result (MayRefuseCopies g.K.TryClone.may_refuse l)) c.intersection.ensures.all (c.copies_of-in-Intersection.ensures.refused (common g.K.Ord.cmp w.left w.right) (lends_rest (λ v. common g.K.Ord.cmp v.left v.right) w)))
 
 pub copies_of-requires-in-Union : goal.copies_of-requires-in-Union
 copies_of-requires-in-Union g c = λ k. ((refl, tt), (c.requires.copied, (c.requires.same, (tt, tt))))
@@ -53,4 +54,4 @@ returns-in-Union-clause-copies g c =
 pub returns-in-Union-clause-refused : goal.returns-in-Union-clause-refused
 returns-in-Union-clause-refused g c =
     let w = c.union.result in
-    rw c.in-Union.is (subst (λ v. IfErr c.copies_of-in-Union.result (λ _. 0 < length (union g.K.Ord.cmp v.left v.right))) c.union.ensures.sides (c.copies_of-in-Union.ensures.refused (union g.K.Ord.cmp w.left w.right) (lends_rest (λ v. union g.K.Ord.cmp v.left v.right) w)))
+    rw c.in-Union.is (subst (λ v. IfErr c.copies_of-in-Union.result (MayRefuseCopies g.K.TryClone.may_refuse (union g.K.Ord.cmp v.left v.right))) c.union.ensures.sides (c.copies_of-in-Union.ensures.refused (union g.K.Ord.cmp w.left w.right) (lends_rest (λ v. union g.K.Ord.cmp v.left v.right) w)))
