@@ -20,3 +20,7 @@ mod neighbours;
 mod numbers;
 #[cfg(test)]
 mod queries;
+#[cfg(test)]
+mod refusals;
+#[cfg(test)]
+mod sorted;

@@ -1,5 +1,6 @@
 //! The map under refused memory, by keys of another order, and by keys and values that count their drops.
 pub(crate) mod entries;
+mod given;
 
 use crate::numbers::{Numbers, has_up_to, insert, is_lent, multiples};
 use fc_base::TryReserveError;
