@@ -1,5 +1,5 @@
 -- How a run goes on.
-use Rattle.std.proofs.Common.{◌≡◌, List, [], ◌∷◌, ◌++◌, refl}
+use Rattle.std.proofs.Common.{List, [], ◌∷◌, ◌++◌, refl}
 use Rattle.std.specs.declared.cmp.Ordering.{Ordering}
 use Rattle.fc_base.specs.declared.try_reserve_error.TryReserveError.{TryReserveError}
 use Rattle.fc_command.specs.declared.command.world.World.{World}
