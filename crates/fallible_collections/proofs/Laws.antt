@@ -4,3 +4,5 @@ pub use Rattle.fc_base.proofs.JoinedLaws.{halves_joined, placed_behind, joined_b
 pub use Rattle.fc_set.proofs.OperationLaws.{lengths, in_common, difference_at_least, difference_at_most, common_at_most, union_at_least, union_at_most, symmetric_at_most}
 pub use Rattle.fc_map.proofs.VisitLaws.{visits_map, visited_whole}
 pub use Rattle.fallible_collections.proofs.NeighbourLaws.{within_from, within_after, within_to, within_before, not_below_query, above_query, not_above_query, below_query, exact_pair, first_there, first_passes, first_least, first_none, last_there, last_passes, last_greatest, last_none, below_cut, above_cut, not_below_cut, not_above_cut, below_put, above_put, not_below_put, not_above_put, first_put, last_put}
+pub use Rattle.fallible_collections.proofs.JoinedLaws.{at_joined, value_at_joined, at_joined_query, value_at_joined_query, same_pairs, joined_is}
+pub use Rattle.fallible_collections.proofs.SetLaws.{item_at_joined, item_at_joined_query, ascending_joined_items, same_items, joined_items_is, item_at_union, item_at_difference, item_at_symmetric}

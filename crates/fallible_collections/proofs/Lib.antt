@@ -1,2 +1,4 @@
+pub mod JoinedLaws
 pub mod Laws
 pub mod NeighbourLaws
+pub mod SetLaws

@@ -10,9 +10,9 @@ pub use Rattle.fc_base.specs.Joined.{placed, joined}
 pub use Rattle.fc_base.specs.Halves.{not_below}
 pub use Rattle.fc_search.specs.Neighbours.{not_above, first_item, last_item}
 pub use Rattle.fc_base.specs.Extended.{extended, IsExtendedUpTo}
-pub use Rattle.fc_base.specs.Copies.{IsExact, SameContents}
+pub use Rattle.fc_base.specs.Copies.{IsExact, SameContents, MayRefuseCopies, MayRefusePair}
 pub use Rattle.fc_base.specs.Boxed.{boxed_value}
-pub use Rattle.fc_copy.specs.Copy.{AreSame, HasSureCopy}
+pub use Rattle.fc_copy.specs.Copy.{AreSame}
 -- the items of an iterator
 pub use Rattle.fc_vec.specs.Items.{GivesAll, GivesFirst}
 -- vectors, and reading into them

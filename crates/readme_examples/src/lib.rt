@@ -6,6 +6,7 @@ ghost use Rattle.std.specs.Iterator.{IsFiniteIterable};
 ghost use Rattle.fallible_collections.specs.Words.{at, entries, extended, front, hashed_value_at, put, text_order, GivesAll};
 
 pub mod boxes;
+pub mod joins;
 pub mod neighbours;
 pub mod orders;
 pub mod rollback;
