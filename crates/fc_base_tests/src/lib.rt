@@ -8,6 +8,8 @@ mod contents;
 #[cfg(test)]
 mod count;
 #[cfg(test)]
+mod errors;
+#[cfg(test)]
 mod rc;
 #[cfg(test)]
 mod tokens;

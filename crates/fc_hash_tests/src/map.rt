@@ -46,9 +46,29 @@ fn the_calls_on_one_key(rt: HostRuntime) -> Result<(), Fail> {
     assert!(rt; map.len() == 1);
     assert!(rt; map.remove(&1) == Some(11));
     assert!(rt; map.get(&1).is_none() && map.len() == 0);
-    let roomy: TryHashMap<u64, u64> = TryHashMap::with_capacity(rt.alloc(), 3)?;
-    assert!(rt; roomy.len() == 0);
     Ok(())
+}
+
+// Room for three: three insertions are Ok, and so is another value at each of their keys, whatever room is left. The sweep refuses the requests in turn.
+#[test]
+fn room_is_for_so_many_insertions(rt: HostRuntime) {
+    let Ok(mut map) = TryHashMap::with_capacity(rt.alloc(), 3) else {
+        return;
+    };
+    for key in 0..3u64 {
+        assert!(rt; matches!(map.insert(key, 1u64), Ok(None)));
+    }
+    for key in 0..3u64 {
+        assert!(rt; matches!(map.insert(key, 2), Ok(Some(1))));
+    }
+    assert!(rt; map.len() == 3);
+}
+
+// No request is made: the sweep counts them.
+#[test]
+fn a_new_map_takes_no_memory(rt: HostRuntime) {
+    let mut map: TryHashMap<u64, u64> = TryHashMap::default(rt.alloc());
+    assert!(rt; map.len() == 0 && map.get(&1).is_none() && map.remove(&1).is_none());
 }
 
 #[test]

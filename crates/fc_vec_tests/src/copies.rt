@@ -1,4 +1,4 @@
-//! Elements whose copies are refused at a given place, by an error that no request for memory answers.
+//! Elements whose copies are refused at a given place, by either error: it comes out as it went in, and not as the other one.
 ghost use Rattle.std.specs.Prelude.{◌≡◌};
 
 use fc_base::{TryClone, TryReserveError};
@@ -6,33 +6,44 @@ use fc_vec::{FallibleVec, TryVec, try_from_elem};
 use std::alloc::{AllocError, Global};
 use std::cell::Cell;
 
-// A number of which as many copies are made as the cell says.
+// How many copies can be made, and by which error the next one is refused.
+#[derive(Drop)]
+struct Supply {
+    left: Cell<u64>,
+    error: TryReserveError,
+}
+
+// A number of which as many copies are made as the supply has.
 #[derive(Drop)]
 struct Scarce<'a> {
     number: u64,
-    copies_left: &'a Cell<u64>,
+    supply: &'a Supply,
 }
 
 impl TryClone for Scarce<'_> {
     ghost same = { λ source copy. copy.number ≡ source.number };
 
     fn try_clone(&self) -> Result<Self, TryReserveError> {
-        let left = self.copies_left.get();
+        let left = self.supply.left.get();
         if left == 0 {
-            return Err(TryReserveError::CapacityOverflow);
+            return Err(self.supply.error);
         }
-        self.copies_left.set(left - 1);
+        self.supply.left.set(left - 1);
         Ok(Scarce {
             number: self.number,
-            copies_left: self.copies_left,
+            supply: self.supply,
         })
     }
 }
 
-fn scarce_number<'a>(number: u64, copies_left: &'a Cell<u64>) -> Scarce<'a> {
-    Scarce {
-        number,
-        copies_left,
+fn scarce_number<'a>(number: u64, supply: &'a Supply) -> Scarce<'a> {
+    Scarce { number, supply }
+}
+
+fn supply_of(left: u64, error: TryReserveError) -> Supply {
+    Supply {
+        left: Cell::new(left),
+        error,
     }
 }
 
@@ -40,11 +51,11 @@ fn scarce_number<'a>(number: u64, copies_left: &'a Cell<u64>) -> Scarce<'a> {
 fn scarce_up_to<'a>(
     alloc: Global,
     last: u64,
-    copies_left: &'a Cell<u64>,
+    supply: &'a Supply,
 ) -> Result<Vec<Scarce<'a>>, AllocError> {
     let mut made = Vec::new(alloc);
     for before in 0..last {
-        made.push(scarce_number(before.wrapping_add(1), copies_left))?;
+        made.push(scarce_number(before.wrapping_add(1), supply))?;
     }
     Ok(made)
 }
@@ -61,12 +72,19 @@ fn are(items: &[Scarce], expected: &[u64]) -> bool {
     true
 }
 
-// Whether the answer is Ok where the copies were to be had, and else the copy's own refusal.
-fn is_as_given(answer: &Result<(), TryReserveError>, is_enough: bool) -> bool {
-    if is_enough {
-        answer.is_ok()
-    } else {
-        matches!(answer, Err(TryReserveError::CapacityOverflow))
+// The error of an answer; there is none where it is Ok.
+fn error_of<T: Drop>(answer: Result<T, TryReserveError>) -> Option<TryReserveError> {
+    match answer {
+        Ok(_made) => None,
+        Err(error) => Some(error),
+    }
+}
+
+// Whether there is no error where the copies were to be had, and else the copy's own.
+fn is_as_given(error: Option<TryReserveError>, is_enough: bool, own: TryReserveError) -> bool {
+    match error {
+        None => is_enough,
+        Some(error) => !is_enough && error == own,
     }
 }
 
@@ -98,105 +116,149 @@ fn repeated<'a>(
     try_from_elem(alloc, value, count)
 }
 
+const OVERFLOW: TryReserveError = TryReserveError::CapacityOverflow;
+
+const NO_MEMORY: TryReserveError = TryReserveError::AllocError;
+
 const AFTER_EXTENSION: [&[u64]; 3] = [&[1, 2], &[1, 2, 1], &[1, 2, 1, 2]];
 
-fn is_extended(alloc: Global, given: u64, after: &[u64]) -> bool {
-    let copies_left = Cell::new(given);
-    let Ok(mut v) = scarce_up_to(alloc, 2, &copies_left) else {
+fn is_extended(alloc: Global, given: u64, own: TryReserveError, after: &[u64]) -> bool {
+    let supply = supply_of(given, own);
+    let Ok(mut v) = scarce_up_to(alloc, 2, &supply) else {
         return false;
     };
-    let Ok(sources) = scarce_up_to(alloc, 2, &copies_left) else {
+    let Ok(sources) = scarce_up_to(alloc, 2, &supply) else {
         return false;
     };
-    let answer = extended(&mut v, &sources);
-    is_as_given(&answer, given == 2) && are(&v, after)
+    let error = error_of(extended(&mut v, &sources));
+    is_as_given(error, given == 2, own) && are(&v, after)
 }
 
 #[test]
 fn an_extension_keeps_the_copies_before_the_refused_one(rt: HostRuntime) {
     for given in 0..3u64 {
-        assert!(rt; is_extended(rt.alloc(), given, AFTER_EXTENSION[given as usize]));
+        let after = AFTER_EXTENSION[given as usize];
+        assert!(rt; is_extended(rt.alloc(), given, OVERFLOW, after));
+        assert!(rt; is_extended(rt.alloc(), given, NO_MEMORY, after));
     }
 }
 
-fn is_also_extended(alloc: Global, given: u64, after: &[u64]) -> bool {
-    let copies_left = Cell::new(given);
-    let Ok(items) = scarce_up_to(alloc, 2, &copies_left) else {
+fn is_also_extended(alloc: Global, given: u64, own: TryReserveError, after: &[u64]) -> bool {
+    let supply = supply_of(given, own);
+    let Ok(items) = scarce_up_to(alloc, 2, &supply) else {
         return false;
     };
     let mut v = TryVec::from(items);
-    let Ok(sources) = scarce_up_to(alloc, 2, &copies_left) else {
+    let Ok(sources) = scarce_up_to(alloc, 2, &supply) else {
         return false;
     };
-    let answer = also_extended(&mut v, &sources);
-    is_as_given(&answer, given == 2) && are(v.as_slice(), after) && copies_left.get() == 0
+    let error = error_of(also_extended(&mut v, &sources));
+    is_as_given(error, given == 2, own) && are(v.as_slice(), after) && supply.left.get() == 0
 }
 
 // The same by the call of `TryVec`, whose error is the copy's too.
 #[test]
 fn the_other_extension_keeps_them_too(rt: HostRuntime) {
     for given in 0..3u64 {
-        assert!(rt; is_also_extended(rt.alloc(), given, AFTER_EXTENSION[given as usize]));
+        let after = AFTER_EXTENSION[given as usize];
+        assert!(rt; is_also_extended(rt.alloc(), given, OVERFLOW, after));
+        assert!(rt; is_also_extended(rt.alloc(), given, NO_MEMORY, after));
     }
 }
 
 const AFTER_RESIZE: [&[u64]; 3] = [&[1, 2], &[1, 2, 9], &[1, 2, 9, 9, 9]];
 
-// A vector of two that is resized takes so many copies.
-fn is_resized(alloc: Global, given: u64, needed: u64, after: &[u64]) -> bool {
-    let copies_left = Cell::new(given);
-    let Ok(mut v) = scarce_up_to(alloc, 2, &copies_left) else {
+// A vector of two that is resized to five: the last place gets the value itself.
+fn is_resized(alloc: Global, given: u64, own: TryReserveError, after: &[u64]) -> bool {
+    let supply = supply_of(given, own);
+    let Ok(mut v) = scarce_up_to(alloc, 2, &supply) else {
         return false;
     };
-    let answer = resized(
-        &mut v,
-        (needed as usize).saturating_add(3),
-        scarce_number(9, &copies_left),
-    );
-    is_as_given(&answer, given == needed) && are(&v, after)
+    let error = error_of(resized(&mut v, 5, scarce_number(9, &supply)));
+    is_as_given(error, given == 2, own) && are(&v, after)
 }
 
-// Three more items take two copies: the last place gets the value itself.
+// A body that takes the copies out again leaves no 9 behind the two.
 #[test]
 fn a_resize_keeps_the_copies_before_the_refused_one(rt: HostRuntime) {
     for given in 0..3u64 {
-        assert!(rt; is_resized(rt.alloc(), given, 2, AFTER_RESIZE[given as usize]));
+        let after = AFTER_RESIZE[given as usize];
+        assert!(rt; is_resized(rt.alloc(), given, OVERFLOW, after));
+        assert!(rt; is_resized(rt.alloc(), given, NO_MEMORY, after));
     }
 }
 
-fn is_repeated_once(alloc: Global) -> bool {
-    let copies_left = Cell::new(0);
-    match repeated(alloc, scarce_number(8, &copies_left), 1) {
-        Ok(made) => are(&made, &[8]),
+// One item more takes no copy.
+fn are_put_in_themselves(alloc: Global) -> bool {
+    let supply = supply_of(0, OVERFLOW);
+    let Ok(mut v) = scarce_up_to(alloc, 2, &supply) else {
+        return false;
+    };
+    let is_done = resized(&mut v, 3, scarce_number(9, &supply)).is_ok();
+    match repeated(alloc, scarce_number(8, &supply), 1) {
+        Ok(made) => is_done && are(&v, &[1, 2, 9]) && are(&made, &[8]),
         Err(_refused) => false,
     }
 }
 
 #[test]
 fn one_element_more_takes_no_copy(rt: HostRuntime) {
-    assert!(rt; is_resized(rt.alloc(), 0, 0, &[1, 2, 9]) && is_repeated_once(rt.alloc()));
+    assert!(rt; are_put_in_themselves(rt.alloc()));
 }
 
-fn is_copy_refused(answer: &Result<TryVec<Scarce>, TryReserveError>) -> bool {
-    matches!(answer, Err(TryReserveError::CapacityOverflow))
+// Two parts of two numbers each.
+fn parts<'a>(
+    alloc: Global,
+    supply: &'a Supply,
+) -> Result<TryVec<TryVec<Scarce<'a>>>, TryReserveError> {
+    let mut made = TryVec::new(alloc);
+    for _ in 0..2u64 {
+        made.push(TryVec::from(scarce_up_to(alloc, 2, supply)?))?;
+    }
+    Ok(made)
 }
 
-fn is_slice_refused(alloc: Global, sources: &[Scarce]) -> bool {
-    is_copy_refused(&TryVec::try_from_slice(alloc, sources))
+fn joined<'a>(parts: &TryVec<TryVec<Scarce<'a>>>) -> Result<TryVec<Scarce<'a>>, TryReserveError> {
+    parts.concat()
 }
 
-fn is_clone_refused(source: &TryVec<Scarce>) -> bool {
-    is_copy_refused(&source.try_clone())
+fn copied<'a>(
+    parts: &TryVec<TryVec<Scarce<'a>>>,
+) -> Result<TryVec<TryVec<Scarce<'a>>>, TryReserveError> {
+    parts.try_clone()
+}
+
+fn sliced<'a>(
+    alloc: Global,
+    parts: &[TryVec<Scarce<'a>>],
+) -> Result<TryVec<TryVec<Scarce<'a>>>, TryReserveError> {
+    TryVec::try_from_slice(alloc, parts)
+}
+
+// By each call that makes copies of the four numbers: with one copy too few, and with enough.
+fn are_passed_on(alloc: Global, given: u64, own: TryReserveError) -> bool {
+    let supply = supply_of(given, own);
+    let Ok(parts) = parts(alloc, &supply) else {
+        return false;
+    };
+    let by_concat = error_of(joined(&parts));
+    supply.left.set(given);
+    let by_clone = error_of(copied(&parts));
+    supply.left.set(given);
+    let by_slice = error_of(sliced(alloc, parts.as_slice()));
+    supply.left.set(given);
+    let by_element = error_of(repeated(alloc, scarce_number(8, &supply), 5));
+    let is_enough = given == 4;
+    is_as_given(by_concat, is_enough, own)
+        && is_as_given(by_clone, is_enough, own)
+        && is_as_given(by_slice, is_enough, own)
+        && is_as_given(by_element, is_enough, own)
 }
 
 #[test]
 fn a_refused_copy_is_passed_on(rt: HostRuntime) {
-    let copies_left = Cell::new(1);
-    let Ok(sources) = scarce_up_to(rt.alloc(), 2, &copies_left) else {
-        assert!(rt; false);
-        return;
-    };
-    let is_slice_passed_on = is_slice_refused(rt.alloc(), &sources) && copies_left.get() == 0;
-    copies_left.set(1);
-    assert!(rt; is_slice_passed_on && is_clone_refused(&TryVec::from(sources)));
+    for given in 3..5u64 {
+        assert!(rt; are_passed_on(rt.alloc(), given, OVERFLOW));
+        assert!(rt; are_passed_on(rt.alloc(), given, NO_MEMORY));
+    }
 }

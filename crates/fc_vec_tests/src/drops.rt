@@ -3,7 +3,7 @@ ghost use Rattle.std.specs.Prelude.{⊤};
 
 use crate::calls::holds;
 use fc_base::{TryClone, TryReserveError};
-use fc_vec::{FallibleVec, TryVec, try_from_elem};
+use fc_vec::{FallibleVec, TryCollect, TryVec, try_from_elem};
 use std::alloc::Global;
 use std::cell::Cell;
 use std::test::Fail;
@@ -163,19 +163,53 @@ fn a_copy_is_dropped_once(rt: HostRuntime) {
     }
 }
 
-fn cut_without_copy<'a>(v: &mut Vec<Copied<'a>>, value: Copied<'a>) -> bool {
-    v.try_resize_no_copy(0, value).is_ok()
+fn resized_to<'a>(v: &mut Vec<Copied<'a>>, length: usize, value: Copied<'a>) -> bool {
+    v.try_resize_no_copy(length, value).is_ok()
 }
 
-// The value of a resize to no greater length is dropped with what it cuts off.
+// The value of a resize is dropped where the room is refused, and where the length is no greater, with what is cut off; so is an element that is
+// repeated no time.
 #[test]
-fn a_value_that_is_not_copied_is_dropped(rt: HostRuntime) -> Result<(), Fail> {
+fn a_value_that_is_not_put_in_is_dropped(rt: HostRuntime) -> Result<(), Fail> {
     let drops = Cell::new(0);
     let copies_left = Cell::new(0);
     let mut one = repeated(rt.alloc(), token_with_copies(&drops, &copies_left), 1)?;
-    let is_cut = cut_without_copy(&mut one, token_with_copies(&drops, &copies_left));
-    assert!(rt; is_cut && one.is_empty() && drops.get() == 2);
+    let is_too_long = resized_to(
+        &mut one,
+        usize::MAX,
+        token_with_copies(&drops, &copies_left),
+    );
+    let after_refusal = drops.get();
+    let is_cut = resized_to(&mut one, 0, token_with_copies(&drops, &copies_left));
+    let after_cut = drops.get();
+    let none = repeated(rt.alloc(), token_with_copies(&drops, &copies_left), 0)?;
+    assert!(rt; !is_too_long && is_cut && one.is_empty() && none.is_empty());
+    assert!(rt; holds(&[after_refusal, after_cut, drops.get()], &[1, 3, 4]));
     Ok(())
+}
+
+fn collected<'a>(
+    items: TryVec<Token<'a>>,
+    alloc: Global,
+) -> Result<Vec<Token<'a>>, TryReserveError> {
+    TryCollect::try_collect(items, alloc)
+}
+
+// The sweep refuses the requests in turn: the items that were put in are dropped then, the one that found no room, and those that were still to come.
+#[test]
+fn each_collected_item_is_dropped_once(rt: HostRuntime) {
+    let drops = Cell::new(0);
+    let Ok(items) = three(rt.alloc(), &drops) else {
+        return;
+    };
+    let answer = collected(items, rt.alloc());
+    let length = match &answer {
+        Ok(made) => made.len(),
+        Err(_refused) => 0,
+    };
+    let dropped = drops.get();
+    drop(answer);
+    assert!(rt; (length as u64).wrapping_add(dropped) == 3 && drops.get() == 3);
 }
 
 fn pushed<'a>(v: &mut Vec<Token<'a>>, drops: &'a Cell<u64>) -> bool {

@@ -15,6 +15,8 @@ mod printing;
 #[cfg(test)]
 mod refusals;
 #[cfg(test)]
+mod requests;
+#[cfg(test)]
 mod try_vec;
 #[cfg(test)]
 mod vectors;
