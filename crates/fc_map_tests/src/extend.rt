@@ -1,6 +1,7 @@
 //! Maps that are extended by the items of an iterator, or made of them, where memory is refused.
 use crate::map::{
-    Drops, Tracked, TrackedKey, TrackedValue, fresh_drops, were_all_dropped, were_dropped,
+    Drops, Tracked, TrackedKey, TrackedValue, fresh_drops, has_memory, take_all_memory,
+    were_all_dropped, were_dropped,
 };
 use crate::numbers::{Numbers, has, multiples};
 use fc_base::TryReserveError;
@@ -8,6 +9,7 @@ use fc_map::map::BTreeMap;
 use fc_vec::TryFromIterator;
 use std::alloc::{AllocError, Global};
 use std::cell::Cell;
+use std::test::Fail;
 
 // The numbers below `count`, each with itself: from 0 on, always so many on, and round.
 fn pairs(alloc: Global, count: u64, step: u64) -> Result<Vec<(u64, u64)>, AllocError> {
@@ -158,4 +160,31 @@ fn each_item_of_a_made_map_is_dropped_once(rt: HostRuntime) {
         assert!(rt; is_made(&tracked_map(rt.alloc(), items), &drops, &sought));
     }
     assert!(rt; were_all_dropped(&drops, 1));
+}
+
+// Whether the map has the numbers below eleven, each with itself, and nothing else.
+fn has_eleven(map: &Numbers) -> bool {
+    for number in 0..11u64 {
+        if !has(map, number, number) {
+            return false;
+        }
+    }
+    map.len() == 11
+}
+
+// There is memory for one leaf alone: that of a map that was dropped. The clause allows an empty map too, where a first item may be
+// refused. A run that gets its memory from elsewhere, as one without proof does, would show nothing, and fails.
+#[test]
+fn a_refused_extension_of_an_empty_map_keeps_a_leaf(rt: HostRuntime) -> Result<(), Fail> {
+    let spare = multiples(rt.alloc(), 0, 1, 1)?;
+    let items = pairs(rt.alloc(), 30, 1)?;
+    let mut map = BTreeMap::new(rt.alloc());
+    let held = take_all_memory(rt.alloc())?;
+    let has_none = !has_memory(rt.alloc());
+    drop(spare);
+    let done = extend(&mut map, items);
+    drop(held);
+    assert!(rt; has_none && matches!(done, Err(TryReserveError::AllocError)));
+    assert!(rt; has_eleven(&map));
+    Ok(())
 }
