@@ -170,34 +170,54 @@ fn split_leaf<V: Drop>(
     node.split_leaf(place, pair, right, &mut Count::new())
 }
 
+fn are_halves(
+    left: &Node<u64, u64>,
+    up: &(u64, u64),
+    right: &Node<u64, u64>,
+    place: usize,
+) -> bool {
+    let (left_keys, middle, right_keys) = halves(place);
+    is_tenfold(up, middle) && shows(left, left_keys) && shows(right, right_keys)
+}
+
+fn are_children_of_halves(left: &Node<u64, u64>, right: &Node<u64, u64>, place: usize) -> bool {
+    let (left_children, right_children) = children(place);
+    children_show(left, left_children) && children_show(right, right_children)
+}
+
+// Whether the split of a full leaf leaves its halves.
+fn is_leaf_split(rt: &impl Abort, alloc: Global, place: usize) -> Result<bool, Fail> {
+    let mut node = leaf(rt, alloc, &FULL)?;
+    let right = Node::try_leaf(alloc)?;
+    let key = (place as u64).wrapping_mul(10).wrapping_add(5);
+    let (up, right) = split_leaf(rt, &mut node, place, (key, key.wrapping_mul(10)), right);
+    Ok(node.is_leaf() && right.is_leaf() && are_halves(&node, &up, &right, place))
+}
+
 #[test]
 fn splits_a_leaf_at_each_place(rt: HostRuntime) -> Result<(), Fail> {
     for place in 0..12usize {
-        let mut node = leaf(&rt, rt.alloc(), &FULL)?;
-        let right = Node::try_leaf(rt.alloc())?;
-        let key = 10 * place as u64 + 5;
-        let (up, right) = split_leaf(&rt, &mut node, place, (key, 10 * key), right);
-        let (left_keys, middle, right_keys) = halves(place);
-        assert!(&rt; is_tenfold(&up, middle) && node.is_leaf() && right.is_leaf());
-        assert!(&rt; shows(&node, left_keys) && shows(&right, right_keys));
+        assert!(&rt; is_leaf_split(&rt, rt.alloc(), place)?);
     }
     Ok(())
+}
+
+// The same of a full inner node.
+fn is_inner_split(rt: &impl Abort, alloc: Global, place: usize) -> Result<bool, Fail> {
+    let mut node = inner(rt, alloc, &FULL, &BELOW)?;
+    let right = Node::try_inner(alloc)?;
+    let key = (place as u64).wrapping_mul(10).wrapping_add(5);
+    let child = leaf(rt, alloc, &[key.wrapping_add(1)])?;
+    assert!(rt; place < 12 && node.child_count() == 12 && node.len() == 11);
+    let pair = (key, key.wrapping_mul(10));
+    let (up, right) = node.split_inner(place, pair, child, right, &mut Count::new());
+    Ok(are_halves(&node, &up, &right, place) && are_children_of_halves(&node, &right, place))
 }
 
 #[test]
 fn splits_an_inner_node_at_each_place(rt: HostRuntime) -> Result<(), Fail> {
     for place in 0..12usize {
-        let mut node = inner(&rt, rt.alloc(), &FULL, &BELOW)?;
-        let right = Node::try_inner(rt.alloc())?;
-        let key = 10 * place as u64 + 5;
-        let child = leaf(&rt, rt.alloc(), &[key + 1])?;
-        assert!(&rt; node.child_count() == 12 && node.len() == 11);
-        let (up, right) = node.split_inner(place, (key, 10 * key), child, right, &mut Count::new());
-        let (left_keys, middle, right_keys) = halves(place);
-        let (left_children, right_children) = children(place);
-        assert!(&rt; is_tenfold(&up, middle));
-        assert!(&rt; shows(&node, left_keys) && children_show(&node, left_children));
-        assert!(&rt; shows(&right, right_keys) && children_show(&right, right_children));
+        assert!(&rt; is_inner_split(&rt, rt.alloc(), place)?);
     }
     Ok(())
 }
@@ -440,15 +460,20 @@ fn child_shows(node: &Node<u64, u64>, index: usize, keys: &[u64], below: &[u64])
         && children_show(node.child(index), below)
 }
 
+fn grandchildren_show(node: &Node<u64, u64>, row: &Grandchildren) -> bool {
+    shows(node, row.keys)
+        && node.child_count() == row.keys.len() + 1
+        && child_shows(node, 0, row.first, row.below_first)
+        && (row.keys.is_empty() || child_shows(node, 1, row.second, row.below_second))
+}
+
 #[test]
 fn children_go_with_their_pairs(rt: HostRuntime) -> Result<(), Fail> {
     for number in 0..5usize {
         let mut node = three_levels(&rt, rt.alloc())?;
         let row = row_of_grandchildren(number);
         mend(&rt, &mut node, 0, row.call);
-        assert!(&rt; shows(&node, row.keys) && node.child_count() == row.keys.len() + 1);
-        assert!(&rt; child_shows(&node, 0, row.first, row.below_first));
-        assert!(&rt; number == 0 || child_shows(&node, 1, row.second, row.below_second));
+        assert!(&rt; grandchildren_show(&node, &row));
     }
     Ok(())
 }
@@ -460,19 +485,32 @@ fn move_behind_first<V: Drop>(rt: &impl Abort, node: &mut Node<u64, V>, other: &
     node.move_suffix(1, other, &mut Count::new());
 }
 
+fn are_leaves(node: &Node<u64, u64>, keys: &[u64], other: &Node<u64, u64>, moved: &[u64]) -> bool {
+    node.is_leaf() && other.is_leaf() && shows(node, keys) && shows(other, moved)
+}
+
+fn moves_between_leaves(rt: &impl Abort, alloc: Global) -> Result<bool, Fail> {
+    let mut node = leaf(rt, alloc, LOW)?;
+    let mut other = leaf(rt, alloc, &[5])?;
+    move_behind_first(rt, &mut node, &mut other);
+    Ok(are_leaves(&node, &[10], &other, &[5, 20, 30, 40]))
+}
+
+fn is_inner(node: &Node<u64, u64>, keys: &[u64], below: &[u64]) -> bool {
+    shows(node, keys) && children_show(node, below)
+}
+
+fn moves_between_inner_nodes(rt: &impl Abort, alloc: Global) -> Result<bool, Fail> {
+    let mut node = inner(rt, alloc, &[10, 20, 30], &[1, 11, 21, 31])?;
+    let mut other = inner(rt, alloc, &[], &[15])?;
+    move_behind_first(rt, &mut node, &mut other);
+    Ok(is_inner(&node, &[10], &[1, 11]) && is_inner(&other, &[20, 30], &[15, 21, 31]))
+}
+
 #[test]
 fn moves_what_stands_after_a_place(rt: HostRuntime) -> Result<(), Fail> {
-    let mut node = leaf(&rt, rt.alloc(), LOW)?;
-    let mut other = leaf(&rt, rt.alloc(), &[5])?;
-    move_behind_first(&rt, &mut node, &mut other);
-    assert!(&rt; shows(&node, &[10]) && shows(&other, &[5, 20, 30, 40]));
-    assert!(&rt; node.is_leaf() && other.is_leaf());
-
-    let mut node = inner(&rt, rt.alloc(), &[10, 20, 30], &[1, 11, 21, 31])?;
-    let mut other = inner(&rt, rt.alloc(), &[], &[15])?;
-    move_behind_first(&rt, &mut node, &mut other);
-    assert!(&rt; shows(&node, &[10]) && children_show(&node, &[1, 11]));
-    assert!(&rt; shows(&other, &[20, 30]) && children_show(&other, &[15, 21, 31]));
+    assert!(&rt; moves_between_leaves(&rt, rt.alloc())?);
+    assert!(&rt; moves_between_inner_nodes(&rt, rt.alloc())?);
     Ok(())
 }
 
@@ -523,13 +561,13 @@ fn a_split_drops_no_pair(rt: HostRuntime) -> Result<(), Fail> {
     let right = Node::try_leaf(rt.alloc())?;
     let pair = (11, Token { drops: &drops });
     let (up, right) = split_leaf(&rt, &mut node, 11, pair, right);
-    assert!(&rt; drops.get() == 0);
+    let of_none = drops.get();
     drop(up);
-    assert!(&rt; drops.get() == 1);
+    let of_middle = drops.get();
     drop(node);
-    assert!(&rt; drops.get() == 7);
+    let of_left = drops.get();
     drop(right);
-    assert!(&rt; drops.get() == 12);
+    assert!(&rt; of_none == 0 && of_middle == 1 && of_left == 7 && drops.get() == 12);
     Ok(())
 }
 
@@ -547,23 +585,26 @@ fn ten_pairs<'a>(
     Ok(node)
 }
 
+fn call_of(number: usize) -> Call {
+    match number {
+        0 => Call::Merge,
+        1 => Call::StealLeft,
+        2 => Call::StealRight,
+        3 => Call::BulkStealLeft(3),
+        _ => Call::BulkStealRight(3),
+    }
+}
+
 // The ten pairs are dropped with the node, and none before.
 #[test]
 fn a_merge_and_thefts_drop_no_pair(rt: HostRuntime) -> Result<(), Fail> {
     for number in 0..5usize {
         let drops = Cell::new(0);
         let mut node = ten_pairs(&rt, rt.alloc(), &drops)?;
-        let call = match number {
-            0 => Call::Merge,
-            1 => Call::StealLeft,
-            2 => Call::StealRight,
-            3 => Call::BulkStealLeft(3),
-            _ => Call::BulkStealRight(3),
-        };
-        mend(&rt, &mut node, 0, call);
-        assert!(&rt; drops.get() == 0);
+        mend(&rt, &mut node, 0, call_of(number));
+        let before = drops.get();
         drop(node);
-        assert!(&rt; drops.get() == 10);
+        assert!(&rt; before == 0 && drops.get() == 10);
     }
     Ok(())
 }
