@@ -47,6 +47,7 @@ fn joined(sets: &mut Sets<'_>, name: &str, out: &mut Out) {
             refused_copies(Operator::BitXor, sets, out);
             refused_copies(Operator::BitAnd, sets, out);
             refused_copies(Operator::BitOr, sets, out);
+            refused_copies(Operator::Copy, sets, out);
         }
         _ => compared(sets, name, out),
     }

@@ -9,6 +9,7 @@ pub(crate) enum Operator {
     BitXor,
     BitAnd,
     BitOr,
+    Copy,
 }
 
 fn made_by<'a>(
@@ -21,6 +22,7 @@ fn made_by<'a>(
         Operator::BitXor => ours.bitxor(theirs),
         Operator::BitAnd => ours.bitand(theirs),
         Operator::BitOr => ours.bitor(theirs),
+        Operator::Copy => ours.try_clone(),
     }
 }
 
@@ -35,7 +37,7 @@ pub(crate) fn made<'a>(ours: &Set<'a>, theirs: &Set<'a>, out: &mut Out) {
         out.word(name);
         match made_by(operator, ours, theirs) {
             Ok(set) => list(&set, out),
-            Err(_) => out.word("refused"),
+            Err(e) => out.refused(e),
         }
     }
 }
@@ -52,21 +54,42 @@ pub(crate) fn copy(sets: &mut Sets<'_>, out: &mut Out) {
     sets.keep(copy, out);
 }
 
-// Refuses the first copy of an item that the operator makes, then the second, and so on, until it makes its set. Answers how many copies that takes
-// where each refused call used up the copies that it was allowed, and left none of them.
+// Whether the operator is refused, by the error of an item's copy, when it may copy so many items: it copied these and left none of them.
+fn passes_on(operator: Operator, sets: &Sets<'_>, copies: u64, overflows: bool) -> bool {
+    let tally = sets.tally;
+    let before = tally.living.get();
+    tally.copies_left.set(copies);
+    tally.overflows.set(overflows);
+    let is_told = match made_by(operator, &sets.ours, &sets.theirs) {
+        Ok(_) => false,
+        Err(TryReserveError::CapacityOverflow) => overflows,
+        Err(TryReserveError::AllocError) => !overflows,
+    };
+    is_told && tally.copies_left.get() == 0 && tally.living.get() == before
+}
+
+// Whether the operator makes a set of so many copies.
+fn makes(operator: Operator, sets: &Sets<'_>, copies: u64) -> bool {
+    sets.tally.copies_left.set(copies);
+    match made_by(operator, &sets.ours, &sets.theirs) {
+        Ok(set) => set.len() as u64 == copies && sets.tally.copies_left.get() == 0,
+        Err(_) => false,
+    }
+}
+
+// Refuses the first copy of an item that the operator makes, then the second, and so on, by either error, until it makes its set. Answers how many
+// copies that takes.
 pub(crate) fn refused_copies(operator: Operator, sets: &Sets<'_>, out: &mut Out) {
-    let before = sets.tally.living.get();
+    let mut copies = 0;
     for allowed in 0..100u64 {
-        sets.tally.copies_left.set(allowed);
-        let len = made_by(operator, &sets.ours, &sets.theirs).map(|set| set.len() as u64);
-        if sets.tally.copies_left.get() != 0 || sets.tally.living.get() != before {
-            break;
-        }
-        if let Ok(len) = len {
-            out.is(len == allowed);
-            out.number(len);
+        copies = allowed;
+        if !(passes_on(operator, sets, allowed, false)
+            && passes_on(operator, sets, allowed, true))
+        {
             break;
         }
     }
+    out.is(makes(operator, sets, copies));
+    out.number(copies);
     sets.tally.copies_left.set(u64::MAX);
 }

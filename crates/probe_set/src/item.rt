@@ -10,12 +10,14 @@ use std::cell::Cell;
 use std::cmp::Ordering;
 use std::fmt::{self, Debug, Formatter};
 
-// How many comparisons there were, how many items live and how many copies of items may still be made; and how many were dropped by letter.
+// How many comparisons there were, how many items live, how many copies of items may still be made and whether the next one is refused as an overflow; and
+// how many items were dropped by letter.
 #[derive(Drop)]
 pub(crate) struct Tally {
     pub(crate) comparisons: Cell<u64>,
     pub(crate) living: Cell<u64>,
     pub(crate) copies_left: Cell<u64>,
+    pub(crate) overflows: Cell<bool>,
     pub(crate) plain_drops: Cell<u64>,
     pub(crate) x_drops: Cell<u64>,
     pub(crate) y_drops: Cell<u64>,
@@ -28,6 +30,7 @@ impl Tally {
             comparisons: Cell::new(0),
             living: Cell::new(0),
             copies_left: Cell::new(u64::MAX),
+            overflows: Cell::new(false),
             plain_drops: Cell::new(0),
             x_drops: Cell::new(0),
             y_drops: Cell::new(0),
@@ -41,6 +44,15 @@ impl Tally {
         self.x_drops.set(0);
         self.y_drops.set(0);
         self.z_drops.set(0);
+    }
+
+    // By which error a copy of an item is refused.
+    fn refusal(&self) -> TryReserveError {
+        if self.overflows.get() {
+            TryReserveError::CapacityOverflow
+        } else {
+            TryReserveError::AllocError
+        }
     }
 
     fn drops_of(&self, letter: &str) -> &Cell<u64> {
@@ -96,7 +108,7 @@ impl TryClone for Item<'_> {
     fn try_clone(&self) -> Result<Self, TryReserveError> {
         let left = self.tally.copies_left.get();
         if left == 0 {
-            return Err(TryReserveError::CapacityOverflow);
+            return Err(self.tally.refusal());
         }
         self.tally.copies_left.set(left - 1);
         Ok(Item::new(self.number, self.letter, self.tally))

@@ -2,21 +2,27 @@
 use crate::item::Item;
 use crate::out::Out;
 use crate::sets::{Numbers, Sets, numbers_in};
+use crate::{many, near};
 use fc_base::{Count, TryReserveError};
 use fc_set::set::BTreeSet;
 
 // Answers for one word of a row: numbers, or an item.
 pub(crate) fn one_word<'a>(sets: &mut Sets<'a>, name: &str, word: &str, out: &mut Out) {
-    if let Some(numbers) = numbers_in(word) {
+    if name == "extend" || name == "made" {
+        many::give(sets, name, word, out);
+    } else if let Some(numbers) = numbers_in(word) {
         match name {
             "fill" => fill(sets, numbers, out),
             "fill_down" => fill_down(sets, numbers, out),
             "take_ends" => take_ends(sets, numbers, out),
             "is_just" => out.is(is_just(sets, numbers)),
+            "neighbours" => near::count(sets, numbers, out),
             _ => out.word("?"),
         }
     } else if let Some(item) = sets.item(word) {
-        if !look(sets, name, &item, out) {
+        if name == "neighbours" {
+            near::show(&sets.ours, &item, out);
+        } else if !look(sets, name, &item, out) {
             take_out(sets, name, item, out);
         }
     } else {
@@ -24,12 +30,16 @@ pub(crate) fn one_word<'a>(sets: &mut Sets<'a>, name: &str, word: &str, out: &mu
     }
 }
 
+// Puts in each, as far as memory goes.
 fn fill<'a>(sets: &mut Sets<'a>, numbers: Numbers, out: &mut Out) {
     let mut new = 0u64;
     for number in numbers.first..numbers.end {
         if numbers.step != 0 && (number - numbers.first) % numbers.step == 0 {
             let item = Item::new(number, numbers.letter, sets.tally);
-            new = new.wrapping_add(u64::from(is_new(sets.ours.try_insert(item))));
+            match sets.ours.try_insert(item) {
+                Ok(is_new) => new = new.wrapping_add(u64::from(is_new)),
+                Err(e) => return out.stopped(e),
+            }
         }
     }
     out.number(new);
@@ -151,6 +161,6 @@ fn replaced<'a>(
 ) {
     match answer {
         Ok(old) => sets.hold(old, out),
-        Err(_) => out.word("refused"),
+        Err(e) => out.refused(e),
     }
 }

@@ -4,24 +4,36 @@ use fc_base::TryReserveError;
 use std::alloc::{AllocError, Global};
 use std::fmt::Debug;
 
-// An answer in the making. Where there is no memory for a word, the answer tells so in place of all.
+// The room for an answer, in bytes, which is taken once.
+const ROOM: usize = 8192;
+
+// An answer in the making. Where there is no room for a word, the answer tells so in place of all.
 #[derive(Drop)]
 pub(crate) struct Out {
     text: String,
     failed: bool,
+    // Whether a call was refused, after which both sets have to be as they were.
+    pub(crate) is_refused: bool,
 }
 
 impl Out {
-    pub(crate) fn new(alloc: Global) -> Out {
-        Out {
-            text: String::new(alloc),
+    pub(crate) fn with_room(alloc: Global) -> Result<Out, AllocError> {
+        Ok(Out {
+            text: String::with_capacity(alloc, ROOM)?,
             failed: false,
-        }
+            is_refused: false,
+        })
+    }
+
+    pub(crate) fn clear(&mut self) {
+        self.text.clear();
+        self.failed = false;
+        self.is_refused = false;
     }
 
     pub(crate) fn text(&self) -> &str {
         if self.failed {
-            " out of memory"
+            " no room"
         } else {
             self.text.as_str()
         }
@@ -79,12 +91,28 @@ impl Out {
     pub(crate) fn inserted(&mut self, answer: Result<bool, TryReserveError>) {
         match answer {
             Ok(new) => self.is(new),
-            Err(_) => self.word("refused"),
+            Err(e) => self.refused(e),
         }
     }
 
     pub(crate) fn done(&mut self, answer: Result<(), TryReserveError>) {
-        self.word(if answer.is_ok() { "done" } else { "refused" });
+        match answer {
+            Ok(()) => self.word("done"),
+            Err(e) => self.refused(e),
+        }
+    }
+
+    pub(crate) fn refused(&mut self, error: TryReserveError) {
+        self.is_refused = true;
+        self.stopped(error);
+    }
+
+    // A refusal that leaves what was done before it.
+    pub(crate) fn stopped(&mut self, error: TryReserveError) {
+        self.word(match error {
+            TryReserveError::AllocError => "refused",
+            TryReserveError::CapacityOverflow => "overflow",
+        });
     }
 
     // What a length is told to be: at least so many, and at most so many if that is known.

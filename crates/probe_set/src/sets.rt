@@ -35,7 +35,7 @@ impl<'a> Sets<'a> {
                 drop(mem::replace(&mut self.theirs, set));
                 out.word("done");
             }
-            Err(_) => out.word("refused"),
+            Err(e) => out.refused(e),
         }
     }
 
@@ -49,12 +49,37 @@ impl<'a> Sets<'a> {
         self.held = None;
     }
 
+    // A number that tells what both sets have, in order.
+    pub(crate) fn digest(&self) -> u64 {
+        digest(&self.ours, digest(&self.theirs, 1))
+    }
+
+    // Whether just those items live that are in the sets or held.
+    pub(crate) fn are_all_living(&self) -> bool {
+        let in_sets = (self.ours.len() as u64).wrapping_add(self.theirs.len() as u64);
+        self.tally.living.get() == in_sets.wrapping_add(u64::from(self.held.is_some()))
+    }
+
     // The item that a word like `12` or `12x` names.
     pub(crate) fn item(&self, word: &str) -> Option<Item<'a>> {
         let letter = letter_of(word);
         let number = word.strip_suffix(letter)?.parse::<u64>().ok()?;
         Some(Item::new(number, letter, self.tally))
     }
+}
+
+fn digest(set: &Set<'_>, from: u64) -> u64 {
+    let mut digest = from;
+    for item in set {
+        let told = item
+            .number
+            .wrapping_mul(2)
+            .wrapping_add(item.letter.len() as u64);
+        digest = digest.wrapping_add(told).wrapping_mul(1_000_003);
+    }
+    digest
+        .wrapping_add(set.len() as u64)
+        .wrapping_mul(1_000_003)
 }
 
 fn letter_of(word: &str) -> &'static str {

@@ -139,14 +139,13 @@ fn within(sets: &Sets<'_>, bounds: &str, steps: &str, out: &mut Out) {
     let Some((from, to)) = bounds.split_once("..") else {
         return out.word("?");
     };
-    let lo_item = from.get(1..).and_then(|word| sets.item(word));
+    let lo_item = bound_in(sets, from.strip_prefix('[').or(from.strip_prefix('(')));
     let lo = match &lo_item {
         Some(item) if from.starts_with('[') => Bound::Included(item),
         Some(item) => Bound::Excluded(item),
         None => Bound::Unbounded,
     };
-    let word = to.strip_suffix(']').or(to.strip_suffix(')'));
-    let hi_item = word.and_then(|word| sets.item(word));
+    let hi_item = bound_in(sets, to.strip_suffix(']').or(to.strip_suffix(')')));
     let hi = match &hi_item {
         Some(item) if to.ends_with(']') => Bound::Included(item),
         Some(item) => Bound::Excluded(item),
@@ -157,4 +156,9 @@ fn within(sets: &Sets<'_>, bounds: &str, steps: &str, out: &mut Out) {
     } else {
         out.word("no range");
     }
+}
+
+// The item of a bound, if it has one.
+fn bound_in<'a>(sets: &Sets<'a>, word: Option<&str>) -> Option<Item<'a>> {
+    sets.item(word?)
 }

@@ -1,0 +1,48 @@
+//! Items that are given to a call together.
+use crate::item::Item;
+use crate::out::Out;
+use crate::sets::{Numbers, Sets, numbers_in};
+use fc_set::set::BTreeSet;
+use fc_vec::TryFromIterator;
+use std::alloc::AllocError;
+
+// Extends our set by the numbers of the word, which are its digits where it names no range; or makes a set of them in the place of theirs.
+pub(crate) fn give<'a>(sets: &mut Sets<'a>, name: &str, word: &str, out: &mut Out) {
+    let Ok(items) = items_in(sets, word) else {
+        return out.word("refused");
+    };
+    if name == "made" {
+        let made = BTreeSet::try_from_iterator(sets.alloc, items);
+        sets.keep(made, out);
+    } else if let Err(e) = sets.ours.try_extend(items) {
+        out.stopped(e);
+        out.word("at");
+        out.number(sets.ours.len() as u64);
+    } else {
+        out.word("done");
+    }
+}
+
+fn items_in<'a>(sets: &Sets<'a>, word: &str) -> Result<Vec<Item<'a>>, AllocError> {
+    match numbers_in(word) {
+        Some(numbers) => in_range(sets, numbers),
+        None => in_digits(sets, word),
+    }
+}
+
+fn in_range<'a>(sets: &Sets<'a>, numbers: Numbers) -> Result<Vec<Item<'a>>, AllocError> {
+    let mut items = Vec::new(sets.alloc);
+    for number in numbers.first..numbers.end {
+        items.push(Item::new(number, numbers.letter, sets.tally))?;
+    }
+    Ok(items)
+}
+
+fn in_digits<'a>(sets: &Sets<'a>, word: &str) -> Result<Vec<Item<'a>>, AllocError> {
+    let mut items = Vec::new(sets.alloc);
+    for byte in word.as_bytes() {
+        let digit = u64::from(byte.wrapping_sub(b'0'));
+        items.push(Item::new(digit, "", sets.tally))?;
+    }
+    Ok(items)
+}
