@@ -1,116 +1,112 @@
 //! Calls that answer alike and make as many comparisons.
+use crate::Map;
 use crate::answer::{Answer, whether};
-use crate::pieces::{Key, Map, Value, World};
-use crate::row::Row;
-use fc_base::Count;
+use crate::pairs::insert;
+use fc_base::{Count, TryReserveError};
+use probe_rows::items::{Item, World};
 
 /// What a call found, and how many comparisons it made.
-type Seen = (Option<u64>, u64);
-
-pub(crate) fn run<'a>(map: &mut Map<'a>, world: World<'a>, row: Row<'_>) -> Answer {
-    let number = row.number(0);
-    if row.name == "look_ups" {
-        whether(look_ups_are_alike(map, world, number) && is_there_alike(map, world, number))
-    } else {
-        Answer::Unknown
-    }
+#[derive(Clone, Copy)]
+struct Seen {
+    found: Option<u64>,
+    made: u64,
 }
 
 // The comparisons since the last call are forgotten.
-fn seen(world: World<'_>, found: Option<u64>) -> Seen {
-    (found, world.counts.comparisons.replace(0))
+fn is_alike(world: World<'_>, found: Option<u64>, expected: Seen) -> bool {
+    world.counts.comparisons.replace(0) == expected.made && found == expected.found
 }
 
-fn are_alike(one: Seen, other: Seen) -> bool {
-    let is_same = match (one.0, other.0) {
-        (Some(a), Some(b)) => a == b,
-        (None, None) => true,
-        _ => false,
-    };
-    is_same && one.1 == other.1
-}
-
-fn number_of(value: Option<&Value<'_>>) -> Option<u64> {
+pub(crate) fn number_of(value: Option<&Item<'_>>) -> Option<u64> {
     match value {
         Some(value) => Some(value.number),
         None => None,
     }
 }
 
-fn value_of_pair(pair: Option<(&Key<'_>, &Value<'_>)>) -> Option<u64> {
+fn number_of_pair(pair: Option<(&Item<'_>, &Item<'_>)>) -> Option<u64> {
     match pair {
         Some((_key, value)) => Some(value.number),
         None => None,
     }
 }
 
-fn look_up<'a>(map: &Map<'a>, world: World<'a>, number: u64) -> Seen {
+fn look_up<'a>(map: &Map<'a>, world: World<'a>, key: &Item<'a>) -> Seen {
     world.counts.comparisons.set(0);
-    let found = number_of(map.get(&world.sought(number)));
-    seen(world, found)
+    let found = number_of(map.get(key));
+    Seen {
+        found,
+        made: world.counts.comparisons.replace(0),
+    }
 }
 
-// Whether all calls that look for a value answer alike.
-fn look_ups_are_alike<'a>(map: &Map<'a>, world: World<'a>, number: u64) -> bool {
-    let expected = look_up(map, world, number);
+/// Whether all calls that look for a key or its value answer alike.
+pub(crate) fn look_ups_are_alike<'a>(map: &Map<'a>, world: World<'a>, number: u64) -> bool {
     let key = world.sought(number);
-    let counted = number_of(map.get_counted(&key, &mut Count::new()));
-    let counted = seen(world, counted);
-    let pair = value_of_pair(map.get_key_value(&key));
-    let pair = seen(world, pair);
-    let counted_pair = value_of_pair(map.get_key_value_counted(&key, &mut Count::new()));
-    let counted_pair = seen(world, counted_pair);
-    are_alike(counted, expected) && are_alike(pair, expected) && are_alike(counted_pair, expected)
+    let expected = look_up(map, world, &key);
+    finds_alike(map, world, &key, expected) && is_there_alike(map, world, &key, expected)
 }
 
-// Whether both calls that look for a key answer as a look-up of its value.
-fn is_there_alike<'a>(map: &Map<'a>, world: World<'a>, number: u64) -> bool {
-    let (found, made) = look_up(map, world, number);
+fn finds_alike<'a>(map: &Map<'a>, world: World<'a>, key: &Item<'a>, expected: Seen) -> bool {
+    let mut count = Count::new();
+    let counted = number_of(map.get_counted(key, &mut count));
+    if !is_alike(world, counted, expected) {
+        return false;
+    }
+    let pair = number_of_pair(map.get_key_value(key));
+    if !is_alike(world, pair, expected) {
+        return false;
+    }
+    let counted_pair = number_of_pair(map.get_key_value_counted(key, &mut count));
+    is_alike(world, counted_pair, expected)
+}
+
+fn is_there_alike<'a>(map: &Map<'a>, world: World<'a>, key: &Item<'a>, expected: Seen) -> bool {
     let comparisons = &world.counts.comparisons;
-    let key = world.sought(number);
-    let is_there = map.contains_key(&key);
-    let of_call = comparisons.replace(0);
-    let is_counted_there = map.contains_key_counted(&key, &mut Count::new());
-    is_there == found.is_some()
+    let is_there = map.contains_key(key);
+    let made = comparisons.replace(0);
+    let is_counted_there = map.contains_key_counted(key, &mut Count::new());
+    is_there == expected.found.is_some()
         && is_counted_there == is_there
-        && of_call == made
+        && made == expected.made
         && comparisons.get() == made
 }
 
-fn removed<'a>(
+fn remove_alike<'a>(
     map: &mut Map<'a>,
     other: &mut Map<'a>,
     world: World<'a>,
-    number: u64,
-) -> (Seen, Seen) {
-    let key = world.sought(number);
-    let plain = number_of(map.remove(&key).as_ref());
-    let plain = seen(world, plain);
-    let counted = number_of(other.remove_counted(&key, &mut Count::new()).as_ref());
-    (plain, seen(world, counted))
+    key: &Item<'a>,
+    expected: Seen,
+) -> bool {
+    let plain = number_of(map.remove(key).as_ref());
+    let is_plain_alike = is_alike(world, plain, expected);
+    let counted = number_of(other.remove_counted(key, &mut Count::new()).as_ref());
+    is_plain_alike && is_alike(world, counted, expected)
 }
 
-// A refused insertion is seen as none that any look-up makes.
-fn inserted<'a>(
+fn insert_counted<'a>(
     map: &mut Map<'a>,
-    other: &mut Map<'a>,
     world: World<'a>,
     number: u64,
     value: u64,
-) -> (Seen, Seen) {
-    let plain = match map.try_insert(world.key(number, 0), world.value(number, value)) {
-        Ok(old) => seen(world, number_of(old.as_ref())),
-        Err(_refused) => (None, u64::MAX),
-    };
-    let counted = match other.try_insert_counted(
-        world.key(number, 0),
-        world.value(number, value),
-        &mut Count::new(),
-    ) {
-        Ok(old) => seen(world, number_of(old.as_ref())),
-        Err(_refused) => (None, u64::MAX),
-    };
-    (plain, counted)
+) -> Result<Option<u64>, TryReserveError> {
+    let (key, value) = (world.key(number, 0), world.value(number, value));
+    match map.try_insert_counted(key, value, &mut Count::new()) {
+        Ok(old) => Ok(number_of(old.as_ref())),
+        Err(e) => Err(e),
+    }
+}
+
+fn is_inserted_alike(
+    world: World<'_>,
+    old: Result<Option<u64>, TryReserveError>,
+    expected: Seen,
+) -> bool {
+    match old {
+        Ok(found) => is_alike(world, found, expected),
+        Err(_refused) => false,
+    }
 }
 
 fn next_random(world: World<'_>) -> u64 {
@@ -134,11 +130,18 @@ pub(crate) fn step<'a>(
 ) -> Answer {
     let random = next_random(world);
     let number = (random >> 33) % 300;
-    let expected = look_up(map, world, number);
-    let (plain, counted) = if (random >> 20) % 10 < removals {
-        removed(map, other, world, number)
+    let key = world.sought(number);
+    let expected = look_up(map, world, &key);
+    let are_alike = if (random >> 20) % 10 < removals {
+        remove_alike(map, other, world, &key, expected)
     } else {
-        inserted(map, other, world, number, random)
+        let plain = insert(map, world, number, random, 0);
+        is_inserted_alike(world, plain, expected)
+            && is_inserted_alike(
+                world,
+                insert_counted(other, world, number, random),
+                expected,
+            )
     };
-    whether(are_alike(plain, expected) && are_alike(counted, expected) && map.len() == other.len())
+    whether(are_alike && map.len() == other.len())
 }

@@ -4,33 +4,48 @@ use std::io;
 
 #[derive(Clone, Copy)]
 pub(crate) enum Answer {
-    Nothing,
+    Right,
+    Text(&'static str),
     Number(u64),
     // A key's number and tag, and the value's number.
-    Pair(u64, u64, u64),
+    Pair([u64; 3]),
     // How often a key and its value were copied, and how often they were dropped.
-    Lives((u64, u64), (u64, u64)),
-    Text(&'static str),
-    Right,
-    Wrong,
-    // No row of this name is known.
-    Unknown,
+    Lives([u64; 4]),
 }
 
+impl Answer {
+    pub(crate) fn is_right(&self) -> bool {
+        matches!(self, Answer::Right)
+    }
+}
+
+pub(crate) const DONE: Answer = Answer::Text("done");
+
+pub(crate) const NONE: Answer = Answer::Text("none");
+
+pub(crate) const UNKNOWN: Answer = Answer::Text("NOT A ROW");
+
+pub(crate) const WRONG: Answer = Answer::Text("WRONG");
+
 pub(crate) fn whether(right: bool) -> Answer {
-    if right { Answer::Right } else { Answer::Wrong }
+    if right { Answer::Right } else { WRONG }
+}
+
+/// The number, if all is right.
+pub(crate) fn number_if(right: bool, number: u64) -> Answer {
+    if right { Answer::Number(number) } else { WRONG }
 }
 
 pub(crate) fn number_or_none(found: Option<u64>) -> Answer {
     match found {
         Some(number) => Answer::Number(number),
-        None => Answer::Nothing,
+        None => NONE,
     }
 }
 
 pub(crate) fn done_or_refused(done: Result<(), TryReserveError>) -> Answer {
     match done {
-        Ok(()) => Answer::Text("done"),
+        Ok(()) => DONE,
         Err(e) => refused(e),
     }
 }
@@ -44,17 +59,15 @@ pub(crate) fn refused(e: TryReserveError) -> Answer {
 
 pub(crate) fn show(rt: &impl Print, answer: Answer) -> io::Result<()> {
     match answer {
-        Answer::Nothing => print!(rt; " none"),
-        Answer::Number(number) => print!(rt; " {number}"),
-        Answer::Pair(number, tag, value) => print!(rt; " {number}/{tag}:{value}"),
-        Answer::Lives(copies, drops) => {
-            let (key_copies, value_copies) = copies;
-            let (key_drops, value_drops) = drops;
-            print!(rt; " copied {key_copies}/{value_copies} dropped {key_drops}/{value_drops}")
-        }
-        Answer::Text(text) => print!(rt; " {text}"),
         Answer::Right => print!(rt; " right"),
-        Answer::Wrong => print!(rt; " WRONG"),
-        Answer::Unknown => print!(rt; " NOT A ROW"),
+        Answer::Text(text) => print!(rt; " {text}"),
+        Answer::Number(number) => print!(rt; " {number}"),
+        Answer::Pair(pair) => print!(rt; " {}/{}:{}", pair[0], pair[1], pair[2]),
+        Answer::Lives(all) => {
+            print!(rt;
+                " copied {}/{} dropped {}/{}",
+                all[0], all[1], all[2], all[3]
+            )
+        }
     }
 }

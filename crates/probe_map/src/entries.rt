@@ -1,26 +1,22 @@
 //! Entries: what a search found is written or filled.
-use crate::answer::{Answer, refused};
-use crate::pieces::{Map, Value, World, add_one};
-use crate::row::Row;
+use crate::Map;
+use crate::answer::{Answer, DONE, UNKNOWN, refused};
 use fc_base::TryReserveError;
+use probe_rows::items::{Item, World, add_one};
+use probe_rows::row::Row;
 
-pub(crate) fn run<'a>(map: &mut Map<'a>, world: World<'a>, row: Row<'_>) -> Answer {
-    let name = row.name;
+pub(crate) fn run<'a>(map: &mut Map<'a>, world: World<'a>, row: &Row) -> Answer {
     let number = row.number(0);
-    if name == "tally" {
-        tally(map, world, number)
-    } else if name == "modify" {
-        modify(map, world, number)
-    } else if name == "or_with" {
-        or_with(map, world, number, row.number(1))
-    } else if name == "entry_dropped" {
-        entry_dropped(map, world, number)
-    } else {
-        Answer::Unknown
+    match row.place {
+        0 => tally(map, world, number),
+        1 => modify(map, world, number),
+        2 => or_with(map, world, number, row.number(1)),
+        3 => entry_dropped(map, world, number),
+        _ => UNKNOWN,
     }
 }
 
-fn value_of(lent: Result<&mut Value<'_>, TryReserveError>) -> Answer {
+fn value_of(lent: Result<&mut Item<'_>, TryReserveError>) -> Answer {
     match lent {
         Ok(value) => Answer::Number(value.number),
         Err(e) => refused(e),
@@ -69,7 +65,7 @@ fn entry_dropped<'a>(map: &mut Map<'a>, world: World<'a>, number: u64) -> Answer
     match map.try_entry(world.key(number, 0)) {
         Ok(entry) => {
             drop(entry);
-            Answer::Text("done")
+            DONE
         }
         Err(e) => refused(e),
     }

@@ -5,21 +5,19 @@ mod alike;
 mod answer;
 mod entries;
 mod pairs;
-mod pieces;
 mod ranges;
-mod row;
 mod walks;
 mod whole;
 mod writes;
 
-use answer::{Answer, show};
+use answer::{Answer, UNKNOWN, show};
 use fc_map::map::BTreeMap;
-use pieces::{Counts, Lives, Map, PairLives, World};
-use row::{Repeat, Row, row_in};
-use std::alloc::{AllocError, Global};
-use std::cell::Cell;
+use probe_rows::items::{Counts, Item, World, fresh_lives, no_lives};
+use probe_rows::row::{Repeat, Row, row_in};
 use std::io::{self, Read};
 use std::str;
+
+pub(crate) type Map<'a> = BTreeMap<Item<'a>, Item<'a>>;
 
 // So many pairs have lives of their own.
 const PAIRS: usize = 512;
@@ -28,16 +26,11 @@ const PAIRS: usize = 512;
 const LONGEST: usize = 160;
 
 fn main(rt: HostRuntime) -> io::Result<()> {
-    let Ok(lives) = fresh_lives(rt.alloc()) else {
+    let Ok(lives) = fresh_lives(rt.alloc(), PAIRS) else {
         return println!(&rt; "no memory");
     };
     let sought = no_lives();
-    let counts = Counts {
-        comparisons: Cell::new(0),
-        left: Cell::new(u64::MAX),
-        calls: Cell::new(0),
-        random: Cell::new(7),
-    };
+    let counts = Counts::new();
     let world = World {
         alloc: rt.alloc(),
         lives: &lives,
@@ -45,28 +38,6 @@ fn main(rt: HostRuntime) -> io::Result<()> {
         counts: &counts,
     };
     serve(&rt, world)
-}
-
-fn no_lives() -> PairLives {
-    PairLives {
-        key: no_life(),
-        value: no_life(),
-    }
-}
-
-fn no_life() -> Lives {
-    Lives {
-        copies: Cell::new(0),
-        drops: Cell::new(0),
-    }
-}
-
-fn fresh_lives(alloc: Global) -> Result<Vec<PairLives>, AllocError> {
-    let mut all = Vec::with_capacity(alloc, PAIRS)?;
-    for _ in 0..PAIRS {
-        all.push(no_lives())?;
-    }
-    Ok(all)
 }
 
 fn serve(rt: &(impl Input + Print), world: World<'_>) -> io::Result<()> {
@@ -95,7 +66,7 @@ fn front_of(line: &[u8], len: usize) -> &[u8] {
     }
 }
 
-// A heading is repeated; each other line is repeated with its answers.
+// A heading is repeated; each other line is repeated with its answers, with each of the numbers in the place of '@' on a line of its own.
 fn answer_line<'a>(
     rt: &impl Print,
     map: &mut Map<'a>,
@@ -110,85 +81,61 @@ fn answer_line<'a>(
         return println!(rt; "{text}");
     }
     print!(rt; "{text}:")?;
-    let row = row_in(text);
-    match row.repeat {
-        Some(repeat) if repeat.is_table => table(rt, map, other, world, row, repeat),
-        Some(repeat) => each(rt, map, other, world, row, repeat),
-        None => {
-            show(rt, run(map, other, world, row))?;
-            println!(rt; "")
-        }
+    let (repeat, mut row) = row_in(text);
+    let lines = if repeat.is_table { repeat.times } else { 1 };
+    for turn in 0..lines {
+        row.outer = repeat.number(turn);
+        begin_line(rt, repeat, row.outer)?;
+        answer_each(rt, map, other, world, row, repeat)?;
+    }
+    println!(rt; "")
+}
+
+fn begin_line(rt: &impl Print, repeat: Repeat, number: u64) -> io::Result<()> {
+    if repeat.is_table {
+        print!(rt; "\n  {number}:")
+    } else {
+        Ok(())
     }
 }
 
-// Answers a row with each of the numbers in the place of '$'. Right answers are counted, the others are shown.
-fn each<'a>(
+// Answers a row with each of the numbers in the place of '$'. Right answers of a repeated row are counted, the others are shown.
+fn answer_each<'a>(
     rt: &impl Print,
     map: &mut Map<'a>,
     other: &mut Map<'a>,
     world: World<'a>,
-    row: Row<'_>,
+    row: Row,
     repeat: Repeat,
 ) -> io::Result<()> {
     let mut row = row;
     let mut right = 0u64;
     for turn in 0..repeat.times {
         row.inner = repeat.number(turn);
-        match run(map, other, world, row) {
-            Answer::Right => right = right.wrapping_add(1),
-            answer => show(rt, answer)?,
+        let answer = run(map, other, world, &row);
+        if repeat.is_each && answer.is_right() {
+            right = right.wrapping_add(1);
+        } else {
+            show(rt, answer)?;
         }
     }
     if right > 0 {
         print!(rt; " {right} right")?;
     }
-    println!(rt; "")
-}
-
-// The same with each of the numbers in the place of '@', line by line.
-fn table<'a>(
-    rt: &impl Print,
-    map: &mut Map<'a>,
-    other: &mut Map<'a>,
-    world: World<'a>,
-    row: Row<'_>,
-    repeat: Repeat,
-) -> io::Result<()> {
-    let mut row = row;
-    println!(rt; "")?;
-    for turn in 0..repeat.times {
-        row.outer = repeat.number(turn);
-        let at = row.outer;
-        print!(rt; "  {at}:")?;
-        each(rt, map, other, world, row, repeat)?;
-    }
     Ok(())
 }
 
-// Each part answers its own rows alone.
-fn run<'a>(map: &mut Map<'a>, other: &mut Map<'a>, world: World<'a>, row: Row<'_>) -> Answer {
-    match pairs::run(map, world, row) {
-        Answer::Unknown => (),
-        answer => return answer,
-    }
-    match entries::run(map, world, row) {
-        Answer::Unknown => (),
-        answer => return answer,
-    }
-    match alike::run(map, world, row) {
-        Answer::Unknown => (),
-        answer => return answer,
-    }
-    match walks::run(map, world, row) {
-        Answer::Unknown => (),
-        answer => return answer,
-    }
-    match writes::run(map, world, row) {
-        Answer::Unknown => (),
-        answer => return answer,
-    }
-    match ranges::run(map, world, row) {
-        Answer::Unknown => whole::run(map, other, world, row),
-        answer => answer,
+// Each part answers its own rows.
+fn run<'a>(map: &mut Map<'a>, other: &mut Map<'a>, world: World<'a>, row: &Row) -> Answer {
+    match row.part {
+        0 => pairs::run(map, world, row),
+        1 => entries::run(map, world, row),
+        2 => walks::run(map, world, row),
+        3 => writes::run(map, world, row),
+        4 => ranges::run(map, world, row),
+        5 => whole::run(map, other, world, row),
+        6 => whole::run_one(map, world, row),
+        7 => whole::tell(world, row),
+        _ => UNKNOWN,
     }
 }

@@ -1,88 +1,93 @@
 //! Calls at one key, and at the ends.
-use crate::answer::{Answer, number_or_none, refused, whether};
-use crate::pieces::{Key, Map, Number, Value, World};
-use crate::row::Row;
+use crate::Map;
+use crate::alike::{look_ups_are_alike, number_of};
+use crate::answer::{Answer, NONE, UNKNOWN, number_or_none, refused, whether};
+use fc_base::TryReserveError;
+use probe_rows::items::{Item, Number, World};
+use probe_rows::row::Row;
 
-pub(crate) fn run<'a>(map: &mut Map<'a>, world: World<'a>, row: Row<'_>) -> Answer {
-    let name = row.name;
+pub(crate) fn run<'a>(map: &mut Map<'a>, world: World<'a>, row: &Row) -> Answer {
     let number = row.number(0);
-    if name == "insert" {
-        insert(map, world, number, row.number(1), row.number(2))
-    } else if name == "get" {
-        number_or_none(get(map, world, number))
-    } else if name == "pair" {
-        pair_of(map.get_key_value(&world.sought(number)))
-    } else if name == "index" {
-        index(map, world, number)
-    } else if name == "set" {
-        set(map, world, number, row.number(1))
-    } else if name == "remove" {
-        number_or_none(remove(map, world, number))
-    } else if name == "removes" {
-        whether(remove(map, world, number) == Some(number.wrapping_mul(10)))
-    } else if name == "query" {
-        number_or_none(map.get(Number(number)).map(|value| value.number))
-    } else if name == "query_remove" {
-        number_or_none(map.remove(Number(number)).map(|value| value.number))
-    } else if name == "first" {
-        pair_of(map.first_key_value())
-    } else if name == "last" {
-        pair_of(map.last_key_value())
-    } else if name == "pop_first" {
-        owned_pair(map.pop_first())
-    } else if name == "pop_last" {
-        owned_pair(map.pop_last())
-    } else {
-        Answer::Unknown
+    match row.place {
+        0 => old_or_refused(insert(map, world, number, row.number(1), row.number(2))),
+        1 => number_or_none(number_of(map.get(&world.sought(number)))),
+        2 => pair_of(map.get_key_value(&world.sought(number))),
+        3 => index(map, &world.sought(number)),
+        4 => set(map, &world.sought(number), row.number(1)),
+        5 => number_or_none(remove(map, world, number)),
+        6 => whether(remove(map, world, number) == Some(number.wrapping_mul(10))),
+        13 => whether(look_ups_are_alike(map, world, number)),
+        place => by_query_or_end(map, place, number),
     }
 }
 
-fn insert<'a>(map: &mut Map<'a>, world: World<'a>, number: u64, value: u64, tag: u64) -> Answer {
+fn by_query_or_end(map: &mut Map<'_>, place: usize, number: u64) -> Answer {
+    match place {
+        7 => number_or_none(number_of(map.get(Number(number)))),
+        8 => number_or_none(number_of(map.remove(Number(number)).as_ref())),
+        9 => pair_of(map.first_key_value()),
+        10 => pair_of(map.last_key_value()),
+        11 => owned_pair(map.pop_first()),
+        12 => owned_pair(map.pop_last()),
+        _ => UNKNOWN,
+    }
+}
+
+/// Inserts a pair: the number of the value that was there.
+pub(crate) fn insert<'a>(
+    map: &mut Map<'a>,
+    world: World<'a>,
+    number: u64,
+    value: u64,
+    tag: u64,
+) -> Result<Option<u64>, TryReserveError> {
     match map.try_insert(world.key(number, tag), world.value(number, value)) {
-        Ok(old) => number_or_none(old.map(|value| value.number)),
+        Ok(old) => Ok(number_of(old.as_ref())),
+        Err(e) => Err(e),
+    }
+}
+
+fn old_or_refused(old: Result<Option<u64>, TryReserveError>) -> Answer {
+    match old {
+        Ok(old) => number_or_none(old),
         Err(e) => refused(e),
     }
 }
 
-fn get<'a>(map: &Map<'a>, world: World<'a>, number: u64) -> Option<u64> {
-    map.get(&world.sought(number)).map(|value| value.number)
-}
-
 fn remove<'a>(map: &mut Map<'a>, world: World<'a>, number: u64) -> Option<u64> {
-    map.remove(&world.sought(number)).map(|value| value.number)
+    number_of(map.remove(&world.sought(number)).as_ref())
 }
 
-fn index<'a>(map: &Map<'a>, world: World<'a>, number: u64) -> Answer {
-    let key = world.sought(number);
-    if map.contains_key(&key) {
-        Answer::Number(map[&key].number)
+fn index<'a>(map: &Map<'a>, key: &Item<'a>) -> Answer {
+    if map.contains_key(key) {
+        Answer::Number(map[key].number)
     } else {
-        Answer::Nothing
+        NONE
     }
 }
 
 // Writes over the value, and answers the old one.
-fn set<'a>(map: &mut Map<'a>, world: World<'a>, number: u64, new: u64) -> Answer {
-    match map.get_mut(&world.sought(number)) {
+fn set<'a>(map: &mut Map<'a>, key: &Item<'a>, new: u64) -> Answer {
+    match map.get_mut(key) {
         Some(value) => {
             let old = value.number;
             value.number = new;
             Answer::Number(old)
         }
-        None => Answer::Nothing,
+        None => NONE,
     }
 }
 
-fn pair_of(found: Option<(&Key<'_>, &Value<'_>)>) -> Answer {
+fn pair_of(found: Option<(&Item<'_>, &Item<'_>)>) -> Answer {
     match found {
-        Some((key, value)) => Answer::Pair(key.number, key.tag, value.number),
-        None => Answer::Nothing,
+        Some((key, value)) => Answer::Pair([key.number, key.tag, value.number]),
+        None => NONE,
     }
 }
 
-fn owned_pair(found: Option<(Key<'_>, Value<'_>)>) -> Answer {
-    match found {
-        Some((key, value)) => Answer::Pair(key.number, key.tag, value.number),
-        None => Answer::Nothing,
+fn owned_pair(found: Option<(Item<'_>, Item<'_>)>) -> Answer {
+    match &found {
+        Some((key, value)) => pair_of(Some((key, value))),
+        None => NONE,
     }
 }

@@ -1,147 +1,136 @@
 //! Ranges from both ends, against the numbers that their bounds let in.
-use crate::answer::{Answer, whether};
-use crate::pieces::{Key, Map, Value, World};
-use crate::row::Row;
-use crate::walks::{BACK, FORTH, Stretch, Turns, is_pair, stretch_in};
-use fc_base::TryReserveError;
+use crate::Map;
+use crate::answer::{Answer, UNKNOWN, WRONG, number_if, whether};
+use crate::walks::{Walk, both_go_on, follows, gives_some, is_pair};
+use crate::whole::is_fresh;
+use crate::writes::is_written;
 use fc_map::map::{Range, is_range};
+use probe_rows::items::{Item, World};
+use probe_rows::row::Row;
+use probe_rows::stretch::{BACK, BACK_FIRST, FORTH, MIXED, RAGGED, Stretch, Turns, stretch_in};
 use std::cell::Cell;
 use std::ops::Bound;
 
-/// Both bounds of a range, as words tell them, and keys for them.
+/// Both bounds of a range: their marks, and keys of their numbers.
 #[derive(Drop)]
-pub(crate) struct Bounds<'a> {
-    lo: Bound<u64>,
-    hi: Bound<u64>,
-    lo_key: Key<'a>,
-    hi_key: Key<'a>,
+struct Bounds<'a> {
+    lo: u8,
+    hi: u8,
+    lo_key: Item<'a>,
+    hi_key: Item<'a>,
 }
 
+const INCLUDED: u8 = b'=';
+
+const EXCLUDED: u8 = b'!';
+
 impl<'a> Bounds<'a> {
-    pub(crate) fn lo(&self) -> Bound<&Key<'a>> {
-        with_key(&self.lo, &self.lo_key)
+    fn lo(&self) -> Bound<&Item<'a>> {
+        with_key(self.lo, &self.lo_key)
     }
 
-    pub(crate) fn comparisons(&self) -> &Cell<u64> {
+    fn hi(&self) -> Bound<&Item<'a>> {
+        with_key(self.hi, &self.hi_key)
+    }
+
+    fn comparisons(&self) -> &Cell<u64> {
         &self.lo_key.counts.comparisons
     }
 
-    pub(crate) fn hi(&self) -> Bound<&Key<'a>> {
-        with_key(&self.hi, &self.hi_key)
+    // Whether upstream takes these bounds.
+    fn are_taken(&self) -> bool {
+        let (lo, hi) = (self.lo_key.number, self.hi_key.number);
+        let is_one_included = self.lo == INCLUDED || self.hi == INCLUDED;
+        self.lo == 0 || self.hi == 0 || lo < hi || lo == hi && is_one_included
+    }
+
+    fn let_in_number(&self, number: u64) -> bool {
+        let (lo, hi) = (self.lo_key.number, self.hi_key.number);
+        let is_after = self.lo == 0 || lo < number || lo == number && self.lo == INCLUDED;
+        let is_ahead = self.hi == 0 || number < hi || number == hi && self.hi == INCLUDED;
+        is_after && is_ahead
+    }
+
+    // The numbers that both let in.
+    fn let_in(&self, all: Stretch) -> Stretch {
+        let mut found = all.front(0);
+        for place in 0..all.count {
+            let number = all.number(place);
+            if self.let_in_number(number) {
+                if found.count == 0 {
+                    found.first = number;
+                }
+                found.count = found.count.wrapping_add(1);
+            }
+        }
+        found
     }
 }
 
-pub(crate) fn bounds_in<'a>(world: World<'a>, row: Row<'_>) -> Bounds<'a> {
-    Bounds {
-        lo: bound_in(row, 0),
-        hi: bound_in(row, 1),
-        lo_key: world.sought(row.number(0)),
-        hi_key: world.sought(row.number(1)),
-    }
-}
-
-fn bound_in(row: Row<'_>, place: usize) -> Bound<u64> {
-    if place < row.words.len() && row.words[place].bound == b'=' {
-        Bound::Included(row.number(place))
-    } else if place < row.words.len() && row.words[place].bound == b'!' {
-        Bound::Excluded(row.number(place))
+fn with_key<'b, 'a>(mark: u8, key: &'b Item<'a>) -> Bound<&'b Item<'a>> {
+    if mark == INCLUDED {
+        Bound::Included(key)
+    } else if mark == EXCLUDED {
+        Bound::Excluded(key)
     } else {
         Bound::Unbounded
     }
 }
 
-fn with_key<'b, 'a>(bound: &Bound<u64>, key: &'b Key<'a>) -> Bound<&'b Key<'a>> {
-    match bound {
-        Bound::Included(_number) => Bound::Included(key),
-        Bound::Excluded(_number) => Bound::Excluded(key),
-        Bound::Unbounded => Bound::Unbounded,
-    }
-}
-
-pub(crate) fn run<'a>(map: &mut Map<'a>, world: World<'a>, row: Row<'_>) -> Answer {
-    let all = stretch_in(row, 2);
-    if row.name == "range" {
-        range(map, &bounds_in(world, row), all)
-    } else if row.name == "clone_range" {
-        let skipped = row.number(5);
-        whether(is_cloned(map, &bounds_in(world, row), all, skipped).unwrap_or(false))
-    } else {
-        Answer::Unknown
-    }
-}
-
-// Whether upstream takes these bounds.
-fn is_taken(lo: &Bound<u64>, hi: &Bound<u64>) -> bool {
-    match (lo, hi) {
-        (Bound::Unbounded, _) | (_, Bound::Unbounded) => true,
-        (Bound::Included(start), Bound::Included(end)) => start <= end,
-        (Bound::Included(start), Bound::Excluded(end)) => start <= end,
-        (Bound::Excluded(start), Bound::Included(end)) => start <= end,
-        (Bound::Excluded(start), Bound::Excluded(end)) => start < end,
-    }
-}
-
-fn is_after(lo: &Bound<u64>, number: u64) -> bool {
-    match lo {
-        Bound::Included(start) => *start <= number,
-        Bound::Excluded(start) => *start < number,
-        Bound::Unbounded => true,
-    }
-}
-
-fn is_ahead(hi: &Bound<u64>, number: u64) -> bool {
-    match hi {
-        Bound::Included(end) => number <= *end,
-        Bound::Excluded(end) => number < *end,
-        Bound::Unbounded => true,
-    }
-}
-
-/// The numbers that both bounds let in.
-pub(crate) fn let_in(bounds: &Bounds<'_>, all: Stretch) -> Stretch {
-    let mut found = Stretch {
-        first: 0,
-        count: 0,
-        distance: all.distance,
+pub(crate) fn run<'a>(map: &mut Map<'a>, world: World<'a>, row: &Row) -> Answer {
+    let bounds = Bounds {
+        lo: row.bound(0),
+        hi: row.bound(1),
+        lo_key: world.sought(row.number(0)),
+        hi_key: world.sought(row.number(1)),
     };
-    for place in 0..all.count {
-        let number = all.number(place);
-        if is_after(&bounds.lo, number) && is_ahead(&bounds.hi, number) {
-            if found.count == 0 {
-                found.first = number;
-            }
-            found.count = found.count.wrapping_add(1);
+    let all = stretch_in(row, 2);
+    let wanted = bounds.let_in(all);
+    match row.place {
+        0 => range(map, &bounds, wanted),
+        1 => whether(is_cloned(map, &bounds, wanted, row.number(5))),
+        2 => {
+            let is_forth = is_lent(map, world, &bounds, all, FORTH);
+            let is_right = is_forth && is_lent(map, world, &bounds, all, BACK);
+            number_if(is_right, wanted.count)
         }
+        3 => number_if(is_visited(map, world, &bounds, all), wanted.count),
+        _ => UNKNOWN,
     }
-    found
 }
 
 // How many pairs lie between the bounds, if the range is taken as upstream takes it and each form of it gives just these.
-fn range<'a>(map: &Map<'a>, bounds: &Bounds<'a>, all: Stretch) -> Answer {
-    let wanted = let_in(bounds, all);
-    let mixed = Turns {
-        fronts: 0,
-        pattern: 0x5555_5555_5555_5555,
-    };
-    let ragged = Turns {
-        fronts: 0,
-        pattern: 0x3636_3636_3636_3636,
-    };
-    if !is_taken(&bounds.lo, &bounds.hi) {
+fn range<'a>(map: &Map<'a>, bounds: &Bounds<'a>, wanted: Stretch) -> Answer {
+    if !bounds.are_taken() {
         return if is_range(&bounds.lo(), &bounds.hi()) {
-            Answer::Wrong
+            WRONG
         } else {
             Answer::Text("-")
         };
     }
-    if meets(map, bounds, wanted, FORTH)
+    let is_right = meets(map, bounds, wanted, FORTH)
         && meets(map, bounds, wanted, BACK)
-        && meets(map, bounds, wanted, mixed)
-        && meets(map, bounds, wanted, ragged)
-    {
-        Answer::Number(wanted.count)
-    } else {
-        Answer::Wrong
+        && meets(map, bounds, wanted, BACK_FIRST)
+        && meets(map, bounds, wanted, RAGGED);
+    number_if(is_right, wanted.count)
+}
+
+impl Walk for Range<'_, Item<'_>, Item<'_>> {
+    fn tells(&self, _left: Stretch) -> bool {
+        true
+    }
+
+    fn gives(&mut self, is_front: bool, number: u64) -> bool {
+        let item = if is_front {
+            self.next()
+        } else {
+            self.next_back()
+        };
+        is_pair(item, number, 0)
+    }
+
+    fn is_met(&mut self) -> bool {
+        self.next().is_none() && self.next_back().is_none() && self.next().is_none()
     }
 }
 
@@ -157,57 +146,64 @@ fn meets<'a>(map: &Map<'a>, bounds: &Bounds<'a>, wanted: Stretch, turns: Turns) 
     follows(&mut range, wanted, turns) && comparisons.get() == 0
 }
 
-fn follows(range: &mut Range<'_, Key<'_>, Value<'_>>, wanted: Stretch, turns: Turns) -> bool {
-    let mut low = 0u64;
-    let mut high = wanted.count;
-    for turn in 0..wanted.count {
-        let met = if turns.is_front(turn) {
-            low = low.wrapping_add(1);
-            is_pair(range.next(), wanted.number(low.wrapping_sub(1)), 0)
-        } else {
-            high = high.wrapping_sub(1);
-            is_pair(range.next_back(), wanted.number(high), 0)
-        };
-        if !met {
-            return false;
-        }
-    }
-    stays_at_none(range)
-}
-
-fn stays_at_none(range: &mut Range<'_, Key<'_>, Value<'_>>) -> bool {
-    for _ in 0..3 {
-        if range.next().is_some() || range.next_back().is_some() || range.next().is_some() {
-            return false;
-        }
-    }
-    true
-}
-
 // Whether a clone and its source each give what is left when so many were taken at either end, and compare nothing.
-fn is_cloned<'a>(
-    map: &Map<'a>,
-    bounds: &Bounds<'a>,
-    all: Stretch,
-    skipped: u64,
-) -> Result<bool, TryReserveError> {
+fn is_cloned<'a>(map: &Map<'a>, bounds: &Bounds<'a>, wanted: Stretch, skipped: u64) -> bool {
     let (lo, hi) = (bounds.lo(), bounds.hi());
     if !is_range(&lo, &hi) {
-        return Ok(false);
+        return false;
     }
     let comparisons = bounds.comparisons();
     let mut range = map.range((lo, hi));
     comparisons.set(0);
-    for _ in 0..skipped {
-        range.next();
-        range.next_back();
-    }
-    let mut clone = range.clone()?;
-    let left = let_in(bounds, all).within(skipped);
-    let turns = Turns {
-        fronts: 0,
-        pattern: 0xaaaa_aaaa_aaaa_aaaa,
+    let is_skipped = gives_some(&mut range, wanted, MIXED, skipped.wrapping_mul(2));
+    let is_right = match range.clone() {
+        Ok(mut clone) => is_skipped && both_go_on(&mut range, &mut clone, wanted.within(skipped)),
+        Err(_refused) => false,
     };
-    let is_right = follows(&mut clone, left, turns) && follows(&mut range, left, FORTH);
-    Ok(is_right && comparisons.get() == 0)
+    is_right && comparisons.get() == 0
+}
+
+// Whether a range of a new map lends the values of the numbers alone, from an end.
+fn is_lent<'a>(
+    map: &mut Map<'a>,
+    world: World<'a>,
+    bounds: &Bounds<'a>,
+    all: Stretch,
+    turns: Turns,
+) -> bool {
+    let wanted = bounds.let_in(all);
+    is_fresh(map, world, all) && writes(map, bounds, wanted, turns) && is_written(map, all, wanted)
+}
+
+// Only the searches for the two ends compare.
+fn writes<'a>(map: &mut Map<'a>, bounds: &Bounds<'a>, wanted: Stretch, turns: Turns) -> bool {
+    let (lo, hi) = (bounds.lo(), bounds.hi());
+    if !is_range(&lo, &hi) {
+        return false;
+    }
+    let comparisons = bounds.comparisons();
+    let mut walk = map.range_mut((lo, hi));
+    comparisons.set(0);
+    follows(&mut walk, wanted, turns) && comparisons.get() == 0
+}
+
+// Whether `for_each` visits the values of a range of a new map.
+fn is_visited<'a>(map: &mut Map<'a>, world: World<'a>, bounds: &Bounds<'a>, all: Stretch) -> bool {
+    let wanted = bounds.let_in(all);
+    is_fresh(map, world, all) && visits(map, bounds, wanted) && is_written(map, all, wanted)
+}
+
+fn visits<'a>(map: &mut Map<'a>, bounds: &Bounds<'a>, wanted: Stretch) -> bool {
+    let (lo, hi) = (bounds.lo(), bounds.hi());
+    if !is_range(&lo, &hi) {
+        return false;
+    }
+    let mut place = 0u64;
+    let mut right = true;
+    map.range_mut((lo, hi)).for_each(|key, value| {
+        right = right && is_pair(Some((key, &*value)), wanted.number(place), 0);
+        place = place.wrapping_add(1);
+        value.number = value.number.wrapping_add(1);
+    });
+    right && place == wanted.count
 }

@@ -1,94 +1,90 @@
 //! Calls on a map as a whole: filled, held against numbers, copied, compared, extended and dropped.
+use crate::Map;
 use crate::alike::step;
-use crate::answer::{Answer, done_or_refused, refused, whether};
-use crate::pieces::{Key, Map, Value, World, are_same};
-use crate::row::{Row, WORDS};
-use crate::walks::{BACK, FORTH, Stretch, follows, is_pair, stretch_in};
+use crate::answer::{Answer, DONE, UNKNOWN, WRONG, done_or_refused, refused, whether};
+use crate::pairs::insert;
+use crate::walks::{follows, is_owned_pair, is_pair};
 use fc_base::{TryClone, TryReserveError};
 use fc_map::map::BTreeMap;
 use fc_vec::TryFromIterator;
+use probe_rows::items::{Item, World, are_same};
+use probe_rows::row::{Row, WORDS};
+use probe_rows::stretch::{BACK, FORTH, Stretch, stretch_in};
+use std::cmp::Ordering;
 use std::mem;
 
+type Pairs<'a> = Vec<(Item<'a>, Item<'a>)>;
+
+/// The rows that make a map of another one, or of a list of pairs.
 pub(crate) fn run<'a>(
     map: &mut Map<'a>,
     other: &mut Map<'a>,
     world: World<'a>,
-    row: Row<'_>,
+    row: &Row,
 ) -> Answer {
-    let name = row.name;
     let number = row.number(0);
-    if name == "swap" {
-        mem::swap(map, other);
-        Answer::Text("done")
-    } else if name == "copy" {
-        copy(map, other)
-    } else if name == "compare" {
-        compare(map, other)
-    } else if name == "extend_map" {
-        let given = mem::replace(other, BTreeMap::new(world.alloc));
-        done_or_refused(map.try_extend(given))
-    } else if name == "step" {
-        step(map, other, world, number)
-    } else if name == "copy_refused" {
-        whether(refuses_copy(map, world, number, row.number(1)))
-    } else if name == "extend" || name == "make" {
-        match listed(world, number, row.number(1)) {
-            Ok(pairs) => extend(map, world, pairs, name == "make"),
-            Err(e) => refused(e),
-        }
-    } else if name == "extend_pairs" || name == "make_pairs" {
-        match told(world, row) {
-            Ok(pairs) => extend(map, world, pairs, name == "make_pairs"),
-            Err(e) => refused(e),
-        }
-    } else {
-        one(map, world, row)
+    let distance = row.number(1);
+    match row.place {
+        0 => swap(map, other),
+        1 => copy(map, other),
+        2 => compare(map, other),
+        3 => done_or_refused(extend_by_map(map, other, world)),
+        4 => step(map, other, world, number),
+        5 => whether(refuses_copy(map, world, number, distance)),
+        6 => done_or_refused(extend(map, listed(world, number, distance))),
+        7 => done_or_refused(make(map, world, listed(world, number, distance))),
+        8 => done_or_refused(extend(map, told(world, row))),
+        9 => done_or_refused(make(map, world, told(world, row))),
+        _ => UNKNOWN,
     }
 }
 
-fn one<'a>(map: &mut Map<'a>, world: World<'a>, row: Row<'_>) -> Answer {
-    let name = row.name;
+/// The rows of one map alone.
+pub(crate) fn run_one<'a>(map: &mut Map<'a>, world: World<'a>, row: &Row) -> Answer {
     let all = stretch_in(row, 0);
-    if name == "len" {
-        Answer::Number(map.len() as u64)
-    } else if name == "is_empty" {
-        whether(map.is_empty())
-    } else if name == "clear" {
-        map.clear();
-        Answer::Text("done")
-    } else if name == "drop" {
-        replace_by(map, BTreeMap::new(world.alloc));
-        Answer::Text("done")
-    } else if name == "fill" {
-        done_or_refused(fill(map, world, all))
-    } else if name == "holds" {
-        whether(holds(map, all))
-    } else if name == "pops" {
-        whether(pops(map, all, row.number(3)))
-    } else {
-        told_by_world(world, row)
+    match row.place {
+        0 => Answer::Number(map.len() as u64),
+        1 => whether(map.is_empty()),
+        2 => clear(map),
+        3 => replace_by(map, BTreeMap::new(world.alloc)),
+        4 => done_or_refused(fill(map, world, all)),
+        5 => whether(holds(map, all)),
+        6 => whether(pops(map, all, row.number(3))),
+        _ => UNKNOWN,
     }
 }
 
-fn told_by_world(world: World<'_>, row: Row<'_>) -> Answer {
-    let name = row.name;
-    if name == "comparisons" {
-        Answer::Number(world.counts.comparisons.get())
-    } else if name == "calls" {
-        Answer::Number(world.counts.calls.get())
-    } else if name == "left" {
-        world.counts.left.set(row.number(0));
-        Answer::Text("done")
-    } else if name == "copies_left" {
-        Answer::Number(world.counts.left.get())
-    } else if name == "lives" {
-        lives_in(world, stretch_in(row, 0))
-    } else if name == "forget" {
-        world.forget();
-        Answer::Text("done")
-    } else {
-        Answer::Unknown
+/// The rows that tell what was counted.
+pub(crate) fn tell(world: World<'_>, row: &Row) -> Answer {
+    match row.place {
+        0 => Answer::Number(world.counts.comparisons.get()),
+        1 => Answer::Number(world.counts.calls.get()),
+        2 => leave(world, row.number(0)),
+        3 => Answer::Number(world.counts.left.get()),
+        4 => lives_in(world, stretch_in(row, 0)),
+        5 => forget(world),
+        _ => UNKNOWN,
     }
+}
+
+fn leave(world: World<'_>, copies: u64) -> Answer {
+    world.counts.left.set(copies);
+    DONE
+}
+
+fn forget(world: World<'_>) -> Answer {
+    world.forget();
+    DONE
+}
+
+fn clear(map: &mut Map<'_>) -> Answer {
+    map.clear();
+    DONE
+}
+
+fn swap<'a>(map: &mut Map<'a>, other: &mut Map<'a>) -> Answer {
+    mem::swap(map, other);
+    DONE
 }
 
 // The lives of the numbers' keys and values, if they are all the same.
@@ -99,10 +95,12 @@ fn lives_in(world: World<'_>, all: Stretch) -> Answer {
             return Answer::Text("not the same");
         }
     }
-    Answer::Lives(
-        (first.key.copies.get(), first.value.copies.get()),
-        (first.key.drops.get(), first.value.drops.get()),
-    )
+    Answer::Lives([
+        first.key.copies.get(),
+        first.value.copies.get(),
+        first.key.drops.get(),
+        first.value.drops.get(),
+    ])
 }
 
 /// Inserts the numbers in turn, each with its tenfold.
@@ -113,27 +111,21 @@ pub(crate) fn fill<'a>(
 ) -> Result<(), TryReserveError> {
     for place in 0..all.count {
         let number = all.number(place);
-        map.try_insert(
-            world.key(number, 0),
-            world.value(number, number.wrapping_mul(10)),
-        )?;
+        insert(map, world, number, number.wrapping_mul(10), 0)?;
     }
     Ok(())
 }
 
 /// Fills the map if it is empty; whether it has then so many pairs.
 pub(crate) fn is_filled<'a>(map: &mut Map<'a>, world: World<'a>, all: Stretch) -> bool {
-    let is_whole = if map.is_empty() {
-        fill(map, world, all).is_ok()
-    } else {
-        true
-    };
+    let is_whole = !map.is_empty() || fill(map, world, all).is_ok();
     is_whole && map.len() as u64 == all.count
 }
 
 // The old map is dropped.
-fn replace_by<'a>(map: &mut Map<'a>, new: Map<'a>) {
+fn replace_by<'a>(map: &mut Map<'a>, new: Map<'a>) -> Answer {
     drop(mem::replace(map, new));
+    DONE
 }
 
 /// Whether a new map is made of the numbers. Nothing is counted by then.
@@ -144,8 +136,8 @@ pub(crate) fn is_fresh<'a>(map: &mut Map<'a>, world: World<'a>, all: Stretch) ->
     is_filled
 }
 
-/// Whether the map has these numbers, each with its tenfold, seen from both ends.
-pub(crate) fn holds(map: &Map<'_>, all: Stretch) -> bool {
+// Whether the map has these numbers, each with its tenfold, seen from both ends.
+fn holds(map: &Map<'_>, all: Stretch) -> bool {
     follows(&mut map.iter(), all, FORTH)
         && follows(&mut map.iter(), all, BACK)
         && map.len() as u64 == all.count
@@ -164,17 +156,8 @@ fn copy<'a>(map: &Map<'a>, other: &mut Map<'a>) -> Answer {
 // How the map stands to the other one, if all comparisons agree.
 fn compare<'a>(map: &Map<'a>, other: &Map<'a>) -> Answer {
     let order = map.cmp(other);
-    let is_partly = match map.partial_cmp(other) {
-        Some(partly) => partly == order,
-        None => false,
-    };
-    let agree = is_partly
-        && other.cmp(map) == order.reverse()
-        && (*map == *other) == order.is_eq()
-        && (*map < *other) == order.is_lt()
-        && (*map > *other) == order.is_gt();
-    if !agree {
-        Answer::Wrong
+    if !agree(map, other, order) {
+        WRONG
     } else if order.is_lt() {
         Answer::Text("less")
     } else if order.is_gt() {
@@ -184,86 +167,95 @@ fn compare<'a>(map: &Map<'a>, other: &Map<'a>) -> Answer {
     }
 }
 
-// The numbers below the count, each with its tenfold: from 0 on, always so many on, and round.
-fn listed<'a>(
+fn agree<'a>(map: &Map<'a>, other: &Map<'a>, order: Ordering) -> bool {
+    map.partial_cmp(other) == Some(order)
+        && other.cmp(map) == order.reverse()
+        && (*map == *other) == order.is_eq()
+        && (*map < *other) == order.is_lt()
+        && (*map > *other) == order.is_gt()
+}
+
+fn push<'a>(
+    all: &mut Pairs<'a>,
     world: World<'a>,
-    count: u64,
-    step: u64,
-) -> Result<Vec<(Key<'a>, Value<'a>)>, TryReserveError> {
+    number: u64,
+    value: u64,
+    tag: u64,
+) -> Result<(), TryReserveError> {
+    all.push((world.key(number, tag), world.value(number, value)))?;
+    Ok(())
+}
+
+// The numbers below the count, each with its tenfold: from 0 on, always so many on, and round.
+fn listed<'a>(world: World<'a>, count: u64, step: u64) -> Result<Pairs<'a>, TryReserveError> {
     let mut all = Vec::new(world.alloc);
     for place in 0..count {
         let number = place.wrapping_mul(step) % count;
-        let value = world.value(number, number.wrapping_mul(10));
-        all.push((world.key(number, 0), value))?;
+        push(&mut all, world, number, number.wrapping_mul(10), 0)?;
     }
     Ok(all)
 }
 
 // The pairs that the words tell, tagged by their places from 1 on.
-fn told<'a>(world: World<'a>, row: Row<'_>) -> Result<Vec<(Key<'a>, Value<'a>)>, TryReserveError> {
+fn told<'a>(world: World<'a>, row: &Row) -> Result<Pairs<'a>, TryReserveError> {
     let mut all = Vec::new(world.alloc);
     for place in 0..WORDS / 2 {
         if place * 2 + 1 < row.given {
-            let number = row.number(place * 2);
-            let value = world.value(number, row.number(place * 2 + 1));
-            all.push((world.key(number, place as u64 + 1), value))?;
+            let (number, value) = (row.number(place * 2), row.number(place * 2 + 1));
+            push(&mut all, world, number, value, place as u64 + 1)?;
         }
     }
     Ok(all)
 }
 
-// Extends the map by the pairs, or makes a new one of them.
 fn extend<'a>(
     map: &mut Map<'a>,
+    pairs: Result<Pairs<'a>, TryReserveError>,
+) -> Result<(), TryReserveError> {
+    map.try_extend(pairs?)
+}
+
+fn extend_by_map<'a>(
+    map: &mut Map<'a>,
+    other: &mut Map<'a>,
     world: World<'a>,
-    pairs: Vec<(Key<'a>, Value<'a>)>,
-    is_new: bool,
-) -> Answer {
-    if !is_new {
-        return done_or_refused(map.try_extend(pairs));
-    }
-    match BTreeMap::try_from_iterator(world.alloc, pairs) {
-        Ok(made) => {
-            replace_by(map, made);
-            Answer::Text("done")
-        }
-        Err(e) => refused(e),
-    }
+) -> Result<(), TryReserveError> {
+    map.try_extend(mem::replace(other, BTreeMap::new(world.alloc)))
+}
+
+// A new map of the pairs takes the place of the old one.
+fn make<'a>(
+    map: &mut Map<'a>,
+    world: World<'a>,
+    pairs: Result<Pairs<'a>, TryReserveError>,
+) -> Result<(), TryReserveError> {
+    let made = BTreeMap::try_from_iterator(world.alloc, pairs?)?;
+    replace_by(map, made);
+    Ok(())
 }
 
 // Whether the pairs at the ends, read and taken out, are those of the numbers: each so-manieth from the front, the others from the
 // back; 0 takes all from the back.
 fn pops(map: &mut Map<'_>, all: Stretch, every: u64) -> bool {
-    let mut low = 0u64;
-    let mut high = all.count;
+    let mut left = all;
     for turn in 0..all.count {
-        let met = if every != 0 && turn % every == 0 {
-            low = low.wrapping_add(1);
-            pops_first(map, all.number(low.wrapping_sub(1)))
-        } else {
-            high = high.wrapping_sub(1);
-            pops_last(map, all.number(high))
-        };
-        if !met || map.len() as u64 != high.wrapping_sub(low) {
+        let is_front = every != 0 && turn % every == 0;
+        if !pops_at(map, is_front, left.end(is_front)) {
+            return false;
+        }
+        left = left.without(is_front);
+        if map.len() as u64 != left.count {
             return false;
         }
     }
     map.is_empty()
 }
 
-fn pops_first(map: &mut Map<'_>, number: u64) -> bool {
-    let is_shown = is_pair(map.first_key_value(), number, 0);
-    match map.pop_first() {
-        Some((key, value)) => is_shown && is_pair(Some((&key, &value)), number, 0),
-        None => false,
-    }
-}
-
-fn pops_last(map: &mut Map<'_>, number: u64) -> bool {
-    let is_shown = is_pair(map.last_key_value(), number, 0);
-    match map.pop_last() {
-        Some((key, value)) => is_shown && is_pair(Some((&key, &value)), number, 0),
-        None => false,
+fn pops_at(map: &mut Map<'_>, is_front: bool, number: u64) -> bool {
+    if is_front {
+        is_pair(map.first_key_value(), number, 0) && is_owned_pair(map.pop_first(), number)
+    } else {
+        is_pair(map.last_key_value(), number, 0) && is_owned_pair(map.pop_last(), number)
     }
 }
 
@@ -271,14 +263,12 @@ fn pops_last(map: &mut Map<'_>, number: u64) -> bool {
 fn refuses_copy(map: &Map<'_>, world: World<'_>, made: u64, count: u64) -> bool {
     world.forget();
     world.counts.left.set(made);
-    let copied = map.try_clone();
+    let is_refused = matches!(map.try_clone(), Err(TryReserveError::CapacityOverflow));
     world.counts.left.set(u64::MAX);
     let all = Stretch {
         first: 0,
         count,
         distance: 1,
     };
-    matches!(copied, Err(TryReserveError::CapacityOverflow))
-        && world.dropped_copies() == Some(made)
-        && holds(map, all)
+    is_refused && world.dropped_copies() == Some(made) && holds(map, all)
 }

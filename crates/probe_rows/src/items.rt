@@ -1,4 +1,4 @@
-//! Keys and values that tell what is done to them: compared, copied or dropped.
+//! Items that tell what is done to them: compared, copied or dropped. They serve as keys and as values.
 ghost use Rattle.std.specs.Prelude.{◌==◌, ◌≡◌, ℕ};
 ghost use Rattle.std.proofs.Common.{rules};
 ghost use Rattle.std.proofs.lemmas.Cmp.{nat_cmp_total};
@@ -8,54 +8,89 @@ ghost use Rattle.std.specs.Ordering.{nat_cmp, on, as_partial_cmp};
 ghost use Rattle.fc_base.specs.Viewed.{viewed};
 
 use fc_base::{Query, TryClone, TryReserveError};
-use fc_map::map::BTreeMap;
-use std::alloc::Global;
+use std::alloc::{AllocError, Global};
 use std::cell::Cell;
 use std::cmp::Ordering;
 
-pub(crate) type Map<'a> = BTreeMap<Key<'a>, Value<'a>>;
-
-/// How often a key or a value was copied, and how often it or a copy of it was dropped.
+/// How often an item was copied, and how often it or a copy of it was dropped.
 #[derive(Drop)]
-pub(crate) struct Lives {
-    pub(crate) copies: Cell<u64>,
-    pub(crate) drops: Cell<u64>,
+pub struct Lives {
+    pub copies: Cell<u64>,
+    pub drops: Cell<u64>,
 }
 
 #[derive(Drop)]
-pub(crate) struct PairLives {
-    pub(crate) key: Lives,
-    pub(crate) value: Lives,
+pub struct PairLives {
+    pub key: Lives,
+    pub value: Lives,
 }
 
 #[derive(Drop)]
-pub(crate) struct Counts {
-    pub(crate) comparisons: Cell<u64>,
-    // So many keys and values are still copied before one refuses.
-    pub(crate) left: Cell<u64>,
-    pub(crate) calls: Cell<u64>,
-    pub(crate) random: Cell<u64>,
+pub struct Counts {
+    pub comparisons: Cell<u64>,
+    // So many items are still copied before one refuses.
+    pub left: Cell<u64>,
+    pub calls: Cell<u64>,
+    pub random: Cell<u64>,
 }
 
-/// What all keys and values tell of: the lives of the pairs by their numbers, and of the keys that are sought.
+/// What all items tell of: the lives of the pairs by their numbers, and of the keys that are sought.
 #[derive(Clone, Copy)]
-pub(crate) struct World<'a> {
-    pub(crate) alloc: Global,
-    pub(crate) lives: &'a [PairLives],
-    pub(crate) sought: &'a PairLives,
-    pub(crate) counts: &'a Counts,
+pub struct World<'a> {
+    pub alloc: Global,
+    pub lives: &'a [PairLives],
+    pub sought: &'a PairLives,
+    pub counts: &'a Counts,
+}
+
+/// The lives of a pair that was neither copied nor dropped.
+pub fn no_lives() -> PairLives {
+    PairLives {
+        key: no_life(),
+        value: no_life(),
+    }
+}
+
+fn no_life() -> Lives {
+    Lives {
+        copies: Cell::new(0),
+        drops: Cell::new(0),
+    }
+}
+
+/// The lives of so many pairs.
+pub fn fresh_lives(alloc: Global, pairs: usize) -> Result<Vec<PairLives>, AllocError> {
+    let mut all = Vec::with_capacity(alloc, pairs)?;
+    for _ in 0..pairs {
+        all.push(no_lives())?;
+    }
+    Ok(all)
+}
+
+impl Counts {
+    /// Nothing is counted yet, and each copy is left.
+    pub fn new() -> Counts {
+        Counts {
+            comparisons: Cell::new(0),
+            left: Cell::new(u64::MAX),
+            calls: Cell::new(0),
+            random: Cell::new(7),
+        }
+    }
 }
 
 impl<'a> World<'a> {
-    pub(crate) fn lives_of(&self, number: u64) -> &'a PairLives {
+    /// The lives of the pair of a number, or those that are sought where no pair has it.
+    pub fn lives_of(&self, number: u64) -> &'a PairLives {
         match self.lives.get(number as usize) {
             Some(lives) => lives,
             None => self.sought,
         }
     }
 
-    pub(crate) fn key(&self, number: u64, tag: u64) -> Key<'a> {
-        Key {
+    /// A pair's key, with a tag by which no key is compared.
+    pub fn key(&self, number: u64, tag: u64) -> Item<'a> {
+        Item {
             number,
             tag,
             lives: &self.lives_of(number).key,
@@ -64,8 +99,8 @@ impl<'a> World<'a> {
     }
 
     /// A key to search by, whose drop is no pair's.
-    pub(crate) fn sought(&self, number: u64) -> Key<'a> {
-        Key {
+    pub fn sought(&self, number: u64) -> Item<'a> {
+        Item {
             number,
             tag: 0,
             lives: &self.sought.key,
@@ -74,16 +109,17 @@ impl<'a> World<'a> {
     }
 
     /// The value of a pair whose key has this number.
-    pub(crate) fn value(&self, of: u64, number: u64) -> Value<'a> {
-        Value {
+    pub fn value(&self, of: u64, number: u64) -> Item<'a> {
+        Item {
             number,
+            tag: 0,
             lives: &self.lives_of(of).value,
             counts: self.counts,
         }
     }
 
     /// Whether the keys and the values of so many numbers were dropped so often.
-    pub(crate) fn were_dropped(&self, first: u64, count: u64, drops: u64) -> bool {
+    pub fn were_dropped(&self, first: u64, count: u64, drops: u64) -> bool {
         for place in 0..count {
             let lives = self.lives_of(first.wrapping_add(place));
             if lives.key.drops.get() != drops || lives.value.drops.get() != drops {
@@ -94,7 +130,7 @@ impl<'a> World<'a> {
     }
 
     /// How many keys and values were copied, if none was copied twice, and each copy was dropped and nothing else.
-    pub(crate) fn dropped_copies(&self) -> Option<u64> {
+    pub fn dropped_copies(&self) -> Option<u64> {
         let mut copies = 0u64;
         for i in 0..self.lives.len() {
             let lives = &self.lives[i];
@@ -108,7 +144,8 @@ impl<'a> World<'a> {
         Some(copies)
     }
 
-    pub(crate) fn forget(&self) {
+    /// Comparisons, calls and lives are counted anew.
+    pub fn forget(&self) {
         self.counts.comparisons.set(0);
         self.counts.calls.set(0);
         forget_life(&self.sought.key);
@@ -130,7 +167,8 @@ fn is_copy_dropped(lives: &Lives) -> bool {
     copies <= 1 && lives.drops.get() == copies
 }
 
-pub(crate) fn are_same(one: &PairLives, other: &PairLives) -> bool {
+/// Whether two pairs were copied and dropped alike.
+pub fn are_same(one: &PairLives, other: &PairLives) -> bool {
     are_same_lives(&one.key, &other.key) && are_same_lives(&one.value, &other.value)
 }
 
@@ -138,16 +176,16 @@ fn are_same_lives(one: &Lives, other: &Lives) -> bool {
     one.copies.get() == other.copies.get() && one.drops.get() == other.drops.get()
 }
 
-/// A key that counts its comparisons. Keys of one number are equal, whatever their tags.
-pub(crate) struct Key<'a> {
-    pub(crate) number: u64,
-    pub(crate) tag: u64,
-    pub(crate) lives: &'a Lives,
-    pub(crate) counts: &'a Counts,
+/// A number that counts its comparisons, copies and drops. Items of one number are equal, whatever their tags.
+pub struct Item<'a> {
+    pub number: u64,
+    pub tag: u64,
+    pub lives: &'a Lives,
+    pub counts: &'a Counts,
 }
 
-impl PartialEq for Key<'_> {
-    ghost eq = { on (λ key. key.number) ◌==◌ };
+impl PartialEq for Item<'_> {
+    ghost eq = { on (λ item. item.number) ◌==◌ };
 
     ghost laws = { Prim.search (comparing, rules) };
 
@@ -157,12 +195,12 @@ impl PartialEq for Key<'_> {
     }
 }
 
-impl Eq for Key<'_> {
+impl Eq for Item<'_> {
     ghost laws = { Prim.search (comparing, rules) };
 }
 
-impl PartialOrd for Key<'_> {
-    ghost partial_cmp = { as_partial_cmp (on (λ key. key.number) nat_cmp) };
+impl PartialOrd for Item<'_> {
+    ghost partial_cmp = { as_partial_cmp (on (λ item. item.number) nat_cmp) };
 
     ghost laws = { partial_order_from_own_ties (Prim.search (comparing, rules)) (Prim.search (comparing, rules)) };
 
@@ -171,8 +209,8 @@ impl PartialOrd for Key<'_> {
     }
 }
 
-impl Ord for Key<'_> {
-    ghost cmp = { on (λ key. key.number) nat_cmp };
+impl Ord for Item<'_> {
+    ghost cmp = { on (λ item. item.number) nat_cmp };
 
     ghost total = { Prim.search (comparing, rules) };
 
@@ -186,10 +224,10 @@ impl Ord for Key<'_> {
     }
 }
 
-impl Drop for Key<'_> {
+impl Drop for Item<'_> {
     fn drop(self) {
         add_one(&self.lives.drops);
-        let Key {
+        let Item {
             number: _,
             tag: _,
             lives: _,
@@ -198,14 +236,14 @@ impl Drop for Key<'_> {
     }
 }
 
-impl TryClone for Key<'_> {
+impl TryClone for Item<'_> {
     ghost same = { λ source copy. copy.number ≡ source.number };
 
     fn try_clone(&self) -> Result<Self, TryReserveError> {
         if !takes_copy(self.counts, self.lives) {
             return Err(TryReserveError::CapacityOverflow);
         }
-        Ok(Key {
+        Ok(Item {
             number: self.number,
             tag: self.tag,
             lives: self.lives,
@@ -214,61 +252,27 @@ impl TryClone for Key<'_> {
     }
 }
 
-/// A number that keys are searched by.
+/// A number that items are searched by.
 #[derive(Clone, Copy)]
-pub(crate) struct Number(pub(crate) u64);
+pub struct Number(pub u64);
 
-impl Query<Key<'_>> for Number {
+impl Query<Item<'_>> for Number {
     ghost Sought = { ℕ };
 
     ghost sought = { λ query. query.0 };
 
-    ghost order = { λ key number. nat_cmp key.number number };
+    ghost order = { λ item number. nat_cmp item.number number };
 
-    ghost fits = { viewed nat_cmp_total (λ key. key.number) (λ number. number) };
+    ghost fits = { viewed nat_cmp_total (λ item. item.number) (λ number. number) };
 
-    fn order_of(&self, key: &Key<'_>) -> Ordering {
-        add_one(&key.counts.comparisons);
-        key.number.cmp(&self.0)
+    fn order_of(&self, item: &Item<'_>) -> Ordering {
+        add_one(&item.counts.comparisons);
+        item.number.cmp(&self.0)
     }
 }
 
-#[derive_where(PartialEq, Eq, PartialOrd, Ord)]
-pub(crate) struct Value<'a> {
-    pub(crate) number: u64,
-    #[derive_where(skip)]
-    pub(crate) lives: &'a Lives,
-    #[derive_where(skip)]
-    pub(crate) counts: &'a Counts,
-}
-
-impl Drop for Value<'_> {
-    fn drop(self) {
-        add_one(&self.lives.drops);
-        let Value {
-            number: _,
-            lives: _,
-            counts: _,
-        } = self;
-    }
-}
-
-impl TryClone for Value<'_> {
-    ghost same = { λ source copy. copy.number ≡ source.number };
-
-    fn try_clone(&self) -> Result<Self, TryReserveError> {
-        if !takes_copy(self.counts, self.lives) {
-            return Err(TryReserveError::CapacityOverflow);
-        }
-        Ok(Value {
-            number: self.number,
-            lives: self.lives,
-            counts: self.counts,
-        })
-    }
-}
-
-pub(crate) fn add_one(count: &Cell<u64>) {
+/// Counts one more.
+pub fn add_one(count: &Cell<u64>) {
     count.set(count.get().wrapping_add(1));
 }
 
