@@ -18,7 +18,7 @@ const OURS: u64 = 0;
 const THEIRS: u64 = 1;
 
 // Above all numbers of both maps.
-const END: u64 = 90;
+const END: u64 = 180;
 
 // A number as a key, with the map that it comes from, of which its order knows nothing.
 #[derive(Clone, Copy)]
@@ -298,6 +298,15 @@ fn keys_above_or_below(rt: HostRuntime) -> Result<(), Fail> {
 #[test]
 fn keys_that_take_turns(rt: HostRuntime) -> Result<(), Fail> {
     assert!(rt; appends_all(rt.alloc(), Layout::Interleaved)?);
+    Ok(())
+}
+
+// One insertion after another would make some six comparisons a pair or more.
+#[test]
+fn eighty_eight_keys_take_turns_with_as_many(rt: HostRuntime) -> Result<(), Fail> {
+    let (ours, theirs) = laid_out(Layout::Interleaved, 88, 88);
+    let most = most_comparisons(Layout::Interleaved, 88, 88);
+    assert!(rt; appends(rt.alloc(), ours, theirs, most, true)?);
     Ok(())
 }
 
