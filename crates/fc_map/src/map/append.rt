@@ -11,8 +11,8 @@ use fc_base::{Count, TryReserveError};
 
 impl<K: Ord + Drop, V: Drop> BTreeMap<K, V> {
     /// Takes all pairs of `other`, which is then empty. Where both maps hold an equal key, key and value are `other`'s, and ours are
-    /// dropped. It compares at most once for each pair of both; where one of the two is empty nothing is asked for and nothing compared.
-    /// Upstream: `BTreeMap::append`, which answers nothing.
+    /// dropped. Where one of the two is empty nothing is asked for and nothing compared. Upstream: `BTreeMap::append`, which answers
+    /// nothing.
     ///
     /// # Errors
     /// Only where neither map is empty: `CapacityOverflow` where their lengths add past `usize::MAX`, and then always; else
