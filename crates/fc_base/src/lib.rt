@@ -4,6 +4,7 @@
 
 pub mod boxed;
 pub mod count;
+mod given_back;
 pub mod list_laws;
 pub mod query;
 pub mod rc;

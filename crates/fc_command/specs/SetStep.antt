@@ -16,7 +16,7 @@ use Rattle.fc_lines.specs.declared.command.SetOp.TheVariants.{Difference, Symmet
 use Rattle.fc_lines.specs.declared.command.Command.{Command}
 use Rattle.fc_lines.specs.declared.command.Command.TheVariants.{AddItem, ReplaceItem, TakeItem, RemoveItem, ContainsItem, GetItem, SetLen, SetClear, SetAppend, SetSplitOff, SetClone, SetExtend, SetWalk, List as ListItems, Keep, IsDisjoint, IsSubset, IsSuperset, SetCmp}
 use Rattle.fc_lines.specs.declared.command.Reply.{Reply}
-use Rattle.fc_lines.specs.declared.command.Reply.TheVariants.{Done, Flag, Key, Keys, Len, Order, BadRange, Refused}
+use Rattle.fc_lines.specs.declared.command.Reply.TheVariants.{Done, Flag, Key, Keys, Len, Order, BadRange, Refused, ItemGivenBack}
 use Rattle.fc_command.specs.Walks.{walked, MayRefuseFound}
 
 -- What a command makes of the items m of the named set and of the items o of the other, and its reply.
@@ -62,6 +62,12 @@ module _ {K V : Type 0} (cmp : K → K → Ordering) where
   answer_on_sets (SetCmp side) m o = record { m = m; o = o; reply = Order (slice_cmp cmp m o) }
   answer_on_sets c m o = record { m = m; o = o; reply = Done }
 
+  -- The reply to a command that is refused: an insertion hands back the item that it was to put in.
+  abbrev pub item_refusal : Command K V → TryReserveError → Reply K V
+  item_refusal (AddItem side k) e = ItemGivenBack k e
+  item_refusal (ReplaceItem side k) e = ItemGivenBack k e
+  item_refusal c e = Refused e
+
   -- Whether a command may be refused when a part of it is done, what it has then made of the items, and by which error: an extension
   -- at a new item, as an insertion of it there. The items before it stay.
   abbrev pub MayStopOnSets : Command K V → List K → List K → TryReserveError → Type 0
@@ -97,5 +103,5 @@ module _ {K V : Type 0} (cmp : K → K → Ordering) (may_refuse : K → TryRese
   -- when a part of it is done.
   pub data StepOnSets (c : Command K V) (m o : Map K ⊤) (r : Reply K V) (m' o' : Map K ⊤) : Type 0 where
     answered : (MustRefuseOnSets cmp c (items m) (items o) → ⊥) → (let out = answer_on_sets cmp c (items m) (items o) in (r ≡ out.reply) × (items m' ≡ out.m) × (items o' ≡ out.o)) → StepOnSets c m o r m' o'
-    refused : (e : TryReserveError) → MayRefuseOnSets c (items m) (items o) e → (r ≡ Refused e) × (m' ≡ m) × (o' ≡ o) → StepOnSets c m o r m' o'
+    refused : (e : TryReserveError) → MayRefuseOnSets c (items m) (items o) e → (r ≡ item_refusal c e) × (m' ≡ m) × (o' ≡ o) → StepOnSets c m o r m' o'
     stopped : (e : TryReserveError) → MayStopOnSets cmp c (items m) (items m') e → (r ≡ Refused e) × (o' ≡ o) → StepOnSets c m o r m' o'

@@ -22,7 +22,7 @@ use Rattle.fc_lines.specs.declared.command.Side.TheVariants.{First, Second}
 use Rattle.fc_lines.specs.declared.command.Command.{Command}
 use Rattle.fc_lines.specs.declared.command.Command.TheVariants.{Insert, Get, GetKeyValue, ContainsKey, Remove, Set, Entry, RemoveEntry, Len as CountPairs, Clear, Walk, Write, Append, SplitOff, TryClone, Extend}
 use Rattle.fc_lines.specs.declared.command.Reply.{Reply}
-use Rattle.fc_lines.specs.declared.command.Reply.TheVariants.{Done, Flag, Value, Pair, Len, Pairs, BadRange, Refused}
+use Rattle.fc_lines.specs.declared.command.Reply.TheVariants.{Done, Flag, Value, Pair, Len, Pairs, BadRange, Refused, GivenBack}
 use Rattle.fc_command.specs.SetStep.{StepOnSets}
 use Rattle.fc_command.specs.Walks.{walked, MayRefuseFound}
 use Rattle.fc_command.specs.Writing.{rewritten}
@@ -82,6 +82,12 @@ module _ {K V : Type 0} (cmp : K → K → Ordering) where
   answer (Extend side pairs) m o = record { m = extended cmp m pairs; o = o; reply = Done }
   answer c m o = record { m = m; o = o; reply = Done }
 
+  -- The reply to a command that is refused: an insertion hands back the key and the value that it was to put in.
+  abbrev pub refusal : Command K V → TryReserveError → Reply K V
+  refusal (Insert side k v) e = GivenBack k v e
+  refusal (Entry side k v w) e = GivenBack k w e
+  refusal c e = Refused e
+
   -- Whether a command may be refused when a part of it is done, what it has then made of the list, and by which error: an extension
   -- at a pair with a new key, as an insertion of it there. The pairs before it stay.
   abbrev pub MayStop : Command K V → List (K × V) → List (K × V) → TryReserveError → Type 0
@@ -116,7 +122,7 @@ module _ {K V : Type 0} (cmp : K → K → Ordering) (refuses_key : K → TryRes
   -- when a part of it is done.
   pub data StepOn (c : Command K V) (m o : Map K V) (r : Reply K V) (m' o' : Map K V) : Type 0 where
     answered : (MustRefuse cmp c (entries m) (entries o) → ⊥) → (let out = answer cmp c (entries m) (entries o) in (r ≡ out.reply) × (entries m' ≡ out.m) × (entries o' ≡ out.o)) → StepOn c m o r m' o'
-    refused : (e : TryReserveError) → MayRefuse c (entries m) (entries o) e → (r ≡ Refused e) × (m' ≡ m) × (o' ≡ o) → StepOn c m o r m' o'
+    refused : (e : TryReserveError) → MayRefuse c (entries m) (entries o) e → (r ≡ refusal c e) × (m' ≡ m) × (o' ≡ o) → StepOn c m o r m' o'
     stopped : (e : TryReserveError) → MayStop cmp c (entries m) (entries m') e → (r ≡ Refused e) × (o' ≡ o) → StepOn c m o r m' o'
 
   -- A command on what it names may lead from one world to another with this reply. The maps or sets of the other kind are as before.

@@ -222,20 +222,26 @@ pub fn put_inner<K: Drop, V: Drop>(
 /// The root of a tree of one pair: a leaf.
 ///
 /// # Errors
-/// `AllocError` if the leaf is refused. The pair is then dropped.
+/// `AllocError` if the leaf is refused. The pair then comes back.
 pub fn first_leaf<K: Drop, V: Drop>(
     alloc: Global,
     pair: (K, V),
     count: &mut Count,
-) -> Result<Box<Node<K, V>>, TryReserveError>
+) -> Result<Box<Node<K, V>>, (K, V, TryReserveError)>
     ensures pairs { IfOk result (λ root. pairs_of root.value ≡ pair ∷ []) }
     ensures sound { IfOk result (λ root. IsSoundRoot 0 root.value) }
-    ensures err { IfErr result (λ e. e ≡ TryReserveError.AllocError) }
+    ensures back { IfErr result (λ e. (e.0, e.1) ≡ pair) }
+    ensures err { IfErr result (λ e. e.2 ≡ TryReserveError.AllocError) }
     ensures comparisons { count.new.comparisons ≡ count.old.comparisons }
     ensures moves { IfOk result (λ _. count.new.moves ≡ count.old.moves + 1) }
     ensures no_move { IfErr result (λ _. count.new.moves ≡ count.old.moves) }
 {
-    let mut root = Node::try_leaf(alloc)?;
-    root.insert_leaf(0, pair, count);
-    Ok(root)
+    match Node::try_leaf(alloc) {
+        Ok(leaf) => {
+            let mut root = leaf;
+            root.insert_leaf(0, pair, count);
+            Ok(root)
+        }
+        Err(e) => Err((pair.0, pair.1, e)),
+    }
 }

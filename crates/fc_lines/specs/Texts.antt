@@ -7,7 +7,7 @@ use Rattle.std.specs.declared.cmp.Ordering.TheVariants.{Less, Equal, Greater}
 use Rattle.fc_base.specs.declared.try_reserve_error.TryReserveError.{TryReserveError}
 use Rattle.fc_base.specs.declared.try_reserve_error.TryReserveError.TheVariants.{AllocError, CapacityOverflow}
 use Rattle.fc_lines.specs.declared.command.Reply.{Reply}
-use Rattle.fc_lines.specs.declared.command.Reply.TheVariants.{Done, Flag, Key, Value, Pair, Len, Pairs, Keys, Order, BadRange, Refused}
+use Rattle.fc_lines.specs.declared.command.Reply.TheVariants.{Done, Flag, Key, Value, Pair, Len, Pairs, Keys, Order, BadRange, Refused, GivenBack, ItemGivenBack}
 
 -- A number that may be missing.
 abbrev pub option_text : Option ℕ → List ℕ
@@ -58,6 +58,8 @@ words_of_reply (Keys steps) = codes "list" ++ flat_map item_text steps
 words_of_reply (Order o) = order_text o
 words_of_reply BadRange = codes "bad range"
 words_of_reply (Refused e) = refusal_text e
+words_of_reply (GivenBack k v e) = refusal_text e ++ codes " " ++ decimal k ++ codes " " ++ decimal v
+words_of_reply (ItemGivenBack k e) = refusal_text e ++ codes " " ++ decimal k
 
 -- The line that is written for a reply.
 unfoldable pub text_of : Reply ℕ ℕ → List ℕ

@@ -158,6 +158,10 @@ pub enum Reply<K, V> {
     BadRange,
     /// The command was refused, and the world is as before, but for what `Extend` or `SetExtend` had put in.
     Refused(TryReserveError),
+    /// An insertion was refused, and the world is as before: the key and the value that were to be put in.
+    GivenBack(K, V, TryReserveError),
+    /// An insertion into a set was refused, and the world is as before: the item that was to be put in.
+    ItemGivenBack(K, TryReserveError),
 }
 
 impl<K, V> Command<K, V> {

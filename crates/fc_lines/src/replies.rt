@@ -33,6 +33,14 @@ pub fn write_reply(text: &mut String, reply: &Reply<u64, u64>) -> Result<(), All
         Reply::BadRange => write!(text, "bad range\n"),
         Reply::Refused(TryReserveError::AllocError) => write!(text, "refused alloc\n"),
         Reply::Refused(TryReserveError::CapacityOverflow) => { write!(text, "refused overflow\n") }
+        Reply::GivenBack(key, value, TryReserveError::AllocError) => {
+            write!(text, "refused alloc {key} {value}\n")
+        }
+        Reply::GivenBack(key, value, TryReserveError::CapacityOverflow) => {
+            write!(text, "refused overflow {key} {value}\n")
+        }
+        Reply::ItemGivenBack(key, TryReserveError::AllocError) => { write!(text, "refused alloc {key}\n") }
+        Reply::ItemGivenBack(key, TryReserveError::CapacityOverflow) => { write!(text, "refused overflow {key}\n") }
     }
 }
 

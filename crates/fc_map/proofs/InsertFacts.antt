@@ -1,6 +1,5 @@
 -- An insertion into a gap of a tree.
 use Rattle.std.proofs.Common.{◌≡◌, ℕ, suc, zero, ◌+◌, ◌-◌, ◌*◌, ◌^◌, ◌<◌, ◌≤◌, Bool, true, false, List, [], ◌∷◌, ◌++◌, length, Some, Result, Ok, Err, refl, ap, ◌∙◌, arith, length-append}
-use Rattle.std.specs.Prelude.{OnErr}
 use Rattle.std.specs.declared.cmp.Ordering.{Ordering}
 use Rattle.fc_base.specs.declared.count.Count.{Count}
 use Rattle.fc_base.specs.OneKey.{put}
@@ -16,10 +15,6 @@ use Rattle.fc_node.proofs.Pairs.{child_below, leaf_pairs}
 use Rattle.fc_search.proofs.SearchFacts.{gap_at}
 use Rattle.fc_map.specs.Counts.{IsMoved}
 use Rattle.fc_map.specs.Entries.{IsSoundMap}
-
-pub on_err : {A E : Type 0} (r : Result A E) (P : Type 0) → P → OnErr r P
-on_err (Ok x) P p = tt
-on_err (Err e) P p = p
 
 module _ {K V : Type 0} where
   -- A tree holds the pairs of the leaf that a path ends in.

@@ -235,13 +235,18 @@ impl<K: Ord + Drop, V: Drop> BTreeMap<K, V> {
     /// # Errors
     /// Only at a new key: `CapacityOverflow` where the map holds `usize::MAX` pairs, and then always; else `AllocError`, where a
     /// request for memory was refused, which takes an empty map or a full leaf. The map is then as it was, tree and all, and key
-    /// and value are dropped.
-    pub fn try_insert(&mut self, key: K, value: V) -> Result<Option<V>, TryReserveError>
+    /// and value come back.
+    pub fn try_insert(
+        &mut self,
+        key: K,
+        value: V,
+    ) -> Result<Option<V>, (K, V, TryReserveError)>
         ensures old { IfOk result (λ old. old ≡ value_at K.cmp (entries self.old) key) }
         ensures put { IfOk result (λ _. entries self.new ≡ put K.cmp (entries self.old) key value) }
         ensures unchanged { IfErr result (λ _. self.new ≡ self.old) }
         ensures new_key { IfErr result (λ _. at K.cmp (entries self.old) key ≡ None) }
-        ensures error { IfErr result (MayGrowRefuse (length (entries self.old))) }
+        ensures back { IfErr result (λ e. (e.0 ≡ key) × (e.1 ≡ value)) }
+        ensures error { IfErr result (λ e. MayGrowRefuse (length (entries self.old)) e.2) }
         ensures full { at K.cmp (entries self.old) key ≡ None → length (entries self.old) ≡ usize.MAX → IsErr result }
         ensures ascending { IsAscending K.cmp (entries self.new) }
         ensures sound { IsSoundMap self.new }
@@ -259,12 +264,13 @@ impl<K: Ord + Drop, V: Drop> BTreeMap<K, V> {
         key: K,
         value: V,
         count: &mut Count,
-    ) -> Result<Option<V>, TryReserveError>
+    ) -> Result<Option<V>, (K, V, TryReserveError)>
         ensures old { IfOk result (λ old. old ≡ value_at K.cmp (entries self.old) key) }
         ensures put { IfOk result (λ _. entries self.new ≡ put K.cmp (entries self.old) key value) }
         ensures unchanged { IfErr result (λ _. self.new ≡ self.old) }
         ensures new_key { IfErr result (λ _. at K.cmp (entries self.old) key ≡ None) }
-        ensures error { IfErr result (MayGrowRefuse (length (entries self.old))) }
+        ensures back { IfErr result (λ e. (e.0 ≡ key) × (e.1 ≡ value)) }
+        ensures error { IfErr result (λ e. MayGrowRefuse (length (entries self.old)) e.2) }
         ensures full { at K.cmp (entries self.old) key ≡ None → length (entries self.old) ≡ usize.MAX → IsErr result }
         ensures ascending { IsAscending K.cmp (entries self.new) }
         ensures sound { IsSoundMap self.new }
@@ -278,7 +284,7 @@ impl<K: Ord + Drop, V: Drop> BTreeMap<K, V> {
             Ok(()) => Ok(Some(self.replace_at(&path, &key, value))),
             Err(gap) => match self.insert_at(&mut path, gap.has_room, key, value, count) {
                 Ok(()) => Ok(None),
-                Err(e) => Err(e),
+                Err(back) => Err(back),
             },
         }
     }
@@ -337,13 +343,14 @@ impl<K: Ord + Drop, V: Drop> BTreeMap<K, V> {
         key: K,
         value: V,
         count: &mut Count,
-    ) -> Result<(), TryReserveError>
+    ) -> Result<(), (K, V, TryReserveError)>
         requires gap { IsOpenAt K.cmp key self.old path.old }
         requires room { TellsRoom has_room path.old self.old }
         ensures put { OnOk result (entries self.new ≡ put K.cmp (entries self.old) key value) }
         ensures place { OnOk result (IsPutIn path.new self.new (key, value) (before_of self.old path.old) (after_of self.old path.old)) }
         ensures unchanged { OnErr result (self.new ≡ self.old) }
-        ensures error { IfErr result (MayGrowRefuse (length (entries self.old))) }
+        ensures back { IfErr result (λ e. (e.0 ≡ key) × (e.1 ≡ value)) }
+        ensures error { IfErr result (λ e. MayGrowRefuse (length (entries self.old)) e.2) }
         ensures full { length (entries self.old) ≡ usize.MAX → IsErr result }
         ensures ascending { IsAscending K.cmp (entries self.new) }
         ensures sound { IsSoundMap self.new }
@@ -354,7 +361,7 @@ impl<K: Ord + Drop, V: Drop> BTreeMap<K, V> {
         ensures moved { OnOk result (count.old.moves < count.new.moves) }
     {
         if self.len == usize::MAX {
-            return Err(TryReserveError::CapacityOverflow);
+            return Err((key, value, TryReserveError::CapacityOverflow));
         }
         let Some(root) = &mut self.root else {
             return self.insert_first(path, key, value, count);
@@ -372,13 +379,14 @@ impl<K: Ord + Drop, V: Drop> BTreeMap<K, V> {
         key: K,
         value: V,
         count: &mut Count,
-    ) -> Result<(), TryReserveError>
+    ) -> Result<(), (K, V, TryReserveError)>
         requires empty { self.old ≡ None }
         requires start { path.old ≡ [] }
         ensures put { OnOk result (entries self.new ≡ (key, value) ∷ []) }
         ensures place { OnOk result (IsPutIn path.new self.new (key, value) [] []) }
         ensures unchanged { OnErr result (self.new ≡ self.old) }
-        ensures error { IfErr result (λ e. e ≡ TryReserveError.AllocError) }
+        ensures back { IfErr result (λ e. (e.0 ≡ key) × (e.1 ≡ value)) }
+        ensures error { IfErr result (λ e. e.2 ≡ TryReserveError.AllocError) }
         ensures ascending { IsAscending K.cmp (entries self.new) }
         ensures sound { IsSoundMap self.new }
         ensures comparisons { count.new.comparisons ≡ count.old.comparisons }
@@ -420,7 +428,7 @@ fn insert_in<K: Ord + Drop, V: Drop>(
     has_room: bool,
     pair: (K, V),
     count: &mut Count,
-) -> Result<(), TryReserveError>
+) -> Result<(), (K, V, TryReserveError)>
     requires gap { IsGap K.cmp pair.0 root.old.value path.old }
     requires room { IsTrue has_room ↔ (length (own_pairs (leaf_at path.old root.old.value)) < 11) }
     requires sound { IsSoundMap (Some root.old.value) }
@@ -430,7 +438,8 @@ fn insert_in<K: Ord + Drop, V: Drop>(
     ensures length { OnOk result (length (pairs_of root.new.value) ≡ length (pairs_of root.old.value) + 1) }
     ensures sound { IsSoundMap (Some root.new.value) }
     ensures unchanged { OnErr result (root.new ≡ root.old) }
-    ensures error { IfErr result (λ e. e ≡ TryReserveError.AllocError) }
+    ensures back { IfErr result (λ e. (e.0 ≡ pair.0) × (e.1 ≡ pair.1)) }
+    ensures error { IfErr result (λ e. e.2 ≡ TryReserveError.AllocError) }
     ensures leaf { OnErr result (11 ≤ length (pairs_of root.old.value)) }
     ensures comparisons { count.new.comparisons ≡ count.old.comparisons }
     ensures no_move { OnErr result (count.new.moves ≡ count.old.moves) }
@@ -452,7 +461,7 @@ fn insert_split<K: Ord + Drop, V: Drop>(
     path: &mut Path,
     pair: (K, V),
     count: &mut Count,
-) -> Result<(), TryReserveError>
+) -> Result<(), (K, V, TryReserveError)>
     requires gap { IsGap K.cmp pair.0 root.old.value path.old }
     requires sound { IsSoundMap (Some root.old.value) }
     requires fits { length (pairs_of root.old.value) < usize.MAX }
@@ -461,14 +470,19 @@ fn insert_split<K: Ord + Drop, V: Drop>(
     ensures length { OnOk result (length (pairs_of root.new.value) ≡ length (pairs_of root.old.value) + 1) }
     ensures sound { IsSoundMap (Some root.new.value) }
     ensures unchanged { OnErr result (root.new ≡ root.old) }
-    ensures error { IfErr result (λ e. e ≡ TryReserveError.AllocError) }
+    ensures back { IfErr result (λ e. (e.0 ≡ pair.0) × (e.1 ≡ pair.1)) }
+    ensures error { IfErr result (λ e. e.2 ≡ TryReserveError.AllocError) }
     ensures leaf { OnErr result (11 ≤ length (pairs_of root.old.value)) }
     ensures comparisons { count.new.comparisons ≡ count.old.comparisons }
     ensures no_move { OnErr result (count.new.moves ≡ count.old.moves) }
     ensures moves { OnOk result (IsMoved (length (pairs_of root.new.value)) count.old count.new) }
     ensures moved { OnOk result (count.old.moves < count.new.moves) }
 {
-    let room = try_room(alloc, root, path.as_slice())?;
-    insert(root, path, pair, room, count);
-    Ok(())
+    match try_room(alloc, root, path.as_slice()) {
+        Ok(room) => {
+            insert(root, path, pair, room, count);
+            Ok(())
+        }
+        Err(e) => Err((pair.0, pair.1, e)),
+    }
 }

@@ -176,7 +176,3 @@ module _ {A E : Type 0} where
   pub map_ok : (r : Result A E) (P Q : Type 0) → (P → Q) → IfOk r (λ _. P) → IfOk r (λ _. Q)
   map_ok (Ok x) P Q f p = f p
   map_ok (Err e) P Q f p = tt
-
-  pub if_err : (r : Result A E) (P : Type 0) → P → IfErr r (λ _. P)
-  if_err (Ok x) P p = tt
-  if_err (Err e) P p = p

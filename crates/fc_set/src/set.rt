@@ -142,13 +142,14 @@ impl<T: Ord + Drop> BTreeSet<T> {
     /// # Errors
     /// Only at a new item: `CapacityOverflow` where the set holds `usize::MAX` items, and then always; else `AllocError`, where a
     /// request for memory was refused, which takes an empty set or a full leaf. The set is then as it was, tree and all, and the
-    /// item is dropped.
-    pub fn try_insert(&mut self, item: T) -> Result<bool, TryReserveError>
+    /// item comes back.
+    pub fn try_insert(&mut self, item: T) -> Result<bool, (T, TryReserveError)>
         ensures new { IfOk result (λ new. IsTrue new ↔ (item_at T.cmp (items self.old) item ≡ None)) }
         ensures put { IfOk result (λ _. items self.new ≡ with_item T.cmp (items self.old) item) }
         ensures unchanged { IfErr result (λ _. self.new ≡ self.old) }
         ensures new_item { IfErr result (λ _. item_at T.cmp (items self.old) item ≡ None) }
-        ensures error { IfErr result (MayGrowRefuse (length (items self.old))) }
+        ensures back { IfErr result (λ e. e.0 ≡ item) }
+        ensures error { IfErr result (λ e. MayGrowRefuse (length (items self.old)) e.1) }
         ensures full { item_at T.cmp (items self.old) item ≡ None → length (items self.old) ≡ usize.MAX → IsErr result }
         ensures ascending { AreAscending T.cmp (items self.new) }
         ensures sound { IsSoundMap self.new }
@@ -165,12 +166,13 @@ impl<T: Ord + Drop> BTreeSet<T> {
         &mut self,
         item: T,
         count: &mut Count,
-    ) -> Result<bool, TryReserveError>
+    ) -> Result<bool, (T, TryReserveError)>
         ensures new { IfOk result (λ new. IsTrue new ↔ (item_at T.cmp (items self.old) item ≡ None)) }
         ensures put { IfOk result (λ _. items self.new ≡ with_item T.cmp (items self.old) item) }
         ensures unchanged { IfErr result (λ _. self.new ≡ self.old) }
         ensures new_item { IfErr result (λ _. item_at T.cmp (items self.old) item ≡ None) }
-        ensures error { IfErr result (MayGrowRefuse (length (items self.old))) }
+        ensures back { IfErr result (λ e. e.0 ≡ item) }
+        ensures error { IfErr result (λ e. MayGrowRefuse (length (items self.old)) e.1) }
         ensures full { item_at T.cmp (items self.old) item ≡ None → length (items self.old) ≡ usize.MAX → IsErr result }
         ensures ascending { AreAscending T.cmp (items self.new) }
         ensures sound { IsSoundMap self.new }
@@ -179,8 +181,10 @@ impl<T: Ord + Drop> BTreeSet<T> {
         ensures moved { OnOk result (item_at T.cmp (items self.old) item ≡ None → count.old.moves < count.new.moves) }
         ensures bounded { IsBounded (length (items self.new)) count.old count.new }
     {
-        let old = self.map.try_insert_counted(item, (), count)?;
-        Ok(old.is_none())
+        match self.map.try_insert_counted(item, (), count) {
+            Ok(old) => return Ok(old.is_none()),
+            Err((item, _, e)) => return Err((item, e)),
+        }
     }
 
     /// Takes the equal item out and drops it: true where there was one. It takes no memory. Upstream: `BTreeSet::remove`.
@@ -242,12 +246,13 @@ impl<T: Ord + Drop> BTreeSet<T> {
     ///
     /// # Errors
     /// As `try_insert`, only at a new item.
-    pub fn replace(&mut self, item: T) -> Result<Option<T>, TryReserveError>
+    pub fn replace(&mut self, item: T) -> Result<Option<T>, (T, TryReserveError)>
         ensures old { IfOk result (λ old. old ≡ item_at T.cmp (items self.old) item) }
         ensures put { IfOk result (λ _. items self.new ≡ with_replaced T.cmp (items self.old) item) }
         ensures unchanged { IfErr result (λ _. self.new ≡ self.old) }
         ensures new_item { IfErr result (λ _. item_at T.cmp (items self.old) item ≡ None) }
-        ensures error { IfErr result (MayGrowRefuse (length (items self.old))) }
+        ensures back { IfErr result (λ e. e.0 ≡ item) }
+        ensures error { IfErr result (λ e. MayGrowRefuse (length (items self.old)) e.1) }
         ensures full { item_at T.cmp (items self.old) item ≡ None → length (items self.old) ≡ usize.MAX → IsErr result }
         ensures ascending { AreAscending T.cmp (items self.new) }
         ensures sound { IsSoundMap self.new }
@@ -264,12 +269,13 @@ impl<T: Ord + Drop> BTreeSet<T> {
         &mut self,
         item: T,
         count: &mut Count,
-    ) -> Result<Option<T>, TryReserveError>
+    ) -> Result<Option<T>, (T, TryReserveError)>
         ensures old { IfOk result (λ old. old ≡ item_at T.cmp (items self.old) item) }
         ensures put { IfOk result (λ _. items self.new ≡ with_replaced T.cmp (items self.old) item) }
         ensures unchanged { IfErr result (λ _. self.new ≡ self.old) }
         ensures new_item { IfErr result (λ _. item_at T.cmp (items self.old) item ≡ None) }
-        ensures error { IfErr result (MayGrowRefuse (length (items self.old))) }
+        ensures back { IfErr result (λ e. e.0 ≡ item) }
+        ensures error { IfErr result (λ e. MayGrowRefuse (length (items self.old)) e.1) }
         ensures full { item_at T.cmp (items self.old) item ≡ None → length (items self.old) ≡ usize.MAX → IsErr result }
         ensures ascending { AreAscending T.cmp (items self.new) }
         ensures sound { IsSoundMap self.new }
@@ -279,8 +285,10 @@ impl<T: Ord + Drop> BTreeSet<T> {
         ensures exchanged { IsSome (item_at T.cmp (items self.old) item) → count.new.moves ≡ count.old.moves + 2 }
         ensures bounded { IsBounded (length (items self.new)) count.old count.new }
     {
-        let old = item::replace(&mut self.map, item, (), count)?;
-        Ok(item_of(old))
+        match item::replace(&mut self.map, item, (), count) {
+            Ok(old) => return Ok(item_of(old)),
+            Err((item, _, e)) => return Err((item, e)),
+        }
     }
 }
 

@@ -55,7 +55,7 @@ fn add<K: Ord + TryClone, V: TryClone>(set: &mut BTreeSet<K>, item: K) -> Reply<
 {
     match set.try_insert(item) {
         Ok(new) => Reply::Flag(new),
-        Err(e) => Reply::Refused(e),
+        Err((item, e)) => Reply::ItemGivenBack(item, e),
     }
 }
 
@@ -65,7 +65,7 @@ fn replace<K: Ord + TryClone, V: TryClone>(set: &mut BTreeSet<K>, item: K) -> Re
 {
     match set.replace(item) {
         Ok(old) => Reply::Key(old),
-        Err(e) => Reply::Refused(e),
+        Err((item, e)) => Reply::ItemGivenBack(item, e),
     }
 }
 

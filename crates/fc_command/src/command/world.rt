@@ -126,7 +126,7 @@ fn step_on<K: Ord + TryClone, V: TryClone>(
     match command {
         Command::Insert(_, key, value) => match map.try_insert(key, value) {
             Ok(old) => Reply::Value(old),
-            Err(e) => Reply::Refused(e),
+            Err((key, value, e)) => Reply::GivenBack(key, value, e),
         },
         Command::Get(_, key) => get(map, &key),
         Command::GetKeyValue(_, key) => get_key_value(map, &key),
@@ -367,7 +367,7 @@ fn entry<K: Ord + TryClone, V: TryClone>(
     let found = matches!(held, Entry::Occupied(_));
     match held.and_modify(|value| *value = there).or_try_insert(new) {
         Ok(_) => Reply::Flag(found),
-        Err(e) => Reply::Refused(e),
+        Err((key, value, e)) => Reply::GivenBack(key, value, e),
     }
 }
 

@@ -71,12 +71,13 @@ pub fn replace<K: Ord + Drop, V: Drop>(
     key: K,
     value: V,
     count: &mut Count,
-) -> Result<Option<(K, V)>, TryReserveError>
+) -> Result<Option<(K, V)>, (K, V, TryReserveError)>
     ensures old { IfOk result (λ old. old ≡ at K.cmp (entries map.old) key) }
     ensures put { IfOk result (λ _. entries map.new ≡ placed K.cmp (entries map.old) (key, value)) }
     ensures unchanged { IfErr result (λ _. map.new ≡ map.old) }
     ensures new_key { IfErr result (λ _. at K.cmp (entries map.old) key ≡ None) }
-    ensures error { IfErr result (MayGrowRefuse (length (entries map.old))) }
+    ensures back { IfErr result (λ e. (e.0 ≡ key) × (e.1 ≡ value)) }
+    ensures error { IfErr result (λ e. MayGrowRefuse (length (entries map.old)) e.2) }
     ensures full { at K.cmp (entries map.old) key ≡ None → length (entries map.old) ≡ usize.MAX → IsErr result }
     ensures ascending { IsAscending K.cmp (entries map.new) }
     ensures sound { IsSoundMap map.new }
@@ -91,7 +92,7 @@ pub fn replace<K: Ord + Drop, V: Drop>(
         Ok(()) => Ok(Some(map.exchange_at(&path, (key, value), count))),
         Err(gap) => match map.insert_at(&mut path, gap.has_room, key, value, count) {
             Ok(()) => Ok(None),
-            Err(e) => Err(e),
+            Err(back) => Err(back),
         },
     }
 }

@@ -49,11 +49,12 @@ impl<'a, K: Ord + Drop, V: Drop> Entry<'a, K, V> {
     ///
     /// # Errors
     /// As `VacantEntry::try_insert`, where no value is there.
-    pub fn or_try_insert(self, value: V) -> Result<&'a mut V, TryReserveError>
+    pub fn or_try_insert(self, value: V) -> Result<&'a mut V, (K, V, TryReserveError)>
         ensures* writes_back { sem 𝓛 (entry_lends_ok K.row V.row self.entry result) }
         ensures value { IfOk result (λ v. v.now ≡ unwrap_or (entry_value self.entry) value) }
+        ensures back { IfErr result (λ e. (entry_key self.entry ≡ Some e.0) × (e.1 ≡ value)) }
         ensures absent { OnErr result (entry_value self.entry ≡ None) }
-        ensures error { IfErr result (MayGrowRefuse (length (entries (entry_map self.entry)))) }
+        ensures error { IfErr result (λ e. MayGrowRefuse (length (entries (entry_map self.entry))) e.2) }
         ensures full { entry_value self.entry ≡ None → length (entries (entry_map self.entry)) ≡ usize.MAX → IsErr result }
     {
         match self {
@@ -66,14 +67,14 @@ impl<'a, K: Ord + Drop, V: Drop> Entry<'a, K, V> {
     /// once where no value is there, before any memory is asked for, and else not at all. Upstream: `Entry::or_try_insert_with`.
     ///
     /// # Errors
-    /// As `VacantEntry::try_insert`, where no value is there; what `make` answered is then dropped.
-    pub fn or_try_insert_with<F: FnOnce() -> V>(self, make: F) -> Result<&'a mut V, TryReserveError>
+    /// As `VacantEntry::try_insert`, where no value is there; what `make` answered then comes back with the key.
+    pub fn or_try_insert_with<F: FnOnce() -> V>(self, make: F) -> Result<&'a mut V, (K, V, TryReserveError)>
         requires { entry_value self ≡ None → F.pre make }
         ensures* writes_back { sem 𝓛 (entry_lends_ok K.row V.row self.entry result) }
         ensures value { IfOk result (λ v. UnwrapsOrElse (entry_value self.entry) (F.post make) v.now) }
         ensures absent { OnErr result (entry_value self.entry ≡ None) }
-        ensures made { OnErr result ((v : V) × F.post make v) }
-        ensures error { IfErr result (MayGrowRefuse (length (entries (entry_map self.entry)))) }
+        ensures back { IfErr result (λ e. (entry_key self.entry ≡ Some e.0) × F.post make e.1) }
+        ensures error { IfErr result (λ e. MayGrowRefuse (length (entries (entry_map self.entry))) e.2) }
         ensures full { entry_value self.entry ≡ None → length (entries (entry_map self.entry)) ≡ usize.MAX → IsErr result }
     {
         match self {
@@ -86,13 +87,14 @@ impl<'a, K: Ord + Drop, V: Drop> Entry<'a, K, V> {
     ///
     /// # Errors
     /// As `VacantEntry::try_insert`, where no value is there.
-    pub fn or_default(self) -> Result<&'a mut V, TryReserveError>
+    pub fn or_default(self) -> Result<&'a mut V, (K, V, TryReserveError)>
     where
         V: Default,
         ensures* writes_back { sem 𝓛 (entry_lends_ok K.row V.row self.entry result) }
         ensures value { IfOk result (λ v. UnwrapsOrElse (entry_value self.entry) V.is_default v.now) }
+        ensures back { IfErr result (λ e. (entry_key self.entry ≡ Some e.0) × V.is_default e.1) }
         ensures absent { OnErr result (entry_value self.entry ≡ None) }
-        ensures error { IfErr result (MayGrowRefuse (length (entries (entry_map self.entry)))) }
+        ensures error { IfErr result (λ e. MayGrowRefuse (length (entries (entry_map self.entry))) e.2) }
         ensures full { entry_value self.entry ≡ None → length (entries (entry_map self.entry)) ≡ usize.MAX → IsErr result }
     {
         match self {

@@ -37,12 +37,13 @@ impl<'a, K: Ord + Drop, V: Drop> VacantEntry<'a, K, V> {
     ///
     /// # Errors
     /// `CapacityOverflow` where the map holds `usize::MAX` pairs, and then always; else `AllocError`, where a request for memory
-    /// was refused, which takes an empty map or a full leaf. The map is then as it was, tree and all, and key and value are
-    /// dropped.
-    pub fn try_insert(self, value: V) -> Result<&'a mut V, TryReserveError>
+    /// was refused, which takes an empty map or a full leaf. The map is then as it was, tree and all, and key and value come
+    /// back.
+    pub fn try_insert(self, value: V) -> Result<&'a mut V, (K, V, TryReserveError)>
         ensures* writes_back { sem 𝓛 (entry_lends_ok K.row V.row (Vacant self.entry) result) }
         ensures value { IfOk result (λ v. v.now ≡ value) }
-        ensures error { IfErr result (MayGrowRefuse (length (entries (entry_map (Vacant self.entry))))) }
+        ensures back { IfErr result (λ e. (entry_key (Vacant self.entry) ≡ Some e.0) × (e.1 ≡ value)) }
+        ensures error { IfErr result (λ e. MayGrowRefuse (length (entries (entry_map (Vacant self.entry)))) e.2) }
         ensures full { length (entries (entry_map (Vacant self.entry))) ≡ usize.MAX → IsErr result }
     {
         self.try_insert_counted(value, &mut Count::new())
@@ -56,10 +57,11 @@ impl<'a, K: Ord + Drop, V: Drop> VacantEntry<'a, K, V> {
         self,
         value: V,
         count: &mut Count,
-    ) -> Result<&'a mut V, TryReserveError>
+    ) -> Result<&'a mut V, (K, V, TryReserveError)>
         ensures* writes_back { sem 𝓛 (entry_lends_ok K.row V.row (Vacant self.entry) result) }
         ensures value { IfOk result (λ v. v.now ≡ value) }
-        ensures error { IfErr result (MayGrowRefuse (length (entries (entry_map (Vacant self.entry))))) }
+        ensures back { IfErr result (λ e. (entry_key (Vacant self.entry) ≡ Some e.0) × (e.1 ≡ value)) }
+        ensures error { IfErr result (λ e. MayGrowRefuse (length (entries (entry_map (Vacant self.entry)))) e.2) }
         ensures full { length (entries (entry_map (Vacant self.entry))) ≡ usize.MAX → IsErr result }
         ensures comparisons { count.new.comparisons ≡ count.old.comparisons }
         ensures no_move { OnErr result (count.new.moves ≡ count.old.moves) }

@@ -23,4 +23,4 @@ returns-in_err-try_insert-clause-refused g c =
     let p = err_from_is_err_and c.from_residual.result c.from_residual.ensures.1 in
     let taken = yields_more g.I.IntoIter.Iterator.next_gives c.into_iter-key-iterator.result c.loop-key.key-iterator c.next.new.self c.loop-key.yielded item c.loop-key.yielded_by c.in-Some.ensures.steps in
     let upto = up_to g.K.Ord.cmp (entries c.args.self.now) c.loop-key.yielded (entries c.loop-key.self) item _ c.loop-key.invariant.2 refusal.new_key refusal.error in
-    rw (p.1, p.2) (c.loop-key.yielded ++ item ∷ [], (c.into_iter-key-iterator.result, c.into_iter-key-iterator.ensures.into_iter_gives, c.next.new.self, taken), λ rest. subst (λ m. IsExtendedUpTo g.K.Ord.cmp (entries c.args.self.now) ((c.loop-key.yielded ++ item ∷ []) ++ rest) (entries m) c.in_err-try_insert.field-0.0) (sym refusal.unchanged) (upto rest))
+    rw (p.1, p.2) (c.loop-key.yielded ++ item ∷ [], (c.into_iter-key-iterator.result, c.into_iter-key-iterator.ensures.into_iter_gives, c.next.new.self, taken), λ rest. subst (λ m. IsExtendedUpTo g.K.Ord.cmp (entries c.args.self.now) ((c.loop-key.yielded ++ item ∷ []) ++ rest) (entries m) c.in_err-try_insert.field-0.0.2) (sym refusal.unchanged) (upto rest))

@@ -17,4 +17,4 @@ returns-in_err-try_insert-clause-refused g c =
     let p = err_from_is_err_and c.from_residual.result c.from_residual.ensures.1 in
     let taken = yields_more g.I.IntoIter.Iterator.next_gives c.into_iter-item-iterator.result c.loop-item.item-iterator c.next.new.self c.loop-item.yielded item c.loop-item.yielded_by c.in-Some.ensures.steps in
     let upto = up_to g.T.Ord.cmp (items c.args.self.now) c.loop-item.yielded (items c.loop-item.self) item _ c.loop-item.invariant.2 refusal.new_item refusal.error in
-    rw (p.1, p.2) (c.loop-item.yielded ++ item ∷ [], (c.into_iter-item-iterator.result, c.into_iter-item-iterator.ensures.into_iter_gives, c.next.new.self, taken), λ rest. subst (λ m. AreExtendedUpTo g.T.Ord.cmp (items c.args.self.now) ((c.loop-item.yielded ++ item ∷ []) ++ rest) (items m) c.in_err-try_insert.field-0.0) (sym refusal.unchanged) (upto rest))
+    rw (p.1, p.2) (c.loop-item.yielded ++ item ∷ [], (c.into_iter-item-iterator.result, c.into_iter-item-iterator.ensures.into_iter_gives, c.next.new.self, taken), λ rest. subst (λ m. AreExtendedUpTo g.T.Ord.cmp (items c.args.self.now) ((c.loop-item.yielded ++ item ∷ []) ++ rest) (items m) c.in_err-try_insert.field-0.0.1) (sym refusal.unchanged) (upto rest))

@@ -19,6 +19,7 @@ returns-in-Ok g c =
       record {
         writes_back = tt;
         value = cc;
+        back = tt;
         error = tt;
         full = c.in-Ok.ensures.full;
         comparisons = c.in-Ok.ensures.comparisons;
@@ -34,6 +35,7 @@ returns-in-Err g c = (
   record {
     writes_back = tt;
     value = tt;
+    back = (ap Some (sym c.in-Err.ensures.back.0), c.in-Err.ensures.back.1);
     error = c.in-Err.ensures.error;
     full = λ _. refl;
     comparisons = c.in-Err.ensures.comparisons;
