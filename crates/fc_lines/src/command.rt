@@ -50,7 +50,7 @@ pub enum End {
 /// A command on the map or the set that its side names, and in some also on the other one of its kind.
 #[derive(PartialEq, Eq, Debug, Drop)]
 pub enum Command<K, V> {
-    /// `try_insert` of the key and the value; replies `Value`, the old one. A new key may be refused.
+    /// `try_insert` of the key and the value; replies `Value`, the old one. A new key may be refused: then `GivenBack`, both.
     Insert(Side, K, V),
     /// `get`; replies `Value`, a copy. The copy may be refused.
     Get(Side, K),
@@ -63,7 +63,7 @@ pub enum Command<K, V> {
     /// Writes the value through `get_mut` where the key is there; replies `Value`, the old one.
     Set(Side, K, V),
     /// By `try_entry`: `and_modify` to the first value where the key is there, else `or_try_insert` of the second; replies `Flag`,
-    /// true where the key was there. A new key may be refused.
+    /// true where the key was there. A new key may be refused: then `GivenBack`, the key and the second value; the first is dropped.
     Entry(Side, K, V, V),
     /// `remove_entry` of the key's entry where it is there; replies `Pair`, the one taken out.
     RemoveEntry(Side, K),
@@ -88,9 +88,9 @@ pub enum Command<K, V> {
     /// `try_extend` by the pairs; replies `Done`. It may be refused at a pair with a new key, as `Insert` there: the pairs before it
     /// are then in the map.
     Extend(Side, Items<(K, V)>),
-    /// `try_insert` of the item into a set; replies `Flag`, true where it was new. A new item may be refused.
+    /// `try_insert` of the item into a set; replies `Flag`, true where it was new. A new item may be refused: then `ItemGivenBack`.
     AddItem(Side, K),
-    /// `replace`; replies `Key`, the equal item that was there. A new item may be refused.
+    /// `replace`; replies `Key`, the equal item that was there. A new item may be refused: then `ItemGivenBack`.
     ReplaceItem(Side, K),
     /// `take`; replies `Key`, the item taken out.
     TakeItem(Side, K),
@@ -156,11 +156,11 @@ pub enum Reply<K, V> {
     Order(Ordering),
     /// The bounds are no range.
     BadRange,
-    /// The command was refused, and the world is as before, but for what `Extend` or `SetExtend` had put in.
+    /// A command that hands nothing back was refused, and the world is as before, but for what `Extend` or `SetExtend` had put in.
     Refused(TryReserveError),
-    /// An insertion was refused, and the world is as before: the key and the value that were to be put in.
+    /// An `Insert` or an `Entry` was refused, and the world is as before: the key and the value that were to be put in.
     GivenBack(K, V, TryReserveError),
-    /// An insertion into a set was refused, and the world is as before: the item that was to be put in.
+    /// An `AddItem` or a `ReplaceItem` was refused, and the world is as before: the item that was to be put in.
     ItemGivenBack(K, TryReserveError),
 }
 

@@ -50,8 +50,8 @@ impl<K: Ord + TryClone, V: TryClone> World<K, V> {
         }
     }
 
-    /// Runs one command. A refusal is the reply `Refused`, and the world is then as it was, but for what a refused `Extend` or
-    /// `SetExtend` has put in.
+    /// Runs one command. A refusal is the reply `GivenBack` or `ItemGivenBack` for one pair or item, which then comes back, and else
+    /// `Refused`. The world is then as it was, but for what a refused `Extend` or `SetExtend` has put in.
     ///
     /// A caller shows that a copy of a key or of a value is that key or value itself. The reply names the error of a copy as it came;
     /// where no copy of a key or of a value is ever refused, as of numbers, a command that only copies is answered.
