@@ -74,19 +74,36 @@ fn a_run_of_no_commands_answers_no_reply(rt: HostRuntime) -> Result<(), Fail> {
     Ok(())
 }
 
-const INSERT_AND_COUNT: [&[u8]; 2] = [b"insert a 1 10", b"len a"];
-
-fn is_refused(reply: &Reply<u64, u64>) -> bool {
-    matches!(reply, Reply::Refused(TryReserveError::AllocError))
+fn tells(alloc: Global, reply: Reply<u64, u64>, wanted: &[u8]) -> bool {
+    let mut text = String::new(alloc);
+    is_written(&mut text, &reply) && text.as_bytes() == wanted
 }
 
-// Whether the insertion was done and one pair is there, or it was refused and none is.
+#[test]
+fn a_reply_tells_what_came_back(rt: HostRuntime) {
+    let (refused, full) = (
+        TryReserveError::AllocError,
+        TryReserveError::CapacityOverflow,
+    );
+    assert!(rt; tells(rt.alloc(), Reply::GivenBack(1, 2, refused), b"refused alloc 1 2\n"));
+    assert!(rt; tells(rt.alloc(), Reply::GivenBack(30, 0, full), b"refused overflow 30 0\n"));
+    assert!(rt; tells(rt.alloc(), Reply::ItemGivenBack(4, refused), b"refused alloc 4\n"));
+    assert!(rt; tells(rt.alloc(), Reply::ItemGivenBack(50, full), b"refused overflow 50\n"));
+}
+
+const INSERT_AND_COUNT: [&[u8]; 2] = [b"insert a 1 1", b"len a"];
+
+fn is_handed_back(reply: &Reply<u64, u64>) -> bool {
+    matches!(reply, Reply::GivenBack(1, 1, TryReserveError::AllocError))
+}
+
+// Whether the insertion was done and one pair is there, or it was refused and none is, and its pair came back.
 fn are_replies_of(replies: &[Reply<u64, u64>], len: usize) -> bool {
     match replies {
         [inserted, counted] => {
             is_len(counted, len)
                 && (if len == 0 {
-                    is_refused(inserted)
+                    is_handed_back(inserted)
                 } else {
                     matches!(inserted, Reply::Value(None))
                 })

@@ -20,6 +20,38 @@ fn outcome(world: &mut World<u64, u64>, command: Command<u64, u64>) -> Fate {
     }
 }
 
+const NO_VALUE: u64 = 0;
+
+// Whether the command puts 1 in, or is refused and hands it back, with this value if it is of a map.
+fn is_put_in_or_handed_back(alloc: Global, command: Command<u64, u64>, value: u64) -> bool {
+    let mut world = World::new(alloc);
+    match step(&mut world, command) {
+        Reply::Value(None) | Reply::Key(None) | Reply::Flag(_) => true,
+        Reply::GivenBack(1, found, TryReserveError::AllocError) => {
+            found == value && value != NO_VALUE
+        }
+        Reply::ItemGivenBack(1, TryReserveError::AllocError) => value == NO_VALUE,
+        _ => false,
+    }
+}
+
+// Of the two values of an entry the second is the one that would have been put in.
+#[test]
+fn a_refused_insertion_hands_back_what_it_was_given(rt: HostRuntime) {
+    let (insert, entry) = (
+        Command::Insert(Side::First, 1, 7),
+        Command::Entry(Side::First, 1, 8, 9),
+    );
+    assert!(rt; is_put_in_or_handed_back(rt.alloc(), insert, 7));
+    assert!(rt; is_put_in_or_handed_back(rt.alloc(), entry, 9));
+    let (add, replace) = (
+        Command::AddItem(Side::First, 1),
+        Command::ReplaceItem(Side::Second, 1),
+    );
+    assert!(rt; is_put_in_or_handed_back(rt.alloc(), add, NO_VALUE));
+    assert!(rt; is_put_in_or_handed_back(rt.alloc(), replace, NO_VALUE));
+}
+
 fn have(world: &mut World<u64, u64>, kind: Kind, first: usize, second: usize) -> bool {
     counts(world, kind, Side::First, first) && counts(world, kind, Side::Second, second)
 }

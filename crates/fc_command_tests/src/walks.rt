@@ -11,10 +11,10 @@ const REPLIES: [&[u8]; 8] = [
     b"none\nrefused alloc\n1\nlist 1:3\n",
     b"none\nlist 1:2 -\n1\nrefused alloc\n",
     b"none\nrefused alloc\n1\nrefused alloc\n",
-    b"refused alloc\nlist - -\n0\nlist -\n",
-    b"refused alloc\nrefused alloc\n0\nlist -\n",
-    b"refused alloc\nlist - -\n0\nrefused alloc\n",
-    b"refused alloc\nrefused alloc\n0\nrefused alloc\n",
+    b"refused alloc 1 2\nlist - -\n0\nlist -\n",
+    b"refused alloc 1 2\nrefused alloc\n0\nlist -\n",
+    b"refused alloc 1 2\nlist - -\n0\nrefused alloc\n",
+    b"refused alloc 1 2\nrefused alloc\n0\nrefused alloc\n",
 ];
 
 fn is_one_of_the_replies(written: &[u8]) -> bool {

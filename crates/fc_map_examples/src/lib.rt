@@ -10,3 +10,4 @@ pub mod iter_mut;
 pub mod laws;
 pub mod queries;
 pub mod range;
+pub mod refusals;

@@ -2,6 +2,7 @@ use fc_base::TryReserveError;
 use fc_map::map::{BTreeMap, is_range};
 use fc_map_examples::into_iter::{collected, ends_of};
 use fc_map_examples::iter_mut::{raise_each, write_all, write_first, write_range};
+use fc_map_examples::refusals::{put_each, put_once, put_or_hand_on, put_twice};
 use std::alloc::Global;
 use std::ops::Bound;
 use std::test::Fail;
@@ -97,5 +98,24 @@ fn callers_raise_each_value(rt: HostRuntime) -> Result<(), Fail> {
     write_all(&mut map, &[(true, 4), (true, u64::MAX)]);
     raise_each(&mut map);
     assert!(rt; has(&map, 0, 5) && has(&map, 1, u64::MAX));
+    Ok(())
+}
+
+// Whether callers put the numbers from 0 on in, each with itself: one, two, the rest of a list, and one more.
+fn put_all_in(alloc: Global, map: &mut Numbers) -> Result<bool, TryReserveError> {
+    let mut pairs = Vec::new(alloc);
+    pairs.push((3, 3))?;
+    pairs.push((4, 4))?;
+    let is_new = put_once(map, 0, 0)?.is_none();
+    put_twice(map, (1, 1), (2, 2))?;
+    put_each(map, pairs)?;
+    Ok(is_new && put_or_hand_on(map, 5, 5)? == 6)
+}
+
+#[test]
+fn callers_put_pairs_in(rt: HostRuntime) -> Result<(), Fail> {
+    let mut map = numbers(rt.alloc(), 0)?;
+    assert!(rt; put_all_in(rt.alloc(), &mut map)?);
+    assert!(rt; counts_up(&collected(rt.alloc(), map)?));
     Ok(())
 }

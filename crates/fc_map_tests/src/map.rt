@@ -1,6 +1,7 @@
 //! The map under refused memory, by keys of another order, and by keys and values that count their drops.
 pub(crate) mod entries;
 mod given;
+mod handed_back;
 
 use crate::numbers::{Numbers, has_up_to, insert, is_lent, multiples};
 use fc_base::TryReserveError;
@@ -187,19 +188,45 @@ pub(crate) fn fresh_drops(alloc: Global, count: usize) -> Result<Vec<Drops>, All
     Ok(all)
 }
 
-// Inserts a tracked pair; whether it was refused.
-fn insert_tracked<'a>(map: &mut Tracked<'a>, number: usize, drops: &'a Drops) -> bool {
+// What became of a pair that was to be put in.
+#[derive(Clone, Copy)]
+pub(crate) enum Fate {
+    PutIn,
+    HandedBack,
+    Lost,
+}
+
+// Whether a refused pair came back, for want of memory: neither its key nor its value was dropped by then, and each is once it is let go.
+fn came_back(
+    back: (TrackedKey<'_>, TrackedValue<'_>, TryReserveError),
+    number: usize,
+    drops: &Drops,
+) -> Fate {
+    let (key, value, e) = back;
+    let is_told = key.number == number && matches!(e, TryReserveError::AllocError);
+    let is_whole = were_dropped(drops, 0, 0);
+    drop(key);
+    let is_key = were_dropped(drops, 1, 0);
+    drop(value);
+    if is_told && is_whole && is_key && were_dropped(drops, 1, 1) {
+        Fate::HandedBack
+    } else {
+        Fate::Lost
+    }
+}
+
+fn insert_tracked<'a>(map: &mut Tracked<'a>, number: usize, drops: &'a Drops) -> Fate {
     let key = TrackedKey {
         number,
         drops: &drops.key,
     };
-    map.try_insert(
-        key,
-        TrackedValue {
-            drops: &drops.value,
-        },
-    )
-    .is_err()
+    let value = TrackedValue {
+        drops: &drops.value,
+    };
+    match map.try_insert(key, value) {
+        Ok(_old) => Fate::PutIn,
+        Err(back) => came_back(back, number, drops),
+    }
 }
 
 // Takes the pair of the number out, with a key whose own drop is counted in `sought`.
@@ -210,11 +237,15 @@ fn remove_tracked<'a>(map: &mut Tracked<'a>, number: usize, sought: &'a Cell<u64
     });
 }
 
-// Inserts a pair for each that counts drops; whether each was dropped at once where it was refused, and else not.
-fn inserts_or_drops_each<'a>(map: &mut Tracked<'a>, drops: &'a [Drops]) -> bool {
+// Inserts a pair for each that counts drops; whether each came back where it was refused, and else neither its key nor its value was dropped.
+fn keeps_or_hands_back_each<'a>(map: &mut Tracked<'a>, drops: &'a [Drops]) -> bool {
     for i in 0..drops.len() {
-        let dropped = u64::from(insert_tracked(map, i, &drops[i]));
-        if !were_dropped(&drops[i], dropped, dropped) {
+        let is_right = match insert_tracked(map, i, &drops[i]) {
+            Fate::PutIn => were_dropped(&drops[i], 0, 0),
+            Fate::HandedBack => true,
+            Fate::Lost => false,
+        };
+        if !is_right {
             return false;
         }
     }
@@ -234,7 +265,7 @@ fn drops_even_ones<'a>(map: &mut Tracked<'a>, drops: &[Drops], sought: &'a Cell<
     true
 }
 
-// Each request is refused in turn by the sweep. Where a pair is refused, its key and value are dropped at once.
+// Each request is refused in turn by the sweep. Each key and value is in the map or came back, once.
 #[test]
 fn each_key_and_value_is_dropped_once(rt: HostRuntime) {
     let Ok(drops) = fresh_drops(rt.alloc(), 100) else {
@@ -243,7 +274,7 @@ fn each_key_and_value_is_dropped_once(rt: HostRuntime) {
     let sought = Cell::new(0);
     {
         let mut map = BTreeMap::new(rt.alloc());
-        assert!(rt; inserts_or_drops_each(&mut map, &drops));
+        assert!(rt; keeps_or_hands_back_each(&mut map, &drops));
         assert!(rt; drops_even_ones(&mut map, &drops, &sought));
     }
     assert!(rt; were_all_dropped(&drops, 1));

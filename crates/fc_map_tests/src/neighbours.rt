@@ -9,10 +9,10 @@ use std::test::Fail;
 // Two tagged numbers are equal where the numbers are, whatever their letters.
 #[derive(Clone, Copy, Debug)]
 #[derive_where(PartialEq, Eq, PartialOrd, Ord)]
-struct Tagged {
-    number: u64,
+pub(crate) struct Tagged {
+    pub(crate) number: u64,
     #[derive_where(skip(EqHashOrd))]
-    letter: char,
+    pub(crate) letter: char,
 }
 
 // The even numbers from 2 on, so many, each with its tenfold, put in from the first on.
@@ -96,14 +96,20 @@ fn is_tagged(found: Option<(&Tagged, &u64)>, number: u64) -> bool {
     }
 }
 
-// Keys equal to what is sought, but not the same: those of the map are answered, and an equal one is not passed over or taken for one behind.
-#[test]
-fn neighbours_are_the_keys_of_the_map(rt: HostRuntime) -> Result<(), Fail> {
-    let mut map = BTreeMap::new(rt.alloc());
-    for number in 1..91 {
+/// The numbers from 1 on below the end, each with the letter a and itself.
+pub(crate) fn tagged_below(alloc: Global, end: u64) -> Result<BTreeMap<Tagged, u64>, TryReserveError> {
+    let mut map = BTreeMap::new(alloc);
+    for number in 1..end {
         let letter = 'a';
         map.try_insert(Tagged { number, letter }, number)?;
     }
+    Ok(map)
+}
+
+// Keys equal to what is sought, but not the same: those of the map are answered, and an equal one is not passed over or taken for one behind.
+#[test]
+fn neighbours_are_the_keys_of_the_map(rt: HostRuntime) -> Result<(), Fail> {
+    let map = tagged_below(rt.alloc(), 91)?;
     for number in 1..91 {
         let letter = 'b';
         let key = Tagged { number, letter };
@@ -187,15 +193,20 @@ fn are_next_texts(map: &BTreeMap<String, u64>, text: &str, wanted: [&str; 4]) ->
         && is_text(map.first_after(text), wanted[3])
 }
 
-// A text comes behind its own beginnings.
-#[test]
-fn texts_are_sought_by_slices(rt: HostRuntime) -> Result<(), Fail> {
-    let mut map: BTreeMap<String, u64> = BTreeMap::new(rt.alloc());
+fn twelve_texts(alloc: Global) -> Result<BTreeMap<String, u64>, TryReserveError> {
+    let mut map = BTreeMap::new(alloc);
     for text in [
         "a", "ab", "b", "c", "e", "f", "g", "h", "i", "j", "k", "word",
     ] {
-        map.try_insert(String::from_str(rt.alloc(), text)?, 1)?;
+        map.try_insert(String::from_str(alloc, text)?, 1)?;
     }
+    Ok(map)
+}
+
+// A text comes behind its own beginnings.
+#[test]
+fn texts_are_sought_by_slices(rt: HostRuntime) -> Result<(), Fail> {
+    let map = twelve_texts(rt.alloc())?;
     assert!(rt; are_next_texts(&map, "", ["-", "-", "a", "a"]));
     assert!(rt; are_next_texts(&map, "a", ["-", "a", "a", "ab"]));
     assert!(rt; are_next_texts(&map, "aa", ["a", "a", "ab", "ab"]));

@@ -12,7 +12,7 @@ pub(crate) fn insert(
     key: u64,
     value: u64,
 ) -> Result<Option<u64>, TryReserveError> {
-    map.try_insert(key, value)
+    Ok(map.try_insert(key, value)?)
 }
 
 // The numbers from `first` on below `end`, each with itself times the factor.

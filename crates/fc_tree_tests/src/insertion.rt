@@ -29,6 +29,11 @@ fn is_path(node: &Node<u64, u64>, path: &[u8]) -> bool
     path.len() == 1 || is_path(node.child(step), &path[1..])
 }
 
+// A leaf of one key.
+fn leaf_of(alloc: Global, key: u64) -> Result<Box<Node<u64, u64>>, TryReserveError> {
+    Ok(first_leaf(alloc, (key, key), &mut Count::new())?)
+}
+
 // Inserts the key at the path, with a room of as many nodes, and looks for it where the insertion says.
 fn put(
     rt: &impl Abort,
@@ -74,7 +79,7 @@ pub(crate) fn full_leaf(
     first: u64,
     distance: u64,
 ) -> Result<Box<Node<u64, u64>>, TryReserveError> {
-    let mut root = first_leaf(alloc, (first, first), &mut Count::new())?;
+    let mut root = leaf_of(alloc, first)?;
     let mut key = first;
     for _ in 0..10 {
         key = key.wrapping_add(distance);
@@ -105,7 +110,7 @@ fn ascending_keys(rt: HostRuntime) -> Result<(), Fail> {
 
 #[test]
 fn descending_keys(rt: HostRuntime) -> Result<(), Fail> {
-    let mut root = first_leaf(rt.alloc(), (12, 12), &mut Count::new())?;
+    let mut root = leaf_of(rt.alloc(), 12)?;
     for below in 0..10u64 {
         put(&rt, rt.alloc(), &mut root, &[0], 11 - below, 0)?;
     }
@@ -147,7 +152,7 @@ fn nodes_for(key: u64) -> usize {
 
 #[test]
 fn third_level(rt: HostRuntime) -> Result<(), Fail> {
-    let mut root = first_leaf(rt.alloc(), (1, 1), &mut Count::new())?;
+    let mut root = leaf_of(rt.alloc(), 1)?;
     for key in 2..90u64 {
         put_last(&rt, rt.alloc(), &mut root, key, nodes_for(key))?;
     }

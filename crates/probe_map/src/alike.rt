@@ -92,10 +92,8 @@ fn insert_counted<'a>(
     value: u64,
 ) -> Result<Option<u64>, TryReserveError> {
     let (key, value) = (world.key(number, 0), world.value(number, value));
-    match map.try_insert_counted(key, value, &mut Count::new()) {
-        Ok(old) => Ok(number_of(old.as_ref())),
-        Err(e) => Err(e),
-    }
+    let old = map.try_insert_counted(key, value, &mut Count::new())?;
+    Ok(number_of(old.as_ref()))
 }
 
 fn is_inserted_alike(

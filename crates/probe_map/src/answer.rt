@@ -1,5 +1,6 @@
 //! What a row is answered by.
 use fc_base::TryReserveError;
+use probe_rows::items::Item;
 use std::io;
 
 #[derive(Clone, Copy)]
@@ -9,6 +10,8 @@ pub(crate) enum Answer {
     Number(u64),
     // A key's number and tag, and the value's number.
     Pair([u64; 3]),
+    // A pair that was refused for want of memory, and came back.
+    Back([u64; 3]),
     // How often a key and its value were copied, and how often they were dropped.
     Lives([u64; 4]),
 }
@@ -57,12 +60,22 @@ pub(crate) fn refused(e: TryReserveError) -> Answer {
     }
 }
 
+/// A refused insertion hands a pair back, which is dropped here.
+pub(crate) fn handed_back(back: (Item<'_>, Item<'_>, TryReserveError)) -> Answer {
+    let (key, value, e) = back;
+    match e {
+        TryReserveError::AllocError => Answer::Back([key.number, key.tag, value.number]),
+        TryReserveError::CapacityOverflow => refused(e),
+    }
+}
+
 pub(crate) fn show(rt: &impl Print, answer: Answer) -> io::Result<()> {
     match answer {
         Answer::Right => print!(rt; " right"),
         Answer::Text(text) => print!(rt; " {text}"),
         Answer::Number(number) => print!(rt; " {number}"),
         Answer::Pair(pair) => print!(rt; " {}/{}:{}", pair[0], pair[1], pair[2]),
+        Answer::Back(pair) => print!(rt; " no memory {}/{}:{}", pair[0], pair[1], pair[2]),
         Answer::Lives(all) => {
             print!(rt;
                 " copied {}/{} dropped {}/{}",

@@ -1,6 +1,6 @@
 //! Entries: what a search found is written or filled.
 use crate::Map;
-use crate::answer::{Answer, DONE, UNKNOWN, refused};
+use crate::answer::{Answer, DONE, UNKNOWN, handed_back, refused};
 use fc_base::TryReserveError;
 use probe_rows::items::{Item, World, add_one};
 use probe_rows::row::Row;
@@ -16,10 +16,10 @@ pub(crate) fn run<'a>(map: &mut Map<'a>, world: World<'a>, row: &Row) -> Answer 
     }
 }
 
-fn value_of(lent: Result<&mut Item<'_>, TryReserveError>) -> Answer {
+fn value_of<'a>(lent: Result<&mut Item<'a>, (Item<'a>, Item<'a>, TryReserveError)>) -> Answer {
     match lent {
         Ok(value) => Answer::Number(value.number),
-        Err(e) => refused(e),
+        Err(back) => handed_back(back),
     }
 }
 
@@ -34,7 +34,7 @@ fn tally<'a>(map: &mut Map<'a>, world: World<'a>, number: u64) -> Answer {
             value.number = value.number.wrapping_add(1);
             Answer::Number(value.number)
         }
-        Err(e) => refused(e),
+        Err(back) => handed_back(back),
     }
 }
 

@@ -1,7 +1,7 @@
 //! Calls at one key, and at the ends.
 use crate::Map;
 use crate::alike::{look_ups_are_alike, number_of};
-use crate::answer::{Answer, NONE, UNKNOWN, number_or_none, refused, whether};
+use crate::answer::{Answer, NONE, UNKNOWN, handed_back, number_or_none, whether};
 use fc_base::TryReserveError;
 use probe_rows::items::{Item, Number, World};
 use probe_rows::row::Row;
@@ -9,7 +9,7 @@ use probe_rows::row::Row;
 pub(crate) fn run<'a>(map: &mut Map<'a>, world: World<'a>, row: &Row) -> Answer {
     let number = row.number(0);
     match row.place {
-        0 => old_or_refused(insert(map, world, number, row.number(1), row.number(2))),
+        0 => put(map, world, number, row.number(1), row.number(2)),
         1 => number_or_none(number_of(map.get(&world.sought(number)))),
         2 => pair_of(map.get_key_value(&world.sought(number))),
         3 => index(map, &world.sought(number)),
@@ -41,16 +41,15 @@ pub(crate) fn insert<'a>(
     value: u64,
     tag: u64,
 ) -> Result<Option<u64>, TryReserveError> {
-    match map.try_insert(world.key(number, tag), world.value(number, value)) {
-        Ok(old) => Ok(number_of(old.as_ref())),
-        Err(e) => Err(e),
-    }
+    let old = map.try_insert(world.key(number, tag), world.value(number, value))?;
+    Ok(number_of(old.as_ref()))
 }
 
-fn old_or_refused(old: Result<Option<u64>, TryReserveError>) -> Answer {
-    match old {
-        Ok(old) => number_or_none(old),
-        Err(e) => refused(e),
+// Inserts a pair: the number of the value that was there, or the pair itself, where it was refused.
+fn put<'a>(map: &mut Map<'a>, world: World<'a>, number: u64, value: u64, tag: u64) -> Answer {
+    match map.try_insert(world.key(number, tag), world.value(number, value)) {
+        Ok(old) => number_or_none(number_of(old.as_ref())),
+        Err(back) => handed_back(back),
     }
 }
 

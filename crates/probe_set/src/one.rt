@@ -38,7 +38,7 @@ fn fill<'a>(sets: &mut Sets<'a>, numbers: Numbers, out: &mut Out) {
             let item = Item::new(number, numbers.letter, sets.tally);
             match sets.ours.try_insert(item) {
                 Ok(is_new) => new = new.wrapping_add(u64::from(is_new)),
-                Err(e) => return out.stopped(e),
+                Err((_item, e)) => return out.stopped(e),
             }
         }
     }
@@ -55,10 +55,10 @@ fn fill_down<'a>(sets: &mut Sets<'a>, numbers: Numbers, out: &mut Out) {
     out.number(new);
 }
 
-fn is_new(inserted: Result<bool, TryReserveError>) -> bool {
+fn is_new(inserted: Result<bool, (Item<'_>, TryReserveError)>) -> bool {
     match inserted {
         Ok(new) => new,
-        Err(_) => false,
+        Err(_refused) => false,
     }
 }
 
@@ -156,11 +156,11 @@ fn put_in<'a>(sets: &mut Sets<'a>, name: &str, item: Item<'a>, out: &mut Out) {
 
 fn replaced<'a>(
     sets: &mut Sets<'a>,
-    answer: Result<Option<Item<'a>>, TryReserveError>,
+    answer: Result<Option<Item<'a>>, (Item<'a>, TryReserveError)>,
     out: &mut Out,
 ) {
     match answer {
         Ok(old) => sets.hold(old, out),
-        Err(e) => out.refused(e),
+        Err(back) => out.handed_back(back),
     }
 }

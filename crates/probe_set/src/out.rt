@@ -88,10 +88,10 @@ impl Out {
         self.lent(item.as_ref());
     }
 
-    pub(crate) fn inserted(&mut self, answer: Result<bool, TryReserveError>) {
+    pub(crate) fn inserted(&mut self, answer: Result<bool, (Item<'_>, TryReserveError)>) {
         match answer {
             Ok(new) => self.is(new),
-            Err(e) => self.refused(e),
+            Err(back) => self.handed_back(back),
         }
     }
 
@@ -105,6 +105,13 @@ impl Out {
     pub(crate) fn refused(&mut self, error: TryReserveError) {
         self.is_refused = true;
         self.stopped(error);
+    }
+
+    // A refusal that hands an item back, which is dropped here.
+    pub(crate) fn handed_back(&mut self, back: (Item<'_>, TryReserveError)) {
+        let (item, error) = back;
+        self.refused(error);
+        self.debug(&item);
     }
 
     // A refusal that leaves what was done before it.

@@ -7,7 +7,7 @@ ghost use Rattle.std.specs.Ordering.{nat_cmp, on, as_partial_cmp};
 
 use super::*;
 use crate::numbers::has;
-use fc_map::map::Entry;
+use fc_map::map::{Entry, VacantEntry};
 use std::cmp::Ordering;
 
 // A value of its type's own, where there is none, at one number of a new map.
@@ -158,6 +158,13 @@ fn look_up<'a>(map: &Counted<'a>, key: &CountingKey<'a>) -> (u64, bool) {
     (key.comparisons.replace(0), is_there)
 }
 
+fn put<'a>(
+    entry: VacantEntry<'_, CountingKey<'a>, u64>,
+    number: u64,
+) -> Result<u64, TryReserveError> {
+    Ok(*entry.try_insert(number)?)
+}
+
 // The search makes the comparisons of a look-up; the insertion or the removal that follows makes none.
 #[test]
 fn an_entry_compares_in_its_search_alone(rt: HostRuntime) -> Result<(), Fail> {
@@ -173,7 +180,7 @@ fn an_entry_compares_in_its_search_alone(rt: HostRuntime) -> Result<(), Fail> {
         assert!(rt; comparisons.get() == expected);
         match entry {
             Entry::Vacant(entry) => {
-                let value = *entry.try_insert(number)?;
+                let value = put(entry, number)?;
                 assert!(rt; !is_there && value == number);
             }
             Entry::Occupied(entry) => {
@@ -186,32 +193,36 @@ fn an_entry_compares_in_its_search_alone(rt: HostRuntime) -> Result<(), Fail> {
     Ok(())
 }
 
-// Fills the number's entry by a closure that counts its calls; whether it was refused.
-fn refuses_entry<'a>(
+// Fills the number's entry by a closure that counts its calls.
+fn fill_entry<'a>(
     map: &mut Tracked<'a>,
     number: usize,
     drops: &'a Drops,
     calls: &Cell<u64>,
-) -> Result<bool, TryReserveError> {
+) -> Result<Fate, TryReserveError> {
     let key = TrackedKey {
         number,
         drops: &drops.key,
     };
-    let put = map.try_entry(key)?.or_try_insert_with(|| {
+    let filled = map.try_entry(key)?.or_try_insert_with(|| {
         add_one(calls);
         TrackedValue {
             drops: &drops.value,
         }
     });
-    Ok(put.is_err())
+    match filled {
+        Ok(_lent) => Ok(Fate::PutIn),
+        Err(back) => Ok(came_back(back, number, drops)),
+    }
 }
 
 // The numbers from 1 on, whose drops are counted together; `None` where memory was refused.
 fn tracked_up_to<'a>(alloc: Global, last: usize, kept: &'a Drops) -> Option<Tracked<'a>> {
     let mut map = BTreeMap::new(alloc);
     for number in 0..last {
-        if insert_tracked(&mut map, number + 1, kept) {
-            return None;
+        match insert_tracked(&mut map, number + 1, kept) {
+            Fate::PutIn => (),
+            _ => return None,
         }
     }
     Some(map)
@@ -219,7 +230,7 @@ fn tracked_up_to<'a>(alloc: Global, last: usize, kept: &'a Drops) -> Option<Trac
 
 // A run that gets its memory from elsewhere, as one without proof does, would show nothing, and fails.
 #[test]
-fn a_refused_entry_calls_its_closure_once_and_drops_the_value(rt: HostRuntime) -> Result<(), Fail> {
+fn a_refused_entry_calls_its_closure_once_and_hands_its_value_back(rt: HostRuntime) -> Result<(), Fail> {
     let (kept, refused) = (no_drops(), no_drops());
     let calls = Cell::new(0);
     let Some(mut map) = tracked_up_to(rt.alloc(), 11, &kept) else {
@@ -228,10 +239,10 @@ fn a_refused_entry_calls_its_closure_once_and_drops_the_value(rt: HostRuntime) -
     };
     let held = take_all_memory(rt.alloc())?;
     let has_none = !has_memory(rt.alloc());
-    let is_refused = refuses_entry(&mut map, 0, &refused, &calls);
+    let fate = fill_entry(&mut map, 0, &refused, &calls);
     drop(held);
-    assert!(rt; has_none && matches!(is_refused, Ok(true)) && calls.get() == 1);
-    assert!(rt; were_dropped(&refused, 1, 1) && map.len() == 11 && were_dropped(&kept, 0, 0));
+    assert!(rt; has_none && matches!(fate, Ok(Fate::HandedBack)) && calls.get() == 1);
+    assert!(rt; map.len() == 11 && were_dropped(&kept, 0, 0));
     Ok(())
 }
 
@@ -249,7 +260,7 @@ fn has_tracked_up_to<'a>(map: &Tracked<'a>, last: usize, sought: &'a Cell<u64>) 
     map.len() == last
 }
 
-// Whether the entry behind the last number is filled, or refused with its key and value dropped, and all pairs stay. A map for which
+// Whether the entry behind the last number is filled, or refused and its key and value came back, and all pairs stay. A map for which
 // there is no memory shows nothing.
 fn leaves_every_pair(alloc: Global, last: usize) -> Result<bool, TryReserveError> {
     let (kept, new, sought) = (no_drops(), no_drops(), no_drops());
@@ -257,12 +268,10 @@ fn leaves_every_pair(alloc: Global, last: usize) -> Result<bool, TryReserveError
     let Some(mut map) = tracked_up_to(alloc, last, &kept) else {
         return Ok(true);
     };
-    let is_refused = refuses_entry(&mut map, last.wrapping_add(1), &new, &calls)?;
-    let dropped = u64::from(is_refused);
-    let length = if is_refused {
-        last
-    } else {
-        last.wrapping_add(1)
+    let (length, dropped) = match fill_entry(&mut map, last.wrapping_add(1), &new, &calls)? {
+        Fate::PutIn => (last.wrapping_add(1), 0),
+        Fate::HandedBack => (last, 1),
+        Fate::Lost => return Ok(false),
     };
     let has_all = has_tracked_up_to(&map, length, &sought.key);
     Ok(
