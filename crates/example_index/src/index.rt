@@ -109,10 +109,11 @@ impl From<AllocError> for NotAdded {
     }
 }
 
-impl From<TryReserveError> for NotAdded {
+/// What a refused insertion hands back is dropped: a caller of `add` has the name still.
+impl<K: Drop, V: Drop> From<(K, V, TryReserveError)> for NotAdded {
     ghost from_gives = { λ _ e. e ≡ Memory };
 
-    fn from(_refused: TryReserveError) -> NotAdded {
+    fn from(_back: (K, V, TryReserveError)) -> NotAdded {
         NotAdded::Memory
     }
 }

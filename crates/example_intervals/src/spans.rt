@@ -64,7 +64,7 @@ pub fn add(
     spans.try_insert(span.end, rest)?;
     match spans.try_insert(start, span) {
         Ok(_) => Ok(()),
-        Err(refused) => {
+        Err((_start, _span, refused)) => {
             spans.remove(&span.end);
             Err(refused)
         }

@@ -52,7 +52,9 @@ fn add(rt: &impl Print, timers: &mut Timers, id: u64, due: u64) -> io::Result<()
     match timers.try_add(id, due) {
         Ok(()) => println!(rt; "added"),
         Err(NotSet::InUse) => println!(rt; "error: timer {id} is set already"),
-        Err(NotSet::Memory(_)) => println!(rt; "out of memory"),
+        Err(NotSet::Memory((due, id), _why)) => println!(rt;
+            "out of memory: timer {id} at {due} is not set"
+        ),
     }
 }
 

@@ -2,6 +2,7 @@
 ghost use Rattle.std.specs.Prelude.{◌≡◌, ◌<◌, ◌≤◌, [], ◌∷◌, All, IfSome, IfNone, IfErr, OnOk, OnErr, MatchOption};
 ghost use Rattle.fallible_collections.specs.Words.{with_item, without};
 ghost use Rattle.example_timers.specs.Due.{timer_cmp, IsSet, IsFree};
+ghost use Rattle.example_timers.specs.Refusal.{GivesBack};
 
 use fallible_collections::TryReserveError;
 use fallible_collections::btree::set::Iter;
@@ -17,8 +18,8 @@ pub type Timer = (u64, u64);
 pub enum NotSet {
     /// Another timer has the id.
     InUse,
-    /// Memory was refused.
-    Memory(TryReserveError),
+    /// Memory was refused: the timer that was to be set, and why.
+    Memory(Timer, TryReserveError),
 }
 
 /// Timers in the order of the times at which they are due, and of their ids at one time. No two have one id.
@@ -61,11 +62,13 @@ impl Timers {
     /// Sets a timer.
     ///
     /// # Errors
-    /// `InUse` where a timer has the id, and `Memory` where memory was refused. The timers are then as they were.
+    /// `InUse` where a timer has the id, and `Memory` where memory was refused, with the timer that was not set. The timers are then as
+    /// they were.
     pub fn try_add(&mut self, id: u64, due: u64) -> Result<(), NotSet>
         ensures added { OnOk result (self.new ≡ with_item timer_cmp self.old (due, id)) }
         ensures free { OnOk result (IsFree self.old id) }
         ensures refused { IfErr result (λ e. e ≡ NotSet.InUse → ¬ (IsFree self.old id)) }
+        ensures back { IfErr result (GivesBack (due, id)) }
         ensures unchanged { OnErr result (self.new ≡ self.old) }
     {
         if self.times.contains_key(&id) {
@@ -73,13 +76,13 @@ impl Timers {
         }
         match self.times.try_insert(id, due) {
             Ok(_) => (),
-            Err(e) => return Err(NotSet::Memory(e)),
+            Err((id, due, e)) => return Err(NotSet::Memory((due, id), e)),
         }
         match self.queue.try_insert((due, id)) {
             Ok(_) => Ok(()),
-            Err(e) => {
+            Err((timer, e)) => {
                 self.times.remove(&id); // this takes no memory
-                Err(NotSet::Memory(e))
+                Err(NotSet::Memory(timer, e))
             }
         }
     }

@@ -1,9 +1,10 @@
 //! The README's examples, in a crate that names `fallible_collections` alone.
 #![tactic(auto)]
 
-ghost use Rattle.std.specs.Prelude.{◌≡◌, List, map, min, [], IfOk, IfSome, IsOk, IsSome, OnErr, Some, string_bytes, decimal, unwrap_or, ◌+◌, ◌<◌};
+ghost use Rattle.std.specs.Prelude.{◌≡◌, List, map, min, [], IfOk, IfSome, IsOk, IsSome, None, OnErr, OnOk, Some, string_bytes, decimal, unwrap_or, ◌+◌, ◌<◌};
 ghost use Rattle.std.specs.Iterator.{IsFiniteIterable};
 ghost use Rattle.fallible_collections.specs.Words.{at, entries, extended, front, hashed_value_at, put, text_order, GivesAll};
+ghost use Rattle.readme_examples.specs.Counted.{IsFirst};
 
 pub mod boxes;
 pub mod joins;
@@ -29,20 +30,30 @@ pub fn first_words(alloc: Global) -> Result<BTreeMap<u64, &'static str>, TryRese
     Ok(words)
 }
 
-/// Counts a word: one that is known is counted, and one that is refused leaves the counts as they were.
+/// Counts a word. One that is known is counted without memory. A new one that is refused comes back, and is tried again once the memory
+/// set aside was given up for it.
+///
+/// # Errors
+/// Only at a new word: where memory for a copy of it was refused, or for its place in the map, twice. The counts are then as they were.
 pub fn count_word(
     counts: &mut BTreeMap<String, u64>,
+    set_aside: &mut TryVec<u8>,
     alloc: Global,
     word: &str,
 ) -> Result<(), TryReserveError>
-    ensures known { IsSome (at text_order (entries counts.old) word.now) → IsOk result }
+    ensures known { IsSome (at text_order (entries counts.old) word.now) → IsOk result × (set_aside.new ≡ set_aside.old) }
+    ensures new { OnOk result (at text_order (entries counts.old) word.now ≡ None → IsFirst (entries counts.old) word.now (entries counts.new)) }
     ensures unchanged { OnErr result (counts.new ≡ counts.old) }
 {
     if let Some(count) = counts.get_mut(word) {
         *count = count.saturating_add(1); // a known word is never refused
         return Ok(());
     }
-    counts.try_insert(String::from_str(alloc, word)?, 1)?;
+    let Err((word, one, _refused)) = counts.try_insert(String::from_str(alloc, word)?, 1) else {
+        return Ok(());
+    };
+    *set_aside = TryVec::new(alloc); // makes room
+    counts.try_insert(word, one)?; // the word that came back: no other copy is made
     Ok(())
 }
 

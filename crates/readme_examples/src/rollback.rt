@@ -20,7 +20,7 @@ pub fn put_in_both<I: Ord + Copy + Drop, O: Ord + Copy + Drop>(
 {
     let _len = owners.len(); // shows that the keys ascend, on which the law rests
     owners.try_insert(id, owner)?;
-    if let Err(e) = ids.try_insert(owner, id) {
+    if let Err((_owner, _id, e)) = ids.try_insert(owner, id) {
         owners.remove(&id);
         return Err(e);
     }

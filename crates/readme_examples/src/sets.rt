@@ -18,5 +18,5 @@ pub fn remember(
     if seen.contains(name) {
         return Ok(false); // no `String` is made to ask
     }
-    seen.try_insert(String::from_str(alloc, name)?)
+    Ok(seen.try_insert(String::from_str(alloc, name)?)?)
 }

@@ -1,5 +1,6 @@
 use fallible_collections::btree::BTreeMap;
 use fallible_collections::{TryReserveError, TryVec};
+use readme_examples::count_word;
 use std::alloc::{AllocError, Global};
 use std::test::Fail;
 
@@ -35,10 +36,46 @@ fn an_insertion_without_memory_leaves_the_map(rt: HostRuntime) -> Result<(), Fai
     }
     let held = all_memory(rt.alloc())?;
     assert!(rt; Vec::<u8>::with_capacity(rt.alloc(), 24).is_err()); // else nothing is shown below, as by `rt try`
-    assert!(rt; matches!(map.try_insert(11, 11), Err(TryReserveError::AllocError)));
+    assert!(rt;
+        matches!(
+            map.try_insert(11, 12),
+            Err((11, 12, TryReserveError::AllocError))
+        )
+    );
     assert!(rt; map.len() == 11 && map.get(&11).is_none());
     drop(held);
-    assert!(rt; matches!(map.try_insert(11, 11), Ok(None)));
+    assert!(rt; matches!(map.try_insert(11, 12), Ok(None)));
+    Ok(())
+}
+
+#[test]
+fn a_refused_word_comes_back_and_is_counted_once_there_is_room(
+    rt: HostRuntime,
+) -> Result<(), Fail> {
+    let mut counts = BTreeMap::new(rt.alloc());
+    let mut set_aside = TryVec::with_capacity(rt.alloc(), 65_536)?;
+    let one_text = Vec::<u8>::with_capacity(rt.alloc(), 24)?;
+    let held = all_memory(rt.alloc())?;
+    assert!(rt; Vec::<u8>::with_capacity(rt.alloc(), 24).is_err());
+    drop(one_text); // room for the word, and for no place in the map
+    assert!(rt; count_word(&mut counts, &mut set_aside, rt.alloc(), "tea").is_ok());
+    assert!(rt; counts.get("tea").copied() == Some(1));
+    drop(held);
+    Ok(())
+}
+
+// Under the sweep each of its requests is refused in turn.
+#[test]
+fn each_word_is_counted_or_the_counts_stay(rt: HostRuntime) -> Result<(), Fail> {
+    let mut counts = BTreeMap::new(rt.alloc());
+    let mut set_aside = TryVec::new(rt.alloc());
+    let mut counted = 0;
+    for word in ["a", "b", "c", "d", "e", "f", "g", "h", "i", "j", "k", "l"] {
+        if count_word(&mut counts, &mut set_aside, rt.alloc(), word).is_ok() {
+            counted += 1;
+        }
+        assert!(rt; counts.len() == counted);
+    }
     Ok(())
 }
 
