@@ -49,12 +49,14 @@ pub fn count_word(
         *count = count.saturating_add(1); // a known word is never refused
         return Ok(());
     }
-    let Err((word, one, _refused)) = counts.try_insert(String::from_str(alloc, word)?, 1) else {
-        return Ok(());
-    };
-    *set_aside = TryVec::new(alloc); // makes room
-    counts.try_insert(word, one)?; // the word that came back: no other copy is made
-    Ok(())
+    match counts.try_insert(String::from_str(alloc, word)?, 1) {
+        Ok(_) => Ok(()),
+        Err((word, one, _refused)) => {
+            *set_aside = TryVec::new(alloc); // makes room
+            counts.try_insert(word, one)?; // the word that came back: no other copy is made
+            Ok(())
+        }
+    }
 }
 
 /// Raises each price by one, as far as its numbers go.
