@@ -85,10 +85,34 @@ fn a_reply_tells_what_came_back(rt: HostRuntime) {
         TryReserveError::AllocError,
         TryReserveError::CapacityOverflow,
     );
-    assert!(rt; tells(rt.alloc(), Reply::GivenBack(1, 2, refused), b"refused alloc 1 2\n"));
-    assert!(rt; tells(rt.alloc(), Reply::GivenBack(30, 0, full), b"refused overflow 30 0\n"));
-    assert!(rt; tells(rt.alloc(), Reply::ItemGivenBack(4, refused), b"refused alloc 4\n"));
-    assert!(rt; tells(rt.alloc(), Reply::ItemGivenBack(50, full), b"refused overflow 50\n"));
+    assert!(rt;
+        tells(
+            rt.alloc(),
+            Reply::GivenBack(1, 2, refused),
+            b"refused alloc 1 2\n"
+        )
+    );
+    assert!(rt;
+        tells(
+            rt.alloc(),
+            Reply::GivenBack(30, 0, full),
+            b"refused overflow 30 0\n"
+        )
+    );
+    assert!(rt;
+        tells(
+            rt.alloc(),
+            Reply::ItemGivenBack(4, refused),
+            b"refused alloc 4\n"
+        )
+    );
+    assert!(rt;
+        tells(
+            rt.alloc(),
+            Reply::ItemGivenBack(50, full),
+            b"refused overflow 50\n"
+        )
+    );
 }
 
 const INSERT_AND_COUNT: [&[u8]; 2] = [b"insert a 1 1", b"len a"];

@@ -39,8 +39,12 @@ pub fn write_reply(text: &mut String, reply: &Reply<u64, u64>) -> Result<(), All
         Reply::GivenBack(key, value, TryReserveError::CapacityOverflow) => {
             write!(text, "refused overflow {key} {value}\n")
         }
-        Reply::ItemGivenBack(key, TryReserveError::AllocError) => { write!(text, "refused alloc {key}\n") }
-        Reply::ItemGivenBack(key, TryReserveError::CapacityOverflow) => { write!(text, "refused overflow {key}\n") }
+        Reply::ItemGivenBack(key, TryReserveError::AllocError) => {
+            write!(text, "refused alloc {key}\n")
+        }
+        Reply::ItemGivenBack(key, TryReserveError::CapacityOverflow) => {
+            write!(text, "refused overflow {key}\n")
+        }
     }
 }
 

@@ -236,11 +236,7 @@ impl<K: Ord + Drop, V: Drop> BTreeMap<K, V> {
     /// Only at a new key: `CapacityOverflow` where the map holds `usize::MAX` pairs, and then always; else `AllocError`, where a
     /// request for memory was refused, which takes an empty map or a full leaf. The map is then as it was, tree and all, and key
     /// and value come back.
-    pub fn try_insert(
-        &mut self,
-        key: K,
-        value: V,
-    ) -> Result<Option<V>, (K, V, TryReserveError)>
+    pub fn try_insert(&mut self, key: K, value: V) -> Result<Option<V>, (K, V, TryReserveError)>
         ensures old { IfOk result (λ old. old ≡ value_at K.cmp (entries self.old) key) }
         ensures put { IfOk result (λ _. entries self.new ≡ put K.cmp (entries self.old) key value) }
         ensures unchanged { IfErr result (λ _. self.new ≡ self.old) }

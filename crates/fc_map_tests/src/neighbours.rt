@@ -97,7 +97,10 @@ fn is_tagged(found: Option<(&Tagged, &u64)>, number: u64) -> bool {
 }
 
 /// The numbers from 1 on below the end, each with the letter a and itself.
-pub(crate) fn tagged_below(alloc: Global, end: u64) -> Result<BTreeMap<Tagged, u64>, TryReserveError> {
+pub(crate) fn tagged_below(
+    alloc: Global,
+    end: u64,
+) -> Result<BTreeMap<Tagged, u64>, TryReserveError> {
     let mut map = BTreeMap::new(alloc);
     for number in 1..end {
         let letter = 'a';

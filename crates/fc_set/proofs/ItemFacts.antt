@@ -1,5 +1,5 @@
 -- Each word on lists of items, at the keys of a list of pairs, is the word on pairs.
-use Rattle.std.proofs.Common.{◌≡◌, Bool, true, false, cond, List, [], ◌∷◌, ◌++◌, map, filter, find, length, slice_get, ℕ, zero, suc, Any, Option, Some, None, is_some, IsSome, IsTrue, IfOk, IfErr, Result, Ok, Err, not, ◌↔◌, ◌⊎◌, inl, inr, refl, sym, ap, ◌∙◌, subst, arith}
+use Rattle.std.proofs.Common.{◌≡◌, Bool, true, false, cond, List, [], ◌∷◌, ◌++◌, map, filter, find, length, slice_get, ℕ, zero, suc, Any, Option, Some, None, is_some, IsSome, IsTrue, IfOk, Result, Ok, Err, not, ◌↔◌, ◌⊎◌, inl, inr, refl, sym, ap, ◌∙◌, subst, arith}
 use Rattle.std.specs.Prelude.{unwrap_or}
 use Rattle.std.specs.List.{AllByRecursion, AllZip}
 use Rattle.std.specs.Option.{option_map}

@@ -68,7 +68,10 @@ impl<'a, K: Ord + Drop, V: Drop> Entry<'a, K, V> {
     ///
     /// # Errors
     /// As `VacantEntry::try_insert`, where no value is there; what `make` answered then comes back with the key.
-    pub fn or_try_insert_with<F: FnOnce() -> V>(self, make: F) -> Result<&'a mut V, (K, V, TryReserveError)>
+    pub fn or_try_insert_with<F: FnOnce() -> V>(
+        self,
+        make: F,
+    ) -> Result<&'a mut V, (K, V, TryReserveError)>
         requires { entry_value self ≡ None → F.pre make }
         ensures* writes_back { sem 𝓛 (entry_lends_ok K.row V.row self.entry result) }
         ensures value { IfOk result (λ v. UnwrapsOrElse (entry_value self.entry) (F.post make) v.now) }
