@@ -1,5 +1,5 @@
 //! What callers prove of insertions that may be refused: by `?`, which keeps the error alone, and by what a refusal hands back.
-ghost use Rattle.std.specs.Prelude.{◌≡◌, ◌×◌, ◌⊎◌, length, IfOk, IfErr, OnOk, OnErr};
+ghost use Rattle.std.specs.Prelude.{◌≡◌, ◌⊎◌, length, IfOk, IfErr, OnOk, OnErr};
 ghost use Rattle.fc_base.specs.Extended.{extended, IsExtendedUpTo};
 ghost use Rattle.fc_base.specs.Growth.{MayGrowRefuse};
 ghost use Rattle.fc_base.specs.OneKey.{put};
