@@ -38,6 +38,12 @@ module _ {K : Type 0} (cmp : K → K → Ordering) where
   combined Intersection s t = intersection cmp s t
   combined Union s t = union cmp s t
 
+-- The reply to a command that is refused: an insertion hands back the item that it was to put in.
+abbrev pub item_refusal : {K V : Type 0} → Command K V → TryReserveError → Reply K V
+item_refusal (AddItem side k) e = ItemGivenBack k e
+item_refusal (ReplaceItem side k) e = ItemGivenBack k e
+item_refusal c e = Refused e
+
 module _ {K V : Type 0} (cmp : K → K → Ordering) where
   -- The table of commands on sets, where they are answered: the items of the named set, those of the other, and the reply.
   abbrev pub answer_on_sets : Command K V → List K → List K → SetOutcome K V
@@ -61,12 +67,6 @@ module _ {K V : Type 0} (cmp : K → K → Ordering) where
   answer_on_sets (IsSuperset side) m o = record { m = m; o = o; reply = Flag (has_none (difference cmp o m)) }
   answer_on_sets (SetCmp side) m o = record { m = m; o = o; reply = Order (slice_cmp cmp m o) }
   answer_on_sets c m o = record { m = m; o = o; reply = Done }
-
-  -- The reply to a command that is refused: an insertion hands back the item that it was to put in.
-  abbrev pub item_refusal : Command K V → TryReserveError → Reply K V
-  item_refusal (AddItem side k) e = ItemGivenBack k e
-  item_refusal (ReplaceItem side k) e = ItemGivenBack k e
-  item_refusal c e = Refused e
 
   -- Whether a command may be refused when a part of it is done, what it has then made of the items, and by which error: an extension
   -- at a new item, as an insertion of it there. The items before it stay.

@@ -57,6 +57,12 @@ pub record Outcome (K V : Type 0) : Type 0 where
   pub o : List (K × V)
   pub reply : Reply K V
 
+-- The reply to a command that is refused: an insertion hands back the key and the value that it was to put in.
+abbrev pub refusal : {K V : Type 0} → Command K V → TryReserveError → Reply K V
+refusal (Insert side k v) e = GivenBack k v e
+refusal (Entry side k v w) e = GivenBack k w e
+refusal c e = Refused e
+
 module _ {K V : Type 0} (cmp : K → K → Ordering) where
   -- The table of commands on maps, where they are answered: the list of the named map, that of the other, and the reply.
   abbrev pub answer : Command K V → List (K × V) → List (K × V) → Outcome K V
@@ -81,12 +87,6 @@ module _ {K V : Type 0} (cmp : K → K → Ordering) where
   answer (TryClone side) m o = record { m = m; o = m; reply = Done }
   answer (Extend side pairs) m o = record { m = extended cmp m pairs; o = o; reply = Done }
   answer c m o = record { m = m; o = o; reply = Done }
-
-  -- The reply to a command that is refused: an insertion hands back the key and the value that it was to put in.
-  abbrev pub refusal : Command K V → TryReserveError → Reply K V
-  refusal (Insert side k v) e = GivenBack k v e
-  refusal (Entry side k v w) e = GivenBack k w e
-  refusal c e = Refused e
 
   -- Whether a command may be refused when a part of it is done, what it has then made of the list, and by which error: an extension
   -- at a pair with a new key, as an insertion of it there. The pairs before it stay.
