@@ -366,8 +366,9 @@ fn entry<K: Ord + TryClone, V: TryClone>(
     };
     let found = matches!(held, Entry::Occupied(_));
     match held.and_modify(|value| *value = there).or_try_insert(new) {
-        Ok(_) => Reply::Flag(found),
-        Err((key, value, e)) => Reply::GivenBack(key, value, e),
+        Ok(_lent) => Reply::Flag(found),
+        // (taken whole: a pattern that takes it apart would hide that the map is as before)
+        Err(back) => Reply::GivenBack(back.0, back.1, back.2),
     }
 }
 

@@ -6,4 +6,4 @@ use Rattle.fc_command.proofs.command.sets.add.Goals as goal
 pub returns-in-Err : goal.returns-in-Err
 returns-in-Err g c o side =
     let why = c.in-Err.ensures in
-    refused c.in-Err.e (why.new_item, why.error) (refl, why.unchanged, refl)
+    refused c.in-Err.e (why.new_item, why.error) (rw why.back refl, why.unchanged, refl)

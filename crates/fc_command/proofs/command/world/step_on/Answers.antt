@@ -7,7 +7,7 @@ use Rattle.fc_command.proofs.command.world.step_on.Goals as goal
 pub returns-in-Err : goal.returns-in-Err
 returns-in-Err g c =
     let why = c.in-Err.ensures in
-    rw c.in-Insert.is (refused c.in-Err.e (why.new_key, why.error) (refl, why.unchanged, refl))
+    rw c.in-Insert.is (refused c.in-Err.e (why.new_key, why.error) (rw (why.back.0, why.back.1) refl, why.unchanged, refl))
 
 -- what was found, on whichever side
 pub returns-in-Get : goal.returns-in-Get
