@@ -7,7 +7,7 @@ ghost use Rattle.std.specs.Ordering.{nat_cmp, on, as_partial_cmp};
 
 use super::*;
 use crate::numbers::has;
-use fc_map::map::{Entry, VacantEntry};
+use fc_map::map::Entry;
 use std::cmp::Ordering;
 
 // A value of its type's own, where there is none, at one number of a new map.
@@ -158,13 +158,6 @@ fn look_up<'a>(map: &Counted<'a>, key: &CountingKey<'a>) -> (u64, bool) {
     (key.comparisons.replace(0), is_there)
 }
 
-fn put<'a>(
-    entry: VacantEntry<'_, CountingKey<'a>, u64>,
-    number: u64,
-) -> Result<u64, TryReserveError> {
-    Ok(*entry.try_insert(number)?)
-}
-
 // The search makes the comparisons of a look-up; the insertion or the removal that follows makes none.
 #[test]
 fn an_entry_compares_in_its_search_alone(rt: HostRuntime) -> Result<(), Fail> {
@@ -180,7 +173,7 @@ fn an_entry_compares_in_its_search_alone(rt: HostRuntime) -> Result<(), Fail> {
         assert!(rt; comparisons.get() == expected);
         match entry {
             Entry::Vacant(entry) => {
-                let value = put(entry, number)?;
+                let value = *entry.try_insert(number).map_err(|back| back.2)?;
                 assert!(rt; !is_there && value == number);
             }
             Entry::Occupied(entry) => {
