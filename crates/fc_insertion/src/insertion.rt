@@ -17,7 +17,9 @@ use std::alloc::Global;
 use std::mem;
 
 /// Puts `pair` into the gap that the path leads to. Each node that this takes is in `room`, so nothing can be refused once
-/// the first pair moves. The path then leads to the pair in the tree as it is now.
+/// the first pair moves. The path then leads to the pair in the tree as it is now. It is not inlined, since most insertions, which
+/// find room in the leaf, would then pay for its locals.
+#[inline(never)]
 pub fn insert<K: Drop, V: Drop>(
     root: &mut Box<Node<K, V>>,
     path: &mut Path,
@@ -237,8 +239,7 @@ pub fn first_leaf<K: Drop, V: Drop>(
     ensures no_move { IfErr result (λ _. count.new.moves ≡ count.old.moves) }
 {
     match Node::try_leaf(alloc) {
-        Ok(leaf) => {
-            let mut root = leaf;
+        Ok(mut root) => {
             root.insert_leaf(0, pair, count);
             Ok(root)
         }

@@ -50,6 +50,7 @@ impl<K, V> Room<K, V> {
 ///
 /// # Errors
 /// `AllocError` if one of them is refused, and those made before are dropped. Where the leaf has room nothing is asked for.
+#[inline(never)]
 pub fn try_room<K: Drop, V: Drop>(
     alloc: Global,
     root: &Node<K, V>,
