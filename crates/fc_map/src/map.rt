@@ -446,34 +446,6 @@ fn insert_in<K: Ord + Drop, V: Drop>(
         insert_in_leaf(root, path.as_slice(), pair, count);
         return Ok(());
     }
-    insert_split(alloc, root, path, pair, count)
-}
-
-// As `insert_in`, where a leaf is split. It is not inlined, since its caller would then pay for its locals where none is split.
-#[inline(never)]
-fn insert_split<K: Ord + Drop, V: Drop>(
-    alloc: Global,
-    root: &mut Box<Node<K, V>>,
-    path: &mut Path,
-    pair: (K, V),
-    count: &mut Count,
-) -> Result<(), (K, V, TryReserveError)>
-    requires gap { IsGap K.cmp pair.0 root.old.value path.old }
-    requires sound { IsSoundMap (Some root.old.value) }
-    requires fits { length (pairs_of root.old.value) < usize.MAX }
-    ensures put { OnOk result (pairs_of root.new.value ≡ put K.cmp (pairs_of root.old.value) pair.0 pair.1) }
-    ensures place { OnOk result (IsPutAt path.new root.new.value pair (before path.old root.old.value) (after path.old root.old.value)) }
-    ensures length { OnOk result (length (pairs_of root.new.value) ≡ length (pairs_of root.old.value) + 1) }
-    ensures sound { IsSoundMap (Some root.new.value) }
-    ensures unchanged { OnErr result (root.new ≡ root.old) }
-    ensures back { IfErr result (λ e. (e.0 ≡ pair.0) × (e.1 ≡ pair.1)) }
-    ensures error { IfErr result (λ e. e.2 ≡ TryReserveError.AllocError) }
-    ensures leaf { OnErr result (11 ≤ length (pairs_of root.old.value)) }
-    ensures comparisons { count.new.comparisons ≡ count.old.comparisons }
-    ensures no_move { OnErr result (count.new.moves ≡ count.old.moves) }
-    ensures moves { OnOk result (IsMoved (length (pairs_of root.new.value)) count.old count.new) }
-    ensures moved { OnOk result (count.old.moves < count.new.moves) }
-{
     match try_room(alloc, root, path.as_slice()) {
         Ok(room) => {
             insert(root, path, pair, room, count);

@@ -182,8 +182,8 @@ impl<T: Ord + Drop> BTreeSet<T> {
         ensures bounded { IsBounded (length (items self.new)) count.old count.new }
     {
         match self.map.try_insert_counted(item, (), count) {
-            Ok(old) => Ok(old.is_none()),
-            Err((item, _, e)) => Err((item, e)),
+            Ok(old) => return Ok(old.is_none()),
+            Err((item, _, e)) => return Err((item, e)),
         }
     }
 
@@ -286,8 +286,8 @@ impl<T: Ord + Drop> BTreeSet<T> {
         ensures bounded { IsBounded (length (items self.new)) count.old count.new }
     {
         match item::replace(&mut self.map, item, (), count) {
-            Ok(old) => Ok(item_of(old)),
-            Err((item, _, e)) => Err((item, e)),
+            Ok(old) => return Ok(item_of(old)),
+            Err((item, _, e)) => return Err((item, e)),
         }
     }
 }
