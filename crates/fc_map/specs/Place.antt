@@ -1,5 +1,5 @@
 -- Where a search of a map ends.
-use Rattle.std.specs.Prelude.{◌≡◌, ℕ, ◌<◌, ◌↔◌, Bool, List, [], length, IsTrue, Some, None}
+use Rattle.std.specs.Prelude.{◌≡◌, ℕ, ◌<◌, ◌↔◌, Bool, List, [], length, IsTrue, IsFalse, Some, None}
 use Rattle.std.specs.declared.cmp.Ordering.{Ordering}
 use Rattle.fc_insertion.specs.Arrival.{IsPutAt}
 use Rattle.fc_node.specs.Leaf.{leaf_at}
@@ -19,9 +19,9 @@ module _ {K Q V : Type 0} (cmp : K → Q → Ordering) (k : Q) where
   IsOpenAt (Some root) path = IsGap cmp k root path
 
 module _ {K V : Type 0} where
-  -- Whether the leaf that the path ends in has room for another pair; where there is no root, nothing is said.
+  -- Whether there is a leaf with room for another pair where the path ends.
   abbrev pub TellsRoom : Bool → List ℕ → Map K V → Type 0
-  TellsRoom has_room path None = Unit {0}
+  TellsRoom has_room path None = IsFalse has_room
   TellsRoom has_room path (Some root) = IsTrue has_room ↔ (length (own_pairs (leaf_at path root)) < 11)
 
   -- The path leads to the pair, with these pairs ahead of it and those behind it.

@@ -1,5 +1,5 @@
 //! The ordered map, a B-tree.
-ghost use Rattle.std.specs.Prelude.{◌≡◌, ◌+◌, ◌-◌, ◌^◌, ◌<◌, ◌≤◌, ◌↔◌, ◌⊎◌, [], ◌∷◌, length, IsTrue, IsSome, IsOk, IsErr, IfOk, IfErr, OnOk, OnErr, None, Some, option_copied};
+ghost use Rattle.std.specs.Prelude.{◌≡◌, ◌+◌, ◌-◌, ◌^◌, ◌<◌, ◌≤◌, ◌↔◌, ◌⊎◌, [], ◌∷◌, length, IsTrue, true, IsSome, IsOk, IsErr, IfOk, IfErr, OnOk, OnErr, None, Some, option_copied};
 ghost use Rattle.std.specs.Option.{option_map};
 ghost use Rattle.fc_base.specs.Ascending.{IsAscending};
 ghost use Rattle.fc_base.specs.Growth.{MayGrowRefuse};
@@ -278,10 +278,18 @@ impl<K: Ord + Drop, V: Drop> BTreeMap<K, V> {
         let mut path = Path::new();
         match self.locate(&key, &mut path, count) {
             Ok(()) => Ok(Some(self.replace_at(&path, &key, value))),
-            Err(gap) => match self.insert_at(&mut path, gap.has_room, key, value, count) {
-                Ok(()) => Ok(None),
-                Err(back) => Err(back),
-            },
+            Err(gap) => {
+                // Not by `insert_at`, whose answer would be made here and taken apart again.
+                let takes_no_memory = gap.has_room && self.len < usize::MAX;
+                if takes_no_memory {
+                    self.insert_in_room(&path, (key, value), count);
+                    return Ok(None);
+                }
+                match self.insert_growing(&mut path, key, value, count) {
+                    Ok(()) => Ok(None),
+                    Err(back) => Err(back),
+                }
+            }
         }
     }
 
@@ -356,13 +364,67 @@ impl<K: Ord + Drop, V: Drop> BTreeMap<K, V> {
         ensures moves { OnOk result (IsMoved (length (entries self.new)) count.old count.new) }
         ensures moved { OnOk result (count.old.moves < count.new.moves) }
     {
+        if has_room && self.len < usize::MAX {
+            self.insert_in_room(path, (key, value), count);
+            return Ok(());
+        }
+        self.insert_growing(path, key, value, count)
+    }
+
+    // Puts a pair with a new key into the gap that the path leads to, whose leaf has room. The path then leads to the pair.
+    #[inline(always)]
+    fn insert_in_room(&mut self, path: &Path, pair: (K, V), count: &mut Count)
+        requires gap { IsOpenAt K.cmp pair.0 self.old path.now }
+        requires room { TellsRoom true path.now self.old }
+        requires fits { length (entries self.old) < usize.MAX }
+        ensures put { entries self.new ≡ put K.cmp (entries self.old) pair.0 pair.1 }
+        ensures place { IsPutIn path.now self.new pair (before_of self.old path.now) (after_of self.old path.now) }
+        ensures ascending { IsAscending K.cmp (entries self.new) }
+        ensures sound { IsSoundMap self.new }
+        ensures comparisons { count.new.comparisons ≡ count.old.comparisons }
+        ensures length { length (entries self.new) ≡ length (entries self.old) + 1 }
+        ensures moves { IsMoved (length (entries self.new)) count.old count.new }
+        ensures moved { count.old.moves < count.new.moves }
+    {
+        let Some(root) = &mut self.root else {
+            unreachable!()
+        };
+        insert_in_leaf(root, path.as_slice(), pair, count);
+        self.len += 1;
+    }
+
+    // As `insert_at`, by what takes memory: a first leaf, or what a full leaf is split with. It is not inlined, since the insertions that
+    // take none would then pay for its locals.
+    #[inline(never)]
+    fn insert_growing(
+        &mut self,
+        path: &mut Path,
+        key: K,
+        value: V,
+        count: &mut Count,
+    ) -> Result<(), (K, V, TryReserveError)>
+        requires gap { IsOpenAt K.cmp key self.old path.old }
+        ensures put { OnOk result (entries self.new ≡ put K.cmp (entries self.old) key value) }
+        ensures place { OnOk result (IsPutIn path.new self.new (key, value) (before_of self.old path.old) (after_of self.old path.old)) }
+        ensures unchanged { OnErr result (self.new ≡ self.old) }
+        ensures back { IfErr result (λ e. (e.0 ≡ key) × (e.1 ≡ value)) }
+        ensures error { IfErr result (λ e. MayGrowRefuse (length (entries self.old)) e.2) }
+        ensures full { length (entries self.old) ≡ usize.MAX → IsErr result }
+        ensures ascending { IsAscending K.cmp (entries self.new) }
+        ensures sound { IsSoundMap self.new }
+        ensures comparisons { count.new.comparisons ≡ count.old.comparisons }
+        ensures no_move { OnErr result (count.new.moves ≡ count.old.moves) }
+        ensures length { OnOk result (length (entries self.new) ≡ length (entries self.old) + 1) }
+        ensures moves { OnOk result (IsMoved (length (entries self.new)) count.old count.new) }
+        ensures moved { OnOk result (count.old.moves < count.new.moves) }
+    {
         if self.len == usize::MAX {
             return Err((key, value, TryReserveError::CapacityOverflow));
         }
         let Some(root) = &mut self.root else {
             return self.insert_first(path, key, value, count);
         };
-        insert_in(self.alloc, root, path, has_room, (key, value), count)?;
+        insert_in(self.alloc, root, path, (key, value), count)?;
         self.len += 1;
         Ok(())
     }
@@ -414,19 +476,16 @@ impl<K: Ord + Drop, V: Drop> BTreeMap<K, V> {
     }
 }
 
-// Puts a pair with a new key into the gap of the tree that the path leads to, by what is known of its leaf. The path then leads to
-// the pair.
-#[inline(always)]
+// Puts a pair with a new key into the gap of the tree that the path leads to, with every node that it takes made before. The path
+// then leads to the pair.
 fn insert_in<K: Ord + Drop, V: Drop>(
     alloc: Global,
     root: &mut Box<Node<K, V>>,
     path: &mut Path,
-    has_room: bool,
     pair: (K, V),
     count: &mut Count,
 ) -> Result<(), (K, V, TryReserveError)>
     requires gap { IsGap K.cmp pair.0 root.old.value path.old }
-    requires room { IsTrue has_room ↔ (length (own_pairs (leaf_at path.old root.old.value)) < 11) }
     requires sound { IsSoundMap (Some root.old.value) }
     requires fits { length (pairs_of root.old.value) < usize.MAX }
     ensures put { OnOk result (pairs_of root.new.value ≡ put K.cmp (pairs_of root.old.value) pair.0 pair.1) }
@@ -442,10 +501,6 @@ fn insert_in<K: Ord + Drop, V: Drop>(
     ensures moves { OnOk result (IsMoved (length (pairs_of root.new.value)) count.old count.new) }
     ensures moved { OnOk result (count.old.moves < count.new.moves) }
 {
-    if has_room {
-        insert_in_leaf(root, path.as_slice(), pair, count);
-        return Ok(());
-    }
     match try_room(alloc, root, path.as_slice()) {
         Ok(room) => {
             insert(root, path, pair, room, count);

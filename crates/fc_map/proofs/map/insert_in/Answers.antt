@@ -1,26 +1,15 @@
-use Rattle.std.proofs.Common.{◌≡◌, ◌<◌, ◌^◌, ◌∷◌, ◌++◌, length, arith, subst}
+use Rattle.std.proofs.Common.{◌≡◌, ◌<◌, ◌^◌, length, arith}
 use Rattle.fc_insertion.specs.Cascade.{leaf_at}
 use Rattle.fc_node.specs.Node.{own_pairs, pairs_of}
-use Rattle.fc_node.specs.Path.{before, after}
 use Rattle.fc_insertion.proofs.Arrivals.{steps_few}
 use Rattle.fc_map.proofs.InsertFacts.{leaf_within, gap_steps, gap_sound, put_in, length_in, sound_in, moves_in}
 use Rattle.fc_map.proofs.map.insert_in.Goals as goal
-
-pub returns-then-has_room-clause-put : goal.returns-then-has_room-clause-put
-returns-then-has_room-clause-put g c =
-    let parts = subst (λ n. pairs_of c.insert_in_leaf.new.node ≡ before c.args.path.now n ++ c.args.pair ∷ after c.args.path.now n) c.deref_mut.ensures.value (rw c.as_slice.ensures.value at c.insert_in_leaf.ensures.pairs) in
-    put_in c.args.root.now.value c.args.path.now c.requires.sound g.K.Ord.cmp c.args.pair.0 c.args.pair.1 _ c.requires.gap parts
-
-pub returns-then-has_room-clause-length : goal.returns-then-has_room-clause-length
-returns-then-has_room-clause-length g c =
-    let parts = subst (λ n. pairs_of c.insert_in_leaf.new.node ≡ before c.args.path.now n ++ c.args.pair ∷ after c.args.path.now n) c.deref_mut.ensures.value (rw c.as_slice.ensures.value at c.insert_in_leaf.ensures.pairs) in
-    length_in c.args.root.now.value c.args.path.now c.requires.sound g.K.Ord.cmp c.args.pair.0 c.args.pair _ c.requires.gap parts
 
 pub returns-in-Err-clause-leaf : goal.returns-in-Err-clause-leaf
 returns-in-Err-clause-leaf g c =
     let steps = gap_steps c.args.root.now.value c.args.path.now c.requires.sound g.K.Ord.cmp c.args.pair.0 c.requires.gap in
     let within = leaf_within c.args.path.now c.requires.sound.0 c.args.root.now.value c.requires.sound.2.1 steps c.requires.gap.way in
-    let full : length (own_pairs (leaf_at c.args.path.now c.args.root.now.value)) ≡ 11 = rw (c.deref.ensures, c.as_slice-2.ensures.value) at c.in-Err.ensures.refused in
+    let full : length (own_pairs (leaf_at c.args.path.now c.args.root.now.value)) ≡ 11 = rw (c.deref.ensures, c.as_slice.ensures.value) at c.in-Err.ensures.refused in
     omega arith
 
 pub insert-requires : goal.insert-requires
@@ -28,7 +17,7 @@ insert-requires g c =
     let steps = gap_steps c.args.root.now.value c.args.path.now c.requires.sound g.K.Ord.cmp c.args.pair.0 c.requires.gap in
     let sound = gap_sound c.args.root.now.value c.args.path.now c.requires.sound steps in
     let short = steps_few c.args.path.now c.args.root.now.value (omega arith) sound (omega arith) in
-    record { some = omega arith; short = short; path = c.requires.gap.way; sound = sound; room = rw (← c.deref.ensures) (rw c.as_slice-2.ensures.value at c.in-Ok.ensures.ok) }
+    record { some = omega arith; short = short; path = c.requires.gap.way; sound = sound; room = rw (← c.deref.ensures) (rw c.as_slice.ensures.value at c.in-Ok.ensures.ok) }
 
 pub returns-in-Ok-clause-put : goal.returns-in-Ok-clause-put
 returns-in-Ok-clause-put g c = put_in c.args.root.now.value c.args.path.now c.requires.sound g.K.Ord.cmp c.args.pair.0 c.args.pair.1 _ c.requires.gap c.insert.ensures.pairs

@@ -3,7 +3,7 @@ use Rattle.fc_base.specs.Ascending.{IsAscending}
 use Rattle.fc_node.specs.Node.{pairs_of}
 use Rattle.fc_map.specs.Entries.{root_of, entries}
 use Rattle.fc_base.proofs.Laws.{ascending_put}
-use Rattle.fc_map.proofs.map.BTreeMap.insert_at.Goals as goal
+use Rattle.fc_map.proofs.map.BTreeMap.insert_growing.Goals as goal
 
 pub invariant_of-self-2 : goal.invariant_of-self-2
 invariant_of-self-2 g c =
