@@ -17,8 +17,8 @@ use std::alloc::Global;
 use std::mem;
 
 /// Puts `pair` into the gap that the path leads to. Each node that this takes is in `room`, so nothing can be refused once
-/// the first pair moves. The path then leads to the pair in the tree as it is now. It is not inlined, since most insertions, which
-/// find room in the leaf, would then pay for its locals.
+/// the first pair moves. The path then leads to the pair in the tree as it is now. It is not inlined, being long, and called by
+/// few insertions.
 #[inline(never)]
 pub fn insert<K: Drop, V: Drop>(
     root: &mut Box<Node<K, V>>,
