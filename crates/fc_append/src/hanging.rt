@@ -1,5 +1,6 @@
 //! A tree hung on the border of a taller one, at its own level.
 ghost use Rattle.std.specs.Prelude.{◌≡◌, ℕ, suc, ◌+◌, ◌≤◌, length};
+ghost use Rattle.fc_base.specs.Sizes.{min_len};
 ghost use Rattle.fc_node.specs.Node.{own_pairs, pairs_of, IsLevelled};
 ghost use Rattle.fc_node.specs.Tree.{entries, root_of, IsSoundWithin};
 ghost use Rattle.fc_insertion.specs.Insertion.{spread};
@@ -23,7 +24,7 @@ pub(crate) fn hang<K: Drop, V: Drop>(
     spares: Spares<K, V>,
 ) -> Option<Box<Node<K, V>>>
     requires levels { (h : ℕ) × IsLevelled (depth + h) root.value × IsLevelled h other.value }
-    requires some { depth ≡ 0 → 5 ≤ length (own_pairs root.value) }
+    requires some { depth ≡ 0 → min_len ≤ length (own_pairs root.value) }
     requires spares { depth + 1 ≤ spares }
     ensures pairs { entries (root_of result) ≡ beside side (pairs_of root.value) pair (pairs_of other.value) }
     ensures levels { (h : ℕ) → IsLevelled (depth + h) root.value → IsLevelled h other.value → IsSoundWithin (suc (depth + h)) (root_of result) }
@@ -51,7 +52,7 @@ fn hang_below<K: Drop, V: Drop>(
     spares: &mut Spares<K, V>,
 ) -> Option<((K, V), Box<Node<K, V>>)>
     requires levels { (h : ℕ) × IsLevelled (depth + h) node.old × IsLevelled h other.value }
-    requires some { depth ≡ 0 → 5 ≤ length (own_pairs node.old) }
+    requires some { depth ≡ 0 → min_len ≤ length (own_pairs node.old) }
     requires spares { depth ≤ spares.old }
     ensures pairs { spread node.new result ≡ beside side (pairs_of node.old) pair (pairs_of other.value) }
     ensures levels { (h : ℕ) → IsLevelled (depth + h) node.old → IsLevelled h other.value → IsHung side (depth + h) node.new result }

@@ -1,5 +1,6 @@
 //! Two trees made one where all pairs of one lie before those of the other: the shorter one is hung on the taller one's border.
 ghost use Rattle.std.specs.Prelude.{◌≡◌, ℕ, suc, ◌+◌, ◌<◌, ◌≤◌, ◌∷◌, ◌++◌, length, None, IfOk, IfErr};
+ghost use Rattle.fc_base.specs.Sizes.{most_levels, most_height};
 ghost use Rattle.fc_node.specs.Node.{pairs_of, IsBlankInner, IsLevelled, IsSoundRoot, IsTree};
 ghost use Rattle.fc_node.specs.Tree.{entries, root_of, IsSoundMap, IsSoundWithin};
 
@@ -65,11 +66,11 @@ fn join<K: Drop, V: Drop>(
     right: Box<Node<K, V>>,
     spares: Spares<K, V>,
 ) -> Option<Box<Node<K, V>>>
-    requires left { (g : ℕ) × (g ≤ 24) × IsSoundRoot g left.value }
-    requires right { (h : ℕ) × (h ≤ 24) × IsSoundRoot h right.value }
+    requires left { (g : ℕ) × (g ≤ most_height) × IsSoundRoot g left.value }
+    requires right { (h : ℕ) × (h ≤ most_height) × IsSoundRoot h right.value }
     requires spares { (g h : ℕ) → IsSoundRoot g left.value → IsSoundRoot h right.value → (g + 1 ≤ spares + h) × (h + 1 ≤ spares + g) }
     ensures pairs { entries (root_of result) ≡ pairs_of left.value ++ pairs_of right.value }
-    ensures levels { IsSoundWithin 25 (root_of result) }
+    ensures levels { IsSoundWithin most_levels (root_of result) }
 {
     let mut left = left;
     let mut right = right;

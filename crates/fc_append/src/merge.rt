@@ -1,5 +1,6 @@
 //! The pairs of two ascending trees in one, by one comparison a step.
 ghost use Rattle.std.specs.Prelude.{◌≡◌, ℕ, ◌+◌, ◌-◌, ◌<◌, ◌≤◌, List, [], ◌∷◌, ◌++◌, length, min};
+ghost use Rattle.fc_base.specs.Sizes.{most_levels};
 ghost use Rattle.fc_base.specs.Ascending.{IsAscending};
 ghost use Rattle.fc_base.specs.Joined.{joined};
 ghost use Rattle.fc_node.specs.Tree.{entries, root_of, IsSoundMap};
@@ -53,10 +54,10 @@ fn step<K: Ord + Drop, V: Drop>(
     count: &mut Count,
 )
     requires some { (0 < length ours.old) × (0 < length theirs.old) }
-    requires levels { IsFalling 0 25 ours.old × IsFalling 0 25 theirs.old }
+    requires levels { IsFalling 0 most_levels ours.old × IsFalling 0 most_levels theirs.old }
     requires order { IsAscending K.cmp (front_of ours.old) × IsAscending K.cmp (front_of theirs.old) }
     requires room { length (front_of ours.old) + length (front_of theirs.old) ≤ builder.old.room }
-    ensures levels { IsFalling 0 25 ours.new × IsFalling 0 25 theirs.new }
+    ensures levels { IsFalling 0 most_levels ours.new × IsFalling 0 most_levels theirs.new }
     ensures order { IsAscending K.cmp (front_of ours.new) × IsAscending K.cmp (front_of theirs.new) }
     ensures room { length (front_of ours.new) + length (front_of theirs.new) ≤ builder.new.room }
     ensures pairs { builder.new.pairs ++ joined K.cmp (front_of ours.new) (front_of theirs.new) ≡ builder.old.pairs ++ joined K.cmp (front_of ours.old) (front_of theirs.old) }
@@ -80,7 +81,7 @@ fn step<K: Ord + Drop, V: Drop>(
 // The first pair of a stack of nodes that are taken apart.
 fn first<K, V>(nodes: &Nodes<K, V>) -> &(K, V)
     requires some { 0 < length nodes.now }
-    requires levels { IsFalling 0 25 nodes.now }
+    requires levels { IsFalling 0 most_levels nodes.now }
     ensures { (rest : List (K × V)) × (front_of nodes.now ≡ result.now ∷ rest) }
 {
     nodes.get(nodes.len() - 1).pair(0)
@@ -88,7 +89,7 @@ fn first<K, V>(nodes: &Nodes<K, V>) -> &(K, V)
 
 // Puts all pairs of the nodes into the builder.
 fn push_all<K: Drop, V: Drop>(nodes: &mut Nodes<K, V>, builder: &mut Builder<K, V>)
-    requires levels { IsFalling 0 25 nodes.old }
+    requires levels { IsFalling 0 most_levels nodes.old }
     requires room { length (front_of nodes.old) ≤ builder.old.room }
     ensures pairs { builder.new.pairs ≡ builder.old.pairs ++ front_of nodes.old }
     ensures filled { length builder.new.pairs + builder.new.room ≡ length builder.old.pairs + builder.old.room }

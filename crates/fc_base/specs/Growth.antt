@@ -1,5 +1,6 @@
 -- The refusal of a growth.
 use Rattle.std.specs.Prelude.{◌≡◌, ℕ, ◌+◌, ◌-◌, ◌^◌, ◌==◌, ◌<◌, ◌≤◌, ◌⊎◌, nat_le, if◌then◌else◌}
+use Rattle.fc_base.specs.Sizes.{capacity}
 use Rattle.fc_base.specs.declared.try_reserve_error.TryReserveError.{TryReserveError}
 use Rattle.fc_base.specs.declared.try_reserve_error.TryReserveError.TheVariants.{CapacityOverflow, AllocError}
 
@@ -9,7 +10,7 @@ growth_error n = if n == 2 ^ 64 - 1 then CapacityOverflow else AllocError
 
 -- An ordered list of n items may refuse a new one only where there is none yet, or where there are enough to fill a leaf.
 abbrev pub MayGrowRefuse : ℕ → TryReserveError → Type 0
-MayGrowRefuse n e = (e ≡ growth_error n) × ((n ≡ 0) ⊎ (11 ≤ n))
+MayGrowRefuse n e = (e ≡ growth_error n) × ((n ≡ 0) ⊎ (capacity ≤ n))
 
 -- The one error by which an append of n items to m may be refused.
 abbrev pub append_error : ℕ → ℕ → TryReserveError

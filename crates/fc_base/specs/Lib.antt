@@ -2,6 +2,7 @@ pub mod Ascending
 pub mod Boxed
 pub mod Copies
 pub mod Growth
+pub mod Sizes
 pub mod OneKey
 pub mod Joined
 pub mod Extended

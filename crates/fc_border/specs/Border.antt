@@ -1,5 +1,6 @@
 -- A tree with one border that may be short, whichever side it is on.
 use Rattle.std.specs.Prelude.{ℕ, suc, ◌+◌, ◌≤◌, length}
+use Rattle.fc_base.specs.Sizes.{min_len}
 use Rattle.fc_node.specs.declared.node.Node.{Node}
 use Rattle.fc_node.specs.Node.{own_pairs, child_at, IsLevelled}
 use Rattle.fc_node.specs.Bordered.{IsLeftBordered, IsRightBordered}
@@ -26,4 +27,4 @@ IsShrunk h old new = IsLevelled h new × IsOneFewer old new
 
 -- The new node's border is as before, its child on it has at least 6 pairs, and it has as many pairs as the old one or one fewer.
 abbrev pub IsStocked : {K V : Type 0} → Side → ℕ → Node K V → Node K V → Type 0
-IsStocked side h old new = IsBordered side (suc h) new × (6 ≤ length (own_pairs (child_at new (border_place side new)))) × IsOneFewer old new
+IsStocked side h old new = IsBordered side (suc h) new × (min_len + 1 ≤ length (own_pairs (child_at new (border_place side new)))) × IsOneFewer old new

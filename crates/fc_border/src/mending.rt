@@ -1,5 +1,6 @@
 //! Mending of a tree whose nodes on the leftmost or on the rightmost path may hold too few pairs.
 ghost use Rattle.std.specs.Prelude.{◌≡◌, ℕ, suc, ◌+◌, ◌-◌, ◌<◌, ◌≤◌, [], ◌∷◌, length, MatchOption};
+ghost use Rattle.fc_base.specs.Sizes.{capacity};
 ghost use Rattle.fc_node.specs.Node.{own_pairs, children_of, child_at, pairs_of, IsLeaf, IsInner, IsLevelled};
 ghost use Rattle.fc_node.specs.Tree.{entries, root_of, IsSoundWithin};
 ghost use Rattle.fc_node.specs.Bordered.{IsLeftBordered, IsRightBordered};
@@ -101,7 +102,7 @@ fn mend_below<K: Drop, V: Drop>(node: &mut Node<K, V>, side: Side, count: &mut C
 /// The place of the child on the border.
 pub fn border<K, V>(node: &Node<K, V>, side: Side) -> usize
     ensures value { result ≡ border_place side node.now }
-    ensures fits { result ≤ 11 }
+    ensures fits { result ≤ capacity }
 {
     match side {
         Side::Left => 0,

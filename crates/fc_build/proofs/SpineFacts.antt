@@ -1,5 +1,5 @@
 -- A spine with a node at its end.
-use Rattle.std.proofs.Common.{◌≡◌, ℕ, zero, suc, ◌+◌, ◌-◌, ◌*◌, ◌<◌, ◌≤◌, List, [], ◌∷◌, ◌++◌, length, refl, sym, ap, ◌∙◌, subst, arith, Box, append_assoc, length-append}
+use Rattle.std.proofs.Common.{◌≡◌, ℕ, zero, suc, ◌+◌, ◌-◌, ◌*◌, ◌^◌, ◌<◌, ◌≤◌, List, [], ◌∷◌, ◌++◌, length, refl, sym, ap, ◌∙◌, subst, arith, Box, append_assoc, length-append}
 use Rattle.std.specs.declared.alloc.Global.{Global}
 use Rattle.std.specs.List.{AllByRecursion}
 use Rattle.fc_node.specs.declared.node.Node.{Node}
@@ -153,9 +153,10 @@ module _ {K V : Type 0} where
   carried (suc d) i j s t k e w c n l f =
       let x = e.0 in
       let y = e.1 in
-      let z = e.2 in
+      let z : worth s + 1 < 12 ^ suc d = e.2 in
       let v = e.3 in
-      record { less = d; deep = refl; enough = (omega arith, omega arith, omega arith, omega arith); spare = omega arith }
+      let fewer : worth t + 1 < 12 ^ d = omega arith in
+      record { less = d; deep = refl; enough = (omega arith, omega arith, fewer, omega arith); spare = omega arith }
 
   pub not_blank : (s : List (Box (Node K V) Global)) (n : Node K V) → (length s ≡ 0 → own_pairs n ≡ []) → 11 ≤ length (own_pairs n) → 0 < length s
   not_blank [] n f h = absurd (let e = ap length (f refl) in omega arith)

@@ -3,6 +3,7 @@ use Rattle.std.specs.Prelude.{◌≡◌, ℕ, ◌+◌, ◌*◌, ◌≤◌, List,
 use Rattle.std.specs.List.{AllByRecursion}
 use Rattle.std.specs.declared.boxed.Box.{Box}
 use Rattle.std.specs.declared.alloc.Global.{Global}
+use Rattle.fc_base.specs.Sizes.{capacity, most_children}
 use Rattle.fc_node.specs.declared.node.Node.{Node}
 use Rattle.fc_node.specs.Node.{own_pairs, IsLeaf, IsBlankLeaf, IsBlankInner}
 use Rattle.fc_walk.specs.Opened.{back_of}
@@ -29,7 +30,7 @@ module _ {K V : Type 0} where
   -- no room and nothing else.
   abbrev pub IsLast : Option (Box (Node K V) Global) → ℕ → ℕ → List (Box (Node K V) Global) → Type 0
   IsLast None spares room s = (room ≡ 0) × (s ≡ [])
-  IsLast (Some leaf) spares room s = (length (own_pairs leaf.value) ≤ 11) × IsLeaf leaf.value × (length (own_pairs leaf.value) + room ≤ 12 * spares + 11)
+  IsLast (Some leaf) spares room s = (length (own_pairs leaf.value) ≤ capacity) × IsLeaf leaf.value × (length (own_pairs leaf.value) + room ≤ most_children * spares + capacity)
 
   -- The tree so far stands above the last leaf, and there are enough spare nodes for the room.
   abbrev pub IsBuilder : Inside K V → Type 0

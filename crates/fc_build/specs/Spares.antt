@@ -2,17 +2,18 @@
 use Rattle.std.specs.Prelude.{◌≡◌, ℕ, zero, suc, ◌+◌, ◌*◌, ◌/◌, ◌^◌, ◌<◌, ◌≤◌, List, [], ◌∷◌, length}
 use Rattle.std.specs.declared.boxed.Box.{Box}
 use Rattle.std.specs.declared.alloc.Global.{Global}
+use Rattle.fc_base.specs.Sizes.{capacity, most_children, most_height}
 use Rattle.fc_node.specs.declared.node.Node.{Node}
 use Rattle.fc_node.specs.Node.{own_pairs}
 
 -- How many leaves n pairs need at most: a full leaf has 11, and one more pair stands between two leaves.
 abbrev pub leaves_for : ℕ → ℕ
 leaves_for zero = 0
-leaves_for (suc n) = suc n / 12 + 1
+leaves_for (suc n) = suc n / most_children + 1
 
 -- So many inner nodes are enough for n pairs: one for each eleven pairs between two leaves, and one for each level.
 abbrev pub AreInnerFor : ℕ → ℕ → Type 0
-AreInnerFor n inner = (levels : ℕ) × (levels ≤ 24) × (n / 12 < 12 ^ levels) × (inner ≡ n / 12 / 11 + levels)
+AreInnerFor n inner = (levels : ℕ) × (levels ≤ most_height) × (n / most_children < most_children ^ levels) × (inner ≡ n / most_children / capacity + levels)
 
 module _ {K V : Type 0} where
   -- How many pairs stand in the nodes themselves.
@@ -23,7 +24,7 @@ module _ {K V : Type 0} where
   -- The numbers of the nodes' own pairs as the digits of a number to base 12, after the digits of another one.
   abbrev pub digits_after : ℕ → List (Box (Node K V) Global) → ℕ
   digits_after a [] = a
-  digits_after a (b ∷ s) = digits_after (12 * a + length (own_pairs b.value)) s
+  digits_after a (b ∷ s) = digits_after (most_children * a + length (own_pairs b.value)) s
 
   -- The numbers of the nodes' own pairs as the digits of a number to base 12.
   abbrev pub worth : List (Box (Node K V) Global) → ℕ
@@ -31,4 +32,4 @@ module _ {K V : Type 0} where
 
   -- With so many spare nodes, so many more subtrees can be put at the spine's end, and it then has at most d nodes.
   abbrev pub IsEnough : ℕ → ℕ → ℕ → List (Box (Node K V) Global) → Type 0
-  IsEnough d spares more s = (length s ≤ d) × (d ≤ 24) × (worth s + more < 12 ^ d) × (own_count s + more + 11 * d ≤ 11 * (spares + length s) + 10)
+  IsEnough d spares more s = (length s ≤ d) × (d ≤ most_height) × (worth s + more < most_children ^ d) × (own_count s + more + capacity * d ≤ capacity * (spares + length s) + 10)

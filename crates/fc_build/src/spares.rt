@@ -1,6 +1,7 @@
 //! Nodes that hold nothing, all made before the first is used.
 ghost use Rattle.std.specs.Prelude.{◌≡◌, ◌+◌, ◌*◌, ◌^◌, ◌<◌, ◌≤◌, [], ◌∷◌, ◌++◌, length, IfOk, IfErr, IsOk};
 ghost use Rattle.std.specs.List.{AllByRecursion};
+ghost use Rattle.fc_base.specs.Sizes.{most_children};
 ghost use Rattle.fc_node.specs.Node.{IsBlankLeaf, IsBlankInner};
 ghost use Rattle.fc_build.specs.Spares.{leaves_for, AreInnerFor};
 
@@ -75,8 +76,8 @@ pub(crate) fn inner_count(n: usize) -> usize
 
 // How many digits the number has to base 12; 0 has none.
 fn digit_count(n: usize) -> usize
-    ensures above { n < 12 ^ result }
-    ensures least { 0 < n → 12 ^ result ≤ 12 * n }
+    ensures above { n < most_children ^ result }
+    ensures least { 0 < n → most_children ^ result ≤ most_children * n }
     ensures none { n ≡ 0 → result ≡ 0 }
 {
     if n == 0 {

@@ -1,6 +1,7 @@
 //! The right spine of a tree that grows at its right end.
 ghost use Rattle.std.specs.Prelude.{◌≡◌, ℕ, suc, ◌+◌, ◌-◌, ◌*◌, ◌<◌, ◌≤◌, ◌↔◌, [], ◌∷◌, ◌++◌, length};
 ghost use Rattle.std.specs.List.{AllByRecursion};
+ghost use Rattle.fc_base.specs.Sizes.{capacity, most_children};
 ghost use Rattle.fc_node.specs.Node.{own_pairs, children_of, pairs_of, IsLeaf, IsSound, IsBlankInner};
 ghost use Rattle.fc_node.specs.Bordered.{IsRightBordered};
 ghost use Rattle.fc_walk.specs.Opened.{back_in, back_of};
@@ -31,7 +32,7 @@ pub fn attach<K: Drop, V: Drop>(
     ensures levels { (h : ℕ) → IsSpine h spine.old → IsSound h subtree.value → IsSpine h spine.new }
     ensures blank { AllByRecursion (λ b. IsBlankInner b.value) spares.new.items }
     ensures worth { worth spine.new ≡ worth spine.old + 1 }
-    ensures left { 11 * (length spares.new.items + length spine.new) + own_count spine.old + 1 ≡ 11 * (length spares.old.items + length spine.old) + own_count spine.new }
+    ensures left { capacity * (length spares.new.items + length spine.new) + own_count spine.old + 1 ≡ capacity * (length spares.old.items + length spine.old) + own_count spine.new }
     ensures short { (d : ℕ) → IsEnough d (length spares.old.items) 1 spine.old → length spine.new ≤ d }
 {
     let mut node = open_end(spine, spares);
@@ -69,7 +70,7 @@ fn open_end<K: Drop, V: Drop>(
     ensures pairs { back_of spine.old ≡ back_of spine.new ++ back_in result.value }
     ensures levels { (h : ℕ) → IsSpine h spine.old → IsOpenEnd h result.value × IsSpine (suc h) spine.new }
     ensures blank { AllByRecursion (λ b. IsBlankInner b.value) spares.new.items }
-    ensures worth { worth spine.old ≡ 12 * worth spine.new + length (own_pairs result.value) }
+    ensures worth { worth spine.old ≡ most_children * worth spine.new + length (own_pairs result.value) }
     ensures count { own_count spine.old ≡ own_count spine.new + length (own_pairs result.value) }
     ensures nodes { length spares.old.items + length spine.old ≡ length spares.new.items + length spine.new + 1 }
     ensures shorter { length spine.new ≡ length spine.old - 1 }
@@ -84,7 +85,7 @@ fn open_end<K: Drop, V: Drop>(
 // Puts a child at the node's end.
 fn put_child<K: Drop, V: Drop>(node: &mut Node<K, V>, child: Box<Node<K, V>>)
     requires inner { IsLeaf node.old → ⊥ }
-    requires room { length (children_of node.old) ≤ 11 }
+    requires room { length (children_of node.old) ≤ capacity }
     ensures pairs { own_pairs node.new ≡ own_pairs node.old }
     ensures children { children_of node.new ≡ children_of node.old ++ child.value ∷ [] }
     ensures inner { IsLeaf node.new → ⊥ }
@@ -98,7 +99,7 @@ fn put_child<K: Drop, V: Drop>(node: &mut Node<K, V>, child: Box<Node<K, V>>)
 
 /// Puts a pair at the node's end. Its children stay.
 pub(crate) fn put_pair<K: Drop, V: Drop>(node: &mut Node<K, V>, pair: (K, V))
-    requires room { length (own_pairs node.old) < 11 }
+    requires room { length (own_pairs node.old) < capacity }
     ensures pairs { own_pairs node.new ≡ own_pairs node.old ++ pair ∷ [] }
     ensures children { children_of node.new ≡ children_of node.old }
     ensures leaf { IsLeaf node.new ↔ IsLeaf node.old }

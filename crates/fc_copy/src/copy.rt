@@ -1,6 +1,7 @@
 //! A copy of a tree, node by node.
 ghost use Rattle.std.specs.Prelude.{◌≡◌, ℕ, ◌<◌, [], ◌∷◌, ◌++◌, length, IfOk, IfErr};
 ghost use Rattle.std.specs.List.{AllZip};
+ghost use Rattle.fc_base.specs.Sizes.{most_children};
 ghost use Rattle.fc_base.specs.Copies.{MayRefusePair};
 ghost use Rattle.fc_node.specs.Node.{own_pairs, children_of, pairs_of, IsLeaf, IsLevelled};
 ghost use Rattle.fc_copy.specs.Copy.{AreSame, MayRefuseNodes, IsCopy, IsCopyUpTo};
@@ -85,7 +86,7 @@ fn try_copy_pair<K: TryClone, V: TryClone>(pair: &(K, V)) -> Result<(K, V), TryR
 // Puts a child behind those that are there.
 fn push_child<K: Drop, V: Drop>(node: &mut Node<K, V>, child: Box<Node<K, V>>)
     requires inner { ¬ (IsLeaf node.old) }
-    requires room { length (children_of node.old) < 12 }
+    requires room { length (children_of node.old) < most_children }
     ensures own { own_pairs node.new ≡ own_pairs node.old }
     ensures children { children_of node.new ≡ children_of node.old ++ child.value ∷ [] }
     ensures inner { ¬ (IsLeaf node.new) }

@@ -2,6 +2,7 @@
 use Rattle.std.specs.Prelude.{◌≡◌, ℕ, suc, ◌+◌, ◌≤◌, ◌*◌, ◌==◌, Bool, true, ◌&&◌, if◌then◌else◌, List, [], ◌∷◌, length, Option, Some, None}
 use Rattle.std.specs.declared.boxed.Box.{Box}
 use Rattle.std.specs.declared.alloc.Global.{Global}
+use Rattle.fc_base.specs.Sizes.{capacity, split_moves_most}
 use Rattle.fc_node.specs.declared.node.Node.{Node}
 use Rattle.fc_node.specs.Node.{own_pairs, child_at, IsBlankLeaf}
 pub use Rattle.fc_node.specs.Leaf.{leaf_at}
@@ -10,7 +11,7 @@ module _ {K V : Type 0} where
   -- Whether each node of the path is full.
   abbrev pub all_full : List ℕ → Node K V → Bool
   all_full [] n = true
-  all_full (i ∷ path) n = (length (own_pairs n) == 11) && all_full path (child_at n i)
+  all_full (i ∷ path) n = (length (own_pairs n) == capacity) && all_full path (child_at n i)
 
   -- How many nodes are full one after another, from the leaf upwards: those that an insertion splits.
   abbrev pub cascade : List ℕ → Node K V → ℕ
@@ -23,7 +24,7 @@ module _ {K V : Type 0} where
 
   -- The most moves that an insertion makes: 12 at each node that it splits, then 1 for a new root, or 11 in a node with room.
   abbrev pub insertion_moves : List ℕ → Node K V → ℕ
-  insertion_moves path n = 12 * cascade path n + (if all_full path n then 1 else 11)
+  insertion_moves path n = split_moves_most * cascade path n + (if all_full path n then 1 else capacity)
 
   -- A leaf that holds nothing where there is one to be split, and else none.
   abbrev pub IsSpareLeaf : Option (Box (Node K V) Global) → ℕ → Type 0

@@ -2,6 +2,7 @@
 use Rattle.std.specs.Prelude.{◌≤◌, List, ◌∷◌, ◌++◌, length, Option, Some, None}
 use Rattle.std.specs.declared.boxed.Box.{Box}
 use Rattle.std.specs.declared.alloc.Global.{Global}
+use Rattle.fc_base.specs.Sizes.{min_len}
 use Rattle.fc_node.specs.declared.node.Node.{Node}
 use Rattle.fc_node.specs.Node.{own_pairs, children_of, pairs_of}
 
@@ -27,4 +28,4 @@ module _ {K V : Type 0} where
 
   -- The node has 5 or 6 pairs, as each half of a node that was split.
   abbrev pub IsHalved : Node K V → Type 0
-  IsHalved n = (5 ≤ length (own_pairs n)) × (length (own_pairs n) ≤ 6)
+  IsHalved n = (min_len ≤ length (own_pairs n)) × (length (own_pairs n) ≤ 6)

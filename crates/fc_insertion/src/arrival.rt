@@ -1,6 +1,7 @@
 //! Where a new pair stands once it is put in.
 ghost use Rattle.std.specs.Prelude.{◌≡◌, ◌+◌, ◌<◌, ◌≤◌, nat_lt, if◌then◌else◌, length};
 ghost use Rattle.std.specs.List.{AllByRecursion};
+ghost use Rattle.fc_base.specs.Sizes.{capacity, most_levels};
 ghost use Rattle.fc_node.specs.Split.{left_length};
 ghost use Rattle.fc_insertion.specs.Arrival.{step_from as child_step, goes_right as is_beyond, half_step as step_in_half, is_right, arrival as arrival_steps, path_after};
 
@@ -9,8 +10,8 @@ use fc_node::path::Path;
 // Turns the path to a gap into the path to the pair that was put into it, by the number of nodes that were made for it: as many
 // nodes of the path were split, from the leaf upwards, and one more than the path has made a new root. A new pair stays in a leaf.
 pub(crate) fn arrive(path: &mut Path, nodes: usize)
-    requires steps { AllByRecursion (λ i. i ≤ 11) path.old }
-    requires short { length path.old + (if nat_lt (length path.old) nodes then 1 else 0) ≤ 25 }
+    requires steps { AllByRecursion (λ i. i ≤ capacity) path.old }
+    requires short { length path.old + (if nat_lt (length path.old) nodes then 1 else 0) ≤ most_levels }
     ensures { path.new ≡ path_after nodes path.old }
 {
     if path.len() < nodes {
@@ -25,7 +26,7 @@ pub(crate) fn arrive(path: &mut Path, nodes: usize)
 // Turns the path to a gap into the path to the pair that is put into it, where `whole` nodes of the path stay whole. Answers
 // whether the pair is then in the right half of the first node.
 fn settle(place: &mut Path, whole: usize) -> bool
-    requires { AllByRecursion (λ i. i ≤ 11) place.old }
+    requires { AllByRecursion (λ i. i ≤ capacity) place.old }
     ensures steps { place.new ≡ arrival_steps whole place.old }
     ensures right { result ≡ is_right whole place.old }
 {
@@ -48,7 +49,7 @@ fn settle(place: &mut Path, whole: usize) -> bool
 
 // The step to the child at `index`, or to the node that was split off on its right.
 fn step_from(index: usize, right: bool) -> usize
-    requires { index ≤ 11 }
+    requires { index ≤ capacity }
     ensures { result ≡ child_step index right }
 {
     if right { index + 1 } else { index }

@@ -1,5 +1,6 @@
 //! Insertion at a path, with the nodes that were made ahead for it.
 ghost use Rattle.std.specs.Prelude.{◌≡◌, ℕ, ◌+◌, ◌-◌, ◌*◌, ◌<◌, ◌≤◌, [], ◌∷◌, ◌++◌, length, insert, MatchOption, IfSome, IfOk, IfErr, IsTrue, IsFalse};
+ghost use Rattle.fc_base.specs.Sizes.{capacity, most_levels, level_moves, split_moves_most};
 ghost use Rattle.fc_node.specs.Node.{own_pairs, children_of, pairs_of, IsLeaf, IsInner, IsLevelled, IsSoundRoot, IsBlankLeaf, IsBlankInner};
 ghost use Rattle.fc_node.specs.Path.{IsPath, before, after};
 ghost use Rattle.fc_insertion.specs.Cascade.{all_full, cascade, nodes_needed, insertion_moves, IsSpareLeaf};
@@ -17,9 +18,7 @@ use std::alloc::Global;
 use std::mem;
 
 /// Puts `pair` into the gap that the path leads to. Each node that this takes is in `room`, so nothing can be refused once
-/// the first pair moves. The path then leads to the pair in the tree as it is now. It is not inlined, being long, and called by
-/// few insertions.
-#[inline(never)]
+/// the first pair moves. The path then leads to the pair in the tree as it is now.
 pub fn insert<K: Drop, V: Drop>(
     root: &mut Box<Node<K, V>>,
     path: &mut Path,
@@ -28,7 +27,7 @@ pub fn insert<K: Drop, V: Drop>(
     count: &mut Count,
 )
     requires some { 0 < length path.old }
-    requires short { steps_after path.old root.old.value ≤ 25 }
+    requires short { steps_after path.old root.old.value ≤ most_levels }
     requires path { IsPath path.old root.old.value }
     requires sound { IsSoundRoot (length path.old - 1) root.old.value }
     requires room { room ≡ nodes_needed path.old root.old.value }
@@ -44,7 +43,7 @@ pub fn insert<K: Drop, V: Drop>(
     ensures higher { IsTrue (all_full path.old root.old.value) → IsSoundRoot (length path.old) root.new.value × (length (own_pairs root.new.value) ≡ 1) }
     ensures comparisons { count.new.comparisons ≡ count.old.comparisons }
     ensures moves { count.new.moves ≤ count.old.moves + insertion_moves path.old root.old.value }
-    ensures few_moves { count.new.moves ≤ count.old.moves + 18 * length path.old }
+    ensures few_moves { count.new.moves ≤ count.old.moves + level_moves * length path.old }
     ensures moved { count.old.moves < count.new.moves }
 {
     let nodes = room.len();
@@ -74,7 +73,7 @@ fn insert_with<K: Drop, V: Drop>(
     ensures higher { IsTrue (all_full path.now root.old.value) → IsSoundRoot (length path.now) root.new.value × (length (own_pairs root.new.value) ≡ 1) }
     ensures comparisons { count.new.comparisons ≡ count.old.comparisons }
     ensures moves { count.new.moves ≤ count.old.moves + insertion_moves path.now root.old.value }
-    ensures few_moves { count.new.moves ≤ count.old.moves + 18 * length path.now }
+    ensures few_moves { count.new.moves ≤ count.old.moves + level_moves * length path.now }
     ensures moved { count.old.moves < count.new.moves }
 {
     match insert_below(root, path, pair, leaf, inner, count) {
@@ -140,7 +139,7 @@ fn insert_below<K: Drop, V: Drop>(
     ensures halved { MatchOption result (cascade path.now node.old < length path.now) (λ _. cascade path.now node.old ≡ length path.now) }
     ensures used { inner.new + (cascade path.now node.old - 1) ≡ inner.old }
     ensures comparisons { count.new.comparisons ≡ count.old.comparisons }
-    ensures moves { MatchOption result (count.new.moves ≤ count.old.moves + 12 * cascade path.now node.old + 11) (λ _. count.new.moves ≤ count.old.moves + 12 * cascade path.now node.old) }
+    ensures moves { MatchOption result (count.new.moves ≤ count.old.moves + split_moves_most * cascade path.now node.old + capacity) (λ _. count.new.moves ≤ count.old.moves + split_moves_most * cascade path.now node.old) }
     ensures moved { count.old.moves < count.new.moves }
 {
     let i = path[0] as usize;
@@ -171,14 +170,14 @@ fn put_leaf<K: Drop, V: Drop>(
 ) -> Option<((K, V), Box<Node<K, V>>)>
     requires in_bounds { i ≤ length (own_pairs node.old) }
     requires leaf { IsLeaf node.old }
-    requires spare { MatchOption spare (length (own_pairs node.old) < 11) (λ b. (length (own_pairs node.old) ≡ 11) × IsBlankLeaf b.value) }
+    requires spare { MatchOption spare (length (own_pairs node.old) < capacity) (λ b. (length (own_pairs node.old) ≡ capacity) × IsBlankLeaf b.value) }
     ensures pairs { own_pairs_after node.new result ≡ insert (own_pairs node.old) i pair }
     ensures leaf { IsLeaf node.new × IfSome result (λ s. IsLeaf s.1.value) }
-    ensures size { MatchOption result (length (own_pairs node.new) ≤ 11) (λ s. IsHalved node.new × IsHalved s.1.value) }
-    ensures halved { MatchOption result (length (own_pairs node.old) < 11) (λ _. length (own_pairs node.old) ≡ 11) }
+    ensures size { MatchOption result (length (own_pairs node.new) ≤ capacity) (λ s. IsHalved node.new × IsHalved s.1.value) }
+    ensures halved { MatchOption result (length (own_pairs node.old) < capacity) (λ _. length (own_pairs node.old) ≡ capacity) }
     ensures left { IfSome result (λ _. length (own_pairs node.new) ≡ left_length i) }
     ensures comparisons { count.new.comparisons ≡ count.old.comparisons }
-    ensures moves { MatchOption result (count.new.moves ≤ count.old.moves + 11) (λ _. count.new.moves ≤ count.old.moves + 12) }
+    ensures moves { MatchOption result (count.new.moves ≤ count.old.moves + capacity) (λ _. count.new.moves ≤ count.old.moves + split_moves_most) }
     ensures exact { MatchOption result (count.new.moves ≡ count.old.moves + (length (own_pairs node.old) - i + 1)) (λ _. count.new.moves ≡ count.old.moves + split_moves i) }
 {
     match spare {
@@ -190,7 +189,9 @@ fn put_leaf<K: Drop, V: Drop>(
     }
 }
 
-/// Puts `pair` into an inner node with the child on its right. The node is halved with one of the spare nodes where it is full.
+/// Puts `pair` into an inner node with the child on its right. The node is halved with one of the spare nodes where it is full. It is
+/// inlined, since an insertion that splits would pay for a call at each node above the leaf.
+#[inline(always)]
 pub fn put_inner<K: Drop, V: Drop>(
     node: &mut Node<K, V>,
     i: usize,
@@ -201,16 +202,16 @@ pub fn put_inner<K: Drop, V: Drop>(
 ) -> Option<((K, V), Box<Node<K, V>>)>
     requires in_bounds { i ≤ length (own_pairs node.old) }
     requires inner { IsInner node.old }
-    requires some { length (own_pairs node.old) ≡ 11 → 0 < spares.old }
+    requires some { length (own_pairs node.old) ≡ capacity → 0 < spares.old }
     ensures pairs { own_pairs_after node.new result ≡ insert (own_pairs node.old) i pair }
     ensures children { children_after node.new result ≡ insert (children_of node.old) (i + 1) child.value }
     ensures inner { IsInner node.new × IfSome result (λ s. IsInner s.1.value) }
-    ensures size { MatchOption result (length (own_pairs node.new) ≤ 11) (λ s. IsHalved node.new × IsHalved s.1.value) }
-    ensures halved { MatchOption result (length (own_pairs node.old) < 11) (λ _. length (own_pairs node.old) ≡ 11) }
+    ensures size { MatchOption result (length (own_pairs node.new) ≤ capacity) (λ s. IsHalved node.new × IsHalved s.1.value) }
+    ensures halved { MatchOption result (length (own_pairs node.old) < capacity) (λ _. length (own_pairs node.old) ≡ capacity) }
     ensures left { IfSome result (λ _. length (own_pairs node.new) ≡ left_length i) }
     ensures used { MatchOption result (spares.new ≡ spares.old) (λ _. spares.new + 1 ≡ spares.old) }
     ensures comparisons { count.new.comparisons ≡ count.old.comparisons }
-    ensures moves { MatchOption result (count.new.moves ≤ count.old.moves + 11) (λ _. count.new.moves ≤ count.old.moves + 12) }
+    ensures moves { MatchOption result (count.new.moves ≤ count.old.moves + capacity) (λ _. count.new.moves ≤ count.old.moves + split_moves_most) }
     ensures exact { MatchOption result (count.new.moves ≡ count.old.moves + (length (own_pairs node.old) - i + 1)) (λ _. count.new.moves ≡ count.old.moves + split_moves i) }
 {
     if node.len() < CAPACITY {

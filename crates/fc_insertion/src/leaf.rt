@@ -1,5 +1,6 @@
 //! Insertion into a leaf that has room, by which no other node changes.
 ghost use Rattle.std.specs.Prelude.{◌≡◌, ◌+◌, ◌-◌, ◌<◌, ◌≤◌, ◌∷◌, ◌++◌, ◌↔◌, length, IsTrue};
+ghost use Rattle.fc_base.specs.Sizes.{capacity};
 ghost use Rattle.fc_node.specs.Node.{own_pairs, pairs_of, IsLevelled};
 ghost use Rattle.fc_node.specs.Path.{IsPath, before, after};
 ghost use Rattle.fc_insertion.specs.Arrival.{IsPutAt};
@@ -13,7 +14,7 @@ pub fn has_room<K, V>(node: &Node<K, V>, path: &[u8]) -> bool
     requires some { 0 < length path.now }
     requires path { IsPath path.now node.now }
     requires levels { IsLevelled (length path.now - 1) node.now }
-    ensures { IsTrue result ↔ (length (own_pairs (leaf_at path.now node.now)) < 11) }
+    ensures { IsTrue result ↔ (length (own_pairs (leaf_at path.now node.now)) < capacity) }
 {
     if path.len() == 1 {
         return node.len() < CAPACITY;
@@ -31,7 +32,7 @@ pub fn insert_in_leaf<K: Drop, V: Drop>(
     requires some { 0 < length path.now }
     requires path { IsPath path.now node.old }
     requires levels { IsLevelled (length path.now - 1) node.old }
-    requires room { length (own_pairs (leaf_at path.now node.old)) < 11 }
+    requires room { length (own_pairs (leaf_at path.now node.old)) < capacity }
 
     // The pairs before the gap, the new pair and the pairs after the gap.
     ensures pairs { pairs_of node.new ≡ before path.now node.old ++ pair ∷ after path.now node.old }
@@ -41,7 +42,7 @@ pub fn insert_in_leaf<K: Drop, V: Drop>(
     ensures levels { IsLevelled (length path.now - 1) node.new }
     ensures size { length (own_pairs node.old) ≤ length (own_pairs node.new) }
     ensures comparisons { count.new.comparisons ≡ count.old.comparisons }
-    ensures moves { count.new.moves ≤ count.old.moves + 11 }
+    ensures moves { count.new.moves ≤ count.old.moves + capacity }
     ensures moved { count.old.moves < count.new.moves }
 {
     let i = path[0] as usize;

@@ -1,5 +1,6 @@
 //! The nodes that an insertion needs, made before a pair moves.
 ghost use Rattle.std.specs.Prelude.{◌≡◌, ◌+◌, ◌-◌, ◌<◌, ◌≤◌, length, IfOk, IfErr, OnErr, IsOkAnd};
+ghost use Rattle.fc_base.specs.Sizes.{capacity, most_levels};
 ghost use Rattle.fc_node.specs.Node.{own_pairs, IsLevelled};
 ghost use Rattle.fc_node.specs.Path.{IsPath};
 ghost use Rattle.fc_insertion.specs.Cascade.{leaf_at, cascade, nodes_needed};
@@ -50,14 +51,13 @@ impl<K, V> Room<K, V> {
 ///
 /// # Errors
 /// `AllocError` if one of them is refused, and those made before are dropped. Where the leaf has room nothing is asked for.
-#[inline(never)]
 pub fn try_room<K: Drop, V: Drop>(
     alloc: Global,
     root: &Node<K, V>,
     path: &[u8],
 ) -> Result<Room<K, V>, TryReserveError>
     requires some { 0 < length path.now }
-    requires short { length path.now ≤ 25 }
+    requires short { length path.now ≤ most_levels }
     requires path { IsPath path.now root.now }
     requires levels { IsLevelled (length path.now - 1) root.now }
 
@@ -65,8 +65,8 @@ pub fn try_room<K: Drop, V: Drop>(
     ensures ok { IfOk result (λ room. room ≡ nodes_needed path.now root.now) }
 
     // An insertion into a leaf with room needs none, and only one into a full leaf can be refused.
-    ensures leaf_with_room { length (own_pairs (leaf_at path.now root.now)) < 11 → IsOkAnd result (λ room. room ≡ 0) }
-    ensures refused { OnErr result (length (own_pairs (leaf_at path.now root.now)) ≡ 11) }
+    ensures leaf_with_room { length (own_pairs (leaf_at path.now root.now)) < capacity → IsOkAnd result (λ room. room ≡ 0) }
+    ensures refused { OnErr result (length (own_pairs (leaf_at path.now root.now)) ≡ capacity) }
     ensures err { IfErr result (λ e. e ≡ TryReserveError.AllocError) }
 {
     let split = count_full(root, path);
@@ -93,11 +93,12 @@ pub fn try_room<K: Drop, V: Drop>(
 ///
 /// # Errors
 /// `AllocError` if one of them is refused, and those made before are dropped.
+#[inline(always)]
 pub fn try_spares<K: Drop, V: Drop>(
     alloc: Global,
     count: usize,
 ) -> Result<Spares<K, V>, TryReserveError>
-    requires { count ≤ 25 }
+    requires { count ≤ most_levels }
     ensures len { IfOk result (λ spares. spares ≡ count) }
     ensures err { IfErr result (λ e. e ≡ TryReserveError.AllocError) }
 {

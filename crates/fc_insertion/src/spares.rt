@@ -2,6 +2,7 @@
 ghost use Rattle.std.specs.Prelude.{◌≡◌, ◌+◌, ◌<◌, ◌≤◌, Option, None, Some};
 ghost use Rattle.std.specs.declared.boxed.Box.{Box};
 ghost use Rattle.std.specs.declared.alloc.Global.{Global};
+ghost use Rattle.fc_base.specs.Sizes.{most_levels};
 ghost use Rattle.fc_node.specs.Node.{IsBlankInner};
 ghost use Rattle.fc_insertion.specs.Chain.{IsAbove};
 
@@ -19,6 +20,7 @@ pub struct Spares<K, V> {
 impl<K, V> Model for Spares<K, V> {
     ghost use Rattle.std.specs.Prelude.{ℕ, ◌≤◌};
     ghost use Rattle.std.specs.Coded.{coded_ℕ};
+    ghost use Rattle.fc_base.specs.Sizes.{most_levels};
     ghost use Rattle.fc_insertion.specs.Chain.{IsChain};
 
     ghost Value = { ℕ };
@@ -27,7 +29,7 @@ impl<K, V> Model for Spares<K, V> {
 
     ghost view = { λ s. s.len };
 
-    ghost invariant = { λ s. (s.len ≤ 25) × IsChain s.len s.top };
+    ghost invariant = { λ s. (s.len ≤ most_levels) × IsChain s.len s.top };
 }
 
 impl<K, V> Spares<K, V> {
@@ -41,7 +43,7 @@ impl<K, V> Spares<K, V> {
     // How many there are.
     pub(crate) fn len(&self) -> usize
         ensures value { result ≡ self.now }
-        ensures fits { self.now ≤ 25 }
+        ensures fits { self.now ≤ most_levels }
     {
         self.len
     }
@@ -51,7 +53,7 @@ impl<K: Drop, V: Drop> Spares<K, V> {
     // Adds a node that holds nothing.
     pub(crate) fn push(&mut self, node: Box<Node<K, V>>)
         requires blank { IsBlankInner node.value }
-        requires few { self.old < 25 }
+        requires few { self.old < most_levels }
         ensures { self.new ≡ self.old + 1 }
     {
         let mut node = node;

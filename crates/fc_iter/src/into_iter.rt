@@ -23,13 +23,14 @@ pub struct IntoIter<K, V> {
 
 impl<K, V> Model for IntoIter<K, V> {
     ghost use Rattle.std.specs.Prelude.{◌≡◌, ◌++◌, List, length};
+    ghost use Rattle.fc_base.specs.Sizes.{most_levels};
     ghost use Rattle.fc_walk.specs.Opened.{IsFalling, front_of, back_of};
 
     ghost Value = { List (K × V) };
 
     ghost view = { λ a. front_of a.front ++ back_of a.back };
 
-    ghost invariant = { λ a. IsFalling 0 25 a.front × IsFalling 0 25 a.back × (a.left ≡ length (front_of a.front ++ back_of a.back)) };
+    ghost invariant = { λ a. IsFalling 0 most_levels a.front × IsFalling 0 most_levels a.back × (a.left ≡ length (front_of a.front ++ back_of a.back)) };
 }
 
 impl<K, V> IntoIter<K, V> {

@@ -1,6 +1,7 @@
 -- Where a search of a map ends.
 use Rattle.std.specs.Prelude.{◌≡◌, ℕ, ◌<◌, ◌↔◌, Bool, List, [], length, IsTrue, IsFalse, Some, None}
 use Rattle.std.specs.declared.cmp.Ordering.{Ordering}
+use Rattle.fc_base.specs.Sizes.{capacity}
 use Rattle.fc_insertion.specs.Arrival.{IsPutAt}
 use Rattle.fc_node.specs.Leaf.{leaf_at}
 use Rattle.fc_node.specs.Node.{own_pairs}
@@ -22,7 +23,7 @@ module _ {K V : Type 0} where
   -- Whether there is a leaf with room for another pair where the path ends.
   abbrev pub TellsRoom : Bool → List ℕ → Map K V → Type 0
   TellsRoom has_room path None = IsFalse has_room
-  TellsRoom has_room path (Some root) = IsTrue has_room ↔ (length (own_pairs (leaf_at path root)) < 11)
+  TellsRoom has_room path (Some root) = IsTrue has_room ↔ (length (own_pairs (leaf_at path root)) < capacity)
 
   -- The path leads to the pair, with these pairs ahead of it and those behind it.
   abbrev pub IsPutIn : List ℕ → Map K V → K × V → List (K × V) → List (K × V) → Type 0

@@ -1,6 +1,7 @@
 //! The ordered map, a B-tree.
 ghost use Rattle.std.specs.Prelude.{◌≡◌, ◌+◌, ◌-◌, ◌^◌, ◌<◌, ◌≤◌, ◌↔◌, ◌⊎◌, [], ◌∷◌, length, IsTrue, true, IsSome, IsOk, IsErr, IfOk, IfErr, OnOk, OnErr, None, Some, option_copied};
 ghost use Rattle.std.specs.Option.{option_map};
+ghost use Rattle.fc_base.specs.Sizes.{capacity};
 ghost use Rattle.fc_base.specs.Ascending.{IsAscending};
 ghost use Rattle.fc_base.specs.Growth.{MayGrowRefuse};
 ghost use Rattle.fc_base.specs.OneKey.{put, cut};
@@ -494,7 +495,7 @@ fn insert_in<K: Ord + Drop, V: Drop>(
     ensures unchanged { OnErr result (root.new ≡ root.old) }
     ensures back { IfErr result (λ e. (e.0 ≡ pair.0) × (e.1 ≡ pair.1)) }
     ensures error { IfErr result (λ e. e.2 ≡ TryReserveError.AllocError) }
-    ensures leaf { OnErr result (11 ≤ length (pairs_of root.old.value)) }
+    ensures leaf { OnErr result (capacity ≤ length (pairs_of root.old.value)) }
     ensures comparisons { count.new.comparisons ≡ count.old.comparisons }
     ensures no_move { OnErr result (count.new.moves ≡ count.old.moves) }
     ensures moves { OnOk result (IsMoved (length (pairs_of root.new.value)) count.old count.new) }

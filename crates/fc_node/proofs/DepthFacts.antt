@@ -74,7 +74,8 @@ module _ {K V : Type 0} where
       let b = many_in n (6 ^ suc h) l.1 a in
       let all : length (children_of n) ≡ 12 = let m : length (children_of n) ≡ length (own_pairs n) + 1 = l.1 in omega arith in
       let t : 12 * 6 ^ suc h ≤ length (pairs_of n) + 1 = rw all at b in
-      omega arith
+      let deep : 2 * 6 ^ suc (suc h) ≤ length (pairs_of n) + 1 = omega arith in
+      deep
 
 -- so that a tree of at most 2^64 - 1 pairs has at most 24 levels below its root
 pub few_levels : (h n : ℕ) → IsDeep h n → n < 2 ^ 64 → h ≤ 24

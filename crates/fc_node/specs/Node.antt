@@ -4,6 +4,7 @@ use Rattle.std.specs.List.{AllByRecursion}
 use Rattle.fc_node.specs.Weave.{weave}
 use Rattle.std.specs.declared.boxed.Box.{Box}
 use Rattle.std.specs.declared.alloc.Global.{Global}
+use Rattle.fc_base.specs.Sizes.{capacity, min_len, most_height}
 use Rattle.fc_node.specs.declared.node.Node.{Node, Node-F, out-Node, fold-Node}
 
 -- The items, if there is a list of them, and else none.
@@ -46,16 +47,16 @@ module _ {K V : Type 0} where
 
   -- Each node has at most 11 pairs and each below the first at least 5, and the leaves lie this many levels below the first.
   abbrev pub IsLevelled : ℕ → Node K V → Type 0
-  IsLevelled zero n = (length (own_pairs n) ≤ 11) × IsLeaf n
-  IsLevelled (suc h) n = (length (own_pairs n) ≤ 11) × IsInner n × AllByRecursion (λ c. (5 ≤ length (own_pairs c)) × IsLevelled h c) (children_of n)
+  IsLevelled zero n = (length (own_pairs n) ≤ capacity) × IsLeaf n
+  IsLevelled (suc h) n = (length (own_pairs n) ≤ capacity) × IsInner n × AllByRecursion (λ c. (min_len ≤ length (own_pairs c)) × IsLevelled h c) (children_of n)
 
   -- Its levels are those of a tree that is not too high for a path.
   abbrev pub IsTree : Node K V → Type 0
-  IsTree n = (h : ℕ) × (h ≤ 24) × IsLevelled h n
+  IsTree n = (h : ℕ) × (h ≤ most_height) × IsLevelled h n
 
   -- The node is levelled and holds at least 5 pairs itself.
   abbrev pub IsSound : ℕ → Node K V → Type 0
-  IsSound h n = (5 ≤ length (own_pairs n)) × IsLevelled h n
+  IsSound h n = (min_len ≤ length (own_pairs n)) × IsLevelled h n
 
   -- The node is levelled and holds at least one pair itself.
   abbrev pub IsSoundRoot : ℕ → Node K V → Type 0

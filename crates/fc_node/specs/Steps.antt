@@ -1,6 +1,7 @@
 -- How a path keeps its steps.
 use Rattle.std.specs.Prelude.{◌≡◌, ℕ, List, [], ◌∷◌, ◌++◌, length, take, drop, ◌≤◌}
 use Rattle.std.proofs.Common.{ap, ◌∙◌}
+use Rattle.fc_base.specs.Sizes.{most_levels}
 use Rattle.fc_node.specs.declared.path.Path.TheInside.{Inside}
 
 -- As many zeros as a path has steps at most.
@@ -17,7 +18,7 @@ path_of a = take a.len a.steps
 
 -- What is past the path's end is zero.
 abbrev pub IsFilled : Inside → Type 0
-IsFilled a = (length (path_of a) ≡ a.len) × (filled (path_of a) ≡ a.steps) × (a.len ≤ 25)
+IsFilled a = (length (path_of a) ≡ a.len) × (filled (path_of a) ≡ a.steps) × (a.len ≤ most_levels)
 
 -- So the path tells the fields.
 pub gives_back : (a : Inside) → IsFilled a → record { steps = filled (path_of a); len = length (path_of a) } ≡ a

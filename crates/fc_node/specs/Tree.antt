@@ -2,6 +2,7 @@
 use Rattle.std.specs.Prelude.{ℕ, ◌≤◌, List, [], Option, Some, None}
 use Rattle.std.specs.declared.boxed.Box.{Box}
 use Rattle.std.specs.declared.alloc.Global.{Global}
+use Rattle.fc_base.specs.Sizes.{most_height}
 use Rattle.fc_node.specs.declared.node.Node.{Node}
 use Rattle.fc_node.specs.Node.{pairs_of, IsSoundRoot}
 
@@ -22,7 +23,7 @@ root_of (Some root) = Some root.value
 -- The tree is sound, with one height of at most 24, if there is one.
 abbrev pub IsSoundMap : {K V : Type 0} → Map K V → Type 0
 IsSoundMap None = Unit {0}
-IsSoundMap (Some root) = (h : ℕ) × (h ≤ 24) × IsSoundRoot h root
+IsSoundMap (Some root) = (h : ℕ) × (h ≤ most_height) × IsSoundRoot h root
 
 -- The tree is sound and has at most h levels below its root, if there is one.
 abbrev pub IsSoundWithin : {K V : Type 0} → ℕ → Map K V → Type 0

@@ -1,5 +1,6 @@
 //! Nodes of a B-tree, each with its pairs and, where it is no leaf, a child on either side of each pair.
 ghost use Rattle.std.specs.Prelude.{◌≡◌, ◌+◌, ◌<◌, ◌≤◌, [], length, slice_index_or, IfOk, IfErr, IsTrue, ◌↔◌};
+ghost use Rattle.fc_base.specs.Sizes.{capacity, most_children};
 ghost use Rattle.fc_node.specs.Node.{own_pairs, children_of, child_at, IsLeaf, IsBlankLeaf, IsBlankInner};
 
 use fc_base::TryReserveError;
@@ -70,7 +71,7 @@ impl<K, V> Node<K, V> {
     /// How many pairs the node holds itself.
     pub fn len(&self) -> usize
         ensures value { result ≡ length (own_pairs self.now) }
-        ensures fits { length (own_pairs self.now) ≤ 11 }
+        ensures fits { length (own_pairs self.now) ≤ capacity }
     {
         self.pairs.len()
     }
@@ -100,7 +101,7 @@ impl<K, V> Node<K, V> {
     /// How many children the node has: none in a leaf.
     pub fn child_count(&self) -> usize
         ensures value { result ≡ length (children_of self.now) }
-        ensures fits { length (children_of self.now) ≤ 12 }
+        ensures fits { length (children_of self.now) ≤ most_children }
     {
         match &self.children {
             None => 0,

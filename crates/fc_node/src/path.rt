@@ -1,5 +1,6 @@
 //! Paths down a tree.
 ghost use Rattle.std.specs.Prelude.{◌≡◌, ◌+◌, ◌<◌, ◌≤◌, [], ◌∷◌, ◌++◌, length, slice_index, slice_set};
+ghost use Rattle.fc_base.specs.Sizes.{most_levels};
 
 use std::marker::Model;
 
@@ -46,7 +47,7 @@ impl Path {
     /// How many steps the path has.
     pub fn len(&self) -> usize
         ensures value { result ≡ length self.now }
-        ensures fits { length self.now ≤ 25 }
+        ensures fits { length self.now ≤ most_levels }
     {
         self.len
     }
@@ -62,14 +63,14 @@ impl Path {
     /// The steps in order.
     pub fn as_slice(&self) -> &[u8]
         ensures value { result.now ≡ self.now }
-        ensures fits { length self.now ≤ 25 }
+        ensures fits { length self.now ≤ most_levels }
     {
         &self.steps[..self.len]
     }
 
     /// Puts a step at the end.
     pub fn push(&mut self, step: usize)
-        requires room { length self.old < 25 }
+        requires room { length self.old < most_levels }
         requires small { step < 256 }
         ensures { self.new ≡ self.old ++ step ∷ [] }
     {
@@ -79,7 +80,7 @@ impl Path {
 
     /// A path of these steps.
     pub fn of(steps: &[u8]) -> Path
-        requires { length steps.now ≤ 25 }
+        requires { length steps.now ≤ most_levels }
         ensures { result ≡ steps.now }
     {
         let mut all = [0; MAX_STEPS];
@@ -101,7 +102,7 @@ impl Path {
 
     /// Puts a step at the front.
     pub fn push_front(&mut self, step: usize)
-        requires room { length self.old < 25 }
+        requires room { length self.old < most_levels }
         requires small { step < 256 }
         ensures { self.new ≡ step ∷ self.old }
     {

@@ -1,6 +1,7 @@
 -- A node of which one child has lost a pair.
 use Rattle.std.specs.Prelude.{ℕ, suc, ◌+◌, ◌≤◌, length, take, drop}
 use Rattle.std.specs.List.{AllByRecursion}
+use Rattle.fc_base.specs.Sizes.{capacity}
 use Rattle.fc_node.specs.declared.node.Node.{Node}
 use Rattle.fc_node.specs.Node.{own_pairs, children_of, child_at, IsInner, IsLevelled, IsSound}
 
@@ -12,7 +13,7 @@ module _ {K V : Type 0} where
   -- The node has 1 to 11 pairs, and its children are sound and lie this many levels above the leaves, but that the child at the place may hold only 4 pairs.
   pub record IsShortAt (h : ℕ) (n : Node K V) (i : ℕ) : Type 0 where
     pub some : 1 ≤ length (own_pairs n)
-    pub fits : length (own_pairs n) ≤ 11
+    pub fits : length (own_pairs n) ≤ capacity
     pub inner : IsInner n
     pub place : i ≤ length (own_pairs n)
     pub ahead : AllByRecursion (IsSound h) (take i (children_of n))

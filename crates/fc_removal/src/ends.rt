@@ -1,5 +1,6 @@
 //! The first or the last pair of a tree taken out, with the nodes above it mended.
 ghost use Rattle.std.specs.Prelude.{◌≡◌, ℕ, ◌+◌, ◌*◌, ◌<◌, ◌≤◌, [], ◌∷◌, ◌++◌};
+ghost use Rattle.fc_base.specs.Sizes.{capacity, level_moves};
 ghost use Rattle.fc_node.specs.Node.{pairs_of, IsSoundRoot};
 ghost use Rattle.fc_removal.specs.Removal.{IsShrunk, IsTreeLeft, tree_pairs};
 
@@ -18,7 +19,7 @@ pub fn take_first<K: Drop, V: Drop>(
 
     // The tree is as high as before or one level lower.
     ensures levels { (h : ℕ) → IsSoundRoot h root.value → IsTreeLeft h result.1 }
-    ensures moves { (h : ℕ) → IsSoundRoot h root.value → count.new.moves ≤ count.old.moves + 18 * (h + 1) }
+    ensures moves { (h : ℕ) → IsSoundRoot h root.value → count.new.moves ≤ count.old.moves + level_moves * (h + 1) }
     ensures moved { count.old.moves < count.new.moves }
     ensures comparisons { count.new.comparisons ≡ count.old.comparisons }
 {
@@ -39,7 +40,7 @@ pub fn take_last<K: Drop, V: Drop>(
 
     // The tree is as high as before or one level lower.
     ensures levels { (h : ℕ) → IsSoundRoot h root.value → IsTreeLeft h result.1 }
-    ensures moves { (h : ℕ) → IsSoundRoot h root.value → count.new.moves ≤ count.old.moves + 18 * (h + 1) }
+    ensures moves { (h : ℕ) → IsSoundRoot h root.value → count.new.moves ≤ count.old.moves + level_moves * (h + 1) }
     ensures moved { count.old.moves < count.new.moves }
     ensures comparisons { count.new.comparisons ≡ count.old.comparisons }
 {
@@ -54,7 +55,7 @@ pub fn remove_last<K: Drop, V: Drop>(node: &mut Node<K, V>, count: &mut Count) -
     requires sound { (h : ℕ) × IsSoundRoot h node.old }
     ensures pairs { pairs_of node.old ≡ pairs_of node.new ++ result ∷ [] }
     ensures levels { (h : ℕ) → IsSoundRoot h node.old → IsShrunk h node.old node.new }
-    ensures moves { (h : ℕ) → IsSoundRoot h node.old → count.new.moves ≤ count.old.moves + (11 + 18 * h) }
+    ensures moves { (h : ℕ) → IsSoundRoot h node.old → count.new.moves ≤ count.old.moves + (capacity + level_moves * h) }
     ensures moved { count.old.moves < count.new.moves }
     ensures comparisons { count.new.comparisons ≡ count.old.comparisons }
 {

@@ -2,6 +2,7 @@
 ghost use Rattle.std.specs.Prelude.{◌≡◌, ℕ, suc, ◌+◌, ◌-◌, ◌*◌, ◌<◌, ◌≤◌, [], ◌∷◌, ◌++◌, length, Some};
 ghost use Rattle.std.specs.declared.boxed.Box.{Box};
 ghost use Rattle.std.specs.declared.alloc.Global.{Global};
+ghost use Rattle.fc_base.specs.Sizes.{capacity, min_len, level_moves};
 ghost use Rattle.fc_node.specs.Node.{own_pairs, child_at, pairs_of, IsLevelled, IsSoundRoot};
 ghost use Rattle.fc_node.specs.Place.{IsPlace, place_pair, place_ahead, place_behind};
 ghost use Rattle.fc_node.specs.Siblings.{IsMerged, IsShared};
@@ -27,7 +28,7 @@ pub fn remove<K: Drop, V: Drop>(
 
     // The tree is as high as before or one level lower.
     ensures levels { (h : ℕ) → IsSoundTree h (root_of tree.old) → IsTreeLeft h tree.new }
-    ensures moves { (h : ℕ) → IsSoundTree h (root_of tree.old) → count.new.moves ≤ count.old.moves + 18 * (h + 1) }
+    ensures moves { (h : ℕ) → IsSoundTree h (root_of tree.old) → count.new.moves ≤ count.old.moves + level_moves * (h + 1) }
     ensures moved { count.old.moves < count.new.moves }
     ensures comparisons { count.new.comparisons ≡ count.old.comparisons }
 {
@@ -77,7 +78,7 @@ fn remove_at<K: Drop, V: Drop>(node: &mut Node<K, V>, path: &[u8], count: &mut C
     ensures pair { place_pair path.now node.old ≡ Some result }
     ensures pairs { pairs_of node.new ≡ place_ahead path.now node.old ++ place_behind path.now node.old }
     ensures levels { (h : ℕ) → IsSoundRoot h node.old → IsShrunk h node.old node.new }
-    ensures moves { (h : ℕ) → IsSoundRoot h node.old → count.new.moves ≤ count.old.moves + (13 + 18 * h) }
+    ensures moves { (h : ℕ) → IsSoundRoot h node.old → count.new.moves ≤ count.old.moves + (capacity + 2 + level_moves * h) }
     ensures moved { count.old.moves < count.new.moves }
     ensures comparisons { count.new.comparisons ≡ count.old.comparisons }
 {
@@ -104,7 +105,7 @@ fn remove_own<K: Drop, V: Drop>(node: &mut Node<K, V>, index: usize, count: &mut
     ensures pair { place_pair (index ∷ []) node.old ≡ Some result }
     ensures pairs { pairs_of node.new ≡ place_ahead (index ∷ []) node.old ++ place_behind (index ∷ []) node.old }
     ensures levels { (h : ℕ) → IsSoundRoot h node.old → IsShrunk h node.old node.new }
-    ensures moves { (h : ℕ) → IsSoundRoot h node.old → count.new.moves ≤ count.old.moves + (13 + 18 * h) }
+    ensures moves { (h : ℕ) → IsSoundRoot h node.old → count.new.moves ≤ count.old.moves + (capacity + 2 + level_moves * h) }
     ensures moved { count.old.moves < count.new.moves }
     ensures comparisons { count.new.comparisons ≡ count.old.comparisons }
 {
@@ -125,7 +126,7 @@ pub fn remove_first<K: Drop, V: Drop>(node: &mut Node<K, V>, count: &mut Count) 
     requires sound { (h : ℕ) × IsSoundRoot h node.old }
     ensures pairs { pairs_of node.old ≡ result ∷ pairs_of node.new }
     ensures levels { (h : ℕ) → IsSoundRoot h node.old → IsShrunk h node.old node.new }
-    ensures moves { (h : ℕ) → IsSoundRoot h node.old → count.new.moves ≤ count.old.moves + (11 + 18 * h) }
+    ensures moves { (h : ℕ) → IsSoundRoot h node.old → count.new.moves ≤ count.old.moves + (capacity + level_moves * h) }
     ensures moved { count.old.moves < count.new.moves }
     ensures comparisons { count.new.comparisons ≡ count.old.comparisons }
 {
@@ -146,14 +147,14 @@ pub(crate) fn mend_child<K: Drop, V: Drop>(node: &mut Node<K, V>, index: usize, 
     requires { (h : ℕ) × IsShortAt h node.old index }
 
     // A child that has 5 pairs stays.
-    ensures whole { 5 ≤ length (own_pairs (child_at node.old index)) → node.new ≡ node.old }
-    ensures whole_moves { 5 ≤ length (own_pairs (child_at node.old index)) → count.new.moves ≡ count.old.moves }
+    ensures whole { min_len ≤ length (own_pairs (child_at node.old index)) → node.new ≡ node.old }
+    ensures whole_moves { min_len ≤ length (own_pairs (child_at node.old index)) → count.new.moves ≡ count.old.moves }
 
     // All pairs stay, and no child is short.
     ensures pairs { pairs_of node.new ≡ pairs_of node.old }
     ensures levels { (h : ℕ) → IsShortAt h node.old index → IsShrunk (suc h) node.old node.new }
     ensures kept_moves { count.old.moves ≤ count.new.moves }
-    ensures moves { count.new.moves ≤ count.old.moves + 18 }
+    ensures moves { count.new.moves ≤ count.old.moves + level_moves }
     ensures comparisons { count.new.comparisons ≡ count.old.comparisons }
 {
     if node.child(index).len() >= MIN_LEN {
@@ -167,18 +168,18 @@ pub(crate) fn mend_child<K: Drop, V: Drop>(node: &mut Node<K, V>, index: usize, 
 #[inline(never)]
 fn mend_short<K: Drop, V: Drop>(node: &mut Node<K, V>, index: usize, count: &mut Count)
     requires at { (h : ℕ) × IsShortAt h node.old index }
-    requires short { length (own_pairs (child_at node.old index)) < 5 }
-    ensures merged { together node.old (index - 1) ≤ 11 → IsMerged (index - 1) node.old node.new }
-    ensures stolen_left { 11 < together node.old (index - 1) → 0 < index → IsShared (index - 1) (length (own_pairs (child_at node.old (index - 1))) - 1) node.old node.new }
-    ensures stolen_right { 11 < together node.old (index - 1) → index ≡ 0 → IsShared 0 5 node.old node.new }
+    requires short { length (own_pairs (child_at node.old index)) < min_len }
+    ensures merged { together node.old (index - 1) ≤ capacity → IsMerged (index - 1) node.old node.new }
+    ensures stolen_left { capacity < together node.old (index - 1) → 0 < index → IsShared (index - 1) (length (own_pairs (child_at node.old (index - 1))) - 1) node.old node.new }
+    ensures stolen_right { capacity < together node.old (index - 1) → index ≡ 0 → IsShared 0 min_len node.old node.new }
     ensures pairs { pairs_of node.new ≡ pairs_of node.old }
     ensures levels { (h : ℕ) → IsShortAt h node.old index → IsShrunk (suc h) node.old node.new }
-    ensures merge_moves { together node.old (index - 1) ≤ 11 → count.new.moves ≡ count.old.moves + ((length (own_pairs node.old) - (index - 1)) + (length (own_pairs (child_at node.old (index - 1 + 1))) + 1)) }
-    ensures left_theft_moves { 11 < together node.old (index - 1) → 0 < index → count.new.moves ≡ count.old.moves + (length (own_pairs (child_at node.old (index - 1 + 1))) + 4) }
-    ensures right_theft_moves { 11 < together node.old (index - 1) → index ≡ 0 → count.new.moves ≡ count.old.moves + (length (own_pairs (child_at node.old 1)) + 3) }
+    ensures merge_moves { together node.old (index - 1) ≤ capacity → count.new.moves ≡ count.old.moves + ((length (own_pairs node.old) - (index - 1)) + (length (own_pairs (child_at node.old (index - 1 + 1))) + 1)) }
+    ensures left_theft_moves { capacity < together node.old (index - 1) → 0 < index → count.new.moves ≡ count.old.moves + (length (own_pairs (child_at node.old (index - 1 + 1))) + 4) }
+    ensures right_theft_moves { capacity < together node.old (index - 1) → index ≡ 0 → count.new.moves ≡ count.old.moves + (length (own_pairs (child_at node.old 1)) + 3) }
     ensures kept_moves { count.old.moves ≤ count.new.moves }
-    ensures moves { count.new.moves ≤ count.old.moves + 18 }
-    ensures theft_moves { 11 < together node.old (index - 1) → count.new.moves ≤ count.old.moves + 14 }
+    ensures moves { count.new.moves ≤ count.old.moves + level_moves }
+    ensures theft_moves { capacity < together node.old (index - 1) → count.new.moves ≤ count.old.moves + (capacity + 3) }
     ensures comparisons { count.new.comparisons ≡ count.old.comparisons }
 {
     let place = index.saturating_sub(1);

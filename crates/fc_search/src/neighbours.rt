@@ -1,5 +1,6 @@
 //! The pairs next to a key: the first at it or behind it, and the last at it or ahead of it.
 ghost use Rattle.std.specs.Prelude.{◌≡◌, ℕ, ◌+◌, ◌*◌, ◌++◌, ◌<◌, ◌≤◌, List, length, option_copied};
+ghost use Rattle.fc_base.specs.Sizes.{level_comparisons};
 ghost use Rattle.fc_base.specs.Ascending.{IsAscending};
 ghost use Rattle.fc_base.specs.Halves.{not_below};
 ghost use Rattle.fc_base.specs.Parts.{below, above};
@@ -90,7 +91,7 @@ pub fn first_from<'a, K: Ord, V, Q: Query<K>>(
     requires order { IsAscending K.cmp (pairs_of root.now) }
     ensures value { option_copied result ≡ first_item (not_below Q.order (pairs_of root.now) (Q.sought key)) }
     ensures comparisons { count.new.comparisons ≡ count.old.comparisons + passed Q.order (Q.sought key) root.now }
-    ensures bounded { (h : ℕ) → IsLevelled h root.now → count.new.comparisons ≤ count.old.comparisons + 11 * (h + 1) }
+    ensures bounded { (h : ℕ) → IsLevelled h root.now → count.new.comparisons ≤ count.old.comparisons + level_comparisons * (h + 1) }
     ensures moves { count.new.moves ≡ count.old.moves }
 {
     let mut node = root;
@@ -120,7 +121,7 @@ pub fn first_after<'a, K: Ord, V, Q: Query<K>>(
     requires order { IsAscending K.cmp (pairs_of root.now) }
     ensures value { option_copied result ≡ first_item (above Q.order (pairs_of root.now) (Q.sought key)) }
     ensures comparisons { count.new.comparisons ≡ count.old.comparisons + passed Q.order (Q.sought key) root.now }
-    ensures bounded { (h : ℕ) → IsLevelled h root.now → count.new.comparisons ≤ count.old.comparisons + 11 * (h + 1) }
+    ensures bounded { (h : ℕ) → IsLevelled h root.now → count.new.comparisons ≤ count.old.comparisons + level_comparisons * (h + 1) }
     ensures moves { count.new.moves ≡ count.old.moves }
 {
     let mut node = root;
@@ -150,7 +151,7 @@ pub fn last_to<'a, K: Ord, V, Q: Query<K>>(
     requires order { IsAscending K.cmp (pairs_of root.now) }
     ensures value { option_copied result ≡ last_item (not_above Q.order (pairs_of root.now) (Q.sought key)) }
     ensures comparisons { count.new.comparisons ≡ count.old.comparisons + passed Q.order (Q.sought key) root.now }
-    ensures bounded { (h : ℕ) → IsLevelled h root.now → count.new.comparisons ≤ count.old.comparisons + 11 * (h + 1) }
+    ensures bounded { (h : ℕ) → IsLevelled h root.now → count.new.comparisons ≤ count.old.comparisons + level_comparisons * (h + 1) }
     ensures moves { count.new.moves ≡ count.old.moves }
 {
     let mut node = root;
@@ -180,7 +181,7 @@ pub fn last_before<'a, K: Ord, V, Q: Query<K>>(
     requires order { IsAscending K.cmp (pairs_of root.now) }
     ensures value { option_copied result ≡ last_item (below Q.order (pairs_of root.now) (Q.sought key)) }
     ensures comparisons { count.new.comparisons ≡ count.old.comparisons + passed Q.order (Q.sought key) root.now }
-    ensures bounded { (h : ℕ) → IsLevelled h root.now → count.new.comparisons ≤ count.old.comparisons + 11 * (h + 1) }
+    ensures bounded { (h : ℕ) → IsLevelled h root.now → count.new.comparisons ≤ count.old.comparisons + level_comparisons * (h + 1) }
     ensures moves { count.new.moves ≡ count.old.moves }
 {
     let mut node = root;

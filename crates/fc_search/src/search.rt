@@ -1,5 +1,6 @@
 //! Search for a key, in a node and down a tree.
 ghost use Rattle.std.specs.Prelude.{◌≡◌, ℕ, ◌+◌, ◌*◌, ◌<◌, ◌≤◌, ◌↔◌, [], length, IsTrue, IfOk, IfErr, OnOk, OnErr, option_copied};
+ghost use Rattle.fc_base.specs.Sizes.{capacity, level_comparisons};
 ghost use Rattle.fc_base.specs.Ascending.{IsAscending};
 ghost use Rattle.fc_base.specs.Parts.{at};
 ghost use Rattle.fc_node.specs.Leaf.{leaf_at};
@@ -56,10 +57,10 @@ pub fn search<K: Ord, V, Q: Query<K>>(
     requires start { path.old ≡ [] }
     ensures found { OnOk result (IsFound Q.order (Q.sought key) root.now path.new) }
     ensures gap { OnErr result (IsGap Q.order (Q.sought key) root.now path.new) }
-    ensures room { IfErr result (λ gap. IsTrue gap.has_room ↔ (length (own_pairs (leaf_at path.new root.now)) < 11)) }
+    ensures room { IfErr result (λ gap. IsTrue gap.has_room ↔ (length (own_pairs (leaf_at path.new root.now)) < capacity)) }
     ensures path { path.new ≡ path_to Q.order (Q.sought key) root.now }
     ensures comparisons { count.new.comparisons ≡ count.old.comparisons + passed Q.order (Q.sought key) root.now }
-    ensures bounded { (h : ℕ) → IsLevelled h root.now → count.new.comparisons ≤ count.old.comparisons + 11 * (h + 1) }
+    ensures bounded { (h : ℕ) → IsLevelled h root.now → count.new.comparisons ≤ count.old.comparisons + level_comparisons * (h + 1) }
     ensures moves { count.new.moves ≡ count.old.moves }
 {
     let mut node = root;
@@ -92,7 +93,7 @@ pub fn get<'a, K: Ord, V, Q: Query<K>>(
     requires order { IsAscending K.cmp (pairs_of root.now) }
     ensures value { option_copied result ≡ at Q.order (pairs_of root.now) (Q.sought key) }
     ensures comparisons { count.new.comparisons ≡ count.old.comparisons + passed Q.order (Q.sought key) root.now }
-    ensures bounded { (h : ℕ) → IsLevelled h root.now → count.new.comparisons ≤ count.old.comparisons + 11 * (h + 1) }
+    ensures bounded { (h : ℕ) → IsLevelled h root.now → count.new.comparisons ≤ count.old.comparisons + level_comparisons * (h + 1) }
     ensures moves { count.new.moves ≡ count.old.moves }
 {
     let mut node = root;

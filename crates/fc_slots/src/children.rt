@@ -3,6 +3,7 @@
 //! The moves of children aren't counted: each call that moves some passes a count that nobody reads.
 ghost use Rattle.std.specs.Prelude.{◌≡◌, ◌+◌, ◌-◌, ◌<◌, ◌≤◌, [], ◌∷◌, ◌++◌, length, take, drop, slice_index_or, slice_set, insert, remove, IfOk};
 ghost use Rattle.std.specs.Borrow.{sem};
+ghost use Rattle.fc_base.specs.Sizes.{most_children};
 ghost use Rattle.fc_slots.specs.Lends.{lends_child};
 
 use crate::slots::Slots;
@@ -43,7 +44,7 @@ impl<T> Children<T> {
     /// How many items there are.
     pub fn len(&self) -> usize
         ensures value { result ≡ length self.now }
-        ensures fits { length self.now ≤ 12 }
+        ensures fits { length self.now ≤ most_children }
     {
         self.slots.len()
     }
@@ -61,7 +62,7 @@ impl<T> Children<T> {
         requires { index < length self.old }
         ensures* writes_back { sem 𝓛 (lends_child T.row self.entry index result) }
         ensures value { result.now ≡ slice_index_or self.old index result.now }
-        ensures fits { length self.old ≤ 12 }
+        ensures fits { length self.old ≤ most_children }
     {
         self.slots.get_mut(index)
     }
@@ -89,7 +90,7 @@ impl<T: Drop> Children<T> {
     /// Puts `item` at `index`, and moves those from there on up.
     pub fn insert(&mut self, index: usize, item: T)
         requires in_bounds { index ≤ length self.old }
-        requires room { length self.old < 12 }
+        requires room { length self.old < most_children }
         ensures { self.new ≡ insert self.old index item }
     {
         self.slots.insert(index, item, &mut Count::new());
@@ -98,7 +99,7 @@ impl<T: Drop> Children<T> {
     /// Moves the items from `from` on to the end of `other`.
     pub fn move_tail(&mut self, from: usize, other: &mut Self)
         requires in_bounds { from ≤ length self.old }
-        requires room { length other.old + (length self.old - from) ≤ 12 }
+        requires room { length other.old + (length self.old - from) ≤ most_children }
         ensures items { self.new ≡ take from self.old }
         ensures other { other.new ≡ other.old ++ drop from self.old }
     {
@@ -109,7 +110,7 @@ impl<T: Drop> Children<T> {
     /// Moves the first `n` items to the end of `other`, and those after them down.
     pub fn move_front(&mut self, n: usize, other: &mut Self)
         requires in_bounds { n ≤ length self.old }
-        requires room { length other.old + n ≤ 12 }
+        requires room { length other.old + n ≤ most_children }
         ensures items { self.new ≡ drop n self.old }
         ensures other { other.new ≡ other.old ++ take n self.old }
     {
@@ -120,7 +121,7 @@ impl<T: Drop> Children<T> {
     /// Moves the last `n` items to the front of `other`, whose own move up.
     pub fn move_back(&mut self, n: usize, other: &mut Self)
         requires in_bounds { n ≤ length self.old }
-        requires room { length other.old + n ≤ 12 }
+        requires room { length other.old + n ≤ most_children }
         ensures items { self.new ≡ take (length self.old - n) self.old }
         ensures other { other.new ≡ drop (length self.old - n) self.old ++ other.old }
     {

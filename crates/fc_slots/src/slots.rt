@@ -214,10 +214,9 @@ fn shift_up<T>(cells: &mut Cells<T>, from: usize, by: usize, end: usize, count: 
     ensures moves { count.new.moves ≡ count.old.moves + (end - by - from) }
     ensures comparisons { count.new.comparisons ≡ count.old.comparisons }
 {
-    let above = end - by - from;
-    for i in 0..above {
-        let item = cells.take(end - by - 1 - i);
-        cells.set(end - 1 - i, item, count);
+    for i in (from..end - by).rev() {
+        let item = cells.take(i);
+        cells.set(i + by, item, count);
     }
 }
 

@@ -3,6 +3,7 @@ use Rattle.std.specs.Prelude.{◌≡◌, ℕ, zero, suc, ◌+◌, ◌-◌, ◌<�
 use Rattle.std.specs.List.{AllByRecursion}
 use Rattle.std.specs.declared.boxed.Box.{Box}
 use Rattle.std.specs.declared.alloc.Global.{Global}
+use Rattle.fc_base.specs.Sizes.{most_levels}
 use Rattle.fc_node.specs.declared.node.Node.{Node}
 use Rattle.fc_node.specs.Node.{own_pairs, children_of, pairs_of, IsSound, IsSoundRoot}
 use Rattle.fc_node.specs.Weave.{ahead, behind}
@@ -37,7 +38,7 @@ module _ {K V : Type 0} where
 
   -- The node is a sound root at a level below the stack.
   abbrev pub IsUnder : Node K V → List (Box (Node K V) Global) → Type 0
-  IsUnder n s = (h : ℕ) × IsSoundRoot h n × IsFalling (suc h) 25 s
+  IsUnder n s = (h : ℕ) × IsSoundRoot h n × IsFalling (suc h) most_levels s
 
   -- The pairs of the front's stack in order: the top first.
   abbrev pub front_of : List (Box (Node K V) Global) → List (K × V)

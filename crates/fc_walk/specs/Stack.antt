@@ -1,5 +1,6 @@
 -- Stacks of cells that all hold an item.
 use Rattle.std.specs.Prelude.{◌≡◌, ℕ, ◌≤◌, List, [], ◌∷◌, ◌++◌, Option, Some, None, length, map, take}
+use Rattle.fc_base.specs.Sizes.{most_levels}
 
 -- The items that the cells hold.
 abbrev pub filled : {T : Type 0} → List (Option T) → List T
@@ -19,7 +20,7 @@ held (Some cells) len = take len cells
 -- So many of 25 cells hold an item; with no cell none does.
 abbrev pub IsHeld : {T : Type 0} → Option (List T) → ℕ → Type 0
 IsHeld None len = len ≡ 0
-IsHeld (Some cells) len = (length cells ≡ 25) × (len ≤ 25)
+IsHeld (Some cells) len = (length cells ≡ most_levels) × (len ≤ most_levels)
 
 -- The item is the last of the items.
 abbrev pub IsTopOf : {T : Type 0} → List T → T → Type 0

@@ -1,6 +1,7 @@
 -- Trails: the nodes on a way down from a root, each with the place where the way goes on.
 use Rattle.std.specs.Prelude.{◌≡◌, ℕ, zero, suc, ◌≤◌, List, [], ◌∷◌, ◌++◌, length, map, Some, None}
 use Rattle.std.specs.Borrow.{Bor}
+use Rattle.fc_base.specs.Sizes.{most_levels}
 use Rattle.fc_node.specs.declared.node.Node.{Node}
 use Rattle.fc_node.specs.Node.{own_pairs, child_at, IsLeaf, IsInner, IsLevelled}
 use Rattle.fc_node.specs.Place.{lead_in, rest_in}
@@ -29,7 +30,7 @@ module _ {K V : Type 0} where
 
   -- One node for each of at most 25 levels.
   abbrev pub IsStanding : List (Bor (Node K V) × ℕ) → Type 0
-  IsStanding s = (m : ℕ) × (m ≤ 25) × IsStack m s
+  IsStanding s = (m : ℕ) × (m ≤ most_levels) × IsStack m s
 
   -- Each node is the child of an inner node at the place before it, from the node n on.
   abbrev pub IsChain : Node K V → List (Bor (Node K V) × ℕ) → Type 0

@@ -1,5 +1,6 @@
 //! A stack of as many items as a path has steps, which takes no memory and can be copied whole.
 ghost use Rattle.std.specs.Prelude.{◌≡◌, ◌<◌, ◌≤◌, List, [], ◌∷◌, ◌++◌, length, slice_index_or};
+ghost use Rattle.fc_base.specs.Sizes.{most_levels};
 ghost use Rattle.fc_walk.specs.Stack.{IsTopOf};
 
 use fc_node::path::MAX_STEPS;
@@ -37,7 +38,7 @@ impl<T> CopyStack<T> {
     // How many items there are.
     pub fn len(&self) -> usize
         ensures value { result ≡ length self.now }
-        ensures fits { length self.now ≤ 25 }
+        ensures fits { length self.now ≤ most_levels }
     {
         self.len
     }
@@ -77,7 +78,7 @@ impl<T: Copy> CopyStack<T> {
 impl<T: Copy + Drop> CopyStack<T> {
     // Puts an item on top.
     pub fn push(&mut self, item: T)
-        requires { length self.old < 25 }
+        requires { length self.old < most_levels }
         ensures { self.new ≡ self.old ++ item ∷ [] }
     {
         if self.len == 0 {
@@ -91,7 +92,7 @@ impl<T: Copy + Drop> CopyStack<T> {
     // Puts an item on top of another one.
     pub fn push_above(&mut self, item: T)
         requires some { 0 < length self.old }
-        requires room { length self.old < 25 }
+        requires room { length self.old < most_levels }
         ensures { self.new ≡ self.old ++ item ∷ [] }
     {
         let Some(cells) = &mut self.cells else {

@@ -2,6 +2,7 @@
 //!
 //! A gap is a path to a gap of a leaf. It stays one where values are written.
 ghost use Rattle.std.specs.Prelude.{◌≡◌, ℕ, ◌+◌, ◌-◌, ◌<◌, ◌≤◌, ◌∷◌, ◌++◌, length, slice_index, take};
+ghost use Rattle.fc_base.specs.Sizes.{most_levels};
 ghost use Rattle.fc_node.specs.Node.{pairs_of, IsLevelled};
 ghost use Rattle.fc_node.specs.Path.{IsPath, before};
 ghost use Rattle.fc_node.specs.Place.{IsPlace, place_ahead};
@@ -57,7 +58,7 @@ pub fn steps_ahead<K, V>(node: &Node<K, V>, gap: &[u8]) -> usize
 
 /// The first gap of the leaf that the path leads to with one step more, in a tree whose leaves lie that many steps down.
 pub fn first_gap(path: &[u8], step: usize, depth: usize) -> Path
-    requires fits { (length path.now < depth) × (depth ≤ 25) }
+    requires fits { (length path.now < depth) × (depth ≤ most_levels) }
     requires small { step < 256 }
     ensures { result ≡ path.now ++ step ∷ zeros (depth - length path.now - 1) }
 {
@@ -71,7 +72,7 @@ pub fn first_gap(path: &[u8], step: usize, depth: usize) -> Path
 
 /// Goes on to the last gap below the node.
 pub fn push_last<K, V>(node: &Node<K, V>, gap: &mut Path)
-    requires levels { (h : ℕ) × IsLevelled h node.now × (length gap.old + h < 25) }
+    requires levels { (h : ℕ) × IsLevelled h node.now × (length gap.old + h < most_levels) }
     ensures { GoesOn gap.old gap.new node.now (length (pairs_of node.now)) }
 {
     let end = node.len();
@@ -84,7 +85,7 @@ pub fn push_last<K, V>(node: &Node<K, V>, gap: &mut Path)
 /// Goes on to the gap ahead of the pair that the path leads to.
 pub fn push_ahead<K, V>(node: &Node<K, V>, place: &[u8], gap: &mut Path)
     requires place { IsPlace place.now node.now }
-    requires levels { (h : ℕ) × IsLevelled h node.now × (length gap.old + h < 25) }
+    requires levels { (h : ℕ) × IsLevelled h node.now × (length gap.old + h < most_levels) }
     ensures { GoesOn gap.old gap.new node.now (length (place_ahead place.now node.now)) }
 {
     let step = place[0] as usize;

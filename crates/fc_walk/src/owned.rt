@@ -1,5 +1,6 @@
 //! Steps of an owned walk: nodes opened down to a leaf, and pairs given out of the node on the top.
 ghost use Rattle.std.specs.Prelude.{◌≡◌, ℕ, suc, ◌<◌, [], ◌∷◌, ◌++◌, length};
+ghost use Rattle.fc_base.specs.Sizes.{most_levels};
 ghost use Rattle.fc_node.specs.Node.{pairs_of};
 ghost use Rattle.fc_node.specs.Tree.{entries, root_of, IsSoundMap};
 ghost use Rattle.fc_walk.specs.Opened.{IsOpened, IsFalling, IsUnder, front_in, back_in, front_of, back_of};
@@ -14,7 +15,7 @@ pub type Nodes<K, V> = Stack<Box<Node<K, V>>>;
 pub fn opened<K: Drop, V: Drop>(root: Option<Box<Node<K, V>>>) -> Nodes<K, V>
     requires { IsSoundMap (root_of root) }
     ensures pairs { front_of result ≡ entries (root_of root) }
-    ensures levels { IsFalling 0 25 result }
+    ensures levels { IsFalling 0 most_levels result }
 {
     let mut stack = Stack::new();
     let Some(root) = root else {
@@ -28,7 +29,7 @@ pub fn opened<K: Drop, V: Drop>(root: Option<Box<Node<K, V>>>) -> Nodes<K, V>
 pub fn open_first<K: Drop, V: Drop>(stack: &mut Nodes<K, V>, node: Box<Node<K, V>>)
     requires { IsUnder node.value stack.old }
     ensures pairs { front_of stack.new ≡ pairs_of node.value ++ front_of stack.old }
-    ensures levels { IsFalling 0 25 stack.new }
+    ensures levels { IsFalling 0 most_levels stack.new }
     ensures some { 0 < length stack.new }
 {
     let mut node = node;
@@ -45,7 +46,7 @@ pub fn open_first<K: Drop, V: Drop>(stack: &mut Nodes<K, V>, node: Box<Node<K, V
 pub fn open_last<K: Drop, V: Drop>(stack: &mut Nodes<K, V>, node: Box<Node<K, V>>)
     requires { IsUnder node.value stack.old }
     ensures pairs { back_of stack.new ≡ back_of stack.old ++ pairs_of node.value }
-    ensures levels { IsFalling 0 25 stack.new }
+    ensures levels { IsFalling 0 most_levels stack.new }
     ensures some { 0 < length stack.new }
 {
     let mut node = node;
@@ -60,10 +61,10 @@ pub fn open_last<K: Drop, V: Drop>(stack: &mut Nodes<K, V>, node: Box<Node<K, V>
 
 // Puts a node back, if it still has a pair.
 fn keep<K: Drop, V: Drop>(stack: &mut Nodes<K, V>, node: Box<Node<K, V>>)
-    requires { (h : ℕ) × IsOpened h node.value × IsFalling (suc h) 25 stack.old }
+    requires { (h : ℕ) × IsOpened h node.value × IsFalling (suc h) most_levels stack.old }
     ensures front { front_of stack.new ≡ front_in node.value ++ front_of stack.old }
     ensures back { back_of stack.new ≡ back_of stack.old ++ back_in node.value }
-    ensures levels { (h : ℕ) → IsOpened h node.value → IsFalling (suc h) 25 stack.old → IsFalling h 25 stack.new }
+    ensures levels { (h : ℕ) → IsOpened h node.value → IsFalling (suc h) most_levels stack.old → IsFalling h most_levels stack.new }
 {
     if node.len() == 0 {
         return;
@@ -74,9 +75,9 @@ fn keep<K: Drop, V: Drop>(stack: &mut Nodes<K, V>, node: Box<Node<K, V>>)
 // Gives the first pair out, and opens the child behind it.
 pub fn give_first<K: Drop, V: Drop>(stack: &mut Nodes<K, V>) -> (K, V)
     requires some { 0 < length stack.old }
-    requires levels { IsFalling 0 25 stack.old }
+    requires levels { IsFalling 0 most_levels stack.old }
     ensures pairs { front_of stack.old ≡ result ∷ front_of stack.new }
-    ensures levels { IsFalling 0 25 stack.new }
+    ensures levels { IsFalling 0 most_levels stack.new }
 {
     let mut node = stack.pop();
     let pair = node.take_first_pair();
@@ -93,9 +94,9 @@ pub fn give_first<K: Drop, V: Drop>(stack: &mut Nodes<K, V>) -> (K, V)
 // Gives the last pair out, and opens the child ahead of it.
 pub fn give_last<K: Drop, V: Drop>(stack: &mut Nodes<K, V>) -> (K, V)
     requires some { 0 < length stack.old }
-    requires levels { IsFalling 0 25 stack.old }
+    requires levels { IsFalling 0 most_levels stack.old }
     ensures pairs { back_of stack.old ≡ back_of stack.new ++ result ∷ [] }
-    ensures levels { IsFalling 0 25 stack.new }
+    ensures levels { IsFalling 0 most_levels stack.new }
 {
     let mut node = stack.pop();
     let pair = node.take_last_pair();
@@ -112,11 +113,11 @@ pub fn give_last<K: Drop, V: Drop>(stack: &mut Nodes<K, V>) -> (K, V)
 // Sees to it that the front has a node: where it has none, the lowest of the back goes over, with its first child opened.
 pub fn fill_front<K: Drop, V: Drop>(front: &mut Nodes<K, V>, back: &mut Nodes<K, V>)
     requires some { 0 < length (front_of front.old ++ back_of back.old) }
-    requires front { IsFalling 0 25 front.old }
-    requires back { IsFalling 0 25 back.old }
+    requires front { IsFalling 0 most_levels front.old }
+    requires back { IsFalling 0 most_levels back.old }
     ensures pairs { front_of front.new ++ back_of back.new ≡ front_of front.old ++ back_of back.old }
-    ensures front { IsFalling 0 25 front.new }
-    ensures back { IsFalling 0 25 back.new }
+    ensures front { IsFalling 0 most_levels front.new }
+    ensures back { IsFalling 0 most_levels back.new }
     ensures some { 0 < length front.new }
 {
     if front.len() > 0 {
@@ -135,11 +136,11 @@ pub fn fill_front<K: Drop, V: Drop>(front: &mut Nodes<K, V>, back: &mut Nodes<K,
 // Sees to it that the back has a node: where it has none, the lowest of the front goes over, with its last child opened.
 pub fn fill_back<K: Drop, V: Drop>(front: &mut Nodes<K, V>, back: &mut Nodes<K, V>)
     requires some { 0 < length (front_of front.old ++ back_of back.old) }
-    requires front { IsFalling 0 25 front.old }
-    requires back { IsFalling 0 25 back.old }
+    requires front { IsFalling 0 most_levels front.old }
+    requires back { IsFalling 0 most_levels back.old }
     ensures pairs { front_of front.new ++ back_of back.new ≡ front_of front.old ++ back_of back.old }
-    ensures front { IsFalling 0 25 front.new }
-    ensures back { IsFalling 0 25 back.new }
+    ensures front { IsFalling 0 most_levels front.new }
+    ensures back { IsFalling 0 most_levels back.new }
     ensures some { 0 < length back.new }
 {
     if back.len() > 0 {

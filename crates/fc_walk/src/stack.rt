@@ -1,5 +1,6 @@
 //! A stack of as many items as a path has steps, which takes no memory.
 ghost use Rattle.std.specs.Prelude.{◌≡◌, ◌+◌, ◌<◌, ◌≤◌, List, [], ◌∷◌, ◌++◌, length, slice_index_or};
+ghost use Rattle.fc_base.specs.Sizes.{most_levels};
 
 use arrayvec::ArrayVec;
 use fc_node::path::MAX_STEPS;
@@ -13,20 +14,21 @@ pub struct Stack<T> {
 
 impl<T> Model for Stack<T> {
     ghost use Rattle.std.specs.Prelude.{◌≡◌, ◌≤◌, List, length};
+    ghost use Rattle.fc_base.specs.Sizes.{most_levels};
     ghost use Rattle.fc_walk.specs.Stack.{filled, IsFilled};
 
     ghost Value = { List T };
 
     ghost view = { λ s. filled s.cells.items };
 
-    ghost invariant = { λ s. IsFilled s.cells.items × (length s.cells.items ≤ 25) };
+    ghost invariant = { λ s. IsFilled s.cells.items × (length s.cells.items ≤ most_levels) };
 }
 
 impl<T> Stack<T> {
     // How many items there are.
     pub fn len(&self) -> usize
         ensures value { result ≡ length self.now }
-        ensures fits { length self.now ≤ 25 }
+        ensures fits { length self.now ≤ most_levels }
     {
         self.cells.len()
     }
@@ -55,7 +57,7 @@ impl<T: Drop> Stack<T> {
 
     // Puts an item on top.
     pub fn push(&mut self, item: T)
-        requires { length self.old < 25 }
+        requires { length self.old < most_levels }
         ensures { self.new ≡ self.old ++ item ∷ [] }
     {
         self.cells.push(Some(item));

@@ -1,5 +1,6 @@
 //! Thefts of several pairs at once between two neighbouring children, and the move of what stands after a place.
 ghost use Rattle.std.specs.Prelude.{◌≡◌, ◌+◌, ◌-◌, ◌*◌, ◌<◌, ◌≤◌, [], ◌∷◌, ◌++◌, length, take, drop, slice_index_or, slice_set};
+ghost use Rattle.fc_base.specs.Sizes.{capacity};
 ghost use Rattle.fc_node.specs.Node.{own_pairs, children_of, child_at, pairs_of, IsInner};
 ghost use Rattle.fc_node.specs.Path.{after};
 ghost use Rattle.fc_node.specs.Siblings.{AreAlike, IsShared};
@@ -14,7 +15,7 @@ impl<K: Drop, V: Drop> Node<K, V> {
     pub fn move_suffix(&mut self, at: usize, other: &mut Node<K, V>, count: &mut Count)
         requires in_bounds { at ≤ length (own_pairs self.old) }
         requires alike { AreAlike self.old other.old }
-        requires room { length (own_pairs other.old) + (length (own_pairs self.old) - at) ≤ 11 }
+        requires room { length (own_pairs other.old) + (length (own_pairs self.old) - at) ≤ capacity }
         ensures pairs { own_pairs self.new ≡ take at (own_pairs self.old) }
         ensures children { children_of self.new ≡ take (at + 1) (children_of self.old) }
         ensures other_pairs { own_pairs other.new ≡ own_pairs other.old ++ drop at (own_pairs self.old) }
@@ -49,7 +50,7 @@ impl<K: Drop, V: Drop> Node<K, V> {
         requires inner { IsInner self.old }
         requires alike { AreAlike (child_at self.old index) (child_at self.old (index + 1)) }
         requires some { (1 ≤ n) × (n ≤ length (own_pairs (child_at self.old index))) }
-        requires room { length (own_pairs (child_at self.old (index + 1))) + n ≤ 11 }
+        requires room { length (own_pairs (child_at self.old (index + 1))) + n ≤ capacity }
         ensures shared { IsShared index (length (own_pairs (child_at self.old index)) - n) self.old self.new }
         ensures inner { IsInner self.new }
         ensures all_pairs { pairs_of self.new ≡ pairs_of self.old }
@@ -79,7 +80,7 @@ impl<K: Drop, V: Drop> Node<K, V> {
         requires in_bounds { index < length parent.old }
         requires alike { AreAlike self.old right.old }
         requires some { (1 ≤ n) × (n ≤ length (own_pairs self.old)) }
-        requires room { length (own_pairs right.old) + n ≤ 11 }
+        requires room { length (own_pairs right.old) + n ≤ capacity }
         ensures parent { (d : K × V) → parent.new ≡ slice_set parent.old index (slice_index_or (own_pairs self.old) (length (own_pairs self.old) - n) d) }
         ensures pairs { (d : K × V) → own_pairs self.new ++ slice_index_or (own_pairs self.old) (length (own_pairs self.old) - n) d ∷ own_pairs right.new ≡ own_pairs self.old ++ slice_index_or parent.old index d ∷ own_pairs right.old }
         ensures children { children_of self.new ++ children_of right.new ≡ children_of self.old ++ children_of right.old }
@@ -109,7 +110,7 @@ impl<K: Drop, V: Drop> Node<K, V> {
         requires inner { IsInner self.old }
         requires alike { AreAlike (child_at self.old index) (child_at self.old (index + 1)) }
         requires some { (1 ≤ n) × (n ≤ length (own_pairs (child_at self.old (index + 1)))) }
-        requires room { length (own_pairs (child_at self.old index)) + n ≤ 11 }
+        requires room { length (own_pairs (child_at self.old index)) + n ≤ capacity }
         ensures shared { IsShared index (length (own_pairs (child_at self.old index)) + n) self.old self.new }
         ensures inner { IsInner self.new }
         ensures all_pairs { pairs_of self.new ≡ pairs_of self.old }
@@ -139,7 +140,7 @@ impl<K: Drop, V: Drop> Node<K, V> {
         requires in_bounds { index < length parent.old }
         requires alike { AreAlike left.old self.old }
         requires some { (1 ≤ n) × (n ≤ length (own_pairs self.old)) }
-        requires room { length (own_pairs left.old) + n ≤ 11 }
+        requires room { length (own_pairs left.old) + n ≤ capacity }
         ensures parent { (d : K × V) → parent.new ≡ slice_set parent.old index (slice_index_or (own_pairs self.old) (n - 1) d) }
         ensures pairs { (d : K × V) → own_pairs left.new ++ slice_index_or (own_pairs self.old) (n - 1) d ∷ own_pairs self.new ≡ own_pairs left.old ++ slice_index_or parent.old index d ∷ own_pairs self.old }
         ensures children { children_of left.new ++ children_of self.new ≡ children_of left.old ++ children_of self.old }
@@ -174,7 +175,7 @@ fn share_back<T: Drop>(
 )
     requires in_bounds { index < length parent.old }
     requires some { (1 ≤ n) × (n ≤ length left.old) }
-    requires room { length right.old + n ≤ 11 }
+    requires room { length right.old + n ≤ capacity }
     ensures parent { (d : T) → parent.new ≡ slice_set parent.old index (slice_index_or left.old (length left.old - n) d) }
     ensures items { (d : T) → left.new ++ slice_index_or left.old (length left.old - n) d ∷ right.new ≡ left.old ++ slice_index_or parent.old index d ∷ right.old }
     ensures left { length left.new + n ≡ length left.old }
@@ -201,7 +202,7 @@ fn share_front<T: Drop>(
 )
     requires in_bounds { index < length parent.old }
     requires some { (1 ≤ n) × (n ≤ length right.old) }
-    requires room { length left.old + n ≤ 11 }
+    requires room { length left.old + n ≤ capacity }
     ensures parent { (d : T) → parent.new ≡ slice_set parent.old index (slice_index_or right.old (n - 1) d) }
     ensures items { (d : T) → left.new ++ slice_index_or right.old (n - 1) d ∷ right.new ≡ left.old ++ slice_index_or parent.old index d ∷ right.old }
     ensures left { length left.new ≡ length left.old + n }

@@ -1,6 +1,7 @@
 //! Merges of two neighbouring children, and thefts of one pair between them.
 ghost use Rattle.std.specs.Prelude.{◌≡◌, ◌+◌, ◌-◌, ◌<◌, ◌≤◌, [], ◌∷◌, ◌++◌, ◌↔◌, length, slice_index_or, slice_set, remove, MatchOption};
 ghost use Rattle.std.specs.Option.{option_to_list};
+ghost use Rattle.fc_base.specs.Sizes.{capacity};
 ghost use Rattle.fc_node.specs.Node.{own_pairs, children_of, child_at, boxed, pairs_of, IsLeaf, IsInner};
 ghost use Rattle.fc_node.specs.Siblings.{IsFormed, AreAlike, IsMerged, IsShared};
 
@@ -61,7 +62,7 @@ impl<K: Drop, V: Drop> Node<K, V> {
         child: Option<Box<Node<K, V>>>,
         count: &mut Count,
     )
-        requires room { length (own_pairs self.old) < 11 }
+        requires room { length (own_pairs self.old) < capacity }
         requires kind { MatchOption child (IsLeaf self.old) (λ _. IsInner self.old) }
         ensures pairs { own_pairs self.new ≡ pair ∷ own_pairs self.old }
         ensures children { children_of self.new ≡ boxed (option_to_list child) ++ children_of self.old }
@@ -85,7 +86,7 @@ impl<K: Drop, V: Drop> Node<K, V> {
         child: Option<Box<Node<K, V>>>,
         count: &mut Count,
     )
-        requires room { length (own_pairs self.old) < 11 }
+        requires room { length (own_pairs self.old) < capacity }
         requires kind { MatchOption child (IsLeaf self.old) (λ _. IsInner self.old) }
         ensures pairs { own_pairs self.new ≡ own_pairs self.old ++ pair ∷ [] }
         ensures children { children_of self.new ≡ children_of self.old ++ boxed (option_to_list child) }
@@ -139,7 +140,7 @@ impl<K: Drop, V: Drop> Node<K, V> {
         requires inner { IsInner self.old }
         requires alike { AreAlike (child_at self.old index) (child_at self.old (index + 1)) }
         requires some { 0 < length (own_pairs (child_at self.old index)) }
-        requires room { length (own_pairs (child_at self.old (index + 1))) < 11 }
+        requires room { length (own_pairs (child_at self.old (index + 1))) < capacity }
         ensures shared { IsShared index (length (own_pairs (child_at self.old index)) - 1) self.old self.new }
         ensures inner { IsInner self.new }
         ensures all_pairs { pairs_of self.new ≡ pairs_of self.old }
@@ -164,7 +165,7 @@ impl<K: Drop, V: Drop> Node<K, V> {
         requires inner { IsInner self.old }
         requires alike { AreAlike (child_at self.old index) (child_at self.old (index + 1)) }
         requires some { 0 < length (own_pairs (child_at self.old (index + 1))) }
-        requires room { length (own_pairs (child_at self.old index)) < 11 }
+        requires room { length (own_pairs (child_at self.old index)) < capacity }
         ensures shared { IsShared index (length (own_pairs (child_at self.old index)) + 1) self.old self.new }
         ensures inner { IsInner self.new }
         ensures all_pairs { pairs_of self.new ≡ pairs_of self.old }
@@ -186,7 +187,7 @@ impl<K: Drop, V: Drop> Node<K, V> {
     // Puts a pair and then all that the right node holds at the end. The right node is given back to memory.
     pub(super) fn join(&mut self, pair: (K, V), right: Box<Node<K, V>>, count: &mut Count)
         requires alike { AreAlike self.old right.value }
-        requires room { length (own_pairs self.old) + length (own_pairs right.value) + 1 ≤ 11 }
+        requires room { length (own_pairs self.old) + length (own_pairs right.value) + 1 ≤ capacity }
         ensures pairs { own_pairs self.new ≡ own_pairs self.old ++ pair ∷ own_pairs right.value }
         ensures children { children_of self.new ≡ children_of self.old ++ children_of right.value }
         ensures alike { AreAlike self.old self.new }
@@ -219,7 +220,7 @@ impl<K: Drop, V: Drop> Node<K, V> {
         requires in_bounds { index < length (own_pairs self.old) }
         requires inner { IsInner self.old }
         requires alike { AreAlike (child_at self.old index) (child_at self.old (index + 1)) }
-        requires room { length (own_pairs (child_at self.old index)) + length (own_pairs (child_at self.old (index + 1))) + 1 ≤ 11 }
+        requires room { length (own_pairs (child_at self.old index)) + length (own_pairs (child_at self.old (index + 1))) + 1 ≤ capacity }
         ensures merged { IsMerged index self.old self.new }
         ensures inner { IsInner self.new }
         ensures all_pairs { pairs_of self.new ≡ pairs_of self.old }

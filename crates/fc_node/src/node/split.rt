@@ -1,5 +1,6 @@
 //! Insertion into one node, and the split of a full one.
 ghost use Rattle.std.specs.Prelude.{◌≡◌, ◌+◌, ◌-◌, ◌<◌, ◌≤◌, [], ◌∷◌, ◌++◌, length, insert};
+ghost use Rattle.fc_base.specs.Sizes.{capacity, most_children};
 ghost use Rattle.fc_node.specs.Node.{own_pairs, children_of, child_at, pairs_of, IsLeaf, IsInner, IsBlankLeaf, IsBlankInner};
 ghost use Rattle.fc_node.specs.Path.{before, after};
 ghost use Rattle.fc_node.specs.Split.{middle_place, left_length, split_moves};
@@ -13,7 +14,7 @@ impl<K: Drop, V: Drop> Node<K, V> {
     /// Puts `pair` at `index` of a leaf that has room. It takes no memory.
     pub fn insert_leaf(&mut self, index: usize, pair: (K, V), count: &mut Count)
         requires in_bounds { index ≤ length (own_pairs self.old) }
-        requires room { length (own_pairs self.old) < 11 }
+        requires room { length (own_pairs self.old) < capacity }
         requires leaf { IsLeaf self.old }
         ensures pairs { own_pairs self.new ≡ insert (own_pairs self.old) index pair }
         ensures leaf { IsLeaf self.new }
@@ -47,7 +48,7 @@ impl<K: Drop, V: Drop> Node<K, V> {
         count: &mut Count,
     )
         requires in_bounds { index ≤ length (own_pairs self.old) }
-        requires room { length (own_pairs self.old) < 11 }
+        requires room { length (own_pairs self.old) < capacity }
         requires inner { IsInner self.old }
         ensures pairs { own_pairs self.new ≡ insert (own_pairs self.old) index pair }
         ensures children { children_of self.new ≡ insert (children_of self.old) (index + 1) child.value }
@@ -73,13 +74,13 @@ impl<K: Drop, V: Drop> Node<K, V> {
         right: Box<Node<K, V>>,
         count: &mut Count,
     ) -> ((K, V), Box<Node<K, V>>)
-        requires full { length (own_pairs self.old) ≡ 11 }
-        requires in_bounds { index ≤ 11 }
+        requires full { length (own_pairs self.old) ≡ capacity }
+        requires in_bounds { index ≤ capacity }
         requires leaf { IsLeaf self.old }
         requires blank { IsBlankLeaf right.value }
         ensures pairs { own_pairs self.new ++ result.0 ∷ own_pairs result.1.value ≡ insert (own_pairs self.old) index pair }
         ensures left { length (own_pairs self.new) ≡ left_length index }
-        ensures right { length (own_pairs result.1.value) ≡ 11 - left_length index }
+        ensures right { length (own_pairs result.1.value) ≡ capacity - left_length index }
         ensures leaves { IsLeaf self.new × IsLeaf result.1.value }
         ensures all_pairs { pairs_of self.new ++ result.0 ∷ pairs_of result.1.value ≡ insert (pairs_of self.old) index pair }
         ensures moves { count.new.moves ≡ count.old.moves + split_moves index }
@@ -101,14 +102,14 @@ impl<K: Drop, V: Drop> Node<K, V> {
         right: Box<Node<K, V>>,
         count: &mut Count,
     ) -> ((K, V), Box<Node<K, V>>)
-        requires full { length (own_pairs self.old) ≡ 11 }
-        requires in_bounds { index ≤ 11 }
+        requires full { length (own_pairs self.old) ≡ capacity }
+        requires in_bounds { index ≤ capacity }
         requires inner { IsInner self.old }
         requires blank { IsBlankInner right.value }
         ensures pairs { own_pairs self.new ++ result.0 ∷ own_pairs result.1.value ≡ insert (own_pairs self.old) index pair }
         ensures children { children_of self.new ++ children_of result.1.value ≡ insert (children_of self.old) (index + 1) child.value }
         ensures left { length (own_pairs self.new) ≡ left_length index }
-        ensures right { length (own_pairs result.1.value) ≡ 11 - left_length index }
+        ensures right { length (own_pairs result.1.value) ≡ capacity - left_length index }
         ensures inner { IsInner self.new × IsInner result.1.value }
         ensures all_pairs { pairs_of self.new ++ result.0 ∷ pairs_of result.1.value ≡ before (index ∷ []) self.old ++ (pairs_of (child_at self.old index) ++ pair ∷ (pairs_of child.value ++ after (index ∷ []) self.old)) }
         ensures moves { count.new.moves ≡ count.old.moves + split_moves index }
@@ -141,13 +142,13 @@ fn split_children<T: Drop>(
     child: T,
     keep: usize,
 )
-    requires full { length left.old ≡ 12 }
+    requires full { length left.old ≡ most_children }
     requires blank { right.old ≡ [] }
-    requires in_bounds { index ≤ 12 }
-    requires keep { (1 ≤ keep) × (keep ≤ 12) }
+    requires in_bounds { index ≤ most_children }
+    requires keep { (1 ≤ keep) × (keep ≤ most_children) }
     ensures items { left.new ++ right.new ≡ insert left.old index child }
     ensures left { length left.new ≡ keep }
-    ensures right { length right.new + keep ≡ 13 }
+    ensures right { length right.new + keep ≡ most_children + 1 }
 {
     if index < keep {
         left.move_tail(keep - 1, right);
@@ -166,12 +167,12 @@ fn split_pairs<T: Drop>(
     item: T,
     count: &mut Count,
 ) -> T
-    requires full { length left.old ≡ 11 }
+    requires full { length left.old ≡ capacity }
     requires blank { right.old ≡ [] }
-    requires in_bounds { index ≤ 11 }
+    requires in_bounds { index ≤ capacity }
     ensures items { left.new ++ result ∷ right.new ≡ insert left.old index item }
     ensures left { length left.new ≡ left_length index }
-    ensures right { length right.new ≡ 11 - left_length index }
+    ensures right { length right.new ≡ capacity - left_length index }
     ensures moves { count.new.moves ≡ count.old.moves + split_moves index }
     ensures comparisons { count.new.comparisons ≡ count.old.comparisons }
 {
@@ -188,7 +189,7 @@ fn split_pairs<T: Drop>(
 
 // The middle for a new pair at `index`: both halves then hold 5 or 6.
 fn middle_for(index: usize) -> usize
-    requires { index ≤ 11 }
+    requires { index ≤ capacity }
     ensures { result ≡ middle_place index }
 {
     if index < 5 {
