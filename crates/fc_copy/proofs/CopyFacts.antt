@@ -64,8 +64,8 @@ module _ {K V : Type 0} (same : K × V → K × V → Type 0) where
   lower h (c ∷ cs) [] a l = absurd a
   lower h (c ∷ cs) (d ∷ ds) a l =
       let many = length_all_zip same (own_pairs c) (own_pairs d) a.0.own in
-      let five = l.0.0 in
-      ((omega (arith, many, five), a.0.levels h l.0.1), lower h cs ds a.1 l.1)
+      let least = l.0.0 in
+      ((omega (arith, many, least), a.0.levels h l.0.1), lower h cs ds a.1 l.1)
 
   module _ (i : ℕ) (n m : Node K V) (copied : IsCopyUpTo same i n m) where
     -- A node with a child is no leaf, and nor is the copy.

@@ -89,8 +89,8 @@ type FourBelow<D> = Below<Below<Below<Below<D>>>>;
 
 type TwelveBelow<D> = FourBelow<FourBelow<FourBelow<D>>>;
 
-// As many steps as a path may have. A type for each level stands for a recursion, of which a value can't be lent without a proof
-// by hand.
+// As many steps as a path may have, which no constant can tell a type: one too few is refused. A type for each level stands for
+// a recursion, of which a value can't be lent without a proof by hand.
 type Down = TwelveBelow<TwelveBelow<Here>>;
 
 /// The value of the pair at the end of the path, lent for writing: the tree ends with what is written in its place.

@@ -64,7 +64,7 @@ returns-in-None-below-clause-levels g t c =
     let m = child_set c.args.node.now c.in-Some.children _ (with_value c.get_mut.result.now c.insert_below-below.new.node) c.in-Some.is in
     let b = child_below _ c.args.node.now _ s.levels s.le in
     let q = ap (λ x. length (own_pairs x)) ci in
-    let five = b.0 in
+    let least = b.0 in
     let z = c.in-None-below.ensures.size in
     rw s.height (levelled_stay _ c.args.node.now _ c.insert_below-below.new.node _ s.levels m (omega arith, c.in-None-below.ensures.levels.0), tt)
 

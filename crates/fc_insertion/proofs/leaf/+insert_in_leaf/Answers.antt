@@ -56,7 +56,7 @@ returns-clause-levels g t c =
     let m = child_set c.args.node.now c.in-Some.children _ (with_value c.get_mut.result.now c.insert_in_leaf.new.node) c.in-Some.is in
     let b = child_below _ c.args.node.now _ s.levels s.le in
     let q = ap (λ x. length (own_pairs x)) ci in
-    let five = b.0 in
+    let least = b.0 in
     let z = c.insert_in_leaf.ensures.size in
     rw s.height (levelled_stay _ c.args.node.now _ c.insert_in_leaf.new.node _ s.levels m (omega arith, c.insert_in_leaf.ensures.levels))
 

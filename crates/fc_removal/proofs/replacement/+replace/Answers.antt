@@ -31,7 +31,7 @@ returns-clause-levels g t c h l =
     let m = child_set n _ i (with_value c.get_mut.result.now c.replace.new.node) c.in-Some.is in
     let b = child_below a.below n i a.levels (omega arith) in
     let q = ap (λ x. length (own_pairs x)) ci in
-    let five = b.0 in
+    let least = b.0 in
     let z = c.replace.ensures.size in
     let r = c.replace.ensures.levels a.below (rw ci b.1) in
     rw a.height (below_levels a.below n _ c.replace.new.node i a.levels m (omega arith, r))
