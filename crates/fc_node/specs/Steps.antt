@@ -1,5 +1,5 @@
 -- How a path keeps its steps.
-use Rattle.std.specs.Prelude.{◌≡◌, ℕ, List, [], ◌∷◌, ◌++◌, length, take, drop, replicate, ◌≤◌}
+use Rattle.std.specs.Prelude.{◌≡◌, ℕ, List, ◌++◌, length, take, drop, replicate, ◌≤◌}
 use Rattle.std.proofs.Common.{ap, ◌∙◌}
 use Rattle.fc_base.specs.Sizes.{most_levels}
 use Rattle.fc_node.specs.declared.path.Path.TheInside.{Inside}

@@ -9,7 +9,6 @@ use denote.RattleType.{RattleType}
 use denote.Memory.{lone, part_at, shared_of}
 use denote.Sharing.{nothing, said, beside}
 use denote.RawPtr.{Ptr, block_ptr, null_ptr}
-use Rattle.std.specs.declared.alloc.Global.{Global}
 use Rattle.std.specs.contracts.impls.GlobalAllocator.TheImpl.{ghosts}
 
 -- the allocator's token: the right to free the block at a pointer, which is for a value of a type
