@@ -1,5 +1,5 @@
 -- How many digits a number has, where the base is the most children of a node.
-use Rattle.std.proofs.Common.{◌≡◌, ℕ, zero, suc, ◌+◌, ◌*◌, ◌/◌, ◌^◌, ◌<◌, ◌≤◌, refl, sym, ap, subst, arith, add-one, ◌⊎◌, inl, inr, lit<}
+use Rattle.std.proofs.Common.{◌≡◌, ℕ, zero, suc, ◌+◌, ◌*◌, ◌/◌, ◌^◌, ◌<◌, ◌≤◌, refl, sym, ap, subst, arith, add-one, ◌⊎◌, inl, inr, lit<, pow-suc}
 use Rattle.std.proofs.lemmas.Bool.{cases_lt}
 use Rattle.std.proofs.Math.Nat.{pow-le-pow_right}
 use Rattle.fc_base.specs.Sizes.{most_children, most_height}
@@ -14,7 +14,7 @@ few_digits (suc n) r l f e = within (cases_lt most_height r)
     within (inr le) = le
     within (inl more) =
         let big : most_children ^ suc most_height ≤ most_children ^ r = pow-le-pow_right (lit< tt) more in
-        let last : most_children ^ suc most_height ≡ most_children * most_children ^ most_height = refl in
+        let last = pow-suc most_children most_height in
         let enough = digits_enough in
         let small = f (omega arith) in
         absurd (omega arith)
@@ -28,5 +28,5 @@ digits_least n r h f e = go (n / most_children) refl
     go (suc m) q =
         let w = f (omega arith) in
         let p : most_children ^ (r + 1) ≡ most_children ^ suc r = ap (λ k. most_children ^ k) (add-one r) in
-        let last : most_children ^ suc r ≡ most_children * most_children ^ r = refl in
+        let last = pow-suc most_children r in
         omega arith

@@ -1,5 +1,5 @@
 -- A spine with a node at its end.
-use Rattle.std.proofs.Common.{◌≡◌, ℕ, zero, suc, ◌+◌, ◌-◌, ◌*◌, ◌^◌, ◌<◌, ◌≤◌, List, [], ◌∷◌, ◌++◌, length, refl, sym, ap, ◌∙◌, subst, arith, Box, append_assoc, length-append}
+use Rattle.std.proofs.Common.{◌≡◌, ℕ, zero, suc, ◌+◌, ◌-◌, ◌*◌, ◌^◌, ◌<◌, ◌≤◌, List, [], ◌∷◌, ◌++◌, length, refl, sym, ap, ◌∙◌, subst, arith, Box, append_assoc, length-append, pow-suc}
 use Rattle.std.specs.declared.alloc.Global.{Global}
 use Rattle.std.specs.List.{AllByRecursion}
 use Rattle.fc_base.specs.Sizes.{capacity, most_children}
@@ -156,7 +156,7 @@ module _ {K V : Type 0} where
       let y = e.1 in
       let z : worth s + 1 < most_children ^ suc d = e.2 in
       let v = e.3 in
-      let more : most_children ^ suc d ≡ most_children * most_children ^ d = refl in
+      let more = pow-suc most_children d in
       let fewer : worth t + 1 < most_children ^ d = omega arith in
       record { less = d; deep = refl; enough = (omega arith, omega arith, fewer, omega arith); spare = omega arith }
 
