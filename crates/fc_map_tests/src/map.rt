@@ -107,8 +107,8 @@ pub(crate) fn has_memory(alloc: Global) -> bool {
     Vec::<u8>::with_capacity(alloc, 1).is_ok()
 }
 
-// Whether a map whose leaf has room for one number takes it and an old one, and refuses one more; and one of 88, whose first leaf has room,
-// takes a lower one.
+// Whether a map whose leaf has room for one number takes it and an old one, and refuses one more; and one of 88, whose first leaf
+// has room, takes a lower one.
 fn only_a_full_leaf_refuses(small: &mut Numbers, large: &mut Numbers) -> bool {
     matches!(insert(small, CAPACITY as u64, CAPACITY as u64), Ok(None))
         && matches!(insert(small, 5, 5), Ok(Some(5)))

@@ -4,7 +4,7 @@
 pub(crate) const CAPACITY: usize = 11;
 
 /// The number behind those that fill a leaf, where they begin with one.
-pub(crate) const BEYOND: u64 = 12;
+pub(crate) const BEYOND: u64 = CAPACITY as u64 + 1;
 
 /// The fewest children of an inner node below the root.
 pub(crate) const LEAST_CHILDREN: u64 = 6;

@@ -41,8 +41,8 @@ fn of_two_leaves(
     Ok(without(rt, root, 1, path, key).ok_or("no root")?)
 }
 
-// What a removal leaves of a root of 36 over two inner nodes with as few keys as can be, of the keys from 1 to 71: worked out for nodes
-// of at least five.
+// What a removal leaves of a root of 36 over two inner nodes with as few keys as can be, of the keys from 1 to 71: worked out for
+// nodes of at least five.
 fn of_twelve_leaves(
     rt: &impl Abort,
     alloc: Global,
