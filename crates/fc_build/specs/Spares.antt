@@ -12,7 +12,7 @@ abbrev pub leaves_for : ℕ → ℕ
 leaves_for zero = 0
 leaves_for (suc n) = suc n / most_children + 1
 
--- So many inner nodes are enough for n pairs: for as many pairs between two leaves as a node holds there is one, and one for each level.
+-- So many inner nodes are enough for n pairs: one for as many pairs between two leaves as a node holds, and one for each level.
 abbrev pub AreInnerFor : ℕ → ℕ → Type 0
 AreInnerFor n inner = (levels : ℕ) × (levels ≤ most_height) × (n / most_children < most_children ^ levels) × (inner ≡ n / most_children / capacity + levels)
 

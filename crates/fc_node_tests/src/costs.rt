@@ -70,8 +70,8 @@ pub fn move_last_three_before_four<T: Drop>(
     count
 }
 
-/// The split of a full node makes 12, 7, 12, 10 or 6 moves where the new pair goes in front of all pairs, in front of the middle one,
-/// behind it, one further on, or behind all.
+/// The split of a full node makes 12, 7, 12, 10 or 6 moves where the new pair goes in front of all pairs, in front of the middle
+/// one, behind it, one further on, or behind all.
 pub fn split_full<K: Drop, V: Drop>(
     node: &mut Node<K, V>,
     index: usize,
@@ -121,8 +121,8 @@ pub fn steal_right_of_full<K: Drop, V: Drop>(node: &mut Node<K, V>, index: usize
     count
 }
 
-/// A merge makes at most the moves of a level where the parent is full, the child that takes it is one pair short and its sibling has
-/// at most one more than the fewest.
+/// A merge makes at most the moves of a level where the parent is full, the child that takes it is one pair short and its sibling
+/// has at most one more than the fewest.
 pub fn merge_short_and_spare<K: Drop, V: Drop>(node: &mut Node<K, V>, index: usize) -> Count
     requires in_bounds { index < length (own_pairs node.old) }
     requires fits { length (own_pairs node.old) ≤ capacity }

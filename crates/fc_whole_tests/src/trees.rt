@@ -1,5 +1,5 @@
-//! Trees of keys that follow one another, built and split: each has neither too few pairs nor too many in every node but the root, with all
-//! leaves at one depth.
+//! Trees of keys that follow one another, built and split: each has neither too few pairs nor too many in every node but the root,
+//! and all leaves at one depth.
 ghost use Rattle.std.specs.Prelude.{IfOk};
 ghost use Rattle.std.specs.Bool.{OnTrue};
 ghost use Rattle.fc_node.specs.Place.{IsPlace};
