@@ -3,6 +3,7 @@ use Rattle.std.proofs.Common.{◌≡◌, ℕ, suc, ◌+◌, ◌<◌, ◌≤◌, 
 use Rattle.std.specs.Prelude.{slice_set}
 use Rattle.std.specs.declared.alloc.Global.{Global}
 use Rattle.std.specs.List.{remove}
+use Rattle.fc_base.specs.Sizes.{capacity, min_len}
 use Rattle.fc_node.specs.declared.node.Node.{Node}
 use Rattle.fc_node.specs.Node.{own_pairs, children_of, child_at, pairs_of, IsInner, IsLevelled}
 use Rattle.fc_node.specs.Siblings.{AreAlike, IsMerged}
@@ -22,10 +23,10 @@ module _ {K V : Type 0} where
     pub second : IsLevelled h right.value
 
   module _ (h : ℕ) (root left : Node K V) (up : K × V) (right : Box (Node K V) Global) (r : IsCrowned h root left up right) where
-    pub crowned_right : 5 ≤ length (own_pairs left) → IsBordered Right (suc h) root
+    pub crowned_right : min_len ≤ length (own_pairs left) → IsBordered Right (suc h) root
     crowned_right m = root_bordered Right h root left up right r.own r.children ((m, r.first), levelled_bordered Right h right.value r.second)
 
-    pub crowned_left : 5 ≤ length (own_pairs right.value) → IsBordered Left (suc h) root
+    pub crowned_left : min_len ≤ length (own_pairs right.value) → IsBordered Left (suc h) root
     crowned_left m = root_bordered Left h root left up right r.own r.children (levelled_bordered Left h left r.first, (m, r.second))
 
     pub crowned_inner : IsInner root
@@ -40,11 +41,11 @@ module _ {K V : Type 0} where
     pub crowned_alike : AreAlike (child_at root 0) (child_at root 1)
     crowned_alike = rw (first_is, second_is) (sides_alike Right h left right.value r.first (levelled_bordered Right h right.value r.second))
 
-    pub crowned_room : length (own_pairs left) + length (own_pairs right.value) < 11 → length (own_pairs (child_at root 0)) + length (own_pairs (child_at root 1)) + 1 ≤ 11
+    pub crowned_room : length (own_pairs left) + length (own_pairs right.value) < capacity → length (own_pairs (child_at root 0)) + length (own_pairs (child_at root 1)) + 1 ≤ capacity
     crowned_room m = rw (first_is, second_is) (omega arith)
 
     -- where the two become one node
-    pub merged_right : (new : Node K V) → length (own_pairs left) + length (own_pairs right.value) < 11 → IsMerged 0 root new → IsBordered Right (suc h) new
+    pub merged_right : (new : Node K V) → length (own_pairs left) + length (own_pairs right.value) < capacity → IsMerged 0 root new → IsBordered Right (suc h) new
     merged_right new m g =
         let none : length (own_pairs new) ≡ 0 = ap length g.pairs ∙ ap (λ ps. length (remove ps 0)) r.own in
         let one : children_of new ≡ g.whole ∷ [] = g.children ∙ ap (λ cs. slice_set (remove cs 1) 0 g.whole) r.children in

@@ -1,6 +1,7 @@
 -- The first pair of a stack of nodes that are taken apart.
 use Rattle.std.proofs.Common.{◌≡◌, ℕ, zero, suc, ◌+◌, ◌<◌, List, [], ◌∷◌, ◌++◌, length, get_or, refl, sym, ap, ◌∙◌, arith, Box, map}
 use Rattle.std.specs.declared.alloc.Global.{Global}
+use Rattle.fc_base.specs.Sizes.{most_levels}
 use Rattle.fc_node.specs.declared.node.Node.{Node}
 use Rattle.fc_node.specs.Node.{own_pairs, children_of, pairs_of}
 use Rattle.fc_node.specs.Weave.{behind}
@@ -27,11 +28,11 @@ module _ {K V : Type 0} where
   behind_head p ps (c ∷ cs) = (c ++ behind ps cs, refl)
 
   -- the node at the stack's last place has a pair
-  pub top_has : (s : List (Box (Node K V) Global)) (n : ℕ) (b : Box (Node K V) Global) → IsFalling 0 25 s → length s ≡ n + 1 → b ≡ get_or s n b → 0 < length (own_pairs b.value)
+  pub top_has : (s : List (Box (Node K V) Global)) (n : ℕ) (b : Box (Node K V) Global) → IsFalling 0 most_levels s → length s ≡ n + 1 → b ≡ get_or s n b → 0 < length (own_pairs b.value)
   top_has s n b f l e = let t = last_split s n b l e in top_some s t.0 b f t.1
 
   -- and that pair stands first of all
-  pub top_first : (s : List (Box (Node K V) Global)) (n : ℕ) (b : Box (Node K V) Global) (p : K × V) → IsFalling 0 25 s → length s ≡ n + 1 → b ≡ get_or s n b → p ≡ get_or (own_pairs b.value) 0 p → (rest : List (K × V)) × (front_of s ≡ p ∷ rest)
+  pub top_first : (s : List (Box (Node K V) Global)) (n : ℕ) (b : Box (Node K V) Global) (p : K × V) → IsFalling 0 most_levels s → length s ≡ n + 1 → b ≡ get_or s n b → p ≡ get_or (own_pairs b.value) 0 p → (rest : List (K × V)) × (front_of s ≡ p ∷ rest)
   top_first s n b p f l e q =
       let t = last_split s n b l e in
       let i = first_split (own_pairs b.value) p (top_some s t.0 b f t.1) q in

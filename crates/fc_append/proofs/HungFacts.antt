@@ -2,6 +2,7 @@
 use Rattle.std.proofs.Common.{◌≡◌, ℕ, suc, ◌+◌, ◌<◌, ◌≤◌, List, [], ◌∷◌, ◌++◌, length, take, drop, refl, sym, ap, subst, ◌∙◌, arith, append_assoc, append-nil, Box, Some, None, IfSome, MatchOption}
 use Rattle.std.specs.declared.alloc.Global.{Global}
 use Rattle.std.specs.List.{AllByRecursion, insert}
+use Rattle.fc_base.specs.Sizes.{capacity}
 use Rattle.fc_node.specs.declared.node.Node.{Node}
 use Rattle.fc_node.specs.Node.{own_pairs, children_of, child_at, pairs_of, IsInner, IsLevelled, IsSound}
 use Rattle.fc_node.specs.Bordered.{FirstThen, LastAfter, IsLeftBordered, IsRightBordered}
@@ -77,7 +78,7 @@ module _ {K V : Type 0} where
   AreBordered Left g = FirstThen (IsLeftBordered g) (IsSound g)
   AreBordered Right g = LastAfter (IsRightBordered g) (IsSound g)
 
-  bordered_of : (s : Side) (g : ℕ) (n : Node K V) → length (own_pairs n) ≤ 11 → IsInner n → AreBordered s g (children_of n) → IsBordered s (suc g) n
+  bordered_of : (s : Side) (g : ℕ) (n : Node K V) → length (own_pairs n) ≤ capacity → IsInner n → AreBordered s g (children_of n) → IsBordered s (suc g) n
   bordered_of Left g n le i a = (le, i, a)
   bordered_of Right g n le i a = (le, i, a)
 
@@ -90,7 +91,7 @@ module _ {K V : Type 0} where
   some_child n i = let e : length (children_of n) ≡ length (own_pairs n) + 1 = i in omega arith
 
   -- such children in a node, or in the two that it was halved into
-  hung_of : (s : Side) (g : ℕ) (new : Node K V) (t : Split K V) → AreBordered s g (children_after new t) → IsInner new → IfSome t (λ x. IsInner x.1.value) → MatchOption t (length (own_pairs new) ≤ 11) (λ x. IsHalved new × IsHalved x.1.value) → IsHung s (suc g) new t
+  hung_of : (s : Side) (g : ℕ) (new : Node K V) (t : Split K V) → AreBordered s g (children_after new t) → IsInner new → IfSome t (λ x. IsInner x.1.value) → MatchOption t (length (own_pairs new) ≤ capacity) (λ x. IsHalved new × IsHalved x.1.value) → IsHung s (suc g) new t
   hung_of s g new None a i j m = bordered_of s g new m i a
   hung_of Left g new (Some (up, r)) a i j m =
       let t = first_split (IsLeftBordered g) (IsSound g) (children_of new) (children_of r.value) (some_child new i) a in
@@ -133,7 +134,7 @@ module _ {K V : Type 0} where
     around_outer Right e = let q : i ≡ length (own_pairs old) = e in let n : length (children_of old) ≡ length (own_pairs old) + 1 = on.levels.1 in drop_all (children_of old) (suc i) (omega arith)
 
     pub put_levels : (new : Node K V) (r : Box (Node K V) Global) (t : Split K V) (up : K × V) → IsHung s g c (Some (up, r)) → children_after new t ≡ insert (children_of mid) (i + 1) r.value → IsInner new → IfSome t (λ x. IsInner x.1.value)
-        → MatchOption t (length (own_pairs new) ≤ 11) (λ x. IsHalved new × IsHalved x.1.value) → IsHung s (suc g) new t
+        → MatchOption t (length (own_pairs new) ≤ capacity) (λ x. IsHalved new × IsHalved x.1.value) → IsHung s (suc g) new t
     put_levels new r t up u f h k size =
         let cs = children_of old in
         let is = f ∙ ap (λ zs. insert zs (i + 1) r.value) m.child ∙ set_put cs i c r.value on.there in

@@ -41,3 +41,7 @@ moves_of_merge = refl
 -- A pair's place fits a byte.
 pub places_small : most_children < 256
 places_small = lit< tt
+
+-- A number of pairs has no more digits, where the base is the most children of a node, than there are levels above the leaves.
+pub digits_enough : 2 ^ 64 < most_children ^ most_height
+digits_enough = lit< tt

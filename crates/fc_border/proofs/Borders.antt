@@ -1,6 +1,7 @@
 -- Children of which the one on the border may be short, taken apart and put together.
 use Rattle.std.proofs.Common.{◌≡◌, ℕ, zero, suc, ◌+◌, ◌<◌, ◌≤◌, List, [], ◌∷◌, ◌++◌, length, get_or, take, drop, refl, sym, ap, subst, ◌∙◌, arith, length-append, inl, inr}
 use Rattle.std.specs.List.{AllByRecursion}
+use Rattle.fc_base.specs.Sizes.{capacity}
 use Rattle.fc_node.specs.declared.node.Node.{Node}
 use Rattle.fc_node.specs.Node.{own_pairs, children_of, child_at, IsLeaf, IsInner, IsLevelled, IsSound}
 use Rattle.fc_node.specs.Bordered.{FirstThen, LastAfter, IsLeftBordered, IsRightBordered}
@@ -91,7 +92,7 @@ module _ {K V : Type 0} where
   sides_alike Right (suc h) l r a b = inr (a.1, b.1)
 
   -- two neighbours made one
-  pub side_whole : (s : Side) (h : ℕ) (l r w : Node K V) → LeftOf s h l → RightOf s h r → children_of w ≡ children_of l ++ children_of r → AreAlike l w → length (own_pairs w) ≤ 11 → IsBordered s h w
+  pub side_whole : (s : Side) (h : ℕ) (l r w : Node K V) → LeftOf s h l → RightOf s h r → children_of w ≡ children_of l ++ children_of r → AreAlike l w → length (own_pairs w) ≤ capacity → IsBordered s h w
   side_whole Left zero l r w a b e x le = (le, leaf_alike l w a.1 x)
   side_whole Right zero l r w a b e x le = (le, leaf_alike l w a.1 x)
   side_whole Left (suc h) l r w a b e x le =
@@ -101,7 +102,7 @@ module _ {K V : Type 0} where
 
   -- two neighbours of which one took from the other
   pub side_both : (s : Side) (h : ℕ) (l r l' r' : Node K V) → LeftOf s h l → RightOf s h r → children_of l' ++ children_of r' ≡ children_of l ++ children_of r → AreAlike l l' → AreAlike l' r'
-      → length (own_pairs l') ≤ 11 → length (own_pairs r') ≤ 11 → LeftOf s h l' × RightOf s h r'
+      → length (own_pairs l') ≤ capacity → length (own_pairs r') ≤ capacity → LeftOf s h l' × RightOf s h r'
   side_both Left zero l r l' r' a b e x y m n = let i = leaf_alike l l' a.1 x in ((m, i), (n, leaf_alike l' r' i y))
   side_both Right zero l r l' r' a b e x y m n = let i = leaf_alike l l' a.1 x in ((m, i), (n, leaf_alike l' r' i y))
   side_both Left (suc h) l r l' r' a b e x y m n =
@@ -118,7 +119,7 @@ module _ {K V : Type 0} where
 
   -- a node above the leaves, with the child on its border among sound ones
   pub record IsOpened (s : Side) (h : ℕ) (n : Node K V) : Type 0 where
-    pub fits : length (own_pairs n) ≤ 11
+    pub fits : length (own_pairs n) ≤ capacity
     pub inner : IsInner n
     pub there : border_place s n < length (children_of n)
     pub ahead : AllByRecursion (IsSound h) (take (border_place s n) (children_of n))
@@ -147,7 +148,7 @@ module _ {K V : Type 0} where
       record { fits = b.0; inner = b.1; there = omega arith; ahead = p.0; child = p.1; behind = p.2 }
 
   -- a node whose child on the border stands among sound ones
-  pub border_closed : (s : Side) (h : ℕ) (n c : Node K V) (A D : List (Node K V)) → length (own_pairs n) ≤ 11 → IsInner n → children_of n ≡ A ++ c ∷ D → length A ≡ border_place s n
+  pub border_closed : (s : Side) (h : ℕ) (n c : Node K V) (A D : List (Node K V)) → length (own_pairs n) ≤ capacity → IsInner n → children_of n ≡ A ++ c ∷ D → length A ≡ border_place s n
       → AllByRecursion (IsSound h) A → IsBordered s h c → AllByRecursion (IsSound h) D → IsBordered s (suc h) n
   border_closed Left h n c A D le i e k a b d =
       (le, i, subst (FirstThen (IsLeftBordered h) (IsSound h)) (sym (e ∙ ap (λ zs. zs ++ c ∷ D) (none A k))) (b, d))

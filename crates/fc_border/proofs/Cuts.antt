@@ -4,6 +4,7 @@ use Rattle.std.specs.Prelude.{slice_set, slice_range}
 use Rattle.std.specs.List.{AllByRecursion}
 use Rattle.std.specs.declared.alloc.Global.{Global}
 use Rattle.std.proofs.lemmas.List.{length-drop}
+use Rattle.fc_base.specs.Sizes.{most_height}
 use Rattle.fc_node.specs.Weave.{weave, ahead}
 use Rattle.fc_node.specs.declared.node.Node.{Node, out-Node}
 use Rattle.fc_node.specs.Node.{own_pairs, children_of, child_at, pairs_of, IsLeaf, IsInner, IsLevelled, IsSound, IsSoundRoot, IsBlankLeaf}
@@ -272,7 +273,7 @@ module _ {K V : Type 0} where
         let k = ap length is in
         subst (λ k. IsLeftBordered k new) (sym f.height) (border_closed Left g new c [] (drop (suc step) (children_of n)) (omega arith) (omega arith) is refl tt b (all_drop (IsSound g) (suc step) (children_of n) f.levels.2))
 
-  pub within_sound : (h : ℕ) (m : Map K V) → h ≤ 24 → IsSoundWithin h m → IsSoundMap m
+  pub within_sound : (h : ℕ) (m : Map K V) → h ≤ most_height → IsSoundWithin h m → IsSoundMap m
   within_sound h None le w = tt
   within_sound h (Some n) le w = let k = w.1 in (w.0, omega arith, w.2)
 
@@ -306,5 +307,5 @@ module _ {K V : Type 0} where
       record { below = h; levels = b; lower = omega arith; there = omega arith }
 
   -- the root of a map
-  pub root_sound : (root : Option (Box (Node K V) Global)) (b : Box (Node K V) Global) → root ≡ Some b → IsSoundMap (root_of root) → (h : ℕ) × (h ≤ 24) × IsSoundRoot h b.value
+  pub root_sound : (root : Option (Box (Node K V) Global)) (b : Box (Node K V) Global) → root ≡ Some b → IsSoundMap (root_of root) → (h : ℕ) × (h ≤ most_height) × IsSoundRoot h b.value
   root_sound root b e s = subst (λ o. IsSoundMap (root_of o)) e s

@@ -2,6 +2,7 @@
 use Rattle.std.proofs.Common.{◌≡◌, ℕ, zero, suc, ◌+◌, ◌<◌, ◌≤◌, List, [], ◌∷◌, ◌++◌, length, get_or, take, drop, map, refl, sym, ap, subst, ◌∙◌, arith, append-nil, Box, Option, Some, None, MatchOption, inl, inr}
 use Rattle.std.specs.declared.alloc.Global.{Global}
 use Rattle.std.specs.List.{AllByRecursion}
+use Rattle.fc_base.specs.Sizes.{min_len}
 use Rattle.fc_node.specs.Weave.{weave}
 use Rattle.fc_node.specs.declared.node.Node.{Node, out-Node}
 use Rattle.fc_node.specs.Node.{items_or_none, own_pairs, children_of, child_at, boxed, pairs_of, IsLeaf, IsInner, IsLevelled, IsSound}
@@ -39,7 +40,7 @@ module _ {K V : Type 0} where
     pub place : i ≡ border_place s mid
     pub is : child ≡ child_at mid i
     pub bordered : IsBordered s h child
-    pub many : 6 ≤ length (own_pairs child)
+    pub many : min_len + 1 ≤ length (own_pairs child)
 
   pub lent_bounds : (s : Side) (h : ℕ) (old mid : Node K V) (bs : List (Box (Node K V) Global)) (i : ℕ) → (out-Node K V mid).children ≡ Some bs → IsStocked s h old mid → i ≡ border_place s mid → i < length bs
   lent_bounds s h old mid bs i e st p =
@@ -57,7 +58,7 @@ module _ {K V : Type 0} where
       let same : bs ≡ items_or_none (out-Node K V mid).children = ap items_or_none (sym e) in
       let is = child_is mid i b child (subst (λ xs. i < length xs) same k) (subst (λ xs. b ≡ get_or xs i b) same q) f in
       let there = is ∙ ap (child_at mid) p in
-      record { opened = o; bounds = k; place = p; is = is; bordered = subst (IsBordered s h) (sym there) o.child; many = subst (λ n. 6 ≤ length (own_pairs n)) (sym there) st.1 }
+      record { opened = o; bounds = k; place = p; is = is; bordered = subst (IsBordered s h) (sym there) o.child; many = subst (λ n. min_len + 1 ≤ length (own_pairs n)) (sym there) st.1 }
 
   pub mended_pairs : (mid new child c : Node K V) (i : ℕ) → IsInner mid → i < length (children_of mid) → IsChildSet mid new i c → child ≡ child_at mid i → pairs_of c ≡ pairs_of child → pairs_of new ≡ pairs_of mid
   mended_pairs mid new child c i inner lt m ci e =
@@ -122,7 +123,7 @@ module _ {K V : Type 0} where
   heir_levels (Some c) zero root e l = absurd (let z : length (children_of root) ≡ 0 = ap length (leaf_children root l.1) in let o : length (children_of root) ≡ 1 = ap length e in omega arith)
   heir_levels (Some c) (suc h) root e l =
       let a = (subst (AllByRecursion (IsSound h)) e l.2).0 in
-      let five = a.0 in
+      let many = a.0 in
       (h, omega arith, (omega arith, a.1))
 
   pub within_more : (g h : ℕ) (m : Map K V) → g ≤ h → IsSoundWithin g m → IsSoundWithin h m

@@ -2,6 +2,7 @@
 use Rattle.std.proofs.Common.{◌≡◌, ℕ, suc, ◌+◌, ◌-◌, ◌<◌, ◌≤◌, List, [], ◌∷◌, ◌++◌, length, get_or, take, drop, sym, ap, subst, ◌∙◌, arith, length-append, append_assoc}
 use Rattle.std.specs.List.{AllByRecursion}
 use Rattle.std.proofs.lemmas.List.Edits.{length-remove}
+use Rattle.fc_base.specs.Sizes.{capacity, min_len}
 use Rattle.fc_node.specs.declared.node.Node.{Node}
 use Rattle.fc_node.specs.Node.{own_pairs, children_of, child_at, IsInner, IsSound}
 use Rattle.fc_node.specs.Bordered.{FirstThen, LastAfter, IsLeftBordered, IsRightBordered}
@@ -14,12 +15,12 @@ use Rattle.fc_border.proofs.Borders.{LeftOf, RightOf, sides_alike, side_whole, s
 use Rattle.fc_border.specs.declared.mending.Side.{Side}
 use Rattle.fc_border.specs.declared.mending.Side.TheVariants.{Left, Right}
 
--- how many pairs the left one of the two has once the border has its 6
+-- how many pairs the left one of the two has once the border has one more than the fewest
 abbrev pub left_share : Side → ℕ → ℕ
-left_share Left both = 6
-left_share Right both = both - 6
+left_share Left both = min_len + 1
+left_share Right both = both - (min_len + 1)
 
-share_fits : (s : Side) (n : ℕ) → 11 ≤ n → n ≤ 17 → (left_share s n ≤ 11) × (n ≤ left_share s n + 11)
+share_fits : (s : Side) (n : ℕ) → capacity ≤ n → n ≤ capacity + (min_len + 1) → (left_share s n ≤ capacity) × (n ≤ left_share s n + capacity)
 share_fits Left n lo hi = (omega arith, omega arith)
 share_fits Right n lo hi = (omega arith, omega arith)
 
@@ -34,13 +35,13 @@ module _ {K V : Type 0} where
   -- the border and its sibling, among sound nodes
   pub record IsPairAt (s : Side) (h : ℕ) (n : Node K V) (j : ℕ) : Type 0 where
     pub in_bounds : j < length (own_pairs n)
-    pub fits : length (own_pairs n) ≤ 11
+    pub fits : length (own_pairs n) ≤ capacity
     pub inner : IsInner n
     pub ahead : AllByRecursion (IsSound h) (take j (children_of n))
     pub left : LeftOf s h (child_at n j)
     pub right : RightOf s h (child_at n (j + 1))
     pub behind : AllByRecursion (IsSound h) (drop (suc (suc j)) (children_of n))
-    pub many : 5 ≤ both_of n j
+    pub many : min_len ≤ both_of n j
 
   pub pair_opened : (s : Side) (h : ℕ) (n : Node K V) (j : ℕ) → 1 ≤ length (own_pairs n) → IsBordered s (suc h) n → j ≡ pair_place s n → IsPairAt s h n j
   pair_opened Left h n j some b e =
@@ -71,7 +72,7 @@ module _ {K V : Type 0} where
   merged_place Left old new j e some o = e
   merged_place Right old new j e some o = omega arith
 
-  pub merged_stocked : (s : Side) (h : ℕ) (old new : Node K V) (j : ℕ) → j ≡ pair_place s old → IsPairAt s h old j → both_of old j < 11 → IsMerged j old new → IsStocked s h old new
+  pub merged_stocked : (s : Side) (h : ℕ) (old new : Node K V) (j : ℕ) → j ≡ pair_place s old → IsPairAt s h old j → both_of old j < capacity → IsMerged j old new → IsStocked s h old new
   merged_stocked s h old new j e p room m =
       let lt = p.in_bounds in
       let many = p.many in
@@ -92,13 +93,13 @@ module _ {K V : Type 0} where
   -- the two after pairs went from one to the other
   record IsTraded (s : Side) (h : ℕ) (old new l r : Node K V) (j : ℕ) : Type 0 where
     pub own : length (own_pairs new) ≡ length (own_pairs old)
-    pub fits : length (own_pairs new) ≤ 11
+    pub fits : length (own_pairs new) ≤ capacity
     pub same : IsOneFewer old new
     pub there : children_of new ≡ take j (children_of old) ++ l ∷ r ∷ drop (suc (suc j)) (children_of old)
     pub sizes : length (own_pairs l) + length (own_pairs r) ≡ both_of old j
     pub sides : LeftOf s h l × RightOf s h r
 
-  traded : (s : Side) (h : ℕ) (old new : Node K V) (j : ℕ) → IsPairAt s h old j → 11 ≤ both_of old j → both_of old j ≤ 17 → (k : ℕ) → k ≡ left_share s (both_of old j) → (m : IsShared j k old new) → IsTraded s h old new m.left m.right j
+  traded : (s : Side) (h : ℕ) (old new : Node K V) (j : ℕ) → IsPairAt s h old j → capacity ≤ both_of old j → both_of old j ≤ capacity + (min_len + 1) → (k : ℕ) → k ≡ left_share s (both_of old j) → (m : IsShared j k old new) → IsTraded s h old new m.left m.right j
   traded s h old new j p lo hi n w m =
       let lt = p.in_bounds in
       let fits = p.fits in
@@ -117,7 +118,7 @@ module _ {K V : Type 0} where
         sides = side_both s h _ _ m.left m.right p.left p.right m.below m.alike_before m.alike (omega arith) (omega arith);
       }
 
-  pub shared_stocked : (s : Side) (h : ℕ) (old new : Node K V) (j : ℕ) → j ≡ pair_place s old → IsPairAt s h old j → 11 ≤ both_of old j → both_of old j ≤ 17 → (k : ℕ) → k ≡ left_share s (both_of old j) → IsShared j k old new → IsStocked s h old new
+  pub shared_stocked : (s : Side) (h : ℕ) (old new : Node K V) (j : ℕ) → j ≡ pair_place s old → IsPairAt s h old j → capacity ≤ both_of old j → both_of old j ≤ capacity + (min_len + 1) → (k : ℕ) → k ≡ left_share s (both_of old j) → IsShared j k old new → IsStocked s h old new
   shared_stocked Left h old new j e p lo hi n w m =
       let t = traded Left h old new j p lo hi n w m in
       let lt = p.in_bounds in

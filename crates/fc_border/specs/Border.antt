@@ -25,6 +25,6 @@ IsOneFewer old new = (length (own_pairs new) ≤ length (own_pairs old)) × (len
 abbrev pub IsShrunk : {K V : Type 0} → ℕ → Node K V → Node K V → Type 0
 IsShrunk h old new = IsLevelled h new × IsOneFewer old new
 
--- The new node's border is as before, its child on it has at least 6 pairs, and it has as many pairs as the old one or one fewer.
+-- The new node's border is as before, its child on it has one pair more than it needs at least, and it has as many pairs as the old one or one fewer.
 abbrev pub IsStocked : {K V : Type 0} → Side → ℕ → Node K V → Node K V → Type 0
 IsStocked side h old new = IsBordered side (suc h) new × (min_len + 1 ≤ length (own_pairs (child_at new (border_place side new)))) × IsOneFewer old new

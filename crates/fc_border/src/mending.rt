@@ -110,8 +110,8 @@ pub fn border<K, V>(node: &Node<K, V>, side: Side) -> usize
     }
 }
 
-// Sees to it that the child on the border has at least 6 pairs: one more than it needs, since the mending below it may take
-// one. It is merged with its sibling where both and the pair between them fit in one node, and else takes from it.
+// Sees to it that the child on the border has one pair more than it needs, since the mending below it may take one. It is merged with
+// its sibling where both and the pair between them fit in one node, and else takes from it.
 fn stock<K: Drop, V: Drop>(node: &mut Node<K, V>, side: Side, count: &mut Count)
     requires some { 1 ≤ length (own_pairs node.old) }
     requires bordered { (h : ℕ) × IsBordered side (suc h) node.old }

@@ -1,7 +1,8 @@
 -- A spine with a node at its end.
-use Rattle.std.proofs.Common.{◌≡◌, ℕ, zero, suc, ◌+◌, ◌-◌, ◌*◌, ◌^◌, ◌<◌, ◌≤◌, List, [], ◌∷◌, ◌++◌, length, refl, sym, ap, ◌∙◌, subst, arith, Box, append_assoc, length-append}
+use Rattle.std.proofs.Common.{◌≡◌, ℕ, zero, suc, ◌+◌, ◌-◌, ◌*◌, ◌^◌, ◌<◌, ◌≤◌, List, [], ◌∷◌, ◌++◌, length, refl, sym, ap, ◌∙◌, subst, arith, Box, append_assoc, length-append, pow-suc}
 use Rattle.std.specs.declared.alloc.Global.{Global}
 use Rattle.std.specs.List.{AllByRecursion}
+use Rattle.fc_base.specs.Sizes.{capacity, most_children}
 use Rattle.fc_node.specs.declared.node.Node.{Node}
 use Rattle.fc_node.specs.Node.{own_pairs, children_of, pairs_of, items_or_none, boxed, IsLeaf, IsInner, IsSound, IsBlankInner}
 use Rattle.fc_node.specs.Bordered.{LastAfter, IsRightBordered}
@@ -33,11 +34,11 @@ module _ {K V : Type 0} where
   pub spine_popped : (h : ℕ) (old s : List (Box (Node K V) Global)) (b : Box (Node K V) Global) → old ≡ s ++ b ∷ [] → IsSpine h old → IsOpenEnd h b.value × IsSpine (suc h) s
   spine_popped h old s b e f = spine_parts h s b (subst (IsSpine h) e f)
 
-  digits_push : (a : ℕ) (s : List (Box (Node K V) Global)) (b : Box (Node K V) Global) → digits_after a (s ++ b ∷ []) ≡ 12 * digits_after a s + length (own_pairs b.value)
+  digits_push : (a : ℕ) (s : List (Box (Node K V) Global)) (b : Box (Node K V) Global) → digits_after a (s ++ b ∷ []) ≡ most_children * digits_after a s + length (own_pairs b.value)
   digits_push a [] b = refl
-  digits_push a (x ∷ s) b = digits_push (12 * a + length (own_pairs x.value)) s b
+  digits_push a (x ∷ s) b = digits_push (most_children * a + length (own_pairs x.value)) s b
 
-  pub worth_pushed : (s new : List (Box (Node K V) Global)) (b : Box (Node K V) Global) → new ≡ s ++ b ∷ [] → worth new ≡ 12 * worth s + length (own_pairs b.value)
+  pub worth_pushed : (s new : List (Box (Node K V) Global)) (b : Box (Node K V) Global) → new ≡ s ++ b ∷ [] → worth new ≡ most_children * worth s + length (own_pairs b.value)
   worth_pushed s new b e = ap worth e ∙ digits_push 0 s b
 
   count_push : (s : List (Box (Node K V) Global)) (b : Box (Node K V) Global) → own_count (s ++ b ∷ []) ≡ own_count s + length (own_pairs b.value)
@@ -69,14 +70,14 @@ module _ {K V : Type 0} where
 
   -- ---- a child at the end, and the pair that comes behind it
 
-  pub child_room : (h : ℕ) (n : Node K V) → IsOpenEnd h n → length (children_of n) ≤ 11
+  pub child_room : (h : ℕ) (n : Node K V) → IsOpenEnd h n → length (children_of n) ≤ capacity
   child_room h n o = let a = o.0 in let b = o.2 in omega arith
 
   children_both : (h : ℕ) (n m c : Node K V) → IsOpenEnd h n → children_of m ≡ children_of n ++ c ∷ [] → IsSound h c → AllByRecursion (IsSound h) (children_of m)
   children_both h n m c o f s = subst (AllByRecursion (IsSound h)) (sym f) (all_both (IsSound h) (children_of n) (c ∷ []) o.3 (s, tt))
 
   -- n, then with a child as m, then with a pair as r
-  pub end_grown : (h : ℕ) (n m r c : Node K V) (p : K × V) → IsOpenEnd h n → own_pairs m ≡ own_pairs n → children_of m ≡ children_of n ++ c ∷ [] → own_pairs r ≡ own_pairs m ++ p ∷ [] → children_of r ≡ children_of m → (IsLeaf r → ⊥) → length (own_pairs m) < 11 → IsSound h c → IsOpenEnd h r
+  pub end_grown : (h : ℕ) (n m r c : Node K V) (p : K × V) → IsOpenEnd h n → own_pairs m ≡ own_pairs n → children_of m ≡ children_of n ++ c ∷ [] → own_pairs r ≡ own_pairs m ++ p ∷ [] → children_of r ≡ children_of m → (IsLeaf r → ⊥) → length (own_pairs m) < capacity → IsSound h c → IsOpenEnd h r
   end_grown h n m r c p o e f q i k l s =
       let a = ap length e in
       let b = ap length f ∙ length-append (children_of n) (c ∷ []) in
@@ -104,7 +105,7 @@ module _ {K V : Type 0} where
       let w = o.2 in
       omega arith
 
-  pub closed_sound : (h : ℕ) (n m c : Node K V) → IsOpenEnd h n → own_pairs m ≡ own_pairs n → children_of m ≡ children_of n ++ c ∷ [] → 11 ≤ length (own_pairs m) → IsSound h c → IsSound (suc h) m
+  pub closed_sound : (h : ℕ) (n m c : Node K V) → IsOpenEnd h n → own_pairs m ≡ own_pairs n → children_of m ≡ children_of n ++ c ∷ [] → capacity ≤ length (own_pairs m) → IsSound h c → IsSound (suc h) m
   closed_sound h n m c o e f l s =
       let a = ap length e in
       let w = o.0 in
@@ -146,19 +147,20 @@ module _ {K V : Type 0} where
     pub less : ℕ
     pub deep : d ≡ suc less
     pub enough : IsEnough less j 1 t
-    pub spare : own_count t + 12 + 11 * less ≤ 11 * (j + length t) + 10
+    pub spare : own_count t + 1 + capacity * d < capacity * (j + length t + 1)
 
-  pub carried : (d i j : ℕ) (s t : List (Box (Node K V) Global)) (k : ℕ) → IsEnough d i 1 s → worth s ≡ 12 * worth t + k → own_count s ≡ own_count t + k → i + length s ≡ j + length t + 1 → length t ≡ length s - 1 → 11 ≤ k → IsCarried d j t
+  pub carried : (d i j : ℕ) (s t : List (Box (Node K V) Global)) (k : ℕ) → IsEnough d i 1 s → worth s ≡ most_children * worth t + k → own_count s ≡ own_count t + k → i + length s ≡ j + length t + 1 → length t ≡ length s - 1 → capacity ≤ k → IsCarried d j t
   carried zero i j s t k e w c n l f = let x = e.2 in absurd (omega arith)
   carried (suc d) i j s t k e w c n l f =
       let x = e.0 in
       let y = e.1 in
-      let z : worth s + 1 < 12 ^ suc d = e.2 in
+      let z : worth s + 1 < most_children ^ suc d = e.2 in
       let v = e.3 in
-      let fewer : worth t + 1 < 12 ^ d = omega arith in
+      let more = pow-suc most_children d in
+      let fewer : worth t + 1 < most_children ^ d = omega arith in
       record { less = d; deep = refl; enough = (omega arith, omega arith, fewer, omega arith); spare = omega arith }
 
-  pub not_blank : (s : List (Box (Node K V) Global)) (n : Node K V) → (length s ≡ 0 → own_pairs n ≡ []) → 11 ≤ length (own_pairs n) → 0 < length s
+  pub not_blank : (s : List (Box (Node K V) Global)) (n : Node K V) → (length s ≡ 0 → own_pairs n ≡ []) → capacity ≤ length (own_pairs n) → 0 < length s
   not_blank [] n f h = absurd (let e = ap length (f refl) in omega arith)
   not_blank (b ∷ s) n f h = omega arith
 

@@ -74,7 +74,7 @@ pub(crate) fn inner_count(n: usize) -> usize
     between / CAPACITY + digit_count(between)
 }
 
-// How many digits the number has to base 12; 0 has none.
+// How many digits the number has where the base is the most children of a node; 0 has none.
 fn digit_count(n: usize) -> usize
     ensures above { n < most_children ^ result }
     ensures least { 0 < n → most_children ^ result ≤ most_children * n }
@@ -83,5 +83,5 @@ fn digit_count(n: usize) -> usize
     if n == 0 {
         return 0;
     }
-    digit_count(n / 12) + 1
+    digit_count(n / (CAPACITY + 1)) + 1
 }

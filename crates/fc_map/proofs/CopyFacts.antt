@@ -8,6 +8,7 @@ use Rattle.std.specs.declared.cmp.Ordering.{Ordering}
 use Rattle.std.specs.declared.cmp.Ordering.TheVariants.{Less, Equal, Greater}
 use Rattle.std.proofs.lemmas.List.Elements.{length_all_zip}
 use Rattle.fc_base.specs.Ascending.{IsAscending}
+use Rattle.fc_base.specs.Sizes.{least_children}
 use Rattle.fc_base.specs.Viewed.{over_one}
 use Rattle.fc_base.proofs.AscendingFacts.{under_one}
 use Rattle.fc_node.specs.declared.node.Node.{Node}
@@ -53,5 +54,5 @@ module _ {K V : Type 0} where
   has_pair n sound =
       let deep = deep_root sound.0 n sound.2 in
       let low : 0 ≤ sound.0 = omega arith in
-      let one : 6 ^ 0 ≤ 6 ^ sound.0 = pow-le-pow_right (lit< tt) low in
+      let one : least_children ^ 0 ≤ least_children ^ sound.0 = pow-le-pow_right (lit< tt) low in
       omega (arith, deep, one)

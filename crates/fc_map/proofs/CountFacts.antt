@@ -3,6 +3,7 @@ use Rattle.std.proofs.Common.{◌≡◌, ℕ, ◌+◌, ◌*◌, ◌<◌, ◌≤�
 use Rattle.std.proofs.Math.Nat.{one-le-pow}
 use Rattle.std.proofs.lemmas.Bool.{cases_lt}
 use Rattle.std.specs.declared.cmp.Ordering.{Ordering}
+use Rattle.fc_base.specs.Sizes.{least_children, level_comparisons, level_moves}
 use Rattle.fc_base.specs.declared.count.Count.{Count}
 use Rattle.fc_node.specs.declared.node.Node.{Node}
 use Rattle.fc_node.specs.Node.{pairs_of, IsSoundRoot}
@@ -16,7 +17,7 @@ use Rattle.fc_map.specs.Entries.{Map, entries, IsSoundMap}
 module _ {K V : Type 0} where
   -- A tree has a pair.
   pub some_pairs : (h : ℕ) (root : Node K V) → IsSoundRoot h root → 0 < length (pairs_of root)
-  some_pairs h root s = let deep = deep_root h root s in let one = one-le-pow h 6 (lit< tt) in omega arith
+  some_pairs h root s = let deep = deep_root h root s in let one = one-le-pow h least_children (lit< tt) in omega arith
 
   -- A look-up counts what its search passes.
   pub looked_up : {Q : Type 0} (cmp : K → Q → Ordering) (k : Q) (m : Map K V) (root : Node K V) (old new : Count) → m ≡ Some root → IsSoundMap m → new.comparisons ≡ old.comparisons + passed cmp k root → new.moves ≡ old.moves → IsBounded (length (entries m)) old new
@@ -38,11 +39,11 @@ moved_after n n' old mid new b still same m le some = ((λ z. absurd (omega arit
     dec zero = inl refl
     dec (suc n) = inr (omega arith)
 
-    highest : (h₁ h₂ : ℕ) → (h₁ < h₂) ⊎ (h₂ ≤ h₁) → IsDeep h₁ n' → IsDeep h₂ n' → mid.comparisons ≤ old.comparisons + 11 * (h₁ + 1) → new.moves ≤ mid.moves + 18 * (h₂ + 1) → (h : ℕ) × IsDeep h n' × (new.comparisons ≤ old.comparisons + 11 * (h + 1)) × (new.moves ≤ old.moves + 18 * (h + 1))
+    highest : (h₁ h₂ : ℕ) → (h₁ < h₂) ⊎ (h₂ ≤ h₁) → IsDeep h₁ n' → IsDeep h₂ n' → mid.comparisons ≤ old.comparisons + level_comparisons * (h₁ + 1) → new.moves ≤ mid.moves + level_moves * (h₂ + 1) → (h : ℕ) × IsDeep h n' × (new.comparisons ≤ old.comparisons + level_comparisons * (h + 1)) × (new.moves ≤ old.moves + level_moves * (h + 1))
     highest h₁ h₂ (inl le) d₁ d₂ c v = (h₂, d₂, omega arith, omega arith)
     highest h₁ h₂ (inr le) d₁ d₂ c v = (h₁, d₁, omega arith, omega arith)
 
-    go : ((n ≡ 0) ⊎ (0 < n)) → (h : ℕ) × IsDeep h n' × (new.comparisons ≤ old.comparisons + 11 * (h + 1)) × (new.moves ≤ old.moves + 18 * (h + 1))
+    go : ((n ≡ 0) ⊎ (0 < n)) → (h : ℕ) × IsDeep h n' × (new.comparisons ≤ old.comparisons + level_comparisons * (h + 1)) × (new.moves ≤ old.moves + level_moves * (h + 1))
     go (inl z) = let e = b.0 z in (m.0, m.1, omega (arith, e.0), omega (arith, m.2))
     go (inr p) = let e = b.1 p in highest e.0 m.0 (cases_lt e.0 m.0) (deeper e.0 n n' e.1 le) m.1 e.2 m.2
 

@@ -1,6 +1,7 @@
 -- An insertion into a gap of a tree.
 use Rattle.std.proofs.Common.{◌≡◌, ℕ, suc, zero, ◌+◌, ◌-◌, ◌*◌, ◌^◌, ◌<◌, ◌≤◌, Bool, true, false, List, [], ◌∷◌, ◌++◌, length, Some, refl, ap, ◌∙◌, arith, length-append}
 use Rattle.std.specs.declared.cmp.Ordering.{Ordering}
+use Rattle.fc_base.specs.Sizes.{level_moves}
 use Rattle.fc_base.specs.declared.count.Count.{Count}
 use Rattle.fc_base.specs.OneKey.{put}
 use Rattle.fc_node.specs.declared.node.Node.{Node}
@@ -57,5 +58,5 @@ module _ {K V : Type 0} where
         go true is = some (length path) (higher is).0
 
     -- The moves of an insertion into a tree of so many levels.
-    pub moves_in : (n : ℕ) (old new : Count) → length path ≡ sound.0 + 1 → n ≡ length (pairs_of root) + 1 → new.moves ≤ old.moves + 18 * length path → IsMoved n old new
+    pub moves_in : (n : ℕ) (old new : Count) → length path ≡ sound.0 + 1 → n ≡ length (pairs_of root) + 1 → new.moves ≤ old.moves + level_moves * length path → IsMoved n old new
     moves_in n old new e is few = let d = deep_root sound.0 root sound.2 in (sound.0, omega arith, omega arith)

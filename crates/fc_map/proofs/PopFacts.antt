@@ -2,6 +2,7 @@
 use Rattle.std.proofs.Common.{◌≡◌, ◌+◌, ◌*◌, ◌≤◌, [], ◌∷◌, ◌++◌, length, Some, Option, sym, ap, subst, ◌∙◌, arith, append-nil, length-append, Box}
 use Rattle.std.specs.declared.alloc.Global.{Global}
 use Rattle.std.specs.declared.cmp.Ordering.{Ordering}
+use Rattle.fc_base.specs.Sizes.{level_moves}
 use Rattle.fc_base.specs.declared.count.Count.{Count}
 use Rattle.fc_base.specs.Ascending.{IsAscending}
 use Rattle.fc_node.specs.declared.node.Node.{Node}
@@ -22,5 +23,5 @@ module _ {K V : Type 0} (root : Node K V) (sound : IsSoundMap (Some root)) where
       (subst (IsAscending cmp) (append-nil (tree_pairs left) ∙ sym (left_entries left)) (without_ascending cmp (tree_pairs left) [] e (subst (IsAscending cmp) p ascending)), left_sound sound.0 left sound.1 levels, omega arith)
 
   -- What a removal at an end costs.
-  pub popped_cost : (old new : Count) → new.comparisons ≡ old.comparisons → new.moves ≤ old.moves + 18 * (sound.0 + 1) → IsBounded (length (pairs_of root)) old new
+  pub popped_cost : (old new : Count) → new.comparisons ≡ old.comparisons → new.moves ≤ old.moves + level_moves * (sound.0 + 1) → IsBounded (length (pairs_of root)) old new
   popped_cost old new same few = only_moved (length (pairs_of root)) old new (some_pairs sound.0 root sound.2) same (left_moves root sound old new few)

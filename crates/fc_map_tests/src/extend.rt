@@ -4,6 +4,7 @@ use crate::map::{
     were_all_dropped, were_dropped,
 };
 use crate::numbers::{Numbers, has, multiples};
+use crate::sizes::CAPACITY;
 use fc_base::TryReserveError;
 use fc_map::map::BTreeMap;
 use fc_vec::TryFromIterator;
@@ -162,14 +163,14 @@ fn each_item_of_a_made_map_is_dropped_once(rt: HostRuntime) {
     assert!(rt; were_all_dropped(&drops, 1));
 }
 
-// Whether the map has the numbers below eleven, each with itself, and nothing else.
-fn has_eleven(map: &Numbers) -> bool {
-    for number in 0..11u64 {
+// Whether the map has the first numbers that fill a leaf, each with itself, and nothing else.
+fn has_a_full_leaf(map: &Numbers) -> bool {
+    for number in 0..CAPACITY as u64 {
         if !has(map, number, number) {
             return false;
         }
     }
-    map.len() == 11
+    map.len() == CAPACITY
 }
 
 // There is memory for one leaf alone: that of a map that was dropped. The clause allows an empty map too, where a first item may be
@@ -185,6 +186,6 @@ fn a_refused_extension_of_an_empty_map_keeps_a_leaf(rt: HostRuntime) -> Result<(
     let done = extend(&mut map, items);
     drop(held);
     assert!(rt; has_none && matches!(done, Err(TryReserveError::AllocError)));
-    assert!(rt; has_eleven(&map));
+    assert!(rt; has_a_full_leaf(&map));
     Ok(())
 }

@@ -23,4 +23,6 @@ mod queries;
 #[cfg(test)]
 mod refusals;
 #[cfg(test)]
+mod sizes;
+#[cfg(test)]
 mod sorted;

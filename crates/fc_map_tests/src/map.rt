@@ -4,6 +4,7 @@ mod given;
 mod handed_back;
 
 use crate::numbers::{Numbers, has_up_to, insert, is_lent, multiples};
+use crate::sizes::{BEYOND, CAPACITY};
 use fc_base::TryReserveError;
 use fc_map::map::BTreeMap;
 use std::alloc::{AllocError, Global};
@@ -106,24 +107,27 @@ pub(crate) fn has_memory(alloc: Global) -> bool {
     Vec::<u8>::with_capacity(alloc, 1).is_ok()
 }
 
-// Whether a map of ten numbers takes an eleventh and an old one, and refuses a twelfth; and one of 88, whose first leaf has room,
-// takes a lower one.
+// Whether a map whose leaf has room for one number takes it and an old one, and refuses one more; and one of 88, whose first leaf
+// has room, takes a lower one.
 fn only_a_full_leaf_refuses(small: &mut Numbers, large: &mut Numbers) -> bool {
-    matches!(insert(small, 11, 11), Ok(None))
+    matches!(insert(small, CAPACITY as u64, CAPACITY as u64), Ok(None))
         && matches!(insert(small, 5, 5), Ok(Some(5)))
-        && matches!(insert(small, 12, 12), Err(TryReserveError::AllocError))
+        && matches!(
+            insert(small, BEYOND, BEYOND),
+            Err(TryReserveError::AllocError)
+        )
         && matches!(insert(large, 0, 0), Ok(None))
 }
 
 // A run that gets its memory from elsewhere, as one without proof does, would show nothing, and fails.
 #[test]
 fn with_all_memory_refused_only_a_full_leaf_refuses(rt: HostRuntime) -> Result<(), Fail> {
-    let mut small = multiples(rt.alloc(), 1, 11, 1)?;
+    let mut small = multiples(rt.alloc(), 1, CAPACITY as u64, 1)?;
     let mut large = multiples(rt.alloc(), 1, 89, 1)?;
     let held = take_all_memory(rt.alloc())?;
     let is_right = !has_memory(rt.alloc()) && only_a_full_leaf_refuses(&mut small, &mut large);
     drop(held);
-    assert!(rt; is_right && has_up_to(&small, 11) && large.len() == 89);
+    assert!(rt; is_right && has_up_to(&small, CAPACITY as u64) && large.len() == 89);
     Ok(())
 }
 

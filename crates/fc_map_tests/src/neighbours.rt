@@ -75,7 +75,7 @@ fn are_all_next(map: &BTreeMap<u64, u64>, n: u64) -> bool {
     are_next(map, u64::MAX / 2, n)
 }
 
-// A leaf has at most 11 pairs, so that 12 pairs have two levels; of ascending ones 89 have three, and 3000 have four.
+// Up to 29 ascending pairs have one level or two, 89 have three, and 3000 have four.
 #[test]
 fn neighbours_of_each_key_on_each_level(rt: HostRuntime) -> Result<(), Fail> {
     for n in 0..30 {

@@ -1,20 +1,22 @@
 //! What a map kept as one sorted vector would cost: more than the clauses on the counts of a map's calls allow.
 use crate::map::entries::CountingKey;
+use crate::sizes::{BEYOND, CAPACITY, LEAST_CHILDREN, LEVEL_COMPARISONS, LEVEL_MOVES};
 use fc_base::TryReserveError;
 use fc_map::map::BTreeMap;
 use std::alloc::{AllocError, Global};
 use std::cell::Cell;
 use std::test::Fail;
 
-// How many levels a tree of so many pairs has at most: one, and one more for each h from 1 on with `2 * 6^h <= pairs + 1`.
+// How many levels a tree of so many pairs has at most: one, and one more for each h from 1 on with
+// `2 * LEAST_CHILDREN^h <= pairs + 1`.
 fn greatest_levels(pairs: u64) -> u64 {
     let mut levels = 1u64;
-    let mut least = 12u64;
+    let mut least = 2 * LEAST_CHILDREN;
     for _ in 0..10 {
         if least <= pairs.wrapping_add(1) {
             levels = levels.wrapping_add(1);
         }
-        least = least.wrapping_mul(6);
+        least = least.wrapping_mul(LEAST_CHILDREN);
     }
     levels
 }
@@ -83,23 +85,23 @@ impl Sorted {
     }
 }
 
-// A search from the left for the last of 40 keys makes 40 comparisons, where 11 for each of two levels are allowed.
+// A search from the left for the last of 40 keys makes 40 comparisons, where fewer are allowed for two levels.
 #[test]
 fn a_search_from_the_left_compares_too_often(rt: HostRuntime) -> Result<(), Fail> {
     let mut sorted = Sorted::try_up_to(rt.alloc(), 40)?;
     assert!(rt; sorted.place_from_left(40) == 39 && sorted.comparisons == 40);
-    assert!(rt; greatest_levels(40).wrapping_mul(11) == 22);
+    assert!(rt; greatest_levels(40) == 2 && sorted.comparisons > 2 * LEVEL_COMPARISONS);
     Ok(())
 }
 
-// A search by halving makes few comparisons, but the 70th key, put in front of the others, takes 70 moves, where 18 for each of two
-// levels are allowed.
+// A search by halving makes few comparisons, but the 70th key, put in front of the others, takes 70 moves, where fewer are
+// allowed for two levels.
 #[test]
 fn a_sorted_vector_moves_too_often(rt: HostRuntime) -> Result<(), Fail> {
     let mut sorted = Sorted::try_up_to(rt.alloc(), 69)?;
     sorted.insert(0)?;
     assert!(rt; sorted.keys.len() == 70 && sorted.comparisons <= 7 && sorted.moves == 70);
-    assert!(rt; greatest_levels(70).wrapping_mul(18) == 36);
+    assert!(rt; greatest_levels(70) == 2 && sorted.moves > 2 * LEVEL_MOVES);
     Ok(())
 }
 
@@ -124,7 +126,9 @@ fn compares_within_bounds(alloc: Global, last: u64) -> Result<bool, TryReserveEr
             number,
             comparisons,
         });
-        if is_there != (number > 0) || made.get() > greatest_levels(last).wrapping_mul(11) {
+        if is_there != (number > 0)
+            || made.get() > greatest_levels(last).wrapping_mul(LEVEL_COMPARISONS)
+        {
             return Ok(false);
         }
     }
@@ -133,7 +137,7 @@ fn compares_within_bounds(alloc: Global, last: u64) -> Result<bool, TryReserveEr
 
 #[test]
 fn a_map_compares_within_its_bounds(rt: HostRuntime) -> Result<(), Fail> {
-    for last in [1, 11, 12, 40, 70, 89, 430] {
+    for last in [1, CAPACITY as u64, BEYOND, 40, 70, 89, 430] {
         assert!(rt; compares_within_bounds(rt.alloc(), last)?);
     }
     Ok(())

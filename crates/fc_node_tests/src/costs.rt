@@ -1,14 +1,15 @@
 //! How many moves calls on lists of given lengths make: numbers, proved from the contracts of the calls.
-ghost use Rattle.std.specs.Prelude.{◌≡◌, ◌+◌, ◌<◌, ◌≤◌, [], length};
+ghost use Rattle.std.specs.Prelude.{◌≡◌, ◌+◌, ◌-◌, ◌<◌, ◌≤◌, [], length};
+ghost use Rattle.fc_base.specs.Sizes.{capacity, min_len, level_moves};
 ghost use Rattle.fc_node.specs.Node.{own_pairs, child_at, IsLeaf, IsInner, IsBlankLeaf};
 ghost use Rattle.fc_node.specs.Siblings.{AreAlike};
 
 use fc_base::Count;
-use fc_node::node::Node;
+use fc_node::node::{CAPACITY, Node};
 use fc_slots::slots::Slots;
 
 /// An insertion at 3 into 7 items makes 5 moves.
-pub fn insert_at_three_of_seven<T: Drop>(list: &mut Slots<T, 11>, item: T) -> Count
+pub fn insert_at_three_of_seven<T: Drop>(list: &mut Slots<T, CAPACITY>, item: T) -> Count
     requires { length list.old ≡ 7 }
     ensures { result.moves ≡ 5 }
 {
@@ -18,7 +19,7 @@ pub fn insert_at_three_of_seven<T: Drop>(list: &mut Slots<T, 11>, item: T) -> Co
 }
 
 /// The removal at 3 of 7 items makes 4 moves.
-pub fn remove_at_three_of_seven<T: Drop>(list: &mut Slots<T, 11>) -> Count
+pub fn remove_at_three_of_seven<T: Drop>(list: &mut Slots<T, CAPACITY>) -> Count
     requires { length list.old ≡ 7 }
     ensures { result.moves ≡ 4 }
 {
@@ -27,12 +28,12 @@ pub fn remove_at_three_of_seven<T: Drop>(list: &mut Slots<T, 11>) -> Count
     count
 }
 
-/// To move the items from 7 on, of 11, makes 4 moves.
-pub fn move_from_seven_of_eleven<T: Drop>(
-    list: &mut Slots<T, 11>,
-    other: &mut Slots<T, 11>,
+/// To move the items from 7 on, of a full list, makes 4 moves.
+pub fn move_from_seven_of_full<T: Drop>(
+    list: &mut Slots<T, CAPACITY>,
+    other: &mut Slots<T, CAPACITY>,
 ) -> Count
-    requires full { length list.old ≡ 11 }
+    requires full { length list.old ≡ capacity }
     requires room { length other.old ≤ 7 }
     ensures { result.moves ≡ 4 }
 {
@@ -42,7 +43,10 @@ pub fn move_from_seven_of_eleven<T: Drop>(
 }
 
 /// To move the first 2 of 8 items makes 8 moves.
-pub fn move_first_two_of_eight<T: Drop>(list: &mut Slots<T, 11>, other: &mut Slots<T, 11>) -> Count
+pub fn move_first_two_of_eight<T: Drop>(
+    list: &mut Slots<T, CAPACITY>,
+    other: &mut Slots<T, CAPACITY>,
+) -> Count
     requires eight { length list.old ≡ 8 }
     requires room { length other.old ≤ 9 }
     ensures { result.moves ≡ 8 }
@@ -54,8 +58,8 @@ pub fn move_first_two_of_eight<T: Drop>(list: &mut Slots<T, 11>, other: &mut Slo
 
 /// To move the last 3 items to the front of a list of 4 makes 7 moves.
 pub fn move_last_three_before_four<T: Drop>(
-    list: &mut Slots<T, 11>,
-    other: &mut Slots<T, 11>,
+    list: &mut Slots<T, CAPACITY>,
+    other: &mut Slots<T, CAPACITY>,
 ) -> Count
     requires some { 3 ≤ length list.old }
     requires four { length other.old ≡ 4 }
@@ -66,35 +70,36 @@ pub fn move_last_three_before_four<T: Drop>(
     count
 }
 
-/// The split of a full node makes 12, 7, 12, 10 or 6 moves where the new pair goes to 0, 5, 6, 7 or 11.
+/// The split of a full node makes 12, 7, 12, 10 or 6 moves where the new pair goes in front of all pairs, in front of the middle
+/// one, behind it, one further on, or behind all.
 pub fn split_full<K: Drop, V: Drop>(
     node: &mut Node<K, V>,
     index: usize,
     pair: (K, V),
     right: Box<Node<K, V>>,
 ) -> Count
-    requires full { length (own_pairs node.old) ≡ 11 }
-    requires in_bounds { index ≤ 11 }
+    requires full { length (own_pairs node.old) ≡ capacity }
+    requires in_bounds { index ≤ capacity }
     requires leaf { IsLeaf node.old }
     requires blank { IsBlankLeaf right.value }
     ensures first { index ≡ 0 → result.moves ≡ 12 }
-    ensures before_middle { index ≡ 5 → result.moves ≡ 7 }
-    ensures after_middle { index ≡ 6 → result.moves ≡ 12 }
-    ensures behind_middle { index ≡ 7 → result.moves ≡ 10 }
-    ensures last { index ≡ 11 → result.moves ≡ 6 }
+    ensures before_middle { index ≡ min_len → result.moves ≡ 7 }
+    ensures after_middle { index ≡ min_len + 1 → result.moves ≡ 12 }
+    ensures behind_middle { index ≡ min_len + 2 → result.moves ≡ 10 }
+    ensures last { index ≡ capacity → result.moves ≡ 6 }
 {
     let mut count = Count::new();
     let (_up, _right) = node.split_leaf(index, pair, right, &mut count);
     count
 }
 
-/// A theft from the left into a node of 4 pairs makes 8 moves.
-pub fn steal_left_into_four<K: Drop, V: Drop>(node: &mut Node<K, V>, index: usize) -> Count
+/// A theft from the left into a node that is one pair short makes 8 moves.
+pub fn steal_left_into_short<K: Drop, V: Drop>(node: &mut Node<K, V>, index: usize) -> Count
     requires in_bounds { index < length (own_pairs node.old) }
     requires inner { IsInner node.old }
     requires alike { AreAlike (child_at node.old index) (child_at node.old (index + 1)) }
     requires some { 0 < length (own_pairs (child_at node.old index)) }
-    requires four { length (own_pairs (child_at node.old (index + 1))) ≡ 4 }
+    requires short { length (own_pairs (child_at node.old (index + 1))) ≡ min_len - 1 }
     ensures { result.moves ≡ 8 }
 {
     let mut count = Count::new();
@@ -102,13 +107,13 @@ pub fn steal_left_into_four<K: Drop, V: Drop>(node: &mut Node<K, V>, index: usiz
     count
 }
 
-/// A theft from the right, of 11 pairs, into a node of 4 makes 14 moves.
-pub fn steal_right_of_eleven<K: Drop, V: Drop>(node: &mut Node<K, V>, index: usize) -> Count
+/// A theft from the right, of a full node, into one that is one pair short makes 14 moves.
+pub fn steal_right_of_full<K: Drop, V: Drop>(node: &mut Node<K, V>, index: usize) -> Count
     requires in_bounds { index < length (own_pairs node.old) }
     requires inner { IsInner node.old }
     requires alike { AreAlike (child_at node.old index) (child_at node.old (index + 1)) }
-    requires eleven { length (own_pairs (child_at node.old (index + 1))) ≡ 11 }
-    requires four { length (own_pairs (child_at node.old index)) ≡ 4 }
+    requires full { length (own_pairs (child_at node.old (index + 1))) ≡ capacity }
+    requires short { length (own_pairs (child_at node.old index)) ≡ min_len - 1 }
     ensures { result.moves ≡ 14 }
 {
     let mut count = Count::new();
@@ -116,15 +121,16 @@ pub fn steal_right_of_eleven<K: Drop, V: Drop>(node: &mut Node<K, V>, index: usi
     count
 }
 
-/// A merge makes at most 18 moves where the parent is full, the child that takes it holds 4 pairs and its sibling 6.
-pub fn merge_four_and_six<K: Drop, V: Drop>(node: &mut Node<K, V>, index: usize) -> Count
+/// A merge makes at most the moves of a level where the parent is full, the child that takes it is one pair short and its sibling
+/// has at most one more than the fewest.
+pub fn merge_short_and_spare<K: Drop, V: Drop>(node: &mut Node<K, V>, index: usize) -> Count
     requires in_bounds { index < length (own_pairs node.old) }
-    requires fits { length (own_pairs node.old) ≤ 11 }
+    requires fits { length (own_pairs node.old) ≤ capacity }
     requires inner { IsInner node.old }
     requires alike { AreAlike (child_at node.old index) (child_at node.old (index + 1)) }
-    requires four { length (own_pairs (child_at node.old index)) ≡ 4 }
-    requires six { length (own_pairs (child_at node.old (index + 1))) ≤ 6 }
-    ensures { result.moves ≤ 18 }
+    requires short { length (own_pairs (child_at node.old index)) ≡ min_len - 1 }
+    requires spare { length (own_pairs (child_at node.old (index + 1))) ≤ min_len + 1 }
+    ensures { result.moves ≤ level_moves }
 {
     let mut count = Count::new();
     node.merge(index, &mut count);

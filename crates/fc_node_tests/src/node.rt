@@ -4,7 +4,7 @@ ghost use Rattle.fc_node.specs.Node.{IsBlankLeaf};
 ghost use Rattle.fc_node.specs.Siblings.{AreAlike};
 
 use fc_base::{Count, TryReserveError};
-use fc_node::node::{CAPACITY, Node};
+use fc_node::node::{CAPACITY, MIN_LEN, Node};
 use std::alloc::Global;
 use std::cell::Cell;
 use std::process::Abort;
@@ -116,9 +116,12 @@ fn children_show(node: &Node<u64, u64>, keys: &[u64]) -> bool {
     true
 }
 
-const FULL: [u64; 11] = [10, 20, 30, 40, 50, 60, 70, 80, 90, 100, 110];
+// The places where a pair can go into a full node, which are as many as the children that it can have.
+const PLACES: usize = CAPACITY + 1;
 
-const BELOW: [u64; 12] = [1, 11, 21, 31, 41, 51, 61, 71, 81, 91, 101, 111];
+const FULL: [u64; CAPACITY] = [10, 20, 30, 40, 50, 60, 70, 80, 90, 100, 110];
+
+const BELOW: [u64; PLACES] = [1, 11, 21, 31, 41, 51, 61, 71, 81, 91, 101, 111];
 
 // What a split of the full node leaves where the new pair goes to a place: left, middle and right.
 fn halves(place: usize) -> (&'static [u64], u64, &'static [u64]) {
@@ -166,7 +169,7 @@ fn split_leaf<V: Drop>(
 ) -> ((u64, V), Box<Node<u64, V>>)
     requires { IsBlankLeaf right.value }
 {
-    assert!(rt; place < 12 && node.is_leaf() && node.len() == 11);
+    assert!(rt; place < PLACES && node.is_leaf() && node.len() == CAPACITY);
     node.split_leaf(place, pair, right, &mut Count::new())
 }
 
@@ -196,7 +199,7 @@ fn is_leaf_split(rt: &impl Abort, alloc: Global, place: usize) -> Result<bool, F
 
 #[test]
 fn splits_a_leaf_at_each_place(rt: HostRuntime) -> Result<(), Fail> {
-    for place in 0..12usize {
+    for place in 0..PLACES {
         assert!(&rt; is_leaf_split(&rt, rt.alloc(), place)?);
     }
     Ok(())
@@ -208,7 +211,7 @@ fn is_inner_split(rt: &impl Abort, alloc: Global, place: usize) -> Result<bool, 
     let right = Node::try_inner(alloc)?;
     let key = (place as u64).wrapping_mul(10).wrapping_add(5);
     let child = leaf(rt, alloc, &[key.wrapping_add(1)])?;
-    assert!(rt; place < 12 && node.child_count() == 12 && node.len() == 11);
+    assert!(rt; place < PLACES && node.child_count() == PLACES && node.len() == CAPACITY);
     let pair = (key, key.wrapping_mul(10));
     let (up, right) = node.split_inner(place, pair, child, right, &mut Count::new());
     Ok(are_halves(&node, &up, &right, place) && are_children_of_halves(&node, &right, place))
@@ -216,7 +219,7 @@ fn is_inner_split(rt: &impl Abort, alloc: Global, place: usize) -> Result<bool, 
 
 #[test]
 fn splits_an_inner_node_at_each_place(rt: HostRuntime) -> Result<(), Fail> {
-    for place in 0..12usize {
+    for place in 0..PLACES {
         assert!(&rt; is_inner_split(&rt, rt.alloc(), place)?);
     }
     Ok(())
@@ -557,17 +560,19 @@ fn tokens<'a>(
 #[test]
 fn a_split_drops_no_pair(rt: HostRuntime) -> Result<(), Fail> {
     let drops = Cell::new(0);
-    let mut node = tokens(&rt, rt.alloc(), 0, 11, &drops)?;
+    let mut node = tokens(&rt, rt.alloc(), 0, CAPACITY as u64, &drops)?;
     let right = Node::try_leaf(rt.alloc())?;
-    let pair = (11, Token { drops: &drops });
-    let (up, right) = split_leaf(&rt, &mut node, 11, pair, right);
+    let pair = (CAPACITY as u64, Token { drops: &drops });
+    let (up, right) = split_leaf(&rt, &mut node, CAPACITY, pair, right);
     let of_none = drops.get();
     drop(up);
     let of_middle = drops.get();
     drop(node);
     let of_left = drops.get();
     drop(right);
-    assert!(&rt; of_none == 0 && of_middle == 1 && of_left == 7 && drops.get() == 12);
+    // The pair goes to the right half, so the left one has one more than the fewest.
+    assert!(&rt; of_none == 0 && of_middle == 1 && of_left == of_middle + MIN_LEN as u64 + 1);
+    assert!(&rt; drops.get() == PLACES as u64);
     Ok(())
 }
 

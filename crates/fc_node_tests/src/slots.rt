@@ -1,6 +1,6 @@
 // Each item is dropped once, by a type that counts its drops. Room is taken by one request, and for items of no size by none.
 use fc_base::Count;
-use fc_node::node::Node;
+use fc_node::node::{CAPACITY, Node};
 use fc_slots::slots::Slots;
 use std::alloc::{AllocError, Global};
 use std::cell::Cell;
@@ -200,7 +200,7 @@ fn the_items_are_lent_as_a_slice(rt: HostRuntime) -> Result<(), Fail> {
 
 #[test]
 fn a_list_is_a_pointer_and_a_length(rt: HostRuntime) -> Result<(), Fail> {
-    assert!(&rt; size_of::<Slots<u64, 11>>() == 16);
+    assert!(&rt; size_of::<Slots<u64, CAPACITY>>() == 16);
     assert!(&rt; size_of::<Node<u64, u64>>() == 40);
     Ok(())
 }

@@ -1,7 +1,7 @@
 //! Cuts of whole trees at each of their pairs, and the two trees that each leaves.
 ghost use Rattle.std.specs.Prelude.{◌≤◌};
 
-use crate::trees::{is_levelled, is_pair_of, is_place, join, six_leaves};
+use crate::trees::{LEAST_CHILDREN, is_levelled, is_pair_of, is_place, join, least_inner};
 use fc_border::cutting::try_split;
 use fc_node::node::Node;
 use std::alloc::Global;
@@ -63,14 +63,20 @@ fn cut_at(
     Ok(())
 }
 
-// Where the key stands in a root of the key 35 over two nodes over six leaves each: the child of the root, and the path below it.
+// A leaf of the fewest keys, and the key behind it.
+const LEAF: u64 = LEAST_CHILDREN as u64;
+
+// The keys of an inner node with the fewest, over such leaves, and the key behind it.
+const INNER: u64 = LEAF * LEAF;
+
+// Where the key stands in a root of one key over two such inner nodes: the child of the root, and the path below it.
 fn steps_to(key: u64) -> ([u8; 3], usize)
     ensures { (2 ≤ result.1) × (result.1 ≤ 3) }
 {
-    let half = (key / 36 % 2) as u8;
-    let leaf = (key / 6 % 6) as u8;
-    let place = (key % 6) as u8;
-    if place == 5 {
+    let half = (key / INNER % 2) as u8;
+    let leaf = (key / LEAF % LEAF) as u8;
+    let place = (key % LEAF) as u8;
+    if place as u64 == LEAF - 1 {
         ([half, leaf, 0], 2)
     } else {
         ([half, leaf, place], 3)
@@ -79,23 +85,23 @@ fn steps_to(key: u64) -> ([u8; 3], usize)
 
 #[test]
 fn two_levels_at_each_key(rt: HostRuntime) -> Result<(), Fail> {
-    for key in 0..35 {
-        let root = six_leaves(&rt, rt.alloc(), 0)?;
+    for key in 0..INNER - 1 {
+        let root = least_inner(&rt, rt.alloc(), 0)?;
         let (steps, len) = steps_to(key);
-        cut_at(&rt, rt.alloc(), root, 1, &steps[1..len], key, 35)?;
+        cut_at(&rt, rt.alloc(), root, 1, &steps[1..len], key, INNER - 1)?;
     }
     Ok(())
 }
 
 #[test]
 fn three_levels_at_each_key(rt: HostRuntime) -> Result<(), Fail> {
-    for key in 0..71 {
-        let left = six_leaves(&rt, rt.alloc(), 0)?;
-        let right = six_leaves(&rt, rt.alloc(), 36)?;
-        let root = join(&rt, rt.alloc(), left, 35, right)?;
+    for key in 0..2 * INNER - 1 {
+        let left = least_inner(&rt, rt.alloc(), 0)?;
+        let right = least_inner(&rt, rt.alloc(), INNER)?;
+        let root = join(&rt, rt.alloc(), left, INNER - 1, right)?;
         let (steps, len) = steps_to(key);
-        let len = if key == 35 { 1 } else { len };
-        cut_at(&rt, rt.alloc(), root, 2, &steps[..len], key, 71)?;
+        let len = if key == INNER - 1 { 1 } else { len };
+        cut_at(&rt, rt.alloc(), root, 2, &steps[..len], key, 2 * INNER - 1)?;
     }
     Ok(())
 }

@@ -9,8 +9,8 @@ use fc_base::{Count, TryReserveError};
 use fc_insertion::insertion::{first_leaf, insert};
 use fc_insertion::leaf::has_room;
 use fc_insertion::room::try_room;
-use fc_node::node::Node;
-use fc_node::path::Path;
+use fc_node::node::{CAPACITY, Node};
+use fc_node::path::{MAX_STEPS, Path};
 use fc_search::lend::pair_at;
 use std::alloc::Global;
 use std::process::Abort;
@@ -43,7 +43,7 @@ fn put(
     key: u64,
     nodes: usize,
 ) -> Result<(), TryReserveError> {
-    assert!(rt; !path.is_empty() && path.len() <= 24 && root.len() > 0);
+    assert!(rt; !path.is_empty() && path.len() < MAX_STEPS && root.len() > 0);
     assert!(rt; is_levelled(root, path.len() - 1));
     assert!(rt; is_path(root, path));
     assert!(rt; has_room(root, path) == (nodes == 0));
@@ -72,7 +72,7 @@ pub(crate) fn put_last(
     }
 }
 
-// A full leaf: the first key, and ten more at this distance.
+// A full leaf: the first key, and as many more at this distance as find room.
 pub(crate) fn full_leaf(
     rt: &impl Abort,
     alloc: Global,
@@ -81,14 +81,14 @@ pub(crate) fn full_leaf(
 ) -> Result<Box<Node<u64, u64>>, TryReserveError> {
     let mut root = leaf_of(alloc, first)?;
     let mut key = first;
-    for _ in 0..10 {
+    for _ in 1..CAPACITY {
         key = key.wrapping_add(distance);
         put_last(rt, alloc, &mut root, key, 0)?;
     }
     Ok(root)
 }
 
-// The tree that a twelfth key leaves at this place of a full leaf. Its split takes two nodes.
+// The tree that one key more leaves at this place of a full leaf. Its split takes two nodes.
 fn split(
     rt: &impl Abort,
     alloc: Global,
@@ -130,14 +130,15 @@ fn between_even_keys(rt: HostRuntime) -> Result<(), Fail> {
 
 #[test]
 fn each_place_of_a_full_leaf(rt: HostRuntime) -> Result<(), Fail> {
-    for place in 0..12u8 {
-        let root = split(&rt, rt.alloc(), (1, 2), place, place as u64 * 2)?;
+    for place in 0..CAPACITY + 1 {
+        let root = split(&rt, rt.alloc(), (1, 2), place as u8, place as u64 * 2)?;
         assert!(&rt; is_levelled(&root, 1) && root.child_count() == 2);
     }
     Ok(())
 }
 
-// How many nodes the insertion of the key behind those below it takes: one for each split, and one for a new root.
+// How many nodes the insertion of the key behind those below it takes: one for each split, and one for a new root. Worked out for
+// nodes of at most eleven pairs.
 fn nodes_for(key: u64) -> usize {
     if key == 89 {
         3

@@ -1,7 +1,8 @@
 //! Removals at paths that are written out, and the trees that they leave.
 
 use crate::trees::{
-    child_shows, is_levelled, is_pair_of, is_place, join, leaf, shows, shows_two_levels, six_leaves,
+    child_shows, is_levelled, is_pair_of, is_place, join, leaf, least_inner, shows,
+    shows_two_levels,
 };
 use fc_base::Count;
 use fc_node::node::Node;
@@ -40,15 +41,16 @@ fn of_two_leaves(
     Ok(without(rt, root, 1, path, key).ok_or("no root")?)
 }
 
-// What a removal leaves of a root of 36 over two inner nodes over six leaves each, of the keys from 1 to 71.
+// What a removal leaves of a root of 36 over two inner nodes with as few keys as can be, of the keys from 1 to 71: worked out for
+// nodes of at least five.
 fn of_twelve_leaves(
     rt: &impl Abort,
     alloc: Global,
     path: &[u8],
     key: u64,
 ) -> Result<Box<Node<u64, u64>>, Fail> {
-    let left = six_leaves(rt, alloc, 1)?;
-    let right = six_leaves(rt, alloc, 37)?;
+    let left = least_inner(rt, alloc, 1)?;
+    let right = least_inner(rt, alloc, 37)?;
     let root = join(rt, alloc, left, 36, right)?;
     Ok(without(rt, root, 2, path, key).ok_or("no root")?)
 }
@@ -57,9 +59,9 @@ fn is_one_leaf(root: &Node<u64, u64>, keys: &[u64]) -> bool {
     root.is_leaf() && shows(root, keys)
 }
 
-// Whether the tree has two levels, eleven leaves and these keys in its root.
-fn has_eleven_leaves(root: &Node<u64, u64>, keys: &[u64]) -> bool {
-    is_levelled(root, 1) && root.child_count() == 11 && shows(root, keys)
+// Whether the tree has two levels, and these keys in its root between leaves.
+fn shows_above_leaves(root: &Node<u64, u64>, keys: &[u64]) -> bool {
+    is_levelled(root, 1) && root.child_count() == keys.len() + 1 && shows(root, keys)
 }
 
 #[test]
@@ -106,7 +108,7 @@ fn only_pair_leaves_no_tree(rt: HostRuntime) -> Result<(), Fail> {
 #[test]
 fn merges_climb_to_the_root(rt: HostRuntime) -> Result<(), Fail> {
     let root = of_twelve_leaves(&rt, rt.alloc(), &[0, 0, 0], 1)?;
-    assert!(&rt; has_eleven_leaves(&root, &[12, 18, 24, 30, 36, 42, 48, 54, 60, 66]));
+    assert!(&rt; shows_above_leaves(&root, &[12, 18, 24, 30, 36, 42, 48, 54, 60, 66]));
     assert!(&rt; child_shows(&root, 0, &[2, 3, 4, 5, 6, 7, 8, 9, 10, 11]));
     assert!(&rt; child_shows(&root, 10, &[67, 68, 69, 70, 71]));
     Ok(())
@@ -115,7 +117,7 @@ fn merges_climb_to_the_root(rt: HostRuntime) -> Result<(), Fail> {
 #[test]
 fn root_pair_is_replaced_from_below(rt: HostRuntime) -> Result<(), Fail> {
     let root = of_twelve_leaves(&rt, rt.alloc(), &[0], 36)?;
-    assert!(&rt; has_eleven_leaves(&root, &[6, 12, 18, 24, 30, 37, 48, 54, 60, 66]));
+    assert!(&rt; shows_above_leaves(&root, &[6, 12, 18, 24, 30, 37, 48, 54, 60, 66]));
     assert!(&rt; child_shows(&root, 5, &[31, 32, 33, 34, 35]));
     assert!(&rt; child_shows(&root, 6, &[38, 39, 40, 41, 42, 43, 44, 45, 46, 47]));
     Ok(())

@@ -11,7 +11,7 @@ ghost use Rattle.fc_node.specs.Place.{IsPlace};
 ghost use Rattle.fc_search.specs.Written.{written};
 
 use fc_base::{Count, TryReserveError};
-use fc_node::node::Node;
+use fc_node::node::{CAPACITY, Node};
 use fc_node::path::Path;
 use fc_search::lend::{pair_at, value_mut};
 use fc_search::search::{get, search};
@@ -66,7 +66,10 @@ impl Ord for Key<'_> {
     }
 }
 
-// A leaf of the keys 2, 4 and so on to 22, each with its half as the value.
+// The last key of the full leaf.
+const LAST: u32 = 2 * CAPACITY as u32;
+
+// A full leaf of the keys 2, 4 and so on, each with its half as the value.
 fn full_leaf<'a>(
     alloc: Global,
     calls: &'a Cell<u32>,
@@ -75,7 +78,7 @@ fn full_leaf<'a>(
 {
     let mut leaf = Node::try_leaf(alloc)?;
     let mut count = Count::new();
-    for half in 1..12u32 {
+    for half in 1..LAST / 2 + 1 {
         let key = Key {
             value: 2 * half,
             calls,
@@ -93,15 +96,15 @@ fn passed(value: u32) -> u32 {
         3 | 4 => 2,
         12 => 6,
         13 => 7,
-        _ => 11,
+        _ => CAPACITY as u32,
     }
 }
 
 // Whether it is half the value where the value is a key of the leaf, and else absent.
 fn is_half(half: Option<u32>, value: u32) -> bool {
     match half {
-        Some(half) => value % 2 == 0 && value < 23 && half == value / 2,
-        None => value % 2 != 0 || value >= 23,
+        Some(half) => value % 2 == 0 && value <= LAST && half == value / 2,
+        None => value % 2 != 0 || value > LAST,
     }
 }
 
@@ -113,7 +116,7 @@ fn is_place(path: &[u8], place: usize) -> bool {
 fn compares_each_key_that_it_passes_once(rt: HostRuntime) -> Result<(), Fail> {
     let calls = Cell::new(0);
     let leaf = full_leaf(rt.alloc(), &calls)?;
-    for value in [1, 2, 3, 4, 12, 13, 21, 22, 23] {
+    for value in [1, 2, 3, 4, 12, 13, LAST - 1, LAST, LAST + 1] {
         let key = Key {
             value,
             calls: &calls,

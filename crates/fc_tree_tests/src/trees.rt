@@ -9,7 +9,7 @@ use std::alloc::Global;
 use std::process::Abort;
 use std::test::Fail;
 
-// Whether the leaves lie `height` levels down, and each node below this one holds at least 5 pairs.
+// Whether the leaves lie `height` levels down, and each node below this one holds the fewest pairs or more.
 pub(crate) fn is_levelled(node: &Node<u64, u64>, height: usize) -> bool
     ensures { OnTrue result (IsLevelled height node.now) }
 {
@@ -119,18 +119,21 @@ pub(crate) fn join(
     Ok(node)
 }
 
-// An inner node of 5 keys between 6 leaves of 5 keys each, from `start` on.
-pub(crate) fn six_leaves(
+// The fewest children of an inner node below the root.
+pub(crate) const LEAST_CHILDREN: usize = MIN_LEN + 1;
+
+// An inner node of the fewest keys, between leaves of the fewest keys each, from `start` on.
+pub(crate) fn least_inner(
     rt: &impl Abort,
     alloc: Global,
     start: u64,
 ) -> Result<Box<Node<u64, u64>>, Fail> {
     let mut node = Node::try_inner(alloc)?;
-    let mut key = start.wrapping_add(5);
+    let mut key = start.wrapping_add(MIN_LEN as u64);
     node.adopt(leaf(rt, alloc, start, key)?);
-    for _ in 0..5 {
+    for _ in 0..MIN_LEN {
         let first = key.wrapping_add(1);
-        let end = key.wrapping_add(6);
+        let end = first.wrapping_add(MIN_LEN as u64);
         push_child(rt, &mut node, key, leaf(rt, alloc, first, end)?);
         key = end;
     }

@@ -1,6 +1,7 @@
 -- A walk from one gap of a tree to another: where it stands in a node.
 use Rattle.std.proofs.Common.{◌≡◌, ℕ, zero, suc, ◌+◌, ◌<◌, ◌≤◌, List, [], ◌∷◌, ◌++◌, length, drop, get_or, refl, sym, ap, subst, ◌∙◌, append-nil, arith}
 use Rattle.std.proofs.lemmas.List.{length-append}
+use Rattle.fc_base.specs.Sizes.{min_len}
 use Rattle.fc_node.specs.declared.node.Node.{Node}
 use Rattle.fc_node.specs.Node.{own_pairs, children_of, child_at, pairs_of, IsLevelled, IsLeaf}
 use Rattle.fc_node.specs.Path.{before, after}
@@ -102,7 +103,7 @@ module _ {F K V : Type 0} (R : F → K × V → F → V → Type 0) where
   pub record IsReached (h : ℕ) (old c : Node K V) (i : ℕ) (rest : List ℕ) : Type 0 where
     pub is : c ≡ child_at old i
     pub levels : IsLevelled h c
-    pub some : 5 ≤ length (own_pairs c)
+    pub some : min_len ≤ length (own_pairs c)
     pub from : IsEnd h rest c
     pub within : length (before rest c) ≤ length (pairs_of c)
 

@@ -1,6 +1,7 @@
 -- From a gap of a leaf to the pair on either side, and to the gap on the other side of it.
 use Rattle.std.proofs.Common.{◌≡◌, ℕ, zero, suc, ◌+◌, ◌-◌, ◌<◌, ◌≤◌, List, [], ◌∷◌, ◌++◌, length, take, get_or, refl, sym, ap, subst, ◌∙◌, arith, add-one, Some, None, append-nil, append_assoc, length-append}
 use Rattle.std.specs.Prelude.{slice_range}
+use Rattle.fc_base.specs.Sizes.{capacity, most_levels}
 use Rattle.fc_node.specs.declared.node.Node.{Node}
 use Rattle.fc_node.specs.Node.{own_pairs, children_of, child_at, pairs_of, IsLevelled}
 use Rattle.fc_node.specs.Path.{IsPath, before}
@@ -231,13 +232,13 @@ module _ {K V : Type 0} where
       deep (suc k) m = let d = g.2.1 k (child_below k n i m le).1 in omega arith
 
   -- the last gap below a node
-  pub last_gap_leaf : (old new : List ℕ) (i : ℕ) (n : Node K V) → (h : ℕ) × IsLevelled h n × (length old + h < 25) → i ≡ length (own_pairs n) → length (children_of n) ≤ i → new ≡ old ++ i ∷ [] → GoesOn old new n (length (pairs_of n))
+  pub last_gap_leaf : (old new : List ℕ) (i : ℕ) (n : Node K V) → (h : ℕ) × IsLevelled h n × (length old + h < most_levels) → i ≡ length (own_pairs n) → length (children_of n) ≤ i → new ≡ old ++ i ∷ [] → GoesOn old new n (length (pairs_of n))
   last_gap_leaf old new i n (zero, l, s) e c is =
       let g = goes_leaf old i zero n l c (omega arith) in
       (g.0, is ∙ g.1, g.2, g.3 ∙ end_leaf n i l (omega arith))
   last_gap_leaf old new i n (suc h, l, s) e c is = absurd (let f : length (children_of n) ≡ length (own_pairs n) + 1 = l.1 in omega arith)
 
-  pub last_gap_child : (old mid new : List ℕ) (i : ℕ) (n c : Node K V) → (h : ℕ) × IsLevelled h n × (length old + h < 25) → i ≡ length (own_pairs n) → i < length (children_of n) → mid ≡ old ++ i ∷ [] → c ≡ child_at n i → GoesOn mid new c (length (pairs_of c)) → GoesOn old new n (length (pairs_of n))
+  pub last_gap_child : (old mid new : List ℕ) (i : ℕ) (n c : Node K V) → (h : ℕ) × IsLevelled h n × (length old + h < most_levels) → i ≡ length (own_pairs n) → i < length (children_of n) → mid ≡ old ++ i ∷ [] → c ≡ child_at n i → GoesOn mid new c (length (pairs_of c)) → GoesOn old new n (length (pairs_of n))
   last_gap_child old mid new i n c (zero, l, s) e k m is g = absurd (let f : length (children_of n) ≡ 0 = ap length (leaf_children n l.1) in omega arith)
   last_gap_child old mid new i n c (suc h, l, s) e k m is g =
       let r = goes_child old new i h n (length (pairs_of (child_at n i))) l (omega arith) (subst (λ d. GoesOn (old ++ i ∷ []) new d (length (pairs_of d))) is (subst (λ m. GoesOn m new c (length (pairs_of c))) m g)) in
@@ -246,19 +247,19 @@ module _ {K V : Type 0} where
       (r.0, r.1, r.2, omega (arith, r.3, a, b))
 
   -- the gap ahead of a pair
-  pub pair_gap_leaf : (old new : List ℕ) (i : ℕ) (n : Node K V) → (h : ℕ) × IsLevelled h n × (length old + h < 25) → i < length (own_pairs n) → length (children_of n) ≤ i → new ≡ old ++ i ∷ [] → GoesOn old new n (length (ahead_in n i))
+  pub pair_gap_leaf : (old new : List ℕ) (i : ℕ) (n : Node K V) → (h : ℕ) × IsLevelled h n × (length old + h < most_levels) → i < length (own_pairs n) → length (children_of n) ≤ i → new ≡ old ++ i ∷ [] → GoesOn old new n (length (ahead_in n i))
   pair_gap_leaf old new i n (zero, l, s) e c is =
       let g = goes_leaf old i zero n l c (omega arith) in
       (g.0, is ∙ g.1, g.2, g.3 ∙ sym (leaf_ahead n i l e))
   pair_gap_leaf old new i n (suc h, l, s) e c is = absurd (let f : length (children_of n) ≡ length (own_pairs n) + 1 = l.1 in omega arith)
 
-  pub pair_gap_child : (old mid new : List ℕ) (i : ℕ) (n c : Node K V) → (h : ℕ) × IsLevelled h n × (length old + h < 25) → i < length (own_pairs n) → i < length (children_of n) → mid ≡ old ++ i ∷ [] → c ≡ child_at n i → GoesOn mid new c (length (pairs_of c)) → GoesOn old new n (length (ahead_in n i))
+  pub pair_gap_child : (old mid new : List ℕ) (i : ℕ) (n c : Node K V) → (h : ℕ) × IsLevelled h n × (length old + h < most_levels) → i < length (own_pairs n) → i < length (children_of n) → mid ≡ old ++ i ∷ [] → c ≡ child_at n i → GoesOn mid new c (length (pairs_of c)) → GoesOn old new n (length (ahead_in n i))
   pair_gap_child old mid new i n c (zero, l, s) e k m is g = absurd (let f : length (children_of n) ≡ 0 = ap length (leaf_children n l.1) in omega arith)
   pair_gap_child old mid new i n c (suc h, l, s) e k m is g =
       let r = goes_child old new i h n (length (pairs_of (child_at n i))) l (omega arith) (subst (λ d. GoesOn (old ++ i ∷ []) new d (length (pairs_of d))) is (subst (λ m. GoesOn m new c (length (pairs_of c))) m g)) in
       (r.0, r.1, r.2, r.3 ∙ sym (inner_ahead h n i l e))
 
-  pub pair_gap_below : (old mid new : List ℕ) (i j : ℕ) (place : List ℕ) (n c : Node K V) → (h : ℕ) × IsLevelled h n × (length old + h < 25) → IsPlace (i ∷ j ∷ place) n → mid ≡ old ++ i ∷ [] → c ≡ child_at n i → GoesOn mid new c (length (place_ahead (j ∷ place) c)) → GoesOn old new n (length (place_ahead (i ∷ j ∷ place) n))
+  pub pair_gap_below : (old mid new : List ℕ) (i j : ℕ) (place : List ℕ) (n c : Node K V) → (h : ℕ) × IsLevelled h n × (length old + h < most_levels) → IsPlace (i ∷ j ∷ place) n → mid ≡ old ++ i ∷ [] → c ≡ child_at n i → GoesOn mid new c (length (place_ahead (j ∷ place) c)) → GoesOn old new n (length (place_ahead (i ∷ j ∷ place) n))
   pair_gap_below old mid new i j place n c (zero, l, s) p m is g = absurd (let f : length (children_of n) ≡ 0 = ap length (leaf_children n l.1) in let k = p.0 in omega arith)
   pair_gap_below old mid new i j place n c (suc h, l, s) p m is g =
       let e : length (children_of n) ≡ length (own_pairs n) + 1 = l.1 in
@@ -303,8 +304,8 @@ module _ {K V : Type 0} where
         count = length-append (lead_in n i) _ ∙ ap (λ m. length (lead_in n i) + m) r.count ∙ let a = length-append (lead_in n i) (place_ahead (take (suc last) (j ∷ rest)) (child_at n i)) in omega (arith, a);
       }
 
-  -- a step of a path is at most 11
-  pub step_small : (gap : List ℕ) (i h : ℕ) (n : Node K V) → IsLevelled h n → length gap ≡ h + 1 → IsPath gap n → i < length gap → get_or gap i 0 ≤ 11
+  -- a step of a path is at most what a node holds
+  pub step_small : (gap : List ℕ) (i h : ℕ) (n : Node K V) → IsLevelled h n → length gap ≡ h + 1 → IsPath gap n → i < length gap → get_or gap i 0 ≤ capacity
   step_small [] i h n l e w k = absurd (omega arith)
   step_small (j ∷ gap) zero zero n l e w k = omega (arith, l.0, w.0)
   step_small (j ∷ gap) zero (suc h) n l e w k = omega (arith, l.0, w.0)
@@ -361,7 +362,7 @@ module _ {K V : Type 0} where
       next_slot sound.0 root gap next last steps sound.2.1 g (subst (λ d. IsNext gap d steps) same x) e f
 
   -- a step of a gap's path is small
-  pub gap_small : (m : Map K V) (gap : List ℕ) (i : ℕ) → IsSoundMap m → IsGapIn m gap → i < length gap → get_or gap i 0 ≤ 11
+  pub gap_small : (m : Map K V) (gap : List ℕ) (i : ℕ) → IsSoundMap m → IsGapIn m gap → i < length gap → get_or gap i 0 ≤ capacity
   gap_small None gap i sound g k = absurd (let e = ap length g in omega arith)
   gap_small (Some root) gap i sound g k = step_small gap i sound.0 root sound.2.1 (g.1 sound.0 sound.2.1) g.0 k
 

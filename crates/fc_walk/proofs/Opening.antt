@@ -3,6 +3,7 @@ use Rattle.std.proofs.Common.{◌≡◌, ℕ, zero, suc, ◌+◌, ◌-◌, ◌<�
 use Rattle.std.specs.declared.alloc.Global.{Global}
 use Rattle.std.specs.List.{AllByRecursion}
 use Rattle.std.proofs.lemmas.List.{length-map, map-append}
+use Rattle.fc_base.specs.Sizes.{most_levels}
 use Rattle.fc_node.specs.declared.node.Node.{Node}
 use Rattle.fc_node.specs.Node.{own_pairs, children_of, pairs_of, IsInner, IsLevelled, IsSound, IsSoundRoot}
 use Rattle.fc_node.specs.Weave.{weave, ahead, behind}
@@ -217,13 +218,13 @@ module _ {K V : Type 0} where
 
   -- ---- a whole node opened onto a stack
 
-  pub under_room : (n : Node K V) (s : List (Box (Node K V) Global)) → IsUnder n s → length s < 25
-  under_room n s u = let r = falling_room (suc u.0) 25 s u.2 in omega arith
+  pub under_room : (n : Node K V) (s : List (Box (Node K V) Global)) → IsUnder n s → length s < most_levels
+  under_room n s u = let r = falling_room (suc u.0) most_levels s u.2 in omega arith
 
-  pub under_leaf : (s new : List (Box (Node K V) Global)) (b : Box (Node K V) Global) → IsUnder b.value s → length (children_of b.value) ≡ 0 → new ≡ s ++ b ∷ [] → IsFalling 0 25 new
+  pub under_leaf : (s new : List (Box (Node K V) Global)) (b : Box (Node K V) Global) → IsUnder b.value s → length (children_of b.value) ≡ 0 → new ≡ s ++ b ∷ [] → IsFalling 0 most_levels new
   under_leaf s new b u e f =
       let k = u.1.0 in
-      falling_low u.0 0 25 new (omega arith) (subst (IsFalling u.0 25) (sym f) (falling_push u.0 25 s b u.2 (omega arith) (opened_leaf u.0 b.value e (levelled_below u.0 b.value u.1.1))))
+      falling_low u.0 0 most_levels new (omega arith) (subst (IsFalling u.0 most_levels) (sym f) (falling_push u.0 most_levels s b u.2 (omega arith) (opened_leaf u.0 b.value e (levelled_below u.0 b.value u.1.1))))
 
   -- the other children and the pairs, with the child under them
   under_parted : (n c : Node K V) (s new : List (Box (Node K V) Global)) (b : Box (Node K V) Global) → (u : IsUnder n s) → IsParted u.0 c (children_of b.value) → length (children_of n) ≡ length (children_of b.value) + 1 → own_pairs b.value ≡ own_pairs n → new ≡ s ++ b ∷ [] → IsUnder c new
@@ -232,7 +233,7 @@ module _ {K V : Type 0} where
       let a = ap length e in
       let k = u.1.0 in
       let o : IsOpened u.0 b.value = (omega arith, λ _. omega arith, p.others) in
-      (p.level, p.child, subst (λ h. IsFalling h 25 new) p.above (subst (IsFalling u.0 25) (sym f) (falling_push u.0 25 s b u.2 (omega arith) o)))
+      (p.level, p.child, subst (λ h. IsFalling h most_levels new) p.above (subst (IsFalling u.0 most_levels) (sym f) (falling_push u.0 most_levels s b u.2 (omega arith) o)))
 
   pub under_first : (n c : Node K V) (s new : List (Box (Node K V) Global)) (b : Box (Node K V) Global) → IsUnder n s → children_of n ≡ c ∷ children_of b.value → own_pairs b.value ≡ own_pairs n → new ≡ s ++ b ∷ [] → IsUnder c new
   under_first n c s new b u d e f =
@@ -259,20 +260,20 @@ module _ {K V : Type 0} where
     pub level : ℕ
     pub opened : IsOpened level m
     pub near : length (own_pairs m) ≤ length (children_of m) + 1
-    pub rest : IsFalling (suc level) 25 s
+    pub rest : IsFalling (suc level) most_levels s
     pub parted : IsParted level c (children_of m)
 
-  pub top_some : (old s : List (Box (Node K V) Global)) (b : Box (Node K V) Global) → IsFalling 0 25 old → old ≡ s ++ b ∷ [] → 0 < length (own_pairs b.value)
-  top_some old s b f e = (falling_pop 0 25 s b (subst (IsFalling 0 25) e f)).some
+  pub top_some : (old s : List (Box (Node K V) Global)) (b : Box (Node K V) Global) → IsFalling 0 most_levels old → old ≡ s ++ b ∷ [] → 0 < length (own_pairs b.value)
+  top_some old s b f e = (falling_pop 0 most_levels s b (subst (IsFalling 0 most_levels) e f)).some
 
-  pub given_leaf : (old s : List (Box (Node K V) Global)) (b : Box (Node K V) Global) (m : Node K V) → IsFalling 0 25 old → old ≡ s ++ b ∷ [] → children_of m ≡ children_of b.value → length (children_of m) ≡ 0 → (h : ℕ) × IsOpened h m × IsFalling (suc h) 25 s
+  pub given_leaf : (old s : List (Box (Node K V) Global)) (b : Box (Node K V) Global) (m : Node K V) → IsFalling 0 most_levels old → old ≡ s ++ b ∷ [] → children_of m ≡ children_of b.value → length (children_of m) ≡ 0 → (h : ℕ) × IsOpened h m × IsFalling (suc h) most_levels s
   given_leaf old s b m f e d l =
-      let t = falling_pop 0 25 s b (subst (IsFalling 0 25) e f) in
+      let t = falling_pop 0 most_levels s b (subst (IsFalling 0 most_levels) e f) in
       (t.level, opened_leaf t.level m l (subst (AreBelow t.level) (sym d) t.opened.2), t.rest)
 
-  pub given_first : (old s : List (Box (Node K V) Global)) (b : Box (Node K V) Global) (n m c : Node K V) (p : K × V) → IsFalling 0 25 old → old ≡ s ++ b ∷ [] → own_pairs b.value ≡ p ∷ own_pairs n → children_of n ≡ children_of b.value → children_of n ≡ c ∷ children_of m → own_pairs m ≡ own_pairs n → IsGiven m c s
+  pub given_first : (old s : List (Box (Node K V) Global)) (b : Box (Node K V) Global) (n m c : Node K V) (p : K × V) → IsFalling 0 most_levels old → old ≡ s ++ b ∷ [] → own_pairs b.value ≡ p ∷ own_pairs n → children_of n ≡ children_of b.value → children_of n ≡ c ∷ children_of m → own_pairs m ≡ own_pairs n → IsGiven m c s
   given_first old s b n m c p f e q d i j =
-      let t = falling_pop 0 25 s b (subst (IsFalling 0 25) e f) in
+      let t = falling_pop 0 most_levels s b (subst (IsFalling 0 most_levels) e f) in
       let r = below_first t.level (children_of b.value) (children_of m) c (sym d ∙ i) t.opened.2 in
       let lq = ap length q in
       let ld = ap length d in
@@ -282,9 +283,9 @@ module _ {K V : Type 0} where
       let w = t.opened.1 (omega arith) in
       record { level = t.level; opened = (omega arith, λ _. omega arith, r.others); near = omega arith; rest = t.rest; parted = r }
 
-  pub given_last : (old s : List (Box (Node K V) Global)) (b : Box (Node K V) Global) (n m c : Node K V) (p : K × V) → IsFalling 0 25 old → old ≡ s ++ b ∷ [] → own_pairs b.value ≡ own_pairs n ++ p ∷ [] → children_of n ≡ children_of b.value → children_of n ≡ children_of m ++ c ∷ [] → own_pairs m ≡ own_pairs n → IsGiven m c s
+  pub given_last : (old s : List (Box (Node K V) Global)) (b : Box (Node K V) Global) (n m c : Node K V) (p : K × V) → IsFalling 0 most_levels old → old ≡ s ++ b ∷ [] → own_pairs b.value ≡ own_pairs n ++ p ∷ [] → children_of n ≡ children_of b.value → children_of n ≡ children_of m ++ c ∷ [] → own_pairs m ≡ own_pairs n → IsGiven m c s
   given_last old s b n m c p f e q d i j =
-      let t = falling_pop 0 25 s b (subst (IsFalling 0 25) e f) in
+      let t = falling_pop 0 most_levels s b (subst (IsFalling 0 most_levels) e f) in
       let r = below_last t.level (children_of b.value) (children_of m) c (sym d ∙ i) t.opened.2 in
       let lq = ap length q ∙ length-append (own_pairs n) (p ∷ []) in
       let ld = ap length d in
@@ -294,22 +295,22 @@ module _ {K V : Type 0} where
       let w = t.opened.1 (omega arith) in
       record { level = t.level; opened = (omega arith, λ _. omega arith, r.others); near = omega arith; rest = t.rest; parted = r }
 
-  pub given_under : (m c : Node K V) (s new : List (Box (Node K V) Global)) → IsGiven m c s → ((h : ℕ) → IsOpened h m → IsFalling (suc h) 25 s → IsFalling h 25 new) → IsUnder c new
-  given_under m c s new i k = (i.parted.level, i.parted.child, subst (λ h. IsFalling h 25 new) i.parted.above (k i.level i.opened i.rest))
+  pub given_under : (m c : Node K V) (s new : List (Box (Node K V) Global)) → IsGiven m c s → ((h : ℕ) → IsOpened h m → IsFalling (suc h) most_levels s → IsFalling h most_levels new) → IsUnder c new
+  given_under m c s new i k = (i.parted.level, i.parted.child, subst (λ h. IsFalling h most_levels new) i.parted.above (k i.level i.opened i.rest))
 
-  pub kept_levels : (m : Node K V) (s new : List (Box (Node K V) Global)) → (h : ℕ) × IsOpened h m × IsFalling (suc h) 25 s → ((h : ℕ) → IsOpened h m → IsFalling (suc h) 25 s → IsFalling h 25 new) → IsFalling 0 25 new
-  kept_levels m s new i k = falling_low i.0 0 25 new (omega arith) (k i.0 i.1 i.2)
+  pub kept_levels : (m : Node K V) (s new : List (Box (Node K V) Global)) → (h : ℕ) × IsOpened h m × IsFalling (suc h) most_levels s → ((h : ℕ) → IsOpened h m → IsFalling (suc h) most_levels s → IsFalling h most_levels new) → IsFalling 0 most_levels new
+  kept_levels m s new i k = falling_low i.0 0 most_levels new (omega arith) (k i.0 i.1 i.2)
 
   -- ---- a node put back
 
-  pub keep_room : (m : Node K V) (s : List (Box (Node K V) Global)) → (h : ℕ) × IsOpened h m × IsFalling (suc h) 25 s → length s < 25
-  keep_room m s i = let r = falling_room (suc i.0) 25 s i.2 in omega arith
+  pub keep_room : (m : Node K V) (s : List (Box (Node K V) Global)) → (h : ℕ) × IsOpened h m × IsFalling (suc h) most_levels s → length s < most_levels
+  keep_room m s i = let r = falling_room (suc i.0) most_levels s i.2 in omega arith
 
-  pub kept : (s new : List (Box (Node K V) Global)) (b : Box (Node K V) Global) → 0 < length (own_pairs b.value) → new ≡ s ++ b ∷ [] → (h : ℕ) → IsOpened h b.value → IsFalling (suc h) 25 s → IsFalling h 25 new
-  kept s new b k e h o f = subst (IsFalling h 25) (sym e) (falling_push h 25 s b f k o)
+  pub kept : (s new : List (Box (Node K V) Global)) (b : Box (Node K V) Global) → 0 < length (own_pairs b.value) → new ≡ s ++ b ∷ [] → (h : ℕ) → IsOpened h b.value → IsFalling (suc h) most_levels s → IsFalling h most_levels new
+  kept s new b k e h o f = subst (IsFalling h most_levels) (sym e) (falling_push h most_levels s b f k o)
 
-  pub dropped : (s : List (Box (Node K V) Global)) (h : ℕ) → IsFalling (suc h) 25 s → IsFalling h 25 s
-  dropped s h f = falling_low (suc h) h 25 s (omega arith) f
+  pub dropped : (s : List (Box (Node K V) Global)) (h : ℕ) → IsFalling (suc h) most_levels s → IsFalling h most_levels s
+  dropped s h f = falling_low (suc h) h most_levels s (omega arith) f
 
   pub empty_front : (m : Node K V) (s : List (Box (Node K V) Global)) (h : ℕ) → IsOpened h m → length (own_pairs m) ≡ 0 → front_of s ≡ front_in m ++ front_of s
   empty_front m s h o e = ap (λ ps. behind ps (map pairs_of (children_of m)) ++ front_of s) (sym (no_item (own_pairs m) e))
@@ -356,38 +357,38 @@ module _ {K V : Type 0} where
   some_front [] (b ∷ back) e h = absurd (omega arith)
   some_front (b ∷ front) back e h = omega arith
 
-  pub bottom_rest : (old rest : List (Box (Node K V) Global)) (b : Box (Node K V) Global) → IsFalling 0 25 old → old ≡ b ∷ rest → IsFalling 0 25 rest
-  bottom_rest old rest b f e = let t = subst (IsFalling 0 25) e f in let k = t.1 in falling_high 0 t.0 25 rest (omega arith) t.4
+  pub bottom_rest : (old rest : List (Box (Node K V) Global)) (b : Box (Node K V) Global) → IsFalling 0 most_levels old → old ≡ b ∷ rest → IsFalling 0 most_levels rest
+  bottom_rest old rest b f e = let t = subst (IsFalling 0 most_levels) e f in let k = t.1 in falling_high 0 t.0 most_levels rest (omega arith) t.4
 
-  pub bottom_over : (old rest target new : List (Box (Node K V) Global)) (b : Box (Node K V) Global) → IsFalling 0 25 old → old ≡ b ∷ rest → length target ≡ 0 → new ≡ target ++ b ∷ [] → IsFalling 0 25 new
+  pub bottom_over : (old rest target new : List (Box (Node K V) Global)) (b : Box (Node K V) Global) → IsFalling 0 most_levels old → old ≡ b ∷ rest → length target ≡ 0 → new ≡ target ++ b ∷ [] → IsFalling 0 most_levels new
   bottom_over old rest target new b f e z i =
-      let t = subst (IsFalling 0 25) e f in
-      subst (IsFalling 0 25) (sym (i ∙ ap (λ s. s ++ b ∷ []) (no_item target z))) (t.0, t.1, t.2, t.3, omega arith)
+      let t = subst (IsFalling 0 most_levels) e f in
+      subst (IsFalling 0 most_levels) (sym (i ∙ ap (λ s. s ++ b ∷ []) (no_item target z))) (t.0, t.1, t.2, t.3, omega arith)
 
   -- the node, which begins and ends with a child
   pub record IsEven (n : Node K V) : Type 0 where
     pub same : length (children_of n) ≡ length (own_pairs n)
     pub some : 0 < length (children_of n)
 
-  pub bottom_even : (old rest : List (Box (Node K V) Global)) (b : Box (Node K V) Global) → IsFalling 0 25 old → old ≡ b ∷ rest → length (own_pairs b.value) ≤ length (children_of b.value) → IsEven b.value
-  bottom_even old rest b f e h = let t = subst (IsFalling 0 25) e f in let k = t.2 in let o = t.3.0 in record { same = omega arith; some = omega arith }
+  pub bottom_even : (old rest : List (Box (Node K V) Global)) (b : Box (Node K V) Global) → IsFalling 0 most_levels old → old ≡ b ∷ rest → length (own_pairs b.value) ≤ length (children_of b.value) → IsEven b.value
+  bottom_even old rest b f e h = let t = subst (IsFalling 0 most_levels) e f in let k = t.2 in let o = t.3.0 in record { same = omega arith; some = omega arith }
 
-  under_bottom : (h : ℕ) (target mid : List (Box (Node K V) Global)) (d : Box (Node K V) Global) (c : Node K V) → h < 25 → 0 < length (own_pairs d.value) → length (children_of d.value) + 1 ≡ length (own_pairs d.value) → IsParted h c (children_of d.value) → length target ≡ 0 → mid ≡ target ++ d ∷ [] → IsUnder c mid
+  under_bottom : (h : ℕ) (target mid : List (Box (Node K V) Global)) (d : Box (Node K V) Global) (c : Node K V) → h < most_levels → 0 < length (own_pairs d.value) → length (children_of d.value) + 1 ≡ length (own_pairs d.value) → IsParted h c (children_of d.value) → length target ≡ 0 → mid ≡ target ++ d ∷ [] → IsUnder c mid
   under_bottom h target mid d c l k e p z i =
-      (p.level, p.child, subst (λ j. IsFalling j 25 mid) p.above (subst (IsFalling h 25) (sym (i ∙ ap (λ s. s ++ d ∷ []) (no_item target z))) (h, l, k, (omega arith, λ _. omega arith, p.others), omega arith)))
+      (p.level, p.child, subst (λ j. IsFalling j most_levels mid) p.above (subst (IsFalling h most_levels) (sym (i ∙ ap (λ s. s ++ d ∷ []) (no_item target z))) (h, l, k, (omega arith, λ _. omega arith, p.others), omega arith)))
 
-  pub under_over_first : (old rest target mid : List (Box (Node K V) Global)) (b d : Box (Node K V) Global) (c : Node K V) → IsFalling 0 25 old → old ≡ b ∷ rest → IsEven b.value → length target ≡ 0 → children_of b.value ≡ c ∷ children_of d.value → own_pairs d.value ≡ own_pairs b.value → mid ≡ target ++ d ∷ [] → IsUnder c mid
+  pub under_over_first : (old rest target mid : List (Box (Node K V) Global)) (b d : Box (Node K V) Global) (c : Node K V) → IsFalling 0 most_levels old → old ≡ b ∷ rest → IsEven b.value → length target ≡ 0 → children_of b.value ≡ c ∷ children_of d.value → own_pairs d.value ≡ own_pairs b.value → mid ≡ target ++ d ∷ [] → IsUnder c mid
   under_over_first old rest target mid b d c f e v z i j k =
-      let t = subst (IsFalling 0 25) e f in
+      let t = subst (IsFalling 0 most_levels) e f in
       let a = ap length i in
       let w = ap length j in
       let y = v.same in
       let x = t.2 in
       under_bottom t.0 target mid d c t.1 (omega arith) (omega arith) (below_first t.0 (children_of b.value) (children_of d.value) c i t.3.2) z k
 
-  pub under_over_last : (old rest target mid : List (Box (Node K V) Global)) (b d : Box (Node K V) Global) (c : Node K V) → IsFalling 0 25 old → old ≡ b ∷ rest → IsEven b.value → length target ≡ 0 → children_of b.value ≡ children_of d.value ++ c ∷ [] → own_pairs d.value ≡ own_pairs b.value → mid ≡ target ++ d ∷ [] → IsUnder c mid
+  pub under_over_last : (old rest target mid : List (Box (Node K V) Global)) (b d : Box (Node K V) Global) (c : Node K V) → IsFalling 0 most_levels old → old ≡ b ∷ rest → IsEven b.value → length target ≡ 0 → children_of b.value ≡ children_of d.value ++ c ∷ [] → own_pairs d.value ≡ own_pairs b.value → mid ≡ target ++ d ∷ [] → IsUnder c mid
   under_over_last old rest target mid b d c f e v z i j k =
-      let t = subst (IsFalling 0 25) e f in
+      let t = subst (IsFalling 0 most_levels) e f in
       let a = ap length i ∙ length-append (children_of d.value) (c ∷ []) in
       let w = ap length j in
       let y = v.same in

@@ -2,6 +2,7 @@
 use Rattle.std.proofs.Common.{◌≡◌, ℕ, suc, zero, ◌+◌, ◌-◌, ◌<◌, ◌≤◌, List, [], ◌∷◌, ◌++◌, length, get_or, map, take, drop, refl, sym, ap, ◌∙◌, subst, arith, append_assoc, append-nil, add-one, length-append, Some, None}
 use Rattle.std.specs.Borrow.{Bor}
 use Rattle.std.proofs.lemmas.List.{length-map, map-append, take_more}
+use Rattle.fc_base.specs.Sizes.{capacity, most_levels}
 use Rattle.fc_node.specs.Weave.{weave, ahead, behind}
 use Rattle.fc_node.specs.declared.node.Node.{Node}
 use Rattle.fc_node.specs.Node.{own_pairs, children_of, child_at, pairs_of, IsLeaf, IsInner, IsLevelled}
@@ -91,10 +92,10 @@ module _ {K V : Type 0} where
   stack_length zero (x ∷ s) h = absurd h
   stack_length (suc m) (x ∷ s) h = let i = stack_length m s h.2 in omega arith
 
-  pub standing_length : (s : List (Spot K V)) → IsStanding s → length s ≤ 25
+  pub standing_length : (s : List (Spot K V)) → IsStanding s → length s ≤ most_levels
   standing_length s h = let l = stack_length h.0 s h.2 in let b = h.1 in omega arith
 
-  pub standing_room : (s : List (Spot K V)) (x : Spot K V) → IsStanding (s ++ x ∷ []) → length s < 25
+  pub standing_room : (s : List (Spot K V)) (x : Spot K V) → IsStanding (s ++ x ∷ []) → length s < most_levels
   standing_room s x h = let l = standing_length (s ++ x ∷ []) h in let e = length-append s (x ∷ []) in omega arith
 
   -- What is known of the last node.
@@ -102,7 +103,7 @@ module _ {K V : Type 0} where
     pub height : ℕ
     pub levels : IsLevelled height x.0.now
     pub le : x.1 ≤ length (own_pairs x.0.now)
-    pub fits : length (own_pairs x.0.now) ≤ 11
+    pub fits : length (own_pairs x.0.now) ≤ capacity
 
   stack_top : (m : ℕ) (s : List (Spot K V)) (x : Spot K V) → IsStack m (s ++ x ∷ []) → IsTop x
   stack_top zero [] x h = absurd h

@@ -17,7 +17,7 @@ abbrev pub held : {T : Type 0} → Option (List T) → ℕ → List T
 held None len = []
 held (Some cells) len = take len cells
 
--- So many of 25 cells hold an item; with no cell none does.
+-- So many of the cells, one a level, hold an item; with no cell none does.
 abbrev pub IsHeld : {T : Type 0} → Option (List T) → ℕ → Type 0
 IsHeld None len = len ≡ 0
 IsHeld (Some cells) len = (length cells ≡ most_levels) × (len ≤ most_levels)

@@ -28,7 +28,7 @@ module _ {K V : Type 0} where
   IsStack zero (x ∷ s) = ⊥
   IsStack (suc m) (x ∷ s) = (x.1 ≤ length (own_pairs x.0.now)) × IsLevelled m x.0.now × IsStack m s
 
-  -- One node for each of at most 25 levels.
+  -- One node for each of at most so many levels as a tree can have.
   abbrev pub IsStanding : List (Bor (Node K V) × ℕ) → Type 0
   IsStanding s = (m : ℕ) × (m ≤ most_levels) × IsStack m s
 

@@ -6,7 +6,8 @@ ghost use Rattle.fc_walk.specs.Stack.{IsTopOf};
 use fc_node::path::MAX_STEPS;
 use std::marker::Model;
 
-/// At most 25 items, in order. All cells are filled when the first item comes, so that no cell needs a mark of whether it holds one.
+/// At most [`MAX_STEPS`] items, in order. All cells are filled when the first item comes, so that no cell needs a mark of whether
+/// it holds one.
 #[derive(Drop)]
 pub struct CopyStack<T> {
     cells: Option<[T; MAX_STEPS]>,

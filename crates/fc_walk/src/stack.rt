@@ -6,7 +6,7 @@ use arrayvec::ArrayVec;
 use fc_node::path::MAX_STEPS;
 use std::marker::Model;
 
-/// At most 25 items, in order.
+/// At most [`MAX_STEPS`] items, in order.
 #[derive(Drop)]
 pub struct Stack<T> {
     cells: ArrayVec<Option<T>, MAX_STEPS>,

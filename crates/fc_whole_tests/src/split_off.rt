@@ -2,6 +2,7 @@
 use crate::odds::{Order, has_odds, odds};
 use fc_base::TryReserveError;
 use fc_map::map::BTreeMap;
+use fc_node::node::CAPACITY;
 use std::alloc::Global;
 use std::test::Fail;
 
@@ -60,7 +61,7 @@ fn every_split_of_appended_maps_of_up_to_two_hundred_pairs(rt: HostRuntime) -> R
 
 #[test]
 fn every_split_of_pairs_that_came_in_other_orders(rt: HostRuntime) -> Result<(), Fail> {
-    for n in [11, 12, 17, 88, 89, 144, 200] {
+    for n in [CAPACITY as u64, CAPACITY as u64 + 1, 17, 88, 89, 144, 200] {
         assert!(rt; splits_everywhere(rt.alloc(), Order::Descending, n)?);
         assert!(rt; splits_everywhere(rt.alloc(), Order::Scrambled, n)?);
     }

@@ -1,5 +1,5 @@
-//! Trees of keys that follow one another, built and split: each has 5 to 11 pairs in every node but the root and with all
-//! leaves at one depth.
+//! Trees of keys that follow one another, built and split: each has neither too few pairs nor too many in every node but the root,
+//! and all leaves at one depth.
 ghost use Rattle.std.specs.Prelude.{IfOk};
 ghost use Rattle.std.specs.Bool.{OnTrue};
 ghost use Rattle.fc_node.specs.Place.{IsPlace};
@@ -29,7 +29,7 @@ fn built(alloc: Global, n: u32) -> Result<Tree, TryReserveError>
 }
 
 // Whether the leaves lie `height` levels down, each node above them has a child on either side of each pair, and each node below this
-// one holds 5 to 11 pairs.
+// one holds as many pairs as a node may.
 fn is_laid_out(node: &Node<u64, u64>, height: usize) -> bool {
     if height == 0 {
         return node.is_leaf();

@@ -57,17 +57,17 @@ fn fills(map: &mut Numbers, number: u64) -> Result<bool, TryReserveError> {
     }
 }
 
-// The eleven even numbers from 2 on, each with its place.
+// The even numbers from 2 on that fill a leaf, each with its place.
 fn even_ones(alloc: Global) -> Result<Numbers, TryReserveError> {
     let mut map = BTreeMap::new(alloc);
-    for below in 0..11u64 {
+    for below in 0..CAPACITY as u64 {
         insert(&mut map, 2 * below + 2, below)?;
     }
     Ok(map)
 }
 
 fn has_even_ones(map: &Numbers) -> bool {
-    for below in 0..11u64 {
+    for below in 0..CAPACITY as u64 {
         if !has(map, 2 * below + 2, below) {
             return false;
         }
@@ -78,10 +78,10 @@ fn has_even_ones(map: &Numbers) -> bool {
 // Each gap of a full leaf is filled, on a map of its own, and the new value written where it was put.
 #[test]
 fn each_gap_of_a_full_leaf_is_filled(rt: HostRuntime) -> Result<(), Fail> {
-    for gap in 0..12u64 {
+    for gap in 0..BEYOND {
         let mut map = even_ones(rt.alloc())?;
         assert!(rt; fills(&mut map, 2 * gap + 1)? && has(&map, 2 * gap + 1, 7));
-        assert!(rt; map.len() == 12 && has_even_ones(&map));
+        assert!(rt; map.len() == CAPACITY + 1 && has_even_ones(&map));
     }
     Ok(())
 }
@@ -228,7 +228,7 @@ fn a_refused_entry_calls_its_closure_once_and_hands_its_value_back(
 ) -> Result<(), Fail> {
     let (kept, refused) = (no_drops(), no_drops());
     let calls = Cell::new(0);
-    let Some(mut map) = tracked_up_to(rt.alloc(), 11, &kept) else {
+    let Some(mut map) = tracked_up_to(rt.alloc(), CAPACITY, &kept) else {
         assert!(rt; false);
         return Ok(());
     };
@@ -237,7 +237,7 @@ fn a_refused_entry_calls_its_closure_once_and_hands_its_value_back(
     let fate = fill_entry(&mut map, 0, &refused, &calls);
     drop(held);
     assert!(rt; has_none && matches!(fate, Ok(Fate::HandedBack)) && calls.get() == 1);
-    assert!(rt; map.len() == 11 && were_dropped(&kept, 0, 0));
+    assert!(rt; map.len() == CAPACITY && were_dropped(&kept, 0, 0));
     Ok(())
 }
 
@@ -280,7 +280,7 @@ fn leaves_every_pair(alloc: Global, last: usize) -> Result<bool, TryReserveError
 // Each request is refused in turn by the sweep.
 #[test]
 fn a_refused_entry_leaves_every_pair(rt: HostRuntime) -> Result<(), Fail> {
-    for last in [11usize, 12, 88] {
+    for last in [CAPACITY, CAPACITY + 1, 88] {
         assert!(rt; leaves_every_pair(rt.alloc(), last)?);
     }
     Ok(())

@@ -2,41 +2,45 @@
 use super::{has_memory, take_all_memory};
 use crate::neighbours::{Tagged, tagged_below};
 use crate::numbers::{Numbers, has, has_up_to, insert, multiples};
+use crate::sizes::{BEYOND, CAPACITY};
 use fc_base::{Count, TryReserveError};
 use fc_map::map::{BTreeMap, Entry};
 use std::test::Fail;
 
 type TaggedMap = BTreeMap<Tagged, u64>;
 
-fn twelve(letter: char) -> Tagged {
-    Tagged { number: 12, letter }
+fn beyond(letter: char) -> Tagged {
+    Tagged {
+        number: BEYOND,
+        letter,
+    }
 }
 
-// Whether twelve came back with this letter and this value, for want of memory.
+// Whether the number behind a full leaf came back with this letter and this value, for want of memory.
 fn is_back(back: (Tagged, u64, TryReserveError), letter: char, value: u64) -> bool {
     let (key, found, e) = back;
-    key.number == 12
+    key.number == BEYOND
         && key.letter == letter
         && found == value
         && matches!(e, TryReserveError::AllocError)
 }
 
 fn insertion_hands_back(map: &mut TaggedMap) -> bool {
-    match map.try_insert(twelve('b'), 1) {
+    match map.try_insert(beyond('b'), 1) {
         Ok(_old) => false,
         Err(back) => is_back(back, 'b', 1),
     }
 }
 
 fn counted_insertion_hands_back(map: &mut TaggedMap) -> bool {
-    match map.try_insert_counted(twelve('c'), 2, &mut Count::new()) {
+    match map.try_insert_counted(beyond('c'), 2, &mut Count::new()) {
         Ok(_old) => false,
         Err(back) => is_back(back, 'c', 2),
     }
 }
 
 fn vacant_entry_hands_back(map: &mut TaggedMap) -> bool {
-    match map.try_entry(twelve('d')) {
+    match map.try_entry(beyond('d')) {
         Ok(Entry::Vacant(entry)) => match entry.try_insert(3) {
             Ok(_lent) => false,
             Err(back) => is_back(back, 'd', 3),
@@ -47,7 +51,7 @@ fn vacant_entry_hands_back(map: &mut TaggedMap) -> bool {
 }
 
 fn counted_vacant_entry_hands_back(map: &mut TaggedMap) -> bool {
-    match map.try_entry(twelve('e')) {
+    match map.try_entry(beyond('e')) {
         Ok(Entry::Vacant(entry)) => match entry.try_insert_counted(4, &mut Count::new()) {
             Ok(_lent) => false,
             Err(back) => is_back(back, 'e', 4),
@@ -58,7 +62,7 @@ fn counted_vacant_entry_hands_back(map: &mut TaggedMap) -> bool {
 }
 
 fn entry_hands_back(map: &mut TaggedMap) -> bool {
-    match map.try_entry(twelve('f')) {
+    match map.try_entry(beyond('f')) {
         Ok(entry) => match entry.or_try_insert(5) {
             Ok(_lent) => false,
             Err(back) => is_back(back, 'f', 5),
@@ -68,7 +72,7 @@ fn entry_hands_back(map: &mut TaggedMap) -> bool {
 }
 
 fn entry_hands_back_what_its_closure_made(map: &mut TaggedMap) -> bool {
-    match map.try_entry(twelve('g')) {
+    match map.try_entry(beyond('g')) {
         Ok(entry) => match entry.or_try_insert_with(|| 6) {
             Ok(_lent) => false,
             Err(back) => is_back(back, 'g', 6),
@@ -78,7 +82,7 @@ fn entry_hands_back_what_its_closure_made(map: &mut TaggedMap) -> bool {
 }
 
 fn entry_hands_the_default_back(map: &mut TaggedMap) -> bool {
-    match map.try_entry(twelve('h')) {
+    match map.try_entry(beyond('h')) {
         Ok(entry) => match entry.or_default() {
             Ok(_lent) => false,
             Err(back) => is_back(back, 'h', 0),
@@ -87,11 +91,11 @@ fn entry_hands_the_default_back(map: &mut TaggedMap) -> bool {
     }
 }
 
-// Eleven pairs fill a leaf, so that each new key takes memory. A run that gets its memory from elsewhere, as one without proof does, would
+// The pairs fill a leaf, so that each new key takes memory. A run that gets its memory from elsewhere, as one without proof does, would
 // show nothing, and fails.
 #[test]
 fn each_refused_call_hands_its_pair_back(rt: HostRuntime) -> Result<(), Fail> {
-    let mut map = tagged_below(rt.alloc(), 12)?;
+    let mut map = tagged_below(rt.alloc(), BEYOND)?;
     let held = take_all_memory(rt.alloc())?;
     let is_right = !has_memory(rt.alloc())
         && insertion_hands_back(&mut map)
@@ -102,7 +106,7 @@ fn each_refused_call_hands_its_pair_back(rt: HostRuntime) -> Result<(), Fail> {
         && entry_hands_back_what_its_closure_made(&mut map)
         && entry_hands_the_default_back(&mut map);
     drop(held);
-    assert!(rt; is_right && map.len() == 11);
+    assert!(rt; is_right && map.len() == CAPACITY);
     Ok(())
 }
 
@@ -118,11 +122,12 @@ fn hands_back(map: &mut Numbers, number: u64, given: u64) -> bool {
 // A run that gets its memory from elsewhere, as one without proof does, would show nothing, and fails.
 #[test]
 fn a_refused_pair_goes_in_once_memory_is_there(rt: HostRuntime) -> Result<(), Fail> {
-    let mut map = multiples(rt.alloc(), 1, 12, 1)?;
+    let mut map = multiples(rt.alloc(), 1, BEYOND, 1)?;
     let held = take_all_memory(rt.alloc())?;
-    let is_back = !has_memory(rt.alloc()) && hands_back(&mut map, 12, 7);
+    let is_back = !has_memory(rt.alloc()) && hands_back(&mut map, BEYOND, 7);
     drop(held);
-    assert!(rt; is_back && has_up_to(&map, 11));
-    assert!(rt; matches!(insert(&mut map, 12, 7), Ok(None)) && has(&map, 12, 7) && map.len() == 12);
+    assert!(rt; is_back && has_up_to(&map, CAPACITY as u64));
+    assert!(rt; matches!(insert(&mut map, BEYOND, 7), Ok(None)) && has(&map, BEYOND, 7));
+    assert!(rt; map.len() == CAPACITY + 1);
     Ok(())
 }

@@ -1,5 +1,6 @@
 use Rattle.std.proofs.Common.{◌≡◌, suc, ◌+◌, ◌-◌, ◌<◌, ◌≤◌, length, rules, ap, sym, subst, ◌∙◌, arith, Some}
 use Rattle.std.specs.Box.{with_value}
+use Rattle.fc_base.specs.Sizes.{min_len}
 use Rattle.fc_node.specs.Node.{own_pairs, pairs_of, IsLevelled, IsSound}
 use Rattle.fc_node.proofs.Formed.{leaf_or_inner}
 use Rattle.fc_node.proofs.Made.{child_set, inner_length}
@@ -58,7 +59,7 @@ hang_below-below-requires g t c κs within =
     let ci = boxed_child n i _ c.in-Some.is i _ c.deref_mut-child.result.now there c.get_mut.ensures.value c.deref_mut-child.ensures.value in
     let spares = c.requires.spares in
     let falls : c.args.depth - 1 < c.args.depth = omega arith in
-    (search rules, (search rules, (search rules, ((c.requires.levels.0, subst (IsLevelled b) (sym ci) on.child.1, c.requires.levels.2), ((λ _. subst (λ k. 5 ≤ length (own_pairs k)) (sym ci) on.child.0), omega arith)))))
+    (search rules, (search rules, (search rules, ((c.requires.levels.0, subst (IsLevelled b) (sym ci) on.child.1, c.requires.levels.2), ((λ _. subst (λ k. min_len ≤ length (own_pairs k)) (sym ci) on.child.0), omega arith)))))
 
 pub put_inner-requires : goal.put_inner-requires
 put_inner-requires g t c =

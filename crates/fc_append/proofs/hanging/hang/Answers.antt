@@ -1,4 +1,5 @@
 use Rattle.std.proofs.Common.{suc, ◌+◌, ◌≤◌, length, sym, ap, subst, ◌∙◌, arith}
+use Rattle.fc_base.specs.Sizes.{min_len}
 use Rattle.fc_node.specs.Node.{own_pairs, pairs_of, IsLevelled}
 use Rattle.fc_border.proofs.Mended.{within_more}
 use Rattle.fc_insertion.proofs.InsertedPairs.{put_root}
@@ -10,7 +11,7 @@ pub hang_below-requires-clause-levels : goal.hang_below-requires-clause-levels
 hang_below-requires-clause-levels g c = (c.requires.levels.0, subst (IsLevelled _) (sym c.deref_mut.ensures.value) c.requires.levels.1, c.requires.levels.2)
 
 pub hang_below-requires-clause-some : goal.hang_below-requires-clause-some
-hang_below-requires-clause-some g c z = subst (λ n. 5 ≤ length (own_pairs n)) (sym c.deref_mut.ensures.value) (c.requires.some z)
+hang_below-requires-clause-some g c z = subst (λ n. min_len ≤ length (own_pairs n)) (sym c.deref_mut.ensures.value) (c.requires.some z)
 
 pub mend-requires : goal.mend-requires
 mend-requires g c = (c.args.depth + c.requires.levels.0, c.in-None.ensures.levels c.requires.levels.0 (subst (IsLevelled _) (sym c.deref_mut.ensures.value) c.requires.levels.1) c.requires.levels.2)

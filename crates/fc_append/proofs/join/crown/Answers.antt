@@ -1,4 +1,5 @@
 use Rattle.std.proofs.Common.{◌≡◌, suc, ◌+◌, ◌<◌, ◌≤◌, length, ap, sym, subst, ◌∙◌, arith}
+use Rattle.fc_base.specs.Sizes.{capacity}
 use Rattle.fc_node.specs.Node.{own_pairs, child_at, pairs_of, IsInner}
 use Rattle.fc_node.specs.Siblings.{AreAlike, IsMerged}
 use Rattle.fc_insertion.proofs.InsertedPairs.{put_root}
@@ -13,14 +14,14 @@ merge-requires g c =
     let y = c.len-theirs.ensures.value in
     let y' = ap (λ n. length (own_pairs n)) c.deref-2.ensures in
     let z = c.if-ours-theirs-lt-CAPACITY.true in
-    let few : length (own_pairs c.args.left.value) + length (own_pairs c.args.right.value) < 11 = omega arith in
+    let few : length (own_pairs c.args.left.value) + length (own_pairs c.args.right.value) < capacity = omega arith in
     let own : length (own_pairs c.grow.new.root.value) ≡ 1 = ap length k.own in
     let is = sym c.deref_mut.ensures.value in
     record {
       in_bounds = subst (λ n. 0 < length (own_pairs n)) is (omega arith);
       inner = subst IsInner is (crowned_inner c.requires.levels.0 c.grow.new.root.value c.args.left.value c.args.pair c.args.right k);
       alike = subst (λ n. AreAlike (child_at n 0) (child_at n 1)) is (crowned_alike c.requires.levels.0 c.grow.new.root.value c.args.left.value c.args.pair c.args.right k);
-      room = subst (λ n. length (own_pairs (child_at n 0)) + length (own_pairs (child_at n 1)) + 1 ≤ 11) is (crowned_room c.requires.levels.0 c.grow.new.root.value c.args.left.value c.args.pair c.args.right k few);
+      room = subst (λ n. length (own_pairs (child_at n 0)) + length (own_pairs (child_at n 1)) + 1 ≤ capacity) is (crowned_room c.requires.levels.0 c.grow.new.root.value c.args.left.value c.args.pair c.args.right k few);
     }
 
 pub mend-requires : goal.mend-requires
@@ -31,7 +32,7 @@ mend-requires g c =
     let y = c.len-theirs.ensures.value in
     let y' = ap (λ n. length (own_pairs n)) c.deref-2.ensures in
     let z = c.if-ours-theirs-lt-CAPACITY.true in
-    let few : length (own_pairs c.args.left.value) + length (own_pairs c.args.right.value) < 11 = omega arith in
+    let few : length (own_pairs c.args.left.value) + length (own_pairs c.args.right.value) < capacity = omega arith in
     let merged = subst (λ n. IsMerged 0 n c.merge.new.self) c.deref_mut.ensures.value c.merge.ensures.merged in
     (suc c.requires.levels.0, merged_right c.requires.levels.0 c.grow.new.root.value c.args.left.value c.args.pair c.args.right k c.merge.new.self few merged)
 
@@ -47,7 +48,7 @@ returns-then-ours-theirs-lt-CAPACITY-clause-levels g c h a b =
     let y = c.len-theirs.ensures.value in
     let y' = ap (λ n. length (own_pairs n)) c.deref-2.ensures in
     let z = c.if-ours-theirs-lt-CAPACITY.true in
-    let few : length (own_pairs c.args.left.value) + length (own_pairs c.args.right.value) < 11 = omega arith in
+    let few : length (own_pairs c.args.left.value) + length (own_pairs c.args.right.value) < capacity = omega arith in
     let merged = subst (λ n. IsMerged 0 n c.merge.new.self) c.deref_mut.ensures.value c.merge.ensures.merged in
     c.mend.ensures.levels (suc h) (merged_right h c.grow.new.root.value c.args.left.value c.args.pair c.args.right k c.merge.new.self few merged)
 

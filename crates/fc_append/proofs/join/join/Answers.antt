@@ -1,4 +1,5 @@
 use Rattle.std.proofs.Common.{◌≡◌, suc, ◌+◌, ◌-◌, ◌++◌, ◌∷◌, [], ap, sym, subst, ◌∙◌, arith, append_assoc}
+use Rattle.fc_base.specs.Sizes.{most_levels}
 use Rattle.fc_node.specs.Node.{pairs_of, IsLevelled, IsSoundRoot}
 use Rattle.fc_border.proofs.Mended.{within_more}
 use Rattle.fc_append.proofs.join.join.Goals as goal
@@ -47,7 +48,7 @@ returns-then-ours-theirs-clause-levels g c =
     let z = c.if-ours-theirs.true in
     let same : c.height-theirs.result - c.height-ours.result + l.0 ≡ r.0 = omega arith in
     let kept = (c.remove_last-pair.ensures.levels l.0 (subst (IsSoundRoot l.0) (sym c.deref_mut.ensures.value) l.2)).0 in
-    within_more (suc (c.height-theirs.result - c.height-ours.result + l.0)) 25 _ (omega arith) (c.hang.ensures.levels l.0 (subst (λ k. IsLevelled k c.args.right.value) (sym same) r.2.1) kept)
+    within_more (suc (c.height-theirs.result - c.height-ours.result + l.0)) most_levels _ (omega arith) (c.hang.ensures.levels l.0 (subst (λ k. IsLevelled k c.args.right.value) (sym same) r.2.1) kept)
 
 pub remove_first-pair-requires : goal.remove_first-pair-requires
 remove_first-pair-requires g c = let r = c.requires.right in record { sound = (r.0, subst (IsSoundRoot r.0) (sym c.deref_mut-2.ensures.value) r.2) }
@@ -86,7 +87,7 @@ returns-then-ours-theirs-2-clause-levels g c =
     let z = c.if-ours-theirs-2.true in
     let same : c.height-ours.result - c.height-theirs.result + r.0 ≡ l.0 = omega arith in
     let kept = (c.remove_first-pair.ensures.levels r.0 (subst (IsSoundRoot r.0) (sym c.deref_mut-2.ensures.value) r.2)).0 in
-    within_more (suc (c.height-ours.result - c.height-theirs.result + r.0)) 25 _ (omega arith) (c.hang-then-ours-theirs-2.ensures.levels r.0 (subst (λ k. IsLevelled k c.args.left.value) (sym same) l.2.1) kept)
+    within_more (suc (c.height-ours.result - c.height-theirs.result + r.0)) most_levels _ (omega arith) (c.hang-then-ours-theirs-2.ensures.levels r.0 (subst (λ k. IsLevelled k c.args.left.value) (sym same) l.2.1) kept)
 
 pub take-requires : goal.take-requires
 take-requires g c =
@@ -139,4 +140,4 @@ returns-clause-levels g c =
     let w = c.if-ours-theirs-2.false in
     let same : l.0 ≡ r.0 = omega arith in
     let kept = (c.remove_first-pair.ensures.levels r.0 (subst (IsSoundRoot r.0) (sym c.deref_mut-2.ensures.value) r.2)).0 in
-    within_more (suc r.0) 25 _ (omega arith) (c.crown.ensures.levels r.0 (subst (λ k. IsLevelled k c.args.left.value) same l.2.1) kept)
+    within_more (suc r.0) most_levels _ (omega arith) (c.crown.ensures.levels r.0 (subst (λ k. IsLevelled k c.args.left.value) same l.2.1) kept)

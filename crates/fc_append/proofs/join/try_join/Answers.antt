@@ -1,4 +1,5 @@
 use Rattle.std.proofs.Common.{◌≡◌, ◌++◌, length, sym, ap, subst, ◌∙◌, arith, length-append}
+use Rattle.fc_base.specs.Sizes.{most_levels}
 use Rattle.fc_node.specs.Node.{pairs_of, IsLevelled}
 use Rattle.fc_node.specs.Tree.{entries, root_of}
 use Rattle.fc_border.proofs.Cuts.{root_sound}
@@ -53,4 +54,4 @@ returns-clause-sound g c =
     let e = c.join.ensures.pairs ∙ ap (λ o. entries (root_of o) ++ pairs_of c.in-Some-take-2.right.value) (sym (sym c.take.ensures.value ∙ c.in-Some-take.is))
     ∙ ap (λ o. entries (root_of c.args.ours.now) ++ entries (root_of o)) (sym (sym c.take-2.ensures.value ∙ c.in-Some-take-2.is)) in
     let n = ap length e ∙ length-append (entries (root_of c.args.ours.now)) (entries (root_of c.args.theirs.now)) in
-    within_few 25 (root_of c.join.result) c.join.ensures.levels (omega arith)
+    within_few most_levels (root_of c.join.result) c.join.ensures.levels (omega arith)

@@ -1,12 +1,13 @@
 use Rattle.std.proofs.Common.{◌≡◌, ◌+◌, ◌<◌, ◌≤◌, ◌++◌, length}
 use Rattle.fc_base.specs.Ascending.{IsAscending}
 use Rattle.fc_base.specs.Joined.{joined}
+use Rattle.fc_base.specs.Sizes.{most_levels}
 use Rattle.fc_walk.specs.Opened.{IsFalling, front_of}
 use Rattle.fc_append.proofs.merge.merge.Given as goal
 
 abbrev pub invariant-loop-their_nodes : goal.invariant-loop-their_nodes
 invariant-loop-their_nodes g l =
-    (IsFalling 0 25 l.our_nodes × IsFalling 0 25 l.their_nodes)
+    (IsFalling 0 most_levels l.our_nodes × IsFalling 0 most_levels l.their_nodes)
     × (IsAscending g.K.Ord.cmp (front_of l.our_nodes) × IsAscending g.K.Ord.cmp (front_of l.their_nodes))
     × (length (front_of l.our_nodes) + length (front_of l.their_nodes) ≤ l.builder.room)
     × (l.builder.pairs ++ joined g.K.Ord.cmp (front_of l.our_nodes) (front_of l.their_nodes) ≡ l.initial.builder.pairs ++ joined g.K.Ord.cmp (front_of l.initial.our_nodes) (front_of l.initial.their_nodes))

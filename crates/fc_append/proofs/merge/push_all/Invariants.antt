@@ -1,9 +1,10 @@
 use Rattle.std.proofs.Common.{◌≡◌, ◌+◌, ◌≤◌, ◌++◌, length}
+use Rattle.fc_base.specs.Sizes.{most_levels}
 use Rattle.fc_walk.specs.Opened.{IsFalling, front_of}
 use Rattle.fc_append.proofs.merge.push_all.Given as goal
 
 abbrev pub invariant-loop-builder : goal.invariant-loop-builder
-invariant-loop-builder g l = IsFalling 0 25 l.nodes
+invariant-loop-builder g l = IsFalling 0 most_levels l.nodes
     × (length (front_of l.nodes) ≤ l.builder.room)
     × (l.builder.pairs ++ front_of l.nodes ≡ l.initial.builder.pairs ++ front_of l.initial.nodes)
     × (length l.builder.pairs + l.builder.room ≡ length l.initial.builder.pairs + l.initial.builder.room)

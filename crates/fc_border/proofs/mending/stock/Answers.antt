@@ -1,4 +1,5 @@
 use Rattle.std.proofs.Common.{◌≡◌, ◌+◌, ◌-◌, length, ap, sym, subst, ◌∙◌, arith}
+use Rattle.fc_base.specs.Sizes.{min_len}
 use Rattle.fc_node.specs.Node.{own_pairs, child_at}
 use Rattle.fc_node.proofs.Sizes.{level_size}
 use Rattle.fc_border.specs.Border.{border_place}
@@ -50,8 +51,8 @@ returns-in-Left-clause-stocked g c h b =
     let few = c.if-held-gt-MIN_LEN.false in
     let p = pair_opened c.args.side h n place c.requires.some b e in
     let top = level_size h _ (subst (λ s. RightOf s h (child_at n (place + 1))) c.in-Left.is p.right) in
-    let k : length (own_pairs (child_at n place)) + (6 - c.len-held.result) ≡ 6 = omega arith in
-    shared_stocked c.args.side h n _ place e p (omega arith) (omega arith) _ (subst (λ s. length (own_pairs (child_at n place)) + (6 - c.len-held.result) ≡ left_share s (both_of n place)) (sym c.in-Left.is) k) c.bulk_steal_right.ensures.shared
+    let k : length (own_pairs (child_at n place)) + ((min_len + 1) - c.len-held.result) ≡ min_len + 1 = omega arith in
+    shared_stocked c.args.side h n _ place e p (omega arith) (omega arith) _ (subst (λ s. length (own_pairs (child_at n place)) + ((min_len + 1) - c.len-held.result) ≡ left_share s (both_of n place)) (sym c.in-Left.is) k) c.bulk_steal_right.ensures.shared
 
 pub returns-in-Right-clause-stocked : goal.returns-in-Right-clause-stocked
 returns-in-Right-clause-stocked g c h b =
@@ -72,5 +73,5 @@ returns-in-Right-clause-stocked g c h b =
     let few = c.if-held-gt-MIN_LEN.false in
     let p = pair_opened c.args.side h n place c.requires.some b e in
     let top = level_size h _ (subst (λ s. LeftOf s h (child_at n place)) c.in-Right.is p.left) in
-    let k : length (own_pairs (child_at n place)) - (6 - c.len-held.result) ≡ both_of n place - 6 = omega arith in
-    shared_stocked c.args.side h n _ place e p (omega arith) (omega arith) _ (subst (λ s. length (own_pairs (child_at n place)) - (6 - c.len-held.result) ≡ left_share s (both_of n place)) (sym c.in-Right.is) k) c.bulk_steal_left.ensures.shared
+    let k : length (own_pairs (child_at n place)) - ((min_len + 1) - c.len-held.result) ≡ both_of n place - (min_len + 1) = omega arith in
+    shared_stocked c.args.side h n _ place e p (omega arith) (omega arith) _ (subst (λ s. length (own_pairs (child_at n place)) - ((min_len + 1) - c.len-held.result) ≡ left_share s (both_of n place)) (sym c.in-Right.is) k) c.bulk_steal_left.ensures.shared

@@ -1,4 +1,5 @@
 use Rattle.std.proofs.Common.{rules, suc, ◌<◌, ◌≤◌, [], ◌∷◌, ◌++◌, length, sym, ap, subst, ◌∙◌, arith, length-append}
+use Rattle.fc_base.specs.Sizes.{capacity}
 use Rattle.fc_node.specs.Node.{own_pairs, children_of, IsLeaf}
 use Rattle.fc_build.proofs.SpineFacts.{child_room, end_grown, end_pairs, spine_pairs, spine_pushed, worth_pushed, count_pushed, length_pushed, closed_sound, closed_pairs, carried_pairs, carried, not_blank, spare_taken, blank_end}
 use Rattle.fc_build.proofs.spine.+attach.Goals as goal
@@ -11,7 +12,7 @@ put_child-requires-clause-inner g t c leaf =
 pub put_child-requires-clause-room : goal.put_child-requires-clause-room
 put_child-requires-clause-room g t c =
     let o = (c.open_end-node.ensures.levels c.requires.levels.0 c.requires.levels.1).0 in
-    subst (λ n. length (children_of n) ≤ 11) (sym c.deref_mut.ensures.value) (child_room c.requires.levels.0 _ o)
+    subst (λ n. length (children_of n) ≤ capacity) (sym c.deref_mut.ensures.value) (child_room c.requires.levels.0 _ o)
 
 pub returns-then-len-lt-CAPACITY-clause-pairs : goal.returns-then-len-lt-CAPACITY-clause-pairs
 returns-then-len-lt-CAPACITY-clause-pairs g t c =
@@ -33,7 +34,7 @@ returns-then-len-lt-CAPACITY-clause-levels g t c h s w =
     let d = ap (λ n. length (own_pairs n)) c.deref.ensures in
     let v = c.len.ensures.value in
     let z = c.if-len-lt-CAPACITY.true in
-    let less : length (own_pairs c.put_child.new.node) < 11 = omega arith in
+    let less : length (own_pairs c.put_child.new.node) < capacity = omega arith in
     spine_pushed h _ _ _ c.push.ensures o.1
     (end_grown h c.open_end-node.result.value c.put_child.new.node c.put_pair.new.node c.args.subtree.value c.args.pair o.0 e f q i (λ leaf. c.put_child.ensures.inner (subst IsLeaf c.deref_mut-then-len-lt-CAPACITY.ensures.value (c.put_pair.ensures.leaf.0 leaf))) less w)
 
@@ -64,7 +65,7 @@ attach-requires g t c κs within =
     let k = ap length e in
     let v = c.len.ensures.value in
     let z = c.if-len-lt-CAPACITY.false in
-    let full : 11 ≤ length (own_pairs c.open_end-node.result.value) = omega arith in
+    let full : capacity ≤ length (own_pairs c.open_end-node.result.value) = omega arith in
     let some = not_blank c.args.spine.now _ c.open_end-node.ensures.new_root full in
     let x = c.open_end-node.ensures.shorter in
     let falls : length c.open_end-node.new.spine < length c.args.spine.now = omega arith in
@@ -77,8 +78,9 @@ take_spare-requires g t c =
     let d = ap (λ n. length (own_pairs n)) c.deref.ensures in
     let v = c.len.ensures.value in
     let z = c.if-len-lt-CAPACITY.false in
-    let full : 11 ≤ length (own_pairs c.open_end-node.result.value) = omega arith in
+    let full : capacity ≤ length (own_pairs c.open_end-node.result.value) = omega arith in
     let r = carried c.requires.enough.0 _ _ c.args.spine.now c.open_end-node.new.spine _ c.requires.enough.1 c.open_end-node.ensures.worth c.open_end-node.ensures.count c.open_end-node.ensures.nodes c.open_end-node.ensures.shorter full in
+    let deep = r.deep in
     let s = r.spare in
     let l = c.attach.ensures.left in
     let w = c.attach.ensures.short r.less r.enough in
@@ -141,7 +143,7 @@ returns-clause-short g t c d enough =
     let w = ap (λ n. length (own_pairs n)) c.deref.ensures in
     let v = c.len.ensures.value in
     let x = c.if-len-lt-CAPACITY.false in
-    let full : 11 ≤ length (own_pairs c.open_end-node.result.value) = omega arith in
+    let full : capacity ≤ length (own_pairs c.open_end-node.result.value) = omega arith in
     let r = carried d _ _ c.args.spine.now c.open_end-node.new.spine _ enough c.open_end-node.ensures.worth c.open_end-node.ensures.count c.open_end-node.ensures.nodes c.open_end-node.ensures.shorter full in
     let deep = r.deep in
     let s = c.attach.ensures.short r.less r.enough in

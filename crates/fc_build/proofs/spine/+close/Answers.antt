@@ -1,4 +1,5 @@
 use Rattle.std.proofs.Common.{rules, suc, ◌<◌, ◌≤◌, [], ◌∷◌, ◌++◌, length, sym, ap, subst, ◌∙◌, arith}
+use Rattle.fc_base.specs.Sizes.{capacity}
 use Rattle.fc_node.specs.Node.{own_pairs, children_of, IsLeaf}
 use Rattle.fc_node.specs.Bordered.{IsRightBordered}
 use Rattle.fc_build.proofs.SpineFacts.{spine_popped, child_room, length_pushed, level_pushed, closed_bordered, closed_pairs, closing_pairs}
@@ -12,7 +13,7 @@ put_child-requires-clause-inner g t c leaf =
 pub put_child-requires-clause-room : goal.put_child-requires-clause-room
 put_child-requires-clause-room g t c =
     let o = (spine_popped c.requires.levels.0 _ _ _ c.pop-node.ensures c.requires.levels.1).0 in
-    subst (λ n. length (children_of n) ≤ 11) (sym c.deref_mut.ensures.value) (child_room c.requires.levels.0 _ o)
+    subst (λ n. length (children_of n) ≤ capacity) (sym c.deref_mut.ensures.value) (child_room c.requires.levels.0 _ o)
 
 pub close-requires : goal.close-requires
 close-requires g t c κs within =

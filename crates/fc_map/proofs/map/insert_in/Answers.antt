@@ -1,4 +1,5 @@
 use Rattle.std.proofs.Common.{◌≡◌, ◌<◌, ◌^◌, length, arith}
+use Rattle.fc_base.specs.Sizes.{capacity}
 use Rattle.fc_insertion.specs.Cascade.{leaf_at}
 use Rattle.fc_node.specs.Node.{own_pairs, pairs_of}
 use Rattle.fc_insertion.proofs.Arrivals.{steps_few}
@@ -9,7 +10,7 @@ pub returns-in-Err-clause-leaf : goal.returns-in-Err-clause-leaf
 returns-in-Err-clause-leaf g c =
     let steps = gap_steps c.args.root.now.value c.args.path.now c.requires.sound g.K.Ord.cmp c.args.pair.0 c.requires.gap in
     let within = leaf_within c.args.path.now c.requires.sound.0 c.args.root.now.value c.requires.sound.2.1 steps c.requires.gap.way in
-    let full : length (own_pairs (leaf_at c.args.path.now c.args.root.now.value)) ≡ 11 = rw (c.deref.ensures, c.as_slice.ensures.value) at c.in-Err.ensures.refused in
+    let full : length (own_pairs (leaf_at c.args.path.now c.args.root.now.value)) ≡ capacity = rw (c.deref.ensures, c.as_slice.ensures.value) at c.in-Err.ensures.refused in
     omega arith
 
 pub insert-requires : goal.insert-requires

@@ -1,5 +1,6 @@
 use Rattle.std.proofs.Common.{◌≡◌, suc, ◌+◌, ◌<◌, ◌≤◌, length, get_or, rules, arith, add-one, refl, sym, ap, subst, ◌∙◌}
 use Rattle.std.proofs.lemmas.Bool.{false≢true}
+use Rattle.fc_base.specs.Sizes.{min_len}
 use Rattle.fc_node.specs.Node.{own_pairs, children_of, pairs_of, IsLevelled}
 use Rattle.fc_node.specs.Path.{before, after}
 use Rattle.fc_node.proofs.Made.{inner_length}
@@ -94,7 +95,7 @@ loop-i-preserved g t c =
     let d' = c.visit.new.node in
     let size = c.visit.ensures.size in
     let some = r.some in
-    let b : (5 ≤ length (own_pairs d')) × IsLevelled s.h d' = (omega arith, c.visit.ensures.levels s.h r.levels) in
+    let b : (min_len ≤ length (own_pairs d')) × IsLevelled s.h d' = (omega arith, c.visit.ensures.levels s.h r.levels) in
     let back = child_back now c.content.result.now c.get_mut.result.now d c.loop-i.i c.content.ensures.value c.get_mut.ensures.value c.deref_mut.ensures.value d' lt in
     let v = c.visit_own.ensures.visited in
     let m = with_child now c.loop-i.i d' in
@@ -166,7 +167,7 @@ returns-clause-levels g t c h l =
     let d' = c.visit-2.new.node in
     let size = c.visit-2.ensures.size in
     let some = r.some in
-    let b : (5 ≤ length (own_pairs d')) × IsLevelled s.h d' = (omega arith, c.visit-2.ensures.levels s.h r.levels) in
+    let b : (min_len ≤ length (own_pairs d')) × IsLevelled s.h d' = (omega arith, c.visit-2.ensures.levels s.h r.levels) in
     let back = child_back now c.content-2.result.now c.get_mut-2.result.now d end c.content-2.ensures.value c.get_mut-2.ensures.value c.deref_mut-2.ensures.value d' lt in
     subst (IsLevelled h) (sym back) (subst (λ x. IsLevelled x (with_child now end d')) (one_height (suc s.h) h n s.levels l) (child_levels now end d' s.h ln b))
 
@@ -193,7 +194,7 @@ returns-clause-shape g t c path =
     let d' = c.visit-2.new.node in
     let size = c.visit-2.ensures.size in
     let some = r.some in
-    let b : (5 ≤ length (own_pairs d')) × IsLevelled s.h d' = (omega arith, c.visit-2.ensures.levels s.h r.levels) in
+    let b : (min_len ≤ length (own_pairs d')) × IsLevelled s.h d' = (omega arith, c.visit-2.ensures.levels s.h r.levels) in
     let back = child_back now c.content-2.result.now c.get_mut-2.result.now d end c.content-2.ensures.value c.get_mut-2.ensures.value c.deref_mut-2.ensures.value d' lt in
     subst (IsSameAlong path n) (sym back) (child_shape R s.h n now d d' end c.loop-i.rest.now c.split-end.result.1.now c.loop-i.f c.visit-2.new.f s.levels there.kept last is c.visit-2.ensures.visited c.visit-2.ensures.shape path)
 
@@ -220,7 +221,7 @@ returns-clause-visited g t c =
     let d' = c.visit-2.new.node in
     let size = c.visit-2.ensures.size in
     let some = r.some in
-    let b : (5 ≤ length (own_pairs d')) × IsLevelled s.h d' = (omega arith, c.visit-2.ensures.levels s.h r.levels) in
+    let b : (min_len ≤ length (own_pairs d')) × IsLevelled s.h d' = (omega arith, c.visit-2.ensures.levels s.h r.levels) in
     let back = child_back now c.content-2.result.now c.get_mut-2.result.now d end c.content-2.ensures.value c.get_mut-2.ensures.value c.deref_mut-2.ensures.value d' lt in
     let from = c.args.from.now in
     let to = c.args.to.now in

@@ -1,4 +1,5 @@
 use Rattle.std.proofs.Common.{rules, arith, ◌-◌, ◌<◌, ◌++◌, length, sym, ap, ◌∙◌, length-append}
+use Rattle.fc_base.specs.Sizes.{most_levels}
 use Rattle.fc_node.specs.Node.{own_pairs, children_of}
 use Rattle.fc_walk.specs.Opened.{front_of}
 use Rattle.fc_walk.proofs.Opening.{no_item, under_room, under_leaf, under_first, first_opened, leaf_front, front_push}
@@ -28,7 +29,7 @@ pub open_first-requires : goal.open_first-requires
 open_first-requires g t c κs within =
     let r = under_room _ _ c.requires in
     let e = ap length c.push-2.ensures ∙ length-append c.args.stack.now _ in
-    let falls : 25 - length c.push-2.new.self < 25 - length c.args.stack.now = omega arith in
+    let falls : most_levels - length c.push-2.new.self < most_levels - length c.args.stack.now = omega arith in
     let u = under_first c.args.node.value _ _ _ _ c.requires (ap children_of (sym c.deref_mut.ensures.value) ∙ c.take_first_child-child.ensures.children) (c.take_first_child-child.ensures.pairs ∙ ap own_pairs c.deref_mut.ensures.value) c.push-2.ensures in
     (search rules, (search rules, (search rules, (search rules, u))))
 

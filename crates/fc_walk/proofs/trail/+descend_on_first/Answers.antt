@@ -1,4 +1,5 @@
 use Rattle.std.proofs.Common.{◌≡◌, ◌<◌, ◌-◌, ◌+◌, ◌++◌, ◌∷◌, [], length, arith, rules, ◌∙◌, ap, sym, subst, length-append}
+use Rattle.fc_base.specs.Sizes.{most_levels}
 use Rattle.fc_walk.specs.Trail.{IsStanding, IsChain, IsTrailFrom}
 use Rattle.fc_walk.proofs.Trails.{standing_room, standing_top, standing_down, top_leaf, top_inner, down_leaf, down_inner, chain_down, trail_of_chain}
 use Rattle.fc_walk.proofs.trail.+descend_on_first.Goals as goal
@@ -10,7 +11,7 @@ pub descend_on_first-requires : goal.descend_on_first-requires
 descend_on_first-requires g t c κs within =
     let r = standing_room _ _ c.requires.levels in
     let e : length c.push_above.new.self ≡ length c.args.trail.now + 1 = ap length c.push_above.ensures ∙ length-append _ _ in
-    let falls : 25 - length c.push_above.new.self < 25 - length c.args.trail.now = omega arith in
+    let falls : most_levels - length c.push_above.new.self < most_levels - length c.args.trail.now = omega arith in
     let count = c.child_count.ensures.value in
     let d = standing_down c.args.trail.now (c.args.node, 0) c.child.result 0 c.requires.levels (omega arith) c.child.ensures in
     (search rules, (search rules, (search rules, (search rules, (omega (arith, e), subst (λ s. IsStanding (s ++ (c.child.result, 0) ∷ [])) (sym c.push_above.ensures) d)))))

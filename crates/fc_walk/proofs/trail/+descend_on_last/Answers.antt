@@ -1,4 +1,5 @@
 use Rattle.std.proofs.Common.{◌≡◌, ◌<◌, ◌-◌, ◌+◌, ◌++◌, ◌∷◌, [], length, arith, rules, ◌∙◌, ap, sym, subst, length-append}
+use Rattle.fc_base.specs.Sizes.{most_levels}
 use Rattle.fc_walk.specs.Trail.{IsStanding, IsChain, IsTrailFrom}
 use Rattle.fc_walk.proofs.Trails.{standing_room, standing_top, standing_down, standing_moved, top_leaf, top_inner, end_of_node, end_child, back_down_leaf, back_down_inner, chain_moved, chain_down, trail_of_chain}
 use Rattle.fc_walk.proofs.trail.+descend_on_last.Goals as goal
@@ -17,7 +18,7 @@ pub descend_on_last-requires : goal.descend_on_last-requires
 descend_on_last-requires g t c κs within =
     let r = standing_room _ _ c.requires.levels in
     let e : length c.push_above.new.self ≡ length c.args.trail.now + 1 = ap length c.push_above.ensures ∙ length-append _ _ in
-    let falls : 25 - length c.push_above.new.self < 25 - length c.args.trail.now = omega arith in
+    let falls : most_levels - length c.push_above.new.self < most_levels - length c.args.trail.now = omega arith in
     let count = c.child_count.ensures.value in
     let end = c.len-end.ensures.value in
     let i = top_inner _ (standing_top _ _ c.requires.levels) (omega arith) in

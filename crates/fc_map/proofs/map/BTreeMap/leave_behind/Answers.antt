@@ -1,4 +1,5 @@
 use Rattle.std.proofs.Common.{◌-◌, ◌≤◌, ◌<◌, length, get_or, Some, arith, rules, sym, ap, subst, ◌∙◌}
+use Rattle.fc_base.specs.Sizes.{capacity}
 use Rattle.fc_map.specs.Entries.{entries, root_of}
 use Rattle.fc_walk.specs.Gap.{IsGapIn}
 use Rattle.fc_node.specs.TreePlace.{before_of}
@@ -34,7 +35,7 @@ first_gap-next-requires-clause-small g c =
     let e = c.steps_behind-steps.ensures in
     let some = some_next m _ p c.steps_behind-steps.result is (record { within = e.within; none = e.none; place = e.place; ahead = e.ahead }) (rw same fewer) in
     let few = e.within in
-    let small : get_or p (c.steps_behind-steps.result - 1) 0 ≤ 11 = gap_small m p _ sound (subst (IsGapIn m) (sym same) c.requires.gap) (omega arith) in
+    let small : get_or p (c.steps_behind-steps.result - 1) 0 ≤ capacity = gap_small m p _ sound (subst (IsGapIn m) (sym same) c.requires.gap) (omega arith) in
     omega (arith, small)
 
 pub returns : goal.returns

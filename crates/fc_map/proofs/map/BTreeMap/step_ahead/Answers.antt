@@ -1,4 +1,5 @@
 use Rattle.std.proofs.Common.{◌-◌, ◌≤◌, length, get_or, sym, ap, subst, ◌∙◌, arith}
+use Rattle.fc_base.specs.Sizes.{capacity}
 use Rattle.fc_walk.specs.Gap.{IsGapIn}
 use Rattle.fc_walk.proofs.GapFacts.{gap_small}
 use Rattle.fc_visit.proofs.LeafFacts.{on_length, gap_near}
@@ -11,7 +12,7 @@ go_ahead-requires-clause-small g c =
     let gap = c.args.gap.now in
     let sound = rw c.self.view_is at c.self.invariant.1 in
     let some = gap_some m gap gap sound c.requires.gap c.requires.some in
-    let small : get_or gap (length gap - 1) 0 ≤ 11 = gap_small m gap (length gap - 1) sound c.requires.gap (omega arith) in
+    let small : get_or gap (length gap - 1) 0 ≤ capacity = gap_small m gap (length gap - 1) sound c.requires.gap (omega arith) in
     omega arith
 
 pub returns : goal.returns

@@ -1,4 +1,5 @@
 use Rattle.std.proofs.Common.{◌≡◌, ◌-◌, ◌<◌, ◌≤◌, length, get_or, suc, sym, ap, subst, ◌∙◌, arith}
+use Rattle.fc_base.specs.Sizes.{capacity}
 use Rattle.fc_node.specs.TreePlace.{before_of}
 use Rattle.fc_walk.specs.Gap.{IsGapIn}
 use Rattle.fc_walk.proofs.GapFacts.{gap_small}
@@ -16,7 +17,7 @@ go_behind-requires-clause-small g c =
     let later = o.2 in
     let behind : 0 < length (before_of m o.0) = omega (arith, later) in
     let some = gap_some m gap o.0 sound c.requires.gap behind in
-    let small : get_or gap (length gap - 1) 0 ≤ 11 = gap_small m gap (length gap - 1) sound c.requires.gap (omega arith) in
+    let small : get_or gap (length gap - 1) 0 ≤ capacity = gap_small m gap (length gap - 1) sound c.requires.gap (omega arith) in
     omega arith
 
 pub returns : goal.returns
