@@ -4,3 +4,4 @@ pub mod Stocks
 pub mod Mended
 pub mod Cuts
 pub mod Counts
+pub mod Parts

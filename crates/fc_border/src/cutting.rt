@@ -1,16 +1,52 @@
 //! Cuts of a tree in two, along a path.
-ghost use Rattle.std.specs.Prelude.{◌≡◌, ℕ, ◌+◌, ◌*◌, ◌<◌, ◌≤◌, [], length, Some, IfOk, IfErr, IsTrue, ◌↔◌, slice_index};
+ghost use Rattle.std.specs.Prelude.{◌≡◌, ℕ, ◌+◌, ◌*◌, ◌<◌, ◌≤◌, [], ◌++◌, length, Some, IfOk, IfErr, IsTrue, ◌↔◌, slice_index};
 ghost use Rattle.fc_node.specs.Node.{own_pairs, children_of, pairs_of, IsLevelled, IsSoundRoot};
 ghost use Rattle.fc_node.specs.Path.{IsPath, after};
 ghost use Rattle.fc_node.specs.Place.{place_ahead};
-ghost use Rattle.fc_node.specs.Tree.{root_of, IsSoundMap, IsSoundWithin};
+ghost use Rattle.fc_node.specs.Tree.{entries, root_of, IsSoundMap, IsSoundWithin};
 ghost use Rattle.fc_node.specs.Bordered.{IsLeftBordered, IsRightBordered};
 ghost use Rattle.fc_border.specs.Cut.{IsBlank, IsCutPath, IsCutPathIn, IsCutInTwo};
 
+use crate::counting::count_in;
 use crate::mending::{mend_left, mend_right};
 use fc_base::{Count, TryReserveError};
 use fc_node::node::Node;
 use std::alloc::Global;
+
+/// Cuts a tree of `len` pairs in two, as `try_split` does, and answers the right part with the number of its pairs. Only the part
+/// that seems to be the smaller is counted, node by node.
+///
+/// # Errors
+/// As `try_split`.
+pub fn try_split_counted<K: Drop, V: Drop>(
+    alloc: Global,
+    root: &mut Option<Box<Node<K, V>>>,
+    len: usize,
+    path: &[u8],
+) -> Result<(Option<Box<Node<K, V>>>, usize), TryReserveError>
+    requires sound { IsSoundMap (root_of root.old) }
+    requires path { IsCutPathIn path.now (root_of root.old) }
+    requires len { len ≡ length (entries (root_of root.old)) }
+    ensures cut { IfOk result (λ right. IsCutInTwo path.now (root_of root.old) (root_of root.new) (root_of right.0)) }
+
+    // The two parts are the whole, and each has the pairs that it is said to have.
+    ensures parts { IfOk result (λ right. entries (root_of root.new) ++ entries (root_of right.0) ≡ entries (root_of root.old)) }
+    ensures moved { IfOk result (λ right. right.1 ≡ length (entries (root_of right.0))) }
+    ensures kept { IfOk result (λ right. length (entries (root_of root.new)) + right.1 ≡ len) }
+    ensures sound { IfOk result (λ right. IsSoundMap (root_of root.new) × IsSoundMap (root_of right.0)) }
+    ensures error { IfErr result (λ e. e ≡ TryReserveError.AllocError) }
+    ensures unchanged { IfErr result (λ _. root.new ≡ root.old) }
+{
+    let Some(tree) = &*root else { unreachable!() };
+    let is_left_smaller = is_left_smaller(tree, path);
+    let right = try_split(alloc, root, path)?;
+    let moved = if is_left_smaller {
+        len - count_in(root)
+    } else {
+        count_in(&right)
+    };
+    Ok((right, moved))
+}
 
 /// Cuts a tree in two at the pair, or at the gap of a leaf, that the path leads to: `root` keeps the pairs before it, and the
 /// answer takes the pair and those behind it. It asks for one node a level, before a pair moves.
@@ -112,8 +148,8 @@ fn cut_into<K: Drop, V: Drop>(
     cut_into(child, rest, other, count);
 }
 
-/// A guess which part of a cut is the smaller, from the first step of the path alone: whether it is in the left half of the root.
-pub fn is_left_smaller<K, V>(root: &Node<K, V>, path: &[u8]) -> bool
+// A guess which part of a cut is the smaller, from the first step of the path alone: whether it is in the left half of the root.
+fn is_left_smaller<K, V>(root: &Node<K, V>, path: &[u8]) -> bool
     requires some { 0 < length path.now }
     ensures { IsTrue result ↔ (2 * slice_index path.now 0 < length (own_pairs root.now)) }
 {

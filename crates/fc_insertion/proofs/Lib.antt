@@ -4,3 +4,4 @@ pub mod Cascades
 pub mod ArrivalSteps
 pub mod Arrivals
 pub mod Leaves
+pub mod InsertedTrees

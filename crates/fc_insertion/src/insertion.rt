@@ -1,21 +1,64 @@
 //! Insertion at a path, with the nodes that were made ahead for it.
-ghost use Rattle.std.specs.Prelude.{◌≡◌, ℕ, ◌+◌, ◌-◌, ◌*◌, ◌<◌, ◌≤◌, [], ◌∷◌, ◌++◌, length, insert, MatchOption, IfSome, IfOk, IfErr, IsTrue, IsFalse};
+ghost use Rattle.std.specs.Prelude.{◌≡◌, ℕ, ◌+◌, ◌-◌, ◌*◌, ◌^◌, ◌<◌, ◌≤◌, [], ◌∷◌, ◌++◌, length, insert, MatchOption, IfSome, IfOk, IfErr, OnOk, OnErr, IsTrue, IsFalse, Some};
 ghost use Rattle.fc_base.specs.Sizes.{capacity, most_levels, level_moves, split_moves_most};
 ghost use Rattle.fc_node.specs.Node.{own_pairs, children_of, pairs_of, IsLeaf, IsInner, IsLevelled, IsSoundRoot, IsBlankLeaf, IsBlankInner};
+ghost use Rattle.fc_node.specs.Depth.{HasFewMoves};
 ghost use Rattle.fc_node.specs.Path.{IsPath, before, after};
+ghost use Rattle.fc_node.specs.Tree.{IsSoundMap};
 ghost use Rattle.fc_insertion.specs.Cascade.{all_full, cascade, nodes_needed, insertion_moves, IsSpareLeaf};
 ghost use Rattle.fc_insertion.specs.Insertion.{spread, own_pairs_after, children_after, IsHalved};
 ghost use Rattle.fc_node.specs.Split.{left_length, split_moves};
 ghost use Rattle.fc_insertion.specs.Arrival.{steps_after, path_after, IsPutAt, HasArrived};
 
 use crate::arrival::arrive;
-use crate::room::Room;
+use crate::room::{Room, try_room};
 use crate::spares::Spares;
 use fc_base::{Count, TryReserveError};
 use fc_node::node::{CAPACITY, Node};
 use fc_node::path::Path;
 use std::alloc::Global;
 use std::mem;
+
+/// Puts a pair into the gap of a sound tree that the path leads to, with every node that it takes made before. The path then leads
+/// to the pair.
+///
+/// # Errors
+/// `AllocError` if one of these nodes is refused, which takes a full leaf. The tree is then as before, and the pair comes back.
+#[inline(always)]
+pub fn try_insert<K: Drop, V: Drop>(
+    alloc: Global,
+    root: &mut Box<Node<K, V>>,
+    path: &mut Path,
+    pair: (K, V),
+    count: &mut Count,
+) -> Result<(), (K, V, TryReserveError)>
+    requires sound { IsSoundMap (Some root.old.value) }
+    requires path { IsPath path.old root.old.value }
+    requires levels { (h : ℕ) → IsLevelled h root.old.value → length path.old ≡ h + 1 }
+    requires fits { length (pairs_of root.old.value) < usize.MAX }
+
+    // The pairs before the gap, the new pair and the pairs after the gap.
+    ensures pairs { OnOk result (pairs_of root.new.value ≡ before path.old root.old.value ++ pair ∷ after path.old root.old.value) }
+    ensures place { OnOk result (IsPutAt path.new root.new.value pair (before path.old root.old.value) (after path.old root.old.value)) }
+    ensures length { OnOk result (length (pairs_of root.new.value) ≡ length (pairs_of root.old.value) + 1) }
+    ensures sound { IsSoundMap (Some root.new.value) }
+    ensures unchanged { OnErr result (root.new ≡ root.old) }
+    ensures back { IfErr result (λ e. (e.0 ≡ pair.0) × (e.1 ≡ pair.1)) }
+    ensures error { IfErr result (λ e. e.2 ≡ TryReserveError.AllocError) }
+    ensures leaf { OnErr result (capacity ≤ length (pairs_of root.old.value)) }
+    ensures comparisons { count.new.comparisons ≡ count.old.comparisons }
+    ensures no_move { OnErr result (count.new.moves ≡ count.old.moves) }
+    ensures moves { OnOk result (HasFewMoves (length (pairs_of root.new.value)) count.old count.new) }
+    ensures moved { OnOk result (count.old.moves < count.new.moves) }
+{
+    match try_room(alloc, root, path.as_slice()) {
+        Ok(room) => {
+            insert(root, path, pair, room, count);
+            Ok(())
+        }
+        Err(e) => Err((pair.0, pair.1, e)),
+    }
+}
 
 /// Puts `pair` into the gap that the path leads to. Each node that this takes is in `room`, so nothing can be refused once
 /// the first pair moves. The path then leads to the pair in the tree as it is now.

@@ -7,11 +7,11 @@ use Rattle.fc_base.specs.Sizes.{least_children, level_comparisons, level_moves}
 use Rattle.fc_base.specs.declared.count.Count.{Count}
 use Rattle.fc_node.specs.declared.node.Node.{Node}
 use Rattle.fc_node.specs.Node.{pairs_of, IsSoundRoot}
-use Rattle.fc_node.specs.Depth.{IsDeep}
+use Rattle.fc_node.specs.Depth.{IsDeep, HasFewMoves}
 use Rattle.fc_search.specs.Passed.{passed}
 use Rattle.fc_node.proofs.DepthFacts.{deep_root}
 use Rattle.fc_search.proofs.PassedFacts.{passed_bound}
-use Rattle.fc_map.specs.Counts.{IsBounded, IsMoved}
+use Rattle.fc_map.specs.Counts.{IsBounded}
 use Rattle.fc_map.specs.Entries.{Map, entries, IsSoundMap}
 
 module _ {K V : Type 0} where
@@ -32,7 +32,7 @@ deeper : (h n m : ℕ) → IsDeep h n → n ≤ m → IsDeep h m
 deeper h n m d le = omega arith
 
 -- A search among n pairs and then moves among n' pairs, no fewer.
-pub moved_after : (n n' : ℕ) (old mid new : Count) → IsBounded n old mid → mid.moves ≡ old.moves → new.comparisons ≡ mid.comparisons → IsMoved n' mid new → n ≤ n' → 0 < n' → IsBounded n' old new
+pub moved_after : (n n' : ℕ) (old mid new : Count) → IsBounded n old mid → mid.moves ≡ old.moves → new.comparisons ≡ mid.comparisons → HasFewMoves n' mid new → n ≤ n' → 0 < n' → IsBounded n' old new
 moved_after n n' old mid new b still same m le some = ((λ z. absurd (omega arith)), λ _. go (dec n))
   where
     dec : (n : ℕ) → (n ≡ 0) ⊎ (0 < n)
@@ -48,5 +48,5 @@ moved_after n n' old mid new b still same m le some = ((λ z. absurd (omega arit
     go (inr p) = let e = b.1 p in highest e.0 m.0 (cases_lt e.0 m.0) (deeper e.0 n n' e.1 le) m.1 e.2 m.2
 
 -- Moves alone, among n pairs.
-pub only_moved : (n : ℕ) (old new : Count) → 0 < n → new.comparisons ≡ old.comparisons → IsMoved n old new → IsBounded n old new
+pub only_moved : (n : ℕ) (old new : Count) → 0 < n → new.comparisons ≡ old.comparisons → HasFewMoves n old new → IsBounded n old new
 only_moved n old new some same m = ((λ z. absurd (omega arith)), λ _. (m.0, m.1, omega arith, m.2))

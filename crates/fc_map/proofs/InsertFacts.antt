@@ -1,62 +1,15 @@
 -- An insertion into a gap of a tree.
-use Rattle.std.proofs.Common.{◌≡◌, ℕ, suc, zero, ◌+◌, ◌-◌, ◌*◌, ◌^◌, ◌<◌, ◌≤◌, Bool, true, false, List, [], ◌∷◌, ◌++◌, length, Some, refl, ap, ◌∙◌, arith, length-append}
+use Rattle.std.proofs.Common.{◌≡◌, ℕ, List, ◌∷◌, ◌++◌, Some, refl, ◌∙◌}
 use Rattle.std.specs.declared.cmp.Ordering.{Ordering}
-use Rattle.fc_base.specs.Sizes.{level_moves}
-use Rattle.fc_base.specs.declared.count.Count.{Count}
 use Rattle.fc_base.specs.OneKey.{put}
 use Rattle.fc_node.specs.declared.node.Node.{Node}
-use Rattle.fc_insertion.specs.Cascade.{leaf_at, all_full}
+use Rattle.fc_node.specs.Node.{pairs_of}
+use Rattle.fc_node.specs.Path.{before, after}
 use Rattle.fc_search.specs.Found.{IsGap}
-use Rattle.fc_node.specs.Node.{own_pairs, child_at, pairs_of, IsLevelled, IsSoundRoot}
-use Rattle.fc_node.specs.Path.{IsPath, before, after}
-use Rattle.fc_node.proofs.DepthFacts.{deep_root, few_levels}
-use Rattle.fc_node.specs.Place.{lead_in, rest_in}
-use Rattle.fc_node.proofs.Gaps.{inner_gap, gap_pairs}
-use Rattle.fc_node.proofs.Pairs.{child_below, leaf_pairs}
 use Rattle.fc_search.proofs.SearchFacts.{gap_at}
-use Rattle.fc_map.specs.Counts.{IsMoved}
 use Rattle.fc_map.specs.Entries.{IsSoundMap}
 
-module _ {K V : Type 0} where
-  -- A tree holds the pairs of the leaf that a path ends in.
-  pub leaf_within : (path : List ℕ) (h : ℕ) (n : Node K V) → IsLevelled h n → length path ≡ h + 1 → IsPath path n → length (own_pairs (leaf_at path n)) ≤ length (pairs_of n)
-  leaf_within [] h n l e p = absurd (omega arith)
-  leaf_within (i ∷ []) zero n l e p = let q = ap length (leaf_pairs n l.1) in omega arith
-  leaf_within (i ∷ []) (suc h) n l e p = absurd (omega arith)
-  leaf_within (i ∷ j ∷ path) zero n l e p = absurd (omega arith)
-  leaf_within (i ∷ j ∷ path) (suc h) n l e p =
-      let below = leaf_within (j ∷ path) h (child_at n i) (child_below h n i l p.0).1 (omega arith) p.1 in
-      let parts = ap length (inner_gap n i l.1 p.0) ∙ length-append (lead_in n i) (pairs_of (child_at n i) ++ rest_in n i) in
-      omega (arith, parts, length-append (pairs_of (child_at n i)) (rest_in n i), below)
-
-  module _ (root : Node K V) (path : List ℕ) (sound : IsSoundMap (Some root)) where
-    -- A path to a gap has a step for each level.
-    pub gap_steps : (cmp : K → K → Ordering) (k : K) → IsGap cmp k root path → length path ≡ sound.0 + 1
-    gap_steps cmp k gap = gap.levels sound.0 sound.2.1
-
-    pub gap_sound : length path ≡ sound.0 + 1 → IsSoundRoot (length path - 1) root
-    gap_sound e = let h : length path - 1 ≡ sound.0 = omega arith in rw h sound.2
-
-    -- The pairs before the gap, the new pair and those after it are what `put` makes.
-    pub put_in : (cmp : K → K → Ordering) (k : K) (v : V) (s : List (K × V)) → IsGap cmp k root path → s ≡ before path root ++ (k, v) ∷ after path root → s ≡ put cmp (pairs_of root) k v
-    put_in cmp k v s gap e = let a = gap_at cmp k path sound.0 root sound.2.1 gap in e ∙ rw (a.lower, a.upper, a.here) refl
-
-    pub length_in : (cmp : K → K → Ordering) (k : K) (p : K × V) (s : List (K × V)) → IsGap cmp k root path → s ≡ before path root ++ p ∷ after path root → length s ≡ length (pairs_of root) + 1
-    length_in cmp k p s gap e =
-        let g = gap_pairs path sound.0 root sound.2.1 (gap_steps cmp k gap) gap.way in
-        ap length e ∙ length-append (before path root) (p ∷ after path root) ∙ (let m = ap length g ∙ length-append (before path root) (after path root) in omega arith)
-
-    -- The tree that an insertion leaves is sound.
-    pub sound_in : (new : Node K V) → length path ≡ sound.0 + 1 → length (pairs_of new) < 2 ^ 64 → (all_full path root ≡ false → IsSoundRoot (length path - 1) new) → (all_full path root ≡ true → IsSoundRoot (length path) new × (length (own_pairs new) ≡ 1)) → IsSoundMap (Some new)
-    sound_in new e fits same higher = go (all_full path root) refl
-      where
-        some : (h : ℕ) → IsSoundRoot h new → IsSoundMap (Some new)
-        some h s = (h, few_levels h _ (deep_root h new s) fits, s)
-
-        go : (b : Bool) → all_full path root ≡ b → IsSoundMap (Some new)
-        go false is = some (length path - 1) (same is)
-        go true is = some (length path) (higher is).0
-
-    -- The moves of an insertion into a tree of so many levels.
-    pub moves_in : (n : ℕ) (old new : Count) → length path ≡ sound.0 + 1 → n ≡ length (pairs_of root) + 1 → new.moves ≤ old.moves + level_moves * length path → IsMoved n old new
-    moves_in n old new e is few = let d = deep_root sound.0 root sound.2 in (sound.0, omega arith, omega arith)
+module _ {K V : Type 0} (root : Node K V) (path : List ℕ) (sound : IsSoundMap (Some root)) where
+  -- The pairs before the gap, the new pair and those after it are what `put` makes.
+  pub put_in : (cmp : K → K → Ordering) (k : K) (v : V) (s : List (K × V)) → IsGap cmp k root path → s ≡ before path root ++ (k, v) ∷ after path root → s ≡ put cmp (pairs_of root) k v
+  put_in cmp k v s gap e = let a = gap_at cmp k path sound.0 root sound.2.1 gap in e ∙ rw (a.lower, a.upper, a.here) refl

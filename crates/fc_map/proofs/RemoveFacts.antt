@@ -8,13 +8,13 @@ use Rattle.fc_base.specs.Sizes.{most_height, level_moves}
 use Rattle.fc_base.specs.declared.count.Count.{Count}
 use Rattle.fc_base.specs.Ascending.{IsAscending}
 use Rattle.fc_node.specs.declared.node.Node.{Node}
+use Rattle.fc_node.specs.Depth.{HasFewMoves}
 use Rattle.fc_node.specs.Node.{pairs_of}
 use Rattle.fc_node.specs.Place.{IsPlace, place_ahead, place_behind}
 use Rattle.fc_node.specs.TreePlace.{IsPlaceIn, ahead_of, behind_of}
 use Rattle.fc_removal.specs.Removal.{IsSoundTree, IsTreeLeft, tree_pairs}
 use Rattle.fc_node.proofs.DepthFacts.{deep_root}
 use Rattle.fc_node.proofs.Gaps.{place_pairs}
-use Rattle.fc_map.specs.Counts.{IsMoved}
 use Rattle.fc_map.specs.Entries.{Map, entries, root_of, IsSoundMap}
 
 module _ {K V : Type 0} where
@@ -57,7 +57,7 @@ module _ {K V : Type 0} where
         (rw left_list (without_ascending cmp (place_ahead path root) (place_behind path root) c.pair (rw c.parts at ascending)), left_sound sound.0 left sound.1 l)
 
   -- The moves of a removal from a tree.
-  pub left_moves : (root : Node K V) (sound : IsSoundMap (Some root)) (old new : Count) → new.moves ≤ old.moves + level_moves * (sound.0 + 1) → IsMoved (length (pairs_of root)) old new
+  pub left_moves : (root : Node K V) (sound : IsSoundMap (Some root)) (old new : Count) → new.moves ≤ old.moves + level_moves * (sound.0 + 1) → HasFewMoves (length (pairs_of root)) old new
   left_moves root sound old new few = (sound.0, deep_root sound.0 root sound.2, few)
 
   -- The same of a map.
@@ -73,6 +73,6 @@ module _ {K V : Type 0} where
   map_kept None path sound place left rest cmp ascending l = absurd place
   map_kept (Some root) path sound place left rest cmp ascending l = left_kept root path sound place left rest cmp ascending (l sound.0 sound.2)
 
-  pub map_moves : (m : Map K V) (path : List ℕ) → IsSoundMap m → IsPlaceIn m path → (old new : Count) → ((h : ℕ) → IsSoundTree h m → new.moves ≤ old.moves + level_moves * (h + 1)) → IsMoved (length (entries m)) old new
+  pub map_moves : (m : Map K V) (path : List ℕ) → IsSoundMap m → IsPlaceIn m path → (old new : Count) → ((h : ℕ) → IsSoundTree h m → new.moves ≤ old.moves + level_moves * (h + 1)) → HasFewMoves (length (entries m)) old new
   map_moves None path sound place old new few = absurd place
   map_moves (Some root) path sound place old new few = left_moves root sound old new (few sound.0 sound.2)

@@ -1,5 +1,5 @@
 -- A map that is cut in two where a search of it ends.
-use Rattle.std.proofs.Common.{◌≡◌, ◌<◌, ℕ, true, inl, inr, List, ◌∷◌, ◌++◌, length, Some, None, Result, Ok, Err, refl, sym, ap, ◌∙◌, subst, length-append, arith, ◌+◌}
+use Rattle.std.proofs.Common.{◌≡◌, ◌<◌, ℕ, true, inl, inr, List, ◌∷◌, ◌++◌, length, Some, None, Result, Ok, Err, refl, sym, ap, ◌∙◌, subst, arith}
 use Rattle.std.specs.Prelude.{OnOk, OnErr, IfOk, IfSome}
 use Rattle.std.specs.List.{AllByRecursion}
 use Rattle.std.specs.Ordering.{is_ge}
@@ -21,21 +21,8 @@ use Rattle.fc_search.proofs.SearchFacts.{found_at, gap_at}
 use Rattle.fc_map.specs.Entries.{Map, entries, IsSoundMap}
 use Rattle.fc_map.specs.Place.{IsHeldAt, IsOpenAt}
 
--- The two parts of a cut are the whole.
-pub cut_parts : {K V : Type 0} (m left right : Map K V) (path : List ℕ) → IsSoundMap m → IsCutPathIn path m → IsCutInTwo path m left right → entries left ++ entries right ≡ entries m
-cut_parts None left right path sound way cut = absurd way
-cut_parts (Some root) left right path sound (inl place) cut =
-    let c = place_pairs path sound.0 root sound.2.1 place in
-    rw (cut.ahead c.pair c.is, cut.behind c.pair c.is) (sym c.parts)
-cut_parts (Some root) left right path sound (inr gap) cut =
-    rw (cut.before gap, cut.after gap) (sym (gap_pairs path sound.0 root sound.2.1 (gap.1 sound.0 sound.2.1) gap.0))
-
 module _ {K V : Type 0} (front back whole : List (K × V)) (e : front ++ back ≡ whole) where
-  -- Two parts hold as many pairs as the whole.
-  pub parts_length : length front + length back ≡ length whole
-  parts_length = sym (length-append front back) ∙ ap length e
-
-  -- Both ascend where the whole does.
+  -- Both parts ascend where the whole does.
   pub parts_ascending : (cmp : K → K → Ordering) → IsAscending cmp whole → IsAscending cmp front × IsAscending cmp back
   parts_ascending cmp a = let b = subst (IsAscending cmp) (sym e) a in (ascending_front cmp front back b, ascending_back cmp front back b)
 

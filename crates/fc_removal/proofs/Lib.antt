@@ -1,3 +1,4 @@
 pub mod Mended
 pub mod Removed
 pub mod Replaced
+pub mod Exchanged

@@ -1,10 +1,37 @@
 //! A pair put in the place of another one, by which no other pair moves.
-ghost use Rattle.std.specs.Prelude.{◌≡◌, ℕ, ◌+◌, [], ◌∷◌, ◌++◌, length, Some};
+ghost use Rattle.std.specs.Prelude.{◌≡◌, ℕ, ◌+◌, ◌<◌, [], ◌∷◌, ◌++◌, length, Some};
+ghost use Rattle.fc_node.specs.Depth.{HasFewMoves};
 ghost use Rattle.fc_node.specs.Node.{own_pairs, pairs_of, IsLevelled};
 ghost use Rattle.fc_node.specs.Place.{IsPlace, place_pair, place_ahead, place_behind};
+ghost use Rattle.fc_node.specs.Tree.{IsSoundMap};
 
 use fc_base::Count;
 use fc_node::node::Node;
+use fc_node::path::Path;
+
+/// Puts `pair` in the place of the one that the path leads to in a sound tree, which is handed out. It compares nothing and takes
+/// no memory.
+pub fn exchange<K: Drop, V: Drop>(
+    root: &mut Box<Node<K, V>>,
+    path: &Path,
+    pair: (K, V),
+    count: &mut Count,
+) -> (K, V)
+    requires sound { IsSoundMap (Some root.old.value) }
+    requires place { IsPlace path.now root.old.value }
+    ensures old { place_pair path.now root.old.value ≡ Some result }
+
+    // The pairs ahead of the place, the new pair and the pairs behind the place.
+    ensures pairs { pairs_of root.new.value ≡ place_ahead path.now root.old.value ++ pair ∷ place_behind path.now root.old.value }
+    ensures length { length (pairs_of root.new.value) ≡ length (pairs_of root.old.value) }
+    ensures some { 0 < length (pairs_of root.new.value) }
+    ensures sound { IsSoundMap (Some root.new.value) }
+    ensures moves { HasFewMoves (length (pairs_of root.new.value)) count.old count.new }
+    ensures exchanged { count.new.moves ≡ count.old.moves + 2 }
+    ensures comparisons { count.new.comparisons ≡ count.old.comparisons }
+{
+    replace(root, path.as_slice(), pair, count)
+}
 
 /// Puts `pair` in the place of the one that the path leads to, which is handed out. It compares nothing and takes no memory.
 pub fn replace<K: Drop, V: Drop>(

@@ -23,7 +23,7 @@ mod whole;
 
 pub use difference::Difference;
 use fc_base::{Count, Query, TryReserveError, compare};
-use fc_map::map::{BTreeMap, item};
+use fc_map::map::{BTreeMap, for_sets};
 pub use intersection::Intersection;
 pub use iter::{IntoIter, Iter, Range};
 use std::alloc::Global;
@@ -238,7 +238,7 @@ impl<T: Ord + Drop> BTreeSet<T> {
         ensures moved { IsSome (item_at Q.order (items self.old) (Q.sought item)) → count.old.moves < count.new.moves }
         ensures bounded { IsBounded (length (items self.old)) count.old count.new }
     {
-        item_of(item::take(&mut self.map, item, count))
+        item_of(for_sets::take(&mut self.map, item, count))
     }
 
     /// Puts the item in the place of the equal one, which is answered, and asks for no memory; else the item is new, and the answer
@@ -285,7 +285,7 @@ impl<T: Ord + Drop> BTreeSet<T> {
         ensures exchanged { IsSome (item_at T.cmp (items self.old) item) → count.new.moves ≡ count.old.moves + 2 }
         ensures bounded { IsBounded (length (items self.new)) count.old count.new }
     {
-        match item::replace(&mut self.map, item, (), count) {
+        match for_sets::replace(&mut self.map, item, (), count) {
             Ok(old) => return Ok(item_of(old)),
             Err((item, _, e)) => return Err((item, e)),
         }

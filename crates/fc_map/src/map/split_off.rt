@@ -1,17 +1,15 @@
 //! A map cut in two.
-ghost use Rattle.std.specs.Prelude.{◌≡◌, ◌<◌, ◌≤◌, length, IfOk, IfErr};
+ghost use Rattle.std.specs.Prelude.{◌≡◌, ◌<◌, length, IfOk, IfErr};
 ghost use Rattle.fc_base.specs.Ascending.{IsAscending};
 ghost use Rattle.fc_base.specs.Halves.{not_below};
 ghost use Rattle.fc_base.specs.Parts.{below};
 ghost use Rattle.fc_base.specs.declared.try_reserve_error.TryReserveError.TheVariants.{AllocError};
 ghost use Rattle.fc_border.specs.Cut.{IsCutPathIn, IsCutInTwo};
-ghost use Rattle.fc_map.specs.Entries.{entries, root_of, IsSoundMap};
+ghost use Rattle.fc_map.specs.Entries.{entries, IsSoundMap};
 
 use super::BTreeMap;
 use fc_base::{Count, Query, TryReserveError};
-use fc_border::counting::count_pairs;
-use fc_border::cutting::{is_left_smaller, try_split};
-use fc_node::node::Node;
+use fc_border::cutting::try_split_counted;
 use fc_node::path::Path;
 
 impl<K: Ord + Drop, V: Drop> BTreeMap<K, V> {
@@ -47,33 +45,17 @@ impl<K: Ord + Drop, V: Drop> BTreeMap<K, V> {
         ensures ascending { IsAscending K.cmp (entries self.new) × IfOk result (λ rest. IsAscending K.cmp (entries rest)) }
         ensures sound { IsSoundMap self.new × IfOk result (λ rest. IsSoundMap rest) }
     {
-        let Some(root) = &self.root else {
-            unreachable!()
-        };
-        let is_left_smaller = is_left_smaller(root, path.as_slice());
-        let rest = try_split(self.alloc, &mut self.root, path.as_slice())?;
-        let moved = if is_left_smaller {
-            self.len - count_in(&self.root)
-        } else {
-            count_in(&rest)
-        };
+        let (rest, moved) = try_split_counted(
+            self.alloc,
+            &mut self.root,
+            self.len,
+            path.as_slice(),
+        )?;
         self.len -= moved;
         Ok(BTreeMap {
             root: rest,
             len: moved,
             alloc: self.alloc,
         })
-    }
-}
-
-// How many pairs there are in a tree, if there is one.
-fn count_in<K, V>(root: &Option<Box<Node<K, V>>>) -> usize
-    requires sound { IsSoundMap (root_of root.now) }
-    requires fits { length (entries (root_of root.now)) ≤ usize.MAX }
-    ensures { result ≡ length (entries (root_of root.now)) }
-{
-    match root {
-        None => 0,
-        Some(root) => count_pairs(root),
     }
 }

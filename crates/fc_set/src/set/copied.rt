@@ -10,7 +10,7 @@ ghost use Rattle.fc_set.specs.Items.{items, AreAscending};
 use super::BTreeSet;
 use fc_base::{TryClone, TryReserveError};
 use fc_build::builder::Builder;
-use fc_map::map::item;
+use fc_map::map::for_sets;
 use std::alloc::Global;
 
 // A set of copies of the items that the walk lends, which ascend. A second walk counts them, so that the room for all of them is taken
@@ -86,6 +86,6 @@ fn try_filled<'a, T: Ord + TryClone + 'a, I: Iterator<Item = &'a T> + Drop>(
         builder.push((copy, ()));
     }
     Ok(BTreeSet {
-        map: item::from_ascending(alloc, builder, count),
+        map: for_sets::from_ascending(alloc, builder, count),
     })
 }

@@ -9,7 +9,7 @@ ghost use Rattle.fc_set.specs.Operations.{difference, symmetric_difference, inte
 use super::BTreeSet;
 use super::copied::try_copied;
 use fc_base::{TryClone, TryReserveError};
-use fc_map::map::item;
+use fc_map::map::for_sets;
 
 // The copies are made by the items' own `try_clone` and have to be equal to them, so that they ascend as the items do. The new set takes
 // its memory where this one does.
@@ -28,7 +28,7 @@ impl<T: Ord + TryClone> BTreeSet<T> {
         ensures ascending { IfOk result (λ made. AreAscending T.cmp (items made)) }
         ensures sound { IfOk result (λ made. IsSoundMap made) }
     {
-        try_copied(item::allocator(&self.map), self.difference(other))
+        try_copied(for_sets::allocator(&self.map), self.difference(other))
     }
 
     /// A set of copies of the items of either set that have no equal in the other. Both sets stay as they are. Upstream: the operator `^`,
@@ -46,7 +46,10 @@ impl<T: Ord + TryClone> BTreeSet<T> {
         ensures ascending { IfOk result (λ made. AreAscending T.cmp (items made)) }
         ensures sound { IfOk result (λ made. IsSoundMap made) }
     {
-        try_copied(item::allocator(&self.map), self.symmetric_difference(other))
+        try_copied(
+            for_sets::allocator(&self.map),
+            self.symmetric_difference(other),
+        )
     }
 
     /// A set of copies of the items that both sets have: those of the smaller set, of this one where both are as large. Both sets stay as
@@ -62,7 +65,7 @@ impl<T: Ord + TryClone> BTreeSet<T> {
         ensures ascending { IfOk result (λ made. AreAscending T.cmp (items made)) }
         ensures sound { IfOk result (λ made. IsSoundMap made) }
     {
-        try_copied(item::allocator(&self.map), self.intersection(other))
+        try_copied(for_sets::allocator(&self.map), self.intersection(other))
     }
 
     /// A set of copies of the items of both sets; of equal items, of this one's. Both sets stay as they are. Upstream: the operator `|`,
@@ -79,6 +82,6 @@ impl<T: Ord + TryClone> BTreeSet<T> {
         ensures ascending { IfOk result (λ made. AreAscending T.cmp (items made)) }
         ensures sound { IfOk result (λ made. IsSoundMap made) }
     {
-        try_copied(item::allocator(&self.map), self.union(other))
+        try_copied(for_sets::allocator(&self.map), self.union(other))
     }
 }

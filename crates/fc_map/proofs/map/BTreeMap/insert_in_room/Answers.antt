@@ -4,7 +4,8 @@ use Rattle.fc_node.specs.Node.{own_pairs, pairs_of, IsLevelled}
 use Rattle.fc_node.specs.Path.{before, after}
 use Rattle.fc_map.specs.Entries.{root_of, entries}
 use Rattle.fc_base.proofs.Laws.{ascending_put}
-use Rattle.fc_map.proofs.InsertFacts.{gap_steps, put_in, length_in}
+use Rattle.fc_insertion.proofs.InsertedTrees.{length_in}
+use Rattle.fc_map.proofs.InsertFacts.{put_in}
 use Rattle.fc_map.proofs.map.BTreeMap.insert_in_room.Goals as goal
 
 pub invariant_of-self : goal.invariant_of-self
@@ -15,9 +16,9 @@ invariant_of-self g c =
     let cmp = g.K.Ord.cmp in
     let gap = rw c.in-Some.is at (rw (← c.self.view_is) at c.requires.gap) in
     let sound = rw c.in-Some.is at c.self.invariant.1 in
-    let steps = gap_steps root path sound cmp c.args.pair.0 gap in
+    let steps = gap.levels sound.0 sound.2.1 in
     let parts = subst (λ n. pairs_of new ≡ before path n ++ c.args.pair ∷ after path n) c.deref_mut.ensures.value (rw c.as_slice.ensures.value at c.insert_in_leaf.ensures.pairs) in
-    let longer = length_in root path sound cmp c.args.pair.0 c.args.pair _ gap parts in
+    let longer = length_in root path sound steps c.args.pair _ gap.way parts in
     let ascending : IsAscending cmp (pairs_of root) = rw c.in-Some.is at c.self.invariant.0 in
     let len : c.self.inside.len ≡ length (pairs_of root) = c.self.invariant.2 ∙ ap (λ r. length (entries (root_of r))) c.in-Some.is in
     let size : length (own_pairs root) ≤ length (own_pairs new) = rw c.deref_mut.ensures.value at c.insert_in_leaf.ensures.size in

@@ -1,7 +1,7 @@
 use Rattle.std.proofs.Common.{◌≡◌, length}
 use Rattle.std.specs.Cmp.Lexicographic.{slice_partial_cmp}
-use Rattle.fc_map.specs.Compare.{pair_partial_cmp}
-use Rattle.fc_map.proofs.map.compare.partial_order.Given as goal
+use Rattle.fc_iter.specs.Compare.{pair_partial_cmp}
+use Rattle.fc_iter.proofs.compare.partial_order.Given as goal
 
 abbrev pub invariant-pairs : goal.invariant-pairs
 invariant-pairs g l = slice_partial_cmp (pair_partial_cmp g.K.PartialOrd.partial_cmp g.V.PartialOrd.partial_cmp) l.mine l.theirs ≡ slice_partial_cmp (pair_partial_cmp g.K.PartialOrd.partial_cmp g.V.PartialOrd.partial_cmp) l.initial.mine l.initial.theirs

@@ -1,7 +1,7 @@
 use Rattle.std.proofs.Common.{sym, ◌∙◌}
 use Rattle.std.specs.Cmp.Lexicographic.{unequal}
-use Rattle.fc_map.specs.Compare.{pair_eq}
-use Rattle.fc_map.proofs.map.compare.are_equal.Goals as goal
+use Rattle.fc_iter.specs.Compare.{pair_eq}
+use Rattle.fc_iter.proofs.compare.are_equal.Goals as goal
 
 pub returns-then-len : goal.returns-then-len
 returns-then-len g c =

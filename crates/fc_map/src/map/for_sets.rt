@@ -1,39 +1,21 @@
-//! A key with its pair: looked up, taken out, and replaced; and a map made of pairs in order. A set is a map of its items, and rests on
-//! these calls.
+//! What a set, which is a map of its items, rests on: a key with its pair taken out and replaced, and a map made of pairs in order.
 ghost use Rattle.std.specs.Prelude.{◌≡◌, ◌+◌, ◌<◌, length, IsSome, IsErr, IfOk, IfErr, OnOk, Some, None};
 ghost use Rattle.fc_base.specs.Ascending.{IsAscending};
 ghost use Rattle.fc_base.specs.Growth.{MayGrowRefuse};
 ghost use Rattle.fc_base.specs.Joined.{placed};
 ghost use Rattle.fc_base.specs.OneKey.{cut};
 ghost use Rattle.fc_base.specs.Parts.{at};
-ghost use Rattle.fc_map.specs.Counts.{IsBounded, IsMoved};
-ghost use Rattle.fc_map.specs.Entries.{entries, IsSoundMap, now_pair, passed_in};
+ghost use Rattle.fc_map.specs.Counts.{IsBounded};
+ghost use Rattle.fc_map.specs.Entries.{entries, IsSoundMap, passed_in};
 ghost use Rattle.fc_map.specs.Place.{IsHeldAt};
-ghost use Rattle.fc_node.specs.Node.{pairs_of};
-ghost use Rattle.fc_search.specs.Found.{IsFound};
+ghost use Rattle.fc_node.specs.Depth.{HasFewMoves};
 
 use super::BTreeMap;
 use fc_base::{Count, Query, TryReserveError};
 use fc_build::builder::Builder;
-use fc_node::node::Node;
 use fc_node::path::Path;
-use fc_removal::replacement;
+use fc_removal::replacement::exchange;
 use std::alloc::Global;
-
-/// The pair with an equal key, as `BTreeMap::get_key_value_counted`.
-pub fn get<'a, K: Ord, V, Q: Query<K>>(
-    map: &'a BTreeMap<K, V>,
-    key: Q,
-    count: &mut Count,
-) -> Option<(&'a K, &'a V)>
-    ensures pair { now_pair result ≡ at Q.order (entries map.now) (Q.sought key) }
-    ensures ascending { IsAscending K.cmp (entries map.now) }
-    ensures comparisons { count.new.comparisons ≡ count.old.comparisons + passed_in Q.order (Q.sought key) map.now }
-    ensures moves { count.new.moves ≡ count.old.moves }
-    ensures bounded { IsBounded (length (entries map.now)) count.old count.new }
-{
-    map.get_key_value_counted(key, count)
-}
 
 /// Takes the pair with an equal key out and answers it. `None` where there is none, and the map is as it was. It takes no memory. To
 /// the count it adds exactly the comparisons of the keys that a search from the left passes, and where there is an equal key the
@@ -131,35 +113,13 @@ impl<K: Ord + Drop, V: Drop> BTreeMap<K, V> {
         ensures some { 0 < length (entries self.new) }
         ensures ascending { IsAscending K.cmp (entries self.new) }
         ensures sound { IsSoundMap self.new }
-        ensures moves { IsMoved (length (entries self.new)) count.old count.new }
+        ensures moves { HasFewMoves (length (entries self.new)) count.old count.new }
         ensures exchanged { count.new.moves ≡ count.old.moves + 2 }
         ensures comparisons { count.new.comparisons ≡ count.old.comparisons }
     {
         let Some(root) = &mut self.root else {
             unreachable!()
         };
-        exchange_in(root, path, pair, count)
+        exchange(root, path, pair, count)
     }
-}
-
-// Puts the pair in the place of the one with an equal key, to which the path leads, and answers that one.
-fn exchange_in<K: Ord + Drop, V: Drop>(
-    root: &mut Box<Node<K, V>>,
-    path: &Path,
-    pair: (K, V),
-    count: &mut Count,
-) -> (K, V)
-    requires found { IsFound K.cmp pair.0 root.old.value path.now }
-    requires sound { IsSoundMap (Some root.old.value) }
-    ensures old { at K.cmp (pairs_of root.old.value) pair.0 ≡ Some result }
-    ensures put { pairs_of root.new.value ≡ placed K.cmp (pairs_of root.old.value) pair }
-    ensures length { length (pairs_of root.new.value) ≡ length (pairs_of root.old.value) }
-    ensures some { 0 < length (pairs_of root.new.value) }
-    ensures ascending { IsAscending K.cmp (pairs_of root.old.value) → IsAscending K.cmp (pairs_of root.new.value) }
-    ensures sound { IsSoundMap (Some root.new.value) }
-    ensures moves { IsMoved (length (pairs_of root.new.value)) count.old count.new }
-    ensures exchanged { count.new.moves ≡ count.old.moves + 2 }
-    ensures comparisons { count.new.comparisons ≡ count.old.comparisons }
-{
-    replacement::replace(root, path.as_slice(), pair, count)
 }

@@ -1,0 +1,218 @@
+//! Insertion of a pair.
+ghost use Rattle.std.specs.Prelude.{◌≡◌, ◌+◌, ◌<◌, ◌⊎◌, [], ◌∷◌, length, true, IsSome, IsErr, IfOk, IfErr, OnOk, OnErr, None, Some};
+ghost use Rattle.fc_base.specs.Ascending.{IsAscending};
+ghost use Rattle.fc_base.specs.Growth.{MayGrowRefuse};
+ghost use Rattle.fc_base.specs.OneKey.{put};
+ghost use Rattle.fc_base.specs.Parts.{at, value_at};
+ghost use Rattle.fc_map.specs.Counts.{IsBounded};
+ghost use Rattle.fc_map.specs.Entries.{entries, IsSoundMap, passed_in};
+ghost use Rattle.fc_map.specs.Place.{IsHeldAt, IsOpenAt, IsPutIn, TellsRoom};
+ghost use Rattle.fc_node.specs.Depth.{HasFewMoves};
+ghost use Rattle.fc_node.specs.TreePlace.{before_of, after_of};
+
+use super::BTreeMap;
+use fc_base::{Count, TryReserveError};
+use fc_insertion::insertion::{first_leaf, try_insert};
+use fc_insertion::leaf::insert_in_leaf;
+use fc_node::path::Path;
+use std::mem;
+
+impl<K: Ord + Drop, V: Drop> BTreeMap<K, V> {
+    /// Puts the value at the key. Where an equal key is there, that key stays, its value is replaced and answered, and no memory
+    /// is asked for; else the pair is new, and the answer is `Ok(None)`. Upstream: `BTreeMap::try_insert`.
+    ///
+    /// # Errors
+    /// Only at a new key: `CapacityOverflow` where the map holds `usize::MAX` pairs, and then always; else `AllocError`, where a
+    /// request for memory was refused, which takes an empty map or a full leaf. The map is then as it was, tree and all, and key
+    /// and value come back.
+    pub fn try_insert(&mut self, key: K, value: V) -> Result<Option<V>, (K, V, TryReserveError)>
+        ensures old { IfOk result (λ old. old ≡ value_at K.cmp (entries self.old) key) }
+        ensures put { IfOk result (λ _. entries self.new ≡ put K.cmp (entries self.old) key value) }
+        ensures unchanged { IfErr result (λ _. self.new ≡ self.old) }
+        ensures new_key { IfErr result (λ _. at K.cmp (entries self.old) key ≡ None) }
+        ensures back { IfErr result (λ e. (e.0 ≡ key) × (e.1 ≡ value)) }
+        ensures error { IfErr result (λ e. MayGrowRefuse (length (entries self.old)) e.2) }
+        ensures full { at K.cmp (entries self.old) key ≡ None → length (entries self.old) ≡ usize.MAX → IsErr result }
+        ensures ascending { IsAscending K.cmp (entries self.new) }
+        ensures sound { IsSoundMap self.new }
+    {
+        self.try_insert_counted(key, value, &mut Count::new())
+    }
+
+    /// `try_insert`, with its comparisons and moves added to the count: exactly the comparisons of the keys that a search from the
+    /// left passes, and for a new pair the moves of its insertion; a value replaced and a refused insertion move no pair.
+    ///
+    /// # Errors
+    /// As `try_insert`.
+    pub fn try_insert_counted(
+        &mut self,
+        key: K,
+        value: V,
+        count: &mut Count,
+    ) -> Result<Option<V>, (K, V, TryReserveError)>
+        ensures old { IfOk result (λ old. old ≡ value_at K.cmp (entries self.old) key) }
+        ensures put { IfOk result (λ _. entries self.new ≡ put K.cmp (entries self.old) key value) }
+        ensures unchanged { IfErr result (λ _. self.new ≡ self.old) }
+        ensures new_key { IfErr result (λ _. at K.cmp (entries self.old) key ≡ None) }
+        ensures back { IfErr result (λ e. (e.0 ≡ key) × (e.1 ≡ value)) }
+        ensures error { IfErr result (λ e. MayGrowRefuse (length (entries self.old)) e.2) }
+        ensures full { at K.cmp (entries self.old) key ≡ None → length (entries self.old) ≡ usize.MAX → IsErr result }
+        ensures ascending { IsAscending K.cmp (entries self.new) }
+        ensures sound { IsSoundMap self.new }
+        ensures comparisons { count.new.comparisons ≡ count.old.comparisons + passed_in K.cmp key self.old }
+        ensures no_move { IsErr result ⊎ IsSome (at K.cmp (entries self.old) key) → count.new.moves ≡ count.old.moves }
+        ensures moved { OnOk result (at K.cmp (entries self.old) key ≡ None → count.old.moves < count.new.moves) }
+        ensures bounded { IsBounded (length (entries self.new)) count.old count.new }
+    {
+        let mut path = Path::new();
+        match self.locate(&key, &mut path, count) {
+            Ok(()) => Ok(Some(self.replace_at(&path, &key, value))),
+            Err(gap) => {
+                // Not by `insert_at`, whose answer would be made here and taken apart again.
+                let takes_no_memory = gap.has_room && self.len < usize::MAX;
+                if takes_no_memory {
+                    self.insert_in_room(&path, (key, value), count);
+                    return Ok(None);
+                }
+                match self.insert_growing(&mut path, key, value, count) {
+                    Ok(()) => Ok(None),
+                    Err(back) => Err(back),
+                }
+            }
+        }
+    }
+
+    // Puts another value at the key, to which the path leads, and answers the old one.
+    fn replace_at(&mut self, path: &Path, key: &K, value: V) -> V
+        requires held { IsHeldAt K.cmp key.now self.old path.now }
+        requires sound { IsSoundMap self.old }
+        ensures old { value_at K.cmp (entries self.old) key.now ≡ Some result }
+        ensures put { entries self.new ≡ put K.cmp (entries self.old) key.now value }
+        ensures length { length (entries self.new) ≡ length (entries self.old) }
+        ensures ascending { IsAscending K.cmp (entries self.new) }
+        ensures sound { IsSoundMap self.new }
+    {
+        mem::replace(self.value_mut(path), value)
+    }
+
+    // Puts a pair with a new key into the gap that the path leads to, by what is known of its leaf. The path then leads to the pair.
+    #[inline(always)]
+    pub(crate) fn insert_at(
+        &mut self,
+        path: &mut Path,
+        has_room: bool,
+        key: K,
+        value: V,
+        count: &mut Count,
+    ) -> Result<(), (K, V, TryReserveError)>
+        requires gap { IsOpenAt K.cmp key self.old path.old }
+        requires room { TellsRoom has_room path.old self.old }
+        ensures put { OnOk result (entries self.new ≡ put K.cmp (entries self.old) key value) }
+        ensures place { OnOk result (IsPutIn path.new self.new (key, value) (before_of self.old path.old) (after_of self.old path.old)) }
+        ensures unchanged { OnErr result (self.new ≡ self.old) }
+        ensures back { IfErr result (λ e. (e.0 ≡ key) × (e.1 ≡ value)) }
+        ensures error { IfErr result (λ e. MayGrowRefuse (length (entries self.old)) e.2) }
+        ensures full { length (entries self.old) ≡ usize.MAX → IsErr result }
+        ensures ascending { IsAscending K.cmp (entries self.new) }
+        ensures sound { IsSoundMap self.new }
+        ensures comparisons { count.new.comparisons ≡ count.old.comparisons }
+        ensures no_move { OnErr result (count.new.moves ≡ count.old.moves) }
+        ensures length { OnOk result (length (entries self.new) ≡ length (entries self.old) + 1) }
+        ensures moves { OnOk result (HasFewMoves (length (entries self.new)) count.old count.new) }
+        ensures moved { OnOk result (count.old.moves < count.new.moves) }
+    {
+        if has_room && self.len < usize::MAX {
+            self.insert_in_room(path, (key, value), count);
+            return Ok(());
+        }
+        self.insert_growing(path, key, value, count)
+    }
+
+    // Puts a pair with a new key into the gap that the path leads to, whose leaf has room. The path then leads to the pair.
+    #[inline(always)]
+    fn insert_in_room(&mut self, path: &Path, pair: (K, V), count: &mut Count)
+        requires gap { IsOpenAt K.cmp pair.0 self.old path.now }
+        requires room { TellsRoom true path.now self.old }
+        requires fits { length (entries self.old) < usize.MAX }
+        ensures put { entries self.new ≡ put K.cmp (entries self.old) pair.0 pair.1 }
+        ensures place { IsPutIn path.now self.new pair (before_of self.old path.now) (after_of self.old path.now) }
+        ensures ascending { IsAscending K.cmp (entries self.new) }
+        ensures sound { IsSoundMap self.new }
+        ensures comparisons { count.new.comparisons ≡ count.old.comparisons }
+        ensures length { length (entries self.new) ≡ length (entries self.old) + 1 }
+        ensures moves { HasFewMoves (length (entries self.new)) count.old count.new }
+        ensures moved { count.old.moves < count.new.moves }
+    {
+        let Some(root) = &mut self.root else {
+            unreachable!()
+        };
+        insert_in_leaf(root, path.as_slice(), pair, count);
+        self.len += 1;
+    }
+
+    // As `insert_at`, by what takes memory: a first leaf, or what a full leaf is split with. It is not inlined, since the insertions that
+    // take none would then pay for its locals.
+    #[inline(never)]
+    fn insert_growing(
+        &mut self,
+        path: &mut Path,
+        key: K,
+        value: V,
+        count: &mut Count,
+    ) -> Result<(), (K, V, TryReserveError)>
+        requires gap { IsOpenAt K.cmp key self.old path.old }
+        ensures put { OnOk result (entries self.new ≡ put K.cmp (entries self.old) key value) }
+        ensures place { OnOk result (IsPutIn path.new self.new (key, value) (before_of self.old path.old) (after_of self.old path.old)) }
+        ensures unchanged { OnErr result (self.new ≡ self.old) }
+        ensures back { IfErr result (λ e. (e.0 ≡ key) × (e.1 ≡ value)) }
+        ensures error { IfErr result (λ e. MayGrowRefuse (length (entries self.old)) e.2) }
+        ensures full { length (entries self.old) ≡ usize.MAX → IsErr result }
+        ensures ascending { IsAscending K.cmp (entries self.new) }
+        ensures sound { IsSoundMap self.new }
+        ensures comparisons { count.new.comparisons ≡ count.old.comparisons }
+        ensures no_move { OnErr result (count.new.moves ≡ count.old.moves) }
+        ensures length { OnOk result (length (entries self.new) ≡ length (entries self.old) + 1) }
+        ensures moves { OnOk result (HasFewMoves (length (entries self.new)) count.old count.new) }
+        ensures moved { OnOk result (count.old.moves < count.new.moves) }
+    {
+        if self.len == usize::MAX {
+            return Err((key, value, TryReserveError::CapacityOverflow));
+        }
+        let Some(root) = &mut self.root else {
+            return self.insert_first(path, key, value, count);
+        };
+        try_insert(self.alloc, root, path, (key, value), count)?;
+        self.len += 1;
+        Ok(())
+    }
+
+    // Puts the first pair into an empty map. The path, which has no step, then leads to it.
+    #[inline(never)]
+    fn insert_first(
+        &mut self,
+        path: &mut Path,
+        key: K,
+        value: V,
+        count: &mut Count,
+    ) -> Result<(), (K, V, TryReserveError)>
+        requires empty { self.old ≡ None }
+        requires start { path.old ≡ [] }
+        ensures put { OnOk result (entries self.new ≡ (key, value) ∷ []) }
+        ensures place { OnOk result (IsPutIn path.new self.new (key, value) [] []) }
+        ensures unchanged { OnErr result (self.new ≡ self.old) }
+        ensures back { IfErr result (λ e. (e.0 ≡ key) × (e.1 ≡ value)) }
+        ensures error { IfErr result (λ e. e.2 ≡ TryReserveError.AllocError) }
+        ensures ascending { IsAscending K.cmp (entries self.new) }
+        ensures sound { IsSoundMap self.new }
+        ensures comparisons { count.new.comparisons ≡ count.old.comparisons }
+        ensures no_move { OnErr result (count.new.moves ≡ count.old.moves) }
+        ensures moves { OnOk result (HasFewMoves 1 count.old count.new) }
+        ensures moved { OnOk result (count.old.moves < count.new.moves) }
+    {
+        let root = first_leaf(self.alloc, (key, value), count)?;
+        self.root = Some(root);
+        self.len = 1;
+        path.push(0);
+        Ok(())
+    }
+}
