@@ -1,5 +1,6 @@
 -- A sound tree after an insertion into one of its gaps.
 use Rattle.std.proofs.Common.{◌≡◌, ℕ, suc, zero, ◌+◌, ◌-◌, ◌*◌, ◌^◌, ◌<◌, ◌≤◌, Bool, true, false, List, [], ◌∷◌, ◌++◌, length, Some, refl, ap, ◌∙◌, arith, length-append}
+use Rattle.fc_base.specs.Sizes.{level_moves}
 use Rattle.fc_base.specs.declared.count.Count.{Count}
 use Rattle.fc_node.specs.declared.node.Node.{Node}
 use Rattle.fc_node.specs.Depth.{HasFewMoves}
@@ -46,5 +47,5 @@ module _ {K V : Type 0} where
         go true is = some (length path) (higher is).0
 
     -- The moves of an insertion into a tree of so many levels.
-    pub moves_in : (n : ℕ) (old new : Count) → n ≡ length (pairs_of root) + 1 → new.moves ≤ old.moves + 18 * length path → HasFewMoves n old new
+    pub moves_in : (n : ℕ) (old new : Count) → n ≡ length (pairs_of root) + 1 → new.moves ≤ old.moves + level_moves * length path → HasFewMoves n old new
     moves_in n old new is few = let d = deep_root sound.0 root sound.2 in (sound.0, omega arith, omega arith)

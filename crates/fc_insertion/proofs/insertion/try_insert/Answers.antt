@@ -1,4 +1,5 @@
 use Rattle.std.proofs.Common.{◌≡◌, ◌<◌, ◌^◌, length, arith}
+use Rattle.fc_base.specs.Sizes.{capacity}
 use Rattle.fc_node.specs.Node.{own_pairs, pairs_of}
 use Rattle.fc_insertion.specs.Cascade.{leaf_at}
 use Rattle.fc_insertion.proofs.Arrivals.{steps_few}
@@ -11,7 +12,7 @@ returns-in-Err-clause-leaf g c =
     let path = c.args.path.now in
     let steps = c.requires.levels c.requires.sound.0 c.requires.sound.2.1 in
     let within = leaf_within path c.requires.sound.0 root c.requires.sound.2.1 steps c.requires.path in
-    let full : length (own_pairs (leaf_at path root)) ≡ 11 = rw (c.deref.ensures, c.as_slice.ensures.value) at c.in-Err.ensures.refused in
+    let full : length (own_pairs (leaf_at path root)) ≡ capacity = rw (c.deref.ensures, c.as_slice.ensures.value) at c.in-Err.ensures.refused in
     omega arith
 
 pub insert-requires : goal.insert-requires
