@@ -5,6 +5,7 @@ use Rattle.std.specs.List.{insert}
 use Rattle.std.proofs.lemmas.List.{get_or_default, take_all, length-take-le, length-map}
 use Rattle.std.proofs.lemmas.List.Edits.{insert_end}
 use Rattle.std.proofs.lemmas.List.Elements.{length_all_zip, all_zip_more, All-from_recursion, recursion_from_All}
+use Rattle.fc_base.specs.Sizes.{min_len}
 use Rattle.fc_node.specs.Weave.{behind, weave}
 use Rattle.fc_node.specs.declared.node.Node.{Node}
 use Rattle.fc_node.specs.Node.{own_pairs, children_of, child_at, pairs_of, IsLeaf, IsLevelled}
@@ -57,7 +58,7 @@ module _ {K V : Type 0} (same : K × V → K × V → Type 0) where
   lists (c ∷ cs) [] a = absurd a
   lists (c ∷ cs) (d ∷ ds) a = (a.0.pairs, lists cs ds a.1)
 
-  lower : (h : ℕ) (cs ds : List (Node K V)) → AllZip (IsCopy same) cs ds → AllByRecursion (λ c. (5 ≤ length (own_pairs c)) × IsLevelled h c) cs → AllByRecursion (λ c. (5 ≤ length (own_pairs c)) × IsLevelled h c) ds
+  lower : (h : ℕ) (cs ds : List (Node K V)) → AllZip (IsCopy same) cs ds → AllByRecursion (λ c. (min_len ≤ length (own_pairs c)) × IsLevelled h c) cs → AllByRecursion (λ c. (min_len ≤ length (own_pairs c)) × IsLevelled h c) ds
   lower h [] [] a l = tt
   lower h [] (d ∷ ds) a l = absurd a
   lower h (c ∷ cs) [] a l = absurd a

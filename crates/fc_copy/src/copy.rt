@@ -7,7 +7,7 @@ ghost use Rattle.fc_node.specs.Node.{own_pairs, children_of, pairs_of, IsLeaf, I
 ghost use Rattle.fc_copy.specs.Copy.{AreSame, MayRefuseNodes, IsCopy, IsCopyUpTo};
 
 use fc_base::{Count, TryClone, TryReserveError};
-use fc_node::node::Node;
+use fc_node::node::{CAPACITY, Node};
 use fc_slots::children::Children;
 use fc_slots::slots::Slots;
 use std::alloc::Global;
@@ -56,8 +56,8 @@ fn try_copy_own<K: TryClone, V: TryClone>(
 // Copies of the pairs, in order.
 fn try_copy_pairs<K: TryClone, V: TryClone>(
     alloc: Global,
-    pairs: &Slots<(K, V), 11>,
-) -> Result<Slots<(K, V), 11>, TryReserveError>
+    pairs: &Slots<(K, V), CAPACITY>,
+) -> Result<Slots<(K, V), CAPACITY>, TryReserveError>
     requires keys { K.can_clone }
     requires values { V.can_clone }
     ensures copied { IfOk result (λ copies. AllZip (AreSame K.same V.same) pairs.now copies) }

@@ -8,6 +8,7 @@ use Rattle.std.proofs.lemmas.Bool.{ltb-true, ltb-false, lt-ltb, le-ltb}
 use Rattle.std.proofs.lemmas.Bool.Decides.{nat_tests, eqb_tells}
 use Rattle.std.proofs.lemmas.List.{length-map, map-append, take-append-le, append_cancel_left, get_or-append_right, get_or_append_left}
 use Rattle.std.proofs.Math.Seq.{take-append-add, take-append_seam, get_or-append_seam}
+use Rattle.fc_base.specs.Sizes.{capacity, most_levels}
 use Rattle.fc_node.specs.Weave.{weave, ahead}
 use Rattle.fc_node.specs.declared.node.Node.{Node}
 use Rattle.fc_node.specs.Node.{own_pairs, children_of, child_at, pairs_of, IsLeaf, IsInner, IsLevelled, IsSoundRoot}
@@ -179,7 +180,7 @@ module _ {K V : Type 0} where
 
   -- below an inner node, where the child was split
   pub arrived_above : (p : List ℕ) (old mid c child new : Node K V) (t : Split K V) (up : K × V) (r : Box (Node K V) Global) → IsStep p old → IsCascadeStep p old child → IsChildSet old mid (get_or p 0 0) c → child ≡ child_at old (get_or p 0 0)
-      → length (slice_range p 1 (length p)) ≤ cascade (slice_range p 1 (length p)) child → MatchOption t (length (own_pairs old) < 11) (λ _. length (own_pairs old) ≡ 11)
+      → length (slice_range p 1 (length p)) ≤ cascade (slice_range p 1 (length p)) child → MatchOption t (length (own_pairs old) < capacity) (λ _. length (own_pairs old) ≡ capacity)
       → own_pairs_after new t ≡ insert (own_pairs mid) (get_or p 0 0) up → children_after new t ≡ insert (children_of mid) (get_or p 0 0 + 1) r.value → IsInner new → IfSome t (λ _. length (own_pairs new) ≡ left_length (get_or p 0 0))
       → HasArrived (slice_range p 1 (length p)) child c (Some (up, r)) → HasArrived p old new t
   arrived_above p old mid c child new t up r s k m ci le room a b inner left h =
@@ -189,7 +190,7 @@ module _ {K V : Type 0} where
       let g : IsSettled (is_right 0 rest) (arrival 0 rest) c (Some (up, r)) (before rest (child_at old i)) = subst (λ x. IsSettled (is_right 0 rest) (arrival 0 rest) c (Some (up, r)) (before rest x)) ci (rw all at h) in
       settled t room left (stepped_above old i s.le s.inner mid c (is_right 0 rest) (arrival 0 rest) (before rest (child_at old i)) up r (children_after new t) (own_pairs_after new t) m a b g)
     where
-      settled : (t : Split K V) → MatchOption t (length (own_pairs old) < 11) (λ _. length (own_pairs old) ≡ 11) → IfSome t (λ _. length (own_pairs new) ≡ left_length (get_or p 0 0))
+      settled : (t : Split K V) → MatchOption t (length (own_pairs old) < capacity) (λ _. length (own_pairs old) ≡ capacity) → IfSome t (λ _. length (own_pairs new) ≡ left_length (get_or p 0 0))
           → HasStep (arrival 0 (slice_range p 1 (length p))) (children_after new t) (own_pairs_after new t) (step_from (get_or p 0 0) (is_right 0 (slice_range p 1 (length p)))) (lead_in old (get_or p 0 0) ++ before (slice_range p 1 (length p)) (child_at old (get_or p 0 0))) → HasArrived p old new t
       settled None room left st =
           let part = k.room room in
@@ -229,7 +230,7 @@ module _ {K V : Type 0} where
       (omega arith, leaf_front new i l₂ ∙ ap (take i) e ∙ take_put (own_pairs old) i pair le ∙ sym (leaf_lead old i l₁))
 
   leaf_settled : (old new : Node K V) (i : ℕ) (s : Split K V) (pair : K × V) → IsLeaf old → IsLeaf new → IfSome s (λ x. IsLeaf x.1.value) → i ≤ length (own_pairs old) → own_pairs_after new s ≡ insert (own_pairs old) i pair
-      → MatchOption s (length (own_pairs old) < 11) (λ _. length (own_pairs old) ≡ 11) → IfSome s (λ _. length (own_pairs new) ≡ left_length i) → HasArrived (i ∷ []) old new s
+      → MatchOption s (length (own_pairs old) < capacity) (λ _. length (own_pairs old) ≡ capacity) → IfSome s (λ _. length (own_pairs new) ≡ left_length i) → HasArrived (i ∷ []) old new s
   leaf_settled old new i None pair l₁ l₂ l₃ le e room left =
       let none = leaf_room (i ∷ []) old refl room in
       by_steps (i ∷ []) (i ∷ []) old new None 1 refl (omega arith) (leaf_place old new i pair l₁ l₂ le e)
@@ -239,7 +240,7 @@ module _ {K V : Type 0} where
       by_steps (i ∷ []) (i ∷ []) old new (Some x) 0 refl (omega arith) (leaf_half new x.0 x.1 (left_length i) i _ l₂ l₃ left (beside i) (omega arith) (ap (take i) e ∙ take_put (own_pairs old) i pair le ∙ sym (leaf_lead old i l₁)) (nat_lt (left_length i) i) refl)
 
   pub arrived_leaf : (p : List ℕ) (old new : Node K V) (s : Split K V) (pair : K × V) → p ≡ get_or p 0 0 ∷ [] → IsLeaf old → IsLeaf new → IfSome s (λ x. IsLeaf x.1.value) → get_or p 0 0 ≤ length (own_pairs old) → own_pairs_after new s ≡ insert (own_pairs old) (get_or p 0 0) pair
-      → MatchOption s (length (own_pairs old) < 11) (λ _. length (own_pairs old) ≡ 11) → IfSome s (λ _. length (own_pairs new) ≡ left_length (get_or p 0 0)) → HasArrived p old new s
+      → MatchOption s (length (own_pairs old) < capacity) (λ _. length (own_pairs old) ≡ capacity) → IfSome s (λ _. length (own_pairs new) ≡ left_length (get_or p 0 0)) → HasArrived p old new s
   arrived_leaf p old new s pair o l₁ l₂ l₃ le e room left = subst (λ q. HasArrived q old new s) (sym o) (leaf_settled old new (get_or p 0 0) s pair l₁ l₂ l₃ le e room left)
 
   -- what is ahead of a place tells which pair is there, and what is behind it
@@ -250,7 +251,7 @@ module _ {K V : Type 0} where
       record { place = w.0; pair_is = c.is ∙ ap Some d.0; ahead = w.1; behind = d.1 }
 
   -- into a leaf that has room
-  pub put_in_room : (p : List ℕ) (old new : Node K V) (pair : K × V) → p ≡ get_or p 0 0 ∷ [] → IsLeaf old → IsLeaf new → length (own_pairs old) < 11 → get_or p 0 0 ≤ length (own_pairs old) → own_pairs new ≡ insert (own_pairs old) (get_or p 0 0) pair → pairs_of new ≡ before p old ++ pair ∷ after p old
+  pub put_in_room : (p : List ℕ) (old new : Node K V) (pair : K × V) → p ≡ get_or p 0 0 ∷ [] → IsLeaf old → IsLeaf new → length (own_pairs old) < capacity → get_or p 0 0 ≤ length (own_pairs old) → own_pairs new ≡ insert (own_pairs old) (get_or p 0 0) pair → pairs_of new ≡ before p old ++ pair ∷ after p old
       → IsPutAt p new pair (before p old) (after p old)
   put_in_room p old new pair o l₁ l₂ room le e parts =
       let n : length (own_pairs new) ≡ length (own_pairs old) + 1 = ap length e ∙ length-insert (own_pairs old) (get_or p 0 0) pair le in
@@ -291,37 +292,37 @@ module _ {K V : Type 0} where
       let w = root_step (is_right 0 p) (arrival 0 p) root left right up (before p old) e k (rw none at a) in
       rw (needed_whole p old (omega arith), lt-ltb (length p) (cascade p old + 1) more) (put_at _ root pair _ _ (suc h) (levelled_root h root left right.value up e k b₁ b₂) (put_root root left right.value up e k ∙ parts) w)
 
-  -- no step of a path is above 11
-  pub small_steps : (p : List ℕ) (h : ℕ) (n : Node K V) → length p ≡ h + 1 → IsPath p n → IsLevelled h n → AllByRecursion (λ i. i ≤ 11) p
+  -- no step of a path is above the most pairs of a node
+  pub small_steps : (p : List ℕ) (h : ℕ) (n : Node K V) → length p ≡ h + 1 → IsPath p n → IsLevelled h n → AllByRecursion (λ i. i ≤ capacity) p
   small_steps [] h n e w l = tt
   small_steps (i ∷ []) zero n e w l = (let a = w.0 in let b = l.0 in omega arith, tt)
   small_steps (i ∷ j ∷ p) zero n e w l = absurd (omega arith)
   small_steps (i ∷ p) (suc h) n e w l = (let a = w.0 in let b = l.0 in omega arith, small_steps p h (child_at n i) (omega arith) w.1 (child_below h n i l w.0).1)
 
   -- the path to the new pair is short enough
-  pub steps_fit : (p : List ℕ) (n : Node K V) (nodes : ℕ) → nodes ≡ nodes_needed p n → steps_after p n ≤ 25 → length p + (if nat_lt (length p) nodes then 1 else 0) ≤ 25
+  pub steps_fit : (p : List ℕ) (n : Node K V) (nodes : ℕ) → nodes ≡ nodes_needed p n → steps_after p n ≤ most_levels → length p + (if nat_lt (length p) nodes then 1 else 0) ≤ most_levels
   steps_fit p n nodes e h = rw e (fits (all_full p n) refl)
     where
       one : (b : Bool) → (if b then 1 else 0) ≤ 1
       one true = omega arith
       one false = omega arith
 
-      fits : (b : Bool) → all_full p n ≡ b → length p + (if nat_lt (length p) (nodes_needed p n) then 1 else 0) ≤ 25
-      fits true is = let m = one (nat_lt (length p) (nodes_needed p n)) in let s : length p + 1 ≤ 25 = rw is at h in omega arith
+      fits : (b : Bool) → all_full p n ≡ b → length p + (if nat_lt (length p) (nodes_needed p n) then 1 else 0) ≤ most_levels
+      fits true is = let m = one (nat_lt (length p) (nodes_needed p n)) in let s : length p + 1 ≤ most_levels = rw is at h in omega arith
       fits false is =
           let lt = cascade_part p n is in
-          let s : length p ≤ 25 = rw is at h in
+          let s : length p ≤ most_levels = rw is at h in
           rw (needed_part p n lt, le-ltb (length p) (cascade p n) (omega arith)) (omega arith)
 
   -- it is, in a tree that has room for one pair more in 64 bits
-  pub steps_few : (p : List ℕ) (n : Node K V) → 0 < length p → IsSoundRoot (length p - 1) n → length (pairs_of n) + 1 < 2 ^ 64 → steps_after p n ≤ 25
+  pub steps_few : (p : List ℕ) (n : Node K V) → 0 < length p → IsSoundRoot (length p - 1) n → length (pairs_of n) + 1 < 2 ^ 64 → steps_after p n ≤ most_levels
   steps_few p n some s few = steps (all_full p n) refl
     where
-      full : (p : List ℕ) → 0 < length p → all_full p n ≡ true → length (own_pairs n) ≡ 11
+      full : (p : List ℕ) → 0 < length p → all_full p n ≡ true → length (own_pairs n) ≡ capacity
       full [] some is = absurd (omega arith)
-      full (i ∷ p) some is = elim (eqb_tells (length (own_pairs n)) 11) [ inl w ↦ w.1 | inr w ↦ absurd (let z = rw w.0 at is in cc) ]
+      full (i ∷ p) some is = elim (eqb_tells (length (own_pairs n)) capacity) [ inl w ↦ w.1 | inr w ↦ absurd (let z = rw w.0 at is in cc) ]
 
-      steps : (b : Bool) → all_full p n ≡ b → steps_after p n ≤ 25
+      steps : (b : Bool) → all_full p n ≡ b → steps_after p n ≤ most_levels
       steps true is =
           let d = few_levels (suc (length p - 1)) (length (pairs_of n)) (deep_full (length p - 1) n (full p some is) s.1) (omega arith) in
           rw is (omega arith)

@@ -4,6 +4,7 @@ use Rattle.std.specs.Prelude.{slice_range, if◌then◌else◌}
 use Rattle.std.specs.declared.alloc.Global.{Global}
 use Rattle.std.proofs.lemmas.Bool.{eq-eqb, ne_eqb}
 use Rattle.std.proofs.lemmas.Bool.Decides.{eqb_tells}
+use Rattle.fc_base.specs.Sizes.{capacity, split_moves_most}
 use Rattle.fc_node.specs.declared.node.Node.{Node}
 use Rattle.fc_node.specs.Node.{own_pairs, child_at}
 use Rattle.fc_insertion.specs.Cascade.{leaf_at, all_full, cascade, nodes_needed, insertion_moves, IsSpareLeaf, spare_count}
@@ -33,14 +34,14 @@ module _ {K V : Type 0} where
 
   cons_part : (i : ℕ) (p : List ℕ) (n : Node K V) → cascade p (child_at n i) < length p → cascade (i ∷ p) n ≡ cascade p (child_at n i)
   cons_part i p n h =
-      rw (part_full p (child_at n i) h) (elim (length (own_pairs n) == 11) as (λ b. (if b && false then suc (length p) else cascade p (child_at n i)) ≡ cascade p (child_at n i)) [ true ↦ refl | false ↦ refl ])
+      rw (part_full p (child_at n i) h) (elim (length (own_pairs n) == capacity) as (λ b. (if b && false then suc (length p) else cascade p (child_at n i)) ≡ cascade p (child_at n i)) [ true ↦ refl | false ↦ refl ])
 
-  cons_room : (i : ℕ) (p : List ℕ) (n : Node K V) → length (own_pairs n) < 11 → cascade (i ∷ p) n ≡ cascade p (child_at n i)
-  cons_room i p n h = let e : (length (own_pairs n) == 11) ≡ false = ne_eqb _ _ (λ q. omega arith) in rw e refl
+  cons_room : (i : ℕ) (p : List ℕ) (n : Node K V) → length (own_pairs n) < capacity → cascade (i ∷ p) n ≡ cascade p (child_at n i)
+  cons_room i p n h = let e : (length (own_pairs n) == capacity) ≡ false = ne_eqb _ _ (λ q. omega arith) in rw e refl
 
-  cons_full : (i : ℕ) (p : List ℕ) (n : Node K V) → length (own_pairs n) ≡ 11 → length p ≤ cascade p (child_at n i) → cascade (i ∷ p) n ≡ suc (length p)
+  cons_full : (i : ℕ) (p : List ℕ) (n : Node K V) → length (own_pairs n) ≡ capacity → length p ≤ cascade p (child_at n i) → cascade (i ∷ p) n ≡ suc (length p)
   cons_full i p n q h =
-      let e : (length (own_pairs n) == 11) ≡ true = eq-eqb _ _ q in
+      let e : (length (own_pairs n) == capacity) ≡ true = eq-eqb _ _ q in
       rw (e, whole_full p (child_at n i) h) refl
 
   pub cascade_most : (p : List ℕ) (n : Node K V) → cascade p n ≤ length p
@@ -52,16 +53,16 @@ module _ {K V : Type 0} where
       elim (all_full (i ∷ p) n) as (λ b. cascade p (child_at n i) ≤ (if b then suc (length p) else cascade p (child_at n i))) [ true ↦ omega arith | false ↦ omega arith ]
 
   -- a leaf
-  pub leaf_full : (p : List ℕ) (n : Node K V) → p ≡ get_or p 0 0 ∷ [] → length (own_pairs n) ≡ 11 → cascade p n ≡ 1
+  pub leaf_full : (p : List ℕ) (n : Node K V) → p ≡ get_or p 0 0 ∷ [] → length (own_pairs n) ≡ capacity → cascade p n ≡ 1
   leaf_full p n e q = subst (λ (r : List ℕ). cascade r n ≡ 1) (sym e) (cons_full (get_or p 0 0) [] n q (omega arith))
 
-  pub leaf_room : (p : List ℕ) (n : Node K V) → p ≡ get_or p 0 0 ∷ [] → length (own_pairs n) < 11 → cascade p n ≡ 0
+  pub leaf_room : (p : List ℕ) (n : Node K V) → p ≡ get_or p 0 0 ∷ [] → length (own_pairs n) < capacity → cascade p n ≡ 0
   leaf_room p n e q = subst (λ (r : List ℕ). cascade r n ≡ 0) (sym e) (cons_room (get_or p 0 0) [] n q)
 
   -- the leaf of a path is full where anything is
-  pub cascade_leaf : (p : List ℕ) (n : Node K V) → 0 < length p → 1 ≤ cascade p n → length (own_pairs (leaf_at p n)) ≡ 11
+  pub cascade_leaf : (p : List ℕ) (n : Node K V) → 0 < length p → 1 ≤ cascade p n → length (own_pairs (leaf_at p n)) ≡ capacity
   cascade_leaf [] n l h = absurd (omega arith)
-  cascade_leaf (i ∷ []) n l h = elim (eqb_tells (length (own_pairs n)) 11) [ inl w ↦ w.1 | inr w ↦ absurd (let z = rw w.0 at h in omega arith) ]
+  cascade_leaf (i ∷ []) n l h = elim (eqb_tells (length (own_pairs n)) capacity) [ inl w ↦ w.1 | inr w ↦ absurd (let z = rw w.0 at h in omega arith) ]
   cascade_leaf (i ∷ j ∷ p) n l h = cascade_leaf (j ∷ p) (child_at n i) (omega arith) (by_fullness (j ∷ p) (child_at n i) (1 ≤ cascade (j ∷ p) (child_at n i))
       (λ f. let w = cascade_whole (j ∷ p) (child_at n i) f in omega arith)
       (λ f. let w = cascade_part (j ∷ p) (child_at n i) f in let e = cons_part i (j ∷ p) n w in omega arith))
@@ -78,10 +79,10 @@ module _ {K V : Type 0} where
   needed_positive : (p : List ℕ) (n : Node K V) → 0 < length p → 1 ≤ nodes_needed p n → 1 ≤ cascade p n
   needed_positive p n l h = by_fullness p n (1 ≤ cascade p n) (λ f. let w = cascade_whole p n f in omega arith) (λ f. let q = needed_part p n (cascade_part p n f) in omega arith)
 
-  pub moves_whole : (p : List ℕ) (n : Node K V) → length p ≤ cascade p n → insertion_moves p n ≡ 12 * cascade p n + 1
+  pub moves_whole : (p : List ℕ) (n : Node K V) → length p ≤ cascade p n → insertion_moves p n ≡ split_moves_most * cascade p n + 1
   moves_whole p n h = rw (whole_full p n h) refl
 
-  pub moves_part : (p : List ℕ) (n : Node K V) → cascade p n < length p → insertion_moves p n ≡ 12 * cascade p n + 11
+  pub moves_part : (p : List ℕ) (n : Node K V) → cascade p n < length p → insertion_moves p n ≡ split_moves_most * cascade p n + capacity
   moves_part p n h = rw (part_full p n h) refl
 
 -- what a cascade is, by the one that is a step down the path
@@ -90,8 +91,8 @@ pub record IsCascadeStep {K V : Type 0} (p : List ℕ) (n child : Node K V) : Ty
   pub more : cascade (slice_range p 1 (length p)) child ≤ cascade p n
   pub none : cascade (slice_range p 1 (length p)) child ≡ 0 → cascade p n ≡ 0
   pub part : cascade (slice_range p 1 (length p)) child < length (slice_range p 1 (length p)) → cascade p n ≡ cascade (slice_range p 1 (length p)) child
-  pub room : length (own_pairs n) < 11 → cascade p n ≡ cascade (slice_range p 1 (length p)) child
-  pub full : length (own_pairs n) ≡ 11 → length (slice_range p 1 (length p)) ≤ cascade (slice_range p 1 (length p)) child → cascade p n ≡ length p
+  pub room : length (own_pairs n) < capacity → cascade p n ≡ cascade (slice_range p 1 (length p)) child
+  pub full : length (own_pairs n) ≡ capacity → length (slice_range p 1 (length p)) ≤ cascade (slice_range p 1 (length p)) child → cascade p n ≡ length p
 
 positive : (a b : ℕ) → (a ≡ 0 → b ≡ 0) → 1 ≤ b → 1 ≤ a
 positive zero b f h = let e = f refl in omega arith
@@ -115,7 +116,7 @@ module _ {K V : Type 0} where
       }
 
   -- the spare leaf goes down with the path
-  pub leaf_passed : (o : Option (Box (Node K V) Global)) (p : List ℕ) (n child : Node K V) → IsStep p n → IsCascadeStep p n child → length (own_pairs n) ≤ 11 → IsSpareLeaf o (cascade p n) → IsSpareLeaf o (cascade (slice_range p 1 (length p)) child)
+  pub leaf_passed : (o : Option (Box (Node K V) Global)) (p : List ℕ) (n child : Node K V) → IsStep p n → IsCascadeStep p n child → length (own_pairs n) ≤ capacity → IsSpareLeaf o (cascade p n) → IsSpareLeaf o (cascade (slice_range p 1 (length p)) child)
   leaf_passed None p n child s k f h = omega arith
   leaf_passed (Some b) p n child s k f h = (positive _ _ k.none h.0, h.1)
 
@@ -128,17 +129,17 @@ module _ {K V : Type 0} where
 -- what a node adds to a cascade that has come up to it
 module _ {K V : Type 0} where
   pub above_halved : (o : Split K V) (p : List ℕ) (n child : Node K V) → IsStep p n → IsCascadeStep p n child → length (slice_range p 1 (length p)) ≤ cascade (slice_range p 1 (length p)) child
-      → MatchOption o (length (own_pairs n) < 11) (λ _. length (own_pairs n) ≡ 11) → MatchOption o (cascade p n < length p) (λ _. cascade p n ≡ length p)
+      → MatchOption o (length (own_pairs n) < capacity) (λ _. length (own_pairs n) ≡ capacity) → MatchOption o (cascade p n < length p) (λ _. cascade p n ≡ length p)
   above_halved None p n child s k h f = let e = k.room f in omega arith
   above_halved (Some x) p n child s k h f = k.full f h
 
   pub above_used : (o : Split K V) (p : List ℕ) (n child : Node K V) (a b d : ℕ) → IsStep p n → IsCascadeStep p n child → length (slice_range p 1 (length p)) ≤ cascade (slice_range p 1 (length p)) child
-      → MatchOption o (length (own_pairs n) < 11) (λ _. length (own_pairs n) ≡ 11) → b + (cascade (slice_range p 1 (length p)) child - 1) ≡ a → MatchOption o (d ≡ b) (λ _. d + 1 ≡ b) → d + (cascade p n - 1) ≡ a
+      → MatchOption o (length (own_pairs n) < capacity) (λ _. length (own_pairs n) ≡ capacity) → b + (cascade (slice_range p 1 (length p)) child - 1) ≡ a → MatchOption o (d ≡ b) (λ _. d + 1 ≡ b) → d + (cascade p n - 1) ≡ a
   above_used None p n child a b d s k h f u w = let e = k.room f in omega arith
   above_used (Some x) p n child a b d s k h f u w = let e = k.full f h in omega arith
 
   pub above_moves : (o : Split K V) (p : List ℕ) (n child : Node K V) (a b d : ℕ) → IsStep p n → IsCascadeStep p n child → length (slice_range p 1 (length p)) ≤ cascade (slice_range p 1 (length p)) child
-      → MatchOption o (length (own_pairs n) < 11) (λ _. length (own_pairs n) ≡ 11) → b ≤ a + 12 * cascade (slice_range p 1 (length p)) child → MatchOption o (d ≤ b + 11) (λ _. d ≤ b + 12)
-      → MatchOption o (d ≤ a + 12 * cascade p n + 11) (λ _. d ≤ a + 12 * cascade p n)
+      → MatchOption o (length (own_pairs n) < capacity) (λ _. length (own_pairs n) ≡ capacity) → b ≤ a + split_moves_most * cascade (slice_range p 1 (length p)) child → MatchOption o (d ≤ b + capacity) (λ _. d ≤ b + split_moves_most)
+      → MatchOption o (d ≤ a + split_moves_most * cascade p n + capacity) (λ _. d ≤ a + split_moves_most * cascade p n)
   above_moves None p n child a b d s k h f u w = let e = k.room f in omega arith
   above_moves (Some x) p n child a b d s k h f u w = let e = k.full f h in omega arith

@@ -22,7 +22,7 @@ module _ {K V : Type 0} where
   abbrev pub nodes_needed : List ℕ → Node K V → ℕ
   nodes_needed path n = if all_full path n then cascade path n + 1 else cascade path n
 
-  -- The most moves that an insertion makes: 12 at each node that it splits, then 1 for a new root, or 11 in a node with room.
+  -- The most moves that an insertion makes: those of a split at each node that it splits, then 1 for a new root, or those of a node with room.
   abbrev pub insertion_moves : List ℕ → Node K V → ℕ
   insertion_moves path n = split_moves_most * cascade path n + (if all_full path n then 1 else capacity)
 

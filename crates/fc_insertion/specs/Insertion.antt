@@ -1,5 +1,5 @@
 -- What an insertion leaves of a node, and what the node hands out where it was split.
-use Rattle.std.specs.Prelude.{◌≤◌, List, ◌∷◌, ◌++◌, length, Option, Some, None}
+use Rattle.std.specs.Prelude.{◌+◌, ◌≤◌, List, ◌∷◌, ◌++◌, length, Option, Some, None}
 use Rattle.std.specs.declared.boxed.Box.{Box}
 use Rattle.std.specs.declared.alloc.Global.{Global}
 use Rattle.fc_base.specs.Sizes.{min_len}
@@ -26,6 +26,6 @@ module _ {K V : Type 0} where
   children_after n None = children_of n
   children_after n (Some (up, right)) = children_of n ++ children_of right.value
 
-  -- The node has 5 or 6 pairs, as each half of a node that was split.
+  -- The node has the fewest pairs or one more, as each half of a node that was split.
   abbrev pub IsHalved : Node K V → Type 0
-  IsHalved n = (min_len ≤ length (own_pairs n)) × (length (own_pairs n) ≤ 6)
+  IsHalved n = (min_len ≤ length (own_pairs n)) × (length (own_pairs n) ≤ min_len + 1)

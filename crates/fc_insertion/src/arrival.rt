@@ -2,9 +2,9 @@
 ghost use Rattle.std.specs.Prelude.{◌≡◌, ◌+◌, ◌<◌, ◌≤◌, nat_lt, if◌then◌else◌, length};
 ghost use Rattle.std.specs.List.{AllByRecursion};
 ghost use Rattle.fc_base.specs.Sizes.{capacity, most_levels};
-ghost use Rattle.fc_node.specs.Split.{left_length};
 ghost use Rattle.fc_insertion.specs.Arrival.{step_from as child_step, goes_right as is_beyond, half_step as step_in_half, is_right, arrival as arrival_steps, path_after};
 
+use fc_node::node::left_len;
 use fc_node::path::Path;
 
 // Turns the path to a gap into the path to the pair that was put into it, by the number of nodes that were made for it: as many
@@ -68,11 +68,4 @@ fn half_step(index: usize, step: usize) -> usize
 {
     let kept = left_len(index);
     if step > kept { step - (kept + 1) } else { step }
-}
-
-// How many pairs stay in a node that is split for a pair at `index`.
-fn left_len(index: usize) -> usize
-    ensures { result ≡ left_length index }
-{
-    if index == 5 || index > 6 { 6 } else { 5 }
 }

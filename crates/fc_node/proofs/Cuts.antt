@@ -27,6 +27,15 @@ module _ {T : Type 0} where
       let le : i ≤ length (remove (take (m + 1) xs) m) = omega arith in
       sym (insert-append_left (remove (take (m + 1) xs) m) (up ∷ drop (m + 1) xs) i x le) ∙ ap (λ zs. insert zs i x) (sym (cut_at xs m up h e))
 
+  -- a new item goes into the rest
+  pub cut_insert_back : (xs : List T) (m i : ℕ) (up x : T) → m < length xs → m + 1 ≤ i → up ≡ get_or (take (m + 1) xs) m up → remove (take (m + 1) xs) m ++ up ∷ insert (drop (m + 1) xs) (i - (m + 1)) x ≡ insert xs i x
+  cut_insert_back xs m i up x h k e =
+      let a = remove (take (m + 1) xs) m in
+      let b = drop (m + 1) xs in
+      let n : length (remove (take (m + 1) xs) m) ≡ m = rw add-one (front_length xs m h) in
+      let l : length (a ++ up ∷ []) ≡ m + 1 = omega (arith, length-append a (up ∷ []), n) in
+      sym (append_assoc a (up ∷ []) (insert b (i - (m + 1)) x)) ∙ sym (insert-append_right (a ++ up ∷ []) b (m + 1) i x l k) ∙ ap (λ zs. insert zs i x) (append_assoc a (up ∷ []) b ∙ sym (cut_at xs m up h e))
+
   -- a new item goes into one of two parts
   pub put_front : (xs : List T) (k i : ℕ) (x : T) → i ≤ k → k ≤ length xs → insert (take k xs) i x ++ drop k xs ≡ insert xs i x
   put_front xs k i x h l =

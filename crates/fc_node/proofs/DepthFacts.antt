@@ -1,15 +1,24 @@
 -- How many pairs a tree of so many levels has at the least.
-use Rattle.std.proofs.Common.{◌≡◌, ℕ, zero, suc, ◌+◌, ◌*◌, ◌^◌, ◌<◌, ◌≤◌, List, [], ◌∷◌, length, map, ap, arith, length-append, ◌⊎◌, inl, inr, lit<}
+use Rattle.std.proofs.Common.{◌≡◌, ℕ, zero, suc, ◌+◌, ◌*◌, ◌^◌, ◌<◌, ◌≤◌, List, [], ◌∷◌, length, map, ap, arith, length-append, ◌⊎◌, inl, inr, lit<, le_trans, pow-suc}
 use Rattle.std.specs.List.{AllByRecursion}
 use Rattle.std.proofs.lemmas.List.{length-map}
 use Rattle.std.proofs.lemmas.Bool.{cases_lt}
 use Rattle.std.proofs.Math.Nat.{mul-le-mul_right, pow-le-pow_right}
+use Rattle.fc_base.specs.Sizes.{capacity, min_len, least_children, most_levels, most_height}
+use Rattle.fc_base.proofs.Sizes.{levels_enough}
 use Rattle.fc_node.specs.Weave.{weave, behind}
 use Rattle.fc_node.specs.declared.node.Node.{Node}
 use Rattle.fc_node.specs.Node.{own_pairs, children_of, pairs_of, IsLevelled, IsSoundRoot}
 use Rattle.fc_node.specs.Depth.{IsDeep}
 use Rattle.fc_node.specs.Node.{IsTree}
-use Rattle.fc_node.proofs.Pairs.{pairs_is, leaf_pairs}
+use Rattle.fc_node.proofs.Pairs.{pairs_is, leaf_pairs, IsBelow}
+
+-- what so many nodes below, or twice as many, come to a level higher
+level_more : (b h k m : ℕ) → b ≤ k → k * b ^ h ≤ m → b ^ suc h ≤ m
+level_more b h k m le s = let t = mul-le-mul_right (b ^ h) le in omega (arith, pow-suc b h)
+
+two_more : (b h k m : ℕ) → 2 * b ≤ k → k * b ^ h ≤ m → 2 * b ^ suc h ≤ m
+two_more b h k m le s = let t = mul-le-mul_right (b ^ h) le in omega (arith, pow-suc b h)
 
 module _ {X : Type 0} (b : ℕ) where
   abbrev pub IsLong : List X → Type 0
@@ -45,46 +54,44 @@ module _ {K V : Type 0} where
   each P Q f (c ∷ cs) a = (f c a.0, each P Q f cs a.1)
 
   -- a node below the root
-  many_below : (h : ℕ) (n : Node K V) → 5 ≤ length (own_pairs n) → IsLevelled h n → 6 ^ suc h ≤ length (pairs_of n) + 1
+  many_below : (h : ℕ) (n : Node K V) → min_len ≤ length (own_pairs n) → IsLevelled h n → least_children ^ suc h ≤ length (pairs_of n) + 1
   many_below zero n m l = let e : length (pairs_of n) ≡ length (own_pairs n) = ap length (leaf_pairs n l.1) in omega arith
   many_below (suc h) n m l =
-      let b = 6 ^ suc h in
-      let a = each (λ c. (5 ≤ length (own_pairs c)) × IsLevelled h c) (λ c. 6 ^ suc h ≤ length (pairs_of c) + 1) (λ c p. many_below h c p.0 p.1) (children_of n) l.2 in
-      let s = many_in n (6 ^ suc h) l.1 a in
-      let six : 6 ≤ length (children_of n) = let e : length (children_of n) ≡ length (own_pairs n) + 1 = l.1 in omega arith in
-      let t = mul-le-mul_right (6 ^ suc h) six in
-      omega arith
+      let s = many_in n (least_children ^ suc h) l.1 (each (IsBelow h) (λ c. least_children ^ suc h ≤ length (pairs_of c) + 1) (λ c p. many_below h c p.0 p.1) (children_of n) l.2) in
+      let least : least_children ≤ length (children_of n) = let e : length (children_of n) ≡ length (own_pairs n) + 1 = l.1 in omega arith in
+      level_more least_children (suc h) _ _ least s
 
-  -- a sound root of h levels below it has at least 2 * 6^h - 1 pairs
+  all_below : (h : ℕ) (n : Node K V) → IsLevelled (suc h) n → AllByRecursion (λ c. least_children ^ suc h ≤ length (pairs_of c) + 1) (children_of n)
+  all_below h n l = each (IsBelow h) (λ c. least_children ^ suc h ≤ length (pairs_of c) + 1) (λ c p. many_below h c p.0 p.1) (children_of n) l.2
+
+  -- a sound root
   pub deep_root : (h : ℕ) (n : Node K V) → IsSoundRoot h n → IsDeep h (length (pairs_of n))
   deep_root zero n s = let e : length (pairs_of n) ≡ length (own_pairs n) = ap length (leaf_pairs n s.1.1) in let m = s.0 in omega arith
   deep_root (suc h) n s =
       let l = s.1 in
-      let a = each (λ c. (5 ≤ length (own_pairs c)) × IsLevelled h c) (λ c. 6 ^ suc h ≤ length (pairs_of c) + 1) (λ c p. many_below h c p.0 p.1) (children_of n) l.2 in
-      let b = many_in n (6 ^ suc h) l.1 a in
+      let b = many_in n (least_children ^ suc h) l.1 (all_below h n l) in
       let two : 2 ≤ length (children_of n) = let e : length (children_of n) ≡ length (own_pairs n) + 1 = l.1 in let m = s.0 in omega arith in
-      let t = mul-le-mul_right (6 ^ suc h) two in
-      omega arith
+      le_trans (mul-le-mul_right (least_children ^ suc h) two) b
 
   -- a full root makes a tree of one level more where it is split
-  pub deep_full : (h : ℕ) (n : Node K V) → length (own_pairs n) ≡ 11 → IsLevelled h n → IsDeep (suc h) (length (pairs_of n))
+  pub deep_full : (h : ℕ) (n : Node K V) → length (own_pairs n) ≡ capacity → IsLevelled h n → IsDeep (suc h) (length (pairs_of n))
   deep_full zero n e l = let m : length (pairs_of n) ≡ length (own_pairs n) = ap length (leaf_pairs n l.1) in omega arith
   deep_full (suc h) n e l =
-      let a = each (λ c. (5 ≤ length (own_pairs c)) × IsLevelled h c) (λ c. 6 ^ suc h ≤ length (pairs_of c) + 1) (λ c p. many_below h c p.0 p.1) (children_of n) l.2 in
-      let b = many_in n (6 ^ suc h) l.1 a in
-      let all : length (children_of n) ≡ 12 = let m : length (children_of n) ≡ length (own_pairs n) + 1 = l.1 in omega arith in
-      let t : 12 * 6 ^ suc h ≤ length (pairs_of n) + 1 = rw all at b in
-      let deep : 2 * 6 ^ suc (suc h) ≤ length (pairs_of n) + 1 = omega arith in
-      deep
+      let b = many_in n (least_children ^ suc h) l.1 (all_below h n l) in
+      let all : 2 * least_children ≤ length (children_of n) = let m : length (children_of n) ≡ length (own_pairs n) + 1 = l.1 in omega arith in
+      two_more least_children (suc h) _ _ all b
 
--- so that a tree of at most 2^64 - 1 pairs has at most 24 levels below its root
-pub few_levels : (h n : ℕ) → IsDeep h n → n < 2 ^ 64 → h ≤ 24
-few_levels h n d s = within (cases_lt 24 h)
+-- so that a tree whose pairs are counted in 64 bits is not too high
+pub few_levels : (h n : ℕ) → IsDeep h n → n < 2 ^ 64 → h ≤ most_height
+few_levels h n d s = within (cases_lt most_height h)
   where
-    within : (24 < h) ⊎ (h ≤ 24) → h ≤ 24
+    within : (most_height < h) ⊎ (h ≤ most_height) → h ≤ most_height
     within (inr le) = le
-    within (inl more) = let le : 25 ≤ h = omega arith in let big : 6 ^ 25 ≤ 6 ^ h = pow-le-pow_right (lit< tt) le in absurd (omega arith)
+    within (inl more) =
+        let le : most_levels ≤ h = omega arith in
+        let big : least_children ^ most_levels ≤ least_children ^ h = pow-le-pow_right (lit< tt) le in
+        absurd (omega (arith, levels_enough))
 
--- a sound root of at most 2^64 - 1 pairs is not too high for a path
+-- a sound root whose pairs are counted in 64 bits is not too high for a path
 pub tree_of : {K V : Type 0} (h : ℕ) (n : Node K V) → IsSoundRoot h n → length (pairs_of n) < 2 ^ 64 → IsTree n
 tree_of h n s l = (h, few_levels h (length (pairs_of n)) (deep_root h n s) l, s.1)

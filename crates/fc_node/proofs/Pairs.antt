@@ -2,6 +2,7 @@
 use Rattle.std.proofs.Common.{◌≡◌, ℕ, suc, zero, ◌+◌, ◌<◌, ◌≤◌, List, [], ◌∷◌, length, get_or, map, refl, sym, ap, ◌∙◌, arith, Box, Option, Some, None}
 use Rattle.std.specs.declared.alloc.Global.{Global}
 use Rattle.std.proofs.lemmas.List.{length-map}
+use Rattle.fc_base.specs.Sizes.{min_len}
 use Rattle.fc_node.specs.Weave.{weave}
 use Rattle.fc_node.specs.declared.node.Node.{Node, out-Node, map-Node, fold_out-Node}
 use Rattle.fc_node.specs.Node.{items_or_none, own_pairs, children_of, child_at, boxed, pairs_step, pairs_of, IsLeaf, IsLevelled}
@@ -43,7 +44,7 @@ module _ {K V : Type 0} where
   child_is n i b c h e f = f ∙ sym (boxed_at (items_or_none (out-Node K V n).children) i b n h e)
 
   abbrev pub IsBelow : ℕ → Node K V → Type 0
-  IsBelow h c = (5 ≤ length (own_pairs c)) × IsLevelled h c
+  IsBelow h c = (min_len ≤ length (own_pairs c)) × IsLevelled h c
 
   -- each child of a levelled node is sound one level further down
   pub child_below : (h : ℕ) (n : Node K V) (i : ℕ) → IsLevelled (suc h) n → i ≤ length (own_pairs n) → IsBelow h (child_at n i)

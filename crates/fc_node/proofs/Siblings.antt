@@ -4,6 +4,7 @@ use Rattle.std.specs.Prelude.{slice_set}
 use Rattle.std.specs.List.{AllByRecursion, remove}
 use Rattle.std.proofs.lemmas.List.{length-map, map-append}
 use Rattle.std.proofs.lemmas.List.Edits.{length-remove}
+use Rattle.fc_base.specs.Sizes.{capacity, min_len}
 use Rattle.fc_node.specs.Weave.{weave, ahead, behind}
 use Rattle.fc_node.specs.declared.node.Node.{Node}
 use Rattle.fc_node.specs.Node.{own_pairs, children_of, child_at, pairs_of, IsInner, IsLevelled}
@@ -79,14 +80,14 @@ module _ {K V : Type 0} where
   around_two n l r s A D P Q e f h =
       around_one n l A (r ∷ D) P (s ∷ Q) e f h ∙ ap (λ ps. ahead (map pairs_of A) P ++ ps) (sym (append_assoc (pairs_of l) (s ∷ pairs_of r) _))
 
-  pub whole_level : (k : ℕ) (l r w : Node K V) → IsLevelled k l → IsLevelled k r → children_of w ≡ children_of l ++ children_of r → AreAlike l w → length (own_pairs w) ≤ 11 → IsLevelled k w
+  pub whole_level : (k : ℕ) (l r w : Node K V) → IsLevelled k l → IsLevelled k r → children_of w ≡ children_of l ++ children_of r → AreAlike l w → length (own_pairs w) ≤ capacity → IsLevelled k w
   whole_level zero l r w a b e (inl x) h = (h, x.1)
   whole_level zero l r w a b e (inr x) h = absurd (leaf_or_inner l a.1 x.0)
   whole_level (suc k) l r w a b e (inl x) h = absurd (leaf_or_inner l x.0 a.1)
   whole_level (suc k) l r w a b e (inr x) h = (h, x.1, subst (AllByRecursion (IsBelow k)) (sym e) (all_both (IsBelow k) (children_of l) (children_of r) a.2 b.2))
 
   pub both_levels : (k : ℕ) (l r l' r' : Node K V) → IsLevelled k l → IsLevelled k r → children_of l' ++ children_of r' ≡ children_of l ++ children_of r → AreAlike l l' → AreAlike l' r'
-      → length (own_pairs l') ≤ 11 → length (own_pairs r') ≤ 11 → IsLevelled k l' × IsLevelled k r'
+      → length (own_pairs l') ≤ capacity → length (own_pairs r') ≤ capacity → IsLevelled k l' × IsLevelled k r'
   both_levels k l r l' r' a b e (inl x) (inr y) h₁ h₂ = absurd (leaf_or_inner l' x.1 y.0)
   both_levels k l r l' r' a b e (inr x) (inl y) h₁ h₂ = absurd (leaf_or_inner l' y.0 x.1)
   both_levels zero l r l' r' a b e (inl x) (inl y) h₁ h₂ = ((h₁, y.0), (h₂, y.1))
@@ -149,9 +150,9 @@ module _ {K V : Type 0} where
     abbrev pub OthersBelow : ℕ → Type 0
     OthersBelow k = AllByRecursion (IsBelow k) (take i (children_of old)) × AllByRecursion (IsBelow k) (drop (suc (suc i)) (children_of old))
 
-    -- the node is levelled once both of the two have their 5 to 11 pairs
-    pub shared_levels : (k n : ℕ) (new : Node K V) → length (own_pairs old) ≤ 11 → OthersBelow k → IsLevelled k L → IsLevelled k R → IsShared i n old new
-        → 5 ≤ n → n ≤ 11 → n + 5 ≤ length (own_pairs L) + length (own_pairs R) → length (own_pairs L) + length (own_pairs R) ≤ n + 11 → IsLevelled (suc k) new
+    -- the node is levelled once both of the two have as many pairs as a node below the root
+    pub shared_levels : (k n : ℕ) (new : Node K V) → length (own_pairs old) ≤ capacity → OthersBelow k → IsLevelled k L → IsLevelled k R → IsShared i n old new
+        → min_len ≤ n → n ≤ capacity → n + min_len ≤ length (own_pairs L) + length (own_pairs R) → length (own_pairs L) + length (own_pairs R) ≤ n + capacity → IsLevelled (suc k) new
     shared_levels k n new fits others l r s m₁ m₂ m₃ m₄ =
         let p : length (own_pairs new) ≡ length (own_pairs old) = ap length s.pairs ∙ length_set (own_pairs old) i s.between in
         let q : length (own_pairs s.left ++ s.between ∷ own_pairs s.right) ≡ length (own_pairs L ++ get_or (own_pairs old) i s.between ∷ own_pairs R) = ap length (s.own s.between) in
@@ -161,8 +162,8 @@ module _ {K V : Type 0} where
         let c = both_levels k L R s.left s.right l r s.below s.alike_before s.alike (omega arith) (omega arith) in
         (omega arith, shared_inner n new s, subst (AllByRecursion (IsBelow k)) (sym (s.children ∙ set_two (children_of old) i s.left s.right next)) (all_both (IsBelow k) (take i (children_of old)) _ others.0 ((omega arith, c.0), ((omega arith, c.1), others.1))))
 
-    pub merged_levels : (k : ℕ) (new : Node K V) (d : K × V) → length (own_pairs old) ≤ 11 → OthersBelow k → IsLevelled k L → IsLevelled k R → IsMerged i old new
-        → 4 ≤ length (own_pairs L) + length (own_pairs R) → length (own_pairs L) + length (own_pairs R) + 1 ≤ 11 → IsLevelled (suc k) new
+    pub merged_levels : (k : ℕ) (new : Node K V) (d : K × V) → length (own_pairs old) ≤ capacity → OthersBelow k → IsLevelled k L → IsLevelled k R → IsMerged i old new
+        → min_len ≤ length (own_pairs L) + length (own_pairs R) + 1 → length (own_pairs L) + length (own_pairs R) + 1 ≤ capacity → IsLevelled (suc k) new
     merged_levels k new d fits others l r s m₁ m₂ =
         let p : length (own_pairs new) + 1 ≡ length (own_pairs old) = ap (λ ps. length ps + 1) s.pairs ∙ length-remove (own_pairs old) i h in
         let q : length (own_pairs s.whole) ≡ length (own_pairs L ++ get_or (own_pairs old) i d ∷ own_pairs R) = ap length (s.own d) in

@@ -1,12 +1,12 @@
 -- How a path keeps its steps.
-use Rattle.std.specs.Prelude.{◌≡◌, ℕ, List, [], ◌∷◌, ◌++◌, length, take, drop, ◌≤◌}
+use Rattle.std.specs.Prelude.{◌≡◌, ℕ, List, [], ◌∷◌, ◌++◌, length, take, drop, replicate, ◌≤◌}
 use Rattle.std.proofs.Common.{ap, ◌∙◌}
 use Rattle.fc_base.specs.Sizes.{most_levels}
 use Rattle.fc_node.specs.declared.path.Path.TheInside.{Inside}
 
 -- As many zeros as a path has steps at most.
 abbrev zeros : List ℕ
-zeros = 0 ∷ 0 ∷ 0 ∷ 0 ∷ 0 ∷ 0 ∷ 0 ∷ 0 ∷ 0 ∷ 0 ∷ 0 ∷ 0 ∷ 0 ∷ 0 ∷ 0 ∷ 0 ∷ 0 ∷ 0 ∷ 0 ∷ 0 ∷ 0 ∷ 0 ∷ 0 ∷ 0 ∷ 0 ∷ []
+zeros = replicate most_levels 0
 
 -- The path, filled up with zeros.
 abbrev pub filled : List ℕ → List ℕ

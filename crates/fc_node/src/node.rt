@@ -13,17 +13,19 @@ mod mend;
 mod opening;
 mod split;
 
+pub use split::left_len;
+
 /// The most pairs that a node holds.
 pub const CAPACITY: usize = 11;
 
 /// The fewest pairs that a node below the root holds.
 pub const MIN_LEN: usize = 5;
 
-/// A node: at most 11 pairs, and in an inner node one child more than pairs. A leaf has no room for children.
+/// A node: at most `CAPACITY` pairs, and in an inner node one child more than pairs. A leaf has no room for children.
 #[derive(Drop)]
 pub struct Node<K, V> {
     /// The pairs of the node itself, in order.
-    pub pairs: Slots<(K, V), 11>,
+    pub pairs: Slots<(K, V), CAPACITY>,
     /// The children, in order; a leaf has no room for them.
     pub children: Option<Children<Box<Node<K, V>>>>,
 }

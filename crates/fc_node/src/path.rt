@@ -4,7 +4,7 @@ ghost use Rattle.fc_base.specs.Sizes.{most_levels};
 
 use std::marker::Model;
 
-/// The most steps that a path has: a tree of at most `usize::MAX` pairs has at most 25 levels of nodes.
+/// The most steps that a path has: a tree of at most `usize::MAX` pairs has no more levels of nodes.
 pub const MAX_STEPS: usize = 25;
 
 /// A path down a tree: in each node that it leads through, the place of the child where it goes on, and at its end the

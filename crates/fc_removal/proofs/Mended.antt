@@ -2,6 +2,7 @@
 use Rattle.std.proofs.Common.{◌≡◌, ℕ, suc, zero, ◌+◌, ◌-◌, ◌<◌, ◌≤◌, List, [], ◌∷◌, length, get_or, take, drop, sym, ap, subst, ◌∙◌, arith, add-one, inl, inr}
 use Rattle.std.specs.List.{AllByRecursion}
 use Rattle.std.proofs.lemmas.List.Edits.{length-remove}
+use Rattle.fc_base.specs.Sizes.{capacity, min_len}
 use Rattle.fc_node.specs.declared.node.Node.{Node}
 use Rattle.fc_node.specs.Node.{own_pairs, children_of, child_at, IsInner, IsLevelled, IsSound}
 use Rattle.fc_node.specs.Siblings.{AreAlike, IsMerged, IsShared}
@@ -12,15 +13,15 @@ use Rattle.fc_node.proofs.Siblings.{one_at, merged_levels, shared_levels}
 use Rattle.fc_node.proofs.Gaps.{item_there}
 
 module _ {K V : Type 0} where
-  -- two neighbours of which one may have only 4 pairs, among sound ones
+  -- two neighbours of which one may have a pair too few, among sound ones
   pub record IsPairAt (h : ℕ) (n : Node K V) (i : ℕ) : Type 0 where
     pub in_bounds : i < length (own_pairs n)
-    pub fits : length (own_pairs n) ≤ 11
+    pub fits : length (own_pairs n) ≤ capacity
     pub inner : IsInner n
     pub left : IsLevelled h (child_at n i)
     pub right : IsLevelled h (child_at n (i + 1))
-    pub left_length : 4 ≤ length (own_pairs (child_at n i))
-    pub right_length : 4 ≤ length (own_pairs (child_at n (i + 1)))
+    pub left_length : min_len - 1 ≤ length (own_pairs (child_at n i))
+    pub right_length : min_len - 1 ≤ length (own_pairs (child_at n (i + 1)))
     pub ahead : AllByRecursion (IsSound h) (take i (children_of n))
     pub behind : AllByRecursion (IsSound h) (drop (suc (suc i)) (children_of n))
 
@@ -58,14 +59,14 @@ module _ {K V : Type 0} where
         ahead = r.1;
         behind = s.behind;
         right = subst (λ m. IsLevelled h (child_at n m)) (sym (add-one i)) s.levels;
-        right_length = subst (λ m. 4 ≤ length (own_pairs (child_at n m))) (sym (add-one i)) s.short;
+        right_length = subst (λ m. min_len - 1 ≤ length (own_pairs (child_at n m))) (sym (add-one i)) s.short;
       })
 
   pub pair_alike : (h : ℕ) (n : Node K V) (i : ℕ) → IsPairAt h n i → AreAlike (child_at n i) (child_at n (i + 1))
   pair_alike zero n i p = inl (p.left.1, p.right.1)
   pair_alike (suc h) n i p = inr (p.left.1, p.right.1)
 
-  pub merged_mended : (h : ℕ) (old new : Node K V) (i : ℕ) → IsPairAt h old i → together old i ≤ 11 → IsMerged i old new → IsShrunk (suc h) old new
+  pub merged_mended : (h : ℕ) (old new : Node K V) (i : ℕ) → IsPairAt h old i → together old i ≤ capacity → IsMerged i old new → IsShrunk (suc h) old new
   merged_mended h old new i p room m =
       let l = p.left_length in
       let d = (item_there (own_pairs old) i p.in_bounds).0 in
@@ -73,13 +74,13 @@ module _ {K V : Type 0} where
       let o' = length-remove (own_pairs old) i p.in_bounds in
       (merged_levels old i p.inner p.in_bounds h new d p.fits (p.ahead, p.behind) p.left p.right m (omega arith) (omega arith), omega arith, omega arith)
 
-  pub stolen_mended : (h : ℕ) (old new : Node K V) (i k : ℕ) → IsPairAt h old i → 5 ≤ k → k ≤ 11 → k + 6 ≤ together old i → together old i ≤ k + 12 → IsShared i k old new → IsShrunk (suc h) old new
+  pub stolen_mended : (h : ℕ) (old new : Node K V) (i k : ℕ) → IsPairAt h old i → min_len ≤ k → k ≤ capacity → k + 1 + min_len ≤ together old i → together old i ≤ k + 1 + capacity → IsShared i k old new → IsShrunk (suc h) old new
   stolen_mended h old new i k p lo hi lo' hi' s =
       let o = ap length s.pairs ∙ length_set (own_pairs old) i s.between in
       (shared_levels old i p.inner p.in_bounds h k new p.fits (p.ahead, p.behind) p.left p.right s lo hi (omega arith) (omega arith), omega arith, omega arith)
 
   -- the child was not short
-  pub whole_levels : (h : ℕ) (n : Node K V) (i : ℕ) → IsShortAt h n i → 5 ≤ length (own_pairs (child_at n i)) → IsShrunk (suc h) n n
+  pub whole_levels : (h : ℕ) (n : Node K V) (i : ℕ) → IsShortAt h n i → min_len ≤ length (own_pairs (child_at n i)) → IsShrunk (suc h) n n
   whole_levels h n i s le =
       let k : length (children_of n) ≡ length (own_pairs n) + 1 = s.inner in
       let pl = s.place in

@@ -5,6 +5,7 @@ use Rattle.std.specs.List.{AllByRecursion, remove}
 use Rattle.std.proofs.lemmas.List.Edits.{length-remove}
 use Rattle.std.proofs.lemmas.List.{length-map, map-append}
 use Rattle.std.specs.declared.alloc.Global.{Global}
+use Rattle.fc_base.specs.Sizes.{capacity}
 use Rattle.fc_node.specs.Weave.{weave}
 use Rattle.fc_node.specs.declared.node.Node.{Node, out-Node}
 use Rattle.fc_node.specs.Node.{items_or_none, own_pairs, children_of, child_at, boxed, pairs_of, IsLeaf, IsInner, IsLevelled, IsSound, IsSoundRoot}
@@ -71,7 +72,7 @@ module _ {K V : Type 0} where
   pub leaf_shrunk : (h : ℕ) (old new : Node K V) (i : ℕ) → IsLeaf old → IsLevelled h old → i < length (own_pairs old) → own_pairs new ≡ remove (own_pairs old) i → IsLeaf new → IsShrunk h old new
   leaf_shrunk h old new i e l lt f e' =
       let z = none_leaf h old e l in
-      let fits : length (own_pairs old) ≤ 11 = (subst (λ k. IsLevelled k old) z l).0 in
+      let fits : length (own_pairs old) ≤ capacity = (subst (λ k. IsLevelled k old) z l).0 in
       let m : length (own_pairs new) ≡ length (remove (own_pairs old) i) = ap length f in
       let r = length-remove (own_pairs old) i lt in
       subst (λ k. IsShrunk k old new) (sym z) ((omega arith, e'), omega arith, omega arith)

@@ -10,6 +10,7 @@ use Rattle.std.specs.declared.cmp.Ordering.TheVariants.{Less, Equal}
 use Rattle.fc_base.specs.Ascending.{IsAscending}
 use Rattle.fc_base.specs.Parts.{below}
 use Rattle.fc_base.specs.Query.{IsQueryOrder}
+use Rattle.fc_base.specs.Sizes.{min_len, level_comparisons}
 use Rattle.fc_node.specs.Weave.{weave, behind}
 use Rattle.fc_node.specs.declared.node.Node.{Node, out-Node, map-Node, fold_out-Node}
 use Rattle.fc_node.specs.Node.{items_or_none, own_pairs, children_of, child_at, boxed, pairs_of, IsLeaf, IsLevelled}
@@ -164,7 +165,7 @@ if_down : (equal : Bool) (d m : ℕ) → d ≤ m → cond equal 0 d ≤ m
 if_down true d m h = omega arith
 if_down false d m h = h
 
--- at most 11 keys are passed a level
+-- at most as many keys are passed a level as it has
 module _ {K Q V : Type 0} (cmp : K → Q → Ordering) (k : Q) where
   few_own : (s : List (K × V)) → lower_count cmp k s + stop_count cmp k s ≤ length s
   few_own [] = omega arith
@@ -187,9 +188,9 @@ module _ {K Q V : Type 0} (cmp : K → Q → Ordering) (k : Q) where
   few_each P m f [] a = tt
   few_each P m f (c ∷ cs) a = (f c a.0, few_each P m f cs a.1)
 
-  pub passed_bound : (h : ℕ) (n : Node K V) → IsLevelled h n → passed cmp k n ≤ 11 * (h + 1)
+  pub passed_bound : (h : ℕ) (n : Node K V) → IsLevelled h n → passed cmp k n ≤ level_comparisons * (h + 1)
   passed_bound zero n l = let b = few_down n 0 (subst (AllByRecursion (λ c. passed cmp k c ≤ 0)) (sym (leaf_children n l.1)) tt) in let f = l.0 in omega arith
   passed_bound (suc h) n l =
-      let b = few_down n (11 * (h + 1)) (few_each (λ c. (5 ≤ length (own_pairs c)) × IsLevelled h c) (11 * (h + 1)) (λ c p. passed_bound h c p.1) (children_of n) l.2) in
+      let b = few_down n (level_comparisons * (h + 1)) (few_each (λ c. (min_len ≤ length (own_pairs c)) × IsLevelled h c) (level_comparisons * (h + 1)) (λ c p. passed_bound h c p.1) (children_of n) l.2) in
       let f = l.0 in
       omega arith

@@ -10,6 +10,7 @@ use Rattle.fc_base.specs.Ascending.{IsAscending}
 use Rattle.fc_base.specs.OneKey.{put, cut}
 use Rattle.fc_base.specs.Parts.{below, above, at}
 use Rattle.fc_base.specs.Query.{IsQueryOrder}
+use Rattle.fc_base.specs.Sizes.{most_levels}
 use Rattle.fc_node.specs.declared.node.Node.{Node}
 use Rattle.fc_node.specs.Node.{own_pairs, children_of, child_at, pairs_of, IsLeaf, IsLevelled}
 use Rattle.fc_node.specs.Leaf.{leaf_at}
@@ -66,7 +67,7 @@ module _ {K Q V : Type 0} (cmp : K → Q → Ordering) (k : Q) where
   way_leaf {root} {node} {path} i more e w = ap (λ p. leaf_at p root) e ∙ leaf_more path i root ∙ sym w.here
 
   -- a path has room for its steps
-  pub way_room : {root node : Node K V} {path : List ℕ} → IsTree root → IsOnWay cmp k root node path → length path < 25
+  pub way_room : {root node : Node K V} {path : List ℕ} → IsTree root → IsOnWay cmp k root node path → length path < most_levels
   way_room t w = let d = way_levels t w in omega (arith, d.1, t.1)
 
   -- a place in it fits a byte

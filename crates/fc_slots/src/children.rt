@@ -1,4 +1,4 @@
-//! The children of a node: at most twelve, with the room for them taken at the start.
+//! The children of a node, with the room for as many as it may have taken at the start.
 //!
 //! The moves of children aren't counted: each call that moves some passes a count that nobody reads.
 ghost use Rattle.std.specs.Prelude.{◌≡◌, ◌+◌, ◌-◌, ◌<◌, ◌≤◌, [], ◌∷◌, ◌++◌, length, take, drop, slice_index_or, slice_set, insert, remove, IfOk};
@@ -11,10 +11,13 @@ use fc_base::Count;
 use std::alloc::{AllocError, Global};
 use std::marker::Model;
 
-/// At most twelve items, in order.
+/// The most children of a node.
+pub const MAX_CHILDREN: usize = 12;
+
+/// At most as many items as a node has children, in order.
 #[derive(Drop)]
 pub struct Children<T> {
-    slots: Slots<T, 12>,
+    slots: Slots<T, MAX_CHILDREN>,
 }
 
 impl<T> Model for Children<T> {
@@ -29,7 +32,7 @@ impl<T> Model for Children<T> {
 }
 
 impl<T> Children<T> {
-    /// An empty list, with the room for twelve items taken in one request.
+    /// An empty list, with the room for them taken in one request.
     ///
     /// # Errors
     /// `AllocError` if the room is refused.

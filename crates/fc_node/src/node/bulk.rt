@@ -5,7 +5,7 @@ ghost use Rattle.fc_node.specs.Node.{own_pairs, children_of, child_at, pairs_of,
 ghost use Rattle.fc_node.specs.Path.{after};
 ghost use Rattle.fc_node.specs.Siblings.{AreAlike, IsShared};
 
-use super::Node;
+use super::{CAPACITY, Node};
 use fc_base::Count;
 use fc_slots::slots::Slots;
 
@@ -71,7 +71,7 @@ impl<K: Drop, V: Drop> Node<K, V> {
     // The last `n` pairs go to the node on the right through the pair at `index` of their parent.
     fn give_back(
         &mut self,
-        parent: &mut Slots<(K, V), 11>,
+        parent: &mut Slots<(K, V), CAPACITY>,
         index: usize,
         right: &mut Node<K, V>,
         n: usize,
@@ -131,7 +131,7 @@ impl<K: Drop, V: Drop> Node<K, V> {
     // The first `n` pairs go to the node on the left through the pair at `index` of their parent.
     fn give_front(
         &mut self,
-        parent: &mut Slots<(K, V), 11>,
+        parent: &mut Slots<(K, V), CAPACITY>,
         index: usize,
         left: &mut Node<K, V>,
         n: usize,
@@ -166,10 +166,10 @@ impl<K: Drop, V: Drop> Node<K, V> {
 // The last `n` items of the left list go to the right one through the item at `index` of their parent's list: the first
 // of them goes up, and the parent's comes down in front of those that were in the right list.
 fn share_back<T: Drop>(
-    left: &mut Slots<T, 11>,
-    parent: &mut Slots<T, 11>,
+    left: &mut Slots<T, CAPACITY>,
+    parent: &mut Slots<T, CAPACITY>,
     index: usize,
-    right: &mut Slots<T, 11>,
+    right: &mut Slots<T, CAPACITY>,
     n: usize,
     count: &mut Count,
 )
@@ -193,10 +193,10 @@ fn share_back<T: Drop>(
 // The first `n` items of the right list go to the left one through the item at `index` of their parent's list: the last
 // of them goes up, and the parent's comes down behind those that were in the left list.
 fn share_front<T: Drop>(
-    left: &mut Slots<T, 11>,
-    parent: &mut Slots<T, 11>,
+    left: &mut Slots<T, CAPACITY>,
+    parent: &mut Slots<T, CAPACITY>,
     index: usize,
-    right: &mut Slots<T, 11>,
+    right: &mut Slots<T, CAPACITY>,
     n: usize,
     count: &mut Count,
 )

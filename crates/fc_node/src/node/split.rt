@@ -5,7 +5,7 @@ ghost use Rattle.fc_node.specs.Node.{own_pairs, children_of, child_at, pairs_of,
 ghost use Rattle.fc_node.specs.Path.{before, after};
 ghost use Rattle.fc_node.specs.Split.{middle_place, left_length, split_moves};
 
-use super::Node;
+use super::{CAPACITY, MIN_LEN, Node};
 use fc_base::Count;
 use fc_slots::children::Children;
 use fc_slots::slots::Slots;
@@ -161,8 +161,8 @@ fn split_children<T: Drop>(
 
 // Puts `item` at `index` of a full list, and splits it: `right` takes the end, and the item in the middle is handed out.
 fn split_pairs<T: Drop>(
-    left: &mut Slots<T, 11>,
-    right: &mut Slots<T, 11>,
+    left: &mut Slots<T, CAPACITY>,
+    right: &mut Slots<T, CAPACITY>,
     index: usize,
     item: T,
     count: &mut Count,
@@ -179,7 +179,7 @@ fn split_pairs<T: Drop>(
     let middle = middle_for(index);
     left.move_tail(middle + 1, right, count);
     let up = left.remove(middle, count);
-    if index <= 5 {
+    if index <= MIN_LEN {
         left.insert(index, item, count);
     } else {
         right.insert(index - (middle + 1), item, count);
@@ -187,16 +187,29 @@ fn split_pairs<T: Drop>(
     up
 }
 
-// The middle for a new pair at `index`: both halves then hold 5 or 6.
+// The middle for a new pair at `index`: both halves then hold the fewest pairs or one more.
 fn middle_for(index: usize) -> usize
     requires { index ≤ capacity }
     ensures { result ≡ middle_place index }
 {
-    if index < 5 {
-        4
-    } else if index < 7 {
-        5
+    if index < MIN_LEN {
+        MIN_LEN - 1
+    } else if index < MIN_LEN + 2 {
+        MIN_LEN
     } else {
-        6
+        MIN_LEN + 1
+    }
+}
+
+/// How many pairs stay in a full node that is split for a new pair at `index`: those before the middle, with the new one
+/// where it is in front of the middle.
+#[inline]
+pub fn left_len(index: usize) -> usize
+    ensures { result ≡ left_length index }
+{
+    if index == MIN_LEN || index > MIN_LEN + 1 {
+        MIN_LEN + 1
+    } else {
+        MIN_LEN
     }
 }

@@ -1,4 +1,5 @@
 use Rattle.std.proofs.Common.{◌≡◌, suc, ◌-◌, ◌<◌, ◌≤◌, length, subst, arith}
+use Rattle.fc_base.specs.Sizes.{capacity}
 use Rattle.fc_node.proofs.Lists.{all_at}
 use Rattle.fc_insertion.proofs.ArrivalSteps.{IsFoundFrom, index_is, found_whole, found_split, found_none, found_all}
 use Rattle.fc_insertion.proofs.arrival.settle.Goals as goal
@@ -11,7 +12,7 @@ step_from-step-requires c =
     let e : c.loop-at.at ≡ suc (c.loop-at.at - 1) = omega arith in
     let lt : c.loop-at.at - 1 < length c.args.place.now = omega arith in
     let i = index_is c.args.place.now c.loop-at.place c.loop-at.right c.args.whole (c.loop-at.at - 1) lt (subst (IsFoundFrom c.args.place.now c.loop-at.place c.loop-at.right c.args.whole) e c.loop-at.invariant.1) in
-    let small = all_at (λ k. k ≤ 11) c.args.place.now (c.loop-at.at - 1) 0 lt c.requires in
+    let small = all_at (λ k. k ≤ capacity) c.args.place.now (c.loop-at.at - 1) 0 lt c.requires in
     omega (arith, c.step-index.ensures)
 
 pub loop-at-preserved-then-at-whole : goal.loop-at-preserved-then-at-whole

@@ -1,5 +1,6 @@
 use Rattle.std.proofs.Common.{◌≡◌, ◌+◌, ◌-◌, ◌<◌, length, MatchOption, rules, ap, sym, subst, ◌∙◌, arith}
 use Rattle.std.proofs.lemmas.List.Edits.{length-insert}
+use Rattle.fc_base.specs.Sizes.{capacity}
 use Rattle.fc_node.specs.Node.{own_pairs, IsLevelled}
 use Rattle.fc_node.specs.Path.{IsPath}
 use Rattle.std.specs.Box.{with_value}
@@ -127,7 +128,7 @@ returns-in-Some-below-clause-halved g t c =
     let ci = child_lent c.args.path.now c.args.node.now _ _ c.deref_mut-child.result.now s c.in-Some.is c.get_mut.ensures.value c.deref_mut-child.ensures.value in
     let k = cascade_step c.args.path.now c.args.node.now c.deref_mut-child.result.now s ci in
     let m = child_set c.args.node.now c.in-Some.children _ (with_value c.get_mut.result.now c.insert_below-below.new.node) c.in-Some.is in
-    let f = subst (λ ps. MatchOption c.put_inner.result (length ps < 11) (λ _. length ps ≡ 11)) m.same c.put_inner.ensures.halved in
+    let f = subst (λ ps. MatchOption c.put_inner.result (length ps < capacity) (λ _. length ps ≡ capacity)) m.same c.put_inner.ensures.halved in
     let halved = c.in-Some-below.ensures.halved in
     above_halved c.put_inner.result c.args.path.now c.args.node.now c.deref_mut-child.result.now s k (omega arith) f
 
@@ -137,7 +138,7 @@ returns-in-Some-below-clause-used g t c =
     let ci = child_lent c.args.path.now c.args.node.now _ _ c.deref_mut-child.result.now s c.in-Some.is c.get_mut.ensures.value c.deref_mut-child.ensures.value in
     let k = cascade_step c.args.path.now c.args.node.now c.deref_mut-child.result.now s ci in
     let m = child_set c.args.node.now c.in-Some.children _ (with_value c.get_mut.result.now c.insert_below-below.new.node) c.in-Some.is in
-    let f = subst (λ ps. MatchOption c.put_inner.result (length ps < 11) (λ _. length ps ≡ 11)) m.same c.put_inner.ensures.halved in
+    let f = subst (λ ps. MatchOption c.put_inner.result (length ps < capacity) (λ _. length ps ≡ capacity)) m.same c.put_inner.ensures.halved in
     let halved = c.in-Some-below.ensures.halved in
     above_used c.put_inner.result c.args.path.now c.args.node.now c.deref_mut-child.result.now _ _ _ s k (omega arith) f c.insert_below-below.ensures.used c.put_inner.ensures.used
 
@@ -147,7 +148,7 @@ returns-in-Some-below-clause-moves g t c =
     let ci = child_lent c.args.path.now c.args.node.now _ _ c.deref_mut-child.result.now s c.in-Some.is c.get_mut.ensures.value c.deref_mut-child.ensures.value in
     let k = cascade_step c.args.path.now c.args.node.now c.deref_mut-child.result.now s ci in
     let m = child_set c.args.node.now c.in-Some.children _ (with_value c.get_mut.result.now c.insert_below-below.new.node) c.in-Some.is in
-    let f = subst (λ ps. MatchOption c.put_inner.result (length ps < 11) (λ _. length ps ≡ 11)) m.same c.put_inner.ensures.halved in
+    let f = subst (λ ps. MatchOption c.put_inner.result (length ps < capacity) (λ _. length ps ≡ capacity)) m.same c.put_inner.ensures.halved in
     let halved = c.in-Some-below.ensures.halved in
     above_moves c.put_inner.result c.args.path.now c.args.node.now c.deref_mut-child.result.now _ _ _ s k (omega arith) f c.in-Some-below.ensures.moves c.put_inner.ensures.moves
 
@@ -174,7 +175,7 @@ returns-in-Some-below-clause-arrived g t c =
     let ci = child_lent c.args.path.now c.args.node.now _ _ c.deref_mut-child.result.now s c.in-Some.is c.get_mut.ensures.value c.deref_mut-child.ensures.value in
     let k = cascade_step c.args.path.now c.args.node.now c.deref_mut-child.result.now s ci in
     let m = child_set c.args.node.now c.in-Some.children _ (with_value c.get_mut.result.now c.insert_below-below.new.node) c.in-Some.is in
-    let f = subst (λ ps. MatchOption c.put_inner.result (length ps < 11) (λ _. length ps ≡ 11)) m.same c.put_inner.ensures.halved in
+    let f = subst (λ ps. MatchOption c.put_inner.result (length ps < capacity) (λ _. length ps ≡ capacity)) m.same c.put_inner.ensures.halved in
     let halved = c.in-Some-below.ensures.halved in
     let i = c.put_inner.ensures in
     arrived_above c.args.path.now c.args.node.now _ c.insert_below-below.new.node c.deref_mut-child.result.now c.put_inner.new.node c.put_inner.result c.in-Some-below.up c.in-Some-below.right s k m ci (omega arith) f i.pairs i.children i.inner.0 i.left c.in-Some-below.ensures.arrived

@@ -1,4 +1,5 @@
 use Rattle.std.proofs.Common.{◌≡◌, ◌++◌, suc, take, drop, length-set, length-append, length-take, length-drop, ◌≤◌, sym, ap, ◌+◌, ◌-◌, length, get_or, subst, arith}
+use Rattle.fc_base.specs.Sizes.{capacity}
 use Rattle.fc_node.specs.declared.node.Node.{Node}
 use Rattle.std.specs.Box.{with_value}
 use Rattle.fc_node.specs.Node.{own_pairs, child_at}
@@ -27,7 +28,7 @@ pub give_front-requires-clause-room : goal.give_front-requires-clause-room
 give_front-requires-clause-room g c =
     let n = inner_length c.args.self.now _ c.in-Some.is c.requires.inner in
     let l = kept_child c.args.self.now c.args.index _ c.in-Some.is _ _ c.deref_mut-left.result.now (omega arith) c.remove-right.ensures.items c.get_mut.ensures.value c.deref_mut-left.ensures.value in
-    subst (λ x. length (own_pairs x) + c.args.n ≤ 11) (sym l) c.requires.room
+    subst (λ x. length (own_pairs x) + c.args.n ≤ capacity) (sym l) c.requires.room
 
 pub insert-requires-clause-room : goal.insert-requires-clause-room
 insert-requires-clause-room g c =
