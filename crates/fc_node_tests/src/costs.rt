@@ -8,7 +8,7 @@ use fc_base::Count;
 use fc_node::node::{CAPACITY, Node};
 use fc_slots::slots::Slots;
 
-/// An insertion at 3 into 7 items makes 5 moves.
+/// An insertion at 3 into 7 items, a length by number, makes 5 moves.
 pub fn insert_at_three_of_seven<T: Drop>(list: &mut Slots<T, CAPACITY>, item: T) -> Count
     requires { length list.old ≡ 7 }
     ensures { result.moves ≡ 5 }
@@ -18,7 +18,7 @@ pub fn insert_at_three_of_seven<T: Drop>(list: &mut Slots<T, CAPACITY>, item: T)
     count
 }
 
-/// The removal at 3 of 7 items makes 4 moves.
+/// The removal at 3 of 7 items, a length by number, makes 4 moves.
 pub fn remove_at_three_of_seven<T: Drop>(list: &mut Slots<T, CAPACITY>) -> Count
     requires { length list.old ≡ 7 }
     ensures { result.moves ≡ 4 }
@@ -42,7 +42,7 @@ pub fn move_from_seven_of_eleven<T: Drop>(
     count
 }
 
-/// To move the items from 7 on, of a full list, makes 8 moves.
+/// To move the items from 7 on, of a full list, makes 8 moves; the room for them is told by number.
 pub fn move_from_seven_of_full<T: Drop>(
     list: &mut Slots<T, CAPACITY>,
     other: &mut Slots<T, CAPACITY>,
@@ -56,7 +56,7 @@ pub fn move_from_seven_of_full<T: Drop>(
     count
 }
 
-/// To move the first 2 of 8 items makes 8 moves.
+/// To move the first 2 of 8 items, a length by number, makes 8 moves.
 pub fn move_first_two_of_eight<T: Drop>(
     list: &mut Slots<T, CAPACITY>,
     other: &mut Slots<T, CAPACITY>,
