@@ -16,10 +16,10 @@ mod split;
 pub use split::left_len;
 
 /// The most pairs that a node holds.
-pub const CAPACITY: usize = 11;
+pub const CAPACITY: usize = 15;
 
 /// The fewest pairs that a node below the root holds.
-pub const MIN_LEN: usize = 5;
+pub const MIN_LEN: usize = 7;
 
 /// A node: at most `CAPACITY` pairs, and in an inner node one child more than pairs. A leaf has no room for children.
 #[derive(Drop)]

@@ -5,7 +5,7 @@ ghost use Rattle.fc_base.specs.Sizes.{most_levels};
 use std::marker::Model;
 
 /// The most steps that a path has: a tree of at most `usize::MAX` pairs has no more levels of nodes.
-pub const MAX_STEPS: usize = 25;
+pub const MAX_STEPS: usize = 22;
 
 /// A path down a tree: in each node that it leads through, the place of the child where it goes on, and at its end the
 /// place of a pair or of a gap. It takes no memory, and a byte a step, since a node has few places. Past its end all bytes are zero.

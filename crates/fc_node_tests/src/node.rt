@@ -119,43 +119,73 @@ fn children_show(node: &Node<u64, u64>, keys: &[u64]) -> bool {
 // The places where a pair can go into a full node, which are as many as the children that it can have.
 const PLACES: usize = CAPACITY + 1;
 
-const FULL: [u64; CAPACITY] = [10, 20, 30, 40, 50, 60, 70, 80, 90, 100, 110];
+const FULL: [u64; CAPACITY] = [
+    10, 20, 30, 40, 50, 60, 70, 80, 90, 100, 110, 120, 130, 140, 150,
+];
 
-const BELOW: [u64; PLACES] = [1, 11, 21, 31, 41, 51, 61, 71, 81, 91, 101, 111];
+const BELOW: [u64; PLACES] = [
+    1, 11, 21, 31, 41, 51, 61, 71, 81, 91, 101, 111, 121, 131, 141, 151,
+];
+
+// The full node's keys in front of the middle one or behind it, where the new key is in the other half.
+const TO_70: &[u64] = &[10, 20, 30, 40, 50, 60, 70];
+
+const TO_80: &[u64] = &[10, 20, 30, 40, 50, 60, 70, 80];
+
+const FROM_80: &[u64] = &[80, 90, 100, 110, 120, 130, 140, 150];
+
+const FROM_90: &[u64] = &[90, 100, 110, 120, 130, 140, 150];
 
 // What a split of the full node leaves where the new pair goes to a place: left, middle and right.
 fn halves(place: usize) -> (&'static [u64], u64, &'static [u64]) {
     match place {
-        0 => (&[5, 10, 20, 30, 40], 50, &[60, 70, 80, 90, 100, 110]),
-        1 => (&[10, 15, 20, 30, 40], 50, &[60, 70, 80, 90, 100, 110]),
-        2 => (&[10, 20, 25, 30, 40], 50, &[60, 70, 80, 90, 100, 110]),
-        3 => (&[10, 20, 30, 35, 40], 50, &[60, 70, 80, 90, 100, 110]),
-        4 => (&[10, 20, 30, 40, 45], 50, &[60, 70, 80, 90, 100, 110]),
-        5 => (&[10, 20, 30, 40, 50, 55], 60, &[70, 80, 90, 100, 110]),
-        6 => (&[10, 20, 30, 40, 50], 60, &[65, 70, 80, 90, 100, 110]),
-        7 => (&[10, 20, 30, 40, 50, 60], 70, &[75, 80, 90, 100, 110]),
-        8 => (&[10, 20, 30, 40, 50, 60], 70, &[80, 85, 90, 100, 110]),
-        9 => (&[10, 20, 30, 40, 50, 60], 70, &[80, 90, 95, 100, 110]),
-        10 => (&[10, 20, 30, 40, 50, 60], 70, &[80, 90, 100, 105, 110]),
-        _ => (&[10, 20, 30, 40, 50, 60], 70, &[80, 90, 100, 110, 115]),
+        0 => (&[5, 10, 20, 30, 40, 50, 60], 70, FROM_80),
+        1 => (&[10, 15, 20, 30, 40, 50, 60], 70, FROM_80),
+        2 => (&[10, 20, 25, 30, 40, 50, 60], 70, FROM_80),
+        3 => (&[10, 20, 30, 35, 40, 50, 60], 70, FROM_80),
+        4 => (&[10, 20, 30, 40, 45, 50, 60], 70, FROM_80),
+        5 => (&[10, 20, 30, 40, 50, 55, 60], 70, FROM_80),
+        6 => (&[10, 20, 30, 40, 50, 60, 65], 70, FROM_80),
+        7 => (&[10, 20, 30, 40, 50, 60, 70, 75], 80, FROM_90),
+        8 => (TO_70, 80, &[85, 90, 100, 110, 120, 130, 140, 150]),
+        9 => (TO_80, 90, &[95, 100, 110, 120, 130, 140, 150]),
+        10 => (TO_80, 90, &[100, 105, 110, 120, 130, 140, 150]),
+        11 => (TO_80, 90, &[100, 110, 115, 120, 130, 140, 150]),
+        12 => (TO_80, 90, &[100, 110, 120, 125, 130, 140, 150]),
+        13 => (TO_80, 90, &[100, 110, 120, 130, 135, 140, 150]),
+        14 => (TO_80, 90, &[100, 110, 120, 130, 140, 145, 150]),
+        _ => (TO_80, 90, &[100, 110, 120, 130, 140, 150, 155]),
     }
 }
+
+// The children of a half that does not get the new one.
+const CHILDREN_TO_71: &[u64] = &[1, 11, 21, 31, 41, 51, 61, 71];
+
+const CHILDREN_TO_81: &[u64] = &[1, 11, 21, 31, 41, 51, 61, 71, 81];
+
+const CHILDREN_FROM_71: &[u64] = &[71, 81, 91, 101, 111, 121, 131, 141, 151];
+
+const CHILDREN_FROM_81: &[u64] = &[81, 91, 101, 111, 121, 131, 141, 151];
 
 // The children that a split leaves on either side: the new child stands right of the new pair.
 fn children(place: usize) -> (&'static [u64], &'static [u64]) {
     match place {
-        0 => (&[1, 6, 11, 21, 31, 41], &[51, 61, 71, 81, 91, 101, 111]),
-        1 => (&[1, 11, 16, 21, 31, 41], &[51, 61, 71, 81, 91, 101, 111]),
-        2 => (&[1, 11, 21, 26, 31, 41], &[51, 61, 71, 81, 91, 101, 111]),
-        3 => (&[1, 11, 21, 31, 36, 41], &[51, 61, 71, 81, 91, 101, 111]),
-        4 => (&[1, 11, 21, 31, 41, 46], &[51, 61, 71, 81, 91, 101, 111]),
-        5 => (&[1, 11, 21, 31, 41, 51, 56], &[61, 71, 81, 91, 101, 111]),
-        6 => (&[1, 11, 21, 31, 41, 51], &[61, 66, 71, 81, 91, 101, 111]),
-        7 => (&[1, 11, 21, 31, 41, 51, 61], &[71, 76, 81, 91, 101, 111]),
-        8 => (&[1, 11, 21, 31, 41, 51, 61], &[71, 81, 86, 91, 101, 111]),
-        9 => (&[1, 11, 21, 31, 41, 51, 61], &[71, 81, 91, 96, 101, 111]),
-        10 => (&[1, 11, 21, 31, 41, 51, 61], &[71, 81, 91, 101, 106, 111]),
-        _ => (&[1, 11, 21, 31, 41, 51, 61], &[71, 81, 91, 101, 111, 116]),
+        0 => (&[1, 6, 11, 21, 31, 41, 51, 61], CHILDREN_FROM_71),
+        1 => (&[1, 11, 16, 21, 31, 41, 51, 61], CHILDREN_FROM_71),
+        2 => (&[1, 11, 21, 26, 31, 41, 51, 61], CHILDREN_FROM_71),
+        3 => (&[1, 11, 21, 31, 36, 41, 51, 61], CHILDREN_FROM_71),
+        4 => (&[1, 11, 21, 31, 41, 46, 51, 61], CHILDREN_FROM_71),
+        5 => (&[1, 11, 21, 31, 41, 51, 56, 61], CHILDREN_FROM_71),
+        6 => (&[1, 11, 21, 31, 41, 51, 61, 66], CHILDREN_FROM_71),
+        7 => (&[1, 11, 21, 31, 41, 51, 61, 71, 76], CHILDREN_FROM_81),
+        8 => (CHILDREN_TO_71, &[81, 86, 91, 101, 111, 121, 131, 141, 151]),
+        9 => (CHILDREN_TO_81, &[91, 96, 101, 111, 121, 131, 141, 151]),
+        10 => (CHILDREN_TO_81, &[91, 101, 106, 111, 121, 131, 141, 151]),
+        11 => (CHILDREN_TO_81, &[91, 101, 111, 116, 121, 131, 141, 151]),
+        12 => (CHILDREN_TO_81, &[91, 101, 111, 121, 126, 131, 141, 151]),
+        13 => (CHILDREN_TO_81, &[91, 101, 111, 121, 131, 136, 141, 151]),
+        14 => (CHILDREN_TO_81, &[91, 101, 111, 121, 131, 141, 146, 151]),
+        _ => (CHILDREN_TO_81, &[91, 101, 111, 121, 131, 141, 151, 156]),
     }
 }
 
@@ -277,7 +307,7 @@ fn mend<V: Drop>(rt: &impl Abort, node: &mut Node<u64, V>, index: usize, call: C
 }
 
 // A call on a node over leaves, the leaves' keys before it, and the node's keys and the leaves' behind it. Before it the node
-// has the keys 50 and 100, or 50 alone over two leaves.
+// has the keys 70 and 140, or 70 alone over two leaves.
 #[derive(Drop)]
 struct Row {
     call: Call,
@@ -287,19 +317,19 @@ struct Row {
     after: &'static [&'static [u64]],
 }
 
-const LOW: &[u64] = &[10, 20, 30, 40];
+const LOW: &[u64] = &[10, 20, 30, 40, 50, 60];
 
-const LOW_AND_45: &[u64] = &[10, 20, 30, 40, 45];
+const LOW_AND_65: &[u64] = &[10, 20, 30, 40, 50, 60, 65];
 
-const MIDDLE: &[u64] = &[60, 70, 80, 90];
+const MIDDLE: &[u64] = &[80, 90, 100, 110, 120, 130];
 
-const MIDDLE_AND_55: &[u64] = &[55, 60, 70, 80, 90];
+const MIDDLE_AND_75: &[u64] = &[75, 80, 90, 100, 110, 120, 130];
 
-const MIDDLE_AND_95: &[u64] = &[60, 70, 80, 90, 95];
+const MIDDLE_AND_135: &[u64] = &[80, 90, 100, 110, 120, 130, 135];
 
-const HIGH: &[u64] = &[110, 120, 130, 140];
+const HIGH: &[u64] = &[150, 160, 170, 180, 190, 200];
 
-const HIGH_AND_105: &[u64] = &[105, 110, 120, 130, 140];
+const HIGH_AND_145: &[u64] = &[145, 150, 160, 170, 180, 190, 200];
 
 fn row_of_one_pair(number: usize) -> Row {
     match number {
@@ -307,43 +337,51 @@ fn row_of_one_pair(number: usize) -> Row {
             call: Call::Merge,
             index: 0,
             before: &[LOW, MIDDLE, HIGH],
-            keys: &[100],
-            after: &[&[10, 20, 30, 40, 50, 60, 70, 80, 90], HIGH],
+            keys: &[140],
+            after: &[
+                &[10, 20, 30, 40, 50, 60, 70, 80, 90, 100, 110, 120, 130],
+                HIGH,
+            ],
         },
         1 => Row {
             call: Call::Merge,
             index: 1,
             before: &[LOW, MIDDLE, HIGH],
-            keys: &[50],
-            after: &[LOW, &[60, 70, 80, 90, 100, 110, 120, 130, 140]],
+            keys: &[70],
+            after: &[
+                LOW,
+                &[
+                    80, 90, 100, 110, 120, 130, 140, 150, 160, 170, 180, 190, 200,
+                ],
+            ],
         },
         2 => Row {
             call: Call::StealLeft,
             index: 0,
-            before: &[LOW_AND_45, MIDDLE_AND_95, HIGH],
-            keys: &[45, 100],
-            after: &[LOW, &[50, 60, 70, 80, 90, 95], HIGH],
+            before: &[LOW_AND_65, MIDDLE_AND_135, HIGH],
+            keys: &[65, 140],
+            after: &[LOW, &[70, 80, 90, 100, 110, 120, 130, 135], HIGH],
         },
         3 => Row {
             call: Call::StealLeft,
             index: 1,
-            before: &[LOW_AND_45, MIDDLE_AND_95, HIGH],
-            keys: &[50, 95],
-            after: &[LOW_AND_45, MIDDLE, &[100, 110, 120, 130, 140]],
+            before: &[LOW_AND_65, MIDDLE_AND_135, HIGH],
+            keys: &[70, 135],
+            after: &[LOW_AND_65, MIDDLE, &[140, 150, 160, 170, 180, 190, 200]],
         },
         4 => Row {
             call: Call::StealRight,
             index: 0,
-            before: &[LOW, MIDDLE_AND_55, HIGH_AND_105],
-            keys: &[55, 100],
-            after: &[&[10, 20, 30, 40, 50], MIDDLE, HIGH_AND_105],
+            before: &[LOW, MIDDLE_AND_75, HIGH_AND_145],
+            keys: &[75, 140],
+            after: &[&[10, 20, 30, 40, 50, 60, 70], MIDDLE, HIGH_AND_145],
         },
         _ => Row {
             call: Call::StealRight,
             index: 1,
-            before: &[LOW, MIDDLE_AND_55, HIGH_AND_105],
-            keys: &[50, 105],
-            after: &[LOW, &[55, 60, 70, 80, 90, 100], HIGH],
+            before: &[LOW, MIDDLE_AND_75, HIGH_AND_145],
+            keys: &[70, 145],
+            after: &[LOW, &[75, 80, 90, 100, 110, 120, 130, 140], HIGH],
         },
     }
 }
@@ -351,19 +389,19 @@ fn row_of_one_pair(number: usize) -> Row {
 fn row_of_several_pairs(left: bool) -> Row {
     if left {
         Row {
-            call: Call::BulkStealLeft(3),
+            call: Call::BulkStealLeft(5),
             index: 0,
             before: &[LOW, MIDDLE],
             keys: &[20],
-            after: &[&[10], &[30, 40, 50, 60, 70, 80, 90]],
+            after: &[&[10], &[30, 40, 50, 60, 70, 80, 90, 100, 110, 120, 130]],
         }
     } else {
         Row {
-            call: Call::BulkStealRight(3),
+            call: Call::BulkStealRight(5),
             index: 0,
             before: &[LOW, MIDDLE],
-            keys: &[80],
-            after: &[&[10, 20, 30, 40, 50, 60, 70], &[90]],
+            keys: &[120],
+            after: &[&[10, 20, 30, 40, 50, 60, 70, 80, 90, 100, 110], &[130]],
         }
     }
 }
@@ -378,7 +416,7 @@ fn is_mended(rt: &impl Abort, alloc: Global, keys: &[u64], row: &Row) -> Result<
 #[test]
 fn merges_leaves_and_steals_from_either_side_at_both_ends(rt: HostRuntime) -> Result<(), Fail> {
     for number in 0..6usize {
-        assert!(&rt; is_mended(&rt, rt.alloc(), &[50, 100], &row_of_one_pair(number))?);
+        assert!(&rt; is_mended(&rt, rt.alloc(), &[70, 140], &row_of_one_pair(number))?);
     }
     Ok(())
 }
@@ -386,7 +424,7 @@ fn merges_leaves_and_steals_from_either_side_at_both_ends(rt: HostRuntime) -> Re
 #[test]
 fn steals_several_from_either_side(rt: HostRuntime) -> Result<(), Fail> {
     for left in [true, false] {
-        assert!(&rt; is_mended(&rt, rt.alloc(), &[50], &row_of_several_pairs(left))?);
+        assert!(&rt; is_mended(&rt, rt.alloc(), &[70], &row_of_several_pairs(left))?);
     }
     Ok(())
 }
@@ -496,7 +534,7 @@ fn moves_between_leaves(rt: &impl Abort, alloc: Global) -> Result<bool, Fail> {
     let mut node = leaf(rt, alloc, LOW)?;
     let mut other = leaf(rt, alloc, &[5])?;
     move_behind_first(rt, &mut node, &mut other);
-    Ok(are_leaves(&node, &[10], &other, &[5, 20, 30, 40]))
+    Ok(are_leaves(&node, &[10], &other, &[5, 20, 30, 40, 50, 60]))
 }
 
 fn is_inner(node: &Node<u64, u64>, keys: &[u64], below: &[u64]) -> bool {
@@ -521,12 +559,12 @@ fn moves_what_stands_after_a_place(rt: HostRuntime) -> Result<(), Fail> {
 fn takes_out_and_replaces_a_pair(rt: HostRuntime) -> Result<(), Fail> {
     let mut count = Count::new();
     let mut node = leaf(&rt, rt.alloc(), LOW)?;
-    assert!(&rt; node.is_leaf() && node.len() == 4);
+    assert!(&rt; node.is_leaf() && node.len() == 6);
     let gone = node.remove_leaf(1, &mut count);
-    assert!(&rt; is_tenfold(&gone, 20) && shows(&node, &[10, 30, 40]));
-    assert!(&rt; node.len() == 3);
-    let old = node.replace_pair(2, (45, 450), &mut count);
-    assert!(&rt; is_tenfold(&old, 40) && shows(&node, &[10, 30, 45]));
+    assert!(&rt; is_tenfold(&gone, 20) && shows(&node, &[10, 30, 40, 50, 60]));
+    assert!(&rt; node.len() == 5);
+    let old = node.replace_pair(4, (65, 650), &mut count);
+    assert!(&rt; is_tenfold(&old, 60) && shows(&node, &[10, 30, 40, 50, 65]));
     Ok(())
 }
 
@@ -576,17 +614,17 @@ fn a_split_drops_no_pair(rt: HostRuntime) -> Result<(), Fail> {
     Ok(())
 }
 
-// A node over leaves of 4 and 5 pairs.
-fn ten_pairs<'a>(
+// A node over leaves of 6 and 7 pairs.
+fn fourteen_pairs<'a>(
     rt: &impl Abort,
     alloc: Global,
     drops: &'a Cell<u64>,
 ) -> Result<Box<Node<u64, Token<'a>>>, TryReserveError> {
-    let left = tokens(rt, alloc, 0, 4, drops)?;
-    let right = tokens(rt, alloc, 5, 5, drops)?;
+    let left = tokens(rt, alloc, 0, 6, drops)?;
+    let right = tokens(rt, alloc, 7, 7, drops)?;
     let mut node = Node::try_inner(alloc)?;
     node.adopt(left);
-    push_child(rt, &mut node, 4, Token { drops }, right);
+    push_child(rt, &mut node, 6, Token { drops }, right);
     Ok(node)
 }
 
@@ -600,16 +638,16 @@ fn call_of(number: usize) -> Call {
     }
 }
 
-// The ten pairs are dropped with the node, and none before.
+// The fourteen pairs are dropped with the node, and none before.
 #[test]
 fn a_merge_and_thefts_drop_no_pair(rt: HostRuntime) -> Result<(), Fail> {
     for number in 0..5usize {
         let drops = Cell::new(0);
-        let mut node = ten_pairs(&rt, rt.alloc(), &drops)?;
+        let mut node = fourteen_pairs(&rt, rt.alloc(), &drops)?;
         mend(&rt, &mut node, 0, call_of(number));
         let before = drops.get();
         drop(node);
-        assert!(&rt; before == 0 && drops.get() == 10);
+        assert!(&rt; before == 0 && drops.get() == 14);
     }
     Ok(())
 }

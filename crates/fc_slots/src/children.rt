@@ -12,7 +12,7 @@ use std::alloc::{AllocError, Global};
 use std::marker::Model;
 
 /// The most children of a node.
-pub const MAX_CHILDREN: usize = 12;
+pub const MAX_CHILDREN: usize = 16;
 
 /// At most as many items as a node has children, in order.
 #[derive(Drop)]

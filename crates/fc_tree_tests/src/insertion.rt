@@ -103,28 +103,36 @@ fn split(
 
 #[test]
 fn ascending_keys(rt: HostRuntime) -> Result<(), Fail> {
-    let root = split(&rt, rt.alloc(), (1, 1), 11, 12)?;
-    assert!(&rt; shows_two_levels(&root, &[7], &[1, 2, 3, 4, 5, 6], &[8, 9, 10, 11, 12]));
+    let root = split(&rt, rt.alloc(), (1, 1), 15, 16)?;
+    let left = [1, 2, 3, 4, 5, 6, 7, 8];
+    let right = [10, 11, 12, 13, 14, 15, 16];
+    assert!(&rt; shows_two_levels(&root, &[9], &left, &right));
     Ok(())
 }
 
 #[test]
 fn descending_keys(rt: HostRuntime) -> Result<(), Fail> {
-    let mut root = leaf_of(rt.alloc(), 12)?;
-    for below in 0..10u64 {
-        put(&rt, rt.alloc(), &mut root, &[0], 11 - below, 0)?;
+    let mut root = leaf_of(rt.alloc(), 16)?;
+    for below in 0..14u64 {
+        put(&rt, rt.alloc(), &mut root, &[0], 15 - below, 0)?;
     }
     put(&rt, rt.alloc(), &mut root, &[0], 1, 2)?;
-    assert!(&rt; shows_two_levels(&root, &[6], &[1, 2, 3, 4, 5], &[7, 8, 9, 10, 11, 12]));
+    let left = [1, 2, 3, 4, 5, 6, 7];
+    let right = [9, 10, 11, 12, 13, 14, 15, 16];
+    assert!(&rt; shows_two_levels(&root, &[8], &left, &right));
     Ok(())
 }
 
 #[test]
 fn between_even_keys(rt: HostRuntime) -> Result<(), Fail> {
-    let root = split(&rt, rt.alloc(), (2, 2), 5, 11)?;
-    assert!(&rt; shows_two_levels(&root, &[12], &[2, 4, 6, 8, 10, 11], &[14, 16, 18, 20, 22]));
-    let root = split(&rt, rt.alloc(), (2, 2), 6, 13)?;
-    assert!(&rt; shows_two_levels(&root, &[12], &[2, 4, 6, 8, 10], &[13, 14, 16, 18, 20, 22]));
+    let root = split(&rt, rt.alloc(), (2, 2), 7, 15)?;
+    let left = [2, 4, 6, 8, 10, 12, 14, 15];
+    let right = [18, 20, 22, 24, 26, 28, 30];
+    assert!(&rt; shows_two_levels(&root, &[16], &left, &right));
+    let root = split(&rt, rt.alloc(), (2, 2), 8, 17)?;
+    let left = [2, 4, 6, 8, 10, 12, 14];
+    let right = [17, 18, 20, 22, 24, 26, 28, 30];
+    assert!(&rt; shows_two_levels(&root, &[16], &left, &right));
     Ok(())
 }
 
@@ -138,13 +146,13 @@ fn each_place_of_a_full_leaf(rt: HostRuntime) -> Result<(), Fail> {
 }
 
 // How many nodes the insertion of the key behind those below it takes: one for each split, and one for a new root. Worked out for
-// nodes of at most eleven pairs.
+// nodes of at most fifteen pairs.
 fn nodes_for(key: u64) -> usize {
-    if key == 89 {
+    if key == 151 {
         3
-    } else if key == 12 {
+    } else if key == 16 {
         2
-    } else if key > 12 && key % 7 == 5 {
+    } else if key > 16 && key % 9 == 7 {
         1
     } else {
         0
@@ -154,11 +162,11 @@ fn nodes_for(key: u64) -> usize {
 #[test]
 fn third_level(rt: HostRuntime) -> Result<(), Fail> {
     let mut root = leaf_of(rt.alloc(), 1)?;
-    for key in 2..90u64 {
+    for key in 2..152u64 {
         put_last(&rt, rt.alloc(), &mut root, key, nodes_for(key))?;
     }
-    assert!(&rt; is_levelled(&root, 2) && shows(&root, &[49]));
-    assert!(&rt; child_shows(&root, 0, &[7, 14, 21, 28, 35, 42]));
-    assert!(&rt; child_shows(&root, 1, &[56, 63, 70, 77, 84]));
+    assert!(&rt; is_levelled(&root, 2) && shows(&root, &[81]));
+    assert!(&rt; child_shows(&root, 0, &[9, 18, 27, 36, 45, 54, 63, 72]));
+    assert!(&rt; child_shows(&root, 1, &[90, 99, 108, 117, 126, 135, 144]));
     Ok(())
 }

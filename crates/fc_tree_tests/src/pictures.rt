@@ -6,12 +6,12 @@ use fc_node::node::Node;
 use std::alloc::{AllocError, Global};
 use std::test::Fail;
 
-const SPLIT: &str = "7
-  1 2 3 4 5 6
-  8 9 10 11 12
+const SPLIT: &str = "9
+  1 2 3 4 5 6 7 8
+  10 11 12 13 14 15 16
 ";
 
-const MERGED: &str = "1 2 3 4 5 6 7 8 9 10 11
+const MERGED: &str = "1 2 3 4 5 6 7 8 9 10 11 12 13 14 15
 ";
 
 // Draws a node's keys on a line, behind so many spaces.
@@ -35,11 +35,11 @@ fn draw(alloc: Global, root: &Node<u64, u64>) -> Result<String, AllocError> {
 }
 
 #[test]
-fn twelve_keys_and_a_removal(rt: HostRuntime) -> Result<(), Fail> {
+fn sixteen_keys_and_a_removal(rt: HostRuntime) -> Result<(), Fail> {
     let mut root = full_leaf(&rt, rt.alloc(), 1, 1)?;
-    put_last(&rt, rt.alloc(), &mut root, 12, 2)?;
+    put_last(&rt, rt.alloc(), &mut root, 16, 2)?;
     assert!(&rt; draw(rt.alloc(), &root)?.as_str() == SPLIT);
-    let root = without(&rt, root, 1, &[1, 4], 12).ok_or("no root")?;
+    let root = without(&rt, root, 1, &[1, 6], 16).ok_or("no root")?;
     assert!(&rt; draw(rt.alloc(), &root)?.as_str() == MERGED);
     Ok(())
 }

@@ -41,17 +41,17 @@ fn of_two_leaves(
     Ok(without(rt, root, 1, path, key).ok_or("no root")?)
 }
 
-// What a removal leaves of a root of 36 over two inner nodes with as few keys as can be, of the keys from 1 to 71: worked out for
-// nodes of at least five.
-fn of_twelve_leaves(
+// What a removal leaves of a root of 64 over two inner nodes with as few keys as can be, of the keys from 1 to 127: worked out for nodes
+// of at least seven.
+fn of_sixteen_leaves(
     rt: &impl Abort,
     alloc: Global,
     path: &[u8],
     key: u64,
 ) -> Result<Box<Node<u64, u64>>, Fail> {
     let left = least_inner(rt, alloc, 1)?;
-    let right = least_inner(rt, alloc, 37)?;
-    let root = join(rt, alloc, left, 36, right)?;
+    let right = least_inner(rt, alloc, 65)?;
+    let root = join(rt, alloc, left, 64, right)?;
     Ok(without(rt, root, 2, path, key).ok_or("no root")?)
 }
 
@@ -66,33 +66,39 @@ fn shows_above_leaves(root: &Node<u64, u64>, keys: &[u64]) -> bool {
 
 #[test]
 fn last_key_of_two_leaves_merges_them(rt: HostRuntime) -> Result<(), Fail> {
-    let root = of_two_leaves(&rt, rt.alloc(), (1, 7, 13), &[1, 4], 12)?;
-    assert!(&rt; is_one_leaf(&root, &[1, 2, 3, 4, 5, 6, 7, 8, 9, 10, 11]));
+    let root = of_two_leaves(&rt, rt.alloc(), (1, 9, 17), &[1, 6], 16)?;
+    assert!(&rt; is_one_leaf(&root, &[1, 2, 3, 4, 5, 6, 7, 8, 9, 10, 11, 12, 13, 14, 15]));
     Ok(())
 }
 
 #[test]
 fn next_key_takes_the_place_of_an_inner_one(rt: HostRuntime) -> Result<(), Fail> {
-    let root = of_two_leaves(&rt, rt.alloc(), (1, 7, 13), &[0], 7)?;
-    assert!(&rt; is_one_leaf(&root, &[1, 2, 3, 4, 5, 6, 8, 9, 10, 11, 12]));
-    let root = of_two_leaves(&rt, rt.alloc(), (1, 7, 14), &[0], 7)?;
-    assert!(&rt; shows_two_levels(&root, &[8], &[1, 2, 3, 4, 5, 6], &[9, 10, 11, 12, 13]));
+    let root = of_two_leaves(&rt, rt.alloc(), (1, 9, 17), &[0], 9)?;
+    assert!(&rt; is_one_leaf(&root, &[1, 2, 3, 4, 5, 6, 7, 8, 10, 11, 12, 13, 14, 15, 16]));
+    let root = of_two_leaves(&rt, rt.alloc(), (1, 9, 18), &[0], 9)?;
+    let left = [1, 2, 3, 4, 5, 6, 7, 8];
+    let right = [11, 12, 13, 14, 15, 16, 17];
+    assert!(&rt; shows_two_levels(&root, &[10], &left, &right));
     Ok(())
 }
 
 #[test]
 fn pair_is_stolen_from_the_left(rt: HostRuntime) -> Result<(), Fail> {
-    let root = of_two_leaves(&rt, rt.alloc(), (0, 7, 13), &[1, 4], 12)?;
-    assert!(&rt; shows_two_levels(&root, &[6], &[0, 1, 2, 3, 4, 5], &[7, 8, 9, 10, 11]));
+    let root = of_two_leaves(&rt, rt.alloc(), (0, 9, 17), &[1, 6], 16)?;
+    let left = [0, 1, 2, 3, 4, 5, 6, 7];
+    let right = [9, 10, 11, 12, 13, 14, 15];
+    assert!(&rt; shows_two_levels(&root, &[8], &left, &right));
     Ok(())
 }
 
 #[test]
 fn first_child_is_mended_from_the_right(rt: HostRuntime) -> Result<(), Fail> {
-    let root = of_two_leaves(&rt, rt.alloc(), (1, 6, 13), &[0, 0], 1)?;
-    assert!(&rt; is_one_leaf(&root, &[2, 3, 4, 5, 6, 7, 8, 9, 10, 11, 12]));
-    let root = of_two_leaves(&rt, rt.alloc(), (1, 6, 14), &[0, 0], 1)?;
-    assert!(&rt; shows_two_levels(&root, &[7], &[2, 3, 4, 5, 6], &[8, 9, 10, 11, 12, 13]));
+    let root = of_two_leaves(&rt, rt.alloc(), (1, 8, 17), &[0, 0], 1)?;
+    assert!(&rt; is_one_leaf(&root, &[2, 3, 4, 5, 6, 7, 8, 9, 10, 11, 12, 13, 14, 15, 16]));
+    let root = of_two_leaves(&rt, rt.alloc(), (1, 8, 18), &[0, 0], 1)?;
+    let left = [2, 3, 4, 5, 6, 7, 8];
+    let right = [10, 11, 12, 13, 14, 15, 16, 17];
+    assert!(&rt; shows_two_levels(&root, &[9], &left, &right));
     Ok(())
 }
 
@@ -107,18 +113,21 @@ fn only_pair_leaves_no_tree(rt: HostRuntime) -> Result<(), Fail> {
 
 #[test]
 fn merges_climb_to_the_root(rt: HostRuntime) -> Result<(), Fail> {
-    let root = of_twelve_leaves(&rt, rt.alloc(), &[0, 0, 0], 1)?;
-    assert!(&rt; shows_above_leaves(&root, &[12, 18, 24, 30, 36, 42, 48, 54, 60, 66]));
-    assert!(&rt; child_shows(&root, 0, &[2, 3, 4, 5, 6, 7, 8, 9, 10, 11]));
-    assert!(&rt; child_shows(&root, 10, &[67, 68, 69, 70, 71]));
+    let root = of_sixteen_leaves(&rt, rt.alloc(), &[0, 0, 0], 1)?;
+    let keys = [16, 24, 32, 40, 48, 56, 64, 72, 80, 88, 96, 104, 112, 120];
+    assert!(&rt; shows_above_leaves(&root, &keys));
+    assert!(&rt; child_shows(&root, 0, &[2, 3, 4, 5, 6, 7, 8, 9, 10, 11, 12, 13, 14, 15]));
+    assert!(&rt; child_shows(&root, 14, &[121, 122, 123, 124, 125, 126, 127]));
     Ok(())
 }
 
 #[test]
 fn root_pair_is_replaced_from_below(rt: HostRuntime) -> Result<(), Fail> {
-    let root = of_twelve_leaves(&rt, rt.alloc(), &[0], 36)?;
-    assert!(&rt; shows_above_leaves(&root, &[6, 12, 18, 24, 30, 37, 48, 54, 60, 66]));
-    assert!(&rt; child_shows(&root, 5, &[31, 32, 33, 34, 35]));
-    assert!(&rt; child_shows(&root, 6, &[38, 39, 40, 41, 42, 43, 44, 45, 46, 47]));
+    let root = of_sixteen_leaves(&rt, rt.alloc(), &[0], 64)?;
+    let keys = [8, 16, 24, 32, 40, 48, 56, 65, 80, 88, 96, 104, 112, 120];
+    assert!(&rt; shows_above_leaves(&root, &keys));
+    assert!(&rt; child_shows(&root, 7, &[57, 58, 59, 60, 61, 62, 63]));
+    let merged = [66, 67, 68, 69, 70, 71, 72, 73, 74, 75, 76, 77, 78, 79];
+    assert!(&rt; child_shows(&root, 8, &merged));
     Ok(())
 }

@@ -17,9 +17,6 @@ const OURS: u64 = 0;
 
 const THEIRS: u64 = 1;
 
-// Above all numbers of both maps.
-const END: u64 = 180;
-
 // A number as a key, with the map that it comes from, of which its order knows nothing.
 #[derive(Clone, Copy)]
 struct Key<'a> {
@@ -76,6 +73,11 @@ struct Run {
 }
 
 impl Run {
+    // Above all of its numbers.
+    fn end(self) -> u64 {
+        self.number(self.len)
+    }
+
     fn number(self, i: u64) -> u64 {
         let step = if self.has_gaps { 2 } else { 1 };
         self.first.wrapping_add(i.wrapping_mul(step))
@@ -175,6 +177,11 @@ fn is_in_one(number: u64, ours: Run, theirs: Run) -> bool {
     ours.has(number) || theirs.has(number)
 }
 
+// Above all numbers of both.
+fn end_of(ours: Run, theirs: Run) -> u64 {
+    ours.end().max(theirs.end())
+}
+
 // Whether the walk's next pair is that of this number.
 fn gives_next(walk: &mut Iter<'_, Key<'_>, u64>, number: u64, theirs: Run) -> bool {
     is_joined_pair(walk.next(), number, theirs)
@@ -182,7 +189,7 @@ fn gives_next(walk: &mut Iter<'_, Key<'_>, u64>, number: u64, theirs: Run) -> bo
 
 fn gives_forward(map: &BTreeMap<Key<'_>, u64>, ours: Run, theirs: Run) -> bool {
     let mut walk = map.iter();
-    for number in 0..END {
+    for number in 0..end_of(ours, theirs) {
         if !is_in_one(number, ours, theirs) {
             continue;
         }
@@ -195,8 +202,9 @@ fn gives_forward(map: &BTreeMap<Key<'_>, u64>, ours: Run, theirs: Run) -> bool {
 
 fn gives_backward(map: &BTreeMap<Key<'_>, u64>, ours: Run, theirs: Run) -> bool {
     let mut walk = map.iter();
-    for below in 1..END + 1 {
-        let number = END.wrapping_sub(below);
+    let end = end_of(ours, theirs);
+    for below in 0..end {
+        let number = end.wrapping_sub(1).wrapping_sub(below);
         if !is_in_one(number, ours, theirs) {
             continue;
         }
@@ -210,7 +218,7 @@ fn gives_backward(map: &BTreeMap<Key<'_>, u64>, ours: Run, theirs: Run) -> bool 
 // How many numbers there are in both together.
 fn joined_len(ours: Run, theirs: Run) -> usize {
     let mut len = 0usize;
-    for number in 0..END {
+    for number in 0..end_of(ours, theirs) {
         if is_in_one(number, ours, theirs) {
             len = len.wrapping_add(1);
         }
@@ -263,9 +271,20 @@ fn appends(
     Ok(made.get() <= most && is_joined(&map, ours, theirs) && is_emptied(&other))
 }
 
-// Whether a map of `a` numbers takes all pairs of maps of up to 40.
+// The most numbers of each of the two maps. From 70 on, put in one after another, the root of a tree has the fewest pairs of an inner node or more.
+const MOST: u64 = 72;
+
+// Whether maps of so many numbers are tried: those of one leaf or two, each fourth length above them, and the last ones.
+fn is_tried(len: u64) -> bool {
+    len < 34 || len % 4 == 0 || len > 68
+}
+
+// Whether a map of `a` numbers takes all pairs of each of the maps that are tried.
 fn appends_each(alloc: Global, layout: Layout, a: u64) -> Result<bool, TryReserveError> {
-    for b in 0..41 {
+    for b in 0..MOST + 1 {
+        if !is_tried(b) {
+            continue;
+        }
         let (ours, theirs) = laid_out(layout, a, b);
         let most = most_comparisons(layout, a, b);
         if !appends(alloc, ours, theirs, most, false)? {
@@ -278,10 +297,10 @@ fn appends_each(alloc: Global, layout: Layout, a: u64) -> Result<bool, TryReserv
     Ok(true)
 }
 
-// Whether maps of up to 40 numbers take all pairs of maps of up to 40.
+// Whether each of the maps that are tried takes all pairs of each.
 fn appends_all(alloc: Global, layout: Layout) -> Result<bool, TryReserveError> {
-    for a in 0..41 {
-        if !appends_each(alloc, layout, a)? {
+    for a in 0..MOST + 1 {
+        if is_tried(a) && !appends_each(alloc, layout, a)? {
             return Ok(false);
         }
     }
@@ -301,11 +320,11 @@ fn keys_that_take_turns(rt: HostRuntime) -> Result<(), Fail> {
     Ok(())
 }
 
-// One insertion after another would make some six comparisons a pair or more.
+// One insertion after another would make some eight comparisons a pair or more.
 #[test]
-fn eighty_eight_keys_take_turns_with_as_many(rt: HostRuntime) -> Result<(), Fail> {
-    let (ours, theirs) = laid_out(Layout::Interleaved, 88, 88);
-    let most = most_comparisons(Layout::Interleaved, 88, 88);
+fn a_hundred_and_fifty_keys_take_turns_with_as_many(rt: HostRuntime) -> Result<(), Fail> {
+    let (ours, theirs) = laid_out(Layout::Interleaved, 150, 150);
+    let most = most_comparisons(Layout::Interleaved, 150, 150);
     assert!(rt; appends(rt.alloc(), ours, theirs, most, true)?);
     Ok(())
 }

@@ -25,7 +25,7 @@ fn is_made(alloc: Global, order: Order, n: u64) -> Result<bool, TryReserveError>
 
 #[test]
 fn pairs_in_each_order(rt: HostRuntime) -> Result<(), Fail> {
-    for n in [0, 1, 2, CAPACITY as u64, CAPACITY as u64 + 1, 100, 1000] {
+    for n in [0, 1, 2, CAPACITY as u64, CAPACITY as u64 + 1, 200, 2000] {
         assert!(rt; is_made(rt.alloc(), Order::Ascending, n)?);
         assert!(rt; is_made(rt.alloc(), Order::Descending, n)?);
         assert!(rt; is_made(rt.alloc(), Order::Scrambled, n)?);

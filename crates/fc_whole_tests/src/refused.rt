@@ -215,22 +215,22 @@ fn a_refused_append_leaves_both_maps(rt: HostRuntime) -> Result<(), Fail> {
     Ok(())
 }
 
-// Splits the numbers below 100 at 37, and where that is refused once more; whether all is right then, and was between.
+// Splits the numbers below 160, a tree of three levels, at 59, and where that is refused once more; whether all is right then, and was between.
 fn splits(alloc: Global, drops: &[Drops]) -> Result<bool, TryReserveError> {
     let nothing = Cell::new(0);
     let mut map = multiples(alloc, drops, 1)?;
     let key = Key {
-        number: 37,
+        number: 59,
         drops: &nothing,
     };
     for _ in 0..2 {
         if let Ok(rest) = map.split_off(&key) {
-            let is_cut = holds(&map, 0, 37, 1) && holds(&rest, 37, 100, 1);
+            let is_cut = holds(&map, 0, 59, 1) && holds(&rest, 59, 160, 1);
             let are_kept = dropped_between(drops, 0, 0);
             drop(rest);
-            return Ok(is_cut && are_kept && dropped_between(drops, 37, 100));
+            return Ok(is_cut && are_kept && dropped_between(drops, 59, 160));
         }
-        if !holds(&map, 0, 100, 1) || !dropped_between(drops, 0, 0) {
+        if !holds(&map, 0, 160, 1) || !dropped_between(drops, 0, 0) {
             return Ok(false);
         }
     }
@@ -240,11 +240,11 @@ fn splits(alloc: Global, drops: &[Drops]) -> Result<bool, TryReserveError> {
 // Each request is refused in turn by the sweep.
 #[test]
 fn a_refused_split_leaves_the_map(rt: HostRuntime) -> Result<(), Fail> {
-    let Ok(drops) = fresh_drops(rt.alloc(), 100) else {
+    let Ok(drops) = fresh_drops(rt.alloc(), 160) else {
         return Ok(println!(rt; "refused")?);
     };
     match splits(rt.alloc(), &drops) {
-        Ok(is_right) => assert!(rt; is_right && dropped_between(&drops, 0, 100)),
+        Ok(is_right) => assert!(rt; is_right && dropped_between(&drops, 0, 160)),
         Err(_refused) => assert!(rt; dropped_at_most_once(&drops)),
     }
     Ok(())
@@ -271,19 +271,19 @@ fn makes(alloc: Global, drops: &[Drops]) -> bool {
 // was refused.
 #[test]
 fn a_refused_map_of_an_iterator_is_dropped(rt: HostRuntime) -> Result<(), Fail> {
-    let Ok(first) = fresh_drops(rt.alloc(), 100) else {
+    let Ok(first) = fresh_drops(rt.alloc(), 160) else {
         return Ok(println!(rt; "refused")?);
     };
-    let Ok(second) = fresh_drops(rt.alloc(), 100) else {
+    let Ok(second) = fresh_drops(rt.alloc(), 160) else {
         return Ok(println!(rt; "refused")?);
     };
     if makes(rt.alloc(), &first) {
-        assert!(rt; dropped_between(&first, 0, 100));
+        assert!(rt; dropped_between(&first, 0, 160));
         return Ok(());
     }
     assert!(rt; dropped_at_most_once(&first));
     let is_made = makes(rt.alloc(), &second);
     assert!(rt; is_made == is_ample(rt.alloc()));
-    assert!(rt; dropped_at_most_once(&second) && (!is_made || dropped_between(&second, 0, 100)));
+    assert!(rt; dropped_at_most_once(&second) && (!is_made || dropped_between(&second, 0, 160)));
     Ok(())
 }

@@ -40,6 +40,15 @@ fn every_split_of_up_to_a_hundred_pairs(rt: HostRuntime) -> Result<(), Fail> {
     Ok(())
 }
 
+// Ascending pairs stand on three levels from 151 on.
+#[test]
+fn every_split_where_a_third_level_begins(rt: HostRuntime) -> Result<(), Fail> {
+    for n in 148..155 {
+        assert!(rt; splits_everywhere(rt.alloc(), Order::Ascending, n)?);
+    }
+    Ok(())
+}
+
 // Whether one map is split at each key and in each gap, each time as the append before has left it.
 fn is_split_everywhere(alloc: Global, n: u64) -> Result<bool, TryReserveError> {
     let mut map = odds(alloc, Order::Scrambled, n)?;
@@ -51,17 +60,25 @@ fn is_split_everywhere(alloc: Global, n: u64) -> Result<bool, TryReserveError> {
     Ok(true)
 }
 
+// Whether maps of so many pairs are tried: those of one leaf or two, those about as many as fill two levels, which are 255, and each
+// seventh length.
+fn is_tried(n: u64) -> bool {
+    n < 34 || (n > 252 && n < 259) || n % 7 == 0
+}
+
 #[test]
-fn every_split_of_appended_maps_of_up_to_two_hundred_pairs(rt: HostRuntime) -> Result<(), Fail> {
-    for n in 0..201 {
-        assert!(rt; is_split_everywhere(rt.alloc(), n)?);
+fn every_split_of_appended_maps_of_up_to_three_hundred_pairs(rt: HostRuntime) -> Result<(), Fail> {
+    for n in 0..301 {
+        if is_tried(n) {
+            assert!(rt; is_split_everywhere(rt.alloc(), n)?);
+        }
     }
     Ok(())
 }
 
 #[test]
 fn every_split_of_pairs_that_came_in_other_orders(rt: HostRuntime) -> Result<(), Fail> {
-    for n in [CAPACITY as u64, CAPACITY as u64 + 1, 17, 88, 89, 144, 200] {
+    for n in [CAPACITY as u64, CAPACITY as u64 + 1, 23, 150, 151, 256, 300] {
         assert!(rt; splits_everywhere(rt.alloc(), Order::Descending, n)?);
         assert!(rt; splits_everywhere(rt.alloc(), Order::Scrambled, n)?);
     }
@@ -79,7 +96,7 @@ fn splits_here_and_there(alloc: Global, order: Order, n: u64) -> Result<bool, Tr
     Ok(true)
 }
 
-// Trees of three levels and of four: ascending pairs stand on four levels from 628 on.
+// Trees of three levels and of four: ascending pairs stand on four levels from 1366 on.
 #[test]
 fn splits_of_large_maps(rt: HostRuntime) -> Result<(), Fail> {
     for n in [500, 1500, 4000] {

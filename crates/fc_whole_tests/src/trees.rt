@@ -86,8 +86,8 @@ fn is_built(alloc: Global, n: u32) -> Result<bool, TryReserveError> {
 }
 
 #[test]
-fn trees_of_up_to_two_hundred_pairs(rt: HostRuntime) -> Result<(), Fail> {
-    for n in 0..201 {
+fn trees_of_up_to_three_hundred_pairs(rt: HostRuntime) -> Result<(), Fail> {
+    for n in 0..301 {
         assert!(rt; is_built(rt.alloc(), n)?);
     }
     Ok(())
@@ -96,7 +96,9 @@ fn trees_of_up_to_two_hundred_pairs(rt: HostRuntime) -> Result<(), Fail> {
 // Full trees of three and of four levels, those with one pair less or more, and others.
 #[test]
 fn trees_of_many_pairs(rt: HostRuntime) -> Result<(), Fail> {
-    for n in [1000, 1726, 1727, 1728, 5000, 20734, 20735, 20736, 100_000] {
+    for n in [
+        1000, 4094, 4095, 4096, 20_000, 65_534, 65_535, 65_536, 100_000,
+    ] {
         assert!(rt; is_built(rt.alloc(), n)?);
     }
     Ok(())
@@ -171,9 +173,19 @@ fn splits_of_up_to_two_hundred_pairs(rt: HostRuntime) -> Result<(), Fail> {
     Ok(())
 }
 
+// A full tree of two levels has 255 pairs.
+#[test]
+fn splits_about_two_full_levels(rt: HostRuntime) -> Result<(), Fail> {
+    for n in 252..260 {
+        assert!(rt; splits_each(rt.alloc(), n, 1)?);
+    }
+    Ok(())
+}
+
+// From 256 pairs on a tree that is built has three levels, and from 4096 on four.
 #[test]
 fn splits_of_three_and_four_levels(rt: HostRuntime) -> Result<(), Fail> {
-    assert!(rt; splits_each(rt.alloc(), 1500, 7)?);
-    assert!(rt; splits_each(rt.alloc(), 4000, 53)?);
+    assert!(rt; splits_each(rt.alloc(), 3500, 17)?);
+    assert!(rt; splits_each(rt.alloc(), 9000, 113)?);
     Ok(())
 }
