@@ -45,7 +45,7 @@ module _ {K V : Type 0} where
   abbrev pub IsInner : Node K V → Type 0
   IsInner n = length (children_of n) ≡ length (own_pairs n) + 1
 
-  -- Each node has at most 11 pairs and each below the first at least 5, and the leaves lie this many levels below the first.
+  -- Each node has at most 15 pairs and each below the first at least 7, and the leaves lie this many levels below the first.
   abbrev pub IsLevelled : ℕ → Node K V → Type 0
   IsLevelled zero n = (length (own_pairs n) ≤ capacity) × IsLeaf n
   IsLevelled (suc h) n = (length (own_pairs n) ≤ capacity) × IsInner n × AllByRecursion (λ c. (min_len ≤ length (own_pairs c)) × IsLevelled h c) (children_of n)
@@ -54,7 +54,7 @@ module _ {K V : Type 0} where
   abbrev pub IsTree : Node K V → Type 0
   IsTree n = (h : ℕ) × (h ≤ most_height) × IsLevelled h n
 
-  -- The node is levelled and holds at least 5 pairs itself.
+  -- The node is levelled and holds at least 7 pairs itself.
   abbrev pub IsSound : ℕ → Node K V → Type 0
   IsSound h n = (min_len ≤ length (own_pairs n)) × IsLevelled h n
 

@@ -20,7 +20,7 @@ abbrev pub root_of : {K V : Type 0} → Option (Box (Node K V) Global) → Map K
 root_of None = None
 root_of (Some root) = Some root.value
 
--- The tree is sound, with one height of at most 24, if there is one.
+-- The tree is sound, with one height of at most 21, if there is one.
 abbrev pub IsSoundMap : {K V : Type 0} → Map K V → Type 0
 IsSoundMap None = Unit {0}
 IsSoundMap (Some root) = (h : ℕ) × (h ≤ most_height) × IsSoundRoot h root

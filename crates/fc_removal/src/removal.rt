@@ -141,12 +141,12 @@ pub fn remove_first<K: Drop, V: Drop>(node: &mut Node<K, V>, count: &mut Count) 
     pair
 }
 
-// Mends the child at `index` where it has fewer than 5 pairs.
+// Mends the child at `index` where it has fewer than 7 pairs.
 #[inline]
 pub(crate) fn mend_child<K: Drop, V: Drop>(node: &mut Node<K, V>, index: usize, count: &mut Count)
     requires { (h : ℕ) × IsShortAt h node.old index }
 
-    // A child that has 5 pairs stays.
+    // A child that has 7 pairs stays.
     ensures whole { min_len ≤ length (own_pairs (child_at node.old index)) → node.new ≡ node.old }
     ensures whole_moves { min_len ≤ length (own_pairs (child_at node.old index)) → count.new.moves ≡ count.old.moves }
 
@@ -163,7 +163,7 @@ pub(crate) fn mend_child<K: Drop, V: Drop>(node: &mut Node<K, V>, index: usize, 
     mend_short(node, index, count);
 }
 
-// Mends the child at `index`, which has 4 pairs: with the child on its left where there is one, else with the one on its right.
+// Mends the child at `index`, which has 6 pairs: with the child on its left where there is one, else with the one on its right.
 // Where both and the pair between them fit in one node, they are merged, and else one pair is stolen.
 #[inline(never)]
 fn mend_short<K: Drop, V: Drop>(node: &mut Node<K, V>, index: usize, count: &mut Count)
