@@ -3,8 +3,8 @@ use crate::map::{
     Drops, Tracked, TrackedKey, TrackedValue, fresh_drops, has_memory, take_all_memory,
     were_all_dropped, were_dropped,
 };
-use crate::numbers::{Numbers, has, multiples};
-use crate::sizes::CAPACITY;
+use crate::numbers::{Numbers, has, has_up_to, multiples};
+use crate::sizes::{BEYOND, CAPACITY};
 use fc_base::TryReserveError;
 use fc_map::map::BTreeMap;
 use fc_vec::TryFromIterator;
@@ -187,5 +187,29 @@ fn a_refused_extension_of_an_empty_map_keeps_a_leaf(rt: HostRuntime) -> Result<(
     drop(held);
     assert!(rt; has_none && matches!(done, Err(TryReserveError::AllocError)));
     assert!(rt; has_a_full_leaf(&map));
+    Ok(())
+}
+
+// The three numbers from that which fills a leaf on, each with itself.
+fn three_pairs(alloc: Global) -> Result<Vec<(u64, u64)>, AllocError> {
+    let mut all = Vec::with_capacity(alloc, 3)?;
+    for number in [CAPACITY as u64, BEYOND, BEYOND + 1] {
+        all.push((number, number))?;
+    }
+    Ok(all)
+}
+
+// The leaf has room for one pair, so the first of three goes in and the second, which is the first to take memory, is refused. A run that
+// gets its memory from elsewhere, as one without proof does, would show nothing, and fails.
+#[test]
+fn a_refused_extension_fills_the_leaf(rt: HostRuntime) -> Result<(), Fail> {
+    let mut map = multiples(rt.alloc(), 1, CAPACITY as u64, 1)?;
+    let items = three_pairs(rt.alloc())?;
+    let held = take_all_memory(rt.alloc())?;
+    let has_none = !has_memory(rt.alloc());
+    let done = extend(&mut map, items);
+    drop(held);
+    assert!(rt; has_none && matches!(done, Err(TryReserveError::AllocError)));
+    assert!(rt; has_up_to(&map, CAPACITY as u64));
     Ok(())
 }

@@ -9,7 +9,7 @@ use std::test::Fail;
 
 // How many levels a tree of so many pairs has at most: one, and one more for each h from 1 on with
 // `2 * LEAST_CHILDREN^h <= pairs + 1`.
-fn greatest_levels(pairs: u64) -> u64 {
+pub(crate) fn greatest_levels(pairs: u64) -> u64 {
     let mut levels = 1u64;
     let mut least = 2 * LEAST_CHILDREN;
     for _ in 0..10 {
