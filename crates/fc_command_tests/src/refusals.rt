@@ -1,5 +1,7 @@
 //! What refused commands leave of a world: the sweep refuses each request of these tests in turn.
-use crate::worlds::{Kind, counts, divided, has_value, holds, is_divided, lacks, puts_all, step};
+use crate::worlds::{
+    HALF, Kind, NUMBERS, counts, divided, has_value, holds, is_divided, lacks, puts_all, step,
+};
 use fc_base::TryReserveError;
 use fc_command::command::{Command, Items, Reply, SetOp, Side, World};
 use std::alloc::{AllocError, Global};
@@ -77,44 +79,52 @@ fn is_done_or_undone(
 #[test]
 fn a_refused_append_split_or_copy_changes_neither_map(rt: HostRuntime) {
     let maps = Kind::Maps;
-    assert!(rt; is_done_or_undone(rt.alloc(), maps, Command::Append(Side::First), 100, 0));
-    assert!(rt; is_done_or_undone(rt.alloc(), maps, Command::SplitOff(Side::First, 31), 16, 34));
-    assert!(rt; is_done_or_undone(rt.alloc(), maps, Command::TryClone(Side::First), 50, 50));
+    assert!(rt; is_done_or_undone(rt.alloc(), maps, Command::Append(Side::First), 2 * HALF, 0));
+    assert!(rt; is_done_or_undone(rt.alloc(), maps, Command::SplitOff(Side::First, 51), 26, 59));
+    assert!(rt; is_done_or_undone(rt.alloc(), maps, Command::TryClone(Side::First), HALF, HALF));
 }
 
 #[test]
 fn a_refused_append_split_or_copy_changes_neither_set(rt: HostRuntime) {
     let sets = Kind::Sets;
-    assert!(rt; is_done_or_undone(rt.alloc(), sets, Command::SetAppend(Side::First), 100, 0));
     assert!(rt;
         is_done_or_undone(
             rt.alloc(),
             sets,
-            Command::SetSplitOff(Side::First, 31),
-            16,
-            34
+            Command::SetAppend(Side::First),
+            2 * HALF,
+            0
         )
     );
-    assert!(rt; is_done_or_undone(rt.alloc(), sets, Command::SetClone(Side::First), 50, 50));
+    assert!(rt;
+        is_done_or_undone(
+            rt.alloc(),
+            sets,
+            Command::SetSplitOff(Side::First, 51),
+            26,
+            59
+        )
+    );
+    assert!(rt; is_done_or_undone(rt.alloc(), sets, Command::SetClone(Side::First), HALF, HALF));
 }
 
-// The numbers below 100, from 0 on, always 37 on, and round.
+// The numbers of a divided world, from 0 on, always 37 on, and round.
 fn scattered(place: u64) -> u64 {
-    place.wrapping_mul(37) % 100
+    place.wrapping_mul(37) % NUMBERS
 }
 
 // The scattered numbers, each with itself.
 fn more_pairs(alloc: Global) -> Result<Command<u64, u64>, AllocError> {
-    let mut items = Vec::with_capacity(alloc, 100)?;
-    for place in 0..100u64 {
+    let mut items = Vec::with_capacity(alloc, 2 * HALF)?;
+    for place in 0..NUMBERS {
         items.push((scattered(place), scattered(place)))?;
     }
     Ok(Command::Extend(Side::First, Items::from(items)))
 }
 
 fn more_items(alloc: Global) -> Result<Command<u64, u64>, AllocError> {
-    let mut items = Vec::with_capacity(alloc, 100)?;
-    for place in 0..100u64 {
+    let mut items = Vec::with_capacity(alloc, 2 * HALF)?;
+    for place in 0..NUMBERS {
         items.push(scattered(place))?;
     }
     Ok(Command::SetExtend(Side::First, Items::from(items)))
@@ -131,19 +141,19 @@ fn is_untouched(world: &mut World<u64, u64>, kind: Kind, number: u64) -> bool {
 
 // How many of the scattered numbers the first side has, each with itself, before one that is not there so.
 fn put_in(world: &mut World<u64, u64>, kind: Kind) -> u64 {
-    for place in 0..100u64 {
+    for place in 0..NUMBERS {
         let number = scattered(place);
         if !has_value(world, kind, Side::First, number, number) {
             return place;
         }
     }
-    100
+    NUMBERS
 }
 
 // Whether the first side of a divided world was extended by a front of the scattered numbers and by nothing else.
 fn is_extended_by_a_front(world: &mut World<u64, u64>, kind: Kind) -> bool {
     let front = put_in(world, kind);
-    for place in front..100u64 {
+    for place in front..NUMBERS {
         if !is_untouched(world, kind, scattered(place)) {
             return false;
         }
@@ -153,13 +163,13 @@ fn is_extended_by_a_front(world: &mut World<u64, u64>, kind: Kind) -> bool {
 
 // Whether the second side of a divided world is as it was.
 fn has_odd_ones(world: &mut World<u64, u64>, kind: Kind) -> bool {
-    for half in 0..50u64 {
+    for half in 0..HALF as u64 {
         let number = 2 * half + 1;
         if !has_value(world, kind, Side::Second, number, number * 10) {
             return false;
         }
     }
-    counts(world, kind, Side::Second, 50)
+    counts(world, kind, Side::Second, HALF)
 }
 
 // Whether the divided world is extended by all of the scattered numbers, or refused at one of them.
@@ -168,8 +178,8 @@ fn is_extended_or_refused(alloc: Global, kind: Kind, command: Command<u64, u64>)
         return true;
     };
     let is_answered = match outcome(&mut world, command) {
-        Fate::Carried => counts(&mut world, kind, Side::First, 100),
-        Fate::Refused => !counts(&mut world, kind, Side::First, 100),
+        Fate::Carried => counts(&mut world, kind, Side::First, 2 * HALF),
+        Fate::Refused => !counts(&mut world, kind, Side::First, 2 * HALF),
         Fate::Wrong => false,
     };
     is_answered && is_extended_by_a_front(&mut world, kind) && has_odd_ones(&mut world, kind)

@@ -132,10 +132,15 @@ fn side_of(number: u64) -> Side {
     }
 }
 
-/// The numbers below 100, the even ones on the first side and the odd ones on the second; or nothing, where one was refused.
+/// How many numbers a divided world has, in two halves: so many that either half, extended by all of them, gets a third level.
+pub(crate) const NUMBERS: u64 = 170;
+
+pub(crate) const HALF: usize = 85;
+
+/// The numbers of a divided world, the even ones on the first side and the odd ones on the second; or nothing, where one was refused.
 pub(crate) fn divided(alloc: Global, kind: Kind) -> Option<World<u64, u64>> {
     let mut world = World::new(alloc);
-    for number in 0..100u64 {
+    for number in 0..NUMBERS {
         if !puts(&mut world, kind, side_of(number), number) {
             return None;
         }
@@ -144,10 +149,10 @@ pub(crate) fn divided(alloc: Global, kind: Kind) -> Option<World<u64, u64>> {
 }
 
 pub(crate) fn is_divided(world: &mut World<u64, u64>, kind: Kind) -> bool {
-    for number in 0..100u64 {
+    for number in 0..NUMBERS {
         if !has(world, kind, side_of(number), number) {
             return false;
         }
     }
-    counts(world, kind, Side::First, 50) && counts(world, kind, Side::Second, 50)
+    counts(world, kind, Side::First, HALF) && counts(world, kind, Side::Second, HALF)
 }

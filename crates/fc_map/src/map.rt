@@ -39,7 +39,7 @@ pub use range_mut::RangeMut;
 use std::alloc::Global;
 use std::marker::Model;
 
-/// An ordered map: pairs in strictly ascending order of their keys, in a B-tree whose nodes hold 5 to 11 pairs. Only calls that
+/// An ordered map: pairs in strictly ascending order of their keys, in a B-tree whose nodes hold 7 to 15 pairs. Only calls that
 /// answer a `Result` take memory.
 #[derive(Drop)]
 pub struct BTreeMap<K: Ord, V> {

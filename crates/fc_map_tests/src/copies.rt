@@ -168,10 +168,10 @@ fn is_copied_at_last(map: &CountedMap<'_>, all: &[PairLives]) -> bool {
     matches!(is_copied(map, all), Ok(true)) && have_lived(all, 1, 1)
 }
 
-// Each request is refused in turn by the sweep.
+// Each request is refused in turn by the sweep: of the map, on three levels, and of its copy.
 #[test]
 fn a_refused_copy_is_dropped_and_leaves_its_source(rt: HostRuntime) {
-    let Ok(all) = fresh_lives(rt.alloc(), 100) else {
+    let Ok(all) = fresh_lives(rt.alloc(), 170) else {
         return;
     };
     {

@@ -3,8 +3,8 @@ use crate::map::{
     Drops, Tracked, TrackedKey, TrackedValue, fresh_drops, has_memory, take_all_memory,
     were_all_dropped, were_dropped,
 };
-use crate::numbers::{Numbers, has, multiples};
-use crate::sizes::CAPACITY;
+use crate::numbers::{Numbers, has, has_up_to, multiples};
+use crate::sizes::{BEYOND, CAPACITY};
 use fc_base::TryReserveError;
 use fc_map::map::BTreeMap;
 use fc_vec::TryFromIterator;
@@ -27,16 +27,16 @@ fn extend(map: &mut Numbers, pairs: Vec<(u64, u64)>) -> Result<(), TryReserveErr
     map.try_extend(pairs)
 }
 
-// Whether a map of the numbers below 50, each with its threefold, was extended by a front of the pairs 37 apart and by nothing else:
+// Whether a map of the numbers below 85, each with its threefold, was extended by a front of the pairs 37 apart and by nothing else:
 // the first new number that is not there was refused.
 fn is_extended_by_a_front(map: &Numbers) -> bool {
     let mut is_front = true;
-    for place in 0..100u64 {
-        let number = place.wrapping_mul(37) % 100;
+    for place in 0..170u64 {
+        let number = place.wrapping_mul(37) % 170;
         is_front = is_front && map.contains_key(&number);
         let is_right = if is_front {
             has(map, number, number)
-        } else if number < 50 {
+        } else if number < 85 {
             has(map, number, number.wrapping_mul(3))
         } else {
             !map.contains_key(&number)
@@ -48,29 +48,29 @@ fn is_extended_by_a_front(map: &Numbers) -> bool {
     true
 }
 
-// Whether as many pairs are there as an extension by 100 leaves: all, or fewer where the allocator refused.
+// Whether as many pairs are there as an extension by 170 leaves: all, or fewer where the allocator refused.
 fn is_told(done: Result<(), TryReserveError>, len: usize) -> bool {
     match done {
-        Ok(()) => len == 100,
-        Err(TryReserveError::AllocError) => len < 100,
+        Ok(()) => len == 170,
+        Err(TryReserveError::AllocError) => len < 170,
         Err(_other) => false,
     }
 }
 
-// Each request is refused in turn by the sweep.
+// Each request is refused in turn by the sweep. The extension makes a third level.
 #[test]
 fn a_refused_extension_keeps_the_items_before(rt: HostRuntime) {
-    let Ok(mut map) = multiples(rt.alloc(), 0, 50, 3) else {
+    let Ok(mut map) = multiples(rt.alloc(), 0, 85, 3) else {
         return;
     };
-    let Ok(items) = pairs(rt.alloc(), 100, 37) else {
+    let Ok(items) = pairs(rt.alloc(), 170, 37) else {
         return;
     };
     let done = extend(&mut map, items);
     assert!(rt; is_told(done, map.len()) && is_extended_by_a_front(&map));
 }
 
-// A pair for each that counts drops, of the numbers below 100, 37 apart and round.
+// A pair for each that counts drops, of the numbers below 170, 37 apart and round.
 fn tracked_pairs(
     alloc: Global,
     drops: &[Drops],
@@ -78,7 +78,7 @@ fn tracked_pairs(
     let mut all = Vec::with_capacity(alloc, drops.len())?;
     for (place, each) in drops.iter().enumerate() {
         let key = TrackedKey {
-            number: place.wrapping_mul(37) % 100,
+            number: place.wrapping_mul(37) % 170,
             drops: &each.key,
         };
         all.push((key, TrackedValue { drops: &each.value }))?;
@@ -92,7 +92,7 @@ fn has_the_front<'a>(map: &Tracked<'a>, drops: &[Drops], sought: &'a Cell<u64>) 
     for place in 0..drops.len() {
         let is_there = place < map.len();
         let key = TrackedKey {
-            number: place.wrapping_mul(37) % 100,
+            number: place.wrapping_mul(37) % 170,
             drops: sought,
         };
         let dropped = u64::from(!is_there);
@@ -114,7 +114,7 @@ fn extend_tracked<'a>(
 #[test]
 fn each_item_of_an_extension_is_dropped_once(rt: HostRuntime) {
     let sought = Cell::new(0);
-    let Ok(drops) = fresh_drops(rt.alloc(), 100) else {
+    let Ok(drops) = fresh_drops(rt.alloc(), 170) else {
         return;
     };
     {
@@ -142,7 +142,7 @@ fn is_made<'a>(
     sought: &'a Cell<u64>,
 ) -> bool {
     match made {
-        Ok(map) => map.len() == 100 && has_the_front(map, drops, sought),
+        Ok(map) => map.len() == 170 && has_the_front(map, drops, sought),
         Err(e) => matches!(e, TryReserveError::AllocError),
     }
 }
@@ -151,7 +151,7 @@ fn is_made<'a>(
 #[test]
 fn each_item_of_a_made_map_is_dropped_once(rt: HostRuntime) {
     let sought = Cell::new(0);
-    let Ok(drops) = fresh_drops(rt.alloc(), 100) else {
+    let Ok(drops) = fresh_drops(rt.alloc(), 170) else {
         return;
     };
     {
@@ -187,5 +187,29 @@ fn a_refused_extension_of_an_empty_map_keeps_a_leaf(rt: HostRuntime) -> Result<(
     drop(held);
     assert!(rt; has_none && matches!(done, Err(TryReserveError::AllocError)));
     assert!(rt; has_a_full_leaf(&map));
+    Ok(())
+}
+
+// The three numbers from that which fills a leaf on, each with itself.
+fn three_pairs(alloc: Global) -> Result<Vec<(u64, u64)>, AllocError> {
+    let mut all = Vec::with_capacity(alloc, 3)?;
+    for number in [CAPACITY as u64, BEYOND, BEYOND + 1] {
+        all.push((number, number))?;
+    }
+    Ok(all)
+}
+
+// The leaf has room for one pair, so the first of three goes in and the second, which is the first to take memory, is refused. A run that
+// gets its memory from elsewhere, as one without proof does, would show nothing, and fails.
+#[test]
+fn a_refused_extension_fills_the_leaf(rt: HostRuntime) -> Result<(), Fail> {
+    let mut map = multiples(rt.alloc(), 1, CAPACITY as u64, 1)?;
+    let items = three_pairs(rt.alloc())?;
+    let held = take_all_memory(rt.alloc())?;
+    let has_none = !has_memory(rt.alloc());
+    let done = extend(&mut map, items);
+    drop(held);
+    assert!(rt; has_none && matches!(done, Err(TryReserveError::AllocError)));
+    assert!(rt; has_up_to(&map, CAPACITY as u64));
     Ok(())
 }

@@ -19,6 +19,8 @@ mod neighbours;
 #[cfg(test)]
 mod numbers;
 #[cfg(test)]
+mod outwards;
+#[cfg(test)]
 mod queries;
 #[cfg(test)]
 mod refusals;

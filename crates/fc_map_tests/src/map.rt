@@ -69,11 +69,11 @@ fn taken_up_to(map: &mut Numbers, last: u64) -> Option<u64> {
     Some(last)
 }
 
-// Each request is refused in turn by the sweep.
+// Each request is refused in turn by the sweep. Of ascending numbers the 151st makes a third level.
 #[test]
 fn a_refused_insertion_leaves_every_pair(rt: HostRuntime) {
     let mut map = BTreeMap::new(rt.alloc());
-    let taken = taken_up_to(&mut map, 89);
+    let taken = taken_up_to(&mut map, 151);
     assert!(rt; taken.is_some_and(|taken| has_up_to(&map, taken)));
 }
 
@@ -107,8 +107,8 @@ pub(crate) fn has_memory(alloc: Global) -> bool {
     Vec::<u8>::with_capacity(alloc, 1).is_ok()
 }
 
-// Whether a map whose leaf has room for one number takes it and an old one, and refuses one more; and one of 88, whose first leaf
-// has room, takes a lower one.
+// Whether a map whose leaf has room for one number takes it and an old one, and refuses one more; and one of 150, whose first leaf has room,
+// takes a lower one.
 fn only_a_full_leaf_refuses(small: &mut Numbers, large: &mut Numbers) -> bool {
     matches!(insert(small, CAPACITY as u64, CAPACITY as u64), Ok(None))
         && matches!(insert(small, 5, 5), Ok(Some(5)))
@@ -123,11 +123,11 @@ fn only_a_full_leaf_refuses(small: &mut Numbers, large: &mut Numbers) -> bool {
 #[test]
 fn with_all_memory_refused_only_a_full_leaf_refuses(rt: HostRuntime) -> Result<(), Fail> {
     let mut small = multiples(rt.alloc(), 1, CAPACITY as u64, 1)?;
-    let mut large = multiples(rt.alloc(), 1, 89, 1)?;
+    let mut large = multiples(rt.alloc(), 1, 151, 1)?;
     let held = take_all_memory(rt.alloc())?;
     let is_right = !has_memory(rt.alloc()) && only_a_full_leaf_refuses(&mut small, &mut large);
     drop(held);
-    assert!(rt; is_right && has_up_to(&small, CAPACITY as u64) && large.len() == 89);
+    assert!(rt; is_right && has_up_to(&small, CAPACITY as u64) && large.len() == 151);
     Ok(())
 }
 
@@ -139,24 +139,24 @@ fn remove_reversed(map: &mut BTreeMap<Reverse<u64>, u64>, number: u64) -> bool {
     map.remove(&Reverse(number)) == Some(number)
 }
 
-// Whether the map has the numbers from 50 on below 100, each with itself.
+// Whether the map has the numbers from 100 on below 200, each with itself.
 fn has_upper_half(map: &BTreeMap<Reverse<u64>, u64>) -> bool {
-    for number in 0..100u64 {
+    for number in 0..200u64 {
         let found = map.get(&Reverse(number));
-        if found.is_some() != (number >= 50) || number >= 50 && !is_lent(found, number) {
+        if found.is_some() != (number >= 100) || number >= 100 && !is_lent(found, number) {
             return false;
         }
     }
-    map.len() == 50
+    map.len() == 100
 }
 
 #[test]
 fn keys_in_reversed_order(rt: HostRuntime) {
     let mut map = BTreeMap::new(rt.alloc());
-    for number in 0..100u64 {
+    for number in 0..200u64 {
         assert!(rt; insert_reversed(&mut map, number));
     }
-    for number in 0..50u64 {
+    for number in 0..100u64 {
         assert!(rt; remove_reversed(&mut map, number));
     }
     assert!(rt; has_upper_half(&map));
@@ -256,10 +256,10 @@ fn keeps_or_hands_back_each<'a>(map: &mut Tracked<'a>, drops: &'a [Drops]) -> bo
     true
 }
 
-// Takes thirty even ones out; whether each was dropped once.
+// Takes sixty even ones out; whether each was dropped once.
 fn drops_even_ones<'a>(map: &mut Tracked<'a>, drops: &[Drops], sought: &'a Cell<u64>) -> bool {
     for i in 0..drops.len() {
-        if i < 60 && i % 2 == 0 {
+        if i < 120 && i % 2 == 0 {
             remove_tracked(map, i, sought);
             if !were_dropped(&drops[i], 1, 1) {
                 return false;
@@ -269,10 +269,10 @@ fn drops_even_ones<'a>(map: &mut Tracked<'a>, drops: &[Drops], sought: &'a Cell<
     true
 }
 
-// Each request is refused in turn by the sweep. Each key and value is in the map or came back, once.
+// Each request is refused in turn by the sweep. Each key and value is in the map, of three levels, or came back, once.
 #[test]
 fn each_key_and_value_is_dropped_once(rt: HostRuntime) {
-    let Ok(drops) = fresh_drops(rt.alloc(), 100) else {
+    let Ok(drops) = fresh_drops(rt.alloc(), 170) else {
         return;
     };
     let sought = Cell::new(0);

@@ -75,13 +75,13 @@ fn are_all_next(map: &BTreeMap<u64, u64>, n: u64) -> bool {
     are_next(map, u64::MAX / 2, n)
 }
 
-// Up to 29 ascending pairs have one level or two, 89 have three, and 3000 have four.
+// Up to 39 ascending pairs have one level or two, 151 have three, and 3000 have four.
 #[test]
 fn neighbours_of_each_key_on_each_level(rt: HostRuntime) -> Result<(), Fail> {
-    for n in 0..30 {
+    for n in 0..40 {
         assert!(rt; are_all_next(&even(rt.alloc(), n)?, n));
     }
-    for n in 80..100 {
+    for n in 140..160 {
         assert!(rt; are_all_next(&even(rt.alloc(), n)?, n));
         assert!(rt; are_all_next(&even_from_last(rt.alloc(), n)?, n));
     }
@@ -112,13 +112,13 @@ pub(crate) fn tagged_below(
 // Keys equal to what is sought, but not the same: those of the map are answered, and an equal one is not passed over or taken for one behind.
 #[test]
 fn neighbours_are_the_keys_of_the_map(rt: HostRuntime) -> Result<(), Fail> {
-    let map = tagged_below(rt.alloc(), 91)?;
-    for number in 1..91 {
+    let map = tagged_below(rt.alloc(), 153)?;
+    for number in 1..153 {
         let letter = 'b';
         let key = Tagged { number, letter };
         assert!(rt; is_tagged(map.first_at_or_after(&key), number));
         assert!(rt; is_tagged(map.last_at_or_before(&key), number));
-        assert!(rt; is_tagged(map.first_after(&key), number.wrapping_add(1) % 91));
+        assert!(rt; is_tagged(map.first_after(&key), number.wrapping_add(1) % 153));
         assert!(rt; is_tagged(map.last_before(&key), number.wrapping_sub(1)));
     }
     Ok(())
@@ -158,26 +158,26 @@ fn costs_a_look_up<'a>(map: &BTreeMap<CountingKey<'a>, u64>, key: &CountingKey<'
     is_first && is_second && is_third && made.get() == of_one.wrapping_mul(5)
 }
 
-// Of 89 ascending keys, the search for the last passes 11, and one beyond it no less.
+// Of 151 ascending keys, the search for the last passes 15, and one beyond it no less.
 #[test]
 fn neighbours_cost_a_look_up(rt: HostRuntime) -> Result<(), Fail> {
     let made = Cell::new(0);
     let comparisons = &made;
-    let map = ascending(rt.alloc(), 89, comparisons)?;
-    for number in 0..92 {
+    let map = ascending(rt.alloc(), 151, comparisons)?;
+    for number in 0..154 {
         let key = CountingKey {
             number,
             comparisons,
         };
         assert!(rt; costs_a_look_up(&map, &key));
     }
-    let number = 89;
+    let number = 151;
     let key = CountingKey {
         number,
         comparisons,
     };
     comparisons.set(0);
-    assert!(rt; map.first_after(&key).is_none() && comparisons.get() == 11);
+    assert!(rt; map.first_after(&key).is_none() && comparisons.get() == 15);
     Ok(())
 }
 
@@ -196,26 +196,26 @@ fn are_next_texts(map: &BTreeMap<String, u64>, text: &str, wanted: [&str; 4]) ->
         && is_text(map.first_after(text), wanted[3])
 }
 
-fn twelve_texts(alloc: Global) -> Result<BTreeMap<String, u64>, TryReserveError> {
+fn sixteen_texts(alloc: Global) -> Result<BTreeMap<String, u64>, TryReserveError> {
     let mut map = BTreeMap::new(alloc);
     for text in [
-        "a", "ab", "b", "c", "e", "f", "g", "h", "i", "j", "k", "word",
+        "a", "ab", "b", "c", "e", "f", "g", "h", "i", "j", "k", "l", "m", "n", "o", "word",
     ] {
         map.try_insert(String::from_str(alloc, text)?, 1)?;
     }
     Ok(map)
 }
 
-// A text comes behind its own beginnings.
+// A text comes behind its own beginnings. Sixteen texts stand on two levels of nodes.
 #[test]
 fn texts_are_sought_by_slices(rt: HostRuntime) -> Result<(), Fail> {
-    let map = twelve_texts(rt.alloc())?;
+    let map = sixteen_texts(rt.alloc())?;
     assert!(rt; are_next_texts(&map, "", ["-", "-", "a", "a"]));
     assert!(rt; are_next_texts(&map, "a", ["-", "a", "a", "ab"]));
     assert!(rt; are_next_texts(&map, "aa", ["a", "a", "ab", "ab"]));
     assert!(rt; are_next_texts(&map, "ab", ["a", "ab", "ab", "b"]));
     assert!(rt; are_next_texts(&map, "d", ["c", "c", "e", "e"]));
-    assert!(rt; are_next_texts(&map, "word", ["k", "word", "word", "-"]));
+    assert!(rt; are_next_texts(&map, "word", ["o", "word", "word", "-"]));
     assert!(rt; are_next_texts(&map, "words", ["word", "word", "-", "-"]));
     Ok(())
 }

@@ -34,9 +34,9 @@ pub(crate) fn has(map: &Numbers, number: u64, value: u64) -> bool {
     is_lent(map.get(&number), value)
 }
 
-// Whether the map has the numbers from 1 to the last, each with itself, and nothing else below 100.
+// Whether the map has the numbers from 1 to the last, each with itself, and nothing else below 200.
 pub(crate) fn has_up_to(map: &Numbers, last: u64) -> bool {
-    for number in 0..100u64 {
+    for number in 0..200u64 {
         let is_there = 1 <= number && number <= last;
         if map.contains_key(&number) != is_there || is_there && !has(map, number, number) {
             return false;

@@ -20,7 +20,7 @@ pub record Sifting (T : Type 0) : Type 0 where
   pub looks_up : Bool
 
 module _ {T : Type 0} where
-  -- The items of the first are looked up in a second that is at least sixteen times as long. Else both are walked.
+  -- The items of the first are looked up in a second that is at least sixteen times as long, by number, as it is no size of a node. Else both are walked.
   abbrev pub begin_sifting : List T → List T → Sifting T
   begin_sifting s t = record { left = s; right = t; looks_up = nat_le (length s) (length t / 16) }
 

@@ -32,7 +32,7 @@ use std::marker::Model;
 pub use symmetric_difference::SymmetricDifference;
 pub use union::Union;
 
-/// An ordered set: items in strictly ascending order, as the keys of a `BTreeMap`, in a B-tree whose nodes hold 5 to 11 of them. Only
+/// An ordered set: items in strictly ascending order, as the keys of a `BTreeMap`, in a B-tree whose nodes hold 7 to 15 of them. Only
 /// calls that answer a `Result` take memory. Upstream: `BTreeSet`.
 #[derive(Drop)]
 pub struct BTreeSet<T: Ord> {

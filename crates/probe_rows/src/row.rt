@@ -4,7 +4,7 @@ use std::str::SplitWhitespace;
 /// So many words behind the name are read.
 pub const WORDS: usize = 8;
 
-// The names of the rows that each part answers, which knows a row by its place among them.
+// The names of the rows that each of the parts, eight by number, answers, which knows a row by its place among them.
 const NAMES: [&str; 8] = [
     "insert get pair index set remove removes query query_remove first last pop_first pop_last look_ups",
     "tally modify or_with entry_dropped",

@@ -31,20 +31,20 @@ fn all_memory(alloc: Global) -> Result<Vec<Vec<u8>>, AllocError> {
 #[test]
 fn an_insertion_without_memory_leaves_the_map(rt: HostRuntime) -> Result<(), Fail> {
     let mut map = BTreeMap::new(rt.alloc());
-    for key in 0..11u64 {
+    for key in 0..15u64 {
         map.try_insert(key, key)?;
     }
     let held = all_memory(rt.alloc())?;
     assert!(rt; Vec::<u8>::with_capacity(rt.alloc(), 24).is_err()); // else nothing is shown below, as by `rt try`
     assert!(rt;
         matches!(
-            map.try_insert(11, 12),
-            Err((11, 12, TryReserveError::AllocError))
+            map.try_insert(15, 16),
+            Err((15, 16, TryReserveError::AllocError))
         )
     );
-    assert!(rt; map.len() == 11 && map.get(&11).is_none());
+    assert!(rt; map.len() == 15 && map.get(&15).is_none());
     drop(held);
-    assert!(rt; matches!(map.try_insert(11, 12), Ok(None)));
+    assert!(rt; matches!(map.try_insert(15, 16), Ok(None)));
     Ok(())
 }
 
@@ -69,7 +69,9 @@ fn a_refused_word_comes_back_and_is_counted_once_there_is_room(
 fn each_word_is_counted_or_the_counts_stay(rt: HostRuntime) -> Result<(), Fail> {
     let mut counts = BTreeMap::new(rt.alloc());
     let mut set_aside = TryVec::new(rt.alloc());
-    for word in ["a", "b", "c", "d", "e", "f", "g", "h", "i", "j", "k", "l"] {
+    for word in [
+        "a", "b", "c", "d", "e", "f", "g", "h", "i", "j", "k", "l", "m", "n", "o", "p",
+    ] {
         let before = counts.len();
         let is_counted = count_word(&mut counts, &mut set_aside, rt.alloc(), word).is_ok();
         assert!(rt; (counts.len() > before) == is_counted);

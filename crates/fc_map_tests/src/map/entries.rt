@@ -135,13 +135,13 @@ impl Ord for CountingKey<'_> {
 
 type Counted<'a> = BTreeMap<CountingKey<'a>, u64>;
 
-// A map of the numbers from 1 to 89, each with itself.
-fn eighty_nine<'a>(
+// A map of the numbers from 1 to 151, each with itself: three levels.
+fn three_levels<'a>(
     alloc: Global,
     comparisons: &'a Cell<u64>,
 ) -> Result<Counted<'a>, TryReserveError> {
     let mut map = BTreeMap::new(alloc);
-    for below in 0..89u64 {
+    for below in 0..151u64 {
         let key = CountingKey {
             number: below + 1,
             comparisons,
@@ -162,8 +162,8 @@ fn look_up<'a>(map: &Counted<'a>, key: &CountingKey<'a>) -> (u64, bool) {
 #[test]
 fn an_entry_compares_in_its_search_alone(rt: HostRuntime) -> Result<(), Fail> {
     let comparisons = Cell::new(0);
-    for number in 0..91u64 {
-        let mut map = eighty_nine(rt.alloc(), &comparisons)?;
+    for number in 0..153u64 {
+        let mut map = three_levels(rt.alloc(), &comparisons)?;
         let key = CountingKey {
             number,
             comparisons: &comparisons,
@@ -243,7 +243,7 @@ fn a_refused_entry_calls_its_closure_once_and_hands_its_value_back(
 
 // Whether a map has the numbers from 1 to the last, and nothing else.
 fn has_tracked_up_to<'a>(map: &Tracked<'a>, last: usize, sought: &'a Cell<u64>) -> bool {
-    for number in 1..100 {
+    for number in 1..200 {
         let key = TrackedKey {
             number,
             drops: sought,
@@ -280,7 +280,7 @@ fn leaves_every_pair(alloc: Global, last: usize) -> Result<bool, TryReserveError
 // Each request is refused in turn by the sweep.
 #[test]
 fn a_refused_entry_leaves_every_pair(rt: HostRuntime) -> Result<(), Fail> {
-    for last in [CAPACITY, CAPACITY + 1, 88] {
+    for last in [CAPACITY, CAPACITY + 1, 150] {
         assert!(rt; leaves_every_pair(rt.alloc(), last)?);
     }
     Ok(())

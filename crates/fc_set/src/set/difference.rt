@@ -149,6 +149,7 @@ impl<T: Ord> BTreeSet<T> {
         ensures sides { result ≡ begin_sifting (items self.now) (items other.now) }
         ensures ascending { AreAscending T.cmp (items self.now) × AreAscending T.cmp (items other.now) }
     {
+        // A sixteenth, by number: it is no size of a node.
         let walks_both = self.len() > other.len() / 16;
         Difference {
             ours: self.iter(),

@@ -143,6 +143,7 @@ impl<T: Ord> BTreeSet<T> {
 fn in_longer<'a, T: Ord>(shorter: &'a BTreeSet<T>, longer: &'a BTreeSet<T>) -> Intersection<'a, T>
     ensures { result ≡ begin_sifting (items shorter.now) (items longer.now) }
 {
+    // A sixteenth, by number: it is no size of a node.
     let walks_both = shorter.len() > longer.len() / 16;
     Intersection {
         ours: shorter.iter(),
