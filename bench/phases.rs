@@ -6,7 +6,7 @@ use std::ffi::{c_int, c_long, c_void};
 use std::fs;
 use std::ptr;
 
-/// What a job asks for where a phase ends, as `mark` of the crate `bench_map` does.
+/// What a job asks for where a phase ends, as `mark` of the crate `bench_jobs` does.
 pub const MARK: usize = 1 << 62;
 const MOST: usize = 8;
 // Not the clock of processor time: a guest's kernel takes the time that another guest stole off that one, at times in a later phase

@@ -55,7 +55,7 @@ pub fn add(
     requires new { IfSome back (λ _. at nat_cmp (entries spans.old) span.end ≡ None) }
     requires ascending { IsAscending nat_cmp (entries spans.old) }
     ensures ok { OnOk result (entries spans.new ≡ put nat_cmp (with_back (entries spans.old) span.end back) start span) }
-    ensures err { OnErr result (entries spans.new ≡ entries spans.old) }
+    ensures unchanged { OnErr result (entries spans.new ≡ entries spans.old) }
 {
     let Some((_, rest)) = back else {
         spans.try_insert(start, span)?;

@@ -67,7 +67,7 @@ impl Timers {
     pub fn try_add(&mut self, id: u64, due: u64) -> Result<(), NotSet>
         ensures added { OnOk result (self.new ≡ with_item timer_cmp self.old (due, id)) }
         ensures free { OnOk result (IsFree self.old id) }
-        ensures refused { IfErr result (λ e. e ≡ NotSet.InUse → ¬ (IsFree self.old id)) }
+        ensures in_use { IfErr result (λ e. e ≡ NotSet.InUse → ¬ (IsFree self.old id)) }
         ensures back { IfErr result (GivesBack (due, id)) }
         ensures unchanged { OnErr result (self.new ≡ self.old) }
     {

@@ -20,7 +20,7 @@ use Rattle.fc_base.specs.Query.{IsQueryOrder}
 use Rattle.fc_base.specs.Ranges.{within}
 use Rattle.fc_base.proofs.AscendingFacts.{all_map, all_below, all_above, at_key, asc_filter}
 use Rattle.fc_base.proofs.Laws.{alike_query}
-use Rattle.fc_search.specs.Neighbours.{first_item, last_item, not_above}
+use Rattle.fc_tree_search.specs.Neighbours.{first_item, last_item, not_above}
 
 -- a test that another one is joined to which always passes
 and_true : (b : Bool) → (b && true) ≡ b

@@ -8,15 +8,15 @@ pub use Rattle.fc_base.specs.Ranges.{bound_now, starts, stops, is_range, within}
 pub use Rattle.fc_base.specs.Growth.{growth_error, MayGrowRefuse, append_error, MayAppendRefuse}
 pub use Rattle.fc_base.specs.Joined.{placed, joined}
 pub use Rattle.fc_base.specs.Halves.{not_below}
-pub use Rattle.fc_search.specs.Neighbours.{not_above, first_item, last_item}
+pub use Rattle.fc_tree_search.specs.Neighbours.{not_above, first_item, last_item}
 pub use Rattle.fc_base.specs.Extended.{extended, IsExtendedUpTo}
 pub use Rattle.fc_base.specs.Copies.{IsExact, SameContents, MayRefuseCopies, MayRefusePair}
 pub use Rattle.fc_base.specs.Boxed.{boxed_value}
-pub use Rattle.fc_copy.specs.Copy.{AreSame}
+pub use Rattle.fc_tree_copy.specs.Copy.{AreSame}
 -- the items of an iterator
 pub use Rattle.fc_vec.specs.Items.{GivesAll, GivesFirst}
 -- vectors, and reading into them
-pub use Rattle.fc_vec.specs.Vectors.{Vector, MayRefuse, resized, IsExtended, IsFilled, IsExtendedUpTo as IsCopiedUpTo}
+pub use Rattle.fc_vec.specs.Vectors.{Vector, MayRefuse, resized, IsExtended, IsFilled, IsCopiedUpTo}
 pub use Rattle.fc_vec.specs.Joined.{joined as joined_parts}
 pub use Rattle.fc_vec.specs.Lends.{with_items, lends_slice, lends_walk}
 pub use Rattle.fc_read.specs.Reading.{front, IsMoved, IsWhole}
@@ -30,7 +30,7 @@ pub use Rattle.fc_map.specs.Entry.{entry_map, entry_map_ref, entry_key, entry_pa
 pub use Rattle.fc_map.specs.Walks.{deref_pair, keys_of, values_of}
 pub use Rattle.fc_map.specs.Writing.{Stretch, whole, starting, wrote_first, wrote_last, wrote, wrote_all, set_value}
 pub use Rattle.fc_map.specs.Stretches.{range_map_ref, stretch, iter_map_ref, iter_stretch, IsFirstValue, IsLastValue, IsFirstPair, IsLastPair, CalledAtPair, IsVisitedIn}
-pub use Rattle.fc_visit.specs.Visits.{VisitsInTurn}
+pub use Rattle.fc_tree_visit.specs.Visits.{VisitsInTurn}
 pub use Rattle.fc_map.specs.Compare.{pair_eq, pair_cmp, pair_partial_cmp, pair_input}
 -- sets
 pub use Rattle.fc_set.specs.Items.{items, item_at, smaller, greater, not_smaller, without, AreAscending, with_item, with_replaced, items_within, joined_items, extended_items, AreExtendedUpTo}

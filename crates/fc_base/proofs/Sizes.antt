@@ -1,6 +1,6 @@
 -- How the sizes of a tree hang together: what holds for these numbers, and would not for any.
 use Rattle.std.proofs.Common.{◌≡◌, ◌+◌, ◌*◌, ◌^◌, ◌<◌, ◌≤◌, refl, lit<, lit≤}
-use Rattle.fc_base.specs.Sizes.{capacity, min_len, most_children, least_children, most_levels, most_height, level_comparisons, level_moves, split_moves_most}
+use Rattle.fc_base.specs.Sizes.{capacity, min_len, most_children, least_children, most_levels, most_height, level_comparisons, level_moves, most_split_moves}
 
 -- A full node and one pair more are a pair between two halves, one of which has the fewest pairs and the other one more.
 pub two_halves : capacity + 1 ≡ min_len + 1 + (min_len + 1)
@@ -30,7 +30,7 @@ pub pairs_compared : capacity ≤ level_comparisons
 pairs_compared = lit≤ tt
 
 -- A split moves at most each pair and the new one.
-pub moves_of_split : split_moves_most ≡ capacity + 1
+pub moves_of_split : most_split_moves ≡ capacity + 1
 moves_of_split = refl
 
 -- A merge moves at most the node's own pairs, those of the child on the right, and the one between. Where one child is a pair too short, the other has at most

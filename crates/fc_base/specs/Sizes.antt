@@ -34,5 +34,5 @@ abbrev pub level_moves : ℕ
 level_moves = 24
 
 -- The most moves of an insertion at a node that it splits.
-abbrev pub split_moves_most : ℕ
-split_moves_most = 16
+abbrev pub most_split_moves : ℕ
+most_split_moves = 16

@@ -1,6 +1,6 @@
 //! Boxes that are made or refused.
 ghost use Rattle.std.specs.Prelude.{◌≡◌, ◌⊎◌, IfOk, IfErr};
-ghost use Rattle.fc_base.specs.declared.try_reserve_error.TryReserveError.TheVariants.{AllocError as NoMemory};
+ghost use Rattle.fc_base.specs.declared.try_reserve_error.TryReserveError.{TryReserveError};
 ghost use Rattle.fc_base.specs.Boxed.{boxed_value};
 
 use crate::{TryClone, TryReserveError};
@@ -18,7 +18,7 @@ pub trait FallibleBox<T> {
     /// `AllocError` if the memory for it is refused. The value is then dropped. A value of no size takes no memory.
     fn try_new(alloc: Global, t: T) -> Result<Self, TryReserveError>
         ensures ok { IfOk result (λ b. holds b t) }
-        ensures err { IfErr result (λ e. e ≡ TryReserveError.AllocError) };
+        ensures error { IfErr result (λ e. e ≡ TryReserveError.AllocError) };
 }
 
 impl<T: Drop> FallibleBox<T> for Box<T> {
@@ -45,7 +45,7 @@ impl<T> TryBox<T> {
     where
         T: Drop,
         ensures ok { IfOk result (λ b. boxed_value b ≡ t) }
-        ensures err { IfErr result (λ e. e ≡ TryReserveError.AllocError) }
+        ensures error { IfErr result (λ e. e ≡ TryReserveError.AllocError) }
     {
         let inner = Box::try_new(alloc, t)?;
         Ok(TryBox { inner })
@@ -73,7 +73,7 @@ impl<T: TryClone> TryClone for TryBox<T> {
 
     ghost can_clone = { T.can_clone };
 
-    ghost may_refuse = { λ source e. (e ≡ NoMemory) ⊎ T.may_refuse (boxed_value source) e };
+    ghost may_refuse = { λ source e. (e ≡ TryReserveError.AllocError) ⊎ T.may_refuse (boxed_value source) e };
 
     fn try_clone(&self) -> Result<TryBox<T>, TryReserveError> {
         let inner = self.inner.try_clone()?;

@@ -1,7 +1,7 @@
 //! Counts of comparisons and moves, for proofs alone: a `Count` has no bytes.
 //!
 //! What adds to a count is a call in this module. Only `compare` adds a comparison, since the function that both numbers
-//! grow by is private. `add_moves` is public because lists are in another crate: only the modules `cells` and `slots` of `fc_slots`
+//! grow by is private. `add_moves` is public because lists are in another crate: only the modules `cells` and `slots` of `fc_tree_slots`
 //! may call it, and the gate searches the sources for any other caller.
 ghost use Rattle.std.specs.Prelude.{◌≡◌, ℕ, ◌+◌};
 ghost use Rattle.std.specs.Borrow.{ftrue};
@@ -37,7 +37,7 @@ impl Count {
         ensures { (self.new.comparisons ≡ self.old.comparisons + comparisons) × (self.new.moves ≡ self.old.moves + moves) }
     {}
 
-    /// Adds moves. Only the modules `cells` and `slots` of `fc_slots` may do so.
+    /// Adds moves. Only the modules `cells` and `slots` of `fc_tree_slots` may do so.
     pub fn add_moves(&mut self, moves: usize)
         ensures comparisons { self.new.comparisons ≡ self.old.comparisons }
         ensures moves { self.new.moves ≡ self.old.moves + moves }

@@ -16,7 +16,7 @@ pub trait FallibleRc<T> {
     /// `AllocError` if the memory for it is refused. The value is then dropped.
     fn try_new(alloc: Global, t: T) -> Result<Self, TryReserveError>
         ensures ok { IfOk result (λ rc. holds rc t) }
-        ensures err { IfErr result (λ e. e ≡ TryReserveError.AllocError) };
+        ensures error { IfErr result (λ e. e ≡ TryReserveError.AllocError) };
 }
 
 impl<T: Drop> FallibleRc<T> for Rc<T> {

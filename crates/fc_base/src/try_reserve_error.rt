@@ -1,6 +1,6 @@
 //! Why a growth was refused.
 ghost use Rattle.std.specs.Prelude.{◌≡◌};
-ghost use Rattle.fc_base.specs.declared.try_reserve_error.TryReserveError.TheVariants.{AllocError as NoMemory};
+ghost use Rattle.fc_base.specs.declared.try_reserve_error.TryReserveError.{TryReserveError};
 
 use std::alloc::{AllocError, AllocFailed};
 use std::error::Error;
@@ -30,7 +30,7 @@ impl Error for TryReserveError {}
 
 /// A refused request is `AllocError`, so `?` converts std's refusals.
 impl From<AllocError> for TryReserveError {
-    ghost from_gives = { λ _ e. e ≡ NoMemory };
+    ghost from_gives = { λ _ e. e ≡ TryReserveError.AllocError };
 
     fn from(_e: AllocError) -> TryReserveError {
         TryReserveError::AllocError
@@ -39,7 +39,7 @@ impl From<AllocError> for TryReserveError {
 
 /// A refused request is `AllocError`; the value that found no room is dropped.
 impl<T: Drop> From<AllocFailed<T>> for TryReserveError {
-    ghost from_gives = { λ _ e. e ≡ NoMemory };
+    ghost from_gives = { λ _ e. e ≡ TryReserveError.AllocError };
 
     fn from(_e: AllocFailed<T>) -> TryReserveError {
         TryReserveError::AllocError

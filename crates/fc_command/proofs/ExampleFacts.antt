@@ -9,7 +9,7 @@ use Rattle.fc_lines.specs.declared.command.Side.TheVariants.{First, Second}
 use Rattle.fc_lines.specs.declared.command.End.TheVariants.{Front, Back}
 use Rattle.fc_lines.specs.declared.command.Command.TheVariants.{Insert, Get, Remove, Len as CountPairs, Walk, Write, Append, SplitOff, TryClone, Extend}
 use Rattle.fc_lines.specs.declared.command.Reply.TheVariants.{Done, Value, Len, Pairs, BadRange}
-use Rattle.fc_command.specs.Step.{answer, MayRefuse, MayStop}
+use Rattle.fc_command.specs.Step.{answer, MayRefuseCommand, MayStop}
 use Rattle.fc_map.specs.Writing.{wrote}
 
 -- The answers to six commands, on the lists of two maps that are empty at first.
@@ -48,5 +48,5 @@ module _ {K V : Type 0} (cmp : K → K → Ordering) (refuses_key : K → TryRes
   put_in_turn : (k : K) (v : V) (pairs : List (K × V)) → answer cmp (Extend side ((k, v) ∷ pairs)) m o ≡ answer cmp (Extend side pairs) (answer cmp (Insert side k v) m o).m o
   put_in_turn k v pairs = refl
 
-  stopped_in_turn : (pairs m' : List (K × V)) (e : TryReserveError) (s : MayStop cmp (Extend side pairs) m m' e) → (m' ≡ (answer cmp (Extend side s.front) m o).m) × MayRefuse cmp refuses_key refuses_value (Insert side s.item.0 s.item.1) m' o e
+  stopped_in_turn : (pairs m' : List (K × V)) (e : TryReserveError) (s : MayStop cmp (Extend side pairs) m m' e) → (m' ≡ (answer cmp (Extend side s.front) m o).m) × MayRefuseCommand cmp refuses_key refuses_value (Insert side s.item.0 s.item.1) m' o e
   stopped_in_turn pairs m' e s = (s.put_in, (s.new_key, s.error))

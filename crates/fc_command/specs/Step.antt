@@ -17,7 +17,7 @@ use Rattle.fc_command.specs.declared.command.world.World.{World}
 use Rattle.fc_lines.specs.declared.command.Side.{Side}
 use Rattle.fc_lines.specs.declared.command.Target.{Target}
 use Rattle.fc_lines.specs.declared.command.Target.TheVariants.{OnMap, OnSet}
-use Rattle.fc_lines.specs.Sides.{target_of}
+use Rattle.fc_lines.specs.Targets.{target_of}
 use Rattle.fc_lines.specs.declared.command.Side.TheVariants.{First, Second}
 use Rattle.fc_lines.specs.declared.command.Command.{Command}
 use Rattle.fc_lines.specs.declared.command.Command.TheVariants.{Insert, Get, GetKeyValue, ContainsKey, Remove, Set, Entry, RemoveEntry, Len as CountPairs, Clear, Walk, Write, Append, SplitOff, TryClone, Extend}
@@ -107,22 +107,22 @@ module _ {K V : Type 0} (cmp : K → K → Ordering) (refuses_key : K → TryRes
   -- Whether a command may be refused and change nothing, and by which error, given by which one a copy of a key or of a value may be: an
   -- insertion at a new key, where the map is empty or has enough pairs to fill a leaf, a copy of what was found, or the room for copies,
   -- an append where neither map is empty, and a split and a copy of a map that is not empty.
-  abbrev pub MayRefuse : Command K V → List (K × V) → List (K × V) → TryReserveError → Type 0
-  MayRefuse (Insert side k v) m o e = (at cmp m k ≡ None) × MayGrowRefuse (length m) e
-  MayRefuse (Get side k) m o e = MayRefuseFound refuses_value (value_at cmp m k) e
-  MayRefuse (GetKeyValue side k) m o e = MayRefuseFound (MayRefusePair refuses_key refuses_value) (at cmp m k) e
-  MayRefuse (Entry side k v w) m o e = (at cmp m k ≡ None) × MayGrowRefuse (length m) e
-  MayRefuse (Walk side lo hi ends) m o e = IsTrue (is_range cmp lo hi) × MayRefuseCopies (MayRefuseFound (MayRefusePair refuses_key refuses_value)) (walked (within cmp lo hi m) ends) e
-  MayRefuse (Append side) m o e = MayAppendRefuse (length m) (length o) e
-  MayRefuse (SplitOff side k) m o e = (e ≡ AllocError) × (0 < length m)
-  MayRefuse (TryClone side) m o e = MayRefuseCopies (MayRefusePair refuses_key refuses_value) m e
-  MayRefuse c m o e = ⊥
+  abbrev pub MayRefuseCommand : Command K V → List (K × V) → List (K × V) → TryReserveError → Type 0
+  MayRefuseCommand (Insert side k v) m o e = (at cmp m k ≡ None) × MayGrowRefuse (length m) e
+  MayRefuseCommand (Get side k) m o e = MayRefuseFound refuses_value (value_at cmp m k) e
+  MayRefuseCommand (GetKeyValue side k) m o e = MayRefuseFound (MayRefusePair refuses_key refuses_value) (at cmp m k) e
+  MayRefuseCommand (Entry side k v w) m o e = (at cmp m k ≡ None) × MayGrowRefuse (length m) e
+  MayRefuseCommand (Walk side lo hi ends) m o e = IsTrue (is_range cmp lo hi) × MayRefuseCopies (MayRefuseFound (MayRefusePair refuses_key refuses_value)) (walked (within cmp lo hi m) ends) e
+  MayRefuseCommand (Append side) m o e = MayAppendRefuse (length m) (length o) e
+  MayRefuseCommand (SplitOff side k) m o e = (e ≡ AllocError) × (0 < length m)
+  MayRefuseCommand (TryClone side) m o e = MayRefuseCopies (MayRefusePair refuses_key refuses_value) m e
+  MayRefuseCommand c m o e = ⊥
 
   -- A command on the named map m and the other map o is answered by the table, or it is refused and changes nothing, or it is refused
   -- when a part of it is done.
   pub data StepOn (c : Command K V) (m o : Map K V) (r : Reply K V) (m' o' : Map K V) : Type 0 where
     answered : (MustRefuse cmp c (entries m) (entries o) → ⊥) → (let out = answer cmp c (entries m) (entries o) in (r ≡ out.reply) × (entries m' ≡ out.m) × (entries o' ≡ out.o)) → StepOn c m o r m' o'
-    refused : (e : TryReserveError) → MayRefuse c (entries m) (entries o) e → (r ≡ refusal c e) × (m' ≡ m) × (o' ≡ o) → StepOn c m o r m' o'
+    refused : (e : TryReserveError) → MayRefuseCommand c (entries m) (entries o) e → (r ≡ refusal c e) × (m' ≡ m) × (o' ≡ o) → StepOn c m o r m' o'
     stopped : (e : TryReserveError) → MayStop cmp c (entries m) (entries m') e → (r ≡ Refused e) × (o' ≡ o) → StepOn c m o r m' o'
 
   -- A command on what it names may lead from one world to another with this reply. The maps or sets of the other kind are as before.

@@ -2,7 +2,6 @@
 #![tactic(auto)]
 
 ghost use Rattle.std.specs.Prelude.{◌≡◌, IfOk, IfErr, IfSome, string_bytes};
-ghost use Rattle.fc_base.specs.declared.try_reserve_error.TryReserveError.TheVariants.{AllocError as NoMemory};
 
 use fc_base::TryReserveError;
 use std::alloc::Global;
@@ -21,7 +20,7 @@ pub fn try_format<T: Display>(
     value: &T,
 ) -> Result<String, TryReserveError>
     ensures text { IfOk result (λ s. IfSome (T.output value.now) (λ bytes. string_bytes s ≡ bytes)) }
-    ensures refused { IfErr result (λ e. e ≡ NoMemory) }
+    ensures error { IfErr result (λ e. e ≡ TryReserveError.AllocError) }
 {
     let mut text = String::with_capacity(alloc, max_capacity)?;
     text.write(value)?;

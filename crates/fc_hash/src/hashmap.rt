@@ -1,7 +1,6 @@
 //! A map by the hashes of its keys.
 ghost use Rattle.std.specs.Prelude.{◌≡◌, ◌+◌, ◌<◌, ◌≤◌, [], length, None, Some, Option, if◌then◌else◌, IfOk, OnOk, IfErr, IsOk};
 ghost use Rattle.std.specs.Option.{option_copied};
-ghost use Rattle.fc_base.specs.declared.try_reserve_error.TryReserveError.TheVariants.{AllocError as NoMemory};
 ghost use Rattle.fc_hash.specs.Pairs.{IsMap, value_at, IsPut, IsTaken};
 
 mod copy;
@@ -57,7 +56,7 @@ impl<K: Eq + Hash, V> TryHashMap<K, V> {
         ensures pairs { IfOk result (λ m. m.pairs ≡ []) }
         ensures spare { IfOk result (λ m. capacity ≤ m.spare) }
         ensures none { capacity ≡ 0 → IsOk result }
-        ensures refused { IfErr result (λ e. e ≡ NoMemory) }
+        ensures error { IfErr result (λ e. e ≡ TryReserveError.AllocError) }
     {
         if capacity == 0 {
             return Ok(TryHashMap::default(alloc));
@@ -96,7 +95,7 @@ impl<K: Eq + Hash, V> TryHashMap<K, V> {
         ensures map { IsMap K.eq self.new.pairs }
         ensures fits { 0 < self.old.spare → IsOk result }
         ensures kept { self.old.spare ≤ self.new.spare + 1 }
-        ensures refused { IfErr result (λ e. (self.old.spare ≡ 0) × (value_at K.eq key self.old.pairs ≡ None) × (e ≡ NoMemory) × (self.new.pairs ≡ self.old.pairs)) }
+        ensures error { IfErr result (λ e. (self.old.spare ≡ 0) × (value_at K.eq key self.old.pairs ≡ None) × (e ≡ TryReserveError.AllocError) × (self.new.pairs ≡ self.old.pairs)) }
     {
         let old = self.inner.insert(key, value)?;
         Ok(old)

@@ -2,13 +2,13 @@
 ghost use Rattle.std.specs.Prelude.{◌≡◌, ◌^◌, ◌<◌, length, IfSome, Some};
 ghost use Rattle.std.specs.Iterator.{YieldsFirst, YieldsLast, item_count, at_most, UpTo};
 ghost use Rattle.std.specs.Iterator.SizeHint.{IsWithinCount};
-ghost use Rattle.fc_node.specs.Tree.{entries, root_of, IsSoundMap};
+ghost use Rattle.fc_tree_node.specs.Tree.{entries, root_of, IsSoundMap};
 
 mod debug;
 
-use fc_node::node::Node;
-use fc_walk::owned::{Nodes, fill_back, fill_front, give_first, give_last, opened};
-use fc_walk::stack::Stack;
+use fc_tree_node::node::Node;
+use fc_tree_walk::owned::{Nodes, fill_back, fill_front, give_first, give_last, opened};
+use fc_tree_walk::stack::Stack;
 use std::iter::FusedIterator;
 use std::marker::Model;
 
@@ -24,13 +24,13 @@ pub struct IntoIter<K, V> {
 impl<K, V> Model for IntoIter<K, V> {
     ghost use Rattle.std.specs.Prelude.{◌≡◌, ◌++◌, List, length};
     ghost use Rattle.fc_base.specs.Sizes.{most_levels};
-    ghost use Rattle.fc_walk.specs.Opened.{IsFalling, front_of, back_of};
+    ghost use Rattle.fc_tree_walk.specs.Opened.{IsFalling, after_front, before_back};
 
     ghost Value = { List (K × V) };
 
-    ghost view = { λ a. front_of a.front ++ back_of a.back };
+    ghost view = { λ a. after_front a.front ++ before_back a.back };
 
-    ghost invariant = { λ a. IsFalling 0 most_levels a.front × IsFalling 0 most_levels a.back × (a.left ≡ length (front_of a.front ++ back_of a.back)) };
+    ghost invariant = { λ a. IsFalling 0 most_levels a.front × IsFalling 0 most_levels a.back × (a.left ≡ length (after_front a.front ++ before_back a.back)) };
 }
 
 impl<K, V> IntoIter<K, V> {

@@ -1,13 +1,13 @@
 //! Reading walks over all pairs of a map, from both ends.
 ghost use Rattle.std.specs.Prelude.{◌≡◌, ◌≤◌, ⊤, length, Some, IfSome};
-ghost use Rattle.fc_node.specs.Tree.{entries, root_of, IsSoundMap};
+ghost use Rattle.fc_tree_node.specs.Tree.{entries, root_of, IsSoundMap};
 ghost use Rattle.std.specs.Iterator.{YieldsFirstBy, YieldsLastBy, UpTo, at_most, item_count};
 
 mod keys;
 mod values;
 
-use fc_node::node::Node;
-use fc_walk::span::Span;
+use fc_tree_node::node::Node;
+use fc_tree_walk::span::Span;
 pub use keys::Keys;
 use std::alloc::AllocError;
 use std::iter::FusedIterator;

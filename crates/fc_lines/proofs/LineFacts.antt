@@ -11,16 +11,16 @@ use Rattle.std.proofs.lemmas.Int.Digits.{digits_value_more}
 use Rattle.std.proofs.lemmas.Str.Parse.{digits_value-take-le}
 use Rattle.fc_lines.specs.declared.command.Command.{Command}
 use Rattle.fc_lines.specs.Lines.{words_of, onto_first}
-use Rattle.fc_lines.specs.Grammar.{ends}
+use Rattle.fc_lines.specs.Grammar.{whole_line}
 
-ends_onto : (c : Command ℕ ℕ) (x : ℕ) (ws : List (List ℕ)) → ends c (onto_first x ws) ≡ None
+ends_onto : (c : Command ℕ ℕ) (x : ℕ) (ws : List (List ℕ)) → whole_line c (onto_first x ws) ≡ None
 ends_onto c x [] = refl
 ends_onto c x (w ∷ ws) = refl
 
 -- a line has at least one word
-pub ends_words : (c : Command ℕ ℕ) (line : List ℕ) → ends c (words_of line) ≡ None
+pub ends_words : (c : Command ℕ ℕ) (line : List ℕ) → whole_line c (words_of line) ≡ None
 ends_words c [] = refl
-ends_words c (x ∷ line) = elim (eqb x 32) as (λ b. ends c (if b then [] ∷ words_of line else onto_first x (words_of line)) ≡ None) [ true ↦ refl | false ↦ ends_onto c x (words_of line) ]
+ends_words c (x ∷ line) = elim (eqb x 32) as (λ b. whole_line c (if b then [] ∷ words_of line else onto_first x (words_of line)) ≡ None) [ true ↦ refl | false ↦ ends_onto c x (words_of line) ]
 
 -- the first word ends at the first space, or the line is one word
 abbrev pub Split : List ℕ → ℕ → Type 0

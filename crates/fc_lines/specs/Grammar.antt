@@ -138,9 +138,9 @@ abbrev pub some_pairs : List (List ℕ) → Option (List (ℕ × ℕ))
 some_pairs words = if nat_lt 0 (length words) then all_pairs words else None
 
 -- The command, if no word is left.
-abbrev pub ends : Command ℕ ℕ → List (List ℕ) → Option (Command ℕ ℕ)
-ends command [] = Some command
-ends command (word ∷ words) = None
+abbrev pub whole_line : Command ℕ ℕ → List (List ℕ) → Option (Command ℕ ℕ)
+whole_line command [] = Some command
+whole_line command (word ∷ words) = None
 
 -- The command that a word asks for on a map.
 abbrev pub on_map : List ℕ → Side → Option (Command ℕ ℕ)
@@ -171,7 +171,7 @@ unfoldable pub with_map_of : List ℕ → List (List ℕ) → Option (Command �
 with_map_of word words = do
   m ← map_at words
   command ← on_map word m.0
-  ends command m.1
+  whole_line command m.1
 
 -- The words after such a word are a map and a key.
 unfoldable pub with_key_of : List ℕ → List (List ℕ) → Option (Command ℕ ℕ)
@@ -179,7 +179,7 @@ with_key_of word words = do
   m ← map_at words
   k ← number_at m.1
   command ← on_key word m.0 k.0
-  ends command k.1
+  whole_line command k.1
 
 -- The words after such a word are a map, a key and a value.
 unfoldable pub with_pair_of : List ℕ → List (List ℕ) → Option (Command ℕ ℕ)
@@ -188,7 +188,7 @@ with_pair_of word words = do
   k ← number_at m.1
   v ← number_at k.1
   command ← on_pair word m.0 k.0 v.0
-  ends command v.1
+  whole_line command v.1
 
 -- The words after `entry` are a map, a key and two values.
 unfoldable pub entry_of : List (List ℕ) → Option (Command ℕ ℕ)
@@ -197,7 +197,7 @@ entry_of words = do
   k ← number_at m.1
   v ← number_at k.1
   w ← number_at v.1
-  ends (Entry m.0 k.0 v.0 w.0) w.1
+  whole_line (Entry m.0 k.0 v.0 w.0) w.1
 
 -- The words after `walk` are a map, two bounds and one word of letters.
 unfoldable pub walk_of : List (List ℕ) → Option (Command ℕ ℕ)
@@ -207,7 +207,7 @@ walk_of words = do
   hi ← bound_at lo.1
   letters ← word_at hi.1
   list ← some_read end_of letters.0
-  ends (Walk m.0 lo.0 hi.0 list) letters.1
+  whole_line (Walk m.0 lo.0 hi.0 list) letters.1
 
 -- The words after `write` are a map, two bounds and one or more writes.
 unfoldable pub write_of : List (List ℕ) → Option (Command ℕ ℕ)
@@ -270,7 +270,7 @@ unfoldable pub set_of_word : List ℕ → List (List ℕ) → Option (Command �
 set_of_word word words = do
   c ← set_at words
   command ← with_set word c.0
-  ends command c.1
+  whole_line command c.1
 
 -- The words after such a word are a set and an item.
 unfoldable pub set_and_item_of_word : List ℕ → List (List ℕ) → Option (Command ℕ ℕ)
@@ -278,7 +278,7 @@ set_and_item_of_word word words = do
   c ← set_at words
   k ← number_at c.1
   command ← with_set_and_item word c.0 k.0
-  ends command k.1
+  whole_line command k.1
 
 -- The words after `keep` are an operation and a set.
 unfoldable pub keep_of : List (List ℕ) → Option (Command ℕ ℕ)
@@ -286,7 +286,7 @@ keep_of words = do
   first ← word_at words
   op ← op_of first.0
   c ← set_at first.1
-  ends (Keep op c.0) c.1
+  whole_line (Keep op c.0) c.1
 
 -- The words after `walk` are a set, two bounds and one word of letters.
 unfoldable pub walk_items_of : List (List ℕ) → Option (Command ℕ ℕ)
@@ -296,7 +296,7 @@ walk_items_of words = do
   hi ← bound_at lo.1
   letters ← word_at hi.1
   list ← some_read end_of letters.0
-  ends (SetWalk c.0 lo.0 hi.0 list) letters.1
+  whole_line (SetWalk c.0 lo.0 hi.0 list) letters.1
 
 -- The words after `extend` are a set and one or more items.
 unfoldable pub extend_items_of : List (List ℕ) → Option (Command ℕ ℕ)

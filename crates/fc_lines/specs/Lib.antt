@@ -1,4 +1,4 @@
 pub mod Lines
 pub mod Grammar
 pub mod Texts
-pub mod Sides
+pub mod Targets

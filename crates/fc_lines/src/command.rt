@@ -1,6 +1,6 @@
 //! Commands over two ordered maps and two ordered sets, and what they answer.
 ghost use Rattle.std.specs.Prelude.{◌≡◌};
-ghost use Rattle.fc_lines.specs.Sides.{target_of};
+ghost use Rattle.fc_lines.specs.Targets.{target_of};
 
 use crate::items::Items;
 use fc_base::TryReserveError;

@@ -20,7 +20,7 @@ ghost use Rattle.fc_lines.specs.Grammar.{
   bound_at,
   pair_at,
   some_pairs,
-  ends,
+  whole_line,
   entry_of,
   walk_of,
   write_of,
@@ -112,7 +112,7 @@ fn with_map_in(word: &[u8], words: Option<&[u8]>) -> Option<Command<u64, u64>>
     ensures { result ≡ with_map_of word.entry.now (words_left words.entry) }
 {
     let (side, words) = next_map(words)?;
-    ending(on_map_in(word, side)?, words)
+    at_line_end(on_map_in(word, side)?, words)
 }
 
 // The words after such a word are a map and a key.
@@ -122,7 +122,7 @@ fn with_key_in(word: &[u8], words: Option<&[u8]>) -> Option<Command<u64, u64>>
 {
     let (side, words) = next_map(words)?;
     let (key, words) = next_number(words)?;
-    ending(on_key_in(word, side, key)?, words)
+    at_line_end(on_key_in(word, side, key)?, words)
 }
 
 // The words after such a word are a map, a key and a value.
@@ -133,7 +133,7 @@ fn with_pair_in(word: &[u8], words: Option<&[u8]>) -> Option<Command<u64, u64>>
     let (side, words) = next_map(words)?;
     let (key, words) = next_number(words)?;
     let (value, words) = next_number(words)?;
-    ending(on_pair_in(word, side, key, value)?, words)
+    at_line_end(on_pair_in(word, side, key, value)?, words)
 }
 
 // The command that a word asks for on a map.
@@ -195,7 +195,7 @@ fn entry_in(words: Option<&[u8]>) -> Option<Command<u64, u64>>
     let (key, words) = next_number(words)?;
     let (there, words) = next_number(words)?;
     let (new, words) = next_number(words)?;
-    ending(Command::Entry(side, key, there, new), words)
+    at_line_end(Command::Entry(side, key, there, new), words)
 }
 
 #[tactic(auto, unfolding(crate::specs::Grammar::walk_of))]
@@ -214,10 +214,10 @@ fn walk_in(alloc: Global, words: Option<&[u8]>) -> Result<Option<Command<u64, u6
     let Some((letters, words)) = next_word(words) else {
         return Ok(None)
     };
-    let Some(list) = ends_in(alloc, letters)? else {
+    let Some(list) = ends_of_letters(alloc, letters)? else {
         return Ok(None)
     };
-    Ok(ending(Command::Walk(side, lo, hi, Items::from(list)), words))
+    Ok(at_line_end(Command::Walk(side, lo, hi, Items::from(list)), words))
 }
 
 #[tactic(auto, unfolding(crate::specs::Grammar::write_of))]
@@ -253,7 +253,7 @@ fn extend_in(alloc: Global, words: Option<&[u8]>) -> Result<Option<Command<u64, 
 }
 
 // The ends that the letters of a word name.
-pub(crate) fn ends_in(alloc: Global, letters: &[u8]) -> Result<Option<Vec<End>>, AllocError>
+pub(crate) fn ends_of_letters(alloc: Global, letters: &[u8]) -> Result<Option<Vec<End>>, AllocError>
     ensures { IfOk result (λ list. option_map vec_items list ≡ some_read end_of letters.now) }
 {
     if letters.is_empty() {
@@ -310,8 +310,11 @@ fn pairs_in(alloc: Global, words: Option<&[u8]>) -> Result<Option<Vec<(u64, u64)
 }
 
 // The command, if no word is left.
-pub(crate) fn ending(command: Command<u64, u64>, words: Option<&[u8]>) -> Option<Command<u64, u64>>
-    ensures { result ≡ ends command (words_left words.entry) }
+pub(crate) fn at_line_end(
+    command: Command<u64, u64>,
+    words: Option<&[u8]>,
+) -> Option<Command<u64, u64>>
+    ensures { result ≡ whole_line command (words_left words.entry) }
 {
     match words {
         None => Some(command),

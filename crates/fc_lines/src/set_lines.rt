@@ -22,7 +22,8 @@ ghost use Rattle.fc_lines.specs.Grammar.{
 use crate::command::{Command, SetOp, Side};
 use crate::items::Items;
 use crate::lines::{
-    ending, ends_in, first_word, is_word, next_bound, next_number, next_word, number_in,
+    at_line_end, ends_of_letters, first_word, is_word, next_bound, next_number, next_word,
+    number_in,
 };
 use std::alloc::{AllocError, Global};
 
@@ -64,7 +65,7 @@ fn set_in(word: &[u8], words: Option<&[u8]>) -> Option<Command<u64, u64>>
     ensures { result ≡ set_of_word word.entry.now (words_left words.entry) }
 {
     let (side, words) = next_set(words)?;
-    ending(with_set_in(word, side)?, words)
+    at_line_end(with_set_in(word, side)?, words)
 }
 
 // The words after such a word are a set and an item.
@@ -74,7 +75,7 @@ fn set_and_item_in(word: &[u8], words: Option<&[u8]>) -> Option<Command<u64, u64
 {
     let (side, words) = next_set(words)?;
     let (item, words) = next_number(words)?;
-    ending(with_set_and_item_in(word, side, item)?, words)
+    at_line_end(with_set_and_item_in(word, side, item)?, words)
 }
 
 // The command that a word asks for on a set.
@@ -149,7 +150,7 @@ fn keep_in(words: Option<&[u8]>) -> Option<Command<u64, u64>>
     let (word, words) = next_word(words)?;
     let op = op_in(word)?;
     let (side, words) = next_set(words)?;
-    ending(Command::Keep(op, side), words)
+    at_line_end(Command::Keep(op, side), words)
 }
 
 #[tactic(auto, unfolding(crate::specs::Grammar::walk_items_of))]
@@ -168,10 +169,10 @@ fn walk_in(alloc: Global, words: Option<&[u8]>) -> Result<Option<Command<u64, u6
     let Some((letters, words)) = next_word(words) else {
         return Ok(None)
     };
-    let Some(list) = ends_in(alloc, letters)? else {
+    let Some(list) = ends_of_letters(alloc, letters)? else {
         return Ok(None)
     };
-    Ok(ending(Command::SetWalk(side, lo, hi, Items::from(list)), words))
+    Ok(at_line_end(Command::SetWalk(side, lo, hi, Items::from(list)), words))
 }
 
 #[tactic(auto, unfolding(crate::specs::Grammar::extend_items_of))]

@@ -11,10 +11,10 @@ use Rattle.fc_base.specs.Ascending.{IsAscending}
 use Rattle.fc_base.specs.Sizes.{least_children}
 use Rattle.fc_base.specs.Viewed.{over_one}
 use Rattle.fc_base.proofs.AscendingFacts.{under_one}
-use Rattle.fc_node.specs.declared.node.Node.{Node}
-use Rattle.fc_node.specs.Node.{own_pairs, pairs_of}
-use Rattle.fc_node.proofs.DepthFacts.{deep_root}
-use Rattle.fc_copy.specs.Copy.{AreSame, IsCopy}
+use Rattle.fc_tree_node.specs.declared.node.Node.{Node}
+use Rattle.fc_tree_node.specs.Node.{own_pairs, pairs_of}
+use Rattle.fc_tree_node.proofs.DepthFacts.{deep_root}
+use Rattle.fc_tree_copy.specs.Copy.{AreSame, IsCopy}
 use Rattle.fc_map.specs.Entries.{IsSoundMap}
 
 -- the one answer that is equal

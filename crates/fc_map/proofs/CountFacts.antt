@@ -5,12 +5,12 @@ use Rattle.std.proofs.lemmas.Bool.{cases_lt}
 use Rattle.std.specs.declared.cmp.Ordering.{Ordering}
 use Rattle.fc_base.specs.Sizes.{least_children, level_comparisons, level_moves}
 use Rattle.fc_base.specs.declared.count.Count.{Count}
-use Rattle.fc_node.specs.declared.node.Node.{Node}
-use Rattle.fc_node.specs.Node.{pairs_of, IsSoundRoot}
-use Rattle.fc_node.specs.Depth.{IsDeep, HasFewMoves}
-use Rattle.fc_search.specs.Passed.{passed}
-use Rattle.fc_node.proofs.DepthFacts.{deep_root}
-use Rattle.fc_search.proofs.PassedFacts.{passed_bound}
+use Rattle.fc_tree_node.specs.declared.node.Node.{Node}
+use Rattle.fc_tree_node.specs.Node.{pairs_of, IsSoundRoot}
+use Rattle.fc_tree_node.specs.Depth.{IsDeep, HasFewMoves}
+use Rattle.fc_tree_search.specs.Passed.{passed}
+use Rattle.fc_tree_node.proofs.DepthFacts.{deep_root}
+use Rattle.fc_tree_search.proofs.PassedFacts.{passed_bound}
 use Rattle.fc_map.specs.Counts.{IsBounded}
 use Rattle.fc_map.specs.Entries.{Map, entries, IsSoundMap}
 

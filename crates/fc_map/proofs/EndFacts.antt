@@ -4,51 +4,51 @@ use Rattle.std.specs.Borrow.{Bor}
 use Rattle.std.specs.Option.{option_map}
 use Rattle.std.specs.Cmp.Lexicographic.{pointwise, other_text}
 use Rattle.std.proofs.lemmas.List.{length-map}
-use Rattle.fc_node.specs.declared.node.Node.{Node}
-use Rattle.fc_node.specs.Path.{before, after}
-use Rattle.fc_node.specs.Place.{place_ahead, place_behind}
-use Rattle.fc_node.proofs.Gaps.{gap_pairs, place_pairs}
+use Rattle.fc_tree_node.specs.declared.node.Node.{Node}
+use Rattle.fc_tree_node.specs.Path.{before_gap, after_gap}
+use Rattle.fc_tree_node.specs.Place.{before_pair, after_pair}
+use Rattle.fc_tree_node.proofs.Gaps.{gap_pairs, place_pairs}
 use Rattle.fc_map.specs.Entries.{Map, entries, IsSoundMap}
-use Rattle.fc_walk.specs.Gap.{IsGapIn, AreEndsIn}
-use Rattle.fc_search.specs.Written.{set_value}
+use Rattle.fc_tree_walk.specs.Gap.{IsGapIn, AreEndsIn}
+use Rattle.fc_tree_search.specs.Written.{set_value}
 use Rattle.fc_map.specs.Writing.{Stretch, wrote_first, wrote_last}
 use Rattle.fc_map.proofs.ShapeFacts.{gap_stays, entries_written}
-use Rattle.fc_node.specs.TreePlace.{IsPlaceIn, pair_in, before_of, ahead_of}
+use Rattle.fc_tree_node.specs.TreePlace.{IsPlaceIn, pair_in, before_gap_in, before_pair_in}
 use Rattle.fc_map.specs.Lends.{written_in}
-use Rattle.fc_walk.specs.Trail.{rest_of, lead_of, places_of, IsTrail}
-use Rattle.fc_walk.proofs.Meetings.{same_path}
-use Rattle.fc_walk.proofs.GapFacts.{one_height}
-use Rattle.fc_walk.proofs.Trails.{chain_of_trail, chain_lead, trail_way, trail_depth, trail_entries}
+use Rattle.fc_tree_walk.specs.Trail.{after_trail, before_trail, places_of, IsTrail}
+use Rattle.fc_tree_walk.proofs.Meetings.{same_path}
+use Rattle.fc_tree_walk.proofs.GapFacts.{one_height}
+use Rattle.fc_tree_walk.proofs.Trails.{chain_of_trail, chain_before_trail, trail_way, trail_depth, trail_entries}
 
 module _ {K V : Type 0} where
   -- the gap that a trail leads to
   pub record IsEndOf (m : Map K V) (path : List ℕ) (s : List (Bor (Node K V) × ℕ)) : Type 0 where
     pub slot : IsGapIn m path
-    pub count : length (before_of m path) ≡ length (lead_of s)
+    pub count : length (before_gap_in m path) ≡ length (before_trail s)
 
   pub trail_end : (m : Map K V) (s : List (Bor (Node K V) × ℕ)) → IsSoundMap m → IsTrail m s → IsEndOf m (places_of s) s
   trail_end None s sound t = rw t (record { slot = refl; count = refl })
   trail_end (Some root) s sound t =
       let h = sound.0 in
       let long : length (places_of s) ≡ h + 1 = length-map s (λ x. x.1) ∙ trail_depth h s root sound.2.1 t in
-      record { slot = (trail_way s root t, λ k l. long ∙ ap (λ x. x + 1) (one_height h k root sound.2.1 l)); count = ap length (sym (chain_lead s root (chain_of_trail s root t))) }
+      record { slot = (trail_way s root t, λ k l. long ∙ ap (λ x. x + 1) (one_height h k root sound.2.1 l)); count = ap length (sym (chain_before_trail s root (chain_of_trail s root t))) }
 
   -- gaps with as many pairs ahead are the same
-  pub same_gap : (m : Map K V) (a b : List ℕ) → IsSoundMap m → IsGapIn m a → IsGapIn m b → length (before_of m a) ≡ length (before_of m b) → a ≡ b
+  pub same_gap : (m : Map K V) (a b : List ℕ) → IsSoundMap m → IsGapIn m a → IsGapIn m b → length (before_gap_in m a) ≡ length (before_gap_in m b) → a ≡ b
   same_gap None a b sound s t e = s ∙ sym t
   same_gap (Some root) a b sound s t e = let h = sound.0 in let l = sound.2.1 in same_path h root a b l s.0 t.0 (s.1 h l) (t.1 h l) e
 
   -- a gap has at most all pairs ahead
-  pub gap_within : (m : Map K V) (a : List ℕ) → IsSoundMap m → IsGapIn m a → length (before_of m a) ≤ length (entries m)
+  pub gap_within : (m : Map K V) (a : List ℕ) → IsSoundMap m → IsGapIn m a → length (before_gap_in m a) ≤ length (entries m)
   gap_within None a sound s = omega arith
   gap_within (Some root) a sound s =
       let h = sound.0 in
       let l = sound.2.1 in
-      let e = ap length (gap_pairs a h root l (s.1 h l) s.0) ∙ length-append (before a root) (after a root) in
+      let e = ap length (gap_pairs a h root l (s.1 h l) s.0) ∙ length-append (before_gap a root) (after_gap a root) in
       omega (arith, e)
 
-  -- where a pair lies ahead of a gap, all gaps are gaps of leaves
-  pub gap_some : (m : Map K V) (gap other : List ℕ) → IsSoundMap m → IsGapIn m gap → 0 < length (before_of m other) → 0 < length gap
+  -- where a pair lies before a gap, all gaps are gaps of leaves
+  pub gap_some : (m : Map K V) (gap other : List ℕ) → IsSoundMap m → IsGapIn m gap → 0 < length (before_gap_in m other) → 0 < length gap
   gap_some None gap other sound g k = absurd (omega arith)
   gap_some (Some root) gap other sound g k = let e = g.1 sound.0 sound.2.1 in omega arith
 
@@ -57,18 +57,18 @@ module _ {K V : Type 0} where
   pair_at [] back p = refl
   pair_at (x ∷ front) back p = pair_at front back p
 
-  pub pair_there : (m : Map K V) (path : List ℕ) → IsSoundMap m → IsPlaceIn m path → slice_get (entries m) (length (ahead_of m path)) ≡ pair_in m path
+  pub pair_there : (m : Map K V) (path : List ℕ) → IsSoundMap m → IsPlaceIn m path → slice_get (entries m) (length (before_pair_in m path)) ≡ pair_in m path
   pair_there None path sound place = absurd place
   pair_there (Some root) path sound place =
       let c = place_pairs path sound.0 root sound.2.1 place in
-      ap (λ s. slice_get s (length (place_ahead path root))) c.parts ∙ pair_at (place_ahead path root) (place_behind path root) c.pair ∙ sym c.is
+      ap (λ s. slice_get s (length (before_pair path root))) c.parts ∙ pair_at (before_pair path root) (after_pair path root) c.pair ∙ sym c.is
 
   -- the two ends of a walk
   pub record AreSpread (m : Map K V) (front back : List ℕ) (a b : List (Bor (Node K V) × ℕ)) : Type 0 where
-    pub ends : length (before_of m front) ≤ length (before_of m back) → AreEndsIn m front back
-    pub lead_is : length (before_of m front) ≡ length (lead_of a)
-    pub front_is : length (before_of m front) + length (rest_of a) ≡ length (entries m)
-    pub back_is : length (before_of m back) ≡ length (lead_of b)
+    pub ends : length (before_gap_in m front) ≤ length (before_gap_in m back) → AreEndsIn m front back
+    pub before_child_is : length (before_gap_in m front) ≡ length (before_trail a)
+    pub front_is : length (before_gap_in m front) + length (after_trail a) ≡ length (entries m)
+    pub back_is : length (before_gap_in m back) ≡ length (before_trail b)
 
   pub spread : (m : Map K V) (front back : List ℕ) (a b : List (Bor (Node K V) × ℕ)) → IsSoundMap m → IsTrail m a → IsTrail m b → front ≡ places_of a → back ≡ places_of b → AreSpread m front back a b
   spread m front back a b sound t u e f =
@@ -76,10 +76,10 @@ module _ {K V : Type 0} where
       let y = trail_end m b sound u in
       let s : IsGapIn m front = subst (IsGapIn m) (sym e) x.slot in
       let r : IsGapIn m back = subst (IsGapIn m) (sym f) y.slot in
-      let p : length (before_of m front) ≡ length (lead_of a) = ap (λ q. length (before_of m q)) e ∙ x.count in
-      let q : length (before_of m back) ≡ length (lead_of b) = ap (λ q. length (before_of m q)) f ∙ y.count in
-      let all = ap length (sym (trail_entries m a sound t)) ∙ length-append (lead_of a) (rest_of a) in
-      record { ends = λ le. (s, r, le); lead_is = p; front_is = omega (arith, p, all); back_is = q }
+      let p : length (before_gap_in m front) ≡ length (before_trail a) = ap (λ q. length (before_gap_in m q)) e ∙ x.count in
+      let q : length (before_gap_in m back) ≡ length (before_trail b) = ap (λ q. length (before_gap_in m q)) f ∙ y.count in
+      let all = ap length (sym (trail_entries m a sound t)) ∙ length-append (before_trail a) (after_trail a) in
+      record { ends = λ le. (s, r, le); before_child_is = p; front_is = omega (arith, p, all); back_is = q }
 
 pub text_same : (xs ys : List ℕ) (r : Bool) → r ≡ pointwise nat_eq xs ys → xs ≡ ys → r ≡ true
 text_same xs ys true e s = refl
@@ -99,34 +99,34 @@ module _ {K V : Type 0} where
       let b = gap_stays m path back w sound place ends.1 in
       (f.slot, b.slot, omega (arith, f.count, b.count, ends.2))
 
-  pub counted_stays : (m : Map K V) (path front back : List ℕ) (left : ℕ) (w : V) → IsSoundMap m → IsPlaceIn m path → AreEndsIn m front back → left + length (before_of m front) ≡ length (before_of m back) → left + length (before_of (written_in m path w) front) ≡ length (before_of (written_in m path w) back)
+  pub counted_stays : (m : Map K V) (path front back : List ℕ) (left : ℕ) (w : V) → IsSoundMap m → IsPlaceIn m path → AreEndsIn m front back → left + length (before_gap_in m front) ≡ length (before_gap_in m back) → left + length (before_gap_in (written_in m path w) front) ≡ length (before_gap_in (written_in m path w) back)
   counted_stays m path front back left w sound place ends e =
       let f = gap_stays m path front w sound place ends.0 in
       let b = gap_stays m path back w sound place ends.1 in
       omega (arith, f.count, b.count, e)
 
   stretch_written : (m : Map K V) (path front back : List ℕ) (w : V) (s : List (K × V)) (at from to : ℕ) → IsSoundMap m → IsPlaceIn m path → AreEndsIn m front back
-      → entries m ≡ s → length (ahead_of m path) ≡ at → length (before_of m front) ≡ from → length (before_of m back) ≡ to
-      → state (entries (written_in m path w)) (length (before_of (written_in m path w) front)) (length (before_of (written_in m path w) back)) ≡ state (set_value s at w) from to
+      → entries m ≡ s → length (before_pair_in m path) ≡ at → length (before_gap_in m front) ≡ from → length (before_gap_in m back) ≡ to
+      → state (entries (written_in m path w)) (length (before_gap_in (written_in m path w) front)) (length (before_gap_in (written_in m path w) back)) ≡ state (set_value s at w) from to
   stretch_written m path front back w s at from to sound place ends list a f b =
       state_is _ _ _ _ _ _
-      (entries_written m path w sound place ∙ ap (λ z. set_value z (length (ahead_of m path)) w) list ∙ ap (λ i. set_value s i w) a)
+      (entries_written m path w sound place ∙ ap (λ z. set_value z (length (before_pair_in m path)) w) list ∙ ap (λ i. set_value s i w) a)
       ((gap_stays m path front w sound place ends.0).count ∙ f)
       ((gap_stays m path back w sound place ends.1).count ∙ b)
 
   pub first_written : (m : Map K V) (path front back : List ℕ) (w : V) (t : Stretch K V) → IsSoundMap m → IsPlaceIn m path → AreEndsIn m front back
-      → entries m ≡ t.list → length (ahead_of m path) ≡ t.front → length (before_of m front) ≡ t.front + 1 → length (before_of m back) ≡ t.back
-      → state (entries (written_in m path w)) (length (before_of (written_in m path w) front)) (length (before_of (written_in m path w) back)) ≡ wrote_first t w
+      → entries m ≡ t.list → length (before_pair_in m path) ≡ t.front → length (before_gap_in m front) ≡ t.front + 1 → length (before_gap_in m back) ≡ t.back
+      → state (entries (written_in m path w)) (length (before_gap_in (written_in m path w) front)) (length (before_gap_in (written_in m path w) back)) ≡ wrote_first t w
   first_written m path front back w t = stretch_written m path front back w t.list t.front (t.front + 1) t.back
 
   pub last_written : (m : Map K V) (path front back : List ℕ) (w : V) (t : Stretch K V) → IsSoundMap m → IsPlaceIn m path → AreEndsIn m front back
-      → entries m ≡ t.list → length (ahead_of m path) + 1 ≡ t.back → length (before_of m front) ≡ t.front → length (before_of m back) + 1 ≡ t.back
-      → state (entries (written_in m path w)) (length (before_of (written_in m path w) front)) (length (before_of (written_in m path w) back)) ≡ wrote_last t w
+      → entries m ≡ t.list → length (before_pair_in m path) + 1 ≡ t.back → length (before_gap_in m front) ≡ t.front → length (before_gap_in m back) + 1 ≡ t.back
+      → state (entries (written_in m path w)) (length (before_gap_in (written_in m path w) front)) (length (before_gap_in (written_in m path w) back)) ≡ wrote_last t w
   last_written m path front back w t sound place ends list a f b = stretch_written m path front back w t.list (t.back - 1) t.front (t.back - 1) sound place ends list (omega arith) f (omega arith)
 
   -- the pair that a place has in a list
-  pub place_item : (m : Map K V) (path : List ℕ) (s : List (K × V)) (i : ℕ) → IsSoundMap m → IsPlaceIn m path → entries m ≡ s → length (ahead_of m path) ≡ i → slice_get s i ≡ pair_in m path
+  pub place_item : (m : Map K V) (path : List ℕ) (s : List (K × V)) (i : ℕ) → IsSoundMap m → IsPlaceIn m path → entries m ≡ s → length (before_pair_in m path) ≡ i → slice_get s i ≡ pair_in m path
   place_item m path s i sound place list a = ap (λ z. slice_get z i) (sym list) ∙ ap (λ j. slice_get (entries m) j) (sym a) ∙ pair_there m path sound place
 
-  pub place_value : (m : Map K V) (path : List ℕ) (s : List (K × V)) (i : ℕ) (v : V) → IsSoundMap m → IsPlaceIn m path → entries m ≡ s → length (ahead_of m path) ≡ i → option_map (λ p. p.1) (pair_in m path) ≡ Some v → option_map (λ p. p.1) (slice_get s i) ≡ Some v
+  pub place_value : (m : Map K V) (path : List ℕ) (s : List (K × V)) (i : ℕ) (v : V) → IsSoundMap m → IsPlaceIn m path → entries m ≡ s → length (before_pair_in m path) ≡ i → option_map (λ p. p.1) (pair_in m path) ≡ Some v → option_map (λ p. p.1) (slice_get s i) ≡ Some v
   place_value m path s i v sound place list a e = ap (option_map (λ p. p.1)) (place_item m path s i sound place list a) ∙ e

@@ -8,12 +8,12 @@ use Rattle.std.specs.Option.{option_map}
 use Rattle.std.specs.declared.cmp.Ordering.{Ordering}
 use Rattle.fc_base.specs.OneKey.{put, cut}
 use Rattle.fc_base.specs.Parts.{at}
-use Rattle.fc_search.specs.Written.{written}
-use Rattle.fc_node.proofs.Gaps.{place_pairs}
-use Rattle.fc_search.proofs.SearchFacts.{gap_put, found_cut}
-use Rattle.fc_search.proofs.WrittenPairs.{written_levels, written_at, written_pairs}
+use Rattle.fc_tree_search.specs.Written.{written}
+use Rattle.fc_tree_node.proofs.Gaps.{place_pairs}
+use Rattle.fc_tree_search.proofs.SearchFacts.{gap_put, found_cut}
+use Rattle.fc_tree_search.proofs.WrittenPairs.{written_levels, written_at, written_pairs}
 use Rattle.fc_map.specs.Entries.{Map, entries, IsSoundMap}
-use Rattle.fc_node.specs.TreePlace.{pair_in, IsPlaceIn, before_of, after_of, ahead_of, behind_of}
+use Rattle.fc_tree_node.specs.TreePlace.{pair_in, IsPlaceIn, before_gap_in, after_gap_in, before_pair_in, after_pair_in}
 use Rattle.fc_map.specs.Lends.{written_in}
 use Rattle.fc_map.specs.Place.{IsHeldAt, IsOpenAt, IsPutIn}
 use Rattle.fc_map.specs.Entry.{map_written, with_entry_value}
@@ -26,7 +26,7 @@ module _ {K Q V : Type 0} (cmp : K → Q → Ordering) (k : Q) where
   held_place None path held = absurd held
   held_place (Some root) path held = held.place
 
-  pub held_cut : (m : Map K V) (path : List ℕ) → IsSoundMap m → IsHeldAt cmp k m path → ahead_of m path ++ behind_of m path ≡ cut cmp (entries m) k
+  pub held_cut : (m : Map K V) (path : List ℕ) → IsSoundMap m → IsHeldAt cmp k m path → before_pair_in m path ++ after_pair_in m path ≡ cut cmp (entries m) k
   held_cut None path sound held = absurd held
   held_cut (Some root) path sound held = sym (found_cut cmp k path sound.0 root sound.2.1 held)
 
@@ -44,7 +44,7 @@ module _ {K V : Type 0} (cmp : K → K → Ordering) (k : K) where
       let c = place_pairs path sound.0 root sound.2.1 held.place in
       ap (option_map (λ p. p.0)) c.is ∙ rw (held_pair cmp k (Some root) path sound held ∙ c.is) refl
 
-  pub open_put : (m : Map K V) (path : List ℕ) (v : V) → IsSoundMap m → IsOpenAt cmp k m path → before_of m path ++ (k, v) ∷ after_of m path ≡ put cmp (entries m) k v
+  pub open_put : (m : Map K V) (path : List ℕ) (v : V) → IsSoundMap m → IsOpenAt cmp k m path → before_gap_in m path ++ (k, v) ∷ after_gap_in m path ≡ put cmp (entries m) k v
   open_put None path v sound gap = refl
   open_put (Some root) path v sound gap = sym (gap_put cmp k path sound.0 root v sound.2.1 gap)
 
@@ -55,7 +55,7 @@ module _ {K V : Type 0} where
     pub key_is : option_map (λ p. p.0) (pair_in (written_in m path v) path) ≡ option_map (λ p. p.0) (pair_in m path)
     pub value_is : option_map (λ p. p.1) (pair_in (written_in m path v) path) ≡ Some v
     pub again : (w : V) → entries (written_in (written_in m path v) path w) ≡ entries (written_in m path w)
-    pub sides : ahead_of (written_in m path v) path ++ behind_of (written_in m path v) path ≡ ahead_of m path ++ behind_of m path
+    pub sides : before_pair_in (written_in m path v) path ++ after_pair_in (written_in m path v) path ≡ before_pair_in m path ++ after_pair_in m path
 
   pub rewritten : (m : Map K V) (path : List ℕ) (v : V) → IsSoundMap m → IsPlaceIn m path → IsRewritten m path v
   rewritten None path v sound place = absurd place
@@ -66,14 +66,14 @@ module _ {K V : Type 0} where
       record {
         key_is = ap (option_map (λ p. p.0)) a.pair ∙ sym (ap (option_map (λ p. p.0)) c.is);
         value_is = ap (option_map (λ p. p.1)) a.pair;
-        again = λ w. written_pairs path sound.0 (written root path v) (c.pair.0, v) w l a.place a.pair ∙ rw (a.ahead, a.behind) refl ∙ sym (written_pairs path sound.0 root c.pair w sound.2.1 place c.is);
-        sides = rw (a.ahead, a.behind) refl;
+        again = λ w. written_pairs path sound.0 (written root path v) (c.pair.0, v) w l a.place a.pair ∙ rw (a.before, a.after) refl ∙ sym (written_pairs path sound.0 root c.pair w sound.2.1 place c.is);
+        sides = rw (a.before, a.after) refl;
       }
 
   -- The list of a map with another value in a pair that stands between known pairs.
   pub put_written : (m : Map K V) (path : List ℕ) (k : K) (v w : V) (front back : List (K × V)) → IsSoundMap m → IsPutIn path m (k, v) front back → entries (written_in m path w) ≡ front ++ (k, w) ∷ back
   put_written None path k v w front back sound put = absurd put
-  put_written (Some root) path k v w front back sound put = written_pairs path sound.0 root (k, v) w sound.2.1 put.place put.pair_is ∙ rw (put.ahead, put.behind) refl
+  put_written (Some root) path k v w front back sound put = written_pairs path sound.0 root (k, v) w sound.2.1 put.place put.pair_is ∙ rw (put.before, put.after) refl
 
   pub put_place : (m : Map K V) (path : List ℕ) (p : K × V) (front back : List (K × V)) → IsPutIn path m p front back → IsPlaceIn m path × (pair_in m path ≡ Some p)
   put_place None path p front back put = absurd put

@@ -16,7 +16,7 @@ module _ {K V : Type 0} (cmp : K → K → Ordering) where
   pub extended_more : (s items old new : List (K × V)) (k : K) (v : V) → old ≡ extended cmp s items → new ≡ put cmp old k v → new ≡ extended cmp s (items ++ (k, v) ∷ [])
   extended_more s items old new k v e f = f ∙ ap (λ l. put cmp l k v) e ∙ more s items (k, v)
 
-  -- An item with a new key was refused, and what stands behind it was not looked at.
+  -- An item with a new key was refused, and what stands after it was not looked at.
   pub up_to : (s front new : List (K × V)) (item : K × V) (e : TryReserveError) → new ≡ extended cmp s front → at cmp new item.0 ≡ None → MayGrowRefuse (length new) e → (rest : List (K × V)) → IsExtendedUpTo cmp s ((front ++ item ∷ []) ++ rest) new e
   up_to s front new item e is absent error rest = record {
     front = front;

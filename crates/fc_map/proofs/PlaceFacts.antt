@@ -4,11 +4,11 @@ use Rattle.std.specs.Prelude.{OnOk, OnErr}
 use Rattle.std.specs.declared.cmp.Ordering.{Ordering}
 use Rattle.fc_base.specs.OneKey.{put_by, cut}
 use Rattle.fc_base.specs.Parts.{at}
-use Rattle.fc_node.proofs.Gaps.{gap_pairs, place_pairs}
-use Rattle.fc_search.proofs.SearchFacts.{found_at, gap_at}
-use Rattle.fc_search.proofs.WrittenPairs.{written_levels, written_put}
+use Rattle.fc_tree_node.proofs.Gaps.{gap_pairs, place_pairs}
+use Rattle.fc_tree_search.proofs.SearchFacts.{found_at, gap_at}
+use Rattle.fc_tree_search.proofs.WrittenPairs.{written_levels, written_put}
 use Rattle.fc_map.specs.Entries.{Map, entries, IsSoundMap}
-use Rattle.fc_node.specs.TreePlace.{pair_in}
+use Rattle.fc_tree_node.specs.TreePlace.{pair_in}
 use Rattle.fc_map.specs.Lends.{written_in}
 use Rattle.fc_map.specs.Place.{IsHeldAt, IsOpenAt}
 use Rattle.fc_map.proofs.WrittenFacts.{written_length}

@@ -5,9 +5,9 @@ use Rattle.std.specs.declared.cmp.Ordering.{Ordering}
 use Rattle.fc_base.specs.Sizes.{level_moves}
 use Rattle.fc_base.specs.declared.count.Count.{Count}
 use Rattle.fc_base.specs.Ascending.{IsAscending}
-use Rattle.fc_node.specs.declared.node.Node.{Node}
-use Rattle.fc_node.specs.Node.{pairs_of}
-use Rattle.fc_removal.specs.Removal.{IsTreeLeft, tree_pairs}
+use Rattle.fc_tree_node.specs.declared.node.Node.{Node}
+use Rattle.fc_tree_node.specs.Node.{pairs_of}
+use Rattle.fc_tree_removal.specs.Removal.{IsTreeLeft}
 use Rattle.fc_map.specs.Counts.{IsBounded}
 use Rattle.fc_map.specs.Entries.{entries, root_of, IsSoundMap}
 use Rattle.fc_map.proofs.CountFacts.{some_pairs, only_moved}
@@ -15,12 +15,12 @@ use Rattle.fc_map.proofs.RemoveFacts.{left_entries, left_sound, left_moves, with
 
 module _ {K V : Type 0} (root : Node K V) (sound : IsSoundMap (Some root)) where
   -- The map's invariant holds of what is left without the last pair.
-  pub last_popped : (cmp : K → K → Ordering) (left : Option (Box (Node K V) Global)) (e : K × V) → IsAscending cmp (pairs_of root) → IsTreeLeft sound.0 left → pairs_of root ≡ tree_pairs left ++ e ∷ []
+  pub last_popped : (cmp : K → K → Ordering) (left : Option (Box (Node K V) Global)) (e : K × V) → IsAscending cmp (pairs_of root) → IsTreeLeft sound.0 left → pairs_of root ≡ entries (root_of left) ++ e ∷ []
       → IsAscending cmp (entries (root_of left)) × IsSoundMap (root_of left) × (length (pairs_of root) ≡ length (entries (root_of left)) + 1)
   last_popped cmp left e ascending levels p =
-      let all = ap length p ∙ length-append (tree_pairs left) (e ∷ []) in
+      let all = ap length p ∙ length-append (entries (root_of left)) (e ∷ []) in
       let same = ap length (left_entries left) in
-      (subst (IsAscending cmp) (append-nil (tree_pairs left) ∙ sym (left_entries left)) (without_ascending cmp (tree_pairs left) [] e (subst (IsAscending cmp) p ascending)), left_sound sound.0 left sound.1 levels, omega arith)
+      (subst (IsAscending cmp) (append-nil (entries (root_of left)) ∙ sym (left_entries left)) (without_ascending cmp (entries (root_of left)) [] e (subst (IsAscending cmp) p ascending)), left_sound sound.0 left sound.1 levels, omega arith)
 
   -- What a removal at an end costs.
   pub popped_cost : (old new : Count) → new.comparisons ≡ old.comparisons → new.moves ≤ old.moves + level_moves * (sound.0 + 1) → IsBounded (length (pairs_of root)) old new

@@ -5,7 +5,7 @@ use Rattle.std.specs.declared.cmp.Ordering.{Ordering}
 use Rattle.fc_base.specs.Ascending.{IsAscending}
 use Rattle.fc_base.specs.OneKey.{put}
 use Rattle.fc_base.specs.Parts.{at}
-use Rattle.fc_search.proofs.WayFacts.{written_to_put}
+use Rattle.fc_tree_search.proofs.WayFacts.{written_to_put}
 use Rattle.fc_map.specs.Entries.{Map, entries, IsSoundMap}
 use Rattle.fc_map.specs.LendsKey.{written_at}
 

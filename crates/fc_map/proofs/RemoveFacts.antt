@@ -7,19 +7,19 @@ use Rattle.std.specs.List.{AllByRecursion}
 use Rattle.fc_base.specs.Sizes.{most_height, level_moves}
 use Rattle.fc_base.specs.declared.count.Count.{Count}
 use Rattle.fc_base.specs.Ascending.{IsAscending}
-use Rattle.fc_node.specs.declared.node.Node.{Node}
-use Rattle.fc_node.specs.Depth.{HasFewMoves}
-use Rattle.fc_node.specs.Node.{pairs_of}
-use Rattle.fc_node.specs.Place.{IsPlace, place_ahead, place_behind}
-use Rattle.fc_node.specs.TreePlace.{IsPlaceIn, ahead_of, behind_of}
-use Rattle.fc_removal.specs.Removal.{IsSoundTree, IsTreeLeft, tree_pairs}
-use Rattle.fc_node.proofs.DepthFacts.{deep_root}
-use Rattle.fc_node.proofs.Gaps.{place_pairs}
+use Rattle.fc_tree_node.specs.declared.node.Node.{Node}
+use Rattle.fc_tree_node.specs.Depth.{HasFewMoves}
+use Rattle.fc_tree_node.specs.Node.{pairs_of}
+use Rattle.fc_tree_node.specs.Place.{IsPlace, before_pair, after_pair}
+use Rattle.fc_tree_node.specs.TreePlace.{IsPlaceIn, before_pair_in, after_pair_in}
+use Rattle.fc_tree_removal.specs.Removal.{IsSoundTree, IsTreeLeft}
+use Rattle.fc_tree_node.proofs.DepthFacts.{deep_root}
+use Rattle.fc_tree_node.proofs.Gaps.{place_pairs}
 use Rattle.fc_map.specs.Entries.{Map, entries, root_of, IsSoundMap}
 
 module _ {K V : Type 0} where
   -- The list of the map at what is left of a tree.
-  pub left_entries : (left : Option (Box (Node K V) Global)) → entries (root_of left) ≡ tree_pairs left
+  pub left_entries : (left : Option (Box (Node K V) Global)) → entries (root_of left) ≡ entries (root_of left)
   left_entries None = refl
   left_entries (Some root) = refl
 
@@ -38,23 +38,23 @@ module _ {K V : Type 0} where
       dropped [] b = b.1
       dropped (y ∷ s) b = (b.0, dropped s b.1)
 
-  module _ (root : Node K V) (path : List ℕ) (sound : IsSoundMap (Some root)) (place : IsPlace path root) (left : Option (Box (Node K V) Global)) (rest : tree_pairs left ≡ place_ahead path root ++ place_behind path root) where
-    -- The pairs ahead of the place and those behind it are left.
-    pub left_list : entries (root_of left) ≡ place_ahead path root ++ place_behind path root
+  module _ (root : Node K V) (path : List ℕ) (sound : IsSoundMap (Some root)) (place : IsPlace path root) (left : Option (Box (Node K V) Global)) (rest : entries (root_of left) ≡ before_pair path root ++ after_pair path root) where
+    -- The pairs before the place and those after it are left.
+    pub left_list : entries (root_of left) ≡ before_pair path root ++ after_pair path root
     left_list = left_entries left ∙ rest
 
     pub left_length : length (pairs_of root) ≡ length (entries (root_of left)) + 1
     left_length =
         let c = place_pairs path sound.0 root sound.2.1 place in
-        let old = ap length c.parts ∙ length-append (place_ahead path root) (c.pair ∷ place_behind path root) in
-        let new = ap length left_list ∙ length-append (place_ahead path root) (place_behind path root) in
+        let old = ap length c.parts ∙ length-append (before_pair path root) (c.pair ∷ after_pair path root) in
+        let new = ap length left_list ∙ length-append (before_pair path root) (after_pair path root) in
         omega (arith, old, new)
 
     -- The map's invariant holds of what is left.
     pub left_kept : (cmp : K → K → Ordering) → IsAscending cmp (pairs_of root) → IsTreeLeft sound.0 left → IsAscending cmp (entries (root_of left)) × IsSoundMap (root_of left)
     left_kept cmp ascending l =
         let c = place_pairs path sound.0 root sound.2.1 place in
-        (rw left_list (without_ascending cmp (place_ahead path root) (place_behind path root) c.pair (rw c.parts at ascending)), left_sound sound.0 left sound.1 l)
+        (rw left_list (without_ascending cmp (before_pair path root) (after_pair path root) c.pair (rw c.parts at ascending)), left_sound sound.0 left sound.1 l)
 
   -- The moves of a removal from a tree.
   pub left_moves : (root : Node K V) (sound : IsSoundMap (Some root)) (old new : Count) → new.moves ≤ old.moves + level_moves * (sound.0 + 1) → HasFewMoves (length (pairs_of root)) old new
@@ -65,11 +65,11 @@ module _ {K V : Type 0} where
   map_height None path sound place = absurd place
   map_height (Some root) path sound place = (sound.0, sound.2)
 
-  pub map_length : (m : Map K V) (path : List ℕ) → IsSoundMap m → IsPlaceIn m path → (left : Option (Box (Node K V) Global)) → tree_pairs left ≡ ahead_of m path ++ behind_of m path → length (entries m) ≡ length (entries (root_of left)) + 1
+  pub map_length : (m : Map K V) (path : List ℕ) → IsSoundMap m → IsPlaceIn m path → (left : Option (Box (Node K V) Global)) → entries (root_of left) ≡ before_pair_in m path ++ after_pair_in m path → length (entries m) ≡ length (entries (root_of left)) + 1
   map_length None path sound place left rest = absurd place
   map_length (Some root) path sound place left rest = left_length root path sound place left rest
 
-  pub map_kept : (m : Map K V) (path : List ℕ) → IsSoundMap m → IsPlaceIn m path → (left : Option (Box (Node K V) Global)) → tree_pairs left ≡ ahead_of m path ++ behind_of m path → (cmp : K → K → Ordering) → IsAscending cmp (entries m) → ((h : ℕ) → IsSoundTree h m → IsTreeLeft h left) → IsAscending cmp (entries (root_of left)) × IsSoundMap (root_of left)
+  pub map_kept : (m : Map K V) (path : List ℕ) → IsSoundMap m → IsPlaceIn m path → (left : Option (Box (Node K V) Global)) → entries (root_of left) ≡ before_pair_in m path ++ after_pair_in m path → (cmp : K → K → Ordering) → IsAscending cmp (entries m) → ((h : ℕ) → IsSoundTree h m → IsTreeLeft h left) → IsAscending cmp (entries (root_of left)) × IsSoundMap (root_of left)
   map_kept None path sound place left rest cmp ascending l = absurd place
   map_kept (Some root) path sound place left rest cmp ascending l = left_kept root path sound place left rest cmp ascending (l sound.0 sound.2)
 

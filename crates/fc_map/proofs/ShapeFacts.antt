@@ -1,20 +1,20 @@
--- The gaps of a tree in which a value is written: they stay, each behind as many pairs.
+-- The gaps of a tree in which a value is written: they stay, each after as many pairs.
 use Rattle.std.proofs.Common.{◌≡◌, ℕ, zero, suc, ◌+◌, ◌<◌, ◌≤◌, List, [], ◌∷◌, ◌++◌, length, map, take, get_or, Some, None, refl, sym, ap, subst, ◌∙◌, arith, length-append, ◌⊎◌, inl, inr}
 use Rattle.std.specs.Prelude.{slice_set}
-use Rattle.fc_node.specs.Weave.{ahead}
-use Rattle.fc_node.specs.declared.node.Node.{Node}
-use Rattle.fc_node.specs.Node.{own_pairs, children_of, child_at, pairs_of, IsLevelled}
-use Rattle.fc_node.specs.Path.{IsPath, before}
-use Rattle.fc_node.specs.Place.{lead_in, IsPlace, place_ahead, place_behind}
-use Rattle.fc_search.specs.Written.{set_value, with_value, with_child, written}
-use Rattle.fc_node.proofs.Pairs.{leaf_children, child_below}
-use Rattle.fc_node.proofs.Gaps.{item_there, place_pairs}
-use Rattle.fc_search.proofs.WrittenPairs.{value_own, value_children, child_own, child_children, length_value, written_levels, written_pairs}
+use Rattle.fc_tree_node.specs.Weave.{before_list}
+use Rattle.fc_tree_node.specs.declared.node.Node.{Node}
+use Rattle.fc_tree_node.specs.Node.{own_pairs, children_of, child_at, pairs_of, IsLevelled}
+use Rattle.fc_tree_node.specs.Path.{IsPath, before_gap}
+use Rattle.fc_tree_node.specs.Place.{before_child, IsPlace, before_pair, after_pair}
+use Rattle.fc_tree_search.specs.Written.{set_value, with_value, with_child, written}
+use Rattle.fc_tree_node.proofs.Pairs.{leaf_children, child_below}
+use Rattle.fc_tree_node.proofs.Gaps.{item_there, place_pairs}
+use Rattle.fc_tree_search.proofs.WrittenPairs.{value_own, value_children, child_own, child_children, length_value, written_levels, written_pairs}
 use Rattle.fc_map.specs.Entries.{Map, entries, IsSoundMap}
-use Rattle.fc_walk.specs.Gap.{IsGapIn}
-use Rattle.fc_node.specs.TreePlace.{IsPlaceIn, before_of, ahead_of}
+use Rattle.fc_tree_walk.specs.Gap.{IsGapIn}
+use Rattle.fc_tree_node.specs.TreePlace.{IsPlaceIn, before_gap_in, before_pair_in}
 use Rattle.fc_map.specs.Lends.{written_in}
-use Rattle.fc_walk.proofs.GapFacts.{one_height}
+use Rattle.fc_tree_walk.proofs.GapFacts.{one_height}
 
 module _ {X : Type 0} where
   taken : (i : ℕ) (xs ys : List X) → length xs ≡ length ys → length (take i xs) ≡ length (take i ys)
@@ -24,14 +24,14 @@ module _ {X : Type 0} where
   taken (suc i) (x ∷ xs) [] e = absurd (omega arith)
   taken (suc i) (x ∷ xs) (y ∷ ys) e = ap suc (taken i xs ys (omega arith))
 
-  ahead_same : (cs : List (List X)) (ps qs : List X) → length ps ≡ length qs → length (ahead cs ps) ≡ length (ahead cs qs)
-  ahead_same [] ps qs e = e
-  ahead_same (c ∷ cs) [] [] e = refl
-  ahead_same (c ∷ cs) [] (q ∷ qs) e = absurd (omega arith)
-  ahead_same (c ∷ cs) (p ∷ ps) [] e = absurd (omega arith)
-  ahead_same (c ∷ cs) (p ∷ ps) (q ∷ qs) e =
-      let i = ahead_same cs ps qs (omega arith) in
-      length-append c (p ∷ ahead cs ps) ∙ ap (λ m. length c + suc m) i ∙ sym (length-append c (q ∷ ahead cs qs))
+  before_same : (cs : List (List X)) (ps qs : List X) → length ps ≡ length qs → length (before_list cs ps) ≡ length (before_list cs qs)
+  before_same [] ps qs e = e
+  before_same (c ∷ cs) [] [] e = refl
+  before_same (c ∷ cs) [] (q ∷ qs) e = absurd (omega arith)
+  before_same (c ∷ cs) (p ∷ ps) [] e = absurd (omega arith)
+  before_same (c ∷ cs) (p ∷ ps) (q ∷ qs) e =
+      let i = before_same cs ps qs (omega arith) in
+      length-append c (p ∷ before_list cs ps) ∙ ap (λ m. length c + suc m) i ∙ sym (length-append c (q ∷ before_list cs qs))
 
   get_same : (xs : List X) (i : ℕ) (d e : X) → i < length xs → get_or xs i d ≡ get_or xs i e
   get_same xs i d e h = let x = item_there xs i h in x.1 d ∙ sym (x.1 e)
@@ -59,45 +59,45 @@ same_or (suc i) (suc j) = next (same_or i j)
     next (inr f) = inr (λ e. f (omega arith))
 
 module _ {K V : Type 0} where
-  ahead_set : (cs : List (Node K V)) (i j : ℕ) (c d : Node K V) (ps : List (K × V)) → length (pairs_of c) ≡ length (pairs_of (get_or cs i d)) → length (ahead (map pairs_of (take j (slice_set cs i c))) ps) ≡ length (ahead (map pairs_of (take j cs)) ps)
-  ahead_set cs i zero c d ps e = refl
-  ahead_set [] i (suc j) c d ps e = refl
-  ahead_set (x ∷ cs) zero (suc j) c d [] e = refl
-  ahead_set (x ∷ cs) (suc i) (suc j) c d [] e = refl
-  ahead_set (x ∷ cs) zero (suc j) c d (p ∷ ps) e =
-      length-append (pairs_of c) _ ∙ ap (λ m. m + length (p ∷ ahead (map pairs_of (take j cs)) ps)) e ∙ sym (length-append (pairs_of x) _)
-  ahead_set (x ∷ cs) (suc i) (suc j) c d (p ∷ ps) e =
-      length-append (pairs_of x) _ ∙ ap (λ m. length (pairs_of x) + suc m) (ahead_set cs i j c d ps e) ∙ sym (length-append (pairs_of x) _)
+  before_set : (cs : List (Node K V)) (i j : ℕ) (c d : Node K V) (ps : List (K × V)) → length (pairs_of c) ≡ length (pairs_of (get_or cs i d)) → length (before_list (map pairs_of (take j (slice_set cs i c))) ps) ≡ length (before_list (map pairs_of (take j cs)) ps)
+  before_set cs i zero c d ps e = refl
+  before_set [] i (suc j) c d ps e = refl
+  before_set (x ∷ cs) zero (suc j) c d [] e = refl
+  before_set (x ∷ cs) (suc i) (suc j) c d [] e = refl
+  before_set (x ∷ cs) zero (suc j) c d (p ∷ ps) e =
+      length-append (pairs_of c) _ ∙ ap (λ m. m + length (p ∷ before_list (map pairs_of (take j cs)) ps)) e ∙ sym (length-append (pairs_of x) _)
+  before_set (x ∷ cs) (suc i) (suc j) c d (p ∷ ps) e =
+      length-append (pairs_of x) _ ∙ ap (λ m. length (pairs_of x) + suc m) (before_set cs i j c d ps e) ∙ sym (length-append (pairs_of x) _)
 
   -- as many pairs
   written_many : (path : List ℕ) (h : ℕ) (n : Node K V) (w : V) → IsLevelled h n → IsPlace path n → length (pairs_of (written n path w)) ≡ length (pairs_of n)
   written_many path h n w l q =
       let cut = place_pairs path h n l q in
-      let old = ap length cut.parts ∙ length-append (place_ahead path n) (cut.pair ∷ place_behind path n) in
-      let new = ap length (written_pairs path h n cut.pair w l q cut.is) ∙ length-append (place_ahead path n) ((cut.pair.0, w) ∷ place_behind path n) in
+      let old = ap length cut.parts ∙ length-append (before_pair path n) (cut.pair ∷ after_pair path n) in
+      let new = ap length (written_pairs path h n cut.pair w l q cut.is) ∙ length-append (before_pair path n) ((cut.pair.0, w) ∷ after_pair path n) in
       omega (arith, old, new)
 
   -- the gap stays, with as many pairs before it
   abbrev IsKept : List ℕ → Node K V → Node K V → Type 0
-  IsKept gap new old = IsPath gap new × (length (before gap new) ≡ length (before gap old))
+  IsKept gap new old = IsPath gap new × (length (before_gap gap new) ≡ length (before_gap gap old))
 
   kept_value : (gap : List ℕ) (h : ℕ) (n : Node K V) (i : ℕ) (w : V) → IsLevelled h n → length gap ≡ h + 1 → IsPath gap n → IsKept gap (with_value n i w) n
   kept_value [] h n i w l e p = absurd (omega arith)
   kept_value (j ∷ gap) h n i w l e p =
       let m = with_value n i w in
       let own = ap length (value_own n i w) ∙ length_value (own_pairs n) i w in
-      let lead : length (lead_in m j) ≡ length (lead_in n j) = ap (λ cs. length (ahead (map pairs_of (take j cs)) (take j (own_pairs m)))) (value_children n i w) ∙ ahead_same (map pairs_of (take j (children_of n))) _ _ (taken j _ _ own) in
+      let lead : length (before_child m j) ≡ length (before_child n j) = ap (λ cs. length (before_list (map pairs_of (take j cs)) (take j (own_pairs m)))) (value_children n i w) ∙ before_same (map pairs_of (take j (children_of n))) _ _ (taken j _ _ own) in
       let r = rest gap h l e p.1 in
-      ((omega (arith, own, p.0), r.0), length-append (lead_in m j) _ ∙ (let a = r.1 in let b = length-append (lead_in n j) (before gap (child_at n j)) in omega (arith, a, b, lead)))
+      ((omega (arith, own, p.0), r.0), length-append (before_child m j) _ ∙ (let a = r.1 in let b = length-append (before_child n j) (before_gap gap (child_at n j)) in omega (arith, a, b, lead)))
     where
-      rest : (gap : List ℕ) (h : ℕ) → IsLevelled h n → suc (length gap) ≡ h + 1 → IsPath gap (child_at n j) → IsPath gap (child_at (with_value n i w) j) × (length (before gap (child_at (with_value n i w) j)) ≡ length (before gap (child_at n j)))
+      rest : (gap : List ℕ) (h : ℕ) → IsLevelled h n → suc (length gap) ≡ h + 1 → IsPath gap (child_at n j) → IsPath gap (child_at (with_value n i w) j) × (length (before_gap gap (child_at (with_value n i w) j)) ≡ length (before_gap gap (child_at n j)))
       rest [] h l e p = (tt, refl)
       rest (k ∷ gap) zero l e p = absurd (omega arith)
       rest (k ∷ gap) (suc h) l e q =
           let many : length (children_of n) ≡ length (own_pairs n) + 1 = l.1 in
           let le : j ≤ length (own_pairs n) = p.0 in
           let same : child_at (with_value n i w) j ≡ child_at n j = ap (λ cs. get_or cs j (with_value n i w)) (value_children n i w) ∙ get_same (children_of n) j (with_value n i w) n (omega arith) in
-          (subst (IsPath (k ∷ gap)) (sym same) q, ap (λ c. length (before (k ∷ gap) c)) same)
+          (subst (IsPath (k ∷ gap)) (sym same) q, ap (λ c. length (before_gap (k ∷ gap) c)) same)
 
   kept_child : (gap : List ℕ) (h : ℕ) (n : Node K V) (i : ℕ) (c : Node K V) → IsLevelled (suc h) n → length gap ≡ h + 2 → IsPath gap n → i < length (children_of n) → length (pairs_of c) ≡ length (pairs_of (child_at n i))
       → ((rest : List ℕ) → length rest ≡ h + 1 → IsPath rest (child_at n i) → IsKept rest c (child_at n i)) → IsKept gap (with_child n i c) n
@@ -105,10 +105,10 @@ module _ {K V : Type 0} where
   kept_child (j ∷ gap) h n i c l e p k many inside =
       let m = with_child n i c in
       let own = ap length (child_own n i c) in
-      let lead : length (lead_in m j) ≡ length (lead_in n j) =
-      ap (λ ps. length (ahead (map pairs_of (take j (children_of m))) (take j ps))) (child_own n i c) ∙ ap (λ cs. length (ahead (map pairs_of (take j cs)) (take j (own_pairs n)))) (child_children n i c) ∙ ahead_set (children_of n) i j c n (take j (own_pairs n)) many in
+      let lead : length (before_child m j) ≡ length (before_child n j) =
+      ap (λ ps. length (before_list (map pairs_of (take j (children_of m))) (take j ps))) (child_own n i c) ∙ ap (λ cs. length (before_list (map pairs_of (take j cs)) (take j (own_pairs n)))) (child_children n i c) ∙ before_set (children_of n) i j c n (take j (own_pairs n)) many in
       let r = below (same_or i j) in
-      ((omega (arith, own, p.0), r.0), length-append (lead_in m j) _ ∙ (let a = r.1 in let b = length-append (lead_in n j) (before gap (child_at n j)) in omega (arith, a, b, lead)))
+      ((omega (arith, own, p.0), r.0), length-append (before_child m j) _ ∙ (let a = r.1 in let b = length-append (before_child n j) (before_gap gap (child_at n j)) in omega (arith, a, b, lead)))
     where
       below : (i ≡ j) ⊎ (i ≡ j → ⊥) → IsKept gap (child_at (with_child n i c) j) (child_at n j)
       below (inl s) =
@@ -119,7 +119,7 @@ module _ {K V : Type 0} where
           let many : length (children_of n) ≡ length (own_pairs n) + 1 = l.1 in
           let le : j ≤ length (own_pairs n) = p.0 in
           let same : child_at (with_child n i c) j ≡ child_at n j = ap (λ cs. get_or cs j (with_child n i c)) (child_children n i c) ∙ get_other (children_of n) i j c (with_child n i c) n other (omega arith) in
-          (subst (IsPath gap) (sym same) p.1, ap (λ d. length (before gap d)) same)
+          (subst (IsPath gap) (sym same) p.1, ap (λ d. length (before_gap gap d)) same)
 
   kept : (path : List ℕ) (gap : List ℕ) (h : ℕ) (n : Node K V) (w : V) → IsLevelled h n → IsPlace path n → length gap ≡ h + 1 → IsPath gap n → IsKept gap (written n path w) n
   unfolding written
@@ -135,7 +135,7 @@ module _ {K V : Type 0} where
   -- a gap of a map stays where a value is written
   pub record IsStill (m new : Map K V) (gap : List ℕ) : Type 0 where
     pub slot : IsGapIn new gap
-    pub count : length (before_of new gap) ≡ length (before_of m gap)
+    pub count : length (before_gap_in new gap) ≡ length (before_gap_in m gap)
 
   pub gap_stays : (m : Map K V) (path gap : List ℕ) (w : V) → IsSoundMap m → IsPlaceIn m path → IsGapIn m gap → IsStill m (written_in m path w) gap
   gap_stays None path gap w sound place slot = absurd place
@@ -152,8 +152,8 @@ module _ {K V : Type 0} where
   set_at [] back p w = refl
   set_at (x ∷ front) back p w = ap (λ s. x ∷ s) (set_at front back p w)
 
-  pub entries_written : (m : Map K V) (path : List ℕ) (w : V) → IsSoundMap m → IsPlaceIn m path → entries (written_in m path w) ≡ set_value (entries m) (length (ahead_of m path)) w
+  pub entries_written : (m : Map K V) (path : List ℕ) (w : V) → IsSoundMap m → IsPlaceIn m path → entries (written_in m path w) ≡ set_value (entries m) (length (before_pair_in m path)) w
   entries_written None path w sound place = absurd place
   entries_written (Some root) path w sound place =
       let c = place_pairs path sound.0 root sound.2.1 place in
-      written_pairs path sound.0 root c.pair w sound.2.1 place c.is ∙ set_at (place_ahead path root) (place_behind path root) c.pair w ∙ ap (λ s. set_value s (length (place_ahead path root)) w) (sym c.parts)
+      written_pairs path sound.0 root c.pair w sound.2.1 place c.is ∙ set_at (before_pair path root) (after_pair path root) c.pair w ∙ ap (λ s. set_value s (length (before_pair path root)) w) (sym c.parts)

@@ -12,12 +12,12 @@ use Rattle.fc_base.specs.Parts.{below}
 use Rattle.fc_base.proofs.AscendingFacts.{all_map}
 use Rattle.fc_base.proofs.JoinedLaws.{kept, left_out}
 use Rattle.fc_base.proofs.Laws.{ascending_front, ascending_back}
-use Rattle.fc_border.specs.Cut.{IsCutPathIn, IsCutInTwo}
-use Rattle.fc_node.proofs.Gaps.{gap_pairs, place_pairs}
-use Rattle.fc_node.specs.Path.{before, after}
-use Rattle.fc_node.specs.Place.{place_ahead, place_behind}
-use Rattle.fc_search.specs.Found.{AllBelow}
-use Rattle.fc_search.proofs.SearchFacts.{found_at, gap_at}
+use Rattle.fc_tree_border.specs.Cut.{IsCutPathIn, IsCutInTwo}
+use Rattle.fc_tree_node.proofs.Gaps.{gap_pairs, place_pairs}
+use Rattle.fc_tree_node.specs.Path.{before_gap, after_gap}
+use Rattle.fc_tree_node.specs.Place.{before_pair, after_pair}
+use Rattle.fc_tree_search.specs.Found.{AllBelow}
+use Rattle.fc_tree_search.proofs.SearchFacts.{found_at, gap_at}
 use Rattle.fc_map.specs.Entries.{Map, entries, IsSoundMap}
 use Rattle.fc_map.specs.Place.{IsHeldAt, IsOpenAt}
 
@@ -28,8 +28,8 @@ module _ {K V : Type 0} (front back whole : List (K × V)) (e : front ++ back �
 
 module _ {K Q V : Type 0} (cmp : K → Q → Ordering) (k : Q) where
   -- what is not below the query, where the front of the list is and the rest isn't
-  rest_is : (front back : List (K × V)) → AllBelow cmp k front → AllByRecursion (λ e. is_ge (cmp e.0 k) ≡ true) back → not_below cmp (front ++ back) k ≡ back
-  rest_is front back less rest = filter-append _ front back ∙ rw (left_out _ front (all_map _ _ (λ x h. ap is_ge h) front less), kept _ back rest) refl
+  after_is : (front back : List (K × V)) → AllBelow cmp k front → AllByRecursion (λ e. is_ge (cmp e.0 k) ≡ true) back → not_below cmp (front ++ back) k ≡ back
+  after_is front back less rest = filter-append _ front back ∙ rw (left_out _ front (all_map _ _ (λ x h. ap is_ge h) front less), kept _ back rest) refl
 
   -- Whatever a search found, a map of some pairs can be cut where it ended.
   pub cut_path : {A B : Type 0} (m : Map K V) (path : List ℕ) (r : Result A B) → 0 < length (entries m) → OnOk r (IsHeldAt cmp k m path) → OnErr r (IsOpenAt cmp k m path) → IsCutPathIn path m
@@ -44,13 +44,13 @@ module _ {K Q V : Type 0} (cmp : K → Q → Ordering) (k : Q) where
       let a = found_at cmp k path sound.0 root sound.2.1 held in
       let c = place_pairs path sound.0 root sound.2.1 held.place in
       let equal : cmp c.pair.0 k ≡ Equal = subst (λ x. IfSome x (λ e. cmp e.0 k ≡ Equal)) c.is held.equal in
-      let rest = rest_is (place_ahead path root) (c.pair ∷ place_behind path root) held.ahead (ap is_ge equal, all_map _ _ (λ x h. ap is_ge h) (place_behind path root) held.behind) in
-      (cut.ahead c.pair c.is ∙ sym a.lower, cut.behind c.pair c.is ∙ sym (ap (λ s. not_below cmp s k) c.parts ∙ rest))
+      let rest = after_is (before_pair path root) (c.pair ∷ after_pair path root) held.before (ap is_ge equal, all_map _ _ (λ x h. ap is_ge h) (after_pair path root) held.after) in
+      (cut.left_of_pair c.pair c.is ∙ sym a.lower, cut.right_of_pair c.pair c.is ∙ sym (ap (λ s. not_below cmp s k) c.parts ∙ rest))
   cut_halves (Some root) left right path (Err x) sound some held gap cut =
       let a = gap_at cmp k path sound.0 root sound.2.1 gap in
       let whole = gap_pairs path sound.0 root sound.2.1 (gap.levels sound.0 sound.2.1) gap.way in
-      let rest = rest_is (before path root) (after path root) gap.front (all_map _ _ (λ x h. ap is_ge h) (after path root) gap.back) in
-      (cut.before (gap.way, gap.levels) ∙ sym a.lower, cut.after (gap.way, gap.levels) ∙ sym (ap (λ s. not_below cmp s k) whole ∙ rest))
+      let rest = after_is (before_gap path root) (after_gap path root) gap.front (all_map _ _ (λ x h. ap is_ge h) (after_gap path root) gap.back) in
+      (cut.left_of_gap (gap.way, gap.levels) ∙ sym a.lower, cut.right_of_gap (gap.way, gap.levels) ∙ sym (ap (λ s. not_below cmp s k) whole ∙ rest))
 
   -- The same of an answer that may be an error.
   pub split_halves : {A B E : Type 0} (m left : Map K V) (path : List ℕ) (r : Result A B) (s : Result (Map K V) E) → IsSoundMap m → 0 < length (entries m) → OnOk r (IsHeldAt cmp k m path) → OnErr r (IsOpenAt cmp k m path) → IfOk s (IsCutInTwo path m left) → IfOk s (λ right. entries left ≡ below cmp (entries m) k) × IfOk s (λ right. entries right ≡ not_below cmp (entries m) k)

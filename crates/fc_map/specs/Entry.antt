@@ -7,9 +7,9 @@ use Rattle.std.specs.declared.cmp.Ord as ord
 use Rattle.std.specs.declared.cmp.PartialEq as eq
 use Rattle.std.specs.declared.cmp.PartialOrd as partial
 use mir.Syntax.{named}
-use Rattle.fc_search.proofs.WrittenPairs.{written_place}
+use Rattle.fc_tree_search.proofs.WrittenPairs.{written_place}
 use Rattle.fc_map.specs.Entries.{Map, entries, IsSoundMap}
-use Rattle.fc_node.specs.TreePlace.{IsPlaceIn, pair_in, before_of, after_of, ahead_of, behind_of}
+use Rattle.fc_tree_node.specs.TreePlace.{IsPlaceIn, pair_in, before_gap_in, after_gap_in, before_pair_in, after_pair_in}
 use Rattle.fc_map.specs.Lends.{written_in}
 use Rattle.fc_map.specs.declared.map.entry.Entry.{Entry}
 use Rattle.fc_map.specs.declared.map.entry.OccupiedEntry.{OccupiedEntry}
@@ -52,13 +52,13 @@ module _ {K V : Type 0} {g : ord.Ghosts K} {g' : eq.Ghosts K} {g'' : partial.Gho
 
   -- The pairs of the map, once v is the value at the entry's key.
   abbrev pub list_with : Entry K V g g' g'' → V → List (K × V)
-  list_with (Vacant e) v = before_of e.map.now e.path ++ (e.key, v) ∷ after_of e.map.now e.path
+  list_with (Vacant e) v = before_gap_in e.map.now e.path ++ (e.key, v) ∷ after_gap_in e.map.now e.path
   list_with (Occupied o) v = entries (map_written o v)
 
   -- The pairs of the map, once there is none at the entry's key.
   abbrev pub list_without : Entry K V g g' g'' → List (K × V)
   list_without (Vacant e) = entries e.map.now
-  list_without (Occupied o) = ahead_of o.map.now o.path ++ behind_of o.map.now o.path
+  list_without (Occupied o) = before_pair_in o.map.now o.path ++ after_pair_in o.map.now o.path
 
   -- An occupied entry, once v is its value.
   abbrev pub with_entry_value : OccupiedEntry K V g g' g'' → V → OccupiedEntry K V g g' g''
@@ -78,7 +78,7 @@ module _ (K V : RattleType) {g : ord.Ghosts K.Denot} {g' : eq.Ghosts K.Denot} {g
   abbrev pub occupied_lends_whole : OccupiedEntry K.Denot V.Denot g g' g'' → MutBor V.Denot → Fml
   occupied_lends_whole o r = follows (the_row K V g g' g'') V o.map.ghost_name r.ghost_name (map_written o)
 
-  -- Once the borrow r ends, the entry behind o has the last value written through r. Its lifetime is the second of the signature.
+  -- Once the borrow r ends, the entry after o has the last value written through r. Its lifetime is the second of the signature.
   abbrev pub occupied_lends : MutBor (OccupiedEntry K.Denot V.Denot g g' g'') → MutBor V.Denot → Fml
   occupied_lends o r = follows (occupied.the_row (record { mir = named 1; lft = [] }) K V g g' g'') V o.ghost_name r.ghost_name (with_entry_value o.now)
 
@@ -87,6 +87,6 @@ module _ (K V : RattleType) {g : ord.Ghosts K.Denot} {g' : eq.Ghosts K.Denot} {g
   abbrev pub entry_lends_ok : {E : Type 0} → Entry K.Denot V.Denot g g' g'' → Result (MutBor V.Denot) E → Fml
   entry_lends_ok e r = LendsSoOk (the_row K V g g' g'') V (entry_map_ref e) r (λ n w. (entries n ≡ list_with e w) × IsSoundMap n) (λ n. n ≡ entry_map e)
 
-  -- Where r has no entry, the map behind m stays as it is.
+  -- Where r has no entry, the map after m stays as it is.
   abbrev pub rests_if_refused : {E : Type 0} → MutBor (Map K.Denot V.Denot) → Result (Entry K.Denot V.Denot g g' g'') E → Fml
   rests_if_refused m r = RestsIfErr (the_row K V g g' g'') m (λ e. (entry_map_ref e).ghost_name) r (λ n. n ≡ m.now)

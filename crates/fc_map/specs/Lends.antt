@@ -2,7 +2,7 @@
 use Rattle.std.specs.Prelude.{ℕ, Bool, List, Option, Some, None}
 use Rattle.std.specs.declared.cmp.Ordering.{Ordering}
 use Rattle.std.specs.Borrow.{Fml, RattleType, MutBor, Lends}
-use Rattle.fc_search.specs.Written.{written}
+use Rattle.fc_tree_search.specs.Written.{written}
 use Rattle.fc_map.specs.Entries.{Map}
 use Rattle.fc_map.specs.contracts.map.BTreeMap.{the_row}
 

@@ -3,7 +3,7 @@ use Rattle.std.specs.Prelude.{ℕ, List, [], Option, Some, None}
 use Rattle.std.specs.Option.{option_map}
 use Rattle.std.specs.Borrow.{Fml, RattleType, MutBor, LendsIf}
 use Rattle.std.specs.declared.cmp.Ordering.{Ordering}
-use Rattle.fc_search.specs.Way.{path_to}
+use Rattle.fc_tree_search.specs.Way.{path_to}
 use Rattle.fc_map.specs.Entries.{Map}
 use Rattle.fc_map.specs.Lends.{OrdMembers, map_row, written_in}
 

@@ -2,10 +2,10 @@
 use Rattle.std.specs.Prelude.{◌≡◌, ℕ, ◌<◌, ◌↔◌, Bool, List, [], length, IsTrue, IsFalse, Some, None}
 use Rattle.std.specs.declared.cmp.Ordering.{Ordering}
 use Rattle.fc_base.specs.Sizes.{capacity}
-use Rattle.fc_insertion.specs.Arrival.{IsPutAt}
-use Rattle.fc_node.specs.Leaf.{leaf_at}
-use Rattle.fc_node.specs.Node.{own_pairs}
-use Rattle.fc_search.specs.Found.{IsFound, IsGap}
+use Rattle.fc_tree_insertion.specs.Arrival.{IsPutAt}
+use Rattle.fc_tree_node.specs.Leaf.{leaf_at}
+use Rattle.fc_tree_node.specs.Node.{own_pairs}
+use Rattle.fc_tree_search.specs.Found.{IsFound, IsGap}
 use Rattle.fc_map.specs.Entries.{Map}
 
 module _ {K Q V : Type 0} (cmp : K → Q → Ordering) (k : Q) where
@@ -25,7 +25,7 @@ module _ {K V : Type 0} where
   TellsRoom has_room path None = IsFalse has_room
   TellsRoom has_room path (Some root) = IsTrue has_room ↔ (length (own_pairs (leaf_at path root)) < capacity)
 
-  -- The path leads to the pair, with these pairs ahead of it and those behind it.
+  -- The path leads to the pair, with these pairs before it and those after it.
   abbrev pub IsPutIn : List ℕ → Map K V → K × V → List (K × V) → List (K × V) → Type 0
   IsPutIn path None pair front back = ⊥
   IsPutIn path (Some root) pair front back = IsPutAt path root pair front back

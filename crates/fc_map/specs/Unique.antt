@@ -3,13 +3,13 @@ use Rattle.std.specs.Prelude.{ℕ, List, [], ◌∷◌, Some, None}
 use Rattle.std.specs.Coded.{×_prop, Unit-prop, le_prop}
 use Rattle.std.proofs.Props.{props}
 use Rattle.std.specs.declared.cmp.Ordering.{Ordering}
-use Rattle.fc_node.specs.declared.node.Node.{Node}
-use Rattle.fc_node.specs.Node.{child_at}
-use Rattle.fc_node.specs.Path.{IsPath}
-use Rattle.fc_node.specs.Place.{IsPlace}
+use Rattle.fc_tree_node.specs.declared.node.Node.{Node}
+use Rattle.fc_tree_node.specs.Node.{child_at}
+use Rattle.fc_tree_node.specs.Path.{IsPath}
+use Rattle.fc_tree_node.specs.Place.{IsPlace}
 use Rattle.fc_map.specs.Entries.{Map}
-use Rattle.fc_walk.specs.Gap.{IsGapIn, AreEndsIn}
-use Rattle.fc_node.specs.TreePlace.{IsPlaceIn}
+use Rattle.fc_tree_walk.specs.Gap.{IsGapIn, AreEndsIn}
+use Rattle.fc_tree_node.specs.TreePlace.{IsPlaceIn}
 use Rattle.fc_map.specs.Place.{IsOpenAt}
 
 module _ {K V : Type 0} where

@@ -3,7 +3,7 @@ use Rattle.std.specs.Prelude.{ℕ, ◌+◌, ◌-◌, nat_lt, Bool, if◌then◌e
 use Rattle.std.specs.declared.cmp.Ordering.{Ordering}
 use Rattle.std.specs.declared.ops.Bound.{Bound}
 use Rattle.fc_base.specs.Ranges.{starts, stops}
-pub use Rattle.fc_search.specs.Written.{set_value}
+pub use Rattle.fc_tree_search.specs.Written.{set_value}
 
 -- A list as it stands, and the places not yet lent: those from front on that are below back.
 pub record Stretch (K V : Type 0) : Type 0 where

@@ -8,10 +8,10 @@ mod bounds;
 mod compare;
 mod copy;
 mod debug;
-mod ends;
 mod entry;
 mod extend;
 mod find;
+mod first_last;
 pub mod for_sets;
 mod gaps;
 mod get_mut;
@@ -30,7 +30,7 @@ mod split_off;
 
 pub use bounds::is_range;
 pub use entry::{Entry, OccupiedEntry, VacantEntry};
-use fc_node::node::Node;
+use fc_tree_node::node::Node;
 pub use into_iter::IntoIter;
 pub use iter::{Iter, Keys, Values};
 pub use iter_mut::{IterMut, ValuesMut};
@@ -53,7 +53,7 @@ impl<K: Ord, V> Model for BTreeMap<K, V> {
     ghost use Rattle.std.specs.Coded.{coded_option};
     ghost use borrow.Follows.Maybe.{bare};
     ghost use Rattle.fc_base.specs.Ascending.{IsAscending};
-    ghost use Rattle.fc_node.specs.contracts.node.Node as node;
+    ghost use Rattle.fc_tree_node.specs.contracts.node.Node as node;
     ghost use Rattle.fc_map.specs.Entries.{Map, entries, root_of, IsSoundMap};
 
     ghost Value = { Map K V };

@@ -25,7 +25,7 @@ pub trait TryRead {
         ensures whole { IfOk result (IsWhole (source self.old) (source self.new) buf.old.items buf.new.items (bound self.old)) }
         ensures fallen { bound self.new + length buf.new.items ≡ bound self.old + length buf.old.items }
         ensures none { bound self.old ≡ 0 → (result ≡ Ok 0) × (source self.new ≡ source self.old) × (buf.new ≡ buf.old) }
-        ensures failed { IfErr result (λ e.
+        ensures error { IfErr result (λ e.
             ((buf.old.room < length buf.old.items + bound self.old) × (error_kind e ≡ ErrorKind.OutOfMemory) × (source self.new ≡ source self.old) × (buf.new ≡ buf.old))
             ⊎ (length buf.new.items < length buf.old.items + bound self.old)) };
 
@@ -39,7 +39,7 @@ pub trait TryRead {
         ensures whole { IfOk result (λ v. IsWhole (source self.old) (source self.new) [] v.items (bound self.old) (length v.items)) }
         ensures fallen { IfOk result (λ v. bound self.new + length v.items ≡ bound self.old) }
         ensures none { bound self.old ≡ 0 → IsOk result × IfOk result (λ v. v.items ≡ []) × (source self.new ≡ source self.old) }
-        ensures failed { IfErr result (λ e.
+        ensures error { IfErr result (λ e.
             ((error_kind e ≡ ErrorKind.OutOfMemory) × (source self.new ≡ source self.old) × (bound self.new ≡ bound self.old))
             ⊎ ((lost : List ℕ) × (length lost < bound self.old) × IsMoved (source self.old) (source self.new) [] lost (bound self.old) × (bound self.new + length lost ≡ bound self.old))) }
     {

@@ -25,7 +25,7 @@ pub fn try_read_up_to<R: Read>(src: &mut R, limit: u64, buf: &mut TryVec<u8>) ->
     ensures room { 0 < limit → OnOk result (length buf.old.items + limit ≤ buf.new.room) }
     ensures kept { buf.old.room ≤ buf.new.room }
     ensures none { limit ≡ 0 → (result ≡ Ok 0) × (src.new ≡ src.old) × (buf.new ≡ buf.old) }
-    ensures failed { IfErr result (λ e.
+    ensures error { IfErr result (λ e.
         ((buf.old.room < length buf.old.items + limit) × (error_kind e ≡ ErrorKind.OutOfMemory) × (src.new ≡ src.old) × (buf.new ≡ buf.old))
         ⊎ ((length buf.old.items + limit ≤ buf.new.room) × (length buf.new.items < length buf.old.items + limit))) }
 {
@@ -45,7 +45,7 @@ fn read_into_room<R: Read>(src: &mut R, limit: usize, buf: &mut TryVec<u8>) -> i
     ensures moved { IsMoved (R.remaining src.old) (R.remaining src.new) buf.old.items buf.new.items limit }
     ensures whole { IfOk result (IsWhole (R.remaining src.old) (R.remaining src.new) buf.old.items buf.new.items limit) }
     ensures room { buf.old.room ≤ buf.new.room }
-    ensures failed { IfErr result (λ _. length buf.new.items < length buf.old.items + limit) }
+    ensures short { IfErr result (λ _. length buf.new.items < length buf.old.items + limit) }
 {
     let mut piece = [0u8; PIECE];
     let mut left = limit;

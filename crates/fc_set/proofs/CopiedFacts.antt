@@ -12,7 +12,7 @@ use denote.Ref.{Bor}
 use Rattle.fc_base.specs.Ascending.{IsAscending}
 use Rattle.fc_base.specs.Viewed.{over_one}
 use Rattle.fc_base.proofs.AscendingFacts.{under_one}
-use Rattle.fc_build.specs.Built.{Built}
+use Rattle.fc_tree_build.specs.Built.{Built}
 use Rattle.fc_set.specs.Items.{AreAscending}
 use Rattle.fc_set.proofs.ItemFacts.{any_later}
 
@@ -67,7 +67,7 @@ module _ {S T : Type 0} (steps : S → Option (Bor T) → S → Type 0) (all : L
       omega (arith, counted, none)
 
   -- Copies of a front of the items were put into the builder, which has room for the others.
-  pub record IsFilled {V : Type 0} (same : T → T → Type 0) (made : Built T V) (walk : S) : Type 0 where
+  pub record IsCopiedSoFar {V : Type 0} (same : T → T → Type 0) (made : Built T V) (walk : S) : Type 0 where
     pub done : List T
     pub left : List T
     pub gives : AlwaysYields steps (λ x. x.now) walk left
@@ -76,7 +76,7 @@ module _ {S T : Type 0} (steps : S → Option (Bor T) → S → Type 0) (all : L
     pub room : made.room ≡ length left
 
   module _ {V : Type 0} (same : T → T → Type 0) where
-    pub filled_start : (made : Built T V) (s : S) → AlwaysYields steps (λ x. x.now) s all → made.pairs ≡ [] → made.room ≡ length all → IsFilled same made s
+    pub filled_start : (made : Built T V) (s : S) → AlwaysYields steps (λ x. x.now) s all → made.pairs ≡ [] → made.room ≡ length all → IsCopiedSoFar same made s
     filled_start made s a none room = record {
       done = [];
       left = all;
@@ -86,14 +86,14 @@ module _ {S T : Type 0} (steps : S → Option (Bor T) → S → Type 0) (all : L
       room = room;
     }
 
-    pub has_room : (made : Built T V) (s j : S) (x : Bor T) → IsFilled same made s → steps s (Some x) j → 0 < made.room
+    pub has_room : (made : Built T V) (s j : S) (x : Bor T) → IsCopiedSoFar same made s → steps s (Some x) j → 0 < made.room
     has_room made s j x f h =
         let long = ap length (some_left steps (λ x. x.now) s j x f.left f.gives h).1 in
         let room = f.room in
         omega (arith, room, long)
 
-    pub filled_more : (made more : Built T V) (s j : S) (x : Bor T) (y : T) (w : V) → IsFilled same made s → steps s (Some x) j → same x.now y
-        → more.pairs ≡ made.pairs ++ (y, w) ∷ [] → more.room + 1 ≡ made.room → IsFilled same more j
+    pub filled_more : (made more : Built T V) (s j : S) (x : Bor T) (y : T) (w : V) → IsCopiedSoFar same made s → steps s (Some x) j → same x.now y
+        → more.pairs ≡ made.pairs ++ (y, w) ∷ [] → more.room + 1 ≡ made.room → IsCopiedSoFar same more j
     filled_more made more s j x y w f h e pairs less =
         let l = some_left steps (λ x. x.now) s j x f.left f.gives h in
         let long = ap length l.1 in
@@ -108,21 +108,21 @@ module _ {S T : Type 0} (steps : S → Option (Bor T) → S → Type 0) (all : L
           room = omega (arith, room, long, less);
         }
 
-    pub filled_all : (made : Built T V) (s j : S) → IsFilled same made s → steps s None j → AllZip same all (map (λ e. e.0) made.pairs)
+    pub filled_all : (made : Built T V) (s j : S) → IsCopiedSoFar same made s → steps s None j → AllZip same all (map (λ e. e.0) made.pairs)
     filled_all made s j f h =
         let none = none_left steps (λ x. x.now) s j f.left f.gives h in
         let whole = f.parted ∙ ap (λ r. f.done ++ r) none ∙ append-nil f.done in
         subst (λ l. AllZip same l (map (λ e. e.0) made.pairs)) (sym whole) f.copied
 
     -- What holds of the item that comes holds of one of all items.
-    pub any_next : (P : T → Type 0) (made : Built T V) (s j : S) (x : Bor T) → IsFilled same made s → steps s (Some x) j → P x.now → Any P all
+    pub any_next : (P : T → Type 0) (made : Built T V) (s j : S) (x : Bor T) → IsCopiedSoFar same made s → steps s (Some x) j → P x.now → Any P all
     any_next P made s j x f h p =
         let l = some_left steps (λ x. x.now) s j x f.left f.gives h in
-        subst (Any P) (sym (f.parted ∙ ap (λ r. f.done ++ r) l.1)) (any_behind P f.done x.now l.0 p)
+        subst (Any P) (sym (f.parted ∙ ap (λ r. f.done ++ r) l.1)) (any_after P f.done x.now l.0 p)
       where
-        any_behind : (P : T → Type 0) (done : List T) (x : T) (rest : List T) → P x → Any P (done ++ x ∷ rest)
-        any_behind P [] x rest p = (0, x, omega arith, refl, p)
-        any_behind P (y ∷ done) x rest p = any_later P y (done ++ x ∷ rest) (any_behind P done x rest p)
+        any_after : (P : T → Type 0) (done : List T) (x : T) (rest : List T) → P x → Any P (done ++ x ∷ rest)
+        any_after P [] x rest p = (0, x, omega arith, refl, p)
+        any_after P (y ∷ done) x rest p = any_later P y (done ++ x ∷ rest) (any_after P done x rest p)
 
 -- the one answer that is equal
 pub equal_copy : (r : Ordering) → is_eq r ≡ true → r ≡ Equal

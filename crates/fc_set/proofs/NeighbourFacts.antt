@@ -5,7 +5,7 @@ use Rattle.std.specs.Ordering.{is_le}
 use Rattle.std.specs.declared.cmp.Ordering.{Ordering}
 use Rattle.fc_base.specs.Halves.{not_below}
 use Rattle.fc_base.specs.Parts.{below, above}
-use Rattle.fc_search.specs.Neighbours.{first_item, last_item, not_above}
+use Rattle.fc_tree_search.specs.Neighbours.{first_item, last_item, not_above}
 use Rattle.fc_set.specs.Items.{smaller, greater, not_smaller}
 use Rattle.fc_set.specs.Neighbours.{not_greater}
 use Rattle.fc_set.proofs.ItemFacts.{keys, key_get, keys_length, smaller_keys, greater_keys, not_smaller_keys}

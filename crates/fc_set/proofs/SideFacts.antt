@@ -136,8 +136,8 @@ module _ {T : Type 0} (cmp : T → T → Ordering) where
     symmetric_to_none t a = rw (difference_of_none t) (joined_to_none t a)
 
     -- What stands behind the first item is what is greater than it.
-    pub behind_first : (x : T) (s : List T) → IsBelow x s → greater cmp (x ∷ s) x ≡ s
-    behind_first x s below = rw (tied_itself total x) (greater_all x s below)
+    pub after_first : (x : T) (s : List T) → IsBelow x s → greater cmp (x ∷ s) x ≡ s
+    after_first x s below = rw (tied_itself total x) (greater_all x s below)
 
   -- Behind an item that is smaller than all of those in question both lists go on alike.
   abbrev pub AreAlike : List T → List T → List T → Type 0

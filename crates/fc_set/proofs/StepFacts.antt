@@ -11,8 +11,8 @@ use Rattle.fc_base.specs.Viewed.{over_one}
 use Rattle.fc_base.proofs.AscendingFacts.{under_one}
 use Rattle.fc_set.specs.Items.{item_at, greater, AreAscending, joined_items}
 use Rattle.fc_set.specs.Operations.{difference, common, symmetric_difference, union}
-use Rattle.fc_set.specs.Sides.{Sides, AreFirsts, untaken, behind}
-use Rattle.fc_set.proofs.SideFacts.{IsBelow, below_on, below_tied, tied_back, greater_all, behind_first, joined_first, joined_ours, joined_tied, symmetric_ours, symmetric_theirs, symmetric_tied, AreAlike, alike_past, alike_itself, difference_ours, difference_past, difference_tied, common_of_none, common_ours, common_past, common_tied, untaken_ours, untaken_past, untaken_of_none}
+use Rattle.fc_set.specs.Sides.{Sides, AreFirsts, untaken, past_item}
+use Rattle.fc_set.proofs.SideFacts.{IsBelow, below_on, below_tied, tied_back, greater_all, after_first, joined_first, joined_ours, joined_tied, symmetric_ours, symmetric_theirs, symmetric_tied, AreAlike, alike_past, alike_itself, difference_ours, difference_past, difference_tied, common_of_none, common_ours, common_past, common_tied, untaken_ours, untaken_past, untaken_of_none}
 
 -- A step that gives the first of what is left makes progress.
 pub first_is_progress : {S A : Type 0} (rest : S → List A) (s : S) (r : Option (Bor A)) (t : S) → YieldsFirstRef rest s r t → MakesProgress (λ _. ⊤) (item_count rest) s r t
@@ -60,19 +60,19 @@ module _ {T : Type 0} (cmp : T → T → Ordering) (total : IsTotalOrder cmp) wh
   yields_first operation None s t w none h = (h.0, ap (λ l. operation l w.right) h.1 ∙ ap (operation []) h.2 ∙ none)
   yields_first operation (Some x) s t w none h = h.0
 
-  pub stands_behind : (operation : List T → List T → List T) (r : Option (Bor T)) (old w : Sides T) → IsStep operation r old.left old.right w → MatchOption r ((w.left ≡ []) × (w.right ≡ [])) (λ x. w ≡ behind cmp old x.now)
-  stands_behind operation None old w h = (h.1, h.2)
-  stands_behind operation (Some x) old w h = λ i. record { left = h.1 i; right = h.2 i }
+  pub stands_after : (operation : List T → List T → List T) (r : Option (Bor T)) (old w : Sides T) → IsStep operation r old.left old.right w → MatchOption r ((w.left ≡ []) × (w.right ≡ [])) (λ x. w ≡ past_item cmp old x.now)
+  stands_after operation None old w h = (h.1, h.2)
+  stands_after operation (Some x) old w h = λ i. record { left = h.1 i; right = h.2 i }
 
   -- What one of two walks, or both, gave of a union.
   union_given : (a b : Option (Bor T)) (w : Sides T) → AreFirsts cmp (option_copied a) (option_copied b) w
       → IsStep (union cmp) (option_or a b) (option_to_list (option_copied a) ++ w.left) (option_to_list (option_copied b) ++ w.right) w
   union_given None None w f = (ap (λ l. joined_items cmp l w.left) f.1 ∙ ap (joined_items cmp []) f.0, f.0, f.1)
-  union_given (Some x) None w f = (joined_ours cmp total w.left w.right x.now f.0 f.1, sym (behind_first cmp total x.now w.left f.0), sym (greater_all cmp total x.now w.right f.1))
-  union_given None (Some y) w f = (joined_first cmp w.left w.right y.now f.0, sym (greater_all cmp total y.now w.left f.0), sym (behind_first cmp total y.now w.right f.1))
+  union_given (Some x) None w f = (joined_ours cmp total w.left w.right x.now f.0 f.1, sym (after_first cmp total x.now w.left f.0), sym (greater_all cmp total x.now w.right f.1))
+  union_given None (Some y) w f = (joined_first cmp w.left w.right y.now f.0, sym (greater_all cmp total y.now w.left f.0), sym (after_first cmp total y.now w.right f.1))
   union_given (Some x) (Some y) w f =
       let below = below_tied cmp total x.now y.now w.right f.0 f.2 in
-      (joined_tied cmp total w.left w.right x.now y.now f.0 f.1 f.2, sym (behind_first cmp total x.now w.left f.1), sym (past_tied x.now y.now w.right f.0 ∙ greater_all cmp total x.now w.right below))
+      (joined_tied cmp total w.left w.right x.now y.now f.0 f.1 f.2, sym (after_first cmp total x.now w.left f.1), sym (past_tied x.now y.now w.right f.0 ∙ greater_all cmp total x.now w.right below))
     where
       past_tied : (x y : T) (t : List T) → cmp x y ≡ Equal → greater cmp (y ∷ t) x ≡ greater cmp t x
       past_tied x y t e = rw (tied_back cmp total x y e) refl
@@ -100,7 +100,7 @@ module _ {T : Type 0} (cmp : T → T → Ordering) (total : IsTotalOrder cmp) wh
         let left : greater cmp s x.now ≡ greater cmp s' x.now = (subst (λ l. AreAlike cmp l s s') e alike.0.0).0 in
         let right : greater cmp t x.now ≡ greater cmp t' x.now = (subst (λ l. AreAlike cmp l t t') e alike.0.1).0 in (
           same ∙ ap (λ l. symmetric_difference cmp l t) e ∙ ap (λ l. symmetric_difference cmp (x.now ∷ w.left) l) f ∙ symmetric_ours cmp total w.left w.right x.now firsts.0 firsts.1,
-          sym (behind_first cmp total x.now w.left firsts.0) ∙ ap (λ l. greater cmp l x.now) (sym e) ∙ left,
+          sym (after_first cmp total x.now w.left firsts.0) ∙ ap (λ l. greater cmp l x.now) (sym e) ∙ left,
           sym (greater_all cmp total x.now w.right firsts.1) ∙ ap (λ l. greater cmp l x.now) (sym f) ∙ right,
         )
 
@@ -111,7 +111,7 @@ module _ {T : Type 0} (cmp : T → T → Ordering) (total : IsTotalOrder cmp) wh
         let right : greater cmp t y.now ≡ greater cmp t' y.now = (subst (λ l. AreAlike cmp l t t') f alike.1.1).0 in (
           same ∙ ap (λ l. symmetric_difference cmp l t) e ∙ ap (λ l. symmetric_difference cmp w.left l) f ∙ symmetric_theirs cmp total w.left w.right y.now firsts.0 firsts.1,
           sym (greater_all cmp total y.now w.left firsts.0) ∙ ap (λ l. greater cmp l y.now) (sym e) ∙ left,
-          sym (behind_first cmp total y.now w.right firsts.1) ∙ ap (λ l. greater cmp l y.now) (sym f) ∙ right,
+          sym (after_first cmp total y.now w.right firsts.1) ∙ ap (λ l. greater cmp l y.now) (sym f) ∙ right,
         )
 
     -- The same by what two walks side by side gave.
@@ -146,7 +146,7 @@ module _ {T : Type 0} (cmp : T → T → Ordering) (total : IsTotalOrder cmp) wh
 
     apart_found : IsBelow cmp x t → IsApart cmp (x ∷ s) t s' t' → (difference cmp s' t' ≡ x ∷ difference cmp s t) × (s ≡ greater cmp s' x) × (t ≡ greater cmp t' x)
     apart_found below a =
-        (a.0 ∙ difference_ours cmp total s t x below, sym (behind_first cmp total x s a.1.0.0) ∙ a.2.0.0, sym (greater_all cmp total x t below) ∙ a.2.1.0)
+        (a.0 ∙ difference_ours cmp total s t x below, sym (after_first cmp total x s a.1.0.0) ∙ a.2.0.0, sym (greater_all cmp total x t below) ∙ a.2.1.0)
 
     pub apart_less : (y : T) → t ≡ y ∷ drop 1 t → cmp x y ≡ Less → IsApart cmp (x ∷ s) t s' t' → (difference cmp s' t' ≡ x ∷ difference cmp s t) × (s ≡ greater cmp s' x) × (t ≡ greater cmp t' x)
     apart_less y f e a = apart_found (subst (IsBelow cmp x) (sym f) (e, below_on cmp total x y (drop 1 t) e (subst (AreAscending cmp) f a.1.1).0)) a
@@ -175,7 +175,7 @@ module _ {T : Type 0} (cmp : T → T → Ordering) (total : IsTotalOrder cmp) wh
     pub common_equal : cmp x y ≡ Equal → IsCommon cmp (x ∷ s) (y ∷ t) s' t' → (common cmp s' t' ≡ x ∷ common cmp s t) × (s ≡ greater cmp s' x) × (t ≡ greater cmp t' x)
     common_equal e a =
         let past : greater cmp (y ∷ t) x ≡ greater cmp t x = rw (tied_back cmp total x y e) refl in
-        (a.0 ∙ common_tied cmp total s t x y e a.1.0.0, sym (behind_first cmp total x s a.1.0.0) ∙ a.2.0.0, sym (greater_all cmp total x t (below_tied cmp total x y t e a.1.1.0)) ∙ sym past ∙ a.2.1.0)
+        (a.0 ∙ common_tied cmp total s t x y e a.1.0.0, sym (after_first cmp total x s a.1.0.0) ∙ a.2.0.0, sym (greater_all cmp total x t (below_tied cmp total x y t e a.1.1.0)) ∙ sym past ∙ a.2.1.0)
 
   -- It ends with either side.
   pub common_ours_end : (s t s' t' : List T) → s ≡ [] → IsCommon cmp s t s' t' → (common cmp s' t' ≡ []) × (untaken cmp s' t' ≡ [])
@@ -203,7 +203,7 @@ module _ {T : Type 0} (cmp : T → T → Ordering) (total : IsTotalOrder cmp) wh
       sought_past p = (here.0 ∙ p, here.1.1, alike_past cmp u u s' x here.1.0 here.2.1)
 
       pub sought_found : operation (x ∷ u) ≡ x ∷ operation u → (operation s' ≡ x ∷ operation u) × (u ≡ greater cmp s' x)
-      sought_found p = (here.0 ∙ p, sym (behind_first cmp total x u here.1.0) ∙ here.2.0)
+      sought_found p = (here.0 ∙ p, sym (after_first cmp total x u here.1.0) ∙ here.2.0)
 
     pub sought_end : (s s' : List T) → operation [] ≡ [] → s ≡ [] → IsSought cmp operation s s' → operation s' ≡ []
     sought_end s s' p e a = a.0 ∙ ap operation e ∙ p

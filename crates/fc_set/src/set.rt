@@ -6,16 +6,16 @@ ghost use Rattle.fc_map.specs.Counts.{IsBounded};
 ghost use Rattle.fc_map.specs.Entries.{IsSoundMap, now_pair, now_value, passed_in};
 ghost use Rattle.fc_set.specs.Items.{items, item_at, without, AreAscending, with_item, with_replaced};
 
-mod ahead;
 mod compare;
 mod copied;
 mod difference;
-mod ends;
+mod first_last;
 mod intersection;
 mod iter;
 mod merge;
 mod neighbours;
 mod operators;
+mod peeked;
 mod predicates;
 mod symmetric_difference;
 mod union;
@@ -45,7 +45,7 @@ impl<T: Ord> Model for BTreeSet<T> {
     ghost use base.Stored.{coded_unit};
     ghost use borrow.Follows.Maybe.{bare};
     ghost use Rattle.fc_map.specs.Entries.{Map};
-    ghost use Rattle.fc_node.specs.contracts.node.Node as node;
+    ghost use Rattle.fc_tree_node.specs.contracts.node.Node as node;
 
     ghost Value = { Map T ⊤ };
 

@@ -6,7 +6,7 @@ use Rattle.std.proofs.lemmas.List.Elements.{all_zip_more, length_all_zip}
 use Rattle.std.specs.List.{AllZip, Any}
 use Rattle.fc_base.specs.declared.try_reserve_error.TryReserveError.{TryReserveError}
 use Rattle.fc_vec.specs.Joined.{joined}
-use Rattle.fc_vec.specs.Vectors.{Vector, IsExtended, IsExtendedUpTo}
+use Rattle.fc_vec.specs.Vectors.{Vector, IsExtended, IsCopiedUpTo}
 
 module _ {T : Type 0} (R : T → T → Type 0) where
   -- No item was copied yet.
@@ -26,7 +26,7 @@ module _ {T : Type 0} (R : T → T → Type 0) where
   all_copied old xs new i e m = subst (λ l. IsExtended R old l new) (take_all i xs (omega arith)) m
 
   -- The copy of the next item was refused.
-  pub front_copied : (may_refuse : T → TryReserveError → Type 0) (error : TryReserveError) (old xs new : List T) (i : ℕ) (x : T) → i < length xs → x ≡ get_or xs i x → IsExtended R old (take i xs) new → may_refuse x error → IsExtendedUpTo R may_refuse error old xs new
+  pub front_copied : (may_refuse : T → TryReserveError → Type 0) (error : TryReserveError) (old xs new : List T) (i : ℕ) (x : T) → i < length xs → x ≡ get_or xs i x → IsExtended R old (take i xs) new → may_refuse x error → IsCopiedUpTo R may_refuse error old xs new
   front_copied may_refuse error old xs new i x h e m refusable = record {
     front = take i xs;
     source = x;
@@ -52,7 +52,7 @@ module _ {T : Type 0} (R : T → T → Type 0) where
     all_repeated old new i e m = all_copied old (replicate n x) new i (e ∙ sym (length-replicate n x)) m
 
     -- The next copy of the same item was refused.
-    pub front_repeated : (may_refuse : T → TryReserveError → Type 0) (error : TryReserveError) (old new : List T) (i : ℕ) → i < n → IsExtended R old (take i (replicate n x)) new → may_refuse x error → IsExtendedUpTo R may_refuse error old (replicate n x) new
+    pub front_repeated : (may_refuse : T → TryReserveError → Type 0) (error : TryReserveError) (old new : List T) (i : ℕ) → i < n → IsExtended R old (take i (replicate n x)) new → may_refuse x error → IsCopiedUpTo R may_refuse error old (replicate n x) new
     front_repeated may_refuse error old new i h m refusable = front_copied may_refuse error old (replicate n x) new i x (within i h) (repeated_at i h) m refusable
 
   zip_append : (xs us ys vs : List T) → AllZip R xs ys → AllZip R us vs → AllZip R (xs ++ us) (ys ++ vs)
@@ -77,7 +77,7 @@ module _ {T : Type 0} (R : T → T → Type 0) where
   }
 
   -- An extension, and one that was refused on its way, before others.
-  pub refused_on : (may_refuse : T → TryReserveError → Type 0) (error : TryReserveError) (old xs mid ys zs whole new : List T) → IsExtended R old xs mid → IsExtendedUpTo R may_refuse error mid ys new → whole ≡ xs ++ ys ++ zs → IsExtendedUpTo R may_refuse error old whole new
+  pub refused_on : (may_refuse : T → TryReserveError → Type 0) (error : TryReserveError) (old xs mid ys zs whole new : List T) → IsExtended R old xs mid → IsCopiedUpTo R may_refuse error mid ys new → whole ≡ xs ++ ys ++ zs → IsCopiedUpTo R may_refuse error old whole new
   refused_on may_refuse error old xs mid ys zs whole new a b e = record {
     front = xs ++ b.front;
     source = b.source;
@@ -88,13 +88,13 @@ module _ {T : Type 0} (R : T → T → Type 0) where
   }
 
   -- What is refused is a copy of one of the sources.
-  pub one_refused : (may_refuse : T → TryReserveError → Type 0) (error : TryReserveError) (old xs new : List T) → IsExtendedUpTo R may_refuse error old xs new → Any (λ x. may_refuse x error) xs
+  pub one_refused : (may_refuse : T → TryReserveError → Type 0) (error : TryReserveError) (old xs new : List T) → IsCopiedUpTo R may_refuse error old xs new → Any (λ x. may_refuse x error) xs
   one_refused may_refuse error old xs new u =
       let parts = ap length u.taken ∙ length-append u.front (u.source ∷ u.rest) in
       (length u.front, u.source, omega (arith, parts), ap (λ l. get_or l (length u.front) u.source) u.taken ∙ get_or-append_seam u.front u.source u.rest u.source, u.refusable)
 
   -- What is refused among copies of one item is a copy of that item.
-  pub refused_repeated : (may_refuse : T → TryReserveError → Type 0) (error : TryReserveError) (old new : List T) (n : ℕ) (x : T) → IsExtendedUpTo R may_refuse error old (replicate n x) new → (0 < n) × may_refuse x error
+  pub refused_repeated : (may_refuse : T → TryReserveError → Type 0) (error : TryReserveError) (old new : List T) (n : ℕ) (x : T) → IsCopiedUpTo R may_refuse error old (replicate n x) new → (0 < n) × may_refuse x error
   refused_repeated may_refuse error old new n x u =
       let one = one_refused may_refuse error old (replicate n x) new u in
       let long = length-replicate n x in

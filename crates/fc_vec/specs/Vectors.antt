@@ -33,7 +33,7 @@ module _ {T : Type 0} (same : T → T → Type 0) where
     pub is : new ≡ before ++ x ∷ []
 
   -- The old items, and then copies of a front of the sources; the copy of the source behind that front may be refused by this error.
-  pub record IsExtendedUpTo (may_refuse : T → TryReserveError → Type 0) (e : TryReserveError) (old sources new : List T) : Type 0 where
+  pub record IsCopiedUpTo (may_refuse : T → TryReserveError → Type 0) (e : TryReserveError) (old sources new : List T) : Type 0 where
     pub front : List T
     pub source : T
     pub rest : List T

@@ -48,7 +48,7 @@ fn serve(rt: &(impl Input + Print), world: World<'_>) -> io::Result<()> {
     for byte in rt.reader().bytes() {
         let byte = byte?;
         if byte == b'\n' {
-            answer_line(rt, &mut map, &mut other, world, front_of(&line, len))?;
+            answer_line(rt, &mut map, &mut other, world, after_front(&line, len))?;
             len = 0;
         } else if len < LONGEST {
             line[len] = byte;
@@ -59,7 +59,7 @@ fn serve(rt: &(impl Input + Print), world: World<'_>) -> io::Result<()> {
 }
 
 // The first so many bytes, or all where there are no more.
-fn front_of(line: &[u8], len: usize) -> &[u8] {
+fn after_front(line: &[u8], len: usize) -> &[u8] {
     match line.get(..len) {
         Some(front) => front,
         None => line,

@@ -1,7 +1,7 @@
 // Copies of what holds values: each value is copied by its own `try_clone`.
 ghost use Rattle.std.specs.Prelude.{◌≡◌, ◌⊎◌, MatchOption};
 ghost use Rattle.std.specs.List.{AllZip};
-ghost use Rattle.fc_base.specs.declared.try_reserve_error.TryReserveError.TheVariants.{AllocError as NoMemory};
+ghost use Rattle.fc_base.specs.declared.try_reserve_error.TryReserveError.{TryReserveError};
 ghost use Rattle.fc_base.specs.Copies.{SameContents, MayRefuseCopies};
 
 use super::TryClone;
@@ -39,7 +39,7 @@ impl<T: TryClone> TryClone for Box<T> {
 
     ghost can_clone = { T.can_clone };
 
-    ghost may_refuse = { λ source e. (e ≡ NoMemory) ⊎ T.may_refuse source.value e };
+    ghost may_refuse = { λ source e. (e ≡ TryReserveError.AllocError) ⊎ T.may_refuse source.value e };
 
     fn try_clone(&self) -> Result<Box<T>, TryReserveError> {
         let copy = self.as_ref().try_clone()?;

@@ -39,7 +39,7 @@ fn listed<K: Ord + TryClone>(
     requires copied { K.can_clone }
     requires same { IsExact K.same }
     ensures copies { IfOk result (λ copies. copies.items ≡ map Some (combined K.cmp op (items set.now) (items other.now))) }
-    ensures refused { IfErr result (MayRefuseCopies K.may_refuse (combined K.cmp op (items set.now) (items other.now))) }
+    ensures error { IfErr result (MayRefuseCopies K.may_refuse (combined K.cmp op (items set.now) (items other.now))) }
 {
     match op {
         SetOp::Difference => copies_of(alloc, set.difference(other)),
@@ -58,7 +58,7 @@ fn copies_of<'a, K: Ord + TryClone + 'a, I: Iterator<Item = &'a K> + Drop>(
     requires same { IsExact K.same }
     requires ends { I.can_next walk × IsFinite (I.remaining walk) }
     ensures copies { (all : List K) → Lends I.next_gives walk all → IfOk result (λ copies. copies.items ≡ map Some all) }
-    ensures refused { (all : List K) → Lends I.next_gives walk all → IfErr result (MayRefuseCopies K.may_refuse all) }
+    ensures error { (all : List K) → Lends I.next_gives walk all → IfErr result (MayRefuseCopies K.may_refuse all) }
 {
     let mut copies = Vec::new(alloc);
     for item in walk {
@@ -96,7 +96,7 @@ fn kept<K: Ord + TryClone>(
     requires copied { K.can_clone }
     requires same { IsExact K.same }
     ensures made { IfOk result (λ made. items made ≡ combined K.cmp op (items set.now) (items other.now)) }
-    ensures refused { IfErr result (MayCopyRefuse K.may_refuse (combined K.cmp op (items set.now) (items other.now))) }
+    ensures error { IfErr result (MayCopyRefuse K.may_refuse (combined K.cmp op (items set.now) (items other.now))) }
 {
     match op {
         SetOp::Difference => set.sub(other),

@@ -167,7 +167,7 @@ fn copies<K: Ord + TryClone>(
     requires copied { K.can_clone }
     requires same { IsExact K.same }
     ensures steps { IfOk result (λ steps. steps.items ≡ walked walk.entry ends.now) }
-    ensures refused { IfErr result (MayRefuseCopies (MayRefuseFound K.may_refuse) (walked walk.entry ends.now)) }
+    ensures error { IfErr result (MayRefuseCopies (MayRefuseFound K.may_refuse) (walked walk.entry ends.now)) }
 {
     let mut steps = Vec::with_capacity(alloc, ends.len())?;
     let mut walk = walk;

@@ -1,6 +1,5 @@
 //! A world of maps and sets, and the commands on its maps.
 ghost use Rattle.std.specs.Prelude.{◌≡◌, ◌<◌, ◌↔◌, min, List, [], length, IfOk, OnErr, IfErr, MatchResult, is_some, IsTrue, if◌then◌else◌};
-ghost use Rattle.fc_base.specs.declared.try_reserve_error.TryReserveError.TheVariants.{AllocError};
 ghost use Rattle.fc_base.specs.Copies.{IsExact, MayRefuseCopies, MayRefusePair};
 ghost use Rattle.fc_base.specs.OneKey.{put, cut};
 ghost use Rattle.fc_base.specs.Parts.{at, value_at};
@@ -98,7 +97,7 @@ impl<K: Ord + TryClone, V: TryClone> World<K, V> {
         requires copied { K.can_clone × V.can_clone }
         requires same { IsExact K.same × IsExact V.same }
         ensures ran { IfOk result (λ replies. Runs K.cmp K.may_refuse V.may_refuse self.old commands.items replies.items self.new) }
-        ensures error { IfErr result (λ e. e ≡ AllocError) }
+        ensures error { IfErr result (λ e. e ≡ TryReserveError.AllocError) }
         ensures unchanged { OnErr result (self.new ≡ self.old) }
     {
         let mut replies = match Vec::with_capacity(self.alloc, commands.len()) {
@@ -211,7 +210,7 @@ fn copies<K: Ord + TryClone, V: TryClone>(
     requires copied { K.can_clone × V.can_clone }
     requires same { IsExact K.same × IsExact V.same }
     ensures steps { IfOk result (λ steps. steps.items ≡ walked pairs.entry ends.now) }
-    ensures refused { IfErr result (MayRefuseCopies (MayRefuseFound (MayRefusePair K.may_refuse V.may_refuse)) (walked pairs.entry ends.now)) }
+    ensures error { IfErr result (MayRefuseCopies (MayRefuseFound (MayRefusePair K.may_refuse V.may_refuse)) (walked pairs.entry ends.now)) }
 {
     let mut steps = Vec::with_capacity(alloc, ends.len())?;
     let mut pairs = pairs;

@@ -39,7 +39,7 @@ fn insert_copies<K: Eq + Hash + TryClone, V: TryClone>(
     requires distinct { IsMap K.eq walk }
     requires empty { made.old.pairs ≡ [] }
     ensures copied { OnOk result (AreCopies K.same V.same walk.entry made.new.pairs) }
-    ensures refused { IfErr result (MayRefuseCopies (MayRefusePair K.may_refuse V.may_refuse) walk.entry) }
+    ensures error { IfErr result (MayRefuseCopies (MayRefusePair K.may_refuse V.may_refuse) walk.entry) }
 {
     let mut walk = walk;
     'pairs: while let Some((key, value)) = walk.next() {

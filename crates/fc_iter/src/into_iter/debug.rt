@@ -1,7 +1,7 @@
 //! The text of the owned walk by `{:?}`: what is still to come, and nothing of it is given out.
 use super::IntoIter;
-use fc_node::node::Node;
-use fc_walk::owned::Nodes;
+use fc_tree_node::node::Node;
+use fc_tree_walk::owned::Nodes;
 use std::fmt::{self, Debug, DebugList};
 
 /// `[(key, value), ..]`, the pairs still to come. Upstream: `Debug` for `btree_map::IntoIter`.

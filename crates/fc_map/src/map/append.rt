@@ -6,8 +6,8 @@ ghost use Rattle.fc_base.specs.Joined.{joined};
 ghost use Rattle.fc_map.specs.Entries.{entries, IsSoundMap};
 
 use super::BTreeMap;
-use fc_append::append::try_append;
 use fc_base::{Count, TryReserveError};
+use fc_tree_append::append::try_append;
 
 impl<K: Ord + Drop, V: Drop> BTreeMap<K, V> {
     /// Takes all pairs of `other`, which is then empty. Where both maps hold an equal key, key and value are `other`'s, and ours are

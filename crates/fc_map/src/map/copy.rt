@@ -3,12 +3,12 @@ ghost use Rattle.std.specs.Prelude.{◌≡◌, true, IfOk, MatchResult};
 ghost use Rattle.std.specs.List.{AllZip};
 ghost use Rattle.fc_base.specs.Ascending.{IsAscending};
 ghost use Rattle.fc_base.specs.Copies.{MayRefuseCopies, MayRefusePair};
-ghost use Rattle.fc_copy.specs.Copy.{AreSame};
+ghost use Rattle.fc_tree_copy.specs.Copy.{AreSame};
 ghost use Rattle.fc_map.specs.Entries.{entries, IsSoundMap};
 
 use super::BTreeMap;
 use fc_base::{TryClone, TryReserveError};
-use fc_copy::copy::try_copy;
+use fc_tree_copy::copy::try_copy;
 
 /// A copy of a map has a copy of each pair, in order, made by the `try_clone` of key and value, in a tree of the same nodes; it takes its
 /// memory where the map does. Copies of keys have to be equal to them, so that they ascend as the keys do. Upstream:

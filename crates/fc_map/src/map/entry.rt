@@ -1,6 +1,6 @@
 //! A key's place in a map: it was searched for once, and is written, filled or emptied without another comparison.
 ghost use Rattle.std.specs.Prelude.{◌≡◌};
-ghost use Rattle.fc_node.specs.TreePlace.{IsPlaceIn};
+ghost use Rattle.fc_tree_node.specs.TreePlace.{IsPlaceIn};
 ghost use Rattle.fc_map.specs.Place.{IsOpenAt};
 ghost use Rattle.fc_map.specs.Unique.{open-prop, place-prop};
 
@@ -10,7 +10,7 @@ mod try_entry;
 mod vacant;
 
 use super::BTreeMap;
-use fc_node::path::Path;
+use fc_tree_node::path::Path;
 
 /// The place of a key in a map. Dropped, it leaves the map as it was. Upstream: `Entry`.
 #[derive(Drop)]

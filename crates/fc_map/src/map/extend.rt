@@ -18,14 +18,14 @@ impl<K: Ord + Drop, V: Drop> BTreeMap<K, V> {
     ///
     /// # Errors
     /// At the first item that `try_insert` refuses, whose key is new, with that error. The items before it stay in the map. It is
-    /// dropped, and so is the iterator with the items behind it.
+    /// dropped, and so is the iterator with the items after it.
     pub fn try_extend<I: IntoIterator<Item = (K, V)>>(
         &mut self,
         items: I,
     ) -> Result<(), TryReserveError>
         requires ends { IsFiniteIterable I.into_iter_gives I.IntoIter.can_next I.IntoIter.remaining items }
         ensures all { OnOk result ((all : List (K × V)) × GivesAll I.into_iter_gives I.IntoIter.next_gives items all × (entries self.new ≡ extended K.cmp (entries self.old) all)) }
-        ensures refused { IfErr result (λ e. (taken : List (K × V)) × GivesFirst I.into_iter_gives I.IntoIter.next_gives items taken × ((rest : List (K × V)) → IsExtendedUpTo K.cmp (entries self.old) (taken ++ rest) (entries self.new) e)) }
+        ensures error { IfErr result (λ e. (taken : List (K × V)) × GivesFirst I.into_iter_gives I.IntoIter.next_gives items taken × ((rest : List (K × V)) → IsExtendedUpTo K.cmp (entries self.old) (taken ++ rest) (entries self.new) e)) }
         ensures ascending { IsAscending K.cmp (entries self.new) }
         ensures sound { IsSoundMap self.new }
     {
@@ -54,7 +54,7 @@ impl<K: Ord + Drop, V: Drop> TryFromIterator<(K, V)> for BTreeMap<K, V> {
     ) -> Result<BTreeMap<K, V>, TryReserveError>
         requires ends { IsFiniteIterable T.into_iter_gives T.IntoIter.can_next T.IntoIter.remaining iter }
         ensures made { IfOk result (λ made. (all : List (K × V)) × GivesAll T.into_iter_gives T.IntoIter.next_gives iter all × (entries made ≡ extended K.cmp [] all)) }
-        ensures refused { IfErr result (λ e. (taken : List (K × V)) × GivesFirst T.into_iter_gives T.IntoIter.next_gives iter taken × ((new : List (K × V)) × ((rest : List (K × V)) → IsExtendedUpTo K.cmp [] (taken ++ rest) new e))) }
+        ensures error { IfErr result (λ e. (taken : List (K × V)) × GivesFirst T.into_iter_gives T.IntoIter.next_gives iter taken × ((new : List (K × V)) × ((rest : List (K × V)) → IsExtendedUpTo K.cmp [] (taken ++ rest) new e))) }
         ensures ascending { IfOk result (λ made. IsAscending K.cmp (entries made)) }
         ensures sound { IfOk result (λ made. IsSoundMap made) }
     {

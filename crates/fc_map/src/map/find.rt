@@ -9,8 +9,8 @@ ghost use Rattle.fc_map.specs.Place.{IsHeldAt, IsOpenAt, TellsRoom};
 
 use super::BTreeMap;
 use fc_base::{Count, Query};
-use fc_node::path::Path;
-use fc_search::search::{self, Gap};
+use fc_tree_node::path::Path;
+use fc_tree_search::search::{self, NotFound};
 
 impl<K: Ord, V> BTreeMap<K, V> {
     /// The value at an equal key, or `None` where there is none. `key` is a `Query`: `get(&key)`, or `get("word")` where the keys are
@@ -86,7 +86,7 @@ impl<K: Ord, V> BTreeMap<K, V> {
         key: Q,
         path: &mut Path,
         count: &mut Count,
-    ) -> Result<(), Gap>
+    ) -> Result<(), NotFound>
         requires start { path.old ≡ [] }
         ensures found { OnOk result (IsHeldAt Q.order (Q.sought key) self.now path.new) }
         ensures gap { OnErr result (IsOpenAt Q.order (Q.sought key) self.now path.new) }
@@ -101,7 +101,7 @@ impl<K: Ord, V> BTreeMap<K, V> {
         ensures bounded { IsBounded (length (entries self.now)) count.old count.new }
     {
         match &self.root {
-            None => Err(Gap { has_room: false }),
+            None => Err(NotFound { has_room: false }),
             Some(root) => search::search(root, key, path, count),
         }
     }

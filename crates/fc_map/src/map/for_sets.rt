@@ -8,13 +8,13 @@ ghost use Rattle.fc_base.specs.Parts.{at};
 ghost use Rattle.fc_map.specs.Counts.{IsBounded};
 ghost use Rattle.fc_map.specs.Entries.{entries, IsSoundMap, passed_in};
 ghost use Rattle.fc_map.specs.Place.{IsHeldAt};
-ghost use Rattle.fc_node.specs.Depth.{HasFewMoves};
+ghost use Rattle.fc_tree_node.specs.Depth.{HasFewMoves};
 
 use super::BTreeMap;
 use fc_base::{Count, Query, TryReserveError};
-use fc_build::builder::Builder;
-use fc_node::path::Path;
-use fc_removal::replacement::exchange;
+use fc_tree_build::builder::Builder;
+use fc_tree_node::path::Path;
+use fc_tree_removal::replacement::exchange;
 use std::alloc::Global;
 
 /// Takes the pair with an equal key out and answers it. `None` where there is none, and the map is as it was. It takes no memory. To

@@ -4,29 +4,29 @@
 //! step of such a path alone; only at a leaf's end it looks at the tree.
 ghost use Rattle.std.specs.Prelude.{◌≡◌, ◌+◌, ◌<◌, ◌≤◌, ◌↔◌, List, ℕ, length, take, drop, IsTrue};
 ghost use Rattle.fc_base.specs.Ranges.{bound_now, is_range};
-ghost use Rattle.fc_node.specs.TreePlace.{ahead_of, before_of, IsPlaceIn};
-ghost use Rattle.fc_visit.specs.Leaf.{gone_on};
-ghost use Rattle.fc_visit.specs.Visits.{CalledAtPair, IsVisited};
-ghost use Rattle.fc_walk.specs.Gap.{IsGapIn, AreEndsIn};
+ghost use Rattle.fc_tree_node.specs.TreePlace.{before_pair_in, before_gap_in, IsPlaceIn};
+ghost use Rattle.fc_tree_visit.specs.Leaf.{gone_on};
+ghost use Rattle.fc_tree_visit.specs.Visits.{CalledAtPair, IsVisited};
+ghost use Rattle.fc_tree_walk.specs.Gap.{IsGapIn, AreEndsIn};
 ghost use Rattle.fc_map.specs.Entries.{entries, IsSoundMap};
 ghost use Rattle.fc_map.specs.Writing.{starting};
 
 use super::BTreeMap;
-use fc_node::node::Node;
-use fc_node::path::Path;
-use fc_visit::leaf::{go_ahead, go_behind, pairs_behind};
-use fc_visit::tree::visit_tree;
-use fc_walk::gaps::{first_gap, push_ahead, steps_ahead, steps_behind};
-use fc_walk::seek::{start_in, stop_in};
-use fc_walk::trail::{first_in, last_in, places};
+use fc_tree_node::node::Node;
+use fc_tree_node::path::Path;
+use fc_tree_visit::leaf::{go_to_next, go_to_previous, pairs_after};
+use fc_tree_visit::tree::visit_tree;
+use fc_tree_walk::gaps::{first_gap, push_gap_before, steps_to_next, steps_to_previous};
+use fc_tree_walk::seek::{start_in, stop_in};
+use fc_tree_walk::trail::{first_in, last_in, places};
 use std::ops::Bound;
 
 impl<K: Ord, V> BTreeMap<K, V> {
-    // The gaps ahead of all pairs and behind them.
+    // The gaps before all pairs and after them.
     pub(crate) fn whole_ends(&self) -> (Path, Path)
         ensures ends { AreEndsIn self.now result.0 result.1 }
-        ensures front { length (before_of self.now result.0) ≡ 0 }
-        ensures back { length (before_of self.now result.1) ≡ length (entries self.now) }
+        ensures front { length (before_gap_in self.now result.0) ≡ 0 }
+        ensures back { length (before_gap_in self.now result.1) ≡ length (entries self.now) }
     {
         (places(&first_in(&self.root)), places(&last_in(&self.root)))
     }
@@ -35,8 +35,8 @@ impl<K: Ord, V> BTreeMap<K, V> {
     pub(crate) fn range_ends(&self, lo: &Bound<&K>, hi: &Bound<&K>) -> (Path, Path)
         requires { IsTrue (is_range K.cmp (bound_now lo.now) (bound_now hi.now)) }
         ensures ends { AreEndsIn self.now result.0 result.1 }
-        ensures front { length (before_of self.now result.0) ≡ (starting K.cmp (bound_now lo.now) (bound_now hi.now) (entries self.now)).front }
-        ensures back { length (before_of self.now result.1) ≡ (starting K.cmp (bound_now lo.now) (bound_now hi.now) (entries self.now)).back }
+        ensures front { length (before_gap_in self.now result.0) ≡ (starting K.cmp (bound_now lo.now) (bound_now hi.now) (entries self.now)).front }
+        ensures back { length (before_gap_in self.now result.1) ≡ (starting K.cmp (bound_now lo.now) (bound_now hi.now) (entries self.now)).back }
     {
         (
             places(&start_in(&self.root, lo)),
@@ -47,7 +47,7 @@ impl<K: Ord, V> BTreeMap<K, V> {
     // Whether two gaps are the same.
     pub(crate) fn is_same_gap(&self, a: &Path, b: &Path) -> bool
         requires { IsGapIn self.now a.now × IsGapIn self.now b.now }
-        ensures { IsTrue result ↔ (length (before_of self.now a.now) ≡ length (before_of self.now b.now)) }
+        ensures { IsTrue result ↔ (length (before_gap_in self.now a.now) ≡ length (before_gap_in self.now b.now)) }
     {
         // Read for the proof alone: it shows that the tree is sound.
         let _ = &self.root;
@@ -58,103 +58,103 @@ impl<K: Ord, V> BTreeMap<K, V> {
     pub(crate) fn visit<F: FnMut(&K, &mut V)>(&mut self, front: &Path, back: &Path, f: F)
         requires ends { AreEndsIn self.old front.now back.now }
         requires callable { F.IsAlwaysCallable f }
-        ensures gaps { (path : List ℕ) → IsGapIn self.old path → IsGapIn self.new path × (length (before_of self.new path) ≡ length (before_of self.old path)) }
-        ensures visited { (last : F) × IsVisited (CalledAtPair F.FnMut) f last (take (length (before_of self.old front.now)) (entries self.old)) (drop (length (before_of self.old back.now)) (entries self.old)) (entries self.old) (entries self.new) }
+        ensures gaps { (path : List ℕ) → IsGapIn self.old path → IsGapIn self.new path × (length (before_gap_in self.new path) ≡ length (before_gap_in self.old path)) }
+        ensures visited { (last : F) × IsVisited (CalledAtPair F.FnMut) f last (take (length (before_gap_in self.old front.now)) (entries self.old)) (drop (length (before_gap_in self.old back.now)) (entries self.old)) (entries self.old) (entries self.new) }
     {
         visit_tree(&mut self.root, front, back, f);
     }
 
-    // How many pairs of its leaf lie behind a gap; none where there is no leaf.
-    pub(crate) fn run_behind(&self, gap: &Path) -> usize
+    // How many pairs of its leaf lie after a gap; none where there is no leaf.
+    pub(crate) fn run_after(&self, gap: &Path) -> usize
         requires { IsGapIn self.now gap.now }
         ensures run { IsGapIn self.now (gone_on gap.now result) }
         ensures all { (k : ℕ) → IsGapIn self.now (gone_on gap.now k) → 0 < length gap.now → k ≤ result }
     {
         match &self.root {
             None => 0,
-            Some(root) => pairs_behind(root, gap.as_slice()),
+            Some(root) => pairs_after(root, gap.as_slice()),
         }
     }
 
-    // Goes on past the pair behind a gap, and answers that pair's place. So many pairs of the gap's leaf lie behind it.
+    // Goes on past the pair after a gap, and answers that pair's place. So many pairs of the gap's leaf lie after it.
     #[inline]
-    pub(crate) fn step_behind(&self, gap: &mut Path, run: &mut usize) -> Path
+    pub(crate) fn step_to_next(&self, gap: &mut Path, run: &mut usize) -> Path
         requires gap { IsGapIn self.now gap.old }
         requires run { IsGapIn self.now (gone_on gap.old run.old) }
-        requires some { (other : List ℕ) × IsGapIn self.now other × (length (before_of self.now gap.old) < length (before_of self.now other)) }
+        requires some { (other : List ℕ) × IsGapIn self.now other × (length (before_gap_in self.now gap.old) < length (before_gap_in self.now other)) }
         ensures place { IsPlaceIn self.now result }
-        ensures ahead { length (ahead_of self.now result) ≡ length (before_of self.now gap.old) }
+        ensures before { length (before_pair_in self.now result) ≡ length (before_gap_in self.now gap.old) }
         ensures gap { IsGapIn self.now gap.new }
         ensures run { IsGapIn self.now (gone_on gap.new run.new) }
-        ensures step { length (before_of self.now gap.new) ≡ length (before_of self.now gap.old) + 1 }
+        ensures step { length (before_gap_in self.now gap.new) ≡ length (before_gap_in self.now gap.old) + 1 }
         ensures sound { IsSoundMap self.now }
     {
         if *run == 0 {
-            let (place, next) = self.leave_behind(gap);
+            let (place, next) = self.leave_to_next(gap);
             *gap = next;
-            *run = self.run_behind(gap);
+            *run = self.run_after(gap);
             return place;
         }
         // Read for the proof alone: it shows that the tree is sound.
         let _ = &self.root;
         let place = *gap;
-        go_behind(gap);
+        go_to_next(gap);
         *run -= 1;
         place
     }
 
-    // The place of the pair behind a gap, and the gap behind that pair, by a way down from the root.
+    // The place of the pair after a gap, and the gap after that pair, by a way down from the root.
     #[inline(never)]
-    fn leave_behind(&self, gap: &Path) -> (Path, Path)
+    fn leave_to_next(&self, gap: &Path) -> (Path, Path)
         requires gap { IsGapIn self.now gap.now }
-        requires some { (other : List ℕ) × IsGapIn self.now other × (length (before_of self.now gap.now) < length (before_of self.now other)) }
+        requires some { (other : List ℕ) × IsGapIn self.now other × (length (before_gap_in self.now gap.now) < length (before_gap_in self.now other)) }
         ensures place { IsPlaceIn self.now result.0 }
-        ensures ahead { length (ahead_of self.now result.0) ≡ length (before_of self.now gap.now) }
+        ensures before { length (before_pair_in self.now result.0) ≡ length (before_gap_in self.now gap.now) }
         ensures gap { IsGapIn self.now result.1 }
-        ensures step { length (before_of self.now result.1) ≡ length (before_of self.now gap.now) + 1 }
+        ensures step { length (before_gap_in self.now result.1) ≡ length (before_gap_in self.now gap.now) + 1 }
         ensures sound { IsSoundMap self.now }
     {
         let Some(root) = &self.root else {
             unreachable!()
         };
         let gap = gap.as_slice();
-        let steps = steps_behind(root, gap);
+        let steps = steps_to_next(root, gap);
         let last = steps - 1;
         let next = first_gap(&gap[..last], gap[last] as usize + 1, gap.len());
         (Path::of(&gap[..steps]), next)
     }
 
-    // Goes back past the pair ahead of a gap, and answers that pair's place.
+    // Goes back past the pair before a gap, and answers that pair's place.
     #[inline]
-    pub(crate) fn step_ahead(&self, gap: &mut Path) -> Path
+    pub(crate) fn step_to_previous(&self, gap: &mut Path) -> Path
         requires gap { IsGapIn self.now gap.old }
-        requires some { 0 < length (before_of self.now gap.old) }
+        requires some { 0 < length (before_gap_in self.now gap.old) }
         ensures place { IsPlaceIn self.now result }
-        ensures ahead { length (ahead_of self.now result) + 1 ≡ length (before_of self.now gap.old) }
+        ensures before { length (before_pair_in self.now result) + 1 ≡ length (before_gap_in self.now gap.old) }
         ensures gap { IsGapIn self.now gap.new }
-        ensures step { length (before_of self.now gap.new) + 1 ≡ length (before_of self.now gap.old) }
+        ensures step { length (before_gap_in self.now gap.new) + 1 ≡ length (before_gap_in self.now gap.old) }
         ensures sound { IsSoundMap self.now }
     {
         if gap.step(gap.len() - 1) == 0 {
-            let (place, next) = self.leave_ahead(gap);
+            let (place, next) = self.leave_to_previous(gap);
             *gap = next;
             return place;
         }
         // Read for the proof alone: it shows that the tree is sound.
         let _ = &self.root;
-        go_ahead(gap);
+        go_to_previous(gap);
         *gap
     }
 
-    // The place of the pair ahead of a gap, and the gap ahead of that pair, by a way down from the root.
+    // The place of the pair before a gap, and the gap before that pair, by a way down from the root.
     #[inline(never)]
-    fn leave_ahead(&self, gap: &Path) -> (Path, Path)
+    fn leave_to_previous(&self, gap: &Path) -> (Path, Path)
         requires gap { IsGapIn self.now gap.now }
-        requires some { 0 < length (before_of self.now gap.now) }
+        requires some { 0 < length (before_gap_in self.now gap.now) }
         ensures place { IsPlaceIn self.now result.0 }
-        ensures ahead { length (ahead_of self.now result.0) + 1 ≡ length (before_of self.now gap.now) }
+        ensures before { length (before_pair_in self.now result.0) + 1 ≡ length (before_gap_in self.now gap.now) }
         ensures gap { IsGapIn self.now result.1 }
-        ensures step { length (before_of self.now result.1) + 1 ≡ length (before_of self.now gap.now) }
+        ensures step { length (before_gap_in self.now result.1) + 1 ≡ length (before_gap_in self.now gap.now) }
         ensures sound { IsSoundMap self.now }
     {
         let Some(root) = &self.root else {
@@ -162,11 +162,11 @@ impl<K: Ord, V> BTreeMap<K, V> {
         };
         let root: &Node<K, V> = root;
         let gap = gap.as_slice();
-        let last = steps_ahead(root, gap) - 1;
+        let last = steps_to_previous(root, gap) - 1;
         let mut place = Path::of(&gap[..last]);
         place.push(gap[last] as usize - 1);
         let mut next = Path::new();
-        push_ahead(root, place.as_slice(), &mut next);
+        push_gap_before(root, place.as_slice(), &mut next);
         (place, next)
     }
 }

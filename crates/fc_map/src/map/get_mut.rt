@@ -8,7 +8,7 @@ ghost use Rattle.fc_map.specs.Entries.{entries, IsSoundMap, passed_in};
 
 use super::BTreeMap;
 use fc_base::{Count, Query};
-use fc_node::path::Path;
+use fc_tree_node::path::Path;
 
 impl<K: Ord, V> BTreeMap<K, V> {
     ghost use Rattle.fc_map.specs.LendsKey.{lends_get, lent_value, written_at};

@@ -7,14 +7,14 @@ ghost use Rattle.fc_base.specs.Parts.{at, value_at};
 ghost use Rattle.fc_map.specs.Counts.{IsBounded};
 ghost use Rattle.fc_map.specs.Entries.{entries, IsSoundMap, passed_in};
 ghost use Rattle.fc_map.specs.Place.{IsHeldAt, IsOpenAt, IsPutIn, TellsRoom};
-ghost use Rattle.fc_node.specs.Depth.{HasFewMoves};
-ghost use Rattle.fc_node.specs.TreePlace.{before_of, after_of};
+ghost use Rattle.fc_tree_node.specs.Depth.{HasFewMoves};
+ghost use Rattle.fc_tree_node.specs.TreePlace.{before_gap_in, after_gap_in};
 
 use super::BTreeMap;
 use fc_base::{Count, TryReserveError};
-use fc_insertion::insertion::{first_leaf, try_insert};
-use fc_insertion::leaf::insert_in_leaf;
-use fc_node::path::Path;
+use fc_tree_insertion::insertion::{first_leaf, try_insert};
+use fc_tree_insertion::leaf::insert_in_leaf;
+use fc_tree_node::path::Path;
 use std::mem;
 
 impl<K: Ord + Drop, V: Drop> BTreeMap<K, V> {
@@ -108,7 +108,7 @@ impl<K: Ord + Drop, V: Drop> BTreeMap<K, V> {
         requires gap { IsOpenAt K.cmp key self.old path.old }
         requires room { TellsRoom has_room path.old self.old }
         ensures put { OnOk result (entries self.new ≡ put K.cmp (entries self.old) key value) }
-        ensures place { OnOk result (IsPutIn path.new self.new (key, value) (before_of self.old path.old) (after_of self.old path.old)) }
+        ensures place { OnOk result (IsPutIn path.new self.new (key, value) (before_gap_in self.old path.old) (after_gap_in self.old path.old)) }
         ensures unchanged { OnErr result (self.new ≡ self.old) }
         ensures back { IfErr result (λ e. (e.0 ≡ key) × (e.1 ≡ value)) }
         ensures error { IfErr result (λ e. MayGrowRefuse (length (entries self.old)) e.2) }
@@ -135,7 +135,7 @@ impl<K: Ord + Drop, V: Drop> BTreeMap<K, V> {
         requires room { TellsRoom true path.now self.old }
         requires fits { length (entries self.old) < usize.MAX }
         ensures put { entries self.new ≡ put K.cmp (entries self.old) pair.0 pair.1 }
-        ensures place { IsPutIn path.now self.new pair (before_of self.old path.now) (after_of self.old path.now) }
+        ensures place { IsPutIn path.now self.new pair (before_gap_in self.old path.now) (after_gap_in self.old path.now) }
         ensures ascending { IsAscending K.cmp (entries self.new) }
         ensures sound { IsSoundMap self.new }
         ensures comparisons { count.new.comparisons ≡ count.old.comparisons }
@@ -162,7 +162,7 @@ impl<K: Ord + Drop, V: Drop> BTreeMap<K, V> {
     ) -> Result<(), (K, V, TryReserveError)>
         requires gap { IsOpenAt K.cmp key self.old path.old }
         ensures put { OnOk result (entries self.new ≡ put K.cmp (entries self.old) key value) }
-        ensures place { OnOk result (IsPutIn path.new self.new (key, value) (before_of self.old path.old) (after_of self.old path.old)) }
+        ensures place { OnOk result (IsPutIn path.new self.new (key, value) (before_gap_in self.old path.old) (after_gap_in self.old path.old)) }
         ensures unchanged { OnErr result (self.new ≡ self.old) }
         ensures back { IfErr result (λ e. (e.0 ≡ key) × (e.1 ≡ value)) }
         ensures error { IfErr result (λ e. MayGrowRefuse (length (entries self.old)) e.2) }

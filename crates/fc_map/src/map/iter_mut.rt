@@ -1,14 +1,14 @@
 //! Writing walks over all values of a map, from both ends.
 ghost use Rattle.std.specs.Prelude.{◌≡◌, ◌+◌, length};
-ghost use Rattle.fc_visit.specs.Leaf.{gone_on};
-ghost use Rattle.fc_walk.specs.Gap.{AreEndsIn, IsGapIn};
-ghost use Rattle.fc_node.specs.TreePlace.{before_of};
+ghost use Rattle.fc_tree_visit.specs.Leaf.{gone_on};
+ghost use Rattle.fc_tree_walk.specs.Gap.{AreEndsIn, IsGapIn};
+ghost use Rattle.fc_tree_node.specs.TreePlace.{before_gap_in};
 ghost use Rattle.fc_map.specs.Unique.{ends-prop, gap-prop};
 
 mod calls;
 
 use super::BTreeMap;
-use fc_node::path::Path;
+use fc_tree_node::path::Path;
 
 /// The values that are still to be lent for writing, in ascending order of their keys. `next` lends the first of them and
 /// `next_back` the last, each once; once there is none, both answer `None` ever after. No call compares keys or takes memory.
@@ -16,13 +16,13 @@ use fc_node::path::Path;
 pub struct IterMut<'a, K: Ord, V> {
     pub(crate) map: &'a mut BTreeMap<K, V>,
     pub(crate) front: Path,
-    // So many pairs of the front's leaf lie behind it.
+    // So many pairs of the front's leaf lie after it.
     pub(crate) run: usize,
     pub(crate) back: Path,
     pub(crate) left: usize,
     ghost ends: { AreEndsIn map.now front back } by { ends-prop map.now front back },
     ghost run_is: { IsGapIn map.now (gone_on front run) } by { gap-prop map.now (gone_on front run) },
-    ghost counted: { left + length (before_of map.now front) ≡ length (before_of map.now back) },
+    ghost counted: { left + length (before_gap_in map.now front) ≡ length (before_gap_in map.now back) },
 }
 
 /// A walk that lends all values for writing: `IterMut` lends no key, so it is that walk. Upstream: `btree_map::ValuesMut`.

@@ -4,14 +4,14 @@ ghost use Rattle.std.specs.Option.{option_map};
 ghost use Rattle.std.specs.Borrow.{sem};
 
 use super::BTreeMap;
-use fc_node::path::Path;
-use fc_search::lend;
+use fc_tree_node::path::Path;
+use fc_tree_search::lend;
 
 impl<K: Ord, V> BTreeMap<K, V> {
     ghost use Rattle.fc_base.specs.Ascending.{IsAscending};
     ghost use Rattle.fc_map.specs.Entries.{entries, IsSoundMap};
     ghost use Rattle.fc_map.specs.Lends.{lends_at, written_in};
-    ghost use Rattle.fc_node.specs.TreePlace.{IsPlaceIn, pair_in};
+    ghost use Rattle.fc_tree_node.specs.TreePlace.{IsPlaceIn, pair_in};
 
     // The value of the pair that the path leads to, lent for writing.
     pub(crate) fn value_mut(&mut self, path: &Path) -> &mut V

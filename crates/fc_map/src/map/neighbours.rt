@@ -5,11 +5,11 @@ ghost use Rattle.fc_base.specs.Halves.{not_below};
 ghost use Rattle.fc_base.specs.Parts.{below, above};
 ghost use Rattle.fc_map.specs.Counts.{IsBounded};
 ghost use Rattle.fc_map.specs.Entries.{entries, now_pair, passed_in};
-ghost use Rattle.fc_search.specs.Neighbours.{first_item, last_item, not_above};
+ghost use Rattle.fc_tree_search.specs.Neighbours.{first_item, last_item, not_above};
 
 use super::BTreeMap;
 use fc_base::{Count, Query};
-use fc_search::neighbours::{first_after, first_from, last_before, last_to};
+use fc_tree_search::neighbours::{first_after, first_from, last_before, last_to};
 
 impl<K: Ord, V> BTreeMap<K, V> {
     /// The first pair whose key is not below `key`, or `None` where there is none: what Java's maps call `ceiling`. `key` is a `Query`, as in `get`. One way

@@ -1,12 +1,12 @@
 //! The pair at a place that a search found.
 ghost use Rattle.std.specs.Prelude.{◌≡◌, Some};
 ghost use Rattle.fc_map.specs.Place.{IsOpenAt, TellsRoom};
-ghost use Rattle.fc_node.specs.TreePlace.{IsPlaceIn, pair_in};
+ghost use Rattle.fc_tree_node.specs.TreePlace.{IsPlaceIn, pair_in};
 
 use super::BTreeMap;
-use fc_insertion::leaf::has_room;
-use fc_node::path::Path;
-use fc_search::lend;
+use fc_tree_insertion::leaf::has_room;
+use fc_tree_node::path::Path;
+use fc_tree_search::lend;
 
 impl<K: Ord, V> BTreeMap<K, V> {
     // The pair that the path leads to.

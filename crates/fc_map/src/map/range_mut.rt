@@ -1,13 +1,13 @@
 //! Writing walks over the pairs of a map within two bounds, from both ends.
 ghost use Rattle.std.specs.Prelude.{◌≡◌};
-ghost use Rattle.fc_visit.specs.Leaf.{gone_on};
-ghost use Rattle.fc_walk.specs.Gap.{AreEndsIn, IsGapIn};
+ghost use Rattle.fc_tree_visit.specs.Leaf.{gone_on};
+ghost use Rattle.fc_tree_walk.specs.Gap.{AreEndsIn, IsGapIn};
 ghost use Rattle.fc_map.specs.Unique.{ends-prop, gap-prop};
 
 mod calls;
 
 use super::BTreeMap;
-use fc_node::path::Path;
+use fc_tree_node::path::Path;
 
 /// The values of a range that are still to be lent for writing, in ascending order of their keys. `next` lends the first of them
 /// and `next_back` the last, each once; once there is none, both answer `None` ever after. No call compares keys or takes memory.
@@ -15,7 +15,7 @@ use fc_node::path::Path;
 pub struct RangeMut<'a, K: Ord, V> {
     pub(crate) map: &'a mut BTreeMap<K, V>,
     pub(crate) front: Path,
-    // So many pairs of the front's leaf lie behind it.
+    // So many pairs of the front's leaf lie after it.
     pub(crate) run: usize,
     pub(crate) back: Path,
     ghost ends: { AreEndsIn map.now front back } by { ends-prop map.now front back },

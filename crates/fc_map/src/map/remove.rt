@@ -6,13 +6,13 @@ ghost use Rattle.fc_base.specs.Parts.{at, value_at};
 ghost use Rattle.fc_map.specs.Counts.{IsBounded};
 ghost use Rattle.fc_map.specs.Entries.{entries, IsSoundMap, passed_in};
 ghost use Rattle.fc_map.specs.Place.{IsHeldAt};
-ghost use Rattle.fc_node.specs.Depth.{HasFewMoves};
-ghost use Rattle.fc_node.specs.TreePlace.{IsPlaceIn, pair_in, ahead_of, behind_of};
+ghost use Rattle.fc_tree_node.specs.Depth.{HasFewMoves};
+ghost use Rattle.fc_tree_node.specs.TreePlace.{IsPlaceIn, pair_in, before_pair_in, after_pair_in};
 
 use super::BTreeMap;
 use fc_base::{Count, Query};
-use fc_node::path::Path;
-use fc_removal::removal::remove;
+use fc_tree_node::path::Path;
+use fc_tree_removal::removal::remove;
 
 impl<K: Ord + Drop, V: Drop> BTreeMap<K, V> {
     /// Takes the pair with an equal key out and answers its value; the key is dropped. `None` where there is none, and the map is
@@ -72,7 +72,7 @@ impl<K: Ord + Drop, V: Drop> BTreeMap<K, V> {
     pub(crate) fn take_at(&mut self, path: &Path, count: &mut Count) -> (K, V)
         requires { IsPlaceIn self.old path.now }
         ensures pair { pair_in self.old path.now ≡ Some result }
-        ensures rest { entries self.new ≡ ahead_of self.old path.now ++ behind_of self.old path.now }
+        ensures rest { entries self.new ≡ before_pair_in self.old path.now ++ after_pair_in self.old path.now }
         ensures length { length (entries self.old) ≡ length (entries self.new) + 1 }
         ensures ascending { IsAscending K.cmp (entries self.new) }
         ensures sound { IsSoundMap self.new }

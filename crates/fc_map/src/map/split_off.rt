@@ -3,14 +3,13 @@ ghost use Rattle.std.specs.Prelude.{◌≡◌, ◌<◌, length, IfOk, IfErr};
 ghost use Rattle.fc_base.specs.Ascending.{IsAscending};
 ghost use Rattle.fc_base.specs.Halves.{not_below};
 ghost use Rattle.fc_base.specs.Parts.{below};
-ghost use Rattle.fc_base.specs.declared.try_reserve_error.TryReserveError.TheVariants.{AllocError};
-ghost use Rattle.fc_border.specs.Cut.{IsCutPathIn, IsCutInTwo};
+ghost use Rattle.fc_tree_border.specs.Cut.{IsCutPathIn, IsCutInTwo};
 ghost use Rattle.fc_map.specs.Entries.{entries, IsSoundMap};
 
 use super::BTreeMap;
 use fc_base::{Count, Query, TryReserveError};
-use fc_border::cutting::try_split_counted;
-use fc_node::path::Path;
+use fc_tree_border::cutting::try_split_counted;
+use fc_tree_node::path::Path;
 
 impl<K: Ord + Drop, V: Drop> BTreeMap<K, V> {
     /// Takes the pairs whose keys are not smaller than the key, which is a `Query`, out into a map of their own. The pairs with
@@ -23,7 +22,7 @@ impl<K: Ord + Drop, V: Drop> BTreeMap<K, V> {
         ensures below { IfOk result (λ _. entries self.new ≡ below Q.order (entries self.old) (Q.sought key)) }
         ensures from { IfOk result (λ rest. entries rest ≡ not_below Q.order (entries self.old) (Q.sought key)) }
         ensures unchanged { IfErr result (λ _. self.new ≡ self.old) }
-        ensures error { IfErr result (λ e. (e ≡ AllocError) × (0 < length (entries self.old))) }
+        ensures error { IfErr result (λ e. (e ≡ TryReserveError.AllocError) × (0 < length (entries self.old))) }
         ensures ascending { IsAscending K.cmp (entries self.new) × IfOk result (λ rest. IsAscending K.cmp (entries rest)) }
         ensures sound { IsSoundMap self.new × IfOk result (λ rest. IsSoundMap rest) }
     {
@@ -40,7 +39,7 @@ impl<K: Ord + Drop, V: Drop> BTreeMap<K, V> {
     fn split_at(&mut self, path: &Path) -> Result<Self, TryReserveError>
         requires path { IsCutPathIn path.now self.old }
         ensures cut { IfOk result (IsCutInTwo path.now self.old self.new) }
-        ensures error { IfErr result (λ e. e ≡ AllocError) }
+        ensures error { IfErr result (λ e. e ≡ TryReserveError.AllocError) }
         ensures unchanged { IfErr result (λ _. self.new ≡ self.old) }
         ensures ascending { IsAscending K.cmp (entries self.new) × IfOk result (λ rest. IsAscending K.cmp (entries rest)) }
         ensures sound { IsSoundMap self.new × IfOk result (λ rest. IsSoundMap rest) }

@@ -2,15 +2,14 @@
 ghost use Rattle.std.specs.Prelude.{◌≡◌, ◌<◌, ◌⊎◌, true, List, [], length, Any, IfOk, IfErr, IsErr};
 ghost use Rattle.std.specs.Iterator.{IsFinite};
 ghost use Rattle.std.specs.List.{AllZip};
-ghost use Rattle.fc_base.specs.declared.try_reserve_error.TryReserveError.TheVariants.{AllocError, CapacityOverflow};
 ghost use Rattle.fc_map.specs.Entries.{IsSoundMap};
 ghost use Rattle.fc_set.specs.Copied.{Lends, MayCopyRefuse};
 ghost use Rattle.fc_set.specs.Items.{items, AreAscending};
 
 use super::BTreeSet;
 use fc_base::{TryClone, TryReserveError};
-use fc_build::builder::Builder;
 use fc_map::map::for_sets;
+use fc_tree_build::builder::Builder;
 use std::alloc::Global;
 
 // A set of copies of the items that the walk lends, which ascend. A second walk counts them, so that the room for all of them is taken
@@ -25,7 +24,7 @@ pub(super) fn try_copied<'a, T: Ord + TryClone + 'a, I: Iterator<Item = &'a T> +
     requires again { I.is_infallible walk × ((other : I) → I.is_clone walk other → other ≡ walk) }
     requires gives { (all : List T) × Lends I.next_gives walk all × AreAscending T.cmp all }
     ensures copied { (all : List T) → Lends I.next_gives walk all → IfOk result (λ made. AllZip T.same all (items made)) }
-    ensures refused { (all : List T) → Lends I.next_gives walk all → IfErr result (MayCopyRefuse T.may_refuse all) }
+    ensures error { (all : List T) → Lends I.next_gives walk all → IfErr result (MayCopyRefuse T.may_refuse all) }
     ensures full { (all : List T) → Lends I.next_gives walk all → usize.MAX < length all → IsErr result }
     ensures ascending { IfOk result (λ made. AreAscending T.cmp (items made)) }
     ensures sound { IfOk result (λ made. IsSoundMap made) }
@@ -52,7 +51,7 @@ fn empty<T: Ord>(alloc: Global) -> BTreeSet<T>
 fn try_count<'a, T: 'a, I: Iterator<Item = &'a T> + Drop>(walk: I) -> Result<usize, TryReserveError>
     requires ends { I.can_next walk × IsFinite (I.remaining walk) }
     ensures count { IfOk result (λ count. (all : List T) → Lends I.next_gives walk all → count ≡ length all) }
-    ensures error { IfErr result (λ e. (e ≡ CapacityOverflow) × ((all : List T) → Lends I.next_gives walk all → usize.MAX < length all)) }
+    ensures error { IfErr result (λ e. (e ≡ TryReserveError.CapacityOverflow) × ((all : List T) → Lends I.next_gives walk all → usize.MAX < length all)) }
 {
     let mut count = 0usize;
     for _item in walk {
@@ -76,7 +75,7 @@ fn try_filled<'a, T: Ord + TryClone + 'a, I: Iterator<Item = &'a T> + Drop>(
     requires gives { (all : List T) × Lends I.next_gives walk all × AreAscending T.cmp all }
     requires count { (all : List T) → Lends I.next_gives walk all → count ≡ length all }
     ensures copied { IfOk result (λ made. (all : List T) → Lends I.next_gives walk all → AllZip T.same all (items made)) }
-    ensures refused { IfErr result (λ e. (all : List T) → Lends I.next_gives walk all → (e ≡ AllocError) ⊎ Any (λ x. T.may_refuse x e) all) }
+    ensures error { IfErr result (λ e. (all : List T) → Lends I.next_gives walk all → (e ≡ TryReserveError.AllocError) ⊎ Any (λ x. T.may_refuse x e) all) }
     ensures ascending { IfOk result (λ made. AreAscending T.cmp (items made)) }
     ensures sound { IfOk result (λ made. IsSoundMap made) }
 {

@@ -4,9 +4,9 @@ ghost use Rattle.std.specs.Iterator.{YieldsFirstRef, UpTo, at_most, item_count};
 ghost use Rattle.std.specs.Iterator.SizeHint.{IsWithinCount};
 ghost use Rattle.fc_set.specs.Items.{items, AreAscending};
 ghost use Rattle.fc_set.specs.Operations.{difference};
-ghost use Rattle.fc_set.specs.Sides.{Sifting, begin_sifting, sifted_behind, GivesApart, GivesLookedUp};
+ghost use Rattle.fc_set.specs.Sides.{Sifting, begin_sifting, sifted_past, GivesApart, GivesLookedUp};
 
-use super::ahead::Ahead;
+use super::peeked::Peeked;
 use super::{BTreeSet, Iter, order_of};
 use std::alloc::AllocError;
 use std::cmp::Ordering;
@@ -21,7 +21,7 @@ pub struct Difference<'a, T: Ord> {
     ours: Iter<'a, T>,
     other: &'a BTreeSet<T>,
     // The walk over the other set. Where there is none, items are looked up in it.
-    theirs: Option<Ahead<'a, T>>,
+    theirs: Option<Peeked<'a, T>>,
 }
 
 impl<'a, T: Ord> Model for Difference<'a, T> {
@@ -60,7 +60,7 @@ impl<'a, T: Ord> Difference<'a, T> {
     /// of both sides. Upstream: `Difference::next`.
     pub fn next(&mut self) -> Option<&'a T>
         ensures steps { YieldsFirstRef (λ w. difference T.cmp w.left w.right) self.old result self.new }
-        ensures behind { MatchOption result (self.new.left ≡ []) (λ x. self.new ≡ sifted_behind T.cmp self.old x.now) }
+        ensures past { MatchOption result (self.new.left ≡ []) (λ x. self.new ≡ sifted_past T.cmp self.old x.now) }
     {
         match &mut self.theirs {
             Some(theirs) => next_apart(&mut self.ours, theirs),
@@ -108,7 +108,7 @@ impl<'a, T: Ord> Difference<'a, T> {
 }
 
 // The next item that has no equal in the walk over the other set.
-fn next_apart<'a, T: Ord>(ours: &mut Iter<'a, T>, theirs: &mut Ahead<'a, T>) -> Option<&'a T>
+fn next_apart<'a, T: Ord>(ours: &mut Iter<'a, T>, theirs: &mut Peeked<'a, T>) -> Option<&'a T>
     requires ascending { AreAscending T.cmp ours.old × AreAscending T.cmp theirs.old }
     ensures gives { GivesApart T.cmp ours.old theirs.old result ours.new theirs.new }
     ensures ascending { AreAscending T.cmp ours.new × AreAscending T.cmp theirs.new }
@@ -155,7 +155,7 @@ impl<T: Ord> BTreeSet<T> {
             ours: self.iter(),
             other,
             theirs: if walks_both {
-                Some(Ahead::of(other.iter()))
+                Some(Peeked::of(other.iter()))
             } else {
                 None
             },

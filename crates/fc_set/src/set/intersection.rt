@@ -4,7 +4,7 @@ ghost use Rattle.std.specs.Iterator.{YieldsFirstRef, UpTo, at_most, item_count};
 ghost use Rattle.std.specs.Iterator.SizeHint.{IsWithinCount};
 ghost use Rattle.fc_set.specs.Items.{items, AreAscending};
 ghost use Rattle.fc_set.specs.Operations.{common, intersection};
-ghost use Rattle.fc_set.specs.Sides.{Sifting, begin_sifting, begin_with_shorter, untaken, sifted_behind, GivesCommon, GivesLookedUp};
+ghost use Rattle.fc_set.specs.Sides.{Sifting, begin_sifting, begin_with_shorter, untaken, sifted_past, GivesCommon, GivesLookedUp};
 
 use super::{BTreeSet, Iter, order_of};
 use std::alloc::AllocError;
@@ -60,7 +60,7 @@ impl<'a, T: Ord> Intersection<'a, T> {
     pub fn next(&mut self) -> Option<&'a T>
         ensures steps { YieldsFirstRef (λ w. common T.cmp w.left w.right) self.old result self.new }
         ensures ended { IfNone result ((self.new.left ≡ []) ⊎ (self.new.right ≡ [])) }
-        ensures behind { MatchOption result (self.new.left ≡ (if self.old.looks_up then [] else untaken T.cmp self.old.left self.old.right)) (λ x. self.new ≡ sifted_behind T.cmp self.old x.now) }
+        ensures past { MatchOption result (self.new.left ≡ (if self.old.looks_up then [] else untaken T.cmp self.old.left self.old.right)) (λ x. self.new ≡ sifted_past T.cmp self.old x.now) }
     {
         match &mut self.theirs {
             Some(theirs) => next_common(&mut self.ours, theirs),

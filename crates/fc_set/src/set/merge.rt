@@ -3,7 +3,7 @@ ghost use Rattle.std.specs.Prelude.{◌≡◌, ⊤, ◌++◌, length, option_cop
 ghost use Rattle.fc_set.specs.Items.{AreAscending};
 ghost use Rattle.fc_set.specs.Sides.{AreFirsts};
 
-use super::ahead::Ahead;
+use super::peeked::Peeked;
 use super::{Iter, order_of};
 use std::alloc::AllocError;
 use std::cmp::Ordering;
@@ -11,8 +11,8 @@ use std::marker::Model;
 
 #[derive(Drop)]
 pub(crate) struct Merge<'a, T: Ord> {
-    ours: Ahead<'a, T>,
-    theirs: Ahead<'a, T>,
+    ours: Peeked<'a, T>,
+    theirs: Peeked<'a, T>,
 }
 
 impl<'a, T: Ord> Model for Merge<'a, T> {
@@ -32,8 +32,8 @@ impl<'a, T: Ord> Merge<'a, T> {
         ensures { result ≡ record { left = ours.entry; right = theirs.entry } }
     {
         Merge {
-            ours: Ahead::of(ours),
-            theirs: Ahead::of(theirs),
+            ours: Peeked::of(ours),
+            theirs: Peeked::of(theirs),
         }
     }
 

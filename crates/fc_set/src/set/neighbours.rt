@@ -2,7 +2,7 @@
 ghost use Rattle.std.specs.Prelude.{◌≡◌, ◌+◌, length};
 ghost use Rattle.fc_map.specs.Counts.{IsBounded};
 ghost use Rattle.fc_map.specs.Entries.{now_value, passed_in};
-ghost use Rattle.fc_search.specs.Neighbours.{first_item, last_item};
+ghost use Rattle.fc_tree_search.specs.Neighbours.{first_item, last_item};
 ghost use Rattle.fc_set.specs.Items.{items, smaller, greater, not_smaller, AreAscending};
 ghost use Rattle.fc_set.specs.Neighbours.{not_greater};
 

@@ -24,7 +24,7 @@ impl<T: Ord + TryClone> BTreeSet<T> {
         requires copies { T.can_clone }
         requires equal { (a b : T) → T.same a b → T.eq a b ≡ true }
         ensures copied { IfOk result (λ made. AllZip T.same (difference T.cmp (items self.now) (items other.now)) (items made)) }
-        ensures refused { IfErr result (MayCopyRefuse T.may_refuse (difference T.cmp (items self.now) (items other.now))) }
+        ensures error { IfErr result (MayCopyRefuse T.may_refuse (difference T.cmp (items self.now) (items other.now))) }
         ensures ascending { IfOk result (λ made. AreAscending T.cmp (items made)) }
         ensures sound { IfOk result (λ made. IsSoundMap made) }
     {
@@ -41,7 +41,7 @@ impl<T: Ord + TryClone> BTreeSet<T> {
         requires copies { T.can_clone }
         requires equal { (a b : T) → T.same a b → T.eq a b ≡ true }
         ensures copied { IfOk result (λ made. AllZip T.same (symmetric_difference T.cmp (items self.now) (items other.now)) (items made)) }
-        ensures refused { IfErr result (MayCopyRefuse T.may_refuse (symmetric_difference T.cmp (items self.now) (items other.now))) }
+        ensures error { IfErr result (MayCopyRefuse T.may_refuse (symmetric_difference T.cmp (items self.now) (items other.now))) }
         ensures full { usize.MAX < length (symmetric_difference T.cmp (items self.now) (items other.now)) → IsErr result }
         ensures ascending { IfOk result (λ made. AreAscending T.cmp (items made)) }
         ensures sound { IfOk result (λ made. IsSoundMap made) }
@@ -61,7 +61,7 @@ impl<T: Ord + TryClone> BTreeSet<T> {
         requires copies { T.can_clone }
         requires equal { (a b : T) → T.same a b → T.eq a b ≡ true }
         ensures copied { IfOk result (λ made. AllZip T.same (intersection T.cmp (items self.now) (items other.now)) (items made)) }
-        ensures refused { IfErr result (MayCopyRefuse T.may_refuse (intersection T.cmp (items self.now) (items other.now))) }
+        ensures error { IfErr result (MayCopyRefuse T.may_refuse (intersection T.cmp (items self.now) (items other.now))) }
         ensures ascending { IfOk result (λ made. AreAscending T.cmp (items made)) }
         ensures sound { IfOk result (λ made. IsSoundMap made) }
     {
@@ -77,7 +77,7 @@ impl<T: Ord + TryClone> BTreeSet<T> {
         requires copies { T.can_clone }
         requires equal { (a b : T) → T.same a b → T.eq a b ≡ true }
         ensures copied { IfOk result (λ made. AllZip T.same (union T.cmp (items self.now) (items other.now)) (items made)) }
-        ensures refused { IfErr result (MayCopyRefuse T.may_refuse (union T.cmp (items self.now) (items other.now))) }
+        ensures error { IfErr result (MayCopyRefuse T.may_refuse (union T.cmp (items self.now) (items other.now))) }
         ensures full { usize.MAX < length (union T.cmp (items self.now) (items other.now)) → IsErr result }
         ensures ascending { IfOk result (λ made. AreAscending T.cmp (items made)) }
         ensures sound { IfOk result (λ made. IsSoundMap made) }

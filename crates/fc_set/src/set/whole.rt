@@ -4,7 +4,6 @@ ghost use Rattle.std.specs.Iterator.{IsFiniteIterable};
 ghost use Rattle.std.specs.List.{AllZip};
 ghost use Rattle.fc_base.specs.Copies.{MayRefuseCopies};
 ghost use Rattle.fc_base.specs.Growth.{MayAppendRefuse};
-ghost use Rattle.fc_base.specs.declared.try_reserve_error.TryReserveError.TheVariants.{AllocError};
 ghost use Rattle.fc_map.specs.Entries.{IsSoundMap};
 ghost use Rattle.fc_vec.specs.Items.{GivesAll, GivesFirst};
 ghost use Rattle.fc_set.specs.Items.{items, smaller, not_smaller, AreAscending, joined_items, extended_items, AreExtendedUpTo};
@@ -68,7 +67,7 @@ impl<T: Ord + Drop> BTreeSet<T> {
         ensures smaller { IfOk result (λ _. items self.new ≡ smaller Q.order (items self.old) (Q.sought item)) }
         ensures from { IfOk result (λ rest. items rest ≡ not_smaller Q.order (items self.old) (Q.sought item)) }
         ensures unchanged { IfErr result (λ _. self.new ≡ self.old) }
-        ensures error { IfErr result (λ e. (e ≡ AllocError) × (0 < length (items self.old))) }
+        ensures error { IfErr result (λ e. (e ≡ TryReserveError.AllocError) × (0 < length (items self.old))) }
         ensures ascending { AreAscending T.cmp (items self.new) × IfOk result (λ rest. AreAscending T.cmp (items rest)) }
         ensures sound { IsSoundMap self.new × IfOk result (λ rest. IsSoundMap rest) }
     {
@@ -85,7 +84,7 @@ impl<T: Ord + Drop> BTreeSet<T> {
     pub fn try_extend<I: IntoIterator<Item = T>>(&mut self, given: I) -> Result<(), TryReserveError>
         requires ends { IsFiniteIterable I.into_iter_gives I.IntoIter.can_next I.IntoIter.remaining given }
         ensures all { OnOk result ((all : List T) × GivesAll I.into_iter_gives I.IntoIter.next_gives given all × (items self.new ≡ extended_items T.cmp (items self.old) all)) }
-        ensures refused { IfErr result (λ e. (taken : List T) × GivesFirst I.into_iter_gives I.IntoIter.next_gives given taken × ((rest : List T) → AreExtendedUpTo T.cmp (items self.old) (taken ++ rest) (items self.new) e)) }
+        ensures error { IfErr result (λ e. (taken : List T) × GivesFirst I.into_iter_gives I.IntoIter.next_gives given taken × ((rest : List T) → AreExtendedUpTo T.cmp (items self.old) (taken ++ rest) (items self.new) e)) }
         ensures ascending { AreAscending T.cmp (items self.new) }
         ensures sound { IsSoundMap self.new }
     {
@@ -140,7 +139,7 @@ impl<T: Ord + Drop> TryFromIterator<T> for BTreeSet<T> {
     ) -> Result<BTreeSet<T>, TryReserveError>
         requires ends { IsFiniteIterable I.into_iter_gives I.IntoIter.can_next I.IntoIter.remaining given }
         ensures made { IfOk result (λ made. (all : List T) × GivesAll I.into_iter_gives I.IntoIter.next_gives given all × (items made ≡ extended_items T.cmp [] all)) }
-        ensures refused { IfErr result (λ e. (taken : List T) × GivesFirst I.into_iter_gives I.IntoIter.next_gives given taken × ((new : List T) × ((rest : List T) → AreExtendedUpTo T.cmp [] (taken ++ rest) new e))) }
+        ensures error { IfErr result (λ e. (taken : List T) × GivesFirst I.into_iter_gives I.IntoIter.next_gives given taken × ((new : List T) × ((rest : List T) → AreExtendedUpTo T.cmp [] (taken ++ rest) new e))) }
         ensures ascending { IfOk result (λ made. AreAscending T.cmp (items made)) }
         ensures sound { IfOk result (λ made. IsSoundMap made) }
     {

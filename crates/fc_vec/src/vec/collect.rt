@@ -2,7 +2,6 @@
 ghost use Rattle.std.specs.Prelude.{◌≡◌, ◌<◌, List, length, IfOk, IfErr, ⊤};
 ghost use Rattle.std.specs.Iterator.{IsFiniteIterable};
 ghost use Rattle.fc_base.specs.declared.try_reserve_error.TryReserveError.{TryReserveError};
-ghost use Rattle.fc_base.specs.declared.try_reserve_error.TryReserveError.TheVariants.{AllocError as NoMemory};
 ghost use Rattle.fc_vec.specs.Items.{GivesAll, GivesFirst};
 
 use super::fallible_vec::FallibleVec;
@@ -26,7 +25,7 @@ pub trait TryFromIterator<I>: Sized {
     ) -> Result<Self, TryReserveError>
         requires ends { IsFiniteIterable T.into_iter_gives T.IntoIter.can_next T.IntoIter.remaining iter }
         ensures made { IfOk result (λ made. (all : List I) × GivesAll T.into_iter_gives T.IntoIter.next_gives iter all × made_of all made) }
-        ensures refused { IfErr result (λ e. (taken : List I) × GivesFirst T.into_iter_gives T.IntoIter.next_gives iter taken × may_refuse taken e) };
+        ensures error { IfErr result (λ e. (taken : List I) × GivesFirst T.into_iter_gives T.IntoIter.next_gives iter taken × may_refuse taken e) };
 }
 
 /// A vector of the items that the iterator gives, in order, put in one after another.
@@ -36,7 +35,7 @@ pub trait TryFromIterator<I>: Sized {
 impl<I: Drop> TryFromIterator<I> for Vec<I> {
     ghost made_of = { λ all v. v.items ≡ all };
 
-    ghost may_refuse = { λ taken e. (0 < length taken) × (e ≡ NoMemory) };
+    ghost may_refuse = { λ taken e. (0 < length taken) × (e ≡ TryReserveError.AllocError) };
 
     fn try_from_iterator<T: IntoIterator<Item = I>>(
         alloc: Global,
@@ -67,7 +66,7 @@ pub trait TryCollect<I>: Sized {
     fn try_collect<C: TryFromIterator<I>>(self, alloc: Global) -> Result<C, TryReserveError>
         requires ends { ends self }
         ensures made { IfOk result (λ made. (all : List I) × gives_all self all × C.made_of all made) }
-        ensures refused { IfErr result (λ e. (taken : List I) × gives_first self taken × C.may_refuse taken e) };
+        ensures error { IfErr result (λ e. (taken : List I) × gives_first self taken × C.may_refuse taken e) };
 }
 
 impl<I, T: IntoIterator<Item = I>> TryCollect<I> for T {

@@ -1,7 +1,6 @@
 //! Copies of items, put behind those of a vector.
 ghost use Rattle.std.specs.Prelude.{◌≡◌, ◌+◌, ◌-◌, ◌<◌, ◌≤◌, ◌⊎◌, [], length, replicate, IfOk, IfErr, OnOk, IsOk, vec_len, vec_capacity};
-ghost use Rattle.fc_base.specs.declared.try_reserve_error.TryReserveError.TheVariants.{AllocError as NoMemory};
-ghost use Rattle.fc_vec.specs.Vectors.{IsExtended, IsFilled, IsExtendedUpTo};
+ghost use Rattle.fc_vec.specs.Vectors.{IsExtended, IsFilled, IsCopiedUpTo};
 
 use super::fallible_vec::FallibleVec;
 use fc_base::{TryClone, TryReserveError};
@@ -12,7 +11,7 @@ pub(crate) fn push_copies<T: TryClone>(v: &mut Vec<T>, sources: &[T]) -> Result<
     requires copied { T.can_clone }
     requires room { vec_len v.old + length sources.now ≤ vec_capacity v.old }
     ensures extended { OnOk result (IsExtended T.same v.old.items sources.now v.new.items) }
-    ensures refused { IfErr result (λ e. IsExtendedUpTo T.same T.may_refuse e v.old.items sources.now v.new.items) }
+    ensures error { IfErr result (λ e. IsCopiedUpTo T.same T.may_refuse e v.old.items sources.now v.new.items) }
     ensures room { vec_capacity v.new ≡ vec_capacity v.old }
 {
     for i in 0..sources.len() {
@@ -31,7 +30,7 @@ pub(crate) fn push_repeated<T: TryClone>(
     requires copied { T.can_clone }
     requires room { vec_len v.old + count ≤ vec_capacity v.old }
     ensures extended { OnOk result (IsExtended T.same v.old.items (replicate count source.now) v.new.items) }
-    ensures refused { IfErr result (λ e. IsExtendedUpTo T.same T.may_refuse e v.old.items (replicate count source.now) v.new.items) }
+    ensures error { IfErr result (λ e. IsCopiedUpTo T.same T.may_refuse e v.old.items (replicate count source.now) v.new.items) }
     ensures room { vec_capacity v.new ≡ vec_capacity v.old }
 {
     for i in 0..count {
@@ -54,7 +53,7 @@ pub fn try_from_elem<T: TryClone>(
     requires { T.can_clone }
     ensures none { n ≡ 0 → IsOk result × IfOk result (λ v. v.items ≡ []) }
     ensures filled { 0 < n → IfOk result (λ v. IsFilled T.same [] n elem v.items) }
-    ensures refused { IfErr result (λ e. (e ≡ NoMemory) ⊎ ((1 < n) × T.may_refuse elem e)) }
+    ensures error { IfErr result (λ e. (e ≡ TryReserveError.AllocError) ⊎ ((1 < n) × T.may_refuse elem e)) }
 {
     let mut made = Vec::new(alloc);
     made.try_resize_no_copy(n, elem)?;

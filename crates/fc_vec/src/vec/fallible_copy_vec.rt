@@ -1,6 +1,5 @@
 //! Calls on vectors of items that are copied byte by byte.
 ghost use Rattle.std.specs.Prelude.{◌≡◌, ℕ, ◌+◌, ◌<◌, ◌≤◌, List, ◌++◌, length, OnOk, IfErr, IsOk, vec_capacity};
-ghost use Rattle.fc_base.specs.declared.try_reserve_error.TryReserveError.TheVariants.{AllocError as NoMemory};
 ghost use Rattle.fc_vec.specs.Vectors.{MayRefuse, resized};
 
 use super::fallible_vec::reserve;
@@ -22,7 +21,7 @@ pub trait FallibleCopyVec<T> {
         ensures resized { OnOk result (contents self.new ≡ resized (contents self.old) new_len value) }
         ensures kept { room self.old ≤ room self.new }
         ensures shorter { new_len ≤ length (contents self.old) → IsOk result × (room self.new ≡ room self.old) }
-        ensures refused { IfErr result (λ e. (room self.old < new_len) × (e ≡ NoMemory) × (contents self.new ≡ contents self.old) × (room self.new ≡ room self.old)) };
+        ensures error { IfErr result (λ e. (room self.old < new_len) × (e ≡ TryReserveError.AllocError) × (contents self.new ≡ contents self.old) × (room self.new ≡ room self.old)) };
 
     /// Puts all items of `other` behind the own ones. Upstream: `FallibleVec::try_extend_from_slice`.
     ///
@@ -32,7 +31,7 @@ pub trait FallibleCopyVec<T> {
         ensures extended { OnOk result (contents self.new ≡ contents self.old ++ other.now) }
         ensures kept { room self.old ≤ room self.new }
         ensures fits { length (contents self.old) + length other.now ≤ room self.old → IsOk result }
-        ensures refused { IfErr result (λ e. MayRefuse (room self.old) (length (contents self.old)) (length other.now) e × (contents self.new ≡ contents self.old) × (room self.new ≡ room self.old)) };
+        ensures error { IfErr result (λ e. MayRefuse (room self.old) (length (contents self.old)) (length other.now) e × (contents self.new ≡ contents self.old) × (room self.new ≡ room self.old)) };
 }
 
 impl<T: Copy> FallibleCopyVec<T> for Vec<T> {

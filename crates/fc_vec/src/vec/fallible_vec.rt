@@ -1,8 +1,7 @@
 //! Calls on vectors that answer an error where memory is refused.
 ghost use Rattle.std.specs.Prelude.{◌≡◌, ℕ, ◌+◌, ◌-◌, ◌^◌, ◌<◌, ◌≤◌, ◌⊎◌, List, [], ◌∷◌, ◌++◌, length, take, replicate, OnOk, OnErr, IfOk, IfErr, IsOk, vec_len, vec_capacity};
 ghost use Rattle.std.specs.List.{AppendsResults, insert};
-ghost use Rattle.fc_base.specs.declared.try_reserve_error.TryReserveError.TheVariants.{AllocError as NoMemory};
-ghost use Rattle.fc_vec.specs.Vectors.{MayRefuse, IsExtended, IsFilled, IsExtendedUpTo};
+ghost use Rattle.fc_vec.specs.Vectors.{MayRefuse, IsExtended, IsFilled, IsCopiedUpTo};
 
 use super::copies::{push_copies, push_repeated};
 use fc_base::{TryClone, TryReserveError};
@@ -29,7 +28,7 @@ pub trait FallibleVec<T>: Sized {
         ensures kept { room self.old ≤ room self.new }
         ensures none { additional ≡ 0 → IsOk result }
         ensures fits { length (contents self.old) + additional ≤ room self.old → IsOk result × (room self.new ≡ room self.old) }
-        ensures refused { IfErr result (λ e. MayRefuse (room self.old) (length (contents self.old)) additional e × (room self.new ≡ room self.old)) };
+        ensures error { IfErr result (λ e. MayRefuse (room self.old) (length (contents self.old)) additional e × (room self.new ≡ room self.old)) };
 
     /// An empty vector with room for `capacity` items; none takes no memory. Upstream: `FallibleVec::try_with_capacity`.
     ///
@@ -39,7 +38,7 @@ pub trait FallibleVec<T>: Sized {
         ensures contents { IfOk result (λ v. contents v ≡ []) }
         ensures room { IfOk result (λ v. capacity ≤ room v) }
         ensures none { capacity ≡ 0 → IsOk result }
-        ensures refused { IfErr result (λ e. e ≡ NoMemory) };
+        ensures error { IfErr result (λ e. e ≡ TryReserveError.AllocError) };
 
     /// Puts the item behind the others. Upstream: `FallibleVec::try_push`.
     ///
@@ -51,7 +50,7 @@ pub trait FallibleVec<T>: Sized {
         ensures pushed { OnOk result (contents self.new ≡ contents self.old ++ elem ∷ []) }
         ensures kept { room self.old ≤ room self.new }
         ensures fits { length (contents self.old) < room self.old → IsOk result × (room self.new ≡ room self.old) }
-        ensures refused { IfErr result (λ e. MayRefuse (room self.old) (length (contents self.old)) 1 e × (contents self.new ≡ contents self.old) × (room self.new ≡ room self.old)) };
+        ensures error { IfErr result (λ e. MayRefuse (room self.old) (length (contents self.old)) 1 e × (contents self.new ≡ contents self.old) × (room self.new ≡ room self.old)) };
 
     /// Puts the item behind the others. Upstream: `FallibleVec::try_push_give_back`.
     ///
@@ -62,7 +61,7 @@ pub trait FallibleVec<T>: Sized {
         ensures kept { room self.old ≤ room self.new }
         ensures fits { length (contents self.old) < room self.old → IsOk result × (room self.new ≡ room self.old) }
         ensures given_back { IfErr result (λ e. e.0 ≡ elem) }
-        ensures refused { IfErr result (λ e. MayRefuse (room self.old) (length (contents self.old)) 1 e.1 × (contents self.new ≡ contents self.old) × (room self.new ≡ room self.old)) };
+        ensures error { IfErr result (λ e. MayRefuse (room self.old) (length (contents self.old)) 1 e.1 × (contents self.new ≡ contents self.old) × (room self.new ≡ room self.old)) };
 
     /// Puts the item at `index`; those from there on move up by one place. The index is at most the length. Upstream:
     /// `FallibleVec::try_insert`, which panics past the end.
@@ -75,7 +74,7 @@ pub trait FallibleVec<T>: Sized {
         ensures kept { room self.old ≤ room self.new }
         ensures fits { length (contents self.old) < room self.old → IsOk result × (room self.new ≡ room self.old) }
         ensures given_back { IfErr result (λ e. e.0 ≡ element) }
-        ensures refused { IfErr result (λ e. MayRefuse (room self.old) (length (contents self.old)) 1 e.1 × (contents self.new ≡ contents self.old) × (room self.new ≡ room self.old)) };
+        ensures error { IfErr result (λ e. MayRefuse (room self.old) (length (contents self.old)) 1 e.1 × (contents self.new ≡ contents self.old) × (room self.new ≡ room self.old)) };
 
     /// Moves all items of `other` behind the own ones; `other` is then empty and keeps its room. Upstream:
     /// `FallibleVec::try_append`.
@@ -87,7 +86,7 @@ pub trait FallibleVec<T>: Sized {
         ensures kept { (room self.old ≤ room self.new) × (room other.new ≡ room other.old) }
         ensures none { contents other.old ≡ [] → IsOk result }
         ensures fits { length (contents self.old) + length (contents other.old) ≤ room self.old → IsOk result }
-        ensures refused { IfErr result (λ e. MayRefuse (room self.old) (length (contents self.old)) (length (contents other.old)) e × (contents self.new ≡ contents self.old) × (contents other.new ≡ contents other.old) × (room self.new ≡ room self.old)) };
+        ensures error { IfErr result (λ e. MayRefuse (room self.old) (length (contents self.old)) (length (contents other.old)) e × (contents self.new ≡ contents self.old) × (contents other.new ≡ contents other.old) × (room self.new ≡ room self.old)) };
 
     /// Cuts the vector to `new_len` items, or fills it up with what calls of `f` answer, one after another. Where the vector
     /// does not grow, `f` is not called; where it does, all room is taken before the first call. Upstream:
@@ -107,7 +106,7 @@ pub trait FallibleVec<T>: Sized {
         ensures length { OnOk result (length (contents self.new) ≡ new_len) }
         ensures kept { room self.old ≤ room self.new }
         ensures shorter { new_len ≤ length (contents self.old) → IsOk result × (room self.new ≡ room self.old) }
-        ensures refused { IfErr result (λ e. (room self.old < new_len) × (e ≡ NoMemory) × (contents self.new ≡ contents self.old) × (room self.new ≡ room self.old)) };
+        ensures error { IfErr result (λ e. (room self.old < new_len) × (e ≡ TryReserveError.AllocError) × (contents self.new ≡ contents self.old) × (room self.new ≡ room self.old)) };
 
     /// Cuts the vector to `new_len` items, or fills it up with copies of `value`, of which the last is `value` itself. Upstream:
     /// `FallibleVec::try_resize_no_copy`.
@@ -122,7 +121,7 @@ pub trait FallibleVec<T>: Sized {
         ensures cut { new_len ≤ length (contents self.old) → IsOk result × (contents self.new ≡ take new_len (contents self.old)) × (room self.new ≡ room self.old) }
         ensures filled { length (contents self.old) < new_len → OnOk result (IsFilled T.same (contents self.old) new_len value (contents self.new)) }
         ensures kept { room self.old ≤ room self.new }
-        ensures refused { IfErr result (λ e. ((room self.old < new_len) × (e ≡ NoMemory) × (contents self.new ≡ contents self.old) × (room self.new ≡ room self.old)) ⊎ IsExtendedUpTo T.same T.may_refuse e (contents self.old) (replicate (new_len - length (contents self.old) - 1) value) (contents self.new)) };
+        ensures error { IfErr result (λ e. ((room self.old < new_len) × (e ≡ TryReserveError.AllocError) × (contents self.new ≡ contents self.old) × (room self.new ≡ room self.old)) ⊎ IsCopiedUpTo T.same T.may_refuse e (contents self.old) (replicate (new_len - length (contents self.old) - 1) value) (contents self.new)) };
 
     /// Puts a copy of each item of `other`, by `try_clone`, behind the own ones. Upstream:
     /// `FallibleVec::try_extend_from_slice_no_copy`.
@@ -136,7 +135,7 @@ pub trait FallibleVec<T>: Sized {
         requires { T.can_clone }
         ensures extended { OnOk result (IsExtended T.same (contents self.old) other.now (contents self.new)) }
         ensures kept { room self.old ≤ room self.new }
-        ensures refused { IfErr result (λ e. (MayRefuse (room self.old) (length (contents self.old)) (length other.now) e × (contents self.new ≡ contents self.old) × (room self.new ≡ room self.old)) ⊎ IsExtendedUpTo T.same T.may_refuse e (contents self.old) other.now (contents self.new)) };
+        ensures error { IfErr result (λ e. (MayRefuse (room self.old) (length (contents self.old)) (length other.now) e × (contents self.new ≡ contents self.old) × (room self.new ≡ room self.old)) ⊎ IsCopiedUpTo T.same T.may_refuse e (contents self.old) other.now (contents self.new)) };
 }
 
 // Makes room for so many more items; what fits takes no memory.
@@ -147,7 +146,7 @@ pub(crate) fn reserve<T>(v: &mut Vec<T>, additional: usize) -> Result<(), TryRes
     ensures length { OnOk result (vec_len v.old + additional < 2 ^ 64) }
     ensures kept { vec_capacity v.old ≤ vec_capacity v.new }
     ensures fits { vec_len v.old + additional ≤ vec_capacity v.old → IsOk result × (vec_capacity v.new ≡ vec_capacity v.old) }
-    ensures refused { IfErr result (λ e. MayRefuse (vec_capacity v.old) (vec_len v.old) additional e × (vec_capacity v.new ≡ vec_capacity v.old)) }
+    ensures error { IfErr result (λ e. MayRefuse (vec_capacity v.old) (vec_len v.old) additional e × (vec_capacity v.new ≡ vec_capacity v.old)) }
 {
     if additional <= v.capacity() - v.len() {
         return Ok(());

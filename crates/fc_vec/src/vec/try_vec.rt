@@ -2,8 +2,7 @@
 ghost use Rattle.std.specs.Prelude.{◌≡◌, ◌+◌, ◌-◌, ◌^◌, ◌<◌, ◌≤◌, ◌⊎◌, ◌↔◌, [], ◌∷◌, ◌++◌, length, take, OnOk, IfOk, IfErr, IsOk, IsTrue, IsSome, vec_capacity};
 ghost use Rattle.std.specs.List.{AppendsResults};
 ghost use Rattle.std.specs.Option.{option_to_list};
-ghost use Rattle.fc_base.specs.declared.try_reserve_error.TryReserveError.TheVariants.{AllocError as NoMemory};
-ghost use Rattle.fc_vec.specs.Vectors.{MayRefuse, IsExtended, IsExtendedUpTo};
+ghost use Rattle.fc_vec.specs.Vectors.{MayRefuse, IsExtended, IsCopiedUpTo};
 
 mod compare;
 mod copy;
@@ -60,7 +59,7 @@ impl<T> TryVec<T> {
         ensures items { IfOk result (λ v. v.items ≡ []) }
         ensures room { IfOk result (λ v. capacity ≤ v.room) }
         ensures none { capacity ≡ 0 → IsOk result }
-        ensures refused { IfErr result (λ e. e ≡ NoMemory) }
+        ensures error { IfErr result (λ e. e ≡ TryReserveError.AllocError) }
     {
         let inner = Vec::try_with_capacity(alloc, capacity)?;
         Ok(TryVec { inner })
@@ -100,7 +99,7 @@ impl<T> TryVec<T> {
         ensures kept { self.old.room ≤ self.new.room }
         ensures none { additional ≡ 0 → IsOk result }
         ensures fits { length self.old.items + additional ≤ self.old.room → IsOk result × (self.new ≡ self.old) }
-        ensures refused { IfErr result (λ e. MayRefuse self.old.room (length self.old.items) additional e × (self.new ≡ self.old)) }
+        ensures error { IfErr result (λ e. MayRefuse self.old.room (length self.old.items) additional e × (self.new ≡ self.old)) }
     {
         FallibleVec::try_reserve(&mut self.inner, additional)
     }
@@ -116,7 +115,7 @@ impl<T> TryVec<T> {
         ensures pushed { OnOk result (self.new.items ≡ self.old.items ++ value ∷ []) }
         ensures kept { self.old.room ≤ self.new.room }
         ensures fits { length self.old.items < self.old.room → IsOk result × (self.new.room ≡ self.old.room) }
-        ensures refused { IfErr result (λ e. MayRefuse self.old.room (length self.old.items) 1 e × (self.new ≡ self.old)) }
+        ensures error { IfErr result (λ e. MayRefuse self.old.room (length self.old.items) 1 e × (self.new ≡ self.old)) }
     {
         self.inner.try_push(value)
     }
@@ -149,7 +148,7 @@ impl<T> TryVec<T> {
         ensures kept { (self.old.room ≤ self.new.room) × (other.new.room ≡ other.old.room) }
         ensures none { other.old.items ≡ [] → IsOk result }
         ensures fits { length self.old.items + length other.old.items ≤ self.old.room → IsOk result }
-        ensures refused { IfErr result (λ e. MayRefuse self.old.room (length self.old.items) (length other.old.items) e × (self.new ≡ self.old) × (other.new ≡ other.old)) }
+        ensures error { IfErr result (λ e. MayRefuse self.old.room (length self.old.items) (length other.old.items) e × (self.new ≡ self.old) × (other.new ≡ other.old)) }
     {
         self.inner.try_append(&mut other.inner)
     }
@@ -172,7 +171,7 @@ impl<T> TryVec<T> {
         ensures length { OnOk result (length self.new.items ≡ new_len) }
         ensures kept { self.old.room ≤ self.new.room }
         ensures shorter { new_len ≤ length self.old.items → IsOk result × (self.new.room ≡ self.old.room) }
-        ensures refused { IfErr result (λ e. (self.old.room < new_len) × (e ≡ NoMemory) × (self.new ≡ self.old)) }
+        ensures error { IfErr result (λ e. (self.old.room < new_len) × (e ≡ TryReserveError.AllocError) × (self.new ≡ self.old)) }
     {
         FallibleVec::try_resize_with(&mut self.inner, new_len, f)
     }
@@ -188,7 +187,7 @@ impl<T> TryVec<T> {
         requires { T.can_clone }
         ensures extended { OnOk result (IsExtended T.same self.old.items other.now self.new.items) }
         ensures kept { self.old.room ≤ self.new.room }
-        ensures refused { IfErr result (λ e. (MayRefuse self.old.room (length self.old.items) (length other.now) e × (self.new ≡ self.old)) ⊎ IsExtendedUpTo T.same T.may_refuse e self.old.items other.now self.new.items) }
+        ensures error { IfErr result (λ e. (MayRefuse self.old.room (length self.old.items) (length other.now) e × (self.new ≡ self.old)) ⊎ IsCopiedUpTo T.same T.may_refuse e self.old.items other.now self.new.items) }
     {
         self.inner.try_extend_from_slice_no_copy(other)
     }

@@ -11,7 +11,7 @@ ghost use Rattle.fc_map.specs.Entry.{entry_map, entry_map_ref, entry_key, entry_
 use super::super::BTreeMap;
 use super::{Entry, OccupiedEntry, VacantEntry};
 use fc_base::{Count, TryReserveError};
-use fc_node::path::Path;
+use fc_tree_node::path::Path;
 
 impl<K: Ord + Drop, V: Drop> BTreeMap<K, V> {
     /// The place of the key, found by one search: `Occupied` where an equal key is there, and the given key is then dropped; else

@@ -2,13 +2,13 @@
 ghost use Rattle.std.specs.Prelude.{◌≡◌, ◌+◌, ◌-◌, ◌<◌, ◌≤◌, ◌↔◌, length, IsTrue, MatchOption, None};
 ghost use Rattle.std.specs.Borrow.{sem};
 ghost use Rattle.fc_map.specs.Entries.{entries};
-ghost use Rattle.fc_node.specs.TreePlace.{IsPlaceIn, ahead_of};
+ghost use Rattle.fc_tree_node.specs.TreePlace.{IsPlaceIn, before_pair_in};
 ghost use Rattle.fc_map.specs.Stretches.{CalledAtPair, IsVisitedIn, iter_stretch, iter_map_ref, iter_lends_first, iter_lends_last, IsFirstPair, IsFirstValue, IsLastPair, IsLastValue};
 ghost use Rattle.fc_map.specs.Writing.{whole};
 
 use super::super::BTreeMap;
 use super::{IterMut, ValuesMut};
-use fc_node::path::Path;
+use fc_tree_node::path::Path;
 
 impl<K: Ord, V> BTreeMap<K, V> {
     /// A writing walk over all pairs. Upstream: `BTreeMap::iter_mut`.
@@ -18,7 +18,7 @@ impl<K: Ord, V> BTreeMap<K, V> {
     {
         let left = self.len;
         let (front, back) = self.whole_ends();
-        let run = self.run_behind(&front);
+        let run = self.run_after(&front);
         IterMut {
             map: self,
             front,
@@ -100,7 +100,7 @@ impl<'a, K: Ord, V> IterMut<'a, K, V> {
             return None;
         }
         let (mut gap, mut run) = (self.front, self.run);
-        let pair = self.map.pair_of(&self.map.step_behind(&mut gap, &mut run));
+        let pair = self.map.pair_of(&self.map.step_to_next(&mut gap, &mut run));
         Some((&pair.0, &pair.1))
     }
 
@@ -112,7 +112,7 @@ impl<'a, K: Ord, V> IterMut<'a, K, V> {
             return None;
         }
         let mut gap = self.back;
-        let pair = self.map.pair_of(&self.map.step_ahead(&mut gap));
+        let pair = self.map.pair_of(&self.map.step_to_previous(&mut gap));
         Some((&pair.0, &pair.1))
     }
 
@@ -120,12 +120,12 @@ impl<'a, K: Ord, V> IterMut<'a, K, V> {
     fn step(&mut self) -> Option<Path>
         ensures same_map { self.new.map ≡ self.old.map }
         ensures none { result ≡ None → self.new ≡ self.old }
-        ensures step { MatchOption result ((iter_stretch self.old).back ≤ (iter_stretch self.old).front) (λ place. IsPlaceIn self.new.map.now place × (length (ahead_of self.new.map.now place) ≡ (iter_stretch self.old).front) × ((iter_stretch self.old).front < (iter_stretch self.old).back) × ((iter_stretch self.new).front ≡ (iter_stretch self.old).front + 1) × ((iter_stretch self.new).back ≡ (iter_stretch self.old).back)) }
+        ensures step { MatchOption result ((iter_stretch self.old).back ≤ (iter_stretch self.old).front) (λ place. IsPlaceIn self.new.map.now place × (length (before_pair_in self.new.map.now place) ≡ (iter_stretch self.old).front) × ((iter_stretch self.old).front < (iter_stretch self.old).back) × ((iter_stretch self.new).front ≡ (iter_stretch self.old).front + 1) × ((iter_stretch self.new).back ≡ (iter_stretch self.old).back)) }
     {
         if self.left == 0 {
             return None;
         }
-        let place = self.map.step_behind(&mut self.front, &mut self.run);
+        let place = self.map.step_to_next(&mut self.front, &mut self.run);
         self.left -= 1;
         Some(place)
     }
@@ -134,12 +134,12 @@ impl<'a, K: Ord, V> IterMut<'a, K, V> {
     fn step_back(&mut self) -> Option<Path>
         ensures same_map { self.new.map ≡ self.old.map }
         ensures none { result ≡ None → self.new ≡ self.old }
-        ensures step { MatchOption result ((iter_stretch self.old).back ≤ (iter_stretch self.old).front) (λ place. IsPlaceIn self.new.map.now place × (length (ahead_of self.new.map.now place) + 1 ≡ (iter_stretch self.old).back) × ((iter_stretch self.old).front < (iter_stretch self.old).back) × ((iter_stretch self.new).front ≡ (iter_stretch self.old).front) × ((iter_stretch self.new).back + 1 ≡ (iter_stretch self.old).back)) }
+        ensures step { MatchOption result ((iter_stretch self.old).back ≤ (iter_stretch self.old).front) (λ place. IsPlaceIn self.new.map.now place × (length (before_pair_in self.new.map.now place) + 1 ≡ (iter_stretch self.old).back) × ((iter_stretch self.old).front < (iter_stretch self.old).back) × ((iter_stretch self.new).front ≡ (iter_stretch self.old).front) × ((iter_stretch self.new).back + 1 ≡ (iter_stretch self.old).back)) }
     {
         if self.left == 0 {
             return None;
         }
-        let place = self.map.step_ahead(&mut self.back);
+        let place = self.map.step_to_previous(&mut self.back);
         self.left -= 1;
         Some(place)
     }

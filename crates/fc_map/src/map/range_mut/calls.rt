@@ -3,13 +3,13 @@ ghost use Rattle.std.specs.Prelude.{◌≡◌, ◌+◌, ◌<◌, ◌≤◌, ◌�
 ghost use Rattle.std.specs.Borrow.{sem};
 ghost use Rattle.fc_base.specs.Ranges.{bound_now, is_range};
 ghost use Rattle.fc_map.specs.Entries.{entries};
-ghost use Rattle.fc_node.specs.TreePlace.{IsPlaceIn, ahead_of};
+ghost use Rattle.fc_tree_node.specs.TreePlace.{IsPlaceIn, before_pair_in};
 ghost use Rattle.fc_map.specs.Stretches.{CalledAtPair, IsVisitedIn, stretch, range_map_ref, range_lends_first, range_lends_last, IsFirstPair, IsFirstValue, IsLastPair, IsLastValue};
 ghost use Rattle.fc_map.specs.Writing.{starting};
 
 use super::super::BTreeMap;
 use super::RangeMut;
-use fc_node::path::Path;
+use fc_tree_node::path::Path;
 use std::ops::Bound;
 
 impl<K: Ord, V> BTreeMap<K, V> {
@@ -22,7 +22,7 @@ impl<K: Ord, V> BTreeMap<K, V> {
         ensures start { stretch result ≡ starting K.cmp (bound_now bounds.entry.0) (bound_now bounds.entry.1) (entries self.old) }
     {
         let (front, back) = self.range_ends(&bounds.0, &bounds.1);
-        let run = self.run_behind(&front);
+        let run = self.run_after(&front);
         RangeMut {
             map: self,
             front,
@@ -87,7 +87,7 @@ impl<'a, K: Ord, V> RangeMut<'a, K, V> {
             return None;
         }
         let (mut gap, mut run) = (self.front, self.run);
-        let pair = self.map.pair_of(&self.map.step_behind(&mut gap, &mut run));
+        let pair = self.map.pair_of(&self.map.step_to_next(&mut gap, &mut run));
         Some((&pair.0, &pair.1))
     }
 
@@ -99,7 +99,7 @@ impl<'a, K: Ord, V> RangeMut<'a, K, V> {
             return None;
         }
         let mut gap = self.back;
-        let pair = self.map.pair_of(&self.map.step_ahead(&mut gap));
+        let pair = self.map.pair_of(&self.map.step_to_previous(&mut gap));
         Some((&pair.0, &pair.1))
     }
 
@@ -107,12 +107,12 @@ impl<'a, K: Ord, V> RangeMut<'a, K, V> {
     fn step(&mut self) -> Option<Path>
         ensures same_map { self.new.map ≡ self.old.map }
         ensures none { result ≡ None → self.new ≡ self.old }
-        ensures step { MatchOption result ((stretch self.old).back ≤ (stretch self.old).front) (λ place. IsPlaceIn self.new.map.now place × (length (ahead_of self.new.map.now place) ≡ (stretch self.old).front) × ((stretch self.old).front < (stretch self.old).back) × ((stretch self.new).front ≡ (stretch self.old).front + 1) × ((stretch self.new).back ≡ (stretch self.old).back)) }
+        ensures step { MatchOption result ((stretch self.old).back ≤ (stretch self.old).front) (λ place. IsPlaceIn self.new.map.now place × (length (before_pair_in self.new.map.now place) ≡ (stretch self.old).front) × ((stretch self.old).front < (stretch self.old).back) × ((stretch self.new).front ≡ (stretch self.old).front + 1) × ((stretch self.new).back ≡ (stretch self.old).back)) }
     {
         if self.is_done() {
             return None;
         }
-        let place = self.map.step_behind(&mut self.front, &mut self.run);
+        let place = self.map.step_to_next(&mut self.front, &mut self.run);
         Some(place)
     }
 
@@ -120,12 +120,12 @@ impl<'a, K: Ord, V> RangeMut<'a, K, V> {
     fn step_back(&mut self) -> Option<Path>
         ensures same_map { self.new.map ≡ self.old.map }
         ensures none { result ≡ None → self.new ≡ self.old }
-        ensures step { MatchOption result ((stretch self.old).back ≤ (stretch self.old).front) (λ place. IsPlaceIn self.new.map.now place × (length (ahead_of self.new.map.now place) + 1 ≡ (stretch self.old).back) × ((stretch self.old).front < (stretch self.old).back) × ((stretch self.new).front ≡ (stretch self.old).front) × ((stretch self.new).back + 1 ≡ (stretch self.old).back)) }
+        ensures step { MatchOption result ((stretch self.old).back ≤ (stretch self.old).front) (λ place. IsPlaceIn self.new.map.now place × (length (before_pair_in self.new.map.now place) + 1 ≡ (stretch self.old).back) × ((stretch self.old).front < (stretch self.old).back) × ((stretch self.new).front ≡ (stretch self.old).front) × ((stretch self.new).back + 1 ≡ (stretch self.old).back)) }
     {
         if self.is_done() {
             return None;
         }
-        let place = self.map.step_ahead(&mut self.back);
+        let place = self.map.step_to_previous(&mut self.back);
         Some(place)
     }
 }

@@ -1,10 +1,9 @@
 //! Vectors made of copies.
 ghost use Rattle.std.specs.Prelude.{◌≡◌, ◌+◌, ◌^◌, ◌<◌, ◌≤◌, ◌⊎◌, [], length, take, IfOk, IfErr, OnOk, IsOk, MatchOption, vec_len, vec_capacity};
 ghost use Rattle.std.specs.List.{AllZip, Any};
-ghost use Rattle.fc_base.specs.declared.try_reserve_error.TryReserveError.TheVariants.{AllocError as NoMemory};
 ghost use Rattle.fc_base.specs.Copies.{MayRefuseCopies};
 ghost use Rattle.fc_vec.specs.Joined.{joined};
-ghost use Rattle.fc_vec.specs.Vectors.{MayRefuse, IsExtended, IsExtendedUpTo};
+ghost use Rattle.fc_vec.specs.Vectors.{MayRefuse, IsExtended, IsCopiedUpTo};
 
 use super::super::copies::push_copies;
 use super::super::fallible_vec::FallibleVec;
@@ -20,7 +19,7 @@ impl<T: TryClone> TryVec<T> {
     pub fn try_from_slice(alloc: Global, items: &[T]) -> Result<TryVec<T>, TryReserveError>
         requires { T.can_clone }
         ensures copied { IfOk result (λ v. AllZip T.same items.now v.items) }
-        ensures refused { IfErr result (MayRefuseCopies T.may_refuse items.now) }
+        ensures error { IfErr result (MayRefuseCopies T.may_refuse items.now) }
     {
         let mut made = TryVec::new(alloc);
         made.extend_from_slice(items)?;
@@ -35,7 +34,7 @@ impl TryVec<u8> {
     /// `AllocError` where the room was refused.
     pub fn try_from_str(alloc: Global, text: &str) -> Result<TryVec<u8>, TryReserveError>
         ensures bytes { IfOk result (λ v. v.items ≡ text.now) }
-        ensures refused { IfErr result (λ e. (0 < length text.now) × (e ≡ NoMemory)) }
+        ensures error { IfErr result (λ e. (0 < length text.now) × (e ≡ TryReserveError.AllocError)) }
     {
         TryVec::try_from_slice(alloc, text.as_bytes())
     }
@@ -70,7 +69,7 @@ impl<T: TryClone> TryVec<TryVec<T>> {
         requires { T.can_clone }
         ensures joined { IfOk result (λ v. AllZip T.same (joined self.now.items) v.items) }
         ensures length { IfOk result (λ _. length (joined self.now.items) < 2 ^ 64) }
-        ensures refused { IfErr result (λ e. MayRefuse 0 0 (length (joined self.now.items)) e ⊎ Any (λ x. T.may_refuse x e) (joined self.now.items)) }
+        ensures error { IfErr result (λ e. MayRefuse 0 0 (length (joined self.now.items)) e ⊎ Any (λ x. T.may_refuse x e) (joined self.now.items)) }
     {
         let Some(len) = total_len(self.as_slice()) else {
             return Err(TryReserveError::CapacityOverflow);
@@ -98,7 +97,7 @@ fn push_parts<T: TryClone>(made: &mut Vec<T>, parts: &[TryVec<T>]) -> Result<(),
     requires copied { T.can_clone }
     requires room { vec_len made.old + length (joined parts.now) ≤ vec_capacity made.old }
     ensures extended { OnOk result (IsExtended T.same made.old.items (joined parts.now) made.new.items) }
-    ensures refused { IfErr result (λ e. IsExtendedUpTo T.same T.may_refuse e made.old.items (joined parts.now) made.new.items) }
+    ensures error { IfErr result (λ e. IsCopiedUpTo T.same T.may_refuse e made.old.items (joined parts.now) made.new.items) }
 {
     for i in 0..parts.len() {
         let part = &parts[i];

@@ -25,7 +25,7 @@ impl Write for TryVec<u8> {
         ensures kept { self.old.room ≤ self.new.room }
         ensures none { buf.now ≡ [] → IsOk result }
         ensures fits { length self.old.items + length buf.now ≤ self.old.room → IsOk result }
-        ensures refused { IfErr result (λ e. (self.old.room < length self.old.items + length buf.now) × (error_kind e ≡ ErrorKind.OutOfMemory) × (self.new ≡ self.old)) }
+        ensures error { IfErr result (λ e. (self.old.room < length self.old.items + length buf.now) × (error_kind e ≡ ErrorKind.OutOfMemory) × (self.new ≡ self.old)) }
     {
         match self.inner.try_extend_from_slice(buf) {
             Ok(()) => Ok(buf.len()),

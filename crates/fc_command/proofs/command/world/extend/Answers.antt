@@ -21,5 +21,5 @@ returns-in-Ok g c o side =
 pub returns-in-Err : goal.returns-in-Err
 returns-in-Err g c o side =
     let steps = into_iter_steps {X = g.row.K.Denot × g.row.V.Denot} {Z = Global} in
-    let up_to = given_front steps into_iter_items (λ s t x step. step.0) _ c.args.pairs (λ all. IsExtendedUpTo g.K.Ord.cmp (entries c.args.map.now) all (entries c.try_extend.new.self) c.in-Err.e) (λ walk is. is.0 ∙ c.into_vec.ensures) c.in-Err.ensures.refused in
+    let up_to = given_front steps into_iter_items (λ s t x step. step.0) _ c.args.pairs (λ all. IsExtendedUpTo g.K.Ord.cmp (entries c.args.map.now) all (entries c.try_extend.new.self) c.in-Err.e) (λ walk is. is.0 ∙ c.into_vec.ensures) c.in-Err.ensures.error in
     stopped c.in-Err.e up_to (refl, refl)

@@ -10,4 +10,4 @@ pub returns : goal.returns
 returns g c o side =
     let range : IsTrue (is_range g.K.Ord.cmp c.args.lo c.args.hi) = search rules in
     let pairs : c.range.result ≡ within g.K.Ord.cmp c.args.lo c.args.hi (entries c.args.map.now) = search rules in
-    refused c.in-Err.e (range, rw (pairs, c.as_slice.ensures) at c.in-Err.ensures.refused) (refl, refl, refl)
+    refused c.in-Err.e (range, rw (pairs, c.as_slice.ensures) at c.in-Err.ensures.error) (refl, refl, refl)

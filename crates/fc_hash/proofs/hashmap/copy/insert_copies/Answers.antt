@@ -9,23 +9,23 @@ use Rattle.fc_hash.proofs.hashmap.copy.insert_copies.Goals as goal
 pub pairs-init : goal.pairs-init
 pairs-init g c = ([], [], refl, tt, subst (IsPermutation []) (sym c.requires.empty) (IsPermutation-refl []))
 
-pub returns-in_err-key_copy-clause-refused : goal.returns-in_err-key_copy-clause-refused
-returns-in_err-key_copy-clause-refused g c =
+pub returns-in_err-key_copy-clause-error : goal.returns-in_err-key_copy-clause-error
+returns-in_err-key_copy-clause-error g c =
     let p = err_from_is_err_and c.from_residual.result c.from_residual.ensures.1 in
     let m = c.pairs.invariant in
     rw (p.1, p.2) (copy_refused (MayRefusePair g.K.TryClone.may_refuse g.V.TryClone.may_refuse) _ c.args.walk m.0 c.pairs.walk c.next.new.self (c.in-Some.key.now, c.in-Some.value.now) m.2 c.in-Some.ensures.steps (inl c.in_err-key_copy.ensures))
 
-pub returns-in_err-value_copy-clause-refused : goal.returns-in_err-value_copy-clause-refused
-returns-in_err-value_copy-clause-refused g c =
+pub returns-in_err-value_copy-clause-error : goal.returns-in_err-value_copy-clause-error
+returns-in_err-value_copy-clause-error g c =
     let p = err_from_is_err_and c.from_residual-in_err-value_copy.result c.from_residual-in_err-value_copy.ensures.1 in
     let m = c.pairs.invariant in
     rw (p.1, p.2) (copy_refused (MayRefusePair g.K.TryClone.may_refuse g.V.TryClone.may_refuse) _ c.args.walk m.0 c.pairs.walk c.next.new.self (c.in-Some.key.now, c.in-Some.value.now) m.2 c.in-Some.ensures.steps (inr c.in_err-value_copy.ensures))
 
-pub returns-in_err-insert-clause-refused : goal.returns-in_err-insert-clause-refused
-returns-in_err-insert-clause-refused g c =
+pub returns-in_err-insert-clause-error : goal.returns-in_err-insert-clause-error
+returns-in_err-insert-clause-error g c =
     let p = err_from_is_err_and c.from_residual-in_err-insert.result c.from_residual-in_err-insert.ensures.1 in
     let m = c.pairs.invariant in
-    rw (p.1, p.2) (room_refused (MayRefusePair g.K.TryClone.may_refuse g.V.TryClone.may_refuse) _ c.args.walk m.0 c.pairs.walk c.next.new.self (c.in-Some.key.now, c.in-Some.value.now) m.2 c.in-Some.ensures.steps c.in_err-insert.ensures.refused.2)
+    rw (p.1, p.2) (room_refused (MayRefusePair g.K.TryClone.may_refuse g.V.TryClone.may_refuse) _ c.args.walk m.0 c.pairs.walk c.next.new.self (c.in-Some.key.now, c.in-Some.value.now) m.2 c.in-Some.ensures.steps c.in_err-insert.ensures.error.2)
 
 pub pairs-preserved-in_ok-insert : goal.pairs-preserved-in_ok-insert
 pairs-preserved-in_ok-insert g c =

@@ -1,5 +1,5 @@
 use Rattle.std.proofs.Common.{◌<◌, arith, rules}
-use Rattle.fc_search.proofs.Nodes.{nodes_of, fewer_nodes}
+use Rattle.fc_tree_search.proofs.Nodes.{nodes_of, fewer_nodes}
 use Rattle.fc_iter.proofs.into_iter.debug.+list_pairs.Goals as goal
 
 pub list_pairs-requires : goal.list_pairs-requires

@@ -1,6 +1,6 @@
 use Rattle.std.proofs.Common.{◌≡◌, ◌∙◌, length, ap, arith}
 use Rattle.fc_base.specs.Ascending.{IsAscending}
-use Rattle.fc_node.specs.Node.{pairs_of}
+use Rattle.fc_tree_node.specs.Node.{pairs_of}
 use Rattle.fc_map.specs.Entries.{root_of, entries}
 use Rattle.fc_map.proofs.ExchangeFacts.{placed_in, ascending_placed}
 use Rattle.fc_map.proofs.PlaceFacts.{held_pair}

@@ -1,6 +1,6 @@
 use Rattle.std.proofs.Common.{◌≡◌, ◌∙◌, length, ap, arith}
 use Rattle.fc_base.specs.Ascending.{IsAscending}
-use Rattle.fc_node.specs.Node.{pairs_of}
+use Rattle.fc_tree_node.specs.Node.{pairs_of}
 use Rattle.fc_map.specs.Entries.{root_of, entries}
 use Rattle.fc_base.proofs.Laws.{ascending_put}
 use Rattle.fc_map.proofs.InsertFacts.{put_in}

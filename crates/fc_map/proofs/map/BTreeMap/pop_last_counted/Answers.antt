@@ -1,6 +1,6 @@
 use Rattle.std.proofs.Common.{◌≡◌, ◌∙◌, length, ap, sym, Some, arith}
 use Rattle.fc_base.specs.Ascending.{IsAscending}
-use Rattle.fc_node.specs.Node.{pairs_of}
+use Rattle.fc_tree_node.specs.Node.{pairs_of}
 use Rattle.fc_map.specs.Entries.{entries, root_of, IsSoundMap}
 use Rattle.fc_map.proofs.PopFacts.{last_popped, popped_cost}
 use Rattle.fc_map.proofs.map.BTreeMap.pop_last_counted.Goals as goal

@@ -1,7 +1,6 @@
 use Rattle.std.proofs.Common.{◌≡◌, ◌∙◌, ◌++◌, length, sym, subst, arith}
-use Rattle.fc_node.specs.TreePlace.{IsPlaceIn, ahead_of, behind_of}
+use Rattle.fc_tree_node.specs.TreePlace.{IsPlaceIn, before_pair_in, after_pair_in}
 use Rattle.fc_map.specs.Entries.{entries, root_of}
-use Rattle.fc_removal.specs.Removal.{tree_pairs}
 use Rattle.fc_map.proofs.RemoveFacts.{left_entries, map_height, map_kept, map_length, map_moves}
 use Rattle.fc_map.proofs.map.BTreeMap.take_at.Goals as goal
 
@@ -19,7 +18,7 @@ pub overflow_sub-self : goal.overflow_sub-self
 overflow_sub-self g c =
     let m = root_of c.self.inside.root in
     let place : IsPlaceIn m c.args.path.now = subst (λ m. IsPlaceIn m c.args.path.now) (sym c.self.view_is) c.requires in
-    let rest : tree_pairs c.remove-pair.new.tree ≡ ahead_of m c.args.path.now ++ behind_of m c.args.path.now = rw c.as_slice.ensures.value at c.remove-pair.ensures.pairs in
+    let rest : entries (root_of c.remove-pair.new.tree) ≡ before_pair_in m c.args.path.now ++ after_pair_in m c.args.path.now = rw c.as_slice.ensures.value at c.remove-pair.ensures.pairs in
     let longer = map_length m c.args.path.now c.self.invariant.1 place c.remove-pair.new.tree rest in
     let len : c.self.inside.len ≡ length (entries m) = c.self.invariant.2 in
     omega arith
@@ -28,7 +27,7 @@ pub invariant_of-self : goal.invariant_of-self
 invariant_of-self g c =
     let m = root_of c.self.inside.root in
     let place : IsPlaceIn m c.args.path.now = subst (λ m. IsPlaceIn m c.args.path.now) (sym c.self.view_is) c.requires in
-    let rest : tree_pairs c.remove-pair.new.tree ≡ ahead_of m c.args.path.now ++ behind_of m c.args.path.now = rw c.as_slice.ensures.value at c.remove-pair.ensures.pairs in
+    let rest : entries (root_of c.remove-pair.new.tree) ≡ before_pair_in m c.args.path.now ++ after_pair_in m c.args.path.now = rw c.as_slice.ensures.value at c.remove-pair.ensures.pairs in
     let longer = map_length m c.args.path.now c.self.invariant.1 place c.remove-pair.new.tree rest in
     let len : c.self.inside.len ≡ length (entries m) = c.self.invariant.2 in
     let kept = map_kept m c.args.path.now c.self.invariant.1 place c.remove-pair.new.tree rest g.K.Ord.cmp c.self.invariant.0 c.remove-pair.ensures.levels in
@@ -44,7 +43,7 @@ pub returns-clause-length : goal.returns-clause-length
 returns-clause-length g c =
     let m = root_of c.self.inside.root in
     let place : IsPlaceIn m c.args.path.now = subst (λ m. IsPlaceIn m c.args.path.now) (sym c.self.view_is) c.requires in
-    let rest : tree_pairs c.remove-pair.new.tree ≡ ahead_of m c.args.path.now ++ behind_of m c.args.path.now = rw c.as_slice.ensures.value at c.remove-pair.ensures.pairs in
+    let rest : entries (root_of c.remove-pair.new.tree) ≡ before_pair_in m c.args.path.now ++ after_pair_in m c.args.path.now = rw c.as_slice.ensures.value at c.remove-pair.ensures.pairs in
     rw (← c.self.view_is) (map_length m c.args.path.now c.self.invariant.1 place c.remove-pair.new.tree rest)
 
 pub returns-clause-moves : goal.returns-clause-moves

@@ -1,6 +1,6 @@
 use Rattle.std.proofs.Common.{◌≡◌, ◌∙◌, Some, length, ap, rules}
 use Rattle.fc_base.specs.Ascending.{IsAscending}
-use Rattle.fc_node.specs.Place.{IsPlace}
+use Rattle.fc_tree_node.specs.Place.{IsPlace}
 use Rattle.fc_map.specs.Entries.{root_of, entries, IsSoundMap}
 use Rattle.fc_map.proofs.WrittenFacts.{written_kept}
 use Rattle.fc_map.proofs.map.BTreeMap.value_mut.Goals as goal

@@ -17,7 +17,7 @@ returns-clause-copied g c =
     let w = c.intersection.result in
     subst (λ l. IfOk c.try_copied.result (λ made. AllZip g.T.TryClone.same l (items made))) c.intersection.ensures.all (c.try_copied.ensures.copied (common g.T.Ord.cmp w.left w.right) (lends_rest (λ v. common g.T.Ord.cmp v.left v.right) w))
 
-pub returns-clause-refused : goal.returns-clause-refused
-returns-clause-refused g c =
+pub returns-clause-error : goal.returns-clause-error
+returns-clause-error g c =
     let w = c.intersection.result in
-    subst (λ l. IfErr c.try_copied.result (MayCopyRefuse g.T.TryClone.may_refuse l)) c.intersection.ensures.all (c.try_copied.ensures.refused (common g.T.Ord.cmp w.left w.right) (lends_rest (λ v. common g.T.Ord.cmp v.left v.right) w))
+    subst (λ l. IfErr c.try_copied.result (MayCopyRefuse g.T.TryClone.may_refuse l)) c.intersection.ensures.all (c.try_copied.ensures.error (common g.T.Ord.cmp w.left w.right) (lends_rest (λ v. common g.T.Ord.cmp v.left v.right) w))

@@ -17,10 +17,10 @@ returns-clause-copied g c =
     let w = c.union.result in
     subst (λ v. IfOk c.try_copied.result (λ made. AllZip g.T.TryClone.same (union g.T.Ord.cmp v.left v.right) (items made))) c.union.ensures.sides (c.try_copied.ensures.copied (union g.T.Ord.cmp w.left w.right) (lends_rest (λ v. union g.T.Ord.cmp v.left v.right) w))
 
-pub returns-clause-refused : goal.returns-clause-refused
-returns-clause-refused g c =
+pub returns-clause-error : goal.returns-clause-error
+returns-clause-error g c =
     let w = c.union.result in
-    subst (λ v. IfErr c.try_copied.result (MayCopyRefuse g.T.TryClone.may_refuse (union g.T.Ord.cmp v.left v.right))) c.union.ensures.sides (c.try_copied.ensures.refused (union g.T.Ord.cmp w.left w.right) (lends_rest (λ v. union g.T.Ord.cmp v.left v.right) w))
+    subst (λ v. IfErr c.try_copied.result (MayCopyRefuse g.T.TryClone.may_refuse (union g.T.Ord.cmp v.left v.right))) c.union.ensures.sides (c.try_copied.ensures.error (union g.T.Ord.cmp w.left w.right) (lends_rest (λ v. union g.T.Ord.cmp v.left v.right) w))
 
 pub returns-clause-full : goal.returns-clause-full
 returns-clause-full g c =

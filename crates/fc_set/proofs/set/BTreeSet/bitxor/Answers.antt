@@ -17,10 +17,10 @@ returns-clause-copied g c =
     let w = c.symmetric_difference.result in
     subst (λ v. IfOk c.try_copied.result (λ made. AllZip g.T.TryClone.same (symmetric_difference g.T.Ord.cmp v.left v.right) (items made))) c.symmetric_difference.ensures.sides (c.try_copied.ensures.copied (symmetric_difference g.T.Ord.cmp w.left w.right) (lends_rest (λ v. symmetric_difference g.T.Ord.cmp v.left v.right) w))
 
-pub returns-clause-refused : goal.returns-clause-refused
-returns-clause-refused g c =
+pub returns-clause-error : goal.returns-clause-error
+returns-clause-error g c =
     let w = c.symmetric_difference.result in
-    subst (λ v. IfErr c.try_copied.result (MayCopyRefuse g.T.TryClone.may_refuse (symmetric_difference g.T.Ord.cmp v.left v.right))) c.symmetric_difference.ensures.sides (c.try_copied.ensures.refused (symmetric_difference g.T.Ord.cmp w.left w.right) (lends_rest (λ v. symmetric_difference g.T.Ord.cmp v.left v.right) w))
+    subst (λ v. IfErr c.try_copied.result (MayCopyRefuse g.T.TryClone.may_refuse (symmetric_difference g.T.Ord.cmp v.left v.right))) c.symmetric_difference.ensures.sides (c.try_copied.ensures.error (symmetric_difference g.T.Ord.cmp w.left w.right) (lends_rest (λ v. symmetric_difference g.T.Ord.cmp v.left v.right) w))
 
 pub returns-clause-full : goal.returns-clause-full
 returns-clause-full g c =

@@ -17,7 +17,7 @@ returns-clause-copied g c =
     let w = c.difference.result in
     subst (λ v. IfOk c.try_copied.result (λ made. AllZip g.T.TryClone.same (difference g.T.Ord.cmp v.left v.right) (items made))) c.difference.ensures.sides (c.try_copied.ensures.copied (difference g.T.Ord.cmp w.left w.right) (lends_rest (λ v. difference g.T.Ord.cmp v.left v.right) w))
 
-pub returns-clause-refused : goal.returns-clause-refused
-returns-clause-refused g c =
+pub returns-clause-error : goal.returns-clause-error
+returns-clause-error g c =
     let w = c.difference.result in
-    subst (λ v. IfErr c.try_copied.result (MayCopyRefuse g.T.TryClone.may_refuse (difference g.T.Ord.cmp v.left v.right))) c.difference.ensures.sides (c.try_copied.ensures.refused (difference g.T.Ord.cmp w.left w.right) (lends_rest (λ v. difference g.T.Ord.cmp v.left v.right) w))
+    subst (λ v. IfErr c.try_copied.result (MayCopyRefuse g.T.TryClone.may_refuse (difference g.T.Ord.cmp v.left v.right))) c.difference.ensures.sides (c.try_copied.ensures.error (difference g.T.Ord.cmp w.left w.right) (lends_rest (λ v. difference g.T.Ord.cmp v.left v.right) w))

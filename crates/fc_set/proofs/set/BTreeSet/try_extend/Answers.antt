@@ -10,8 +10,8 @@ loop-item-preserved g c =
     let put_in = extended_more g.T.Ord.cmp (items c.args.self.now) c.loop-item.yielded (items c.loop-item.self) (items c.try_insert.new.self) c.in-Some.item c.loop-item.invariant.2 c.in_ok-try_insert.ensures.put in
     (search rules, search rules, put_in, c.in_ok-try_insert.ensures.ascending, c.in_ok-try_insert.ensures.sound)
 
-pub returns-in_err-try_insert-clause-refused : goal.returns-in_err-try_insert-clause-refused
-returns-in_err-try_insert-clause-refused g c =
+pub returns-in_err-try_insert-clause-error : goal.returns-in_err-try_insert-clause-error
+returns-in_err-try_insert-clause-error g c =
     let refusal = c.in_err-try_insert.ensures in
     let item : g.row.T.Denot = c.in-Some.item in
     let p = err_from_is_err_and c.from_residual.result c.from_residual.ensures.1 in

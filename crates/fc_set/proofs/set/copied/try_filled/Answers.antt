@@ -13,7 +13,7 @@ pub loop-item-init : goal.loop-item-init
 loop-item-init g c =
     let e = sym c.into_iter-item-iterator.ensures.into_iter_gives in
     let ok = c.in_ok-builder.ensures.ok in
-    (subst g.I.Iterator.can_next e c.requires.ends.0, subst (λ w. IsFinite (g.I.Iterator.remaining w)) e c.requires.ends.1, λ all lends. filled_start g.I.Iterator.next_gives all g.T.TryClone.same c.in_ok-builder.builder c.into_iter-item-iterator.result (subst (λ w. Lends g.I.Iterator.next_gives w all) e lends) ok.0 (ok.1 ∙ c.requires.count all lends))
+    (subst g.I.Iterator.can_next e c.requires.first_last.0, subst (λ w. IsFinite (g.I.Iterator.remaining w)) e c.requires.first_last.1, λ all lends. filled_start g.I.Iterator.next_gives all g.T.TryClone.same c.in_ok-builder.builder c.into_iter-item-iterator.result (subst (λ w. Lends g.I.Iterator.next_gives w all) e lends) ok.0 (ok.1 ∙ c.requires.count all lends))
 
 pub push-requires : goal.push-requires
 push-requires g c =
@@ -33,8 +33,8 @@ from_ascending-requires g c =
     let len = c.requires.count gives.0 gives.1 ∙ length_all_zip g.T.TryClone.same gives.0 (map (λ e. e.0) pairs) copied ∙ keys_length pairs in
     (search rules, (ascending_copies g.T.Ord.cmp g.met.T.Ord.total g.T.TryClone.same equal gives.0 pairs copied gives.2, len))
 
-pub returns-in_err-copy-clause-refused : goal.returns-in_err-copy-clause-refused
-returns-in_err-copy-clause-refused g c =
+pub returns-in_err-copy-clause-error : goal.returns-in_err-copy-clause-error
+returns-in_err-copy-clause-error g c =
     let p = err_from_is_err_and c.from_residual-in_err-copy.result c.from_residual-in_err-copy.ensures.1 in
     rw (p.1, p.2) (λ all lends. inr (any_next g.I.Iterator.next_gives all g.T.TryClone.same (λ x. g.T.TryClone.may_refuse x _) c.loop-item.builder c.loop-item.item-iterator c.next.new.self c.in-Some.item (c.loop-item.invariant.2 all lends) c.in-Some.ensures.steps c.in_err-copy.ensures))
 

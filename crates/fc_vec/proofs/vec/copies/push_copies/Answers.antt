@@ -3,8 +3,8 @@ use Rattle.std.proofs.lemmas.Result.{err_from_is_err_and}
 use Rattle.fc_vec.proofs.CopyFacts.{one_copied, front_copied}
 use Rattle.fc_vec.proofs.vec.copies.push_copies.Goals as goal
 
-pub returns-in_err-copy-clause-refused : goal.returns-in_err-copy-clause-refused
-returns-in_err-copy-clause-refused g c =
+pub returns-in_err-copy-clause-error : goal.returns-in_err-copy-clause-error
+returns-in_err-copy-clause-error g c =
     let p = err_from_is_err_and c.from_residual.result c.from_residual.ensures.1 in
     rw (p.1, p.2) (front_copied g.T.TryClone.same g.T.TryClone.may_refuse _ c.args.v.now.items c.args.sources.now c.loop-i.v.items c.loop-i.i c.index-sources-i.result (omega (arith, c.loop-i-test.true, c.loop-i.invariant.0)) c.index-sources-i.is c.loop-i.invariant.3 c.in_err-copy.ensures)
 

@@ -3,8 +3,8 @@ use Rattle.std.proofs.lemmas.List.Elements.{length_all_zip}
 use Rattle.std.proofs.lemmas.Result.{err_from_is_err_and}
 use Rattle.fc_base.specs.Ascending.{IsAscending}
 use Rattle.fc_base.specs.Copies.{MayRefusePair}
-use Rattle.fc_node.specs.Node.{pairs_of, IsLevelled}
-use Rattle.fc_copy.specs.Copy.{AreSame, IsCopy, MayRefuseNodes}
+use Rattle.fc_tree_node.specs.Node.{pairs_of, IsLevelled}
+use Rattle.fc_tree_copy.specs.Copy.{AreSame, IsCopy, MayRefuseNodes}
 use Rattle.fc_map.specs.Entries.{root_of, entries, IsSoundMap}
 use Rattle.fc_map.proofs.CopyFacts.{equal_answer, ascending_copied, sound_copied, has_pair}
 use Rattle.fc_map.proofs.map.copy.BTreeMapTryClone.try_clone.Goals as goal
@@ -15,7 +15,7 @@ returns-in_err-copy-clause-copied g c =
     let p = err_from_is_err_and c.from_residual.result c.from_residual.ensures.1 in
     let sound : IsSoundMap (Some c.in-Some.root.value) = rw c.in-Some.is at c.self.invariant.1 in
     let list : entries c.args.self.now ≡ pairs_of c.in-Some.root.value = sym (ap entries c.self.view_is) ∙ ap (λ r. entries (root_of r)) c.in-Some.is in
-    let is = c.in_err-copy.ensures.refused sound.0 (subst (IsLevelled sound.0) (sym c.deref.ensures) sound.2.1) in
+    let is = c.in_err-copy.ensures.error sound.0 (subst (IsLevelled sound.0) (sym c.deref.ensures) sound.2.1) in
     let all = subst (λ n. MayRefuseNodes may (pairs_of n) c.in_err-copy.field-0.0) c.deref.ensures is in
     let some = subst (λ s. 0 < length s) (sym list) (has_pair c.in-Some.root.value sound) in
     rw p.1 (some, search (rules, p.2, subst (λ s. MayRefuseNodes may s c.in_err-copy.field-0.0) (sym list) all))

@@ -1,7 +1,7 @@
 use Rattle.std.proofs.Common.{◌≡◌, ◌∙◌, Some, arith, ap, refl, sym}
 use Rattle.std.specs.Option.{option_map}
 use Rattle.std.proofs.lemmas.Bool.{false≢true}
-use Rattle.fc_node.specs.TreePlace.{before_of, after_of}
+use Rattle.fc_tree_node.specs.TreePlace.{before_gap_in, after_gap_in}
 use Rattle.fc_map.proofs.CountFacts.{only_moved}
 use Rattle.fc_map.proofs.EntryFacts.{put_place, put_written}
 use Rattle.fc_map.proofs.map.entry.VacantEntry.try_insert_counted.Goals as goal
@@ -9,8 +9,8 @@ use Rattle.fc_map.proofs.map.entry.VacantEntry.try_insert_counted.Goals as goal
 pub returns-in-Ok : goal.returns-in-Ok
 returns-in-Ok g c =
     let e = c.args.self in
-    let front = before_of e.map.now e.path in
-    let back = after_of e.map.now e.path in
+    let front = before_gap_in e.map.now e.path in
+    let back = after_gap_in e.map.now e.path in
     let m = c.insert_at.new.self in
     let put = c.in-Ok.ensures.place in
     let there = put_place m c.insert_at.new.path (e.key, c.args.value) front back put in

@@ -7,4 +7,4 @@ pub returns : goal.returns
 returns g c =
     let m = c.args.self.now.map.now in
     let all = c.args.self.now.counted in
-    (grind (arith, all, c.if-self-eq0.false), place_item m c.step_behind.result (entries m) _ c.step_behind.ensures.sound c.step_behind.ensures.place refl c.step_behind.ensures.ahead ∙ c.pair_of-pair.ensures)
+    (grind (arith, all, c.if-self-eq0.false), place_item m c.step_to_next.result (entries m) _ c.step_to_next.ensures.sound c.step_to_next.ensures.place refl c.step_to_next.ensures.before ∙ c.pair_of-pair.ensures)

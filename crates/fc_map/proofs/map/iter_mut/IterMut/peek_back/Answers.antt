@@ -7,4 +7,4 @@ pub returns : goal.returns
 returns g c =
     let m = c.args.self.now.map.now in
     let all = c.args.self.now.counted in
-    (grind (arith, all, c.if-self-eq0.false), place_item m c.step_ahead.result (entries m) _ c.step_ahead.ensures.sound c.step_ahead.ensures.place refl (omega (arith, c.step_ahead.ensures.ahead)) ∙ c.pair_of-pair.ensures)
+    (grind (arith, all, c.if-self-eq0.false), place_item m c.step_to_previous.result (entries m) _ c.step_to_previous.ensures.sound c.step_to_previous.ensures.place refl (omega (arith, c.step_to_previous.ensures.before)) ∙ c.pair_of-pair.ensures)

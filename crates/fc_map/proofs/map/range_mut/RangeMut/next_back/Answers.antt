@@ -1,6 +1,6 @@
 use Rattle.std.proofs.Common.{arith, refl, ap}
 use Rattle.fc_map.specs.Entries.{entries}
-use Rattle.fc_visit.specs.Leaf.{gone_on}
+use Rattle.fc_tree_visit.specs.Leaf.{gone_on}
 use Rattle.fc_map.specs.Stretches.{stretch}
 use Rattle.fc_map.proofs.EndFacts.{ends_stay, last_written, place_value}
 use Rattle.fc_map.proofs.ShapeFacts.{gap_stays}

@@ -8,4 +8,4 @@ returns g c =
     let e = c.is_done.ensures in
     let m = c.args.self.now.map.now in
     let is = c.if-is_done.false in
-    (grind (arith, e.1, is), place_item m c.step_behind.result (entries m) _ c.step_behind.ensures.sound c.step_behind.ensures.place refl c.step_behind.ensures.ahead ∙ c.pair_of-pair.ensures)
+    (grind (arith, e.1, is), place_item m c.step_to_next.result (entries m) _ c.step_to_next.ensures.sound c.step_to_next.ensures.place refl c.step_to_next.ensures.before ∙ c.pair_of-pair.ensures)

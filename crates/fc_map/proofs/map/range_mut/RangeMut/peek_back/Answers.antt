@@ -8,4 +8,4 @@ returns g c =
     let e = c.is_done.ensures in
     let m = c.args.self.now.map.now in
     let is = c.if-is_done.false in
-    (grind (arith, e.1, is), place_item m c.step_ahead.result (entries m) _ c.step_ahead.ensures.sound c.step_ahead.ensures.place refl (omega (arith, c.step_ahead.ensures.ahead)) ∙ c.pair_of-pair.ensures)
+    (grind (arith, e.1, is), place_item m c.step_to_previous.result (entries m) _ c.step_to_previous.ensures.sound c.step_to_previous.ensures.place refl (omega (arith, c.step_to_previous.ensures.before)) ∙ c.pair_of-pair.ensures)

@@ -1,15 +1,15 @@
 use Rattle.std.proofs.Common.{Some, refl}
 use Rattle.fc_set.specs.Operations.{symmetric_difference}
-use Rattle.fc_set.proofs.StepFacts.{symmetric_theirs_step, symmetric_ours_step, symmetric_on_step, yields_first, stands_behind}
+use Rattle.fc_set.proofs.StepFacts.{symmetric_theirs_step, symmetric_ours_step, symmetric_on_step, yields_first, stands_after}
 use Rattle.fc_set.proofs.set.symmetric_difference.SymmetricDifference.next.Goals as goal
 
 pub returns-in_default-clause-steps : goal.returns-in_default-clause-steps
 returns-in_default-clause-steps g c =
     rw (← c.self.view_is) (yields_first g.T.Ord.cmp g.met.T.Ord.total (symmetric_difference g.T.Ord.cmp) c.next.result.1 c.self.inside.sides.left c.self.inside.sides.right c.next.new.self refl (symmetric_theirs_step g.T.Ord.cmp g.met.T.Ord.total c.self.inside.sides.left c.self.inside.sides.right c.pairs.self-inside.sides.left c.pairs.self-inside.sides.right c.next.new.self c.pairs.invariant.0 c.pairs.invariant.1 c.next.result.0 c.next.result.1 c.next.ensures.ours c.next.ensures.theirs c.next.ensures.firsts c.in_default.is))
 
-pub returns-in_default-clause-behind : goal.returns-in_default-clause-behind
-returns-in_default-clause-behind g c =
-    rw (← c.self.view_is) (stands_behind g.T.Ord.cmp g.met.T.Ord.total (symmetric_difference g.T.Ord.cmp) c.next.result.1 c.self.inside.sides c.next.new.self (symmetric_theirs_step g.T.Ord.cmp g.met.T.Ord.total c.self.inside.sides.left c.self.inside.sides.right c.pairs.self-inside.sides.left c.pairs.self-inside.sides.right c.next.new.self c.pairs.invariant.0 c.pairs.invariant.1 c.next.result.0 c.next.result.1 c.next.ensures.ours c.next.ensures.theirs c.next.ensures.firsts c.in_default.is))
+pub returns-in_default-clause-past : goal.returns-in_default-clause-past
+returns-in_default-clause-past g c =
+    rw (← c.self.view_is) (stands_after g.T.Ord.cmp g.met.T.Ord.total (symmetric_difference g.T.Ord.cmp) c.next.result.1 c.self.inside.sides c.next.new.self (symmetric_theirs_step g.T.Ord.cmp g.met.T.Ord.total c.self.inside.sides.left c.self.inside.sides.right c.pairs.self-inside.sides.left c.pairs.self-inside.sides.right c.next.new.self c.pairs.invariant.0 c.pairs.invariant.1 c.next.result.0 c.next.result.1 c.next.ensures.ours c.next.ensures.theirs c.next.ensures.firsts c.in_default.is))
 
 pub pairs-preserved : goal.pairs-preserved
 pairs-preserved g c = symmetric_on_step g.T.Ord.cmp g.met.T.Ord.total c.self.inside.sides.left c.self.inside.sides.right c.pairs.self-inside.sides.left c.pairs.self-inside.sides.right c.next.new.self c.pairs.invariant.0 c.pairs.invariant.1 c.next.result.0 c.next.result.1 c.next.ensures.ours c.next.ensures.theirs c.next.ensures.firsts c.in-Some.ours _ c.in-Some.is c.in-Some-theirs.is
@@ -18,6 +18,6 @@ pub returns-in_default-theirs-clause-steps : goal.returns-in_default-theirs-clau
 returns-in_default-theirs-clause-steps g c =
     rw (← c.self.view_is) (yields_first g.T.Ord.cmp g.met.T.Ord.total (symmetric_difference g.T.Ord.cmp) (Some c.in-Some.ours) c.self.inside.sides.left c.self.inside.sides.right c.next.new.self refl (symmetric_ours_step g.T.Ord.cmp g.met.T.Ord.total c.self.inside.sides.left c.self.inside.sides.right c.pairs.self-inside.sides.left c.pairs.self-inside.sides.right c.next.new.self c.pairs.invariant.0 c.pairs.invariant.1 c.next.result.0 c.next.result.1 c.next.ensures.ours c.next.ensures.theirs c.next.ensures.firsts c.in-Some.ours c.in-Some.is c.in_default-theirs.is))
 
-pub returns-in_default-theirs-clause-behind : goal.returns-in_default-theirs-clause-behind
-returns-in_default-theirs-clause-behind g c =
-    rw (← c.self.view_is) (stands_behind g.T.Ord.cmp g.met.T.Ord.total (symmetric_difference g.T.Ord.cmp) (Some c.in-Some.ours) c.self.inside.sides c.next.new.self (symmetric_ours_step g.T.Ord.cmp g.met.T.Ord.total c.self.inside.sides.left c.self.inside.sides.right c.pairs.self-inside.sides.left c.pairs.self-inside.sides.right c.next.new.self c.pairs.invariant.0 c.pairs.invariant.1 c.next.result.0 c.next.result.1 c.next.ensures.ours c.next.ensures.theirs c.next.ensures.firsts c.in-Some.ours c.in-Some.is c.in_default-theirs.is))
+pub returns-in_default-theirs-clause-past : goal.returns-in_default-theirs-clause-past
+returns-in_default-theirs-clause-past g c =
+    rw (← c.self.view_is) (stands_after g.T.Ord.cmp g.met.T.Ord.total (symmetric_difference g.T.Ord.cmp) (Some c.in-Some.ours) c.self.inside.sides c.next.new.self (symmetric_ours_step g.T.Ord.cmp g.met.T.Ord.total c.self.inside.sides.left c.self.inside.sides.right c.pairs.self-inside.sides.left c.pairs.self-inside.sides.right c.next.new.self c.pairs.invariant.0 c.pairs.invariant.1 c.next.result.0 c.next.result.1 c.next.ensures.ours c.next.ensures.theirs c.next.ensures.firsts c.in-Some.ours c.in-Some.is c.in_default-theirs.is))

@@ -1,7 +1,7 @@
 use Rattle.std.proofs.Common.{◌+◌, length, take, drop, arith, refl, sym, ap, ◌∙◌, subst}
 use Rattle.std.proofs.lemmas.Result.{err_from_is_err_and}
 use Rattle.fc_vec.specs.Joined.{joined}
-use Rattle.fc_vec.specs.Vectors.{IsExtended, IsExtendedUpTo}
+use Rattle.fc_vec.specs.Vectors.{IsExtended, IsCopiedUpTo}
 use Rattle.fc_vec.proofs.CopyFacts.{extended_on, refused_on, joined_more, joined_around, joined_length, length_extended}
 use Rattle.fc_vec.proofs.vec.try_vec.copy.push_parts.Goals as goal
 
@@ -15,13 +15,13 @@ push_copies-requires-clause-room g c =
     let grown = length_extended g.T.TryClone.same c.args.made.now.items (joined (take c.loop-i.i c.args.parts.now)) c.loop-i.made.items v.2 in
     omega (arith, had, has, grown, v.1, long.1, c.requires.room, ap length c.as_slice.ensures)
 
-pub returns-in_err-push_copies-clause-refused : goal.returns-in_err-push_copies-clause-refused
-returns-in_err-push_copies-clause-refused g c =
+pub returns-in_err-push_copies-clause-error : goal.returns-in_err-push_copies-clause-error
+returns-in_err-push_copies-clause-error g c =
     let p = err_from_is_err_and c.from_residual.result c.from_residual.ensures.1 in
     let parts = c.args.parts.now in
     let i = c.loop-i.i in
     let part = c.index-parts-i.result in
-    let refused = subst (λ l. IsExtendedUpTo g.T.TryClone.same g.T.TryClone.may_refuse c.in_err-push_copies.field-0.0 c.loop-i.made.items l c.push_copies.new.v.items) c.as_slice.ensures c.in_err-push_copies.ensures.refused in
+    let refused = subst (λ l. IsCopiedUpTo g.T.TryClone.same g.T.TryClone.may_refuse c.in_err-push_copies.field-0.0 c.loop-i.made.items l c.push_copies.new.v.items) c.as_slice.ensures c.in_err-push_copies.ensures.error in
     rw (p.1, p.2) (refused_on g.T.TryClone.same g.T.TryClone.may_refuse _ c.args.made.now.items (joined (take i parts)) c.loop-i.made.items part.items (joined (drop (i + 1) parts)) (joined parts) c.push_copies.new.v.items c.loop-i.invariant.2 refused (joined_around parts i part (omega (arith, c.loop-i-test.true, c.loop-i.invariant.0)) c.index-parts-i.is))
 
 pub loop-i-preserved : goal.loop-i-preserved

@@ -1,5 +1,0 @@
-use Rattle.fc_border.proofs.Heights.{height_of}
-use Rattle.fc_append.proofs.join.+height.Given as goal
-
-abbrev pub decreases-height : goal.decreases-height
-decreases-height g l = height_of l.node.now

@@ -1,5 +1,0 @@
-pub mod Cascade
-pub mod Chain
-pub mod Room
-pub mod Insertion
-pub mod Arrival

@@ -1,6 +1,0 @@
-use Rattle.std.proofs.Common.{sym}
-use Rattle.fc_lines.proofs.LineFacts.{ends_words}
-use Rattle.fc_lines.proofs.lines.ending.Goals as goal
-
-pub returns-in-Some : goal.returns-in-Some
-returns-in-Some c = rw c.in-Some.is (sym (ends_words c.args.command c.in-Some.field-0.now))

@@ -1,6 +1,0 @@
-use Rattle.std.proofs.Common.{◌≡◌, ◌++◌}
-use Rattle.fc_map.specs.Entries.{entries}
-use Rattle.fc_map_examples.proofs.iter.all_pairs.Given as goal
-
-abbrev pub invariant-loop-key : goal.invariant-loop-key
-invariant-loop-key g l = l.all.items ++ l.key-iterator ≡ entries l.fn.map

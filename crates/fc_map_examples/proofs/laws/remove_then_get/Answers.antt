@@ -1,7 +1,0 @@
-use Rattle.std.proofs.Common.{arith}
-use Rattle.std.proofs.lemmas.Grind.{common_steps}
-use Rattle.fc_base.proofs.Laws.{value_at_cut_other}
-use Rattle.fc_map_examples.proofs.laws.remove_then_get.Goals as goal
-
-pub returns-clause-stays : goal.returns-clause-stays
-returns-clause-stays g c = grind (arith, common_steps, value_at_cut_other, c.requires)

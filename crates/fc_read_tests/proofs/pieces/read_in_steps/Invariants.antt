@@ -1,4 +1,0 @@
-use Rattle.fc_read_tests.proofs.pieces.read_in_steps.Given as goal
-
-abbrev pub decreases-loop-left : goal.decreases-loop-left
-decreases-loop-left g l = l.left

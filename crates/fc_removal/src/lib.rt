@@ -1,6 +1,0 @@
-//! Removal at a place of a tree and at its ends, with the nodes above it mended, and replacement at a place.
-#![tactic(auto)]
-
-pub mod ends;
-pub mod removal;
-pub mod replacement;

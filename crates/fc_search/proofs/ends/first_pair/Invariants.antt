@@ -1,9 +1,0 @@
-use Rattle.fc_search.proofs.EndFacts.{IsFirst}
-use Rattle.fc_search.proofs.Nodes.{nodes_of}
-use Rattle.fc_search.proofs.ends.first_pair.Given as goal
-
-abbrev pub invariant-down : goal.invariant-down
-invariant-down g l = IsFirst l.root l.node
-
-abbrev pub decreases-down : goal.decreases-down
-decreases-down g l = nodes_of l.node

@@ -1,7 +1,0 @@
-//! Search for a key down a tree, and what stands at the place that a search found.
-#![tactic(auto)]
-
-pub mod ends;
-pub mod lend;
-pub mod neighbours;
-pub mod search;

@@ -1,0 +1,71 @@
+//! A walk that shows the item which it gives next.
+ghost use Rattle.std.specs.Prelude.{◌≡◌, ⊤, ◌∷◌, [], drop, length, MatchOption};
+
+use super::Iter;
+use std::alloc::AllocError;
+use std::marker::Model;
+
+// The items still to come of a walk, of which the first was taken from it and not yet given.
+#[derive(Drop)]
+pub(crate) struct Peeked<'a, T> {
+    first: Option<&'a T>,
+    rest: Iter<'a, T>,
+}
+
+impl<'a, T> Model for Peeked<'a, T> {
+    ghost use Rattle.std.specs.Prelude.{◌≡◌, ◌<◌, ◌+◌, ◌^◌, ◌++◌, List, [], IfNone, length, option_copied, option_to_list};
+
+    ghost Value = { List T };
+
+    ghost view = { λ w. option_to_list (option_copied w.first) ++ w.rest };
+
+    ghost invariant = { λ w. IfNone w.first (w.rest ≡ []) × (length w.rest + 1 < 2 ^ 64) };
+}
+
+impl<'a, T> Peeked<'a, T> {
+    pub(crate) fn of(walk: Iter<'a, T>) -> Peeked<'a, T>
+        ensures { result ≡ walk.entry }
+    {
+        let mut rest = walk;
+        // Shows that the items can be counted.
+        let _len = rest.len();
+        let first = rest.next();
+        Peeked { first, rest }
+    }
+
+    // The item that comes next.
+    pub(crate) fn first(&self) -> Option<&'a T>
+        ensures { MatchOption result (self.now ≡ []) (λ x. self.now ≡ x.now ∷ drop 1 self.now) }
+    {
+        self.first
+    }
+
+    // Goes past the item that comes next.
+    pub(crate) fn step(&mut self)
+        ensures { self.new ≡ drop 1 self.old }
+    {
+        self.first = self.rest.next();
+    }
+
+    pub(crate) fn len(&self) -> usize
+        ensures { result ≡ length self.now }
+    {
+        match self.first {
+            Some(_) => self.rest.len() + 1,
+            None => 0,
+        }
+    }
+}
+
+impl<'a, T> Clone for Peeked<'a, T> {
+    ghost is_clone = { λ s r. r ≡ s };
+
+    ghost is_infallible = { λ _. ⊤ };
+
+    fn clone(&self) -> Result<Peeked<'a, T>, AllocError> {
+        Ok(Peeked {
+            first: self.first,
+            rest: self.rest.clone()?,
+        })
+    }
+}

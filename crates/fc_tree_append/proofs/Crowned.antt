@@ -1,0 +1,61 @@
+-- Two trees of one height below a new root.
+use Rattle.std.proofs.Common.{◌≡◌, ℕ, suc, ◌+◌, ◌<◌, ◌≤◌, [], ◌∷◌, ◌++◌, ◌^◌, length, get_or, ap, subst, ◌∙◌, arith, length-append, Box, Some, None}
+use Rattle.std.specs.Prelude.{slice_set}
+use Rattle.std.specs.declared.alloc.Global.{Global}
+use Rattle.std.specs.List.{remove}
+use Rattle.fc_base.specs.Sizes.{capacity, min_len}
+use Rattle.fc_tree_node.specs.declared.node.Node.{Node}
+use Rattle.fc_tree_node.specs.Node.{own_pairs, children_of, child_at, pairs_of, IsInner, IsLevelled}
+use Rattle.fc_tree_node.specs.Siblings.{AreAlike, IsMerged}
+use Rattle.fc_tree_node.specs.Tree.{Map, entries, IsSoundMap, IsSoundWithin}
+use Rattle.fc_tree_node.proofs.DepthFacts.{deep_root, few_levels}
+use Rattle.fc_tree_border.specs.Border.{IsBordered}
+use Rattle.fc_tree_border.specs.declared.mending.Border.TheVariants.{Left, Right}
+use Rattle.fc_tree_border.proofs.Borders.{levelled_bordered, sides_alike, side_whole}
+use Rattle.fc_tree_append.proofs.HungFacts.{root_bordered}
+
+module _ {K V : Type 0} where
+  -- the root and its two children
+  pub record IsCrowned (h : ℕ) (root left : Node K V) (up : K × V) (right : Box (Node K V) Global) : Type 0 where
+    pub own : own_pairs root ≡ up ∷ []
+    pub children : children_of root ≡ left ∷ right.value ∷ []
+    pub first : IsLevelled h left
+    pub second : IsLevelled h right.value
+
+  module _ (h : ℕ) (root left : Node K V) (up : K × V) (right : Box (Node K V) Global) (r : IsCrowned h root left up right) where
+    pub crowned_right : min_len ≤ length (own_pairs left) → IsBordered Right (suc h) root
+    crowned_right m = root_bordered Right h root left up right r.own r.children ((m, r.first), levelled_bordered Right h right.value r.second)
+
+    pub crowned_left : min_len ≤ length (own_pairs right.value) → IsBordered Left (suc h) root
+    crowned_left m = root_bordered Left h root left up right r.own r.children (levelled_bordered Left h left r.first, (m, r.second))
+
+    pub crowned_inner : IsInner root
+    crowned_inner = let n : length (own_pairs root) ≡ 1 = ap length r.own in let k : length (children_of root) ≡ 2 = ap length r.children in omega arith
+
+    first_is : child_at root 0 ≡ left
+    first_is = ap (λ cs. get_or cs 0 root) r.children
+
+    second_is : child_at root 1 ≡ right.value
+    second_is = ap (λ cs. get_or cs 1 root) r.children
+
+    pub crowned_alike : AreAlike (child_at root 0) (child_at root 1)
+    crowned_alike = rw (first_is, second_is) (sides_alike Right h left right.value r.first (levelled_bordered Right h right.value r.second))
+
+    pub crowned_room : length (own_pairs left) + length (own_pairs right.value) < capacity → length (own_pairs (child_at root 0)) + length (own_pairs (child_at root 1)) + 1 ≤ capacity
+    crowned_room m = rw (first_is, second_is) (omega arith)
+
+    -- where the two become one node
+    pub merged_right : (new : Node K V) → length (own_pairs left) + length (own_pairs right.value) < capacity → IsMerged 0 root new → IsBordered Right (suc h) new
+    merged_right new m g =
+        let none : length (own_pairs new) ≡ 0 = ap length g.pairs ∙ ap (λ ps. length (remove ps 0)) r.own in
+        let one : children_of new ≡ g.whole ∷ [] = g.children ∙ ap (λ cs. slice_set (remove cs 1) 0 g.whole) r.children in
+        let n : length (children_of new) ≡ 1 = ap length one in
+        let own : length (own_pairs g.whole) ≡ length (own_pairs left) + (length (own_pairs right.value) + 1) = ap length (g.own up ∙ ap (λ n. own_pairs n ++ get_or (own_pairs root) 0 up ∷ own_pairs (child_at root 1)) first_is ∙ ap (λ n. own_pairs left ++ get_or (own_pairs root) 0 up ∷ own_pairs n) second_is) ∙ length-append (own_pairs left) _ ∙ omega arith in
+        let below = g.below ∙ ap (λ n. children_of n ++ children_of (child_at root 1)) first_is ∙ ap (λ n. children_of left ++ children_of n) second_is in
+        let whole = side_whole Right h left right.value g.whole r.first (levelled_bordered Right h right.value r.second) below (subst (λ n. AreAlike n g.whole) first_is g.alike) (omega arith) in
+        (omega arith, omega arith, rw one whole)
+
+  -- a tree of at most 2^64 - 1 pairs is not too high
+  pub within_few : (h : ℕ) (m : Map K V) → IsSoundWithin h m → length (entries m) < 2 ^ 64 → IsSoundMap m
+  within_few h None w l = tt
+  within_few h (Some root) w l = (w.0, few_levels w.0 (length (pairs_of root)) (deep_root w.0 root w.2) l, w.2)

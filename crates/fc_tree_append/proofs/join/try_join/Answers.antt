@@ -1,0 +1,57 @@
+use Rattle.std.proofs.Common.{◌≡◌, ◌++◌, length, sym, ap, subst, ◌∙◌, arith, length-append}
+use Rattle.fc_base.specs.Sizes.{most_levels}
+use Rattle.fc_tree_node.specs.Node.{pairs_of, IsLevelled}
+use Rattle.fc_tree_node.specs.Tree.{entries, root_of}
+use Rattle.fc_tree_border.proofs.Cuts.{root_sound}
+use Rattle.fc_tree_append.proofs.Crowned.{within_few}
+use Rattle.fc_tree_append.proofs.join.try_join.Goals as goal
+
+pub height-requires : goal.height-requires
+height-requires g c =
+    let r = root_sound _ _ c.in-Some.is c.requires.sound.0 in
+    (r.0, r.1, subst (IsLevelled r.0) (sym c.deref.ensures) r.2.1)
+
+pub height-requires-2 : goal.height-requires-2
+height-requires-2 g c =
+    let r = root_sound _ _ c.in-Some-theirs.is c.requires.sound.1 in
+    (r.0, r.1, subst (IsLevelled r.0) (sym c.deref-2.ensures) r.2.1)
+
+pub try_spares-requires : goal.try_spares-requires
+try_spares-requires g c =
+    let l = root_sound _ _ c.in-Some.is c.requires.sound.0 in
+    let r = root_sound _ _ c.in-Some-theirs.is c.requires.sound.1 in
+    let x = c.height.ensures l.0 (subst (IsLevelled l.0) (sym c.deref.ensures) l.2.1) in
+    let y = c.height-2.ensures r.0 (subst (IsLevelled r.0) (sym c.deref-2.ensures) r.2.1) in
+    let a = l.1 in
+    let b = r.1 in
+    let d = c.abs_diff-levels.ensures in
+    omega arith
+
+pub join-requires-clause-left : goal.join-requires-clause-left
+join-requires-clause-left g c = root_sound _ _ (sym c.take.ensures.value ∙ c.in-Some-take.is) c.requires.sound.0
+
+pub join-requires-clause-right : goal.join-requires-clause-right
+join-requires-clause-right g c = root_sound _ _ (sym c.take-2.ensures.value ∙ c.in-Some-take-2.is) c.requires.sound.1
+
+pub join-requires-clause-spares : goal.join-requires-clause-spares
+join-requires-clause-spares g c a b l r =
+    let left : c.in-Some.left ≡ c.in-Some-take.left = cc (c.in-Some.is, c.take.ensures.value, c.in-Some-take.is) in
+    let right : c.in-Some-theirs.right ≡ c.in-Some-take-2.right = cc (c.in-Some-theirs.is, c.take-2.ensures.value, c.in-Some-take-2.is) in
+    let x = c.height.ensures a (subst (IsLevelled a) (sym (c.deref.ensures ∙ ap (λ k. k.value) left)) l.1) in
+    let y = c.height-2.ensures b (subst (IsLevelled b) (sym (c.deref-2.ensures ∙ ap (λ k. k.value) right)) r.1) in
+    let d = c.abs_diff-levels.ensures in
+    let s = c.in_ok-spares.ensures.len in
+    (omega arith, omega arith)
+
+pub returns-clause-pairs : goal.returns-clause-pairs
+returns-clause-pairs g c =
+    c.join.ensures.pairs ∙ ap (λ o. entries (root_of o) ++ pairs_of c.in-Some-take-2.right.value) (sym (sym c.take.ensures.value ∙ c.in-Some-take.is))
+    ∙ ap (λ o. entries (root_of c.args.ours.now) ++ entries (root_of o)) (sym (sym c.take-2.ensures.value ∙ c.in-Some-take-2.is))
+
+pub returns-clause-sound : goal.returns-clause-sound
+returns-clause-sound g c =
+    let fits = c.requires.fits in
+    let e = c.join.ensures.pairs ∙ ap (λ o. entries (root_of o) ++ pairs_of c.in-Some-take-2.right.value) (sym (sym c.take.ensures.value ∙ c.in-Some-take.is))
+    ∙ ap (λ o. entries (root_of c.args.ours.now) ++ entries (root_of o)) (sym (sym c.take-2.ensures.value ∙ c.in-Some-take-2.is)) in
+    let n = ap length e ∙ length-append (entries (root_of c.args.ours.now)) (entries (root_of c.args.theirs.now)) in
+    within_few most_levels (root_of c.join.result) c.join.ensures.levels (omega arith)

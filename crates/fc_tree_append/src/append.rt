@@ -1,0 +1,86 @@
+//! One map's pairs put into another's, all or none.
+ghost use Rattle.std.specs.Prelude.{◌≡◌, ◌+◌, ◌<◌, ◌≤◌, ◌⊎◌, [], ◌++◌, length, min, IfOk, IfErr, OnErr, IsErr, IsTrue};
+ghost use Rattle.fc_base.specs.Ascending.{IsAscending};
+ghost use Rattle.fc_base.specs.Growth.{MayAppendRefuse};
+ghost use Rattle.fc_base.specs.Joined.{joined};
+ghost use Rattle.fc_tree_node.specs.Tree.{entries, root_of, IsSoundMap};
+
+use crate::join::try_join;
+use crate::merge::merge;
+use fc_base::{Count, TryReserveError, compare};
+use fc_tree_build::builder::Builder;
+use fc_tree_node::node::Node;
+use fc_tree_search::first_last::{first_pair, last_pair};
+use std::alloc::Global;
+use std::mem;
+
+/// Moves all pairs of `theirs` into `ours`, and answers how many there are then. Of two equal keys the pair of `theirs` stays, and
+/// ours is dropped. Where either holds none nothing is asked for and nothing compared. Where all keys of `theirs` lie beyond ours, that
+/// takes one comparison, and a few nodes of each level from the shorter tree's root up. Else each key is compared at most once, and
+/// there are at least as many comparisons as the shorter tree has pairs. No move is counted.
+///
+/// # Errors
+/// `CapacityOverflow` where both hold pairs and their lengths pass `usize::MAX` together, and `AllocError` if a node for them is
+/// refused: all nodes are made first. Both are then as before.
+pub fn try_append<K: Ord + Drop, V: Drop>(
+    alloc: Global,
+    ours: &mut Option<Box<Node<K, V>>>,
+    our_len: usize,
+    theirs: &mut Option<Box<Node<K, V>>>,
+    their_len: usize,
+    count: &mut Count,
+) -> Result<usize, TryReserveError>
+    requires sound { IsSoundMap (root_of ours.old) × IsSoundMap (root_of theirs.old) }
+    requires order { IsAscending K.cmp (entries (root_of ours.old)) × IsAscending K.cmp (entries (root_of theirs.old)) }
+    requires lens { (our_len ≡ length (entries (root_of ours.old))) × (their_len ≡ length (entries (root_of theirs.old))) }
+    ensures joined { IfOk result (λ len. entries (root_of ours.new) ≡ joined K.cmp (entries (root_of ours.old)) (entries (root_of theirs.old))) }
+    ensures emptied { IfOk result (λ len. entries (root_of theirs.new) ≡ []) }
+    ensures len { IfOk result (λ len. len ≡ length (entries (root_of ours.new))) }
+    ensures sound { IsSoundMap (root_of ours.new) × IsSoundMap (root_of theirs.new) }
+    ensures error { IfErr result (λ e. MayAppendRefuse (length (entries (root_of ours.old))) (length (entries (root_of theirs.old))) e) }
+    ensures unchanged { OnErr result ((ours.new ≡ ours.old) × (theirs.new ≡ theirs.old)) }
+    ensures full { 0 < our_len → 0 < their_len → usize.MAX < our_len + their_len → IsErr result }
+    ensures comparisons { count.new.comparisons ≤ count.old.comparisons + (our_len + their_len) }
+    ensures none { (our_len ≡ 0) ⊎ (their_len ≡ 0) → count.new.comparisons ≡ count.old.comparisons }
+    ensures grown { count.old.comparisons ≤ count.new.comparisons }
+    ensures counted { IfOk result (λ _. 0 < our_len → 0 < their_len → count.old.comparisons < count.new.comparisons) }
+    ensures merged { IfOk result (λ _. ¬ IsAscending K.cmp (entries (root_of ours.old) ++ entries (root_of theirs.old)) → count.old.comparisons + min our_len their_len ≤ count.new.comparisons) }
+    ensures moves { count.new.moves ≡ count.old.moves }
+{
+    if their_len == 0 {
+        return Ok(our_len);
+    }
+    if our_len == 0 {
+        mem::swap(ours, theirs);
+        return Ok(their_len);
+    }
+    let Some(len) = our_len.checked_add(their_len) else {
+        return Err(TryReserveError::CapacityOverflow);
+    };
+    if is_beyond(ours, theirs, count) {
+        try_join(alloc, ours, theirs)?;
+        return Ok(len);
+    }
+    let builder = Builder::try_new(alloc, len)?;
+    let (root, len) = merge(ours.take(), theirs.take(), builder, count);
+    *ours = root;
+    Ok(len)
+}
+
+// Whether all keys of `theirs` lie beyond all of `ours`: the last of the one and the first of the other are compared.
+fn is_beyond<K: Ord, V>(
+    ours: &Option<Box<Node<K, V>>>,
+    theirs: &Option<Box<Node<K, V>>>,
+    count: &mut Count,
+) -> bool
+    requires sound { IsSoundMap (root_of ours.now) × IsSoundMap (root_of theirs.now) }
+    requires order { IsAscending K.cmp (entries (root_of ours.now)) × IsAscending K.cmp (entries (root_of theirs.now)) }
+    requires some { (0 < length (entries (root_of ours.now))) × (0 < length (entries (root_of theirs.now))) }
+    ensures beyond { IsTrue result → IsAscending K.cmp (entries (root_of ours.now) ++ entries (root_of theirs.now)) }
+    ensures comparisons { count.new.comparisons ≡ count.old.comparisons + 1 }
+    ensures moves { count.new.moves ≡ count.old.moves }
+{
+    let Some(left) = ours else { unreachable!() };
+    let Some(right) = theirs else { unreachable!() };
+    compare(&last_pair(left).0, &first_pair(right).0, count).is_lt()
+}

@@ -1,0 +1,92 @@
+//! A tree hung on the border of a taller one, at its own level.
+ghost use Rattle.std.specs.Prelude.{◌≡◌, ℕ, suc, ◌+◌, ◌≤◌, length};
+ghost use Rattle.fc_base.specs.Sizes.{min_len};
+ghost use Rattle.fc_tree_node.specs.Node.{own_pairs, pairs_of, IsLevelled};
+ghost use Rattle.fc_tree_node.specs.Tree.{entries, root_of, IsSoundWithin};
+ghost use Rattle.fc_tree_insertion.specs.Insertion.{spread};
+ghost use Rattle.fc_tree_append.specs.Hung.{beside, IsHung, IsPlacedBeside};
+
+use fc_base::Count;
+use fc_tree_border::mending::{Border, border_child, mend};
+use fc_tree_insertion::insertion::{grow, put_inner};
+use fc_tree_insertion::spares::Spares;
+use fc_tree_node::node::Node;
+use std::mem;
+
+/// Hangs the tree at `other` on one border of the tree at `root`, whose leaves lie `depth` levels deeper, with `pair` between the
+/// two. It compares nothing, and what it takes no border for stays as it is. `other` may hold too few pairs for a node, none too.
+pub(crate) fn hang<K: Drop, V: Drop>(
+    root: Box<Node<K, V>>,
+    side: Border,
+    depth: usize,
+    pair: (K, V),
+    other: Box<Node<K, V>>,
+    spares: Spares<K, V>,
+) -> Option<Box<Node<K, V>>>
+    requires levels { (h : ℕ) × IsLevelled (depth + h) root.value × IsLevelled h other.value }
+    requires some { depth ≡ 0 → min_len ≤ length (own_pairs root.value) }
+    requires spares { depth + 1 ≤ spares }
+    ensures pairs { entries (root_of result) ≡ beside side (pairs_of root.value) pair (pairs_of other.value) }
+    ensures levels { (h : ℕ) → IsLevelled (depth + h) root.value → IsLevelled h other.value → IsSoundWithin (suc (depth + h)) (root_of result) }
+{
+    let mut root = root;
+    let mut spares = spares;
+    let count = &mut Count::new();
+    match hang_below(&mut root, side, depth, pair, other, &mut spares) {
+        None => mend(root, side, count),
+        Some((up, right)) => {
+            grow(&mut root, up, right, spares.take(), count);
+            mend(root, side, count)
+        }
+    }
+}
+
+// Hangs the tree at `other` so many levels below the node, on its border. A full node is halved, as by an insertion: it hands out
+// the pair in its middle and a node of those after it.
+fn hang_below<K: Drop, V: Drop>(
+    node: &mut Node<K, V>,
+    side: Border,
+    depth: usize,
+    pair: (K, V),
+    other: Box<Node<K, V>>,
+    spares: &mut Spares<K, V>,
+) -> Option<((K, V), Box<Node<K, V>>)>
+    requires levels { (h : ℕ) × IsLevelled (depth + h) node.old × IsLevelled h other.value }
+    requires some { depth ≡ 0 → min_len ≤ length (own_pairs node.old) }
+    requires spares { depth ≤ spares.old }
+    ensures pairs { spread node.new result ≡ beside side (pairs_of node.old) pair (pairs_of other.value) }
+    ensures levels { (h : ℕ) → IsLevelled (depth + h) node.old → IsLevelled h other.value → IsHung side (depth + h) node.new result }
+    ensures spares { spares.old ≤ spares.new + depth }
+{
+    if depth == 0 {
+        return Some((pair, put_beside(node, side, other)));
+    }
+    let place = border_child(node, side);
+    let below = match &mut node.children {
+        None => unreachable!(),
+        Some(children) => {
+            let child: &mut Node<K, V> = children.get_mut(place);
+            hang_below(child, side, depth - 1, pair, other, spares)
+        }
+    };
+    match below {
+        None => None,
+        Some((up, right)) => put_inner(node, place, up, right, spares, &mut Count::new()),
+    }
+}
+
+// Puts the other node on that side of the node, and hands out the one that is then on the right.
+fn put_beside<K: Drop, V: Drop>(
+    node: &mut Node<K, V>,
+    side: Border,
+    other: Box<Node<K, V>>,
+) -> Box<Node<K, V>>
+    ensures { IsPlacedBeside side node.old other.value node.new result.value }
+{
+    let mut right = other;
+    match side {
+        Border::Left => mem::swap(node, &mut *right),
+        Border::Right => {}
+    }
+    right
+}

@@ -1,0 +1,116 @@
+//! Two trees made one where all pairs of one lie before those of the other: the shorter one is hung on the taller one's border.
+ghost use Rattle.std.specs.Prelude.{◌≡◌, ℕ, suc, ◌+◌, ◌<◌, ◌≤◌, ◌∷◌, ◌++◌, length, None, IfOk, IfErr};
+ghost use Rattle.fc_base.specs.Sizes.{most_levels, most_height};
+ghost use Rattle.fc_tree_node.specs.Node.{pairs_of, IsBlankInner, IsLevelled, IsSoundRoot, IsTree};
+ghost use Rattle.fc_tree_node.specs.Tree.{entries, root_of, IsSoundMap, IsSoundWithin};
+
+use crate::hanging::hang;
+use fc_base::{Count, TryReserveError};
+use fc_tree_border::mending::{Border, mend};
+use fc_tree_insertion::insertion::grow;
+use fc_tree_insertion::new_nodes::try_spares;
+use fc_tree_insertion::spares::Spares;
+use fc_tree_node::node::{CAPACITY, MIN_LEN, Node};
+use fc_tree_removal::first_last::remove_last;
+use fc_tree_removal::removal::remove_first;
+use std::alloc::Global;
+
+/// Puts the pairs of `theirs` after those of `ours`, in a few nodes of each level from the shorter tree's root up. It compares
+/// nothing.
+///
+/// # Errors
+/// `AllocError` if a node is refused: one is made for each of these levels, and one for a new root. Both are then as before.
+pub(crate) fn try_join<K: Drop, V: Drop>(
+    alloc: Global,
+    ours: &mut Option<Box<Node<K, V>>>,
+    theirs: &mut Option<Box<Node<K, V>>>,
+) -> Result<(), TryReserveError>
+    requires sound { IsSoundMap (root_of ours.old) × IsSoundMap (root_of theirs.old) }
+    requires some { (0 < length (entries (root_of ours.old))) × (0 < length (entries (root_of theirs.old))) }
+    requires fits { length (entries (root_of ours.old)) + length (entries (root_of theirs.old)) ≤ usize.MAX }
+    ensures pairs { IfOk result (λ _. entries (root_of ours.new) ≡ entries (root_of ours.old) ++ entries (root_of theirs.old)) }
+    ensures emptied { IfOk result (λ _. theirs.new ≡ None) }
+    ensures sound { IfOk result (λ _. IsSoundMap (root_of ours.new)) }
+    ensures error { IfErr result (λ e. (e ≡ TryReserveError.AllocError) × (ours.new ≡ ours.old) × (theirs.new ≡ theirs.old)) }
+{
+    let Some(left) = &*ours else { unreachable!() };
+    let Some(right) = &*theirs else {
+        unreachable!()
+    };
+    let levels = height(left).abs_diff(height(right));
+    let spares = try_spares(alloc, levels + 1)?;
+    let Some(left) = ours.take() else {
+        unreachable!()
+    };
+    let Some(right) = theirs.take() else {
+        unreachable!()
+    };
+    *ours = join(left, right, spares);
+    Ok(())
+}
+
+// How many levels lie below the node.
+fn height<K, V>(node: &Node<K, V>) -> usize
+    requires { IsTree node.now }
+    ensures { (h : ℕ) → IsLevelled h node.now → result ≡ h }
+{
+    if node.is_leaf() {
+        return 0;
+    }
+    height(node.child(0)) + 1
+}
+
+// One tree of the pairs of two. The pair between them comes from the shorter one.
+fn join<K: Drop, V: Drop>(
+    left: Box<Node<K, V>>,
+    right: Box<Node<K, V>>,
+    spares: Spares<K, V>,
+) -> Option<Box<Node<K, V>>>
+    requires left { (g : ℕ) × (g ≤ most_height) × IsSoundRoot g left.value }
+    requires right { (h : ℕ) × (h ≤ most_height) × IsSoundRoot h right.value }
+    requires spares { (g h : ℕ) → IsSoundRoot g left.value → IsSoundRoot h right.value → (g + 1 ≤ spares + h) × (h + 1 ≤ spares + g) }
+    ensures pairs { entries (root_of result) ≡ pairs_of left.value ++ pairs_of right.value }
+    ensures levels { IsSoundWithin most_levels (root_of result) }
+{
+    let mut left = left;
+    let mut right = right;
+    let ours = height(&left);
+    let theirs = height(&right);
+    if ours < theirs {
+        let pair = remove_last(&mut left, &mut Count::new());
+        return hang(right, Border::Left, theirs - ours, pair, left, spares);
+    }
+    let pair = remove_first(&mut right, &mut Count::new());
+    if ours > theirs {
+        return hang(left, Border::Right, ours - theirs, pair, right, spares);
+    }
+    let mut spares = spares;
+    crown(left, pair, right, spares.take())
+}
+
+// A tree of two others of one height, with the pair between them: both go below a new root, or become one node where they fit.
+fn crown<K: Drop, V: Drop>(
+    left: Box<Node<K, V>>,
+    pair: (K, V),
+    right: Box<Node<K, V>>,
+    blank: Box<Node<K, V>>,
+) -> Option<Box<Node<K, V>>>
+    requires levels { (h : ℕ) × IsLevelled h left.value × IsLevelled h right.value }
+    requires blank { IsBlankInner blank.value }
+    ensures pairs { entries (root_of result) ≡ pairs_of left.value ++ pair ∷ pairs_of right.value }
+    ensures levels { (h : ℕ) → IsLevelled h left.value → IsLevelled h right.value → IsSoundWithin (suc h) (root_of result) }
+{
+    let count = &mut Count::new();
+    let ours = left.len();
+    let theirs = right.len();
+    let mut root = left;
+    grow(&mut root, pair, right, blank, count);
+    if ours + theirs < CAPACITY {
+        root.merge(0, count);
+        return mend(root, Border::Right, count);
+    }
+    if ours < MIN_LEN {
+        return mend(root, Border::Left, count);
+    }
+    mend(root, Border::Right, count)
+}

@@ -1,0 +1,147 @@
+-- A node whose child on the border was mended, and a root that gives way to its only child.
+use Rattle.std.proofs.Common.{◌≡◌, ℕ, zero, suc, ◌+◌, ◌<◌, ◌≤◌, List, [], ◌∷◌, ◌++◌, length, get_or, take, drop, map, refl, sym, ap, subst, ◌∙◌, arith, append-nil, Box, Option, Some, None, MatchOption, inl, inr}
+use Rattle.std.specs.declared.alloc.Global.{Global}
+use Rattle.std.specs.List.{AllByRecursion}
+use Rattle.fc_base.specs.Sizes.{min_len}
+use Rattle.fc_tree_node.specs.Weave.{weave}
+use Rattle.fc_tree_node.specs.declared.node.Node.{Node, out-Node}
+use Rattle.fc_tree_node.specs.Node.{items_or_none, own_pairs, children_of, child_at, boxed, pairs_of, IsLeaf, IsInner, IsLevelled, IsSound}
+use Rattle.fc_tree_node.specs.Bordered.{FirstThen, LastAfter, IsLeftBordered, IsRightBordered}
+use Rattle.fc_tree_node.specs.Siblings.{IsFormed}
+use Rattle.fc_tree_node.specs.Tree.{Map, entries, root_of, IsSoundWithin}
+use Rattle.fc_tree_node.proofs.Formed.{inner_opened}
+use Rattle.fc_tree_node.specs.Place.{before_child, after_child}
+use Rattle.fc_tree_node.proofs.Lists.{length_take, take_drop, set_is, length_set, all_both}
+use Rattle.fc_tree_node.proofs.Pairs.{pairs_is, leaf_pairs, leaf_children, child_is}
+use Rattle.fc_tree_node.proofs.Made.{IsChildSet, children_in, inner_length}
+use Rattle.fc_tree_node.proofs.Gaps.{inner_gap}
+use Rattle.fc_tree_node.proofs.Siblings.{around_one}
+use Rattle.fc_tree_border.specs.Border.{IsBordered, border_place, IsStocked}
+use Rattle.fc_tree_node.specs.Shrunk.{IsShrunk}
+use Rattle.fc_tree_border.proofs.Borders.{IsOpened, border_opened}
+use Rattle.fc_tree_border.specs.declared.mending.Border.{Border}
+use Rattle.fc_tree_border.specs.declared.mending.Border.TheVariants.{Left, Right}
+
+module _ {K V : Type 0} where
+  -- a node above the leaves
+  pub record IsAbove (s : Border) (h : ℕ) (n : Node K V) : Type 0 where
+    pub below : ℕ
+    pub height : h ≡ suc below
+    pub bordered : IsBordered s (suc below) n
+
+  pub above_leaf : (s : Border) (h : ℕ) (n : Node K V) → (IsLeaf n → ⊥) → IsBordered s h n → IsAbove s h n
+  above_leaf Left zero n f b = absurd (f b.1)
+  above_leaf Right zero n f b = absurd (f b.1)
+  above_leaf s (suc h) n f b = record { below = h; height = refl; bordered = b }
+
+  -- the node after it was stocked, with the child on its border in a box
+  pub record IsLent (s : Border) (h : ℕ) (mid child : Node K V) (bs : List (Box (Node K V) Global)) (i : ℕ) : Type 0 where
+    pub opened : IsOpened s h mid
+    pub bounds : i < length bs
+    pub place : i ≡ border_place s mid
+    pub is : child ≡ child_at mid i
+    pub bordered : IsBordered s h child
+    pub many : min_len + 1 ≤ length (own_pairs child)
+
+  pub lent_bounds : (s : Border) (h : ℕ) (old mid : Node K V) (bs : List (Box (Node K V) Global)) (i : ℕ) → (out-Node K V mid).children ≡ Some bs → IsStocked s h old mid → i ≡ border_place s mid → i < length bs
+  lent_bounds s h old mid bs i e st p =
+      let o = border_opened s h mid st.0 in
+      let there = o.there in
+      let inner : length (children_of mid) ≡ length (own_pairs mid) + 1 = o.inner in
+      let k = inner_length mid bs e o.inner in
+      omega arith
+
+  pub lent : (s : Border) (h : ℕ) (old mid child : Node K V) (bs : List (Box (Node K V) Global)) (b : Box (Node K V) Global) (i : ℕ) → (out-Node K V mid).children ≡ Some bs → IsStocked s h old mid → i ≡ border_place s mid
+      → b ≡ get_or bs i b → child ≡ b.value → IsLent s h mid child bs i
+  lent s h old mid child bs b i e st p q f =
+      let o = border_opened s h mid st.0 in
+      let k = lent_bounds s h old mid bs i e st p in
+      let same : bs ≡ items_or_none (out-Node K V mid).children = ap items_or_none (sym e) in
+      let is = child_is mid i b child (subst (λ xs. i < length xs) same k) (subst (λ xs. b ≡ get_or xs i b) same q) f in
+      let there = is ∙ ap (child_at mid) p in
+      record { opened = o; bounds = k; place = p; is = is; bordered = subst (IsBordered s h) (sym there) o.child; many = subst (λ n. min_len + 1 ≤ length (own_pairs n)) (sym there) st.1 }
+
+  pub mended_pairs : (mid new child c : Node K V) (i : ℕ) → IsInner mid → i < length (children_of mid) → IsChildSet mid new i c → child ≡ child_at mid i → pairs_of c ≡ pairs_of child → pairs_of new ≡ pairs_of mid
+  mended_pairs mid new child c i inner lt m ci e =
+      let k : length (children_of mid) ≡ length (own_pairs mid) + 1 = inner in
+      let le : i ≤ length (own_pairs mid) = omega arith in
+      around_one new c (take i (children_of mid)) (drop (suc i) (children_of mid)) (take i (own_pairs mid)) (drop i (own_pairs mid)) (m.child ∙ set_is (children_of mid) i c lt) (m.same ∙ sym (take_drop i (own_pairs mid)))
+      (length_take i (children_of mid) (omega arith) ∙ sym (length_take i (own_pairs mid) le))
+      ∙ ap (λ zs. before_child mid i ++ (zs ++ after_child mid i)) (e ∙ ap pairs_of ci) ∙ sym (inner_gap mid i inner le)
+
+  pub mended_levels : (s : Border) (h g : ℕ) (old mid new child c : Node K V) (bs : List (Box (Node K V) Global)) (i : ℕ) → h ≡ suc g → IsStocked s g old mid → IsLent s g mid child bs i → IsChildSet mid new i c → IsShrunk g child c → IsShrunk h old new
+  mended_levels s h g old mid new child c bs i e st l m sh =
+      let many = l.many in
+      let kept = sh.1.1 in
+      let o = l.opened in
+      let fits = o.fits in
+      let there = o.there in
+      let place = l.place in
+      let inner : length (children_of mid) ≡ length (own_pairs mid) + 1 = o.inner in
+      let same : length (own_pairs new) ≡ length (own_pairs mid) = ap length m.same in
+      let is = m.child ∙ set_is (children_of mid) i c (omega arith) in
+      let n : length (children_of new) ≡ length (children_of mid) = ap length m.child ∙ length_set (children_of mid) i c in
+      let before = subst (λ j. AllByRecursion (IsSound g) (take j (children_of mid))) (sym place) o.before in
+      let after = subst (λ j. AllByRecursion (IsSound g) (drop (suc j) (children_of mid))) (sym place) o.after in
+      let all = subst (AllByRecursion (IsSound g)) (sym is) (all_both (IsSound g) (take i (children_of mid)) _ before ((omega arith, sh.0), after)) in
+      let few = st.2 in
+      subst (λ k. IsShrunk k old new) (sym e) ((omega arith, omega arith, all), (omega arith, omega arith))
+
+  pub bordered_formed : (s : Border) (h : ℕ) (n : Node K V) → IsBordered s h n → IsFormed n
+  bordered_formed Left zero n b = inl b.1
+  bordered_formed Right zero n b = inl b.1
+  bordered_formed Left (suc h) n b = inr b.1
+  bordered_formed Right (suc h) n b = inr b.1
+
+  pub levelled_formed : (h : ℕ) (n : Node K V) → IsLevelled h n → IsFormed n
+  levelled_formed zero n l = inl l.1
+  levelled_formed (suc h) n l = inr l.1
+
+  -- the only child of a root without pairs
+  pub only_one : (root : Node K V) (bs : List (Box (Node K V) Global)) (b : Box (Node K V) Global) → (out-Node K V root).children ≡ Some bs → IsFormed root → length (own_pairs root) ≡ 0 → b ≡ get_or bs 0 b → children_of root ≡ b.value ∷ []
+  only_one root bs b e formed h f = children_in root bs e ∙ single bs b (inner_length root bs e (inner_opened root bs e formed) ∙ ap (λ k. k + 1) h) f
+    where
+      single : (bs : List (Box (Node K V) Global)) (b : Box (Node K V) Global) → length bs ≡ 1 → b ≡ get_or bs 0 b → boxed bs ≡ b.value ∷ []
+      single [] b e f = absurd (omega arith)
+      single (x ∷ []) b e f = ap (λ y. y.value ∷ []) (sym f)
+      single (x ∷ y ∷ bs) b e f = absurd (omega arith)
+
+  no_pairs : (xs : List (K × V)) → length xs ≡ 0 → xs ≡ []
+  no_pairs [] e = refl
+  no_pairs (x ∷ xs) e = absurd (omega arith)
+
+  pub only_pairs : (root c : Node K V) → length (own_pairs root) ≡ 0 → children_of root ≡ c ∷ [] → pairs_of c ≡ pairs_of root
+  only_pairs root c h e =
+      sym (pairs_is root ∙ ap (λ ps. weave (map pairs_of (children_of root)) ps) (no_pairs (own_pairs root) h) ∙ ap (λ cs. weave (map pairs_of cs) []) e ∙ append-nil (pairs_of c))
+
+  -- what takes the place of a root without pairs holds the same
+  pub heir_pairs : (heir : Option (Box (Node K V) Global)) (root : Node K V) → length (own_pairs root) ≡ 0 → MatchOption heir (IsLeaf root) (λ c. children_of root ≡ c.value ∷ []) → entries (root_of heir) ≡ pairs_of root
+  heir_pairs None root h l = sym (leaf_pairs root l ∙ no_pairs (own_pairs root) h)
+  heir_pairs (Some c) root h e = only_pairs root c.value h e
+
+  pub heir_levels : (heir : Option (Box (Node K V) Global)) (h : ℕ) (root : Node K V) → MatchOption heir (IsLeaf root) (λ c. children_of root ≡ c.value ∷ []) → IsLevelled h root → IsSoundWithin h (root_of heir)
+  heir_levels None h root e l = tt
+  heir_levels (Some c) zero root e l = absurd (let z : length (children_of root) ≡ 0 = ap length (leaf_children root l.1) in let o : length (children_of root) ≡ 1 = ap length e in omega arith)
+  heir_levels (Some c) (suc h) root e l =
+      let a = (subst (AllByRecursion (IsSound h)) e l.2).0 in
+      let many = a.0 in
+      (h, omega arith, (omega arith, a.1))
+
+  pub within_more : (g h : ℕ) (m : Map K V) → g ≤ h → IsSoundWithin g m → IsSoundWithin h m
+  within_more g h None le w = tt
+  within_more g h (Some n) le w = let k = w.1 in (w.0, omega arith, w.2)
+
+  -- the only child of a root is the one on the border
+  pub record IsHeir (s : Border) (h : ℕ) (c : Node K V) : Type 0 where
+    pub below : ℕ
+    pub height : h ≡ suc below
+    pub bordered : IsBordered s below c
+
+  no_leaf : (n c : Node K V) → children_of n ≡ c ∷ [] → IsLeaf n → ⊥
+  no_leaf n c e l = absurd (let z : length (children_of n) ≡ 0 = ap length (leaf_children n l) in let o : length (children_of n) ≡ 1 = ap length e in omega arith)
+
+  pub heir_bordered : (s : Border) (h : ℕ) (n c : Node K V) → children_of n ≡ c ∷ [] → IsBordered s h n → IsHeir s h c
+  heir_bordered Left zero n c e b = absurd (no_leaf n c e b.1)
+  heir_bordered Right zero n c e b = absurd (no_leaf n c e b.1)
+  heir_bordered Left (suc h) n c e b = record { below = h; height = refl; bordered = (subst (FirstThen (IsLeftBordered h) (IsSound h)) e b.2).0 }
+  heir_bordered Right (suc h) n c e b = record { below = h; height = refl; bordered = subst (LastAfter (IsRightBordered h) (IsSound h)) e b.2 }

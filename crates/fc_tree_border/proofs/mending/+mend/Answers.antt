@@ -1,0 +1,46 @@
+use Rattle.std.proofs.Common.{◌<◌, length, rules, arith, sym, ap, subst, ◌∙◌}
+use Rattle.fc_tree_node.specs.Node.{own_pairs, pairs_of}
+use Rattle.fc_tree_border.specs.Border.{IsBordered}
+use Rattle.fc_tree_border.proofs.Heights.{height_of, bordered_height}
+use Rattle.fc_tree_border.proofs.Mended.{bordered_formed, levelled_formed, only_pairs, heir_pairs, heir_levels, within_more, heir_bordered}
+use Rattle.fc_tree_border.proofs.mending.+mend.Goals as goal
+
+pub only_child-requires-clause-formed : goal.only_child-requires-clause-formed
+only_child-requires-clause-formed g t c = bordered_formed c.args.side _ _ c.requires.1
+
+pub mend-requires : goal.mend-requires
+mend-requires g t c κs within =
+    let r = heir_bordered c.args.side _ c.args.root.value c.in-Some.child.value c.in-Some.ensures c.requires.1 in
+    let e = r.height in
+    let x = bordered_height c.args.side _ c.args.root.value c.requires.1 in
+    let y = bordered_height c.args.side _ c.in-Some.child.value r.bordered in
+    let falls : height_of c.in-Some.child.value < height_of c.args.root.value = omega arith in
+    (search rules, (search rules, (search rules, (r.below, r.bordered))))
+
+pub returns-in-Some-clause-pairs : goal.returns-in-Some-clause-pairs
+returns-in-Some-clause-pairs g t c =
+    let d = ap (λ n. length (own_pairs n)) c.deref.ensures in
+    let v = c.len.ensures.value in
+    let z = c.if-len-eq0.true in
+    c.mend.ensures.pairs ∙ only_pairs c.args.root.value _ (omega arith) c.in-Some.ensures
+
+pub returns-in-Some-clause-levels : goal.returns-in-Some-clause-levels
+returns-in-Some-clause-levels g t c h b =
+    let r = heir_bordered c.args.side h c.args.root.value c.in-Some.child.value c.in-Some.ensures b in
+    let e = r.height in
+    within_more r.below h _ (omega arith) (c.mend.ensures.levels r.below r.bordered)
+
+pub only_child-requires-2-clause-formed : goal.only_child-requires-2-clause-formed
+only_child-requires-2-clause-formed g t c =
+    levelled_formed _ _ (c.mend_below.ensures.levels _ (subst (IsBordered c.args.side _) (sym c.deref_mut.ensures.value) c.requires.1)).0
+
+pub returns-clause-pairs : goal.returns-clause-pairs
+returns-clause-pairs g t c =
+    let d = ap (λ n. length (own_pairs n)) c.deref-2.ensures in
+    let v = c.len-2.ensures.value in
+    let z = c.if-len-gt0.false in
+    heir_pairs _ c.mend_below.new.node (omega arith) c.only_child-2.ensures ∙ c.mend_below.ensures.pairs ∙ ap pairs_of c.deref_mut.ensures.value
+
+pub returns-clause-levels : goal.returns-clause-levels
+returns-clause-levels g t c h b =
+    heir_levels _ h c.mend_below.new.node c.only_child-2.ensures (c.mend_below.ensures.levels h (subst (IsBordered c.args.side h) (sym c.deref_mut.ensures.value) b)).0

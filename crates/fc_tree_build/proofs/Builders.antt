@@ -1,0 +1,89 @@
+-- A new builder, and one whose last leaf was full.
+use Rattle.std.proofs.Common.{◌≡◌, ℕ, zero, suc, ◌+◌, ◌*◌, ◌/◌, ◌<◌, ◌≤◌, List, [], ◌∷◌, ◌++◌, length, refl, sym, ap, ◌∙◌, subst, arith, append_assoc, append-nil, length-append, Box, Option, Some, None}
+use Rattle.std.specs.Option.{option_to_list}
+use Rattle.std.specs.declared.alloc.Global.{Global}
+use Rattle.std.specs.List.{AllByRecursion}
+use Rattle.fc_base.specs.Sizes.{capacity, most_children}
+use Rattle.fc_tree_node.specs.declared.node.Node.{Node}
+use Rattle.fc_tree_node.specs.Node.{own_pairs, pairs_of, IsLeaf, IsSound, IsBlankLeaf}
+use Rattle.fc_tree_node.proofs.Lists.{all_front, all_back}
+use Rattle.fc_tree_node.proofs.Pairs.{leaf_pairs}
+use Rattle.fc_tree_walk.specs.Opened.{before_back}
+use Rattle.fc_tree_build.specs.Spares.{own_count, worth, IsEnough, leaves_for, AreInnerFor}
+use Rattle.fc_tree_build.specs.Built.{last_pairs, IsLast}
+
+pub leaves_some : (n : ℕ) → 0 < n → n / most_children + 1 ≡ leaves_for n
+leaves_some zero h = absurd (omega arith)
+leaves_some (suc n) h = refl
+
+-- how many leaves are left of those for n pairs, once one is taken out
+none_left : (n : ℕ) → leaves_for n ≡ 0 → n ≡ 0
+none_left zero e = refl
+none_left (suc n) e = let f : suc n / most_children + 1 ≡ 0 = e in absurd (omega arith)
+
+some_left : (n m : ℕ) → leaves_for n ≡ m + 1 → m ≡ n / most_children
+some_left zero m e = let f : 0 ≡ m + 1 = e in absurd (omega arith)
+some_left (suc n) m e = let f : suc n / most_children + 1 ≡ m + 1 = e in omega arith
+
+module _ {K V : Type 0} where
+  pub leaf_taken : (old new : List (Box (Node K V) Global)) (b : Box (Node K V) Global) → old ≡ new ++ b ∷ [] → AllByRecursion (λ x. IsBlankLeaf x.value) old → IsBlankLeaf b.value × AllByRecursion (λ x. IsBlankLeaf x.value) new
+  leaf_taken old new b e a =
+      let P : Box (Node K V) Global → Type 0 = λ x. IsBlankLeaf x.value in
+      let f = subst (AllByRecursion P) e a in
+      ((all_back P new (b ∷ []) f).0, all_front P new (b ∷ []) f)
+
+  -- ---- a new builder: of its leaves the last one is taken out, if there is one
+
+  -- how many leaves are left
+  pub spare_leaves : (n : ℕ) (all new : List (Box (Node K V) Global)) (o : Option (Box (Node K V) Global)) → all ≡ new ++ option_to_list o → length all ≡ leaves_for n → (o ≡ None → length all ≡ 0) → length new ≤ n / most_children
+  spare_leaves n all new None e l z = let k = ap length e ∙ length-append new [] in let y = z refl in omega arith
+  spare_leaves n all new (Some b) e l z =
+      let k = ap length e ∙ length-append new (b ∷ []) in
+      let m = some_left n (length new) (omega arith) in
+      omega arith
+
+  pub first_last : (n : ℕ) (all new s : List (Box (Node K V) Global)) (o : Option (Box (Node K V) Global)) → s ≡ [] → all ≡ new ++ option_to_list o → length all ≡ leaves_for n → AllByRecursion (λ x. IsBlankLeaf x.value) all → (o ≡ None → length all ≡ 0) → IsLast o (length new) n s
+  first_last n all new s None f e l a z = (none_left n (let y = z refl in omega arith), f)
+  first_last n all new s (Some b) f e l a z =
+      let k = ap length e ∙ length-append new (b ∷ []) in
+      let m = some_left n (length new) (omega arith) in
+      let t = (leaf_taken all new b e a).0 in
+      let w = ap length t.0 in
+      (omega arith, t.1, omega arith)
+
+  pub first_leaves : (all new : List (Box (Node K V) Global)) (o : Option (Box (Node K V) Global)) → all ≡ new ++ option_to_list o → AllByRecursion (λ x. IsBlankLeaf x.value) all → AllByRecursion (λ x. IsBlankLeaf x.value) new
+  first_leaves all new o e a = all_front (λ (x : Box (Node K V) Global). IsBlankLeaf x.value) new (option_to_list o) (subst (AllByRecursion (λ (x : Box (Node K V) Global). IsBlankLeaf x.value)) e a)
+
+  pub first_enough : (n inner q : ℕ) (s : List (Box (Node K V) Global)) → s ≡ [] → q ≤ n / most_children → AreInnerFor n inner → (d : ℕ) × IsEnough d inner q s
+  first_enough n inner q s f l i =
+      let a = ap length f in
+      let w : worth s ≡ 0 = ap worth f in
+      let k : own_count s ≡ 0 = ap own_count f in
+      let x = i.1 in
+      let y = i.2 in
+      let z = i.3 in
+      (i.0, (omega arith, x, omega arith, omega arith))
+
+  pub first_pairs : (all new s : List (Box (Node K V) Global)) (o : Option (Box (Node K V) Global)) → s ≡ [] → all ≡ new ++ option_to_list o → AllByRecursion (λ x. IsBlankLeaf x.value) all → before_back s ++ last_pairs o ≡ []
+  first_pairs all new s None f e a = ap (λ t. before_back t ++ []) f
+  first_pairs all new s (Some b) f e a = ap (λ t. before_back t ++ own_pairs b.value) f ∙ (leaf_taken all new b e a).0.0
+
+  -- ---- a builder whose last leaf is full
+
+  pub last_is : (o : Option (Box (Node K V) Global)) (leaf : Box (Node K V) Global) (q room : ℕ) (s : List (Box (Node K V) Global)) → o ≡ Some leaf → IsLast o q room s → IsLast (Some leaf) q room s
+  last_is o leaf q room s e l = subst (λ x. IsLast x q room s) e l
+
+  pub leaf_sound : (n : Node K V) → length (own_pairs n) ≤ capacity → IsLeaf n → capacity ≤ length (own_pairs n) → IsSound 0 n
+  leaf_sound n h l f = (omega arith, (h, l))
+
+  pub enough_for_one : (d i q : ℕ) (s : List (Box (Node K V) Global)) → 1 ≤ q → IsEnough d i q s → IsEnough d i 1 s
+  enough_for_one d i q s h e = let w = e.2 in let k = e.3 in (e.0, e.1, omega arith, omega arith)
+
+  pub enough_left : (d i j q r : ℕ) (s new : List (Box (Node K V) Global)) → IsEnough d i q s → q ≡ r + 1 → length new ≤ d → worth new ≡ worth s + 1 → capacity * (j + length new) + own_count s + 1 ≡ capacity * (i + length s) + own_count new → IsEnough d j r new
+  enough_left d i j q r s new e f l w k = let a = e.2 in let b = e.3 in (l, e.1, omega arith, omega arith)
+
+  pub push_pairs : (s new : List (Box (Node K V) Global)) (blank : Node K V) (o : Option (Box (Node K V) Global)) (b : Box (Node K V) Global) (pair : K × V) (zs : List (K × V)) → o ≡ Some b → IsLeaf b.value → own_pairs blank ≡ [] → before_back s ++ last_pairs o ≡ zs → before_back new ≡ before_back s ++ (pairs_of b.value ++ pair ∷ []) → before_back new ++ own_pairs blank ≡ zs ++ pair ∷ []
+  push_pairs s new blank o b pair zs e l z v f =
+      ap (λ ys. before_back new ++ ys) z ∙ append-nil (before_back new) ∙ f
+      ∙ ap (λ ys. before_back s ++ (ys ++ pair ∷ [])) (leaf_pairs b.value l) ∙ sym (append_assoc (before_back s) (own_pairs b.value) (pair ∷ []))
+      ∙ ap (λ x. (before_back s ++ last_pairs x) ++ pair ∷ []) (sym e) ∙ ap (λ ys. ys ++ pair ∷ []) v

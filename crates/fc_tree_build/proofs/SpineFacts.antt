@@ -1,0 +1,176 @@
+-- A spine with a node at its end.
+use Rattle.std.proofs.Common.{◌≡◌, ℕ, zero, suc, ◌+◌, ◌-◌, ◌*◌, ◌^◌, ◌<◌, ◌≤◌, List, [], ◌∷◌, ◌++◌, length, refl, sym, ap, ◌∙◌, subst, arith, Box, append_assoc, length-append, pow-suc}
+use Rattle.std.specs.declared.alloc.Global.{Global}
+use Rattle.std.specs.List.{AllByRecursion}
+use Rattle.fc_base.specs.Sizes.{capacity, most_children}
+use Rattle.fc_tree_node.specs.declared.node.Node.{Node}
+use Rattle.fc_tree_node.specs.Node.{own_pairs, children_of, pairs_of, items_or_none, boxed, IsLeaf, IsInner, IsSound, IsBlankInner}
+use Rattle.fc_tree_node.specs.Bordered.{LastAfter, IsRightBordered}
+use Rattle.fc_tree_node.proofs.Lists.{all_both, all_front, all_back}
+use Rattle.fc_tree_walk.specs.Opened.{before_back_in, before_back}
+use Rattle.fc_tree_walk.proofs.Opening.{back_last, whole_back, back_push, empty_back}
+use Rattle.fc_tree_build.specs.Spine.{IsOpenEnd, level_above, IsSpine}
+use Rattle.fc_tree_build.specs.Spares.{own_count, digits_after, worth, IsEnough}
+
+module _ {K V : Type 0} where
+  level_push : (h : ℕ) (s : List (Box (Node K V) Global)) (b : Box (Node K V) Global) → level_above h (s ++ b ∷ []) ≡ level_above (suc h) s
+  level_push h [] b = refl
+  level_push h (x ∷ s) b = ap suc (level_push h s b)
+
+  pub level_pushed : (h : ℕ) (s new : List (Box (Node K V) Global)) (b : Box (Node K V) Global) → new ≡ s ++ b ∷ [] → level_above h new ≡ level_above (suc h) s
+  level_pushed h s new b e = ap (level_above h) e ∙ level_push h s b
+
+  spine_put : (h : ℕ) (s : List (Box (Node K V) Global)) (b : Box (Node K V) Global) → IsSpine (suc h) s → IsOpenEnd h b.value → IsSpine h (s ++ b ∷ [])
+  spine_put h [] b f o = (o, tt)
+  spine_put h (x ∷ s) b f o = (subst (λ k. IsOpenEnd k x.value) (sym (level_push h s b)) f.0, spine_put h s b f.1 o)
+
+  pub spine_pushed : (h : ℕ) (s new : List (Box (Node K V) Global)) (b : Box (Node K V) Global) → new ≡ s ++ b ∷ [] → IsSpine (suc h) s → IsOpenEnd h b.value → IsSpine h new
+  spine_pushed h s new b e f o = subst (IsSpine h) (sym e) (spine_put h s b f o)
+
+  spine_parts : (h : ℕ) (s : List (Box (Node K V) Global)) (b : Box (Node K V) Global) → IsSpine h (s ++ b ∷ []) → IsOpenEnd h b.value × IsSpine (suc h) s
+  spine_parts h [] b f = (f.0, tt)
+  spine_parts h (x ∷ s) b f = let i = spine_parts h s b f.1 in (i.0, (subst (λ k. IsOpenEnd k x.value) (level_push h s b) f.0, i.1))
+
+  pub spine_popped : (h : ℕ) (old s : List (Box (Node K V) Global)) (b : Box (Node K V) Global) → old ≡ s ++ b ∷ [] → IsSpine h old → IsOpenEnd h b.value × IsSpine (suc h) s
+  spine_popped h old s b e f = spine_parts h s b (subst (IsSpine h) e f)
+
+  digits_push : (a : ℕ) (s : List (Box (Node K V) Global)) (b : Box (Node K V) Global) → digits_after a (s ++ b ∷ []) ≡ most_children * digits_after a s + length (own_pairs b.value)
+  digits_push a [] b = refl
+  digits_push a (x ∷ s) b = digits_push (most_children * a + length (own_pairs x.value)) s b
+
+  pub worth_pushed : (s new : List (Box (Node K V) Global)) (b : Box (Node K V) Global) → new ≡ s ++ b ∷ [] → worth new ≡ most_children * worth s + length (own_pairs b.value)
+  worth_pushed s new b e = ap worth e ∙ digits_push 0 s b
+
+  count_push : (s : List (Box (Node K V) Global)) (b : Box (Node K V) Global) → own_count (s ++ b ∷ []) ≡ own_count s + length (own_pairs b.value)
+  count_push [] b = omega arith
+  count_push (x ∷ s) b = let i = count_push s b in omega arith
+
+  pub count_pushed : (s new : List (Box (Node K V) Global)) (b : Box (Node K V) Global) → new ≡ s ++ b ∷ [] → own_count new ≡ own_count s + length (own_pairs b.value)
+  count_pushed s new b e = ap own_count e ∙ count_push s b
+
+  pub length_pushed : (s new : List (Box (Node K V) Global)) (b : Box (Node K V) Global) → new ≡ s ++ b ∷ [] → length new ≡ length s + 1
+  length_pushed s new b e = ap length e ∙ length-append s (b ∷ [])
+
+  -- ---- a blank node as the spine's end
+
+  blank_children : (n : Node K V) → IsBlankInner n → children_of n ≡ []
+  blank_children n z = ap (λ o. boxed (items_or_none o)) z.1
+
+  pub blank_end : (h : ℕ) (n : Node K V) → IsBlankInner n → IsOpenEnd h n
+  blank_end h n z =
+      let a = ap length z.0 in
+      let b = ap length (blank_children n z) in
+      (omega arith, λ leaf. cc (z.1, leaf), omega arith, subst (AllByRecursion (IsSound h)) (sym (blank_children n z)) tt)
+
+  pub blank_back : (s : List (Box (Node K V) Global)) (n : Node K V) → IsBlankInner n → before_back s ≡ before_back s ++ before_back_in n
+  blank_back s n z =
+      let a = ap length z.0 in
+      let b = ap length (blank_children n z) in
+      empty_back n s 0 (omega arith, λ k. absurd (omega arith), blank_children n z) (omega arith)
+
+  -- ---- a child at the end, and the pair that comes after it
+
+  pub child_room : (h : ℕ) (n : Node K V) → IsOpenEnd h n → length (children_of n) ≤ capacity
+  child_room h n o = let a = o.0 in let b = o.2 in omega arith
+
+  children_both : (h : ℕ) (n m c : Node K V) → IsOpenEnd h n → children_of m ≡ children_of n ++ c ∷ [] → IsSound h c → AllByRecursion (IsSound h) (children_of m)
+  children_both h n m c o f s = subst (AllByRecursion (IsSound h)) (sym f) (all_both (IsSound h) (children_of n) (c ∷ []) o.3 (s, tt))
+
+  -- n, then with a child as m, then with a pair as r
+  pub end_grown : (h : ℕ) (n m r c : Node K V) (p : K × V) → IsOpenEnd h n → own_pairs m ≡ own_pairs n → children_of m ≡ children_of n ++ c ∷ [] → own_pairs r ≡ own_pairs m ++ p ∷ [] → children_of r ≡ children_of m → (IsLeaf r → ⊥) → length (own_pairs m) < capacity → IsSound h c → IsOpenEnd h r
+  end_grown h n m r c p o e f q i k l s =
+      let a = ap length e in
+      let b = ap length f ∙ length-append (children_of n) (c ∷ []) in
+      let d = ap length q ∙ length-append (own_pairs m) (p ∷ []) in
+      let g = ap length i in
+      let w = o.2 in
+      (omega arith, k, omega arith, subst (AllByRecursion (IsSound h)) (sym i) (children_both h n m c o f s))
+
+  pub end_pairs : (h : ℕ) (n m r c : Node K V) (p : K × V) → IsOpenEnd h n → own_pairs m ≡ own_pairs n → children_of m ≡ children_of n ++ c ∷ [] → own_pairs r ≡ own_pairs m ++ p ∷ [] → children_of r ≡ children_of m → before_back_in r ≡ before_back_in n ++ (pairs_of c ++ p ∷ [])
+  end_pairs h n m r c p o e f q i =
+      let w = o.2 in
+      back_last r n p c (q ∙ ap (λ ps. ps ++ p ∷ []) e) (i ∙ f) (omega arith) (omega arith)
+
+  -- the whole spine, once its last node n has become b
+  pub spine_pairs : (old s new : List (Box (Node K V) Global)) (b : Box (Node K V) Global) (n c : Node K V) (p : K × V) → before_back old ≡ before_back s ++ before_back_in n → new ≡ s ++ b ∷ [] → before_back_in b.value ≡ before_back_in n ++ (pairs_of c ++ p ∷ []) → before_back new ≡ before_back old ++ (pairs_of c ++ p ∷ [])
+  spine_pairs old s new b n c p e f g =
+      back_push s new b f ∙ ap (λ zs. before_back s ++ zs) g ∙ sym (append_assoc (before_back s) (before_back_in n) (pairs_of c ++ p ∷ [])) ∙ ap (λ zs. zs ++ (pairs_of c ++ p ∷ [])) (sym e)
+
+  -- ---- a node closed by its last child
+
+  closed_inner : (h : ℕ) (n m c : Node K V) → IsOpenEnd h n → own_pairs m ≡ own_pairs n → children_of m ≡ children_of n ++ c ∷ [] → IsInner m
+  closed_inner h n m c o e f =
+      let a = ap length e in
+      let b = ap length f ∙ length-append (children_of n) (c ∷ []) in
+      let w = o.2 in
+      omega arith
+
+  pub closed_sound : (h : ℕ) (n m c : Node K V) → IsOpenEnd h n → own_pairs m ≡ own_pairs n → children_of m ≡ children_of n ++ c ∷ [] → capacity ≤ length (own_pairs m) → IsSound h c → IsSound (suc h) m
+  closed_sound h n m c o e f l s =
+      let a = ap length e in
+      let w = o.0 in
+      (omega arith, (omega arith, closed_inner h n m c o e f, children_both h n m c o f s))
+
+  pub closed_pairs : (h : ℕ) (n m c : Node K V) → IsOpenEnd h n → own_pairs m ≡ own_pairs n → children_of m ≡ children_of n ++ c ∷ [] → pairs_of m ≡ before_back_in n ++ pairs_of c
+  closed_pairs h n m c o e f = whole_back m n c (closed_inner h n m c o e f) f (sym e)
+
+  last_after : (P Q : Node K V → Type 0) (cs : List (Node K V)) (c : Node K V) → AllByRecursion Q cs → P c → LastAfter P Q (cs ++ c ∷ [])
+  last_after P Q [] c a p = p
+  last_after P Q (x ∷ []) c a p = (a.0, p)
+  last_after P Q (x ∷ y ∷ cs) c a p = (a.0, last_after P Q (y ∷ cs) c a.1 p)
+
+  pub closed_bordered : (h : ℕ) (n m c : Node K V) → IsOpenEnd h n → own_pairs m ≡ own_pairs n → children_of m ≡ children_of n ++ c ∷ [] → IsRightBordered h c → IsRightBordered (suc h) m
+  closed_bordered h n m c o e f r =
+      let a = ap length e in
+      let w = o.0 in
+      (omega arith, closed_inner h n m c o e f, subst (LastAfter (IsRightBordered h) (IsSound h)) (sym f) (last_after (IsRightBordered h) (IsSound h) (children_of n) c o.3 r))
+
+  -- the pairs, where a closed node m goes up and a blank one takes its place
+  pub carried_pairs : (old s up new : List (Box (Node K V) Global)) (b : Box (Node K V) Global) (n m c : Node K V) (p : K × V) → before_back old ≡ before_back s ++ before_back_in n → pairs_of m ≡ before_back_in n ++ pairs_of c → before_back up ≡ before_back s ++ (pairs_of m ++ p ∷ []) → IsBlankInner b.value → new ≡ up ++ b ∷ [] → before_back new ≡ before_back old ++ (pairs_of c ++ p ∷ [])
+  carried_pairs old s up new b n m c p e f g z i =
+      back_push up new b i ∙ sym (blank_back up b.value z) ∙ g
+      ∙ ap (λ zs. before_back s ++ (zs ++ p ∷ [])) f ∙ ap (λ zs. before_back s ++ zs) (append_assoc (before_back_in n) (pairs_of c) (p ∷ []))
+      ∙ sym (append_assoc (before_back s) (before_back_in n) (pairs_of c ++ p ∷ [])) ∙ ap (λ zs. zs ++ (pairs_of c ++ p ∷ [])) (sym e)
+
+  -- ---- spare nodes
+
+  pub enough_some : (d i : ℕ) (s : List (Box (Node K V) Global)) → IsEnough d i 1 s → 0 < length s + i
+  enough_some zero i s e = let w = e.2 in absurd (omega arith)
+  enough_some (suc d) i s e = let w = e.3 in omega arith
+
+  pub enough_deep : (d i : ℕ) (s : List (Box (Node K V) Global)) → IsEnough d i 1 s → 1 ≤ d
+  enough_deep zero i s e = let w = e.2 in absurd (omega arith)
+  enough_deep (suc d) i s e = omega arith
+
+  -- what is enough once the full last node of s is closed, which leaves it as t
+  pub record IsCarried (d j : ℕ) (t : List (Box (Node K V) Global)) : Type 0 where
+    pub less : ℕ
+    pub deep : d ≡ suc less
+    pub enough : IsEnough less j 1 t
+    pub spare : own_count t + 1 + capacity * d < capacity * (j + length t + 1)
+
+  pub carried : (d i j : ℕ) (s t : List (Box (Node K V) Global)) (k : ℕ) → IsEnough d i 1 s → worth s ≡ most_children * worth t + k → own_count s ≡ own_count t + k → i + length s ≡ j + length t + 1 → length t ≡ length s - 1 → capacity ≤ k → IsCarried d j t
+  carried zero i j s t k e w c n l f = let x = e.2 in absurd (omega arith)
+  carried (suc d) i j s t k e w c n l f =
+      let x = e.0 in
+      let y = e.1 in
+      let z : worth s + 1 < most_children ^ suc d = e.2 in
+      let v = e.3 in
+      let more = pow-suc most_children d in
+      let fewer : worth t + 1 < most_children ^ d = omega arith in
+      record { less = d; deep = refl; enough = (omega arith, omega arith, fewer, omega arith); spare = omega arith }
+
+  pub not_blank : (s : List (Box (Node K V) Global)) (n : Node K V) → (length s ≡ 0 → own_pairs n ≡ []) → capacity ≤ length (own_pairs n) → 0 < length s
+  not_blank [] n f h = absurd (let e = ap length (f refl) in omega arith)
+  not_blank (b ∷ s) n f h = omega arith
+
+  pub spare_taken : (old new : List (Box (Node K V) Global)) (b : Box (Node K V) Global) → old ≡ new ++ b ∷ [] → AllByRecursion (λ x. IsBlankInner x.value) old → IsBlankInner b.value × AllByRecursion (λ x. IsBlankInner x.value) new
+  spare_taken old new b e a =
+      let P : Box (Node K V) Global → Type 0 = λ x. IsBlankInner x.value in
+      let f = subst (AllByRecursion P) e a in
+      ((all_back P new (b ∷ []) f).0, all_front P new (b ∷ []) f)
+
+  -- the pairs, once the last node n is closed as m
+  pub closing_pairs : (old s : List (Box (Node K V) Global)) (b : Box (Node K V) Global) (m c : Node K V) (zs : List (K × V)) → old ≡ s ++ b ∷ [] → pairs_of m ≡ before_back_in b.value ++ pairs_of c → zs ≡ before_back s ++ pairs_of m → zs ≡ before_back old ++ pairs_of c
+  closing_pairs old s b m c zs e f g =
+      g ∙ ap (λ ys. before_back s ++ ys) f ∙ sym (append_assoc (before_back s) (before_back_in b.value) (pairs_of c)) ∙ ap (λ ys. ys ++ pairs_of c) (sym (back_push s old b e))

@@ -1,0 +1,23 @@
+use Rattle.std.proofs.Common.{◌≡◌, length, None, Some, MatchOption, refl, sym, ◌∙◌, subst, arith, Option}
+use Rattle.fc_tree_build.specs.Spine.{IsSpine}
+use Rattle.fc_tree_build.specs.Spares.{AreInnerFor}
+use Rattle.fc_tree_build.proofs.Builders.{spare_leaves, first_last, first_leaves, first_enough, first_pairs}
+use Rattle.fc_tree_build.proofs.builder.Builder.try_new.Goals as goal
+
+none_was : {X P : Type 0} (Q : X → Type 0) (o : Option X) → MatchOption o P Q → o ≡ None → P
+none_was Q None m e = m
+none_was Q (Some x) m e = absurd (cc e)
+
+pub invariant_of-result : goal.invariant_of-result
+invariant_of-result g c =
+    let ok = c.in_ok-leaves.ensures.ok in
+    let len = c.leaf_count.ensures in
+    let is = c.in_ok-leaves.leaves.ok.0 in
+    let z : c.pop-last.result ≡ None → length c.in_ok-leaves.leaves.items ≡ 0 = λ e. (let w = (none_was _ _ c.pop-last.ensures.cases e).0 in omega arith) in
+    let q = spare_leaves c.args.n c.in_ok-leaves.leaves.items c.pop-last.new.self.items c.pop-last.result c.pop-last.ensures.items (ok.0 ∙ len) z in
+    let last = first_last c.args.n c.in_ok-leaves.leaves.items c.pop-last.new.self.items c.new.result c.pop-last.result c.new.ensures c.pop-last.ensures.items (ok.0 ∙ len) ok.1 z in
+    let enough = first_enough c.args.n _ _ c.new.result c.new.ensures q (subst (AreInnerFor c.args.n) (sym c.in_ok-inner.ensures.ok.0) c.inner_count.ensures.enough) in
+    (last, subst (IsSpine 0) (sym c.new.ensures) tt, first_leaves _ _ _ c.pop-last.ensures.items ok.1, c.in_ok-inner.ensures.ok.1, enough)
+
+pub returns-clause-ok : goal.returns-clause-ok
+returns-clause-ok g c = (first_pairs _ _ _ _ c.new.ensures c.pop-last.ensures.items c.in_ok-leaves.ensures.ok.1, refl)

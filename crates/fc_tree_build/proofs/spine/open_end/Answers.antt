@@ -1,0 +1,47 @@
+use Rattle.std.proofs.Common.{◌≡◌, suc, length, sym, ap, subst, arith}
+use Rattle.fc_tree_walk.proofs.Opening.{no_item, back_push}
+use Rattle.fc_tree_build.specs.Spine.{IsSpine}
+use Rattle.fc_tree_build.specs.Spares.{worth}
+use Rattle.fc_tree_build.proofs.SpineFacts.{spare_taken, blank_back, blank_end, spine_popped, worth_pushed, count_pushed}
+use Rattle.fc_tree_build.proofs.spine.open_end.Goals as goal
+
+pub returns-then-len-eq0-clause-pairs : goal.returns-then-len-eq0-clause-pairs
+returns-then-len-eq0-clause-pairs g c = blank_back _ _ (spare_taken _ _ _ c.take_spare.ensures c.requires.blank).0
+
+pub returns-then-len-eq0-clause-levels : goal.returns-then-len-eq0-clause-levels
+returns-then-len-eq0-clause-levels g c h f =
+    let v = c.len.ensures.value in
+    let z = c.if-len-eq0.true in
+    let e = no_item c.args.spine.now (omega arith) in
+    (blank_end h _ (spare_taken _ _ _ c.take_spare.ensures c.requires.blank).0, subst (IsSpine (suc h)) (sym e) tt)
+
+pub returns-then-len-eq0-clause-blank : goal.returns-then-len-eq0-clause-blank
+returns-then-len-eq0-clause-blank g c = (spare_taken _ _ _ c.take_spare.ensures c.requires.blank).1
+
+pub returns-then-len-eq0-clause-worth : goal.returns-then-len-eq0-clause-worth
+returns-then-len-eq0-clause-worth g c =
+    let v = c.len.ensures.value in
+    let z = c.if-len-eq0.true in
+    let w : worth c.args.spine.now ≡ 0 = ap worth (no_item c.args.spine.now (omega arith)) in
+    let a = ap length (spare_taken _ _ _ c.take_spare.ensures c.requires.blank).0.0 in
+    omega arith
+
+pub returns-then-len-eq0-clause-count : goal.returns-then-len-eq0-clause-count
+returns-then-len-eq0-clause-count g c =
+    let a = ap length (spare_taken _ _ _ c.take_spare.ensures c.requires.blank).0.0 in
+    omega arith
+
+pub returns-then-len-eq0-clause-new_root : goal.returns-then-len-eq0-clause-new_root
+returns-then-len-eq0-clause-new_root g c e = (spare_taken _ _ _ c.take_spare.ensures c.requires.blank).0.0
+
+pub returns-clause-pairs : goal.returns-clause-pairs
+returns-clause-pairs g c = back_push _ _ _ c.pop.ensures
+
+pub returns-clause-levels : goal.returns-clause-levels
+returns-clause-levels g c h f = spine_popped h _ _ _ c.pop.ensures f
+
+pub returns-clause-worth : goal.returns-clause-worth
+returns-clause-worth g c = worth_pushed _ _ _ c.pop.ensures
+
+pub returns-clause-count : goal.returns-clause-count
+returns-clause-count g c = count_pushed _ _ _ c.pop.ensures

@@ -1,0 +1,39 @@
+-- What contracts see of a builder, and how it is laid out.
+use Rattle.std.specs.Prelude.{◌≡◌, ℕ, ◌+◌, ◌*◌, ◌≤◌, List, [], ◌++◌, length, Option, Some, None}
+use Rattle.std.specs.List.{AllByRecursion}
+use Rattle.std.specs.declared.boxed.Box.{Box}
+use Rattle.std.specs.declared.alloc.Global.{Global}
+use Rattle.fc_base.specs.Sizes.{capacity, most_children}
+use Rattle.fc_tree_node.specs.declared.node.Node.{Node}
+use Rattle.fc_tree_node.specs.Node.{own_pairs, IsLeaf, IsBlankLeaf, IsBlankInner}
+use Rattle.fc_tree_walk.specs.Opened.{before_back}
+use Rattle.fc_tree_build.specs.Spine.{IsSpine}
+use Rattle.fc_tree_build.specs.Spares.{IsEnough}
+use Rattle.fc_tree_build.specs.declared.builder.Builder.TheInside.{Inside}
+
+-- The pairs that a builder holds, in order, and how many more it has room for.
+pub record Built (K V : Type 0) : Type 0 where
+  pub pairs : List (K × V)
+  pub room : ℕ
+
+module _ {K V : Type 0} where
+  -- The pairs of the last leaf, if there is one.
+  abbrev pub last_pairs : Option (Box (Node K V) Global) → List (K × V)
+  last_pairs None = []
+  last_pairs (Some leaf) = own_pairs leaf.value
+
+  -- The pairs and the room of a builder.
+  abbrev pub built : Inside K V → Built K V
+  built b = record { pairs = before_back b.spine ++ last_pairs b.last; room = b.room }
+
+  -- The last leaf and so many spare ones have room for so many more pairs and one between each two leaves. With no leaf there is
+  -- no room and nothing else.
+  abbrev pub IsLast : Option (Box (Node K V) Global) → ℕ → ℕ → List (Box (Node K V) Global) → Type 0
+  IsLast None spares room s = (room ≡ 0) × (s ≡ [])
+  IsLast (Some leaf) spares room s = (length (own_pairs leaf.value) ≤ capacity) × IsLeaf leaf.value × (length (own_pairs leaf.value) + room ≤ most_children * spares + capacity)
+
+  -- The tree so far stands above the last leaf, and there are enough spare nodes for the room.
+  abbrev pub IsBuilder : Inside K V → Type 0
+  IsBuilder b = IsLast b.last (length b.leaves.items) b.room b.spine × IsSpine 0 b.spine
+      × AllByRecursion (λ n. IsBlankLeaf n.value) b.leaves.items × AllByRecursion (λ n. IsBlankInner n.value) b.inner.items
+      × ((d : ℕ) × IsEnough d (length b.inner.items) (length b.leaves.items) b.spine)

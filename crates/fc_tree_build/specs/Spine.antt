@@ -1,0 +1,23 @@
+-- The right spine of a tree that grows at its right end.
+use Rattle.std.specs.Prelude.{◌≡◌, ℕ, suc, ◌≤◌, List, [], ◌∷◌, length}
+use Rattle.std.specs.List.{AllByRecursion}
+use Rattle.std.specs.declared.boxed.Box.{Box}
+use Rattle.std.specs.declared.alloc.Global.{Global}
+use Rattle.fc_base.specs.Sizes.{capacity}
+use Rattle.fc_tree_node.specs.declared.node.Node.{Node}
+use Rattle.fc_tree_node.specs.Node.{own_pairs, children_of, IsLeaf, IsSound}
+
+module _ {K V : Type 0} where
+  -- The node lacks its last child: it has as many children as pairs, all sound with their leaves h levels below them.
+  abbrev pub IsOpenEnd : ℕ → Node K V → Type 0
+  IsOpenEnd h n = (length (own_pairs n) ≤ capacity) × (IsLeaf n → ⊥) × (length (children_of n) ≡ length (own_pairs n)) × AllByRecursion (IsSound h) (children_of n)
+
+  -- The level of what the first node of a spine lacks, where the last node lacks a child of level h.
+  abbrev pub level_above : ℕ → List (Box (Node K V) Global) → ℕ
+  level_above h [] = h
+  level_above h (b ∷ s) = suc (level_above h s)
+
+  -- From the root down, each node lacks its last child, which is the next node; the last node lacks a child of level h.
+  abbrev pub IsSpine : ℕ → List (Box (Node K V) Global) → Type 0
+  IsSpine h [] = Unit {0}
+  IsSpine h (b ∷ s) = IsOpenEnd (level_above h s) b.value × IsSpine h s

@@ -1,0 +1,104 @@
+//! A tree made of pairs in order, with all of its memory taken before the first.
+ghost use Rattle.std.specs.Prelude.{◌≡◌, ◌+◌, ◌<◌, [], ◌∷◌, ◌++◌, IfOk, IfErr, IsOk};
+ghost use Rattle.fc_tree_node.specs.Tree.{entries, root_of, IsSoundMap};
+
+use crate::spares::{inner_count, leaf_count, take_spare, try_inner_nodes, try_leaves};
+use crate::spine::{Spine, attach, close, put_pair};
+use fc_base::TryReserveError;
+use fc_tree_border::mending::mend_right;
+use fc_tree_node::node::{CAPACITY, Node};
+use fc_tree_walk::stack::Stack;
+use std::alloc::Global;
+use std::marker::Model;
+
+/// A tree that is made of pairs from the first on, each put at its end: leaves and inner nodes are full, but those on the right
+/// edge. All nodes are made before the first pair. A contract sees the pairs, and for how many more there is room.
+#[derive(Drop)]
+pub struct Builder<K, V> {
+    spine: Spine<K, V>,
+    last: Option<Box<Node<K, V>>>,
+    leaves: Vec<Box<Node<K, V>>>,
+    inner: Vec<Box<Node<K, V>>>,
+    room: usize,
+}
+
+impl<K, V> Model for Builder<K, V> {
+    ghost use Rattle.fc_tree_build.specs.Built.{Built, built, IsBuilder};
+
+    ghost Value = { Built K V };
+
+    ghost view = { λ b. built b };
+
+    ghost invariant = { λ b. IsBuilder b };
+}
+
+impl<K, V> Builder<K, V> {
+    /// For how many more pairs there is room.
+    pub fn room(&self) -> usize
+        ensures { result ≡ self.now.room }
+    {
+        self.room
+    }
+}
+
+impl<K: Drop, V: Drop> Builder<K, V> {
+    /// A builder of no pair, with room for `n`: each node that they can need is made now, and none where `n` is 0.
+    ///
+    /// # Errors
+    /// `AllocError` if one of them or a list of them is refused, never where `n` is 0. Nothing is then left after.
+    pub fn try_new(alloc: Global, n: usize) -> Result<Builder<K, V>, TryReserveError>
+        ensures ok { IfOk result (λ b. (b.pairs ≡ []) × (b.room ≡ n)) }
+        ensures error { IfErr result (λ e. e ≡ TryReserveError.AllocError) }
+        ensures none { n ≡ 0 → IsOk result }
+    {
+        let mut leaves = try_leaves(alloc, leaf_count(n))?;
+        let inner = try_inner_nodes(alloc, inner_count(n))?;
+        let last = leaves.pop();
+        Ok(Builder {
+            spine: Stack::new(),
+            last,
+            leaves,
+            inner,
+            room: n,
+        })
+    }
+
+    /// Puts the pair after the others. It takes no memory, moves no other pair and compares nothing.
+    pub fn push(&mut self, pair: (K, V))
+        requires { 0 < self.old.room }
+        ensures pairs { self.new.pairs ≡ self.old.pairs ++ pair ∷ [] }
+        ensures room { self.new.room + 1 ≡ self.old.room }
+    {
+        self.room -= 1;
+        let Some(mut leaf) = self.last.take() else {
+            unreachable!()
+        };
+        if leaf.len() < CAPACITY {
+            put_pair(&mut leaf, pair);
+            self.last = Some(leaf);
+            return;
+        }
+        self.last = Some(take_spare(&mut self.leaves));
+        attach(&mut self.spine, leaf, pair, &mut self.inner);
+    }
+
+    /// The root of a sound tree of the pairs; none where there is no pair. Nodes that were not needed are dropped.
+    pub fn finish(self) -> Option<Box<Node<K, V>>>
+        ensures pairs { entries (root_of result) ≡ self.pairs }
+        ensures sound { IsSoundMap (root_of result) }
+    {
+        let Builder {
+            mut spine,
+            last,
+            leaves,
+            inner,
+            room: _,
+        } = self;
+        drop(leaves);
+        drop(inner);
+        let Some(last) = last else {
+            return None;
+        };
+        mend_right(close(&mut spine, last))
+    }
+}

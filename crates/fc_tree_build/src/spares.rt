@@ -1,0 +1,87 @@
+//! Nodes that hold nothing, all made before the first is used.
+ghost use Rattle.std.specs.Prelude.{◌≡◌, ◌+◌, ◌*◌, ◌^◌, ◌<◌, ◌≤◌, [], ◌∷◌, ◌++◌, length, IfOk, IfErr, IsOk};
+ghost use Rattle.std.specs.List.{AllByRecursion};
+ghost use Rattle.fc_base.specs.Sizes.{most_children};
+ghost use Rattle.fc_tree_node.specs.Node.{IsBlankLeaf, IsBlankInner};
+ghost use Rattle.fc_tree_build.specs.Spares.{leaves_for, AreInnerFor};
+
+use fc_base::TryReserveError;
+use fc_tree_node::node::{CAPACITY, Node};
+use std::alloc::Global;
+
+/// As many leaves.
+///
+/// # Errors
+/// `AllocError` if one of them or the list of them is refused, never where there are none. Nothing is then left after.
+pub(crate) fn try_leaves<K: Drop, V: Drop>(
+    alloc: Global,
+    count: usize,
+) -> Result<Vec<Box<Node<K, V>>>, TryReserveError>
+    ensures ok { IfOk result (λ v. (length v.items ≡ count) × AllByRecursion (λ b. IsBlankLeaf b.value) v.items) }
+    ensures error { IfErr result (λ e. e ≡ TryReserveError.AllocError) }
+    ensures none { count ≡ 0 → IsOk result }
+{
+    let mut leaves = Vec::with_capacity(alloc, count)?;
+    for _i in 0..count {
+        leaves.push(Node::try_leaf(alloc)?)?;
+    }
+    Ok(leaves)
+}
+
+/// As many inner nodes.
+///
+/// # Errors
+/// `AllocError` if one of them or the list of them is refused, never where there are none. Nothing is then left after.
+pub(crate) fn try_inner_nodes<K: Drop, V: Drop>(
+    alloc: Global,
+    count: usize,
+) -> Result<Vec<Box<Node<K, V>>>, TryReserveError>
+    ensures ok { IfOk result (λ v. (length v.items ≡ count) × AllByRecursion (λ b. IsBlankInner b.value) v.items) }
+    ensures error { IfErr result (λ e. e ≡ TryReserveError.AllocError) }
+    ensures none { count ≡ 0 → IsOk result }
+{
+    let mut nodes = Vec::with_capacity(alloc, count)?;
+    for _i in 0..count {
+        nodes.push(Node::try_inner(alloc)?)?;
+    }
+    Ok(nodes)
+}
+
+/// Takes one of the nodes out.
+pub(crate) fn take_spare<K, V>(spares: &mut Vec<Box<Node<K, V>>>) -> Box<Node<K, V>>
+    requires { 0 < length spares.old.items }
+    ensures { spares.old.items ≡ spares.new.items ++ result ∷ [] }
+{
+    let Some(node) = spares.pop() else {
+        unreachable!()
+    };
+    node
+}
+
+/// How many leaves `n` pairs need at most.
+pub(crate) fn leaf_count(n: usize) -> usize
+    ensures { result ≡ leaves_for n }
+{
+    if n == 0 { 0 } else { n / (CAPACITY + 1) + 1 }
+}
+
+/// How many inner nodes are enough for `n` pairs.
+pub(crate) fn inner_count(n: usize) -> usize
+    ensures enough { AreInnerFor n result }
+    ensures none { n ≡ 0 → result ≡ 0 }
+{
+    let between = n / (CAPACITY + 1);
+    between / CAPACITY + digit_count(between)
+}
+
+// How many digits the number has where the base is the most children of a node; 0 has none.
+fn digit_count(n: usize) -> usize
+    ensures above { n < most_children ^ result }
+    ensures least { 0 < n → most_children ^ result ≤ most_children * n }
+    ensures none { n ≡ 0 → result ≡ 0 }
+{
+    if n == 0 {
+        return 0;
+    }
+    digit_count(n / (CAPACITY + 1)) + 1
+}

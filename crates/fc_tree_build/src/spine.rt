@@ -1,0 +1,109 @@
+//! The right spine of a tree that grows at its right end.
+ghost use Rattle.std.specs.Prelude.{◌≡◌, ℕ, suc, ◌+◌, ◌-◌, ◌*◌, ◌<◌, ◌≤◌, ◌↔◌, [], ◌∷◌, ◌++◌, length};
+ghost use Rattle.std.specs.List.{AllByRecursion};
+ghost use Rattle.fc_base.specs.Sizes.{capacity, most_children};
+ghost use Rattle.fc_tree_node.specs.Node.{own_pairs, children_of, pairs_of, IsLeaf, IsSound, IsBlankInner};
+ghost use Rattle.fc_tree_node.specs.Bordered.{IsRightBordered};
+ghost use Rattle.fc_tree_walk.specs.Opened.{before_back_in, before_back};
+ghost use Rattle.fc_tree_build.specs.Spine.{IsOpenEnd, IsSpine, level_above};
+ghost use Rattle.fc_tree_build.specs.Spares.{own_count, worth, IsEnough};
+
+use crate::spares::take_spare;
+use fc_base::Count;
+use fc_tree_node::node::{CAPACITY, Node};
+use fc_tree_walk::stack::Stack;
+
+/// The nodes on the right edge of a tree, from the root down, each without its last child: that is the next one, or what comes
+/// below the last of them.
+pub type Spine<K, V> = Stack<Box<Node<K, V>>>;
+
+/// Puts a subtree at the spine's end, and the pair that comes after it: both go into the lowest node with room. The full nodes
+/// below that one are closed, and blank ones take their places; where all are full there is a new root.
+pub fn attach<K: Drop, V: Drop>(
+    spine: &mut Spine<K, V>,
+    subtree: Box<Node<K, V>>,
+    pair: (K, V),
+    spares: &mut Vec<Box<Node<K, V>>>,
+)
+    requires levels { (h : ℕ) × IsSpine h spine.old × IsSound h subtree.value }
+    requires blank { AllByRecursion (λ b. IsBlankInner b.value) spares.old.items }
+    requires enough { (d : ℕ) × IsEnough d (length spares.old.items) 1 spine.old }
+    ensures pairs { before_back spine.new ≡ before_back spine.old ++ (pairs_of subtree.value ++ pair ∷ []) }
+    ensures levels { (h : ℕ) → IsSpine h spine.old → IsSound h subtree.value → IsSpine h spine.new }
+    ensures blank { AllByRecursion (λ b. IsBlankInner b.value) spares.new.items }
+    ensures worth { worth spine.new ≡ worth spine.old + 1 }
+    ensures left { capacity * (length spares.new.items + length spine.new) + own_count spine.old + 1 ≡ capacity * (length spares.old.items + length spine.old) + own_count spine.new }
+    ensures short { (d : ℕ) → IsEnough d (length spares.old.items) 1 spine.old → length spine.new ≤ d }
+{
+    let mut node = open_end(spine, spares);
+    put_child(&mut node, subtree);
+    if node.len() < CAPACITY {
+        put_pair(&mut node, pair);
+        spine.push(node);
+        return;
+    }
+    attach(spine, node, pair, spares);
+    spine.push(take_spare(spares));
+}
+
+/// The tree with the spine on its right edge and `last` below it.
+pub fn close<K: Drop, V: Drop>(spine: &mut Spine<K, V>, last: Box<Node<K, V>>) -> Box<Node<K, V>>
+    requires levels { (h : ℕ) × IsSpine h spine.old × IsRightBordered h last.value }
+    ensures pairs { pairs_of result.value ≡ before_back spine.old ++ pairs_of last.value }
+    ensures levels { (h : ℕ) → IsSpine h spine.old → IsRightBordered h last.value → IsRightBordered (level_above h spine.old) result.value }
+{
+    if spine.len() == 0 {
+        return last;
+    }
+    let mut node = spine.pop();
+    put_child(&mut node, last);
+    close(spine, node)
+}
+
+// Takes the spine's last node out, or a blank one where it has none.
+fn open_end<K: Drop, V: Drop>(
+    spine: &mut Spine<K, V>,
+    spares: &mut Vec<Box<Node<K, V>>>,
+) -> Box<Node<K, V>>
+    requires blank { AllByRecursion (λ b. IsBlankInner b.value) spares.old.items }
+    requires some { 0 < length spine.old + length spares.old.items }
+    ensures pairs { before_back spine.old ≡ before_back spine.new ++ before_back_in result.value }
+    ensures levels { (h : ℕ) → IsSpine h spine.old → IsOpenEnd h result.value × IsSpine (suc h) spine.new }
+    ensures blank { AllByRecursion (λ b. IsBlankInner b.value) spares.new.items }
+    ensures worth { worth spine.old ≡ most_children * worth spine.new + length (own_pairs result.value) }
+    ensures count { own_count spine.old ≡ own_count spine.new + length (own_pairs result.value) }
+    ensures nodes { length spares.old.items + length spine.old ≡ length spares.new.items + length spine.new + 1 }
+    ensures shorter { length spine.new ≡ length spine.old - 1 }
+    ensures new_root { length spine.old ≡ 0 → own_pairs result.value ≡ [] }
+{
+    if spine.len() == 0 {
+        return take_spare(spares);
+    }
+    spine.pop()
+}
+
+// Puts a child at the node's end.
+fn put_child<K: Drop, V: Drop>(node: &mut Node<K, V>, child: Box<Node<K, V>>)
+    requires inner { IsLeaf node.old → ⊥ }
+    requires room { length (children_of node.old) ≤ capacity }
+    ensures pairs { own_pairs node.new ≡ own_pairs node.old }
+    ensures children { children_of node.new ≡ children_of node.old ++ child.value ∷ [] }
+    ensures inner { IsLeaf node.new → ⊥ }
+{
+    let Some(children) = &mut node.children else {
+        unreachable!()
+    };
+    let end = children.len();
+    children.insert(end, child);
+}
+
+/// Puts a pair at the node's end. Its children stay.
+pub(crate) fn put_pair<K: Drop, V: Drop>(node: &mut Node<K, V>, pair: (K, V))
+    requires room { length (own_pairs node.old) < capacity }
+    ensures pairs { own_pairs node.new ≡ own_pairs node.old ++ pair ∷ [] }
+    ensures children { children_of node.new ≡ children_of node.old }
+    ensures leaf { IsLeaf node.new ↔ IsLeaf node.old }
+{
+    let end = node.pairs.len();
+    node.pairs.insert(end, pair, &mut Count::new());
+}

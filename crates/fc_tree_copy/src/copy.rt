@@ -1,0 +1,98 @@
+//! A copy of a tree, node by node.
+ghost use Rattle.std.specs.Prelude.{◌≡◌, ℕ, ◌<◌, [], ◌∷◌, ◌++◌, length, IfOk, IfErr};
+ghost use Rattle.std.specs.List.{AllZip};
+ghost use Rattle.fc_base.specs.Sizes.{most_children};
+ghost use Rattle.fc_base.specs.Copies.{MayRefusePair};
+ghost use Rattle.fc_tree_node.specs.Node.{own_pairs, children_of, pairs_of, IsLeaf, IsLevelled};
+ghost use Rattle.fc_tree_copy.specs.Copy.{AreSame, MayRefuseNodes, IsCopy, IsCopyUpTo};
+
+use fc_base::{Count, TryClone, TryReserveError};
+use fc_tree_node::node::{CAPACITY, Node};
+use fc_tree_slots::children::Children;
+use fc_tree_slots::slots::Slots;
+use std::alloc::Global;
+
+/// A copy of the tree at `node`: a node for each node, with as many pairs and children, and a copy of each pair by `try_clone`.
+/// The tree is only read.
+///
+/// # Errors
+/// `AllocError` where a node was refused, or the error of a key or a value whose copy was. What was made by then is dropped.
+pub fn try_copy<K: TryClone, V: TryClone>(
+    alloc: Global,
+    node: &Node<K, V>,
+) -> Result<Box<Node<K, V>>, TryReserveError>
+    requires keys { K.can_clone }
+    requires values { V.can_clone }
+    ensures copied { IfOk result (λ copy. IsCopy (AreSame K.same V.same) node.now copy.value) }
+    ensures error { (h : ℕ) → IsLevelled h node.now → IfErr result (MayRefuseNodes (MayRefusePair K.may_refuse V.may_refuse) (pairs_of node.now)) }
+{
+    let mut copy = try_copy_own(alloc, node)?;
+    for i in 0..node.child_count() {
+        let child = try_copy(alloc, node.child(i))?;
+        push_child(&mut copy, child);
+    }
+    Ok(copy)
+}
+
+// A node with copies of the node's own pairs, and with room for children where the node has it.
+fn try_copy_own<K: TryClone, V: TryClone>(
+    alloc: Global,
+    node: &Node<K, V>,
+) -> Result<Box<Node<K, V>>, TryReserveError>
+    requires keys { K.can_clone }
+    requires values { V.can_clone }
+    ensures copied { IfOk result (λ copy. IsCopyUpTo (AreSame K.same V.same) 0 node.now copy.value) }
+    ensures error { IfErr result (MayRefuseNodes (MayRefusePair K.may_refuse V.may_refuse) (own_pairs node.now)) }
+{
+    let pairs = try_copy_pairs(alloc, &node.pairs)?;
+    if node.is_leaf() {
+        let children = None;
+        return Ok(Box::new(alloc, Node { pairs, children })?);
+    }
+    let children = Some(Children::try_new(alloc)?);
+    Ok(Box::new(alloc, Node { pairs, children })?)
+}
+
+// Copies of the pairs, in order.
+fn try_copy_pairs<K: TryClone, V: TryClone>(
+    alloc: Global,
+    pairs: &Slots<(K, V), CAPACITY>,
+) -> Result<Slots<(K, V), CAPACITY>, TryReserveError>
+    requires keys { K.can_clone }
+    requires values { V.can_clone }
+    ensures copied { IfOk result (λ copies. AllZip (AreSame K.same V.same) pairs.now copies) }
+    ensures error { IfErr result (MayRefuseNodes (MayRefusePair K.may_refuse V.may_refuse) pairs.now) }
+{
+    let mut copies = Slots::try_new(alloc)?;
+    for i in 0..pairs.len() {
+        let pair = try_copy_pair(pairs.get(i))?;
+        copies.insert(i, pair, &mut Count::new());
+    }
+    Ok(copies)
+}
+
+// A copy of the key, and then of the value.
+fn try_copy_pair<K: TryClone, V: TryClone>(pair: &(K, V)) -> Result<(K, V), TryReserveError>
+    requires keys { K.can_clone }
+    requires values { V.can_clone }
+    ensures copied { IfOk result (AreSame K.same V.same pair.now) }
+    ensures error { IfErr result (MayRefusePair K.may_refuse V.may_refuse pair.now) }
+{
+    let key = pair.0.try_clone()?;
+    let value = pair.1.try_clone()?;
+    Ok((key, value))
+}
+
+// Puts a child after those that are there.
+fn push_child<K: Drop, V: Drop>(node: &mut Node<K, V>, child: Box<Node<K, V>>)
+    requires inner { ¬ (IsLeaf node.old) }
+    requires room { length (children_of node.old) < most_children }
+    ensures own { own_pairs node.new ≡ own_pairs node.old }
+    ensures children { children_of node.new ≡ children_of node.old ++ child.value ∷ [] }
+    ensures inner { ¬ (IsLeaf node.new) }
+{
+    let Some(children) = &mut node.children else {
+        unreachable!()
+    };
+    children.insert(children.len(), child);
+}

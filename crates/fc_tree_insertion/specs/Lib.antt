@@ -1,0 +1,5 @@
+pub mod Cascade
+pub mod Chain
+pub mod NewNodes
+pub mod Insertion
+pub mod Arrival

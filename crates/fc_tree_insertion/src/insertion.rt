@@ -1,0 +1,292 @@
+//! Insertion at a path, with the nodes that were made ahead for it.
+ghost use Rattle.std.specs.Prelude.{◌≡◌, ℕ, ◌+◌, ◌-◌, ◌*◌, ◌^◌, ◌<◌, ◌≤◌, [], ◌∷◌, ◌++◌, length, insert, MatchOption, IfSome, IfOk, IfErr, OnOk, OnErr, IsTrue, IsFalse, Some};
+ghost use Rattle.fc_base.specs.Sizes.{capacity, most_levels, level_moves, most_split_moves};
+ghost use Rattle.fc_tree_node.specs.Node.{own_pairs, children_of, pairs_of, IsLeaf, IsInner, IsLevelled, IsSoundRoot, IsBlankLeaf, IsBlankInner};
+ghost use Rattle.fc_tree_node.specs.Depth.{HasFewMoves};
+ghost use Rattle.fc_tree_node.specs.Path.{IsPath, before_gap, after_gap};
+ghost use Rattle.fc_tree_node.specs.Tree.{IsSoundMap};
+ghost use Rattle.fc_tree_insertion.specs.Cascade.{all_full, cascade, nodes_needed, insertion_moves, IsSpareLeaf};
+ghost use Rattle.fc_tree_insertion.specs.Insertion.{spread, own_pairs_after, children_after, IsHalved};
+ghost use Rattle.fc_tree_node.specs.Split.{left_length, split_moves};
+ghost use Rattle.fc_tree_insertion.specs.Arrival.{steps_after, path_after, IsPutAt, HasArrived};
+
+use crate::arrival::arrive;
+use crate::new_nodes::{NewNodes, try_new_nodes};
+use crate::spares::Spares;
+use fc_base::{Count, TryReserveError};
+use fc_tree_node::node::{CAPACITY, Node};
+use fc_tree_node::path::Path;
+use std::alloc::Global;
+use std::mem;
+
+/// Puts a pair into the gap of a sound tree that the path leads to, with every node that it takes made before. The path then leads
+/// to the pair.
+///
+/// # Errors
+/// `AllocError` if one of these nodes is refused, which takes a full leaf. The tree is then as before, and the pair comes back.
+#[inline(always)]
+pub fn try_insert<K: Drop, V: Drop>(
+    alloc: Global,
+    root: &mut Box<Node<K, V>>,
+    path: &mut Path,
+    pair: (K, V),
+    count: &mut Count,
+) -> Result<(), (K, V, TryReserveError)>
+    requires sound { IsSoundMap (Some root.old.value) }
+    requires path { IsPath path.old root.old.value }
+    requires levels { (h : ℕ) → IsLevelled h root.old.value → length path.old ≡ h + 1 }
+    requires fits { length (pairs_of root.old.value) < usize.MAX }
+
+    // The pairs before the gap, the new pair and the pairs after the gap.
+    ensures pairs { OnOk result (pairs_of root.new.value ≡ before_gap path.old root.old.value ++ pair ∷ after_gap path.old root.old.value) }
+    ensures place { OnOk result (IsPutAt path.new root.new.value pair (before_gap path.old root.old.value) (after_gap path.old root.old.value)) }
+    ensures length { OnOk result (length (pairs_of root.new.value) ≡ length (pairs_of root.old.value) + 1) }
+    ensures sound { IsSoundMap (Some root.new.value) }
+    ensures unchanged { OnErr result (root.new ≡ root.old) }
+    ensures back { IfErr result (λ e. (e.0 ≡ pair.0) × (e.1 ≡ pair.1)) }
+    ensures error { IfErr result (λ e. e.2 ≡ TryReserveError.AllocError) }
+    ensures leaf { OnErr result (capacity ≤ length (pairs_of root.old.value)) }
+    ensures comparisons { count.new.comparisons ≡ count.old.comparisons }
+    ensures no_move { OnErr result (count.new.moves ≡ count.old.moves) }
+    ensures moves { OnOk result (HasFewMoves (length (pairs_of root.new.value)) count.old count.new) }
+    ensures moved { OnOk result (count.old.moves < count.new.moves) }
+{
+    match try_new_nodes(alloc, root, path.as_slice()) {
+        Ok(new_nodes) => {
+            insert(root, path, pair, new_nodes, count);
+            Ok(())
+        }
+        Err(e) => Err((pair.0, pair.1, e)),
+    }
+}
+
+/// Puts `pair` into the gap that the path leads to. Each node that this takes is in `new_nodes`, so nothing can be refused once
+/// the first pair moves. The path then leads to the pair in the tree as it is now.
+pub fn insert<K: Drop, V: Drop>(
+    root: &mut Box<Node<K, V>>,
+    path: &mut Path,
+    pair: (K, V),
+    new_nodes: NewNodes<K, V>,
+    count: &mut Count,
+)
+    requires some { 0 < length path.old }
+    requires short { steps_after path.old root.old.value ≤ most_levels }
+    requires path { IsPath path.old root.old.value }
+    requires sound { IsSoundRoot (length path.old - 1) root.old.value }
+    requires new_nodes { new_nodes ≡ nodes_needed path.old root.old.value }
+
+    // The pairs before the gap, the new pair and the pairs after the gap.
+    ensures pairs { pairs_of root.new.value ≡ before_gap path.old root.old.value ++ pair ∷ after_gap path.old root.old.value }
+
+    // The path leads to the new pair, with the pairs that were before the gap before it and those after the gap after it.
+    ensures place { IsPutAt path.new root.new.value pair (before_gap path.old root.old.value) (after_gap path.old root.old.value) }
+
+    // The tree is as high as before, unless each node of the path was full: then a new root stands above it, with one pair.
+    ensures same_height { IsFalse (all_full path.old root.old.value) → IsSoundRoot (length path.old - 1) root.new.value }
+    ensures higher { IsTrue (all_full path.old root.old.value) → IsSoundRoot (length path.old) root.new.value × (length (own_pairs root.new.value) ≡ 1) }
+    ensures comparisons { count.new.comparisons ≡ count.old.comparisons }
+    ensures moves { count.new.moves ≤ count.old.moves + insertion_moves path.old root.old.value }
+    ensures few_moves { count.new.moves ≤ count.old.moves + level_moves * length path.old }
+    ensures moved { count.old.moves < count.new.moves }
+{
+    let nodes = new_nodes.len();
+    let NewNodes { leaf, mut inner } = new_nodes;
+    insert_with(root, path.as_slice(), pair, leaf, &mut inner, count);
+    arrive(path, nodes);
+}
+
+// Inserts with the nodes made ahead, and uses up all of them.
+fn insert_with<K: Drop, V: Drop>(
+    root: &mut Box<Node<K, V>>,
+    path: &[u8],
+    pair: (K, V),
+    leaf: Option<Box<Node<K, V>>>,
+    inner: &mut Spares<K, V>,
+    count: &mut Count,
+)
+    requires some { 0 < length path.now }
+    requires path { IsPath path.now root.old.value }
+    requires sound { IsSoundRoot (length path.now - 1) root.old.value }
+    requires leaf { IsSpareLeaf leaf (cascade path.now root.old.value) }
+    requires inner { inner.old ≡ nodes_needed path.now root.old.value - 1 }
+    ensures used_up { inner.new ≡ 0 }
+    ensures pairs { pairs_of root.new.value ≡ before_gap path.now root.old.value ++ pair ∷ after_gap path.now root.old.value }
+    ensures place { IsPutAt (path_after (nodes_needed path.now root.old.value) path.now) root.new.value pair (before_gap path.now root.old.value) (after_gap path.now root.old.value) }
+    ensures same_height { IsFalse (all_full path.now root.old.value) → IsSoundRoot (length path.now - 1) root.new.value }
+    ensures higher { IsTrue (all_full path.now root.old.value) → IsSoundRoot (length path.now) root.new.value × (length (own_pairs root.new.value) ≡ 1) }
+    ensures comparisons { count.new.comparisons ≡ count.old.comparisons }
+    ensures moves { count.new.moves ≤ count.old.moves + insertion_moves path.now root.old.value }
+    ensures few_moves { count.new.moves ≤ count.old.moves + level_moves * length path.now }
+    ensures moved { count.old.moves < count.new.moves }
+{
+    match insert_below(root, path, pair, leaf, inner, count) {
+        None => {}
+        Some((up, right)) => {
+            let blank = inner.take();
+            grow(root, up, right, blank, count);
+        }
+    }
+}
+
+/// Puts a new root above the root and the node on its right, with the pair between them.
+pub fn grow<K: Drop, V: Drop>(
+    root: &mut Box<Node<K, V>>,
+    pair: (K, V),
+    right: Box<Node<K, V>>,
+    blank: Box<Node<K, V>>,
+    count: &mut Count,
+)
+    requires { IsBlankInner blank.value }
+    ensures pairs { own_pairs root.new.value ≡ pair ∷ [] }
+    ensures children { children_of root.new.value ≡ root.old.value ∷ right.value ∷ [] }
+    ensures comparisons { count.new.comparisons ≡ count.old.comparisons }
+    ensures moves { count.new.moves ≡ count.old.moves + 1 }
+{
+    let left = mem::replace(root, blank);
+    let Node { pairs, children } = &mut **root;
+    let Some(children) = children else {
+        unreachable!()
+    };
+    pairs.insert(0, pair, count);
+    children.insert(0, left);
+    children.insert(1, right);
+}
+
+// Puts `pair` into the gap below the node. A full node is halved: it hands out the pair in its middle and a node of those
+// after it.
+fn insert_below<K: Drop, V: Drop>(
+    node: &mut Node<K, V>,
+    path: &[u8],
+    pair: (K, V),
+    leaf: Option<Box<Node<K, V>>>,
+    inner: &mut Spares<K, V>,
+    count: &mut Count,
+) -> Option<((K, V), Box<Node<K, V>>)>
+    requires some { 0 < length path.now }
+    requires path { IsPath path.now node.old }
+    requires levels { IsLevelled (length path.now - 1) node.old }
+    requires leaf { IsSpareLeaf leaf (cascade path.now node.old) }
+    requires inner { cascade path.now node.old ≤ inner.old + 1 }
+
+    // The pairs are those that were before the gap, the new pair and those that were after it.
+    ensures pairs { spread node.new result ≡ before_gap path.now node.old ++ pair ∷ after_gap path.now node.old }
+
+    // The new pair stands where the path leads it, in the node or in the one that is handed out.
+    ensures arrived { HasArrived path.now node.old node.new result }
+
+    // The levels are as before, in each half of a node that was full.
+    ensures levels { IsLevelled (length path.now - 1) node.new × IfSome result (λ s. IsLevelled (length path.now - 1) s.1.value) }
+    ensures size { MatchOption result (length (own_pairs node.old) ≤ length (own_pairs node.new)) (λ s. IsHalved node.new × IsHalved s.1.value) }
+
+    // The node is halved where all of the path was full, and an inner node is used for each that was halved above the leaf.
+    ensures halved { MatchOption result (cascade path.now node.old < length path.now) (λ _. cascade path.now node.old ≡ length path.now) }
+    ensures used { inner.new + (cascade path.now node.old - 1) ≡ inner.old }
+    ensures comparisons { count.new.comparisons ≡ count.old.comparisons }
+    ensures moves { MatchOption result (count.new.moves ≤ count.old.moves + most_split_moves * cascade path.now node.old + capacity) (λ _. count.new.moves ≤ count.old.moves + most_split_moves * cascade path.now node.old) }
+    ensures moved { count.old.moves < count.new.moves }
+{
+    let i = path[0] as usize;
+    if path.len() == 1 {
+        return put_leaf(node, i, pair, leaf, count);
+    }
+    let rest = &path[1..];
+    let below = match &mut node.children {
+        None => unreachable!(),
+        Some(children) => {
+            let child: &mut Node<K, V> = children.get_mut(i);
+            insert_below(child, rest, pair, leaf, inner, count)
+        }
+    };
+    match below {
+        None => None,
+        Some((up, right)) => put_inner(node, i, up, right, inner, count),
+    }
+}
+
+// Puts `pair` into a leaf, which is halved with the spare leaf where it is full.
+fn put_leaf<K: Drop, V: Drop>(
+    node: &mut Node<K, V>,
+    i: usize,
+    pair: (K, V),
+    spare: Option<Box<Node<K, V>>>,
+    count: &mut Count,
+) -> Option<((K, V), Box<Node<K, V>>)>
+    requires in_bounds { i ≤ length (own_pairs node.old) }
+    requires leaf { IsLeaf node.old }
+    requires spare { MatchOption spare (length (own_pairs node.old) < capacity) (λ b. (length (own_pairs node.old) ≡ capacity) × IsBlankLeaf b.value) }
+    ensures pairs { own_pairs_after node.new result ≡ insert (own_pairs node.old) i pair }
+    ensures leaf { IsLeaf node.new × IfSome result (λ s. IsLeaf s.1.value) }
+    ensures size { MatchOption result (length (own_pairs node.new) ≤ capacity) (λ s. IsHalved node.new × IsHalved s.1.value) }
+    ensures halved { MatchOption result (length (own_pairs node.old) < capacity) (λ _. length (own_pairs node.old) ≡ capacity) }
+    ensures left { IfSome result (λ _. length (own_pairs node.new) ≡ left_length i) }
+    ensures comparisons { count.new.comparisons ≡ count.old.comparisons }
+    ensures moves { MatchOption result (count.new.moves ≤ count.old.moves + capacity) (λ _. count.new.moves ≤ count.old.moves + most_split_moves) }
+    ensures exact { MatchOption result (count.new.moves ≡ count.old.moves + (length (own_pairs node.old) - i + 1)) (λ _. count.new.moves ≡ count.old.moves + split_moves i) }
+{
+    match spare {
+        None => {
+            node.insert_leaf(i, pair, count);
+            None
+        }
+        Some(right) => Some(node.split_leaf(i, pair, right, count)),
+    }
+}
+
+/// Puts `pair` into an inner node with the child on its right. The node is halved with one of the spare nodes where it is full. It is
+/// inlined, since an insertion that splits would pay for a call at each node above the leaf.
+#[inline(always)]
+pub fn put_inner<K: Drop, V: Drop>(
+    node: &mut Node<K, V>,
+    i: usize,
+    pair: (K, V),
+    child: Box<Node<K, V>>,
+    spares: &mut Spares<K, V>,
+    count: &mut Count,
+) -> Option<((K, V), Box<Node<K, V>>)>
+    requires in_bounds { i ≤ length (own_pairs node.old) }
+    requires inner { IsInner node.old }
+    requires some { length (own_pairs node.old) ≡ capacity → 0 < spares.old }
+    ensures pairs { own_pairs_after node.new result ≡ insert (own_pairs node.old) i pair }
+    ensures children { children_after node.new result ≡ insert (children_of node.old) (i + 1) child.value }
+    ensures inner { IsInner node.new × IfSome result (λ s. IsInner s.1.value) }
+    ensures size { MatchOption result (length (own_pairs node.new) ≤ capacity) (λ s. IsHalved node.new × IsHalved s.1.value) }
+    ensures halved { MatchOption result (length (own_pairs node.old) < capacity) (λ _. length (own_pairs node.old) ≡ capacity) }
+    ensures left { IfSome result (λ _. length (own_pairs node.new) ≡ left_length i) }
+    ensures used { MatchOption result (spares.new ≡ spares.old) (λ _. spares.new + 1 ≡ spares.old) }
+    ensures comparisons { count.new.comparisons ≡ count.old.comparisons }
+    ensures moves { MatchOption result (count.new.moves ≤ count.old.moves + capacity) (λ _. count.new.moves ≤ count.old.moves + most_split_moves) }
+    ensures exact { MatchOption result (count.new.moves ≡ count.old.moves + (length (own_pairs node.old) - i + 1)) (λ _. count.new.moves ≡ count.old.moves + split_moves i) }
+{
+    if node.len() < CAPACITY {
+        node.insert_inner(i, pair, child, count);
+        return None;
+    }
+    let right = spares.take();
+    Some(node.split_inner(i, pair, child, right, count))
+}
+
+/// The root of a tree of one pair: a leaf.
+///
+/// # Errors
+/// `AllocError` if the leaf is refused. The pair then comes back.
+pub fn first_leaf<K: Drop, V: Drop>(
+    alloc: Global,
+    pair: (K, V),
+    count: &mut Count,
+) -> Result<Box<Node<K, V>>, (K, V, TryReserveError)>
+    ensures pairs { IfOk result (λ root. pairs_of root.value ≡ pair ∷ []) }
+    ensures sound { IfOk result (λ root. IsSoundRoot 0 root.value) }
+    ensures back { IfErr result (λ e. (e.0, e.1) ≡ pair) }
+    ensures error { IfErr result (λ e. e.2 ≡ TryReserveError.AllocError) }
+    ensures comparisons { count.new.comparisons ≡ count.old.comparisons }
+    ensures moves { IfOk result (λ _. count.new.moves ≡ count.old.moves + 1) }
+    ensures no_move { IfErr result (λ _. count.new.moves ≡ count.old.moves) }
+{
+    match Node::try_leaf(alloc) {
+        Ok(mut root) => {
+            root.insert_leaf(0, pair, count);
+            Ok(root)
+        }
+        Err(e) => Err((pair.0, pair.1, e)),
+    }
+}

@@ -1,0 +1,59 @@
+//! Insertion into a leaf that has room, by which no other node changes.
+ghost use Rattle.std.specs.Prelude.{◌≡◌, ◌+◌, ◌-◌, ◌<◌, ◌≤◌, ◌∷◌, ◌++◌, ◌↔◌, length, IsTrue};
+ghost use Rattle.fc_base.specs.Sizes.{capacity};
+ghost use Rattle.fc_tree_node.specs.Node.{own_pairs, pairs_of, IsLevelled};
+ghost use Rattle.fc_tree_node.specs.Path.{IsPath, before_gap, after_gap};
+ghost use Rattle.fc_tree_insertion.specs.Arrival.{IsPutAt};
+ghost use Rattle.fc_tree_insertion.specs.Cascade.{leaf_at};
+
+use fc_base::Count;
+use fc_tree_node::node::{CAPACITY, Node};
+
+/// Whether the leaf that the path ends in has room for a pair.
+pub fn has_room<K, V>(node: &Node<K, V>, path: &[u8]) -> bool
+    requires some { 0 < length path.now }
+    requires path { IsPath path.now node.now }
+    requires levels { IsLevelled (length path.now - 1) node.now }
+    ensures { IsTrue result ↔ (length (own_pairs (leaf_at path.now node.now)) < capacity) }
+{
+    if path.len() == 1 {
+        return node.len() < CAPACITY;
+    }
+    has_room(node.child(path[0] as usize), &path[1..])
+}
+
+/// Puts `pair` into the gap that the path leads to, whose leaf has room. The path then leads to the pair.
+pub fn insert_in_leaf<K: Drop, V: Drop>(
+    node: &mut Node<K, V>,
+    path: &[u8],
+    pair: (K, V),
+    count: &mut Count,
+)
+    requires some { 0 < length path.now }
+    requires path { IsPath path.now node.old }
+    requires levels { IsLevelled (length path.now - 1) node.old }
+    requires room { length (own_pairs (leaf_at path.now node.old)) < capacity }
+
+    // The pairs before the gap, the new pair and the pairs after the gap.
+    ensures pairs { pairs_of node.new ≡ before_gap path.now node.old ++ pair ∷ after_gap path.now node.old }
+    ensures place { IsPutAt path.now node.new pair (before_gap path.now node.old) (after_gap path.now node.old) }
+
+    // The levels are as before.
+    ensures levels { IsLevelled (length path.now - 1) node.new }
+    ensures size { length (own_pairs node.old) ≤ length (own_pairs node.new) }
+    ensures comparisons { count.new.comparisons ≡ count.old.comparisons }
+    ensures moves { count.new.moves ≤ count.old.moves + capacity }
+    ensures moved { count.old.moves < count.new.moves }
+{
+    let i = path[0] as usize;
+    if path.len() == 1 {
+        return node.insert_leaf(i, pair, count);
+    }
+    match &mut node.children {
+        None => unreachable!(),
+        Some(children) => {
+            let child: &mut Node<K, V> = children.get_mut(i);
+            insert_in_leaf(child, &path[1..], pair, count);
+        }
+    }
+}

@@ -1,0 +1,8 @@
+//! Insertion at a path down a tree, with every node that it takes made before a pair moves.
+#![tactic(auto)]
+
+mod arrival;
+pub mod insertion;
+pub mod leaf;
+pub mod new_nodes;
+pub mod spares;

@@ -1,0 +1,130 @@
+//! The nodes that an insertion needs, made before a pair moves.
+ghost use Rattle.std.specs.Prelude.{◌≡◌, ◌+◌, ◌-◌, ◌<◌, ◌≤◌, length, IfOk, IfErr, OnErr, IsOkAnd};
+ghost use Rattle.fc_base.specs.Sizes.{capacity, most_levels};
+ghost use Rattle.fc_tree_node.specs.Node.{own_pairs, IsLevelled};
+ghost use Rattle.fc_tree_node.specs.Path.{IsPath};
+ghost use Rattle.fc_tree_insertion.specs.Cascade.{leaf_at, cascade, nodes_needed};
+
+use crate::spares::Spares;
+use fc_base::TryReserveError;
+use fc_tree_node::node::{CAPACITY, Node};
+use std::alloc::Global;
+use std::marker::Model;
+
+/// Nodes that hold nothing, made ahead for one insertion: a leaf for the leaf that it splits, and an inner node for each
+/// further node that it splits and for a new root. A contract sees how many there are.
+#[derive(Drop)]
+pub struct NewNodes<K, V> {
+    pub(crate) leaf: Option<Box<Node<K, V>>>,
+    pub(crate) inner: Spares<K, V>,
+}
+
+impl<K, V> Model for NewNodes<K, V> {
+    ghost use Rattle.std.specs.Prelude.{ℕ};
+    ghost use Rattle.std.specs.Coded.{coded_ℕ};
+
+    ghost Value = { ℕ };
+
+    ghost coded = { coded_ℕ };
+
+    ghost use Rattle.fc_tree_insertion.specs.NewNodes.{new_nodes_len, AreNewNodes};
+
+    ghost view = { λ r. new_nodes_len r };
+
+    ghost invariant = { λ r. AreNewNodes r };
+}
+
+impl<K, V> NewNodes<K, V> {
+    /// How many nodes there are.
+    pub fn len(&self) -> usize
+        ensures { result ≡ self.now }
+    {
+        if self.leaf.is_none() {
+            0
+        } else {
+            self.inner.len() + 1
+        }
+    }
+}
+
+/// Makes the nodes that an insertion at the path needs. The tree is only read.
+///
+/// # Errors
+/// `AllocError` if one of them is refused, and those made before are dropped. Where the leaf has room nothing is asked for.
+pub fn try_new_nodes<K: Drop, V: Drop>(
+    alloc: Global,
+    root: &Node<K, V>,
+    path: &[u8],
+) -> Result<NewNodes<K, V>, TryReserveError>
+    requires some { 0 < length path.now }
+    requires short { length path.now ≤ most_levels }
+    requires path { IsPath path.now root.now }
+    requires levels { IsLevelled (length path.now - 1) root.now }
+
+    // As many nodes as the insertion uses.
+    ensures ok { IfOk result (λ made. made ≡ nodes_needed path.now root.now) }
+
+    // An insertion into a leaf with room needs none, and only one into a full leaf can be refused.
+    ensures leaf_with_room { length (own_pairs (leaf_at path.now root.now)) < capacity → IsOkAnd result (λ made. made ≡ 0) }
+    ensures full { OnErr result (length (own_pairs (leaf_at path.now root.now)) ≡ capacity) }
+    ensures error { IfErr result (λ e. e ≡ TryReserveError.AllocError) }
+{
+    let split = count_full(root, path);
+    if split == 0 {
+        return Ok(NewNodes {
+            leaf: None,
+            inner: Spares::new(),
+        });
+    }
+    let leaf = Node::try_leaf(alloc)?;
+    let above = if split == path.len() {
+        split
+    } else {
+        split - 1
+    };
+    let inner = try_spares(alloc, above)?;
+    Ok(NewNodes {
+        leaf: Some(leaf),
+        inner,
+    })
+}
+
+/// Makes as many inner nodes.
+///
+/// # Errors
+/// `AllocError` if one of them is refused, and those made before are dropped.
+#[inline(always)]
+pub fn try_spares<K: Drop, V: Drop>(
+    alloc: Global,
+    count: usize,
+) -> Result<Spares<K, V>, TryReserveError>
+    requires { count ≤ most_levels }
+    ensures len { IfOk result (λ spares. spares ≡ count) }
+    ensures error { IfErr result (λ e. e ≡ TryReserveError.AllocError) }
+{
+    let mut spares = Spares::new();
+    for _i in 0..count {
+        let node = Node::try_inner(alloc)?;
+        spares.push(node);
+    }
+    Ok(spares)
+}
+
+// How many nodes of the path are full, one after another from the leaf upwards.
+fn count_full<K, V>(node: &Node<K, V>, path: &[u8]) -> usize
+    requires some { 0 < length path.now }
+    requires path { IsPath path.now node.now }
+    requires levels { IsLevelled (length path.now - 1) node.now }
+    ensures { result ≡ cascade path.now node.now }
+{
+    if path.len() == 1 {
+        return if node.len() == CAPACITY { 1 } else { 0 };
+    }
+    let rest = &path[1..];
+    let below = count_full(node.child(path[0] as usize), rest);
+    if below == rest.len() && node.len() == CAPACITY {
+        path.len()
+    } else {
+        below
+    }
+}

@@ -1,0 +1,106 @@
+//! Inner nodes that hold nothing, made ahead for the nodes that an insertion splits.
+ghost use Rattle.std.specs.Prelude.{◌≡◌, ◌+◌, ◌<◌, ◌≤◌, Option, None, Some};
+ghost use Rattle.std.specs.declared.boxed.Box.{Box};
+ghost use Rattle.std.specs.declared.alloc.Global.{Global};
+ghost use Rattle.fc_base.specs.Sizes.{most_levels};
+ghost use Rattle.fc_tree_node.specs.Node.{IsBlankInner};
+ghost use Rattle.fc_tree_insertion.specs.Chain.{IsAbove};
+
+use fc_tree_node::node::Node;
+use std::marker::Model;
+
+/// Inner nodes that hold no pair, each the only child of the one that was made next. So they need no list of their own. A contract
+/// sees how many there are.
+#[derive(Drop)]
+pub struct Spares<K, V> {
+    top: Option<Box<Node<K, V>>>,
+    len: usize,
+}
+
+impl<K, V> Model for Spares<K, V> {
+    ghost use Rattle.std.specs.Prelude.{ℕ, ◌≤◌};
+    ghost use Rattle.std.specs.Coded.{coded_ℕ};
+    ghost use Rattle.fc_base.specs.Sizes.{most_levels};
+    ghost use Rattle.fc_tree_insertion.specs.Chain.{AreSpares};
+
+    ghost Value = { ℕ };
+
+    ghost coded = { coded_ℕ };
+
+    ghost view = { λ s. s.len };
+
+    ghost invariant = { λ s. (s.len ≤ most_levels) × AreSpares s.len s.top };
+}
+
+impl<K, V> Spares<K, V> {
+    // None.
+    pub(crate) fn new() -> Spares<K, V>
+        ensures { result ≡ 0 }
+    {
+        Spares { top: None, len: 0 }
+    }
+
+    // How many there are.
+    pub(crate) fn len(&self) -> usize
+        ensures value { result ≡ self.now }
+        ensures fits { self.now ≤ most_levels }
+    {
+        self.len
+    }
+}
+
+impl<K: Drop, V: Drop> Spares<K, V> {
+    // Adds a node that holds nothing.
+    pub(crate) fn push(&mut self, node: Box<Node<K, V>>)
+        requires blank { IsBlankInner node.value }
+        requires few { self.old < most_levels }
+        ensures { self.new ≡ self.old + 1 }
+    {
+        let mut node = node;
+        if let Some(top) = self.top.take() {
+            put_below(&mut node, top);
+        }
+        self.top = Some(node);
+        self.len += 1;
+    }
+
+    /// Takes out the node that was added last.
+    pub fn take(&mut self) -> Box<Node<K, V>>
+        requires { 0 < self.old }
+        ensures node { IsBlankInner result.value }
+        ensures len { self.new + 1 ≡ self.old }
+    {
+        let Some(mut node) = self.top.take() else {
+            unreachable!()
+        };
+        self.top = take_below(&mut node);
+        self.len -= 1;
+        node
+    }
+}
+
+// Makes `below` the node's only child.
+fn put_below<K: Drop, V: Drop>(node: &mut Node<K, V>, below: Box<Node<K, V>>)
+    requires { IsAbove node.old None }
+    ensures { IsAbove node.new (Some below) }
+{
+    let Some(children) = &mut node.children else {
+        unreachable!()
+    };
+    children.insert(0, below);
+}
+
+// Takes the node's only child out, if it has one.
+fn take_below<K, V>(node: &mut Node<K, V>) -> Option<Box<Node<K, V>>>
+    requires { (below : Option (Box (Node K V) Global)) × IsAbove node.old below }
+    ensures below { IsAbove node.old result }
+    ensures none { IsAbove node.new None }
+{
+    let Some(children) = &mut node.children else {
+        unreachable!()
+    };
+    if children.len() == 0 {
+        return None;
+    }
+    Some(children.remove(0))
+}

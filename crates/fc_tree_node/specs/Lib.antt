@@ -1,0 +1,14 @@
+pub mod Weave
+pub mod Node
+pub mod Tree
+pub mod TreePlace
+pub mod Path
+pub mod Steps
+pub mod Split
+pub mod Siblings
+pub mod Bordered
+pub mod Place
+pub mod Leaf
+pub mod Depth
+pub mod Shrunk
+pub mod LeafGap

@@ -1,0 +1,31 @@
+-- A map as contracts see it: the tree at its root, whose pairs are the map's list.
+use Rattle.std.specs.Prelude.{ℕ, ◌≤◌, List, [], Option, Some, None}
+use Rattle.std.specs.declared.boxed.Box.{Box}
+use Rattle.std.specs.declared.alloc.Global.{Global}
+use Rattle.fc_base.specs.Sizes.{most_height}
+use Rattle.fc_tree_node.specs.declared.node.Node.{Node}
+use Rattle.fc_tree_node.specs.Node.{pairs_of, IsSoundRoot}
+
+-- What contracts see of a map: the node at the root of its tree, if there is one.
+abbrev pub Map : Type 0 → Type 0 → Type 0
+Map K V = Option (Node K V)
+
+-- The pairs of a map, in ascending order of their keys.
+abbrev pub entries : {K V : Type 0} → Map K V → List (K × V)
+entries None = []
+entries (Some root) = pairs_of root
+
+-- The node in the box, if there is one.
+abbrev pub root_of : {K V : Type 0} → Option (Box (Node K V) Global) → Map K V
+root_of None = None
+root_of (Some root) = Some root.value
+
+-- The tree is sound, with one height that is not too high for a path, if there is one.
+abbrev pub IsSoundMap : {K V : Type 0} → Map K V → Type 0
+IsSoundMap None = Unit {0}
+IsSoundMap (Some root) = (h : ℕ) × (h ≤ most_height) × IsSoundRoot h root
+
+-- The tree is sound and has at most h levels below its root, if there is one.
+abbrev pub IsSoundWithin : {K V : Type 0} → ℕ → Map K V → Type 0
+IsSoundWithin h None = Unit {0}
+IsSoundWithin h (Some root) = (g : ℕ) × (g ≤ h) × IsSoundRoot g root

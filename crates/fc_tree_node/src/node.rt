@@ -1,0 +1,124 @@
+//! Nodes of a B-tree, each with its pairs and, where it is no leaf, a child on either side of each pair.
+ghost use Rattle.std.specs.Prelude.{◌≡◌, ◌+◌, ◌<◌, ◌≤◌, [], length, slice_index_or, IfOk, IfErr, IsTrue, ◌↔◌};
+ghost use Rattle.fc_base.specs.Sizes.{capacity, most_children};
+ghost use Rattle.fc_tree_node.specs.Node.{own_pairs, children_of, child_at, IsLeaf, IsBlankLeaf, IsBlankInner};
+
+use fc_base::TryReserveError;
+use fc_tree_slots::children::Children;
+use fc_tree_slots::slots::Slots;
+use std::alloc::Global;
+
+mod bulk;
+mod mend;
+mod opening;
+mod split;
+
+pub use split::left_len;
+
+/// The most pairs that a node holds.
+pub const CAPACITY: usize = 15;
+
+/// The fewest pairs that a node below the root holds.
+pub const MIN_LEN: usize = 7;
+
+/// A node: at most `CAPACITY` pairs, and in an inner node one child more than pairs. A leaf has no room for children.
+#[derive(Drop)]
+pub struct Node<K, V> {
+    /// The pairs of the node itself, in order.
+    pub pairs: Slots<(K, V), CAPACITY>,
+    /// The children, in order; a leaf has no room for them.
+    pub children: Option<Children<Box<Node<K, V>>>>,
+}
+
+impl<K: Drop, V: Drop> Node<K, V> {
+    /// A leaf that holds nothing, made in two requests: for its pairs and for its box.
+    ///
+    /// # Errors
+    /// `AllocError` if either is refused. Nothing is then left after.
+    pub fn try_leaf(alloc: Global) -> Result<Box<Node<K, V>>, TryReserveError>
+        ensures ok { IfOk result (λ b. IsBlankLeaf b.value) }
+        ensures error { IfErr result (λ e. e ≡ TryReserveError.AllocError) }
+    {
+        let pairs = Slots::try_new(alloc)?;
+        Ok(Box::new(
+            alloc,
+            Node {
+                pairs,
+                children: None,
+            },
+        )?)
+    }
+
+    /// An inner node that holds nothing, made in three requests: for its pairs, for its children and for its box.
+    ///
+    /// # Errors
+    /// `AllocError` if one is refused. Nothing is then left after.
+    pub fn try_inner(alloc: Global) -> Result<Box<Node<K, V>>, TryReserveError>
+        ensures ok { IfOk result (λ b. IsBlankInner b.value) }
+        ensures error { IfErr result (λ e. e ≡ TryReserveError.AllocError) }
+    {
+        let pairs = Slots::try_new(alloc)?;
+        let children = Children::try_new(alloc)?;
+        Ok(Box::new(
+            alloc,
+            Node {
+                pairs,
+                children: Some(children),
+            },
+        )?)
+    }
+}
+
+impl<K, V> Node<K, V> {
+    /// How many pairs the node holds itself.
+    pub fn len(&self) -> usize
+        ensures value { result ≡ length (own_pairs self.now) }
+        ensures fits { length (own_pairs self.now) ≤ capacity }
+    {
+        self.pairs.len()
+    }
+
+    /// Whether the node has no room for children.
+    pub fn is_leaf(&self) -> bool
+        ensures { IsTrue result ↔ IsLeaf self.now }
+    {
+        self.children.is_none()
+    }
+
+    /// The node's own pair at `index`.
+    pub fn pair(&self, index: usize) -> &(K, V)
+        requires { index < length (own_pairs self.now) }
+        ensures { result.now ≡ slice_index_or (own_pairs self.now) index result.now }
+    {
+        self.pairs.get(index)
+    }
+
+    /// The node's own pairs, in order.
+    pub fn pairs(&self) -> &[(K, V)]
+        ensures { result.now ≡ own_pairs self.now }
+    {
+        self.pairs.as_slice()
+    }
+
+    /// How many children the node has: none in a leaf.
+    pub fn child_count(&self) -> usize
+        ensures value { result ≡ length (children_of self.now) }
+        ensures fits { length (children_of self.now) ≤ most_children }
+    {
+        match &self.children {
+            None => 0,
+            Some(children) => children.len(),
+        }
+    }
+
+    /// The child at `index`.
+    pub fn child(&self, index: usize) -> &Node<K, V>
+        requires { index < length (children_of self.now) }
+        ensures { result.now ≡ child_at self.now index }
+    {
+        match &self.children {
+            None => unreachable!(),
+            Some(children) => children.get(index),
+        }
+    }
+}

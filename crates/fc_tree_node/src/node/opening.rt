@@ -1,0 +1,54 @@
+//! Pairs and children taken out of a node at its ends, with nothing mended: for a walk that takes a tree apart.
+ghost use Rattle.std.specs.Prelude.{◌≡◌, ◌<◌, [], ◌∷◌, ◌++◌, length};
+ghost use Rattle.fc_tree_node.specs.Node.{own_pairs, children_of};
+
+use super::Node;
+use fc_base::Count;
+
+impl<K, V> Node<K, V> {
+    /// Takes the node's own first pair out. Its children stay.
+    pub fn take_first_pair(&mut self) -> (K, V)
+        requires { 0 < length (own_pairs self.old) }
+        ensures pairs { own_pairs self.old ≡ result ∷ own_pairs self.new }
+        ensures children { children_of self.new ≡ children_of self.old }
+    {
+        self.pairs.remove(0, &mut Count::new())
+    }
+
+    /// Takes the node's own last pair out. Its children stay.
+    pub fn take_last_pair(&mut self) -> (K, V)
+        requires { 0 < length (own_pairs self.old) }
+        ensures pairs { own_pairs self.old ≡ own_pairs self.new ++ result ∷ [] }
+        ensures children { children_of self.new ≡ children_of self.old }
+    {
+        let last = self.pairs.len() - 1;
+        self.pairs.remove(last, &mut Count::new())
+    }
+
+    /// Takes the first child out. The node's own pairs stay.
+    pub fn take_first_child(&mut self) -> Box<Node<K, V>>
+        requires { 0 < length (children_of self.old) }
+        ensures children { children_of self.old ≡ result.value ∷ children_of self.new }
+        ensures pairs { own_pairs self.new ≡ own_pairs self.old }
+    {
+        match &mut self.children {
+            None => unreachable!(),
+            Some(children) => children.remove(0),
+        }
+    }
+
+    /// Takes the last child out. The node's own pairs stay.
+    pub fn take_last_child(&mut self) -> Box<Node<K, V>>
+        requires { 0 < length (children_of self.old) }
+        ensures children { children_of self.old ≡ children_of self.new ++ result.value ∷ [] }
+        ensures pairs { own_pairs self.new ≡ own_pairs self.old }
+    {
+        match &mut self.children {
+            None => unreachable!(),
+            Some(children) => {
+                let last = children.len() - 1;
+                children.remove(last)
+            }
+        }
+    }
+}

@@ -1,0 +1,244 @@
+-- A node from which a pair was removed, by what is left below it.
+use Rattle.std.proofs.Common.{length-append, ◌≡◌, ℕ, suc, zero, ◌+◌, ◌-◌, ◌<◌, ◌≤◌, List, [], ◌∷◌, ◌++◌, length, get_or, map, take, drop, refl, sym, ap, subst, ◌∙◌, arith, append_assoc, add-one, append-nil, inr, Box, Some}
+use Rattle.std.specs.Prelude.{slice_set, slice_range, slice_get, ◌⊎◌}
+use Rattle.std.specs.List.{AllByRecursion, remove}
+use Rattle.std.proofs.lemmas.List.Edits.{length-remove}
+use Rattle.std.proofs.lemmas.List.{length-map, map-append}
+use Rattle.std.specs.declared.alloc.Global.{Global}
+use Rattle.fc_base.specs.Sizes.{capacity}
+use Rattle.fc_tree_node.specs.Weave.{weave}
+use Rattle.fc_tree_node.specs.declared.node.Node.{Node, out-Node}
+use Rattle.fc_tree_node.specs.Node.{items_or_none, own_pairs, children_of, child_at, boxed, pairs_of, IsLeaf, IsInner, IsLevelled, IsSound, IsSoundRoot}
+use Rattle.fc_tree_node.specs.Place.{before_child, after_child, before_own, after_own, IsPlace, place_pair, before_pair, after_pair}
+use Rattle.fc_tree_removal.specs.Mending.{IsShortAt}
+use Rattle.fc_tree_node.specs.Shrunk.{IsShrunk}
+use Rattle.fc_tree_node.proofs.Lists.{length_take, take_drop, set_is, length_set, all_front, all_back}
+use Rattle.fc_tree_node.proofs.Weaves.{weave_parts}
+use Rattle.fc_tree_node.proofs.Pairs.{pairs_is, leaf_children, leaf_pairs, child_is, child_below}
+use Rattle.fc_tree_node.proofs.Made.{IsChildSet, children_in, inner_length}
+use Rattle.fc_tree_node.proofs.Cuts.{last_out}
+use Rattle.fc_tree_node.proofs.Gaps.{drop_item, inner_gap, item_there, before_child_pair, after_none}
+use Rattle.fc_tree_node.proofs.Siblings.{around_one}
+
+module _ {X : Type 0} where
+  pub take_set : (xs : List X) (i : ℕ) (y : X) → take i (slice_set xs i y) ≡ take i xs
+  take_set [] i y = refl
+  take_set (x ∷ xs) zero y = refl
+  take_set (x ∷ xs) (suc i) y = ap (λ zs. x ∷ zs) (take_set xs i y)
+
+  pub drop_set : (xs : List X) (i : ℕ) (y : X) → drop (suc i) (slice_set xs i y) ≡ drop (suc i) xs
+  drop_set [] i y = refl
+  drop_set (x ∷ xs) zero y = refl
+  drop_set (x ∷ xs) (suc i) y = drop_set xs i y
+
+  pub at_set : (xs : List X) (i : ℕ) (y d : X) → i < length xs → get_or (slice_set xs i y) i d ≡ y
+  at_set [] i y d h = absurd (omega arith)
+  at_set (x ∷ xs) zero y d h = refl
+  at_set (x ∷ xs) (suc i) y d h = at_set xs i y d (omega arith)
+
+  no_pairs : (xs : List X) → length xs ≡ 0 → xs ≡ []
+  no_pairs [] e = refl
+  no_pairs (x ∷ xs) e = absurd (omega arith)
+
+  pub get_there : (xs : List X) (i : ℕ) (x : X) → i < length xs → x ≡ get_or xs i x → slice_get xs i ≡ Some x
+  get_there xs i x h e = let t = item_there xs i h in t.2 ∙ ap Some (sym (t.1 x) ∙ sym e)
+
+module _ {K V : Type 0} where
+  -- a node with children lies above the leaves
+  pub record IsAbove (h : ℕ) (n : Node K V) : Type 0 where
+    pub below : ℕ
+    pub height : h ≡ suc below
+    pub levels : IsLevelled (suc below) n
+    pub inner : IsInner n
+
+  pub some_above : (h : ℕ) (n : Node K V) (bs : List (Box (Node K V) Global)) → (out-Node K V n).children ≡ Some bs → IsLevelled h n → IsAbove h n
+  some_above zero n bs e l = absurd (let f = sym e ∙ l.1 in cc)
+  some_above (suc h) n bs e l = record { below = h; height = refl; levels = l; inner = l.1 }
+
+  -- the child in a box of the list that a node has
+  pub opened_child : (n : Node K V) (bs : List (Box (Node K V) Global)) (i : ℕ) (b : Box (Node K V) Global) (c : Node K V) → (out-Node K V n).children ≡ Some bs → IsInner n → i ≤ length (own_pairs n) → b ≡ get_or bs i b → c ≡ b.value → c ≡ child_at n i
+  opened_child n bs i b c e inner h q f =
+      let k = inner_length n bs e inner in
+      let s : bs ≡ items_or_none (out-Node K V n).children = ap items_or_none (sym e) in
+      child_is n i b c (subst (λ xs. i < length xs) s (omega arith)) (subst (λ xs. b ≡ get_or xs i b) s q) f
+
+  pub none_leaf : (h : ℕ) (n : Node K V) → IsLeaf n → IsLevelled h n → h ≡ 0
+  none_leaf zero n e l = refl
+  none_leaf (suc h) n e l =
+      let k : length (children_of n) ≡ length (own_pairs n) + 1 = l.1 in
+      let z : length (children_of n) ≡ 0 = ap length (leaf_children n e) in
+      absurd (omega arith)
+
+  pub leaf_shrunk : (h : ℕ) (old new : Node K V) (i : ℕ) → IsLeaf old → IsLevelled h old → i < length (own_pairs old) → own_pairs new ≡ remove (own_pairs old) i → IsLeaf new → IsShrunk h old new
+  leaf_shrunk h old new i e l lt f e' =
+      let z = none_leaf h old e l in
+      let fits : length (own_pairs old) ≤ capacity = (subst (λ k. IsLevelled k old) z l).0 in
+      let m : length (own_pairs new) ≡ length (remove (own_pairs old) i) = ap length f in
+      let r = length-remove (own_pairs old) i lt in
+      subst (λ k. IsShrunk k old new) (sym z) ((omega arith, e'), (omega arith, omega arith))
+
+  pub below_root : (h : ℕ) (n child : Node K V) (i : ℕ) → IsLevelled (suc h) n → i ≤ length (own_pairs n) → child ≡ child_at n i → IsSoundRoot h child
+  below_root h n child i l le e =
+      let b = child_below h n i l le in
+      let b₀ = b.0 in
+      subst (IsSoundRoot h) (sym e) (omega arith, b.1)
+
+  -- the child that has lost a pair is short at most
+  pub short_set : (h : ℕ) (old mid child c : Node K V) (i : ℕ) → IsLevelled (suc h) old → 1 ≤ length (own_pairs old) → i ≤ length (own_pairs old) → length (own_pairs mid) ≡ length (own_pairs old)
+      → children_of mid ≡ slice_set (children_of old) i c → child ≡ child_at old i → IsShrunk h child c → IsShortAt h mid i
+  short_set h old mid child c i l some le e f ci s =
+      let k : length (children_of old) ≡ length (own_pairs old) + 1 = l.1 in
+      let n : length (children_of mid) ≡ length (children_of old) = ap length f ∙ length_set (children_of old) i c in
+      let fits = l.0 in
+      let b = (child_below h old i l le).0 in
+      let b' = ap (λ x. length (own_pairs x)) ci in
+      let s' = s.1.1 in
+      let cm : child_at mid i ≡ c = ap (λ cs. get_or cs i mid) f ∙ at_set (children_of old) i c mid (omega arith) in
+      let cl : length (own_pairs (child_at mid i)) ≡ length (own_pairs c) = ap (λ x. length (own_pairs x)) cm in
+      let ta : take i (children_of old) ≡ take i (children_of mid) = sym (ap (take i) f ∙ take_set (children_of old) i c) in
+      let da : drop (suc i) (children_of old) ≡ drop (suc i) (children_of mid) = sym (ap (drop (suc i)) f ∙ drop_set (children_of old) i c) in
+      record {
+        some = omega arith;
+        fits = omega arith;
+        inner = omega arith;
+        place = omega arith;
+        before = subst (AllByRecursion (IsSound h)) ta (all_front (IsSound h) (take i (children_of old)) (drop i (children_of old)) (subst (AllByRecursion (IsSound h)) (sym (take_drop i (children_of old))) l.2));
+        short = omega arith;
+        levels = subst (IsLevelled h) (sym cm) s.0;
+        after = subst (AllByRecursion (IsSound h)) da (all_back (IsSound h) (take (suc i) (children_of old)) (drop (suc i) (children_of old)) (subst (AllByRecursion (IsSound h)) (sym (take_drop (suc i) (children_of old))) l.2));
+      }
+
+  pub shrunk_from : (h : ℕ) (g : ℕ) (old mid new : Node K V) → h ≡ suc g → length (own_pairs mid) ≡ length (own_pairs old) → IsShrunk (suc g) mid new → IsShrunk h old new
+  shrunk_from h g old mid new e f s =
+      let a = s.1.0 in let b = s.1.1 in
+      subst (λ k. IsShrunk k old new) (sym e) (s.0, (omega arith, omega arith))
+
+  -- the pairs of a node with another child
+  pub set_gap : (old mid c : Node K V) (i : ℕ) → IsInner old → i ≤ length (own_pairs old) → IsChildSet old mid i c → pairs_of mid ≡ before_child old i ++ (pairs_of c ++ after_child old i)
+  set_gap old mid c i inner le m =
+      let k : length (children_of old) ≡ length (own_pairs old) + 1 = inner in
+      around_one mid c (take i (children_of old)) (drop (suc i) (children_of old)) (take i (own_pairs old)) (drop i (own_pairs old)) (m.child ∙ set_is (children_of old) i c (omega arith)) (m.same ∙ sym (take_drop i (own_pairs old)))
+      (length_take i (children_of old) (omega arith) ∙ sym (length_take i (own_pairs old) le))
+
+  pub first_removed : (old mid child c : Node K V) (x : K × V) → IsInner old → IsChildSet old mid 0 c → child ≡ child_at old 0 → pairs_of child ≡ x ∷ pairs_of c → pairs_of old ≡ x ∷ pairs_of mid
+  first_removed old mid child c x inner m ci e =
+      inner_gap old 0 inner (omega arith) ∙ ap (λ n. pairs_of n ++ after_child old 0) (sym ci) ∙ ap (λ zs. zs ++ after_child old 0) e ∙ ap (λ zs. x ∷ zs) (sym (set_gap old mid c 0 inner (omega arith) m))
+
+  pub last_removed : (old mid child c : Node K V) (i : ℕ) (x : K × V) → i ≡ length (own_pairs old) → IsInner old → IsChildSet old mid i c → child ≡ child_at old i → pairs_of child ≡ pairs_of c ++ x ∷ [] → pairs_of old ≡ pairs_of mid ++ x ∷ []
+  last_removed old mid child c i x end inner m ci e =
+      let lead = before_child old i in
+      let none = after_none old i (omega arith) in
+      inner_gap old i inner (omega arith) ∙ ap (λ r. lead ++ (pairs_of (child_at old i) ++ r)) none ∙ ap (λ zs. lead ++ zs) (append-nil (pairs_of (child_at old i)) ∙ sym (ap pairs_of ci) ∙ e)
+      ∙ sym (append_assoc lead (pairs_of c) (x ∷ []))
+      ∙ ap (λ zs. zs ++ x ∷ []) (sym (set_gap old mid c i inner (omega arith) m ∙ ap (λ r. lead ++ (pairs_of c ++ r)) none ∙ ap (λ zs. lead ++ zs) (append-nil (pairs_of c))))
+
+  pub last_taken : (old new : Node K V) (i : ℕ) (x : K × V) → IsLeaf old → IsLeaf new → i + 1 ≡ length (own_pairs old) → x ≡ get_or (own_pairs old) i x → own_pairs new ≡ remove (own_pairs old) i → pairs_of old ≡ pairs_of new ++ x ∷ []
+  last_taken old new i x l l' end e f = leaf_pairs old l ∙ last_out (own_pairs old) i x end e ∙ ap (λ ps. ps ++ x ∷ []) (sym (leaf_pairs new l' ∙ f))
+
+  -- the last child holds fewer pairs than the node
+  pub fewer_last : (h : ℕ) (n child : Node K V) (i : ℕ) → IsLevelled (suc h) n → 1 ≤ length (own_pairs n) → i ≡ length (own_pairs n) → child ≡ child_at n i → length (pairs_of child) < length (pairs_of n)
+  fewer_last h n child zero l some end ci = absurd (omega arith)
+  fewer_last h n child (suc j) l some end ci =
+      let d = (item_there (own_pairs n) j (omega arith)).0 in
+      let lead = ap length (before_child_pair (suc h) n j d l (omega arith)) ∙ length-append (before_own n j) (get_or (own_pairs n) j d ∷ []) in
+      let whole = ap length (inner_gap n (suc j) l.1 (omega arith)) ∙ length-append (before_child n (suc j)) (pairs_of (child_at n (suc j)) ++ after_child n (suc j)) in
+      let back = length-append (pairs_of (child_at n (suc j))) (after_child n (suc j)) in
+      let same : length (pairs_of child) ≡ length (pairs_of (child_at n (suc j))) = ap (λ m. length (pairs_of m)) ci in
+      omega arith
+
+  -- the node with another pair of its own at a place and another child after it
+  pub record IsOwnSet (old mid : Node K V) (i : ℕ) (next : K × V) (c : Node K V) : Type 0 where
+    pub pairs : own_pairs mid ≡ slice_set (own_pairs old) i next
+    pub children : children_of mid ≡ slice_set (children_of old) (suc i) c
+
+  pub own_set : (old mid new : Node K V) (i : ℕ) (next : K × V) (c : Node K V) → IsChildSet old mid (i + 1) c → own_pairs new ≡ slice_set (own_pairs mid) i next → children_of new ≡ children_of mid → IsOwnSet old new i next c
+  own_set old mid new i next c m e f = record {
+    pairs = e ∙ ap (λ ps. slice_set ps i next) m.same;
+    children = f ∙ m.child ∙ ap (λ k. slice_set (children_of old) k c) (add-one i);
+  }
+
+  pub own_short : (h : ℕ) (old mid child c : Node K V) (next : K × V) (i : ℕ) → IsLevelled (suc h) old → i < length (own_pairs old) → IsOwnSet old mid i next c → child ≡ child_at old (suc i) → IsShrunk h child c → IsShortAt h mid (i + 1)
+  own_short h old mid child c next i l lt m ci s =
+      subst (IsShortAt h mid) (sym (add-one i)) (short_set h old mid child c (suc i) l (omega arith) (omega arith) (ap length m.pairs ∙ length_set (own_pairs old) i next) m.children ci s)
+
+  pub own_kept : (old mid c : Node K V) (next : K × V) (i : ℕ) → IsOwnSet old mid i next c → length (own_pairs mid) ≡ length (own_pairs old)
+  own_kept old mid c next i m = ap length m.pairs ∙ length_set (own_pairs old) i next
+
+  -- the pairs of a node of which the first pair after one of its own has taken that one's place
+  pub own_replaced : (old mid child c : Node K V) (next : K × V) (i : ℕ) → IsInner old → i < length (own_pairs old) → IsOwnSet old mid i next c → child ≡ child_at old (suc i) → pairs_of child ≡ next ∷ pairs_of c → pairs_of mid ≡ before_own old i ++ after_own old i
+  own_replaced old mid child c next i inner h m ci q =
+      let k : length (children_of old) ≡ length (own_pairs old) + 1 = inner in
+      let cs = take (suc i) (children_of old) in let ds = drop (suc (suc i)) (children_of old) in
+      let ps = take i (own_pairs old) in let qs = drop (suc i) (own_pairs old) in
+      let n : length (map pairs_of cs) ≡ length ps + 1 = length-map cs pairs_of ∙ length_take (suc i) (children_of old) (omega arith) ∙ (let t = length_take i (own_pairs old) (omega arith) in omega arith) in
+      pairs_is mid ∙ ap (λ zs. weave (map pairs_of (children_of mid)) zs) (m.pairs ∙ set_is (own_pairs old) i next h)
+      ∙ ap (λ zs. weave (map pairs_of zs) (ps ++ next ∷ qs)) (m.children ∙ set_is (children_of old) (suc i) c (omega arith))
+      ∙ ap (λ zs. weave zs (ps ++ next ∷ qs)) (map-append pairs_of cs (c ∷ ds))
+      ∙ weave_parts (map pairs_of cs) (map pairs_of (c ∷ ds)) ps next qs n (omega arith)
+      ∙ ap (λ zs. before_own old i ++ zs)
+      (ap (λ zs. weave (zs ∷ map pairs_of ds) qs) (sym q ∙ ap pairs_of ci) ∙ ap (λ zs. weave (map pairs_of zs) qs) (sym (drop_item (children_of old) (suc i) old (omega arith))))
+
+module _ {K V : Type 0} where
+  pub empty_leaf : (root : Node K V) → IsLeaf root → length (own_pairs root) ≡ 0 → pairs_of root ≡ []
+  empty_leaf root l e = leaf_pairs root l ∙ no_pairs (own_pairs root) e
+
+  -- the only child of a root without pairs
+  pub only_child : (root : Node K V) (bs : List (Box (Node K V) Global)) (b : Box (Node K V) Global) → (out-Node K V root).children ≡ Some bs → IsInner root → length (own_pairs root) ≡ 0 → b ≡ get_or bs 0 b → children_of root ≡ b.value ∷ []
+  only_child root bs b e inner h f = children_in root bs e ∙ single bs b (inner_length root bs e inner ∙ ap (λ k. k + 1) h) f
+    where
+      single : (bs : List (Box (Node K V) Global)) (b : Box (Node K V) Global) → length bs ≡ 1 → b ≡ get_or bs 0 b → boxed bs ≡ b.value ∷ []
+      single [] b e f = absurd (omega arith)
+      single (x ∷ []) b e f = ap (λ y. y.value ∷ []) (sym f)
+      single (x ∷ y ∷ bs) b e f = absurd (omega arith)
+
+  pub only_pairs : (root c : Node K V) → length (own_pairs root) ≡ 0 → children_of root ≡ c ∷ [] → pairs_of c ≡ pairs_of root
+  only_pairs root c h e =
+      sym (pairs_is root ∙ ap (λ ps. weave (map pairs_of (children_of root)) ps) (no_pairs (own_pairs root) h) ∙ ap (λ cs. weave (map pairs_of cs) []) e ∙ append-nil (pairs_of c))
+
+  pub one_lower : (h : ℕ) (root c : Node K V) (bs : List (Box (Node K V) Global)) → (out-Node K V root).children ≡ Some bs → children_of root ≡ c ∷ [] → IsLevelled h root → IsSoundRoot h c ⊎ ((0 < h) × IsSoundRoot (h - 1) c)
+  one_lower zero root c bs e f l = absurd (let q = sym e ∙ l.1 in cc)
+  one_lower (suc h) root c bs e f l =
+      let a = (subst (AllByRecursion (IsSound h)) f l.2).0 in
+      let a₀ = a.0 in
+      let k : h ≡ suc h - 1 = omega arith in
+      inr (omega arith, subst (λ m. IsSoundRoot m c) k (omega arith, a.1))
+
+-- a place of two or more steps, as its first step and the rest
+pub record IsPlaceStep {K V : Type 0} (p : List ℕ) (n : Node K V) : Type 0 where
+  pub child : get_or p 0 0 < length (children_of n)
+  pub onward : IsPlace (slice_range p 1 (length p)) (child_at n (get_or p 0 0))
+  pub pair : place_pair p n ≡ place_pair (slice_range p 1 (length p)) (child_at n (get_or p 0 0))
+  pub before : before_pair p n ≡ before_child n (get_or p 0 0) ++ before_pair (slice_range p 1 (length p)) (child_at n (get_or p 0 0))
+  pub after : after_pair p n ≡ after_pair (slice_range p 1 (length p)) (child_at n (get_or p 0 0)) ++ after_child n (get_or p 0 0)
+
+take_all : (p : List ℕ) (n : ℕ) → n ≡ length p → take n p ≡ p
+take_all [] zero e = refl
+take_all [] (suc n) e = refl
+take_all (i ∷ p) zero e = absurd (omega arith)
+take_all (i ∷ p) (suc n) e = ap (λ q. i ∷ q) (take_all p n (omega arith))
+
+pub place_step : {K V : Type 0} (p : List ℕ) (n : Node K V) → (length p ≡ 1 → ⊥) → IsPlace p n → IsPlaceStep p n
+place_step [] n h w = absurd w
+place_step (i ∷ []) n h w = absurd (h refl)
+place_step (i ∷ j ∷ p) n h w =
+    let e : j ∷ p ≡ slice_range (i ∷ j ∷ p) 1 (length (i ∷ j ∷ p)) = sym (take_all (j ∷ p) (suc (suc (length p)) - 1) (omega arith)) in
+    record {
+      child = w.0;
+      onward = subst (λ q. IsPlace q (child_at n i)) e w.1;
+      pair = ap (λ q. place_pair q (child_at n i)) e;
+      before = ap (λ q. before_child n i ++ before_pair q (child_at n i)) e;
+      after = ap (λ q. after_pair q (child_at n i) ++ after_child n i) e;
+    }
+
+module _ {K V : Type 0} where
+  -- a pair was removed below a child
+  pub below_removed : (p : List ℕ) (old mid child c : Node K V) → IsPlaceStep p old → IsInner old → IsChildSet old mid (get_or p 0 0) c → child ≡ child_at old (get_or p 0 0)
+      → pairs_of c ≡ before_pair (slice_range p 1 (length p)) child ++ after_pair (slice_range p 1 (length p)) child → pairs_of mid ≡ before_pair p old ++ after_pair p old
+  below_removed p old mid child c s inner m ci e =
+      let i = get_or p 0 0 in let q = slice_range p 1 (length p) in
+      let k : length (children_of old) ≡ length (own_pairs old) + 1 = inner in
+      let lt = s.child in
+      let a = before_pair q (child_at old i) in let b = after_pair q (child_at old i) in
+      set_gap old mid c i inner (omega arith) m ∙ ap (λ zs. before_child old i ++ (zs ++ after_child old i)) (e ∙ ap (λ n. before_pair q n ++ after_pair q n) ci)
+      ∙ ap (λ zs. before_child old i ++ zs) (append_assoc a b (after_child old i)) ∙ sym (append_assoc (before_child old i) a (b ++ after_child old i))
+      ∙ ap (λ zs. zs ++ (b ++ after_child old i)) (sym s.before) ∙ ap (λ zs. before_pair p old ++ zs) (sym s.after)

@@ -1,0 +1,11 @@
+use Rattle.std.proofs.Common.{length, ap, arith}
+use Rattle.fc_tree_node.specs.Node.{own_pairs}
+use Rattle.fc_tree_removal.proofs.Mended.{whole_levels}
+use Rattle.fc_tree_removal.proofs.removal.mend_child.Goals as goal
+
+pub returns-then-len-ge-MIN_LEN-clause-levels : goal.returns-then-len-ge-MIN_LEN-clause-levels
+returns-then-len-ge-MIN_LEN-clause-levels g c h s =
+    let a = ap (λ n. length (own_pairs n)) c.child.ensures in
+    let b = c.len.ensures.value in
+    let k = c.if-len-ge-MIN_LEN.true in
+    whole_levels h c.args.node.now c.args.index s (omega arith)

@@ -1,0 +1,74 @@
+//! The first or the last pair of a tree taken out, with the nodes above it mended.
+ghost use Rattle.std.specs.Prelude.{◌≡◌, ℕ, ◌+◌, ◌*◌, ◌<◌, ◌≤◌, [], ◌∷◌, ◌++◌};
+ghost use Rattle.fc_base.specs.Sizes.{capacity, level_moves};
+ghost use Rattle.fc_tree_node.specs.Node.{pairs_of, IsSoundRoot};
+ghost use Rattle.fc_tree_node.specs.Tree.{entries, root_of};
+ghost use Rattle.fc_tree_removal.specs.Removal.{IsTreeLeft};
+ghost use Rattle.fc_tree_node.specs.Shrunk.{IsShrunk};
+
+use crate::removal::{mend_child, remove_first, without_empty_root};
+use fc_base::Count;
+use fc_tree_node::node::Node;
+
+/// Takes the first pair out of the tree below `root`, and hands out what is left of the tree: none where that was the only pair.
+/// It compares nothing and takes no memory.
+pub fn take_first<K: Drop, V: Drop>(
+    root: Box<Node<K, V>>,
+    count: &mut Count,
+) -> ((K, V), Option<Box<Node<K, V>>>)
+    requires { (h : ℕ) × IsSoundRoot h root.value }
+    ensures pairs { pairs_of root.value ≡ result.0 ∷ entries (root_of result.1) }
+
+    // The tree is as high as before or one level lower.
+    ensures levels { (h : ℕ) → IsSoundRoot h root.value → IsTreeLeft h result.1 }
+    ensures moves { (h : ℕ) → IsSoundRoot h root.value → count.new.moves ≤ count.old.moves + level_moves * (h + 1) }
+    ensures moved { count.old.moves < count.new.moves }
+    ensures comparisons { count.new.comparisons ≡ count.old.comparisons }
+{
+    let mut root = root;
+    let node: &mut Node<K, V> = &mut root;
+    let pair = remove_first(node, count);
+    (pair, without_empty_root(root))
+}
+
+/// Takes the last pair out of the tree below `root`, and hands out what is left of the tree: none where that was the only pair.
+/// It compares nothing and takes no memory.
+pub fn take_last<K: Drop, V: Drop>(
+    root: Box<Node<K, V>>,
+    count: &mut Count,
+) -> ((K, V), Option<Box<Node<K, V>>>)
+    requires { (h : ℕ) × IsSoundRoot h root.value }
+    ensures pairs { pairs_of root.value ≡ entries (root_of result.1) ++ result.0 ∷ [] }
+
+    // The tree is as high as before or one level lower.
+    ensures levels { (h : ℕ) → IsSoundRoot h root.value → IsTreeLeft h result.1 }
+    ensures moves { (h : ℕ) → IsSoundRoot h root.value → count.new.moves ≤ count.old.moves + level_moves * (h + 1) }
+    ensures moved { count.old.moves < count.new.moves }
+    ensures comparisons { count.new.comparisons ≡ count.old.comparisons }
+{
+    let mut root = root;
+    let node: &mut Node<K, V> = &mut root;
+    let pair = remove_last(node, count);
+    (pair, without_empty_root(root))
+}
+
+/// Takes the last pair in the node or below it out. The levels below the node stay, and the node itself may lose a pair.
+pub fn remove_last<K: Drop, V: Drop>(node: &mut Node<K, V>, count: &mut Count) -> (K, V)
+    requires sound { (h : ℕ) × IsSoundRoot h node.old }
+    ensures pairs { pairs_of node.old ≡ pairs_of node.new ++ result ∷ [] }
+    ensures levels { (h : ℕ) → IsSoundRoot h node.old → IsShrunk h node.old node.new }
+    ensures moves { (h : ℕ) → IsSoundRoot h node.old → count.new.moves ≤ count.old.moves + (capacity + level_moves * h) }
+    ensures moved { count.old.moves < count.new.moves }
+    ensures comparisons { count.new.comparisons ≡ count.old.comparisons }
+{
+    let end = node.len();
+    let pair = match &mut node.children {
+        None => return node.remove_leaf(end - 1, count),
+        Some(children) => {
+            let child: &mut Node<K, V> = children.get_mut(end);
+            remove_last(child, count)
+        }
+    };
+    mend_child(node, end, count);
+    pair
+}

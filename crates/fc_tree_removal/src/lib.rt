@@ -1,0 +1,6 @@
+//! Removal at a place of a tree and at its ends, with the nodes above it mended, and replacement at a place.
+#![tactic(auto)]
+
+pub mod first_last;
+pub mod removal;
+pub mod replacement;

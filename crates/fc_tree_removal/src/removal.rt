@@ -1,0 +1,194 @@
+//! Removal at a place, which mends the nodes above it on its way up.
+ghost use Rattle.std.specs.Prelude.{◌≡◌, ℕ, suc, ◌+◌, ◌-◌, ◌*◌, ◌<◌, ◌≤◌, [], ◌∷◌, ◌++◌, length, Some};
+ghost use Rattle.std.specs.declared.boxed.Box.{Box};
+ghost use Rattle.std.specs.declared.alloc.Global.{Global};
+ghost use Rattle.fc_base.specs.Sizes.{capacity, min_len, level_moves};
+ghost use Rattle.fc_tree_node.specs.Node.{own_pairs, child_at, pairs_of, IsLevelled, IsSoundRoot};
+ghost use Rattle.fc_tree_node.specs.Place.{IsPlace, place_pair, before_pair, after_pair};
+ghost use Rattle.fc_tree_node.specs.Siblings.{IsMerged, IsShared};
+ghost use Rattle.fc_tree_node.specs.Tree.{root_of, entries};
+ghost use Rattle.fc_tree_node.specs.TreePlace.{IsPlaceIn, pair_in, before_pair_in, after_pair_in};
+ghost use Rattle.fc_tree_removal.specs.Mending.{together, IsShortAt};
+ghost use Rattle.fc_tree_removal.specs.Removal.{IsSoundTree, IsTreeLeft};
+ghost use Rattle.fc_tree_node.specs.Shrunk.{IsShrunk};
+
+use fc_base::Count;
+use fc_tree_node::node::{CAPACITY, MIN_LEN, Node};
+
+/// Takes the pair at the place out of the tree, of which nothing is left where that was the only pair. It compares nothing and takes
+/// no memory.
+pub fn remove<K: Drop, V: Drop>(
+    tree: &mut Option<Box<Node<K, V>>>,
+    path: &[u8],
+    count: &mut Count,
+) -> (K, V)
+    requires sound { (h : ℕ) × IsSoundTree h (root_of tree.old) }
+    requires place { IsPlaceIn (root_of tree.old) path.now }
+    ensures pair { pair_in (root_of tree.old) path.now ≡ Some result }
+    ensures pairs { entries (root_of tree.new) ≡ before_pair_in (root_of tree.old) path.now ++ after_pair_in (root_of tree.old) path.now }
+
+    // The tree is as high as before or one level lower.
+    ensures levels { (h : ℕ) → IsSoundTree h (root_of tree.old) → IsTreeLeft h tree.new }
+    ensures moves { (h : ℕ) → IsSoundTree h (root_of tree.old) → count.new.moves ≤ count.old.moves + level_moves * (h + 1) }
+    ensures moved { count.old.moves < count.new.moves }
+    ensures comparisons { count.new.comparisons ≡ count.old.comparisons }
+{
+    let Some(root) = tree else { unreachable!() };
+    let node: &mut Node<K, V> = root;
+    let pair = remove_at(node, path, count);
+    if node.len() > 0 {
+        return pair;
+    }
+    take_empty_root(tree);
+    pair
+}
+
+// Takes a root without pairs out of the tree. It is not inlined, since few removals come to it.
+#[inline(never)]
+fn take_empty_root<K: Drop, V: Drop>(tree: &mut Option<Box<Node<K, V>>>)
+    requires { (root : Box (Node K V) Global) × (tree.old ≡ Some root) × (h : ℕ) × IsLevelled h root.value }
+    ensures pairs { entries (root_of tree.new) ≡ entries (root_of tree.old) }
+    ensures levels { (root : Box (Node K V) Global) → tree.old ≡ Some root → (h : ℕ) → IsLevelled h root.value → IsTreeLeft h tree.new }
+{
+    let Some(root) = tree.take() else {
+        unreachable!()
+    };
+    *tree = without_empty_root(root);
+}
+
+// A root without pairs gives way to its only child.
+pub(crate) fn without_empty_root<K: Drop, V: Drop>(root: Box<Node<K, V>>) -> Option<Box<Node<K, V>>>
+    requires { (h : ℕ) × IsLevelled h root.value }
+    ensures pairs { entries (root_of result) ≡ pairs_of root.value }
+    ensures levels { (h : ℕ) → IsLevelled h root.value → IsTreeLeft h result }
+{
+    if root.len() > 0 {
+        return Some(root);
+    }
+    let Node { pairs: _, children } = Box::into_inner(root);
+    match children {
+        None => None,
+        Some(mut children) => Some(children.remove(0)),
+    }
+}
+
+// Takes the pair at the place out, and mends the nodes below `node`.
+fn remove_at<K: Drop, V: Drop>(node: &mut Node<K, V>, path: &[u8], count: &mut Count) -> (K, V)
+    requires sound { (h : ℕ) × IsSoundRoot h node.old }
+    requires place { IsPlace path.now node.old }
+    ensures pair { place_pair path.now node.old ≡ Some result }
+    ensures pairs { pairs_of node.new ≡ before_pair path.now node.old ++ after_pair path.now node.old }
+    ensures levels { (h : ℕ) → IsSoundRoot h node.old → IsShrunk h node.old node.new }
+    ensures moves { (h : ℕ) → IsSoundRoot h node.old → count.new.moves ≤ count.old.moves + (capacity + 2 + level_moves * h) }
+    ensures moved { count.old.moves < count.new.moves }
+    ensures comparisons { count.new.comparisons ≡ count.old.comparisons }
+{
+    let i = path[0] as usize;
+    if path.len() == 1 {
+        return remove_own(node, i, count);
+    }
+    let rest = &path[1..];
+    let pair = match &mut node.children {
+        None => unreachable!(),
+        Some(children) => {
+            let child: &mut Node<K, V> = children.get_mut(i);
+            remove_at(child, rest, count)
+        }
+    };
+    mend_child(node, i, count);
+    pair
+}
+
+// Takes the node's own pair at `index` out. In an inner node the first pair of the subtree on its right takes its place.
+fn remove_own<K: Drop, V: Drop>(node: &mut Node<K, V>, index: usize, count: &mut Count) -> (K, V)
+    requires sound { (h : ℕ) × IsSoundRoot h node.old }
+    requires place { IsPlace (index ∷ []) node.old }
+    ensures pair { place_pair (index ∷ []) node.old ≡ Some result }
+    ensures pairs { pairs_of node.new ≡ before_pair (index ∷ []) node.old ++ after_pair (index ∷ []) node.old }
+    ensures levels { (h : ℕ) → IsSoundRoot h node.old → IsShrunk h node.old node.new }
+    ensures moves { (h : ℕ) → IsSoundRoot h node.old → count.new.moves ≤ count.old.moves + (capacity + 2 + level_moves * h) }
+    ensures moved { count.old.moves < count.new.moves }
+    ensures comparisons { count.new.comparisons ≡ count.old.comparisons }
+{
+    let next = match &mut node.children {
+        None => return node.remove_leaf(index, count),
+        Some(children) => {
+            let child: &mut Node<K, V> = children.get_mut(index + 1);
+            remove_first(child, count)
+        }
+    };
+    let pair = node.replace_pair(index, next, count);
+    mend_child(node, index + 1, count);
+    pair
+}
+
+/// Takes the first pair in the node or below it out. The levels below the node stay, and the node itself may lose a pair.
+pub fn remove_first<K: Drop, V: Drop>(node: &mut Node<K, V>, count: &mut Count) -> (K, V)
+    requires sound { (h : ℕ) × IsSoundRoot h node.old }
+    ensures pairs { pairs_of node.old ≡ result ∷ pairs_of node.new }
+    ensures levels { (h : ℕ) → IsSoundRoot h node.old → IsShrunk h node.old node.new }
+    ensures moves { (h : ℕ) → IsSoundRoot h node.old → count.new.moves ≤ count.old.moves + (capacity + level_moves * h) }
+    ensures moved { count.old.moves < count.new.moves }
+    ensures comparisons { count.new.comparisons ≡ count.old.comparisons }
+{
+    let pair = match &mut node.children {
+        None => return node.remove_leaf(0, count),
+        Some(children) => {
+            let child: &mut Node<K, V> = children.get_mut(0);
+            remove_first(child, count)
+        }
+    };
+    mend_child(node, 0, count);
+    pair
+}
+
+// Mends the child at `index` where it has fewer than `MIN_LEN` pairs.
+#[inline]
+pub(crate) fn mend_child<K: Drop, V: Drop>(node: &mut Node<K, V>, index: usize, count: &mut Count)
+    requires { (h : ℕ) × IsShortAt h node.old index }
+
+    // A child that has `MIN_LEN` pairs stays.
+    ensures whole { min_len ≤ length (own_pairs (child_at node.old index)) → node.new ≡ node.old }
+    ensures whole_moves { min_len ≤ length (own_pairs (child_at node.old index)) → count.new.moves ≡ count.old.moves }
+
+    // All pairs stay, and no child is short.
+    ensures pairs { pairs_of node.new ≡ pairs_of node.old }
+    ensures levels { (h : ℕ) → IsShortAt h node.old index → IsShrunk (suc h) node.old node.new }
+    ensures kept_moves { count.old.moves ≤ count.new.moves }
+    ensures moves { count.new.moves ≤ count.old.moves + level_moves }
+    ensures comparisons { count.new.comparisons ≡ count.old.comparisons }
+{
+    if node.child(index).len() >= MIN_LEN {
+        return;
+    }
+    mend_short(node, index, count);
+}
+
+// Mends the child at `index`, which has one fewer: with the child on its left where there is one, else with the one on its right.
+// Where both and the pair between them fit in one node, they are merged, and else one pair is stolen.
+#[inline(never)]
+fn mend_short<K: Drop, V: Drop>(node: &mut Node<K, V>, index: usize, count: &mut Count)
+    requires at { (h : ℕ) × IsShortAt h node.old index }
+    requires short { length (own_pairs (child_at node.old index)) < min_len }
+    ensures merged { together node.old (index - 1) ≤ capacity → IsMerged (index - 1) node.old node.new }
+    ensures stolen_left { capacity < together node.old (index - 1) → 0 < index → IsShared (index - 1) (length (own_pairs (child_at node.old (index - 1))) - 1) node.old node.new }
+    ensures stolen_right { capacity < together node.old (index - 1) → index ≡ 0 → IsShared 0 min_len node.old node.new }
+    ensures pairs { pairs_of node.new ≡ pairs_of node.old }
+    ensures levels { (h : ℕ) → IsShortAt h node.old index → IsShrunk (suc h) node.old node.new }
+    ensures merge_moves { together node.old (index - 1) ≤ capacity → count.new.moves ≡ count.old.moves + ((length (own_pairs node.old) - (index - 1)) + (length (own_pairs (child_at node.old (index - 1 + 1))) + 1)) }
+    ensures left_theft_moves { capacity < together node.old (index - 1) → 0 < index → count.new.moves ≡ count.old.moves + (length (own_pairs (child_at node.old (index - 1 + 1))) + 4) }
+    ensures right_theft_moves { capacity < together node.old (index - 1) → index ≡ 0 → count.new.moves ≡ count.old.moves + (length (own_pairs (child_at node.old 1)) + 3) }
+    ensures kept_moves { count.old.moves ≤ count.new.moves }
+    ensures moves { count.new.moves ≤ count.old.moves + level_moves }
+    ensures theft_moves { capacity < together node.old (index - 1) → count.new.moves ≤ count.old.moves + (capacity + 3) }
+    ensures comparisons { count.new.comparisons ≡ count.old.comparisons }
+{
+    let place = index.saturating_sub(1);
+    if node.child(place).len() + node.child(place + 1).len() < CAPACITY {
+        node.merge(place, count);
+    } else if index > 0 {
+        node.steal_left(place, count);
+    } else {
+        node.steal_right(place, count);
+    }
+}

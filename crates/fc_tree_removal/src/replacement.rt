@@ -1,0 +1,86 @@
+//! A pair put in the place of another one, by which no other pair moves.
+ghost use Rattle.std.specs.Prelude.{◌≡◌, ℕ, ◌+◌, ◌<◌, [], ◌∷◌, ◌++◌, length, Some};
+ghost use Rattle.fc_tree_node.specs.Depth.{HasFewMoves};
+ghost use Rattle.fc_tree_node.specs.Node.{own_pairs, pairs_of, IsLevelled};
+ghost use Rattle.fc_tree_node.specs.Place.{IsPlace, place_pair, before_pair, after_pair};
+ghost use Rattle.fc_tree_node.specs.Tree.{IsSoundMap};
+
+use fc_base::Count;
+use fc_tree_node::node::Node;
+use fc_tree_node::path::Path;
+
+/// Puts `pair` in the place of the one that the path leads to in a sound tree, which is handed out. It compares nothing and takes
+/// no memory.
+pub fn exchange<K: Drop, V: Drop>(
+    root: &mut Box<Node<K, V>>,
+    path: &Path,
+    pair: (K, V),
+    count: &mut Count,
+) -> (K, V)
+    requires sound { IsSoundMap (Some root.old.value) }
+    requires place { IsPlace path.now root.old.value }
+    ensures old { place_pair path.now root.old.value ≡ Some result }
+
+    // The pairs before the place, the new pair and the pairs after the place.
+    ensures pairs { pairs_of root.new.value ≡ before_pair path.now root.old.value ++ pair ∷ after_pair path.now root.old.value }
+    ensures length { length (pairs_of root.new.value) ≡ length (pairs_of root.old.value) }
+    ensures some { 0 < length (pairs_of root.new.value) }
+    ensures sound { IsSoundMap (Some root.new.value) }
+    ensures moves { HasFewMoves (length (pairs_of root.new.value)) count.old count.new }
+    ensures exchanged { count.new.moves ≡ count.old.moves + 2 }
+    ensures comparisons { count.new.comparisons ≡ count.old.comparisons }
+{
+    replace(root, path.as_slice(), pair, count)
+}
+
+/// Puts `pair` in the place of the one that the path leads to, which is handed out. It compares nothing and takes no memory.
+pub fn replace<K: Drop, V: Drop>(
+    node: &mut Node<K, V>,
+    path: &[u8],
+    pair: (K, V),
+    count: &mut Count,
+) -> (K, V)
+    requires levels { (h : ℕ) × IsLevelled h node.old }
+    requires place { IsPlace path.now node.old }
+    ensures old { place_pair path.now node.old ≡ Some result }
+
+    // The pairs before the place, the new pair and the pairs after the place.
+    ensures pairs { pairs_of node.new ≡ before_pair path.now node.old ++ pair ∷ after_pair path.now node.old }
+
+    // The levels are as before.
+    ensures size { length (own_pairs node.new) ≡ length (own_pairs node.old) }
+    ensures levels { (h : ℕ) → IsLevelled h node.old → IsLevelled h node.new }
+    ensures moves { count.new.moves ≡ count.old.moves + 2 }
+    ensures comparisons { count.new.comparisons ≡ count.old.comparisons }
+{
+    let i = path[0] as usize;
+    if path.len() == 1 {
+        return replace_own(node, i, pair, count);
+    }
+    match &mut node.children {
+        None => unreachable!(),
+        Some(children) => {
+            let child: &mut Node<K, V> = children.get_mut(i);
+            replace(child, &path[1..], pair, count)
+        }
+    }
+}
+
+// Puts `pair` in the place of the node's own pair at `index`.
+fn replace_own<K: Drop, V: Drop>(
+    node: &mut Node<K, V>,
+    index: usize,
+    pair: (K, V),
+    count: &mut Count,
+) -> (K, V)
+    requires levels { (h : ℕ) × IsLevelled h node.old }
+    requires place { IsPlace (index ∷ []) node.old }
+    ensures old { place_pair (index ∷ []) node.old ≡ Some result }
+    ensures pairs { pairs_of node.new ≡ before_pair (index ∷ []) node.old ++ pair ∷ after_pair (index ∷ []) node.old }
+    ensures size { length (own_pairs node.new) ≡ length (own_pairs node.old) }
+    ensures levels { (h : ℕ) → IsLevelled h node.old → IsLevelled h node.new }
+    ensures moves { count.new.moves ≡ count.old.moves + 2 }
+    ensures comparisons { count.new.comparisons ≡ count.old.comparisons }
+{
+    node.replace_pair(index, pair, count)
+}

@@ -1,0 +1,43 @@
+-- How many nodes a tree has: a search goes on in fewer.
+use Rattle.std.proofs.Common.{◌≡◌, ℕ, zero, suc, ◌+◌, ◌<◌, ◌≤◌, List, [], ◌∷◌, length, map, get_or, Option, Some, None, Box, refl, ap, ◌∙◌, arith}
+use Rattle.std.specs.declared.alloc.Global.{Global}
+use Rattle.fc_tree_node.specs.declared.node.Node.{Node, Node-F, out-Node, map-Node, fold-Node, fold_out-Node}
+use Rattle.fc_tree_node.specs.Node.{items_or_none, children_of, child_at, boxed}
+
+abbrev pub total : List ℕ → ℕ
+total [] = 0
+total (x ∷ xs) = x + total xs
+
+module _ {K V : Type 0} where
+  abbrev nodes_step : Node-F K V ℕ → ℕ
+  nodes_step f = suc (total (map (λ b. b.value) (items_or_none f.children)))
+
+  -- the node and all nodes below it
+  abbrev pub nodes_of : Node K V → ℕ
+  nodes_of = fold-Node K V ℕ nodes_step
+
+  abbrev refilled : Box (Node K V) Global → Box ℕ Global
+  refilled d = record { ptr = d.ptr; alloc = d.alloc; value = nodes_of d.value }
+
+  counts_of : (bs : List (Box (Node K V) Global)) → map (λ (b : Box ℕ Global). b.value) (map refilled bs) ≡ map nodes_of (boxed bs)
+  counts_of [] = refl
+  counts_of (b ∷ bs) = ap (λ zs. nodes_of b.value ∷ zs) (counts_of bs)
+
+  folded : (ps : List (K × V)) (o : Option (List (Box (Node K V) Global))) → nodes_step (map-Node K V (Node K V) ℕ nodes_of (record { pairs = ps; children = o })) ≡ suc (total (map nodes_of (boxed (items_or_none o))))
+  folded ps None = refl
+  folded ps (Some bs) = ap (λ ns. suc (total ns)) (counts_of bs)
+
+  nodes_is : (n : Node K V) → nodes_of n ≡ suc (total (map nodes_of (children_of n)))
+  nodes_is n = fold_out-Node K V ℕ nodes_step n ∙ folded (out-Node K V n).pairs (out-Node K V n).children
+
+  fewer_in : (cs : List (Node K V)) (i : ℕ) (d : Node K V) → i < length cs → nodes_of (get_or cs i d) ≤ total (map nodes_of cs)
+  fewer_in [] i d h = absurd (omega arith)
+  fewer_in (c ∷ cs) zero d h = omega arith
+  fewer_in (c ∷ cs) (suc i) d h = let f = fewer_in cs i d (omega arith) in omega arith
+
+  pub fewer_nodes : (n c : Node K V) (i : ℕ) → i < length (children_of n) → c ≡ child_at n i → nodes_of c < nodes_of n
+  fewer_nodes n c i h e =
+      let f = fewer_in (children_of n) i n h in
+      let m = nodes_is n in
+      let s : nodes_of c ≡ nodes_of (child_at n i) = ap nodes_of e in
+      omega arith

@@ -1,0 +1,124 @@
+-- A descent to the pair at a place, and what a tree is once a value is written there.
+use Rattle.std.proofs.Common.{◌≡◌, ℕ, zero, suc, ◌+◌, ◌-◌, ◌<◌, ◌≤◌, List, [], ◌∷◌, length, take, drop, get_or, slice_get, slice_set, Some, Box, refl, sym, ap, subst, ◌∙◌, arith, add-one}
+use Rattle.std.specs.Option.{option_map}
+use Rattle.std.specs.Box.{with_value as set_box}
+use Rattle.std.specs.declared.alloc.Global.{Global}
+use Rattle.fc_tree_node.specs.declared.node.Node.{Node, out-Node, roll-Node}
+use Rattle.fc_tree_node.specs.Node.{items_or_none, own_pairs, children_of, child_at}
+use Rattle.fc_tree_node.specs.Place.{IsPlace, place_pair}
+use Rattle.fc_tree_search.specs.Written.{set_value, set_boxed, with_value, written}
+use Rattle.fc_tree_node.proofs.Pairs.{boxed_length, child_is}
+use Rattle.fc_tree_node.proofs.Gaps.{drop_item, drop_all, item_there}
+
+-- the rest of a path, as a slice of it
+after_is : (path : List ℕ) (i : ℕ) → take (length (i ∷ path) - 1) (drop 1 (i ∷ path)) ≡ path
+after_is path i = ap (λ m. take m path) (let e : length (i ∷ path) - 1 ≡ length path = omega arith in e) ∙ take_all path
+  where
+    take_all : (p : List ℕ) → take (length p) p ≡ p
+    take_all [] = refl
+    take_all (x ∷ p) = ap (λ q. x ∷ q) (take_all p)
+
+abbrev pub later_steps : List ℕ → List ℕ
+later_steps path = take (length path - 1) (drop 1 path)
+
+module _ {K V : Type 0} where
+  pub place_some : (path : List ℕ) (n : Node K V) → IsPlace path n → 0 < length path
+  place_some [] n p = absurd p
+  place_some (i ∷ path) n p = omega arith
+
+  -- one step j of a path that goes on in the child c
+  pub record IsStep (path : List ℕ) (n : Node K V) (i j : ℕ) : Type 0 where
+    pub there : j < length (children_of n)
+    pub place : IsPlace (drop (i + 1) path) (child_at n j)
+    pub pair : place_pair (drop (i + 1) path) (child_at n j) ≡ place_pair (drop i path) n
+
+  pub place_step : (path : List ℕ) (n : Node K V) (i j : ℕ) → i + 1 < length path → j ≡ get_or path i 0 → IsPlace (drop i path) n → IsStep path n i j
+  place_step path n i j h e p =
+      let next : drop (suc i) path ≡ get_or path (suc i) 0 ∷ drop (suc (suc i)) path = drop_item path (suc i) 0 (omega arith) in
+      let same : drop (i + 1) path ≡ get_or path (suc i) 0 ∷ drop (suc (suc i)) path = rw add-one next in
+      let all : drop i path ≡ j ∷ get_or path (suc i) 0 ∷ drop (suc (suc i)) path = drop_item path i 0 (omega arith) ∙ ap (λ q. get_or path i 0 ∷ q) next ∙ ap (λ m. m ∷ get_or path (suc i) 0 ∷ drop (suc (suc i)) path) (sym e) in
+      let q = subst (λ q. IsPlace q n) all p in
+      record {
+        there = q.0;
+        place = subst (λ q. IsPlace q (child_at n j)) (sym same) q.1;
+        pair = ap (λ q. place_pair q (child_at n j)) same ∙ ap (λ q. place_pair q n) (sym all);
+      }
+
+  -- the end of a path
+  pub place_end : (path : List ℕ) (n : Node K V) (i m j : ℕ) → m ≡ i → m + 1 ≡ length path → j ≡ get_or path m 0 → IsPlace (drop i path) n → (j < length (own_pairs n)) × (place_pair (drop i path) n ≡ slice_get (own_pairs n) j)
+  place_end path n i m j s h e p =
+      let all : drop i path ≡ j ∷ [] = drop_item path i 0 (omega arith) ∙ ap (λ q. get_or path i 0 ∷ q) (drop_all path (suc i) (omega arith)) ∙ ap (λ x. get_or path x 0 ∷ []) (sym s) ∙ ap (λ x. x ∷ []) (sym e) in
+      (subst (λ q. IsPlace q n) all p, ap (λ q. place_pair q n) all)
+
+  pub own_there : (n : Node K V) (i : ℕ) (p : K × V) → i < length (own_pairs n) → p ≡ get_or (own_pairs n) i p → slice_get (own_pairs n) i ≡ Some p
+  own_there n i p h e = let x = item_there (own_pairs n) i h in x.2 ∙ ap Some (sym (x.1 p) ∙ sym e)
+
+  -- a place that is no further down has one step
+  pub one_step_place : (path : List ℕ) (n : Node K V) → IsPlace path n → length path ≤ 1 → length path ≡ 1
+  one_step_place [] n p le = absurd p
+  one_step_place (i ∷ []) n p le = refl
+  one_step_place (i ∷ j ∷ path) n p le = absurd (omega arith)
+
+  pub here_pair : (path : List ℕ) (n : Node K V) → length path ≡ 1 → place_pair path n ≡ slice_get (own_pairs n) (get_or path 0 0)
+  here_pair [] n e = absurd (omega arith)
+  here_pair (i ∷ []) n e = refl
+  here_pair (i ∷ j ∷ path) n e = absurd (omega arith)
+
+  pub here_written : (path : List ℕ) (n : Node K V) (w : V) → length path ≡ 1 → with_value n (get_or path 0 0) w ≡ written n path w
+  unfolding written
+  here_written [] n w e = absurd (omega arith)
+  here_written (i ∷ []) n w e = refl
+  here_written (i ∷ j ∷ path) n w e = absurd (omega arith)
+
+  -- a path of more steps
+  pub below_there : (path : List ℕ) (n : Node K V) → (length path ≡ 1 → ⊥) → IsPlace path n → get_or path 0 0 < length (children_of n)
+  below_there [] n e p = absurd p
+  below_there (i ∷ []) n e p = absurd (e refl)
+  below_there (i ∷ j ∷ path) n e p = p.0
+
+  pub below_pair : (path : List ℕ) (n c : Node K V) → (length path ≡ 1 → ⊥) → c ≡ child_at n (get_or path 0 0) → IsPlace path n → place_pair path n ≡ place_pair (later_steps path) c
+  below_pair [] n c e s p = absurd p
+  below_pair (i ∷ []) n c e s p = absurd (e refl)
+  below_pair (i ∷ j ∷ path) n c e s p = ap (λ m. place_pair (j ∷ path) m) (sym s) ∙ ap (λ q. place_pair q c) (sym (after_is (j ∷ path) i))
+
+  set_is_value : (s : List (K × V)) (i : ℕ) (e : K × V) (w : V) → i < length s → e ≡ get_or s i e → slice_set s i (e.0, w) ≡ set_value s i w
+  set_is_value [] i e w h r = refl
+  set_is_value (x ∷ s) zero e w h r = ap (λ y. (y.0, w) ∷ s) r
+  set_is_value (x ∷ s) (suc i) e w h r = ap (λ t. x ∷ t) (set_is_value s i e w (omega arith) r)
+
+  set_is_boxed : (bs : List (Box (Node K V) Global)) (i : ℕ) (b : Box (Node K V) Global) (c : Node K V) → i < length bs → b ≡ get_or bs i b → slice_set bs i (set_box b c) ≡ set_boxed bs i c
+  set_is_boxed [] i b c h r = refl
+  set_is_boxed (x ∷ bs) zero b c h r = ap (λ y. set_box y c ∷ bs) r
+  set_is_boxed (x ∷ bs) (suc i) b c h r = ap (λ t. x ∷ t) (set_is_boxed bs i b c (omega arith) r)
+
+  -- what a lent pair of the node's own leaves
+  pub own_written : (n : Node K V) (i : ℕ) (e : K × V) (w : V) → i < length (own_pairs n) → e ≡ get_or (own_pairs n) i e → roll-Node K V (record { pairs = slice_set (own_pairs n) i (e.0, w); children = (out-Node K V n).children }) ≡ with_value n i w
+  own_written n i e w h r = ap (λ ps. roll-Node K V (record { pairs = ps; children = (out-Node K V n).children })) (set_is_value (own_pairs n) i e w h r)
+
+  module _ (path : List ℕ) (n : Node K V) (bs : List (Box (Node K V) Global)) (b : Box (Node K V) Global) (c : Node K V) (is : (out-Node K V n).children ≡ Some bs) (more : length path ≡ 1 → ⊥) (at : b ≡ get_or bs (get_or path 0 0) b) (in' : c ≡ b.value) where
+    -- there is a box for the child
+    pub boxes_there : IsPlace path n → get_or path 0 0 < length bs
+    boxes_there p =
+        let h = below_there path n more p in
+        let e : length (children_of n) ≡ length bs = boxed_length (items_or_none (out-Node K V n).children) ∙ ap (λ o. length (items_or_none o)) is in
+        omega arith
+
+    pub child_in : IsPlace path n → c ≡ child_at n (get_or path 0 0)
+    child_in p =
+        let h = boxes_there p in
+        let j = get_or path 0 0 in
+        child_is n j b c (subst (λ o. j < length (items_or_none o)) (sym is) h) (subst (λ o. b ≡ get_or (items_or_none o) j b) (sym is) at) in'
+
+-- what a lent child leaves
+pub below_written : {K V : Type 0} (path : List ℕ) (n : Node K V) (bs : List (Box (Node K V) Global)) (b : Box (Node K V) Global) (c : Node K V) (w : V) → (out-Node K V n).children ≡ Some bs → (length path ≡ 1 → ⊥) → b ≡ get_or bs (get_or path 0 0) b → c ≡ b.value → IsPlace path n
+    → roll-Node K V (record { pairs = own_pairs n; children = Some (slice_set bs (get_or path 0 0) (set_box b (written c (later_steps path) w))) }) ≡ written n path w
+unfolding written
+below_written [] n bs b c w is more at v p = absurd p
+below_written (i ∷ []) n bs b c w is more at v p = absurd (more refl)
+below_written {K} {V} (i ∷ j ∷ path) n bs b c w is more at v p =
+    let h = boxes_there (i ∷ j ∷ path) n bs b c is more at v p in
+    let same = child_in (i ∷ j ∷ path) n bs b c is more at v p in
+    ap (λ q. roll-Node K V (record { pairs = own_pairs n; children = Some (slice_set bs i (set_box b (written c q w))) })) (after_is (j ∷ path) i)
+    ∙ ap (λ m. roll-Node K V (record { pairs = own_pairs n; children = Some (slice_set bs i (set_box b (written m (j ∷ path) w))) })) same
+    ∙ ap (λ ds. roll-Node K V (record { pairs = own_pairs n; children = Some ds })) (set_is_boxed bs i b (written (child_at n i) (j ∷ path) w) h at)
+    ∙ ap (λ o. roll-Node K V (record { pairs = own_pairs n; children = option_map (λ ds. set_boxed ds i (written (child_at n i) (j ∷ path) w)) o })) (sym is)

@@ -1,0 +1,51 @@
+-- What a tree is, once a value is written at a place.
+use Rattle.std.specs.Prelude.{ℕ, zero, suc, List, [], ◌∷◌, Option, Some}
+use Rattle.std.specs.Option.{option_map}
+use Rattle.std.specs.Borrow.{Fml, RattleType, MutBor, Lends}
+use Rattle.std.specs.contracts.option.Option as option
+use Rattle.std.specs.declared.boxed.Box.{Box}
+use Rattle.std.specs.declared.alloc.Global.{Global}
+use Rattle.std.specs.Box.{with_value as set_box}
+use Rattle.fc_tree_node.specs.declared.node.Node.{Node, out-Node, roll-Node}
+use Rattle.fc_tree_node.specs.Node.{child_at}
+use Rattle.fc_tree_node.specs.contracts.node.Node.{the_row}
+
+-- The pairs with this value at the place, which keeps its key.
+abbrev pub set_value : {K V : Type 0} → List (K × V) → ℕ → V → List (K × V)
+set_value [] i w = []
+set_value (e ∷ es) zero w = (e.0, w) ∷ es
+set_value (e ∷ es) (suc i) w = e ∷ set_value es i w
+
+module _ {K V : Type 0} where
+  -- The boxes with this node in the one at the place.
+  abbrev pub set_boxed : List (Box (Node K V) Global) → ℕ → Node K V → List (Box (Node K V) Global)
+  set_boxed [] i c = []
+  set_boxed (b ∷ bs) zero c = set_box b c ∷ bs
+  set_boxed (b ∷ bs) (suc i) c = b ∷ set_boxed bs i c
+
+  -- The node with this value in its own pair at the place.
+  abbrev pub with_value : Node K V → ℕ → V → Node K V
+  with_value n i w = roll-Node K V (record { pairs = set_value (out-Node K V n).pairs i w; children = (out-Node K V n).children })
+
+  -- The node with this child at the place.
+  abbrev pub with_child : Node K V → ℕ → Node K V → Node K V
+  with_child n i c = roll-Node K V (record { pairs = (out-Node K V n).pairs; children = option_map (λ bs. set_boxed bs i c) (out-Node K V n).children })
+
+  -- The tree with this value at the place that the path leads to.
+  unfoldable pub written : Node K V → List ℕ → V → Node K V
+  written n [] w = n
+  written n (i ∷ []) w = with_value n i w
+  written n (i ∷ j ∷ path) w = with_child n i (written (child_at n i) (j ∷ path) w)
+
+-- Once the borrow r of what is in `Some` ends, it is there what was left after r.
+abbrev pub lends_content : (T : RattleType) → MutBor (Option T.Denot) → MutBor T.Denot → Fml
+lends_content T o r = Lends (option.the_row T) T o r Some
+
+module _ (K V : RattleType) where
+  -- Once the borrow r of the own value at the place ends, the node has there what was written through r.
+  abbrev pub lends_value : MutBor (Node K.Denot V.Denot) → ℕ → MutBor V.Denot → Fml
+  lends_value n i r = Lends (the_row K V) V n r (with_value n.now i)
+
+  -- Once the borrow r of the value at the place ends, the tree has there what was written through r.
+  abbrev pub lends_at : MutBor (Node K.Denot V.Denot) → List ℕ → MutBor V.Denot → Fml
+  lends_at n path r = Lends (the_row K V) V n r (written n.now path)

@@ -1,0 +1,103 @@
+//! The pair at a place of a tree, lent for reading, and its value for writing.
+ghost use Rattle.std.specs.Prelude.{◌≡◌, ℕ, suc, ◌<◌, ◌≤◌, length, slice_get, IsSome};
+ghost use Rattle.std.specs.Option.{option_map};
+ghost use Rattle.std.specs.Borrow.{sem};
+ghost use Rattle.fc_tree_node.specs.Node.{own_pairs};
+ghost use Rattle.fc_tree_node.specs.Place.{IsPlace, place_pair};
+ghost use Rattle.fc_tree_search.specs.Written.{lends_content, lends_value, lends_at, written};
+
+use fc_tree_node::node::Node;
+use fc_tree_node::path::Path;
+use std::marker::PhantomData;
+
+/// The pair at the end of the path.
+pub fn pair_at<'a, K, V>(root: &'a Node<K, V>, path: &Path) -> &'a (K, V)
+    requires { IsPlace path.now root.now }
+    ensures { place_pair path.now root.now ≡ Some result.now }
+{
+    let last = path.len() - 1;
+    let mut node = root;
+    for i in 0..last {
+        node = node.child(path.step(i));
+    }
+    node.pair(path.step(last))
+}
+
+/// What is in `Some`.
+pub fn content<T>(holder: &mut Option<T>) -> &mut T
+    requires { IsSome holder.old }
+    ensures* writes_back { sem 𝓛 (lends_content T.row holder.entry result) }
+    ensures value { holder.old ≡ Some result.now }
+{
+    match holder {
+        None => unreachable!(),
+        Some(item) => item,
+    }
+}
+
+// The value of the node's own pair at `index`.
+fn own_value<K, V>(node: &mut Node<K, V>, index: usize) -> &mut V
+    requires { index < length (own_pairs node.old) }
+    ensures* writes_back { sem 𝓛 (lends_value K.row V.row node.entry index result) }
+    ensures value { option_map (λ e. e.1) (slice_get (own_pairs node.old) index) ≡ Some result.now }
+{
+    &mut node.pairs.get_mut(index).1
+}
+
+// A descent along a path of at most so many steps.
+trait Descend {
+    ghost steps: { ℕ };
+
+    // The value of the pair at the end of the path.
+    fn value_mut<'a, K, V>(node: &'a mut Node<K, V>, path: &[u8]) -> &'a mut V
+        requires place { IsPlace path.now node.old }
+        requires bounded { length path.now ≤ steps }
+        ensures* writes_back { sem 𝓛 (lends_at K.row V.row node.entry path.now result) }
+        ensures value { option_map (λ e. e.1) (place_pair path.now node.old) ≡ Some result.now };
+}
+
+// To a pair of the node itself.
+struct Here;
+
+impl Descend for Here {
+    ghost steps = { 1 };
+
+    fn value_mut<'a, K, V>(node: &'a mut Node<K, V>, path: &[u8]) -> &'a mut V {
+        own_value(node, path[0] as usize)
+    }
+}
+
+// One step further than D goes.
+struct Below<D: Descend> {
+    rest: PhantomData<D>,
+}
+
+impl<D: Descend> Descend for Below<D> {
+    ghost steps = { suc D.steps };
+
+    fn value_mut<'a, K, V>(node: &'a mut Node<K, V>, path: &[u8]) -> &'a mut V {
+        let place = path[0] as usize;
+        if path.len() == 1 {
+            own_value(node, place)
+        } else {
+            D::value_mut(content(&mut node.children).get_mut(place), &path[1..])
+        }
+    }
+}
+
+type FourBelow<D> = Below<Below<Below<Below<D>>>>;
+
+type TwelveBelow<D> = FourBelow<FourBelow<FourBelow<D>>>;
+
+// As many steps as a path may have, which no constant can tell a type: one too few is refused. A type for each level stands for
+// a recursion, of which a value can't be lent without a proof by hand.
+type Down = TwelveBelow<TwelveBelow<Here>>;
+
+/// The value of the pair at the end of the path, lent for writing: the tree ends with what is written in its place.
+pub fn value_mut<'a, K, V>(root: &'a mut Node<K, V>, path: &Path) -> &'a mut V
+    requires { IsPlace path.now root.old }
+    ensures* writes_back { sem 𝓛 (lends_at K.row V.row root.entry path.now result) }
+    ensures value { option_map (λ e. e.1) (place_pair path.now root.old) ≡ Some result.now }
+{
+    Down::value_mut(root, path.as_slice())
+}

@@ -1,4 +1,0 @@
-use Rattle.fc_tree_tests.proofs.cutting.+run_end.Given as goal
-
-abbrev pub decreases-run_end : goal.decreases-run_end
-decreases-run_end l = l.height

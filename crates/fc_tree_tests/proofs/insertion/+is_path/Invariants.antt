@@ -1,5 +1,0 @@
-use Rattle.std.proofs.Common.{length}
-use Rattle.fc_tree_tests.proofs.insertion.+is_path.Given as goal
-
-abbrev pub decreases-is_path : goal.decreases-is_path
-decreases-is_path l = length l.path.now

@@ -1,5 +1,0 @@
-use Rattle.std.proofs.Common.{length}
-use Rattle.fc_tree_tests.proofs.trees.+is_place.Given as goal
-
-abbrev pub decreases-is_place : goal.decreases-is_place
-decreases-is_place l = length l.path.now

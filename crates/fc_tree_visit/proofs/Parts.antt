@@ -1,0 +1,213 @@
+-- The parts of a node, and what is left of them once a child or a value is written.
+use Rattle.std.proofs.Common.{◌≡◌, ℕ, zero, suc, ◌+◌, ◌<◌, ◌≤◌, List, [], ◌∷◌, ◌++◌, length, map, take, drop, get_or, slice_set, refl, sym, ap, subst, ◌∙◌, append_assoc, Some, Box, arith, ◌⊎◌, inl, inr}
+use Rattle.std.specs.List.{AllByRecursion}
+use Rattle.std.specs.Option.{option_map}
+use Rattle.std.specs.Box.{with_value as set_box}
+use Rattle.std.specs.declared.alloc.Global.{Global}
+use Rattle.std.proofs.lemmas.List.{append_cancel_right, length-append}
+use Rattle.fc_tree_node.specs.Weave.{weave, before_list, after_list}
+use Rattle.fc_tree_node.specs.declared.node.Node.{Node, out-Node, roll-Node}
+use Rattle.fc_tree_node.specs.Node.{items_or_none, own_pairs, children_of, child_at, pairs_of, IsLevelled}
+use Rattle.fc_tree_node.specs.Place.{before_child, after_child, before_own, after_own}
+use Rattle.fc_tree_search.specs.Written.{set_value, set_boxed, with_value, with_child}
+use Rattle.fc_tree_node.proofs.Lists.{length_set, all_set}
+use Rattle.fc_tree_node.proofs.Made.{field_made}
+use Rattle.fc_tree_node.proofs.Pairs.{IsBelow, boxed_length, child_is}
+use Rattle.fc_tree_node.proofs.Gaps.{drop_item, item_there, leaf_gap, inner_gap, own_pair, before_child_pair, after_child_pair}
+use Rattle.fc_tree_search.proofs.WrittenPairs.{length_value, value_own, value_children, child_own, child_children}
+
+order : (i j : ℕ) → (i ≤ j) ⊎ (j < i)
+order zero j = inl (omega arith)
+order (suc i) zero = inr (omega arith)
+order (suc i) (suc j) = one (order i j)
+  where
+    one : (i ≤ j) ⊎ (j < i) → (suc i ≤ suc j) ⊎ (suc j < suc i)
+    one (inl h) = inl (omega arith)
+    one (inr h) = inr (omega arith)
+
+module _ {X : Type 0} where
+  take_set : (xs : List X) (i : ℕ) (x : X) → take i (slice_set xs i x) ≡ take i xs
+  take_set [] i x = refl
+  take_set (y ∷ xs) zero x = refl
+  take_set (y ∷ xs) (suc i) x = ap (λ zs. y ∷ zs) (take_set xs i x)
+
+  drop_set : (xs : List X) (i : ℕ) (x : X) → drop (suc i) (slice_set xs i x) ≡ drop (suc i) xs
+  drop_set [] i x = refl
+  drop_set (y ∷ xs) zero x = refl
+  drop_set (y ∷ xs) (suc i) x = drop_set xs i x
+
+  get_set : (xs : List X) (i : ℕ) (x d : X) → i < length xs → get_or (slice_set xs i x) i d ≡ x
+  get_set [] i x d h = absurd (omega arith)
+  get_set (y ∷ xs) zero x d h = refl
+  get_set (y ∷ xs) (suc i) x d h = get_set xs i x d (omega arith)
+
+  drop_more : (i : ℕ) (xs : List X) → drop (suc i) xs ≡ drop 1 (drop i xs)
+  drop_more zero xs = refl
+  drop_more (suc i) [] = refl
+  drop_more (suc i) (x ∷ xs) = drop_more i xs
+
+  -- lists that are one from a place on are so from the next
+  pub drop_next : (i : ℕ) (xs ys : List X) → drop i xs ≡ drop i ys → drop (suc i) xs ≡ drop (suc i) ys
+  drop_next i xs ys e = drop_more i xs ∙ ap (drop 1) e ∙ sym (drop_more i ys)
+
+  get_any : (xs : List X) (i : ℕ) (d e : X) → i < length xs → get_or xs i d ≡ get_or xs i e
+  get_any xs i d e h = let x = item_there xs i h in x.1 d ∙ sym (x.1 e)
+
+  pub drop_get : (xs ys : List X) (i : ℕ) (d e : X) → drop i xs ≡ drop i ys → i < length xs → i < length ys → get_or xs i d ≡ get_or ys i e
+  drop_get xs ys i d e p h k =
+      let a = drop_item xs i d h in
+      let b = drop_item ys i d k in
+      let c = get_any ys i d e k in
+      cc
+
+module _ {K V : Type 0} where
+  take_value : (s : List (K × V)) (i : ℕ) (w : V) → take i (set_value s i w) ≡ take i s
+  take_value [] i w = refl
+  take_value (e ∷ s) zero w = refl
+  take_value (e ∷ s) (suc i) w = ap (λ zs. e ∷ zs) (take_value s i w)
+
+  drop_value : (s : List (K × V)) (i : ℕ) (w : V) → drop (suc i) (set_value s i w) ≡ drop (suc i) s
+  drop_value [] i w = refl
+  drop_value (e ∷ s) zero w = refl
+  drop_value (e ∷ s) (suc i) w = drop_value s i w
+
+  get_value : (s : List (K × V)) (i : ℕ) (w : V) (e d : K × V) → i < length s → e ≡ get_or s i e → get_or (set_value s i w) i d ≡ (e.0, w)
+  get_value [] i w e d h p = absurd (omega arith)
+  get_value (x ∷ s) zero w e d h p = ap (λ y. (y.0, w)) (sym p)
+  get_value (x ∷ s) (suc i) w e d h p = get_value s i w e d (omega arith) p
+
+  set_is_boxed : (bs : List (Box (Node K V) Global)) (i : ℕ) (b : Box (Node K V) Global) (c : Node K V) → i < length bs → b ≡ get_or bs i b → slice_set bs i (set_box b c) ≡ set_boxed bs i c
+  set_is_boxed [] i b c h r = refl
+  set_is_boxed (x ∷ bs) zero b c h r = ap (λ y. set_box y c ∷ bs) r
+  set_is_boxed (x ∷ bs) (suc i) b c h r = ap (λ t. x ∷ t) (set_is_boxed bs i b c (omega arith) r)
+
+  -- what is before a pair ends with the child before it, or is what leads there
+  pub before_own_child : (h : ℕ) (n : Node K V) (i : ℕ) → IsLevelled (suc h) n → i < length (own_pairs n) → before_own n i ≡ before_child n i ++ pairs_of (child_at n i)
+  before_own_child h n i l lt =
+      let p = (item_there (own_pairs n) i lt).0 in
+      let a = own_pair (suc h) n i p l lt in
+      let b = inner_gap n i l.1 (omega arith) in
+      let r = after_child_pair n i p lt in
+      append_cancel_right (before_own n i) (before_child n i ++ pairs_of (child_at n i)) (after_child n i)
+      (ap (λ zs. before_own n i ++ zs) r ∙ sym a ∙ b ∙ sym (append_assoc (before_child n i) (pairs_of (child_at n i)) (after_child n i)))
+
+  pub before_leaf : (n : Node K V) (i : ℕ) → IsLevelled 0 n → i < length (own_pairs n) → before_own n i ≡ before_child n i
+  before_leaf n i l lt =
+      let p = (item_there (own_pairs n) i lt).0 in
+      let a = own_pair 0 n i p l lt in
+      let r = after_child_pair n i p lt in
+      append_cancel_right (before_own n i) (before_child n i) (after_child n i) (ap (λ zs. before_own n i ++ zs) r ∙ sym a ∙ leaf_gap n i l.1)
+
+  before_short : (h : ℕ) (n : Node K V) (i : ℕ) → IsLevelled h n → i < length (own_pairs n) → length (before_child n i) ≤ length (before_own n i)
+  before_short zero n i l lt = let e = ap length (before_leaf n i l lt) in omega arith
+  before_short (suc h) n i l lt =
+      let e = ap length (before_own_child h n i l lt) in
+      let f = length-append (before_child n i) (pairs_of (child_at n i)) in
+      omega arith
+
+  before_less : (h : ℕ) (n : Node K V) (j i : ℕ) → IsLevelled h n → j < i → i ≤ length (own_pairs n) → length (before_own n j) < length (before_child n i)
+  before_less h n j zero l lt le = absurd (omega arith)
+  before_less h n j (suc i) l lt le = go (order i j) (λ q. before_less h n j i l q (omega arith))
+    where
+      grows : length (before_own n i) < length (before_child n (suc i))
+      grows =
+          let p = (item_there (own_pairs n) i (omega arith)).0 in
+          let e = ap length (before_child_pair h n i p l (omega arith)) in
+          let f = length-append (before_own n i) (get_or (own_pairs n) i p ∷ []) in
+          let g : length (get_or (own_pairs n) i p ∷ []) ≡ 1 = refl in
+          omega arith
+
+      go : (i ≤ j) ⊎ (j < i) → (j < i → length (before_own n j) < length (before_child n i)) → length (before_own n j) < length (before_child n (suc i))
+      go (inl q) less = let e : j ≡ i = omega arith in subst (λ k. length (before_own n k) < length (before_child n (suc i))) (sym e) grows
+      go (inr q) less =
+          let r = less q in
+          let s = before_short h n i l (omega arith) in
+          let t = grows in
+          omega arith
+
+  -- a gap before another is not after it
+  pub in_order : (h : ℕ) (n : Node K V) (i j : ℕ) → IsLevelled h n → i ≤ length (own_pairs n) → length (before_child n i) + length (after_child n j) ≤ length (pairs_of n) → i ≤ j
+  in_order h n i j l le o = go (order i j)
+    where
+      go : (i ≤ j) ⊎ (j < i) → i ≤ j
+      go (inl q) = q
+      go (inr lt) =
+          let p = (item_there (own_pairs n) j (omega arith)).0 in
+          let a = ap length (own_pair h n j p l (omega arith)) in
+          let b = ap length (after_child_pair n j p (omega arith)) in
+          let f = length-append (before_own n j) (get_or (own_pairs n) j p ∷ after_own n j) in
+          let m = before_less h n j i l lt le in
+          omega arith
+
+  -- the node with another child
+  module _ (n : Node K V) (i : ℕ) (c : Node K V) where
+    abbrev m : Node K V
+    m = with_child n i c
+
+    pub child_before : before_child m i ≡ before_child n i
+    child_before =
+        ap (λ ds. before_list (map pairs_of ds) (take i (own_pairs m))) (ap (take i) (child_children n i c) ∙ take_set (children_of n) i c)
+        ∙ ap (λ ps. before_list (map pairs_of (take i (children_of n))) (take i ps)) (child_own n i c)
+
+    pub child_after_child : after_child m i ≡ after_child n i
+    child_after_child =
+        ap (λ ds. after_list (drop i (own_pairs m)) (map pairs_of ds)) (ap (drop (suc i)) (child_children n i c) ∙ drop_set (children_of n) i c)
+        ∙ ap (λ ps. after_list (drop i ps) (map pairs_of (drop (suc i) (children_of n)))) (child_own n i c)
+
+    pub child_there : i < length (children_of n) → child_at m i ≡ c
+    child_there lt = ap (λ ds. get_or ds i m) (child_children n i c) ∙ get_set (children_of n) i c m lt
+
+    pub child_after : drop (suc i) (children_of m) ≡ drop (suc i) (children_of n)
+    child_after = ap (drop (suc i)) (child_children n i c) ∙ drop_set (children_of n) i c
+
+    pub child_levels : (h : ℕ) → IsLevelled (suc h) n → IsBelow h c → IsLevelled (suc h) m
+    child_levels h l b =
+        let e : length (own_pairs m) ≡ length (own_pairs n) = ap length (child_own n i c) in
+        let f : length (children_of m) ≡ length (children_of n) = ap length (child_children n i c) ∙ length_set (children_of n) i c in
+        let g : length (children_of n) ≡ length (own_pairs n) + 1 = l.1 in
+        (omega (arith, l.0), omega arith, subst (AllByRecursion (IsBelow h)) (sym (child_children n i c)) (all_set (IsBelow h) (children_of n) i c l.2 b))
+
+  -- a child that was lent, and came back as d
+  module _ (n : Node K V) (bs : List (Box (Node K V) Global)) (b : Box (Node K V) Global) (c : Node K V) (i : ℕ) (is : (out-Node K V n).children ≡ Some bs) (at : b ≡ get_or bs i b) (in' : c ≡ b.value) where
+    pub child_lent : i < length (children_of n) → c ≡ child_at n i
+    child_lent h =
+        let e : length (children_of n) ≡ length bs = boxed_length (items_or_none (out-Node K V n).children) ∙ ap (λ o. length (items_or_none o)) is in
+        let k : i < length bs = omega arith in
+        child_is n i b c (subst (λ o. i < length (items_or_none o)) (sym is) k) (subst (λ o. b ≡ get_or (items_or_none o) i b) (sym is) at) in'
+
+    pub boxes_there : i < length (children_of n) → i < length bs
+    boxes_there h =
+        let e : length (children_of n) ≡ length bs = boxed_length (items_or_none (out-Node K V n).children) ∙ ap (λ o. length (items_or_none o)) is in
+        omega arith
+
+    pub child_back : (d : Node K V) → i < length (children_of n) → roll-Node K V (record { pairs = own_pairs n; children = Some (slice_set bs i (set_box b d)) }) ≡ with_child n i d
+    child_back d h =
+        ap (λ ds. roll-Node K V (record { pairs = own_pairs n; children = Some ds })) (set_is_boxed bs i b d (boxes_there h) at)
+        ∙ ap (λ o. roll-Node K V (record { pairs = own_pairs n; children = option_map (λ ds. set_boxed ds i d) o })) (sym is)
+
+  -- the node with another value
+  module _ (n : Node K V) (i : ℕ) (w : V) where
+    abbrev v : Node K V
+    v = with_value n i w
+
+    pub value_before : before_own v i ≡ before_own n i
+    value_before =
+        ap (λ cs. weave (map pairs_of (take (suc i) cs)) (take i (own_pairs v))) (value_children n i w)
+        ∙ ap (weave (map pairs_of (take (suc i) (children_of n)))) (ap (take i) (value_own n i w) ∙ take_value (own_pairs n) i w)
+
+    pub value_there : (e d : K × V) → i < length (own_pairs n) → e ≡ get_or (own_pairs n) i e → get_or (own_pairs v) i d ≡ (e.0, w)
+    value_there e d lt p = ap (λ s. get_or s i d) (value_own n i w) ∙ get_value (own_pairs n) i w e d lt p
+
+    pub value_length : length (own_pairs v) ≡ length (own_pairs n)
+    value_length = ap length (value_own n i w) ∙ length_value (own_pairs n) i w
+
+    pub value_after : drop (suc i) (own_pairs v) ≡ drop (suc i) (own_pairs n)
+    value_after = ap (drop (suc i)) (value_own n i w) ∙ drop_value (own_pairs n) i w
+
+    pub value_levels : (h : ℕ) → IsLevelled h n → IsLevelled h v
+    value_levels zero l = let e = value_length in (omega (arith, l.0), field_made _ ∙ l.1)
+    value_levels (suc h) l =
+        let e = value_length in
+        let f : length (children_of v) ≡ length (children_of n) = ap length (value_children n i w) in
+        let g : length (children_of n) ≡ length (own_pairs n) + 1 = l.1 in
+        (omega (arith, l.0), omega arith, subst (AllByRecursion (IsBelow h)) (sym (value_children n i w)) l.2)

@@ -1,0 +1,15 @@
+use Rattle.std.proofs.Common.{◌≡◌, ◌-◌, ◌<◌, length, get_or, ap, subst, ◌∙◌, arith}
+use Rattle.std.specs.Prelude.{slice_set}
+use Rattle.fc_tree_visit.specs.Leaf.{gone_on}
+use Rattle.fc_tree_visit.proofs.LeafFacts.{set_back}
+use Rattle.fc_tree_visit.proofs.leaf.go_to_previous.Goals as goal
+
+pub returns : goal.returns
+returns c =
+    let p = c.args.gap.now in
+    let n = c.len-last.ensures.value in
+    let some = c.requires.some in
+    let last = c.len-last.result - 1 in
+    let before = c.requires.before in
+    let same : length p - 1 ≡ last = omega arith in
+    ap (λ q. gone_on q 1) (c.set.ensures ∙ ap (λ k. slice_set p last (k - 1)) c.step.ensures) ∙ set_back p last (omega arith) (subst (λ i. 0 < get_or p i 0) same before)

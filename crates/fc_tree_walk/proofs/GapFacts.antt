@@ -1,0 +1,400 @@
+-- From a gap of a leaf to the pair on either side, and to the gap on the other side of it.
+use Rattle.std.proofs.Common.{◌≡◌, ℕ, zero, suc, ◌+◌, ◌-◌, ◌<◌, ◌≤◌, List, [], ◌∷◌, ◌++◌, length, take, get_or, refl, sym, ap, subst, ◌∙◌, arith, add-one, Some, None, append-nil, append_assoc, length-append}
+use Rattle.std.specs.Prelude.{slice_range}
+use Rattle.fc_base.specs.Sizes.{capacity, most_levels}
+use Rattle.fc_tree_node.specs.declared.node.Node.{Node}
+use Rattle.fc_tree_node.specs.Node.{own_pairs, children_of, child_at, pairs_of, IsLevelled}
+use Rattle.fc_tree_node.specs.Path.{IsPath, before_gap}
+use Rattle.fc_tree_node.specs.Place.{before_child, after_child, before_own, IsPlace, before_pair}
+use Rattle.fc_tree_node.proofs.Pairs.{child_below, leaf_children}
+use Rattle.fc_tree_node.proofs.PathSteps.{IsStep}
+use Rattle.fc_tree_node.proofs.Gaps.{leaf_gap, inner_gap, own_pair, before_child_pair, after_child_pair, after_none, item_there}
+use Rattle.fc_tree_node.proofs.Lists.{length_take}
+use Rattle.fc_tree_node.specs.Tree.{Map, entries, IsSoundMap}
+use Rattle.fc_tree_walk.specs.Gap.{zeros, one_back, GoesOn, IsGapIn}
+use Rattle.fc_tree_node.specs.LeafGap.{IsLeafGap}
+use Rattle.fc_tree_node.specs.TreePlace.{IsPlaceIn, before_gap_in, before_pair_in}
+
+length_zeros : (k : ℕ) → length (zeros k) ≡ k
+length_zeros zero = refl
+length_zeros (suc k) = ap suc (length_zeros k)
+
+zeros_more : (k : ℕ) → zeros k ++ 0 ∷ [] ≡ zeros (suc k)
+zeros_more zero = refl
+zeros_more (suc k) = ap (λ p. 0 ∷ p) (zeros_more k)
+
+-- a path that went on by so many zeros, up to a number of steps
+abbrev pub Went : List ℕ → ℕ → List ℕ → ℕ → Type 0
+Went path step gap count = (k : ℕ) × (gap ≡ path ++ step ∷ zeros k) × (k + length path + 1 ≡ count)
+
+pub went_length : (path : List ℕ) (step : ℕ) (gap : List ℕ) (count : ℕ) → Went path step gap count → length gap ≡ count
+went_length path step gap count w = let e = w.2 in let z = length_zeros w.0 in ap length w.1 ∙ length-append path _ ∙ omega arith
+
+pub went_on : (path : List ℕ) (step : ℕ) (gap : List ℕ) (count : ℕ) → Went path step gap count → Went path step (gap ++ 0 ∷ []) (count + 1)
+went_on path step gap count w = let e = w.2 in (suc w.0, ap (λ g. g ++ 0 ∷ []) w.1 ∙ append_assoc path (step ∷ zeros w.0) (0 ∷ []) ∙ ap (λ p. path ++ step ∷ p) (zeros_more w.0), omega arith)
+
+pub went_all : (path : List ℕ) (step : ℕ) (gap : List ℕ) (count depth : ℕ) → Went path step gap count → count ≡ depth → gap ≡ path ++ step ∷ zeros (depth - length path - 1)
+went_all path step gap count depth w s = let e = w.2 in w.1 ∙ ap (λ k. path ++ step ∷ zeros k) (omega arith)
+
+-- the path to the pair before a gap
+back_is : (gap : List ℕ) (last : ℕ) → last < length gap → one_back (take (suc last) gap) ≡ take last gap ++ (get_or gap last 0 - 1) ∷ []
+back_is [] last k = absurd (omega arith)
+back_is (i ∷ gap) zero k = refl
+back_is (i ∷ []) (suc last) k = absurd (omega arith)
+back_is (i ∷ j ∷ gap) (suc last) k = ap (λ p. i ∷ p) (back_is (j ∷ gap) last (omega arith))
+
+module _ {K V : Type 0} where
+  -- how many pairs are before a node's own pair: those that lead to the child before it, and that child's
+  leaf_before_own : (n : Node K V) (i : ℕ) → IsLevelled 0 n → i < length (own_pairs n) → length (before_own n i) ≡ length (before_child n i)
+  leaf_before_own n i l h =
+      let x = (item_there (own_pairs n) i h).0 in
+      let a = ap length (own_pair 0 n i x l h) ∙ length-append (before_own n i) _ in
+      let b = ap length (leaf_gap n i l.1) ∙ length-append (before_child n i) (after_child n i) in
+      let c = ap length (after_child_pair n i x h) in
+      omega (arith, a, b, c)
+
+  inner_length : (h : ℕ) (n : Node K V) (i : ℕ) → IsLevelled (suc h) n → i ≤ length (own_pairs n) → length (pairs_of n) ≡ length (before_child n i) + (length (pairs_of (child_at n i)) + length (after_child n i))
+  inner_length h n i l le =
+      ap length (inner_gap n i l.1 le) ∙ length-append (before_child n i) _ ∙ ap (λ m. length (before_child n i) + m) (length-append (pairs_of (child_at n i)) (after_child n i))
+
+  inner_before : (h : ℕ) (n : Node K V) (i : ℕ) → IsLevelled (suc h) n → i < length (own_pairs n) → length (before_own n i) ≡ length (before_child n i) + length (pairs_of (child_at n i))
+  inner_before h n i l k =
+      let x = (item_there (own_pairs n) i k).0 in
+      let a = ap length (own_pair (suc h) n i x l k) ∙ length-append (before_own n i) _ in
+      let b = inner_length h n i l (omega arith) in
+      let c = ap length (after_child_pair n i x k) in
+      omega (arith, a, b, c)
+
+  -- the pair after a gap
+  pub record IsNext (gap : List ℕ) (n : Node K V) (steps : ℕ) : Type 0 where
+    pub within : steps ≤ length gap
+    pub none : steps ≡ 0 → length (before_gap gap n) ≡ length (pairs_of n)
+    pub place : 0 < steps → IsPlace (take steps gap) n
+    pub before : 0 < steps → length (before_pair (take steps gap) n) ≡ length (before_gap gap n)
+
+  next_at_leaf : (i : ℕ) (n : Node K V) (own : ℕ) → i ≤ length (own_pairs n) → IsLevelled 0 n → (own ≡ 0 → length (own_pairs n) ≤ i) → (0 < own → (own ≡ 1) × (i < length (own_pairs n))) → IsNext (i ∷ []) n own
+  next_at_leaf i n zero le l z s =
+      record {
+        within = omega arith;
+        none = λ e.
+            let b = ap length (leaf_gap n i l.1) ∙ length-append (before_child n i) (after_child n i) in
+            let c = ap length (after_none n i (z refl)) in
+            let d = length-append (before_child n i) (before_gap [] (child_at n i)) in
+            omega (arith, b, c, d);
+        place = λ k. absurd (omega arith);
+        before = λ k. absurd (omega arith);
+      }
+  next_at_leaf i n (suc zero) le l z s =
+      let k = (s (omega arith)).1 in
+      record {
+        within = omega arith;
+        none = λ e. absurd (omega arith);
+        place = λ _. k;
+        before = λ _. leaf_before_own n i l k ∙ ap length (sym (append-nil (before_child n i)));
+      }
+  next_at_leaf i n (suc (suc own)) le l z s = absurd (let e = (s (omega arith)).0 in omega arith)
+
+  next_above : (i : ℕ) (rest : List ℕ) (h : ℕ) (n : Node K V) (own : ℕ) → i ≤ length (own_pairs n) → IsLevelled (suc h) n → length (before_gap rest (child_at n i)) ≡ length (pairs_of (child_at n i))
+      → (own ≡ 0 → length (own_pairs n) ≤ i) → (0 < own → (own ≡ 1) × (i < length (own_pairs n))) → IsNext (i ∷ rest) n own
+  next_above i rest h n zero le l e z s =
+      record {
+        within = omega arith;
+        none = λ _.
+            let b = inner_length h n i l le in
+            let c = ap length (after_none n i (z refl)) in
+            let d = length-append (before_child n i) (before_gap rest (child_at n i)) in
+            omega (arith, b, c, d, e);
+        place = λ k. absurd (omega arith);
+        before = λ k. absurd (omega arith);
+      }
+  next_above i rest h n (suc zero) le l e z s =
+      let k = (s (omega arith)).1 in
+      record {
+        within = omega arith;
+        none = λ e. absurd (omega arith);
+        place = λ _. k;
+        before = λ _. let a = inner_before h n i l k in let d = length-append (before_child n i) (before_gap rest (child_at n i)) in omega (arith, a, d, e);
+      }
+  next_above i rest h n (suc (suc own)) le l e z s = absurd (let e = (s (omega arith)).0 in omega arith)
+
+  next_below : (i : ℕ) (rest : List ℕ) (h : ℕ) (n : Node K V) (steps : ℕ) → i ≤ length (own_pairs n) → IsLevelled (suc h) n → IsNext rest (child_at n i) steps → 0 < steps → IsNext (i ∷ rest) n (suc steps)
+  next_below i rest h n zero le l x k = absurd (omega arith)
+  next_below i [] h n (suc steps) le l x k = absurd (let w : suc steps ≤ 0 = x.within in omega arith)
+  next_below i (j ∷ rest) h n (suc steps) le l x k =
+      let e : length (children_of n) ≡ length (own_pairs n) + 1 = l.1 in
+      record {
+        within = omega (arith, x.within);
+        none = λ e. absurd (omega arith);
+        place = λ _. (omega arith, x.place k);
+        before = λ _. length-append (before_child n i) _ ∙ ap (λ m. length (before_child n i) + m) (x.before k) ∙ sym (length-append (before_child n i) _);
+      }
+
+  -- the same by the steps of a path
+  pub next_leaf : (gap : List ℕ) (n : Node K V) (own : ℕ) → gap ≡ get_or gap 0 0 ∷ [] → IsPath gap n → IsLevelled 0 n → (own ≡ 0 → length (own_pairs n) ≤ get_or gap 0 0) → (0 < own → (own ≡ 1) × (get_or gap 0 0 < length (own_pairs n))) → IsNext gap n own
+  next_leaf gap n own e p l z s = subst (λ g. IsNext g n own) (sym e) (next_at_leaf (get_or gap 0 0) n own (subst (λ g. IsPath g n) e p).0 l z s)
+
+  pub next_own : (gap : List ℕ) (n : Node K V) (own : ℕ) (s : IsStep gap n) → length (before_gap (slice_range gap 1 (length gap)) (child_at n (get_or gap 0 0))) ≡ length (pairs_of (child_at n (get_or gap 0 0)))
+      → (own ≡ 0 → length (own_pairs n) ≤ get_or gap 0 0) → (0 < own → (own ≡ 1) × (get_or gap 0 0 < length (own_pairs n))) → IsNext gap n own
+  next_own gap n own s e z o = subst (λ g. IsNext g n own) (sym s.path_is) (next_above _ _ _ n own s.le s.levels e z o)
+
+  pub next_child : (gap : List ℕ) (n : Node K V) (steps : ℕ) (s : IsStep gap n) → IsNext (slice_range gap 1 (length gap)) (child_at n (get_or gap 0 0)) steps → 0 < steps → IsNext gap n (steps + 1)
+  next_child gap n steps s x k = subst (λ g. IsNext g n (steps + 1)) (sym s.path_is) (rw (add-one steps) (next_below _ _ _ n steps s.le s.levels x k))
+
+  -- the pair before a gap
+  pub record IsLast (gap : List ℕ) (n : Node K V) (steps : ℕ) : Type 0 where
+    pub within : steps ≤ length gap
+    pub none : steps ≡ 0 → length (before_gap gap n) ≡ 0
+    pub place : 0 < steps → IsPlace (one_back (take steps gap)) n
+    pub before : 0 < steps → length (before_pair (one_back (take steps gap)) n) + 1 ≡ length (before_gap gap n)
+    pub step : (last : ℕ) → last + 1 ≡ steps → 0 < get_or gap last 0
+
+  last_own : (i : ℕ) (rest : List ℕ) (h : ℕ) (n : Node K V) (own : ℕ) → i ≤ length (own_pairs n) → IsLevelled h n → length (before_gap rest (child_at n i)) ≡ 0 → (own ≡ 0 → i ≡ 0) → (0 < own → (own ≡ 1) × (0 < i)) → IsLast (i ∷ rest) n own
+  last_own zero rest h n zero le l e z s =
+      record { within = omega arith; none = λ _. e; place = λ k. absurd (omega arith); before = λ k. absurd (omega arith); step = λ last s. absurd (omega arith) }
+  last_own (suc i) rest h n zero le l e z s = absurd (let y = z refl in omega arith)
+  last_own zero rest h n (suc own) le l e z s = absurd (let y = (s (omega arith)).1 in omega arith)
+  last_own (suc i) rest h n (suc zero) le l e z s =
+      let same : suc i - 1 ≡ i = omega arith in
+      let x = (item_there (own_pairs n) i (omega arith)).0 in
+      let a = ap length (before_child_pair h n i x l (omega arith)) ∙ length-append (before_own n i) _ in
+      let d = length-append (before_child n (suc i)) (before_gap rest (child_at n (suc i))) in
+      let f : length (before_own n (suc i - 1)) ≡ length (before_own n i) = ap (λ j. length (before_own n j)) same in
+      record {
+        within = omega arith;
+        none = λ e. absurd (omega arith);
+        place = λ _. (omega arith);
+        before = λ _. omega (arith, a, d, e, f);
+        step = λ last s. here last (omega arith);
+      }
+    where
+      here : (last : ℕ) → last ≡ 0 → 0 < get_or (suc i ∷ rest) last 0
+      here zero e = omega arith
+      here (suc last) e = absurd (omega arith)
+  last_own (suc i) rest h n (suc (suc own)) le l e z s = absurd (let e = (s (omega arith)).0 in omega arith)
+
+  last_below : (i : ℕ) (rest : List ℕ) (h : ℕ) (n : Node K V) (steps : ℕ) → i ≤ length (own_pairs n) → IsLevelled (suc h) n → IsLast rest (child_at n i) steps → 0 < steps → IsLast (i ∷ rest) n (suc steps)
+  last_below i rest h n zero le l x k = absurd (omega arith)
+  last_below i [] h n (suc steps) le l x k = absurd (let w : suc steps ≤ 0 = x.within in omega arith)
+  last_below i (j ∷ rest) h n (suc steps) le l x k =
+      let e : length (children_of n) ≡ length (own_pairs n) + 1 = l.1 in
+      let p = x.place k in
+      let a = x.before k in
+      let d = length-append (before_child n i) (before_gap (j ∷ rest) (child_at n i)) in
+      let parts = below_one (take steps rest) p in
+      record {
+        within = omega (arith, x.within);
+        none = λ e. absurd (omega arith);
+        place = λ _. parts.0 (omega arith);
+        before = λ _. let b = ap length parts.1 ∙ length-append (before_child n i) _ in omega (arith, a, b, d);
+        step = there;
+      }
+    where
+      there : (last : ℕ) → last + 1 ≡ suc (suc steps) → 0 < get_or (i ∷ j ∷ rest) last 0
+      there zero s = absurd (omega arith)
+      there (suc last) s = x.step last (omega arith)
+
+      below_one : (path : List ℕ) → IsPlace (one_back (j ∷ path)) (child_at n i) → (i < length (children_of n) → IsPlace (i ∷ one_back (j ∷ path)) n) × (before_pair (i ∷ one_back (j ∷ path)) n ≡ before_child n i ++ before_pair (one_back (j ∷ path)) (child_at n i))
+      below_one [] p = ((λ k. (k, p)), refl)
+      below_one (m ∷ path) p = ((λ k. (k, p)), refl)
+
+  -- the same by the steps of a path
+  pub last_leaf : (gap : List ℕ) (n : Node K V) (own : ℕ) → gap ≡ get_or gap 0 0 ∷ [] → IsPath gap n → IsLevelled 0 n → (own ≡ 0 → get_or gap 0 0 ≡ 0) → (0 < own → (own ≡ 1) × (0 < get_or gap 0 0)) → IsLast gap n own
+  last_leaf gap n own e p l z s = subst (λ g. IsLast g n own) (sym e) (last_own (get_or gap 0 0) [] 0 n own (subst (λ g. IsPath g n) e p).0 l refl z s)
+
+  pub last_above : (gap : List ℕ) (n : Node K V) (own : ℕ) (s : IsStep gap n) → length (before_gap (slice_range gap 1 (length gap)) (child_at n (get_or gap 0 0))) ≡ 0 → (own ≡ 0 → get_or gap 0 0 ≡ 0) → (0 < own → (own ≡ 1) × (0 < get_or gap 0 0)) → IsLast gap n own
+  last_above gap n own s e z o = subst (λ g. IsLast g n own) (sym s.path_is) (last_own _ _ (suc (length (slice_range gap 1 (length gap)) - 1)) n own s.le s.levels e z o)
+
+  pub last_child : (gap : List ℕ) (n : Node K V) (steps : ℕ) (s : IsStep gap n) → IsLast (slice_range gap 1 (length gap)) (child_at n (get_or gap 0 0)) steps → 0 < steps → IsLast gap n (steps + 1)
+  last_child gap n steps s x k = subst (λ g. IsLast g n (steps + 1)) (sym s.path_is) (rw (add-one steps) (last_below _ _ _ n steps s.le s.levels x k))
+
+  -- all pairs of a node are before the end of it
+  end_leaf : (n : Node K V) (i : ℕ) → IsLevelled 0 n → length (own_pairs n) ≤ i → length (before_child n i) ≡ length (pairs_of n)
+  end_leaf n i l h =
+      let b = ap length (leaf_gap n i l.1) ∙ length-append (before_child n i) (after_child n i) in
+      let c = ap length (after_none n i h) in
+      omega (arith, b, c)
+
+  -- a path that goes on by one step, to the gap of a leaf
+  pub goes_leaf : (old : List ℕ) (i h : ℕ) (n : Node K V) → IsLevelled h n → length (children_of n) ≤ i → i ≤ length (own_pairs n) → GoesOn old (old ++ i ∷ []) n (length (before_child n i))
+  goes_leaf old i zero n l c le = (i ∷ [], refl, ((le, tt), λ h m. one h m), ap length (append-nil (before_child n i)))
+    where
+      one : (h : ℕ) → IsLevelled h n → 1 ≡ h + 1
+      one zero m = refl
+      one (suc h) m = absurd (let e : length (children_of n) ≡ length (own_pairs n) + 1 = m.1 in omega arith)
+  goes_leaf old i (suc h) n l c le = absurd (let e : length (children_of n) ≡ length (own_pairs n) + 1 = l.1 in omega arith)
+
+  -- and one that goes on below a child
+  pub goes_child : (old new : List ℕ) (i h : ℕ) (n : Node K V) (count : ℕ) → IsLevelled (suc h) n → i ≤ length (own_pairs n) → GoesOn (old ++ i ∷ []) new (child_at n i) count → GoesOn old new n (length (before_child n i) + count)
+  goes_child old new i h n count l le g =
+      (i ∷ g.0, g.1 ∙ append_assoc old (i ∷ []) g.0, ((le, g.2.0), λ k m. deep k m), length-append (before_child n i) (before_gap g.0 (child_at n i)) ∙ ap (λ m. length (before_child n i) + m) g.3)
+    where
+      deep : (k : ℕ) → IsLevelled k n → suc (length g.0) ≡ k + 1
+      deep zero m = absurd (let e : length (children_of n) ≡ length (own_pairs n) + 1 = l.1 in let f : length (children_of n) ≡ 0 = ap length (leaf_children n m.1) in omega arith)
+      deep (suc k) m = let d = g.2.1 k (child_below k n i m le).1 in omega arith
+
+  -- the last gap below a node
+  pub last_gap_leaf : (old new : List ℕ) (i : ℕ) (n : Node K V) → (h : ℕ) × IsLevelled h n × (length old + h < most_levels) → i ≡ length (own_pairs n) → length (children_of n) ≤ i → new ≡ old ++ i ∷ [] → GoesOn old new n (length (pairs_of n))
+  last_gap_leaf old new i n (zero, l, s) e c is =
+      let g = goes_leaf old i zero n l c (omega arith) in
+      (g.0, is ∙ g.1, g.2, g.3 ∙ end_leaf n i l (omega arith))
+  last_gap_leaf old new i n (suc h, l, s) e c is = absurd (let f : length (children_of n) ≡ length (own_pairs n) + 1 = l.1 in omega arith)
+
+  pub last_gap_child : (old mid new : List ℕ) (i : ℕ) (n c : Node K V) → (h : ℕ) × IsLevelled h n × (length old + h < most_levels) → i ≡ length (own_pairs n) → i < length (children_of n) → mid ≡ old ++ i ∷ [] → c ≡ child_at n i → GoesOn mid new c (length (pairs_of c)) → GoesOn old new n (length (pairs_of n))
+  last_gap_child old mid new i n c (zero, l, s) e k m is g = absurd (let f : length (children_of n) ≡ 0 = ap length (leaf_children n l.1) in omega arith)
+  last_gap_child old mid new i n c (suc h, l, s) e k m is g =
+      let r = goes_child old new i h n (length (pairs_of (child_at n i))) l (omega arith) (subst (λ d. GoesOn (old ++ i ∷ []) new d (length (pairs_of d))) is (subst (λ m. GoesOn m new c (length (pairs_of c))) m g)) in
+      let a = inner_length h n i l (omega arith) in
+      let b = ap length (after_none n i (omega arith)) in
+      (r.0, r.1, r.2, omega (arith, r.3, a, b))
+
+  -- the gap before a pair
+  pub pair_gap_leaf : (old new : List ℕ) (i : ℕ) (n : Node K V) → (h : ℕ) × IsLevelled h n × (length old + h < most_levels) → i < length (own_pairs n) → length (children_of n) ≤ i → new ≡ old ++ i ∷ [] → GoesOn old new n (length (before_own n i))
+  pair_gap_leaf old new i n (zero, l, s) e c is =
+      let g = goes_leaf old i zero n l c (omega arith) in
+      (g.0, is ∙ g.1, g.2, g.3 ∙ sym (leaf_before_own n i l e))
+  pair_gap_leaf old new i n (suc h, l, s) e c is = absurd (let f : length (children_of n) ≡ length (own_pairs n) + 1 = l.1 in omega arith)
+
+  pub pair_gap_child : (old mid new : List ℕ) (i : ℕ) (n c : Node K V) → (h : ℕ) × IsLevelled h n × (length old + h < most_levels) → i < length (own_pairs n) → i < length (children_of n) → mid ≡ old ++ i ∷ [] → c ≡ child_at n i → GoesOn mid new c (length (pairs_of c)) → GoesOn old new n (length (before_own n i))
+  pair_gap_child old mid new i n c (zero, l, s) e k m is g = absurd (let f : length (children_of n) ≡ 0 = ap length (leaf_children n l.1) in omega arith)
+  pair_gap_child old mid new i n c (suc h, l, s) e k m is g =
+      let r = goes_child old new i h n (length (pairs_of (child_at n i))) l (omega arith) (subst (λ d. GoesOn (old ++ i ∷ []) new d (length (pairs_of d))) is (subst (λ m. GoesOn m new c (length (pairs_of c))) m g)) in
+      (r.0, r.1, r.2, r.3 ∙ sym (inner_before h n i l e))
+
+  pub pair_gap_below : (old mid new : List ℕ) (i j : ℕ) (place : List ℕ) (n c : Node K V) → (h : ℕ) × IsLevelled h n × (length old + h < most_levels) → IsPlace (i ∷ j ∷ place) n → mid ≡ old ++ i ∷ [] → c ≡ child_at n i → GoesOn mid new c (length (before_pair (j ∷ place) c)) → GoesOn old new n (length (before_pair (i ∷ j ∷ place) n))
+  pair_gap_below old mid new i j place n c (zero, l, s) p m is g = absurd (let f : length (children_of n) ≡ 0 = ap length (leaf_children n l.1) in let k = p.0 in omega arith)
+  pair_gap_below old mid new i j place n c (suc h, l, s) p m is g =
+      let e : length (children_of n) ≡ length (own_pairs n) + 1 = l.1 in
+      let k = p.0 in
+      let r = goes_child old new i h n (length (before_pair (j ∷ place) (child_at n i))) l (omega arith) (subst (λ d. GoesOn (old ++ i ∷ []) new d (length (before_pair (j ∷ place) d))) is (subst (λ m. GoesOn m new c (length (before_pair (j ∷ place) c))) m g)) in
+      (r.0, r.1, r.2, r.3 ∙ sym (length-append (before_child n i) _))
+
+  -- the gap after a pair
+  zeros_gap : (h : ℕ) (n : Node K V) → IsLevelled h n → IsPath (zeros (suc h)) n × (before_gap (zeros (suc h)) n ≡ [])
+  zeros_gap zero n l = ((omega arith, tt), refl)
+  zeros_gap (suc h) n l = let r = zeros_gap h (child_at n 0) (child_below h n 0 l (omega arith)).1 in ((omega arith, r.0), r.1)
+
+  pub record IsBehind (place path : List ℕ) (n : Node K V) : Type 0 where
+    pub way : IsPath path n
+    pub count : length (before_gap path n) ≡ length (before_pair place n) + 1
+
+  zeros_after : (k h i : ℕ) (n : Node K V) → IsLevelled h n → k ≡ h → i < length (own_pairs n) → IsBehind (i ∷ []) (suc i ∷ zeros k) n
+  zeros_after zero h i n l e p =
+      let x = (item_there (own_pairs n) i p).0 in
+      let a = ap length (before_child_pair h n i x l p) ∙ length-append (before_own n i) _ in
+      let b = length-append (before_child n (suc i)) [] in
+      record { way = (omega arith, tt); count = omega (arith, a, b) }
+  zeros_after (suc k) zero i n l e p = absurd (omega arith)
+  zeros_after (suc k) (suc h) i n l e p =
+      let x = (item_there (own_pairs n) i p).0 in
+      let same : k ≡ h = omega arith in
+      let z = zeros_gap k (child_at n (suc i)) (subst (λ m. IsLevelled m (child_at n (suc i))) (sym same) (child_below h n (suc i) l (omega arith)).1) in
+      let a = ap length (before_child_pair (suc h) n i x l p) ∙ length-append (before_own n i) _ in
+      let b = length-append (before_child n (suc i)) (before_gap (zeros (suc k)) (child_at n (suc i))) in
+      let d = ap length z.1 in
+      record { way = (omega arith, z.0); count = omega (arith, a, b, d) }
+
+  pub pair_after_gap : (gap : List ℕ) (last k h : ℕ) (n : Node K V) → IsLevelled h n → length gap ≡ h + 1 → IsPath gap n → k + last + 1 ≡ length gap → IsPlace (take (suc last) gap) n → IsBehind (take (suc last) gap) (take last gap ++ (get_or gap last 0 + 1) ∷ zeros k) n
+  pair_after_gap [] last k h n l e w c p = absurd (omega arith)
+  pair_after_gap (i ∷ rest) zero k h n l e w c p = rw (add-one i) (zeros_after k h i n l (omega arith) p)
+  pair_after_gap (i ∷ []) (suc last) k h n l e w c p = absurd (omega arith)
+  pair_after_gap (i ∷ j ∷ rest) (suc last) k zero n l e w c p = absurd (omega arith)
+  pair_after_gap (i ∷ j ∷ rest) (suc last) k (suc h) n l e w c p =
+      let r = pair_after_gap (j ∷ rest) last k h (child_at n i) (child_below h n i l w.0).1 (omega arith) w.1 (omega arith) p.1 in
+      record {
+        way = (w.0, r.way);
+        count = length-append (before_child n i) _ ∙ ap (λ m. length (before_child n i) + m) r.count ∙ let a = length-append (before_child n i) (before_pair (take (suc last) (j ∷ rest)) (child_at n i)) in omega (arith, a);
+      }
+
+  -- a step of a path is at most what a node holds
+  pub step_small : (gap : List ℕ) (i h : ℕ) (n : Node K V) → IsLevelled h n → length gap ≡ h + 1 → IsPath gap n → i < length gap → get_or gap i 0 ≤ capacity
+  step_small [] i h n l e w k = absurd (omega arith)
+  step_small (j ∷ gap) zero zero n l e w k = omega (arith, l.0, w.0)
+  step_small (j ∷ gap) zero (suc h) n l e w k = omega (arith, l.0, w.0)
+  step_small (j ∷ gap) (suc i) zero n l e w k = absurd (omega arith)
+  step_small (j ∷ gap) (suc i) (suc h) n l e w k = step_small gap i h (child_at n j) (child_below h n j l w.0).1 (omega arith) w.1 (omega arith)
+
+  -- the levels of a tree are of one height
+  pub one_height : (h k : ℕ) (n : Node K V) → IsLevelled h n → IsLevelled k n → h ≡ k
+  one_height zero zero n l m = refl
+  one_height zero (suc k) n l m = absurd (let e : length (children_of n) ≡ 0 = ap length (leaf_children n l.1) in let f : length (children_of n) ≡ length (own_pairs n) + 1 = m.1 in omega arith)
+  one_height (suc h) zero n l m = absurd (let e : length (children_of n) ≡ 0 = ap length (leaf_children n m.1) in let f : length (children_of n) ≡ length (own_pairs n) + 1 = l.1 in omega arith)
+  one_height (suc h) (suc k) n l m = ap suc (one_height h k (child_at n 0) (child_below h n 0 l (omega arith)).1 (child_below k n 0 m (omega arith)).1)
+
+  -- the one step of a short path to a pair
+  pub end_step : (place : List ℕ) (n : Node K V) → IsPlace place n → length place ≤ 1 → place ≡ get_or place 0 0 ∷ []
+  end_step [] n p h = absurd p
+  end_step (i ∷ []) n p h = refl
+  end_step (i ∷ j ∷ place) n p h = absurd (omega arith)
+
+  -- the gap after the pair that is after a gap
+  pub record IsStepped (m : Map K V) (gap next : List ℕ) : Type 0 where
+    pub slot : IsGapIn m next
+    pub count : length (before_gap_in m next) ≡ length (before_gap_in m gap) + 1
+
+  next_slot : (h : ℕ) (n : Node K V) (gap next : List ℕ) (last steps : ℕ) → IsLevelled h n → IsLeafGap gap n → IsNext gap n steps → last + 1 ≡ steps
+      → next ≡ take last gap ++ (get_or gap last 0 + 1) ∷ zeros (length gap - length (take last gap) - 1) → IsStepped (Some n) gap next
+  next_slot h n gap next last steps l g x e is =
+      let s : steps ≡ suc last = sym e ∙ add-one last in
+      let y = subst (IsNext gap n) s x in
+      let w : suc last ≤ length gap = y.within in
+      let t = length_take last gap (omega arith) in
+      let r = pair_after_gap gap last (length gap - last - 1) h n l (g.1 h l) g.0 (omega arith) (y.place (omega arith)) in
+      let same : next ≡ take last gap ++ (get_or gap last 0 + 1) ∷ zeros (length gap - last - 1) = is ∙ ap (λ k. take last gap ++ (get_or gap last 0 + 1) ∷ zeros (length gap - k - 1)) t in
+      let z = length_zeros (length gap - last - 1) in
+      let long : length next ≡ length gap = ap length same ∙ length-append (take last gap) _ ∙ omega arith in
+      record {
+        slot = (subst (λ p. IsPath p n) (sym same) r.way, λ k m. long ∙ g.1 k m);
+        count = ap (λ p. length (before_gap p n)) same ∙ r.count ∙ ap (λ k. k + 1) (y.before (omega arith));
+      }
+
+  some_after : (gap : List ℕ) (n : Node K V) (steps : ℕ) → IsNext gap n steps → length (before_gap gap n) < length (pairs_of n) → 0 < steps
+  some_after gap n zero x k = absurd (let e = x.none refl in omega arith)
+  some_after gap n (suc steps) x k = omega arith
+
+  pub some_next : (m : Map K V) (n : Node K V) (gap : List ℕ) (steps : ℕ) → m ≡ Some n → IsNext gap n steps → length (before_gap_in m gap) < length (entries m) → 0 < steps
+  some_next None n gap steps is x k = absurd cc
+  some_next (Some root) n gap steps is x k = let same : n ≡ root = cc in some_after gap root steps (subst (λ d. IsNext gap d steps) same x) k
+
+  pub stepped_after : (m : Map K V) (n : Node K V) (gap next : List ℕ) (last steps : ℕ) → m ≡ Some n → IsSoundMap m → IsGapIn m gap → IsNext gap n steps → last + 1 ≡ steps
+      → next ≡ take last gap ++ (get_or gap last 0 + 1) ∷ zeros (length gap - length (take last gap) - 1) → IsStepped m gap next
+  stepped_after None n gap next last steps is sound g x e f = absurd cc
+  stepped_after (Some root) n gap next last steps is sound g x e f =
+      let same : n ≡ root = cc in
+      next_slot sound.0 root gap next last steps sound.2.1 g (subst (λ d. IsNext gap d steps) same x) e f
+
+  -- a step of a gap's path is small
+  pub gap_small : (m : Map K V) (gap : List ℕ) (i : ℕ) → IsSoundMap m → IsGapIn m gap → i < length gap → get_or gap i 0 ≤ capacity
+  gap_small None gap i sound g k = absurd (let e = ap length g in omega arith)
+  gap_small (Some root) gap i sound g k = step_small gap i sound.0 root sound.2.1 (g.1 sound.0 sound.2.1) g.0 k
+
+  -- the pair before a gap, and the gap before it
+  pub place_back : (n : Node K V) (gap place : List ℕ) (last steps : ℕ) → IsLast gap n steps → last + 1 ≡ steps → place ≡ take last gap ++ (get_or gap last 0 - 1) ∷ [] → IsPlace place n × (length (before_pair place n) + 1 ≡ length (before_gap gap n))
+  place_back n gap place last steps x e is =
+      let s : steps ≡ suc last = sym e ∙ add-one last in
+      let y = subst (IsLast gap n) s x in
+      let w : suc last ≤ length gap = y.within in
+      let same : one_back (take (suc last) gap) ≡ place = back_is gap last (omega arith) ∙ sym is in
+      (subst (λ p. IsPlace p n) same (y.place (omega arith)), subst (λ p. length (before_pair p n) + 1 ≡ length (before_gap gap n)) same (y.before (omega arith)))
+
+  pub record IsBacked (m : Map K V) (gap path next : List ℕ) : Type 0 where
+    pub place : IsPlaceIn m path
+    pub before : length (before_pair_in m path) + 1 ≡ length (before_gap_in m gap)
+    pub slot : IsGapIn m next
+    pub count : length (before_gap_in m next) + 1 ≡ length (before_gap_in m gap)
+
+  some_before : (gap : List ℕ) (n : Node K V) (steps : ℕ) → IsLast gap n steps → 0 < length (before_gap gap n) → 0 < steps
+  some_before gap n zero x k = absurd (let e = x.none refl in omega arith)
+  some_before gap n (suc steps) x k = omega arith
+
+  pub some_last : (m : Map K V) (n : Node K V) (gap : List ℕ) (steps : ℕ) → m ≡ Some n → IsLast gap n steps → 0 < length (before_gap_in m gap) → 0 < steps
+  some_last None n gap steps is x k = absurd cc
+  some_last (Some root) n gap steps is x k = let same : n ≡ root = cc in some_before gap root steps (subst (λ d. IsLast gap d steps) same x) k
+
+  pub stepped_before : (m : Map K V) (n : Node K V) (gap place next : List ℕ) (last steps : ℕ) → m ≡ Some n → IsLast gap n steps → last + 1 ≡ steps → place ≡ take last gap ++ (get_or gap last 0 - 1) ∷ [] → GoesOn [] next n (length (before_pair place n)) → IsBacked m gap place next
+  stepped_before None n gap place next last steps is x e p g = absurd cc
+  stepped_before (Some root) n gap place next last steps is x e p g =
+      let same : n ≡ root = cc in
+      let b = place_back n gap place last steps x e p in
+      let f = b.1 in
+      let c : length (before_gap next n) + 1 ≡ length (before_gap gap n) = ap (λ q. length (before_gap q n) + 1) g.1 ∙ omega (arith, g.3, f) in
+      subst (λ d. IsBacked (Some d) gap place next) same (record { place = b.0; before = b.1; slot = subst (λ q. IsLeafGap q n) (sym g.1) g.2; count = c })

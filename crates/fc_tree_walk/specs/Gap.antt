@@ -1,0 +1,33 @@
+-- Gaps of the leaves of a tree: each gap between two pairs is the gap of one leaf.
+use Rattle.std.specs.Prelude.{◌≡◌, ℕ, zero, suc, ◌+◌, ◌-◌, ◌≤◌, List, [], ◌∷◌, ◌++◌, length, Some, None}
+use Rattle.fc_tree_node.specs.declared.node.Node.{Node}
+use Rattle.fc_tree_node.specs.Node.{IsLevelled}
+use Rattle.fc_tree_node.specs.Path.{IsPath, before_gap}
+use Rattle.fc_tree_node.specs.LeafGap.{IsLeafGap}
+use Rattle.fc_tree_node.specs.Tree.{Map}
+use Rattle.fc_tree_node.specs.TreePlace.{before_gap_in}
+
+-- So many zeros.
+abbrev pub zeros : ℕ → List ℕ
+zeros zero = []
+zeros (suc n) = 0 ∷ zeros n
+
+-- The path with its last step one less.
+abbrev pub one_back : List ℕ → List ℕ
+one_back [] = []
+one_back (i ∷ []) = (i - 1) ∷ []
+one_back (i ∷ j ∷ path) = i ∷ one_back (j ∷ path)
+
+module _ {K V : Type 0} where
+  -- The path leads to a gap of a leaf of the map; it has no step where there is no root.
+  abbrev pub IsGapIn : Map K V → List ℕ → Type 0
+  IsGapIn None path = path ≡ []
+  IsGapIn (Some root) path = IsLeafGap path root
+
+  -- A path goes on to a gap of a leaf below the node, which is after that many of the node's pairs.
+  abbrev pub GoesOn : List ℕ → List ℕ → Node K V → ℕ → Type 0
+  GoesOn old new n count = (path : List ℕ) × (new ≡ old ++ path) × IsLeafGap path n × (length (before_gap path n) ≡ count)
+
+  -- Two paths lead to gaps of the map, the first to no later one than the second.
+  abbrev pub AreEndsIn : Map K V → List ℕ → List ℕ → Type 0
+  AreEndsIn m front back = IsGapIn m front × IsGapIn m back × (length (before_gap_in m front) ≤ length (before_gap_in m back))

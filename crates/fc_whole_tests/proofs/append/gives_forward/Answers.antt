@@ -1,7 +1,0 @@
-use Rattle.fc_whole_tests.proofs.append.gives_forward.Goals as goal
-
-pub loop-number-preserved-then-not-is_in_one : goal.loop-number-preserved-then-not-is_in_one
-loop-number-preserved-then-not-is_in_one c = (tt, tt)
-
-pub loop-number-preserved : goal.loop-number-preserved
-loop-number-preserved c = (tt, tt)

@@ -1,4 +1,0 @@
-use Rattle.fc_whole_tests.proofs.trees.+is_laid_out.Given as goal
-
-abbrev pub decreases-is_laid_out : goal.decreases-is_laid_out
-decreases-is_laid_out l = l.height

@@ -1,0 +1,206 @@
+// Each item is dropped once, by a type that counts its drops. Room is taken by one request, and for items of no size by none.
+use fc_base::Count;
+use fc_tree_node::node::{CAPACITY, Node};
+use fc_tree_slots::slots::Slots;
+use std::alloc::{AllocError, Global};
+use std::cell::Cell;
+use std::mem::size_of;
+use std::process::Abort;
+use std::test::Fail;
+
+// An item that counts its drop.
+struct Token<'a> {
+    id: u64,
+    drops: &'a Cell<u64>,
+}
+
+impl Drop for Token<'_> {
+    fn drop(self) {
+        let Token { id: _, drops } = self;
+        drops.set(drops.get().wrapping_add(1));
+    }
+}
+
+// Puts the item behind the others.
+fn push<T: Drop>(rt: &impl Abort, slots: &mut Slots<T, 4>, item: T) {
+    let len = slots.len();
+    assert!(rt; len < 4);
+    slots.insert(len, item, &mut Count::new());
+}
+
+// A list of `n` items that are numbered from `first` on.
+fn list<'a>(
+    rt: &impl Abort,
+    alloc: Global,
+    first: u64,
+    n: u64,
+    drops: &'a Cell<u64>,
+) -> Result<Slots<Token<'a>, 4>, Fail> {
+    let mut slots = Slots::try_new(alloc)?;
+    for i in 0..n {
+        let id = first.wrapping_add(i);
+        push(rt, &mut slots, Token { id, drops });
+    }
+    Ok(slots)
+}
+
+// Whether the list holds the items of these numbers.
+fn has_ids(slots: &Slots<Token<'_>, 4>, ids: &[u64]) -> bool {
+    if slots.len() != ids.len() {
+        return false;
+    }
+    for i in 0..ids.len() {
+        if slots.get(i).id != ids[i] {
+            return false;
+        }
+    }
+    true
+}
+
+#[test]
+fn a_dropped_list_drops_each_item_once(rt: HostRuntime) -> Result<(), Fail> {
+    for n in [0, 1, 4] {
+        let drops = Cell::new(0);
+        let slots = list(&rt, rt.alloc(), 0, n, &drops)?;
+        assert!(&rt; drops.get() == 0);
+        drop(slots);
+        assert!(&rt; drops.get() == n);
+    }
+    Ok(())
+}
+
+#[test]
+fn a_removed_or_replaced_item_is_handed_out(rt: HostRuntime) -> Result<(), Fail> {
+    let drops = Cell::new(0);
+    let mut slots = list(&rt, rt.alloc(), 0, 4, &drops)?;
+    assert!(&rt; slots.len() == 4);
+    let gone = slots.remove(1, &mut Count::new());
+    assert!(&rt; gone.id == 1 && drops.get() == 0);
+    drop(gone);
+    assert!(&rt; drops.get() == 1 && has_ids(&slots, &[0, 2, 3]));
+    let token = Token {
+        id: 9,
+        drops: &drops,
+    };
+    let gone = slots.replace(2, token, &mut Count::new());
+    assert!(&rt; gone.id == 3 && drops.get() == 1);
+    drop(gone);
+    assert!(&rt; has_ids(&slots, &[0, 2, 9]));
+    drop(slots);
+    assert!(&rt; drops.get() == 5);
+    Ok(())
+}
+
+// Moves three of four items into a list of one.
+fn move_three<T: Drop>(
+    rt: &impl Abort,
+    slots: &mut Slots<T, 4>,
+    other: &mut Slots<T, 4>,
+    call: usize,
+) {
+    let mut count = Count::new();
+    assert!(rt; slots.len() == 4 && other.len() == 1);
+    match call {
+        0 => slots.move_tail(1, other, &mut count),
+        1 => slots.move_front(3, other, &mut count),
+        _ => slots.move_back(3, other, &mut count),
+    }
+}
+
+// The numbers of the items that a move leaves, and of those in the other list.
+fn moved(call: usize) -> (&'static [u64], &'static [u64]) {
+    match call {
+        0 => (&[0], &[7, 1, 2, 3]),
+        1 => (&[3], &[7, 0, 1, 2]),
+        _ => (&[0], &[1, 2, 3, 7]),
+    }
+}
+
+#[test]
+fn moved_items_are_dropped_by_the_list_that_has_them(rt: HostRuntime) -> Result<(), Fail> {
+    for call in 0..3usize {
+        let drops = Cell::new(0);
+        let mut slots = list(&rt, rt.alloc(), 0, 4, &drops)?;
+        let mut other = list(&rt, rt.alloc(), 7, 1, &drops)?;
+        move_three(&rt, &mut slots, &mut other, call);
+        let (kept, gone) = moved(call);
+        assert!(&rt; drops.get() == 0 && has_ids(&slots, kept) && has_ids(&other, gone));
+        drop(slots);
+        assert!(&rt; drops.get() == 1);
+        drop(other);
+        assert!(&rt; drops.get() == 5);
+    }
+    Ok(())
+}
+
+#[test]
+fn what_is_written_to_a_lent_item_stays(rt: HostRuntime) -> Result<(), Fail> {
+    let mut slots: Slots<u64, 4> = Slots::try_new(rt.alloc())?;
+    slots.insert(0, 5, &mut Count::new());
+    *slots.get_mut(0) = 3;
+    assert!(&rt; *slots.get(0) == 3);
+    Ok(())
+}
+
+// Its one request is refused by the sweep, which also sees that there is no other.
+#[test]
+fn room_is_taken_in_one_request(rt: HostRuntime) -> Result<(), Fail> {
+    let mut slots = match Slots::try_new(rt.alloc()) {
+        Ok(slots) => slots,
+        Err(AllocError) => return Ok(()),
+    };
+    for i in 0..4u64 {
+        push(&rt, &mut slots, i);
+    }
+    assert!(&rt; slots.len() == 4);
+    Ok(())
+}
+
+#[test]
+fn room_for_too_many_bytes_is_refused(rt: HostRuntime) -> Result<(), Fail> {
+    let refused: Result<Slots<u64, 0x1000_0000_0000_0000>, AllocError> = Slots::try_new(rt.alloc());
+    assert!(&rt; refused.is_err());
+    Ok(())
+}
+
+// The sweep sees that no request is made.
+#[test]
+fn items_of_no_size_take_no_room(rt: HostRuntime) -> Result<(), Fail> {
+    for call in 0..3usize {
+        let mut slots: Slots<(), 4> = Slots::try_new(rt.alloc())?;
+        let mut other: Slots<(), 4> = Slots::try_new(rt.alloc())?;
+        for _ in 0..4u64 {
+            push(&rt, &mut slots, ());
+        }
+        push(&rt, &mut other, ());
+        assert!(&rt; slots.len() == 4 && slots.as_slice().len() == 4);
+        move_three(&rt, &mut slots, &mut other, call);
+        assert!(&rt; slots.len() == 1 && other.len() == 4);
+        slots.replace(0, (), &mut Count::new());
+        *slots.get_mut(0) = ();
+        assert!(&rt; *slots.get(0) == ());
+        other.remove(3, &mut Count::new());
+        assert!(&rt; other.len() == 3);
+    }
+    Ok(())
+}
+
+#[test]
+fn the_items_are_lent_as_a_slice(rt: HostRuntime) -> Result<(), Fail> {
+    let mut slots = Slots::try_new(rt.alloc())?;
+    assert!(&rt; slots.as_slice().is_empty());
+    for i in 5..9u64 {
+        push(&rt, &mut slots, i);
+    }
+    assert!(&rt; slots.as_slice() == [5, 6, 7, 8].as_slice());
+    slots.remove(1, &mut Count::new());
+    assert!(&rt; slots.as_slice() == [5, 7, 8].as_slice());
+    Ok(())
+}
+
+#[test]
+fn a_list_is_a_pointer_and_a_length(rt: HostRuntime) -> Result<(), Fail> {
+    assert!(&rt; size_of::<Slots<u64, CAPACITY>>() == 16);
+    assert!(&rt; size_of::<Node<u64, u64>>() == 40);
+    Ok(())
+}
