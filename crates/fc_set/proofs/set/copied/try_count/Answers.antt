@@ -7,7 +7,7 @@ use Rattle.fc_set.proofs.set.copied.try_count.Goals as goal
 pub loop-item-init : goal.loop-item-init
 loop-item-init g c =
     let e = sym c.into_iter-item-iterator.ensures.into_iter_gives in
-    (subst g.I.Iterator.can_next e c.requires.first_last.0, subst (λ w. IsFinite (g.I.Iterator.remaining w)) e c.requires.first_last.1, λ all lends. counted_start g.I.Iterator.next_gives all c.into_iter-item-iterator.result (subst (λ w. Lends g.I.Iterator.next_gives w all) e lends))
+    (subst g.I.Iterator.can_next e c.requires.ends.0, subst (λ w. IsFinite (g.I.Iterator.remaining w)) e c.requires.ends.1, λ all lends. counted_start g.I.Iterator.next_gives all c.into_iter-item-iterator.result (subst (λ w. Lends g.I.Iterator.next_gives w all) e lends))
 
 pub loop-item-preserved : goal.loop-item-preserved
 loop-item-preserved g c =

@@ -13,7 +13,7 @@ pub loop-item-init : goal.loop-item-init
 loop-item-init g c =
     let e = sym c.into_iter-item-iterator.ensures.into_iter_gives in
     let ok = c.in_ok-builder.ensures.ok in
-    (subst g.I.Iterator.can_next e c.requires.first_last.0, subst (λ w. IsFinite (g.I.Iterator.remaining w)) e c.requires.first_last.1, λ all lends. filled_start g.I.Iterator.next_gives all g.T.TryClone.same c.in_ok-builder.builder c.into_iter-item-iterator.result (subst (λ w. Lends g.I.Iterator.next_gives w all) e lends) ok.0 (ok.1 ∙ c.requires.count all lends))
+    (subst g.I.Iterator.can_next e c.requires.ends.0, subst (λ w. IsFinite (g.I.Iterator.remaining w)) e c.requires.ends.1, λ all lends. filled_start g.I.Iterator.next_gives all g.T.TryClone.same c.in_ok-builder.builder c.into_iter-item-iterator.result (subst (λ w. Lends g.I.Iterator.next_gives w all) e lends) ok.0 (ok.1 ∙ c.requires.count all lends))
 
 pub push-requires : goal.push-requires
 push-requires g c =

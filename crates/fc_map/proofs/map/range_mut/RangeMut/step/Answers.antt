@@ -5,4 +5,4 @@ pub step_to_next-place-requires-clause-some : goal.step_to_next-place-requires-c
 step_to_next-place-requires-clause-some g c =
     let w = c.args.self.now in
     let is = c.if-is_done.false in
-    (w.back, w.first_last.1, grind (arith, c.is_done.ensures.1, is))
+    (w.back, w.ends.1, grind (arith, c.is_done.ensures.1, is))
