@@ -7,6 +7,6 @@ use Rattle.fc_base.specs.declared.count.Count.{Count}
 abbrev pub IsDeep : ℕ → ℕ → Type 0
 IsDeep h n = 2 * least_children ^ h ≤ n + 1
 
--- Pairs were moved, at most 18 for each of the h + 1 levels of some height h that n pairs can have.
+-- Pairs were moved, at most as many for each of the h + 1 levels of some height h that n pairs can have as a level may cost.
 abbrev pub HasFewMoves : ℕ → Count → Count → Type 0
 HasFewMoves n old new = (h : ℕ) × IsDeep h n × (new.moves ≤ old.moves + level_moves * (h + 1))
