@@ -4,6 +4,7 @@ pub mod Place
 pub mod Lends
 pub mod LendsKey
 pub mod Unique
+pub mod Ready
 pub mod Entry
 pub mod Writing
 pub mod Walks
