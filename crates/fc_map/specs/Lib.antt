@@ -6,6 +6,7 @@ pub mod LendsKey
 pub mod Unique
 pub mod Ready
 pub mod Entry
+pub mod ReadyEntry
 pub mod Writing
 pub mod Walks
 pub mod Stretches

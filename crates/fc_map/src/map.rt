@@ -32,7 +32,7 @@ mod split_off;
 
 pub use both::insert_both;
 pub use bounds::is_range;
-pub use entry::{Entry, OccupiedEntry, VacantEntry};
+pub use entry::{Entry, OccupiedEntry, ReadyEntry, VacantEntry};
 use fc_tree_node::node::Node;
 pub use into_iter::IntoIter;
 pub use iter::{Iter, Keys, Values};

@@ -60,11 +60,7 @@ pub fn insert_both<K: Ord + Drop, V: Drop, L: Ord + Drop, W: Drop>(
 impl<K: Ord + Drop, V: Drop> BTreeMap<K, V> {
     // Fills `path` with the way to the key or to its gap, and makes the nodes that an insertion into the gap takes; `None` where an equal
     // key is there, which takes none.
-    fn prepare(
-        &self,
-        key: &K,
-        path: &mut Path,
-    ) -> Result<Option<NewNodes<K, V>>, TryReserveError>
+    fn prepare(&self, key: &K, path: &mut Path) -> Result<Option<NewNodes<K, V>>, TryReserveError>
         requires start { path.old ≡ [] }
         ensures ok { IfOk result (λ made. IsPrepared K.cmp key.now self.now path.new made) }
         ensures absent { OnErr result (at K.cmp (entries self.now) key.now ≡ None) }

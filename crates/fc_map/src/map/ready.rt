@@ -58,13 +58,7 @@ impl<K: Ord + Drop, V: Drop> BTreeMap<K, V> {
     }
 
     // Puts the first pair into an empty map. The path, which has no step, then leads to it.
-    fn start(
-        &mut self,
-        path: &mut Path,
-        pair: (K, V),
-        new_nodes: NewNodes<K, V>,
-        count: &mut Count,
-    )
+    fn start(&mut self, path: &mut Path, pair: (K, V), new_nodes: NewNodes<K, V>, count: &mut Count)
         requires empty { self.old ≡ None }
         requires start { path.old ≡ [] }
         requires new_nodes { new_nodes ≡ 1 }

@@ -14,17 +14,22 @@ insert_ready-requires-clause-levels g c = let ready = rw c.in-Some.is at (rw (�
 
 pub invariant_of-self-2 : goal.invariant_of-self-2
 invariant_of-self-2 g c =
+    let root = c.in-Some.root.value in
     let ok = c.insert_ready.ensures in
     let ready = rw c.in-Some.is at (rw (← c.self.view_is) at c.requires) in
-    let put = put_in c.in-Some.root.value c.args.path.now (rw c.in-Some.is at c.self.invariant.1) g.K.Ord.cmp c.args.pair.0 c.args.pair.1 _ ready.0 ok.pairs in
-    let ascending : IsAscending g.K.Ord.cmp (pairs_of c.in-Some.root.value) = rw c.in-Some.is at c.self.invariant.0 in
-    let len : c.self.inside.len ≡ length (pairs_of c.in-Some.root.value) = c.self.invariant.2 ∙ ap (λ r. length (entries (root_of r))) c.in-Some.is in
+    let sound = rw c.in-Some.is at c.self.invariant.1 in
+    let put = put_in root c.args.path.now sound g.K.Ord.cmp c.args.pair.0 c.args.pair.1 _ ready.0 ok.pairs in
+    let ascending : IsAscending g.K.Ord.cmp (pairs_of root) = rw c.in-Some.is at c.self.invariant.0 in
+    let len : c.self.inside.len ≡ length (pairs_of root) = c.self.invariant.2 ∙ ap (λ r. length (entries (root_of r))) c.in-Some.is in
     (rw put (ascending_put g.K.Ord.cmp _ c.args.pair.0 c.args.pair.1 g.met.K.Ord.total ascending), ok.sound, omega (arith, ok.length, len))
 
 pub returns-clause-put : goal.returns-clause-put
 returns-clause-put g c =
+    let root = c.in-Some.root.value in
     let ready = rw c.in-Some.is at (rw (← c.self.view_is) at c.requires) in
-    rw (← c.self.view_is) (rw c.in-Some.is (put_in c.in-Some.root.value c.args.path.now (rw c.in-Some.is at c.self.invariant.1) g.K.Ord.cmp c.args.pair.0 c.args.pair.1 _ ready.0 c.insert_ready.ensures.pairs))
+    let sound = rw c.in-Some.is at c.self.invariant.1 in
+    let put = put_in root c.args.path.now sound g.K.Ord.cmp c.args.pair.0 c.args.pair.1 _ ready.0 c.insert_ready.ensures.pairs in
+    rw (← c.self.view_is) (rw c.in-Some.is put)
 
 pub returns-clause-ascending : goal.returns-clause-ascending
 returns-clause-ascending g c = (invariant_of-self-2 g c).0
