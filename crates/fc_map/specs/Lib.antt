@@ -4,7 +4,9 @@ pub mod Place
 pub mod Lends
 pub mod LendsKey
 pub mod Unique
+pub mod Ready
 pub mod Entry
+pub mod ReadyEntry
 pub mod Writing
 pub mod Walks
 pub mod Stretches

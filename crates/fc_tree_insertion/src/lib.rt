@@ -5,4 +5,5 @@ mod arrival;
 pub mod insertion;
 pub mod leaf;
 pub mod new_nodes;
+pub mod ready;
 pub mod spares;
