@@ -11,3 +11,4 @@ pub mod laws;
 pub mod queries;
 pub mod range;
 pub mod refusals;
+pub mod room;
