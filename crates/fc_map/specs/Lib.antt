@@ -3,6 +3,7 @@ pub mod Counts
 pub mod Place
 pub mod Lends
 pub mod LendsKey
+pub mod Room
 pub mod Unique
 pub mod Ready
 pub mod Entry

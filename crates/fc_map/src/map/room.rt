@@ -7,7 +7,7 @@ ghost use Rattle.fc_map.specs.Counts.{IsBounded};
 ghost use Rattle.fc_map.specs.Entries.{entries, IsSoundMap, passed_in};
 ghost use Rattle.fc_map.specs.Place.{IsOpenAt};
 ghost use Rattle.fc_map.specs.Ready.{AreNodesFor};
-ghost use Rattle.fc_tree_insertion.specs.Room.{room_error};
+ghost use Rattle.fc_map.specs.Room.{room_error};
 
 use super::BTreeMap;
 use fc_base::{Count, TryReserveError};

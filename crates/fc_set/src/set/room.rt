@@ -2,7 +2,7 @@
 ghost use Rattle.std.specs.Prelude.{◌≡◌, ◌+◌, ◌<◌, ◌↔◌, length, IsTrue, IsSome, IsErr, IfOk, IfErr, None, if◌then◌else◌};
 ghost use Rattle.fc_map.specs.Counts.{IsBounded};
 ghost use Rattle.fc_map.specs.Entries.{IsSoundMap, passed_in};
-ghost use Rattle.fc_tree_insertion.specs.Room.{room_error};
+ghost use Rattle.fc_map.specs.Room.{room_error};
 ghost use Rattle.fc_set.specs.Items.{items, item_at, AreAscending, with_item};
 
 use super::BTreeSet;
