@@ -44,23 +44,29 @@ pub fn insert_both<K: Ord + Drop, V: Drop, L: Ord + Drop, W: Drop>(
     let _lens = (a.len(), b.len());
     let mut first = Path::new();
     let mut second = Path::new();
-    let for_first = match a.prepare(&k, &mut first) {
+    let mut count = Count::new();
+    let for_first = match a.prepare(&k, &mut first, &mut count) {
         Ok(prepared) => prepared,
         Err(refused) => return Err((k, v, l, w, refused)),
     };
-    let for_second = match b.prepare(&l, &mut second) {
+    let for_second = match b.prepare(&l, &mut second, &mut count) {
         Ok(prepared) => prepared,
         Err(refused) => return Err((k, v, l, w, refused)),
     };
-    let old_first = a.finish(&mut first, k, v, for_first);
-    let old_second = b.finish(&mut second, l, w, for_second);
+    let old_first = a.finish(&mut first, k, v, for_first, &mut count);
+    let old_second = b.finish(&mut second, l, w, for_second, &mut count);
     Ok((old_first, old_second))
 }
 
 impl<K: Ord + Drop, V: Drop> BTreeMap<K, V> {
     // Fills `path` with the way to the key or to its gap, and makes the nodes that an insertion into the gap takes; `None` where an equal
     // key is there, which takes none.
-    fn prepare(&self, key: &K, path: &mut Path) -> Result<Option<NewNodes<K, V>>, TryReserveError>
+    fn prepare(
+        &self,
+        key: &K,
+        path: &mut Path,
+        count: &mut Count,
+    ) -> Result<Option<NewNodes<K, V>>, TryReserveError>
         requires start { path.old ≡ [] }
         ensures ok { IfOk result (λ made. IsPrepared K.cmp key.now self.now path.new made) }
         ensures absent { OnErr result (at K.cmp (entries self.now) key.now ≡ None) }
@@ -69,7 +75,7 @@ impl<K: Ord + Drop, V: Drop> BTreeMap<K, V> {
         ensures ascending { IsAscending K.cmp (entries self.now) }
         ensures sound { IsSoundMap self.now }
     {
-        match self.locate(key, path, &mut Count::new()) {
+        match self.locate(key, path, count) {
             Ok(()) => Ok(None),
             Err(_gap) => match self.try_nodes_at(path) {
                 Ok(made) => Ok(Some(made)),
@@ -85,6 +91,7 @@ impl<K: Ord + Drop, V: Drop> BTreeMap<K, V> {
         key: K,
         value: V,
         prepared: Option<NewNodes<K, V>>,
+        count: &mut Count,
     ) -> Option<V>
         requires prepared { IsPrepared K.cmp key self.old path.old prepared }
         requires sound { IsSoundMap self.old }
@@ -96,7 +103,7 @@ impl<K: Ord + Drop, V: Drop> BTreeMap<K, V> {
         match prepared {
             None => Some(self.replace_at(path, &key, value)),
             Some(new_nodes) => {
-                self.insert_ready(path, (key, value), new_nodes, &mut Count::new());
+                self.insert_ready(path, (key, value), new_nodes, count);
                 None
             }
         }
