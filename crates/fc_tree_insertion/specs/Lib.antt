@@ -3,3 +3,5 @@ pub mod Chain
 pub mod NewNodes
 pub mod Insertion
 pub mod Arrival
+pub mod Room
+pub mod Places
