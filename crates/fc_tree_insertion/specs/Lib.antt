@@ -4,4 +4,3 @@ pub mod NewNodes
 pub mod Insertion
 pub mod Arrival
 pub mod Room
-pub mod Places

@@ -4,6 +4,11 @@ use Rattle.fc_base.specs.Sizes.{least_children, most_levels}
 use Rattle.fc_base.specs.declared.try_reserve_error.TryReserveError.{TryReserveError}
 use Rattle.fc_base.specs.declared.try_reserve_error.TryReserveError.TheVariants.{CapacityOverflow, AllocError}
 
+-- What contracts see of room: how many insertions are left, each into a map of fewer pairs than these.
+pub record Places : Type 0 where
+  pub places : ℕ
+  pub pairs : ℕ
+
 -- A tree of at most n pairs has fewer levels below its root than so many.
 abbrev pub IsOverDepth : ℕ → ℕ → Type 0
 IsOverDepth levels n = n < 2 * least_children ^ levels

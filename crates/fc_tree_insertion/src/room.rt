@@ -15,8 +15,8 @@ use fc_tree_node::path::{MAX_STEPS, Path};
 use std::alloc::Global;
 use std::marker::Model;
 
-/// Room for a number of insertions of new keys into a map, wherever they fall: nodes enough for each of them, taken before the first. A
-/// contract sees how many insertions are left, and what number of pairs a map has to stay below to be served.
+/// Room for insertions of new keys, wherever they fall: nodes enough for each of them, taken before the first. A contract sees how many
+/// insertions are left, `places`, and `pairs`, of which a map has to have fewer to be served. Dropped, it gives back the nodes that are left.
 #[derive(Drop)]
 pub struct Room<K, V> {
     stock: Stock<K, V>,
@@ -28,8 +28,7 @@ pub struct Room<K, V> {
 
 impl<K, V> Model for Room<K, V> {
     ghost use Rattle.std.specs.Prelude.{◌*◌, ◌≤◌};
-    ghost use Rattle.fc_tree_insertion.specs.Places.{Places};
-    ghost use Rattle.fc_tree_insertion.specs.Room.{IsOverDepth};
+    ghost use Rattle.fc_tree_insertion.specs.Room.{Places, IsOverDepth};
 
     ghost Value = { Places };
 
@@ -58,8 +57,8 @@ impl<K: Drop, V: Drop> Room<K, V> {
     /// Takes the nodes for so many insertions into a map of so many pairs.
     ///
     /// # Errors
-    /// `CapacityOverflow` where the pairs with those insertions pass `usize::MAX`, or `MAX_STEPS` times the insertions do, and then always;
-    /// else `AllocError`, where a request for memory was refused. Nothing is then left after.
+    /// `CapacityOverflow` where the pairs and the insertions together pass `usize::MAX`, or `MAX_STEPS` nodes for each insertion do, and then
+    /// always; else `AllocError`, where a request for memory was refused. Nothing is then left after.
     pub fn try_new(
         alloc: Global,
         pairs: usize,
