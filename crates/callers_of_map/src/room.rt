@@ -56,8 +56,8 @@ pub fn put_if_served<K: Ord + Drop, V: Drop>(
     key: K,
     value: V,
 ) -> bool
-    ensures { (result ≡ true) → entries map.new ≡ put K.cmp (entries map.old) key value }
-    ensures { (result ≡ false) → map.new ≡ map.old }
+    ensures put { (result ≡ true) → entries map.new ≡ put K.cmp (entries map.old) key value }
+    ensures unchanged { (result ≡ false) → map.new ≡ map.old }
 {
     if room.places() == 0 || map.len() >= room.pairs() {
         return false;

@@ -22,7 +22,7 @@ pub struct Room<K, V> {
     stock: Stock<K, V>,
     places: usize,
     pairs: usize,
-    // The most nodes that one insertion takes: one a level of the highest tree of so many pairs.
+    // The most nodes that one insertion takes: one for each level that a tree of so many pairs can have.
     levels: usize,
 }
 

@@ -1,6 +1,7 @@
 //! Insertions with room that was taken before.
 use crate::map::{has_memory, take_all_memory};
 use crate::numbers::{Numbers, has_up_to, multiples};
+use crate::sizes::MOST_LEVELS;
 use fc_base::TryReserveError;
 use fc_map::map::{BTreeMap, Room};
 use std::test::Fail;
@@ -59,7 +60,9 @@ fn an_equal_key_uses_no_place(rt: HostRuntime) -> Result<(), Fail> {
     let mut map = multiples(rt.alloc(), 0, 100, 2)?;
     let mut room = map.try_room_for(1)?;
     assert!(rt; put_numbers(&mut map, &mut room, 0, 100) == 0 && room.places() == 1);
-    assert!(rt; put_numbers(&mut map, &mut room, 100, 102) == 1 && room.places() == 0 && room.pairs() == 101);
+    assert!(rt;
+        put_numbers(&mut map, &mut room, 100, 102) == 1 && room.places() == 0 && room.pairs() == 101
+    );
     assert!(rt; map.get(&100) == Some(&100) && map.get(&3) == Some(&3) && map.get(&101).is_none());
     Ok(())
 }
@@ -86,9 +89,19 @@ fn room_for_none_takes_no_memory(rt: HostRuntime) -> Result<(), Fail> {
 #[test]
 fn room_that_cannot_be_counted(rt: HostRuntime) -> Result<(), Fail> {
     let map = multiples(rt.alloc(), 0, 1, 1)?;
-    for insertions in [usize::MAX, usize::MAX - 1, usize::MAX / 22 + 1] {
-        assert!(rt; matches!(map.try_room_for(insertions), Err(TryReserveError::CapacityOverflow)));
+    for insertions in [usize::MAX, usize::MAX - 1, usize::MAX / MOST_LEVELS + 1] {
+        assert!(rt;
+            matches!(
+                map.try_room_for(insertions),
+                Err(TryReserveError::CapacityOverflow)
+            )
+        );
     }
-    assert!(rt; matches!(map.try_room_for(usize::MAX / 22), Err(TryReserveError::AllocError)));
+    assert!(rt;
+        matches!(
+            map.try_room_for(usize::MAX / MOST_LEVELS),
+            Err(TryReserveError::AllocError)
+        )
+    );
     Ok(())
 }

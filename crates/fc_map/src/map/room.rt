@@ -16,12 +16,12 @@ pub use fc_tree_insertion::room::Room;
 use fc_tree_node::path::Path;
 
 impl<K: Ord + Drop, V: Drop> BTreeMap<K, V> {
-    /// Takes the nodes that so many insertions of new keys can need, whatever the keys, so that `insert_with` can't be refused: what `reserve`
-    /// is for a vector. The map is only read, and need not be the one that the room is used for.
+    /// Takes nodes enough for so many insertions of new keys, whatever the keys, so that `insert_with` can't be refused: what `reserve` is for
+    /// a vector. The map is only read; the room serves any map of fewer pairs than `Room::pairs`, so this one until so many keys are put in.
     ///
     /// # Errors
-    /// `CapacityOverflow` where the map's pairs and the insertions together pass `usize::MAX`, or the insertions pass a `MAX_STEPS`th of it, and
-    /// then always; else `AllocError`, where a request for memory was refused. What was taken is then given back.
+    /// `CapacityOverflow` where the map's pairs and the insertions together pass `usize::MAX`, or a node for each insertion at each level of the
+    /// highest tree does, and then always; else `AllocError`, where a request for memory was refused. What was taken is then given back.
     pub fn try_room_for(&self, insertions: usize) -> Result<Room<K, V>, TryReserveError>
         ensures places { IfOk result (λ room. room.places ≡ insertions) }
         ensures pairs { IfOk result (λ room. room.pairs ≡ length (entries self.now) + insertions) }
@@ -31,9 +31,10 @@ impl<K: Ord + Drop, V: Drop> BTreeMap<K, V> {
         Room::try_new(self.alloc, self.len, insertions)
     }
 
-    /// Puts the value at the key, as `try_insert`, with no memory but the room's, and so without a refusal. It asks for a place in the room
-    /// (`Room::places`) and for fewer pairs than the room serves (`Room::pairs`). A new key uses one place up, and the answer is `None`; where an
-    /// equal key is there, no place is used, and the answer is the old value. The pairs and the places that are left are together as many as before.
+    /// Puts the value at the key, as `try_insert`, by the room's nodes alone, and so without a refusal. The caller shows that the room has a
+    /// place left (`Room::places`), and that the map has fewer pairs than it serves (`Room::pairs`). A new key uses a place up, and the answer
+    /// is `None`; where an equal key is there, that key stays, no place is used, and the old value is answered. So the pairs of the map and the
+    /// places that are left are together as many as before.
     pub fn insert_with(&mut self, room: &mut Room<K, V>, key: K, value: V) -> Option<V>
         requires place { 0 < room.old.places }
         requires fits { length (entries self.old) < room.old.pairs }

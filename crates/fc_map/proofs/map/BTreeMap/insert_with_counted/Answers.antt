@@ -9,4 +9,4 @@ returns-in-Err-clause-bounded g c =
     let put = c.insert_ready.ensures in
     let longer = put.length in
     moved_after (length (entries c.args.self.now)) (length (entries c.insert_ready.new.self)) c.args.count.now c.locate.new.count c.insert_ready.new.count
-        found.bounded found.moves put.comparisons put.moves (omega arith) (omega arith)
+    found.bounded found.moves put.comparisons put.moves (omega arith) (omega arith)
