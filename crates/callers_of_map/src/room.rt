@@ -7,6 +7,21 @@ ghost use Rattle.fc_map.specs.Entries.{entries};
 use fc_base::TryReserveError;
 use fc_map::map::{BTreeMap, Room};
 
+/// Puts the pairs of a list in, in turn, where the room has a place for each.
+pub fn put_with_room<K: Ord + Drop, V: Drop>(
+    map: &mut BTreeMap<K, V>,
+    room: &mut Room<K, V>,
+    pairs: Vec<(K, V)>,
+)
+    requires places { length pairs.items ≤ room.old.places }
+    requires pairs { length (entries map.old) + room.old.places ≤ room.old.pairs }
+    ensures { entries map.new ≡ extended K.cmp (entries map.old) pairs.items }
+{
+    for (key, value) in pairs {
+        map.insert_with(room, key, value);
+    }
+}
+
 /// Puts the pairs of a list in, in turn, or none of them.
 pub fn put_all<K: Ord + Drop, V: Drop>(
     map: &mut BTreeMap<K, V>,
@@ -16,9 +31,26 @@ pub fn put_all<K: Ord + Drop, V: Drop>(
     ensures none { OnErr result (map.new ≡ map.old) }
 {
     let mut room = map.try_room_for(pairs.len())?;
-    for (key, value) in pairs {
-        map.insert_with(&mut room, key, value);
-    }
+    put_with_room(map, &mut room, pairs);
+    Ok(())
+}
+
+/// Puts the pairs of one list into one map and those of another into another, or none of them.
+pub fn put_all_in_both<K: Ord + Drop, V: Drop, L: Ord + Drop, W: Drop>(
+    first: &mut BTreeMap<K, V>,
+    second: &mut BTreeMap<L, W>,
+    pairs: Vec<(K, V)>,
+    others: Vec<(L, W)>,
+) -> Result<(), TryReserveError>
+    ensures first { OnOk result (entries first.new ≡ extended K.cmp (entries first.old) pairs.items) }
+    ensures second { OnOk result (entries second.new ≡ extended L.cmp (entries second.old) others.items) }
+    ensures neither { OnErr result ((first.new ≡ first.old) × (second.new ≡ second.old)) }
+{
+    let mut room = first.try_room_for(pairs.len())?;
+    let mut other_room = second.try_room_for(others.len())?;
+    // Nothing can be refused from here on.
+    put_with_room(first, &mut room, pairs);
+    put_with_room(second, &mut other_room, others);
     Ok(())
 }
 

@@ -3,7 +3,7 @@ use Rattle.std.specs.Vec.Iter.{into_iter_items}
 use Rattle.fc_map.specs.Entries.{entries}
 use Rattle.fc_map.proofs.ExtendFacts.{extended_more}
 use Rattle.callers_of_map.proofs.Lists.{moved_on}
-use Rattle.callers_of_map.proofs.room.put_all.Goals as goal
+use Rattle.callers_of_map.proofs.room.put_with_room.Goals as goal
 
 used_one : {X : Type 0} (o : Option X) (new old : ℕ) → MatchOption o (new + 1 ≡ old) (λ _. new ≡ old) → old ≤ new + 1
 used_one None new old u = omega arith
