@@ -23,6 +23,8 @@ mod outwards;
 #[cfg(test)]
 mod queries;
 #[cfg(test)]
+mod ready;
+#[cfg(test)]
 mod refusals;
 #[cfg(test)]
 mod room;

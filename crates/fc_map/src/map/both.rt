@@ -47,11 +47,11 @@ pub fn insert_both<K: Ord + Drop, V: Drop, L: Ord + Drop, W: Drop>(
     let mut count = Count::new();
     let for_first = match a.prepare(&k, &mut first, &mut count) {
         Ok(prepared) => prepared,
-        Err(refused) => return Err((k, v, l, w, refused)),
+        Err(first_refused) => return Err((k, v, l, w, first_refused)),
     };
     let for_second = match b.prepare(&l, &mut second, &mut count) {
         Ok(prepared) => prepared,
-        Err(refused) => return Err((k, v, l, w, refused)),
+        Err(second_refused) => return Err((k, v, l, w, second_refused)),
     };
     let old_first = a.finish(&mut first, k, v, for_first, &mut count);
     let old_second = b.finish(&mut second, l, w, for_second, &mut count);
