@@ -6,4 +6,6 @@ pub mod insertion;
 pub mod leaf;
 pub mod new_nodes;
 pub mod ready;
+pub mod room;
 pub mod spares;
+pub mod stock;
