@@ -28,6 +28,7 @@ mod range;
 mod range_mut;
 mod ready;
 mod remove;
+mod room;
 mod split_off;
 
 pub use both::insert_both;
@@ -39,6 +40,7 @@ pub use iter::{Iter, Keys, Values};
 pub use iter_mut::{IterMut, ValuesMut};
 pub use range::Range;
 pub use range_mut::RangeMut;
+pub use room::Room;
 use std::alloc::Global;
 use std::marker::Model;
 
