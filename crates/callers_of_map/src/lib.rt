@@ -12,3 +12,4 @@ pub mod queries;
 pub mod range;
 pub mod ready;
 pub mod refusals;
+pub mod room;

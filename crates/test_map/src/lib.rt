@@ -27,6 +27,8 @@ mod ready;
 #[cfg(test)]
 mod refusals;
 #[cfg(test)]
+mod room;
+#[cfg(test)]
 mod sizes;
 #[cfg(test)]
 mod sorted;

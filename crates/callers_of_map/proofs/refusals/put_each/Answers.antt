@@ -1,16 +1,10 @@
-use Rattle.std.proofs.Common.{◌≡◌, ◌∷◌, ◌++◌, [], List, length, rules, sym, ap, ◌∙◌, append_assoc, append-nil}
-use Rattle.std.proofs.lemmas.List.{nil_from_length}
+use Rattle.std.proofs.Common.{◌++◌, rules, ap, ◌∙◌}
 use Rattle.std.proofs.lemmas.Result.{err_from_is_err_and}
 use Rattle.std.specs.Vec.Iter.{into_iter_items}
 use Rattle.fc_map.specs.Entries.{entries}
 use Rattle.fc_map.proofs.ExtendFacts.{extended_more}
+use Rattle.callers_of_map.proofs.Lists.{none_left, moved_on}
 use Rattle.callers_of_map.proofs.refusals.put_each.Goals as goal
-
-none_left : {X : Type 0} (all done rest : List X) → all ≡ done ++ rest → length rest ≡ 0 → all ≡ done
-none_left all done rest is none = is ∙ ap (λ l. done ++ l) (nil_from_length rest none) ∙ append-nil done
-
-moved_on : {X : Type 0} (all done : List X) (x : X) (left rest : List X) → all ≡ done ++ left → left ≡ x ∷ rest → all ≡ (done ++ x ∷ []) ++ rest
-moved_on all done x left rest is next = is ∙ ap (λ l. done ++ l) next ∙ sym (append_assoc done (x ∷ []) rest)
 
 -- one pair more is put in
 pub loop-key-preserved-in_ok-try_insert : goal.loop-key-preserved-in_ok-try_insert
