@@ -27,13 +27,14 @@ fn put_numbers(map: &mut Numbers, room: &mut NumberRoom, first: u64, end: u64) -
     count
 }
 
-// Each request for room is refused in turn by the sweep, after which no request is made: of 150 ascending numbers the last ones make a third level.
+// Each request for room is refused in turn by the sweep, and after it no request is made: of ascending numbers those beyond the first leaf make a second
+// level.
 #[test]
 fn a_refused_room_leaves_the_map(rt: HostRuntime) -> Result<(), Fail> {
     let mut map = BTreeMap::new(rt.alloc());
-    if let Ok(mut room) = map.try_room_for(150) {
-        assert!(rt; put_numbers(&mut map, &mut room, 1, 152) == 150 && room.places() == 0);
-        assert!(rt; has_up_to(&map, 150));
+    if let Ok(mut room) = map.try_room_for(20) {
+        assert!(rt; put_numbers(&mut map, &mut room, 1, 22) == 20 && room.places() == 0);
+        assert!(rt; has_up_to(&map, 20));
     } else {
         assert!(rt; map.is_empty());
     }
