@@ -60,6 +60,12 @@ unsafe extern "C" {
         by_entry: bool,
         len: *mut usize,
     ) -> bool;
+    fn bench_map_put(
+        keys: *const u64,
+        key_count: usize,
+        is_made_ready: bool,
+        len: *mut usize,
+    ) -> bool;
 }
 
 // A million random inserts and removals, and then a look-up of every key.
@@ -352,6 +358,23 @@ fn print_times() {
     }
 }
 
+// Puts all keys into a map by their entries, made ready first or at once, or into std's.
+fn put(who: &str, keys: &[u64], is_made_ready: bool) -> usize {
+    if who == "std" {
+        let mut map = BTreeMap::new();
+        mark();
+        for key in keys {
+            map.entry(*key).or_insert(*key);
+        }
+        mark();
+        return map.len();
+    }
+    let mut len = 0;
+    let done = unsafe { bench_map_put(keys.as_ptr(), keys.len(), is_made_ready, &mut len) };
+    assert!(done, "memory was refused");
+    len
+}
+
 // One job of a thousand pairs, whose instructions `bench/instructions` counts. `none` only makes the keys.
 fn run_one(who: &str, phase: &str) {
     let keys = Keys::new(1_000);
@@ -368,12 +391,16 @@ fn run_one(who: &str, phase: &str) {
         removed,
         way: LET_GO,
     };
-    let who = usize::from(who == "std");
-    phases(|| {
-        if phase == "entry" {
-            black_box(count(2 * who, &counted));
-        } else {
-            black_box(RUNS[who](job));
+    let side = usize::from(who == "std");
+    phases(|| match phase {
+        "entry" => {
+            black_box(count(2 * side, &counted));
+        }
+        "put" | "ready" => {
+            black_box(put(who, &keys.inserted, phase == "ready"));
+        }
+        _ => {
+            black_box(RUNS[side](job));
         }
     });
 }

@@ -4,6 +4,7 @@
 mod hashed;
 mod neighbours;
 mod reading;
+mod ready;
 mod sets;
 mod vectors;
 mod walks;

@@ -6,11 +6,11 @@ ghost use Rattle.std.specs.Iterator.{IsFiniteIterable};
 ghost use Rattle.fallible_collections.specs.Words.{at, entries, extended, front, hashed_value_at, put, text_order, GivesAll};
 ghost use Rattle.callers_in_pages.specs.Counted.{IsFirst};
 
+pub mod both;
 pub mod boxes;
 pub mod joins;
 pub mod neighbours;
 pub mod orders;
-pub mod rollback;
 pub mod sets;
 pub mod vectors;
 

@@ -10,4 +10,6 @@ pub mod iter_mut;
 pub mod laws;
 pub mod queries;
 pub mod range;
+pub mod ready;
 pub mod refusals;
+pub mod room;

@@ -6,8 +6,8 @@ ghost use Rattle.fallible_collections.specs.Words.{entries, cut, text_order};
 ghost use Rattle.example_index.specs.declared.index.NotAdded.TheVariants.{Memory};
 ghost use Rattle.example_index.specs.Records.{name_of, id_of, InStep, PutsName, PutsId};
 
-use fallible_collections::TryReserveError;
 use fallible_collections::btree::BTreeMap;
+use fallible_collections::btree::map::insert_both;
 use std::alloc::{AllocError, Global};
 
 /// Why a record was not added.
@@ -44,14 +44,14 @@ impl Index {
     ///
     /// # Errors
     /// `IdTaken` or `NameTaken` where a record has the id or the name, and `Memory` where memory was refused, at any of the requests. Both
-    /// maps then hold the pairs that they held.
+    /// maps are then as they were.
     pub fn add(&mut self, alloc: Global, id: u64, name: &str) -> Result<(), NotAdded>
         ensures new { OnOk result ((name_of (entries self.old.names) id ≡ None) × (id_of (entries self.old.ids) name.now ≡ None)) }
         ensures by_id { OnOk result (PutsName (entries self.old.names) id name.now (entries self.new.names)) }
         ensures by_name { OnOk result (PutsId (entries self.old.ids) name.now id (entries self.new.ids)) }
         ensures id_taken { IsErrOf result NotAdded.IdTaken → IsSome (name_of (entries self.old.names) id) }
         ensures name_taken { IsErrOf result NotAdded.NameTaken → IsSome (id_of (entries self.old.ids) name.now) }
-        ensures unchanged { OnErr result ((entries self.new.names ≡ entries self.old.names) × (entries self.new.ids ≡ entries self.old.ids)) }
+        ensures unchanged { OnErr result ((self.new.names ≡ self.old.names) × (self.new.ids ≡ self.old.ids)) }
     {
         if self.names.contains_key(&id) {
             return Err(NotAdded::IdTaken);
@@ -61,13 +61,9 @@ impl Index {
         }
         let held = String::from_str(alloc, name)?;
         let key = String::from_str(alloc, name)?;
-        self.names.try_insert(id, held)?;
-        match self.ids.try_insert(key, id) {
-            Ok(_) => Ok(()),
-            Err(_refused) => {
-                self.names.remove(&id);
-                Err(NotAdded::Memory)
-            }
+        match insert_both(&mut self.names, &mut self.ids, id, held, key, id) {
+            Ok(_none) => Ok(()),
+            Err(_back) => Err(NotAdded::Memory),
         }
     }
 
@@ -105,15 +101,6 @@ impl From<AllocError> for NotAdded {
     ghost from_gives = { λ _ e. e ≡ Memory };
 
     fn from(_refused: AllocError) -> NotAdded {
-        NotAdded::Memory
-    }
-}
-
-/// What a refused insertion hands back is dropped: a caller of `add` has the name still.
-impl<K: Drop, V: Drop> From<(K, V, TryReserveError)> for NotAdded {
-    ghost from_gives = { λ _ e. e ≡ Memory };
-
-    fn from(_back: (K, V, TryReserveError)) -> NotAdded {
         NotAdded::Memory
     }
 }

@@ -27,6 +27,8 @@ pub use Rattle.fc_map.specs.Entries.{Map, entries, IsSoundMap, passed_in, now_va
 pub use Rattle.fc_map.specs.Counts.{IsBounded}
 pub use Rattle.fc_map.specs.LendsKey.{lends_get, lent_value, written_at}
 pub use Rattle.fc_map.specs.Entry.{entry_map, entry_map_ref, entry_key, entry_pair, entry_value, list_with, list_without, IsWritten}
+pub use Rattle.fc_map.specs.ReadyEntry.{ready_map_ref, ready_map, ready_key, ready_list_with}
+pub use Rattle.fc_map.specs.Room.{Places, room_error}
 pub use Rattle.fc_map.specs.Walks.{deref_pair, keys_of, values_of}
 pub use Rattle.fc_map.specs.Writing.{Stretch, whole, starting, wrote_first, wrote_last, wrote, wrote_all, set_value}
 pub use Rattle.fc_map.specs.Stretches.{range_map_ref, stretch, iter_map_ref, iter_stretch, IsFirstValue, IsLastValue, IsFirstPair, IsLastPair, CalledAtPair, IsVisitedIn}

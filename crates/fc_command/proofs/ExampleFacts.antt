@@ -1,5 +1,5 @@
 -- The table of commands on maps computes to its answers.
-use Rattle.std.proofs.Common.{◌≡◌, ℕ, List, [], ◌∷◌, refl, Some, None}
+use Rattle.std.proofs.Common.{◌≡◌, ◌⊎◌, ℕ, List, [], ◌∷◌, refl, Some, None}
 use Rattle.std.specs.Ordering.{nat_cmp}
 use Rattle.std.specs.declared.cmp.Ordering.{Ordering}
 use Rattle.fc_base.specs.declared.try_reserve_error.TryReserveError.{TryReserveError}
@@ -7,9 +7,9 @@ use Rattle.std.specs.declared.ops.Bound.TheVariants.{Included, Excluded, Unbound
 use Rattle.fc_lines.specs.declared.command.Side.{Side}
 use Rattle.fc_lines.specs.declared.command.Side.TheVariants.{First, Second}
 use Rattle.fc_lines.specs.declared.command.End.TheVariants.{Front, Back}
-use Rattle.fc_lines.specs.declared.command.Command.TheVariants.{Insert, Get, Remove, Len as CountPairs, Walk, Write, Append, SplitOff, TryClone, Extend}
-use Rattle.fc_lines.specs.declared.command.Reply.TheVariants.{Done, Value, Len, Pairs, BadRange}
-use Rattle.fc_command.specs.Step.{answer, MayRefuseCommand, MayStop}
+use Rattle.fc_lines.specs.declared.command.Command.TheVariants.{Insert, Get, Remove, Len as CountPairs, Walk, Write, Append, SplitOff, TryClone, Extend, InsertBoth}
+use Rattle.fc_lines.specs.declared.command.Reply.TheVariants.{Done, Value, Len, Pairs, BadRange, Both}
+use Rattle.fc_command.specs.Step.{answer, MustRefuse, MayRefuseCommand, MayStop}
 use Rattle.fc_map.specs.Writing.{wrote}
 
 -- The answers to six commands, on the lists of two maps that are empty at first.
@@ -41,6 +41,23 @@ map_answers : (answer nat_cmp (Append First) three ((2, 7) ∷ (5, 9) ∷ []) �
     × (answer nat_cmp (TryClone Second) three ((2, 7) ∷ []) ≡ record { m = three; o = three; reply = Done })
     × (answer nat_cmp (Extend First ((5, 9) ∷ (4, 0) ∷ (4, 7) ∷ [])) three [] ≡ record { m = (3, 1) ∷ (4, 7) ∷ (5, 9) ∷ (8, 3) ∷ []; o = []; reply = Done })
 map_answers = (refl, refl, refl, refl)
+
+-- Each pair goes into its own map, and the old values are answered, that of the first map first.
+both_answers : (answer {V = ℕ} nat_cmp (InsertBoth 1 2 5 9) [] ((5, 7) ∷ []) ≡ record { m = (1, 2) ∷ []; o = (5, 9) ∷ []; reply = Both None (Some 7) })
+    × (answer {V = ℕ} nat_cmp (InsertBoth 5 4 6 8) ((5, 2) ∷ []) ((5, 7) ∷ []) ≡ record { m = (5, 4) ∷ []; o = (5, 7) ∷ (6, 8) ∷ []; reply = Both (Some 2) None })
+both_answers = (refl, refl)
+
+-- A pair for each of two maps can be read as an insertion into each, and it may be refused, and must be, just where one of them is so.
+module _ {K V : Type 0} (cmp : K → K → Ordering) (refuses_key : K → TryReserveError → Type 0) (refuses_value : V → TryReserveError → Type 0) (m o : List (K × V)) (k l : K) (v w : V) where
+  both_put_in : ((answer cmp (InsertBoth k v l w) m o).m ≡ (answer cmp (Insert First k v) m o).m) × ((answer cmp (InsertBoth k v l w) m o).o ≡ (answer cmp (Insert Second l w) o m).m)
+  both_put_in = (refl, refl)
+
+  both_refused : (e : TryReserveError) → MayRefuseCommand cmp refuses_key refuses_value (InsertBoth k v l w) m o e
+      ≡ (MayRefuseCommand cmp refuses_key refuses_value (Insert First k v) m o e ⊎ MayRefuseCommand cmp refuses_key refuses_value (Insert Second l w) o m e)
+  both_refused e = refl
+
+  both_always_refused : MustRefuse cmp (InsertBoth k v l w) m o ≡ (MustRefuse cmp (Insert First k v) m o ⊎ MustRefuse cmp (Insert Second l w) o m)
+  both_always_refused = refl
 
 -- An extension can be read pair by pair: each is put in as an insertion puts it, and the one where it stops may be refused as an
 -- insertion there.

@@ -1,5 +1,5 @@
 -- What a command does to a world, and what it answers. `SetStep` has the table of commands on sets.
-use Rattle.std.specs.Prelude.{◌≡◌, ◌+◌, ◌-◌, ◌^◌, ◌<◌, min, ⊤, List, [], ◌∷◌, length, None, is_some, IsTrue, if◌then◌else◌}
+use Rattle.std.specs.Prelude.{◌≡◌, ◌+◌, ◌-◌, ◌^◌, ◌<◌, min, ◌⊎◌, ⊤, List, [], ◌∷◌, length, None, is_some, IsTrue, if◌then◌else◌}
 use Rattle.std.specs.declared.cmp.Ordering.{Ordering}
 use Rattle.fc_base.specs.declared.try_reserve_error.TryReserveError.{TryReserveError}
 use Rattle.fc_base.specs.declared.try_reserve_error.TryReserveError.TheVariants.{AllocError}
@@ -20,9 +20,9 @@ use Rattle.fc_lines.specs.declared.command.Target.TheVariants.{OnMap, OnSet}
 use Rattle.fc_lines.specs.Targets.{target_of}
 use Rattle.fc_lines.specs.declared.command.Side.TheVariants.{First, Second}
 use Rattle.fc_lines.specs.declared.command.Command.{Command}
-use Rattle.fc_lines.specs.declared.command.Command.TheVariants.{Insert, Get, GetKeyValue, ContainsKey, Remove, Set, Entry, RemoveEntry, Len as CountPairs, Clear, Walk, Write, Append, SplitOff, TryClone, Extend}
+use Rattle.fc_lines.specs.declared.command.Command.TheVariants.{Insert, Get, GetKeyValue, ContainsKey, Remove, Set, Entry, RemoveEntry, Len as CountPairs, Clear, Walk, Write, Append, SplitOff, TryClone, Extend, InsertBoth}
 use Rattle.fc_lines.specs.declared.command.Reply.{Reply}
-use Rattle.fc_lines.specs.declared.command.Reply.TheVariants.{Done, Flag, Value, Pair, Len, Pairs, BadRange, Refused, GivenBack}
+use Rattle.fc_lines.specs.declared.command.Reply.TheVariants.{Done, Flag, Value, Pair, Len, Pairs, BadRange, Refused, GivenBack, Both, BothGivenBack}
 use Rattle.fc_command.specs.SetStep.{StepOnSets}
 use Rattle.fc_command.specs.Walks.{walked, MayRefuseFound}
 use Rattle.fc_command.specs.Writing.{rewritten}
@@ -57,10 +57,11 @@ pub record Outcome (K V : Type 0) : Type 0 where
   pub o : List (K × V)
   pub reply : Reply K V
 
--- The reply to a command that is refused: an insertion hands back the key and the value that it was to put in.
+-- The reply to a command that is refused: an insertion hands back each key and value that it was to put in.
 abbrev pub refusal : {K V : Type 0} → Command K V → TryReserveError → Reply K V
 refusal (Insert side k v) e = GivenBack k v e
 refusal (Entry side k v w) e = GivenBack k w e
+refusal (InsertBoth k v l w) e = BothGivenBack k v l w e
 refusal c e = Refused e
 
 module _ {K V : Type 0} (cmp : K → K → Ordering) where
@@ -86,6 +87,7 @@ module _ {K V : Type 0} (cmp : K → K → Ordering) where
   answer (SplitOff side k) m o = record { m = below cmp m k; o = not_below cmp m k; reply = Done }
   answer (TryClone side) m o = record { m = m; o = m; reply = Done }
   answer (Extend side pairs) m o = record { m = extended cmp m pairs; o = o; reply = Done }
+  answer (InsertBoth k v l w) m o = record { m = put cmp m k v; o = put cmp o l w; reply = Both (value_at cmp m k) (value_at cmp o l) }
   answer c m o = record { m = m; o = o; reply = Done }
 
   -- Whether a command may be refused when a part of it is done, what it has then made of the list, and by which error: an extension
@@ -94,19 +96,20 @@ module _ {K V : Type 0} (cmp : K → K → Ordering) where
   MayStop (Extend side pairs) m m' e = IsExtendedUpTo cmp m pairs m' e
   MayStop c m m' e = ⊥
 
-  -- Whether a command is always refused: an insertion of a new key into a map of the greatest length, an append where neither map is
-  -- empty and the lengths add past it, and an extension that would make the map longer.
+  -- Whether a command is always refused: an insertion of a new key into a map of the greatest length, alone or as one of two, an append
+  -- where neither map is empty and the lengths add past it, and an extension that would make the map longer.
   abbrev pub MustRefuse : Command K V → List (K × V) → List (K × V) → Type 0
   MustRefuse (Insert side k v) m o = (at cmp m k ≡ None) × (length m ≡ 2 ^ 64 - 1)
   MustRefuse (Entry side k v w) m o = (at cmp m k ≡ None) × (length m ≡ 2 ^ 64 - 1)
   MustRefuse (Append side) m o = (0 < length m) × (0 < length o) × (2 ^ 64 - 1 < length m + length o)
   MustRefuse (Extend side pairs) m o = 2 ^ 64 - 1 < length (extended cmp m pairs)
+  MustRefuse (InsertBoth k v l w) m o = ((at cmp m k ≡ None) × (length m ≡ 2 ^ 64 - 1)) ⊎ ((at cmp o l ≡ None) × (length o ≡ 2 ^ 64 - 1))
   MustRefuse c m o = ⊥
 
 module _ {K V : Type 0} (cmp : K → K → Ordering) (refuses_key : K → TryReserveError → Type 0) (refuses_value : V → TryReserveError → Type 0) where
   -- Whether a command may be refused and change nothing, and by which error, given by which one a copy of a key or of a value may be: an
-  -- insertion at a new key, where the map is empty or has enough pairs to fill a leaf, a copy of what was found, or the room for copies,
-  -- an append where neither map is empty, and a split and a copy of a map that is not empty.
+  -- insertion at a new key, where the map is empty or has enough pairs to fill a leaf, two of which one is such, a copy of what was found,
+  -- or the room for copies, an append where neither map is empty, and a split and a copy of a map that is not empty.
   abbrev pub MayRefuseCommand : Command K V → List (K × V) → List (K × V) → TryReserveError → Type 0
   MayRefuseCommand (Insert side k v) m o e = (at cmp m k ≡ None) × MayGrowRefuse (length m) e
   MayRefuseCommand (Get side k) m o e = MayRefuseFound refuses_value (value_at cmp m k) e
@@ -116,6 +119,7 @@ module _ {K V : Type 0} (cmp : K → K → Ordering) (refuses_key : K → TryRes
   MayRefuseCommand (Append side) m o e = MayAppendRefuse (length m) (length o) e
   MayRefuseCommand (SplitOff side k) m o e = (e ≡ AllocError) × (0 < length m)
   MayRefuseCommand (TryClone side) m o e = MayRefuseCopies (MayRefusePair refuses_key refuses_value) m e
+  MayRefuseCommand (InsertBoth k v l w) m o e = ((at cmp m k ≡ None) × MayGrowRefuse (length m) e) ⊎ ((at cmp o l ≡ None) × MayGrowRefuse (length o) e)
   MayRefuseCommand c m o e = ⊥
 
   -- A command on the named map m and the other map o is answered by the table, or it is refused and changes nothing, or it is refused

@@ -7,10 +7,10 @@ use Rattle.fc_base.specs.declared.try_reserve_error.TryReserveError.TheVariants.
 use Rattle.std.specs.declared.ops.Bound.TheVariants.{Included, Excluded, Unbounded}
 use Rattle.fc_lines.specs.declared.command.Side.TheVariants.{First, Second}
 use Rattle.fc_lines.specs.declared.command.End.TheVariants.{Front, Back}
-use Rattle.fc_lines.specs.declared.command.Command.TheVariants.{Insert, Get, GetKeyValue, ContainsKey, Remove, Set, Entry, RemoveEntry, Len as CountPairs, Clear, Walk, Write, Append, SplitOff, TryClone, Extend, AddItem, ReplaceItem, TakeItem, RemoveItem, ContainsItem, GetItem, SetLen, SetClear, SetAppend, SetSplitOff, SetClone, SetExtend, SetWalk, List as ListItems, Keep, IsDisjoint, IsSubset, IsSuperset, SetCmp}
-use Rattle.fc_lines.specs.declared.command.Reply.TheVariants.{Done, Flag, Value, Pair, Len, Pairs, BadRange, Refused, Key, Keys, Order}
+use Rattle.fc_lines.specs.declared.command.Command.TheVariants.{Insert, Get, GetKeyValue, ContainsKey, Remove, Set, Entry, RemoveEntry, Len as CountPairs, Clear, Walk, Write, Append, SplitOff, TryClone, Extend, InsertBoth, AddItem, ReplaceItem, TakeItem, RemoveItem, ContainsItem, GetItem, SetLen, SetClear, SetAppend, SetSplitOff, SetClone, SetExtend, SetWalk, List as ListItems, Keep, IsDisjoint, IsSubset, IsSuperset, SetCmp}
+use Rattle.fc_lines.specs.declared.command.Reply.TheVariants.{Done, Flag, Value, Pair, Len, Pairs, BadRange, Refused, GivenBack, ItemGivenBack, Both, BothGivenBack, Key, Keys, Order}
 use Rattle.fc_lines.specs.Lines.{lines_of}
-use Rattle.fc_lines.specs.Grammar.{command_of, on_maps_of, on_sets_of, plain_on_sets_of, set_of_word, set_and_item_of_word, walk_items_of, extend_items_of, set_at, plain_of, with_map_of, keyed_of, with_key_of, with_pair_of, entry_of, walk_of, write_of, extend_of, map_at, number_at, bound_at, keep_of}
+use Rattle.fc_lines.specs.Grammar.{command_of, on_maps_of, on_sets_of, plain_on_sets_of, set_of_word, set_and_item_of_word, walk_items_of, extend_items_of, set_at, plain_of, with_map_of, keyed_of, with_key_of, with_pair_of, entry_of, both_of, walk_of, write_of, extend_of, map_at, number_at, bound_at, keep_of}
 use Rattle.fc_lines.specs.Texts.{text_of}
 use Rattle.std.specs.declared.cmp.Ordering.TheVariants.{Less, Equal, Greater}
 use Rattle.fc_lines.specs.declared.command.SetOp.TheVariants.{Difference, SymmetricDifference, Intersection, Union}
@@ -66,6 +66,13 @@ bad_map_commands : map command_of (codes "append a b" ∷ codes "append" ∷ cod
 unfolding command_of on_maps_of on_sets_of plain_on_sets_of set_of_word set_and_item_of_word walk_items_of extend_items_of set_at plain_of with_map_of keyed_of with_key_of with_pair_of extend_of map_at number_at
 bad_map_commands = refl
 
+-- A pair for each map. A word too few or too many, a map's name, a word that is no number, two spaces, a space behind, and a number that
+-- is too great.
+both_commands : map command_of (codes "both 1 2 5 9" ∷ codes "both 0 00 18446744073709551615 1" ∷ codes "both" ∷ codes "both 1 2 5" ∷ codes "both 1 2 5 9 0" ∷ codes "both a 1 2 5 9" ∷ codes "both 1 2 x 9" ∷ codes "both 1 2  5 9" ∷ codes "both 1 2 5 9 " ∷ codes "both 1 2 18446744073709551616 9" ∷ [])
+    ≡ Some (InsertBoth 1 2 5 9) ∷ Some (InsertBoth 0 0 18446744073709551615 1) ∷ None ∷ None ∷ None ∷ None ∷ None ∷ None ∷ None ∷ None ∷ []
+unfolding command_of on_maps_of on_sets_of plain_on_sets_of set_of_word set_and_item_of_word walk_items_of extend_items_of set_at plain_of both_of with_map_of keyed_of with_key_of with_pair_of map_at number_at
+both_commands = refl
+
 -- Lines of one set, of a set and an item, and of many items.
 set_commands : map command_of (codes "add s 1" ∷ codes "replace t 02" ∷ codes "take s 3" ∷ codes "drop s 4" ∷ codes "in t 5" ∷ codes "find s 6" ∷ codes "len t" ∷ codes "clear s" ∷ codes "append s" ∷ codes "split t 7" ∷ codes "copy s" ∷ codes "extend s 3 1 3" ∷ codes "walk t =4 !8 bf" ∷ [])
     ≡ Some (AddItem First 1) ∷ Some (ReplaceItem Second 2) ∷ Some (TakeItem First 3) ∷ Some (RemoveItem First 4) ∷ Some (ContainsItem Second 5) ∷ Some (GetItem First 6) ∷ Some (SetLen Second) ∷ Some (SetClear First) ∷ Some (SetAppend First)
@@ -94,6 +101,14 @@ six_texts = refl
 more_texts : flat_map text_of (Pair None ∷ Pair (Some (1, 2)) ∷ Flag true ∷ Flag false ∷ Done ∷ Refused AllocError ∷ Refused CapacityOverflow ∷ []) ≡ codes "none\nsome 1 2\ntrue\nfalse\ndone\nrefused alloc\nrefused overflow\n"
 unfolding text_of digits
 more_texts = refl
+
+both_texts : flat_map text_of (Both None (Some 7) ∷ Both (Some 1) (Some 2) ∷ BothGivenBack 1 2 5 9 AllocError ∷ BothGivenBack 1 2 5 9 CapacityOverflow ∷ []) ≡ codes "both - 7\nboth 1 2\nrefused alloc 1 2 5 9\nrefused overflow 1 2 5 9\n"
+unfolding text_of digits
+both_texts = refl
+
+given_back_texts : flat_map text_of (GivenBack 1 2 AllocError ∷ GivenBack 1 2 CapacityOverflow ∷ ItemGivenBack 1 AllocError ∷ ItemGivenBack 1 CapacityOverflow ∷ []) ≡ codes "refused alloc 1 2\nrefused overflow 1 2\nrefused alloc 1\nrefused overflow 1\n"
+unfolding text_of digits
+given_back_texts = refl
 
 walk_texts : flat_map text_of (Pairs (Some (8, 3) ∷ Some (5, 2) ∷ None ∷ None ∷ []) ∷ Pairs [] ∷ BadRange ∷ []) ≡ codes "list 8:3 5:2 - -\nlist\nbad range\n"
 unfolding text_of digits

@@ -14,7 +14,7 @@ use Rattle.fc_lines.specs.declared.command.End.TheVariants.{Front, Back}
 use Rattle.fc_lines.specs.declared.command.SetOp.{SetOp}
 use Rattle.fc_lines.specs.declared.command.SetOp.TheVariants.{Difference, SymmetricDifference, Intersection, Union}
 use Rattle.fc_lines.specs.declared.command.Command.{Command}
-use Rattle.fc_lines.specs.declared.command.Command.TheVariants.{Insert, Get, GetKeyValue, ContainsKey, Remove, Set, Entry, RemoveEntry, Len, Clear, Walk, Write, Append, SplitOff, TryClone, Extend, AddItem, ReplaceItem, TakeItem, RemoveItem, ContainsItem, GetItem, SetLen, SetClear, SetAppend, SetSplitOff, SetClone, SetExtend, SetWalk, List as ListItems, Keep, IsDisjoint, IsSubset, IsSuperset, SetCmp}
+use Rattle.fc_lines.specs.declared.command.Command.TheVariants.{Insert, Get, GetKeyValue, ContainsKey, Remove, Set, Entry, RemoveEntry, Len, Clear, Walk, Write, Append, SplitOff, TryClone, Extend, InsertBoth, AddItem, ReplaceItem, TakeItem, RemoveItem, ContainsItem, GetItem, SetLen, SetClear, SetAppend, SetSplitOff, SetClone, SetExtend, SetWalk, List as ListItems, Keep, IsDisjoint, IsSubset, IsSuperset, SetCmp}
 use Rattle.fc_lines.specs.Lines.{words_of}
 
 -- What follows is asked only where something is there.
@@ -199,6 +199,15 @@ entry_of words = do
   w ← number_at v.1
   whole_line (Entry m.0 k.0 v.0 w.0) w.1
 
+-- The words after `both` are a key and a value for the first map, and a key and a value for the second.
+unfoldable pub both_of : List (List ℕ) → Option (Command ℕ ℕ)
+both_of words = do
+  k ← number_at words
+  v ← number_at k.1
+  l ← number_at v.1
+  w ← number_at l.1
+  whole_line (InsertBoth k.0 v.0 l.0 w.0) w.1
+
 -- The words after `walk` are a map, two bounds and one word of letters.
 unfoldable pub walk_of : List (List ℕ) → Option (Command ℕ ℕ)
 walk_of words = do
@@ -231,7 +240,9 @@ keyed_of word words = with_key_of word words or_else with_pair_of word words
 
 -- The command without a list that the words after its word ask for.
 unfoldable pub plain_of : List ℕ → List (List ℕ) → Option (Command ℕ ℕ)
-plain_of word words = if is_text word (codes "entry") then entry_of words else (with_map_of word words or_else keyed_of word words)
+plain_of word words = if is_text word (codes "entry") then entry_of words
+    else if is_text word (codes "both") then both_of words
+    else (with_map_of word words or_else keyed_of word words)
 
 -- The command on maps that the words ask for, by the first of them.
 unfoldable pub on_maps_of : List (List ℕ) → Option (Command ℕ ℕ)

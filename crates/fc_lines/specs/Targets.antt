@@ -1,10 +1,11 @@
 -- Which map or set a command names.
 use Rattle.fc_lines.specs.declared.command.Target.{Target}
 use Rattle.fc_lines.specs.declared.command.Target.TheVariants.{OnMap, OnSet}
+use Rattle.fc_lines.specs.declared.command.Side.TheVariants.{First}
 use Rattle.fc_lines.specs.declared.command.Command.{Command}
-use Rattle.fc_lines.specs.declared.command.Command.TheVariants.{Insert, Get, GetKeyValue, ContainsKey, Remove, Set, Entry, RemoveEntry, Len as CountPairs, Clear, Walk, Write, Append, SplitOff, TryClone, Extend, AddItem, ReplaceItem, TakeItem, RemoveItem, ContainsItem, GetItem, SetLen, SetClear, SetAppend, SetSplitOff, SetClone, SetExtend, SetWalk, List as ListItems, Keep, IsDisjoint, IsSubset, IsSuperset, SetCmp}
+use Rattle.fc_lines.specs.declared.command.Command.TheVariants.{Insert, Get, GetKeyValue, ContainsKey, Remove, Set, Entry, RemoveEntry, Len as CountPairs, Clear, Walk, Write, Append, SplitOff, TryClone, Extend, InsertBoth, AddItem, ReplaceItem, TakeItem, RemoveItem, ContainsItem, GetItem, SetLen, SetClear, SetAppend, SetSplitOff, SetClone, SetExtend, SetWalk, List as ListItems, Keep, IsDisjoint, IsSubset, IsSuperset, SetCmp}
 
--- The map or the set that a command names.
+-- The map or the set that a command names. One on both maps names the first.
 abbrev pub target_of : {K V : Type 0} → Command K V → Target
 target_of (Insert side k v) = OnMap side
 target_of (Get side k) = OnMap side
@@ -22,6 +23,7 @@ target_of (Append side) = OnMap side
 target_of (SplitOff side k) = OnMap side
 target_of (TryClone side) = OnMap side
 target_of (Extend side pairs) = OnMap side
+target_of (InsertBoth k v l w) = OnMap First
 target_of (AddItem side k) = OnSet side
 target_of (ReplaceItem side k) = OnSet side
 target_of (TakeItem side k) = OnSet side

@@ -7,7 +7,7 @@ use Rattle.std.specs.declared.cmp.Ordering.TheVariants.{Less, Equal, Greater}
 use Rattle.fc_base.specs.declared.try_reserve_error.TryReserveError.{TryReserveError}
 use Rattle.fc_base.specs.declared.try_reserve_error.TryReserveError.TheVariants.{AllocError, CapacityOverflow}
 use Rattle.fc_lines.specs.declared.command.Reply.{Reply}
-use Rattle.fc_lines.specs.declared.command.Reply.TheVariants.{Done, Flag, Key, Value, Pair, Len, Pairs, Keys, Order, BadRange, Refused, GivenBack, ItemGivenBack}
+use Rattle.fc_lines.specs.declared.command.Reply.TheVariants.{Done, Flag, Key, Value, Pair, Len, Pairs, Keys, Order, BadRange, Refused, GivenBack, ItemGivenBack, Both, BothGivenBack}
 
 -- A number that may be missing.
 abbrev pub option_text : Option ℕ → List ℕ
@@ -24,7 +24,7 @@ abbrev pub step_text : Option (ℕ × ℕ) → List ℕ
 step_text None = codes " -"
 step_text (Some (k, v)) = codes " " ++ decimal k ++ codes ":" ++ decimal v
 
--- What a step of a walk over a set gave.
+-- What a step of a walk over a set gave, or the value that one of two maps had.
 abbrev pub item_text : Option ℕ → List ℕ
 item_text None = codes " -"
 item_text (Some n) = codes " " ++ decimal n
@@ -51,6 +51,7 @@ words_of_reply Done = codes "done"
 words_of_reply (Flag b) = flag_text b
 words_of_reply (Key k) = option_text k
 words_of_reply (Value v) = option_text v
+words_of_reply (Both v w) = codes "both" ++ item_text v ++ item_text w
 words_of_reply (Pair p) = pair_text p
 words_of_reply (Len n) = decimal n
 words_of_reply (Pairs steps) = codes "list" ++ flat_map step_text steps
@@ -59,6 +60,7 @@ words_of_reply (Order o) = order_text o
 words_of_reply BadRange = codes "bad range"
 words_of_reply (Refused e) = refusal_text e
 words_of_reply (GivenBack k v e) = refusal_text e ++ codes " " ++ decimal k ++ codes " " ++ decimal v
+words_of_reply (BothGivenBack k v l w e) = refusal_text e ++ codes " " ++ decimal k ++ codes " " ++ decimal v ++ codes " " ++ decimal l ++ codes " " ++ decimal w
 words_of_reply (ItemGivenBack k e) = refusal_text e ++ codes " " ++ decimal k
 
 -- The line that is written for a reply.

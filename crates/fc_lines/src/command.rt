@@ -47,7 +47,8 @@ pub enum End {
     Back,
 }
 
-/// A command on the map or the set that its side names, and in some also on the other one of its kind.
+/// A command on the map or the set that its side names, and in some also on the other one of its kind; one that names no side is on
+/// both maps.
 #[derive(PartialEq, Eq, Debug, Drop)]
 pub enum Command<K, V> {
     /// `try_insert` of the key and the value; replies `Value`, the old one. A new key may be refused: then `GivenBack`, both.
@@ -88,6 +89,9 @@ pub enum Command<K, V> {
     /// `try_extend` by the pairs; replies `Done`. It may be refused at a pair with a new key, as `Insert` there: the pairs before it
     /// are then in the map.
     Extend(Side, Items<(K, V)>),
+    /// `insert_both` of a key and a value for `a` and of a key and a value for `b`; replies `Both`, the old values. A new key may be
+    /// refused in its map: then `BothGivenBack`, all four, and neither map changes.
+    InsertBoth(K, V, K, V),
     /// `try_insert` of the item into a set; replies `Flag`, true where it was new. A new item may be refused: then `ItemGivenBack`.
     AddItem(Side, K),
     /// `replace`; replies `Key`, the equal item that was there. A new item may be refused: then `ItemGivenBack`.
@@ -146,6 +150,8 @@ pub enum Reply<K, V> {
     Len(usize),
     /// A value, if there was one.
     Value(Option<V>),
+    /// The value that was in `a`, and the one that was in `b`, if there was one.
+    Both(Option<V>, Option<V>),
     /// A pair, if there was one.
     Pair(Option<(K, V)>),
     /// What each step of a walk gave.
@@ -160,6 +166,8 @@ pub enum Reply<K, V> {
     Refused(TryReserveError),
     /// An `Insert` or an `Entry` was refused, and the world is as before: the key and the value that were to be put in.
     GivenBack(K, V, TryReserveError),
+    /// An `InsertBoth` was refused, and the world is as before: the keys and the values that were to be put in, those for `a` first.
+    BothGivenBack(K, V, K, V, TryReserveError),
     /// An `AddItem` or a `ReplaceItem` was refused, and the world is as before: the item that was to be put in.
     ItemGivenBack(K, TryReserveError),
 }
@@ -186,6 +194,7 @@ impl<K, V> Command<K, V> {
             Command::SplitOff(side, _) => Target::OnMap(*side),
             Command::TryClone(side) => Target::OnMap(*side),
             Command::Extend(side, _) => Target::OnMap(*side),
+            Command::InsertBoth(_, _, _, _) => Target::OnMap(Side::First),
             Command::AddItem(side, _) => Target::OnSet(*side),
             Command::ReplaceItem(side, _) => Target::OnSet(*side),
             Command::TakeItem(side, _) => Target::OnSet(*side),

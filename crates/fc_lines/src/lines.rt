@@ -22,6 +22,7 @@ ghost use Rattle.fc_lines.specs.Grammar.{
   some_pairs,
   whole_line,
   entry_of,
+  both_of,
   walk_of,
   write_of,
   extend_of,
@@ -88,6 +89,9 @@ fn plain_in(word: &[u8], words: Option<&[u8]>) -> Option<Command<u64, u64>>
 {
     if is_word(word, b"entry") {
         return entry_in(words);
+    }
+    if is_word(word, b"both") {
+        return both_in(words);
     }
     match with_map_in(word, words) {
         Some(command) => Some(command),
@@ -196,6 +200,20 @@ fn entry_in(words: Option<&[u8]>) -> Option<Command<u64, u64>>
     let (there, words) = next_number(words)?;
     let (new, words) = next_number(words)?;
     at_line_end(Command::Entry(side, key, there, new), words)
+}
+
+#[tactic(auto, unfolding(crate::specs::Grammar::both_of))]
+fn both_in(words: Option<&[u8]>) -> Option<Command<u64, u64>>
+    ensures { result ≡ both_of (words_left words.entry) }
+{
+    let (key, words) = next_number(words)?;
+    let (value, words) = next_number(words)?;
+    let (second_key, words) = next_number(words)?;
+    let (second_value, words) = next_number(words)?;
+    at_line_end(
+        Command::InsertBoth(key, value, second_key, second_value),
+        words,
+    )
 }
 
 #[tactic(auto, unfolding(crate::specs::Grammar::walk_of))]

@@ -24,6 +24,7 @@ pub fn write_reply(text: &mut String, reply: &Reply<u64, u64>) -> Result<(), All
         Reply::Key(None) | Reply::Value(None) | Reply::Pair(None) => write!(text, "none\n"),
         Reply::Key(Some(n)) | Reply::Value(Some(n)) => write!(text, "some {n}\n"),
         Reply::Pair(Some((key, value))) => write!(text, "some {key} {value}\n"),
+        Reply::Both(first, second) => write_both(text, *first, *second),
         Reply::Len(n) => write!(text, "{n}\n"),
         Reply::Pairs(steps) => write_steps(text, steps.as_slice()),
         Reply::Keys(steps) => write_items(text, steps.as_slice()),
@@ -39,12 +40,44 @@ pub fn write_reply(text: &mut String, reply: &Reply<u64, u64>) -> Result<(), All
         Reply::GivenBack(key, value, TryReserveError::CapacityOverflow) => {
             write!(text, "refused overflow {key} {value}\n")
         }
+        Reply::BothGivenBack(k, v, l, w, e) => write_both_back(text, *k, *v, *l, *w, *e),
         Reply::ItemGivenBack(key, TryReserveError::AllocError) => {
             write!(text, "refused alloc {key}\n")
         }
         Reply::ItemGivenBack(key, TryReserveError::CapacityOverflow) => {
             write!(text, "refused overflow {key}\n")
         }
+    }
+}
+
+// Appends the values that two maps had, each where there was one.
+#[tactic(auto, unfolding(crate::specs::Texts::text_of))]
+fn write_both(text: &mut String, first: Option<u64>, second: Option<u64>) -> Result<(), AllocError>
+    ensures { OnOk result (string_bytes text.new ≡ string_bytes text.old ++ text_of (Reply.Both first second)) }
+{
+    match (first, second) {
+        (Some(v), Some(w)) => write!(text, "both {v} {w}\n"),
+        (Some(v), None) => write!(text, "both {v} -\n"),
+        (None, Some(w)) => write!(text, "both - {w}\n"),
+        (None, None) => write!(text, "both - -\n"),
+    }
+}
+
+// Appends the keys and the values that were to be put into two maps, and why they were refused.
+#[tactic(auto, unfolding(crate::specs::Texts::text_of))]
+fn write_both_back(
+    text: &mut String,
+    k: u64,
+    v: u64,
+    l: u64,
+    w: u64,
+    e: TryReserveError,
+) -> Result<(), AllocError>
+    ensures { OnOk result (string_bytes text.new ≡ string_bytes text.old ++ text_of (Reply.BothGivenBack k v l w e)) }
+{
+    match e {
+        TryReserveError::AllocError => write!(text, "refused alloc {k} {v} {l} {w}\n"),
+        TryReserveError::CapacityOverflow => write!(text, "refused overflow {k} {v} {l} {w}\n"),
     }
 }
 

@@ -14,3 +14,4 @@ pub mod PopFacts
 pub mod SplitFacts
 pub mod CopyFacts
 pub mod ExchangeFacts
+pub mod ReadyFacts

@@ -3,8 +3,11 @@ pub mod Counts
 pub mod Place
 pub mod Lends
 pub mod LendsKey
+pub mod Room
 pub mod Unique
+pub mod Ready
 pub mod Entry
+pub mod ReadyEntry
 pub mod Writing
 pub mod Walks
 pub mod Stretches

@@ -4,6 +4,7 @@ ghost use Rattle.fc_base.specs.Ascending.{IsAscending};
 ghost use Rattle.fc_map.specs.Entries.{entries, IsSoundMap};
 
 mod append;
+mod both;
 mod bounds;
 mod compare;
 mod copy;
@@ -25,17 +26,21 @@ mod neighbours;
 mod places;
 mod range;
 mod range_mut;
+mod ready;
 mod remove;
+mod room;
 mod split_off;
 
+pub use both::insert_both;
 pub use bounds::is_range;
-pub use entry::{Entry, OccupiedEntry, VacantEntry};
+pub use entry::{Entry, OccupiedEntry, ReadyEntry, VacantEntry};
 use fc_tree_node::node::Node;
 pub use into_iter::IntoIter;
 pub use iter::{Iter, Keys, Values};
 pub use iter_mut::{IterMut, ValuesMut};
 pub use range::Range;
 pub use range_mut::RangeMut;
+pub use room::Room;
 use std::alloc::Global;
 use std::marker::Model;
 

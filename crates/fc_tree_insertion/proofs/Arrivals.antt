@@ -1,11 +1,11 @@
 -- Where a new pair stands once it is put in.
-use Rattle.std.proofs.Common.{◌^◌, length-append, ◌≡◌, ℕ, suc, zero, ◌+◌, ◌-◌, ◌<◌, ◌≤◌, Bool, true, false, nat_lt, List, [], ◌∷◌, ◌++◌, length, get_or, map, take, drop, refl, sym, ap, ◌∙◌, subst, arith, append_assoc, append-nil, Some, None, IfSome, MatchOption, Box, inl, inr}
+use Rattle.std.proofs.Common.{◌^◌, length-append, ◌≡◌, ℕ, suc, zero, ◌+◌, ◌-◌, ◌<◌, ◌≤◌, Bool, true, false, nat_lt, List, [], ◌∷◌, ◌++◌, length, get_or, map, take, drop, refl, sym, ap, ◌∙◌, subst, arith, append_assoc, append-nil, Some, None, IfSome, MatchOption, Box}
 use Rattle.std.specs.Prelude.{slice_range, if◌then◌else◌}
 use Rattle.std.specs.declared.alloc.Global.{Global}
 use Rattle.std.specs.List.{AllByRecursion, insert}
 use Rattle.std.proofs.lemmas.List.Edits.{length-insert}
 use Rattle.std.proofs.lemmas.Bool.{ltb-true, ltb-false, lt-ltb, le-ltb}
-use Rattle.std.proofs.lemmas.Bool.Decides.{nat_tests, eqb_tells}
+use Rattle.std.proofs.lemmas.Bool.Decides.{nat_tests}
 use Rattle.std.proofs.lemmas.List.{length-map, map-append, take-append-le, append_cancel_left, get_or-append_right, get_or_append_left}
 use Rattle.std.proofs.Math.Seq.{take-append-add, take-append_seam, get_or-append_seam}
 use Rattle.fc_base.specs.Sizes.{capacity, most_levels}
@@ -22,7 +22,7 @@ use Rattle.fc_tree_node.proofs.Pairs.{IsBelow, child_below, pairs_is, leaf_child
 use Rattle.fc_tree_node.proofs.Gaps.{place_pairs}
 use Rattle.fc_tree_node.proofs.Made.{IsChildSet}
 use Rattle.fc_tree_node.proofs.PathSteps.{IsStep}
-use Rattle.fc_tree_insertion.proofs.Cascades.{IsCascadeStep, leaf_full, leaf_room, cascade_part, needed_whole, needed_part}
+use Rattle.fc_tree_insertion.proofs.Cascades.{IsCascadeStep, leaf_full, leaf_room, cascade_part, first_full, needed_whole, needed_part}
 use Rattle.fc_tree_insertion.proofs.InsertedLevels.{levelled_root}
 use Rattle.fc_tree_insertion.proofs.InsertedPairs.{put_root}
 use Rattle.fc_tree_node.proofs.DepthFacts.{deep_root, deep_full, few_levels}
@@ -318,13 +318,9 @@ module _ {K V : Type 0} where
   pub steps_few : (p : List ℕ) (n : Node K V) → 0 < length p → IsSoundRoot (length p - 1) n → length (pairs_of n) + 1 < 2 ^ 64 → steps_after p n ≤ most_levels
   steps_few p n some s few = steps (all_full p n) refl
     where
-      full : (p : List ℕ) → 0 < length p → all_full p n ≡ true → length (own_pairs n) ≡ capacity
-      full [] some is = absurd (omega arith)
-      full (i ∷ p) some is = elim (eqb_tells (length (own_pairs n)) capacity) [ inl w ↦ w.1 | inr w ↦ absurd (let z = rw w.0 at is in cc) ]
-
       steps : (b : Bool) → all_full p n ≡ b → steps_after p n ≤ most_levels
       steps true is =
-          let d = few_levels (suc (length p - 1)) (length (pairs_of n)) (deep_full (length p - 1) n (full p some is) s.1) (omega arith) in
+          let d = few_levels (suc (length p - 1)) (length (pairs_of n)) (deep_full (length p - 1) n (first_full p n some is) s.1) (omega arith) in
           rw is (omega arith)
       steps false is =
           let d = few_levels (length p - 1) (length (pairs_of n)) (deep_root (length p - 1) n s) (omega arith) in

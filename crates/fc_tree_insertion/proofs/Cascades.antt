@@ -17,7 +17,7 @@ module _ {K V : Type 0} where
   cascade_whole (i ∷ p) n e = rw e refl
 
   -- each node of the path is full, or one is not
-  by_fullness : (p : List ℕ) (n : Node K V) (P : Type 0) → (all_full p n ≡ true → P) → (all_full p n ≡ false → P) → P
+  pub by_fullness : (p : List ℕ) (n : Node K V) (P : Type 0) → (all_full p n ≡ true → P) → (all_full p n ≡ false → P) → P
   by_fullness p n P t f = elim (all_full p n) as (λ b. all_full p n ≡ b → P) [ true ↦ t | false ↦ f ] refl
 
   pub cascade_part : (p : List ℕ) (n : Node K V) → all_full p n ≡ false → cascade p n < length p
@@ -43,6 +43,11 @@ module _ {K V : Type 0} where
   cons_full i p n q h =
       let e : (length (own_pairs n) == capacity) ≡ true = eq-eqb _ _ q in
       rw (e, whole_full p (child_at n i) h) refl
+
+  -- the first node is full where all are
+  pub first_full : (p : List ℕ) (n : Node K V) → 0 < length p → all_full p n ≡ true → length (own_pairs n) ≡ capacity
+  first_full [] n some is = absurd (omega arith)
+  first_full (i ∷ p) n some is = elim (eqb_tells (length (own_pairs n)) capacity) [ inl w ↦ w.1 | inr w ↦ absurd (let z = rw w.0 at is in cc) ]
 
   pub cascade_most : (p : List ℕ) (n : Node K V) → cascade p n ≤ length p
   cascade_most p n = by_fullness p n (cascade p n ≤ length p) (λ f. let w = cascade_whole p n f in omega arith) (λ f. let w = cascade_part p n f in omega arith)

@@ -11,7 +11,8 @@ ghost use Rattle.fc_tree_node.specs.Split.{left_length, split_moves};
 ghost use Rattle.fc_tree_insertion.specs.Arrival.{steps_after, path_after, IsPutAt, HasArrived};
 
 use crate::arrival::arrive;
-use crate::new_nodes::{NewNodes, try_new_nodes};
+use crate::new_nodes::NewNodes;
+use crate::ready::{insert_ready, try_nodes_at};
 use crate::spares::Spares;
 use fc_base::{Count, TryReserveError};
 use fc_tree_node::node::{CAPACITY, Node};
@@ -51,9 +52,9 @@ pub fn try_insert<K: Drop, V: Drop>(
     ensures moves { OnOk result (HasFewMoves (length (pairs_of root.new.value)) count.old count.new) }
     ensures moved { OnOk result (count.old.moves < count.new.moves) }
 {
-    match try_new_nodes(alloc, root, path.as_slice()) {
+    match try_nodes_at(alloc, root, path) {
         Ok(new_nodes) => {
-            insert(root, path, pair, new_nodes, count);
+            insert_ready(root, path, pair, new_nodes, count);
             Ok(())
         }
         Err(e) => Err((pair.0, pair.1, e)),

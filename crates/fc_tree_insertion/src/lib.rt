@@ -5,4 +5,7 @@ mod arrival;
 pub mod insertion;
 pub mod leaf;
 pub mod new_nodes;
+pub mod ready;
+pub mod room;
 pub mod spares;
+pub mod stock;

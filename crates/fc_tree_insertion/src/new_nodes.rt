@@ -111,7 +111,7 @@ pub fn try_spares<K: Drop, V: Drop>(
 }
 
 // How many nodes of the path are full, one after another from the leaf upwards.
-fn count_full<K, V>(node: &Node<K, V>, path: &[u8]) -> usize
+pub(crate) fn count_full<K, V>(node: &Node<K, V>, path: &[u8]) -> usize
     requires some { 0 < length path.now }
     requires path { IsPath path.now node.now }
     requires levels { IsLevelled (length path.now - 1) node.now }

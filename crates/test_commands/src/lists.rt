@@ -115,6 +115,31 @@ fn a_reply_tells_what_came_back(rt: HostRuntime) {
     );
 }
 
+#[test]
+fn a_reply_tells_what_was_in_both_maps(rt: HostRuntime) {
+    let (refused, full) = (
+        TryReserveError::AllocError,
+        TryReserveError::CapacityOverflow,
+    );
+    assert!(rt; tells(rt.alloc(), Reply::Both(Some(1), Some(2)), b"both 1 2\n"));
+    assert!(rt; tells(rt.alloc(), Reply::Both(Some(30), None), b"both 30 -\n"));
+    assert!(rt; tells(rt.alloc(), Reply::Both(None, Some(0)), b"both - 0\n"));
+    assert!(rt;
+        tells(
+            rt.alloc(),
+            Reply::BothGivenBack(1, 2, 5, 9, refused),
+            b"refused alloc 1 2 5 9\n"
+        )
+    );
+    assert!(rt;
+        tells(
+            rt.alloc(),
+            Reply::BothGivenBack(1, 20, 5, 0, full),
+            b"refused overflow 1 20 5 0\n"
+        )
+    );
+}
+
 const INSERT_AND_COUNT: [&[u8]; 2] = [b"insert a 1 1", b"len a"];
 
 fn is_handed_back(reply: &Reply<u64, u64>) -> bool {

@@ -1,6 +1,6 @@
 //! What refused commands leave of a world: the sweep refuses each request of these tests in turn.
 use crate::worlds::{
-    HALF, Kind, NUMBERS, counts, divided, has_value, holds, is_divided, lacks, puts_all, step,
+    HALF, Kind, NUMBERS, counts, divided, has_value, holds, is_divided, lacks, puts, puts_all, step,
 };
 use fc_base::TryReserveError;
 use fc_command::command::{Command, Items, Reply, SetOp, Side, World};
@@ -23,6 +23,9 @@ fn outcome(world: &mut World<u64, u64>, command: Command<u64, u64>) -> Fate {
 }
 
 const NO_VALUE: u64 = 0;
+
+// The most pairs of a map that is one leaf.
+const LEAF: u64 = 15;
 
 // Whether the command puts 1 in, or is refused and hands it back, with this value if it is of a map.
 fn is_put_in_or_handed_back(alloc: Global, command: Command<u64, u64>, value: u64) -> bool {
@@ -106,6 +109,70 @@ fn a_refused_append_split_or_copy_changes_neither_set(rt: HostRuntime) {
         )
     );
     assert!(rt; is_done_or_undone(rt.alloc(), sets, Command::SetClone(Side::First), HALF, HALF));
+}
+
+// A world whose maps have the keys from 1 up to those; or nothing, where one was refused.
+fn filled(alloc: Global, first: u64, second: u64) -> Option<World<u64, u64>> {
+    let mut world = World::new(alloc);
+    for (side, len) in [(Side::First, first), (Side::Second, second)] {
+        for place in 0..len {
+            if !puts(&mut world, Kind::Maps, side, place.wrapping_add(1)) {
+                return None;
+            }
+        }
+    }
+    Some(world)
+}
+
+// Whether 7 is put at the key in both maps, or all four numbers come back and neither map changes.
+fn is_put_in_both_or_in_neither(alloc: Global, len: u64, key: u64) -> bool {
+    let Some(mut world) = filled(alloc, len, len) else {
+        return true;
+    };
+    let maps = Kind::Maps;
+    match step(&mut world, Command::InsertBoth(key, 7, key, 8)) {
+        Reply::Both(None, None) => {
+            has_value(&mut world, maps, Side::First, key, 7)
+                && has_value(&mut world, maps, Side::Second, key, 8)
+                && have(&mut world, maps, key as usize, key as usize)
+        }
+        Reply::BothGivenBack(k, 7, l, 8, TryReserveError::AllocError) => {
+            k == key && l == key && have(&mut world, maps, len as usize, len as usize)
+        }
+        _ => false,
+    }
+}
+
+// Both maps are empty, or each is a full leaf.
+#[test]
+fn a_pair_for_each_map_is_put_in_both_or_in_neither(rt: HostRuntime) {
+    assert!(rt; is_put_in_both_or_in_neither(rt.alloc(), 0, 1));
+    assert!(rt; is_put_in_both_or_in_neither(rt.alloc(), LEAF, LEAF + 1));
+}
+
+// Whether the pairs are put in where none takes memory, though one that takes it was refused just before.
+fn is_refused_where_it_takes_memory(alloc: Global) -> bool {
+    let Some(mut world) = filled(alloc, LEAF - 1, LEAF) else {
+        return true;
+    };
+    let was_refused = match step(&mut world, Command::InsertBoth(LEAF, 7, LEAF + 1, 8)) {
+        Reply::Both(None, None) => false,
+        Reply::BothGivenBack(LEAF, 7, _, 8, TryReserveError::AllocError) => true,
+        _ => return false,
+    };
+    let is_as_before = lacks(&mut world, Kind::Maps, Side::First, LEAF)
+        && lacks(&mut world, Kind::Maps, Side::Second, LEAF + 1);
+    match step(&mut world, Command::InsertBoth(LEAF, 9, 5, 6)) {
+        Reply::Both(None, Some(50)) => was_refused && is_as_before,
+        Reply::Both(Some(7), Some(50)) => !was_refused,
+        _ => false,
+    }
+}
+
+// One map has room in its leaf, and the other is a full one.
+#[test]
+fn a_pair_for_each_map_is_refused_just_where_one_takes_memory(rt: HostRuntime) {
+    assert!(rt; is_refused_where_it_takes_memory(rt.alloc()));
 }
 
 // The numbers of a divided world, from 0 on, always 37 on, and round.

@@ -25,6 +25,8 @@ mod queries;
 #[cfg(test)]
 mod refusals;
 #[cfg(test)]
+mod room;
+#[cfg(test)]
 mod sizes;
 #[cfg(test)]
 mod sorted;

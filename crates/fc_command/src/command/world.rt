@@ -15,7 +15,7 @@ use crate::command::sets::step_set;
 use fc_base::{TryClone, TryReserveError};
 use fc_lines::command::{Command, End, Reply, Side, Target};
 use fc_lines::items::Items;
-use fc_map::map::{BTreeMap, Entry, Range, RangeMut, is_range};
+use fc_map::map::{BTreeMap, Entry, Range, RangeMut, insert_both, is_range};
 use fc_set::set::BTreeSet;
 use std::alloc::Global;
 use std::mem;
@@ -49,8 +49,8 @@ impl<K: Ord + TryClone, V: TryClone> World<K, V> {
         }
     }
 
-    /// Runs one command. A refusal is the reply `GivenBack` or `ItemGivenBack` for one pair or item, which then comes back, and else
-    /// `Refused`. The world is then as it was, but for what a refused `Extend` or `SetExtend` has put in.
+    /// Runs one command. A refusal is the reply `GivenBack`, `BothGivenBack` or `ItemGivenBack` for a pair, a pair for each map or an
+    /// item, which then comes back, and else `Refused`. The world is then as it was, but for what a refused `Extend` or `SetExtend` has put in.
     ///
     /// A caller shows that a copy of a key or of a value is that key or value itself. The reply names the error of a copy as it came;
     /// where no copy of a key or of a value is ever refused, as of numbers, a command that only copies is answered.
@@ -145,6 +145,7 @@ fn step_on<K: Ord + TryClone, V: TryClone>(
         Command::SplitOff(_, key) => split_off(map, other, key),
         Command::TryClone(_) => copy(map, other),
         Command::Extend(_, pairs) => extend(map, pairs),
+        Command::InsertBoth(k, v, l, w) => put_both(map, other, k, v, l, w),
         _on_sets => Reply::Done,
     }
 }
@@ -337,6 +338,23 @@ fn extend<K: Ord + TryClone, V: TryClone>(
             Reply::Done
         }
         Err(e) => Reply::Refused(e),
+    }
+}
+
+// Puts a pair into each of the two maps, or into neither.
+fn put_both<K: Ord + TryClone, V: TryClone>(
+    map: &mut BTreeMap<K, V>,
+    other: &mut BTreeMap<K, V>,
+    k: K,
+    v: V,
+    l: K,
+    w: V,
+) -> Reply<K, V>
+    ensures { StepOn K.cmp K.may_refuse V.may_refuse (Command.InsertBoth k v l w) map.old other.old result map.new other.new }
+{
+    match insert_both(map, other, k, v, l, w) {
+        Ok((first, second)) => Reply::Both(first, second),
+        Err((k, v, l, w, e)) => Reply::BothGivenBack(k, v, l, w, e),
     }
 }
 

@@ -6,11 +6,13 @@ ghost use Rattle.fc_map.specs.Unique.{open-prop, place-prop};
 
 mod calls;
 mod occupied;
+mod ready;
 mod try_entry;
 mod vacant;
 
 use super::BTreeMap;
 use fc_tree_node::path::Path;
+pub use ready::ReadyEntry;
 
 /// The place of a key in a map. Dropped, it leaves the map as it was. Upstream: `Entry`.
 #[derive(Drop)]

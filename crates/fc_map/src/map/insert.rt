@@ -83,7 +83,7 @@ impl<K: Ord + Drop, V: Drop> BTreeMap<K, V> {
     }
 
     // Puts another value at the key, to which the path leads, and answers the old one.
-    fn replace_at(&mut self, path: &Path, key: &K, value: V) -> V
+    pub(crate) fn replace_at(&mut self, path: &Path, key: &K, value: V) -> V
         requires held { IsHeldAt K.cmp key.now self.old path.now }
         requires sound { IsSoundMap self.old }
         ensures old { value_at K.cmp (entries self.old) key.now ≡ Some result }

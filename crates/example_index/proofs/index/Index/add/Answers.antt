@@ -1,9 +1,7 @@
 use Rattle.std.proofs.Common.{◌≡◌, ◌∙◌, None, ap, sym, string_bytes}
 use Rattle.std.specs.Option.{option_map}
 use Rattle.std.specs.Ordering.{nat_cmp}
-use Rattle.std.proofs.lemmas.Cmp.{nat_cmp_total}
-use Rattle.fallible_collections.specs.Words.{entries, at, cut, text_order}
-use Rattle.fallible_collections.proofs.Laws.{cut_put_new}
+use Rattle.fallible_collections.specs.Words.{entries, at, text_order}
 use Rattle.example_index.specs.Records.{name_of, id_of}
 use Rattle.example_index.proofs.Records.{absent, in_step_put}
 use Rattle.example_index.proofs.index.Index.add.Goals as goal
@@ -15,17 +13,4 @@ invariant_of-self-in-Ok c =
     let new_name : id_of (entries c.args.self.now.ids) c.args.name.now ≡ None = ap (option_map (λ e. e.1)) (absent (at text_order (entries c.args.self.now.ids) c.args.name.now) c.contains_key-2.ensures.there c.if-contains_key-2.false) in
     let key : string_bytes c.in_ok-key.key ≡ c.args.name.now = c.in_ok-key.ensures.ok in
     let held : string_bytes c.in_ok-held.held ≡ c.args.name.now = c.in_ok-held.ensures.ok in
-    record { in_step = rw (c.in_ok-try_insert.ensures.put, c.in-Ok.ensures.put) (in_step_put (entries c.args.self.now.names) (entries c.args.self.now.ids) c.args.id c.in_ok-held.held c.in_ok-key.key (held ∙ sym key) c.args.self.now.in_step new_id (ap (λ n. id_of (entries c.args.self.now.ids) n) key ∙ new_name)) }
-
--- The name is taken out again, and both lists are as they were.
-pub invariant_of-self-in-Err : goal.invariant_of-self-in-Err
-invariant_of-self-in-Err c =
-    let names : entries c.remove.new.self ≡ entries c.args.self.now.names = c.remove.ensures.rest ∙ ap (λ s. cut nat_cmp s c.args.id) c.in_ok-try_insert.ensures.put ∙ cut_put_new nat_cmp (entries c.args.self.now.names) c.args.id c.in_ok-held.held nat_cmp_total c.contains_key.ensures.ascending (absent (at nat_cmp (entries c.args.self.now.names) c.args.id) c.contains_key.ensures.there c.if-contains_key.false) in
-    let ids : entries c.try_insert-2.new.self ≡ entries c.args.self.now.ids = ap (λ m. entries m) c.in-Err.ensures.unchanged in
-    record { in_step = rw (names, ids) c.args.self.now.in_step }
-
-pub returns-in-Err-clause-unchanged : goal.returns-in-Err-clause-unchanged
-returns-in-Err-clause-unchanged c = (
-  c.remove.ensures.rest ∙ ap (λ s. cut nat_cmp s c.args.id) c.in_ok-try_insert.ensures.put ∙ cut_put_new nat_cmp (entries c.args.self.now.names) c.args.id c.in_ok-held.held nat_cmp_total c.contains_key.ensures.ascending (absent (at nat_cmp (entries c.args.self.now.names) c.args.id) c.contains_key.ensures.there c.if-contains_key.false),
-  ap (λ m. entries m) c.in-Err.ensures.unchanged,
-)
+    record { in_step = rw (c.in-Ok.ensures.first, c.in-Ok.ensures.second) (in_step_put (entries c.args.self.now.names) (entries c.args.self.now.ids) c.args.id c.in_ok-held.held c.in_ok-key.key (held ∙ sym key) c.args.self.now.in_step new_id (ap (λ n. id_of (entries c.args.self.now.ids) n) key ∙ new_name)) }

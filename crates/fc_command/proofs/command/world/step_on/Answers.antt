@@ -45,6 +45,13 @@ returns-in-SplitOff g c = rw c.in-SplitOff.is (c.split_off.ensures c.in-SplitOff
 pub returns-in-TryClone : goal.returns-in-TryClone
 returns-in-TryClone g c = rw c.in-TryClone.is (c.copy.ensures c.in-TryClone.field-0)
 
+-- what was put into both
+pub returns-in-InsertBoth : goal.returns-in-InsertBoth
+returns-in-InsertBoth g c = rw c.in-InsertBoth.is c.put_both.ensures
+
 -- a command on sets
 pub returns-in_default : goal.returns-in_default
-returns-in_default g c = not_on_maps g.K.Ord.cmp _ _ c.args.map.now c.args.other.now c.args.command c.in_default.not-Insert c.in_default.not-Get c.in_default.not-GetKeyValue c.in_default.not-ContainsKey c.in_default.not-Remove c.in_default.not-Set c.in_default.not-Entry c.in_default.not-RemoveEntry c.in_default.not-Len c.in_default.not-Clear c.in_default.not-Walk c.in_default.not-Write c.in_default.not-Append c.in_default.not-SplitOff c.in_default.not-TryClone c.in_default.not-Extend
+returns-in_default g c = not_on_maps g.K.Ord.cmp _ _ c.args.map.now c.args.other.now c.args.command c.in_default.not-Insert c.in_default.not-Get
+    c.in_default.not-GetKeyValue c.in_default.not-ContainsKey c.in_default.not-Remove c.in_default.not-Set c.in_default.not-Entry c.in_default.not-RemoveEntry
+    c.in_default.not-Len c.in_default.not-Clear c.in_default.not-Walk c.in_default.not-Write c.in_default.not-Append c.in_default.not-SplitOff
+    c.in_default.not-TryClone c.in_default.not-Extend c.in_default.not-InsertBoth

@@ -1,0 +1,39 @@
+use Rattle.std.proofs.Common.{arith}
+use Rattle.fc_tree_insertion.proofs.Cascades.{cascade_most, needed_whole, needed_part}
+use Rattle.fc_tree_insertion.proofs.stock.Stock.take_new_nodes.Goals as goal
+use Rattle.fc_tree_insertion.proofs.stock.Stock.take_new_nodes.Goals.{then-split-path, else-split-path}
+
+pub returns-then-split-eq0-clause-taken : goal.returns-then-split-eq0-clause-taken
+returns-then-split-eq0-clause-taken g c = let e = needed_part c.args.path.now c.args.root.now (omega arith) in let z = c.new.ensures in omega arith
+
+pub returns-then-split-eq0-clause-len : goal.returns-then-split-eq0-clause-len
+returns-then-split-eq0-clause-len g c = let e = needed_part c.args.path.now c.args.root.now (omega arith) in omega arith
+
+pub take_spares-inner-requires-clause-few : goal.take_spares-inner-requires-clause-few
+take_spares-inner-requires-clause-few g c =
+    let most = cascade_most c.args.path.now c.args.root.now in
+    elim c.if-split-path.branch [ then-split-path w ↦ omega arith | else-split-path w ↦ omega arith ]
+
+pub take_spares-inner-requires-clause-enough : goal.take_spares-inner-requires-clause-enough
+take_spares-inner-requires-clause-enough g c =
+    let most = cascade_most c.args.path.now c.args.root.now in
+    elim c.if-split-path.branch [
+      | then-split-path w ↦ (let e = needed_whole c.args.path.now c.args.root.now (omega arith) in omega arith)
+      | else-split-path w ↦ (let e = needed_part c.args.path.now c.args.root.now (omega arith) in omega arith)
+    ]
+
+pub returns-clause-taken : goal.returns-clause-taken
+returns-clause-taken g c =
+    let most = cascade_most c.args.path.now c.args.root.now in
+    elim c.if-split-path.branch [
+      | then-split-path w ↦ (let e = needed_whole c.args.path.now c.args.root.now (omega arith) in omega arith)
+      | else-split-path w ↦ (let e = needed_part c.args.path.now c.args.root.now (omega arith) in omega arith)
+    ]
+
+pub returns-clause-len : goal.returns-clause-len
+returns-clause-len g c =
+    let most = cascade_most c.args.path.now c.args.root.now in
+    elim c.if-split-path.branch [
+      | then-split-path w ↦ (let e = needed_whole c.args.path.now c.args.root.now (omega arith) in omega arith)
+      | else-split-path w ↦ (let e = needed_part c.args.path.now c.args.root.now (omega arith) in omega arith)
+    ]

@@ -1,0 +1,108 @@
+//! An insertion in two halves: its nodes are made, and then nothing refuses it.
+ghost use Rattle.std.specs.Prelude.{◌≡◌, ℕ, ◌+◌, ◌<◌, ◌≤◌, [], ◌∷◌, ◌++◌, length, IfOk, IfErr, OnErr, Some};
+ghost use Rattle.fc_base.specs.Sizes.{capacity};
+ghost use Rattle.fc_tree_node.specs.Node.{pairs_of, IsLevelled, IsSoundRoot, IsBlankLeaf};
+ghost use Rattle.fc_tree_node.specs.Depth.{HasFewMoves};
+ghost use Rattle.fc_tree_node.specs.Path.{IsPath, before_gap, after_gap};
+ghost use Rattle.fc_tree_node.specs.Tree.{IsSoundMap};
+ghost use Rattle.fc_tree_insertion.specs.Arrival.{IsPutAt};
+ghost use Rattle.fc_tree_insertion.specs.Cascade.{nodes_needed};
+
+use crate::insertion::insert;
+use crate::new_nodes::{NewNodes, try_new_nodes};
+use crate::spares::Spares;
+use fc_base::{Count, TryReserveError};
+use fc_tree_node::node::Node;
+use fc_tree_node::path::Path;
+use std::alloc::Global;
+
+/// Makes the nodes that an insertion into a gap of a sound tree takes. The tree is only read.
+///
+/// # Errors
+/// `AllocError` if one of these nodes is refused, which takes a full leaf.
+#[inline(always)]
+pub fn try_nodes_at<K: Drop, V: Drop>(
+    alloc: Global,
+    root: &Box<Node<K, V>>,
+    path: &Path,
+) -> Result<NewNodes<K, V>, TryReserveError>
+    requires sound { IsSoundMap (Some root.now.value) }
+    requires path { IsPath path.now root.now.value }
+    requires levels { (h : ℕ) → IsLevelled h root.now.value → length path.now ≡ h + 1 }
+    ensures ok { IfOk result (λ made. made ≡ nodes_needed path.now root.now.value) }
+    ensures error { IfErr result (λ e. e ≡ TryReserveError.AllocError) }
+    ensures leaf { OnErr result (capacity ≤ length (pairs_of root.now.value)) }
+{
+    try_new_nodes(alloc, root, path.as_slice())
+}
+
+/// Puts a pair into the gap of a sound tree that the path leads to, by the nodes that this takes. The path then leads to the pair.
+#[inline(always)]
+pub fn insert_ready<K: Drop, V: Drop>(
+    root: &mut Box<Node<K, V>>,
+    path: &mut Path,
+    pair: (K, V),
+    new_nodes: NewNodes<K, V>,
+    count: &mut Count,
+)
+    requires sound { IsSoundMap (Some root.old.value) }
+    requires path { IsPath path.old root.old.value }
+    requires levels { (h : ℕ) → IsLevelled h root.old.value → length path.old ≡ h + 1 }
+    requires fits { length (pairs_of root.old.value) < usize.MAX }
+    requires new_nodes { new_nodes ≡ nodes_needed path.old root.old.value }
+
+    // The pairs before the gap, the new pair and the pairs after the gap.
+    ensures pairs { pairs_of root.new.value ≡ before_gap path.old root.old.value ++ pair ∷ after_gap path.old root.old.value }
+    ensures place { IsPutAt path.new root.new.value pair (before_gap path.old root.old.value) (after_gap path.old root.old.value) }
+    ensures length { length (pairs_of root.new.value) ≡ length (pairs_of root.old.value) + 1 }
+    ensures sound { IsSoundMap (Some root.new.value) }
+    ensures comparisons { count.new.comparisons ≡ count.old.comparisons }
+    ensures moves { HasFewMoves (length (pairs_of root.new.value)) count.old count.new }
+    ensures moved { count.old.moves < count.new.moves }
+{
+    insert(root, path, pair, new_nodes, count);
+}
+
+/// Makes the one node that the first pair of a tree takes: a leaf.
+///
+/// # Errors
+/// `AllocError` if it is refused.
+pub fn try_first_node<K: Drop, V: Drop>(alloc: Global) -> Result<NewNodes<K, V>, TryReserveError>
+    ensures ok { IfOk result (λ made. made ≡ 1) }
+    ensures error { IfErr result (λ e. e ≡ TryReserveError.AllocError) }
+{
+    let leaf = Node::try_leaf(alloc)?;
+    Ok(NewNodes {
+        leaf: Some(leaf),
+        inner: Spares::new(),
+    })
+}
+
+/// The root of a tree of one pair: the leaf that was made for it.
+pub fn first_root<K: Drop, V: Drop>(
+    pair: (K, V),
+    new_nodes: NewNodes<K, V>,
+    count: &mut Count,
+) -> Box<Node<K, V>>
+    requires { new_nodes ≡ 1 }
+    ensures pairs { pairs_of result.value ≡ pair ∷ [] }
+    ensures sound { IsSoundRoot 0 result.value }
+    ensures comparisons { count.new.comparisons ≡ count.old.comparisons }
+    ensures moves { count.new.moves ≡ count.old.moves + 1 }
+{
+    let mut root = new_leaf(new_nodes);
+    root.insert_leaf(0, pair, count);
+    root
+}
+
+// The leaf among the nodes that were made.
+fn new_leaf<K: Drop, V: Drop>(new_nodes: NewNodes<K, V>) -> Box<Node<K, V>>
+    requires { 0 < new_nodes }
+    ensures { IsBlankLeaf result.value }
+{
+    let NewNodes { leaf, inner: _ } = new_nodes;
+    match leaf {
+        Some(leaf) => leaf,
+        None => unreachable!(),
+    }
+}
