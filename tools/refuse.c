@@ -1,4 +1,5 @@
-/* A preloaded library that refuses memory: the Nth request by REFUSE=N, or each from the Nth on by REFUSE_FROM=N.
+/* A preloaded library that refuses memory: the Nth request by REFUSE=N, several by REFUSE=3,8,9 with their numbers in ascending order, or
+   each from the Nth on by REFUSE_FROM=N.
    At the end it writes to the file named by REFUSE_LOG how many requests were made and how many refused, how many blocks were not
    given back, and how many bytes were asked for. A process that ends by _exit or a signal writes none. */
 #define _GNU_SOURCE
@@ -15,24 +16,36 @@ extern void *__libc_realloc(void *, size_t);
 extern void *__libc_memalign(size_t, size_t);
 extern void __libc_free(void *);
 
+static const char *more = ""; /* the numbers after nth */
 static unsigned long requests, refusals, bytes, nth, from;
 static long held;
 static int started;
 
-static unsigned long number_in(const char *name) {
+static const char *text_of(const char *name) {
   const char *text = getenv(name);
-  return text ? strtoul(text, 0, 10) : 0;
+  return text ? text : "";
+}
+
+/* The first of the numbers that are left, or 0. */
+static unsigned long next_number(void) {
+  char *end;
+  unsigned long number = strtoul(more, &end, 10);
+  more = *end == ',' ? end + 1 : end;
+  return number;
 }
 
 static int refused(size_t size) {
   if (!started) {
     started = 1;
-    nth = number_in("REFUSE");
-    from = number_in("REFUSE_FROM");
+    more = text_of("REFUSE_FROM");
+    from = next_number();
+    more = text_of("REFUSE");
+    nth = next_number();
   }
   requests++;
   bytes += size;
   if (requests != nth && (from == 0 || requests < from)) return 0;
+  if (requests == nth) nth = next_number();
   refusals++;
   errno = ENOMEM;
   return 1;
