@@ -3,3 +3,5 @@
 
 #[cfg(test)]
 mod refusals;
+#[cfg(test)]
+mod set_room;
