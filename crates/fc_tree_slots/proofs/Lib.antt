@@ -3,6 +3,7 @@ mod Heap
 mod Laid
 mod Memory
 mod Opening
+mod Rests
 mod Rows
 mod Sharing
 mod Steps

@@ -1,4 +1,5 @@
 pub mod Cells
 pub mod Lends
 pub mod Ownership
+pub mod Rest
 pub mod formers

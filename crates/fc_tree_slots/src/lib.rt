@@ -4,4 +4,5 @@
 mod cells;
 pub mod children;
 mod raw;
+pub mod rest;
 pub mod slots;
