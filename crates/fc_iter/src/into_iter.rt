@@ -6,9 +6,8 @@ ghost use Rattle.fc_tree_node.specs.Tree.{entries, root_of, IsSoundMap};
 
 mod debug;
 
+use fc_tree_drain::drain::Drain;
 use fc_tree_node::node::Node;
-use fc_tree_walk::owned::{Nodes, fill_back, fill_front, give_first, give_last, opened};
-use fc_tree_walk::stack::Stack;
 use std::iter::FusedIterator;
 use std::marker::Model;
 
@@ -16,21 +15,18 @@ use std::marker::Model;
 /// left. Upstream: `btree_map::IntoIter`.
 #[derive(Drop)]
 pub struct IntoIter<K, V> {
-    front: Nodes<K, V>,
-    back: Nodes<K, V>,
+    drain: Drain<K, V>,
     left: usize,
 }
 
 impl<K, V> Model for IntoIter<K, V> {
-    ghost use Rattle.std.specs.Prelude.{◌≡◌, ◌++◌, List, length};
-    ghost use Rattle.fc_base.specs.Sizes.{most_levels};
-    ghost use Rattle.fc_tree_walk.specs.Opened.{IsFalling, after_front, before_back};
+    ghost use Rattle.std.specs.Prelude.{◌≡◌, List, length};
 
     ghost Value = { List (K × V) };
 
-    ghost view = { λ a. after_front a.front ++ before_back a.back };
+    ghost view = { λ a. a.drain };
 
-    ghost invariant = { λ a. IsFalling 0 most_levels a.front × IsFalling 0 most_levels a.back × (a.left ≡ length (after_front a.front ++ before_back a.back)) };
+    ghost invariant = { λ a. a.left ≡ length a.drain };
 }
 
 impl<K, V> IntoIter<K, V> {
@@ -50,8 +46,7 @@ impl<K: Drop, V: Drop> IntoIter<K, V> {
         ensures { result ≡ entries (root_of root) }
     {
         IntoIter {
-            front: opened(root),
-            back: Stack::new(),
+            drain: Drain::over(root),
             left: len,
         }
     }
@@ -69,8 +64,7 @@ impl<K: Drop, V: Drop> Iterator for IntoIter<K, V> {
             return None;
         }
         self.left -= 1;
-        fill_front(&mut self.front, &mut self.back);
-        Some(give_first(&mut self.front))
+        Some(self.drain.next())
     }
 
     fn size_hint(&self) -> (usize, Option<usize>)
@@ -90,8 +84,7 @@ impl<K: Drop, V: Drop> DoubleEndedIterator for IntoIter<K, V> {
             return None;
         }
         self.left -= 1;
-        fill_back(&mut self.front, &mut self.back);
-        Some(give_last(&mut self.back))
+        Some(self.drain.next_back())
     }
 }
 

@@ -5,8 +5,8 @@ use Rattle.fc_base.specs.Sizes.{most_levels}
 use Rattle.fc_tree_node.specs.declared.node.Node.{Node}
 use Rattle.fc_tree_node.specs.Node.{own_pairs, children_of, pairs_of}
 use Rattle.fc_tree_node.specs.Weave.{after_list}
-use Rattle.fc_tree_walk.specs.Opened.{IsFalling, after_front}
-use Rattle.fc_tree_walk.proofs.Opening.{front_push, top_some}
+use Rattle.fc_tree_drain.specs.Opened.{IsFalling, after_front}
+use Rattle.fc_tree_drain.proofs.Opening.{front_push, top_some}
 
 module _ {X : Type 0} where
   -- a list with an item at its last place

@@ -8,7 +8,7 @@ use Rattle.fc_tree_node.specs.declared.node.Node.{Node}
 use Rattle.fc_tree_node.specs.Node.{own_pairs, pairs_of, IsLeaf, IsSound, IsBlankLeaf}
 use Rattle.fc_tree_node.proofs.Lists.{all_front, all_back}
 use Rattle.fc_tree_node.proofs.Pairs.{leaf_pairs}
-use Rattle.fc_tree_walk.specs.Opened.{before_back}
+use Rattle.fc_tree_drain.specs.Opened.{before_back}
 use Rattle.fc_tree_build.specs.Spares.{own_count, worth, IsEnough, leaves_for, AreInnerFor}
 use Rattle.fc_tree_build.specs.Built.{last_pairs, IsLast}
 

@@ -7,8 +7,8 @@ use Rattle.fc_tree_node.specs.declared.node.Node.{Node}
 use Rattle.fc_tree_node.specs.Node.{own_pairs, children_of, pairs_of, items_or_none, boxed, IsLeaf, IsInner, IsSound, IsBlankInner}
 use Rattle.fc_tree_node.specs.Bordered.{LastAfter, IsRightBordered}
 use Rattle.fc_tree_node.proofs.Lists.{all_both, all_front, all_back}
-use Rattle.fc_tree_walk.specs.Opened.{before_back_in, before_back}
-use Rattle.fc_tree_walk.proofs.Opening.{back_last, whole_back, back_push, empty_back}
+use Rattle.fc_tree_drain.specs.Opened.{before_back_in, before_back}
+use Rattle.fc_tree_drain.proofs.Opening.{back_last, whole_back, back_push, empty_back}
 use Rattle.fc_tree_build.specs.Spine.{IsOpenEnd, level_above, IsSpine}
 use Rattle.fc_tree_build.specs.Spares.{own_count, digits_after, worth, IsEnough}
 

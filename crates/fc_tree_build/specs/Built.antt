@@ -6,7 +6,7 @@ use Rattle.std.specs.declared.alloc.Global.{Global}
 use Rattle.fc_base.specs.Sizes.{capacity, most_children}
 use Rattle.fc_tree_node.specs.declared.node.Node.{Node}
 use Rattle.fc_tree_node.specs.Node.{own_pairs, IsLeaf, IsBlankLeaf, IsBlankInner}
-use Rattle.fc_tree_walk.specs.Opened.{before_back}
+use Rattle.fc_tree_drain.specs.Opened.{before_back}
 use Rattle.fc_tree_build.specs.Spine.{IsSpine}
 use Rattle.fc_tree_build.specs.Spares.{IsEnough}
 use Rattle.fc_tree_build.specs.declared.builder.Builder.TheInside.{Inside}

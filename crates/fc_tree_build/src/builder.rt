@@ -7,7 +7,7 @@ use crate::spine::{Spine, attach, close, put_pair};
 use fc_base::TryReserveError;
 use fc_tree_border::mending::mend_right;
 use fc_tree_node::node::{CAPACITY, Node};
-use fc_tree_walk::stack::Stack;
+use fc_tree_drain::stack::Stack;
 use std::alloc::Global;
 use std::marker::Model;
 

@@ -4,14 +4,14 @@ ghost use Rattle.std.specs.List.{AllByRecursion};
 ghost use Rattle.fc_base.specs.Sizes.{capacity, most_children};
 ghost use Rattle.fc_tree_node.specs.Node.{own_pairs, children_of, pairs_of, IsLeaf, IsSound, IsBlankInner};
 ghost use Rattle.fc_tree_node.specs.Bordered.{IsRightBordered};
-ghost use Rattle.fc_tree_walk.specs.Opened.{before_back_in, before_back};
+ghost use Rattle.fc_tree_drain.specs.Opened.{before_back_in, before_back};
 ghost use Rattle.fc_tree_build.specs.Spine.{IsOpenEnd, IsSpine, level_above};
 ghost use Rattle.fc_tree_build.specs.Spares.{own_count, worth, IsEnough};
 
 use crate::spares::take_spare;
 use fc_base::Count;
 use fc_tree_node::node::{CAPACITY, Node};
-use fc_tree_walk::stack::Stack;
+use fc_tree_drain::stack::Stack;
 
 /// The nodes on the right edge of a tree, from the root down, each without its last child: that is the next one, or what comes
 /// below the last of them.

@@ -4,7 +4,6 @@ pub mod Meetings
 pub mod Seeking
 pub mod Spans
 pub mod SpanEnds
-pub mod Opening
 pub mod GapFacts
 pub mod Steps
 pub mod Leaves

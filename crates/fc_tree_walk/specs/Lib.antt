@@ -2,4 +2,3 @@ pub mod Stack
 pub mod Trail
 pub mod Span
 pub mod Gap
-pub mod Opened

@@ -1,11 +1,6 @@
--- Stacks of cells that all hold an item.
-use Rattle.std.specs.Prelude.{◌≡◌, ℕ, ◌≤◌, List, [], ◌∷◌, ◌++◌, Option, Some, None, length, map, take}
+-- Stacks of cells whose first ones count.
+use Rattle.std.specs.Prelude.{◌≡◌, ℕ, ◌≤◌, List, [], ◌∷◌, ◌++◌, Option, Some, None, length, take}
 use Rattle.fc_base.specs.Sizes.{most_levels}
-use Rattle.fc_tree_slots.specs.Cells.{present}
-
--- Each cell holds an item.
-abbrev pub AreAllPresent : {T : Type 0} → List (Option T) → Type 0
-AreAllPresent xs = xs ≡ map Some (present xs)
 
 -- The items in the first cells, if there are cells.
 abbrev pub held : {T : Type 0} → Option (List T) → ℕ → List T

@@ -1,16 +1,27 @@
 //! The text of the owned walk by `{:?}`: what is still to come, and nothing of it is given out.
 use super::IntoIter;
+use fc_tree_drain::owned::{Nodes, Run};
 use fc_tree_node::node::Node;
-use fc_tree_walk::owned::Nodes;
 use std::fmt::{self, Debug, DebugList};
 
 /// `[(key, value), ..]`, the pairs still to come. Upstream: `Debug` for `btree_map::IntoIter`.
 impl<K: Debug, V: Debug> Debug for IntoIter<K, V> {
     fn fmt<W: fmt::Write>(&self, f: &mut fmt::Formatter<W>) -> fmt::Result {
+        let ((front_run, front), (back, back_run)) = self.drain.parts();
         let mut list = f.debug_list();
-        list_front(&self.front, &mut list);
-        list_back(&self.back, &mut list);
+        list_run(front_run, &mut list);
+        list_front(front, &mut list);
+        list_back(back, &mut list);
+        list_run(back_run, &mut list);
         list.finish()
+    }
+}
+
+// What is left of a leaf.
+fn list_run<K: Debug, V: Debug, W: fmt::Write>(run: &Run<K, V>, list: &mut DebugList<'_, W>) {
+    let Some(rest) = run else { return };
+    for i in 0..rest.len() {
+        list.entry(rest.get(i));
     }
 }
 

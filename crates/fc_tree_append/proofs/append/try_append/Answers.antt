@@ -1,7 +1,7 @@
 use Rattle.std.proofs.Common.{length, rules, sym, ap, subst, ◌∙◌, arith, length-append}
 use Rattle.fc_base.specs.Joined.{joined}
 use Rattle.fc_tree_node.specs.Tree.{entries, root_of, IsSoundMap}
-use Rattle.fc_tree_walk.proofs.Opening.{no_item}
+use Rattle.fc_tree_drain.proofs.Opening.{no_item}
 use Rattle.fc_base.proofs.JoinedLaws.{joined_behind}
 use Rattle.fc_tree_append.proofs.JoinFacts.{joined_none}
 use Rattle.fc_tree_append.proofs.append.try_append.Goals as goal

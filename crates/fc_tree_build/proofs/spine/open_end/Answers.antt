@@ -1,5 +1,5 @@
 use Rattle.std.proofs.Common.{◌≡◌, suc, length, sym, ap, subst, arith}
-use Rattle.fc_tree_walk.proofs.Opening.{no_item, back_push}
+use Rattle.fc_tree_drain.proofs.Opening.{no_item, back_push}
 use Rattle.fc_tree_build.specs.Spine.{IsSpine}
 use Rattle.fc_tree_build.specs.Spares.{worth}
 use Rattle.fc_tree_build.proofs.SpineFacts.{spare_taken, blank_back, blank_end, spine_popped, worth_pushed, count_pushed}

@@ -1,0 +1,34 @@
+use Rattle.std.proofs.Common.{rules, arith, ◌-◌, ◌<◌, ◌++◌, length, sym, ap, ◌∙◌, length-append}
+use Rattle.fc_base.specs.Sizes.{most_levels}
+use Rattle.fc_tree_node.specs.Node.{own_pairs, children_of}
+use Rattle.fc_tree_drain.specs.Opened.{after_front}
+use Rattle.fc_tree_drain.proofs.Opening.{no_item, under_room, under_levels, under_first, first_opened, leaf_own}
+use Rattle.fc_tree_drain.proofs.owned.+open_first.Goals as goal
+
+pub returns-then-child_count-eq0-clause-pairs : goal.returns-then-child_count-eq0-clause-pairs
+returns-then-child_count-eq0-clause-pairs g t c =
+    let d = ap (λ n. length (children_of n)) c.deref.ensures in
+    let v = c.child_count.ensures.value in
+    let z = c.if-child_count-eq0.true in
+    ap (λ zs. zs ++ after_front c.args.stack.now) (c.into_run.ensures ∙ sym (leaf_own c.args.node.value (no_item _ (omega arith))))
+
+pub returns-then-child_count-eq0-clause-levels : goal.returns-then-child_count-eq0-clause-levels
+returns-then-child_count-eq0-clause-levels g t c = under_levels c.args.node.value _ c.requires
+
+pub returns-then-child_count-eq0-clause-some : goal.returns-then-child_count-eq0-clause-some
+returns-then-child_count-eq0-clause-some g t c = let k = c.requires.1.0 in let e = ap length c.into_run.ensures in omega arith
+
+pub push-requires : goal.push-requires
+push-requires g t c = (search rules, under_room _ _ c.requires)
+
+pub open_first-requires : goal.open_first-requires
+open_first-requires g t c κs within =
+    let r = under_room _ _ c.requires in
+    let e = ap length c.push.ensures ∙ length-append c.args.stack.now _ in
+    let falls : most_levels - length c.push.new.self < most_levels - length c.args.stack.now = omega arith in
+    let u = under_first c.args.node.value _ _ _ _ c.requires (ap children_of (sym c.deref_mut.ensures.value) ∙ c.take_first_child-child.ensures.children) (c.take_first_child-child.ensures.pairs ∙ ap own_pairs c.deref_mut.ensures.value) c.push.ensures in
+    (search rules, (search rules, (search rules, (search rules, u))))
+
+pub returns-clause-pairs : goal.returns-clause-pairs
+returns-clause-pairs g t c =
+    first_opened c.args.node.value _ _ _ _ _ (ap children_of (sym c.deref_mut.ensures.value) ∙ c.take_first_child-child.ensures.children) (c.take_first_child-child.ensures.pairs ∙ ap own_pairs c.deref_mut.ensures.value) c.push.ensures c.open_first.ensures.pairs

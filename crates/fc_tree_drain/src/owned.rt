@@ -1,0 +1,170 @@
+//! Nodes taken apart from their ends: opened down to a leaf, whose pairs become a run, and a pair given out of the node on the top.
+ghost use Rattle.std.specs.Prelude.{◌≡◌, ℕ, suc, ◌<◌, [], ◌∷◌, ◌++◌, length};
+ghost use Rattle.fc_base.specs.Sizes.{most_levels};
+ghost use Rattle.fc_tree_node.specs.Node.{own_pairs, pairs_of, items_or_none};
+ghost use Rattle.fc_tree_drain.specs.Opened.{IsOpened, IsFalling, IsUnder, after_front_in, before_back_in, after_front, before_back};
+
+use crate::stack::Stack;
+use fc_tree_node::node::{CAPACITY, Node};
+use fc_tree_slots::rest::Rest;
+
+/// Nodes that are partly given out, each above one of a higher level.
+pub type Nodes<K, V> = Stack<Box<Node<K, V>>>;
+
+/// What is left of a leaf's pairs.
+pub type Run<K, V> = Option<Rest<(K, V), CAPACITY>>;
+
+// The pairs of a node that has no child. Nothing else of it is left.
+fn into_run<K: Drop, V: Drop>(node: Box<Node<K, V>>) -> Run<K, V>
+    ensures { items_or_none result ≡ own_pairs node.value }
+{
+    let Node { pairs, children: _ } = Box::into_inner(node);
+    Some(pairs.into_rest())
+}
+
+// Goes down to the first leaf, whose pairs become the run, and leaves each node on the way without its first child.
+pub fn open_first<K: Drop, V: Drop>(
+    stack: &mut Nodes<K, V>,
+    run: &mut Run<K, V>,
+    node: Box<Node<K, V>>,
+)
+    requires { IsUnder node.value stack.old }
+    ensures pairs { items_or_none run.new ++ after_front stack.new ≡ pairs_of node.value ++ after_front stack.old }
+    ensures levels { IsFalling 0 most_levels stack.new }
+    ensures some { 0 < length (items_or_none run.new) }
+{
+    let mut node = node;
+    if node.child_count() == 0 {
+        *run = into_run(node);
+        return;
+    }
+    let child = node.take_first_child();
+    stack.push(node);
+    open_first(stack, run, child);
+}
+
+// Goes down to the last leaf, whose pairs become the run, and leaves each node on the way without its last child.
+pub fn open_last<K: Drop, V: Drop>(
+    stack: &mut Nodes<K, V>,
+    run: &mut Run<K, V>,
+    node: Box<Node<K, V>>,
+)
+    requires { IsUnder node.value stack.old }
+    ensures pairs { before_back stack.new ++ items_or_none run.new ≡ before_back stack.old ++ pairs_of node.value }
+    ensures levels { IsFalling 0 most_levels stack.new }
+    ensures some { 0 < length (items_or_none run.new) }
+{
+    let mut node = node;
+    if node.child_count() == 0 {
+        *run = into_run(node);
+        return;
+    }
+    let child = node.take_last_child();
+    stack.push(node);
+    open_last(stack, run, child);
+}
+
+// Puts a node back, if it still has a pair.
+fn keep<K: Drop, V: Drop>(stack: &mut Nodes<K, V>, node: Box<Node<K, V>>)
+    requires { (h : ℕ) × IsOpened h node.value × IsFalling (suc h) most_levels stack.old }
+    ensures front { after_front stack.new ≡ after_front_in node.value ++ after_front stack.old }
+    ensures back { before_back stack.new ≡ before_back stack.old ++ before_back_in node.value }
+    ensures levels { (h : ℕ) → IsOpened h node.value → IsFalling (suc h) most_levels stack.old → IsFalling h most_levels stack.new }
+{
+    if node.len() == 0 {
+        return;
+    }
+    stack.push(node);
+}
+
+// Gives the first pair out, and opens the child after it. It comes where the run is used up.
+#[inline(never)]
+pub fn give_first<K: Drop, V: Drop>(stack: &mut Nodes<K, V>, run: &mut Run<K, V>) -> (K, V)
+    requires some { 0 < length stack.old }
+    requires levels { IsFalling 0 most_levels stack.old }
+    requires used_up { items_or_none run.old ≡ [] }
+    ensures pairs { after_front stack.old ≡ result ∷ (items_or_none run.new ++ after_front stack.new) }
+    ensures levels { IsFalling 0 most_levels stack.new }
+{
+    let mut node = stack.pop();
+    let pair = node.take_first_pair();
+    if node.child_count() == 0 {
+        keep(stack, node);
+        return pair;
+    }
+    let child = node.take_first_child();
+    keep(stack, node);
+    open_first(stack, run, child);
+    pair
+}
+
+// Gives the last pair out, and opens the child before it. It comes where the run is used up.
+#[inline(never)]
+pub fn give_last<K: Drop, V: Drop>(stack: &mut Nodes<K, V>, run: &mut Run<K, V>) -> (K, V)
+    requires some { 0 < length stack.old }
+    requires levels { IsFalling 0 most_levels stack.old }
+    requires used_up { items_or_none run.old ≡ [] }
+    ensures pairs { before_back stack.old ≡ (before_back stack.new ++ items_or_none run.new) ++ result ∷ [] }
+    ensures levels { IsFalling 0 most_levels stack.new }
+{
+    let mut node = stack.pop();
+    let pair = node.take_last_pair();
+    if node.child_count() == 0 {
+        keep(stack, node);
+        return pair;
+    }
+    let child = node.take_last_child();
+    keep(stack, node);
+    open_last(stack, run, child);
+    pair
+}
+
+// Moves the lowest node of the back to the front, which has none, and opens its first child where it begins with one.
+pub fn move_to_front<K: Drop, V: Drop>(
+    front: &mut Nodes<K, V>,
+    run: &mut Run<K, V>,
+    back: &mut Nodes<K, V>,
+)
+    requires none { length front.old ≡ 0 }
+    requires used_up { items_or_none run.old ≡ [] }
+    requires some { 0 < length back.old }
+    requires levels { IsFalling 0 most_levels back.old }
+    ensures pairs { (items_or_none run.new ++ after_front front.new) ++ before_back back.new ≡ before_back back.old }
+    ensures front { IsFalling 0 most_levels front.new }
+    ensures back { IsFalling 0 most_levels back.new }
+    ensures some { 0 < length (items_or_none run.new ++ after_front front.new) }
+{
+    let mut node = back.take_bottom();
+    if node.child_count() < node.len() {
+        front.push(node);
+        return;
+    }
+    let child = node.take_first_child();
+    front.push(node);
+    open_first(front, run, child);
+}
+
+// Moves the lowest node of the front to the back, which has none, and opens its last child where it ends with one.
+pub fn move_to_back<K: Drop, V: Drop>(
+    front: &mut Nodes<K, V>,
+    back: &mut Nodes<K, V>,
+    run: &mut Run<K, V>,
+)
+    requires none { length back.old ≡ 0 }
+    requires used_up { items_or_none run.old ≡ [] }
+    requires some { 0 < length front.old }
+    requires levels { IsFalling 0 most_levels front.old }
+    ensures pairs { after_front front.new ++ (before_back back.new ++ items_or_none run.new) ≡ after_front front.old }
+    ensures front { IsFalling 0 most_levels front.new }
+    ensures back { IsFalling 0 most_levels back.new }
+    ensures some { 0 < length (before_back back.new ++ items_or_none run.new) }
+{
+    let mut node = front.take_bottom();
+    if node.child_count() < node.len() {
+        back.push(node);
+        return;
+    }
+    let child = node.take_last_child();
+    back.push(node);
+    open_last(back, run, child);
+}
