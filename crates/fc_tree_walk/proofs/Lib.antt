@@ -6,6 +6,7 @@ pub mod Spans
 pub mod SpanEnds
 pub mod Opening
 pub mod GapFacts
+pub mod Bounds
 pub mod Steps
 pub mod Leaves
 pub mod Runs
