@@ -1,12 +1,12 @@
 -- A descent to the pair at a place, and what a tree is once a value is written there.
-use Rattle.std.proofs.Common.{◌≡◌, ℕ, zero, suc, ◌+◌, ◌-◌, ◌<◌, ◌≤◌, List, [], ◌∷◌, length, take, drop, get_or, slice_get, slice_set, Some, Box, refl, sym, ap, subst, ◌∙◌, arith, add-one}
+use Rattle.std.proofs.Common.{◌≡◌, ℕ, zero, suc, ◌+◌, ◌-◌, ◌<◌, List, [], ◌∷◌, ◌++◌, length, take, drop, get_or, slice_get, slice_set, Some, Box, refl, sym, ap, subst, ◌∙◌, arith, add-one}
 use Rattle.std.specs.Option.{option_map}
 use Rattle.std.specs.Box.{with_value as set_box}
 use Rattle.std.specs.declared.alloc.Global.{Global}
 use Rattle.fc_tree_node.specs.declared.node.Node.{Node, out-Node, roll-Node}
 use Rattle.fc_tree_node.specs.Node.{items_or_none, own_pairs, children_of, child_at}
 use Rattle.fc_tree_node.specs.Place.{IsPlace, place_pair}
-use Rattle.fc_tree_search.specs.Written.{set_value, set_boxed, with_value, written}
+use Rattle.fc_tree_search.specs.Written.{set_value, set_boxed, with_value, with_child, written}
 use Rattle.fc_tree_node.proofs.Pairs.{boxed_length, child_is}
 use Rattle.fc_tree_node.proofs.Gaps.{drop_item, drop_all, item_there}
 
@@ -53,33 +53,46 @@ module _ {K V : Type 0} where
   pub own_there : (n : Node K V) (i : ℕ) (p : K × V) → i < length (own_pairs n) → p ≡ get_or (own_pairs n) i p → slice_get (own_pairs n) i ≡ Some p
   own_there n i p h e = let x = item_there (own_pairs n) i h in x.2 ∙ ap Some (sym (x.1 p) ∙ sym e)
 
-  -- a place that is no further down has one step
-  pub one_step_place : (path : List ℕ) (n : Node K V) → IsPlace path n → length path ≤ 1 → length path ≡ 1
-  one_step_place [] n p le = absurd p
-  one_step_place (i ∷ []) n p le = refl
-  one_step_place (i ∷ j ∷ path) n p le = absurd (omega arith)
+  -- a way of no step
+  pub here_place : (way : List ℕ) (p : ℕ) (n : Node K V) → length way ≡ 0 → IsPlace (way ++ p ∷ []) n → p < length (own_pairs n)
+  here_place [] p n e q = q
+  here_place (i ∷ way) p n e q = absurd (omega arith)
 
-  pub here_pair : (path : List ℕ) (n : Node K V) → length path ≡ 1 → place_pair path n ≡ slice_get (own_pairs n) (get_or path 0 0)
-  here_pair [] n e = absurd (omega arith)
-  here_pair (i ∷ []) n e = refl
-  here_pair (i ∷ j ∷ path) n e = absurd (omega arith)
+  pub here_pair : (way : List ℕ) (p : ℕ) (n : Node K V) → length way ≡ 0 → place_pair (way ++ p ∷ []) n ≡ slice_get (own_pairs n) p
+  here_pair [] p n e = refl
+  here_pair (i ∷ way) p n e = absurd (omega arith)
 
-  pub here_written : (path : List ℕ) (n : Node K V) (w : V) → length path ≡ 1 → with_value n (get_or path 0 0) w ≡ written n path w
+  pub here_written : (way : List ℕ) (p : ℕ) (n : Node K V) (w : V) → length way ≡ 0 → with_value n p w ≡ written n (way ++ p ∷ []) w
   unfolding written
-  here_written [] n w e = absurd (omega arith)
-  here_written (i ∷ []) n w e = refl
-  here_written (i ∷ j ∷ path) n w e = absurd (omega arith)
+  here_written [] p n w e = refl
+  here_written (i ∷ way) p n w e = absurd (omega arith)
 
-  -- a path of more steps
-  pub below_there : (path : List ℕ) (n : Node K V) → (length path ≡ 1 → ⊥) → IsPlace path n → get_or path 0 0 < length (children_of n)
-  below_there [] n e p = absurd p
-  below_there (i ∷ []) n e p = absurd (e refl)
-  below_there (i ∷ j ∷ path) n e p = p.0
+  -- one step ahead of others
+  step_place : (i : ℕ) (way : List ℕ) (p : ℕ) (n : Node K V) → IsPlace (i ∷ way ++ p ∷ []) n → (i < length (children_of n)) × IsPlace (way ++ p ∷ []) (child_at n i)
+  step_place i [] p n q = q
+  step_place i (j ∷ way) p n q = q
 
-  pub below_pair : (path : List ℕ) (n c : Node K V) → (length path ≡ 1 → ⊥) → c ≡ child_at n (get_or path 0 0) → IsPlace path n → place_pair path n ≡ place_pair (later_steps path) c
-  below_pair [] n c e s p = absurd p
-  below_pair (i ∷ []) n c e s p = absurd (e refl)
-  below_pair (i ∷ j ∷ path) n c e s p = ap (λ m. place_pair (j ∷ path) m) (sym s) ∙ ap (λ q. place_pair q c) (sym (after_is (j ∷ path) i))
+  step_pair : (i : ℕ) (way : List ℕ) (p : ℕ) (n : Node K V) → place_pair (i ∷ way ++ p ∷ []) n ≡ place_pair (way ++ p ∷ []) (child_at n i)
+  step_pair i [] p n = refl
+  step_pair i (j ∷ way) p n = refl
+
+  step_written : (i : ℕ) (way : List ℕ) (p : ℕ) (n : Node K V) (w : V) → with_child n i (written (child_at n i) (way ++ p ∷ []) w) ≡ written n (i ∷ way ++ p ∷ []) w
+  unfolding written
+  step_written i [] p n w = refl
+  step_written i (j ∷ way) p n w = refl
+
+  -- a way of more steps
+  pub below_there : (way : List ℕ) (p : ℕ) (n : Node K V) → (length way ≡ 0 → ⊥) → IsPlace (way ++ p ∷ []) n → get_or way 0 0 < length (children_of n)
+  below_there [] p n e q = absurd (e refl)
+  below_there (i ∷ way) p n e q = (step_place i way p n q).0
+
+  pub below_place : (way : List ℕ) (p : ℕ) (n c : Node K V) → (length way ≡ 0 → ⊥) → c ≡ child_at n (get_or way 0 0) → IsPlace (way ++ p ∷ []) n → IsPlace (later_steps way ++ p ∷ []) c
+  below_place [] p n c e s q = absurd (e refl)
+  below_place (i ∷ way) p n c e s q = subst (λ r. IsPlace (r ++ p ∷ []) c) (sym (after_is way i)) (subst (IsPlace (way ++ p ∷ [])) (sym s) (step_place i way p n q).1)
+
+  pub below_pair : (way : List ℕ) (p : ℕ) (n c : Node K V) → (length way ≡ 0 → ⊥) → c ≡ child_at n (get_or way 0 0) → place_pair (way ++ p ∷ []) n ≡ place_pair (later_steps way ++ p ∷ []) c
+  below_pair [] p n c e s = absurd (e refl)
+  below_pair (i ∷ way) p n c e s = step_pair i way p n ∙ ap (place_pair (way ++ p ∷ [])) (sym s) ∙ ap (λ r. place_pair (r ++ p ∷ []) c) (sym (after_is way i))
 
   set_is_value : (s : List (K × V)) (i : ℕ) (e : K × V) (w : V) → i < length s → e ≡ get_or s i e → slice_set s i (e.0, w) ≡ set_value s i w
   set_is_value [] i e w h r = refl
@@ -95,30 +108,38 @@ module _ {K V : Type 0} where
   pub own_written : (n : Node K V) (i : ℕ) (e : K × V) (w : V) → i < length (own_pairs n) → e ≡ get_or (own_pairs n) i e → roll-Node K V (record { pairs = slice_set (own_pairs n) i (e.0, w); children = (out-Node K V n).children }) ≡ with_value n i w
   own_written n i e w h r = ap (λ ps. roll-Node K V (record { pairs = ps; children = (out-Node K V n).children })) (set_is_value (own_pairs n) i e w h r)
 
-  module _ (path : List ℕ) (n : Node K V) (bs : List (Box (Node K V) Global)) (b : Box (Node K V) Global) (c : Node K V) (is : (out-Node K V n).children ≡ Some bs) (more : length path ≡ 1 → ⊥) (at : b ≡ get_or bs (get_or path 0 0) b) (in' : c ≡ b.value) where
+  module _ (way : List ℕ) (p : ℕ) (n : Node K V) (bs : List (Box (Node K V) Global)) (b : Box (Node K V) Global) (c : Node K V) (is : (out-Node K V n).children ≡ Some bs) (more : length way ≡ 0 → ⊥) (at : b ≡ get_or bs (get_or way 0 0) b) (in' : c ≡ b.value) where
     -- there is a box for the child
-    pub boxes_there : IsPlace path n → get_or path 0 0 < length bs
-    boxes_there p =
-        let h = below_there path n more p in
+    pub boxes_there : IsPlace (way ++ p ∷ []) n → get_or way 0 0 < length bs
+    boxes_there q =
+        let h = below_there way p n more q in
         let e : length (children_of n) ≡ length bs = boxed_length (items_or_none (out-Node K V n).children) ∙ ap (λ o. length (items_or_none o)) is in
         omega arith
 
-    pub child_in : IsPlace path n → c ≡ child_at n (get_or path 0 0)
-    child_in p =
-        let h = boxes_there p in
-        let j = get_or path 0 0 in
+    pub child_in : IsPlace (way ++ p ∷ []) n → c ≡ child_at n (get_or way 0 0)
+    child_in q =
+        let h = boxes_there q in
+        let j = get_or way 0 0 in
         child_is n j b c (subst (λ o. j < length (items_or_none o)) (sym is) h) (subst (λ o. b ≡ get_or (items_or_none o) j b) (sym is) at) in'
 
 -- what a lent child leaves
-pub below_written : {K V : Type 0} (path : List ℕ) (n : Node K V) (bs : List (Box (Node K V) Global)) (b : Box (Node K V) Global) (c : Node K V) (w : V) → (out-Node K V n).children ≡ Some bs → (length path ≡ 1 → ⊥) → b ≡ get_or bs (get_or path 0 0) b → c ≡ b.value → IsPlace path n
-    → roll-Node K V (record { pairs = own_pairs n; children = Some (slice_set bs (get_or path 0 0) (set_box b (written c (later_steps path) w))) }) ≡ written n path w
-unfolding written
-below_written [] n bs b c w is more at v p = absurd p
-below_written (i ∷ []) n bs b c w is more at v p = absurd (more refl)
-below_written {K} {V} (i ∷ j ∷ path) n bs b c w is more at v p =
-    let h = boxes_there (i ∷ j ∷ path) n bs b c is more at v p in
-    let same = child_in (i ∷ j ∷ path) n bs b c is more at v p in
-    ap (λ q. roll-Node K V (record { pairs = own_pairs n; children = Some (slice_set bs i (set_box b (written c q w))) })) (after_is (j ∷ path) i)
-    ∙ ap (λ m. roll-Node K V (record { pairs = own_pairs n; children = Some (slice_set bs i (set_box b (written m (j ∷ path) w))) })) same
-    ∙ ap (λ ds. roll-Node K V (record { pairs = own_pairs n; children = Some ds })) (set_is_boxed bs i b (written (child_at n i) (j ∷ path) w) h at)
-    ∙ ap (λ o. roll-Node K V (record { pairs = own_pairs n; children = option_map (λ ds. set_boxed ds i (written (child_at n i) (j ∷ path) w)) o })) (sym is)
+pub below_written : {K V : Type 0} (way : List ℕ) (p : ℕ) (n : Node K V) (bs : List (Box (Node K V) Global)) (b : Box (Node K V) Global) (c : Node K V) (w : V) → (out-Node K V n).children ≡ Some bs → (length way ≡ 0 → ⊥) → b ≡ get_or bs (get_or way 0 0) b → c ≡ b.value → IsPlace (way ++ p ∷ []) n
+    → roll-Node K V (record { pairs = own_pairs n; children = Some (slice_set bs (get_or way 0 0) (set_box b (written c (later_steps way ++ p ∷ []) w))) }) ≡ written n (way ++ p ∷ []) w
+below_written [] p n bs b c w is more at v q = absurd (more refl)
+below_written {K} {V} (i ∷ way) p n bs b c w is more at v q =
+    let h = boxes_there (i ∷ way) p n bs b c is more at v q in
+    let same = child_in (i ∷ way) p n bs b c is more at v q in
+    let new = written (child_at n i) (way ++ p ∷ []) w in
+    ap (λ r. roll-Node K V (record { pairs = own_pairs n; children = Some (slice_set bs i (set_box b (written c (r ++ p ∷ []) w))) })) (after_is way i)
+    ∙ ap (λ m. roll-Node K V (record { pairs = own_pairs n; children = Some (slice_set bs i (set_box b (written m (way ++ p ∷ []) w))) })) same
+    ∙ ap (λ ds. roll-Node K V (record { pairs = own_pairs n; children = Some ds })) (set_is_boxed bs i b new h at)
+    ∙ ap (λ o. roll-Node K V (record { pairs = own_pairs n; children = option_map (λ ds. set_boxed ds i new) o })) (sym is)
+    ∙ step_written i way p n w
+
+-- a path is the way to the node of its last step, and that step
+pub last_is : (path : List ℕ) (last : ℕ) → last + 1 ≡ length path → take last path ++ get_or path last 0 ∷ [] ≡ path
+last_is [] last e = absurd (omega arith)
+last_is (i ∷ []) zero e = refl
+last_is (i ∷ []) (suc last) e = absurd (omega arith)
+last_is (i ∷ j ∷ path) zero e = absurd (omega arith)
+last_is (i ∷ j ∷ path) (suc last) e = ap (λ p. i ∷ p) (last_is (j ∷ path) last (omega arith))

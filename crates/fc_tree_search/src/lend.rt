@@ -1,7 +1,8 @@
 //! The pair at a place of a tree, lent for reading, and its value for writing.
-ghost use Rattle.std.specs.Prelude.{◌≡◌, ℕ, suc, ◌<◌, ◌≤◌, length, slice_get, IsSome};
+ghost use Rattle.std.specs.Prelude.{◌≡◌, ℕ, suc, ◌<◌, ◌≤◌, [], ◌∷◌, ◌++◌, length, slice_get, IsSome};
 ghost use Rattle.std.specs.Option.{option_map};
 ghost use Rattle.std.specs.Borrow.{sem};
+ghost use Rattle.fc_base.specs.Sizes.{most_levels};
 ghost use Rattle.fc_tree_node.specs.Node.{own_pairs};
 ghost use Rattle.fc_tree_node.specs.Place.{IsPlace, place_pair};
 ghost use Rattle.fc_tree_search.specs.Written.{lends_content, lends_value, lends_at, written};
@@ -44,26 +45,26 @@ fn own_value<K, V>(node: &mut Node<K, V>, index: usize) -> &mut V
     &mut node.pairs.get_mut(index).1
 }
 
-// A descent along a path of at most so many steps.
+// A descent along a way of at most so many steps.
 trait Descend {
     ghost steps: { ℕ };
 
-    // The value of the pair at the end of the path.
-    fn value_mut<'a, K, V>(node: &'a mut Node<K, V>, path: &[u8]) -> &'a mut V
-        requires place { IsPlace path.now node.old }
-        requires bounded { length path.now ≤ steps }
-        ensures* writes_back { sem 𝓛 (lends_at K.row V.row node.entry path.now result) }
-        ensures value { option_map (λ e. e.1) (place_pair path.now node.old) ≡ Some result.now };
+    // The value of the pair at the place in the node that the way leads to.
+    fn value_at<'a, K, V>(node: &'a mut Node<K, V>, way: &[u8], place: usize) -> &'a mut V
+        requires place { IsPlace (way.now ++ place ∷ []) node.old }
+        requires bounded { length way.now ≤ steps }
+        ensures* writes_back { sem 𝓛 (lends_at K.row V.row node.entry (way.now ++ place ∷ []) result) }
+        ensures value { option_map (λ e. e.1) (place_pair (way.now ++ place ∷ []) node.old) ≡ Some result.now };
 }
 
 // To a pair of the node itself.
 struct Here;
 
 impl Descend for Here {
-    ghost steps = { 1 };
+    ghost steps = { 0 };
 
-    fn value_mut<'a, K, V>(node: &'a mut Node<K, V>, path: &[u8]) -> &'a mut V {
-        own_value(node, path[0] as usize)
+    fn value_at<'a, K, V>(node: &'a mut Node<K, V>, way: &[u8], place: usize) -> &'a mut V {
+        own_value(node, place)
     }
 }
 
@@ -75,23 +76,32 @@ struct Below<D: Descend> {
 impl<D: Descend> Descend for Below<D> {
     ghost steps = { suc D.steps };
 
-    fn value_mut<'a, K, V>(node: &'a mut Node<K, V>, path: &[u8]) -> &'a mut V {
-        let place = path[0] as usize;
-        if path.len() == 1 {
+    fn value_at<'a, K, V>(node: &'a mut Node<K, V>, way: &[u8], place: usize) -> &'a mut V {
+        if way.len() == 0 {
             own_value(node, place)
         } else {
-            D::value_mut(content(&mut node.children).get_mut(place), &path[1..])
+            let step = way[0] as usize;
+            D::value_at(content(&mut node.children).get_mut(step), &way[1..], place)
         }
     }
 }
 
-type FourBelow<D> = Below<Below<Below<Below<D>>>>;
+type SevenBelow<D> = Below<Below<Below<Below<Below<Below<Below<D>>>>>>>;
 
-type TwelveBelow<D> = FourBelow<FourBelow<FourBelow<D>>>;
+// As many steps as lead to the node of a path's last step, which no constant can tell a type: one too few is refused. A type for
+// each level stands for a recursion, of which a value can't be lent without a proof by hand.
+type Down = SevenBelow<SevenBelow<SevenBelow<Here>>>;
 
-// As many steps as a path may have, which no constant can tell a type: one too few is refused. A type for each level stands for
-// a recursion, of which a value can't be lent without a proof by hand.
-type Down = TwelveBelow<TwelveBelow<Here>>;
+/// The value of the pair at the place in the node that the way leads to, lent for writing: the tree ends with what is written in
+/// its place.
+pub fn value_at<'a, K, V>(root: &'a mut Node<K, V>, way: &[u8], place: usize) -> &'a mut V
+    requires place { IsPlace (way.now ++ place ∷ []) root.old }
+    requires bounded { length way.now < most_levels }
+    ensures* writes_back { sem 𝓛 (lends_at K.row V.row root.entry (way.now ++ place ∷ []) result) }
+    ensures value { option_map (λ e. e.1) (place_pair (way.now ++ place ∷ []) root.old) ≡ Some result.now }
+{
+    Down::value_at(root, way, place)
+}
 
 /// The value of the pair at the end of the path, lent for writing: the tree ends with what is written in its place.
 pub fn value_mut<'a, K, V>(root: &'a mut Node<K, V>, path: &Path) -> &'a mut V
@@ -99,5 +109,7 @@ pub fn value_mut<'a, K, V>(root: &'a mut Node<K, V>, path: &Path) -> &'a mut V
     ensures* writes_back { sem 𝓛 (lends_at K.row V.row root.entry path.now result) }
     ensures value { option_map (λ e. e.1) (place_pair path.now root.old) ≡ Some result.now }
 {
-    Down::value_mut(root, path.as_slice())
+    let steps = path.as_slice();
+    let last = steps.len() - 1;
+    value_at(root, &steps[..last], steps[last] as usize)
 }

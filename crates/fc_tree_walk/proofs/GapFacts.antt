@@ -247,6 +247,37 @@ module _ {K V : Type 0} where
       let b = ap length (after_none n i (omega arith)) in
       (r.0, r.1, r.2, omega (arith, r.3, a, b))
 
+  -- the first gap below a node
+  pub first_gap_leaf : (old new : List ℕ) (n : Node K V) → (h : ℕ) × IsLevelled h n × (length old + h < most_levels) → length (children_of n) ≤ 0 → new ≡ old ++ 0 ∷ [] → GoesOn old new n 0
+  first_gap_leaf old new n (h, l, s) c is = let g = goes_leaf old 0 h n l c (omega arith) in (g.0, is ∙ g.1, g.2, g.3)
+
+  pub first_gap_child : (old mid new : List ℕ) (n c : Node K V) → (h : ℕ) × IsLevelled h n × (length old + h < most_levels) → 0 < length (children_of n) → mid ≡ old ++ 0 ∷ [] → c ≡ child_at n 0 → GoesOn mid new c 0 → GoesOn old new n 0
+  first_gap_child old mid new n c (zero, l, s) k m is g = absurd (let f : length (children_of n) ≡ 0 = ap length (leaf_children n l.1) in omega arith)
+  first_gap_child old mid new n c (suc h, l, s) k m is g = goes_child old new 0 h n 0 l (omega arith) (subst (λ d. GoesOn (old ++ 0 ∷ []) new d 0) is (subst (λ m. GoesOn m new c 0) m g))
+
+  -- the gap after a pair, on the way down to it
+  next_before : (h : ℕ) (n : Node K V) (i : ℕ) → IsLevelled h n → i < length (own_pairs n) → length (before_child n (i + 1)) ≡ length (before_own n i) + 1
+  next_before h n i l k = let x = (item_there (own_pairs n) i k).0 in ap (λ j. length (before_child n j)) (add-one i) ∙ ap length (before_child_pair h n i x l k) ∙ length-append (before_own n i) _
+
+  pub behind_leaf : (old new : List ℕ) (i : ℕ) (n : Node K V) → (h : ℕ) × IsLevelled h n × (length old + h < most_levels) → i < length (own_pairs n) → length (children_of n) ≤ i + 1 → new ≡ old ++ (i + 1) ∷ [] → GoesOn old new n (length (before_own n i) + 1)
+  behind_leaf old new i n (h, l, s) k c is = let g = goes_leaf old (i + 1) h n l c (omega arith) in (g.0, is ∙ g.1, g.2, g.3 ∙ next_before h n i l k)
+
+  pub behind_child : (old mid new : List ℕ) (i : ℕ) (n c : Node K V) → (h : ℕ) × IsLevelled h n × (length old + h < most_levels) → i < length (own_pairs n) → i + 1 < length (children_of n) → mid ≡ old ++ (i + 1) ∷ [] → c ≡ child_at n (i + 1) → GoesOn mid new c 0 → GoesOn old new n (length (before_own n i) + 1)
+  behind_child old mid new i n c (zero, l, s) k d m is g = absurd (let f : length (children_of n) ≡ 0 = ap length (leaf_children n l.1) in omega arith)
+  behind_child old mid new i n c (suc h, l, s) k d m is g =
+      let r = goes_child old new (i + 1) h n 0 l (omega arith) (subst (λ d. GoesOn (old ++ (i + 1) ∷ []) new d 0) is (subst (λ m. GoesOn m new c 0) m g)) in
+      let a = next_before (suc h) n i l k in
+      (r.0, r.1, r.2, r.3 ∙ omega (arith, a))
+
+  pub behind_below : (old mid new : List ℕ) (i j : ℕ) (place : List ℕ) (n c : Node K V) → (h : ℕ) × IsLevelled h n × (length old + h < most_levels) → IsPlace (i ∷ j ∷ place) n → mid ≡ old ++ i ∷ [] → c ≡ child_at n i → GoesOn mid new c (length (before_pair (j ∷ place) c) + 1) → GoesOn old new n (length (before_pair (i ∷ j ∷ place) n) + 1)
+  behind_below old mid new i j place n c (zero, l, s) p m is g = absurd (let f : length (children_of n) ≡ 0 = ap length (leaf_children n l.1) in let k = p.0 in omega arith)
+  behind_below old mid new i j place n c (suc h, l, s) p m is g =
+      let e : length (children_of n) ≡ length (own_pairs n) + 1 = l.1 in
+      let k = p.0 in
+      let a = length-append (before_child n i) (before_pair (j ∷ place) (child_at n i)) in
+      let r = goes_child old new i h n (length (before_pair (j ∷ place) (child_at n i)) + 1) l (omega arith) (subst (λ d. GoesOn (old ++ i ∷ []) new d (length (before_pair (j ∷ place) d) + 1)) is (subst (λ m. GoesOn m new c (length (before_pair (j ∷ place) c) + 1)) m g)) in
+      (r.0, r.1, r.2, r.3 ∙ omega (arith, a))
+
   -- the gap before a pair
   pub pair_gap_leaf : (old new : List ℕ) (i : ℕ) (n : Node K V) → (h : ℕ) × IsLevelled h n × (length old + h < most_levels) → i < length (own_pairs n) → length (children_of n) ≤ i → new ≡ old ++ i ∷ [] → GoesOn old new n (length (before_own n i))
   pair_gap_leaf old new i n (zero, l, s) e c is =

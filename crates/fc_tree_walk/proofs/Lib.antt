@@ -5,6 +5,7 @@ pub mod Seeking
 pub mod Spans
 pub mod SpanEnds
 pub mod GapFacts
+pub mod Bounds
 pub mod Steps
 pub mod Leaves
 pub mod Runs

@@ -82,6 +82,35 @@ pub fn push_last<K, V>(node: &Node<K, V>, gap: &mut Path)
     }
 }
 
+/// Goes on to the first gap below the node.
+pub fn push_first<K, V>(node: &Node<K, V>, gap: &mut Path)
+    requires levels { (h : ℕ) × IsLevelled h node.now × (length gap.old + h < most_levels) }
+    ensures { GoesOn gap.old gap.new node.now 0 }
+{
+    gap.push(0);
+    if 0 < node.child_count() {
+        push_first(node.child(0), gap);
+    }
+}
+
+/// Goes on to the gap after the pair that the path leads to.
+pub fn push_gap_after<K, V>(node: &Node<K, V>, place: &[u8], gap: &mut Path)
+    requires place { IsPlace place.now node.now }
+    requires levels { (h : ℕ) × IsLevelled h node.now × (length gap.old + h < most_levels) }
+    ensures { GoesOn gap.old gap.new node.now (length (before_pair place.now node.now) + 1) }
+{
+    let step = place[0] as usize;
+    if place.len() > 1 {
+        gap.push(step);
+        push_gap_after(node.child(step), &place[1..], gap);
+    } else {
+        gap.push(step + 1);
+        if step + 1 < node.child_count() {
+            push_first(node.child(step + 1), gap);
+        }
+    }
+}
+
 /// Goes on to the gap before the pair that the path leads to.
 pub fn push_gap_before<K, V>(node: &Node<K, V>, place: &[u8], gap: &mut Path)
     requires place { IsPlace place.now node.now }

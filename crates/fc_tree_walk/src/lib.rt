@@ -2,6 +2,7 @@
 #![tactic(auto)]
 
 pub mod copy_stack;
+pub mod ends;
 pub mod gaps;
 mod run;
 pub mod seek;
