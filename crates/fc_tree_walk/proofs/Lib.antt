@@ -1,12 +1,7 @@
 pub mod Cells
-pub mod Trails
-pub mod Meetings
-pub mod Seeking
-pub mod Spans
-pub mod SpanEnds
 pub mod Opening
 pub mod GapFacts
 pub mod Bounds
-pub mod Steps
+pub mod Slices
+pub mod Meetings
 pub mod Leaves
-pub mod Runs

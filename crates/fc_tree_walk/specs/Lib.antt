@@ -1,5 +1,4 @@
 pub mod Stack
-pub mod Trail
 pub mod Span
 pub mod Gap
 pub mod Opened
