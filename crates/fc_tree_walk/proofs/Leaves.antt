@@ -6,20 +6,19 @@ use Rattle.std.proofs.lemmas.List.{set-get_or}
 use Rattle.fc_tree_node.specs.declared.node.Node.{Node}
 use Rattle.fc_tree_node.specs.Leaf.{leaf_at}
 use Rattle.fc_tree_node.specs.LeafGap.{IsLeafGap}
-use Rattle.fc_tree_node.specs.Node.{own_pairs, child_at, pairs_of, IsLeaf, IsLevelled, IsTree}
-use Rattle.fc_tree_node.specs.Path.{IsPath, before_gap}
+use Rattle.fc_tree_node.specs.Node.{own_pairs, child_at, pairs_of, IsLeaf, IsLevelled}
+use Rattle.fc_tree_node.specs.Path.{IsPath, before_gap, after_gap}
 use Rattle.fc_tree_node.specs.Place.{before_child, after_child, IsPlace, place_pair, before_pair, after_pair}
 use Rattle.fc_tree_node.specs.Tree.{Map, entries, IsSoundMap}
 use Rattle.fc_tree_node.specs.Weave.{before_list, after_list}
-use Rattle.fc_tree_node.proofs.Gaps.{inner_gap, place_pairs}
+use Rattle.fc_tree_node.proofs.Gaps.{inner_gap, place_pairs, gap_pairs}
 use Rattle.fc_tree_node.proofs.Lists.{take_nil, length_take, length_set, set_is}
 use Rattle.fc_tree_node.proofs.Pairs.{leaf_children, leaf_pairs, child_below}
 use Rattle.fc_tree_node.proofs.Weaves.{after_nil}
 use Rattle.fc_tree_walk.specs.Gap.{AreEndsIn}
 use Rattle.fc_tree_walk.specs.Span.{between}
-use Rattle.fc_tree_walk.proofs.GapFacts.{one_height}
 use Rattle.fc_tree_walk.proofs.Meetings.{earlier}
-use Rattle.fc_tree_walk.proofs.Slices.{slice_none, slice_split, slice_inner}
+use Rattle.fc_tree_walk.proofs.Slices.{slice_none, slice_length, slice_split, slice_inner}
 
 no_items : (q : List ℕ) → length q ≡ 0 → q ≡ []
 no_items [] e = refl
@@ -130,6 +129,20 @@ module _ {K V : Type 0} where
       below zero j = refl
       below (suc h) j = refl
 
+  -- The front goes on to another gap of its leaf, not beyond the back.
+  pub record FrontTaken (m : Map K V) (front back : List ℕ) (leaf : Node K V) (last end : ℕ) : Type 0 where
+    pub order : get_or front last 0 ≤ end
+    pub fits : end ≤ length (own_pairs leaf)
+    pub ends : AreEndsIn m (slice_set front last end) back
+    pub run : between m front back ≡ slice_range (own_pairs leaf) (get_or front last 0) end ++ between m (slice_set front last end) back
+
+  -- The back goes back to another gap of its leaf, not beyond the front.
+  pub record BackTaken (m : Map K V) (front back : List ℕ) (leaf : Node K V) (last start : ℕ) : Type 0 where
+    pub order : start ≤ get_or back last 0
+    pub fits : get_or back last 0 ≤ length (own_pairs leaf)
+    pub ends : AreEndsIn m front (slice_set back last start)
+    pub run : between m front back ≡ between m front (slice_set back last start) ++ slice_range (own_pairs leaf) start (get_or back last 0)
+
   module _ (n : Node K V) (h : ℕ) (l : IsLevelled h n) where
     deep : (g : List ℕ) → IsLeafGap g n → length g ≡ h + 1
     deep g w = w.1 h l
@@ -157,14 +170,7 @@ module _ {K V : Type 0} where
         let k = subst (λ m. get_or q h 0 ≤ length (own_pairs m)) same (cut_of q v).within in
         (k, ap (λ p. length (before_gap p n)) (sym s) ∙ c.count (get_or q h 0) k)
 
-    -- The front goes on to another gap of its leaf, not beyond the back.
-    pub record FrontTook (front back : List ℕ) (end : ℕ) : Type 0 where
-      pub order : get_or front h 0 ≤ end
-      pub fits : end ≤ length (own_pairs (leaf_at front n))
-      pub ends : AreEndsIn (Some n) (slice_set front h end) back
-      pub run : between (Some n) front back ≡ slice_range (own_pairs (leaf_at front n)) (get_or front h 0) end ++ between (Some n) (slice_set front h end) back
-
-    front_took : (front back : List ℕ) (w : IsLeafGap front n) (end : ℕ) → IsLeafGap back n → get_or front h 0 ≤ end → end ≤ length (own_pairs (leaf_at front n)) → length (cut_of front w).low + end ≤ length (before_gap back n) → FrontTook front back end
+    front_took : (front back : List ℕ) (w : IsLeafGap front n) (end : ℕ) → IsLeafGap back n → get_or front h 0 ≤ end → end ≤ length (own_pairs (leaf_at front n)) → length (cut_of front w).low + end ≤ length (before_gap back n) → FrontTaken (Some n) front back (leaf_at front n) h end
     front_took front back w end v a b d =
         let c = cut_of front w in
         let s = c.count end b in
@@ -174,17 +180,10 @@ module _ {K V : Type 0} where
           fits = b;
           ends = (moved front w end b, v, omega (arith, s, d));
           run = slice_split (pairs_of n) _ (length c.low + end) _ (omega (arith, now)) d ∙ ap (λ zs. zs ++ slice_range (pairs_of n) (length c.low + end) (length (before_gap back n))) (ap (λ k. slice_range (pairs_of n) k (length c.low + end)) now ∙ taken front w (get_or front h 0) end a b)
-            ∙ ap (λ k. slice_range (own_pairs (leaf_at front n)) (get_or front h 0) end ++ slice_range (pairs_of n) k (length (before_gap back n))) (sym s);
+              ∙ ap (λ k. slice_range (own_pairs (leaf_at front n)) (get_or front h 0) end ++ slice_range (pairs_of n) k (length (before_gap back n))) (sym s);
         }
 
-    -- The back goes back to another gap of its leaf, not beyond the front.
-    pub record BackTook (front back : List ℕ) (start : ℕ) : Type 0 where
-      pub order : start ≤ get_or back h 0
-      pub fits : get_or back h 0 ≤ length (own_pairs (leaf_at back n))
-      pub ends : AreEndsIn (Some n) front (slice_set back h start)
-      pub run : between (Some n) front back ≡ between (Some n) front (slice_set back h start) ++ slice_range (own_pairs (leaf_at back n)) start (get_or back h 0)
-
-    back_took : (front back : List ℕ) (w : IsLeafGap back n) (start : ℕ) → IsLeafGap front n → start ≤ get_or back h 0 → length (before_gap front n) ≤ length (cut_of back w).low + start → BackTook front back start
+    back_took : (front back : List ℕ) (w : IsLeafGap back n) (start : ℕ) → IsLeafGap front n → start ≤ get_or back h 0 → length (before_gap front n) ≤ length (cut_of back w).low + start → BackTaken (Some n) front back (leaf_at back n) h start
     back_took front back w start v a d =
         let c = cut_of back w in
         let f = c.within in
@@ -195,7 +194,7 @@ module _ {K V : Type 0} where
           fits = f;
           ends = (v, moved back w start (omega arith), omega (arith, s, d));
           run = slice_split (pairs_of n) _ (length c.low + start) _ d (omega (arith, now)) ∙ ap (λ zs. slice_range (pairs_of n) (length (before_gap front n)) (length c.low + start) ++ zs) (ap (λ k. slice_range (pairs_of n) (length c.low + start) k) now ∙ taken back w start (get_or back h 0) a f)
-            ∙ ap (λ k. slice_range (pairs_of n) (length (before_gap front n)) k ++ slice_range (own_pairs (leaf_at back n)) start (get_or back h 0)) (sym s);
+              ∙ ap (λ k. slice_range (pairs_of n) (length (before_gap front n)) k ++ slice_range (own_pairs (leaf_at back n)) start (get_or back h 0)) (sym s);
         }
 
     -- All gaps of the front's leaf are before a back in another leaf.
@@ -227,8 +226,15 @@ module _ {K V : Type 0} where
             let x = ap (λ p. length (before_gap p n)) t in
             absurd (omega (arith, r, x, le))
 
+    some_left : (front back : List ℕ) → IsLeafGap back n → length (before_gap front n) < length (before_gap back n) → between (Some n) front back ≡ [] → ⊥
+    some_left front back w lt e =
+        let all = ap length (gap_pairs back h n l (deep back w) w.0) ∙ length-append (before_gap back n) (after_gap back n) in
+        let long = slice_length (pairs_of n) (length (before_gap front n)) (length (before_gap back n)) (omega arith) in
+        let none = ap length e in
+        omega (arith, long, none, lt)
+
     -- ---- What is taken up to the other end, and what in another leaf.
-    pub front_meets : (front back : List ℕ) → AreEndsIn (Some n) front back → take h front ≡ take h back → FrontTook front back (get_or back h 0) × (between (Some n) (slice_set front h (get_or back h 0)) back ≡ [])
+    front_meets : (front back : List ℕ) → AreEndsIn (Some n) front back → take h front ≡ take h back → FrontTaken (Some n) front back (leaf_at front n) h (get_or back h 0) × (between (Some n) (slice_set front h (get_or back h 0)) back ≡ [])
     front_meets front back ends e =
         let w = ends.0 in
         let o = other_here front back w ends.1 e in
@@ -238,16 +244,16 @@ module _ {K V : Type 0} where
         let le = ends.2 in
         (front_took front back w (get_or back h 0) ends.1 (omega arith) o.0 (omega arith), slice_none (pairs_of n) _ _ (s ∙ sym same))
 
-    pub front_leaves : (front back : List ℕ) → AreEndsIn (Some n) front back → (take h front ≡ take h back → ⊥) → let end = length (own_pairs (leaf_at front n)) in FrontTook front back end × (length (before_gap (slice_set front h end) n) < length (before_gap back n))
+    front_leaves : (front back : List ℕ) → AreEndsIn (Some n) front back → (take h front ≡ take h back → ⊥) → FrontTaken (Some n) front back (leaf_at front n) h (length (own_pairs (leaf_at front n))) × (between (Some n) (slice_set front h (length (own_pairs (leaf_at front n)))) back ≡ [] → ⊥)
     front_leaves front back ends other =
         let w = ends.0 in
         let c = cut_of front w in
         let end = length (own_pairs (leaf_at front n)) in
         let lt = all_before front back w ends.1 other ends.2 end (omega arith) in
         let s = c.count end (omega arith) in
-        (front_took front back w end ends.1 c.within (omega arith) (omega arith), omega (arith, s, lt))
+        (front_took front back w end ends.1 c.within (omega arith) (omega arith), some_left (slice_set front h end) back ends.1 (omega (arith, s, lt)))
 
-    pub back_meets : (front back : List ℕ) → AreEndsIn (Some n) front back → take h back ≡ take h front → BackTook front back (get_or front h 0) × (between (Some n) front (slice_set back h (get_or front h 0)) ≡ [])
+    back_meets : (front back : List ℕ) → AreEndsIn (Some n) front back → take h back ≡ take h front → BackTaken (Some n) front back (leaf_at back n) h (get_or front h 0) × (between (Some n) front (slice_set back h (get_or front h 0)) ≡ [])
     back_meets front back ends e =
         let w = ends.1 in
         let o = other_here back front w ends.0 e in
@@ -257,12 +263,45 @@ module _ {K V : Type 0} where
         let le = ends.2 in
         (back_took front back w (get_or front h 0) ends.0 (omega arith) (omega arith), slice_none (pairs_of n) _ _ (same ∙ sym s))
 
-    pub back_leaves : (front back : List ℕ) → AreEndsIn (Some n) front back → (take h back ≡ take h front → ⊥) → BackTook front back 0 × (length (before_gap front n) < length (before_gap (slice_set back h 0) n))
+    back_leaves : (front back : List ℕ) → AreEndsIn (Some n) front back → (take h back ≡ take h front → ⊥) → BackTaken (Some n) front back (leaf_at back n) h 0 × (between (Some n) front (slice_set back h 0) ≡ [] → ⊥)
     back_leaves front back ends other =
         let w = ends.1 in
         let lt = all_after front back w ends.0 other ends.2 in
         let s = (cut_of back w).count 0 (omega arith) in
-        (back_took front back w 0 ends.0 (omega arith) (omega arith), omega (arith, s, lt))
+        (back_took front back w 0 ends.0 (omega arith) (omega arith), some_left front (slice_set back h 0) (moved back w 0 (omega arith)) (omega (arith, s, lt)))
+
+  -- ---- The same in a map.
+  pub front_met : (m : Map K V) (n leaf : Node K V) (front back : List ℕ) (last : ℕ) → m ≡ Some n → IsSoundMap m → AreEndsIn m front back → leaf ≡ leaf_at front n → last ≡ length front - 1 → take last front ≡ take last back → FrontTaken m front back leaf last (get_or back last 0) × (between m (slice_set front last (get_or back last 0)) back ≡ [])
+  front_met None n leaf front back last is o ends at la e = absurd cc
+  front_met (Some root) n leaf front back last is o ends at la e =
+      let same : n ≡ root = cc in
+      let long = ends.0.1 o.0 o.2.1 in
+      let h : o.0 ≡ last = omega arith in
+      subst (λ d. FrontTaken (Some root) front back d last (get_or back last 0) × (between (Some root) (slice_set front last (get_or back last 0)) back ≡ [])) (ap (leaf_at front) (sym same) ∙ sym at) (front_meets root last (subst (λ j. IsLevelled j root) h o.2.1) front back ends e)
+
+  pub front_apart : (m : Map K V) (n leaf : Node K V) (front back : List ℕ) (last : ℕ) → m ≡ Some n → IsSoundMap m → AreEndsIn m front back → leaf ≡ leaf_at front n → last ≡ length front - 1 → (take last front ≡ take last back → ⊥) → FrontTaken m front back leaf last (length (own_pairs leaf)) × (between m (slice_set front last (length (own_pairs leaf))) back ≡ [] → ⊥)
+  front_apart None n leaf front back last is o ends at la e = absurd cc
+  front_apart (Some root) n leaf front back last is o ends at la e =
+      let same : n ≡ root = cc in
+      let long = ends.0.1 o.0 o.2.1 in
+      let h : o.0 ≡ last = omega arith in
+      subst (λ d. FrontTaken (Some root) front back d last (length (own_pairs d)) × (between (Some root) (slice_set front last (length (own_pairs d))) back ≡ [] → ⊥)) (ap (leaf_at front) (sym same) ∙ sym at) (front_leaves root last (subst (λ j. IsLevelled j root) h o.2.1) front back ends e)
+
+  pub back_met : (m : Map K V) (n leaf : Node K V) (front back : List ℕ) (last : ℕ) → m ≡ Some n → IsSoundMap m → AreEndsIn m front back → leaf ≡ leaf_at back n → last ≡ length back - 1 → take last back ≡ take last front → BackTaken m front back leaf last (get_or front last 0) × (between m front (slice_set back last (get_or front last 0)) ≡ [])
+  back_met None n leaf front back last is o ends at la e = absurd cc
+  back_met (Some root) n leaf front back last is o ends at la e =
+      let same : n ≡ root = cc in
+      let long = ends.1.1 o.0 o.2.1 in
+      let h : o.0 ≡ last = omega arith in
+      subst (λ d. BackTaken (Some root) front back d last (get_or front last 0) × (between (Some root) front (slice_set back last (get_or front last 0)) ≡ [])) (ap (leaf_at back) (sym same) ∙ sym at) (back_meets root last (subst (λ j. IsLevelled j root) h o.2.1) front back ends e)
+
+  pub back_apart : (m : Map K V) (n leaf : Node K V) (front back : List ℕ) (last : ℕ) → m ≡ Some n → IsSoundMap m → AreEndsIn m front back → leaf ≡ leaf_at back n → last ≡ length back - 1 → (take last back ≡ take last front → ⊥) → BackTaken m front back leaf last 0 × (between m front (slice_set back last 0) ≡ [] → ⊥)
+  back_apart None n leaf front back last is o ends at la e = absurd cc
+  back_apart (Some root) n leaf front back last is o ends at la e =
+      let same : n ≡ root = cc in
+      let long = ends.1.1 o.0 o.2.1 in
+      let h : o.0 ≡ last = omega arith in
+      subst (λ d. BackTaken (Some root) front back d last 0 × (between (Some root) front (slice_set back last 0) ≡ [] → ⊥)) (ap (leaf_at back) (sym same) ∙ sym at) (back_leaves root last (subst (λ j. IsLevelled j root) h o.2.1) front back ends e)
 
 module _ {X : Type 0} where
   get_seam : (a b : List X) (x : X) → slice_get (a ++ x ∷ b) (length a) ≡ Some x

@@ -5,3 +5,4 @@ pub mod Bounds
 pub mod Slices
 pub mod Meetings
 pub mod Leaves
+pub mod Betweens

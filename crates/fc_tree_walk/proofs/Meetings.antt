@@ -1,11 +1,11 @@
 -- Two paths down one tree to gaps of leaves are the same where as many pairs are before the one as before the other.
-use Rattle.std.proofs.Common.{◌≡◌, ℕ, zero, suc, ◌+◌, ◌-◌, ◌<◌, ◌≤◌, List, [], ◌∷◌, ◌++◌, length, get_or, take, drop, refl, sym, ap, subst, ◌∙◌, arith, Some, None, ◌⊎◌, inl, inr, length-append}
+use Rattle.std.proofs.Common.{◌≡◌, ℕ, zero, suc, ◌+◌, ◌-◌, ◌<◌, ◌≤◌, List, [], ◌∷◌, ◌++◌, length, refl, sym, ap, subst, ◌∙◌, arith, ◌⊎◌, inl, inr, length-append}
 use Rattle.std.proofs.lemmas.Bool.{cases_lt}
 use Rattle.fc_tree_node.specs.declared.node.Node.{Node}
 use Rattle.fc_tree_node.specs.Node.{own_pairs, child_at, pairs_of, IsLevelled}
-use Rattle.fc_tree_node.specs.Path.{IsPath, before_gap, after_gap}
+use Rattle.fc_tree_node.specs.Path.{IsPath, before_gap}
 use Rattle.fc_tree_node.specs.Place.{before_child, before_own}
-use Rattle.fc_tree_node.proofs.Gaps.{drop_item, item_there, own_pair, before_child_pair, after_child_pair, leaf_gap, inner_gap, gap_pairs}
+use Rattle.fc_tree_node.proofs.Gaps.{item_there, own_pair, before_child_pair, after_child_pair, leaf_gap, inner_gap, gap_pairs}
 use Rattle.fc_tree_node.proofs.Pairs.{child_below}
 
 module _ {K V : Type 0} where

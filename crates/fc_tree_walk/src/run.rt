@@ -1,7 +1,7 @@
 //! Steps of a walk's ends from leaf to leaf: each takes all pairs of its leaf at once, as far as the other end.
-ghost use Rattle.std.specs.Prelude.{◌≡◌, ℕ, suc, ◌+◌, ◌-◌, ◌<◌, ◌↔◌, [], ◌∷◌, ◌++◌, length, take, Some, IsTrue, slice_get};
+ghost use Rattle.std.specs.Prelude.{◌≡◌, ◌+◌, ◌-◌, ◌<◌, ◌≤◌, ◌↔◌, [], ◌∷◌, ◌++◌, length, take, Some, IsTrue, slice_get, slice_range};
 ghost use Rattle.fc_tree_node.specs.Leaf.{leaf_at};
-ghost use Rattle.fc_tree_node.specs.Node.{IsLevelled};
+ghost use Rattle.fc_tree_node.specs.Node.{own_pairs, IsLevelled};
 ghost use Rattle.fc_tree_node.specs.Path.{IsPath};
 ghost use Rattle.fc_tree_node.specs.Tree.{entries, root_of, IsSoundMap};
 ghost use Rattle.fc_tree_node.specs.TreePlace.{before_gap_in};
@@ -25,6 +25,15 @@ fn leaf_of<'a, K, V>(node: &'a Node<K, V>, gap: &[u8]) -> &'a Node<K, V>
     } else {
         leaf_of(node.child(gap[0] as usize), &gap[1..])
     }
+}
+
+// The pairs of a leaf between two places.
+fn part<'a, K, V>(leaf: &'a Node<K, V>, start: usize, end: usize) -> &'a [(K, V)]
+    requires order { start ≤ end }
+    requires fits { end ≤ length (own_pairs leaf.now) }
+    ensures { result.now ≡ slice_range (own_pairs leaf.now) start end }
+{
+    &leaf.pairs()[start..end]
 }
 
 // Whether two gaps of one tree are of the same leaf.
@@ -63,11 +72,11 @@ pub fn take_first_run<'a, K, V>(
     if is_same_leaf(front, back) {
         let end = back.step(last);
         front.set(last, end);
-        return (&leaf.pairs()[start..end], true);
+        return (part(leaf, start, end), true);
     }
     let end = leaf.len();
     front.set(last, end);
-    (&leaf.pairs()[start..end], false)
+    (part(leaf, start, end), false)
 }
 
 // Takes the pairs of the back's leaf before its gap, as far as the front, and goes back before them. It answers them, and
@@ -92,10 +101,10 @@ fn take_last_run<'a, K, V>(
     if is_same_leaf(back, front) {
         let start = front.step(last);
         back.set(last, start);
-        return (&leaf.pairs()[start..end], true);
+        return (part(leaf, start, end), true);
     }
     back.set(last, 0);
-    (&leaf.pairs()[..end], false)
+    (part(leaf, 0, end), false)
 }
 
 // Goes on past the pair after a gap, and answers that pair.
@@ -107,9 +116,7 @@ fn pass_next<'a, K, V>(root: &'a Option<Box<Node<K, V>>>, gap: &mut Path) -> &'a
     ensures step { length (before_gap_in (root_of root.now) gap.new) ≡ length (before_gap_in (root_of root.now) gap.old) + 1 }
     ensures pair { slice_get (entries (root_of root.now)) (length (before_gap_in (root_of root.now) gap.old)) ≡ Some result.now }
 {
-    let Some(node) = root else {
-        unreachable!()
-    };
+    let Some(node) = root else { unreachable!() };
     let steps = gap.as_slice();
     let count = steps_to_next(node, steps);
     let last = count - 1;
@@ -128,9 +135,7 @@ fn pass_previous<'a, K, V>(root: &'a Option<Box<Node<K, V>>>, gap: &mut Path) ->
     ensures step { length (before_gap_in (root_of root.now) gap.new) + 1 ≡ length (before_gap_in (root_of root.now) gap.old) }
     ensures pair { slice_get (entries (root_of root.now)) (length (before_gap_in (root_of root.now) gap.new)) ≡ Some result.now }
 {
-    let Some(node) = root else {
-        unreachable!()
-    };
+    let Some(node) = root else { unreachable!() };
     let steps = gap.as_slice();
     let last = steps_to_previous(node, steps) - 1;
     let mut place = Path::of(&steps[..last]);

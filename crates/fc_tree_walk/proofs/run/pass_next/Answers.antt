@@ -1,6 +1,6 @@
 use Rattle.std.proofs.Common.{◌-◌, ◌≤◌, length, get_or, take, Some, slice_get, arith, sym, ap, subst, ◌∙◌}
 use Rattle.fc_base.specs.Sizes.{capacity}
-use Rattle.fc_tree_node.specs.Place.{IsPlace, place_pair, before_pair}
+use Rattle.fc_tree_node.specs.Place.{place_pair}
 use Rattle.fc_tree_node.specs.Tree.{entries, root_of}
 use Rattle.fc_tree_node.specs.TreePlace.{before_gap_in}
 use Rattle.fc_tree_walk.specs.Gap.{IsGapIn}
