@@ -386,6 +386,9 @@ module _ {K V : Type 0} where
   some_next None n gap steps is x k = absurd cc
   some_next (Some root) n gap steps is x k = let same : n ≡ root = cc in some_after gap root steps (subst (λ d. IsNext gap d steps) same x) k
 
+  pub count_is : (m : Map K V) (n : Node K V) (gap : List ℕ) → m ≡ Some n → length (before_gap_in m gap) ≡ length (before_gap gap n)
+  count_is m n gap is = ap (λ o. length (before_gap_in o gap)) is
+
   pub stepped_after : (m : Map K V) (n : Node K V) (gap next : List ℕ) (last steps : ℕ) → m ≡ Some n → IsSoundMap m → IsGapIn m gap → IsNext gap n steps → last + 1 ≡ steps
       → next ≡ take last gap ++ (get_or gap last 0 + 1) ∷ zeros (length gap - length (take last gap) - 1) → IsStepped m gap next
   stepped_after None n gap next last steps is sound g x e f = absurd cc

@@ -1,19 +1,47 @@
--- The gaps of one leaf lie together: no gap of another leaf is between two of them.
-use Rattle.std.proofs.Common.{◌≡◌, ℕ, zero, suc, ◌+◌, ◌<◌, ◌≤◌, List, [], ◌∷◌, ◌++◌, length, map, take, drop, refl, sym, ap, subst, ◌∙◌, arith, ◌⊎◌, inl, inr, length-append}
-use Rattle.std.specs.Borrow.{Bor}
+-- The gaps of one leaf lie together, and the pairs between them are pairs of the leaf.
+use Rattle.std.proofs.Common.{◌≡◌, ℕ, zero, suc, ◌+◌, ◌-◌, ◌<◌, ◌≤◌, List, [], ◌∷◌, ◌++◌, length, map, take, drop, get_or, refl, sym, ap, subst, ◌∙◌, arith, Some, None, slice_get, ◌⊎◌, inl, inr, length-append, append_assoc, append-nil}
+use Rattle.std.specs.Prelude.{slice_range, slice_set}
 use Rattle.std.proofs.lemmas.Bool.{cases_lt}
+use Rattle.std.proofs.lemmas.List.{set-get_or}
 use Rattle.fc_tree_node.specs.declared.node.Node.{Node}
+use Rattle.fc_tree_node.specs.Leaf.{leaf_at}
+use Rattle.fc_tree_node.specs.LeafGap.{IsLeafGap}
 use Rattle.fc_tree_node.specs.Node.{own_pairs, child_at, pairs_of, IsLeaf, IsLevelled}
-use Rattle.fc_tree_node.specs.Path.{IsPath, before_gap}
-use Rattle.fc_tree_node.specs.Place.{before_child, after_child, node_at}
+use Rattle.fc_tree_node.specs.Path.{IsPath, before_gap, after_gap}
+use Rattle.fc_tree_node.specs.Place.{before_child, after_child, IsPlace, place_pair, before_pair, after_pair}
+use Rattle.fc_tree_node.specs.Tree.{Map, entries, IsSoundMap}
 use Rattle.fc_tree_node.specs.Weave.{before_list, after_list}
-use Rattle.fc_tree_node.proofs.Lists.{take_nil, length_take}
-use Rattle.std.proofs.lemmas.List.{length-map, take-append-le, take_all}
-use Rattle.fc_tree_node.proofs.Pairs.{leaf_children, child_below}
+use Rattle.fc_tree_node.proofs.Gaps.{inner_gap, place_pairs, gap_pairs}
+use Rattle.fc_tree_node.proofs.Lists.{take_nil, length_take, length_set, set_is}
+use Rattle.fc_tree_node.proofs.Pairs.{leaf_children, leaf_pairs, child_below}
 use Rattle.fc_tree_node.proofs.Weaves.{after_nil}
+use Rattle.fc_tree_walk.specs.Gap.{AreEndsIn}
+use Rattle.fc_tree_walk.specs.Span.{between}
 use Rattle.fc_tree_walk.proofs.Meetings.{earlier}
-use Rattle.fc_tree_walk.proofs.Trails.{before_snoc, places_snoc, chain_front, chain_moved, chain_of_trail, chain_before_trail, trail_of_chain, trail_way, trail_depth}
-use Rattle.fc_tree_walk.specs.Trail.{before_trail, places_of, IsChain, IsTrailFrom}
+use Rattle.fc_tree_walk.proofs.Slices.{slice_none, slice_length, slice_split, slice_inner}
+
+no_items : (q : List ℕ) → length q ≡ 0 → q ≡ []
+no_items [] e = refl
+no_items (x ∷ q) e = absurd (omega arith)
+
+-- A path with the last step of another one that leads to the same leaf is that one.
+same_set : (g q : List ℕ) (h : ℕ) → length g ≡ h + 1 → length q ≡ h + 1 → take h g ≡ take h q → slice_set g h (get_or q h 0) ≡ q
+same_set [] q h a b e = absurd (omega arith)
+same_set (x ∷ g) [] h a b e = absurd (omega arith)
+same_set (x ∷ g) (y ∷ q) zero a b e = ap (λ r. y ∷ r) (no_items g (omega arith) ∙ sym (no_items q (omega arith)))
+same_set (x ∷ g) (y ∷ q) (suc h) a b e =
+    let s : x ≡ y = cc in
+    let t : take h g ≡ take h q = cc in
+    ap (λ z. z ∷ slice_set g h (get_or q h 0)) s ∙ ap (λ r. y ∷ r) (same_set g q h (omega arith) (omega arith) t)
+
+-- A path with another last step.
+other_last : (g : List ℕ) (h j : ℕ) → length g ≡ h + 1 → slice_set g h j ≡ take h g ++ j ∷ []
+other_last g h j e = set_is g h j (omega arith) ∙ ap (λ r. take h g ++ j ∷ r) (no_items (drop (suc h) g) (dropped g h e))
+  where
+    dropped : (g : List ℕ) (h : ℕ) → length g ≡ h + 1 → length (drop (suc h) g) ≡ 0
+    dropped [] h e = refl
+    dropped (x ∷ g) zero e = omega arith
+    dropped (x ∷ g) (suc h) e = dropped g h (omega arith)
 
 module _ {K V : Type 0} where
   -- A leaf has its own pairs alone on either side of a gap.
@@ -51,70 +79,240 @@ module _ {K V : Type 0} where
       order below (inr ge) (inl gt) = absurd (let c = earlier (suc h) n j i q (f ++ k ∷ []) l gt v.0 x.1 (omega arith) in omega (arith, c, le))
       order below (inr ge) (inr leq) = same below (omega arith)
 
-  -- The last node of a chain is the one that the places lead to.
-  pub chain_node : (s : List (Bor (Node K V) × ℕ)) (x : Bor (Node K V) × ℕ) (n : Node K V) → IsChain n (s ++ x ∷ []) → x.0.now ≡ node_at (places_of s) n
-  chain_node [] x n c = c.0
-  chain_node (y ∷ []) x n c = chain_node [] x (child_at n y.1) c.3
-  chain_node (y ∷ z ∷ s) x n c = chain_node (z ∷ s) x (child_at n y.1) c.3
+  -- The leaf of a path of one step.
+  pub leaf_here : (g : List ℕ) (n : Node K V) → length g ≡ 1 → n ≡ leaf_at g n
+  leaf_here [] n e = refl
+  leaf_here (i ∷ []) n e = refl
+  leaf_here (i ∷ j ∷ g) n e = absurd (omega arith)
 
-  pub trail_leaf : (s : List (Bor (Node K V) × ℕ)) (x : Bor (Node K V) × ℕ) (n : Node K V) → IsTrailFrom n (s ++ x ∷ []) → IsLeaf x.0.now
-  trail_leaf [] x n t = subst IsLeaf (sym t.0) t.2
-  trail_leaf (y ∷ []) x n t = trail_leaf [] x (child_at n y.1) t.3
-  trail_leaf (y ∷ z ∷ s) x n t = trail_leaf (z ∷ s) x (child_at n y.1) t.3
+  -- A tree's pairs, cut at the leaf of a gap.
+  record IsLeafCut (g : List ℕ) (h : ℕ) (n : Node K V) : Type 0 where
+    pub low : List (K × V)
+    pub high : List (K × V)
+    pub parts : pairs_of n ≡ low ++ (own_pairs (leaf_at g n) ++ high)
+    pub within : get_or g h 0 ≤ length (own_pairs (leaf_at g n))
+    pub way : (j : ℕ) → j ≤ length (own_pairs (leaf_at g n)) → IsPath (slice_set g h j) n
+    pub count : (j : ℕ) → j ≤ length (own_pairs (leaf_at g n)) → length (before_gap (slice_set g h j) n) ≡ length low + j
+    pub leaf : (j : ℕ) → leaf_at (slice_set g h j) n ≡ leaf_at g n
 
-  pub chain_within : (s : List (Bor (Node K V) × ℕ)) (x : Bor (Node K V) × ℕ) (n : Node K V) → IsChain n (s ++ x ∷ []) → x.1 ≤ length (own_pairs x.0.now)
-  chain_within [] x n c = subst (λ (m : Node K V). x.1 ≤ length (own_pairs m)) (sym c.0) c.1
-  chain_within (y ∷ []) x n c = chain_within [] x (child_at n y.1) c.3
-  chain_within (y ∷ z ∷ s) x n c = chain_within (z ∷ s) x (child_at n y.1) c.3
-
-  -- ---- trails with one node for each level, of one root
-
-  -- Before a gap of a leaf are the pairs before the leaf, and those of the leaf up to the gap.
-  pub before_count : (s : List (Bor (Node K V) × ℕ)) (n : Bor (Node K V)) (j : ℕ) → IsLeaf n.now → j ≤ length (own_pairs n.now) → length (before_trail (s ++ (n, j) ∷ [])) ≡ length (before_trail s) + j
-  before_count s n j l h =
-      ap length (before_snoc s (n, j)) ∙ length-append (before_trail s) (before_child n.now j)
-      ∙ ap (λ k. length (before_trail s) + k) (ap length (leaf_before_child n.now j l) ∙ length_take j (own_pairs n.now) h)
-
-  -- Two gaps of one leaf.
-  pub record AreTogether (s t : List (Bor (Node K V) × ℕ)) (x y : Bor (Node K V) × ℕ) : Type 0 where
-    pub within : y.1 ≤ length (own_pairs x.0.now)
-    pub lead : length (before_trail (t ++ y ∷ [])) ≡ length (before_trail (s ++ (x.0, y.1) ∷ []))
-
-  pub together : (root : Node K V) (s t : List (Bor (Node K V) × ℕ)) (x y : Bor (Node K V) × ℕ) → IsTrailFrom root (s ++ x ∷ []) → IsTrailFrom root (t ++ y ∷ []) → places_of s ≡ places_of t → AreTogether s t x y
-  together root s t x y a b e =
-      let c = chain_of_trail (s ++ x ∷ []) root a in
-      let d = chain_of_trail (t ++ y ∷ []) root b in
-      let node : y.0.now ≡ x.0.now = chain_node t y root d ∙ ap (λ p. node_at p root) (sym e) ∙ sym (chain_node s x root c) in
-      let w = subst (λ (m : Node K V). y.1 ≤ length (own_pairs m)) node (chain_within t y root d) in
-      let before_list : before_trail t ≡ before_trail s = chain_before_trail t root (chain_front t y root d) ∙ ap (λ p. before_gap p root) (sym e) ∙ sym (chain_before_trail s root (chain_front s x root c)) in
+  leaf_cut : (g : List ℕ) (h : ℕ) (n : Node K V) → IsLevelled h n → length g ≡ h + 1 → IsPath g n → IsLeafCut g h n
+  leaf_cut [] h n l e p = absurd (omega arith)
+  leaf_cut (i ∷ []) zero n l e p =
       record {
-        within = w;
-        lead = before_count t y.0 y.1 (trail_leaf t y root b) (chain_within t y root d) ∙ ap (λ zs. length zs + y.1) before_list ∙ sym (before_count s x.0 y.1 (trail_leaf s x root a) w);
+        low = [];
+        high = [];
+        parts = leaf_pairs n l.1 ∙ sym (append-nil (own_pairs n));
+        within = p.0;
+        way = λ j k. (k, tt);
+        count = λ j k. let a = ap length (append-nil (before_child n j) ∙ leaf_before_child n j l.1) in let b = length_take j (own_pairs n) k in omega (arith, a, b);
+        leaf = λ j. refl;
       }
+  leaf_cut (i ∷ []) (suc h) n l e p = absurd (omega arith)
+  leaf_cut (i ∷ k ∷ g) zero n l e p = absurd (omega arith)
+  leaf_cut (i ∷ k ∷ g) (suc h) n l e p =
+      let c = child_at n i in
+      let r = leaf_cut (k ∷ g) h c (child_below h n i l p.0).1 (omega arith) p.1 in
+      record {
+        low = before_child n i ++ r.low;
+        high = r.high ++ after_child n i;
+        parts = inner_gap n i l.1 p.0 ∙ ap (λ zs. before_child n i ++ (zs ++ after_child n i)) r.parts ∙ regroup (before_child n i) r.low (own_pairs (leaf_at (k ∷ g) c)) r.high (after_child n i);
+        within = r.within;
+        way = λ j m. (p.0, r.way j m);
+        count = λ j m. let a = length-append (before_child n i) (before_gap (slice_set (k ∷ g) h j) c) in let b = length-append (before_child n i) r.low in let d = r.count j m in omega (arith, a, b, d);
+        leaf = λ j. below h j ∙ r.leaf j;
+      }
+    where
+      regroup : (a b m c d : List (K × V)) → a ++ ((b ++ (m ++ c)) ++ d) ≡ (a ++ b) ++ (m ++ (c ++ d))
+      regroup a b m c d = simp append_assoc
 
-  -- A gap of another leaf that is not before a gap is after all gaps of its leaf.
-  pub other_leaf : (h : ℕ) (root : Node K V) (s b : List (Bor (Node K V) × ℕ)) (x : Bor (Node K V) × ℕ) (j : ℕ) → IsLevelled h root → IsTrailFrom root (s ++ x ∷ []) → IsTrailFrom root b → j ≤ length (own_pairs x.0.now) → (take (length s) (places_of b) ≡ places_of s → ⊥)
-      → length (before_trail (s ++ x ∷ [])) ≤ length (before_trail b) → length (before_trail (s ++ (x.0, j) ∷ [])) < length (before_trail b)
-  other_leaf h root s b x j l t u w other le =
-      let c = chain_of_trail (s ++ x ∷ []) root t in
-      let d = chain_moved s x j root c w in
-      let moved = trail_of_chain s (x.0, j) root d (trail_leaf s x root t) in
-      let long : length s ≡ h = (let e = trail_depth h (s ++ x ∷ []) root l t in let k = length-append s (x ∷ []) in omega (arith, e, k)) in
-      let p : before_trail (s ++ x ∷ []) ≡ before_gap (places_of s ++ x.1 ∷ []) root = chain_before_trail (s ++ x ∷ []) root c ∙ ap (λ q. before_gap q root) (places_snoc s x) in
-      let q : before_trail (s ++ (x.0, j) ∷ []) ≡ before_gap (places_of s ++ j ∷ []) root = chain_before_trail (s ++ (x.0, j) ∷ []) root d ∙ ap (λ q. before_gap q root) (places_snoc s (x.0, j)) in
-      let r : before_trail b ≡ before_gap (places_of b) root = chain_before_trail b root (chain_of_trail b root u) in
-      let v = subst (λ z. IsPath z root) (places_snoc s x) (trail_way (s ++ x ∷ []) root t) in
-      let v₂ = subst (λ z. IsPath z root) (places_snoc s (x.0, j)) (trail_way (s ++ (x.0, j) ∷ []) root moved) in
-      let f : length (places_of s) ≡ h = length-map s (λ z. z.1) ∙ long in
-      let g : length (places_of b) ≡ h + 1 = length-map b (λ z. z.1) ∙ trail_depth h b root l u in
-      let ple = ap length p in
-      let qle = ap length q in
-      let rle = ap length r in
-      let a = apart_leaf (places_of s) h root x.1 j (places_of b) l v v₂ (trail_way b root u) f g (λ z. other (ap (λ k. take k (places_of b)) long ∙ z)) (omega (arith, le, ple, rle)) in
-      omega (arith, a, qle, rle)
+      below : (h j : ℕ) → leaf_at (i ∷ slice_set (k ∷ g) h j) n ≡ leaf_at (slice_set (k ∷ g) h j) (child_at n i)
+      below zero j = refl
+      below (suc h) j = refl
 
-  -- The places of all nodes but the last.
-  pub upper_places : (s : List (Bor (Node K V) × ℕ)) (x : Bor (Node K V) × ℕ) → take (length s) (places_of (s ++ x ∷ [])) ≡ places_of s
-  upper_places s x =
-      let k : length (places_of s) ≡ length s = length-map s (λ z. z.1) in
-      ap (take (length s)) (places_snoc s x) ∙ take-append-le (length s) (places_of s) (x.1 ∷ []) (omega (arith, k)) ∙ take_all (length s) (places_of s) (omega (arith, k))
+  -- The front goes on to another gap of its leaf, not beyond the back.
+  pub record FrontTaken (m : Map K V) (front back : List ℕ) (leaf : Node K V) (last end : ℕ) : Type 0 where
+    pub order : get_or front last 0 ≤ end
+    pub fits : end ≤ length (own_pairs leaf)
+    pub ends : AreEndsIn m (slice_set front last end) back
+    pub run : between m front back ≡ slice_range (own_pairs leaf) (get_or front last 0) end ++ between m (slice_set front last end) back
+
+  -- The back goes back to another gap of its leaf, not beyond the front.
+  pub record BackTaken (m : Map K V) (front back : List ℕ) (leaf : Node K V) (last start : ℕ) : Type 0 where
+    pub order : start ≤ get_or back last 0
+    pub fits : get_or back last 0 ≤ length (own_pairs leaf)
+    pub ends : AreEndsIn m front (slice_set back last start)
+    pub run : between m front back ≡ between m front (slice_set back last start) ++ slice_range (own_pairs leaf) start (get_or back last 0)
+
+  module _ (n : Node K V) (h : ℕ) (l : IsLevelled h n) where
+    deep : (g : List ℕ) → IsLeafGap g n → length g ≡ h + 1
+    deep g w = w.1 h l
+
+    cut_of : (g : List ℕ) → IsLeafGap g n → IsLeafCut g h n
+    cut_of g w = leaf_cut g h n l (deep g w) w.0
+
+    -- Another gap of the leaf.
+    moved : (g : List ℕ) → IsLeafGap g n → (j : ℕ) → j ≤ length (own_pairs (leaf_at g n)) → IsLeafGap (slice_set g h j) n
+    moved g w j k = ((cut_of g w).way j k, λ m o. length_set g h j ∙ w.1 m o)
+
+    here : (g : List ℕ) → (w : IsLeafGap g n) → length (before_gap g n) ≡ length (cut_of g w).low + get_or g h 0
+    here g w = ap (λ p. length (before_gap p n)) (sym (set-get_or g h 0)) ∙ (cut_of g w).count (get_or g h 0) (cut_of g w).within
+
+    -- The pairs between two gaps of the leaf.
+    taken : (g : List ℕ) (w : IsLeafGap g n) (i j : ℕ) → i ≤ j → j ≤ length (own_pairs (leaf_at g n)) → slice_range (pairs_of n) (length (cut_of g w).low + i) (length (cut_of g w).low + j) ≡ slice_range (own_pairs (leaf_at g n)) i j
+    taken g w i j a b = let c = cut_of g w in ap (λ xs. slice_range xs (length c.low + i) (length c.low + j)) c.parts ∙ slice_inner c.low (own_pairs (leaf_at g n)) c.high i j a b
+
+    -- The gap of another end in the same leaf.
+    other_here : (g q : List ℕ) (w : IsLeafGap g n) → IsLeafGap q n → take h g ≡ take h q → (get_or q h 0 ≤ length (own_pairs (leaf_at g n))) × (length (before_gap q n) ≡ length (cut_of g w).low + get_or q h 0)
+    other_here g q w v e =
+        let s = same_set g q h (deep g w) (deep q v) e in
+        let c = cut_of g w in
+        let same : leaf_at q n ≡ leaf_at g n = ap (λ p. leaf_at p n) (sym s) ∙ c.leaf (get_or q h 0) in
+        let k = subst (λ m. get_or q h 0 ≤ length (own_pairs m)) same (cut_of q v).within in
+        (k, ap (λ p. length (before_gap p n)) (sym s) ∙ c.count (get_or q h 0) k)
+
+    front_took : (front back : List ℕ) (w : IsLeafGap front n) (end : ℕ) → IsLeafGap back n → get_or front h 0 ≤ end → end ≤ length (own_pairs (leaf_at front n)) → length (cut_of front w).low + end ≤ length (before_gap back n) → FrontTaken (Some n) front back (leaf_at front n) h end
+    front_took front back w end v a b d =
+        let c = cut_of front w in
+        let s = c.count end b in
+        let now = here front w in
+        record {
+          order = a;
+          fits = b;
+          ends = (moved front w end b, v, omega (arith, s, d));
+          run = slice_split (pairs_of n) _ (length c.low + end) _ (omega (arith, now)) d ∙ ap (λ zs. zs ++ slice_range (pairs_of n) (length c.low + end) (length (before_gap back n))) (ap (λ k. slice_range (pairs_of n) k (length c.low + end)) now ∙ taken front w (get_or front h 0) end a b)
+              ∙ ap (λ k. slice_range (own_pairs (leaf_at front n)) (get_or front h 0) end ++ slice_range (pairs_of n) k (length (before_gap back n))) (sym s);
+        }
+
+    back_took : (front back : List ℕ) (w : IsLeafGap back n) (start : ℕ) → IsLeafGap front n → start ≤ get_or back h 0 → length (before_gap front n) ≤ length (cut_of back w).low + start → BackTaken (Some n) front back (leaf_at back n) h start
+    back_took front back w start v a d =
+        let c = cut_of back w in
+        let f = c.within in
+        let s = c.count start (omega arith) in
+        let now = here back w in
+        record {
+          order = a;
+          fits = f;
+          ends = (v, moved back w start (omega arith), omega (arith, s, d));
+          run = slice_split (pairs_of n) _ (length c.low + start) _ d (omega (arith, now)) ∙ ap (λ zs. slice_range (pairs_of n) (length (before_gap front n)) (length c.low + start) ++ zs) (ap (λ k. slice_range (pairs_of n) (length c.low + start) k) now ∙ taken back w start (get_or back h 0) a f)
+              ∙ ap (λ k. slice_range (pairs_of n) (length (before_gap front n)) k ++ slice_range (own_pairs (leaf_at back n)) start (get_or back h 0)) (sym s);
+        }
+
+    -- All gaps of the front's leaf are before a back in another leaf.
+    all_before : (g q : List ℕ) (w : IsLeafGap g n) → IsLeafGap q n → (take h g ≡ take h q → ⊥) → length (before_gap g n) ≤ length (before_gap q n) → (j : ℕ) → j ≤ length (own_pairs (leaf_at g n)) → length (cut_of g w).low + j < length (before_gap q n)
+    all_before g q w v other le j k =
+        let c = cut_of g w in
+        let s : g ≡ take h g ++ get_or g h 0 ∷ [] = sym (set-get_or g h 0) ∙ other_last g h (get_or g h 0) (deep g w) in
+        let t = other_last g h j (deep g w) in
+        let long : length (take h g) ≡ h = length_take h g (let d = deep g w in omega arith) in
+        let r = apart_leaf (take h g) h n (get_or g h 0) j q l (subst (λ p. IsPath p n) s w.0) (subst (λ p. IsPath p n) t (c.way j k)) v.0 long (deep q v) (λ e. other (sym e)) (subst (λ p. length (before_gap p n) ≤ length (before_gap q n)) s le) in
+        let m = c.count j k in
+        let u = ap (λ p. length (before_gap p n)) t in
+        omega (arith, r, m, u)
+
+    -- And all gaps of the back's leaf are after a front in another leaf.
+    all_after : (g q : List ℕ) (w : IsLeafGap q n) → IsLeafGap g n → (take h q ≡ take h g → ⊥) → length (before_gap g n) ≤ length (before_gap q n) → length (before_gap g n) < length (cut_of q w).low + 0
+    all_after g q w v other le = order (cases_lt (length (before_gap g n)) (length (cut_of q w).low + 0))
+      where
+        order : (length (before_gap g n) < length (cut_of q w).low + 0) ⊎ (length (cut_of q w).low + 0 ≤ length (before_gap g n)) → length (before_gap g n) < length (cut_of q w).low + 0
+        order (inl lt) = lt
+        order (inr ge) =
+            let c = cut_of q w in
+            let s = other_last q h 0 (deep q w) in
+            let t : q ≡ take h q ++ get_or q h 0 ∷ [] = sym (set-get_or q h 0) ∙ other_last q h (get_or q h 0) (deep q w) in
+            let long : length (take h q) ≡ h = length_take h q (let d = deep q w in omega arith) in
+            let m = c.count 0 (omega arith) in
+            let u = ap (λ p. length (before_gap p n)) s in
+            let r = apart_leaf (take h q) h n 0 (get_or q h 0) g l (subst (λ p. IsPath p n) s (c.way 0 (omega arith))) (subst (λ p. IsPath p n) t w.0) v.0 long (deep g v) (λ e. other (sym e)) (omega (arith, ge, m, u)) in
+            let x = ap (λ p. length (before_gap p n)) t in
+            absurd (omega (arith, r, x, le))
+
+    some_left : (front back : List ℕ) → IsLeafGap back n → length (before_gap front n) < length (before_gap back n) → between (Some n) front back ≡ [] → ⊥
+    some_left front back w lt e =
+        let all = ap length (gap_pairs back h n l (deep back w) w.0) ∙ length-append (before_gap back n) (after_gap back n) in
+        let long = slice_length (pairs_of n) (length (before_gap front n)) (length (before_gap back n)) (omega arith) in
+        let none = ap length e in
+        omega (arith, long, none, lt)
+
+    -- ---- What is taken up to the other end, and what in another leaf.
+    front_meets : (front back : List ℕ) → AreEndsIn (Some n) front back → take h front ≡ take h back → FrontTaken (Some n) front back (leaf_at front n) h (get_or back h 0) × (between (Some n) (slice_set front h (get_or back h 0)) back ≡ [])
+    front_meets front back ends e =
+        let w = ends.0 in
+        let o = other_here front back w ends.1 e in
+        let now = here front w in
+        let s = (cut_of front w).count (get_or back h 0) o.0 in
+        let same = o.1 in
+        let le = ends.2 in
+        (front_took front back w (get_or back h 0) ends.1 (omega arith) o.0 (omega arith), slice_none (pairs_of n) _ _ (s ∙ sym same))
+
+    front_leaves : (front back : List ℕ) → AreEndsIn (Some n) front back → (take h front ≡ take h back → ⊥) → FrontTaken (Some n) front back (leaf_at front n) h (length (own_pairs (leaf_at front n))) × (between (Some n) (slice_set front h (length (own_pairs (leaf_at front n)))) back ≡ [] → ⊥)
+    front_leaves front back ends other =
+        let w = ends.0 in
+        let c = cut_of front w in
+        let end = length (own_pairs (leaf_at front n)) in
+        let lt = all_before front back w ends.1 other ends.2 end (omega arith) in
+        let s = c.count end (omega arith) in
+        (front_took front back w end ends.1 c.within (omega arith) (omega arith), some_left (slice_set front h end) back ends.1 (omega (arith, s, lt)))
+
+    back_meets : (front back : List ℕ) → AreEndsIn (Some n) front back → take h back ≡ take h front → BackTaken (Some n) front back (leaf_at back n) h (get_or front h 0) × (between (Some n) front (slice_set back h (get_or front h 0)) ≡ [])
+    back_meets front back ends e =
+        let w = ends.1 in
+        let o = other_here back front w ends.0 e in
+        let now = here back w in
+        let s = (cut_of back w).count (get_or front h 0) o.0 in
+        let same = o.1 in
+        let le = ends.2 in
+        (back_took front back w (get_or front h 0) ends.0 (omega arith) (omega arith), slice_none (pairs_of n) _ _ (same ∙ sym s))
+
+    back_leaves : (front back : List ℕ) → AreEndsIn (Some n) front back → (take h back ≡ take h front → ⊥) → BackTaken (Some n) front back (leaf_at back n) h 0 × (between (Some n) front (slice_set back h 0) ≡ [] → ⊥)
+    back_leaves front back ends other =
+        let w = ends.1 in
+        let lt = all_after front back w ends.0 other ends.2 in
+        let s = (cut_of back w).count 0 (omega arith) in
+        (back_took front back w 0 ends.0 (omega arith) (omega arith), some_left front (slice_set back h 0) (moved back w 0 (omega arith)) (omega (arith, s, lt)))
+
+  -- ---- The same in a map.
+  pub front_met : (m : Map K V) (n leaf : Node K V) (front back : List ℕ) (last : ℕ) → m ≡ Some n → IsSoundMap m → AreEndsIn m front back → leaf ≡ leaf_at front n → last ≡ length front - 1 → take last front ≡ take last back → FrontTaken m front back leaf last (get_or back last 0) × (between m (slice_set front last (get_or back last 0)) back ≡ [])
+  front_met None n leaf front back last is o ends at la e = absurd cc
+  front_met (Some root) n leaf front back last is o ends at la e =
+      let same : n ≡ root = cc in
+      let long = ends.0.1 o.0 o.2.1 in
+      let h : o.0 ≡ last = omega arith in
+      subst (λ d. FrontTaken (Some root) front back d last (get_or back last 0) × (between (Some root) (slice_set front last (get_or back last 0)) back ≡ [])) (ap (leaf_at front) (sym same) ∙ sym at) (front_meets root last (subst (λ j. IsLevelled j root) h o.2.1) front back ends e)
+
+  pub front_apart : (m : Map K V) (n leaf : Node K V) (front back : List ℕ) (last : ℕ) → m ≡ Some n → IsSoundMap m → AreEndsIn m front back → leaf ≡ leaf_at front n → last ≡ length front - 1 → (take last front ≡ take last back → ⊥) → FrontTaken m front back leaf last (length (own_pairs leaf)) × (between m (slice_set front last (length (own_pairs leaf))) back ≡ [] → ⊥)
+  front_apart None n leaf front back last is o ends at la e = absurd cc
+  front_apart (Some root) n leaf front back last is o ends at la e =
+      let same : n ≡ root = cc in
+      let long = ends.0.1 o.0 o.2.1 in
+      let h : o.0 ≡ last = omega arith in
+      subst (λ d. FrontTaken (Some root) front back d last (length (own_pairs d)) × (between (Some root) (slice_set front last (length (own_pairs d))) back ≡ [] → ⊥)) (ap (leaf_at front) (sym same) ∙ sym at) (front_leaves root last (subst (λ j. IsLevelled j root) h o.2.1) front back ends e)
+
+  pub back_met : (m : Map K V) (n leaf : Node K V) (front back : List ℕ) (last : ℕ) → m ≡ Some n → IsSoundMap m → AreEndsIn m front back → leaf ≡ leaf_at back n → last ≡ length back - 1 → take last back ≡ take last front → BackTaken m front back leaf last (get_or front last 0) × (between m front (slice_set back last (get_or front last 0)) ≡ [])
+  back_met None n leaf front back last is o ends at la e = absurd cc
+  back_met (Some root) n leaf front back last is o ends at la e =
+      let same : n ≡ root = cc in
+      let long = ends.1.1 o.0 o.2.1 in
+      let h : o.0 ≡ last = omega arith in
+      subst (λ d. BackTaken (Some root) front back d last (get_or front last 0) × (between (Some root) front (slice_set back last (get_or front last 0)) ≡ [])) (ap (leaf_at back) (sym same) ∙ sym at) (back_meets root last (subst (λ j. IsLevelled j root) h o.2.1) front back ends e)
+
+  pub back_apart : (m : Map K V) (n leaf : Node K V) (front back : List ℕ) (last : ℕ) → m ≡ Some n → IsSoundMap m → AreEndsIn m front back → leaf ≡ leaf_at back n → last ≡ length back - 1 → (take last back ≡ take last front → ⊥) → BackTaken m front back leaf last 0 × (between m front (slice_set back last 0) ≡ [] → ⊥)
+  back_apart None n leaf front back last is o ends at la e = absurd cc
+  back_apart (Some root) n leaf front back last is o ends at la e =
+      let same : n ≡ root = cc in
+      let long = ends.1.1 o.0 o.2.1 in
+      let h : o.0 ≡ last = omega arith in
+      subst (λ d. BackTaken (Some root) front back d last 0 × (between (Some root) front (slice_set back last 0) ≡ [] → ⊥)) (ap (leaf_at back) (sym same) ∙ sym at) (back_leaves root last (subst (λ j. IsLevelled j root) h o.2.1) front back ends e)
+
+module _ {X : Type 0} where
+  get_seam : (a b : List X) (x : X) → slice_get (a ++ x ∷ b) (length a) ≡ Some x
+  get_seam [] b x = refl
+  get_seam (y ∷ a) b x = get_seam a b x
+
+module _ {K V : Type 0} where
+  -- The pair at a place, among the map's.
+  pub place_get : (m : Map K V) (n : Node K V) (path : List ℕ) (x : K × V) → m ≡ Some n → IsSoundMap m → IsPlace path n → place_pair path n ≡ Some x → slice_get (entries m) (length (before_pair path n)) ≡ Some x
+  place_get None n path x is o p e = absurd cc
+  place_get (Some root) n path x is o p e =
+      let same : n ≡ root = cc in
+      let c = place_pairs path o.0 n (subst (IsLevelled o.0) (sym same) o.2.1) p in
+      ap (λ r. slice_get (pairs_of r) (length (before_pair path n))) (sym same) ∙ ap (λ xs. slice_get xs (length (before_pair path n))) c.parts ∙ get_seam (before_pair path n) (after_pair path n) c.pair ∙ sym c.is ∙ e

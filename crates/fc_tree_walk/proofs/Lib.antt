@@ -1,11 +1,6 @@
-pub mod Cells
-pub mod Trails
-pub mod Meetings
-pub mod Seeking
-pub mod Spans
-pub mod SpanEnds
 pub mod GapFacts
 pub mod Bounds
-pub mod Steps
+pub mod Slices
+pub mod Meetings
 pub mod Leaves
-pub mod Runs
+pub mod Betweens

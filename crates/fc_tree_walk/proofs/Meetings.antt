@@ -1,19 +1,12 @@
--- Two trails down one tree have the same places where as many pairs are before the one as of the other.
-use Rattle.std.proofs.Common.{◌≡◌, ℕ, zero, suc, ◌+◌, ◌-◌, ◌<◌, ◌≤◌, List, [], ◌∷◌, ◌++◌, length, get_or, take, drop, refl, sym, ap, subst, ◌∙◌, arith, Some, None, ◌⊎◌, inl, inr, length-append}
-use Rattle.std.specs.Borrow.{Bor}
+-- Two paths down one tree to gaps of leaves are the same where as many pairs are before the one as before the other.
+use Rattle.std.proofs.Common.{◌≡◌, ℕ, zero, suc, ◌+◌, ◌-◌, ◌<◌, ◌≤◌, List, [], ◌∷◌, ◌++◌, length, refl, sym, ap, subst, ◌∙◌, arith, ◌⊎◌, inl, inr, length-append}
 use Rattle.std.proofs.lemmas.Bool.{cases_lt}
-use Rattle.std.proofs.lemmas.List.{length-map}
 use Rattle.fc_tree_node.specs.declared.node.Node.{Node}
 use Rattle.fc_tree_node.specs.Node.{own_pairs, child_at, pairs_of, IsLevelled}
-use Rattle.fc_tree_node.specs.Path.{IsPath, before_gap, after_gap}
+use Rattle.fc_tree_node.specs.Path.{IsPath, before_gap}
 use Rattle.fc_tree_node.specs.Place.{before_child, before_own}
-use Rattle.fc_tree_node.proofs.Gaps.{drop_item, item_there, own_pair, before_child_pair, after_child_pair, leaf_gap, inner_gap, gap_pairs}
+use Rattle.fc_tree_node.proofs.Gaps.{item_there, own_pair, before_child_pair, after_child_pair, leaf_gap, inner_gap, gap_pairs}
 use Rattle.fc_tree_node.proofs.Pairs.{child_below}
-use Rattle.fc_tree_node.specs.Tree.{Map, IsSoundMap}
-use Rattle.fc_tree_node.proofs.Lists.{length_take}
-use Rattle.fc_tree_walk.specs.Span.{between}
-use Rattle.fc_tree_walk.proofs.Trails.{chain_of_trail, chain_before_trail, chain_after, trail_way, trail_depth, trail_entries}
-use Rattle.fc_tree_walk.specs.Trail.{after_trail, before_trail, places_of, IsTrailFrom, IsTrail}
 
 module _ {K V : Type 0} where
   -- How many pairs stand in the child at a place.
@@ -96,46 +89,3 @@ module _ {K V : Type 0} where
       let c = length-append (before_child n i) (before_gap q (child_at n i)) in
       let r = same_path h (child_at n i) p q (child_below h n i l v.0).1 v.1 x (omega arith) (omega arith) (omega (arith, y, b, c)) in
       ap (λ k. k ∷ p) s ∙ ap (λ z. j ∷ z) r
-
-  -- Trails with as many pairs ahead have the same places.
-  pub same_places : (m : Map K V) (a b : List (Bor (Node K V) × ℕ)) → IsSoundMap m → IsTrail m a → IsTrail m b → length (before_trail a) ≡ length (before_trail b) → places_of a ≡ places_of b
-  same_places None a b o t u e = ap places_of (t ∙ sym u)
-  same_places (Some root) a b o t u e =
-      let lead = λ (s : List (Bor (Node K V) × ℕ)) (w : IsTrailFrom root s). chain_before_trail s root (chain_of_trail s root w) in
-      let long = λ (s : List (Bor (Node K V) × ℕ)) (w : IsTrailFrom root s). length-map s (λ x. x.1) ∙ trail_depth o.0 s root o.2.1 w in
-      same_path o.0 root (places_of a) (places_of b) o.2.1 (trail_way a root t) (trail_way b root u) (long a t) (long b u) (ap length (sym (lead a t)) ∙ e ∙ ap length (lead b u))
-
-  -- Trails with the same places have the same pairs on either side.
-  pub same_sides : (m : Map K V) (a b : List (Bor (Node K V) × ℕ)) → IsTrail m a → IsTrail m b → places_of a ≡ places_of b → (before_trail a ≡ before_trail b) × (after_trail a ≡ after_trail b)
-  same_sides None a b t u e = (ap before_trail (t ∙ sym u), ap after_trail (t ∙ sym u))
-  same_sides (Some root) a b t u e =
-      let c = chain_of_trail a root t in
-      let d = chain_of_trail b root u in
-      (chain_before_trail a root c ∙ ap (λ r. before_gap r root) e ∙ sym (chain_before_trail b root d), chain_after a root c ∙ ap (λ r. after_gap r root) e ∙ sym (chain_after b root d))
-
-  -- Nothing is between two trails exactly where their places are the same.
-  pub met : (m : Map K V) (a b : List (Bor (Node K V) × ℕ)) → IsSoundMap m → IsTrail m a → IsTrail m b → places_of a ≡ places_of b → between a b ≡ []
-  met m a b o t u e =
-      let f = ap length (same_sides m a b t u e).0 in
-      let none : length (before_trail b) - length (before_trail a) ≡ 0 = omega arith in
-      ap (λ n. take n (after_trail a)) none
-
-  pub apart : (m : Map K V) (a b : List (Bor (Node K V) × ℕ)) → IsSoundMap m → IsTrail m a → IsTrail m b → length (before_trail a) ≤ length (before_trail b) → between a b ≡ [] → places_of a ≡ places_of b
-  apart m a b o t u le e =
-      let n = length (before_trail b) - length (before_trail a) in
-      let f = ap length (trail_entries m a o t ∙ sym (trail_entries m b o u)) in
-      let x = length-append (before_trail a) (after_trail a) in
-      let y = length-append (before_trail b) (after_trail b) in
-      let z = length_take n (after_trail a) (omega arith) in
-      let w = ap length e in
-      same_places m a b o t u (omega arith)
-
-  -- One more place from the leaf upwards.
-  pub places_up : (s t : List (Bor (Node K V) × ℕ)) (k : ℕ) → 0 < k → k ≤ length s → length s ≡ length t → get_or (places_of s) (k - 1) 0 ≡ get_or (places_of t) (k - 1) 0 → drop k (places_of s) ≡ drop k (places_of t) → drop (k - 1) (places_of s) ≡ drop (k - 1) (places_of t)
-  places_up s t k h le e f g =
-      let a = length-map s (λ x. x.1) in
-      let b = length-map t (λ x. x.1) in
-      let n : suc (k - 1) ≡ k = omega arith in
-      drop_item (places_of s) (k - 1) 0 (omega (arith, a)) ∙ ap (λ p. p ∷ drop (suc (k - 1)) (places_of s)) f
-      ∙ ap (λ p. get_or (places_of t) (k - 1) 0 ∷ p) (ap (λ j. drop j (places_of s)) n ∙ g ∙ sym (ap (λ j. drop j (places_of t)) n))
-      ∙ sym (drop_item (places_of t) (k - 1) 0 (omega (arith, b)))

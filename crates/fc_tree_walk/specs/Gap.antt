@@ -1,8 +1,7 @@
 -- Gaps of the leaves of a tree: each gap between two pairs is the gap of one leaf.
-use Rattle.std.specs.Prelude.{◌≡◌, ℕ, zero, suc, ◌+◌, ◌-◌, ◌≤◌, List, [], ◌∷◌, ◌++◌, length, Some, None}
+use Rattle.std.specs.Prelude.{◌≡◌, ℕ, zero, suc, ◌-◌, ◌≤◌, List, [], ◌∷◌, ◌++◌, length, Some, None}
 use Rattle.fc_tree_node.specs.declared.node.Node.{Node}
-use Rattle.fc_tree_node.specs.Node.{IsLevelled}
-use Rattle.fc_tree_node.specs.Path.{IsPath, before_gap}
+use Rattle.fc_tree_node.specs.Path.{before_gap}
 use Rattle.fc_tree_node.specs.LeafGap.{IsLeafGap}
 use Rattle.fc_tree_node.specs.Tree.{Map}
 use Rattle.fc_tree_node.specs.TreePlace.{before_gap_in}

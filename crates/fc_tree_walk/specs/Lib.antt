@@ -1,4 +1,2 @@
-pub mod Stack
-pub mod Trail
 pub mod Span
 pub mod Gap

@@ -1,10 +1,7 @@
-//! Ways through a tree from pair to pair: trails and paths to gaps between pairs.
+//! Ways through a tree from pair to pair: paths to gaps between pairs, and the pairs between two of them.
 #![tactic(auto)]
 
-pub mod copy_stack;
 pub mod ends;
 pub mod gaps;
 mod run;
-pub mod seek;
 pub mod span;
-pub mod trail;

@@ -1,93 +1,150 @@
-//! Runs: pairs of one leaf that an end of a walk takes all at once.
-ghost use Rattle.std.specs.Prelude.{◌≡◌, ℕ, ◌-◌, ◌<◌, ◌≤◌, ◌↔◌, List, [], ◌∷◌, ◌++◌, length, take, None, IsTrue};
-ghost use Rattle.std.specs.Borrow.{Bor};
-ghost use Rattle.fc_tree_node.specs.Node.{own_pairs};
-ghost use Rattle.fc_tree_walk.specs.Span.{between, linked, AreEnds};
-ghost use Rattle.fc_tree_walk.specs.Trail.{before_trail, places_of};
+//! Steps of a walk's ends from leaf to leaf: each takes all pairs of its leaf at once, as far as the other end.
+ghost use Rattle.std.specs.Prelude.{◌≡◌, ◌+◌, ◌-◌, ◌<◌, ◌≤◌, ◌↔◌, [], ◌∷◌, ◌++◌, length, take, Some, IsTrue, slice_get, slice_range};
+ghost use Rattle.fc_tree_node.specs.Leaf.{leaf_at};
+ghost use Rattle.fc_tree_node.specs.Node.{own_pairs, IsLevelled};
+ghost use Rattle.fc_tree_node.specs.Path.{IsPath};
+ghost use Rattle.fc_tree_node.specs.Tree.{entries, root_of, IsSoundMap};
+ghost use Rattle.fc_tree_node.specs.TreePlace.{before_gap_in};
+ghost use Rattle.fc_tree_walk.specs.Gap.{IsGapIn, AreEndsIn};
+ghost use Rattle.fc_tree_walk.specs.Span.{between};
 
-use crate::trail::{Trail, step_first, step_last};
+use crate::gaps::{first_gap, push_gap_before, steps_to_next, steps_to_previous};
 use fc_tree_node::node::Node;
+use fc_tree_node::path::Path;
+use fc_tree_search::lend::pair_at;
 
-// Whether two trails of one root lead to gaps of the same leaf.
-fn is_same_leaf<K, V>(a: &Trail<'_, K, V>, b: &Trail<'_, K, V>) -> bool
+// The leaf of a gap.
+fn leaf_of<'a, K, V>(node: &'a Node<K, V>, gap: &[u8]) -> &'a Node<K, V>
+    requires some { 0 < length gap.now }
+    requires path { IsPath gap.now node.now }
+    requires levels { IsLevelled (length gap.now - 1) node.now }
+    ensures { result.now ≡ leaf_at gap.now node.now }
+{
+    if gap.len() == 1 {
+        node
+    } else {
+        leaf_of(node.child(gap[0] as usize), &gap[1..])
+    }
+}
+
+// The pairs of a leaf between two places.
+fn part<'a, K, V>(leaf: &'a Node<K, V>, start: usize, end: usize) -> &'a [(K, V)]
+    requires order { start ≤ end }
+    requires fits { end ≤ length (own_pairs leaf.now) }
+    ensures { result.now ≡ slice_range (own_pairs leaf.now) start end }
+{
+    &leaf.pairs()[start..end]
+}
+
+// Whether two gaps of one tree are of the same leaf.
+fn is_same_leaf(a: &Path, b: &Path) -> bool
     requires some { 0 < length a.now }
     requires long { length a.now ≡ length b.now }
-    ensures { IsTrue result ↔ (take (length a.now - 1) (places_of a.now) ≡ take (length a.now - 1) (places_of b.now)) }
+    ensures { IsTrue result ↔ (take (length a.now - 1) a.now ≡ take (length a.now - 1) b.now) }
 {
     for i in 0..a.len() - 1 {
-        if a.get(i).1 != b.get(i).1 {
+        if a.step(i) != b.step(i) {
             return false;
         }
     }
     true
 }
 
-// Up to which place the pairs of the front's leaf lie before the back, and whether the back is there.
-fn run_end<K, V>(front: &Trail<'_, K, V>, back: &Trail<'_, K, V>) -> (usize, bool)
-    requires some { 0 < length front.now }
-    requires ends { AreEnds front.now back.now }
-    ensures place { (s : List (Bor (Node K V) × ℕ)) (x : Bor (Node K V) × ℕ) → front.now ≡ s ++ x ∷ [] → (x.1 ≤ result.0) × (result.0 ≤ length (own_pairs x.0.now)) × (length (before_trail (s ++ (x.0, result.0) ∷ [])) ≤ length (before_trail back.now)) }
-    ensures met { (s : List (Bor (Node K V) × ℕ)) (x : Bor (Node K V) × ℕ) → front.now ≡ s ++ x ∷ [] → IsTrue result.1 ↔ (length (before_trail (s ++ (x.0, result.0) ∷ [])) ≡ length (before_trail back.now)) }
-{
-    if is_same_leaf(front, back) {
-        (back.top().1, true)
-    } else {
-        (front.top().0.len(), false)
-    }
-}
-
-// From which place on the pairs of the back's leaf lie after the front, and whether the front is there.
-fn run_start<K, V>(front: &Trail<'_, K, V>, back: &Trail<'_, K, V>) -> (usize, bool)
-    requires some { 0 < length back.now }
-    requires ends { AreEnds front.now back.now }
-    ensures place { (s : List (Bor (Node K V) × ℕ)) (x : Bor (Node K V) × ℕ) → back.now ≡ s ++ x ∷ [] → (result.0 ≤ x.1) × (x.1 ≤ length (own_pairs x.0.now)) × (length (before_trail front.now) ≤ length (before_trail (s ++ (x.0, result.0) ∷ []))) }
-    ensures met { (s : List (Bor (Node K V) × ℕ)) (x : Bor (Node K V) × ℕ) → back.now ≡ s ++ x ∷ [] → IsTrue result.1 ↔ (length (before_trail front.now) ≡ length (before_trail (s ++ (x.0, result.0) ∷ []))) }
-{
-    if is_same_leaf(back, front) {
-        (front.top().1, true)
-    } else {
-        (0, false)
-    }
-}
-
 /// Takes the pairs of the front's leaf from its gap on, as far as the back, and goes on after them. It answers them, and whether
 /// the front has then met the back.
 pub fn take_first_run<'a, K, V>(
-    front: &mut Trail<'a, K, V>,
-    back: &Trail<'a, K, V>,
+    root: &'a Option<Box<Node<K, V>>>,
+    front: &mut Path,
+    back: &Path,
 ) -> (&'a [(K, V)], bool)
-    requires { AreEnds front.old back.now }
-    ensures ends { AreEnds front.new back.now }
-    ensures run { between front.old back.now ≡ result.0.now ++ between front.new back.now }
-    ensures met { IsTrue result.1 ↔ (between front.new back.now ≡ []) }
+    requires sound { IsSoundMap (root_of root.now) }
+    requires ends { AreEndsIn (root_of root.now) front.old back.now }
+    ensures ends { AreEndsIn (root_of root.now) front.new back.now }
+    ensures run { between (root_of root.now) front.old back.now ≡ result.0.now ++ between (root_of root.now) front.new back.now }
+    ensures met { IsTrue result.1 ↔ (between (root_of root.now) front.new back.now ≡ []) }
 {
-    if front.len() == 0 {
+    let Some(node) = root else {
         return (&[], true);
+    };
+    let leaf = leaf_of(node, front.as_slice());
+    let last = front.len() - 1;
+    let start = front.step(last);
+    if is_same_leaf(front, back) {
+        let end = back.step(last);
+        front.set(last, end);
+        return (part(leaf, start, end), true);
     }
-    let (end, has_met) = run_end(front, back);
-    let (leaf, start) = front.top();
-    front.set_top((leaf, end));
-    (&leaf.pairs()[start..end], has_met)
+    let end = leaf.len();
+    front.set(last, end);
+    (part(leaf, start, end), false)
 }
 
 // Takes the pairs of the back's leaf before its gap, as far as the front, and goes back before them. It answers them, and
 // whether the back has then met the front.
 fn take_last_run<'a, K, V>(
-    front: &Trail<'a, K, V>,
-    back: &mut Trail<'a, K, V>,
+    root: &'a Option<Box<Node<K, V>>>,
+    front: &Path,
+    back: &mut Path,
 ) -> (&'a [(K, V)], bool)
-    requires { AreEnds front.now back.old }
-    ensures ends { AreEnds front.now back.new }
-    ensures run { between front.now back.old ≡ between front.now back.new ++ result.0.now }
-    ensures met { IsTrue result.1 ↔ (between front.now back.new ≡ []) }
+    requires sound { IsSoundMap (root_of root.now) }
+    requires ends { AreEndsIn (root_of root.now) front.now back.old }
+    ensures ends { AreEndsIn (root_of root.now) front.now back.new }
+    ensures run { between (root_of root.now) front.now back.old ≡ between (root_of root.now) front.now back.new ++ result.0.now }
+    ensures met { IsTrue result.1 ↔ (between (root_of root.now) front.now back.new ≡ []) }
 {
-    if back.len() == 0 {
+    let Some(node) = root else {
         return (&[], true);
+    };
+    let leaf = leaf_of(node, back.as_slice());
+    let last = back.len() - 1;
+    let end = back.step(last);
+    if is_same_leaf(back, front) {
+        let start = front.step(last);
+        back.set(last, start);
+        return (part(leaf, start, end), true);
     }
-    let (start, has_met) = run_start(front, back);
-    let (leaf, end) = back.top();
-    back.set_top((leaf, start));
-    (&leaf.pairs()[start..end], has_met)
+    back.set(last, 0);
+    (part(leaf, 0, end), false)
+}
+
+// Goes on past the pair after a gap, and answers that pair.
+fn pass_next<'a, K, V>(root: &'a Option<Box<Node<K, V>>>, gap: &mut Path) -> &'a (K, V)
+    requires sound { IsSoundMap (root_of root.now) }
+    requires gap { IsGapIn (root_of root.now) gap.old }
+    requires some { length (before_gap_in (root_of root.now) gap.old) < length (entries (root_of root.now)) }
+    ensures gap { IsGapIn (root_of root.now) gap.new }
+    ensures step { length (before_gap_in (root_of root.now) gap.new) ≡ length (before_gap_in (root_of root.now) gap.old) + 1 }
+    ensures pair { slice_get (entries (root_of root.now)) (length (before_gap_in (root_of root.now) gap.old)) ≡ Some result.now }
+{
+    let Some(node) = root else { unreachable!() };
+    let steps = gap.as_slice();
+    let count = steps_to_next(node, steps);
+    let last = count - 1;
+    let next = first_gap(&steps[..last], steps[last] as usize + 1, steps.len());
+    let pair = pair_at(node, &Path::of(&steps[..count]));
+    *gap = next;
+    pair
+}
+
+// Goes back past the pair before a gap, and answers that pair.
+fn pass_previous<'a, K, V>(root: &'a Option<Box<Node<K, V>>>, gap: &mut Path) -> &'a (K, V)
+    requires sound { IsSoundMap (root_of root.now) }
+    requires gap { IsGapIn (root_of root.now) gap.old }
+    requires some { 0 < length (before_gap_in (root_of root.now) gap.old) }
+    ensures gap { IsGapIn (root_of root.now) gap.new }
+    ensures step { length (before_gap_in (root_of root.now) gap.new) + 1 ≡ length (before_gap_in (root_of root.now) gap.old) }
+    ensures pair { slice_get (entries (root_of root.now)) (length (before_gap_in (root_of root.now) gap.new)) ≡ Some result.now }
+{
+    let Some(node) = root else { unreachable!() };
+    let steps = gap.as_slice();
+    let last = steps_to_previous(node, steps) - 1;
+    let mut place = Path::of(&steps[..last]);
+    place.push(steps[last] as usize - 1);
+    let mut next = Path::new();
+    push_gap_before(node, place.as_slice(), &mut next);
+    let pair = pair_at(node, &place);
+    *gap = next;
+    pair
 }
 
 /// What an end of a walk takes where its leaf has no pair left.
@@ -103,71 +160,36 @@ pub struct Step<'a, K, V> {
 
 /// Goes on over a pair, and takes the run after it.
 pub fn step_first_run<'a, K, V>(
-    front: &mut Trail<'a, K, V>,
-    back: &Trail<'a, K, V>,
+    root: &'a Option<Box<Node<K, V>>>,
+    front: &mut Path,
+    back: &Path,
 ) -> Step<'a, K, V>
-    requires ends { AreEnds front.old back.now }
-    requires some { 0 < length (between front.old back.now) }
-    ensures ends { AreEnds front.new back.now }
-    ensures pairs { between front.old back.now ≡ result.pair.now ∷ (result.run.now ++ between front.new back.now) }
-    ensures met { IsTrue result.has_met ↔ (between front.new back.now ≡ []) }
+    requires sound { IsSoundMap (root_of root.now) }
+    requires ends { AreEndsIn (root_of root.now) front.old back.now }
+    requires some { 0 < length (between (root_of root.now) front.old back.now) }
+    ensures ends { AreEndsIn (root_of root.now) front.new back.now }
+    ensures pairs { between (root_of root.now) front.old back.now ≡ result.pair.now ∷ (result.run.now ++ between (root_of root.now) front.new back.now) }
+    ensures met { IsTrue result.has_met ↔ (between (root_of root.now) front.new back.now ≡ []) }
 {
-    let pair = step_first(front);
-    let (run, has_met) = take_first_run(front, back);
+    let pair = pass_next(root, front);
+    let (run, has_met) = take_first_run(root, front, back);
     Step { pair, run, has_met }
-}
-
-/// What the front of a walk has read ahead: the next pair after its leaf, and the run after that pair.
-#[derive(Drop)]
-pub struct ReadAhead<'a, K, V> {
-    /// The pair, if there is one.
-    pub link: Option<&'a (K, V)>,
-    /// The pairs of the leaf after it.
-    pub run: &'a [(K, V)],
-    /// Whether the front has then met the back: only a step to another leaf can change that.
-    pub has_met: bool,
-}
-
-/// Goes on over the next pair and the run after it, where the front has not met the back.
-pub fn read_ahead<'a, K, V>(
-    front: &mut Trail<'a, K, V>,
-    back: &Trail<'a, K, V>,
-    has_met: bool,
-) -> ReadAhead<'a, K, V>
-    requires ends { AreEnds front.old back.now }
-    requires met { IsTrue has_met ↔ (between front.old back.now ≡ []) }
-    ensures ends { AreEnds front.new back.now }
-    ensures pairs { between front.old back.now ≡ linked result.link result.run.now ++ between front.new back.now }
-    ensures met { IsTrue result.has_met ↔ (between front.new back.now ≡ []) }
-    ensures all { result.link ≡ None → IsTrue result.has_met }
-{
-    if has_met {
-        return ReadAhead {
-            link: None,
-            run: &[],
-            has_met,
-        };
-    }
-    let Step { pair, run, has_met } = step_first_run(front, back);
-    ReadAhead {
-        link: Some(pair),
-        run,
-        has_met,
-    }
 }
 
 /// Goes back over a pair, and takes the run before it.
 pub fn step_last_run<'a, K, V>(
-    front: &Trail<'a, K, V>,
-    back: &mut Trail<'a, K, V>,
+    root: &'a Option<Box<Node<K, V>>>,
+    front: &Path,
+    back: &mut Path,
 ) -> Step<'a, K, V>
-    requires ends { AreEnds front.now back.old }
-    requires some { 0 < length (between front.now back.old) }
-    ensures ends { AreEnds front.now back.new }
-    ensures pairs { between front.now back.old ≡ between front.now back.new ++ (result.run.now ++ result.pair.now ∷ []) }
-    ensures met { IsTrue result.has_met ↔ (between front.now back.new ≡ []) }
+    requires sound { IsSoundMap (root_of root.now) }
+    requires ends { AreEndsIn (root_of root.now) front.now back.old }
+    requires some { 0 < length (between (root_of root.now) front.now back.old) }
+    ensures ends { AreEndsIn (root_of root.now) front.now back.new }
+    ensures pairs { between (root_of root.now) front.now back.old ≡ between (root_of root.now) front.now back.new ++ (result.run.now ++ result.pair.now ∷ []) }
+    ensures met { IsTrue result.has_met ↔ (between (root_of root.now) front.now back.new ≡ []) }
 {
-    let pair = step_last(back);
-    let (run, has_met) = take_last_run(front, back);
+    let pair = pass_previous(root, back);
+    let (run, has_met) = take_last_run(root, front, back);
     Step { pair, run, has_met }
 }

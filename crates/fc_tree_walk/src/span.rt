@@ -1,41 +1,43 @@
 //! The pairs between two gaps of a tree, from both ends.
 //!
-//! Each end has taken a run of pairs of its leaf, of which most steps give one: only at its end a step looks at the trail. Once the
-//! front has left its first leaf it reads one leaf ahead, so that a processor has the next leaf at hand when its pairs are asked for.
+//! Each end has taken the pairs of its leaf, of which most steps give one: only at a leaf's end a step looks at the tree, and goes
+//! one way down from the root, along the path of its gap, to the next leaf.
 ghost use Rattle.std.specs.Prelude.{◌≡◌, ◌<◌, ◌↔◌, [], ◌∷◌, ◌++◌, length, IsTrue};
 ghost use Rattle.fc_base.specs.Ascending.{IsAscending};
 ghost use Rattle.fc_base.specs.Ranges.{bound_now, is_range, within};
 ghost use Rattle.fc_tree_node.specs.Tree.{entries, root_of, IsSoundMap};
-ghost use Rattle.fc_tree_walk.specs.Span.{between, linked, AreEnds};
+ghost use Rattle.fc_tree_walk.specs.Gap.{AreEndsIn};
+ghost use Rattle.fc_tree_walk.specs.Span.{between};
 
-use crate::copy_stack::CopyStack;
-use crate::run::{ReadAhead, read_ahead, step_last_run, take_first_run};
-use crate::seek::{go_to_start, go_to_stop};
-use crate::trail::{Trail, go_to_first, go_to_last};
+use crate::ends::{first_gap_in, last_gap_in, start_gap_in, stop_gap_in};
+use crate::run::{step_first_run, step_last_run, take_first_run};
 use fc_tree_node::node::Node;
+use fc_tree_node::path::Path;
 use std::marker::Model;
 use std::ops::Bound;
 
-/// The pairs that the front has taken, those that it has read ahead, those between the gaps of two trails, and those that the back
-/// has taken.
+/// The pairs that the front has taken, those between two gaps of a tree, and those that the back has taken.
 #[derive(Drop)]
 pub struct Span<'a, K, V> {
+    root: &'a Option<Box<Node<K, V>>>,
     head: &'a [(K, V)],
-    ahead: ReadAhead<'a, K, V>,
-    front: Trail<'a, K, V>,
-    back: Trail<'a, K, V>,
     tail: &'a [(K, V)],
+    front: Path,
+    back: Path,
+    has_met: bool,
 }
 
 impl<'a, K, V> Model for Span<'a, K, V> {
     ghost use Rattle.std.specs.Prelude.{◌≡◌, ◌↔◌, [], ◌++◌, List, IsTrue};
-    ghost use Rattle.fc_tree_walk.specs.Span.{between, linked, AreEnds};
+    ghost use Rattle.fc_tree_node.specs.Tree.{root_of, IsSoundMap};
+    ghost use Rattle.fc_tree_walk.specs.Gap.{AreEndsIn};
+    ghost use Rattle.fc_tree_walk.specs.Span.{between};
 
     ghost Value = { List (K × V) };
 
-    ghost view = { λ s. s.head.now ++ ((linked s.ahead.link s.ahead.run.now ++ between s.front s.back) ++ s.tail.now) };
+    ghost view = { λ s. s.head.now ++ (between (root_of s.root.now) s.front s.back ++ s.tail.now) };
 
-    ghost invariant = { λ s. AreEnds s.front s.back × (IsTrue s.ahead.has_met ↔ (between s.front s.back ≡ [])) };
+    ghost invariant = { λ s. IsSoundMap (root_of s.root.now) × AreEndsIn (root_of s.root.now) s.front s.back × (IsTrue s.has_met ↔ (between (root_of s.root.now) s.front s.back ≡ [])) };
 }
 
 impl<'a, K, V> Span<'a, K, V> {
@@ -44,29 +46,24 @@ impl<'a, K, V> Span<'a, K, V> {
         requires { IsSoundMap (root_of root.now) }
         ensures { result ≡ entries (root_of root.now) }
     {
-        let mut front = CopyStack::new();
-        let mut back = CopyStack::new();
-        go_to_first(&mut front, root);
-        go_to_last(&mut back, root);
-        Span::from_ends(front, back)
+        Span::from_ends(root, first_gap_in(root), last_gap_in(root))
     }
 
-    // The pairs between the gaps of two trails.
-    fn from_ends(mut front: Trail<'a, K, V>, back: Trail<'a, K, V>) -> Span<'a, K, V>
-        requires { AreEnds front back }
-        ensures { result ≡ between front.entry back.entry }
+    // The pairs between two gaps.
+    fn from_ends(root: &'a Option<Box<Node<K, V>>>, front: Path, back: Path) -> Span<'a, K, V>
+        requires sound { IsSoundMap (root_of root.now) }
+        requires ends { AreEndsIn (root_of root.now) front back }
+        ensures { result ≡ between (root_of root.now) front back }
     {
-        let (head, has_met) = take_first_run(&mut front, &back);
+        let mut front = front;
+        let (head, has_met) = take_first_run(root, &mut front, &back);
         Span {
+            root,
             head,
-            ahead: ReadAhead {
-                link: None,
-                run: &[],
-                has_met,
-            },
+            tail: &[],
             front,
             back,
-            tail: &[],
+            has_met,
         }
     }
 
@@ -81,10 +78,7 @@ impl<'a, K, V> Span<'a, K, V> {
         if !self.tail.is_empty() {
             return false;
         }
-        match self.ahead.link {
-            Some(_) => false,
-            None => self.ahead.has_met,
-        }
+        self.has_met
     }
 
     /// The first of the pairs, which is then no longer there.
@@ -97,12 +91,12 @@ impl<'a, K, V> Span<'a, K, V> {
             self.head = rest;
             return pair;
         }
-        self.next_of_any_run()
+        self.next_of_any_leaf()
     }
 
     // The same wherever it lies: apart from `next`, so that a compiler takes the few lines of that one into its callers.
     #[inline(never)]
-    fn next_of_any_run(&mut self) -> &'a (K, V)
+    fn next_of_any_leaf(&mut self) -> &'a (K, V)
         requires { 0 < length self.old }
         ensures { self.old ≡ result.now ∷ self.new }
     {
@@ -110,19 +104,17 @@ impl<'a, K, V> Span<'a, K, V> {
             self.head = rest;
             return pair;
         }
-        if self.ahead.link.is_none() {
-            self.ahead = read_ahead(&mut self.front, &self.back, self.ahead.has_met);
+        if !self.has_met {
+            let step = step_first_run(self.root, &mut self.front, &self.back);
+            self.head = step.run;
+            self.has_met = step.has_met;
+            return step.pair;
         }
-        let Some(link) = self.ahead.link else {
-            let Some((pair, rest)) = self.tail.split_first() else {
-                unreachable!()
-            };
-            self.tail = rest;
-            return pair;
+        let Some((pair, rest)) = self.tail.split_first() else {
+            unreachable!()
         };
-        self.head = self.ahead.run;
-        self.ahead = read_ahead(&mut self.front, &self.back, self.ahead.has_met);
-        link
+        self.tail = rest;
+        pair
     }
 
     /// The last of the pairs, which is then no longer there.
@@ -135,12 +127,12 @@ impl<'a, K, V> Span<'a, K, V> {
             self.tail = rest;
             return pair;
         }
-        self.next_back_of_any_run()
+        self.next_back_of_any_leaf()
     }
 
-    // As `next_of_any_run`.
+    // As `next_of_any_leaf`.
     #[inline(never)]
-    fn next_back_of_any_run(&mut self) -> &'a (K, V)
+    fn next_back_of_any_leaf(&mut self) -> &'a (K, V)
         requires { 0 < length self.old }
         ensures { self.old ≡ self.new ++ result.now ∷ [] }
     {
@@ -148,19 +140,11 @@ impl<'a, K, V> Span<'a, K, V> {
             self.tail = rest;
             return pair;
         }
-        if !self.ahead.has_met {
-            let step = step_last_run(&self.front, &mut self.back);
+        if !self.has_met {
+            let step = step_last_run(self.root, &self.front, &mut self.back);
             self.tail = step.run;
-            self.ahead.has_met = step.has_met;
+            self.has_met = step.has_met;
             return step.pair;
-        }
-        if let Some(link) = self.ahead.link {
-            if let Some((pair, rest)) = self.ahead.run.split_last() {
-                self.ahead.run = rest;
-                return pair;
-            }
-            self.ahead.link = None;
-            return link;
         }
         let Some((pair, rest)) = self.head.split_last() else {
             unreachable!()
@@ -174,15 +158,12 @@ impl<'a, K, V> Span<'a, K, V> {
         ensures { result ≡ self.now }
     {
         Span {
+            root: self.root,
             head: self.head,
-            ahead: ReadAhead {
-                link: self.ahead.link,
-                run: self.ahead.run,
-                has_met: self.ahead.has_met,
-            },
-            front: self.front.copied(),
-            back: self.back.copied(),
             tail: self.tail,
+            front: self.front,
+            back: self.back,
+            has_met: self.has_met,
         }
     }
 }
@@ -199,10 +180,6 @@ impl<'a, K: Ord, V> Span<'a, K, V> {
         requires range { IsTrue (is_range K.cmp (bound_now lo.now) (bound_now hi.now)) }
         ensures { result ≡ within K.cmp (bound_now lo.now) (bound_now hi.now) (entries (root_of root.now)) }
     {
-        let mut front = CopyStack::new();
-        let mut back = CopyStack::new();
-        go_to_start(&mut front, root, lo);
-        go_to_stop(&mut back, root, hi);
-        Span::from_ends(front, back)
+        Span::from_ends(root, start_gap_in(root, lo), stop_gap_in(root, hi))
     }
 }

@@ -14,7 +14,7 @@ returns-then-place-gt1 g t c =
     let all = p ∙ ap (λ r. get_or place 0 0 ∷ r) q in
     subst (λ (r : List _). GoesOn c.args.gap.now c.push_gap_after.new.gap c.args.node.now (length (before_pair r c.args.node.now) + 1)) (sym all)
     (behind_below c.args.gap.now c.push.new.self c.push_gap_after.new.gap _ _ _ c.args.node.now c.child.result.now c.requires.levels (subst (λ r. IsPlace r c.args.node.now) all c.requires.place) c.push.ensures c.child.ensures
-     (subst (λ r. GoesOn c.push.new.self c.push_gap_after.new.gap c.child.result.now (length (before_pair r c.child.result.now) + 1)) q c.push_gap_after.ensures))
+    (subst (λ r. GoesOn c.push.new.self c.push_gap_after.new.gap c.child.result.now (length (before_pair r c.child.result.now) + 1)) q c.push_gap_after.ensures))
 
 pub returns-then-step-child_count : goal.returns-then-step-child_count
 returns-then-step-child_count g t c =

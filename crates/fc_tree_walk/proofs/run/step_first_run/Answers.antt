@@ -1,15 +1,20 @@
-use Rattle.std.proofs.Common.{◌∷◌, ap, ◌∙◌, rules}
-use Rattle.fc_tree_walk.proofs.SpanEnds.{front_gives, ends_next}
+use Rattle.std.proofs.Common.{◌∷◌, ap, ◌∙◌, arith}
+use Rattle.fc_tree_node.specs.Tree.{root_of}
+use Rattle.fc_tree_walk.proofs.Betweens.{gap_fits, some_between, next_between}
 use Rattle.fc_tree_walk.proofs.run.step_first_run.Goals as goal
 
-pub step_first-pair-requires : goal.step_first-pair-requires
-step_first-pair-requires g c = (search rules, front_gives _ _ c.requires.ends c.requires.some)
+pub pass_next-pair-requires-clause-some : goal.pass_next-pair-requires-clause-some
+pass_next-pair-requires-clause-some g c =
+    let m = root_of c.args.root.now in
+    let a = some_between m c.requires.sound c.args.front.now c.args.back.now c.requires.some in
+    let b = gap_fits m c.requires.sound c.args.back.now c.requires.ends.1 in
+    omega arith
 
-pub take_first_run-has_met-requires : goal.take_first_run-has_met-requires
-take_first_run-has_met-requires g c =
-    (search rules, (ends_next _ _ _ _ c.requires.ends c.requires.some c.step_first-pair.ensures.pair c.step_first-pair.ensures.trail).0)
+pub take_first_run-has_met-requires-clause-ends : goal.take_first_run-has_met-requires-clause-ends
+take_first_run-has_met-requires-clause-ends g c =
+    (next_between (root_of c.args.root.now) c.requires.sound c.args.front.now c.args.back.now c.requires.ends c.requires.some _ _ c.pass_next-pair.ensures.gap c.pass_next-pair.ensures.step c.pass_next-pair.ensures.pair).0
 
 pub returns-clause-pairs : goal.returns-clause-pairs
 returns-clause-pairs g c =
-    (ends_next _ _ _ _ c.requires.ends c.requires.some c.step_first-pair.ensures.pair c.step_first-pair.ensures.trail).1
-    ∙ ap (λ zs. c.step_first-pair.result.now ∷ zs) c.take_first_run-has_met.ensures.run
+    (next_between (root_of c.args.root.now) c.requires.sound c.args.front.now c.args.back.now c.requires.ends c.requires.some _ _ c.pass_next-pair.ensures.gap c.pass_next-pair.ensures.step c.pass_next-pair.ensures.pair).1
+    ∙ ap (λ xs. c.pass_next-pair.result.now ∷ xs) c.take_first_run-has_met.ensures.run

@@ -1,17 +1,17 @@
-use Rattle.std.proofs.Common.{◌∷◌, [], ◌++◌, ap, ◌∙◌, append_assoc, rules}
+use Rattle.std.proofs.Common.{◌∷◌, ◌++◌, [], ap, ◌∙◌, arith, append_assoc}
+use Rattle.fc_tree_node.specs.Tree.{root_of}
 use Rattle.fc_tree_walk.specs.Span.{between}
-use Rattle.fc_tree_walk.proofs.SpanEnds.{back_gives, ends_back}
+use Rattle.fc_tree_walk.proofs.Betweens.{some_between, previous_between}
 use Rattle.fc_tree_walk.proofs.run.step_last_run.Goals as goal
 
-pub step_last-pair-requires : goal.step_last-pair-requires
-step_last-pair-requires g c = (search rules, back_gives _ _ c.requires.ends c.requires.some)
+pub pass_previous-pair-requires-clause-some : goal.pass_previous-pair-requires-clause-some
+pass_previous-pair-requires-clause-some g c = let a = some_between (root_of c.args.root.now) c.requires.sound c.args.front.now c.args.back.now c.requires.some in omega arith
 
-pub take_last_run-has_met-requires : goal.take_last_run-has_met-requires
-take_last_run-has_met-requires g c =
-    (search rules, (ends_back _ _ _ _ c.requires.ends c.requires.some c.step_last-pair.ensures.pair c.step_last-pair.ensures.trail).0)
+pub take_last_run-has_met-requires-clause-ends : goal.take_last_run-has_met-requires-clause-ends
+take_last_run-has_met-requires-clause-ends g c =
+    (previous_between (root_of c.args.root.now) c.requires.sound c.args.front.now c.args.back.now c.requires.ends c.requires.some _ _ c.pass_previous-pair.ensures.gap c.pass_previous-pair.ensures.step c.pass_previous-pair.ensures.pair).0
 
 pub returns-clause-pairs : goal.returns-clause-pairs
 returns-clause-pairs g c =
-    (ends_back _ _ _ _ c.requires.ends c.requires.some c.step_last-pair.ensures.pair c.step_last-pair.ensures.trail).1
-    ∙ ap (λ zs. zs ++ c.step_last-pair.result.now ∷ []) c.take_last_run-has_met.ensures.run
-    ∙ append_assoc (between c.args.front.now c.take_last_run-has_met.new.back) c.take_last_run-has_met.result.0.now (c.step_last-pair.result.now ∷ [])
+    (previous_between (root_of c.args.root.now) c.requires.sound c.args.front.now c.args.back.now c.requires.ends c.requires.some _ _ c.pass_previous-pair.ensures.gap c.pass_previous-pair.ensures.step c.pass_previous-pair.ensures.pair).1
+    ∙ ap (λ xs. xs ++ c.pass_previous-pair.result.now ∷ []) c.take_last_run-has_met.ensures.run ∙ append_assoc (between (root_of c.args.root.now) c.args.front.now c.take_last_run-has_met.new.back) c.take_last_run-has_met.result.0.now (c.pass_previous-pair.result.now ∷ [])

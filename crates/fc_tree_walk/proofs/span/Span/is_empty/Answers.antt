@@ -1,6 +1,6 @@
 use Rattle.std.proofs.Common.{◌≡◌, ◌∙◌, sym, ap, length, true, false, arith}
 use Rattle.std.specs.Bool.{◌==◌}
-use Rattle.fc_tree_walk.proofs.SpanEnds.{parts_length}
+use Rattle.fc_tree_walk.proofs.Slices.{parts_length}
 use Rattle.fc_tree_walk.proofs.span.Span.is_empty.Goals as goal
 
 pub returns-then-not-is_empty : goal.returns-then-not-is_empty

@@ -1,9 +1,10 @@
-use Rattle.std.proofs.Common.{◌∙◌, rules}
-use Rattle.fc_tree_walk.proofs.SpanEnds.{ends_whole}
+use Rattle.std.proofs.Common.{◌∙◌}
+use Rattle.fc_tree_node.specs.Tree.{root_of}
+use Rattle.fc_tree_walk.proofs.Betweens.{whole_between}
 use Rattle.fc_tree_walk.proofs.span.Span.whole.Goals as goal
 
-pub from_ends-requires : goal.from_ends-requires
-from_ends-requires g c = (search rules, (search rules, (ends_whole _ _ _ c.requires c.go_to_first.ensures.trail c.go_to_last.ensures.trail c.go_to_first.ensures.rest c.go_to_last.ensures.lead).0))
+pub from_ends-requires-clause-ends : goal.from_ends-requires-clause-ends
+from_ends-requires-clause-ends g c = (whole_between (root_of c.args.root.now) c.requires _ _ c.first_gap_in.ensures.gap c.last_gap_in.ensures.gap c.first_gap_in.ensures.front c.last_gap_in.ensures.back).0
 
 pub returns : goal.returns
-returns g c = c.from_ends.ensures ∙ (ends_whole _ _ _ c.requires c.go_to_first.ensures.trail c.go_to_last.ensures.trail c.go_to_first.ensures.rest c.go_to_last.ensures.lead).1
+returns g c = c.from_ends.ensures ∙ (whole_between (root_of c.args.root.now) c.requires _ _ c.first_gap_in.ensures.gap c.last_gap_in.ensures.gap c.first_gap_in.ensures.front c.last_gap_in.ensures.back).1
