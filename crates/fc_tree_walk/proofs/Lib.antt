@@ -6,3 +6,4 @@ pub mod Slices
 pub mod Meetings
 pub mod Leaves
 pub mod Betweens
+pub mod Ways
