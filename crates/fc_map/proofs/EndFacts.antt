@@ -15,24 +15,9 @@ use Rattle.fc_map.specs.Writing.{Stretch, wrote_first, wrote_last}
 use Rattle.fc_map.proofs.ShapeFacts.{gap_stays, entries_written}
 use Rattle.fc_tree_node.specs.TreePlace.{IsPlaceIn, pair_in, before_gap_in, before_pair_in}
 use Rattle.fc_map.specs.Lends.{written_in}
-use Rattle.fc_tree_walk.specs.Trail.{after_trail, before_trail, places_of, IsTrail}
 use Rattle.fc_tree_walk.proofs.Meetings.{same_path}
-use Rattle.fc_tree_walk.proofs.GapFacts.{one_height}
-use Rattle.fc_tree_walk.proofs.Trails.{chain_of_trail, chain_before_trail, trail_way, trail_depth, trail_entries}
 
 module _ {K V : Type 0} where
-  -- the gap that a trail leads to
-  pub record IsEndOf (m : Map K V) (path : List ℕ) (s : List (Bor (Node K V) × ℕ)) : Type 0 where
-    pub slot : IsGapIn m path
-    pub count : length (before_gap_in m path) ≡ length (before_trail s)
-
-  pub trail_end : (m : Map K V) (s : List (Bor (Node K V) × ℕ)) → IsSoundMap m → IsTrail m s → IsEndOf m (places_of s) s
-  trail_end None s sound t = rw t (record { slot = refl; count = refl })
-  trail_end (Some root) s sound t =
-      let h = sound.0 in
-      let long : length (places_of s) ≡ h + 1 = length-map s (λ x. x.1) ∙ trail_depth h s root sound.2.1 t in
-      record { slot = (trail_way s root t, λ k l. long ∙ ap (λ x. x + 1) (one_height h k root sound.2.1 l)); count = ap length (sym (chain_before_trail s root (chain_of_trail s root t))) }
-
   -- gaps with as many pairs ahead are the same
   pub same_gap : (m : Map K V) (a b : List ℕ) → IsSoundMap m → IsGapIn m a → IsGapIn m b → length (before_gap_in m a) ≡ length (before_gap_in m b) → a ≡ b
   same_gap None a b sound s t e = s ∙ sym t
@@ -62,24 +47,6 @@ module _ {K V : Type 0} where
   pair_there (Some root) path sound place =
       let c = place_pairs path sound.0 root sound.2.1 place in
       ap (λ s. slice_get s (length (before_pair path root))) c.parts ∙ pair_at (before_pair path root) (after_pair path root) c.pair ∙ sym c.is
-
-  -- the two ends of a walk
-  pub record AreSpread (m : Map K V) (front back : List ℕ) (a b : List (Bor (Node K V) × ℕ)) : Type 0 where
-    pub ends : length (before_gap_in m front) ≤ length (before_gap_in m back) → AreEndsIn m front back
-    pub before_child_is : length (before_gap_in m front) ≡ length (before_trail a)
-    pub front_is : length (before_gap_in m front) + length (after_trail a) ≡ length (entries m)
-    pub back_is : length (before_gap_in m back) ≡ length (before_trail b)
-
-  pub spread : (m : Map K V) (front back : List ℕ) (a b : List (Bor (Node K V) × ℕ)) → IsSoundMap m → IsTrail m a → IsTrail m b → front ≡ places_of a → back ≡ places_of b → AreSpread m front back a b
-  spread m front back a b sound t u e f =
-      let x = trail_end m a sound t in
-      let y = trail_end m b sound u in
-      let s : IsGapIn m front = subst (IsGapIn m) (sym e) x.slot in
-      let r : IsGapIn m back = subst (IsGapIn m) (sym f) y.slot in
-      let p : length (before_gap_in m front) ≡ length (before_trail a) = ap (λ q. length (before_gap_in m q)) e ∙ x.count in
-      let q : length (before_gap_in m back) ≡ length (before_trail b) = ap (λ q. length (before_gap_in m q)) f ∙ y.count in
-      let all = ap length (sym (trail_entries m a sound t)) ∙ length-append (before_trail a) (after_trail a) in
-      record { ends = λ le. (s, r, le); before_child_is = p; front_is = omega (arith, p, all); back_is = q }
 
 pub text_same : (xs ys : List ℕ) (r : Bool) → r ≡ pointwise nat_eq xs ys → xs ≡ ys → r ≡ true
 text_same xs ys true e s = refl

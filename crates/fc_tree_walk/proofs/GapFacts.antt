@@ -45,7 +45,7 @@ back_is (i ∷ j ∷ gap) (suc last) k = ap (λ p. i ∷ p) (back_is (j ∷ gap)
 
 module _ {K V : Type 0} where
   -- how many pairs are before a node's own pair: those that lead to the child before it, and that child's
-  leaf_before_own : (n : Node K V) (i : ℕ) → IsLevelled 0 n → i < length (own_pairs n) → length (before_own n i) ≡ length (before_child n i)
+  pub leaf_before_own : (n : Node K V) (i : ℕ) → IsLevelled 0 n → i < length (own_pairs n) → length (before_own n i) ≡ length (before_child n i)
   leaf_before_own n i l h =
       let x = (item_there (own_pairs n) i h).0 in
       let a = ap length (own_pair 0 n i x l h) ∙ length-append (before_own n i) _ in
@@ -53,11 +53,11 @@ module _ {K V : Type 0} where
       let c = ap length (after_child_pair n i x h) in
       omega (arith, a, b, c)
 
-  inner_length : (h : ℕ) (n : Node K V) (i : ℕ) → IsLevelled (suc h) n → i ≤ length (own_pairs n) → length (pairs_of n) ≡ length (before_child n i) + (length (pairs_of (child_at n i)) + length (after_child n i))
+  pub inner_length : (h : ℕ) (n : Node K V) (i : ℕ) → IsLevelled (suc h) n → i ≤ length (own_pairs n) → length (pairs_of n) ≡ length (before_child n i) + (length (pairs_of (child_at n i)) + length (after_child n i))
   inner_length h n i l le =
       ap length (inner_gap n i l.1 le) ∙ length-append (before_child n i) _ ∙ ap (λ m. length (before_child n i) + m) (length-append (pairs_of (child_at n i)) (after_child n i))
 
-  inner_before : (h : ℕ) (n : Node K V) (i : ℕ) → IsLevelled (suc h) n → i < length (own_pairs n) → length (before_own n i) ≡ length (before_child n i) + length (pairs_of (child_at n i))
+  pub inner_before : (h : ℕ) (n : Node K V) (i : ℕ) → IsLevelled (suc h) n → i < length (own_pairs n) → length (before_own n i) ≡ length (before_child n i) + length (pairs_of (child_at n i))
   inner_before h n i l k =
       let x = (item_there (own_pairs n) i k).0 in
       let a = ap length (own_pair (suc h) n i x l k) ∙ length-append (before_own n i) _ in
@@ -208,7 +208,7 @@ module _ {K V : Type 0} where
   last_child gap n steps s x k = subst (λ g. IsLast g n (steps + 1)) (sym s.path_is) (rw (add-one steps) (last_below _ _ _ n steps s.le s.levels x k))
 
   -- all pairs of a node are before the end of it
-  end_leaf : (n : Node K V) (i : ℕ) → IsLevelled 0 n → length (own_pairs n) ≤ i → length (before_child n i) ≡ length (pairs_of n)
+  pub end_leaf : (n : Node K V) (i : ℕ) → IsLevelled 0 n → length (own_pairs n) ≤ i → length (before_child n i) ≡ length (pairs_of n)
   end_leaf n i l h =
       let b = ap length (leaf_gap n i l.1) ∙ length-append (before_child n i) (after_child n i) in
       let c = ap length (after_none n i h) in

@@ -18,7 +18,7 @@ use Rattle.fc_tree_node.proofs.Weaves.{after_nil}
 use Rattle.fc_tree_walk.specs.Gap.{AreEndsIn}
 use Rattle.fc_tree_walk.specs.Span.{between}
 use Rattle.fc_tree_walk.proofs.Meetings.{earlier}
-use Rattle.fc_tree_walk.proofs.Slices.{slice_none, slice_length, slice_split, slice_inner}
+use Rattle.fc_tree_walk.proofs.Slices.{get_seam, slice_none, slice_length, slice_split, slice_inner}
 
 no_items : (q : List ℕ) → length q ≡ 0 → q ≡ []
 no_items [] e = refl
@@ -302,11 +302,6 @@ module _ {K V : Type 0} where
       let long = ends.1.1 o.0 o.2.1 in
       let h : o.0 ≡ last = omega arith in
       subst (λ d. BackTaken (Some root) front back d last 0 × (between (Some root) front (slice_set back last 0) ≡ [] → ⊥)) (ap (leaf_at back) (sym same) ∙ sym at) (back_leaves root last (subst (λ j. IsLevelled j root) h o.2.1) front back ends e)
-
-module _ {X : Type 0} where
-  get_seam : (a b : List X) (x : X) → slice_get (a ++ x ∷ b) (length a) ≡ Some x
-  get_seam [] b x = refl
-  get_seam (y ∷ a) b x = get_seam a b x
 
 module _ {K V : Type 0} where
   -- The pair at a place, among the map's.

@@ -4,3 +4,4 @@ pub mod Slices
 pub mod Meetings
 pub mod Leaves
 pub mod Betweens
+pub mod Ways

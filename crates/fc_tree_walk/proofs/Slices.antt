@@ -39,3 +39,8 @@ module _ {X : Type 0} where
   -- What an end has taken, what is between, and what the other end has taken.
   pub parts_length : (head mid tail : List X) → length (head ++ (mid ++ tail)) ≡ length head + (length mid + length tail)
   parts_length head mid tail = length-append head (mid ++ tail) ∙ ap (λ n. length head + n) (length-append mid tail)
+
+  -- The item between two parts.
+  pub get_seam : (a b : List X) (x : X) → slice_get (a ++ x ∷ b) (length a) ≡ Some x
+  get_seam [] b x = refl
+  get_seam (y ∷ a) b x = get_seam a b x

@@ -1,8 +1,9 @@
 -- Gaps of the leaves of a tree: each gap between two pairs is the gap of one leaf.
-use Rattle.std.specs.Prelude.{◌≡◌, ℕ, zero, suc, ◌-◌, ◌≤◌, List, [], ◌∷◌, ◌++◌, length, Some, None}
+use Rattle.std.specs.Prelude.{◌≡◌, ℕ, zero, suc, ◌-◌, ◌<◌, ◌≤◌, List, [], ◌∷◌, ◌++◌, length, take, Some, None}
 use Rattle.fc_tree_node.specs.declared.node.Node.{Node}
 use Rattle.fc_tree_node.specs.Path.{before_gap}
 use Rattle.fc_tree_node.specs.LeafGap.{IsLeafGap}
+use Rattle.fc_tree_node.specs.Place.{IsDescent, node_at}
 use Rattle.fc_tree_node.specs.Tree.{Map}
 use Rattle.fc_tree_node.specs.TreePlace.{before_gap_in}
 
@@ -30,3 +31,7 @@ module _ {K V : Type 0} where
   -- Two paths lead to gaps of the map, the first to no later one than the second.
   abbrev pub AreEndsIn : Map K V → List ℕ → List ℕ → Type 0
   AreEndsIn m front back = IsGapIn m front × IsGapIn m back × (length (before_gap_in m front) ≤ length (before_gap_in m back))
+
+  -- So many first steps of a path lead down to the node, and it has a step more.
+  abbrev pub LeadsTo : List ℕ → Node K V → ℕ → Node K V → Type 0
+  LeadsTo gap root level n = (level < length gap) × IsDescent (take level gap) root × (n ≡ node_at (take level gap) root)

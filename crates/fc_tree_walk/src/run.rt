@@ -1,17 +1,17 @@
 //! Steps of a walk's ends from leaf to leaf: each takes all pairs of its leaf at once, as far as the other end.
-ghost use Rattle.std.specs.Prelude.{◌≡◌, ◌+◌, ◌-◌, ◌<◌, ◌≤◌, ◌↔◌, [], ◌∷◌, ◌++◌, length, take, Some, IsTrue, slice_get, slice_range};
+ghost use Rattle.std.specs.Prelude.{◌≡◌, ◌+◌, ◌-◌, ◌<◌, ◌≤◌, ◌↔◌, [], ◌∷◌, ◌++◌, length, take, Some, IsTrue, slice_get, slice_index, slice_range};
 ghost use Rattle.fc_tree_node.specs.Leaf.{leaf_at};
-ghost use Rattle.fc_tree_node.specs.Node.{own_pairs, IsLevelled};
-ghost use Rattle.fc_tree_node.specs.Path.{IsPath};
+ghost use Rattle.fc_tree_node.specs.LeafGap.{IsLeafGap};
+ghost use Rattle.fc_tree_node.specs.Node.{own_pairs, pairs_of, IsLevelled, IsTree};
+ghost use Rattle.fc_tree_node.specs.Path.{IsPath, before_gap};
+ghost use Rattle.fc_tree_node.specs.Place.{before_own};
 ghost use Rattle.fc_tree_node.specs.Tree.{entries, root_of, IsSoundMap};
 ghost use Rattle.fc_tree_node.specs.TreePlace.{before_gap_in};
-ghost use Rattle.fc_tree_walk.specs.Gap.{IsGapIn, AreEndsIn};
+ghost use Rattle.fc_tree_walk.specs.Gap.{IsGapIn, AreEndsIn, GoesOn, LeadsTo};
 ghost use Rattle.fc_tree_walk.specs.Span.{between};
 
-use crate::gaps::{first_gap, push_gap_before, steps_to_next, steps_to_previous};
 use fc_tree_node::node::Node;
 use fc_tree_node::path::Path;
-use fc_tree_search::lend::pair_at;
 
 // The leaf of a gap.
 fn leaf_of<'a, K, V>(node: &'a Node<K, V>, gap: &[u8]) -> &'a Node<K, V>
@@ -107,6 +107,117 @@ fn take_last_run<'a, K, V>(
     (part(leaf, 0, end), false)
 }
 
+// The one node and its level, or the other where it has a pair.
+fn lower<'a, K, V>(
+    best: (&'a Node<K, V>, usize),
+    other: (&'a Node<K, V>, usize),
+    pairs: usize,
+) -> (&'a Node<K, V>, usize)
+    ensures other { 0 < pairs → result ≡ other.entry }
+    ensures best { pairs ≡ 0 → result ≡ best.entry }
+{
+    if 0 < pairs { other } else { best }
+}
+
+// The lowest node on the way to a gap that has a pair after it, and its level.
+fn place_after<'a, K, V>(root: &'a Node<K, V>, gap: &Path) -> (&'a Node<K, V>, usize)
+    requires levels { IsTree root.now }
+    requires gap { IsLeafGap gap.now root.now }
+    requires some { length (before_gap gap.now root.now) < length (pairs_of root.now) }
+    ensures way { LeadsTo gap.now root.now result.1 result.0.now }
+    ensures own { slice_index gap.now result.1 < length (own_pairs result.0.now) }
+    ensures before { length (before_gap (take result.1 gap.now) root.now) + length (before_own result.0.now (slice_index gap.now result.1)) ≡ length (before_gap gap.now root.now) }
+{
+    let last = gap.len() - 1;
+    let mut node = root;
+    let mut best = root;
+    let mut place = 0;
+    for level in 0..last {
+        let step = gap.step(level);
+        (best, place) = lower((best, place), (node, level), node.len() - step);
+        node = node.child(step);
+    }
+    lower((best, place), (node, last), node.len() - gap.step(last))
+}
+
+// The lowest node on the way to a gap that has a pair before it, and its level.
+fn place_before<'a, K, V>(root: &'a Node<K, V>, gap: &Path) -> (&'a Node<K, V>, usize)
+    requires levels { IsTree root.now }
+    requires gap { IsLeafGap gap.now root.now }
+    requires some { 0 < length (before_gap gap.now root.now) }
+    ensures way { LeadsTo gap.now root.now result.1 result.0.now }
+    ensures own { (0 < slice_index gap.now result.1) × (slice_index gap.now result.1 ≤ length (own_pairs result.0.now)) }
+    ensures before { length (before_gap (take result.1 gap.now) root.now) + length (before_own result.0.now (slice_index gap.now result.1 - 1)) + 1 ≡ length (before_gap gap.now root.now) }
+{
+    let last = gap.len() - 1;
+    let mut node = root;
+    let mut best = root;
+    let mut place = 0;
+    for level in 0..last {
+        let step = gap.step(level);
+        (best, place) = lower((best, place), (node, level), step);
+        node = node.child(step);
+    }
+    lower((best, place), (node, last), gap.step(last))
+}
+
+// Goes on to the first gap below a node at a level.
+fn set_first<K, V>(node: &Node<K, V>, gap: &mut Path, level: usize)
+    requires level { level < length gap.old }
+    requires levels { IsLevelled (length gap.old - level - 1) node.now }
+    ensures { GoesOn (take level gap.old) gap.new node.now 0 }
+{
+    let len = gap.len();
+    gap.set(level, 0);
+    if level + 1 < len {
+        set_first(node.child(0), gap, level + 1);
+    }
+}
+
+// Goes on to the last gap below a node at a level.
+fn set_last<K, V>(node: &Node<K, V>, gap: &mut Path, level: usize)
+    requires level { level < length gap.old }
+    requires levels { IsLevelled (length gap.old - level - 1) node.now }
+    ensures { GoesOn (take level gap.old) gap.new node.now (length (pairs_of node.now)) }
+{
+    let len = gap.len();
+    let end = node.len();
+    gap.set(level, end);
+    if level + 1 < len {
+        set_last(node.child(end), gap, level + 1);
+    }
+}
+
+// Goes on to the gap after the node's own pair that the gap's way leads to.
+fn set_after<K, V>(node: &Node<K, V>, gap: &mut Path, level: usize)
+    requires level { level < length gap.old }
+    requires levels { IsLevelled (length gap.old - level - 1) node.now }
+    requires own { slice_index gap.old level < length (own_pairs node.now) }
+    ensures { GoesOn (take level gap.old) gap.new node.now (length (before_own node.now (slice_index gap.old level)) + 1) }
+{
+    let len = gap.len();
+    let step = gap.step(level) + 1;
+    gap.set(level, step);
+    if level + 1 < len {
+        set_first(node.child(step), gap, level + 1);
+    }
+}
+
+// Goes back to the gap before the node's own pair ahead of where the gap's way leads.
+fn set_before<K, V>(node: &Node<K, V>, gap: &mut Path, level: usize)
+    requires level { level < length gap.old }
+    requires levels { IsLevelled (length gap.old - level - 1) node.now }
+    requires own { (0 < slice_index gap.old level) × (slice_index gap.old level ≤ length (own_pairs node.now)) }
+    ensures { GoesOn (take level gap.old) gap.new node.now (length (before_own node.now (slice_index gap.old level - 1))) }
+{
+    let len = gap.len();
+    let step = gap.step(level) - 1;
+    gap.set(level, step);
+    if level + 1 < len {
+        set_last(node.child(step), gap, level + 1);
+    }
+}
+
 // Goes on past the pair after a gap, and answers that pair.
 fn pass_next<'a, K, V>(root: &'a Option<Box<Node<K, V>>>, gap: &mut Path) -> &'a (K, V)
     requires sound { IsSoundMap (root_of root.now) }
@@ -117,12 +228,9 @@ fn pass_next<'a, K, V>(root: &'a Option<Box<Node<K, V>>>, gap: &mut Path) -> &'a
     ensures pair { slice_get (entries (root_of root.now)) (length (before_gap_in (root_of root.now) gap.old)) ≡ Some result.now }
 {
     let Some(node) = root else { unreachable!() };
-    let steps = gap.as_slice();
-    let count = steps_to_next(node, steps);
-    let last = count - 1;
-    let next = first_gap(&steps[..last], steps[last] as usize + 1, steps.len());
-    let pair = pair_at(node, &Path::of(&steps[..count]));
-    *gap = next;
+    let (holder, level) = place_after(node, gap);
+    let pair = holder.pair(gap.step(level));
+    set_after(holder, gap, level);
     pair
 }
 
@@ -136,14 +244,9 @@ fn pass_previous<'a, K, V>(root: &'a Option<Box<Node<K, V>>>, gap: &mut Path) ->
     ensures pair { slice_get (entries (root_of root.now)) (length (before_gap_in (root_of root.now) gap.new)) ≡ Some result.now }
 {
     let Some(node) = root else { unreachable!() };
-    let steps = gap.as_slice();
-    let last = steps_to_previous(node, steps) - 1;
-    let mut place = Path::of(&steps[..last]);
-    place.push(steps[last] as usize - 1);
-    let mut next = Path::new();
-    push_gap_before(node, place.as_slice(), &mut next);
-    let pair = pair_at(node, &place);
-    *gap = next;
+    let (holder, level) = place_before(node, gap);
+    let pair = holder.pair(gap.step(level) - 1);
+    set_before(holder, gap, level);
     pair
 }
 

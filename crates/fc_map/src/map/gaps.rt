@@ -16,9 +16,8 @@ use fc_tree_node::node::Node;
 use fc_tree_node::path::Path;
 use fc_tree_visit::leaf::{go_to_next, go_to_previous, pairs_after};
 use fc_tree_visit::tree::visit_tree;
+use fc_tree_walk::ends::{first_gap_in, last_gap_in, start_gap_in, stop_gap_in};
 use fc_tree_walk::gaps::{first_gap, push_gap_before, steps_to_next, steps_to_previous};
-use fc_tree_walk::seek::{start_in, stop_in};
-use fc_tree_walk::trail::{first_in, last_in, places};
 use std::ops::Bound;
 
 impl<K: Ord, V> BTreeMap<K, V> {
@@ -28,7 +27,7 @@ impl<K: Ord, V> BTreeMap<K, V> {
         ensures front { length (before_gap_in self.now result.0) ≡ 0 }
         ensures back { length (before_gap_in self.now result.1) ≡ length (entries self.now) }
     {
-        (places(&first_in(&self.root)), places(&last_in(&self.root)))
+        (first_gap_in(&self.root), last_gap_in(&self.root))
     }
 
     // The gaps at which a range starts and ends.
@@ -38,10 +37,7 @@ impl<K: Ord, V> BTreeMap<K, V> {
         ensures front { length (before_gap_in self.now result.0) ≡ (starting K.cmp (bound_now lo.now) (bound_now hi.now) (entries self.now)).front }
         ensures back { length (before_gap_in self.now result.1) ≡ (starting K.cmp (bound_now lo.now) (bound_now hi.now) (entries self.now)).back }
     {
-        (
-            places(&start_in(&self.root, lo)),
-            places(&stop_in(&self.root, hi)),
-        )
+        (start_gap_in(&self.root, lo), stop_gap_in(&self.root, hi))
     }
 
     // Whether two gaps are the same.
