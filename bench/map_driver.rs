@@ -3,10 +3,12 @@
 //! First all answers and lengths of the two are compared, call by call. Then each time is the best of some runs, the two maps in
 //! turn, of the time between two marks of a job (`phases.rs`).
 //!
-//! With two words, as `std insert`, it runs one job of a thousand pairs alone, for `bench/instructions`.
+//! With the word `count` each job runs once at a thousand pairs, for `bench/instructions`.
+mod counted;
 mod phases;
 mod random;
 
+use counted::tell;
 use phases::{machine, mark, phases, weights};
 use random::Random;
 use std::collections::BTreeMap;
@@ -359,8 +361,8 @@ fn print_times() {
 }
 
 // Puts all keys into a map by their entries, made ready first or at once, or into std's.
-fn put(who: &str, keys: &[u64], is_made_ready: bool) -> usize {
-    if who == "std" {
+fn put(who: usize, keys: &[u64], is_made_ready: bool) -> usize {
+    if who == 1 {
         let mut map = BTreeMap::new();
         mark();
         for key in keys {
@@ -375,40 +377,36 @@ fn put(who: &str, keys: &[u64], is_made_ready: bool) -> usize {
     len
 }
 
-// One job of a thousand pairs, whose instructions `bench/instructions` counts. `none` only makes the keys.
-fn run_one(who: &str, phase: &str) {
+// Each job once on each side.
+fn count_all() {
     let keys = Keys::new(1_000);
     let counted = count_keys(1_000);
-    let (inserted, sought, removed): (&[u64], &[u64], &[u64]) = match phase {
-        "insert" => (&keys.inserted, &[], &[]),
-        "get" => (&keys.inserted, &keys.sought, &[]),
-        "remove" => (&keys.inserted, &[], &keys.removed),
-        _ => (&[], &[], &[]),
-    };
-    let job = Job {
-        keys: inserted,
-        sought,
-        removed,
-        way: LET_GO,
-    };
-    let side = usize::from(who == "std");
-    phases(|| match phase {
-        "entry" => {
-            black_box(count(2 * side, &counted));
+    let (calls, sought) = (keys.inserted.len(), keys.sought.len());
+    for who in 0..2 {
+        let run = |rows: &[(&str, usize)], way| {
+            tell(who, rows, || {
+                black_box(RUNS[who](keys.job(way)));
+            });
+        };
+        let none = ("", 0);
+        run(&[("insert", calls), ("get", sought), none, ("drop, a pair", calls)], DROP);
+        run(&[none, none, ("remove", calls), none], LET_GO);
+        run(&[none, none, none, ("clear, a pair", calls)], CLEAR);
+        run(&[none, none, none, ("into_iter, a pair", calls)], GIVE_OUT);
+        tell(who, &[("entry, of keys that come ten times", counted.len())], || {
+            black_box(count(2 * who, &counted));
+        });
+        for (name, is_made_ready) in [("new keys by entries", false), ("made ready first", true)] {
+            tell(who, &[(name, calls)], || {
+                black_box(put(who, &keys.inserted, is_made_ready));
+            });
         }
-        "put" | "ready" => {
-            black_box(put(who, &keys.inserted, phase == "ready"));
-        }
-        _ => {
-            black_box(RUNS[side](job));
-        }
-    });
+    }
 }
 
 fn main() {
-    let words: Vec<String> = std::env::args().skip(1).collect();
-    if let [who, phase] = &words[..] {
-        return run_one(who, phase);
+    if std::env::args().nth(1).as_deref() == Some("count") {
+        return count_all();
     }
     compare_answers();
     print_times();

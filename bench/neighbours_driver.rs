@@ -1,17 +1,29 @@
 //! Asks the library's ordered map and std's `BTreeMap` for the pairs next to random keys, half of which are not there, and compares the
-//! answers. With words, as `ours 3 1000`, it runs one job alone, for `bench/instructions`: who is asked, which call (`bench_map_neighbours`
-//! names them), and of how many pairs.
-#[allow(dead_code)] // Nothing is timed here: the library's requests go through its `malloc`.
+//! answers. With the word `count` each call is made so at a thousand pairs and at a hundred thousand, for `bench/instructions`.
+mod counted;
+#[allow(dead_code)] // Nothing is timed here.
 mod phases;
 mod random;
 
+use counted::tell;
+use phases::mark;
 use random::Random;
 use std::collections::BTreeMap;
 use std::hint::black_box;
 use std::ops::Bound::{Excluded, Unbounded};
 
 const CALLS: u64 = 20_000;
-const WAYS: u64 = 7;
+// As `bench_map_neighbours` numbers them. The first makes no call.
+const WAYS: [&str; 8] = [
+    "no call",
+    "first_at_or_after",
+    "first_after",
+    "last_at_or_before",
+    "last_before",
+    "range(k..).next()",
+    "range(..=k).next_back()",
+    "get, half of them there",
+];
 const SIZES: [u64; 6] = [0, 1, 7, 90, 1_000, 100_000];
 
 unsafe extern "C" {
@@ -53,6 +65,7 @@ fn ask_std(keys: &[u64], sought: &[u64], way: u64) -> u64 {
     for key in keys {
         seen = mixed(seen, map.insert(*key, *key));
     }
+    mark();
     for key in sought {
         let answer = match way {
             1 | 5 => map.range(*key..).next().map(|pair| *pair.1),
@@ -64,6 +77,7 @@ fn ask_std(keys: &[u64], sought: &[u64], way: u64) -> u64 {
         };
         seen = mixed(seen, answer);
     }
+    mark();
     seen
 }
 
@@ -76,13 +90,22 @@ fn keys(pairs: u64) -> (Vec<u64>, Vec<u64>) {
     (keys, sought)
 }
 
+const ASKS: [fn(&[u64], &[u64], u64) -> u64; 2] = [ask_ours, ask_std];
+
+// Asks one side, between two marks of its own.
+fn asked(who: usize, keys: &[u64], sought: &[u64], way: usize) -> u64 {
+    let mut seen = 0;
+    phases::phases(|| seen = ASKS[who](keys, sought, way as u64));
+    seen
+}
+
 fn compare_answers() {
     for pairs in SIZES {
         let (keys, sought) = keys(pairs);
-        for way in 0..=WAYS {
+        for way in 0..WAYS.len() {
             assert_eq!(
-                ask_ours(&keys, &sought, way),
-                ask_std(&keys, &sought, way),
+                asked(0, &keys, &sought, way),
+                asked(1, &keys, &sought, way),
                 "way {way}, {pairs} pairs"
             );
         }
@@ -90,13 +113,23 @@ fn compare_answers() {
     println!("the pairs next to {CALLS} keys were answered alike, at each of {SIZES:?} pairs");
 }
 
+fn count() {
+    for (pairs, title) in [(1_000, ""), (100_000, ", 100000 pairs")] {
+        let (keys, sought) = keys(pairs);
+        for (way, name) in WAYS.iter().enumerate() {
+            let name = format!("{name}{title}");
+            for who in 0..2 {
+                tell(who, &[(&name, sought.len())], || {
+                    black_box(ASKS[who](black_box(&keys), black_box(&sought), way as u64));
+                });
+            }
+        }
+    }
+}
+
 fn main() {
-    let words: Vec<String> = std::env::args().skip(1).collect();
-    let [who, way, pairs] = &words[..] else {
-        return compare_answers();
-    };
-    let (keys, sought) = keys(pairs.parse().expect("a number of pairs"));
-    let way = way.parse().expect("a number of a call");
-    let ask = if who == "std" { ask_std } else { ask_ours };
-    black_box(ask(black_box(&keys), black_box(&sought), way));
+    match std::env::args().nth(1).as_deref() {
+        Some("count") => count(),
+        _ => compare_answers(),
+    }
 }

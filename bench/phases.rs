@@ -66,7 +66,8 @@ fn now() -> f64 {
     time.seconds as f64 * 1e9 + time.nanoseconds as f64
 }
 
-/// Ends a phase.
+/// Ends a phase. `bench/instructions` looks for calls of it.
+#[inline(never)]
 pub fn mark() {
     let ended = now();
     unsafe {

@@ -1,22 +1,37 @@
 //! Times the library's ordered set beside std's `BTreeSet` on the same numbers, and compares what both gave: the six calls on one item,
 //! walks over all items, the four lazy operations, and a union that is built.
 //!
-//! Each time is the best of some runs, the two sets in turn, of the time of a phase (`phases.rs`).
+//! A time is the best of some runs, the two sets in turn, of the time of a phase (`phases.rs`); a multiple is the median of those that
+//! each round gave (`rounds.rs`).
+//!
+//! With the word `count` each walk runs once over two sets of a thousand, for `bench/instructions`.
+mod counted;
 mod phases;
 mod random;
+mod rounds;
 
-use phases::{machine, mark, phases};
+use counted::tell;
+use phases::{machine, mark};
 use random::Random;
+use rounds::{Compared, compare};
 use std::collections::BTreeSet;
-use std::hint::black_box;
 
 // Items, and rounds of runs.
 const SIZES: [(u64, usize); 3] = [(1_000, 300), (100_000, 12), (1_000_000, 5)];
 const CALLS: [&str; 6] = ["try_insert", "contains", "get", "replace", "take", "remove"];
-const WAYS: [&str; 6] = ["iter", "difference", "symmetric difference", "intersection", "union", "bitor, built"];
-// Items of the two sets of an operation.
+const WAYS: [&str; 6] = [
+    "iter of the first",
+    "difference",
+    "symmetric difference",
+    "intersection",
+    "union",
+    "bitor, built",
+];
+// Items of a set beside a small one, and of that one.
 const LARGE: u64 = 100_000;
 const SMALL: u64 = 100;
+// Items of each of two sets that have half of them in common, walks a run, and rounds of runs.
+const HALVES: [(u64, u64, usize); 2] = [(1_000, 400, 60), (100_000, 20, 20)];
 
 unsafe extern "C" {
     fn bench_set_run(
@@ -162,25 +177,9 @@ fn walk_std(job: &Walks) -> u64 {
     seen
 }
 
-// The least time of each phase: ours, then std's.
-fn least<J>(job: &J, rounds: usize, runs: [fn(&J) -> u64; 2]) -> Vec<[f64; 2]> {
-    let mut best: Vec<[f64; 2]> = Vec::new();
-    for round in 0..rounds {
-        let mut seen = [0; 2];
-        for who in [round % 2, 1 - round % 2] {
-            let taken = phases(|| seen[who] = runs[who](black_box(job)));
-            best.resize(taken.len(), [f64::MAX; 2]);
-            for (least, time) in best.iter_mut().zip(&taken) {
-                least[who] = least[who].min(*time);
-            }
-        }
-        assert_eq!(seen[0], seen[1], "what the two sets gave differs");
-    }
-    best
-}
-
-fn line(name: &str, [ours, stds]: [f64; 2], count: f64) {
-    println!("  {name:<22} {:>8.2} / {:<8.2} ({:4.2})", ours / count, stds / count, ours / stds);
+fn line(name: &str, phase: &Compared, count: f64) {
+    let [ours, stds] = phase.least.map(|time| time / count);
+    println!("  {name:<22} {ours:>8.2} / {stds:<8.2} ({:4.2})", phase.median());
 }
 
 fn measure_calls(count: u64, rounds: usize) {
@@ -200,11 +199,13 @@ fn measure_calls(count: u64, rounds: usize) {
         removed,
     };
     println!("{count} items, {rounds} runs: nanoseconds a call");
-    let best = least(&job, rounds, [call_ours, call_std]);
-    for ((name, times), count) in CALLS.iter().zip(best).zip(counts) {
-        line(name, times, count as f64);
+    let phases = compare(&job, rounds, [call_ours, call_std]);
+    for ((name, phase), count) in CALLS.iter().zip(&phases).zip(counts) {
+        line(name, phase, count as f64);
     }
 }
+
+const RUNS: [fn(&Walks) -> u64; 2] = [walk_ours, walk_std];
 
 fn measure_walks(title: &str, items: Vec<u64>, others: Vec<u64>, times: u64, rounds: usize) {
     println!("{title}, {times} walks a run, {rounds} runs: microseconds a walk");
@@ -215,25 +216,60 @@ fn measure_walks(title: &str, items: Vec<u64>, others: Vec<u64>, times: u64, rou
             way: way as u64,
             times,
         };
-        let best = least(&job, rounds, [walk_ours, walk_std]);
-        line(name, best[0], times as f64 * 1000.0);
+        let walked = &compare(&job, rounds, RUNS)[0];
+        line(name, walked, times as f64 * 1000.0);
     }
 }
 
-fn main() {
-    println!("time, best of so many runs: ours / std's BTreeSet (ours as a multiple of std's)");
+fn shuffled(mut items: Vec<u64>) -> Vec<u64> {
+    Random(1).shuffle(&mut items);
+    items
+}
+
+// The items of two sets of so many: half of each are the other's too, and which these are is random.
+fn halves(count: u64) -> (Vec<u64>, Vec<u64>) {
+    let all = shuffled((0..count + count / 2).collect());
+    let half = count as usize / 2;
+    (all[..2 * half].to_vec(), all[half..].to_vec())
+}
+
+fn print_times() {
+    println!("time, best of so many runs: ours / std's BTreeSet (the median of ours as a multiple of std's)");
     println!("{}", machine());
     for (count, rounds) in SIZES {
         measure_calls(count, rounds);
     }
-    let mut random = Random(1);
-    let mut shuffled = |mut items: Vec<u64>| {
-        random.shuffle(&mut items);
-        items
-    };
-    let items = shuffled((0..LARGE).collect());
-    let half = shuffled((LARGE / 2..LARGE + LARGE / 2).collect());
-    measure_walks("100000 items beside 100000, half in common", items.clone(), half, 20, 8);
+    for (count, times, rounds) in HALVES {
+        let (items, others) = halves(count);
+        let title = format!("{count} items beside {count}, half in common");
+        measure_walks(&title, items, others, times, rounds);
+    }
     let few = shuffled((0..SMALL).map(|i| i * (LARGE / SMALL)).collect());
-    measure_walks("100 items beside 100000", few, items, 400, 8);
+    measure_walks("100 items beside 100000", few, shuffled((0..LARGE).collect()), 400, 8);
+}
+
+// Each walk once on each side, over two sets of a thousand with half in common.
+fn count() {
+    let (items, others) = halves(1_000);
+    let given = [1_000, 500, 1_000, 500, 1_500, 1_500];
+    for (way, name) in WAYS.iter().enumerate() {
+        let job = Walks {
+            items: items.clone(),
+            others: others.clone(),
+            way: way as u64,
+            times: 20,
+        };
+        for (who, run) in RUNS.iter().enumerate() {
+            tell(who, &[(name, 20 * given[way])], || {
+                run(&job);
+            });
+        }
+    }
+}
+
+fn main() {
+    match std::env::args().nth(1).as_deref() {
+        Some("count") => count(),
+        _ => print_times(),
+    }
 }

@@ -1,20 +1,33 @@
 //! Times walks over the library's ordered map beside std's `BTreeMap` on the same random keys, and compares what both saw.
 //!
-//! Each time is the best of some runs, the two maps in turn, of the time that the walks of a job took (`phases.rs`).
-//! `into_iter` stands with the other calls that end a map, in `bench/map`.
+//! A time is the best of some runs, the two maps in turn, of the time that the walks of a job took (`phases.rs`); a multiple is the median
+//! of those that each round gave (`rounds.rs`). `into_iter` stands with the other calls that end a map, in `bench/map`.
+//!
+//! With the word `count` each job runs once at a thousand pairs, and with `misses` a walk over 200,000, for `bench/instructions`.
+mod counted;
 mod phases;
 mod random;
+mod rounds;
 
-use phases::{machine, mark, phases};
+use counted::tell;
+use phases::{machine, mark};
 use random::Random;
+use rounds::{Compared, compare};
 use std::collections::BTreeMap;
-use std::hint::black_box;
 
 // Pairs, walks over all of them, and rounds of runs.
 const SIZES: [(u64, u64, usize); 3] = [(1_000, 400, 60), (100_000, 40, 20), (1_000_000, 10, 6)];
 const RANGE: u64 = 100;
 const RANGES: usize = 2_000;
-const WAYS: [&str; 6] = ["iter", "both ends", "range of 100", "values_mut", "keys", "values_mut by for_each"];
+const RANGE_WAY: u64 = 2;
+const WAYS: [&str; 6] = [
+    "iter",
+    "both ends",
+    "range of 100",
+    "values_mut by next",
+    "keys",
+    "values_mut by for_each",
+];
 
 unsafe extern "C" {
     fn bench_map_walk(
@@ -100,43 +113,63 @@ fn run_std(job: &Job) -> u64 {
     seen
 }
 
-// Nanoseconds a pair that a walk gives: ours, then std's.
-fn measure(pairs: u64, times: u64, rounds: usize, way: u64) -> [f64; 2] {
-    let mut random = Random(pairs);
-    let mut keys: Vec<u64> = (0..pairs).collect();
-    random.shuffle(&mut keys);
-    let starts: Vec<u64> = (0..RANGES).map(|_| random.below(pairs - RANGE)).collect();
-    let given = match way {
-        2 => times * RANGES as u64 * RANGE,
-        _ => times * pairs,
-    };
-    let job = Job {
-        keys,
-        starts,
-        way,
-        times,
-    };
-    let mut best = [f64::MAX; 2];
-    for round in 0..rounds {
-        let mut seen = [0; 2];
-        for who in [round % 2, 1 - round % 2] {
-            let run = [run_ours as fn(&Job) -> u64, run_std][who];
-            let walked = phases(|| seen[who] = run(black_box(&job)));
-            best[who] = best[who].min(walked[0]);
+const RUNS: [fn(&Job) -> u64; 2] = [run_ours, run_std];
+
+impl Job {
+    fn new(pairs: u64, times: u64, way: u64) -> Job {
+        let mut random = Random(pairs);
+        let mut keys: Vec<u64> = (0..pairs).collect();
+        random.shuffle(&mut keys);
+        let starts = (0..RANGES).map(|_| random.below(pairs - RANGE)).collect();
+        Job {
+            keys,
+            starts,
+            way,
+            times,
         }
-        assert_eq!(seen[0], seen[1], "what the two maps gave differs");
     }
-    best.map(|walked| walked / given as f64)
+
+    // How many pairs its walks give.
+    fn given(&self) -> usize {
+        let pairs = match self.way {
+            RANGE_WAY => self.starts.len() * RANGE as usize,
+            _ => self.keys.len(),
+        };
+        self.times as usize * pairs
+    }
 }
 
-fn main() {
-    println!("nanoseconds a pair, best of so many runs: ours / std's BTreeMap (ours as a multiple of std's)");
+fn print_times() {
+    println!("nanoseconds a pair, best of so many runs: ours / std's BTreeMap (the median of ours as a multiple of std's)");
     println!("{}", machine());
     for (pairs, times, rounds) in SIZES {
         println!("{pairs} pairs, {times} walks a run, {rounds} runs");
         for (way, name) in WAYS.iter().enumerate() {
-            let [ours, stds] = measure(pairs, times, rounds, way as u64);
-            println!("  {name:<14} {ours:>7.2} / {stds:<7.2} ({:4.2})", ours / stds);
+            let job = Job::new(pairs, times, way as u64);
+            let walked: &Compared = &compare(&job, rounds, RUNS)[0];
+            let [ours, stds] = walked.least.map(|time| time / job.given() as f64);
+            println!("  {name:<22} {ours:>7.2} / {stds:<7.2} ({:4.2})", walked.median());
         }
+    }
+}
+
+// One run of a walk on each side, after the map was filled.
+fn count(name: &str, job: Job) {
+    for (who, run) in RUNS.iter().enumerate() {
+        tell(who, &[(name, job.given())], || {
+            run(&job);
+        });
+    }
+}
+
+fn main() {
+    match std::env::args().nth(1).as_deref() {
+        Some("count") => {
+            for (way, name) in WAYS.iter().enumerate() {
+                count(name, Job::new(1_000, 20, way as u64));
+            }
+        }
+        Some("misses") => count("iter", Job::new(200_000, 2, 0)),
+        _ => print_times(),
     }
 }

@@ -1,5 +1,5 @@
 //! A job that asks the ordered map for the pairs next to keys.
-use super::{insert_all, mixed};
+use super::{insert_all, mark, mixed};
 use fc_map::map::{BTreeMap, is_range};
 use std::alloc::Global;
 use std::ops::Bound;
@@ -44,8 +44,8 @@ fn neighbour(map: &BTreeMap<u64, u64>, key: &u64, way: u64) -> Option<u64> {
 
 /// Inserts `keys` into a new map, and asks it at each of `sought` as `way` says: 1 for the first pair at the key or after it, 2 for the
 /// first after it, 3 for the last at it or before it, 4 for the last before it, 5 for the first of the range from the key on, 6 for the
-/// last of the range up to it, 7 for the value at the key, and else for nothing. The checksum of all answers goes to `checksum`. False
-/// where memory was refused.
+/// last of the range up to it, 7 for the value at the key, and else for nothing. All calls together are a phase. The checksum of all answers
+/// goes to `checksum`. False where memory was refused.
 #[unsafe(no_mangle)]
 pub extern "C" fn bench_map_neighbours(
     alloc: Global,
@@ -58,9 +58,11 @@ pub extern "C" fn bench_map_neighbours(
     let Some(mut seen) = insert_all(&mut map, keys) else {
         return false;
     };
+    let started = mark(alloc);
     for key in sought {
         seen = mixed(seen, neighbour(&map, key, way));
     }
+    let ended = mark(alloc);
     *checksum = seen;
-    true
+    started && ended
 }

@@ -4,6 +4,7 @@ pub mod ExtendFacts
 pub mod CopiedFacts
 pub mod OperatorFacts
 pub mod SideFacts
+pub mod OrderFacts
 pub mod StepFacts
 pub mod OperationLaws
 pub mod NeighbourFacts

@@ -50,6 +50,10 @@ module _ {T : Type 0} (cmp : T → T → Ordering) (total : IsTotalOrder cmp) wh
   firsts_greater s t rest x y e f r a b more =
       let back = firsts_less t s rest y x f e r b a (under_one cmp total y x more) in (back.1, back.0)
 
+  pub firsts_tied : (s t left right : List T) (x y : T) → s ≡ x ∷ drop 1 s → t ≡ y ∷ drop 1 t → left ≡ drop 1 s → right ≡ drop 1 t → AreAscending cmp s → AreAscending cmp t → cmp x y ≡ Equal → (cmp x y ≡ Equal) × IsBelow cmp x left × IsBelow cmp y right
+  firsts_tied s t left right x y e f l r a b same =
+      (same, subst (IsBelow cmp x) (sym l) (subst (AreAscending cmp) e a).0, subst (IsBelow cmp y) (sym r) (subst (AreAscending cmp) f b).0)
+
   -- An operation gave its next item and both sides are behind it, or nothing is left.
   abbrev pub IsStep : (List T → List T → List T) → Option (Bor T) → List T → List T → Sides T → Type 0
   IsStep operation r s t w = MatchOption r ((operation s t ≡ []) × (w.left ≡ []) × (w.right ≡ []))

@@ -9,7 +9,6 @@ ghost use Rattle.fc_set.specs.Sides.{Sifting, begin_sifting, sifted_past, GivesA
 use super::peeked::Peeked;
 use super::{BTreeSet, Iter, order_of};
 use std::alloc::AllocError;
-use std::cmp::Ordering;
 use std::iter::FusedIterator;
 use std::marker::Model;
 
@@ -118,13 +117,13 @@ fn next_apart<'a, T: Ord>(ours: &mut Iter<'a, T>, theirs: &mut Peeked<'a, T>) ->
         let Some(other) = theirs.first() else {
             return Some(item);
         };
-        match order_of(item, other) {
-            Ordering::Less => return Some(item),
-            Ordering::Equal => {
-                theirs.step();
-                item = ours.next()?;
-            }
-            Ordering::Greater => theirs.step(),
+        let order = order_of(item, other);
+        if order.is_lt() {
+            return Some(item);
+        }
+        theirs.step();
+        if order.is_eq() {
+            item = ours.next()?;
         }
     }
 }

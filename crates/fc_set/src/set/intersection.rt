@@ -8,7 +8,6 @@ ghost use Rattle.fc_set.specs.Sides.{Sifting, begin_sifting, begin_with_shorter,
 
 use super::{BTreeSet, Iter, order_of};
 use std::alloc::AllocError;
-use std::cmp::Ordering;
 use std::iter::FusedIterator;
 use std::marker::Model;
 
@@ -98,13 +97,17 @@ fn next_common<'a, T: Ord>(ours: &mut Iter<'a, T>, theirs: &mut Iter<'a, T>) -> 
     ensures gives { GivesCommon T.cmp ours.old theirs.old result ours.new theirs.new }
     ensures ascending { AreAscending T.cmp ours.new × AreAscending T.cmp theirs.new }
 {
-    let mut item = ours.next()?;
+    let mut first = ours.next()?;
     let mut other = theirs.next()?;
     'pairs: loop {
-        match order_of(item, other) {
-            Ordering::Less => item = ours.next()?,
-            Ordering::Equal => return Some(item),
-            Ordering::Greater => other = theirs.next()?,
+        let order = order_of(first, other);
+        if order.is_eq() {
+            return Some(first);
+        }
+        if order.is_lt() {
+            first = ours.next()?;
+        } else {
+            other = theirs.next()?;
         }
     }
 }

@@ -6,7 +6,6 @@ ghost use Rattle.fc_set.specs.Sides.{AreFirsts};
 use super::peeked::Peeked;
 use super::{Iter, order_of};
 use std::alloc::AllocError;
-use std::cmp::Ordering;
 use std::marker::Model;
 
 #[derive(Drop)]
@@ -37,7 +36,9 @@ impl<'a, T: Ord> Merge<'a, T> {
         }
     }
 
-    // Takes the lesser of the two items that come next, or both where they are equal.
+    // Takes the lesser of the two items that come next, or both where they are equal. It is part of each caller's loop: by a call of its own it would answer
+    // through memory, and take nearly twice the instructions.
+    #[inline(always)]
     pub(crate) fn next(&mut self) -> (Option<&'a T>, Option<&'a T>)
         ensures ours { self.old.left ≡ option_to_list (option_copied result.0) ++ self.new.left }
         ensures theirs { self.old.right ≡ option_to_list (option_copied result.1) ++ self.new.right }
@@ -53,21 +54,17 @@ impl<'a, T: Ord> Merge<'a, T> {
             self.ours.step();
             return (Some(ours), None);
         };
-        match order_of(ours, theirs) {
-            Ordering::Less => {
-                self.ours.step();
-                (Some(ours), None)
-            }
-            Ordering::Equal => {
-                self.ours.step();
-                self.theirs.step();
-                (Some(ours), Some(theirs))
-            }
-            Ordering::Greater => {
-                self.theirs.step();
-                (None, Some(theirs))
-            }
+        let order = order_of(ours, theirs);
+        if order.is_gt() {
+            self.theirs.step();
+            return (None, Some(theirs));
         }
+        self.ours.step();
+        if order.is_lt() {
+            return (Some(ours), None);
+        }
+        self.theirs.step();
+        (Some(ours), Some(theirs))
     }
 
     // How many items are still to come from each side.
