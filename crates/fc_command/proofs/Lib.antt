@@ -4,6 +4,7 @@ mod ExampleFacts
 mod ItemFacts
 mod KindFacts
 mod OperationFacts
+mod ReplyFacts
 mod RunFacts
 mod ServeFacts
 mod SetExampleFacts

@@ -15,7 +15,7 @@ use Rattle.fc_command.specs.Step.{Step, IsNew}
 use Rattle.fc_lines.specs.Lines.{lines_of}
 use Rattle.fc_lines.specs.Grammar.{command_of}
 use Rattle.fc_lines.specs.Texts.{text_of, fault_text}
-use Rattle.fc_command.specs.Spoken.{SpokenTo, Spoken, SpokenFront, Faulted, Cut, Served}
+use Rattle.fc_command.specs.Spoken.{SpokenTo, Spoken, Faulted, Cut, StopsAtList, Served}
 use Rattle.fc_command.specs.Session.{Written, FaultTold, LineRun, Cuts, IsAfter, Failed, PieceRun, Ended}
 use Rattle.fc_command.proofs.CutFacts.{cuts_none, cuts_byte, cuts_feed, cuts_whole, lines_feed, lines_open, lines_begin_any, open_push, too_long}
 use Rattle.fc_command.proofs.SpokenFacts.{spoken_none, spoken_more}
@@ -24,7 +24,7 @@ use Rattle.fc_command.proofs.SpokenFacts.{spoken_none, spoken_more}
 pub line_refused : (old new : Session) (front : List (List ℕ)) (said more : List ℕ) (r : Result (Option ℕ) ServeError) → command_of old.line.items ≡ None → FaultTold (min (old.number + 1) (2 ^ 64 - 1)) more r → LineRun old new front said more r
 line_refused old new front said more (Ok None) bad told = absurd told
 line_refused old new front said more (Ok (Some n)) bad told = (bad, told.0, told.1)
-line_refused old new front said more (Err (Memory e)) bad told = told
+line_refused old new front said more (Err (Memory e)) bad told = absurd told
 line_refused old new front said more (Err Read) bad told = told
 line_refused old new front said more (Err Write) bad told = (told.0, inr (bad, told.1))
 
@@ -57,7 +57,7 @@ faulted_here lines front after line said more w number n place s num bad is told
 -- the run of a line failed
 pub line_failed : (lines : List (List ℕ)) (old new : Session) (front after : List (List ℕ)) (said more : List ℕ) (e : ServeError) → lines ≡ front ++ old.line.items ∷ after → SpokenTo front said old.world → old.number ≡ min (length front) (2 ^ 64 - 1)
     → LineRun old new front said more (Err e) → Failed lines (said ++ more) e
-line_failed lines old new front after said more (Memory e) place s num h = (h.0, (front, old.line.items ∷ after, place, (old.world, rw (h.1, append-nil said) s)))
+line_failed lines old new front after said more (Memory e) place s num h = (h.0, (front, after, old.line.items, place, h.2, (old.world, rw (h.1, append-nil said) s)))
 line_failed lines old new front after said more Read place s num h = absurd h
 line_failed lines old new front after said more Write place s num h = (
   h.0,
@@ -72,7 +72,7 @@ pub refused_line : (lines : List (List ℕ)) (front after : List (List ℕ)) (li
     → command_of line ≡ None → FaultTold (min (number + 1) (2 ^ 64 - 1)) more r → MatchResult r (λ o. (n : ℕ) × (o ≡ Some n) × Faulted lines (said ++ more) n) (λ e. Failed lines (said ++ more) e)
 refused_line lines front after line said more w number (Ok None) place s num bad h = absurd h
 refused_line lines front after line said more w number (Ok (Some n)) place s num bad h = (n, refl, faulted_here lines front after line said more w number n place s num bad h.0 h.1)
-refused_line lines front after line said more w number (Err (Memory e)) place s num bad h = (h.0, (front, line ∷ after, place, (w, rw (h.1, append-nil said) s)))
+refused_line lines front after line said more w number (Err (Memory e)) place s num bad h = absurd h
 refused_line lines front after line said more w number (Err Read) place s num bad h = absurd h
 refused_line lines front after line said more w number (Err Write) place s num bad h = (h.0, inr (min (number + 1) (2 ^ 64 - 1), rw (append_assoc said more h.0) (faulted_here lines front after line said (more ++ h.0) w number (min (number + 1) (2 ^ 64 - 1)) place s num bad refl h.1)))
 
@@ -172,14 +172,14 @@ in_full (Some x) None seen P took end h = absurd took
 in_full (Some x) (Some y) seen P took end h = subst P (sym (took ∙ ap (λ l. seen ++ l) end ∙ append-nil seen)) h
 
 pub served_failed : (a b : Option (List ℕ)) (seen text : List ℕ) (e : ServeError) → Consumes a b seen → ((rest : List ℕ) → Failed (lines_of (seen ++ rest)) text e) → Served a b text (Err e)
-served_failed a b seen text (Memory e) took h = ((h []).0, however a b seen (λ source. SpokenFront (lines_of source) text) took (λ rest. (h rest).1))
+served_failed a b seen text (Memory e) took h = ((h []).0, inr (however a b seen (λ source. StopsAtList (lines_of source) text) took (λ rest. (h rest).1)))
 served_failed a b seen text Read took h = absurd (h [])
 served_failed a b seen text Write took h = however a b seen (λ source. Cut (lines_of source) text) took h
 
 pub served_end : (a b : Option (List ℕ)) (seen text : List ℕ) (r : Result ServeEnd ServeError) → Consumes a b seen → IsAtEnd b → Ended seen text r → Served a b text r
 served_end a b seen text (Ok Finished) took end h = (end, in_full a b seen (λ source. Spoken (lines_of source) text) took end h)
 served_end a b seen text (Ok (NotACommand n)) took end h = in_full a b seen (λ source. Faulted (lines_of source) text n) took end h
-served_end a b seen text (Err (Memory e)) took end h = (h.0, in_full a b seen (λ source. SpokenFront (lines_of source) text) took end h.1)
+served_end a b seen text (Err (Memory e)) took end h = (h.0, inr (in_full a b seen (λ source. StopsAtList (lines_of source) text) took end h.1))
 served_end a b seen text (Err Read) took end h = absurd h
 served_end a b seen text (Err Write) took end h = in_full a b seen (λ source. Cut (lines_of source) text) took end h
 
@@ -189,10 +189,6 @@ served_fault a b seen text n (Err x) took h e = rw e (however a b seen (λ sourc
 
 pub served_read : (a b : Option (List ℕ)) (seen text : List ℕ) (s : Session) → Consumes a b seen → IsAfter s seen text → Served a b text (Err Read)
 served_read a b seen text s took h = (seen, took, (s.world, rw (cuts_whole seen h.front s.line.items h.cuts) h.spoken))
-
-pub served_nothing : (w : World ℕ ℕ) → IsNew w → (a : Option (List ℕ)) → IfSome a (λ source. SpokenFront (lines_of source) [])
-served_nothing w new None = tt
-served_nothing w new (Some source) = ([], lines_of source, refl, (w, spoken_none w new))
 
 pub after_nothing : (s : Session) → IsNew s.world → s.line.items ≡ [] → s.number ≡ 0 → IsAfter s [] []
 after_nothing s new line number = record { front = []; cuts = rw line cuts_none; spoken = spoken_none s.world new; number = number }

@@ -10,7 +10,7 @@ use Rattle.fc_command.specs.declared.command.session.ServeError.TheVariants.{Mem
 use Rattle.fc_lines.specs.Lines.{lines_of, whole_lines_of}
 use Rattle.fc_lines.specs.Grammar.{command_of}
 use Rattle.fc_lines.specs.Texts.{fault_text}
-use Rattle.fc_command.specs.Spoken.{SpokenTo, Spoken, SpokenFront, Faulted, Cut}
+use Rattle.fc_command.specs.Spoken.{SpokenTo, Spoken, Faulted, Cut, HasList, StopsAtList}
 
 -- All of the text was written, or a beginning of it.
 abbrev pub Written : List ℕ → List ℕ → Result (Unit {0}) ServeError → Type 0
@@ -19,20 +19,20 @@ Written text more (Err Write) = (tail : List ℕ) × (text ≡ more ++ tail)
 Written text more (Err (Memory e)) = ⊥
 Written text more (Err Read) = ⊥
 
--- The fault line of a line was written, or a beginning of it, or nothing for want of memory.
+-- The fault line of a line was written, or a beginning of it.
 abbrev pub FaultTold : ℕ → List ℕ → Result (Option ℕ) ServeError → Type 0
 FaultTold number more (Ok None) = ⊥
 FaultTold number more (Ok (Some n)) = (n ≡ number) × (more ≡ fault_text n)
 FaultTold number more (Err Write) = (tail : List ℕ) × (more ++ tail ≡ fault_text number)
-FaultTold number more (Err (Memory e)) = (e ≡ AllocError) × (more ≡ [])
+FaultTold number more (Err (Memory e)) = ⊥
 FaultTold number more (Err Read) = ⊥
 
--- After the lines of front, for which said was written, one line more was run, and more was written.
+-- After the lines of front, for which said was written, one line more was run, and more was written; or memory was refused for its list.
 abbrev pub LineRun : Session → Session → List (List ℕ) → List ℕ → List ℕ → Result (Option ℕ) ServeError → Type 0
 LineRun old new front said more (Ok None) = SpokenTo (front ++ old.line.items ∷ []) (said ++ more) new.world
     × (new.line.items ≡ []) × (new.number ≡ min (old.number + 1) (2 ^ 64 - 1)) × (vec_capacity new.line ≡ vec_capacity old.line)
 LineRun old new front said more (Ok (Some n)) = (command_of old.line.items ≡ None) × (n ≡ min (old.number + 1) (2 ^ 64 - 1)) × (more ≡ fault_text n)
-LineRun old new front said more (Err (Memory e)) = (e ≡ AllocError) × (more ≡ [])
+LineRun old new front said more (Err (Memory e)) = (e ≡ AllocError) × (more ≡ []) × HasList old.line.items
 LineRun old new front said more (Err Read) = ⊥
 LineRun old new front said more (Err Write) = (tail : List ℕ) × (Spoken (front ++ old.line.items ∷ []) (said ++ (more ++ tail))
     ⊎ ((command_of old.line.items ≡ None) × (more ++ tail ≡ fault_text (min (old.number + 1) (2 ^ 64 - 1)))))
@@ -50,13 +50,13 @@ pub record IsAfter (s : Session) (seen said : List ℕ) : Type 0 where
   pub spoken : SpokenTo front said s.world
   pub number : s.number ≡ min (length front) (2 ^ 64 - 1)
 
--- The line fits, and there is room for the longest line.
+-- The line fits, and there is room for the longest line and for the longest reply that is no list.
 abbrev pub HasRoom : Session → Type 0
-HasRoom s = (length s.line.items ≤ 4096) × (4096 ≤ vec_capacity s.line)
+HasRoom s = (length s.line.items ≤ 4096) × (4096 ≤ vec_capacity s.line) × (101 ≤ vec_capacity s.text)
 
 -- How a session fails, with this text written for some of the lines.
 abbrev pub Failed : List (List ℕ) → List ℕ → ServeError → Type 0
-Failed lines text (Memory e) = (e ≡ AllocError) × SpokenFront lines text
+Failed lines text (Memory e) = (e ≡ AllocError) × StopsAtList lines text
 Failed lines text Read = ⊥
 Failed lines text Write = Cut lines text
 

@@ -1,5 +1,5 @@
 -- What is written for lines.
-use Rattle.std.specs.Prelude.{◌≡◌, ℕ, ◌+◌, ◌-◌, ◌^◌, min, ◌⊎◌, IfSome, List, [], ◌∷◌, ◌++◌, length, map, codes, Option, Some, None, Result, Ok, Err}
+use Rattle.std.specs.Prelude.{◌≡◌, ℕ, ◌+◌, ◌-◌, ◌^◌, min, ◌⊎◌, IfSome, IsSomeAnd, List, [], ◌∷◌, ◌++◌, length, map, codes, Option, Some, None, Result, Ok, Err}
 use Rattle.std.specs.List.{flat_map}
 use Rattle.std.specs.Ordering.{nat_cmp}
 use Rattle.std.specs.Io.KnownBytes.{Consumes, IsAtEnd}
@@ -12,9 +12,10 @@ use Rattle.fc_command.specs.declared.command.session.ServeEnd.{ServeEnd}
 use Rattle.fc_command.specs.declared.command.session.ServeEnd.TheVariants.{Finished, NotACommand}
 use Rattle.fc_command.specs.declared.command.session.ServeError.{ServeError}
 use Rattle.fc_command.specs.declared.command.session.ServeError.TheVariants.{Memory, Read, Write}
-use Rattle.fc_lines.specs.Lines.{lines_of, whole_lines_of}
+use Rattle.fc_lines.specs.Lines.{lines_of, whole_lines_of, words_of}
 use Rattle.fc_lines.specs.Grammar.{command_of}
 use Rattle.fc_lines.specs.Texts.{text_of, fault_text}
+use Rattle.fc_lines.specs.Room.{NamesList, AsksForList}
 
 -- The lines are commands that lead from a new world to this one, and the text is that of their replies. No copy of a number is refused.
 pub record SpokenTo (lines : List (List ℕ)) (text : List ℕ) (world : World ℕ ℕ) : Type 0 where
@@ -33,6 +34,14 @@ Spoken lines text = (world : World ℕ ℕ) × SpokenTo lines text world
 -- Some front of the lines is spoken.
 abbrev pub SpokenFront : List (List ℕ) → List ℕ → Type 0
 SpokenFront lines text = (front after : List (List ℕ)) × (lines ≡ front ++ after) × Spoken front text
+
+-- A line that names a list, or asks for one.
+abbrev pub HasList : List ℕ → Type 0
+HasList line = NamesList (words_of line) ⊎ IsSomeAnd (command_of line) AsksForList
+
+-- Some front of the lines is spoken, and the line behind it names a list or asks for one.
+abbrev pub StopsAtList : List (List ℕ) → List ℕ → Type 0
+StopsAtList lines text = (front after : List (List ℕ)) × (line : List ℕ) × (lines ≡ front ++ line ∷ after) × HasList line × Spoken front text
 
 -- The lines before line n are spoken, line n is not a command, and its fault line follows.
 pub record Faulted (lines : List (List ℕ)) (text : List ℕ) (n : ℕ) : Type 0 where
@@ -56,8 +65,9 @@ abbrev pub Served : Option (List ℕ) → Option (List ℕ) → List ℕ → Res
 Served old new text (Ok Finished) = IsAtEnd new × IfSome old (λ source. Spoken (lines_of source) text)
 -- NotACommand: the lines before that line are spoken, and its fault line follows.
 Served old new text (Ok (NotACommand n)) = IfSome old (λ source. Faulted (lines_of source) text n)
--- Memory: some front of the lines is spoken, and nothing more is written.
-Served old new text (Err (Memory e)) = (e ≡ AllocError) × IfSome old (λ source. SpokenFront (lines_of source) text)
+-- Memory: it was refused at the start, and nothing is read or written; or for the list that the line behind those spoken names or asks for,
+-- and nothing more is written.
+Served old new text (Err (Memory e)) = (e ≡ AllocError) × (((new ≡ old) × (text ≡ [])) ⊎ IfSome old (λ source. StopsAtList (lines_of source) text))
 -- Read: the lines that were read to their line feed are spoken.
 Served old new text (Err Read) = (read : List ℕ) × Consumes old new read × Spoken (whole_lines_of read) text
 -- Write: a beginning was written.

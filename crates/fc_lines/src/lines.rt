@@ -1,10 +1,11 @@
 //! Lines as commands.
-ghost use Rattle.std.specs.Prelude.{◌≡◌, ◌^◌, ◌∷◌, ◌==◌, IfOk, position, nat_lt, Some, None, IsTrue, vec_items, if◌then◌else◌};
+ghost use Rattle.std.specs.Prelude.{◌≡◌, ◌^◌, ◌∷◌, ◌==◌, IfOk, OnErr, position, nat_lt, Some, None, IsTrue, vec_items, if◌then◌else◌};
 ghost use Rattle.std.specs.List.{list_all};
 ghost use Rattle.std.specs.Char.{is_ascii_digit};
 ghost use Rattle.std.specs.Str.Parse.{digits_value};
 ghost use Rattle.std.specs.Option.{option_map};
 ghost use Rattle.fc_lines.specs.Lines.{words_of, words_left};
+ghost use Rattle.fc_lines.specs.Room.{NamesList};
 ghost use Rattle.fc_lines.specs.Grammar.{
   command_of,
   number_of,
@@ -49,10 +50,11 @@ pub const MAX_LINE: usize = 4096;
 /// The command that a line asks for, if it is one.
 ///
 /// # Errors
-/// `AllocError` where room for a list in the command was refused.
+/// `AllocError` where room for a list that the line names was refused, so that its first word is `walk`, `write` or `extend`.
 #[tactic(auto, unfolding(crate::specs::Grammar::command_of))]
 pub fn command_in(alloc: Global, line: &[u8]) -> Result<Option<Command<u64, u64>>, AllocError>
-    ensures { IfOk result (λ command. command ≡ command_of line.now) }
+    ensures command { IfOk result (λ command. command ≡ command_of line.now) }
+    ensures list { OnErr result (NamesList (words_of line.now)) }
 {
     if line.len() > MAX_LINE {
         return Ok(None);
@@ -66,7 +68,8 @@ pub fn command_in(alloc: Global, line: &[u8]) -> Result<Option<Command<u64, u64>
 // The command on maps that the words ask for.
 #[tactic(auto, unfolding(crate::specs::Grammar::on_maps_of))]
 fn on_maps_in(alloc: Global, words: Option<&[u8]>) -> Result<Option<Command<u64, u64>>, AllocError>
-    ensures { IfOk result (λ command. command ≡ on_maps_of (words_left words.entry)) }
+    ensures command { IfOk result (λ command. command ≡ on_maps_of (words_left words.entry)) }
+    ensures list { OnErr result (NamesList (words_left words.entry)) }
 {
     let Some((word, words)) = next_word(words) else {
         return Ok(None)

@@ -1,122 +1,195 @@
 //! Replies as text.
-ghost use Rattle.std.specs.Prelude.{◌≡◌, ◌++◌, OnOk, codes, string_bytes};
+ghost use Rattle.std.specs.Prelude.{◌≡◌, ◌+◌, ◌*◌, ◌<◌, ◌≤◌, ◌++◌, OnOk, OnErr, MatchResult, codes, length, drop, vec_items, vec_len, vec_capacity};
 ghost use Rattle.std.specs.List.{flat_map};
-ghost use Rattle.fc_lines.specs.Texts.{text_of, step_text, item_text, fault_text};
+ghost use Rattle.std.specs.Fmt.{decimal};
+ghost use Rattle.fc_lines.specs.Texts.{text_of, step_text, item_text, order_text, refusal_text, fault_text};
+ghost use Rattle.fc_lines.specs.Room.{IsNoList};
 
 use crate::command::Reply;
 use fc_base::TryReserveError;
 use std::alloc::AllocError;
 use std::cmp::Ordering;
-use std::fmt::Write;
+
+/// The most bytes that the line for a reply has which is no list, with its line feed, and that a fault line has.
+pub const MAX_REPLY: usize = 101;
+
+// The most digits that a number has.
+const MAX_DIGITS: usize = 20;
 
 /// Appends the line that is written for a reply.
 ///
 /// # Errors
-/// `AllocError` where the text has no room and growing it was refused.
+/// `AllocError` where the text has no room for the line and growing it was refused. Room for `MAX_REPLY` more bytes is enough for
+/// each reply that is no list.
 #[tactic(auto, unfolding(crate::specs::Texts::text_of))]
-pub fn write_reply(text: &mut String, reply: &Reply<u64, u64>) -> Result<(), AllocError>
-    ensures { OnOk result (string_bytes text.new ≡ string_bytes text.old ++ text_of reply.now) }
+pub fn write_reply(text: &mut Vec<u8>, reply: &Reply<u64, u64>) -> Result<(), AllocError>
+    ensures written { OnOk result (text.new.items ≡ text.old.items ++ text_of reply.now) }
+    ensures full { OnErr result (vec_capacity text.old < vec_len text.old + length (text_of reply.now)) }
+    ensures room { vec_capacity text.old ≤ vec_capacity text.new }
+    ensures short { OnErr result (IsNoList reply.now → vec_capacity text.old < vec_len text.old + 101) }
 {
     match reply {
-        Reply::Done => write!(text, "done\n"),
-        Reply::Flag(true) => write!(text, "true\n"),
-        Reply::Flag(false) => write!(text, "false\n"),
-        Reply::Key(None) | Reply::Value(None) | Reply::Pair(None) => write!(text, "none\n"),
-        Reply::Key(Some(n)) | Reply::Value(Some(n)) => write!(text, "some {n}\n"),
-        Reply::Pair(Some((key, value))) => write!(text, "some {key} {value}\n"),
-        Reply::Both(first, second) => write_both(text, *first, *second),
-        Reply::Len(n) => write!(text, "{n}\n"),
+        Reply::Done => write_line(text, b"done", &[]),
+        Reply::Flag(true) => write_line(text, b"true", &[]),
+        Reply::Flag(false) => write_line(text, b"false", &[]),
+        Reply::Key(None) | Reply::Value(None) | Reply::Pair(None) => write_line(text, b"none", &[]),
+        Reply::Key(Some(n)) | Reply::Value(Some(n)) => write_line(text, b"some", &[Some(*n)]),
+        Reply::Pair(Some((key, value))) => write_line(text, b"some", &[Some(*key), Some(*value)]),
+        Reply::Both(first, second) => write_line(text, b"both", &[*first, *second]),
+        Reply::Len(n) => write_between(text, b"", *n as u64, b"\n"),
         Reply::Pairs(steps) => write_steps(text, steps.as_slice()),
-        Reply::Keys(steps) => write_items(text, steps.as_slice()),
-        Reply::Order(Ordering::Less) => write!(text, "less\n"),
-        Reply::Order(Ordering::Equal) => write!(text, "equal\n"),
-        Reply::Order(Ordering::Greater) => write!(text, "greater\n"),
-        Reply::BadRange => write!(text, "bad range\n"),
-        Reply::Refused(TryReserveError::AllocError) => write!(text, "refused alloc\n"),
-        Reply::Refused(TryReserveError::CapacityOverflow) => { write!(text, "refused overflow\n") }
-        Reply::GivenBack(key, value, TryReserveError::AllocError) => {
-            write!(text, "refused alloc {key} {value}\n")
+        Reply::Keys(steps) => write_line(text, b"list", steps.as_slice()),
+        Reply::Order(order) => write_line(text, order_words(*order), &[]),
+        Reply::BadRange => write_line(text, b"bad range", &[]),
+        Reply::Refused(e) => write_line(text, refusal_words(*e), &[]),
+        Reply::GivenBack(k, v, e) => write_line(text, refusal_words(*e), &[Some(*k), Some(*v)]),
+        Reply::BothGivenBack(k, v, l, w, e) => {
+            write_line(
+                text,
+                refusal_words(*e),
+                &[Some(*k), Some(*v), Some(*l), Some(*w)],
+            )
         }
-        Reply::GivenBack(key, value, TryReserveError::CapacityOverflow) => {
-            write!(text, "refused overflow {key} {value}\n")
-        }
-        Reply::BothGivenBack(k, v, l, w, e) => write_both_back(text, *k, *v, *l, *w, *e),
-        Reply::ItemGivenBack(key, TryReserveError::AllocError) => {
-            write!(text, "refused alloc {key}\n")
-        }
-        Reply::ItemGivenBack(key, TryReserveError::CapacityOverflow) => {
-            write!(text, "refused overflow {key}\n")
-        }
+        Reply::ItemGivenBack(key, e) => write_line(text, refusal_words(*e), &[Some(*key)]),
     }
 }
 
-// Appends the values that two maps had, each where there was one.
-#[tactic(auto, unfolding(crate::specs::Texts::text_of))]
-fn write_both(text: &mut String, first: Option<u64>, second: Option<u64>) -> Result<(), AllocError>
-    ensures { OnOk result (string_bytes text.new ≡ string_bytes text.old ++ text_of (Reply.Both first second)) }
+fn order_words(order: Ordering) -> &'static [u8]
+    ensures words { result.now ≡ order_text order }
+    ensures short { length result.now ≤ 16 }
 {
-    match (first, second) {
-        (Some(v), Some(w)) => write!(text, "both {v} {w}\n"),
-        (Some(v), None) => write!(text, "both {v} -\n"),
-        (None, Some(w)) => write!(text, "both - {w}\n"),
-        (None, None) => write!(text, "both - -\n"),
+    match order {
+        Ordering::Less => b"less",
+        Ordering::Equal => b"equal",
+        Ordering::Greater => b"greater",
     }
 }
 
-// Appends the keys and the values that were to be put into two maps, and why they were refused.
-#[tactic(auto, unfolding(crate::specs::Texts::text_of))]
-fn write_both_back(
-    text: &mut String,
-    k: u64,
-    v: u64,
-    l: u64,
-    w: u64,
-    e: TryReserveError,
-) -> Result<(), AllocError>
-    ensures { OnOk result (string_bytes text.new ≡ string_bytes text.old ++ text_of (Reply.BothGivenBack k v l w e)) }
+fn refusal_words(e: TryReserveError) -> &'static [u8]
+    ensures words { result.now ≡ refusal_text e }
+    ensures short { length result.now ≤ 16 }
 {
     match e {
-        TryReserveError::AllocError => write!(text, "refused alloc {k} {v} {l} {w}\n"),
-        TryReserveError::CapacityOverflow => write!(text, "refused overflow {k} {v} {l} {w}\n"),
+        TryReserveError::AllocError => b"refused alloc",
+        TryReserveError::CapacityOverflow => b"refused overflow",
     }
 }
 
-// Appends what each step of a walk gave.
-fn write_steps(text: &mut String, steps: &[Option<(u64, u64)>]) -> Result<(), AllocError>
-    ensures { OnOk result (string_bytes text.new ≡ string_bytes text.old ++ codes "list" ++ flat_map step_text steps.now ++ codes "\n") }
+// Appends a line of these words and items.
+fn write_line(text: &mut Vec<u8>, words: &[u8], items: &[Option<u64>]) -> Result<(), AllocError>
+    ensures written { OnOk result (text.new.items ≡ text.old.items ++ words.now ++ flat_map item_text items.now ++ codes "\n") }
+    ensures full { OnErr result (vec_capacity text.old < vec_len text.old + length (words.now ++ flat_map item_text items.now ++ codes "\n")) }
+    ensures short { OnErr result (vec_capacity text.old < vec_len text.old + length words.now + 21 * length items.now + 1) }
+    ensures room { vec_capacity text.old ≤ vec_capacity text.new }
 {
-    write!(text, "list")?;
-    for step in steps {
-        match step {
-            Some((key, value)) => write!(text, " {key}:{value}")?,
-            None => write!(text, " -")?,
-        }
-    }
-    write!(text, "\n")
+    text.extend_from_slice(words)?;
+    write_items(text, items)?;
+    text.extend_from_slice(b"\n")
 }
 
-// Appends what each step of a walk over a set gave.
-fn write_items(text: &mut String, steps: &[Option<u64>]) -> Result<(), AllocError>
-    ensures { OnOk result (string_bytes text.new ≡ string_bytes text.old ++ codes "list" ++ flat_map item_text steps.now ++ codes "\n") }
+// Appends each item, or what stands for a missing one.
+fn write_items(text: &mut Vec<u8>, items: &[Option<u64>]) -> Result<(), AllocError>
+    ensures written { OnOk result (text.new.items ≡ text.old.items ++ flat_map item_text items.now) }
+    ensures full { OnErr result (vec_capacity text.old < vec_len text.old + length (flat_map item_text items.now)) }
+    ensures short { MatchResult result (λ _. length (flat_map item_text items.now) ≤ 21 * length items.now) (λ _. vec_capacity text.old < vec_len text.old + 21 * length items.now) }
+    ensures room { vec_capacity text.old ≤ vec_capacity text.new }
 {
-    write!(text, "list")?;
-    for step in steps {
-        if let Some(item) = step {
-            write!(text, " {item}")?;
-        } else {
-            write!(text, " -")?;
-        }
+    for item in items {
+        write_item(text, *item)?;
     }
-    write!(text, "\n")
+    Ok(())
+}
+
+fn write_item(text: &mut Vec<u8>, item: Option<u64>) -> Result<(), AllocError>
+    ensures written { OnOk result (text.new.items ≡ text.old.items ++ item_text item) }
+    ensures full { OnErr result (vec_capacity text.old < vec_len text.old + length (item_text item)) }
+    ensures short { length (item_text item) ≤ 21 }
+    ensures room { vec_capacity text.old ≤ vec_capacity text.new }
+{
+    match item {
+        Some(n) => write_number(text, b" ", n),
+        None => text.extend_from_slice(b" -"),
+    }
+}
+
+// Appends what each step of a walk gave, as a line.
+fn write_steps(text: &mut Vec<u8>, steps: &[Option<(u64, u64)>]) -> Result<(), AllocError>
+    ensures written { OnOk result (text.new.items ≡ text.old.items ++ codes "list" ++ flat_map step_text steps.now ++ codes "\n") }
+    ensures full { OnErr result (vec_capacity text.old < vec_len text.old + length (codes "list" ++ flat_map step_text steps.now ++ codes "\n")) }
+    ensures room { vec_capacity text.old ≤ vec_capacity text.new }
+{
+    text.extend_from_slice(b"list")?;
+    for step in steps {
+        write_step(text, *step)?;
+    }
+    text.extend_from_slice(b"\n")
+}
+
+fn write_step(text: &mut Vec<u8>, step: Option<(u64, u64)>) -> Result<(), AllocError>
+    ensures written { OnOk result (text.new.items ≡ text.old.items ++ step_text step) }
+    ensures full { OnErr result (vec_capacity text.old < vec_len text.old + length (step_text step)) }
+    ensures room { vec_capacity text.old ≤ vec_capacity text.new }
+{
+    match step {
+        Some((key, value)) => {
+            write_number(text, b" ", key)?;
+            write_number(text, b":", value)
+        }
+        None => text.extend_from_slice(b" -"),
+    }
+}
+
+// Appends words, a number and the words behind it.
+fn write_between(text: &mut Vec<u8>, before: &[u8], n: u64, after: &[u8]) -> Result<(), AllocError>
+    ensures written { OnOk result (text.new.items ≡ text.old.items ++ (before.now ++ (decimal n ++ after.now))) }
+    ensures full { OnErr result (vec_capacity text.old < vec_len text.old + length (before.now ++ (decimal n ++ after.now))) }
+    ensures short { length (decimal n) ≤ 20 }
+    ensures room { vec_capacity text.old ≤ vec_capacity text.new }
+{
+    write_number(text, before, n)?;
+    text.extend_from_slice(after)
+}
+
+// Appends words and a number behind them.
+fn write_number(text: &mut Vec<u8>, words: &[u8], n: u64) -> Result<(), AllocError>
+    ensures written { OnOk result (text.new.items ≡ text.old.items ++ words.now ++ decimal n) }
+    ensures full { OnErr result (vec_capacity text.old < vec_len text.old + length (words.now ++ decimal n)) }
+    ensures short { length (decimal n) ≤ 20 }
+    ensures room { vec_capacity text.old ≤ vec_capacity text.new }
+{
+    text.extend_from_slice(words)?;
+    let mut digits = [0; MAX_DIGITS];
+    let start = write_digits(n, &mut digits);
+    text.extend_from_slice(&digits[start..])
+}
+
+// Writes the digits of a number at the end of the array, and answers where they start.
+fn write_digits(n: u64, digits: &mut [u8; MAX_DIGITS]) -> usize
+    ensures start { result + length (decimal n) ≡ 20 }
+    ensures written { drop result digits.new ≡ decimal n }
+{
+    let mut start = MAX_DIGITS;
+    let mut left = n;
+    while left >= 10 {
+        start -= 1;
+        digits[start] = b'0' + (left % 10) as u8;
+        left /= 10;
+    }
+    start -= 1;
+    digits[start] = b'0' + left as u8;
+    start
 }
 
 /// Appends the line that is written for line `n`, which is not a command.
 ///
 /// # Errors
-/// `AllocError` where the text has no room and growing it was refused.
+/// `AllocError` where the text has no room for the line and growing it was refused. Room for `MAX_REPLY` more bytes is enough.
 #[tactic(auto, unfolding(crate::specs::Texts::fault_text))]
-pub fn write_fault(text: &mut String, n: u64) -> Result<(), AllocError>
-    ensures { OnOk result (string_bytes text.new ≡ string_bytes text.old ++ fault_text n) }
+pub fn write_fault(text: &mut Vec<u8>, n: u64) -> Result<(), AllocError>
+    ensures written { OnOk result (text.new.items ≡ text.old.items ++ fault_text n) }
+    ensures full { OnErr result (vec_capacity text.old < vec_len text.old + length (fault_text n)) }
+    ensures short { OnErr result (vec_capacity text.old < vec_len text.old + 101) }
+    ensures room { vec_capacity text.old ≤ vec_capacity text.new }
 {
-    write!(text, "line {n}: not a command\n")
+    write_between(text, b"line ", n, b": not a command\n")
 }

@@ -1,7 +1,8 @@
 //! Lines as commands on sets.
-ghost use Rattle.std.specs.Prelude.{◌≡◌, IfOk, vec_items};
+ghost use Rattle.std.specs.Prelude.{◌≡◌, IfOk, OnErr, vec_items};
 ghost use Rattle.std.specs.Option.{option_map};
 ghost use Rattle.fc_lines.specs.Lines.{words_left};
+ghost use Rattle.fc_lines.specs.Room.{NamesList};
 ghost use Rattle.fc_lines.specs.Grammar.{
   number_of,
   some_read,
@@ -33,7 +34,8 @@ pub fn on_sets_in(
     alloc: Global,
     words: Option<&[u8]>,
 ) -> Result<Option<Command<u64, u64>>, AllocError>
-    ensures { IfOk result (λ command. command ≡ on_sets_of (words_left words.entry)) }
+    ensures command { IfOk result (λ command. command ≡ on_sets_of (words_left words.entry)) }
+    ensures list { OnErr result (NamesList (words_left words.entry)) }
 {
     let Some((word, words)) = next_word(words) else {
         return Ok(None)

@@ -41,19 +41,19 @@ fn commands_of(alloc: Global, lines: &[&[u8]]) -> Result<Vec<Command<u64, u64>>,
     Ok(commands)
 }
 
-fn is_written(text: &mut String, reply: &Reply<u64, u64>) -> bool {
+fn is_written(text: &mut Vec<u8>, reply: &Reply<u64, u64>) -> bool {
     write_reply(text, reply).is_ok()
 }
 
 // Whether these are the replies, a line for each.
 fn are_written(alloc: Global, replies: &[Reply<u64, u64>], wanted: &[u8]) -> bool {
-    let mut text = String::new(alloc);
+    let mut text = Vec::new(alloc);
     for reply in replies {
         if !is_written(&mut text, reply) {
             return false;
         }
     }
-    text.as_bytes() == wanted
+    text.as_slice() == wanted
 }
 
 #[test]
@@ -75,8 +75,8 @@ fn a_run_of_no_commands_answers_no_reply(rt: HostRuntime) -> Result<(), Fail> {
 }
 
 fn tells(alloc: Global, reply: Reply<u64, u64>, wanted: &[u8]) -> bool {
-    let mut text = String::new(alloc);
-    is_written(&mut text, &reply) && text.as_bytes() == wanted
+    let mut text = Vec::new(alloc);
+    is_written(&mut text, &reply) && text.as_slice() == wanted
 }
 
 #[test]

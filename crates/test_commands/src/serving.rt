@@ -115,6 +115,10 @@ fn is_write_error(end: &Result<ServeEnd, ServeError>) -> bool {
     matches!(end, Err(ServeError::Write))
 }
 
+fn is_out_of_memory(end: &Result<ServeEnd, ServeError>) -> bool {
+    matches!(end, Err(ServeError::Memory(TryReserveError::AllocError)))
+}
+
 fn has_ending(end: Result<ServeEnd, ServeError>, status: u8, line: &str) -> bool {
     let (found, text) = ending(&end);
     found == status && text == line
@@ -279,6 +283,22 @@ fn a_source_is_not_read_without_room_for_a_line(rt: HostRuntime) {
     let mut src = in_pieces(b"len a\n", 6);
     let mut out = wide(Vec::new(rt.alloc()));
     let end = served(rt.alloc(), &mut src, &mut out);
-    let is_told = matches!(end, Err(ServeError::Memory(TryReserveError::AllocError)));
-    assert!(rt; !is_refused || is_told && src.reads == 0 && out.kept.is_empty());
+    assert!(rt; !is_refused || is_out_of_memory(&end) && src.reads == 0 && out.kept.is_empty());
+}
+
+// With the room for its replies there are five requests: that room, two of the start, and two of the first pair of the map. A refusal of
+// one at the start is the end, before anything is read or written; a later one is the insertion's reply. The sweep runs it so.
+#[test]
+fn a_refusal_is_told_at_the_start_or_by_a_reply(rt: HostRuntime) {
+    let Ok(kept) = Vec::with_capacity(rt.alloc(), 64) else {
+        return
+    };
+    let mut src = in_pieces(b"insert a 1 1\nlen a\n", usize::MAX);
+    let mut out = wide(kept);
+    let end = served(rt.alloc(), &mut src, &mut out);
+    let told = out.kept.as_slice();
+    let at_start = is_out_of_memory(&end) && src.reads == 0 && told.is_empty();
+    let by_a_reply = is_finished(&end) && told == b"refused alloc 1 1\n0\n".as_slice();
+    let never = is_finished(&end) && told == b"none\n1\n".as_slice();
+    assert!(rt; at_start || by_a_reply || never);
 }

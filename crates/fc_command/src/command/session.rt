@@ -1,5 +1,5 @@
 //! Lines from a reader, and replies to a writer.
-ghost use Rattle.std.specs.Prelude.{◌≡◌, ◌+◌, ◌-◌, ◌^◌, ◌≤◌, List, [], ◌∷◌, ◌++◌, min, length, ℕ, MatchResult, Ok, None};
+ghost use Rattle.std.specs.Prelude.{◌≡◌, ◌+◌, ◌-◌, ◌^◌, ◌≤◌, List, [], ◌∷◌, ◌++◌, min, length, ℕ, MatchResult, Ok, None, vec_capacity};
 ghost use Rattle.std.specs.Io.KnownBytes.{Appends, Keeps};
 ghost use Rattle.fc_command.specs.declared.command.session.ServeError.TheVariants as ServeError;
 ghost use Rattle.fc_command.specs.Spoken.{Served, SpokenTo, ending_of};
@@ -8,7 +8,7 @@ ghost use Rattle.fc_command.specs.Session.{Written, LineRun, IsAfter, HasRoom, P
 use crate::command::world::World;
 use fc_base::TryReserveError;
 use fc_lines::lines::{MAX_LINE, command_in};
-use fc_lines::replies::{write_fault, write_reply};
+use fc_lines::replies::{MAX_REPLY, write_fault, write_reply};
 use std::alloc::Global;
 use std::io::{Read, Write};
 
@@ -24,7 +24,7 @@ pub enum ServeEnd {
 /// Why `serve` gave up.
 #[derive(Clone, Copy, PartialEq, Eq, Debug)]
 pub enum ServeError {
-    /// Memory was refused for a line or for the text of a reply.
+    /// Memory was refused: at the start, or for a list that a line names or asks for.
     Memory(TryReserveError),
     /// The source failed.
     Read,
@@ -43,7 +43,7 @@ struct Session {
     world: World<u64, u64>,
     line: Vec<u8>,
     number: u64,
-    text: String,
+    text: Vec<u8>,
 }
 
 /// Runs the lines of the source on a new world, and writes the text of each reply.
@@ -53,9 +53,11 @@ struct Session {
 /// read past line n is open.
 ///
 /// # Errors
-/// The replies of complete lines before the error are written. `Memory`: room for a line, which is taken before the first read,
-/// for the lists of a command or for a reply's text was refused. `Read`: a read failed, was interrupted, or the source hadn't ended after `u64::MAX` reads;
-/// a line that has not ended is not run. `Write`: a write failed, was interrupted or took no byte, or the flush failed.
+/// The replies of complete lines before the error are written. `Memory`: room for a line and a reply was refused, which is taken at
+/// the start, and nothing was read or written; or room for the list that an `extend`, a `walk` or a `write` names, or for the text of
+/// a reply that is a list, was. At any other line a refusal is its reply, and `serve` goes on. `Read`: a read failed, was interrupted,
+/// or the source hadn't ended after `u64::MAX` reads; a line that has not ended is not run. `Write`: a write failed, was interrupted
+/// or took no byte, or the flush failed.
 pub fn serve<R: Read, W: Write>(
     alloc: Global,
     src: &mut R,
@@ -69,12 +71,16 @@ pub fn serve<R: Read, W: Write>(
         Ok(line) => line,
         Err(_) => return Err(ServeError::Memory(TryReserveError::AllocError)),
     };
+    let text = match Vec::with_capacity(alloc, MAX_REPLY) {
+        Ok(text) => text,
+        Err(_) => return Err(ServeError::Memory(TryReserveError::AllocError)),
+    };
     let mut session = Session {
         alloc,
         world,
         line,
         number: 0,
-        text: String::new(alloc),
+        text,
     };
     session.run_all(src, out)
 }
@@ -110,6 +116,7 @@ impl Session {
 
     // Runs the line that the source ended in, if any.
     fn finish<W: Write>(&mut self, out: &mut W) -> Result<ServeEnd, ServeError>
+        requires { HasRoom self.old }
         ensures { (seen said : List ℕ) → IsAfter self.old seen said → (more : List ℕ)
             × Appends (W.contents out.old) (W.contents out.new) more
             × Ended seen (said ++ more) result }
@@ -148,7 +155,8 @@ impl Session {
 
     // Runs the line. It answers the line's number where it is not a command.
     fn run_line<W: Write>(&mut self, out: &mut W) -> Result<Option<u64>, ServeError>
-        ensures room { HasRoom self.old → result ≡ Ok None → HasRoom self.new }
+        requires { HasRoom self.old }
+        ensures room { result ≡ Ok None → HasRoom self.new }
         ensures ran { (front : List (List ℕ)) (said : List ℕ) → SpokenTo front said self.old.world
             → (more : List ℕ) × Appends (W.contents out.old) (W.contents out.new) more
             × LineRun self.old self.new front said more result }
@@ -163,7 +171,7 @@ impl Session {
                 let reply = self.world.step(command);
                 self.text.clear();
                 match write_reply(&mut self.text, &reply) {
-                    Ok(()) => write_text(out, self.text.as_bytes())?,
+                    Ok(()) => write_text(out, &self.text)?,
                     Err(_) => return Err(ServeError::Memory(TryReserveError::AllocError)),
                 }
                 self.line.clear();
@@ -175,14 +183,15 @@ impl Session {
 }
 
 // Writes that the line after so many is not a command, and answers its number.
-fn refuse<W: Write>(text: &mut String, out: &mut W, number: u64) -> Result<Option<u64>, ServeError>
+fn refuse<W: Write>(text: &mut Vec<u8>, out: &mut W, number: u64) -> Result<Option<u64>, ServeError>
+    requires { 101 ≤ vec_capacity text.old }
     ensures { (more : List ℕ) × Appends (W.contents out.old) (W.contents out.new) more
         × FaultTold (min (number + 1) (2 ^ 64 - 1)) more result }
 {
     let n = number.saturating_add(1);
     text.clear();
     match write_fault(text, n) {
-        Ok(()) => write_text(out, text.as_bytes())?,
+        Ok(()) => write_text(out, text)?,
         Err(_) => return Err(ServeError::Memory(TryReserveError::AllocError)),
     }
     Ok(Some(n))

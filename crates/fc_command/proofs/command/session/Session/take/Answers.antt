@@ -33,7 +33,7 @@ returns-then-len-eq-MAX_LINE-clause-ran g c seen said s =
 pub loop-byte-preserved : goal.loop-byte-preserved
 loop-byte-preserved g c = elim c.if-byte-eq10.branch [
   | then-byte-eq10+in_ok-n+in-None w ↦ record {
-    room = rw w.self-is (w.in_ok-n.ensures.room c.loop-byte.invariant.room (ap Ok w.in-None.is));
+    room = rw w.self-is (w.in_ok-n.ensures.room (ap Ok w.in-None.is));
     ran = λ seen said s.
         let m = c.loop-byte.invariant.ran seen said s in
         let r = rw w.in-None.is at (w.in_ok-n.ensures.ran m.2.front (said ++ m.0) m.2.spoken) in
@@ -42,7 +42,7 @@ loop-byte-preserved g c = elim c.if-byte-eq10.branch [
   | else-byte-eq10+else-len-eq-MAX_LINE w ↦ record {
     room =
         let told : w.push.new.self.items ≡ c.loop-byte.self.line.items ++ get_or c.args.piece.now c.loop-byte.byte-index 0 ∷ [] = rw w.unwrap.ensures at w.push.ensures.items in
-        rw w.self-is (omega (arith, ap length told, length_push c.loop-byte.self.line.items (get_or c.args.piece.now c.loop-byte.byte-index 0), c.loop-byte.invariant.room.0, c.loop-byte.self.line.ok.0), omega (arith, w.push.ensures.capacity, c.loop-byte.invariant.room.1));
+        rw w.self-is (omega (arith, ap length told, length_push c.loop-byte.self.line.items (get_or c.args.piece.now c.loop-byte.byte-index 0), c.loop-byte.invariant.room.0, c.loop-byte.self.line.ok.0), omega (arith, w.push.ensures.capacity, c.loop-byte.invariant.room.1), c.loop-byte.invariant.room.2);
     ran = λ seen said s.
         let m = c.loop-byte.invariant.ran seen said s in
         (m.0, rw w.out-is m.1, rw w.self-is (byte_on seen said c.args.piece.now m.0 [] c.loop-byte.byte-index c.loop-byte-test.true c.loop-byte.self m.2 w.if-byte-eq10.false _ refl refl (rw w.unwrap.ensures at w.push.ensures.items)));
