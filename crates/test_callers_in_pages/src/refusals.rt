@@ -4,6 +4,9 @@ use fallible_collections::{TryReserveError, TryVec};
 use std::alloc::{AllocError, Global};
 use std::test::Fail;
 
+// The most pairs of a map that is one leaf.
+const LEAF: u64 = 15;
+
 // Takes blocks of this size, until one is refused.
 fn take_all(alloc: Global, size: usize, held: &mut Vec<Vec<u8>>) {
     for _ in 0..20_000 {
@@ -31,20 +34,20 @@ fn all_memory(alloc: Global) -> Result<Vec<Vec<u8>>, AllocError> {
 #[test]
 fn an_insertion_without_memory_leaves_the_map(rt: HostRuntime) -> Result<(), Fail> {
     let mut map = BTreeMap::new(rt.alloc());
-    for key in 0..15u64 {
+    for key in 0..LEAF {
         map.try_insert(key, key)?;
     }
     let held = all_memory(rt.alloc())?;
     assert!(rt; Vec::<u8>::with_capacity(rt.alloc(), 24).is_err()); // else nothing is shown below, as by `rt try`
     assert!(rt;
         matches!(
-            map.try_insert(15, 16),
-            Err((15, 16, TryReserveError::AllocError))
+            map.try_insert(LEAF, 16),
+            Err((LEAF, 16, TryReserveError::AllocError))
         )
     );
-    assert!(rt; map.len() == 15 && map.get(&15).is_none());
+    assert!(rt; map.len() as u64 == LEAF && map.get(&LEAF).is_none());
     drop(held);
-    assert!(rt; matches!(map.try_insert(15, 16), Ok(None)));
+    assert!(rt; matches!(map.try_insert(LEAF, 16), Ok(None)));
     Ok(())
 }
 

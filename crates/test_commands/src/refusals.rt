@@ -1,6 +1,8 @@
-//! What refused commands leave of a world: the sweep refuses each request of these tests in turn.
+//! What refused commands leave of a world: the sweep refuses each request of these tests in turn. What they begin with is put in by a second command where
+//! the first is refused, so that it is lacking only where there is no memory.
 use crate::worlds::{
-    HALF, Kind, NUMBERS, counts, divided, has_value, holds, is_divided, lacks, puts, puts_all, step,
+    HALF, Kind, NUMBERS, counts, divided, has_value, holds, is_ample, is_divided, lacks, puts,
+    puts_all, step,
 };
 use fc_base::TryReserveError;
 use fc_command::command::{Command, Items, Reply, SetOp, Side, World};
@@ -61,7 +63,7 @@ fn have(world: &mut World<u64, u64>, kind: Kind, first: usize, second: usize) ->
     counts(world, kind, Side::First, first) && counts(world, kind, Side::Second, second)
 }
 
-// Whether the command is done on a divided world, or refused and leaves it as it was. Nothing where there was no memory for the world.
+// Whether the command is done on a divided world, or refused and leaves it as it was; or there is no memory for the world.
 fn is_done_or_undone(
     alloc: Global,
     kind: Kind,
@@ -70,7 +72,7 @@ fn is_done_or_undone(
     second: usize,
 ) -> bool {
     let Some(mut world) = divided(alloc, kind) else {
-        return true;
+        return !is_ample(alloc);
     };
     match outcome(&mut world, command) {
         Fate::Carried => have(&mut world, kind, first, second),
@@ -127,7 +129,7 @@ fn filled(alloc: Global, first: u64, second: u64) -> Option<World<u64, u64>> {
 // Whether 7 is put at the key in both maps, or all four numbers come back and neither map changes.
 fn is_put_in_both_or_in_neither(alloc: Global, len: u64, key: u64) -> bool {
     let Some(mut world) = filled(alloc, len, len) else {
-        return true;
+        return !is_ample(alloc);
     };
     let maps = Kind::Maps;
     match step(&mut world, Command::InsertBoth(key, 7, key, 8)) {
@@ -153,7 +155,7 @@ fn a_pair_for_each_map_is_put_in_both_or_in_neither(rt: HostRuntime) {
 // Whether the pairs are put in where none takes memory, though one that takes it was refused just before.
 fn is_refused_where_it_takes_memory(alloc: Global) -> bool {
     let Some(mut world) = filled(alloc, LEAF - 1, LEAF) else {
-        return true;
+        return !is_ample(alloc);
     };
     let was_refused = match step(&mut world, Command::InsertBoth(LEAF, 7, LEAF + 1, 8)) {
         Reply::Both(None, None) => false,
@@ -242,7 +244,7 @@ fn has_odd_ones(world: &mut World<u64, u64>, kind: Kind) -> bool {
 // Whether the divided world is extended by all of the scattered numbers, or refused at one of them.
 fn is_extended_or_refused(alloc: Global, kind: Kind, command: Command<u64, u64>) -> bool {
     let Some(mut world) = divided(alloc, kind) else {
-        return true;
+        return !is_ample(alloc);
     };
     let is_answered = match outcome(&mut world, command) {
         Fate::Carried => counts(&mut world, kind, Side::First, 2 * HALF),
@@ -252,18 +254,35 @@ fn is_extended_or_refused(alloc: Global, kind: Kind, command: Command<u64, u64>)
     is_answered && is_extended_by_a_front(&mut world, kind) && has_odd_ones(&mut world, kind)
 }
 
-#[test]
-fn a_refused_extension_keeps_the_pairs_before(rt: HostRuntime) {
-    if let Ok(command) = more_pairs(rt.alloc()) {
-        assert!(rt; is_extended_or_refused(rt.alloc(), Kind::Maps, command));
+// The scattered numbers for the maps or the sets, once more where their room is refused.
+fn more(alloc: Global, kind: Kind) -> Result<Command<u64, u64>, AllocError> {
+    match kind {
+        Kind::Maps => match more_pairs(alloc) {
+            Ok(command) => Ok(command),
+            Err(_refused) => more_pairs(alloc),
+        },
+        Kind::Sets => match more_items(alloc) {
+            Ok(command) => Ok(command),
+            Err(_refused) => more_items(alloc),
+        },
+    }
+}
+
+fn is_extended_if_there_is_memory(alloc: Global, kind: Kind) -> bool {
+    match more(alloc, kind) {
+        Ok(command) => is_extended_or_refused(alloc, kind, command),
+        Err(_refused) => !is_ample(alloc),
     }
 }
 
 #[test]
+fn a_refused_extension_keeps_the_pairs_before(rt: HostRuntime) {
+    assert!(rt; is_extended_if_there_is_memory(rt.alloc(), Kind::Maps));
+}
+
+#[test]
 fn a_refused_extension_keeps_the_items_before(rt: HostRuntime) {
-    if let Ok(command) = more_items(rt.alloc()) {
-        assert!(rt; is_extended_or_refused(rt.alloc(), Kind::Sets, command));
-    }
+    assert!(rt; is_extended_if_there_is_memory(rt.alloc(), Kind::Sets));
 }
 
 const FIRST: &[u64] = &[1, 2, 3];
@@ -279,7 +298,7 @@ fn overlaps(world: &mut World<u64, u64>) -> bool {
 fn keeps(alloc: Global, op: SetOp, side: Side, wanted: &[u64]) -> bool {
     let mut world = World::new(alloc);
     if !overlaps(&mut world) {
-        return true;
+        return !is_ample(alloc);
     }
     let (first, second) = match outcome(&mut world, Command::Keep(op, side)) {
         Fate::Carried => match side {

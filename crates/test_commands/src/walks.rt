@@ -1,7 +1,9 @@
 //! The lines of walks and writes under refused memory.
 use crate::serving::{in_pieces, served, wide};
+use crate::worlds::is_ample;
 use fc_base::TryReserveError;
 use fc_command::command::ServeError;
+use std::alloc::{AllocError, Global};
 
 const FOUR_LINES: &[u8] = b"insert a 1 2\nwalk a * * ff\nwrite a * * f=3 f=4\nwalk a * * b";
 
@@ -36,11 +38,20 @@ fn begins_the_replies(written: &[u8]) -> bool {
     false
 }
 
+// Once more where it is refused.
+fn room_for_replies(alloc: Global) -> Result<Vec<u8>, AllocError> {
+    match Vec::with_capacity(alloc, 100) {
+        Ok(room) => Ok(room),
+        Err(_refused) => Vec::with_capacity(alloc, 100),
+    }
+}
+
 // Memory is refused while a line becomes a command, while a command runs, or while its reply becomes text: whole lines are
 // written, and the world keeps its pair.
 #[test]
 fn a_refused_walk_changes_nothing(rt: HostRuntime) {
-    let Ok(room) = Vec::with_capacity(rt.alloc(), 100) else {
+    let Ok(room) = room_for_replies(rt.alloc()) else {
+        assert!(rt; !is_ample(rt.alloc()));
         return;
     };
     let mut out = wide(room);

@@ -52,9 +52,14 @@ pub(crate) fn is_len(reply: &Reply<u64, u64>, wanted: usize) -> bool {
     matches!(reply, Reply::Len(len) if *len == wanted)
 }
 
-/// Whether the number is new and is put in.
+/// Whether the number is new and is put in, by a second command where the first is refused.
 pub(crate) fn puts(world: &mut World<u64, u64>, kind: Kind, side: Side, number: u64) -> bool {
-    is_put(&step(world, put(kind, side, number)))
+    is_put(&step(world, put(kind, side, number))) || is_put(&step(world, put(kind, side, number)))
+}
+
+/// Whether memory is given.
+pub(crate) fn is_ample(alloc: Global) -> bool {
+    Vec::<u8>::with_capacity(alloc, 1).is_ok()
 }
 
 /// Whether the number is there, in a map with that value.

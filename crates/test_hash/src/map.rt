@@ -18,13 +18,20 @@ fn lettered(letter: char) -> Tagged {
     Tagged { number: 1, letter }
 }
 
-// The numbers below `end`, each with ten times itself.
+// The numbers below `end`, each with ten times itself, once more where one is refused.
 fn tens(alloc: Global, end: u64) -> Result<TryHashMap<u64, u64>, TryReserveError> {
     let mut map = TryHashMap::default(alloc);
     for key in 0..end {
-        map.insert(key, key.wrapping_mul(10))?;
+        if map.insert(key, key.wrapping_mul(10)).is_err() {
+            map.insert(key, key.wrapping_mul(10))?;
+        }
     }
     Ok(map)
+}
+
+/// Whether memory is given.
+pub(crate) fn is_ample(alloc: Global) -> bool {
+    Vec::<u8>::with_capacity(alloc, 1).is_ok()
 }
 
 // The map holds the numbers below `end`, each with ten times itself, and nothing else.
@@ -49,10 +56,19 @@ fn the_calls_on_one_key(rt: HostRuntime) -> Result<(), Fail> {
     Ok(())
 }
 
+// Once more where it is refused.
+fn room_for_three(alloc: Global) -> Result<TryHashMap<u64, u64>, TryReserveError> {
+    match TryHashMap::with_capacity(alloc, 3) {
+        Ok(map) => Ok(map),
+        Err(_refused) => TryHashMap::with_capacity(alloc, 3),
+    }
+}
+
 // Room for three: three insertions are Ok, and so is another value at each of their keys, whatever room is left. The sweep refuses the requests in turn.
 #[test]
 fn room_is_for_so_many_insertions(rt: HostRuntime) {
-    let Ok(mut map) = TryHashMap::with_capacity(rt.alloc(), 3) else {
+    let Ok(mut map) = room_for_three(rt.alloc()) else {
+        assert!(rt; !is_ample(rt.alloc()));
         return;
     };
     for key in 0..3u64 {
@@ -155,6 +171,7 @@ fn a_refused_insertion_changes_nothing(rt: HostRuntime) {
 #[test]
 fn a_refused_copy_leaves_its_source(rt: HostRuntime) {
     let Ok(map) = tens(rt.alloc(), 20) else {
+        assert!(rt; !is_ample(rt.alloc()));
         return;
     };
     match map.try_clone() {

@@ -1,4 +1,6 @@
 //! Keys and values that count their drops.
+use crate::map::is_ample;
+use fc_base::TryReserveError;
 use fc_hash::TryHashMap;
 use std::cell::Cell;
 use std::test::Fail;
@@ -40,6 +42,37 @@ fn each_key_and_value_is_dropped_once(rt: HostRuntime) {
     let gone = map.remove(&counted(3, &keys)).is_some();
     drop(map);
     assert!(rt; keys.get() == 21 && values.get() == 20 && (gone || kept < 20));
+}
+
+// The pair of 1, each with its drops counted; whether there was none.
+fn insert_one<'a>(
+    map: &mut TryHashMap<Token<'a>, Token<'a>>,
+    keys: &'a Cell<u64>,
+    values: &'a Cell<u64>,
+) -> Result<bool, TryReserveError> {
+    Ok(map.insert(counted(1, keys), counted(1, values))?.is_none())
+}
+
+// The sweep refuses the request, and counts the refused call: the map is then empty, and the same call once more puts the pair in.
+#[test]
+fn a_refused_first_insertion_leaves_an_empty_map(rt: HostRuntime) -> Result<(), Fail> {
+    let (keys, values) = (Cell::new(0), Cell::new(0));
+    let mut map = TryHashMap::default(rt.alloc());
+    let mut made = 1u64;
+    let mut answer = insert_one(&mut map, &keys, &values);
+    if answer.is_err() {
+        println!(rt; "refused")?;
+        assert!(rt; matches!(answer, Err(TryReserveError::AllocError)) && map.len() == 0);
+        assert!(rt; keys.get() == 1 && values.get() == 1);
+        answer = insert_one(&mut map, &keys, &values);
+        made = 2;
+        assert!(rt; answer.is_ok() == is_ample(rt.alloc()));
+    }
+    let is_put = matches!(answer, Ok(true)) && map.len() == 1;
+    assert!(rt; is_put || answer.is_err() && map.len() == 0);
+    drop(map);
+    assert!(rt; keys.get() == made && values.get() == made);
+    Ok(())
 }
 
 #[test]

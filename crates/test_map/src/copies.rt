@@ -1,11 +1,13 @@
 //! Copies of maps whose memory is refused: what they leave, and what is dropped.
 ghost use Rattle.std.specs.Prelude.{◌≡◌};
 
-use crate::map::{add_one, has_memory};
+use crate::map::{add_one, has_memory, room_for};
 use fc_base::{TryClone, TryReserveError};
 use fc_map::map::BTreeMap;
 use std::alloc::{AllocError, Global};
 use std::cell::Cell;
+use std::process::Abort;
+use std::test::Fail;
 
 // How often a key or a value was copied, and how often it or a copy of it was dropped.
 #[derive(Drop)]
@@ -61,7 +63,7 @@ fn no_lives() -> Lives {
 }
 
 fn fresh_lives(alloc: Global, count: usize) -> Result<Vec<PairLives>, AllocError> {
-    let mut all = Vec::with_capacity(alloc, count)?;
+    let mut all = room_for(alloc, count)?;
     for _ in 0..count {
         all.push(PairLives {
             key: no_lives(),
@@ -71,10 +73,11 @@ fn fresh_lives(alloc: Global, count: usize) -> Result<Vec<PairLives>, AllocError
     Ok(all)
 }
 
-// A map of as many pairs as there are lives, of the numbers from 0 on, each with itself.
+// A map of as many pairs as there are lives, of the numbers from 1 on, each with itself. What came back where it was refused goes in once more.
 fn counted_map<'a>(alloc: Global, all: &'a [PairLives]) -> Result<CountedMap<'a>, TryReserveError> {
     let mut map = BTreeMap::new(alloc);
-    for (number, lives) in all.iter().enumerate() {
+    for (below, lives) in all.iter().enumerate() {
+        let number = below.wrapping_add(1);
         let key = Counted {
             number,
             lives: &lives.key,
@@ -83,19 +86,21 @@ fn counted_map<'a>(alloc: Global, all: &'a [PairLives]) -> Result<CountedMap<'a>
             number,
             lives: &lives.value,
         };
-        map.try_insert(key, value)?;
+        if let Err((key, value, _refused)) = map.try_insert(key, value) {
+            map.try_insert(key, value)?;
+        }
     }
     Ok(map)
 }
 
-// Whether the map has the numbers below `count`, each with itself.
+// Whether the map has the numbers from 1 to `count`, each with itself.
 fn counts_up(map: &CountedMap<'_>, count: usize) -> bool {
     let mut number = 0usize;
     for (key, value) in map {
+        number = number.wrapping_add(1);
         if key.number != number || value.number != number {
             return false;
         }
-        number = number.wrapping_add(1);
     }
     number == count && map.len() == count
 }
@@ -153,14 +158,23 @@ fn is_undone(map: &CountedMap<'_>, all: &[PairLives]) -> bool {
     counts_up(map, all.len()) && are_copies_dropped(all)
 }
 
-// Whether the map was copied, or the copy refused and undone; where memory is there again, it is then copied.
-fn is_copied_or_undone(alloc: Global, map: &CountedMap<'_>, all: &[PairLives]) -> bool {
+// What became of a copy.
+#[derive(Clone, Copy)]
+enum Fate {
+    Copied,
+    // And undone; where memory is there again, the map is then copied.
+    Refused,
+    Wrong,
+}
+
+fn fate_of(alloc: Global, map: &CountedMap<'_>, all: &[PairLives]) -> Fate {
     match is_copied(map, all) {
-        Ok(copied) => copied && have_lived(all, 1, 1),
-        Err(TryReserveError::AllocError) => {
-            is_undone(map, all) && (!has_memory(alloc) || is_copied_at_last(map, all))
+        Ok(copied) if copied && have_lived(all, 1, 1) => Fate::Copied,
+        Err(TryReserveError::AllocError)
+            if is_undone(map, all) && (!has_memory(alloc) || is_copied_at_last(map, all)) => {
+            Fate::Refused
         }
-        Err(_other) => false,
+        _ => Fate::Wrong,
     }
 }
 
@@ -168,18 +182,50 @@ fn is_copied_at_last(map: &CountedMap<'_>, all: &[PairLives]) -> bool {
     matches!(is_copied(map, all), Ok(true)) && have_lived(all, 1, 1)
 }
 
-// Each request is refused in turn by the sweep: of the map, on three levels, and of its copy.
-#[test]
-fn a_refused_copy_is_dropped_and_leaves_its_source(rt: HostRuntime) {
-    let Ok(all) = fresh_lives(rt.alloc(), 170) else {
-        return;
+// Copies a map of so many pairs, whose own drops are then each counted once. Nothing where there is no memory for it.
+fn copy_of(alloc: Global, count: usize) -> Option<Fate> {
+    let Ok(all) = fresh_lives(alloc, count) else {
+        return None;
     };
-    {
-        let Ok(map) = counted_map(rt.alloc(), &all) else {
-            return;
-        };
-        assert!(rt; is_copied_or_undone(rt.alloc(), &map, &all));
-        forget_all(&all);
+    let fate = match counted_map(alloc, &all) {
+        Ok(map) => {
+            let fate = fate_of(alloc, &map, &all);
+            forget_all(&all);
+            fate
+        }
+        Err(_refused) => return None,
+    };
+    Some(if have_lived(&all, 0, 1) {
+        fate
+    } else {
+        Fate::Wrong
+    })
+}
+
+// The sweep refuses each request in turn, of the map and of its copy, and counts the copies that were refused.
+fn copies(rt: &(impl Abort + AllocGlobal + Print), count: usize) -> Result<(), Fail> {
+    match copy_of(rt.alloc(), count) {
+        Some(Fate::Refused) => Ok(println!(rt; "refused")?),
+        Some(Fate::Wrong) => {
+            assert!(rt; false);
+            Ok(())
+        }
+        Some(Fate::Copied) => Ok(()),
+        None => {
+            assert!(rt; !has_memory(rt.alloc()));
+            Ok(())
+        }
     }
-    assert!(rt; have_lived(&all, 0, 1));
+}
+
+// The map has three levels.
+#[test]
+fn a_refused_copy_is_dropped_and_leaves_its_source(rt: HostRuntime) -> Result<(), Fail> {
+    copies(&rt, 170)
+}
+
+// Ten leaves below a root.
+#[test]
+fn a_refused_copy_of_89_pairs_is_dropped(rt: HostRuntime) -> Result<(), Fail> {
+    copies(&rt, 89)
 }

@@ -1,6 +1,6 @@
 //! Maps that are extended by the items of an iterator, or made of them, where memory is refused.
 use crate::map::{
-    Drops, Tracked, TrackedKey, TrackedValue, fresh_drops, has_memory, take_all_memory,
+    Drops, Tracked, TrackedKey, TrackedValue, fresh_drops, has_memory, room_for, take_all_memory,
     were_all_dropped, were_dropped,
 };
 use crate::numbers::{Numbers, has, has_up_to, multiples};
@@ -12,12 +12,14 @@ use std::alloc::{AllocError, Global};
 use std::cell::Cell;
 use std::test::Fail;
 
-// The numbers below `count`, each with itself: from 0 on, always so many on, and round.
+// The numbers below `count`, each with itself: from 0 on, always so many on, and round. Room that is refused is asked for once more.
 fn pairs(alloc: Global, count: u64, step: u64) -> Result<Vec<(u64, u64)>, AllocError> {
     let mut all = Vec::new(alloc);
     for place in 0..count {
         let number = place.wrapping_mul(step) % count;
-        all.push((number, number))?;
+        if all.push((number, number)).is_err() {
+            all.push((number, number))?;
+        }
     }
     Ok(all)
 }
@@ -61,9 +63,11 @@ fn is_told(done: Result<(), TryReserveError>, len: usize) -> bool {
 #[test]
 fn a_refused_extension_keeps_the_items_before(rt: HostRuntime) {
     let Ok(mut map) = multiples(rt.alloc(), 0, 85, 3) else {
+        assert!(rt; !has_memory(rt.alloc()));
         return;
     };
     let Ok(items) = pairs(rt.alloc(), 170, 37) else {
+        assert!(rt; !has_memory(rt.alloc()));
         return;
     };
     let done = extend(&mut map, items);
@@ -75,7 +79,7 @@ fn tracked_pairs(
     alloc: Global,
     drops: &[Drops],
 ) -> Result<Vec<(TrackedKey<'_>, TrackedValue<'_>)>, AllocError> {
-    let mut all = Vec::with_capacity(alloc, drops.len())?;
+    let mut all = room_for(alloc, drops.len())?;
     for (place, each) in drops.iter().enumerate() {
         let key = TrackedKey {
             number: place.wrapping_mul(37) % 170,
@@ -115,10 +119,12 @@ fn extend_tracked<'a>(
 fn each_item_of_an_extension_is_dropped_once(rt: HostRuntime) {
     let sought = Cell::new(0);
     let Ok(drops) = fresh_drops(rt.alloc(), 170) else {
+        assert!(rt; !has_memory(rt.alloc()));
         return;
     };
     {
         let Ok(items) = tracked_pairs(rt.alloc(), &drops) else {
+            assert!(rt; !has_memory(rt.alloc()));
             return;
         };
         let mut map = BTreeMap::new(rt.alloc());
@@ -152,10 +158,12 @@ fn is_made<'a>(
 fn each_item_of_a_made_map_is_dropped_once(rt: HostRuntime) {
     let sought = Cell::new(0);
     let Ok(drops) = fresh_drops(rt.alloc(), 170) else {
+        assert!(rt; !has_memory(rt.alloc()));
         return;
     };
     {
         let Ok(items) = tracked_pairs(rt.alloc(), &drops) else {
+            assert!(rt; !has_memory(rt.alloc()));
             return;
         };
         assert!(rt; is_made(&tracked_map(rt.alloc(), items), &drops, &sought));

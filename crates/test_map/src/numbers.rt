@@ -15,7 +15,8 @@ pub(crate) fn insert(
     Ok(map.try_insert(key, value)?)
 }
 
-// The numbers from `first` on below `end`, each with itself times the factor.
+// The numbers from `first` on below `end`, each with itself times the factor, once more where one is refused: so that the map is refused only where there is
+// no memory.
 pub(crate) fn multiples(
     alloc: Global,
     first: u64,
@@ -24,7 +25,9 @@ pub(crate) fn multiples(
 ) -> Result<Numbers, TryReserveError> {
     let mut map = BTreeMap::new(alloc);
     for number in first..end {
-        insert(&mut map, number, number.wrapping_mul(factor))?;
+        if insert(&mut map, number, number.wrapping_mul(factor)).is_err() {
+            insert(&mut map, number, number.wrapping_mul(factor))?;
+        }
     }
     Ok(map)
 }

@@ -140,13 +140,15 @@ fn goes_in_or_comes_back(a: &mut Numbers, b: &mut Numbers, number: u64) -> bool 
     }
 }
 
-// Each request is refused in turn by the sweep. Maps for which there is no memory show nothing.
+// Each request is refused in turn by the sweep. Where there is no memory for the maps nothing is shown.
 #[test]
 fn a_refused_pair_of_insertions_leaves_both_maps(rt: HostRuntime) {
     let Ok(mut a) = multiples(rt.alloc(), 1, BEYOND, 1) else {
+        assert!(rt; !has_memory(rt.alloc()));
         return;
     };
     let Ok(mut b) = multiples(rt.alloc(), 1, BEYOND, 1) else {
+        assert!(rt; !has_memory(rt.alloc()));
         return;
     };
     assert!(rt; goes_in_or_comes_back(&mut a, &mut b, BEYOND));
@@ -169,12 +171,13 @@ fn is_ready_or_comes_back(map: &mut Numbers, last: u64) -> Result<bool, TryReser
     Ok(has_up_to(map, length))
 }
 
-// Each request is refused in turn by the sweep. A map for which there is no memory shows nothing.
+// Each request is refused in turn by the sweep. Where there is no memory for the map nothing is shown.
 #[test]
 fn a_refused_ready_entry_leaves_every_pair(rt: HostRuntime) -> Result<(), Fail> {
     for last in [CAPACITY as u64, BEYOND, 150] {
-        if let Ok(mut map) = multiples(rt.alloc(), 1, last.wrapping_add(1), 1) {
-            assert!(rt; is_ready_or_comes_back(&mut map, last)?);
+        match multiples(rt.alloc(), 1, last.wrapping_add(1), 1) {
+            Ok(mut map) => assert!(rt; is_ready_or_comes_back(&mut map, last)?),
+            Err(_refused) => assert!(rt; !has_memory(rt.alloc())),
         }
     }
     Ok(())

@@ -173,18 +173,40 @@ fn with_room(alloc: Global, items: &[u64], room: usize) -> Result<Vec<u64>, Allo
     Ok(v)
 }
 
-// Whether the call of the row is done; or, where that may be, it is refused and leaves the items.
+// Once more where it is refused.
+fn with_room_at_last(alloc: Global, items: &[u64], room: usize) -> Result<Vec<u64>, AllocError> {
+    match with_room(alloc, items, room) {
+        Ok(v) => Ok(v),
+        Err(_refused) => with_room(alloc, items, room),
+    }
+}
+
+/// Whether memory is given.
+pub(crate) fn is_ample(alloc: Global) -> bool {
+    Vec::<u8>::with_capacity(alloc, 1).is_ok()
+}
+
+// Whether the call that was refused is done when it is made again, or is refused again, as there is no memory.
+fn is_done_again(alloc: Global, v: &mut Vec<u64>, row: &Row) -> bool {
+    let (before, call, after) = *row;
+    if called(alloc, v, call).is_ok() {
+        holds(v, after)
+    } else {
+        holds(v, before) && !is_ample(alloc)
+    }
+}
+
+// Whether the call of the row is done; or, where that may be, it is refused and leaves the items, and is then done.
 fn ends_well(alloc: Global, row: &Row, room: usize, may_be_refused: bool) -> bool {
     let (before, call, after) = *row;
-    let Ok(mut v) = with_room(alloc, before, room) else {
-        return may_be_refused;
+    let Ok(mut v) = with_room_at_last(alloc, before, room) else {
+        return may_be_refused && !is_ample(alloc);
     };
     let answer = called(alloc, &mut v, call);
     if answer.is_ok() {
-        holds(&v, after)
-    } else {
-        may_be_refused && is_refused(&answer) && holds(&v, before)
+        return holds(&v, after);
     }
+    may_be_refused && is_refused(&answer) && holds(&v, before) && is_done_again(alloc, &mut v, row)
 }
 
 // How many of the rows end well before one does not, each with no room to spare and with some.

@@ -1,11 +1,12 @@
 //! What refused requests leave: the sweep refuses each request of these tests in turn.
 ghost use Rattle.std.specs.Prelude.{◌≡◌};
 
-use crate::calls::{calls_that_end_well, holds, is_refused};
+use crate::calls::{calls_that_end_well, holds, is_ample, is_refused};
 use fc_base::{TryClone, TryReserveError};
 use fc_vec::{FallibleVec, TryCollect, TryVec, try_from_elem};
 use std::alloc::{AllocError, Global};
 use std::cell::Cell;
+use std::test::Fail;
 
 #[test]
 fn a_refused_call_leaves_the_vector(rt: HostRuntime) {
@@ -46,6 +47,14 @@ fn boxes<'a>(
     Ok(made)
 }
 
+// Once more where they are refused.
+fn three_boxes<'a>(alloc: Global, asked: &'a Cell<u64>) -> Result<Vec<Boxed<'a>>, AllocError> {
+    match boxes(alloc, 3, asked) {
+        Ok(made) => Ok(made),
+        Err(_refused) => boxes(alloc, 3, asked),
+    }
+}
+
 // The boxes hold the numbers from 1 on.
 fn count_up(boxes: &[Boxed]) -> bool {
     for i in 0..boxes.len() {
@@ -71,27 +80,74 @@ fn is_refused_behind_copies(
         && (v.capacity() == 0) == (asked == 0)
 }
 
-// Puts in what is left of the sources, which is whole or refused again.
-fn is_completed<'a>(v: &mut Vec<Boxed<'a>>, sources: &[Boxed<'a>]) -> bool {
-    let (_, left) = sources.split_at(v.len().min(sources.len()));
-    extended(v, left).is_err() || v.len() == 3
+// Whether all sources go in behind those that were kept by the same call once more, or it is refused again, as there is no memory.
+fn is_extended_again<'a>(alloc: Global, v: &mut Vec<Boxed<'a>>, sources: &[Boxed<'a>]) -> bool {
+    let kept = v.len();
+    if extended(v, sources).is_err() {
+        return !is_ample(alloc);
+    }
+    let (front, rest) = v.split_at(kept.min(v.len()));
+    front.len() == kept && rest.len() == 3 && count_up(front) && count_up(rest)
 }
 
-// The room of three is asked for first, then a box for each copy. What is left of the sources by a refusal goes in by a call with ample memory.
+// The room of three is asked for first, then a box for each copy. The sweep counts the refused calls.
 #[test]
-fn an_extension_keeps_the_boxes_before_the_refused_one(rt: HostRuntime) {
+fn an_extension_keeps_the_boxes_before_the_refused_one(rt: HostRuntime) -> Result<(), Fail> {
     let asked = Cell::new(0);
-    let Ok(sources) = boxes(rt.alloc(), 3, &asked) else {
-        return;
+    let Ok(sources) = three_boxes(rt.alloc(), &asked) else {
+        assert!(rt; !is_ample(rt.alloc()));
+        return Ok(());
     };
     let mut v = Vec::new(rt.alloc());
     let answer = extended(&mut v, &sources);
-    let is_right = if answer.is_ok() {
-        v.len() == 3 && asked.get() == 3
+    assert!(rt; count_up(&v) && count_up(&sources));
+    if answer.is_ok() {
+        assert!(rt; v.len() == 3 && asked.get() == 3);
     } else {
-        is_refused_behind_copies(&answer, &v, asked.get()) && is_completed(&mut v, &sources)
+        println!(rt; "refused")?;
+        assert!(rt; is_refused_behind_copies(&answer, &v, asked.get()));
+        assert!(rt; is_extended_again(rt.alloc(), &mut v, &sources) && count_up(&sources));
+    }
+    Ok(())
+}
+
+// Once more where it is refused.
+fn only_three(alloc: Global) -> Result<Vec<u64>, AllocError> {
+    match Vec::from_slice(alloc, &[3]) {
+        Ok(v) => Ok(v),
+        Err(_refused) => Vec::from_slice(alloc, &[3]),
+    }
+}
+
+fn joined(v: &mut Vec<u64>, other: &mut Vec<u64>) -> Result<(), TryReserveError> {
+    v.try_append(other)
+}
+
+// The sweep refuses the room for the one item, and counts the refused call.
+#[test]
+fn a_refused_append_leaves_both_vectors(rt: HostRuntime) -> Result<(), Fail> {
+    let Ok(mut other) = only_three(rt.alloc()) else {
+        assert!(rt; !is_ample(rt.alloc()));
+        return Ok(());
     };
-    assert!(rt; is_right && count_up(&v) && count_up(&sources));
+    let mut v = Vec::new(rt.alloc());
+    let answer = joined(&mut v, &mut other);
+    if answer.is_err() {
+        println!(rt; "refused")?;
+        assert!(rt; is_refused(&answer) && v.is_empty() && holds(&other, &[3]));
+        let again = joined(&mut v, &mut other);
+        assert!(rt; again.is_ok() == is_ample(rt.alloc()));
+    }
+    let is_done = other.is_empty();
+    assert!(rt;
+        if is_done {
+            holds(&v, &[3])
+        } else {
+            v.is_empty() && holds(&other, &[3])
+        }
+    );
+    assert!(rt; is_done || answer.is_err());
+    Ok(())
 }
 
 fn reserved(v: &mut TryVec<u64>, more: usize) -> Result<(), TryReserveError> {
@@ -150,6 +206,14 @@ fn two_parts(alloc: Global) -> Result<TryVec<TryVec<u64>>, TryReserveError> {
     Ok(parts)
 }
 
+// Once more where they are refused.
+fn two_parts_at_last(alloc: Global) -> Result<TryVec<TryVec<u64>>, TryReserveError> {
+    match two_parts(alloc) {
+        Ok(parts) => Ok(parts),
+        Err(_refused) => two_parts(alloc),
+    }
+}
+
 // The parts stay as they are.
 fn are_joined(parts: &TryVec<TryVec<u64>>) -> bool {
     is_whole(parts.concat(), &[1, 2, 1, 2]) && parts.len() == 2
@@ -160,7 +224,8 @@ fn what_is_made_is_whole_or_refused(rt: HostRuntime) {
     assert!(rt; is_whole(repeated(rt.alloc()), &[7, 7, 7]));
     assert!(rt; is_whole(collected(rt.alloc()), &[0, 1, 2, 3, 4, 5, 6, 7, 8]));
     assert!(rt; is_whole(copied(rt.alloc()), &[1, 2]));
-    if let Ok(parts) = two_parts(rt.alloc()) {
-        assert!(rt; are_joined(&parts));
+    match two_parts_at_last(rt.alloc()) {
+        Ok(parts) => assert!(rt; are_joined(&parts)),
+        Err(_refused) => assert!(rt; !is_ample(rt.alloc())),
     }
 }

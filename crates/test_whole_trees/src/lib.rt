@@ -13,4 +13,6 @@ mod refused;
 #[cfg(test)]
 mod split_off;
 #[cfg(test)]
+mod tracked;
+#[cfg(test)]
 mod trees;

@@ -1,289 +1,312 @@
-//! Appends, splits and maps made of an iterator where each request is refused in turn by the sweep: what a refused call leaves, the
-//! same call once more, and that each key and value is dropped once.
+//! Insertions, appends, splits and maps made of an iterator where each request is refused in turn by the sweep: what a refused call leaves, the same
+//! call once more, and that each key and value is dropped once.
+use crate::tracked::{
+    Key, Ledger, Map, NUMBERS, Value, holds, is_ample, is_pair, make_key, map_of, pair,
+};
 use fc_base::TryReserveError;
-use fc_map::map::{BTreeMap, Iter};
+use fc_map::map::BTreeMap;
+use fc_tree_node::node::CAPACITY;
 use fc_vec::TryFromIterator;
 use std::alloc::{AllocError, Global};
-use std::cell::Cell;
+use std::process::Abort;
 use std::test::Fail;
 
-// A number as a key, which counts its drops.
-#[derive_where(PartialEq, Eq, PartialOrd, Ord)]
-struct Key<'a> {
-    number: usize,
-    #[derive_where(skip)]
-    drops: &'a Cell<u64>,
+// What became of a call that is made, and made again where it was refused.
+#[derive(Clone, Copy)]
+enum Fate {
+    Done,
+    // And then done; or refused again, where there was no memory.
+    Refused,
+    // There was no memory for what the call is given.
+    NotMade,
+    Wrong,
 }
 
-impl Drop for Key<'_> {
-    fn drop(self) {
-        add_one(self.drops);
-        let Key {
-            number: _,
-            drops: _,
-        } = self;
+fn fate_of(turn: usize, is_right: bool) -> Fate {
+    if !is_right {
+        Fate::Wrong
+    } else if turn == 0 {
+        Fate::Done
+    } else {
+        Fate::Refused
     }
 }
 
-// A value that counts its drops.
-struct Value<'a> {
-    drops: &'a Cell<u64>,
+fn if_no_memory(alloc: Global, fate: Fate) -> Fate {
+    if is_ample(alloc) { Fate::Wrong } else { fate }
 }
 
-impl Drop for Value<'_> {
-    fn drop(self) {
-        add_one(self.drops);
-        let Value { drops: _ } = self;
+// The sweep counts the calls that were refused. By now all that the call was given and gave is dropped.
+fn ends(rt: &(impl Abort + Print), fate: Fate, ledger: &Ledger) -> Result<(), Fail> {
+    if matches!(fate, Fate::Refused) {
+        println!(rt; "refused")?;
     }
+    assert!(rt; !matches!(fate, Fate::Wrong) && ledger.are_living(&[], &[]));
+    Ok(())
 }
 
-// How often a key and its value were dropped.
-#[derive(Drop)]
-struct Drops {
-    key: Cell<u64>,
-    value: Cell<u64>,
-}
-
-type Map<'a> = BTreeMap<Key<'a>, Value<'a>>;
-
-fn add_one(count: &Cell<u64>) {
-    count.set(count.get().wrapping_add(1));
-}
-
-fn fresh_drops(alloc: Global, count: usize) -> Result<Vec<Drops>, AllocError> {
-    let mut all = Vec::with_capacity(alloc, count)?;
-    for _ in 0..count {
-        all.push(Drops {
-            key: Cell::new(0),
-            value: Cell::new(0),
-        })?;
+// The numbers from 0 on.
+fn numbers() -> [usize; NUMBERS] {
+    let mut all = [0; NUMBERS];
+    for i in 0..NUMBERS {
+        all[i] = i;
     }
-    Ok(all)
+    all
 }
 
-fn were_dropped(drops: &Drops, times: u64) -> bool {
-    drops.key.get() == times && drops.value.get() == times
-}
-
-// Whether each key and value from `start` to `end` was dropped once, and the others not.
-fn dropped_between(drops: &[Drops], start: usize, end: usize) -> bool {
-    for i in 0..drops.len() {
-        if !were_dropped(&drops[i], u64::from(start <= i && i < end)) {
-            return false;
-        }
+// The multiples of the factor, from 0 on.
+fn multiples(factor: usize) -> [usize; 60] {
+    let mut all = [0; 60];
+    for i in 0..60usize {
+        all[i] = i.wrapping_mul(factor);
     }
-    true
+    all
 }
 
-// Whether each key and value was dropped once, or was not yet made: no one more often.
-fn dropped_at_most_once(drops: &[Drops]) -> bool {
-    for i in 0..drops.len() {
-        if !were_dropped(&drops[i], 0) && !were_dropped(&drops[i], 1) {
-            return false;
-        }
-    }
-    true
+fn is_no_memory(e: TryReserveError) -> bool {
+    matches!(e, TryReserveError::AllocError)
 }
 
-fn pair(number: usize, drops: &Drops) -> (Key<'_>, Value<'_>) {
-    let key = Key {
-        number,
-        drops: &drops.key,
+// Whether the pair is new, where it is put in; and else the pair that came back.
+fn insert<'a>(
+    map: &mut Map<'a>,
+    given: (Key<'a>, Value<'a>),
+) -> Result<bool, (Key<'a>, Value<'a>, TryReserveError)> {
+    let (key, value) = given;
+    Ok(map.try_insert(key, value)?.is_none())
+}
+
+// How many comparisons a look-up of the number makes. The keys that are sought are told apart from those of the map.
+fn comparisons_of<'a>(map: &Map<'a>, number: usize, ledgers: [&'a Ledger; 2]) -> u64 {
+    forget_comparisons(ledgers);
+    let is_there = map.contains_key(&make_key(number, ledgers[1]));
+    if is_there { comparisons_in(ledgers) } else { 0 }
+}
+
+fn forget_comparisons(ledgers: [&Ledger; 2]) {
+    ledgers[0].comparisons.set(0);
+    ledgers[1].comparisons.set(0);
+}
+
+fn comparisons_in(ledgers: [&Ledger; 2]) -> u64 {
+    let first = ledgers[0].comparisons.get();
+    first.saturating_add(ledgers[1].comparisons.get())
+}
+
+// Of ascending 1 to 151 the root holds 81 alone, and 151 is sought among 81, then 90, 99, .. 144, and then 145 to 151.
+fn has_three_levels<'a>(map: &Map<'a>, ledgers: [&'a Ledger; 2]) -> bool {
+    comparisons_of(map, 81, ledgers) == 1 && comparisons_of(map, 151, ledgers) == 15
+}
+
+// Puts 151 behind ascending 1 to 150.
+fn inserts<'a>(alloc: Global, ledgers: [&'a Ledger; 2]) -> Fate {
+    let ledger = ledgers[0];
+    let all = numbers();
+    let Some(mut map) = map_of(alloc, &all[1..151], ledger) else {
+        return if_no_memory(alloc, Fate::NotMade);
     };
-    (
-        key,
-        Value {
-            drops: &drops.value,
-        },
-    )
-}
-
-// A map of as many multiples of the factor, from 0 on.
-fn multiples(alloc: Global, drops: &[Drops], factor: usize) -> Result<Map<'_>, TryReserveError> {
-    let mut map = BTreeMap::new(alloc);
-    for (i, each) in drops.iter().enumerate() {
-        let (key, value) = pair(i.wrapping_mul(factor), each);
-        map.try_insert(key, value)?;
-    }
-    Ok(map)
-}
-
-fn is_key(item: Option<(&Key<'_>, &Value<'_>)>, number: usize) -> bool {
-    match item {
-        Some((key, _)) => key.number == number,
-        None => false,
-    }
-}
-
-fn gives_forward(
-    walk: &mut Iter<'_, Key<'_>, Value<'_>>,
-    start: usize,
-    end: usize,
-    factor: usize,
-) -> bool {
-    for i in start..end {
-        if !is_key(walk.next(), i.wrapping_mul(factor)) {
-            return false;
+    let mut given = pair(151, ledger);
+    for turn in 0..2 {
+        match insert(&mut map, given) {
+            Ok(is_new) => {
+                let is_put = is_new && holds(&map, &all[1..152]) && has_three_levels(&map, ledgers);
+                return fate_of(turn, is_put);
+            }
+            Err((key, value, e)) => {
+                let is_back = key.number == 151 && value.number == 151 && is_no_memory(e);
+                if !is_back || !holds(&map, &all[1..151]) || !ledger.are_living(&all[1..152], &[]) {
+                    return Fate::Wrong;
+                }
+                given = (key, value);
+            }
         }
     }
-    walk.next().is_none()
+    if_no_memory(alloc, Fate::Refused)
 }
 
-fn gives_backward(
-    walk: &mut Iter<'_, Key<'_>, Value<'_>>,
-    start: usize,
-    end: usize,
-    factor: usize,
-) -> bool {
-    for above in start..end {
-        let i = end.wrapping_sub(1).wrapping_sub(above.wrapping_sub(start));
-        if !is_key(walk.next_back(), i.wrapping_mul(factor)) {
-            return false;
+#[test]
+fn a_refused_insertion_leaves_two_levels(rt: HostRuntime) -> Result<(), Fail> {
+    let (ledger, sought) = (Ledger::new(), Ledger::new());
+    let fate = inserts(rt.alloc(), [&ledger, &sought]);
+    ends(&rt, fate, &ledger)
+}
+
+// Whether the map holds the numbers of both.
+fn is_joined(map: &Map<'_>, ours: &[usize], theirs: &[usize]) -> bool {
+    let mut walk = map.iter();
+    let mut count = 0usize;
+    for number in 0..NUMBERS {
+        if ours.contains(&number) || theirs.contains(&number) {
+            count = count.wrapping_add(1);
+            if !is_pair(walk.next(), number) {
+                return false;
+            }
         }
     }
-    walk.next_back().is_none()
+    walk.next().is_none() && map.len() == count
 }
 
-// Whether the map holds just these multiples of the factor.
-fn holds(map: &Map<'_>, start: usize, end: usize, factor: usize) -> bool {
-    map.len() == end.wrapping_sub(start)
-        && gives_forward(&mut map.iter(), start, end, factor)
-        && gives_backward(&mut map.iter(), start, end, factor)
+// Whether the append is done, by at most twice as many comparisons as there are pairs, or refused.
+fn append<'a>(map: &mut Map<'a>, other: &mut Map<'a>, ledgers: [&Ledger; 2]) -> Option<bool> {
+    let pairs = map.len().saturating_add(other.len()) as u64;
+    forget_comparisons(ledgers);
+    match map.append(other) {
+        Ok(()) if comparisons_in(ledgers) <= pairs.saturating_mul(2) => Some(true),
+        Err(TryReserveError::AllocError) => Some(false),
+        _ => None,
+    }
 }
 
-// Whether memory is given again.
-fn is_ample(alloc: Global) -> bool {
-    Vec::<u8>::with_capacity(alloc, 1).is_ok()
-}
-
-// Whether the walk gives the numbers below 120 that 2 or 3 divides.
-fn gives_joined(walk: &mut Iter<'_, Key<'_>, Value<'_>>) -> bool {
-    for number in 0..120usize {
-        if (number % 2 == 0 || number % 3 == 0) && !is_key(walk.next(), number) {
-            return false;
+// Of equal keys theirs stays, and ours is dropped.
+fn appends(alloc: Global, ours: &[usize], theirs: &[usize], ledgers: [&Ledger; 2]) -> Fate {
+    let Some(mut map) = map_of(alloc, ours, ledgers[0]) else {
+        return if_no_memory(alloc, Fate::NotMade);
+    };
+    let Some(mut other) = map_of(alloc, theirs, ledgers[1]) else {
+        return if_no_memory(alloc, Fate::NotMade);
+    };
+    for turn in 0..2 {
+        let Some(is_done) = append(&mut map, &mut other, ledgers) else {
+            return Fate::Wrong;
+        };
+        if is_done {
+            let are_kept = ledgers[0].are_living(ours, theirs)
+                && ledgers[1].are_living(theirs, &[]);
+            let is_right = are_kept && is_joined(&map, ours, theirs) && holds(&other, &[]);
+            return fate_of(turn, is_right);
+        }
+        let are_whole = ledgers[0].are_living(ours, &[]) && ledgers[1].are_living(theirs, &[]);
+        if !are_whole || !holds(&map, ours) || !holds(&other, theirs) {
+            return Fate::Wrong;
         }
     }
-    walk.next().is_none()
+    if_no_memory(alloc, Fate::Refused)
 }
 
-// Whether of the even numbers, which are ours, those that 3 divides were dropped, and the others not.
-fn were_replaced(ours: &[Drops]) -> bool {
-    for i in 0..ours.len() {
-        if !were_dropped(&ours[i], u64::from(i % 3 == 0)) {
-            return false;
-        }
-    }
-    true
-}
-
-// Appends 40 multiples of 3 to 60 of 2, and where that is refused once more; whether all is right then, and was between.
-fn appends(alloc: Global, ours: &[Drops], theirs: &[Drops]) -> Result<bool, TryReserveError> {
-    let mut map = multiples(alloc, ours, 2)?;
-    let mut other = multiples(alloc, theirs, 3)?;
-    for _ in 0..2 {
-        if map.append(&mut other).is_ok() {
-            let is_joined = map.len() == 80 && gives_joined(&mut map.iter());
-            let are_dropped = were_replaced(ours) && dropped_between(theirs, 0, 0);
-            return Ok(is_joined && holds(&other, 0, 0, 3) && are_dropped);
-        }
-        let is_same = holds(&map, 0, 60, 2) && holds(&other, 0, 40, 3);
-        if !is_same || !dropped_between(ours, 0, 0) || !dropped_between(theirs, 0, 0) {
-            return Ok(false);
-        }
-    }
-    Ok(!is_ample(alloc))
-}
-
-// Each request is refused in turn by the sweep.
+// Some keys are in both maps.
 #[test]
 fn a_refused_append_leaves_both_maps(rt: HostRuntime) -> Result<(), Fail> {
-    let Ok(ours) = fresh_drops(rt.alloc(), 60) else {
-        return Ok(println!(rt; "refused")?);
-    };
-    let Ok(theirs) = fresh_drops(rt.alloc(), 40) else {
-        return Ok(println!(rt; "refused")?);
-    };
-    match appends(rt.alloc(), &ours, &theirs) {
-        Ok(is_right) => {
-            assert!(rt; is_right);
-            assert!(rt; dropped_between(&ours, 0, 60) && dropped_between(&theirs, 0, 40));
-        }
-        Err(_refused) => {
-            assert!(rt; dropped_at_most_once(&ours) && dropped_at_most_once(&theirs));
-        }
-    }
-    Ok(())
+    let (ours, theirs) = (Ledger::new(), Ledger::new());
+    let (even, thirds) = (multiples(2), multiples(3));
+    let fate = appends(rt.alloc(), &even, &thirds[..40], [&ours, &theirs]);
+    assert!(rt; theirs.are_living(&[], &[]));
+    ends(&rt, fate, &ours)
 }
 
-// Splits the numbers below 160, a tree of three levels, at 59, and where that is refused once more; whether all is right then, and was between.
-fn splits(alloc: Global, drops: &[Drops]) -> Result<bool, TryReserveError> {
-    let nothing = Cell::new(0);
-    let mut map = multiples(alloc, drops, 1)?;
-    let key = Key {
-        number: 59,
-        drops: &nothing,
-    };
-    for _ in 0..2 {
-        if let Ok(rest) = map.split_off(&key) {
-            let is_cut = holds(&map, 0, 59, 1) && holds(&rest, 59, 160, 1);
-            let are_kept = dropped_between(drops, 0, 0);
-            drop(rest);
-            return Ok(is_cut && are_kept && dropped_between(drops, 59, 160));
-        }
-        if !holds(&map, 0, 160, 1) || !dropped_between(drops, 0, 0) {
-            return Ok(false);
-        }
-    }
-    Ok(!is_ample(alloc))
+#[test]
+fn a_refused_append_leaves_two_full_leaves(rt: HostRuntime) -> Result<(), Fail> {
+    let (ours, theirs) = (Ledger::new(), Ledger::new());
+    let all = numbers();
+    let (first, second) = (&all[1..CAPACITY + 1], &all[CAPACITY + 1..2 * CAPACITY + 1]);
+    let fate = appends(rt.alloc(), first, second, [&ours, &theirs]);
+    assert!(rt; theirs.are_living(&[], &[]));
+    ends(&rt, fate, &ours)
 }
 
-// Each request is refused in turn by the sweep.
+fn split<'a>(
+    map: &mut Map<'a>,
+    number: usize,
+    sought: &'a Ledger,
+) -> Result<Map<'a>, TryReserveError> {
+    map.split_off(&make_key(number, sought))
+}
+
+// Splits the numbers off from this one on, which has so many below it.
+fn splits<'a>(
+    alloc: Global,
+    all: &[usize],
+    number: usize,
+    cut: usize,
+    ledgers: [&'a Ledger; 2],
+) -> Fate {
+    let ledger = ledgers[0];
+    let Some(mut map) = map_of(alloc, all, ledger) else {
+        return if_no_memory(alloc, Fate::NotMade);
+    };
+    let (below, above) = all.split_at(cut.min(all.len()));
+    for turn in 0..2 {
+        match split(&mut map, number, ledgers[1]) {
+            Ok(rest) => {
+                let is_cut = holds(&map, below) && holds(&rest, above);
+                let are_kept = ledger.are_living(all, &[]);
+                drop(rest);
+                return fate_of(turn, is_cut && are_kept && ledger.are_living(below, &[]));
+            }
+            Err(e) => {
+                if !is_no_memory(e) || !holds(&map, all) || !ledger.are_living(all, &[]) {
+                    return Fate::Wrong;
+                }
+            }
+        }
+    }
+    if_no_memory(alloc, Fate::Refused)
+}
+
+// 160 ascending numbers stand on three levels.
 #[test]
 fn a_refused_split_leaves_the_map(rt: HostRuntime) -> Result<(), Fail> {
-    let Ok(drops) = fresh_drops(rt.alloc(), 160) else {
-        return Ok(println!(rt; "refused")?);
-    };
-    match splits(rt.alloc(), &drops) {
-        Ok(is_right) => assert!(rt; is_right && dropped_between(&drops, 0, 160)),
-        Err(_refused) => assert!(rt; dropped_at_most_once(&drops)),
-    }
-    Ok(())
+    let (ledger, sought) = (Ledger::new(), Ledger::new());
+    let all = numbers();
+    let fate = splits(rt.alloc(), &all[..160], 59, 59, [&ledger, &sought]);
+    ends(&rt, fate, &ledger)
 }
 
-// A map made of as many numbers from 0 on.
-fn made(alloc: Global, drops: &[Drops]) -> Result<Map<'_>, TryReserveError> {
-    let mut pairs = Vec::with_capacity(alloc, drops.len())?;
-    for (i, each) in drops.iter().enumerate() {
-        pairs.push(pair(i, each))?;
+#[test]
+fn a_refused_split_leaves_all_five(rt: HostRuntime) -> Result<(), Fail> {
+    let (ledger, sought) = (Ledger::new(), Ledger::new());
+    let fate = splits(rt.alloc(), &[1, 2, 3, 17, 41], 3, 2, [&ledger, &sought]);
+    ends(&rt, fate, &ledger)
+}
+
+fn pairs<'a>(
+    alloc: Global,
+    all: &[usize],
+    ledger: &'a Ledger,
+) -> Result<Vec<(Key<'a>, Value<'a>)>, AllocError> {
+    let mut pairs = match Vec::with_capacity(alloc, all.len()) {
+        Ok(pairs) => pairs,
+        Err(_refused) => Vec::with_capacity(alloc, all.len())?,
+    };
+    for number in all {
+        pairs.push(pair(*number, ledger))?;
     }
+    Ok(pairs)
+}
+
+fn made<'a>(alloc: Global, pairs: Vec<(Key<'a>, Value<'a>)>) -> Result<Map<'a>, TryReserveError> {
     BTreeMap::try_from_iterator(alloc, pairs)
 }
 
-// Whether a map is made of all of them. It is dropped then.
-fn makes(alloc: Global, drops: &[Drops]) -> bool {
-    match made(alloc, drops) {
-        Ok(map) => holds(&map, 0, drops.len(), 1) && dropped_between(drops, 0, 0),
-        Err(_refused) => false,
+// Makes a map of the numbers. Where it is refused, the pairs that it had by then are dropped, the one that was refused, and those still to come.
+fn makes(alloc: Global, all: &[usize], ledger: &Ledger) -> Fate {
+    for turn in 0..2 {
+        let Ok(pairs) = pairs(alloc, all, ledger) else {
+            return if_no_memory(alloc, Fate::NotMade);
+        };
+        match made(alloc, pairs) {
+            Ok(map) => return fate_of(turn, holds(&map, all) && ledger.are_living(all, &[])),
+            Err(e) => {
+                if !is_no_memory(e) || !ledger.are_living(&[], &[]) {
+                    return Fate::Wrong;
+                }
+            }
+        }
     }
+    if_no_memory(alloc, Fate::Refused)
 }
 
-// Each request is refused in turn by the sweep. Where a map is refused, the pairs that it had by then are dropped, and the one that
-// was refused.
 #[test]
 fn a_refused_map_of_an_iterator_is_dropped(rt: HostRuntime) -> Result<(), Fail> {
-    let Ok(first) = fresh_drops(rt.alloc(), 160) else {
-        return Ok(println!(rt; "refused")?);
-    };
-    let Ok(second) = fresh_drops(rt.alloc(), 160) else {
-        return Ok(println!(rt; "refused")?);
-    };
-    if makes(rt.alloc(), &first) {
-        assert!(rt; dropped_between(&first, 0, 160));
-        return Ok(());
-    }
-    assert!(rt; dropped_at_most_once(&first));
-    let is_made = makes(rt.alloc(), &second);
-    assert!(rt; is_made == is_ample(rt.alloc()));
-    assert!(rt; dropped_at_most_once(&second) && (!is_made || dropped_between(&second, 0, 160)));
-    Ok(())
+    let ledger = Ledger::new();
+    let all = numbers();
+    let fate = makes(rt.alloc(), &all[..160], &ledger);
+    ends(&rt, fate, &ledger)
+}
+
+#[test]
+fn a_refused_map_of_thirty_pairs_is_dropped(rt: HostRuntime) -> Result<(), Fail> {
+    let ledger = Ledger::new();
+    let all = numbers();
+    let fate = makes(rt.alloc(), &all[1..31], &ledger);
+    ends(&rt, fate, &ledger)
 }

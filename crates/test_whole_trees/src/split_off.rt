@@ -6,20 +6,20 @@ use fc_tree_node::node::CAPACITY;
 use std::alloc::Global;
 use std::test::Fail;
 
-// Whether a split of the first n odd numbers leaves those below the key, and answers the others; and whether an append then makes
-// one map of them again.
+// Whether a split of the first n odd numbers leaves those below the key, and answers the others; and whether an append then takes these
+// back, and leaves none. The joined map is then to be looked at, or split again, which shows each of its pairs.
 fn splits(map: &mut BTreeMap<u64, u64>, n: u64, key: u64) -> Result<bool, TryReserveError> {
     let cut = n.min(key / 2);
     let mut rest = map.split_off(&key)?;
     let is_cut = has_odds(map, 0, cut) && has_odds(&rest, cut, n);
     map.append(&mut rest)?;
-    Ok(is_cut && has_odds(map, 0, n) && has_odds(&rest, 0, 0))
+    Ok(is_cut && map.len() as u64 == n && has_odds(&rest, 0, 0))
 }
 
 // Whether a map that was made by insertions is split at the key.
 fn splits_new(alloc: Global, order: Order, n: u64, key: u64) -> Result<bool, TryReserveError> {
     let mut map = odds(alloc, order, n)?;
-    splits(&mut map, n, key)
+    Ok(splits(&mut map, n, key)? && has_odds(&map, 0, n))
 }
 
 // Whether the numbers are split at each key and in each gap, also before the first one and behind the last.
@@ -57,7 +57,7 @@ fn is_split_everywhere(alloc: Global, n: u64) -> Result<bool, TryReserveError> {
             return Ok(false);
         }
     }
-    Ok(true)
+    Ok(has_odds(&map, 0, n))
 }
 
 // Whether maps of so many pairs are tried: those of one leaf or two, those about as many as fill two levels, which are 255, and each

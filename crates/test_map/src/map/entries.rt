@@ -209,13 +209,19 @@ fn fill_entry<'a>(
     }
 }
 
-// The numbers from 1 on, whose drops are counted together; `None` where memory was refused.
+// The numbers from 1 on, whose drops are counted together. What came back where it was refused goes in once more; `None` where that is refused too.
 fn tracked_up_to<'a>(alloc: Global, last: usize, kept: &'a Drops) -> Option<Tracked<'a>> {
     let mut map = BTreeMap::new(alloc);
     for number in 0..last {
-        match insert_tracked(&mut map, number + 1, kept) {
-            Fate::PutIn => (),
-            _ => return None,
+        let key = TrackedKey {
+            number: number + 1,
+            drops: &kept.key,
+        };
+        let value = TrackedValue { drops: &kept.value };
+        if let Err((key, value, _refused)) = map.try_insert(key, value) {
+            if map.try_insert(key, value).is_err() {
+                return None;
+            }
         }
     }
     Some(map)
@@ -255,13 +261,13 @@ fn has_tracked_up_to<'a>(map: &Tracked<'a>, last: usize, sought: &'a Cell<u64>) 
     map.len() == last
 }
 
-// Whether the entry behind the last number is filled, or refused and its key and value came back, and all pairs stay. A map for which
-// there is no memory shows nothing.
+// Whether the entry behind the last number is filled, or refused and its key and value came back, and all pairs stay. Where there is no memory for
+// the map nothing is shown.
 fn leaves_every_pair(alloc: Global, last: usize) -> Result<bool, TryReserveError> {
     let (kept, new, sought) = (no_drops(), no_drops(), no_drops());
     let calls = Cell::new(0);
     let Some(mut map) = tracked_up_to(alloc, last, &kept) else {
-        return Ok(true);
+        return Ok(!has_memory(alloc));
     };
     let (length, dropped) = match fill_entry(&mut map, last.wrapping_add(1), &new, &calls)? {
         Fate::PutIn => (last.wrapping_add(1), 0),
