@@ -1,0 +1,196 @@
+//! The most stack that calls on the ordered map take, by the kind of call and the number of pairs.
+//!
+//! Before each phase of a job (`phases.rs` tells of them) the stack below is written full of one byte, and after it the lowest byte that
+//! is another one is looked for. A depth is counted from the caller of the job, so that the frames of the job and of the allocator count
+//! too: what it tells is too much rather than too little.
+use std::ffi::c_void;
+use std::hint::black_box;
+use std::ptr;
+
+// What a job asks for where a phase begins or ends, as `mark` of the crate `bench_jobs` does.
+const MARK: usize = 1 << 62;
+const PAINTED: usize = 1 << 18;
+const BYTE: u8 = 0xa5;
+// The frames of what paints.
+const OWN: usize = 512;
+const MOST: usize = 8;
+
+unsafe extern "C" {
+    fn __real_malloc(size: usize) -> *mut c_void;
+    fn bench_map_run(
+        keys: *const u64,
+        key_count: usize,
+        sought: *const u64,
+        sought_count: usize,
+        removed: *const u64,
+        removed_count: usize,
+        way: u64,
+        checksum: *mut u64,
+    ) -> bool;
+    fn bench_map_put(keys: *const u64, key_count: usize, is_ready: bool, len: *mut usize) -> bool;
+    fn bench_map_whole(
+        keys: *const u64,
+        key_count: usize,
+        others: *const u64,
+        other_count: usize,
+        at: u64,
+        way: u64,
+        checksum: *mut u64,
+    ) -> bool;
+    fn bench_map_walk(
+        keys: *const u64,
+        key_count: usize,
+        starts: *const u64,
+        start_count: usize,
+        way: u64,
+        times: u64,
+        checksum: *mut u64,
+    ) -> bool;
+}
+
+static mut TOP: usize = 0;
+static mut DEPTHS: [usize; MOST] = [0; MOST];
+static mut COUNT: usize = 0;
+
+#[inline(never)]
+fn here() -> usize {
+    let local = 0u8;
+    black_box(&raw const local) as usize
+}
+
+// Fills the stack below with the byte.
+#[inline(never)]
+fn paint() {
+    let end = here() - OWN;
+    for at in end - PAINTED..end {
+        unsafe { ptr::write_volatile(at as *mut u8, BYTE) };
+    }
+}
+
+// The lowest address of those painted that was written to since.
+#[inline(never)]
+fn lowest() -> usize {
+    let end = here() - OWN;
+    (end - PAINTED..end)
+        .find(|at| unsafe { ptr::read_volatile(*at as *const u8) } != BYTE)
+        .unwrap_or(end)
+}
+
+/// The linker puts this in the place of `malloc` (`--wrap=malloc`).
+#[unsafe(no_mangle)]
+pub unsafe extern "C" fn __wrap_malloc(size: usize) -> *mut c_void {
+    if size != MARK {
+        return unsafe { __real_malloc(size) };
+    }
+    unsafe {
+        DEPTHS[COUNT] = TOP - lowest();
+        COUNT += 1;
+    }
+    paint();
+    ptr::null_mut()
+}
+
+// The depth of each phase of a job.
+#[inline(never)]
+fn depths(job: impl FnOnce() -> bool) -> Vec<usize> {
+    unsafe {
+        COUNT = 0;
+        TOP = here();
+    }
+    assert!(job(), "the job was refused");
+    unsafe { DEPTHS[1..COUNT].to_vec() }
+}
+
+fn run(keys: &[u64], way: u64) -> Vec<usize> {
+    let (at, count, mut sum) = (keys.as_ptr(), keys.len(), 0);
+    // What is dropped at the end is the whole map in one job, and nothing in the other.
+    let gone = if way == 9 { count } else { 0 };
+    depths(|| unsafe { bench_map_run(at, count, at, count, at, gone, way, &mut sum) })
+}
+
+fn put(keys: &[u64], is_ready: bool) -> usize {
+    let mut len = 0;
+    depths(|| unsafe { bench_map_put(keys.as_ptr(), keys.len(), is_ready, &mut len) })[0]
+}
+
+fn whole(keys: &[u64], others: &[u64], way: u64) -> usize {
+    let (at, mut sum) = (keys[keys.len() / 2], 0);
+    depths(|| unsafe {
+        bench_map_whole(
+            keys.as_ptr(),
+            keys.len(),
+            others.as_ptr(),
+            others.len(),
+            at,
+            way,
+            &mut sum,
+        )
+    })[0]
+}
+
+fn walk(keys: &[u64], way: u64) -> usize {
+    let (starts, mut sum) = ([keys[keys.len() / 3]], 0);
+    depths(|| unsafe {
+        bench_map_walk(
+            keys.as_ptr(),
+            keys.len(),
+            starts.as_ptr(),
+            1,
+            way,
+            1,
+            &mut sum,
+        )
+    })[0]
+}
+
+// The depth of each kind of call on a map of so many pairs, the most of those where they came in ascending order and in another one.
+fn all(pairs: u64) -> Vec<(&'static str, usize)> {
+    let ascending: Vec<u64> = (0..pairs).map(|key| 2 * key).collect();
+    let jumping: Vec<u64> = (0..pairs).map(|key| key * 1_000_003 % pairs * 2).collect();
+    let between: Vec<u64> = ascending.iter().map(|key| key + 1).collect();
+    let beyond: Vec<u64> = ascending.iter().map(|key| key + 2 * pairs).collect();
+    let most = |depth: &dyn Fn(&[u64]) -> usize| depth(&ascending).max(depth(&jumping));
+    vec![
+        ("`try_insert`", most(&|keys| run(keys, 0)[0])),
+        (
+            "`try_entry` with its insertions",
+            most(&|keys| put(keys, false).max(put(keys, true))),
+        ),
+        ("`get`", most(&|keys| run(keys, 0)[1])),
+        ("`remove`", most(&|keys| run(keys, 9)[2])),
+        ("`pop_first`", most(&|keys| whole(keys, &[], 3))),
+        (
+            "`iter`, `keys`",
+            most(&|keys| walk(keys, 0).max(walk(keys, 1)).max(walk(keys, 4))),
+        ),
+        ("`range`", most(&|keys| walk(keys, 2))),
+        ("`values_mut`", most(&|keys| walk(keys, 3))),
+        ("`for_each`", most(&|keys| walk(keys, 5))),
+        ("`into_iter`", most(&|keys| run(keys, 2)[3])),
+        (
+            "`append`",
+            most(&|keys| {
+                whole(keys, &between, 0)
+                    .max(whole(keys, &beyond, 0))
+                    .max(whole(&beyond, keys, 0))
+            }),
+        ),
+        ("`split_off`", most(&|keys| whole(keys, &[], 1))),
+        ("`try_clone`", most(&|keys| whole(keys, &[], 2))),
+        (
+            "drop, `clear`",
+            most(&|keys| run(keys, 0)[3].max(run(keys, 1)[3])),
+        ),
+    ]
+}
+
+fn main() {
+    let sizes = [10, 100, 1_000, 10_000, 100_000];
+    let found: Vec<_> = sizes.iter().map(|pairs| all(*pairs)).collect();
+    println!("| Call | 10 pairs | 100 | 1,000 | 10,000 | 100,000 |");
+    println!("|---|---|---|---|---|---|");
+    for (i, (call, _)) in found[0].iter().enumerate() {
+        let depths: Vec<String> = found.iter().map(|it| it[i].1.to_string()).collect();
+        println!("| {call} | {} |", depths.join(" | "));
+    }
+}
