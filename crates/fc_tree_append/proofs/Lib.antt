@@ -1,5 +1,4 @@
 pub mod JoinFacts
-pub mod Heads
 pub mod Beyond
 pub mod HungFacts
 pub mod Crowned

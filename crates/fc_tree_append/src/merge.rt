@@ -33,13 +33,13 @@ pub fn merge<K: Ord + Drop, V: Drop>(
 {
     let mut builder = builder;
     let room = builder.room();
-    let mut ours = Front::over(ours);
-    let mut theirs = Front::over(theirs);
-    while !ours.is_empty() && !theirs.is_empty() {
-        step(&mut ours, &mut theirs, &mut builder, count);
+    let mut our_pairs = Front::over(ours);
+    let mut their_pairs = Front::over(theirs);
+    while !our_pairs.is_empty() && !their_pairs.is_empty() {
+        step(&mut our_pairs, &mut their_pairs, &mut builder, count);
     }
-    push_all(&mut ours, &mut builder);
-    push_all(&mut theirs, &mut builder);
+    push_all(&mut our_pairs, &mut builder);
+    push_all(&mut their_pairs, &mut builder);
     let len = room - builder.room();
     (builder.finish(), len)
 }

@@ -6,8 +6,8 @@ use crate::spares::{inner_count, leaf_count, take_spare, try_inner_nodes, try_le
 use crate::spine::{Spine, attach, close, put_pair};
 use fc_base::TryReserveError;
 use fc_tree_border::mending::mend_right;
-use fc_tree_node::node::{CAPACITY, Node};
 use fc_tree_drain::stack::Stack;
+use fc_tree_node::node::{CAPACITY, Node};
 use std::alloc::Global;
 use std::marker::Model;
 

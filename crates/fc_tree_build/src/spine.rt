@@ -10,8 +10,8 @@ ghost use Rattle.fc_tree_build.specs.Spares.{own_count, worth, IsEnough};
 
 use crate::spares::take_spare;
 use fc_base::Count;
-use fc_tree_node::node::{CAPACITY, Node};
 use fc_tree_drain::stack::Stack;
+use fc_tree_node::node::{CAPACITY, Node};
 
 /// The nodes on the right edge of a tree, from the root down, each without its last child: that is the next one, or what comes
 /// below the last of them.

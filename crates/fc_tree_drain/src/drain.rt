@@ -291,7 +291,7 @@ fn refill_back<K: Drop, V: Drop>(front: &mut Front<K, V>, back: &mut Back<K, V>)
         return;
     }
     if front.nodes.len() == 0 {
-        mem::swap(&mut front.run, &mut back.run);
+        mem::swap(&mut back.run, &mut front.run);
         return;
     }
     move_to_back(&mut front.nodes, &mut back.nodes, &mut back.run);

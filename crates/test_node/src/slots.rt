@@ -1,6 +1,7 @@
 // Each item is dropped once, by a type that counts its drops. Room is taken by one request, and for items of no size by none.
 use fc_base::Count;
 use fc_tree_node::node::{CAPACITY, Node};
+use fc_tree_slots::rest::Rest;
 use fc_tree_slots::slots::Slots;
 use std::alloc::{AllocError, Global};
 use std::cell::Cell;
@@ -133,6 +134,46 @@ fn moved_items_are_dropped_by_the_list_that_has_them(rt: HostRuntime) -> Result<
     Ok(())
 }
 
+// Takes the first item out and then the last, while there is one.
+fn take_ends<T>(rest: &mut Rest<T, 4>) -> (Option<T>, Option<T>) {
+    let first = if rest.len() > 0 {
+        Some(rest.take_first())
+    } else {
+        None
+    };
+    let last = if rest.len() > 0 {
+        Some(rest.take_last())
+    } else {
+        None
+    };
+    (first, last)
+}
+
+// Whether there is the item of this number.
+fn has_id(item: &Option<Token<'_>>, id: u64) -> bool {
+    match item {
+        Some(token) => token.id == id,
+        None => false,
+    }
+}
+
+#[test]
+fn what_is_left_between_the_ends_is_dropped_once(rt: HostRuntime) -> Result<(), Fail> {
+    for n in [0u64, 1, 4] {
+        let drops = Cell::new(0);
+        let mut rest = list(&rt, rt.alloc(), 0, n, &drops)?.into_rest();
+        let (first, last) = take_ends(&mut rest);
+        assert!(&rt; has_id(&first, 0) == (n > 0) && has_id(&last, 3) == (n == 4));
+        assert!(&rt; drops.get() == 0);
+        drop(rest);
+        assert!(&rt; drops.get() == n.saturating_sub(2));
+        drop(first);
+        drop(last);
+        assert!(&rt; drops.get() == n);
+    }
+    Ok(())
+}
+
 #[test]
 fn what_is_written_to_a_lent_item_stays(rt: HostRuntime) -> Result<(), Fail> {
     let mut slots: Slots<u64, 4> = Slots::try_new(rt.alloc())?;
@@ -181,6 +222,9 @@ fn items_of_no_size_take_no_room(rt: HostRuntime) -> Result<(), Fail> {
         assert!(&rt; *slots.get(0) == ());
         other.remove(3, &mut Count::new());
         assert!(&rt; other.len() == 3);
+        let mut rest = other.into_rest();
+        let (first, last) = take_ends(&mut rest);
+        assert!(&rt; first.is_some() && last.is_some() && rest.len() == 1);
     }
     Ok(())
 }
