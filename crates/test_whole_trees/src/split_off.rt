@@ -61,9 +61,9 @@ fn is_split_everywhere(alloc: Global, n: u64) -> Result<bool, TryReserveError> {
 }
 
 // Whether maps of so many pairs are tried: those of one leaf or two, those about as many as fill two levels, which are 255, and each
-// seventh length.
+// seventeenth length. Their splits at each key leave parts of each length.
 fn is_tried(n: u64) -> bool {
-    n < 34 || (n > 252 && n < 259) || n % 7 == 0
+    n < 34 || (n > 252 && n < 259) || n % 17 == 0
 }
 
 #[test]
