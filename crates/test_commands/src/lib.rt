@@ -10,6 +10,8 @@ mod lists;
 #[cfg(test)]
 mod refusals;
 #[cfg(test)]
+mod rows;
+#[cfg(test)]
 mod serving;
 #[cfg(test)]
 mod walks;

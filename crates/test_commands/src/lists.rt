@@ -19,7 +19,8 @@ const SIX: [&[u8]; 6] = [
 
 const SIX_REPLIES: &[u8] = b"none\nsome 1\nsome 2\n1\nsome 2\nnone\n";
 
-fn run(
+/// All tests run lists by this call.
+pub(crate) fn run(
     world: &mut World<u64, u64>,
     commands: Vec<Command<u64, u64>>,
 ) -> Result<Vec<Reply<u64, u64>>, TryReserveError> {

@@ -32,3 +32,5 @@ mod room;
 mod sizes;
 #[cfg(test)]
 mod sorted;
+#[cfg(test)]
+mod whole;

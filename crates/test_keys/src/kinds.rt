@@ -1,0 +1,239 @@
+//! Keys of several parts, of any length and in reversed order: one run of calls for all of them.
+use crate::tagged::Tagged;
+use fc_base::TryReserveError;
+use fc_map::map::{BTreeMap, is_range};
+use fc_set::set::BTreeSet;
+use std::alloc::Global;
+use std::cmp::Reverse;
+use std::ops::Bound;
+use std::test::Fail;
+
+// A type of keys, of which each number below the end has one of its own, in the order of the numbers.
+trait Nth: Ord + Drop {
+    fn nth(alloc: Global, number: u64) -> Result<Self, TryReserveError>
+    where
+        Self: Sized;
+}
+
+// So many pairs stand on three levels, since two hold at most 255.
+const END: u64 = 300;
+
+impl Nth for (u32, (u8, bool)) {
+    fn nth(_alloc: Global, number: u64) -> Result<Self, TryReserveError> {
+        let rest = number % 16;
+        Ok((
+            (number / 16 % 1000) as u32,
+            ((rest / 2) as u8, rest % 2 == 1),
+        ))
+    }
+}
+
+// A byte for each sixteen numbers, and up to fifteen more behind it: most begin with the one before.
+impl Nth for Vec<u8> {
+    fn nth(alloc: Global, number: u64) -> Result<Self, TryReserveError> {
+        let mut bytes = Vec::new(alloc);
+        bytes.push((number / 16 % 200) as u8)?;
+        for _ in 0..number % 16 {
+            bytes.push(255)?;
+        }
+        Ok(bytes)
+    }
+}
+
+// As above, by letters, the first of two bytes. The first of all is empty.
+impl Nth for String {
+    fn nth(alloc: Global, number: u64) -> Result<Self, TryReserveError> {
+        let mut text = String::new(alloc);
+        let group = (number / 16 % 20) as u8;
+        if group > 0 {
+            text.push(char::from(0xe0u8.wrapping_add(group)))?;
+        }
+        for _ in 0..number % 16 {
+            text.push('!')?;
+        }
+        Ok(text)
+    }
+}
+
+impl Nth for Reverse<u64> {
+    fn nth(_alloc: Global, number: u64) -> Result<Self, TryReserveError> {
+        Ok(Reverse(u64::MAX.wrapping_sub(number)))
+    }
+}
+
+impl Nth for Tagged {
+    fn nth(_alloc: Global, number: u64) -> Result<Self, TryReserveError> {
+        Ok(Tagged {
+            turn: END.wrapping_sub(number),
+            number,
+            letter: 'a',
+        })
+    }
+}
+
+// The keys below the end, each with its number, put in 37 apart and round.
+fn filled<K: Nth>(alloc: Global) -> Result<BTreeMap<K, u64>, TryReserveError> {
+    let mut map = BTreeMap::new(alloc);
+    for place in 0..END {
+        let number = place.wrapping_mul(37) % END;
+        map.try_insert(K::nth(alloc, number)?, number)?;
+    }
+    Ok(map)
+}
+
+fn is_nth<K: Nth>(
+    alloc: Global,
+    found: Option<(&K, &u64)>,
+    number: u64,
+) -> Result<bool, TryReserveError> {
+    match found {
+        Some((key, value)) => Ok(*key == K::nth(alloc, number)? && *value == number),
+        None => Ok(false),
+    }
+}
+
+// Whether a walk gives the keys from `first` on below `end`, and each is found.
+fn counts_up<K: Nth>(
+    alloc: Global,
+    map: &BTreeMap<K, u64>,
+    first: u64,
+    end: u64,
+) -> Result<bool, TryReserveError> {
+    let mut walk = map.iter();
+    for number in first..end {
+        let key = K::nth(alloc, number)?;
+        if !is_nth(alloc, walk.next(), number)?
+            || !is_nth(alloc, map.get_key_value(&key), number)?
+        {
+            return Ok(false);
+        }
+    }
+    Ok(walk.next().is_none() && map.len() as u64 == end.wrapping_sub(first))
+}
+
+// Whether a split at the key leaves those below it, and an append makes one map again.
+fn splits<K: Nth>(
+    alloc: Global,
+    map: &mut BTreeMap<K, u64>,
+    at: u64,
+) -> Result<bool, TryReserveError> {
+    let mut rest = map.split_off(&K::nth(alloc, at)?)?;
+    let is_cut = counts_up(alloc, map, 0, at)? && counts_up(alloc, &rest, at, END)?;
+    map.append(&mut rest)?;
+    Ok(is_cut && rest.is_empty() && counts_up(alloc, map, 0, END)?)
+}
+
+// Whether the keys between two are walked, from the back.
+fn walks_between<K: Nth>(
+    alloc: Global,
+    map: &BTreeMap<K, u64>,
+    first: u64,
+    end: u64,
+) -> Result<bool, TryReserveError> {
+    let (from, to) = (K::nth(alloc, first)?, K::nth(alloc, end)?);
+    let (lo, hi) = (Bound::Included(&from), Bound::Excluded(&to));
+    if !is_range(&lo, &hi) {
+        return Ok(false);
+    }
+    let mut walk = map.range((lo, hi));
+    for behind in first..end {
+        let number = end.wrapping_sub(1).wrapping_sub(behind.wrapping_sub(first));
+        if !is_nth(alloc, walk.next_back(), number)? {
+            return Ok(false);
+        }
+    }
+    Ok(walk.next_back().is_none())
+}
+
+// Whether each key is taken out, 77 apart and round, and none is then there.
+fn takes_each<K: Nth>(alloc: Global, map: &mut BTreeMap<K, u64>) -> Result<bool, TryReserveError> {
+    for place in 0..END {
+        let number = place.wrapping_mul(77) % END;
+        let key = K::nth(alloc, number)?;
+        if map.remove(&key) != Some(number) || map.contains_key(&key) {
+            return Ok(false);
+        }
+    }
+    Ok(map.is_empty())
+}
+
+fn map_is_right<K: Nth>(alloc: Global) -> Result<bool, TryReserveError> {
+    let mut map: BTreeMap<K, u64> = filled(alloc)?;
+    Ok(
+        counts_up(alloc, &map, 0, END)?
+            && splits(alloc, &mut map, 100)?
+            && walks_between(alloc, &map, 15, 273)?
+            && takes_each(alloc, &mut map)?,
+    )
+}
+
+// The keys whose numbers the divisor divides.
+fn multiples<K: Nth>(alloc: Global, divisor: u64) -> Result<BTreeSet<K>, TryReserveError> {
+    let mut set = BTreeSet::new(alloc);
+    for number in 0..END {
+        if number.checked_rem(divisor).unwrap_or(1) == 0 {
+            set.try_insert(K::nth(alloc, number)?)?;
+        }
+    }
+    Ok(set)
+}
+
+// Whether the keys of even numbers and of multiples of three have those of multiples of six in common, 50 keys, and 100 + 150 - 50 in either.
+fn sets_are_right<K: Nth>(alloc: Global) -> Result<bool, TryReserveError> {
+    let even: BTreeSet<K> = multiples(alloc, 2)?;
+    let threes: BTreeSet<K> = multiples(alloc, 3)?;
+    let mut common = 0u64;
+    for item in even.intersection(&threes) {
+        if *item != K::nth(alloc, common.wrapping_mul(6))? {
+            return Ok(false);
+        }
+        common = common.wrapping_add(1);
+    }
+    let mut either = 0u64;
+    for _item in even.union(&threes) {
+        either = either.wrapping_add(1);
+    }
+    Ok(common == 50 && either == 200 && !even.is_subset(&threes))
+}
+
+#[test]
+fn keys_of_each_kind_stand_in_order(rt: HostRuntime) -> Result<(), Fail> {
+    assert!(rt; map_is_right::<(u32, (u8, bool))>(rt.alloc())?);
+    assert!(rt; map_is_right::<Vec<u8>>(rt.alloc())?);
+    assert!(rt; map_is_right::<String>(rt.alloc())?);
+    assert!(rt; map_is_right::<Reverse<u64>>(rt.alloc())?);
+    assert!(rt; map_is_right::<Tagged>(rt.alloc())?);
+    Ok(())
+}
+
+#[test]
+fn items_of_each_kind_are_joined(rt: HostRuntime) -> Result<(), Fail> {
+    assert!(rt; sets_are_right::<(u32, (u8, bool))>(rt.alloc())?);
+    assert!(rt; sets_are_right::<Vec<u8>>(rt.alloc())?);
+    assert!(rt; sets_are_right::<String>(rt.alloc())?);
+    assert!(rt; sets_are_right::<Reverse<u64>>(rt.alloc())?);
+    assert!(rt; sets_are_right::<Tagged>(rt.alloc())?);
+    Ok(())
+}
+
+// Of the numbers 1, 2 and 3, put in in this order, a walk by the reversed order gives the last first.
+fn walks_down(alloc: Global) -> Result<bool, TryReserveError> {
+    let mut map = BTreeMap::new(alloc);
+    for number in 1..4u64 {
+        map.try_insert(Reverse(number), number)?;
+    }
+    let mut wanted = 3u64;
+    for (key, value) in &map {
+        if key.0 != wanted || *value != wanted {
+            return Ok(false);
+        }
+        wanted = wanted.wrapping_sub(1);
+    }
+    Ok(wanted == 0)
+}
+
+#[test]
+fn a_reversed_order_walks_down(rt: HostRuntime) -> Result<(), Fail> {
+    assert!(rt; walks_down(rt.alloc())?);
+    Ok(())
+}

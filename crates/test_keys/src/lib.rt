@@ -1,0 +1,16 @@
+//! Maps and sets of many types: keys that are equal and not the same, keys of several parts or of any length, maps in a map, and keys
+//! and values of no size or a large one.
+//!
+//! What a test costs is its proof. So each call on a type stands in a plain helper, and what all types share in one that is generic.
+#![tactic(auto)]
+
+#[cfg(test)]
+mod collected;
+#[cfg(test)]
+mod kinds;
+#[cfg(test)]
+mod nested;
+#[cfg(test)]
+mod sizes;
+#[cfg(test)]
+mod tagged;

@@ -1,0 +1,184 @@
+//! A map of maps: the inner ones are put in by entries, changed by entries and through a lent value, copied with the outer one, and each
+//! value is dropped once.
+ghost use Rattle.std.specs.Prelude.{◌≡◌};
+
+use fc_base::{TryClone, TryReserveError};
+use fc_map::map::BTreeMap;
+use std::alloc::Global;
+use std::cell::Cell;
+use std::test::Fail;
+
+// How many values were made, copies among them, and how many were dropped.
+#[derive(Drop)]
+struct Tally {
+    made: Cell<u64>,
+    dropped: Cell<u64>,
+}
+
+// A number that is counted when it is made and when it is dropped.
+struct Token<'a> {
+    number: u64,
+    tally: &'a Tally,
+}
+
+fn add_one(count: &Cell<u64>) {
+    count.set(count.get().wrapping_add(1));
+}
+
+fn new_token(number: u64, tally: &Tally) -> Token<'_>
+    ensures { result.number ≡ number }
+{
+    add_one(&tally.made);
+    Token { number, tally }
+}
+
+impl Drop for Token<'_> {
+    fn drop(self) {
+        add_one(&self.tally.dropped);
+        let Token {
+            number: _,
+            tally: _,
+        } = self;
+    }
+}
+
+impl TryClone for Token<'_> {
+    ghost same = { λ source copy. copy.number ≡ source.number };
+
+    fn try_clone(&self) -> Result<Self, TryReserveError> {
+        Ok(new_token(self.number, self.tally))
+    }
+}
+
+type Inner<'a> = BTreeMap<u64, Token<'a>>;
+
+type Outer<'a> = BTreeMap<u64, Inner<'a>>;
+
+// So many inner maps stand on three levels, since two hold at most 255; each of so many values stands on two.
+const MAPS: u64 = 260;
+
+const VALUES: u64 = 20;
+
+// Puts a value in the inner map of that key, which is made where it is not there.
+fn put<'a>(
+    alloc: Global,
+    outer: &mut Outer<'a>,
+    at: u64,
+    number: u64,
+    tally: &'a Tally,
+) -> Result<(), TryReserveError> {
+    let inner = outer.try_entry(at)?.or_try_insert(BTreeMap::new(alloc))?;
+    inner.try_insert(number, new_token(number, tally))?;
+    Ok(())
+}
+
+// The numbers below the count in each inner map, of which one in turn gets its next.
+fn filled<'a>(alloc: Global, tally: &'a Tally) -> Result<Outer<'a>, TryReserveError> {
+    let mut outer = BTreeMap::new(alloc);
+    for number in 0..VALUES {
+        for place in 0..MAPS {
+            put(
+                alloc,
+                &mut outer,
+                place.wrapping_mul(37) % MAPS,
+                number,
+                tally,
+            )?;
+        }
+    }
+    Ok(outer)
+}
+
+fn counts_up(inner: &Inner<'_>, first: u64) -> bool {
+    let mut number = first;
+    for (key, value) in inner {
+        if *key != number || value.number != number {
+            return false;
+        }
+        number = number.wrapping_add(1);
+    }
+    number == VALUES
+}
+
+// Whether each inner map has the numbers from this one on.
+fn holds(outer: &Outer<'_>, first: u64) -> bool {
+    let mut at = 0u64;
+    for (key, inner) in outer {
+        if *key != at || !counts_up(inner, first) {
+            return false;
+        }
+        at = at.wrapping_add(1);
+    }
+    at == MAPS
+}
+
+// Takes the number out of the inner map, which is lent.
+fn take_out(outer: &mut Outer<'_>, at: u64, number: u64) -> bool {
+    match outer.get_mut(&at) {
+        Some(inner) => inner
+            .remove(&number)
+            .is_some_and(|value| value.number == number),
+        None => false,
+    }
+}
+
+// Takes the first four numbers out of each inner map.
+fn takes_four(outer: &mut Outer<'_>) -> bool {
+    for at in 0..MAPS {
+        for number in 0..4 {
+            if !take_out(outer, at, number) {
+                return false;
+            }
+        }
+    }
+    true
+}
+
+// How many values live.
+fn living(tally: &Tally) -> u64 {
+    tally.made.get().wrapping_sub(tally.dropped.get())
+}
+
+// Whether a copy has all values, and what is then taken out of the outer map is still in the copy.
+fn is_copied_apart<'a>(outer: &mut Outer<'a>, tally: &'a Tally) -> Result<bool, TryReserveError> {
+    let copy = outer.try_clone()?;
+    let is_copied = holds(&copy, 0) && living(tally) == 2 * MAPS * VALUES;
+    let is_apart = takes_four(outer) && holds(outer, 4) && holds(&copy, 0);
+    Ok(is_copied && is_apart && living(tally) == 2 * MAPS * VALUES - MAPS * 4)
+}
+
+// Whether an inner map that is written over, and one that is taken out, are dropped with their values.
+fn drops_with_its_map<'a>(
+    alloc: Global,
+    outer: &mut Outer<'a>,
+    tally: &'a Tally,
+) -> Result<bool, TryReserveError> {
+    let before = living(tally);
+    let old = outer.try_insert(100, BTreeMap::new(alloc))?;
+    let is_kept = living(tally) == before;
+    drop(old);
+    let is_one_gone = living(tally) == before.wrapping_sub(16);
+    drop(outer.remove(&200));
+    Ok(is_kept && is_one_gone && living(tally) == before.wrapping_sub(32))
+}
+
+fn is_right(alloc: Global, tally: &Tally) -> Result<bool, TryReserveError> {
+    let mut outer = filled(alloc, tally)?;
+    Ok(
+        holds(&outer, 0)
+            && living(tally) == MAPS * VALUES
+            && is_copied_apart(&mut outer, tally)?
+            && drops_with_its_map(alloc, &mut outer, tally)?,
+    )
+}
+
+#[test]
+fn maps_in_a_map_are_changed_copied_and_dropped_once(rt: HostRuntime) -> Result<(), Fail> {
+    let tally = Tally {
+        made: Cell::new(0),
+        dropped: Cell::new(0),
+    };
+    assert!(rt; is_right(rt.alloc(), &tally)?);
+    assert!(rt; tally.made.get() == 2 * MAPS * VALUES && living(&tally) == 0);
+    Ok(())
+}

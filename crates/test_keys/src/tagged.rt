@@ -1,0 +1,415 @@
+//! Keys whose order reads one of three fields: which of two equal keys a call keeps, answers or hands back. A map has the letter a at each number
+//! and is asked by other letters.
+ghost use Rattle.std.specs.Prelude.{◌≡◌};
+
+use fc_base::{TryClone, TryReserveError};
+use fc_map::map::{BTreeMap, Entry, Room, insert_both, is_range};
+use fc_vec::TryFromIterator;
+use std::alloc::Global;
+use std::ops::Bound;
+use std::test::Fail;
+
+/// Two keys are equal where their numbers are, whatever else they have.
+#[derive(Clone, Copy, Debug)]
+#[derive_where(PartialEq, Eq, PartialOrd, Ord)]
+pub(crate) struct Tagged {
+    #[derive_where(skip(EqHashOrd))]
+    pub(crate) turn: u64,
+    pub(crate) number: u64,
+    #[derive_where(skip(EqHashOrd))]
+    pub(crate) letter: char,
+}
+
+impl TryClone for Tagged {
+    ghost same = { λ source copy. copy ≡ source };
+
+    fn try_clone(&self) -> Result<Tagged, TryReserveError> {
+        Ok(*self)
+    }
+}
+
+type Map = BTreeMap<Tagged, u64>;
+
+// So many pairs stand on three levels, since two hold at most 255.
+const END: u64 = 300;
+
+// The first field of two keys of one number differs by their letters.
+fn key(number: u64, letter: char) -> Tagged {
+    let turn = if letter == 'a' {
+        number
+    } else {
+        END.wrapping_sub(number)
+    };
+    Tagged {
+        turn,
+        number,
+        letter,
+    }
+}
+
+// The numbers below the end, each with this letter and itself, put in 37 apart and round.
+fn lettered(alloc: Global, letter: char, end: u64) -> Result<Map, TryReserveError> {
+    let mut map = BTreeMap::new(alloc);
+    for place in 0..end {
+        let number = place.wrapping_mul(37) % end;
+        map.try_insert(key(number, letter), number)?;
+    }
+    Ok(map)
+}
+
+// Whether the pair has the key that was made of the number and the letter, and this value.
+fn is_pair(found: Option<(&Tagged, &u64)>, number: u64, letter: char, value: u64) -> bool {
+    match found {
+        Some((there, held)) => {
+            let wanted = key(number, letter);
+            there.number == number
+                && there.letter == letter
+                && there.turn == wanted.turn
+                && *held == value
+        }
+        None => false,
+    }
+}
+
+fn is_owned_pair(found: Option<(Tagged, u64)>, number: u64, letter: char) -> bool {
+    match found {
+        Some((there, value)) => is_pair(Some((&there, &value)), number, letter, number),
+        None => false,
+    }
+}
+
+// Whether the key that is equal to the number has this letter and this value.
+fn has(map: &Map, number: u64, letter: char, value: u64) -> bool {
+    is_pair(map.get_key_value(&key(number, 'b')), number, letter, value)
+}
+
+// Whether the map has the numbers from `first` on below `end`, each with this letter and itself, as a walk gives them.
+fn counts_up(map: &Map, first: u64, end: u64, letter: char) -> bool {
+    let mut walk = map.iter();
+    for number in first..end {
+        if !is_pair(walk.next(), number, letter, number) {
+            return false;
+        }
+    }
+    walk.next().is_none() && map.len() as u64 == end.wrapping_sub(first)
+}
+
+fn is_number(found: Option<u64>, wanted: u64) -> bool {
+    match found {
+        Some(number) => number == wanted,
+        None => false,
+    }
+}
+
+// An insertion puts another value at the key that is there, and one more the former value.
+fn insertions_keep_it(map: &mut Map, number: u64) -> Result<bool, TryReserveError> {
+    let old = map.try_insert(key(number, 'b'), 1000)?;
+    let is_kept = is_number(old, number) && has(map, number, 'a', 1000);
+    let second = map.try_insert(key(number, 'c'), number)?;
+    Ok(is_kept && is_number(second, 1000) && has(map, number, 'a', number))
+}
+
+fn occupied_entry_has_it(map: &mut Map, number: u64) -> Result<bool, TryReserveError> {
+    match map.try_entry(key(number, 'b'))? {
+        Entry::Vacant(_entry) => Ok(false),
+        Entry::Occupied(mut entry) => {
+            let is_key = entry.key().letter == 'a' && entry.key().number == number;
+            Ok(is_key && entry.insert(number) == number && entry.key().letter == 'a')
+        }
+    }
+}
+
+fn entry_keeps_it(map: &mut Map, number: u64) -> Result<bool, TryReserveError> {
+    let entry = map.try_entry(key(number, 'b'))?;
+    let is_key = entry.key().letter == 'a' && entry.key().number == number;
+    let value = *entry
+        .and_modify(|held| *held = held.wrapping_add(1))
+        .or_try_insert(0)?;
+    let is_changed = value == number.wrapping_add(1) && has(map, number, 'a', value);
+    let old = map.try_insert(key(number, 'b'), number)?;
+    Ok(is_key && is_changed && is_number(old, value))
+}
+
+fn each_key_stays(map: &mut Map) -> Result<bool, TryReserveError> {
+    for number in 0..END {
+        if !insertions_keep_it(map, number)?
+            || !occupied_entry_has_it(map, number)?
+            || !entry_keeps_it(map, number)?
+        {
+            return Ok(false);
+        }
+    }
+    Ok(counts_up(map, 0, END, 'a'))
+}
+
+#[test]
+fn an_insertion_keeps_the_key_that_is_there(rt: HostRuntime) -> Result<(), Fail> {
+    let mut map = lettered(rt.alloc(), 'a', END)?;
+    assert!(rt; each_key_stays(&mut map)?);
+    Ok(())
+}
+
+// A pair that is taken out by its entry has the key that was there; a vacant entry has its own, gives it back and puts it in.
+fn entry_gives_it(map: &mut Map, number: u64) -> Result<bool, TryReserveError> {
+    match map.try_entry(key(number, 'b'))? {
+        Entry::Vacant(_entry) => Ok(false),
+        Entry::Occupied(entry) => Ok(is_owned_pair(Some(entry.remove_entry()), number, 'a')),
+    }
+}
+
+fn vacant_entry_gives_its_own(map: &mut Map, number: u64) -> Result<bool, TryReserveError> {
+    match map.try_entry(key(number, 'b'))? {
+        Entry::Vacant(entry) => {
+            let is_own = entry.key().letter == 'b';
+            Ok(is_own && entry.into_key().letter == 'b')
+        }
+        Entry::Occupied(_entry) => Ok(false),
+    }
+}
+
+fn ready_entry_gives_its_own(map: &mut Map, number: u64) -> Result<bool, TryReserveError> {
+    match map.try_entry(key(number, 'c'))? {
+        Entry::Vacant(entry) => {
+            let ready = entry.try_ready()?;
+            let is_own = ready.key().letter == 'c';
+            Ok(is_own && ready.into_key().letter == 'c')
+        }
+        Entry::Occupied(_entry) => Ok(false),
+    }
+}
+
+// Puts the number in by its entry, or by one that was made ready.
+fn vacant_entry_puts_it_in(map: &mut Map, number: u64) -> Result<bool, TryReserveError> {
+    match map.try_entry(key(number, 'd'))? {
+        Entry::Vacant(entry) => Ok(*entry.try_insert(number)? == number),
+        Entry::Occupied(_entry) => Ok(false),
+    }
+}
+
+fn ready_entry_puts_it_in(map: &mut Map, number: u64) -> Result<bool, TryReserveError> {
+    match map.try_entry(key(number, 'd'))? {
+        Entry::Vacant(entry) => {
+            let there = entry.try_ready()?.insert_entry(number);
+            Ok(there.key().letter == 'd')
+        }
+        Entry::Occupied(_entry) => Ok(false),
+    }
+}
+
+fn puts_it_in(map: &mut Map, number: u64) -> Result<bool, TryReserveError> {
+    if number % 2 == 0 {
+        vacant_entry_puts_it_in(map, number)
+    } else {
+        ready_entry_puts_it_in(map, number)
+    }
+}
+
+fn each_key_is_given(map: &mut Map) -> Result<bool, TryReserveError> {
+    for number in 0..END {
+        if !entry_gives_it(map, number)?
+            || !vacant_entry_gives_its_own(map, number)?
+            || !ready_entry_gives_its_own(map, number)?
+            || !puts_it_in(map, number)?
+        {
+            return Ok(false);
+        }
+    }
+    Ok(counts_up(map, 0, END, 'd'))
+}
+
+#[test]
+fn an_entry_gives_the_key_that_is_there_or_its_own(rt: HostRuntime) -> Result<(), Fail> {
+    let mut map = lettered(rt.alloc(), 'a', END)?;
+    assert!(rt; each_key_is_given(&mut map)?);
+    Ok(())
+}
+
+// Pops from both ends in turn, until nothing is left.
+fn pops_each(map: &mut Map) -> bool {
+    for first in 0..END / 2 {
+        let last = END.wrapping_sub(1).wrapping_sub(first);
+        if !is_pair(map.first_key_value(), first, 'a', first)
+            || !is_owned_pair(map.pop_first(), first, 'a')
+            || !is_pair(map.last_key_value(), last, 'a', last)
+            || !is_owned_pair(map.pop_last(), last, 'a')
+        {
+            return false;
+        }
+    }
+    map.is_empty()
+}
+
+#[test]
+fn the_ends_give_the_keys_of_the_map(rt: HostRuntime) -> Result<(), Fail> {
+    let mut map = lettered(rt.alloc(), 'a', END)?;
+    assert!(rt; pops_each(&mut map));
+    Ok(())
+}
+
+// Whether the numbers below `middle` have the one letter, and those from there on below the end the other.
+fn has_two_parts(
+    mut map: Map,
+    middle: u64,
+    first: char,
+    second: char,
+) -> Result<bool, TryReserveError> {
+    let rest = map.split_off(&key(middle, '?'))?;
+    Ok(counts_up(&map, 0, middle, first) && counts_up(&rest, middle, END, second))
+}
+
+// Joined with the first of them under another letter, the map has these under that letter, and the others as before.
+fn append_takes_theirs(alloc: Global) -> Result<bool, TryReserveError> {
+    let mut map = lettered(alloc, 'a', END)?;
+    let mut other = lettered(alloc, 'b', 100)?;
+    map.append(&mut other)?;
+    Ok(other.is_empty() && has_two_parts(map, 100, 'b', 'a')?)
+}
+
+// A split at each seventh number leaves each key in its part.
+fn split_keeps_them(map: &mut Map) -> Result<bool, TryReserveError> {
+    for part in 0..43 {
+        let at = part * 7;
+        let mut rest = map.split_off(&key(at, 'b'))?;
+        if !counts_up(map, 0, at, 'a') || !counts_up(&rest, at, END, 'a') {
+            return Ok(false);
+        }
+        map.append(&mut rest)?;
+    }
+    Ok(counts_up(map, 0, END, 'a'))
+}
+
+// An extension keeps the keys that are there, and puts the others in; a copy has them all.
+fn extension_keeps_them(alloc: Global) -> Result<bool, TryReserveError> {
+    let mut map = lettered(alloc, 'a', 200)?;
+    map.try_extend(lettered(alloc, 'b', END)?)?;
+    let copy = map.try_clone()?;
+    Ok(has_two_parts(map, 200, 'a', 'b')? && has_two_parts(copy, 200, 'a', 'b')?)
+}
+
+// Of equal keys a map that is made of pairs has the first.
+fn made_map_has_the_first(alloc: Global) -> Result<bool, TryReserveError> {
+    let mut pairs = Vec::new(alloc);
+    for place in 0..END.wrapping_mul(2) {
+        let number = place % END;
+        pairs.push((key(number, if place < END { 'a' } else { 'b' }), number))?;
+    }
+    let map: Map = BTreeMap::try_from_iterator(alloc, pairs)?;
+    Ok(counts_up(&map, 0, END, 'a'))
+}
+
+#[test]
+fn calls_on_whole_maps_keep_or_take_keys(rt: HostRuntime) -> Result<(), Fail> {
+    let mut map = lettered(rt.alloc(), 'a', END)?;
+    assert!(rt; append_takes_theirs(rt.alloc())? && split_keeps_them(&mut map)?);
+    assert!(rt; extension_keeps_them(rt.alloc())? && made_map_has_the_first(rt.alloc())?);
+    Ok(())
+}
+
+// Of two pairs for two maps each is put at the key that is there, or goes in with its own.
+fn both_keep_theirs(a: &mut Map, b: &mut Map, number: u64) -> Result<bool, TryReserveError> {
+    let new = number.wrapping_add(END);
+    match insert_both(a, b, key(number, 'b'), number, key(new, 'c'), new) {
+        Ok((old, none)) => {
+            let is_kept = is_number(old, number) && has(a, number, 'a', number);
+            Ok(is_kept && none.is_none() && has(b, new, 'c', new))
+        }
+        Err(back) => Err(back.4),
+    }
+}
+
+fn each_of_both_stays(a: &mut Map, b: &mut Map) -> Result<bool, TryReserveError> {
+    for number in 0..END {
+        if !both_keep_theirs(a, b, number)? {
+            return Ok(false);
+        }
+    }
+    Ok(counts_up(a, 0, END, 'a') && b.len() as u64 == 2 * END)
+}
+
+#[test]
+fn two_insertions_keep_the_keys_that_are_there(rt: HostRuntime) -> Result<(), Fail> {
+    let mut a = lettered(rt.alloc(), 'a', END)?;
+    let mut b = lettered(rt.alloc(), 'b', END)?;
+    assert!(rt; each_of_both_stays(&mut a, &mut b)?);
+    Ok(())
+}
+
+// Puts the number in where the room serves the map.
+fn put(map: &mut Map, room: &mut Room<Tagged, u64>, number: u64) {
+    if room.places() == 0 || map.len() >= room.pairs() {
+        return;
+    }
+    map.insert_with(room, key(number, 'b'), number);
+}
+
+// With room for a hundred insertions, equal keys stay and use none of it, and new ones go in.
+fn room_keeps_them(map: &mut Map) -> Result<bool, TryReserveError> {
+    let mut room = map.try_room_for(100)?;
+    for number in 0..END.wrapping_add(100) {
+        put(map, &mut room, number);
+    }
+    let rest = map.split_off(&key(END, 'c'))?;
+    Ok(counts_up(map, 0, END, 'a') && counts_up(&rest, END, END.wrapping_add(100), 'b'))
+}
+
+#[test]
+fn room_leaves_the_keys_that_are_there(rt: HostRuntime) -> Result<(), Fail> {
+    let mut map = lettered(rt.alloc(), 'a', END)?;
+    assert!(rt; room_keeps_them(&mut map)?);
+    Ok(())
+}
+
+// The keys from the bound on, whose own letter is another.
+fn range_gives_them(map: &Map, from: u64) -> bool {
+    let at = key(from, 'b');
+    let (lo, hi) = (Bound::Included(&at), Bound::Unbounded);
+    if !is_range(&lo, &hi) {
+        return false;
+    }
+    let mut walk = map.range((lo, hi));
+    for number in from..END {
+        if !is_pair(walk.next(), number, 'a', number) {
+            return false;
+        }
+    }
+    walk.next().is_none()
+}
+
+// A writing walk shows each key of the map before it lends its value.
+fn writing_walk_shows_them(map: &mut Map) -> bool {
+    let mut walk = map.iter_mut();
+    for number in 0..END {
+        if !is_pair(walk.peek(), number, 'a', number) {
+            return false;
+        }
+        let _lent = walk.next();
+    }
+    walk.is_done()
+}
+
+fn keys_and_pairs_are_given(map: Map) -> bool {
+    let mut number = 0u64;
+    for there in map.keys() {
+        if there.letter != 'a' || there.number != number {
+            return false;
+        }
+        number = number.wrapping_add(1);
+    }
+    let mut walk = map.into_iter();
+    for first in 0..END {
+        if !is_owned_pair(walk.next(), first, 'a') {
+            return false;
+        }
+    }
+    number == END
+}
+
+#[test]
+fn walks_give_the_keys_of_the_map(rt: HostRuntime) -> Result<(), Fail> {
+    let mut map = lettered(rt.alloc(), 'a', END)?;
+    for from in [0, 1, 8, 149, 298] {
+        assert!(rt; range_gives_them(&map, from));
+    }
+    assert!(rt; writing_walk_shows_them(&mut map) && keys_and_pairs_are_given(map));
+    Ok(())
+}
