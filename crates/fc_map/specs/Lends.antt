@@ -1,5 +1,5 @@
 -- What a map ends as, once a borrow of a value in it has ended.
-use Rattle.std.specs.Prelude.{ℕ, Bool, List, Option, Some, None}
+use Rattle.std.specs.Prelude.{ℕ, Bool, List, [], ◌∷◌, ◌++◌, take, Option, Some, None}
 use Rattle.std.specs.declared.cmp.Ordering.{Ordering}
 use Rattle.std.specs.Borrow.{Fml, RattleType, MutBor, Lends}
 use Rattle.fc_tree_search.specs.Written.{written}
@@ -18,6 +18,10 @@ map_row K V g = the_row K V (record { cmp = g.cmp }) (record { eq = g.eq }) (rec
 abbrev pub written_in : {K V : Type 0} → Map K V → List ℕ → V → Map K V
 written_in None path w = None
 written_in (Some root) path w = Some (written root path w)
+
+-- The path that takes so many steps of another one, and then a step of its own.
+abbrev pub branch : List ℕ → ℕ → ℕ → List ℕ
+branch path way place = take way path ++ place ∷ []
 
 -- Once the borrow r of the value at the place ends, the map has there what was written through r.
 abbrev pub lends_at : (K V : RattleType) → OrdMembers K.Denot → MutBor (Map K.Denot V.Denot) → List ℕ → MutBor V.Denot → Fml

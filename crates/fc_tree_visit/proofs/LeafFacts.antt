@@ -1,5 +1,5 @@
 -- From a gap of a leaf to its neighbours in the leaf.
-use Rattle.std.proofs.Common.{◌≡◌, ℕ, zero, suc, ◌+◌, ◌-◌, ◌<◌, ◌≤◌, List, [], ◌∷◌, length, get_or, refl, sym, ap, subst, ◌∙◌, arith, Some, None, length-append}
+use Rattle.std.proofs.Common.{◌≡◌, ℕ, zero, suc, ◌+◌, ◌-◌, ◌<◌, ◌≤◌, List, [], ◌∷◌, ◌++◌, length, take, get_or, refl, sym, ap, subst, ◌∙◌, arith, Some, None, length-append}
 use Rattle.std.specs.Prelude.{slice_range, slice_set}
 use Rattle.fc_tree_node.specs.declared.node.Node.{Node}
 use Rattle.fc_tree_node.specs.Node.{own_pairs, child_at, IsLevelled}
@@ -9,7 +9,7 @@ use Rattle.fc_tree_node.proofs.Pairs.{child_below}
 use Rattle.fc_tree_node.proofs.PathSteps.{IsStep}
 use Rattle.fc_tree_node.specs.Tree.{Map, IsSoundMap}
 use Rattle.fc_tree_node.specs.TreePlace.{IsPlaceIn, before_gap_in, before_pair_in}
-use Rattle.fc_tree_walk.specs.Gap.{IsGapIn}
+use Rattle.fc_tree_walk.specs.Gap.{IsGapIn, zeros}
 use Rattle.fc_tree_walk.proofs.GapFacts.{next_leaf, pair_after_gap}
 use Rattle.fc_tree_visit.specs.Leaf.{gone_on}
 
@@ -18,11 +18,70 @@ on_length [] k = refl
 on_length (i ∷ []) k = refl
 on_length (i ∷ j ∷ gap) k = ap suc (on_length (j ∷ gap) k)
 
-pub on_again : (gap : List ℕ) (k : ℕ) → gone_on (gone_on gap 1) k ≡ gone_on gap (suc k)
-on_again [] k = refl
-on_again (i ∷ []) k = ap (λ n. n ∷ []) (omega arith)
-on_again (i ∷ j ∷ []) k = ap (λ p. i ∷ p) (on_again (j ∷ []) k)
-on_again (i ∷ j ∷ l ∷ gap) k = ap (λ p. i ∷ p) (on_again (j ∷ l ∷ gap) k)
+pub on_none : (gap : List ℕ) → gone_on gap 0 ≡ gap
+on_none [] = refl
+on_none (i ∷ []) = ap (λ n. n ∷ []) (omega arith)
+on_none (i ∷ j ∷ gap) = ap (λ p. i ∷ p) (on_none (j ∷ gap))
+
+pub on_again : (gap : List ℕ) (k m : ℕ) → gone_on (gone_on gap k) m ≡ gone_on gap (k + m)
+on_again [] k m = refl
+on_again (i ∷ []) k m = ap (λ n. n ∷ []) (omega arith)
+on_again (i ∷ j ∷ []) k m = ap (λ p. i ∷ p) (on_again (j ∷ []) k m)
+on_again (i ∷ j ∷ l ∷ gap) k m = ap (λ p. i ∷ p) (on_again (j ∷ l ∷ gap) k m)
+
+-- the steps of a path that went on
+pub on_parts : (gap : List ℕ) (last k : ℕ) → last + 1 ≡ length gap → gone_on gap k ≡ take last gap ++ (get_or gap last 0 + k) ∷ []
+on_parts [] last k e = absurd (omega arith)
+on_parts (i ∷ []) zero k e = refl
+on_parts (i ∷ []) (suc last) k e = absurd (omega arith)
+on_parts (i ∷ j ∷ gap) zero k e = absurd (omega arith)
+on_parts (i ∷ j ∷ gap) (suc last) k e = ap (λ p. i ∷ p) (on_parts (j ∷ gap) last k (omega arith))
+
+pub on_last : (gap : List ℕ) (last k : ℕ) → last + 1 ≡ length gap → get_or (gone_on gap k) last 0 ≡ get_or gap last 0 + k
+on_last [] last k e = absurd (omega arith)
+on_last (i ∷ []) zero k e = refl
+on_last (i ∷ []) (suc last) k e = absurd (omega arith)
+on_last (i ∷ j ∷ gap) zero k e = absurd (omega arith)
+on_last (i ∷ j ∷ []) (suc last) k e = on_last (j ∷ []) last k (omega arith)
+on_last (i ∷ j ∷ l ∷ gap) (suc last) k e = on_last (j ∷ l ∷ gap) last k (omega arith)
+
+-- zeros in the place of the steps from one on up to another
+abbrev pub cleared : ℕ → ℕ → List ℕ → List ℕ
+cleared from to [] = []
+cleared from zero (i ∷ gap) = i ∷ gap
+cleared zero (suc to) (i ∷ gap) = 0 ∷ cleared zero to gap
+cleared (suc from) (suc to) (i ∷ gap) = i ∷ cleared from to gap
+
+pub clear_none : (from : ℕ) (gap : List ℕ) → cleared from from gap ≡ gap
+clear_none from [] = refl
+clear_none zero (i ∷ gap) = refl
+clear_none (suc from) (i ∷ gap) = ap (λ p. i ∷ p) (clear_none from gap)
+
+pub clear_more : (from to : ℕ) (gap : List ℕ) → from ≤ to → slice_set (cleared from to gap) to 0 ≡ cleared from (suc to) gap
+clear_more from to [] k = refl
+clear_more zero zero (i ∷ gap) k = first gap
+  where
+    first : (p : List ℕ) → 0 ∷ p ≡ 0 ∷ cleared zero zero p
+    first [] = refl
+    first (j ∷ p) = refl
+clear_more (suc from) zero (i ∷ gap) k = absurd (omega arith)
+clear_more zero (suc to) (i ∷ gap) k = ap (λ p. 0 ∷ p) (clear_more zero to gap (omega arith))
+clear_more (suc from) (suc to) (i ∷ gap) k = ap (λ p. i ∷ p) (clear_more from to gap (omega arith))
+
+pub clear_length : (from to : ℕ) (gap : List ℕ) → length (cleared from to gap) ≡ length gap
+clear_length from to [] = refl
+clear_length from zero (i ∷ gap) = refl
+clear_length zero (suc to) (i ∷ gap) = ap suc (clear_length zero to gap)
+clear_length (suc from) (suc to) (i ∷ gap) = ap suc (clear_length from to gap)
+
+clear_zeros : (gap : List ℕ) → cleared zero (length gap) gap ≡ zeros (length gap)
+clear_zeros [] = refl
+clear_zeros (i ∷ gap) = ap (λ p. 0 ∷ p) (clear_zeros gap)
+
+pub clear_all : (gap : List ℕ) (last i : ℕ) → last < length gap → cleared (suc last) (length gap) (slice_set gap last i) ≡ take last gap ++ i ∷ zeros (length gap - suc last)
+clear_all [] last i k = absurd (omega arith)
+clear_all (j ∷ gap) zero i k = ap (λ p. i ∷ p) (clear_zeros gap) ∙ ap (λ n. i ∷ zeros n) (omega arith)
+clear_all (j ∷ gap) (suc last) i k = ap (λ p. j ∷ p) (clear_all gap last i (omega arith)) ∙ ap (λ n. j ∷ take last gap ++ i ∷ zeros n) (omega arith)
 
 -- the last step of a path set to another one
 pub set_last : (gap : List ℕ) (last k : ℕ) → last + 1 ≡ length gap → slice_set gap last (get_or gap last 0 + k) ≡ gone_on gap k

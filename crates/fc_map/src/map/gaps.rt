@@ -1,7 +1,7 @@
 //! The ends of writing walks: gaps between two pairs, as paths to gaps of leaves, and steps from one to the next.
 //!
-//! A gap stays one where values are written, so a writing walk keeps its ends as such paths. Within a leaf a step changes the last
-//! step of such a path alone; only at a leaf's end it looks at the tree.
+//! A gap stays one where values are written, so a writing walk keeps its ends as such paths. Beside the one at its front it counts the
+//! pairs of the leaf that it went past: within a leaf a step on changes that number alone, and only at a leaf's end it looks at the tree.
 ghost use Rattle.std.specs.Prelude.{◌≡◌, ◌+◌, ◌<◌, ◌≤◌, ◌↔◌, List, ℕ, length, take, drop, IsTrue};
 ghost use Rattle.fc_base.specs.Ranges.{bound_now, is_range};
 ghost use Rattle.fc_tree_node.specs.TreePlace.{before_pair_in, before_gap_in, IsPlaceIn};
@@ -9,15 +9,16 @@ ghost use Rattle.fc_tree_visit.specs.Leaf.{gone_on};
 ghost use Rattle.fc_tree_visit.specs.Visits.{CalledAtPair, IsVisited};
 ghost use Rattle.fc_tree_walk.specs.Gap.{IsGapIn, AreEndsIn};
 ghost use Rattle.fc_map.specs.Entries.{entries, IsSoundMap};
+ghost use Rattle.fc_map.specs.Lends.{branch};
 ghost use Rattle.fc_map.specs.Writing.{starting};
 
 use super::BTreeMap;
 use fc_tree_node::node::Node;
 use fc_tree_node::path::Path;
-use fc_tree_visit::leaf::{go_to_next, go_to_previous, pairs_after};
+use fc_tree_visit::leaf::{go_on, go_past, go_to_previous, pairs_after};
 use fc_tree_visit::tree::visit_tree;
 use fc_tree_walk::ends::{first_gap_in, last_gap_in, start_gap_in, stop_gap_in};
-use fc_tree_walk::gaps::{first_gap, push_gap_before, steps_to_next, steps_to_previous};
+use fc_tree_walk::gaps::{push_gap_before, steps_to_next, steps_to_previous};
 use std::ops::Bound;
 
 impl<K: Ord, V> BTreeMap<K, V> {
@@ -40,24 +41,37 @@ impl<K: Ord, V> BTreeMap<K, V> {
         (start_gap_in(&self.root, lo), stop_gap_in(&self.root, hi))
     }
 
-    // Whether two gaps are the same.
-    pub(crate) fn is_same_gap(&self, a: &Path, b: &Path) -> bool
-        requires { IsGapIn self.now a.now × IsGapIn self.now b.now }
-        ensures { IsTrue result ↔ (length (before_gap_in self.now a.now) ≡ length (before_gap_in self.now b.now)) }
+    // Whether two gaps are the same, of which the first lies so many pairs of its leaf behind where its path leads.
+    pub(crate) fn is_same_gap(&self, front: &Path, gone: usize, back: &Path) -> bool
+        requires { IsGapIn self.now (gone_on front.now gone) × IsGapIn self.now back.now }
+        ensures { IsTrue result ↔ (length (before_gap_in self.now (gone_on front.now gone)) ≡ length (before_gap_in self.now back.now)) }
     {
         // Read for the proof alone: it shows that the tree is sound.
         let _ = &self.root;
-        a.as_slice() == b.as_slice()
+        let mut gap = *front;
+        go_on(&mut gap, gone);
+        gap.as_slice() == back.as_slice()
     }
 
-    // Calls the closure at each pair between two gaps, in order, with its value lent for writing.
-    pub(crate) fn visit<F: FnMut(&K, &mut V)>(&mut self, front: &Path, back: &Path, f: F)
-        requires ends { AreEndsIn self.old front.now back.now }
+    // Calls the closure at each pair between two gaps, in order, with its value lent for writing. The first gap lies so many pairs
+    // of its leaf behind where its path leads.
+    pub(crate) fn visit<F: FnMut(&K, &mut V)>(
+        &mut self,
+        front: &Path,
+        gone: usize,
+        back: &Path,
+        f: F,
+    )
+        requires ends { AreEndsIn self.old (gone_on front.now gone) back.now }
         requires callable { F.IsAlwaysCallable f }
         ensures gaps { (path : List ℕ) → IsGapIn self.old path → IsGapIn self.new path × (length (before_gap_in self.new path) ≡ length (before_gap_in self.old path)) }
-        ensures visited { (last : F) × IsVisited (CalledAtPair F.FnMut) f last (take (length (before_gap_in self.old front.now)) (entries self.old)) (drop (length (before_gap_in self.old back.now)) (entries self.old)) (entries self.old) (entries self.new) }
+        ensures visited { (last : F) × IsVisited (CalledAtPair F.FnMut) f last (take (length (before_gap_in self.old (gone_on front.now gone))) (entries self.old)) (drop (length (before_gap_in self.old back.now)) (entries self.old)) (entries self.old) (entries self.new) }
     {
-        visit_tree(&mut self.root, front, back, f);
+        // Read for the proof alone: it shows that the tree is sound.
+        let _ = &self.root;
+        let mut gap = *front;
+        go_on(&mut gap, gone);
+        visit_tree(&mut self.root, &gap, back, f);
     }
 
     // How many pairs of its leaf lie after a gap; none where there is no leaf.
@@ -72,52 +86,66 @@ impl<K: Ord, V> BTreeMap<K, V> {
         }
     }
 
-    // Goes on past the pair after a gap, and answers that pair's place. So many pairs of the gap's leaf lie after it.
+    // Goes on past the pair after a gap, and answers where that pair is: so many steps of the path lead to its node, and the place in
+    // it. The gap lies so many pairs of its leaf behind where its path leads, and so many of them lie after it: within a leaf these
+    // numbers alone change.
     #[inline]
-    pub(crate) fn step_to_next(&self, gap: &mut Path, run: &mut usize) -> Path
-        requires gap { IsGapIn self.now gap.old }
-        requires run { IsGapIn self.now (gone_on gap.old run.old) }
-        requires some { (other : List ℕ) × IsGapIn self.now other × (length (before_gap_in self.now gap.old) < length (before_gap_in self.now other)) }
-        ensures place { IsPlaceIn self.now result }
-        ensures before { length (before_pair_in self.now result) ≡ length (before_gap_in self.now gap.old) }
-        ensures gap { IsGapIn self.now gap.new }
-        ensures run { IsGapIn self.now (gone_on gap.new run.new) }
-        ensures step { length (before_gap_in self.now gap.new) ≡ length (before_gap_in self.now gap.old) + 1 }
+    pub(crate) fn step_to_next(
+        &self,
+        path: &mut Path,
+        gone: &mut usize,
+        run: &mut usize,
+    ) -> (usize, usize)
+        requires gap { IsGapIn self.now (gone_on path.old gone.old) }
+        requires run { IsGapIn self.now (gone_on path.old (gone.old + run.old)) }
+        requires some { (other : List ℕ) × IsGapIn self.now other × (length (before_gap_in self.now (gone_on path.old gone.old)) < length (before_gap_in self.now other)) }
+        ensures way { result.0 < length path.new }
+        ensures small { result.1 < 256 }
+        ensures place { IsPlaceIn self.now (branch path.new result.0 result.1) }
+        ensures before { length (before_pair_in self.now (branch path.new result.0 result.1)) ≡ length (before_gap_in self.now (gone_on path.old gone.old)) }
+        ensures gap { IsGapIn self.now (gone_on path.new gone.new) }
+        ensures run { IsGapIn self.now (gone_on path.new (gone.new + run.new)) }
+        ensures step { length (before_gap_in self.now (gone_on path.new gone.new)) ≡ length (before_gap_in self.now (gone_on path.old gone.old)) + 1 }
         ensures sound { IsSoundMap self.now }
     {
         if *run == 0 {
-            let (place, next) = self.leave_to_next(gap);
-            *gap = next;
-            *run = self.run_after(gap);
-            return place;
+            return self.leave_to_next(path, gone, run);
         }
         // Read for the proof alone: it shows that the tree is sound.
         let _ = &self.root;
-        let place = *gap;
-        go_to_next(gap);
+        let last = path.len() - 1;
+        let place = path.step(last) + *gone;
+        *gone += 1;
         *run -= 1;
-        place
+        (last, place)
     }
 
-    // The place of the pair after a gap, and the gap after that pair, by a way down from the root.
+    // The same by ways down from the root, whether the leaf ends at the gap or not.
     #[inline(never)]
-    fn leave_to_next(&self, gap: &Path) -> (Path, Path)
-        requires gap { IsGapIn self.now gap.now }
-        requires some { (other : List ℕ) × IsGapIn self.now other × (length (before_gap_in self.now gap.now) < length (before_gap_in self.now other)) }
-        ensures place { IsPlaceIn self.now result.0 }
-        ensures before { length (before_pair_in self.now result.0) ≡ length (before_gap_in self.now gap.now) }
-        ensures gap { IsGapIn self.now result.1 }
-        ensures step { length (before_gap_in self.now result.1) ≡ length (before_gap_in self.now gap.now) + 1 }
+    fn leave_to_next(&self, path: &mut Path, gone: &mut usize, run: &mut usize) -> (usize, usize)
+        requires gap { IsGapIn self.now (gone_on path.old gone.old) }
+        requires some { (other : List ℕ) × IsGapIn self.now other × (length (before_gap_in self.now (gone_on path.old gone.old)) < length (before_gap_in self.now other)) }
+        ensures way { result.0 < length path.new }
+        ensures small { result.1 < 256 }
+        ensures place { IsPlaceIn self.now (branch path.new result.0 result.1) }
+        ensures before { length (before_pair_in self.now (branch path.new result.0 result.1)) ≡ length (before_gap_in self.now (gone_on path.old gone.old)) }
+        ensures gap { IsGapIn self.now (gone_on path.new gone.new) }
+        ensures run { IsGapIn self.now (gone_on path.new (gone.new + run.new)) }
+        ensures step { length (before_gap_in self.now (gone_on path.new gone.new)) ≡ length (before_gap_in self.now (gone_on path.old gone.old)) + 1 }
         ensures sound { IsSoundMap self.now }
     {
         let Some(root) = &self.root else {
             unreachable!()
         };
-        let gap = gap.as_slice();
-        let steps = steps_to_next(root, gap);
+        let root: &Node<K, V> = root;
+        go_on(path, *gone);
+        *gone = 0;
+        let steps = steps_to_next(root, path.as_slice());
         let last = steps - 1;
-        let next = first_gap(&gap[..last], gap[last] as usize + 1, gap.len());
-        (Path::of(&gap[..steps]), next)
+        let place = path.step(last);
+        go_past(path, steps);
+        *run = pairs_after(root, path.as_slice());
+        (last, place)
     }
 
     // Goes back past the pair before a gap, and answers that pair's place.

@@ -15,14 +15,15 @@ use fc_tree_node::path::Path;
 /// Upstream: `btree_map::IterMut`.
 pub struct IterMut<'a, K: Ord, V> {
     pub(crate) map: &'a mut BTreeMap<K, V>,
+    // The front lies so many pairs of its leaf behind where its path leads, and so many of them lie after it.
     pub(crate) front: Path,
-    // So many pairs of the front's leaf lie after it.
+    pub(crate) gone: usize,
     pub(crate) run: usize,
     pub(crate) back: Path,
     pub(crate) left: usize,
-    ghost ends: { AreEndsIn map.now front back } by { ends-prop map.now front back },
-    ghost run_is: { IsGapIn map.now (gone_on front run) } by { gap-prop map.now (gone_on front run) },
-    ghost counted: { left + length (before_gap_in map.now front) ≡ length (before_gap_in map.now back) },
+    ghost ends: { AreEndsIn map.now (gone_on front gone) back } by { ends-prop map.now (gone_on front gone) back },
+    ghost run_is: { IsGapIn map.now (gone_on front (gone + run)) } by { gap-prop map.now (gone_on front (gone + run)) },
+    ghost counted: { left + length (before_gap_in map.now (gone_on front gone)) ≡ length (before_gap_in map.now back) },
 }
 
 /// A walk that lends all values for writing: `IterMut` lends no key, so it is that walk. Upstream: `btree_map::ValuesMut`.
@@ -36,6 +37,7 @@ impl<K: Ord, V> Drop for IterMut<'_, K, V> {
         let IterMut {
             map: _,
             front: _,
+            gone: _,
             run: _,
             back: _,
             left: _,

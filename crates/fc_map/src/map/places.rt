@@ -1,5 +1,6 @@
 //! The pair at a place that a search found.
-ghost use Rattle.std.specs.Prelude.{◌≡◌, Some};
+ghost use Rattle.std.specs.Prelude.{◌≡◌, ◌<◌, length, Some};
+ghost use Rattle.fc_map.specs.Lends.{branch};
 ghost use Rattle.fc_map.specs.Place.{IsOpenAt, TellsRoom};
 ghost use Rattle.fc_tree_node.specs.TreePlace.{IsPlaceIn, pair_in};
 
@@ -18,6 +19,18 @@ impl<K: Ord, V> BTreeMap<K, V> {
             None => unreachable!(),
             Some(root) => lend::pair_at(root, path),
         }
+    }
+
+    // The pair at a place of the node to which so many steps of the path lead.
+    pub(crate) fn pair_on(&self, path: &Path, way: usize, place: usize) -> &(K, V)
+        requires way { way < length path.now }
+        requires small { place < 256 }
+        requires place { IsPlaceIn self.now (branch path.now way place) }
+        ensures { pair_in self.now (branch path.now way place) ≡ Some result.now }
+    {
+        let mut end = Path::of(&path.as_slice()[..way]);
+        end.push(place);
+        self.pair_of(&end)
     }
 
     // Whether the leaf of the gap that the path leads to has room for a pair; false where there is no leaf.

@@ -1,5 +1,5 @@
 //! Writing walks over the pairs of a map within two bounds, from both ends.
-ghost use Rattle.std.specs.Prelude.{◌≡◌};
+ghost use Rattle.std.specs.Prelude.{◌≡◌, ◌+◌};
 ghost use Rattle.fc_tree_visit.specs.Leaf.{gone_on};
 ghost use Rattle.fc_tree_walk.specs.Gap.{AreEndsIn, IsGapIn};
 ghost use Rattle.fc_map.specs.Unique.{ends-prop, gap-prop};
@@ -14,12 +14,13 @@ use fc_tree_node::path::Path;
 /// Upstream: `btree_map::RangeMut`.
 pub struct RangeMut<'a, K: Ord, V> {
     pub(crate) map: &'a mut BTreeMap<K, V>,
+    // The front lies so many pairs of its leaf behind where its path leads, and so many of them lie after it.
     pub(crate) front: Path,
-    // So many pairs of the front's leaf lie after it.
+    pub(crate) gone: usize,
     pub(crate) run: usize,
     pub(crate) back: Path,
-    ghost ends: { AreEndsIn map.now front back } by { ends-prop map.now front back },
-    ghost run_is: { IsGapIn map.now (gone_on front run) } by { gap-prop map.now (gone_on front run) },
+    ghost ends: { AreEndsIn map.now (gone_on front gone) back } by { ends-prop map.now (gone_on front gone) back },
+    ghost run_is: { IsGapIn map.now (gone_on front (gone + run)) } by { gap-prop map.now (gone_on front (gone + run)) },
 }
 
 // Dropped, a walk leaves the map with what was written: a derived `drop` would not say so.
@@ -30,6 +31,7 @@ impl<K: Ord, V> Drop for RangeMut<'_, K, V> {
         let RangeMut {
             map: _,
             front: _,
+            gone: _,
             run: _,
             back: _,
         } = self;

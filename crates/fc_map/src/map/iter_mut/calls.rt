@@ -4,6 +4,7 @@ ghost use Rattle.std.specs.Borrow.{sem};
 ghost use Rattle.fc_map.specs.Entries.{entries};
 ghost use Rattle.fc_tree_node.specs.TreePlace.{IsPlaceIn, before_pair_in};
 ghost use Rattle.fc_map.specs.Stretches.{CalledAtPair, IsVisitedIn, iter_stretch, iter_map_ref, iter_lends_first, iter_lends_last, IsFirstPair, IsFirstValue, IsLastPair, IsLastValue};
+ghost use Rattle.fc_map.specs.Lends.{branch};
 ghost use Rattle.fc_map.specs.Writing.{whole};
 
 use super::super::BTreeMap;
@@ -11,7 +12,8 @@ use super::{IterMut, ValuesMut};
 use fc_tree_node::path::Path;
 
 impl<K: Ord, V> BTreeMap<K, V> {
-    /// A writing walk over all pairs. Upstream: `BTreeMap::iter_mut`.
+    /// A writing walk over all pairs. To write all values use its `for_each`, which goes through the tree once: `next` comes down
+    /// from the root to each value that it lends. Upstream: `BTreeMap::iter_mut`.
     pub fn iter_mut(&mut self) -> IterMut<'_, K, V>
         ensures same_map { (iter_map_ref result).ghost_name ≡ self.entry.ghost_name }
         ensures start { iter_stretch result ≡ whole (entries self.old) }
@@ -22,13 +24,15 @@ impl<K: Ord, V> BTreeMap<K, V> {
         IterMut {
             map: self,
             front,
+            gone: 0,
             run,
             back,
             left,
         }
     }
 
-    /// A writing walk over all values. Upstream: `BTreeMap::values_mut`.
+    /// A writing walk over all values. To write all of them use its `for_each`, which goes through the tree once: `next` comes down
+    /// from the root to each value that it lends. Upstream: `BTreeMap::values_mut`.
     pub fn values_mut(&mut self) -> ValuesMut<'_, K, V>
         ensures same_map { (iter_map_ref result).ghost_name ≡ self.entry.ghost_name }
         ensures start { iter_stretch result ≡ whole (entries self.old) }
@@ -59,7 +63,10 @@ impl<'a, K: Ord, V> IterMut<'a, K, V> {
         ensures value { IsFirstValue (iter_stretch self.old) result }
     {
         match self.step() {
-            Some(place) => Some(self.map.value_mut(&place)),
+            Some((way, place)) => {
+                let front = self.front;
+                Some(self.map.value_at(&front.as_slice()[..way], place))
+            }
             None => None,
         }
     }
@@ -85,11 +92,12 @@ impl<'a, K: Ord, V> IterMut<'a, K, V> {
         let IterMut {
             map,
             front,
+            gone,
             run: _,
             back,
             left: _,
         } = self;
-        map.visit(&front, &back, f);
+        map.visit(&front, gone, &back, f);
     }
 
     /// The pair whose value `next` lends.
@@ -99,8 +107,9 @@ impl<'a, K: Ord, V> IterMut<'a, K, V> {
         if self.left == 0 {
             return None;
         }
-        let (mut gap, mut run) = (self.front, self.run);
-        let pair = self.map.pair_of(&self.map.step_to_next(&mut gap, &mut run));
+        let (mut path, mut gone, mut run) = (self.front, self.gone, self.run);
+        let (way, place) = self.map.step_to_next(&mut path, &mut gone, &mut run);
+        let pair = self.map.pair_on(&path, way, place);
         Some((&pair.0, &pair.1))
     }
 
@@ -116,16 +125,18 @@ impl<'a, K: Ord, V> IterMut<'a, K, V> {
         Some((&pair.0, &pair.1))
     }
 
-    // Goes on past the first pair, and answers its place.
-    fn step(&mut self) -> Option<Path>
+    // Goes on past the first pair, and answers how many steps of the front lead to its node, and its place there.
+    fn step(&mut self) -> Option<(usize, usize)>
         ensures same_map { self.new.map ≡ self.old.map }
         ensures none { result ≡ None → self.new ≡ self.old }
-        ensures step { MatchOption result ((iter_stretch self.old).back ≤ (iter_stretch self.old).front) (λ place. IsPlaceIn self.new.map.now place × (length (before_pair_in self.new.map.now place) ≡ (iter_stretch self.old).front) × ((iter_stretch self.old).front < (iter_stretch self.old).back) × ((iter_stretch self.new).front ≡ (iter_stretch self.old).front + 1) × ((iter_stretch self.new).back ≡ (iter_stretch self.old).back)) }
+        ensures step { MatchOption result ((iter_stretch self.old).back ≤ (iter_stretch self.old).front) (λ r. (r.0 < length self.new.front) × IsPlaceIn self.new.map.now (branch self.new.front r.0 r.1) × (length (before_pair_in self.new.map.now (branch self.new.front r.0 r.1)) ≡ (iter_stretch self.old).front) × ((iter_stretch self.old).front < (iter_stretch self.old).back) × ((iter_stretch self.new).front ≡ (iter_stretch self.old).front + 1) × ((iter_stretch self.new).back ≡ (iter_stretch self.old).back)) }
     {
         if self.left == 0 {
             return None;
         }
-        let place = self.map.step_to_next(&mut self.front, &mut self.run);
+        let place = self
+            .map
+            .step_to_next(&mut self.front, &mut self.gone, &mut self.run);
         self.left -= 1;
         Some(place)
     }

@@ -5,6 +5,7 @@ ghost use Rattle.fc_base.specs.Ranges.{bound_now, is_range};
 ghost use Rattle.fc_map.specs.Entries.{entries};
 ghost use Rattle.fc_tree_node.specs.TreePlace.{IsPlaceIn, before_pair_in};
 ghost use Rattle.fc_map.specs.Stretches.{CalledAtPair, IsVisitedIn, stretch, range_map_ref, range_lends_first, range_lends_last, IsFirstPair, IsFirstValue, IsLastPair, IsLastValue};
+ghost use Rattle.fc_map.specs.Lends.{branch};
 ghost use Rattle.fc_map.specs.Writing.{starting};
 
 use super::super::BTreeMap;
@@ -26,6 +27,7 @@ impl<K: Ord, V> BTreeMap<K, V> {
         RangeMut {
             map: self,
             front,
+            gone: 0,
             run,
             back,
         }
@@ -37,7 +39,7 @@ impl<'a, K: Ord, V> RangeMut<'a, K, V> {
     pub fn is_done(&self) -> bool
         ensures { IsTrue result ↔ ((stretch self.now).back ≤ (stretch self.now).front) }
     {
-        self.map.is_same_gap(&self.front, &self.back)
+        self.map.is_same_gap(&self.front, self.gone, &self.back)
     }
 
     /// The first value that is still to be lent, lent for writing. Upstream: `RangeMut::next`, which lends the key beside it:
@@ -47,7 +49,10 @@ impl<'a, K: Ord, V> RangeMut<'a, K, V> {
         ensures value { IsFirstValue (stretch self.old) result }
     {
         match self.step() {
-            Some(place) => Some(self.map.value_mut(&place)),
+            Some((way, place)) => {
+                let front = self.front;
+                Some(self.map.value_at(&front.as_slice()[..way], place))
+            }
             None => None,
         }
     }
@@ -73,10 +78,11 @@ impl<'a, K: Ord, V> RangeMut<'a, K, V> {
         let RangeMut {
             map,
             front,
+            gone,
             run: _,
             back,
         } = self;
-        map.visit(&front, &back, f);
+        map.visit(&front, gone, &back, f);
     }
 
     /// The pair whose value `next` lends.
@@ -86,8 +92,9 @@ impl<'a, K: Ord, V> RangeMut<'a, K, V> {
         if self.is_done() {
             return None;
         }
-        let (mut gap, mut run) = (self.front, self.run);
-        let pair = self.map.pair_of(&self.map.step_to_next(&mut gap, &mut run));
+        let (mut path, mut gone, mut run) = (self.front, self.gone, self.run);
+        let (way, place) = self.map.step_to_next(&mut path, &mut gone, &mut run);
+        let pair = self.map.pair_on(&path, way, place);
         Some((&pair.0, &pair.1))
     }
 
@@ -103,16 +110,18 @@ impl<'a, K: Ord, V> RangeMut<'a, K, V> {
         Some((&pair.0, &pair.1))
     }
 
-    // Goes on past the first pair, and answers its place.
-    fn step(&mut self) -> Option<Path>
+    // Goes on past the first pair, and answers how many steps of the front lead to its node, and its place there.
+    fn step(&mut self) -> Option<(usize, usize)>
         ensures same_map { self.new.map ≡ self.old.map }
         ensures none { result ≡ None → self.new ≡ self.old }
-        ensures step { MatchOption result ((stretch self.old).back ≤ (stretch self.old).front) (λ place. IsPlaceIn self.new.map.now place × (length (before_pair_in self.new.map.now place) ≡ (stretch self.old).front) × ((stretch self.old).front < (stretch self.old).back) × ((stretch self.new).front ≡ (stretch self.old).front + 1) × ((stretch self.new).back ≡ (stretch self.old).back)) }
+        ensures step { MatchOption result ((stretch self.old).back ≤ (stretch self.old).front) (λ r. (r.0 < length self.new.front) × IsPlaceIn self.new.map.now (branch self.new.front r.0 r.1) × (length (before_pair_in self.new.map.now (branch self.new.front r.0 r.1)) ≡ (stretch self.old).front) × ((stretch self.old).front < (stretch self.old).back) × ((stretch self.new).front ≡ (stretch self.old).front + 1) × ((stretch self.new).back ≡ (stretch self.old).back)) }
     {
         if self.is_done() {
             return None;
         }
-        let place = self.map.step_to_next(&mut self.front, &mut self.run);
+        let place = self
+            .map
+            .step_to_next(&mut self.front, &mut self.gone, &mut self.run);
         Some(place)
     }
 

@@ -5,6 +5,5 @@ pub returns : goal.returns
 returns g c =
     let first = rw c.self.view_is at c.first_gap_in.ensures in
     let last = rw c.self.view_is at c.last_gap_in.ensures in
-    let a = first.front in
-    let b = last.back in
-    record { ends = (first.gap, last.gap, omega arith); front = a; back = b }
+    let f = first.front in
+    record { ends = (first.gap, last.gap, omega arith); front = first.front; back = last.back }

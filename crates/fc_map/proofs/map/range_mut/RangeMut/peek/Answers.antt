@@ -1,5 +1,6 @@
 use Rattle.std.proofs.Common.{arith, refl, ◌∙◌}
 use Rattle.fc_map.specs.Entries.{entries}
+use Rattle.fc_map.specs.Lends.{branch}
 use Rattle.fc_map.proofs.EndFacts.{place_item}
 use Rattle.fc_map.proofs.map.range_mut.RangeMut.peek.Goals as goal
 
@@ -8,4 +9,5 @@ returns g c =
     let e = c.is_done.ensures in
     let m = c.args.self.now.map.now in
     let is = c.if-is_done.false in
-    (grind (arith, e.1, is), place_item m c.step_to_next.result (entries m) _ c.step_to_next.ensures.sound c.step_to_next.ensures.place refl c.step_to_next.ensures.before ∙ c.pair_of-pair.ensures)
+    let t = c.step_to_next-way in
+    (grind (arith, e.1, is), place_item m (branch t.new.path t.result.0 t.result.1) (entries m) _ t.ensures.sound t.ensures.place refl t.ensures.before ∙ c.pair_on-pair.ensures)
