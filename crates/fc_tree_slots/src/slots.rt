@@ -8,10 +8,11 @@ ghost use Rattle.fc_tree_slots.specs.Lends.{lends_slot};
 ghost use Rattle.fc_tree_slots.specs.Cells.{row, HasRow};
 
 use crate::cells::Cells;
-use crate::rest::Rest;
 use fc_base::Count;
 use std::alloc::{AllocError, Global};
 use std::marker::Model;
+
+mod into_rest;
 
 /// At most `N` items, in order. Only `try_new` takes memory.
 ///
@@ -119,14 +120,6 @@ impl<T, const N: usize> Slots<T, N> {
         let old = self.cells.take(index);
         self.cells.set(index, item, count);
         old
-    }
-
-    /// The items, to be taken from either end. It takes no memory and moves none of them.
-    pub fn into_rest(self) -> Rest<T, N>
-        ensures { result ≡ self }
-    {
-        let Slots { cells, len } = self;
-        Rest::over(cells, len)
     }
 }
 
