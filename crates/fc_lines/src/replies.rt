@@ -19,8 +19,8 @@ const MAX_DIGITS: usize = 20;
 /// Appends the line that is written for a reply.
 ///
 /// # Errors
-/// `AllocError` where the text has no room for the line and growing it was refused. Room for `MAX_REPLY` more bytes is enough for
-/// each reply that is no list.
+/// `AllocError` where the text has no room for the line and growing it was refused; it may then end in a part of the line. Room for
+/// `MAX_REPLY` more bytes is enough for each reply that is no list.
 #[tactic(auto, unfolding(crate::specs::Texts::text_of))]
 pub fn write_reply(text: &mut Vec<u8>, reply: &Reply<u64, u64>) -> Result<(), AllocError>
     ensures written { OnOk result (text.new.items ≡ text.old.items ++ text_of reply.now) }
@@ -183,7 +183,8 @@ fn write_digits(n: u64, digits: &mut [u8; MAX_DIGITS]) -> usize
 /// Appends the line that is written for line `n`, which is not a command.
 ///
 /// # Errors
-/// `AllocError` where the text has no room for the line and growing it was refused. Room for `MAX_REPLY` more bytes is enough.
+/// `AllocError` where the text has no room for the line and growing it was refused; it may then end in a part of the line. Room for
+/// `MAX_REPLY` more bytes is enough.
 #[tactic(auto, unfolding(crate::specs::Texts::fault_text))]
 pub fn write_fault(text: &mut Vec<u8>, n: u64) -> Result<(), AllocError>
     ensures written { OnOk result (text.new.items ≡ text.old.items ++ fault_text n) }
