@@ -203,8 +203,8 @@ fn copy_of(alloc: Global, count: usize) -> Option<Fate> {
 }
 
 // The sweep refuses each request in turn, of the map and of its copy, and counts the copies that were refused.
-fn copies(rt: &(impl Abort + AllocGlobal + Print), count: usize) -> Result<(), Fail> {
-    match copy_of(rt.alloc(), count) {
+fn copies(rt: &(impl Abort + Print), alloc: Global, count: usize) -> Result<(), Fail> {
+    match copy_of(alloc, count) {
         Some(Fate::Refused) => Ok(println!(rt; "refused")?),
         Some(Fate::Wrong) => {
             assert!(rt; false);
@@ -212,7 +212,7 @@ fn copies(rt: &(impl Abort + AllocGlobal + Print), count: usize) -> Result<(), F
         }
         Some(Fate::Copied) => Ok(()),
         None => {
-            assert!(rt; !has_memory(rt.alloc()));
+            assert!(rt; !has_memory(alloc));
             Ok(())
         }
     }
@@ -221,11 +221,11 @@ fn copies(rt: &(impl Abort + AllocGlobal + Print), count: usize) -> Result<(), F
 // The map has three levels.
 #[test]
 fn a_refused_copy_is_dropped_and_leaves_its_source(rt: HostRuntime) -> Result<(), Fail> {
-    copies(&rt, 170)
+    copies(&rt, rt.alloc(), 170)
 }
 
 // Ten leaves below a root.
 #[test]
 fn a_refused_copy_of_89_pairs_is_dropped(rt: HostRuntime) -> Result<(), Fail> {
-    copies(&rt, 89)
+    copies(&rt, rt.alloc(), 89)
 }

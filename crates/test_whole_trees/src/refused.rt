@@ -188,7 +188,7 @@ fn appends(alloc: Global, ours: &[usize], theirs: &[usize], ledgers: [&Ledger; 2
 fn a_refused_append_leaves_both_maps(rt: HostRuntime) -> Result<(), Fail> {
     let (ours, theirs) = (Ledger::new(), Ledger::new());
     let (even, thirds) = (multiples(2), multiples(3));
-    let fate = appends(rt.alloc(), &even, &thirds[..40], [&ours, &theirs]);
+    let fate = appends(rt.alloc(), &even, &thirds[0..40], [&ours, &theirs]);
     assert!(rt; theirs.are_living(&[], &[]));
     ends(&rt, fate, &ours)
 }
@@ -247,7 +247,7 @@ fn splits<'a>(
 fn a_refused_split_leaves_the_map(rt: HostRuntime) -> Result<(), Fail> {
     let (ledger, sought) = (Ledger::new(), Ledger::new());
     let all = numbers();
-    let fate = splits(rt.alloc(), &all[..160], 59, 59, [&ledger, &sought]);
+    let fate = splits(rt.alloc(), &all[0..160], 59, 59, [&ledger, &sought]);
     ends(&rt, fate, &ledger)
 }
 
@@ -299,7 +299,7 @@ fn makes(alloc: Global, all: &[usize], ledger: &Ledger) -> Fate {
 fn a_refused_map_of_an_iterator_is_dropped(rt: HostRuntime) -> Result<(), Fail> {
     let ledger = Ledger::new();
     let all = numbers();
-    let fate = makes(rt.alloc(), &all[..160], &ledger);
+    let fate = makes(rt.alloc(), &all[0..160], &ledger);
     ends(&rt, fate, &ledger)
 }
 
