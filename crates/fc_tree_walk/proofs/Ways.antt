@@ -1,10 +1,12 @@
 -- Down the way to a gap, to the lowest node with a pair on one side of it, and to the gap on the other side of that pair.
-use Rattle.std.proofs.Common.{◌≡◌, ℕ, zero, suc, ◌+◌, ◌-◌, ◌<◌, ◌≤◌, List, [], ◌∷◌, ◌++◌, length, take, get_or, slice_get, refl, sym, ap, subst, ◌∙◌, arith, Some, None, ◌⊎◌, inl, inr, length-append, append_assoc}
-use Rattle.std.specs.Prelude.{slice_set}
+use Rattle.std.proofs.Common.{◌≡◌, ℕ, zero, suc, ◌+◌, ◌-◌, ◌<◌, ◌≤◌, List, [], ◌∷◌, ◌++◌, length, take, drop, get_or, slice_get, refl, sym, ap, subst, ◌∙◌, arith, Some, None, ◌⊎◌, inl, inr, length-append, append_assoc}
+use Rattle.std.specs.Prelude.{slice_set, slice_range}
+use Rattle.std.proofs.Math.Seq.{drop-append_seam}
 use Rattle.std.proofs.lemmas.Bool.{cases_lt}
-use Rattle.std.proofs.lemmas.List.{take_more, take_more_set}
+use Rattle.std.proofs.lemmas.List.{take_more, take_more_set, take_all}
 use Rattle.fc_base.specs.Sizes.{most_levels}
 use Rattle.fc_tree_node.specs.declared.node.Node.{Node}
+use Rattle.fc_tree_node.specs.Leaf.{leaf_at}
 use Rattle.fc_tree_node.specs.LeafGap.{IsLeafGap}
 use Rattle.fc_tree_node.specs.Node.{own_pairs, children_of, child_at, pairs_of, IsLevelled}
 use Rattle.fc_tree_node.specs.Path.{IsPath, before_gap, after_gap}
@@ -241,8 +243,16 @@ module _ {K V : Type 0} where
 
   -- ---- the gap on the other side of the pair
 
-  along : (s path : List ℕ) (h : ℕ) (root : Node K V) → IsLevelled h root → IsDescent s root → IsLeafGap path (node_at s root) → IsLeafGap (s ++ path) root × (length (before_gap (s ++ path) root) ≡ length (before_gap s root) + length (before_gap path (node_at s root)))
-  along [] path h root l d w = (w, omega arith)
+  pub same_root : (m : Map K V) (n r : Node K V) → m ≡ Some n → m ≡ Some r → n ≡ r
+  same_root m n r a b = let e : Some n ≡ Some r = sym a ∙ b in cc
+
+  leaf_more : (i : ℕ) (path : List ℕ) (n : Node K V) → 0 < length path → leaf_at (i ∷ path) n ≡ leaf_at path (child_at n i)
+  leaf_more i [] n k = absurd (omega arith)
+  leaf_more i (j ∷ path) n k = refl
+
+  along : (s path : List ℕ) (h : ℕ) (root : Node K V) → IsLevelled h root → IsDescent s root → IsLeafGap path (node_at s root)
+      → IsLeafGap (s ++ path) root × (length (before_gap (s ++ path) root) ≡ length (before_gap s root) + length (before_gap path (node_at s root))) × (leaf_at (s ++ path) root ≡ leaf_at path (node_at s root))
+  along [] path h root l d w = (w, omega arith, refl)
   along (i ∷ s) path h root l d w =
       let t = step_levels h root i l d.0 in
       let c = child_at root i in
@@ -250,17 +260,37 @@ module _ {K V : Type 0} where
       let a = length-append (before_child root i) (before_gap (s ++ path) c) in
       let b = length-append (before_child root i) (before_gap s c) in
       let e = r.1 in
-      (((t.3, r.0.0), λ k m. let o = one_height k h root m l in let u = r.0.1 t.0 t.2 in let v = t.1 in omega arith), omega (arith, a, b, e))
+      let u = r.0.1 t.0 t.2 in
+      (((t.3, r.0.0), λ k m. let o = one_height k h root m l in let v = t.1 in omega arith), omega (arith, a, b, e), leaf_more i (s ++ path) root (omega arith) ∙ r.2)
 
   -- The gap that goes on from a node on the way, in the map.
-  went : (gap new : List ℕ) (h level count : ℕ) (root n : Node K V) → IsLevelled h root → LeadsTo gap root level n → GoesOn (take level gap) new n count → IsLeafGap new root × (length (before_gap new root) ≡ length (before_gap (take level gap) root) + count)
+  went : (gap new : List ℕ) (h level count : ℕ) (root n : Node K V) → IsLevelled h root → LeadsTo gap root level n → (g : GoesOn (take level gap) new n count)
+      → IsLeafGap new root × (length (before_gap new root) ≡ length (before_gap (take level gap) root) + count) × (leaf_at g.0 n ≡ leaf_at new root)
   went gap new h level count root n l w g =
       let r = along (take level gap) g.0 h root l w.1 (subst (IsLeafGap g.0) w.2 g.2) in
       let e = ap (λ m. length (before_gap g.0 m)) w.2 in
       let a = r.1 in
       let b = g.3 in
       let s = ap (λ p. length (before_gap p root)) g.1 in
-      (subst (λ p. IsLeafGap p root) (sym g.1) r.0, omega (arith, a, b, e, s))
+      (subst (λ p. IsLeafGap p root) (sym g.1) r.0, omega (arith, a, b, e, s), ap (leaf_at g.0) w.2 ∙ sym r.2 ∙ ap (λ p. leaf_at p root) (sym g.1))
+
+  -- The part of the new path below the node.
+  pub rest_is : (gap new : List ℕ) (level count : ℕ) (n : Node K V) → level < length gap → (g : GoesOn (take level gap) new n count) → slice_range new level (length new) ≡ g.0
+  rest_is gap new level count n k g =
+      let t = length_take level gap (omega arith) in
+      let long = ap length g.1 ∙ length-append (take level gap) g.0 in
+      ap (λ x. take (length new - level) (drop level x)) g.1 ∙ ap (λ j. take (length new - level) (drop j (take level gap ++ g.0))) (sym t)
+      ∙ ap (take (length new - level)) (drop-append_seam (take level gap) g.0) ∙ take_all (length new - level) g.0 (omega arith)
+
+  -- It leads to a gap of a leaf below the node.
+  pub rest_path : (gap new part : List ℕ) (level count : ℕ) (n : Node K V) → IsLevelled (length gap - level - 1) n → level < length gap → (g : GoesOn (take level gap) new n count) → part ≡ slice_range new level (length new)
+      → (0 < length part) × IsPath part n × IsLevelled (length part - 1) n
+  rest_path gap new part level count n l k g e =
+      let s = e ∙ rest_is gap new level count n k g in
+      let long = ap length s in
+      let deep = g.2.1 (length gap - level - 1) l in
+      let h : length gap - level - 1 ≡ length part - 1 = omega arith in
+      (omega arith, subst (λ p. IsPath p n) (sym s) g.2.0, subst (λ j. IsLevelled j n) h l)
 
   -- The own pair of a node on the way, among the map's.
   own_get : (gap : List ℕ) (h level i : ℕ) (root n : Node K V) (x : K × V) → IsLevelled h root → LeadsTo gap root level n → i < length (own_pairs n) → x ≡ get_or (own_pairs n) i x → slice_get (pairs_of root) (length (before_gap (take level gap) root) + length (before_own n i)) ≡ Some x
@@ -287,31 +317,33 @@ module _ {K V : Type 0} where
       let same : root ≡ r = cc in
       way_levels gap o.0 level r n o.2.1 g (subst (λ d. LeadsTo gap d level n) same w)
 
-  pub record IsPassed (m : Map K V) (gap new : List ℕ) (x : K × V) : Type 0 where
+  pub record IsPassed (m : Map K V) (gap new : List ℕ) (x : K × V) (leaf : Node K V) : Type 0 where
     pub slot : IsGapIn m new
     pub step : length (before_gap_in m new) ≡ length (before_gap_in m gap) + 1
     pub pair : slice_get (entries m) (length (before_gap_in m gap)) ≡ Some x
+    pub leaf : (r : Node K V) → m ≡ Some r → leaf ≡ leaf_at new r
 
-  pub passed_next : (m : Map K V) (root best : Node K V) (gap new : List ℕ) (place : ℕ) (x : K × V) → m ≡ Some root → IsSoundMap m → IsNextAt gap root best place (length (before_gap gap root)) → x ≡ get_or (own_pairs best) (get_or gap place 0) x
-      → GoesOn (take place gap) new best (length (before_own best (get_or gap place 0)) + 1) → IsPassed m gap new x
-  passed_next None root best gap new place x is o n e g = absurd cc
-  passed_next (Some r) root best gap new place x is o n e g =
+  pub passed_next : (m : Map K V) (root best leaf : Node K V) (gap new part : List ℕ) (place : ℕ) (x : K × V) → m ≡ Some root → IsSoundMap m → IsNextAt gap root best place (length (before_gap gap root)) → x ≡ get_or (own_pairs best) (get_or gap place 0) x
+      → GoesOn (take place gap) new best (length (before_own best (get_or gap place 0)) + 1) → part ≡ slice_range new place (length new) → leaf ≡ leaf_at part best → IsPassed m gap new x leaf
+  passed_next None root best leaf gap new part place x is o n e g f t = absurd cc
+  passed_next (Some r) root best leaf gap new part place x is o n e g f t =
       let same : root ≡ r = cc in
       let l = subst (IsLevelled o.0) (sym same) o.2.1 in
       let w = went gap new o.0 place _ root best l n.way g in
       let a = n.before in
       let b = w.1 in
-      subst (λ d. IsPassed (Some d) gap new x) same (record { slot = w.0; step = omega arith; pair = ap (slice_get (pairs_of root)) (sym a) ∙ own_get gap o.0 place (get_or gap place 0) root best x l n.way n.own e })
+      subst (λ d. IsPassed (Some d) gap new x leaf) same (record { leaf = λ d p. t ∙ ap (λ q. leaf_at q best) (f ∙ rest_is gap new place _ best n.way.0 g) ∙ w.2 ∙ (let k : root ≡ d = cc in ap (leaf_at new) k); slot = w.0; step = omega arith; pair = ap (slice_get (pairs_of root)) (sym a) ∙ own_get gap o.0 place (get_or gap place 0) root best x l n.way n.own e })
 
-  pub record IsPassedBack (m : Map K V) (gap new : List ℕ) (x : K × V) : Type 0 where
+  pub record IsPassedBack (m : Map K V) (gap new : List ℕ) (x : K × V) (leaf : Node K V) : Type 0 where
     pub slot : IsGapIn m new
     pub step : length (before_gap_in m new) + 1 ≡ length (before_gap_in m gap)
     pub pair : slice_get (entries m) (length (before_gap_in m new)) ≡ Some x
+    pub leaf : (r : Node K V) → m ≡ Some r → leaf ≡ leaf_at new r
 
-  pub passed_back : (m : Map K V) (root best : Node K V) (gap new : List ℕ) (place : ℕ) (x : K × V) → m ≡ Some root → IsSoundMap m → IsLastAt gap root best place (length (before_gap gap root)) → x ≡ get_or (own_pairs best) (get_or gap place 0 - 1) x
-      → GoesOn (take place gap) new best (length (before_own best (get_or gap place 0 - 1))) → IsPassedBack m gap new x
-  passed_back None root best gap new place x is o n e g = absurd cc
-  passed_back (Some r) root best gap new place x is o n e g =
+  pub passed_back : (m : Map K V) (root best leaf : Node K V) (gap new part : List ℕ) (place : ℕ) (x : K × V) → m ≡ Some root → IsSoundMap m → IsLastAt gap root best place (length (before_gap gap root)) → x ≡ get_or (own_pairs best) (get_or gap place 0 - 1) x
+      → GoesOn (take place gap) new best (length (before_own best (get_or gap place 0 - 1))) → part ≡ slice_range new place (length new) → leaf ≡ leaf_at part best → IsPassedBack m gap new x leaf
+  passed_back None root best leaf gap new part place x is o n e g f t = absurd cc
+  passed_back (Some r) root best leaf gap new part place x is o n e g f t =
       let same : root ≡ r = cc in
       let l = subst (IsLevelled o.0) (sym same) o.2.1 in
       let w = went gap new o.0 place _ root best l n.way g in
@@ -319,4 +351,4 @@ module _ {K V : Type 0} where
       let b = w.1 in
       let some = n.own.0 in
       let le = n.own.1 in
-      subst (λ d. IsPassedBack (Some d) gap new x) same (record { slot = w.0; step = omega arith; pair = ap (slice_get (pairs_of root)) w.1 ∙ own_get gap o.0 place (get_or gap place 0 - 1) root best x l n.way (omega arith) e })
+      subst (λ d. IsPassedBack (Some d) gap new x leaf) same (record { leaf = λ d p. t ∙ ap (λ q. leaf_at q best) (f ∙ rest_is gap new place _ best n.way.0 g) ∙ w.2 ∙ (let k : root ≡ d = cc in ap (leaf_at new) k); slot = w.0; step = omega arith; pair = ap (slice_get (pairs_of root)) w.1 ∙ own_get gap o.0 place (get_or gap place 0 - 1) root best x l n.way (omega arith) e })

@@ -67,6 +67,26 @@ pub fn take_first_run<'a, K, V>(
         return (&[], true);
     };
     let leaf = leaf_of(node, front.as_slice());
+    take_first_of(root, leaf, front, back)
+}
+
+// The same, where the leaf of the front is known.
+fn take_first_of<'a, K, V>(
+    root: &'a Option<Box<Node<K, V>>>,
+    leaf: &'a Node<K, V>,
+    front: &mut Path,
+    back: &Path,
+) -> (&'a [(K, V)], bool)
+    requires sound { IsSoundMap (root_of root.now) }
+    requires ends { AreEndsIn (root_of root.now) front.old back.now }
+    requires leaf { (n : Node K V) → root_of root.now ≡ Some n → leaf.now ≡ leaf_at front.old n }
+    ensures ends { AreEndsIn (root_of root.now) front.new back.now }
+    ensures run { between (root_of root.now) front.old back.now ≡ result.0.now ++ between (root_of root.now) front.new back.now }
+    ensures met { IsTrue result.1 ↔ (between (root_of root.now) front.new back.now ≡ []) }
+{
+    let Some(_node) = root else {
+        return (&[], true);
+    };
     let last = front.len() - 1;
     let start = front.step(last);
     if is_same_leaf(front, back) {
@@ -81,21 +101,22 @@ pub fn take_first_run<'a, K, V>(
 
 // Takes the pairs of the back's leaf before its gap, as far as the front, and goes back before them. It answers them, and
 // whether the back has then met the front.
-fn take_last_run<'a, K, V>(
+fn take_last_of<'a, K, V>(
     root: &'a Option<Box<Node<K, V>>>,
+    leaf: &'a Node<K, V>,
     front: &Path,
     back: &mut Path,
 ) -> (&'a [(K, V)], bool)
     requires sound { IsSoundMap (root_of root.now) }
     requires ends { AreEndsIn (root_of root.now) front.now back.old }
+    requires leaf { (n : Node K V) → root_of root.now ≡ Some n → leaf.now ≡ leaf_at back.old n }
     ensures ends { AreEndsIn (root_of root.now) front.now back.new }
     ensures run { between (root_of root.now) front.now back.old ≡ between (root_of root.now) front.now back.new ++ result.0.now }
     ensures met { IsTrue result.1 ↔ (between (root_of root.now) front.now back.new ≡ []) }
 {
-    let Some(node) = root else {
+    let Some(_node) = root else {
         return (&[], true);
     };
-    let leaf = leaf_of(node, back.as_slice());
     let last = back.len() - 1;
     let end = back.step(last);
     if is_same_leaf(back, front) {
@@ -218,36 +239,44 @@ fn set_before<K, V>(node: &Node<K, V>, gap: &mut Path, level: usize)
     }
 }
 
-// Goes on past the pair after a gap, and answers that pair.
-fn pass_next<'a, K, V>(root: &'a Option<Box<Node<K, V>>>, gap: &mut Path) -> &'a (K, V)
+// Goes on past the pair after a gap, and answers that pair, and the leaf of the gap after it.
+fn pass_next<'a, K, V>(
+    root: &'a Option<Box<Node<K, V>>>,
+    gap: &mut Path,
+) -> (&'a (K, V), &'a Node<K, V>)
     requires sound { IsSoundMap (root_of root.now) }
     requires gap { IsGapIn (root_of root.now) gap.old }
     requires some { length (before_gap_in (root_of root.now) gap.old) < length (entries (root_of root.now)) }
     ensures gap { IsGapIn (root_of root.now) gap.new }
     ensures step { length (before_gap_in (root_of root.now) gap.new) ≡ length (before_gap_in (root_of root.now) gap.old) + 1 }
-    ensures pair { slice_get (entries (root_of root.now)) (length (before_gap_in (root_of root.now) gap.old)) ≡ Some result.now }
+    ensures pair { slice_get (entries (root_of root.now)) (length (before_gap_in (root_of root.now) gap.old)) ≡ Some result.0.now }
+    ensures leaf { (n : Node K V) → root_of root.now ≡ Some n → result.1.now ≡ leaf_at gap.new n }
 {
     let Some(node) = root else { unreachable!() };
     let (holder, level) = place_after(node, gap);
     let pair = holder.pair(gap.step(level));
     set_after(holder, gap, level);
-    pair
+    (pair, leaf_of(holder, &gap.as_slice()[level..]))
 }
 
-// Goes back past the pair before a gap, and answers that pair.
-fn pass_previous<'a, K, V>(root: &'a Option<Box<Node<K, V>>>, gap: &mut Path) -> &'a (K, V)
+// Goes back past the pair before a gap, and answers that pair, and the leaf of the gap before it.
+fn pass_previous<'a, K, V>(
+    root: &'a Option<Box<Node<K, V>>>,
+    gap: &mut Path,
+) -> (&'a (K, V), &'a Node<K, V>)
     requires sound { IsSoundMap (root_of root.now) }
     requires gap { IsGapIn (root_of root.now) gap.old }
     requires some { 0 < length (before_gap_in (root_of root.now) gap.old) }
     ensures gap { IsGapIn (root_of root.now) gap.new }
     ensures step { length (before_gap_in (root_of root.now) gap.new) + 1 ≡ length (before_gap_in (root_of root.now) gap.old) }
-    ensures pair { slice_get (entries (root_of root.now)) (length (before_gap_in (root_of root.now) gap.new)) ≡ Some result.now }
+    ensures pair { slice_get (entries (root_of root.now)) (length (before_gap_in (root_of root.now) gap.new)) ≡ Some result.0.now }
+    ensures leaf { (n : Node K V) → root_of root.now ≡ Some n → result.1.now ≡ leaf_at gap.new n }
 {
     let Some(node) = root else { unreachable!() };
     let (holder, level) = place_before(node, gap);
     let pair = holder.pair(gap.step(level) - 1);
     set_before(holder, gap, level);
-    pair
+    (pair, leaf_of(holder, &gap.as_slice()[level..]))
 }
 
 /// What an end of a walk takes where its leaf has no pair left.
@@ -274,8 +303,8 @@ pub fn step_first_run<'a, K, V>(
     ensures pairs { between (root_of root.now) front.old back.now ≡ result.pair.now ∷ (result.run.now ++ between (root_of root.now) front.new back.now) }
     ensures met { IsTrue result.has_met ↔ (between (root_of root.now) front.new back.now ≡ []) }
 {
-    let pair = pass_next(root, front);
-    let (run, has_met) = take_first_run(root, front, back);
+    let (pair, leaf) = pass_next(root, front);
+    let (run, has_met) = take_first_of(root, leaf, front, back);
     Step { pair, run, has_met }
 }
 
@@ -292,7 +321,7 @@ pub fn step_last_run<'a, K, V>(
     ensures pairs { between (root_of root.now) front.now back.old ≡ between (root_of root.now) front.now back.new ++ (result.run.now ++ result.pair.now ∷ []) }
     ensures met { IsTrue result.has_met ↔ (between (root_of root.now) front.now back.new ≡ []) }
 {
-    let pair = pass_previous(root, back);
-    let (run, has_met) = take_last_run(root, front, back);
+    let (pair, leaf) = pass_previous(root, back);
+    let (run, has_met) = take_last_of(root, leaf, front, back);
     Step { pair, run, has_met }
 }

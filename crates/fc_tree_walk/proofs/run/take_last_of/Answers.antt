@@ -8,18 +8,18 @@ use Rattle.fc_tree_walk.specs.Gap.{AreEndsIn}
 use Rattle.fc_tree_walk.specs.Span.{between}
 use Rattle.fc_tree_walk.proofs.GapFacts.{gap_small}
 use Rattle.fc_tree_walk.proofs.Leaves.{back_met, back_apart}
-use Rattle.fc_tree_walk.proofs.run.take_last_run.Goals as goal
+use Rattle.fc_tree_walk.proofs.run.take_last_of.Goals as goal
 
 pub set-requires-clause-small : goal.set-requires-clause-small
 set-requires-clause-small g c =
     let m = root_of c.args.root.now in
     let front = c.args.front.now in
     let back = c.args.back.now in
-    let n = c.deref.result.now in
-    let leaf = c.leaf_of-leaf.result.now in
+    let n = c.in-Some._node.value in
+    let leaf = c.args.leaf.now in
     let last = c.len-last.result - 1 in
-    let is = ap root_of c.in-Some.is ∙ ap Some (sym c.deref.ensures) in
-    let at = c.leaf_of-leaf.ensures ∙ ap (λ p. leaf_at p n) c.as_slice.ensures.value in
+    let is = ap root_of c.in-Some.is in
+    let at = c.requires.leaf n is in
     let la = ap (λ k. k - 1) c.len-last.ensures.value in
     let k = c.step-start.ensures in
     let small : get_or front last 0 ≤ capacity = gap_small m front last c.requires.sound c.requires.ends.0 (search rules) in
@@ -30,11 +30,11 @@ part-requires g c =
     let m = root_of c.args.root.now in
     let front = c.args.front.now in
     let back = c.args.back.now in
-    let n = c.deref.result.now in
-    let leaf = c.leaf_of-leaf.result.now in
+    let n = c.in-Some._node.value in
+    let leaf = c.args.leaf.now in
     let last = c.len-last.result - 1 in
-    let is = ap root_of c.in-Some.is ∙ ap Some (sym c.deref.ensures) in
-    let at = c.leaf_of-leaf.ensures ∙ ap (λ p. leaf_at p n) c.as_slice.ensures.value in
+    let is = ap root_of c.in-Some.is in
+    let at = c.requires.leaf n is in
     let la = ap (λ k. k - 1) c.len-last.ensures.value in
     let r = back_met m n leaf front back last is c.requires.sound c.requires.ends at la (subst (λ k. take k back ≡ take k front) (sym la) (c.is_same_leaf.ensures.0 c.if-is_same_leaf.true)) in
     let a = r.0.order in
@@ -48,11 +48,11 @@ returns-then-is_same_leaf g c =
     let m = root_of c.args.root.now in
     let front = c.args.front.now in
     let back = c.args.back.now in
-    let n = c.deref.result.now in
-    let leaf = c.leaf_of-leaf.result.now in
+    let n = c.in-Some._node.value in
+    let leaf = c.args.leaf.now in
     let last = c.len-last.result - 1 in
-    let is = ap root_of c.in-Some.is ∙ ap Some (sym c.deref.ensures) in
-    let at = c.leaf_of-leaf.ensures ∙ ap (λ p. leaf_at p n) c.as_slice.ensures.value in
+    let is = ap root_of c.in-Some.is in
+    let at = c.requires.leaf n is in
     let la = ap (λ k. k - 1) c.len-last.ensures.value in
     let r = back_met m n leaf front back last is c.requires.sound c.requires.ends at la (subst (λ k. take k back ≡ take k front) (sym la) (c.is_same_leaf.ensures.0 c.if-is_same_leaf.true)) in
     let new = c.set.ensures ∙ ap (slice_set back last) c.step-start.ensures in
@@ -68,11 +68,11 @@ part-requires-2 g c =
     let m = root_of c.args.root.now in
     let front = c.args.front.now in
     let back = c.args.back.now in
-    let n = c.deref.result.now in
-    let leaf = c.leaf_of-leaf.result.now in
+    let n = c.in-Some._node.value in
+    let leaf = c.args.leaf.now in
     let last = c.len-last.result - 1 in
-    let is = ap root_of c.in-Some.is ∙ ap Some (sym c.deref.ensures) in
-    let at = c.leaf_of-leaf.ensures ∙ ap (λ p. leaf_at p n) c.as_slice.ensures.value in
+    let is = ap root_of c.in-Some.is in
+    let at = c.requires.leaf n is in
     let la = ap (λ k. k - 1) c.len-last.ensures.value in
     let r = back_apart m n leaf front back last is c.requires.sound c.requires.ends at la (λ e. absurd (let no : false ≡ true = sym c.if-is_same_leaf.false ∙ c.is_same_leaf.ensures.1 (subst (λ k. take k back ≡ take k front) la e) in cc)) in
     let b = r.0.fits in
@@ -84,11 +84,11 @@ returns g c =
     let m = root_of c.args.root.now in
     let front = c.args.front.now in
     let back = c.args.back.now in
-    let n = c.deref.result.now in
-    let leaf = c.leaf_of-leaf.result.now in
+    let n = c.in-Some._node.value in
+    let leaf = c.args.leaf.now in
     let last = c.len-last.result - 1 in
-    let is = ap root_of c.in-Some.is ∙ ap Some (sym c.deref.ensures) in
-    let at = c.leaf_of-leaf.ensures ∙ ap (λ p. leaf_at p n) c.as_slice.ensures.value in
+    let is = ap root_of c.in-Some.is in
+    let at = c.requires.leaf n is in
     let la = ap (λ k. k - 1) c.len-last.ensures.value in
     let r = back_apart m n leaf front back last is c.requires.sound c.requires.ends at la (λ e. absurd (let no : false ≡ true = sym c.if-is_same_leaf.false ∙ c.is_same_leaf.ensures.1 (subst (λ k. take k back ≡ take k front) la e) in cc)) in
     let new = c.set-2.ensures in
