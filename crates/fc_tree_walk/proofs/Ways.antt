@@ -317,11 +317,11 @@ module _ {K V : Type 0} where
       let same : root ≡ r = cc in
       way_levels gap o.0 level r n o.2.1 g (subst (λ d. LeadsTo gap d level n) same w)
 
-  pub record IsPassed (m : Map K V) (gap new : List ℕ) (x : K × V) (leaf : Node K V) : Type 0 where
+  pub record IsPassed (m : Map K V) (gap new : List ℕ) (x : K × V) (found : Node K V) : Type 0 where
     pub slot : IsGapIn m new
     pub step : length (before_gap_in m new) ≡ length (before_gap_in m gap) + 1
     pub pair : slice_get (entries m) (length (before_gap_in m gap)) ≡ Some x
-    pub leaf : (r : Node K V) → m ≡ Some r → leaf ≡ leaf_at new r
+    pub leaf : (r : Node K V) → m ≡ Some r → found ≡ leaf_at new r
 
   pub passed_next : (m : Map K V) (root best leaf : Node K V) (gap new part : List ℕ) (place : ℕ) (x : K × V) → m ≡ Some root → IsSoundMap m → IsNextAt gap root best place (length (before_gap gap root)) → x ≡ get_or (own_pairs best) (get_or gap place 0) x
       → GoesOn (take place gap) new best (length (before_own best (get_or gap place 0)) + 1) → part ≡ slice_range new place (length new) → leaf ≡ leaf_at part best → IsPassed m gap new x leaf
@@ -334,11 +334,11 @@ module _ {K V : Type 0} where
       let b = w.1 in
       subst (λ d. IsPassed (Some d) gap new x leaf) same (record { leaf = λ d p. t ∙ ap (λ q. leaf_at q best) (f ∙ rest_is gap new place _ best n.way.0 g) ∙ w.2 ∙ (let k : root ≡ d = cc in ap (leaf_at new) k); slot = w.0; step = omega arith; pair = ap (slice_get (pairs_of root)) (sym a) ∙ own_get gap o.0 place (get_or gap place 0) root best x l n.way n.own e })
 
-  pub record IsPassedBack (m : Map K V) (gap new : List ℕ) (x : K × V) (leaf : Node K V) : Type 0 where
+  pub record IsPassedBack (m : Map K V) (gap new : List ℕ) (x : K × V) (found : Node K V) : Type 0 where
     pub slot : IsGapIn m new
     pub step : length (before_gap_in m new) + 1 ≡ length (before_gap_in m gap)
     pub pair : slice_get (entries m) (length (before_gap_in m new)) ≡ Some x
-    pub leaf : (r : Node K V) → m ≡ Some r → leaf ≡ leaf_at new r
+    pub leaf : (r : Node K V) → m ≡ Some r → found ≡ leaf_at new r
 
   pub passed_back : (m : Map K V) (root best leaf : Node K V) (gap new part : List ℕ) (place : ℕ) (x : K × V) → m ≡ Some root → IsSoundMap m → IsLastAt gap root best place (length (before_gap gap root)) → x ≡ get_or (own_pairs best) (get_or gap place 0 - 1) x
       → GoesOn (take place gap) new best (length (before_own best (get_or gap place 0 - 1))) → part ≡ slice_range new place (length new) → leaf ≡ leaf_at part best → IsPassedBack m gap new x leaf

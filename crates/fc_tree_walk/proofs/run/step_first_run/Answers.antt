@@ -3,8 +3,8 @@ use Rattle.fc_tree_node.specs.Tree.{root_of}
 use Rattle.fc_tree_walk.proofs.Betweens.{gap_fits, some_between, next_between}
 use Rattle.fc_tree_walk.proofs.run.step_first_run.Goals as goal
 
-pub pass_next-leaf-requires-clause-some : goal.pass_next-leaf-requires-clause-some
-pass_next-leaf-requires-clause-some g c =
+pub pass_next-requires-clause-some : goal.pass_next-requires-clause-some
+pass_next-requires-clause-some g c =
     let m = root_of c.args.root.now in
     let a = some_between m c.requires.sound c.args.front.now c.args.back.now c.requires.some in
     let b = gap_fits m c.requires.sound c.args.back.now c.requires.ends.1 in
@@ -12,9 +12,9 @@ pass_next-leaf-requires-clause-some g c =
 
 pub take_first_of-has_met-requires-clause-ends : goal.take_first_of-has_met-requires-clause-ends
 take_first_of-has_met-requires-clause-ends g c =
-    (next_between (root_of c.args.root.now) c.requires.sound c.args.front.now c.args.back.now c.requires.ends c.requires.some _ _ c.pass_next-leaf.ensures.gap c.pass_next-leaf.ensures.step c.pass_next-leaf.ensures.pair).0
+    (next_between (root_of c.args.root.now) c.requires.sound c.args.front.now c.args.back.now c.requires.ends c.requires.some _ _ c.pass_next.ensures.gap c.pass_next.ensures.step c.pass_next.ensures.pair).0
 
 pub returns-clause-pairs : goal.returns-clause-pairs
 returns-clause-pairs g c =
-    (next_between (root_of c.args.root.now) c.requires.sound c.args.front.now c.args.back.now c.requires.ends c.requires.some _ _ c.pass_next-leaf.ensures.gap c.pass_next-leaf.ensures.step c.pass_next-leaf.ensures.pair).1
-    ∙ ap (λ xs. c.pass_next-leaf.result.0.now ∷ xs) c.take_first_of-has_met.ensures.run
+    (next_between (root_of c.args.root.now) c.requires.sound c.args.front.now c.args.back.now c.requires.ends c.requires.some _ _ c.pass_next.ensures.gap c.pass_next.ensures.step c.pass_next.ensures.pair).1
+    ∙ ap (λ xs. c.pass_next.result.0.now ∷ xs) c.take_first_of-has_met.ensures.run

@@ -1,7 +1,6 @@
-use Rattle.std.proofs.Common.{◌≡◌, ◌-◌, ◌≤◌, ◌++◌, length, get_or, take, Some, true, false, refl, rules, arith, sym, ap, subst, ◌∙◌}
+use Rattle.std.proofs.Common.{◌≡◌, ◌-◌, ◌≤◌, ◌++◌, length, get_or, take, true, false, refl, rules, arith, sym, ap, subst, ◌∙◌}
 use Rattle.std.specs.Prelude.{slice_range, slice_set}
 use Rattle.fc_base.specs.Sizes.{capacity}
-use Rattle.fc_tree_node.specs.Leaf.{leaf_at}
 use Rattle.fc_tree_node.specs.Node.{own_pairs}
 use Rattle.fc_tree_node.specs.Tree.{root_of}
 use Rattle.fc_tree_walk.specs.Gap.{AreEndsIn}
