@@ -19,23 +19,6 @@ length_zeros : (k : ℕ) → length (zeros k) ≡ k
 length_zeros zero = refl
 length_zeros (suc k) = ap suc (length_zeros k)
 
-zeros_more : (k : ℕ) → zeros k ++ 0 ∷ [] ≡ zeros (suc k)
-zeros_more zero = refl
-zeros_more (suc k) = ap (λ p. 0 ∷ p) (zeros_more k)
-
--- a path that went on by so many zeros, up to a number of steps
-abbrev pub Went : List ℕ → ℕ → List ℕ → ℕ → Type 0
-Went path step gap count = (k : ℕ) × (gap ≡ path ++ step ∷ zeros k) × (k + length path + 1 ≡ count)
-
-pub went_length : (path : List ℕ) (step : ℕ) (gap : List ℕ) (count : ℕ) → Went path step gap count → length gap ≡ count
-went_length path step gap count w = let e = w.2 in let z = length_zeros w.0 in ap length w.1 ∙ length-append path _ ∙ omega arith
-
-pub went_on : (path : List ℕ) (step : ℕ) (gap : List ℕ) (count : ℕ) → Went path step gap count → Went path step (gap ++ 0 ∷ []) (count + 1)
-went_on path step gap count w = let e = w.2 in (suc w.0, ap (λ g. g ++ 0 ∷ []) w.1 ∙ append_assoc path (step ∷ zeros w.0) (0 ∷ []) ∙ ap (λ p. path ++ step ∷ p) (zeros_more w.0), omega arith)
-
-pub went_all : (path : List ℕ) (step : ℕ) (gap : List ℕ) (count depth : ℕ) → Went path step gap count → count ≡ depth → gap ≡ path ++ step ∷ zeros (depth - length path - 1)
-went_all path step gap count depth w s = let e = w.2 in w.1 ∙ ap (λ k. path ++ step ∷ zeros k) (omega arith)
-
 -- the path to the pair before a gap
 back_is : (gap : List ℕ) (last : ℕ) → last < length gap → one_back (take (suc last) gap) ≡ take last gap ++ (get_or gap last 0 - 1) ∷ []
 back_is [] last k = absurd (omega arith)
@@ -385,9 +368,6 @@ module _ {K V : Type 0} where
   pub some_next : (m : Map K V) (n : Node K V) (gap : List ℕ) (steps : ℕ) → m ≡ Some n → IsNext gap n steps → length (before_gap_in m gap) < length (entries m) → 0 < steps
   some_next None n gap steps is x k = absurd cc
   some_next (Some root) n gap steps is x k = let same : n ≡ root = cc in some_after gap root steps (subst (λ d. IsNext gap d steps) same x) k
-
-  pub count_is : (m : Map K V) (n : Node K V) (gap : List ℕ) → m ≡ Some n → length (before_gap_in m gap) ≡ length (before_gap gap n)
-  count_is m n gap is = ap (λ o. length (before_gap_in o gap)) is
 
   pub stepped_after : (m : Map K V) (n : Node K V) (gap next : List ℕ) (last steps : ℕ) → m ≡ Some n → IsSoundMap m → IsGapIn m gap → IsNext gap n steps → last + 1 ≡ steps
       → next ≡ take last gap ++ (get_or gap last 0 + 1) ∷ zeros (length gap - length (take last gap) - 1) → IsStepped m gap next

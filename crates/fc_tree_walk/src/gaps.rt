@@ -6,7 +6,7 @@ ghost use Rattle.fc_base.specs.Sizes.{most_levels};
 ghost use Rattle.fc_tree_node.specs.Node.{pairs_of, IsLevelled};
 ghost use Rattle.fc_tree_node.specs.Path.{IsPath, before_gap};
 ghost use Rattle.fc_tree_node.specs.Place.{IsPlace, before_pair};
-ghost use Rattle.fc_tree_walk.specs.Gap.{one_back, zeros, GoesOn};
+ghost use Rattle.fc_tree_walk.specs.Gap.{one_back, GoesOn};
 
 use fc_tree_node::node::Node;
 use fc_tree_node::path::Path;
@@ -54,20 +54,6 @@ pub fn steps_to_previous<K, V>(node: &Node<K, V>, gap: &[u8]) -> usize
     }
     let below = steps_to_previous(node.child(gap[0] as usize), &gap[1..]);
     if below == 0 { own } else { below + 1 }
-}
-
-/// The first gap of the leaf that the path leads to with one step more, in a tree whose leaves lie that many steps down.
-pub fn first_gap(path: &[u8], step: usize, depth: usize) -> Path
-    requires fits { (length path.now < depth) × (depth ≤ most_levels) }
-    requires small { step < 256 }
-    ensures { result ≡ path.now ++ step ∷ zeros (depth - length path.now - 1) }
-{
-    let mut gap = Path::of(path);
-    gap.push(step);
-    for _i in path.len() + 1..depth {
-        gap.push(0);
-    }
-    gap
 }
 
 /// Goes on to the last gap below the node.
