@@ -26,8 +26,8 @@ fn kind_of(reply: &Reply<u64, u64>) -> &'static str {
     }
 }
 
-fn tell(text: &mut String, reply: &Reply<u64, u64>) -> Result<(), AllocError> {
-    text.push_str(kind_of(reply))?;
+fn tell(text: &mut Vec<u8>, reply: &Reply<u64, u64>) -> Result<(), AllocError> {
+    text.extend_from_slice(kind_of(reply).as_bytes())?;
     write_reply(text, reply)
 }
 
@@ -35,11 +35,11 @@ fn tell(text: &mut String, reply: &Reply<u64, u64>) -> Result<(), AllocError> {
 fn are_replied(alloc: Global, commands: Commands, wanted: &str) -> Result<bool, TryReserveError> {
     let mut world = World::new(alloc);
     let replies = run(&mut world, commands)?;
-    let mut text = String::new(alloc);
+    let mut text = Vec::new(alloc);
     for reply in &replies {
         tell(&mut text, reply)?;
     }
-    Ok(text.as_str() == wanted)
+    Ok(text.as_slice() == wanted.as_bytes())
 }
 
 // Three pairs, seen between two bounds from both ends, written at and cut in two.
