@@ -4,7 +4,7 @@ use Rattle.std.specs.Option.{option_map}
 use Rattle.std.specs.Cmp.Lexicographic.{pointwise, other_text}
 use Rattle.fc_base.specs.Sizes.{capacity}
 use Rattle.fc_tree_node.specs.declared.node.Node.{Node}
-use Rattle.fc_tree_node.specs.Node.{IsLevelled}
+use Rattle.fc_tree_node.specs.Node.{child_at, pairs_of, IsLevelled}
 use Rattle.fc_tree_node.specs.Path.{IsPath, before_gap, after_gap}
 use Rattle.fc_tree_node.specs.Place.{IsPlace, before_pair, after_pair}
 use Rattle.fc_tree_node.proofs.Gaps.{gap_pairs, place_pairs, take_item}
@@ -19,7 +19,7 @@ use Rattle.fc_map.specs.Lends.{branch, written_in}
 use Rattle.fc_tree_visit.specs.Leaf.{gone_on}
 use Rattle.fc_tree_visit.proofs.LeafFacts.{on_length, on_none, on_again, on_last, on_parts, gap_near}
 use Rattle.fc_tree_walk.proofs.Meetings.{same_path}
-use Rattle.fc_tree_walk.proofs.GapFacts.{IsNext, IsStepped, gap_small, some_next, stepped_after}
+use Rattle.fc_tree_walk.proofs.GapFacts.{IsNext, gap_small, stepped_after}
 
 take_lead : (p ys : List ℕ) (k : ℕ) → k ≤ length p → take k (take k p ++ ys) ≡ take k p
 take_lead p ys zero h = refl
@@ -27,14 +27,13 @@ take_lead [] ys (suc k) h = absurd (omega arith)
 take_lead (x ∷ p) ys (suc k) h = ap (λ q. x ∷ q) (take_lead p ys k (omega arith))
 
 -- the steps of a path to a pair, by the gap after the pair
-branch_past : (p next rest : List ℕ) (last : ℕ) → last < length p → next ≡ take last p ++ rest → branch next last (get_or p last 0) ≡ take (suc last) p
-branch_past p next rest last h is = ap (λ q. take last q ++ get_or p last 0 ∷ []) is ∙ ap (λ q. q ++ get_or p last 0 ∷ []) (take_lead p rest last (omega arith)) ∙ sym (take_item p last 0 h)
+branch_past : (p next rest : List ℕ) (last place : ℕ) → last < length p → next ≡ take last p ++ rest → branch next last place ≡ take last p ++ place ∷ []
+branch_past p next rest last place h is = ap (λ q. take last q ++ place ∷ []) is ∙ ap (λ q. q ++ place ∷ []) (take_lead p rest last (omega arith))
 
--- so many steps of a path lead to a pair
-pub record IsLeaving (gap : List ℕ) (steps : ℕ) : Type 0 where
-  pub some : 0 < steps
-  pub within : steps ≤ length gap
-  pub small : get_or gap (steps - 1) 0 ≤ capacity
+-- a pair of its leaf lies after a gap
+pub record IsInLeaf (path : List ℕ) (gone : ℕ) : Type 0 where
+  pub some : 0 < length path
+  pub fits : (last : ℕ) → last + 1 ≡ length path → get_or path last 0 + gone < capacity
 
 module _ {K V : Type 0} where
   -- gaps with as many pairs ahead are the same
@@ -74,88 +73,103 @@ module _ {K V : Type 0} where
   pub steps_fit : (m : Map K V) (path : List ℕ) (gone last : ℕ) → IsSoundMap m → IsGapIn m (gone_on path gone) → last + 1 ≡ length path → get_or path last 0 + gone ≤ capacity
   steps_fit m path gone last sound gap e = let l = on_length path gone in subst (λ k. k ≤ capacity) (on_last path last gone e) (gap_small m (gone_on path gone) last sound gap (omega arith))
 
+  -- a gap of a leaf, and one ahead of it
+  path_less : (gap : List ℕ) (n : Node K V) (k j : ℕ) → IsPath (gone_on gap k) n → j ≤ k → IsPath (gone_on gap j) n
+  path_less [] n k j p le = p
+  path_less (i ∷ []) n k j p le = (let f = p.0 in omega (arith, f, le), tt)
+  path_less (i ∷ l ∷ gap) n k j p le = (p.0, path_less (l ∷ gap) (child_at n i) k j p.1 le)
+
+  pub gap_less : (m : Map K V) (gap : List ℕ) (k j : ℕ) → IsGapIn m (gone_on gap k) → j ≤ k → IsGapIn m (gone_on gap j)
+  gap_less None [] k j g le = refl
+  gap_less None (i ∷ gap) k j g le = absurd (let e = ap length g in let l = on_length (i ∷ gap) k in omega arith)
+  gap_less (Some root) gap k j g le = (path_less gap root k j g.0 le, λ h l. on_length gap j ∙ sym (on_length gap k) ∙ g.1 h l)
+
   -- what a step to the next pair comes to
-  pub record IsStepOn (m : Map K V) (old path : List ℕ) (gone run way place : ℕ) : Type 0 where
+  pub record IsStepOn (m : Map K V) (old path : List ℕ) (gone way place : ℕ) : Type 0 where
     pub way_is : way < length path
+    pub small : place < 256
     pub place_is : IsPlaceIn m (branch path way place)
     pub before : length (before_pair_in m (branch path way place)) ≡ length (before_gap_in m old)
     pub gap : IsGapIn m (gone_on path gone)
-    pub run_is : IsGapIn m (gone_on path (gone + run))
     pub count : length (before_gap_in m (gone_on path gone)) ≡ length (before_gap_in m old) + 1
 
   -- within a leaf
-  pub step_within : (m : Map K V) (path : List ℕ) (gone run last : ℕ) → IsSoundMap m → last + 1 ≡ length path → (run ≡ 0 → ⊥) → IsGapIn m (gone_on path (gone + run)) → IsStepOn m (gone_on path gone) path (gone + 1) (run - 1) last (get_or path last 0 + gone)
-  step_within m path gone zero last sound e some r = absurd (some refl)
-  step_within m path gone (suc run) last sound e some r =
+  pub in_leaf : (m : Map K V) (path : List ℕ) (gone : ℕ) (other : List ℕ) → IsSoundMap m → IsGapIn m (gone_on path (gone + 1)) → length (before_gap_in m (gone_on path gone)) < length (before_gap_in m other) → IsInLeaf path gone
+  in_leaf m path gone other sound g k =
+      let s = gap_some m (gone_on path (gone + 1)) other sound g (omega (arith, k)) in
+      let l = on_length path (gone + 1) in
+      record { some = omega arith; fits = λ last e. (let f = steps_fit m path (gone + 1) last sound g e in omega (arith, f)) }
+
+  pub step_within : (m : Map K V) (path : List ℕ) (gone last place : ℕ) → IsSoundMap m → IsInLeaf path gone → last + 1 ≡ length path → place ≡ get_or path last 0 + gone → IsGapIn m (gone_on path (gone + 1)) → IsStepOn m (gone_on path gone) path (gone + 1) last place
+  step_within m path gone last place sound inside e here r =
       let gap = gone_on path gone in
-      let is : gap ≡ branch path last (get_or path last 0 + gone) = on_parts path last gone e in
+      let is : gap ≡ branch path last place = on_parts path last gone e ∙ ap (λ i. take last path ++ i ∷ []) (sym here) in
       let l = on_length path gone in
-      let x = gap_near m gap run sound (omega arith) (subst (IsGapIn m) (sym (on_again path gone (suc run))) r) in
+      let fits = inside.fits last e in
+      let x = gap_near m gap 0 sound (omega arith) (subst (IsGapIn m) (sym (on_again path gone 1)) r) in
       let one : gone_on gap 1 ≡ gone_on path (gone + 1) = on_again path gone 1 in
-      let all : gone + suc run ≡ gone + 1 + (suc run - 1) = omega arith in
       record {
         way_is = omega arith;
+        small = omega (arith, fits, here);
         place_is = subst (IsPlaceIn m) is x.place;
         before = ap (λ p. length (before_pair_in m p)) (sym is) ∙ x.before;
-        gap = subst (IsGapIn m) one x.slot;
-        run_is = subst (λ k. IsGapIn m (gone_on path k)) all r;
+        gap = r;
         count = ap (λ p. length (before_gap_in m p)) (sym one) ∙ x.count;
       }
 
-  -- a gap in the tree at the root
+  -- a gap in the tree at the root, with a pair after it
   pub record IsOnTree (gap : List ℕ) (n : Node K V) : Type 0 where
     pub some : 0 < length gap
     pub way : IsPath gap n
     pub levels : IsLevelled (length gap - 1) n
+    pub later : length (before_gap gap n) < length (pairs_of n)
 
-  pub on_tree : (m : Map K V) (n : Node K V) (gap : List ℕ) → m ≡ Some n → IsSoundMap m → IsGapIn m gap → IsOnTree gap n
-  on_tree m n gap is sound g =
+  pub on_tree : (m : Map K V) (n : Node K V) (gap other : List ℕ) → m ≡ Some n → IsSoundMap m → IsGapIn m gap → IsGapIn m other → length (before_gap_in m gap) < length (before_gap_in m other) → IsOnTree gap n
+  on_tree m n gap other is sound g o k =
+      let w = gap_within m other sound o in
+      let later : length (before_gap_in m gap) < length (entries m) = omega (arith, w, k) in
       let s = subst IsSoundMap is sound in
       let x = subst (λ o. IsGapIn o gap) is g in
       let e = x.1 s.0 s.2.1 in
       let h : s.0 ≡ length gap - 1 = omega arith in
-      record { some = omega arith; way = x.0; levels = subst (λ k. IsLevelled k n) h s.2.1 }
+      record { some = omega arith; way = x.0; levels = subst (λ k. IsLevelled k n) h s.2.1; later = subst (λ o. length (before_gap_in o gap) < length (entries o)) is later }
 
-  -- a way down from a gap with a pair after it
-  pub leaving : (m : Map K V) (n : Node K V) (gap other : List ℕ) (steps : ℕ) → m ≡ Some n → IsSoundMap m → IsGapIn m gap → IsGapIn m other → length (before_gap_in m gap) < length (before_gap_in m other) → IsNext gap n steps → IsLeaving gap steps
-  leaving m n gap other steps is sound g o k x =
-      let w = gap_within m other sound o in
-      let s = some_next m n gap steps is x (omega (arith, w, k)) in
-      let f = x.within in
-      record { some = s; within = f; small = gap_small m gap (steps - 1) sound g (omega (arith, s, f)) }
+  -- past a pair at the root of the tree
+  pub record IsPassed (gap next : List ℕ) (n : Node K V) (last place run : ℕ) : Type 0 where
+    pub way_is : last < length gap
+    pub own : place ≡ get_or gap last 0
+    pub place_is : IsPlace (take last gap ++ place ∷ []) n
+    pub before : length (before_pair (take last gap ++ place ∷ []) n) ≡ length (before_gap gap n)
+    pub next_is : next ≡ take last gap ++ (place + 1) ∷ zeros (length gap - suc last)
+    pub run_is : IsPath (gone_on next run) n
 
-  pub stepped_past : (m : Map K V) (n : Node K V) (gap next : List ℕ) (last steps : ℕ) → m ≡ Some n → IsSoundMap m → IsGapIn m gap → IsNext gap n steps → last + 1 ≡ steps → next ≡ take last gap ++ (get_or gap last 0 + 1) ∷ zeros (length gap - steps) → IsStepped m gap next
-  stepped_past m n gap next last steps is sound g x e f =
-      let w = x.within in
-      let t = length_take last gap (omega (arith, w, e)) in
-      stepped_after m n gap next last steps is sound g x e (f ∙ ap (λ k. take last gap ++ (get_or gap last 0 + 1) ∷ zeros k) (omega (arith, t, e)))
-
-  step_out_root : (n : Node K V) (gap next : List ℕ) (last steps run : ℕ) → IsSoundMap (Some n) → IsGapIn (Some n) gap → IsNext gap n steps → last + 1 ≡ steps
-      → next ≡ take last gap ++ (get_or gap last 0 + 1) ∷ zeros (length gap - steps) → IsPath (gone_on next run) n → IsStepOn (Some n) gap next 0 run last (get_or gap last 0)
-  step_out_root n gap next last steps run sound g x e is r =
+  step_out_root : (n : Node K V) (gap next : List ℕ) (last place run : ℕ) → IsSoundMap (Some n) → IsGapIn (Some n) gap → IsPassed gap next n last place run → IsStepOn (Some n) gap next 0 last place × IsGapIn (Some n) (gone_on next run)
+  step_out_root n gap next last place run sound g x =
       let h = sound.0 in
-      let s : steps ≡ suc last = sym e ∙ add-one last in
-      let y = subst (IsNext gap n) s x in
-      let w : suc last ≤ length gap = y.within in
-      let z = stepped_past (Some n) n gap next last steps refl sound g x e is in
-      let b = branch_past gap next ((get_or gap last 0 + 1) ∷ zeros (length gap - steps)) last w is in
+      let w = x.way_is in
+      let own = x.own in
+      let here : take last gap ++ place ∷ [] ≡ take (suc last) gap = ap (λ i. take last gap ++ i ∷ []) own ∙ sym (take_item gap last 0 w) in
+      let y : IsNext gap n (suc last) = record { within = omega (arith, w); none = λ e. absurd (omega arith); place = λ _. subst (λ p. IsPlace p n) here x.place_is; before = λ _. subst (λ p. length (before_pair p n) ≡ length (before_gap gap n)) here x.before } in
+      let t = length_take last gap (omega (arith, w)) in
+      let f = x.next_is ∙ ap (λ i. take last gap ++ (i + 1) ∷ zeros (length gap - suc last)) own ∙ ap (λ k. take last gap ++ (get_or gap last 0 + 1) ∷ zeros k) (omega (arith, t, w)) in
+      let z = stepped_after (Some n) n gap next last (suc last) refl sound g y (omega arith) f in
+      let b = branch_past gap next _ last place w x.next_is in
       let slot = z.slot in
       let long = slot.1 h sound.2.1 in
       let deep = g.1 h sound.2.1 in
-      let none : run ≡ 0 + run = omega arith in
-      record {
+      let small = gap_small (Some n) gap last sound g w in
+      (record {
         way_is = omega arith;
-        place_is = subst (λ p. IsPlace p n) (sym b) (y.place (omega arith));
-        before = ap (λ p. length (before_pair p n)) b ∙ y.before (omega arith);
+        small = omega (arith, small, own);
+        place_is = subst (λ p. IsPlace p n) (sym b) x.place_is;
+        before = ap (λ p. length (before_pair p n)) b ∙ x.before;
         gap = subst (IsGapIn (Some n)) (sym (on_none next)) slot;
-        run_is = subst (λ k. IsGapIn (Some n) (gone_on next k)) none (r, λ k l. on_length next run ∙ slot.1 k l);
         count = ap (λ p. length (before_gap p n)) (on_none next) ∙ z.count;
-      }
+      }, (x.run_is, λ k l. on_length next run ∙ slot.1 k l))
 
-  pub step_out : (m : Map K V) (n : Node K V) (gap next : List ℕ) (last steps run : ℕ) → m ≡ Some n → IsSoundMap m → IsGapIn m gap → IsNext gap n steps → last + 1 ≡ steps
-      → next ≡ take last gap ++ (get_or gap last 0 + 1) ∷ zeros (length gap - steps) → IsPath (gone_on next run) n → IsStepOn m gap next 0 run last (get_or gap last 0)
-  step_out m n gap next last steps run is sound g x e f r =
-      subst (λ o. IsStepOn o gap next 0 run last (get_or gap last 0)) (sym is) (step_out_root n gap next last steps run (subst IsSoundMap is sound) (subst (λ o. IsGapIn o gap) is g) x e f r)
+  pub step_out : (m : Map K V) (n : Node K V) (gap next : List ℕ) (last place run : ℕ) → m ≡ Some n → IsSoundMap m → IsGapIn m gap → IsPassed gap next n last place run → IsStepOn m gap next 0 last place × IsGapIn m (gone_on next run)
+  step_out m n gap next last place run is sound g x =
+      subst (λ o. IsStepOn o gap next 0 last place × IsGapIn o (gone_on next run)) (sym is) (step_out_root n gap next last place run (subst IsSoundMap is sound) (subst (λ o. IsGapIn o gap) is g) x)
 
 pub text_same : (xs ys : List ℕ) (r : Bool) → r ≡ pointwise nat_eq xs ys → xs ≡ ys → r ≡ true
 text_same xs ys true e s = refl
@@ -175,11 +189,8 @@ module _ {K V : Type 0} where
       let b = gap_stays m path back w sound place ends.1 in
       (f.slot, b.slot, omega (arith, f.count, b.count, ends.2))
 
-  pub counted_stays : (m : Map K V) (path front back : List ℕ) (left : ℕ) (w : V) → IsSoundMap m → IsPlaceIn m path → AreEndsIn m front back → left + length (before_gap_in m front) ≡ length (before_gap_in m back) → left + length (before_gap_in (written_in m path w) front) ≡ length (before_gap_in (written_in m path w) back)
-  counted_stays m path front back left w sound place ends e =
-      let f = gap_stays m path front w sound place ends.0 in
-      let b = gap_stays m path back w sound place ends.1 in
-      omega (arith, f.count, b.count, e)
+  pub counted_stays : (m : Map K V) (path gap : List ℕ) (count : ℕ) (w : V) → IsSoundMap m → IsPlaceIn m path → IsGapIn m gap → count ≡ length (before_gap_in m gap) → count ≡ length (before_gap_in (written_in m path w) gap)
+  counted_stays m path gap count w sound place g e = e ∙ sym ((gap_stays m path gap w sound place g).count)
 
   stretch_written : (m : Map K V) (path front back : List ℕ) (w : V) (s : List (K × V)) (at from to : ℕ) → IsSoundMap m → IsPlaceIn m path → AreEndsIn m front back
       → entries m ≡ s → length (before_pair_in m path) ≡ at → length (before_gap_in m front) ≡ from → length (before_gap_in m back) ≡ to

@@ -15,10 +15,10 @@ ghost use Rattle.fc_map.specs.Writing.{starting};
 use super::BTreeMap;
 use fc_tree_node::node::Node;
 use fc_tree_node::path::Path;
-use fc_tree_visit::leaf::{go_on, go_past, go_to_previous, pairs_after};
+use fc_tree_visit::leaf::{go_on, go_to_previous, pairs_after, pass_next};
 use fc_tree_visit::tree::visit_tree;
 use fc_tree_walk::ends::{first_gap_in, last_gap_in, start_gap_in, stop_gap_in};
-use fc_tree_walk::gaps::{push_gap_before, steps_to_next, steps_to_previous};
+use fc_tree_walk::gaps::{push_gap_before, steps_to_previous};
 use std::ops::Bound;
 
 impl<K: Ord, V> BTreeMap<K, V> {
@@ -87,50 +87,71 @@ impl<K: Ord, V> BTreeMap<K, V> {
     }
 
     // Goes on past the pair after a gap, and answers where that pair is: so many steps of the path lead to its node, and the place in
-    // it. The gap lies so many pairs of its leaf behind where its path leads, and so many of them lie after it: within a leaf these
-    // numbers alone change.
+    // it. The gap lies `gone` pairs of its leaf behind where its path leads, and the leaf has pairs up to `full` behind there: within a
+    // leaf the one number alone changes.
     #[inline]
     pub(crate) fn step_to_next(
         &self,
         path: &mut Path,
         gone: &mut usize,
-        run: &mut usize,
+        full: &mut usize,
     ) -> (usize, usize)
         requires gap { IsGapIn self.now (gone_on path.old gone.old) }
-        requires run { IsGapIn self.now (gone_on path.old (gone.old + run.old)) }
+        requires full { IsGapIn self.now (gone_on path.old full.old) }
         requires some { (other : List ℕ) × IsGapIn self.now other × (length (before_gap_in self.now (gone_on path.old gone.old)) < length (before_gap_in self.now other)) }
         ensures way { result.0 < length path.new }
         ensures small { result.1 < 256 }
         ensures place { IsPlaceIn self.now (branch path.new result.0 result.1) }
         ensures before { length (before_pair_in self.now (branch path.new result.0 result.1)) ≡ length (before_gap_in self.now (gone_on path.old gone.old)) }
         ensures gap { IsGapIn self.now (gone_on path.new gone.new) }
-        ensures run { IsGapIn self.now (gone_on path.new (gone.new + run.new)) }
+        ensures full { IsGapIn self.now (gone_on path.new full.new) }
         ensures step { length (before_gap_in self.now (gone_on path.new gone.new)) ≡ length (before_gap_in self.now (gone_on path.old gone.old)) + 1 }
         ensures sound { IsSoundMap self.now }
     {
-        if *run == 0 {
-            return self.leave_to_next(path, gone, run);
+        if *gone < *full {
+            return self.step_in_leaf(path, gone);
         }
+        self.leave_to_next(path, gone, full)
+    }
+
+    // The same where the leaf of the gap has a pair after it.
+    #[inline]
+    pub(crate) fn step_in_leaf(&self, path: &Path, gone: &mut usize) -> (usize, usize)
+        requires gap { IsGapIn self.now (gone_on path.now (gone.old + 1)) }
+        requires some { (other : List ℕ) × IsGapIn self.now other × (length (before_gap_in self.now (gone_on path.now gone.old)) < length (before_gap_in self.now other)) }
+        ensures way { result.0 < length path.now }
+        ensures small { result.1 < 256 }
+        ensures place { IsPlaceIn self.now (branch path.now result.0 result.1) }
+        ensures before { length (before_pair_in self.now (branch path.now result.0 result.1)) ≡ length (before_gap_in self.now (gone_on path.now gone.old)) }
+        ensures gone { gone.new ≡ gone.old + 1 }
+        ensures step { length (before_gap_in self.now (gone_on path.now gone.new)) ≡ length (before_gap_in self.now (gone_on path.now gone.old)) + 1 }
+        ensures sound { IsSoundMap self.now }
+    {
         // Read for the proof alone: it shows that the tree is sound.
         let _ = &self.root;
         let last = path.len() - 1;
         let place = path.step(last) + *gone;
         *gone += 1;
-        *run -= 1;
         (last, place)
     }
 
-    // The same by ways down from the root, whether the leaf ends at the gap or not.
+    // The same by a way down from the root, whether the leaf ends at the gap or not.
     #[inline(never)]
-    fn leave_to_next(&self, path: &mut Path, gone: &mut usize, run: &mut usize) -> (usize, usize)
+    pub(crate) fn leave_to_next(
+        &self,
+        path: &mut Path,
+        gone: &mut usize,
+        full: &mut usize,
+    ) -> (usize, usize)
         requires gap { IsGapIn self.now (gone_on path.old gone.old) }
         requires some { (other : List ℕ) × IsGapIn self.now other × (length (before_gap_in self.now (gone_on path.old gone.old)) < length (before_gap_in self.now other)) }
         ensures way { result.0 < length path.new }
         ensures small { result.1 < 256 }
         ensures place { IsPlaceIn self.now (branch path.new result.0 result.1) }
         ensures before { length (before_pair_in self.now (branch path.new result.0 result.1)) ≡ length (before_gap_in self.now (gone_on path.old gone.old)) }
+        ensures gone { gone.new ≡ 0 }
         ensures gap { IsGapIn self.now (gone_on path.new gone.new) }
-        ensures run { IsGapIn self.now (gone_on path.new (gone.new + run.new)) }
+        ensures full { IsGapIn self.now (gone_on path.new full.new) }
         ensures step { length (before_gap_in self.now (gone_on path.new gone.new)) ≡ length (before_gap_in self.now (gone_on path.old gone.old)) + 1 }
         ensures sound { IsSoundMap self.now }
     {
@@ -139,12 +160,9 @@ impl<K: Ord, V> BTreeMap<K, V> {
         };
         let root: &Node<K, V> = root;
         go_on(path, *gone);
+        let (last, place, run) = pass_next(root, path);
         *gone = 0;
-        let steps = steps_to_next(root, path.as_slice());
-        let last = steps - 1;
-        let place = path.step(last);
-        go_past(path, steps);
-        *run = pairs_after(root, path.as_slice());
+        *full = run;
         (last, place)
     }
 

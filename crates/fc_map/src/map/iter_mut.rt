@@ -1,5 +1,5 @@
 //! Writing walks over all values of a map, from both ends.
-ghost use Rattle.std.specs.Prelude.{◌≡◌, ◌+◌, length};
+ghost use Rattle.std.specs.Prelude.{◌≡◌, ◌+◌, ◌≤◌, length};
 ghost use Rattle.fc_tree_visit.specs.Leaf.{gone_on};
 ghost use Rattle.fc_tree_walk.specs.Gap.{AreEndsIn, IsGapIn};
 ghost use Rattle.fc_tree_node.specs.TreePlace.{before_gap_in};
@@ -15,15 +15,19 @@ use fc_tree_node::path::Path;
 /// Upstream: `btree_map::IterMut`.
 pub struct IterMut<'a, K: Ord, V> {
     pub(crate) map: &'a mut BTreeMap<K, V>,
-    // The front lies so many pairs of its leaf behind where its path leads, and so many of them lie after it.
+    // The front lies `gone` pairs of its leaf behind where its path leads, and `base` pairs of the map lie before there. As far as
+    // `full` the leaf has pairs, and the walk has not come to its end, before which `end` pairs lie: within a leaf `gone` alone changes.
     pub(crate) front: Path,
+    pub(crate) base: usize,
     pub(crate) gone: usize,
-    pub(crate) run: usize,
+    pub(crate) full: usize,
     pub(crate) back: Path,
-    pub(crate) left: usize,
+    pub(crate) end: usize,
     ghost ends: { AreEndsIn map.now (gone_on front gone) back } by { ends-prop map.now (gone_on front gone) back },
-    ghost run_is: { IsGapIn map.now (gone_on front (gone + run)) } by { gap-prop map.now (gone_on front (gone + run)) },
-    ghost counted: { left + length (before_gap_in map.now (gone_on front gone)) ≡ length (before_gap_in map.now back) },
+    ghost run_is: { IsGapIn map.now (gone_on front full) } by { gap-prop map.now (gone_on front full) },
+    ghost front_counted: { base + gone ≡ length (before_gap_in map.now (gone_on front gone)) },
+    ghost back_counted: { end ≡ length (before_gap_in map.now back) },
+    ghost within: { base + full ≤ end },
 }
 
 /// A walk that lends all values for writing: `IterMut` lends no key, so it is that walk. Upstream: `btree_map::ValuesMut`.
@@ -37,10 +41,11 @@ impl<K: Ord, V> Drop for IterMut<'_, K, V> {
         let IterMut {
             map: _,
             front: _,
+            base: _,
             gone: _,
-            run: _,
+            full: _,
             back: _,
-            left: _,
+            end: _,
         } = self;
     }
 }

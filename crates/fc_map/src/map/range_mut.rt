@@ -1,5 +1,5 @@
 //! Writing walks over the pairs of a map within two bounds, from both ends.
-ghost use Rattle.std.specs.Prelude.{◌≡◌, ◌+◌};
+ghost use Rattle.std.specs.Prelude.{◌≡◌};
 ghost use Rattle.fc_tree_visit.specs.Leaf.{gone_on};
 ghost use Rattle.fc_tree_walk.specs.Gap.{AreEndsIn, IsGapIn};
 ghost use Rattle.fc_map.specs.Unique.{ends-prop, gap-prop};
@@ -14,13 +14,13 @@ use fc_tree_node::path::Path;
 /// Upstream: `btree_map::RangeMut`.
 pub struct RangeMut<'a, K: Ord, V> {
     pub(crate) map: &'a mut BTreeMap<K, V>,
-    // The front lies so many pairs of its leaf behind where its path leads, and so many of them lie after it.
+    // The front lies so many pairs of its leaf behind where its path leads, and the leaf has pairs as far as the other number.
     pub(crate) front: Path,
     pub(crate) gone: usize,
-    pub(crate) run: usize,
+    pub(crate) full: usize,
     pub(crate) back: Path,
     ghost ends: { AreEndsIn map.now (gone_on front gone) back } by { ends-prop map.now (gone_on front gone) back },
-    ghost run_is: { IsGapIn map.now (gone_on front (gone + run)) } by { gap-prop map.now (gone_on front (gone + run)) },
+    ghost run_is: { IsGapIn map.now (gone_on front full) } by { gap-prop map.now (gone_on front full) },
 }
 
 // Dropped, a walk leaves the map with what was written: a derived `drop` would not say so.
@@ -32,7 +32,7 @@ impl<K: Ord, V> Drop for RangeMut<'_, K, V> {
             map: _,
             front: _,
             gone: _,
-            run: _,
+            full: _,
             back: _,
         } = self;
     }

@@ -11,6 +11,14 @@ use super::super::BTreeMap;
 use super::{IterMut, ValuesMut};
 use fc_tree_node::path::Path;
 
+// The number, and no more than the other one.
+fn no_more_than(most: usize, count: usize) -> usize
+    ensures most { result ≤ most }
+    ensures count { result ≤ count }
+{
+    if most < count { most } else { count }
+}
+
 impl<K: Ord, V> BTreeMap<K, V> {
     /// A writing walk over all pairs. To write all values use its `for_each`, which goes through the tree once: `next` comes down
     /// from the root to each value that it lends. Upstream: `BTreeMap::iter_mut`.
@@ -18,16 +26,17 @@ impl<K: Ord, V> BTreeMap<K, V> {
         ensures same_map { (iter_map_ref result).ghost_name ≡ self.entry.ghost_name }
         ensures start { iter_stretch result ≡ whole (entries self.old) }
     {
-        let left = self.len;
+        let end = self.len;
         let (front, back) = self.whole_ends();
-        let run = self.run_after(&front);
+        let full = no_more_than(end, self.run_after(&front));
         IterMut {
             map: self,
             front,
+            base: 0,
             gone: 0,
-            run,
+            full,
             back,
-            left,
+            end,
         }
     }
 
@@ -46,7 +55,7 @@ impl<'a, K: Ord, V> IterMut<'a, K, V> {
     pub fn len(&self) -> usize
         ensures { result ≡ (iter_stretch self.now).back - (iter_stretch self.now).front }
     {
-        self.left
+        self.end - (self.base + self.gone)
     }
 
     /// Whether all values were lent.
@@ -92,10 +101,11 @@ impl<'a, K: Ord, V> IterMut<'a, K, V> {
         let IterMut {
             map,
             front,
+            base: _,
             gone,
-            run: _,
+            full: _,
             back,
-            left: _,
+            end: _,
         } = self;
         map.visit(&front, gone, &back, f);
     }
@@ -104,11 +114,11 @@ impl<'a, K: Ord, V> IterMut<'a, K, V> {
     pub fn peek(&self) -> Option<(&K, &V)>
         ensures { IsFirstPair (iter_stretch self.now) result }
     {
-        if self.left == 0 {
+        if self.is_done() {
             return None;
         }
-        let (mut path, mut gone, mut run) = (self.front, self.gone, self.run);
-        let (way, place) = self.map.step_to_next(&mut path, &mut gone, &mut run);
+        let (mut path, mut gone, mut full) = (self.front, self.gone, self.full);
+        let (way, place) = self.map.step_to_next(&mut path, &mut gone, &mut full);
         let pair = self.map.pair_on(&path, way, place);
         Some((&pair.0, &pair.1))
     }
@@ -117,7 +127,7 @@ impl<'a, K: Ord, V> IterMut<'a, K, V> {
     pub fn peek_back(&self) -> Option<(&K, &V)>
         ensures { IsLastPair (iter_stretch self.now) result }
     {
-        if self.left == 0 {
+        if self.is_done() {
             return None;
         }
         let mut gap = self.back;
@@ -131,13 +141,27 @@ impl<'a, K: Ord, V> IterMut<'a, K, V> {
         ensures none { result ≡ None → self.new ≡ self.old }
         ensures step { MatchOption result ((iter_stretch self.old).back ≤ (iter_stretch self.old).front) (λ r. (r.0 < length self.new.front) × IsPlaceIn self.new.map.now (branch self.new.front r.0 r.1) × (length (before_pair_in self.new.map.now (branch self.new.front r.0 r.1)) ≡ (iter_stretch self.old).front) × ((iter_stretch self.old).front < (iter_stretch self.old).back) × ((iter_stretch self.new).front ≡ (iter_stretch self.old).front + 1) × ((iter_stretch self.new).back ≡ (iter_stretch self.old).back)) }
     {
-        if self.left == 0 {
+        if self.gone < self.full {
+            return Some(self.map.step_in_leaf(&self.front, &mut self.gone));
+        }
+        self.leave()
+    }
+
+    // The same by a way down from the root, whether the leaf ends at the front or not.
+    fn leave(&mut self) -> Option<(usize, usize)>
+        ensures same_map { self.new.map ≡ self.old.map }
+        ensures none { result ≡ None → self.new ≡ self.old }
+        ensures step { MatchOption result ((iter_stretch self.old).back ≤ (iter_stretch self.old).front) (λ r. (r.0 < length self.new.front) × IsPlaceIn self.new.map.now (branch self.new.front r.0 r.1) × (length (before_pair_in self.new.map.now (branch self.new.front r.0 r.1)) ≡ (iter_stretch self.old).front) × ((iter_stretch self.old).front < (iter_stretch self.old).back) × ((iter_stretch self.new).front ≡ (iter_stretch self.old).front + 1) × ((iter_stretch self.new).back ≡ (iter_stretch self.old).back)) }
+    {
+        let at = self.base + self.gone;
+        if at == self.end {
             return None;
         }
         let place = self
             .map
-            .step_to_next(&mut self.front, &mut self.gone, &mut self.run);
-        self.left -= 1;
+            .leave_to_next(&mut self.front, &mut self.gone, &mut self.full);
+        self.base = at + 1;
+        self.full = no_more_than(self.end - self.base, self.full);
         Some(place)
     }
 
@@ -147,11 +171,12 @@ impl<'a, K: Ord, V> IterMut<'a, K, V> {
         ensures none { result ≡ None → self.new ≡ self.old }
         ensures step { MatchOption result ((iter_stretch self.old).back ≤ (iter_stretch self.old).front) (λ place. IsPlaceIn self.new.map.now place × (length (before_pair_in self.new.map.now place) + 1 ≡ (iter_stretch self.old).back) × ((iter_stretch self.old).front < (iter_stretch self.old).back) × ((iter_stretch self.new).front ≡ (iter_stretch self.old).front) × ((iter_stretch self.new).back + 1 ≡ (iter_stretch self.old).back)) }
     {
-        if self.left == 0 {
+        if self.is_done() {
             return None;
         }
         let place = self.map.step_to_previous(&mut self.back);
-        self.left -= 1;
+        self.end -= 1;
+        self.full = no_more_than(self.end - self.base, self.full);
         Some(place)
     }
 }

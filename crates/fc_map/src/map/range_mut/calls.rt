@@ -23,12 +23,12 @@ impl<K: Ord, V> BTreeMap<K, V> {
         ensures start { stretch result ≡ starting K.cmp (bound_now bounds.entry.0) (bound_now bounds.entry.1) (entries self.old) }
     {
         let (front, back) = self.range_ends(&bounds.0, &bounds.1);
-        let run = self.run_after(&front);
+        let full = self.run_after(&front);
         RangeMut {
             map: self,
             front,
             gone: 0,
-            run,
+            full,
             back,
         }
     }
@@ -79,7 +79,7 @@ impl<'a, K: Ord, V> RangeMut<'a, K, V> {
             map,
             front,
             gone,
-            run: _,
+            full: _,
             back,
         } = self;
         map.visit(&front, gone, &back, f);
@@ -92,8 +92,8 @@ impl<'a, K: Ord, V> RangeMut<'a, K, V> {
         if self.is_done() {
             return None;
         }
-        let (mut path, mut gone, mut run) = (self.front, self.gone, self.run);
-        let (way, place) = self.map.step_to_next(&mut path, &mut gone, &mut run);
+        let (mut path, mut gone, mut full) = (self.front, self.gone, self.full);
+        let (way, place) = self.map.step_to_next(&mut path, &mut gone, &mut full);
         let pair = self.map.pair_on(&path, way, place);
         Some((&pair.0, &pair.1))
     }
@@ -121,7 +121,7 @@ impl<'a, K: Ord, V> RangeMut<'a, K, V> {
         }
         let place = self
             .map
-            .step_to_next(&mut self.front, &mut self.gone, &mut self.run);
+            .step_to_next(&mut self.front, &mut self.gone, &mut self.full);
         Some(place)
     }
 

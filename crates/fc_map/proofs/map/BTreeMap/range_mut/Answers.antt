@@ -1,7 +1,7 @@
 use Rattle.std.proofs.Common.{◌≡◌, ◌+◌, length, refl, sym, ap, subst, ◌∙◌, arith}
 use Rattle.fc_tree_visit.specs.Leaf.{gone_on}
 use Rattle.fc_tree_visit.proofs.LeafFacts.{on_none}
-use Rattle.fc_tree_walk.specs.Gap.{IsGapIn, AreEndsIn}
+use Rattle.fc_tree_walk.specs.Gap.{AreEndsIn}
 use Rattle.fc_tree_node.specs.TreePlace.{before_gap_in}
 use Rattle.fc_map.proofs.EndFacts.{state_is}
 use Rattle.fc_map.proofs.map.BTreeMap.range_mut.Goals as goal
@@ -11,9 +11,7 @@ invariant_of-result g c =
     let m = c.args.self.now in
     let front = c.range_ends-front.result.0 in
     let back = c.range_ends-front.result.1 in
-    let run = c.run_after-run.result in
-    let none : run ≡ 0 + run = omega arith in
-    record { ends = subst (λ p. AreEndsIn m p back) (sym (on_none front)) c.range_ends-front.ensures.ends; run_is = subst (λ k. IsGapIn m (gone_on front k)) none c.run_after-run.ensures.run }
+    record { ends = subst (λ p. AreEndsIn m p back) (sym (on_none front)) c.range_ends-front.ensures.ends; run_is = c.run_after-full.ensures.run }
 
 pub returns-clause-start : goal.returns-clause-start
 returns-clause-start g c =

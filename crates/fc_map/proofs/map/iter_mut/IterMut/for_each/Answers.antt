@@ -1,4 +1,4 @@
-use Rattle.std.proofs.Common.{◌+◌, arith}
+use Rattle.std.proofs.Common.{arith}
 use Rattle.fc_tree_visit.specs.Leaf.{gone_on}
 use Rattle.fc_map.proofs.map.iter_mut.IterMut.for_each.Goals as goal
 
@@ -7,8 +7,8 @@ invariant_of-self g c =
     let ends = c.args.self.ends in
     let front = c.visit.ensures.gaps (gone_on c.args.self.front c.args.self.gone) ends.0 in
     let back = c.visit.ensures.gaps c.args.self.back ends.1 in
-    let run = c.visit.ensures.gaps (gone_on c.args.self.front (c.args.self.gone + c.args.self.run)) c.args.self.run_is in
+    let run = c.visit.ensures.gaps (gone_on c.args.self.front c.args.self.full) c.args.self.run_is in
     let f = front.1 in
     let b = back.1 in
     let o = ends.2 in
-    record { ends = (front.0, back.0, omega arith); run_is = run.0; counted = (let k = c.args.self.counted in omega arith) }
+    record { ends = (front.0, back.0, omega arith); run_is = run.0; front_counted = (let k = c.args.self.front_counted in omega arith); back_counted = (let k = c.args.self.back_counted in omega arith); within = c.args.self.within }

@@ -18,7 +18,7 @@ invariant_of-self-lent g c = λ w.
     let there = subst (λ p. IsPlaceIn m (branch p c.in-Some.way c.in-Some.place)) is s.1 in
     let gap = gone_on n.front n.gone in
     let sound = c.value_at.ensures.sound in
-    (ends_stay m path gap n.back w sound there n.ends, ((gap_stays m path (gone_on n.front (n.gone + n.run)) w sound there n.run_is).slot, (counted_stays m path gap n.back n.left w sound there n.ends n.counted, tt)))
+    (ends_stay m path gap n.back w sound there n.ends, ((gap_stays m path (gone_on n.front n.full) w sound there n.run_is).slot, (counted_stays m path gap (n.base + n.gone) w sound there n.ends.0 n.front_counted, (counted_stays m path n.back n.end w sound there n.ends.1 n.back_counted, (n.within, tt)))))
 
 pub returns-in-Some : goal.returns-in-Some
 returns-in-Some g c =

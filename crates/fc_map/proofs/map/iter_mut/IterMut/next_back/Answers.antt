@@ -9,7 +9,11 @@ use Rattle.fc_map.proofs.map.iter_mut.IterMut.next_back.Goals as goal
 pub invariant_of-self-lent : goal.invariant_of-self-lent
 invariant_of-self-lent g c = λ w.
     let n = c.step_back.new.self in
-    (ends_stay n.map.now c.in-Some.place (gone_on n.front n.gone) n.back w c.value_mut.ensures.sound c.in-Some.ensures.step.0 n.ends, ((gap_stays n.map.now c.in-Some.place (gone_on n.front (n.gone + n.run)) w c.value_mut.ensures.sound c.in-Some.ensures.step.0 n.run_is).slot, (counted_stays n.map.now c.in-Some.place (gone_on n.front n.gone) n.back n.left w c.value_mut.ensures.sound c.in-Some.ensures.step.0 n.ends n.counted, tt)))
+    let m = n.map.now in
+    let place = c.in-Some.place in
+    let sound = c.value_mut.ensures.sound in
+    let there = c.in-Some.ensures.step.0 in
+    (ends_stay m place (gone_on n.front n.gone) n.back w sound there n.ends, ((gap_stays m place (gone_on n.front n.full) w sound there n.run_is).slot, (counted_stays m place (gone_on n.front n.gone) (n.base + n.gone) w sound there n.ends.0 n.front_counted, (counted_stays m place n.back n.end w sound there n.ends.1 n.back_counted, (n.within, tt)))))
 
 pub returns-in-Some : goal.returns-in-Some
 returns-in-Some g c =

@@ -7,6 +7,7 @@ use Rattle.fc_map.proofs.map.iter_mut.IterMut.peek.Goals as goal
 pub returns : goal.returns
 returns g c =
     let m = c.args.self.now.map.now in
-    let all = c.args.self.now.counted in
+    let e = c.is_done.ensures in
+    let is = c.if-is_done.false in
     let t = c.step_to_next-way in
-    (grind (arith, all, c.if-self-eq0.false), place_item m (branch t.new.path t.result.0 t.result.1) (entries m) _ t.ensures.sound t.ensures.place refl t.ensures.before ∙ c.pair_on-pair.ensures)
+    (grind (arith, e.1, is), place_item m (branch t.new.path t.result.0 t.result.1) (entries m) _ t.ensures.sound t.ensures.place refl t.ensures.before ∙ c.pair_on-pair.ensures)

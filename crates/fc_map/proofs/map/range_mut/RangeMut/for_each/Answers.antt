@@ -1,4 +1,4 @@
-use Rattle.std.proofs.Common.{◌+◌, arith}
+use Rattle.std.proofs.Common.{arith}
 use Rattle.fc_tree_visit.specs.Leaf.{gone_on}
 use Rattle.fc_map.proofs.map.range_mut.RangeMut.for_each.Goals as goal
 
@@ -7,7 +7,7 @@ invariant_of-self g c =
     let ends = c.args.self.ends in
     let front = c.visit.ensures.gaps (gone_on c.args.self.front c.args.self.gone) ends.0 in
     let back = c.visit.ensures.gaps c.args.self.back ends.1 in
-    let run = c.visit.ensures.gaps (gone_on c.args.self.front (c.args.self.gone + c.args.self.run)) c.args.self.run_is in
+    let run = c.visit.ensures.gaps (gone_on c.args.self.front c.args.self.full) c.args.self.run_is in
     let f = front.1 in
     let b = back.1 in
     let o = ends.2 in

@@ -1,4 +1,4 @@
-use Rattle.std.proofs.Common.{◌+◌, length, refl, sym, ap, subst, ◌∙◌}
+use Rattle.std.proofs.Common.{length, refl, sym, ap, subst, ◌∙◌}
 use Rattle.fc_map.specs.Entries.{entries}
 use Rattle.fc_map.specs.Lends.{branch}
 use Rattle.fc_tree_node.specs.TreePlace.{IsPlaceIn, before_pair_in}
@@ -18,7 +18,7 @@ invariant_of-self-lent g c = λ w.
     let there = subst (λ p. IsPlaceIn m (branch p c.in-Some.way c.in-Some.place)) is s.1 in
     let gap = gone_on n.front n.gone in
     let sound = c.value_at.ensures.sound in
-    (ends_stay m path gap n.back w sound there n.ends, ((gap_stays m path (gone_on n.front (n.gone + n.run)) w sound there n.run_is).slot, tt))
+    (ends_stay m path gap n.back w sound there n.ends, ((gap_stays m path (gone_on n.front n.full) w sound there n.run_is).slot, tt))
 
 pub returns-in-Some : goal.returns-in-Some
 returns-in-Some g c =

@@ -1,4 +1,4 @@
-use Rattle.std.proofs.Common.{◌+◌, arith, refl, ap}
+use Rattle.std.proofs.Common.{arith, refl, ap}
 use Rattle.fc_map.specs.Entries.{entries}
 use Rattle.fc_tree_visit.specs.Leaf.{gone_on}
 use Rattle.fc_map.specs.Stretches.{stretch}
@@ -9,7 +9,7 @@ use Rattle.fc_map.proofs.map.range_mut.RangeMut.next_back.Goals as goal
 pub invariant_of-self-lent : goal.invariant_of-self-lent
 invariant_of-self-lent g c = λ w.
     let n = c.step_back.new.self in
-    (ends_stay n.map.now c.in-Some.place (gone_on n.front n.gone) n.back w c.value_mut.ensures.sound c.in-Some.ensures.step.0 n.ends, ((gap_stays n.map.now c.in-Some.place (gone_on n.front (n.gone + n.run)) w c.value_mut.ensures.sound c.in-Some.ensures.step.0 n.run_is).slot, tt))
+    (ends_stay n.map.now c.in-Some.place (gone_on n.front n.gone) n.back w c.value_mut.ensures.sound c.in-Some.ensures.step.0 n.ends, ((gap_stays n.map.now c.in-Some.place (gone_on n.front n.full) w c.value_mut.ensures.sound c.in-Some.ensures.step.0 n.run_is).slot, tt))
 
 pub returns-in-Some : goal.returns-in-Some
 returns-in-Some g c =
