@@ -23,6 +23,7 @@ const APPEND: u64 = 0;
 const SPLIT_OFF: u64 = 1;
 const CLONE: u64 = 2;
 const POP: u64 = 3;
+const POP_LAST: u64 = 4;
 
 unsafe extern "C" {
     fn bench_map_whole(
@@ -106,8 +107,13 @@ fn run_std(job: &Job) -> u64 {
         APPEND => map.append(&mut other),
         SPLIT_OFF => other = map.split_off(&job.at),
         CLONE => other = map.clone(),
-        _ => {
+        POP => {
             while let Some((key, value)) = map.pop_first() {
+                popped = mixed(popped, Some(key ^ value));
+            }
+        }
+        _ => {
+            while let Some((key, value)) = map.pop_last() {
                 popped = mixed(popped, Some(key ^ value));
             }
         }
@@ -157,6 +163,10 @@ fn jobs(pairs: u64) -> Vec<Job> {
         Job {
             keys: all.clone(),
             ..made("pop_first until empty", POP)
+        },
+        Job {
+            keys: all.clone(),
+            ..made("pop_last until empty", POP_LAST)
         },
         Job {
             keys: (0..pairs).collect(),
