@@ -1,17 +1,23 @@
 -- From a gap of a leaf to its neighbours in the leaf.
-use Rattle.std.proofs.Common.{◌≡◌, ℕ, zero, suc, ◌+◌, ◌-◌, ◌<◌, ◌≤◌, List, [], ◌∷◌, ◌++◌, length, take, get_or, refl, sym, ap, subst, ◌∙◌, arith, Some, None, length-append}
+use Rattle.std.proofs.Common.{◌≡◌, ℕ, zero, suc, ◌+◌, ◌-◌, ◌<◌, ◌≤◌, ◌⊎◌, inl, inr, List, [], ◌∷◌, ◌++◌, length, take, get_or, refl, sym, ap, subst, ◌∙◌, arith, add-one, Some, None, length-append, append-nil, append_assoc}
+use Rattle.std.specs.Borrow.{Bor}
+use Rattle.std.proofs.lemmas.List.{take_all, take_more_set, get_or-set_same}
 use Rattle.std.specs.Prelude.{slice_range, slice_set}
+use Rattle.fc_base.specs.Sizes.{capacity}
 use Rattle.fc_tree_node.specs.declared.node.Node.{Node}
-use Rattle.fc_tree_node.specs.Node.{own_pairs, child_at, IsLevelled}
+use Rattle.fc_tree_node.specs.Node.{own_pairs, child_at, pairs_of, IsLevelled}
 use Rattle.fc_tree_node.specs.Path.{IsPath, before_gap}
-use Rattle.fc_tree_node.specs.Place.{before_child, IsPlace, before_pair}
+use Rattle.fc_tree_node.specs.Place.{before_child, IsPlace, before_pair, node_at}
+use Rattle.fc_tree_node.proofs.Gaps.{take_item}
+use Rattle.fc_tree_node.proofs.Lists.{length_set}
+use Rattle.fc_tree_node.proofs.Sizes.{level_size}
 use Rattle.fc_tree_node.proofs.Pairs.{child_below}
 use Rattle.fc_tree_node.proofs.PathSteps.{IsStep}
 use Rattle.fc_tree_node.specs.Tree.{Map, IsSoundMap}
 use Rattle.fc_tree_node.specs.TreePlace.{IsPlaceIn, before_gap_in, before_pair_in}
 use Rattle.fc_tree_walk.specs.Gap.{IsGapIn, zeros}
-use Rattle.fc_tree_walk.proofs.GapFacts.{next_leaf, pair_after_gap}
-use Rattle.fc_tree_visit.specs.Leaf.{gone_on}
+use Rattle.fc_tree_walk.proofs.GapFacts.{IsNext, next_leaf, next_own, next_child, pair_after_gap}
+use Rattle.fc_tree_visit.specs.Leaf.{gone_on, IsHolder, IsLowest}
 
 pub on_length : (gap : List ℕ) (k : ℕ) → length (gone_on gap k) ≡ length gap
 on_length [] k = refl
@@ -44,44 +50,6 @@ on_last (i ∷ []) (suc last) k e = absurd (omega arith)
 on_last (i ∷ j ∷ gap) zero k e = absurd (omega arith)
 on_last (i ∷ j ∷ []) (suc last) k e = on_last (j ∷ []) last k (omega arith)
 on_last (i ∷ j ∷ l ∷ gap) (suc last) k e = on_last (j ∷ l ∷ gap) last k (omega arith)
-
--- zeros in the place of the steps from one on up to another
-abbrev pub cleared : ℕ → ℕ → List ℕ → List ℕ
-cleared from to [] = []
-cleared from zero (i ∷ gap) = i ∷ gap
-cleared zero (suc to) (i ∷ gap) = 0 ∷ cleared zero to gap
-cleared (suc from) (suc to) (i ∷ gap) = i ∷ cleared from to gap
-
-pub clear_none : (from : ℕ) (gap : List ℕ) → cleared from from gap ≡ gap
-clear_none from [] = refl
-clear_none zero (i ∷ gap) = refl
-clear_none (suc from) (i ∷ gap) = ap (λ p. i ∷ p) (clear_none from gap)
-
-pub clear_more : (from to : ℕ) (gap : List ℕ) → from ≤ to → slice_set (cleared from to gap) to 0 ≡ cleared from (suc to) gap
-clear_more from to [] k = refl
-clear_more zero zero (i ∷ gap) k = first gap
-  where
-    first : (p : List ℕ) → 0 ∷ p ≡ 0 ∷ cleared zero zero p
-    first [] = refl
-    first (j ∷ p) = refl
-clear_more (suc from) zero (i ∷ gap) k = absurd (omega arith)
-clear_more zero (suc to) (i ∷ gap) k = ap (λ p. 0 ∷ p) (clear_more zero to gap (omega arith))
-clear_more (suc from) (suc to) (i ∷ gap) k = ap (λ p. i ∷ p) (clear_more from to gap (omega arith))
-
-pub clear_length : (from to : ℕ) (gap : List ℕ) → length (cleared from to gap) ≡ length gap
-clear_length from to [] = refl
-clear_length from zero (i ∷ gap) = refl
-clear_length zero (suc to) (i ∷ gap) = ap suc (clear_length zero to gap)
-clear_length (suc from) (suc to) (i ∷ gap) = ap suc (clear_length from to gap)
-
-clear_zeros : (gap : List ℕ) → cleared zero (length gap) gap ≡ zeros (length gap)
-clear_zeros [] = refl
-clear_zeros (i ∷ gap) = ap (λ p. 0 ∷ p) (clear_zeros gap)
-
-pub clear_all : (gap : List ℕ) (last i : ℕ) → last < length gap → cleared (suc last) (length gap) (slice_set gap last i) ≡ take last gap ++ i ∷ zeros (length gap - suc last)
-clear_all [] last i k = absurd (omega arith)
-clear_all (j ∷ gap) zero i k = ap (λ p. i ∷ p) (clear_zeros gap) ∙ ap (λ n. i ∷ zeros n) (omega arith)
-clear_all (j ∷ gap) (suc last) i k = ap (λ p. j ∷ p) (clear_all gap last i (omega arith)) ∙ ap (λ n. j ∷ take last gap ++ i ∷ zeros n) (omega arith)
 
 -- the last step of a path set to another one
 pub set_last : (gap : List ℕ) (last k : ℕ) → last + 1 ≡ length gap → slice_set gap last (get_or gap last 0 + k) ≡ gone_on gap k
@@ -161,3 +129,114 @@ module _ {K V : Type 0} where
       let deep = w.1 h l in
       let r = near h root gap k l (omega arith) w.0 in
       record { start = (r.0, λ j o. sym long ∙ w.1 j o); place = r.1; before = r.2; slot = (r.3, λ j o. on_length gap 1 ∙ sym long ∙ w.1 j o); count = r.4 }
+
+  -- the node of the pair after a gap
+  holds_here : (gap : List ℕ) (n : Node K V) (level : ℕ) (other found : Bor (Node K V) × ℕ) → IsNext gap n 1 → other.0.now ≡ n → other.1 ≡ level → found ≡ other → get_or gap 0 0 < length (own_pairs n) → IsLevelled (length gap - 1) n
+      → (way : ℕ) × (found.1 ≡ level + way) × IsHolder gap n way found.0.now
+  holds_here gap n level other found x node at is there l =
+      let same : found.0.now ≡ n = ap (λ r. r.0.now) is ∙ node in
+      let w = x.within in
+      (0, ap (λ r. r.1) is ∙ at ∙ omega arith, (omega (arith, w), x.place (omega arith), x.before (omega arith), same, subst (λ d. get_or gap 0 0 < length (own_pairs d)) (sym same) there, subst (IsLevelled (length gap - 1)) (sym same) l))
+
+  lowest_here : (gap : List ℕ) (n : Node K V) (level own : ℕ) (best other found : Bor (Node K V) × ℕ) → own ≡ length (own_pairs n) - get_or gap 0 0 → other.0.now ≡ n → other.1 ≡ level → (0 < own → found ≡ other) → (own ≡ 0 → found ≡ best) → IsLevelled (length gap - 1) n
+      → ((c : ℕ) → (c ≡ 0 → length (own_pairs n) ≤ get_or gap 0 0) → (0 < c → (c ≡ 1) × (get_or gap 0 0 < length (own_pairs n))) → IsNext gap n c) → IsLowest gap n level best found
+  lowest_here gap n level zero best other found o node at has lacks l x = inl ((x 0 (λ _. omega (arith, o)) (λ k. absurd (omega arith))).none refl, lacks refl)
+  lowest_here gap n level (suc own) best other found o node at has lacks l x =
+      let there : get_or gap 0 0 < length (own_pairs n) = omega (arith, o) in
+      inr (holds_here gap n level other found (x 1 (λ k. absurd (omega arith)) (λ _. (refl, there))) node at (has (omega arith)) there l)
+
+  pub lowest_leaf : (gap : List ℕ) (n : Node K V) (level own : ℕ) (best other found : Bor (Node K V) × ℕ) → gap ≡ get_or gap 0 0 ∷ [] → IsPath gap n → IsLevelled (length gap - 1) n
+      → own ≡ length (own_pairs n) - get_or gap 0 0 → other.0.now ≡ n → other.1 ≡ level → (0 < own → found ≡ other) → (own ≡ 0 → found ≡ best) → IsLowest gap n level best found
+  lowest_leaf gap n level own best other found e p l o node at has lacks =
+      let long = ap length e in
+      let h : length gap - 1 ≡ 0 = omega (arith, long) in
+      lowest_here gap n level own best other found o node at has lacks l (λ c. next_leaf gap n c e p (subst (λ k. IsLevelled k n) h l))
+
+  -- the same above a child
+  pub lowest_above : (gap : List ℕ) (n : Node K V) (level own : ℕ) (best other mid found : Bor (Node K V) × ℕ) (s : IsStep gap n) → IsLevelled (length gap - 1) n
+      → own ≡ length (own_pairs n) - get_or gap 0 0 → other.0.now ≡ n → other.1 ≡ level → (0 < own → mid ≡ other) → (own ≡ 0 → mid ≡ best)
+      → IsLowest (slice_range gap 1 (length gap)) (child_at n (get_or gap 0 0)) (level + 1) mid found → IsLowest gap n level best found
+  lowest_above gap n level own best other mid found s l o node at has lacks (inl (e, is)) = lowest_here gap n level own best other found o node at (λ k. is ∙ has k) (λ k. is ∙ lacks k) l (λ c. next_own gap n c s e)
+  lowest_above gap n level own best other mid found s l o node at has lacks (inr (w, a, h)) =
+      let rest = slice_range gap 1 (length gap) in
+      let c = child_at n (get_or gap 0 0) in
+      let y : IsNext rest c (suc w) = record { within = omega (arith, h.0); none = λ e. absurd (omega arith); place = λ _. h.1; before = λ _. h.2 } in
+      let x : IsNext gap n (suc (suc w)) = rw add-one at (next_child gap n (suc w) s y (omega arith)) in
+      let long = s.long in
+      let within = x.within in
+      let deep : length rest - suc w ≡ length gap - suc (suc w) = omega (arith, long) in
+      let is = ap (λ g. node_at (take (suc w) g) n) s.path_is in
+      let step = ap (λ g. get_or g (suc w) 0) s.path_is in
+      inr (suc w, omega (arith, a), (omega (arith, within), x.place (omega arith), x.before (omega arith), h.3 ∙ sym is, subst (λ k. k < length (own_pairs found.0.now)) (sym step) h.4, subst (λ k. IsLevelled k found.0.now) deep h.5))
+
+  pub lowest_is : (gap : List ℕ) (n : Node K V) (best found : Bor (Node K V) × ℕ) → IsLowest gap n 0 best found → length (before_gap gap n) < length (pairs_of n) → IsHolder gap n found.1 found.0.now
+  lowest_is gap n best found (inl (e, is)) k = absurd (omega (arith, e, k))
+  lowest_is gap n best found (inr (w, a, h)) k = let same : w ≡ found.1 = omega (arith, a) in subst (λ i. IsHolder gap n i found.0.now) same h
+
+  pub own_small : (gap : List ℕ) (root : Node K V) (way : ℕ) (n : Node K V) → IsHolder gap root way n → get_or gap way 0 < capacity
+  own_small gap root way n x = let k = x.4 in let f = level_size (length gap - suc way) n x.5 in omega (arith, k, f)
+
+  -- down by first children
+  pub record IsDown (gap new : List ℕ) (n : Node K V) (level run : ℕ) : Type 0 where
+    pub gap_is : new ≡ take (suc level) gap ++ zeros (length gap - suc level)
+    pub run_is : IsPath (gone_on (get_or gap level 0 ∷ zeros (length gap - suc level)) run) n
+
+  pub down_leaf : (gap : List ℕ) (n : Node K V) (level : ℕ) → suc level ≡ length gap → get_or gap level 0 ≤ length (own_pairs n) → IsDown gap gap n level (length (own_pairs n) - get_or gap level 0)
+  down_leaf gap n level e le =
+      let none : 0 ≡ length gap - suc level = omega (arith, e) in
+      let s = get_or gap level 0 in
+      let r = length (own_pairs n) - s in
+      let fits : s + r ≤ length (own_pairs n) = omega (arith, le) in
+      record {
+        gap_is = sym (ap (λ k. take (suc level) gap ++ zeros k) (sym none) ∙ append-nil (take (suc level) gap) ∙ take_all (suc level) gap (omega (arith, e)));
+        run_is = subst (λ k. IsPath (gone_on (s ∷ zeros k) r) n) none (fits, tt);
+      }
+
+  down_next : (gap mid new : List ℕ) (n : Node K V) (level run : ℕ) → suc level < length gap → get_or gap level 0 ≤ length (own_pairs n) → mid ≡ slice_set gap (suc level) 0 → IsDown mid new (child_at n (get_or gap level 0)) (suc level) run → IsDown gap new n level run
+  down_next gap mid new n level run k le is d =
+      let long = ap length is ∙ length_set gap (suc level) 0 in
+      let m = length mid - suc (suc level) in
+      let more : suc m ≡ length gap - suc level = omega (arith, long, k) in
+      let c = child_at n (get_or gap level 0) in
+      let first : get_or mid (suc level) 0 ≡ 0 = ap (λ p. get_or p (suc level) 0) is ∙ get_or-set_same gap (suc level) 0 0 k in
+      let prefix : take (suc (suc level)) mid ≡ take (suc level) gap ++ 0 ∷ [] = ap (take (suc (suc level))) is ∙ (rw add-one at (take_more_set gap (suc level) 0 k)) in
+      record {
+        gap_is = d.gap_is ∙ ap (λ p. p ++ zeros m) prefix ∙ append_assoc (take (suc level) gap) (0 ∷ []) (zeros m) ∙ ap (λ k. take (suc level) gap ++ zeros k) more;
+        run_is = subst (λ k. IsPath (gone_on (get_or gap level 0 ∷ zeros k) run) n) more (le, subst (λ i. IsPath (gone_on (i ∷ zeros m) run) c) first d.run_is);
+      }
+
+  pub down_child : (gap mid new : List ℕ) (n c : Node K V) (level next run : ℕ) → next ≡ suc level → next < length gap → get_or gap level 0 ≤ length (own_pairs n) → mid ≡ slice_set gap next 0 → c ≡ child_at n (get_or gap level 0) → IsDown mid new c next run → IsDown gap new n level run
+  down_child gap mid new n c level next run e k le is same d =
+      down_next gap mid new n level run (subst (λ j. j < length gap) e k) le (subst (λ j. mid ≡ slice_set gap j 0) e is) (subst (λ j. IsDown mid new (child_at n (get_or gap level 0)) j run) e (subst (λ c. IsDown mid new c next run) same d))
+
+  -- a path's run below a node on its way
+  run_below : (way : ℕ) (gap : List ℕ) (i : ℕ) (rest : List ℕ) (n : Node K V) (run : ℕ) → IsPath gap n → way < length gap → IsPath (gone_on (i ∷ rest) run) (node_at (take way gap) n) → IsPath (gone_on (take way gap ++ i ∷ rest) run) n
+  run_below zero gap i rest n run p k w = w
+  run_below (suc way) [] i rest n run p k w = absurd (omega arith)
+  run_below (suc zero) (j ∷ gap) i rest n run p k w = (p.0, w)
+  run_below (suc (suc way)) (j ∷ []) i rest n run p k w = absurd (omega arith)
+  run_below (suc (suc way)) (j ∷ l ∷ gap) i rest n run p k w = (p.0, run_below (suc way) (l ∷ gap) i rest (child_at n j) run p.1 (omega (arith, k)) w)
+
+  -- past a pair of a node on the way
+  pub record IsPast (gap new : List ℕ) (root : Node K V) (way place run : ℕ) : Type 0 where
+    pub place_is : IsPlace (take way gap ++ place ∷ []) root
+    pub before : length (before_pair (take way gap ++ place ∷ []) root) ≡ length (before_gap gap root)
+    pub gap_is : new ≡ take way gap ++ (place + 1) ∷ zeros (length gap - suc way)
+    pub run_is : IsPath (gone_on new run) root
+
+  pub past : (gap mid new : List ℕ) (root n : Node K V) (way place run : ℕ) → IsPath gap root → IsHolder gap root way n → place ≡ get_or gap way 0 → mid ≡ slice_set gap way (place + 1) → IsDown mid new n way run → IsPast gap new root way place run
+  past gap mid new root n way place run p h own is d =
+      let long = ap length is ∙ length_set gap way (place + 1) in
+      let m = length gap - suc way in
+      let here : take (suc way) gap ≡ take way gap ++ place ∷ [] = take_item gap way 0 h.0 ∙ ap (λ i. take way gap ++ i ∷ []) (sym own) in
+      let same : length mid - suc way ≡ m = omega (arith, long) in
+      let step : get_or mid way 0 ≡ place + 1 = ap (λ p. get_or p way 0) is ∙ get_or-set_same gap way (place + 1) 0 h.0 in
+      let prefix : take (suc way) mid ≡ take way gap ++ (place + 1) ∷ [] = ap (take (suc way)) is ∙ (rw add-one at (take_more_set gap way (place + 1) h.0)) in
+      let all = d.gap_is ∙ ap (λ p. p ++ zeros (length mid - suc way)) prefix ∙ ap (λ k. (take way gap ++ (place + 1) ∷ []) ++ zeros k) same ∙ append_assoc (take way gap) ((place + 1) ∷ []) (zeros m) in
+      let run_there = subst (λ k. IsPath (gone_on ((place + 1) ∷ zeros k) run) n) same (subst (λ i. IsPath (gone_on (i ∷ zeros (length mid - suc way)) run) n) step d.run_is) in
+      record {
+        place_is = subst (λ p. IsPlace p root) here h.1;
+        before = subst (λ p. length (before_pair p root) ≡ length (before_gap gap root)) here h.2;
+        gap_is = all;
+        run_is = subst (λ p. IsPath (gone_on p run) root) (sym all) (run_below way gap (place + 1) (zeros m) root run p h.0 (subst (IsPath (gone_on ((place + 1) ∷ zeros m) run)) h.3 run_there));
+      }

@@ -1,11 +1,13 @@
-//! Gaps of one leaf: how many pairs of it lie after one, and its neighbours.
+//! Gaps of one leaf: how many pairs of it lie after one, its neighbours, and the way on to the next leaf.
 //!
 //! A walk that keeps that number goes from pair to pair of a leaf without a look at the tree.
-ghost use Rattle.std.specs.Prelude.{◌≡◌, ℕ, ◌+◌, ◌-◌, ◌<◌, ◌≤◌, ◌∷◌, ◌++◌, length, slice_index, take};
-ghost use Rattle.fc_tree_node.specs.Node.{IsLevelled};
-ghost use Rattle.fc_tree_node.specs.Path.{IsPath};
+ghost use Rattle.std.specs.Prelude.{◌≡◌, ℕ, suc, ◌+◌, ◌-◌, ◌<◌, ◌≤◌, [], ◌∷◌, ◌++◌, length, slice_index, take};
+ghost use Rattle.fc_base.specs.Sizes.{most_levels};
+ghost use Rattle.fc_tree_node.specs.Node.{own_pairs, pairs_of, IsLevelled};
+ghost use Rattle.fc_tree_node.specs.Path.{IsPath, before_gap};
+ghost use Rattle.fc_tree_node.specs.Place.{IsPlace, before_pair};
 ghost use Rattle.fc_tree_walk.specs.Gap.{zeros};
-ghost use Rattle.fc_tree_visit.specs.Leaf.{gone_on};
+ghost use Rattle.fc_tree_visit.specs.Leaf.{gone_on, IsLowest};
 
 use fc_tree_node::node::Node;
 use fc_tree_node::path::Path;
@@ -39,19 +41,77 @@ pub fn go_on(gap: &mut Path, count: usize)
     gap.set(last, gap.step(last) + count);
 }
 
-/// Goes on past the pair to which so many steps lead, to the first gap of the leaf after it.
-#[inline]
-pub fn go_past(gap: &mut Path, steps: usize)
-    requires some { 0 < steps }
-    requires within { steps ≤ length gap.old }
-    requires small { slice_index gap.old (steps - 1) < 255 }
-    ensures { gap.new ≡ take (steps - 1) gap.old ++ (slice_index gap.old (steps - 1) + 1) ∷ zeros (length gap.old - steps) }
+// The one node and its level, or the other where it has a pair.
+fn lower<'a, K, V>(
+    best: (&'a Node<K, V>, usize),
+    other: (&'a Node<K, V>, usize),
+    pairs: usize,
+) -> (&'a Node<K, V>, usize)
+    ensures other { 0 < pairs → result ≡ other.entry }
+    ensures best { pairs ≡ 0 → result ≡ best.entry }
 {
-    let last = steps - 1;
-    gap.set(last, gap.step(last) + 1);
-    for i in steps..gap.len() {
-        gap.set(i, 0);
+    if 0 < pairs { other } else { best }
+}
+
+// The lowest node on the way to a gap that has a pair after it, and its level; the best so far where there is none.
+fn lowest_after<'a, K, V>(
+    node: &'a Node<K, V>,
+    gap: &[u8],
+    level: usize,
+    best: (&'a Node<K, V>, usize),
+) -> (&'a Node<K, V>, usize)
+    requires some { 0 < length gap.now }
+    requires path { IsPath gap.now node.now }
+    requires levels { IsLevelled (length gap.now - 1) node.now }
+    requires fits { level + length gap.now ≤ most_levels }
+    ensures { IsLowest gap.now node.now level best.entry result }
+{
+    let step = gap[0] as usize;
+    let lowest = lower(best, (node, level), node.len() - step);
+    if gap.len() == 1 {
+        return lowest;
     }
+    lowest_after(node.child(step), &gap[1..], level + 1, lowest)
+}
+
+// Goes down from a node at a level of a path, by the path's step there and then by first children, and answers how many pairs of the
+// leaf lie after.
+fn go_down<K, V>(node: &Node<K, V>, gap: &mut Path, level: usize) -> usize
+    requires level { level < length gap.old }
+    requires step { slice_index gap.old level ≤ length (own_pairs node.now) }
+    requires levels { IsLevelled (length gap.old - suc level) node.now }
+    ensures gap { gap.new ≡ take (suc level) gap.old ++ zeros (length gap.old - suc level) }
+    ensures run { IsPath (gone_on (slice_index gap.old level ∷ zeros (length gap.old - suc level)) result) node.now }
+{
+    let len = gap.len();
+    let step = gap.step(level);
+    if level + 1 == len {
+        return node.len() - step;
+    }
+    gap.set(level + 1, 0);
+    go_down(node.child(step), gap, level + 1)
+}
+
+/// Goes on past the pair after a gap, and answers how many steps of the path lead to its node, its place there, and how many pairs of
+/// the leaf lie after the gap where the path then leads.
+#[inline]
+pub fn pass_next<K, V>(root: &Node<K, V>, gap: &mut Path) -> (usize, usize, usize)
+    requires some { 0 < length gap.old }
+    requires path { IsPath gap.old root.now }
+    requires levels { IsLevelled (length gap.old - 1) root.now }
+    requires later { length (before_gap gap.old root.now) < length (pairs_of root.now) }
+    ensures way { result.0 < length gap.old }
+    ensures own { result.1 ≡ slice_index gap.old result.0 }
+    ensures place { IsPlace (take result.0 gap.old ++ result.1 ∷ []) root.now }
+    ensures before { length (before_pair (take result.0 gap.old ++ result.1 ∷ []) root.now) ≡ length (before_gap gap.old root.now) }
+    ensures gap { gap.new ≡ take result.0 gap.old ++ (result.1 + 1) ∷ zeros (length gap.old - suc result.0) }
+    ensures run { IsPath (gone_on gap.new result.2) root.now }
+{
+    let (holder, last) = lowest_after(root, gap.as_slice(), 0, (root, 0));
+    let place = gap.step(last);
+    gap.set(last, place + 1);
+    let run = go_down(holder, gap, last);
+    (last, place, run)
 }
 
 /// Goes back to the gap before the pair before it in the leaf.
