@@ -70,7 +70,8 @@ fn compare(folder: &str, programs: &[String], keys: u64) {
 
 fn main() {
     let args: Vec<String> = std::env::args().collect();
-    println!("milliseconds for {LINES} lines over so many keys, best of {ROUNDS} runs (the median of the first's as a multiple of the second's)");
+    println!("milliseconds for {LINES} lines, best of {ROUNDS} runs: the first / the second (the median of the first's as a multiple of the second's)");
+    println!("over so many keys");
     for keys in KEYS {
         compare(&args[1], &args[2..4], keys);
     }
