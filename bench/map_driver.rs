@@ -3,7 +3,7 @@
 //! First all answers and lengths of the two are compared, call by call. Then each time is the best of some runs, the two maps in
 //! turn, of the time between two marks of a job (`phases.rs`).
 //!
-//! With the word `count` each job runs once at a thousand pairs, for `bench/instructions`.
+//! With the word `count` each job runs once at a thousand pairs, and with `misses` the calls on one key over 200,000, for `bench/instructions`.
 mod counted;
 mod phases;
 mod random;
@@ -377,6 +377,18 @@ fn put(who: usize, keys: &[u64], is_made_ready: bool) -> usize {
     len
 }
 
+// Calls over many pairs, once on each side.
+fn count_misses() {
+    let keys = Keys::new(200_000);
+    let (calls, sought) = (keys.inserted.len(), keys.sought.len());
+    let rows = [("insert", calls), ("get", sought), ("remove", calls), ("", 0)];
+    for who in 0..2 {
+        tell(who, &rows, || {
+            black_box(RUNS[who](keys.job(LET_GO)));
+        });
+    }
+}
+
 // Each job once on each side.
 fn count_all() {
     let keys = Keys::new(1_000);
@@ -405,9 +417,12 @@ fn count_all() {
 }
 
 fn main() {
-    if std::env::args().nth(1).as_deref() == Some("count") {
-        return count_all();
+    match std::env::args().nth(1).as_deref() {
+        Some("count") => count_all(),
+        Some("misses") => count_misses(),
+        _ => {
+            compare_answers();
+            print_times();
+        }
     }
-    compare_answers();
-    print_times();
 }

@@ -19,13 +19,16 @@ use std::collections::BTreeSet;
 // Items, and rounds of runs.
 const SIZES: [(u64, usize); 3] = [(1_000, 300), (100_000, 12), (1_000_000, 5)];
 const CALLS: [&str; 6] = ["try_insert", "contains", "get", "replace", "take", "remove"];
-const WAYS: [&str; 6] = [
+const WAYS: [&str; 9] = [
     "iter of the first",
     "difference",
     "symmetric difference",
     "intersection",
     "union",
     "bitor, built",
+    "sub, built",
+    "bitxor, built",
+    "bitand, built",
 ];
 // Items of a set beside a small one, and of that one.
 const LARGE: u64 = 100_000;
@@ -170,7 +173,10 @@ fn walk_std(job: &Walks) -> u64 {
             2 => mixed_all(seen, set.symmetric_difference(&other)),
             3 => mixed_all(seen, set.intersection(&other)),
             4 => mixed_all(seen, set.union(&other)),
-            _ => mixed(seen, Some((&set | &other).len() as u64)),
+            5 => mixed(seen, Some((&set | &other).len() as u64)),
+            6 => mixed(seen, Some((&set - &other).len() as u64)),
+            7 => mixed(seen, Some((&set ^ &other).len() as u64)),
+            _ => mixed(seen, Some((&set & &other).len() as u64)),
         };
     }
     mark();
@@ -251,7 +257,7 @@ fn print_times() {
 // Each walk once on each side, over two sets of a thousand with half in common.
 fn count() {
     let (items, others) = halves(1_000);
-    let given = [1_000, 500, 1_000, 500, 1_500, 1_500];
+    let given = [1_000, 500, 1_000, 500, 1_500, 1_500, 500, 1_000, 500];
     for (way, name) in WAYS.iter().enumerate() {
         let job = Walks {
             items: items.clone(),

@@ -1,11 +1,18 @@
 //! Times calls on whole maps beside std's `BTreeMap` on the same keys, and compares what both left.
 //!
-//! Each time is the best of some runs, the two maps in turn, of the time that the call took (`phases.rs`).
+//! A time is the best of some runs, the two maps in turn, of the time that the call took (`phases.rs`); a multiple is the median of those
+//! that each round gave (`rounds.rs`).
+//!
+//! With the word `count` each job runs once at a thousand pairs, for `bench/instructions`.
+mod counted;
 mod phases;
 mod random;
+mod rounds;
 
-use phases::{machine, mark, phases};
+use counted::tell;
+use phases::{machine, mark};
 use random::Random;
+use rounds::compare;
 use std::collections::BTreeMap;
 use std::hint::black_box;
 use std::mem::forget;
@@ -16,6 +23,7 @@ const APPEND: u64 = 0;
 const SPLIT_OFF: u64 = 1;
 const CLONE: u64 = 2;
 const POP: u64 = 3;
+const POP_LAST: u64 = 4;
 
 unsafe extern "C" {
     fn bench_map_whole(
@@ -99,8 +107,13 @@ fn run_std(job: &Job) -> u64 {
         APPEND => map.append(&mut other),
         SPLIT_OFF => other = map.split_off(&job.at),
         CLONE => other = map.clone(),
-        _ => {
+        POP => {
             while let Some((key, value)) = map.pop_first() {
+                popped = mixed(popped, Some(key ^ value));
+            }
+        }
+        _ => {
+            while let Some((key, value)) = map.pop_last() {
                 popped = mixed(popped, Some(key ^ value));
             }
         }
@@ -152,6 +165,10 @@ fn jobs(pairs: u64) -> Vec<Job> {
             ..made("pop_first until empty", POP)
         },
         Job {
+            keys: all.clone(),
+            ..made("pop_last until empty", POP_LAST)
+        },
+        Job {
             keys: (0..pairs).collect(),
             collects: true,
             ..made("try_from_iterator, ascending", 0)
@@ -164,30 +181,37 @@ fn jobs(pairs: u64) -> Vec<Job> {
     ]
 }
 
-// Nanoseconds of the call: ours, then std's.
-fn measure(job: &Job, rounds: usize) -> [f64; 2] {
-    let mut best = [f64::MAX; 2];
-    for round in 0..rounds {
-        let mut seen = [0; 2];
-        for who in [round % 2, 1 - round % 2] {
-            let run = [run_ours as fn(&Job) -> u64, run_std][who];
-            let taken = phases(|| seen[who] = run(black_box(job)));
-            best[who] = best[who].min(taken[0]);
+const RUNS: [fn(&Job) -> u64; 2] = [run_ours, run_std];
+
+// Each job once on each side, at a thousand pairs.
+fn count() {
+    let pairs = 1_000;
+    for job in jobs(pairs) {
+        for (who, run) in RUNS.iter().enumerate() {
+            tell(who, &[(job.name, pairs as usize)], || {
+                black_box(run(&job));
+            });
         }
-        assert_eq!(seen[0], seen[1], "what the two maps left differs");
     }
-    best
 }
 
-fn main() {
-    println!("nanoseconds a pair of the whole, best of so many runs: ours / std's BTreeMap (ours as a multiple of std's)");
+fn print_times() {
+    println!("nanoseconds a pair of the whole, best of so many runs: ours / std's BTreeMap (the median of ours as a multiple of std's)");
     println!("{}", machine());
     for (pairs, rounds) in SIZES {
         println!("{pairs} pairs, {rounds} runs");
         for job in jobs(pairs) {
-            let [ours, stds] = measure(&job, rounds).map(|time| time / pairs as f64);
+            let call = &compare(&job, rounds, RUNS)[0];
+            let [ours, stds] = call.least.map(|time| time / pairs as f64);
             let name = job.name;
-            println!("  {name:<30} {ours:>9.3} / {stds:<9.3} ({:4.2})", ours / stds);
+            println!("  {name:<30} {ours:>9.3} / {stds:<9.3} ({:4.2})", call.median());
         }
+    }
+}
+
+fn main() {
+    match std::env::args().nth(1).as_deref() {
+        Some("count") => count(),
+        _ => print_times(),
     }
 }

@@ -141,12 +141,18 @@ fn walk_union(set: &Numbers, other: &Numbers, start: u64) -> u64 {
     checksum
 }
 
-// A set of the items of both, and how many these are; `None` where memory was refused.
-fn build_union(set: &Numbers, other: &Numbers, start: u64) -> Option<u64> {
-    let Ok(both) = set.bitor(other) else {
+// A set that an operator makes of both, and how many items it has; `None` where memory was refused.
+fn build(set: &Numbers, other: &Numbers, way: u64, start: u64) -> Option<u64> {
+    let made = match way {
+        5 => set.bitor(other),
+        6 => set.sub(other),
+        7 => set.bitxor(other),
+        _ => set.bitand(other),
+    };
+    let Ok(made) = made else {
         return None;
     };
-    Some(mixed(start, Some(both.len() as u64)))
+    Some(mixed(start, Some(made.len() as u64)))
 }
 
 // One walk, or one set built.
@@ -157,13 +163,13 @@ fn walk(set: &Numbers, other: &Numbers, way: u64, start: u64) -> Option<u64> {
         2 => Some(walk_symmetric_difference(set, other, start)),
         3 => Some(walk_intersection(set, other, start)),
         4 => Some(walk_union(set, other, start)),
-        _ => build_union(set, other, start),
+        _ => build(set, other, way, start),
     }
 }
 
 /// Makes a set of `items` and one of `others`, and walks as often as `times` says: 0 over all items of the first, 1 over the difference, 2
-/// over the symmetric difference, 3 over the intersection, 4 over the union; 5 builds the union as a set. All together are a phase. The
-/// checksum of what was seen goes to `checksum`. False where memory was refused.
+/// over the symmetric difference, 3 over the intersection, 4 over the union; 5 builds the union as a set, 6 the difference, 7 the symmetric
+/// difference, 8 the intersection. All together are a phase. The checksum of what was seen goes to `checksum`. False where memory was refused.
 #[unsafe(no_mangle)]
 pub extern "C" fn bench_set_walk(
     alloc: Global,

@@ -15,10 +15,22 @@ const CLONE: u64 = 2;
 
 const POP: u64 = 3;
 
+const POP_LAST: u64 = 4;
+
 fn pop_all(map: &mut BTreeMap<u64, u64>, start: u64) -> u64 {
     let mut checksum = start;
     for _ in 0..map.len() {
         if let Some((key, value)) = map.pop_first() {
+            checksum = mixed(checksum, Some(key ^ value));
+        }
+    }
+    checksum
+}
+
+fn pop_all_from_the_back(map: &mut BTreeMap<u64, u64>, start: u64) -> u64 {
+    let mut checksum = start;
+    for _ in 0..map.len() {
+        if let Some((key, value)) = map.pop_last() {
             checksum = mixed(checksum, Some(key ^ value));
         }
     }
@@ -53,8 +65,8 @@ fn take_over(
 }
 
 /// Inserts `keys` into a map and `others` into another one. Then, as a phase, the first takes the second by `append` where `way` is 0, is
-/// cut at `at` where it is 1, is copied where it is 2, gives its pairs out from the front where it is 3. The checksum of what was
-/// seen goes to `checksum`. False where memory was refused.
+/// cut at `at` where it is 1, is copied where it is 2, gives its pairs out from the front where it is 3, from the back where it is 4. The
+/// checksum of what was seen goes to `checksum`. False where memory was refused.
 #[unsafe(no_mangle)]
 pub extern "C" fn bench_map_whole(
     alloc: Global,
@@ -77,6 +89,10 @@ pub extern "C" fn bench_map_whole(
         CLONE => take_over(&mut other, map.try_clone()),
         POP => {
             popped = pop_all(&mut map, 0);
+            true
+        }
+        POP_LAST => {
+            popped = pop_all_from_the_back(&mut map, 0);
             true
         }
         _ => false,

@@ -166,30 +166,6 @@ on_pair word m k v = if is_text word (codes "insert") then Some (Insert m k v)
     else if is_text word (codes "set") then Some (Set m k v)
     else None
 
--- The words after such a word are a map.
-unfoldable pub with_map_of : List ℕ → List (List ℕ) → Option (Command ℕ ℕ)
-with_map_of word words = do
-  m ← map_at words
-  command ← on_map word m.0
-  whole_line command m.1
-
--- The words after such a word are a map and a key.
-unfoldable pub with_key_of : List ℕ → List (List ℕ) → Option (Command ℕ ℕ)
-with_key_of word words = do
-  m ← map_at words
-  k ← number_at m.1
-  command ← on_key word m.0 k.0
-  whole_line command k.1
-
--- The words after such a word are a map, a key and a value.
-unfoldable pub with_pair_of : List ℕ → List (List ℕ) → Option (Command ℕ ℕ)
-with_pair_of word words = do
-  m ← map_at words
-  k ← number_at m.1
-  v ← number_at k.1
-  command ← on_pair word m.0 k.0 v.0
-  whole_line command v.1
-
 -- The words after `entry` are a map, a key and two values.
 unfoldable pub entry_of : List (List ℕ) → Option (Command ℕ ℕ)
 entry_of words = do
@@ -234,15 +210,35 @@ extend_of words = do
   pairs ← some_pairs m.1
   Some (Extend m.0 pairs)
 
--- The command on a map and a key, with a value or without.
-unfoldable pub keyed_of : List ℕ → List (List ℕ) → Option (Command ℕ ℕ)
-keyed_of word words = with_key_of word words or_else with_pair_of word words
+-- The command, if there is one, with which the line ends, and else what is asked for otherwise.
+abbrev pub ended_or : Option (Command ℕ ℕ) → List (List ℕ) → Option (Command ℕ ℕ) → Option (Command ℕ ℕ)
+ended_or (Some command) words other = whole_line command words
+ended_or None words other = other
+
+-- The words after a map and a key are a value.
+unfoldable pub valued_of : List ℕ → Side → ℕ → List (List ℕ) → Option (Command ℕ ℕ)
+valued_of word m k words = do
+  v ← number_at words
+  command ← on_pair word m k v.0
+  whole_line command v.1
+
+-- The words after a map are a key, and a value where the word wants one.
+unfoldable pub keyed_of : List ℕ → Side → List (List ℕ) → Option (Command ℕ ℕ)
+keyed_of word m words = do
+  k ← number_at words
+  ended_or (on_key word m k.0) k.1 (valued_of word m k.0 k.1)
+
+-- The words after such a word are a map, and a key where the word wants one.
+unfoldable pub mapped_of : List ℕ → List (List ℕ) → Option (Command ℕ ℕ)
+mapped_of word words = do
+  m ← map_at words
+  ended_or (on_map word m.0) m.1 (keyed_of word m.0 m.1)
 
 -- The command without a list that the words after its word ask for.
 unfoldable pub plain_of : List ℕ → List (List ℕ) → Option (Command ℕ ℕ)
 plain_of word words = if is_text word (codes "entry") then entry_of words
     else if is_text word (codes "both") then both_of words
-    else (with_map_of word words or_else keyed_of word words)
+    else mapped_of word words
 
 -- The command on maps that the words ask for, by the first of them.
 unfoldable pub on_maps_of : List (List ℕ) → Option (Command ℕ ℕ)
@@ -276,20 +272,18 @@ with_set_and_item word c k = if is_text word (codes "add") then Some (AddItem c 
     else if is_text word (codes "split") then Some (SetSplitOff c k)
     else None
 
--- The words after such a word are a set.
+-- The words after a set are an item.
+unfoldable pub set_and_item_of : List ℕ → Side → List (List ℕ) → Option (Command ℕ ℕ)
+set_and_item_of word c words = do
+  k ← number_at words
+  command ← with_set_and_item word c k.0
+  whole_line command k.1
+
+-- The words after such a word are a set, and an item where the word wants one.
 unfoldable pub set_of_word : List ℕ → List (List ℕ) → Option (Command ℕ ℕ)
 set_of_word word words = do
   c ← set_at words
-  command ← with_set word c.0
-  whole_line command c.1
-
--- The words after such a word are a set and an item.
-unfoldable pub set_and_item_of_word : List ℕ → List (List ℕ) → Option (Command ℕ ℕ)
-set_and_item_of_word word words = do
-  c ← set_at words
-  k ← number_at c.1
-  command ← with_set_and_item word c.0 k.0
-  whole_line command k.1
+  ended_or (with_set word c.0) c.1 (set_and_item_of word c.0 c.1)
 
 -- The words after `keep` are an operation and a set.
 unfoldable pub keep_of : List (List ℕ) → Option (Command ℕ ℕ)
@@ -318,7 +312,7 @@ extend_items_of words = do
 
 -- The command without a list that the words after its word ask for.
 unfoldable pub plain_on_sets_of : List ℕ → List (List ℕ) → Option (Command ℕ ℕ)
-plain_on_sets_of word words = if is_text word (codes "keep") then keep_of words else (set_of_word word words or_else set_and_item_of_word word words)
+plain_on_sets_of word words = if is_text word (codes "keep") then keep_of words else set_of_word word words
 
 -- The command on sets that the words ask for, by the first of them.
 unfoldable pub on_sets_of : List (List ℕ) → Option (Command ℕ ℕ)

@@ -30,10 +30,9 @@ ghost use Rattle.fc_lines.specs.Grammar.{
   on_map,
   on_key,
   on_pair,
-  with_map_of,
-  with_key_of,
-  with_pair_of,
+  mapped_of,
   keyed_of,
+  valued_of,
   plain_of,
   on_maps_of,
 };
@@ -74,14 +73,11 @@ fn on_maps_in(alloc: Global, words: Option<&[u8]>) -> Result<Option<Command<u64,
     let Some((word, words)) = next_word(words) else {
         return Ok(None)
     };
-    if is_word(word, b"walk") {
-        walk_in(alloc, words)
-    } else if is_word(word, b"write") {
-        write_in(alloc, words)
-    } else if is_word(word, b"extend") {
-        extend_in(alloc, words)
-    } else {
-        Ok(plain_in(word, words))
+    match word {
+        b"walk" => walk_in(alloc, words),
+        b"write" => write_in(alloc, words),
+        b"extend" => extend_in(alloc, words),
+        _ => Ok(plain_in(word, words)),
     }
 }
 
@@ -90,55 +86,42 @@ fn on_maps_in(alloc: Global, words: Option<&[u8]>) -> Result<Option<Command<u64,
 fn plain_in(word: &[u8], words: Option<&[u8]>) -> Option<Command<u64, u64>>
     ensures { result ≡ plain_of word.entry.now (words_left words.entry) }
 {
-    if is_word(word, b"entry") {
-        return entry_in(words);
-    }
-    if is_word(word, b"both") {
-        return both_in(words);
-    }
-    match with_map_in(word, words) {
-        Some(command) => Some(command),
-        None => keyed_in(word, words),
+    match word {
+        b"entry" => entry_in(words),
+        b"both" => both_in(words),
+        _ => mapped_in(word, words),
     }
 }
 
-// The command on a map and a key, with a value or without.
+// The words after such a word are a map, and a key where the word wants one.
+#[tactic(auto, unfolding(crate::specs::Grammar::mapped_of))]
+fn mapped_in(word: &[u8], words: Option<&[u8]>) -> Option<Command<u64, u64>>
+    ensures { result ≡ mapped_of word.entry.now (words_left words.entry) }
+{
+    let (side, words) = next_map(words)?;
+    match on_map_in(word, side) {
+        Some(command) => at_line_end(command, words),
+        None => keyed_in(word, side, words),
+    }
+}
+
+// The words after a map are a key, and a value where the word wants one.
 #[tactic(auto, unfolding(crate::specs::Grammar::keyed_of))]
-fn keyed_in(word: &[u8], words: Option<&[u8]>) -> Option<Command<u64, u64>>
-    ensures { result ≡ keyed_of word.entry.now (words_left words.entry) }
+fn keyed_in(word: &[u8], side: Side, words: Option<&[u8]>) -> Option<Command<u64, u64>>
+    ensures { result ≡ keyed_of word.entry.now side (words_left words.entry) }
 {
-    match with_key_in(word, words) {
-        Some(command) => Some(command),
-        None => with_pair_in(word, words),
+    let (key, words) = next_number(words)?;
+    match on_key_in(word, side, key) {
+        Some(command) => at_line_end(command, words),
+        None => valued_in(word, side, key, words),
     }
 }
 
-// The words after such a word are a map.
-#[tactic(auto, unfolding(crate::specs::Grammar::with_map_of))]
-fn with_map_in(word: &[u8], words: Option<&[u8]>) -> Option<Command<u64, u64>>
-    ensures { result ≡ with_map_of word.entry.now (words_left words.entry) }
+// The words after a map and a key are a value.
+#[tactic(auto, unfolding(crate::specs::Grammar::valued_of))]
+fn valued_in(word: &[u8], side: Side, key: u64, words: Option<&[u8]>) -> Option<Command<u64, u64>>
+    ensures { result ≡ valued_of word.entry.now side key (words_left words.entry) }
 {
-    let (side, words) = next_map(words)?;
-    at_line_end(on_map_in(word, side)?, words)
-}
-
-// The words after such a word are a map and a key.
-#[tactic(auto, unfolding(crate::specs::Grammar::with_key_of))]
-fn with_key_in(word: &[u8], words: Option<&[u8]>) -> Option<Command<u64, u64>>
-    ensures { result ≡ with_key_of word.entry.now (words_left words.entry) }
-{
-    let (side, words) = next_map(words)?;
-    let (key, words) = next_number(words)?;
-    at_line_end(on_key_in(word, side, key)?, words)
-}
-
-// The words after such a word are a map, a key and a value.
-#[tactic(auto, unfolding(crate::specs::Grammar::with_pair_of))]
-fn with_pair_in(word: &[u8], words: Option<&[u8]>) -> Option<Command<u64, u64>>
-    ensures { result ≡ with_pair_of word.entry.now (words_left words.entry) }
-{
-    let (side, words) = next_map(words)?;
-    let (key, words) = next_number(words)?;
     let (value, words) = next_number(words)?;
     at_line_end(on_pair_in(word, side, key, value)?, words)
 }
@@ -409,22 +392,21 @@ fn end_in(letter: u8) -> Option<End>
     }
 }
 
-// Whether a word is this text.
+// Whether a word is this text. Of most words the length tells that they are not.
+#[inline(always)]
 pub(crate) fn is_word(word: &[u8], text: &[u8]) -> bool
     ensures { result ≡ is_text word.now text.now }
 {
-    word == text
+    word.len() == text.len() && word == text
 }
 
 fn map_in(word: &[u8]) -> Option<Side>
     ensures { result ≡ map_of word.now }
 {
-    if is_word(word, b"a") {
-        Some(Side::First)
-    } else if is_word(word, b"b") {
-        Some(Side::Second)
-    } else {
-        None
+    match word {
+        b"a" => Some(Side::First),
+        b"b" => Some(Side::Second),
+        _ => None,
     }
 }
 

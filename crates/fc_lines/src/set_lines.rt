@@ -12,7 +12,7 @@ ghost use Rattle.fc_lines.specs.Grammar.{
   with_set,
   with_set_and_item,
   set_of_word,
-  set_and_item_of_word,
+  set_and_item_of,
   keep_of,
   walk_items_of,
   extend_items_of,
@@ -23,8 +23,7 @@ ghost use Rattle.fc_lines.specs.Grammar.{
 use crate::command::{Command, SetOp, Side};
 use crate::items::Items;
 use crate::lines::{
-    at_line_end, ends_of_letters, first_word, is_word, next_bound, next_number, next_word,
-    number_in,
+    at_line_end, ends_of_letters, first_word, is_word, next_bound, next_number, next_word, number_in,
 };
 use std::alloc::{AllocError, Global};
 
@@ -52,30 +51,29 @@ pub fn on_sets_in(
 fn plain_in(word: &[u8], words: Option<&[u8]>) -> Option<Command<u64, u64>>
     ensures { result ≡ plain_on_sets_of word.entry.now (words_left words.entry) }
 {
-    if is_word(word, b"keep") {
-        return keep_in(words);
-    }
-    match set_in(word, words) {
-        Some(command) => Some(command),
-        None => set_and_item_in(word, words),
+    match word {
+        b"keep" => keep_in(words),
+        _ => set_in(word, words),
     }
 }
 
-// The words after such a word are a set.
+// The words after such a word are a set, and an item where the word wants one.
 #[tactic(auto, unfolding(crate::specs::Grammar::set_of_word))]
 fn set_in(word: &[u8], words: Option<&[u8]>) -> Option<Command<u64, u64>>
     ensures { result ≡ set_of_word word.entry.now (words_left words.entry) }
 {
     let (side, words) = next_set(words)?;
-    at_line_end(with_set_in(word, side)?, words)
+    match with_set_in(word, side) {
+        Some(command) => at_line_end(command, words),
+        None => set_and_item_in(word, side, words),
+    }
 }
 
-// The words after such a word are a set and an item.
-#[tactic(auto, unfolding(crate::specs::Grammar::set_and_item_of_word))]
-fn set_and_item_in(word: &[u8], words: Option<&[u8]>) -> Option<Command<u64, u64>>
-    ensures { result ≡ set_and_item_of_word word.entry.now (words_left words.entry) }
+// The words after a set are an item.
+#[tactic(auto, unfolding(crate::specs::Grammar::set_and_item_of))]
+fn set_and_item_in(word: &[u8], side: Side, words: Option<&[u8]>) -> Option<Command<u64, u64>>
+    ensures { result ≡ set_and_item_of word.entry.now side (words_left words.entry) }
 {
-    let (side, words) = next_set(words)?;
     let (item, words) = next_number(words)?;
     at_line_end(with_set_and_item_in(word, side, item)?, words)
 }
@@ -132,16 +130,12 @@ fn with_set_and_item_in(word: &[u8], side: Side, item: u64) -> Option<Command<u6
 fn op_in(word: &[u8]) -> Option<SetOp>
     ensures { result ≡ op_of word.entry.now }
 {
-    if is_word(word, b"diff") {
-        Some(SetOp::Difference)
-    } else if is_word(word, b"sym") {
-        Some(SetOp::SymmetricDifference)
-    } else if is_word(word, b"inter") {
-        Some(SetOp::Intersection)
-    } else if is_word(word, b"union") {
-        Some(SetOp::Union)
-    } else {
-        None
+    match word {
+        b"diff" => Some(SetOp::Difference),
+        b"sym" => Some(SetOp::SymmetricDifference),
+        b"inter" => Some(SetOp::Intersection),
+        b"union" => Some(SetOp::Union),
+        _ => None,
     }
 }
 

@@ -1,3 +1,4 @@
 pub mod Digits
 pub mod SpineFacts
 pub mod Builders
+pub mod Ends

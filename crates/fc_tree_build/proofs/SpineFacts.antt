@@ -1,5 +1,9 @@
 -- A spine with a node at its end.
-use Rattle.std.proofs.Common.{◌≡◌, ℕ, zero, suc, ◌+◌, ◌-◌, ◌*◌, ◌^◌, ◌<◌, ◌≤◌, List, [], ◌∷◌, ◌++◌, length, refl, sym, ap, ◌∙◌, subst, arith, Box, append_assoc, length-append, pow-suc}
+use Rattle.std.proofs.Common.{◌≡◌, ℕ, suc, ◌+◌, ◌*◌, ◌^◌, ◌<◌, ◌≤◌, ◌⊎◌, inl, inr, true, false, List, [], ◌∷◌, ◌++◌, length, refl, sym, ap, ◌∙◌, subst, arith, add-one, lit<, Box, append_assoc, length-append, pow-suc}
+use Rattle.std.specs.Prelude.{nat_le, if◌then◌else◌}
+use Rattle.std.proofs.lemmas.Bool.{cases_lt}
+use Rattle.std.proofs.lemmas.Bool.Decides.{leb_tells}
+use Rattle.std.proofs.Math.Nat.{pow-le-pow_right}
 use Rattle.std.specs.declared.alloc.Global.{Global}
 use Rattle.std.specs.List.{AllByRecursion}
 use Rattle.fc_base.specs.Sizes.{capacity, most_children}
@@ -10,7 +14,35 @@ use Rattle.fc_tree_node.proofs.Lists.{all_both, all_front, all_back}
 use Rattle.fc_tree_drain.specs.Opened.{before_back_in, before_back}
 use Rattle.fc_tree_drain.proofs.Opening.{back_last, whole_back, back_push, empty_back}
 use Rattle.fc_tree_build.specs.Spine.{IsOpenEnd, level_above, IsSpine}
-use Rattle.fc_tree_build.specs.Spares.{own_count, digits_after, worth, IsEnough}
+use Rattle.fc_tree_build.specs.Spares.{own_count, digits_after, worth, needed_after, needed, IsEnough}
+
+-- what one more node makes of how many are needed
+needed_one : (a k : ℕ) → ((capacity ≤ k) × ((if nat_le capacity k then suc a else 0) ≡ suc a)) ⊎ ((k < capacity) × ((if nat_le capacity k then suc a else 0) ≡ 0))
+needed_one a k = within (leb_tells capacity k)
+  where
+    within : ((nat_le capacity k ≡ true) × (capacity ≤ k)) ⊎ ((nat_le capacity k ≡ false) × (k < capacity)) → ((capacity ≤ k) × ((if nat_le capacity k then suc a else 0) ≡ suc a)) ⊎ ((k < capacity) × ((if nat_le capacity k then suc a else 0) ≡ 0))
+    within (inl w) = inl (w.1, ap (λ f. if f then suc a else 0) w.0)
+    within (inr w) = inr (w.1, ap (λ f. if f then suc a else 0) w.0)
+
+-- Of l nodes as many are full as are needed, and as their pairs and their digits show; or all of them are, and there is a new root.
+abbrev IsTally : ℕ → ℕ → ℕ → ℕ → Type 0
+IsTally a w n l = ((a ≡ l + 1) × (most_children ^ l ≤ w + 1) × (capacity * l ≤ n)) ⊎ ((a ≤ l) × (capacity * a ≤ n))
+
+tally_more : (a w n l k : ℕ) → IsTally a w n l → IsTally (if nat_le capacity k then suc a else 0) (most_children * w + k) (n + k) (l + 1)
+tally_more a w n l k t = within (needed_one a k) t
+  where
+    within : ((capacity ≤ k) × ((if nat_le capacity k then suc a else 0) ≡ suc a)) ⊎ ((k < capacity) × ((if nat_le capacity k then suc a else 0) ≡ 0)) → IsTally a w n l → IsTally (if nat_le capacity k then suc a else 0) (most_children * w + k) (n + k) (l + 1)
+    within (inl f) (inl t) =
+        let full = f.0 in
+        let is = f.1 in
+        let all = t.0 in
+        let many = t.1 in
+        let pairs = t.2 in
+        let more = pow-suc most_children l in
+        let next : most_children ^ (l + 1) ≡ most_children ^ suc l = ap (λ j. most_children ^ j) (add-one l) in
+        inl (omega arith, omega arith, omega arith)
+    within (inl f) (inr t) = let full = f.0 in let is = f.1 in let few = t.0 in let pairs = t.1 in inr (omega arith, omega arith)
+    within (inr f) t = let is = f.1 in inr (omega arith, omega arith)
 
 module _ {K V : Type 0} where
   level_push : (h : ℕ) (s : List (Box (Node K V) Global)) (b : Box (Node K V) Global) → level_above h (s ++ b ∷ []) ≡ level_above (suc h) s
@@ -134,31 +166,48 @@ module _ {K V : Type 0} where
 
   -- ---- spare nodes
 
-  pub enough_some : (d i : ℕ) (s : List (Box (Node K V) Global)) → IsEnough d i 1 s → 0 < length s + i
-  enough_some zero i s e = let w = e.2 in absurd (omega arith)
-  enough_some (suc d) i s e = let w = e.3 in omega arith
+  needed_put : (a : ℕ) (s : List (Box (Node K V) Global)) (b : Box (Node K V) Global) → needed_after a (s ++ b ∷ []) ≡ (if nat_le capacity (length (own_pairs b.value)) then suc (needed_after a s) else 0)
+  needed_put a [] b = refl
+  needed_put a (x ∷ s) b = needed_put (if nat_le capacity (length (own_pairs x.value)) then suc a else 0) s b
 
-  pub enough_deep : (d i : ℕ) (s : List (Box (Node K V) Global)) → IsEnough d i 1 s → 1 ≤ d
-  enough_deep zero i s e = let w = e.2 in absurd (omega arith)
-  enough_deep (suc d) i s e = omega arith
+  pub needed_full : (old s : List (Box (Node K V) Global)) (b : Box (Node K V) Global) → old ≡ s ++ b ∷ [] → capacity ≤ length (own_pairs b.value) → needed old ≡ needed s + 1
+  needed_full old s b e f = ap needed e ∙ needed_put 1 s b ∙ within (needed_one (needed s) (length (own_pairs b.value)))
+    where
+      within : ((capacity ≤ length (own_pairs b.value)) × ((if nat_le capacity (length (own_pairs b.value)) then suc (needed s) else 0) ≡ suc (needed s))) ⊎ ((length (own_pairs b.value) < capacity) × ((if nat_le capacity (length (own_pairs b.value)) then suc (needed s) else 0) ≡ 0)) → (if nat_le capacity (length (own_pairs b.value)) then suc (needed s) else 0) ≡ needed s + 1
+      within (inl w) = w.1 ∙ sym (add-one (needed s))
+      within (inr w) = absurd (let v = w.0 in omega arith)
 
-  -- what is enough once the full last node of s is closed, which leaves it as t
-  pub record IsCarried (d j : ℕ) (t : List (Box (Node K V) Global)) : Type 0 where
-    pub less : ℕ
-    pub deep : d ≡ suc less
-    pub enough : IsEnough less j 1 t
-    pub spare : own_count t + 1 + capacity * d < capacity * (j + length t + 1)
+  pub needed_room : (old s : List (Box (Node K V) Global)) (b : Box (Node K V) Global) → old ≡ s ++ b ∷ [] → length (own_pairs b.value) < capacity → needed old ≡ 0
+  needed_room old s b e f = ap needed e ∙ needed_put 1 s b ∙ within (needed_one (needed s) (length (own_pairs b.value)))
+    where
+      within : ((capacity ≤ length (own_pairs b.value)) × ((if nat_le capacity (length (own_pairs b.value)) then suc (needed s) else 0) ≡ suc (needed s))) ⊎ ((length (own_pairs b.value) < capacity) × ((if nat_le capacity (length (own_pairs b.value)) then suc (needed s) else 0) ≡ 0)) → (if nat_le capacity (length (own_pairs b.value)) then suc (needed s) else 0) ≡ 0
+      within (inl w) = absurd (let v = w.0 in omega arith)
+      within (inr w) = w.1
 
-  pub carried : (d i j : ℕ) (s t : List (Box (Node K V) Global)) (k : ℕ) → IsEnough d i 1 s → worth s ≡ most_children * worth t + k → own_count s ≡ own_count t + k → i + length s ≡ j + length t + 1 → length t ≡ length s - 1 → capacity ≤ k → IsCarried d j t
-  carried zero i j s t k e w c n l f = let x = e.2 in absurd (omega arith)
-  carried (suc d) i j s t k e w c n l f =
-      let x = e.0 in
-      let y = e.1 in
-      let z : worth s + 1 < most_children ^ suc d = e.2 in
-      let v = e.3 in
-      let more = pow-suc most_children d in
-      let fewer : worth t + 1 < most_children ^ d = omega arith in
-      record { less = d; deep = refl; enough = (omega arith, omega arith, fewer, omega arith); spare = omega arith }
+  pub some_needed : (s : List (Box (Node K V) Global)) → 0 < length s + needed s
+  some_needed [] = omega arith
+  some_needed (b ∷ s) = omega arith
+
+  tally : (a w n l : ℕ) (s : List (Box (Node K V) Global)) → IsTally a w n l → IsTally (needed_after a s) (digits_after w s) (n + own_count s) (l + length s)
+  tally a w n l [] t = subst (λ j. IsTally a w j (l + 0)) (let e : n ≡ n + 0 = omega arith in e) (subst (λ j. IsTally a w n j) (let e : l ≡ l + 0 = omega arith in e) t)
+  tally a w n l (b ∷ s) t =
+      let k = length (own_pairs b.value) in
+      let more = tally (if nat_le capacity k then suc a else 0) (most_children * w + k) (n + k) (l + 1) s (tally_more a w n l k t) in
+      let e : n + k + own_count s ≡ n + (k + own_count s) = omega arith in
+      let f : l + 1 + length s ≡ l + suc (length s) = omega arith in
+      subst (λ j. IsTally (needed_after a (b ∷ s)) (digits_after w (b ∷ s)) j (l + suc (length s))) e (subst (λ j. IsTally (needed_after a (b ∷ s)) (digits_after w (b ∷ s)) (n + k + own_count s) j) f more)
+
+  pub enough_needed : (d i : ℕ) (s : List (Box (Node K V) Global)) → IsEnough d i 1 s → (needed s ≤ i) × (needed s ≤ d)
+  enough_needed d i s e = within (tally 1 0 0 0 s (inl (omega arith, omega arith, omega arith))) (cases_lt (length s) d)
+    where
+      within : IsTally (needed s) (worth s) (0 + own_count s) (0 + length s) → (length s < d) ⊎ (d ≤ length s) → (needed s ≤ i) × (needed s ≤ d)
+      within (inr t) o = let a = t.0 in let b = t.1 in let l = e.0 in let n = e.3 in (omega arith, omega arith)
+      within (inl t) (inl o) = let a = t.0 in let b = t.2 in let n = e.3 in (omega arith, omega arith)
+      within (inl t) (inr o) =
+          let many : most_children ^ (0 + length s) ≤ worth s + 1 = t.1 in
+          let less : worth s + 1 < most_children ^ d = e.2 in
+          let big : most_children ^ d ≤ most_children ^ (0 + length s) = pow-le-pow_right (lit< tt) (omega arith) in
+          absurd (omega arith)
 
   pub not_blank : (s : List (Box (Node K V) Global)) (n : Node K V) → (length s ≡ 0 → own_pairs n ≡ []) → capacity ≤ length (own_pairs n) → 0 < length s
   not_blank [] n f h = absurd (let e = ap length (f refl) in omega arith)

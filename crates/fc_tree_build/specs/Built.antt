@@ -3,7 +3,7 @@ use Rattle.std.specs.Prelude.{◌≡◌, ℕ, ◌+◌, ◌*◌, ◌≤◌, List,
 use Rattle.std.specs.List.{AllByRecursion}
 use Rattle.std.specs.declared.boxed.Box.{Box}
 use Rattle.std.specs.declared.alloc.Global.{Global}
-use Rattle.fc_base.specs.Sizes.{capacity, most_children}
+use Rattle.fc_base.specs.Sizes.{capacity, most_children, most_height}
 use Rattle.fc_tree_node.specs.declared.node.Node.{Node}
 use Rattle.fc_tree_node.specs.Node.{own_pairs, IsLeaf, IsBlankLeaf, IsBlankInner}
 use Rattle.fc_tree_drain.specs.Opened.{before_back}
@@ -25,6 +25,15 @@ module _ {K V : Type 0} where
   -- The pairs and the room of a builder.
   abbrev pub built : Inside K V → Built K V
   built b = record { pairs = before_back b.spine ++ last_pairs b.last; room = b.room }
+
+  -- The pairs of a tree that grows.
+  abbrev pub grown : List (Box (Node K V) Global) → Option (Box (Node K V) Global) → List (K × V)
+  grown s last = before_back s ++ last_pairs last
+
+  -- The tree so far stands above the last leaf and is not too high. With no leaf there is nothing else.
+  abbrev pub IsGrown : List (Box (Node K V) Global) → Option (Box (Node K V) Global) → Type 0
+  IsGrown s None = s ≡ []
+  IsGrown s (Some leaf) = (length (own_pairs leaf.value) ≤ capacity) × IsLeaf leaf.value × IsSpine 0 s × (length s ≤ most_height)
 
   -- The last leaf and so many spare ones have room for so many more pairs and one between each two leaves. With no leaf there is
   -- no room and nothing else.

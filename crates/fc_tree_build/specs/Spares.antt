@@ -1,5 +1,5 @@
 -- How many nodes are enough for a tree that grows at its right end.
-use Rattle.std.specs.Prelude.{◌≡◌, ℕ, zero, suc, ◌+◌, ◌*◌, ◌/◌, ◌^◌, ◌<◌, ◌≤◌, List, [], ◌∷◌, length}
+use Rattle.std.specs.Prelude.{◌≡◌, ℕ, zero, suc, ◌+◌, ◌*◌, ◌/◌, ◌^◌, ◌<◌, ◌≤◌, List, [], ◌∷◌, length, nat_le, if◌then◌else◌}
 use Rattle.std.specs.declared.boxed.Box.{Box}
 use Rattle.std.specs.declared.alloc.Global.{Global}
 use Rattle.fc_base.specs.Sizes.{capacity, most_children, most_height}
@@ -31,6 +31,16 @@ module _ {K V : Type 0} where
   -- The numbers of the nodes' own pairs as the digits of a number.
   abbrev pub worth : List (Box (Node K V) Global) → ℕ
   worth s = digits_after 0 s
+
+  -- How many inner nodes one more subtree at the spine's end takes, where one above these nodes takes so many: a blank one for each of
+  -- the full nodes at the end, and one for a new root where there is none with room.
+  abbrev pub needed_after : ℕ → List (Box (Node K V) Global) → ℕ
+  needed_after a [] = a
+  needed_after a (b ∷ s) = needed_after (if nat_le capacity (length (own_pairs b.value)) then suc a else 0) s
+
+  -- How many inner nodes one more subtree at the spine's end takes.
+  abbrev pub needed : List (Box (Node K V) Global) → ℕ
+  needed s = needed_after 1 s
 
   -- With so many spare nodes, so many more subtrees can be put at the spine's end, and it then has at most d nodes: the pairs that
   -- they bring fill nodes, and what is left of them fills none.

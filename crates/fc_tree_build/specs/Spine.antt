@@ -1,5 +1,6 @@
 -- The right spine of a tree that grows at its right end.
-use Rattle.std.specs.Prelude.{◌≡◌, ℕ, suc, ◌≤◌, List, [], ◌∷◌, length}
+use Rattle.std.specs.Prelude.{◌≡◌, ℕ, suc, ◌≤◌, List, [], ◌∷◌, ◌++◌, length, Option, Some, None}
+use Rattle.std.specs.Borrow.{Bor}
 use Rattle.std.specs.List.{AllByRecursion}
 use Rattle.std.specs.declared.boxed.Box.{Box}
 use Rattle.std.specs.declared.alloc.Global.{Global}
@@ -21,3 +22,8 @@ module _ {K V : Type 0} where
   abbrev pub IsSpine : ℕ → List (Box (Node K V) Global) → Type 0
   IsSpine h [] = Unit {0}
   IsSpine h (b ∷ s) = IsOpenEnd (level_above h s) b.value × IsSpine h s
+
+  -- The pair is the last of the list; none where the list has none.
+  abbrev pub IsLastPair : List (K × V) → Option (Bor (K × V)) → Type 0
+  IsLastPair s None = s ≡ []
+  IsLastPair s (Some last) = (front : List (K × V)) × (s ≡ front ++ last.now ∷ [])

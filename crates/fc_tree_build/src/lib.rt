@@ -2,5 +2,6 @@
 #![tactic(auto)]
 
 pub mod builder;
+pub mod growing;
 pub mod spares;
 pub mod spine;

@@ -1,12 +1,12 @@
 //! The right spine of a tree that grows at its right end.
 ghost use Rattle.std.specs.Prelude.{◌≡◌, ℕ, suc, ◌+◌, ◌-◌, ◌*◌, ◌<◌, ◌≤◌, ◌↔◌, [], ◌∷◌, ◌++◌, length};
 ghost use Rattle.std.specs.List.{AllByRecursion};
-ghost use Rattle.fc_base.specs.Sizes.{capacity, most_children};
-ghost use Rattle.fc_tree_node.specs.Node.{own_pairs, children_of, pairs_of, IsLeaf, IsSound, IsBlankInner};
+ghost use Rattle.fc_base.specs.Sizes.{capacity, most_children, most_height, most_levels};
+ghost use Rattle.fc_tree_node.specs.Node.{own_pairs, children_of, pairs_of, IsLeaf, IsSound, IsSoundRoot, IsBlankInner};
 ghost use Rattle.fc_tree_node.specs.Bordered.{IsRightBordered};
 ghost use Rattle.fc_tree_drain.specs.Opened.{before_back_in, before_back};
-ghost use Rattle.fc_tree_build.specs.Spine.{IsOpenEnd, IsSpine, level_above};
-ghost use Rattle.fc_tree_build.specs.Spares.{own_count, worth, IsEnough};
+ghost use Rattle.fc_tree_build.specs.Spine.{IsLastPair, IsOpenEnd, IsSpine, level_above};
+ghost use Rattle.fc_tree_build.specs.Spares.{own_count, worth, needed};
 
 use crate::spares::take_spare;
 use fc_base::Count;
@@ -27,13 +27,15 @@ pub fn attach<K: Drop, V: Drop>(
 )
     requires levels { (h : ℕ) × IsSpine h spine.old × IsSound h subtree.value }
     requires blank { AllByRecursion (λ b. IsBlankInner b.value) spares.old.items }
-    requires enough { (d : ℕ) × IsEnough d (length spares.old.items) 1 spine.old }
+    requires enough { needed spine.old ≤ length spares.old.items }
+    requires low { (d : ℕ) × (d ≤ most_levels) × (length spine.old ≤ d) × (needed spine.old ≤ d) }
     ensures pairs { before_back spine.new ≡ before_back spine.old ++ (pairs_of subtree.value ++ pair ∷ []) }
     ensures levels { (h : ℕ) → IsSpine h spine.old → IsSound h subtree.value → IsSpine h spine.new }
     ensures blank { AllByRecursion (λ b. IsBlankInner b.value) spares.new.items }
     ensures worth { worth spine.new ≡ worth spine.old + 1 }
     ensures left { capacity * (length spares.new.items + length spine.new) + own_count spine.old + 1 ≡ capacity * (length spares.old.items + length spine.old) + own_count spine.new }
-    ensures short { (d : ℕ) → IsEnough d (length spares.old.items) 1 spine.old → length spine.new ≤ d }
+    ensures used { length spares.old.items ≤ length spares.new.items + needed spine.old }
+    ensures short { (d : ℕ) → length spine.old ≤ d → needed spine.old ≤ d → length spine.new ≤ d }
 {
     let mut node = open_end(spine, spares);
     put_child(&mut node, subtree);
@@ -60,6 +62,55 @@ pub fn close<K: Drop, V: Drop>(spine: &mut Spine<K, V>, last: Box<Node<K, V>>) -
     close(spine, node)
 }
 
+/// How many inner nodes one more subtree at the spine's end takes.
+pub(crate) fn needed<K, V>(spine: &Spine<K, V>) -> usize
+    ensures { result ≡ needed spine.now }
+{
+    let mut count = 1;
+    for i in 0..spine.len() {
+        if spine.get(i).len() < CAPACITY {
+            count = 0;
+        } else {
+            count += 1;
+        }
+    }
+    count
+}
+
+/// The last of the pairs in the spine's nodes; none where they hold no pair.
+pub(crate) fn last_of<K, V>(spine: &Spine<K, V>) -> Option<&(K, V)>
+    requires { (h : ℕ) × IsSpine h spine.now }
+    ensures { IsLastPair (before_back spine.now) result }
+{
+    let mut last = None;
+    for i in 0..spine.len() {
+        let node = spine.get(i);
+        if node.len() > 0 {
+            last = Some(node.pair(node.len() - 1));
+        }
+    }
+    last
+}
+
+/// Goes down to the last leaf, which it answers, and puts each node on the way at the spine's end, without its last child.
+pub(crate) fn open_right<K: Drop, V: Drop>(
+    spine: &mut Spine<K, V>,
+    node: Box<Node<K, V>>,
+) -> Box<Node<K, V>>
+    requires levels { (h : ℕ) × IsSoundRoot h node.value × IsSpine h spine.old × (length spine.old + h ≤ most_height) }
+    ensures pairs { before_back spine.new ++ own_pairs result.value ≡ before_back spine.old ++ pairs_of node.value }
+    ensures leaf { (length (own_pairs result.value) ≤ capacity) × IsLeaf result.value }
+    ensures levels { IsSpine 0 spine.new × (length spine.new ≤ most_height) }
+{
+    let mut node = node;
+    if node.child_count() == 0 {
+        return node;
+    }
+    let child = node.take_last_child();
+    spine.push(node);
+    open_right(spine, child)
+}
+
 // Takes the spine's last node out, or a blank one where it has none.
 fn open_end<K: Drop, V: Drop>(
     spine: &mut Spine<K, V>,
@@ -75,6 +126,9 @@ fn open_end<K: Drop, V: Drop>(
     ensures nodes { length spares.old.items + length spine.old ≡ length spares.new.items + length spine.new + 1 }
     ensures shorter { length spine.new ≡ length spine.old - 1 }
     ensures new_root { length spine.old ≡ 0 → own_pairs result.value ≡ [] }
+    ensures full { 0 < length spine.old → capacity ≤ length (own_pairs result.value) → needed spine.old ≡ needed spine.new + 1 }
+    ensures used { length spares.old.items ≤ length spares.new.items + needed spine.old }
+    ensures kept { 0 < length spine.old → spares.new ≡ spares.old }
 {
     if spine.len() == 0 {
         return take_spare(spares);

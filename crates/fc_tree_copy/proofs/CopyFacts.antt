@@ -1,9 +1,7 @@
 -- A copy of a tree, made of copies of its parts.
 use Rattle.std.proofs.Common.{◌≡◌, ℕ, zero, suc, ◌+◌, ◌<◌, ◌≤◌, List, [], ◌∷◌, ◌++◌, length, map, take, get_or, sym, ap, ◌∙◌, subst, inl, inr, arith}
 use Rattle.std.specs.List.{All, Any, AllZip, AllByRecursion}
-use Rattle.std.specs.List.{insert}
 use Rattle.std.proofs.lemmas.List.{get_or_default, take_all, length-take-le, length-map}
-use Rattle.std.proofs.lemmas.List.Edits.{insert_end}
 use Rattle.std.proofs.lemmas.List.Elements.{length_all_zip, all_zip_more, All-from_recursion, recursion_from_All}
 use Rattle.fc_base.specs.Sizes.{min_len}
 use Rattle.fc_tree_node.specs.Weave.{after_list, weave}
@@ -41,11 +39,8 @@ module _ {X : Type 0} (R : X → X → Type 0) where
   many_copied i xs ys h a = sym (length_all_zip R (take i xs) ys a) ∙ length-take-le i xs h
 
   -- One more item was copied, and its copy put after the others.
-  pub one_copied : (i : ℕ) (xs ys zs : List X) (x y : X) → i < length xs → x ≡ get_or xs i x → AllZip R (take i xs) ys → R x y → zs ≡ insert ys i y → AllZip R (take (i + 1) xs) zs
-  one_copied i xs ys zs x y h e a r is =
-      let many = many_copied i xs ys (omega arith) a in
-      let after_list : zs ≡ ys ++ y ∷ [] = is ∙ ap (λ j. insert ys j y) (sym many) ∙ insert_end ys y in
-      subst (AllZip R (take (i + 1) xs)) (sym after_list) (all_zip_more R xs ys i x y h e a r)
+  pub one_copied : (i : ℕ) (xs ys zs : List X) (x y : X) → i < length xs → x ≡ get_or xs i x → AllZip R (take i xs) ys → R x y → zs ≡ ys ++ y ∷ [] → AllZip R (take (i + 1) xs) zs
+  one_copied i xs ys zs x y h e a r is = subst (AllZip R (take (i + 1) xs)) (sym is) (all_zip_more R xs ys i x y h e a r)
 
   -- All items were copied.
   pub all_copied : (i : ℕ) (xs ys : List X) → i ≡ length xs → AllZip R (take i xs) ys → AllZip R xs ys

@@ -66,7 +66,7 @@ fn try_copy_pairs<K: TryClone, V: TryClone>(
     let mut copies = Slots::try_new(alloc)?;
     for i in 0..pairs.len() {
         let pair = try_copy_pair(pairs.get(i))?;
-        copies.insert(i, pair, &mut Count::new());
+        copies.push(pair, &mut Count::new());
     }
     Ok(copies)
 }
@@ -94,5 +94,5 @@ fn push_child<K: Drop, V: Drop>(node: &mut Node<K, V>, child: Box<Node<K, V>>)
     let Some(children) = &mut node.children else {
         unreachable!()
     };
-    children.insert(children.len(), child);
+    children.push(child);
 }

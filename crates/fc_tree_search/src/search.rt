@@ -44,8 +44,45 @@ pub struct NotFound {
 }
 
 /// Fills `path`, which has no step yet, with the way down the tree at `root` to where the key stands: `Ok` where it leads to the
-/// pair that has an equal key, or `Err` where it leads to the gap between the pairs of a leaf where the key would go. It compares
-/// each key that it passes once, and moves no pair.
+/// pair that has an equal key, or `Err` where it leads to the gap between the pairs of a leaf where the key would go; with the node
+/// of that pair or gap. It compares each key that it passes once, and moves no pair.
+pub fn descend<'a, K: Ord, V, Q: Query<K>>(
+    root: &'a Node<K, V>,
+    key: Q,
+    path: &mut Path,
+    count: &mut Count,
+) -> Result<&'a Node<K, V>, &'a Node<K, V>>
+    requires levels { IsTree root.now }
+    requires order { IsAscending K.cmp (pairs_of root.now) }
+    requires start { path.old ≡ [] }
+    ensures found { OnOk result (IsFound Q.order (Q.sought key) root.now path.new) }
+    ensures gap { OnErr result (IsGap Q.order (Q.sought key) root.now path.new) }
+    ensures node { IfOk result (λ n. n.now ≡ leaf_at path.new root.now) }
+    ensures leaf { IfErr result (λ n. n.now ≡ leaf_at path.new root.now) }
+    ensures path { path.new ≡ path_to Q.order (Q.sought key) root.now }
+    ensures comparisons { count.new.comparisons ≡ count.old.comparisons + passed Q.order (Q.sought key) root.now }
+    ensures bounded { (h : ℕ) → IsLevelled h root.now → count.new.comparisons ≤ count.old.comparisons + level_comparisons * (h + 1) }
+    ensures moves { count.new.moves ≡ count.old.moves }
+{
+    let mut node = root;
+    'down: loop {
+        match search_node(node, key, count) {
+            Ok(i) => {
+                path.push(i);
+                return Ok(node);
+            }
+            Err(i) => {
+                path.push(i);
+                if node.is_leaf() {
+                    return Err(node);
+                }
+                node = node.child(i);
+            }
+        }
+    }
+}
+
+/// The same, of which the gap's leaf tells only what an insertion has to know.
 pub fn search<K: Ord, V, Q: Query<K>>(
     root: &Node<K, V>,
     key: Q,
@@ -63,21 +100,11 @@ pub fn search<K: Ord, V, Q: Query<K>>(
     ensures bounded { (h : ℕ) → IsLevelled h root.now → count.new.comparisons ≤ count.old.comparisons + level_comparisons * (h + 1) }
     ensures moves { count.new.moves ≡ count.old.moves }
 {
-    let mut node = root;
-    'down: loop {
-        match search_node(node, key, count) {
-            Ok(i) => {
-                path.push(i);
-                return Ok(());
-            }
-            Err(i) => {
-                path.push(i);
-                if node.is_leaf() {
-                    let has_room = node.len() < CAPACITY;
-                    return Err(NotFound { has_room });
-                }
-                node = node.child(i);
-            }
+    match descend(root, key, path, count) {
+        Ok(_holder) => Ok(()),
+        Err(leaf) => {
+            let has_room = leaf.len() < CAPACITY;
+            Err(NotFound { has_room })
         }
     }
 }

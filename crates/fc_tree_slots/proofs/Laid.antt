@@ -73,6 +73,11 @@ module _ {X : Type 0} where
       let is : ds ≡ row (ys ++ x ∷ []) 0 zs m = f ∙ ap (λ l. set l i (Some x)) e ∙ set_first ys 0 zs m i x (omega (arith, length-take i xs)) in
       packed ds (ys ++ x ∷ zs) 0 m k n (is ∙ sym (row_cut (ys ++ x ∷ []) zs m) ∙ (λ j. row (append_assoc ys (x ∷ []) zs j) 0 [] m)) (omega (arith, length-append ys (x ∷ zs), length-take i xs, length-drop i xs)) (omega arith)
 
+  -- an item is put after the last
+  pub put_last : (xs : List X) (m k n : ℕ) (cs ds : List (Option X)) (x : X) → cs ≡ row xs 1 [] m → ds ≡ set cs (length xs) (Some x) → k ≡ length xs + 1 → n ≡ k + m → IsPacked ds k n × (present ds ≡ xs ++ x ∷ [])
+  put_last xs m k n cs ds x e f long whole =
+      packed ds (xs ++ x ∷ []) 0 m k n (f ∙ ap (λ l. set l (length xs) (Some x)) e ∙ set_first xs 0 [] m (length xs) x refl) (omega (arith, length-append xs (x ∷ []))) (omega arith)
+
   pub all_items : (xs : List X) (m : ℕ) (cs : List (Option X)) (k : ℕ) → cs ≡ row xs 0 [] m → k ≡ length xs → take k cs ≡ map Some xs
   all_items xs m cs k e long = ap (take k) e ∙ take_at (map Some xs) (map Some [] ++ replicate m None) k (length-map xs Some ∙ sym long)
 

@@ -10,13 +10,15 @@ use base.Stored.{Gv}
 use denote.Laws.{Is, shows}
 use denote.Memory.{mem, cell_at, hidden_shr, part_at, part_of}
 use denote.Opens.{shr_dup, Shut}
-use denote.RawPtr.{RawPtr, ptr_row_laws}
+use denote.RawPtr.{RawPtr, null_ptr, ptr_row_laws}
 use denote.Shadow.{pure_i}
 use denote.Steps.{peeks}
 use denote.Struct.Lending.{lent_out}
 use denote.Struct.Owning.{shape}
 use denote.Struct.Struct.{Struct, Struct-row_laws}
+use lib.Dec.{T, lit<}
 use mir.Syntax.{ty_ptr}
+use mir.Val.{has_ty, WT}
 use types.Kit.{Soaks}
 use types.Mut.{close_ref}
 use Rattle.std.specs.Mem.{type_size}
@@ -26,6 +28,11 @@ use Rattle.fc_tree_slots.specs.Ownership.{place, row_lent}
 use Rattle.fc_tree_slots.specs.declared.raw.Row.{Row}
 use Rattle.fc_tree_slots.specs.contracts.raw.Row as P
 use Rattle.fc_tree_slots.proofs.Memory.{Rest, reach, rejoin}
+
+-- A pointer is a value of its type.
+pub pointer_typed : (p : Ptr) → T (has_ty ty_ptr (ptr_val p)) × WT (ptr_val p)
+pointer_typed null_ptr = (tt, record { fits = lit< tt })
+pointer_typed (block_ptr b o) = (tt, tt)
 
 module _ (E : El) where
   abbrev pub Pr : RattleType

@@ -8,6 +8,8 @@ use std::alloc::{AllocError, Global};
 use std::marker::Model;
 use std_alloc::room::may_hold;
 
+mod moves;
+
 /// A row of cells in a block of memory of their own.
 pub struct Cells<T> {
     row: Row<T>,

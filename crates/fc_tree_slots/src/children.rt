@@ -11,6 +11,8 @@ use fc_base::Count;
 use std::alloc::{AllocError, Global};
 use std::marker::Model;
 
+mod push;
+
 /// The most children of a node.
 pub const MAX_CHILDREN: usize = 16;
 

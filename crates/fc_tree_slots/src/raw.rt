@@ -10,6 +10,8 @@ use std::marker::{Model, Send, Sync};
 use std::mem::{align_of, size_of};
 use std::slice;
 
+mod at_start;
+
 /// A row of places, each empty or holding an item, with the right to give their room back.
 pub struct Row<T> {
     start: *mut T,
@@ -81,7 +83,8 @@ impl<T> Row<T> {
         requires { IsPresent self.old.held index }
         ensures { (get_or self.old.held index None ≡ Some result) × (self.new.held ≡ slice_set self.old.held index None) }
     {
-        unsafe { self.start.add(index).read() }
+        let start = self.start();
+        self.take_from(start, index)
     }
 
     /// Moves `item` into the place at `index`, which is empty.
@@ -89,7 +92,8 @@ impl<T> Row<T> {
         requires { (index < length self.old.held) × (get_or self.old.held index None ≡ None) }
         ensures { self.new.held ≡ slice_set self.old.held index (Some item) }
     {
-        unsafe { self.start.add(index).write(item) }
+        let start = self.start();
+        self.set_from(start, index, item)
     }
 
     /// The items in the first `len` places.

@@ -13,6 +13,7 @@ use std::alloc::{AllocError, Global};
 use std::marker::Model;
 
 mod into_rest;
+mod push;
 
 /// At most `N` items, in order. Only `try_new` takes memory.
 ///
@@ -202,10 +203,7 @@ fn shift_down<T>(cells: &mut Cells<T>, from: usize, by: usize, end: usize, count
     ensures moves { count.new.moves ≡ count.old.moves + (end - from) }
     ensures comparisons { count.new.comparisons ≡ count.old.comparisons }
 {
-    for i in from..end {
-        let item = cells.take(i);
-        cells.set(i - by, item, count);
-    }
+    cells.shift_down(from, by, end, count);
 }
 
 // Moves the items from `from` on up by `by` cells, which are empty, so that they reach up to `end`.
@@ -216,10 +214,7 @@ fn shift_up<T>(cells: &mut Cells<T>, from: usize, by: usize, end: usize, count: 
     ensures moves { count.new.moves ≡ count.old.moves + (end - by - from) }
     ensures comparisons { count.new.comparisons ≡ count.old.comparisons }
 {
-    for i in (from..end - by).rev() {
-        let item = cells.take(i);
-        cells.set(i + by, item, count);
-    }
+    cells.shift_up(from, by, end, count);
 }
 
 // Moves the items from `from` on into the empty cells of another row from `to` to `end`.
@@ -239,8 +234,5 @@ fn carry<T>(
     ensures moves { count.new.moves ≡ count.old.moves + (end - to) }
     ensures comparisons { count.new.comparisons ≡ count.old.comparisons }
 {
-    for i in to..end {
-        let item = source.take(from + (i - to));
-        target.set(i, item, count);
-    }
+    source.carry(from, target, to, end, count);
 }

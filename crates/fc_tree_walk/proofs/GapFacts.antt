@@ -239,7 +239,7 @@ module _ {K V : Type 0} where
   first_gap_child old mid new n c (suc h, l, s) k m is g = goes_child old new 0 h n 0 l (omega arith) (subst (λ d. GoesOn (old ++ 0 ∷ []) new d 0) is (subst (λ m. GoesOn m new c 0) m g))
 
   -- the gap after a pair, on the way down to it
-  next_before : (h : ℕ) (n : Node K V) (i : ℕ) → IsLevelled h n → i < length (own_pairs n) → length (before_child n (i + 1)) ≡ length (before_own n i) + 1
+  pub next_before : (h : ℕ) (n : Node K V) (i : ℕ) → IsLevelled h n → i < length (own_pairs n) → length (before_child n (i + 1)) ≡ length (before_own n i) + 1
   next_before h n i l k = let x = (item_there (own_pairs n) i k).0 in ap (λ j. length (before_child n j)) (add-one i) ∙ ap length (before_child_pair h n i x l k) ∙ length-append (before_own n i) _
 
   pub behind_leaf : (old new : List ℕ) (i : ℕ) (n : Node K V) → (h : ℕ) × IsLevelled h n × (length old + h < most_levels) → i < length (own_pairs n) → length (children_of n) ≤ i + 1 → new ≡ old ++ (i + 1) ∷ [] → GoesOn old new n (length (before_own n i) + 1)

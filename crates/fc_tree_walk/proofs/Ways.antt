@@ -1,9 +1,8 @@
 -- Down the way to a gap, to the lowest node with a pair on one side of it, and to the gap on the other side of that pair.
-use Rattle.std.proofs.Common.{◌≡◌, ℕ, zero, suc, ◌+◌, ◌-◌, ◌<◌, ◌≤◌, List, [], ◌∷◌, ◌++◌, length, take, drop, get_or, slice_get, refl, sym, ap, subst, ◌∙◌, arith, Some, None, ◌⊎◌, inl, inr, length-append, append_assoc}
-use Rattle.std.specs.Prelude.{slice_set, slice_range}
-use Rattle.std.proofs.Math.Seq.{drop-append_seam}
+use Rattle.std.proofs.Common.{◌≡◌, ℕ, zero, suc, ◌+◌, ◌-◌, ◌<◌, ◌≤◌, List, [], ◌∷◌, ◌++◌, length, take, drop, get_or, slice_get, refl, sym, ap, subst, ◌∙◌, arith, Option, Some, None, ◌⊎◌, inl, inr, length-append, append_assoc}
+use Rattle.std.specs.Prelude.{slice_set}
 use Rattle.std.proofs.lemmas.Bool.{cases_lt}
-use Rattle.std.proofs.lemmas.List.{take_more, take_more_set, take_all}
+use Rattle.std.proofs.lemmas.List.{take_more, take_more_set, take-set-le, get_or-set_same, get_or-set_other}
 use Rattle.fc_base.specs.Sizes.{most_levels}
 use Rattle.fc_tree_node.specs.declared.node.Node.{Node}
 use Rattle.fc_tree_node.specs.Leaf.{leaf_at}
@@ -16,9 +15,9 @@ use Rattle.fc_tree_node.specs.TreePlace.{before_gap_in}
 use Rattle.fc_tree_node.proofs.Gaps.{own_pair, before_child_pair, after_none, item_there, step_levels, descent_levels, descent_pairs, node_more, before_more}
 use Rattle.fc_tree_node.proofs.Lists.{length_take, length_set}
 use Rattle.fc_tree_node.proofs.Pairs.{child_below, leaf_children}
-use Rattle.fc_tree_walk.specs.Gap.{GoesOn, IsGapIn, LeadsTo}
+use Rattle.fc_tree_walk.specs.Gap.{GoesOn, IsGapIn, LeadsTo, IsBeside, IsAbove}
 use Rattle.fc_tree_walk.proofs.Slices.{get_seam}
-use Rattle.fc_tree_walk.proofs.GapFacts.{leaf_before_own, inner_length, inner_before, end_leaf, one_height}
+use Rattle.fc_tree_walk.proofs.GapFacts.{leaf_before_own, inner_length, inner_before, end_leaf, one_height, next_before, behind_child, pair_gap_child, first_gap_leaf, last_gap_leaf}
 
 whole : (p : List ℕ) (m : ℕ) → m ≡ length p → take m p ≡ p
 whole [] zero e = refl
@@ -246,13 +245,9 @@ module _ {K V : Type 0} where
   pub same_root : (m : Map K V) (n r : Node K V) → m ≡ Some n → m ≡ Some r → n ≡ r
   same_root m n r a b = let e : Some n ≡ Some r = sym a ∙ b in cc
 
-  leaf_more : (i : ℕ) (path : List ℕ) (n : Node K V) → 0 < length path → leaf_at (i ∷ path) n ≡ leaf_at path (child_at n i)
-  leaf_more i [] n k = absurd (omega arith)
-  leaf_more i (j ∷ path) n k = refl
-
   along : (s path : List ℕ) (h : ℕ) (root : Node K V) → IsLevelled h root → IsDescent s root → IsLeafGap path (node_at s root)
-      → IsLeafGap (s ++ path) root × (length (before_gap (s ++ path) root) ≡ length (before_gap s root) + length (before_gap path (node_at s root))) × (leaf_at (s ++ path) root ≡ leaf_at path (node_at s root))
-  along [] path h root l d w = (w, omega arith, refl)
+      → IsLeafGap (s ++ path) root × (length (before_gap (s ++ path) root) ≡ length (before_gap s root) + length (before_gap path (node_at s root)))
+  along [] path h root l d w = (w, omega arith)
   along (i ∷ s) path h root l d w =
       let t = step_levels h root i l d.0 in
       let c = child_at root i in
@@ -261,36 +256,18 @@ module _ {K V : Type 0} where
       let b = length-append (before_child root i) (before_gap s c) in
       let e = r.1 in
       let u = r.0.1 t.0 t.2 in
-      (((t.3, r.0.0), λ k m. let o = one_height k h root m l in let v = t.1 in omega arith), omega (arith, a, b, e), leaf_more i (s ++ path) root (omega arith) ∙ r.2)
+      (((t.3, r.0.0), λ k m. let o = one_height k h root m l in let v = t.1 in omega arith), omega (arith, a, b, e))
 
   -- The gap that goes on from a node on the way, in the map.
   went : (gap new : List ℕ) (h level count : ℕ) (root n : Node K V) → IsLevelled h root → LeadsTo gap root level n → (g : GoesOn (take level gap) new n count)
-      → IsLeafGap new root × (length (before_gap new root) ≡ length (before_gap (take level gap) root) + count) × (leaf_at g.0 n ≡ leaf_at new root)
+      → IsLeafGap new root × (length (before_gap new root) ≡ length (before_gap (take level gap) root) + count)
   went gap new h level count root n l w g =
       let r = along (take level gap) g.0 h root l w.1 (subst (IsLeafGap g.0) w.2 g.2) in
       let e = ap (λ m. length (before_gap g.0 m)) w.2 in
       let a = r.1 in
       let b = g.3 in
       let s = ap (λ p. length (before_gap p root)) g.1 in
-      (subst (λ p. IsLeafGap p root) (sym g.1) r.0, omega (arith, a, b, e, s), ap (leaf_at g.0) w.2 ∙ sym r.2 ∙ ap (λ p. leaf_at p root) (sym g.1))
-
-  -- The part of the new path below the node.
-  pub rest_is : (gap new : List ℕ) (level count : ℕ) (n : Node K V) → level < length gap → (g : GoesOn (take level gap) new n count) → slice_range new level (length new) ≡ g.0
-  rest_is gap new level count n k g =
-      let t = length_take level gap (omega arith) in
-      let long = ap length g.1 ∙ length-append (take level gap) g.0 in
-      ap (λ x. take (length new - level) (drop level x)) g.1 ∙ ap (λ j. take (length new - level) (drop j (take level gap ++ g.0))) (sym t)
-      ∙ ap (take (length new - level)) (drop-append_seam (take level gap) g.0) ∙ take_all (length new - level) g.0 (omega arith)
-
-  -- It leads to a gap of a leaf below the node.
-  pub rest_path : (gap new part : List ℕ) (level count : ℕ) (n : Node K V) → IsLevelled (length gap - level - 1) n → level < length gap → (g : GoesOn (take level gap) new n count) → part ≡ slice_range new level (length new)
-      → (0 < length part) × IsPath part n × IsLevelled (length part - 1) n
-  rest_path gap new part level count n l k g e =
-      let s = e ∙ rest_is gap new level count n k g in
-      let long = ap length s in
-      let deep = g.2.1 (length gap - level - 1) l in
-      let h : length gap - level - 1 ≡ length part - 1 = omega arith in
-      (omega arith, subst (λ p. IsPath p n) (sym s) g.2.0, subst (λ j. IsLevelled j n) h l)
+      (subst (λ p. IsLeafGap p root) (sym g.1) r.0, omega (arith, a, b, e, s))
 
   -- The own pair of a node on the way, among the map's.
   own_get : (gap : List ℕ) (h level i : ℕ) (root n : Node K V) (x : K × V) → IsLevelled h root → LeadsTo gap root level n → i < length (own_pairs n) → x ≡ get_or (own_pairs n) i x → slice_get (pairs_of root) (length (before_gap (take level gap) root) + length (before_own n i)) ≡ Some x
@@ -317,33 +294,31 @@ module _ {K V : Type 0} where
       let same : root ≡ r = cc in
       way_levels gap o.0 level r n o.2.1 g (subst (λ d. LeadsTo gap d level n) same w)
 
-  pub record IsPassed (m : Map K V) (gap new : List ℕ) (x : K × V) (found : Node K V) : Type 0 where
+  pub record IsPassed (m : Map K V) (gap new : List ℕ) (x : K × V) : Type 0 where
     pub slot : IsGapIn m new
     pub step : length (before_gap_in m new) ≡ length (before_gap_in m gap) + 1
     pub pair : slice_get (entries m) (length (before_gap_in m gap)) ≡ Some x
-    pub leaf : (r : Node K V) → m ≡ Some r → found ≡ leaf_at new r
 
-  pub passed_next : (m : Map K V) (root best leaf : Node K V) (gap new part : List ℕ) (place : ℕ) (x : K × V) → m ≡ Some root → IsSoundMap m → IsNextAt gap root best place (length (before_gap gap root)) → x ≡ get_or (own_pairs best) (get_or gap place 0) x
-      → GoesOn (take place gap) new best (length (before_own best (get_or gap place 0)) + 1) → part ≡ slice_range new place (length new) → leaf ≡ leaf_at part best → IsPassed m gap new x leaf
-  passed_next None root best leaf gap new part place x is o n e g f t = absurd cc
-  passed_next (Some r) root best leaf gap new part place x is o n e g f t =
+  pub passed_next : (m : Map K V) (root best : Node K V) (gap new : List ℕ) (place : ℕ) (x : K × V) → m ≡ Some root → IsSoundMap m → IsNextAt gap root best place (length (before_gap gap root)) → x ≡ get_or (own_pairs best) (get_or gap place 0) x
+      → GoesOn (take place gap) new best (length (before_own best (get_or gap place 0)) + 1) → IsPassed m gap new x
+  passed_next None root best gap new place x is o n e g = absurd cc
+  passed_next (Some r) root best gap new place x is o n e g =
       let same : root ≡ r = cc in
       let l = subst (IsLevelled o.0) (sym same) o.2.1 in
       let w = went gap new o.0 place _ root best l n.way g in
       let a = n.before in
       let b = w.1 in
-      subst (λ d. IsPassed (Some d) gap new x leaf) same (record { leaf = λ d p. t ∙ ap (λ q. leaf_at q best) (f ∙ rest_is gap new place _ best n.way.0 g) ∙ w.2 ∙ (let k : root ≡ d = cc in ap (leaf_at new) k); slot = w.0; step = omega arith; pair = ap (slice_get (pairs_of root)) (sym a) ∙ own_get gap o.0 place (get_or gap place 0) root best x l n.way n.own e })
+      subst (λ d. IsPassed (Some d) gap new x) same (record { slot = w.0; step = omega arith; pair = ap (slice_get (pairs_of root)) (sym a) ∙ own_get gap o.0 place (get_or gap place 0) root best x l n.way n.own e })
 
-  pub record IsPassedBack (m : Map K V) (gap new : List ℕ) (x : K × V) (found : Node K V) : Type 0 where
+  pub record IsPassedBack (m : Map K V) (gap new : List ℕ) (x : K × V) : Type 0 where
     pub slot : IsGapIn m new
     pub step : length (before_gap_in m new) + 1 ≡ length (before_gap_in m gap)
     pub pair : slice_get (entries m) (length (before_gap_in m new)) ≡ Some x
-    pub leaf : (r : Node K V) → m ≡ Some r → found ≡ leaf_at new r
 
-  pub passed_back : (m : Map K V) (root best leaf : Node K V) (gap new part : List ℕ) (place : ℕ) (x : K × V) → m ≡ Some root → IsSoundMap m → IsLastAt gap root best place (length (before_gap gap root)) → x ≡ get_or (own_pairs best) (get_or gap place 0 - 1) x
-      → GoesOn (take place gap) new best (length (before_own best (get_or gap place 0 - 1))) → part ≡ slice_range new place (length new) → leaf ≡ leaf_at part best → IsPassedBack m gap new x leaf
-  passed_back None root best leaf gap new part place x is o n e g f t = absurd cc
-  passed_back (Some r) root best leaf gap new part place x is o n e g f t =
+  pub passed_back : (m : Map K V) (root best : Node K V) (gap new : List ℕ) (place : ℕ) (x : K × V) → m ≡ Some root → IsSoundMap m → IsLastAt gap root best place (length (before_gap gap root)) → x ≡ get_or (own_pairs best) (get_or gap place 0 - 1) x
+      → GoesOn (take place gap) new best (length (before_own best (get_or gap place 0 - 1))) → IsPassedBack m gap new x
+  passed_back None root best gap new place x is o n e g = absurd cc
+  passed_back (Some r) root best gap new place x is o n e g =
       let same : root ≡ r = cc in
       let l = subst (IsLevelled o.0) (sym same) o.2.1 in
       let w = went gap new o.0 place _ root best l n.way g in
@@ -351,4 +326,111 @@ module _ {K V : Type 0} where
       let b = w.1 in
       let some = n.own.0 in
       let le = n.own.1 in
-      subst (λ d. IsPassedBack (Some d) gap new x leaf) same (record { leaf = λ d p. t ∙ ap (λ q. leaf_at q best) (f ∙ rest_is gap new place _ best n.way.0 g) ∙ w.2 ∙ (let k : root ≡ d = cc in ap (leaf_at new) k); slot = w.0; step = omega arith; pair = ap (slice_get (pairs_of root)) w.1 ∙ own_get gap o.0 place (get_or gap place 0 - 1) root best x l n.way (omega arith) e })
+      subst (λ d. IsPassedBack (Some d) gap new x) same (record { slot = w.0; step = omega arith; pair = ap (slice_get (pairs_of root)) w.1 ∙ own_get gap o.0 place (get_or gap place 0 - 1) root best x l n.way (omega arith) e })
+
+  -- ---- the leaf of a gap, and the node above it
+
+  pub leaf_node : (gap : List ℕ) (level : ℕ) (n : Node K V) → level + 1 ≡ length gap → leaf_at gap n ≡ node_at (take level gap) n
+  leaf_node [] level n e = absurd (omega arith)
+  leaf_node (i ∷ []) zero n e = refl
+  leaf_node (i ∷ []) (suc level) n e = absurd (omega arith)
+  leaf_node (i ∷ j ∷ gap) zero n e = absurd (omega arith)
+  leaf_node (i ∷ j ∷ gap) (suc level) n e = leaf_node (j ∷ gap) level (child_at n i) (omega arith)
+
+  -- It is above another gap of the leaf too.
+  pub above_beside : (m : Map K V) (gap new : List ℕ) (above : Option (Node K V)) → IsBeside gap new → IsAbove m gap above → IsAbove m new above
+  above_beside m gap new None s w root is = tt
+  above_beside m gap new (Some n) s w root is =
+      let long = ap length s.1 ∙ length_set gap (length gap - 1) s.0 in
+      let same : length gap - 1 - 1 ≡ length new - 1 - 1 = omega arith in
+      let v = w root is in
+      (omega (arith, long, v.0), v.1 ∙ ap (λ p. node_at p root) (sym (take-set-le (length gap - 1 - 1) gap (length gap - 1) s.0 (omega arith)) ∙ ap (take (length gap - 1 - 1)) (sym s.1) ∙ ap (λ k. take k new) same))
+
+  -- The way to the node above the leaf of a gap, and on to the leaf.
+  pub record IsNear (m : Map K V) (gap : List ℕ) (n : Node K V) : Type 0 where
+    pub root : Node K V
+    pub is : m ≡ Some root
+    pub level : ℕ
+    pub long : level + 2 ≡ length gap
+    pub way : IsDown gap root n level
+    pub leaf : IsDown gap root (child_at n (get_or gap level 0)) (level + 1)
+    pub levels : IsLevelled 1 n
+
+  pub near : (m : Map K V) (gap : List ℕ) (n : Node K V) → IsSoundMap m → IsGapIn m gap → IsAbove m gap (Some n) → 0 < length (entries m) → IsNear m gap n
+  near None gap n o g a k = absurd (omega arith)
+  near (Some root) gap n o g a k =
+      let b = a root refl in
+      let first = b.0 in
+      let d = down gap o.0 (length gap - 1 - 1) root n o.2.1 g (omega arith) b.1 in
+      let c = down_child gap root n (length gap - 1 - 1) d (omega arith) in
+      let low : length gap - (length gap - 1 - 1) - 1 ≡ 1 = omega arith in
+      record { root = root; is = refl; level = length gap - 1 - 1; long = omega arith; way = d; leaf = down gap o.0 (length gap - 1 - 1 + 1) root _ o.2.1 g (omega arith) c.1; levels = subst (λ h. IsLevelled h n) low d.levels }
+
+  module _ (m : Map K V) (gap mid new : List ℕ) (n : Node K V) (x : IsNear m gap n) where
+    before_way : length (before_gap gap x.root) ≡ length (before_gap (take x.level gap) x.root) + length (before_child n (get_or gap x.level 0)) + length (before_child (child_at n (get_or gap x.level 0)) (get_or gap (x.level + 1) 0))
+    before_way =
+        let a = ap length x.way.onward ∙ length-append (before_gap (take x.level gap) x.root) _ in
+        let b = ap (λ p. length (before_gap p x.root)) (sym (whole gap (x.level + 1 + 1) (let l = x.long in omega (arith, l)))) ∙ ap length x.leaf.onward ∙ length-append (before_gap (take (x.level + 1) gap) x.root) _ in
+        omega (arith, a, b)
+
+    -- Where the last two steps are others, the node is still the one above, and the leaf is another child of it.
+    pub near_leaf : (i j : ℕ) → mid ≡ slice_set gap x.level i → new ≡ slice_set mid (x.level + 1) j → IsAbove m new (Some n) × ((root : Node K V) → m ≡ Some root → child_at n i ≡ leaf_at new root)
+    near_leaf i j e f = (λ root is. (omega (arith, long, x.long), up root is ∙ ap (λ k. node_at (take k new) root) (let l = x.long in omega (arith, long, l))), λ root is. leaf root is)
+      where
+        long : length new ≡ length gap
+        long = set_length mid new (x.level + 1) j f ∙ set_length gap mid x.level i e
+
+        up : (root : Node K V) → m ≡ Some root → n ≡ node_at (take x.level new) root
+        up root is =
+            let same : x.root ≡ root = (let both : Some x.root ≡ Some root = sym x.is ∙ is in cc) in
+            x.way.node ∙ ap (node_at (take x.level gap)) same ∙ ap (λ p. node_at p root) (sym (take-set-le x.level gap x.level i (omega arith)) ∙ ap (take x.level) (sym e) ∙ sym (take-set-le x.level mid (x.level + 1) j (omega arith)) ∙ ap (take x.level) (sym f))
+
+        step : get_or new x.level 0 ≡ i
+        step = ap (λ p. get_or p x.level 0) f ∙ get_or-set_other mid (x.level + 1) x.level j 0 (λ z. absurd (omega (arith, z))) ∙ ap (λ p. get_or p x.level 0) e ∙ get_or-set_same gap x.level i 0 (let l = x.long in omega (arith, l))
+
+        leaf : (root : Node K V) → m ≡ Some root → child_at n i ≡ leaf_at new root
+        leaf root is =
+            sym (leaf_node new (x.level + 1) root (let l = x.long in omega (arith, long, l)) ∙ ap (λ p. node_at p root) (take_more new x.level 0 (let l = x.long in omega (arith, long, l))) ∙ node_more (take x.level new) (get_or new x.level 0) root
+            ∙ ap (λ d. child_at d (get_or new x.level 0)) (sym (up root is)) ∙ ap (child_at n) step)
+
+    -- On past the node's own pair behind the leaf, to the next leaf.
+    pub near_next : IsSoundMap m → length gap ≤ most_levels → (y : K × V) → get_or gap x.level 0 < length (own_pairs n) → length (own_pairs (child_at n (get_or gap x.level 0))) ≤ get_or gap (x.level + 1) 0
+        → mid ≡ slice_set gap x.level (get_or gap x.level 0 + 1) → new ≡ slice_set mid (x.level + 1) 0 → y ≡ get_or (own_pairs n) (get_or gap x.level 0) y → IsPassed m gap new y
+    near_next o fits y own end e f is =
+        let i = get_or gap x.level 0 in
+        let c = child_at n i in
+        let l = x.levels in
+        let long = x.long in
+        let inner : length (children_of n) ≡ length (own_pairs n) + 1 = l.1 in
+        let a = before_way in
+        let b = inner_before 0 n i l own in
+        let d = end_leaf c (get_or gap (x.level + 1) 0) (child_below 0 n i l x.way.within).1 end in
+        let next = (child_below 0 n (i + 1) l (omega arith)).1 in
+        let t = length_take (x.level + 1) mid (let k = set_length gap mid x.level _ e in omega arith) in
+        let at : IsNextAt gap x.root n x.level (length (before_gap gap x.root)) = record { way = (x.way.fits, x.way.descent, x.way.node); own = own; before = omega (arith, a, b, d) } in
+        passed_next m x.root n gap new x.level y x.is o at is
+        (behind_child (take x.level gap) (take (x.level + 1) mid) new i n (child_at n (i + 1)) (room gap x.level n x.way.fits fits x.way.levels) own (omega arith) (prefix_set gap mid x.level _ x.way.fits e) refl
+        (first_gap_leaf (take (x.level + 1) mid) new (child_at n (i + 1)) (0, next, omega arith) (let k = ap length (leaf_children (child_at n (i + 1)) next.1) in omega arith) (end_set mid new (x.level + 1) 0 (let k = set_length gap mid x.level _ e in omega arith) f)))
+
+    -- Back past the node's own pair ahead of the leaf, to the leaf before.
+    pub near_back : IsSoundMap m → length gap ≤ most_levels → (y : K × V) → 0 < get_or gap x.level 0 → get_or gap (x.level + 1) 0 ≡ 0
+        → mid ≡ slice_set gap x.level (get_or gap x.level 0 - 1) → new ≡ slice_set mid (x.level + 1) (length (own_pairs (child_at n (get_or gap x.level 0 - 1)))) → y ≡ get_or (own_pairs n) (get_or gap x.level 0 - 1) y → IsPassedBack m gap new y
+    near_back o fits y some end e f is =
+        let i = get_or gap x.level 0 in
+        let j = i - 1 in
+        let c = child_at n j in
+        let l = x.levels in
+        let long = x.long in
+        let le = x.way.within in
+        let inner : length (children_of n) ≡ length (own_pairs n) + 1 = l.1 in
+        let there : j < length (own_pairs n) = omega arith in
+        let a = before_way in
+        let same : i ≡ j + 1 = omega arith in
+        let b = ap (λ k. length (before_child n k)) same ∙ next_before 1 n j l there in
+        let d = ap (λ k. length (before_child (child_at n i) k)) end in
+        let last = (child_below 0 n j l (omega arith)).1 in
+        let t = length_take (x.level + 1) mid (let k = set_length gap mid x.level _ e in omega arith) in
+        let at : IsLastAt gap x.root n x.level (length (before_gap gap x.root)) = record { way = (x.way.fits, x.way.descent, x.way.node); own = (some, le); before = omega (arith, a, b, d) } in
+        passed_back m x.root n gap new x.level y x.is o at is
+        (pair_gap_child (take x.level gap) (take (x.level + 1) mid) new j n c (room gap x.level n x.way.fits fits x.way.levels) there (omega arith) (prefix_set gap mid x.level _ x.way.fits e) refl
+        (last_gap_leaf (take (x.level + 1) mid) new (length (own_pairs c)) c (0, last, omega arith) refl (let k = ap length (leaf_children c last.1) in omega arith) (end_set mid new (x.level + 1) _ (let k = set_length gap mid x.level _ e in omega arith) f)))

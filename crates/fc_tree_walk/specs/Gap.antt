@@ -1,5 +1,5 @@
 -- Gaps of the leaves of a tree: each gap between two pairs is the gap of one leaf.
-use Rattle.std.specs.Prelude.{◌≡◌, ℕ, zero, suc, ◌-◌, ◌<◌, ◌≤◌, List, [], ◌∷◌, ◌++◌, length, take, Some, None}
+use Rattle.std.specs.Prelude.{◌≡◌, ℕ, zero, suc, ◌-◌, ◌<◌, ◌≤◌, List, [], ◌∷◌, ◌++◌, length, take, slice_set, Option, Some, None}
 use Rattle.fc_tree_node.specs.declared.node.Node.{Node}
 use Rattle.fc_tree_node.specs.Path.{before_gap}
 use Rattle.fc_tree_node.specs.LeafGap.{IsLeafGap}
@@ -18,6 +18,10 @@ one_back [] = []
 one_back (i ∷ []) = (i - 1) ∷ []
 one_back (i ∷ j ∷ path) = i ∷ one_back (j ∷ path)
 
+-- The second path is the first with another last step, or the same one.
+abbrev pub IsBeside : List ℕ → List ℕ → Type 0
+IsBeside a b = (step : ℕ) × (b ≡ slice_set a (length a - 1) step)
+
 module _ {K V : Type 0} where
   -- The path leads to a gap of a leaf of the map; it has no step where there is no root.
   abbrev pub IsGapIn : Map K V → List ℕ → Type 0
@@ -35,3 +39,12 @@ module _ {K V : Type 0} where
   -- So many first steps of a path lead down to the node, and it has a step more.
   abbrev pub LeadsTo : List ℕ → Node K V → ℕ → Node K V → Type 0
   LeadsTo gap root level n = (level < length gap) × IsDescent (take level gap) root × (n ≡ node_at (take level gap) root)
+
+  -- The node, if one is given, is above the one that so many first steps of a path lead down to.
+  abbrev pub IsAboveAt : List ℕ → Node K V → ℕ → Option (Node K V) → Type 0
+  IsAboveAt gap root level None = Unit {0}
+  IsAboveAt gap root level (Some n) = (0 < level) × (n ≡ node_at (take (level - 1) gap) root)
+
+  -- The node, if one is given, is above the leaf of a gap of the map.
+  abbrev pub IsAbove : Map K V → List ℕ → Option (Node K V) → Type 0
+  IsAbove m gap above = (root : Node K V) → m ≡ Some root → IsAboveAt gap root (length gap - 1) above

@@ -1,30 +1,33 @@
 //! Steps of a walk's ends from leaf to leaf: each takes all pairs of its leaf at once, as far as the other end.
-ghost use Rattle.std.specs.Prelude.{◌≡◌, ◌+◌, ◌-◌, ◌<◌, ◌≤◌, ◌↔◌, [], ◌∷◌, ◌++◌, length, take, Some, IsTrue, slice_get, slice_index, slice_range};
+ghost use Rattle.std.specs.Prelude.{option_copied, ◌≡◌, ◌+◌, ◌-◌, ◌<◌, ◌≤◌, ◌↔◌, [], ◌∷◌, ◌++◌, length, take, Some, IsTrue, slice_get, slice_index, slice_range};
 ghost use Rattle.fc_tree_node.specs.Leaf.{leaf_at};
 ghost use Rattle.fc_tree_node.specs.LeafGap.{IsLeafGap};
 ghost use Rattle.fc_tree_node.specs.Node.{own_pairs, pairs_of, IsLevelled, IsTree};
-ghost use Rattle.fc_tree_node.specs.Path.{IsPath, before_gap};
+ghost use Rattle.fc_tree_node.specs.Path.{before_gap};
 ghost use Rattle.fc_tree_node.specs.Place.{before_own};
 ghost use Rattle.fc_tree_node.specs.Tree.{entries, root_of, IsSoundMap};
 ghost use Rattle.fc_tree_node.specs.TreePlace.{before_gap_in};
-ghost use Rattle.fc_tree_walk.specs.Gap.{IsGapIn, AreEndsIn, GoesOn, LeadsTo};
+ghost use Rattle.fc_tree_walk.specs.Gap.{IsGapIn, AreEndsIn, GoesOn, LeadsTo, IsBeside, IsAboveAt, IsAbove};
 ghost use Rattle.fc_tree_walk.specs.Span.{between};
 
 use fc_tree_node::node::Node;
 use fc_tree_node::path::Path;
 
-// The leaf of a gap.
-fn leaf_of<'a, K, V>(node: &'a Node<K, V>, gap: &[u8]) -> &'a Node<K, V>
-    requires some { 0 < length gap.now }
-    requires path { IsPath gap.now node.now }
-    requires levels { IsLevelled (length gap.now - 1) node.now }
-    ensures { result.now ≡ leaf_at gap.now node.now }
+// The leaf of a gap, and the node above it, if there is one.
+fn leaf_of<'a, K, V>(root: &'a Node<K, V>, gap: &Path) -> (Option<&'a Node<K, V>>, &'a Node<K, V>)
+    requires levels { IsTree root.now }
+    requires gap { IsLeafGap gap.now root.now }
+    ensures above { IsAboveAt gap.now root.now (length gap.now - 1) (option_copied result.0) }
+    ensures leaf { result.1.now ≡ leaf_at gap.now root.now }
 {
-    if gap.len() == 1 {
-        node
-    } else {
-        leaf_of(node.child(gap[0] as usize), &gap[1..])
+    let last = gap.len() - 1;
+    let mut above = None;
+    let mut node = root;
+    for level in 0..last {
+        above = Some(node);
+        node = node.child(gap.step(level));
     }
+    (above, node)
 }
 
 // The pairs of a leaf between two places.
@@ -66,7 +69,7 @@ pub fn take_first_run<'a, K, V>(
     let Some(node) = root else {
         return (&[], true);
     };
-    let leaf = leaf_of(node, front.as_slice());
+    let (_above, leaf) = leaf_of(node, front);
     take_first_of(root, leaf, front, back)
 }
 
@@ -81,6 +84,7 @@ fn take_first_of<'a, K, V>(
     requires ends { AreEndsIn (root_of root.now) front.old back.now }
     requires leaf { (n : Node K V) → root_of root.now ≡ Some n → leaf.now ≡ leaf_at front.old n }
     ensures ends { AreEndsIn (root_of root.now) front.new back.now }
+    ensures leaf { IsBeside front.old front.new }
     ensures run { between (root_of root.now) front.old back.now ≡ result.0.now ++ between (root_of root.now) front.new back.now }
     ensures met { IsTrue result.1 ↔ (between (root_of root.now) front.new back.now ≡ []) }
 {
@@ -111,6 +115,7 @@ fn take_last_of<'a, K, V>(
     requires ends { AreEndsIn (root_of root.now) front.now back.old }
     requires leaf { (n : Node K V) → root_of root.now ≡ Some n → leaf.now ≡ leaf_at back.old n }
     ensures ends { AreEndsIn (root_of root.now) front.now back.new }
+    ensures leaf { IsBeside back.old back.new }
     ensures run { between (root_of root.now) front.now back.old ≡ between (root_of root.now) front.now back.new ++ result.0.now }
     ensures met { IsTrue result.1 ↔ (between (root_of root.now) front.now back.new ≡ []) }
 {
@@ -239,15 +244,47 @@ fn set_before<K, V>(node: &Node<K, V>, gap: &mut Path, level: usize)
     }
 }
 
-// Goes on past the pair after a gap, and answers that pair, and the leaf of the gap after it.
+// Goes on past the pair after a gap, and answers that pair, and the leaf of the gap after it. Where the node above the gap's leaf
+// is known and has the pair, it has that leaf too; else the way is taken from the root, and the node above is known from then on.
 fn pass_next<'a, K, V>(
     root: &'a Option<Box<Node<K, V>>>,
+    above: &mut Option<&'a Node<K, V>>,
+    gap: &mut Path,
+) -> (&'a (K, V), &'a Node<K, V>)
+    requires sound { IsSoundMap (root_of root.now) }
+    requires gap { IsGapIn (root_of root.now) gap.old }
+    requires above { IsAbove (root_of root.now) gap.old (option_copied above.old) }
+    requires some { length (before_gap_in (root_of root.now) gap.old) < length (entries (root_of root.now)) }
+    ensures gap { IsGapIn (root_of root.now) gap.new }
+    ensures above { IsAbove (root_of root.now) gap.new (option_copied above.new) }
+    ensures step { length (before_gap_in (root_of root.now) gap.new) ≡ length (before_gap_in (root_of root.now) gap.old) + 1 }
+    ensures pair { slice_get (entries (root_of root.now)) (length (before_gap_in (root_of root.now) gap.old)) ≡ Some result.0.now }
+    ensures leaf { (n : Node K V) → root_of root.now ≡ Some n → result.1.now ≡ leaf_at gap.new n }
+{
+    if let Some(node) = *above {
+        let last = gap.len() - 1;
+        let place = gap.step(last - 1);
+        if place < node.len() && node.child(place).len() == gap.step(last) {
+            gap.set(last - 1, place + 1);
+            gap.set(last, 0);
+            return (node.pair(place), node.child(place + 1));
+        }
+    }
+    pass_next_from_root(root, above, gap)
+}
+
+// The same on the way from the root.
+#[inline(never)]
+fn pass_next_from_root<'a, K, V>(
+    root: &'a Option<Box<Node<K, V>>>,
+    above: &mut Option<&'a Node<K, V>>,
     gap: &mut Path,
 ) -> (&'a (K, V), &'a Node<K, V>)
     requires sound { IsSoundMap (root_of root.now) }
     requires gap { IsGapIn (root_of root.now) gap.old }
     requires some { length (before_gap_in (root_of root.now) gap.old) < length (entries (root_of root.now)) }
     ensures gap { IsGapIn (root_of root.now) gap.new }
+    ensures above { IsAbove (root_of root.now) gap.new (option_copied above.new) }
     ensures step { length (before_gap_in (root_of root.now) gap.new) ≡ length (before_gap_in (root_of root.now) gap.old) + 1 }
     ensures pair { slice_get (entries (root_of root.now)) (length (before_gap_in (root_of root.now) gap.old)) ≡ Some result.0.now }
     ensures leaf { (n : Node K V) → root_of root.now ≡ Some n → result.1.now ≡ leaf_at gap.new n }
@@ -256,18 +293,53 @@ fn pass_next<'a, K, V>(
     let (holder, level) = place_after(node, gap);
     let pair = holder.pair(gap.step(level));
     set_after(holder, gap, level);
-    (pair, leaf_of(holder, &gap.as_slice()[level..]))
+    let (parent, leaf) = leaf_of(node, gap);
+    *above = parent;
+    (pair, leaf)
 }
 
-// Goes back past the pair before a gap, and answers that pair, and the leaf of the gap before it.
+// Goes back past the pair before a gap, and answers that pair, and the leaf of the gap before it. Where the node above the gap's leaf
+// is known and has the pair, it has that leaf too; else the way is taken from the root, and the node above is known from then on.
 fn pass_previous<'a, K, V>(
     root: &'a Option<Box<Node<K, V>>>,
+    above: &mut Option<&'a Node<K, V>>,
+    gap: &mut Path,
+) -> (&'a (K, V), &'a Node<K, V>)
+    requires sound { IsSoundMap (root_of root.now) }
+    requires gap { IsGapIn (root_of root.now) gap.old }
+    requires above { IsAbove (root_of root.now) gap.old (option_copied above.old) }
+    requires some { 0 < length (before_gap_in (root_of root.now) gap.old) }
+    ensures gap { IsGapIn (root_of root.now) gap.new }
+    ensures above { IsAbove (root_of root.now) gap.new (option_copied above.new) }
+    ensures step { length (before_gap_in (root_of root.now) gap.new) + 1 ≡ length (before_gap_in (root_of root.now) gap.old) }
+    ensures pair { slice_get (entries (root_of root.now)) (length (before_gap_in (root_of root.now) gap.new)) ≡ Some result.0.now }
+    ensures leaf { (n : Node K V) → root_of root.now ≡ Some n → result.1.now ≡ leaf_at gap.new n }
+{
+    if let Some(node) = *above {
+        let last = gap.len() - 1;
+        let place = gap.step(last - 1);
+        if 0 < place && gap.step(last) == 0 {
+            let leaf = node.child(place - 1);
+            gap.set(last - 1, place - 1);
+            gap.set(last, leaf.len());
+            return (node.pair(place - 1), leaf);
+        }
+    }
+    pass_previous_from_root(root, above, gap)
+}
+
+// The same on the way from the root.
+#[inline(never)]
+fn pass_previous_from_root<'a, K, V>(
+    root: &'a Option<Box<Node<K, V>>>,
+    above: &mut Option<&'a Node<K, V>>,
     gap: &mut Path,
 ) -> (&'a (K, V), &'a Node<K, V>)
     requires sound { IsSoundMap (root_of root.now) }
     requires gap { IsGapIn (root_of root.now) gap.old }
     requires some { 0 < length (before_gap_in (root_of root.now) gap.old) }
     ensures gap { IsGapIn (root_of root.now) gap.new }
+    ensures above { IsAbove (root_of root.now) gap.new (option_copied above.new) }
     ensures step { length (before_gap_in (root_of root.now) gap.new) + 1 ≡ length (before_gap_in (root_of root.now) gap.old) }
     ensures pair { slice_get (entries (root_of root.now)) (length (before_gap_in (root_of root.now) gap.new)) ≡ Some result.0.now }
     ensures leaf { (n : Node K V) → root_of root.now ≡ Some n → result.1.now ≡ leaf_at gap.new n }
@@ -276,7 +348,9 @@ fn pass_previous<'a, K, V>(
     let (holder, level) = place_before(node, gap);
     let pair = holder.pair(gap.step(level) - 1);
     set_before(holder, gap, level);
-    (pair, leaf_of(holder, &gap.as_slice()[level..]))
+    let (parent, leaf) = leaf_of(node, gap);
+    *above = parent;
+    (pair, leaf)
 }
 
 /// What an end of a walk takes where its leaf has no pair left.
@@ -293,17 +367,20 @@ pub struct Step<'a, K, V> {
 /// Goes on over a pair, and takes the run after it.
 pub fn step_first_run<'a, K, V>(
     root: &'a Option<Box<Node<K, V>>>,
+    above: &mut Option<&'a Node<K, V>>,
     front: &mut Path,
     back: &Path,
 ) -> Step<'a, K, V>
     requires sound { IsSoundMap (root_of root.now) }
     requires ends { AreEndsIn (root_of root.now) front.old back.now }
+    requires above { IsAbove (root_of root.now) front.old (option_copied above.old) }
     requires some { 0 < length (between (root_of root.now) front.old back.now) }
     ensures ends { AreEndsIn (root_of root.now) front.new back.now }
+    ensures above { IsAbove (root_of root.now) front.new (option_copied above.new) }
     ensures pairs { between (root_of root.now) front.old back.now ≡ result.pair.now ∷ (result.run.now ++ between (root_of root.now) front.new back.now) }
     ensures met { IsTrue result.has_met ↔ (between (root_of root.now) front.new back.now ≡ []) }
 {
-    let (pair, leaf) = pass_next(root, front);
+    let (pair, leaf) = pass_next(root, above, front);
     let (run, has_met) = take_first_of(root, leaf, front, back);
     Step { pair, run, has_met }
 }
@@ -311,17 +388,20 @@ pub fn step_first_run<'a, K, V>(
 /// Goes back over a pair, and takes the run before it.
 pub fn step_last_run<'a, K, V>(
     root: &'a Option<Box<Node<K, V>>>,
+    above: &mut Option<&'a Node<K, V>>,
     front: &Path,
     back: &mut Path,
 ) -> Step<'a, K, V>
     requires sound { IsSoundMap (root_of root.now) }
     requires ends { AreEndsIn (root_of root.now) front.now back.old }
+    requires above { IsAbove (root_of root.now) back.old (option_copied above.old) }
     requires some { 0 < length (between (root_of root.now) front.now back.old) }
     ensures ends { AreEndsIn (root_of root.now) front.now back.new }
+    ensures above { IsAbove (root_of root.now) back.new (option_copied above.new) }
     ensures pairs { between (root_of root.now) front.now back.old ≡ between (root_of root.now) front.now back.new ++ (result.run.now ++ result.pair.now ∷ []) }
     ensures met { IsTrue result.has_met ↔ (between (root_of root.now) front.now back.new ≡ []) }
 {
-    let (pair, leaf) = pass_previous(root, back);
+    let (pair, leaf) = pass_previous(root, above, back);
     let (run, has_met) = take_last_of(root, leaf, front, back);
     Step { pair, run, has_met }
 }

@@ -1,7 +1,7 @@
 //! The pairs between two gaps of a tree, from both ends.
 //!
-//! Each end has taken the pairs of its leaf, of which most steps give one: only at a leaf's end a step looks at the tree, and goes
-//! one way down from the root, along the path of its gap, to the next leaf.
+//! Each end has taken the pairs of its leaf, of which most steps give one: only at a leaf's end a step looks at the tree. The node
+//! above the leaf has the next pair and the next leaf, but for its last child, from where the step goes one way down from the root.
 ghost use Rattle.std.specs.Prelude.{◌≡◌, ◌<◌, ◌↔◌, [], ◌∷◌, ◌++◌, length, IsTrue};
 ghost use Rattle.fc_base.specs.Ascending.{IsAscending};
 ghost use Rattle.fc_base.specs.Ranges.{bound_now, is_range, within};
@@ -24,20 +24,22 @@ pub struct Span<'a, K, V> {
     tail: &'a [(K, V)],
     front: Path,
     back: Path,
+    above_front: Option<&'a Node<K, V>>,
+    above_back: Option<&'a Node<K, V>>,
     has_met: bool,
 }
 
 impl<'a, K, V> Model for Span<'a, K, V> {
-    ghost use Rattle.std.specs.Prelude.{◌≡◌, ◌↔◌, [], ◌++◌, List, IsTrue};
+    ghost use Rattle.std.specs.Prelude.{◌≡◌, ◌↔◌, [], ◌++◌, List, IsTrue, option_copied};
     ghost use Rattle.fc_tree_node.specs.Tree.{root_of, IsSoundMap};
-    ghost use Rattle.fc_tree_walk.specs.Gap.{AreEndsIn};
+    ghost use Rattle.fc_tree_walk.specs.Gap.{AreEndsIn, IsAbove};
     ghost use Rattle.fc_tree_walk.specs.Span.{between};
 
     ghost Value = { List (K × V) };
 
     ghost view = { λ s. s.head.now ++ (between (root_of s.root.now) s.front s.back ++ s.tail.now) };
 
-    ghost invariant = { λ s. IsSoundMap (root_of s.root.now) × AreEndsIn (root_of s.root.now) s.front s.back × (IsTrue s.has_met ↔ (between (root_of s.root.now) s.front s.back ≡ [])) };
+    ghost invariant = { λ s. IsSoundMap (root_of s.root.now) × AreEndsIn (root_of s.root.now) s.front s.back × IsAbove (root_of s.root.now) s.front (option_copied s.above_front) × IsAbove (root_of s.root.now) s.back (option_copied s.above_back) × (IsTrue s.has_met ↔ (between (root_of s.root.now) s.front s.back ≡ [])) };
 }
 
 impl<'a, K, V> Span<'a, K, V> {
@@ -63,6 +65,8 @@ impl<'a, K, V> Span<'a, K, V> {
             tail: &[],
             front,
             back,
+            above_front: None,
+            above_back: None,
             has_met,
         }
     }
@@ -105,7 +109,12 @@ impl<'a, K, V> Span<'a, K, V> {
             return pair;
         }
         if !self.has_met {
-            let step = step_first_run(self.root, &mut self.front, &self.back);
+            let step = step_first_run(
+                self.root,
+                &mut self.above_front,
+                &mut self.front,
+                &self.back,
+            );
             self.head = step.run;
             self.has_met = step.has_met;
             return step.pair;
@@ -141,7 +150,7 @@ impl<'a, K, V> Span<'a, K, V> {
             return pair;
         }
         if !self.has_met {
-            let step = step_last_run(self.root, &self.front, &mut self.back);
+            let step = step_last_run(self.root, &mut self.above_back, &self.front, &mut self.back);
             self.tail = step.run;
             self.has_met = step.has_met;
             return step.pair;
@@ -163,6 +172,8 @@ impl<'a, K, V> Span<'a, K, V> {
             tail: self.tail,
             front: self.front,
             back: self.back,
+            above_front: self.above_front,
+            above_back: self.above_back,
             has_met: self.has_met,
         }
     }

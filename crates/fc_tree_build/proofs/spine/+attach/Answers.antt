@@ -1,7 +1,7 @@
-use Rattle.std.proofs.Common.{rules, suc, ◌<◌, ◌≤◌, [], ◌∷◌, ◌++◌, length, sym, ap, subst, ◌∙◌, arith, length-append}
+use Rattle.std.proofs.Common.{rules, suc, ◌<◌, ◌≤◌, [], ◌∷◌, ◌++◌, ◌-◌, length, sym, ap, subst, ◌∙◌, arith, length-append}
 use Rattle.fc_base.specs.Sizes.{capacity}
 use Rattle.fc_tree_node.specs.Node.{own_pairs, children_of, IsLeaf}
-use Rattle.fc_tree_build.proofs.SpineFacts.{child_room, end_grown, end_pairs, spine_pairs, spine_pushed, worth_pushed, count_pushed, length_pushed, closed_sound, closed_pairs, carried_pairs, carried, not_blank, spare_taken, blank_end}
+use Rattle.fc_tree_build.proofs.SpineFacts.{child_room, end_grown, end_pairs, spine_pairs, spine_pushed, worth_pushed, count_pushed, length_pushed, closed_sound, closed_pairs, carried_pairs, some_needed, not_blank, spare_taken, blank_end}
 use Rattle.fc_tree_build.proofs.spine.+attach.Goals as goal
 
 pub put_child-requires-clause-inner : goal.put_child-requires-clause-inner
@@ -56,36 +56,6 @@ returns-then-len-lt-CAPACITY-clause-left g t c =
     let n = c.open_end-node.ensures.nodes in
     omega arith
 
-pub attach-requires : goal.attach-requires
-attach-requires g t c κs within =
-    let o = c.open_end-node.ensures.levels c.requires.levels.0 c.requires.levels.1 in
-    let e = c.put_child.ensures.pairs ∙ ap own_pairs c.deref_mut.ensures.value in
-    let f = c.put_child.ensures.children ∙ ap (λ n. children_of n ++ c.args.subtree.value ∷ []) c.deref_mut.ensures.value in
-    let d = ap (λ n. length (own_pairs n)) c.deref.ensures in
-    let k = ap length e in
-    let v = c.len.ensures.value in
-    let z = c.if-len-lt-CAPACITY.false in
-    let full : capacity ≤ length (own_pairs c.open_end-node.result.value) = omega arith in
-    let some = not_blank c.args.spine.now _ c.open_end-node.ensures.new_root full in
-    let x = c.open_end-node.ensures.shorter in
-    let falls : length c.open_end-node.new.spine < length c.args.spine.now = omega arith in
-    let r = carried c.requires.enough.0 _ _ c.args.spine.now c.open_end-node.new.spine _ c.requires.enough.1 c.open_end-node.ensures.worth c.open_end-node.ensures.count c.open_end-node.ensures.nodes x full in
-    (search rules, (search rules, (search rules, (search rules, ((suc c.requires.levels.0, o.1, closed_sound c.requires.levels.0 _ _ _ o.0 e f (omega arith) c.requires.levels.2), (c.open_end-node.ensures.blank, (r.less, r.enough)))))))
-
-pub take_spare-requires : goal.take_spare-requires
-take_spare-requires g t c =
-    let e = ap length (c.put_child.ensures.pairs ∙ ap own_pairs c.deref_mut.ensures.value) in
-    let d = ap (λ n. length (own_pairs n)) c.deref.ensures in
-    let v = c.len.ensures.value in
-    let z = c.if-len-lt-CAPACITY.false in
-    let full : capacity ≤ length (own_pairs c.open_end-node.result.value) = omega arith in
-    let r = carried c.requires.enough.0 _ _ c.args.spine.now c.open_end-node.new.spine _ c.requires.enough.1 c.open_end-node.ensures.worth c.open_end-node.ensures.count c.open_end-node.ensures.nodes c.open_end-node.ensures.shorter full in
-    let deep = r.deep in
-    let s = r.spare in
-    let l = c.attach.ensures.left in
-    let w = c.attach.ensures.short r.less r.enough in
-    omega arith
-
 pub returns-clause-pairs : goal.returns-clause-pairs
 returns-clause-pairs g t c =
     let o = (c.open_end-node.ensures.levels c.requires.levels.0 c.requires.levels.1).0 in
@@ -137,15 +107,88 @@ returns-clause-left g t c =
     let n = c.open_end-node.ensures.nodes in
     omega arith
 
-pub returns-clause-short : goal.returns-clause-short
-returns-clause-short g t c d enough =
-    let e = ap length (c.put_child.ensures.pairs ∙ ap own_pairs c.deref_mut.ensures.value) in
-    let w = ap (λ n. length (own_pairs n)) c.deref.ensures in
+pub open_end-node-requires : goal.open_end-node-requires
+open_end-node-requires g t c = let some = some_needed c.args.spine.now in let e = c.requires.enough in (search rules, (c.requires.blank, omega arith))
+
+pub push-requires : goal.push-requires
+push-requires g t c =
+    let x = c.open_end-node.ensures.shorter in
+    let low = c.requires.low.1 in
+    let long = c.requires.low.2 in
+    (search rules, omega arith)
+
+pub attach-requires : goal.attach-requires
+attach-requires g t c κs within =
+    let o = c.open_end-node.ensures.levels c.requires.levels.0 c.requires.levels.1 in
+    let e = c.put_child.ensures.pairs ∙ ap own_pairs c.deref_mut.ensures.value in
+    let f = c.put_child.ensures.children ∙ ap (λ n. children_of n ++ c.args.subtree.value ∷ []) c.deref_mut.ensures.value in
+    let d = ap (λ n. length (own_pairs n)) c.deref.ensures in
+    let k = ap length e in
     let v = c.len.ensures.value in
-    let x = c.if-len-lt-CAPACITY.false in
+    let z = c.if-len-lt-CAPACITY.false in
     let full : capacity ≤ length (own_pairs c.open_end-node.result.value) = omega arith in
-    let r = carried d _ _ c.args.spine.now c.open_end-node.new.spine _ enough c.open_end-node.ensures.worth c.open_end-node.ensures.count c.open_end-node.ensures.nodes c.open_end-node.ensures.shorter full in
-    let deep = r.deep in
-    let s = c.attach.ensures.short r.less r.enough in
+    let some = not_blank c.args.spine.now _ c.open_end-node.ensures.new_root full in
+    let x = c.open_end-node.ensures.shorter in
+    let n = c.open_end-node.ensures.full some full in
+    let i = ap (λ v. length v.items) (c.open_end-node.ensures.kept some) in
+    let enough = c.requires.enough in
+    let low = c.requires.low.1 in
+    let long = c.requires.low.2 in
+    let few = c.requires.low.3 in
+    let falls : length c.open_end-node.new.spine < length c.args.spine.now = omega arith in
+    (search rules, (search rules, (search rules, (search rules, ((suc c.requires.levels.0, o.1, closed_sound c.requires.levels.0 _ _ _ o.0 e f (omega arith) c.requires.levels.2), (c.open_end-node.ensures.blank, (omega arith, (c.requires.low.0 - 1, omega arith, omega arith, omega arith))))))))
+
+pub take_spare-requires : goal.take_spare-requires
+take_spare-requires g t c =
+    let e = ap length (c.put_child.ensures.pairs ∙ ap own_pairs c.deref_mut.ensures.value) in
+    let d = ap (λ n. length (own_pairs n)) c.deref.ensures in
+    let v = c.len.ensures.value in
+    let z = c.if-len-lt-CAPACITY.false in
+    let full : capacity ≤ length (own_pairs c.open_end-node.result.value) = omega arith in
+    let some = not_blank c.args.spine.now _ c.open_end-node.ensures.new_root full in
+    let n = c.open_end-node.ensures.full some full in
+    let x = c.open_end-node.ensures.shorter in
+    let i = ap (λ v. length v.items) (c.open_end-node.ensures.kept some) in
+    let used = c.attach.ensures.used in
+    let enough = c.requires.enough in
+    omega arith
+
+pub returns-then-len-lt-CAPACITY-clause-used : goal.returns-then-len-lt-CAPACITY-clause-used
+returns-then-len-lt-CAPACITY-clause-used g t c = c.open_end-node.ensures.used
+
+pub returns-then-len-lt-CAPACITY-clause-short : goal.returns-then-len-lt-CAPACITY-clause-short
+returns-then-len-lt-CAPACITY-clause-short g t c d long few =
+    let some = some_needed c.args.spine.now in
+    let x = c.open_end-node.ensures.shorter in
+    let l = length_pushed _ _ _ c.push.ensures in
+    omega arith
+
+pub returns-clause-used : goal.returns-clause-used
+returns-clause-used g t c =
+    let e = ap length (c.put_child.ensures.pairs ∙ ap own_pairs c.deref_mut.ensures.value) in
+    let d = ap (λ n. length (own_pairs n)) c.deref.ensures in
+    let v = c.len.ensures.value in
+    let z = c.if-len-lt-CAPACITY.false in
+    let full : capacity ≤ length (own_pairs c.open_end-node.result.value) = omega arith in
+    let some = not_blank c.args.spine.now _ c.open_end-node.ensures.new_root full in
+    let n = c.open_end-node.ensures.full some full in
+    let x = c.open_end-node.ensures.shorter in
+    let i = ap (λ v. length v.items) (c.open_end-node.ensures.kept some) in
+    let used = c.attach.ensures.used in
+    let l = length_pushed _ _ _ c.take_spare.ensures in
+    omega arith
+
+pub returns-clause-short : goal.returns-clause-short
+returns-clause-short g t c b long few =
+    let e = ap length (c.put_child.ensures.pairs ∙ ap own_pairs c.deref_mut.ensures.value) in
+    let d = ap (λ n. length (own_pairs n)) c.deref.ensures in
+    let v = c.len.ensures.value in
+    let z = c.if-len-lt-CAPACITY.false in
+    let full : capacity ≤ length (own_pairs c.open_end-node.result.value) = omega arith in
+    let some = not_blank c.args.spine.now _ c.open_end-node.ensures.new_root full in
+    let n = c.open_end-node.ensures.full some full in
+    let x = c.open_end-node.ensures.shorter in
+    let i = ap (λ v. length v.items) (c.open_end-node.ensures.kept some) in
+    let s = c.attach.ensures.short (b - 1) (omega arith) (omega arith) in
     let l = length_pushed _ _ _ c.push-2.ensures in
     omega arith

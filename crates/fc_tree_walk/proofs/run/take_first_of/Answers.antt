@@ -60,6 +60,7 @@ returns-then-is_same_leaf g c =
     let new = c.set.ensures ∙ ap (slice_set front last) c.step-end.ensures in
     let run = c.part.ensures ∙ ap (λ i. slice_range (own_pairs leaf) i c.step-end.result) c.step-start.ensures ∙ ap (slice_range (own_pairs leaf) (get_or front last 0)) c.step-end.ensures in
     record {
+      leaf = (_, new ∙ ap (λ k. slice_set front k (get_or back last 0)) la);
       ends = subst (λ p. AreEndsIn m p back) (sym new) r.0.ends;
       run = r.0.run ∙ ap (λ xs. xs ++ between m (slice_set front last (get_or back last 0)) back) (sym run) ∙ ap (λ p. c.part.result.now ++ between m p back) (sym new);
       met = (λ _. ap (λ p. between m p back) new ∙ r.1, λ _. refl);
@@ -97,6 +98,7 @@ returns g c =
     let new = c.set-2.ensures ∙ ap (slice_set front last) c.len-end.ensures.value in
     let run = c.part-2.ensures ∙ ap (λ i. slice_range (own_pairs leaf) i c.len-end.result) c.step-start.ensures ∙ ap (slice_range (own_pairs leaf) (get_or front last 0)) c.len-end.ensures.value in
     record {
+      leaf = (_, new ∙ ap (λ k. slice_set front k (length (own_pairs leaf))) la);
       ends = subst (λ p. AreEndsIn m p back) (sym new) r.0.ends;
       run = r.0.run ∙ ap (λ xs. xs ++ between m (slice_set front last (length (own_pairs leaf))) back) (sym run) ∙ ap (λ p. c.part-2.result.now ++ between m p back) (sym new);
       met = (λ t. absurd (let no : false ≡ true = t in cc), λ e. absurd (r.1 (ap (λ p. between m p back) (sym new) ∙ e)));

@@ -6,4 +6,4 @@ use Rattle.fc_tree_walk.proofs.run.take_first_run.Goals as goal
 
 pub take_first_of-requires-clause-leaf : goal.take_first_of-requires-clause-leaf
 take_first_of-requires-clause-leaf g c n p =
-    c.leaf_of-leaf.ensures ∙ ap (λ q. leaf_at q c.deref.result.now) c.as_slice.ensures.value ∙ ap (leaf_at c.args.front.now) (same_root _ _ n (ap root_of c.in-Some.is ∙ ap Some (sym c.deref.ensures)) p)
+    c.leaf_of.ensures.leaf ∙ ap (leaf_at c.args.front.now) (same_root _ _ n (ap root_of c.in-Some.is ∙ ap Some (sym c.deref.ensures)) p)

@@ -57,6 +57,7 @@ returns-then-is_same_leaf g c =
     let new = c.set.ensures ∙ ap (slice_set back last) c.step-start.ensures in
     let run = c.part.ensures ∙ ap (λ i. slice_range (own_pairs leaf) i c.step-end.result) c.step-start.ensures ∙ ap (slice_range (own_pairs leaf) (get_or front last 0)) c.step-end.ensures in
     record {
+      leaf = (_, new ∙ ap (λ k. slice_set back k (get_or front last 0)) la);
       ends = subst (λ p. AreEndsIn m front p) (sym new) r.0.ends;
       run = r.0.run ∙ ap (λ xs. between m front (slice_set back last (get_or front last 0)) ++ xs) (sym run) ∙ ap (λ p. between m front p ++ c.part.result.now) (sym new);
       met = (λ _. ap (λ p. between m front p) new ∙ r.1, λ _. refl);
@@ -93,6 +94,7 @@ returns g c =
     let new = c.set-2.ensures in
     let run = c.part-2.ensures ∙ ap (slice_range (own_pairs leaf) 0) c.step-end.ensures in
     record {
+      leaf = (_, new ∙ ap (λ k. slice_set back k 0) la);
       ends = subst (λ p. AreEndsIn m front p) (sym new) r.0.ends;
       run = r.0.run ∙ ap (λ xs. between m front (slice_set back last 0) ++ xs) (sym run) ∙ ap (λ p. between m front p ++ c.part-2.result.now) (sym new);
       met = (λ t. absurd (let no : false ≡ true = t in cc), λ e. absurd (r.1 (ap (λ p. between m front p) (sym new) ∙ e)));

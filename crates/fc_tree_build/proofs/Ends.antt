@@ -1,0 +1,96 @@
+-- The nodes of a spine one after another, and a tree opened at its right edge.
+use Rattle.std.proofs.Common.{◌≡◌, ℕ, zero, suc, ◌+◌, ◌-◌, ◌<◌, ◌≤◌, List, [], ◌∷◌, ◌++◌, length, map, refl, sym, ap, ◌∙◌, subst, arith, add-one, Box, append_assoc, length-append}
+use Rattle.std.specs.Prelude.{slice_index_or, get_or, take}
+use Rattle.std.specs.declared.alloc.Global.{Global}
+use Rattle.std.specs.List.{AllByRecursion}
+use Rattle.std.proofs.Math.Seq.{take-suc, take-length}
+use Rattle.std.proofs.lemmas.List.{length-map}
+use Rattle.fc_base.specs.Sizes.{capacity}
+use Rattle.fc_tree_node.specs.declared.node.Node.{Node}
+use Rattle.fc_tree_node.specs.Node.{own_pairs, children_of, pairs_of, IsLeaf, IsSound, IsSoundRoot}
+use Rattle.fc_tree_node.specs.Weave.{before_list}
+use Rattle.fc_tree_node.proofs.Lists.{all_front, all_back}
+use Rattle.fc_tree_node.proofs.Pairs.{leaf_children}
+use Rattle.fc_tree_drain.specs.Opened.{before_back_in, before_back, closing}
+use Rattle.fc_tree_drain.proofs.Opening.{no_item, whole_back, back_push, empty_back}
+use Rattle.fc_tree_build.specs.Spine.{IsOpenEnd, IsSpine, level_above}
+
+module _ {X : Type 0} where
+  pub taken : (s : List X) (i : ℕ) (b : X) → i < length s → b ≡ slice_index_or s i b → take (i + 1) s ≡ take i s ++ b ∷ []
+  taken s i b h e = ap (λ j. take j s) (add-one i) ∙ take-suc s i b h ∙ ap (λ x. take i s ++ x ∷ []) (sym e)
+
+  pub last_taken : (s : List X) (i : ℕ) (b : X) → i + 1 ≡ length s → b ≡ slice_index_or s i b → s ≡ take i s ++ b ∷ []
+  last_taken s i b h e = sym (take-length s) ∙ ap (λ j. take j s) (sym h) ∙ taken s i b (omega arith) e
+
+  -- as many lists as items end with the last item
+  last_before : (i : ℕ) (ps : List X) (cs : List (List X)) (d : X) → length cs ≡ length ps → i + 1 ≡ length ps → (front : List X) × (before_list cs ps ≡ front ++ get_or ps i d ∷ [])
+  last_before i [] cs d e l = absurd (omega arith)
+  last_before i (p ∷ ps) [] d e l = absurd (omega arith)
+  last_before zero (p ∷ []) (c ∷ []) d e l = (c, refl)
+  last_before zero (p ∷ []) (c ∷ b ∷ cs) d e l = absurd (omega arith)
+  last_before zero (p ∷ q ∷ ps) (c ∷ cs) d e l = absurd (omega arith)
+  last_before (suc i) (p ∷ ps) (c ∷ cs) d e l =
+      let r = last_before i ps cs d (omega arith) (omega arith) in
+      (c ++ p ∷ r.0, ap (λ zs. c ++ p ∷ zs) r.1 ∙ sym (append_assoc c (p ∷ r.0) _))
+
+module _ {K V : Type 0} where
+  pub spine_at : (h : ℕ) (s : List (Box (Node K V) Global)) (i : ℕ) (b : Box (Node K V) Global) → IsSpine h s → i < length s → b ≡ slice_index_or s i b → (k : ℕ) × IsOpenEnd k b.value
+  spine_at h [] i b f l e = absurd (omega arith)
+  spine_at h (x ∷ s) zero b f l e = (level_above h s, subst (λ y. IsOpenEnd (level_above h s) y.value) (sym e) f.0)
+  spine_at h (x ∷ s) (suc i) b f l e = spine_at h s i b f.1 (omega arith) e
+
+  -- a node with a pair ends with its last pair
+  pub end_last : (s new : List (Box (Node K V) Global)) (b : Box (Node K V) Global) (k i : ℕ) (p : K × V) → new ≡ s ++ b ∷ [] → IsOpenEnd k b.value → i + 1 ≡ length (own_pairs b.value) → p ≡ slice_index_or (own_pairs b.value) i p → (front : List (K × V)) × (before_back new ≡ front ++ p ∷ [])
+  end_last s new b k i p e o l f =
+      let same = o.2 in
+      let n = length-map (children_of b.value) pairs_of in
+      let none : length (own_pairs b.value) - length (children_of b.value) ≡ 0 = omega arith in
+      let r = last_before i (own_pairs b.value) (map pairs_of (children_of b.value)) p (omega arith) l in (
+        before_back s ++ r.0,
+        back_push s new b e ∙ ap (λ j. before_back s ++ closing j (own_pairs b.value) (map pairs_of (children_of b.value))) none
+            ∙ ap (λ zs. before_back s ++ zs) r.1 ∙ ap (λ x. before_back s ++ (r.0 ++ x ∷ [])) (sym f) ∙ sym (append_assoc (before_back s) r.0 (p ∷ [])),
+      )
+
+  -- a node without a pair holds nothing
+  pub end_none : (s new : List (Box (Node K V) Global)) (b : Box (Node K V) Global) (k : ℕ) → new ≡ s ++ b ∷ [] → IsOpenEnd k b.value → length (own_pairs b.value) ≡ 0 → before_back new ≡ before_back s
+  end_none s new b k e o l =
+      let same = o.2 in
+      let none = no_item (children_of b.value) (omega arith) in
+      back_push s new b e ∙ sym (empty_back b.value s 0 (omega arith, λ j. absurd (omega arith), none) l)
+
+  -- ---- a tree opened at its right edge
+
+  pub bottom : (h : ℕ) (n : Node K V) → IsSoundRoot h n → length (children_of n) ≡ 0 → (h ≡ 0) × (length (own_pairs n) ≤ capacity) × IsLeaf n
+  bottom zero n s e = (refl, s.1.0, s.1.1)
+  bottom (suc h) n s e = absurd (let i = s.1.1 in omega arith)
+
+  -- a node n, which without its last child c is m
+  pub record IsOpenedRight (h : ℕ) (n m c : Node K V) : Type 0 where
+    pub level : ℕ
+    pub above : h ≡ suc level
+    pub child : IsSoundRoot level c
+    pub opened : IsOpenEnd level m
+    pub pairs : pairs_of n ≡ before_back_in m ++ pairs_of c
+
+  pub opened_right : (h : ℕ) (n m c : Node K V) → IsSoundRoot h n → 0 < length (children_of n) → children_of n ≡ children_of m ++ c ∷ [] → own_pairs m ≡ own_pairs n → IsOpenedRight h n m c
+  opened_right zero n m c s l f e = absurd (let z = ap length (leaf_children n s.1.1) in omega arith)
+  opened_right (suc h) n m c s l f e =
+      let i = s.1.1 in
+      let some = s.0 in
+      let most = s.1.0 in
+      let a = ap length e in
+      let b = ap length f ∙ length-append (children_of m) (c ∷ []) in
+      let all = subst (AllByRecursion (IsSound h)) f s.1.2 in
+      let last = (all_back (IsSound h) (children_of m) (c ∷ []) all).0 in
+      let least = last.0 in
+      record {
+        level = h;
+        above = refl;
+        child = (omega arith, last.1);
+        opened = (omega arith, λ leaf. (let z = ap length (leaf_children m leaf) in absurd (omega arith)), omega arith, all_front (IsSound h) (children_of m) (c ∷ []) all);
+        pairs = whole_back n m c i f e;
+      }
+
+  pub opened_pairs : (old mid : List (Box (Node K V) Global)) (b : Box (Node K V) Global) (n c : Node K V) (zs : List (K × V)) → mid ≡ old ++ b ∷ [] → pairs_of n ≡ before_back_in b.value ++ pairs_of c → zs ≡ before_back mid ++ pairs_of c → zs ≡ before_back old ++ pairs_of n
+  opened_pairs old mid b n c zs e f g =
+      g ∙ ap (λ ys. ys ++ pairs_of c) (back_push old mid b e) ∙ append_assoc (before_back old) (before_back_in b.value) (pairs_of c) ∙ ap (λ ys. before_back old ++ ys) (sym f)

@@ -1,0 +1,194 @@
+//! A tree that grows at its right end, with its nodes made as they are needed.
+ghost use Rattle.std.specs.Prelude.{◌≡◌, ◌≤◌, ◌⊎◌, [], ◌∷◌, ◌++◌, length, IfOk, IfErr};
+ghost use Rattle.fc_base.specs.Sizes.{capacity, most_height};
+ghost use Rattle.fc_tree_drain.specs.Opened.{before_back};
+ghost use Rattle.fc_tree_node.specs.Node.{own_pairs, pairs_of, IsLeaf, IsBlankLeaf, IsBlankInner, IsSound};
+ghost use Rattle.std.specs.List.{AllByRecursion};
+ghost use Rattle.fc_tree_node.specs.Tree.{entries, root_of, IsSoundMap};
+ghost use Rattle.fc_tree_build.specs.Spine.{IsLastPair, IsSpine};
+
+use crate::spares::try_inner_nodes;
+use crate::spine::{Spine, attach, close, last_of, needed, open_right, put_pair};
+use fc_base::TryReserveError;
+use fc_tree_border::mending::mend_right;
+use fc_tree_drain::stack::Stack;
+use fc_tree_node::node::{CAPACITY, Node};
+use fc_tree_node::path::MAX_STEPS;
+use std::alloc::Global;
+use std::marker::Model;
+
+/// A tree to whose end pairs are put, seen as the list of its pairs. It asks for memory at its first pair and where its last leaf is full.
+#[derive(Drop)]
+pub struct Growing<K, V> {
+    spine: Spine<K, V>,
+    last: Option<Box<Node<K, V>>>,
+    alloc: Global,
+}
+
+impl<K, V> Model for Growing<K, V> {
+    ghost use Rattle.std.specs.Prelude.{List};
+    ghost use Rattle.fc_tree_build.specs.Built.{grown, IsGrown};
+
+    ghost Value = { List (K × V) };
+
+    ghost view = { λ g. grown g.spine g.last };
+
+    ghost invariant = { λ g. IsGrown g.spine g.last };
+}
+
+impl<K, V> Growing<K, V> {
+    /// The last pair; none where there is no pair.
+    pub fn last(&self) -> Option<&(K, V)>
+        ensures { IsLastPair self.now result }
+    {
+        let Some(leaf) = &self.last else {
+            return None;
+        };
+        if leaf.len() > 0 {
+            return Some(leaf.pair(leaf.len() - 1));
+        }
+        last_of(&self.spine)
+    }
+}
+
+impl<K: Drop, V: Drop> Growing<K, V> {
+    /// A tree of no pair. It asks for nothing.
+    pub fn new(alloc: Global) -> Growing<K, V>
+        ensures { result ≡ [] }
+    {
+        Growing {
+            spine: Stack::new(),
+            last: None,
+            alloc,
+        }
+    }
+
+    /// The tree at `root`, taken apart at its right edge. It takes no memory, compares nothing and moves no pair.
+    pub fn over(alloc: Global, root: Option<Box<Node<K, V>>>) -> Growing<K, V>
+        requires { IsSoundMap (root_of root) }
+        ensures { result ≡ entries (root_of root) }
+    {
+        let mut spine = Stack::new();
+        let last = match root {
+            None => None,
+            Some(root) => Some(open_right(&mut spine, root)),
+        };
+        Growing { spine, last, alloc }
+    }
+
+    /// Puts the pair after the others. It compares nothing and moves no other pair. At the first pair it makes a leaf; where the last leaf
+    /// is full, a leaf, a blank node for each full one of the right edge that is closed, and a new root where all are full.
+    ///
+    /// # Errors
+    /// The pair and `AllocError` if one of them is refused: all are made before the pair is put. The tree is then as before.
+    pub fn push(&mut self, pair: (K, V)) -> Result<(), ((K, V), TryReserveError)>
+        ensures pairs { IfOk result (λ _. self.new ≡ self.old ++ pair ∷ []) }
+        ensures unchanged { IfErr result (λ _. self.new ≡ self.old) }
+        ensures back { IfErr result (λ e. e.0 ≡ pair) }
+        ensures error { IfErr result (λ e. e.1 ≡ TryReserveError.AllocError) }
+        ensures full { IfErr result (λ _. (self.old ≡ []) ⊎ (capacity ≤ length self.old)) }
+    {
+        let Some(mut leaf) = self.last.take() else {
+            return match first_leaf(self.alloc, pair) {
+                Ok(leaf) => {
+                    self.last = Some(leaf);
+                    Ok(())
+                }
+                Err(back) => Err(back),
+            };
+        };
+        if leaf.len() < CAPACITY {
+            put_pair(&mut leaf, pair);
+            self.last = Some(leaf);
+            return Ok(());
+        }
+        match hang_full(self.alloc, &mut self.spine, leaf, pair) {
+            Ok(blank) => {
+                self.last = Some(blank);
+                Ok(())
+            }
+            Err((leaf, pair, error)) => {
+                self.last = Some(leaf);
+                Err((pair, error))
+            }
+        }
+    }
+
+    /// The root of a sound tree of the pairs; none where there is no pair.
+    pub fn finish(self) -> Option<Box<Node<K, V>>>
+        ensures pairs { entries (root_of result) ≡ self }
+        ensures sound { IsSoundMap (root_of result) }
+    {
+        let Growing {
+            mut spine,
+            last,
+            alloc: _,
+        } = self;
+        let Some(last) = last else {
+            return None;
+        };
+        mend_right(close(&mut spine, last))
+    }
+}
+
+// A leaf of one pair.
+#[inline(never)]
+fn first_leaf<K: Drop, V: Drop>(
+    alloc: Global,
+    pair: (K, V),
+) -> Result<Box<Node<K, V>>, ((K, V), TryReserveError)>
+    ensures ok { IfOk result (λ leaf. (own_pairs leaf.value ≡ pair ∷ []) × IsLeaf leaf.value) }
+    ensures error { IfErr result (λ e. (e.0 ≡ pair) × (e.1 ≡ TryReserveError.AllocError)) }
+{
+    match Node::try_leaf(alloc) {
+        Ok(mut leaf) => {
+            put_pair(&mut leaf, pair);
+            Ok(leaf)
+        }
+        Err(error) => Err((pair, error)),
+    }
+}
+
+// Puts the full leaf and the pair after it at the spine's end, and answers a blank leaf that comes next; where a node is refused, what it
+// was given.
+#[inline(never)]
+fn hang_full<K: Drop, V: Drop>(
+    alloc: Global,
+    spine: &mut Spine<K, V>,
+    leaf: Box<Node<K, V>>,
+    pair: (K, V),
+) -> Result<Box<Node<K, V>>, (Box<Node<K, V>>, (K, V), TryReserveError)>
+    requires levels { IsSpine 0 spine.old × IsSound 0 leaf.value }
+    requires low { length spine.old ≤ most_height }
+    ensures blank { IfOk result (λ blank. IsBlankLeaf blank.value) }
+    ensures pairs { IfOk result (λ _. before_back spine.new ≡ before_back spine.old ++ (pairs_of leaf.value ++ pair ∷ [])) }
+    ensures levels { IfOk result (λ _. IsSpine 0 spine.new × (length spine.new ≤ most_height)) }
+    ensures unchanged { IfErr result (λ e. (spine.new ≡ spine.old) × (e.0 ≡ leaf) × (e.1 ≡ pair)) }
+    ensures error { IfErr result (λ e. e.2 ≡ TryReserveError.AllocError) }
+{
+    match try_leaf_and_inner(alloc, needed(spine)) {
+        Ok((blank, mut spares)) => {
+            attach(spine, leaf, pair, &mut spares);
+            Ok(blank)
+        }
+        Err(error) => Err((leaf, pair, error)),
+    }
+}
+
+// A leaf and so many inner nodes. For more than a tree has levels above its leaves none are made, so that no tree gets too high; as many as
+// `usize::MAX` pairs never need them.
+fn try_leaf_and_inner<K: Drop, V: Drop>(
+    alloc: Global,
+    inner: usize,
+) -> Result<(Box<Node<K, V>>, Vec<Box<Node<K, V>>>), TryReserveError>
+    ensures leaf { IfOk result (λ nodes. IsBlankLeaf nodes.0.value) }
+    ensures inner { IfOk result (λ nodes. (length nodes.1.items ≡ inner) × AllByRecursion (λ b. IsBlankInner b.value) nodes.1.items × (inner ≤ most_height)) }
+    ensures error { IfErr result (λ e. e ≡ TryReserveError.AllocError) }
+{
+    if inner >= MAX_STEPS {
+        return Err(TryReserveError::AllocError);
+    }
+    let leaf = Node::try_leaf(alloc)?;
+    let spares = try_inner_nodes(alloc, inner)?;
+    Ok((leaf, spares))
+}

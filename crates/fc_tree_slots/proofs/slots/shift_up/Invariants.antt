@@ -1,9 +1,0 @@
-use Rattle.std.proofs.Common.{◌≡◌, ℕ, ◌+◌, ◌-◌, ◌≤◌, List, [], length, take, drop}
-use Rattle.fc_tree_slots.specs.Cells.{row}
-use Rattle.fc_tree_slots.proofs.slots.shift_up.Given as goal
-
-abbrev pub invariant-loop-i : goal.invariant-loop-i
-invariant-loop-i g l =
-    ((zs : List g.row.T.Denot) (m : ℕ) → l.initial.cells ≡ row zs l.by [] m → length zs ≡ l.end - l.by
-    → l.cells ≡ row (take l.i zs) l.by (drop l.i zs) m)
-    × (l.count.moves + l.i ≡ l.initial.count.moves + (l.end - l.by)) × (l.from ≤ l.i) × (l.count.comparisons ≡ l.initial.count.comparisons)
