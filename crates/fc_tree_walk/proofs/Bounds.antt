@@ -7,7 +7,7 @@ use Rattle.std.specs.declared.cmp.Ordering.TheVariants.{Less, Equal, Greater}
 use Rattle.std.proofs.lemmas.List.Elements.{filter-append}
 use Rattle.fc_tree_node.specs.declared.node.Node.{Node}
 use Rattle.fc_tree_search.specs.Found.{AllBelow, AllAbove, IsFound, IsGap}
-use Rattle.fc_tree_node.specs.Node.{pairs_of, IsLevelled}
+use Rattle.fc_tree_node.specs.Node.{pairs_of, IsLevelled, IsTree}
 use Rattle.fc_tree_node.specs.LeafGap.{IsLeafGap}
 use Rattle.fc_tree_node.specs.Path.{before_gap, after_gap}
 use Rattle.fc_tree_node.specs.Tree.{Map, entries, IsSoundMap}
@@ -18,7 +18,7 @@ use Rattle.fc_tree_node.proofs.Lists.{all_both}
 use Rattle.fc_tree_node.proofs.Gaps.{gap_pairs, place_pairs}
 
 -- One list, cut twice at the same place.
-same_cut : {X : Type 0} (a b c d : List X) → a ++ b ≡ c ++ d → length a ≡ length c → (a ≡ c) × (b ≡ d)
+pub same_cut : {X : Type 0} (a b c d : List X) → a ++ b ≡ c ++ d → length a ≡ length c → (a ≡ c) × (b ≡ d)
 same_cut [] b [] d e h = (refl, e)
 same_cut [] b (y ∷ c) d e h = absurd (omega arith)
 same_cut (x ∷ a) b [] d e h = absurd (omega arith)
@@ -38,11 +38,15 @@ module _ {K V : Type 0} where
   gap_entries None gap o g = refl
   gap_entries (Some root) gap o g = gap_pairs gap o.0 root o.2.1 (g.1 o.0 o.2.1) g.0
 
-  pub first_rest : (m : Map K V) (gap : List ℕ) → IsSoundMap m → IsGapIn m gap → length (before_gap_in m gap) ≡ 0 → after_gap_in m gap ≡ entries m
-  first_rest m gap o g e = sym (same_cut [] (entries m) (before_gap_in m gap) (after_gap_in m gap) (gap_entries m gap o g) (sym e)).1
+  pub first_rest : (gap : List ℕ) (root : Node K V) → IsTree root → IsLeafGap gap root → length (before_gap gap root) ≡ 0 → after_gap gap root ≡ pairs_of root
+  first_rest gap root t g e = sym (same_cut [] (pairs_of root) (before_gap gap root) (after_gap gap root) (gap_pairs gap t.0 root t.2 (g.1 t.0 t.2) g.0) (sym e)).1
 
-  pub last_lead : (m : Map K V) (gap : List ℕ) → IsSoundMap m → IsGapIn m gap → length (before_gap_in m gap) ≡ length (entries m) → before_gap_in m gap ≡ entries m
-  last_lead m gap o g e = (same_cut (before_gap_in m gap) (after_gap_in m gap) (entries m) [] (sym (gap_entries m gap o g) ∙ sym (append-nil (entries m))) e).0
+  pub last_lead : (gap : List ℕ) (root : Node K V) → IsTree root → IsLeafGap gap root → length (before_gap gap root) ≡ length (pairs_of root) → before_gap gap root ≡ pairs_of root
+  last_lead gap root t g e = (same_cut (before_gap gap root) (after_gap gap root) (pairs_of root) [] (sym (gap_pairs gap t.0 root t.2 (g.1 t.0 t.2) g.0) ∙ sym (append-nil (pairs_of root))) e).0
+
+  -- A gap of a map's root.
+  pub gap_there : (m : Map K V) (n : Node K V) (old new : List ℕ) (count : ℕ) → m ≡ Some n → old ≡ [] → GoesOn old new n count → IsGapIn m new × (length (before_gap_in m new) ≡ count)
+  gap_there m n old new count is e g = subst (λ d. IsGapIn d new × (length (before_gap_in d new) ≡ count)) (sym is) (from_nothing old new n count e g)
 
 -- A list in two parts, by a test.
 module _ {X : Type 0} (p : X → Bool) where

@@ -3,6 +3,7 @@ use Rattle.std.proofs.Common.{◌≡◌, ℕ, zero, suc, ◌+◌, ◌-◌, ◌<�
 use Rattle.std.specs.Prelude.{slice_range}
 use Rattle.fc_base.specs.Sizes.{capacity, most_levels}
 use Rattle.fc_tree_node.specs.declared.node.Node.{Node}
+use Rattle.fc_tree_node.specs.Leaf.{leaf_at}
 use Rattle.fc_tree_node.specs.Node.{own_pairs, children_of, child_at, pairs_of, IsLevelled}
 use Rattle.fc_tree_node.specs.Path.{IsPath, before_gap}
 use Rattle.fc_tree_node.specs.Place.{before_child, after_child, before_own, IsPlace, before_pair}
@@ -11,7 +12,8 @@ use Rattle.fc_tree_node.proofs.PathSteps.{IsStep}
 use Rattle.fc_tree_node.proofs.Gaps.{leaf_gap, inner_gap, own_pair, before_child_pair, after_child_pair, after_none, item_there}
 use Rattle.fc_tree_node.proofs.Lists.{length_take}
 use Rattle.fc_tree_node.specs.Tree.{Map, entries, IsSoundMap}
-use Rattle.fc_tree_walk.specs.Gap.{zeros, one_back, GoesOn, IsGapIn}
+use Rattle.fc_tree_walk.specs.Gap.{zeros, one_back, GoesOn, EndsIn, IsGapIn}
+use Rattle.fc_tree_walk.proofs.Bounds.{same_cut}
 use Rattle.fc_tree_node.specs.LeafGap.{IsLeafGap}
 use Rattle.fc_tree_node.specs.TreePlace.{IsPlaceIn, before_gap_in, before_pair_in}
 
@@ -215,6 +217,21 @@ module _ {K V : Type 0} where
       deep zero m = absurd (let e : length (children_of n) ≡ length (own_pairs n) + 1 = l.1 in let f : length (children_of n) ≡ 0 = ap length (leaf_children n m.1) in omega arith)
       deep (suc k) m = let d = g.2.1 k (child_below k n i m le).1 in omega arith
 
+  -- the leaf that a path goes on to
+  pub leaf_more : (i : ℕ) (path : List ℕ) (n : Node K V) → 0 < length path → leaf_at (i ∷ path) n ≡ leaf_at path (child_at n i)
+  leaf_more i [] n k = absurd (omega arith)
+  leaf_more i (j ∷ path) n k = refl
+
+  pub ends_here : (old new : List ℕ) (i : ℕ) (n : Node K V) → new ≡ old ++ i ∷ [] → EndsIn old new n n
+  ends_here old new i n e path f = ap (λ p. leaf_at p n) (same_cut old (i ∷ []) old path (sym e ∙ f) refl).1
+
+  pub ends_below : (old mid new : List ℕ) (i count : ℕ) (n c leaf : Node K V) → mid ≡ old ++ i ∷ [] → c ≡ child_at n i → (h : ℕ) × IsLevelled h c → GoesOn mid new c count → EndsIn mid new c leaf → EndsIn old new n leaf
+  ends_below old mid new i count n c leaf m is l g e path f =
+      let q = g.0 in
+      let some : 0 < length q = (let k = g.2.1 l.0 l.1 in omega arith) in
+      let there : new ≡ old ++ i ∷ q = g.1 ∙ ap (λ p. p ++ q) m ∙ append_assoc old (i ∷ []) q in
+      e q g.1 ∙ ap (leaf_at q) is ∙ sym (leaf_more i q n some) ∙ ap (λ p. leaf_at p n) (same_cut old (i ∷ q) old path (sym there ∙ f) refl).1
+
   -- the last gap below a node
   pub last_gap_leaf : (old new : List ℕ) (i : ℕ) (n : Node K V) → (h : ℕ) × IsLevelled h n × (length old + h < most_levels) → i ≡ length (own_pairs n) → length (children_of n) ≤ i → new ≡ old ++ i ∷ [] → GoesOn old new n (length (pairs_of n))
   last_gap_leaf old new i n (zero, l, s) e c is =
@@ -250,15 +267,6 @@ module _ {K V : Type 0} where
   behind_child old mid new i n c (suc h, l, s) k d m is g =
       let r = goes_child old new (i + 1) h n 0 l (omega arith) (subst (λ d. GoesOn (old ++ (i + 1) ∷ []) new d 0) is (subst (λ m. GoesOn m new c 0) m g)) in
       let a = next_before (suc h) n i l k in
-      (r.0, r.1, r.2, r.3 ∙ omega (arith, a))
-
-  pub behind_below : (old mid new : List ℕ) (i j : ℕ) (place : List ℕ) (n c : Node K V) → (h : ℕ) × IsLevelled h n × (length old + h < most_levels) → IsPlace (i ∷ j ∷ place) n → mid ≡ old ++ i ∷ [] → c ≡ child_at n i → GoesOn mid new c (length (before_pair (j ∷ place) c) + 1) → GoesOn old new n (length (before_pair (i ∷ j ∷ place) n) + 1)
-  behind_below old mid new i j place n c (zero, l, s) p m is g = absurd (let f : length (children_of n) ≡ 0 = ap length (leaf_children n l.1) in let k = p.0 in omega arith)
-  behind_below old mid new i j place n c (suc h, l, s) p m is g =
-      let e : length (children_of n) ≡ length (own_pairs n) + 1 = l.1 in
-      let k = p.0 in
-      let a = length-append (before_child n i) (before_pair (j ∷ place) (child_at n i)) in
-      let r = goes_child old new i h n (length (before_pair (j ∷ place) (child_at n i)) + 1) l (omega arith) (subst (λ d. GoesOn (old ++ i ∷ []) new d (length (before_pair (j ∷ place) d) + 1)) is (subst (λ m. GoesOn m new c (length (before_pair (j ∷ place) c) + 1)) m g)) in
       (r.0, r.1, r.2, r.3 ∙ omega (arith, a))
 
   -- the gap before a pair

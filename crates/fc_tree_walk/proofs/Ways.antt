@@ -1,23 +1,24 @@
 -- Down the way to a gap, to the lowest node with a pair on one side of it, and to the gap on the other side of that pair.
-use Rattle.std.proofs.Common.{◌≡◌, ℕ, zero, suc, ◌+◌, ◌-◌, ◌<◌, ◌≤◌, List, [], ◌∷◌, ◌++◌, length, take, drop, get_or, slice_get, refl, sym, ap, subst, ◌∙◌, arith, Option, Some, None, ◌⊎◌, inl, inr, length-append, append_assoc}
+use Rattle.std.proofs.Common.{◌≡◌, ℕ, zero, suc, ◌+◌, ◌-◌, ◌<◌, ◌≤◌, List, [], ◌∷◌, ◌++◌, length, take, get_or, slice_get, refl, sym, ap, subst, ◌∙◌, arith, Option, Some, None, IsTrue, false, ◌⊎◌, inl, inr, length-append, append_assoc}
 use Rattle.std.specs.Prelude.{slice_set}
 use Rattle.std.proofs.lemmas.Bool.{cases_lt}
 use Rattle.std.proofs.lemmas.List.{take_more, take_more_set, take-set-le, get_or-set_same, get_or-set_other}
-use Rattle.fc_base.specs.Sizes.{most_levels}
+use Rattle.fc_base.specs.Sizes.{capacity, most_levels}
 use Rattle.fc_tree_node.specs.declared.node.Node.{Node}
 use Rattle.fc_tree_node.specs.Leaf.{leaf_at}
 use Rattle.fc_tree_node.specs.LeafGap.{IsLeafGap}
-use Rattle.fc_tree_node.specs.Node.{own_pairs, children_of, child_at, pairs_of, IsLevelled}
+use Rattle.fc_tree_node.specs.Node.{own_pairs, children_of, child_at, pairs_of, IsLeaf, IsLevelled, IsTree}
 use Rattle.fc_tree_node.specs.Path.{IsPath, before_gap, after_gap}
-use Rattle.fc_tree_node.specs.Place.{before_child, before_own, after_own, IsDescent, node_at}
+use Rattle.fc_tree_node.specs.Place.{before_child, before_own, after_own, IsDescent, node_at, IsPlace, before_pair}
 use Rattle.fc_tree_node.specs.Tree.{Map, entries, IsSoundMap}
 use Rattle.fc_tree_node.specs.TreePlace.{before_gap_in}
 use Rattle.fc_tree_node.proofs.Gaps.{own_pair, before_child_pair, after_none, item_there, step_levels, descent_levels, descent_pairs, node_more, before_more}
 use Rattle.fc_tree_node.proofs.Lists.{length_take, length_set}
 use Rattle.fc_tree_node.proofs.Pairs.{child_below, leaf_children}
-use Rattle.fc_tree_walk.specs.Gap.{GoesOn, IsGapIn, LeadsTo, IsBeside, IsAbove}
+use Rattle.fc_tree_search.proofs.SearchFacts.{child_there}
+use Rattle.fc_tree_walk.specs.Gap.{GoesOn, EndsIn, IsGapIn, LeadsTo, IsBeside, IsAbove}
 use Rattle.fc_tree_walk.proofs.Slices.{get_seam}
-use Rattle.fc_tree_walk.proofs.GapFacts.{leaf_before_own, inner_length, inner_before, end_leaf, one_height, next_before, behind_child, pair_gap_child, first_gap_leaf, last_gap_leaf}
+use Rattle.fc_tree_walk.proofs.GapFacts.{leaf_before_own, inner_length, inner_before, end_leaf, one_height, next_before, behind_leaf, behind_child, pair_gap_leaf, pair_gap_child, first_gap_leaf, last_gap_leaf, leaf_more}
 
 whole : (p : List ℕ) (m : ℕ) → m ≡ length p → take m p ≡ p
 whole [] zero e = refl
@@ -328,14 +329,124 @@ module _ {K V : Type 0} where
       let le = n.own.1 in
       subst (λ d. IsPassedBack (Some d) gap new x) same (record { slot = w.0; step = omega arith; pair = ap (slice_get (pairs_of root)) w.1 ∙ own_get gap o.0 place (get_or gap place 0 - 1) root best x l n.way (omega arith) e })
 
-  -- ---- the leaf of a gap, and the node above it
-
   pub leaf_node : (gap : List ℕ) (level : ℕ) (n : Node K V) → level + 1 ≡ length gap → leaf_at gap n ≡ node_at (take level gap) n
   leaf_node [] level n e = absurd (omega arith)
   leaf_node (i ∷ []) zero n e = refl
   leaf_node (i ∷ []) (suc level) n e = absurd (omega arith)
   leaf_node (i ∷ j ∷ gap) zero n e = absurd (omega arith)
   leaf_node (i ∷ j ∷ gap) (suc level) n e = leaf_node (j ∷ gap) level (child_at n i) (omega arith)
+
+  -- ---- from a pair that was found to the gaps beside it
+
+  -- The node that has the pair at a place.
+  pub record IsSpot (place : List ℕ) (root : Node K V) (h k : ℕ) : Type 0 where
+    pub way : LeadsTo place root k (leaf_at place root)
+    pub own : get_or place k 0 < length (own_pairs (leaf_at place root))
+    pub before : length (before_pair place root) ≡ length (before_gap (take k place) root) + length (before_own (leaf_at place root) (get_or place k 0))
+    pub height : ℕ
+    pub levels : IsLevelled height (leaf_at place root)
+    pub deep : k + height ≡ h
+
+  spot : (place : List ℕ) (h k : ℕ) (root : Node K V) → IsLevelled h root → IsPlace place root → k + 1 ≡ length place → IsSpot place root h k
+  spot [] h k root l p e = absurd p
+  spot (i ∷ []) h zero root l p e = record { way = (omega arith, tt, refl); own = p; before = omega arith; height = h; levels = l; deep = omega arith }
+  spot (i ∷ []) h (suc k) root l p e = absurd (omega arith)
+  spot (i ∷ j ∷ place) h zero root l p e = absurd (omega arith)
+  spot (i ∷ j ∷ place) h (suc k) root l p e =
+      let t = step_levels h root i l p.0 in
+      let c = child_at root i in
+      let r = spot (j ∷ place) t.0 k c t.2 p.1 (omega arith) in
+      let a = length-append (before_child root i) (before_pair (j ∷ place) c) in
+      let b = length-append (before_child root i) (before_gap (take k (j ∷ place)) c) in
+      let d = r.before in
+      let up = t.1 in
+      let deep = r.deep in
+      record { way = (omega arith, (p.0, r.way.1), r.way.2); own = r.own; before = omega (arith, a, b, d); height = r.height; levels = r.levels; deep = omega arith }
+
+  pub level_capacity : (h : ℕ) (n : Node K V) → IsLevelled h n → length (own_pairs n) ≤ capacity
+  level_capacity zero n l = l.0
+  level_capacity (suc h) n l = l.0
+
+  pub some_steps : (place : List ℕ) (root : Node K V) → IsPlace place root → length place - 1 + 1 ≡ length place
+  some_steps [] root p = absurd p
+  some_steps (i ∷ place) root p = omega arith
+
+  leaf_along : (s q : List ℕ) (n : Node K V) → 0 < length q → leaf_at (s ++ q) n ≡ leaf_at q (node_at s n)
+  leaf_along [] q n k = refl
+  leaf_along (i ∷ s) q n k = leaf_more i (s ++ q) n (let a = length-append s q in omega (arith, a)) ∙ leaf_along s q (child_at n i) k
+
+  pub record IsReached (root : Node K V) (new : List ℕ) (count : ℕ) (leaf : Node K V) : Type 0 where
+    pub slot : IsLeafGap new root
+    pub count_is : length (before_gap new root) ≡ count
+    pub leaf_is : leaf ≡ leaf_at new root
+
+  module _ (place : List ℕ) (root : Node K V) (t : IsTree root) (p : IsPlace place root) (k : ℕ) (e : k + 1 ≡ length place) where
+    pub at : IsSpot place root t.0 k
+    at = spot place t.0 k root t.2 p e
+
+    levels : (h : ℕ) × IsLevelled h (leaf_at place root) × (length (take k place) + h < most_levels)
+    levels = let a = length_take k place (omega arith) in let b = at.deep in let c = t.1 in (at.height, at.levels, omega (arith, a, b, c))
+
+    -- Where it is no leaf it has a child on either side of the pair, and a path has room for what lies below.
+    pub beside : (IsLeaf (leaf_at place root) → IsTrue false) → get_or place k 0 + 1 < length (children_of (leaf_at place root))
+    beside inner = let own = at.own in child_there at.height (leaf_at place root) (get_or place k 0 + 1) at.levels inner (omega arith)
+
+    pub below : (mid : List ℕ) (j : ℕ) (c : Node K V) → length mid ≡ length place → j < length (children_of (leaf_at place root)) → c ≡ child_at (leaf_at place root) j → (h : ℕ) × IsLevelled h c × (length mid + h < most_levels)
+    below mid j c long there is =
+        let l = step_levels at.height (leaf_at place root) j at.levels there in
+        let a = at.deep in
+        let b = t.1 in
+        let up = l.1 in
+        (l.0, subst (IsLevelled l.0) (sym is) l.2, omega (arith, a, b, long))
+
+    here : place ≡ take k place ++ get_or place k 0 ∷ []
+    here = sym (whole place (k + 1) e) ∙ take_more place k 0 (omega arith)
+
+    onward : (mid new : List ℕ) (j count n : ℕ) (c leaf : Node K V) → mid ≡ take k place ++ j ∷ [] → j < length (children_of (leaf_at place root)) → c ≡ child_at (leaf_at place root) j → GoesOn (take k place) new (leaf_at place root) count → GoesOn mid new c n → EndsIn mid new c leaf → IsReached root new (length (before_gap (take k place) root) + count) leaf
+    onward mid new j count n c leaf m there is g f ends =
+        let l = step_levels at.height (leaf_at place root) j at.levels there in
+        let r = went place new t.0 k count root (leaf_at place root) t.2 at.way g in
+        let q = f.0 in
+        let some : 0 < length q = (let d = f.2.1 l.0 (subst (IsLevelled l.0) (sym is) l.2) in omega arith) in
+        record {
+          slot = r.0;
+          count_is = r.1;
+          leaf_is = ends q f.1 ∙ ap (leaf_at q) (is ∙ ap (λ d. child_at d j) at.way.2 ∙ sym (node_more (take k place) j root) ∙ ap (λ s. node_at s root) (sym m)) ∙ sym (leaf_along mid q root some) ∙ ap (λ s. leaf_at s root) (sym f.1);
+        }
+
+    -- Before it, in a leaf and in an inner node.
+    pub before_in_leaf : IsLeaf (leaf_at place root) → IsLeafGap place root × (length (before_gap place root) ≡ length (before_pair place root))
+    before_in_leaf l =
+        let none = ap length (leaf_children (leaf_at place root) l) in
+        let r = went place place t.0 k _ root (leaf_at place root) t.2 at.way (pair_gap_leaf (take k place) place (get_or place k 0) (leaf_at place root) levels at.own (omega arith) here) in
+        (r.0, r.1 ∙ sym at.before)
+
+    pub before_in_child : (new : List ℕ) (c leaf : Node K V) → get_or place k 0 < length (children_of (leaf_at place root)) → c ≡ child_at (leaf_at place root) (get_or place k 0) → GoesOn place new c (length (pairs_of c)) → EndsIn place new c leaf
+        → IsReached root new (length (before_pair place root)) leaf
+    before_in_child new c leaf there is g ends =
+        let r = onward place new (get_or place k 0) _ _ c leaf here there is (pair_gap_child (take k place) place new (get_or place k 0) (leaf_at place root) c levels at.own there here is g) g ends in
+        record { slot = r.slot; count_is = r.count_is ∙ sym at.before; leaf_is = r.leaf_is }
+
+    -- After it.
+    pub after_in_leaf : (new : List ℕ) → new ≡ slice_set place k (get_or place k 0 + 1) → IsLeaf (leaf_at place root) → IsReached root new (length (before_pair place root) + 1) (leaf_at place root)
+    after_in_leaf new f l =
+        let none = ap length (leaf_children (leaf_at place root) l) in
+        let r = went place new t.0 k _ root (leaf_at place root) t.2 at.way (behind_leaf (take k place) new (get_or place k 0) (leaf_at place root) levels at.own (omega arith) (end_set place new k _ e f)) in
+        let long = set_length place new k _ f in
+        let b = at.before in
+        let s = r.1 in
+        record { slot = r.0; count_is = omega (arith, b, s); leaf_is = at.way.2 ∙ ap (λ s. node_at s root) (sym (take-set-le k place k _ (omega arith)) ∙ ap (take k) (sym f)) ∙ sym (leaf_node new k root (omega (arith, long, e))) }
+
+    pub after_in_child : (mid new : List ℕ) (c leaf : Node K V) → mid ≡ slice_set place k (get_or place k 0 + 1) → get_or place k 0 + 1 < length (children_of (leaf_at place root)) → c ≡ child_at (leaf_at place root) (get_or place k 0 + 1) → GoesOn mid new c 0 → EndsIn mid new c leaf
+        → IsReached root new (length (before_pair place root) + 1) leaf
+    after_in_child mid new c leaf f there is g ends =
+        let m = end_set place mid k _ e f in
+        let r = onward mid new (get_or place k 0 + 1) _ 0 c leaf m there is (behind_child (take k place) mid new (get_or place k 0) (leaf_at place root) c levels at.own there m is g) g ends in
+        let b = at.before in
+        let s = r.count_is in
+        record { slot = r.slot; count_is = omega (arith, b, s); leaf_is = r.leaf_is }
+
+  -- ---- the leaf of a gap, and the node above it
 
   -- It is above another gap of the leaf too.
   pub above_beside : (m : Map K V) (gap new : List ℕ) (above : Option (Node K V)) → IsBeside gap new → IsAbove m gap above → IsAbove m new above

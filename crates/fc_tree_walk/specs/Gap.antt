@@ -2,6 +2,7 @@
 use Rattle.std.specs.Prelude.{◌≡◌, ℕ, zero, suc, ◌-◌, ◌<◌, ◌≤◌, List, [], ◌∷◌, ◌++◌, length, take, slice_set, Option, Some, None}
 use Rattle.fc_tree_node.specs.declared.node.Node.{Node}
 use Rattle.fc_tree_node.specs.Path.{before_gap}
+use Rattle.fc_tree_node.specs.Leaf.{leaf_at}
 use Rattle.fc_tree_node.specs.LeafGap.{IsLeafGap}
 use Rattle.fc_tree_node.specs.Place.{IsDescent, node_at}
 use Rattle.fc_tree_node.specs.Tree.{Map}
@@ -31,6 +32,10 @@ module _ {K V : Type 0} where
   -- A path goes on to a gap of a leaf below the node, which is after that many of the node's pairs.
   abbrev pub GoesOn : List ℕ → List ℕ → Node K V → ℕ → Type 0
   GoesOn old new n count = (path : List ℕ) × (new ≡ old ++ path) × IsLeafGap path n × (length (before_gap path n) ≡ count)
+
+  -- Where a path goes on from a node, that is the leaf of its gap.
+  abbrev pub EndsIn : List ℕ → List ℕ → Node K V → Node K V → Type 0
+  EndsIn old new n leaf = (path : List ℕ) → new ≡ old ++ path → leaf ≡ leaf_at path n
 
   -- Two paths lead to gaps of the map, the first to no later one than the second.
   abbrev pub AreEndsIn : Map K V → List ℕ → List ℕ → Type 0

@@ -6,7 +6,7 @@ ghost use Rattle.fc_base.specs.Sizes.{most_levels};
 ghost use Rattle.fc_tree_node.specs.Node.{pairs_of, IsLevelled};
 ghost use Rattle.fc_tree_node.specs.Path.{IsPath, before_gap};
 ghost use Rattle.fc_tree_node.specs.Place.{IsPlace, before_pair};
-ghost use Rattle.fc_tree_walk.specs.Gap.{one_back, GoesOn};
+ghost use Rattle.fc_tree_walk.specs.Gap.{one_back, GoesOn, EndsIn};
 
 use fc_tree_node::node::Node;
 use fc_tree_node::path::Path;
@@ -56,45 +56,31 @@ pub fn steps_to_previous<K, V>(node: &Node<K, V>, gap: &[u8]) -> usize
     if below == 0 { own } else { below + 1 }
 }
 
-/// Goes on to the last gap below the node.
-pub fn push_last<K, V>(node: &Node<K, V>, gap: &mut Path)
+/// Goes on to the last gap below the node, and answers its leaf.
+pub fn push_last<'a, K, V>(node: &'a Node<K, V>, gap: &mut Path) -> &'a Node<K, V>
     requires levels { (h : ℕ) × IsLevelled h node.now × (length gap.old + h < most_levels) }
-    ensures { GoesOn gap.old gap.new node.now (length (pairs_of node.now)) }
+    ensures gap { GoesOn gap.old gap.new node.now (length (pairs_of node.now)) }
+    ensures leaf { EndsIn gap.old gap.new node.now result.now }
 {
     let end = node.len();
     gap.push(end);
     if end < node.child_count() {
-        push_last(node.child(end), gap);
+        return push_last(node.child(end), gap);
     }
+    node
 }
 
-/// Goes on to the first gap below the node.
-pub fn push_first<K, V>(node: &Node<K, V>, gap: &mut Path)
+/// Goes on to the first gap below the node, and answers its leaf.
+pub fn push_first<'a, K, V>(node: &'a Node<K, V>, gap: &mut Path) -> &'a Node<K, V>
     requires levels { (h : ℕ) × IsLevelled h node.now × (length gap.old + h < most_levels) }
-    ensures { GoesOn gap.old gap.new node.now 0 }
+    ensures gap { GoesOn gap.old gap.new node.now 0 }
+    ensures leaf { EndsIn gap.old gap.new node.now result.now }
 {
     gap.push(0);
     if 0 < node.child_count() {
-        push_first(node.child(0), gap);
+        return push_first(node.child(0), gap);
     }
-}
-
-/// Goes on to the gap after the pair that the path leads to.
-pub fn push_gap_after<K, V>(node: &Node<K, V>, place: &[u8], gap: &mut Path)
-    requires place { IsPlace place.now node.now }
-    requires levels { (h : ℕ) × IsLevelled h node.now × (length gap.old + h < most_levels) }
-    ensures { GoesOn gap.old gap.new node.now (length (before_pair place.now node.now) + 1) }
-{
-    let step = place[0] as usize;
-    if place.len() > 1 {
-        gap.push(step);
-        push_gap_after(node.child(step), &place[1..], gap);
-    } else {
-        gap.push(step + 1);
-        if step + 1 < node.child_count() {
-            push_first(node.child(step + 1), gap);
-        }
-    }
+    node
 }
 
 /// Goes on to the gap before the pair that the path leads to.

@@ -55,26 +55,7 @@ fn is_same_leaf(a: &Path, b: &Path) -> bool
 
 /// Takes the pairs of the front's leaf from its gap on, as far as the back, and goes on after them. It answers them, and whether
 /// the front has then met the back.
-pub fn take_first_run<'a, K, V>(
-    root: &'a Option<Box<Node<K, V>>>,
-    front: &mut Path,
-    back: &Path,
-) -> (&'a [(K, V)], bool)
-    requires sound { IsSoundMap (root_of root.now) }
-    requires ends { AreEndsIn (root_of root.now) front.old back.now }
-    ensures ends { AreEndsIn (root_of root.now) front.new back.now }
-    ensures run { between (root_of root.now) front.old back.now ≡ result.0.now ++ between (root_of root.now) front.new back.now }
-    ensures met { IsTrue result.1 ↔ (between (root_of root.now) front.new back.now ≡ []) }
-{
-    let Some(node) = root else {
-        return (&[], true);
-    };
-    let (_above, leaf) = leaf_of(node, front);
-    take_first_of(root, leaf, front, back)
-}
-
-// The same, where the leaf of the front is known.
-fn take_first_of<'a, K, V>(
+pub fn take_first_of<'a, K, V>(
     root: &'a Option<Box<Node<K, V>>>,
     leaf: &'a Node<K, V>,
     front: &mut Path,
@@ -103,9 +84,9 @@ fn take_first_of<'a, K, V>(
     (part(leaf, start, end), false)
 }
 
-// Takes the pairs of the back's leaf before its gap, as far as the front, and goes back before them. It answers them, and
-// whether the back has then met the front.
-fn take_last_of<'a, K, V>(
+/// Takes the pairs of the back's leaf before its gap, as far as the front, and goes back before them. It answers them, and
+/// whether the back has then met the front.
+pub fn take_last_of<'a, K, V>(
     root: &'a Option<Box<Node<K, V>>>,
     leaf: &'a Node<K, V>,
     front: &Path,

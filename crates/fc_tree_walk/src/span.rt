@@ -2,15 +2,17 @@
 //!
 //! Each end has taken the pairs of its leaf, of which most steps give one: only at a leaf's end a step looks at the tree. The node
 //! above the leaf has the next pair and the next leaf, but for its last child, from where the step goes one way down from the root.
-ghost use Rattle.std.specs.Prelude.{◌≡◌, ◌<◌, ◌↔◌, [], ◌∷◌, ◌++◌, length, IsTrue};
+ghost use Rattle.std.specs.Prelude.{◌≡◌, ◌<◌, ◌↔◌, [], ◌∷◌, ◌++◌, length, IsTrue, Some, None};
 ghost use Rattle.fc_base.specs.Ascending.{IsAscending};
 ghost use Rattle.fc_base.specs.Ranges.{bound_now, is_range, within};
+ghost use Rattle.fc_tree_node.specs.Leaf.{leaf_at};
 ghost use Rattle.fc_tree_node.specs.Tree.{entries, root_of, IsSoundMap};
 ghost use Rattle.fc_tree_walk.specs.Gap.{AreEndsIn};
 ghost use Rattle.fc_tree_walk.specs.Span.{between};
 
-use crate::ends::{first_gap_in, last_gap_in, start_gap_in, stop_gap_in};
-use crate::run::{step_first_run, step_last_run, take_first_run};
+use crate::ends::{push_start, push_stop};
+use crate::gaps::{push_first, push_last};
+use crate::run::{step_first_run, step_last_run, take_first_of, take_last_of};
 use fc_tree_node::node::Node;
 use fc_tree_node::path::Path;
 use std::marker::Model;
@@ -48,21 +50,77 @@ impl<'a, K, V> Span<'a, K, V> {
         requires { IsSoundMap (root_of root.now) }
         ensures { result ≡ entries (root_of root.now) }
     {
-        Span::from_ends(root, first_gap_in(root), last_gap_in(root))
+        let Some(node) = root else {
+            return Span::none(root);
+        };
+        let mut front = Path::new();
+        let first = push_first(node, &mut front);
+        let mut back = Path::new();
+        push_last(node, &mut back);
+        Span::from_front(root, first, front, back)
     }
 
-    // The pairs between two gaps.
-    fn from_ends(root: &'a Option<Box<Node<K, V>>>, front: Path, back: Path) -> Span<'a, K, V>
+    // No pair, where there is no root.
+    fn none(root: &'a Option<Box<Node<K, V>>>) -> Span<'a, K, V>
+        requires { root_of root.now ≡ None }
+        ensures { result ≡ [] }
+    {
+        Span {
+            root,
+            head: &[],
+            tail: &[],
+            front: Path::new(),
+            back: Path::new(),
+            above_front: None,
+            above_back: None,
+            has_met: true,
+        }
+    }
+
+    // The pairs between two gaps, of which the front takes those of its leaf.
+    fn from_front(
+        root: &'a Option<Box<Node<K, V>>>,
+        first: &'a Node<K, V>,
+        front: Path,
+        back: Path,
+    ) -> Span<'a, K, V>
         requires sound { IsSoundMap (root_of root.now) }
         requires ends { AreEndsIn (root_of root.now) front back }
+        requires first { (n : Node K V) → root_of root.now ≡ Some n → first.now ≡ leaf_at front n }
         ensures { result ≡ between (root_of root.now) front back }
     {
         let mut front = front;
-        let (head, has_met) = take_first_run(root, &mut front, &back);
+        let (head, has_met) = take_first_of(root, first, &mut front, &back);
         Span {
             root,
             head,
             tail: &[],
+            front,
+            back,
+            above_front: None,
+            above_back: None,
+            has_met,
+        }
+    }
+
+    // The same, of which the back takes those of its leaf.
+    fn from_back(
+        root: &'a Option<Box<Node<K, V>>>,
+        last: &'a Node<K, V>,
+        front: Path,
+        back: Path,
+    ) -> Span<'a, K, V>
+        requires sound { IsSoundMap (root_of root.now) }
+        requires ends { AreEndsIn (root_of root.now) front back }
+        requires last { (n : Node K V) → root_of root.now ≡ Some n → last.now ≡ leaf_at back n }
+        ensures { result ≡ between (root_of root.now) front back }
+    {
+        let mut back = back;
+        let (tail, has_met) = take_last_of(root, last, &front, &mut back);
+        Span {
+            root,
+            head: &[],
+            tail,
             front,
             back,
             above_front: None,
@@ -180,7 +238,7 @@ impl<'a, K, V> Span<'a, K, V> {
 }
 
 impl<'a, K: Ord, V> Span<'a, K, V> {
-    /// The pairs below a root whose keys lie within a range.
+    /// The pairs below a root whose keys lie within a range. The run of one end is taken at once: the back's where only it is bounded.
     pub fn within(
         root: &'a Option<Box<Node<K, V>>>,
         lo: &Bound<&K>,
@@ -191,6 +249,25 @@ impl<'a, K: Ord, V> Span<'a, K, V> {
         requires range { IsTrue (is_range K.cmp (bound_now lo.now) (bound_now hi.now)) }
         ensures { result ≡ within K.cmp (bound_now lo.now) (bound_now hi.now) (entries (root_of root.now)) }
     {
-        Span::from_ends(root, start_gap_in(root, lo), stop_gap_in(root, hi))
+        let Some(node) = root else {
+            return Span::none(root);
+        };
+        let mut front = Path::new();
+        let first = push_start(node, lo, &mut front);
+        let mut back = Path::new();
+        let last = push_stop(node, hi, &mut back);
+        if is_bounded(lo) {
+            Span::from_front(root, first, front, back)
+        } else {
+            Span::from_back(root, last, front, back)
+        }
+    }
+}
+
+// Whether a range has an end on this side.
+fn is_bounded<K>(bound: &Bound<&K>) -> bool {
+    match bound {
+        Bound::Unbounded => false,
+        _ => true,
     }
 }

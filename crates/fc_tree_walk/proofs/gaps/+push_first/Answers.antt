@@ -1,7 +1,7 @@
 use Rattle.std.proofs.Common.{length, rules, arith, sym, subst, ap, ◌∙◌, length-append}
 use Rattle.fc_tree_node.specs.Node.{IsLevelled}
 use Rattle.fc_tree_node.proofs.Gaps.{step_levels}
-use Rattle.fc_tree_walk.proofs.GapFacts.{first_gap_leaf, first_gap_child}
+use Rattle.fc_tree_walk.proofs.GapFacts.{first_gap_leaf, first_gap_child, ends_here, ends_below}
 use Rattle.fc_tree_walk.proofs.gaps.+push_first.Goals as goal
 
 pub push_first-requires : goal.push_first-requires
@@ -13,9 +13,18 @@ push_first-requires g t c κs within =
     let p = ap length c.push.ensures ∙ length-append c.args.gap.now _ in
     (omega arith, (search rules, (search rules, (s.0, subst (IsLevelled s.0) (sym c.child.ensures) s.2, omega arith))))
 
-pub returns-then-child_count-gt0 : goal.returns-then-child_count-gt0
-returns-then-child_count-gt0 g t c =
-    first_gap_child c.args.gap.now c.push.new.self c.push_first.new.gap c.args.node.now c.child.result.now c.requires.levels (omega arith) c.push.ensures c.child.ensures c.push_first.ensures
+pub returns-then-child_count-gt0-clause-gap : goal.returns-then-child_count-gt0-clause-gap
+returns-then-child_count-gt0-clause-gap g t c =
+    first_gap_child c.args.gap.now c.push.new.self c.push_first.new.gap c.args.node.now c.child.result.now c.requires.levels (omega arith) c.push.ensures c.child.ensures c.push_first.ensures.gap
 
-pub returns-else-child_count-gt0 : goal.returns-else-child_count-gt0
-returns-else-child_count-gt0 g t c = first_gap_leaf c.args.gap.now c.push.new.self c.args.node.now c.requires.levels (omega arith) c.push.ensures
+pub returns-clause-gap : goal.returns-clause-gap
+returns-clause-gap g t c = first_gap_leaf c.args.gap.now c.push.new.self c.args.node.now c.requires.levels (omega arith) c.push.ensures
+
+pub returns-then-child_count-gt0-clause-leaf : goal.returns-then-child_count-gt0-clause-leaf
+returns-then-child_count-gt0-clause-leaf g t c =
+    let l = c.requires.levels in
+    let s = step_levels l.0 c.args.node.now 0 l.1 (omega arith) in
+    ends_below c.args.gap.now c.push.new.self c.push_first.new.gap 0 _ c.args.node.now c.child.result.now c.push_first.result.now c.push.ensures c.child.ensures (s.0, subst (IsLevelled s.0) (sym c.child.ensures) s.2) c.push_first.ensures.gap c.push_first.ensures.leaf
+
+pub returns-clause-leaf : goal.returns-clause-leaf
+returns-clause-leaf g t c = ends_here c.args.gap.now c.push.new.self 0 c.args.node.now c.push.ensures

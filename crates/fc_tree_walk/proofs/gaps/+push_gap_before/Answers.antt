@@ -20,7 +20,7 @@ returns-then-step-child_count g t c =
     let place = c.args.place.now in
     let all = end_step place c.args.node.now c.requires.place (omega arith) in
     subst (λ (r : List _). GoesOn c.args.gap.now c.push_last.new.gap c.args.node.now (length (before_pair r c.args.node.now))) (sym all)
-    (pair_gap_child c.args.gap.now c.push.new.self c.push_last.new.gap _ c.args.node.now c.child-then-step-child_count.result.now c.requires.levels (subst (λ r. IsPlace r c.args.node.now) all c.requires.place) (omega arith) c.push.ensures c.child-then-step-child_count.ensures c.push_last.ensures)
+    (pair_gap_child c.args.gap.now c.push.new.self c.push_last.new.gap _ c.args.node.now c.child-then-step-child_count.result.now c.requires.levels (subst (λ r. IsPlace r c.args.node.now) all c.requires.place) (omega arith) c.push.ensures c.child-then-step-child_count.ensures c.push_last.ensures.gap)
 
 pub returns-else-step-child_count : goal.returns-else-step-child_count
 returns-else-step-child_count g t c =

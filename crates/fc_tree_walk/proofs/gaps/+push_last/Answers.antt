@@ -1,7 +1,7 @@
 use Rattle.std.proofs.Common.{length, rules, arith, sym, subst, ap, ◌∙◌, length-append}
 use Rattle.fc_tree_node.specs.Node.{IsLevelled}
 use Rattle.fc_tree_node.proofs.Gaps.{step_levels}
-use Rattle.fc_tree_walk.proofs.GapFacts.{last_gap_leaf, last_gap_child}
+use Rattle.fc_tree_walk.proofs.GapFacts.{last_gap_leaf, last_gap_child, ends_here, ends_below}
 use Rattle.fc_tree_walk.proofs.gaps.+push_last.Goals as goal
 
 pub push_last-requires : goal.push_last-requires
@@ -13,10 +13,19 @@ push_last-requires g t c κs within =
     let p = ap length c.push.ensures ∙ length-append c.args.gap.now _ in
     (omega arith, (search rules, (search rules, (s.0, subst (IsLevelled s.0) (sym c.child.ensures) s.2, omega arith))))
 
-pub returns-then-end-child_count : goal.returns-then-end-child_count
-returns-then-end-child_count g t c =
-    last_gap_child c.args.gap.now c.push.new.self c.push_last.new.gap c.len-end.result c.args.node.now c.child.result.now c.requires.levels c.len-end.ensures.value (omega arith) c.push.ensures c.child.ensures c.push_last.ensures
+pub returns-then-end-child_count-clause-gap : goal.returns-then-end-child_count-clause-gap
+returns-then-end-child_count-clause-gap g t c =
+    last_gap_child c.args.gap.now c.push.new.self c.push_last.new.gap c.len-end.result c.args.node.now c.child.result.now c.requires.levels c.len-end.ensures.value (omega arith) c.push.ensures c.child.ensures c.push_last.ensures.gap
 
-pub returns-else-end-child_count : goal.returns-else-end-child_count
-returns-else-end-child_count g t c =
+pub returns-clause-gap : goal.returns-clause-gap
+returns-clause-gap g t c =
     last_gap_leaf c.args.gap.now c.push.new.self c.len-end.result c.args.node.now c.requires.levels c.len-end.ensures.value (omega arith) c.push.ensures
+
+pub returns-then-end-child_count-clause-leaf : goal.returns-then-end-child_count-clause-leaf
+returns-then-end-child_count-clause-leaf g t c =
+    let l = c.requires.levels in
+    let s = step_levels l.0 c.args.node.now c.len-end.result l.1 (omega arith) in
+    ends_below c.args.gap.now c.push.new.self c.push_last.new.gap c.len-end.result _ c.args.node.now c.child.result.now c.push_last.result.now c.push.ensures c.child.ensures (s.0, subst (IsLevelled s.0) (sym c.child.ensures) s.2) c.push_last.ensures.gap c.push_last.ensures.leaf
+
+pub returns-clause-leaf : goal.returns-clause-leaf
+returns-clause-leaf g t c = ends_here c.args.gap.now c.push.new.self c.len-end.result c.args.node.now c.push.ensures
