@@ -18,7 +18,7 @@ pub fn insert_at_three_of_seven<T: Drop>(list: &mut Slots<T, CAPACITY>, item: T)
     count
 }
 
-/// An item put after 7 others makes 1 move.
+/// An item put after 7, a length by number, makes 1 move.
 pub fn push_after_seven<T>(list: &mut Slots<T, CAPACITY>, item: T) -> Count
     requires { length list.old ≡ 7 }
     ensures { result.moves ≡ 1 }
