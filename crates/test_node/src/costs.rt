@@ -18,6 +18,16 @@ pub fn insert_at_three_of_seven<T: Drop>(list: &mut Slots<T, CAPACITY>, item: T)
     count
 }
 
+/// An item put after 7, a length by number, makes 1 move.
+pub fn push_after_seven<T>(list: &mut Slots<T, CAPACITY>, item: T) -> Count
+    requires { length list.old ≡ 7 }
+    ensures { result.moves ≡ 1 }
+{
+    let mut count = Count::new();
+    list.push(item, &mut count);
+    count
+}
+
 /// The removal at 3 of 7 items, a length by number, makes 4 moves.
 pub fn remove_at_three_of_seven<T: Drop>(list: &mut Slots<T, CAPACITY>) -> Count
     requires { length list.old ≡ 7 }

@@ -24,9 +24,8 @@ impl Drop for Token<'_> {
 
 // Puts the item behind the others.
 fn push<T: Drop>(rt: &impl Abort, slots: &mut Slots<T, 4>, item: T) {
-    let len = slots.len();
-    assert!(rt; len < 4);
-    slots.insert(len, item, &mut Count::new());
+    assert!(rt; slots.len() < 4);
+    slots.push(item, &mut Count::new());
 }
 
 // A list of `n` items that are numbered from `first` on.
