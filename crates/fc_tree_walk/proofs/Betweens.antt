@@ -3,7 +3,6 @@ use Rattle.std.proofs.Common.{◌≡◌, ℕ, ◌+◌, ◌-◌, ◌<◌, ◌≤�
 use Rattle.std.specs.Prelude.{slice_range}
 use Rattle.std.proofs.Math.Seq.{drop-append_seam}
 use Rattle.std.proofs.lemmas.Bool.{cases_lt}
-use Rattle.std.proofs.lemmas.List.{take_all}
 use Rattle.fc_tree_node.specs.Tree.{Map, entries, IsSoundMap}
 use Rattle.fc_tree_node.specs.TreePlace.{before_gap_in, after_gap_in}
 use Rattle.fc_tree_walk.specs.Gap.{IsGapIn, AreEndsIn}
@@ -45,11 +44,6 @@ module _ {K V : Type 0} (m : Map K V) (sound : IsSoundMap m) where
           slice_split (entries m) _ (length (before_gap_in m mid)) _ (omega arith) (omega arith) ∙ ap (λ k. between m front mid ++ slice_range (entries m) (length (before_gap_in m mid)) k) (sym step)
               ∙ ap (λ xs. between m front mid ++ xs) (slice_one (entries m) _ x at),
         )
-
-  -- All is between the first gap and the last.
-  pub whole_between : (front back : List ℕ) → IsGapIn m front → IsGapIn m back → length (before_gap_in m front) ≡ 0 → length (before_gap_in m back) ≡ length (entries m) → AreEndsIn m front back × (between m front back ≡ entries m)
-  whole_between front back f b first last =
-      ((f, b, omega arith), ap (λ i. slice_range (entries m) i (length (before_gap_in m back))) first ∙ take_all (length (before_gap_in m back) - 0) (entries m) (omega arith))
 
   -- What is between is what is after the front, as far as the back.
   pub between_rest : (front back : List ℕ) → IsGapIn m front → between m front back ≡ take (length (before_gap_in m back) - length (before_gap_in m front)) (after_gap_in m front)

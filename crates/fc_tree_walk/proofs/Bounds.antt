@@ -44,10 +44,6 @@ module _ {K V : Type 0} where
   pub last_lead : (gap : List ℕ) (root : Node K V) → IsTree root → IsLeafGap gap root → length (before_gap gap root) ≡ length (pairs_of root) → before_gap gap root ≡ pairs_of root
   last_lead gap root t g e = (same_cut (before_gap gap root) (after_gap gap root) (pairs_of root) [] (sym (gap_pairs gap t.0 root t.2 (g.1 t.0 t.2) g.0) ∙ sym (append-nil (pairs_of root))) e).0
 
-  -- A gap of a map's root.
-  pub gap_there : (m : Map K V) (n : Node K V) (old new : List ℕ) (count : ℕ) → m ≡ Some n → old ≡ [] → GoesOn old new n count → IsGapIn m new × (length (before_gap_in m new) ≡ count)
-  gap_there m n old new count is e g = subst (λ d. IsGapIn d new × (length (before_gap_in d new) ≡ count)) (sym is) (from_nothing old new n count e g)
-
 -- A list in two parts, by a test.
 module _ {X : Type 0} (p : X → Bool) where
   all_kept : (s : List X) → AllByRecursion (λ x. p x ≡ true) s → filter p s ≡ s

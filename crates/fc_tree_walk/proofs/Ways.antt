@@ -367,7 +367,7 @@ module _ {K V : Type 0} where
   level_capacity zero n l = l.0
   level_capacity (suc h) n l = l.0
 
-  pub some_steps : (place : List ℕ) (root : Node K V) → IsPlace place root → length place - 1 + 1 ≡ length place
+  some_steps : (place : List ℕ) (root : Node K V) → IsPlace place root → length place - 1 + 1 ≡ length place
   some_steps [] root p = absurd p
   some_steps (i ∷ place) root p = omega arith
 
@@ -380,69 +380,76 @@ module _ {K V : Type 0} where
     pub count_is : length (before_gap new root) ≡ count
     pub leaf_is : leaf ≡ leaf_at new root
 
-  module _ (place : List ℕ) (root : Node K V) (t : IsTree root) (p : IsPlace place root) (k : ℕ) (e : k + 1 ≡ length place) where
-    pub at : IsSpot place root t.0 k
-    at = spot place t.0 k root t.2 p e
+  pub record IsHolder (place : List ℕ) (root : Node K V) : Type 0 where
+    pub tree : IsTree root
+    pub end : length place - 1 + 1 ≡ length place
+    pub at : IsSpot place root tree.0 (length place - 1)
 
-    levels : (h : ℕ) × IsLevelled h (leaf_at place root) × (length (take k place) + h < most_levels)
-    levels = let a = length_take k place (omega arith) in let b = at.deep in let c = t.1 in (at.height, at.levels, omega (arith, a, b, c))
+  pub holder : (place : List ℕ) (root : Node K V) → IsTree root → IsPlace place root → IsHolder place root
+  holder place root t p = record { tree = t; end = some_steps place root p; at = spot place t.0 (length place - 1) root t.2 p (some_steps place root p) }
+
+  module _ {place : List ℕ} {root : Node K V} (x : IsHolder place root) where
+    levels : (h : ℕ) × IsLevelled h (leaf_at place root) × (length (take (length place - 1) place) + h < most_levels)
+    levels = let e = x.end in let a = length_take (length place - 1) place (omega arith) in let b = x.at.deep in let c = x.tree.1 in (x.at.height, x.at.levels, omega (arith, a, b, c))
 
     -- Where it is no leaf it has a child on either side of the pair, and a path has room for what lies below.
-    pub beside : (IsLeaf (leaf_at place root) → IsTrue false) → get_or place k 0 + 1 < length (children_of (leaf_at place root))
-    beside inner = let own = at.own in child_there at.height (leaf_at place root) (get_or place k 0 + 1) at.levels inner (omega arith)
+    pub beside : (IsLeaf (leaf_at place root) → IsTrue false) → get_or place (length place - 1) 0 + 1 < length (children_of (leaf_at place root))
+    beside inner = let own = x.at.own in child_there x.at.height (leaf_at place root) (get_or place (length place - 1) 0 + 1) x.at.levels inner (omega arith)
 
     pub below : (mid : List ℕ) (j : ℕ) (c : Node K V) → length mid ≡ length place → j < length (children_of (leaf_at place root)) → c ≡ child_at (leaf_at place root) j → (h : ℕ) × IsLevelled h c × (length mid + h < most_levels)
     below mid j c long there is =
-        let l = step_levels at.height (leaf_at place root) j at.levels there in
-        let a = at.deep in
-        let b = t.1 in
+        let l = step_levels x.at.height (leaf_at place root) j x.at.levels there in
+        let e = x.end in
+        let a = x.at.deep in
+        let b = x.tree.1 in
         let up = l.1 in
         (l.0, subst (IsLevelled l.0) (sym is) l.2, omega (arith, a, b, long))
 
-    here : place ≡ take k place ++ get_or place k 0 ∷ []
-    here = sym (whole place (k + 1) e) ∙ take_more place k 0 (omega arith)
+    here : place ≡ take (length place - 1) place ++ get_or place (length place - 1) 0 ∷ []
+    here = let e = x.end in sym (whole place ((length place - 1) + 1) e) ∙ take_more place (length place - 1) 0 (omega arith)
 
-    onward : (mid new : List ℕ) (j count n : ℕ) (c leaf : Node K V) → mid ≡ take k place ++ j ∷ [] → j < length (children_of (leaf_at place root)) → c ≡ child_at (leaf_at place root) j → GoesOn (take k place) new (leaf_at place root) count → GoesOn mid new c n → EndsIn mid new c leaf → IsReached root new (length (before_gap (take k place) root) + count) leaf
+    onward : (mid new : List ℕ) (j count n : ℕ) (c leaf : Node K V) → mid ≡ take (length place - 1) place ++ j ∷ [] → j < length (children_of (leaf_at place root)) → c ≡ child_at (leaf_at place root) j → GoesOn (take (length place - 1) place) new (leaf_at place root) count → GoesOn mid new c n → EndsIn mid new c leaf → IsReached root new (length (before_gap (take (length place - 1) place) root) + count) leaf
     onward mid new j count n c leaf m there is g f ends =
-        let l = step_levels at.height (leaf_at place root) j at.levels there in
-        let r = went place new t.0 k count root (leaf_at place root) t.2 at.way g in
+        let l = step_levels x.at.height (leaf_at place root) j x.at.levels there in
+        let r = went place new x.tree.0 (length place - 1) count root (leaf_at place root) x.tree.2 x.at.way g in
         let q = f.0 in
         let some : 0 < length q = (let d = f.2.1 l.0 (subst (IsLevelled l.0) (sym is) l.2) in omega arith) in
         record {
           slot = r.0;
           count_is = r.1;
-          leaf_is = ends q f.1 ∙ ap (leaf_at q) (is ∙ ap (λ d. child_at d j) at.way.2 ∙ sym (node_more (take k place) j root) ∙ ap (λ s. node_at s root) (sym m)) ∙ sym (leaf_along mid q root some) ∙ ap (λ s. leaf_at s root) (sym f.1);
+          leaf_is = ends q f.1 ∙ ap (leaf_at q) (is ∙ ap (λ d. child_at d j) x.at.way.2 ∙ sym (node_more (take (length place - 1) place) j root) ∙ ap (λ s. node_at s root) (sym m)) ∙ sym (leaf_along mid q root some) ∙ ap (λ s. leaf_at s root) (sym f.1);
         }
 
     -- Before it, in a leaf and in an inner node.
     pub before_in_leaf : IsLeaf (leaf_at place root) → IsLeafGap place root × (length (before_gap place root) ≡ length (before_pair place root))
     before_in_leaf l =
         let none = ap length (leaf_children (leaf_at place root) l) in
-        let r = went place place t.0 k _ root (leaf_at place root) t.2 at.way (pair_gap_leaf (take k place) place (get_or place k 0) (leaf_at place root) levels at.own (omega arith) here) in
-        (r.0, r.1 ∙ sym at.before)
+        let r = went place place x.tree.0 (length place - 1) _ root (leaf_at place root) x.tree.2 x.at.way (pair_gap_leaf (take (length place - 1) place) place (get_or place (length place - 1) 0) (leaf_at place root) levels x.at.own (omega arith) here) in
+        (r.0, r.1 ∙ sym x.at.before)
 
-    pub before_in_child : (new : List ℕ) (c leaf : Node K V) → get_or place k 0 < length (children_of (leaf_at place root)) → c ≡ child_at (leaf_at place root) (get_or place k 0) → GoesOn place new c (length (pairs_of c)) → EndsIn place new c leaf
+    pub before_in_child : (new : List ℕ) (c leaf : Node K V) → get_or place (length place - 1) 0 < length (children_of (leaf_at place root)) → c ≡ child_at (leaf_at place root) (get_or place (length place - 1) 0) → GoesOn place new c (length (pairs_of c)) → EndsIn place new c leaf
         → IsReached root new (length (before_pair place root)) leaf
     before_in_child new c leaf there is g ends =
-        let r = onward place new (get_or place k 0) _ _ c leaf here there is (pair_gap_child (take k place) place new (get_or place k 0) (leaf_at place root) c levels at.own there here is g) g ends in
-        record { slot = r.slot; count_is = r.count_is ∙ sym at.before; leaf_is = r.leaf_is }
+        let r = onward place new (get_or place (length place - 1) 0) _ _ c leaf here there is (pair_gap_child (take (length place - 1) place) place new (get_or place (length place - 1) 0) (leaf_at place root) c levels x.at.own there here is g) g ends in
+        record { slot = r.slot; count_is = r.count_is ∙ sym x.at.before; leaf_is = r.leaf_is }
 
     -- After it.
-    pub after_in_leaf : (new : List ℕ) → new ≡ slice_set place k (get_or place k 0 + 1) → IsLeaf (leaf_at place root) → IsReached root new (length (before_pair place root) + 1) (leaf_at place root)
+    pub after_in_leaf : (new : List ℕ) → new ≡ slice_set place (length place - 1) (get_or place (length place - 1) 0 + 1) → IsLeaf (leaf_at place root) → IsReached root new (length (before_pair place root) + 1) (leaf_at place root)
     after_in_leaf new f l =
+        let e = x.end in
         let none = ap length (leaf_children (leaf_at place root) l) in
-        let r = went place new t.0 k _ root (leaf_at place root) t.2 at.way (behind_leaf (take k place) new (get_or place k 0) (leaf_at place root) levels at.own (omega arith) (end_set place new k _ e f)) in
-        let long = set_length place new k _ f in
-        let b = at.before in
+        let r = went place new x.tree.0 (length place - 1) _ root (leaf_at place root) x.tree.2 x.at.way (behind_leaf (take (length place - 1) place) new (get_or place (length place - 1) 0) (leaf_at place root) levels x.at.own (omega arith) (end_set place new (length place - 1) _ e f)) in
+        let long = set_length place new (length place - 1) _ f in
+        let b = x.at.before in
         let s = r.1 in
-        record { slot = r.0; count_is = omega (arith, b, s); leaf_is = at.way.2 ∙ ap (λ s. node_at s root) (sym (take-set-le k place k _ (omega arith)) ∙ ap (take k) (sym f)) ∙ sym (leaf_node new k root (omega (arith, long, e))) }
+        record { slot = r.0; count_is = omega (arith, b, s); leaf_is = x.at.way.2 ∙ ap (λ s. node_at s root) (sym (take-set-le (length place - 1) place (length place - 1) _ (omega arith)) ∙ ap (take (length place - 1)) (sym f)) ∙ sym (leaf_node new (length place - 1) root (omega (arith, long, e))) }
 
-    pub after_in_child : (mid new : List ℕ) (c leaf : Node K V) → mid ≡ slice_set place k (get_or place k 0 + 1) → get_or place k 0 + 1 < length (children_of (leaf_at place root)) → c ≡ child_at (leaf_at place root) (get_or place k 0 + 1) → GoesOn mid new c 0 → EndsIn mid new c leaf
+    pub after_in_child : (mid new : List ℕ) (c leaf : Node K V) → mid ≡ slice_set place (length place - 1) (get_or place (length place - 1) 0 + 1) → get_or place (length place - 1) 0 + 1 < length (children_of (leaf_at place root)) → c ≡ child_at (leaf_at place root) (get_or place (length place - 1) 0 + 1) → GoesOn mid new c 0 → EndsIn mid new c leaf
         → IsReached root new (length (before_pair place root) + 1) leaf
     after_in_child mid new c leaf f there is g ends =
-        let m = end_set place mid k _ e f in
-        let r = onward mid new (get_or place k 0 + 1) _ 0 c leaf m there is (behind_child (take k place) mid new (get_or place k 0) (leaf_at place root) c levels at.own there m is g) g ends in
-        let b = at.before in
+        let m = end_set place mid (length place - 1) _ x.end f in
+        let r = onward mid new (get_or place (length place - 1) 0 + 1) _ 0 c leaf m there is (behind_child (take (length place - 1) place) mid new (get_or place (length place - 1) 0) (leaf_at place root) c levels x.at.own there m is g) g ends in
+        let b = x.at.before in
         let s = r.count_is in
         record { slot = r.slot; count_is = omega (arith, b, s); leaf_is = r.leaf_is }
 

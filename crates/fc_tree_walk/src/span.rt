@@ -129,6 +129,27 @@ impl<'a, K, V> Span<'a, K, V> {
         }
     }
 
+    // The same, of which the one end or the other does.
+    fn from_ends(
+        root: &'a Option<Box<Node<K, V>>>,
+        leaves: (&'a Node<K, V>, &'a Node<K, V>),
+        front: Path,
+        back: Path,
+        is_front: bool,
+    ) -> Span<'a, K, V>
+        requires sound { IsSoundMap (root_of root.now) }
+        requires ends { AreEndsIn (root_of root.now) front back }
+        requires first { (n : Node K V) → root_of root.now ≡ Some n → leaves.0.now ≡ leaf_at front n }
+        requires last { (n : Node K V) → root_of root.now ≡ Some n → leaves.1.now ≡ leaf_at back n }
+        ensures { result ≡ between (root_of root.now) front back }
+    {
+        if is_front {
+            Span::from_front(root, leaves.0, front, back)
+        } else {
+            Span::from_back(root, leaves.1, front, back)
+        }
+    }
+
     /// Whether there is no pair.
     #[inline]
     pub fn is_empty(&self) -> bool
@@ -256,11 +277,7 @@ impl<'a, K: Ord, V> Span<'a, K, V> {
         let first = push_start(node, lo, &mut front);
         let mut back = Path::new();
         let last = push_stop(node, hi, &mut back);
-        if is_bounded(lo) {
-            Span::from_front(root, first, front, back)
-        } else {
-            Span::from_back(root, last, front, back)
-        }
+        Span::from_ends(root, (first, last), front, back, is_bounded(lo))
     }
 }
 

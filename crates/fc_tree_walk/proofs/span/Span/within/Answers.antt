@@ -9,8 +9,8 @@ use Rattle.fc_tree_walk.proofs.Betweens.{between_rest}
 use Rattle.fc_tree_walk.proofs.Bounds.{gap_entries}
 use Rattle.fc_tree_walk.proofs.span.Span.within.Goals as goal
 
-pub from_front-requires-clause-ends : goal.from_front-requires-clause-ends
-from_front-requires-clause-ends g c =
+pub from_ends-requires-clause-ends : goal.from_ends-requires-clause-ends
+from_ends-requires-clause-ends g c =
     let m = root_of c.args.root.now in
     let front = c.push_start-first.new.gap in
     let back = c.push_stop-last.new.gap in
@@ -24,8 +24,8 @@ from_front-requires-clause-ends g c =
     let s = between_tests _ _ (λ e. other e.0) _ _ _ _ _ (sym (gap_entries m _ c.requires.sound t)) (sym (gap_entries m _ c.requires.sound u)) rest lead in
     (t, u, s.le)
 
-pub from_back-requires-clause-ends : goal.from_back-requires-clause-ends
-from_back-requires-clause-ends g c =
+pub returns : goal.returns
+returns g c =
     let m = root_of c.args.root.now in
     let front = c.push_start-first.new.gap in
     let back = c.push_stop-last.new.gap in
@@ -37,34 +37,4 @@ from_back-requires-clause-ends g c =
     let lead = subst (λ d. before_gap_in d back ≡ filter (λ e. stops g.K.Ord.cmp (bound_now c.args.hi.now) e.0) (entries d)) (sym it) c.push_stop-last.ensures.lead in
     let other = not_past g.met.K.Ord.total (bound_now c.args.lo.now) (bound_now c.args.hi.now) c.requires.range in
     let s = between_tests _ _ (λ e. other e.0) _ _ _ _ _ (sym (gap_entries m _ c.requires.sound t)) (sym (gap_entries m _ c.requires.sound u)) rest lead in
-    (t, u, s.le)
-
-pub returns-then-is_bounded : goal.returns-then-is_bounded
-returns-then-is_bounded g c =
-    let m = root_of c.args.root.now in
-    let front = c.push_start-first.new.gap in
-    let back = c.push_stop-last.new.gap in
-    let is = ap root_of c.in-Some.is ∙ ap Some (sym c.deref.ensures) in
-    let it = ap root_of c.in-Some.is ∙ ap Some (sym c.deref-2.ensures) in
-    let t : IsGapIn m front = subst (λ d. IsGapIn d front) (sym is) c.push_start-first.ensures.gap in
-    let u : IsGapIn m back = subst (λ d. IsGapIn d back) (sym it) c.push_stop-last.ensures.gap in
-    let rest = subst (λ d. after_gap_in d front ≡ filter (λ e. starts g.K.Ord.cmp (bound_now c.args.lo.now) e.0) (entries d)) (sym is) c.push_start-first.ensures.rest in
-    let lead = subst (λ d. before_gap_in d back ≡ filter (λ e. stops g.K.Ord.cmp (bound_now c.args.hi.now) e.0) (entries d)) (sym it) c.push_stop-last.ensures.lead in
-    let other = not_past g.met.K.Ord.total (bound_now c.args.lo.now) (bound_now c.args.hi.now) c.requires.range in
-    let s = between_tests _ _ (λ e. other e.0) _ _ _ _ _ (sym (gap_entries m _ c.requires.sound t)) (sym (gap_entries m _ c.requires.sound u)) rest lead in
-    c.from_front.ensures ∙ between_rest m c.requires.sound _ _ t ∙ s.is
-
-pub returns-else-is_bounded : goal.returns-else-is_bounded
-returns-else-is_bounded g c =
-    let m = root_of c.args.root.now in
-    let front = c.push_start-first.new.gap in
-    let back = c.push_stop-last.new.gap in
-    let is = ap root_of c.in-Some.is ∙ ap Some (sym c.deref.ensures) in
-    let it = ap root_of c.in-Some.is ∙ ap Some (sym c.deref-2.ensures) in
-    let t : IsGapIn m front = subst (λ d. IsGapIn d front) (sym is) c.push_start-first.ensures.gap in
-    let u : IsGapIn m back = subst (λ d. IsGapIn d back) (sym it) c.push_stop-last.ensures.gap in
-    let rest = subst (λ d. after_gap_in d front ≡ filter (λ e. starts g.K.Ord.cmp (bound_now c.args.lo.now) e.0) (entries d)) (sym is) c.push_start-first.ensures.rest in
-    let lead = subst (λ d. before_gap_in d back ≡ filter (λ e. stops g.K.Ord.cmp (bound_now c.args.hi.now) e.0) (entries d)) (sym it) c.push_stop-last.ensures.lead in
-    let other = not_past g.met.K.Ord.total (bound_now c.args.lo.now) (bound_now c.args.hi.now) c.requires.range in
-    let s = between_tests _ _ (λ e. other e.0) _ _ _ _ _ (sym (gap_entries m _ c.requires.sound t)) (sym (gap_entries m _ c.requires.sound u)) rest lead in
-    c.from_back.ensures ∙ between_rest m c.requires.sound _ _ t ∙ s.is
+    c.from_ends.ensures ∙ between_rest m c.requires.sound _ _ t ∙ s.is
