@@ -103,53 +103,6 @@ impl<'a, K, V> Span<'a, K, V> {
         }
     }
 
-    // The same, of which the back takes those of its leaf.
-    fn from_back(
-        root: &'a Option<Box<Node<K, V>>>,
-        last: &'a Node<K, V>,
-        front: Path,
-        back: Path,
-    ) -> Span<'a, K, V>
-        requires sound { IsSoundMap (root_of root.now) }
-        requires ends { AreEndsIn (root_of root.now) front back }
-        requires last { (n : Node K V) → root_of root.now ≡ Some n → last.now ≡ leaf_at back n }
-        ensures { result ≡ between (root_of root.now) front back }
-    {
-        let mut back = back;
-        let (tail, has_met) = take_last_of(root, last, &front, &mut back);
-        Span {
-            root,
-            head: &[],
-            tail,
-            front,
-            back,
-            above_front: None,
-            above_back: None,
-            has_met,
-        }
-    }
-
-    // The same, of which the one end or the other does.
-    fn from_ends(
-        root: &'a Option<Box<Node<K, V>>>,
-        leaves: (&'a Node<K, V>, &'a Node<K, V>),
-        front: Path,
-        back: Path,
-        is_front: bool,
-    ) -> Span<'a, K, V>
-        requires sound { IsSoundMap (root_of root.now) }
-        requires ends { AreEndsIn (root_of root.now) front back }
-        requires first { (n : Node K V) → root_of root.now ≡ Some n → leaves.0.now ≡ leaf_at front n }
-        requires last { (n : Node K V) → root_of root.now ≡ Some n → leaves.1.now ≡ leaf_at back n }
-        ensures { result ≡ between (root_of root.now) front back }
-    {
-        if is_front {
-            Span::from_front(root, leaves.0, front, back)
-        } else {
-            Span::from_back(root, leaves.1, front, back)
-        }
-    }
-
     /// Whether there is no pair.
     #[inline]
     pub fn is_empty(&self) -> bool
@@ -270,14 +223,69 @@ impl<'a, K: Ord, V> Span<'a, K, V> {
         requires range { IsTrue (is_range K.cmp (bound_now lo.now) (bound_now hi.now)) }
         ensures { result ≡ within K.cmp (bound_now lo.now) (bound_now hi.now) (entries (root_of root.now)) }
     {
-        let Some(node) = root else {
-            return Span::none(root);
-        };
         let mut front = Path::new();
-        let first = push_start(node, lo, &mut front);
         let mut back = Path::new();
-        let last = push_stop(node, hi, &mut back);
-        Span::from_ends(root, (first, last), front, back, is_bounded(lo))
+        let runs = start_within(root, lo, hi, &mut front, &mut back);
+        Span {
+            root,
+            head: runs.head,
+            tail: runs.tail,
+            front,
+            back,
+            above_front: None,
+            above_back: None,
+            has_met: runs.has_met,
+        }
+    }
+}
+
+// What both ends have taken at the start, and whether they have then met.
+#[derive(Drop)]
+struct Runs<'a, K, V> {
+    head: &'a [(K, V)],
+    tail: &'a [(K, V)],
+    has_met: bool,
+}
+
+// Fills both paths with the gaps at the ends of a range, and takes the run of one end. The span is made once, behind this call, since a
+// struct of its size is copied wherever two of it could be the answer.
+fn start_within<'a, K: Ord, V>(
+    root: &'a Option<Box<Node<K, V>>>,
+    lo: &Bound<&K>,
+    hi: &Bound<&K>,
+    front: &mut Path,
+    back: &mut Path,
+) -> Runs<'a, K, V>
+    requires sound { IsSoundMap (root_of root.now) }
+    requires order { IsAscending K.cmp (entries (root_of root.now)) }
+    requires range { IsTrue (is_range K.cmp (bound_now lo.now) (bound_now hi.now)) }
+    requires start { (front.old ≡ []) × (back.old ≡ []) }
+    ensures ends { AreEndsIn (root_of root.now) front.new back.new }
+    ensures pairs { within K.cmp (bound_now lo.now) (bound_now hi.now) (entries (root_of root.now)) ≡ result.head.now ++ (between (root_of root.now) front.new back.new ++ result.tail.now) }
+    ensures met { IsTrue result.has_met ↔ (between (root_of root.now) front.new back.new ≡ []) }
+{
+    let Some(node) = root else {
+        return Runs {
+            head: &[],
+            tail: &[],
+            has_met: true,
+        };
+    };
+    let first = push_start(node, lo, front);
+    let last = push_stop(node, hi, back);
+    if is_bounded(lo) {
+        let (head, has_met) = take_first_of(root, first, front, back);
+        return Runs {
+            head,
+            tail: &[],
+            has_met,
+        };
+    }
+    let (tail, has_met) = take_last_of(root, last, front, back);
+    Runs {
+        head: &[],
+        tail,
+        has_met,
     }
 }
 
