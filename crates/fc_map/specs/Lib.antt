@@ -13,3 +13,4 @@ pub mod Walks
 pub mod Stretches
 pub mod Compare
 pub mod CompareLaws
+pub mod Extension

@@ -11,6 +11,7 @@ mod copy;
 mod debug;
 mod entry;
 mod extend;
+pub mod extension;
 mod find;
 mod first_last;
 pub mod for_sets;

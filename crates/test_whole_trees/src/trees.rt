@@ -8,6 +8,7 @@ ghost use Rattle.fc_tree_node.specs.Tree.{root_of, IsSoundMap};
 use fc_base::TryReserveError;
 use fc_tree_border::cutting::try_split;
 use fc_tree_build::builder::Builder;
+use fc_tree_build::growing::Growing;
 use fc_tree_node::node::{CAPACITY, MIN_LEN, Node};
 use fc_tree_node::path::{MAX_STEPS, Path};
 use std::alloc::Global;
@@ -83,6 +84,51 @@ fn is_sound(tree: &Tree, start: u64, end: u64) -> bool {
 fn is_built(alloc: Global, n: u32) -> Result<bool, TryReserveError> {
     let tree = built(alloc, n)?;
     Ok(is_sound(&tree, 0, u64::from(n)))
+}
+
+// Whether the last key is this one behind all below it; none where it is 0.
+fn ends_before(tree: &Growing<u64, u64>, key: u64) -> bool {
+    match tree.last() {
+        None => key == 0,
+        Some(last) => last.0.wrapping_add(1) == key && last.1 == last.0,
+    }
+}
+
+// Puts the keys from `start` to `end` behind the others, each with itself.
+fn grows(tree: &mut Growing<u64, u64>, start: u64, end: u64) -> Result<bool, TryReserveError> {
+    for key in start..end {
+        if !ends_before(tree, key) {
+            return Ok(false);
+        }
+        match tree.push((key, key)) {
+            Ok(()) => (),
+            Err((_pair, error)) => return Err(error),
+        }
+    }
+    Ok(ends_before(tree, end))
+}
+
+// Whether a tree that grows to n keys is sound, and one that grows on from there, opened at its right edge.
+fn is_grown(alloc: Global, n: u64, end: u64) -> Result<bool, TryReserveError> {
+    let mut tree = Growing::new(alloc);
+    if !grows(&mut tree, 0, n)? {
+        return Ok(false);
+    }
+    let mut again = Growing::over(alloc, tree.finish());
+    if !grows(&mut again, n, end)? {
+        return Ok(false);
+    }
+    Ok(is_sound(&again.finish(), 0, end))
+}
+
+#[test]
+fn trees_that_grow(rt: HostRuntime) -> Result<(), Fail> {
+    for n in 0..301 {
+        assert!(rt; is_grown(rt.alloc(), n, n)?);
+        assert!(rt; is_grown(rt.alloc(), n, 3 * n)?);
+    }
+    assert!(rt; is_grown(rt.alloc(), 4095, 5000)?);
+    Ok(())
 }
 
 #[test]

@@ -7,14 +7,15 @@ ghost use Rattle.fc_vec.specs.Items.{GivesAll, GivesFirst};
 ghost use Rattle.fc_map.specs.Entries.{entries, IsSoundMap};
 
 use super::BTreeMap;
+use super::extension::Extension;
 use fc_base::TryReserveError;
 use fc_vec::TryFromIterator;
 use std::alloc::Global;
 
 impl<K: Ord + Drop, V: Drop> BTreeMap<K, V> {
     /// Puts all items that the iterator gives into the map, in turn, each as `try_insert` does: where an equal key is there, that
-    /// key stays and the new value takes the place of the old one, which is dropped. Upstream: `BTreeMap::extend`, which
-    /// panics where this call answers an error.
+    /// key stays and the new value takes the place of the old one, which is dropped. An item behind all before it, those of the map too,
+    /// takes one comparison, as long as each before it did. Upstream: `BTreeMap::extend`, which panics where this call answers an error.
     ///
     /// # Errors
     /// At the first item that `try_insert` refuses, whose key is new, with that error. The items before it stay in the map. It is
@@ -29,11 +30,17 @@ impl<K: Ord + Drop, V: Drop> BTreeMap<K, V> {
         ensures ascending { IsAscending K.cmp (entries self.new) }
         ensures sound { IsSoundMap self.new }
     {
-        // Shows that the map is ascending and sound where no item comes.
-        let _len = self.len();
+        let mut extension = Extension::over(self);
         for (key, value) in items {
-            self.try_insert(key, value)?;
+            match extension.try_put(key, value) {
+                Ok(()) => (),
+                Err(error) => {
+                    *self = extension.finish();
+                    return Err(error);
+                }
+            }
         }
+        *self = extension.finish();
         Ok(())
     }
 }

@@ -13,6 +13,7 @@ ghost use Rattle.fc_tree_node.specs.Depth.{HasFewMoves};
 use super::BTreeMap;
 use fc_base::{Count, Query, TryReserveError};
 use fc_tree_build::builder::Builder;
+use fc_tree_build::growing::Growing;
 use fc_tree_node::path::Path;
 use fc_tree_removal::replacement::exchange;
 use std::alloc::Global;
@@ -97,6 +98,24 @@ pub fn from_ascending<K: Ord + Drop, V: Drop>(
 {
     BTreeMap {
         root: builder.finish(),
+        len,
+        alloc,
+    }
+}
+
+/// A map of the pairs of the tree, which ascend. It takes no memory, compares nothing and moves no pair.
+pub fn from_grown<K: Ord + Drop, V: Drop>(
+    alloc: Global,
+    tree: Growing<K, V>,
+    len: usize,
+) -> BTreeMap<K, V>
+    requires ascending { IsAscending K.cmp tree }
+    requires len { len ≡ length tree }
+    ensures pairs { entries result ≡ tree }
+    ensures sound { IsSoundMap result }
+{
+    BTreeMap {
+        root: tree.finish(),
         len,
         alloc,
     }
