@@ -1,9 +1,8 @@
 -- Copies of items, made one after another.
 use Rattle.std.proofs.Common.{◌≡◌, ℕ, ◌+◌, ◌<◌, ◌≤◌, List, [], ◌∷◌, ◌++◌, length, take, drop, replicate, get_or, refl, sym, ap, ◌∙◌, subst, arith}
-use Rattle.std.proofs.lemmas.List.{append-nil, append_assoc, take_all, take-append-drop, drop_more, get_or-replicate, length-replicate, length-append, take_more}
-use Rattle.std.proofs.Math.Seq.{get_or-append_seam}
-use Rattle.std.proofs.lemmas.List.Elements.{all_zip_more, length_all_zip}
-use Rattle.std.specs.List.{AllZip, Any}
+use Rattle.std.proofs.lemmas.List.{append-nil, append_assoc, take-append-drop, get_or-replicate, length-replicate, length-append, take_more}
+use Rattle.std.proofs.lemmas.List.Elements.{length_all_zip}
+use Rattle.std.specs.List.{AllZip}
 use Rattle.fc_base.specs.declared.try_reserve_error.TryReserveError.{TryReserveError}
 pub use Rattle.fc_base.proofs.CopiedFacts.{none_copied, one_copied, all_copied, front_copied, one_refused}
 use Rattle.fc_vec.specs.Joined.{joined}

@@ -1,4 +1,4 @@
-use Rattle.std.proofs.Common.{◌+◌, length, take, drop, arith, refl, sym, ap, ◌∙◌, subst}
+use Rattle.std.proofs.Common.{◌+◌, length, take, drop, arith, refl, sym, ap, subst}
 use Rattle.std.proofs.lemmas.Result.{err_from_is_err_and}
 use Rattle.fc_vec.specs.Joined.{joined}
 use Rattle.fc_vec.specs.Vectors.{IsExtended, IsCopiedUpTo}
