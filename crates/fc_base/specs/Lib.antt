@@ -1,6 +1,7 @@
 pub mod Ascending
 pub mod Boxed
 pub mod Copies
+pub mod CopiedLists
 pub mod Growth
 pub mod Sizes
 pub mod OneKey

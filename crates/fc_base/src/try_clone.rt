@@ -1,9 +1,12 @@
 //! Copies that may be refused.
-ghost use Rattle.std.specs.Prelude.{◌≡◌, MatchResult, ⊤};
+ghost use Rattle.std.specs.Prelude.{◌≡◌, ◌+◌, ◌≤◌, length, MatchResult, OnOk, IfErr, ⊤, vec_len, vec_capacity};
 ghost use Rattle.fc_base.specs.declared.try_reserve_error.TryReserveError.{TryReserveError};
+ghost use Rattle.fc_base.specs.CopiedLists.{IsExtended, IsCopiedUpTo};
 
 use crate::try_reserve_error::TryReserveError;
+use at_once::copy_all;
 
+mod at_once;
 mod contents;
 
 /// A type whose values can be copied, where a copy may need memory.
@@ -21,6 +24,24 @@ pub trait TryClone: Drop {
         Self: Sized,
         requires { can_clone }
         ensures { MatchResult result (same self.now) (may_refuse self.now) };
+
+    /// Puts a copy of each source behind the items of `copies`, for which there is room. An error is that of a refused copy; those made
+    /// before it stay. It copies one by one, and is there for types whose values can be copied all at once.
+    fn try_clone_all(sources: &[Self], copies: &mut Vec<Self>) -> Result<(), TryReserveError>
+    where
+        Self: Sized,
+        requires copied { can_clone }
+        requires room { vec_len copies.old + length sources.now ≤ vec_capacity copies.old }
+        ensures extended { OnOk result (IsExtended same copies.old.items sources.now copies.new.items) }
+        ensures error { IfErr result (λ e. IsCopiedUpTo same may_refuse e copies.old.items sources.now copies.new.items) }
+        ensures room { vec_capacity copies.old ≤ vec_capacity copies.new }
+    {
+        for i in 0..sources.len() {
+            let copy = sources[i].try_clone()?;
+            copies.push_reserved(copy);
+        }
+        Ok(())
+    }
 }
 
 impl TryClone for u8 {
@@ -30,6 +51,10 @@ impl TryClone for u8 {
 
     fn try_clone(&self) -> Result<u8, TryReserveError> {
         Ok(*self)
+    }
+
+    fn try_clone_all(sources: &[u8], copies: &mut Vec<u8>) -> Result<(), TryReserveError> {
+        copy_all(sources, copies)
     }
 }
 
@@ -41,6 +66,10 @@ impl TryClone for u16 {
     fn try_clone(&self) -> Result<u16, TryReserveError> {
         Ok(*self)
     }
+
+    fn try_clone_all(sources: &[u16], copies: &mut Vec<u16>) -> Result<(), TryReserveError> {
+        copy_all(sources, copies)
+    }
 }
 
 impl TryClone for u32 {
@@ -50,6 +79,10 @@ impl TryClone for u32 {
 
     fn try_clone(&self) -> Result<u32, TryReserveError> {
         Ok(*self)
+    }
+
+    fn try_clone_all(sources: &[u32], copies: &mut Vec<u32>) -> Result<(), TryReserveError> {
+        copy_all(sources, copies)
     }
 }
 
@@ -61,6 +94,10 @@ impl TryClone for u64 {
     fn try_clone(&self) -> Result<u64, TryReserveError> {
         Ok(*self)
     }
+
+    fn try_clone_all(sources: &[u64], copies: &mut Vec<u64>) -> Result<(), TryReserveError> {
+        copy_all(sources, copies)
+    }
 }
 
 impl TryClone for usize {
@@ -70,6 +107,10 @@ impl TryClone for usize {
 
     fn try_clone(&self) -> Result<usize, TryReserveError> {
         Ok(*self)
+    }
+
+    fn try_clone_all(sources: &[usize], copies: &mut Vec<usize>) -> Result<(), TryReserveError> {
+        copy_all(sources, copies)
     }
 }
 
@@ -81,6 +122,10 @@ impl TryClone for i8 {
     fn try_clone(&self) -> Result<i8, TryReserveError> {
         Ok(*self)
     }
+
+    fn try_clone_all(sources: &[i8], copies: &mut Vec<i8>) -> Result<(), TryReserveError> {
+        copy_all(sources, copies)
+    }
 }
 
 impl TryClone for i16 {
@@ -90,6 +135,10 @@ impl TryClone for i16 {
 
     fn try_clone(&self) -> Result<i16, TryReserveError> {
         Ok(*self)
+    }
+
+    fn try_clone_all(sources: &[i16], copies: &mut Vec<i16>) -> Result<(), TryReserveError> {
+        copy_all(sources, copies)
     }
 }
 
@@ -101,6 +150,10 @@ impl TryClone for i32 {
     fn try_clone(&self) -> Result<i32, TryReserveError> {
         Ok(*self)
     }
+
+    fn try_clone_all(sources: &[i32], copies: &mut Vec<i32>) -> Result<(), TryReserveError> {
+        copy_all(sources, copies)
+    }
 }
 
 impl TryClone for i64 {
@@ -110,6 +163,10 @@ impl TryClone for i64 {
 
     fn try_clone(&self) -> Result<i64, TryReserveError> {
         Ok(*self)
+    }
+
+    fn try_clone_all(sources: &[i64], copies: &mut Vec<i64>) -> Result<(), TryReserveError> {
+        copy_all(sources, copies)
     }
 }
 
@@ -121,6 +178,10 @@ impl TryClone for isize {
     fn try_clone(&self) -> Result<isize, TryReserveError> {
         Ok(*self)
     }
+
+    fn try_clone_all(sources: &[isize], copies: &mut Vec<isize>) -> Result<(), TryReserveError> {
+        copy_all(sources, copies)
+    }
 }
 
 impl TryClone for () {
@@ -131,6 +192,10 @@ impl TryClone for () {
     fn try_clone(&self) -> Result<(), TryReserveError> {
         Ok(())
     }
+
+    fn try_clone_all(sources: &[()], copies: &mut Vec<()>) -> Result<(), TryReserveError> {
+        copy_all(sources, copies)
+    }
 }
 
 impl TryClone for bool {
@@ -140,5 +205,9 @@ impl TryClone for bool {
 
     fn try_clone(&self) -> Result<bool, TryReserveError> {
         Ok(*self)
+    }
+
+    fn try_clone_all(sources: &[bool], copies: &mut Vec<bool>) -> Result<(), TryReserveError> {
+        copy_all(sources, copies)
     }
 }

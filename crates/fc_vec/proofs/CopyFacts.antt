@@ -1,41 +1,14 @@
 -- Copies of items, made one after another.
 use Rattle.std.proofs.Common.{◌≡◌, ℕ, ◌+◌, ◌<◌, ◌≤◌, List, [], ◌∷◌, ◌++◌, length, take, drop, replicate, get_or, refl, sym, ap, ◌∙◌, subst, arith}
-use Rattle.std.proofs.lemmas.List.{append-nil, append_assoc, take_all, take-append-drop, drop_more, get_or-replicate, length-replicate, length-append, take_more}
-use Rattle.std.proofs.Math.Seq.{get_or-append_seam}
-use Rattle.std.proofs.lemmas.List.Elements.{all_zip_more, length_all_zip}
-use Rattle.std.specs.List.{AllZip, Any}
+use Rattle.std.proofs.lemmas.List.{append-nil, append_assoc, take-append-drop, get_or-replicate, length-replicate, length-append, take_more}
+use Rattle.std.proofs.lemmas.List.Elements.{length_all_zip}
+use Rattle.std.specs.List.{AllZip}
 use Rattle.fc_base.specs.declared.try_reserve_error.TryReserveError.{TryReserveError}
+pub use Rattle.fc_base.proofs.CopiedFacts.{none_copied, one_copied, all_copied, front_copied, one_refused}
 use Rattle.fc_vec.specs.Joined.{joined}
 use Rattle.fc_vec.specs.Vectors.{Vector, IsExtended, IsCopiedUpTo}
 
 module _ {T : Type 0} (R : T → T → Type 0) where
-  -- No item was copied yet.
-  pub none_copied : (old xs : List T) → IsExtended R old (take 0 xs) old
-  none_copied old xs = record { copies = []; copied = tt; is = sym (append-nil old) }
-
-  -- One more item was copied, and its copy put behind the others.
-  pub one_copied : (old xs mid new : List T) (i : ℕ) (x y : T) → i < length xs → x ≡ get_or xs i x → IsExtended R old (take i xs) mid → R x y → new ≡ mid ++ y ∷ [] → IsExtended R old (take (i + 1) xs) new
-  one_copied old xs mid new i x y h e m r is = record {
-    copies = m.copies ++ y ∷ [];
-    copied = all_zip_more R xs m.copies i x y h e m.copied r;
-    is = is ∙ ap (λ l. l ++ y ∷ []) m.is ∙ append_assoc old m.copies (y ∷ []);
-  }
-
-  -- All items were copied.
-  pub all_copied : (old xs new : List T) (i : ℕ) → i ≡ length xs → IsExtended R old (take i xs) new → IsExtended R old xs new
-  all_copied old xs new i e m = subst (λ l. IsExtended R old l new) (take_all i xs (omega arith)) m
-
-  -- The copy of the next item was refused.
-  pub front_copied : (may_refuse : T → TryReserveError → Type 0) (error : TryReserveError) (old xs new : List T) (i : ℕ) (x : T) → i < length xs → x ≡ get_or xs i x → IsExtended R old (take i xs) new → may_refuse x error → IsCopiedUpTo R may_refuse error old xs new
-  front_copied may_refuse error old xs new i x h e m refusable = record {
-    front = take i xs;
-    source = x;
-    rest = drop (i + 1) xs;
-    taken = sym (take-append-drop i xs) ∙ ap (λ l. take i xs ++ l) (drop_more xs i x h) ∙ ap (λ z. take i xs ++ z ∷ drop (i + 1) xs) (sym e);
-    extended = m;
-    refusable = refusable;
-  }
-
   module _ (n : ℕ) (x : T) where
     repeated_at : (i : ℕ) → i < n → x ≡ get_or (replicate n x) i x
     repeated_at i h = sym (get_or-replicate n i x x h)
@@ -45,15 +18,15 @@ module _ {T : Type 0} (R : T → T → Type 0) where
 
     -- One more copy of the same item.
     pub one_repeated : (old mid new : List T) (i : ℕ) (y : T) → i < n → IsExtended R old (take i (replicate n x)) mid → R x y → new ≡ mid ++ y ∷ [] → IsExtended R old (take (i + 1) (replicate n x)) new
-    one_repeated old mid new i y h m r is = one_copied old (replicate n x) mid new i x y (within i h) (repeated_at i h) m r is
+    one_repeated old mid new i y h m r is = one_copied R old (replicate n x) mid new i x y (within i h) (repeated_at i h) m r is
 
     -- All copies of the same item.
     pub all_repeated : (old new : List T) (i : ℕ) → i ≡ n → IsExtended R old (take i (replicate n x)) new → IsExtended R old (replicate n x) new
-    all_repeated old new i e m = all_copied old (replicate n x) new i (e ∙ sym (length-replicate n x)) m
+    all_repeated old new i e m = all_copied R old (replicate n x) new i (e ∙ sym (length-replicate n x)) m
 
     -- The next copy of the same item was refused.
     pub front_repeated : (may_refuse : T → TryReserveError → Type 0) (error : TryReserveError) (old new : List T) (i : ℕ) → i < n → IsExtended R old (take i (replicate n x)) new → may_refuse x error → IsCopiedUpTo R may_refuse error old (replicate n x) new
-    front_repeated may_refuse error old new i h m refusable = front_copied may_refuse error old (replicate n x) new i x (within i h) (repeated_at i h) m refusable
+    front_repeated may_refuse error old new i h m refusable = front_copied R may_refuse error old (replicate n x) new i x (within i h) (repeated_at i h) m refusable
 
   zip_append : (xs us ys vs : List T) → AllZip R xs ys → AllZip R us vs → AllZip R (xs ++ us) (ys ++ vs)
   zip_append [] us [] vs a b = b
@@ -87,16 +60,10 @@ module _ {T : Type 0} (R : T → T → Type 0) where
     refusable = b.refusable;
   }
 
-  -- What is refused is a copy of one of the sources.
-  pub one_refused : (may_refuse : T → TryReserveError → Type 0) (error : TryReserveError) (old xs new : List T) → IsCopiedUpTo R may_refuse error old xs new → Any (λ x. may_refuse x error) xs
-  one_refused may_refuse error old xs new u =
-      let parts = ap length u.taken ∙ length-append u.front (u.source ∷ u.rest) in
-      (length u.front, u.source, omega (arith, parts), ap (λ l. get_or l (length u.front) u.source) u.taken ∙ get_or-append_seam u.front u.source u.rest u.source, u.refusable)
-
   -- What is refused among copies of one item is a copy of that item.
   pub refused_repeated : (may_refuse : T → TryReserveError → Type 0) (error : TryReserveError) (old new : List T) (n : ℕ) (x : T) → IsCopiedUpTo R may_refuse error old (replicate n x) new → (0 < n) × may_refuse x error
   refused_repeated may_refuse error old new n x u =
-      let one = one_refused may_refuse error old (replicate n x) new u in
+      let one = one_refused R may_refuse error old (replicate n x) new u in
       let long = length-replicate n x in
       let is : one.1 ≡ x = sym one.3 ∙ get_or-replicate n one.0 x one.1 (omega (arith, long, one.2)) in
       (omega (arith, long, one.2), subst (λ y. may_refuse y error) is one.4)

@@ -1,8 +1,8 @@
 -- Vectors as lists: what a call leaves of them, and by which error a growth is refused.
 use Rattle.std.specs.Prelude.{◌≡◌, ℕ, ◌+◌, ◌-◌, ◌<◌, List, [], ◌∷◌, ◌++◌, length, take, replicate}
-use Rattle.std.specs.List.{AllZip}
 use Rattle.fc_base.specs.declared.try_reserve_error.TryReserveError.{TryReserveError}
 use Rattle.fc_base.specs.Growth.{append_error}
+pub use Rattle.fc_base.specs.CopiedLists.{IsExtended, IsCopiedUpTo}
 
 -- A vector as contracts see it: its items, and how many fit before the next request for memory.
 pub record Vector (T : Type 0) : Type 0 where
@@ -20,23 +20,8 @@ module _ {T : Type 0} where
   resized xs n x = take n xs ++ replicate (n - length xs) x
 
 module _ {T : Type 0} (same : T → T → Type 0) where
-  -- The old items, and then a copy of each source.
-  pub record IsExtended (old sources new : List T) : Type 0 where
-    pub copies : List T
-    pub copied : AllZip same sources copies
-    pub is : new ≡ old ++ copies
-
   -- The old items, filled up to n, which is above their number, with copies of x and, at the last place, x itself.
   pub record IsFilled (old : List T) (n : ℕ) (x : T) (new : List T) : Type 0 where
     pub before : List T
-    pub extended : IsExtended old (replicate (n - length old - 1) x) before
+    pub extended : IsExtended same old (replicate (n - length old - 1) x) before
     pub is : new ≡ before ++ x ∷ []
-
-  -- The old items, and then copies of a front of the sources; the copy of the source behind that front may be refused by this error.
-  pub record IsCopiedUpTo (may_refuse : T → TryReserveError → Type 0) (e : TryReserveError) (old sources new : List T) : Type 0 where
-    pub front : List T
-    pub source : T
-    pub rest : List T
-    pub taken : sources ≡ front ++ source ∷ rest
-    pub extended : IsExtended old front new
-    pub refusable : may_refuse source e

@@ -27,6 +27,45 @@ fn vectors_are_copied(rt: HostRuntime) -> Result<(), Fail> {
     Ok(())
 }
 
+// Whether copies of the two values come behind the one that is there.
+fn come_behind<T: TryClone + Copy + PartialEq>(
+    alloc: Global,
+    there: T,
+    sources: &[T],
+) -> Result<bool, TryReserveError>
+    requires { T.can_clone }
+{
+    let mut copies = Vec::with_capacity(alloc, 3)?;
+    copies.push(there)?;
+    if sources.len() > 2 {
+        return Ok(false);
+    }
+    T::try_clone_all(sources, &mut copies)?;
+    Ok(match copies.as_slice() {
+        [first, rest @ ..] => *first == there && rest == sources,
+        [] => false,
+    })
+}
+
+#[test]
+fn numbers_are_copied_at_once(rt: HostRuntime) -> Result<(), Fail> {
+    assert!(rt; come_behind(rt.alloc(), 5u8, &[6, 7])? && come_behind(rt.alloc(), 5u16, &[6, 7])?);
+    assert!(rt; come_behind(rt.alloc(), 5u32, &[6, 7])? && come_behind(rt.alloc(), 5u64, &[6, 7])?);
+    assert!(rt;
+        come_behind(rt.alloc(), 5i8, &[-6, 7])? && come_behind(rt.alloc(), 5i16, &[-6, 7])?
+    );
+    assert!(rt;
+        come_behind(rt.alloc(), 5i32, &[-6, 7])? && come_behind(rt.alloc(), 5i64, &[-6, 7])?
+    );
+    assert!(rt;
+        come_behind(rt.alloc(), 5usize, &[6, 7])? && come_behind(rt.alloc(), 5isize, &[-6, 7])?
+    );
+    assert!(rt;
+        come_behind(rt.alloc(), true, &[false, true])? && come_behind(rt.alloc(), (), &[(), ()])?
+    );
+    Ok(())
+}
+
 // Three tokens, with the numbers 1, 4 and 5.
 fn three<'a>(
     alloc: Global,

@@ -60,10 +60,7 @@ impl<T: TryClone> TryClone for Vec<T> {
 
     fn try_clone(&self) -> Result<Vec<T>, TryReserveError> {
         let mut copies = Vec::with_capacity(*self.allocator(), self.len())?;
-        for i in 0..self.len() {
-            let copy = self[i].try_clone()?;
-            copies.push_reserved(copy);
-        }
+        T::try_clone_all(self.as_slice(), &mut copies)?;
         Ok(copies)
     }
 }

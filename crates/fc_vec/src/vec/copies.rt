@@ -6,21 +6,6 @@ use super::fallible_vec::FallibleVec;
 use fc_base::{TryClone, TryReserveError};
 use std::alloc::Global;
 
-// Puts a copy of each source behind the items, for which there is room.
-pub(crate) fn push_copies<T: TryClone>(v: &mut Vec<T>, sources: &[T]) -> Result<(), TryReserveError>
-    requires copied { T.can_clone }
-    requires room { vec_len v.old + length sources.now ≤ vec_capacity v.old }
-    ensures extended { OnOk result (IsExtended T.same v.old.items sources.now v.new.items) }
-    ensures error { IfErr result (λ e. IsCopiedUpTo T.same T.may_refuse e v.old.items sources.now v.new.items) }
-    ensures room { vec_capacity v.new ≡ vec_capacity v.old }
-{
-    for i in 0..sources.len() {
-        let copy = sources[i].try_clone()?;
-        v.push_reserved(copy);
-    }
-    Ok(())
-}
-
 // Puts so many copies of the source behind the items, for which there is room.
 pub(crate) fn push_repeated<T: TryClone>(
     v: &mut Vec<T>,

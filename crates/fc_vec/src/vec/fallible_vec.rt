@@ -3,7 +3,7 @@ ghost use Rattle.std.specs.Prelude.{◌≡◌, ℕ, ◌+◌, ◌-◌, ◌^◌, �
 ghost use Rattle.std.specs.List.{AppendsResults, insert};
 ghost use Rattle.fc_vec.specs.Vectors.{MayRefuse, IsExtended, IsFilled, IsCopiedUpTo};
 
-use super::copies::{push_copies, push_repeated};
+use super::copies::push_repeated;
 use fc_base::{TryClone, TryReserveError};
 use std::alloc::Global;
 
@@ -242,6 +242,6 @@ impl<T> FallibleVec<T> for Vec<T> {
         T: TryClone,
     {
         reserve(self, other.len())?;
-        push_copies(self, other)
+        T::try_clone_all(other, self)
     }
 }

@@ -5,7 +5,6 @@ ghost use Rattle.fc_base.specs.Copies.{MayRefuseCopies};
 ghost use Rattle.fc_vec.specs.Joined.{joined};
 ghost use Rattle.fc_vec.specs.Vectors.{MayRefuse, IsExtended, IsCopiedUpTo};
 
-use super::super::copies::push_copies;
 use super::super::fallible_vec::FallibleVec;
 use super::TryVec;
 use fc_base::{TryClone, TryReserveError};
@@ -101,7 +100,7 @@ fn push_parts<T: TryClone>(made: &mut Vec<T>, parts: &[TryVec<T>]) -> Result<(),
 {
     for i in 0..parts.len() {
         let part = &parts[i];
-        push_copies(made, part.as_slice())?;
+        T::try_clone_all(part.as_slice(), made)?;
     }
     Ok(())
 }

@@ -1,7 +1,0 @@
-use Rattle.std.proofs.Common.{◌≡◌, length, take}
-use Rattle.std.specs.Prelude.{◌+◌, vec_len, vec_capacity}
-use Rattle.fc_vec.specs.Vectors.{IsExtended}
-use Rattle.fc_vec.proofs.vec.copies.push_copies.Given as goal
-
-abbrev pub invariant-loop-i : goal.invariant-loop-i
-invariant-loop-i g l = (l.i-end ≡ length l.sources) × (vec_len l.v ≡ vec_len l.initial.v + l.i) × (vec_capacity l.v ≡ vec_capacity l.initial.v) × IsExtended g.T.TryClone.same l.initial.v.items (take l.i l.sources) l.v.items
