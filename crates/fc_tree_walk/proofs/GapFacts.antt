@@ -369,14 +369,6 @@ module _ {K V : Type 0} where
         count = ap (λ p. length (before_gap p n)) same ∙ r.count ∙ ap (λ k. k + 1) (y.before (omega arith));
       }
 
-  some_after : (gap : List ℕ) (n : Node K V) (steps : ℕ) → IsNext gap n steps → length (before_gap gap n) < length (pairs_of n) → 0 < steps
-  some_after gap n zero x k = absurd (let e = x.none refl in omega arith)
-  some_after gap n (suc steps) x k = omega arith
-
-  pub some_next : (m : Map K V) (n : Node K V) (gap : List ℕ) (steps : ℕ) → m ≡ Some n → IsNext gap n steps → length (before_gap_in m gap) < length (entries m) → 0 < steps
-  some_next None n gap steps is x k = absurd cc
-  some_next (Some root) n gap steps is x k = let same : n ≡ root = cc in some_after gap root steps (subst (λ d. IsNext gap d steps) same x) k
-
   pub stepped_after : (m : Map K V) (n : Node K V) (gap next : List ℕ) (last steps : ℕ) → m ≡ Some n → IsSoundMap m → IsGapIn m gap → IsNext gap n steps → last + 1 ≡ steps
       → next ≡ take last gap ++ (get_or gap last 0 + 1) ∷ zeros (length gap - length (take last gap) - 1) → IsStepped m gap next
   stepped_after None n gap next last steps is sound g x e f = absurd cc

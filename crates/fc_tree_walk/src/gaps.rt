@@ -19,24 +19,6 @@ fn one_of(count: usize) -> usize
     if 0 < count { 1 } else { 0 }
 }
 
-/// How many steps of the path to a gap lead to the pair after it: 0 where there is none.
-pub fn steps_to_next<K, V>(node: &Node<K, V>, gap: &[u8]) -> usize
-    requires some { 0 < length gap.now }
-    requires path { IsPath gap.now node.now }
-    requires levels { IsLevelled (length gap.now - 1) node.now }
-    ensures within { result ≤ length gap.now }
-    ensures none { result ≡ 0 → length (before_gap gap.now node.now) ≡ length (pairs_of node.now) }
-    ensures place { 0 < result → IsPlace (take result gap.now) node.now }
-    ensures before { 0 < result → length (before_pair (take result gap.now) node.now) ≡ length (before_gap gap.now node.now) }
-{
-    let own = one_of(node.len() - gap[0] as usize);
-    if gap.len() == 1 {
-        return own;
-    }
-    let below = steps_to_next(node.child(gap[0] as usize), &gap[1..]);
-    if below == 0 { own } else { below + 1 }
-}
-
 /// How many steps of the path to a gap lead past the pair before it: 0 where there is none.
 pub fn steps_to_previous<K, V>(node: &Node<K, V>, gap: &[u8]) -> usize
     requires some { 0 < length gap.now }
