@@ -1,12 +1,13 @@
 -- The laws of the set operations over ascending lists: how many items they have.
 -- A caller names one on a function, as `#[tactic(auto, using(fc_set::proofs::OperationLaws::lengths))]`, or cites it in an answer.
-use Rattle.std.proofs.Common.{◌≡◌, ℕ, ◌+◌, ◌-◌, ◌^◌, ◌<◌, ◌≤◌, ◌↔◌, Bool, true, false, cond, List, [], ◌∷◌, length, Option, Some, None, SomeIff, IfSome, MatchOption, IsTrue, is_some, is_none, not, max, refl, sym, ap, ◌∙◌, arith}
+use Rattle.std.proofs.Common.{◌≡◌, ℕ, ◌+◌, ◌-◌, ◌^◌, ◌<◌, ◌≤◌, ◌↔◌, ◌⊎◌, inl, inr, Bool, true, false, cond, List, [], ◌∷◌, length, Option, Some, None, SomeIff, IfSome, MatchOption, IsTrue, is_some, is_none, not, max, refl, sym, ap, ◌∙◌, arith}
 use Rattle.std.specs.Prelude.{nat_le}
 use Rattle.std.specs.Iterator.{UpTo, at_most}
 use Rattle.std.specs.Cmp.{IsTotalOrder}
 use Rattle.std.specs.declared.cmp.Ordering.{Ordering}
 use Rattle.std.specs.declared.cmp.Ordering.TheVariants.{Less, Equal, Greater}
 use Rattle.std.proofs.lemmas.Bool.{true≢false}
+use Rattle.std.proofs.lemmas.Bool.Decides.{leb_tells}
 use Rattle.std.proofs.lemmas.List.Filters.{length-filter_both}
 use Rattle.fc_base.proofs.AscendingFacts.{under_one}
 use Rattle.fc_set.specs.Items.{AreAscending, joined_items}
@@ -83,6 +84,13 @@ module _ {T : Type 0} (cmp : T → T → Ordering) (total : IsTotalOrder cmp) wh
 
   pub common_at_most : (s t : List T) → length (common cmp s t) ≤ length s
   common_at_most s t = omega (arith, parted s t)
+
+  pub intersection_at_most : (s t : List T) → length (intersection cmp s t) ≤ length s
+  intersection_at_most s t = within (leb_tells (length s) (length t))
+    where
+      within : ((nat_le (length s) (length t) ≡ true) × (length s ≤ length t)) ⊎ ((nat_le (length s) (length t) ≡ false) × (length t < length s)) → length (intersection cmp s t) ≤ length s
+      within (inl w) = rw w.0 (common_at_most s t)
+      within (inr w) = rw w.0 (omega (arith, common_at_most t s, w.1))
 
   pub symmetric_at_most : (s t : List T) → AreAscending cmp s → AreAscending cmp t → length (symmetric_difference cmp s t) ≤ length s + length t
   symmetric_at_most s t a b = omega (arith, union_at_most (difference cmp t s) (difference cmp s t) (ascending_kept cmp _ t b) (ascending_kept cmp _ s a), difference_at_most s t, difference_at_most t s)

@@ -12,7 +12,6 @@ ghost use Rattle.fc_tree_node.specs.Depth.{HasFewMoves};
 
 use super::BTreeMap;
 use fc_base::{Count, Query, TryReserveError};
-use fc_tree_build::builder::Builder;
 use fc_tree_build::growing::Growing;
 use fc_tree_node::path::Path;
 use fc_tree_removal::replacement::exchange;
@@ -83,24 +82,6 @@ pub fn replace<K: Ord + Drop, V: Drop>(
 /// Where the map takes its memory.
 pub fn allocator<K: Ord, V>(map: &BTreeMap<K, V>) -> Global {
     map.alloc
-}
-
-/// A map of the pairs that were put into the builder, which ascend. It takes no memory, compares nothing and moves no pair.
-pub fn from_ascending<K: Ord + Drop, V: Drop>(
-    alloc: Global,
-    builder: Builder<K, V>,
-    len: usize,
-) -> BTreeMap<K, V>
-    requires ascending { IsAscending K.cmp builder.pairs }
-    requires len { len ≡ length builder.pairs }
-    ensures pairs { entries result ≡ builder.pairs }
-    ensures sound { IsSoundMap result }
-{
-    BTreeMap {
-        root: builder.finish(),
-        len,
-        alloc,
-    }
 }
 
 /// A map of the pairs of the tree, which ascend. It takes no memory, compares nothing and moves no pair.

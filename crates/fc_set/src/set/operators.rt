@@ -1,5 +1,5 @@
 //! Sets made of copies of the items of two others.
-ghost use Rattle.std.specs.Prelude.{◌≡◌, ◌<◌, true, length, IfOk, IfErr, IsErr};
+ghost use Rattle.std.specs.Prelude.{◌≡◌, ◌+◌, ◌<◌, ◌≤◌, true, length, IfOk, IfErr, IsErr};
 ghost use Rattle.std.specs.List.{AllZip};
 ghost use Rattle.fc_map.specs.Entries.{IsSoundMap};
 ghost use Rattle.fc_set.specs.Copied.{MayCopyRefuse};
@@ -28,7 +28,9 @@ impl<T: Ord + TryClone> BTreeSet<T> {
         ensures ascending { IfOk result (λ made. AreAscending T.cmp (items made)) }
         ensures sound { IfOk result (λ made. IsSoundMap made) }
     {
-        try_copied(for_sets::allocator(&self.map), self.difference(other))
+        // Shows that there are at most `usize::MAX`.
+        let _len = self.len();
+        try_copied(for_sets::allocator(&self.map), true, self.difference(other))
     }
 
     /// A set of copies of the items of either set that have no equal in the other. Both sets stay as they are. Upstream: the operator `^`,
@@ -48,6 +50,7 @@ impl<T: Ord + TryClone> BTreeSet<T> {
     {
         try_copied(
             for_sets::allocator(&self.map),
+            fit_together(self, other),
             self.symmetric_difference(other),
         )
     }
@@ -65,7 +68,13 @@ impl<T: Ord + TryClone> BTreeSet<T> {
         ensures ascending { IfOk result (λ made. AreAscending T.cmp (items made)) }
         ensures sound { IfOk result (λ made. IsSoundMap made) }
     {
-        try_copied(for_sets::allocator(&self.map), self.intersection(other))
+        // Shows that there are at most `usize::MAX`.
+        let _len = self.len();
+        try_copied(
+            for_sets::allocator(&self.map),
+            true,
+            self.intersection(other),
+        )
     }
 
     /// A set of copies of the items of both sets; of equal items, of this one's. Both sets stay as they are. Upstream: the operator `|`,
@@ -82,6 +91,17 @@ impl<T: Ord + TryClone> BTreeSet<T> {
         ensures ascending { IfOk result (λ made. AreAscending T.cmp (items made)) }
         ensures sound { IfOk result (λ made. IsSoundMap made) }
     {
-        try_copied(for_sets::allocator(&self.map), self.union(other))
+        try_copied(
+            for_sets::allocator(&self.map),
+            fit_together(self, other),
+            self.union(other),
+        )
     }
+}
+
+// Whether both sets together have at most `usize::MAX` items.
+fn fit_together<T: Ord>(one: &BTreeSet<T>, other: &BTreeSet<T>) -> bool
+    ensures { result ≡ true → length (items one.now) + length (items other.now) ≤ usize.MAX }
+{
+    one.len().checked_add(other.len()).is_some()
 }

@@ -10,6 +10,7 @@ ghost use Rattle.fc_set.specs.Items.{items, smaller, not_smaller, AreAscending, 
 
 use super::BTreeSet;
 use fc_base::{Count, Query, TryClone, TryReserveError};
+use fc_map::map::extension::Extension;
 use fc_vec::TryFromIterator;
 use std::alloc::Global;
 
@@ -75,8 +76,8 @@ impl<T: Ord + Drop> BTreeSet<T> {
         Ok(BTreeSet { map })
     }
 
-    /// Puts all items that the iterator gives into the set, in turn, each as `try_insert` does: an equal item that is there stays.
-    /// Upstream: `BTreeSet::extend`, which panics where this call answers an error.
+    /// Puts all items that the iterator gives into the set, in turn, each as `try_insert` does: an equal item that is there stays. An item
+    /// behind all before it, those of the set too, takes one comparison, as long as each before it did. Upstream: `BTreeSet::extend`, which panics where this call answers an error.
     ///
     /// # Errors
     /// At the first item that `try_insert` refuses, which is new, with that error. The items before it stay in the set. It is dropped,
@@ -88,11 +89,17 @@ impl<T: Ord + Drop> BTreeSet<T> {
         ensures ascending { AreAscending T.cmp (items self.new) }
         ensures sound { IsSoundMap self.new }
     {
-        // Shows that the set is ascending and sound where no item comes.
-        let _len = self.len();
+        let mut extension = Extension::over(&mut self.map);
         for item in given {
-            self.try_insert(item)?;
+            match extension.try_put(item, ()) {
+                Ok(()) => (),
+                Err(error) => {
+                    self.map = extension.finish();
+                    return Err(error);
+                }
+            }
         }
+        self.map = extension.finish();
         Ok(())
     }
 }
