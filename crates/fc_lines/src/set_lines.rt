@@ -23,7 +23,8 @@ ghost use Rattle.fc_lines.specs.Grammar.{
 use crate::command::{Command, SetOp, Side};
 use crate::items::Items;
 use crate::lines::{
-    at_line_end, ends_of_letters, first_word, is_word, next_bound, next_number, next_word, number_in,
+    at_line_end, ends_of_letters, first_word, is_word, next_bound, next_number, next_word,
+    number_in,
 };
 use std::alloc::{AllocError, Global};
 

@@ -157,15 +157,17 @@ module _ {K V : Type 0} where
       let slot = z.slot in
       let long = slot.1 h sound.2.1 in
       let deep = g.1 h sound.2.1 in
-      let small = gap_small (Some n) gap last sound g w in
-      (record {
-        way_is = omega arith;
-        small = omega (arith, small, own);
-        place_is = subst (λ p. IsPlace p n) (sym b) x.place_is;
-        before = ap (λ p. length (before_pair p n)) b ∙ x.before;
-        gap = subst (IsGapIn (Some n)) (sym (on_none next)) slot;
-        count = ap (λ p. length (before_gap p n)) (on_none next) ∙ z.count;
-      }, (x.run_is, λ k l. on_length next run ∙ slot.1 k l))
+      let small = gap_small (Some n) gap last sound g w in (
+        record {
+          way_is = omega arith;
+          small = omega (arith, small, own);
+          place_is = subst (λ p. IsPlace p n) (sym b) x.place_is;
+          before = ap (λ p. length (before_pair p n)) b ∙ x.before;
+          gap = subst (IsGapIn (Some n)) (sym (on_none next)) slot;
+          count = ap (λ p. length (before_gap p n)) (on_none next) ∙ z.count;
+        },
+        (x.run_is, λ k l. on_length next run ∙ slot.1 k l),
+      )
 
   pub step_out : (m : Map K V) (n : Node K V) (gap next : List ℕ) (last place run : ℕ) → m ≡ Some n → IsSoundMap m → IsGapIn m gap → IsPassed gap next n last place run → IsStepOn m gap next 0 last place × IsGapIn m (gone_on next run)
   step_out m n gap next last place run is sound g x =
