@@ -10,6 +10,7 @@ use fc_tree_drain::stack::Stack;
 use fc_tree_node::node::{CAPACITY, Node};
 use std::alloc::Global;
 use std::marker::Model;
+use std::mem;
 
 /// A tree that is made of pairs from the first on, each put at its end: leaves and inner nodes are full, but those on the right
 /// edge. All nodes are made before the first pair. A contract sees the pairs, and for how many more there is room.
@@ -70,16 +71,15 @@ impl<K: Drop, V: Drop> Builder<K, V> {
         ensures room { self.new.room + 1 ≡ self.old.room }
     {
         self.room -= 1;
-        let Some(mut leaf) = self.last.take() else {
+        let Some(last) = &mut self.last else {
             unreachable!()
         };
-        if leaf.len() < CAPACITY {
-            put_pair(&mut leaf, pair);
-            self.last = Some(leaf);
+        if last.len() < CAPACITY {
+            put_pair(last, pair);
             return;
         }
-        self.last = Some(take_spare(&mut self.leaves));
-        attach(&mut self.spine, leaf, pair, &mut self.inner);
+        let full = mem::replace(last, take_spare(&mut self.leaves));
+        attach(&mut self.spine, full, pair, &mut self.inner);
     }
 
     /// The root of a sound tree of the pairs; none where there is no pair. Nodes that were not needed are dropped.

@@ -88,7 +88,26 @@ impl<K: Drop, V: Drop> Growing<K, V> {
         ensures error { IfErr result (λ e. e.1 ≡ TryReserveError.AllocError) }
         ensures full { IfErr result (λ _. (self.old ≡ []) ⊎ (capacity ≤ length self.old)) }
     {
-        let Some(mut leaf) = self.last.take() else {
+        if let Some(leaf) = &mut self.last {
+            if leaf.len() < CAPACITY {
+                put_pair(leaf, pair);
+                return Ok(());
+            }
+        }
+        self.push_growing(pair)
+    }
+
+    // The same by what takes memory, whether the last leaf is full or not. It is not inlined, since the pushes that take none would then
+    // pay for its locals.
+    #[inline(never)]
+    fn push_growing(&mut self, pair: (K, V)) -> Result<(), ((K, V), TryReserveError)>
+        ensures pairs { IfOk result (λ _. self.new ≡ self.old ++ pair ∷ []) }
+        ensures unchanged { IfErr result (λ _. self.new ≡ self.old) }
+        ensures back { IfErr result (λ e. e.0 ≡ pair) }
+        ensures error { IfErr result (λ e. e.1 ≡ TryReserveError.AllocError) }
+        ensures full { IfErr result (λ _. (self.old ≡ []) ⊎ (capacity ≤ length self.old)) }
+    {
+        let Some(mut last) = self.last.take() else {
             return match first_leaf(self.alloc, pair) {
                 Ok(leaf) => {
                     self.last = Some(leaf);
@@ -97,12 +116,12 @@ impl<K: Drop, V: Drop> Growing<K, V> {
                 Err(back) => Err(back),
             };
         };
-        if leaf.len() < CAPACITY {
-            put_pair(&mut leaf, pair);
-            self.last = Some(leaf);
+        if last.len() < CAPACITY {
+            put_pair(&mut last, pair);
+            self.last = Some(last);
             return Ok(());
         }
-        match hang_full(self.alloc, &mut self.spine, leaf, pair) {
+        match hang_full(self.alloc, &mut self.spine, last, pair) {
             Ok(blank) => {
                 self.last = Some(blank);
                 Ok(())

@@ -147,8 +147,7 @@ fn put_child<K: Drop, V: Drop>(node: &mut Node<K, V>, child: Box<Node<K, V>>)
     let Some(children) = &mut node.children else {
         unreachable!()
     };
-    let end = children.len();
-    children.insert(end, child);
+    children.push(child);
 }
 
 /// Puts a pair at the node's end. Its children stay.
@@ -158,6 +157,5 @@ pub(crate) fn put_pair<K: Drop, V: Drop>(node: &mut Node<K, V>, pair: (K, V))
     ensures children { children_of node.new ≡ children_of node.old }
     ensures leaf { IsLeaf node.new ↔ IsLeaf node.old }
 {
-    let end = node.pairs.len();
-    node.pairs.insert(end, pair, &mut Count::new());
+    node.pairs.push(pair, &mut Count::new());
 }

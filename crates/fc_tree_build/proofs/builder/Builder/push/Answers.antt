@@ -1,4 +1,4 @@
-use Rattle.std.proofs.Common.{rules, ◌≡◌, length, Some, sym, ap, ◌∙◌, arith}
+use Rattle.std.proofs.Common.{rules, ◌≡◌, length, Some, ap, arith}
 use Rattle.fc_tree_node.specs.Node.{own_pairs}
 use Rattle.fc_tree_build.proofs.SpineFacts.{length_pushed, enough_needed}
 use Rattle.fc_tree_build.proofs.Builders.{leaf_taken, last_is, leaf_sound, enough_for_one, enough_left, push_pairs}
@@ -7,8 +7,8 @@ use Rattle.fc_tree_build.proofs.builder.Builder.push.Goals as goal
 pub attach-requires : goal.attach-requires
 attach-requires g c =
     let i = c.self.invariant in
-    let was : c.self.inside.last ≡ Some c.in-Some.leaf = sym c.take.ensures.value ∙ c.in-Some.is in
-    let l = last_is c.self.inside.last c.in-Some.leaf _ _ _ was i.0 in
+    let was : c.self.inside.last ≡ Some c.in-Some.last = c.in-Some.is in
+    let l = last_is c.self.inside.last c.in-Some.last _ _ _ was i.0 in
     let few = l.0 in
     let d = ap (λ n. length (own_pairs n)) c.deref.ensures in
     let v = c.len.ensures.value in
@@ -17,13 +17,13 @@ attach-requires g c =
     let e = i.4 in
     let low = e.1.1 in
     let n = enough_needed e.0 _ _ (enough_for_one e.0 _ _ _ (omega arith) e.1) in
-    (search rules, ((0, i.1, leaf_sound _ few l.1 (omega arith)), (i.3, (n.0, (e.0, omega arith, e.1.0, n.1)))))
+    rw c.replace-full.ensures.value (search rules, ((0, i.1, leaf_sound _ few l.1 (omega arith)), (i.3, (n.0, (e.0, omega arith, e.1.0, n.1)))))
 
 pub invariant_of-self-2 : goal.invariant_of-self-2
 invariant_of-self-2 g c =
     let i = c.self.invariant in
-    let was : c.self.inside.last ≡ Some c.in-Some.leaf = sym c.take.ensures.value ∙ c.in-Some.is in
-    let l = last_is c.self.inside.last c.in-Some.leaf _ _ _ was i.0 in
+    let was : c.self.inside.last ≡ Some c.in-Some.last = c.in-Some.is in
+    let l = last_is c.self.inside.last c.in-Some.last _ _ _ was i.0 in
     let few = l.0 in
     let fits = l.2 in
     let d = ap (λ n. length (own_pairs n)) c.deref.ensures in
@@ -33,15 +33,15 @@ invariant_of-self-2 g c =
     let q = length_pushed _ _ _ c.take_spare.ensures in
     let z = ap length t.0.0 in
     let e = i.4 in
-    let a = c.attach.ensures in
+    let a = rw c.replace-full.ensures.value at c.attach.ensures in
     let n = enough_needed e.0 _ _ (enough_for_one e.0 _ _ _ (omega arith) e.1) in
     let e1 = enough_left e.0 _ _ _ _ c.self.inside.spine _ e.1 q (a.short e.0 e.1.0 n.1) a.worth a.left in
-    ((omega arith, t.0.1, omega arith), a.levels 0 i.1 (leaf_sound _ few l.1 (omega arith)), t.1, a.blank, (e.0, e1))
+    rw c.replace-full.ensures.after ((omega arith, t.0.1, omega arith), a.levels 0 i.1 (leaf_sound _ few l.1 (omega arith)), t.1, a.blank, (e.0, e1))
 
 pub returns-clause-pairs : goal.returns-clause-pairs
 returns-clause-pairs g c =
     let i = c.self.invariant in
-    let was : c.self.inside.last ≡ Some c.in-Some.leaf = sym c.take.ensures.value ∙ c.in-Some.is in
-    let l = last_is c.self.inside.last c.in-Some.leaf _ _ _ was i.0 in
+    let was : c.self.inside.last ≡ Some c.in-Some.last = c.in-Some.is in
+    let l = last_is c.self.inside.last c.in-Some.last _ _ _ was i.0 in
     let t = leaf_taken _ _ _ c.take_spare.ensures i.2 in
-    push_pairs c.self.inside.spine _ _ _ c.in-Some.leaf c.args.pair _ was l.1 t.0.0 (ap (λ b. b.pairs) c.self.view_is) c.attach.ensures.pairs
+    rw c.replace-full.ensures.after (push_pairs c.self.inside.spine _ _ _ c.in-Some.last c.args.pair _ was l.1 t.0.0 (ap (λ b. b.pairs) c.self.view_is) (rw c.replace-full.ensures.value at c.attach.ensures.pairs))
