@@ -1,5 +1,5 @@
 -- The first and the last pair of a map, at their places.
-use Rattle.std.proofs.Common.{◌≡◌, ℕ, zero, suc, ◌+◌, ◌<◌, ◌≤◌, ◌⊎◌, inl, inr, List, [], ◌∷◌, ◌++◌, length, Some, None, refl, sym, ap, ◌∙◌, arith, append-nil, length-append}
+use Rattle.std.proofs.Common.{◌≡◌, ℕ, zero, suc, ◌+◌, ◌<◌, ◌≤◌, ◌⊎◌, inl, inr, List, [], ◌∷◌, ◌++◌, length, Some, None, refl, sym, ap, subst, ◌∙◌, arith, append-nil, length-append}
 use Rattle.std.proofs.lemmas.Bool.{cases_lt}
 use Rattle.fc_tree_node.specs.declared.node.Node.{Node}
 use Rattle.fc_tree_node.specs.Node.{own_pairs, children_of, child_at, pairs_of, IsLevelled}
@@ -70,3 +70,11 @@ module _ {K V : Type 0} where
       let none = none_there (after_pair path root) (omega (arith, all, z)) in
       let left = sym (append-nil (before_pair path root)) in
       (c.pair, c.is, c.parts ∙ rw none (ap (λ s. s ++ c.pair ∷ []) left), λ v. written_pairs path sound.0 root c.pair v sound.2.1 place c.is ∙ rw none (ap (λ s. s ++ (c.pair.0, v) ∷ []) left))
+
+  -- The gap ahead of all pairs leads to the first of them, where there is one.
+  pub first_found : (m n : Map K V) (gap : List ℕ) (len : ℕ) → m ≡ n → IsSoundMap m → IsGapIn m gap → length (before_gap_in m gap) ≡ 0 → len ≡ length (entries m) → (len ≡ 0 → ⊥) → IsPlaceIn n gap × IsFirst n gap
+  first_found m n gap len is sound g z all some = subst (λ n. IsPlaceIn n gap × IsFirst n gap) is (go (length (entries m)) refl)
+    where
+      go : (k : ℕ) → length (entries m) ≡ k → IsPlaceIn m gap × IsFirst m gap
+      go zero e = absurd (some (all ∙ e))
+      go (suc k) e = let there = first_at m gap sound g z (omega (arith, e)) in (there.0, first_is m gap sound there.0 there.1)
