@@ -1,2 +1,3 @@
 mod CopyFacts
+mod EqualFacts
 mod PairFacts

@@ -3,9 +3,11 @@ ghost use Rattle.std.specs.Prelude.{◌≡◌, ◌+◌, ◌<◌, ◌≤◌, [], 
 ghost use Rattle.std.specs.Option.{option_copied};
 ghost use Rattle.fc_hash.specs.Pairs.{IsMap, value_at, IsPut, IsTaken};
 
+mod compare;
 mod copy;
 mod debug;
 mod iter;
+mod lend;
 mod whole;
 
 use fc_base::TryReserveError;
