@@ -1,5 +1,5 @@
 -- What std's equality of hashed maps answers.
-use Rattle.std.proofs.Common.{◌≡◌, Bool, true, false, cond, ◌&&◌, List, [], ◌∷◌, Option, None, Some, refl, sym, ap, ◌∙◌}
+use Rattle.std.proofs.Common.{◌≡◌, Bool, true, false, cond, ◌&&◌, List, [], ◌∷◌, Option, None, Some, refl, ap, ◌∙◌}
 use Rattle.std.specs.List.{list_all}
 use Rattle.std.specs.HashMap.{entries_eq}
 use Rattle.std.specs.Map.{keys_of, lookup, lookup_entry}
@@ -26,5 +26,5 @@ module _ {K V : Type 0} where
   unfolding entries_eq
   entries_eq_is eq same ps qs =
       let each : (k : K) → option_eq (λ p q. same p.1 q.1) (lookup_entry (eq k) ps) (lookup_entry (eq k) qs) ≡ agree_at eq same ps qs k =
-        λ k. by_values same (lookup_entry (eq k) ps) (lookup_entry (eq k) qs) ∙ (λ i. option_eq same (value_of_entry (eq k) ps i) (value_of_entry (eq k) qs i)) in
+      λ k. by_values same (lookup_entry (eq k) ps) (lookup_entry (eq k) qs) ∙ (λ i. option_eq same (value_of_entry (eq k) ps i) (value_of_entry (eq k) qs i)) in
       λ i. list_all (λ k. each k i) (keys_of ps) && list_all (λ k. each k i) (keys_of qs)

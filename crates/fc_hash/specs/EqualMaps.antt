@@ -1,11 +1,11 @@
 -- Equality of maps is symmetric and transitive: equal maps agree at every key.
-use Rattle.std.proofs.Common.{◌≡◌, Bool, true, false, cond, ◌&&◌, List, [], ◌∷◌, Option, None, Some, refl, sym, ap, ◌∙◌, inl, inr, true≢false}
+use Rattle.std.proofs.Common.{◌≡◌, Bool, true, false, cond, ◌&&◌, List, [], ◌∷◌, Option, None, Some, refl, sym, ◌∙◌, inl, inr, true≢false}
 use Rattle.std.proofs.Math.Bool.{and_comm}
 use Rattle.std.proofs.lemmas.List.Sums.{list_all-from_AllPass}
 use Rattle.std.specs.Prelude.{◌⊎◌, slice_index_or}
 use Rattle.std.specs.Cmp.{IsPartialEquivalence, IsEquivalence, first_so, second_so}
 use Rattle.std.specs.List.{list_all}
-use Rattle.std.specs.Map.{keys_of, lookup}
+use Rattle.std.specs.Map.{keys_of}
 use Rattle.std.specs.Option.{option_eq}
 use Rattle.fc_hash.specs.Pairs.{Hashed, value_at, agree_at, are_equal}
 
@@ -67,8 +67,8 @@ module _ {K V : Type 0} {eq : K → K → Bool} (keys : IsEquivalence eq) where
   equal_maps_per {same} laws =
       record {
         symm = λ m n.
-          let turned = λ (k : K). values_symm same laws (value_at eq k m.pairs) (value_at eq k n.pairs) in
-          and_comm (list_all (agree_at eq same m.pairs n.pairs) (keys_of m.pairs)) (list_all (agree_at eq same m.pairs n.pairs) (keys_of n.pairs))
-          ∙ (λ i. list_all (λ k. turned k i) (keys_of n.pairs) && list_all (λ k. turned k i) (keys_of m.pairs));
+            let turned = λ (k : K). values_symm same laws (value_at eq k m.pairs) (value_at eq k n.pairs) in
+            and_comm (list_all (agree_at eq same m.pairs n.pairs) (keys_of m.pairs)) (list_all (agree_at eq same m.pairs n.pairs) (keys_of n.pairs))
+            ∙ (λ i. list_all (λ k. turned k i) (keys_of n.pairs) && list_all (λ k. turned k i) (keys_of m.pairs));
         trans = λ l m n e f. equal_where_all_agree same l.pairs n.pairs (λ q. values_trans same laws (value_at eq q l.pairs) (value_at eq q m.pairs) (value_at eq q n.pairs) (agree_everywhere same l.pairs m.pairs e q) (agree_everywhere same m.pairs n.pairs f q));
       }

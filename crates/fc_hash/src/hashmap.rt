@@ -6,6 +6,7 @@ ghost use Rattle.fc_hash.specs.Pairs.{IsMap, value_at, IsPut, IsTaken};
 mod compare;
 mod copy;
 mod debug;
+mod extend;
 mod iter;
 mod lend;
 mod whole;
