@@ -14,3 +14,5 @@ mod nested;
 mod sizes;
 #[cfg(test)]
 mod tagged;
+#[cfg(test)]
+mod words;
