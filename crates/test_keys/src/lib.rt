@@ -16,3 +16,5 @@ mod prefixes;
 mod sizes;
 #[cfg(test)]
 mod tagged;
+#[cfg(test)]
+mod words;
