@@ -110,22 +110,22 @@ fn reserved_room_is_for_so_many_keys(rt: HostRuntime) {
     assert!(rt; map.len() == 3);
 }
 
-// Eight pairs, for which the map grows twice: refused, it has none of them, or the seven that the first room is for.
+// Ten pairs, for which the map grows twice: refused, it has none of them, or the nine that the first room is for.
 #[test]
 fn a_refused_extension_keeps_the_pairs_before(rt: HostRuntime) {
     let mut map = TryHashMap::default(rt.alloc());
-    let is_whole = extend(&mut map, 0, 8).is_ok();
+    let is_whole = extend(&mut map, 0, 10).is_ok();
     let kept = map.len() as u64;
     assert!(rt; holds_times(&map, kept, 10));
     assert!(rt;
         if is_whole {
-            kept == 8
+            kept == 10
         } else {
-            kept == 0 || kept == 7
+            kept == 0 || kept == 9
         }
     );
-    match collected(rt.alloc(), 8) {
-        Ok(made) => assert!(rt; holds_times(&made, 8, 10)),
+    match collected(rt.alloc(), 10) {
+        Ok(made) => assert!(rt; holds_times(&made, 10, 10)),
         Err(error) => assert!(rt; matches!(error, TryReserveError::AllocError)),
     }
 }
