@@ -18,10 +18,12 @@ pub use Rattle.fc_vec.specs.Items.{GivesAll, GivesFirst}
 -- vectors, and reading into them
 pub use Rattle.fc_vec.specs.Vectors.{Vector, MayRefuse, resized, IsExtended, IsFilled, IsCopiedUpTo}
 pub use Rattle.fc_vec.specs.Joined.{joined as joined_parts}
-pub use Rattle.fc_vec.specs.Lends.{with_items, lends_slice, lends_walk}
+pub use Rattle.fc_vec.specs.Lends.{with_items, item_written, lends_slice, lends_walk, lends_item, lends_item_if, lends_drain}
 pub use Rattle.fc_read.specs.Reading.{front, IsMoved, IsWhole}
 -- hashed maps
-pub use Rattle.fc_hash.specs.Pairs.{Hashed, IsMap, value_at as hashed_value_at, IsPut, IsTaken, AreCopies}
+pub use Rattle.fc_hash.specs.Pairs.{Hashed, IsMap, value_at as hashed_value_at, IsPut, IsTaken, AreCopies, agree_at, are_equal}
+pub use Rattle.fc_hash.specs.Lends.{with_value, lends_value}
+pub use Rattle.fc_hash.specs.Extended.{ArePut, IsPutAll, IsPutUpTo}
 -- maps, their entries and walks
 pub use Rattle.fc_map.specs.Entries.{Map, entries, IsSoundMap, passed_in, now_value, now_pair}
 pub use Rattle.fc_map.specs.Counts.{IsBounded}
