@@ -18,13 +18,14 @@ use Rattle.fc_base.proofs.Laws.{ascending_back, smaller_ahead}
 use Rattle.fc_tree_node.specs.declared.node.Node.{Node}
 use Rattle.fc_tree_node.specs.Node.{own_pairs, children_of, child_at, pairs_of, IsLevelled}
 use Rattle.fc_tree_node.specs.Place.{before_child, after_child, before_own, after_own}
-use Rattle.fc_tree_node.proofs.Gaps.{item_there, leaf_gap, inner_gap, own_pair, before_child_pair, after_child_pair, after_none, step_levels}
+use Rattle.fc_tree_node.proofs.Gaps.{item_there, own_pair, before_child_pair, after_child_pair, after_none}
 use Rattle.fc_tree_node.proofs.Lists.{all_both}
 use Rattle.fc_tree_search.proofs.Ordered.{ascending_middle}
 use Rattle.fc_tree_node.specs.LeafGap.{IsLeafGap}
 use Rattle.fc_tree_node.specs.Path.{before_gap}
 use Rattle.fc_tree_node.specs.Tree.{Map, entries}
 use Rattle.fc_tree_walk.specs.Gap.{AreEndsIn}
+use Rattle.fc_tree_walk.proofs.GapFacts.{IsAround, around_child}
 use Rattle.fc_tree_walk.specs.Span.{between}
 use Rattle.fc_tree_walk.specs.declared.cuts.Cut.{Cut}
 use Rattle.fc_tree_walk.specs.declared.cuts.Cut.TheVariants.{First, Before, After, Last}
@@ -174,17 +175,6 @@ module _ {K V : Type 0} (cmp : K → K → Ordering) where
             subst (AllByRecursion (λ y. t y ≡ false)) (sym (after_child_pair n i x k)) (e, fails_behind t down (before_own n i) (after_own n i) p (subst (IsAscending cmp) (own_pair h n i x l k) o) e)
 
 module _ {K V : Type 0} where
-  -- A node's pairs around a child, or around a gap of a leaf.
-  abbrev pub IsAround : Node K V → ℕ → List (K × V) → Type 0
-  IsAround n i c = pairs_of n ≡ before_child n i ++ (c ++ after_child n i)
-
-  pub around_gap : (h : ℕ) (n : Node K V) (i : ℕ) → IsLevelled h n → length (children_of n) ≤ i → i ≤ length (own_pairs n) → IsAround n i []
-  around_gap zero n i l c le = leaf_gap n i l.1
-  around_gap (suc h) n i l c le = absurd (let e : length (children_of n) ≡ length (own_pairs n) + 1 = l.1 in omega arith)
-
-  pub around_child : (h : ℕ) (n c : Node K V) (i : ℕ) → IsLevelled h n → i < length (children_of n) → c ≡ child_at n i → IsAround n i (pairs_of c)
-  around_child h n c i l k is = let s = step_levels h n i l k in subst (λ d. IsAround n i (pairs_of d)) (sym is) (inner_gap n i s.4 s.3)
-
   -- The child's pairs ascend with the node's.
   pub child_ascends : (cmp : K → K → Ordering) (h : ℕ) (n c : Node K V) (i : ℕ) → IsLevelled h n → i < length (children_of n) → c ≡ child_at n i → IsAscending cmp (pairs_of n) → IsAscending cmp (pairs_of c)
   child_ascends cmp h n c i l k is o = ascending_middle cmp (before_child n i) (pairs_of c) (after_child n i) (subst (IsAscending cmp) (around_child h n c i l k is) o)

@@ -2,8 +2,8 @@ use Rattle.std.proofs.Common.{[], length, refl, rules, arith, sym, subst, ap, â—
 use Rattle.fc_tree_node.specs.Node.{IsLevelled}
 use Rattle.fc_tree_node.proofs.Gaps.{step_levels}
 use Rattle.fc_tree_walk.specs.Gap.{GoesOn}
-use Rattle.fc_tree_walk.proofs.GapFacts.{goes_here, goes_below, ends_here, ends_below}
-use Rattle.fc_tree_walk.proofs.Turns.{turn_first, turn_later, around_gap, around_child, child_ascends, ahead_at, amid_parted, both_at}
+use Rattle.fc_tree_walk.proofs.GapFacts.{around_gap, around_child, goes_here, goes_below, ends_here, ends_below}
+use Rattle.fc_tree_walk.proofs.Turns.{turn_first, turn_later, child_ascends, ahead_at, amid_parted, both_at}
 use Rattle.fc_tree_walk.proofs.ends.+push_both.Goals as goal
 
 pub push_cut-requires-clause-place : goal.push_cut-requires-clause-place

@@ -1,8 +1,8 @@
 use Rattle.std.proofs.Common.{[], length, refl, rules, arith, sym, subst, ap, ◌∙◌, length-append}
 use Rattle.fc_tree_node.specs.Node.{IsLevelled}
 use Rattle.fc_tree_node.proofs.Gaps.{step_levels}
-use Rattle.fc_tree_walk.proofs.GapFacts.{goes_here, goes_below, ends_here, ends_below}
-use Rattle.fc_tree_walk.proofs.Turns.{turn_first, around_gap, around_child, child_ascends, ahead_at}
+use Rattle.fc_tree_walk.proofs.GapFacts.{around_gap, around_child, goes_here, goes_below, ends_here, ends_below}
+use Rattle.fc_tree_walk.proofs.Turns.{turn_first, child_ascends, ahead_at}
 use Rattle.fc_tree_walk.proofs.ends.+push_cut.Goals as goal
 
 pub push_cut-requires : goal.push_cut-requires
