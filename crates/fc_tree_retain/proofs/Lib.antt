@@ -1,0 +1,7 @@
+pub mod Lists
+pub mod Levels
+pub mod Turns
+pub mod Opened
+pub mod Passing
+pub mod Meeting
+pub mod Settling
