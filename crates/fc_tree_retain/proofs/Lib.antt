@@ -1,6 +1,7 @@
 pub mod Lists
 pub mod Levels
 pub mod Turns
+pub mod Kept
 pub mod Opened
 pub mod Passing
 pub mod Meeting

@@ -1,6 +1,6 @@
 //! What is asked of each pair, and what becomes of those that do not stay.
-ghost use Rattle.std.specs.Prelude.{◌≡◌, Bool};
-ghost use Rattle.fc_tree_retain.specs.Retained.{AskedAtPair};
+ghost use Rattle.std.specs.Prelude.{◌≡◌, Bool, not};
+ghost use Rattle.fc_tree_retain.specs.Retained.{AskedAtPair, GivenPair};
 
 // Asked of one pair after another.
 pub(crate) trait Sieve<K, V> {
@@ -49,5 +49,33 @@ impl<K: Drop, V: Drop, F: FnMut(&K, &mut V) -> bool> Sieve<K, V> for Retaining<F
         ensures given { self.new.keep ≡ self.old.keep }
     {
         drop(pair);
+    }
+}
+
+// Hands on what is picked.
+#[derive(Drop)]
+pub(crate) struct Extracting<F, E> {
+    pub(crate) pick: F,
+    pub(crate) each: E,
+}
+
+impl<K, V, F: FnMut(&K, &mut V) -> bool, E: FnMut(K, V)> Sieve<K, V> for Extracting<F, E> {
+    ghost callable = { λ s. F.IsAlwaysCallable s.pick × E.IsAlwaysCallable s.each };
+
+    ghost asked = { λ s e t w b. (picked : Bool) × AskedAtPair F.FnMut s.pick e t.pick w picked × (b ≡ not picked) × (t.each ≡ s.each) };
+
+    ghost given = { λ s e t. GivenPair E.FnMut s.each e t.each × (t.pick ≡ s.pick) };
+
+    fn stays(&mut self, key: &K, value: &mut V) -> bool {
+        !(self.pick)(key, value)
+    }
+
+    fn take(&mut self, pair: (K, V))
+        requires { F.IsAlwaysCallable self.old.pick × E.IsAlwaysCallable self.old.each }
+        ensures callable { F.IsAlwaysCallable self.new.pick × E.IsAlwaysCallable self.new.each }
+        ensures given { GivenPair E.FnMut self.old.each pair self.new.each × (self.new.pick ≡ self.old.pick) }
+    {
+        let (key, value) = pair;
+        (self.each)(key, value);
     }
 }
