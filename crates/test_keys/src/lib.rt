@@ -7,6 +7,8 @@
 #[cfg(test)]
 mod collected;
 #[cfg(test)]
+mod first_uses;
+#[cfg(test)]
 mod kinds;
 #[cfg(test)]
 mod nested;
