@@ -121,9 +121,13 @@ fn push_behind<K: Ord + Drop, V: Drop>(
     if *len == usize::MAX {
         return Err(TryReserveError::CapacityOverflow);
     }
-    tree.put((key, value))?;
-    *len += 1;
-    Ok(())
+    match tree.put((key, value)) {
+        Ok(()) => {
+            *len += 1;
+            Ok(())
+        }
+        Err(error) => Err(error),
+    }
 }
 
 // Makes the map of the tree's pairs, if the tree is still open.
