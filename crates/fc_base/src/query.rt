@@ -2,6 +2,7 @@
 ghost use Rattle.std.specs.Prelude.{◌≡◌, ℕ, List};
 ghost use Rattle.std.specs.declared.cmp.Ordering.{Ordering};
 ghost use Rattle.std.specs.Cmp.Lexicographic.{slice_cmp, lists_total, nat_list_cmp_total};
+ghost use Rattle.std.specs.Ordering.{nat_cmp};
 ghost use Rattle.std.specs.String.{string_bytes};
 ghost use Rattle.fc_base.specs.Query.{IsQueryOrder, text_order, items_order};
 ghost use Rattle.fc_base.specs.Viewed.{viewed, own_order};
@@ -50,6 +51,21 @@ impl Query<String> for &str {
     ghost fits = { viewed nat_list_cmp_total string_bytes (λ text. text) };
 
     fn order_of(&self, key: &String) -> Ordering {
+        compare_slices(key.as_bytes(), self.as_bytes())
+    }
+}
+
+/// A `&str` by a text.
+impl Query<&str> for &str {
+    ghost Sought = { List ℕ };
+
+    ghost sought = { λ q. q.now };
+
+    ghost order = { λ text bytes. slice_cmp nat_cmp text.now bytes };
+
+    ghost fits = { viewed nat_list_cmp_total (λ text. text.now) (λ text. text) };
+
+    fn order_of(&self, key: &&str) -> Ordering {
         compare_slices(key.as_bytes(), self.as_bytes())
     }
 }

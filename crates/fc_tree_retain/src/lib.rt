@@ -1,0 +1,8 @@
+//! A closure asked of each pair of a tree in turn, by which those stay at which it answers true, with the tree mended after.
+#![tactic(auto)]
+
+pub mod retain;
+
+mod mending;
+mod sieve;
+mod sifting;
