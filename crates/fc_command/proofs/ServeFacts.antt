@@ -136,17 +136,58 @@ module _ (seen said more : List ℕ) (s new : Session) (a : IsAfter s seen said)
     front = a.front ++ s.line.items ∷ [];
     cuts = rw run.1 (cuts_feed _ a.front s.line.items a.cuts);
     spoken = run.0;
-    number = rw length_push (next_number s.number new.number (length a.front) a.number run.2.0);
+    number = rw length_push (next_number s.number new.number (length a.front) a.number run.2);
   }
   fed (Ok (Some n)) run = λ rest. faulted_here _ a.front _ s.line.items said more s.world s.number n (feed_place rest) a.spoken a.number run.0 run.1 run.2
   fed (Err e) run = λ rest. line_failed _ s new a.front _ said more e (feed_place rest) a.spoken a.number run
 
 -- what ended the session stands however the source goes on
-pub fault_goes_on : (new : Session) (seen said later : List ℕ) (n : ℕ) → PieceRun new seen said (Ok (Some n)) → PieceRun new (seen ++ later) said (Ok (Some n))
+fault_goes_on : (new : Session) (seen said later : List ℕ) (n : ℕ) → PieceRun new seen said (Ok (Some n)) → PieceRun new (seen ++ later) said (Ok (Some n))
 fault_goes_on new seen said later n h rest = rw (append_assoc seen later rest) (h (later ++ rest))
 
-pub failure_goes_on : (new : Session) (seen said later : List ℕ) (e : ServeError) → PieceRun new seen said (Err e) → PieceRun new (seen ++ later) said (Err e)
+failure_goes_on : (new : Session) (seen said later : List ℕ) (e : ServeError) → PieceRun new seen said (Err e) → PieceRun new (seen ++ later) said (Err e)
 failure_goes_on new seen said later e h rest = rw (append_assoc seen later rest) (h (later ++ rest))
+
+refusal_goes_on : (new : Session) (seen said later more : List ℕ) (number : ℕ) (r : Result (Option ℕ) ServeError) → FaultTold number more r → PieceRun new seen said r → PieceRun new (seen ++ later) said r
+refusal_goes_on new seen said later more number (Ok None) told h = absurd told
+refusal_goes_on new seen said later more number (Ok (Some n)) told h = fault_goes_on new seen said later n h
+refusal_goes_on new seen said later more number (Err e) told h = failure_goes_on new seen said later e h
+
+-- of a piece so much was taken, then comes a part without a line feed, and then what is left
+module _ (seen said piece taken rest part left m0 : List ℕ) (e : piece ≡ taken ++ rest) (f : rest ≡ part ++ left) (s : Session) (a : IsAfter s (seen ++ taken) (said ++ m0)) (open_part : Open part) where
+  in_parts : seen ++ piece ≡ ((seen ++ taken) ++ part) ++ left
+  in_parts = ap (λ l. seen ++ l) (e ∙ ap (λ l. taken ++ l) f) ∙ sym (append_assoc seen taken (part ++ left)) ∙ sym (append_assoc (seen ++ taken) part left)
+
+  pub piece_refused : 4096 < length (s.line.items ++ part) → (new : Session) (more : List ℕ) (r : Result (Option ℕ) ServeError) → FaultTold (min (s.number + 1) (2 ^ 64 - 1)) more r → PieceRun new (seen ++ piece) (said ++ (m0 ++ more)) r
+  piece_refused long new more r told =
+      let here = part_refused (seen ++ taken) (said ++ m0) s a part open_part long new more r told in
+      let on = refusal_goes_on new ((seen ++ taken) ++ part) ((said ++ m0) ++ more) left more _ r told here in
+      subst (λ t. PieceRun new (seen ++ piece) t r) (append_assoc said m0 more) (subst (λ l. PieceRun new l ((said ++ m0) ++ more) r) (sym in_parts) on)
+
+  pub piece_open : left ≡ [] → (new : Session) → new.world ≡ s.world → new.number ≡ s.number → new.line.items ≡ s.line.items ++ part → IsAfter new (seen ++ piece) (said ++ m0)
+  piece_open none new world number line =
+      let all = in_parts ∙ ap (λ l. ((seen ++ taken) ++ part) ++ l) none ∙ append-nil ((seen ++ taken) ++ part) in
+      subst (λ l. IsAfter new l (said ++ m0)) (sym all) (part_on (seen ++ taken) (said ++ m0) s a part open_part new world number line)
+
+  -- what is left begins with a line feed, at which the line is run
+  module _ (after more : List ℕ) (feed : left ≡ 10 ∷ after) (t new : Session) (world : t.world ≡ s.world) (number : t.number ≡ s.number) (line : t.line.items ≡ s.line.items ++ part) where
+    in_lines : seen ++ piece ≡ (((seen ++ taken) ++ part) ++ 10 ∷ []) ++ after
+    in_lines = in_parts ∙ ap (λ l. ((seen ++ taken) ++ part) ++ l) feed ∙ sym (append_assoc ((seen ++ taken) ++ part) (10 ∷ []) after)
+
+    run_here : (r : Result (Option ℕ) ServeError) → LineRun t new a.front (said ++ m0) more r → PieceRun new (((seen ++ taken) ++ part) ++ 10 ∷ []) (said ++ (m0 ++ more)) r
+    unfolding part_on
+    run_here r run =
+        let a' = part_on (seen ++ taken) (said ++ m0) s a part open_part t world number line in
+        subst (λ x. PieceRun new (((seen ++ taken) ++ part) ++ 10 ∷ []) x r) (append_assoc said m0 more) (fed ((seen ++ taken) ++ part) (said ++ m0) more t new a' r run)
+
+    pub piece_failed : (x : ServeError) → LineRun t new a.front (said ++ m0) more (Err x) → PieceRun new (seen ++ piece) (said ++ (m0 ++ more)) (Err x)
+    piece_failed x run = subst (λ l. PieceRun new l (said ++ (m0 ++ more)) (Err x)) (sym in_lines) (failure_goes_on new (((seen ++ taken) ++ part) ++ 10 ∷ []) (said ++ (m0 ++ more)) after x (run_here (Err x) run))
+
+    pub piece_fault : (n : ℕ) → LineRun t new a.front (said ++ m0) more (Ok (Some n)) → PieceRun new (seen ++ piece) (said ++ (m0 ++ more)) (Ok (Some n))
+    piece_fault n run = subst (λ l. PieceRun new l (said ++ (m0 ++ more)) (Ok (Some n))) (sym in_lines) (fault_goes_on new (((seen ++ taken) ++ part) ++ 10 ∷ []) (said ++ (m0 ++ more)) after n (run_here (Ok (Some n)) run))
+
+    pub piece_on : LineRun t new a.front (said ++ m0) more (Ok None) → IsAfter new (seen ++ (taken ++ (part ++ 10 ∷ []))) (said ++ (m0 ++ more))
+    piece_on run = subst (λ l. IsAfter new l (said ++ (m0 ++ more))) (append_assoc (seen ++ taken) part (10 ∷ []) ∙ append_assoc seen taken (part ++ 10 ∷ [])) (run_here (Ok None) run)
 
 -- what holds of a source however it goes on, and of one that was read whole
 pub however : (a b : Option (List ℕ)) (seen : List ℕ) (P : List ℕ → Type 0) → Consumes a b seen → ((rest : List ℕ) → P (seen ++ rest)) → IfSome a P

@@ -192,7 +192,10 @@ fn line_end(bytes: &[u8]) -> usize
     ensures open { AllByRecursion (λ x. x ≢ 10) (take result bytes.now) }
     ensures feed { (x : ℕ) (after : List ℕ) → drop result bytes.now ≡ x ∷ after → x ≡ 10 }
 {
-    bytes.iter().position(|byte| *byte == b'\n').unwrap_or(bytes.len())
+    bytes
+        .iter()
+        .position(|byte| *byte == b'\n')
+        .unwrap_or(bytes.len())
 }
 
 // Writes that the line after so many is not a command, and answers its number.
