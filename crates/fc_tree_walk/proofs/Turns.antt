@@ -68,6 +68,10 @@ module _ {X : Type 0} where
   pub inside_alone : (t : X → Bool) (a c d : List X) → AllByRecursion (λ x. t x ≡ false) a → AllByRecursion (λ x. t x ≡ false) d → length (filter t (a ++ (c ++ d))) ≡ length (filter t c)
   inside_alone t a c d h k = ap length (filter-append t a (c ++ d) ∙ ap (λ zs. zs ++ filter t (c ++ d)) (left_out t a h) ∙ filter-append t c d ∙ ap (λ zs. filter t c ++ zs) (left_out t d k) ∙ append-nil (filter t c))
 
+  each : (P : X → Type 0) → ((x : X) → P x) → (s : List X) → AllByRecursion P s
+  each P h [] = tt
+  each P h (x ∷ s) = (h x, each P h s)
+
   -- How many the test holds at, and at how many it does not.
   both_counts : (t : X → Bool) (s : List X) → length (filter t s) + length (filter (λ x. not (t x)) s) ≡ length s
   both_counts t [] = refl
@@ -233,6 +237,13 @@ module _ {K Q S : Type 0} {cmp : K → K → Ordering} {order : K → S → Orde
       subst (λ s. ahead order sought hi s ≡ ahead order sought lo s + amid order sought lo hi s) (sym is)
       (parted_counts cmp (λ e. leads order sought lo e.0) (λ e. leads order sought hi e.0) (leads_below lo) (leads_below hi) (before_own n start) (after_own n start) p (subst (IsAscending cmp) is o) (r.fails x k) (v.holds start x (omega arith) lt))
 
+  -- Where a range has but one bound.
+  pub amid_open : {V : Type 0} (lo hi : Cut Q) → ((lo ≡ First) ⊎ (hi ≡ Last)) → (s : List (K × V)) → ahead order sought hi s ≡ ahead order sought lo s + amid order sought lo hi s
+  amid_open lo hi e s = counts_amid (λ e. leads order sought lo e.0) (λ e. leads order sought hi e.0) s (each _ (λ x. under x.0) s)
+    where
+      under : (k : K) → leads order sought lo k ≡ true → leads order sought hi k ≡ true
+      under k h = elim e [ inl f ↦ absurd (let no : false ≡ true = ap (λ c. leads order sought c k) (sym f) ∙ h in cc) | inr f ↦ ap (λ c. leads order sought c k) f ]
+
   -- What cuts are to bounds.
   start_leads : (lo : Bound Q) (k : K) → not (leads order sought (start_cut lo) k) ≡ starts order (bound_by sought lo) k
   start_leads (Included q) k = elim (order k (sought q)) as (λ r. not (is_lt r) ≡ is_ge r) [ Less ↦ refl | Equal ↦ refl | Greater ↦ refl ]
@@ -245,8 +256,7 @@ module _ {K Q S : Type 0} {cmp : K → K → Ordering} {order : K → S → Orde
   stop_leads Unbounded k = refl
 
   module _ {V : Type 0} (lo hi : Bound Q) (s : List (K × V)) where
-    -- The pairs that a start lets in are those that are not in front of its cut.
-    pub start_counts : ahead order sought (start_cut lo) s + length (filter (λ e. starts order (bound_by sought lo) e.0) s) ≡ length s
+    start_counts : ahead order sought (start_cut lo) s + length (filter (λ e. starts order (bound_by sought lo) e.0) s) ≡ length s
     start_counts =
         ap (λ zs. ahead order sought (start_cut lo) s + length zs) (sym (filter_same (λ e. not (leads order sought (start_cut lo) e.0)) (λ e. starts order (bound_by sought lo) e.0) (λ e. start_leads lo e.0) s))
         ∙ both_counts (λ e. leads order sought (start_cut lo) e.0) s
@@ -254,15 +264,18 @@ module _ {K Q S : Type 0} {cmp : K → K → Ordering} {order : K → S → Orde
     within_is : filter (λ e. not (leads order sought (start_cut lo) e.0) && leads order sought (stop_cut hi) e.0) s ≡ within order (bound_by sought lo) (bound_by sought hi) s
     within_is = filter_same _ _ (λ e. ap (λ b. b && leads order sought (stop_cut hi) e.0) (start_leads lo e.0) ∙ ap (λ b. starts order (bound_by sought lo) e.0 && b) (stop_leads hi e.0)) s
 
-    -- The pairs of a range are as many as lie amid its cuts.
-    pub within_counts : amid order sought (start_cut lo) (stop_cut hi) s ≡ length (within order (bound_by sought lo) (bound_by sought hi) s)
-    within_counts = ap length within_is
+    -- In front of a range are the pairs in front of its first cut, and in it those amid both.
+    pub ends_told : (a b : Cut Q) (i j : ℕ) → a ≡ start_cut lo → b ≡ stop_cut hi → i ≡ ahead order sought a s → j ≡ ahead order sought a s + amid order sought a b s → (i + length (filter (λ e. starts order (bound_by sought lo) e.0) s) ≡ length s) × (j ≡ i + length (within order (bound_by sought lo) (bound_by sought hi) s))
+    ends_told a b i j ea eb ei ej =
+        let first = ap (λ c. ahead order sought c s) ea in
+        let inside = ap (λ c. amid order sought c b s) ea ∙ ap (λ c. amid order sought (start_cut lo) c s) eb ∙ ap length within_is in
+        (omega (arith, ei, first, start_counts), omega (arith, ei, ej, inside))
 
     -- They lie together.
     pub within_at : (i j : ℕ) → IsAscending cmp s → i + length (filter (λ e. starts order (bound_by sought lo) e.0) s) ≡ length s → j ≡ i + length (within order (bound_by sought lo) (bound_by sought hi) s) → slice_range s i j ≡ within order (bound_by sought lo) (bound_by sought hi) s
     within_at i j o e f =
         let a : i ≡ ahead order sought (start_cut lo) s = (let c = start_counts in omega (arith, c, e)) in
-        let b : j ≡ ahead order sought (start_cut lo) s + amid order sought (start_cut lo) (stop_cut hi) s = f ∙ ap (λ k. k + length (within order (bound_by sought lo) (bound_by sought hi) s)) a ∙ ap (λ k. ahead order sought (start_cut lo) s + k) (sym within_counts) in
+        let b : j ≡ ahead order sought (start_cut lo) s + amid order sought (start_cut lo) (stop_cut hi) s = f ∙ ap (λ k. k + length (within order (bound_by sought lo) (bound_by sought hi) s)) a ∙ ap (λ k. ahead order sought (start_cut lo) s + k) (sym (ap length within_is)) in
         ap (λ k. slice_range s k j) a ∙ ap (slice_range s (ahead order sought (start_cut lo) s)) b
         ∙ amid_is cmp (λ e. leads order sought (start_cut lo) e.0) (λ e. leads order sought (stop_cut hi) e.0) (leads_below (start_cut lo)) (leads_below (stop_cut hi)) s o ∙ within_is
 

@@ -1,5 +1,5 @@
 //! Where the keys of a tree are cut by a bound of a range, and the place of a cut in a node.
-ghost use Rattle.std.specs.Prelude.{◌≡◌, ◌≤◌, length};
+ghost use Rattle.std.specs.Prelude.{◌≡◌, ◌≤◌, ◌⊎◌, length, IsTrue};
 ghost use Rattle.std.specs.Ordering.{is_lt, is_le};
 ghost use Rattle.fc_tree_node.specs.Node.{own_pairs};
 ghost use Rattle.fc_tree_walk.specs.Cut.{start_cut, stop_cut, leads, IsTurn};
@@ -40,6 +40,16 @@ pub(crate) fn stop_of<Q: Copy>(hi: &Bound<Q>) -> Cut<Q>
         Bound::Included(key) => Cut::After(*key),
         Bound::Excluded(key) => Cut::Before(*key),
         Bound::Unbounded => Cut::Last,
+    }
+}
+
+/// Whether one of the two ends of a range has no bound.
+pub(crate) fn is_open<Q: Copy>(start: &Cut<Q>, stop: &Cut<Q>) -> bool
+    ensures { IsTrue result → (start.now ≡ Cut.First) ⊎ (stop.now ≡ Cut.Last) }
+{
+    match (start, stop) {
+        (Cut::First, _) | (_, Cut::Last) => true,
+        _ => false,
     }
 }
 

@@ -15,7 +15,7 @@ ghost use Rattle.fc_tree_node.specs.TreePlace.{before_gap_in};
 ghost use Rattle.fc_tree_walk.specs.Cut.{leads, ahead, amid, TurnsAt};
 ghost use Rattle.fc_tree_walk.specs.Gap.{AreEndsIn, IsGapIn, GoesOn, EndsIn};
 
-use crate::cuts::{Cut, place_in, start_of, stop_of};
+use crate::cuts::{Cut, is_open, place_in, start_of, stop_of};
 use crate::gaps::{push_first, push_last};
 use fc_base::Query;
 use fc_tree_node::node::Node;
@@ -85,7 +85,14 @@ pub(crate) fn push_ends<'a, K: Ord, V, Q: Query<K>>(
     ensures front { length (before_gap front.new root.now) + length (filter (λ e. starts Q.order (bound_by Q.sought lo.now) e.0) (pairs_of root.now)) ≡ length (pairs_of root.now) }
     ensures back { length (before_gap back.new root.now) ≡ length (before_gap front.new root.now) + length (within Q.order (bound_by Q.sought lo.now) (bound_by Q.sought hi.now) (pairs_of root.now)) }
 {
-    push_both(root, &start_of(lo), &stop_of(hi), front, back)
+    let (lo, hi) = (start_of(lo), stop_of(hi));
+    if is_open(&lo, &hi) {
+        // An end without a bound needs no search, so the two ways are gone one by one.
+        let first = push_cut(root, place_in(root, &lo, 0), &lo, front);
+        let last = push_cut(root, place_in(root, &hi, 0), &hi, back);
+        return (first, last);
+    }
+    push_both(root, &lo, &hi, front, back)
 }
 
 // Goes on to the gaps at two cuts below the node, the second not in front of the first, and answers their leaves.
@@ -113,10 +120,10 @@ fn push_both<'a, K: Ord, V, Q: Query<K>>(
     }
     front.push(start);
     back.push(start);
-    if start < node.child_count() {
-        return push_both(node.child(start), lo, hi, front, back);
+    if node.is_leaf() {
+        return (node, node);
     }
-    (node, node)
+    push_both(node.child(start), lo, hi, front, back)
 }
 
 // Goes on to the gap at a cut below the node, whose own pairs are cut at the place, and answers its leaf.
@@ -133,9 +140,9 @@ fn push_cut<'a, K: Ord, V, Q: Query<K>>(
     ensures leaf { EndsIn gap.old gap.new node.now result.now }
 {
     gap.push(place);
-    if place < node.child_count() {
-        let child = node.child(place);
-        return push_cut(child, place_in(child, cut, 0), cut, gap);
+    if node.is_leaf() {
+        return node;
     }
-    node
+    let child = node.child(place);
+    push_cut(child, place_in(child, cut, 0), cut, gap)
 }
