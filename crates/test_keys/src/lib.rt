@@ -11,6 +11,8 @@ mod kinds;
 #[cfg(test)]
 mod nested;
 #[cfg(test)]
+mod retain;
+#[cfg(test)]
 mod sizes;
 #[cfg(test)]
 mod tagged;
