@@ -1,22 +1,22 @@
 -- A node of which two children were mended, and one of which all were.
-use Rattle.std.proofs.Common.{◌≡◌, ℕ, suc, zero, ◌+◌, ◌-◌, ◌<◌, ◌≤◌, List, [], ◌∷◌, ◌++◌, length, get_or, take, drop, refl, sym, ap, subst, ◌∙◌, arith, append_assoc, inl, inr}
+use Rattle.std.proofs.Common.{◌≡◌, ℕ, suc, zero, ◌+◌, ◌<◌, ◌≤◌, List, [], ◌∷◌, ◌++◌, length, get_or, take, drop, refl, sym, ap, subst, ◌∙◌, arith, append_assoc, inl, inr}
 use Rattle.std.specs.Prelude.{◌⊎◌, slice_set}
 use Rattle.std.specs.List.{AllByRecursion}
 use Rattle.std.proofs.lemmas.List.{length-append, length-drop}
 use Rattle.fc_base.specs.Sizes.{capacity, min_len}
 use Rattle.fc_tree_node.specs.declared.node.Node.{Node}
-use Rattle.fc_tree_node.specs.Node.{own_pairs, children_of, child_at, pairs_of, IsLeaf, IsInner, IsLevelled, IsSound}
+use Rattle.fc_tree_node.specs.Node.{own_pairs, children_of, child_at, pairs_of, IsLeaf, IsInner, IsSound}
 use Rattle.fc_tree_node.proofs.Formed.{leaf_or_inner}
-use Rattle.fc_tree_node.proofs.Lists.{length_take, length_set, all_both, all_front, all_back, all_at}
+use Rattle.fc_tree_node.proofs.Lists.{length_take, length_set, all_both}
 use Rattle.fc_tree_node.proofs.Gaps.{drop_all}
 use Rattle.fc_tree_node.proofs.Siblings.{one_at, two_at}
 use Rattle.fc_tree_node.proofs.Made.{IsChildSet}
 use Rattle.fc_tree_border.proofs.Mended.{mended_pairs}
-use Rattle.fc_tree_removal.proofs.Removed.{take_set, drop_set, at_set}
+use Rattle.fc_tree_removal.proofs.Removed.{drop_set, at_set}
 use Rattle.fc_tree_retain.specs.Loose.{IsLoose}
-use Rattle.fc_tree_retain.specs.Mending.{IsThin, IsSeam, IsMet, IsOne, AreTwo, IsSettled, IsOneMet, AreTwoMet, IsJoined, together}
+use Rattle.fc_tree_retain.specs.Mending.{IsThin, IsSeam, IsMet, IsSettled, IsJoined, together}
 use Rattle.fc_tree_retain.proofs.Lists.{at_place, take_place, drop_place, set_place}
-use Rattle.fc_tree_retain.proofs.Levels.{thin_sound, thin_fits, levelled_thin, loose_child}
+use Rattle.fc_tree_retain.proofs.Levels.{thin_sound, levelled_thin, loose_child}
 
 module _ {K V : Type 0} where
   -- neither of the two was short
