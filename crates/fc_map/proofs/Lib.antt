@@ -15,3 +15,4 @@ pub mod SplitFacts
 pub mod CopyFacts
 pub mod ExchangeFacts
 pub mod ReadyFacts
+pub mod EndPairFacts

@@ -2,7 +2,7 @@
 pub use Rattle.fc_map.specs.declared.map.entry.Entry.TheVariants.{Occupied, Vacant}
 use Rattle.std.specs.Prelude.{◌≡◌, ℕ, List, [], ◌∷◌, ◌++◌, Option, None, Some, Result}
 use Rattle.std.specs.Option.{option_map}
-use Rattle.std.specs.Borrow.{Fml, RattleType, MutBor, follows, LendsSoOk, RestsIfErr}
+use Rattle.std.specs.Borrow.{Fml, RattleType, MutBor, follows, LendsSoOk, RestsIfErr, RestsIfNone}
 use Rattle.std.specs.declared.cmp.Ord as ord
 use Rattle.std.specs.declared.cmp.PartialEq as eq
 use Rattle.std.specs.declared.cmp.PartialOrd as partial
@@ -73,6 +73,14 @@ module _ {K V : Type 0} {g : ord.Ghosts K} {g' : eq.Ghosts K} {g'' : partial.Gho
   IsWritten old v new = (new.map.ghost_name ≡ old.map.ghost_name) × (new.map.now ≡ map_written old v) × (entry_key (Occupied new) ≡ entry_key (Occupied old)) × (entry_value (Occupied new) ≡ Some v)
       × ((w : V) → list_with (Occupied new) w ≡ list_with (Occupied old) w) × (list_without (Occupied new) ≡ list_without (Occupied old))
 
+  -- The entry is the first pair of the list: what is left without it, and what stands ahead of that with v in it.
+  abbrev pub IsFirstOf : OccupiedEntry K V g g' g'' → List (K × V) → Type 0
+  IsFirstOf o s = (p : K × V) × (entry_pair (Occupied o) ≡ Some p) × (s ≡ p ∷ list_without (Occupied o)) × ((v : V) → list_with (Occupied o) v ≡ (p.0, v) ∷ list_without (Occupied o))
+
+  -- The entry is the last pair of the list.
+  abbrev pub IsLastOf : OccupiedEntry K V g g' g'' → List (K × V) → Type 0
+  IsLastOf o s = (p : K × V) × (entry_pair (Occupied o) ≡ Some p) × (s ≡ list_without (Occupied o) ++ p ∷ []) × ((v : V) → list_with (Occupied o) v ≡ list_without (Occupied o) ++ (p.0, v) ∷ [])
+
 module _ (K V : RattleType) {g : ord.Ghosts K.Denot} {g' : eq.Ghosts K.Denot} {g'' : partial.Ghosts K.Denot} where
   -- Once the borrow r ends, the map has the last value written through r in the entry's pair.
   abbrev pub occupied_lends_whole : OccupiedEntry K.Denot V.Denot g g' g'' → MutBor V.Denot → Fml
@@ -90,3 +98,7 @@ module _ (K V : RattleType) {g : ord.Ghosts K.Denot} {g' : eq.Ghosts K.Denot} {g
   -- Where r has no entry, the map after m stays as it is.
   abbrev pub rests_if_refused : {E : Type 0} → MutBor (Map K.Denot V.Denot) → Result (Entry K.Denot V.Denot g g' g'') E → Fml
   rests_if_refused m r = RestsIfErr (the_row K V g g' g'') m (λ e. (entry_map_ref e).ghost_name) r (λ n. n ≡ m.now)
+
+  -- Where r has no entry, the map after m stays as it is.
+  abbrev pub rests_if_none : MutBor (Map K.Denot V.Denot) → Option (OccupiedEntry K.Denot V.Denot g g' g'') → Fml
+  rests_if_none m r = RestsIfNone (the_row K V g g' g'') m (λ o. o.map.ghost_name) r (λ n. n ≡ m.now)

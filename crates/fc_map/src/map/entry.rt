@@ -5,6 +5,7 @@ ghost use Rattle.fc_map.specs.Place.{IsOpenAt};
 ghost use Rattle.fc_map.specs.Unique.{open-prop, place-prop};
 
 mod calls;
+mod first_last;
 mod occupied;
 mod ready;
 mod try_entry;

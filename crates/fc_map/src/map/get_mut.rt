@@ -1,6 +1,7 @@
 //! The value at a key, lent for writing.
 ghost use Rattle.std.specs.Prelude.{◌≡◌, ◌+◌, length, OnSome, Some};
 ghost use Rattle.std.specs.Borrow.{sem};
+ghost use Rattle.fc_base.specs.Ascending.{IsAscending};
 ghost use Rattle.fc_base.specs.OneKey.{put_by};
 ghost use Rattle.fc_base.specs.Parts.{value_at};
 ghost use Rattle.fc_map.specs.Counts.{IsBounded};
@@ -20,6 +21,7 @@ impl<K: Ord, V> BTreeMap<K, V> {
         ensures value { lent_value result ≡ value_at Q.order (entries self.old) (Q.sought key) }
         ensures put { OnSome result ((k : K) (w : V) → entries (written_at Q.order (Q.sought key) self.old w) ≡ put_by Q.order (entries self.old) (Q.sought key) k w) }
         ensures sound { OnSome result ((w : V) → IsSoundMap (written_at Q.order (Q.sought key) self.old w)) }
+        ensures ascending { IsAscending K.cmp (entries self.old) }
     {
         self.get_mut_counted(key, &mut Count::new())
     }
@@ -31,6 +33,7 @@ impl<K: Ord, V> BTreeMap<K, V> {
         ensures value { lent_value result ≡ value_at Q.order (entries self.old) (Q.sought key) }
         ensures put { OnSome result ((k : K) (w : V) → entries (written_at Q.order (Q.sought key) self.old w) ≡ put_by Q.order (entries self.old) (Q.sought key) k w) }
         ensures sound { OnSome result ((w : V) → IsSoundMap (written_at Q.order (Q.sought key) self.old w)) }
+        ensures ascending { IsAscending K.cmp (entries self.old) }
         ensures comparisons { count.new.comparisons ≡ count.old.comparisons + passed_in Q.order (Q.sought key) self.old }
         ensures moves { count.new.moves ≡ count.old.moves }
         ensures bounded { IsBounded (length (entries self.old)) count.old count.new }

@@ -1,6 +1,7 @@
 //! What an entry does whether its key is there or not.
-ghost use Rattle.std.specs.Prelude.{◌≡◌, length, unwrap_or, IsErr, IfOk, IfErr, IfSome, OnErr, None, Some};
-ghost use Rattle.std.specs.Borrow.{sem, MutBor};
+ghost use Rattle.std.specs.Prelude.{◌≡◌, length, unwrap_or, IsErr, IfOk, IfErr, IfSome, MatchOption, OnErr, None, Some};
+ghost use Rattle.std.specs.Borrow.{sem, Bor, MutBor};
+ghost use Rattle.std.specs.Fn.{FnOnceReturnsAt};
 ghost use Rattle.std.specs.Map.Calls.{ModifiesValue};
 ghost use Rattle.std.specs.Option.{UnwrapsOrElse};
 ghost use Rattle.fc_base.specs.Growth.{MayGrowRefuse};
@@ -85,6 +86,34 @@ impl<'a, K: Ord + Drop, V: Drop> Entry<'a, K, V> {
             Entry::Vacant(entry) => entry.try_insert(make()),
         }
     }
+
+    /// The value that is there, or else what `make` answers of the key put there, lent for writing for as long as the map was. `make`
+    /// is called once where no value is there, before any memory is asked for, and else not at all. Not in upstream: it is that of
+    /// std's map.
+    ///
+    /// # Errors
+    /// As `VacantEntry::try_insert`, where no value is there; what `make` answered then comes back with the key.
+    pub fn or_try_insert_with_key<F: FnOnce(&K) -> V>(
+        self,
+        make: F,
+    ) -> Result<&'a mut V, (K, V, TryReserveError)>
+        requires { entry_value self ≡ None → (k : Bor K) → entry_key self ≡ Some k.now → F.pre make k }
+        ensures* writes_back { sem 𝓛 (entry_lends_ok K.row V.row self.entry result) }
+        ensures value { IfOk result (λ v. UnwrapsOrElse (entry_value self.entry) (λ w. MatchOption (entry_key self.entry) ⊥ (λ k. FnOnceReturnsAt F.FnOnce make k w)) v.now) }
+        ensures absent { OnErr result (entry_value self.entry ≡ None) }
+        ensures back { IfErr result (λ e. (entry_key self.entry ≡ Some e.0) × FnOnceReturnsAt F.FnOnce make e.0 e.1) }
+        ensures error { IfErr result (λ e. MayGrowRefuse (length (entries (entry_map self.entry))) e.2) }
+        ensures full { entry_value self.entry ≡ None → length (entries (entry_map self.entry)) ≡ usize.MAX → IsErr result }
+    {
+        match self {
+            Entry::Occupied(present) => Ok(present.into_mut()),
+            Entry::Vacant(entry) => {
+                let value = make(entry.key());
+                entry.try_insert(value)
+            }
+        }
+    }
+
     /// The value that is there, or else the default put there, lent for writing for as long as the map was. Upstream:
     /// `Entry::or_default`.
     ///

@@ -2,6 +2,7 @@
 ghost use Rattle.std.specs.Prelude.{◌≡◌, ◌+◌, length, unwrap_or, IsOk, IfOk, Some};
 ghost use Rattle.std.specs.Option.{option_map};
 ghost use Rattle.std.specs.Borrow.{sem};
+ghost use Rattle.fc_base.specs.Ascending.{IsAscending};
 ghost use Rattle.fc_base.specs.OneKey.{put, cut};
 ghost use Rattle.fc_base.specs.Parts.{at};
 ghost use Rattle.fc_map.specs.Counts.{IsBounded};
@@ -28,6 +29,7 @@ impl<K: Ord + Drop, V: Drop> BTreeMap<K, V> {
         ensures key { IfOk result (λ e. entry_key e ≡ Some (unwrap_or (option_map (λ p. p.0) (at K.cmp (entries self.old) key)) key)) }
         ensures writes { IfOk result (λ e. (v : V) → list_with e v ≡ put K.cmp (entries self.old) key v) }
         ensures removes { IfOk result (λ e. list_without e ≡ cut K.cmp (entries self.old) key) }
+        ensures ascending { IsAscending K.cmp (entries self.old) }
     {
         self.try_entry_counted(key, &mut Count::new())
     }
@@ -50,6 +52,7 @@ impl<K: Ord + Drop, V: Drop> BTreeMap<K, V> {
         ensures key { IfOk result (λ e. entry_key e ≡ Some (unwrap_or (option_map (λ p. p.0) (at K.cmp (entries self.old) key)) key)) }
         ensures writes { IfOk result (λ e. (v : V) → list_with e v ≡ put K.cmp (entries self.old) key v) }
         ensures removes { IfOk result (λ e. list_without e ≡ cut K.cmp (entries self.old) key) }
+        ensures ascending { IsAscending K.cmp (entries self.old) }
         ensures comparisons { count.new.comparisons ≡ count.old.comparisons + passed_in K.cmp key self.old }
         ensures moves { count.new.moves ≡ count.old.moves }
         ensures bounded { IsBounded (length (entries self.old)) count.old count.new }

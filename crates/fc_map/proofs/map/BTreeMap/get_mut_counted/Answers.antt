@@ -18,6 +18,7 @@ returns-in-Ok g c =
         value = sym (ap (option_map (λ e. e.1)) (held_pair cmp k m c.locate.new.path f.sound f.found) ∙ c.value_mut.ensures.value);
         put = λ j w. (replaced cmp k m (path_in cmp k m) w f.sound there).put_is j;
         sound = λ w. (replaced cmp k m (path_in cmp k m) w f.sound there).sound;
+        ascending = f.ascending;
         comparisons = search rules;
         moves = search rules;
         bounded = search rules;

@@ -2,7 +2,7 @@ use Rattle.std.proofs.Common.{length, arith}
 use Rattle.fc_map.specs.Entries.{entries}
 use Rattle.fc_map.proofs.CountFacts.{moved_after}
 use Rattle.fc_map.proofs.PlaceFacts.{open_cut}
-use Rattle.fc_map.proofs.map.BTreeMap.remove_counted.Goals as goal
+use Rattle.fc_map.proofs.map.BTreeMap.remove_entry_counted.Goals as goal
 
 pub returns-in-Ok-clause-bounded : goal.returns-in-Ok-clause-bounded
 returns-in-Ok-clause-bounded g c =

@@ -1,0 +1,86 @@
+//! The owned walk over the keys of a map, from both ends.
+ghost use Rattle.std.specs.Prelude.{◌≡◌, ◌≤◌, length, Some, IfSome};
+ghost use Rattle.std.specs.Iterator.{YieldsFirst, YieldsLast, UpTo, at_most, item_count};
+ghost use Rattle.fc_base.specs.Ascending.{IsAscending};
+ghost use Rattle.fc_map.specs.Entries.{entries};
+ghost use Rattle.fc_map.specs.Walks.{keys_of};
+
+use super::{BTreeMap, IntoIter};
+use std::iter::FusedIterator;
+use std::marker::Model;
+
+/// The keys of a map by value, in ascending order, seen as the list of those that are left. A key's value is dropped as the key is given out.
+/// It compares nothing, takes no memory, and drops what is left. Not in upstream: it is that of std's map.
+#[derive(Drop)]
+pub struct IntoKeys<K, V> {
+    pairs: IntoIter<K, V>,
+}
+
+impl<K, V> Model for IntoKeys<K, V> {
+    ghost use Rattle.std.specs.Prelude.{List};
+    ghost use Rattle.fc_map.specs.Walks.{keys_of};
+
+    ghost Value = { List K };
+
+    ghost view = { λ w. keys_of w.pairs };
+}
+
+impl<K, V> IntoKeys<K, V> {
+    /// The number of keys that are left.
+    pub fn len(&self) -> usize
+        ensures { result ≡ length self.now }
+    {
+        self.pairs.len()
+    }
+}
+
+impl<K: Ord + Drop, V: Drop> BTreeMap<K, V> {
+    /// The keys, in ascending order, with the map taken apart. The walk takes no memory. Not in upstream: it is that of std's map.
+    pub fn into_keys(self) -> IntoKeys<K, V>
+        ensures keys { result ≡ keys_of (entries self) }
+        ensures ascending { IsAscending K.cmp (entries self) }
+    {
+        IntoKeys {
+            pairs: self.into_iter(),
+        }
+    }
+}
+
+impl<K: Drop, V: Drop> Iterator for IntoKeys<K, V> {
+    type Item = K;
+
+    ghost next_gives = { YieldsFirst (λ s. s) };
+
+    ghost remaining = { item_count (λ s. s) };
+
+    fn next(&mut self) -> Option<K> {
+        let (key, _value) = self.pairs.next()?;
+        Some(key)
+    }
+
+    /// The number of keys that are left, twice.
+    fn size_hint(&self) -> (usize, Option<usize>)
+        ensures lower { result.0 ≤ length self.now }
+        ensures upper { IfSome result.1 (UpTo (at_most (length self.now))) }
+        ensures exact { result ≡ (length self.now, Some (length self.now)) }
+    {
+        self.pairs.size_hint()
+    }
+}
+
+impl<K: Drop, V: Drop> DoubleEndedIterator for IntoKeys<K, V> {
+    ghost next_back_gives = { YieldsLast (λ s. s) };
+
+    fn next_back(&mut self) -> Option<K> {
+        let (key, _value) = self.pairs.next_back()?;
+        Some(key)
+    }
+}
+
+impl<K: Drop, V: Drop> ExactSizeIterator for IntoKeys<K, V> {
+    fn len(&self) -> usize {
+        self.pairs.len()
+    }
+}
+
+impl<K: Drop, V: Drop> FusedIterator for IntoKeys<K, V> {}

@@ -1,0 +1,86 @@
+//! The owned walk over the values of a map, from both ends.
+ghost use Rattle.std.specs.Prelude.{◌≡◌, ◌≤◌, length, Some, IfSome};
+ghost use Rattle.std.specs.Iterator.{YieldsFirst, YieldsLast, UpTo, at_most, item_count};
+ghost use Rattle.fc_base.specs.Ascending.{IsAscending};
+ghost use Rattle.fc_map.specs.Entries.{entries};
+ghost use Rattle.fc_map.specs.Walks.{values_of};
+
+use super::{BTreeMap, IntoIter};
+use std::iter::FusedIterator;
+use std::marker::Model;
+
+/// The values of a map by value, in ascending order of their keys, seen as the list of those that are left. A value's key is dropped as the value is given out.
+/// It compares nothing, takes no memory, and drops what is left. Not in upstream: it is that of std's map.
+#[derive(Drop)]
+pub struct IntoValues<K, V> {
+    pairs: IntoIter<K, V>,
+}
+
+impl<K, V> Model for IntoValues<K, V> {
+    ghost use Rattle.std.specs.Prelude.{List};
+    ghost use Rattle.fc_map.specs.Walks.{values_of};
+
+    ghost Value = { List V };
+
+    ghost view = { λ w. values_of w.pairs };
+}
+
+impl<K, V> IntoValues<K, V> {
+    /// The number of values that are left.
+    pub fn len(&self) -> usize
+        ensures { result ≡ length self.now }
+    {
+        self.pairs.len()
+    }
+}
+
+impl<K: Ord + Drop, V: Drop> BTreeMap<K, V> {
+    /// The values, in ascending order of their keys, with the map taken apart. The walk takes no memory. Not in upstream: it is that of std's map.
+    pub fn into_values(self) -> IntoValues<K, V>
+        ensures values { result ≡ values_of (entries self) }
+        ensures ascending { IsAscending K.cmp (entries self) }
+    {
+        IntoValues {
+            pairs: self.into_iter(),
+        }
+    }
+}
+
+impl<K: Drop, V: Drop> Iterator for IntoValues<K, V> {
+    type Item = V;
+
+    ghost next_gives = { YieldsFirst (λ s. s) };
+
+    ghost remaining = { item_count (λ s. s) };
+
+    fn next(&mut self) -> Option<V> {
+        let (_key, value) = self.pairs.next()?;
+        Some(value)
+    }
+
+    /// The number of values that are left, twice.
+    fn size_hint(&self) -> (usize, Option<usize>)
+        ensures lower { result.0 ≤ length self.now }
+        ensures upper { IfSome result.1 (UpTo (at_most (length self.now))) }
+        ensures exact { result ≡ (length self.now, Some (length self.now)) }
+    {
+        self.pairs.size_hint()
+    }
+}
+
+impl<K: Drop, V: Drop> DoubleEndedIterator for IntoValues<K, V> {
+    ghost next_back_gives = { YieldsLast (λ s. s) };
+
+    fn next_back(&mut self) -> Option<V> {
+        let (_key, value) = self.pairs.next_back()?;
+        Some(value)
+    }
+}
+
+impl<K: Drop, V: Drop> ExactSizeIterator for IntoValues<K, V> {
+    fn len(&self) -> usize {
+        self.pairs.len()
+    }
+}
+
+impl<K: Drop, V: Drop> FusedIterator for IntoValues<K, V> {}
