@@ -1,6 +1,6 @@
 //! One side of a book: the orders that rest there, the best first.
-ghost use Rattle.std.specs.Prelude.{◌≡◌, ◌+◌, ◌<◌, [], length, All, IfSome, IfNone, IfOk, IfErr};
-ghost use Rattle.fallible_collections.specs.Words.{put, cut, value_at, room_error};
+ghost use Rattle.std.specs.Prelude.{◌≡◌, ◌+◌, ◌<◌, ◌≤◌, [], length, All, IfSome, IfNone, IfOk, IfErr};
+ghost use Rattle.fallible_collections.specs.Words.{put, cut, value_at, room_error, Places};
 ghost use Rattle.example_orders.specs.Orders.{key_cmp, after_fills, unfilled};
 ghost use Rattle.example_orders.specs.Fills.{best_fill, after_fill};
 
@@ -97,21 +97,21 @@ impl Ladder {
         ensures none { IfNone result (All (λ o. limit < o.0.0) self.old) }
         ensures some { IfSome result (λ fill. (0 < fill.quantity) × (fill.quantity ≤ wanted)) }
     {
-        let (key, held) = self.orders.first_key_value()?;
-        let (key, held) = (*key, *held);
+        let Some(mut first) = self.orders.first_entry() else {
+            return None;
+        };
+        let (key, held) = (*first.key(), *first.get());
         if key.0 > limit {
             return None;
         }
         if wanted < held {
-            if let Some(quantity) = self.orders.get_mut(&key) {
-                *quantity = held - wanted;
-            }
+            first.insert(held - wanted);
             Some(Fill {
                 key,
                 quantity: wanted,
             })
         } else {
-            self.orders.pop_first();
+            first.remove();
             Some(Fill {
                 key,
                 quantity: held,
