@@ -108,8 +108,8 @@ module _ {K : Type 0} {cmp : K → K → Ordering} (o : IsTotalOrder cmp) where
   not_past (Excluded a) (Excluded b) r x e = le_below o x a b (cmp x a) (cmp a b) refl refl e r
 
 -- No more pairs lie within two bounds than there are.
-pub within_fits : {K V : Type 0} (cmp : K → K → Ordering) (lo hi : Bound K) (s part : List (K × V)) (n most : ℕ) → part ≡ within cmp lo hi s → n ≡ length s → n ≤ most → length part ≤ most
-within_fits {K} {V} cmp lo hi s part n most e f h =
+pub within_fits : {K Q V : Type 0} (cmp : K → Q → Ordering) (lo hi : Bound Q) (s part : List (K × V)) (n most : ℕ) → part ≡ within cmp lo hi s → n ≡ length s → n ≤ most → length part ≤ most
+within_fits {K} {Q} {V} cmp lo hi s part n most e f h =
     let p = λ (x : K × V). starts cmp lo x.0 && stops cmp hi x.0 in
     let same = ap length e ∙ length-filter p s in
     omega (arith, same, count_by-le-length p s)

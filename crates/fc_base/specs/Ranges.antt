@@ -6,11 +6,15 @@ use Rattle.std.specs.declared.cmp.Ordering.{Ordering}
 use Rattle.std.specs.declared.ops.Bound.{Bound}
 use Rattle.std.specs.declared.ops.Bound.TheVariants.{Included, Excluded, Unbounded}
 
+-- A bound whose key or query is seen in another way.
+abbrev pub bound_by : {A B : Type 0} → (A → B) → Bound A → Bound B
+bound_by f (Included a) = Included (f a)
+bound_by f (Excluded a) = Excluded (f a)
+bound_by f Unbounded = Unbounded
+
 -- A bound at what a reference points to.
 abbrev pub bound_now : {K : Type 0} → Bound (Bor K) → Bound K
-bound_now (Included k) = Included k.now
-bound_now (Excluded k) = Excluded k.now
-bound_now Unbounded = Unbounded
+bound_now b = bound_by (λ k. k.now) b
 
 -- The bounds are keys, or queries that keys stand to by an order.
 module _ {K Q : Type 0} (cmp : K → Q → Ordering) where

@@ -1,10 +1,11 @@
 //! Reading walks over the pairs of a map within two bounds, from both ends.
-ghost use Rattle.std.specs.Prelude.{◌≡◌, ◌≤◌, ⊤, length, IsTrue, IfSome, None};
+ghost use Rattle.std.specs.Prelude.{◌≡◌, ◌≤◌, ⊤, length, IfSome, None};
 ghost use Rattle.fc_base.specs.Ascending.{IsAscending};
-ghost use Rattle.fc_base.specs.Ranges.{bound_now, is_range, within};
+ghost use Rattle.fc_base.specs.Ranges.{bound_by, within};
 ghost use Rattle.fc_tree_node.specs.Tree.{entries, root_of, IsSoundMap};
 ghost use Rattle.std.specs.Iterator.{YieldsFirstBy, YieldsLastBy, item_count, UpTo, at_most};
 
+use fc_base::Query;
 use fc_tree_node::node::Node;
 use fc_tree_walk::span::Span;
 use std::alloc::AllocError;
@@ -30,15 +31,14 @@ impl<'a, K, V> Model for Range<'a, K, V> {
 
 impl<'a, K: Ord, V> Range<'a, K, V> {
     /// A walk over the pairs of a tree whose keys lie within both bounds.
-    pub fn within(
+    pub fn within<Q: Query<K>>(
         root: &'a Option<Box<Node<K, V>>>,
-        lo: &Bound<&K>,
-        hi: &Bound<&K>,
+        lo: &Bound<Q>,
+        hi: &Bound<Q>,
     ) -> Range<'a, K, V>
         requires sound { IsSoundMap (root_of root.now) }
         requires ascending { IsAscending K.cmp (entries (root_of root.now)) }
-        requires range { IsTrue (is_range K.cmp (bound_now lo.now) (bound_now hi.now)) }
-        ensures { result ≡ within K.cmp (bound_now lo.now) (bound_now hi.now) (entries (root_of root.now)) }
+        ensures { result ≡ within Q.order (bound_by Q.sought lo.now) (bound_by Q.sought hi.now) (entries (root_of root.now)) }
     {
         Range {
             span: Span::within(root, lo, hi),

@@ -2,7 +2,7 @@
 use Rattle.std.proofs.Common.{◌≡◌, ℕ, zero, suc, ◌+◌, ◌<◌, ◌≤◌, ◌⊎◌, inl, inr, List, [], ◌∷◌, ◌++◌, length, Some, None, refl, sym, ap, subst, ◌∙◌, arith, append-nil, length-append}
 use Rattle.std.proofs.lemmas.Bool.{cases_lt}
 use Rattle.fc_tree_node.specs.declared.node.Node.{Node}
-use Rattle.fc_tree_node.specs.Node.{own_pairs, children_of, child_at, pairs_of, IsLevelled}
+use Rattle.fc_tree_node.specs.Node.{own_pairs, children_of, child_at, IsLevelled}
 use Rattle.fc_tree_node.specs.Path.{IsPath, before_gap}
 use Rattle.fc_tree_node.specs.Place.{before_child, after_child, IsPlace, before_pair, after_pair}
 use Rattle.fc_tree_node.specs.TreePlace.{IsPlaceIn, pair_in, before_gap_in, before_pair_in, after_pair_in}

@@ -2,7 +2,7 @@
 use Rattle.std.specs.Prelude.{ℕ, ◌+◌, ◌-◌, nat_lt, Bool, if◌then◌else◌, List, [], ◌∷◌, length, filter}
 use Rattle.std.specs.declared.cmp.Ordering.{Ordering}
 use Rattle.std.specs.declared.ops.Bound.{Bound}
-use Rattle.fc_base.specs.Ranges.{starts, stops}
+use Rattle.fc_base.specs.Ranges.{starts, within}
 pub use Rattle.fc_tree_search.specs.Written.{set_value}
 
 -- A list as it stands, and the places not yet lent: those from front on that are below back.
@@ -17,8 +17,10 @@ module _ {K V : Type 0} where
   whole s = record { list = s; front = 0; back = length s }
 
   -- The places of the pairs whose keys lie within both bounds.
-  abbrev pub starting : (K → K → Ordering) → Bound K → Bound K → List (K × V) → Stretch K V
-  starting cmp lo hi s = record { list = s; front = length s - length (filter (λ e. starts cmp lo e.0) s); back = length (filter (λ e. stops cmp hi e.0) s) }
+  abbrev pub starting : {Q : Type 0} → (K → Q → Ordering) → Bound Q → Bound Q → List (K × V) → Stretch K V
+  starting cmp lo hi s =
+      let front = length s - length (filter (λ e. starts cmp lo e.0) s) in
+      record { list = s; front = front; back = front + length (within cmp lo hi s) }
 
   -- A value written at the first place, which is then lent.
   abbrev pub wrote_first : Stretch K V → V → Stretch K V

@@ -9,9 +9,9 @@ use Rattle.fc_tree_node.specs.Path.{IsPath, before_gap}
 use Rattle.fc_tree_node.specs.Place.{before_child, after_child, before_own, IsPlace, before_pair}
 use Rattle.fc_tree_node.proofs.Pairs.{child_below, leaf_children}
 use Rattle.fc_tree_node.proofs.PathSteps.{IsStep}
-use Rattle.fc_tree_node.proofs.Gaps.{leaf_gap, inner_gap, own_pair, before_child_pair, after_child_pair, after_none, item_there}
+use Rattle.fc_tree_node.proofs.Gaps.{leaf_gap, inner_gap, own_pair, before_child_pair, after_child_pair, after_none, item_there, step_levels}
 use Rattle.fc_tree_node.proofs.Lists.{length_take}
-use Rattle.fc_tree_node.specs.Tree.{Map, entries, IsSoundMap}
+use Rattle.fc_tree_node.specs.Tree.{Map, IsSoundMap}
 use Rattle.fc_tree_walk.specs.Gap.{zeros, one_back, GoesOn, EndsIn, IsGapIn}
 use Rattle.fc_tree_walk.proofs.Bounds.{same_cut}
 use Rattle.fc_tree_node.specs.LeafGap.{IsLeafGap}
@@ -216,6 +216,16 @@ module _ {K V : Type 0} where
       deep : (k : ℕ) → IsLevelled k n → suc (length g.0) ≡ k + 1
       deep zero m = absurd (let e : length (children_of n) ≡ length (own_pairs n) + 1 = l.1 in let f : length (children_of n) ≡ 0 = ap length (leaf_children n m.1) in omega arith)
       deep (suc k) m = let d = g.2.1 k (child_below k n i m le).1 in omega arith
+
+  -- the same, with the pairs before the gap counted
+  pub goes_here : (old new : List ℕ) (i h : ℕ) (n : Node K V) (count more : ℕ) → IsLevelled h n → length (children_of n) ≤ i → i ≤ length (own_pairs n) → new ≡ old ++ i ∷ [] → count ≡ length (before_child n i) + more → more ≡ 0 → GoesOn old new n count
+  goes_here old new i h n count more l c le is e z = let g = goes_leaf old i h n l c le in (g.0, is ∙ g.1, g.2, omega (arith, g.3, e, z))
+
+  pub goes_below : (old mid new : List ℕ) (i h : ℕ) (n c : Node K V) (below count : ℕ) → IsLevelled h n → i < length (children_of n) → mid ≡ old ++ i ∷ [] → c ≡ child_at n i → GoesOn mid new c below → count ≡ length (before_child n i) + below → GoesOn old new n count
+  goes_below old mid new i h n c below count l k m is g e =
+      let s = step_levels h n i l k in
+      let r = goes_child old new i s.0 n below (subst (λ k. IsLevelled k n) s.1 l) s.3 (subst (λ d. GoesOn (old ++ i ∷ []) new d below) is (subst (λ m. GoesOn m new c below) m g)) in
+      (r.0, r.1, r.2, r.3 ∙ sym e)
 
   -- the leaf that a path goes on to
   pub leaf_more : (i : ℕ) (path : List ℕ) (n : Node K V) → 0 < length path → leaf_at (i ∷ path) n ≡ leaf_at path (child_at n i)

@@ -1,5 +1,6 @@
 pub mod GapFacts
 pub mod Bounds
+pub mod Turns
 pub mod Slices
 pub mod Meetings
 pub mod Leaves

@@ -1,2 +1,3 @@
 pub mod Span
 pub mod Gap
+pub mod Cut

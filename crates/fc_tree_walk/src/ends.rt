@@ -1,21 +1,25 @@
-//! The gaps at the ends of a map, and those at the bounds of a range: paths that an unsuccessful search fills.
-ghost use Rattle.std.specs.Prelude.{◌≡◌, [], length, filter};
-ghost use Rattle.std.specs.Ordering.{is_lt, is_le, is_gt, is_ge};
+//! The gaps at the ends of a map, and those at the bounds of a range.
+//!
+//! Both ends of a range are found in one way down, until they part: in each node the end's place is looked for from the start's on. So the
+//! bounds need be no range: where no key can lie within them, both ends come to one gap.
+ghost use Rattle.std.specs.Prelude.{◌≡◌, ℕ, ◌+◌, ◌<◌, [], length, filter};
 ghost use Rattle.fc_base.specs.Ascending.{IsAscending};
-ghost use Rattle.fc_base.specs.Ranges.{bound_now, starts, stops};
+ghost use Rattle.fc_base.specs.Ranges.{bound_by, starts, within};
+ghost use Rattle.fc_base.specs.Sizes.{most_levels};
 ghost use Rattle.fc_tree_node.specs.Leaf.{leaf_at};
 ghost use Rattle.fc_tree_node.specs.LeafGap.{IsLeafGap};
-ghost use Rattle.fc_tree_node.specs.Node.{pairs_of, IsTree};
-ghost use Rattle.fc_tree_node.specs.Path.{before_gap, after_gap};
+ghost use Rattle.fc_tree_node.specs.Node.{own_pairs, pairs_of, IsLevelled, IsTree};
+ghost use Rattle.fc_tree_node.specs.Path.{before_gap};
 ghost use Rattle.fc_tree_node.specs.Tree.{entries, root_of, IsSoundMap};
-ghost use Rattle.fc_tree_node.specs.TreePlace.{before_gap_in, after_gap_in};
-ghost use Rattle.fc_tree_walk.specs.Gap.{IsGapIn};
+ghost use Rattle.fc_tree_node.specs.TreePlace.{before_gap_in};
+ghost use Rattle.fc_tree_walk.specs.Cut.{leads, ahead, amid, TurnsAt};
+ghost use Rattle.fc_tree_walk.specs.Gap.{AreEndsIn, IsGapIn, GoesOn, EndsIn};
 
+use crate::cuts::{Cut, place_in, start_of, stop_of};
 use crate::gaps::{push_first, push_last};
-use fc_base::Count;
+use fc_base::Query;
 use fc_tree_node::node::Node;
 use fc_tree_node::path::Path;
-use fc_tree_search::search::descend;
 use std::ops::Bound;
 
 /// The gap before all pairs: no step where there is no root.
@@ -44,116 +48,94 @@ pub fn last_gap_in<K, V>(root: &Option<Box<Node<K, V>>>) -> Path
     gap
 }
 
-/// The gap before the first pair that is not in front of the start.
-pub fn start_gap_in<K: Ord, V>(root: &Option<Box<Node<K, V>>>, lo: &Bound<&K>) -> Path
+/// The gaps between which the pairs lie whose keys are within two bounds. Where no key can lie within them, both are one gap.
+pub fn range_gaps_in<K: Ord, V, Q: Query<K>>(
+    root: &Option<Box<Node<K, V>>>,
+    lo: &Bound<Q>,
+    hi: &Bound<Q>,
+) -> (Path, Path)
     requires sound { IsSoundMap (root_of root.now) }
     requires order { IsAscending K.cmp (entries (root_of root.now)) }
-    ensures gap { IsGapIn (root_of root.now) result }
-    ensures rest { after_gap_in (root_of root.now) result ≡ filter (λ e. starts K.cmp (bound_now lo.now) e.0) (entries (root_of root.now)) }
+    ensures ends { AreEndsIn (root_of root.now) result.0 result.1 }
+    ensures front { length (before_gap_in (root_of root.now) result.0) + length (filter (λ e. starts Q.order (bound_by Q.sought lo.now) e.0) (entries (root_of root.now))) ≡ length (entries (root_of root.now)) }
+    ensures back { length (before_gap_in (root_of root.now) result.1) ≡ length (before_gap_in (root_of root.now) result.0) + length (within Q.order (bound_by Q.sought lo.now) (bound_by Q.sought hi.now) (entries (root_of root.now))) }
 {
-    let mut gap = Path::new();
-    if let Some(root) = root {
-        push_start(root, lo, &mut gap);
-    }
-    gap
+    let mut front = Path::new();
+    let mut back = Path::new();
+    let Some(root) = root else {
+        return (front, back);
+    };
+    push_ends(root, lo, hi, &mut front, &mut back);
+    (front, back)
 }
 
-/// The gap after the last pair that is not after the end.
-pub fn stop_gap_in<K: Ord, V>(root: &Option<Box<Node<K, V>>>, hi: &Bound<&K>) -> Path
-    requires sound { IsSoundMap (root_of root.now) }
-    requires order { IsAscending K.cmp (entries (root_of root.now)) }
-    ensures gap { IsGapIn (root_of root.now) result }
-    ensures lead { before_gap_in (root_of root.now) result ≡ filter (λ e. stops K.cmp (bound_now hi.now) e.0) (entries (root_of root.now)) }
-{
-    let mut gap = Path::new();
-    if let Some(root) = root {
-        push_stop(root, hi, &mut gap);
-    }
-    gap
-}
-
-/// Fills a path of no step with the way to the gap before the first pair that is not in front of the start, and answers its leaf.
-pub(crate) fn push_start<'a, K: Ord, V>(
+/// Fills two paths of no step with the ways to the gaps between which the pairs of a range lie, and answers their leaves.
+pub(crate) fn push_ends<'a, K: Ord, V, Q: Query<K>>(
     root: &'a Node<K, V>,
-    lo: &Bound<&K>,
+    lo: &Bound<Q>,
+    hi: &Bound<Q>,
+    front: &mut Path,
+    back: &mut Path,
+) -> (&'a Node<K, V>, &'a Node<K, V>)
+    requires levels { IsTree root.now }
+    requires order { IsAscending K.cmp (pairs_of root.now) }
+    requires start { (front.old ≡ []) × (back.old ≡ []) }
+    ensures gaps { IsLeafGap front.new root.now × IsLeafGap back.new root.now }
+    ensures leaves { (result.0.now ≡ leaf_at front.new root.now) × (result.1.now ≡ leaf_at back.new root.now) }
+    ensures front { length (before_gap front.new root.now) + length (filter (λ e. starts Q.order (bound_by Q.sought lo.now) e.0) (pairs_of root.now)) ≡ length (pairs_of root.now) }
+    ensures back { length (before_gap back.new root.now) ≡ length (before_gap front.new root.now) + length (within Q.order (bound_by Q.sought lo.now) (bound_by Q.sought hi.now) (pairs_of root.now)) }
+{
+    push_both(root, &start_of(lo), &stop_of(hi), front, back)
+}
+
+// Goes on to the gaps at two cuts below the node, the second not in front of the first, and answers their leaves.
+fn push_both<'a, K: Ord, V, Q: Query<K>>(
+    node: &'a Node<K, V>,
+    lo: &Cut<Q>,
+    hi: &Cut<Q>,
+    front: &mut Path,
+    back: &mut Path,
+) -> (&'a Node<K, V>, &'a Node<K, V>)
+    requires levels { (h : ℕ) × IsLevelled h node.now × (length front.old + h < most_levels) × (length back.old + h < most_levels) }
+    requires order { IsAscending K.cmp (pairs_of node.now) }
+    ensures front { GoesOn front.old front.new node.now (ahead Q.order Q.sought lo.now (pairs_of node.now)) }
+    ensures back { GoesOn back.old back.new node.now (ahead Q.order Q.sought lo.now (pairs_of node.now) + amid Q.order Q.sought lo.now hi.now (pairs_of node.now)) }
+    ensures first { EndsIn front.old front.new node.now result.0.now }
+    ensures last { EndsIn back.old back.new node.now result.1.now }
+{
+    let start = place_in(node, lo, 0);
+    let stop = place_in(node, hi, start);
+    if start < stop {
+        return (
+            push_cut(node, start, lo, front),
+            push_cut(node, stop, hi, back),
+        );
+    }
+    front.push(start);
+    back.push(start);
+    if start < node.child_count() {
+        return push_both(node.child(start), lo, hi, front, back);
+    }
+    (node, node)
+}
+
+// Goes on to the gap at a cut below the node, whose own pairs are cut at the place, and answers its leaf.
+fn push_cut<'a, K: Ord, V, Q: Query<K>>(
+    node: &'a Node<K, V>,
+    place: usize,
+    cut: &Cut<Q>,
     gap: &mut Path,
 ) -> &'a Node<K, V>
-    requires levels { IsTree root.now }
-    requires order { IsAscending K.cmp (pairs_of root.now) }
-    requires start { gap.old ≡ [] }
-    ensures gap { IsLeafGap gap.new root.now }
-    ensures leaf { result.now ≡ leaf_at gap.new root.now }
-    ensures rest { after_gap gap.new root.now ≡ filter (λ e. starts K.cmp (bound_now lo.now) e.0) (pairs_of root.now) }
+    requires levels { (h : ℕ) × IsLevelled h node.now × (length gap.old + h < most_levels) }
+    requires order { IsAscending K.cmp (pairs_of node.now) }
+    requires place { TurnsAt (λ e. leads Q.order Q.sought cut.now e.0) (own_pairs node.now) place }
+    ensures gap { GoesOn gap.old gap.new node.now (ahead Q.order Q.sought cut.now (pairs_of node.now)) }
+    ensures leaf { EndsIn gap.old gap.new node.now result.now }
 {
-    match lo {
-        Bound::Included(key) => push_before_key(root, key, gap),
-        Bound::Excluded(key) => push_after_key(root, key, gap),
-        Bound::Unbounded => push_first(root, gap),
+    gap.push(place);
+    if place < node.child_count() {
+        let child = node.child(place);
+        return push_cut(child, place_in(child, cut, 0), cut, gap);
     }
-}
-
-/// Fills a path of no step with the way to the gap after the last pair that is not after the end, and answers its leaf.
-pub(crate) fn push_stop<'a, K: Ord, V>(
-    root: &'a Node<K, V>,
-    hi: &Bound<&K>,
-    gap: &mut Path,
-) -> &'a Node<K, V>
-    requires levels { IsTree root.now }
-    requires order { IsAscending K.cmp (pairs_of root.now) }
-    requires start { gap.old ≡ [] }
-    ensures gap { IsLeafGap gap.new root.now }
-    ensures leaf { result.now ≡ leaf_at gap.new root.now }
-    ensures lead { before_gap gap.new root.now ≡ filter (λ e. stops K.cmp (bound_now hi.now) e.0) (pairs_of root.now) }
-{
-    match hi {
-        Bound::Included(key) => push_after_key(root, key, gap),
-        Bound::Excluded(key) => push_before_key(root, key, gap),
-        Bound::Unbounded => push_last(root, gap),
-    }
-}
-
-// Fills a path with the way to the gap between the keys below the key and the others, and answers its leaf.
-fn push_before_key<'a, K: Ord, V>(root: &'a Node<K, V>, key: &K, gap: &mut Path) -> &'a Node<K, V>
-    requires levels { IsTree root.now }
-    requires order { IsAscending K.cmp (pairs_of root.now) }
-    requires start { gap.old ≡ [] }
-    ensures gap { IsLeafGap gap.new root.now }
-    ensures leaf { result.now ≡ leaf_at gap.new root.now }
-    ensures lead { before_gap gap.new root.now ≡ filter (λ e. is_lt (K.cmp e.0 key.now)) (pairs_of root.now) }
-    ensures rest { after_gap gap.new root.now ≡ filter (λ e. is_ge (K.cmp e.0 key.now)) (pairs_of root.now) }
-{
-    match descend(root, key, gap, &mut Count::new()) {
-        Ok(node) => {
-            if node.is_leaf() {
-                return node;
-            }
-            let step = gap.step(gap.len() - 1);
-            push_last(node.child(step), gap)
-        }
-        Err(leaf) => leaf,
-    }
-}
-
-// Fills a path with the way to the gap between the keys above the key and the others, and answers its leaf.
-fn push_after_key<'a, K: Ord, V>(root: &'a Node<K, V>, key: &K, gap: &mut Path) -> &'a Node<K, V>
-    requires levels { IsTree root.now }
-    requires order { IsAscending K.cmp (pairs_of root.now) }
-    requires start { gap.old ≡ [] }
-    ensures gap { IsLeafGap gap.new root.now }
-    ensures leaf { result.now ≡ leaf_at gap.new root.now }
-    ensures lead { before_gap gap.new root.now ≡ filter (λ e. is_le (K.cmp e.0 key.now)) (pairs_of root.now) }
-    ensures rest { after_gap gap.new root.now ≡ filter (λ e. is_gt (K.cmp e.0 key.now)) (pairs_of root.now) }
-{
-    match descend(root, key, gap, &mut Count::new()) {
-        Ok(node) => {
-            let last = gap.len() - 1;
-            let step = gap.step(last) + 1;
-            gap.set(last, step);
-            if node.is_leaf() {
-                return node;
-            }
-            push_first(node.child(step), gap)
-        }
-        Err(leaf) => leaf,
-    }
+    node
 }

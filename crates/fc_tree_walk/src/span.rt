@@ -4,15 +4,16 @@
 //! above the leaf has the next pair and the next leaf, but for its last child, from where the step goes one way down from the root.
 ghost use Rattle.std.specs.Prelude.{◌≡◌, ◌<◌, ◌↔◌, [], ◌∷◌, ◌++◌, length, IsTrue, Some, None};
 ghost use Rattle.fc_base.specs.Ascending.{IsAscending};
-ghost use Rattle.fc_base.specs.Ranges.{bound_now, is_range, within};
+ghost use Rattle.fc_base.specs.Ranges.{bound_by, within};
 ghost use Rattle.fc_tree_node.specs.Leaf.{leaf_at};
 ghost use Rattle.fc_tree_node.specs.Tree.{entries, root_of, IsSoundMap};
 ghost use Rattle.fc_tree_walk.specs.Gap.{AreEndsIn};
 ghost use Rattle.fc_tree_walk.specs.Span.{between};
 
-use crate::ends::{push_start, push_stop};
+use crate::ends::push_ends;
 use crate::gaps::{push_first, push_last};
 use crate::run::{step_first_run, step_last_run, take_first_of, take_last_of};
+use fc_base::Query;
 use fc_tree_node::node::Node;
 use fc_tree_node::path::Path;
 use std::marker::Model;
@@ -212,16 +213,15 @@ impl<'a, K, V> Span<'a, K, V> {
 }
 
 impl<'a, K: Ord, V> Span<'a, K, V> {
-    /// The pairs below a root whose keys lie within a range. The run of one end is taken at once: the back's where only it is bounded.
-    pub fn within(
+    /// The pairs below a root whose keys lie within two bounds. The run of one end is taken at once: the back's where only it is bounded.
+    pub fn within<Q: Query<K>>(
         root: &'a Option<Box<Node<K, V>>>,
-        lo: &Bound<&K>,
-        hi: &Bound<&K>,
+        lo: &Bound<Q>,
+        hi: &Bound<Q>,
     ) -> Span<'a, K, V>
         requires sound { IsSoundMap (root_of root.now) }
         requires order { IsAscending K.cmp (entries (root_of root.now)) }
-        requires range { IsTrue (is_range K.cmp (bound_now lo.now) (bound_now hi.now)) }
-        ensures { result ≡ within K.cmp (bound_now lo.now) (bound_now hi.now) (entries (root_of root.now)) }
+        ensures { result ≡ within Q.order (bound_by Q.sought lo.now) (bound_by Q.sought hi.now) (entries (root_of root.now)) }
     {
         let mut front = Path::new();
         let mut back = Path::new();
@@ -249,19 +249,18 @@ struct Runs<'a, K, V> {
 
 // Fills both paths with the gaps at the ends of a range, and takes the run of one end. The span is made once, behind this call, since a
 // struct of its size is copied wherever two of it could be the answer.
-fn start_within<'a, K: Ord, V>(
+fn start_within<'a, K: Ord, V, Q: Query<K>>(
     root: &'a Option<Box<Node<K, V>>>,
-    lo: &Bound<&K>,
-    hi: &Bound<&K>,
+    lo: &Bound<Q>,
+    hi: &Bound<Q>,
     front: &mut Path,
     back: &mut Path,
 ) -> Runs<'a, K, V>
     requires sound { IsSoundMap (root_of root.now) }
     requires order { IsAscending K.cmp (entries (root_of root.now)) }
-    requires range { IsTrue (is_range K.cmp (bound_now lo.now) (bound_now hi.now)) }
     requires start { (front.old ≡ []) × (back.old ≡ []) }
     ensures ends { AreEndsIn (root_of root.now) front.new back.new }
-    ensures pairs { within K.cmp (bound_now lo.now) (bound_now hi.now) (entries (root_of root.now)) ≡ result.head.now ++ (between (root_of root.now) front.new back.new ++ result.tail.now) }
+    ensures pairs { within Q.order (bound_by Q.sought lo.now) (bound_by Q.sought hi.now) (entries (root_of root.now)) ≡ result.head.now ++ (between (root_of root.now) front.new back.new ++ result.tail.now) }
     ensures met { IsTrue result.has_met ↔ (between (root_of root.now) front.new back.new ≡ []) }
 {
     let Some(node) = root else {
@@ -271,8 +270,7 @@ fn start_within<'a, K: Ord, V>(
             has_met: true,
         };
     };
-    let first = push_start(node, lo, front);
-    let last = push_stop(node, hi, back);
+    let (first, last) = push_ends(node, lo, hi, front, back);
     if is_bounded(lo) {
         let (head, has_met) = take_first_of(root, first, front, back);
         return Runs {
@@ -290,7 +288,7 @@ fn start_within<'a, K: Ord, V>(
 }
 
 // Whether a range has an end on this side.
-fn is_bounded<K>(bound: &Bound<&K>) -> bool {
+fn is_bounded<Q: Copy>(bound: &Bound<Q>) -> bool {
     match bound {
         Bound::Unbounded => false,
         _ => true,

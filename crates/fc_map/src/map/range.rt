@@ -1,21 +1,22 @@
 //! Reading walks over the pairs of a map within two bounds.
-ghost use Rattle.std.specs.Prelude.{◌≡◌, ◌≤◌, length, IsTrue};
+ghost use Rattle.std.specs.Prelude.{◌≡◌, ◌≤◌, length};
 
 use super::BTreeMap;
+use fc_base::Query;
 pub use fc_iter::range::Range;
 use std::ops::Bound;
 
 impl<K: Ord, V> BTreeMap<K, V> {
     ghost use Rattle.fc_base.specs.Ascending.{IsAscending};
-    ghost use Rattle.fc_base.specs.Ranges.{bound_now, is_range, within};
+    ghost use Rattle.fc_base.specs.Ranges.{bound_by, within};
     ghost use Rattle.fc_map.specs.Entries.{entries};
 
-    /// A walk over the pairs whose keys lie within both bounds, in ascending order of their keys. Two searches find its ends; its
-    /// steps compare no key. The bounds have to be a range, of which `is_range` is the test: upstream panics where they are none.
-    /// Upstream: `BTreeMap::range`.
-    pub fn range<'b>(&self, bounds: (Bound<&'b K>, Bound<&'b K>)) -> Range<'_, K, V>
-        requires { IsTrue (is_range K.cmp (bound_now bounds.0) (bound_now bounds.1)) }
-        ensures pairs { result ≡ within K.cmp (bound_now bounds.entry.0) (bound_now bounds.entry.1) (entries self.now) }
+    /// A walk over the pairs whose keys lie within both bounds, in ascending order of their keys. The bounds are by a `Query`, as in `get`:
+    /// by references to keys, or by a borrowed form of them, so that pairs of a `String` and what it begins with are had by two `&str`.
+    /// Both ends are found in one way down the tree, until they part; the steps of the walk compare no key. Bounds that are no range,
+    /// within which no key can lie, make a walk that is empty: upstream panics. `is_range` is the test of them. Upstream: `BTreeMap::range`.
+    pub fn range<Q: Query<K>>(&self, bounds: (Bound<Q>, Bound<Q>)) -> Range<'_, K, V>
+        ensures pairs { result ≡ within Q.order (bound_by Q.sought bounds.0) (bound_by Q.sought bounds.1) (entries self.now) }
         ensures fits { length result ≤ usize.MAX }
         ensures ascending { IsAscending K.cmp (entries self.now) }
     {

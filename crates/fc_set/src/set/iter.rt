@@ -3,12 +3,13 @@ ghost use Rattle.std.specs.Prelude.{◌≡◌, ◌≤◌, ◌^◌, ◌<◌, ⊤,
 ghost use Rattle.std.specs.Iterator.{YieldsFirst, YieldsLast, YieldsFirstRef, YieldsLastRef, UpTo, at_most, item_count};
 ghost use Rattle.std.specs.Iterator.Runs.{YieldsInOrder, YieldsInReverse};
 ghost use Rattle.std.specs.Iterator.SizeHint.{IsWithinCount};
-ghost use Rattle.fc_base.specs.Ranges.{bound_now, is_range};
+ghost use Rattle.fc_base.specs.Ranges.{bound_by};
 ghost use Rattle.fc_set.specs.Items.{items, AreAscending, items_within};
 
 mod debug;
 
 use super::BTreeSet;
+use fc_base::Query;
 use fc_map::map;
 use std::alloc::AllocError;
 use std::iter::FusedIterator;
@@ -223,12 +224,11 @@ impl<T: Ord> BTreeSet<T> {
         }
     }
 
-    /// A walk over the items that lie within both bounds, in ascending order. Two searches find its ends; its steps compare no item.
-    /// The bounds have to be a range, of which `is_range` is the test: upstream panics where they are none. Upstream:
-    /// `BTreeSet::range`.
-    pub fn range<'b>(&self, bounds: (Bound<&'b T>, Bound<&'b T>)) -> Range<'_, T>
-        requires { IsTrue (is_range T.cmp (bound_now bounds.0) (bound_now bounds.1)) }
-        ensures items { result ≡ items_within T.cmp (bound_now bounds.entry.0) (bound_now bounds.entry.1) (items self.now) }
+    /// A walk over the items that lie within both bounds, in ascending order. The bounds are by a `Query`, as in `get`. Both ends are found in
+    /// one way down the tree, until they part; the steps of the walk compare no item. Bounds that are no range, within which no item can
+    /// lie, make a walk that is empty: upstream panics. `is_range` is the test of them. Upstream: `BTreeSet::range`.
+    pub fn range<Q: Query<T>>(&self, bounds: (Bound<Q>, Bound<Q>)) -> Range<'_, T>
+        ensures items { result ≡ items_within Q.order (bound_by Q.sought bounds.0) (bound_by Q.sought bounds.1) (items self.now) }
         ensures fits { length result ≤ usize.MAX }
         ensures ascending { AreAscending T.cmp (items self.now) }
     {

@@ -1,7 +1,7 @@
 //! The calls of writing walks over a range.
 ghost use Rattle.std.specs.Prelude.{◌≡◌, ◌+◌, ◌<◌, ◌≤◌, ◌↔◌, length, IsTrue, MatchOption, None};
 ghost use Rattle.std.specs.Borrow.{sem};
-ghost use Rattle.fc_base.specs.Ranges.{bound_now, is_range};
+ghost use Rattle.fc_base.specs.Ranges.{bound_by};
 ghost use Rattle.fc_map.specs.Entries.{entries};
 ghost use Rattle.fc_tree_node.specs.TreePlace.{IsPlaceIn, before_pair_in};
 ghost use Rattle.fc_map.specs.Stretches.{CalledAtPair, IsVisitedIn, stretch, range_map_ref, range_lends_first, range_lends_last, IsFirstPair, IsFirstValue, IsLastPair, IsLastValue};
@@ -10,17 +10,17 @@ ghost use Rattle.fc_map.specs.Writing.{starting};
 
 use super::super::BTreeMap;
 use super::RangeMut;
+use fc_base::Query;
 use fc_tree_node::path::Path;
 use std::ops::Bound;
 
 impl<K: Ord, V> BTreeMap<K, V> {
-    /// A writing walk over the pairs whose keys lie within both bounds. Two searches find its ends; its steps compare no key. The
-    /// bounds have to be a range, of which `is_range` is the test: upstream panics where they are none. Upstream:
-    /// `BTreeMap::range_mut`.
-    pub fn range_mut(&mut self, bounds: (Bound<&K>, Bound<&K>)) -> RangeMut<'_, K, V>
-        requires { IsTrue (is_range K.cmp (bound_now bounds.0) (bound_now bounds.1)) }
+    /// A writing walk over the pairs whose keys lie within both bounds, which are by a `Query`, as in `range`. Both ends are found in one
+    /// way down the tree, until they part; the steps of the walk compare no key. Bounds that are no range, within which no key can lie,
+    /// make a walk that lends nothing: upstream panics. Upstream: `BTreeMap::range_mut`.
+    pub fn range_mut<Q: Query<K>>(&mut self, bounds: (Bound<Q>, Bound<Q>)) -> RangeMut<'_, K, V>
         ensures same_map { (range_map_ref result).ghost_name ≡ self.entry.ghost_name }
-        ensures start { stretch result ≡ starting K.cmp (bound_now bounds.entry.0) (bound_now bounds.entry.1) (entries self.old) }
+        ensures start { stretch result ≡ starting Q.order (bound_by Q.sought bounds.0) (bound_by Q.sought bounds.1) (entries self.old) }
     {
         let (front, back) = self.range_ends(&bounds.0, &bounds.1);
         let full = self.run_after(&front);

@@ -1,4 +1,4 @@
-use Rattle.std.proofs.Common.{◌≡◌, ◌+◌, length, sym, ap, subst, ◌∙◌, arith}
+use Rattle.std.proofs.Common.{◌≡◌, length, sym, ap, subst, ◌∙◌, arith}
 use Rattle.fc_map.specs.Entries.{entries}
 use Rattle.fc_tree_visit.specs.Leaf.{gone_on}
 use Rattle.fc_tree_visit.proofs.LeafFacts.{on_none}

@@ -1,5 +1,4 @@
-use Rattle.std.proofs.Common.{◌≡◌, ◌+◌, length, refl, sym, ap, subst, ◌∙◌, arith}
-use Rattle.fc_tree_visit.specs.Leaf.{gone_on}
+use Rattle.std.proofs.Common.{length, refl, sym, ap, subst, ◌∙◌}
 use Rattle.fc_tree_visit.proofs.LeafFacts.{on_none}
 use Rattle.fc_tree_walk.specs.Gap.{AreEndsIn}
 use Rattle.fc_tree_node.specs.TreePlace.{before_gap_in}

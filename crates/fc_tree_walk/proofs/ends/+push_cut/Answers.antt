@@ -1,0 +1,42 @@
+use Rattle.std.proofs.Common.{[], length, refl, rules, arith, sym, subst, ap, ◌∙◌, length-append}
+use Rattle.fc_tree_node.specs.Node.{IsLevelled}
+use Rattle.fc_tree_node.proofs.Gaps.{step_levels}
+use Rattle.fc_tree_walk.proofs.GapFacts.{goes_here, goes_below, ends_here, ends_below}
+use Rattle.fc_tree_walk.proofs.Turns.{turn_first, around_gap, around_child, child_ascends, ahead_at}
+use Rattle.fc_tree_walk.proofs.ends.+push_cut.Goals as goal
+
+pub push_cut-requires : goal.push_cut-requires
+push_cut-requires g t c κs within =
+    let l = c.requires.levels in
+    let k = c.if-place-child_count.true in
+    let s = step_levels l.0 c.args.node.now c.args.place l.1 (omega arith) in
+    let e = s.1 in
+    let f = l.2 in
+    let p = ap length c.push.ensures ∙ length-append c.args.gap.now _ in
+    (omega arith, (search rules, (search rules, (search rules, ((s.0, subst (IsLevelled s.0) (sym c.child-child.ensures) s.2, omega arith), (child_ascends g.K.Ord.cmp l.0 _ _ _ l.1 (omega arith) c.child-child.ensures c.requires.order, turn_first c.place_in.ensures))))))
+
+pub returns-then-place-child_count-clause-gap : goal.returns-then-place-child_count-clause-gap
+returns-then-place-child_count-clause-gap g t c =
+    let l = c.requires.levels in
+    let n = c.args.node.now in
+    let i = c.args.place in
+    let k = c.if-place-child_count.true in
+    let a = ahead_at g.met.Q.Query.fits g.Q.Query.sought l.0 n l.1 c.requires.order i _ (around_child l.0 n _ i l.1 (omega arith) c.child-child.ensures) c.args.cut.now c.requires.place in
+    goes_below c.args.gap.now c.push.new.self c.push_cut.new.gap i l.0 n c.child-child.result.now _ _ l.1 (omega arith) c.push.ensures c.child-child.ensures c.push_cut.ensures.gap a
+
+pub returns-then-place-child_count-clause-leaf : goal.returns-then-place-child_count-clause-leaf
+returns-then-place-child_count-clause-leaf g t c =
+    let l = c.requires.levels in
+    let s = step_levels l.0 c.args.node.now c.args.place l.1 (omega arith) in
+    ends_below c.args.gap.now c.push.new.self c.push_cut.new.gap c.args.place _ c.args.node.now c.child-child.result.now c.push_cut.result.now c.push.ensures c.child-child.ensures (s.0, subst (IsLevelled s.0) (sym c.child-child.ensures) s.2) c.push_cut.ensures.gap c.push_cut.ensures.leaf
+
+pub returns-clause-gap : goal.returns-clause-gap
+returns-clause-gap g t c =
+    let l = c.requires.levels in
+    let n = c.args.node.now in
+    let i = c.args.place in
+    let a = ahead_at g.met.Q.Query.fits g.Q.Query.sought l.0 n l.1 c.requires.order i [] (around_gap l.0 n i l.1 (omega arith) c.requires.place.within) c.args.cut.now c.requires.place in
+    goes_here c.args.gap.now c.push.new.self i l.0 n _ _ l.1 (omega arith) c.requires.place.within c.push.ensures a refl
+
+pub returns-clause-leaf : goal.returns-clause-leaf
+returns-clause-leaf g t c = ends_here c.args.gap.now c.push.new.self c.args.place c.args.node.now c.push.ensures
