@@ -1,5 +1,5 @@
 -- The side of an order, and what becomes of it.
-use Rattle.std.specs.Prelude.{◌≡◌, ℕ, ◌+◌, ◌-◌, ◌^◌, Err, min}
+use Rattle.std.specs.Prelude.{◌≡◌, ℕ, ◌+◌, ◌-◌, ◌^◌, ◌==◌, if◌then◌else◌}
 use Rattle.fallible_collections.specs.Words.{room_error}
 use Rattle.example_orders.specs.Orders.{Orders, total, after_fills, unfilled, with_rest}
 use Rattle.example_orders.specs.Sides.{Sides}
@@ -22,9 +22,6 @@ other_of Sell = Buy
 abbrev pub limit_at : ℕ → ℕ
 limit_at rank = 2 ^ 64 - 1 - rank
 
-abbrev pub limit_of : Side → ℕ → ℕ
-limit_of side price = limit_at (rank_of side price)
-
 -- The orders of a side, and those that it meets.
 abbrev pub orders_of : Side → Sides → Orders
 orders_of Buy s = s.bids
@@ -42,6 +39,7 @@ pub record IsPlaced (rank quantity : ℕ) (own others : Orders) (next : ℕ) (pl
   pub rests : own_then ≡ with_rest own (rank, next) placed.resting
   pub rested : total own_then ≡ total own + placed.resting
   pub number : placed.number ≡ next
+  pub counted : next_then ≡ (if placed.resting == 0 then next else next + 1)
 
 -- Why an order was not placed beside so many of its side: no number was left, or room was refused.
 abbrev pub IsRefused : NotPlaced → ℕ → ℕ → Type 0

@@ -1,9 +1,9 @@
 //! A book of orders to buy and to sell.
 ghost use Rattle.std.specs.Prelude.{◌≡◌, ◌+◌, ◌-◌, ◌^◌, ◌<◌, ◌≤◌, [], length, min, All, IfOk, IfErr, IfNone, OnOk, OnErr};
 ghost use Rattle.fallible_collections.specs.Words.{cut, value_at};
-ghost use Rattle.example_orders.specs.Orders.{key_cmp, total, after_fills, unfilled, with_rest, AreApart, AreNumberedBelow};
+ghost use Rattle.example_orders.specs.Orders.{key_cmp, AreApart, AreNumberedBelow};
 ghost use Rattle.example_orders.specs.Sides.{Sides};
-ghost use Rattle.example_orders.specs.Placing.{rank_of, limit_of, other_of, orders_of, others_of, IsPlaced, IsRefused};
+ghost use Rattle.example_orders.specs.Placing.{rank_of, other_of, orders_of, others_of, IsPlaced, IsRefused};
 
 use crate::ladder::{Fill, Key, Ladder};
 use fallible_collections::TryReserveError;
@@ -124,13 +124,7 @@ impl Book {
         tell: F,
     ) -> Result<Placed, NotPlaced>
         requires { F.IsAlwaysCallable tell }
-        ensures whole { IfOk result (λ placed. placed.filled + placed.resting ≡ quantity) }
-        ensures resting { IfOk result (λ placed. placed.resting ≡ unfilled (limit_of side price) quantity (others_of side self.old)) }
-        ensures matched { OnOk result (others_of side self.new ≡ after_fills (limit_of side price) quantity (others_of side self.old)) }
-        ensures filled { IfOk result (λ placed. total (others_of side self.new) + placed.filled ≡ total (others_of side self.old)) }
-        ensures rests { IfOk result (λ placed. orders_of side self.new ≡ with_rest (orders_of side self.old) (rank_of side price, self.old.next) placed.resting) }
-        ensures rested { IfOk result (λ placed. total (orders_of side self.new) ≡ total (orders_of side self.old) + placed.resting) }
-        ensures number { IfOk result (λ placed. placed.number ≡ self.old.next) }
+        ensures placed { IfOk result (λ placed. IsPlaced (rank_of side price) quantity (orders_of side self.old) (others_of side self.old) self.old.next placed (orders_of side self.new) (others_of side self.new) self.new.next) }
         ensures error { IfErr result (λ e. IsRefused e (length (orders_of side self.old)) self.old.next) }
         ensures full { self.old.next ≡ 2 ^ 64 - 1 → result ≡ Err NotPlaced.NoNumber }
         ensures unchanged { OnErr result (self.new ≡ self.old) }
@@ -204,13 +198,15 @@ fn place<F: FnMut(Fill)>(
     };
     // Nothing can be refused from here on.
     let resting = others.take_all(u64::MAX - rank, quantity, tell);
-    if resting > 0 {
-        own.rest(&mut room, (rank, number), resting);
-        *next = number + 1;
-    }
-    Ok(Placed {
+    let placed = Placed {
         filled: quantity - resting,
         resting,
         number,
-    })
+    };
+    if resting == 0 {
+        return Ok(placed);
+    }
+    own.rest(&mut room, (rank, number), resting);
+    *next = number + 1;
+    Ok(placed)
 }

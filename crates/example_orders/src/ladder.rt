@@ -1,6 +1,6 @@
 //! One side of a book: the orders that rest there, the best first.
 ghost use Rattle.std.specs.Prelude.{◌≡◌, ◌+◌, ◌<◌, ◌≤◌, [], length, All, IfSome, IfNone, IfOk, IfErr};
-ghost use Rattle.fallible_collections.specs.Words.{put, cut, value_at, room_error, Places};
+ghost use Rattle.fallible_collections.specs.Words.{entries, put, cut, value_at, room_error, Places};
 ghost use Rattle.example_orders.specs.Orders.{key_cmp, after_fills, unfilled};
 ghost use Rattle.example_orders.specs.Fills.{best_fill, after_fill};
 
@@ -95,28 +95,10 @@ impl Ladder {
         ensures fill { result ≡ best_fill limit wanted self.old }
         ensures rest { self.new ≡ after_fill limit wanted self.old }
         ensures none { IfNone result (All (λ o. limit < o.0.0) self.old) }
+        ensures unchanged { IfNone result (self.new ≡ self.old) }
         ensures some { IfSome result (λ fill. (0 < fill.quantity) × (fill.quantity ≤ wanted)) }
     {
-        let Some(mut first) = self.orders.first_entry() else {
-            return None;
-        };
-        let (key, held) = (*first.key(), *first.get());
-        if key.0 > limit {
-            return None;
-        }
-        if wanted < held {
-            first.insert(held - wanted);
-            Some(Fill {
-                key,
-                quantity: wanted,
-            })
-        } else {
-            first.remove();
-            Some(Fill {
-                key,
-                quantity: held,
-            })
-        }
+        take_first(&mut self.orders, limit, wanted)
     }
 
     /// Takes so much from the orders whose rank is within the limit, the best first, tells each fill, and answers what was not to be had.
@@ -124,6 +106,7 @@ impl Ladder {
     pub fn take_all<F: FnMut(Fill)>(&mut self, limit: u64, wanted: u64, mut tell: F) -> u64
         requires { F.IsAlwaysCallable tell }
         ensures left { result ≡ unfilled limit wanted self.old }
+        ensures at_most { result ≤ wanted }
         ensures rest { self.new ≡ after_fills limit wanted self.old }
         ensures beyond { 0 < result → All (λ o. limit < o.0.0) self.new }
     {
@@ -137,4 +120,32 @@ impl Ladder {
         }
         left
     }
+}
+
+// Takes so much from the first order, or all that it has, if its rank is within the limit. It searches for nothing.
+fn take_first(orders: &mut BTreeMap<Key, u64>, limit: u64, wanted: u64) -> Option<Fill>
+    ensures fill { result ≡ best_fill limit wanted (entries orders.old) }
+    ensures rest { entries orders.new ≡ after_fill limit wanted (entries orders.old) }
+    ensures none { IfNone result (All (λ o. limit < o.0.0) (entries orders.old)) }
+    ensures unchanged { IfNone result (orders.new ≡ orders.old) }
+{
+    let Some(mut first) = orders.first_entry() else {
+        return None;
+    };
+    let (key, held) = (*first.key(), *first.get());
+    if key.0 > limit {
+        return None;
+    }
+    if wanted < held {
+        first.insert(held - wanted);
+        return Some(Fill {
+            key,
+            quantity: wanted,
+        });
+    }
+    first.remove();
+    Some(Fill {
+        key,
+        quantity: held,
+    })
 }
