@@ -1,6 +1,6 @@
 //! A job that asks the ordered map for the pairs next to keys.
 use super::{insert_all, mark, mixed};
-use fc_map::map::{BTreeMap, is_range};
+use fc_map::map::BTreeMap;
 use std::alloc::Global;
 use std::ops::Bound;
 
@@ -12,21 +12,14 @@ fn value(found: Option<(&u64, &u64)>) -> Option<u64> {
 }
 
 fn first_of_range(map: &BTreeMap<u64, u64>, key: &u64) -> Option<u64> {
-    let bounds = (Bound::Included(key), Bound::Unbounded);
-    if is_range(&bounds.0, &bounds.1) {
-        value(map.range(bounds).next())
-    } else {
-        None
-    }
+    value(map.range((Bound::Included(key), Bound::Unbounded)).next())
 }
 
 fn last_of_range(map: &BTreeMap<u64, u64>, key: &u64) -> Option<u64> {
-    let bounds = (Bound::Unbounded, Bound::Included(key));
-    if is_range(&bounds.0, &bounds.1) {
-        value(map.range(bounds).next_back())
-    } else {
-        None
-    }
+    value(
+        map.range((Bound::Unbounded, Bound::Included(key)))
+            .next_back(),
+    )
 }
 
 fn neighbour(map: &BTreeMap<u64, u64>, key: &u64, way: u64) -> Option<u64> {

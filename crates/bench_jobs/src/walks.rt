@@ -1,6 +1,6 @@
 //! Jobs that walk over the ordered map.
 use super::{insert_all, mark, mixed};
-use fc_map::map::{BTreeMap, is_range};
+use fc_map::map::BTreeMap;
 use std::alloc::Global;
 use std::ops::Bound;
 
@@ -40,10 +40,8 @@ fn walk_range(map: &BTreeMap<u64, u64>, from: u64, start: u64) -> u64 {
     let to = from.saturating_add(RANGE);
     let bounds = (Bound::Included(&from), Bound::Excluded(&to));
     let mut checksum = start;
-    if is_range(&bounds.0, &bounds.1) {
-        for (key, value) in map.range(bounds) {
-            checksum = mixed(checksum, Some(key ^ value));
-        }
+    for (key, value) in map.range(bounds) {
+        checksum = mixed(checksum, Some(key ^ value));
     }
     checksum
 }

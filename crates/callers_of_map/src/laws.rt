@@ -197,8 +197,6 @@ pub fn split_then_append<K: Ord + Drop, V: Drop, Q: Query<K>>(
     ensures emptied { IfOk result (λ _. entries part.new ≡ []) }
     ensures left { IfErr result (λ _. ((map.new ≡ map.old) × (part.new ≡ part.old)) ⊎ ((entries map.new ≡ below Q.order (entries map.old) (Q.sought key)) × (entries part.new ≡ not_below Q.order (entries map.old) (Q.sought key)))) }
 {
-    // Shows that the list ascends.
-    let _len = map.len();
     *part = map.split_off(key)?;
     map.append(part)
 }

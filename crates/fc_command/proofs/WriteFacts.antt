@@ -2,14 +2,11 @@
 use Rattle.std.proofs.Common.{◌≡◌, ℕ, ◌+◌, ◌-◌, ◌<◌, ◌≤◌, List, [], ◌∷◌, length, suc, Bool, true, false, not, cond, refl, ap, ◌∙◌, inl, inr, arith}
 use Rattle.std.specs.Prelude.{nat_lt, ◌&&◌, filter, min, IsTrue, ◌↔◌}
 use Rattle.std.specs.Int.{from_bool}
-use Rattle.std.specs.Cmp.{IsTotalOrder}
 use Rattle.std.specs.declared.cmp.Ordering.{Ordering}
 use Rattle.std.specs.declared.ops.Bound.{Bound}
 use Rattle.std.proofs.lemmas.Bool.{cases_lt}
-use Rattle.std.proofs.lemmas.List.Filters.{length-filter_both}
 use Rattle.std.proofs.lemmas.Bool.Decides.{nat_tests}
-use Rattle.fc_base.specs.Ranges.{starts, stops, is_range, within}
-use Rattle.fc_base.proofs.Within.{not_past}
+use Rattle.fc_base.specs.Ranges.{within}
 use Rattle.fc_map.specs.Writing.{starting, Stretch, wrote, wrote_all, wrote_first, wrote_last}
 
 module _ {K V : Type 0} where
@@ -51,23 +48,6 @@ count_more false count y n front back e left is = elim (cases_lt front back) [
   | inr l ↦ omega (arith, l)
 ]
 
--- Where each item passes one of two tests: how many pass both.
-both_pass : {X : Type 0} (p q : X → Bool) (other : (x : X) → p x ≡ false → q x ≡ true) (s : List X) → length (filter q s) + length (filter p s) ≡ length s + length (filter (λ x. p x && q x) s)
-both_pass p q other [] = refl
-both_pass p q other (x ∷ s) = go (p x) (q x) (other x) (both_pass p q other s)
-  where
-    go : (a b : Bool) → (a ≡ false → b ≡ true) → length (filter q s) + length (filter p s) ≡ length s + length (filter (λ y. p y && q y) s)
-        → length (cond b (x ∷ filter q s) (filter q s)) + length (cond a (x ∷ filter p s) (filter p s)) ≡ suc (length s) + length (cond (a && b) (x ∷ filter (λ y. p y && q y) s) (filter (λ y. p y && q y) s))
-    go true true one e = omega (arith, e)
-    go true false one e = omega (arith, e)
-    go false true one e = omega (arith, e)
-    go false false one e = absurd (false_true (one refl))
-      where
-        false_true : false ≡ true → ⊥
-        false_true e = absurd cc
-
 -- a range has as many places to lend as pairs
-pub places_within : {K V : Type 0} {cmp : K → K → Ordering} → IsTotalOrder cmp → (lo hi : Bound K) → is_range cmp lo hi ≡ true → (s : List (K × V)) → (starting cmp lo hi s).back - (starting cmp lo hi s).front ≡ length (within cmp lo hi s)
-places_within {cmp = cmp} order lo hi range s =
-    let both = both_pass (λ e. starts cmp lo e.0) (λ e. stops cmp hi e.0) (λ e. not_past order lo hi range e.0) s in
-    omega (arith, both, length-filter_both (λ e. starts cmp lo e.0) (λ e. not (starts cmp lo e.0)) (λ e. refl) s)
+pub places_within : {K V : Type 0} (cmp : K → K → Ordering) (lo hi : Bound K) (s : List (K × V)) → (starting cmp lo hi s).back - (starting cmp lo hi s).front ≡ length (within cmp lo hi s)
+places_within cmp lo hi s = omega arith

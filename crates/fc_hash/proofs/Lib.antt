@@ -1,2 +1,4 @@
 mod CopyFacts
+mod EqualFacts
+mod ExtendFacts
 mod PairFacts

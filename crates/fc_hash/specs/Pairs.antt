@@ -1,6 +1,7 @@
 -- A hashed map as contracts see it, and what its calls leave of it.
-use Rattle.std.specs.Prelude.{◌≡◌, ℕ, Bool, true, List, ◌∷◌, Option, None, MatchOption}
-use Rattle.std.specs.List.{AllZip, IsDistinct}
+use Rattle.std.specs.Prelude.{◌≡◌, ℕ, Bool, true, ◌&&◌, List, ◌∷◌, Option, None, MatchOption}
+use Rattle.std.specs.List.{AllZip, IsDistinct, list_all}
+use Rattle.std.specs.Option.{option_eq}
 use Rattle.std.specs.List.Sorted.{IsPermutation}
 use Rattle.std.specs.Map.{keys_of, lookup}
 
@@ -37,3 +38,12 @@ module _ {K V : Type 0} (same_key : K → K → Type 0) (same_value : V → V �
     pub copies : List (K × V)
     pub copied : AllZip (λ p q. same_key p.0 q.0 × same_value p.1 q.1) ps copies
     pub is : IsPermutation copies qs
+
+module _ {K V : Type 0} (eq : K → K → Bool) (same : V → V → Bool) (ps qs : List (K × V)) where
+  -- Both have a value at the key, and the two are equal; or neither has one.
+  abbrev pub agree_at : K → Bool
+  agree_at k = option_eq same (value_at eq k ps) (value_at eq k qs)
+
+  -- They agree at each key of either.
+  abbrev pub are_equal : Bool
+  are_equal = list_all agree_at (keys_of ps) && list_all agree_at (keys_of qs)

@@ -1,11 +1,15 @@
 //! A map by the hashes of its keys.
-ghost use Rattle.std.specs.Prelude.{◌≡◌, ◌+◌, ◌<◌, ◌≤◌, [], length, None, Some, Option, if◌then◌else◌, IfOk, OnOk, IfErr, IsOk};
+ghost use Rattle.std.specs.Prelude.{◌≡◌, ◌+◌, ◌<◌, ◌≤◌, [], length, None, Some, Option, is_some, if◌then◌else◌, IfOk, OnOk, IfErr, IsOk};
 ghost use Rattle.std.specs.Option.{option_copied};
 ghost use Rattle.fc_hash.specs.Pairs.{IsMap, value_at, IsPut, IsTaken};
 
+mod compare;
 mod copy;
 mod debug;
+mod extend;
 mod iter;
+mod lend;
+mod whole;
 
 use fc_base::TryReserveError;
 use std::alloc::Global;
@@ -78,6 +82,13 @@ impl<K: Eq + Hash, V> TryHashMap<K, V> {
         ensures { option_copied result ≡ value_at K.eq key.now self.now.pairs }
     {
         self.inner.get(key)
+    }
+
+    /// Whether there is a key equal to this one. Not in upstream: it is that of std's map.
+    pub fn contains_key(&self, key: &K) -> bool
+        ensures { result ≡ is_some (value_at K.eq key.now self.now.pairs) }
+    {
+        self.inner.contains_key(key)
     }
 
     /// Puts the value at the key, and answers the value that was there. A key that is there stays, and `key` is dropped: that takes

@@ -58,6 +58,9 @@ module _ {T V : Type 0} where
     pub without_keys : without cmp (keys s) q ≡ keys (cut cmp s q)
     without_keys = ap (λ l. l ++ greater cmp (keys s) q) smaller_keys ∙ ap (λ l. keys (below cmp s q) ++ l) greater_keys ∙ sym (map-append (λ e. e.0) (below cmp s q) (above cmp s q))
 
+  pub items_within_keys : {Q : Type 0} (cmp : T → Q → Ordering) (lo hi : Bound Q) (s : List (T × V)) → items_within cmp lo hi (keys s) ≡ keys (within cmp lo hi s)
+  items_within_keys cmp lo hi s = filter_keys _ s
+
   module _ (cmp : T → T → Ordering) where
     around : (s : List (T × V)) (x : T) (e : T × V) → smaller cmp (keys s) x ++ e.0 ∷ greater cmp (keys s) x ≡ keys (below cmp s x ++ e ∷ above cmp s x)
     around s x e = ap (λ l. l ++ e.0 ∷ greater cmp (keys s) x) (smaller_keys cmp s x) ∙ ap (λ l. keys (below cmp s x) ++ e.0 ∷ l) (greater_keys cmp s x) ∙ sym (map-append (λ e. e.0) (below cmp s x) (e ∷ above cmp s x))
@@ -67,9 +70,6 @@ module _ {T V : Type 0} where
 
     pub with_replaced_keys : (s : List (T × V)) (x : T) (v : V) → with_replaced cmp (keys s) x ≡ keys (placed cmp s (x, v))
     with_replaced_keys s x v = around s x (x, v)
-
-    pub items_within_keys : (lo hi : Bound T) (s : List (T × V)) → items_within cmp lo hi (keys s) ≡ keys (within cmp lo hi s)
-    items_within_keys lo hi s = filter_keys _ s
 
     pub joined_keys : (s t : List (T × V)) → joined_items cmp (keys s) (keys t) ≡ keys (joined cmp s t)
     joined_keys s [] = refl

@@ -32,6 +32,10 @@ module _ {T Q : Type 0} (cmp : T → Q → Ordering) where
   abbrev pub not_smaller : List T → Q → List T
   not_smaller s q = filter (λ x. is_ge (cmp x q)) s
 
+  -- The items within two bounds, which are by queries, in order.
+  abbrev pub items_within : Bound Q → Bound Q → List T → List T
+  items_within lo hi s = filter (λ x. starts cmp lo x && stops cmp hi x) s
+
   -- The list without the item that is equal to the query.
   abbrev pub without : List T → Q → List T
   without s q = smaller s q ++ greater s q
@@ -49,10 +53,6 @@ module _ {T : Type 0} (cmp : T → T → Ordering) where
   -- The list with the item in the place of an equal one, or else where it belongs.
   abbrev pub with_replaced : List T → T → List T
   with_replaced s x = smaller cmp s x ++ x ∷ greater cmp s x
-
-  -- The items within both bounds, in order.
-  abbrev pub items_within : Bound T → Bound T → List T → List T
-  items_within lo hi s = filter (λ x. starts cmp lo x && stops cmp hi x) s
 
   -- The first list with each item of the second: of equal items, the second's stays.
   abbrev pub joined_items : List T → List T → List T

@@ -1,7 +1,6 @@
 -- What lies between two gaps of a map, when one of them goes on.
 use Rattle.std.proofs.Common.{◌≡◌, ℕ, ◌+◌, ◌-◌, ◌<◌, ◌≤◌, List, [], ◌∷◌, ◌++◌, length, take, drop, Some, slice_get, sym, ap, ◌∙◌, arith, length-append, ◌⊎◌, inl, inr}
 use Rattle.std.specs.Prelude.{slice_range}
-use Rattle.std.proofs.Math.Seq.{drop-append_seam}
 use Rattle.std.proofs.lemmas.Bool.{cases_lt}
 use Rattle.fc_tree_node.specs.Tree.{Map, entries, IsSoundMap}
 use Rattle.fc_tree_node.specs.TreePlace.{before_gap_in, after_gap_in}
@@ -44,9 +43,3 @@ module _ {K V : Type 0} (m : Map K V) (sound : IsSoundMap m) where
           slice_split (entries m) _ (length (before_gap_in m mid)) _ (omega arith) (omega arith) ∙ ap (λ k. between m front mid ++ slice_range (entries m) (length (before_gap_in m mid)) k) (sym step)
               ∙ ap (λ xs. between m front mid ++ xs) (slice_one (entries m) _ x at),
         )
-
-  -- What is between is what is after the front, as far as the back.
-  pub between_rest : (front back : List ℕ) → IsGapIn m front → between m front back ≡ take (length (before_gap_in m back) - length (before_gap_in m front)) (after_gap_in m front)
-  between_rest front back f =
-      ap (λ xs. take (length (before_gap_in m back) - length (before_gap_in m front)) (drop (length (before_gap_in m front)) xs)) (gap_entries m front sound f)
-      ∙ ap (take (length (before_gap_in m back) - length (before_gap_in m front))) (drop-append_seam (before_gap_in m front) (after_gap_in m front))

@@ -2,12 +2,11 @@
 use Rattle.std.proofs.Common.{◌≡◌, ℕ, List, [], ◌∷◌, ◌++◌, length, refl, sym, ap, subst, ◌∙◌, arith, Some, None}
 use Rattle.fc_tree_node.specs.declared.node.Node.{Node}
 use Rattle.fc_tree_node.specs.LeafGap.{IsLeafGap}
-use Rattle.fc_tree_node.specs.Leaf.{leaf_at}
 use Rattle.fc_tree_node.specs.Path.{before_gap}
 use Rattle.fc_tree_node.specs.Tree.{Map, entries, IsSoundMap}
 use Rattle.fc_tree_node.specs.TreePlace.{before_gap_in, after_gap_in}
 use Rattle.fc_tree_node.proofs.Gaps.{gap_pairs}
-use Rattle.fc_tree_walk.specs.Gap.{GoesOn, EndsIn, IsGapIn}
+use Rattle.fc_tree_walk.specs.Gap.{GoesOn, IsGapIn}
 
 -- One list, cut twice at the same place.
 pub same_cut : {X : Type 0} (a b c d : List X) → a ++ b ≡ c ++ d → length a ≡ length c → (a ≡ c) × (b ≡ d)
@@ -24,10 +23,6 @@ module _ {K V : Type 0} where
   -- A path that went on from nothing.
   pub from_nothing : (old new : List ℕ) (n : Node K V) (count : ℕ) → old ≡ [] → GoesOn old new n count → IsLeafGap new n × (length (before_gap new n) ≡ count)
   from_nothing old new n count e g = let s : new ≡ g.0 = g.1 ∙ ap (λ o. o ++ g.0) e in (subst (λ p. IsLeafGap p n) (sym s) g.2, ap (λ p. length (before_gap p n)) s ∙ g.3)
-
-  -- The leaf of a path that went on from nothing.
-  pub leaf_from_nothing : (old new : List ℕ) (n leaf : Node K V) → old ≡ [] → EndsIn old new n leaf → leaf ≡ leaf_at new n
-  leaf_from_nothing old new n leaf e f = f new (ap (λ o. o ++ new) (sym e))
 
   -- A map's pairs are those before a gap, and those after it.
   pub gap_entries : (m : Map K V) (gap : List ℕ) → IsSoundMap m → IsGapIn m gap → entries m ≡ before_gap_in m gap ++ after_gap_in m gap

@@ -1,6 +1,6 @@
 -- The gaps of one leaf lie together, and the pairs between them are pairs of the leaf.
-use Rattle.std.proofs.Common.{◌≡◌, ℕ, zero, suc, ◌+◌, ◌-◌, ◌<◌, ◌≤◌, List, [], ◌∷◌, ◌++◌, length, map, take, drop, get_or, refl, sym, ap, subst, ◌∙◌, arith, Some, None, slice_get, ◌⊎◌, inl, inr, length-append, append_assoc, append-nil}
-use Rattle.std.specs.Prelude.{slice_range, slice_set}
+use Rattle.std.proofs.Common.{◌≡◌, ℕ, zero, suc, ◌+◌, ◌-◌, ◌<◌, ◌≤◌, List, [], ◌∷◌, ◌++◌, length, map, take, drop, get_or, refl, sym, ap, subst, ◌∙◌, arith, Bool, true, false, IsTrue, Some, None, slice_get, ◌⊎◌, inl, inr, length-append, append_assoc, append-nil}
+use Rattle.std.specs.Prelude.{◌↔◌, if◌then◌else◌, slice_range, slice_set}
 use Rattle.std.proofs.lemmas.Bool.{cases_lt}
 use Rattle.std.proofs.lemmas.List.{set-get_or}
 use Rattle.fc_tree_node.specs.declared.node.Node.{Node}
@@ -10,11 +10,10 @@ use Rattle.fc_tree_node.specs.Node.{own_pairs, child_at, pairs_of, IsLeaf, IsLev
 use Rattle.fc_tree_node.specs.Path.{IsPath, before_gap, after_gap}
 use Rattle.fc_tree_node.specs.Place.{before_child, after_child, IsPlace, place_pair, before_pair, after_pair}
 use Rattle.fc_tree_node.specs.Tree.{Map, entries, IsSoundMap}
-use Rattle.fc_tree_node.specs.Weave.{before_list, after_list}
+use Rattle.fc_tree_node.specs.Weave.{before_list}
 use Rattle.fc_tree_node.proofs.Gaps.{inner_gap, place_pairs, gap_pairs}
 use Rattle.fc_tree_node.proofs.Lists.{take_nil, length_take, length_set, set_is}
 use Rattle.fc_tree_node.proofs.Pairs.{leaf_children, leaf_pairs, child_below}
-use Rattle.fc_tree_node.proofs.Weaves.{after_nil}
 use Rattle.fc_tree_walk.specs.Gap.{AreEndsIn}
 use Rattle.fc_tree_walk.specs.Span.{between}
 use Rattle.fc_tree_walk.proofs.Meetings.{earlier}
@@ -47,9 +46,6 @@ module _ {K V : Type 0} where
   -- A leaf has its own pairs alone on either side of a gap.
   pub leaf_before_child : (n : Node K V) (i : ℕ) → IsLeaf n → before_child n i ≡ take i (own_pairs n)
   leaf_before_child n i l = ap (λ cs. before_list (map pairs_of (take i cs)) (take i (own_pairs n))) (leaf_children n l) ∙ ap (λ cs. before_list (map pairs_of cs) (take i (own_pairs n))) (take_nil i)
-
-  pub leaf_after_child : (n : Node K V) (i : ℕ) → IsLeaf n → after_child n i ≡ drop i (own_pairs n)
-  leaf_after_child n i l = ap (λ cs. after_list (drop i (own_pairs n)) (map pairs_of (drop (suc i) cs))) (leaf_children n l) ∙ after_nil (drop i (own_pairs n))
 
   -- A gap of another leaf that is not before a leaf's gap k is after its gap e too.
   pub apart_leaf : (f : List ℕ) (h : ℕ) (n : Node K V) (k e : ℕ) (q : List ℕ) → IsLevelled h n → IsPath (f ++ k ∷ []) n → IsPath (f ++ e ∷ []) n → IsPath q n → length f ≡ h → length q ≡ h + 1
@@ -270,38 +266,38 @@ module _ {K V : Type 0} where
         let s = (cut_of back w).count 0 (omega arith) in
         (back_took front back w 0 ends.0 (omega arith) (omega arith), some_left front (slice_set back h 0) (moved back w 0 (omega arith)) (omega (arith, s, lt)))
 
-  -- ---- The same in a map.
-  pub front_met : (m : Map K V) (n leaf : Node K V) (front back : List ℕ) (last : ℕ) → m ≡ Some n → IsSoundMap m → AreEndsIn m front back → leaf ≡ leaf_at front n → last ≡ length front - 1 → take last front ≡ take last back → FrontTaken m front back leaf last (get_or back last 0) × (between m (slice_set front last (get_or back last 0)) back ≡ [])
-  front_met None n leaf front back last is o ends at la e = absurd cc
-  front_met (Some root) n leaf front back last is o ends at la e =
-      let same : n ≡ root = cc in
-      let long = ends.0.1 o.0 o.2.1 in
-      let h : o.0 ≡ last = omega arith in
-      subst (λ d. FrontTaken (Some root) front back d last (get_or back last 0) × (between (Some root) (slice_set front last (get_or back last 0)) back ≡ [])) (ap (leaf_at front) (sym same) ∙ sym at) (front_meets root last (subst (λ j. IsLevelled j root) h o.2.1) front back ends e)
+  -- ---- The same in a map, as far as an end reaches.
+  pub front_takes : (m : Map K V) (n leaf : Node K V) (front back : List ℕ) (last end : ℕ) (met : Bool) → m ≡ Some n → IsSoundMap m → AreEndsIn m front back → leaf ≡ leaf_at front n → last ≡ length front - 1
+      → (IsTrue met ↔ (take (length front - 1) front ≡ take (length front - 1) back)) → end ≡ (if met then get_or back (length front - 1) 0 else length (own_pairs leaf)) → FrontTaken m front back leaf last end × (IsTrue met ↔ (between m (slice_set front last end) back ≡ []))
+  front_takes None n leaf front back last end met is o ends at la e f = absurd cc
+  front_takes (Some root) n leaf front back last end met is o ends at la e f =
+      subst (λ d. FrontTaken (Some root) front back d last end × (IsTrue met ↔ (between (Some root) (slice_set front last end) back ≡ []))) (sym there)
+      (subst (λ k. FrontTaken (Some root) front back (leaf_at front root) k end × (IsTrue met ↔ (between (Some root) (slice_set front k end) back ≡ []))) (sym la) (go met e (f ∙ ap (λ d. if met then get_or back (length front - 1) 0 else length (own_pairs d)) there)))
+    where
+      there : leaf ≡ leaf_at front root
+      there = at ∙ ap (leaf_at front) (let same : n ≡ root = cc in same)
 
-  pub front_apart : (m : Map K V) (n leaf : Node K V) (front back : List ℕ) (last : ℕ) → m ≡ Some n → IsSoundMap m → AreEndsIn m front back → leaf ≡ leaf_at front n → last ≡ length front - 1 → (take last front ≡ take last back → ⊥) → FrontTaken m front back leaf last (length (own_pairs leaf)) × (between m (slice_set front last (length (own_pairs leaf))) back ≡ [] → ⊥)
-  front_apart None n leaf front back last is o ends at la e = absurd cc
-  front_apart (Some root) n leaf front back last is o ends at la e =
-      let same : n ≡ root = cc in
-      let long = ends.0.1 o.0 o.2.1 in
-      let h : o.0 ≡ last = omega arith in
-      subst (λ d. FrontTaken (Some root) front back d last (length (own_pairs d)) × (between (Some root) (slice_set front last (length (own_pairs d))) back ≡ [] → ⊥)) (ap (leaf_at front) (sym same) ∙ sym at) (front_leaves root last (subst (λ j. IsLevelled j root) h o.2.1) front back ends e)
+      l : IsLevelled (length front - 1) root
+      l = let long = ends.0.1 o.0 o.2.1 in let h : o.0 ≡ length front - 1 = omega arith in subst (λ j. IsLevelled j root) h o.2.1
 
-  pub back_met : (m : Map K V) (n leaf : Node K V) (front back : List ℕ) (last : ℕ) → m ≡ Some n → IsSoundMap m → AreEndsIn m front back → leaf ≡ leaf_at back n → last ≡ length back - 1 → take last back ≡ take last front → BackTaken m front back leaf last (get_or front last 0) × (between m front (slice_set back last (get_or front last 0)) ≡ [])
-  back_met None n leaf front back last is o ends at la e = absurd cc
-  back_met (Some root) n leaf front back last is o ends at la e =
-      let same : n ≡ root = cc in
-      let long = ends.1.1 o.0 o.2.1 in
-      let h : o.0 ≡ last = omega arith in
-      subst (λ d. BackTaken (Some root) front back d last (get_or front last 0) × (between (Some root) front (slice_set back last (get_or front last 0)) ≡ [])) (ap (leaf_at back) (sym same) ∙ sym at) (back_meets root last (subst (λ j. IsLevelled j root) h o.2.1) front back ends e)
+      go : (b : Bool) → (IsTrue b ↔ (take (length front - 1) front ≡ take (length front - 1) back)) → end ≡ (if b then get_or back (length front - 1) 0 else length (own_pairs (leaf_at front root)))
+          → FrontTaken (Some root) front back (leaf_at front root) (length front - 1) end × (IsTrue b ↔ (between (Some root) (slice_set front (length front - 1) end) back ≡ []))
+      go true e f = let r = front_meets root (length front - 1) l front back ends (e.0 refl) in rw f (r.0, ((λ _. r.1), (λ _. refl)))
+      go false e f = let r = front_leaves root (length front - 1) l front back ends (λ s. absurd (let no : false ≡ true = e.1 s in cc)) in rw f (r.0, ((λ t. absurd (let no : false ≡ true = t in cc)), (λ s. absurd (r.1 s))))
 
-  pub back_apart : (m : Map K V) (n leaf : Node K V) (front back : List ℕ) (last : ℕ) → m ≡ Some n → IsSoundMap m → AreEndsIn m front back → leaf ≡ leaf_at back n → last ≡ length back - 1 → (take last back ≡ take last front → ⊥) → BackTaken m front back leaf last 0 × (between m front (slice_set back last 0) ≡ [] → ⊥)
-  back_apart None n leaf front back last is o ends at la e = absurd cc
-  back_apart (Some root) n leaf front back last is o ends at la e =
-      let same : n ≡ root = cc in
-      let long = ends.1.1 o.0 o.2.1 in
-      let h : o.0 ≡ last = omega arith in
-      subst (λ d. BackTaken (Some root) front back d last 0 × (between (Some root) front (slice_set back last 0) ≡ [] → ⊥)) (ap (leaf_at back) (sym same) ∙ sym at) (back_leaves root last (subst (λ j. IsLevelled j root) h o.2.1) front back ends e)
+  pub back_takes : (m : Map K V) (n leaf : Node K V) (front back : List ℕ) (last start : ℕ) (met : Bool) → m ≡ Some n → IsSoundMap m → AreEndsIn m front back → leaf ≡ leaf_at back n → last ≡ length back - 1
+      → (IsTrue met ↔ (take (length back - 1) back ≡ take (length back - 1) front)) → start ≡ (if met then get_or front (length back - 1) 0 else 0) → BackTaken m front back leaf last start × (IsTrue met ↔ (between m front (slice_set back last start) ≡ []))
+  back_takes None n leaf front back last start met is o ends at la e f = absurd cc
+  back_takes (Some root) n leaf front back last start met is o ends at la e f =
+      subst (λ d. BackTaken (Some root) front back d last start × (IsTrue met ↔ (between (Some root) front (slice_set back last start) ≡ []))) (sym (at ∙ ap (leaf_at back) (let same : n ≡ root = cc in same)))
+      (subst (λ k. BackTaken (Some root) front back (leaf_at back root) k start × (IsTrue met ↔ (between (Some root) front (slice_set back k start) ≡ []))) (sym la) (go met e f))
+    where
+      l : IsLevelled (length back - 1) root
+      l = let long = ends.1.1 o.0 o.2.1 in let h : o.0 ≡ length back - 1 = omega arith in subst (λ j. IsLevelled j root) h o.2.1
+
+      go : (b : Bool) → (IsTrue b ↔ (take (length back - 1) back ≡ take (length back - 1) front)) → start ≡ (if b then get_or front (length back - 1) 0 else 0) → BackTaken (Some root) front back (leaf_at back root) (length back - 1) start × (IsTrue b ↔ (between (Some root) front (slice_set back (length back - 1) start) ≡ []))
+      go true e f = let r = back_meets root (length back - 1) l front back ends (e.0 refl) in rw f (r.0, ((λ _. r.1), (λ _. refl)))
+      go false e f = let r = back_leaves root (length back - 1) l front back ends (λ s. absurd (let no : false ≡ true = e.1 s in cc)) in rw f (r.0, ((λ t. absurd (let no : false ≡ true = t in cc)), (λ s. absurd (r.1 s))))
 
 module _ {K V : Type 0} where
   -- The pair at a place, among the map's.

@@ -1,5 +1,5 @@
 -- Down the way to a gap, to the lowest node with a pair on one side of it, and to the gap on the other side of that pair.
-use Rattle.std.proofs.Common.{◌≡◌, ℕ, zero, suc, ◌+◌, ◌-◌, ◌<◌, ◌≤◌, List, [], ◌∷◌, ◌++◌, length, take, get_or, slice_get, refl, sym, ap, subst, ◌∙◌, arith, Option, Some, None, IsTrue, false, ◌⊎◌, inl, inr, length-append, append_assoc}
+use Rattle.std.proofs.Common.{◌≡◌, ℕ, zero, suc, ◌+◌, ◌-◌, ◌<◌, ◌≤◌, List, [], ◌∷◌, ◌++◌, length, take, get_or, slice_get, refl, sym, ap, subst, ◌∙◌, arith, Option, Some, None, ◌⊎◌, inl, inr, length-append, append_assoc}
 use Rattle.std.specs.Prelude.{slice_set}
 use Rattle.std.proofs.lemmas.Bool.{cases_lt}
 use Rattle.std.proofs.lemmas.List.{take_more, take_more_set, take-set-le, get_or-set_same, get_or-set_other}
@@ -7,18 +7,17 @@ use Rattle.fc_base.specs.Sizes.{capacity, most_levels}
 use Rattle.fc_tree_node.specs.declared.node.Node.{Node}
 use Rattle.fc_tree_node.specs.Leaf.{leaf_at}
 use Rattle.fc_tree_node.specs.LeafGap.{IsLeafGap}
-use Rattle.fc_tree_node.specs.Node.{own_pairs, children_of, child_at, pairs_of, IsLeaf, IsLevelled, IsTree}
+use Rattle.fc_tree_node.specs.Node.{own_pairs, children_of, child_at, pairs_of, IsLevelled}
 use Rattle.fc_tree_node.specs.Path.{IsPath, before_gap, after_gap}
-use Rattle.fc_tree_node.specs.Place.{before_child, before_own, after_own, IsDescent, node_at, IsPlace, before_pair}
+use Rattle.fc_tree_node.specs.Place.{before_child, before_own, after_own, IsDescent, node_at}
 use Rattle.fc_tree_node.specs.Tree.{Map, entries, IsSoundMap}
 use Rattle.fc_tree_node.specs.TreePlace.{before_gap_in}
 use Rattle.fc_tree_node.proofs.Gaps.{own_pair, before_child_pair, after_none, item_there, step_levels, descent_levels, descent_pairs, node_more, before_more}
 use Rattle.fc_tree_node.proofs.Lists.{length_take, length_set}
 use Rattle.fc_tree_node.proofs.Pairs.{child_below, leaf_children}
-use Rattle.fc_tree_search.proofs.SearchFacts.{child_there}
-use Rattle.fc_tree_walk.specs.Gap.{GoesOn, EndsIn, IsGapIn, LeadsTo, IsBeside, IsAbove}
+use Rattle.fc_tree_walk.specs.Gap.{GoesOn, IsGapIn, LeadsTo, IsBeside, IsAbove}
 use Rattle.fc_tree_walk.proofs.Slices.{get_seam}
-use Rattle.fc_tree_walk.proofs.GapFacts.{leaf_before_own, inner_length, inner_before, end_leaf, one_height, next_before, behind_leaf, behind_child, pair_gap_leaf, pair_gap_child, first_gap_leaf, last_gap_leaf, leaf_more}
+use Rattle.fc_tree_walk.proofs.GapFacts.{leaf_before_own, inner_length, inner_before, end_leaf, one_height, next_before, behind_child, pair_gap_child, first_gap_leaf, last_gap_leaf}
 
 whole : (p : List ℕ) (m : ℕ) → m ≡ length p → take m p ≡ p
 whole [] zero e = refl
@@ -127,9 +126,6 @@ module _ {K V : Type 0} where
   AfterWay gap root n i best place =
       (n ≡ node_at (take i gap) root) × ((length (before_gap (take i gap) root) + length (pairs_of n) ≡ length (pairs_of root)) ⊎ IsNextAt gap root best place (length (before_gap (take i gap) root) + length (pairs_of n)))
 
-  pub after_start : (gap : List ℕ) (root best : Node K V) (place : ℕ) → AfterWay gap root root 0 best place
-  after_start gap root best place = (refl, inl (omega arith))
-
   pub after_step : (gap : List ℕ) (root n best best' : Node K V) (i place place' : ℕ) → IsDown gap root n i → i + 1 < length gap → AfterWay gap root n i best place
       → (0 < length (own_pairs n) - get_or gap i 0 → (best' ≡ n) × (place' ≡ i)) → (length (own_pairs n) - get_or gap i 0 ≡ 0 → (best' ≡ best) × (place' ≡ place)) → AfterWay gap root (child_at n (get_or gap i 0)) (i + 1) best' place'
   after_step gap root n best best' i place place' d k w here above = (d₁.1, order (cases_lt (get_or gap i 0) (length (own_pairs n))))
@@ -200,9 +196,6 @@ module _ {K V : Type 0} where
 
   abbrev pub BeforeWay : List ℕ → Node K V → Node K V → ℕ → Node K V → ℕ → Type 0
   BeforeWay gap root n i best place = (n ≡ node_at (take i gap) root) × ((length (before_gap (take i gap) root) ≡ 0) ⊎ IsLastAt gap root best place (length (before_gap (take i gap) root)))
-
-  pub before_start : (gap : List ℕ) (root best : Node K V) (place : ℕ) → BeforeWay gap root root 0 best place
-  before_start gap root best place = (refl, inl refl)
 
   -- what is before the way a step further down
   further : (gap : List ℕ) (root n best best' : Node K V) (i place place' : ℕ) → IsDown gap root n i → (length (before_gap (take i gap) root) ≡ 0) ⊎ IsLastAt gap root best place (length (before_gap (take i gap) root))
@@ -336,123 +329,6 @@ module _ {K V : Type 0} where
   leaf_node (i ∷ j ∷ gap) zero n e = absurd (omega arith)
   leaf_node (i ∷ j ∷ gap) (suc level) n e = leaf_node (j ∷ gap) level (child_at n i) (omega arith)
 
-  -- ---- from a pair that was found to the gaps beside it
-
-  -- The node that has the pair at a place.
-  pub record IsSpot (place : List ℕ) (root : Node K V) (h k : ℕ) : Type 0 where
-    pub way : LeadsTo place root k (leaf_at place root)
-    pub own : get_or place k 0 < length (own_pairs (leaf_at place root))
-    pub before : length (before_pair place root) ≡ length (before_gap (take k place) root) + length (before_own (leaf_at place root) (get_or place k 0))
-    pub height : ℕ
-    pub levels : IsLevelled height (leaf_at place root)
-    pub deep : k + height ≡ h
-
-  spot : (place : List ℕ) (h k : ℕ) (root : Node K V) → IsLevelled h root → IsPlace place root → k + 1 ≡ length place → IsSpot place root h k
-  spot [] h k root l p e = absurd p
-  spot (i ∷ []) h zero root l p e = record { way = (omega arith, tt, refl); own = p; before = omega arith; height = h; levels = l; deep = omega arith }
-  spot (i ∷ []) h (suc k) root l p e = absurd (omega arith)
-  spot (i ∷ j ∷ place) h zero root l p e = absurd (omega arith)
-  spot (i ∷ j ∷ place) h (suc k) root l p e =
-      let t = step_levels h root i l p.0 in
-      let c = child_at root i in
-      let r = spot (j ∷ place) t.0 k c t.2 p.1 (omega arith) in
-      let a = length-append (before_child root i) (before_pair (j ∷ place) c) in
-      let b = length-append (before_child root i) (before_gap (take k (j ∷ place)) c) in
-      let d = r.before in
-      let up = t.1 in
-      let deep = r.deep in
-      record { way = (omega arith, (p.0, r.way.1), r.way.2); own = r.own; before = omega (arith, a, b, d); height = r.height; levels = r.levels; deep = omega arith }
-
-  pub level_capacity : (h : ℕ) (n : Node K V) → IsLevelled h n → length (own_pairs n) ≤ capacity
-  level_capacity zero n l = l.0
-  level_capacity (suc h) n l = l.0
-
-  some_steps : (place : List ℕ) (root : Node K V) → IsPlace place root → length place - 1 + 1 ≡ length place
-  some_steps [] root p = absurd p
-  some_steps (i ∷ place) root p = omega arith
-
-  leaf_along : (s q : List ℕ) (n : Node K V) → 0 < length q → leaf_at (s ++ q) n ≡ leaf_at q (node_at s n)
-  leaf_along [] q n k = refl
-  leaf_along (i ∷ s) q n k = leaf_more i (s ++ q) n (let a = length-append s q in omega (arith, a)) ∙ leaf_along s q (child_at n i) k
-
-  pub record IsReached (root : Node K V) (new : List ℕ) (count : ℕ) (leaf : Node K V) : Type 0 where
-    pub slot : IsLeafGap new root
-    pub count_is : length (before_gap new root) ≡ count
-    pub leaf_is : leaf ≡ leaf_at new root
-
-  pub record IsHolder (place : List ℕ) (root : Node K V) : Type 0 where
-    pub tree : IsTree root
-    pub end : length place - 1 + 1 ≡ length place
-    pub at : IsSpot place root tree.0 (length place - 1)
-
-  pub holder : (place : List ℕ) (root : Node K V) → IsTree root → IsPlace place root → IsHolder place root
-  holder place root t p = record { tree = t; end = some_steps place root p; at = spot place t.0 (length place - 1) root t.2 p (some_steps place root p) }
-
-  module _ {place : List ℕ} {root : Node K V} (x : IsHolder place root) where
-    levels : (h : ℕ) × IsLevelled h (leaf_at place root) × (length (take (length place - 1) place) + h < most_levels)
-    levels = let e = x.end in let a = length_take (length place - 1) place (omega arith) in let b = x.at.deep in let c = x.tree.1 in (x.at.height, x.at.levels, omega (arith, a, b, c))
-
-    -- Where it is no leaf it has a child on either side of the pair, and a path has room for what lies below.
-    pub beside : (IsLeaf (leaf_at place root) → IsTrue false) → get_or place (length place - 1) 0 + 1 < length (children_of (leaf_at place root))
-    beside inner = let own = x.at.own in child_there x.at.height (leaf_at place root) (get_or place (length place - 1) 0 + 1) x.at.levels inner (omega arith)
-
-    pub below : (mid : List ℕ) (j : ℕ) (c : Node K V) → length mid ≡ length place → j < length (children_of (leaf_at place root)) → c ≡ child_at (leaf_at place root) j → (h : ℕ) × IsLevelled h c × (length mid + h < most_levels)
-    below mid j c long there is =
-        let l = step_levels x.at.height (leaf_at place root) j x.at.levels there in
-        let e = x.end in
-        let a = x.at.deep in
-        let b = x.tree.1 in
-        let up = l.1 in
-        (l.0, subst (IsLevelled l.0) (sym is) l.2, omega (arith, a, b, long))
-
-    here : place ≡ take (length place - 1) place ++ get_or place (length place - 1) 0 ∷ []
-    here = let e = x.end in sym (whole place ((length place - 1) + 1) e) ∙ take_more place (length place - 1) 0 (omega arith)
-
-    onward : (mid new : List ℕ) (j count n : ℕ) (c leaf : Node K V) → mid ≡ take (length place - 1) place ++ j ∷ [] → j < length (children_of (leaf_at place root)) → c ≡ child_at (leaf_at place root) j → GoesOn (take (length place - 1) place) new (leaf_at place root) count → GoesOn mid new c n → EndsIn mid new c leaf → IsReached root new (length (before_gap (take (length place - 1) place) root) + count) leaf
-    onward mid new j count n c leaf m there is g f ends =
-        let l = step_levels x.at.height (leaf_at place root) j x.at.levels there in
-        let r = went place new x.tree.0 (length place - 1) count root (leaf_at place root) x.tree.2 x.at.way g in
-        let q = f.0 in
-        let some : 0 < length q = (let d = f.2.1 l.0 (subst (IsLevelled l.0) (sym is) l.2) in omega arith) in
-        record {
-          slot = r.0;
-          count_is = r.1;
-          leaf_is = ends q f.1 ∙ ap (leaf_at q) (is ∙ ap (λ d. child_at d j) x.at.way.2 ∙ sym (node_more (take (length place - 1) place) j root) ∙ ap (λ s. node_at s root) (sym m)) ∙ sym (leaf_along mid q root some) ∙ ap (λ s. leaf_at s root) (sym f.1);
-        }
-
-    -- Before it, in a leaf and in an inner node.
-    pub before_in_leaf : IsLeaf (leaf_at place root) → IsLeafGap place root × (length (before_gap place root) ≡ length (before_pair place root))
-    before_in_leaf l =
-        let none = ap length (leaf_children (leaf_at place root) l) in
-        let r = went place place x.tree.0 (length place - 1) _ root (leaf_at place root) x.tree.2 x.at.way (pair_gap_leaf (take (length place - 1) place) place (get_or place (length place - 1) 0) (leaf_at place root) levels x.at.own (omega arith) here) in
-        (r.0, r.1 ∙ sym x.at.before)
-
-    pub before_in_child : (new : List ℕ) (c leaf : Node K V) → get_or place (length place - 1) 0 < length (children_of (leaf_at place root)) → c ≡ child_at (leaf_at place root) (get_or place (length place - 1) 0) → GoesOn place new c (length (pairs_of c)) → EndsIn place new c leaf
-        → IsReached root new (length (before_pair place root)) leaf
-    before_in_child new c leaf there is g ends =
-        let r = onward place new (get_or place (length place - 1) 0) _ _ c leaf here there is (pair_gap_child (take (length place - 1) place) place new (get_or place (length place - 1) 0) (leaf_at place root) c levels x.at.own there here is g) g ends in
-        record { slot = r.slot; count_is = r.count_is ∙ sym x.at.before; leaf_is = r.leaf_is }
-
-    -- After it.
-    pub after_in_leaf : (new : List ℕ) → new ≡ slice_set place (length place - 1) (get_or place (length place - 1) 0 + 1) → IsLeaf (leaf_at place root) → IsReached root new (length (before_pair place root) + 1) (leaf_at place root)
-    after_in_leaf new f l =
-        let e = x.end in
-        let none = ap length (leaf_children (leaf_at place root) l) in
-        let r = went place new x.tree.0 (length place - 1) _ root (leaf_at place root) x.tree.2 x.at.way (behind_leaf (take (length place - 1) place) new (get_or place (length place - 1) 0) (leaf_at place root) levels x.at.own (omega arith) (end_set place new (length place - 1) _ e f)) in
-        let long = set_length place new (length place - 1) _ f in
-        let b = x.at.before in
-        let s = r.1 in
-        record { slot = r.0; count_is = omega (arith, b, s); leaf_is = x.at.way.2 ∙ ap (λ s. node_at s root) (sym (take-set-le (length place - 1) place (length place - 1) _ (omega arith)) ∙ ap (take (length place - 1)) (sym f)) ∙ sym (leaf_node new (length place - 1) root (omega (arith, long, e))) }
-
-    pub after_in_child : (mid new : List ℕ) (c leaf : Node K V) → mid ≡ slice_set place (length place - 1) (get_or place (length place - 1) 0 + 1) → get_or place (length place - 1) 0 + 1 < length (children_of (leaf_at place root)) → c ≡ child_at (leaf_at place root) (get_or place (length place - 1) 0 + 1) → GoesOn mid new c 0 → EndsIn mid new c leaf
-        → IsReached root new (length (before_pair place root) + 1) leaf
-    after_in_child mid new c leaf f there is g ends =
-        let m = end_set place mid (length place - 1) _ x.end f in
-        let r = onward mid new (get_or place (length place - 1) 0 + 1) _ 0 c leaf m there is (behind_child (take (length place - 1) place) mid new (get_or place (length place - 1) 0) (leaf_at place root) c levels x.at.own there m is g) g ends in
-        let b = x.at.before in
-        let s = r.count_is in
-        record { slot = r.slot; count_is = omega (arith, b, s); leaf_is = r.leaf_is }
-
   -- ---- the leaf of a gap, and the node above it
 
   -- It is above another gap of the leaf too.
@@ -474,7 +350,7 @@ module _ {K V : Type 0} where
     pub leaf : IsDown gap root (child_at n (get_or gap level 0)) (level + 1)
     pub levels : IsLevelled 1 n
 
-  pub near : (m : Map K V) (gap : List ℕ) (n : Node K V) → IsSoundMap m → IsGapIn m gap → IsAbove m gap (Some n) → 0 < length (entries m) → IsNear m gap n
+  near : (m : Map K V) (gap : List ℕ) (n : Node K V) → IsSoundMap m → IsGapIn m gap → IsAbove m gap (Some n) → 0 < length (entries m) → IsNear m gap n
   near None gap n o g a k = absurd (omega arith)
   near (Some root) gap n o g a k =
       let b = a root refl in
@@ -483,6 +359,25 @@ module _ {K V : Type 0} where
       let c = down_child gap root n (length gap - 1 - 1) d (omega arith) in
       let low : length gap - (length gap - 1 - 1) - 1 ≡ 1 = omega arith in
       record { root = root; is = refl; level = length gap - 1 - 1; long = omega arith; way = d; leaf = down gap o.0 (length gap - 1 - 1 + 1) root _ o.2.1 g (omega arith) c.1; levels = subst (λ h. IsLevelled h n) low d.levels }
+
+  -- The same by the last steps as they are read.
+  pub record IsNearStep (m : Map K V) (gap : List ℕ) (n : Node K V) (last place : ℕ) : Type 0 where
+    pub way : IsNear m gap n
+    pub above : last - 1 ≡ way.level
+    pub end : last ≡ way.level + 1
+    pub step : place ≡ get_or gap way.level 0
+    pub within : place ≤ length (own_pairs n)
+    pub inner : length (children_of n) ≡ length (own_pairs n) + 1
+    pub fits : length (own_pairs n) ≤ capacity
+
+  pub near_step : (m : Map K V) (gap : List ℕ) (n : Node K V) (last place : ℕ) → IsSoundMap m → IsGapIn m gap → IsAbove m gap (Some n) → 0 < length (entries m) → last ≡ length gap - 1 → place ≡ get_or gap (last - 1) 0 → IsNearStep m gap n last place
+  near_step m gap n last place o g a some e f =
+      let x = near m gap n o g a some in
+      let long = x.long in
+      let above : last - 1 ≡ x.level = omega arith in
+      let step = f ∙ ap (λ k. get_or gap k 0) above in
+      let within = x.way.within in
+      record { way = x; above = above; end = omega arith; step = step; within = omega arith; inner = x.levels.1; fits = x.levels.0 }
 
   module _ (m : Map K V) (gap mid new : List ℕ) (n : Node K V) (x : IsNear m gap n) where
     before_way : length (before_gap gap x.root) ≡ length (before_gap (take x.level gap) x.root) + length (before_child n (get_or gap x.level 0)) + length (before_child (child_at n (get_or gap x.level 0)) (get_or gap (x.level + 1) 0))

@@ -1,5 +1,5 @@
 //! Steps of a walk's ends from leaf to leaf: each takes all pairs of its leaf at once, as far as the other end.
-ghost use Rattle.std.specs.Prelude.{option_copied, ◌≡◌, ◌+◌, ◌-◌, ◌<◌, ◌≤◌, ◌↔◌, [], ◌∷◌, ◌++◌, length, take, Some, IsTrue, slice_get, slice_index, slice_range};
+ghost use Rattle.std.specs.Prelude.{option_copied, ◌≡◌, ◌+◌, ◌-◌, ◌<◌, ◌≤◌, ◌↔◌, [], ◌∷◌, ◌++◌, length, take, Some, IsTrue, slice_get, slice_index, slice_range, if◌then◌else◌};
 ghost use Rattle.fc_tree_node.specs.Leaf.{leaf_at};
 ghost use Rattle.fc_tree_node.specs.LeafGap.{IsLeafGap};
 ghost use Rattle.fc_tree_node.specs.Node.{own_pairs, pairs_of, IsLevelled, IsTree};
@@ -53,6 +53,19 @@ fn is_same_leaf(a: &Path, b: &Path) -> bool
     true
 }
 
+// How far an end of a walk may go in its leaf: to the other end, where that is in the leaf too, or else to the leaf's end. And whether it is there.
+fn reach(end: &Path, other: &Path, leaf_end: usize) -> (usize, bool)
+    requires some { 0 < length end.now }
+    requires long { length end.now ≡ length other.now }
+    ensures met { IsTrue result.1 ↔ (take (length end.now - 1) end.now ≡ take (length end.now - 1) other.now) }
+    ensures place { result.0 ≡ (if result.1 then slice_index other.now (length end.now - 1) else leaf_end) }
+{
+    if is_same_leaf(end, other) {
+        return (other.step(end.len() - 1), true);
+    }
+    (leaf_end, false)
+}
+
 /// Takes the pairs of the front's leaf from its gap on, as far as the back, and goes on after them. It answers them, and whether
 /// the front has then met the back.
 pub fn take_first_of<'a, K, V>(
@@ -72,16 +85,11 @@ pub fn take_first_of<'a, K, V>(
     let Some(_node) = root else {
         return (&[], true);
     };
+    let (end, has_met) = reach(front, back, leaf.len());
     let last = front.len() - 1;
     let start = front.step(last);
-    if is_same_leaf(front, back) {
-        let end = back.step(last);
-        front.set(last, end);
-        return (part(leaf, start, end), true);
-    }
-    let end = leaf.len();
     front.set(last, end);
-    (part(leaf, start, end), false)
+    (part(leaf, start, end), has_met)
 }
 
 /// Takes the pairs of the back's leaf before its gap, as far as the front, and goes back before them. It answers them, and
@@ -103,15 +111,11 @@ pub fn take_last_of<'a, K, V>(
     let Some(_node) = root else {
         return (&[], true);
     };
+    let (start, has_met) = reach(back, front, 0);
     let last = back.len() - 1;
     let end = back.step(last);
-    if is_same_leaf(back, front) {
-        let start = front.step(last);
-        back.set(last, start);
-        return (part(leaf, start, end), true);
-    }
-    back.set(last, 0);
-    (part(leaf, 0, end), false)
+    back.set(last, start);
+    (part(leaf, start, end), has_met)
 }
 
 // The one node and its level, or the other where it has a pair.

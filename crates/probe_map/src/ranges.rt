@@ -1,6 +1,6 @@
 //! Ranges from both ends, against the numbers that their bounds let in.
 use crate::Map;
-use crate::answer::{Answer, UNKNOWN, WRONG, number_if, whether};
+use crate::answer::{Answer, UNKNOWN, number_if, whether};
 use crate::walks::{Walk, both_go_on, follows, gives_some, is_pair};
 use crate::whole::is_fresh;
 use crate::writes::is_written;
@@ -99,19 +99,17 @@ pub(crate) fn run<'a>(map: &mut Map<'a>, world: World<'a>, row: &Row) -> Answer 
     }
 }
 
-// How many pairs lie between the bounds, if the range is taken as upstream takes it and each form of it gives just these.
+// How many pairs lie between the bounds, if each form of the range gives just these: none where upstream does not take the bounds.
 fn range<'a>(map: &Map<'a>, bounds: &Bounds<'a>, wanted: Stretch) -> Answer {
-    if !bounds.are_taken() {
-        return if is_range(&bounds.lo(), &bounds.hi()) {
-            WRONG
-        } else {
-            Answer::Text("-")
-        };
-    }
-    let is_right = meets(map, bounds, wanted, FORTH)
+    let is_taken = bounds.are_taken();
+    let is_right = is_range(&bounds.lo(), &bounds.hi()) == is_taken
+        && meets(map, bounds, wanted, FORTH)
         && meets(map, bounds, wanted, BACK)
         && meets(map, bounds, wanted, BACK_FIRST)
         && meets(map, bounds, wanted, RAGGED);
+    if is_right && !is_taken {
+        return Answer::Text("-");
+    }
     number_if(is_right, wanted.count)
 }
 
@@ -134,12 +132,9 @@ impl Walk for Range<'_, Item<'_>, Item<'_>> {
     }
 }
 
-// Whether the bounds are a range that gives the numbers. Its steps compare nothing.
+// Whether the range between the bounds gives the numbers. Its steps compare nothing.
 fn meets<'a>(map: &Map<'a>, bounds: &Bounds<'a>, wanted: Stretch, turns: Turns) -> bool {
     let (lo, hi) = (bounds.lo(), bounds.hi());
-    if !is_range(&lo, &hi) {
-        return false;
-    }
     let comparisons = bounds.comparisons();
     let mut range = map.range((lo, hi));
     comparisons.set(0);
@@ -149,9 +144,6 @@ fn meets<'a>(map: &Map<'a>, bounds: &Bounds<'a>, wanted: Stretch, turns: Turns) 
 // Whether a clone and its source each give what is left when so many were taken at either end, and compare nothing.
 fn is_cloned<'a>(map: &Map<'a>, bounds: &Bounds<'a>, wanted: Stretch, skipped: u64) -> bool {
     let (lo, hi) = (bounds.lo(), bounds.hi());
-    if !is_range(&lo, &hi) {
-        return false;
-    }
     let comparisons = bounds.comparisons();
     let mut range = map.range((lo, hi));
     comparisons.set(0);
@@ -178,9 +170,6 @@ fn is_lent<'a>(
 // Only the searches for the two ends compare.
 fn writes<'a>(map: &mut Map<'a>, bounds: &Bounds<'a>, wanted: Stretch, turns: Turns) -> bool {
     let (lo, hi) = (bounds.lo(), bounds.hi());
-    if !is_range(&lo, &hi) {
-        return false;
-    }
     let comparisons = bounds.comparisons();
     let mut walk = map.range_mut((lo, hi));
     comparisons.set(0);
@@ -195,9 +184,6 @@ fn is_visited<'a>(map: &mut Map<'a>, world: World<'a>, bounds: &Bounds<'a>, all:
 
 fn visits<'a>(map: &mut Map<'a>, bounds: &Bounds<'a>, wanted: Stretch) -> bool {
     let (lo, hi) = (bounds.lo(), bounds.hi());
-    if !is_range(&lo, &hi) {
-        return false;
-    }
     let mut place = 0u64;
     let mut right = true;
     map.range_mut((lo, hi)).for_each(|key, value| {

@@ -7,10 +7,16 @@
 #[cfg(test)]
 mod collected;
 #[cfg(test)]
+mod first_uses;
+#[cfg(test)]
 mod kinds;
 #[cfg(test)]
 mod nested;
 #[cfg(test)]
+mod prefixes;
+#[cfg(test)]
 mod sizes;
 #[cfg(test)]
 mod tagged;
+#[cfg(test)]
+mod words;

@@ -4,6 +4,7 @@
 //! its calls and compares what it has seen at the end.
 #![tactic(auto)]
 
+mod scratch;
 #[cfg(test)]
 mod calls;
 #[cfg(test)]

@@ -24,6 +24,7 @@ impl<K: Ord + Drop, V: Drop> BTreeMap<K, V> {
         ensures error { IfErr result (MayAppendRefuse (length (entries self.old)) (length (entries other.old))) }
         ensures full { 0 < length (entries self.old) → 0 < length (entries other.old) → usize.MAX < length (entries self.old) + length (entries other.old) → IsErr result }
         ensures ascending { IsAscending K.cmp (entries self.new) }
+        ensures ascended { IsAscending K.cmp (entries self.old) × IsAscending K.cmp (entries other.old) }
         ensures sound { IsSoundMap self.new }
     {
         self.append_counted(other, &mut Count::new())
@@ -45,6 +46,7 @@ impl<K: Ord + Drop, V: Drop> BTreeMap<K, V> {
         ensures error { IfErr result (MayAppendRefuse (length (entries self.old)) (length (entries other.old))) }
         ensures full { 0 < length (entries self.old) → 0 < length (entries other.old) → usize.MAX < length (entries self.old) + length (entries other.old) → IsErr result }
         ensures ascending { IsAscending K.cmp (entries self.new) }
+        ensures ascended { IsAscending K.cmp (entries self.old) × IsAscending K.cmp (entries other.old) }
         ensures sound { IsSoundMap self.new }
         ensures comparisons { count.new.comparisons ≤ count.old.comparisons + (length (entries self.old) + length (entries other.old)) }
         ensures none { (entries self.old ≡ []) ⊎ (entries other.old ≡ []) → count.new.comparisons ≡ count.old.comparisons }

@@ -24,6 +24,7 @@ impl<K: Ord + Drop, V: Drop> BTreeMap<K, V> {
         ensures unchanged { IfErr result (λ _. self.new ≡ self.old) }
         ensures error { IfErr result (λ e. (e ≡ TryReserveError.AllocError) × (0 < length (entries self.old))) }
         ensures ascending { IsAscending K.cmp (entries self.new) × IfOk result (λ rest. IsAscending K.cmp (entries rest)) }
+        ensures ascended { IsAscending K.cmp (entries self.old) }
         ensures sound { IsSoundMap self.new × IfOk result (λ rest. IsSoundMap rest) }
     {
         if self.len == 0 {

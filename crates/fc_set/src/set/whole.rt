@@ -28,6 +28,7 @@ impl<T: Ord + Drop> BTreeSet<T> {
         ensures error { IfErr result (MayAppendRefuse (length (items self.old)) (length (items other.old))) }
         ensures full { 0 < length (items self.old) → 0 < length (items other.old) → usize.MAX < length (items self.old) + length (items other.old) → IsErr result }
         ensures ascending { AreAscending T.cmp (items self.new) }
+        ensures ascended { AreAscending T.cmp (items self.old) × AreAscending T.cmp (items other.old) }
         ensures sound { IsSoundMap self.new }
     {
         self.append_counted(other, &mut Count::new())
@@ -49,6 +50,7 @@ impl<T: Ord + Drop> BTreeSet<T> {
         ensures error { IfErr result (MayAppendRefuse (length (items self.old)) (length (items other.old))) }
         ensures full { 0 < length (items self.old) → 0 < length (items other.old) → usize.MAX < length (items self.old) + length (items other.old) → IsErr result }
         ensures ascending { AreAscending T.cmp (items self.new) }
+        ensures ascended { AreAscending T.cmp (items self.old) × AreAscending T.cmp (items other.old) }
         ensures sound { IsSoundMap self.new }
         ensures comparisons { count.new.comparisons ≤ count.old.comparisons + (length (items self.old) + length (items other.old)) }
         ensures none { (items self.old ≡ []) ⊎ (items other.old ≡ []) → count.new.comparisons ≡ count.old.comparisons }
@@ -70,6 +72,7 @@ impl<T: Ord + Drop> BTreeSet<T> {
         ensures unchanged { IfErr result (λ _. self.new ≡ self.old) }
         ensures error { IfErr result (λ e. (e ≡ TryReserveError.AllocError) × (0 < length (items self.old))) }
         ensures ascending { AreAscending T.cmp (items self.new) × IfOk result (λ rest. AreAscending T.cmp (items rest)) }
+        ensures ascended { AreAscending T.cmp (items self.old) }
         ensures sound { IsSoundMap self.new × IfOk result (λ rest. IsSoundMap rest) }
     {
         let map = self.map.split_off(item)?;

@@ -5,6 +5,7 @@ ghost use Rattle.fc_base.specs.declared.try_reserve_error.TryReserveError.{TryRe
 ghost use Rattle.fc_vec.specs.Items.{GivesAll, GivesFirst};
 
 use super::fallible_vec::FallibleVec;
+use super::try_vec::TryVec;
 use fc_base::TryReserveError;
 use std::alloc::Global;
 
@@ -46,6 +47,24 @@ impl<I: Drop> TryFromIterator<I> for Vec<I> {
             made.try_push(item)?;
         }
         Ok(made)
+    }
+}
+
+/// A vector of the items that the iterator gives, in order, put in one after another. Upstream: `TryFromIterator` for `Vec`.
+///
+/// # Errors
+/// `AllocError` where the room for an item was refused.
+impl<I: Drop> TryFromIterator<I> for TryVec<I> {
+    ghost made_of = { λ all v. v.items ≡ all };
+
+    ghost may_refuse = { λ taken e. (0 < length taken) × (e ≡ TryReserveError.AllocError) };
+
+    fn try_from_iterator<T: IntoIterator<Item = I>>(
+        alloc: Global,
+        iter: T,
+    ) -> Result<TryVec<I>, TryReserveError> {
+        let made: Vec<I> = TryFromIterator::try_from_iterator(alloc, iter)?;
+        Ok(TryVec::from(made))
     }
 }
 

@@ -1,14 +1,18 @@
 //! A vector each of whose calls that take memory answers an error where it is refused.
 ghost use Rattle.std.specs.Prelude.{◌≡◌, ◌+◌, ◌-◌, ◌^◌, ◌<◌, ◌≤◌, ◌⊎◌, ◌↔◌, [], ◌∷◌, ◌++◌, length, take, OnOk, IfOk, IfErr, IsOk, IsTrue, IsSome, vec_capacity};
-ghost use Rattle.std.specs.List.{AppendsResults};
+ghost use Rattle.std.specs.List.{AppendsResults, insert};
 ghost use Rattle.std.specs.Option.{option_to_list};
 ghost use Rattle.fc_vec.specs.Vectors.{MayRefuse, IsExtended, IsCopiedUpTo};
 
 mod compare;
 mod copy;
 mod debug;
+mod drain;
 mod iter;
 mod lend;
+mod order;
+mod places;
+mod removal;
 mod std_io;
 
 use super::fallible_vec::FallibleVec;
@@ -120,6 +124,22 @@ impl<T> TryVec<T> {
         self.inner.try_push(value)
     }
 
+    /// Puts the item at `index`, which is at most the length; those from there on move up by one place. Not in upstream: it is that of
+    /// std's vector, which panics past the end, and `FallibleVec::try_insert` for `Vec`.
+    ///
+    /// # Errors
+    /// As `reserve` for one item. The vector is then as before, and the item comes back.
+    pub fn insert(&mut self, index: usize, element: T) -> Result<(), (T, TryReserveError)>
+        requires { index ≤ length self.old.items }
+        ensures inserted { OnOk result (self.new.items ≡ insert self.old.items index element) }
+        ensures kept { self.old.room ≤ self.new.room }
+        ensures fits { length self.old.items < self.old.room → IsOk result × (self.new.room ≡ self.old.room) }
+        ensures given_back { IfErr result (λ e. e.0 ≡ element) }
+        ensures error { IfErr result (λ e. MayRefuse self.old.room (length self.old.items) 1 e.1 × (self.new ≡ self.old)) }
+    {
+        self.inner.try_insert(index, element)
+    }
+
     /// Takes out the last item; `None` where there is none. Upstream: `TryVec::pop`.
     pub fn pop(&mut self) -> Option<T>
         ensures popped { self.old.items ≡ self.new.items ++ option_to_list result }
@@ -190,6 +210,15 @@ impl<T> TryVec<T> {
         ensures error { IfErr result (λ e. (MayRefuse self.old.room (length self.old.items) (length other.now) e × (self.new ≡ self.old)) ⊎ IsCopiedUpTo T.same T.may_refuse e self.old.items other.now self.new.items) }
     {
         self.inner.try_extend_from_slice_no_copy(other)
+    }
+
+    /// The vector of std's, with its items and room, handed out. Upstream: `From<TryVec<T>> for Vec<T>`.
+    pub fn into_vec(self) -> Vec<T>
+        ensures items { result.items ≡ self.items }
+        ensures room { vec_capacity result ≡ self.room }
+    {
+        let TryVec { inner } = self;
+        inner
     }
 }
 

@@ -1,105 +1,35 @@
-use Rattle.std.proofs.Common.{◌≡◌, ◌-◌, ◌≤◌, ◌++◌, length, get_or, take, true, false, refl, rules, arith, sym, ap, subst, ◌∙◌}
-use Rattle.std.specs.Prelude.{slice_range, slice_set}
-use Rattle.fc_base.specs.Sizes.{capacity}
+use Rattle.std.proofs.Common.{◌-◌, ◌++◌, length, get_or, arith, sym, ap, subst, ◌∙◌}
+use Rattle.std.specs.Prelude.{if◌then◌else◌, slice_range, slice_set}
 use Rattle.fc_tree_node.specs.Node.{own_pairs}
 use Rattle.fc_tree_node.specs.Tree.{root_of}
 use Rattle.fc_tree_walk.specs.Gap.{AreEndsIn}
 use Rattle.fc_tree_walk.specs.Span.{between}
-use Rattle.fc_tree_walk.proofs.GapFacts.{gap_small}
-use Rattle.fc_tree_walk.proofs.Leaves.{front_met, front_apart}
+use Rattle.fc_tree_walk.proofs.Leaves.{front_takes}
 use Rattle.fc_tree_walk.proofs.run.take_first_of.Goals as goal
 
 pub set-requires-clause-small : goal.set-requires-clause-small
 set-requires-clause-small g c =
-    let m = root_of c.args.root.now in
-    let front = c.args.front.now in
-    let back = c.args.back.now in
-    let n = c.in-Some._node.value in
-    let leaf = c.args.leaf.now in
-    let last = c.len-last.result - 1 in
-    let is = ap root_of c.in-Some.is in
-    let at = c.requires.leaf n is in
-    let la = ap (λ k. k - 1) c.len-last.ensures.value in
-    let r = front_met m n leaf front back last is c.requires.sound c.requires.ends at la (subst (λ k. take k front ≡ take k back) (sym la) (c.is_same_leaf.ensures.0 c.if-is_same_leaf.true)) in
-    let o = r.0.fits in
-    let k = c.step-end.ensures in
-    let long = c.requires.ends.0 in
-    let small : get_or back last 0 ≤ capacity = gap_small m back last c.requires.sound c.requires.ends.1 (search rules) in
-    omega (arith, small, k)
+    let r = front_takes (root_of c.args.root.now) _ c.args.leaf.now c.args.front.now c.args.back.now (c.len-last.result - 1) _ _ (ap root_of c.in-Some.is) c.requires.sound c.requires.ends (c.requires.leaf _ (ap root_of c.in-Some.is)) (ap (λ k. k - 1) c.len-last.ensures.value) c.reach-end.ensures.met (c.reach-end.ensures.place ∙ ap (λ k. if c.reach-end.result.1 then get_or c.args.back.now (length c.args.front.now - 1) 0 else k) c.len.ensures.value) in
+    let fits = r.0.fits in
+    let full = c.len.ensures in
+    omega (arith, fits, full.value, full.fits)
 
 pub part-requires : goal.part-requires
 part-requires g c =
-    let m = root_of c.args.root.now in
-    let front = c.args.front.now in
-    let back = c.args.back.now in
-    let n = c.in-Some._node.value in
-    let leaf = c.args.leaf.now in
-    let last = c.len-last.result - 1 in
-    let is = ap root_of c.in-Some.is in
-    let at = c.requires.leaf n is in
-    let la = ap (λ k. k - 1) c.len-last.ensures.value in
-    let r = front_met m n leaf front back last is c.requires.sound c.requires.ends at la (subst (λ k. take k front ≡ take k back) (sym la) (c.is_same_leaf.ensures.0 c.if-is_same_leaf.true)) in
-    let a = r.0.order in
-    let b = r.0.fits in
+    let r = front_takes (root_of c.args.root.now) _ c.args.leaf.now c.args.front.now c.args.back.now (c.len-last.result - 1) _ _ (ap root_of c.in-Some.is) c.requires.sound c.requires.ends (c.requires.leaf _ (ap root_of c.in-Some.is)) (ap (λ k. k - 1) c.len-last.ensures.value) c.reach-end.ensures.met (c.reach-end.ensures.place ∙ ap (λ k. if c.reach-end.result.1 then get_or c.args.back.now (length c.args.front.now - 1) 0 else k) c.len.ensures.value) in
+    let o = r.0.order in
     let i = c.step-start.ensures in
-    let j = c.step-end.ensures in
-    record { order = omega arith; fits = omega arith }
-
-pub returns-then-is_same_leaf : goal.returns-then-is_same_leaf
-returns-then-is_same_leaf g c =
-    let m = root_of c.args.root.now in
-    let front = c.args.front.now in
-    let back = c.args.back.now in
-    let n = c.in-Some._node.value in
-    let leaf = c.args.leaf.now in
-    let last = c.len-last.result - 1 in
-    let is = ap root_of c.in-Some.is in
-    let at = c.requires.leaf n is in
-    let la = ap (λ k. k - 1) c.len-last.ensures.value in
-    let r = front_met m n leaf front back last is c.requires.sound c.requires.ends at la (subst (λ k. take k front ≡ take k back) (sym la) (c.is_same_leaf.ensures.0 c.if-is_same_leaf.true)) in
-    let new = c.set.ensures ∙ ap (slice_set front last) c.step-end.ensures in
-    let run = c.part.ensures ∙ ap (λ i. slice_range (own_pairs leaf) i c.step-end.result) c.step-start.ensures ∙ ap (slice_range (own_pairs leaf) (get_or front last 0)) c.step-end.ensures in
-    record {
-      leaf = (_, new ∙ ap (λ k. slice_set front k (get_or back last 0)) la);
-      ends = subst (λ p. AreEndsIn m p back) (sym new) r.0.ends;
-      run = r.0.run ∙ ap (λ xs. xs ++ between m (slice_set front last (get_or back last 0)) back) (sym run) ∙ ap (λ p. c.part.result.now ++ between m p back) (sym new);
-      met = (λ _. ap (λ p. between m p back) new ∙ r.1, λ _. refl);
-    }
-
-pub part-requires-2 : goal.part-requires-2
-part-requires-2 g c =
-    let m = root_of c.args.root.now in
-    let front = c.args.front.now in
-    let back = c.args.back.now in
-    let n = c.in-Some._node.value in
-    let leaf = c.args.leaf.now in
-    let last = c.len-last.result - 1 in
-    let is = ap root_of c.in-Some.is in
-    let at = c.requires.leaf n is in
-    let la = ap (λ k. k - 1) c.len-last.ensures.value in
-    let r = front_apart m n leaf front back last is c.requires.sound c.requires.ends at la (λ e. absurd (let no : false ≡ true = sym c.if-is_same_leaf.false ∙ c.is_same_leaf.ensures.1 (subst (λ k. take k front ≡ take k back) la e) in cc)) in
-    let a = r.0.order in
-    let i = c.step-start.ensures in
-    let j = c.len-end.ensures.value in
-    record { order = omega arith; fits = omega arith }
+    record { order = omega arith; fits = r.0.fits }
 
 pub returns : goal.returns
 returns g c =
+    let r = front_takes (root_of c.args.root.now) _ c.args.leaf.now c.args.front.now c.args.back.now (c.len-last.result - 1) _ _ (ap root_of c.in-Some.is) c.requires.sound c.requires.ends (c.requires.leaf _ (ap root_of c.in-Some.is)) (ap (λ k. k - 1) c.len-last.ensures.value) c.reach-end.ensures.met (c.reach-end.ensures.place ∙ ap (λ k. if c.reach-end.result.1 then get_or c.args.back.now (length c.args.front.now - 1) 0 else k) c.len.ensures.value) in
     let m = root_of c.args.root.now in
-    let front = c.args.front.now in
-    let back = c.args.back.now in
-    let n = c.in-Some._node.value in
-    let leaf = c.args.leaf.now in
     let last = c.len-last.result - 1 in
-    let is = ap root_of c.in-Some.is in
-    let at = c.requires.leaf n is in
-    let la = ap (λ k. k - 1) c.len-last.ensures.value in
-    let r = front_apart m n leaf front back last is c.requires.sound c.requires.ends at la (λ e. absurd (let no : false ≡ true = sym c.if-is_same_leaf.false ∙ c.is_same_leaf.ensures.1 (subst (λ k. take k front ≡ take k back) la e) in cc)) in
-    let new = c.set-2.ensures ∙ ap (slice_set front last) c.len-end.ensures.value in
-    let run = c.part-2.ensures ∙ ap (λ i. slice_range (own_pairs leaf) i c.len-end.result) c.step-start.ensures ∙ ap (slice_range (own_pairs leaf) (get_or front last 0)) c.len-end.ensures.value in
+    let part = c.part.ensures ∙ ap (λ i. slice_range (own_pairs c.args.leaf.now) i c.reach-end.result.0) c.step-start.ensures in
     record {
-      leaf = (_, new ∙ ap (λ k. slice_set front k (length (own_pairs leaf))) la);
-      ends = subst (λ p. AreEndsIn m p back) (sym new) r.0.ends;
-      run = r.0.run ∙ ap (λ xs. xs ++ between m (slice_set front last (length (own_pairs leaf))) back) (sym run) ∙ ap (λ p. c.part-2.result.now ++ between m p back) (sym new);
-      met = (λ t. absurd (let no : false ≡ true = t in cc), λ e. absurd (r.1 (ap (λ p. between m p back) (sym new) ∙ e)));
+      leaf = (_, c.set.ensures ∙ ap (λ k. slice_set c.args.front.now k c.reach-end.result.0) (ap (λ k. k - 1) c.len-last.ensures.value));
+      ends = subst (λ p. AreEndsIn m p c.args.back.now) (sym c.set.ensures) r.0.ends;
+      run = r.0.run ∙ ap (λ xs. xs ++ between m (slice_set c.args.front.now last c.reach-end.result.0) c.args.back.now) (sym part) ∙ ap (λ p. c.part.result.now ++ between m p c.args.back.now) (sym c.set.ensures);
+      met = (λ t. ap (λ p. between m p c.args.back.now) c.set.ensures ∙ r.1.0 t, λ e. r.1.1 (ap (λ p. between m p c.args.back.now) (sym c.set.ensures) ∙ e));
     }

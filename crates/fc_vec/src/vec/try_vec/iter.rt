@@ -1,17 +1,19 @@
 //! Walks over a vector.
 ghost use Rattle.std.specs.Prelude.{◌≡◌, ◌^◌, ◌<◌, length, IfSome, Some};
 ghost use Rattle.std.specs.Iterator.Runs.{EveryRun, ItemsAre, ItemsMapTo};
-ghost use Rattle.std.specs.Iterator.{YieldsFirstBy, item_count, at_most, UpTo};
+ghost use Rattle.std.specs.Iterator.{YieldsFirstBy, YieldsLastBy, item_count, at_most, UpTo};
 ghost use Rattle.std.specs.Iterator.SizeHint.{IsWithinCount};
 ghost use Rattle.std.specs.declared.alloc.Global.{Global};
 ghost use Rattle.std.specs.Vec.Iter.{into_iter_items, into_iter_len, into_iter_steps};
 ghost use Rattle.std.specs.Slice.Iter.{iter_rest, iter_steps};
 
 use super::TryVec;
+use std::iter::FusedIterator;
 use std::marker::Model;
 use std::{slice, vec};
 
-/// The items that are still to come, in order. Upstream: `vec::Iter`.
+/// The items that are still to come, in order. `next` gives the first of them and `next_back` the last; once there is none, both answer
+/// `None` ever after. Upstream: `vec::Iter`.
 #[derive(Drop)]
 pub struct Iter<'a, T> {
     rest: &'a [T],
@@ -26,7 +28,7 @@ impl<'a, T> Model for Iter<'a, T> {
 }
 
 impl<T> TryVec<T> {
-    /// A walk over the items, in order. Upstream: `TryVec::iter`.
+    /// A walk over the items, from both ends. Upstream: `TryVec::iter`.
     pub fn iter(&self) -> Iter<'_, T>
         ensures { result ≡ self.now.items }
     {
@@ -58,6 +60,24 @@ impl<'a, T> Iterator for Iter<'a, T> {
         (left, Some(left))
     }
 }
+
+impl<'a, T> DoubleEndedIterator for Iter<'a, T> {
+    ghost next_back_gives = { YieldsLastBy (λ r. r.now) (λ s. s) };
+
+    fn next_back(&mut self) -> Option<&'a T> {
+        let (last, rest) = self.rest.split_last()?;
+        self.rest = rest;
+        Some(last)
+    }
+}
+
+impl<'a, T> ExactSizeIterator for Iter<'a, T> {
+    fn len(&self) -> usize {
+        self.rest.len()
+    }
+}
+
+impl<'a, T> FusedIterator for Iter<'a, T> {}
 
 /// The items by value, in order: std's walk, which drops what it did not give.
 impl<T: Drop> IntoIterator for TryVec<T> {

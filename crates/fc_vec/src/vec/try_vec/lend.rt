@@ -1,11 +1,14 @@
 //! A vector's items, lent for writing.
-ghost use Rattle.std.specs.Prelude.{◌≡◌, ◌^◌, ◌<◌, length};
+ghost use Rattle.std.specs.Prelude.{◌≡◌, ◌-◌, ◌^◌, ◌<◌, length, slice_get, slice_index_or};
 ghost use Rattle.std.specs.Borrow.{sem};
+ghost use Rattle.std.specs.Option.{option_copied_mut};
+ghost use Rattle.std.specs.List.{ItemMut, IsItemAtMut};
 ghost use Rattle.std.specs.Iterator.Runs.{EveryRun, ItemsMapTo};
 ghost use Rattle.std.specs.Slice.Iter.{iter_mut_rest, iter_mut_steps};
-ghost use Rattle.fc_vec.specs.Lends.{lends_slice, lends_walk};
+ghost use Rattle.fc_vec.specs.Lends.{lends_slice, lends_walk, lends_item, lends_get};
 
 use super::TryVec;
+use std::ops::IndexMut;
 use std::slice;
 
 impl<T> TryVec<T> {
@@ -24,5 +27,43 @@ impl<T> TryVec<T> {
         ensures runs { EveryRun (iter_mut_steps {A = T}) (λ p. ItemsMapTo p (λ x. x.now) (iter_mut_rest p.from)) }
     {
         self.as_mut_slice().iter_mut()
+    }
+
+    /// The item at `index`, for writing; `None` from the length on. Upstream: `get_mut` of the slice.
+    pub fn get_mut(&mut self, index: usize) -> Option<&mut T>
+        ensures* writes_back { sem 𝓛 (lends_get T.row self.entry index result) }
+        ensures value { option_copied_mut result ≡ slice_get self.old.items index }
+        ensures item { IsItemAtMut self.old.items index result }
+    {
+        self.inner.get_mut(index)
+    }
+
+    /// The first item, for writing; `None` where there is none. Upstream: `first_mut` of the slice.
+    pub fn first_mut(&mut self) -> Option<&mut T>
+        ensures* writes_back { sem 𝓛 (lends_get T.row self.entry 0 result) }
+        ensures value { option_copied_mut result ≡ slice_get self.old.items 0 }
+        ensures item { IsItemAtMut self.old.items 0 result }
+    {
+        self.inner.first_mut()
+    }
+
+    /// The last item, for writing; `None` where there is none. Upstream: `last_mut` of the slice.
+    pub fn last_mut(&mut self) -> Option<&mut T>
+        ensures* writes_back { sem 𝓛 (lends_get T.row self.entry (length self.old.items - 1) result) }
+        ensures value { option_copied_mut result ≡ slice_get self.old.items (length self.old.items - 1) }
+        ensures item { ItemMut self.old.items 0 (length self.old.items - 1) result }
+    {
+        self.inner.last_mut()
+    }
+}
+
+/// The item at a place below the length, for writing: a condition on the caller, where upstream panics.
+impl<T> IndexMut<usize> for TryVec<T> {
+    fn index_mut(&mut self, index: usize) -> &mut T
+        requires { index < length self.old.items }
+        ensures* writes_back { sem 𝓛 (lends_item T.row self.entry index result) }
+        ensures value { result.now ≡ slice_index_or self.old.items index result.now }
+    {
+        &mut self.inner[index]
     }
 }

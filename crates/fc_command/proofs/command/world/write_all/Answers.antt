@@ -14,7 +14,7 @@ pub loop-end-init : goal.loop-end-init
 loop-end-init g c =
     let start = c.range_mut-walk.ensures.start in
     let all : into_iter_items c.into_iter-end-iterator.result ≡ c.args.writes.items = search rules in
-    let places = ap (λ (t : Stretch g.row.K.Denot g.row.V.Denot). t.back - t.front) start ∙ places_within g.met.K.Ord.total _ _ c.requires (entries c.args.map.now) in
+    let places = ap (λ (t : Stretch g.row.K.Denot g.row.V.Denot). t.back - t.front) start ∙ places_within g.K.Ord.cmp _ _ (entries c.args.map.now) in
     record {
       same_map = refl;
       all = sym all;

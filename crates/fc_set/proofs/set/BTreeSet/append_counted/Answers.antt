@@ -14,3 +14,8 @@ returns-clause-none g c = rw (← c.self.view_is) (rw (← c.other.view_is) (λ 
 
 pub returns-clause-counted : goal.returns-clause-counted
 returns-clause-counted g c = rw (← c.self.view_is) (rw (← c.other.view_is) (rw (keys_length (entries c.self.inside.map), keys_length (entries c.other.inside.map)) c.append_counted.ensures.counted))
+
+pub returns-clause-ascended : goal.returns-clause-ascended
+returns-clause-ascended g c =
+    let a = c.append_counted.ensures.ascended in
+    rw (← c.self.view_is) (rw (← c.other.view_is) (ascending_keys g.T.Ord.cmp (entries c.self.inside.map) a.0, ascending_keys g.T.Ord.cmp (entries c.other.inside.map) a.1))

@@ -15,3 +15,9 @@ returns-clause-ascending g c = (ascending_keys g.T.Ord.cmp _ c.in_ok-map.ensures
 
 pub returns-in_err-map-clause-ascending : goal.returns-in_err-map-clause-ascending
 returns-in_err-map-clause-ascending g c = let p = err_from_is_err_and c.from_residual.result c.from_residual.ensures.1 in (ascending_keys g.T.Ord.cmp _ c.in_err-map.ensures.ascending.0, rw p.1 tt)
+
+pub returns-clause-ascended : goal.returns-clause-ascended
+returns-clause-ascended g c = rw (← c.self.view_is) (ascending_keys g.T.Ord.cmp (entries c.self.inside.map) c.in_ok-map.ensures.ascended)
+
+pub returns-in_err-map-clause-ascended : goal.returns-in_err-map-clause-ascended
+returns-in_err-map-clause-ascended g c = rw (← c.self.view_is) (ascending_keys g.T.Ord.cmp (entries c.self.inside.map) c.in_err-map.ensures.ascended)

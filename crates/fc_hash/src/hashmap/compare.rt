@@ -1,0 +1,18 @@
+//! Equality of hashed maps: that of their pairs, in whatever order.
+ghost use Rattle.fc_hash.specs.EqualMaps.{equal_maps_per};
+ghost use Rattle.fc_hash.specs.Pairs.{are_equal};
+
+use super::TryHashMap;
+use std::hash::Hash;
+
+/// Equal are maps that have an equal value at each key of either, whatever the order of their pairs. Not in upstream: it is that of std's
+/// map.
+impl<K: Eq + Hash, V: PartialEq> PartialEq for TryHashMap<K, V> {
+    ghost eq = { λ m n. are_equal K.eq V.eq m.pairs n.pairs };
+
+    ghost laws = { equal_maps_per K.Eq.laws V.laws };
+
+    fn eq(&self, other: &TryHashMap<K, V>) -> bool {
+        self.inner == other.inner
+    }
+}
