@@ -7,7 +7,6 @@ use Rattle.fc_tree_retain.specs.Retained.{RetainsInTurn, AskedAtKey, GivenKey, E
 use Rattle.fc_set.specs.Retained.{RetainsItems, GivenItem, ExtractsItem}
 
 module _ {F T V : Type 0} (R : F → T × V → F → V → Bool → Type 0) (Q : F → T → Bool → F → Type 0) (step : (s t : F) (e : T × V) (w : V) (b : Bool) → R s e t w b → Q s e.0 b t) where
-
   cond_keys : (b : Bool) (x : T × V) (zs : List (T × V)) → map (λ e. e.0) (cond b (x ∷ zs) zs) ≡ cond b (x.0 ∷ map (λ e. e.0) zs) (map (λ e. e.0) zs)
   cond_keys true x zs = refl
   cond_keys false x zs = refl

@@ -139,13 +139,16 @@ module _ {K V : Type 0} where
       let mo = m.own in
       let kept = l.kept in
       let wl : length (own_pairs (child_at mid place)) ≡ length (own_pairs m.whole) = ap (λ x. length (own_pairs x)) is in
-      inl (q, record {
-        whole = c';
-        children = cs;
-        own = omega arith;
-        thin = l.thin;
-        sound = λ u. thin_sound h c' (enough u (omega arith)) l.thin;
-      })
+      inl (
+        q,
+        record {
+          whole = c';
+          children = cs;
+          own = omega arith;
+          thin = l.thin;
+          sound = λ u. thin_sound h c' (enough u (omega arith)) l.thin;
+        },
+      )
     where
       enough : IsSound h (child_at old i) ⊎ IsSound h (child_at old (i + 1)) → together old i ≤ length (own_pairs c') + 1 → min_len ≤ length (own_pairs c')
       enough (inl a) t = let b = a.0 in omega arith
@@ -168,24 +171,30 @@ module _ {K V : Type 0} where
       go : ((place ≡ i) × (children_of mid ≡ take i (children_of old) ++ m.grown ∷ m.other ∷ D)) ⊎ ((place ≡ i + 1) × (children_of mid ≡ take i (children_of old) ++ m.other ∷ m.grown ∷ D)) → IsSettled h i last old new
       go (inl (p, f)) =
           let is : child_at mid place ≡ m.grown = ap (child_at mid) p ∙ ap (λ cs. get_or cs i mid) f ∙ at_place (take i (children_of old)) (m.other ∷ D) m.grown mid i front in
-          inr (q, record {
-            left = c';
-            right = m.other;
-            children = e ∙ ap (λ j. slice_set (children_of mid) j c') p ∙ ap (λ xs. slice_set xs i c') f ∙ set_place (take i (children_of old)) (m.other ∷ D) m.grown c' i front;
-            own = o ∙ m.own;
-            sound = (enough is, m.sound);
-          })
+          inr (
+            q,
+            record {
+              left = c';
+              right = m.other;
+              children = e ∙ ap (λ j. slice_set (children_of mid) j c') p ∙ ap (λ xs. slice_set xs i c') f ∙ set_place (take i (children_of old)) (m.other ∷ D) m.grown c' i front;
+              own = o ∙ m.own;
+              sound = (enough is, m.sound);
+            },
+          )
       go (inr (p, f)) =
           let f' : children_of mid ≡ (take i (children_of old) ++ m.other ∷ []) ++ m.grown ∷ D = f ∙ sym (append_assoc (take i (children_of old)) (m.other ∷ []) (m.grown ∷ D)) in
           let z : length (take i (children_of old) ++ m.other ∷ []) ≡ i + 1 = length-append (take i (children_of old)) (m.other ∷ []) ∙ ap (λ j. j + 1) front in
           let is : child_at mid place ≡ m.grown = ap (child_at mid) p ∙ ap (λ cs. get_or cs (i + 1) mid) f' ∙ at_place (take i (children_of old) ++ m.other ∷ []) D m.grown mid (i + 1) z in
-          inr (q, record {
-            left = m.other;
-            right = c';
-            children = e ∙ ap (λ j. slice_set (children_of mid) j c') p ∙ ap (λ xs. slice_set xs (i + 1) c') f' ∙ set_place (take i (children_of old) ++ m.other ∷ []) D m.grown c' (i + 1) z ∙ append_assoc (take i (children_of old)) (m.other ∷ []) (c' ∷ D);
-            own = o ∙ m.own;
-            sound = (m.sound, enough is);
-          })
+          inr (
+            q,
+            record {
+              left = m.other;
+              right = c';
+              children = e ∙ ap (λ j. slice_set (children_of mid) j c') p ∙ ap (λ xs. slice_set xs (i + 1) c') f' ∙ set_place (take i (children_of old) ++ m.other ∷ []) D m.grown c' (i + 1) z ∙ append_assoc (take i (children_of old)) (m.other ∷ []) (c' ∷ D);
+              own = o ∙ m.own;
+              sound = (m.sound, enough is);
+            },
+          )
 
   -- the children before a place are sound, the one there may hold few pairs where it is the first, and those after it are as they were
   pub record IsMendedTo (h at : ℕ) (n : Node K V) : Type 0 where

@@ -98,10 +98,7 @@ fn sift_tree<K: Drop, V: Drop, S: Sieve<K, V>>(
 }
 
 // Asks of each pair of the tree, which is mended after.
-fn sift_root<K: Drop, V: Drop, S: Sieve<K, V>>(
-    tree: &mut Option<Box<Node<K, V>>>,
-    sieve: &mut S,
-)
+fn sift_root<K: Drop, V: Drop, S: Sieve<K, V>>(tree: &mut Option<Box<Node<K, V>>>, sieve: &mut S)
     requires sound { IsSoundMap (root_of tree.old) }
     requires callable { S.callable sieve.old }
     ensures sound { IsSoundMap (root_of tree.new) }
