@@ -1,11 +1,11 @@
 -- What rests once an order was filled.
-use Rattle.std.proofs.Common.{◌≡◌, ℕ, ◌<◌, ◌≤◌, ◌+◌, ◌-◌, ◌^◌, ◌==◌, Bool, true, false, [], ◌∷◌, Option, Some, None, IfSome, All, refl, sym, subst, arith}
+use Rattle.std.proofs.Common.{◌≡◌, ℕ, ◌<◌, ◌≤◌, ◌+◌, ◌-◌, ◌^◌, ◌==◌, Bool, true, false, [], ◌∷◌, Some, None, IfSome, All, refl, sym, subst, arith}
 use Rattle.std.specs.Prelude.{nat_lt}
 use Rattle.std.specs.List.{AllByRecursion}
 use Rattle.std.proofs.lemmas.Bool.Decides.{nat_tests}
 use Rattle.std.proofs.lemmas.List.Elements.{All-from_recursion, recursion_from_All, All-weaker}
 use Rattle.std.proofs.lemmas.List.Sums.{sum_by-cons}
-use Rattle.example_orders.specs.Orders.{Orders, total, after_fills, unfilled, AreNumberedBelow, AreApart}
+use Rattle.example_orders.specs.Orders.{Orders, total, after_fills, unfilled, AreApart}
 use Rattle.example_orders.specs.Fills.{best_fill, after_fill}
 use Rattle.example_orders.specs.declared.ladder.Fill.{Fill}
 
@@ -44,16 +44,16 @@ module _ (limit w : ℕ) where
   one_filled (o ∷ os) f p e = decided (nat_lt limit o.0.0)
       (λ b. let no = rw b at e in absurd cc)
       (λ b. decided (nat_lt w o.1)
-          (λ d.
-            let g = rw (b, d) at e in
-            let q : f.quantity ≡ w = cc in
-            let z = not_zero w p in
-            (rw (q, nothing w, b, d, z) refl, rw (q, nothing w, b, d, z) refl))
-          (λ d.
-            let g = rw (b, d) at e in
-            let q : f.quantity ≡ o.1 = cc in
-            let z = not_zero w p in
-            (rw (q, b, d, z) refl, rw (q, b, d, z) refl)))
+      (λ d.
+      let g = rw (b, d) at e in
+      let q : f.quantity ≡ w = cc in
+      let z = not_zero w p in
+      (rw (q, nothing w, b, d, z) refl, rw (q, nothing w, b, d, z) refl))
+      (λ d.
+      let g = rw (b, d) at e in
+      let q : f.quantity ≡ o.1 = cc in
+      let z = not_zero w p in
+      (rw (q, b, d, z) refl, rw (q, b, d, z) refl)))
 
   -- Where no more is wanted, all stay.
   pub no_more : (s : Orders) → w ≤ 0 → (after_fills limit w s ≡ s) × (unfilled limit w s ≡ w)
@@ -75,8 +75,8 @@ module _ (limit w : ℕ) where
   positive_after (o ∷ os) a = decided (nat_lt limit o.0.0)
       (λ b. rw b a)
       (λ b. decided (nat_lt w o.1)
-          (λ d. let l = is_less w o.1 d in rw (b, d) ((let m : 0 < o.1 - w = omega arith in m), a.1))
-          (λ d. rw (b, d) a.1))
+      (λ d. let l = is_less w o.1 d in rw (b, d) ((let m : 0 < o.1 - w = omega arith in m), a.1))
+      (λ d. rw (b, d) a.1))
 
   pub all_positive : (s : Orders) → All (λ o. 0 < o.1) s → All (λ o. 0 < o.1) (after_fill limit w s)
   all_positive s h = All-from_recursion (λ o. 0 < o.1) (after_fill limit w s) (positive_after s (recursion_from_All (λ o. 0 < o.1) s h))
@@ -86,18 +86,18 @@ pub total_after : (limit w : ℕ) (s : Orders) → total (after_fills limit w s)
 total_after limit w [] = refl
 total_after limit w (o ∷ os) = decided (w == 0) (λ z. rw z refl)
     (λ z. decided (nat_lt limit o.0.0) (λ b. rw (z, b) refl)
-        (λ b. decided (nat_lt w o.1)
-            (λ d. let l = is_less w o.1 d in rw (z, b, d) (omega (arith, sum_by-cons (λ (o : (ℕ × ℕ) × ℕ). o.1) o os, sum_by-cons (λ (o : (ℕ × ℕ) × ℕ). o.1) (o.0, o.1 - w) os)))
-            (λ d. let l = is_not_less w o.1 d in rw (z, b, d) (omega (arith, total_after limit (w - o.1) os, sum_by-cons (λ (o : (ℕ × ℕ) × ℕ). o.1) o os)))))
+    (λ b. decided (nat_lt w o.1)
+    (λ d. let l = is_less w o.1 d in rw (z, b, d) (omega (arith, sum_by-cons (λ (o : (ℕ × ℕ) × ℕ). o.1) o os, sum_by-cons (λ (o : (ℕ × ℕ) × ℕ). o.1) (o.0, o.1 - w) os)))
+    (λ d. let l = is_not_less w o.1 d in rw (z, b, d) (omega (arith, total_after limit (w - o.1) os, sum_by-cons (λ (o : (ℕ × ℕ) × ℕ). o.1) o os)))))
 
 -- What holds of all keys holds of those that are left.
 keys_after : (P : ℕ × ℕ → Type 0) (limit w : ℕ) (s : Orders) → AllByRecursion (λ o. P o.0) s → AllByRecursion (λ o. P o.0) (after_fills limit w s)
 keys_after P limit w [] a = tt
 keys_after P limit w (o ∷ os) a = decided (w == 0) (λ z. rw z a)
     (λ z. decided (nat_lt limit o.0.0) (λ b. rw (z, b) a)
-        (λ b. decided (nat_lt w o.1)
-            (λ d. rw (z, b, d) (a.0, a.1))
-            (λ d. rw (z, b, d) (keys_after P limit (w - o.1) os a.1))))
+    (λ b. decided (nat_lt w o.1)
+    (λ d. rw (z, b, d) (a.0, a.1))
+    (λ d. rw (z, b, d) (keys_after P limit (w - o.1) os a.1))))
 
 pub all_after : (P : ℕ × ℕ → Type 0) (limit w : ℕ) (s : Orders) → All (λ o. P o.0) s → All (λ o. P o.0) (after_fills limit w s)
 all_after P limit w s h = All-from_recursion (λ o. P o.0) (after_fills limit w s) (keys_after P limit w s (recursion_from_All (λ o. P o.0) s h))

@@ -67,7 +67,8 @@ fn place(
     shown?;
     match placed {
         Ok(placed) if placed.resting > 0 => println!(rt;
-            "{} filled, {} rest as {}", placed.filled, placed.resting, placed.number
+            "{} filled, {} rest as {}",
+            placed.filled, placed.resting, placed.number
         ),
         Ok(placed) => println!(rt; "{} filled", placed.filled),
         Err(NotPlaced::NoNumber) => println!(rt; "error: no number is left"),

@@ -1,8 +1,6 @@
 use Rattle.std.proofs.Common.{sym, subst}
 use Rattle.example_orders.specs.Orders.{Orders}
 use Rattle.example_orders.specs.Sides.{IsBook}
-use Rattle.example_orders.specs.Placing.{rank_of}
-use Rattle.example_orders.specs.declared.book.Side.TheVariants.{Buy, Sell}
 use Rattle.example_orders.proofs.OrderFacts.{cut_bids, cut_asks}
 use Rattle.example_orders.proofs.book.Book.cancel.Goals as goal
 
