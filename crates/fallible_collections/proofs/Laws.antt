@@ -6,3 +6,5 @@ pub use Rattle.fc_map.proofs.VisitLaws.{visits_map, visited_whole}
 pub use Rattle.fallible_collections.proofs.NeighbourLaws.{within_from, within_after, within_to, within_before, not_below_query, above_query, not_above_query, below_query, exact_pair, first_there, first_passes, first_least, first_none, last_there, last_passes, last_greatest, last_none, below_cut, above_cut, not_below_cut, not_above_cut, below_put, above_put, not_below_put, not_above_put, first_put, last_put}
 pub use Rattle.fallible_collections.proofs.JoinedLaws.{at_joined, value_at_joined, at_joined_query, value_at_joined_query, same_pairs, joined_is}
 pub use Rattle.fallible_collections.proofs.SetLaws.{item_at_joined, item_at_joined_query, ascending_joined_items, same_items, joined_items_is, item_at_union, item_at_difference, item_at_symmetric}
+pub use Rattle.fallible_collections.proofs.ItemLaws.{item_at_with, item_at_with_other, item_at_without, item_at_without_other, ascending_with, ascending_without, item_at_first, without_first}
+pub use Rattle.fallible_collections.proofs.PairLaws.{text_order_fits, filter_cut, filter_put_out, filter_put_kept, all_cut, all_put, sum_cut, sum_put, sum_put_new, sum_values_cut, sum_values_cut_absent, sum_values_put, sum_values_put_new, at_cut_other_query, value_at_cut_other_query, not_below_all, not_below_rest, at_first_pair}

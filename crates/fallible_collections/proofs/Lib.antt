@@ -1,4 +1,6 @@
+pub mod ItemLaws
 pub mod JoinedLaws
 pub mod Laws
 pub mod NeighbourLaws
+pub mod PairLaws
 pub mod SetLaws

@@ -21,11 +21,11 @@ use Rattle.fc_set.proofs.SideFacts.{ascending_kept}
 use Rattle.fallible_collections.proofs.JoinedLaws.{at_joined_query, same_pairs}
 
 module _ {T : Type 0} where
-  -- the items as the keys of pairs
-  abbrev pairs : List T → List (T × ⊤)
+  -- The items as the keys of pairs.
+  abbrev pub pairs : List T → List (T × ⊤)
   pairs s = map (λ x. (x, tt)) s
 
-  pairs_keys : (s : List T) → keys (pairs s) ≡ s
+  pub pairs_keys : (s : List T) → keys (pairs s) ≡ s
   pairs_keys [] = refl
   pairs_keys (x ∷ s) = ap (λ l. x ∷ l) (pairs_keys s)
 
@@ -43,7 +43,7 @@ module _ {T : Type 0} where
   same_item (Some x) None h = absurd cc
   same_item (Some x) (Some y) h = let e : x.0 ≡ y.0 = cc in λ i. Some (e i, tt)
 
-  at_pair : {Q : Type 0} (order : T → Q → Ordering) (s : List T) (q : Q) → item_at order s q ≡ option_map (λ e. e.0) (at order (pairs s) q)
+  pub at_pair : {Q : Type 0} (order : T → Q → Ordering) (s : List T) (q : Q) → item_at order s q ≡ option_map (λ e. e.0) (at order (pairs s) q)
   at_pair order s q = ap (λ l. item_at order l q) (sym (pairs_keys s)) ∙ item_at_keys order (pairs s) q
 
 -- what a search finds among those that a test keeps, where it is one for all that the search looks for
@@ -63,7 +63,7 @@ is_equal Equal h = refl
 is_equal Greater h = absurd cc
 
 module _ {T : Type 0} (cmp : T → T → Ordering) where
-  pairs_ascend : (s : List T) → AreAscending cmp s → IsAscending cmp (pairs s)
+  pub pairs_ascend : (s : List T) → AreAscending cmp s → IsAscending cmp (pairs s)
   pairs_ascend [] a = tt
   pairs_ascend (x ∷ s) a = (all_pairs (λ y. cmp x y ≡ Less) s a.0, pairs_ascend s a.1)
 

@@ -35,10 +35,12 @@ pub use Rattle.fc_map.specs.Walks.{deref_pair, keys_of, values_of}
 pub use Rattle.fc_map.specs.Writing.{Stretch, whole, starting, wrote_first, wrote_last, wrote, wrote_all, set_value}
 pub use Rattle.fc_map.specs.Stretches.{range_map_ref, stretch, iter_map_ref, iter_stretch, IsFirstValue, IsLastValue, IsFirstPair, IsLastPair, CalledAtPair, IsVisitedIn}
 pub use Rattle.fc_tree_visit.specs.Visits.{VisitsInTurn}
+pub use Rattle.fc_tree_retain.specs.Retained.{RetainsInTurn, AskedAtPair, GivenPair, ExtractsBy}
 pub use Rattle.fc_map.specs.Compare.{pair_eq, pair_cmp, pair_partial_cmp, pair_input}
 -- sets
 pub use Rattle.fc_set.specs.Items.{items, item_at, smaller, greater, not_smaller, without, AreAscending, with_item, with_replaced, items_within, joined_items, extended_items, AreExtendedUpTo}
 pub use Rattle.fc_set.specs.Neighbours.{not_greater}
+pub use Rattle.fc_set.specs.Retained.{RetainsItems, GivenItem, ExtractsItem}
 pub use Rattle.fc_set.specs.Operations.{difference, common, symmetric_difference, intersection, union}
 -- commands
 pub use Rattle.fc_command.specs.Step.{IsNew, Step, Runs}

@@ -1,14 +1,12 @@
 -- What stays of a list: its order, how long it is, and what the closures that were asked did.
-use Rattle.std.proofs.Common.{◌≡◌, ℕ, ◌+◌, ◌≤◌, List, [], ◌∷◌, ◌++◌, length, refl, sym, ap, subst, ◌∙◌, cond, arith}
+use Rattle.std.proofs.Common.{◌≡◌, ◌≤◌, List, [], ◌∷◌, length, sym, ap, subst, ◌∙◌, cond, arith}
 use Rattle.std.specs.Prelude.{Bool, true, false, not}
 use Rattle.std.specs.Bool.{MatchBool}
-use Rattle.std.specs.Borrow.{Bor, MutBor}
-use Rattle.std.specs.Fn.{Mut}
 use Rattle.std.specs.List.{AllByRecursion}
 use Rattle.std.specs.declared.cmp.Ordering.{Ordering}
 use Rattle.std.specs.declared.cmp.Ordering.TheVariants.{Less}
 use Rattle.fc_base.specs.Ascending.{IsAscending}
-use Rattle.fc_tree_retain.specs.Retained.{RetainsInTurn, AskedAtPair, GivenPair, ExtractsPair}
+use Rattle.fc_tree_retain.specs.Retained.{RetainsInTurn, ExtractsBy}
 use Rattle.fc_tree_retain.specs.Sifted.{SiftsPair}
 use Rattle.fc_tree_retain.proofs.Turns.{retains_as}
 
@@ -39,26 +37,26 @@ module _ {F K V : Type 0} (R : F → K × V → F → V → Bool → Type 0) whe
 
 module _ {S K V : Type 0} (asked : S → K × V → S → V → Bool → Type 0) (given : S → K × V → S → Type 0) where
   -- where what does not stay is dropped
-  pub as_retained : {F : Type 0} (g : Mut F (Bor K × (MutBor V × Unit {0})) (Bool × (MutBor V × Unit {0}))) (v : S → F) → ((s t : S) (e : K × V) (w : V) (b : Bool) → asked s e t w b → AskedAtPair g (v s) e (v t) w b) → ((s t : S) (e : K × V) → given s e t → v t ≡ v s)
-      → (xs ys : List (K × V)) (s t : S) → RetainsInTurn (SiftsPair asked given) s xs t ys → RetainsInTurn (AskedAtPair g) (v s) xs (v t) ys
-  as_retained {F} g v ask give = retains_as (SiftsPair asked given) (AskedAtPair g) v step
+  pub as_retained : {F : Type 0} (Q : F → K × V → F → V → Bool → Type 0) (v : S → F) → ((s t : S) (e : K × V) (w : V) (b : Bool) → asked s e t w b → Q (v s) e (v t) w b) → ((s t : S) (e : K × V) → given s e t → v t ≡ v s)
+      → (xs ys : List (K × V)) (s t : S) → RetainsInTurn (SiftsPair asked given) s xs t ys → RetainsInTurn Q (v s) xs (v t) ys
+  as_retained {F} Q v ask give = retains_as (SiftsPair asked given) Q v step
     where
       kept : (s u t : S) (e : K × V) (w : V) (b : Bool) → MatchBool b (t ≡ u) (given u (e.0, w) t) → v u ≡ v t
       kept s u t e w true m = sym (ap v m)
       kept s u t e w false m = sym (give u t (e.0, w) m)
 
-      step : (s t : S) (e : K × V) (w : V) (b : Bool) → SiftsPair asked given s e t w b → AskedAtPair g (v s) e (v t) w b
-      step s t e w b (u, a, m) = subst (λ x. AskedAtPair g (v s) e x w b) (kept s u t e w b m) (ask s u e w b a)
+      step : (s t : S) (e : K × V) (w : V) (b : Bool) → SiftsPair asked given s e t w b → Q (v s) e (v t) w b
+      step s t e w b (u, a, m) = subst (λ x. Q (v s) e x w b) (kept s u t e w b m) (ask s u e w b a)
 
   -- where it is given to a second closure
-  pub as_extracted : {F E : Type 0} (f : Mut F (Bor K × (MutBor V × Unit {0})) (Bool × (MutBor V × Unit {0}))) (g : Mut E (K × (V × Unit {0})) (Unit {0})) (p : S → F) (q : S → E)
-      → ((s t : S) (e : K × V) (w : V) (b : Bool) → asked s e t w b → (picked : Bool) × AskedAtPair f (p s) e (p t) w picked × (b ≡ not picked) × (q t ≡ q s)) → ((s t : S) (e : K × V) → given s e t → GivenPair g (q s) e (q t) × (p t ≡ p s))
-      → (xs ys : List (K × V)) (s t : S) → RetainsInTurn (SiftsPair asked given) s xs t ys → RetainsInTurn (ExtractsPair f g) (p s, q s) xs (p t, q t) ys
-  as_extracted f g p q ask give = retains_as (SiftsPair asked given) (ExtractsPair f g) (λ s. (p s, q s)) step
+  pub as_extracted : {F E : Type 0} (Q : F → K × V → F → V → Bool → Type 0) (G : E → K × V → E → Type 0) (p : S → F) (q : S → E)
+      → ((s t : S) (e : K × V) (w : V) (b : Bool) → asked s e t w b → (picked : Bool) × Q (p s) e (p t) w picked × (b ≡ not picked) × (q t ≡ q s)) → ((s t : S) (e : K × V) → given s e t → G (q s) e (q t) × (p t ≡ p s))
+      → (xs ys : List (K × V)) (s t : S) → RetainsInTurn (SiftsPair asked given) s xs t ys → RetainsInTurn (ExtractsBy Q G) (p s, q s) xs (p t, q t) ys
+  as_extracted Q G p q ask give = retains_as (SiftsPair asked given) (ExtractsBy Q G) (λ s. (p s, q s)) step
     where
-      step : (s t : S) (e : K × V) (w : V) (b : Bool) → SiftsPair asked given s e t w b → ExtractsPair f g (p s, q s) e (p t, q t) w b
-      step s t e w true (u, a, m) = let x = ask s u e w true a in (x.0, subst (λ y. AskedAtPair f (p s) e y w x.0) (sym (ap p m)) x.1, x.2, ap q m ∙ x.3)
+      step : (s t : S) (e : K × V) (w : V) (b : Bool) → SiftsPair asked given s e t w b → ExtractsBy Q G (p s, q s) e (p t, q t) w b
+      step s t e w true (u, a, m) = let x = ask s u e w true a in (x.0, subst (λ y. Q (p s) e y w x.0) (sym (ap p m)) x.1, x.2, ap q m ∙ x.3)
       step s t e w false (u, a, m) =
           let x = ask s u e w false a in
           let y = give u t (e.0, w) m in
-          (x.0, subst (λ z. AskedAtPair f (p s) e z w x.0) (sym y.1) x.1, x.2, subst (λ z. GivenPair g z (e.0, w) (q t)) x.3 y.0)
+          (x.0, subst (λ z. Q (p s) e z w x.0) (sym y.1) x.1, x.2, subst (λ z. G z (e.0, w) (q t)) x.3 y.0)

@@ -1,18 +1,18 @@
 -- Two children that become one node, or of which one takes from the other: where their children meet.
-use Rattle.std.proofs.Common.{◌≡◌, ℕ, suc, zero, ◌+◌, ◌-◌, ◌<◌, ◌≤◌, List, [], ◌∷◌, ◌++◌, length, get_or, take, drop, refl, sym, ap, subst, ◌∙◌, arith, append_assoc, inl, inr}
+use Rattle.std.proofs.Common.{◌≡◌, ℕ, suc, zero, ◌+◌, ◌<◌, ◌≤◌, List, [], ◌∷◌, ◌++◌, length, get_or, take, drop, refl, sym, ap, subst, ◌∙◌, arith, append_assoc, inl, inr}
 use Rattle.std.specs.Prelude.{◌⊎◌}
 use Rattle.std.specs.List.{AllByRecursion}
 use Rattle.std.proofs.lemmas.List.{length-append}
 use Rattle.std.proofs.lemmas.List.Edits.{length-remove}
 use Rattle.fc_base.specs.Sizes.{capacity, min_len}
 use Rattle.fc_tree_node.specs.declared.node.Node.{Node}
-use Rattle.fc_tree_node.specs.Node.{own_pairs, children_of, child_at, IsLeaf, IsInner, IsLevelled, IsSound}
+use Rattle.fc_tree_node.specs.Node.{own_pairs, children_of, child_at, IsInner, IsSound}
 use Rattle.fc_tree_node.specs.Siblings.{AreAlike, IsMerged, IsShared}
 use Rattle.fc_tree_node.proofs.Formed.{leaf_or_inner}
-use Rattle.fc_tree_node.proofs.Lists.{length_take, length_set, all_both, all_front, all_back, all_at}
+use Rattle.fc_tree_node.proofs.Lists.{length_take, length_set, all_front, all_back, all_at}
 use Rattle.fc_tree_node.proofs.Gaps.{item_there, drop_all}
 use Rattle.fc_tree_node.proofs.Siblings.{one_at, set_two, set_removed}
-use Rattle.fc_tree_retain.specs.Mending.{IsThin, IsSeam, IsMet, IsOneMet, AreTwoMet, IsJoined, together}
+use Rattle.fc_tree_retain.specs.Mending.{IsThin, IsSeam, IsMet, IsOneMet, AreTwoMet, together}
 use Rattle.fc_tree_retain.proofs.Lists.{at_place, take_place, drop_place, longer}
 use Rattle.fc_tree_retain.proofs.Levels.{levelled_thin}
 

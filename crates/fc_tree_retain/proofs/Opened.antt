@@ -1,15 +1,12 @@
 -- A node opened at a child: what is before it, the child, and what is after it.
-use Rattle.std.proofs.Common.{◌≡◌, ℕ, suc, zero, ◌+◌, ◌<◌, ◌≤◌, List, [], ◌∷◌, ◌++◌, length, get_or, map, take, drop, refl, sym, ap, subst, ◌∙◌, arith, append_assoc, append-nil, add-one}
-use Rattle.std.specs.List.{AllByRecursion}
+use Rattle.std.proofs.Common.{◌≡◌, ℕ, suc, ◌+◌, ◌<◌, ◌≤◌, List, [], ◌∷◌, ◌++◌, length, get_or, map, take, drop, refl, sym, ap, ◌∙◌, arith, append_assoc}
 use Rattle.std.proofs.lemmas.List.{length-map, map-append, length-append}
-use Rattle.fc_base.specs.Sizes.{capacity}
-use Rattle.fc_tree_node.specs.Weave.{weave, before_list, after_list}
+use Rattle.fc_tree_node.specs.Weave.{before_list, after_list}
 use Rattle.fc_tree_node.specs.declared.node.Node.{Node}
 use Rattle.fc_tree_node.specs.Node.{own_pairs, children_of, child_at, pairs_of, IsInner}
 use Rattle.fc_tree_node.specs.Place.{before_child, after_child}
-use Rattle.fc_tree_node.proofs.Lists.{length_take, take_drop, all_both, all_front, all_back}
+use Rattle.fc_tree_node.proofs.Lists.{length_take, take_drop}
 use Rattle.fc_tree_node.proofs.Siblings.{one_at, two_at, around_one}
-use Rattle.fc_tree_retain.specs.Loose.{IsLoose}
 use Rattle.fc_tree_retain.proofs.Lists.{at_place, take_place, drop_place}
 
 module _ {X : Type 0} where

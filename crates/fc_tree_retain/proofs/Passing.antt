@@ -1,18 +1,16 @@
 -- A walk over the pairs of a node, of which some do not stay.
-use Rattle.std.proofs.Common.{◌≡◌, ℕ, suc, zero, ◌+◌, ◌-◌, ◌<◌, ◌≤◌, List, [], ◌∷◌, ◌++◌, length, get_or, map, take, drop, refl, sym, ap, subst, ◌∙◌, arith, append_assoc, append-nil, add-one, cond, Option, Some, None}
+use Rattle.std.proofs.Common.{◌≡◌, ℕ, suc, zero, ◌+◌, ◌<◌, ◌≤◌, List, [], ◌∷◌, ◌++◌, length, get_or, map, take, drop, refl, sym, ap, subst, ◌∙◌, arith, append_assoc, append-nil, Option}
 use Rattle.std.specs.Prelude.{Bool, true, false, slice_set}
-use Rattle.std.specs.Bool.{MatchBool}
 use Rattle.std.specs.List.{AllByRecursion, remove}
 use Rattle.std.specs.Option.{option_to_list}
 use Rattle.std.proofs.lemmas.List.{length-map, map-append, length-append}
-use Rattle.fc_base.specs.Sizes.{capacity}
 use Rattle.fc_tree_node.specs.Weave.{weave, before_list, after_list}
 use Rattle.fc_tree_node.specs.declared.node.Node.{Node, out-Node}
-use Rattle.fc_tree_node.specs.Node.{own_pairs, children_of, child_at, pairs_of, IsLeaf, IsInner}
+use Rattle.fc_tree_node.specs.Node.{own_pairs, children_of, child_at, pairs_of, IsInner}
 use Rattle.fc_tree_node.specs.Place.{before_child, after_child}
-use Rattle.fc_tree_node.proofs.Lists.{length_set, all_both, all_front, all_back, all_set, all_at}
+use Rattle.fc_tree_node.proofs.Lists.{length_set, all_both, all_front, all_back, all_set}
 use Rattle.fc_tree_node.proofs.Weaves.{weave_parts}
-use Rattle.fc_tree_node.proofs.Pairs.{pairs_is, leaf_pairs}
+use Rattle.fc_tree_node.proofs.Pairs.{pairs_is}
 use Rattle.fc_tree_node.proofs.Made.{IsChildSet, field_made}
 use Rattle.fc_tree_node.proofs.Formed.{leaf_or_inner}
 use Rattle.fc_tree_node.proofs.Gaps.{inner_gap, after_none}
@@ -25,7 +23,7 @@ use Rattle.fc_tree_retain.specs.Sifted.{IsPassed, IsOwnPassed}
 use Rattle.fc_tree_retain.proofs.Levels.{loose_child}
 use Rattle.fc_tree_retain.proofs.Lists.{at_place, set_place, remove_place}
 use Rattle.fc_tree_retain.proofs.Turns.{retains_join, retains_one, retains_none}
-use Rattle.fc_tree_retain.proofs.Opened.{IsOpenAt, open_before, open_child, open_after, open_inner, open_next, open_pairs, before_next, opened, opened_two}
+use Rattle.fc_tree_retain.proofs.Opened.{IsOpenAt, open_before, open_child, open_after, open_inner, open_next, before_next, opened_two}
 
 module _ {K V : Type 0} where
   pub value_place : (xs ys : List (K × V)) (x : K × V) (w : V) (i : ℕ) → length xs ≡ i → set_value (xs ++ x ∷ ys) i w ≡ xs ++ (x.0, w) ∷ ys

@@ -1,22 +1,22 @@
 -- A node of which two children were mended, and one of which all were.
-use Rattle.std.proofs.Common.{◌≡◌, ℕ, suc, zero, ◌+◌, ◌-◌, ◌<◌, ◌≤◌, List, [], ◌∷◌, ◌++◌, length, get_or, take, drop, refl, sym, ap, subst, ◌∙◌, arith, append_assoc, inl, inr}
+use Rattle.std.proofs.Common.{◌≡◌, ℕ, suc, zero, ◌+◌, ◌<◌, ◌≤◌, List, [], ◌∷◌, ◌++◌, length, get_or, take, drop, refl, sym, ap, subst, ◌∙◌, arith, append_assoc, inl, inr}
 use Rattle.std.specs.Prelude.{◌⊎◌, slice_set}
 use Rattle.std.specs.List.{AllByRecursion}
 use Rattle.std.proofs.lemmas.List.{length-append, length-drop}
 use Rattle.fc_base.specs.Sizes.{capacity, min_len}
 use Rattle.fc_tree_node.specs.declared.node.Node.{Node}
-use Rattle.fc_tree_node.specs.Node.{own_pairs, children_of, child_at, pairs_of, IsLeaf, IsInner, IsLevelled, IsSound}
+use Rattle.fc_tree_node.specs.Node.{own_pairs, children_of, child_at, pairs_of, IsLeaf, IsInner, IsSound}
 use Rattle.fc_tree_node.proofs.Formed.{leaf_or_inner}
-use Rattle.fc_tree_node.proofs.Lists.{length_take, length_set, all_both, all_front, all_back, all_at}
+use Rattle.fc_tree_node.proofs.Lists.{length_take, length_set, all_both}
 use Rattle.fc_tree_node.proofs.Gaps.{drop_all}
 use Rattle.fc_tree_node.proofs.Siblings.{one_at, two_at}
 use Rattle.fc_tree_node.proofs.Made.{IsChildSet}
 use Rattle.fc_tree_border.proofs.Mended.{mended_pairs}
-use Rattle.fc_tree_removal.proofs.Removed.{take_set, drop_set, at_set}
+use Rattle.fc_tree_removal.proofs.Removed.{drop_set, at_set}
 use Rattle.fc_tree_retain.specs.Loose.{IsLoose}
-use Rattle.fc_tree_retain.specs.Mending.{IsThin, IsSeam, IsMet, IsOne, AreTwo, IsSettled, IsOneMet, AreTwoMet, IsJoined, together}
+use Rattle.fc_tree_retain.specs.Mending.{IsThin, IsSeam, IsMet, IsSettled, IsJoined, together}
 use Rattle.fc_tree_retain.proofs.Lists.{at_place, take_place, drop_place, set_place}
-use Rattle.fc_tree_retain.proofs.Levels.{thin_sound, thin_fits, levelled_thin, loose_child}
+use Rattle.fc_tree_retain.proofs.Levels.{thin_sound, levelled_thin, loose_child}
 
 module _ {K V : Type 0} where
   -- neither of the two was short
@@ -139,13 +139,16 @@ module _ {K V : Type 0} where
       let mo = m.own in
       let kept = l.kept in
       let wl : length (own_pairs (child_at mid place)) ≡ length (own_pairs m.whole) = ap (λ x. length (own_pairs x)) is in
-      inl (q, record {
-        whole = c';
-        children = cs;
-        own = omega arith;
-        thin = l.thin;
-        sound = λ u. thin_sound h c' (enough u (omega arith)) l.thin;
-      })
+      inl (
+        q,
+        record {
+          whole = c';
+          children = cs;
+          own = omega arith;
+          thin = l.thin;
+          sound = λ u. thin_sound h c' (enough u (omega arith)) l.thin;
+        },
+      )
     where
       enough : IsSound h (child_at old i) ⊎ IsSound h (child_at old (i + 1)) → together old i ≤ length (own_pairs c') + 1 → min_len ≤ length (own_pairs c')
       enough (inl a) t = let b = a.0 in omega arith
@@ -168,24 +171,30 @@ module _ {K V : Type 0} where
       go : ((place ≡ i) × (children_of mid ≡ take i (children_of old) ++ m.grown ∷ m.other ∷ D)) ⊎ ((place ≡ i + 1) × (children_of mid ≡ take i (children_of old) ++ m.other ∷ m.grown ∷ D)) → IsSettled h i last old new
       go (inl (p, f)) =
           let is : child_at mid place ≡ m.grown = ap (child_at mid) p ∙ ap (λ cs. get_or cs i mid) f ∙ at_place (take i (children_of old)) (m.other ∷ D) m.grown mid i front in
-          inr (q, record {
-            left = c';
-            right = m.other;
-            children = e ∙ ap (λ j. slice_set (children_of mid) j c') p ∙ ap (λ xs. slice_set xs i c') f ∙ set_place (take i (children_of old)) (m.other ∷ D) m.grown c' i front;
-            own = o ∙ m.own;
-            sound = (enough is, m.sound);
-          })
+          inr (
+            q,
+            record {
+              left = c';
+              right = m.other;
+              children = e ∙ ap (λ j. slice_set (children_of mid) j c') p ∙ ap (λ xs. slice_set xs i c') f ∙ set_place (take i (children_of old)) (m.other ∷ D) m.grown c' i front;
+              own = o ∙ m.own;
+              sound = (enough is, m.sound);
+            },
+          )
       go (inr (p, f)) =
           let f' : children_of mid ≡ (take i (children_of old) ++ m.other ∷ []) ++ m.grown ∷ D = f ∙ sym (append_assoc (take i (children_of old)) (m.other ∷ []) (m.grown ∷ D)) in
           let z : length (take i (children_of old) ++ m.other ∷ []) ≡ i + 1 = length-append (take i (children_of old)) (m.other ∷ []) ∙ ap (λ j. j + 1) front in
           let is : child_at mid place ≡ m.grown = ap (child_at mid) p ∙ ap (λ cs. get_or cs (i + 1) mid) f' ∙ at_place (take i (children_of old) ++ m.other ∷ []) D m.grown mid (i + 1) z in
-          inr (q, record {
-            left = m.other;
-            right = c';
-            children = e ∙ ap (λ j. slice_set (children_of mid) j c') p ∙ ap (λ xs. slice_set xs (i + 1) c') f' ∙ set_place (take i (children_of old) ++ m.other ∷ []) D m.grown c' (i + 1) z ∙ append_assoc (take i (children_of old)) (m.other ∷ []) (c' ∷ D);
-            own = o ∙ m.own;
-            sound = (m.sound, enough is);
-          })
+          inr (
+            q,
+            record {
+              left = m.other;
+              right = c';
+              children = e ∙ ap (λ j. slice_set (children_of mid) j c') p ∙ ap (λ xs. slice_set xs (i + 1) c') f' ∙ set_place (take i (children_of old) ++ m.other ∷ []) D m.grown c' (i + 1) z ∙ append_assoc (take i (children_of old)) (m.other ∷ []) (c' ∷ D);
+              own = o ∙ m.own;
+              sound = (m.sound, enough is);
+            },
+          )
 
   -- the children before a place are sound, the one there may hold few pairs where it is the first, and those after it are as they were
   pub record IsMendedTo (h at : ℕ) (n : Node K V) : Type 0 where

@@ -1,6 +1,6 @@
 //! What is asked of each pair, and what becomes of those that do not stay.
 ghost use Rattle.std.specs.Prelude.{◌≡◌, Bool, not};
-ghost use Rattle.fc_tree_retain.specs.Retained.{AskedAtPair, GivenPair};
+ghost use Rattle.fc_tree_retain.specs.Retained.{AskedAtKey, AskedAtPair, GivenKey, GivenPair};
 
 // Asked of one pair after another.
 pub(crate) trait Sieve<K, V> {
@@ -77,5 +77,59 @@ impl<K, V, F: FnMut(&K, &mut V) -> bool, E: FnMut(K, V)> Sieve<K, V> for Extract
     {
         let (key, value) = pair;
         (self.each)(key, value);
+    }
+}
+
+// Drops what is not to stay by its key.
+#[derive(Drop)]
+pub(crate) struct RetainingKeys<F> {
+    pub(crate) keep: F,
+}
+
+impl<K: Drop, V: Drop, F: FnMut(&K) -> bool> Sieve<K, V> for RetainingKeys<F> {
+    ghost callable = { λ s. F.IsAlwaysCallable s.keep };
+
+    ghost asked = { λ s e t w b. AskedAtKey F.FnMut s.keep e t.keep w b };
+
+    ghost given = { λ s e t. t.keep ≡ s.keep };
+
+    fn stays(&mut self, key: &K, _value: &mut V) -> bool {
+        (self.keep)(key)
+    }
+
+    fn take(&mut self, pair: (K, V))
+        requires { F.IsAlwaysCallable self.old.keep }
+        ensures callable { F.IsAlwaysCallable self.new.keep }
+        ensures given { self.new.keep ≡ self.old.keep }
+    {
+        drop(pair);
+    }
+}
+
+// Hands on the keys that are picked, and drops their values.
+#[derive(Drop)]
+pub(crate) struct ExtractingKeys<F, E> {
+    pub(crate) pick: F,
+    pub(crate) each: E,
+}
+
+impl<K, V: Drop, F: FnMut(&K) -> bool, E: FnMut(K)> Sieve<K, V> for ExtractingKeys<F, E> {
+    ghost callable = { λ s. F.IsAlwaysCallable s.pick × E.IsAlwaysCallable s.each };
+
+    ghost asked = { λ s e t w b. (picked : Bool) × AskedAtKey F.FnMut s.pick e t.pick w picked × (b ≡ not picked) × (t.each ≡ s.each) };
+
+    ghost given = { λ s e t. GivenKey E.FnMut s.each e t.each × (t.pick ≡ s.pick) };
+
+    fn stays(&mut self, key: &K, _value: &mut V) -> bool {
+        !(self.pick)(key)
+    }
+
+    fn take(&mut self, pair: (K, V))
+        requires { F.IsAlwaysCallable self.old.pick × E.IsAlwaysCallable self.old.each }
+        ensures callable { F.IsAlwaysCallable self.new.pick × E.IsAlwaysCallable self.new.each }
+        ensures given { GivenKey E.FnMut self.old.each pair self.new.each × (self.new.pick ≡ self.old.pick) }
+    {
+        let (key, _value) = pair;
+        (self.each)(key);
     }
 }

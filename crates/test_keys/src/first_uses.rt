@@ -113,17 +113,17 @@ fn walks(alloc: Global) -> Result<bool, TryReserveError> {
 // All values but one are written by a walk, and those of a range of texts.
 fn writes(alloc: Global) -> Result<bool, TryReserveError> {
     let mut map = BTreeMap::new(alloc);
-    map.try_insert("Alice", 1)?;
+    map.try_insert("Alice", 1u64)?;
     map.try_insert("Bob", 2)?;
     map.try_insert("Carol", 3)?;
     map.try_insert("Cheryl", 4)?;
     map.iter_mut().for_each(|key, value| {
         if *key != "Alice" {
-            *value += 10u64;
+            *value = value.wrapping_add(10);
         }
     });
     map.range_mut((Bound::Included("B"), Bound::Excluded("Cheryl")))
-        .for_each(|_key, value| *value += 100);
+        .for_each(|_key, value| *value = value.wrapping_add(100));
     Ok(
         is_number(map.get("Alice"), 1)
             && is_number(map.get("Bob"), 112)

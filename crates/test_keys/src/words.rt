@@ -81,7 +81,8 @@ fn changes(map: &mut Words) -> bool {
 
 // The first call at a word makes its value, and the second writes to it.
 fn are_counted(map: &mut Words) -> Result<bool, TryReserveError> {
-    *map.try_entry("mint")?.or_try_insert(12)? += 10;
+    let count = map.try_entry("mint")?.or_try_insert(12)?;
+    *count = count.wrapping_add(10);
     let first = map
         .try_entry("mint")?
         .and_modify(|value| *value = value.wrapping_add(1))
@@ -101,7 +102,7 @@ fn is_taken_by_entry(map: &mut Words) -> Result<bool, TryReserveError> {
         Entry::Vacant(_entry) => Ok(false),
         Entry::Occupied(mut entry) => {
             let is_shown = *entry.key() == "anise" && *entry.get() == 1;
-            *entry.get_mut() += 9;
+            *entry.get_mut() = 10;
             let is_old = entry.insert(11) == 10;
             let (key, value) = entry.remove_entry();
             Ok(is_shown && is_old && key == "anise" && value == 11)

@@ -1,13 +1,13 @@
-use Rattle.std.proofs.Common.{◌≡◌, suc, ◌+◌, ◌-◌, ◌<◌, ◌≤◌, length, get_or, refl, sym, ap, subst, ◌∙◌, arith, rules}
+use Rattle.std.proofs.Common.{◌≡◌, suc, ◌+◌, ◌-◌, ◌<◌, length, sym, subst, ◌∙◌, arith, rules}
 use Rattle.std.proofs.lemmas.Bool.{false≢true}
 use Rattle.std.specs.Box.{with_value}
-use Rattle.fc_tree_node.specs.Node.{own_pairs, child_at, children_of, IsLeaf}
-use Rattle.fc_tree_node.proofs.Made.{child_set, inner_length}
+use Rattle.fc_tree_node.specs.Node.{own_pairs, children_of}
+use Rattle.fc_tree_node.proofs.Made.{child_set}
 use Rattle.fc_tree_removal.proofs.Removed.{opened_child}
 use Rattle.fc_tree_border.proofs.Heights.{height_of}
 use Rattle.fc_tree_retain.specs.Loose.{IsLoose}
 use Rattle.fc_tree_retain.specs.Mending.{IsThin}
-use Rattle.fc_tree_retain.proofs.Levels.{loose_above, loose_height, lent, leaf_thin}
+use Rattle.fc_tree_retain.proofs.Levels.{loose_above, loose_height}
 use Rattle.fc_tree_retain.proofs.Settling.{IsMending, mending_start, mending_more, mending_end, next_loose, next_mended}
 use Rattle.fc_tree_retain.proofs.mending.+mend.Goals as goal
 

@@ -1,7 +1,6 @@
-use Rattle.std.proofs.Common.{◌≡◌, suc, ◌+◌, ◌<◌, ◌≤◌, length, get_or, refl, sym, ap, subst, ◌∙◌, arith, rules}
+use Rattle.std.proofs.Common.{◌≡◌, suc, ◌+◌, ◌<◌, length, sym, ap, subst, ◌∙◌, arith, rules}
 use Rattle.std.proofs.lemmas.Bool.{false≢true}
 use Rattle.std.specs.Box.{with_value}
-use Rattle.fc_base.specs.Sizes.{min_len}
 use Rattle.fc_tree_node.specs.Node.{own_pairs, child_at, children_of, IsLeaf}
 use Rattle.fc_tree_node.proofs.Made.{child_set}
 use Rattle.fc_tree_removal.proofs.Removed.{opened_child}
@@ -9,7 +8,7 @@ use Rattle.fc_tree_border.proofs.Heights.{height_of}
 use Rattle.fc_tree_border.proofs.Mended.{mended_pairs}
 use Rattle.fc_tree_retain.specs.Mending.{IsMet, IsSeam}
 use Rattle.fc_tree_retain.proofs.Levels.{seam_height}
-use Rattle.fc_tree_retain.proofs.Settling.{IsMetLeft, whole_settled, met_child, met_above, leaf_left, met_left, joined_settled}
+use Rattle.fc_tree_retain.proofs.Settling.{IsMetLeft, whole_settled, met_child, met_above, met_left, joined_settled}
 use Rattle.fc_tree_retain.proofs.mending.+settle.Goals as goal
 
 pub returns-then-right-ge-MIN_LEN-clause-settled : goal.returns-then-right-ge-MIN_LEN-clause-settled

@@ -1,5 +1,5 @@
-use Rattle.std.proofs.Common.{◌≡◌, ◌<◌, ◌≤◌, length, rules, arith, sym, ap, subst, ◌∙◌}
-use Rattle.fc_tree_node.specs.Node.{own_pairs, pairs_of}
+use Rattle.std.proofs.Common.{◌<◌, length, rules, arith, sym, ap, ◌∙◌}
+use Rattle.fc_tree_node.specs.Node.{own_pairs}
 use Rattle.fc_tree_border.proofs.Heights.{height_of}
 use Rattle.fc_tree_border.proofs.Mended.{within_more, only_pairs}
 use Rattle.fc_tree_removal.proofs.Removed.{empty_leaf}

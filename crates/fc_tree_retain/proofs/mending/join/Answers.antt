@@ -1,6 +1,5 @@
-use Rattle.std.proofs.Common.{◌≡◌, ◌+◌, ◌-◌, ◌<◌, ◌≤◌, length, refl, sym, ap, subst, ◌∙◌, arith, inl, inr}
-use Rattle.fc_base.specs.Sizes.{min_len}
-use Rattle.fc_tree_node.specs.Node.{own_pairs, child_at}
+use Rattle.std.proofs.Common.{◌+◌, refl, sym, subst, arith, inl, inr}
+use Rattle.fc_tree_node.specs.Node.{child_at}
 use Rattle.fc_tree_retain.specs.Mending.{IsOneMet, AreTwoMet}
 use Rattle.fc_tree_retain.proofs.Levels.{thin_fits, thin_alike}
 use Rattle.fc_tree_retain.proofs.Meeting.{one_met, left_met, right_met}

@@ -1,9 +1,6 @@
-use Rattle.std.proofs.Common.{◌≡◌, ◌≤◌, Some, sym, ap, subst, ◌∙◌}
-use Rattle.fc_tree_node.specs.Node.{pairs_of}
-use Rattle.fc_tree_node.specs.Tree.{root_of, IsSoundMap, entries}
+use Rattle.std.proofs.Common.{Some, sym, subst, ◌∙◌}
+use Rattle.fc_tree_node.specs.Tree.{root_of, IsSoundMap}
 use Rattle.fc_tree_retain.specs.Loose.{IsLoose}
-use Rattle.fc_tree_retain.specs.Retained.{RetainsInTurn}
-use Rattle.fc_tree_retain.specs.Sifted.{SiftsPair}
 use Rattle.fc_tree_retain.proofs.Levels.{levelled_loose, within_map}
 use Rattle.fc_tree_retain.proofs.retain.sift_root.Goals as goal
 

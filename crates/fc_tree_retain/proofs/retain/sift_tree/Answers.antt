@@ -1,4 +1,4 @@
-use Rattle.std.proofs.Common.{length, arith}
+use Rattle.std.proofs.Common.{arith}
 use Rattle.fc_tree_retain.specs.Sifted.{SiftsPair}
 use Rattle.fc_tree_retain.proofs.Kept.{kept_ascending, kept_length}
 use Rattle.fc_tree_retain.proofs.retain.sift_tree.Goals as goal

@@ -1,12 +1,8 @@
-use Rattle.std.proofs.Common.{◌≡◌, ℕ, suc, ◌+◌, ◌-◌, ◌<◌, ◌≤◌, ◌++◌, [], length, get_or, rules, arith, sym, ap, subst, ◌∙◌}
+use Rattle.std.proofs.Common.{◌≡◌, suc, ◌+◌, ◌-◌, ◌<◌, rules, arith, subst}
 use Rattle.std.proofs.lemmas.Bool.{false≢true}
 use Rattle.std.specs.Box.{with_value}
-use Rattle.fc_tree_node.specs.Node.{own_pairs, pairs_of, child_at}
 use Rattle.fc_tree_node.proofs.Made.{child_set}
-use Rattle.fc_tree_node.proofs.Pairs.{leaf_pairs}
 use Rattle.fc_tree_border.proofs.Heights.{height_of}
-use Rattle.fc_tree_retain.specs.Loose.{IsLoose}
-use Rattle.fc_tree_retain.specs.Retained.{RetainsInTurn}
 use Rattle.fc_tree_retain.specs.Sifted.{SiftsPair}
 use Rattle.fc_tree_retain.proofs.Levels.{loose_above, loose_height, lent}
 use Rattle.fc_tree_retain.proofs.Passing.{IsSifting, child_left, sifting_start, sifting_more, sifting_end}

@@ -1,10 +1,8 @@
-use Rattle.std.proofs.Common.{◌≡◌, suc, ◌-◌, ◌<◌, Some, None, ◌≤◌, ◌++◌, [], length, get_or, rules, arith, sym, ap, subst, ◌∙◌, append-nil}
+use Rattle.std.proofs.Common.{suc, ◌-◌, ◌<◌, Some, None, rules, arith, ◌∙◌, append-nil}
 use Rattle.std.proofs.lemmas.Bool.{false≢true}
 use Rattle.std.specs.Box.{with_value}
-use Rattle.std.specs.List.{remove}
-use Rattle.fc_tree_node.specs.Node.{own_pairs, pairs_of, child_at}
-use Rattle.fc_tree_node.proofs.Made.{own_made, child_set}
-use Rattle.fc_tree_removal.proofs.Removed.{last_taken, leaf_shrunk}
+use Rattle.fc_tree_node.proofs.Made.{child_set}
+use Rattle.fc_tree_removal.proofs.Removed.{last_taken}
 use Rattle.fc_tree_border.proofs.Heights.{height_of}
 use Rattle.fc_tree_retain.proofs.Levels.{loose_above, loose_height, lent, leaf_fewer}
 use Rattle.fc_tree_retain.proofs.Passing.{child_left, last_below, none_below, empty_last, child_loose}

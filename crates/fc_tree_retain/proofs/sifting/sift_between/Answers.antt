@@ -1,10 +1,9 @@
-use Rattle.std.proofs.Common.{◌≡◌, ℕ, suc, ◌+◌, ◌<◌, ◌≤◌, ◌++◌, [], length, get_or, rules, arith, refl, sym, ap, subst, ◌∙◌, Some, None, add-one, append-nil}
+use Rattle.std.proofs.Common.{◌≡◌, [], length, get_or, arith, refl, sym, ap, subst, ◌∙◌, append-nil}
 use Rattle.std.specs.Prelude.{slice_set}
 use Rattle.std.specs.Box.{with_value as set_box}
-use Rattle.fc_tree_node.specs.Node.{own_pairs, pairs_of, child_at, children_of}
+use Rattle.fc_tree_node.specs.Node.{own_pairs, pairs_of, child_at}
 use Rattle.fc_tree_node.proofs.Made.{child_set, inner_length}
 use Rattle.fc_tree_removal.proofs.Removed.{opened_child}
-use Rattle.fc_tree_search.specs.Written.{set_value}
 use Rattle.fc_tree_retain.specs.Loose.{IsLoose}
 use Rattle.fc_tree_retain.specs.Sifted.{SiftsPair}
 use Rattle.fc_tree_retain.proofs.Levels.{loose_child, inner_above}

@@ -1,4 +1,4 @@
-use Rattle.std.proofs.Common.{◌≡◌, ℕ, ◌+◌, ◌-◌, ◌<◌, ◌≤◌, length, arith, refl, sym, ap, subst, ◌∙◌}
+use Rattle.std.proofs.Common.{◌≡◌, ◌+◌, ◌-◌, arith, subst}
 use Rattle.fc_tree_node.specs.Node.{own_pairs}
 use Rattle.fc_tree_retain.specs.Sifted.{SiftsPair}
 use Rattle.fc_tree_retain.proofs.Passing.{IsLeafSifted, leaf_start, leaf_passed, leaf_end, leaf_room}

@@ -1,9 +1,8 @@
-use Rattle.std.proofs.Common.{◌≡◌, ℕ, ◌<◌, ◌≤◌, length, get_or, arith, refl, sym, ap, subst, ◌∙◌}
+use Rattle.std.proofs.Common.{◌≡◌, length, get_or, arith, refl, ap, subst, ◌∙◌}
 use Rattle.std.specs.Prelude.{true, false}
 use Rattle.std.specs.List.{remove}
 use Rattle.std.proofs.lemmas.List.Edits.{length-remove}
-use Rattle.fc_tree_node.specs.Node.{own_pairs, IsLeaf}
-use Rattle.fc_tree_retain.specs.Sifted.{SiftsPair}
+use Rattle.fc_tree_node.specs.Node.{own_pairs}
 use Rattle.fc_tree_retain.proofs.Passing.{is_written, written_leaf, value_at}
 use Rattle.fc_tree_retain.proofs.sifting.sift_own.Goals as goal
 

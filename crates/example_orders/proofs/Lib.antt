@@ -1,0 +1,3 @@
+pub mod OrderFacts
+pub mod FillFacts
+pub mod PlaceFacts

@@ -1,0 +1,4 @@
+pub mod Orders
+pub mod Fills
+pub mod Sides
+pub mod Placing
