@@ -18,7 +18,6 @@ pub fn taken_over<K: Ord + Drop>(
     ensures joined { IfOk result (λ _. entries known.new ≡ joined K.cmp (entries known.old) (entries newer.old)) }
     ensures unchanged { OnErr result ((known.new ≡ known.old) × (newer.new ≡ newer.old)) }
 {
-    let _len = newer.len(); // shows that the keys ascend, on which the law rests
     known.append(newer)?;
     Ok(known.get(item).copied())
 }
@@ -35,7 +34,6 @@ pub fn taken_in<T: Ord + Copy + Drop>(
     ensures joined { IfOk result (λ _. items ours.new ≡ joined_items T.cmp (items ours.old) (items theirs.old)) }
     ensures unchanged { OnErr result ((ours.new ≡ ours.old) × (theirs.new ≡ theirs.old)) }
 {
-    let _len = theirs.len(); // shows that the items ascend
     ours.append(theirs)?;
     Ok(ours.get(item).copied())
 }

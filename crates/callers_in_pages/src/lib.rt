@@ -12,6 +12,7 @@ pub mod joins;
 pub mod neighbours;
 pub mod orders;
 pub mod sets;
+pub mod totals;
 pub mod vectors;
 
 use fallible_collections::btree::BTreeMap;

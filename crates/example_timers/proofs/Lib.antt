@@ -1,2 +1,1 @@
-pub mod ItemFacts
 pub mod StepFacts

@@ -18,10 +18,12 @@ pub use Rattle.fc_vec.specs.Items.{GivesAll, GivesFirst}
 -- vectors, and reading into them
 pub use Rattle.fc_vec.specs.Vectors.{Vector, MayRefuse, resized, IsExtended, IsFilled, IsCopiedUpTo}
 pub use Rattle.fc_vec.specs.Joined.{joined as joined_parts}
-pub use Rattle.fc_vec.specs.Lends.{with_items, lends_slice, lends_walk}
+pub use Rattle.fc_vec.specs.Lends.{with_items, item_written, lends_slice, lends_walk, lends_item, lends_item_if, lends_drain}
 pub use Rattle.fc_read.specs.Reading.{front, IsMoved, IsWhole}
 -- hashed maps
-pub use Rattle.fc_hash.specs.Pairs.{Hashed, IsMap, value_at as hashed_value_at, IsPut, IsTaken, AreCopies}
+pub use Rattle.fc_hash.specs.Pairs.{Hashed, IsMap, value_at as hashed_value_at, IsPut, IsTaken, AreCopies, agree_at, are_equal}
+pub use Rattle.fc_hash.specs.Lends.{with_value, lends_value}
+pub use Rattle.fc_hash.specs.Extended.{ArePut, IsPutAll, IsPutUpTo}
 -- maps, their entries and walks
 pub use Rattle.fc_map.specs.Entries.{Map, entries, IsSoundMap, passed_in, now_value, now_pair}
 pub use Rattle.fc_map.specs.Counts.{IsBounded}
@@ -33,10 +35,12 @@ pub use Rattle.fc_map.specs.Walks.{deref_pair, keys_of, values_of}
 pub use Rattle.fc_map.specs.Writing.{Stretch, whole, starting, wrote_first, wrote_last, wrote, wrote_all, set_value}
 pub use Rattle.fc_map.specs.Stretches.{range_map_ref, stretch, iter_map_ref, iter_stretch, IsFirstValue, IsLastValue, IsFirstPair, IsLastPair, CalledAtPair, IsVisitedIn}
 pub use Rattle.fc_tree_visit.specs.Visits.{VisitsInTurn}
+pub use Rattle.fc_tree_retain.specs.Retained.{RetainsInTurn, AskedAtPair, GivenPair, ExtractsBy}
 pub use Rattle.fc_map.specs.Compare.{pair_eq, pair_cmp, pair_partial_cmp, pair_input}
 -- sets
 pub use Rattle.fc_set.specs.Items.{items, item_at, smaller, greater, not_smaller, without, AreAscending, with_item, with_replaced, items_within, joined_items, extended_items, AreExtendedUpTo}
 pub use Rattle.fc_set.specs.Neighbours.{not_greater}
+pub use Rattle.fc_set.specs.Retained.{RetainsItems, GivenItem, ExtractsItem}
 pub use Rattle.fc_set.specs.Operations.{difference, common, symmetric_difference, intersection, union}
 -- commands
 pub use Rattle.fc_command.specs.Step.{IsNew, Step, Runs}

@@ -1,5 +1,5 @@
 -- How bytes are cut into lines, one byte more at a time.
-use Rattle.std.proofs.Common.{◌≡◌, ◌≢◌, ℕ, ◌<◌, eqb, List, [], ◌∷◌, ◌++◌, length, None, refl, sym, ap, ◌∙◌, arith, false, append_assoc, append-nil}
+use Rattle.std.proofs.Common.{◌≡◌, ◌≢◌, ℕ, zero, suc, ◌<◌, get_or, take, eqb, List, [], ◌∷◌, ◌++◌, length, None, refl, sym, ap, ◌∙◌, arith, false, append_assoc, append-nil}
 use Rattle.std.specs.List.{AllByRecursion}
 use Rattle.std.proofs.lemmas.Bool.Decides.{nat_tests}
 use Rattle.fc_lines.specs.Lines.{lines_of, whole_lines_of, onto_first}
@@ -12,9 +12,15 @@ Open line = AllByRecursion (λ x. x ≢ 10) line
 eqb_other : (x : ℕ) → x ≢ 10 → eqb x 10 ≡ false
 eqb_other x h = grind (arith, nat_tests)
 
-pub open_push : (line : List ℕ) (x : ℕ) → Open line → x ≢ 10 → Open (line ++ x ∷ [])
-open_push [] x o h = (h, tt)
-open_push (y ∷ line) x o h = (o.0, open_push line x o.1 h)
+pub open_append : (line part : List ℕ) → Open line → Open part → Open (line ++ part)
+open_append [] part o p = p
+open_append (y ∷ line) part o p = (o.0, open_append line part o.1 p)
+
+-- what stands before the first line feed
+pub open_take : (text : List ℕ) (n : ℕ) → ((k : ℕ) → k < n → get_or text k 0 ≢ 10) → Open (take n text)
+open_take text zero h = tt
+open_take [] (suc n) h = tt
+open_take (x ∷ text) (suc n) h = (h 0 (omega arith), open_take text n (λ k lt. h (suc k) (omega (arith, lt))))
 
 -- a line feed ends the line
 pub lines_feed : (line rest : List ℕ) → Open line → lines_of (line ++ 10 ∷ rest) ≡ line ∷ lines_of rest
@@ -57,12 +63,12 @@ pub cuts_none : Cuts [] [] []
 cuts_none = record { lines = λ rest. refl; whole = λ rest. refl; open_line = tt }
 
 module _ (seen : List ℕ) (front : List (List ℕ)) (line : List ℕ) (cuts : Cuts seen front line) where
-  -- a byte goes onto the line
-  pub cuts_byte : (x : ℕ) → x ≢ 10 → Cuts (seen ++ x ∷ []) front (line ++ x ∷ [])
-  cuts_byte x h = record {
-    lines = λ rest. rw (append_assoc seen (x ∷ []) rest, append_assoc line (x ∷ []) rest) (cuts.lines (x ∷ rest));
-    whole = λ rest. rw (append_assoc seen (x ∷ []) rest, append_assoc line (x ∷ []) rest) (cuts.whole (x ∷ rest));
-    open_line = open_push line x cuts.open_line h;
+  -- bytes without a line feed go onto the line
+  pub cuts_part : (part : List ℕ) → Open part → Cuts (seen ++ part) front (line ++ part)
+  cuts_part part h = record {
+    lines = λ rest. rw (append_assoc seen part rest, append_assoc line part rest) (cuts.lines (part ++ rest));
+    whole = λ rest. rw (append_assoc seen part rest, append_assoc line part rest) (cuts.whole (part ++ rest));
+    open_line = open_append line part cuts.open_line h;
   }
 
   -- a line feed ends it

@@ -17,7 +17,7 @@ use Rattle.fc_lines.specs.Grammar.{command_of}
 use Rattle.fc_lines.specs.Texts.{text_of, fault_text}
 use Rattle.fc_command.specs.Spoken.{SpokenTo, Spoken, Faulted, Cut, StopsAtList, Served}
 use Rattle.fc_command.specs.Session.{Written, FaultTold, LineRun, Cuts, IsAfter, Failed, PieceRun, Ended}
-use Rattle.fc_command.proofs.CutFacts.{cuts_none, cuts_byte, cuts_feed, cuts_whole, lines_feed, lines_open, lines_begin_any, open_push, too_long}
+use Rattle.fc_command.proofs.CutFacts.{Open, cuts_none, cuts_part, cuts_feed, cuts_whole, lines_feed, lines_open, lines_begin_any, open_append, too_long}
 use Rattle.fc_command.proofs.SpokenFacts.{spoken_none, spoken_more}
 
 -- the line is not a command
@@ -99,66 +99,95 @@ cut_spoken lines text s = ([], inl (lines, [], sym (append-nil lines), rw (appen
 pub cut_faulted : (lines : List (List ℕ)) (text : List ℕ) (n : ℕ) → Faulted lines text n → Cut lines text
 cut_faulted lines text n s = ([], inr (n, rw (append-nil text) s))
 
--- a byte of a piece, and what stands before and after it
-pub at_byte : (seen piece : List ℕ) (i : ℕ) → i < length piece → seen ++ piece ≡ (seen ++ take i piece) ++ get_or piece i 0 ∷ drop (i + 1) piece
-at_byte seen piece i h =
-    let cell : drop i piece ≡ get_or piece i 0 ∷ drop (i + 1) piece = rw (add-one, drop-cons piece i 0) refl in
-    ap (λ l. seen ++ l) (sym (take-append-drop i piece) ∙ ap (λ l. take i piece ++ l) cell) ∙ sym (append_assoc seen (take i piece) (get_or piece i 0 ∷ drop (i + 1) piece))
-
-pub byte_more : (seen piece : List ℕ) (i : ℕ) → i < length piece → seen ++ take (i + 1) piece ≡ (seen ++ take i piece) ++ get_or piece i 0 ∷ []
-byte_more seen piece i h =
-    let more : take (i + 1) piece ≡ take i piece ++ get_or piece i 0 ∷ [] = take_more piece i 0 h in
-    ap (λ l. seen ++ l) more ∙ sym (append_assoc seen (take i piece) (get_or piece i 0 ∷ []))
-
-module _ (seen said piece m0 more : List ℕ) (i : ℕ) (lt : i < length piece) (s : Session) (a : IsAfter s (seen ++ take i piece) (said ++ m0)) where
-  fed_place : get_or piece i 0 ≡ 10 → (rest : List ℕ) → lines_of ((seen ++ piece) ++ rest) ≡ a.front ++ s.line.items ∷ lines_of (drop (i + 1) piece ++ rest)
-  fed_place feed rest =
-      let here = at_byte seen piece i lt ∙ ap (λ x. (seen ++ take i piece) ++ x ∷ drop (i + 1) piece) feed in
-      ap (λ l. lines_of (l ++ rest)) here ∙ ap lines_of (append_assoc (seen ++ take i piece) (10 ∷ drop (i + 1) piece) rest) ∙ place_feed _ a.front s.line.items (drop (i + 1) piece ++ rest) a.cuts
-
-  pub fed_failed : get_or piece i 0 ≡ 10 → (new : Session) (e : ServeError) → LineRun s new a.front (said ++ m0) more (Err e) → (rest : List ℕ) → Failed (lines_of ((seen ++ piece) ++ rest)) (said ++ (m0 ++ more)) e
-  fed_failed feed new e run rest = subst (λ t. Failed (lines_of ((seen ++ piece) ++ rest)) t e) (append_assoc said m0 more) (line_failed _ s new a.front _ (said ++ m0) more e (fed_place feed rest) a.spoken a.number run)
-
-  pub fed_fault : get_or piece i 0 ≡ 10 → (new : Session) (n : ℕ) → LineRun s new a.front (said ++ m0) more (Ok (Some n)) → (rest : List ℕ) → Faulted (lines_of ((seen ++ piece) ++ rest)) (said ++ (m0 ++ more)) n
-  fed_fault feed new n run rest = subst (λ t. Faulted (lines_of ((seen ++ piece) ++ rest)) t n) (append_assoc said m0 more) (faulted_here _ a.front _ s.line.items (said ++ m0) more s.world s.number n (fed_place feed rest) a.spoken a.number run.0 run.1 run.2)
-
-  pub fed_on : get_or piece i 0 ≡ 10 → (new : Session) → LineRun s new a.front (said ++ m0) more (Ok None) → IsAfter new (seen ++ take (i + 1) piece) (said ++ (m0 ++ more))
-  fed_on feed new run =
-      let here = byte_more seen piece i lt ∙ ap (λ x. (seen ++ take i piece) ++ x ∷ []) feed in
-      record {
-        front = a.front ++ s.line.items ∷ [];
-        cuts = rw (here, run.1) (cuts_feed _ a.front s.line.items a.cuts);
-        spoken = subst (λ t. SpokenTo (a.front ++ s.line.items ∷ []) t new.world) (append_assoc said m0 more) run.0;
-        number = rw length_push (next_number s.number new.number (length a.front) a.number run.2);
-      }
-
-  pub byte_on : get_or piece i 0 ≢ 10 → (new : Session) → new.world ≡ s.world → new.number ≡ s.number → new.line.items ≡ s.line.items ++ get_or piece i 0 ∷ [] → IsAfter new (seen ++ take (i + 1) piece) (said ++ m0)
-  byte_on other new world number line = record {
+-- bytes without a line feed were put behind the line, or are too many for it
+module _ (seen said : List ℕ) (s : Session) (a : IsAfter s seen said) (part : List ℕ) (open_part : Open part) where
+  pub part_on : (new : Session) → new.world ≡ s.world → new.number ≡ s.number → new.line.items ≡ s.line.items ++ part → IsAfter new (seen ++ part) said
+  part_on new world number line = record {
     front = a.front;
-    cuts = rw (byte_more seen piece i lt, line) (cuts_byte _ a.front s.line.items a.cuts (get_or piece i 0) other);
+    cuts = rw line (cuts_part _ a.front s.line.items a.cuts part open_part);
     spoken = rw world a.spoken;
     number = number ∙ a.number;
   }
 
-  long_place : get_or piece i 0 ≢ 10 → (rest : List ℕ) → (tail : List ℕ) × (after : List (List ℕ)) × (lines_of ((seen ++ piece) ++ rest) ≡ a.front ++ ((s.line.items ++ get_or piece i 0 ∷ []) ++ tail) ∷ after)
-  long_place other rest =
-      let x = get_or piece i 0 in
-      let later = drop (i + 1) piece ++ rest in
-      let first = lines_begin_any (s.line.items ++ x ∷ []) later (open_push s.line.items x a.cuts.open_line other) (omega (arith, length_push s.line.items x)) in
-      let whole : (seen ++ piece) ++ rest ≡ (seen ++ take i piece) ++ x ∷ later = ap (λ l. l ++ rest) (at_byte seen piece i lt) ∙ append_assoc (seen ++ take i piece) (x ∷ drop (i + 1) piece) rest in
-      (first.0, first.1, ap lines_of whole ∙ a.cuts.lines (x ∷ later) ∙ ap (λ l. a.front ++ lines_of l) (sym (append_assoc s.line.items (x ∷ []) later)) ∙ ap (λ l. a.front ++ l) first.2)
+  long_place : 0 < length (s.line.items ++ part) → (rest : List ℕ) → (tail : List ℕ) × (after : List (List ℕ)) × (lines_of ((seen ++ part) ++ rest) ≡ a.front ++ ((s.line.items ++ part) ++ tail) ∷ after)
+  long_place some rest =
+      let first = lines_begin_any (s.line.items ++ part) rest (open_append s.line.items part a.cuts.open_line open_part) some in
+      (first.0, first.1, (cuts_part _ a.front s.line.items a.cuts part open_part).lines rest ∙ ap (λ l. a.front ++ l) first.2)
 
-  long_line : length s.line.items ≡ 4096 → (tail : List ℕ) → command_of ((s.line.items ++ get_or piece i 0 ∷ []) ++ tail) ≡ None
-  long_line full tail = too_long _ (omega (arith, length-append (s.line.items ++ get_or piece i 0 ∷ []) tail, length_push s.line.items (get_or piece i 0)))
+  long_line : 4096 < length (s.line.items ++ part) → (tail : List ℕ) → command_of ((s.line.items ++ part) ++ tail) ≡ None
+  long_line long tail = too_long _ (omega (arith, long, length-append (s.line.items ++ part) tail))
 
-  pub long_refused : get_or piece i 0 ≢ 10 → length s.line.items ≡ 4096 → (new : Session) (r : Result (Option ℕ) ServeError) → FaultTold (min (s.number + 1) (2 ^ 64 - 1)) more r → PieceRun new (seen ++ piece) (said ++ (m0 ++ more)) r
-  long_refused other full new (Ok None) told = absurd told
-  long_refused other full new (Ok (Some n)) told = λ rest.
-      let p = long_place other rest in
-      subst (λ t. Faulted (lines_of ((seen ++ piece) ++ rest)) t n) (append_assoc said m0 more) (faulted_here _ a.front p.1 _ (said ++ m0) more s.world s.number n p.2 a.spoken a.number (long_line full p.0) told.0 told.1)
-  long_refused other full new (Err e) told = λ rest.
-      let p = long_place other rest in
-      subst (λ t. Failed (lines_of ((seen ++ piece) ++ rest)) t e) (append_assoc said m0 more) (refused_line _ a.front p.1 _ (said ++ m0) more s.world s.number (Err e) p.2 a.spoken a.number (long_line full p.0) told)
+  pub part_refused : 4096 < length (s.line.items ++ part) → (new : Session) (more : List ℕ) (r : Result (Option ℕ) ServeError) → FaultTold (min (s.number + 1) (2 ^ 64 - 1)) more r → PieceRun new (seen ++ part) (said ++ more) r
+  part_refused long new more (Ok None) told = absurd told
+  part_refused long new more (Ok (Some n)) told = λ rest.
+      let p = long_place (omega (arith, long)) rest in
+      faulted_here _ a.front p.1 _ said more s.world s.number n p.2 a.spoken a.number (long_line long p.0) told.0 told.1
+  part_refused long new more (Err e) told = λ rest.
+      let p = long_place (omega (arith, long)) rest in
+      refused_line _ a.front p.1 _ said more s.world s.number (Err e) p.2 a.spoken a.number (long_line long p.0) told
+
+-- a line feed came, and the line was run
+module _ (seen said more : List ℕ) (s new : Session) (a : IsAfter s seen said) where
+  feed_place : (rest : List ℕ) → lines_of ((seen ++ 10 ∷ []) ++ rest) ≡ a.front ++ s.line.items ∷ lines_of rest
+  feed_place rest = ap lines_of (append_assoc seen (10 ∷ []) rest) ∙ place_feed seen a.front s.line.items rest a.cuts
+
+  pub fed : (r : Result (Option ℕ) ServeError) → LineRun s new a.front said more r → PieceRun new (seen ++ 10 ∷ []) (said ++ more) r
+  fed (Ok None) run = record {
+    front = a.front ++ s.line.items ∷ [];
+    cuts = rw run.1 (cuts_feed _ a.front s.line.items a.cuts);
+    spoken = run.0;
+    number = rw length_push (next_number s.number new.number (length a.front) a.number run.2);
+  }
+  fed (Ok (Some n)) run = λ rest. faulted_here _ a.front _ s.line.items said more s.world s.number n (feed_place rest) a.spoken a.number run.0 run.1 run.2
+  fed (Err e) run = λ rest. line_failed _ s new a.front _ said more e (feed_place rest) a.spoken a.number run
+
+-- what ended the session stands however the source goes on
+fault_goes_on : (new : Session) (seen said later : List ℕ) (n : ℕ) → PieceRun new seen said (Ok (Some n)) → PieceRun new (seen ++ later) said (Ok (Some n))
+fault_goes_on new seen said later n h rest = rw (append_assoc seen later rest) (h (later ++ rest))
+
+failure_goes_on : (new : Session) (seen said later : List ℕ) (e : ServeError) → PieceRun new seen said (Err e) → PieceRun new (seen ++ later) said (Err e)
+failure_goes_on new seen said later e h rest = rw (append_assoc seen later rest) (h (later ++ rest))
+
+refusal_goes_on : (new : Session) (seen said later more : List ℕ) (number : ℕ) (r : Result (Option ℕ) ServeError) → FaultTold number more r → PieceRun new seen said r → PieceRun new (seen ++ later) said r
+refusal_goes_on new seen said later more number (Ok None) told h = absurd told
+refusal_goes_on new seen said later more number (Ok (Some n)) told h = fault_goes_on new seen said later n h
+refusal_goes_on new seen said later more number (Err e) told h = failure_goes_on new seen said later e h
+
+-- of a piece so much was taken, then comes a part without a line feed, and then what is left
+module _ (seen said piece taken rest part left m0 : List ℕ) (e : piece ≡ taken ++ rest) (f : rest ≡ part ++ left) (s : Session) (a : IsAfter s (seen ++ taken) (said ++ m0)) (open_part : Open part) where
+  in_parts : seen ++ piece ≡ ((seen ++ taken) ++ part) ++ left
+  in_parts = ap (λ l. seen ++ l) (e ∙ ap (λ l. taken ++ l) f) ∙ sym (append_assoc seen taken (part ++ left)) ∙ sym (append_assoc (seen ++ taken) part left)
+
+  pub piece_refused : 4096 < length (s.line.items ++ part) → (new : Session) (more : List ℕ) (r : Result (Option ℕ) ServeError) → FaultTold (min (s.number + 1) (2 ^ 64 - 1)) more r → PieceRun new (seen ++ piece) (said ++ (m0 ++ more)) r
+  piece_refused long new more r told =
+      let here = part_refused (seen ++ taken) (said ++ m0) s a part open_part long new more r told in
+      let on = refusal_goes_on new ((seen ++ taken) ++ part) ((said ++ m0) ++ more) left more _ r told here in
+      subst (λ t. PieceRun new (seen ++ piece) t r) (append_assoc said m0 more) (subst (λ l. PieceRun new l ((said ++ m0) ++ more) r) (sym in_parts) on)
+
+  pub piece_open : left ≡ [] → (new : Session) → new.world ≡ s.world → new.number ≡ s.number → new.line.items ≡ s.line.items ++ part → IsAfter new (seen ++ piece) (said ++ m0)
+  piece_open none new world number line =
+      let all = in_parts ∙ ap (λ l. ((seen ++ taken) ++ part) ++ l) none ∙ append-nil ((seen ++ taken) ++ part) in
+      subst (λ l. IsAfter new l (said ++ m0)) (sym all) (part_on (seen ++ taken) (said ++ m0) s a part open_part new world number line)
+
+  -- what is left begins with a line feed, at which the line is run
+  module _ (after more : List ℕ) (feed : left ≡ 10 ∷ after) (t new : Session) (world : t.world ≡ s.world) (number : t.number ≡ s.number) (line : t.line.items ≡ s.line.items ++ part) where
+    in_lines : seen ++ piece ≡ (((seen ++ taken) ++ part) ++ 10 ∷ []) ++ after
+    in_lines = in_parts ∙ ap (λ l. ((seen ++ taken) ++ part) ++ l) feed ∙ sym (append_assoc ((seen ++ taken) ++ part) (10 ∷ []) after)
+
+    run_here : (r : Result (Option ℕ) ServeError) → LineRun t new a.front (said ++ m0) more r → PieceRun new (((seen ++ taken) ++ part) ++ 10 ∷ []) (said ++ (m0 ++ more)) r
+    unfolding part_on
+    run_here r run =
+        let a' = part_on (seen ++ taken) (said ++ m0) s a part open_part t world number line in
+        subst (λ x. PieceRun new (((seen ++ taken) ++ part) ++ 10 ∷ []) x r) (append_assoc said m0 more) (fed ((seen ++ taken) ++ part) (said ++ m0) more t new a' r run)
+
+    pub piece_failed : (x : ServeError) → LineRun t new a.front (said ++ m0) more (Err x) → PieceRun new (seen ++ piece) (said ++ (m0 ++ more)) (Err x)
+    piece_failed x run = subst (λ l. PieceRun new l (said ++ (m0 ++ more)) (Err x)) (sym in_lines) (failure_goes_on new (((seen ++ taken) ++ part) ++ 10 ∷ []) (said ++ (m0 ++ more)) after x (run_here (Err x) run))
+
+    pub piece_fault : (n : ℕ) → LineRun t new a.front (said ++ m0) more (Ok (Some n)) → PieceRun new (seen ++ piece) (said ++ (m0 ++ more)) (Ok (Some n))
+    piece_fault n run = subst (λ l. PieceRun new l (said ++ (m0 ++ more)) (Ok (Some n))) (sym in_lines) (fault_goes_on new (((seen ++ taken) ++ part) ++ 10 ∷ []) (said ++ (m0 ++ more)) after n (run_here (Ok (Some n)) run))
+
+    pub piece_on : LineRun t new a.front (said ++ m0) more (Ok None) → IsAfter new (seen ++ (taken ++ (part ++ 10 ∷ []))) (said ++ (m0 ++ more))
+    piece_on run = subst (λ l. IsAfter new l (said ++ (m0 ++ more))) (append_assoc (seen ++ taken) part (10 ∷ []) ∙ append_assoc seen taken (part ++ 10 ∷ [])) (run_here (Ok None) run)
 
 -- what holds of a source however it goes on, and of one that was read whole
 pub however : (a b : Option (List ℕ)) (seen : List ℕ) (P : List ℕ → Type 0) → Consumes a b seen → ((rest : List ℕ) → P (seen ++ rest)) → IfSome a P

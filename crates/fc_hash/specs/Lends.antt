@@ -16,5 +16,5 @@ with_value eq m k w = record { pairs = set_value (eq k) m.pairs w; spare = m.spa
 
 -- Once the borrow r of the value at a key equal to k ends, the map has there what was written through r; where there is none,
 -- the map stays as it is.
-abbrev pub lends_get : (K V : RattleType) → HashMembers K.Denot → MutBor (Hashed K.Denot V.Denot) → K.Denot → Option (MutBor V.Denot) → Fml
-lends_get K V g m k r = LendsIf (map_row K V g) V m r (with_value g.eq m.now k) m.now
+abbrev pub lends_value : (K V : RattleType) → HashMembers K.Denot → MutBor (Hashed K.Denot V.Denot) → K.Denot → Option (MutBor V.Denot) → Fml
+lends_value K V g m k r = LendsIf (map_row K V g) V m r (with_value g.eq m.now k) m.now

@@ -31,6 +31,7 @@ mod range;
 mod range_mut;
 mod ready;
 mod remove;
+mod retain;
 mod room;
 mod split_off;
 

@@ -8,3 +8,4 @@ pub mod OrderFacts
 pub mod StepFacts
 pub mod OperationLaws
 pub mod NeighbourFacts
+pub mod RetainedFacts

@@ -4,3 +4,4 @@ pub mod Neighbours
 pub mod Operations
 pub mod Sides
 pub mod HashLaws
+pub mod Retained

@@ -17,6 +17,7 @@ mod neighbours;
 mod operators;
 mod peeked;
 mod predicates;
+mod retain;
 mod room;
 mod symmetric_difference;
 mod union;

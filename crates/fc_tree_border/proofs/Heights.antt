@@ -11,7 +11,7 @@ use Rattle.fc_tree_border.specs.declared.mending.Border.{Border}
 use Rattle.fc_tree_border.specs.declared.mending.Border.TheVariants.{Left, Right}
 
 -- one more than the first number
-abbrev above_first : List ℕ → ℕ
+abbrev pub above_first : List ℕ → ℕ
 above_first [] = 0
 above_first (x ∷ xs) = suc x
 
@@ -34,14 +34,14 @@ module _ {K V : Type 0} where
   folded ps None = refl
   folded ps (Some bs) = ap above_first (heights bs)
 
-  height_is : (n : Node K V) → height_of n ≡ above_first (map height_of (children_of n))
+  pub height_is : (n : Node K V) → height_of n ≡ above_first (map height_of (children_of n))
   height_is n = fold_out-Node K V ℕ height_step n ∙ folded (out-Node K V n).pairs (out-Node K V n).children
 
-  no_children : (n : Node K V) → children_of n ≡ [] → height_of n ≡ 0
+  pub no_children : (n : Node K V) → children_of n ≡ [] → height_of n ≡ 0
   no_children n e = height_is n ∙ ap (λ cs. above_first (map height_of cs)) e
 
   -- the first child is as high as each
-  first_all : (h : ℕ) (P : Node K V → Type 0) → ((c : Node K V) → P c → height_of c ≡ h) → (cs : List (Node K V)) → 0 < length cs → AllByRecursion P cs → above_first (map height_of cs) ≡ suc h
+  pub first_all : (h : ℕ) (P : Node K V → Type 0) → ((c : Node K V) → P c → height_of c ≡ h) → (cs : List (Node K V)) → 0 < length cs → AllByRecursion P cs → above_first (map height_of cs) ≡ suc h
   first_all h P f [] k a = absurd (omega arith)
   first_all h P f (c ∷ cs) k a = ap suc (f c a.0)
 

@@ -5,8 +5,8 @@ ghost use Rattle.fc_tree_node.specs.Tree.{entries, root_of, IsSoundMap};
 
 use fc_tree_node::node::Node;
 
-// How many pairs there are in a tree, if there is one.
-pub(crate) fn count_in<K, V>(root: &Option<Box<Node<K, V>>>) -> usize
+/// How many pairs there are in a tree, if there is one, by a walk over its nodes.
+pub fn count_in<K, V>(root: &Option<Box<Node<K, V>>>) -> usize
     requires sound { IsSoundMap (root_of root.now) }
     requires fits { length (entries (root_of root.now)) ≤ usize.MAX }
     ensures { result ≡ length (entries (root_of root.now)) }

@@ -184,6 +184,13 @@ module _ {K V : Type 0} where
       within (inl w) = absurd (let v = w.0 in omega arith)
       within (inr w) = w.1
 
+  pub last_has_room : (old s : List (Box (Node K V) Global)) (b : Box (Node K V) Global) → old ≡ s ++ b ∷ [] → needed old ≡ 0 → length (own_pairs b.value) < capacity
+  last_has_room old s b e none = within (cases_lt (length (own_pairs b.value)) capacity)
+    where
+      within : (length (own_pairs b.value) < capacity) ⊎ (capacity ≤ length (own_pairs b.value)) → length (own_pairs b.value) < capacity
+      within (inl room) = room
+      within (inr full) = absurd (let more = needed_full old s b e full in omega (arith, none))
+
   pub some_needed : (s : List (Box (Node K V) Global)) → 0 < length s + needed s
   some_needed [] = omega arith
   some_needed (b ∷ s) = omega arith

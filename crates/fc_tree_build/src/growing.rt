@@ -1,5 +1,5 @@
 //! A tree that grows at its right end, with its nodes made as they are needed.
-ghost use Rattle.std.specs.Prelude.{◌≡◌, ◌≤◌, ◌⊎◌, [], ◌∷◌, ◌++◌, length, IfOk, IfErr};
+ghost use Rattle.std.specs.Prelude.{◌≡◌, ◌≤◌, ◌⊎◌, [], ◌∷◌, ◌++◌, length, IfOk, IfErr, IfSome, None};
 ghost use Rattle.fc_base.specs.Sizes.{capacity, most_height};
 ghost use Rattle.fc_tree_drain.specs.Opened.{before_back};
 ghost use Rattle.fc_tree_node.specs.Node.{own_pairs, pairs_of, IsLeaf, IsBlankLeaf, IsBlankInner, IsSound};
@@ -8,7 +8,9 @@ ghost use Rattle.fc_tree_node.specs.Tree.{entries, root_of, IsSoundMap};
 ghost use Rattle.fc_tree_build.specs.Spine.{IsLastPair, IsSpine};
 
 use crate::spares::try_inner_nodes;
-use crate::spine::{Spine, attach, close, last_of, needed, open_right, put_pair};
+use crate::spine::{
+    Spine, attach, close, has_room, last_of, needed, open_right, put_in_room, put_pair,
+};
 use fc_base::TryReserveError;
 use fc_tree_border::mending::mend_right;
 use fc_tree_drain::stack::Stack;
@@ -16,6 +18,7 @@ use fc_tree_node::node::{CAPACITY, Node};
 use fc_tree_node::path::MAX_STEPS;
 use std::alloc::Global;
 use std::marker::Model;
+use std::mem;
 
 /// A tree to whose end pairs are put, seen as the list of its pairs. It asks for memory at its first pair and where its last leaf is full.
 #[derive(Drop)]
@@ -88,13 +91,55 @@ impl<K: Drop, V: Drop> Growing<K, V> {
         ensures error { IfErr result (λ e. e.1 ≡ TryReserveError.AllocError) }
         ensures full { IfErr result (λ _. (self.old ≡ []) ⊎ (capacity ≤ length self.old)) }
     {
+        match self.put_in_leaf(pair) {
+            None => Ok(()),
+            Some(pair) => self.push_growing(pair),
+        }
+    }
+
+    /// As `push`, but a pair that is refused is dropped.
+    ///
+    /// # Errors
+    /// As `push`.
+    pub fn put(&mut self, pair: (K, V)) -> Result<(), TryReserveError>
+        ensures pairs { IfOk result (λ _. self.new ≡ self.old ++ pair ∷ []) }
+        ensures unchanged { IfErr result (λ _. self.new ≡ self.old) }
+        ensures error { IfErr result (λ e. e ≡ TryReserveError.AllocError) }
+        ensures full { IfErr result (λ _. (self.old ≡ []) ⊎ (capacity ≤ length self.old)) }
+    {
+        match self.put_in_leaf(pair) {
+            None => Ok(()),
+            Some(pair) => self.put_growing(pair),
+        }
+    }
+
+    // Puts the pair into the last leaf where that has room, else it comes back.
+    #[inline(always)]
+    fn put_in_leaf(&mut self, pair: (K, V)) -> Option<(K, V)>
+        ensures put { result ≡ None → self.new ≡ self.old ++ pair ∷ [] }
+        ensures back { IfSome result (λ back. (back ≡ pair) × (self.new ≡ self.old)) }
+    {
         if let Some(leaf) = &mut self.last {
             if leaf.len() < CAPACITY {
                 put_pair(leaf, pair);
-                return Ok(());
+                return None;
             }
         }
-        self.push_growing(pair)
+        Some(pair)
+    }
+
+    // The same by what takes memory, as `push_growing`.
+    #[inline(never)]
+    fn put_growing(&mut self, pair: (K, V)) -> Result<(), TryReserveError>
+        ensures pairs { IfOk result (λ _. self.new ≡ self.old ++ pair ∷ []) }
+        ensures unchanged { IfErr result (λ _. self.new ≡ self.old) }
+        ensures error { IfErr result (λ e. e ≡ TryReserveError.AllocError) }
+        ensures full { IfErr result (λ _. (self.old ≡ []) ⊎ (capacity ≤ length self.old)) }
+    {
+        match self.push_growing(pair) {
+            Ok(()) => Ok(()),
+            Err((_pair, error)) => Err(error),
+        }
     }
 
     // The same by what takes memory, whether the last leaf is full or not. It is not inlined, since the pushes that take none would then
@@ -107,7 +152,7 @@ impl<K: Drop, V: Drop> Growing<K, V> {
         ensures error { IfErr result (λ e. e.1 ≡ TryReserveError.AllocError) }
         ensures full { IfErr result (λ _. (self.old ≡ []) ⊎ (capacity ≤ length self.old)) }
     {
-        let Some(mut last) = self.last.take() else {
+        let Some(last) = &mut self.last else {
             return match first_leaf(self.alloc, pair) {
                 Ok(leaf) => {
                     self.last = Some(leaf);
@@ -117,20 +162,11 @@ impl<K: Drop, V: Drop> Growing<K, V> {
             };
         };
         if last.len() < CAPACITY {
-            put_pair(&mut last, pair);
-            self.last = Some(last);
+            put_pair(last, pair);
             return Ok(());
         }
-        match hang_full(self.alloc, &mut self.spine, last, pair) {
-            Ok(blank) => {
-                self.last = Some(blank);
-                Ok(())
-            }
-            Err((leaf, pair, error)) => {
-                self.last = Some(leaf);
-                Err((pair, error))
-            }
-        }
+        hang_full(self.alloc, &mut self.spine, last, pair)?;
+        Ok(())
     }
 
     /// The root of a sound tree of the pairs; none where there is no pair.
@@ -164,33 +200,62 @@ fn first_leaf<K: Drop, V: Drop>(
             put_pair(&mut leaf, pair);
             Ok(leaf)
         }
+        Err(refusal) => Err((pair, refusal)),
+    }
+}
+
+// Puts the full last leaf and the pair after it at the spine's end, and a blank leaf in its place. Where the spine's last node has room,
+// that is the one node that is made.
+fn hang_full<K: Drop, V: Drop>(
+    alloc: Global,
+    spine: &mut Spine<K, V>,
+    last: &mut Box<Node<K, V>>,
+    pair: (K, V),
+) -> Result<(), ((K, V), TryReserveError)>
+    requires levels { IsSpine 0 spine.old × IsSound 0 last.old.value }
+    requires low { length spine.old ≤ most_height }
+    ensures blank { IfOk result (λ _. IsBlankLeaf last.new.value) }
+    ensures pairs { IfOk result (λ _. before_back spine.new ≡ before_back spine.old ++ (pairs_of last.old.value ++ pair ∷ [])) }
+    ensures levels { IfOk result (λ _. IsSpine 0 spine.new × (length spine.new ≤ most_height)) }
+    ensures unchanged { IfErr result (λ e. (spine.new ≡ spine.old) × (last.new ≡ last.old) × (e.0 ≡ pair)) }
+    ensures error { IfErr result (λ e. e.1 ≡ TryReserveError.AllocError) }
+{
+    if !has_room(spine) {
+        return hang_above(alloc, spine, last, pair);
+    }
+    match Node::try_leaf(alloc) {
+        Ok(blank) => {
+            let leaf = mem::replace(last, blank);
+            put_in_room(spine, leaf, pair);
+            Ok(())
+        }
         Err(error) => Err((pair, error)),
     }
 }
 
-// Puts the full leaf and the pair after it at the spine's end, and answers a blank leaf that comes next; where a node is refused, what it
-// was given.
+// The same by what makes inner nodes, whether they are needed or not.
 #[inline(never)]
-fn hang_full<K: Drop, V: Drop>(
+fn hang_above<K: Drop, V: Drop>(
     alloc: Global,
     spine: &mut Spine<K, V>,
-    leaf: Box<Node<K, V>>,
+    last: &mut Box<Node<K, V>>,
     pair: (K, V),
-) -> Result<Box<Node<K, V>>, (Box<Node<K, V>>, (K, V), TryReserveError)>
-    requires levels { IsSpine 0 spine.old × IsSound 0 leaf.value }
+) -> Result<(), ((K, V), TryReserveError)>
+    requires levels { IsSpine 0 spine.old × IsSound 0 last.old.value }
     requires low { length spine.old ≤ most_height }
-    ensures blank { IfOk result (λ blank. IsBlankLeaf blank.value) }
-    ensures pairs { IfOk result (λ _. before_back spine.new ≡ before_back spine.old ++ (pairs_of leaf.value ++ pair ∷ [])) }
+    ensures blank { IfOk result (λ _. IsBlankLeaf last.new.value) }
+    ensures pairs { IfOk result (λ _. before_back spine.new ≡ before_back spine.old ++ (pairs_of last.old.value ++ pair ∷ [])) }
     ensures levels { IfOk result (λ _. IsSpine 0 spine.new × (length spine.new ≤ most_height)) }
-    ensures unchanged { IfErr result (λ e. (spine.new ≡ spine.old) × (e.0 ≡ leaf) × (e.1 ≡ pair)) }
-    ensures error { IfErr result (λ e. e.2 ≡ TryReserveError.AllocError) }
+    ensures unchanged { IfErr result (λ e. (spine.new ≡ spine.old) × (last.new ≡ last.old) × (e.0 ≡ pair)) }
+    ensures error { IfErr result (λ e. e.1 ≡ TryReserveError.AllocError) }
 {
     match try_leaf_and_inner(alloc, needed(spine)) {
         Ok((blank, mut spares)) => {
+            let leaf = mem::replace(last, blank);
             attach(spine, leaf, pair, &mut spares);
-            Ok(blank)
+            Ok(())
         }
-        Err(error) => Err((leaf, pair, error)),
+        Err(e) => Err((pair, e)),
     }
 }
 

@@ -1,5 +1,5 @@
 //! The right spine of a tree that grows at its right end.
-ghost use Rattle.std.specs.Prelude.{◌≡◌, ℕ, suc, ◌+◌, ◌-◌, ◌*◌, ◌<◌, ◌≤◌, ◌↔◌, [], ◌∷◌, ◌++◌, length};
+ghost use Rattle.std.specs.Prelude.{◌≡◌, ℕ, suc, ◌+◌, ◌-◌, ◌*◌, ◌<◌, ◌≤◌, ◌↔◌, [], ◌∷◌, ◌++◌, length, IsTrue};
 ghost use Rattle.std.specs.List.{AllByRecursion};
 ghost use Rattle.fc_base.specs.Sizes.{capacity, most_children, most_height, most_levels};
 ghost use Rattle.fc_tree_node.specs.Node.{own_pairs, children_of, pairs_of, IsLeaf, IsSound, IsSoundRoot, IsBlankInner};
@@ -48,6 +48,25 @@ pub fn attach<K: Drop, V: Drop>(
     spine.push(take_spare(spares));
 }
 
+/// The same where the spine's last node has room.
+pub(crate) fn put_in_room<K: Drop, V: Drop>(
+    spine: &mut Spine<K, V>,
+    subtree: Box<Node<K, V>>,
+    pair: (K, V),
+)
+    requires levels { IsSpine 0 spine.old × IsSound 0 subtree.value }
+    requires room { needed spine.old ≡ 0 }
+    requires low { length spine.old ≤ most_height }
+    ensures pairs { before_back spine.new ≡ before_back spine.old ++ (pairs_of subtree.value ++ pair ∷ []) }
+    ensures levels { IsSpine 0 spine.new }
+    ensures length { length spine.new ≡ length spine.old }
+{
+    let mut node = spine.pop();
+    put_child(&mut node, subtree);
+    put_pair(&mut node, pair);
+    spine.push(node);
+}
+
 /// The tree with the spine on its right edge and `last` below it.
 pub fn close<K: Drop, V: Drop>(spine: &mut Spine<K, V>, last: Box<Node<K, V>>) -> Box<Node<K, V>>
     requires levels { (h : ℕ) × IsSpine h spine.old × IsRightBordered h last.value }
@@ -60,6 +79,14 @@ pub fn close<K: Drop, V: Drop>(spine: &mut Spine<K, V>, last: Box<Node<K, V>>) -
     let mut node = spine.pop();
     put_child(&mut node, last);
     close(spine, node)
+}
+
+/// Whether the spine's last node has room for one more subtree.
+pub(crate) fn has_room<K, V>(spine: &Spine<K, V>) -> bool
+    ensures { IsTrue result → needed spine.now ≡ 0 }
+{
+    let len = spine.len();
+    len > 0 && spine.get(len - 1).len() < CAPACITY
 }
 
 /// How many inner nodes one more subtree at the spine's end takes.

@@ -1,7 +1,7 @@
 -- From a gap of a leaf to the pair on either side, and to the gap on the other side of it.
 use Rattle.std.proofs.Common.{◌≡◌, ℕ, zero, suc, ◌+◌, ◌-◌, ◌<◌, ◌≤◌, List, [], ◌∷◌, ◌++◌, length, take, get_or, refl, sym, ap, subst, ◌∙◌, arith, add-one, Some, None, append-nil, append_assoc, length-append}
 use Rattle.std.specs.Prelude.{slice_range}
-use Rattle.fc_base.specs.Sizes.{capacity, most_levels}
+use Rattle.fc_base.specs.Sizes.{capacity}
 use Rattle.fc_tree_node.specs.declared.node.Node.{Node}
 use Rattle.fc_tree_node.specs.Leaf.{leaf_at}
 use Rattle.fc_tree_node.specs.Node.{own_pairs, children_of, child_at, pairs_of, IsLevelled}
@@ -29,26 +29,38 @@ back_is (i ∷ []) (suc last) k = absurd (omega arith)
 back_is (i ∷ j ∷ gap) (suc last) k = ap (λ p. i ∷ p) (back_is (j ∷ gap) last (omega arith))
 
 module _ {K V : Type 0} where
+  -- a node's pairs around a child, or around a gap of a leaf
+  abbrev pub IsAround : Node K V → ℕ → List (K × V) → Type 0
+  IsAround n i c = pairs_of n ≡ before_child n i ++ (c ++ after_child n i)
+
+  pub around_gap : (h : ℕ) (n : Node K V) (i : ℕ) → IsLevelled h n → length (children_of n) ≤ i → i ≤ length (own_pairs n) → IsAround n i []
+  around_gap zero n i l c le = leaf_gap n i l.1
+  around_gap (suc h) n i l c le = absurd (let e : length (children_of n) ≡ length (own_pairs n) + 1 = l.1 in omega arith)
+
+  pub around_child : (h : ℕ) (n c : Node K V) (i : ℕ) → IsLevelled h n → i < length (children_of n) → c ≡ child_at n i → IsAround n i (pairs_of c)
+  around_child h n c i l k is = let s = step_levels h n i l k in subst (λ d. IsAround n i (pairs_of d)) (sym is) (inner_gap n i s.4 s.3)
+
+  around_length : (n : Node K V) (i : ℕ) (c : List (K × V)) → IsAround n i c → length (pairs_of n) ≡ length (before_child n i) + (length c + length (after_child n i))
+  around_length n i c is = ap length is ∙ length-append (before_child n i) _ ∙ ap (λ m. length (before_child n i) + m) (length-append c (after_child n i))
+
   -- how many pairs are before a node's own pair: those that lead to the child before it, and that child's
+  pub own_count : (h : ℕ) (n : Node K V) (i : ℕ) (c : List (K × V)) → IsLevelled h n → i < length (own_pairs n) → IsAround n i c → length (before_own n i) ≡ length (before_child n i) + length c
+  own_count h n i c l k is =
+      let x = (item_there (own_pairs n) i k).0 in
+      omega (arith, ap length (own_pair h n i x l k) ∙ length-append (before_own n i) _, around_length n i c is, ap length (after_child_pair n i x k))
+
+  -- and all pairs of the node are those before its end, and the last child's
+  pub end_count : (n : Node K V) (i : ℕ) (c : List (K × V)) → length (own_pairs n) ≤ i → IsAround n i c → length (pairs_of n) ≡ length (before_child n i) + length c
+  end_count n i c h is = omega (arith, around_length n i c is, ap length (after_none n i h))
+
   pub leaf_before_own : (n : Node K V) (i : ℕ) → IsLevelled 0 n → i < length (own_pairs n) → length (before_own n i) ≡ length (before_child n i)
-  leaf_before_own n i l h =
-      let x = (item_there (own_pairs n) i h).0 in
-      let a = ap length (own_pair 0 n i x l h) ∙ length-append (before_own n i) _ in
-      let b = ap length (leaf_gap n i l.1) ∙ length-append (before_child n i) (after_child n i) in
-      let c = ap length (after_child_pair n i x h) in
-      omega (arith, a, b, c)
+  leaf_before_own n i l k = omega (arith, own_count 0 n i [] l k (leaf_gap n i l.1))
 
   pub inner_length : (h : ℕ) (n : Node K V) (i : ℕ) → IsLevelled (suc h) n → i ≤ length (own_pairs n) → length (pairs_of n) ≡ length (before_child n i) + (length (pairs_of (child_at n i)) + length (after_child n i))
-  inner_length h n i l le =
-      ap length (inner_gap n i l.1 le) ∙ length-append (before_child n i) _ ∙ ap (λ m. length (before_child n i) + m) (length-append (pairs_of (child_at n i)) (after_child n i))
+  inner_length h n i l le = around_length n i (pairs_of (child_at n i)) (inner_gap n i l.1 le)
 
   pub inner_before : (h : ℕ) (n : Node K V) (i : ℕ) → IsLevelled (suc h) n → i < length (own_pairs n) → length (before_own n i) ≡ length (before_child n i) + length (pairs_of (child_at n i))
-  inner_before h n i l k =
-      let x = (item_there (own_pairs n) i k).0 in
-      let a = ap length (own_pair (suc h) n i x l k) ∙ length-append (before_own n i) _ in
-      let b = inner_length h n i l (omega arith) in
-      let c = ap length (after_child_pair n i x k) in
-      omega (arith, a, b, c)
+  inner_before h n i l k = own_count (suc h) n i (pairs_of (child_at n i)) l k (inner_gap n i l.1 (omega arith))
 
   -- the pair after a gap
   pub record IsNext (gap : List ℕ) (n : Node K V) (steps : ℕ) : Type 0 where
@@ -192,12 +204,9 @@ module _ {K V : Type 0} where
   pub last_child : (gap : List ℕ) (n : Node K V) (steps : ℕ) (s : IsStep gap n) → IsLast (slice_range gap 1 (length gap)) (child_at n (get_or gap 0 0)) steps → 0 < steps → IsLast gap n (steps + 1)
   last_child gap n steps s x k = subst (λ g. IsLast g n (steps + 1)) (sym s.path_is) (rw (add-one steps) (last_below _ _ _ n steps s.le s.levels x k))
 
-  -- all pairs of a node are before the end of it
+  -- all pairs of a leaf are before the end of it
   pub end_leaf : (n : Node K V) (i : ℕ) → IsLevelled 0 n → length (own_pairs n) ≤ i → length (before_child n i) ≡ length (pairs_of n)
-  end_leaf n i l h =
-      let b = ap length (leaf_gap n i l.1) ∙ length-append (before_child n i) (after_child n i) in
-      let c = ap length (after_none n i h) in
-      omega (arith, b, c)
+  end_leaf n i l h = omega (arith, end_count n i [] h (leaf_gap n i l.1))
 
   -- a path that goes on by one step, to the gap of a leaf
   pub goes_leaf : (old : List ℕ) (i h : ℕ) (n : Node K V) → IsLevelled h n → length (children_of n) ≤ i → i ≤ length (own_pairs n) → GoesOn old (old ++ i ∷ []) n (length (before_child n i))
@@ -242,63 +251,9 @@ module _ {K V : Type 0} where
       let there : new ≡ old ++ i ∷ q = g.1 ∙ ap (λ p. p ++ q) m ∙ append_assoc old (i ∷ []) q in
       e q g.1 ∙ ap (leaf_at q) is ∙ sym (leaf_more i q n some) ∙ ap (λ p. leaf_at p n) (same_cut old (i ∷ q) old path (sym there ∙ f) refl).1
 
-  -- the last gap below a node
-  pub last_gap_leaf : (old new : List ℕ) (i : ℕ) (n : Node K V) → (h : ℕ) × IsLevelled h n × (length old + h < most_levels) → i ≡ length (own_pairs n) → length (children_of n) ≤ i → new ≡ old ++ i ∷ [] → GoesOn old new n (length (pairs_of n))
-  last_gap_leaf old new i n (zero, l, s) e c is =
-      let g = goes_leaf old i zero n l c (omega arith) in
-      (g.0, is ∙ g.1, g.2, g.3 ∙ end_leaf n i l (omega arith))
-  last_gap_leaf old new i n (suc h, l, s) e c is = absurd (let f : length (children_of n) ≡ length (own_pairs n) + 1 = l.1 in omega arith)
-
-  pub last_gap_child : (old mid new : List ℕ) (i : ℕ) (n c : Node K V) → (h : ℕ) × IsLevelled h n × (length old + h < most_levels) → i ≡ length (own_pairs n) → i < length (children_of n) → mid ≡ old ++ i ∷ [] → c ≡ child_at n i → GoesOn mid new c (length (pairs_of c)) → GoesOn old new n (length (pairs_of n))
-  last_gap_child old mid new i n c (zero, l, s) e k m is g = absurd (let f : length (children_of n) ≡ 0 = ap length (leaf_children n l.1) in omega arith)
-  last_gap_child old mid new i n c (suc h, l, s) e k m is g =
-      let r = goes_child old new i h n (length (pairs_of (child_at n i))) l (omega arith) (subst (λ d. GoesOn (old ++ i ∷ []) new d (length (pairs_of d))) is (subst (λ m. GoesOn m new c (length (pairs_of c))) m g)) in
-      let a = inner_length h n i l (omega arith) in
-      let b = ap length (after_none n i (omega arith)) in
-      (r.0, r.1, r.2, omega (arith, r.3, a, b))
-
-  -- the first gap below a node
-  pub first_gap_leaf : (old new : List ℕ) (n : Node K V) → (h : ℕ) × IsLevelled h n × (length old + h < most_levels) → length (children_of n) ≤ 0 → new ≡ old ++ 0 ∷ [] → GoesOn old new n 0
-  first_gap_leaf old new n (h, l, s) c is = let g = goes_leaf old 0 h n l c (omega arith) in (g.0, is ∙ g.1, g.2, g.3)
-
-  pub first_gap_child : (old mid new : List ℕ) (n c : Node K V) → (h : ℕ) × IsLevelled h n × (length old + h < most_levels) → 0 < length (children_of n) → mid ≡ old ++ 0 ∷ [] → c ≡ child_at n 0 → GoesOn mid new c 0 → GoesOn old new n 0
-  first_gap_child old mid new n c (zero, l, s) k m is g = absurd (let f : length (children_of n) ≡ 0 = ap length (leaf_children n l.1) in omega arith)
-  first_gap_child old mid new n c (suc h, l, s) k m is g = goes_child old new 0 h n 0 l (omega arith) (subst (λ d. GoesOn (old ++ 0 ∷ []) new d 0) is (subst (λ m. GoesOn m new c 0) m g))
-
   -- the gap after a pair, on the way down to it
   pub next_before : (h : ℕ) (n : Node K V) (i : ℕ) → IsLevelled h n → i < length (own_pairs n) → length (before_child n (i + 1)) ≡ length (before_own n i) + 1
   next_before h n i l k = let x = (item_there (own_pairs n) i k).0 in ap (λ j. length (before_child n j)) (add-one i) ∙ ap length (before_child_pair h n i x l k) ∙ length-append (before_own n i) _
-
-  pub behind_leaf : (old new : List ℕ) (i : ℕ) (n : Node K V) → (h : ℕ) × IsLevelled h n × (length old + h < most_levels) → i < length (own_pairs n) → length (children_of n) ≤ i + 1 → new ≡ old ++ (i + 1) ∷ [] → GoesOn old new n (length (before_own n i) + 1)
-  behind_leaf old new i n (h, l, s) k c is = let g = goes_leaf old (i + 1) h n l c (omega arith) in (g.0, is ∙ g.1, g.2, g.3 ∙ next_before h n i l k)
-
-  pub behind_child : (old mid new : List ℕ) (i : ℕ) (n c : Node K V) → (h : ℕ) × IsLevelled h n × (length old + h < most_levels) → i < length (own_pairs n) → i + 1 < length (children_of n) → mid ≡ old ++ (i + 1) ∷ [] → c ≡ child_at n (i + 1) → GoesOn mid new c 0 → GoesOn old new n (length (before_own n i) + 1)
-  behind_child old mid new i n c (zero, l, s) k d m is g = absurd (let f : length (children_of n) ≡ 0 = ap length (leaf_children n l.1) in omega arith)
-  behind_child old mid new i n c (suc h, l, s) k d m is g =
-      let r = goes_child old new (i + 1) h n 0 l (omega arith) (subst (λ d. GoesOn (old ++ (i + 1) ∷ []) new d 0) is (subst (λ m. GoesOn m new c 0) m g)) in
-      let a = next_before (suc h) n i l k in
-      (r.0, r.1, r.2, r.3 ∙ omega (arith, a))
-
-  -- the gap before a pair
-  pub pair_gap_leaf : (old new : List ℕ) (i : ℕ) (n : Node K V) → (h : ℕ) × IsLevelled h n × (length old + h < most_levels) → i < length (own_pairs n) → length (children_of n) ≤ i → new ≡ old ++ i ∷ [] → GoesOn old new n (length (before_own n i))
-  pair_gap_leaf old new i n (zero, l, s) e c is =
-      let g = goes_leaf old i zero n l c (omega arith) in
-      (g.0, is ∙ g.1, g.2, g.3 ∙ sym (leaf_before_own n i l e))
-  pair_gap_leaf old new i n (suc h, l, s) e c is = absurd (let f : length (children_of n) ≡ length (own_pairs n) + 1 = l.1 in omega arith)
-
-  pub pair_gap_child : (old mid new : List ℕ) (i : ℕ) (n c : Node K V) → (h : ℕ) × IsLevelled h n × (length old + h < most_levels) → i < length (own_pairs n) → i < length (children_of n) → mid ≡ old ++ i ∷ [] → c ≡ child_at n i → GoesOn mid new c (length (pairs_of c)) → GoesOn old new n (length (before_own n i))
-  pair_gap_child old mid new i n c (zero, l, s) e k m is g = absurd (let f : length (children_of n) ≡ 0 = ap length (leaf_children n l.1) in omega arith)
-  pair_gap_child old mid new i n c (suc h, l, s) e k m is g =
-      let r = goes_child old new i h n (length (pairs_of (child_at n i))) l (omega arith) (subst (λ d. GoesOn (old ++ i ∷ []) new d (length (pairs_of d))) is (subst (λ m. GoesOn m new c (length (pairs_of c))) m g)) in
-      (r.0, r.1, r.2, r.3 ∙ sym (inner_before h n i l e))
-
-  pub pair_gap_below : (old mid new : List ℕ) (i j : ℕ) (place : List ℕ) (n c : Node K V) → (h : ℕ) × IsLevelled h n × (length old + h < most_levels) → IsPlace (i ∷ j ∷ place) n → mid ≡ old ++ i ∷ [] → c ≡ child_at n i → GoesOn mid new c (length (before_pair (j ∷ place) c)) → GoesOn old new n (length (before_pair (i ∷ j ∷ place) n))
-  pair_gap_below old mid new i j place n c (zero, l, s) p m is g = absurd (let f : length (children_of n) ≡ 0 = ap length (leaf_children n l.1) in let k = p.0 in omega arith)
-  pair_gap_below old mid new i j place n c (suc h, l, s) p m is g =
-      let e : length (children_of n) ≡ length (own_pairs n) + 1 = l.1 in
-      let k = p.0 in
-      let r = goes_child old new i h n (length (before_pair (j ∷ place) (child_at n i))) l (omega arith) (subst (λ d. GoesOn (old ++ i ∷ []) new d (length (before_pair (j ∷ place) d))) is (subst (λ m. GoesOn m new c (length (before_pair (j ∷ place) c))) m g)) in
-      (r.0, r.1, r.2, r.3 ∙ sym (length-append (before_child n i) _))
 
   -- the gap after a pair
   zeros_gap : (h : ℕ) (n : Node K V) → IsLevelled h n → IsPath (zeros (suc h)) n × (before_gap (zeros (suc h)) n ≡ [])

@@ -18,13 +18,14 @@ use Rattle.fc_base.proofs.Laws.{ascending_back, smaller_ahead}
 use Rattle.fc_tree_node.specs.declared.node.Node.{Node}
 use Rattle.fc_tree_node.specs.Node.{own_pairs, children_of, child_at, pairs_of, IsLevelled}
 use Rattle.fc_tree_node.specs.Place.{before_child, after_child, before_own, after_own}
-use Rattle.fc_tree_node.proofs.Gaps.{item_there, leaf_gap, inner_gap, own_pair, before_child_pair, after_child_pair, after_none, step_levels}
+use Rattle.fc_tree_node.proofs.Gaps.{item_there, own_pair, before_child_pair, after_child_pair, after_none}
 use Rattle.fc_tree_node.proofs.Lists.{all_both}
 use Rattle.fc_tree_search.proofs.Ordered.{ascending_middle}
 use Rattle.fc_tree_node.specs.LeafGap.{IsLeafGap}
 use Rattle.fc_tree_node.specs.Path.{before_gap}
 use Rattle.fc_tree_node.specs.Tree.{Map, entries}
 use Rattle.fc_tree_walk.specs.Gap.{AreEndsIn}
+use Rattle.fc_tree_walk.proofs.GapFacts.{IsAround, around_child}
 use Rattle.fc_tree_walk.specs.Span.{between}
 use Rattle.fc_tree_walk.specs.declared.cuts.Cut.{Cut}
 use Rattle.fc_tree_walk.specs.declared.cuts.Cut.TheVariants.{First, Before, After, Last}
@@ -66,6 +67,10 @@ module _ {X : Type 0} where
 
   pub inside_alone : (t : X → Bool) (a c d : List X) → AllByRecursion (λ x. t x ≡ false) a → AllByRecursion (λ x. t x ≡ false) d → length (filter t (a ++ (c ++ d))) ≡ length (filter t c)
   inside_alone t a c d h k = ap length (filter-append t a (c ++ d) ∙ ap (λ zs. zs ++ filter t (c ++ d)) (left_out t a h) ∙ filter-append t c d ∙ ap (λ zs. filter t c ++ zs) (left_out t d k) ∙ append-nil (filter t c))
+
+  each : (P : X → Type 0) → ((x : X) → P x) → (s : List X) → AllByRecursion P s
+  each P h [] = tt
+  each P h (x ∷ s) = (h x, each P h s)
 
   -- How many the test holds at, and at how many it does not.
   both_counts : (t : X → Bool) (s : List X) → length (filter t s) + length (filter (λ x. not (t x)) s) ≡ length s
@@ -174,43 +179,35 @@ module _ {K V : Type 0} (cmp : K → K → Ordering) where
             subst (AllByRecursion (λ y. t y ≡ false)) (sym (after_child_pair n i x k)) (e, fails_behind t down (before_own n i) (after_own n i) p (subst (IsAscending cmp) (own_pair h n i x l k) o) e)
 
 module _ {K V : Type 0} where
-  -- A node's pairs around a child, or around a gap of a leaf.
-  abbrev pub IsAround : Node K V → ℕ → List (K × V) → Type 0
-  IsAround n i c = pairs_of n ≡ before_child n i ++ (c ++ after_child n i)
-
-  pub around_gap : (h : ℕ) (n : Node K V) (i : ℕ) → IsLevelled h n → length (children_of n) ≤ i → i ≤ length (own_pairs n) → IsAround n i []
-  around_gap zero n i l c le = leaf_gap n i l.1
-  around_gap (suc h) n i l c le = absurd (let e : length (children_of n) ≡ length (own_pairs n) + 1 = l.1 in omega arith)
-
-  pub around_child : (h : ℕ) (n c : Node K V) (i : ℕ) → IsLevelled h n → i < length (children_of n) → c ≡ child_at n i → IsAround n i (pairs_of c)
-  around_child h n c i l k is = let s = step_levels h n i l k in subst (λ d. IsAround n i (pairs_of d)) (sym is) (inner_gap n i s.4 s.3)
-
   -- The child's pairs ascend with the node's.
   pub child_ascends : (cmp : K → K → Ordering) (h : ℕ) (n c : Node K V) (i : ℕ) → IsLevelled h n → i < length (children_of n) → c ≡ child_at n i → IsAscending cmp (pairs_of n) → IsAscending cmp (pairs_of c)
   child_ascends cmp h n c i l k is o = ascending_middle cmp (before_child n i) (pairs_of c) (after_child n i) (subst (IsAscending cmp) (around_child h n c i l k is) o)
 
+module _ {K V : Type 0} (cmp : K → K → Ordering) {t : K × V → Bool} (down : HoldsBelow cmp t) (h : ℕ) (n : Node K V) (l : IsLevelled h n) (o : IsAscending cmp (pairs_of n)) (i : ℕ) (c : List (K × V)) (is : IsAround n i c) where
+  -- In front of a cut are the pairs before the child at its place, and those of the child.
+  pub past_at : TurnsAt t (own_pairs n) i → length (filter t (pairs_of n)) ≡ length (before_child n i) + length (filter t c)
+  past_at r = ap (λ s. length (filter t s)) is ∙ lead_and_inside t (before_child n i) c (after_child n i) (holds_before cmp t down h n l o i r) (fails_after cmp t down h n l o i r.fails)
+
+-- What leads on a side of what is sought.
+pub side_below : {K V S : Type 0} {cmp : K → K → Ordering} {order : K → S → Ordering} → IsQueryOrder cmp order → (q : S) (leads : Ordering → Bool) → (leads Less ≡ true) × (leads Greater ≡ false) → HoldsBelow {V = V} cmp (λ e. leads (order e.0 q))
+side_below {order = order} fits q leads side x y l e = go (order y.0 q) refl e
+  where
+    go : (r : Ordering) → order y.0 q ≡ r → leads r ≡ true → leads (order x.0 q) ≡ true
+    go Less h e = ap leads (fits.lower q x.0 y.0 l h) ∙ side.0
+    go Equal h e = ap leads (fits.same q y.0 x.0 h ∙ l) ∙ side.0
+    go Greater h e = absurd (let no : false ≡ true = sym side.1 ∙ e in cc)
+
 module _ {K Q S : Type 0} {cmp : K → K → Ordering} {order : K → S → Ordering} (fits : IsQueryOrder cmp order) (sought : Q → S) where
   pub leads_below : {V : Type 0} (cut : Cut Q) → HoldsBelow {V = V} cmp (λ e. leads order sought cut e.0)
-  leads_below First x y l e = absurd cc
-  leads_below Last x y l e = refl
-  leads_below (Before q) x y l e = go (order y.0 (sought q)) refl e
-    where
-      go : (r : Ordering) → order y.0 (sought q) ≡ r → is_lt r ≡ true → is_lt (order x.0 (sought q)) ≡ true
-      go Less h e = ap is_lt (fits.lower (sought q) x.0 y.0 l h)
-      go Equal h e = absurd cc
-      go Greater h e = absurd cc
-  leads_below (After q) x y l e = go (order y.0 (sought q)) refl e
-    where
-      go : (r : Ordering) → order y.0 (sought q) ≡ r → is_le r ≡ true → is_le (order x.0 (sought q)) ≡ true
-      go Less h e = ap is_le (fits.lower (sought q) x.0 y.0 l h)
-      go Equal h e = ap is_le (fits.same (sought q) y.0 x.0 h ∙ l)
-      go Greater h e = absurd cc
+  leads_below First = λ x y l e. absurd cc
+  leads_below Last = λ x y l e. refl
+  leads_below (Before q) = side_below fits (sought q) is_lt (refl, refl)
+  leads_below (After q) = side_below fits (sought q) is_le (refl, refl)
 
   module _ {V : Type 0} (h : ℕ) (n : Node K V) (l : IsLevelled h n) (o : IsAscending cmp (pairs_of n)) (i : ℕ) (c : List (K × V)) (is : IsAround n i c) where
     -- In front of a cut are the pairs before the child at its place, and those of the child.
     pub ahead_at : (cut : Cut Q) → TurnsAt (λ e. leads order sought cut e.0) (own_pairs n) i → ahead order sought cut (pairs_of n) ≡ length (before_child n i) + ahead order sought cut c
-    ahead_at cut r =
-        ap (ahead order sought cut) is ∙ lead_and_inside (λ e. leads order sought cut e.0) (before_child n i) c (after_child n i) (holds_before cmp _ (leads_below cut) h n l o i r) (fails_after cmp _ (leads_below cut) h n l o i r.fails)
+    ahead_at cut r = past_at cmp (leads_below cut) h n l o i c is r
 
     -- Amid two cuts at one place are pairs of the child alone.
     pub amid_at : (lo hi : Cut Q) → TurnsAt (λ e. leads order sought lo e.0) (own_pairs n) i → FailsAt (λ e. leads order sought hi e.0) (own_pairs n) i → amid order sought lo hi (pairs_of n) ≡ amid order sought lo hi c
@@ -243,6 +240,20 @@ module _ {K Q S : Type 0} {cmp : K → K → Ordering} {order : K → S → Orde
       subst (λ s. ahead order sought hi s ≡ ahead order sought lo s + amid order sought lo hi s) (sym is)
       (parted_counts cmp (λ e. leads order sought lo e.0) (λ e. leads order sought hi e.0) (leads_below lo) (leads_below hi) (before_own n start) (after_own n start) p (subst (IsAscending cmp) is o) (r.fails x k) (v.holds start x (omega arith) lt))
 
+  -- Where a cut is at an end of all keys.
+  pub none_ahead : {V : Type 0} (s : List (K × V)) → ahead order sought First s ≡ 0
+  none_ahead s = ap length (left_out (λ e. false) s (each _ (λ e. refl) s))
+
+  pub all_ahead : {V : Type 0} (s : List (K × V)) → ahead order sought Last s ≡ length s
+  all_ahead s = ap length (kept (λ e. true) s (each _ (λ e. refl) s))
+
+  -- Where a range has but one bound.
+  pub amid_open : {V : Type 0} (lo hi : Cut Q) → ((lo ≡ First) ⊎ (hi ≡ Last)) → (s : List (K × V)) → ahead order sought hi s ≡ ahead order sought lo s + amid order sought lo hi s
+  amid_open lo hi e s = counts_amid (λ e. leads order sought lo e.0) (λ e. leads order sought hi e.0) s (each _ (λ x. under x.0) s)
+    where
+      under : (k : K) → leads order sought lo k ≡ true → leads order sought hi k ≡ true
+      under k h = elim e [ inl f ↦ absurd (let no : false ≡ true = ap (λ c. leads order sought c k) (sym f) ∙ h in cc) | inr f ↦ ap (λ c. leads order sought c k) f ]
+
   -- What cuts are to bounds.
   start_leads : (lo : Bound Q) (k : K) → not (leads order sought (start_cut lo) k) ≡ starts order (bound_by sought lo) k
   start_leads (Included q) k = elim (order k (sought q)) as (λ r. not (is_lt r) ≡ is_ge r) [ Less ↦ refl | Equal ↦ refl | Greater ↦ refl ]
@@ -255,8 +266,7 @@ module _ {K Q S : Type 0} {cmp : K → K → Ordering} {order : K → S → Orde
   stop_leads Unbounded k = refl
 
   module _ {V : Type 0} (lo hi : Bound Q) (s : List (K × V)) where
-    -- The pairs that a start lets in are those that are not in front of its cut.
-    pub start_counts : ahead order sought (start_cut lo) s + length (filter (λ e. starts order (bound_by sought lo) e.0) s) ≡ length s
+    start_counts : ahead order sought (start_cut lo) s + length (filter (λ e. starts order (bound_by sought lo) e.0) s) ≡ length s
     start_counts =
         ap (λ zs. ahead order sought (start_cut lo) s + length zs) (sym (filter_same (λ e. not (leads order sought (start_cut lo) e.0)) (λ e. starts order (bound_by sought lo) e.0) (λ e. start_leads lo e.0) s))
         ∙ both_counts (λ e. leads order sought (start_cut lo) e.0) s
@@ -264,15 +274,18 @@ module _ {K Q S : Type 0} {cmp : K → K → Ordering} {order : K → S → Orde
     within_is : filter (λ e. not (leads order sought (start_cut lo) e.0) && leads order sought (stop_cut hi) e.0) s ≡ within order (bound_by sought lo) (bound_by sought hi) s
     within_is = filter_same _ _ (λ e. ap (λ b. b && leads order sought (stop_cut hi) e.0) (start_leads lo e.0) ∙ ap (λ b. starts order (bound_by sought lo) e.0 && b) (stop_leads hi e.0)) s
 
-    -- The pairs of a range are as many as lie amid its cuts.
-    pub within_counts : amid order sought (start_cut lo) (stop_cut hi) s ≡ length (within order (bound_by sought lo) (bound_by sought hi) s)
-    within_counts = ap length within_is
+    -- In front of a range are the pairs in front of its first cut, and in it those amid both.
+    pub ends_told : (a b : Cut Q) (i j : ℕ) → a ≡ start_cut lo → b ≡ stop_cut hi → i ≡ ahead order sought a s → j ≡ ahead order sought a s + amid order sought a b s → (i + length (filter (λ e. starts order (bound_by sought lo) e.0) s) ≡ length s) × (j ≡ i + length (within order (bound_by sought lo) (bound_by sought hi) s))
+    ends_told a b i j ea eb ei ej =
+        let first = ap (λ c. ahead order sought c s) ea in
+        let inside = ap (λ c. amid order sought c b s) ea ∙ ap (λ c. amid order sought (start_cut lo) c s) eb ∙ ap length within_is in
+        (omega (arith, ei, first, start_counts), omega (arith, ei, ej, inside))
 
     -- They lie together.
     pub within_at : (i j : ℕ) → IsAscending cmp s → i + length (filter (λ e. starts order (bound_by sought lo) e.0) s) ≡ length s → j ≡ i + length (within order (bound_by sought lo) (bound_by sought hi) s) → slice_range s i j ≡ within order (bound_by sought lo) (bound_by sought hi) s
     within_at i j o e f =
         let a : i ≡ ahead order sought (start_cut lo) s = (let c = start_counts in omega (arith, c, e)) in
-        let b : j ≡ ahead order sought (start_cut lo) s + amid order sought (start_cut lo) (stop_cut hi) s = f ∙ ap (λ k. k + length (within order (bound_by sought lo) (bound_by sought hi) s)) a ∙ ap (λ k. ahead order sought (start_cut lo) s + k) (sym within_counts) in
+        let b : j ≡ ahead order sought (start_cut lo) s + amid order sought (start_cut lo) (stop_cut hi) s = f ∙ ap (λ k. k + length (within order (bound_by sought lo) (bound_by sought hi) s)) a ∙ ap (λ k. ahead order sought (start_cut lo) s + k) (sym (ap length within_is)) in
         ap (λ k. slice_range s k j) a ∙ ap (slice_range s (ahead order sought (start_cut lo) s)) b
         ∙ amid_is cmp (λ e. leads order sought (start_cut lo) e.0) (λ e. leads order sought (stop_cut hi) e.0) (leads_below (start_cut lo)) (leads_below (stop_cut hi)) s o ∙ within_is
 

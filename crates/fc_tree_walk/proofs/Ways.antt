@@ -3,7 +3,7 @@ use Rattle.std.proofs.Common.{◌≡◌, ℕ, zero, suc, ◌+◌, ◌-◌, ◌<�
 use Rattle.std.specs.Prelude.{slice_set}
 use Rattle.std.proofs.lemmas.Bool.{cases_lt}
 use Rattle.std.proofs.lemmas.List.{take_more, take_more_set, take-set-le, get_or-set_same, get_or-set_other}
-use Rattle.fc_base.specs.Sizes.{capacity, most_levels}
+use Rattle.fc_base.specs.Sizes.{capacity}
 use Rattle.fc_tree_node.specs.declared.node.Node.{Node}
 use Rattle.fc_tree_node.specs.Leaf.{leaf_at}
 use Rattle.fc_tree_node.specs.LeafGap.{IsLeafGap}
@@ -12,12 +12,12 @@ use Rattle.fc_tree_node.specs.Path.{IsPath, before_gap, after_gap}
 use Rattle.fc_tree_node.specs.Place.{before_child, before_own, after_own, IsDescent, node_at}
 use Rattle.fc_tree_node.specs.Tree.{Map, entries, IsSoundMap}
 use Rattle.fc_tree_node.specs.TreePlace.{before_gap_in}
-use Rattle.fc_tree_node.proofs.Gaps.{own_pair, before_child_pair, after_none, item_there, step_levels, descent_levels, descent_pairs, node_more, before_more}
+use Rattle.fc_tree_node.proofs.Gaps.{own_pair, before_child_pair, after_none, item_there, step_levels, descent_levels, descent_pairs, node_more, before_more, leaf_gap, inner_gap}
 use Rattle.fc_tree_node.proofs.Lists.{length_take, length_set}
 use Rattle.fc_tree_node.proofs.Pairs.{child_below, leaf_children}
 use Rattle.fc_tree_walk.specs.Gap.{GoesOn, IsGapIn, LeadsTo, IsBeside, IsAbove}
 use Rattle.fc_tree_walk.proofs.Slices.{get_seam}
-use Rattle.fc_tree_walk.proofs.GapFacts.{leaf_before_own, inner_length, inner_before, end_leaf, one_height, next_before, behind_child, pair_gap_child, first_gap_leaf, last_gap_leaf}
+use Rattle.fc_tree_walk.proofs.GapFacts.{IsAround, around_child, goes_here, goes_below, own_count, end_count, leaf_before_own, inner_length, inner_before, end_leaf, one_height, next_before}
 
 whole : (p : List ℕ) (m : ℕ) → m ≡ length p → take m p ≡ p
 whole [] zero e = refl
@@ -36,15 +36,20 @@ pub end_set : (gap new : List ℕ) (level step : ℕ) → level + 1 ≡ length g
 end_set gap new level step k e = let long = ap length e ∙ length_set gap level step in sym (whole new (level + 1) (omega arith)) ∙ prefix_set gap new level step (omega arith) e
 
 module _ {K V : Type 0} where
-  -- The node at a level of a path to a gap of a leaf.
-  pub room : (gap : List ℕ) (level : ℕ) (n : Node K V) → level < length gap → length gap ≤ most_levels → IsLevelled (length gap - level - 1) n → (h : ℕ) × IsLevelled h n × (length (take level gap) + h < most_levels)
-  room gap level n k f l = let t = length_take level gap (omega arith) in (length gap - level - 1, l, omega arith)
+  -- A path with another step at a level: to the gap of a leaf, and on below a child.
+  pub set_here : (gap new : List ℕ) (level step : ℕ) (n : Node K V) (count : ℕ) → level + 1 ≡ length gap → new ≡ slice_set gap level step → IsLevelled (length gap - level - 1) n → step ≤ length (own_pairs n) → (IsAround n step [] → count ≡ length (before_child n step) + 0) → GoesOn (take level gap) new n count
+  set_here gap new level step n count k e l le counts =
+      let low : length gap - level - 1 ≡ 0 = omega arith in
+      let leaf = subst (λ j. IsLevelled j n) low l in
+      goes_here (take level gap) new step 0 n count 0 leaf (omega (arith, ap length (leaf_children n leaf.1))) le (end_set gap new level step k e) (counts (leaf_gap n step leaf.1)) refl
 
-  pub inner_at : (gap : List ℕ) (level : ℕ) (n : Node K V) → level + 1 < length gap → IsLevelled (length gap - level - 1) n → length (children_of n) ≡ length (own_pairs n) + 1
-  inner_at gap level n k l = let s : length gap - level - 1 ≡ suc (length gap - level - 1 - 1) = omega arith in (subst (λ j. IsLevelled j n) s l).1
-
-  pub leaf_there : (gap : List ℕ) (level : ℕ) (n : Node K V) → level + 1 ≡ length gap → IsLevelled (length gap - level - 1) n → length (children_of n) ≡ 0
-  leaf_there gap level n k l = let s : length gap - level - 1 ≡ 0 = omega arith in ap length (leaf_children n (subst (λ j. IsLevelled j n) s l).1)
+  pub set_below : (gap mid new : List ℕ) (level step below : ℕ) (n c : Node K V) (count : ℕ) → level + 1 < length gap → mid ≡ slice_set gap level step → IsLevelled (length gap - level - 1) n → step ≤ length (own_pairs n) → c ≡ child_at n step → GoesOn (take (level + 1) mid) new c below
+      → (IsAround n step (pairs_of c) → count ≡ length (before_child n step) + below) → GoesOn (take level gap) new n count
+  set_below gap mid new level step below n c count k e l le is g counts =
+      let high : length gap - level - 1 ≡ suc (length gap - level - 1 - 1) = omega arith in
+      let inner = subst (λ j. IsLevelled j n) high l in
+      let there : step < length (children_of n) = (let e : length (children_of n) ≡ length (own_pairs n) + 1 = inner.1 in omega arith) in
+      goes_below (take level gap) (take (level + 1) mid) new step (suc (length gap - level - 1 - 1)) n c below count inner there (prefix_set gap mid level step (omega arith) e) is g (counts (around_child (suc (length gap - level - 1 - 1)) n c step inner there is))
 
   pub levels_below : (gap mid : List ℕ) (level i step : ℕ) (n c : Node K V) → mid ≡ slice_set gap level step → level + 1 < length gap → IsLevelled (length gap - level - 1) n → i ≤ length (own_pairs n) → c ≡ child_at n i → (level + 1 < length mid) × IsLevelled (length mid - (level + 1) - 1) c
   levels_below gap mid level i step n c e k l le is =
@@ -407,28 +412,24 @@ module _ {K V : Type 0} where
             ∙ ap (λ d. child_at d (get_or new x.level 0)) (sym (up root is)) ∙ ap (child_at n) step)
 
     -- On past the node's own pair behind the leaf, to the next leaf.
-    pub near_next : IsSoundMap m → length gap ≤ most_levels → (y : K × V) → get_or gap x.level 0 < length (own_pairs n) → length (own_pairs (child_at n (get_or gap x.level 0))) ≤ get_or gap (x.level + 1) 0
+    pub near_next : IsSoundMap m → (y : K × V) → get_or gap x.level 0 < length (own_pairs n) → length (own_pairs (child_at n (get_or gap x.level 0))) ≤ get_or gap (x.level + 1) 0
         → mid ≡ slice_set gap x.level (get_or gap x.level 0 + 1) → new ≡ slice_set mid (x.level + 1) 0 → y ≡ get_or (own_pairs n) (get_or gap x.level 0) y → IsPassed m gap new y
-    near_next o fits y own end e f is =
+    near_next o y own end e f is =
         let i = get_or gap x.level 0 in
-        let c = child_at n i in
         let l = x.levels in
         let long = x.long in
         let inner : length (children_of n) ≡ length (own_pairs n) + 1 = l.1 in
-        let a = before_way in
-        let b = inner_before 0 n i l own in
-        let d = end_leaf c (get_or gap (x.level + 1) 0) (child_below 0 n i l x.way.within).1 end in
+        let d = end_leaf (child_at n i) (get_or gap (x.level + 1) 0) (child_below 0 n i l x.way.within).1 end in
         let next = (child_below 0 n (i + 1) l (omega arith)).1 in
-        let t = length_take (x.level + 1) mid (let k = set_length gap mid x.level _ e in omega arith) in
-        let at : IsNextAt gap x.root n x.level (length (before_gap gap x.root)) = record { way = (x.way.fits, x.way.descent, x.way.node); own = own; before = omega (arith, a, b, d) } in
+        let at : IsNextAt gap x.root n x.level (length (before_gap gap x.root)) = record { way = (x.way.fits, x.way.descent, x.way.node); own = own; before = omega (arith, before_way, inner_before 0 n i l own, d) } in
         passed_next m x.root n gap new x.level y x.is o at is
-        (behind_child (take x.level gap) (take (x.level + 1) mid) new i n (child_at n (i + 1)) (room gap x.level n x.way.fits fits x.way.levels) own (omega arith) (prefix_set gap mid x.level _ x.way.fits e) refl
-        (first_gap_leaf (take (x.level + 1) mid) new (child_at n (i + 1)) (0, next, omega arith) (let k = ap length (leaf_children (child_at n (i + 1)) next.1) in omega arith) (end_set mid new (x.level + 1) 0 (let k = set_length gap mid x.level _ e in omega arith) f)))
+        (goes_below (take x.level gap) (take (x.level + 1) mid) new (i + 1) 1 n (child_at n (i + 1)) 0 _ l (omega arith) (prefix_set gap mid x.level _ x.way.fits e) refl
+        (goes_here (take (x.level + 1) mid) new 0 0 (child_at n (i + 1)) 0 0 next (omega (arith, ap length (leaf_children _ next.1))) (omega arith) (end_set mid new (x.level + 1) 0 (omega (arith, long, set_length gap mid x.level _ e)) f) refl refl) (omega (arith, next_before 1 n i l own)))
 
     -- Back past the node's own pair ahead of the leaf, to the leaf before.
-    pub near_back : IsSoundMap m → length gap ≤ most_levels → (y : K × V) → 0 < get_or gap x.level 0 → get_or gap (x.level + 1) 0 ≡ 0
+    pub near_back : IsSoundMap m → (y : K × V) → 0 < get_or gap x.level 0 → get_or gap (x.level + 1) 0 ≡ 0
         → mid ≡ slice_set gap x.level (get_or gap x.level 0 - 1) → new ≡ slice_set mid (x.level + 1) (length (own_pairs (child_at n (get_or gap x.level 0 - 1)))) → y ≡ get_or (own_pairs n) (get_or gap x.level 0 - 1) y → IsPassedBack m gap new y
-    near_back o fits y some end e f is =
+    near_back o y some end e f is =
         let i = get_or gap x.level 0 in
         let j = i - 1 in
         let c = child_at n j in
@@ -437,13 +438,12 @@ module _ {K V : Type 0} where
         let le = x.way.within in
         let inner : length (children_of n) ≡ length (own_pairs n) + 1 = l.1 in
         let there : j < length (own_pairs n) = omega arith in
-        let a = before_way in
         let same : i ≡ j + 1 = omega arith in
         let b = ap (λ k. length (before_child n k)) same ∙ next_before 1 n j l there in
         let d = ap (λ k. length (before_child (child_at n i) k)) end in
         let last = (child_below 0 n j l (omega arith)).1 in
-        let t = length_take (x.level + 1) mid (let k = set_length gap mid x.level _ e in omega arith) in
-        let at : IsLastAt gap x.root n x.level (length (before_gap gap x.root)) = record { way = (x.way.fits, x.way.descent, x.way.node); own = (some, le); before = omega (arith, a, b, d) } in
+        let at : IsLastAt gap x.root n x.level (length (before_gap gap x.root)) = record { way = (x.way.fits, x.way.descent, x.way.node); own = (some, le); before = omega (arith, before_way, b, d) } in
         passed_back m x.root n gap new x.level y x.is o at is
-        (pair_gap_child (take x.level gap) (take (x.level + 1) mid) new j n c (room gap x.level n x.way.fits fits x.way.levels) there (omega arith) (prefix_set gap mid x.level _ x.way.fits e) refl
-        (last_gap_leaf (take (x.level + 1) mid) new (length (own_pairs c)) c (0, last, omega arith) refl (let k = ap length (leaf_children c last.1) in omega arith) (end_set mid new (x.level + 1) _ (let k = set_length gap mid x.level _ e in omega arith) f)))
+        (goes_below (take x.level gap) (take (x.level + 1) mid) new j 1 n c _ _ l (omega arith) (prefix_set gap mid x.level _ x.way.fits e) refl
+        (goes_here (take (x.level + 1) mid) new (length (own_pairs c)) 0 c _ 0 last (omega (arith, ap length (leaf_children c last.1))) (omega arith) (end_set mid new (x.level + 1) _ (omega (arith, long, set_length gap mid x.level _ e)) f) (end_count c _ [] (omega arith) (leaf_gap c _ last.1)) refl)
+        (own_count 1 n j (pairs_of c) l there (inner_gap n j l.1 (omega arith))))

@@ -15,7 +15,7 @@ ghost use Rattle.fc_tree_node.specs.TreePlace.{before_gap_in};
 ghost use Rattle.fc_tree_walk.specs.Cut.{leads, ahead, amid, TurnsAt};
 ghost use Rattle.fc_tree_walk.specs.Gap.{AreEndsIn, IsGapIn, GoesOn, EndsIn};
 
-use crate::cuts::{Cut, place_in, start_of, stop_of};
+use crate::cuts::{Ahead, Behind, Cut, Side, first_past, is_open, place_in, start_of, stop_of};
 use crate::gaps::{push_first, push_last};
 use fc_base::Query;
 use fc_tree_node::node::Node;
@@ -85,7 +85,14 @@ pub(crate) fn push_ends<'a, K: Ord, V, Q: Query<K>>(
     ensures front { length (before_gap front.new root.now) + length (filter (λ e. starts Q.order (bound_by Q.sought lo.now) e.0) (pairs_of root.now)) ≡ length (pairs_of root.now) }
     ensures back { length (before_gap back.new root.now) ≡ length (before_gap front.new root.now) + length (within Q.order (bound_by Q.sought lo.now) (bound_by Q.sought hi.now) (pairs_of root.now)) }
 {
-    push_both(root, &start_of(lo), &stop_of(hi), front, back)
+    let (lo, hi) = (start_of(lo), stop_of(hi));
+    if is_open(&lo, &hi) {
+        // An end without a bound needs no search, so the two ways are gone one by one.
+        let first = push_cut(root, place_in(root, &lo, 0), &lo, front);
+        let last = push_cut(root, place_in(root, &hi, 0), &hi, back);
+        return (first, last);
+    }
+    push_both(root, &lo, &hi, front, back)
 }
 
 // Goes on to the gaps at two cuts below the node, the second not in front of the first, and answers their leaves.
@@ -113,10 +120,10 @@ fn push_both<'a, K: Ord, V, Q: Query<K>>(
     }
     front.push(start);
     back.push(start);
-    if start < node.child_count() {
-        return push_both(node.child(start), lo, hi, front, back);
+    if node.is_leaf() {
+        return (node, node);
     }
-    (node, node)
+    push_both(node.child(start), lo, hi, front, back)
 }
 
 // Goes on to the gap at a cut below the node, whose own pairs are cut at the place, and answers its leaf.
@@ -132,10 +139,32 @@ fn push_cut<'a, K: Ord, V, Q: Query<K>>(
     ensures gap { GoesOn gap.old gap.new node.now (ahead Q.order Q.sought cut.now (pairs_of node.now)) }
     ensures leaf { EndsIn gap.old gap.new node.now result.now }
 {
-    gap.push(place);
-    if place < node.child_count() {
-        let child = node.child(place);
-        return push_cut(child, place_in(child, cut, 0), cut, gap);
+    match cut {
+        Cut::First => push_first(node, gap),
+        Cut::Before(key) => push_past::<K, V, Q, Ahead>(node, place, *key, gap),
+        Cut::After(key) => push_past::<K, V, Q, Behind>(node, place, *key, gap),
+        Cut::Last => push_last(node, gap),
     }
-    node
+}
+
+// The same for a cut at what is sought, on one side of it.
+fn push_past<'a, K: Ord, V, Q: Query<K>, S: Side>(
+    node: &'a Node<K, V>,
+    place: usize,
+    key: Q,
+    gap: &mut Path,
+) -> &'a Node<K, V>
+    requires levels { (h : ℕ) × IsLevelled h node.now × (length gap.old + h < most_levels) }
+    requires order { IsAscending K.cmp (pairs_of node.now) }
+    requires place { TurnsAt (λ e. S.leads (Q.order e.0 (Q.sought key))) (own_pairs node.now) place }
+    ensures gap { GoesOn gap.old gap.new node.now (length (filter (λ e. S.leads (Q.order e.0 (Q.sought key))) (pairs_of node.now))) }
+    ensures leaf { EndsIn gap.old gap.new node.now result.now }
+{
+    gap.push(place);
+    if node.is_leaf() {
+        return node;
+    }
+    let child = node.child(place);
+    let next = first_past::<K, V, Q, S>(child, key, 0);
+    push_past::<K, V, Q, S>(child, next, key, gap)
 }

@@ -275,6 +275,7 @@ fn pass_next_from_root<'a, K, V>(
     ensures leaf { (n : Node K V) → root_of root.now ≡ Some n → result.1.now ≡ leaf_at gap.new n }
 {
     let Some(node) = root else { unreachable!() };
+    let node: &Node<K, V> = node;
     let (holder, level) = place_after(node, gap);
     let pair = holder.pair(gap.step(level));
     set_after(holder, gap, level);
@@ -330,6 +331,7 @@ fn pass_previous_from_root<'a, K, V>(
     ensures leaf { (n : Node K V) → root_of root.now ≡ Some n → result.1.now ≡ leaf_at gap.new n }
 {
     let Some(node) = root else { unreachable!() };
+    let node: &Node<K, V> = node;
     let (holder, level) = place_before(node, gap);
     let pair = holder.pair(gap.step(level) - 1);
     set_before(holder, gap, level);

@@ -18,8 +18,8 @@ abbrev pub with_items : {T : Type 0} → Vector T → List T → Vector T
 with_items v xs = record { items = take (length v.items) (xs ++ drop (length xs) v.items); room = v.room }
 
 -- The vector with this item at a place of it.
-abbrev pub with_item : {T : Type 0} → Vector T → ℕ → T → Vector T
-with_item v i x = record { items = slice_set v.items i x; room = v.room }
+abbrev pub item_written : {T : Type 0} → Vector T → ℕ → T → Vector T
+item_written v i x = record { items = slice_set v.items i x; room = v.room }
 
 module _ (T : RattleType) (v : MutBor (Vector T.Denot)) where
   -- Once the borrow ends, the items are those that it shows last.
@@ -32,11 +32,11 @@ module _ (T : RattleType) (v : MutBor (Vector T.Denot)) where
 
   -- Once the borrow ends, the item at i is what it shows last.
   abbrev pub lends_item : ℕ → MutBor T.Denot → Fml
-  lends_item i r = Lends (the_row T) T v r (with_item v.now i)
+  lends_item i r = Lends (the_row T) T v r (item_written v.now i)
 
   -- The same where there is such an item; where there is none, the vector stays as it is.
-  abbrev pub lends_get : ℕ → Option (MutBor T.Denot) → Fml
-  lends_get i r = LendsIf (the_row T) T v r (with_item v.now i) v.now
+  abbrev pub lends_item_if : ℕ → Option (MutBor T.Denot) → Fml
+  lends_item_if i r = LendsIf (the_row T) T v r (item_written v.now i) v.now
 
   -- Once the walk is dropped, items and room are those that it leaves in std's vector.
   abbrev pub lends_drain : Drain T.Denot Global → Fml

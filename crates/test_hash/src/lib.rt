@@ -9,3 +9,5 @@ mod map;
 mod printing;
 #[cfg(test)]
 mod tokens;
+#[cfg(test)]
+mod whole;

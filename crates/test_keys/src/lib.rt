@@ -15,6 +15,8 @@ mod nested;
 #[cfg(test)]
 mod prefixes;
 #[cfg(test)]
+mod retain;
+#[cfg(test)]
 mod sizes;
 #[cfg(test)]
 mod tagged;

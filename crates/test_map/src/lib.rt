@@ -29,6 +29,8 @@ mod ready;
 #[cfg(test)]
 mod refusals;
 #[cfg(test)]
+mod retain;
+#[cfg(test)]
 mod room;
 #[cfg(test)]
 mod sizes;

@@ -250,7 +250,7 @@ fn remove_tracked<'a>(map: &mut Tracked<'a>, number: usize, sought: &'a Cell<u64
 }
 
 // Inserts a pair for each that counts drops; whether each came back where it was refused, and else neither its key nor its value was dropped.
-fn keeps_or_hands_back_each<'a>(map: &mut Tracked<'a>, drops: &'a [Drops]) -> bool {
+pub(crate) fn keeps_or_hands_back_each<'a>(map: &mut Tracked<'a>, drops: &'a [Drops]) -> bool {
     for i in 0..drops.len() {
         let is_right = match insert_tracked(map, i, &drops[i]) {
             Fate::PutIn => were_dropped(&drops[i], 0, 0),

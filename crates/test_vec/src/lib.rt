@@ -4,13 +4,14 @@
 //! its calls and compares what it has seen at the end.
 #![tactic(auto)]
 
-mod scratch;
 #[cfg(test)]
 mod calls;
 #[cfg(test)]
 mod copies;
 #[cfg(test)]
 mod drops;
+#[cfg(test)]
+mod items;
 #[cfg(test)]
 mod printing;
 #[cfg(test)]

@@ -173,6 +173,23 @@ fn reserved_room_is_not_refused(rt: HostRuntime) {
     assert!(rt; is_right);
 }
 
+fn inserted(v: &mut TryVec<u64>, item: u64) -> Result<(), (u64, TryReserveError)> {
+    v.insert(0, item)
+}
+
+// The room is asked for: refused, the item comes back, and the vector is empty as it was.
+#[test]
+fn a_refused_insertion_gives_the_item_back(rt: HostRuntime) {
+    let mut v = TryVec::new(rt.alloc());
+    let is_right = match inserted(&mut v, 7) {
+        Ok(()) => holds(v.as_slice(), &[7]),
+        Err((item, error)) => {
+            item == 7 && matches!(error, TryReserveError::AllocError) && v.is_empty()
+        }
+    };
+    assert!(rt; is_right);
+}
+
 // What is made by a call is whole, or refused.
 fn is_whole(answer: Result<TryVec<u64>, TryReserveError>, whole: &[u64]) -> bool {
     match answer {
@@ -186,8 +203,7 @@ fn repeated(alloc: Global) -> Result<TryVec<u64>, TryReserveError> {
 }
 
 fn collected(alloc: Global) -> Result<TryVec<u64>, TryReserveError> {
-    let made: Vec<u64> = TryCollect::try_collect(0..9u64, alloc)?;
-    Ok(TryVec::from(made))
+    TryCollect::try_collect(0..9u64, alloc)
 }
 
 fn part(alloc: Global) -> Result<TryVec<u64>, TryReserveError> {

@@ -1,6 +1,7 @@
 //! Lines from a reader, and replies to a writer.
-ghost use Rattle.std.specs.Prelude.{◌≡◌, ◌+◌, ◌-◌, ◌^◌, ◌≤◌, List, [], ◌∷◌, ◌++◌, min, length, ℕ, MatchResult, Ok, None, vec_capacity};
+ghost use Rattle.std.specs.Prelude.{◌≡◌, ◌+◌, ◌-◌, ◌^◌, ◌≤◌, List, [], ◌∷◌, ◌++◌, min, length, take, drop, ◌≢◌, ℕ, MatchResult, Ok, None, vec_capacity};
 ghost use Rattle.std.specs.Io.KnownBytes.{Appends, Keeps};
+ghost use Rattle.std.specs.List.{AllByRecursion};
 ghost use Rattle.fc_command.specs.declared.command.session.ServeError.TheVariants as ServeError;
 ghost use Rattle.fc_command.specs.Spoken.{Served, SpokenTo, ending_of};
 ghost use Rattle.fc_command.specs.Session.{Written, LineRun, IsAfter, HasRoom, PieceRun, FaultTold, Ended};
@@ -138,16 +139,19 @@ impl Session {
             × Appends (W.contents out.old) (W.contents out.new) more
             × PieceRun self.new (seen ++ piece.now) (said ++ more) result }
     {
-        for byte in piece {
-            if *byte == b'\n' {
-                match self.run_line(out)? {
-                    Some(n) => return Ok(Some(n)),
-                    None => (),
-                }
-            } else if self.line.len() == MAX_LINE {
+        let mut rest = piece;
+        while !rest.is_empty() {
+            let (part, left) = rest.split_at(line_end(rest));
+            if part.len() > MAX_LINE - self.line.len() {
                 return refuse(&mut self.text, out, self.number);
-            } else {
-                self.line.push(*byte).unwrap();
+            }
+            self.line.extend_from_slice(part).unwrap();
+            let Some((_feed, after)) = left.split_first() else {
+                return Ok(None);
+            };
+            match self.run_line(out)? {
+                Some(n) => return Ok(Some(n)),
+                None => rest = after,
             }
         }
         Ok(None)
@@ -180,6 +184,18 @@ impl Session {
             }
         }
     }
+}
+
+// How many bytes stand before the first line feed, or all of them.
+fn line_end(bytes: &[u8]) -> usize
+    ensures within { result ≤ length bytes.now }
+    ensures open { AllByRecursion (λ x. x ≢ 10) (take result bytes.now) }
+    ensures feed { (x : ℕ) (after : List ℕ) → drop result bytes.now ≡ x ∷ after → x ≡ 10 }
+{
+    bytes
+        .iter()
+        .position(|byte| *byte == b'\n')
+        .unwrap_or(bytes.len())
 }
 
 // Writes that the line after so many is not a command, and answers its number.

@@ -4,7 +4,7 @@ ghost use Rattle.std.specs.Iterator.{IsFiniteIterable};
 ghost use Rattle.fc_base.specs.declared.try_reserve_error.TryReserveError.{TryReserveError};
 ghost use Rattle.fc_vec.specs.Items.{GivesAll, GivesFirst};
 ghost use Rattle.fc_hash.specs.Pairs.{IsMap};
-ghost use Rattle.fc_hash.specs.Extended.{IsExtended, IsExtendedUpTo};
+ghost use Rattle.fc_hash.specs.Extended.{IsPutAll, IsPutUpTo};
 
 use super::TryHashMap;
 use fc_base::TryReserveError;
@@ -24,8 +24,8 @@ impl<K: Eq + Hash + Drop, V: Drop> TryHashMap<K, V> {
         items: I,
     ) -> Result<(), TryReserveError>
         requires ends { IsFiniteIterable I.into_iter_gives I.IntoIter.can_next I.IntoIter.remaining items }
-        ensures all { OnOk result ((all : List (K × V)) × GivesAll I.into_iter_gives I.IntoIter.next_gives items all × IsExtended K.eq self.old.pairs all self.new.pairs) }
-        ensures error { IfErr result (λ e. (taken : List (K × V)) × GivesFirst I.into_iter_gives I.IntoIter.next_gives items taken × IsExtendedUpTo K.eq self.old.pairs taken self.new.pairs × (e ≡ TryReserveError.AllocError)) }
+        ensures all { OnOk result ((all : List (K × V)) × GivesAll I.into_iter_gives I.IntoIter.next_gives items all × IsPutAll K.eq self.old.pairs all self.new.pairs) }
+        ensures error { IfErr result (λ e. (taken : List (K × V)) × GivesFirst I.into_iter_gives I.IntoIter.next_gives items taken × IsPutUpTo K.eq self.old.pairs taken self.new.pairs × (e ≡ TryReserveError.AllocError)) }
         ensures map { IsMap K.eq self.new.pairs }
     {
         // No two keys are equal: std's map tells that by its length.
@@ -46,17 +46,17 @@ impl<K: Eq + Hash + Drop, V: Drop> TryHashMap<K, V> {
 /// # Errors
 /// As `try_extend`; the map is then dropped with the pairs that it has.
 impl<K: Eq + Hash + Drop, V: Drop> TryFromIterator<(K, V)> for TryHashMap<K, V> {
-    ghost made_of = { λ all map. IsExtended K.eq [] all map.pairs };
+    ghost made_of = { λ all map. IsPutAll K.eq [] all map.pairs };
 
-    ghost may_refuse = { λ taken e. (ps : List (K × V)) × IsExtendedUpTo K.eq [] taken ps × (e ≡ TryReserveError.AllocError) };
+    ghost may_refuse = { λ taken e. (ps : List (K × V)) × IsPutUpTo K.eq [] taken ps × (e ≡ TryReserveError.AllocError) };
 
     fn try_from_iterator<T: IntoIterator<Item = (K, V)>>(
         alloc: Global,
         iter: T,
     ) -> Result<TryHashMap<K, V>, TryReserveError>
         requires ends { IsFiniteIterable T.into_iter_gives T.IntoIter.can_next T.IntoIter.remaining iter }
-        ensures made { IfOk result (λ made. (all : List (K × V)) × GivesAll T.into_iter_gives T.IntoIter.next_gives iter all × IsExtended K.eq [] all made.pairs) }
-        ensures error { IfErr result (λ e. (taken : List (K × V)) × GivesFirst T.into_iter_gives T.IntoIter.next_gives iter taken × ((ps : List (K × V)) × IsExtendedUpTo K.eq [] taken ps × (e ≡ TryReserveError.AllocError))) }
+        ensures made { IfOk result (λ made. (all : List (K × V)) × GivesAll T.into_iter_gives T.IntoIter.next_gives iter all × IsPutAll K.eq [] all made.pairs) }
+        ensures error { IfErr result (λ e. (taken : List (K × V)) × GivesFirst T.into_iter_gives T.IntoIter.next_gives iter taken × ((ps : List (K × V)) × IsPutUpTo K.eq [] taken ps × (e ≡ TryReserveError.AllocError))) }
         ensures map { IfOk result (λ made. IsMap K.eq made.pairs) }
     {
         let mut map = TryHashMap::default(alloc);

@@ -10,7 +10,7 @@ ghost use Rattle.fc_map.specs.Entries.{entries, IsSoundMap};
 ghost use Rattle.fc_map.specs.Extension.{pairs_so_far, IsExtension};
 
 use super::{BTreeMap, for_sets};
-use fc_base::TryReserveError;
+use fc_base::{Count, TryReserveError};
 use fc_tree_build::growing::Growing;
 use std::marker::Model;
 use std::mem;
@@ -61,13 +61,13 @@ impl<K: Ord + Drop, V: Drop> Extension<K, V> {
         ensures error { IfErr result (λ e. MayGrowRefuse (length self.old) e) }
     {
         match &mut self.tree {
-            None => insert(&mut self.map, key, value),
+            None => self.map.put(key, value, &mut Count::new()),
             Some(tree) => {
                 if is_behind(tree, &key) {
                     return push_behind(tree, &mut self.len, key, value);
                 }
                 close(&mut self.tree, self.len, &mut self.map);
-                insert(&mut self.map, key, value)
+                self.map.put(key, value, &mut Count::new())
             }
         }
     }
@@ -121,12 +121,12 @@ fn push_behind<K: Ord + Drop, V: Drop>(
     if *len == usize::MAX {
         return Err(TryReserveError::CapacityOverflow);
     }
-    match tree.push((key, value)) {
+    match tree.put((key, value)) {
         Ok(()) => {
             *len += 1;
             Ok(())
         }
-        Err((_pair, error)) => Err(error),
+        Err(error) => Err(error),
     }
 }
 
@@ -144,22 +144,5 @@ fn close<K: Ord + Drop, V: Drop>(
     match tree.take() {
         None => (),
         Some(tree) => *map = for_sets::from_grown(alloc, tree, len),
-    }
-}
-
-// Inserts the item.
-fn insert<K: Ord + Drop, V: Drop>(
-    map: &mut BTreeMap<K, V>,
-    key: K,
-    value: V,
-) -> Result<(), TryReserveError>
-    ensures put { IfOk result (λ _. entries map.new ≡ put K.cmp (entries map.old) key value) }
-    ensures unchanged { IfErr result (λ _. map.new ≡ map.old) }
-    ensures new_key { IfErr result (λ _. at K.cmp (entries map.old) key ≡ None) }
-    ensures error { IfErr result (λ e. MayGrowRefuse (length (entries map.old)) e) }
-{
-    match map.try_insert(key, value) {
-        Ok(_old) => Ok(()),
-        Err((_key, _value, error)) => Err(error),
     }
 }

@@ -1,4 +1,5 @@
-//! What a set, which is a map of its items, rests on: a key with its pair taken out and replaced, and a map made of pairs in order.
+//! What a set, which is a map of its items, rests on: a key with its pair taken out and replaced, a map made of pairs in order, and keys
+//! asked in turn.
 ghost use Rattle.std.specs.Prelude.{◌≡◌, ◌+◌, ◌<◌, length, IsSome, IsErr, IfOk, IfErr, OnOk, Some, None};
 ghost use Rattle.fc_base.specs.Ascending.{IsAscending};
 ghost use Rattle.fc_base.specs.Growth.{MayGrowRefuse};
@@ -9,12 +10,14 @@ ghost use Rattle.fc_map.specs.Counts.{IsBounded};
 ghost use Rattle.fc_map.specs.Entries.{entries, IsSoundMap, passed_in};
 ghost use Rattle.fc_map.specs.Place.{IsHeldAt};
 ghost use Rattle.fc_tree_node.specs.Depth.{HasFewMoves};
+ghost use Rattle.fc_tree_retain.specs.Retained.{AskedAtKey, ExtractsBy, GivenKey, RetainsInTurn};
 
 use super::BTreeMap;
 use fc_base::{Count, Query, TryReserveError};
 use fc_tree_build::growing::Growing;
 use fc_tree_node::path::Path;
 use fc_tree_removal::replacement::exchange;
+use fc_tree_retain::retain;
 use std::alloc::Global;
 
 /// Takes the pair with an equal key out and answers it. `None` where there is none, and the map is as it was. It takes no memory. To
@@ -122,4 +125,30 @@ impl<K: Ord + Drop, V: Drop> BTreeMap<K, V> {
         };
         exchange(root, path, pair, count)
     }
+}
+
+/// Calls the closure once at each key, in ascending order, and drops those keys at which it answers false, with their values. No
+/// key is compared, and no memory is taken.
+pub fn retain_keys<K: Ord + Drop, V: Drop, F: FnMut(&K) -> bool>(map: &mut BTreeMap<K, V>, f: F)
+    requires { F.IsAlwaysCallable f }
+    ensures retained { (last : F) × RetainsInTurn (AskedAtKey F.FnMut) f (entries map.old) last (entries map.new) }
+    ensures ascending { IsAscending K.cmp (entries map.new) }
+    ensures sound { IsSoundMap map.new }
+{
+    map.len = retain::retain_keys(&mut map.root, f);
+}
+
+/// Calls `pick` once at each key, in ascending order, takes those keys out at which it answers true, and calls `each` with each of
+/// these at once. Their values are dropped. No key is compared, and no memory is taken.
+pub fn extract_keys_if<K: Ord + Drop, V: Drop, F: FnMut(&K) -> bool, E: FnMut(K)>(
+    map: &mut BTreeMap<K, V>,
+    pick: F,
+    each: E,
+)
+    requires { F.IsAlwaysCallable pick × E.IsAlwaysCallable each }
+    ensures extracted { (last : F × E) × RetainsInTurn (ExtractsBy (AskedAtKey F.FnMut) (GivenKey E.FnMut)) (pick, each) (entries map.old) last (entries map.new) }
+    ensures ascending { IsAscending K.cmp (entries map.new) }
+    ensures sound { IsSoundMap map.new }
+{
+    map.len = retain::extract_keys_if(&mut map.root, pick, each);
 }

@@ -82,6 +82,49 @@ impl<K: Ord + Drop, V: Drop> BTreeMap<K, V> {
         }
     }
 
+    /// `try_insert_counted` for who needs nothing back: a value that is replaced, and key and value that are refused, are dropped.
+    ///
+    /// # Errors
+    /// As `try_insert`.
+    pub(crate) fn put(&mut self, key: K, value: V, count: &mut Count) -> Result<(), TryReserveError>
+        ensures put { IfOk result (λ _. entries self.new ≡ put K.cmp (entries self.old) key value) }
+        ensures unchanged { IfErr result (λ _. self.new ≡ self.old) }
+        ensures new_key { IfErr result (λ _. at K.cmp (entries self.old) key ≡ None) }
+        ensures error { IfErr result (λ e. MayGrowRefuse (length (entries self.old)) e) }
+    {
+        let mut path = Path::new();
+        let Err(gap) = self.locate(&key, &mut path, count) else {
+            let _old = self.replace_at(&path, &key, value);
+            return Ok(());
+        };
+        if gap.has_room && self.len < usize::MAX {
+            let pair = (key, value);
+            self.insert_in_room(&path, pair, count);
+            return Ok(());
+        }
+        self.put_growing(&mut path, key, value, count)
+    }
+
+    // As `insert_growing`, for who needs nothing back. It is not inlined either.
+    #[inline(never)]
+    fn put_growing(
+        &mut self,
+        path: &mut Path,
+        key: K,
+        value: V,
+        count: &mut Count,
+    ) -> Result<(), TryReserveError>
+        requires gap { IsOpenAt K.cmp key self.old path.old }
+        ensures put { OnOk result (entries self.new ≡ put K.cmp (entries self.old) key value) }
+        ensures unchanged { OnErr result (self.new ≡ self.old) }
+        ensures error { IfErr result (λ e. MayGrowRefuse (length (entries self.old)) e) }
+    {
+        match self.insert_growing(path, key, value, count) {
+            Ok(()) => Ok(()),
+            Err((_key, _value, error)) => Err(error),
+        }
+    }
+
     // Puts another value at the key, to which the path leads, and answers the old one.
     pub(crate) fn replace_at(&mut self, path: &Path, key: &K, value: V) -> V
         requires held { IsHeldAt K.cmp key.now self.old path.now }

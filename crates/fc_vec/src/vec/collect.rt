@@ -50,7 +50,7 @@ impl<I: Drop> TryFromIterator<I> for Vec<I> {
     }
 }
 
-/// A vector of the items that the iterator gives, in order, put in one after another. Upstream: `TryFromIterator` for `Vec`.
+/// A vector of the items that the iterator gives, in order, put in one after another. Not in upstream, which has it for `Vec` alone.
 ///
 /// # Errors
 /// `AllocError` where the room for an item was refused.
@@ -68,7 +68,8 @@ impl<I: Drop> TryFromIterator<I> for TryVec<I> {
     }
 }
 
-/// What becomes an iterator that ends, made into a collection of the items that it gives. Upstream: `TryCollect`.
+/// What becomes an iterator that ends, made into a collection of the items that it gives. Its call is `TryCollect::try_collect(items, alloc)`:
+/// `items.try_collect(alloc)` is ambiguous with std's call of that name, and the compiler then names this one. Upstream: `TryCollect`.
 pub trait TryCollect<I>: Sized {
     // The iterator that this becomes ends.
     ghost ends: { Self → Type 0 };

@@ -212,7 +212,7 @@ impl<T> TryVec<T> {
         self.inner.try_extend_from_slice_no_copy(other)
     }
 
-    /// The vector of std's, with its items and room, handed out. Upstream: `From<TryVec<T>> for Vec<T>`.
+    /// The vector of std's, with its items and room, handed out. Not in upstream, where it stays inside.
     pub fn into_vec(self) -> Vec<T>
         ensures items { result.items ≡ self.items }
         ensures room { vec_capacity result ≡ self.room }

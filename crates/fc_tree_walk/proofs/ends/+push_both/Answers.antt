@@ -1,9 +1,11 @@
 use Rattle.std.proofs.Common.{[], length, refl, rules, arith, sym, subst, ap, ◌∙◌, length-append}
 use Rattle.fc_tree_node.specs.Node.{IsLevelled}
 use Rattle.fc_tree_node.proofs.Gaps.{step_levels}
+use Rattle.fc_tree_node.proofs.Pairs.{leaf_children}
+use Rattle.fc_tree_search.proofs.SearchFacts.{child_there}
 use Rattle.fc_tree_walk.specs.Gap.{GoesOn}
-use Rattle.fc_tree_walk.proofs.GapFacts.{goes_here, goes_below, ends_here, ends_below}
-use Rattle.fc_tree_walk.proofs.Turns.{turn_first, turn_later, around_gap, around_child, child_ascends, ahead_at, amid_parted, both_at}
+use Rattle.fc_tree_walk.proofs.GapFacts.{around_gap, around_child, goes_here, goes_below, ends_here, ends_below}
+use Rattle.fc_tree_walk.proofs.Turns.{turn_first, turn_later, child_ascends, ahead_at, amid_parted, both_at}
 use Rattle.fc_tree_walk.proofs.ends.+push_both.Goals as goal
 
 pub push_cut-requires-clause-place : goal.push_cut-requires-clause-place
@@ -19,72 +21,78 @@ returns-then-start-stop-clause-back g t c =
     let e = amid_parted g.met.Q.Query.fits g.Q.Query.sought l.0 n l.1 c.requires.order c.args.lo.now c.args.hi.now _ _ c.if-start-stop.true (turn_first c.place_in-start.ensures) c.place_in-stop.ensures in
     subst (GoesOn c.args.back.now c.push_cut-then-start-stop.new.gap n) e c.push_cut-then-start-stop.ensures.gap
 
+pub child-requires : goal.child-requires
+child-requires g t c =
+    let l = c.requires.levels in
+    let k = child_there l.0 c.args.node.now c.place_in-start.result l.1 c.if-is_leaf.ensures.1 (turn_first c.place_in-start.ensures).within in
+    k
+
 pub push_both-requires : goal.push_both-requires
 push_both-requires g t c κs within =
     let l = c.requires.levels in
-    let k = c.if-start-child_count.true in
-    let s = step_levels l.0 c.args.node.now c.place_in-start.result l.1 (omega arith) in
+    let k = child_there l.0 c.args.node.now c.place_in-start.result l.1 c.if-is_leaf.ensures.1 (turn_first c.place_in-start.ensures).within in
+    let s = step_levels l.0 c.args.node.now c.place_in-start.result l.1 k in
     let e = s.1 in
     let f = l.2 in
     let b = l.3 in
     let p = ap length c.push.ensures ∙ length-append c.args.front.now _ in
     let q = ap length c.push-2.ensures ∙ length-append c.args.back.now _ in
-    (omega arith, (search rules, (search rules, (search rules, ((s.0, subst (IsLevelled s.0) (sym c.child.ensures) s.2, omega arith, omega arith), child_ascends g.K.Ord.cmp l.0 _ _ _ l.1 (omega arith) c.child.ensures c.requires.order)))))
-
-pub returns-then-start-child_count-clause-front : goal.returns-then-start-child_count-clause-front
-returns-then-start-child_count-clause-front g t c =
-    let l = c.requires.levels in
-    let n = c.args.node.now in
-    let i = c.place_in-start.result in
-    let k = c.if-start-child_count.true in
-    goes_below c.args.front.now c.push.new.self c.push_both.new.front i l.0 n c.child.result.now _ _ l.1 (omega arith) c.push.ensures c.child.ensures c.push_both.ensures.front
-    (ahead_at g.met.Q.Query.fits g.Q.Query.sought l.0 n l.1 c.requires.order i _ (around_child l.0 n _ i l.1 (omega arith) c.child.ensures) c.args.lo.now (turn_first c.place_in-start.ensures))
-
-pub returns-then-start-child_count-clause-back : goal.returns-then-start-child_count-clause-back
-returns-then-start-child_count-clause-back g t c =
-    let l = c.requires.levels in
-    let n = c.args.node.now in
-    let i = c.place_in-start.result in
-    let k = c.if-start-child_count.true in
-    let e = both_at g.met.Q.Query.fits g.Q.Query.sought l.0 n l.1 c.requires.order i _ (around_child l.0 n _ i l.1 (omega arith) c.child.ensures) c.args.lo.now c.args.hi.now _ c.place_in-start.ensures c.place_in-stop.ensures (omega (arith, c.if-start-stop.false)) in
-    goes_below c.args.back.now c.push-2.new.self c.push_both.new.back i l.0 n c.child.result.now _ _ l.1 (omega arith) c.push-2.ensures c.child.ensures c.push_both.ensures.back e
-
-pub returns-then-start-child_count-clause-first : goal.returns-then-start-child_count-clause-first
-returns-then-start-child_count-clause-first g t c =
-    let l = c.requires.levels in
-    let k = c.if-start-child_count.true in
-    let s = step_levels l.0 c.args.node.now c.place_in-start.result l.1 (omega arith) in
-    ends_below c.args.front.now c.push.new.self c.push_both.new.front c.place_in-start.result _ c.args.node.now c.child.result.now c.push_both.result.0.now c.push.ensures c.child.ensures (s.0, subst (IsLevelled s.0) (sym c.child.ensures) s.2) c.push_both.ensures.front c.push_both.ensures.first
-
-pub returns-then-start-child_count-clause-last : goal.returns-then-start-child_count-clause-last
-returns-then-start-child_count-clause-last g t c =
-    let l = c.requires.levels in
-    let k = c.if-start-child_count.true in
-    let s = step_levels l.0 c.args.node.now c.place_in-start.result l.1 (omega arith) in
-    ends_below c.args.back.now c.push-2.new.self c.push_both.new.back c.place_in-start.result _ c.args.node.now c.child.result.now c.push_both.result.1.now c.push-2.ensures c.child.ensures (s.0, subst (IsLevelled s.0) (sym c.child.ensures) s.2) c.push_both.ensures.back c.push_both.ensures.last
+    (omega arith, (search rules, (search rules, (search rules, ((s.0, subst (IsLevelled s.0) (sym c.child.ensures) s.2, omega arith, omega arith), child_ascends g.K.Ord.cmp l.0 _ _ _ l.1 k c.child.ensures c.requires.order)))))
 
 pub returns-clause-front : goal.returns-clause-front
 returns-clause-front g t c =
     let l = c.requires.levels in
     let n = c.args.node.now in
     let i = c.place_in-start.result in
-    let r = turn_first c.place_in-start.ensures in
-    let k = c.if-start-child_count.false in
-    let a = ahead_at g.met.Q.Query.fits g.Q.Query.sought l.0 n l.1 c.requires.order i [] (around_gap l.0 n i l.1 (omega arith) r.within) c.args.lo.now r in
-    goes_here c.args.front.now c.push.new.self i l.0 n _ _ l.1 (omega arith) r.within c.push.ensures a refl
+    let k = child_there l.0 c.args.node.now c.place_in-start.result l.1 c.if-is_leaf.ensures.1 (turn_first c.place_in-start.ensures).within in
+    goes_below c.args.front.now c.push.new.self c.push_both.new.front i l.0 n c.child.result.now _ _ l.1 k c.push.ensures c.child.ensures c.push_both.ensures.front
+    (ahead_at g.met.Q.Query.fits g.Q.Query.sought l.0 n l.1 c.requires.order i _ (around_child l.0 n _ i l.1 k c.child.ensures) c.args.lo.now (turn_first c.place_in-start.ensures))
 
 pub returns-clause-back : goal.returns-clause-back
 returns-clause-back g t c =
     let l = c.requires.levels in
     let n = c.args.node.now in
     let i = c.place_in-start.result in
-    let r = turn_first c.place_in-start.ensures in
-    let k = c.if-start-child_count.false in
-    let a = both_at g.met.Q.Query.fits g.Q.Query.sought l.0 n l.1 c.requires.order i [] (around_gap l.0 n i l.1 (omega arith) r.within) c.args.lo.now c.args.hi.now _ c.place_in-start.ensures c.place_in-stop.ensures (omega (arith, c.if-start-stop.false)) in
-    goes_here c.args.back.now c.push-2.new.self i l.0 n _ _ l.1 (omega arith) r.within c.push-2.ensures a refl
+    let k = child_there l.0 c.args.node.now c.place_in-start.result l.1 c.if-is_leaf.ensures.1 (turn_first c.place_in-start.ensures).within in
+    let e = both_at g.met.Q.Query.fits g.Q.Query.sought l.0 n l.1 c.requires.order i _ (around_child l.0 n _ i l.1 k c.child.ensures) c.args.lo.now c.args.hi.now _ c.place_in-start.ensures c.place_in-stop.ensures (omega (arith, c.if-start-stop.false)) in
+    goes_below c.args.back.now c.push-2.new.self c.push_both.new.back i l.0 n c.child.result.now _ _ l.1 k c.push-2.ensures c.child.ensures c.push_both.ensures.back e
 
 pub returns-clause-first : goal.returns-clause-first
-returns-clause-first g t c = ends_here c.args.front.now c.push.new.self c.place_in-start.result c.args.node.now c.push.ensures
+returns-clause-first g t c =
+    let l = c.requires.levels in
+    let k = child_there l.0 c.args.node.now c.place_in-start.result l.1 c.if-is_leaf.ensures.1 (turn_first c.place_in-start.ensures).within in
+    let s = step_levels l.0 c.args.node.now c.place_in-start.result l.1 k in
+    ends_below c.args.front.now c.push.new.self c.push_both.new.front c.place_in-start.result _ c.args.node.now c.child.result.now c.push_both.result.0.now c.push.ensures c.child.ensures (s.0, subst (IsLevelled s.0) (sym c.child.ensures) s.2) c.push_both.ensures.front c.push_both.ensures.first
 
 pub returns-clause-last : goal.returns-clause-last
-returns-clause-last g t c = ends_here c.args.back.now c.push-2.new.self c.place_in-start.result c.args.node.now c.push-2.ensures
+returns-clause-last g t c =
+    let l = c.requires.levels in
+    let k = child_there l.0 c.args.node.now c.place_in-start.result l.1 c.if-is_leaf.ensures.1 (turn_first c.place_in-start.ensures).within in
+    let s = step_levels l.0 c.args.node.now c.place_in-start.result l.1 k in
+    ends_below c.args.back.now c.push-2.new.self c.push_both.new.back c.place_in-start.result _ c.args.node.now c.child.result.now c.push_both.result.1.now c.push-2.ensures c.child.ensures (s.0, subst (IsLevelled s.0) (sym c.child.ensures) s.2) c.push_both.ensures.back c.push_both.ensures.last
+
+pub returns-then-is_leaf-clause-front : goal.returns-then-is_leaf-clause-front
+returns-then-is_leaf-clause-front g t c =
+    let l = c.requires.levels in
+    let n = c.args.node.now in
+    let i = c.place_in-start.result in
+    let r = turn_first c.place_in-start.ensures in
+    let none = ap length (leaf_children c.args.node.now (c.if-is_leaf.ensures.0 refl)) in
+    let a = ahead_at g.met.Q.Query.fits g.Q.Query.sought l.0 n l.1 c.requires.order i [] (around_gap l.0 n i l.1 (omega (arith, none)) r.within) c.args.lo.now r in
+    goes_here c.args.front.now c.push.new.self i l.0 n _ _ l.1 (omega arith) r.within c.push.ensures a refl
+
+pub returns-then-is_leaf-clause-back : goal.returns-then-is_leaf-clause-back
+returns-then-is_leaf-clause-back g t c =
+    let l = c.requires.levels in
+    let n = c.args.node.now in
+    let i = c.place_in-start.result in
+    let r = turn_first c.place_in-start.ensures in
+    let none = ap length (leaf_children c.args.node.now (c.if-is_leaf.ensures.0 refl)) in
+    let a = both_at g.met.Q.Query.fits g.Q.Query.sought l.0 n l.1 c.requires.order i [] (around_gap l.0 n i l.1 (omega (arith, none)) r.within) c.args.lo.now c.args.hi.now _ c.place_in-start.ensures c.place_in-stop.ensures (omega (arith, c.if-start-stop.false)) in
+    goes_here c.args.back.now c.push-2.new.self i l.0 n _ _ l.1 (omega arith) r.within c.push-2.ensures a refl
+
+pub returns-then-is_leaf-clause-first : goal.returns-then-is_leaf-clause-first
+returns-then-is_leaf-clause-first g t c = ends_here c.args.front.now c.push.new.self c.place_in-start.result c.args.node.now c.push.ensures
+
+pub returns-then-is_leaf-clause-last : goal.returns-then-is_leaf-clause-last
+returns-then-is_leaf-clause-last g t c = ends_here c.args.back.now c.push-2.new.self c.place_in-start.result c.args.node.now c.push-2.ensures

@@ -1,20 +1,35 @@
-use Rattle.std.proofs.Common.{arith, ap, ◌∙◌}
+use Rattle.std.proofs.Common.{◌∙◌}
 use Rattle.fc_tree_node.specs.Node.{pairs_of}
-use Rattle.fc_tree_walk.specs.Cut.{start_cut, ahead, amid}
 use Rattle.fc_tree_walk.proofs.Bounds.{from_nothing}
-use Rattle.fc_tree_walk.proofs.Turns.{start_counts, within_counts}
+use Rattle.fc_tree_walk.proofs.Turns.{turn_first, amid_open, ends_told}
 use Rattle.fc_tree_walk.proofs.ends.push_ends.Goals as goal
+
+pub push_cut-first-requires-clause-place : goal.push_cut-first-requires-clause-place
+push_cut-first-requires-clause-place g c = turn_first c.place_in.ensures
+
+pub push_cut-last-requires-clause-place : goal.push_cut-last-requires-clause-place
+push_cut-last-requires-clause-place g c = turn_first c.place_in-then-is_open.ensures
+
+pub returns-then-is_open-clause-front : goal.returns-then-is_open-clause-front
+returns-then-is_open-clause-front g c =
+    let f = (from_nothing _ _ _ _ c.requires.start.0 c.push_cut-first.ensures.gap).1 in
+    let b = (from_nothing _ _ _ _ c.requires.start.1 c.push_cut-last.ensures.gap).1 ∙ amid_open g.met.Q.Query.fits g.Q.Query.sought _ _ (c.is_open.ensures c.if-is_open.true) (pairs_of c.args.root.now) in
+    (ends_told g.met.Q.Query.fits g.Q.Query.sought c.args.lo.now c.args.hi.now (pairs_of c.args.root.now) _ _ _ _ c.start_of-lo.ensures c.stop_of-hi.ensures f b).0
+
+pub returns-then-is_open-clause-back : goal.returns-then-is_open-clause-back
+returns-then-is_open-clause-back g c =
+    let f = (from_nothing _ _ _ _ c.requires.start.0 c.push_cut-first.ensures.gap).1 in
+    let b = (from_nothing _ _ _ _ c.requires.start.1 c.push_cut-last.ensures.gap).1 ∙ amid_open g.met.Q.Query.fits g.Q.Query.sought _ _ (c.is_open.ensures c.if-is_open.true) (pairs_of c.args.root.now) in
+    (ends_told g.met.Q.Query.fits g.Q.Query.sought c.args.lo.now c.args.hi.now (pairs_of c.args.root.now) _ _ _ _ c.start_of-lo.ensures c.stop_of-hi.ensures f b).1
 
 pub returns-clause-front : goal.returns-clause-front
 returns-clause-front g c =
-    let f = (from_nothing _ _ _ _ c.requires.start.0 c.push_both.ensures.front).1 ∙ ap (λ cut. ahead g.Q.Query.order g.Q.Query.sought cut (pairs_of c.args.root.now)) c.start_of.ensures in
-    let s = start_counts g.met.Q.Query.fits g.Q.Query.sought c.args.lo.now c.args.lo.now (pairs_of c.args.root.now) in
-    omega (arith, f, s)
+    let f = (from_nothing _ _ _ _ c.requires.start.0 c.push_both.ensures.front).1 in
+    let b = (from_nothing _ _ _ _ c.requires.start.1 c.push_both.ensures.back).1 in
+    (ends_told g.met.Q.Query.fits g.Q.Query.sought c.args.lo.now c.args.hi.now (pairs_of c.args.root.now) _ _ _ _ c.start_of-lo.ensures c.stop_of-hi.ensures f b).0
 
 pub returns-clause-back : goal.returns-clause-back
 returns-clause-back g c =
-    let s = pairs_of c.args.root.now in
     let f = (from_nothing _ _ _ _ c.requires.start.0 c.push_both.ensures.front).1 in
     let b = (from_nothing _ _ _ _ c.requires.start.1 c.push_both.ensures.back).1 in
-    let w = ap (λ cut. amid g.Q.Query.order g.Q.Query.sought cut c.stop_of.result s) c.start_of.ensures ∙ ap (λ cut. amid g.Q.Query.order g.Q.Query.sought (start_cut c.args.lo.now) cut s) c.stop_of.ensures ∙ within_counts g.met.Q.Query.fits g.Q.Query.sought c.args.lo.now c.args.hi.now s in
-    omega (arith, f, b, w)
+    (ends_told g.met.Q.Query.fits g.Q.Query.sought c.args.lo.now c.args.hi.now (pairs_of c.args.root.now) _ _ _ _ c.start_of-lo.ensures c.stop_of-hi.ensures f b).1

@@ -1,7 +1,7 @@
-use Rattle.std.proofs.Common.{length, rules, arith, sym, subst, ap, ◌∙◌, length-append}
+use Rattle.std.proofs.Common.{length, refl, rules, arith, sym, subst, ap, ◌∙◌, length-append}
 use Rattle.fc_tree_node.specs.Node.{IsLevelled}
 use Rattle.fc_tree_node.proofs.Gaps.{step_levels}
-use Rattle.fc_tree_walk.proofs.GapFacts.{first_gap_leaf, first_gap_child, ends_here, ends_below}
+use Rattle.fc_tree_walk.proofs.GapFacts.{goes_here, goes_below, ends_here, ends_below}
 use Rattle.fc_tree_walk.proofs.gaps.+push_first.Goals as goal
 
 pub push_first-requires : goal.push_first-requires
@@ -15,10 +15,10 @@ push_first-requires g t c κs within =
 
 pub returns-then-child_count-gt0-clause-gap : goal.returns-then-child_count-gt0-clause-gap
 returns-then-child_count-gt0-clause-gap g t c =
-    first_gap_child c.args.gap.now c.push.new.self c.push_first.new.gap c.args.node.now c.child.result.now c.requires.levels (omega arith) c.push.ensures c.child.ensures c.push_first.ensures.gap
+    goes_below c.args.gap.now c.push.new.self c.push_first.new.gap 0 c.requires.levels.0 c.args.node.now c.child.result.now 0 0 c.requires.levels.1 (omega arith) c.push.ensures c.child.ensures c.push_first.ensures.gap refl
 
 pub returns-clause-gap : goal.returns-clause-gap
-returns-clause-gap g t c = first_gap_leaf c.args.gap.now c.push.new.self c.args.node.now c.requires.levels (omega arith) c.push.ensures
+returns-clause-gap g t c = goes_here c.args.gap.now c.push.new.self 0 c.requires.levels.0 c.args.node.now 0 0 c.requires.levels.1 (omega arith) (omega arith) c.push.ensures refl refl
 
 pub returns-then-child_count-gt0-clause-leaf : goal.returns-then-child_count-gt0-clause-leaf
 returns-then-child_count-gt0-clause-leaf g t c =

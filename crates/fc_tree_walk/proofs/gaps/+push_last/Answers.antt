@@ -1,7 +1,7 @@
-use Rattle.std.proofs.Common.{length, rules, arith, sym, subst, ap, ◌∙◌, length-append}
-use Rattle.fc_tree_node.specs.Node.{IsLevelled}
+use Rattle.std.proofs.Common.{[], length, refl, rules, arith, sym, subst, ap, ◌∙◌, length-append}
+use Rattle.fc_tree_node.specs.Node.{IsLevelled, pairs_of}
 use Rattle.fc_tree_node.proofs.Gaps.{step_levels}
-use Rattle.fc_tree_walk.proofs.GapFacts.{last_gap_leaf, last_gap_child, ends_here, ends_below}
+use Rattle.fc_tree_walk.proofs.GapFacts.{around_gap, around_child, end_count, goes_here, goes_below, ends_here, ends_below}
 use Rattle.fc_tree_walk.proofs.gaps.+push_last.Goals as goal
 
 pub push_last-requires : goal.push_last-requires
@@ -15,11 +15,16 @@ push_last-requires g t c κs within =
 
 pub returns-then-end-child_count-clause-gap : goal.returns-then-end-child_count-clause-gap
 returns-then-end-child_count-clause-gap g t c =
-    last_gap_child c.args.gap.now c.push.new.self c.push_last.new.gap c.len-end.result c.args.node.now c.child.result.now c.requires.levels c.len-end.ensures.value (omega arith) c.push.ensures c.child.ensures c.push_last.ensures.gap
+    let l = c.requires.levels in
+    let end = c.len-end.ensures.value in
+    goes_below c.args.gap.now c.push.new.self c.push_last.new.gap c.len-end.result l.0 c.args.node.now c.child.result.now _ _ l.1 (omega arith) c.push.ensures c.child.ensures c.push_last.ensures.gap
+    (end_count c.args.node.now c.len-end.result (pairs_of c.child.result.now) (omega arith) (around_child l.0 c.args.node.now c.child.result.now c.len-end.result l.1 (omega arith) c.child.ensures))
 
 pub returns-clause-gap : goal.returns-clause-gap
 returns-clause-gap g t c =
-    last_gap_leaf c.args.gap.now c.push.new.self c.len-end.result c.args.node.now c.requires.levels c.len-end.ensures.value (omega arith) c.push.ensures
+    let l = c.requires.levels in
+    let end = c.len-end.ensures.value in
+    goes_here c.args.gap.now c.push.new.self c.len-end.result l.0 c.args.node.now _ _ l.1 (omega arith) (omega arith) c.push.ensures (end_count c.args.node.now c.len-end.result [] (omega arith) (around_gap l.0 c.args.node.now c.len-end.result l.1 (omega arith) (omega arith))) refl
 
 pub returns-then-end-child_count-clause-leaf : goal.returns-then-end-child_count-clause-leaf
 returns-then-end-child_count-clause-leaf g t c =

@@ -32,7 +32,7 @@ returns-then-len-step g c =
     let leaf = ap (λ d. length (own_pairs d)) (c.child.ensures ∙ ap (child_at n) s.step) in
     let last = c.step.ensures ∙ ap (λ k. get_or gap k 0) s.end in
     let full : length (own_pairs (child_at n i)) ≤ get_or gap (x.level + 1) 0 = omega (arith, leaf, last, c.len-then-place-len.ensures.value, c.if-len-step.true) in
-    let r = near_next m gap mid new n x c.requires.sound c.len-last.ensures.fits c.pair.result.now own full e f (c.pair.ensures ∙ ap (λ k. get_or (own_pairs n) k c.pair.result.now) s.step) in
+    let r = near_next m gap mid new n x c.requires.sound c.pair.result.now own full e f (c.pair.ensures ∙ ap (λ k. get_or (own_pairs n) k c.pair.result.now) s.step) in
     let q = near_leaf m gap mid new n x (i + 1) 0 e f in
     record {
       gap = r.slot;

@@ -37,7 +37,7 @@ returns-then-step-eq0 g c =
     let e = c.set.ensures ∙ ap (λ k. slice_set gap k (c.step-place.result - 1)) s.above ∙ ap (λ k. slice_set gap x.level (k - 1)) s.step in
     let f = c.set-then-step-eq0.ensures ∙ ap (λ k. slice_set mid k c.len.result) s.end ∙ ap (slice_set mid (x.level + 1)) (c.len.ensures.value ∙ ap (λ d. length (own_pairs d)) leaf) in
     let first = sym (c.step.ensures ∙ ap (λ k. get_or gap k 0) s.end) ∙ c.if-step-eq0.true in
-    let r = near_back m gap mid new n x c.requires.sound c.len-last.ensures.fits c.pair.result.now some first e f (c.pair.ensures ∙ ap (λ k. get_or (own_pairs n) (k - 1) c.pair.result.now) s.step) in
+    let r = near_back m gap mid new n x c.requires.sound c.pair.result.now some first e f (c.pair.ensures ∙ ap (λ k. get_or (own_pairs n) (k - 1) c.pair.result.now) s.step) in
     let q = near_leaf m gap mid new n x (i - 1) (length (own_pairs (child_at n (i - 1)))) e f in
     record {
       gap = r.slot;

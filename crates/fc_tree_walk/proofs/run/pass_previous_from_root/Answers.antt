@@ -9,39 +9,30 @@ use Rattle.fc_tree_walk.proofs.run.pass_previous_from_root.Goals as goal
 
 pub set_before-requires-clause-levels : goal.set_before-requires-clause-levels
 set_before-requires-clause-levels g c =
-    let m = root_of c.args.root.now in
-    let gap = c.args.gap.now in
-    let root = c.deref.result.now in
-    let is = ap root_of c.in-Some.is ∙ ap Some (sym c.deref.ensures) in
-    let e = c.place_before-level.ensures in
-    let n = c.place_before-level.result.0.now in
-    let level = c.place_before-level.result.1 in
-    levels_in m root n gap level is c.requires.sound c.requires.gap e.way
+    let is = ap root_of c.in-Some.is ∙ ap Some (sym c.deref-node.ensures) in
+    levels_in (root_of c.args.root.now) c.deref-node.result.now _ c.args.gap.now _ is c.requires.sound c.requires.gap c.place_before-level.ensures.way
 
 pub leaf_of-requires-clause-gap : goal.leaf_of-requires-clause-gap
 leaf_of-requires-clause-gap g c =
-    let m = root_of c.args.root.now in
-    let gap = c.args.gap.now in
-    let root = c.deref.result.now in
-    let is = ap root_of c.in-Some.is ∙ ap Some (sym c.deref.ensures) in
+    let is = ap root_of c.in-Some.is ∙ ap Some (sym c.deref-node.ensures) in
     let e = c.place_before-level.ensures in
-    let n = c.place_before-level.result.0.now in
-    let level = c.place_before-level.result.1 in
-    let at : IsLastAt gap root n level _ = record { way = e.way; own = e.own; before = e.before } in
-    let r = passed_back m root n gap c.set_before.new.gap level c.pair-pair.result.now is c.requires.sound at (c.pair-pair.ensures ∙ ap (λ i. get_or (own_pairs n) (i - 1) c.pair-pair.result.now) c.step.ensures) c.set_before.ensures in
-    subst (λ d. IsGapIn d c.set_before.new.gap) (ap root_of c.in-Some.is ∙ ap Some (sym c.deref-2.ensures)) r.slot
+    let at : IsLastAt c.args.gap.now c.deref-node.result.now c.place_before-level.result.0.now c.place_before-level.result.1 _ = record { way = e.way; own = e.own; before = e.before } in
+    let pair = c.pair-pair.ensures ∙ ap (λ i. get_or (own_pairs c.place_before-level.result.0.now) (i - 1) c.pair-pair.result.now) c.step.ensures in
+    let r = passed_back (root_of c.args.root.now) c.deref-node.result.now _ c.args.gap.now c.set_before.new.gap _ c.pair-pair.result.now is c.requires.sound at pair c.set_before.ensures in
+    subst (λ d. IsGapIn d c.set_before.new.gap) is r.slot
 
 pub returns : goal.returns
 returns g c =
-    let m = root_of c.args.root.now in
-    let gap = c.args.gap.now in
-    let root = c.deref.result.now in
-    let is = ap root_of c.in-Some.is ∙ ap Some (sym c.deref.ensures) in
+    let is = ap root_of c.in-Some.is ∙ ap Some (sym c.deref-node.ensures) in
     let e = c.place_before-level.ensures in
-    let n = c.place_before-level.result.0.now in
-    let level = c.place_before-level.result.1 in
-    let at : IsLastAt gap root n level _ = record { way = e.way; own = e.own; before = e.before } in
-    let r = passed_back m root n gap c.set_before.new.gap level c.pair-pair.result.now is c.requires.sound at (c.pair-pair.ensures ∙ ap (λ i. get_or (own_pairs n) (i - 1) c.pair-pair.result.now) c.step.ensures) c.set_before.ensures in
-    let same = same_root m c.deref-2.result.now in
-    let there = ap root_of c.in-Some.is ∙ ap Some (sym c.deref-2.ensures) in
-    record { above = λ d p. subst (λ n. IsAboveAt c.set_before.new.gap n (length c.set_before.new.gap - 1) (option_copied c.leaf_of.result.0)) (same d there p) c.leaf_of.ensures.above; leaf = λ d p. c.leaf_of.ensures.leaf ∙ ap (leaf_at c.set_before.new.gap) (same d there p); gap = r.slot; step = r.step; pair = r.pair }
+    let at : IsLastAt c.args.gap.now c.deref-node.result.now c.place_before-level.result.0.now c.place_before-level.result.1 _ = record { way = e.way; own = e.own; before = e.before } in
+    let pair = c.pair-pair.ensures ∙ ap (λ i. get_or (own_pairs c.place_before-level.result.0.now) (i - 1) c.pair-pair.result.now) c.step.ensures in
+    let r = passed_back (root_of c.args.root.now) c.deref-node.result.now _ c.args.gap.now c.set_before.new.gap _ c.pair-pair.result.now is c.requires.sound at pair c.set_before.ensures in
+    let same = same_root (root_of c.args.root.now) c.deref-node.result.now in
+    record {
+      gap = r.slot;
+      above = λ d p. subst (λ n. IsAboveAt c.set_before.new.gap n (length c.set_before.new.gap - 1) (option_copied c.leaf_of.result.0)) (same d is p) c.leaf_of.ensures.above;
+      step = r.step;
+      pair = r.pair;
+      leaf = λ d p. c.leaf_of.ensures.leaf ∙ ap (leaf_at c.set_before.new.gap) (same d is p);
+    }

@@ -1,44 +1,21 @@
-use Rattle.std.proofs.Common.{◌+◌, ◌<◌, take, get_or, length, ap, ◌∙◌, arith}
-use Rattle.std.specs.Prelude.{slice_set}
-use Rattle.fc_tree_node.specs.Node.{own_pairs, child_at}
-use Rattle.fc_tree_walk.proofs.GapFacts.{behind_leaf, behind_child}
-use Rattle.fc_tree_walk.proofs.Ways.{prefix_set, end_set, room, inner_at, leaf_there, levels_below}
+use Rattle.std.proofs.Common.{◌+◌, ◌<◌, length, ap, arith}
+use Rattle.fc_tree_node.specs.Node.{own_pairs}
+use Rattle.fc_tree_node.specs.Place.{before_own}
+use Rattle.fc_tree_walk.proofs.GapFacts.{next_before}
+use Rattle.fc_tree_walk.proofs.Ways.{set_here, set_below, levels_below}
 use Rattle.fc_tree_walk.proofs.run.set_after.Goals as goal
 
 pub set_first-requires-clause-levels : goal.set_first-requires-clause-levels
 set_first-requires-clause-levels g c =
-    let gap = c.args.gap.now in
-    let n = c.args.node.now in
-    let level = c.args.level in
-    let len = c.len-len.ensures.value in
-    let step = c.step-step.ensures in
     let own = c.requires.own in
-    (levels_below gap c.set.new.self level (c.step-step.result + 1) _ n c.child.result.now c.set.ensures (omega arith) c.requires.levels (omega arith) c.child.ensures).1
+    (levels_below c.args.gap.now c.set.new.self c.args.level (c.step-step.result + 1) _ c.args.node.now c.child.result.now c.set.ensures (omega (arith, c.len-len.ensures.value)) c.requires.levels (omega (arith, c.step-step.ensures, own)) c.child.ensures).1
 
 pub returns-then-level-len : goal.returns-then-level-len
 returns-then-level-len g c =
-    let gap = c.args.gap.now in
-    let n = c.args.node.now in
-    let level = c.args.level in
-    let len = c.len-len.ensures.value in
-    let step = c.step-step.ensures in
-    let own = c.requires.own in
-    let inner = inner_at gap level n (omega arith) c.requires.levels in
-    let there : get_or gap level 0 < length (own_pairs n) = own in
-    let set = c.set.ensures ∙ ap (λ i. slice_set gap level (i + 1)) step in
-    let down = c.child.ensures ∙ ap (λ i. child_at n (i + 1)) step in
-    behind_child (take level gap) (take (level + 1) c.set.new.self) c.set_first.new.gap (get_or gap level 0) n c.child.result.now (room gap level n c.requires.level c.len-len.ensures.fits c.requires.levels) there (omega arith) (prefix_set gap c.set.new.self level _ c.requires.level set) down c.set_first.ensures
+    let own : c.step-step.result < length (own_pairs c.args.node.now) = omega (arith, c.step-step.ensures, c.requires.own) in
+    set_below c.args.gap.now c.set.new.self c.set_first.new.gap c.args.level (c.step-step.result + 1) 0 c.args.node.now c.child.result.now _ (omega (arith, c.len-len.ensures.value)) c.set.ensures c.requires.levels (omega arith) c.child.ensures c.set_first.ensures (λ _. omega (arith, next_before _ c.args.node.now c.step-step.result c.requires.levels own, ap (λ i. length (before_own c.args.node.now i)) c.step-step.ensures))
 
 pub returns-else-level-len : goal.returns-else-level-len
 returns-else-level-len g c =
-    let gap = c.args.gap.now in
-    let n = c.args.node.now in
-    let level = c.args.level in
-    let len = c.len-len.ensures.value in
-    let step = c.step-step.ensures in
-    let own = c.requires.own in
-    let k = c.requires.level in
-    let none = leaf_there gap level n (omega arith) c.requires.levels in
-    let there : get_or gap level 0 < length (own_pairs n) = own in
-    let set = c.set.ensures ∙ ap (λ i. slice_set gap level (i + 1)) step in
-    behind_leaf (take level gap) c.set.new.self (get_or gap level 0) n (room gap level n k c.len-len.ensures.fits c.requires.levels) there (omega arith) (end_set gap c.set.new.self level _ (omega arith) set)
+    let own : c.step-step.result < length (own_pairs c.args.node.now) = omega (arith, c.step-step.ensures, c.requires.own) in
+    set_here c.args.gap.now c.set.new.self c.args.level (c.step-step.result + 1) c.args.node.now _ (omega (arith, c.requires.level, c.len-len.ensures.value)) c.set.ensures c.requires.levels (omega arith) (λ _. omega (arith, next_before _ c.args.node.now c.step-step.result c.requires.levels own, ap (λ i. length (before_own c.args.node.now i)) c.step-step.ensures))

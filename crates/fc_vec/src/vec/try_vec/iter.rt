@@ -65,8 +65,8 @@ impl<'a, T> DoubleEndedIterator for Iter<'a, T> {
     ghost next_back_gives = { YieldsLastBy (λ r. r.now) (λ s. s) };
 
     fn next_back(&mut self) -> Option<&'a T> {
-        let (last, rest) = self.rest.split_last()?;
-        self.rest = rest;
+        let (last, front) = self.rest.split_last()?;
+        self.rest = front;
         Some(last)
     }
 }

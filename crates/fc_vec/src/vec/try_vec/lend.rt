@@ -5,7 +5,7 @@ ghost use Rattle.std.specs.Option.{option_copied_mut};
 ghost use Rattle.std.specs.List.{ItemMut, IsItemAtMut};
 ghost use Rattle.std.specs.Iterator.Runs.{EveryRun, ItemsMapTo};
 ghost use Rattle.std.specs.Slice.Iter.{iter_mut_rest, iter_mut_steps};
-ghost use Rattle.fc_vec.specs.Lends.{lends_slice, lends_walk, lends_item, lends_get};
+ghost use Rattle.fc_vec.specs.Lends.{lends_slice, lends_walk, lends_item, lends_item_if};
 
 use super::TryVec;
 use std::ops::IndexMut;
@@ -31,7 +31,7 @@ impl<T> TryVec<T> {
 
     /// The item at `index`, for writing; `None` from the length on. Upstream: `get_mut` of the slice.
     pub fn get_mut(&mut self, index: usize) -> Option<&mut T>
-        ensures* writes_back { sem 𝓛 (lends_get T.row self.entry index result) }
+        ensures* writes_back { sem 𝓛 (lends_item_if T.row self.entry index result) }
         ensures value { option_copied_mut result ≡ slice_get self.old.items index }
         ensures item { IsItemAtMut self.old.items index result }
     {
@@ -40,7 +40,7 @@ impl<T> TryVec<T> {
 
     /// The first item, for writing; `None` where there is none. Upstream: `first_mut` of the slice.
     pub fn first_mut(&mut self) -> Option<&mut T>
-        ensures* writes_back { sem 𝓛 (lends_get T.row self.entry 0 result) }
+        ensures* writes_back { sem 𝓛 (lends_item_if T.row self.entry 0 result) }
         ensures value { option_copied_mut result ≡ slice_get self.old.items 0 }
         ensures item { IsItemAtMut self.old.items 0 result }
     {
@@ -49,7 +49,7 @@ impl<T> TryVec<T> {
 
     /// The last item, for writing; `None` where there is none. Upstream: `last_mut` of the slice.
     pub fn last_mut(&mut self) -> Option<&mut T>
-        ensures* writes_back { sem 𝓛 (lends_get T.row self.entry (length self.old.items - 1) result) }
+        ensures* writes_back { sem 𝓛 (lends_item_if T.row self.entry (length self.old.items - 1) result) }
         ensures value { option_copied_mut result ≡ slice_get self.old.items (length self.old.items - 1) }
         ensures item { ItemMut self.old.items 0 (length self.old.items - 1) result }
     {

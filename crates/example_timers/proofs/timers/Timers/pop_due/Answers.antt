@@ -11,4 +11,4 @@ returns-then-now-due-clause-none c =
 pub invariant_of-self-2 : goal.invariant_of-self-2
 invariant_of-self-2 c =
     let t = c.in_ok-timer.timer in
-    moved _ _ _ _ refl c.remove.ensures.rest (in_step_popped tt (entries c.self.inside.queue) (entries c.self.inside.times) c.self.invariant t.0 t.1 (items c.pop_first.new.self) c.in_ok-due.ensures.ascending c.in_ok-timer.ensures.item)
+    moved _ _ _ _ refl c.remove.ensures.rest (in_step_popped (items c.self.inside.queue) (entries c.self.inside.times) c.self.invariant t.0 t.1 (items c.pop_first.new.self) c.in_ok-due.ensures.ascending c.in_ok-timer.ensures.item)

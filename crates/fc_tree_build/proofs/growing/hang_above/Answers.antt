@@ -1,0 +1,11 @@
+use Rattle.std.proofs.Common.{rules, arith}
+use Rattle.fc_base.specs.Sizes.{most_height}
+use Rattle.fc_tree_build.proofs.growing.hang_above.Goals as goal
+
+pub attach-requires : goal.attach-requires
+attach-requires g c =
+    let n = c.needed.ensures in
+    let i = c.in-Ok.ensures.inner in
+    let few = i.2 in
+    let many = i.0 in
+    (search rules, ((0, c.requires.levels.0, rw c.replace-leaf.ensures.value c.requires.levels.1), (i.1, (omega arith, (most_height, omega arith, c.requires.low, omega arith)))))

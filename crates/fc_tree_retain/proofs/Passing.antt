@@ -1,0 +1,384 @@
+-- A walk over the pairs of a node, of which some do not stay.
+use Rattle.std.proofs.Common.{◌≡◌, ℕ, suc, zero, ◌+◌, ◌<◌, ◌≤◌, List, [], ◌∷◌, ◌++◌, length, get_or, map, take, drop, refl, sym, ap, subst, ◌∙◌, arith, append_assoc, append-nil, Option}
+use Rattle.std.specs.Prelude.{Bool, true, false, slice_set}
+use Rattle.std.specs.List.{AllByRecursion, remove}
+use Rattle.std.specs.Option.{option_to_list}
+use Rattle.std.proofs.lemmas.List.{length-map, map-append, length-append}
+use Rattle.fc_tree_node.specs.Weave.{weave, before_list, after_list}
+use Rattle.fc_tree_node.specs.declared.node.Node.{Node, out-Node}
+use Rattle.fc_tree_node.specs.Node.{own_pairs, children_of, child_at, pairs_of, IsInner}
+use Rattle.fc_tree_node.specs.Place.{before_child, after_child}
+use Rattle.fc_tree_node.proofs.Lists.{length_set, all_both, all_front, all_back, all_set}
+use Rattle.fc_tree_node.proofs.Weaves.{weave_parts}
+use Rattle.fc_tree_node.proofs.Pairs.{pairs_is}
+use Rattle.fc_tree_node.proofs.Made.{IsChildSet, field_made}
+use Rattle.fc_tree_node.proofs.Formed.{leaf_or_inner}
+use Rattle.fc_tree_node.proofs.Gaps.{inner_gap, after_none}
+use Rattle.fc_tree_search.specs.Written.{set_value, with_value}
+use Rattle.fc_tree_search.proofs.WrittenPairs.{value_own, value_children, length_value}
+use Rattle.fc_tree_removal.proofs.Removed.{take_set, drop_set, at_set}
+use Rattle.fc_tree_retain.specs.Loose.{IsLoose}
+use Rattle.fc_tree_retain.specs.Retained.{RetainsInTurn}
+use Rattle.fc_tree_retain.specs.Sifted.{IsPassed, IsOwnPassed}
+use Rattle.fc_tree_retain.proofs.Levels.{loose_child}
+use Rattle.fc_tree_retain.proofs.Lists.{at_place, set_place, remove_place}
+use Rattle.fc_tree_retain.proofs.Turns.{retains_join, retains_one, retains_none}
+use Rattle.fc_tree_retain.proofs.Opened.{IsOpenAt, open_before, open_child, open_after, open_inner, open_next, before_next, opened_two}
+
+module _ {K V : Type 0} where
+  pub value_place : (xs ys : List (K × V)) (x : K × V) (w : V) (i : ℕ) → length xs ≡ i → set_value (xs ++ x ∷ ys) i w ≡ xs ++ (x.0, w) ∷ ys
+  value_place xs ys x w i e = subst (λ j. set_value (xs ++ x ∷ ys) j w ≡ xs ++ (x.0, w) ∷ ys) e (go xs)
+    where
+      go : (xs : List (K × V)) → set_value (xs ++ x ∷ ys) (length xs) w ≡ xs ++ (x.0, w) ∷ ys
+      go [] = refl
+      go (z ∷ xs) = ap (λ zs. z ∷ zs) (go xs)
+
+  pub value_at : (xs : List (K × V)) (i : ℕ) (w : V) (e d : K × V) → i < length xs → e ≡ get_or xs i e → get_or (set_value xs i w) i d ≡ (e.0, w)
+  value_at [] i w e d h q = absurd (omega arith)
+  value_at (x ∷ xs) zero w e d h q = ap (λ y. (y.0, w)) (sym q)
+  value_at (x ∷ xs) (suc i) w e d h q = value_at xs i w e d (omega arith) q
+
+  get_any : (xs : List (Node K V)) (i : ℕ) (d e : Node K V) → i < length xs → get_or xs i d ≡ get_or xs i e
+  get_any [] i d e h = absurd (omega arith)
+  get_any (x ∷ xs) zero d e h = refl
+  get_any (x ∷ xs) (suc i) d e h = get_any xs i d e (omega arith)
+
+  -- a node with another value
+  pub record IsWritten (old mid : Node K V) (i : ℕ) (w : V) : Type 0 where
+    pub own : own_pairs mid ≡ set_value (own_pairs old) i w
+    pub size : length (own_pairs mid) ≡ length (own_pairs old)
+    pub children : children_of mid ≡ children_of old
+    pub inner : IsInner old → IsInner mid
+    pub child : IsInner old → i ≤ length (own_pairs old) → child_at mid i ≡ child_at old i
+
+  pub is_written : (old mid : Node K V) (i : ℕ) (w : V) → mid ≡ with_value old i w → IsWritten old mid i w
+  is_written old mid i w n =
+      let o : own_pairs mid ≡ set_value (own_pairs old) i w = ap own_pairs n ∙ value_own old i w in
+      let z : length (own_pairs mid) ≡ length (own_pairs old) = ap length o ∙ length_value (own_pairs old) i w in
+      let cs : children_of mid ≡ children_of old = ap children_of n ∙ value_children old i w in
+      let m : length (children_of mid) ≡ length (children_of old) = ap length cs in
+      record {
+        own = o;
+        size = z;
+        children = cs;
+        inner = λ k. let k' : length (children_of old) ≡ length (own_pairs old) + 1 = k in omega arith;
+        child = λ k le. let k' : length (children_of old) ≡ length (own_pairs old) + 1 = k in ap (λ xs. get_or xs i mid) cs ∙ get_any (children_of old) i mid old (omega arith);
+      }
+
+  pub written_leaf : (old mid : Node K V) (i : ℕ) (w : V) → IsLoose 0 old → mid ≡ with_value old i w → IsLoose 0 mid
+  written_leaf old mid i w l n = let z = (is_written old mid i w n).size in let fits = l.0 in (omega arith, ap (λ m. (out-Node K V m).children) n ∙ field_made _ ∙ l.1)
+
+  empty_list : (xs : List (K × V)) → length xs ≡ 0 → xs ≡ []
+  empty_list [] e = refl
+  empty_list (x ∷ xs) e = absurd (omega arith)
+
+  empty_front : (xs ys : List (K × V)) → xs ++ ys ≡ [] → xs ≡ []
+  empty_front [] ys e = refl
+  empty_front (x ∷ xs) ys e = absurd (let l = ap length e in omega arith)
+
+  -- a node whose child at a place became another
+  pub record IsChildLeft (old mid c : Node K V) (i : ℕ) : Type 0 where
+    pub before : before_child mid i ≡ before_child old i
+    pub child : child_at mid i ≡ c
+    pub after : after_child mid i ≡ after_child old i
+    pub own : own_pairs mid ≡ own_pairs old
+    pub inner : IsInner mid
+    pub levels : (h : ℕ) → IsLoose (suc h) old → IsLoose h c → IsLoose (suc h) mid
+
+  pub child_left : (old mid c : Node K V) (i : ℕ) → IsInner old → i ≤ length (own_pairs old) → IsChildSet old mid i c → IsChildLeft old mid c i
+  child_left old mid c i inner le m =
+      let k : length (children_of old) ≡ length (own_pairs old) + 1 = inner in
+      let n : length (children_of mid) ≡ length (children_of old) = ap length m.child ∙ length_set (children_of old) i c in
+      let o : length (own_pairs mid) ≡ length (own_pairs old) = ap length m.same in
+      record {
+        before = ap (λ cs. before_list (map pairs_of cs) (take i (own_pairs mid))) (ap (take i) m.child ∙ take_set (children_of old) i c) ∙ ap (λ ps. before_list (map pairs_of (take i (children_of old))) (take i ps)) m.same;
+        child = ap (λ cs. get_or cs i mid) m.child ∙ at_set (children_of old) i c mid (omega arith);
+        after = ap (λ cs. after_list (drop i (own_pairs mid)) (map pairs_of cs)) (ap (drop (suc i)) m.child ∙ drop_set (children_of old) i c) ∙ ap (λ ps. after_list (drop i ps) (map pairs_of (drop (suc i) (children_of old)))) m.same;
+        own = m.same;
+        inner = omega arith;
+        levels = λ h l b. let f = l.0 in (omega arith, omega arith, subst (AllByRecursion (IsLoose h)) (sym m.child) (all_set (IsLoose h) (children_of old) i c l.2 b));
+      }
+
+  pub child_loose : (h : ℕ) (old mid d c : Node K V) (i : ℕ) → IsInner old → i ≤ length (own_pairs old) → d ≡ child_at old i → IsChildSet old mid i c → ((g : ℕ) → IsLoose g d → IsLoose g c) → IsLoose h old → IsLoose h mid
+  child_loose zero old mid d c i inner le is m lo l = absurd (leaf_or_inner old l.1 inner)
+  child_loose (suc h) old mid d c i inner le is m lo l = (child_left old mid c i inner le m).levels h l (lo h (subst (IsLoose h) (sym is) (loose_child h old i l le)))
+
+  -- a node's pairs around a child
+  pub last_pairs : (n : Node K V) (i : ℕ) → IsInner n → i ≡ length (own_pairs n) → pairs_of n ≡ before_child n i ++ pairs_of (child_at n i)
+  last_pairs n i inner e = inner_gap n i inner (omega arith) ∙ ap (λ zs. before_child n i ++ (pairs_of (child_at n i) ++ zs)) (after_none n i (omega arith)) ∙ ap (λ zs. before_child n i ++ zs) (append-nil (pairs_of (child_at n i)))
+
+  -- the last pair below a node taken out of its last child
+  pub last_below : (old mid d c : Node K V) (i : ℕ) (r : Option (K × V)) → IsInner old → i ≡ length (own_pairs old) → IsChildSet old mid i c → d ≡ child_at old i → pairs_of d ≡ pairs_of c ++ option_to_list r → pairs_of old ≡ pairs_of mid ++ option_to_list r
+  last_below old mid d c i r inner e m is p =
+      let l = child_left old mid c i inner (omega arith) m in
+      let o : length (own_pairs mid) ≡ length (own_pairs old) = ap length m.same in
+      last_pairs old i inner e ∙ ap (λ n. before_child old i ++ pairs_of n) (sym is) ∙ ap (λ zs. before_child old i ++ zs) p ∙ sym (append_assoc (before_child old i) (pairs_of c) (option_to_list r))
+      ∙ ap (λ zs. zs ++ option_to_list r) (ap (λ zs. zs ++ pairs_of c) (sym l.before) ∙ ap (λ n. before_child mid i ++ pairs_of n) (sym l.child) ∙ sym (last_pairs mid i l.inner (omega arith)))
+
+  pub none_below : (old mid c : Node K V) (i : ℕ) → IsInner old → i ≡ length (own_pairs old) → i ≡ 0 → IsChildSet old mid i c → pairs_of c ≡ [] → pairs_of mid ≡ []
+  none_below old mid c i inner e z m p =
+      let l = child_left old mid c i inner (omega arith) m in
+      let o : length (own_pairs mid) ≡ length (own_pairs old) = ap length m.same in
+      last_pairs mid i l.inner (omega arith) ∙ ap (λ n. before_child mid i ++ pairs_of n) l.child ∙ ap (λ zs. before_child mid i ++ zs) p ∙ append-nil (before_child mid i) ∙ ap (before_child mid) z
+
+  pub empty_last : (old mid c : Node K V) (i : ℕ) → IsInner old → i ≡ length (own_pairs old) → IsChildSet old mid i c → pairs_of c ≡ [] → pairs_of (child_at mid (length (own_pairs mid))) ≡ []
+  empty_last old mid c i inner e m p =
+      let l = child_left old mid c i inner (omega arith) m in
+      let o : length (own_pairs mid) ≡ i = ap length m.same ∙ sym e in
+      ap (λ j. pairs_of (child_at mid j)) o ∙ ap pairs_of l.child ∙ p
+
+  -- the own last pair, and an empty child behind it
+  pub record IsEndOff (old new : Node K V) (x : K × V) : Type 0 where
+    pub pairs : pairs_of old ≡ pairs_of new ++ x ∷ []
+    pub levels : (h : ℕ) → IsLoose h old → IsLoose h new
+
+  pub end_off : (old new c : Node K V) (x : K × V) → IsInner old → pairs_of (child_at old (length (own_pairs old))) ≡ [] → own_pairs old ≡ own_pairs new ++ x ∷ [] → children_of old ≡ children_of new ++ c ∷ [] → IsEndOff old new x
+  end_off old new c x inner none e f =
+      let k : length (children_of old) ≡ length (own_pairs old) + 1 = inner in
+      let a = ap length e ∙ length-append (own_pairs new) (x ∷ []) in
+      let b = ap length f ∙ length-append (children_of new) (c ∷ []) in
+      let n : length (children_of new) ≡ length (own_pairs new) + 1 = omega arith in
+      let is : child_at old (length (own_pairs old)) ≡ c = ap (λ cs. get_or cs (length (own_pairs old)) old) f ∙ at_place (children_of new) [] c old (length (own_pairs old)) (omega arith) in
+      let z : pairs_of c ≡ [] = ap pairs_of (sym is) ∙ none in
+      record {
+        pairs = pairs_is old ∙ ap (λ cs. weave (map pairs_of cs) (own_pairs old)) f ∙ ap (λ ps. weave (map pairs_of (children_of new ++ c ∷ [])) ps) e
+            ∙ ap (λ cs. weave cs (own_pairs new ++ x ∷ [])) (map-append pairs_of (children_of new) (c ∷ []))
+            ∙ weave_parts (map pairs_of (children_of new)) (pairs_of c ∷ []) (own_pairs new) x [] (length-map (children_of new) pairs_of ∙ n) (omega arith)
+            ∙ ap (λ zs. weave (map pairs_of (children_of new)) (own_pairs new) ++ x ∷ zs) (append-nil (pairs_of c) ∙ z)
+            ∙ ap (λ zs. zs ++ x ∷ []) (sym (pairs_is new));
+        levels = go;
+      }
+    where
+      go : (h : ℕ) → IsLoose h old → IsLoose h new
+      go zero l = absurd (leaf_or_inner old l.1 inner)
+      go (suc h) l =
+          let k : length (children_of old) ≡ length (own_pairs old) + 1 = inner in
+          let a = ap length e ∙ length-append (own_pairs new) (x ∷ []) in
+          let b = ap length f ∙ length-append (children_of new) (c ∷ []) in
+          let fits = l.0 in
+          (omega arith, omega arith, all_front (IsLoose h) (children_of new) (c ∷ []) (subst (AllByRecursion (IsLoose h)) f l.2))
+
+module _ {S K V : Type 0} (R : S → K × V → S → V → Bool → Type 0) where
+  -- the pairs of a leaf before a place were asked
+  pub record IsLeafSifted (s t : S) (old now : List (K × V)) (at left : ℕ) : Type 0 where
+    pub seen : List (K × V)
+    pub stay : List (K × V)
+    pub rest : List (K × V)
+    pub old_is : old ≡ seen ++ rest
+    pub now_is : now ≡ stay ++ rest
+    pub place : length stay ≡ at
+    pub left_is : length rest ≡ left
+    pub sifts : RetainsInTurn R s seen t stay
+
+  pub leaf_start : (s : S) (xs : List (K × V)) (left : ℕ) → length xs ≡ left → IsLeafSifted s s xs xs 0 left
+  leaf_start s xs left e = record { seen = []; stay = []; rest = xs; old_is = refl; now_is = refl; place = refl; left_is = e; sifts = retains_none R s }
+
+  pub leaf_room : (s t : S) (old now : List (K × V)) (at left : ℕ) → IsLeafSifted s t old now at left → 0 < left → at < length now
+  leaf_room s t old now at left l some =
+      let e = ap length l.now_is ∙ length-append l.stay l.rest in
+      let p = l.place in
+      let q = l.left_is in
+      omega arith
+
+  pub leaf_end : (s t : S) (old now : List (K × V)) (at : ℕ) → IsLeafSifted s t old now at 0 → RetainsInTurn R s old t now
+  leaf_end s t old now at l =
+      let z = empty_list l.rest l.left_is in
+      let o : old ≡ l.seen = l.old_is ∙ ap (λ r. l.seen ++ r) z ∙ append-nil l.seen in
+      let n : now ≡ l.stay = l.now_is ∙ ap (λ r. l.stay ++ r) z ∙ append-nil l.stay in
+      subst (λ x. RetainsInTurn R s x t now) (sym o) (subst (λ x. RetainsInTurn R s l.seen t x) (sym n) l.sifts)
+
+  pub leaf_kept : (s t u : S) (old now new : List (K × V)) (at left left' : ℕ) (e : K × V) (w : V) → IsLeafSifted s t old now at left → left ≡ left' + 1 → R t e u w true → e ≡ get_or now at e → new ≡ set_value now at w → IsLeafSifted s u old new (at + 1) left'
+  leaf_kept s t u old now new at left left' e w l k r q v = go l.rest l.left_is l.old_is l.now_is
+    where
+      go : (rest : List (K × V)) → length rest ≡ left → old ≡ l.seen ++ rest → now ≡ l.stay ++ rest → IsLeafSifted s u old new (at + 1) left'
+      go [] z o n = absurd (omega arith)
+      go (x ∷ rest) z o n =
+          let is : e ≡ x = q ∙ ap (λ xs. get_or xs at e) n ∙ at_place l.stay rest x e at l.place in
+          record {
+            seen = l.seen ++ e ∷ [];
+            stay = l.stay ++ (e.0, w) ∷ [];
+            rest = rest;
+            old_is = o ∙ ap (λ y. l.seen ++ y ∷ rest) (sym is) ∙ sym (append_assoc l.seen (e ∷ []) rest);
+            now_is = v ∙ ap (λ xs. set_value xs at w) (n ∙ ap (λ y. l.stay ++ y ∷ rest) (sym is)) ∙ value_place l.stay rest e w at l.place ∙ sym (append_assoc l.stay ((e.0, w) ∷ []) rest);
+            place = length-append l.stay ((e.0, w) ∷ []) ∙ ap (λ k. k + 1) l.place;
+            left_is = omega arith;
+            sifts = retains_join R l.seen (e ∷ []) l.stay ((e.0, w) ∷ []) s t u l.sifts (retains_one R e t u w true r);
+          }
+
+  pub leaf_gone : (s t u : S) (old now new : List (K × V)) (at left left' : ℕ) (e : K × V) (w : V) → IsLeafSifted s t old now at left → left ≡ left' + 1 → R t e u w false → e ≡ get_or now at e → new ≡ remove (set_value now at w) at → IsLeafSifted s u old new at left'
+  leaf_gone s t u old now new at left left' e w l k r q v = go l.rest l.left_is l.old_is l.now_is
+    where
+      go : (rest : List (K × V)) → length rest ≡ left → old ≡ l.seen ++ rest → now ≡ l.stay ++ rest → IsLeafSifted s u old new at left'
+      go [] z o n = absurd (omega arith)
+      go (x ∷ rest) z o n =
+          let is : e ≡ x = q ∙ ap (λ xs. get_or xs at e) n ∙ at_place l.stay rest x e at l.place in
+          record {
+            seen = l.seen ++ e ∷ [];
+            stay = l.stay;
+            rest = rest;
+            old_is = o ∙ ap (λ y. l.seen ++ y ∷ rest) (sym is) ∙ sym (append_assoc l.seen (e ∷ []) rest);
+            now_is = v ∙ ap (λ xs. remove (set_value xs at w) at) (n ∙ ap (λ y. l.stay ++ y ∷ rest) (sym is)) ∙ ap (λ xs. remove xs at) (value_place l.stay rest e w at l.place) ∙ remove_place l.stay rest (e.0, w) at l.place;
+            place = l.place;
+            left_is = omega arith;
+            sifts = subst (λ zs. RetainsInTurn R s (l.seen ++ e ∷ []) u zs) (append-nil l.stay) (retains_join R l.seen (e ∷ []) l.stay [] s t u l.sifts (retains_one R e t u w false r));
+          }
+
+  pub leaf_passed : (s t u : S) (old now new : List (K × V)) (at left left' j : ℕ) → IsLeafSifted s t old now at left → left ≡ left' + 1 → IsOwnPassed R t u at j now new → IsLeafSifted s u old new j left'
+  leaf_passed s t u old now new at left left' j l k (e, w, true, r, q, p) = subst (λ i. IsLeafSifted s u old new i left') (sym p.0) (leaf_kept s t u old now new at left left' e w l k r q p.1)
+  leaf_passed s t u old now new at left left' j l k (e, w, false, r, q, p) = subst (λ i. IsLeafSifted s u old new i left') (sym p.0) (leaf_gone s t u old now new at left left' e w l k r q p.1)
+
+  -- the pair behind a child was asked: what the node then is
+  module _ (s t : S) (i : ℕ) (old new : Node K V) (e : K × V) (inner : IsInner old) (lt : i < length (own_pairs old)) (q : e ≡ get_or (own_pairs old) i e) where
+    abbrev A : List (Node K V)
+    A = take i (children_of old)
+
+    abbrev D : List (Node K V)
+    D = drop (suc (suc i)) (children_of old)
+
+    abbrev P : List (K × V)
+    P = take i (own_pairs old)
+
+    abbrev Q : List (K × V)
+    Q = drop (suc i) (own_pairs old)
+
+    abbrev c : Node K V
+    c = child_at old i
+
+    abbrev d : Node K V
+    d = child_at old (i + 1)
+
+    there : IsOpenAt old i A c (d ∷ D) P (e ∷ Q)
+    there = opened_two old i e inner lt q
+
+    next : IsOpenAt old (i + 1) (A ++ c ∷ []) d D (P ++ e ∷ []) Q
+    next = open_next old i A c (d ∷ D) P (e ∷ Q) there e Q d D refl refl
+
+    even : length D ≡ length Q
+    even =
+        let k : length (children_of old) ≡ length (own_pairs old) + 1 = inner in
+        let a = ap length there.children ∙ length-append A (c ∷ d ∷ D) in
+        let b = ap length there.own ∙ length-append P (e ∷ Q) in
+        let x = there.before in
+        let y = there.own_before in
+        omega arith
+
+    passed : (j : ℕ) (A' : List (Node K V)) (P' stay : List (K × V)) → IsOpenAt new j A' d D P' Q → RetainsInTurn R s (e ∷ []) t stay → before_list (map pairs_of A') P' ≡ before_list (map pairs_of A) P ++ (pairs_of c ++ stay)
+        → j ≤ i + 1 → ((h : ℕ) → IsLoose h c → AllByRecursion (IsLoose h) A → AllByRecursion (IsLoose h) A') → IsPassed R s t i j old new
+    passed j A' P' stay o r b le al =
+        let now_inner = open_inner new j A' d D P' Q o even in
+        let a = ap length there.own ∙ length-append P (e ∷ Q) in
+        let a' = ap length o.own ∙ length-append P' Q in
+        let y = there.own_before in
+        let y' = o.own_before in
+        record {
+          asked = e;
+          stay = stay;
+          sifted = r;
+          before = open_before new j A' d D P' Q o ∙ b ∙ ap (λ zs. zs ++ (pairs_of c ++ stay)) (sym (open_before old i A c (d ∷ D) P (e ∷ Q) there));
+          child = open_child new j A' d D P' Q o;
+          here = open_after old i A c (d ∷ D) P (e ∷ Q) there ∙ ap (λ zs. e ∷ (pairs_of d ++ zs)) (sym (open_after old (i + 1) (A ++ c ∷ []) d D (P ++ e ∷ []) Q next));
+          after = open_after new j A' d D P' Q o ∙ sym (open_after old (i + 1) (A ++ c ∷ []) d D (P ++ e ∷ []) Q next);
+          left = omega arith;
+          inner = now_inner;
+          levels = go now_inner (omega arith);
+        }
+      where
+        go : IsInner new → length (own_pairs new) ≤ length (own_pairs old) → (h : ℕ) → IsLoose h old → IsLoose h new
+        go n f zero l = absurd (leaf_or_inner old l.1 inner)
+        go n f (suc h) l =
+            let all = subst (AllByRecursion (IsLoose h)) there.children l.2 in
+            let back = all_back (IsLoose h) A (c ∷ d ∷ D) all in
+            let fits = l.0 in
+            (omega arith, n, subst (AllByRecursion (IsLoose h)) (sym o.children) (all_both (IsLoose h) A' (d ∷ D) (al h back.0 (all_front (IsLoose h) A (c ∷ d ∷ D) all)) back.1))
+
+    same_length : length A ≡ length P
+    same_length = there.before ∙ sym there.own_before
+
+    -- it stays
+    pub passed_kept : (w : V) → R s e t w true → new ≡ with_value old i w → IsPassed R s t i (i + 1) old new
+    passed_kept w r n =
+        let f : own_pairs new ≡ P ++ (e.0, w) ∷ Q = ap own_pairs n ∙ value_own old i w ∙ ap (λ xs. set_value xs i w) there.own ∙ value_place P Q e w i there.own_before in
+        let g : children_of new ≡ A ++ c ∷ d ∷ D = ap children_of n ∙ value_children old i w ∙ there.children in
+        let o : IsOpenAt new i A c (d ∷ D) P ((e.0, w) ∷ Q) = record { children = g; own = f; before = there.before; own_before = there.own_before } in
+        passed (i + 1) (A ++ c ∷ []) (P ++ (e.0, w) ∷ []) ((e.0, w) ∷ []) (open_next new i A c (d ∷ D) P ((e.0, w) ∷ Q) o (e.0, w) Q d D refl refl) (retains_one R e s t w true r) (before_next A c P (e.0, w) same_length) (omega arith)
+        (λ h x a. all_both (IsLoose h) A (c ∷ []) a (x, tt))
+
+    -- another pair takes its place
+    pub passed_moved : (w : V) (mid c' : Node K V) (p : K × V) → R s e t w false → own_pairs mid ≡ set_value (own_pairs old) i w → children_of mid ≡ slice_set (children_of old) i c' → own_pairs new ≡ slice_set (own_pairs mid) i p → children_of new ≡ children_of mid
+        → pairs_of c ≡ pairs_of c' ++ p ∷ [] → ((h : ℕ) → IsLoose h c → IsLoose h c') → IsPassed R s t i (i + 1) old new
+    passed_moved w mid c' p r mo mc so sc pe lo =
+        let f : own_pairs new ≡ P ++ p ∷ Q = so ∙ ap (λ xs. slice_set xs i p) (mo ∙ ap (λ xs. set_value xs i w) there.own ∙ value_place P Q e w i there.own_before) ∙ set_place P Q (e.0, w) p i there.own_before in
+        let g : children_of new ≡ A ++ c' ∷ d ∷ D = sc ∙ mc ∙ ap (λ xs. slice_set xs i c') there.children ∙ set_place A (d ∷ D) c c' i there.before in
+        let o : IsOpenAt new i A c' (d ∷ D) P (p ∷ Q) = record { children = g; own = f; before = there.before; own_before = there.own_before } in
+        passed (i + 1) (A ++ c' ∷ []) (P ++ p ∷ []) [] (open_next new i A c' (d ∷ D) P (p ∷ Q) o p Q d D refl refl) (retains_one R e s t w false r)
+        (before_next A c' P p same_length ∙ ap (λ zs. before_list (map pairs_of A) P ++ zs) (sym pe ∙ sym (append-nil (pairs_of c)))) (omega arith)
+        (λ h x a. all_both (IsLoose h) A (c' ∷ []) a (lo h x, tt))
+
+    -- a child without pairs goes with it
+    pub passed_gone : (w : V) (mid c' : Node K V) → R s e t w false → own_pairs mid ≡ set_value (own_pairs old) i w → children_of mid ≡ slice_set (children_of old) i c' → own_pairs new ≡ remove (own_pairs mid) i → children_of new ≡ remove (children_of mid) i → pairs_of c ≡ [] → IsPassed R s t i i old new
+    passed_gone w mid c' r mo mc so sc pe =
+        let f : own_pairs new ≡ P ++ Q = so ∙ ap (λ xs. remove xs i) (mo ∙ ap (λ xs. set_value xs i w) there.own ∙ value_place P Q e w i there.own_before) ∙ remove_place P Q (e.0, w) i there.own_before in
+        let g : children_of new ≡ A ++ d ∷ D = sc ∙ ap (λ xs. remove xs i) (mc ∙ ap (λ xs. slice_set xs i c') there.children ∙ set_place A (d ∷ D) c c' i there.before) ∙ remove_place A (d ∷ D) c' i there.before in
+        let o : IsOpenAt new i A d D P Q = record { children = g; own = f; before = there.before; own_before = there.own_before } in
+        passed i A P [] o (retains_one R e s t w false r) (sym (append-nil (before_list (map pairs_of A) P)) ∙ ap (λ zs. before_list (map pairs_of A) P ++ zs) (sym (ap (λ zs. zs ++ []) pe))) (omega arith) (λ h x a. a)
+
+  -- the pairs before a child were asked
+  pub record IsSifting (s t : S) (old now : Node K V) (at left : ℕ) : Type 0 where
+    pub seen : List (K × V)
+    pub old_is : pairs_of old ≡ seen ++ (pairs_of (child_at now at) ++ after_child now at)
+    pub sifts : RetainsInTurn R s seen t (before_child now at)
+    pub left_is : length (own_pairs now) ≡ at + left
+    pub inner : IsInner now
+    pub levels : (h : ℕ) → IsLoose h old → IsLoose h now
+
+  pub sifting_start : (s : S) (n : Node K V) (left : ℕ) → IsInner n → length (own_pairs n) ≡ left → IsSifting s s n n 0 left
+  sifting_start s n left inner e = record {
+    seen = [];
+    old_is = inner_gap n 0 inner (omega arith);
+    sifts = retains_none R s;
+    left_is = omega arith;
+    inner = inner;
+    levels = λ h l. l;
+  }
+
+  -- a child, and the pair behind it
+  pub sifting_more : (s t u v : S) (old now mid new dold dnew : Node K V) (at left left' j : ℕ) → IsSifting s t old now at left → left ≡ left' + 1 → dold ≡ child_at now at → IsChildSet now mid at dnew → RetainsInTurn R t (pairs_of dold) u (pairs_of dnew) → ((h : ℕ) → IsLoose h dold → IsLoose h dnew)
+      → IsPassed R u v at j mid new → IsSifting s v old new j left'
+  sifting_more s t u v old now mid new dold dnew at left left' j g k is m r lo p =
+      let li = g.left_is in
+      let c = child_left now mid dnew at g.inner (omega arith) m in
+      let o : length (own_pairs mid) ≡ length (own_pairs now) = ap length m.same in
+      let pl = p.left in
+      let here : after_child now at ≡ p.asked ∷ (pairs_of (child_at new j) ++ after_child new j) = sym c.after ∙ p.here ∙ ap (λ n. p.asked ∷ (pairs_of n ++ after_child mid (at + 1))) (sym p.child) ∙ ap (λ zs. p.asked ∷ (pairs_of (child_at new j) ++ zs)) (sym p.after) in
+      let was : pairs_of old ≡ g.seen ++ (pairs_of dold ++ p.asked ∷ (pairs_of (child_at new j) ++ after_child new j)) =
+      g.old_is ∙ ap (λ n. g.seen ++ (pairs_of n ++ after_child now at)) (sym is) ∙ ap (λ zs. g.seen ++ (pairs_of dold ++ zs)) here in
+      let front : before_child new j ≡ before_child now at ++ (pairs_of dnew ++ p.stay) = p.before ∙ ap (λ zs. zs ++ (pairs_of (child_at mid at) ++ p.stay)) c.before ∙ ap (λ n. before_child now at ++ (pairs_of n ++ p.stay)) c.child in
+      record {
+        seen = g.seen ++ (pairs_of dold ++ p.asked ∷ []);
+        old_is = was ∙ ap (λ zs. g.seen ++ zs) (sym (append_assoc (pairs_of dold) (p.asked ∷ []) (pairs_of (child_at new j) ++ after_child new j))) ∙ sym (append_assoc g.seen (pairs_of dold ++ p.asked ∷ []) (pairs_of (child_at new j) ++ after_child new j));
+        sifts = subst (λ zs. RetainsInTurn R s (g.seen ++ (pairs_of dold ++ p.asked ∷ [])) v zs) (sym front)
+            (retains_join R g.seen (pairs_of dold ++ p.asked ∷ []) (before_child now at) (pairs_of dnew ++ p.stay) s t v g.sifts (retains_join R (pairs_of dold) (p.asked ∷ []) (pairs_of dnew) p.stay t u v r p.sifted));
+        left_is = omega arith;
+        inner = p.inner;
+        levels = go;
+      }
+    where
+      go : (h : ℕ) → IsLoose h old → IsLoose h new
+      go h l = let li = g.left_is in p.levels h (child_loose h now mid dold dnew at g.inner (omega arith) is m lo (g.levels h l))
+
+  pub record IsAllSifted (s t : S) (old new : Node K V) : Type 0 where
+    pub sifts : RetainsInTurn R s (pairs_of old) t (pairs_of new)
+    pub levels : (h : ℕ) → IsLoose h old → IsLoose h new
+
+  -- the last child
+  pub sifting_end : (s t u : S) (old now new dold dnew : Node K V) (at : ℕ) → IsSifting s t old now at 0 → dold ≡ child_at now at → IsChildSet now new at dnew → RetainsInTurn R t (pairs_of dold) u (pairs_of dnew) → ((h : ℕ) → IsLoose h dold → IsLoose h dnew) → IsAllSifted s u old new
+  sifting_end s t u old now new dold dnew at g is m r lo =
+      let li = g.left_is in
+      let c = child_left now new dnew at g.inner (omega arith) m in
+      let o : length (own_pairs new) ≡ length (own_pairs now) = ap length m.same in
+      let was : pairs_of old ≡ g.seen ++ pairs_of dold = g.old_is ∙ ap (λ n. g.seen ++ (pairs_of n ++ after_child now at)) (sym is) ∙ ap (λ zs. g.seen ++ (pairs_of dold ++ zs)) (after_none now at (omega arith)) ∙ ap (λ zs. g.seen ++ zs) (append-nil (pairs_of dold)) in
+      let is' : pairs_of new ≡ before_child now at ++ pairs_of dnew = last_pairs new at c.inner (omega arith) ∙ ap (λ zs. zs ++ pairs_of (child_at new at)) c.before ∙ ap (λ n. before_child now at ++ pairs_of n) c.child in
+      record {
+        sifts = subst (λ x. RetainsInTurn R s x u (pairs_of new)) (sym was) (subst (λ x. RetainsInTurn R s (g.seen ++ pairs_of dold) u x) (sym is') (retains_join R g.seen (pairs_of dold) (before_child now at) (pairs_of dnew) s t u g.sifts r));
+        levels = λ h l. child_loose h now new dold dnew at g.inner (omega arith) is m lo (g.levels h l);
+      }

@@ -1,0 +1,380 @@
+-- A node of which two children were mended, and one of which all were.
+use Rattle.std.proofs.Common.{◌≡◌, ℕ, suc, zero, ◌+◌, ◌<◌, ◌≤◌, List, [], ◌∷◌, ◌++◌, length, get_or, take, drop, refl, sym, ap, subst, ◌∙◌, arith, append_assoc, inl, inr}
+use Rattle.std.specs.Prelude.{◌⊎◌, slice_set}
+use Rattle.std.specs.List.{AllByRecursion}
+use Rattle.std.proofs.lemmas.List.{length-append, length-drop}
+use Rattle.fc_base.specs.Sizes.{capacity, min_len}
+use Rattle.fc_tree_node.specs.declared.node.Node.{Node}
+use Rattle.fc_tree_node.specs.Node.{own_pairs, children_of, child_at, pairs_of, IsLeaf, IsInner, IsSound}
+use Rattle.fc_tree_node.proofs.Formed.{leaf_or_inner}
+use Rattle.fc_tree_node.proofs.Lists.{length_take, length_set, all_both}
+use Rattle.fc_tree_node.proofs.Gaps.{drop_all}
+use Rattle.fc_tree_node.proofs.Siblings.{one_at, two_at}
+use Rattle.fc_tree_node.proofs.Made.{IsChildSet}
+use Rattle.fc_tree_border.proofs.Mended.{mended_pairs}
+use Rattle.fc_tree_removal.proofs.Removed.{drop_set, at_set}
+use Rattle.fc_tree_retain.specs.Loose.{IsLoose}
+use Rattle.fc_tree_retain.specs.Mending.{IsThin, IsSeam, IsMet, IsSettled, IsJoined, together}
+use Rattle.fc_tree_retain.proofs.Lists.{at_place, take_place, drop_place, set_place}
+use Rattle.fc_tree_retain.proofs.Levels.{thin_sound, levelled_thin, loose_child}
+
+module _ {K V : Type 0} where
+  -- neither of the two was short
+  pub whole_settled : (h i : ℕ) (n : Node K V) → IsSeam h n i → min_len ≤ length (own_pairs (child_at n i)) → min_len ≤ length (own_pairs (child_at n (i + 1))) → IsSettled h i (i + 1) n n
+  whole_settled h i n s l r =
+      let k : length (children_of n) ≡ length (own_pairs n) + 1 = s.inner in
+      let lt = s.in_bounds in
+      inr (refl, record { left = child_at n i; right = child_at n (i + 1); children = two_at (children_of n) i n (omega arith); own = refl; sound = (thin_sound h _ l s.left, thin_sound h _ r s.right) })
+
+  around : (cs : List (Node K V)) (i : ℕ) → i + 1 < length cs → (length (take i cs) ≡ i) × (length (drop (suc (suc i)) cs) + (i + 2) ≡ length cs)
+  around cs i lt = let d = length-drop (suc (suc i)) cs in (length_take i cs (omega arith), omega arith)
+
+  -- the child where the children of two meet
+  pub record IsMetChild (h place seam : ℕ) (mid : Node K V) : Type 0 where
+    pub bounds : place < length (children_of mid)
+    pub inner : IsInner mid
+    pub met : IsMet h seam (child_at mid place)
+
+  pub met_child : (h i place seam last : ℕ) (old mid : Node K V) → IsSeam h old i → IsJoined h i place seam last old mid → IsMetChild h place seam mid
+  met_child h i place seam last old mid s (inl (p, q, m)) =
+      let k : length (children_of old) ≡ length (own_pairs old) + 1 = s.inner in
+      let lt = s.in_bounds in
+      let a = around (children_of old) i (omega arith) in
+      let cl = ap length m.children ∙ length-append (take i (children_of old)) (m.whole ∷ drop (suc (suc i)) (children_of old)) in
+      let t₀ = a.0 in
+      let is : child_at mid i ≡ m.whole = ap (λ cs. get_or cs i mid) m.children ∙ at_place (take i (children_of old)) _ m.whole mid i a.0 in
+      subst (λ j. IsMetChild h j seam mid) (sym p) (record { bounds = omega arith; inner = m.inner; met = subst (IsMet h seam) (sym is) m.met })
+  met_child h i place seam last old mid s (inr (q, m)) = go m.children
+    where
+      k : length (children_of old) ≡ length (own_pairs old) + 1
+      k = s.inner
+
+      lt : i < length (own_pairs old)
+      lt = s.in_bounds
+
+      a : (length (take i (children_of old)) ≡ i) × (length (drop (suc (suc i)) (children_of old)) + (i + 2) ≡ length (children_of old))
+      a = around (children_of old) i (let k' = k in let lt' = lt in omega arith)
+
+      D : List (Node K V)
+      D = drop (suc (suc i)) (children_of old)
+
+      go : ((place ≡ i) × (children_of mid ≡ take i (children_of old) ++ m.grown ∷ m.other ∷ D)) ⊎ ((place ≡ i + 1) × (children_of mid ≡ take i (children_of old) ++ m.other ∷ m.grown ∷ D)) → IsMetChild h place seam mid
+      go (inl (p, e)) =
+          let a' = a in
+          let t₀ = a'.0 in
+          let cl = ap length e ∙ length-append (take i (children_of old)) (m.grown ∷ m.other ∷ D) in
+          let is : child_at mid i ≡ m.grown = ap (λ cs. get_or cs i mid) e ∙ at_place (take i (children_of old)) (m.other ∷ D) m.grown mid i t₀ in
+          subst (λ j. IsMetChild h j seam mid) (sym p) (record { bounds = omega arith; inner = m.inner; met = subst (IsMet h seam) (sym is) m.met })
+      go (inr (p, e)) =
+          let a' = a in
+          let t₀ = a'.0 in
+          let cl = ap length e ∙ length-append (take i (children_of old)) (m.other ∷ m.grown ∷ D) in
+          let is : child_at mid (i + 1) ≡ m.grown = ap (λ cs. get_or cs (i + 1) mid) (e ∙ sym (append_assoc (take i (children_of old)) (m.other ∷ []) (m.grown ∷ D))) ∙ at_place (take i (children_of old) ++ m.other ∷ []) D m.grown mid (i + 1) (length-append (take i (children_of old)) (m.other ∷ []) ∙ ap (λ j. j + 1) t₀) in
+          subst (λ j. IsMetChild h j seam mid) (sym p) (record { bounds = omega arith; inner = m.inner; met = subst (IsMet h seam) (sym is) m.met })
+
+  -- a child that is no leaf
+  pub record IsMetAbove (h seam : ℕ) (c : Node K V) : Type 0 where
+    pub below : ℕ
+    pub height : h ≡ suc below
+    pub met : IsMet (suc below) seam c
+
+  pub met_above : (h seam : ℕ) (c : Node K V) → (IsLeaf c → ⊥) → IsMet h seam c → IsMetAbove h seam c
+  met_above zero seam c f m = absurd (f m.1)
+  met_above (suc h) seam c f m = record { below = h; height = refl; met = m }
+
+  -- once those that meet are settled, the child is whole but for how many pairs it has
+  pub record IsMetLeft (h : ℕ) (c c' : Node K V) : Type 0 where
+    pub thin : IsThin h c'
+    pub kept : length (own_pairs c) ≤ length (own_pairs c') + 1
+
+  pub leaf_left : (h seam : ℕ) (c : Node K V) → IsLeaf c → IsMet h seam c → IsMetLeft h c c
+  leaf_left zero seam c e m = record { thin = m; kept = omega arith }
+  leaf_left (suc h) seam c e m = absurd (leaf_or_inner c e m.0.inner)
+
+  pub met_left : (g seam j : ℕ) (c c' : Node K V) → IsMet (suc g) seam c → IsSettled g seam j c c' → IsMetLeft (suc g) c c'
+  met_left g seam j c c' (s, after, one) (inl (q, o)) = go (length (own_pairs c')) refl
+    where
+      go : (k : ℕ) → length (own_pairs c') ≡ k → IsMetLeft (suc g) c c'
+      go zero z =
+          let k : length (children_of c) ≡ length (own_pairs c) + 1 = s.inner in
+          let lt = s.in_bounds in
+          let oo = o.own in
+          let i0 : seam ≡ 0 = omega arith in
+          let e : children_of c' ≡ o.whole ∷ [] = o.children ∙ ap (λ n. take n (children_of c) ++ o.whole ∷ drop (suc (suc n)) (children_of c)) i0 ∙ ap (λ ds. o.whole ∷ ds) (drop_all (children_of c) 2 (omega arith)) in
+          let n = ap length e in
+          let is : child_at c' 0 ≡ o.whole = ap (λ cs. get_or cs 0 c') e in
+          record { thin = (omega arith, omega arith, inr (z, subst (IsThin g) (sym is) o.thin)); kept = omega arith }
+      go (suc m) z =
+          let k : length (children_of c) ≡ length (own_pairs c) + 1 = s.inner in
+          let lt = s.in_bounds in
+          let fits = s.fits in
+          let oo = o.own in
+          let a = around (children_of c) seam (omega arith) in
+          let t₀ = a.0 in
+          let t₁ = a.1 in
+          let n = ap length o.children ∙ length-append (take seam (children_of c)) (o.whole ∷ drop (suc (suc seam)) (children_of c)) in
+          let w = o.sound (one (omega arith)) in
+          record { thin = (omega arith, omega arith, inl (subst (AllByRecursion (IsSound g)) (sym o.children) (all_both (IsSound g) (take seam (children_of c)) _ s.before (w, after)))); kept = omega arith }
+  met_left g seam j c c' (s, after, one) (inr (q, t)) =
+      let k : length (children_of c) ≡ length (own_pairs c) + 1 = s.inner in
+      let lt = s.in_bounds in
+      let fits = s.fits in
+      let oo = t.own in
+      let a = around (children_of c) seam (omega arith) in
+      let t₀ = a.0 in
+      let t₁ = a.1 in
+      let n = ap length t.children ∙ length-append (take seam (children_of c)) (t.left ∷ t.right ∷ drop (suc (suc seam)) (children_of c)) in
+      record { thin = (omega arith, omega arith, inl (subst (AllByRecursion (IsSound g)) (sym t.children) (all_both (IsSound g) (take seam (children_of c)) _ s.before (t.sound.0, (t.sound.1, after))))); kept = omega arith }
+
+  -- so the two are settled
+  pub joined_settled : (h i place seam last : ℕ) (old mid new c' : Node K V) → IsSeam h old i → IsJoined h i place seam last old mid → children_of new ≡ slice_set (children_of mid) place c' → length (own_pairs new) ≡ length (own_pairs mid) → IsMetLeft h (child_at mid place) c' → IsSettled h i last old new
+  joined_settled h i place seam last old mid new c' s (inl (p, q, m)) e o l =
+      let k : length (children_of old) ≡ length (own_pairs old) + 1 = s.inner in
+      let lt = s.in_bounds in
+      let a = around (children_of old) i (omega arith) in
+      let D = drop (suc (suc i)) (children_of old) in
+      let is : child_at mid place ≡ m.whole = ap (child_at mid) p ∙ ap (λ cs. get_or cs i mid) m.children ∙ at_place (take i (children_of old)) D m.whole mid i a.0 in
+      let cs : children_of new ≡ take i (children_of old) ++ c' ∷ D = e ∙ ap (λ j. slice_set (children_of mid) j c') p ∙ ap (λ xs. slice_set xs i c') m.children ∙ set_place (take i (children_of old)) D m.whole c' i a.0 in
+      let size = m.size in
+      let mo = m.own in
+      let kept = l.kept in
+      let wl : length (own_pairs (child_at mid place)) ≡ length (own_pairs m.whole) = ap (λ x. length (own_pairs x)) is in
+      inl (
+        q,
+        record {
+          whole = c';
+          children = cs;
+          own = omega arith;
+          thin = l.thin;
+          sound = λ u. thin_sound h c' (enough u (omega arith)) l.thin;
+        },
+      )
+    where
+      enough : IsSound h (child_at old i) ⊎ IsSound h (child_at old (i + 1)) → together old i ≤ length (own_pairs c') + 1 → min_len ≤ length (own_pairs c')
+      enough (inl a) t = let b = a.0 in omega arith
+      enough (inr a) t = let b = a.0 in omega arith
+  joined_settled h i place seam last old mid new c' s (inr (q, m)) e o l = go m.children
+    where
+      D : List (Node K V)
+      D = drop (suc (suc i)) (children_of old)
+
+      front : length (take i (children_of old)) ≡ i
+      front = let k : length (children_of old) ≡ length (own_pairs old) + 1 = s.inner in let lt = s.in_bounds in length_take i (children_of old) (omega arith)
+
+      enough : child_at mid place ≡ m.grown → IsSound h c'
+      enough is =
+          let wl : length (own_pairs (child_at mid place)) ≡ length (own_pairs m.grown) = ap (λ x. length (own_pairs x)) is in
+          let size = m.size in
+          let kept = l.kept in
+          thin_sound h c' (omega arith) l.thin
+
+      go : ((place ≡ i) × (children_of mid ≡ take i (children_of old) ++ m.grown ∷ m.other ∷ D)) ⊎ ((place ≡ i + 1) × (children_of mid ≡ take i (children_of old) ++ m.other ∷ m.grown ∷ D)) → IsSettled h i last old new
+      go (inl (p, f)) =
+          let is : child_at mid place ≡ m.grown = ap (child_at mid) p ∙ ap (λ cs. get_or cs i mid) f ∙ at_place (take i (children_of old)) (m.other ∷ D) m.grown mid i front in
+          inr (
+            q,
+            record {
+              left = c';
+              right = m.other;
+              children = e ∙ ap (λ j. slice_set (children_of mid) j c') p ∙ ap (λ xs. slice_set xs i c') f ∙ set_place (take i (children_of old)) (m.other ∷ D) m.grown c' i front;
+              own = o ∙ m.own;
+              sound = (enough is, m.sound);
+            },
+          )
+      go (inr (p, f)) =
+          let f' : children_of mid ≡ (take i (children_of old) ++ m.other ∷ []) ++ m.grown ∷ D = f ∙ sym (append_assoc (take i (children_of old)) (m.other ∷ []) (m.grown ∷ D)) in
+          let z : length (take i (children_of old) ++ m.other ∷ []) ≡ i + 1 = length-append (take i (children_of old)) (m.other ∷ []) ∙ ap (λ j. j + 1) front in
+          let is : child_at mid place ≡ m.grown = ap (child_at mid) p ∙ ap (λ cs. get_or cs (i + 1) mid) f' ∙ at_place (take i (children_of old) ++ m.other ∷ []) D m.grown mid (i + 1) z in
+          inr (
+            q,
+            record {
+              left = m.other;
+              right = c';
+              children = e ∙ ap (λ j. slice_set (children_of mid) j c') p ∙ ap (λ xs. slice_set xs (i + 1) c') f' ∙ set_place (take i (children_of old) ++ m.other ∷ []) D m.grown c' (i + 1) z ∙ append_assoc (take i (children_of old)) (m.other ∷ []) (c' ∷ D);
+              own = o ∙ m.own;
+              sound = (m.sound, enough is);
+            },
+          )
+
+  -- the children before a place are sound, the one there may hold few pairs where it is the first, and those after it are as they were
+  pub record IsMendedTo (h at : ℕ) (n : Node K V) : Type 0 where
+    pub fits : length (own_pairs n) ≤ capacity
+    pub before : AllByRecursion (IsSound h) (take at (children_of n))
+    pub thin : IsThin h (child_at n at)
+    pub sound : 0 < at → IsSound h (child_at n at)
+    pub after : AllByRecursion (IsLoose h) (drop (suc at) (children_of n))
+
+  pub record IsMending (old now : Node K V) (at left : ℕ) : Type 0 where
+    pub pairs : pairs_of now ≡ pairs_of old
+    pub left_is : length (own_pairs now) ≡ at + left
+    pub inner : IsInner now
+    pub levels : (h : ℕ) → IsLoose (suc h) old → IsMendedTo h at now
+
+  all_from : (P : Node K V → Type 0) (cs : List (Node K V)) (i : ℕ) → AllByRecursion P cs → AllByRecursion P (drop i cs)
+  all_from P cs zero a = a
+  all_from P [] (suc i) a = tt
+  all_from P (c ∷ cs) (suc i) a = all_from P cs i a.1
+
+  pub mending_start : (old now d c : Node K V) (left : ℕ) → IsInner old → IsChildSet old now 0 c → d ≡ child_at old 0 → pairs_of c ≡ pairs_of d → ((h : ℕ) → IsLoose h d → IsThin h c) → length (own_pairs now) ≡ left → IsMending old now 0 left
+  mending_start old now d c left inner m is p th e =
+      let k : length (children_of old) ≡ length (own_pairs old) + 1 = inner in
+      let n : length (children_of now) ≡ length (children_of old) = ap length m.child ∙ length_set (children_of old) 0 c in
+      let o : length (own_pairs now) ≡ length (own_pairs old) = ap length m.same in
+      record {
+        pairs = mended_pairs old now d c 0 inner (omega arith) m is p;
+        left_is = omega arith;
+        inner = omega arith;
+        levels = λ h l. let fits = l.0 in record {
+          fits = omega arith;
+          before = tt;
+          thin = subst (IsThin h) (sym (ap (λ cs. get_or cs 0 now) m.child ∙ at_set (children_of old) 0 c now (omega arith))) (th h (subst (IsLoose h) (sym is) (loose_child h old 0 l (omega arith))));
+          sound = λ z. absurd (omega arith);
+          after = subst (AllByRecursion (IsLoose h)) (sym (ap (drop 1) m.child ∙ drop_set (children_of old) 0 c)) (all_from (IsLoose h) (children_of old) 1 l.2);
+        };
+      }
+
+  -- the next child mended
+  pub record IsNextMended (h at : ℕ) (mid : Node K V) : Type 0 where
+    pub seam : IsSeam h mid at
+    pub sound : 0 < at → IsSound h (child_at mid at)
+    pub after : AllByRecursion (IsLoose h) (drop (suc (suc at)) (children_of mid))
+
+  take_next : (xs : List (Node K V)) (i : ℕ) (x : Node K V) → take i (slice_set xs (suc i) x) ≡ take i xs
+  take_next [] i x = refl
+  take_next (y ∷ xs) zero x = refl
+  take_next (y ∷ xs) (suc i) x = ap (λ zs. y ∷ zs) (take_next xs i x)
+
+  get_next : (xs : List (Node K V)) (i : ℕ) (x d e : Node K V) → i < length xs → get_or (slice_set xs (suc i) x) i d ≡ get_or xs i e
+  get_next [] i x d e h = absurd (omega arith)
+  get_next (y ∷ xs) zero x d e h = refl
+  get_next (y ∷ xs) (suc i) x d e h = get_next xs i x d e (omega arith)
+
+  head_of : (h : ℕ) (cs : List (Node K V)) (d : Node K V) → 0 < length cs → AllByRecursion (IsLoose h) cs → IsLoose h (get_or cs 0 d)
+  head_of h [] d lt a = absurd (omega arith)
+  head_of h (c ∷ cs) d lt a = a.0
+
+  pub next_loose : (h at : ℕ) (now : Node K V) → IsInner now → at < length (own_pairs now) → IsMendedTo h at now → IsLoose h (child_at now (at + 1))
+  next_loose h at now inner lt g = go (children_of now) at (let k : length (children_of now) ≡ length (own_pairs now) + 1 = inner in omega arith) g.after
+    where
+      go : (cs : List (Node K V)) (i : ℕ) → i + 1 < length cs → AllByRecursion (IsLoose h) (drop (suc i) cs) → IsLoose h (get_or cs (i + 1) now)
+      go [] i lt a = absurd (omega arith)
+      go (c ∷ cs) zero lt a = head_of h cs now (omega arith) a
+      go (c ∷ cs) (suc i) lt a = let e : suc i + 1 ≡ suc (i + 1) = omega arith in subst (λ j. IsLoose h (get_or (c ∷ cs) j now)) (sym e) (go cs i (omega arith) a)
+
+  drop_one : (i : ℕ) (xs : List (Node K V)) → drop (suc (suc i)) xs ≡ drop 1 (drop (suc i) xs)
+  drop_one i [] = refl
+  drop_one zero (x ∷ xs) = refl
+  drop_one (suc i) (x ∷ xs) = drop_one i xs
+
+  pub next_mended : (h at : ℕ) (now mid d c : Node K V) → IsInner now → at < length (own_pairs now) → IsMendedTo h at now → d ≡ child_at now (at + 1) → IsChildSet now mid (at + 1) c → ((g : ℕ) → IsLoose g d → IsThin g c) → IsNextMended h at mid
+  next_mended h at now mid d c inner lt g is m th =
+      let k : length (children_of now) ≡ length (own_pairs now) + 1 = inner in
+      let one : at + 1 ≡ suc at = omega arith in
+      let e : children_of mid ≡ slice_set (children_of now) (suc at) c = m.child ∙ ap (λ j. slice_set (children_of now) j c) one in
+      let n : length (children_of mid) ≡ length (children_of now) = ap length e ∙ length_set (children_of now) (suc at) c in
+      let o : length (own_pairs mid) ≡ length (own_pairs now) = ap length m.same in
+      let fits = g.fits in
+      let here : child_at mid at ≡ child_at now at = ap (λ cs. get_or cs at mid) e ∙ get_next (children_of now) at c mid now (omega arith) in
+      let there : child_at mid (at + 1) ≡ c = ap (child_at mid) one ∙ ap (λ cs. get_or cs (suc at) mid) e ∙ at_set (children_of now) (suc at) c mid (omega arith) in
+      record {
+        seam = record {
+          in_bounds = omega arith;
+          fits = omega arith;
+          inner = omega arith;
+          before = subst (AllByRecursion (IsSound h)) (sym (ap (take at) e ∙ take_next (children_of now) at c)) g.before;
+          left = subst (IsThin h) (sym here) g.thin;
+          right = subst (IsThin h) (sym there) (th h (subst (IsLoose h) (sym is) (next_loose h at now inner lt g)));
+        };
+        sound = λ z. subst (IsSound h) (sym here) (g.sound z);
+        after = subst (AllByRecursion (IsLoose h)) (sym (ap (drop (suc (suc at))) e ∙ drop_set (children_of now) (suc at) c ∙ drop_one at (children_of now))) (all_from (IsLoose h) (drop (suc at) (children_of now)) 1 g.after);
+      }
+
+  -- and the two settled
+  settled_to : (h at j : ℕ) (mid new : Node K V) → IsNextMended h at mid → IsSettled h at j mid new → IsMendedTo h j new
+  settled_to h at j mid new x (inl (q, o)) =
+      let s = x.seam in
+      let k : length (children_of mid) ≡ length (own_pairs mid) + 1 = s.inner in
+      let lt = s.in_bounds in
+      let fits = s.fits in
+      let oo = o.own in
+      let a = around (children_of mid) at (omega arith) in
+      let A = take at (children_of mid) in
+      let D = drop (suc (suc at)) (children_of mid) in
+      let is : child_at new at ≡ o.whole = ap (λ cs. get_or cs at new) o.children ∙ at_place A D o.whole new at a.0 in
+      subst (λ i. IsMendedTo h i new) (sym q) (record {
+        fits = omega arith;
+        before = subst (AllByRecursion (IsSound h)) (sym (ap (take at) o.children ∙ take_place A (o.whole ∷ D) at a.0)) s.before;
+        thin = subst (IsThin h) (sym is) o.thin;
+        sound = λ z. subst (IsSound h) (sym is) (o.sound (inl (x.sound z)));
+        after = subst (AllByRecursion (IsLoose h)) (sym (ap (drop (suc at)) (o.children ∙ sym (append_assoc A (o.whole ∷ []) D)) ∙ drop_place (A ++ o.whole ∷ []) D (suc at) (let t = length-append A (o.whole ∷ []) in let t₀ = a.0 in omega arith))) x.after;
+      })
+  settled_to h at j mid new x (inr (q, o)) =
+      let s = x.seam in
+      let k : length (children_of mid) ≡ length (own_pairs mid) + 1 = s.inner in
+      let lt = s.in_bounds in
+      let fits = s.fits in
+      let oo = o.own in
+      let a = around (children_of mid) at (omega arith) in
+      let t₀ = a.0 in
+      let A = take at (children_of mid) in
+      let D = drop (suc (suc at)) (children_of mid) in
+      let e : children_of new ≡ (A ++ o.left ∷ []) ++ o.right ∷ D = o.children ∙ sym (append_assoc A (o.left ∷ []) (o.right ∷ D)) in
+      let z : length (A ++ o.left ∷ []) ≡ at + 1 = length-append A (o.left ∷ []) ∙ ap (λ i. i + 1) t₀ in
+      let is : child_at new (at + 1) ≡ o.right = ap (λ cs. get_or cs (at + 1) new) e ∙ at_place (A ++ o.left ∷ []) D o.right new (at + 1) z in
+      subst (λ i. IsMendedTo h i new) (sym q) (record {
+        fits = omega arith;
+        before = subst (AllByRecursion (IsSound h)) (sym (ap (take (at + 1)) e ∙ take_place (A ++ o.left ∷ []) (o.right ∷ D) (at + 1) z)) (all_both (IsSound h) A (o.left ∷ []) s.before (o.sound.0, tt));
+        thin = subst (IsThin h) (sym is) (levelled_thin h o.right o.sound.1.1);
+        sound = λ _. subst (IsSound h) (sym is) o.sound.1;
+        after = subst (AllByRecursion (IsLoose h)) (sym (ap (drop (suc (at + 1))) (e ∙ sym (append_assoc (A ++ o.left ∷ []) (o.right ∷ []) D)) ∙ drop_place ((A ++ o.left ∷ []) ++ o.right ∷ []) D (suc (at + 1)) (let t = length-append (A ++ o.left ∷ []) (o.right ∷ []) in omega arith))) x.after;
+      })
+
+  settled_sizes : (h at j : ℕ) (mid new : Node K V) → IsSeam h mid at → IsSettled h at j mid new → (length (own_pairs new) + (at + 1) ≡ length (own_pairs mid) + j) × IsInner new
+  settled_sizes h at j mid new s (inl (q, o)) =
+      let k : length (children_of mid) ≡ length (own_pairs mid) + 1 = s.inner in
+      let lt = s.in_bounds in
+      let oo = o.own in
+      let a = around (children_of mid) at (omega arith) in
+      let t₀ = a.0 in
+      let t₁ = a.1 in
+      let n = ap length o.children ∙ length-append (take at (children_of mid)) (o.whole ∷ drop (suc (suc at)) (children_of mid)) in
+      (omega arith, omega arith)
+  settled_sizes h at j mid new s (inr (q, o)) =
+      let k : length (children_of mid) ≡ length (own_pairs mid) + 1 = s.inner in
+      let lt = s.in_bounds in
+      let oo = o.own in
+      let a = around (children_of mid) at (omega arith) in
+      let t₀ = a.0 in
+      let t₁ = a.1 in
+      let n = ap length o.children ∙ length-append (take at (children_of mid)) (o.left ∷ o.right ∷ drop (suc (suc at)) (children_of mid)) in
+      (omega arith, omega arith)
+
+  pub mending_more : (old now mid new d c : Node K V) (at left left' j g : ℕ) → IsMending old now at left → left ≡ left' + 1 → IsLoose (suc g) old → d ≡ child_at now (at + 1) → IsChildSet now mid (at + 1) c → pairs_of c ≡ pairs_of d → ((h : ℕ) → IsLoose h d → IsThin h c)
+      → pairs_of new ≡ pairs_of mid → ((h : ℕ) → IsSeam h mid at → IsSettled h at j mid new) → IsMending old new j left'
+  mending_more old now mid new d c at left left' j g x e l is m p th np st =
+      let li = x.left_is in
+      let k : length (children_of now) ≡ length (own_pairs now) + 1 = x.inner in
+      let o : length (own_pairs mid) ≡ length (own_pairs now) = ap length m.same in
+      let seam = (next_mended g at now mid d c x.inner (omega arith) (x.levels g l) is m th).seam in
+      let z = settled_sizes g at j mid new seam (st g seam) in
+      let z₀ = z.0 in
+      record {
+        pairs = np ∙ mended_pairs now mid d c (at + 1) x.inner (omega arith) m is p ∙ x.pairs;
+        left_is = omega arith;
+        inner = z.1;
+        levels = λ h b. let y = next_mended h at now mid d c x.inner (omega arith) (x.levels h b) is m th in settled_to h at j mid new y (st h y.seam);
+      }
+
+  -- all are mended
+  pub mending_end : (old now : Node K V) (at : ℕ) → IsMending old now at 0 → (h : ℕ) → IsLoose (suc h) old → IsThin (suc h) now
+  mending_end old now at x h l =
+      let li = x.left_is in
+      let k : length (children_of now) ≡ length (own_pairs now) + 1 = x.inner in
+      let g = x.levels h l in
+      (g.fits, x.inner, go at (omega arith) g)
+    where
+      go : (at : ℕ) → length (children_of now) ≡ at + 1 → IsMendedTo h at now → AllByRecursion (IsSound h) (children_of now) ⊎ ((length (own_pairs now) ≡ 0) × IsThin h (child_at now 0))
+      go zero n g = let k : length (children_of now) ≡ length (own_pairs now) + 1 = x.inner in inr (omega arith, g.thin)
+      go (suc at) n g =
+          let e : children_of now ≡ take (suc at) (children_of now) ++ child_at now (suc at) ∷ [] = one_at (children_of now) (suc at) now (omega arith) ∙ ap (λ ds. take (suc at) (children_of now) ++ child_at now (suc at) ∷ ds) (drop_all (children_of now) (suc (suc at)) (omega arith)) in
+          inl (subst (AllByRecursion (IsSound h)) (sym e) (all_both (IsSound h) (take (suc at) (children_of now)) (child_at now (suc at) ∷ []) g.before (g.sound (omega arith), tt)))

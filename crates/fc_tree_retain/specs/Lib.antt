@@ -1,0 +1,4 @@
+pub mod Retained
+pub mod Loose
+pub mod Sifted
+pub mod Mending

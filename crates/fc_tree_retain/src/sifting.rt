@@ -1,0 +1,160 @@
+//! The pairs that are not to stay taken out of a tree, whose nodes may then hold any number of pairs.
+ghost use Rattle.std.specs.Prelude.{◌≡◌, ℕ, ◌+◌, ◌<◌, ◌≤◌, [], ◌∷◌, ◌++◌, length, remove, slice_index_or, MatchOption, ⊤};
+ghost use Rattle.std.specs.Option.{option_to_list};
+ghost use Rattle.fc_tree_node.specs.Node.{own_pairs, children_of, child_at, pairs_of, IsLeaf, IsInner};
+ghost use Rattle.fc_tree_node.specs.Place.{before_child, after_child};
+ghost use Rattle.fc_tree_search.specs.Written.{with_value};
+ghost use Rattle.fc_tree_retain.specs.Loose.{IsLoose};
+ghost use Rattle.fc_tree_retain.specs.Retained.{RetainsInTurn};
+ghost use Rattle.fc_tree_retain.specs.Sifted.{SiftsPair, IsOwnPassed, IsPassed, IsAsked};
+
+use crate::sieve::Sieve;
+use fc_base::Count;
+use fc_tree_node::node::Node;
+use fc_tree_search::lend::content;
+
+// Asks of each pair below the node, in order, and takes those out that are not to stay. No node is merged: one may be left with few
+// pairs, none too.
+pub(crate) fn sift<K: Drop, V: Drop, S: Sieve<K, V>>(node: &mut Node<K, V>, sieve: &mut S)
+    requires loose { (h : ℕ) × IsLoose h node.old }
+    requires callable { S.callable sieve.old }
+    ensures callable { S.callable sieve.new }
+    ensures loose { (h : ℕ) → IsLoose h node.old → IsLoose h node.new }
+    ensures sifted { RetainsInTurn (SiftsPair S.asked S.given) sieve.old (pairs_of node.old) sieve.new (pairs_of node.new) }
+{
+    if node.is_leaf() {
+        sift_leaf(node, sieve);
+        return;
+    }
+    let mut at = 0;
+    for _ in 0..node.len() {
+        sift(content(&mut node.children).get_mut(at), sieve);
+        at = sift_between(node, at, sieve);
+    }
+    sift(content(&mut node.children).get_mut(at), sieve);
+}
+
+// Asks of each pair of a leaf.
+fn sift_leaf<K: Drop, V: Drop, S: Sieve<K, V>>(node: &mut Node<K, V>, sieve: &mut S)
+    requires leaf { IsLoose 0 node.old }
+    requires callable { S.callable sieve.old }
+    ensures callable { S.callable sieve.new }
+    ensures loose { IsLoose 0 node.new }
+    ensures sifted { RetainsInTurn (SiftsPair S.asked S.given) sieve.old (own_pairs node.old) sieve.new (own_pairs node.new) }
+{
+    let mut at = 0;
+    for _ in 0..node.len() {
+        at = sift_own(node, at, sieve);
+    }
+}
+
+// Asks of a leaf's pair at `at`, and answers the place of the next one.
+fn sift_own<K: Drop, V: Drop, S: Sieve<K, V>>(
+    node: &mut Node<K, V>,
+    at: usize,
+    sieve: &mut S,
+) -> usize
+    requires leaf { IsLoose 0 node.old }
+    requires inside { at < length (own_pairs node.old) }
+    requires callable { S.callable sieve.old }
+    ensures callable { S.callable sieve.new }
+    ensures loose { IsLoose 0 node.new }
+    ensures passed { IsOwnPassed (SiftsPair S.asked S.given) sieve.old sieve.new at result (own_pairs node.old) (own_pairs node.new) }
+{
+    if stays(node, at, sieve) {
+        return at + 1;
+    }
+    sieve.take(node.remove_leaf(at, &mut Count::new()));
+    at
+}
+
+// Whether the node's own pair at `index` is to stay.
+fn stays<K, V, S: Sieve<K, V>>(node: &mut Node<K, V>, index: usize, sieve: &mut S) -> bool
+    requires inside { index < length (own_pairs node.old) }
+    requires callable { S.callable sieve.old }
+    ensures callable { S.callable sieve.new }
+    ensures asked { IsAsked S.asked sieve.old sieve.new index node.old node.new result }
+{
+    let pair = node.pairs.get_mut(index);
+    sieve.stays(&pair.0, &mut pair.1)
+}
+
+// Asks of the pair behind a child that is done, and answers which child is next. Where the pair is not to stay, the last one below the
+// child takes its place; a child without pairs goes with it.
+fn sift_between<K: Drop, V: Drop, S: Sieve<K, V>>(
+    node: &mut Node<K, V>,
+    at: usize,
+    sieve: &mut S,
+) -> usize
+    requires loose { (h : ℕ) × IsLoose h node.old }
+    requires inside { at < length (own_pairs node.old) }
+    requires inner { IsInner node.old }
+    requires callable { S.callable sieve.old }
+    ensures callable { S.callable sieve.new }
+    ensures passed { IsPassed (SiftsPair S.asked S.given) sieve.old sieve.new at result node.old node.new }
+{
+    if stays(node, at, sieve) {
+        return at + 1;
+    }
+    match take_last(content(&mut node.children).get_mut(at)) {
+        None => {
+            sieve.take(remove_behind(node, at));
+            at
+        }
+        Some(pair) => {
+            sieve.take(node.replace_pair(at, pair, &mut Count::new()));
+            at + 1
+        }
+    }
+}
+
+// Takes the child at `index` out, and the pair behind it.
+fn remove_behind<K: Drop, V: Drop>(node: &mut Node<K, V>, index: usize) -> (K, V)
+    requires inside { index < length (own_pairs node.old) }
+    requires inner { IsInner node.old }
+    ensures value { result ≡ slice_index_or (own_pairs node.old) index result }
+    ensures pairs { own_pairs node.new ≡ remove (own_pairs node.old) index }
+    ensures children { children_of node.new ≡ remove (children_of node.old) index }
+{
+    let Node { pairs, children } = node;
+    let Some(children) = children else {
+        unreachable!()
+    };
+    children.remove(index);
+    pairs.remove(index, &mut Count::new())
+}
+
+// Takes the last pair below the node out, if there is one.
+fn take_last<K: Drop, V: Drop>(node: &mut Node<K, V>) -> Option<(K, V)>
+    requires loose { (h : ℕ) × IsLoose h node.old }
+    ensures loose { (h : ℕ) → IsLoose h node.old → IsLoose h node.new }
+    ensures pairs { pairs_of node.old ≡ pairs_of node.new ++ option_to_list result }
+    ensures none { MatchOption result (pairs_of node.new ≡ []) (λ _. ⊤) }
+{
+    let end = node.len();
+    if node.is_leaf() {
+        if end == 0 {
+            return None;
+        }
+        return Some(node.remove_leaf(end - 1, &mut Count::new()));
+    }
+    if let Some(pair) = take_last(content(&mut node.children).get_mut(end)) {
+        return Some(pair);
+    }
+    if end == 0 {
+        return None;
+    }
+    Some(take_own_last(node))
+}
+
+// Takes the own last pair of a node with children out, and the child behind it, which has no pairs.
+fn take_own_last<K: Drop, V: Drop>(node: &mut Node<K, V>) -> (K, V)
+    requires inner { IsInner node.old }
+    requires some { 0 < length (own_pairs node.old) }
+    requires empty { pairs_of (child_at node.old (length (own_pairs node.old))) ≡ [] }
+    ensures loose { (h : ℕ) → IsLoose h node.old → IsLoose h node.new }
+    ensures pairs { pairs_of node.old ≡ pairs_of node.new ++ result ∷ [] }
+{
+    drop(node.take_last_child());
+    node.take_last_pair()
+}
