@@ -6,7 +6,6 @@ mod neighbours;
 mod reading;
 mod ready;
 mod sets;
-mod toolchain;
 mod vectors;
 mod walks;
 mod whole;
