@@ -183,31 +183,28 @@ module _ {K V : Type 0} where
   pub child_ascends : (cmp : K → K → Ordering) (h : ℕ) (n c : Node K V) (i : ℕ) → IsLevelled h n → i < length (children_of n) → c ≡ child_at n i → IsAscending cmp (pairs_of n) → IsAscending cmp (pairs_of c)
   child_ascends cmp h n c i l k is o = ascending_middle cmp (before_child n i) (pairs_of c) (after_child n i) (subst (IsAscending cmp) (around_child h n c i l k is) o)
 
-module _ {K V : Type 0} (cmp : K → K → Ordering) {t : K × V → Bool} (down : HoldsBelow cmp t) (h : ℕ) (n : Node K V) (l : IsLevelled h n) (o : IsAscending cmp (pairs_of n)) (i : ℕ) (c : List (K × V)) (is : IsAround n i c) where
-  -- In front of a cut are the pairs before the child at its place, and those of the child.
-  pub past_at : TurnsAt t (own_pairs n) i → length (filter t (pairs_of n)) ≡ length (before_child n i) + length (filter t c)
-  past_at r = ap (λ s. length (filter t s)) is ∙ lead_and_inside t (before_child n i) c (after_child n i) (holds_before cmp t down h n l o i r) (fails_after cmp t down h n l o i r.fails)
-
--- What leads on a side of what is sought.
-pub side_below : {K V S : Type 0} {cmp : K → K → Ordering} {order : K → S → Ordering} → IsQueryOrder cmp order → (q : S) (leads : Ordering → Bool) → (leads Less ≡ true) × (leads Greater ≡ false) → HoldsBelow {V = V} cmp (λ e. leads (order e.0 q))
-side_below {order = order} fits q leads side x y l e = go (order y.0 q) refl e
-  where
-    go : (r : Ordering) → order y.0 q ≡ r → leads r ≡ true → leads (order x.0 q) ≡ true
-    go Less h e = ap leads (fits.lower q x.0 y.0 l h) ∙ side.0
-    go Equal h e = ap leads (fits.same q y.0 x.0 h ∙ l) ∙ side.0
-    go Greater h e = absurd (let no : false ≡ true = sym side.1 ∙ e in cc)
-
 module _ {K Q S : Type 0} {cmp : K → K → Ordering} {order : K → S → Ordering} (fits : IsQueryOrder cmp order) (sought : Q → S) where
   pub leads_below : {V : Type 0} (cut : Cut Q) → HoldsBelow {V = V} cmp (λ e. leads order sought cut e.0)
-  leads_below First = λ x y l e. absurd cc
-  leads_below Last = λ x y l e. refl
-  leads_below (Before q) = side_below fits (sought q) is_lt (refl, refl)
-  leads_below (After q) = side_below fits (sought q) is_le (refl, refl)
+  leads_below First x y l e = absurd cc
+  leads_below Last x y l e = refl
+  leads_below (Before q) x y l e = go (order y.0 (sought q)) refl e
+    where
+      go : (r : Ordering) → order y.0 (sought q) ≡ r → is_lt r ≡ true → is_lt (order x.0 (sought q)) ≡ true
+      go Less h e = ap is_lt (fits.lower (sought q) x.0 y.0 l h)
+      go Equal h e = absurd cc
+      go Greater h e = absurd cc
+  leads_below (After q) x y l e = go (order y.0 (sought q)) refl e
+    where
+      go : (r : Ordering) → order y.0 (sought q) ≡ r → is_le r ≡ true → is_le (order x.0 (sought q)) ≡ true
+      go Less h e = ap is_le (fits.lower (sought q) x.0 y.0 l h)
+      go Equal h e = ap is_le (fits.same (sought q) y.0 x.0 h ∙ l)
+      go Greater h e = absurd cc
 
   module _ {V : Type 0} (h : ℕ) (n : Node K V) (l : IsLevelled h n) (o : IsAscending cmp (pairs_of n)) (i : ℕ) (c : List (K × V)) (is : IsAround n i c) where
     -- In front of a cut are the pairs before the child at its place, and those of the child.
     pub ahead_at : (cut : Cut Q) → TurnsAt (λ e. leads order sought cut e.0) (own_pairs n) i → ahead order sought cut (pairs_of n) ≡ length (before_child n i) + ahead order sought cut c
-    ahead_at cut r = past_at cmp (leads_below cut) h n l o i c is r
+    ahead_at cut r =
+        ap (ahead order sought cut) is ∙ lead_and_inside (λ e. leads order sought cut e.0) (before_child n i) c (after_child n i) (holds_before cmp _ (leads_below cut) h n l o i r) (fails_after cmp _ (leads_below cut) h n l o i r.fails)
 
     -- Amid two cuts at one place are pairs of the child alone.
     pub amid_at : (lo hi : Cut Q) → TurnsAt (λ e. leads order sought lo e.0) (own_pairs n) i → FailsAt (λ e. leads order sought hi e.0) (own_pairs n) i → amid order sought lo hi (pairs_of n) ≡ amid order sought lo hi c
@@ -239,13 +236,6 @@ module _ {K Q S : Type 0} {cmp : K → K → Ordering} {order : K → S → Orde
       let is = own_pair h n start x l k in
       subst (λ s. ahead order sought hi s ≡ ahead order sought lo s + amid order sought lo hi s) (sym is)
       (parted_counts cmp (λ e. leads order sought lo e.0) (λ e. leads order sought hi e.0) (leads_below lo) (leads_below hi) (before_own n start) (after_own n start) p (subst (IsAscending cmp) is o) (r.fails x k) (v.holds start x (omega arith) lt))
-
-  -- Where a cut is at an end of all keys.
-  pub none_ahead : {V : Type 0} (s : List (K × V)) → ahead order sought First s ≡ 0
-  none_ahead s = ap length (left_out (λ e. false) s (each _ (λ e. refl) s))
-
-  pub all_ahead : {V : Type 0} (s : List (K × V)) → ahead order sought Last s ≡ length s
-  all_ahead s = ap length (kept (λ e. true) s (each _ (λ e. refl) s))
 
   -- Where a range has but one bound.
   pub amid_open : {V : Type 0} (lo hi : Cut Q) → ((lo ≡ First) ⊎ (hi ≡ Last)) → (s : List (K × V)) → ahead order sought hi s ≡ ahead order sought lo s + amid order sought lo hi s

@@ -1,14 +1,11 @@
 //! Where the keys of a tree are cut by a bound of a range, and the place of a cut in a node.
-ghost use Rattle.std.specs.Prelude.{◌≡◌, ◌≤◌, ◌⊎◌, Bool, true, false, refl, length, IsTrue};
+ghost use Rattle.std.specs.Prelude.{◌≡◌, ◌≤◌, ◌⊎◌, length, IsTrue};
 ghost use Rattle.std.specs.Ordering.{is_lt, is_le};
-ghost use Rattle.std.specs.declared.cmp.Ordering.{Ordering};
-ghost use Rattle.std.specs.declared.cmp.Ordering.TheVariants.{Less, Greater};
 ghost use Rattle.fc_tree_node.specs.Node.{own_pairs};
 ghost use Rattle.fc_tree_walk.specs.Cut.{start_cut, stop_cut, leads, IsTurn};
 
 use fc_base::Query;
 use fc_tree_node::node::Node;
-use std::cmp::Ordering;
 use std::ops::Bound;
 
 /// A cut between ascending keys, by what they are searched by.
@@ -67,61 +64,34 @@ pub(crate) fn place_in<K: Ord, V, Q: Query<K>>(
 {
     match cut {
         Cut::First => from,
-        Cut::Before(key) => first_past::<K, V, Q, Ahead>(node, *key, from),
-        Cut::After(key) => first_past::<K, V, Q, Behind>(node, *key, from),
+        Cut::Before(key) => first_not_below(node, *key, from),
+        Cut::After(key) => first_above(node, *key, from),
         Cut::Last => node.len(),
     }
 }
 
-/// On which side of what is sought a cut is: a type, so that each loop is made for one side.
-pub(crate) trait Side {
-    // Whether a key that stands so to what is sought lies in front of the cut.
-    ghost leads: { Ordering → Bool };
-
-    fn leads(order: Ordering) -> bool
-        ensures { result ≡ leads order };
-
-    ghost fits: { (leads Less ≡ true) × (leads Greater ≡ false) };
-}
-
-/// Behind the keys below what is sought.
-pub(crate) struct Ahead;
-
-impl Side for Ahead {
-    ghost leads = { is_lt };
-
-    ghost fits = { (refl, refl) };
-
-    fn leads(order: Ordering) -> bool {
-        order.is_lt()
-    }
-}
-
-/// Behind the keys that are not above what is sought.
-pub(crate) struct Behind;
-
-impl Side for Behind {
-    ghost leads = { is_le };
-
-    ghost fits = { (refl, refl) };
-
-    fn leads(order: Ordering) -> bool {
-        order.is_le()
-    }
-}
-
-/// The first of the node's own pairs from a place on that is not in front of the cut at what is sought, or their end.
-pub(crate) fn first_past<K: Ord, V, Q: Query<K>, S: Side>(
-    node: &Node<K, V>,
-    key: Q,
-    from: usize,
-) -> usize
+// The first of the node's own pairs from a place on whose key is not below what is sought, or their end.
+fn first_not_below<K: Ord, V, Q: Query<K>>(node: &Node<K, V>, key: Q, from: usize) -> usize
     requires { from ≤ length (own_pairs node.now) }
-    ensures { IsTurn (λ e. S.leads (Q.order e.0 (Q.sought key))) (own_pairs node.now) from result }
+    ensures { IsTurn (λ e. is_lt (Q.order e.0 (Q.sought key))) (own_pairs node.now) from result }
 {
     let n = node.len();
     for i in from..n {
-        if !S::leads(key.order_of(&node.pair(i).0)) {
+        if !key.order_of(&node.pair(i).0).is_lt() {
+            return i;
+        }
+    }
+    n
+}
+
+// The first of the node's own pairs from a place on whose key is above what is sought, or their end.
+fn first_above<K: Ord, V, Q: Query<K>>(node: &Node<K, V>, key: Q, from: usize) -> usize
+    requires { from ≤ length (own_pairs node.now) }
+    ensures { IsTurn (λ e. is_le (Q.order e.0 (Q.sought key))) (own_pairs node.now) from result }
+{
+    let n = node.len();
+    for i in from..n {
+        if !key.order_of(&node.pair(i).0).is_le() {
             return i;
         }
     }

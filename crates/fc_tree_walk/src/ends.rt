@@ -15,7 +15,7 @@ ghost use Rattle.fc_tree_node.specs.TreePlace.{before_gap_in};
 ghost use Rattle.fc_tree_walk.specs.Cut.{leads, ahead, amid, TurnsAt};
 ghost use Rattle.fc_tree_walk.specs.Gap.{AreEndsIn, IsGapIn, GoesOn, EndsIn};
 
-use crate::cuts::{Ahead, Behind, Cut, Side, first_past, is_open, place_in, start_of, stop_of};
+use crate::cuts::{Cut, is_open, place_in, start_of, stop_of};
 use crate::gaps::{push_first, push_last};
 use fc_base::Query;
 use fc_tree_node::node::Node;
@@ -139,32 +139,10 @@ fn push_cut<'a, K: Ord, V, Q: Query<K>>(
     ensures gap { GoesOn gap.old gap.new node.now (ahead Q.order Q.sought cut.now (pairs_of node.now)) }
     ensures leaf { EndsIn gap.old gap.new node.now result.now }
 {
-    match cut {
-        Cut::First => push_first(node, gap),
-        Cut::Before(key) => push_past::<K, V, Q, Ahead>(node, place, *key, gap),
-        Cut::After(key) => push_past::<K, V, Q, Behind>(node, place, *key, gap),
-        Cut::Last => push_last(node, gap),
-    }
-}
-
-// The same for a cut at what is sought, on one side of it.
-fn push_past<'a, K: Ord, V, Q: Query<K>, S: Side>(
-    node: &'a Node<K, V>,
-    place: usize,
-    key: Q,
-    gap: &mut Path,
-) -> &'a Node<K, V>
-    requires levels { (h : ℕ) × IsLevelled h node.now × (length gap.old + h < most_levels) }
-    requires order { IsAscending K.cmp (pairs_of node.now) }
-    requires place { TurnsAt (λ e. S.leads (Q.order e.0 (Q.sought key))) (own_pairs node.now) place }
-    ensures gap { GoesOn gap.old gap.new node.now (length (filter (λ e. S.leads (Q.order e.0 (Q.sought key))) (pairs_of node.now))) }
-    ensures leaf { EndsIn gap.old gap.new node.now result.now }
-{
     gap.push(place);
     if node.is_leaf() {
         return node;
     }
     let child = node.child(place);
-    let next = first_past::<K, V, Q, S>(child, key, 0);
-    push_past::<K, V, Q, S>(child, next, key, gap)
+    push_cut(child, place_in(child, cut, 0), cut, gap)
 }

@@ -4,8 +4,8 @@ use Rattle.fc_tree_node.proofs.Gaps.{step_levels}
 use Rattle.fc_tree_node.proofs.Pairs.{leaf_children}
 use Rattle.fc_tree_search.proofs.SearchFacts.{child_there}
 use Rattle.fc_tree_walk.proofs.GapFacts.{around_gap, around_child, goes_here, goes_below, ends_here, ends_below}
-use Rattle.fc_tree_walk.proofs.Turns.{turn_first, child_ascends, side_below, past_at}
-use Rattle.fc_tree_walk.proofs.ends.+push_past.Goals as goal
+use Rattle.fc_tree_walk.proofs.Turns.{turn_first, child_ascends, ahead_at}
+use Rattle.fc_tree_walk.proofs.ends.+push_cut.Goals as goal
 
 pub returns-then-is_leaf-clause-gap : goal.returns-then-is_leaf-clause-gap
 returns-then-is_leaf-clause-gap g t c =
@@ -13,7 +13,7 @@ returns-then-is_leaf-clause-gap g t c =
     let n = c.args.node.now in
     let i = c.args.place in
     let none = ap length (leaf_children n (c.if-is_leaf.ensures.0 refl)) in
-    let a = past_at g.K.Ord.cmp (side_below g.met.Q.Query.fits (g.Q.Query.sought c.args.key) g.S.Side.leads g.met.S.Side.fits) l.0 n l.1 c.requires.order i [] (around_gap l.0 n i l.1 (omega (arith, none)) c.requires.place.within) c.requires.place in
+    let a = ahead_at g.met.Q.Query.fits g.Q.Query.sought l.0 n l.1 c.requires.order i [] (around_gap l.0 n i l.1 (omega (arith, none)) c.requires.place.within) c.args.cut.now c.requires.place in
     goes_here c.args.gap.now c.push.new.self i l.0 n _ _ l.1 (omega (arith, none)) c.requires.place.within c.push.ensures a refl
 
 pub returns-then-is_leaf-clause-leaf : goal.returns-then-is_leaf-clause-leaf
@@ -22,15 +22,15 @@ returns-then-is_leaf-clause-leaf g t c = ends_here c.args.gap.now c.push.new.sel
 pub child-child-requires : goal.child-child-requires
 child-child-requires g t c = child_there c.requires.levels.0 c.args.node.now c.args.place c.requires.levels.1 c.if-is_leaf.ensures.1 c.requires.place.within
 
-pub push_past-requires : goal.push_past-requires
-push_past-requires g t c κs within =
+pub push_cut-requires : goal.push_cut-requires
+push_cut-requires g t c κs within =
     let l = c.requires.levels in
     let k = child_there l.0 c.args.node.now c.args.place l.1 c.if-is_leaf.ensures.1 c.requires.place.within in
     let s = step_levels l.0 c.args.node.now c.args.place l.1 k in
     let e = s.1 in
     let f = l.2 in
     let p = ap length c.push.ensures ∙ length-append c.args.gap.now _ in
-    (omega arith, (search rules, (search rules, (search rules, (search rules, ((s.0, subst (IsLevelled s.0) (sym c.child-child.ensures) s.2, omega arith), (child_ascends g.K.Ord.cmp l.0 _ _ _ l.1 k c.child-child.ensures c.requires.order, turn_first c.first_past-next.ensures)))))))
+    (omega arith, (search rules, (search rules, (search rules, ((s.0, subst (IsLevelled s.0) (sym c.child-child.ensures) s.2, omega arith), (child_ascends g.K.Ord.cmp l.0 _ _ _ l.1 k c.child-child.ensures c.requires.order, turn_first c.place_in.ensures))))))
 
 pub returns-clause-gap : goal.returns-clause-gap
 returns-clause-gap g t c =
@@ -38,11 +38,11 @@ returns-clause-gap g t c =
     let n = c.args.node.now in
     let i = c.args.place in
     let k = child_there l.0 n i l.1 c.if-is_leaf.ensures.1 c.requires.place.within in
-    let a = past_at g.K.Ord.cmp (side_below g.met.Q.Query.fits (g.Q.Query.sought c.args.key) g.S.Side.leads g.met.S.Side.fits) l.0 n l.1 c.requires.order i _ (around_child l.0 n _ i l.1 k c.child-child.ensures) c.requires.place in
-    goes_below c.args.gap.now c.push.new.self c.push_past.new.gap i l.0 n c.child-child.result.now _ _ l.1 k c.push.ensures c.child-child.ensures c.push_past.ensures.gap a
+    let a = ahead_at g.met.Q.Query.fits g.Q.Query.sought l.0 n l.1 c.requires.order i _ (around_child l.0 n _ i l.1 k c.child-child.ensures) c.args.cut.now c.requires.place in
+    goes_below c.args.gap.now c.push.new.self c.push_cut.new.gap i l.0 n c.child-child.result.now _ _ l.1 k c.push.ensures c.child-child.ensures c.push_cut.ensures.gap a
 
 pub returns-clause-leaf : goal.returns-clause-leaf
 returns-clause-leaf g t c =
     let l = c.requires.levels in
     let s = step_levels l.0 c.args.node.now c.args.place l.1 (child_there l.0 c.args.node.now c.args.place l.1 c.if-is_leaf.ensures.1 c.requires.place.within) in
-    ends_below c.args.gap.now c.push.new.self c.push_past.new.gap c.args.place _ c.args.node.now c.child-child.result.now c.push_past.result.now c.push.ensures c.child-child.ensures (s.0, subst (IsLevelled s.0) (sym c.child-child.ensures) s.2) c.push_past.ensures.gap c.push_past.ensures.leaf
+    ends_below c.args.gap.now c.push.new.self c.push_cut.new.gap c.args.place _ c.args.node.now c.child-child.result.now c.push_cut.result.now c.push.ensures c.child-child.ensures (s.0, subst (IsLevelled s.0) (sym c.child-child.ensures) s.2) c.push_cut.ensures.gap c.push_cut.ensures.leaf
