@@ -4,7 +4,8 @@ pub use Rattle.fc_base.specs.Ascending.{IsAscending}
 pub use Rattle.fc_base.specs.Parts.{below, above, at, value_at}
 pub use Rattle.fc_base.specs.OneKey.{put, put_by, cut}
 pub use Rattle.fc_base.specs.Query.{IsQueryOrder, text_order, items_order}
-pub use Rattle.fc_base.specs.Ranges.{bound_now, starts, stops, is_range, within}
+pub use Rattle.fc_base.specs.Viewed.{viewed, own_order}
+pub use Rattle.fc_base.specs.Ranges.{bound_by, bound_now, starts, stops, is_range, within}
 pub use Rattle.fc_base.specs.Growth.{growth_error, MayGrowRefuse, append_error, MayAppendRefuse}
 pub use Rattle.fc_base.specs.Joined.{placed, joined}
 pub use Rattle.fc_base.specs.Halves.{not_below}
@@ -24,23 +25,28 @@ pub use Rattle.fc_read.specs.Reading.{front, IsMoved, IsWhole}
 pub use Rattle.fc_hash.specs.Pairs.{Hashed, IsMap, value_at as hashed_value_at, IsPut, IsTaken, AreCopies, agree_at, are_equal}
 pub use Rattle.fc_hash.specs.Lends.{with_value, lends_value}
 pub use Rattle.fc_hash.specs.Extended.{ArePut, IsPutAll, IsPutUpTo}
+pub use Rattle.fc_hash.specs.EqualMaps.{equal_maps_per}
 -- maps, their entries and walks
 pub use Rattle.fc_map.specs.Entries.{Map, entries, IsSoundMap, passed_in, now_value, now_pair}
 pub use Rattle.fc_map.specs.Counts.{IsBounded}
 pub use Rattle.fc_map.specs.LendsKey.{lends_get, lent_value, written_at}
-pub use Rattle.fc_map.specs.Entry.{entry_map, entry_map_ref, entry_key, entry_pair, entry_value, list_with, list_without, IsWritten}
-pub use Rattle.fc_map.specs.ReadyEntry.{ready_map_ref, ready_map, ready_key, ready_list_with}
+pub use Rattle.fc_map.specs.Entry.{entry_map, entry_map_ref, entry_key, entry_pair, entry_value, list_with, list_without, IsWritten, IsFirstOf, IsLastOf, map_written, entry_lends_ok, occupied_lends, occupied_lends_whole, rests_if_none, rests_if_refused}
+pub use Rattle.fc_map.specs.ReadyEntry.{ready_map_ref, ready_map, ready_key, ready_list_with, ready_lends, rests_if_not_ready}
 pub use Rattle.fc_map.specs.Room.{Places, room_error}
 pub use Rattle.fc_map.specs.Walks.{deref_pair, keys_of, values_of}
 pub use Rattle.fc_map.specs.Writing.{Stretch, whole, starting, wrote_first, wrote_last, wrote, wrote_all, set_value}
-pub use Rattle.fc_map.specs.Stretches.{range_map_ref, stretch, iter_map_ref, iter_stretch, IsFirstValue, IsLastValue, IsFirstPair, IsLastPair, CalledAtPair, IsVisitedIn}
+pub use Rattle.fc_map.specs.Stretches.{range_map_ref, stretch, iter_map_ref, iter_stretch, IsFirstValue, IsLastValue, IsFirstPair, IsLastPair, CalledAtPair, IsVisitedIn, range_lends_first, range_lends_last, iter_lends_first, iter_lends_last}
 pub use Rattle.fc_tree_visit.specs.Visits.{VisitsInTurn}
 pub use Rattle.fc_tree_retain.specs.Retained.{RetainsInTurn, AskedAtPair, GivenPair, ExtractsBy}
 pub use Rattle.fc_map.specs.Compare.{pair_eq, pair_cmp, pair_partial_cmp, pair_input}
+pub use Rattle.fc_map.specs.CompareLaws.{pairs_Alike, pairs_agree, pairs_equiv, pairs_per, pairs_po, pairs_tie, pairs_total}
 -- sets
 pub use Rattle.fc_set.specs.Items.{items, item_at, smaller, greater, not_smaller, without, AreAscending, with_item, with_replaced, items_within, joined_items, extended_items, AreExtendedUpTo}
 pub use Rattle.fc_set.specs.Neighbours.{not_greater}
 pub use Rattle.fc_set.specs.Retained.{RetainsItems, GivenItem, ExtractsItem}
+pub use Rattle.fc_set.specs.Copied.{MayCopyRefuse}
+pub use Rattle.fc_set.specs.HashLaws.{items_alike}
+pub use Rattle.fc_set.specs.Sides.{GivesCommon, begin_sifting, begin_with_shorter, past_item, sifted_past, sum_of_lengths, untaken}
 pub use Rattle.fc_set.specs.Operations.{difference, common, symmetric_difference, intersection, union}
 -- commands
 pub use Rattle.fc_command.specs.Step.{IsNew, Step, Runs}
