@@ -3,4 +3,5 @@ pub mod JoinedLaws
 pub mod Laws
 pub mod NeighbourLaws
 pub mod PairLaws
+pub mod RetainedLaws
 pub mod SetLaws
