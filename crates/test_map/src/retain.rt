@@ -77,11 +77,13 @@ fn retains(alloc: Global, end: u64, rule: Rule) -> Result<bool, TryReserveError>
         stays(rule, *key)
     });
     let is_left = has_those(&map, end, rule);
-    Ok(in_order
-        && asked == end
-        && is_left
-        && puts_back(&mut map, end, rule)?
-        && has_those(&map, end, ALL))
+    Ok(
+        in_order
+            && asked == end
+            && is_left
+            && puts_back(&mut map, end, rule)?
+            && has_those(&map, end, ALL),
+    )
 }
 
 // The same, where those that do not stay are handed on in order.
