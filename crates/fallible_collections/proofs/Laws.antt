@@ -8,3 +8,4 @@ pub use Rattle.fallible_collections.proofs.JoinedLaws.{at_joined, value_at_joine
 pub use Rattle.fallible_collections.proofs.SetLaws.{item_at_joined, item_at_joined_query, ascending_joined_items, same_items, joined_items_is, item_at_union, item_at_difference, item_at_symmetric}
 pub use Rattle.fallible_collections.proofs.ItemLaws.{item_at_with, item_at_with_other, item_at_without, item_at_without_other, ascending_with, ascending_without, item_at_first, without_first}
 pub use Rattle.fallible_collections.proofs.PairLaws.{text_order_fits, filter_cut, filter_put_out, filter_put_kept, all_cut, all_put, sum_cut, sum_put, sum_put_new, sum_values_cut, sum_values_cut_absent, sum_values_put, sum_values_put_new, at_cut_other_query, value_at_cut_other_query, not_below_all, not_below_rest, at_first_pair}
+pub use Rattle.fallible_collections.proofs.RetainedLaws.{retained_is, items_retained_are}
