@@ -2,7 +2,7 @@
 ghost use Rattle.std.specs.Prelude.{◌≡◌, ◌^◌, ◌<◌, length, IfSome, Some};
 ghost use Rattle.std.specs.Iterator.{YieldsFirst, YieldsLast, item_count, at_most, UpTo};
 ghost use Rattle.std.specs.Iterator.SizeHint.{IsWithinCount};
-ghost use Rattle.fc_tree_node.specs.Tree.{entries, root_of, IsSoundMap};
+ghost use Rattle.fc_tree_node.specs.Tree.{entries, IsSoundMap};
 
 mod debug;
 
@@ -40,10 +40,10 @@ impl<K, V> IntoIter<K, V> {
 
 impl<K: Drop, V: Drop> IntoIter<K, V> {
     /// A walk that takes a tree apart, of which there are `len` pairs.
-    pub fn over(root: Option<Box<Node<K, V>>>, len: usize) -> IntoIter<K, V>
-        requires sound { IsSoundMap (root_of root) }
-        requires all { len ≡ length (entries (root_of root)) }
-        ensures { result ≡ entries (root_of root) }
+    pub fn over(root: Option<Node<K, V>>, len: usize) -> IntoIter<K, V>
+        requires sound { IsSoundMap root }
+        requires all { len ≡ length (entries root) }
+        ensures { result ≡ entries root }
     {
         IntoIter {
             drain: Drain::over(root),

@@ -1,6 +1,6 @@
 //! Reading walks over all pairs of a map, from both ends.
 ghost use Rattle.std.specs.Prelude.{◌≡◌, ◌≤◌, ⊤, length, Some, IfSome};
-ghost use Rattle.fc_tree_node.specs.Tree.{entries, root_of, IsSoundMap};
+ghost use Rattle.fc_tree_node.specs.Tree.{entries, IsSoundMap};
 ghost use Rattle.std.specs.Iterator.{YieldsFirstBy, YieldsLastBy, UpTo, at_most, item_count};
 
 mod keys;
@@ -34,10 +34,10 @@ impl<'a, K, V> Model for Iter<'a, K, V> {
 
 impl<'a, K, V> Iter<'a, K, V> {
     /// A walk over all pairs of a tree, of which there are `len`.
-    pub fn over(root: &'a Option<Box<Node<K, V>>>, len: usize) -> Iter<'a, K, V>
-        requires sound { IsSoundMap (root_of root.now) }
-        requires all { len ≡ length (entries (root_of root.now)) }
-        ensures { result ≡ entries (root_of root.now) }
+    pub fn over(root: &'a Option<Node<K, V>>, len: usize) -> Iter<'a, K, V>
+        requires sound { IsSoundMap root.now }
+        requires all { len ≡ length (entries root.now) }
+        ensures { result ≡ entries root.now }
     {
         Iter {
             span: Span::whole(root),

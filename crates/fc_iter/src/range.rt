@@ -2,7 +2,7 @@
 ghost use Rattle.std.specs.Prelude.{◌≡◌, ◌≤◌, ⊤, length, IfSome, None};
 ghost use Rattle.fc_base.specs.Ascending.{IsAscending};
 ghost use Rattle.fc_base.specs.Ranges.{bound_by, within};
-ghost use Rattle.fc_tree_node.specs.Tree.{entries, root_of, IsSoundMap};
+ghost use Rattle.fc_tree_node.specs.Tree.{entries, IsSoundMap};
 ghost use Rattle.std.specs.Iterator.{YieldsFirstBy, YieldsLastBy, item_count, UpTo, at_most};
 
 use fc_base::Query;
@@ -32,13 +32,13 @@ impl<'a, K, V> Model for Range<'a, K, V> {
 impl<'a, K: Ord, V> Range<'a, K, V> {
     /// A walk over the pairs of a tree whose keys lie within both bounds.
     pub fn within<Q: Query<K>>(
-        root: &'a Option<Box<Node<K, V>>>,
+        root: &'a Option<Node<K, V>>,
         lo: &Bound<Q>,
         hi: &Bound<Q>,
     ) -> Range<'a, K, V>
-        requires sound { IsSoundMap (root_of root.now) }
-        requires ascending { IsAscending K.cmp (entries (root_of root.now)) }
-        ensures { result ≡ within Q.order (bound_by Q.sought lo.now) (bound_by Q.sought hi.now) (entries (root_of root.now)) }
+        requires sound { IsSoundMap root.now }
+        requires ascending { IsAscending K.cmp (entries root.now) }
+        ensures { result ≡ within Q.order (bound_by Q.sought lo.now) (bound_by Q.sought hi.now) (entries root.now) }
     {
         Range {
             span: Span::within(root, lo, hi),

@@ -9,18 +9,18 @@ use Rattle.fc_tree_node.specs.declared.node.Node.{Node}
 use Rattle.fc_tree_node.specs.Node.{pairs_of}
 use Rattle.fc_tree_removal.specs.Removal.{IsTreeLeft}
 use Rattle.fc_map.specs.Counts.{IsBounded}
-use Rattle.fc_map.specs.Entries.{entries, root_of, IsSoundMap}
+use Rattle.fc_map.specs.Entries.{entries, IsSoundMap}
 use Rattle.fc_map.proofs.CountFacts.{some_pairs, only_moved}
 use Rattle.fc_map.proofs.RemoveFacts.{left_entries, left_sound, left_moves, without_ascending}
 
 module _ {K V : Type 0} (root : Node K V) (sound : IsSoundMap (Some root)) where
   -- The map's invariant holds of what is left without the last pair.
-  pub last_popped : (cmp : K → K → Ordering) (left : Option (Box (Node K V) Global)) (e : K × V) → IsAscending cmp (pairs_of root) → IsTreeLeft sound.0 left → pairs_of root ≡ entries (root_of left) ++ e ∷ []
-      → IsAscending cmp (entries (root_of left)) × IsSoundMap (root_of left) × (length (pairs_of root) ≡ length (entries (root_of left)) + 1)
+  pub last_popped : (cmp : K → K → Ordering) (left : Option (Node K V)) (e : K × V) → IsAscending cmp (pairs_of root) → IsTreeLeft sound.0 left → pairs_of root ≡ entries left ++ e ∷ []
+      → IsAscending cmp (entries left) × IsSoundMap left × (length (pairs_of root) ≡ length (entries left) + 1)
   last_popped cmp left e ascending levels p =
-      let all = ap length p ∙ length-append (entries (root_of left)) (e ∷ []) in
+      let all = ap length p ∙ length-append (entries left) (e ∷ []) in
       let same = ap length (left_entries left) in
-      (subst (IsAscending cmp) (append-nil (entries (root_of left)) ∙ sym (left_entries left)) (without_ascending cmp (entries (root_of left)) [] e (subst (IsAscending cmp) p ascending)), left_sound sound.0 left sound.1 levels, omega arith)
+      (subst (IsAscending cmp) (append-nil (entries left) ∙ sym (left_entries left)) (without_ascending cmp (entries left) [] e (subst (IsAscending cmp) p ascending)), left_sound sound.0 left sound.1 levels, omega arith)
 
   -- What a removal at an end costs.
   pub popped_cost : (old new : Count) → new.comparisons ≡ old.comparisons → new.moves ≤ old.moves + level_moves * (sound.0 + 1) → IsBounded (length (pairs_of root)) old new

@@ -15,16 +15,16 @@ use Rattle.fc_tree_node.specs.TreePlace.{IsPlaceIn, before_pair_in, after_pair_i
 use Rattle.fc_tree_removal.specs.Removal.{IsSoundTree, IsTreeLeft}
 use Rattle.fc_tree_node.proofs.DepthFacts.{deep_root}
 use Rattle.fc_tree_node.proofs.Gaps.{place_pairs}
-use Rattle.fc_map.specs.Entries.{Map, entries, root_of, IsSoundMap}
+use Rattle.fc_map.specs.Entries.{Map, entries, IsSoundMap}
 
 module _ {K V : Type 0} where
   -- The list of the map at what is left of a tree.
-  pub left_entries : (left : Option (Box (Node K V) Global)) → entries (root_of left) ≡ entries (root_of left)
+  pub left_entries : (left : Option (Node K V)) → entries left ≡ entries left
   left_entries None = refl
   left_entries (Some root) = refl
 
   -- What a removal leaves is sound, and no higher.
-  pub left_sound : (h : ℕ) (left : Option (Box (Node K V) Global)) → h ≤ most_height → IsTreeLeft h left → IsSoundMap (root_of left)
+  pub left_sound : (h : ℕ) (left : Option (Node K V)) → h ≤ most_height → IsTreeLeft h left → IsSoundMap left
   left_sound h None le l = tt
   left_sound h (Some root) le (inl same) = (h, le, same)
   left_sound h (Some root) le (inr lower) = (h - 1, omega arith, lower.1)
@@ -38,12 +38,12 @@ module _ {K V : Type 0} where
       dropped [] b = b.1
       dropped (y ∷ s) b = (b.0, dropped s b.1)
 
-  module _ (root : Node K V) (path : List ℕ) (sound : IsSoundMap (Some root)) (place : IsPlace path root) (left : Option (Box (Node K V) Global)) (rest : entries (root_of left) ≡ before_pair path root ++ after_pair path root) where
+  module _ (root : Node K V) (path : List ℕ) (sound : IsSoundMap (Some root)) (place : IsPlace path root) (left : Option (Node K V)) (rest : entries left ≡ before_pair path root ++ after_pair path root) where
     -- The pairs before the place and those after it are left.
-    pub left_list : entries (root_of left) ≡ before_pair path root ++ after_pair path root
+    pub left_list : entries left ≡ before_pair path root ++ after_pair path root
     left_list = left_entries left ∙ rest
 
-    pub left_length : length (pairs_of root) ≡ length (entries (root_of left)) + 1
+    pub left_length : length (pairs_of root) ≡ length (entries left) + 1
     left_length =
         let c = place_pairs path sound.0 root sound.2.1 place in
         let old = ap length c.parts ∙ length-append (before_pair path root) (c.pair ∷ after_pair path root) in
@@ -51,7 +51,7 @@ module _ {K V : Type 0} where
         omega (arith, old, new)
 
     -- The map's invariant holds of what is left.
-    pub left_kept : (cmp : K → K → Ordering) → IsAscending cmp (pairs_of root) → IsTreeLeft sound.0 left → IsAscending cmp (entries (root_of left)) × IsSoundMap (root_of left)
+    pub left_kept : (cmp : K → K → Ordering) → IsAscending cmp (pairs_of root) → IsTreeLeft sound.0 left → IsAscending cmp (entries left) × IsSoundMap left
     left_kept cmp ascending l =
         let c = place_pairs path sound.0 root sound.2.1 place in
         (rw left_list (without_ascending cmp (before_pair path root) (after_pair path root) c.pair (rw c.parts at ascending)), left_sound sound.0 left sound.1 l)
@@ -65,11 +65,11 @@ module _ {K V : Type 0} where
   map_height None path sound place = absurd place
   map_height (Some root) path sound place = (sound.0, sound.2)
 
-  pub map_length : (m : Map K V) (path : List ℕ) → IsSoundMap m → IsPlaceIn m path → (left : Option (Box (Node K V) Global)) → entries (root_of left) ≡ before_pair_in m path ++ after_pair_in m path → length (entries m) ≡ length (entries (root_of left)) + 1
+  pub map_length : (m : Map K V) (path : List ℕ) → IsSoundMap m → IsPlaceIn m path → (left : Option (Node K V)) → entries left ≡ before_pair_in m path ++ after_pair_in m path → length (entries m) ≡ length (entries left) + 1
   map_length None path sound place left rest = absurd place
   map_length (Some root) path sound place left rest = left_length root path sound place left rest
 
-  pub map_kept : (m : Map K V) (path : List ℕ) → IsSoundMap m → IsPlaceIn m path → (left : Option (Box (Node K V) Global)) → entries (root_of left) ≡ before_pair_in m path ++ after_pair_in m path → (cmp : K → K → Ordering) → IsAscending cmp (entries m) → ((h : ℕ) → IsSoundTree h m → IsTreeLeft h left) → IsAscending cmp (entries (root_of left)) × IsSoundMap (root_of left)
+  pub map_kept : (m : Map K V) (path : List ℕ) → IsSoundMap m → IsPlaceIn m path → (left : Option (Node K V)) → entries left ≡ before_pair_in m path ++ after_pair_in m path → (cmp : K → K → Ordering) → IsAscending cmp (entries m) → ((h : ℕ) → IsSoundTree h m → IsTreeLeft h left) → IsAscending cmp (entries left) × IsSoundMap left
   map_kept None path sound place left rest cmp ascending l = absurd place
   map_kept (Some root) path sound place left rest cmp ascending l = left_kept root path sound place left rest cmp ascending (l sound.0 sound.2)
 

@@ -4,7 +4,7 @@ use Rattle.std.specs.Option.{option_map}
 use Rattle.std.specs.Borrow.{Bor}
 use Rattle.std.specs.declared.cmp.Ordering.{Ordering}
 use Rattle.fc_tree_search.specs.Passed.{passed}
-pub use Rattle.fc_tree_node.specs.Tree.{Map, entries, root_of, IsSoundMap}
+pub use Rattle.fc_tree_node.specs.Tree.{Map, entries, IsSoundMap}
 
 -- How many keys a search for k passes in a map: none where there is no root.
 abbrev pub passed_in : {K Q V : Type 0} → (K → Q → Ordering) → Q → Map K V → ℕ

@@ -54,7 +54,7 @@ use std::marker::Model;
 /// answer a `Result` take memory.
 #[derive(Drop)]
 pub struct BTreeMap<K: Ord, V> {
-    root: Option<Box<Node<K, V>>>,
+    root: Option<Node<K, V>>,
     len: usize,
     alloc: Global,
 }
@@ -65,15 +65,15 @@ impl<K: Ord, V> Model for BTreeMap<K, V> {
     ghost use borrow.Follows.Maybe.{bare};
     ghost use Rattle.fc_base.specs.Ascending.{IsAscending};
     ghost use Rattle.fc_tree_node.specs.contracts.node.Node as node;
-    ghost use Rattle.fc_map.specs.Entries.{Map, entries, root_of, IsSoundMap};
+    ghost use Rattle.fc_map.specs.Entries.{Map, entries, IsSoundMap};
 
     ghost Value = { Map K V };
 
     ghost coded = { coded_option ((node.the_row (bare K K.code) (bare V V.code)).coded) };
 
-    ghost view = { λ m. root_of m.root };
+    ghost view = { λ m. m.root };
 
-    ghost invariant = { λ m. IsAscending K.cmp (entries (root_of m.root)) × IsSoundMap (root_of m.root) × (m.len ≡ length (entries (root_of m.root))) };
+    ghost invariant = { λ m. IsAscending K.cmp (entries m.root) × IsSoundMap m.root × (m.len ≡ length (entries m.root)) };
 }
 
 impl<K: Ord, V> BTreeMap<K, V> {

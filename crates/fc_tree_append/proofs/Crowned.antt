@@ -16,17 +16,17 @@ use Rattle.fc_tree_append.proofs.HungFacts.{root_bordered}
 
 module _ {K V : Type 0} where
   -- the root and its two children
-  pub record IsCrowned (h : ℕ) (root left : Node K V) (up : K × V) (right : Box (Node K V) Global) : Type 0 where
+  pub record IsCrowned (h : ℕ) (root left : Node K V) (up : K × V) (right : Node K V) : Type 0 where
     pub own : own_pairs root ≡ up ∷ []
-    pub children : children_of root ≡ left ∷ right.value ∷ []
+    pub children : children_of root ≡ left ∷ right ∷ []
     pub first : IsLevelled h left
-    pub second : IsLevelled h right.value
+    pub second : IsLevelled h right
 
-  module _ (h : ℕ) (root left : Node K V) (up : K × V) (right : Box (Node K V) Global) (r : IsCrowned h root left up right) where
+  module _ (h : ℕ) (root left : Node K V) (up : K × V) (right : Node K V) (r : IsCrowned h root left up right) where
     pub crowned_right : min_len ≤ length (own_pairs left) → IsBordered Right (suc h) root
-    crowned_right m = root_bordered Right h root left up right r.own r.children ((m, r.first), levelled_bordered Right h right.value r.second)
+    crowned_right m = root_bordered Right h root left up right r.own r.children ((m, r.first), levelled_bordered Right h right r.second)
 
-    pub crowned_left : min_len ≤ length (own_pairs right.value) → IsBordered Left (suc h) root
+    pub crowned_left : min_len ≤ length (own_pairs right) → IsBordered Left (suc h) root
     crowned_left m = root_bordered Left h root left up right r.own r.children (levelled_bordered Left h left r.first, (m, r.second))
 
     pub crowned_inner : IsInner root
@@ -35,24 +35,24 @@ module _ {K V : Type 0} where
     first_is : child_at root 0 ≡ left
     first_is = ap (λ cs. get_or cs 0 root) r.children
 
-    second_is : child_at root 1 ≡ right.value
+    second_is : child_at root 1 ≡ right
     second_is = ap (λ cs. get_or cs 1 root) r.children
 
     pub crowned_alike : AreAlike (child_at root 0) (child_at root 1)
-    crowned_alike = rw (first_is, second_is) (sides_alike Right h left right.value r.first (levelled_bordered Right h right.value r.second))
+    crowned_alike = rw (first_is, second_is) (sides_alike Right h left right r.first (levelled_bordered Right h right r.second))
 
-    pub crowned_room : length (own_pairs left) + length (own_pairs right.value) < capacity → length (own_pairs (child_at root 0)) + length (own_pairs (child_at root 1)) + 1 ≤ capacity
+    pub crowned_room : length (own_pairs left) + length (own_pairs right) < capacity → length (own_pairs (child_at root 0)) + length (own_pairs (child_at root 1)) + 1 ≤ capacity
     crowned_room m = rw (first_is, second_is) (omega arith)
 
     -- where the two become one node
-    pub merged_right : (new : Node K V) → length (own_pairs left) + length (own_pairs right.value) < capacity → IsMerged 0 root new → IsBordered Right (suc h) new
+    pub merged_right : (new : Node K V) → length (own_pairs left) + length (own_pairs right) < capacity → IsMerged 0 root new → IsBordered Right (suc h) new
     merged_right new m g =
         let none : length (own_pairs new) ≡ 0 = ap length g.pairs ∙ ap (λ ps. length (remove ps 0)) r.own in
         let one : children_of new ≡ g.whole ∷ [] = g.children ∙ ap (λ cs. slice_set (remove cs 1) 0 g.whole) r.children in
         let n : length (children_of new) ≡ 1 = ap length one in
-        let own : length (own_pairs g.whole) ≡ length (own_pairs left) + (length (own_pairs right.value) + 1) = ap length (g.own up ∙ ap (λ n. own_pairs n ++ get_or (own_pairs root) 0 up ∷ own_pairs (child_at root 1)) first_is ∙ ap (λ n. own_pairs left ++ get_or (own_pairs root) 0 up ∷ own_pairs n) second_is) ∙ length-append (own_pairs left) _ ∙ omega arith in
+        let own : length (own_pairs g.whole) ≡ length (own_pairs left) + (length (own_pairs right) + 1) = ap length (g.own up ∙ ap (λ n. own_pairs n ++ get_or (own_pairs root) 0 up ∷ own_pairs (child_at root 1)) first_is ∙ ap (λ n. own_pairs left ++ get_or (own_pairs root) 0 up ∷ own_pairs n) second_is) ∙ length-append (own_pairs left) _ ∙ omega arith in
         let below = g.below ∙ ap (λ n. children_of n ++ children_of (child_at root 1)) first_is ∙ ap (λ n. children_of left ++ children_of n) second_is in
-        let whole = side_whole Right h left right.value g.whole r.first (levelled_bordered Right h right.value r.second) below (subst (λ n. AreAlike n g.whole) first_is g.alike) (omega arith) in
+        let whole = side_whole Right h left right g.whole r.first (levelled_bordered Right h right r.second) below (subst (λ n. AreAlike n g.whole) first_is g.alike) (omega arith) in
         (omega arith, omega arith, rw one whole)
 
   -- a tree of at most 2^64 - 1 pairs is not too high

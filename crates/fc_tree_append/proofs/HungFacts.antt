@@ -91,15 +91,15 @@ module _ {K V : Type 0} where
   some_child n i = let e : length (children_of n) ≡ length (own_pairs n) + 1 = i in omega arith
 
   -- such children in a node, or in the two that it was halved into
-  hung_of : (s : Border) (g : ℕ) (new : Node K V) (t : Split K V) → AreBordered s g (children_after new t) → IsInner new → IfSome t (λ x. IsInner x.1.value) → MatchOption t (length (own_pairs new) ≤ capacity) (λ x. IsHalved new × IsHalved x.1.value) → IsHung s (suc g) new t
+  hung_of : (s : Border) (g : ℕ) (new : Node K V) (t : Split K V) → AreBordered s g (children_after new t) → IsInner new → IfSome t (λ x. IsInner x.1) → MatchOption t (length (own_pairs new) ≤ capacity) (λ x. IsHalved new × IsHalved x.1) → IsHung s (suc g) new t
   hung_of s g new None a i j m = bordered_of s g new m i a
   hung_of Left g new (Some (up, r)) a i j m =
-      let t = first_split (IsLeftBordered g) (IsSound g) (children_of new) (children_of r.value) (some_child new i) a in
+      let t = first_split (IsLeftBordered g) (IsSound g) (children_of new) (children_of r) (some_child new i) a in
       let x = m.0.1 in
       let y = m.1.1 in
       ((omega arith, i, t.0), (m.1.0, (omega arith, j, t.1)))
   hung_of Right g new (Some (up, r)) a i j m =
-      let t = last_split (IsRightBordered g) (IsSound g) (children_of new) (children_of r.value) (some_child r.value j) a in
+      let t = last_split (IsRightBordered g) (IsSound g) (children_of new) (children_of r) (some_child r j) a in
       let x = m.0.1 in
       let y = m.1.1 in
       ((m.0.0, (omega arith, i, t.0)), (omega arith, j, t.1))
@@ -122,7 +122,7 @@ module _ {K V : Type 0} where
         (length_take i cs (omega arith) ∙ on.place ∙ sym (place_kept s old mid m.same)) (all_take (IsSound g) i cs on.levels.2) b (all_drop (IsSound g) (suc i) cs on.levels.2)
 
     -- the same once it has taken the pair and the node that the child has handed out
-    pub put_pairs : (p : K × V) (other : List (K × V)) (new r : Node K V) (t : Split K V) (up : K × V) → own_pairs_after new t ≡ insert (own_pairs mid) i up → children_after new t ≡ insert (children_of mid) (i + 1) r → IsInner new → IfSome t (λ x. IsInner x.1.value)
+    pub put_pairs : (p : K × V) (other : List (K × V)) (new r : Node K V) (t : Split K V) (up : K × V) → own_pairs_after new t ≡ insert (own_pairs mid) i up → children_after new t ≡ insert (children_of mid) (i + 1) r → IsInner new → IfSome t (λ x. IsInner x.1)
         → pairs_of c ++ up ∷ pairs_of r ≡ beside s (pairs_of (child_at old i)) p other → spread new t ≡ beside s (pairs_of old) p other
     put_pairs p other new r t up q f h k e =
         split_pairs old i on.le on.levels.1 mid c new t up r m q f h k ∙ ap (λ zs. before_child old i ++ (zs ++ after_child old i)) e
@@ -133,20 +133,20 @@ module _ {K V : Type 0} where
     around_outer Left e = ap (λ k. take k (children_of old)) e
     around_outer Right e = let q : i ≡ length (own_pairs old) = e in let n : length (children_of old) ≡ length (own_pairs old) + 1 = on.levels.1 in drop_all (children_of old) (suc i) (omega arith)
 
-    pub put_levels : (new : Node K V) (r : Box (Node K V) Global) (t : Split K V) (up : K × V) → IsHung s g c (Some (up, r)) → children_after new t ≡ insert (children_of mid) (i + 1) r.value → IsInner new → IfSome t (λ x. IsInner x.1.value)
-        → MatchOption t (length (own_pairs new) ≤ capacity) (λ x. IsHalved new × IsHalved x.1.value) → IsHung s (suc g) new t
+    pub put_levels : (new : Node K V) (r : Node K V) (t : Split K V) (up : K × V) → IsHung s g c (Some (up, r)) → children_after new t ≡ insert (children_of mid) (i + 1) r → IsInner new → IfSome t (λ x. IsInner x.1)
+        → MatchOption t (length (own_pairs new) ≤ capacity) (λ x. IsHalved new × IsHalved x.1) → IsHung s (suc g) new t
     put_levels new r t up u f h k size =
         let cs = children_of old in
-        let is = f ∙ ap (λ zs. insert zs (i + 1) r.value) m.child ∙ set_put cs i c r.value on.there in
-        hung_of s g new t (subst (AreBordered s g) (sym is) (halves_among s g c r.value (take i cs) (drop (suc i) cs) (around_outer s on.place) (all_take (IsSound g) i cs on.levels.2) (all_drop (IsSound g) (suc i) cs on.levels.2) u)) h k size
+        let is = f ∙ ap (λ zs. insert zs (i + 1) r) m.child ∙ set_put cs i c r on.there in
+        hung_of s g new t (subst (AreBordered s g) (sym is) (halves_among s g c r (take i cs) (drop (suc i) cs) (around_outer s on.place) (all_take (IsSound g) i cs on.levels.2) (all_drop (IsSound g) (suc i) cs on.levels.2) u)) h k size
 
   -- a new root above the two
-  pub root_bordered : (s : Border) (g : ℕ) (root left : Node K V) (up : K × V) (right : Box (Node K V) Global) → own_pairs root ≡ up ∷ [] → children_of root ≡ left ∷ right.value ∷ [] → IsHung s g left (Some (up, right)) → IsBordered s (suc g) root
+  pub root_bordered : (s : Border) (g : ℕ) (root left : Node K V) (up : K × V) (right : Node K V) → own_pairs root ≡ up ∷ [] → children_of root ≡ left ∷ right ∷ [] → IsHung s g left (Some (up, right)) → IsBordered s (suc g) root
   root_bordered s g root left up right e f h =
       let n : length (own_pairs root) ≡ 1 = ap length e in
       let k : length (children_of root) ≡ 2 = ap length f in
       bordered_of s g root (omega arith) (omega arith) (subst (AreBordered s g) (sym f) (two s h))
     where
-      two : (s : Border) → AreHalves s g left right.value → AreBordered s g (left ∷ right.value ∷ [])
+      two : (s : Border) → AreHalves s g left right → AreBordered s g (left ∷ right ∷ [])
       two Left h = (h.0, (h.1, tt))
       two Right h = h

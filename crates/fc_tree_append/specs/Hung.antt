@@ -27,4 +27,4 @@ module _ {K V : Type 0} where
   -- The node is sound but for the border on that side, with the node that it handed out on its right, if there is one.
   abbrev pub IsHung : Border → ℕ → Node K V → Split K V → Type 0
   IsHung side h n None = IsBordered side h n
-  IsHung side h n (Some (up, right)) = AreHalves side h n right.value
+  IsHung side h n (Some (up, right)) = AreHalves side h n right

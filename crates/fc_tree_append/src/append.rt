@@ -3,7 +3,7 @@ ghost use Rattle.std.specs.Prelude.{◌≡◌, ◌+◌, ◌<◌, ◌≤◌, ◌�
 ghost use Rattle.fc_base.specs.Ascending.{IsAscending};
 ghost use Rattle.fc_base.specs.Growth.{MayAppendRefuse};
 ghost use Rattle.fc_base.specs.Joined.{joined};
-ghost use Rattle.fc_tree_node.specs.Tree.{entries, root_of, IsSoundMap};
+ghost use Rattle.fc_tree_node.specs.Tree.{entries, IsSoundMap};
 
 use crate::join::try_join;
 use crate::merge::merge;
@@ -24,27 +24,27 @@ use std::mem;
 /// refused: all nodes are made first. Both are then as before.
 pub fn try_append<K: Ord + Drop, V: Drop>(
     alloc: Global,
-    ours: &mut Option<Box<Node<K, V>>>,
+    ours: &mut Option<Node<K, V>>,
     our_len: usize,
-    theirs: &mut Option<Box<Node<K, V>>>,
+    theirs: &mut Option<Node<K, V>>,
     their_len: usize,
     count: &mut Count,
 ) -> Result<usize, TryReserveError>
-    requires sound { IsSoundMap (root_of ours.old) × IsSoundMap (root_of theirs.old) }
-    requires order { IsAscending K.cmp (entries (root_of ours.old)) × IsAscending K.cmp (entries (root_of theirs.old)) }
-    requires lens { (our_len ≡ length (entries (root_of ours.old))) × (their_len ≡ length (entries (root_of theirs.old))) }
-    ensures joined { IfOk result (λ len. entries (root_of ours.new) ≡ joined K.cmp (entries (root_of ours.old)) (entries (root_of theirs.old))) }
-    ensures emptied { IfOk result (λ len. entries (root_of theirs.new) ≡ []) }
-    ensures len { IfOk result (λ len. len ≡ length (entries (root_of ours.new))) }
-    ensures sound { IsSoundMap (root_of ours.new) × IsSoundMap (root_of theirs.new) }
-    ensures error { IfErr result (λ e. MayAppendRefuse (length (entries (root_of ours.old))) (length (entries (root_of theirs.old))) e) }
+    requires sound { IsSoundMap ours.old × IsSoundMap theirs.old }
+    requires order { IsAscending K.cmp (entries ours.old) × IsAscending K.cmp (entries theirs.old) }
+    requires lens { (our_len ≡ length (entries ours.old)) × (their_len ≡ length (entries theirs.old)) }
+    ensures joined { IfOk result (λ len. entries ours.new ≡ joined K.cmp (entries ours.old) (entries theirs.old)) }
+    ensures emptied { IfOk result (λ len. entries theirs.new ≡ []) }
+    ensures len { IfOk result (λ len. len ≡ length (entries ours.new)) }
+    ensures sound { IsSoundMap ours.new × IsSoundMap theirs.new }
+    ensures error { IfErr result (λ e. MayAppendRefuse (length (entries ours.old)) (length (entries theirs.old)) e) }
     ensures unchanged { OnErr result ((ours.new ≡ ours.old) × (theirs.new ≡ theirs.old)) }
     ensures full { 0 < our_len → 0 < their_len → usize.MAX < our_len + their_len → IsErr result }
     ensures comparisons { count.new.comparisons ≤ count.old.comparisons + (our_len + their_len) }
     ensures none { (our_len ≡ 0) ⊎ (their_len ≡ 0) → count.new.comparisons ≡ count.old.comparisons }
     ensures grown { count.old.comparisons ≤ count.new.comparisons }
     ensures counted { IfOk result (λ _. 0 < our_len → 0 < their_len → count.old.comparisons < count.new.comparisons) }
-    ensures merged { IfOk result (λ _. ¬ IsAscending K.cmp (entries (root_of ours.old) ++ entries (root_of theirs.old)) → count.old.comparisons + min our_len their_len ≤ count.new.comparisons) }
+    ensures merged { IfOk result (λ _. ¬ IsAscending K.cmp (entries ours.old ++ entries theirs.old) → count.old.comparisons + min our_len their_len ≤ count.new.comparisons) }
     ensures moves { count.new.moves ≡ count.old.moves }
 {
     if their_len == 0 {
@@ -69,14 +69,14 @@ pub fn try_append<K: Ord + Drop, V: Drop>(
 
 // Whether all keys of `theirs` lie beyond all of `ours`: the last of the one and the first of the other are compared.
 fn is_beyond<K: Ord, V>(
-    ours: &Option<Box<Node<K, V>>>,
-    theirs: &Option<Box<Node<K, V>>>,
+    ours: &Option<Node<K, V>>,
+    theirs: &Option<Node<K, V>>,
     count: &mut Count,
 ) -> bool
-    requires sound { IsSoundMap (root_of ours.now) × IsSoundMap (root_of theirs.now) }
-    requires order { IsAscending K.cmp (entries (root_of ours.now)) × IsAscending K.cmp (entries (root_of theirs.now)) }
-    requires some { (0 < length (entries (root_of ours.now))) × (0 < length (entries (root_of theirs.now))) }
-    ensures beyond { IsTrue result → IsAscending K.cmp (entries (root_of ours.now) ++ entries (root_of theirs.now)) }
+    requires sound { IsSoundMap ours.now × IsSoundMap theirs.now }
+    requires order { IsAscending K.cmp (entries ours.now) × IsAscending K.cmp (entries theirs.now) }
+    requires some { (0 < length (entries ours.now)) × (0 < length (entries theirs.now)) }
+    ensures beyond { IsTrue result → IsAscending K.cmp (entries ours.now ++ entries theirs.now) }
     ensures comparisons { count.new.comparisons ≡ count.old.comparisons + 1 }
     ensures moves { count.new.moves ≡ count.old.moves }
 {

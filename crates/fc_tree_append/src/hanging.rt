@@ -2,7 +2,7 @@
 ghost use Rattle.std.specs.Prelude.{◌≡◌, ℕ, suc, ◌+◌, ◌≤◌, length};
 ghost use Rattle.fc_base.specs.Sizes.{min_len};
 ghost use Rattle.fc_tree_node.specs.Node.{own_pairs, pairs_of, IsLevelled};
-ghost use Rattle.fc_tree_node.specs.Tree.{entries, root_of, IsSoundWithin};
+ghost use Rattle.fc_tree_node.specs.Tree.{entries, IsSoundWithin};
 ghost use Rattle.fc_tree_insertion.specs.Insertion.{spread};
 ghost use Rattle.fc_tree_append.specs.Hung.{beside, IsHung, IsPlacedBeside};
 
@@ -16,18 +16,18 @@ use std::mem;
 /// Hangs the tree at `other` on one border of the tree at `root`, whose leaves lie `depth` levels deeper, with `pair` between the
 /// two. It compares nothing, and what it takes no border for stays as it is. `other` may hold too few pairs for a node, none too.
 pub(crate) fn hang<K: Drop, V: Drop>(
-    root: Box<Node<K, V>>,
+    root: Node<K, V>,
     side: Border,
     depth: usize,
     pair: (K, V),
-    other: Box<Node<K, V>>,
+    other: Node<K, V>,
     spares: Spares<K, V>,
-) -> Option<Box<Node<K, V>>>
-    requires levels { (h : ℕ) × IsLevelled (depth + h) root.value × IsLevelled h other.value }
-    requires some { depth ≡ 0 → min_len ≤ length (own_pairs root.value) }
+) -> Option<Node<K, V>>
+    requires levels { (h : ℕ) × IsLevelled (depth + h) root × IsLevelled h other }
+    requires some { depth ≡ 0 → min_len ≤ length (own_pairs root) }
     requires spares { depth + 1 ≤ spares }
-    ensures pairs { entries (root_of result) ≡ beside side (pairs_of root.value) pair (pairs_of other.value) }
-    ensures levels { (h : ℕ) → IsLevelled (depth + h) root.value → IsLevelled h other.value → IsSoundWithin (suc (depth + h)) (root_of result) }
+    ensures pairs { entries result ≡ beside side (pairs_of root) pair (pairs_of other) }
+    ensures levels { (h : ℕ) → IsLevelled (depth + h) root → IsLevelled h other → IsSoundWithin (suc (depth + h)) result }
 {
     let mut root = root;
     let mut spares = spares;
@@ -48,14 +48,14 @@ fn hang_below<K: Drop, V: Drop>(
     side: Border,
     depth: usize,
     pair: (K, V),
-    other: Box<Node<K, V>>,
+    other: Node<K, V>,
     spares: &mut Spares<K, V>,
-) -> Option<((K, V), Box<Node<K, V>>)>
-    requires levels { (h : ℕ) × IsLevelled (depth + h) node.old × IsLevelled h other.value }
+) -> Option<((K, V), Node<K, V>)>
+    requires levels { (h : ℕ) × IsLevelled (depth + h) node.old × IsLevelled h other }
     requires some { depth ≡ 0 → min_len ≤ length (own_pairs node.old) }
     requires spares { depth ≤ spares.old }
-    ensures pairs { spread node.new result ≡ beside side (pairs_of node.old) pair (pairs_of other.value) }
-    ensures levels { (h : ℕ) → IsLevelled (depth + h) node.old → IsLevelled h other.value → IsHung side (depth + h) node.new result }
+    ensures pairs { spread node.new result ≡ beside side (pairs_of node.old) pair (pairs_of other) }
+    ensures levels { (h : ℕ) → IsLevelled (depth + h) node.old → IsLevelled h other → IsHung side (depth + h) node.new result }
     ensures spares { spares.old ≤ spares.new + depth }
 {
     if depth == 0 {
@@ -79,13 +79,13 @@ fn hang_below<K: Drop, V: Drop>(
 fn put_beside<K: Drop, V: Drop>(
     node: &mut Node<K, V>,
     side: Border,
-    other: Box<Node<K, V>>,
-) -> Box<Node<K, V>>
-    ensures { IsPlacedBeside side node.old other.value node.new result.value }
+    other: Node<K, V>,
+) -> Node<K, V>
+    ensures { IsPlacedBeside side node.old other node.new result }
 {
     let mut right = other;
     match side {
-        Border::Left => mem::swap(node, &mut *right),
+        Border::Left => mem::swap(node, &mut right),
         Border::Right => {}
     }
     right

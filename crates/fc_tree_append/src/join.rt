@@ -2,7 +2,7 @@
 ghost use Rattle.std.specs.Prelude.{◌≡◌, ℕ, suc, ◌+◌, ◌<◌, ◌≤◌, ◌∷◌, ◌++◌, length, None, IfOk, IfErr};
 ghost use Rattle.fc_base.specs.Sizes.{most_levels, most_height};
 ghost use Rattle.fc_tree_node.specs.Node.{pairs_of, IsBlankInner, IsLevelled, IsSoundRoot, IsTree};
-ghost use Rattle.fc_tree_node.specs.Tree.{entries, root_of, IsSoundMap, IsSoundWithin};
+ghost use Rattle.fc_tree_node.specs.Tree.{entries, IsSoundMap, IsSoundWithin};
 
 use crate::hanging::hang;
 use fc_base::{Count, TryReserveError};
@@ -22,15 +22,15 @@ use std::alloc::Global;
 /// `AllocError` if a node is refused: one is made for each of these levels, and one for a new root. Both are then as before.
 pub(crate) fn try_join<K: Drop, V: Drop>(
     alloc: Global,
-    ours: &mut Option<Box<Node<K, V>>>,
-    theirs: &mut Option<Box<Node<K, V>>>,
+    ours: &mut Option<Node<K, V>>,
+    theirs: &mut Option<Node<K, V>>,
 ) -> Result<(), TryReserveError>
-    requires sound { IsSoundMap (root_of ours.old) × IsSoundMap (root_of theirs.old) }
-    requires some { (0 < length (entries (root_of ours.old))) × (0 < length (entries (root_of theirs.old))) }
-    requires fits { length (entries (root_of ours.old)) + length (entries (root_of theirs.old)) ≤ usize.MAX }
-    ensures pairs { IfOk result (λ _. entries (root_of ours.new) ≡ entries (root_of ours.old) ++ entries (root_of theirs.old)) }
+    requires sound { IsSoundMap ours.old × IsSoundMap theirs.old }
+    requires some { (0 < length (entries ours.old)) × (0 < length (entries theirs.old)) }
+    requires fits { length (entries ours.old) + length (entries theirs.old) ≤ usize.MAX }
+    ensures pairs { IfOk result (λ _. entries ours.new ≡ entries ours.old ++ entries theirs.old) }
     ensures emptied { IfOk result (λ _. theirs.new ≡ None) }
-    ensures sound { IfOk result (λ _. IsSoundMap (root_of ours.new)) }
+    ensures sound { IfOk result (λ _. IsSoundMap ours.new) }
     ensures error { IfErr result (λ e. (e ≡ TryReserveError.AllocError) × (ours.new ≡ ours.old) × (theirs.new ≡ theirs.old)) }
 {
     let Some(left) = &*ours else { unreachable!() };
@@ -62,15 +62,15 @@ fn height<K, V>(node: &Node<K, V>) -> usize
 
 // One tree of the pairs of two. The pair between them comes from the shorter one.
 fn join<K: Drop, V: Drop>(
-    left: Box<Node<K, V>>,
-    right: Box<Node<K, V>>,
+    left: Node<K, V>,
+    right: Node<K, V>,
     spares: Spares<K, V>,
-) -> Option<Box<Node<K, V>>>
-    requires left { (g : ℕ) × (g ≤ most_height) × IsSoundRoot g left.value }
-    requires right { (h : ℕ) × (h ≤ most_height) × IsSoundRoot h right.value }
-    requires spares { (g h : ℕ) → IsSoundRoot g left.value → IsSoundRoot h right.value → (g + 1 ≤ spares + h) × (h + 1 ≤ spares + g) }
-    ensures pairs { entries (root_of result) ≡ pairs_of left.value ++ pairs_of right.value }
-    ensures levels { IsSoundWithin most_levels (root_of result) }
+) -> Option<Node<K, V>>
+    requires left { (g : ℕ) × (g ≤ most_height) × IsSoundRoot g left }
+    requires right { (h : ℕ) × (h ≤ most_height) × IsSoundRoot h right }
+    requires spares { (g h : ℕ) → IsSoundRoot g left → IsSoundRoot h right → (g + 1 ≤ spares + h) × (h + 1 ≤ spares + g) }
+    ensures pairs { entries result ≡ pairs_of left ++ pairs_of right }
+    ensures levels { IsSoundWithin most_levels result }
 {
     let mut left = left;
     let mut right = right;
@@ -90,15 +90,15 @@ fn join<K: Drop, V: Drop>(
 
 // A tree of two others of one height, with the pair between them: both go below a new root, or become one node where they fit.
 fn crown<K: Drop, V: Drop>(
-    left: Box<Node<K, V>>,
+    left: Node<K, V>,
     pair: (K, V),
-    right: Box<Node<K, V>>,
-    blank: Box<Node<K, V>>,
-) -> Option<Box<Node<K, V>>>
-    requires levels { (h : ℕ) × IsLevelled h left.value × IsLevelled h right.value }
-    requires blank { IsBlankInner blank.value }
-    ensures pairs { entries (root_of result) ≡ pairs_of left.value ++ pair ∷ pairs_of right.value }
-    ensures levels { (h : ℕ) → IsLevelled h left.value → IsLevelled h right.value → IsSoundWithin (suc h) (root_of result) }
+    right: Node<K, V>,
+    blank: Node<K, V>,
+) -> Option<Node<K, V>>
+    requires levels { (h : ℕ) × IsLevelled h left × IsLevelled h right }
+    requires blank { IsBlankInner blank }
+    ensures pairs { entries result ≡ pairs_of left ++ pair ∷ pairs_of right }
+    ensures levels { (h : ℕ) → IsLevelled h left → IsLevelled h right → IsSoundWithin (suc h) result }
 {
     let count = &mut Count::new();
     let ours = left.len();

@@ -2,7 +2,7 @@
 ghost use Rattle.std.specs.Prelude.{◌≡◌, ◌+◌, ◌-◌, ◌<◌, ◌≤◌, [], ◌++◌, length, min};
 ghost use Rattle.fc_base.specs.Ascending.{IsAscending};
 ghost use Rattle.fc_base.specs.Joined.{joined};
-ghost use Rattle.fc_tree_node.specs.Tree.{entries, root_of, IsSoundMap};
+ghost use Rattle.fc_tree_node.specs.Tree.{entries, IsSoundMap};
 
 use fc_base::{Count, compare};
 use fc_tree_build::builder::Builder;
@@ -14,21 +14,21 @@ use std::cmp::Ordering;
 /// and ours is dropped. A key is compared once for each pair that is put in, until either tree has no more: never for the last one, and
 /// at least as often as the shorter has pairs.
 pub fn merge<K: Ord + Drop, V: Drop>(
-    ours: Option<Box<Node<K, V>>>,
-    theirs: Option<Box<Node<K, V>>>,
+    ours: Option<Node<K, V>>,
+    theirs: Option<Node<K, V>>,
     builder: Builder<K, V>,
     count: &mut Count,
-) -> (Option<Box<Node<K, V>>>, usize)
-    requires some { (0 < length (entries (root_of ours))) × (0 < length (entries (root_of theirs))) }
-    requires sound { IsSoundMap (root_of ours) × IsSoundMap (root_of theirs) }
-    requires order { IsAscending K.cmp (entries (root_of ours)) × IsAscending K.cmp (entries (root_of theirs)) }
+) -> (Option<Node<K, V>>, usize)
+    requires some { (0 < length (entries ours)) × (0 < length (entries theirs)) }
+    requires sound { IsSoundMap ours × IsSoundMap theirs }
+    requires order { IsAscending K.cmp (entries ours) × IsAscending K.cmp (entries theirs) }
     requires blank { builder.pairs ≡ [] }
-    requires room { length (entries (root_of ours)) + length (entries (root_of theirs)) ≤ builder.room }
-    ensures pairs { entries (root_of result.0) ≡ joined K.cmp (entries (root_of ours)) (entries (root_of theirs)) }
-    ensures sound { IsSoundMap (root_of result.0) }
-    ensures len { result.1 ≡ length (entries (root_of result.0)) }
-    ensures comparisons { count.new.comparisons < count.old.comparisons + (length (entries (root_of ours)) + length (entries (root_of theirs))) }
-    ensures least { count.old.comparisons + min (length (entries (root_of ours))) (length (entries (root_of theirs))) ≤ count.new.comparisons }
+    requires room { length (entries ours) + length (entries theirs) ≤ builder.room }
+    ensures pairs { entries result.0 ≡ joined K.cmp (entries ours) (entries theirs) }
+    ensures sound { IsSoundMap result.0 }
+    ensures len { result.1 ≡ length (entries result.0) }
+    ensures comparisons { count.new.comparisons < count.old.comparisons + (length (entries ours) + length (entries theirs)) }
+    ensures least { count.old.comparisons + min (length (entries ours)) (length (entries theirs)) ≤ count.new.comparisons }
     ensures moves { count.new.moves ≡ count.old.moves }
 {
     let mut builder = builder;

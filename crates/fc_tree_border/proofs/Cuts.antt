@@ -12,7 +12,7 @@ use Rattle.fc_tree_node.specs.Bordered.{FirstThen, IsLeftBordered, IsRightBorder
 use Rattle.fc_tree_node.specs.Path.{IsPath, before_gap, after_gap}
 use Rattle.fc_tree_node.specs.Place.{before_child, after_child, after_own, IsPlace, place_pair, before_pair, after_pair}
 use Rattle.fc_tree_node.specs.Siblings.{AreAlike}
-use Rattle.fc_tree_node.specs.Tree.{Map, entries, root_of, IsSoundMap, IsSoundWithin}
+use Rattle.fc_tree_node.specs.Tree.{Map, entries, IsSoundMap, IsSoundWithin}
 use Rattle.fc_tree_node.proofs.Lists.{take_nil, length_take, take_drop, all_front, all_back}
 use Rattle.fc_tree_node.proofs.Pairs.{pairs_is, leaf_pairs, leaf_children, child_below}
 use Rattle.fc_tree_node.proofs.Made.{IsChildSet, inner_length}
@@ -218,14 +218,14 @@ module _ {K V : Type 0} where
     before_on (j ∷ q) s = refl
 
     -- the two nodes that the cut goes on with, in their boxes
-    pub fork_child : (bs : List (Box (Node K V) Global)) (b : Box (Node K V) Global) (child : Node K V) → (out-Node K V left).children ≡ Some bs → b ≡ get_or bs step b → child ≡ b.value → child ≡ child_at left step
+    pub fork_child : (bs : List (Node K V)) (b : Node K V) (child : Node K V) → (out-Node K V left).children ≡ Some bs → b ≡ get_or bs step b → child ≡ b → child ≡ child_at left step
     fork_child bs b child e q v =
         let le = f.le in
         let k = inner_length left bs e f.left_inner in
         let o = ap length f.left_own ∙ length_take step (own_pairs n) le in
         boxed_child left 0 bs e step b child (omega arith) q v
 
-    pub fork_top : (bs : List (Box (Node K V) Global)) (b : Box (Node K V) Global) (other : Node K V) → (out-Node K V right).children ≡ Some bs → b ≡ get_or bs 0 b → other ≡ b.value → other ≡ f.top
+    pub fork_top : (bs : List (Node K V)) (b : Node K V) (other : Node K V) → (out-Node K V right).children ≡ Some bs → b ≡ get_or bs 0 b → other ≡ b → other ≡ f.top
     fork_top bs b other e q v =
         let k = inner_length right bs e f.right_inner in
         boxed_child right 0 bs e 0 b other (omega arith) q v ∙ ap (λ cs. get_or cs 0 right) f.right_children
@@ -282,8 +282,8 @@ module _ {K V : Type 0} where
   blank_leaf zero n top e b l = b
   blank_leaf (suc h) n top e b l = absurd (leaf_or_inner n e l.1)
 
-  pub blank_made : {E : Type 0} (n : Node K V) (made : Result (Box (Node K V) Global) E) → IsLeaf n → IfOk made (λ b. IsBlankLeaf b.value) → IfOk made (λ b. (h : ℕ) → IsLevelled h n → IsBlank h b.value)
-  blank_made n (Ok b) e i = λ h l. blank_leaf h n b.value e i l
+  pub blank_made : {E : Type 0} (n : Node K V) (made : Result (Node K V) E) → IsLeaf n → IfOk made (λ b. IsBlankLeaf b) → IfOk made (λ b. (h : ℕ) → IsLevelled h n → IsBlank h b)
+  blank_made n (Ok b) e i = λ h l. blank_leaf h n b e i l
   blank_made n (Err x) e i = i
 
   pub blank_above : (h : ℕ) (n top below child : Node K V) → (IsLeaf n → ⊥) → own_pairs top ≡ [] → children_of top ≡ below ∷ [] → child ≡ child_at n 0 → ((g : ℕ) → IsLevelled g child → IsBlank g below) → IsLevelled h n → IsBlank h top
@@ -307,5 +307,5 @@ module _ {K V : Type 0} where
       record { below = h; levels = b; lower = omega arith; there = omega arith }
 
   -- the root of a map
-  pub root_sound : (root : Option (Box (Node K V) Global)) (b : Box (Node K V) Global) → root ≡ Some b → IsSoundMap (root_of root) → (h : ℕ) × (h ≤ most_height) × IsSoundRoot h b.value
-  root_sound root b e s = subst (λ o. IsSoundMap (root_of o)) e s
+  pub root_sound : (root : Option (Node K V)) (b : Node K V) → root ≡ Some b → IsSoundMap root → (h : ℕ) × (h ≤ most_height) × IsSoundRoot h b
+  root_sound root b e s = subst (λ o. IsSoundMap o) e s

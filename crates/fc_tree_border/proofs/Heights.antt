@@ -17,20 +17,20 @@ above_first (x ∷ xs) = suc x
 
 module _ {K V : Type 0} where
   abbrev height_step : Node-F K V ℕ → ℕ
-  height_step f = above_first (map (λ b. b.value) (items_or_none f.children))
+  height_step f = above_first (map (λ b. b) (items_or_none f.children))
 
   -- the levels below the node, along its first children
   abbrev pub height_of : Node K V → ℕ
   height_of = fold-Node K V ℕ height_step
 
-  abbrev refilled : Box (Node K V) Global → Box ℕ Global
-  refilled d = record { ptr = d.ptr; alloc = d.alloc; value = height_of d.value }
+  abbrev refilled : Node K V → Box ℕ Global
+  refilled d = record { ptr = d.ptr; alloc = d.alloc; value = height_of d }
 
-  heights : (bs : List (Box (Node K V) Global)) → map (λ (b : Box ℕ Global). b.value) (map refilled bs) ≡ map height_of (boxed bs)
+  heights : (bs : List (Node K V)) → map (λ (b : Box ℕ Global). b) (map refilled bs) ≡ map height_of (boxed bs)
   heights [] = refl
-  heights (b ∷ bs) = ap (λ zs. height_of b.value ∷ zs) (heights bs)
+  heights (b ∷ bs) = ap (λ zs. height_of b ∷ zs) (heights bs)
 
-  folded : (ps : List (K × V)) (o : Option (List (Box (Node K V) Global))) → height_step (map-Node K V (Node K V) ℕ height_of (record { pairs = ps; children = o })) ≡ above_first (map height_of (boxed (items_or_none o)))
+  folded : (ps : List (K × V)) (o : Option (List (Node K V))) → height_step (map-Node K V (Node K V) ℕ height_of (record { pairs = ps; children = o })) ≡ above_first (map height_of (boxed (items_or_none o)))
   folded ps None = refl
   folded ps (Some bs) = ap above_first (heights bs)
 

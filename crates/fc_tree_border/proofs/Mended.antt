@@ -8,7 +8,7 @@ use Rattle.fc_tree_node.specs.declared.node.Node.{Node, out-Node}
 use Rattle.fc_tree_node.specs.Node.{items_or_none, own_pairs, children_of, child_at, boxed, pairs_of, IsLeaf, IsInner, IsLevelled, IsSound}
 use Rattle.fc_tree_node.specs.Bordered.{FirstThen, LastAfter, IsLeftBordered, IsRightBordered}
 use Rattle.fc_tree_node.specs.Siblings.{IsFormed}
-use Rattle.fc_tree_node.specs.Tree.{Map, entries, root_of, IsSoundWithin}
+use Rattle.fc_tree_node.specs.Tree.{Map, entries, IsSoundWithin}
 use Rattle.fc_tree_node.proofs.Formed.{inner_opened}
 use Rattle.fc_tree_node.specs.Place.{before_child, after_child}
 use Rattle.fc_tree_node.proofs.Lists.{length_take, take_drop, set_is, length_set, all_both}
@@ -35,7 +35,7 @@ module _ {K V : Type 0} where
   above_leaf s (suc h) n f b = record { below = h; height = refl; bordered = b }
 
   -- the node after it was stocked, with the child on its border in a box
-  pub record IsLent (s : Border) (h : ℕ) (mid child : Node K V) (bs : List (Box (Node K V) Global)) (i : ℕ) : Type 0 where
+  pub record IsLent (s : Border) (h : ℕ) (mid child : Node K V) (bs : List (Node K V)) (i : ℕ) : Type 0 where
     pub opened : IsOpened s h mid
     pub bounds : i < length bs
     pub place : i ≡ border_place s mid
@@ -43,7 +43,7 @@ module _ {K V : Type 0} where
     pub bordered : IsBordered s h child
     pub many : min_len + 1 ≤ length (own_pairs child)
 
-  pub lent_bounds : (s : Border) (h : ℕ) (old mid : Node K V) (bs : List (Box (Node K V) Global)) (i : ℕ) → (out-Node K V mid).children ≡ Some bs → IsStocked s h old mid → i ≡ border_place s mid → i < length bs
+  pub lent_bounds : (s : Border) (h : ℕ) (old mid : Node K V) (bs : List (Node K V)) (i : ℕ) → (out-Node K V mid).children ≡ Some bs → IsStocked s h old mid → i ≡ border_place s mid → i < length bs
   lent_bounds s h old mid bs i e st p =
       let o = border_opened s h mid st.0 in
       let there = o.there in
@@ -51,8 +51,8 @@ module _ {K V : Type 0} where
       let k = inner_length mid bs e o.inner in
       omega arith
 
-  pub lent : (s : Border) (h : ℕ) (old mid child : Node K V) (bs : List (Box (Node K V) Global)) (b : Box (Node K V) Global) (i : ℕ) → (out-Node K V mid).children ≡ Some bs → IsStocked s h old mid → i ≡ border_place s mid
-      → b ≡ get_or bs i b → child ≡ b.value → IsLent s h mid child bs i
+  pub lent : (s : Border) (h : ℕ) (old mid child : Node K V) (bs : List (Node K V)) (b : Node K V) (i : ℕ) → (out-Node K V mid).children ≡ Some bs → IsStocked s h old mid → i ≡ border_place s mid
+      → b ≡ get_or bs i b → child ≡ b → IsLent s h mid child bs i
   lent s h old mid child bs b i e st p q f =
       let o = border_opened s h mid st.0 in
       let k = lent_bounds s h old mid bs i e st p in
@@ -69,7 +69,7 @@ module _ {K V : Type 0} where
       (length_take i (children_of mid) (omega arith) ∙ sym (length_take i (own_pairs mid) le))
       ∙ ap (λ zs. before_child mid i ++ (zs ++ after_child mid i)) (e ∙ ap pairs_of ci) ∙ sym (inner_gap mid i inner le)
 
-  pub mended_levels : (s : Border) (h g : ℕ) (old mid new child c : Node K V) (bs : List (Box (Node K V) Global)) (i : ℕ) → h ≡ suc g → IsStocked s g old mid → IsLent s g mid child bs i → IsChildSet mid new i c → IsShrunk g child c → IsShrunk h old new
+  pub mended_levels : (s : Border) (h g : ℕ) (old mid new child c : Node K V) (bs : List (Node K V)) (i : ℕ) → h ≡ suc g → IsStocked s g old mid → IsLent s g mid child bs i → IsChildSet mid new i c → IsShrunk g child c → IsShrunk h old new
   mended_levels s h g old mid new child c bs i e st l m sh =
       let many = l.many in
       let kept = sh.1.1 in
@@ -98,12 +98,12 @@ module _ {K V : Type 0} where
   levelled_formed (suc h) n l = inr l.1
 
   -- the only child of a root without pairs
-  pub only_one : (root : Node K V) (bs : List (Box (Node K V) Global)) (b : Box (Node K V) Global) → (out-Node K V root).children ≡ Some bs → IsFormed root → length (own_pairs root) ≡ 0 → b ≡ get_or bs 0 b → children_of root ≡ b.value ∷ []
+  pub only_one : (root : Node K V) (bs : List (Node K V)) (b : Node K V) → (out-Node K V root).children ≡ Some bs → IsFormed root → length (own_pairs root) ≡ 0 → b ≡ get_or bs 0 b → children_of root ≡ b ∷ []
   only_one root bs b e formed h f = children_in root bs e ∙ single bs b (inner_length root bs e (inner_opened root bs e formed) ∙ ap (λ k. k + 1) h) f
     where
-      single : (bs : List (Box (Node K V) Global)) (b : Box (Node K V) Global) → length bs ≡ 1 → b ≡ get_or bs 0 b → boxed bs ≡ b.value ∷ []
+      single : (bs : List (Node K V)) (b : Node K V) → length bs ≡ 1 → b ≡ get_or bs 0 b → boxed bs ≡ b ∷ []
       single [] b e f = absurd (omega arith)
-      single (x ∷ []) b e f = ap (λ y. y.value ∷ []) (sym f)
+      single (x ∷ []) b e f = ap (λ y. y ∷ []) (sym f)
       single (x ∷ y ∷ bs) b e f = absurd (omega arith)
 
   no_pairs : (xs : List (K × V)) → length xs ≡ 0 → xs ≡ []
@@ -115,11 +115,11 @@ module _ {K V : Type 0} where
       sym (pairs_is root ∙ ap (λ ps. weave (map pairs_of (children_of root)) ps) (no_pairs (own_pairs root) h) ∙ ap (λ cs. weave (map pairs_of cs) []) e ∙ append-nil (pairs_of c))
 
   -- what takes the place of a root without pairs holds the same
-  pub heir_pairs : (heir : Option (Box (Node K V) Global)) (root : Node K V) → length (own_pairs root) ≡ 0 → MatchOption heir (IsLeaf root) (λ c. children_of root ≡ c.value ∷ []) → entries (root_of heir) ≡ pairs_of root
+  pub heir_pairs : (heir : Option (Node K V)) (root : Node K V) → length (own_pairs root) ≡ 0 → MatchOption heir (IsLeaf root) (λ c. children_of root ≡ c ∷ []) → entries heir ≡ pairs_of root
   heir_pairs None root h l = sym (leaf_pairs root l ∙ no_pairs (own_pairs root) h)
-  heir_pairs (Some c) root h e = only_pairs root c.value h e
+  heir_pairs (Some c) root h e = only_pairs root c h e
 
-  pub heir_levels : (heir : Option (Box (Node K V) Global)) (h : ℕ) (root : Node K V) → MatchOption heir (IsLeaf root) (λ c. children_of root ≡ c.value ∷ []) → IsLevelled h root → IsSoundWithin h (root_of heir)
+  pub heir_levels : (heir : Option (Node K V)) (h : ℕ) (root : Node K V) → MatchOption heir (IsLeaf root) (λ c. children_of root ≡ c ∷ []) → IsLevelled h root → IsSoundWithin h heir
   heir_levels None h root e l = tt
   heir_levels (Some c) zero root e l = absurd (let z : length (children_of root) ≡ 0 = ap length (leaf_children root l.1) in let o : length (children_of root) ≡ 1 = ap length e in omega arith)
   heir_levels (Some c) (suc h) root e l =

@@ -1,15 +1,15 @@
 //! How many pairs a tree holds.
 ghost use Rattle.std.specs.Prelude.{◌≡◌, ℕ, ◌<◌, ◌≤◌, ◌^◌, length};
 ghost use Rattle.fc_tree_node.specs.Node.{pairs_of, IsLevelled};
-ghost use Rattle.fc_tree_node.specs.Tree.{entries, root_of, IsSoundMap};
+ghost use Rattle.fc_tree_node.specs.Tree.{entries, IsSoundMap};
 
 use fc_tree_node::node::Node;
 
 /// How many pairs there are in a tree, if there is one, by a walk over its nodes.
-pub fn count_in<K, V>(root: &Option<Box<Node<K, V>>>) -> usize
-    requires sound { IsSoundMap (root_of root.now) }
-    requires fits { length (entries (root_of root.now)) ≤ usize.MAX }
-    ensures { result ≡ length (entries (root_of root.now)) }
+pub fn count_in<K, V>(root: &Option<Node<K, V>>) -> usize
+    requires sound { IsSoundMap root.now }
+    requires fits { length (entries root.now) ≤ usize.MAX }
+    ensures { result ≡ length (entries root.now) }
 {
     match root {
         None => 0,

@@ -3,7 +3,7 @@ ghost use Rattle.std.specs.Prelude.{◌≡◌, ℕ, ◌+◌, ◌*◌, ◌<◌, �
 ghost use Rattle.fc_tree_node.specs.Node.{own_pairs, children_of, pairs_of, IsLevelled, IsSoundRoot};
 ghost use Rattle.fc_tree_node.specs.Path.{IsPath, after_gap};
 ghost use Rattle.fc_tree_node.specs.Place.{before_pair};
-ghost use Rattle.fc_tree_node.specs.Tree.{entries, root_of, IsSoundMap, IsSoundWithin};
+ghost use Rattle.fc_tree_node.specs.Tree.{entries, IsSoundMap, IsSoundWithin};
 ghost use Rattle.fc_tree_node.specs.Bordered.{IsLeftBordered, IsRightBordered};
 ghost use Rattle.fc_tree_border.specs.Cut.{IsBlank, IsCutPath, IsCutPathIn, IsCutInTwo};
 
@@ -20,20 +20,20 @@ use std::alloc::Global;
 /// As `try_split`.
 pub fn try_split_counted<K: Drop, V: Drop>(
     alloc: Global,
-    root: &mut Option<Box<Node<K, V>>>,
+    root: &mut Option<Node<K, V>>,
     len: usize,
     path: &[u8],
-) -> Result<(Option<Box<Node<K, V>>>, usize), TryReserveError>
-    requires sound { IsSoundMap (root_of root.old) }
-    requires path { IsCutPathIn path.now (root_of root.old) }
-    requires len { len ≡ length (entries (root_of root.old)) }
-    ensures cut { IfOk result (λ right. IsCutInTwo path.now (root_of root.old) (root_of root.new) (root_of right.0)) }
+) -> Result<(Option<Node<K, V>>, usize), TryReserveError>
+    requires sound { IsSoundMap root.old }
+    requires path { IsCutPathIn path.now root.old }
+    requires len { len ≡ length (entries root.old) }
+    ensures cut { IfOk result (λ right. IsCutInTwo path.now root.old root.new right.0) }
 
     // The two parts are the whole, and each has the pairs that it is said to have.
-    ensures parts { IfOk result (λ right. entries (root_of root.new) ++ entries (root_of right.0) ≡ entries (root_of root.old)) }
-    ensures moved { IfOk result (λ right. right.1 ≡ length (entries (root_of right.0))) }
-    ensures kept { IfOk result (λ right. length (entries (root_of root.new)) + right.1 ≡ len) }
-    ensures sound { IfOk result (λ right. IsSoundMap (root_of root.new) × IsSoundMap (root_of right.0)) }
+    ensures parts { IfOk result (λ right. entries root.new ++ entries right.0 ≡ entries root.old) }
+    ensures moved { IfOk result (λ right. right.1 ≡ length (entries right.0)) }
+    ensures kept { IfOk result (λ right. length (entries root.new) + right.1 ≡ len) }
+    ensures sound { IfOk result (λ right. IsSoundMap root.new × IsSoundMap right.0) }
     ensures error { IfErr result (λ e. e ≡ TryReserveError.AllocError) }
     ensures unchanged { IfErr result (λ _. root.new ≡ root.old) }
 {
@@ -55,13 +55,13 @@ pub fn try_split_counted<K: Drop, V: Drop>(
 /// `AllocError` if one of these nodes is refused. The tree is then as before.
 pub fn try_split<K: Drop, V: Drop>(
     alloc: Global,
-    root: &mut Option<Box<Node<K, V>>>,
+    root: &mut Option<Node<K, V>>,
     path: &[u8],
-) -> Result<Option<Box<Node<K, V>>>, TryReserveError>
-    requires sound { IsSoundMap (root_of root.old) }
-    requires path { IsCutPathIn path.now (root_of root.old) }
-    ensures pairs { IfOk result (λ right. IsCutInTwo path.now (root_of root.old) (root_of root.new) (root_of right)) }
-    ensures sound { IfOk result (λ right. IsSoundMap (root_of root.new) × IsSoundMap (root_of right)) }
+) -> Result<Option<Node<K, V>>, TryReserveError>
+    requires sound { IsSoundMap root.old }
+    requires path { IsCutPathIn path.now root.old }
+    ensures pairs { IfOk result (λ right. IsCutInTwo path.now root.old root.new right) }
+    ensures sound { IfOk result (λ right. IsSoundMap root.new × IsSoundMap right) }
     ensures error { IfErr result (λ e. (e ≡ TryReserveError.AllocError) × (root.new ≡ root.old)) }
 {
     let Some(whole) = &*root else { unreachable!() };
@@ -82,9 +82,9 @@ pub fn try_split<K: Drop, V: Drop>(
 pub fn try_border<K: Drop, V: Drop>(
     alloc: Global,
     node: &Node<K, V>,
-) -> Result<Box<Node<K, V>>, TryReserveError>
+) -> Result<Node<K, V>, TryReserveError>
     requires { (h : ℕ) × IsLevelled h node.now }
-    ensures ok { IfOk result (λ top. (h : ℕ) → IsLevelled h node.now → IsBlank h top.value) }
+    ensures ok { IfOk result (λ top. (h : ℕ) → IsLevelled h node.now → IsBlank h top) }
     ensures error { IfErr result (λ e. e ≡ TryReserveError.AllocError) }
 {
     if node.is_leaf() {
@@ -100,15 +100,15 @@ pub fn try_border<K: Drop, V: Drop>(
 /// those after it. What the path doesn't touch stays as it is, and `border` becomes the border of the right part. It
 /// takes no memory.
 pub fn cut<K: Drop, V: Drop>(
-    root: Box<Node<K, V>>,
+    root: Node<K, V>,
     path: &[u8],
-    border: Box<Node<K, V>>,
-) -> (Option<Box<Node<K, V>>>, Option<Box<Node<K, V>>>)
-    requires levels { (h : ℕ) × IsLevelled h root.value }
-    requires path { IsCutPath path.now root.value }
-    requires border { (h : ℕ) → IsLevelled h root.value → IsBlank h border.value }
-    ensures pairs { IsCutInTwo path.now (Some root.value) (root_of result.0) (root_of result.1) }
-    ensures levels { (h : ℕ) → IsLevelled h root.value → IsSoundWithin h (root_of result.0) × IsSoundWithin h (root_of result.1) }
+    border: Node<K, V>,
+) -> (Option<Node<K, V>>, Option<Node<K, V>>)
+    requires levels { (h : ℕ) × IsLevelled h root }
+    requires path { IsCutPath path.now root }
+    requires border { (h : ℕ) → IsLevelled h root → IsBlank h border }
+    ensures pairs { IsCutInTwo path.now (Some root) result.0 result.1 }
+    ensures levels { (h : ℕ) → IsLevelled h root → IsSoundWithin h result.0 × IsSoundWithin h result.1 }
 {
     let mut left = root;
     let mut right = border;

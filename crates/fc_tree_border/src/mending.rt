@@ -2,7 +2,7 @@
 ghost use Rattle.std.specs.Prelude.{◌≡◌, ℕ, suc, ◌+◌, ◌-◌, ◌<◌, ◌≤◌, [], ◌∷◌, length, MatchOption};
 ghost use Rattle.fc_base.specs.Sizes.{capacity};
 ghost use Rattle.fc_tree_node.specs.Node.{own_pairs, children_of, child_at, pairs_of, IsLeaf, IsInner, IsLevelled};
-ghost use Rattle.fc_tree_node.specs.Tree.{entries, root_of, IsSoundWithin};
+ghost use Rattle.fc_tree_node.specs.Tree.{entries, IsSoundWithin};
 ghost use Rattle.fc_tree_node.specs.Bordered.{IsLeftBordered, IsRightBordered};
 ghost use Rattle.fc_tree_node.specs.Siblings.{IsFormed};
 ghost use Rattle.fc_tree_border.specs.Border.{IsBordered, border_place, IsStocked};
@@ -22,20 +22,20 @@ pub enum Border {
 
 /// Mends a tree whose nodes on the rightmost path may hold too few pairs, none too, and hands out what is left of it: none where
 /// it held no pair. It compares nothing and takes no memory.
-pub fn mend_right<K: Drop, V: Drop>(root: Box<Node<K, V>>) -> Option<Box<Node<K, V>>>
-    requires { (h : ℕ) × IsRightBordered h root.value }
-    ensures pairs { entries (root_of result) ≡ pairs_of root.value }
-    ensures levels { (h : ℕ) → IsRightBordered h root.value → IsSoundWithin h (root_of result) }
+pub fn mend_right<K: Drop, V: Drop>(root: Node<K, V>) -> Option<Node<K, V>>
+    requires { (h : ℕ) × IsRightBordered h root }
+    ensures pairs { entries result ≡ pairs_of root }
+    ensures levels { (h : ℕ) → IsRightBordered h root → IsSoundWithin h result }
 {
     mend(root, Border::Right, &mut Count::new())
 }
 
 /// Mends a tree whose nodes on the leftmost path may hold too few pairs, none too, and hands out what is left of it: none where
 /// it held no pair. It compares nothing and takes no memory.
-pub fn mend_left<K: Drop, V: Drop>(root: Box<Node<K, V>>) -> Option<Box<Node<K, V>>>
-    requires { (h : ℕ) × IsLeftBordered h root.value }
-    ensures pairs { entries (root_of result) ≡ pairs_of root.value }
-    ensures levels { (h : ℕ) → IsLeftBordered h root.value → IsSoundWithin h (root_of result) }
+pub fn mend_left<K: Drop, V: Drop>(root: Node<K, V>) -> Option<Node<K, V>>
+    requires { (h : ℕ) × IsLeftBordered h root }
+    ensures pairs { entries result ≡ pairs_of root }
+    ensures levels { (h : ℕ) → IsLeftBordered h root → IsSoundWithin h result }
 {
     mend(root, Border::Left, &mut Count::new())
 }
@@ -43,13 +43,13 @@ pub fn mend_left<K: Drop, V: Drop>(root: Box<Node<K, V>>) -> Option<Box<Node<K, 
 /// Mends a tree whose nodes on that border may hold too few pairs, none too, and hands out what is left of it: none where it held
 /// no pair. It compares nothing and takes no memory.
 pub fn mend<K: Drop, V: Drop>(
-    root: Box<Node<K, V>>,
+    root: Node<K, V>,
     side: Border,
     count: &mut Count,
-) -> Option<Box<Node<K, V>>>
-    requires { (h : ℕ) × IsBordered side h root.value }
-    ensures pairs { entries (root_of result) ≡ pairs_of root.value }
-    ensures levels { (h : ℕ) → IsBordered side h root.value → IsSoundWithin h (root_of result) }
+) -> Option<Node<K, V>>
+    requires { (h : ℕ) × IsBordered side h root }
+    ensures pairs { entries result ≡ pairs_of root }
+    ensures levels { (h : ℕ) → IsBordered side h root → IsSoundWithin h result }
 {
     // While the root has no pair, its only child takes its place.
     if root.len() == 0 {
@@ -67,12 +67,12 @@ pub fn mend<K: Drop, V: Drop>(
 }
 
 // What takes the place of a root without pairs: its only child, or nothing where it is a leaf.
-fn only_child<K: Drop, V: Drop>(root: Box<Node<K, V>>) -> Option<Box<Node<K, V>>>
-    requires none { length (own_pairs root.value) ≡ 0 }
-    requires formed { IsFormed root.value }
-    ensures { MatchOption result (IsLeaf root.value) (λ c. children_of root.value ≡ c.value ∷ []) }
+fn only_child<K: Drop, V: Drop>(root: Node<K, V>) -> Option<Node<K, V>>
+    requires none { length (own_pairs root) ≡ 0 }
+    requires formed { IsFormed root }
+    ensures { MatchOption result (IsLeaf root) (λ c. children_of root ≡ c ∷ []) }
 {
-    let Node { pairs: _, children } = Box::into_inner(root);
+    let Node { pairs: _, children } = root;
     match children {
         None => None,
         Some(mut children) => Some(children.remove(0)),

@@ -34,29 +34,29 @@ module _ {X : Type 0} where
       (c ++ p ∷ r.0, ap (λ zs. c ++ p ∷ zs) r.1 ∙ sym (append_assoc c (p ∷ r.0) _))
 
 module _ {K V : Type 0} where
-  pub spine_at : (h : ℕ) (s : List (Box (Node K V) Global)) (i : ℕ) (b : Box (Node K V) Global) → IsSpine h s → i < length s → b ≡ slice_index_or s i b → (k : ℕ) × IsOpenEnd k b.value
+  pub spine_at : (h : ℕ) (s : List (Node K V)) (i : ℕ) (b : Node K V) → IsSpine h s → i < length s → b ≡ slice_index_or s i b → (k : ℕ) × IsOpenEnd k b
   spine_at h [] i b f l e = absurd (omega arith)
-  spine_at h (x ∷ s) zero b f l e = (level_above h s, subst (λ y. IsOpenEnd (level_above h s) y.value) (sym e) f.0)
+  spine_at h (x ∷ s) zero b f l e = (level_above h s, subst (λ y. IsOpenEnd (level_above h s) y) (sym e) f.0)
   spine_at h (x ∷ s) (suc i) b f l e = spine_at h s i b f.1 (omega arith) e
 
   -- a node with a pair ends with its last pair
-  pub end_last : (s new : List (Box (Node K V) Global)) (b : Box (Node K V) Global) (k i : ℕ) (p : K × V) → new ≡ s ++ b ∷ [] → IsOpenEnd k b.value → i + 1 ≡ length (own_pairs b.value) → p ≡ slice_index_or (own_pairs b.value) i p → (front : List (K × V)) × (before_back new ≡ front ++ p ∷ [])
+  pub end_last : (s new : List (Node K V)) (b : Node K V) (k i : ℕ) (p : K × V) → new ≡ s ++ b ∷ [] → IsOpenEnd k b → i + 1 ≡ length (own_pairs b) → p ≡ slice_index_or (own_pairs b) i p → (front : List (K × V)) × (before_back new ≡ front ++ p ∷ [])
   end_last s new b k i p e o l f =
       let same = o.2 in
-      let n = length-map (children_of b.value) pairs_of in
-      let none : length (own_pairs b.value) - length (children_of b.value) ≡ 0 = omega arith in
-      let r = last_before i (own_pairs b.value) (map pairs_of (children_of b.value)) p (omega arith) l in (
+      let n = length-map (children_of b) pairs_of in
+      let none : length (own_pairs b) - length (children_of b) ≡ 0 = omega arith in
+      let r = last_before i (own_pairs b) (map pairs_of (children_of b)) p (omega arith) l in (
         before_back s ++ r.0,
-        back_push s new b e ∙ ap (λ j. before_back s ++ closing j (own_pairs b.value) (map pairs_of (children_of b.value))) none
+        back_push s new b e ∙ ap (λ j. before_back s ++ closing j (own_pairs b) (map pairs_of (children_of b))) none
             ∙ ap (λ zs. before_back s ++ zs) r.1 ∙ ap (λ x. before_back s ++ (r.0 ++ x ∷ [])) (sym f) ∙ sym (append_assoc (before_back s) r.0 (p ∷ [])),
       )
 
   -- a node without a pair holds nothing
-  pub end_none : (s new : List (Box (Node K V) Global)) (b : Box (Node K V) Global) (k : ℕ) → new ≡ s ++ b ∷ [] → IsOpenEnd k b.value → length (own_pairs b.value) ≡ 0 → before_back new ≡ before_back s
+  pub end_none : (s new : List (Node K V)) (b : Node K V) (k : ℕ) → new ≡ s ++ b ∷ [] → IsOpenEnd k b → length (own_pairs b) ≡ 0 → before_back new ≡ before_back s
   end_none s new b k e o l =
       let same = o.2 in
-      let none = no_item (children_of b.value) (omega arith) in
-      back_push s new b e ∙ sym (empty_back b.value s 0 (omega arith, λ j. absurd (omega arith), none) l)
+      let none = no_item (children_of b) (omega arith) in
+      back_push s new b e ∙ sym (empty_back b s 0 (omega arith, λ j. absurd (omega arith), none) l)
 
   -- ---- a tree opened at its right edge
 
@@ -91,6 +91,6 @@ module _ {K V : Type 0} where
         pairs = whole_back n m c i f e;
       }
 
-  pub opened_pairs : (old mid : List (Box (Node K V) Global)) (b : Box (Node K V) Global) (n c : Node K V) (zs : List (K × V)) → mid ≡ old ++ b ∷ [] → pairs_of n ≡ before_back_in b.value ++ pairs_of c → zs ≡ before_back mid ++ pairs_of c → zs ≡ before_back old ++ pairs_of n
+  pub opened_pairs : (old mid : List (Node K V)) (b : Node K V) (n c : Node K V) (zs : List (K × V)) → mid ≡ old ++ b ∷ [] → pairs_of n ≡ before_back_in b ++ pairs_of c → zs ≡ before_back mid ++ pairs_of c → zs ≡ before_back old ++ pairs_of n
   opened_pairs old mid b n c zs e f g =
-      g ∙ ap (λ ys. ys ++ pairs_of c) (back_push old mid b e) ∙ append_assoc (before_back old) (before_back_in b.value) (pairs_of c) ∙ ap (λ ys. before_back old ++ ys) (sym f)
+      g ∙ ap (λ ys. ys ++ pairs_of c) (back_push old mid b e) ∙ append_assoc (before_back old) (before_back_in b) (pairs_of c) ∙ ap (λ ys. before_back old ++ ys) (sym f)

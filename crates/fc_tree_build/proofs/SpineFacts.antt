@@ -45,42 +45,42 @@ tally_more a w n l k t = within (needed_one a k) t
     within (inr f) t = let is = f.1 in inr (omega arith, omega arith)
 
 module _ {K V : Type 0} where
-  level_push : (h : ℕ) (s : List (Box (Node K V) Global)) (b : Box (Node K V) Global) → level_above h (s ++ b ∷ []) ≡ level_above (suc h) s
+  level_push : (h : ℕ) (s : List (Node K V)) (b : Node K V) → level_above h (s ++ b ∷ []) ≡ level_above (suc h) s
   level_push h [] b = refl
   level_push h (x ∷ s) b = ap suc (level_push h s b)
 
-  pub level_pushed : (h : ℕ) (s new : List (Box (Node K V) Global)) (b : Box (Node K V) Global) → new ≡ s ++ b ∷ [] → level_above h new ≡ level_above (suc h) s
+  pub level_pushed : (h : ℕ) (s new : List (Node K V)) (b : Node K V) → new ≡ s ++ b ∷ [] → level_above h new ≡ level_above (suc h) s
   level_pushed h s new b e = ap (level_above h) e ∙ level_push h s b
 
-  spine_put : (h : ℕ) (s : List (Box (Node K V) Global)) (b : Box (Node K V) Global) → IsSpine (suc h) s → IsOpenEnd h b.value → IsSpine h (s ++ b ∷ [])
+  spine_put : (h : ℕ) (s : List (Node K V)) (b : Node K V) → IsSpine (suc h) s → IsOpenEnd h b → IsSpine h (s ++ b ∷ [])
   spine_put h [] b f o = (o, tt)
-  spine_put h (x ∷ s) b f o = (subst (λ k. IsOpenEnd k x.value) (sym (level_push h s b)) f.0, spine_put h s b f.1 o)
+  spine_put h (x ∷ s) b f o = (subst (λ k. IsOpenEnd k x) (sym (level_push h s b)) f.0, spine_put h s b f.1 o)
 
-  pub spine_pushed : (h : ℕ) (s new : List (Box (Node K V) Global)) (b : Box (Node K V) Global) → new ≡ s ++ b ∷ [] → IsSpine (suc h) s → IsOpenEnd h b.value → IsSpine h new
+  pub spine_pushed : (h : ℕ) (s new : List (Node K V)) (b : Node K V) → new ≡ s ++ b ∷ [] → IsSpine (suc h) s → IsOpenEnd h b → IsSpine h new
   spine_pushed h s new b e f o = subst (IsSpine h) (sym e) (spine_put h s b f o)
 
-  spine_parts : (h : ℕ) (s : List (Box (Node K V) Global)) (b : Box (Node K V) Global) → IsSpine h (s ++ b ∷ []) → IsOpenEnd h b.value × IsSpine (suc h) s
+  spine_parts : (h : ℕ) (s : List (Node K V)) (b : Node K V) → IsSpine h (s ++ b ∷ []) → IsOpenEnd h b × IsSpine (suc h) s
   spine_parts h [] b f = (f.0, tt)
-  spine_parts h (x ∷ s) b f = let i = spine_parts h s b f.1 in (i.0, (subst (λ k. IsOpenEnd k x.value) (level_push h s b) f.0, i.1))
+  spine_parts h (x ∷ s) b f = let i = spine_parts h s b f.1 in (i.0, (subst (λ k. IsOpenEnd k x) (level_push h s b) f.0, i.1))
 
-  pub spine_popped : (h : ℕ) (old s : List (Box (Node K V) Global)) (b : Box (Node K V) Global) → old ≡ s ++ b ∷ [] → IsSpine h old → IsOpenEnd h b.value × IsSpine (suc h) s
+  pub spine_popped : (h : ℕ) (old s : List (Node K V)) (b : Node K V) → old ≡ s ++ b ∷ [] → IsSpine h old → IsOpenEnd h b × IsSpine (suc h) s
   spine_popped h old s b e f = spine_parts h s b (subst (IsSpine h) e f)
 
-  digits_push : (a : ℕ) (s : List (Box (Node K V) Global)) (b : Box (Node K V) Global) → digits_after a (s ++ b ∷ []) ≡ most_children * digits_after a s + length (own_pairs b.value)
+  digits_push : (a : ℕ) (s : List (Node K V)) (b : Node K V) → digits_after a (s ++ b ∷ []) ≡ most_children * digits_after a s + length (own_pairs b)
   digits_push a [] b = refl
-  digits_push a (x ∷ s) b = digits_push (most_children * a + length (own_pairs x.value)) s b
+  digits_push a (x ∷ s) b = digits_push (most_children * a + length (own_pairs x)) s b
 
-  pub worth_pushed : (s new : List (Box (Node K V) Global)) (b : Box (Node K V) Global) → new ≡ s ++ b ∷ [] → worth new ≡ most_children * worth s + length (own_pairs b.value)
+  pub worth_pushed : (s new : List (Node K V)) (b : Node K V) → new ≡ s ++ b ∷ [] → worth new ≡ most_children * worth s + length (own_pairs b)
   worth_pushed s new b e = ap worth e ∙ digits_push 0 s b
 
-  count_push : (s : List (Box (Node K V) Global)) (b : Box (Node K V) Global) → own_count (s ++ b ∷ []) ≡ own_count s + length (own_pairs b.value)
+  count_push : (s : List (Node K V)) (b : Node K V) → own_count (s ++ b ∷ []) ≡ own_count s + length (own_pairs b)
   count_push [] b = omega arith
   count_push (x ∷ s) b = let i = count_push s b in omega arith
 
-  pub count_pushed : (s new : List (Box (Node K V) Global)) (b : Box (Node K V) Global) → new ≡ s ++ b ∷ [] → own_count new ≡ own_count s + length (own_pairs b.value)
+  pub count_pushed : (s new : List (Node K V)) (b : Node K V) → new ≡ s ++ b ∷ [] → own_count new ≡ own_count s + length (own_pairs b)
   count_pushed s new b e = ap own_count e ∙ count_push s b
 
-  pub length_pushed : (s new : List (Box (Node K V) Global)) (b : Box (Node K V) Global) → new ≡ s ++ b ∷ [] → length new ≡ length s + 1
+  pub length_pushed : (s new : List (Node K V)) (b : Node K V) → new ≡ s ++ b ∷ [] → length new ≡ length s + 1
   length_pushed s new b e = ap length e ∙ length-append s (b ∷ [])
 
   -- ---- a blank node as the spine's end
@@ -94,7 +94,7 @@ module _ {K V : Type 0} where
       let b = ap length (blank_children n z) in
       (omega arith, λ leaf. cc (z.1, leaf), omega arith, subst (AllByRecursion (IsSound h)) (sym (blank_children n z)) tt)
 
-  pub blank_back : (s : List (Box (Node K V) Global)) (n : Node K V) → IsBlankInner n → before_back s ≡ before_back s ++ before_back_in n
+  pub blank_back : (s : List (Node K V)) (n : Node K V) → IsBlankInner n → before_back s ≡ before_back s ++ before_back_in n
   blank_back s n z =
       let a = ap length z.0 in
       let b = ap length (blank_children n z) in
@@ -124,7 +124,7 @@ module _ {K V : Type 0} where
       back_last r n p c (q ∙ ap (λ ps. ps ++ p ∷ []) e) (i ∙ f) (omega arith) (omega arith)
 
   -- the whole spine, once its last node n has become b
-  pub spine_pairs : (old s new : List (Box (Node K V) Global)) (b : Box (Node K V) Global) (n c : Node K V) (p : K × V) → before_back old ≡ before_back s ++ before_back_in n → new ≡ s ++ b ∷ [] → before_back_in b.value ≡ before_back_in n ++ (pairs_of c ++ p ∷ []) → before_back new ≡ before_back old ++ (pairs_of c ++ p ∷ [])
+  pub spine_pairs : (old s new : List (Node K V)) (b : Node K V) (n c : Node K V) (p : K × V) → before_back old ≡ before_back s ++ before_back_in n → new ≡ s ++ b ∷ [] → before_back_in b ≡ before_back_in n ++ (pairs_of c ++ p ∷ []) → before_back new ≡ before_back old ++ (pairs_of c ++ p ∷ [])
   spine_pairs old s new b n c p e f g =
       back_push s new b f ∙ ap (λ zs. before_back s ++ zs) g ∙ sym (append_assoc (before_back s) (before_back_in n) (pairs_of c ++ p ∷ [])) ∙ ap (λ zs. zs ++ (pairs_of c ++ p ∷ [])) (sym e)
 
@@ -158,53 +158,53 @@ module _ {K V : Type 0} where
       (omega arith, closed_inner h n m c o e f, subst (LastAfter (IsRightBordered h) (IsSound h)) (sym f) (last_after (IsRightBordered h) (IsSound h) (children_of n) c o.3 r))
 
   -- the pairs, where a closed node m goes up and a blank one takes its place
-  pub carried_pairs : (old s up new : List (Box (Node K V) Global)) (b : Box (Node K V) Global) (n m c : Node K V) (p : K × V) → before_back old ≡ before_back s ++ before_back_in n → pairs_of m ≡ before_back_in n ++ pairs_of c → before_back up ≡ before_back s ++ (pairs_of m ++ p ∷ []) → IsBlankInner b.value → new ≡ up ++ b ∷ [] → before_back new ≡ before_back old ++ (pairs_of c ++ p ∷ [])
+  pub carried_pairs : (old s up new : List (Node K V)) (b : Node K V) (n m c : Node K V) (p : K × V) → before_back old ≡ before_back s ++ before_back_in n → pairs_of m ≡ before_back_in n ++ pairs_of c → before_back up ≡ before_back s ++ (pairs_of m ++ p ∷ []) → IsBlankInner b → new ≡ up ++ b ∷ [] → before_back new ≡ before_back old ++ (pairs_of c ++ p ∷ [])
   carried_pairs old s up new b n m c p e f g z i =
-      back_push up new b i ∙ sym (blank_back up b.value z) ∙ g
+      back_push up new b i ∙ sym (blank_back up b z) ∙ g
       ∙ ap (λ zs. before_back s ++ (zs ++ p ∷ [])) f ∙ ap (λ zs. before_back s ++ zs) (append_assoc (before_back_in n) (pairs_of c) (p ∷ []))
       ∙ sym (append_assoc (before_back s) (before_back_in n) (pairs_of c ++ p ∷ [])) ∙ ap (λ zs. zs ++ (pairs_of c ++ p ∷ [])) (sym e)
 
   -- ---- spare nodes
 
-  needed_put : (a : ℕ) (s : List (Box (Node K V) Global)) (b : Box (Node K V) Global) → needed_after a (s ++ b ∷ []) ≡ (if nat_le capacity (length (own_pairs b.value)) then suc (needed_after a s) else 0)
+  needed_put : (a : ℕ) (s : List (Node K V)) (b : Node K V) → needed_after a (s ++ b ∷ []) ≡ (if nat_le capacity (length (own_pairs b)) then suc (needed_after a s) else 0)
   needed_put a [] b = refl
-  needed_put a (x ∷ s) b = needed_put (if nat_le capacity (length (own_pairs x.value)) then suc a else 0) s b
+  needed_put a (x ∷ s) b = needed_put (if nat_le capacity (length (own_pairs x)) then suc a else 0) s b
 
-  pub needed_full : (old s : List (Box (Node K V) Global)) (b : Box (Node K V) Global) → old ≡ s ++ b ∷ [] → capacity ≤ length (own_pairs b.value) → needed old ≡ needed s + 1
-  needed_full old s b e f = ap needed e ∙ needed_put 1 s b ∙ within (needed_one (needed s) (length (own_pairs b.value)))
+  pub needed_full : (old s : List (Node K V)) (b : Node K V) → old ≡ s ++ b ∷ [] → capacity ≤ length (own_pairs b) → needed old ≡ needed s + 1
+  needed_full old s b e f = ap needed e ∙ needed_put 1 s b ∙ within (needed_one (needed s) (length (own_pairs b)))
     where
-      within : ((capacity ≤ length (own_pairs b.value)) × ((if nat_le capacity (length (own_pairs b.value)) then suc (needed s) else 0) ≡ suc (needed s))) ⊎ ((length (own_pairs b.value) < capacity) × ((if nat_le capacity (length (own_pairs b.value)) then suc (needed s) else 0) ≡ 0)) → (if nat_le capacity (length (own_pairs b.value)) then suc (needed s) else 0) ≡ needed s + 1
+      within : ((capacity ≤ length (own_pairs b)) × ((if nat_le capacity (length (own_pairs b)) then suc (needed s) else 0) ≡ suc (needed s))) ⊎ ((length (own_pairs b) < capacity) × ((if nat_le capacity (length (own_pairs b)) then suc (needed s) else 0) ≡ 0)) → (if nat_le capacity (length (own_pairs b)) then suc (needed s) else 0) ≡ needed s + 1
       within (inl w) = w.1 ∙ sym (add-one (needed s))
       within (inr w) = absurd (let v = w.0 in omega arith)
 
-  pub needed_room : (old s : List (Box (Node K V) Global)) (b : Box (Node K V) Global) → old ≡ s ++ b ∷ [] → length (own_pairs b.value) < capacity → needed old ≡ 0
-  needed_room old s b e f = ap needed e ∙ needed_put 1 s b ∙ within (needed_one (needed s) (length (own_pairs b.value)))
+  pub needed_room : (old s : List (Node K V)) (b : Node K V) → old ≡ s ++ b ∷ [] → length (own_pairs b) < capacity → needed old ≡ 0
+  needed_room old s b e f = ap needed e ∙ needed_put 1 s b ∙ within (needed_one (needed s) (length (own_pairs b)))
     where
-      within : ((capacity ≤ length (own_pairs b.value)) × ((if nat_le capacity (length (own_pairs b.value)) then suc (needed s) else 0) ≡ suc (needed s))) ⊎ ((length (own_pairs b.value) < capacity) × ((if nat_le capacity (length (own_pairs b.value)) then suc (needed s) else 0) ≡ 0)) → (if nat_le capacity (length (own_pairs b.value)) then suc (needed s) else 0) ≡ 0
+      within : ((capacity ≤ length (own_pairs b)) × ((if nat_le capacity (length (own_pairs b)) then suc (needed s) else 0) ≡ suc (needed s))) ⊎ ((length (own_pairs b) < capacity) × ((if nat_le capacity (length (own_pairs b)) then suc (needed s) else 0) ≡ 0)) → (if nat_le capacity (length (own_pairs b)) then suc (needed s) else 0) ≡ 0
       within (inl w) = absurd (let v = w.0 in omega arith)
       within (inr w) = w.1
 
-  pub last_has_room : (old s : List (Box (Node K V) Global)) (b : Box (Node K V) Global) → old ≡ s ++ b ∷ [] → needed old ≡ 0 → length (own_pairs b.value) < capacity
-  last_has_room old s b e none = within (cases_lt (length (own_pairs b.value)) capacity)
+  pub last_has_room : (old s : List (Node K V)) (b : Node K V) → old ≡ s ++ b ∷ [] → needed old ≡ 0 → length (own_pairs b) < capacity
+  last_has_room old s b e none = within (cases_lt (length (own_pairs b)) capacity)
     where
-      within : (length (own_pairs b.value) < capacity) ⊎ (capacity ≤ length (own_pairs b.value)) → length (own_pairs b.value) < capacity
+      within : (length (own_pairs b) < capacity) ⊎ (capacity ≤ length (own_pairs b)) → length (own_pairs b) < capacity
       within (inl room) = room
       within (inr full) = absurd (let more = needed_full old s b e full in omega (arith, none))
 
-  pub some_needed : (s : List (Box (Node K V) Global)) → 0 < length s + needed s
+  pub some_needed : (s : List (Node K V)) → 0 < length s + needed s
   some_needed [] = omega arith
   some_needed (b ∷ s) = omega arith
 
-  tally : (a w n l : ℕ) (s : List (Box (Node K V) Global)) → IsTally a w n l → IsTally (needed_after a s) (digits_after w s) (n + own_count s) (l + length s)
+  tally : (a w n l : ℕ) (s : List (Node K V)) → IsTally a w n l → IsTally (needed_after a s) (digits_after w s) (n + own_count s) (l + length s)
   tally a w n l [] t = subst (λ j. IsTally a w j (l + 0)) (let e : n ≡ n + 0 = omega arith in e) (subst (λ j. IsTally a w n j) (let e : l ≡ l + 0 = omega arith in e) t)
   tally a w n l (b ∷ s) t =
-      let k = length (own_pairs b.value) in
+      let k = length (own_pairs b) in
       let more = tally (if nat_le capacity k then suc a else 0) (most_children * w + k) (n + k) (l + 1) s (tally_more a w n l k t) in
       let e : n + k + own_count s ≡ n + (k + own_count s) = omega arith in
       let f : l + 1 + length s ≡ l + suc (length s) = omega arith in
       subst (λ j. IsTally (needed_after a (b ∷ s)) (digits_after w (b ∷ s)) j (l + suc (length s))) e (subst (λ j. IsTally (needed_after a (b ∷ s)) (digits_after w (b ∷ s)) (n + k + own_count s) j) f more)
 
-  pub enough_needed : (d i : ℕ) (s : List (Box (Node K V) Global)) → IsEnough d i 1 s → (needed s ≤ i) × (needed s ≤ d)
+  pub enough_needed : (d i : ℕ) (s : List (Node K V)) → IsEnough d i 1 s → (needed s ≤ i) × (needed s ≤ d)
   enough_needed d i s e = within (tally 1 0 0 0 s (inl (omega arith, omega arith, omega arith))) (cases_lt (length s) d)
     where
       within : IsTally (needed s) (worth s) (0 + own_count s) (0 + length s) → (length s < d) ⊎ (d ≤ length s) → (needed s ≤ i) × (needed s ≤ d)
@@ -216,17 +216,17 @@ module _ {K V : Type 0} where
           let big : most_children ^ d ≤ most_children ^ (0 + length s) = pow-le-pow_right (lit< tt) (omega arith) in
           absurd (omega arith)
 
-  pub not_blank : (s : List (Box (Node K V) Global)) (n : Node K V) → (length s ≡ 0 → own_pairs n ≡ []) → capacity ≤ length (own_pairs n) → 0 < length s
+  pub not_blank : (s : List (Node K V)) (n : Node K V) → (length s ≡ 0 → own_pairs n ≡ []) → capacity ≤ length (own_pairs n) → 0 < length s
   not_blank [] n f h = absurd (let e = ap length (f refl) in omega arith)
   not_blank (b ∷ s) n f h = omega arith
 
-  pub spare_taken : (old new : List (Box (Node K V) Global)) (b : Box (Node K V) Global) → old ≡ new ++ b ∷ [] → AllByRecursion (λ x. IsBlankInner x.value) old → IsBlankInner b.value × AllByRecursion (λ x. IsBlankInner x.value) new
+  pub spare_taken : (old new : List (Node K V)) (b : Node K V) → old ≡ new ++ b ∷ [] → AllByRecursion (λ x. IsBlankInner x) old → IsBlankInner b × AllByRecursion (λ x. IsBlankInner x) new
   spare_taken old new b e a =
-      let P : Box (Node K V) Global → Type 0 = λ x. IsBlankInner x.value in
+      let P : Node K V → Type 0 = λ x. IsBlankInner x in
       let f = subst (AllByRecursion P) e a in
       ((all_back P new (b ∷ []) f).0, all_front P new (b ∷ []) f)
 
   -- the pairs, once the last node n is closed as m
-  pub closing_pairs : (old s : List (Box (Node K V) Global)) (b : Box (Node K V) Global) (m c : Node K V) (zs : List (K × V)) → old ≡ s ++ b ∷ [] → pairs_of m ≡ before_back_in b.value ++ pairs_of c → zs ≡ before_back s ++ pairs_of m → zs ≡ before_back old ++ pairs_of c
+  pub closing_pairs : (old s : List (Node K V)) (b : Node K V) (m c : Node K V) (zs : List (K × V)) → old ≡ s ++ b ∷ [] → pairs_of m ≡ before_back_in b ++ pairs_of c → zs ≡ before_back s ++ pairs_of m → zs ≡ before_back old ++ pairs_of c
   closing_pairs old s b m c zs e f g =
-      g ∙ ap (λ ys. before_back s ++ ys) f ∙ sym (append_assoc (before_back s) (before_back_in b.value) (pairs_of c)) ∙ ap (λ ys. ys ++ pairs_of c) (sym (back_push s old b e))
+      g ∙ ap (λ ys. before_back s ++ ys) f ∙ sym (append_assoc (before_back s) (before_back_in b) (pairs_of c)) ∙ ap (λ ys. ys ++ pairs_of c) (sym (back_push s old b e))

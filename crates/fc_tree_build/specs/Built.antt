@@ -1,7 +1,6 @@
 -- What contracts see of a builder, and how it is laid out.
 use Rattle.std.specs.Prelude.{◌≡◌, ℕ, ◌+◌, ◌*◌, ◌≤◌, List, [], ◌++◌, length, Option, Some, None}
 use Rattle.std.specs.List.{AllByRecursion}
-use Rattle.std.specs.declared.boxed.Box.{Box}
 use Rattle.std.specs.declared.alloc.Global.{Global}
 use Rattle.fc_base.specs.Sizes.{capacity, most_children, most_height}
 use Rattle.fc_tree_node.specs.declared.node.Node.{Node}
@@ -18,31 +17,31 @@ pub record Built (K V : Type 0) : Type 0 where
 
 module _ {K V : Type 0} where
   -- The pairs of the last leaf, if there is one.
-  abbrev pub last_pairs : Option (Box (Node K V) Global) → List (K × V)
+  abbrev pub last_pairs : Option (Node K V) → List (K × V)
   last_pairs None = []
-  last_pairs (Some leaf) = own_pairs leaf.value
+  last_pairs (Some leaf) = own_pairs leaf
 
   -- The pairs and the room of a builder.
   abbrev pub built : Inside K V → Built K V
   built b = record { pairs = before_back b.spine ++ last_pairs b.last; room = b.room }
 
   -- The pairs of a tree that grows.
-  abbrev pub grown : List (Box (Node K V) Global) → Option (Box (Node K V) Global) → List (K × V)
+  abbrev pub grown : List (Node K V) → Option (Node K V) → List (K × V)
   grown s last = before_back s ++ last_pairs last
 
   -- The tree so far stands above the last leaf and is not too high. With no leaf there is nothing else.
-  abbrev pub IsGrown : List (Box (Node K V) Global) → Option (Box (Node K V) Global) → Type 0
+  abbrev pub IsGrown : List (Node K V) → Option (Node K V) → Type 0
   IsGrown s None = s ≡ []
-  IsGrown s (Some leaf) = (length (own_pairs leaf.value) ≤ capacity) × IsLeaf leaf.value × IsSpine 0 s × (length s ≤ most_height)
+  IsGrown s (Some leaf) = (length (own_pairs leaf) ≤ capacity) × IsLeaf leaf × IsSpine 0 s × (length s ≤ most_height)
 
   -- The last leaf and so many spare ones have room for so many more pairs and one between each two leaves. With no leaf there is
   -- no room and nothing else.
-  abbrev pub IsLast : Option (Box (Node K V) Global) → ℕ → ℕ → List (Box (Node K V) Global) → Type 0
+  abbrev pub IsLast : Option (Node K V) → ℕ → ℕ → List (Node K V) → Type 0
   IsLast None spares room s = (room ≡ 0) × (s ≡ [])
-  IsLast (Some leaf) spares room s = (length (own_pairs leaf.value) ≤ capacity) × IsLeaf leaf.value × (length (own_pairs leaf.value) + room ≤ most_children * spares + capacity)
+  IsLast (Some leaf) spares room s = (length (own_pairs leaf) ≤ capacity) × IsLeaf leaf × (length (own_pairs leaf) + room ≤ most_children * spares + capacity)
 
   -- The tree so far stands above the last leaf, and there are enough spare nodes for the room.
   abbrev pub IsBuilder : Inside K V → Type 0
   IsBuilder b = IsLast b.last (length b.leaves.items) b.room b.spine × IsSpine 0 b.spine
-      × AllByRecursion (λ n. IsBlankLeaf n.value) b.leaves.items × AllByRecursion (λ n. IsBlankInner n.value) b.inner.items
+      × AllByRecursion (λ n. IsBlankLeaf n) b.leaves.items × AllByRecursion (λ n. IsBlankInner n) b.inner.items
       × ((d : ℕ) × IsEnough d (length b.inner.items) (length b.leaves.items) b.spine)

@@ -2,7 +2,6 @@
 use Rattle.std.specs.Prelude.{◌≡◌, ℕ, suc, ◌≤◌, List, [], ◌∷◌, ◌++◌, length, Option, Some, None}
 use Rattle.std.specs.Borrow.{Bor}
 use Rattle.std.specs.List.{AllByRecursion}
-use Rattle.std.specs.declared.boxed.Box.{Box}
 use Rattle.std.specs.declared.alloc.Global.{Global}
 use Rattle.fc_base.specs.Sizes.{capacity}
 use Rattle.fc_tree_node.specs.declared.node.Node.{Node}
@@ -14,14 +13,14 @@ module _ {K V : Type 0} where
   IsOpenEnd h n = (length (own_pairs n) ≤ capacity) × (IsLeaf n → ⊥) × (length (children_of n) ≡ length (own_pairs n)) × AllByRecursion (IsSound h) (children_of n)
 
   -- The level of what the first node of a spine lacks, where the last node lacks a child of level h.
-  abbrev pub level_above : ℕ → List (Box (Node K V) Global) → ℕ
+  abbrev pub level_above : ℕ → List (Node K V) → ℕ
   level_above h [] = h
   level_above h (b ∷ s) = suc (level_above h s)
 
   -- From the root down, each node lacks its last child, which is the next node; the last node lacks a child of level h.
-  abbrev pub IsSpine : ℕ → List (Box (Node K V) Global) → Type 0
+  abbrev pub IsSpine : ℕ → List (Node K V) → Type 0
   IsSpine h [] = Unit {0}
-  IsSpine h (b ∷ s) = IsOpenEnd (level_above h s) b.value × IsSpine h s
+  IsSpine h (b ∷ s) = IsOpenEnd (level_above h s) b × IsSpine h s
 
   -- The pair is the last of the list; none where the list has none.
   abbrev pub IsLastPair : List (K × V) → Option (Bor (K × V)) → Type 0

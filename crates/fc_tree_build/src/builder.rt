@@ -1,6 +1,6 @@
 //! A tree made of pairs in order, with all of its memory taken before the first.
 ghost use Rattle.std.specs.Prelude.{◌≡◌, ◌+◌, ◌<◌, [], ◌∷◌, ◌++◌, IfOk, IfErr, IsOk};
-ghost use Rattle.fc_tree_node.specs.Tree.{entries, root_of, IsSoundMap};
+ghost use Rattle.fc_tree_node.specs.Tree.{entries, IsSoundMap};
 
 use crate::spares::{inner_count, leaf_count, take_spare, try_inner_nodes, try_leaves};
 use crate::spine::{Spine, attach, close, put_pair};
@@ -17,9 +17,9 @@ use std::mem;
 #[derive(Drop)]
 pub struct Builder<K, V> {
     spine: Spine<K, V>,
-    last: Option<Box<Node<K, V>>>,
-    leaves: Vec<Box<Node<K, V>>>,
-    inner: Vec<Box<Node<K, V>>>,
+    last: Option<Node<K, V>>,
+    leaves: Vec<Node<K, V>>,
+    inner: Vec<Node<K, V>>,
     room: usize,
 }
 
@@ -83,9 +83,9 @@ impl<K: Drop, V: Drop> Builder<K, V> {
     }
 
     /// The root of a sound tree of the pairs; none where there is no pair. Nodes that were not needed are dropped.
-    pub fn finish(self) -> Option<Box<Node<K, V>>>
-        ensures pairs { entries (root_of result) ≡ self.pairs }
-        ensures sound { IsSoundMap (root_of result) }
+    pub fn finish(self) -> Option<Node<K, V>>
+        ensures pairs { entries result ≡ self.pairs }
+        ensures sound { IsSoundMap result }
     {
         let Builder {
             mut spine,

@@ -4,7 +4,7 @@ ghost use Rattle.fc_base.specs.Sizes.{capacity, most_height};
 ghost use Rattle.fc_tree_drain.specs.Opened.{before_back};
 ghost use Rattle.fc_tree_node.specs.Node.{own_pairs, pairs_of, IsLeaf, IsBlankLeaf, IsBlankInner, IsSound};
 ghost use Rattle.std.specs.List.{AllByRecursion};
-ghost use Rattle.fc_tree_node.specs.Tree.{entries, root_of, IsSoundMap};
+ghost use Rattle.fc_tree_node.specs.Tree.{entries, IsSoundMap};
 ghost use Rattle.fc_tree_build.specs.Spine.{IsLastPair, IsSpine};
 
 use crate::spares::try_inner_nodes;
@@ -24,7 +24,7 @@ use std::mem;
 #[derive(Drop)]
 pub struct Growing<K, V> {
     spine: Spine<K, V>,
-    last: Option<Box<Node<K, V>>>,
+    last: Option<Node<K, V>>,
     alloc: Global,
 }
 
@@ -67,9 +67,9 @@ impl<K: Drop, V: Drop> Growing<K, V> {
     }
 
     /// The tree at `root`, taken apart at its right edge. It takes no memory, compares nothing and moves no pair.
-    pub fn over(alloc: Global, root: Option<Box<Node<K, V>>>) -> Growing<K, V>
-        requires { IsSoundMap (root_of root) }
-        ensures { result ≡ entries (root_of root) }
+    pub fn over(alloc: Global, root: Option<Node<K, V>>) -> Growing<K, V>
+        requires { IsSoundMap root }
+        ensures { result ≡ entries root }
     {
         let mut spine = Stack::new();
         let last = match root {
@@ -170,9 +170,9 @@ impl<K: Drop, V: Drop> Growing<K, V> {
     }
 
     /// The root of a sound tree of the pairs; none where there is no pair.
-    pub fn finish(self) -> Option<Box<Node<K, V>>>
-        ensures pairs { entries (root_of result) ≡ self }
-        ensures sound { IsSoundMap (root_of result) }
+    pub fn finish(self) -> Option<Node<K, V>>
+        ensures pairs { entries result ≡ self }
+        ensures sound { IsSoundMap result }
     {
         let Growing {
             mut spine,
@@ -191,8 +191,8 @@ impl<K: Drop, V: Drop> Growing<K, V> {
 fn first_leaf<K: Drop, V: Drop>(
     alloc: Global,
     pair: (K, V),
-) -> Result<Box<Node<K, V>>, ((K, V), TryReserveError)>
-    ensures ok { IfOk result (λ leaf. (own_pairs leaf.value ≡ pair ∷ []) × IsLeaf leaf.value) }
+) -> Result<Node<K, V>, ((K, V), TryReserveError)>
+    ensures ok { IfOk result (λ leaf. (own_pairs leaf ≡ pair ∷ []) × IsLeaf leaf) }
     ensures error { IfErr result (λ e. (e.0 ≡ pair) × (e.1 ≡ TryReserveError.AllocError)) }
 {
     match Node::try_leaf(alloc) {
@@ -209,13 +209,13 @@ fn first_leaf<K: Drop, V: Drop>(
 fn hang_full<K: Drop, V: Drop>(
     alloc: Global,
     spine: &mut Spine<K, V>,
-    last: &mut Box<Node<K, V>>,
+    last: &mut Node<K, V>,
     pair: (K, V),
 ) -> Result<(), ((K, V), TryReserveError)>
-    requires levels { IsSpine 0 spine.old × IsSound 0 last.old.value }
+    requires levels { IsSpine 0 spine.old × IsSound 0 last.old }
     requires low { length spine.old ≤ most_height }
-    ensures blank { IfOk result (λ _. IsBlankLeaf last.new.value) }
-    ensures pairs { IfOk result (λ _. before_back spine.new ≡ before_back spine.old ++ (pairs_of last.old.value ++ pair ∷ [])) }
+    ensures blank { IfOk result (λ _. IsBlankLeaf last.new) }
+    ensures pairs { IfOk result (λ _. before_back spine.new ≡ before_back spine.old ++ (pairs_of last.old ++ pair ∷ [])) }
     ensures levels { IfOk result (λ _. IsSpine 0 spine.new × (length spine.new ≤ most_height)) }
     ensures unchanged { IfErr result (λ e. (spine.new ≡ spine.old) × (last.new ≡ last.old) × (e.0 ≡ pair)) }
     ensures error { IfErr result (λ e. e.1 ≡ TryReserveError.AllocError) }
@@ -238,13 +238,13 @@ fn hang_full<K: Drop, V: Drop>(
 fn hang_above<K: Drop, V: Drop>(
     alloc: Global,
     spine: &mut Spine<K, V>,
-    last: &mut Box<Node<K, V>>,
+    last: &mut Node<K, V>,
     pair: (K, V),
 ) -> Result<(), ((K, V), TryReserveError)>
-    requires levels { IsSpine 0 spine.old × IsSound 0 last.old.value }
+    requires levels { IsSpine 0 spine.old × IsSound 0 last.old }
     requires low { length spine.old ≤ most_height }
-    ensures blank { IfOk result (λ _. IsBlankLeaf last.new.value) }
-    ensures pairs { IfOk result (λ _. before_back spine.new ≡ before_back spine.old ++ (pairs_of last.old.value ++ pair ∷ [])) }
+    ensures blank { IfOk result (λ _. IsBlankLeaf last.new) }
+    ensures pairs { IfOk result (λ _. before_back spine.new ≡ before_back spine.old ++ (pairs_of last.old ++ pair ∷ [])) }
     ensures levels { IfOk result (λ _. IsSpine 0 spine.new × (length spine.new ≤ most_height)) }
     ensures unchanged { IfErr result (λ e. (spine.new ≡ spine.old) × (last.new ≡ last.old) × (e.0 ≡ pair)) }
     ensures error { IfErr result (λ e. e.1 ≡ TryReserveError.AllocError) }
@@ -264,9 +264,9 @@ fn hang_above<K: Drop, V: Drop>(
 fn try_leaf_and_inner<K: Drop, V: Drop>(
     alloc: Global,
     inner: usize,
-) -> Result<(Box<Node<K, V>>, Vec<Box<Node<K, V>>>), TryReserveError>
-    ensures leaf { IfOk result (λ nodes. IsBlankLeaf nodes.0.value) }
-    ensures inner { IfOk result (λ nodes. (length nodes.1.items ≡ inner) × AllByRecursion (λ b. IsBlankInner b.value) nodes.1.items × (inner ≤ most_height)) }
+) -> Result<(Node<K, V>, Vec<Node<K, V>>), TryReserveError>
+    ensures leaf { IfOk result (λ nodes. IsBlankLeaf nodes.0) }
+    ensures inner { IfOk result (λ nodes. (length nodes.1.items ≡ inner) × AllByRecursion (λ b. IsBlankInner b) nodes.1.items × (inner ≤ most_height)) }
     ensures error { IfErr result (λ e. e ≡ TryReserveError.AllocError) }
 {
     if inner >= MAX_STEPS {

@@ -16,8 +16,8 @@ use std::alloc::Global;
 pub(crate) fn try_leaves<K: Drop, V: Drop>(
     alloc: Global,
     count: usize,
-) -> Result<Vec<Box<Node<K, V>>>, TryReserveError>
-    ensures ok { IfOk result (λ v. (length v.items ≡ count) × AllByRecursion (λ b. IsBlankLeaf b.value) v.items) }
+) -> Result<Vec<Node<K, V>>, TryReserveError>
+    ensures ok { IfOk result (λ v. (length v.items ≡ count) × AllByRecursion (λ b. IsBlankLeaf b) v.items) }
     ensures error { IfErr result (λ e. e ≡ TryReserveError.AllocError) }
     ensures none { count ≡ 0 → IsOk result }
 {
@@ -35,8 +35,8 @@ pub(crate) fn try_leaves<K: Drop, V: Drop>(
 pub(crate) fn try_inner_nodes<K: Drop, V: Drop>(
     alloc: Global,
     count: usize,
-) -> Result<Vec<Box<Node<K, V>>>, TryReserveError>
-    ensures ok { IfOk result (λ v. (length v.items ≡ count) × AllByRecursion (λ b. IsBlankInner b.value) v.items) }
+) -> Result<Vec<Node<K, V>>, TryReserveError>
+    ensures ok { IfOk result (λ v. (length v.items ≡ count) × AllByRecursion (λ b. IsBlankInner b) v.items) }
     ensures error { IfErr result (λ e. e ≡ TryReserveError.AllocError) }
     ensures none { count ≡ 0 → IsOk result }
 {
@@ -48,7 +48,7 @@ pub(crate) fn try_inner_nodes<K: Drop, V: Drop>(
 }
 
 /// Takes one of the nodes out.
-pub(crate) fn take_spare<K, V>(spares: &mut Vec<Box<Node<K, V>>>) -> Box<Node<K, V>>
+pub(crate) fn take_spare<K, V>(spares: &mut Vec<Node<K, V>>) -> Node<K, V>
     requires { 0 < length spares.old.items }
     ensures { spares.old.items ≡ spares.new.items ++ result ∷ [] }
 {

@@ -15,23 +15,23 @@ use fc_tree_node::node::{CAPACITY, Node};
 
 /// The nodes on the right edge of a tree, from the root down, each without its last child: that is the next one, or what comes
 /// below the last of them.
-pub type Spine<K, V> = Stack<Box<Node<K, V>>>;
+pub type Spine<K, V> = Stack<Node<K, V>>;
 
 /// Puts a subtree at the spine's end, and the pair that comes after it: both go into the lowest node with room. The full nodes
 /// below that one are closed, and blank ones take their places; where all are full there is a new root.
 pub fn attach<K: Drop, V: Drop>(
     spine: &mut Spine<K, V>,
-    subtree: Box<Node<K, V>>,
+    subtree: Node<K, V>,
     pair: (K, V),
-    spares: &mut Vec<Box<Node<K, V>>>,
+    spares: &mut Vec<Node<K, V>>,
 )
-    requires levels { (h : ℕ) × IsSpine h spine.old × IsSound h subtree.value }
-    requires blank { AllByRecursion (λ b. IsBlankInner b.value) spares.old.items }
+    requires levels { (h : ℕ) × IsSpine h spine.old × IsSound h subtree }
+    requires blank { AllByRecursion (λ b. IsBlankInner b) spares.old.items }
     requires enough { needed spine.old ≤ length spares.old.items }
     requires low { (d : ℕ) × (d ≤ most_levels) × (length spine.old ≤ d) × (needed spine.old ≤ d) }
-    ensures pairs { before_back spine.new ≡ before_back spine.old ++ (pairs_of subtree.value ++ pair ∷ []) }
-    ensures levels { (h : ℕ) → IsSpine h spine.old → IsSound h subtree.value → IsSpine h spine.new }
-    ensures blank { AllByRecursion (λ b. IsBlankInner b.value) spares.new.items }
+    ensures pairs { before_back spine.new ≡ before_back spine.old ++ (pairs_of subtree ++ pair ∷ []) }
+    ensures levels { (h : ℕ) → IsSpine h spine.old → IsSound h subtree → IsSpine h spine.new }
+    ensures blank { AllByRecursion (λ b. IsBlankInner b) spares.new.items }
     ensures worth { worth spine.new ≡ worth spine.old + 1 }
     ensures left { capacity * (length spares.new.items + length spine.new) + own_count spine.old + 1 ≡ capacity * (length spares.old.items + length spine.old) + own_count spine.new }
     ensures used { length spares.old.items ≤ length spares.new.items + needed spine.old }
@@ -51,13 +51,13 @@ pub fn attach<K: Drop, V: Drop>(
 /// The same where the spine's last node has room.
 pub(crate) fn put_in_room<K: Drop, V: Drop>(
     spine: &mut Spine<K, V>,
-    subtree: Box<Node<K, V>>,
+    subtree: Node<K, V>,
     pair: (K, V),
 )
-    requires levels { IsSpine 0 spine.old × IsSound 0 subtree.value }
+    requires levels { IsSpine 0 spine.old × IsSound 0 subtree }
     requires room { needed spine.old ≡ 0 }
     requires low { length spine.old ≤ most_height }
-    ensures pairs { before_back spine.new ≡ before_back spine.old ++ (pairs_of subtree.value ++ pair ∷ []) }
+    ensures pairs { before_back spine.new ≡ before_back spine.old ++ (pairs_of subtree ++ pair ∷ []) }
     ensures levels { IsSpine 0 spine.new }
     ensures length { length spine.new ≡ length spine.old }
 {
@@ -68,10 +68,10 @@ pub(crate) fn put_in_room<K: Drop, V: Drop>(
 }
 
 /// The tree with the spine on its right edge and `last` below it.
-pub fn close<K: Drop, V: Drop>(spine: &mut Spine<K, V>, last: Box<Node<K, V>>) -> Box<Node<K, V>>
-    requires levels { (h : ℕ) × IsSpine h spine.old × IsRightBordered h last.value }
-    ensures pairs { pairs_of result.value ≡ before_back spine.old ++ pairs_of last.value }
-    ensures levels { (h : ℕ) → IsSpine h spine.old → IsRightBordered h last.value → IsRightBordered (level_above h spine.old) result.value }
+pub fn close<K: Drop, V: Drop>(spine: &mut Spine<K, V>, last: Node<K, V>) -> Node<K, V>
+    requires levels { (h : ℕ) × IsSpine h spine.old × IsRightBordered h last }
+    ensures pairs { pairs_of result ≡ before_back spine.old ++ pairs_of last }
+    ensures levels { (h : ℕ) → IsSpine h spine.old → IsRightBordered h last → IsRightBordered (level_above h spine.old) result }
 {
     if spine.len() == 0 {
         return last;
@@ -122,11 +122,11 @@ pub(crate) fn last_of<K, V>(spine: &Spine<K, V>) -> Option<&(K, V)>
 /// Goes down to the last leaf, which it answers, and puts each node on the way at the spine's end, without its last child.
 pub(crate) fn open_right<K: Drop, V: Drop>(
     spine: &mut Spine<K, V>,
-    node: Box<Node<K, V>>,
-) -> Box<Node<K, V>>
-    requires levels { (h : ℕ) × IsSoundRoot h node.value × IsSpine h spine.old × (length spine.old + h ≤ most_height) }
-    ensures pairs { before_back spine.new ++ own_pairs result.value ≡ before_back spine.old ++ pairs_of node.value }
-    ensures leaf { (length (own_pairs result.value) ≤ capacity) × IsLeaf result.value }
+    node: Node<K, V>,
+) -> Node<K, V>
+    requires levels { (h : ℕ) × IsSoundRoot h node × IsSpine h spine.old × (length spine.old + h ≤ most_height) }
+    ensures pairs { before_back spine.new ++ own_pairs result ≡ before_back spine.old ++ pairs_of node }
+    ensures leaf { (length (own_pairs result) ≤ capacity) × IsLeaf result }
     ensures levels { IsSpine 0 spine.new × (length spine.new ≤ most_height) }
 {
     let mut node = node;
@@ -141,19 +141,19 @@ pub(crate) fn open_right<K: Drop, V: Drop>(
 // Takes the spine's last node out, or a blank one where it has none.
 fn open_end<K: Drop, V: Drop>(
     spine: &mut Spine<K, V>,
-    spares: &mut Vec<Box<Node<K, V>>>,
-) -> Box<Node<K, V>>
-    requires blank { AllByRecursion (λ b. IsBlankInner b.value) spares.old.items }
+    spares: &mut Vec<Node<K, V>>,
+) -> Node<K, V>
+    requires blank { AllByRecursion (λ b. IsBlankInner b) spares.old.items }
     requires some { 0 < length spine.old + length spares.old.items }
-    ensures pairs { before_back spine.old ≡ before_back spine.new ++ before_back_in result.value }
-    ensures levels { (h : ℕ) → IsSpine h spine.old → IsOpenEnd h result.value × IsSpine (suc h) spine.new }
-    ensures blank { AllByRecursion (λ b. IsBlankInner b.value) spares.new.items }
-    ensures worth { worth spine.old ≡ most_children * worth spine.new + length (own_pairs result.value) }
-    ensures count { own_count spine.old ≡ own_count spine.new + length (own_pairs result.value) }
+    ensures pairs { before_back spine.old ≡ before_back spine.new ++ before_back_in result }
+    ensures levels { (h : ℕ) → IsSpine h spine.old → IsOpenEnd h result × IsSpine (suc h) spine.new }
+    ensures blank { AllByRecursion (λ b. IsBlankInner b) spares.new.items }
+    ensures worth { worth spine.old ≡ most_children * worth spine.new + length (own_pairs result) }
+    ensures count { own_count spine.old ≡ own_count spine.new + length (own_pairs result) }
     ensures nodes { length spares.old.items + length spine.old ≡ length spares.new.items + length spine.new + 1 }
     ensures shorter { length spine.new ≡ length spine.old - 1 }
-    ensures new_root { length spine.old ≡ 0 → own_pairs result.value ≡ [] }
-    ensures full { 0 < length spine.old → capacity ≤ length (own_pairs result.value) → needed spine.old ≡ needed spine.new + 1 }
+    ensures new_root { length spine.old ≡ 0 → own_pairs result ≡ [] }
+    ensures full { 0 < length spine.old → capacity ≤ length (own_pairs result) → needed spine.old ≡ needed spine.new + 1 }
     ensures used { length spares.old.items ≤ length spares.new.items + needed spine.old }
     ensures kept { 0 < length spine.old → spares.new ≡ spares.old }
 {
@@ -164,11 +164,11 @@ fn open_end<K: Drop, V: Drop>(
 }
 
 // Puts a child at the node's end.
-fn put_child<K: Drop, V: Drop>(node: &mut Node<K, V>, child: Box<Node<K, V>>)
+fn put_child<K: Drop, V: Drop>(node: &mut Node<K, V>, child: Node<K, V>)
     requires inner { IsLeaf node.old → ⊥ }
     requires room { length (children_of node.old) ≤ capacity }
     ensures pairs { own_pairs node.new ≡ own_pairs node.old }
-    ensures children { children_of node.new ≡ children_of node.old ++ child.value ∷ [] }
+    ensures children { children_of node.new ≡ children_of node.old ++ child ∷ [] }
     ensures inner { IsLeaf node.new → ⊥ }
 {
     let Some(children) = &mut node.children else {

@@ -20,10 +20,10 @@ use std::alloc::Global;
 pub fn try_copy<K: TryClone, V: TryClone>(
     alloc: Global,
     node: &Node<K, V>,
-) -> Result<Box<Node<K, V>>, TryReserveError>
+) -> Result<Node<K, V>, TryReserveError>
     requires keys { K.can_clone }
     requires values { V.can_clone }
-    ensures copied { IfOk result (λ copy. IsCopy (AreSame K.same V.same) node.now copy.value) }
+    ensures copied { IfOk result (λ copy. IsCopy (AreSame K.same V.same) node.now copy) }
     ensures error { (h : ℕ) → IsLevelled h node.now → IfErr result (MayRefuseNodes (MayRefusePair K.may_refuse V.may_refuse) (pairs_of node.now)) }
 {
     let mut copy = try_copy_own(alloc, node)?;
@@ -38,19 +38,19 @@ pub fn try_copy<K: TryClone, V: TryClone>(
 fn try_copy_own<K: TryClone, V: TryClone>(
     alloc: Global,
     node: &Node<K, V>,
-) -> Result<Box<Node<K, V>>, TryReserveError>
+) -> Result<Node<K, V>, TryReserveError>
     requires keys { K.can_clone }
     requires values { V.can_clone }
-    ensures copied { IfOk result (λ copy. IsCopyUpTo (AreSame K.same V.same) 0 node.now copy.value) }
+    ensures copied { IfOk result (λ copy. IsCopyUpTo (AreSame K.same V.same) 0 node.now copy) }
     ensures error { IfErr result (MayRefuseNodes (MayRefusePair K.may_refuse V.may_refuse) (own_pairs node.now)) }
 {
     let pairs = try_copy_pairs(alloc, &node.pairs)?;
     if node.is_leaf() {
         let children = None;
-        return Ok(Box::new(alloc, Node { pairs, children })?);
+        return Ok(Node { pairs, children });
     }
     let children = Some(Children::try_new(alloc)?);
-    Ok(Box::new(alloc, Node { pairs, children })?)
+    Ok(Node { pairs, children })
 }
 
 // Copies of the pairs, in order.
@@ -84,11 +84,11 @@ fn try_copy_pair<K: TryClone, V: TryClone>(pair: &(K, V)) -> Result<(K, V), TryR
 }
 
 // Puts a child after those that are there.
-fn push_child<K: Drop, V: Drop>(node: &mut Node<K, V>, child: Box<Node<K, V>>)
+fn push_child<K: Drop, V: Drop>(node: &mut Node<K, V>, child: Node<K, V>)
     requires inner { ¬ (IsLeaf node.old) }
     requires room { length (children_of node.old) < most_children }
     ensures own { own_pairs node.new ≡ own_pairs node.old }
-    ensures children { children_of node.new ≡ children_of node.old ++ child.value ∷ [] }
+    ensures children { children_of node.new ≡ children_of node.old ++ child ∷ [] }
     ensures inner { ¬ (IsLeaf node.new) }
 {
     let Some(children) = &mut node.children else {

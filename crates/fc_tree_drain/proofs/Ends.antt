@@ -48,40 +48,40 @@ module _ {X : Type 0} where
   refilled_back r rest new old front back e f h = append_assoc r rest new ∙ ap (λ zs. r ++ zs) e ∙ f ∙ sym (append-nil front) ∙ ap (λ zs. front ++ zs) (sym (no_item back h))
 
 module _ {K V : Type 0} where
-  pub front_some : (s : List (Box (Node K V) Global)) (low high : ℕ) → IsFalling low high s → 0 < length s → 0 < length (after_front s)
+  pub front_some : (s : List (Node K V)) (low high : ℕ) → IsFalling low high s → 0 < length s → 0 < length (after_front s)
   front_some [] low high f h = absurd (omega arith)
   front_some (b ∷ s) low high f h =
-      let k = after_some (own_pairs b.value) (map pairs_of (children_of b.value)) f.2 in
-      omega (arith, length-append (after_front s) (after_front_in b.value))
+      let k = after_some (own_pairs b) (map pairs_of (children_of b)) f.2 in
+      omega (arith, length-append (after_front s) (after_front_in b))
 
-  pub back_some : (s : List (Box (Node K V) Global)) (low high : ℕ) → IsFalling low high s → 0 < length s → 0 < length (before_back s)
+  pub back_some : (s : List (Node K V)) (low high : ℕ) → IsFalling low high s → 0 < length s → 0 < length (before_back s)
   back_some [] low high f h = absurd (omega arith)
   back_some (b ∷ s) low high f h =
-      let k = closing_some (length (own_pairs b.value) - length (children_of b.value)) (own_pairs b.value) (map pairs_of (children_of b.value)) f.2 in
-      omega (arith, length-append (before_back_in b.value) (before_back s))
+      let k = closing_some (length (own_pairs b) - length (children_of b)) (own_pairs b) (map pairs_of (children_of b)) f.2 in
+      omega (arith, length-append (before_back_in b) (before_back s))
 
   -- Nothing is left just where no node is, and no pair of a leaf.
-  pub none_front : (xs : List (K × V)) (s : List (Box (Node K V) Global)) → IsFalling 0 most_levels s → length (xs ++ after_front s) ≡ 0 → (xs ≡ []) × (length s ≡ 0)
+  pub none_front : (xs : List (K × V)) (s : List (Node K V)) → IsFalling 0 most_levels s → length (xs ++ after_front s) ≡ 0 → (xs ≡ []) × (length s ≡ 0)
   none_front xs [] f e = let a = length-append xs (after_front {K = K} {V = V} []) in (no_item xs (omega arith), refl)
   none_front xs (b ∷ s) f e = let a = length-append xs (after_front (b ∷ s)) in let k = front_some (b ∷ s) 0 most_levels f (omega arith) in absurd (omega arith)
 
-  pub none_back : (s : List (Box (Node K V) Global)) (xs : List (K × V)) → IsFalling 0 most_levels s → length (before_back s ++ xs) ≡ 0 → (xs ≡ []) × (length s ≡ 0)
+  pub none_back : (s : List (Node K V)) (xs : List (K × V)) → IsFalling 0 most_levels s → length (before_back s ++ xs) ≡ 0 → (xs ≡ []) × (length s ≡ 0)
   none_back [] xs f e = (no_item xs e, refl)
   none_back (b ∷ s) xs f e = let a = length-append (before_back (b ∷ s)) xs in let k = back_some (b ∷ s) 0 most_levels f (omega arith) in absurd (omega arith)
 
   -- What is left where no pair of a leaf is, is in nodes.
-  pub nodes_there : (xs : List (K × V)) (s : List (Box (Node K V) Global)) (now : List (K × V)) → xs ++ after_front s ≡ now → 0 < length now → length xs ≡ 0 → 0 < length s
+  pub nodes_there : (xs : List (K × V)) (s : List (Node K V)) (now : List (K × V)) → xs ++ after_front s ≡ now → 0 < length now → length xs ≡ 0 → 0 < length s
   nodes_there xs [] now e h z = let l = ap length (sym e) ∙ length-append xs (after_front {K = K} {V = V} []) in absurd (omega arith)
   nodes_there xs (b ∷ s) now e h z = omega arith
 
   -- the node at the stack's last place has a pair
-  pub top_has : (s : List (Box (Node K V) Global)) (n : ℕ) (b : Box (Node K V) Global) → IsFalling 0 most_levels s → length s ≡ n + 1 → b ≡ get_or s n b → 0 < length (own_pairs b.value)
+  pub top_has : (s : List (Node K V)) (n : ℕ) (b : Node K V) → IsFalling 0 most_levels s → length s ≡ n + 1 → b ≡ get_or s n b → 0 < length (own_pairs b)
   top_has s n b f l e = let t = last_split s n b l e in top_some s t.0 b f t.1
 
   -- and that pair stands first of all
-  pub top_first : (s : List (Box (Node K V) Global)) (n : ℕ) (b : Box (Node K V) Global) (p : K × V) → IsFalling 0 most_levels s → length s ≡ n + 1 → b ≡ get_or s n b → p ≡ get_or (own_pairs b.value) 0 p → (rest : List (K × V)) × (after_front s ≡ p ∷ rest)
+  pub top_first : (s : List (Node K V)) (n : ℕ) (b : Node K V) (p : K × V) → IsFalling 0 most_levels s → length s ≡ n + 1 → b ≡ get_or s n b → p ≡ get_or (own_pairs b) 0 p → (rest : List (K × V)) × (after_front s ≡ p ∷ rest)
   top_first s n b p f l e q =
       let t = last_split s n b l e in
-      let i = first_split (own_pairs b.value) p (top_some s t.0 b f t.1) q in
-      let k = after_head p i.0 (map pairs_of (children_of b.value)) in
-      (k.0 ++ after_front t.0, front_push t.0 s b t.1 ∙ ap (λ ps. after_list ps (map pairs_of (children_of b.value)) ++ after_front t.0) i.1 ∙ ap (λ zs. zs ++ after_front t.0) k.1)
+      let i = first_split (own_pairs b) p (top_some s t.0 b f t.1) q in
+      let k = after_head p i.0 (map pairs_of (children_of b)) in
+      (k.0 ++ after_front t.0, front_push t.0 s b t.1 ∙ ap (λ ps. after_list ps (map pairs_of (children_of b)) ++ after_front t.0) i.1 ∙ ap (λ zs. zs ++ after_front t.0) k.1)

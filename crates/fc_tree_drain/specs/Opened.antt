@@ -1,7 +1,6 @@
 -- Nodes that are taken apart from their ends, and the two stacks of them that an owned walk keeps.
 use Rattle.std.specs.Prelude.{◌≡◌, ℕ, zero, suc, ◌+◌, ◌-◌, ◌<◌, ◌≤◌, List, [], ◌∷◌, ◌++◌, length, map}
 use Rattle.std.specs.List.{AllByRecursion}
-use Rattle.std.specs.declared.boxed.Box.{Box}
 use Rattle.std.specs.declared.alloc.Global.{Global}
 use Rattle.fc_base.specs.Sizes.{most_levels}
 use Rattle.fc_tree_node.specs.declared.node.Node.{Node}
@@ -32,20 +31,20 @@ module _ {K V : Type 0} where
   before_back_in n = closing (length (own_pairs n) - length (children_of n)) (own_pairs n) (map pairs_of (children_of n))
 
   -- From the bottom to the top, each node has a pair and is opened at a lower level than the one before, all within these bounds.
-  abbrev pub IsFalling : ℕ → ℕ → List (Box (Node K V) Global) → Type 0
+  abbrev pub IsFalling : ℕ → ℕ → List (Node K V) → Type 0
   IsFalling low high [] = low ≤ high
-  IsFalling low high (b ∷ s) = (h : ℕ) × (h < high) × (0 < length (own_pairs b.value)) × IsOpened h b.value × IsFalling low h s
+  IsFalling low high (b ∷ s) = (h : ℕ) × (h < high) × (0 < length (own_pairs b)) × IsOpened h b × IsFalling low h s
 
   -- The node is a sound root at a level below the stack.
-  abbrev pub IsUnder : Node K V → List (Box (Node K V) Global) → Type 0
+  abbrev pub IsUnder : Node K V → List (Node K V) → Type 0
   IsUnder n s = (h : ℕ) × IsSoundRoot h n × IsFalling (suc h) most_levels s
 
   -- The pairs of the front's stack in order: the top first.
-  abbrev pub after_front : List (Box (Node K V) Global) → List (K × V)
+  abbrev pub after_front : List (Node K V) → List (K × V)
   after_front [] = []
-  after_front (b ∷ s) = after_front s ++ after_front_in b.value
+  after_front (b ∷ s) = after_front s ++ after_front_in b
 
   -- The pairs of the back's stack in order: the bottom first.
-  abbrev pub before_back : List (Box (Node K V) Global) → List (K × V)
+  abbrev pub before_back : List (Node K V) → List (K × V)
   before_back [] = []
-  before_back (b ∷ s) = before_back_in b.value ++ before_back s
+  before_back (b ∷ s) = before_back_in b ++ before_back s

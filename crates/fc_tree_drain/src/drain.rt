@@ -1,7 +1,7 @@
 //! A tree whose pairs are given out in order: from the front alone, or from both ends.
 ghost use Rattle.std.specs.Prelude.{◌≡◌, ◌<◌, List, [], ◌∷◌, ◌++◌, ◌↔◌, length, IsTrue};
 ghost use Rattle.fc_tree_node.specs.Node.{items_or_none};
-ghost use Rattle.fc_tree_node.specs.Tree.{entries, root_of, IsSoundMap};
+ghost use Rattle.fc_tree_node.specs.Tree.{entries, IsSoundMap};
 ghost use Rattle.fc_tree_drain.specs.Opened.{after_front, before_back};
 
 use crate::owned::{Nodes, Run, give_first, give_last, move_to_back, move_to_front, open_first};
@@ -132,9 +132,9 @@ impl<K, V> Front<K, V> {
 
 impl<K: Drop, V: Drop> Front<K, V> {
     /// The front of a whole tree.
-    pub fn over(root: Option<Box<Node<K, V>>>) -> Front<K, V>
-        requires { IsSoundMap (root_of root) }
-        ensures { result ≡ entries (root_of root) }
+    pub fn over(root: Option<Node<K, V>>) -> Front<K, V>
+        requires { IsSoundMap root }
+        ensures { result ≡ entries root }
     {
         let mut nodes = Stack::new();
         let mut run = None;
@@ -205,9 +205,9 @@ impl<K, V> Drain<K, V> {
 
 impl<K: Drop, V: Drop> Drain<K, V> {
     /// The whole tree.
-    pub fn over(root: Option<Box<Node<K, V>>>) -> Drain<K, V>
-        requires { IsSoundMap (root_of root) }
-        ensures { result ≡ entries (root_of root) }
+    pub fn over(root: Option<Node<K, V>>) -> Drain<K, V>
+        requires { IsSoundMap root }
+        ensures { result ≡ entries root }
     {
         Drain {
             front: Front::over(root),

@@ -9,16 +9,16 @@ use fc_tree_node::node::{CAPACITY, Node};
 use fc_tree_slots::rest::Rest;
 
 /// Nodes that are partly given out, each above one of a higher level.
-pub type Nodes<K, V> = Stack<Box<Node<K, V>>>;
+pub type Nodes<K, V> = Stack<Node<K, V>>;
 
 /// What is left of a leaf's pairs.
 pub type Run<K, V> = Option<Rest<(K, V), CAPACITY>>;
 
 // The pairs of a node that has no child. Nothing else of it is left.
-fn into_run<K: Drop, V: Drop>(node: Box<Node<K, V>>) -> Run<K, V>
-    ensures { items_or_none result ≡ own_pairs node.value }
+fn into_run<K: Drop, V: Drop>(node: Node<K, V>) -> Run<K, V>
+    ensures { items_or_none result ≡ own_pairs node }
 {
-    let Node { pairs, children: _ } = Box::into_inner(node);
+    let Node { pairs, children: _ } = node;
     Some(pairs.into_rest())
 }
 
@@ -26,10 +26,10 @@ fn into_run<K: Drop, V: Drop>(node: Box<Node<K, V>>) -> Run<K, V>
 pub fn open_first<K: Drop, V: Drop>(
     stack: &mut Nodes<K, V>,
     run: &mut Run<K, V>,
-    node: Box<Node<K, V>>,
+    node: Node<K, V>,
 )
-    requires { IsUnder node.value stack.old }
-    ensures pairs { items_or_none run.new ++ after_front stack.new ≡ pairs_of node.value ++ after_front stack.old }
+    requires { IsUnder node stack.old }
+    ensures pairs { items_or_none run.new ++ after_front stack.new ≡ pairs_of node ++ after_front stack.old }
     ensures levels { IsFalling 0 most_levels stack.new }
     ensures some { 0 < length (items_or_none run.new) }
 {
@@ -47,10 +47,10 @@ pub fn open_first<K: Drop, V: Drop>(
 pub fn open_last<K: Drop, V: Drop>(
     stack: &mut Nodes<K, V>,
     run: &mut Run<K, V>,
-    node: Box<Node<K, V>>,
+    node: Node<K, V>,
 )
-    requires { IsUnder node.value stack.old }
-    ensures pairs { before_back stack.new ++ items_or_none run.new ≡ before_back stack.old ++ pairs_of node.value }
+    requires { IsUnder node stack.old }
+    ensures pairs { before_back stack.new ++ items_or_none run.new ≡ before_back stack.old ++ pairs_of node }
     ensures levels { IsFalling 0 most_levels stack.new }
     ensures some { 0 < length (items_or_none run.new) }
 {
@@ -65,11 +65,11 @@ pub fn open_last<K: Drop, V: Drop>(
 }
 
 // Puts a node back, if it still has a pair.
-fn keep<K: Drop, V: Drop>(stack: &mut Nodes<K, V>, node: Box<Node<K, V>>)
-    requires { (h : ℕ) × IsOpened h node.value × IsFalling (suc h) most_levels stack.old }
-    ensures front { after_front stack.new ≡ after_front_in node.value ++ after_front stack.old }
-    ensures back { before_back stack.new ≡ before_back stack.old ++ before_back_in node.value }
-    ensures levels { (h : ℕ) → IsOpened h node.value → IsFalling (suc h) most_levels stack.old → IsFalling h most_levels stack.new }
+fn keep<K: Drop, V: Drop>(stack: &mut Nodes<K, V>, node: Node<K, V>)
+    requires { (h : ℕ) × IsOpened h node × IsFalling (suc h) most_levels stack.old }
+    ensures front { after_front stack.new ≡ after_front_in node ++ after_front stack.old }
+    ensures back { before_back stack.new ≡ before_back stack.old ++ before_back_in node }
+    ensures levels { (h : ℕ) → IsOpened h node → IsFalling (suc h) most_levels stack.old → IsFalling h most_levels stack.new }
 {
     if node.len() == 0 {
         return;

@@ -103,19 +103,19 @@ module _ {K V : Type 0} where
   step_in q n t f s = stepped q n s.child t f s.there (s.is n) s.place s.before_is
 
   -- the step in one of the two halves
-  step_half : (q : List ℕ) (n : Node K V) (up : K × V) (b : Box (Node K V) Global) (k t : ℕ) (f : List (K × V)) → IsInner n → length (own_pairs n) ≡ k → HasStep q (children_of n ++ children_of b.value) (own_pairs n ++ up ∷ own_pairs b.value) t f
+  step_half : (q : List ℕ) (n : Node K V) (up : K × V) (b : Node K V) (k t : ℕ) (f : List (K × V)) → IsInner n → length (own_pairs n) ≡ k → HasStep q (children_of n ++ children_of b) (own_pairs n ++ up ∷ own_pairs b) t f
       → (test : Bool) → nat_lt k t ≡ test → IsSettled test ((if test then t - (k + 1) else t) ∷ q) n (Some (up, b)) f
   step_half q n up b k t f inner e s false is =
       let le : t ≤ k = ltb-false k t is in
       let m : length (children_of n) ≡ length (own_pairs n) + 1 = inner in
       let lt : t < length (children_of n) = omega arith in
-      let before_child_is : before_child n t ≡ lead (children_of n ++ children_of b.value) (own_pairs n ++ up ∷ own_pairs b.value) t =
-      ap (λ xs. before_list (map pairs_of xs) (take t (own_pairs n))) (sym (take-append-le t (children_of n) (children_of b.value) (omega arith)))
-      ∙ ap (λ ys. before_list (map pairs_of (take t (children_of n ++ children_of b.value))) ys) (sym (take-append-le t (own_pairs n) (up ∷ own_pairs b.value) (omega arith))) in
-      stepped q n s.child t f lt (sym (get_or_append_left (children_of n) (children_of b.value) n t lt) ∙ s.is n) s.place (ap (λ zs. zs ++ before_pair q s.child) before_child_is ∙ s.before_is)
+      let before_child_is : before_child n t ≡ lead (children_of n ++ children_of b) (own_pairs n ++ up ∷ own_pairs b) t =
+      ap (λ xs. before_list (map pairs_of xs) (take t (own_pairs n))) (sym (take-append-le t (children_of n) (children_of b) (omega arith)))
+      ∙ ap (λ ys. before_list (map pairs_of (take t (children_of n ++ children_of b))) ys) (sym (take-append-le t (own_pairs n) (up ∷ own_pairs b) (omega arith))) in
+      stepped q n s.child t f lt (sym (get_or_append_left (children_of n) (children_of b) n t lt) ∙ s.is n) s.place (ap (λ zs. zs ++ before_pair q s.child) before_child_is ∙ s.before_is)
   step_half q n up b k t f inner e s true is =
       let gt : k < t = ltb-true k t is in
-      let r : Node K V = b.value in
+      let r : Node K V = b in
       let j : ℕ = t - (k + 1) in
       let m : length (children_of n) ≡ length (own_pairs n) + 1 = inner in
       let l = length-append (children_of n) (children_of r) in
@@ -155,17 +155,17 @@ module _ {K V : Type 0} where
         (subst (λ ps. HasStep q (take i (children_of old) ++ c ∷ drop (suc i) (children_of old)) ps i (before_child old i ++ f)) (take_drop i (own_pairs old) ∙ sym m.same) here))
 
     -- where the child was split
-    stepped_above : (mid c : Node K V) (b : Bool) (q : List ℕ) (f : List (K × V)) (up : K × V) (r : Box (Node K V) Global) (cs : List (Node K V)) (ps : List (K × V)) → IsChildSet old mid i c → ps ≡ insert (own_pairs mid) i up → cs ≡ insert (children_of mid) (i + 1) r.value
+    stepped_above : (mid c : Node K V) (b : Bool) (q : List ℕ) (f : List (K × V)) (up : K × V) (r : Node K V) (cs : List (Node K V)) (ps : List (K × V)) → IsChildSet old mid i c → ps ≡ insert (own_pairs mid) i up → cs ≡ insert (children_of mid) (i + 1) r
         → IsSettled b q c (Some (up, r)) f → HasStep q cs ps (step_from i b) (before_child old i ++ f)
     stepped_above mid c b q f up r cs ps m e k h =
         let t = taken in
         let ps_is : ps ≡ take i (own_pairs old) ++ up ∷ drop i (own_pairs old) = e ∙ ap (λ xs. insert xs i up) m.same in
-        let cs_is : cs ≡ take i (children_of old) ++ c ∷ r.value ∷ drop (suc i) (children_of old) = k ∙ ap (λ xs. insert xs (i + 1) r.value) m.child ∙ set_put (children_of old) i c r.value t.2 in
-        subst (λ xs. HasStep q xs ps (step_from i b) (before_child old i ++ f)) (sym cs_is) (subst (λ xs. HasStep q (take i (children_of old) ++ c ∷ r.value ∷ drop (suc i) (children_of old)) xs (step_from i b) (before_child old i ++ f)) (sym ps_is) (both b h))
+        let cs_is : cs ≡ take i (children_of old) ++ c ∷ r ∷ drop (suc i) (children_of old) = k ∙ ap (λ xs. insert xs (i + 1) r) m.child ∙ set_put (children_of old) i c r t.2 in
+        subst (λ xs. HasStep q xs ps (step_from i b) (before_child old i ++ f)) (sym cs_is) (subst (λ xs. HasStep q (take i (children_of old) ++ c ∷ r ∷ drop (suc i) (children_of old)) xs (step_from i b) (before_child old i ++ f)) (sym ps_is) (both b h))
       where
-        both : (b : Bool) → IsSettled b q c (Some (up, r)) f → HasStep q (take i (children_of old) ++ c ∷ r.value ∷ drop (suc i) (children_of old)) (take i (own_pairs old) ++ up ∷ drop i (own_pairs old)) (step_from i b) (before_child old i ++ f)
-        both false h = let t = taken in step_here q (take i (children_of old)) (r.value ∷ drop (suc i) (children_of old)) (take i (own_pairs old)) (up ∷ drop i (own_pairs old)) c i f t.0 t.1 h.0 h.1
-        both true h = let t = taken in step_next q (take i (children_of old)) (drop (suc i) (children_of old)) (take i (own_pairs old)) (drop i (own_pairs old)) c r.value up i f t.0 t.1 h.0 h.1
+        both : (b : Bool) → IsSettled b q c (Some (up, r)) f → HasStep q (take i (children_of old) ++ c ∷ r ∷ drop (suc i) (children_of old)) (take i (own_pairs old) ++ up ∷ drop i (own_pairs old)) (step_from i b) (before_child old i ++ f)
+        both false h = let t = taken in step_here q (take i (children_of old)) (r ∷ drop (suc i) (children_of old)) (take i (own_pairs old)) (up ∷ drop i (own_pairs old)) c i f t.0 t.1 h.0 h.1
+        both true h = let t = taken in step_next q (take i (children_of old)) (drop (suc i) (children_of old)) (take i (own_pairs old)) (drop i (own_pairs old)) c r up i f t.0 t.1 h.0 h.1
 
   -- below an inner node, where the child was not split
   pub arrived_below : (p : List ℕ) (old mid c child : Node K V) → IsStep p old → IsCascadeStep p old child → IsChildSet old mid (get_or p 0 0) c → child ≡ child_at old (get_or p 0 0) → cascade (slice_range p 1 (length p)) child < length (slice_range p 1 (length p))
@@ -179,9 +179,9 @@ module _ {K V : Type 0} where
       by_steps p (get_or p 0 0 ∷ rest) old mid None (suc (kept_whole rest child)) s.path_is w (subst (λ x. IsSettled false (arrival (suc (kept_whole rest child)) (get_or p 0 0 ∷ rest)) mid None (before_child old (get_or p 0 0) ++ before_gap rest x)) ci b)
 
   -- below an inner node, where the child was split
-  pub arrived_above : (p : List ℕ) (old mid c child new : Node K V) (t : Split K V) (up : K × V) (r : Box (Node K V) Global) → IsStep p old → IsCascadeStep p old child → IsChildSet old mid (get_or p 0 0) c → child ≡ child_at old (get_or p 0 0)
+  pub arrived_above : (p : List ℕ) (old mid c child new : Node K V) (t : Split K V) (up : K × V) (r : Node K V) → IsStep p old → IsCascadeStep p old child → IsChildSet old mid (get_or p 0 0) c → child ≡ child_at old (get_or p 0 0)
       → length (slice_range p 1 (length p)) ≤ cascade (slice_range p 1 (length p)) child → MatchOption t (length (own_pairs old) < capacity) (λ _. length (own_pairs old) ≡ capacity)
-      → own_pairs_after new t ≡ insert (own_pairs mid) (get_or p 0 0) up → children_after new t ≡ insert (children_of mid) (get_or p 0 0 + 1) r.value → IsInner new → IfSome t (λ _. length (own_pairs new) ≡ left_length (get_or p 0 0))
+      → own_pairs_after new t ≡ insert (own_pairs mid) (get_or p 0 0) up → children_after new t ≡ insert (children_of mid) (get_or p 0 0 + 1) r → IsInner new → IfSome t (λ _. length (own_pairs new) ≡ left_length (get_or p 0 0))
       → HasArrived (slice_range p 1 (length p)) child c (Some (up, r)) → HasArrived p old new t
   arrived_above p old mid c child new t up r s k m ci le room a b inner left h =
       let rest : List ℕ = slice_range p 1 (length p) in
@@ -208,14 +208,14 @@ module _ {K V : Type 0} where
   leaf_before_child : (n : Node K V) (i : ℕ) → IsLeaf n → before_gap (i ∷ []) n ≡ take i (own_pairs n)
   leaf_before_child n i e = append-nil _ ∙ ap (λ cs. before_list (map pairs_of (take i cs)) (take i (own_pairs n))) (leaf_children n e) ∙ ap (λ cs. before_list (map pairs_of cs) (take i (own_pairs n))) (take_nil i)
 
-  leaf_half : (n : Node K V) (up : K × V) (b : Box (Node K V) Global) (k i : ℕ) (f : List (K × V)) → IsLeaf n → IsLeaf b.value → length (own_pairs n) ≡ k → (i ≡ k → ⊥) → i < length (own_pairs n ++ up ∷ own_pairs b.value) → take i (own_pairs n ++ up ∷ own_pairs b.value) ≡ f
+  leaf_half : (n : Node K V) (up : K × V) (b : Node K V) (k i : ℕ) (f : List (K × V)) → IsLeaf n → IsLeaf b → length (own_pairs n) ≡ k → (i ≡ k → ⊥) → i < length (own_pairs n ++ up ∷ own_pairs b) → take i (own_pairs n ++ up ∷ own_pairs b) ≡ f
       → (test : Bool) → nat_lt k i ≡ test → IsSettled test ((if test then i - (k + 1) else i) ∷ []) n (Some (up, b)) f
   leaf_half n up b k i f l₁ l₂ e ne lt g false is =
       let le : i ≤ k = ltb-false k i is in
-      (omega (arith, ne), leaf_front n i l₁ ∙ sym (take-append-le i (own_pairs n) (up ∷ own_pairs b.value) (omega arith)) ∙ g)
+      (omega (arith, ne), leaf_front n i l₁ ∙ sym (take-append-le i (own_pairs n) (up ∷ own_pairs b) (omega arith)) ∙ g)
   leaf_half n up b k i f l₁ l₂ e ne lt g true is =
       let gt : k < i = ltb-true k i is in
-      let r : Node K V = b.value in
+      let r : Node K V = b in
       let l = length-append (own_pairs n) (up ∷ own_pairs r) in
       let at_pairs : i ≡ length (own_pairs n) + suc (i - (k + 1)) = omega arith in (
         omega arith,
@@ -229,17 +229,17 @@ module _ {K V : Type 0} where
       let n : length (own_pairs new) ≡ length (own_pairs old) + 1 = ap length e ∙ length-insert (own_pairs old) i pair le in
       (omega arith, leaf_front new i l₂ ∙ ap (take i) e ∙ take_put (own_pairs old) i pair le ∙ sym (leaf_before_child old i l₁))
 
-  leaf_settled : (old new : Node K V) (i : ℕ) (s : Split K V) (pair : K × V) → IsLeaf old → IsLeaf new → IfSome s (λ x. IsLeaf x.1.value) → i ≤ length (own_pairs old) → own_pairs_after new s ≡ insert (own_pairs old) i pair
+  leaf_settled : (old new : Node K V) (i : ℕ) (s : Split K V) (pair : K × V) → IsLeaf old → IsLeaf new → IfSome s (λ x. IsLeaf x.1) → i ≤ length (own_pairs old) → own_pairs_after new s ≡ insert (own_pairs old) i pair
       → MatchOption s (length (own_pairs old) < capacity) (λ _. length (own_pairs old) ≡ capacity) → IfSome s (λ _. length (own_pairs new) ≡ left_length i) → HasArrived (i ∷ []) old new s
   leaf_settled old new i None pair l₁ l₂ l₃ le e room left =
       let none = leaf_room (i ∷ []) old refl room in
       by_steps (i ∷ []) (i ∷ []) old new None 1 refl (omega arith) (leaf_place old new i pair l₁ l₂ le e)
   leaf_settled old new i (Some x) pair l₁ l₂ l₃ le e room left =
       let all = leaf_full (i ∷ []) old refl room in
-      let n : length (own_pairs new ++ x.0 ∷ own_pairs x.1.value) ≡ length (own_pairs old) + 1 = ap length e ∙ length-insert (own_pairs old) i pair le in
+      let n : length (own_pairs new ++ x.0 ∷ own_pairs x.1) ≡ length (own_pairs old) + 1 = ap length e ∙ length-insert (own_pairs old) i pair le in
       by_steps (i ∷ []) (i ∷ []) old new (Some x) 0 refl (omega arith) (leaf_half new x.0 x.1 (left_length i) i _ l₂ l₃ left (beside i) (omega arith) (ap (take i) e ∙ take_put (own_pairs old) i pair le ∙ sym (leaf_before_child old i l₁)) (nat_lt (left_length i) i) refl)
 
-  pub arrived_leaf : (p : List ℕ) (old new : Node K V) (s : Split K V) (pair : K × V) → p ≡ get_or p 0 0 ∷ [] → IsLeaf old → IsLeaf new → IfSome s (λ x. IsLeaf x.1.value) → get_or p 0 0 ≤ length (own_pairs old) → own_pairs_after new s ≡ insert (own_pairs old) (get_or p 0 0) pair
+  pub arrived_leaf : (p : List ℕ) (old new : Node K V) (s : Split K V) (pair : K × V) → p ≡ get_or p 0 0 ∷ [] → IsLeaf old → IsLeaf new → IfSome s (λ x. IsLeaf x.1) → get_or p 0 0 ≤ length (own_pairs old) → own_pairs_after new s ≡ insert (own_pairs old) (get_or p 0 0) pair
       → MatchOption s (length (own_pairs old) < capacity) (λ _. length (own_pairs old) ≡ capacity) → IfSome s (λ _. length (own_pairs new) ≡ left_length (get_or p 0 0)) → HasArrived p old new s
   arrived_leaf p old new s pair o l₁ l₂ l₃ le e room left = subst (λ q. HasArrived q old new s) (sym o) (leaf_settled old new (get_or p 0 0) s pair l₁ l₂ l₃ le e room left)
 
@@ -276,21 +276,21 @@ module _ {K V : Type 0} where
       here true w = absurd w
 
   -- under a new root
-  root_step : (b : Bool) (q : List ℕ) (root left : Node K V) (right : Box (Node K V) Global) (up : K × V) (f : List (K × V)) → own_pairs root ≡ up ∷ [] → children_of root ≡ left ∷ right.value ∷ [] → IsSettled b q left (Some (up, right)) f → IsPlace (step_from 0 b ∷ q) root × (before_pair (step_from 0 b ∷ q) root ≡ f)
+  root_step : (b : Bool) (q : List ℕ) (root left : Node K V) (right : Node K V) (up : K × V) (f : List (K × V)) → own_pairs root ≡ up ∷ [] → children_of root ≡ left ∷ right ∷ [] → IsSettled b q left (Some (up, right)) f → IsPlace (step_from 0 b ∷ q) root × (before_pair (step_from 0 b ∷ q) root ≡ f)
   root_step b q root left right up f e k w =
-      step_in q root (step_from 0 b) f (subst (λ cs. HasStep q cs (own_pairs root) (step_from 0 b) f) (sym k) (subst (λ ps. HasStep q (left ∷ right.value ∷ []) ps (step_from 0 b) f) (sym e) (both b w)))
+      step_in q root (step_from 0 b) f (subst (λ cs. HasStep q cs (own_pairs root) (step_from 0 b) f) (sym k) (subst (λ ps. HasStep q (left ∷ right ∷ []) ps (step_from 0 b) f) (sym e) (both b w)))
     where
-      both : (b : Bool) → IsSettled b q left (Some (up, right)) f → HasStep q (left ∷ right.value ∷ []) (up ∷ []) (step_from 0 b) f
-      both false w = step_here q [] (right.value ∷ []) [] (up ∷ []) left 0 f refl refl w.0 w.1
-      both true w = step_next q [] [] [] [] left right.value up 0 f refl refl w.0 w.1
+      both : (b : Bool) → IsSettled b q left (Some (up, right)) f → HasStep q (left ∷ right ∷ []) (up ∷ []) (step_from 0 b) f
+      both false w = step_here q [] (right ∷ []) [] (up ∷ []) left 0 f refl refl w.0 w.1
+      both true w = step_next q [] [] [] [] left right up 0 f refl refl w.0 w.1
 
-  pub put_higher : (p : List ℕ) (old root left : Node K V) (right : Box (Node K V) Global) (up pair : K × V) (h : ℕ) → cascade p old ≡ length p → own_pairs root ≡ up ∷ [] → children_of root ≡ left ∷ right.value ∷ [] → IsBelow h left → IsBelow h right.value
-      → pairs_of left ++ up ∷ pairs_of right.value ≡ before_gap p old ++ pair ∷ after_gap p old → HasArrived p old left (Some (up, right)) → IsPutAt (path_after (nodes_needed p old) p) root pair (before_gap p old) (after_gap p old)
+  pub put_higher : (p : List ℕ) (old root left : Node K V) (right : Node K V) (up pair : K × V) (h : ℕ) → cascade p old ≡ length p → own_pairs root ≡ up ∷ [] → children_of root ≡ left ∷ right ∷ [] → IsBelow h left → IsBelow h right
+      → pairs_of left ++ up ∷ pairs_of right ≡ before_gap p old ++ pair ∷ after_gap p old → HasArrived p old left (Some (up, right)) → IsPutAt (path_after (nodes_needed p old) p) root pair (before_gap p old) (after_gap p old)
   put_higher p old root left right up pair h c e k b₁ b₂ parts a =
       let none : kept_whole p old ≡ 0 = omega arith in
       let more : length p < cascade p old + 1 = omega arith in
       let w = root_step (is_right 0 p) (arrival 0 p) root left right up (before_gap p old) e k (rw none at a) in
-      rw (needed_whole p old (omega arith), lt-ltb (length p) (cascade p old + 1) more) (put_at _ root pair _ _ (suc h) (levelled_root h root left right.value up e k b₁ b₂) (put_root root left right.value up e k ∙ parts) w)
+      rw (needed_whole p old (omega arith), lt-ltb (length p) (cascade p old + 1) more) (put_at _ root pair _ _ (suc h) (levelled_root h root left right up e k b₁ b₂) (put_root root left right up e k ∙ parts) w)
 
   -- no step of a path is above the most pairs of a node
   pub small_steps : (p : List ℕ) (h : ℕ) (n : Node K V) → length p ≡ h + 1 → IsPath p n → IsLevelled h n → AllByRecursion (λ i. i ≤ capacity) p

@@ -121,12 +121,12 @@ module _ {K V : Type 0} where
       }
 
   -- the spare leaf goes down with the path
-  pub leaf_passed : (o : Option (Box (Node K V) Global)) (p : List ℕ) (n child : Node K V) → IsStep p n → IsCascadeStep p n child → length (own_pairs n) ≤ capacity → IsSpareLeaf o (cascade p n) → IsSpareLeaf o (cascade (slice_range p 1 (length p)) child)
+  pub leaf_passed : (o : Option (Node K V)) (p : List ℕ) (n child : Node K V) → IsStep p n → IsCascadeStep p n child → length (own_pairs n) ≤ capacity → IsSpareLeaf o (cascade p n) → IsSpareLeaf o (cascade (slice_range p 1 (length p)) child)
   leaf_passed None p n child s k f h = omega arith
   leaf_passed (Some b) p n child s k f h = (positive _ _ k.none h.0, h.1)
 
   -- what a room holds, by the cascade
-  pub new_nodes_given : (o : Option (Box (Node K V) Global)) (inner : ℕ) (p : List ℕ) (n : Node K V) → spare_count o inner ≡ nodes_needed p n → IsSpareLeaf o (spare_count o inner)
+  pub new_nodes_given : (o : Option (Node K V)) (inner : ℕ) (p : List ℕ) (n : Node K V) → spare_count o inner ≡ nodes_needed p n → IsSpareLeaf o (spare_count o inner)
       → 0 < length p → IsSpareLeaf o (cascade p n) × (inner ≡ nodes_needed p n - 1)
   new_nodes_given None inner p n e h l = let w = needed_least p n in (omega arith, omega arith)
   new_nodes_given (Some b) inner p n e h l = let w = needed_positive p n l in ((omega arith, h.1), omega arith)

@@ -34,29 +34,29 @@ module _ {K V : Type 0} where
       subst (AllByRecursion (IsBelow h)) (sym (q ∙ ap (λ cs. insert cs (i + 1) r) m.child)) (all_put (IsBelow h) _ (i + 1) r (all_set (IsBelow h) (children_of old) i c l.2 b) b₂)
 
   levelled_parts : (h : ℕ) (new : Node K V) (s : Split K V) → AllByRecursion (IsBelow h) (children_after new s)
-      → IsInner new → IfSome s (λ x. IsInner x.1.value) → MatchOption s (length (own_pairs new) ≤ capacity) (λ x. IsHalved new × IsHalved x.1.value)
-      → IsLevelled (suc h) new × IfSome s (λ x. IsLevelled (suc h) x.1.value)
+      → IsInner new → IfSome s (λ x. IsInner x.1) → MatchOption s (length (own_pairs new) ≤ capacity) (λ x. IsHalved new × IsHalved x.1)
+      → IsLevelled (suc h) new × IfSome s (λ x. IsLevelled (suc h) x.1)
   levelled_parts h new None all h₁ h₂ size = ((size, h₁, all), tt)
   levelled_parts h new (Some (up, right)) all h₁ h₂ size =
       let s₁ : length (own_pairs new) ≤ min_len + 1 = size.0.1 in
-      let s₂ : length (own_pairs right.value) ≤ min_len + 1 = size.1.1 in
-      ((omega arith, h₁, all_front (IsBelow h) (children_of new) (children_of right.value) all), (omega arith, h₂, all_back (IsBelow h) (children_of new) (children_of right.value) all))
+      let s₂ : length (own_pairs right) ≤ min_len + 1 = size.1.1 in
+      ((omega arith, h₁, all_front (IsBelow h) (children_of new) (children_of right) all), (omega arith, h₂, all_back (IsBelow h) (children_of new) (children_of right) all))
 
   pub levelled_put : (h : ℕ) (old mid c new r : Node K V) (i : ℕ) (s : Split K V) → IsLevelled (suc h) old → IsChildSet old mid i c → IsBelow h c → IsBelow h r
-      → children_after new s ≡ insert (children_of mid) (i + 1) r → IsInner new → IfSome s (λ x. IsInner x.1.value) → MatchOption s (length (own_pairs new) ≤ capacity) (λ x. IsHalved new × IsHalved x.1.value)
-      → IsLevelled (suc h) new × IfSome s (λ x. IsLevelled (suc h) x.1.value)
+      → children_after new s ≡ insert (children_of mid) (i + 1) r → IsInner new → IfSome s (λ x. IsInner x.1) → MatchOption s (length (own_pairs new) ≤ capacity) (λ x. IsHalved new × IsHalved x.1)
+      → IsLevelled (suc h) new × IfSome s (λ x. IsLevelled (suc h) x.1)
   levelled_put h old mid c new r i s l m b b₂ q = levelled_parts h new s (all_below h old mid c new r i s l m b b₂ q)
 
-  pub levelled_leaf : (new : Node K V) (s : Split K V) → IsLeaf new → IfSome s (λ x. IsLeaf x.1.value) → MatchOption s (length (own_pairs new) ≤ capacity) (λ x. IsHalved new × IsHalved x.1.value)
-      → IsLevelled 0 new × IfSome s (λ x. IsLevelled 0 x.1.value)
+  pub levelled_leaf : (new : Node K V) (s : Split K V) → IsLeaf new → IfSome s (λ x. IsLeaf x.1) → MatchOption s (length (own_pairs new) ≤ capacity) (λ x. IsHalved new × IsHalved x.1)
+      → IsLevelled 0 new × IfSome s (λ x. IsLevelled 0 x.1)
   levelled_leaf new None e h size = ((size, e), tt)
   levelled_leaf new (Some (up, right)) e h size =
       let s₁ : length (own_pairs new) ≤ min_len + 1 = size.0.1 in
-      let s₂ : length (own_pairs right.value) ≤ min_len + 1 = size.1.1 in
+      let s₂ : length (own_pairs right) ≤ min_len + 1 = size.1.1 in
       ((omega arith, e), (omega arith, h))
 
   -- a node that was not split has not lost a pair
-  pub grown : (new : Node K V) (s : Split K V) (n : ℕ) → length (own_pairs_after new s) ≡ n + 1 → MatchOption s (length (own_pairs new) ≤ capacity) (λ x. IsHalved new × IsHalved x.1.value) → MatchOption s (n ≤ length (own_pairs new)) (λ x. IsHalved new × IsHalved x.1.value)
+  pub grown : (new : Node K V) (s : Split K V) (n : ℕ) → length (own_pairs_after new s) ≡ n + 1 → MatchOption s (length (own_pairs new) ≤ capacity) (λ x. IsHalved new × IsHalved x.1) → MatchOption s (n ≤ length (own_pairs new)) (λ x. IsHalved new × IsHalved x.1)
   grown new None n e size = omega arith
   grown new (Some (up, right)) n e size = size
 

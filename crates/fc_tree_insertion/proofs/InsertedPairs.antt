@@ -30,31 +30,31 @@ module _ {K V : Type 0} where
   leaf_after : (n : Node K V) (i : ℕ) → IsLeaf n → after_gap (i ∷ []) n ≡ drop i (own_pairs n)
   leaf_after n i e = ap (λ cs. after_list (drop i (own_pairs n)) (map pairs_of (drop (suc i) cs))) (leaf_children n e) ∙ after_nil (drop i (own_pairs n))
 
-  leaf_spread : (new : Node K V) (s : Split K V) → IsLeaf new → IfSome s (λ x. IsLeaf x.1.value) → spread new s ≡ own_pairs_after new s
+  leaf_spread : (new : Node K V) (s : Split K V) → IsLeaf new → IfSome s (λ x. IsLeaf x.1) → spread new s ≡ own_pairs_after new s
   leaf_spread new None e h = leaf_pairs new e
-  leaf_spread new (Some (up, right)) e h = ap (λ zs. zs ++ up ∷ pairs_of right.value) (leaf_pairs new e) ∙ ap (λ zs. own_pairs new ++ up ∷ zs) (leaf_pairs right.value h)
+  leaf_spread new (Some (up, right)) e h = ap (λ zs. zs ++ up ∷ pairs_of right) (leaf_pairs new e) ∙ ap (λ zs. own_pairs new ++ up ∷ zs) (leaf_pairs right h)
 
-  leaf_put : (old new : Node K V) (i : ℕ) (s : Split K V) (pair : K × V) → IsLeaf old → IsLeaf new → IfSome s (λ x. IsLeaf x.1.value)
+  leaf_put : (old new : Node K V) (i : ℕ) (s : Split K V) (pair : K × V) → IsLeaf old → IsLeaf new → IfSome s (λ x. IsLeaf x.1)
       → own_pairs_after new s ≡ insert (own_pairs old) i pair → spread new s ≡ before_gap (i ∷ []) old ++ pair ∷ after_gap (i ∷ []) old
   leaf_put old new i s pair e f h p =
       leaf_spread new s f h ∙ p ∙ sym (ap (λ zs. zs ++ pair ∷ after_gap (i ∷ []) old) (leaf_before old i e) ∙ ap (λ zs. take i (own_pairs old) ++ pair ∷ zs) (leaf_after old i e))
 
   -- into a leaf
-  pub put_in_leaf : (p : List ℕ) (old new : Node K V) (s : Split K V) (pair : K × V) → p ≡ get_or p 0 0 ∷ [] → IsLeaf old → IsLeaf new → IfSome s (λ x. IsLeaf x.1.value)
+  pub put_in_leaf : (p : List ℕ) (old new : Node K V) (s : Split K V) (pair : K × V) → p ≡ get_or p 0 0 ∷ [] → IsLeaf old → IsLeaf new → IfSome s (λ x. IsLeaf x.1)
       → own_pairs_after new s ≡ insert (own_pairs old) (get_or p 0 0) pair → spread new s ≡ before_gap p old ++ pair ∷ after_gap p old
   put_in_leaf p old new s pair o e f h q =
       subst (λ (r : List ℕ). spread new s ≡ before_gap r old ++ pair ∷ after_gap r old) (sym o) (leaf_put old new (get_or p 0 0) s pair e f h q)
 
-  inner_spread : (new : Node K V) (s : Split K V) → IsInner new → IfSome s (λ x. IsInner x.1.value) → spread new s ≡ weave (map pairs_of (children_after new s)) (own_pairs_after new s)
+  inner_spread : (new : Node K V) (s : Split K V) → IsInner new → IfSome s (λ x. IsInner x.1) → spread new s ≡ weave (map pairs_of (children_after new s)) (own_pairs_after new s)
   inner_spread new None n h = pairs_is new
   inner_spread new (Some (up, right)) n h =
       let a : length (map pairs_of (children_of new)) ≡ length (own_pairs new) + 1 = length-map (children_of new) pairs_of ∙ n in
-      let b₀ : length (children_of right.value) ≡ length (own_pairs right.value) + 1 = h in
-      let b₁ = length-map (children_of right.value) pairs_of in
-      let b : 0 < length (map pairs_of (children_of right.value)) = omega arith in
-      ap (λ zs. zs ++ up ∷ pairs_of right.value) (pairs_is new) ∙ ap (λ zs. weave (map pairs_of (children_of new)) (own_pairs new) ++ up ∷ zs) (pairs_is right.value)
-      ∙ sym (weave_parts (map pairs_of (children_of new)) (map pairs_of (children_of right.value)) (own_pairs new) up (own_pairs right.value) a b)
-      ∙ ap (λ cs. weave cs (own_pairs new ++ up ∷ own_pairs right.value)) (sym (map-append pairs_of (children_of new) (children_of right.value)))
+      let b₀ : length (children_of right) ≡ length (own_pairs right) + 1 = h in
+      let b₁ = length-map (children_of right) pairs_of in
+      let b : 0 < length (map pairs_of (children_of right)) = omega arith in
+      ap (λ zs. zs ++ up ∷ pairs_of right) (pairs_is new) ∙ ap (λ zs. weave (map pairs_of (children_of new)) (own_pairs new) ++ up ∷ zs) (pairs_is right)
+      ∙ sym (weave_parts (map pairs_of (children_of new)) (map pairs_of (children_of right)) (own_pairs new) up (own_pairs right) a b)
+      ∙ ap (λ cs. weave cs (own_pairs new ++ up ∷ own_pairs right)) (sym (map-append pairs_of (children_of new) (children_of right)))
 
   module _ (old : Node K V) (i : ℕ) (le : i ≤ length (own_pairs old)) (inner : IsInner old) where
     lengths : length (map pairs_of (take i (children_of old))) ≡ length (take i (own_pairs old))
@@ -78,7 +78,7 @@ module _ {K V : Type 0} where
 
     -- the same once it has taken the pair and the node that the child has handed out
     pub split_pairs : (mid c new : Node K V) (s : Split K V) (up : K × V) (r : Node K V) → IsChildSet old mid i c
-        → own_pairs_after new s ≡ insert (own_pairs mid) i up → children_after new s ≡ insert (children_of mid) (i + 1) r → IsInner new → IfSome s (λ x. IsInner x.1.value)
+        → own_pairs_after new s ≡ insert (own_pairs mid) i up → children_after new s ≡ insert (children_of mid) (i + 1) r → IsInner new → IfSome s (λ x. IsInner x.1)
         → spread new s ≡ before_child old i ++ ((pairs_of c ++ up ∷ pairs_of r) ++ after_child old i)
     split_pairs mid c new s up r m p q h₁ h₂ =
         let n : length (children_of old) ≡ length (own_pairs old) + 1 = inner in
@@ -92,7 +92,7 @@ module _ {K V : Type 0} where
     inner_stay path mid c pair m e = child_pairs mid c m ∙ stays_around _ _ _ _ _ pair e
 
     inner_put : (path : List ℕ) (mid c new : Node K V) (s : Split K V) (up pair : K × V) (r : Node K V) → IsChildSet old mid i c
-        → own_pairs_after new s ≡ insert (own_pairs mid) i up → children_after new s ≡ insert (children_of mid) (i + 1) r → IsInner new → IfSome s (λ x. IsInner x.1.value)
+        → own_pairs_after new s ≡ insert (own_pairs mid) i up → children_after new s ≡ insert (children_of mid) (i + 1) r → IsInner new → IfSome s (λ x. IsInner x.1)
         → pairs_of c ++ up ∷ pairs_of r ≡ before_gap path (child_at old i) ++ pair ∷ after_gap path (child_at old i) → spread new s ≡ before_gap (i ∷ path) old ++ pair ∷ after_gap (i ∷ path) old
     inner_put path mid c new s up pair r m p q h₁ h₂ e = split_pairs mid c new s up r m p q h₁ h₂ ∙ stays_around _ _ _ _ _ pair e
 
@@ -106,7 +106,7 @@ module _ {K V : Type 0} where
 
   -- below an inner node, where the child was split
   pub put_above : (p : List ℕ) (old mid c child new : Node K V) (t : Split K V) (up pair : K × V) (r : Node K V) → IsStep p old → IsChildSet old mid (get_or p 0 0) c → child ≡ child_at old (get_or p 0 0)
-      → own_pairs_after new t ≡ insert (own_pairs mid) (get_or p 0 0) up → children_after new t ≡ insert (children_of mid) (get_or p 0 0 + 1) r → IsInner new → IfSome t (λ x. IsInner x.1.value)
+      → own_pairs_after new t ≡ insert (own_pairs mid) (get_or p 0 0) up → children_after new t ≡ insert (children_of mid) (get_or p 0 0 + 1) r → IsInner new → IfSome t (λ x. IsInner x.1)
       → pairs_of c ++ up ∷ pairs_of r ≡ before_gap (slice_range p 1 (length p)) child ++ pair ∷ after_gap (slice_range p 1 (length p)) child → spread new t ≡ before_gap p old ++ pair ∷ after_gap p old
   put_above p old mid c child new t up pair r s m ci a b h₁ h₂ e =
       let rest : List ℕ = slice_range p 1 (length p) in

@@ -52,7 +52,7 @@ module _ {K V : Type 0} where
   abbrev pub IsSettled : Bool → List ℕ → Node K V → Split K V → List (K × V) → Type 0
   IsSettled false path n s front = IsPlace path n × (before_pair path n ≡ front)
   IsSettled true path n None front = ⊥
-  IsSettled true path n (Some (up, right)) front = IsPlace path right.value × (pairs_of n ++ up ∷ before_pair path right.value ≡ front)
+  IsSettled true path n (Some (up, right)) front = IsPlace path right × (pairs_of n ++ up ∷ before_pair path right ≡ front)
 
   -- How many nodes of the path an insertion does not split.
   abbrev pub kept_whole : List ℕ → Node K V → ℕ

@@ -1,6 +1,5 @@
 -- How far up an insertion splits nodes, and how many nodes it needs.
 use Rattle.std.specs.Prelude.{◌≡◌, ℕ, suc, ◌+◌, ◌≤◌, ◌*◌, ◌==◌, Bool, true, ◌&&◌, if◌then◌else◌, List, [], ◌∷◌, length, Option, Some, None}
-use Rattle.std.specs.declared.boxed.Box.{Box}
 use Rattle.std.specs.declared.alloc.Global.{Global}
 use Rattle.fc_base.specs.Sizes.{capacity, most_split_moves}
 use Rattle.fc_tree_node.specs.declared.node.Node.{Node}
@@ -27,11 +26,11 @@ module _ {K V : Type 0} where
   insertion_moves path n = most_split_moves * cascade path n + (if all_full path n then 1 else capacity)
 
   -- A leaf that holds nothing where there is one to be split, and else none.
-  abbrev pub IsSpareLeaf : Option (Box (Node K V) Global) → ℕ → Type 0
+  abbrev pub IsSpareLeaf : Option (Node K V) → ℕ → Type 0
   IsSpareLeaf None splits = splits ≡ 0
-  IsSpareLeaf (Some b) splits = (1 ≤ splits) × IsBlankLeaf b.value
+  IsSpareLeaf (Some b) splits = (1 ≤ splits) × IsBlankLeaf b
 
   -- How many nodes there are, of a leaf and so many inner nodes made ahead.
-  abbrev pub spare_count : Option (Box (Node K V) Global) → ℕ → ℕ
+  abbrev pub spare_count : Option (Node K V) → ℕ → ℕ
   spare_count None inner = inner
   spare_count (Some b) inner = suc inner

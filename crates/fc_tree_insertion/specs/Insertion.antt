@@ -1,6 +1,5 @@
 -- What an insertion leaves of a node, and what the node hands out where it was split.
 use Rattle.std.specs.Prelude.{◌+◌, ◌≤◌, List, ◌∷◌, ◌++◌, length, Option, Some, None}
-use Rattle.std.specs.declared.boxed.Box.{Box}
 use Rattle.std.specs.declared.alloc.Global.{Global}
 use Rattle.fc_base.specs.Sizes.{min_len}
 use Rattle.fc_tree_node.specs.declared.node.Node.{Node}
@@ -8,23 +7,23 @@ use Rattle.fc_tree_node.specs.Node.{own_pairs, children_of, pairs_of}
 
 -- The pair in the middle and the node of those after it, where a node was split.
 abbrev pub Split : Type 0 → Type 0 → Type 0
-Split K V = Option ((K × V) × Box (Node K V) Global)
+Split K V = Option ((K × V) × Node K V)
 
 module _ {K V : Type 0} where
   -- All pairs in the node and below it, then those that it handed out.
   abbrev pub spread : Node K V → Split K V → List (K × V)
   spread n None = pairs_of n
-  spread n (Some (up, right)) = pairs_of n ++ up ∷ pairs_of right.value
+  spread n (Some (up, right)) = pairs_of n ++ up ∷ pairs_of right
 
   -- The node's own pairs, then those that it handed out.
   abbrev pub own_pairs_after : Node K V → Split K V → List (K × V)
   own_pairs_after n None = own_pairs n
-  own_pairs_after n (Some (up, right)) = own_pairs n ++ up ∷ own_pairs right.value
+  own_pairs_after n (Some (up, right)) = own_pairs n ++ up ∷ own_pairs right
 
   -- The node's children, then those of the node that it handed out.
   abbrev pub children_after : Node K V → Split K V → List (Node K V)
   children_after n None = children_of n
-  children_after n (Some (up, right)) = children_of n ++ children_of right.value
+  children_after n (Some (up, right)) = children_of n ++ children_of right
 
   -- The node has the fewest pairs or one more, as each half of a node that was split.
   abbrev pub IsHalved : Node K V → Type 0

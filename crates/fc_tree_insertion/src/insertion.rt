@@ -28,28 +28,28 @@ use std::mem;
 #[inline(always)]
 pub fn try_insert<K: Drop, V: Drop>(
     alloc: Global,
-    root: &mut Box<Node<K, V>>,
+    root: &mut Node<K, V>,
     path: &mut Path,
     pair: (K, V),
     count: &mut Count,
 ) -> Result<(), (K, V, TryReserveError)>
-    requires sound { IsSoundMap (Some root.old.value) }
-    requires path { IsPath path.old root.old.value }
-    requires levels { (h : ℕ) → IsLevelled h root.old.value → length path.old ≡ h + 1 }
-    requires fits { length (pairs_of root.old.value) < usize.MAX }
+    requires sound { IsSoundMap (Some root.old) }
+    requires path { IsPath path.old root.old }
+    requires levels { (h : ℕ) → IsLevelled h root.old → length path.old ≡ h + 1 }
+    requires fits { length (pairs_of root.old) < usize.MAX }
 
     // The pairs before the gap, the new pair and the pairs after the gap.
-    ensures pairs { OnOk result (pairs_of root.new.value ≡ before_gap path.old root.old.value ++ pair ∷ after_gap path.old root.old.value) }
-    ensures place { OnOk result (IsPutAt path.new root.new.value pair (before_gap path.old root.old.value) (after_gap path.old root.old.value)) }
-    ensures length { OnOk result (length (pairs_of root.new.value) ≡ length (pairs_of root.old.value) + 1) }
-    ensures sound { IsSoundMap (Some root.new.value) }
+    ensures pairs { OnOk result (pairs_of root.new ≡ before_gap path.old root.old ++ pair ∷ after_gap path.old root.old) }
+    ensures place { OnOk result (IsPutAt path.new root.new pair (before_gap path.old root.old) (after_gap path.old root.old)) }
+    ensures length { OnOk result (length (pairs_of root.new) ≡ length (pairs_of root.old) + 1) }
+    ensures sound { IsSoundMap (Some root.new) }
     ensures unchanged { OnErr result (root.new ≡ root.old) }
     ensures back { IfErr result (λ e. (e.0 ≡ pair.0) × (e.1 ≡ pair.1)) }
     ensures error { IfErr result (λ e. e.2 ≡ TryReserveError.AllocError) }
-    ensures leaf { OnErr result (capacity ≤ length (pairs_of root.old.value)) }
+    ensures leaf { OnErr result (capacity ≤ length (pairs_of root.old)) }
     ensures comparisons { count.new.comparisons ≡ count.old.comparisons }
     ensures no_move { OnErr result (count.new.moves ≡ count.old.moves) }
-    ensures moves { OnOk result (HasFewMoves (length (pairs_of root.new.value)) count.old count.new) }
+    ensures moves { OnOk result (HasFewMoves (length (pairs_of root.new)) count.old count.new) }
     ensures moved { OnOk result (count.old.moves < count.new.moves) }
 {
     match try_nodes_at(alloc, root, path) {
@@ -64,29 +64,29 @@ pub fn try_insert<K: Drop, V: Drop>(
 /// Puts `pair` into the gap that the path leads to. Each node that this takes is in `new_nodes`, so nothing can be refused once
 /// the first pair moves. The path then leads to the pair in the tree as it is now.
 pub fn insert<K: Drop, V: Drop>(
-    root: &mut Box<Node<K, V>>,
+    root: &mut Node<K, V>,
     path: &mut Path,
     pair: (K, V),
     new_nodes: NewNodes<K, V>,
     count: &mut Count,
 )
     requires some { 0 < length path.old }
-    requires short { steps_after path.old root.old.value ≤ most_levels }
-    requires path { IsPath path.old root.old.value }
-    requires sound { IsSoundRoot (length path.old - 1) root.old.value }
-    requires new_nodes { new_nodes ≡ nodes_needed path.old root.old.value }
+    requires short { steps_after path.old root.old ≤ most_levels }
+    requires path { IsPath path.old root.old }
+    requires sound { IsSoundRoot (length path.old - 1) root.old }
+    requires new_nodes { new_nodes ≡ nodes_needed path.old root.old }
 
     // The pairs before the gap, the new pair and the pairs after the gap.
-    ensures pairs { pairs_of root.new.value ≡ before_gap path.old root.old.value ++ pair ∷ after_gap path.old root.old.value }
+    ensures pairs { pairs_of root.new ≡ before_gap path.old root.old ++ pair ∷ after_gap path.old root.old }
 
     // The path leads to the new pair, with the pairs that were before the gap before it and those after the gap after it.
-    ensures place { IsPutAt path.new root.new.value pair (before_gap path.old root.old.value) (after_gap path.old root.old.value) }
+    ensures place { IsPutAt path.new root.new pair (before_gap path.old root.old) (after_gap path.old root.old) }
 
     // The tree is as high as before, unless each node of the path was full: then a new root stands above it, with one pair.
-    ensures same_height { IsFalse (all_full path.old root.old.value) → IsSoundRoot (length path.old - 1) root.new.value }
-    ensures higher { IsTrue (all_full path.old root.old.value) → IsSoundRoot (length path.old) root.new.value × (length (own_pairs root.new.value) ≡ 1) }
+    ensures same_height { IsFalse (all_full path.old root.old) → IsSoundRoot (length path.old - 1) root.new }
+    ensures higher { IsTrue (all_full path.old root.old) → IsSoundRoot (length path.old) root.new × (length (own_pairs root.new) ≡ 1) }
     ensures comparisons { count.new.comparisons ≡ count.old.comparisons }
-    ensures moves { count.new.moves ≤ count.old.moves + insertion_moves path.old root.old.value }
+    ensures moves { count.new.moves ≤ count.old.moves + insertion_moves path.old root.old }
     ensures few_moves { count.new.moves ≤ count.old.moves + level_moves * length path.old }
     ensures moved { count.old.moves < count.new.moves }
 {
@@ -98,25 +98,25 @@ pub fn insert<K: Drop, V: Drop>(
 
 // Inserts with the nodes made ahead, and uses up all of them.
 fn insert_with<K: Drop, V: Drop>(
-    root: &mut Box<Node<K, V>>,
+    root: &mut Node<K, V>,
     path: &[u8],
     pair: (K, V),
-    leaf: Option<Box<Node<K, V>>>,
+    leaf: Option<Node<K, V>>,
     inner: &mut Spares<K, V>,
     count: &mut Count,
 )
     requires some { 0 < length path.now }
-    requires path { IsPath path.now root.old.value }
-    requires sound { IsSoundRoot (length path.now - 1) root.old.value }
-    requires leaf { IsSpareLeaf leaf (cascade path.now root.old.value) }
-    requires inner { inner.old ≡ nodes_needed path.now root.old.value - 1 }
+    requires path { IsPath path.now root.old }
+    requires sound { IsSoundRoot (length path.now - 1) root.old }
+    requires leaf { IsSpareLeaf leaf (cascade path.now root.old) }
+    requires inner { inner.old ≡ nodes_needed path.now root.old - 1 }
     ensures used_up { inner.new ≡ 0 }
-    ensures pairs { pairs_of root.new.value ≡ before_gap path.now root.old.value ++ pair ∷ after_gap path.now root.old.value }
-    ensures place { IsPutAt (path_after (nodes_needed path.now root.old.value) path.now) root.new.value pair (before_gap path.now root.old.value) (after_gap path.now root.old.value) }
-    ensures same_height { IsFalse (all_full path.now root.old.value) → IsSoundRoot (length path.now - 1) root.new.value }
-    ensures higher { IsTrue (all_full path.now root.old.value) → IsSoundRoot (length path.now) root.new.value × (length (own_pairs root.new.value) ≡ 1) }
+    ensures pairs { pairs_of root.new ≡ before_gap path.now root.old ++ pair ∷ after_gap path.now root.old }
+    ensures place { IsPutAt (path_after (nodes_needed path.now root.old) path.now) root.new pair (before_gap path.now root.old) (after_gap path.now root.old) }
+    ensures same_height { IsFalse (all_full path.now root.old) → IsSoundRoot (length path.now - 1) root.new }
+    ensures higher { IsTrue (all_full path.now root.old) → IsSoundRoot (length path.now) root.new × (length (own_pairs root.new) ≡ 1) }
     ensures comparisons { count.new.comparisons ≡ count.old.comparisons }
-    ensures moves { count.new.moves ≤ count.old.moves + insertion_moves path.now root.old.value }
+    ensures moves { count.new.moves ≤ count.old.moves + insertion_moves path.now root.old }
     ensures few_moves { count.new.moves ≤ count.old.moves + level_moves * length path.now }
     ensures moved { count.old.moves < count.new.moves }
 {
@@ -131,20 +131,20 @@ fn insert_with<K: Drop, V: Drop>(
 
 /// Puts a new root above the root and the node on its right, with the pair between them.
 pub fn grow<K: Drop, V: Drop>(
-    root: &mut Box<Node<K, V>>,
+    root: &mut Node<K, V>,
     pair: (K, V),
-    right: Box<Node<K, V>>,
-    blank: Box<Node<K, V>>,
+    right: Node<K, V>,
+    blank: Node<K, V>,
     count: &mut Count,
 )
-    requires { IsBlankInner blank.value }
-    ensures pairs { own_pairs root.new.value ≡ pair ∷ [] }
-    ensures children { children_of root.new.value ≡ root.old.value ∷ right.value ∷ [] }
+    requires { IsBlankInner blank }
+    ensures pairs { own_pairs root.new ≡ pair ∷ [] }
+    ensures children { children_of root.new ≡ root.old ∷ right ∷ [] }
     ensures comparisons { count.new.comparisons ≡ count.old.comparisons }
     ensures moves { count.new.moves ≡ count.old.moves + 1 }
 {
     let left = mem::replace(root, blank);
-    let Node { pairs, children } = &mut **root;
+    let Node { pairs, children } = root;
     let Some(children) = children else {
         unreachable!()
     };
@@ -159,10 +159,10 @@ fn insert_below<K: Drop, V: Drop>(
     node: &mut Node<K, V>,
     path: &[u8],
     pair: (K, V),
-    leaf: Option<Box<Node<K, V>>>,
+    leaf: Option<Node<K, V>>,
     inner: &mut Spares<K, V>,
     count: &mut Count,
-) -> Option<((K, V), Box<Node<K, V>>)>
+) -> Option<((K, V), Node<K, V>)>
     requires some { 0 < length path.now }
     requires path { IsPath path.now node.old }
     requires levels { IsLevelled (length path.now - 1) node.old }
@@ -176,8 +176,8 @@ fn insert_below<K: Drop, V: Drop>(
     ensures arrived { HasArrived path.now node.old node.new result }
 
     // The levels are as before, in each half of a node that was full.
-    ensures levels { IsLevelled (length path.now - 1) node.new × IfSome result (λ s. IsLevelled (length path.now - 1) s.1.value) }
-    ensures size { MatchOption result (length (own_pairs node.old) ≤ length (own_pairs node.new)) (λ s. IsHalved node.new × IsHalved s.1.value) }
+    ensures levels { IsLevelled (length path.now - 1) node.new × IfSome result (λ s. IsLevelled (length path.now - 1) s.1) }
+    ensures size { MatchOption result (length (own_pairs node.old) ≤ length (own_pairs node.new)) (λ s. IsHalved node.new × IsHalved s.1) }
 
     // The node is halved where all of the path was full, and an inner node is used for each that was halved above the leaf.
     ensures halved { MatchOption result (cascade path.now node.old < length path.now) (λ _. cascade path.now node.old ≡ length path.now) }
@@ -209,15 +209,15 @@ fn put_leaf<K: Drop, V: Drop>(
     node: &mut Node<K, V>,
     i: usize,
     pair: (K, V),
-    spare: Option<Box<Node<K, V>>>,
+    spare: Option<Node<K, V>>,
     count: &mut Count,
-) -> Option<((K, V), Box<Node<K, V>>)>
+) -> Option<((K, V), Node<K, V>)>
     requires in_bounds { i ≤ length (own_pairs node.old) }
     requires leaf { IsLeaf node.old }
-    requires spare { MatchOption spare (length (own_pairs node.old) < capacity) (λ b. (length (own_pairs node.old) ≡ capacity) × IsBlankLeaf b.value) }
+    requires spare { MatchOption spare (length (own_pairs node.old) < capacity) (λ b. (length (own_pairs node.old) ≡ capacity) × IsBlankLeaf b) }
     ensures pairs { own_pairs_after node.new result ≡ insert (own_pairs node.old) i pair }
-    ensures leaf { IsLeaf node.new × IfSome result (λ s. IsLeaf s.1.value) }
-    ensures size { MatchOption result (length (own_pairs node.new) ≤ capacity) (λ s. IsHalved node.new × IsHalved s.1.value) }
+    ensures leaf { IsLeaf node.new × IfSome result (λ s. IsLeaf s.1) }
+    ensures size { MatchOption result (length (own_pairs node.new) ≤ capacity) (λ s. IsHalved node.new × IsHalved s.1) }
     ensures halved { MatchOption result (length (own_pairs node.old) < capacity) (λ _. length (own_pairs node.old) ≡ capacity) }
     ensures left { IfSome result (λ _. length (own_pairs node.new) ≡ left_length i) }
     ensures comparisons { count.new.comparisons ≡ count.old.comparisons }
@@ -240,17 +240,17 @@ pub fn put_inner<K: Drop, V: Drop>(
     node: &mut Node<K, V>,
     i: usize,
     pair: (K, V),
-    child: Box<Node<K, V>>,
+    child: Node<K, V>,
     spares: &mut Spares<K, V>,
     count: &mut Count,
-) -> Option<((K, V), Box<Node<K, V>>)>
+) -> Option<((K, V), Node<K, V>)>
     requires in_bounds { i ≤ length (own_pairs node.old) }
     requires inner { IsInner node.old }
     requires some { length (own_pairs node.old) ≡ capacity → 0 < spares.old }
     ensures pairs { own_pairs_after node.new result ≡ insert (own_pairs node.old) i pair }
-    ensures children { children_after node.new result ≡ insert (children_of node.old) (i + 1) child.value }
-    ensures inner { IsInner node.new × IfSome result (λ s. IsInner s.1.value) }
-    ensures size { MatchOption result (length (own_pairs node.new) ≤ capacity) (λ s. IsHalved node.new × IsHalved s.1.value) }
+    ensures children { children_after node.new result ≡ insert (children_of node.old) (i + 1) child }
+    ensures inner { IsInner node.new × IfSome result (λ s. IsInner s.1) }
+    ensures size { MatchOption result (length (own_pairs node.new) ≤ capacity) (λ s. IsHalved node.new × IsHalved s.1) }
     ensures halved { MatchOption result (length (own_pairs node.old) < capacity) (λ _. length (own_pairs node.old) ≡ capacity) }
     ensures left { IfSome result (λ _. length (own_pairs node.new) ≡ left_length i) }
     ensures used { MatchOption result (spares.new ≡ spares.old) (λ _. spares.new + 1 ≡ spares.old) }
@@ -274,9 +274,9 @@ pub fn first_leaf<K: Drop, V: Drop>(
     alloc: Global,
     pair: (K, V),
     count: &mut Count,
-) -> Result<Box<Node<K, V>>, (K, V, TryReserveError)>
-    ensures pairs { IfOk result (λ root. pairs_of root.value ≡ pair ∷ []) }
-    ensures sound { IfOk result (λ root. IsSoundRoot 0 root.value) }
+) -> Result<Node<K, V>, (K, V, TryReserveError)>
+    ensures pairs { IfOk result (λ root. pairs_of root ≡ pair ∷ []) }
+    ensures sound { IfOk result (λ root. IsSoundRoot 0 root) }
     ensures back { IfErr result (λ e. (e.0, e.1) ≡ pair) }
     ensures error { IfErr result (λ e. e.2 ≡ TryReserveError.AllocError) }
     ensures comparisons { count.new.comparisons ≡ count.old.comparisons }

@@ -15,7 +15,7 @@ use std::marker::Model;
 /// further node that it splits and for a new root. A contract sees how many there are.
 #[derive(Drop)]
 pub struct NewNodes<K, V> {
-    pub(crate) leaf: Option<Box<Node<K, V>>>,
+    pub(crate) leaf: Option<Node<K, V>>,
     pub(crate) inner: Spares<K, V>,
 }
 

@@ -23,15 +23,15 @@ use std::alloc::Global;
 #[inline(always)]
 pub fn try_nodes_at<K: Drop, V: Drop>(
     alloc: Global,
-    root: &Box<Node<K, V>>,
+    root: &Node<K, V>,
     path: &Path,
 ) -> Result<NewNodes<K, V>, TryReserveError>
-    requires sound { IsSoundMap (Some root.now.value) }
-    requires path { IsPath path.now root.now.value }
-    requires levels { (h : ℕ) → IsLevelled h root.now.value → length path.now ≡ h + 1 }
-    ensures ok { IfOk result (λ made. made ≡ nodes_needed path.now root.now.value) }
+    requires sound { IsSoundMap (Some root.now) }
+    requires path { IsPath path.now root.now }
+    requires levels { (h : ℕ) → IsLevelled h root.now → length path.now ≡ h + 1 }
+    ensures ok { IfOk result (λ made. made ≡ nodes_needed path.now root.now) }
     ensures error { IfErr result (λ e. e ≡ TryReserveError.AllocError) }
-    ensures leaf { OnErr result (capacity ≤ length (pairs_of root.now.value)) }
+    ensures leaf { OnErr result (capacity ≤ length (pairs_of root.now)) }
 {
     try_new_nodes(alloc, root, path.as_slice())
 }
@@ -39,25 +39,25 @@ pub fn try_nodes_at<K: Drop, V: Drop>(
 /// Puts a pair into the gap of a sound tree that the path leads to, by the nodes that this takes. The path then leads to the pair.
 #[inline(always)]
 pub fn insert_ready<K: Drop, V: Drop>(
-    root: &mut Box<Node<K, V>>,
+    root: &mut Node<K, V>,
     path: &mut Path,
     pair: (K, V),
     new_nodes: NewNodes<K, V>,
     count: &mut Count,
 )
-    requires sound { IsSoundMap (Some root.old.value) }
-    requires path { IsPath path.old root.old.value }
-    requires levels { (h : ℕ) → IsLevelled h root.old.value → length path.old ≡ h + 1 }
-    requires fits { length (pairs_of root.old.value) < usize.MAX }
-    requires new_nodes { new_nodes ≡ nodes_needed path.old root.old.value }
+    requires sound { IsSoundMap (Some root.old) }
+    requires path { IsPath path.old root.old }
+    requires levels { (h : ℕ) → IsLevelled h root.old → length path.old ≡ h + 1 }
+    requires fits { length (pairs_of root.old) < usize.MAX }
+    requires new_nodes { new_nodes ≡ nodes_needed path.old root.old }
 
     // The pairs before the gap, the new pair and the pairs after the gap.
-    ensures pairs { pairs_of root.new.value ≡ before_gap path.old root.old.value ++ pair ∷ after_gap path.old root.old.value }
-    ensures place { IsPutAt path.new root.new.value pair (before_gap path.old root.old.value) (after_gap path.old root.old.value) }
-    ensures length { length (pairs_of root.new.value) ≡ length (pairs_of root.old.value) + 1 }
-    ensures sound { IsSoundMap (Some root.new.value) }
+    ensures pairs { pairs_of root.new ≡ before_gap path.old root.old ++ pair ∷ after_gap path.old root.old }
+    ensures place { IsPutAt path.new root.new pair (before_gap path.old root.old) (after_gap path.old root.old) }
+    ensures length { length (pairs_of root.new) ≡ length (pairs_of root.old) + 1 }
+    ensures sound { IsSoundMap (Some root.new) }
     ensures comparisons { count.new.comparisons ≡ count.old.comparisons }
-    ensures moves { HasFewMoves (length (pairs_of root.new.value)) count.old count.new }
+    ensures moves { HasFewMoves (length (pairs_of root.new)) count.old count.new }
     ensures moved { count.old.moves < count.new.moves }
 {
     insert(root, path, pair, new_nodes, count);
@@ -83,10 +83,10 @@ pub fn first_root<K: Drop, V: Drop>(
     pair: (K, V),
     new_nodes: NewNodes<K, V>,
     count: &mut Count,
-) -> Box<Node<K, V>>
+) -> Node<K, V>
     requires { new_nodes ≡ 1 }
-    ensures pairs { pairs_of result.value ≡ pair ∷ [] }
-    ensures sound { IsSoundRoot 0 result.value }
+    ensures pairs { pairs_of result ≡ pair ∷ [] }
+    ensures sound { IsSoundRoot 0 result }
     ensures comparisons { count.new.comparisons ≡ count.old.comparisons }
     ensures moves { count.new.moves ≡ count.old.moves + 1 }
 {
@@ -96,9 +96,9 @@ pub fn first_root<K: Drop, V: Drop>(
 }
 
 // The leaf among the nodes that were made.
-fn new_leaf<K: Drop, V: Drop>(new_nodes: NewNodes<K, V>) -> Box<Node<K, V>>
+fn new_leaf<K: Drop, V: Drop>(new_nodes: NewNodes<K, V>) -> Node<K, V>
     requires { 0 < new_nodes }
-    ensures { IsBlankLeaf result.value }
+    ensures { IsBlankLeaf result }
 {
     let NewNodes { leaf, inner: _ } = new_nodes;
     match leaf {

@@ -85,14 +85,14 @@ impl<K: Drop, V: Drop> Room<K, V> {
 
     /// Takes out the nodes of an insertion into the gap of a sound tree that the path leads to, and so uses a place up. The tree is only
     /// read.
-    pub fn take_for(&mut self, root: &Box<Node<K, V>>, path: &Path) -> NewNodes<K, V>
+    pub fn take_for(&mut self, root: &Node<K, V>, path: &Path) -> NewNodes<K, V>
         requires place { 0 < self.old.places }
-        requires fits { length (pairs_of root.now.value) < self.old.pairs }
-        requires sound { IsSoundMap (Some root.now.value) }
-        requires path { IsPath path.now root.now.value }
-        requires levels { (h : ℕ) → IsLevelled h root.now.value → length path.now ≡ h + 1 }
-        ensures taken { result ≡ nodes_needed path.now root.now.value }
-        ensures fits { length (pairs_of root.now.value) < usize.MAX }
+        requires fits { length (pairs_of root.now) < self.old.pairs }
+        requires sound { IsSoundMap (Some root.now) }
+        requires path { IsPath path.now root.now }
+        requires levels { (h : ℕ) → IsLevelled h root.now → length path.now ≡ h + 1 }
+        ensures taken { result ≡ nodes_needed path.now root.now }
+        ensures fits { length (pairs_of root.now) < usize.MAX }
         ensures places { self.new.places + 1 ≡ self.old.places }
         ensures pairs { self.new.pairs ≡ self.old.pairs }
     {

@@ -1,6 +1,5 @@
 //! Inner nodes that hold nothing, made ahead for the nodes that an insertion splits.
 ghost use Rattle.std.specs.Prelude.{◌≡◌, ◌+◌, ◌<◌, ◌≤◌, Option, None, Some};
-ghost use Rattle.std.specs.declared.boxed.Box.{Box};
 ghost use Rattle.std.specs.declared.alloc.Global.{Global};
 ghost use Rattle.fc_base.specs.Sizes.{most_levels};
 ghost use Rattle.fc_tree_node.specs.Node.{IsBlankInner};
@@ -13,7 +12,7 @@ use std::marker::Model;
 /// sees how many there are.
 #[derive(Drop)]
 pub struct Spares<K, V> {
-    top: Option<Box<Node<K, V>>>,
+    top: Option<Node<K, V>>,
     len: usize,
 }
 
@@ -51,8 +50,8 @@ impl<K, V> Spares<K, V> {
 
 impl<K: Drop, V: Drop> Spares<K, V> {
     // Adds a node that holds nothing.
-    pub(crate) fn push(&mut self, node: Box<Node<K, V>>)
-        requires blank { IsBlankInner node.value }
+    pub(crate) fn push(&mut self, node: Node<K, V>)
+        requires blank { IsBlankInner node }
         requires few { self.old < most_levels }
         ensures { self.new ≡ self.old + 1 }
     {
@@ -65,9 +64,9 @@ impl<K: Drop, V: Drop> Spares<K, V> {
     }
 
     /// Takes out the node that was added last.
-    pub fn take(&mut self) -> Box<Node<K, V>>
+    pub fn take(&mut self) -> Node<K, V>
         requires { 0 < self.old }
-        ensures node { IsBlankInner result.value }
+        ensures node { IsBlankInner result }
         ensures len { self.new + 1 ≡ self.old }
     {
         let Some(mut node) = self.top.take() else {
@@ -80,7 +79,7 @@ impl<K: Drop, V: Drop> Spares<K, V> {
 }
 
 // Makes `below` the node's only child.
-fn put_below<K: Drop, V: Drop>(node: &mut Node<K, V>, below: Box<Node<K, V>>)
+fn put_below<K: Drop, V: Drop>(node: &mut Node<K, V>, below: Node<K, V>)
     requires { IsAbove node.old None }
     ensures { IsAbove node.new (Some below) }
 {
@@ -91,8 +90,8 @@ fn put_below<K: Drop, V: Drop>(node: &mut Node<K, V>, below: Box<Node<K, V>>)
 }
 
 // Takes the node's only child out, if it has one.
-fn take_below<K, V>(node: &mut Node<K, V>) -> Option<Box<Node<K, V>>>
-    requires { (below : Option (Box (Node K V) Global)) × IsAbove node.old below }
+fn take_below<K, V>(node: &mut Node<K, V>) -> Option<Node<K, V>>
+    requires { (below : Option (Node K V)) × IsAbove node.old below }
     ensures below { IsAbove node.old result }
     ensures none { IsAbove node.new None }
 {

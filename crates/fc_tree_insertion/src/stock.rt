@@ -16,7 +16,7 @@ use std::marker::Model;
 /// since a chain of as many would be dropped by as deep a recursion. A contract sees how many there are.
 #[derive(Drop)]
 pub struct Stock<K, V> {
-    nodes: Vec<Box<Node<K, V>>>,
+    nodes: Vec<Node<K, V>>,
 }
 
 impl<K, V> Model for Stock<K, V> {
@@ -31,7 +31,7 @@ impl<K, V> Model for Stock<K, V> {
 
     ghost view = { λ s. length s.nodes.items };
 
-    ghost invariant = { λ s. AllByRecursion (λ b. IsBlankInner b.value) s.nodes.items };
+    ghost invariant = { λ s. AllByRecursion (λ b. IsBlankInner b) s.nodes.items };
 }
 
 impl<K: Drop, V: Drop> Stock<K, V> {
@@ -54,8 +54,8 @@ impl<K: Drop, V: Drop> Stock<K, V> {
     }
 
     // Adds a node.
-    fn try_put(&mut self, node: Box<Node<K, V>>) -> Result<(), TryReserveError>
-        requires { IsBlankInner node.value }
+    fn try_put(&mut self, node: Node<K, V>) -> Result<(), TryReserveError>
+        requires { IsBlankInner node }
         ensures len { IfOk result (λ _. self.new ≡ self.old + 1) }
         ensures error { IfErr result (λ e. e ≡ TryReserveError.AllocError) }
     {
@@ -64,9 +64,9 @@ impl<K: Drop, V: Drop> Stock<K, V> {
     }
 
     // Takes a node out.
-    fn take(&mut self) -> Box<Node<K, V>>
+    fn take(&mut self) -> Node<K, V>
         requires { 0 < self.old }
-        ensures blank { IsBlankInner result.value }
+        ensures blank { IsBlankInner result }
         ensures len { self.new + 1 ≡ self.old }
     {
         match self.nodes.pop() {
@@ -76,9 +76,9 @@ impl<K: Drop, V: Drop> Stock<K, V> {
     }
 
     // Takes a node out to be a leaf.
-    fn take_leaf(&mut self) -> Box<Node<K, V>>
+    fn take_leaf(&mut self) -> Node<K, V>
         requires { 0 < self.old }
-        ensures blank { IsBlankLeaf result.value }
+        ensures blank { IsBlankLeaf result }
         ensures len { self.new + 1 ≡ self.old }
     {
         let mut node = self.take();

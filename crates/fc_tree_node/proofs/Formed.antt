@@ -1,6 +1,5 @@
 -- Nodes that are leaves or have one child more than pairs.
-use Rattle.std.proofs.Common.{◌≡◌, ◌+◌, List, [], length, ap, Box, Some, inl, inr, arith}
-use Rattle.std.specs.declared.alloc.Global.{Global}
+use Rattle.std.proofs.Common.{◌≡◌, ◌+◌, List, [], length, ap, Some, inl, inr, arith}
 use Rattle.fc_tree_node.specs.declared.node.Node.{Node, out-Node, roll-Node}
 use Rattle.fc_tree_node.specs.Node.{own_pairs, children_of, IsLeaf, IsInner}
 use Rattle.fc_tree_node.specs.Siblings.{IsFormed, AreAlike}
@@ -9,16 +8,16 @@ use Rattle.fc_tree_node.proofs.Pairs.{leaf_children}
 
 module _ {K V : Type 0} where
   -- a node with a list of children is no leaf
-  pub inner_opened : (n : Node K V) (bs : List (Box (Node K V) Global)) → (out-Node K V n).children ≡ Some bs → IsFormed n → IsInner n
+  pub inner_opened : (n : Node K V) (bs : List (Node K V)) → (out-Node K V n).children ≡ Some bs → IsFormed n → IsInner n
   inner_opened n bs e (inl leaf) = absurd (cc (e, leaf))
   inner_opened n bs e (inr inner) = inner
 
-  pub alike_opened : (n m : Node K V) (bs : List (Box (Node K V) Global)) → (out-Node K V n).children ≡ Some bs → AreAlike n m → IsInner n × IsInner m
+  pub alike_opened : (n m : Node K V) (bs : List (Node K V)) → (out-Node K V n).children ≡ Some bs → AreAlike n m → IsInner n × IsInner m
   alike_opened n m bs e (inl leaves) = absurd (cc (e, leaves.0))
   alike_opened n m bs e (inr inner) = inner
 
   -- an inner node with another number of pairs and as many more children
-  pub alike_made : (n : Node K V) (ps : List (K × V)) (bs : List (Box (Node K V) Global)) → IsInner n → length bs ≡ length ps + 1 → AreAlike n (roll-Node K V (record { pairs = ps; children = Some bs }))
+  pub alike_made : (n : Node K V) (ps : List (K × V)) (bs : List (Node K V)) → IsInner n → length bs ≡ length ps + 1 → AreAlike n (roll-Node K V (record { pairs = ps; children = Some bs }))
   alike_made n ps bs inner e = inr (inner, inner_made (record { pairs = ps; children = Some bs }) e)
 
   pub leaf_or_inner : (n : Node K V) → IsLeaf n → IsInner n → ⊥
@@ -39,7 +38,7 @@ module _ {K V : Type 0} where
   alike_back n m (inr a) = inr (a.1, a.0)
 
   -- two nodes with other numbers of pairs and as many more or fewer children
-  pub alike_traded : (n m : Node K V) (bs cs : List (Box (Node K V) Global)) → (out-Node K V n).children ≡ Some bs → (out-Node K V m).children ≡ Some cs → AreAlike n m → (ps qs : List (K × V)) (bs' cs' : List (Box (Node K V) Global))
+  pub alike_traded : (n m : Node K V) (bs cs : List (Node K V)) → (out-Node K V n).children ≡ Some bs → (out-Node K V m).children ≡ Some cs → AreAlike n m → (ps qs : List (K × V)) (bs' cs' : List (Node K V))
       → length bs' + length (own_pairs n) ≡ length bs + length ps → length cs' + length (own_pairs m) ≡ length cs + length qs
       → AreAlike n (roll-Node K V (record { pairs = ps; children = Some bs' })) × AreAlike (roll-Node K V (record { pairs = ps; children = Some bs' })) (roll-Node K V (record { pairs = qs; children = Some cs' }))
   alike_traded n m bs cs e f (inl a) ps qs bs' cs' h k = absurd (cc (e, a.0))

@@ -1,9 +1,7 @@
 -- What a node holds in order, and when it is sound.
-use Rattle.std.specs.Prelude.{◌≡◌, ℕ, zero, suc, ◌+◌, ◌≤◌, List, [], length, map, slice_index_or, Option, Some, None}
+use Rattle.std.specs.Prelude.{◌≡◌, ℕ, zero, suc, ◌+◌, ◌≤◌, List, [], length, slice_index_or, Option, Some, None}
 use Rattle.std.specs.List.{AllByRecursion}
 use Rattle.fc_tree_node.specs.Weave.{weave}
-use Rattle.std.specs.declared.boxed.Box.{Box}
-use Rattle.std.specs.declared.alloc.Global.{Global}
 use Rattle.fc_base.specs.Sizes.{capacity, min_len, most_height}
 use Rattle.fc_tree_node.specs.declared.node.Node.{Node, Node-F, out-Node, fold-Node}
 
@@ -17,17 +15,13 @@ module _ {K V : Type 0} where
   abbrev pub own_pairs : Node K V → List (K × V)
   own_pairs n = (out-Node K V n).pairs
 
-  -- The nodes in the boxes.
-  abbrev pub boxed : List (Box (Node K V) Global) → List (Node K V)
-  boxed = map (λ b. b.value)
-
   -- The node's children, in order; a leaf has none.
   abbrev pub children_of : Node K V → List (Node K V)
-  children_of n = boxed (items_or_none (out-Node K V n).children)
+  children_of n = items_or_none (out-Node K V n).children
 
   -- A leaf's pairs, or the children's pairs and a node's own pairs in turn, from the first child on.
   abbrev pub pairs_step : Node-F K V (List (K × V)) → List (K × V)
-  pairs_step f = weave (map (λ b. b.value) (items_or_none f.children)) f.pairs
+  pairs_step f = weave (items_or_none f.children) f.pairs
 
   -- All pairs in the node and below it, in order.
   abbrev pub pairs_of : Node K V → List (K × V)

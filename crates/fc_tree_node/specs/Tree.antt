@@ -1,7 +1,5 @@
 -- A map as contracts see it: the tree at its root, whose pairs are the map's list.
 use Rattle.std.specs.Prelude.{ℕ, ◌≤◌, List, [], Option, Some, None}
-use Rattle.std.specs.declared.boxed.Box.{Box}
-use Rattle.std.specs.declared.alloc.Global.{Global}
 use Rattle.fc_base.specs.Sizes.{most_height}
 use Rattle.fc_tree_node.specs.declared.node.Node.{Node}
 use Rattle.fc_tree_node.specs.Node.{pairs_of, IsSoundRoot}
@@ -14,11 +12,6 @@ Map K V = Option (Node K V)
 abbrev pub entries : {K V : Type 0} → Map K V → List (K × V)
 entries None = []
 entries (Some root) = pairs_of root
-
--- The node in the box, if there is one.
-abbrev pub root_of : {K V : Type 0} → Option (Box (Node K V) Global) → Map K V
-root_of None = None
-root_of (Some root) = Some root.value
 
 -- The tree is sound, with one height that is not too high for a path, if there is one.
 abbrev pub IsSoundMap : {K V : Type 0} → Map K V → Type 0

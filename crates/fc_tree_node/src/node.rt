@@ -27,45 +27,39 @@ pub struct Node<K, V> {
     /// The pairs of the node itself, in order.
     pub pairs: Slots<(K, V), CAPACITY>,
     /// The children, in order; a leaf has no room for them.
-    pub children: Option<Children<Box<Node<K, V>>>>,
+    pub children: Option<Children<Node<K, V>>>,
 }
 
 impl<K: Drop, V: Drop> Node<K, V> {
-    /// A leaf that holds nothing, made in two requests: for its pairs and for its box.
+    /// A leaf that holds nothing, made in one request, for its pairs.
     ///
     /// # Errors
-    /// `AllocError` if either is refused. Nothing is then left after.
-    pub fn try_leaf(alloc: Global) -> Result<Box<Node<K, V>>, TryReserveError>
-        ensures ok { IfOk result (λ b. IsBlankLeaf b.value) }
+    /// `AllocError` if it is refused.
+    pub fn try_leaf(alloc: Global) -> Result<Node<K, V>, TryReserveError>
+        ensures ok { IfOk result (λ b. IsBlankLeaf b) }
         ensures error { IfErr result (λ e. e ≡ TryReserveError.AllocError) }
     {
         let pairs = Slots::try_new(alloc)?;
-        Ok(Box::new(
-            alloc,
-            Node {
-                pairs,
-                children: None,
-            },
-        )?)
+        Ok(Node {
+            pairs,
+            children: None,
+        })
     }
 
-    /// An inner node that holds nothing, made in three requests: for its pairs, for its children and for its box.
+    /// An inner node that holds nothing, made in two requests, for its pairs and for its children.
     ///
     /// # Errors
     /// `AllocError` if one is refused. Nothing is then left after.
-    pub fn try_inner(alloc: Global) -> Result<Box<Node<K, V>>, TryReserveError>
-        ensures ok { IfOk result (λ b. IsBlankInner b.value) }
+    pub fn try_inner(alloc: Global) -> Result<Node<K, V>, TryReserveError>
+        ensures ok { IfOk result (λ b. IsBlankInner b) }
         ensures error { IfErr result (λ e. e ≡ TryReserveError.AllocError) }
     {
         let pairs = Slots::try_new(alloc)?;
         let children = Children::try_new(alloc)?;
-        Ok(Box::new(
-            alloc,
-            Node {
-                pairs,
-                children: Some(children),
-            },
-        )?)
+        Ok(Node {
+            pairs,
+            children: Some(children),
+        })
     }
 }
 

@@ -51,12 +51,12 @@ module _ {K V : Type 0} where
     pub levels : IsLevelled (suc below) n
     pub inner : IsInner n
 
-  pub some_above : (h : ℕ) (n : Node K V) (bs : List (Box (Node K V) Global)) → (out-Node K V n).children ≡ Some bs → IsLevelled h n → IsAbove h n
+  pub some_above : (h : ℕ) (n : Node K V) (bs : List (Node K V)) → (out-Node K V n).children ≡ Some bs → IsLevelled h n → IsAbove h n
   some_above zero n bs e l = absurd (let f = sym e ∙ l.1 in cc)
   some_above (suc h) n bs e l = record { below = h; height = refl; levels = l; inner = l.1 }
 
   -- the child in a box of the list that a node has
-  pub opened_child : (n : Node K V) (bs : List (Box (Node K V) Global)) (i : ℕ) (b : Box (Node K V) Global) (c : Node K V) → (out-Node K V n).children ≡ Some bs → IsInner n → i ≤ length (own_pairs n) → b ≡ get_or bs i b → c ≡ b.value → c ≡ child_at n i
+  pub opened_child : (n : Node K V) (bs : List (Node K V)) (i : ℕ) (b : Node K V) (c : Node K V) → (out-Node K V n).children ≡ Some bs → IsInner n → i ≤ length (own_pairs n) → b ≡ get_or bs i b → c ≡ b → c ≡ child_at n i
   opened_child n bs i b c e inner h q f =
       let k = inner_length n bs e inner in
       let s : bs ≡ items_or_none (out-Node K V n).children = ap items_or_none (sym e) in
@@ -183,19 +183,19 @@ module _ {K V : Type 0} where
   empty_leaf root l e = leaf_pairs root l ∙ no_pairs (own_pairs root) e
 
   -- the only child of a root without pairs
-  pub only_child : (root : Node K V) (bs : List (Box (Node K V) Global)) (b : Box (Node K V) Global) → (out-Node K V root).children ≡ Some bs → IsInner root → length (own_pairs root) ≡ 0 → b ≡ get_or bs 0 b → children_of root ≡ b.value ∷ []
+  pub only_child : (root : Node K V) (bs : List (Node K V)) (b : Node K V) → (out-Node K V root).children ≡ Some bs → IsInner root → length (own_pairs root) ≡ 0 → b ≡ get_or bs 0 b → children_of root ≡ b ∷ []
   only_child root bs b e inner h f = children_in root bs e ∙ single bs b (inner_length root bs e inner ∙ ap (λ k. k + 1) h) f
     where
-      single : (bs : List (Box (Node K V) Global)) (b : Box (Node K V) Global) → length bs ≡ 1 → b ≡ get_or bs 0 b → boxed bs ≡ b.value ∷ []
+      single : (bs : List (Node K V)) (b : Node K V) → length bs ≡ 1 → b ≡ get_or bs 0 b → boxed bs ≡ b ∷ []
       single [] b e f = absurd (omega arith)
-      single (x ∷ []) b e f = ap (λ y. y.value ∷ []) (sym f)
+      single (x ∷ []) b e f = ap (λ y. y ∷ []) (sym f)
       single (x ∷ y ∷ bs) b e f = absurd (omega arith)
 
   pub only_pairs : (root c : Node K V) → length (own_pairs root) ≡ 0 → children_of root ≡ c ∷ [] → pairs_of c ≡ pairs_of root
   only_pairs root c h e =
       sym (pairs_is root ∙ ap (λ ps. weave (map pairs_of (children_of root)) ps) (no_pairs (own_pairs root) h) ∙ ap (λ cs. weave (map pairs_of cs) []) e ∙ append-nil (pairs_of c))
 
-  pub one_lower : (h : ℕ) (root c : Node K V) (bs : List (Box (Node K V) Global)) → (out-Node K V root).children ≡ Some bs → children_of root ≡ c ∷ [] → IsLevelled h root → IsSoundRoot h c ⊎ ((0 < h) × IsSoundRoot (h - 1) c)
+  pub one_lower : (h : ℕ) (root c : Node K V) (bs : List (Node K V)) → (out-Node K V root).children ≡ Some bs → children_of root ≡ c ∷ [] → IsLevelled h root → IsSoundRoot h c ⊎ ((0 < h) × IsSoundRoot (h - 1) c)
   one_lower zero root c bs e f l = absurd (let q = sym e ∙ l.1 in cc)
   one_lower (suc h) root c bs e f l =
       let a = (subst (AllByRecursion (IsSound h)) f l.2).0 in

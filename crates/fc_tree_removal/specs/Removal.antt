@@ -1,6 +1,5 @@
 -- What is left of a node and of a tree after a removal.
 use Rattle.std.specs.Prelude.{◌≡◌, ℕ, ◌+◌, ◌-◌, ◌≤◌, ◌<◌, ◌⊎◌, List, [], length, Option, Some, None, MatchOption}
-use Rattle.std.specs.declared.boxed.Box.{Box}
 use Rattle.std.specs.declared.alloc.Global.{Global}
 use Rattle.fc_tree_node.specs.declared.node.Node.{Node}
 use Rattle.fc_tree_node.specs.Node.{own_pairs, pairs_of, IsLevelled, IsSoundRoot}
@@ -13,5 +12,5 @@ module _ {K V : Type 0} where
   IsSoundTree h (Some root) = IsSoundRoot h root
 
   -- What a removal leaves of a tree of this height: a sound tree as high or one level lower, or none where a leaf was the whole tree.
-  abbrev pub IsTreeLeft : ℕ → Option (Box (Node K V) Global) → Type 0
-  IsTreeLeft h tree = MatchOption tree (h ≡ 0) (λ root. IsSoundRoot h root.value ⊎ ((0 < h) × IsSoundRoot (h - 1) root.value))
+  abbrev pub IsTreeLeft : ℕ → Option (Node K V) → Type 0
+  IsTreeLeft h tree = MatchOption tree (h ≡ 0) (λ root. IsSoundRoot h root ⊎ ((0 < h) × IsSoundRoot (h - 1) root))

@@ -2,7 +2,7 @@
 ghost use Rattle.std.specs.Prelude.{◌≡◌, ℕ, ◌+◌, ◌*◌, ◌<◌, ◌≤◌, [], ◌∷◌, ◌++◌};
 ghost use Rattle.fc_base.specs.Sizes.{capacity, level_moves};
 ghost use Rattle.fc_tree_node.specs.Node.{pairs_of, IsSoundRoot};
-ghost use Rattle.fc_tree_node.specs.Tree.{entries, root_of};
+ghost use Rattle.fc_tree_node.specs.Tree.{entries};
 ghost use Rattle.fc_tree_removal.specs.Removal.{IsTreeLeft};
 ghost use Rattle.fc_tree_node.specs.Shrunk.{IsShrunk};
 
@@ -13,15 +13,15 @@ use fc_tree_node::node::Node;
 /// Takes the first pair out of the tree below `root`, and hands out what is left of the tree: none where that was the only pair.
 /// It compares nothing and takes no memory.
 pub fn take_first<K: Drop, V: Drop>(
-    root: Box<Node<K, V>>,
+    root: Node<K, V>,
     count: &mut Count,
-) -> ((K, V), Option<Box<Node<K, V>>>)
-    requires { (h : ℕ) × IsSoundRoot h root.value }
-    ensures pairs { pairs_of root.value ≡ result.0 ∷ entries (root_of result.1) }
+) -> ((K, V), Option<Node<K, V>>)
+    requires { (h : ℕ) × IsSoundRoot h root }
+    ensures pairs { pairs_of root ≡ result.0 ∷ entries result.1 }
 
     // The tree is as high as before or one level lower.
-    ensures levels { (h : ℕ) → IsSoundRoot h root.value → IsTreeLeft h result.1 }
-    ensures moves { (h : ℕ) → IsSoundRoot h root.value → count.new.moves ≤ count.old.moves + level_moves * (h + 1) }
+    ensures levels { (h : ℕ) → IsSoundRoot h root → IsTreeLeft h result.1 }
+    ensures moves { (h : ℕ) → IsSoundRoot h root → count.new.moves ≤ count.old.moves + level_moves * (h + 1) }
     ensures moved { count.old.moves < count.new.moves }
     ensures comparisons { count.new.comparisons ≡ count.old.comparisons }
 {
@@ -34,15 +34,15 @@ pub fn take_first<K: Drop, V: Drop>(
 /// Takes the last pair out of the tree below `root`, and hands out what is left of the tree: none where that was the only pair.
 /// It compares nothing and takes no memory.
 pub fn take_last<K: Drop, V: Drop>(
-    root: Box<Node<K, V>>,
+    root: Node<K, V>,
     count: &mut Count,
-) -> ((K, V), Option<Box<Node<K, V>>>)
-    requires { (h : ℕ) × IsSoundRoot h root.value }
-    ensures pairs { pairs_of root.value ≡ entries (root_of result.1) ++ result.0 ∷ [] }
+) -> ((K, V), Option<Node<K, V>>)
+    requires { (h : ℕ) × IsSoundRoot h root }
+    ensures pairs { pairs_of root ≡ entries result.1 ++ result.0 ∷ [] }
 
     // The tree is as high as before or one level lower.
-    ensures levels { (h : ℕ) → IsSoundRoot h root.value → IsTreeLeft h result.1 }
-    ensures moves { (h : ℕ) → IsSoundRoot h root.value → count.new.moves ≤ count.old.moves + level_moves * (h + 1) }
+    ensures levels { (h : ℕ) → IsSoundRoot h root → IsTreeLeft h result.1 }
+    ensures moves { (h : ℕ) → IsSoundRoot h root → count.new.moves ≤ count.old.moves + level_moves * (h + 1) }
     ensures moved { count.old.moves < count.new.moves }
     ensures comparisons { count.new.comparisons ≡ count.old.comparisons }
 {

@@ -1,12 +1,11 @@
 //! Removal at a place, which mends the nodes above it on its way up.
 ghost use Rattle.std.specs.Prelude.{◌≡◌, ℕ, suc, ◌+◌, ◌-◌, ◌*◌, ◌<◌, ◌≤◌, [], ◌∷◌, ◌++◌, length, Some};
-ghost use Rattle.std.specs.declared.boxed.Box.{Box};
 ghost use Rattle.std.specs.declared.alloc.Global.{Global};
 ghost use Rattle.fc_base.specs.Sizes.{capacity, min_len, level_moves};
 ghost use Rattle.fc_tree_node.specs.Node.{own_pairs, child_at, pairs_of, IsLevelled, IsSoundRoot};
 ghost use Rattle.fc_tree_node.specs.Place.{IsPlace, place_pair, before_pair, after_pair};
 ghost use Rattle.fc_tree_node.specs.Siblings.{IsMerged, IsShared};
-ghost use Rattle.fc_tree_node.specs.Tree.{root_of, entries};
+ghost use Rattle.fc_tree_node.specs.Tree.{entries};
 ghost use Rattle.fc_tree_node.specs.TreePlace.{IsPlaceIn, pair_in, before_pair_in, after_pair_in};
 ghost use Rattle.fc_tree_removal.specs.Mending.{together, IsShortAt};
 ghost use Rattle.fc_tree_removal.specs.Removal.{IsSoundTree, IsTreeLeft};
@@ -18,18 +17,18 @@ use fc_tree_node::node::{CAPACITY, MIN_LEN, Node};
 /// Takes the pair at the place out of the tree, of which nothing is left where that was the only pair. It compares nothing and takes
 /// no memory.
 pub fn remove<K: Drop, V: Drop>(
-    tree: &mut Option<Box<Node<K, V>>>,
+    tree: &mut Option<Node<K, V>>,
     path: &[u8],
     count: &mut Count,
 ) -> (K, V)
-    requires sound { (h : ℕ) × IsSoundTree h (root_of tree.old) }
-    requires place { IsPlaceIn (root_of tree.old) path.now }
-    ensures pair { pair_in (root_of tree.old) path.now ≡ Some result }
-    ensures pairs { entries (root_of tree.new) ≡ before_pair_in (root_of tree.old) path.now ++ after_pair_in (root_of tree.old) path.now }
+    requires sound { (h : ℕ) × IsSoundTree h tree.old }
+    requires place { IsPlaceIn tree.old path.now }
+    ensures pair { pair_in tree.old path.now ≡ Some result }
+    ensures pairs { entries tree.new ≡ before_pair_in tree.old path.now ++ after_pair_in tree.old path.now }
 
     // The tree is as high as before or one level lower.
-    ensures levels { (h : ℕ) → IsSoundTree h (root_of tree.old) → IsTreeLeft h tree.new }
-    ensures moves { (h : ℕ) → IsSoundTree h (root_of tree.old) → count.new.moves ≤ count.old.moves + level_moves * (h + 1) }
+    ensures levels { (h : ℕ) → IsSoundTree h tree.old → IsTreeLeft h tree.new }
+    ensures moves { (h : ℕ) → IsSoundTree h tree.old → count.new.moves ≤ count.old.moves + level_moves * (h + 1) }
     ensures moved { count.old.moves < count.new.moves }
     ensures comparisons { count.new.comparisons ≡ count.old.comparisons }
 {
@@ -45,10 +44,10 @@ pub fn remove<K: Drop, V: Drop>(
 
 // Takes a root without pairs out of the tree. It is not inlined, since few removals come to it.
 #[inline(never)]
-fn take_empty_root<K: Drop, V: Drop>(tree: &mut Option<Box<Node<K, V>>>)
-    requires { (root : Box (Node K V) Global) × (tree.old ≡ Some root) × (h : ℕ) × IsLevelled h root.value }
-    ensures pairs { entries (root_of tree.new) ≡ entries (root_of tree.old) }
-    ensures levels { (root : Box (Node K V) Global) → tree.old ≡ Some root → (h : ℕ) → IsLevelled h root.value → IsTreeLeft h tree.new }
+fn take_empty_root<K: Drop, V: Drop>(tree: &mut Option<Node<K, V>>)
+    requires { (root : Node K V) × (tree.old ≡ Some root) × (h : ℕ) × IsLevelled h root }
+    ensures pairs { entries tree.new ≡ entries tree.old }
+    ensures levels { (root : Node K V) → tree.old ≡ Some root → (h : ℕ) → IsLevelled h root → IsTreeLeft h tree.new }
 {
     let Some(root) = tree.take() else {
         unreachable!()
@@ -57,15 +56,15 @@ fn take_empty_root<K: Drop, V: Drop>(tree: &mut Option<Box<Node<K, V>>>)
 }
 
 // A root without pairs gives way to its only child.
-pub(crate) fn without_empty_root<K: Drop, V: Drop>(root: Box<Node<K, V>>) -> Option<Box<Node<K, V>>>
-    requires { (h : ℕ) × IsLevelled h root.value }
-    ensures pairs { entries (root_of result) ≡ pairs_of root.value }
-    ensures levels { (h : ℕ) → IsLevelled h root.value → IsTreeLeft h result }
+pub(crate) fn without_empty_root<K: Drop, V: Drop>(root: Node<K, V>) -> Option<Node<K, V>>
+    requires { (h : ℕ) × IsLevelled h root }
+    ensures pairs { entries result ≡ pairs_of root }
+    ensures levels { (h : ℕ) → IsLevelled h root → IsTreeLeft h result }
 {
     if root.len() > 0 {
         return Some(root);
     }
-    let Node { pairs: _, children } = Box::into_inner(root);
+    let Node { pairs: _, children } = root;
     match children {
         None => None,
         Some(mut children) => Some(children.remove(0)),

@@ -12,21 +12,21 @@ use fc_tree_node::path::Path;
 /// Puts `pair` in the place of the one that the path leads to in a sound tree, which is handed out. It compares nothing and takes
 /// no memory.
 pub fn exchange<K: Drop, V: Drop>(
-    root: &mut Box<Node<K, V>>,
+    root: &mut Node<K, V>,
     path: &Path,
     pair: (K, V),
     count: &mut Count,
 ) -> (K, V)
-    requires sound { IsSoundMap (Some root.old.value) }
-    requires place { IsPlace path.now root.old.value }
-    ensures old { place_pair path.now root.old.value ≡ Some result }
+    requires sound { IsSoundMap (Some root.old) }
+    requires place { IsPlace path.now root.old }
+    ensures old { place_pair path.now root.old ≡ Some result }
 
     // The pairs before the place, the new pair and the pairs after the place.
-    ensures pairs { pairs_of root.new.value ≡ before_pair path.now root.old.value ++ pair ∷ after_pair path.now root.old.value }
-    ensures length { length (pairs_of root.new.value) ≡ length (pairs_of root.old.value) }
-    ensures some { 0 < length (pairs_of root.new.value) }
-    ensures sound { IsSoundMap (Some root.new.value) }
-    ensures moves { HasFewMoves (length (pairs_of root.new.value)) count.old count.new }
+    ensures pairs { pairs_of root.new ≡ before_pair path.now root.old ++ pair ∷ after_pair path.now root.old }
+    ensures length { length (pairs_of root.new) ≡ length (pairs_of root.old) }
+    ensures some { 0 < length (pairs_of root.new) }
+    ensures sound { IsSoundMap (Some root.new) }
+    ensures moves { HasFewMoves (length (pairs_of root.new)) count.old count.new }
     ensures exchanged { count.new.moves ≡ count.old.moves + 2 }
     ensures comparisons { count.new.comparisons ≡ count.old.comparisons }
 {

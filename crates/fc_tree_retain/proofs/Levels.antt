@@ -106,7 +106,7 @@ module _ {K V : Type 0} where
     pub loose : IsLoose below d
     pub falls : height_of d < h
 
-  pub lent : (h : ℕ) (n : Node K V) (bs : List (Box (Node K V) Global)) (i : ℕ) (b : Box (Node K V) Global) (d : Node K V) → (out-Node K V n).children ≡ Some bs → IsInner n → IsLoose h n → i ≤ length (own_pairs n) → b ≡ get_or bs i b → d ≡ b.value → IsLent h n d i
+  pub lent : (h : ℕ) (n : Node K V) (bs : List (Node K V)) (i : ℕ) (b : Node K V) (d : Node K V) → (out-Node K V n).children ≡ Some bs → IsInner n → IsLoose h n → i ≤ length (own_pairs n) → b ≡ get_or bs i b → d ≡ b → IsLent h n d i
   lent zero n bs i b d e inner l le q f = absurd (leaf_or_inner n l.1 inner)
   lent (suc h) n bs i b d e inner l le q f =
       let is = opened_child n bs i b d e inner le q f in

@@ -3,7 +3,7 @@ ghost use Rattle.std.specs.Prelude.{◌≡◌, ℕ, ◌+◌, ◌<◌, ◌≤◌,
 ghost use Rattle.fc_base.specs.Sizes.{capacity, min_len};
 ghost use Rattle.fc_tree_node.specs.Node.{own_pairs, children_of, child_at, pairs_of, IsLeaf};
 ghost use Rattle.fc_tree_node.specs.Siblings.{IsFormed};
-ghost use Rattle.fc_tree_node.specs.Tree.{entries, root_of, IsSoundWithin};
+ghost use Rattle.fc_tree_node.specs.Tree.{entries, IsSoundWithin};
 ghost use Rattle.fc_tree_retain.specs.Loose.{IsLoose};
 ghost use Rattle.fc_tree_retain.specs.Mending.{IsThin, IsSeam, IsSettled, IsJoined};
 
@@ -77,10 +77,10 @@ fn join<K: Drop, V: Drop>(
 }
 
 // A root without pairs gives way to its only child, and that too.
-pub(crate) fn without_thin_roots<K: Drop, V: Drop>(root: Box<Node<K, V>>) -> Option<Box<Node<K, V>>>
-    requires { (h : ℕ) × IsThin h root.value }
-    ensures pairs { entries (root_of result) ≡ pairs_of root.value }
-    ensures levels { (h : ℕ) → IsThin h root.value → IsSoundWithin h (root_of result) }
+pub(crate) fn without_thin_roots<K: Drop, V: Drop>(root: Node<K, V>) -> Option<Node<K, V>>
+    requires { (h : ℕ) × IsThin h root }
+    ensures pairs { entries result ≡ pairs_of root }
+    ensures levels { (h : ℕ) → IsThin h root → IsSoundWithin h result }
 {
     if root.len() > 0 {
         return Some(root);
@@ -92,12 +92,12 @@ pub(crate) fn without_thin_roots<K: Drop, V: Drop>(root: Box<Node<K, V>>) -> Opt
 }
 
 // What takes the place of a root without pairs: its only child, or nothing where it is a leaf.
-fn only_child<K: Drop, V: Drop>(root: Box<Node<K, V>>) -> Option<Box<Node<K, V>>>
-    requires none { length (own_pairs root.value) ≡ 0 }
-    requires formed { IsFormed root.value }
-    ensures { MatchOption result (IsLeaf root.value) (λ c. children_of root.value ≡ c.value ∷ []) }
+fn only_child<K: Drop, V: Drop>(root: Node<K, V>) -> Option<Node<K, V>>
+    requires none { length (own_pairs root) ≡ 0 }
+    requires formed { IsFormed root }
+    ensures { MatchOption result (IsLeaf root) (λ c. children_of root ≡ c ∷ []) }
 {
-    let Node { pairs: _, children } = Box::into_inner(root);
+    let Node { pairs: _, children } = root;
     match children {
         None => None,
         Some(mut children) => Some(children.remove(0)),

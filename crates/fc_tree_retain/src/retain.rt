@@ -2,7 +2,7 @@
 ghost use Rattle.std.specs.Prelude.{◌≡◌, ℕ, ◌≤◌, length};
 ghost use Rattle.std.specs.declared.cmp.Ordering.{Ordering};
 ghost use Rattle.fc_base.specs.Ascending.{IsAscending};
-ghost use Rattle.fc_tree_node.specs.Tree.{entries, root_of, IsSoundMap};
+ghost use Rattle.fc_tree_node.specs.Tree.{entries, IsSoundMap};
 ghost use Rattle.fc_tree_retain.specs.Retained.{AskedAtKey, AskedAtPair, ExtractsBy, GivenKey, GivenPair, RetainsInTurn};
 ghost use Rattle.fc_tree_retain.specs.Sifted.{SiftsPair};
 
@@ -15,16 +15,16 @@ use fc_tree_node::node::Node;
 /// Calls the closure at each pair of the tree, in order, with its value lent for writing, and drops those pairs at which it answers
 /// false. It answers how many stay. No memory is taken, and nothing is compared.
 pub fn retain<K: Drop, V: Drop, F: FnMut(&K, &mut V) -> bool>(
-    tree: &mut Option<Box<Node<K, V>>>,
+    tree: &mut Option<Node<K, V>>,
     f: F,
 ) -> usize
-    requires sound { IsSoundMap (root_of tree.old) }
-    requires fits { length (entries (root_of tree.old)) ≤ usize.MAX }
+    requires sound { IsSoundMap tree.old }
+    requires fits { length (entries tree.old) ≤ usize.MAX }
     requires callable { F.IsAlwaysCallable f }
-    ensures sound { IsSoundMap (root_of tree.new) }
-    ensures retained { (last : F) × RetainsInTurn (AskedAtPair F.FnMut) f (entries (root_of tree.old)) last (entries (root_of tree.new)) }
-    ensures ascending { (cmp : K → K → Ordering) → IsAscending cmp (entries (root_of tree.old)) → IsAscending cmp (entries (root_of tree.new)) }
-    ensures length { result ≡ length (entries (root_of tree.new)) }
+    ensures sound { IsSoundMap tree.new }
+    ensures retained { (last : F) × RetainsInTurn (AskedAtPair F.FnMut) f (entries tree.old) last (entries tree.new) }
+    ensures ascending { (cmp : K → K → Ordering) → IsAscending cmp (entries tree.old) → IsAscending cmp (entries tree.new) }
+    ensures length { result ≡ length (entries tree.new) }
 {
     sift_tree(tree, &mut Retaining { keep: f })
 }
@@ -32,77 +32,77 @@ pub fn retain<K: Drop, V: Drop, F: FnMut(&K, &mut V) -> bool>(
 /// Calls `pick` at each pair of the tree, in order, with its value lent for writing, takes those pairs out at which it answers true,
 /// and calls `each` with each of these at once. It answers how many stay. No memory is taken, and nothing is compared.
 pub fn extract_if<K: Drop, V: Drop, F: FnMut(&K, &mut V) -> bool, E: FnMut(K, V)>(
-    tree: &mut Option<Box<Node<K, V>>>,
+    tree: &mut Option<Node<K, V>>,
     pick: F,
     each: E,
 ) -> usize
-    requires sound { IsSoundMap (root_of tree.old) }
-    requires fits { length (entries (root_of tree.old)) ≤ usize.MAX }
+    requires sound { IsSoundMap tree.old }
+    requires fits { length (entries tree.old) ≤ usize.MAX }
     requires callable { F.IsAlwaysCallable pick × E.IsAlwaysCallable each }
-    ensures sound { IsSoundMap (root_of tree.new) }
-    ensures extracted { (last : F × E) × RetainsInTurn (ExtractsBy (AskedAtPair F.FnMut) (GivenPair E.FnMut)) (pick, each) (entries (root_of tree.old)) last (entries (root_of tree.new)) }
-    ensures ascending { (cmp : K → K → Ordering) → IsAscending cmp (entries (root_of tree.old)) → IsAscending cmp (entries (root_of tree.new)) }
-    ensures length { result ≡ length (entries (root_of tree.new)) }
+    ensures sound { IsSoundMap tree.new }
+    ensures extracted { (last : F × E) × RetainsInTurn (ExtractsBy (AskedAtPair F.FnMut) (GivenPair E.FnMut)) (pick, each) (entries tree.old) last (entries tree.new) }
+    ensures ascending { (cmp : K → K → Ordering) → IsAscending cmp (entries tree.old) → IsAscending cmp (entries tree.new) }
+    ensures length { result ≡ length (entries tree.new) }
 {
     sift_tree(tree, &mut Extracting { pick, each })
 }
 
 /// `retain` by the key alone. The values stay as they are.
 pub fn retain_keys<K: Drop, V: Drop, F: FnMut(&K) -> bool>(
-    tree: &mut Option<Box<Node<K, V>>>,
+    tree: &mut Option<Node<K, V>>,
     f: F,
 ) -> usize
-    requires sound { IsSoundMap (root_of tree.old) }
-    requires fits { length (entries (root_of tree.old)) ≤ usize.MAX }
+    requires sound { IsSoundMap tree.old }
+    requires fits { length (entries tree.old) ≤ usize.MAX }
     requires callable { F.IsAlwaysCallable f }
-    ensures sound { IsSoundMap (root_of tree.new) }
-    ensures retained { (last : F) × RetainsInTurn (AskedAtKey F.FnMut) f (entries (root_of tree.old)) last (entries (root_of tree.new)) }
-    ensures ascending { (cmp : K → K → Ordering) → IsAscending cmp (entries (root_of tree.old)) → IsAscending cmp (entries (root_of tree.new)) }
-    ensures length { result ≡ length (entries (root_of tree.new)) }
+    ensures sound { IsSoundMap tree.new }
+    ensures retained { (last : F) × RetainsInTurn (AskedAtKey F.FnMut) f (entries tree.old) last (entries tree.new) }
+    ensures ascending { (cmp : K → K → Ordering) → IsAscending cmp (entries tree.old) → IsAscending cmp (entries tree.new) }
+    ensures length { result ≡ length (entries tree.new) }
 {
     sift_tree(tree, &mut RetainingKeys { keep: f })
 }
 
 /// `extract_if` by the key alone: `each` is called with the keys, and the values are dropped.
 pub fn extract_keys_if<K: Drop, V: Drop, F: FnMut(&K) -> bool, E: FnMut(K)>(
-    tree: &mut Option<Box<Node<K, V>>>,
+    tree: &mut Option<Node<K, V>>,
     pick: F,
     each: E,
 ) -> usize
-    requires sound { IsSoundMap (root_of tree.old) }
-    requires fits { length (entries (root_of tree.old)) ≤ usize.MAX }
+    requires sound { IsSoundMap tree.old }
+    requires fits { length (entries tree.old) ≤ usize.MAX }
     requires callable { F.IsAlwaysCallable pick × E.IsAlwaysCallable each }
-    ensures sound { IsSoundMap (root_of tree.new) }
-    ensures extracted { (last : F × E) × RetainsInTurn (ExtractsBy (AskedAtKey F.FnMut) (GivenKey E.FnMut)) (pick, each) (entries (root_of tree.old)) last (entries (root_of tree.new)) }
-    ensures ascending { (cmp : K → K → Ordering) → IsAscending cmp (entries (root_of tree.old)) → IsAscending cmp (entries (root_of tree.new)) }
-    ensures length { result ≡ length (entries (root_of tree.new)) }
+    ensures sound { IsSoundMap tree.new }
+    ensures extracted { (last : F × E) × RetainsInTurn (ExtractsBy (AskedAtKey F.FnMut) (GivenKey E.FnMut)) (pick, each) (entries tree.old) last (entries tree.new) }
+    ensures ascending { (cmp : K → K → Ordering) → IsAscending cmp (entries tree.old) → IsAscending cmp (entries tree.new) }
+    ensures length { result ≡ length (entries tree.new) }
 {
     sift_tree(tree, &mut ExtractingKeys { pick, each })
 }
 
 // Asks of each pair of the tree, which is mended after, and answers how many stay.
 fn sift_tree<K: Drop, V: Drop, S: Sieve<K, V>>(
-    tree: &mut Option<Box<Node<K, V>>>,
+    tree: &mut Option<Node<K, V>>,
     sieve: &mut S,
 ) -> usize
-    requires sound { IsSoundMap (root_of tree.old) }
-    requires fits { length (entries (root_of tree.old)) ≤ usize.MAX }
+    requires sound { IsSoundMap tree.old }
+    requires fits { length (entries tree.old) ≤ usize.MAX }
     requires callable { S.callable sieve.old }
-    ensures sound { IsSoundMap (root_of tree.new) }
-    ensures sifted { RetainsInTurn (SiftsPair S.asked S.given) sieve.old (entries (root_of tree.old)) sieve.new (entries (root_of tree.new)) }
-    ensures ascending { (cmp : K → K → Ordering) → IsAscending cmp (entries (root_of tree.old)) → IsAscending cmp (entries (root_of tree.new)) }
-    ensures length { result ≡ length (entries (root_of tree.new)) }
+    ensures sound { IsSoundMap tree.new }
+    ensures sifted { RetainsInTurn (SiftsPair S.asked S.given) sieve.old (entries tree.old) sieve.new (entries tree.new) }
+    ensures ascending { (cmp : K → K → Ordering) → IsAscending cmp (entries tree.old) → IsAscending cmp (entries tree.new) }
+    ensures length { result ≡ length (entries tree.new) }
 {
     sift_root(tree, sieve);
     count_in(tree)
 }
 
 // Asks of each pair of the tree, which is mended after.
-fn sift_root<K: Drop, V: Drop, S: Sieve<K, V>>(tree: &mut Option<Box<Node<K, V>>>, sieve: &mut S)
-    requires sound { IsSoundMap (root_of tree.old) }
+fn sift_root<K: Drop, V: Drop, S: Sieve<K, V>>(tree: &mut Option<Node<K, V>>, sieve: &mut S)
+    requires sound { IsSoundMap tree.old }
     requires callable { S.callable sieve.old }
-    ensures sound { IsSoundMap (root_of tree.new) }
-    ensures sifted { RetainsInTurn (SiftsPair S.asked S.given) sieve.old (entries (root_of tree.old)) sieve.new (entries (root_of tree.new)) }
+    ensures sound { IsSoundMap tree.new }
+    ensures sifted { RetainsInTurn (SiftsPair S.asked S.given) sieve.old (entries tree.old) sieve.new (entries tree.new) }
 {
     if let Some(mut root) = tree.take() {
         let node: &mut Node<K, V> = &mut root;

@@ -10,20 +10,20 @@ total (x ∷ xs) = x + total xs
 
 module _ {K V : Type 0} where
   abbrev nodes_step : Node-F K V ℕ → ℕ
-  nodes_step f = suc (total (map (λ b. b.value) (items_or_none f.children)))
+  nodes_step f = suc (total (map (λ b. b) (items_or_none f.children)))
 
   -- the node and all nodes below it
   abbrev pub nodes_of : Node K V → ℕ
   nodes_of = fold-Node K V ℕ nodes_step
 
-  abbrev refilled : Box (Node K V) Global → Box ℕ Global
-  refilled d = record { ptr = d.ptr; alloc = d.alloc; value = nodes_of d.value }
+  abbrev refilled : Node K V → Box ℕ Global
+  refilled d = record { ptr = d.ptr; alloc = d.alloc; value = nodes_of d }
 
-  counts_of : (bs : List (Box (Node K V) Global)) → map (λ (b : Box ℕ Global). b.value) (map refilled bs) ≡ map nodes_of (boxed bs)
+  counts_of : (bs : List (Node K V)) → map (λ (b : Box ℕ Global). b) (map refilled bs) ≡ map nodes_of (boxed bs)
   counts_of [] = refl
-  counts_of (b ∷ bs) = ap (λ zs. nodes_of b.value ∷ zs) (counts_of bs)
+  counts_of (b ∷ bs) = ap (λ zs. nodes_of b ∷ zs) (counts_of bs)
 
-  folded : (ps : List (K × V)) (o : Option (List (Box (Node K V) Global))) → nodes_step (map-Node K V (Node K V) ℕ nodes_of (record { pairs = ps; children = o })) ≡ suc (total (map nodes_of (boxed (items_or_none o))))
+  folded : (ps : List (K × V)) (o : Option (List (Node K V))) → nodes_step (map-Node K V (Node K V) ℕ nodes_of (record { pairs = ps; children = o })) ≡ suc (total (map nodes_of (boxed (items_or_none o))))
   folded ps None = refl
   folded ps (Some bs) = ap (λ ns. suc (total ns)) (counts_of bs)
 

@@ -23,18 +23,18 @@ use Rattle.fc_tree_search.proofs.Ordered.{sides_equal, side_upper}
 use Rattle.fc_tree_node.proofs.Gaps.{cut_item, item_there}
 
 module _ {K Q V : Type 0} (cmp : K → Q → Ordering) (k : Q) where
-  abbrev refilled : Box (Node K V) Global → Box ℕ Global
-  refilled d = record { ptr = d.ptr; alloc = d.alloc; value = passed cmp k d.value }
+  abbrev refilled : Node K V → Box ℕ Global
+  refilled d = record { ptr = d.ptr; alloc = d.alloc; value = passed cmp k d }
 
-  counts_of : (bs : List (Box (Node K V) Global)) → map (λ (b : Box ℕ Global). b.value) (map refilled bs) ≡ map (passed cmp k) (boxed bs)
+  counts_of : (bs : List (Node K V)) → map (λ (b : Box ℕ Global). b) (map refilled bs) ≡ map (passed cmp k) (boxed bs)
   counts_of [] = refl
-  counts_of (b ∷ bs) = ap (λ zs. passed cmp k b.value ∷ zs) (counts_of bs)
+  counts_of (b ∷ bs) = ap (λ zs. passed cmp k b ∷ zs) (counts_of bs)
 
   -- what is passed in a node of these pairs, with what is passed in each child
   abbrev pub passed_in : List (K × V) → List ℕ → ℕ
   passed_in s ns = lower_count cmp k s + stop_count cmp k s + down_count cmp k s ns
 
-  folded : (ps : List (K × V)) (o : Option (List (Box (Node K V) Global))) → passed_step cmp k (map-Node K V (Node K V) ℕ (passed cmp k) (record { pairs = ps; children = o })) ≡ passed_in ps (map (passed cmp k) (boxed (items_or_none o)))
+  folded : (ps : List (K × V)) (o : Option (List (Node K V))) → passed_step cmp k (map-Node K V (Node K V) ℕ (passed cmp k) (record { pairs = ps; children = o })) ≡ passed_in ps (map (passed cmp k) (boxed (items_or_none o)))
   folded ps None = refl
   folded ps (Some bs) = ap (λ ns. passed_in ps ns) (counts_of bs)
 

@@ -27,15 +27,15 @@ use Rattle.fc_tree_search.proofs.SearchFacts.{IsOnWay, way_ascending, way_more, 
 use Rattle.fc_tree_search.proofs.WrittenPairs.{written_put}
 
 module _ {K Q V : Type 0} (cmp : K → Q → Ordering) (k : Q) where
-  paths_of : (bs : List (Box (Node K V) Global)) → map (λ (b : Box (List ℕ) Global). b.value) (map (λ (d : Box (Node K V) Global). record { ptr = d.ptr; alloc = d.alloc; value = path_to cmp k d.value }) bs) ≡ map (path_to cmp k) (boxed bs)
+  paths_of : (bs : List (Node K V)) → map (λ (b : Box (List ℕ) Global). b) (map (λ (d : Node K V). record { ptr = d.ptr; alloc = d.alloc; value = path_to cmp k d }) bs) ≡ map (path_to cmp k) (boxed bs)
   paths_of [] = refl
-  paths_of (b ∷ bs) = ap (λ zs. path_to cmp k b.value ∷ zs) (paths_of bs)
+  paths_of (b ∷ bs) = ap (λ zs. path_to cmp k b ∷ zs) (paths_of bs)
 
   -- the path in a node of these pairs, with the path in each child
   abbrev way_in : List (K × V) → List (List ℕ) → List ℕ
   way_in s paths = lower_count cmp k s ∷ onward cmp k s paths
 
-  folded : (ps : List (K × V)) (o : Option (List (Box (Node K V) Global))) → way_step cmp k (map-Node K V (Node K V) (List ℕ) (path_to cmp k) (record { pairs = ps; children = o })) ≡ way_in ps (map (path_to cmp k) (boxed (items_or_none o)))
+  folded : (ps : List (K × V)) (o : Option (List (Node K V))) → way_step cmp k (map-Node K V (Node K V) (List ℕ) (path_to cmp k) (record { pairs = ps; children = o })) ≡ way_in ps (map (path_to cmp k) (boxed (items_or_none o)))
   folded ps None = refl
   folded ps (Some bs) = ap (λ paths. way_in ps paths) (paths_of bs)
 

@@ -99,7 +99,7 @@ module _ {K V : Type 0} where
   set_is_value (x ∷ s) zero e w h r = ap (λ y. (y.0, w) ∷ s) r
   set_is_value (x ∷ s) (suc i) e w h r = ap (λ t. x ∷ t) (set_is_value s i e w (omega arith) r)
 
-  set_is_boxed : (bs : List (Box (Node K V) Global)) (i : ℕ) (b : Box (Node K V) Global) (c : Node K V) → i < length bs → b ≡ get_or bs i b → slice_set bs i (set_box b c) ≡ set_boxed bs i c
+  set_is_boxed : (bs : List (Node K V)) (i : ℕ) (b : Node K V) (c : Node K V) → i < length bs → b ≡ get_or bs i b → slice_set bs i (set_box b c) ≡ set_boxed bs i c
   set_is_boxed [] i b c h r = refl
   set_is_boxed (x ∷ bs) zero b c h r = ap (λ y. set_box y c ∷ bs) r
   set_is_boxed (x ∷ bs) (suc i) b c h r = ap (λ t. x ∷ t) (set_is_boxed bs i b c (omega arith) r)
@@ -108,7 +108,7 @@ module _ {K V : Type 0} where
   pub own_written : (n : Node K V) (i : ℕ) (e : K × V) (w : V) → i < length (own_pairs n) → e ≡ get_or (own_pairs n) i e → roll-Node K V (record { pairs = slice_set (own_pairs n) i (e.0, w); children = (out-Node K V n).children }) ≡ with_value n i w
   own_written n i e w h r = ap (λ ps. roll-Node K V (record { pairs = ps; children = (out-Node K V n).children })) (set_is_value (own_pairs n) i e w h r)
 
-  module _ (way : List ℕ) (p : ℕ) (n : Node K V) (bs : List (Box (Node K V) Global)) (b : Box (Node K V) Global) (c : Node K V) (is : (out-Node K V n).children ≡ Some bs) (more : length way ≡ 0 → ⊥) (at : b ≡ get_or bs (get_or way 0 0) b) (in' : c ≡ b.value) where
+  module _ (way : List ℕ) (p : ℕ) (n : Node K V) (bs : List (Node K V)) (b : Node K V) (c : Node K V) (is : (out-Node K V n).children ≡ Some bs) (more : length way ≡ 0 → ⊥) (at : b ≡ get_or bs (get_or way 0 0) b) (in' : c ≡ b) where
     -- there is a box for the child
     pub boxes_there : IsPlace (way ++ p ∷ []) n → get_or way 0 0 < length bs
     boxes_there q =
@@ -123,7 +123,7 @@ module _ {K V : Type 0} where
         child_is n j b c (subst (λ o. j < length (items_or_none o)) (sym is) h) (subst (λ o. b ≡ get_or (items_or_none o) j b) (sym is) at) in'
 
 -- what a lent child leaves
-pub below_written : {K V : Type 0} (way : List ℕ) (p : ℕ) (n : Node K V) (bs : List (Box (Node K V) Global)) (b : Box (Node K V) Global) (c : Node K V) (w : V) → (out-Node K V n).children ≡ Some bs → (length way ≡ 0 → ⊥) → b ≡ get_or bs (get_or way 0 0) b → c ≡ b.value → IsPlace (way ++ p ∷ []) n
+pub below_written : {K V : Type 0} (way : List ℕ) (p : ℕ) (n : Node K V) (bs : List (Node K V)) (b : Node K V) (c : Node K V) (w : V) → (out-Node K V n).children ≡ Some bs → (length way ≡ 0 → ⊥) → b ≡ get_or bs (get_or way 0 0) b → c ≡ b → IsPlace (way ++ p ∷ []) n
     → roll-Node K V (record { pairs = own_pairs n; children = Some (slice_set bs (get_or way 0 0) (set_box b (written c (later_steps way ++ p ∷ []) w))) }) ≡ written n (way ++ p ∷ []) w
 below_written [] p n bs b c w is more at v q = absurd (more refl)
 below_written {K} {V} (i ∷ way) p n bs b c w is more at v q =

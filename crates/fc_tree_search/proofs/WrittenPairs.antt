@@ -63,10 +63,10 @@ module _ {K V : Type 0} where
   length_value (e ∷ s) zero w = refl
   length_value (e ∷ s) (suc i) w = ap suc (length_value s i w)
 
-  boxed_with : (bs : List (Box (Node K V) Global)) (i : ℕ) (c : Node K V) → boxed (set_boxed bs i c) ≡ slice_set (boxed bs) i c
+  boxed_with : (bs : List (Node K V)) (i : ℕ) (c : Node K V) → boxed (set_boxed bs i c) ≡ slice_set (boxed bs) i c
   boxed_with [] i c = refl
   boxed_with (b ∷ bs) zero c = refl
-  boxed_with (b ∷ bs) (suc i) c = ap (λ zs. b.value ∷ zs) (boxed_with bs i c)
+  boxed_with (b ∷ bs) (suc i) c = ap (λ zs. b ∷ zs) (boxed_with bs i c)
 
   -- the parts of the changed nodes
   pub value_own : (n : Node K V) (i : ℕ) (w : V) → own_pairs (with_value n i w) ≡ set_value (own_pairs n) i w
@@ -78,7 +78,7 @@ module _ {K V : Type 0} where
   pub child_own : (n : Node K V) (i : ℕ) (c : Node K V) → own_pairs (with_child n i c) ≡ own_pairs n
   child_own n i c = own_made _
 
-  with_in : (o : Option (List (Box (Node K V) Global))) (i : ℕ) (c : Node K V) → boxed (items_or_none (option_map (λ bs. set_boxed bs i c) o)) ≡ slice_set (boxed (items_or_none o)) i c
+  with_in : (o : Option (List (Node K V))) (i : ℕ) (c : Node K V) → boxed (items_or_none (option_map (λ bs. set_boxed bs i c) o)) ≡ slice_set (boxed (items_or_none o)) i c
   with_in None i c = refl
   with_in (Some bs) i c = boxed_with bs i c
 

@@ -22,7 +22,7 @@ module _ {K Q V : Type 0} (cmp : K → Q → Ordering) (k : Q) where
 
   -- The keys below k, one more where there is a key not below k, and what is passed further down.
   abbrev pub passed_step : Node-F K V ℕ → ℕ
-  passed_step f = lower_count f.pairs + stop_count f.pairs + down_count f.pairs (map (λ b. b.value) (items_or_none f.children))
+  passed_step f = lower_count f.pairs + stop_count f.pairs + down_count f.pairs (map (λ b. b) (items_or_none f.children))
 
   -- How many keys a search for k passes in the node and below it.
   abbrev pub passed : Node K V → ℕ

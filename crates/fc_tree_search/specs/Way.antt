@@ -14,7 +14,7 @@ module _ {K Q V : Type 0} (cmp : K → Q → Ordering) (k : Q) where
 
   -- The number of keys below k, and then the path further down.
   abbrev pub way_step : Node-F K V (List ℕ) → List ℕ
-  way_step f = lower_count cmp k f.pairs ∷ onward f.pairs (map (λ b. b.value) (items_or_none f.children))
+  way_step f = lower_count cmp k f.pairs ∷ onward f.pairs (map (λ b. b) (items_or_none f.children))
 
   -- The path from the node to the pair with a key equal to k, or else to the gap between the pairs of a leaf where k would go.
   abbrev pub path_to : Node K V → List ℕ

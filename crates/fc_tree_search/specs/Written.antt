@@ -3,7 +3,6 @@ use Rattle.std.specs.Prelude.{ℕ, zero, suc, List, [], ◌∷◌, Option, Some}
 use Rattle.std.specs.Option.{option_map}
 use Rattle.std.specs.Borrow.{Fml, RattleType, MutBor, Lends}
 use Rattle.std.specs.contracts.option.Option as option
-use Rattle.std.specs.declared.boxed.Box.{Box}
 use Rattle.std.specs.declared.alloc.Global.{Global}
 use Rattle.std.specs.Box.{with_value as set_box}
 use Rattle.fc_tree_node.specs.declared.node.Node.{Node, out-Node, roll-Node}
@@ -18,7 +17,7 @@ set_value (e ∷ es) (suc i) w = e ∷ set_value es i w
 
 module _ {K V : Type 0} where
   -- The boxes with this node in the one at the place.
-  abbrev pub set_boxed : List (Box (Node K V) Global) → ℕ → Node K V → List (Box (Node K V) Global)
+  abbrev pub set_boxed : List (Node K V) → ℕ → Node K V → List (Node K V)
   set_boxed [] i c = []
   set_boxed (b ∷ bs) zero c = set_box b c ∷ bs
   set_boxed (b ∷ bs) (suc i) c = b ∷ set_boxed bs i c

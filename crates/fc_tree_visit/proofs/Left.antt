@@ -9,7 +9,7 @@ use Rattle.fc_base.specs.Ascending.{IsAscending}
 use Rattle.fc_tree_node.specs.declared.node.Node.{Node}
 use Rattle.fc_tree_node.specs.Node.{pairs_of}
 use Rattle.fc_tree_node.specs.Path.{before_gap, after_gap}
-use Rattle.fc_tree_node.specs.Tree.{entries, root_of, IsSoundMap}
+use Rattle.fc_tree_node.specs.Tree.{entries, IsSoundMap}
 use Rattle.fc_tree_node.specs.TreePlace.{before_gap_in}
 use Rattle.fc_tree_node.proofs.Lists.{take_nil, drop_nil}
 use Rattle.fc_tree_node.proofs.Gaps.{gap_pairs}
@@ -65,36 +65,36 @@ module _ {F K V : Type 0} (R : F → K × V → F → V → Type 0) where
   none = []
 
   -- nothing was visited where there is no root
-  pub visited_none : (f : F) (m : Option (Box (Node K V) Global)) (i j : ℕ) → m ≡ None → IsVisited R f f (take i (entries (root_of m))) (drop j (entries (root_of m))) (entries (root_of m)) (entries (root_of m))
+  pub visited_none : (f : F) (m : Option (Node K V)) (i j : ℕ) → m ≡ None → IsVisited R f f (take i (entries m)) (drop j (entries m)) (entries m) (entries m)
   visited_none f m i j e =
-      subst (λ o. IsVisited R f f (take i (entries (root_of o))) (drop j (entries (root_of o))) (entries (root_of o)) (entries (root_of o))) (sym e)
+      subst (λ o. IsVisited R f f (take i (entries o)) (drop j (entries o)) (entries o) (entries o)) (sym e)
       (record { within = []; left = []; old_is = sym (ap (λ zs. zs ++ drop j none) (take_nil i) ∙ drop_nil j); new_is = sym (ap (λ zs. zs ++ drop j none) (take_nil i) ∙ drop_nil j); visits = (refl, refl) })
 
   -- the ends of a map as numbers
-  pub visited_cut : (m : Option (Box (Node K V) Global)) (b : Box (Node K V) Global) (n n' : Node K V) (front back p q : List ℕ) (f g : F) → m ≡ Some b → n ≡ b.value → p ≡ front → q ≡ back → IsSoundMap (root_of m) → AreEndsIn (root_of m) front back → IsVisited R f g (before_gap p n) (after_gap q n) (pairs_of n) (pairs_of n')
-      → IsVisited R f g (take (length (before_gap_in (root_of m) front)) (entries (root_of m))) (drop (length (before_gap_in (root_of m) back)) (entries (root_of m))) (entries (root_of m)) (pairs_of n')
+  pub visited_cut : (m : Option (Node K V)) (b : Node K V) (n n' : Node K V) (front back p q : List ℕ) (f g : F) → m ≡ Some b → n ≡ b → p ≡ front → q ≡ back → IsSoundMap m → AreEndsIn m front back → IsVisited R f g (before_gap p n) (after_gap q n) (pairs_of n) (pairs_of n')
+      → IsVisited R f g (take (length (before_gap_in m front)) (entries m)) (drop (length (before_gap_in m back)) (entries m)) (entries m) (pairs_of n')
   visited_cut m b n n' front back p q f g is v i j sound ends w =
-      let s = subst (λ o. IsSoundMap (root_of o)) is sound in
-      let e = subst (λ o. AreEndsIn (root_of o) front back) is ends in
+      let s = subst (λ o. IsSoundMap o) is sound in
+      let e = subst (λ o. AreEndsIn o front back) is ends in
       let h = s.0 in
       let l = s.2.1 in
-      let cf = gap_pairs front h b.value l (e.0.1 h l) e.0.0 in
-      let cb = gap_pairs back h b.value l (e.1.1 h l) e.1.0 in
-      let tf = ap (take (length (before_gap front b.value))) cf ∙ take_front (before_gap front b.value) (after_gap front b.value) in
-      let db = ap (drop (length (before_gap back b.value))) cb ∙ drop_front (before_gap back b.value) (after_gap back b.value) in
+      let cf = gap_pairs front h b l (e.0.1 h l) e.0.0 in
+      let cb = gap_pairs back h b l (e.1.1 h l) e.1.0 in
+      let tf = ap (take (length (before_gap front b))) cf ∙ take_front (before_gap front b) (after_gap front b) in
+      let db = ap (drop (length (before_gap back b))) cb ∙ drop_front (before_gap back b) (after_gap back b) in
       let u = subst (λ x. IsVisited R f g (before_gap p x) (after_gap q x) (pairs_of x) (pairs_of n')) v w in
-      let u' : IsVisited R f g (before_gap front b.value) (after_gap back b.value) (pairs_of b.value) (pairs_of n') = rw (i, j) at u in
-      subst (λ o. IsVisited R f g (take (length (before_gap_in (root_of o) front)) (entries (root_of o))) (drop (length (before_gap_in (root_of o) back)) (entries (root_of o))) (entries (root_of o)) (pairs_of n')) (sym is)
-      (subst (λ x. IsVisited R f g x (drop (length (before_gap back b.value)) (pairs_of b.value)) (pairs_of b.value) (pairs_of n')) (sym tf) (subst (λ x. IsVisited R f g (before_gap front b.value) x (pairs_of b.value) (pairs_of n')) (sym db) u'))
+      let u' : IsVisited R f g (before_gap front b) (after_gap back b) (pairs_of b) (pairs_of n') = rw (i, j) at u in
+      subst (λ o. IsVisited R f g (take (length (before_gap_in o front)) (entries o)) (drop (length (before_gap_in o back)) (entries o)) (entries o) (pairs_of n')) (sym is)
+      (subst (λ x. IsVisited R f g x (drop (length (before_gap back b)) (pairs_of b)) (pairs_of b) (pairs_of n')) (sym tf) (subst (λ x. IsVisited R f g (before_gap front b) x (pairs_of b) (pairs_of n')) (sym db) u'))
 
 -- the ends of a map, in order in its root
-pub ends_order : {K V : Type 0} (m : Option (Box (Node K V) Global)) (b : Box (Node K V) Global) (n : Node K V) (front back p q : List ℕ) → m ≡ Some b → n ≡ b.value → p ≡ front → q ≡ back → IsSoundMap (root_of m) → AreEndsIn (root_of m) front back → length (before_gap p n) + length (after_gap q n) ≤ length (pairs_of n)
+pub ends_order : {K V : Type 0} (m : Option (Node K V)) (b : Node K V) (n : Node K V) (front back p q : List ℕ) → m ≡ Some b → n ≡ b → p ≡ front → q ≡ back → IsSoundMap m → AreEndsIn m front back → length (before_gap p n) + length (after_gap q n) ≤ length (pairs_of n)
 ends_order m b n front back p q is v i j sound ends =
-    let s = subst (λ o. IsSoundMap (root_of o)) is sound in
-    let e = subst (λ o. AreEndsIn (root_of o) front back) is ends in
+    let s = subst (λ o. IsSoundMap o) is sound in
+    let e = subst (λ o. AreEndsIn o front back) is ends in
     let h = s.0 in
     let l = s.2.1 in
-    let all = ap length (gap_pairs back h b.value l (e.1.1 h l) e.1.0) in
-    let cut = length-append (before_gap back b.value) (after_gap back b.value) in
-    let o : length (before_gap front b.value) + length (after_gap back b.value) ≤ length (pairs_of b.value) = (let f = e.2 in omega arith) in
+    let all = ap length (gap_pairs back h b l (e.1.1 h l) e.1.0) in
+    let cut = length-append (before_gap back b) (after_gap back b) in
+    let o : length (before_gap front b) + length (after_gap back b) ≤ length (pairs_of b) = (let f = e.2 in omega arith) in
     subst (λ x. length (before_gap p x) + length (after_gap q x) ≤ length (pairs_of x)) (sym v) (rw (i, j) o)

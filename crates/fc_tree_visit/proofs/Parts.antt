@@ -76,7 +76,7 @@ module _ {K V : Type 0} where
   get_value (x ∷ s) zero w e d h p = ap (λ y. (y.0, w)) (sym p)
   get_value (x ∷ s) (suc i) w e d h p = get_value s i w e d (omega arith) p
 
-  set_is_boxed : (bs : List (Box (Node K V) Global)) (i : ℕ) (b : Box (Node K V) Global) (c : Node K V) → i < length bs → b ≡ get_or bs i b → slice_set bs i (set_box b c) ≡ set_boxed bs i c
+  set_is_boxed : (bs : List (Node K V)) (i : ℕ) (b : Node K V) (c : Node K V) → i < length bs → b ≡ get_or bs i b → slice_set bs i (set_box b c) ≡ set_boxed bs i c
   set_is_boxed [] i b c h r = refl
   set_is_boxed (x ∷ bs) zero b c h r = ap (λ y. set_box y c ∷ bs) r
   set_is_boxed (x ∷ bs) (suc i) b c h r = ap (λ t. x ∷ t) (set_is_boxed bs i b c (omega arith) r)
@@ -168,7 +168,7 @@ module _ {K V : Type 0} where
         (omega (arith, l.0), omega arith, subst (AllByRecursion (IsBelow h)) (sym (child_children n i c)) (all_set (IsBelow h) (children_of n) i c l.2 b))
 
   -- a child that was lent, and came back as d
-  module _ (n : Node K V) (bs : List (Box (Node K V) Global)) (b : Box (Node K V) Global) (c : Node K V) (i : ℕ) (is : (out-Node K V n).children ≡ Some bs) (at : b ≡ get_or bs i b) (in' : c ≡ b.value) where
+  module _ (n : Node K V) (bs : List (Node K V)) (b : Node K V) (c : Node K V) (i : ℕ) (is : (out-Node K V n).children ≡ Some bs) (at : b ≡ get_or bs i b) (in' : c ≡ b) where
     pub child_lent : i < length (children_of n) → c ≡ child_at n i
     child_lent h =
         let e : length (children_of n) ≡ length bs = boxed_length (items_or_none (out-Node K V n).children) ∙ ap (λ o. length (items_or_none o)) is in

@@ -2,7 +2,7 @@
 ghost use Rattle.std.specs.Prelude.{◌≡◌, ℕ, List, length, take, drop};
 ghost use Rattle.std.specs.declared.cmp.Ordering.{Ordering};
 ghost use Rattle.fc_base.specs.Ascending.{IsAscending};
-ghost use Rattle.fc_tree_node.specs.Tree.{entries, root_of, IsSoundMap};
+ghost use Rattle.fc_tree_node.specs.Tree.{entries, IsSoundMap};
 ghost use Rattle.fc_tree_node.specs.TreePlace.{before_gap_in};
 ghost use Rattle.fc_tree_walk.specs.Gap.{AreEndsIn, IsGapIn};
 ghost use Rattle.fc_tree_visit.specs.Visits.{CalledAtPair, IsVisited};
@@ -14,19 +14,19 @@ use fc_tree_node::path::Path;
 /// Calls the closure at each pair of the tree between two gaps, in order, with its value lent for writing. No memory is taken, and
 /// no node on the other side of a gap is entered.
 pub fn visit_tree<K, V, F: FnMut(&K, &mut V)>(
-    root: &mut Option<Box<Node<K, V>>>,
+    root: &mut Option<Node<K, V>>,
     front: &Path,
     back: &Path,
     mut f: F,
 )
-    requires sound { IsSoundMap (root_of root.old) }
-    requires ends { AreEndsIn (root_of root.old) front.now back.now }
+    requires sound { IsSoundMap root.old }
+    requires ends { AreEndsIn root.old front.now back.now }
     requires callable { F.IsAlwaysCallable f }
-    ensures sound { IsSoundMap (root_of root.new) }
-    ensures ascending { (cmp : K → K → Ordering) → IsAscending cmp (entries (root_of root.old)) → IsAscending cmp (entries (root_of root.new)) }
-    ensures length { length (entries (root_of root.new)) ≡ length (entries (root_of root.old)) }
-    ensures gaps { (path : List ℕ) → IsGapIn (root_of root.old) path → IsGapIn (root_of root.new) path × (length (before_gap_in (root_of root.new) path) ≡ length (before_gap_in (root_of root.old) path)) }
-    ensures visited { (last : F) × IsVisited (CalledAtPair F.FnMut) f last (take (length (before_gap_in (root_of root.old) front.now)) (entries (root_of root.old))) (drop (length (before_gap_in (root_of root.old) back.now)) (entries (root_of root.old))) (entries (root_of root.old)) (entries (root_of root.new)) }
+    ensures sound { IsSoundMap root.new }
+    ensures ascending { (cmp : K → K → Ordering) → IsAscending cmp (entries root.old) → IsAscending cmp (entries root.new) }
+    ensures length { length (entries root.new) ≡ length (entries root.old) }
+    ensures gaps { (path : List ℕ) → IsGapIn root.old path → IsGapIn root.new path × (length (before_gap_in root.new path) ≡ length (before_gap_in root.old path)) }
+    ensures visited { (last : F) × IsVisited (CalledAtPair F.FnMut) f last (take (length (before_gap_in root.old front.now)) (entries root.old)) (drop (length (before_gap_in root.old back.now)) (entries root.old)) (entries root.old) (entries root.new) }
 {
     match root {
         None => {}

@@ -10,7 +10,7 @@ ghost use Rattle.fc_tree_node.specs.Leaf.{leaf_at};
 ghost use Rattle.fc_tree_node.specs.LeafGap.{IsLeafGap};
 ghost use Rattle.fc_tree_node.specs.Node.{own_pairs, pairs_of, IsLevelled, IsTree};
 ghost use Rattle.fc_tree_node.specs.Path.{before_gap};
-ghost use Rattle.fc_tree_node.specs.Tree.{entries, root_of, IsSoundMap};
+ghost use Rattle.fc_tree_node.specs.Tree.{entries, IsSoundMap};
 ghost use Rattle.fc_tree_node.specs.TreePlace.{before_gap_in};
 ghost use Rattle.fc_tree_walk.specs.Cut.{leads, ahead, amid, TurnsAt};
 ghost use Rattle.fc_tree_walk.specs.Gap.{AreEndsIn, IsGapIn, GoesOn, EndsIn};
@@ -23,10 +23,10 @@ use fc_tree_node::path::Path;
 use std::ops::Bound;
 
 /// The gap before all pairs: no step where there is no root.
-pub fn first_gap_in<K, V>(root: &Option<Box<Node<K, V>>>) -> Path
-    requires { IsSoundMap (root_of root.now) }
-    ensures gap { IsGapIn (root_of root.now) result }
-    ensures front { length (before_gap_in (root_of root.now) result) ≡ 0 }
+pub fn first_gap_in<K, V>(root: &Option<Node<K, V>>) -> Path
+    requires { IsSoundMap root.now }
+    ensures gap { IsGapIn root.now result }
+    ensures front { length (before_gap_in root.now result) ≡ 0 }
 {
     let mut gap = Path::new();
     if let Some(root) = root {
@@ -36,10 +36,10 @@ pub fn first_gap_in<K, V>(root: &Option<Box<Node<K, V>>>) -> Path
 }
 
 /// The gap after all pairs: no step where there is no root.
-pub fn last_gap_in<K, V>(root: &Option<Box<Node<K, V>>>) -> Path
-    requires { IsSoundMap (root_of root.now) }
-    ensures gap { IsGapIn (root_of root.now) result }
-    ensures back { length (before_gap_in (root_of root.now) result) ≡ length (entries (root_of root.now)) }
+pub fn last_gap_in<K, V>(root: &Option<Node<K, V>>) -> Path
+    requires { IsSoundMap root.now }
+    ensures gap { IsGapIn root.now result }
+    ensures back { length (before_gap_in root.now result) ≡ length (entries root.now) }
 {
     let mut gap = Path::new();
     if let Some(root) = root {
@@ -50,15 +50,15 @@ pub fn last_gap_in<K, V>(root: &Option<Box<Node<K, V>>>) -> Path
 
 /// The gaps between which the pairs lie whose keys are within two bounds. Where no key can lie within them, both are one gap.
 pub fn range_gaps_in<K: Ord, V, Q: Query<K>>(
-    root: &Option<Box<Node<K, V>>>,
+    root: &Option<Node<K, V>>,
     lo: &Bound<Q>,
     hi: &Bound<Q>,
 ) -> (Path, Path)
-    requires sound { IsSoundMap (root_of root.now) }
-    requires order { IsAscending K.cmp (entries (root_of root.now)) }
-    ensures ends { AreEndsIn (root_of root.now) result.0 result.1 }
-    ensures front { length (before_gap_in (root_of root.now) result.0) + length (filter (λ e. starts Q.order (bound_by Q.sought lo.now) e.0) (entries (root_of root.now))) ≡ length (entries (root_of root.now)) }
-    ensures back { length (before_gap_in (root_of root.now) result.1) ≡ length (before_gap_in (root_of root.now) result.0) + length (within Q.order (bound_by Q.sought lo.now) (bound_by Q.sought hi.now) (entries (root_of root.now))) }
+    requires sound { IsSoundMap root.now }
+    requires order { IsAscending K.cmp (entries root.now) }
+    ensures ends { AreEndsIn root.now result.0 result.1 }
+    ensures front { length (before_gap_in root.now result.0) + length (filter (λ e. starts Q.order (bound_by Q.sought lo.now) e.0) (entries root.now)) ≡ length (entries root.now) }
+    ensures back { length (before_gap_in root.now result.1) ≡ length (before_gap_in root.now result.0) + length (within Q.order (bound_by Q.sought lo.now) (bound_by Q.sought hi.now) (entries root.now)) }
 {
     let mut front = Path::new();
     let mut back = Path::new();

@@ -5,7 +5,7 @@ ghost use Rattle.fc_tree_node.specs.LeafGap.{IsLeafGap};
 ghost use Rattle.fc_tree_node.specs.Node.{own_pairs, pairs_of, IsLevelled, IsTree};
 ghost use Rattle.fc_tree_node.specs.Path.{before_gap};
 ghost use Rattle.fc_tree_node.specs.Place.{before_own};
-ghost use Rattle.fc_tree_node.specs.Tree.{entries, root_of, IsSoundMap};
+ghost use Rattle.fc_tree_node.specs.Tree.{entries, IsSoundMap};
 ghost use Rattle.fc_tree_node.specs.TreePlace.{before_gap_in};
 ghost use Rattle.fc_tree_walk.specs.Gap.{IsGapIn, AreEndsIn, GoesOn, LeadsTo, IsBeside, IsAboveAt, IsAbove};
 ghost use Rattle.fc_tree_walk.specs.Span.{between};
@@ -69,18 +69,18 @@ fn reach(end: &Path, other: &Path, leaf_end: usize) -> (usize, bool)
 /// Takes the pairs of the front's leaf from its gap on, as far as the back, and goes on after them. It answers them, and whether
 /// the front has then met the back.
 pub fn take_first_of<'a, K, V>(
-    root: &'a Option<Box<Node<K, V>>>,
+    root: &'a Option<Node<K, V>>,
     leaf: &'a Node<K, V>,
     front: &mut Path,
     back: &Path,
 ) -> (&'a [(K, V)], bool)
-    requires sound { IsSoundMap (root_of root.now) }
-    requires ends { AreEndsIn (root_of root.now) front.old back.now }
-    requires leaf { (n : Node K V) → root_of root.now ≡ Some n → leaf.now ≡ leaf_at front.old n }
-    ensures ends { AreEndsIn (root_of root.now) front.new back.now }
+    requires sound { IsSoundMap root.now }
+    requires ends { AreEndsIn root.now front.old back.now }
+    requires leaf { (n : Node K V) → root.now ≡ Some n → leaf.now ≡ leaf_at front.old n }
+    ensures ends { AreEndsIn root.now front.new back.now }
     ensures leaf { IsBeside front.old front.new }
-    ensures run { between (root_of root.now) front.old back.now ≡ result.0.now ++ between (root_of root.now) front.new back.now }
-    ensures met { IsTrue result.1 ↔ (between (root_of root.now) front.new back.now ≡ []) }
+    ensures run { between root.now front.old back.now ≡ result.0.now ++ between root.now front.new back.now }
+    ensures met { IsTrue result.1 ↔ (between root.now front.new back.now ≡ []) }
 {
     let Some(_node) = root else {
         return (&[], true);
@@ -95,18 +95,18 @@ pub fn take_first_of<'a, K, V>(
 /// Takes the pairs of the back's leaf before its gap, as far as the front, and goes back before them. It answers them, and
 /// whether the back has then met the front.
 pub fn take_last_of<'a, K, V>(
-    root: &'a Option<Box<Node<K, V>>>,
+    root: &'a Option<Node<K, V>>,
     leaf: &'a Node<K, V>,
     front: &Path,
     back: &mut Path,
 ) -> (&'a [(K, V)], bool)
-    requires sound { IsSoundMap (root_of root.now) }
-    requires ends { AreEndsIn (root_of root.now) front.now back.old }
-    requires leaf { (n : Node K V) → root_of root.now ≡ Some n → leaf.now ≡ leaf_at back.old n }
-    ensures ends { AreEndsIn (root_of root.now) front.now back.new }
+    requires sound { IsSoundMap root.now }
+    requires ends { AreEndsIn root.now front.now back.old }
+    requires leaf { (n : Node K V) → root.now ≡ Some n → leaf.now ≡ leaf_at back.old n }
+    ensures ends { AreEndsIn root.now front.now back.new }
     ensures leaf { IsBeside back.old back.new }
-    ensures run { between (root_of root.now) front.now back.old ≡ between (root_of root.now) front.now back.new ++ result.0.now }
-    ensures met { IsTrue result.1 ↔ (between (root_of root.now) front.now back.new ≡ []) }
+    ensures run { between root.now front.now back.old ≡ between root.now front.now back.new ++ result.0.now }
+    ensures met { IsTrue result.1 ↔ (between root.now front.now back.new ≡ []) }
 {
     let Some(_node) = root else {
         return (&[], true);
@@ -232,19 +232,19 @@ fn set_before<K, V>(node: &Node<K, V>, gap: &mut Path, level: usize)
 // Goes on past the pair after a gap, and answers that pair, and the leaf of the gap after it. Where the node above the gap's leaf
 // is known and has the pair, it has that leaf too; else the way is taken from the root, and the node above is known from then on.
 fn pass_next<'a, K, V>(
-    root: &'a Option<Box<Node<K, V>>>,
+    root: &'a Option<Node<K, V>>,
     above: &mut Option<&'a Node<K, V>>,
     gap: &mut Path,
 ) -> (&'a (K, V), &'a Node<K, V>)
-    requires sound { IsSoundMap (root_of root.now) }
-    requires gap { IsGapIn (root_of root.now) gap.old }
-    requires above { IsAbove (root_of root.now) gap.old (option_copied above.old) }
-    requires some { length (before_gap_in (root_of root.now) gap.old) < length (entries (root_of root.now)) }
-    ensures gap { IsGapIn (root_of root.now) gap.new }
-    ensures above { IsAbove (root_of root.now) gap.new (option_copied above.new) }
-    ensures step { length (before_gap_in (root_of root.now) gap.new) ≡ length (before_gap_in (root_of root.now) gap.old) + 1 }
-    ensures pair { slice_get (entries (root_of root.now)) (length (before_gap_in (root_of root.now) gap.old)) ≡ Some result.0.now }
-    ensures leaf { (n : Node K V) → root_of root.now ≡ Some n → result.1.now ≡ leaf_at gap.new n }
+    requires sound { IsSoundMap root.now }
+    requires gap { IsGapIn root.now gap.old }
+    requires above { IsAbove root.now gap.old (option_copied above.old) }
+    requires some { length (before_gap_in root.now gap.old) < length (entries root.now) }
+    ensures gap { IsGapIn root.now gap.new }
+    ensures above { IsAbove root.now gap.new (option_copied above.new) }
+    ensures step { length (before_gap_in root.now gap.new) ≡ length (before_gap_in root.now gap.old) + 1 }
+    ensures pair { slice_get (entries root.now) (length (before_gap_in root.now gap.old)) ≡ Some result.0.now }
+    ensures leaf { (n : Node K V) → root.now ≡ Some n → result.1.now ≡ leaf_at gap.new n }
 {
     if let Some(node) = *above {
         let last = gap.len() - 1;
@@ -261,18 +261,18 @@ fn pass_next<'a, K, V>(
 // The same on the way from the root.
 #[inline(never)]
 fn pass_next_from_root<'a, K, V>(
-    root: &'a Option<Box<Node<K, V>>>,
+    root: &'a Option<Node<K, V>>,
     above: &mut Option<&'a Node<K, V>>,
     gap: &mut Path,
 ) -> (&'a (K, V), &'a Node<K, V>)
-    requires sound { IsSoundMap (root_of root.now) }
-    requires gap { IsGapIn (root_of root.now) gap.old }
-    requires some { length (before_gap_in (root_of root.now) gap.old) < length (entries (root_of root.now)) }
-    ensures gap { IsGapIn (root_of root.now) gap.new }
-    ensures above { IsAbove (root_of root.now) gap.new (option_copied above.new) }
-    ensures step { length (before_gap_in (root_of root.now) gap.new) ≡ length (before_gap_in (root_of root.now) gap.old) + 1 }
-    ensures pair { slice_get (entries (root_of root.now)) (length (before_gap_in (root_of root.now) gap.old)) ≡ Some result.0.now }
-    ensures leaf { (n : Node K V) → root_of root.now ≡ Some n → result.1.now ≡ leaf_at gap.new n }
+    requires sound { IsSoundMap root.now }
+    requires gap { IsGapIn root.now gap.old }
+    requires some { length (before_gap_in root.now gap.old) < length (entries root.now) }
+    ensures gap { IsGapIn root.now gap.new }
+    ensures above { IsAbove root.now gap.new (option_copied above.new) }
+    ensures step { length (before_gap_in root.now gap.new) ≡ length (before_gap_in root.now gap.old) + 1 }
+    ensures pair { slice_get (entries root.now) (length (before_gap_in root.now gap.old)) ≡ Some result.0.now }
+    ensures leaf { (n : Node K V) → root.now ≡ Some n → result.1.now ≡ leaf_at gap.new n }
 {
     let Some(node) = root else { unreachable!() };
     let node: &Node<K, V> = node;
@@ -287,19 +287,19 @@ fn pass_next_from_root<'a, K, V>(
 // Goes back past the pair before a gap, and answers that pair, and the leaf of the gap before it. Where the node above the gap's leaf
 // is known and has the pair, it has that leaf too; else the way is taken from the root, and the node above is known from then on.
 fn pass_previous<'a, K, V>(
-    root: &'a Option<Box<Node<K, V>>>,
+    root: &'a Option<Node<K, V>>,
     above: &mut Option<&'a Node<K, V>>,
     gap: &mut Path,
 ) -> (&'a (K, V), &'a Node<K, V>)
-    requires sound { IsSoundMap (root_of root.now) }
-    requires gap { IsGapIn (root_of root.now) gap.old }
-    requires above { IsAbove (root_of root.now) gap.old (option_copied above.old) }
-    requires some { 0 < length (before_gap_in (root_of root.now) gap.old) }
-    ensures gap { IsGapIn (root_of root.now) gap.new }
-    ensures above { IsAbove (root_of root.now) gap.new (option_copied above.new) }
-    ensures step { length (before_gap_in (root_of root.now) gap.new) + 1 ≡ length (before_gap_in (root_of root.now) gap.old) }
-    ensures pair { slice_get (entries (root_of root.now)) (length (before_gap_in (root_of root.now) gap.new)) ≡ Some result.0.now }
-    ensures leaf { (n : Node K V) → root_of root.now ≡ Some n → result.1.now ≡ leaf_at gap.new n }
+    requires sound { IsSoundMap root.now }
+    requires gap { IsGapIn root.now gap.old }
+    requires above { IsAbove root.now gap.old (option_copied above.old) }
+    requires some { 0 < length (before_gap_in root.now gap.old) }
+    ensures gap { IsGapIn root.now gap.new }
+    ensures above { IsAbove root.now gap.new (option_copied above.new) }
+    ensures step { length (before_gap_in root.now gap.new) + 1 ≡ length (before_gap_in root.now gap.old) }
+    ensures pair { slice_get (entries root.now) (length (before_gap_in root.now gap.new)) ≡ Some result.0.now }
+    ensures leaf { (n : Node K V) → root.now ≡ Some n → result.1.now ≡ leaf_at gap.new n }
 {
     if let Some(node) = *above {
         let last = gap.len() - 1;
@@ -317,18 +317,18 @@ fn pass_previous<'a, K, V>(
 // The same on the way from the root.
 #[inline(never)]
 fn pass_previous_from_root<'a, K, V>(
-    root: &'a Option<Box<Node<K, V>>>,
+    root: &'a Option<Node<K, V>>,
     above: &mut Option<&'a Node<K, V>>,
     gap: &mut Path,
 ) -> (&'a (K, V), &'a Node<K, V>)
-    requires sound { IsSoundMap (root_of root.now) }
-    requires gap { IsGapIn (root_of root.now) gap.old }
-    requires some { 0 < length (before_gap_in (root_of root.now) gap.old) }
-    ensures gap { IsGapIn (root_of root.now) gap.new }
-    ensures above { IsAbove (root_of root.now) gap.new (option_copied above.new) }
-    ensures step { length (before_gap_in (root_of root.now) gap.new) + 1 ≡ length (before_gap_in (root_of root.now) gap.old) }
-    ensures pair { slice_get (entries (root_of root.now)) (length (before_gap_in (root_of root.now) gap.new)) ≡ Some result.0.now }
-    ensures leaf { (n : Node K V) → root_of root.now ≡ Some n → result.1.now ≡ leaf_at gap.new n }
+    requires sound { IsSoundMap root.now }
+    requires gap { IsGapIn root.now gap.old }
+    requires some { 0 < length (before_gap_in root.now gap.old) }
+    ensures gap { IsGapIn root.now gap.new }
+    ensures above { IsAbove root.now gap.new (option_copied above.new) }
+    ensures step { length (before_gap_in root.now gap.new) + 1 ≡ length (before_gap_in root.now gap.old) }
+    ensures pair { slice_get (entries root.now) (length (before_gap_in root.now gap.new)) ≡ Some result.0.now }
+    ensures leaf { (n : Node K V) → root.now ≡ Some n → result.1.now ≡ leaf_at gap.new n }
 {
     let Some(node) = root else { unreachable!() };
     let node: &Node<K, V> = node;
@@ -353,19 +353,19 @@ pub struct Step<'a, K, V> {
 
 /// Goes on over a pair, and takes the run after it.
 pub fn step_first_run<'a, K, V>(
-    root: &'a Option<Box<Node<K, V>>>,
+    root: &'a Option<Node<K, V>>,
     above: &mut Option<&'a Node<K, V>>,
     front: &mut Path,
     back: &Path,
 ) -> Step<'a, K, V>
-    requires sound { IsSoundMap (root_of root.now) }
-    requires ends { AreEndsIn (root_of root.now) front.old back.now }
-    requires above { IsAbove (root_of root.now) front.old (option_copied above.old) }
-    requires some { 0 < length (between (root_of root.now) front.old back.now) }
-    ensures ends { AreEndsIn (root_of root.now) front.new back.now }
-    ensures above { IsAbove (root_of root.now) front.new (option_copied above.new) }
-    ensures pairs { between (root_of root.now) front.old back.now ≡ result.pair.now ∷ (result.run.now ++ between (root_of root.now) front.new back.now) }
-    ensures met { IsTrue result.has_met ↔ (between (root_of root.now) front.new back.now ≡ []) }
+    requires sound { IsSoundMap root.now }
+    requires ends { AreEndsIn root.now front.old back.now }
+    requires above { IsAbove root.now front.old (option_copied above.old) }
+    requires some { 0 < length (between root.now front.old back.now) }
+    ensures ends { AreEndsIn root.now front.new back.now }
+    ensures above { IsAbove root.now front.new (option_copied above.new) }
+    ensures pairs { between root.now front.old back.now ≡ result.pair.now ∷ (result.run.now ++ between root.now front.new back.now) }
+    ensures met { IsTrue result.has_met ↔ (between root.now front.new back.now ≡ []) }
 {
     let (pair, leaf) = pass_next(root, above, front);
     let (run, has_met) = take_first_of(root, leaf, front, back);
@@ -374,19 +374,19 @@ pub fn step_first_run<'a, K, V>(
 
 /// Goes back over a pair, and takes the run before it.
 pub fn step_last_run<'a, K, V>(
-    root: &'a Option<Box<Node<K, V>>>,
+    root: &'a Option<Node<K, V>>,
     above: &mut Option<&'a Node<K, V>>,
     front: &Path,
     back: &mut Path,
 ) -> Step<'a, K, V>
-    requires sound { IsSoundMap (root_of root.now) }
-    requires ends { AreEndsIn (root_of root.now) front.now back.old }
-    requires above { IsAbove (root_of root.now) back.old (option_copied above.old) }
-    requires some { 0 < length (between (root_of root.now) front.now back.old) }
-    ensures ends { AreEndsIn (root_of root.now) front.now back.new }
-    ensures above { IsAbove (root_of root.now) back.new (option_copied above.new) }
-    ensures pairs { between (root_of root.now) front.now back.old ≡ between (root_of root.now) front.now back.new ++ (result.run.now ++ result.pair.now ∷ []) }
-    ensures met { IsTrue result.has_met ↔ (between (root_of root.now) front.now back.new ≡ []) }
+    requires sound { IsSoundMap root.now }
+    requires ends { AreEndsIn root.now front.now back.old }
+    requires above { IsAbove root.now back.old (option_copied above.old) }
+    requires some { 0 < length (between root.now front.now back.old) }
+    ensures ends { AreEndsIn root.now front.now back.new }
+    ensures above { IsAbove root.now back.new (option_copied above.new) }
+    ensures pairs { between root.now front.now back.old ≡ between root.now front.now back.new ++ (result.run.now ++ result.pair.now ∷ []) }
+    ensures met { IsTrue result.has_met ↔ (between root.now front.now back.new ≡ []) }
 {
     let (pair, leaf) = pass_previous(root, above, back);
     let (run, has_met) = take_last_of(root, leaf, front, back);

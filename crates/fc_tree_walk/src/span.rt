@@ -6,7 +6,7 @@ ghost use Rattle.std.specs.Prelude.{◌≡◌, ◌<◌, ◌↔◌, [], ◌∷◌
 ghost use Rattle.fc_base.specs.Ascending.{IsAscending};
 ghost use Rattle.fc_base.specs.Ranges.{bound_by, within};
 ghost use Rattle.fc_tree_node.specs.Leaf.{leaf_at};
-ghost use Rattle.fc_tree_node.specs.Tree.{entries, root_of, IsSoundMap};
+ghost use Rattle.fc_tree_node.specs.Tree.{entries, IsSoundMap};
 ghost use Rattle.fc_tree_walk.specs.Gap.{AreEndsIn};
 ghost use Rattle.fc_tree_walk.specs.Span.{between};
 
@@ -22,7 +22,7 @@ use std::ops::Bound;
 /// The pairs that the front has taken, those between two gaps of a tree, and those that the back has taken.
 #[derive(Drop)]
 pub struct Span<'a, K, V> {
-    root: &'a Option<Box<Node<K, V>>>,
+    root: &'a Option<Node<K, V>>,
     head: &'a [(K, V)],
     tail: &'a [(K, V)],
     front: Path,
@@ -34,22 +34,22 @@ pub struct Span<'a, K, V> {
 
 impl<'a, K, V> Model for Span<'a, K, V> {
     ghost use Rattle.std.specs.Prelude.{◌≡◌, ◌↔◌, [], ◌++◌, List, IsTrue, option_copied};
-    ghost use Rattle.fc_tree_node.specs.Tree.{root_of, IsSoundMap};
+    ghost use Rattle.fc_tree_node.specs.Tree.{IsSoundMap};
     ghost use Rattle.fc_tree_walk.specs.Gap.{AreEndsIn, IsAbove};
     ghost use Rattle.fc_tree_walk.specs.Span.{between};
 
     ghost Value = { List (K × V) };
 
-    ghost view = { λ s. s.head.now ++ (between (root_of s.root.now) s.front s.back ++ s.tail.now) };
+    ghost view = { λ s. s.head.now ++ (between s.root.now s.front s.back ++ s.tail.now) };
 
-    ghost invariant = { λ s. IsSoundMap (root_of s.root.now) × AreEndsIn (root_of s.root.now) s.front s.back × IsAbove (root_of s.root.now) s.front (option_copied s.above_front) × IsAbove (root_of s.root.now) s.back (option_copied s.above_back) × (IsTrue s.has_met ↔ (between (root_of s.root.now) s.front s.back ≡ [])) };
+    ghost invariant = { λ s. IsSoundMap s.root.now × AreEndsIn s.root.now s.front s.back × IsAbove s.root.now s.front (option_copied s.above_front) × IsAbove s.root.now s.back (option_copied s.above_back) × (IsTrue s.has_met ↔ (between s.root.now s.front s.back ≡ [])) };
 }
 
 impl<'a, K, V> Span<'a, K, V> {
     /// All pairs below a root.
-    pub fn whole(root: &'a Option<Box<Node<K, V>>>) -> Span<'a, K, V>
-        requires { IsSoundMap (root_of root.now) }
-        ensures { result ≡ entries (root_of root.now) }
+    pub fn whole(root: &'a Option<Node<K, V>>) -> Span<'a, K, V>
+        requires { IsSoundMap root.now }
+        ensures { result ≡ entries root.now }
     {
         let Some(node) = root else {
             return Span::none(root);
@@ -62,8 +62,8 @@ impl<'a, K, V> Span<'a, K, V> {
     }
 
     // No pair, where there is no root.
-    fn none(root: &'a Option<Box<Node<K, V>>>) -> Span<'a, K, V>
-        requires { root_of root.now ≡ None }
+    fn none(root: &'a Option<Node<K, V>>) -> Span<'a, K, V>
+        requires { root.now ≡ None }
         ensures { result ≡ [] }
     {
         Span {
@@ -80,15 +80,15 @@ impl<'a, K, V> Span<'a, K, V> {
 
     // The pairs between two gaps, of which the front takes those of its leaf.
     fn from_front(
-        root: &'a Option<Box<Node<K, V>>>,
+        root: &'a Option<Node<K, V>>,
         first: &'a Node<K, V>,
         front: Path,
         back: Path,
     ) -> Span<'a, K, V>
-        requires sound { IsSoundMap (root_of root.now) }
-        requires ends { AreEndsIn (root_of root.now) front back }
-        requires first { (n : Node K V) → root_of root.now ≡ Some n → first.now ≡ leaf_at front n }
-        ensures { result ≡ between (root_of root.now) front back }
+        requires sound { IsSoundMap root.now }
+        requires ends { AreEndsIn root.now front back }
+        requires first { (n : Node K V) → root.now ≡ Some n → first.now ≡ leaf_at front n }
+        ensures { result ≡ between root.now front back }
     {
         let mut front = front;
         let (head, has_met) = take_first_of(root, first, &mut front, &back);
@@ -215,13 +215,13 @@ impl<'a, K, V> Span<'a, K, V> {
 impl<'a, K: Ord, V> Span<'a, K, V> {
     /// The pairs below a root whose keys lie within two bounds. The run of one end is taken at once: the back's where only it is bounded.
     pub fn within<Q: Query<K>>(
-        root: &'a Option<Box<Node<K, V>>>,
+        root: &'a Option<Node<K, V>>,
         lo: &Bound<Q>,
         hi: &Bound<Q>,
     ) -> Span<'a, K, V>
-        requires sound { IsSoundMap (root_of root.now) }
-        requires order { IsAscending K.cmp (entries (root_of root.now)) }
-        ensures { result ≡ within Q.order (bound_by Q.sought lo.now) (bound_by Q.sought hi.now) (entries (root_of root.now)) }
+        requires sound { IsSoundMap root.now }
+        requires order { IsAscending K.cmp (entries root.now) }
+        ensures { result ≡ within Q.order (bound_by Q.sought lo.now) (bound_by Q.sought hi.now) (entries root.now) }
     {
         let mut front = Path::new();
         let mut back = Path::new();
@@ -250,18 +250,18 @@ struct Runs<'a, K, V> {
 // Fills both paths with the gaps at the ends of a range, and takes the run of one end. The span is made once, behind this call, since a
 // struct of its size is copied wherever two of it could be the answer.
 fn start_within<'a, K: Ord, V, Q: Query<K>>(
-    root: &'a Option<Box<Node<K, V>>>,
+    root: &'a Option<Node<K, V>>,
     lo: &Bound<Q>,
     hi: &Bound<Q>,
     front: &mut Path,
     back: &mut Path,
 ) -> Runs<'a, K, V>
-    requires sound { IsSoundMap (root_of root.now) }
-    requires order { IsAscending K.cmp (entries (root_of root.now)) }
+    requires sound { IsSoundMap root.now }
+    requires order { IsAscending K.cmp (entries root.now) }
     requires start { (front.old ≡ []) × (back.old ≡ []) }
-    ensures ends { AreEndsIn (root_of root.now) front.new back.new }
-    ensures pairs { within Q.order (bound_by Q.sought lo.now) (bound_by Q.sought hi.now) (entries (root_of root.now)) ≡ result.head.now ++ (between (root_of root.now) front.new back.new ++ result.tail.now) }
-    ensures met { IsTrue result.has_met ↔ (between (root_of root.now) front.new back.new ≡ []) }
+    ensures ends { AreEndsIn root.now front.new back.new }
+    ensures pairs { within Q.order (bound_by Q.sought lo.now) (bound_by Q.sought hi.now) (entries root.now) ≡ result.head.now ++ (between root.now front.new back.new ++ result.tail.now) }
+    ensures met { IsTrue result.has_met ↔ (between root.now front.new back.new ≡ []) }
 {
     let Some(node) = root else {
         return Runs {

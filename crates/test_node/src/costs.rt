@@ -100,7 +100,7 @@ pub fn split_full<K: Drop, V: Drop>(
     node: &mut Node<K, V>,
     index: usize,
     pair: (K, V),
-    right: Box<Node<K, V>>,
+    right: Node<K, V>,
 ) -> Count
     requires full { length (own_pairs node.old) ≡ capacity }
     requires in_bounds { index ≤ capacity }

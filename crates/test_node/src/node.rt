@@ -23,7 +23,7 @@ fn push_child<V: Drop>(
     node: &mut Node<u64, V>,
     key: u64,
     value: V,
-    child: Box<Node<u64, V>>,
+    child: Node<u64, V>,
 ) {
     let len = node.len();
     assert!(rt; len < CAPACITY && node.child_count() == len + 1);
@@ -31,7 +31,7 @@ fn push_child<V: Drop>(
 }
 
 // A leaf of these keys, each with ten times itself as its value.
-fn leaf(rt: &impl Abort, alloc: Global, keys: &[u64]) -> Result<Box<Node<u64, u64>>, Fail> {
+fn leaf(rt: &impl Abort, alloc: Global, keys: &[u64]) -> Result<Node<u64, u64>, Fail> {
     let mut node = Node::try_leaf(alloc)?;
     for i in 0..keys.len() {
         push(rt, &mut node, keys[i], keys[i].wrapping_mul(10));
@@ -45,7 +45,7 @@ fn family(
     alloc: Global,
     keys: &[u64],
     below: &[&[u64]],
-) -> Result<Box<Node<u64, u64>>, Fail> {
+) -> Result<Node<u64, u64>, Fail> {
     assert!(rt; below.len() == keys.len() + 1);
     let mut node = Node::try_inner(alloc)?;
     node.adopt(leaf(rt, alloc, below[0])?);
@@ -62,7 +62,7 @@ fn inner(
     alloc: Global,
     keys: &[u64],
     below: &[u64],
-) -> Result<Box<Node<u64, u64>>, Fail> {
+) -> Result<Node<u64, u64>, Fail> {
     assert!(rt; below.len() == keys.len() + 1);
     let mut node = Node::try_inner(alloc)?;
     node.adopt(leaf(rt, alloc, &below[..1])?);
@@ -195,8 +195,8 @@ fn split_leaf<V: Drop>(
     node: &mut Node<u64, V>,
     place: usize,
     pair: (u64, V),
-    right: Box<Node<u64, V>>,
-) -> ((u64, V), Box<Node<u64, V>>)
+    right: Node<u64, V>,
+) -> ((u64, V), Node<u64, V>)
     requires { IsBlankLeaf right.value }
 {
     assert!(rt; place < PLACES && node.is_leaf() && node.len() == CAPACITY);
@@ -430,7 +430,7 @@ fn steals_several_from_either_side(rt: HostRuntime) -> Result<(), Fail> {
 }
 
 // A node of one key, 30, over two inner nodes of two keys each.
-fn three_levels(rt: &impl Abort, alloc: Global) -> Result<Box<Node<u64, u64>>, Fail> {
+fn three_levels(rt: &impl Abort, alloc: Global) -> Result<Node<u64, u64>, Fail> {
     let mut node = Node::try_inner(alloc)?;
     node.adopt(inner(rt, alloc, &[10, 20], &[1, 11, 21])?);
     let right = inner(rt, alloc, &[40, 50], &[31, 41, 51])?;
@@ -587,7 +587,7 @@ fn tokens<'a>(
     first: u64,
     n: u64,
     drops: &'a Cell<u64>,
-) -> Result<Box<Node<u64, Token<'a>>>, TryReserveError> {
+) -> Result<Node<u64, Token<'a>>, TryReserveError> {
     let mut node = Node::try_leaf(alloc)?;
     for i in 0..n {
         push(rt, &mut node, first.wrapping_add(i), Token { drops });
@@ -619,7 +619,7 @@ fn fourteen_pairs<'a>(
     rt: &impl Abort,
     alloc: Global,
     drops: &'a Cell<u64>,
-) -> Result<Box<Node<u64, Token<'a>>>, TryReserveError> {
+) -> Result<Node<u64, Token<'a>>, TryReserveError> {
     let left = tokens(rt, alloc, 0, 6, drops)?;
     let right = tokens(rt, alloc, 7, 7, drops)?;
     let mut node = Node::try_inner(alloc)?;

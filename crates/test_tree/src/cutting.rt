@@ -28,7 +28,7 @@ fn run_end(node: &Node<u64, u64>, height: usize, start: u64) -> Option<u64> {
 }
 
 // Whether the part is a sound tree of the keys from `start` to `end`, no higher than the tree that was cut.
-fn is_part(part: &Option<Box<Node<u64, u64>>>, height: usize, start: u64, end: u64) -> bool
+fn is_part(part: &Option<Node<u64, u64>>, height: usize, start: u64, end: u64) -> bool
     requires { height ≤ 2 }
 {
     let Some(root) = part else {
@@ -46,7 +46,7 @@ fn is_part(part: &Option<Box<Node<u64, u64>>>, height: usize, start: u64, end: u
 fn cut_at(
     rt: &impl Abort,
     alloc: Global,
-    root: Box<Node<u64, u64>>,
+    root: Node<u64, u64>,
     height: usize,
     path: &[u8],
     key: u64,

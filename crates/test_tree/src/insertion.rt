@@ -30,7 +30,7 @@ fn is_path(node: &Node<u64, u64>, path: &[u8]) -> bool
 }
 
 // A leaf of one key.
-fn leaf_of(alloc: Global, key: u64) -> Result<Box<Node<u64, u64>>, TryReserveError> {
+fn leaf_of(alloc: Global, key: u64) -> Result<Node<u64, u64>, TryReserveError> {
     Ok(first_leaf(alloc, (key, key), &mut Count::new())?)
 }
 
@@ -38,7 +38,7 @@ fn leaf_of(alloc: Global, key: u64) -> Result<Box<Node<u64, u64>>, TryReserveErr
 fn put(
     rt: &impl Abort,
     alloc: Global,
-    root: &mut Box<Node<u64, u64>>,
+    root: &mut Node<u64, u64>,
     path: &[u8],
     key: u64,
     nodes: usize,
@@ -59,7 +59,7 @@ fn put(
 pub(crate) fn put_last(
     rt: &impl Abort,
     alloc: Global,
-    root: &mut Box<Node<u64, u64>>,
+    root: &mut Node<u64, u64>,
     key: u64,
     nodes: usize,
 ) -> Result<(), TryReserveError> {
@@ -78,7 +78,7 @@ pub(crate) fn full_leaf(
     alloc: Global,
     first: u64,
     distance: u64,
-) -> Result<Box<Node<u64, u64>>, TryReserveError> {
+) -> Result<Node<u64, u64>, TryReserveError> {
     let mut root = leaf_of(alloc, first)?;
     let mut key = first;
     for _ in 1..CAPACITY {
@@ -95,7 +95,7 @@ fn split(
     (first, distance): (u64, u64),
     place: u8,
     key: u64,
-) -> Result<Box<Node<u64, u64>>, TryReserveError> {
+) -> Result<Node<u64, u64>, TryReserveError> {
     let mut root = full_leaf(rt, alloc, first, distance)?;
     put(rt, alloc, &mut root, &[place], key, 2)?;
     Ok(root)

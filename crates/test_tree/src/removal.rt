@@ -14,11 +14,11 @@ use std::test::Fail;
 // Removes the key at the path from a tree of this height, and hands out what is left.
 pub(crate) fn without(
     rt: &impl Abort,
-    root: Box<Node<u64, u64>>,
+    root: Node<u64, u64>,
     height: usize,
     path: &[u8],
     key: u64,
-) -> Option<Box<Node<u64, u64>>> {
+) -> Option<Node<u64, u64>> {
     assert!(rt; root.len() > 0 && is_levelled(&root, height));
     assert!(rt; is_place(&root, path));
     let mut tree = Some(root);
@@ -34,7 +34,7 @@ fn of_two_leaves(
     (start, middle, end): (u64, u64, u64),
     path: &[u8],
     key: u64,
-) -> Result<Box<Node<u64, u64>>, Fail> {
+) -> Result<Node<u64, u64>, Fail> {
     let left = leaf(rt, alloc, start, middle)?;
     let right = leaf(rt, alloc, middle.wrapping_add(1), end)?;
     let root = join(rt, alloc, left, middle, right)?;
@@ -48,7 +48,7 @@ fn of_sixteen_leaves(
     alloc: Global,
     path: &[u8],
     key: u64,
-) -> Result<Box<Node<u64, u64>>, Fail> {
+) -> Result<Node<u64, u64>, Fail> {
     let left = least_inner(rt, alloc, 1)?;
     let right = least_inner(rt, alloc, 65)?;
     let root = join(rt, alloc, left, 64, right)?;

@@ -73,7 +73,7 @@ const LAST: u32 = 2 * CAPACITY as u32;
 fn full_leaf<'a>(
     alloc: Global,
     calls: &'a Cell<u32>,
-) -> Result<Box<Node<Key<'a>, u32>>, TryReserveError>
+) -> Result<Node<Key<'a>, u32>, TryReserveError>
     ensures { IfOk result (λ b. IsTree b.value × IsAscending (on (λ k. k.value) nat_cmp) (pairs_of b.value)) }
 {
     let mut leaf = Node::try_leaf(alloc)?;

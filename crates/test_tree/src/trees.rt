@@ -85,7 +85,7 @@ fn push(rt: &impl Abort, leaf: &mut Node<u64, u64>, key: u64) {
 }
 
 // Puts the key and the child behind those of an inner node.
-fn push_child(rt: &impl Abort, node: &mut Node<u64, u64>, key: u64, child: Box<Node<u64, u64>>) {
+fn push_child(rt: &impl Abort, node: &mut Node<u64, u64>, key: u64, child: Node<u64, u64>) {
     let len = node.len();
     assert!(rt; len < CAPACITY && node.child_count() == len + 1);
     node.insert_inner(len, (key, key), child, &mut Count::new());
@@ -97,7 +97,7 @@ pub(crate) fn leaf(
     alloc: Global,
     start: u64,
     end: u64,
-) -> Result<Box<Node<u64, u64>>, Fail> {
+) -> Result<Node<u64, u64>, Fail> {
     let mut node = Node::try_leaf(alloc)?;
     for key in start..end {
         push(rt, &mut node, key);
@@ -109,10 +109,10 @@ pub(crate) fn leaf(
 pub(crate) fn join(
     rt: &impl Abort,
     alloc: Global,
-    left: Box<Node<u64, u64>>,
+    left: Node<u64, u64>,
     key: u64,
-    right: Box<Node<u64, u64>>,
-) -> Result<Box<Node<u64, u64>>, Fail> {
+    right: Node<u64, u64>,
+) -> Result<Node<u64, u64>, Fail> {
     let mut node = Node::try_inner(alloc)?;
     node.adopt(left);
     push_child(rt, &mut node, key, right);
@@ -127,7 +127,7 @@ pub(crate) fn least_inner(
     rt: &impl Abort,
     alloc: Global,
     start: u64,
-) -> Result<Box<Node<u64, u64>>, Fail> {
+) -> Result<Node<u64, u64>, Fail> {
     let mut node = Node::try_inner(alloc)?;
     let mut key = start.wrapping_add(MIN_LEN as u64);
     node.adopt(leaf(rt, alloc, start, key)?);

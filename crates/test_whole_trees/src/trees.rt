@@ -3,7 +3,7 @@
 ghost use Rattle.std.specs.Prelude.{IfOk};
 ghost use Rattle.std.specs.Bool.{OnTrue};
 ghost use Rattle.fc_tree_node.specs.Place.{IsPlace};
-ghost use Rattle.fc_tree_node.specs.Tree.{root_of, IsSoundMap};
+ghost use Rattle.fc_tree_node.specs.Tree.{IsSoundMap};
 
 use fc_base::TryReserveError;
 use fc_tree_border::cutting::try_split;
@@ -14,11 +14,11 @@ use fc_tree_node::path::{MAX_STEPS, Path};
 use std::alloc::Global;
 use std::test::Fail;
 
-type Tree = Option<Box<Node<u64, u64>>>;
+type Tree = Option<Node<u64, u64>>;
 
 // A tree of the keys below n, each with itself as its value.
 fn built(alloc: Global, n: u32) -> Result<Tree, TryReserveError>
-    ensures { IfOk result (λ tree. IsSoundMap (root_of tree)) }
+    ensures { IfOk result (λ tree. IsSoundMap tree) }
 {
     let mut builder = Builder::try_new(alloc, n as usize)?;
     for key in 0..u64::from(n) {

@@ -2,7 +2,7 @@
 ghost use Rattle.std.specs.Prelude.{◌≡◌, ◌+◌, ◌-◌, ◌<◌, ◌≤◌, [], ◌∷◌, ◌++◌, ◌↔◌, length, slice_index_or, slice_set, remove, MatchOption};
 ghost use Rattle.std.specs.Option.{option_to_list};
 ghost use Rattle.fc_base.specs.Sizes.{capacity};
-ghost use Rattle.fc_tree_node.specs.Node.{own_pairs, children_of, child_at, boxed, pairs_of, IsLeaf, IsInner};
+ghost use Rattle.fc_tree_node.specs.Node.{own_pairs, children_of, child_at, pairs_of, IsLeaf, IsInner};
 ghost use Rattle.fc_tree_node.specs.Siblings.{IsFormed, AreAlike, IsMerged, IsShared};
 
 use super::Node;
@@ -10,11 +10,11 @@ use fc_base::Count;
 
 impl<K: Drop, V: Drop> Node<K, V> {
     // Takes the last pair out, in an inner node with the last child.
-    pub(super) fn take_last(&mut self, count: &mut Count) -> ((K, V), Option<Box<Node<K, V>>>)
+    pub(super) fn take_last(&mut self, count: &mut Count) -> ((K, V), Option<Node<K, V>>)
         requires some { 0 < length (own_pairs self.old) }
         requires formed { IsFormed self.old }
         ensures pairs { own_pairs self.old ≡ own_pairs self.new ++ result.0 ∷ [] }
-        ensures children { children_of self.old ≡ children_of self.new ++ boxed (option_to_list result.1) }
+        ensures children { children_of self.old ≡ children_of self.new ++ option_to_list result.1 }
         ensures kind { MatchOption result.1 (IsLeaf self.old) (λ _. IsInner self.old) }
         ensures alike { AreAlike self.old self.new }
         ensures moves { count.new.moves ≡ count.old.moves + 1 }
@@ -34,11 +34,11 @@ impl<K: Drop, V: Drop> Node<K, V> {
     }
 
     // Takes the first pair out, in an inner node with the first child.
-    pub(super) fn take_first(&mut self, count: &mut Count) -> ((K, V), Option<Box<Node<K, V>>>)
+    pub(super) fn take_first(&mut self, count: &mut Count) -> ((K, V), Option<Node<K, V>>)
         requires some { 0 < length (own_pairs self.old) }
         requires formed { IsFormed self.old }
         ensures pairs { own_pairs self.old ≡ result.0 ∷ own_pairs self.new }
-        ensures children { children_of self.old ≡ boxed (option_to_list result.1) ++ children_of self.new }
+        ensures children { children_of self.old ≡ option_to_list result.1 ++ children_of self.new }
         ensures kind { MatchOption result.1 (IsLeaf self.old) (λ _. IsInner self.old) }
         ensures alike { AreAlike self.old self.new }
         ensures moves { count.new.moves ≡ count.old.moves + length (own_pairs self.old) }
@@ -56,16 +56,11 @@ impl<K: Drop, V: Drop> Node<K, V> {
     }
 
     // Puts a pair at the front, in an inner node with a child before it.
-    pub(super) fn put_first(
-        &mut self,
-        pair: (K, V),
-        child: Option<Box<Node<K, V>>>,
-        count: &mut Count,
-    )
+    pub(super) fn put_first(&mut self, pair: (K, V), child: Option<Node<K, V>>, count: &mut Count)
         requires room { length (own_pairs self.old) < capacity }
         requires kind { MatchOption child (IsLeaf self.old) (λ _. IsInner self.old) }
         ensures pairs { own_pairs self.new ≡ pair ∷ own_pairs self.old }
-        ensures children { children_of self.new ≡ boxed (option_to_list child) ++ children_of self.old }
+        ensures children { children_of self.new ≡ option_to_list child ++ children_of self.old }
         ensures alike { AreAlike self.old self.new }
         ensures moves { count.new.moves ≡ count.old.moves + (length (own_pairs self.old) + 1) }
         ensures comparisons { count.new.comparisons ≡ count.old.comparisons }
@@ -80,16 +75,11 @@ impl<K: Drop, V: Drop> Node<K, V> {
     }
 
     // Puts a pair at the end, in an inner node with a child after it.
-    pub(super) fn put_last(
-        &mut self,
-        pair: (K, V),
-        child: Option<Box<Node<K, V>>>,
-        count: &mut Count,
-    )
+    pub(super) fn put_last(&mut self, pair: (K, V), child: Option<Node<K, V>>, count: &mut Count)
         requires room { length (own_pairs self.old) < capacity }
         requires kind { MatchOption child (IsLeaf self.old) (λ _. IsInner self.old) }
         ensures pairs { own_pairs self.new ≡ own_pairs self.old ++ pair ∷ [] }
-        ensures children { children_of self.new ≡ children_of self.old ++ boxed (option_to_list child) }
+        ensures children { children_of self.new ≡ children_of self.old ++ option_to_list child }
         ensures alike { AreAlike self.old self.new }
         ensures moves { count.new.moves ≡ count.old.moves + 1 }
         ensures comparisons { count.new.comparisons ≡ count.old.comparisons }
@@ -185,13 +175,13 @@ impl<K: Drop, V: Drop> Node<K, V> {
     }
 
     // Puts a pair and then all that the right node holds at the end. The right node is given back to memory.
-    pub(super) fn join(&mut self, pair: (K, V), right: Box<Node<K, V>>, count: &mut Count)
-        requires alike { AreAlike self.old right.value }
-        requires room { length (own_pairs self.old) + length (own_pairs right.value) + 1 ≤ capacity }
-        ensures pairs { own_pairs self.new ≡ own_pairs self.old ++ pair ∷ own_pairs right.value }
-        ensures children { children_of self.new ≡ children_of self.old ++ children_of right.value }
+    pub(super) fn join(&mut self, pair: (K, V), right: Node<K, V>, count: &mut Count)
+        requires alike { AreAlike self.old right }
+        requires room { length (own_pairs self.old) + length (own_pairs right) + 1 ≤ capacity }
+        ensures pairs { own_pairs self.new ≡ own_pairs self.old ++ pair ∷ own_pairs right }
+        ensures children { children_of self.new ≡ children_of self.old ++ children_of right }
         ensures alike { AreAlike self.old self.new }
-        ensures moves { count.new.moves ≡ count.old.moves + (length (own_pairs right.value) + 1) }
+        ensures moves { count.new.moves ≡ count.old.moves + (length (own_pairs right) + 1) }
         ensures comparisons { count.new.comparisons ≡ count.old.comparisons }
     {
         let mut right = right;
@@ -199,7 +189,7 @@ impl<K: Drop, V: Drop> Node<K, V> {
         let Node {
             pairs: other_pairs,
             children: other_children,
-        } = &mut *right;
+        } = &mut right;
         let middle = pairs.len();
         pairs.insert(middle, pair, count);
         let all = other_pairs.len();

@@ -26,9 +26,9 @@ impl<K, V> Node<K, V> {
     }
 
     /// Takes the first child out. The node's own pairs stay.
-    pub fn take_first_child(&mut self) -> Box<Node<K, V>>
+    pub fn take_first_child(&mut self) -> Node<K, V>
         requires { 0 < length (children_of self.old) }
-        ensures children { children_of self.old ≡ result.value ∷ children_of self.new }
+        ensures children { children_of self.old ≡ result ∷ children_of self.new }
         ensures pairs { own_pairs self.new ≡ own_pairs self.old }
     {
         match &mut self.children {
@@ -38,9 +38,9 @@ impl<K, V> Node<K, V> {
     }
 
     /// Takes the last child out. The node's own pairs stay.
-    pub fn take_last_child(&mut self) -> Box<Node<K, V>>
+    pub fn take_last_child(&mut self) -> Node<K, V>
         requires { 0 < length (children_of self.old) }
-        ensures children { children_of self.old ≡ children_of self.new ++ result.value ∷ [] }
+        ensures children { children_of self.old ≡ children_of self.new ++ result ∷ [] }
         ensures pairs { own_pairs self.new ≡ own_pairs self.old }
     {
         match &mut self.children {

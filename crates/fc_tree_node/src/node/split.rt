@@ -26,12 +26,12 @@ impl<K: Drop, V: Drop> Node<K, V> {
     }
 
     /// Puts the first child into an inner node that holds nothing yet. It takes no memory.
-    pub fn adopt(&mut self, child: Box<Node<K, V>>)
+    pub fn adopt(&mut self, child: Node<K, V>)
         requires blank { IsBlankInner self.old }
         ensures pairs { own_pairs self.new ≡ [] }
-        ensures children { children_of self.new ≡ child.value ∷ [] }
+        ensures children { children_of self.new ≡ child ∷ [] }
         ensures inner { IsInner self.new }
-        ensures all_pairs { pairs_of self.new ≡ pairs_of child.value }
+        ensures all_pairs { pairs_of self.new ≡ pairs_of child }
     {
         match &mut self.children {
             None => unreachable!(),
@@ -40,20 +40,14 @@ impl<K: Drop, V: Drop> Node<K, V> {
     }
 
     /// Puts `pair` at `index` of an inner node that has room, and `child` on the pair's right. It takes no memory.
-    pub fn insert_inner(
-        &mut self,
-        index: usize,
-        pair: (K, V),
-        child: Box<Node<K, V>>,
-        count: &mut Count,
-    )
+    pub fn insert_inner(&mut self, index: usize, pair: (K, V), child: Node<K, V>, count: &mut Count)
         requires in_bounds { index ≤ length (own_pairs self.old) }
         requires room { length (own_pairs self.old) < capacity }
         requires inner { IsInner self.old }
         ensures pairs { own_pairs self.new ≡ insert (own_pairs self.old) index pair }
-        ensures children { children_of self.new ≡ insert (children_of self.old) (index + 1) child.value }
+        ensures children { children_of self.new ≡ insert (children_of self.old) (index + 1) child }
         ensures inner { IsInner self.new }
-        ensures all_pairs { pairs_of self.new ≡ before_gap (index ∷ []) self.old ++ (pairs_of (child_at self.old index) ++ pair ∷ (pairs_of child.value ++ after_gap (index ∷ []) self.old)) }
+        ensures all_pairs { pairs_of self.new ≡ before_gap (index ∷ []) self.old ++ (pairs_of (child_at self.old index) ++ pair ∷ (pairs_of child ++ after_gap (index ∷ []) self.old)) }
         ensures moves { count.new.moves ≡ count.old.moves + (length (own_pairs self.old) - index + 1) }
         ensures comparisons { count.new.comparisons ≡ count.old.comparisons }
     {
@@ -71,18 +65,18 @@ impl<K: Drop, V: Drop> Node<K, V> {
         &mut self,
         index: usize,
         pair: (K, V),
-        right: Box<Node<K, V>>,
+        right: Node<K, V>,
         count: &mut Count,
-    ) -> ((K, V), Box<Node<K, V>>)
+    ) -> ((K, V), Node<K, V>)
         requires full { length (own_pairs self.old) ≡ capacity }
         requires in_bounds { index ≤ capacity }
         requires leaf { IsLeaf self.old }
-        requires blank { IsBlankLeaf right.value }
-        ensures pairs { own_pairs self.new ++ result.0 ∷ own_pairs result.1.value ≡ insert (own_pairs self.old) index pair }
+        requires blank { IsBlankLeaf right }
+        ensures pairs { own_pairs self.new ++ result.0 ∷ own_pairs result.1 ≡ insert (own_pairs self.old) index pair }
         ensures left { length (own_pairs self.new) ≡ left_length index }
-        ensures right { length (own_pairs result.1.value) ≡ capacity - left_length index }
-        ensures leaves { IsLeaf self.new × IsLeaf result.1.value }
-        ensures all_pairs { pairs_of self.new ++ result.0 ∷ pairs_of result.1.value ≡ insert (pairs_of self.old) index pair }
+        ensures right { length (own_pairs result.1) ≡ capacity - left_length index }
+        ensures leaves { IsLeaf self.new × IsLeaf result.1 }
+        ensures all_pairs { pairs_of self.new ++ result.0 ∷ pairs_of result.1 ≡ insert (pairs_of self.old) index pair }
         ensures moves { count.new.moves ≡ count.old.moves + split_moves index }
         ensures comparisons { count.new.comparisons ≡ count.old.comparisons }
     {
@@ -98,20 +92,20 @@ impl<K: Drop, V: Drop> Node<K, V> {
         &mut self,
         index: usize,
         pair: (K, V),
-        child: Box<Node<K, V>>,
-        right: Box<Node<K, V>>,
+        child: Node<K, V>,
+        right: Node<K, V>,
         count: &mut Count,
-    ) -> ((K, V), Box<Node<K, V>>)
+    ) -> ((K, V), Node<K, V>)
         requires full { length (own_pairs self.old) ≡ capacity }
         requires in_bounds { index ≤ capacity }
         requires inner { IsInner self.old }
-        requires blank { IsBlankInner right.value }
-        ensures pairs { own_pairs self.new ++ result.0 ∷ own_pairs result.1.value ≡ insert (own_pairs self.old) index pair }
-        ensures children { children_of self.new ++ children_of result.1.value ≡ insert (children_of self.old) (index + 1) child.value }
+        requires blank { IsBlankInner right }
+        ensures pairs { own_pairs self.new ++ result.0 ∷ own_pairs result.1 ≡ insert (own_pairs self.old) index pair }
+        ensures children { children_of self.new ++ children_of result.1 ≡ insert (children_of self.old) (index + 1) child }
         ensures left { length (own_pairs self.new) ≡ left_length index }
-        ensures right { length (own_pairs result.1.value) ≡ capacity - left_length index }
-        ensures inner { IsInner self.new × IsInner result.1.value }
-        ensures all_pairs { pairs_of self.new ++ result.0 ∷ pairs_of result.1.value ≡ before_gap (index ∷ []) self.old ++ (pairs_of (child_at self.old index) ++ pair ∷ (pairs_of child.value ++ after_gap (index ∷ []) self.old)) }
+        ensures right { length (own_pairs result.1) ≡ capacity - left_length index }
+        ensures inner { IsInner self.new × IsInner result.1 }
+        ensures all_pairs { pairs_of self.new ++ result.0 ∷ pairs_of result.1 ≡ before_gap (index ∷ []) self.old ++ (pairs_of (child_at self.old index) ++ pair ∷ (pairs_of child ++ after_gap (index ∷ []) self.old)) }
         ensures moves { count.new.moves ≡ count.old.moves + split_moves index }
         ensures comparisons { count.new.comparisons ≡ count.old.comparisons }
     {
@@ -120,7 +114,7 @@ impl<K: Drop, V: Drop> Node<K, V> {
         let Node {
             pairs: other_pairs,
             children: other_children,
-        } = &mut *right;
+        } = &mut right;
         let Some(children) = children else {
             unreachable!()
         };

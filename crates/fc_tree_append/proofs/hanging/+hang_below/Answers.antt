@@ -12,7 +12,7 @@ use Rattle.fc_tree_append.proofs.hanging.+hang_below.Goals as goal
 
 pub returns-then-depth-eq0-clause-pairs : goal.returns-then-depth-eq0-clause-pairs
 returns-then-depth-eq0-clause-pairs g t c =
-    placed_pairs c.args.side c.args.node.now c.args.other.value c.put_beside.new.node c.put_beside.result.value c.args.pair c.put_beside.ensures
+    placed_pairs c.args.side c.args.node.now c.args.other c.put_beside.new.node c.put_beside.result c.args.pair c.put_beside.ensures
 
 pub returns-then-depth-eq0-clause-levels : goal.returns-then-depth-eq0-clause-levels
 returns-then-depth-eq0-clause-levels g t c h l o =
@@ -21,7 +21,7 @@ returns-then-depth-eq0-clause-levels g t c h l o =
     let same : c.args.depth + h ≡ h = omega arith in
     let sound : IsSound h c.args.node.now = (c.requires.some none, subst (λ k. IsLevelled k c.args.node.now) same l) in
     subst (λ k. IsHung c.args.side k c.put_beside.new.node (Some (c.args.pair, c.put_beside.result))) (sym same)
-    (placed_levels c.args.side h c.args.node.now c.args.other.value c.put_beside.new.node c.put_beside.result.value c.put_beside.ensures sound o)
+    (placed_levels c.args.side h c.args.node.now c.args.other c.put_beside.new.node c.put_beside.result c.put_beside.ensures sound o)
 
 pub unreachable-requires : goal.unreachable-requires
 unreachable-requires g t c =
@@ -89,8 +89,8 @@ returns-in-None-below-clause-pairs g t c =
     let there : i < length c.in-Some.children = omega arith in
     let ci = boxed_child n i _ c.in-Some.is i _ c.deref_mut-child.result.now there c.get_mut.ensures.value c.deref_mut-child.ensures.value in
     let m = child_set n c.in-Some.children i (with_value c.get_mut.result.now c.hang_below-below.new.node) c.in-Some.is in
-    stay_pairs c.args.side b n _ c.hang_below-below.new.node i on m c.args.pair (pairs_of c.args.other.value)
-    (c.in-None-below.ensures.pairs ∙ ap (λ k. beside c.args.side (pairs_of k) c.args.pair (pairs_of c.args.other.value)) ci)
+    stay_pairs c.args.side b n _ c.hang_below-below.new.node i on m c.args.pair (pairs_of c.args.other)
+    (c.in-None-below.ensures.pairs ∙ ap (λ k. beside c.args.side (pairs_of k) c.args.pair (pairs_of c.args.other)) ci)
 
 pub returns-in-None-below-clause-levels : goal.returns-in-None-below-clause-levels
 returns-in-None-below-clause-levels g t c h l o =
@@ -121,8 +121,8 @@ returns-in-Some-below-clause-pairs g t c =
     let ci = boxed_child n i _ c.in-Some.is i _ c.deref_mut-child.result.now there c.get_mut.ensures.value c.deref_mut-child.ensures.value in
     let m = child_set n c.in-Some.children i (with_value c.get_mut.result.now c.hang_below-below.new.node) c.in-Some.is in
     let p = c.put_inner.ensures in
-    put_pairs c.args.side b n _ c.hang_below-below.new.node i on m c.args.pair (pairs_of c.args.other.value) c.put_inner.new.node c.in-Some-below.right.value c.put_inner.result c.in-Some-below.up p.pairs p.children p.inner.0 p.inner.1
-    (c.in-Some-below.ensures.pairs ∙ ap (λ k. beside c.args.side (pairs_of k) c.args.pair (pairs_of c.args.other.value)) ci)
+    put_pairs c.args.side b n _ c.hang_below-below.new.node i on m c.args.pair (pairs_of c.args.other) c.put_inner.new.node c.in-Some-below.right c.put_inner.result c.in-Some-below.up p.pairs p.children p.inner.0 p.inner.1
+    (c.in-Some-below.ensures.pairs ∙ ap (λ k. beside c.args.side (pairs_of k) c.args.pair (pairs_of c.args.other)) ci)
 
 pub returns-in-Some-below-clause-levels : goal.returns-in-Some-below-clause-levels
 returns-in-Some-below-clause-levels g t c h l o =

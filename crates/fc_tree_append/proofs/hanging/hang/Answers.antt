@@ -18,7 +18,7 @@ mend-requires g c = (c.args.depth + c.requires.levels.0, c.in-None.ensures.level
 
 pub returns-in-None-clause-pairs : goal.returns-in-None-clause-pairs
 returns-in-None-clause-pairs g c =
-    c.mend.ensures.pairs ∙ c.in-None.ensures.pairs ∙ ap (λ n. beside c.args.side (pairs_of n) c.args.pair (pairs_of c.args.other.value)) c.deref_mut.ensures.value
+    c.mend.ensures.pairs ∙ c.in-None.ensures.pairs ∙ ap (λ n. beside c.args.side (pairs_of n) c.args.pair (pairs_of c.args.other)) c.deref_mut.ensures.value
 
 pub returns-in-None-clause-levels : goal.returns-in-None-clause-levels
 returns-in-None-clause-levels g c h l o =
@@ -27,14 +27,14 @@ returns-in-None-clause-levels g c h l o =
 pub mend-requires-in-Some : goal.mend-requires-in-Some
 mend-requires-in-Some g c =
     let k = c.in-Some.ensures.levels c.requires.levels.0 (subst (IsLevelled _) (sym c.deref_mut.ensures.value) c.requires.levels.1) c.requires.levels.2 in
-    (suc (c.args.depth + c.requires.levels.0), root_bordered c.args.side _ c.grow.new.root.value c.hang_below.new.node c.in-Some.up c.in-Some.right c.grow.ensures.pairs c.grow.ensures.children k)
+    (suc (c.args.depth + c.requires.levels.0), root_bordered c.args.side _ c.grow.new.root c.hang_below.new.node c.in-Some.up c.in-Some.right c.grow.ensures.pairs c.grow.ensures.children k)
 
 pub returns-clause-pairs : goal.returns-clause-pairs
 returns-clause-pairs g c =
-    c.mend-in-Some.ensures.pairs ∙ put_root c.grow.new.root.value c.hang_below.new.node c.in-Some.right.value c.in-Some.up c.grow.ensures.pairs c.grow.ensures.children
-    ∙ c.in-Some.ensures.pairs ∙ ap (λ n. beside c.args.side (pairs_of n) c.args.pair (pairs_of c.args.other.value)) c.deref_mut.ensures.value
+    c.mend-in-Some.ensures.pairs ∙ put_root c.grow.new.root c.hang_below.new.node c.in-Some.right c.in-Some.up c.grow.ensures.pairs c.grow.ensures.children
+    ∙ c.in-Some.ensures.pairs ∙ ap (λ n. beside c.args.side (pairs_of n) c.args.pair (pairs_of c.args.other)) c.deref_mut.ensures.value
 
 pub returns-clause-levels : goal.returns-clause-levels
 returns-clause-levels g c h l o =
     let k = c.in-Some.ensures.levels h (subst (IsLevelled _) (sym c.deref_mut.ensures.value) l) o in
-    c.mend-in-Some.ensures.levels (suc (c.args.depth + h)) (root_bordered c.args.side _ c.grow.new.root.value c.hang_below.new.node c.in-Some.up c.in-Some.right c.grow.ensures.pairs c.grow.ensures.children k)
+    c.mend-in-Some.ensures.levels (suc (c.args.depth + h)) (root_bordered c.args.side _ c.grow.new.root c.hang_below.new.node c.in-Some.up c.in-Some.right c.grow.ensures.pairs c.grow.ensures.children k)

@@ -27,12 +27,12 @@ hang-requires g c =
     let z = c.if-ours-theirs.true in
     let same : c.height-theirs.result - c.height-ours.result + l.0 ≡ r.0 = omega arith in
     let kept = (c.remove_last-pair.ensures.levels l.0 (subst (IsSoundRoot l.0) (sym c.deref_mut.ensures.value) l.2)).0 in
-    record { levels = (l.0, subst (λ k. IsLevelled k c.args.right.value) (sym same) r.2.1, kept); some = λ e. absurd (omega arith); spares = omega arith }
+    record { levels = (l.0, subst (λ k. IsLevelled k c.args.right) (sym same) r.2.1, kept); some = λ e. absurd (omega arith); spares = omega arith }
 
 pub returns-then-ours-theirs-clause-pairs : goal.returns-then-ours-theirs-clause-pairs
 returns-then-ours-theirs-clause-pairs g c =
-    c.hang.ensures.pairs ∙ sym (append_assoc _ (c.remove_last-pair.result ∷ []) (pairs_of c.args.right.value))
-    ∙ ap (λ zs. zs ++ pairs_of c.args.right.value) (sym c.remove_last-pair.ensures.pairs ∙ ap pairs_of c.deref_mut.ensures.value)
+    c.hang.ensures.pairs ∙ sym (append_assoc _ (c.remove_last-pair.result ∷ []) (pairs_of c.args.right))
+    ∙ ap (λ zs. zs ++ pairs_of c.args.right) (sym c.remove_last-pair.ensures.pairs ∙ ap pairs_of c.deref_mut.ensures.value)
 
 pub returns-then-ours-theirs-clause-levels : goal.returns-then-ours-theirs-clause-levels
 returns-then-ours-theirs-clause-levels g c =
@@ -48,7 +48,7 @@ returns-then-ours-theirs-clause-levels g c =
     let z = c.if-ours-theirs.true in
     let same : c.height-theirs.result - c.height-ours.result + l.0 ≡ r.0 = omega arith in
     let kept = (c.remove_last-pair.ensures.levels l.0 (subst (IsSoundRoot l.0) (sym c.deref_mut.ensures.value) l.2)).0 in
-    within_more (suc (c.height-theirs.result - c.height-ours.result + l.0)) most_levels _ (omega arith) (c.hang.ensures.levels l.0 (subst (λ k. IsLevelled k c.args.right.value) (sym same) r.2.1) kept)
+    within_more (suc (c.height-theirs.result - c.height-ours.result + l.0)) most_levels _ (omega arith) (c.hang.ensures.levels l.0 (subst (λ k. IsLevelled k c.args.right) (sym same) r.2.1) kept)
 
 pub remove_first-pair-requires : goal.remove_first-pair-requires
 remove_first-pair-requires g c = let r = c.requires.right in record { sound = (r.0, subst (IsSoundRoot r.0) (sym c.deref_mut-2.ensures.value) r.2) }
@@ -67,11 +67,11 @@ hang-requires-then-ours-theirs-2 g c =
     let z = c.if-ours-theirs-2.true in
     let same : c.height-ours.result - c.height-theirs.result + r.0 ≡ l.0 = omega arith in
     let kept = (c.remove_first-pair.ensures.levels r.0 (subst (IsSoundRoot r.0) (sym c.deref_mut-2.ensures.value) r.2)).0 in
-    record { levels = (r.0, subst (λ k. IsLevelled k c.args.left.value) (sym same) l.2.1, kept); some = λ e. absurd (omega arith); spares = omega arith }
+    record { levels = (r.0, subst (λ k. IsLevelled k c.args.left) (sym same) l.2.1, kept); some = λ e. absurd (omega arith); spares = omega arith }
 
 pub returns-then-ours-theirs-2-clause-pairs : goal.returns-then-ours-theirs-2-clause-pairs
 returns-then-ours-theirs-2-clause-pairs g c =
-    c.hang-then-ours-theirs-2.ensures.pairs ∙ ap (λ zs. pairs_of c.args.left.value ++ zs) (sym c.remove_first-pair.ensures.pairs ∙ ap pairs_of c.deref_mut-2.ensures.value)
+    c.hang-then-ours-theirs-2.ensures.pairs ∙ ap (λ zs. pairs_of c.args.left ++ zs) (sym c.remove_first-pair.ensures.pairs ∙ ap pairs_of c.deref_mut-2.ensures.value)
 
 pub returns-then-ours-theirs-2-clause-levels : goal.returns-then-ours-theirs-2-clause-levels
 returns-then-ours-theirs-2-clause-levels g c =
@@ -87,7 +87,7 @@ returns-then-ours-theirs-2-clause-levels g c =
     let z = c.if-ours-theirs-2.true in
     let same : c.height-ours.result - c.height-theirs.result + r.0 ≡ l.0 = omega arith in
     let kept = (c.remove_first-pair.ensures.levels r.0 (subst (IsSoundRoot r.0) (sym c.deref_mut-2.ensures.value) r.2)).0 in
-    within_more (suc (c.height-ours.result - c.height-theirs.result + r.0)) most_levels _ (omega arith) (c.hang-then-ours-theirs-2.ensures.levels r.0 (subst (λ k. IsLevelled k c.args.left.value) (sym same) l.2.1) kept)
+    within_more (suc (c.height-ours.result - c.height-theirs.result + r.0)) most_levels _ (omega arith) (c.hang-then-ours-theirs-2.ensures.levels r.0 (subst (λ k. IsLevelled k c.args.left) (sym same) l.2.1) kept)
 
 pub take-requires : goal.take-requires
 take-requires g c =
@@ -119,11 +119,11 @@ crown-requires-clause-levels g c =
     let w = c.if-ours-theirs-2.false in
     let same : l.0 ≡ r.0 = omega arith in
     let kept = (c.remove_first-pair.ensures.levels r.0 (subst (IsSoundRoot r.0) (sym c.deref_mut-2.ensures.value) r.2)).0 in
-    (r.0, subst (λ k. IsLevelled k c.args.left.value) same l.2.1, kept)
+    (r.0, subst (λ k. IsLevelled k c.args.left) same l.2.1, kept)
 
 pub returns-clause-pairs : goal.returns-clause-pairs
 returns-clause-pairs g c =
-    c.crown.ensures.pairs ∙ ap (λ zs. pairs_of c.args.left.value ++ zs) (sym c.remove_first-pair.ensures.pairs ∙ ap pairs_of c.deref_mut-2.ensures.value)
+    c.crown.ensures.pairs ∙ ap (λ zs. pairs_of c.args.left ++ zs) (sym c.remove_first-pair.ensures.pairs ∙ ap pairs_of c.deref_mut-2.ensures.value)
 
 pub returns-clause-levels : goal.returns-clause-levels
 returns-clause-levels g c =
@@ -140,4 +140,4 @@ returns-clause-levels g c =
     let w = c.if-ours-theirs-2.false in
     let same : l.0 ≡ r.0 = omega arith in
     let kept = (c.remove_first-pair.ensures.levels r.0 (subst (IsSoundRoot r.0) (sym c.deref_mut-2.ensures.value) r.2)).0 in
-    within_more (suc r.0) most_levels _ (omega arith) (c.crown.ensures.levels r.0 (subst (λ k. IsLevelled k c.args.left.value) same l.2.1) kept)
+    within_more (suc r.0) most_levels _ (omega arith) (c.crown.ensures.levels r.0 (subst (λ k. IsLevelled k c.args.left) same l.2.1) kept)

@@ -1,7 +1,7 @@
 use Rattle.std.proofs.Common.{◌≡◌, ◌++◌, length, sym, ap, subst, ◌∙◌, arith, length-append}
 use Rattle.fc_base.specs.Sizes.{most_levels}
 use Rattle.fc_tree_node.specs.Node.{pairs_of, IsLevelled}
-use Rattle.fc_tree_node.specs.Tree.{entries, root_of}
+use Rattle.fc_tree_node.specs.Tree.{entries}
 use Rattle.fc_tree_border.proofs.Cuts.{root_sound}
 use Rattle.fc_tree_append.proofs.Crowned.{within_few}
 use Rattle.fc_tree_append.proofs.join.try_join.Goals as goal
@@ -37,21 +37,21 @@ pub join-requires-clause-spares : goal.join-requires-clause-spares
 join-requires-clause-spares g c a b l r =
     let left : c.in-Some.left ≡ c.in-Some-take.left = cc (c.in-Some.is, c.take.ensures.value, c.in-Some-take.is) in
     let right : c.in-Some-theirs.right ≡ c.in-Some-take-2.right = cc (c.in-Some-theirs.is, c.take-2.ensures.value, c.in-Some-take-2.is) in
-    let x = c.height.ensures a (subst (IsLevelled a) (sym (c.deref.ensures ∙ ap (λ k. k.value) left)) l.1) in
-    let y = c.height-2.ensures b (subst (IsLevelled b) (sym (c.deref-2.ensures ∙ ap (λ k. k.value) right)) r.1) in
+    let x = c.height.ensures a (subst (IsLevelled a) (sym (c.deref.ensures ∙ ap (λ k. k) left)) l.1) in
+    let y = c.height-2.ensures b (subst (IsLevelled b) (sym (c.deref-2.ensures ∙ ap (λ k. k) right)) r.1) in
     let d = c.abs_diff-levels.ensures in
     let s = c.in_ok-spares.ensures.len in
     (omega arith, omega arith)
 
 pub returns-clause-pairs : goal.returns-clause-pairs
 returns-clause-pairs g c =
-    c.join.ensures.pairs ∙ ap (λ o. entries (root_of o) ++ pairs_of c.in-Some-take-2.right.value) (sym (sym c.take.ensures.value ∙ c.in-Some-take.is))
-    ∙ ap (λ o. entries (root_of c.args.ours.now) ++ entries (root_of o)) (sym (sym c.take-2.ensures.value ∙ c.in-Some-take-2.is))
+    c.join.ensures.pairs ∙ ap (λ o. entries o ++ pairs_of c.in-Some-take-2.right) (sym (sym c.take.ensures.value ∙ c.in-Some-take.is))
+    ∙ ap (λ o. entries c.args.ours.now ++ entries o) (sym (sym c.take-2.ensures.value ∙ c.in-Some-take-2.is))
 
 pub returns-clause-sound : goal.returns-clause-sound
 returns-clause-sound g c =
     let fits = c.requires.fits in
-    let e = c.join.ensures.pairs ∙ ap (λ o. entries (root_of o) ++ pairs_of c.in-Some-take-2.right.value) (sym (sym c.take.ensures.value ∙ c.in-Some-take.is))
-    ∙ ap (λ o. entries (root_of c.args.ours.now) ++ entries (root_of o)) (sym (sym c.take-2.ensures.value ∙ c.in-Some-take-2.is)) in
-    let n = ap length e ∙ length-append (entries (root_of c.args.ours.now)) (entries (root_of c.args.theirs.now)) in
-    within_few most_levels (root_of c.join.result) c.join.ensures.levels (omega arith)
+    let e = c.join.ensures.pairs ∙ ap (λ o. entries o ++ pairs_of c.in-Some-take-2.right) (sym (sym c.take.ensures.value ∙ c.in-Some-take.is))
+    ∙ ap (λ o. entries c.args.ours.now ++ entries o) (sym (sym c.take-2.ensures.value ∙ c.in-Some-take-2.is)) in
+    let n = ap length e ∙ length-append (entries c.args.ours.now) (entries c.args.theirs.now) in
+    within_few most_levels c.join.result c.join.ensures.levels (omega arith)

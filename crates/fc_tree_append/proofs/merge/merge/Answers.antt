@@ -1,6 +1,6 @@
 use Rattle.std.proofs.Common.{◌≡◌, ◌⊎◌, inl, inr, [], ◌++◌, length, ap, ◌∙◌, arith}
 use Rattle.fc_base.specs.Joined.{joined}
-use Rattle.fc_tree_node.specs.Tree.{entries, root_of}
+use Rattle.fc_tree_node.specs.Tree.{entries}
 use Rattle.fc_tree_drain.proofs.Opening.{no_item}
 use Rattle.fc_tree_append.proofs.JoinFacts.{drained}
 use Rattle.fc_tree_append.proofs.merge.merge.Goals as goal
@@ -18,7 +18,7 @@ returns-clause-pairs g c =
     ∙ drained g.K.Ord.cmp l.builder.pairs l.our_pairs l.their_pairs done i.0.1
     ∙ i.2 ∙ ap (λ zs. zs ++ joined g.K.Ord.cmp c.over-our_pairs.result c.over-their_pairs.result) c.requires.blank
     ∙ ap (λ zs. joined g.K.Ord.cmp zs c.over-their_pairs.result) c.over-our_pairs.ensures
-    ∙ ap (λ zs. joined g.K.Ord.cmp (entries (root_of c.args.ours)) zs) c.over-their_pairs.ensures
+    ∙ ap (λ zs. joined g.K.Ord.cmp (entries c.args.ours) zs) c.over-their_pairs.ensures
 
 pub returns-clause-least : goal.returns-clause-least
 returns-clause-least g c =

@@ -1,6 +1,5 @@
 use Rattle.std.proofs.Common.{◌≡◌, sym, subst, ap, ◌∙◌}
 use Rattle.fc_tree_node.specs.Node.{IsLevelled}
-use Rattle.fc_tree_node.specs.Tree.{root_of}
 use Rattle.fc_tree_border.specs.Cut.{IsCutPathIn, IsCutInTwo}
 use Rattle.fc_tree_border.proofs.Cuts.{root_sound, within_sound}
 use Rattle.fc_tree_border.proofs.cutting.try_split.Goals as goal
@@ -11,16 +10,16 @@ cut-left-requires-clause-levels g c =
     (r.0, r.2.1)
 
 pub cut-left-requires-clause-path : goal.cut-left-requires-clause-path
-cut-left-requires-clause-path g c = subst (λ o. IsCutPathIn c.args.path.now (root_of o)) (sym c.take.ensures.value ∙ c.in-Some-take.is) c.requires.path
+cut-left-requires-clause-path g c = subst (λ o. IsCutPathIn c.args.path.now o) (sym c.take.ensures.value ∙ c.in-Some-take.is) c.requires.path
 
 pub cut-left-requires-clause-border : goal.cut-left-requires-clause-border
 cut-left-requires-clause-border g c h l =
     let same : c.in-Some.whole ≡ c.in-Some-take.whole = cc (c.in-Some.is, c.take.ensures.value, c.in-Some-take.is) in
-    c.in_ok-border.ensures.ok h (subst (IsLevelled h) (sym (c.deref.ensures ∙ ap (λ b. b.value) same)) l)
+    c.in_ok-border.ensures.ok h (subst (IsLevelled h) (sym (c.deref.ensures ∙ ap (λ b. b) same)) l)
 
 pub returns-clause-pairs : goal.returns-clause-pairs
 returns-clause-pairs g c =
-    subst (λ o. IsCutInTwo c.args.path.now (root_of o) (root_of c.cut-left.result.0) (root_of c.cut-left.result.1)) (sym (sym c.take.ensures.value ∙ c.in-Some-take.is)) c.cut-left.ensures.pairs
+    subst (λ o. IsCutInTwo c.args.path.now o c.cut-left.result.0 c.cut-left.result.1) (sym (sym c.take.ensures.value ∙ c.in-Some-take.is)) c.cut-left.ensures.pairs
 
 pub returns-clause-sound : goal.returns-clause-sound
 returns-clause-sound g c =

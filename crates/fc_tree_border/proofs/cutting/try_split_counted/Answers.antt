@@ -1,14 +1,14 @@
 use Rattle.std.proofs.Common.{◌≡◌, arith, length}
-use Rattle.fc_tree_node.specs.Tree.{entries, root_of}
+use Rattle.fc_tree_node.specs.Tree.{entries}
 use Rattle.fc_tree_border.proofs.Parts.{cut_parts, parts_length}
 use Rattle.fc_tree_border.proofs.cutting.try_split_counted.Goals as goal
 use Rattle.fc_tree_border.proofs.cutting.try_split_counted.Goals.{then-is_left_smaller, else-is_left_smaller}
 
 pub count_in-requires-clause-fits : goal.count_in-requires-clause-fits
 count_in-requires-clause-fits g c =
-    let old = root_of c.args.root.now in
-    let left = root_of c.try_split.new.root in
-    let right = root_of c.in_ok-right.right in
+    let old = c.args.root.now in
+    let left = c.try_split.new.root in
+    let right = c.in_ok-right.right in
     let parts = cut_parts old left right c.args.path.now c.requires.sound c.requires.path c.in_ok-right.ensures.pairs in
     let both = parts_length (entries left) (entries right) (entries old) parts in
     let len = c.requires.len in
@@ -17,9 +17,9 @@ count_in-requires-clause-fits g c =
 
 pub overflow_sub-moved : goal.overflow_sub-moved
 overflow_sub-moved g c =
-    let old = root_of c.args.root.now in
-    let left = root_of c.try_split.new.root in
-    let right = root_of c.in_ok-right.right in
+    let old = c.args.root.now in
+    let left = c.try_split.new.root in
+    let right = c.in_ok-right.right in
     let parts = cut_parts old left right c.args.path.now c.requires.sound c.requires.path c.in_ok-right.ensures.pairs in
     let both = parts_length (entries left) (entries right) (entries old) parts in
     let len = c.requires.len in
@@ -29,9 +29,9 @@ overflow_sub-moved g c =
 
 pub count_in-moved-requires-clause-fits : goal.count_in-moved-requires-clause-fits
 count_in-moved-requires-clause-fits g c =
-    let old = root_of c.args.root.now in
-    let left = root_of c.try_split.new.root in
-    let right = root_of c.in_ok-right.right in
+    let old = c.args.root.now in
+    let left = c.try_split.new.root in
+    let right = c.in_ok-right.right in
     let parts = cut_parts old left right c.args.path.now c.requires.sound c.requires.path c.in_ok-right.ensures.pairs in
     let both = parts_length (entries left) (entries right) (entries old) parts in
     let len = c.requires.len in
@@ -40,13 +40,13 @@ count_in-moved-requires-clause-fits g c =
 
 pub returns-clause-parts : goal.returns-clause-parts
 returns-clause-parts g c =
-    cut_parts (root_of c.args.root.now) (root_of c.try_split.new.root) (root_of c.in_ok-right.right) c.args.path.now c.requires.sound c.requires.path c.in_ok-right.ensures.pairs
+    cut_parts c.args.root.now c.try_split.new.root c.in_ok-right.right c.args.path.now c.requires.sound c.requires.path c.in_ok-right.ensures.pairs
 
 pub returns-clause-moved : goal.returns-clause-moved
 returns-clause-moved g c =
-    let old = root_of c.args.root.now in
-    let left = root_of c.try_split.new.root in
-    let right = root_of c.in_ok-right.right in
+    let old = c.args.root.now in
+    let left = c.try_split.new.root in
+    let right = c.in_ok-right.right in
     let parts = cut_parts old left right c.args.path.now c.requires.sound c.requires.path c.in_ok-right.ensures.pairs in
     let both = parts_length (entries left) (entries right) (entries old) parts in
     let len = c.requires.len in
@@ -56,9 +56,9 @@ returns-clause-moved g c =
 
 pub returns-clause-kept : goal.returns-clause-kept
 returns-clause-kept g c =
-    let old = root_of c.args.root.now in
-    let left = root_of c.try_split.new.root in
-    let right = root_of c.in_ok-right.right in
+    let old = c.args.root.now in
+    let left = c.try_split.new.root in
+    let right = c.in_ok-right.right in
     let parts = cut_parts old left right c.args.path.now c.requires.sound c.requires.path c.in_ok-right.ensures.pairs in
     let both = parts_length (entries left) (entries right) (entries old) parts in
     let len = c.requires.len in

@@ -10,11 +10,11 @@ only_child-requires-clause-formed g t c = bordered_formed c.args.side _ _ c.requ
 
 pub mend-requires : goal.mend-requires
 mend-requires g t c κs within =
-    let r = heir_bordered c.args.side _ c.args.root.value c.in-Some.child.value c.in-Some.ensures c.requires.1 in
+    let r = heir_bordered c.args.side _ c.args.root c.in-Some.child c.in-Some.ensures c.requires.1 in
     let e = r.height in
-    let x = bordered_height c.args.side _ c.args.root.value c.requires.1 in
-    let y = bordered_height c.args.side _ c.in-Some.child.value r.bordered in
-    let falls : height_of c.in-Some.child.value < height_of c.args.root.value = omega arith in
+    let x = bordered_height c.args.side _ c.args.root c.requires.1 in
+    let y = bordered_height c.args.side _ c.in-Some.child r.bordered in
+    let falls : height_of c.in-Some.child < height_of c.args.root = omega arith in
     (search rules, (search rules, (search rules, (r.below, r.bordered))))
 
 pub returns-in-Some-clause-pairs : goal.returns-in-Some-clause-pairs
@@ -22,11 +22,11 @@ returns-in-Some-clause-pairs g t c =
     let d = ap (λ n. length (own_pairs n)) c.deref.ensures in
     let v = c.len.ensures.value in
     let z = c.if-len-eq0.true in
-    c.mend.ensures.pairs ∙ only_pairs c.args.root.value _ (omega arith) c.in-Some.ensures
+    c.mend.ensures.pairs ∙ only_pairs c.args.root _ (omega arith) c.in-Some.ensures
 
 pub returns-in-Some-clause-levels : goal.returns-in-Some-clause-levels
 returns-in-Some-clause-levels g t c h b =
-    let r = heir_bordered c.args.side h c.args.root.value c.in-Some.child.value c.in-Some.ensures b in
+    let r = heir_bordered c.args.side h c.args.root c.in-Some.child c.in-Some.ensures b in
     let e = r.height in
     within_more r.below h _ (omega arith) (c.mend.ensures.levels r.below r.bordered)
 

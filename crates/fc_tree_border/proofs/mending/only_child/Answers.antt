@@ -6,4 +6,4 @@ use Rattle.fc_tree_border.proofs.mending.only_child.Goals as goal
 pub returns-in-Some : goal.returns-in-Some
 returns-in-Some g c =
     let is = ap (λ n. (out-Node _ _ n).children) (sym c.into_inner-children.ensures) ∙ c.in-Some.is in
-    only_one c.args.root.value _ c.remove.result is c.requires.formed c.requires.none c.remove.ensures.value
+    only_one c.args.root _ c.remove.result is c.requires.formed c.requires.none c.remove.ensures.value

@@ -4,4 +4,4 @@ use Rattle.fc_tree_node.specs.Node.{IsBlankLeaf}
 use Rattle.fc_tree_build.proofs.spares.try_leaves.Given as goal
 
 abbrev pub invariant-loop-i : goal.invariant-loop-i
-invariant-loop-i g l = (length l.leaves.items ≡ l._i) × AllByRecursion (λ b. IsBlankLeaf b.value) l.leaves.items
+invariant-loop-i g l = (length l.leaves.items ≡ l._i) × AllByRecursion (λ b. IsBlankLeaf b) l.leaves.items

@@ -18,17 +18,17 @@ pub returns-then-len-lt-CAPACITY-clause-pairs : goal.returns-then-len-lt-CAPACIT
 returns-then-len-lt-CAPACITY-clause-pairs g t c =
     let o = (c.open_end-node.ensures.levels c.requires.levels.0 c.requires.levels.1).0 in
     let e = c.put_child.ensures.pairs ∙ ap own_pairs c.deref_mut.ensures.value in
-    let f = c.put_child.ensures.children ∙ ap (λ n. children_of n ++ c.args.subtree.value ∷ []) c.deref_mut.ensures.value in
+    let f = c.put_child.ensures.children ∙ ap (λ n. children_of n ++ c.args.subtree ∷ []) c.deref_mut.ensures.value in
     let q = c.put_pair.ensures.pairs ∙ ap (λ n. own_pairs n ++ c.args.pair ∷ []) c.deref_mut-then-len-lt-CAPACITY.ensures.value in
     let i = c.put_pair.ensures.children ∙ ap children_of c.deref_mut-then-len-lt-CAPACITY.ensures.value in
-    spine_pairs _ _ _ _ c.open_end-node.result.value c.args.subtree.value c.args.pair c.open_end-node.ensures.pairs c.push.ensures
-    (end_pairs c.requires.levels.0 c.open_end-node.result.value c.put_child.new.node c.put_pair.new.node c.args.subtree.value c.args.pair o e f q i)
+    spine_pairs _ _ _ _ c.open_end-node.result c.args.subtree c.args.pair c.open_end-node.ensures.pairs c.push.ensures
+    (end_pairs c.requires.levels.0 c.open_end-node.result c.put_child.new.node c.put_pair.new.node c.args.subtree c.args.pair o e f q i)
 
 pub returns-then-len-lt-CAPACITY-clause-levels : goal.returns-then-len-lt-CAPACITY-clause-levels
 returns-then-len-lt-CAPACITY-clause-levels g t c h s w =
     let o = c.open_end-node.ensures.levels h s in
     let e = c.put_child.ensures.pairs ∙ ap own_pairs c.deref_mut.ensures.value in
-    let f = c.put_child.ensures.children ∙ ap (λ n. children_of n ++ c.args.subtree.value ∷ []) c.deref_mut.ensures.value in
+    let f = c.put_child.ensures.children ∙ ap (λ n. children_of n ++ c.args.subtree ∷ []) c.deref_mut.ensures.value in
     let q = c.put_pair.ensures.pairs ∙ ap (λ n. own_pairs n ++ c.args.pair ∷ []) c.deref_mut-then-len-lt-CAPACITY.ensures.value in
     let i = c.put_pair.ensures.children ∙ ap children_of c.deref_mut-then-len-lt-CAPACITY.ensures.value in
     let d = ap (λ n. length (own_pairs n)) c.deref.ensures in
@@ -36,7 +36,7 @@ returns-then-len-lt-CAPACITY-clause-levels g t c h s w =
     let z = c.if-len-lt-CAPACITY.true in
     let less : length (own_pairs c.put_child.new.node) < capacity = omega arith in
     spine_pushed h _ _ _ c.push.ensures o.1
-    (end_grown h c.open_end-node.result.value c.put_child.new.node c.put_pair.new.node c.args.subtree.value c.args.pair o.0 e f q i (λ leaf. c.put_child.ensures.inner (subst IsLeaf c.deref_mut-then-len-lt-CAPACITY.ensures.value (c.put_pair.ensures.leaf.0 leaf))) less w)
+    (end_grown h c.open_end-node.result c.put_child.new.node c.put_pair.new.node c.args.subtree c.args.pair o.0 e f q i (λ leaf. c.put_child.ensures.inner (subst IsLeaf c.deref_mut-then-len-lt-CAPACITY.ensures.value (c.put_pair.ensures.leaf.0 leaf))) less w)
 
 pub returns-then-len-lt-CAPACITY-clause-worth : goal.returns-then-len-lt-CAPACITY-clause-worth
 returns-then-len-lt-CAPACITY-clause-worth g t c =
@@ -60,15 +60,15 @@ pub returns-clause-pairs : goal.returns-clause-pairs
 returns-clause-pairs g t c =
     let o = (c.open_end-node.ensures.levels c.requires.levels.0 c.requires.levels.1).0 in
     let e = c.put_child.ensures.pairs ∙ ap own_pairs c.deref_mut.ensures.value in
-    let f = c.put_child.ensures.children ∙ ap (λ n. children_of n ++ c.args.subtree.value ∷ []) c.deref_mut.ensures.value in
+    let f = c.put_child.ensures.children ∙ ap (λ n. children_of n ++ c.args.subtree ∷ []) c.deref_mut.ensures.value in
     let z = spare_taken _ _ _ c.take_spare.ensures c.attach.ensures.blank in
-    carried_pairs _ _ _ _ _ c.open_end-node.result.value c.put_child.new.node c.args.subtree.value c.args.pair c.open_end-node.ensures.pairs (closed_pairs c.requires.levels.0 _ _ _ o e f) c.attach.ensures.pairs z.0 c.push-2.ensures
+    carried_pairs _ _ _ _ _ c.open_end-node.result c.put_child.new.node c.args.subtree c.args.pair c.open_end-node.ensures.pairs (closed_pairs c.requires.levels.0 _ _ _ o e f) c.attach.ensures.pairs z.0 c.push-2.ensures
 
 pub returns-clause-levels : goal.returns-clause-levels
 returns-clause-levels g t c h s w =
     let o = c.open_end-node.ensures.levels h s in
     let e = c.put_child.ensures.pairs ∙ ap own_pairs c.deref_mut.ensures.value in
-    let f = c.put_child.ensures.children ∙ ap (λ n. children_of n ++ c.args.subtree.value ∷ []) c.deref_mut.ensures.value in
+    let f = c.put_child.ensures.children ∙ ap (λ n. children_of n ++ c.args.subtree ∷ []) c.deref_mut.ensures.value in
     let d = ap (λ n. length (own_pairs n)) c.deref.ensures in
     let v = c.len.ensures.value in
     let x = c.if-len-lt-CAPACITY.false in
@@ -121,12 +121,12 @@ pub attach-requires : goal.attach-requires
 attach-requires g t c κs within =
     let o = c.open_end-node.ensures.levels c.requires.levels.0 c.requires.levels.1 in
     let e = c.put_child.ensures.pairs ∙ ap own_pairs c.deref_mut.ensures.value in
-    let f = c.put_child.ensures.children ∙ ap (λ n. children_of n ++ c.args.subtree.value ∷ []) c.deref_mut.ensures.value in
+    let f = c.put_child.ensures.children ∙ ap (λ n. children_of n ++ c.args.subtree ∷ []) c.deref_mut.ensures.value in
     let d = ap (λ n. length (own_pairs n)) c.deref.ensures in
     let k = ap length e in
     let v = c.len.ensures.value in
     let z = c.if-len-lt-CAPACITY.false in
-    let full : capacity ≤ length (own_pairs c.open_end-node.result.value) = omega arith in
+    let full : capacity ≤ length (own_pairs c.open_end-node.result) = omega arith in
     let some = not_blank c.args.spine.now _ c.open_end-node.ensures.new_root full in
     let x = c.open_end-node.ensures.shorter in
     let n = c.open_end-node.ensures.full some full in
@@ -144,7 +144,7 @@ take_spare-requires g t c =
     let d = ap (λ n. length (own_pairs n)) c.deref.ensures in
     let v = c.len.ensures.value in
     let z = c.if-len-lt-CAPACITY.false in
-    let full : capacity ≤ length (own_pairs c.open_end-node.result.value) = omega arith in
+    let full : capacity ≤ length (own_pairs c.open_end-node.result) = omega arith in
     let some = not_blank c.args.spine.now _ c.open_end-node.ensures.new_root full in
     let n = c.open_end-node.ensures.full some full in
     let x = c.open_end-node.ensures.shorter in
@@ -169,7 +169,7 @@ returns-clause-used g t c =
     let d = ap (λ n. length (own_pairs n)) c.deref.ensures in
     let v = c.len.ensures.value in
     let z = c.if-len-lt-CAPACITY.false in
-    let full : capacity ≤ length (own_pairs c.open_end-node.result.value) = omega arith in
+    let full : capacity ≤ length (own_pairs c.open_end-node.result) = omega arith in
     let some = not_blank c.args.spine.now _ c.open_end-node.ensures.new_root full in
     let n = c.open_end-node.ensures.full some full in
     let x = c.open_end-node.ensures.shorter in
@@ -184,7 +184,7 @@ returns-clause-short g t c b long few =
     let d = ap (λ n. length (own_pairs n)) c.deref.ensures in
     let v = c.len.ensures.value in
     let z = c.if-len-lt-CAPACITY.false in
-    let full : capacity ≤ length (own_pairs c.open_end-node.result.value) = omega arith in
+    let full : capacity ≤ length (own_pairs c.open_end-node.result) = omega arith in
     let some = not_blank c.args.spine.now _ c.open_end-node.ensures.new_root full in
     let n = c.open_end-node.ensures.full some full in
     let x = c.open_end-node.ensures.shorter in

@@ -21,19 +21,19 @@ close-requires g t c κs within =
     let l = length_pushed _ _ _ c.pop-node.ensures in
     let falls : length c.pop-node.new.self < length c.args.spine.now = omega arith in
     let e = c.put_child.ensures.pairs ∙ ap own_pairs c.deref_mut.ensures.value in
-    let f = c.put_child.ensures.children ∙ ap (λ n. children_of n ++ c.args.last.value ∷ []) c.deref_mut.ensures.value in
+    let f = c.put_child.ensures.children ∙ ap (λ n. children_of n ++ c.args.last ∷ []) c.deref_mut.ensures.value in
     (search rules, (search rules, (search rules, (search rules, (suc c.requires.levels.0, p.1, closed_bordered c.requires.levels.0 _ _ _ p.0 e f c.requires.levels.2)))))
 
 pub returns-clause-pairs : goal.returns-clause-pairs
 returns-clause-pairs g t c =
     let p = spine_popped c.requires.levels.0 _ _ _ c.pop-node.ensures c.requires.levels.1 in
     let e = c.put_child.ensures.pairs ∙ ap own_pairs c.deref_mut.ensures.value in
-    let f = c.put_child.ensures.children ∙ ap (λ n. children_of n ++ c.args.last.value ∷ []) c.deref_mut.ensures.value in
-    closing_pairs _ _ _ c.put_child.new.node c.args.last.value _ c.pop-node.ensures (closed_pairs c.requires.levels.0 _ _ _ p.0 e f) c.close.ensures.pairs
+    let f = c.put_child.ensures.children ∙ ap (λ n. children_of n ++ c.args.last ∷ []) c.deref_mut.ensures.value in
+    closing_pairs _ _ _ c.put_child.new.node c.args.last _ c.pop-node.ensures (closed_pairs c.requires.levels.0 _ _ _ p.0 e f) c.close.ensures.pairs
 
 pub returns-clause-levels : goal.returns-clause-levels
 returns-clause-levels g t c h s r =
     let p = spine_popped h _ _ _ c.pop-node.ensures s in
     let e = c.put_child.ensures.pairs ∙ ap own_pairs c.deref_mut.ensures.value in
-    let f = c.put_child.ensures.children ∙ ap (λ n. children_of n ++ c.args.last.value ∷ []) c.deref_mut.ensures.value in
-    subst (λ k. IsRightBordered k c.close.result.value) (sym (level_pushed h _ _ _ c.pop-node.ensures)) (c.close.ensures.levels (suc h) p.1 (closed_bordered h _ _ _ p.0 e f r))
+    let f = c.put_child.ensures.children ∙ ap (λ n. children_of n ++ c.args.last ∷ []) c.deref_mut.ensures.value in
+    subst (λ k. IsRightBordered k c.close.result) (sym (level_pushed h _ _ _ c.pop-node.ensures)) (c.close.ensures.levels (suc h) p.1 (closed_bordered h _ _ _ p.0 e f r))

@@ -13,15 +13,15 @@ returns-then-child_count-eq0-clause-pairs g t c =
     let d = ap (λ n. length (children_of n)) c.deref.ensures in
     let v = c.child_count.ensures.value in
     let z = c.if-child_count-eq0.true in
-    let b = bottom c.requires.levels.0 c.args.node.value c.requires.levels.1 (omega arith) in
-    ap (λ zs. before_back c.args.spine.now ++ zs) (sym (leaf_pairs c.args.node.value b.2))
+    let b = bottom c.requires.levels.0 c.args.node c.requires.levels.1 (omega arith) in
+    ap (λ zs. before_back c.args.spine.now ++ zs) (sym (leaf_pairs c.args.node b.2))
 
 pub returns-then-child_count-eq0-clause-leaf : goal.returns-then-child_count-eq0-clause-leaf
 returns-then-child_count-eq0-clause-leaf g t c =
     let d = ap (λ n. length (children_of n)) c.deref.ensures in
     let v = c.child_count.ensures.value in
     let z = c.if-child_count-eq0.true in
-    let b = bottom c.requires.levels.0 c.args.node.value c.requires.levels.1 (omega arith) in
+    let b = bottom c.requires.levels.0 c.args.node c.requires.levels.1 (omega arith) in
     (b.1, b.2)
 
 pub returns-then-child_count-eq0-clause-levels : goal.returns-then-child_count-eq0-clause-levels
@@ -29,7 +29,7 @@ returns-then-child_count-eq0-clause-levels g t c =
     let d = ap (λ n. length (children_of n)) c.deref.ensures in
     let v = c.child_count.ensures.value in
     let z = c.if-child_count-eq0.true in
-    let b = bottom c.requires.levels.0 c.args.node.value c.requires.levels.1 (omega arith) in
+    let b = bottom c.requires.levels.0 c.args.node c.requires.levels.1 (omega arith) in
     let fits = c.requires.levels.3 in
     (subst (λ h. IsSpine h c.args.spine.now) b.0 c.requires.levels.2, omega arith)
 
@@ -38,7 +38,7 @@ open_right-requires g t c κs within =
     let d = ap (λ n. length (children_of n)) c.deref.ensures in
     let v = c.child_count.ensures.value in
     let z = c.if-child_count-eq0.false in
-    let o = opened_right c.requires.levels.0 c.args.node.value _ _ c.requires.levels.1 (omega arith) (ap children_of (sym c.deref_mut.ensures.value) ∙ c.take_last_child-child.ensures.children) (c.take_last_child-child.ensures.pairs ∙ ap own_pairs c.deref_mut.ensures.value) in
+    let o = opened_right c.requires.levels.0 c.args.node _ _ c.requires.levels.1 (omega arith) (ap children_of (sym c.deref_mut.ensures.value) ∙ c.take_last_child-child.ensures.children) (c.take_last_child-child.ensures.pairs ∙ ap own_pairs c.deref_mut.ensures.value) in
     let e = length_pushed _ _ _ c.push.ensures in
     let fits = c.requires.levels.3 in
     let above = o.above in
@@ -50,5 +50,5 @@ returns-clause-pairs g t c =
     let d = ap (λ n. length (children_of n)) c.deref.ensures in
     let v = c.child_count.ensures.value in
     let z = c.if-child_count-eq0.false in
-    let o = opened_right c.requires.levels.0 c.args.node.value _ _ c.requires.levels.1 (omega arith) (ap children_of (sym c.deref_mut.ensures.value) ∙ c.take_last_child-child.ensures.children) (c.take_last_child-child.ensures.pairs ∙ ap own_pairs c.deref_mut.ensures.value) in
-    opened_pairs _ _ _ c.args.node.value _ _ c.push.ensures o.pairs c.open_right.ensures.pairs
+    let o = opened_right c.requires.levels.0 c.args.node _ _ c.requires.levels.1 (omega arith) (ap children_of (sym c.deref_mut.ensures.value) ∙ c.take_last_child-child.ensures.children) (c.take_last_child-child.ensures.pairs ∙ ap own_pairs c.deref_mut.ensures.value) in
+    opened_pairs _ _ _ c.args.node _ _ c.push.ensures o.pairs c.open_right.ensures.pairs

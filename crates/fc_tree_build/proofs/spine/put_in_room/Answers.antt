@@ -31,21 +31,21 @@ pub returns-clause-pairs : goal.returns-clause-pairs
 returns-clause-pairs g c =
     let o = (spine_popped 0 _ _ _ c.pop-node.ensures c.requires.levels.0).0 in
     let e = c.put_child.ensures.pairs ∙ ap own_pairs c.deref_mut.ensures.value in
-    let f = c.put_child.ensures.children ∙ ap (λ n. children_of n ++ c.args.subtree.value ∷ []) c.deref_mut.ensures.value in
+    let f = c.put_child.ensures.children ∙ ap (λ n. children_of n ++ c.args.subtree ∷ []) c.deref_mut.ensures.value in
     let q = c.put_pair.ensures.pairs ∙ ap (λ n. own_pairs n ++ c.args.pair ∷ []) c.deref_mut-2.ensures.value in
     let i = c.put_pair.ensures.children ∙ ap children_of c.deref_mut-2.ensures.value in
-    spine_pairs _ _ _ _ c.pop-node.result.value c.args.subtree.value c.args.pair (back_push _ _ _ c.pop-node.ensures) c.push.ensures
-    (end_pairs 0 c.pop-node.result.value c.put_child.new.node c.put_pair.new.node c.args.subtree.value c.args.pair o e f q i)
+    spine_pairs _ _ _ _ c.pop-node.result c.args.subtree c.args.pair (back_push _ _ _ c.pop-node.ensures) c.push.ensures
+    (end_pairs 0 c.pop-node.result c.put_child.new.node c.put_pair.new.node c.args.subtree c.args.pair o e f q i)
 
 pub returns-clause-levels : goal.returns-clause-levels
 returns-clause-levels g c =
     let o = spine_popped 0 _ _ _ c.pop-node.ensures c.requires.levels.0 in
     let e = c.put_child.ensures.pairs ∙ ap own_pairs c.deref_mut.ensures.value in
-    let f = c.put_child.ensures.children ∙ ap (λ n. children_of n ++ c.args.subtree.value ∷ []) c.deref_mut.ensures.value in
+    let f = c.put_child.ensures.children ∙ ap (λ n. children_of n ++ c.args.subtree ∷ []) c.deref_mut.ensures.value in
     let q = c.put_pair.ensures.pairs ∙ ap (λ n. own_pairs n ++ c.args.pair ∷ []) c.deref_mut-2.ensures.value in
     let i = c.put_pair.ensures.children ∙ ap children_of c.deref_mut-2.ensures.value in
     let k = ap length e in
     let room = last_has_room _ _ _ c.pop-node.ensures c.requires.room in
     let less : length (own_pairs c.put_child.new.node) < capacity = omega arith in
     spine_pushed 0 _ _ _ c.push.ensures o.1
-    (end_grown 0 c.pop-node.result.value c.put_child.new.node c.put_pair.new.node c.args.subtree.value c.args.pair o.0 e f q i (λ leaf. c.put_child.ensures.inner (subst IsLeaf c.deref_mut-2.ensures.value (c.put_pair.ensures.leaf.0 leaf))) less c.requires.levels.1)
+    (end_grown 0 c.pop-node.result c.put_child.new.node c.put_pair.new.node c.args.subtree c.args.pair o.0 e f q i (λ leaf. c.put_child.ensures.inner (subst IsLeaf c.deref_mut-2.ensures.value (c.put_pair.ensures.leaf.0 leaf))) less c.requires.levels.1)

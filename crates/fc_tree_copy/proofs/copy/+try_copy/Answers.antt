@@ -26,11 +26,11 @@ pub loop-i-preserved : goal.loop-i-preserved
 loop-i-preserved g t c =
     let copied = subst (IsCopyUpTo (AreSame g.K.TryClone.same g.V.TryClone.same) c.loop-i.i c.args.node.now) (sym c.deref_mut.ensures.value) c.loop-i.invariant.1 in
     let put = c.push_child.ensures in
-    (c.loop-i.invariant.0, child_copied (AreSame g.K.TryClone.same g.V.TryClone.same) c.loop-i.i c.args.node.now c.deref_mut.result.now copied c.push_child.new.node c.child.result.now c.in_ok-child.child.value (omega (arith, c.loop-i.invariant.0)) c.child.ensures c.in_ok-child.ensures.copied put.own put.children put.inner)
+    (c.loop-i.invariant.0, child_copied (AreSame g.K.TryClone.same g.V.TryClone.same) c.loop-i.i c.args.node.now c.deref_mut.result.now copied c.push_child.new.node c.child.result.now c.in_ok-child.child (omega (arith, c.loop-i.invariant.0)) c.child.ensures c.in_ok-child.ensures.copied put.own put.children put.inner)
 
 pub returns-clause-copied : goal.returns-clause-copied
 returns-clause-copied g t c =
-    tree_copied (AreSame g.K.TryClone.same g.V.TryClone.same) c.loop-i.i c.args.node.now c.loop-i.copy.value c.loop-i.invariant.1 (omega (arith, c.loop-i.invariant.0))
+    tree_copied (AreSame g.K.TryClone.same g.V.TryClone.same) c.loop-i.i c.args.node.now c.loop-i.copy c.loop-i.invariant.1 (omega (arith, c.loop-i.invariant.0))
 
 pub returns-in_err-copy-clause-error : goal.returns-in_err-copy-clause-error
 returns-in_err-copy-clause-error g t c h l =

@@ -8,4 +8,4 @@ abbrev pub decreases-try_copy : goal.decreases-try_copy
 decreases-try_copy g l = nodes_of l.node.now
 
 abbrev pub invariant-loop-i : goal.invariant-loop-i
-invariant-loop-i g l = (l.i-end ≡ length (children_of l.node)) × IsCopyUpTo (AreSame g.K.TryClone.same g.V.TryClone.same) l.i l.node l.copy.value
+invariant-loop-i g l = (l.i-end ≡ length (children_of l.node)) × IsCopyUpTo (AreSame g.K.TryClone.same g.V.TryClone.same) l.i l.node l.copy

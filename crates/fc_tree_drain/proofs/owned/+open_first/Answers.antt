@@ -10,10 +10,10 @@ returns-then-child_count-eq0-clause-pairs g t c =
     let d = ap (λ n. length (children_of n)) c.deref.ensures in
     let v = c.child_count.ensures.value in
     let z = c.if-child_count-eq0.true in
-    ap (λ zs. zs ++ after_front c.args.stack.now) (c.into_run.ensures ∙ sym (leaf_own c.args.node.value (no_item _ (omega arith))))
+    ap (λ zs. zs ++ after_front c.args.stack.now) (c.into_run.ensures ∙ sym (leaf_own c.args.node (no_item _ (omega arith))))
 
 pub returns-then-child_count-eq0-clause-levels : goal.returns-then-child_count-eq0-clause-levels
-returns-then-child_count-eq0-clause-levels g t c = under_levels c.args.node.value _ c.requires
+returns-then-child_count-eq0-clause-levels g t c = under_levels c.args.node _ c.requires
 
 pub returns-then-child_count-eq0-clause-some : goal.returns-then-child_count-eq0-clause-some
 returns-then-child_count-eq0-clause-some g t c = let k = c.requires.1.0 in let e = ap length c.into_run.ensures in omega arith
@@ -26,9 +26,9 @@ open_first-requires g t c κs within =
     let r = under_room _ _ c.requires in
     let e = ap length c.push.ensures ∙ length-append c.args.stack.now _ in
     let falls : most_levels - length c.push.new.self < most_levels - length c.args.stack.now = omega arith in
-    let u = under_first c.args.node.value _ _ _ _ c.requires (ap children_of (sym c.deref_mut.ensures.value) ∙ c.take_first_child-child.ensures.children) (c.take_first_child-child.ensures.pairs ∙ ap own_pairs c.deref_mut.ensures.value) c.push.ensures in
+    let u = under_first c.args.node _ _ _ _ c.requires (ap children_of (sym c.deref_mut.ensures.value) ∙ c.take_first_child-child.ensures.children) (c.take_first_child-child.ensures.pairs ∙ ap own_pairs c.deref_mut.ensures.value) c.push.ensures in
     (search rules, (search rules, (search rules, (search rules, u))))
 
 pub returns-clause-pairs : goal.returns-clause-pairs
 returns-clause-pairs g t c =
-    first_opened c.args.node.value _ _ _ _ _ (ap children_of (sym c.deref_mut.ensures.value) ∙ c.take_first_child-child.ensures.children) (c.take_first_child-child.ensures.pairs ∙ ap own_pairs c.deref_mut.ensures.value) c.push.ensures c.open_first.ensures.pairs
+    first_opened c.args.node _ _ _ _ _ (ap children_of (sym c.deref_mut.ensures.value) ∙ c.take_first_child-child.ensures.children) (c.take_first_child-child.ensures.pairs ∙ ap own_pairs c.deref_mut.ensures.value) c.push.ensures c.open_first.ensures.pairs

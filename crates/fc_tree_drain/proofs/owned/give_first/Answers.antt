@@ -31,17 +31,17 @@ returns-then-child_count-eq0-clause-levels g c =
 
 pub keep-requires-2 : goal.keep-requires-2
 keep-requires-2 g c =
-    let i = given_first _ _ _ c.take_first_pair-pair.new.self c.take_first_child-child.new.self c.take_first_child-child.result.value _ c.requires.levels c.pop-node.ensures (ap own_pairs (sym c.deref_mut.ensures.value) ∙ c.take_first_pair-pair.ensures.pairs) (c.take_first_pair-pair.ensures.children ∙ ap children_of c.deref_mut.ensures.value)
+    let i = given_first _ _ _ c.take_first_pair-pair.new.self c.take_first_child-child.new.self c.take_first_child-child.result _ c.requires.levels c.pop-node.ensures (ap own_pairs (sym c.deref_mut.ensures.value) ∙ c.take_first_pair-pair.ensures.pairs) (c.take_first_pair-pair.ensures.children ∙ ap children_of c.deref_mut.ensures.value)
     (ap children_of (sym c.deref_mut-2.ensures.value) ∙ c.take_first_child-child.ensures.children) (c.take_first_child-child.ensures.pairs ∙ ap own_pairs c.deref_mut-2.ensures.value) in
     (search rules, (i.level, i.opened, i.rest))
 
 pub open_first-requires : goal.open_first-requires
 open_first-requires g c =
-    let i = given_first _ _ _ c.take_first_pair-pair.new.self c.take_first_child-child.new.self c.take_first_child-child.result.value _ c.requires.levels c.pop-node.ensures (ap own_pairs (sym c.deref_mut.ensures.value) ∙ c.take_first_pair-pair.ensures.pairs) (c.take_first_pair-pair.ensures.children ∙ ap children_of c.deref_mut.ensures.value)
+    let i = given_first _ _ _ c.take_first_pair-pair.new.self c.take_first_child-child.new.self c.take_first_child-child.result _ c.requires.levels c.pop-node.ensures (ap own_pairs (sym c.deref_mut.ensures.value) ∙ c.take_first_pair-pair.ensures.pairs) (c.take_first_pair-pair.ensures.children ∙ ap children_of c.deref_mut.ensures.value)
     (ap children_of (sym c.deref_mut-2.ensures.value) ∙ c.take_first_child-child.ensures.children) (c.take_first_child-child.ensures.pairs ∙ ap own_pairs c.deref_mut-2.ensures.value) in
     (search rules, given_under _ _ _ _ i c.keep-2.ensures.levels)
 
 pub returns-clause-pairs : goal.returns-clause-pairs
 returns-clause-pairs g c =
-    gave_first c.args.stack.now c.pop-node.new.self c.keep-2.new.stack _ c.pop-node.result c.take_first_pair-pair.new.self c.take_first_child-child.new.self c.take_first_child-child.result.value _ c.pop-node.ensures (ap own_pairs (sym c.deref_mut.ensures.value) ∙ c.take_first_pair-pair.ensures.pairs) (c.take_first_pair-pair.ensures.children ∙ ap children_of c.deref_mut.ensures.value)
+    gave_first c.args.stack.now c.pop-node.new.self c.keep-2.new.stack _ c.pop-node.result c.take_first_pair-pair.new.self c.take_first_child-child.new.self c.take_first_child-child.result _ c.pop-node.ensures (ap own_pairs (sym c.deref_mut.ensures.value) ∙ c.take_first_pair-pair.ensures.pairs) (c.take_first_pair-pair.ensures.children ∙ ap children_of c.deref_mut.ensures.value)
     (ap children_of (sym c.deref_mut-2.ensures.value) ∙ c.take_first_child-child.ensures.children) (c.take_first_child-child.ensures.pairs ∙ ap own_pairs c.deref_mut-2.ensures.value) c.keep-2.ensures.front c.open_first.ensures.pairs

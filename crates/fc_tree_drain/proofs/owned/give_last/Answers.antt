@@ -31,19 +31,19 @@ returns-then-child_count-eq0-clause-levels g c =
 
 pub keep-requires-2 : goal.keep-requires-2
 keep-requires-2 g c =
-    let i = given_last _ _ _ c.take_last_pair-pair.new.self c.take_last_child-child.new.self c.take_last_child-child.result.value _ c.requires.levels c.pop-node.ensures (ap own_pairs (sym c.deref_mut.ensures.value) ∙ c.take_last_pair-pair.ensures.pairs) (c.take_last_pair-pair.ensures.children ∙ ap children_of c.deref_mut.ensures.value)
+    let i = given_last _ _ _ c.take_last_pair-pair.new.self c.take_last_child-child.new.self c.take_last_child-child.result _ c.requires.levels c.pop-node.ensures (ap own_pairs (sym c.deref_mut.ensures.value) ∙ c.take_last_pair-pair.ensures.pairs) (c.take_last_pair-pair.ensures.children ∙ ap children_of c.deref_mut.ensures.value)
     (ap children_of (sym c.deref_mut-2.ensures.value) ∙ c.take_last_child-child.ensures.children) (c.take_last_child-child.ensures.pairs ∙ ap own_pairs c.deref_mut-2.ensures.value) in
     (search rules, (i.level, i.opened, i.rest))
 
 pub open_last-requires : goal.open_last-requires
 open_last-requires g c =
-    let i = given_last _ _ _ c.take_last_pair-pair.new.self c.take_last_child-child.new.self c.take_last_child-child.result.value _ c.requires.levels c.pop-node.ensures (ap own_pairs (sym c.deref_mut.ensures.value) ∙ c.take_last_pair-pair.ensures.pairs) (c.take_last_pair-pair.ensures.children ∙ ap children_of c.deref_mut.ensures.value)
+    let i = given_last _ _ _ c.take_last_pair-pair.new.self c.take_last_child-child.new.self c.take_last_child-child.result _ c.requires.levels c.pop-node.ensures (ap own_pairs (sym c.deref_mut.ensures.value) ∙ c.take_last_pair-pair.ensures.pairs) (c.take_last_pair-pair.ensures.children ∙ ap children_of c.deref_mut.ensures.value)
     (ap children_of (sym c.deref_mut-2.ensures.value) ∙ c.take_last_child-child.ensures.children) (c.take_last_child-child.ensures.pairs ∙ ap own_pairs c.deref_mut-2.ensures.value) in
     (search rules, given_under _ _ _ _ i c.keep-2.ensures.levels)
 
 pub returns-clause-pairs : goal.returns-clause-pairs
 returns-clause-pairs g c =
-    let i = given_last _ _ _ c.take_last_pair-pair.new.self c.take_last_child-child.new.self c.take_last_child-child.result.value _ c.requires.levels c.pop-node.ensures (ap own_pairs (sym c.deref_mut.ensures.value) ∙ c.take_last_pair-pair.ensures.pairs) (c.take_last_pair-pair.ensures.children ∙ ap children_of c.deref_mut.ensures.value)
+    let i = given_last _ _ _ c.take_last_pair-pair.new.self c.take_last_child-child.new.self c.take_last_child-child.result _ c.requires.levels c.pop-node.ensures (ap own_pairs (sym c.deref_mut.ensures.value) ∙ c.take_last_pair-pair.ensures.pairs) (c.take_last_pair-pair.ensures.children ∙ ap children_of c.deref_mut.ensures.value)
     (ap children_of (sym c.deref_mut-2.ensures.value) ∙ c.take_last_child-child.ensures.children) (c.take_last_child-child.ensures.pairs ∙ ap own_pairs c.deref_mut-2.ensures.value) in
-    gave_last c.args.stack.now c.pop-node.new.self c.keep-2.new.stack _ c.pop-node.result c.take_last_pair-pair.new.self c.take_last_child-child.new.self c.take_last_child-child.result.value _ i c.pop-node.ensures (ap own_pairs (sym c.deref_mut.ensures.value) ∙ c.take_last_pair-pair.ensures.pairs) (c.take_last_pair-pair.ensures.children ∙ ap children_of c.deref_mut.ensures.value)
+    gave_last c.args.stack.now c.pop-node.new.self c.keep-2.new.stack _ c.pop-node.result c.take_last_pair-pair.new.self c.take_last_child-child.new.self c.take_last_child-child.result _ i c.pop-node.ensures (ap own_pairs (sym c.deref_mut.ensures.value) ∙ c.take_last_pair-pair.ensures.pairs) (c.take_last_pair-pair.ensures.children ∙ ap children_of c.deref_mut.ensures.value)
     (ap children_of (sym c.deref_mut-2.ensures.value) ∙ c.take_last_child-child.ensures.children) (c.take_last_child-child.ensures.pairs ∙ ap own_pairs c.deref_mut-2.ensures.value) c.keep-2.ensures.back c.open_last.ensures.pairs

@@ -8,20 +8,20 @@ returns-then-len-eq0-clause-front g c =
     let d = ap (λ n. length (own_pairs n)) c.deref.ensures in
     let v = c.len.ensures.value in
     let z = c.if-len-eq0.true in
-    empty_front c.args.node.value c.args.stack.now _ c.requires.1 (omega arith)
+    empty_front c.args.node c.args.stack.now _ c.requires.1 (omega arith)
 
 pub returns-then-len-eq0-clause-back : goal.returns-then-len-eq0-clause-back
 returns-then-len-eq0-clause-back g c =
     let d = ap (λ n. length (own_pairs n)) c.deref.ensures in
     let v = c.len.ensures.value in
     let z = c.if-len-eq0.true in
-    empty_back c.args.node.value c.args.stack.now _ c.requires.1 (omega arith)
+    empty_back c.args.node c.args.stack.now _ c.requires.1 (omega arith)
 
 pub returns-then-len-eq0-clause-levels : goal.returns-then-len-eq0-clause-levels
 returns-then-len-eq0-clause-levels g c h o f = dropped _ h f
 
 pub push-requires : goal.push-requires
-push-requires g c = (search rules, keep_room c.args.node.value _ c.requires)
+push-requires g c = (search rules, keep_room c.args.node _ c.requires)
 
 pub returns-clause-front : goal.returns-clause-front
 returns-clause-front g c = front_push _ _ _ c.push.ensures

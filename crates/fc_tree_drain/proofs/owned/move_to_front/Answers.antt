@@ -46,7 +46,7 @@ returns-clause-pairs g c =
     let w = c.len.ensures.value in
     let t = c.if-child_count-len.false in
     let e = bottom_even _ _ c.take_bottom-node.result c.requires.levels c.take_bottom-node.ensures (omega arith) in
-    let p = front_parted c.args.front.now c.push-2.new.self _ c.take_bottom-node.result.value _ _ c.requires.none e (ap children_of (sym c.deref_mut.ensures.value) ∙ c.take_first_child-child.ensures.children) (c.take_first_child-child.ensures.pairs ∙ ap own_pairs c.deref_mut.ensures.value) c.push-2.ensures c.open_first.ensures.pairs in
+    let p = front_parted c.args.front.now c.push-2.new.self _ c.take_bottom-node.result _ _ c.requires.none e (ap children_of (sym c.deref_mut.ensures.value) ∙ c.take_first_child-child.ensures.children) (c.take_first_child-child.ensures.pairs ∙ ap own_pairs c.deref_mut.ensures.value) c.push-2.ensures c.open_first.ensures.pairs in
     filled_front c.args.back.now _ _ c.take_bottom-node.result c.take_bottom-node.ensures p
 
 pub returns-clause-back : goal.returns-clause-back

@@ -101,7 +101,7 @@ returns-in-Some-below-clause-pairs g t c =
     let ci = child_lent c.args.path.now c.args.node.now _ _ c.deref_mut-child.result.now s c.in-Some.is c.get_mut.ensures.value c.deref_mut-child.ensures.value in
     let m = child_set c.args.node.now c.in-Some.children _ (with_value c.get_mut.result.now c.insert_below-below.new.node) c.in-Some.is in
     let i = c.put_inner.ensures in
-    put_above c.args.path.now c.args.node.now _ c.insert_below-below.new.node c.deref_mut-child.result.now c.put_inner.new.node c.put_inner.result c.in-Some-below.up c.args.pair c.in-Some-below.right.value s m ci i.pairs i.children i.inner.0 i.inner.1 c.in-Some-below.ensures.pairs
+    put_above c.args.path.now c.args.node.now _ c.insert_below-below.new.node c.deref_mut-child.result.now c.put_inner.new.node c.put_inner.result c.in-Some-below.up c.args.pair c.in-Some-below.right s m ci i.pairs i.children i.inner.0 i.inner.1 c.in-Some-below.ensures.pairs
 
 pub returns-in-Some-below-clause-levels : goal.returns-in-Some-below-clause-levels
 returns-in-Some-below-clause-levels g t c =
@@ -111,7 +111,7 @@ returns-in-Some-below-clause-levels g t c =
     let i = c.put_inner.ensures in
     let l = c.in-Some-below.ensures.levels in
     let z = c.in-Some-below.ensures.size in
-    rw s.height (levelled_put _ c.args.node.now _ c.insert_below-below.new.node c.put_inner.new.node c.in-Some-below.right.value _ c.put_inner.result s.levels m (z.0.0, l.0) (z.1.0, l.1) i.children i.inner.0 i.inner.1 i.size)
+    rw s.height (levelled_put _ c.args.node.now _ c.insert_below-below.new.node c.put_inner.new.node c.in-Some-below.right _ c.put_inner.result s.levels m (z.0.0, l.0) (z.1.0, l.1) i.children i.inner.0 i.inner.1 i.size)
 
 pub returns-in-Some-below-clause-size : goal.returns-in-Some-below-clause-size
 returns-in-Some-below-clause-size g t c =

@@ -12,7 +12,7 @@ pub insert_below-requires : goal.insert_below-requires
 insert_below-requires g c =
     let root = c.deref_mut.ensures.value in
     let same = ap (cascade c.args.path.now) root in
-    let enough = needed_least c.args.path.now c.args.root.now.value in
+    let enough = needed_least c.args.path.now c.args.root.now in
     record {
       some = c.requires.some;
       path = subst (IsPath _) (sym root) c.requires.path;
@@ -26,7 +26,7 @@ take-blank-requires g c =
     let root = c.deref_mut.ensures.value in
     let same = ap (cascade c.args.path.now) root in
     let halved = c.in-Some.ensures.halved in
-    let e = needed_whole c.args.path.now c.args.root.now.value (omega arith) in
+    let e = needed_whole c.args.path.now c.args.root.now (omega arith) in
     omega arith
 
 pub returns-in-None-clause-used_up : goal.returns-in-None-clause-used_up
@@ -34,7 +34,7 @@ returns-in-None-clause-used_up g c =
     let root = c.deref_mut.ensures.value in
     let same = ap (cascade c.args.path.now) root in
     let halved = c.in-None.ensures.halved in
-    let e = needed_part c.args.path.now c.args.root.now.value (omega arith) in
+    let e = needed_part c.args.path.now c.args.root.now (omega arith) in
     omega arith
 
 pub returns-in-None-clause-higher : goal.returns-in-None-clause-higher
@@ -42,7 +42,7 @@ returns-in-None-clause-higher g c h =
     let root = c.deref_mut.ensures.value in
     let same = ap (cascade c.args.path.now) root in
     let halved = c.in-None.ensures.halved in
-    absurd (let e = cascade_whole c.args.path.now c.args.root.now.value h in omega arith)
+    absurd (let e = cascade_whole c.args.path.now c.args.root.now h in omega arith)
 
 pub returns-in-None-clause-moves : goal.returns-in-None-clause-moves
 returns-in-None-clause-moves g c =
@@ -50,13 +50,13 @@ returns-in-None-clause-moves g c =
     let same = ap (cascade c.args.path.now) root in
     let halved = c.in-None.ensures.halved in
     let moves = c.in-None.ensures.moves in
-    let e = moves_part c.args.path.now c.args.root.now.value (omega arith) in
+    let e = moves_part c.args.path.now c.args.root.now (omega arith) in
     omega arith
 
 pub returns-in-Some-clause-pairs : goal.returns-in-Some-clause-pairs
 returns-in-Some-clause-pairs g c =
-    put_root c.grow.new.root.value c.insert_below.new.node c.in-Some.right.value c.in-Some.up c.grow.ensures.pairs c.grow.ensures.children
-    ∙ subst (λ n. pairs_of c.insert_below.new.node ++ c.in-Some.up ∷ pairs_of c.in-Some.right.value ≡ before_gap c.args.path.now n ++ c.args.pair ∷ after_gap c.args.path.now n) c.deref_mut.ensures.value c.in-Some.ensures.pairs
+    put_root c.grow.new.root c.insert_below.new.node c.in-Some.right c.in-Some.up c.grow.ensures.pairs c.grow.ensures.children
+    ∙ subst (λ n. pairs_of c.insert_below.new.node ++ c.in-Some.up ∷ pairs_of c.in-Some.right ≡ before_gap c.args.path.now n ++ c.args.pair ∷ after_gap c.args.path.now n) c.deref_mut.ensures.value c.in-Some.ensures.pairs
 
 pub returns-in-None-clause-place : goal.returns-in-None-clause-place
 returns-in-None-clause-place g c =
@@ -67,5 +67,5 @@ returns-in-None-clause-place g c =
 pub returns-in-Some-clause-place : goal.returns-in-Some-clause-place
 returns-in-Some-clause-place g c =
     let e = c.in-Some.ensures in
-    subst (λ n. IsPutAt (path_after (nodes_needed c.args.path.now n) c.args.path.now) c.grow.new.root.value c.args.pair (before_gap c.args.path.now n) (after_gap c.args.path.now n)) c.deref_mut.ensures.value
-    (put_higher c.args.path.now c.deref_mut.result.now c.grow.new.root.value c.insert_below.new.node c.in-Some.right c.in-Some.up c.args.pair (length c.args.path.now - 1) e.halved c.grow.ensures.pairs c.grow.ensures.children (e.size.0.0, e.levels.0) (e.size.1.0, e.levels.1) e.pairs e.arrived)
+    subst (λ n. IsPutAt (path_after (nodes_needed c.args.path.now n) c.args.path.now) c.grow.new.root c.args.pair (before_gap c.args.path.now n) (after_gap c.args.path.now n)) c.deref_mut.ensures.value
+    (put_higher c.args.path.now c.deref_mut.result.now c.grow.new.root c.insert_below.new.node c.in-Some.right c.in-Some.up c.args.pair (length c.args.path.now - 1) e.halved c.grow.ensures.pairs c.grow.ensures.children (e.size.0.0, e.levels.0) (e.size.1.0, e.levels.1) e.pairs e.arrived)

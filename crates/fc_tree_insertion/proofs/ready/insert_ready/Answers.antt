@@ -6,7 +6,7 @@ use Rattle.fc_tree_insertion.proofs.ready.insert_ready.Goals as goal
 
 pub insert-requires : goal.insert-requires
 insert-requires g c =
-    let root = c.args.root.now.value in
+    let root = c.args.root.now in
     let path = c.args.path.now in
     let steps = c.requires.levels c.requires.sound.0 c.requires.sound.2.1 in
     let sound = gap_sound root path c.requires.sound steps in
@@ -15,23 +15,23 @@ insert-requires g c =
 
 pub returns-clause-length : goal.returns-clause-length
 returns-clause-length g c =
-    let root = c.args.root.now.value in
+    let root = c.args.root.now in
     let path = c.args.path.now in
     let steps = c.requires.levels c.requires.sound.0 c.requires.sound.2.1 in
     length_in root path c.requires.sound steps c.args.pair _ c.requires.path c.insert.ensures.pairs
 
 pub returns-clause-sound : goal.returns-clause-sound
 returns-clause-sound g c =
-    let root = c.args.root.now.value in
+    let root = c.args.root.now in
     let path = c.args.path.now in
     let steps = c.requires.levels c.requires.sound.0 c.requires.sound.2.1 in
     let longer = length_in root path c.requires.sound steps c.args.pair _ c.requires.path c.insert.ensures.pairs in
-    let fits : length (pairs_of c.insert.new.root.value) < 2 ^ 64 = omega arith in
-    sound_in root path c.requires.sound steps c.insert.new.root.value fits c.insert.ensures.same_height c.insert.ensures.higher
+    let fits : length (pairs_of c.insert.new.root) < 2 ^ 64 = omega arith in
+    sound_in root path c.requires.sound steps c.insert.new.root fits c.insert.ensures.same_height c.insert.ensures.higher
 
 pub returns-clause-moves : goal.returns-clause-moves
 returns-clause-moves g c =
-    let root = c.args.root.now.value in
+    let root = c.args.root.now in
     let path = c.args.path.now in
     let steps = c.requires.levels c.requires.sound.0 c.requires.sound.2.1 in
     let longer = length_in root path c.requires.sound steps c.args.pair _ c.requires.path c.insert.ensures.pairs in

@@ -8,7 +8,7 @@ use Rattle.fc_tree_insertion.proofs.ready.try_nodes_at.Goals as goal
 
 pub returns-clause-leaf : goal.returns-clause-leaf
 returns-clause-leaf g c =
-    let root = c.args.root.now.value in
+    let root = c.args.root.now in
     let path = c.args.path.now in
     let steps = c.requires.levels c.requires.sound.0 c.requires.sound.2.1 in
     let within = leaf_within path c.requires.sound.0 root c.requires.sound.2.1 steps c.requires.path in

@@ -5,10 +5,10 @@ use Rattle.fc_tree_removal.proofs.removal.remove.Goals as goal
 pub take_empty_root-requires : goal.take_empty_root-requires
 take_empty_root-requires g c =
     let h = c.requires.sound.0 in
-    let sound : IsSoundRoot h c.in-Some.root.value = rw c.in-Some.is at c.requires.sound.1 in
+    let sound : IsSoundRoot h c.in-Some.root = rw c.in-Some.is at c.requires.sound.1 in
     (_, refl, h, (c.remove_at-pair.ensures.levels h (subst (IsSoundRoot h) (sym c.deref_mut-node.ensures.value) sound)).0)
 
 pub returns-clause-levels : goal.returns-clause-levels
 returns-clause-levels g c h s =
-    let sound : IsSoundRoot h c.in-Some.root.value = rw c.in-Some.is at s in
+    let sound : IsSoundRoot h c.in-Some.root = rw c.in-Some.is at s in
     c.take_empty_root.ensures.levels _ refl h (c.remove_at-pair.ensures.levels h (subst (IsSoundRoot h) (sym c.deref_mut-node.ensures.value) sound)).0

@@ -1,6 +1,6 @@
 use Rattle.std.proofs.Common.{length, sym, ap, ◌∙◌}
 use Rattle.fc_tree_node.specs.Node.{pairs_of}
-use Rattle.fc_tree_node.specs.Tree.{entries, root_of}
+use Rattle.fc_tree_node.specs.Tree.{entries}
 use Rattle.fc_tree_visit.specs.Visits.{CalledAtPair}
 use Rattle.fc_tree_visit.proofs.Left.{keys_ascending, visited_keys, visited_length, visited_none, visited_cut, ends_order}
 use Rattle.fc_tree_visit.proofs.Ends.{gaps_stay}
@@ -16,12 +16,12 @@ visit-requires-clause-order g c =
 pub returns-clause-ascending : goal.returns-clause-ascending
 returns-clause-ascending g c cmp a =
     let v = c.visit.ensures.visited in
-    let old = ap (λ o. entries (root_of o)) c.in-Some.is ∙ ap pairs_of (sym c.deref_mut.ensures.value) in
+    let old = ap (λ o. entries o) c.in-Some.is ∙ ap pairs_of (sym c.deref_mut.ensures.value) in
     keys_ascending cmp _ _ (visited_keys (CalledAtPair g.F.FnMut) _ _ _ _ _ _ v) (rw old at a)
 
 pub returns-clause-length : goal.returns-clause-length
 returns-clause-length g c =
-    let old = ap (λ o. entries (root_of o)) c.in-Some.is ∙ ap pairs_of (sym c.deref_mut.ensures.value) in
+    let old = ap (λ o. entries o) c.in-Some.is ∙ ap pairs_of (sym c.deref_mut.ensures.value) in
     visited_length (CalledAtPair g.F.FnMut) _ _ _ _ _ _ c.visit.ensures.visited ∙ ap length (sym old)
 
 pub returns-clause-visited : goal.returns-clause-visited

@@ -1,25 +1,24 @@
 use Rattle.std.proofs.Common.{◌+◌, ◌-◌, ◌<◌, ◌≤◌, get_or, length, sym, ap, subst, ◌∙◌, arith}
 use Rattle.std.specs.Prelude.{slice_set, option_copied}
 use Rattle.fc_tree_node.specs.Node.{own_pairs, child_at}
-use Rattle.fc_tree_node.specs.Tree.{root_of}
 use Rattle.fc_tree_walk.specs.Gap.{IsAbove}
 use Rattle.fc_tree_walk.proofs.Ways.{near_step, near_leaf, near_next}
 use Rattle.fc_tree_walk.proofs.run.pass_next.Goals as goal
 
 pub child-requires : goal.child-requires
 child-requires g c =
-    let s = near_step (root_of c.args.root.now) c.args.gap.now c.in-Some.node.now _ _ c.requires.sound c.requires.gap (subst (λ a. IsAbove (root_of c.args.root.now) c.args.gap.now (option_copied a)) c.in-Some.is c.requires.above) (let some = c.requires.some in omega arith) (ap (λ k. k - 1) c.len-last.ensures.value) c.step-place.ensures in
+    let s = near_step c.args.root.now c.args.gap.now c.in-Some.node.now _ _ c.requires.sound c.requires.gap (subst (λ a. IsAbove c.args.root.now c.args.gap.now (option_copied a)) c.in-Some.is c.requires.above) (let some = c.requires.some in omega arith) (ap (λ k. k - 1) c.len-last.ensures.value) c.step-place.ensures in
     omega (arith, s.within, s.inner)
 
 pub child-requires-then-len-step : goal.child-requires-then-len-step
 child-requires-then-len-step g c =
-    let s = near_step (root_of c.args.root.now) c.args.gap.now c.in-Some.node.now _ _ c.requires.sound c.requires.gap (subst (λ a. IsAbove (root_of c.args.root.now) c.args.gap.now (option_copied a)) c.in-Some.is c.requires.above) (let some = c.requires.some in omega arith) (ap (λ k. k - 1) c.len-last.ensures.value) c.step-place.ensures in
+    let s = near_step c.args.root.now c.args.gap.now c.in-Some.node.now _ _ c.requires.sound c.requires.gap (subst (λ a. IsAbove c.args.root.now c.args.gap.now (option_copied a)) c.in-Some.is c.requires.above) (let some = c.requires.some in omega arith) (ap (λ k. k - 1) c.len-last.ensures.value) c.step-place.ensures in
     omega (arith, s.inner, c.len.ensures.value, c.if-place-len.true)
 
 pub returns-then-len-step : goal.returns-then-len-step
 returns-then-len-step g c =
-    let s = near_step (root_of c.args.root.now) c.args.gap.now c.in-Some.node.now _ _ c.requires.sound c.requires.gap (subst (λ a. IsAbove (root_of c.args.root.now) c.args.gap.now (option_copied a)) c.in-Some.is c.requires.above) (let some = c.requires.some in omega arith) (ap (λ k. k - 1) c.len-last.ensures.value) c.step-place.ensures in
-    let m = root_of c.args.root.now in
+    let s = near_step c.args.root.now c.args.gap.now c.in-Some.node.now _ _ c.requires.sound c.requires.gap (subst (λ a. IsAbove c.args.root.now c.args.gap.now (option_copied a)) c.in-Some.is c.requires.above) (let some = c.requires.some in omega arith) (ap (λ k. k - 1) c.len-last.ensures.value) c.step-place.ensures in
+    let m = c.args.root.now in
     let gap = c.args.gap.now in
     let n = c.in-Some.node.now in
     let x = s.way in

@@ -1,7 +1,6 @@
 use Rattle.std.proofs.Common.{◌+◌, ◌-◌, ◌<◌, get_or, length, sym, ap, subst, ◌∙◌, arith}
 use Rattle.std.specs.Prelude.{slice_set, option_copied}
 use Rattle.fc_tree_node.specs.Node.{own_pairs, child_at}
-use Rattle.fc_tree_node.specs.Tree.{root_of}
 use Rattle.fc_tree_walk.specs.Gap.{IsAbove}
 use Rattle.fc_tree_walk.proofs.Betweens.{gap_fits}
 use Rattle.fc_tree_walk.proofs.Ways.{near_step, near_leaf, near_back}
@@ -9,23 +8,23 @@ use Rattle.fc_tree_walk.proofs.run.pass_previous.Goals as goal
 
 pub child-leaf-requires : goal.child-leaf-requires
 child-leaf-requires g c =
-    let s = near_step (root_of c.args.root.now) c.args.gap.now c.in-Some.node.now _ _ c.requires.sound c.requires.gap (subst (λ a. IsAbove (root_of c.args.root.now) c.args.gap.now (option_copied a)) c.in-Some.is c.requires.above) (let some = c.requires.some in let all = gap_fits (root_of c.args.root.now) c.requires.sound c.args.gap.now c.requires.gap in omega arith) (ap (λ k. k - 1) c.len-last.ensures.value) c.step-place.ensures in
+    let s = near_step c.args.root.now c.args.gap.now c.in-Some.node.now _ _ c.requires.sound c.requires.gap (subst (λ a. IsAbove c.args.root.now c.args.gap.now (option_copied a)) c.in-Some.is c.requires.above) (let some = c.requires.some in let all = gap_fits c.args.root.now c.requires.sound c.args.gap.now c.requires.gap in omega arith) (ap (λ k. k - 1) c.len-last.ensures.value) c.step-place.ensures in
     omega (arith, s.within, s.inner, c.if-place-gt0.true)
 
 pub set-requires-clause-small : goal.set-requires-clause-small
 set-requires-clause-small g c =
-    let s = near_step (root_of c.args.root.now) c.args.gap.now c.in-Some.node.now _ _ c.requires.sound c.requires.gap (subst (λ a. IsAbove (root_of c.args.root.now) c.args.gap.now (option_copied a)) c.in-Some.is c.requires.above) (let some = c.requires.some in let all = gap_fits (root_of c.args.root.now) c.requires.sound c.args.gap.now c.requires.gap in omega arith) (ap (λ k. k - 1) c.len-last.ensures.value) c.step-place.ensures in
+    let s = near_step c.args.root.now c.args.gap.now c.in-Some.node.now _ _ c.requires.sound c.requires.gap (subst (λ a. IsAbove c.args.root.now c.args.gap.now (option_copied a)) c.in-Some.is c.requires.above) (let some = c.requires.some in let all = gap_fits c.args.root.now c.requires.sound c.args.gap.now c.requires.gap in omega arith) (ap (λ k. k - 1) c.len-last.ensures.value) c.step-place.ensures in
     omega (arith, s.within, s.fits)
 
 pub pair-requires : goal.pair-requires
 pair-requires g c =
-    let s = near_step (root_of c.args.root.now) c.args.gap.now c.in-Some.node.now _ _ c.requires.sound c.requires.gap (subst (λ a. IsAbove (root_of c.args.root.now) c.args.gap.now (option_copied a)) c.in-Some.is c.requires.above) (let some = c.requires.some in let all = gap_fits (root_of c.args.root.now) c.requires.sound c.args.gap.now c.requires.gap in omega arith) (ap (λ k. k - 1) c.len-last.ensures.value) c.step-place.ensures in
+    let s = near_step c.args.root.now c.args.gap.now c.in-Some.node.now _ _ c.requires.sound c.requires.gap (subst (λ a. IsAbove c.args.root.now c.args.gap.now (option_copied a)) c.in-Some.is c.requires.above) (let some = c.requires.some in let all = gap_fits c.args.root.now c.requires.sound c.args.gap.now c.requires.gap in omega arith) (ap (λ k. k - 1) c.len-last.ensures.value) c.step-place.ensures in
     omega (arith, s.within, c.if-place-gt0.true)
 
 pub returns-then-step-eq0 : goal.returns-then-step-eq0
 returns-then-step-eq0 g c =
-    let s = near_step (root_of c.args.root.now) c.args.gap.now c.in-Some.node.now _ _ c.requires.sound c.requires.gap (subst (λ a. IsAbove (root_of c.args.root.now) c.args.gap.now (option_copied a)) c.in-Some.is c.requires.above) (let some = c.requires.some in let all = gap_fits (root_of c.args.root.now) c.requires.sound c.args.gap.now c.requires.gap in omega arith) (ap (λ k. k - 1) c.len-last.ensures.value) c.step-place.ensures in
-    let m = root_of c.args.root.now in
+    let s = near_step c.args.root.now c.args.gap.now c.in-Some.node.now _ _ c.requires.sound c.requires.gap (subst (λ a. IsAbove c.args.root.now c.args.gap.now (option_copied a)) c.in-Some.is c.requires.above) (let some = c.requires.some in let all = gap_fits c.args.root.now c.requires.sound c.args.gap.now c.requires.gap in omega arith) (ap (λ k. k - 1) c.len-last.ensures.value) c.step-place.ensures in
+    let m = c.args.root.now in
     let gap = c.args.gap.now in
     let n = c.in-Some.node.now in
     let x = s.way in

@@ -1,7 +1,6 @@
 use Rattle.std.proofs.Common.{◌-◌, ◌++◌, rules, arith, sym, ap, subst, ◌∙◌}
 use Rattle.std.specs.Prelude.{slice_range, slice_set}
 use Rattle.fc_tree_node.specs.Node.{own_pairs}
-use Rattle.fc_tree_node.specs.Tree.{root_of}
 use Rattle.fc_tree_walk.specs.Gap.{AreEndsIn}
 use Rattle.fc_tree_walk.specs.Span.{between}
 use Rattle.fc_tree_walk.proofs.GapFacts.{gap_small}
@@ -10,15 +9,15 @@ use Rattle.fc_tree_walk.proofs.run.take_last_of.Goals as goal
 
 pub set-requires-clause-small : goal.set-requires-clause-small
 set-requires-clause-small g c =
-    let r = back_takes (root_of c.args.root.now) _ c.args.leaf.now c.args.front.now c.args.back.now (c.len-last.result - 1) _ _ (ap root_of c.in-Some.is) c.requires.sound c.requires.ends (c.requires.leaf _ (ap root_of c.in-Some.is)) (ap (λ k. k - 1) c.len-last.ensures.value) c.reach-start.ensures.met (c.reach-start.ensures.place) in
+    let r = back_takes c.args.root.now _ c.args.leaf.now c.args.front.now c.args.back.now (c.len-last.result - 1) _ _ (ap c.in-Some.is) c.requires.sound c.requires.ends (c.requires.leaf _ (ap c.in-Some.is)) (ap (λ k. k - 1) c.len-last.ensures.value) c.reach-start.ensures.met (c.reach-start.ensures.place) in
     let fits = r.0.fits in
     let order = r.0.order in
-    let small = gap_small (root_of c.args.root.now) c.args.back.now (c.len-last.result - 1) c.requires.sound c.requires.ends.1 (search rules) in
+    let small = gap_small c.args.root.now c.args.back.now (c.len-last.result - 1) c.requires.sound c.requires.ends.1 (search rules) in
     omega (arith, order, small)
 
 pub part-requires : goal.part-requires
 part-requires g c =
-    let r = back_takes (root_of c.args.root.now) _ c.args.leaf.now c.args.front.now c.args.back.now (c.len-last.result - 1) _ _ (ap root_of c.in-Some.is) c.requires.sound c.requires.ends (c.requires.leaf _ (ap root_of c.in-Some.is)) (ap (λ k. k - 1) c.len-last.ensures.value) c.reach-start.ensures.met (c.reach-start.ensures.place) in
+    let r = back_takes c.args.root.now _ c.args.leaf.now c.args.front.now c.args.back.now (c.len-last.result - 1) _ _ (ap c.in-Some.is) c.requires.sound c.requires.ends (c.requires.leaf _ (ap c.in-Some.is)) (ap (λ k. k - 1) c.len-last.ensures.value) c.reach-start.ensures.met (c.reach-start.ensures.place) in
     let o = r.0.order in
     let f = r.0.fits in
     let i = c.step-end.ensures in
@@ -26,8 +25,8 @@ part-requires g c =
 
 pub returns : goal.returns
 returns g c =
-    let r = back_takes (root_of c.args.root.now) _ c.args.leaf.now c.args.front.now c.args.back.now (c.len-last.result - 1) _ _ (ap root_of c.in-Some.is) c.requires.sound c.requires.ends (c.requires.leaf _ (ap root_of c.in-Some.is)) (ap (λ k. k - 1) c.len-last.ensures.value) c.reach-start.ensures.met (c.reach-start.ensures.place) in
-    let m = root_of c.args.root.now in
+    let r = back_takes c.args.root.now _ c.args.leaf.now c.args.front.now c.args.back.now (c.len-last.result - 1) _ _ (ap c.in-Some.is) c.requires.sound c.requires.ends (c.requires.leaf _ (ap c.in-Some.is)) (ap (λ k. k - 1) c.len-last.ensures.value) c.reach-start.ensures.met (c.reach-start.ensures.place) in
+    let m = c.args.root.now in
     let last = c.len-last.result - 1 in
     let part = c.part.ensures ∙ ap (slice_range (own_pairs c.args.leaf.now) c.reach-start.result.0) c.step-end.ensures in
     record {

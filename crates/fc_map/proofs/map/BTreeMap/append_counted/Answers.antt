@@ -1,18 +1,18 @@
 use Rattle.std.proofs.Common.{sym, subst}
 use Rattle.fc_base.specs.Ascending.{IsAscending}
 use Rattle.fc_base.proofs.JoinedLaws.{ascending_joined}
-use Rattle.fc_map.specs.Entries.{entries, root_of}
+use Rattle.fc_map.specs.Entries.{entries}
 use Rattle.fc_map.proofs.map.BTreeMap.append_counted.Goals as goal
 
 pub invariant_of-self-2 : goal.invariant_of-self-2
 invariant_of-self-2 g c =
-    let ours = entries (root_of c.self.inside.root) in
-    let theirs = entries (root_of c.other.inside.root) in
+    let ours = entries c.self.inside.root in
+    let theirs = entries c.other.inside.root in
     let a = subst (IsAscending g.K.Ord.cmp) (sym c.in_ok-self-inside.ensures.joined) (ascending_joined g.K.Ord.cmp ours theirs g.met.K.Ord.total c.self.invariant.0) in
     (a, c.try_append.ensures.sound.0, c.in_ok-self-inside.ensures.len)
 
 pub returns-clause-ascending : goal.returns-clause-ascending
 returns-clause-ascending g c =
-    let ours = entries (root_of c.self.inside.root) in
-    let theirs = entries (root_of c.other.inside.root) in
+    let ours = entries c.self.inside.root in
+    let theirs = entries c.other.inside.root in
     subst (IsAscending g.K.Ord.cmp) (sym c.in_ok-self-inside.ensures.joined) (ascending_joined g.K.Ord.cmp ours theirs g.met.K.Ord.total c.self.invariant.0)

@@ -1,7 +1,7 @@
 use Rattle.std.proofs.Common.{◌≡◌, ◌∙◌, length, ap, arith}
 use Rattle.fc_base.specs.Ascending.{IsAscending}
 use Rattle.fc_tree_node.specs.Node.{pairs_of}
-use Rattle.fc_map.specs.Entries.{root_of, entries}
+use Rattle.fc_map.specs.Entries.{entries}
 use Rattle.fc_base.proofs.Laws.{ascending_put}
 use Rattle.fc_map.proofs.InsertFacts.{put_in}
 use Rattle.fc_map.proofs.map.BTreeMap.insert_growing.Goals as goal
@@ -16,15 +16,15 @@ pub invariant_of-self-2 : goal.invariant_of-self-2
 invariant_of-self-2 g c =
     let ok = c.in_ok-try_insert.ensures in
     let gap = rw c.in-Some.is at (rw (← c.self.view_is) at c.requires.gap) in
-    let put = put_in c.in-Some.root.value c.args.path.now (rw c.in-Some.is at c.self.invariant.1) g.K.Ord.cmp c.args.key c.args.value _ gap ok.pairs in
-    let ascending : IsAscending g.K.Ord.cmp (pairs_of c.in-Some.root.value) = rw c.in-Some.is at c.self.invariant.0 in
-    let len : c.self.inside.len ≡ length (pairs_of c.in-Some.root.value) = c.self.invariant.2 ∙ ap (λ r. length (entries (root_of r))) c.in-Some.is in
+    let put = put_in c.in-Some.root c.args.path.now (rw c.in-Some.is at c.self.invariant.1) g.K.Ord.cmp c.args.key c.args.value _ gap ok.pairs in
+    let ascending : IsAscending g.K.Ord.cmp (pairs_of c.in-Some.root) = rw c.in-Some.is at c.self.invariant.0 in
+    let len : c.self.inside.len ≡ length (pairs_of c.in-Some.root) = c.self.invariant.2 ∙ ap (λ r. length (entries r)) c.in-Some.is in
     (rw put (ascending_put g.K.Ord.cmp _ c.args.key c.args.value g.met.K.Ord.total ascending), ok.sound, omega (arith, ok.length, len))
 
 pub returns-clause-put : goal.returns-clause-put
 returns-clause-put g c =
     let gap = rw c.in-Some.is at (rw (← c.self.view_is) at c.requires.gap) in
-    rw (← c.self.view_is) (rw c.in-Some.is (put_in c.in-Some.root.value c.args.path.now (rw c.in-Some.is at c.self.invariant.1) g.K.Ord.cmp c.args.key c.args.value _ gap c.in_ok-try_insert.ensures.pairs))
+    rw (← c.self.view_is) (rw c.in-Some.is (put_in c.in-Some.root c.args.path.now (rw c.in-Some.is at c.self.invariant.1) g.K.Ord.cmp c.args.key c.args.value _ gap c.in_ok-try_insert.ensures.pairs))
 
 pub returns-clause-ascending : goal.returns-clause-ascending
 returns-clause-ascending g c = (invariant_of-self-2 g c).0

@@ -1,7 +1,7 @@
 use Rattle.std.proofs.Common.{◌≡◌, ◌∙◌, length, ap, arith}
 use Rattle.fc_base.specs.Ascending.{IsAscending}
 use Rattle.fc_tree_node.specs.Node.{pairs_of}
-use Rattle.fc_map.specs.Entries.{root_of, entries}
+use Rattle.fc_map.specs.Entries.{entries}
 use Rattle.fc_base.proofs.Laws.{ascending_put}
 use Rattle.fc_map.proofs.InsertFacts.{put_in}
 use Rattle.fc_map.proofs.map.BTreeMap.insert_ready.Goals as goal
@@ -14,18 +14,18 @@ insert_ready-requires-clause-levels g c = let ready = rw c.in-Some.is at (rw (�
 
 pub invariant_of-self-2 : goal.invariant_of-self-2
 invariant_of-self-2 g c =
-    let root = c.in-Some.root.value in
+    let root = c.in-Some.root in
     let ok = c.insert_ready.ensures in
     let ready = rw c.in-Some.is at (rw (← c.self.view_is) at c.requires) in
     let sound = rw c.in-Some.is at c.self.invariant.1 in
     let put = put_in root c.args.path.now sound g.K.Ord.cmp c.args.pair.0 c.args.pair.1 _ ready.0 ok.pairs in
     let ascending : IsAscending g.K.Ord.cmp (pairs_of root) = rw c.in-Some.is at c.self.invariant.0 in
-    let len : c.self.inside.len ≡ length (pairs_of root) = c.self.invariant.2 ∙ ap (λ r. length (entries (root_of r))) c.in-Some.is in
+    let len : c.self.inside.len ≡ length (pairs_of root) = c.self.invariant.2 ∙ ap (λ r. length (entries r)) c.in-Some.is in
     (rw put (ascending_put g.K.Ord.cmp _ c.args.pair.0 c.args.pair.1 g.met.K.Ord.total ascending), ok.sound, omega (arith, ok.length, len))
 
 pub returns-clause-put : goal.returns-clause-put
 returns-clause-put g c =
-    let root = c.in-Some.root.value in
+    let root = c.in-Some.root in
     let ready = rw c.in-Some.is at (rw (← c.self.view_is) at c.requires) in
     let sound = rw c.in-Some.is at c.self.invariant.1 in
     let put = put_in root c.args.path.now sound g.K.Ord.cmp c.args.pair.0 c.args.pair.1 _ ready.0 c.insert_ready.ensures.pairs in

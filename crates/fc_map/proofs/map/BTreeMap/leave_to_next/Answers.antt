@@ -1,5 +1,4 @@
 use Rattle.std.proofs.Common.{◌-◌, ◌<◌, length, Some, arith, refl, sym, ap, subst, ◌∙◌}
-use Rattle.fc_map.specs.Entries.{root_of}
 use Rattle.fc_tree_walk.specs.Gap.{IsGapIn}
 use Rattle.fc_tree_node.specs.TreePlace.{before_gap_in}
 use Rattle.fc_map.proofs.EndFacts.{steps_fit, on_tree, step_out, IsStepOn}
@@ -16,7 +15,7 @@ pub pass_next-last-requires : goal.pass_next-last-requires
 pass_next-last-requires g c =
     let m = c.args.self.now in
     let n = c.deref-root.result.now in
-    let is = sym c.self.view_is ∙ ap root_of c.in-Some.is ∙ ap Some (sym c.deref-root.ensures) in
+    let is = sym c.self.view_is ∙ ap c.in-Some.is ∙ ap Some (sym c.deref-root.ensures) in
     let sound = rw c.self.view_is at c.self.invariant.1 in
     let q = c.go_on.new.gap in
     let slot : IsGapIn m q = subst (IsGapIn m) (sym c.go_on.ensures) c.requires.gap in
@@ -29,7 +28,7 @@ pub returns : goal.returns
 returns g c =
     let m = c.args.self.now in
     let n = c.deref-root.result.now in
-    let is = sym c.self.view_is ∙ ap root_of c.in-Some.is ∙ ap Some (sym c.deref-root.ensures) in
+    let is = sym c.self.view_is ∙ ap c.in-Some.is ∙ ap Some (sym c.deref-root.ensures) in
     let sound = rw c.self.view_is at c.self.invariant.1 in
     let q = c.go_on.new.gap in
     let slot : IsGapIn m q = subst (IsGapIn m) (sym c.go_on.ensures) c.requires.gap in

@@ -1,6 +1,5 @@
 use Rattle.std.proofs.Common.{◌≡◌, ◌-◌, ◌∷◌, ◌++◌, [], take, get_or, length, Some, arith, sym, ap, subst, ◌∙◌}
 use Rattle.fc_tree_node.specs.Place.{before_pair}
-use Rattle.fc_map.specs.Entries.{root_of}
 use Rattle.fc_tree_walk.specs.Gap.{GoesOn}
 use Rattle.fc_tree_walk.proofs.GapFacts.{IsLast, some_last, place_back, stepped_before}
 use Rattle.fc_map.proofs.map.BTreeMap.leave_to_previous.Goals as goal
@@ -9,7 +8,7 @@ pub overflow_sub-gap : goal.overflow_sub-gap
 overflow_sub-gap g c =
     let m = c.args.self.now in
     let p = c.as_slice-gap.result.now in
-    let is = sym c.self.view_is ∙ ap root_of c.in-Some.is ∙ ap Some (sym c.deref-root.ensures) in
+    let is = sym c.self.view_is ∙ ap c.in-Some.is ∙ ap Some (sym c.deref-root.ensures) in
     let e = c.steps_to_previous-last.ensures in
     let last : IsLast p c.deref-root.result.now c.steps_to_previous-last.result = record { within = e.within; none = e.none; place = e.place; before = e.before; step = e.step } in
     let some = some_last m _ p c.steps_to_previous-last.result is last (rw c.as_slice-gap.ensures.value c.requires.some) in
@@ -20,7 +19,7 @@ pub push_gap_before-requires-clause-place : goal.push_gap_before-requires-clause
 push_gap_before-requires-clause-place g c =
     let m = c.args.self.now in
     let p = c.as_slice-gap.result.now in
-    let is = sym c.self.view_is ∙ ap root_of c.in-Some.is ∙ ap Some (sym c.deref-root.ensures) in
+    let is = sym c.self.view_is ∙ ap c.in-Some.is ∙ ap Some (sym c.deref-root.ensures) in
     let e = c.steps_to_previous-last.ensures in
     let last : IsLast p c.deref-root.result.now c.steps_to_previous-last.result = record { within = e.within; none = e.none; place = e.place; before = e.before; step = e.step } in
     let some = some_last m _ p c.steps_to_previous-last.result is last (rw c.as_slice-gap.ensures.value c.requires.some) in
@@ -34,7 +33,7 @@ returns g c =
     let p = c.as_slice-gap.result.now in
     let same = c.as_slice-gap.ensures.value in
     let n = c.deref-root.result.now in
-    let is = sym c.self.view_is ∙ ap root_of c.in-Some.is ∙ ap Some (sym c.deref-root.ensures) in
+    let is = sym c.self.view_is ∙ ap c.in-Some.is ∙ ap Some (sym c.deref-root.ensures) in
     let e = c.steps_to_previous-last.ensures in
     let last : IsLast p n c.steps_to_previous-last.result = record { within = e.within; none = e.none; place = e.place; before = e.before; step = e.step } in
     let some = some_last m _ p c.steps_to_previous-last.result is last (rw same c.requires.some) in

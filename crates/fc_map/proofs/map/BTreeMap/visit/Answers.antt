@@ -1,5 +1,4 @@
 use Rattle.std.proofs.Common.{◌-◌, length, sym, subst, ◌∙◌, arith}
-use Rattle.fc_map.specs.Entries.{root_of}
 use Rattle.fc_tree_walk.specs.Gap.{AreEndsIn}
 use Rattle.fc_map.proofs.EndFacts.{steps_fit}
 use Rattle.fc_map.proofs.map.BTreeMap.visit.Goals as goal
@@ -12,7 +11,7 @@ go_on-requires g c = record {
 }
 
 pub visit_tree-requires-clause-ends : goal.visit_tree-requires-clause-ends
-visit_tree-requires-clause-ends g c = subst (λ p. AreEndsIn (root_of c.self.inside.root) p c.args.back.now) (sym c.go_on.ensures) (rw (← c.self.view_is) at c.requires.ends)
+visit_tree-requires-clause-ends g c = subst (λ p. AreEndsIn c.self.inside.root p c.args.back.now) (sym c.go_on.ensures) (rw (← c.self.view_is) at c.requires.ends)
 
 pub invariant_of-self : goal.invariant_of-self
 invariant_of-self g c =

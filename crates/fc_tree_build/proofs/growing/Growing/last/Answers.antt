@@ -14,9 +14,9 @@ returns-then-len-gt0 g c =
     let b = ap (λ n. length (own_pairs n)) c.deref-then-len-gt0-2.ensures in
     let n = c.len-then-len-gt0.ensures.value in
     let i = c.len-then-len-gt0.result - 1 in
-    let own = own_pairs c.in-Some.leaf.value in
+    let own = own_pairs c.in-Some.leaf in
     let p = c.pair.ensures ∙ ap (λ n. slice_index_or (own_pairs n) (c.len-then-len-gt0.result - 1) c.pair.result.now) c.deref-then-len-gt0.ensures in
-    let l = last_taken (own_pairs c.in-Some.leaf.value) (c.len-then-len-gt0.result - 1) c.pair.result.now (omega arith) p in (
+    let l = last_taken (own_pairs c.in-Some.leaf) (c.len-then-len-gt0.result - 1) c.pair.result.now (omega arith) p in (
       before_back c.self.inside.spine ++ take i own,
       sym c.self.view_is ∙ ap (λ o. before_back c.self.inside.spine ++ last_pairs o) c.in-Some.is ∙ ap (λ ps. before_back c.self.inside.spine ++ ps) l ∙ sym (append_assoc (before_back c.self.inside.spine) (take i own) (c.pair.result.now ∷ [])),
     )

@@ -6,7 +6,7 @@ use Rattle.fc_tree_insertion.proofs.room.Room.take_for.Goals as goal
 
 pub take_new_nodes-requires-clause-enough : goal.take_new_nodes-requires-clause-enough
 take_new_nodes-requires-clause-enough g c =
-    let root = c.args.root.now.value in
+    let root = c.args.root.now in
     let path = c.args.path.now in
     let steps = c.requires.levels c.requires.sound.0 c.requires.sound.2.1 in
     let room = c.self.inside in
@@ -18,7 +18,7 @@ take_new_nodes-requires-clause-enough g c =
 
 pub invariant_of-self : goal.invariant_of-self
 invariant_of-self g c =
-    let root = c.args.root.now.value in
+    let root = c.args.root.now in
     let path = c.args.path.now in
     let steps = c.requires.levels c.requires.sound.0 c.requires.sound.2.1 in
     let room = c.self.inside in

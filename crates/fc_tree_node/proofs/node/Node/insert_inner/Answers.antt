@@ -1,14 +1,13 @@
 use Rattle.std.proofs.Common.{◌+◌, length, sym, ap, ◌∙◌, arith}
-use Rattle.fc_tree_node.specs.Node.{boxed}
 use Rattle.std.specs.List.{insert}
 use Rattle.std.proofs.lemmas.List.Edits.{length-insert}
-use Rattle.fc_tree_node.proofs.Made.{own_made, children_made, inner_made, boxed_insert, children_in, inner_length}
+use Rattle.fc_tree_node.proofs.Made.{own_made, children_made, inner_made, children_in, inner_length}
 use Rattle.fc_tree_node.proofs.Places.{inserted_pairs}
 use Rattle.fc_tree_node.proofs.node.Node.insert_inner.Goals as goal
 
 pub returns-clause-children : goal.returns-clause-children
 returns-clause-children g c =
-    children_made _ ∙ ap boxed c.insert-2.ensures ∙ boxed_insert c.in-Some.children _ _ ∙ ap (λ cs. insert cs (c.args.index + 1) c.args.child.value) (sym (children_in _ _ c.in-Some.is))
+    children_made _ ∙ c.insert-2.ensures ∙ ap (λ cs. insert cs (c.args.index + 1) c.args.child) (sym (children_in _ _ c.in-Some.is))
 
 pub returns-clause-inner : goal.returns-clause-inner
 returns-clause-inner g c =
@@ -19,4 +18,4 @@ returns-clause-inner g c =
 
 pub returns-clause-all_pairs : goal.returns-clause-all_pairs
 returns-clause-all_pairs g c =
-    inserted_pairs c.args.self.now c.args.index c.requires.inner c.requires.in_bounds _ c.args.child.value c.args.pair (own_made _ ∙ c.insert.ensures.items) (returns-clause-children g c)
+    inserted_pairs c.args.self.now c.args.index c.requires.inner c.requires.in_bounds _ c.args.child c.args.pair (own_made _ ∙ c.insert.ensures.items) (returns-clause-children g c)

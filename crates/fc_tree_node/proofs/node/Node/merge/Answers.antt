@@ -1,28 +1,28 @@
-use Rattle.std.proofs.Common.{◌+◌, refl, arith}
+use Rattle.std.proofs.Common.{◌+◌, arith}
 use Rattle.fc_tree_node.proofs.Made.{inner_length}
-use Rattle.fc_tree_node.proofs.Shared.{boxed_child, kept_child, merge_made}
+use Rattle.fc_tree_node.proofs.Shared.{listed_child, kept_child, merge_made}
 use Rattle.fc_tree_node.proofs.Siblings.{merged_inner, merged_pairs}
 use Rattle.fc_tree_node.proofs.node.Node.merge.Goals as goal
 
 pub join-requires-clause-alike : goal.join-requires-clause-alike
 join-requires-clause-alike g c =
     let n = inner_length c.args.self.now _ c.in-Some.is c.requires.inner in
-    let r = boxed_child c.args.self.now c.args.index _ c.in-Some.is (c.args.index + 1) _ c.remove-right.result.value (omega arith) c.remove-right.ensures.value refl in
-    let l = kept_child c.args.self.now c.args.index _ c.in-Some.is _ _ c.deref_mut-left.result.now (omega arith) c.remove-right.ensures.items c.get_mut.ensures.value c.deref_mut-left.ensures.value in
+    let r = listed_child c.args.self.now c.args.index _ c.in-Some.is (c.args.index + 1) c.remove-right.result (omega arith) c.remove-right.ensures.value in
+    let l = kept_child c.args.self.now c.args.index _ c.in-Some.is _ c.get_mut-left.result.now (omega arith) c.remove-right.ensures.items c.get_mut-left.ensures.value in
     rw (l, r) c.requires.alike
 
 pub join-requires-clause-room : goal.join-requires-clause-room
 join-requires-clause-room g c =
     let n = inner_length c.args.self.now _ c.in-Some.is c.requires.inner in
-    let r = boxed_child c.args.self.now c.args.index _ c.in-Some.is (c.args.index + 1) _ c.remove-right.result.value (omega arith) c.remove-right.ensures.value refl in
-    let l = kept_child c.args.self.now c.args.index _ c.in-Some.is _ _ c.deref_mut-left.result.now (omega arith) c.remove-right.ensures.items c.get_mut.ensures.value c.deref_mut-left.ensures.value in
+    let r = listed_child c.args.self.now c.args.index _ c.in-Some.is (c.args.index + 1) c.remove-right.result (omega arith) c.remove-right.ensures.value in
+    let l = kept_child c.args.self.now c.args.index _ c.in-Some.is _ c.get_mut-left.result.now (omega arith) c.remove-right.ensures.items c.get_mut-left.ensures.value in
     rw (l, r) c.requires.room
 
 pub returns-clause-merged : goal.returns-clause-merged
 returns-clause-merged g c =
     let n = inner_length c.args.self.now _ c.in-Some.is c.requires.inner in
-    let r = boxed_child c.args.self.now c.args.index _ c.in-Some.is (c.args.index + 1) _ c.remove-right.result.value (omega arith) c.remove-right.ensures.value refl in
-    let l = kept_child c.args.self.now c.args.index _ c.in-Some.is _ _ c.deref_mut-left.result.now (omega arith) c.remove-right.ensures.items c.get_mut.ensures.value c.deref_mut-left.ensures.value in
+    let r = listed_child c.args.self.now c.args.index _ c.in-Some.is (c.args.index + 1) c.remove-right.result (omega arith) c.remove-right.ensures.value in
+    let l = kept_child c.args.self.now c.args.index _ c.in-Some.is _ c.get_mut-left.result.now (omega arith) c.remove-right.ensures.items c.get_mut-left.ensures.value in
     merge_made c.args.self.now c.args.index _ c.in-Some.is _ c.remove-pair.result _ _ c.requires.in_bounds c.remove-pair.ensures.items c.remove-right.ensures.items c.remove-pair.ensures.value
     (rw (← l, ← r) c.join.ensures.pairs) (rw (← l, ← r) c.join.ensures.children) (rw (← l) c.join.ensures.alike)
 

@@ -1,7 +1,7 @@
 use Rattle.std.proofs.Common.{◌≡◌, ◌+◌, ◌++◌, length, take, drop, sym, ap, ◌∙◌, arith, length-append}
-use Rattle.std.proofs.lemmas.List.{length-take, length-drop, take-map, drop-map}
-use Rattle.fc_tree_node.specs.Node.{children_of, boxed}
-use Rattle.fc_tree_node.proofs.Made.{children_made, children_in, inner_length, boxed_append, own_made, field_made}
+use Rattle.std.proofs.lemmas.List.{length-take, length-drop}
+use Rattle.fc_tree_node.specs.Node.{children_of}
+use Rattle.fc_tree_node.proofs.Made.{children_made, children_in, inner_length, own_made, field_made}
 use Rattle.fc_tree_node.proofs.Formed.{alike_opened, alike_traded, alike_both, alike_back}
 use Rattle.fc_tree_node.proofs.Places.{front_pairs, back_pairs, leaf_front, leaf_back}
 use Rattle.fc_tree_node.proofs.node.Node.move_suffix.Goals as goal
@@ -10,14 +10,14 @@ pub returns-in-Some-Some-clause-children : goal.returns-in-Some-Some-clause-chil
 returns-in-Some-Some-clause-children g c =
     let p = ap length c.move_tail.ensures.items in
     let k : c.len-kept.result + 1 ≡ c.args.at + 1 = grind (arith, length-take) in
-    children_made _ ∙ ap boxed c.move_tail-in-Some-Some.ensures.items ∙ sym (take-map _ _ c.in-Some-Some.children) ∙ ap (λ j. take j (boxed c.in-Some-Some.children)) k ∙ ap (take (c.args.at + 1)) (sym (children_in _ _ c.in-Some-Some.is-0))
+    children_made _ ∙ c.move_tail-in-Some-Some.ensures.items ∙ ap (λ j. take j c.in-Some-Some.children) k ∙ ap (take (c.args.at + 1)) (sym (children_in _ _ c.in-Some-Some.is-0))
 
 pub returns-in-Some-Some-clause-other_children : goal.returns-in-Some-Some-clause-other_children
 returns-in-Some-Some-clause-other_children g c =
     let p = ap length c.move_tail.ensures.items in
     let k : c.len-kept.result + 1 ≡ c.args.at + 1 = grind (arith, length-take) in
-    children_made _ ∙ ap boxed c.move_tail-in-Some-Some.ensures.other ∙ boxed_append c.in-Some-Some.other_children _ ∙ ap (λ cs. cs ++ boxed (drop (c.len-kept.result + 1) c.in-Some-Some.children)) (sym (children_in _ _ c.in-Some-Some.is-1))
-    ∙ ap (λ cs. children_of c.args.other.now ++ cs) (sym (drop-map _ _ c.in-Some-Some.children) ∙ ap (λ j. drop j (boxed c.in-Some-Some.children)) k ∙ ap (drop (c.args.at + 1)) (sym (children_in _ _ c.in-Some-Some.is-0)))
+    children_made _ ∙ c.move_tail-in-Some-Some.ensures.other ∙ ap (λ cs. cs ++ drop (c.len-kept.result + 1) c.in-Some-Some.children) (sym (children_in _ _ c.in-Some-Some.is-1))
+    ∙ ap (λ cs. children_of c.args.other.now ++ cs) (ap (λ j. drop j c.in-Some-Some.children) k ∙ ap (drop (c.args.at + 1)) (sym (children_in _ _ c.in-Some-Some.is-0)))
 
 pub returns-in-Some-Some-clause-alike : goal.returns-in-Some-Some-clause-alike
 returns-in-Some-Some-clause-alike g c =

@@ -1,8 +1,8 @@
 use Rattle.std.proofs.Common.{◌≡◌, ◌+◌, ◌-◌, [], ◌∷◌, ◌++◌, length, sym, ap, ◌∙◌, arith}
 use Rattle.std.proofs.lemmas.List.Edits.{length-remove}
-use Rattle.fc_tree_node.specs.Node.{own_pairs, boxed}
+use Rattle.fc_tree_node.specs.Node.{own_pairs}
 use Rattle.fc_tree_node.proofs.Cuts.{last_out}
-use Rattle.fc_tree_node.proofs.Made.{own_made, children_made, children_in, inner_length, boxed_append}
+use Rattle.fc_tree_node.proofs.Made.{own_made, children_made, children_in, inner_length}
 use Rattle.fc_tree_node.proofs.Formed.{inner_opened, alike_made}
 use Rattle.fc_tree_node.proofs.node.Node.take_last.Goals as goal
 
@@ -15,8 +15,8 @@ pub returns-in-Some-clause-children : goal.returns-in-Some-clause-children
 returns-in-Some-clause-children g c =
     let n = inner_length c.args.self.now _ c.in-Some.is (inner_opened _ _ c.in-Some.is c.requires.formed) in
     let k : c.len-last-in-Some.result - 1 + 1 ≡ length c.in-Some.children = omega arith in
-    children_in _ _ c.in-Some.is ∙ ap boxed (last_out _ _ _ k c.remove-child.ensures.value ∙ ap (λ ps. ps ++ c.remove-child.result ∷ []) (sym c.remove-child.ensures.items))
-    ∙ boxed_append c.remove-child.new.self (c.remove-child.result ∷ []) ∙ ap (λ cs. cs ++ c.remove-child.result.value ∷ []) (sym (children_made _))
+    children_in _ _ c.in-Some.is ∙ last_out _ _ _ k c.remove-child.ensures.value
+    ∙ ap (λ cs. cs ++ c.remove-child.result ∷ []) (sym c.remove-child.ensures.items ∙ sym (children_made _))
 
 pub returns-in-Some-clause-alike : goal.returns-in-Some-clause-alike
 returns-in-Some-clause-alike g c =
