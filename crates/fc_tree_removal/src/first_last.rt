@@ -3,53 +3,53 @@ ghost use Rattle.std.specs.Prelude.{◌≡◌, ℕ, ◌+◌, ◌*◌, ◌<◌, �
 ghost use Rattle.fc_base.specs.Sizes.{capacity, level_moves};
 ghost use Rattle.fc_tree_node.specs.Node.{pairs_of, IsSoundRoot};
 ghost use Rattle.fc_tree_node.specs.Tree.{entries};
-ghost use Rattle.fc_tree_removal.specs.Removal.{IsTreeLeft};
+ghost use Rattle.fc_tree_removal.specs.Removal.{IsSoundTree, IsTreeLeft};
 ghost use Rattle.fc_tree_node.specs.Shrunk.{IsShrunk};
 
-use crate::removal::{mend_child, remove_first, without_empty_root};
+use crate::removal::{mend_child, remove_first, take_empty_root};
 use fc_base::Count;
 use fc_tree_node::node::Node;
 
-/// Takes the first pair out of the tree below `root`, and hands out what is left of the tree: none where that was the only pair.
-/// It compares nothing and takes no memory.
-pub fn take_first<K: Drop, V: Drop>(
-    root: Node<K, V>,
-    count: &mut Count,
-) -> ((K, V), Option<Node<K, V>>)
-    requires { (h : ℕ) × IsSoundRoot h root }
-    ensures pairs { pairs_of root ≡ result.0 ∷ entries result.1 }
+/// Takes the first pair out of the tree, of which nothing is left where that was the only pair. It compares nothing and takes no memory.
+pub fn take_first<K: Drop, V: Drop>(tree: &mut Option<Node<K, V>>, count: &mut Count) -> (K, V)
+    requires { (h : ℕ) × IsSoundTree h tree.old }
+    ensures pairs { entries tree.old ≡ result ∷ entries tree.new }
 
     // The tree is as high as before or one level lower.
-    ensures levels { (h : ℕ) → IsSoundRoot h root → IsTreeLeft h result.1 }
-    ensures moves { (h : ℕ) → IsSoundRoot h root → count.new.moves ≤ count.old.moves + level_moves * (h + 1) }
+    ensures levels { (h : ℕ) → IsSoundTree h tree.old → IsTreeLeft h tree.new }
+    ensures moves { (h : ℕ) → IsSoundTree h tree.old → count.new.moves ≤ count.old.moves + level_moves * (h + 1) }
     ensures moved { count.old.moves < count.new.moves }
     ensures comparisons { count.new.comparisons ≡ count.old.comparisons }
 {
-    let mut root = root;
-    let node: &mut Node<K, V> = &mut root;
+    let Some(root) = tree else { unreachable!() };
+    let node: &mut Node<K, V> = root;
     let pair = remove_first(node, count);
-    (pair, without_empty_root(root))
+    if node.len() > 0 {
+        return pair;
+    }
+    take_empty_root(tree);
+    pair
 }
 
-/// Takes the last pair out of the tree below `root`, and hands out what is left of the tree: none where that was the only pair.
-/// It compares nothing and takes no memory.
-pub fn take_last<K: Drop, V: Drop>(
-    root: Node<K, V>,
-    count: &mut Count,
-) -> ((K, V), Option<Node<K, V>>)
-    requires { (h : ℕ) × IsSoundRoot h root }
-    ensures pairs { pairs_of root ≡ entries result.1 ++ result.0 ∷ [] }
+/// Takes the last pair out of the tree, of which nothing is left where that was the only pair. It compares nothing and takes no memory.
+pub fn take_last<K: Drop, V: Drop>(tree: &mut Option<Node<K, V>>, count: &mut Count) -> (K, V)
+    requires { (h : ℕ) × IsSoundTree h tree.old }
+    ensures pairs { entries tree.old ≡ entries tree.new ++ result ∷ [] }
 
     // The tree is as high as before or one level lower.
-    ensures levels { (h : ℕ) → IsSoundRoot h root → IsTreeLeft h result.1 }
-    ensures moves { (h : ℕ) → IsSoundRoot h root → count.new.moves ≤ count.old.moves + level_moves * (h + 1) }
+    ensures levels { (h : ℕ) → IsSoundTree h tree.old → IsTreeLeft h tree.new }
+    ensures moves { (h : ℕ) → IsSoundTree h tree.old → count.new.moves ≤ count.old.moves + level_moves * (h + 1) }
     ensures moved { count.old.moves < count.new.moves }
     ensures comparisons { count.new.comparisons ≡ count.old.comparisons }
 {
-    let mut root = root;
-    let node: &mut Node<K, V> = &mut root;
+    let Some(root) = tree else { unreachable!() };
+    let node: &mut Node<K, V> = root;
     let pair = remove_last(node, count);
-    (pair, without_empty_root(root))
+    if node.len() > 0 {
+        return pair;
+    }
+    take_empty_root(tree);
+    pair
 }
 
 /// Takes the last pair in the node or below it out. The levels below the node stay, and the node itself may lose a pair.

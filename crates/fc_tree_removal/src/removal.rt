@@ -44,7 +44,7 @@ pub fn remove<K: Drop, V: Drop>(
 
 // Takes a root without pairs out of the tree. It is not inlined, since few removals come to it.
 #[inline(never)]
-fn take_empty_root<K: Drop, V: Drop>(tree: &mut Option<Node<K, V>>)
+pub(crate) fn take_empty_root<K: Drop, V: Drop>(tree: &mut Option<Node<K, V>>)
     requires { (root : Node K V) × (tree.old ≡ Some root) × (h : ℕ) × IsLevelled h root }
     ensures pairs { entries tree.new ≡ entries tree.old }
     ensures levels { (root : Node K V) → tree.old ≡ Some root → (h : ℕ) → IsLevelled h root → IsTreeLeft h tree.new }
@@ -56,7 +56,7 @@ fn take_empty_root<K: Drop, V: Drop>(tree: &mut Option<Node<K, V>>)
 }
 
 // A root without pairs gives way to its only child.
-pub(crate) fn without_empty_root<K: Drop, V: Drop>(root: Node<K, V>) -> Option<Node<K, V>>
+fn without_empty_root<K: Drop, V: Drop>(root: Node<K, V>) -> Option<Node<K, V>>
     requires { (h : ℕ) × IsLevelled h root }
     ensures pairs { entries result ≡ pairs_of root }
     ensures levels { (h : ℕ) → IsLevelled h root → IsTreeLeft h result }

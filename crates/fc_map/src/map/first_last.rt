@@ -64,9 +64,10 @@ impl<K: Ord + Drop, V: Drop> BTreeMap<K, V> {
         ensures moved { OnSome result (count.old.moves < count.new.moves) }
         ensures bounded { IsBounded (length (entries self.old)) count.old count.new }
     {
-        let root = self.root.take()?;
-        let (pair, rest) = take_first(root, count);
-        self.root = rest;
+        if self.root.is_none() {
+            return None;
+        }
+        let pair = take_first(&mut self.root, count);
         self.len -= 1;
         Some(pair)
     }
@@ -93,9 +94,10 @@ impl<K: Ord + Drop, V: Drop> BTreeMap<K, V> {
         ensures moved { OnSome result (count.old.moves < count.new.moves) }
         ensures bounded { IsBounded (length (entries self.old)) count.old count.new }
     {
-        let root = self.root.take()?;
-        let (pair, rest) = take_last(root, count);
-        self.root = rest;
+        if self.root.is_none() {
+            return None;
+        }
+        let pair = take_last(&mut self.root, count);
         self.len -= 1;
         Some(pair)
     }
