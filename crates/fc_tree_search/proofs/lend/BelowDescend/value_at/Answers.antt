@@ -14,7 +14,7 @@ returns-else-way-eq0 g c =
     let way = c.args.way.now in
     let p = c.args.place in
     let n = c.args.node.now in
-    let same = child_in way p n c.content.result.now c.get_mut.result.now c.deref_mut.result.now c.content.ensures.value c.if-way-eq0.false c.get_mut.ensures.value c.deref_mut.ensures.value c.requires.place in (
-      (refl, λ w. below_written way p n c.content.result.now c.get_mut.result.now c.deref_mut.result.now w c.content.ensures.value c.if-way-eq0.false c.get_mut.ensures.value c.deref_mut.ensures.value c.requires.place),
-      record { writes_back = tt; value = ap (option_map (λ e. e.1)) (below_pair way p n c.deref_mut.result.now c.if-way-eq0.false same) ∙ c.value_at.ensures.value },
+    let same = child_in way p n c.content.result.now c.get_mut.result.now c.content.ensures.value c.if-way-eq0.false c.get_mut.ensures.value c.requires.place in (
+      (refl, λ w. below_written way p n c.content.result.now c.get_mut.result.now w c.content.ensures.value c.if-way-eq0.false c.get_mut.ensures.value c.requires.place),
+      record { writes_back = tt; value = ap (option_map (λ e. e.1)) (below_pair way p n c.get_mut.result.now c.if-way-eq0.false same) ∙ c.value_at.ensures.value },
     )
