@@ -15,7 +15,8 @@ module _ {K V : Type 0} where
   abbrev pub nodes_of : Node K V → ℕ
   nodes_of = fold-Node K V ℕ nodes_step
 
-  folded : (ps : List (K × V)) (o : Option (List (Node K V))) → nodes_step (map-Node K V (Node K V) ℕ nodes_of (record { pairs = ps; children = o })) ≡ suc (total (map nodes_of (items_or_none o)))
+  folded : (ps : List (K × V)) (o : Option (List (Node K V)))
+      → nodes_step (map-Node K V (Node K V) ℕ nodes_of (record { pairs = ps; children = o })) ≡ suc (total (map nodes_of (items_or_none o)))
   folded ps None = refl
   folded ps (Some cs) = refl
 

@@ -26,7 +26,8 @@ module _ {K Q V : Type 0} (cmp : K → Q → Ordering) (k : Q) where
   abbrev pub passed_in : List (K × V) → List ℕ → ℕ
   passed_in s ns = lower_count cmp k s + stop_count cmp k s + down_count cmp k s ns
 
-  folded : (ps : List (K × V)) (o : Option (List (Node K V))) → passed_step cmp k (map-Node K V (Node K V) ℕ (passed cmp k) (record { pairs = ps; children = o })) ≡ passed_in ps (map (passed cmp k) (items_or_none o))
+  folded : (ps : List (K × V)) (o : Option (List (Node K V)))
+      → passed_step cmp k (map-Node K V (Node K V) ℕ (passed cmp k) (record { pairs = ps; children = o })) ≡ passed_in ps (map (passed cmp k) (items_or_none o))
   folded ps None = refl
   folded ps (Some cs) = refl
 

@@ -30,7 +30,8 @@ module _ {K Q V : Type 0} (cmp : K → Q → Ordering) (k : Q) where
   abbrev way_in : List (K × V) → List (List ℕ) → List ℕ
   way_in s paths = lower_count cmp k s ∷ onward cmp k s paths
 
-  folded : (ps : List (K × V)) (o : Option (List (Node K V))) → way_step cmp k (map-Node K V (Node K V) (List ℕ) (path_to cmp k) (record { pairs = ps; children = o })) ≡ way_in ps (map (path_to cmp k) (items_or_none o))
+  folded : (ps : List (K × V)) (o : Option (List (Node K V)))
+      → way_step cmp k (map-Node K V (Node K V) (List ℕ) (path_to cmp k) (record { pairs = ps; children = o })) ≡ way_in ps (map (path_to cmp k) (items_or_none o))
   folded ps None = refl
   folded ps (Some cs) = refl
 

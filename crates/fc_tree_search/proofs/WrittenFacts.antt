@@ -2,7 +2,7 @@
 use Rattle.std.proofs.Common.{◌≡◌, ℕ, zero, suc, ◌+◌, ◌-◌, ◌<◌, List, [], ◌∷◌, ◌++◌, length, take, drop, get_or, slice_get, slice_set, Option, Some, refl, sym, ap, subst, ◌∙◌, arith, add-one}
 use Rattle.std.specs.Option.{option_map}
 use Rattle.fc_tree_node.specs.declared.node.Node.{Node, out-Node, roll-Node}
-use Rattle.fc_tree_node.specs.Node.{items_or_none, own_pairs, children_of, child_at}
+use Rattle.fc_tree_node.specs.Node.{own_pairs, children_of, child_at}
 use Rattle.fc_tree_node.specs.Place.{IsPlace, place_pair}
 use Rattle.fc_tree_search.specs.Written.{set_value, with_value, with_child, written}
 use Rattle.fc_tree_node.proofs.Gaps.{drop_item, drop_all, item_there}
@@ -112,13 +112,14 @@ module _ {K V : Type 0} where
 pub below_written : {K V : Type 0} (way : List ℕ) (p : ℕ) (n : Node K V) (cs : List (Node K V)) (c : Node K V) (w : V) → (out-Node K V n).children ≡ Some cs
     → (length way ≡ 0 → ⊥) → c ≡ get_or cs (get_or way 0 0) c → IsPlace (way ++ p ∷ []) n
     → roll-Node K V (record {
-        pairs = own_pairs n;
-        children = Some (slice_set cs (get_or way 0 0) (written c (later_steps way ++ p ∷ []) w));
-      }) ≡ written n (way ++ p ∷ []) w
+      pairs = own_pairs n;
+      children = Some (slice_set cs (get_or way 0 0) (written c (later_steps way ++ p ∷ []) w));
+    }) ≡ written n (way ++ p ∷ []) w
 below_written [] p n cs c w is more at q = absurd (more refl)
 below_written {K} {V} (i ∷ way) p n cs c w is more at q =
     let same = child_in (i ∷ way) p n cs c is more at q in
-    let made : Node K V → Option (List (Node K V)) → Node K V = λ new o. roll-Node K V (record { pairs = own_pairs n; children = option_map (λ ds. slice_set ds i new) o }) in
+    let made : Node K V → Option (List (Node K V)) → Node K V = λ new o.
+    roll-Node K V (record { pairs = own_pairs n; children = option_map (λ ds. slice_set ds i new) o }) in
     ap (λ r. made (written c (r ++ p ∷ []) w) (Some cs)) (after_is way i)
     ∙ ap (λ m. made (written m (way ++ p ∷ []) w) (Some cs)) same
     ∙ ap (made (written (child_at n i) (way ++ p ∷ []) w)) (sym is)
