@@ -1,15 +1,25 @@
-use Rattle.std.proofs.Common.{◌-◌, ◌++◌, rules, arith, sym, ap, subst, ◌∙◌}
-use Rattle.std.specs.Prelude.{slice_range, slice_set}
+use Rattle.std.proofs.Common.{◌≡◌, ◌-◌, ◌++◌, [], rules, arith, sym, ap, subst, ◌∙◌}
+use Rattle.std.specs.Prelude.{IsTrue, ◌↔◌, slice_range, slice_set}
 use Rattle.fc_tree_node.specs.Node.{own_pairs}
 use Rattle.fc_tree_walk.specs.Gap.{AreEndsIn}
 use Rattle.fc_tree_walk.specs.Span.{between}
 use Rattle.fc_tree_walk.proofs.GapFacts.{gap_small}
-use Rattle.fc_tree_walk.proofs.Leaves.{back_takes}
+use Rattle.fc_tree_walk.proofs.Leaves.{BackTaken, back_takes}
+use Rattle.fc_tree_walk.proofs.run.take_last_of.Given as given
 use Rattle.fc_tree_walk.proofs.run.take_last_of.Goals as goal
+use Rattle.fc_tree_walk.proofs.run.take_last_of.Goals.{After-len-last}
+
+taken : (g : given.Over) (c : After-len-last g)
+    → BackTaken c.args.root.now c.args.front.now c.args.back.now c.args.leaf.now (c.len-last.result - 1) c.reach-start.result.0
+    × (IsTrue c.reach-start.result.1
+    ↔ (between c.args.root.now c.args.front.now (slice_set c.args.back.now (c.len-last.result - 1) c.reach-start.result.0) ≡ []))
+taken g c =
+    back_takes c.args.root.now _ c.args.leaf.now c.args.front.now c.args.back.now (c.len-last.result - 1) _ _ c.in-Some.is c.requires.sound c.requires.ends
+    (c.requires.leaf _ c.in-Some.is) (ap (λ k. k - 1) c.len-last.ensures.value) c.reach-start.ensures.met c.reach-start.ensures.place
 
 pub set-requires-clause-small : goal.set-requires-clause-small
 set-requires-clause-small g c =
-    let r = back_takes c.args.root.now _ c.args.leaf.now c.args.front.now c.args.back.now (c.len-last.result - 1) _ _ (ap c.in-Some.is) c.requires.sound c.requires.ends (c.requires.leaf _ (ap c.in-Some.is)) (ap (λ k. k - 1) c.len-last.ensures.value) c.reach-start.ensures.met (c.reach-start.ensures.place) in
+    let r = taken g (goal.at.set-requires-clause-small g c).After-len-last in
     let fits = r.0.fits in
     let order = r.0.order in
     let small = gap_small c.args.root.now c.args.back.now (c.len-last.result - 1) c.requires.sound c.requires.ends.1 (search rules) in
@@ -17,7 +27,7 @@ set-requires-clause-small g c =
 
 pub part-requires : goal.part-requires
 part-requires g c =
-    let r = back_takes c.args.root.now _ c.args.leaf.now c.args.front.now c.args.back.now (c.len-last.result - 1) _ _ (ap c.in-Some.is) c.requires.sound c.requires.ends (c.requires.leaf _ (ap c.in-Some.is)) (ap (λ k. k - 1) c.len-last.ensures.value) c.reach-start.ensures.met (c.reach-start.ensures.place) in
+    let r = taken g (goal.at.part-requires g c).After-len-last in
     let o = r.0.order in
     let f = r.0.fits in
     let i = c.step-end.ensures in
@@ -25,13 +35,17 @@ part-requires g c =
 
 pub returns : goal.returns
 returns g c =
-    let r = back_takes c.args.root.now _ c.args.leaf.now c.args.front.now c.args.back.now (c.len-last.result - 1) _ _ (ap c.in-Some.is) c.requires.sound c.requires.ends (c.requires.leaf _ (ap c.in-Some.is)) (ap (λ k. k - 1) c.len-last.ensures.value) c.reach-start.ensures.met (c.reach-start.ensures.place) in
+    let r = taken g (goal.at.returns g c).After-len-last in
     let m = c.args.root.now in
+    let front = c.args.front.now in
+    let back = c.args.back.now in
     let last = c.len-last.result - 1 in
-    let part = c.part.ensures ∙ ap (slice_range (own_pairs c.args.leaf.now) c.reach-start.result.0) c.step-end.ensures in
+    let start = c.reach-start.result.0 in
+    let set = c.set.ensures in
+    let part = c.part.ensures ∙ ap (slice_range (own_pairs c.args.leaf.now) start) c.step-end.ensures in
     record {
-      leaf = (_, c.set.ensures ∙ ap (λ k. slice_set c.args.back.now k c.reach-start.result.0) (ap (λ k. k - 1) c.len-last.ensures.value));
-      ends = subst (λ p. AreEndsIn m c.args.front.now p) (sym c.set.ensures) r.0.ends;
-      run = r.0.run ∙ ap (λ xs. between m c.args.front.now (slice_set c.args.back.now last c.reach-start.result.0) ++ xs) (sym part) ∙ ap (λ p. between m c.args.front.now p ++ c.part.result.now) (sym c.set.ensures);
-      met = (λ t. ap (λ p. between m c.args.front.now p) c.set.ensures ∙ r.1.0 t, λ e. r.1.1 (ap (λ p. between m c.args.front.now p) (sym c.set.ensures) ∙ e));
+      leaf = (_, set ∙ ap (λ k. slice_set back k start) (ap (λ k. k - 1) c.len-last.ensures.value));
+      ends = subst (λ p. AreEndsIn m front p) (sym set) r.0.ends;
+      run = r.0.run ∙ ap (λ xs. between m front (slice_set back last start) ++ xs) (sym part) ∙ ap (λ p. between m front p ++ c.part.result.now) (sym set);
+      met = (λ t. ap (λ p. between m front p) set ∙ r.1.0 t, λ e. r.1.1 (ap (λ p. between m front p) (sym set) ∙ e));
     }
