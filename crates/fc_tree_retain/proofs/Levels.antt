@@ -1,9 +1,8 @@
 -- How high nodes are of which some hold few pairs.
-use Rattle.std.proofs.Common.{◌≡◌, ℕ, suc, zero, ◌+◌, ◌<◌, ◌≤◌, List, [], ◌∷◌, length, get_or, map, take, refl, sym, ap, subst, ◌∙◌, arith, inl, inr, Some, None, Box}
+use Rattle.std.proofs.Common.{◌≡◌, ℕ, suc, zero, ◌+◌, ◌<◌, ◌≤◌, List, [], ◌∷◌, length, get_or, map, take, refl, sym, ap, subst, ◌∙◌, arith, inl, inr, Some, None}
 use Rattle.std.specs.List.{AllByRecursion, remove}
 use Rattle.std.proofs.lemmas.List.Edits.{length-remove}
 use Rattle.fc_base.specs.Sizes.{capacity, min_len, most_height}
-use Rattle.std.specs.declared.alloc.Global.{Global}
 use Rattle.fc_tree_node.specs.declared.node.Node.{Node, out-Node}
 use Rattle.fc_tree_node.specs.Node.{own_pairs, children_of, child_at, IsLeaf, IsInner, IsLevelled, IsSound}
 use Rattle.fc_tree_node.specs.Siblings.{AreAlike, IsFormed}
@@ -106,10 +105,11 @@ module _ {K V : Type 0} where
     pub loose : IsLoose below d
     pub falls : height_of d < h
 
-  pub lent : (h : ℕ) (n : Node K V) (bs : List (Node K V)) (i : ℕ) (b : Node K V) (d : Node K V) → (out-Node K V n).children ≡ Some bs → IsInner n → IsLoose h n → i ≤ length (own_pairs n) → b ≡ get_or bs i b → d ≡ b → IsLent h n d i
-  lent zero n bs i b d e inner l le q f = absurd (leaf_or_inner n l.1 inner)
-  lent (suc h) n bs i b d e inner l le q f =
-      let is = opened_child n bs i b d e inner le q f in
+  pub lent : (h : ℕ) (n : Node K V) (cs : List (Node K V)) (i : ℕ) (d : Node K V) → (out-Node K V n).children ≡ Some cs → IsInner n → IsLoose h n → i ≤ length (own_pairs n)
+      → d ≡ get_or cs i d → IsLent h n d i
+  lent zero n cs i d e inner l le q = absurd (leaf_or_inner n l.1 inner)
+  lent (suc h) n cs i d e inner l le q =
+      let is = opened_child n cs i d e inner le q in
       let lo = subst (IsLoose h) (sym is) (loose_child h n i l le) in
       let x = loose_height h d lo in
       record { below = h; height = refl; levels = l; is = is; loose = lo; falls = omega arith }

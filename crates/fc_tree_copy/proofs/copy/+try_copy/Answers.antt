@@ -1,8 +1,8 @@
-use Rattle.std.proofs.Common.{◌<◌, rules, arith, sym, subst}
+use Rattle.std.proofs.Common.{◌<◌, rules, arith}
 use Rattle.fc_tree_search.proofs.Nodes.{nodes_of, fewer_nodes}
 use Rattle.std.proofs.lemmas.Result.{err_from_is_err_and}
 use Rattle.fc_base.specs.Copies.{MayRefusePair}
-use Rattle.fc_tree_copy.specs.Copy.{AreSame, IsCopyUpTo}
+use Rattle.fc_tree_copy.specs.Copy.{AreSame}
 use Rattle.fc_tree_copy.proofs.CopyFacts.{inner_copy, children_copied, child_copied, tree_copied, refused_own, refused_below}
 use Rattle.fc_tree_copy.proofs.copy.+try_copy.Goals as goal
 
@@ -13,20 +13,17 @@ try_copy-requires g t c κs within =
 
 pub push_child-requires-clause-room : goal.push_child-requires-clause-room
 push_child-requires-clause-room g t c =
-    let copied = subst (IsCopyUpTo (AreSame g.K.TryClone.same g.V.TryClone.same) c.loop-i.i c.args.node.now) (sym c.deref_mut.ensures.value) c.loop-i.invariant.1 in
-    let many = children_copied (AreSame g.K.TryClone.same g.V.TryClone.same) c.loop-i.i c.args.node.now c.deref_mut.result.now copied (omega (arith, c.loop-i.invariant.0)) in
+    let many = children_copied (AreSame g.K.TryClone.same g.V.TryClone.same) c.loop-i.i c.args.node.now c.loop-i.copy c.loop-i.invariant.1 (omega (arith, c.loop-i.invariant.0)) in
     omega (arith, many, c.loop-i.invariant.0, c.child_count-i-end.ensures.fits)
 
 pub push_child-requires-clause-inner : goal.push_child-requires-clause-inner
 push_child-requires-clause-inner g t c =
-    let copied = subst (IsCopyUpTo (AreSame g.K.TryClone.same g.V.TryClone.same) c.loop-i.i c.args.node.now) (sym c.deref_mut.ensures.value) c.loop-i.invariant.1 in
-    inner_copy (AreSame g.K.TryClone.same g.V.TryClone.same) c.loop-i.i c.args.node.now c.deref_mut.result.now copied (omega (arith, c.loop-i.invariant.0))
+    inner_copy (AreSame g.K.TryClone.same g.V.TryClone.same) c.loop-i.i c.args.node.now c.loop-i.copy c.loop-i.invariant.1 (omega (arith, c.loop-i.invariant.0))
 
 pub loop-i-preserved : goal.loop-i-preserved
 loop-i-preserved g t c =
-    let copied = subst (IsCopyUpTo (AreSame g.K.TryClone.same g.V.TryClone.same) c.loop-i.i c.args.node.now) (sym c.deref_mut.ensures.value) c.loop-i.invariant.1 in
     let put = c.push_child.ensures in
-    (c.loop-i.invariant.0, child_copied (AreSame g.K.TryClone.same g.V.TryClone.same) c.loop-i.i c.args.node.now c.deref_mut.result.now copied c.push_child.new.node c.child.result.now c.in_ok-child.child (omega (arith, c.loop-i.invariant.0)) c.child.ensures c.in_ok-child.ensures.copied put.own put.children put.inner)
+    (c.loop-i.invariant.0, child_copied (AreSame g.K.TryClone.same g.V.TryClone.same) c.loop-i.i c.args.node.now c.loop-i.copy c.loop-i.invariant.1 c.push_child.new.node c.child.result.now c.in_ok-child.child (omega (arith, c.loop-i.invariant.0)) c.child.ensures c.in_ok-child.ensures.copied put.own put.children put.inner)
 
 pub returns-clause-copied : goal.returns-clause-copied
 returns-clause-copied g t c =

@@ -1,6 +1,5 @@
 use Rattle.std.proofs.Common.{◌≡◌, suc, ◌+◌, ◌-◌, ◌<◌, length, sym, subst, ◌∙◌, arith, rules}
 use Rattle.std.proofs.lemmas.Bool.{false≢true}
-use Rattle.std.specs.Box.{with_value}
 use Rattle.fc_tree_node.specs.Node.{own_pairs, children_of}
 use Rattle.fc_tree_node.proofs.Made.{child_set}
 use Rattle.fc_tree_removal.proofs.Removed.{opened_child}
@@ -16,11 +15,11 @@ loop-init g t c =
     let n = c.args.node.now in
     let a = loose_above _ n (λ l. false≢true (c.if-is_leaf.ensures.1 l)) c.requires.loose.1 in
     let k : length (children_of n) ≡ length (own_pairs n) + 1 = a.levels.1 in
-    let is = opened_child n _ 0 _ _ c.content.ensures.value a.levels.1 (omega arith) c.get_mut.ensures.value c.deref_mut.ensures.value in
-    let m = child_set n _ 0 (with_value c.get_mut.result.now c.mend.new.node) c.content.ensures.value in
+    let is = opened_child n _ 0 _ c.content.ensures.value a.levels.1 (omega arith) c.get_mut.ensures.value in
+    let m = child_set n _ 0 c.mend.new.node c.content.ensures.value in
     let e = c.len-end.ensures.value in
     let z : c.len-end.result ≡ c.len-end.result - 0 = omega arith in
-    mending_start n _ c.deref_mut.result.now c.mend.new.node (c.len-end.result - 0) a.levels.1 m is c.mend.ensures.pairs c.mend.ensures.levels (sym e ∙ z)
+    mending_start n _ c.get_mut.result.now c.mend.new.node (c.len-end.result - 0) a.levels.1 m is c.mend.ensures.pairs c.mend.ensures.levels (sym e ∙ z)
 
 pub overflow_add-at : goal.overflow_add-at
 overflow_add-at g t c =
@@ -39,11 +38,11 @@ mend-requires-in-loop g t c κs within =
     let test = c.loop-test.true in
     let now = c.loop.node in
     let k : length (children_of now) ≡ length (own_pairs now) + 1 = at.inner in
-    let is = opened_child now _ (c.loop.at + 1) _ _ c.content-in-loop.ensures.value at.inner (omega arith) c.get_mut-in-loop.ensures.value c.deref_mut-in-loop.ensures.value in
+    let is = opened_child now _ (c.loop.at + 1) _ c.content-in-loop.ensures.value at.inner (omega arith) c.get_mut-in-loop.ensures.value in
     let b = subst (IsLoose a.below) (sym is) (next_loose a.below c.loop.at now at.inner (omega arith) (at.levels a.below a.levels)) in
     let x = loose_height (suc a.below) n a.levels in
-    let y = loose_height a.below c.deref_mut-in-loop.result.now b in
-    let falls : height_of c.deref_mut-in-loop.result.now < height_of n = omega arith in
+    let y = loose_height a.below c.get_mut-in-loop.result.now b in
+    let falls : height_of c.get_mut-in-loop.result.now < height_of n = omega arith in
     (omega (arith, falls, c.decreases), (search rules, (search rules, (a.below, b))))
 
 pub settle-at-requires : goal.settle-at-requires
@@ -54,9 +53,9 @@ settle-at-requires g t c =
     let li = at.left_is in
     let test = c.loop-test.true in
     let now = c.loop.node in
-    let is = opened_child now _ (c.loop.at + 1) _ _ c.content-in-loop.ensures.value at.inner (omega arith) c.get_mut-in-loop.ensures.value c.deref_mut-in-loop.ensures.value in
-    let m = child_set now _ (c.loop.at + 1) (with_value c.get_mut-in-loop.result.now c.mend-in-loop.new.node) c.content-in-loop.ensures.value in
-    (a.below, (next_mended a.below c.loop.at now _ c.deref_mut-in-loop.result.now c.mend-in-loop.new.node at.inner (omega arith) (at.levels a.below a.levels) is m c.mend-in-loop.ensures.levels).seam)
+    let is = opened_child now _ (c.loop.at + 1) _ c.content-in-loop.ensures.value at.inner (omega arith) c.get_mut-in-loop.ensures.value in
+    let m = child_set now _ (c.loop.at + 1) c.mend-in-loop.new.node c.content-in-loop.ensures.value in
+    (a.below, (next_mended a.below c.loop.at now _ c.get_mut-in-loop.result.now c.mend-in-loop.new.node at.inner (omega arith) (at.levels a.below a.levels) is m c.mend-in-loop.ensures.levels).seam)
 
 pub loop-preserved : goal.loop-preserved
 loop-preserved g t c =
@@ -66,9 +65,9 @@ loop-preserved g t c =
     let li = at.left_is in
     let test = c.loop-test.true in
     let now = c.loop.node in
-    let is = opened_child now _ (c.loop.at + 1) _ _ c.content-in-loop.ensures.value at.inner (omega arith) c.get_mut-in-loop.ensures.value c.deref_mut-in-loop.ensures.value in
-    let m = child_set now _ (c.loop.at + 1) (with_value c.get_mut-in-loop.result.now c.mend-in-loop.new.node) c.content-in-loop.ensures.value in
-    mending_more n now _ c.settle-at.new.node c.deref_mut-in-loop.result.now c.mend-in-loop.new.node c.loop.at (c.len-end.result - c.loop.counter) (c.len-end.result - (c.loop.counter + 1)) c.settle-at.result a.below at (omega arith) a.levels is m c.mend-in-loop.ensures.pairs c.mend-in-loop.ensures.levels c.settle-at.ensures.pairs c.settle-at.ensures.settled
+    let is = opened_child now _ (c.loop.at + 1) _ c.content-in-loop.ensures.value at.inner (omega arith) c.get_mut-in-loop.ensures.value in
+    let m = child_set now _ (c.loop.at + 1) c.mend-in-loop.new.node c.content-in-loop.ensures.value in
+    mending_more n now _ c.settle-at.new.node c.get_mut-in-loop.result.now c.mend-in-loop.new.node c.loop.at (c.len-end.result - c.loop.counter) (c.len-end.result - (c.loop.counter + 1)) c.settle-at.result a.below at (omega arith) a.levels is m c.mend-in-loop.ensures.pairs c.mend-in-loop.ensures.levels c.settle-at.ensures.pairs c.settle-at.ensures.settled
 
 pub returns-clause-pairs : goal.returns-clause-pairs
 returns-clause-pairs g t c = c.loop.invariant.pairs

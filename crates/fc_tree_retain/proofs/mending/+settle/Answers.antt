@@ -1,6 +1,5 @@
 use Rattle.std.proofs.Common.{◌≡◌, suc, ◌+◌, ◌<◌, length, sym, ap, subst, ◌∙◌, arith, rules}
 use Rattle.std.proofs.lemmas.Bool.{false≢true}
-use Rattle.std.specs.Box.{with_value}
 use Rattle.fc_tree_node.specs.Node.{own_pairs, child_at, children_of, IsLeaf}
 use Rattle.fc_tree_node.proofs.Made.{child_set}
 use Rattle.fc_tree_removal.proofs.Removed.{opened_child}
@@ -34,13 +33,13 @@ settle-requires g t c κs within =
     let x = met_child h c.args.index place seam c.join-place.result.2 n mid s (c.join-place.ensures.joined h s) in
     let k : length (children_of mid) ≡ length (own_pairs mid) + 1 = x.inner in
     let lt = x.bounds in
-    let is = opened_child mid _ place _ _ c.content.ensures.value x.inner (omega arith) c.get_mut.ensures.value c.deref_mut.ensures.value in
+    let is = opened_child mid _ place _ c.content.ensures.value x.inner (omega arith) c.get_mut.ensures.value in
     let a = met_above h seam (child_at mid place) (λ l. false≢true (c.if-not-is_leaf.ensures.1 (subst IsLeaf (sym c.child-3.ensures) l))) x.met in
     let m = a.met.0 in
     let p = seam_height h n c.args.index s in
     let q = ap height_of is ∙ seam_height a.below (child_at mid place) seam m in
     let e = a.height in
-    let falls : height_of c.deref_mut.result.now < height_of n = omega arith in
+    let falls : height_of c.get_mut.result.now < height_of n = omega arith in
     (search rules, (search rules, (search rules, (a.below, subst (λ x. IsSeam a.below x seam) (sym is) m))))
 
 pub returns-then-not-is_leaf-clause-pairs : goal.returns-then-not-is_leaf-clause-pairs
@@ -53,9 +52,9 @@ returns-then-not-is_leaf-clause-pairs g t c =
     let x = met_child h c.args.index place c.join-place.result.1 c.join-place.result.2 n mid s (c.join-place.ensures.joined h s) in
     let k : length (children_of mid) ≡ length (own_pairs mid) + 1 = x.inner in
     let lt = x.bounds in
-    let is = opened_child mid _ place _ _ c.content.ensures.value x.inner (omega arith) c.get_mut.ensures.value c.deref_mut.ensures.value in
-    let m = child_set mid _ place (with_value c.get_mut.result.now c.settle.new.node) c.content.ensures.value in
-    mended_pairs mid _ c.deref_mut.result.now _ place x.inner lt m is c.settle.ensures.pairs ∙ c.join-place.ensures.pairs
+    let is = opened_child mid _ place _ c.content.ensures.value x.inner (omega arith) c.get_mut.ensures.value in
+    let m = child_set mid _ place c.settle.new.node c.content.ensures.value in
+    mended_pairs mid _ c.get_mut.result.now _ place x.inner lt m is c.settle.ensures.pairs ∙ c.join-place.ensures.pairs
 
 pub returns-then-not-is_leaf-clause-settled : goal.returns-then-not-is_leaf-clause-settled
 returns-then-not-is_leaf-clause-settled g t c h s =
@@ -63,15 +62,15 @@ returns-then-not-is_leaf-clause-settled g t c h s =
     let mid = c.join-place.new.node in
     let place = c.join-place.result.0 in
     let seam = c.join-place.result.1 in
-    let d = c.deref_mut.result.now in
+    let d = c.get_mut.result.now in
     let d' = c.settle.new.node in
     let j = c.join-place.ensures.joined h s in
     let x = met_child h c.args.index place seam c.join-place.result.2 n mid s j in
     let k : length (children_of mid) ≡ length (own_pairs mid) + 1 = x.inner in
     let lt = x.bounds in
-    let is = opened_child mid _ place _ _ c.content.ensures.value x.inner (omega arith) c.get_mut.ensures.value c.deref_mut.ensures.value in
+    let is = opened_child mid _ place _ c.content.ensures.value x.inner (omega arith) c.get_mut.ensures.value in
     let a = met_above h seam (child_at mid place) (λ l. false≢true (c.if-not-is_leaf.ensures.1 (subst IsLeaf (sym c.child-3.ensures) l))) x.met in
-    let m = child_set mid _ place (with_value c.get_mut.result.now d') c.content.ensures.value in
+    let m = child_set mid _ place d' c.content.ensures.value in
     let met = subst (IsMet (suc a.below) seam) (sym is) a.met in
     let left : IsMetLeft (suc a.below) d d' = met_left a.below seam c.settle.result d d' met (c.settle.ensures.settled a.below met.0) in
     let kept : IsMetLeft h (child_at mid place) d' = subst (λ x. IsMetLeft h x d') is (subst (λ i. IsMetLeft i d d') (sym a.height) left) in

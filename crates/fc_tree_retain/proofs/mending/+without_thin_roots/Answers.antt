@@ -1,5 +1,4 @@
-use Rattle.std.proofs.Common.{◌<◌, length, rules, arith, sym, ap, ◌∙◌}
-use Rattle.fc_tree_node.specs.Node.{own_pairs}
+use Rattle.std.proofs.Common.{◌<◌, rules, arith, sym, ◌∙◌}
 use Rattle.fc_tree_border.proofs.Heights.{height_of}
 use Rattle.fc_tree_border.proofs.Mended.{within_more, only_pairs}
 use Rattle.fc_tree_removal.proofs.Removed.{empty_leaf}
@@ -9,7 +8,6 @@ use Rattle.fc_tree_retain.proofs.mending.+without_thin_roots.Goals as goal
 pub returns-then-len-gt0-clause-levels : goal.returns-then-len-gt0-clause-levels
 returns-then-len-gt0-clause-levels g t c h b =
     let v = c.len.ensures.value in
-    let d = ap (λ n. length (own_pairs n)) c.deref.ensures in
     let some = c.if-len-gt0.true in
     (h, omega arith, (omega arith, thin_levelled h c.args.root (omega arith) b))
 
@@ -19,7 +17,6 @@ only_child-requires-clause-formed g t c = thin_formed _ c.args.root c.requires.1
 pub without_thin_roots-requires : goal.without_thin_roots-requires
 without_thin_roots-requires g t c κs within =
     let v = c.len.ensures.value in
-    let d = ap (λ n. length (own_pairs n)) c.deref.ensures in
     let none = c.if-len-gt0.false in
     let r = thin_heir c.requires.0 c.args.root c.in-Some.child c.in-Some.ensures (omega arith) c.requires.1 in
     let e = r.height in
@@ -31,21 +28,18 @@ without_thin_roots-requires g t c κs within =
 pub returns-in-None-clause-pairs : goal.returns-in-None-clause-pairs
 returns-in-None-clause-pairs g t c =
     let v = c.len.ensures.value in
-    let d = ap (λ n. length (own_pairs n)) c.deref.ensures in
     let none = c.if-len-gt0.false in
     sym (empty_leaf c.args.root c.in-None.ensures (omega arith))
 
 pub returns-in-Some-clause-pairs : goal.returns-in-Some-clause-pairs
 returns-in-Some-clause-pairs g t c =
     let v = c.len.ensures.value in
-    let d = ap (λ n. length (own_pairs n)) c.deref.ensures in
     let none = c.if-len-gt0.false in
     c.without_thin_roots.ensures.pairs ∙ only_pairs c.args.root _ (omega arith) c.in-Some.ensures
 
 pub returns-in-Some-clause-levels : goal.returns-in-Some-clause-levels
 returns-in-Some-clause-levels g t c h b =
     let v = c.len.ensures.value in
-    let d = ap (λ n. length (own_pairs n)) c.deref.ensures in
     let none = c.if-len-gt0.false in
     let r = thin_heir h c.args.root c.in-Some.child c.in-Some.ensures (omega arith) b in
     let e = r.height in

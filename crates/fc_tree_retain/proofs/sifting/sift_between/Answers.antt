@@ -1,6 +1,5 @@
 use Rattle.std.proofs.Common.{◌≡◌, [], length, get_or, arith, refl, sym, ap, subst, ◌∙◌, append-nil}
 use Rattle.std.specs.Prelude.{slice_set}
-use Rattle.std.specs.Box.{with_value as set_box}
 use Rattle.fc_tree_node.specs.Node.{own_pairs, pairs_of, child_at}
 use Rattle.fc_tree_node.proofs.Made.{child_set, inner_length}
 use Rattle.fc_tree_removal.proofs.Removed.{opened_child}
@@ -31,7 +30,7 @@ take_last-requires g c =
     let w = is_written n c.stays.new.node c.args.at a.1 a.4 in
     let z = w.size in
     let lt = c.requires.inside in
-    let is = opened_child c.stays.new.node _ c.args.at _ _ c.content.ensures.value (w.inner c.requires.inner) (omega arith) c.get_mut.ensures.value c.deref_mut.ensures.value ∙ w.child c.requires.inner (omega arith) in
+    let is = opened_child c.stays.new.node _ c.args.at _ c.content.ensures.value (w.inner c.requires.inner) (omega arith) c.get_mut.ensures.value ∙ w.child c.requires.inner (omega arith) in
     let b = inner_above c.requires.loose.0 n c.requires.inner c.requires.loose.1 in
     record { loose = (b.below, subst (IsLoose b.below) (sym is) (loose_child b.below n c.args.at b.levels (omega arith))) }
 
@@ -39,7 +38,7 @@ pub remove_behind-requires-clause-inside : goal.remove_behind-requires-clause-in
 remove_behind-requires-clause-inside g c =
     let a = c.if-stays.ensures.asked in
     let w = is_written c.args.node.now c.stays.new.node c.args.at a.1 a.4 in
-    let m = child_set c.stays.new.node _ c.args.at (set_box c.get_mut.result.now c.take_last.new.node) c.content.ensures.value in
+    let m = child_set c.stays.new.node _ c.args.at c.take_last.new.node c.content.ensures.value in
     let z = ap length m.same ∙ w.size in
     let lt = c.requires.inside in
     omega arith
@@ -48,7 +47,7 @@ pub remove_behind-requires-clause-inner : goal.remove_behind-requires-clause-inn
 remove_behind-requires-clause-inner g c =
     let a = c.if-stays.ensures.asked in
     let w = is_written c.args.node.now c.stays.new.node c.args.at a.1 a.4 in
-    let m = child_set c.stays.new.node _ c.args.at (set_box c.get_mut.result.now c.take_last.new.node) c.content.ensures.value in
+    let m = child_set c.stays.new.node _ c.args.at c.take_last.new.node c.content.ensures.value in
     let z = w.size in
     let lt = c.requires.inside in
     (child_left c.stays.new.node _ _ c.args.at (w.inner c.requires.inner) (omega arith) m).inner
@@ -57,7 +56,7 @@ pub replace_pair-requires : goal.replace_pair-requires
 replace_pair-requires g c =
     let a = c.if-stays.ensures.asked in
     let w = is_written c.args.node.now c.stays.new.node c.args.at a.1 a.4 in
-    let m = child_set c.stays.new.node _ c.args.at (set_box c.get_mut.result.now c.take_last.new.node) c.content.ensures.value in
+    let m = child_set c.stays.new.node _ c.args.at c.take_last.new.node c.content.ensures.value in
     let z = ap length m.same ∙ w.size in
     let lt = c.requires.inside in
     record { in_bounds = omega arith }
@@ -70,13 +69,13 @@ returns-in-None-clause-passed g c =
     let w = is_written n c.stays.new.node i a.1 a.4 in
     let z = w.size in
     let lt = c.requires.inside in
-    let d = c.deref_mut.result.now in
-    let is : d ≡ child_at n i = opened_child c.stays.new.node _ i _ _ c.content.ensures.value (w.inner c.requires.inner) (omega arith) c.get_mut.ensures.value c.deref_mut.ensures.value ∙ w.child c.requires.inner (omega arith) in
-    let m = child_set c.stays.new.node _ i (set_box c.get_mut.result.now c.take_last.new.node) c.content.ensures.value in
+    let d = c.get_mut.result.now in
+    let is : d ≡ child_at n i = opened_child c.stays.new.node _ i _ c.content.ensures.value (w.inner c.requires.inner) (omega arith) c.get_mut.ensures.value ∙ w.child c.requires.inner (omega arith) in
+    let m = child_set c.stays.new.node _ i c.take_last.new.node c.content.ensures.value in
     let o = m.same ∙ w.own in
     let r = c.remove_behind.ensures in
     let x = c.remove_behind.result in
-    let same : x ≡ (a.0.0, a.1) = r ∙ ap (λ ps. get_or ps i x) o ∙ value_at (own_pairs n) i a.1 a.0 x lt a.3 in
+    let same : x ≡ (a.0.0, a.1) = r.value ∙ ap (λ ps. get_or ps i x) o ∙ value_at (own_pairs n) i a.1 a.0 x lt a.3 in
     let gone = subst (λ y. g.S.Sieve.given c.stays.new.sieve y c.take.new.self) same c.take.ensures.given in
     let empty : pairs_of (child_at n i) ≡ [] = ap pairs_of (sym is) ∙ c.in-None.ensures.pairs ∙ append-nil (pairs_of c.take_last.new.node) ∙ c.in-None.ensures.none in
     passed_gone (SiftsPair g.S.Sieve.asked g.S.Sieve.given) c.args.sieve.now c.take.new.self i n c.remove_behind.new.node a.0 c.requires.inner lt a.3 a.1 _ c.take_last.new.node (c.stays.new.sieve, a.2, gone) o (m.child ∙ ap (λ cs. slice_set cs i c.take_last.new.node) w.children) r.pairs r.children empty
@@ -89,13 +88,13 @@ returns-in-Some-clause-passed g c =
     let w = is_written n c.stays.new.node i a.1 a.4 in
     let z = w.size in
     let lt = c.requires.inside in
-    let d = c.deref_mut.result.now in
-    let is : d ≡ child_at n i = opened_child c.stays.new.node _ i _ _ c.content.ensures.value (w.inner c.requires.inner) (omega arith) c.get_mut.ensures.value c.deref_mut.ensures.value ∙ w.child c.requires.inner (omega arith) in
-    let m = child_set c.stays.new.node _ i (set_box c.get_mut.result.now c.take_last.new.node) c.content.ensures.value in
+    let d = c.get_mut.result.now in
+    let is : d ≡ child_at n i = opened_child c.stays.new.node _ i _ c.content.ensures.value (w.inner c.requires.inner) (omega arith) c.get_mut.ensures.value ∙ w.child c.requires.inner (omega arith) in
+    let m = child_set c.stays.new.node _ i c.take_last.new.node c.content.ensures.value in
     let o = m.same ∙ w.own in
     let r = c.replace_pair.ensures in
     let x = c.replace_pair.result in
-    let same : x ≡ (a.0.0, a.1) = r ∙ ap (λ ps. get_or ps i x) o ∙ value_at (own_pairs n) i a.1 a.0 x lt a.3 in
+    let same : x ≡ (a.0.0, a.1) = r.value ∙ ap (λ ps. get_or ps i x) o ∙ value_at (own_pairs n) i a.1 a.0 x lt a.3 in
     let gone = subst (λ y. g.S.Sieve.given c.stays.new.sieve y c.take-in-Some.new.self) same c.take-in-Some.ensures.given in
     passed_moved (SiftsPair g.S.Sieve.asked g.S.Sieve.given) c.args.sieve.now c.take-in-Some.new.self i n c.replace_pair.new.self a.0 c.requires.inner lt a.3 a.1 _ c.take_last.new.node c.in-Some.pair (c.stays.new.sieve, a.2, gone) o (m.child ∙ ap (λ cs. slice_set cs i c.take_last.new.node) w.children) r.pairs r.children
     (ap pairs_of (sym is) ∙ c.in-Some.ensures.pairs) (λ h l. c.take_last.ensures.loose h (subst (IsLoose h) (sym is) l))

@@ -46,6 +46,6 @@ returns-clause-passed g c =
     let o = (is_written n c.stays.new.node i a.1 a.4).own in
     let r = c.remove_leaf.ensures in
     let x = c.remove_leaf.result in
-    let same : x ≡ (a.0.0, a.1) = r ∙ ap (λ ps. get_or ps i x) o ∙ value_at (own_pairs n) i a.1 a.0 x c.requires.inside a.3 in
+    let same : x ≡ (a.0.0, a.1) = r.value ∙ ap (λ ps. get_or ps i x) o ∙ value_at (own_pairs n) i a.1 a.0 x c.requires.inside a.3 in
     let gone = subst (λ y. g.S.Sieve.given c.stays.new.sieve y c.take.new.self) same c.take.ensures.given in
     (a.0, a.1, false, (c.stays.new.sieve, a.2, gone), a.3, (refl, r.pairs ∙ ap (λ ps. remove ps i) o))
