@@ -1,8 +1,7 @@
 -- How many nodes a tree has: a search goes on in fewer.
-use Rattle.std.proofs.Common.{◌≡◌, ℕ, zero, suc, ◌+◌, ◌<◌, ◌≤◌, List, [], ◌∷◌, length, map, get_or, Option, Some, None, Box, refl, ap, ◌∙◌, arith}
-use Rattle.std.specs.declared.alloc.Global.{Global}
+use Rattle.std.proofs.Common.{◌≡◌, ℕ, zero, suc, ◌+◌, ◌<◌, ◌≤◌, List, [], ◌∷◌, length, map, get_or, Option, Some, None, refl, ap, ◌∙◌, arith}
 use Rattle.fc_tree_node.specs.declared.node.Node.{Node, Node-F, out-Node, map-Node, fold-Node, fold_out-Node}
-use Rattle.fc_tree_node.specs.Node.{items_or_none, children_of, child_at, boxed}
+use Rattle.fc_tree_node.specs.Node.{items_or_none, children_of, child_at}
 
 abbrev pub total : List ℕ → ℕ
 total [] = 0
@@ -10,22 +9,16 @@ total (x ∷ xs) = x + total xs
 
 module _ {K V : Type 0} where
   abbrev nodes_step : Node-F K V ℕ → ℕ
-  nodes_step f = suc (total (map (λ b. b) (items_or_none f.children)))
+  nodes_step f = suc (total (items_or_none f.children))
 
   -- the node and all nodes below it
   abbrev pub nodes_of : Node K V → ℕ
   nodes_of = fold-Node K V ℕ nodes_step
 
-  abbrev refilled : Node K V → Box ℕ Global
-  refilled d = record { ptr = d.ptr; alloc = d.alloc; value = nodes_of d }
-
-  counts_of : (bs : List (Node K V)) → map (λ (b : Box ℕ Global). b) (map refilled bs) ≡ map nodes_of (boxed bs)
-  counts_of [] = refl
-  counts_of (b ∷ bs) = ap (λ zs. nodes_of b ∷ zs) (counts_of bs)
-
-  folded : (ps : List (K × V)) (o : Option (List (Node K V))) → nodes_step (map-Node K V (Node K V) ℕ nodes_of (record { pairs = ps; children = o })) ≡ suc (total (map nodes_of (boxed (items_or_none o))))
+  folded : (ps : List (K × V)) (o : Option (List (Node K V)))
+      → nodes_step (map-Node K V (Node K V) ℕ nodes_of (record { pairs = ps; children = o })) ≡ suc (total (map nodes_of (items_or_none o)))
   folded ps None = refl
-  folded ps (Some bs) = ap (λ ns. suc (total ns)) (counts_of bs)
+  folded ps (Some cs) = refl
 
   nodes_is : (n : Node K V) → nodes_of n ≡ suc (total (map nodes_of (children_of n)))
   nodes_is n = fold_out-Node K V ℕ nodes_step n ∙ folded (out-Node K V n).pairs (out-Node K V n).children

@@ -1,10 +1,9 @@
 -- How many keys a search passes, by the place that it comes to in a node.
-use Rattle.std.proofs.Common.{◌≡◌, ℕ, zero, suc, ◌+◌, ◌*◌, ◌<◌, ◌≤◌, List, [], ◌∷◌, ◌++◌, length, map, take, drop, get_or, Option, Some, None, Box, refl, sym, ap, subst, ◌∙◌, arith}
+use Rattle.std.proofs.Common.{◌≡◌, ℕ, zero, suc, ◌+◌, ◌*◌, ◌<◌, ◌≤◌, List, [], ◌∷◌, ◌++◌, length, map, take, drop, get_or, Option, Some, None, refl, sym, ap, subst, ◌∙◌, arith}
 use Rattle.std.specs.Prelude.{Bool, true, false, cond, min, not, ◌||◌, slice_index}
 use Rattle.std.specs.List.{list_any}
 use Rattle.std.specs.List.{AllByRecursion}
 use Rattle.std.specs.Ordering.{is_lt, is_eq}
-use Rattle.std.specs.declared.alloc.Global.{Global}
 use Rattle.std.specs.declared.cmp.Ordering.{Ordering}
 use Rattle.std.specs.declared.cmp.Ordering.TheVariants.{Less, Equal}
 use Rattle.fc_base.specs.Ascending.{IsAscending}
@@ -13,7 +12,7 @@ use Rattle.fc_base.specs.Query.{IsQueryOrder}
 use Rattle.fc_base.specs.Sizes.{min_len, level_comparisons}
 use Rattle.fc_tree_node.specs.Weave.{weave, after_list}
 use Rattle.fc_tree_node.specs.declared.node.Node.{Node, out-Node, map-Node, fold_out-Node}
-use Rattle.fc_tree_node.specs.Node.{items_or_none, own_pairs, children_of, child_at, boxed, pairs_of, IsLeaf, IsLevelled}
+use Rattle.fc_tree_node.specs.Node.{items_or_none, own_pairs, children_of, child_at, pairs_of, IsLeaf, IsLevelled}
 use Rattle.fc_tree_search.specs.Passed.{lower_count, stop_count, down_count, passed_step, passed}
 use Rattle.fc_tree_search.specs.Found.{AllBelow, AllAbove, IsFoundAt, IsGapAt}
 use Rattle.fc_tree_node.proofs.Lists.{all_back, length_take, take_drop}
@@ -23,20 +22,14 @@ use Rattle.fc_tree_search.proofs.Ordered.{sides_equal, side_upper}
 use Rattle.fc_tree_node.proofs.Gaps.{cut_item, item_there}
 
 module _ {K Q V : Type 0} (cmp : K → Q → Ordering) (k : Q) where
-  abbrev refilled : Node K V → Box ℕ Global
-  refilled d = record { ptr = d.ptr; alloc = d.alloc; value = passed cmp k d }
-
-  counts_of : (bs : List (Node K V)) → map (λ (b : Box ℕ Global). b) (map refilled bs) ≡ map (passed cmp k) (boxed bs)
-  counts_of [] = refl
-  counts_of (b ∷ bs) = ap (λ zs. passed cmp k b ∷ zs) (counts_of bs)
-
   -- what is passed in a node of these pairs, with what is passed in each child
   abbrev pub passed_in : List (K × V) → List ℕ → ℕ
   passed_in s ns = lower_count cmp k s + stop_count cmp k s + down_count cmp k s ns
 
-  folded : (ps : List (K × V)) (o : Option (List (Node K V))) → passed_step cmp k (map-Node K V (Node K V) ℕ (passed cmp k) (record { pairs = ps; children = o })) ≡ passed_in ps (map (passed cmp k) (boxed (items_or_none o)))
+  folded : (ps : List (K × V)) (o : Option (List (Node K V)))
+      → passed_step cmp k (map-Node K V (Node K V) ℕ (passed cmp k) (record { pairs = ps; children = o })) ≡ passed_in ps (map (passed cmp k) (items_or_none o))
   folded ps None = refl
-  folded ps (Some bs) = ap (λ ns. passed_in ps ns) (counts_of bs)
+  folded ps (Some cs) = refl
 
   pub passed_is : (n : Node K V) → passed cmp k n ≡ passed_in (own_pairs n) (map (passed cmp k) (children_of n))
   passed_is n = fold_out-Node K V ℕ (passed_step cmp k) n ∙ folded (own_pairs n) (out-Node K V n).children

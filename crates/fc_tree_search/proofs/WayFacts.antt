@@ -1,9 +1,8 @@
 -- The path that a search takes, by the place that it comes to in a node.
-use Rattle.std.proofs.Common.{◌≡◌, ℕ, zero, suc, ◌+◌, ◌<◌, List, [], ◌∷◌, ◌++◌, length, map, take, drop, get_or, Option, Some, None, Box, refl, sym, ap, subst, ◌∙◌, arith, append_assoc, append-nil, IsSome, ◌⊎◌, inl, inr}
+use Rattle.std.proofs.Common.{◌≡◌, ℕ, zero, suc, ◌+◌, ◌<◌, List, [], ◌∷◌, ◌++◌, length, map, take, drop, get_or, Option, Some, None, refl, sym, ap, subst, ◌∙◌, arith, append_assoc, append-nil, IsSome, ◌⊎◌, inl, inr}
 use Rattle.std.specs.Prelude.{true}
 use Rattle.std.specs.Option.{is_some}
 use Rattle.std.specs.Cmp.{IsTotalOrder}
-use Rattle.std.specs.declared.alloc.Global.{Global}
 use Rattle.std.specs.declared.cmp.Ordering.{Ordering}
 use Rattle.std.specs.declared.cmp.Ordering.TheVariants.{Less, Equal, Greater}
 use Rattle.fc_base.specs.Ascending.{IsAscending}
@@ -12,7 +11,7 @@ use Rattle.fc_base.specs.Query.{IsQueryOrder}
 use Rattle.fc_base.specs.Viewed.{own_order}
 use Rattle.fc_base.specs.OneKey.{put}
 use Rattle.fc_tree_node.specs.declared.node.Node.{Node, out-Node, map-Node, fold_out-Node}
-use Rattle.fc_tree_node.specs.Node.{items_or_none, own_pairs, children_of, child_at, boxed, pairs_of, IsLeaf, IsLevelled}
+use Rattle.fc_tree_node.specs.Node.{items_or_none, own_pairs, children_of, child_at, pairs_of, IsLeaf, IsLevelled}
 use Rattle.fc_tree_search.specs.Passed.{lower_count}
 use Rattle.fc_tree_search.specs.Way.{onward, way_step, path_to}
 use Rattle.fc_tree_node.specs.Node.{IsTree}
@@ -27,17 +26,14 @@ use Rattle.fc_tree_search.proofs.SearchFacts.{IsOnWay, way_ascending, way_more, 
 use Rattle.fc_tree_search.proofs.WrittenPairs.{written_put}
 
 module _ {K Q V : Type 0} (cmp : K → Q → Ordering) (k : Q) where
-  paths_of : (bs : List (Node K V)) → map (λ (b : Box (List ℕ) Global). b) (map (λ (d : Node K V). record { ptr = d.ptr; alloc = d.alloc; value = path_to cmp k d }) bs) ≡ map (path_to cmp k) (boxed bs)
-  paths_of [] = refl
-  paths_of (b ∷ bs) = ap (λ zs. path_to cmp k b ∷ zs) (paths_of bs)
-
   -- the path in a node of these pairs, with the path in each child
   abbrev way_in : List (K × V) → List (List ℕ) → List ℕ
   way_in s paths = lower_count cmp k s ∷ onward cmp k s paths
 
-  folded : (ps : List (K × V)) (o : Option (List (Node K V))) → way_step cmp k (map-Node K V (Node K V) (List ℕ) (path_to cmp k) (record { pairs = ps; children = o })) ≡ way_in ps (map (path_to cmp k) (boxed (items_or_none o)))
+  folded : (ps : List (K × V)) (o : Option (List (Node K V)))
+      → way_step cmp k (map-Node K V (Node K V) (List ℕ) (path_to cmp k) (record { pairs = ps; children = o })) ≡ way_in ps (map (path_to cmp k) (items_or_none o))
   folded ps None = refl
-  folded ps (Some bs) = ap (λ paths. way_in ps paths) (paths_of bs)
+  folded ps (Some cs) = refl
 
   path_is : (n : Node K V) → path_to cmp k n ≡ way_in (own_pairs n) (map (path_to cmp k) (children_of n))
   path_is n = fold_out-Node K V (List ℕ) (way_step cmp k) n ∙ folded (own_pairs n) (out-Node K V n).children

@@ -1,14 +1,13 @@
 -- A descent to the pair at a place, and what a tree is once a value is written there.
-use Rattle.std.proofs.Common.{◌≡◌, ℕ, zero, suc, ◌+◌, ◌-◌, ◌<◌, List, [], ◌∷◌, ◌++◌, length, take, drop, get_or, slice_get, slice_set, Some, Box, refl, sym, ap, subst, ◌∙◌, arith, add-one}
+use Rattle.std.proofs.Common.{◌≡◌, ℕ, zero, suc, ◌+◌, ◌-◌, ◌<◌, List, [], ◌∷◌, ◌++◌, length, take, drop, get_or, slice_get, slice_set, Option, Some, refl, sym, ap, subst, ◌∙◌, arith, add-one}
 use Rattle.std.specs.Option.{option_map}
-use Rattle.std.specs.Box.{with_value as set_box}
-use Rattle.std.specs.declared.alloc.Global.{Global}
 use Rattle.fc_tree_node.specs.declared.node.Node.{Node, out-Node, roll-Node}
-use Rattle.fc_tree_node.specs.Node.{items_or_none, own_pairs, children_of, child_at}
+use Rattle.fc_tree_node.specs.Node.{own_pairs, children_of, child_at}
 use Rattle.fc_tree_node.specs.Place.{IsPlace, place_pair}
-use Rattle.fc_tree_search.specs.Written.{set_value, set_boxed, with_value, with_child, written}
-use Rattle.fc_tree_node.proofs.Pairs.{boxed_length, child_is}
+use Rattle.fc_tree_search.specs.Written.{set_value, with_value, with_child, written}
 use Rattle.fc_tree_node.proofs.Gaps.{drop_item, drop_all, item_there}
+use Rattle.fc_tree_node.proofs.Made.{children_in}
+use Rattle.fc_tree_node.proofs.Shared.{listed_child}
 
 -- the rest of a path, as a slice of it
 after_is : (path : List ℕ) (i : ℕ) → take (length (i ∷ path) - 1) (drop 1 (i ∷ path)) ≡ path
@@ -99,41 +98,31 @@ module _ {K V : Type 0} where
   set_is_value (x ∷ s) zero e w h r = ap (λ y. (y.0, w) ∷ s) r
   set_is_value (x ∷ s) (suc i) e w h r = ap (λ t. x ∷ t) (set_is_value s i e w (omega arith) r)
 
-  set_is_boxed : (bs : List (Node K V)) (i : ℕ) (b : Node K V) (c : Node K V) → i < length bs → b ≡ get_or bs i b → slice_set bs i (set_box b c) ≡ set_boxed bs i c
-  set_is_boxed [] i b c h r = refl
-  set_is_boxed (x ∷ bs) zero b c h r = ap (λ y. set_box y c ∷ bs) r
-  set_is_boxed (x ∷ bs) (suc i) b c h r = ap (λ t. x ∷ t) (set_is_boxed bs i b c (omega arith) r)
-
   -- what a lent pair of the node's own leaves
   pub own_written : (n : Node K V) (i : ℕ) (e : K × V) (w : V) → i < length (own_pairs n) → e ≡ get_or (own_pairs n) i e → roll-Node K V (record { pairs = slice_set (own_pairs n) i (e.0, w); children = (out-Node K V n).children }) ≡ with_value n i w
   own_written n i e w h r = ap (λ ps. roll-Node K V (record { pairs = ps; children = (out-Node K V n).children })) (set_is_value (own_pairs n) i e w h r)
 
-  module _ (way : List ℕ) (p : ℕ) (n : Node K V) (bs : List (Node K V)) (b : Node K V) (c : Node K V) (is : (out-Node K V n).children ≡ Some bs) (more : length way ≡ 0 → ⊥) (at : b ≡ get_or bs (get_or way 0 0) b) (in' : c ≡ b) where
-    -- there is a box for the child
-    pub boxes_there : IsPlace (way ++ p ∷ []) n → get_or way 0 0 < length bs
-    boxes_there q =
-        let h = below_there way p n more q in
-        let e : length (children_of n) ≡ length bs = boxed_length (items_or_none (out-Node K V n).children) ∙ ap (λ o. length (items_or_none o)) is in
-        omega arith
-
-    pub child_in : IsPlace (way ++ p ∷ []) n → c ≡ child_at n (get_or way 0 0)
-    child_in q =
-        let h = boxes_there q in
-        let j = get_or way 0 0 in
-        child_is n j b c (subst (λ o. j < length (items_or_none o)) (sym is) h) (subst (λ o. b ≡ get_or (items_or_none o) j b) (sym is) at) in'
+  -- the child that a way of more steps leads through, lent out of the list
+  pub child_in : (way : List ℕ) (p : ℕ) (n : Node K V) (cs : List (Node K V)) (c : Node K V) → (out-Node K V n).children ≡ Some cs → (length way ≡ 0 → ⊥)
+      → c ≡ get_or cs (get_or way 0 0) c → IsPlace (way ++ p ∷ []) n → c ≡ child_at n (get_or way 0 0)
+  child_in way p n cs c is more at q =
+      listed_child n 0 cs is (get_or way 0 0) c (subst (λ ds. get_or way 0 0 < length ds) (children_in n cs is) (below_there way p n more q)) at
 
 -- what a lent child leaves
-pub below_written : {K V : Type 0} (way : List ℕ) (p : ℕ) (n : Node K V) (bs : List (Node K V)) (b : Node K V) (c : Node K V) (w : V) → (out-Node K V n).children ≡ Some bs → (length way ≡ 0 → ⊥) → b ≡ get_or bs (get_or way 0 0) b → c ≡ b → IsPlace (way ++ p ∷ []) n
-    → roll-Node K V (record { pairs = own_pairs n; children = Some (slice_set bs (get_or way 0 0) (set_box b (written c (later_steps way ++ p ∷ []) w))) }) ≡ written n (way ++ p ∷ []) w
-below_written [] p n bs b c w is more at v q = absurd (more refl)
-below_written {K} {V} (i ∷ way) p n bs b c w is more at v q =
-    let h = boxes_there (i ∷ way) p n bs b c is more at v q in
-    let same = child_in (i ∷ way) p n bs b c is more at v q in
-    let new = written (child_at n i) (way ++ p ∷ []) w in
-    ap (λ r. roll-Node K V (record { pairs = own_pairs n; children = Some (slice_set bs i (set_box b (written c (r ++ p ∷ []) w))) })) (after_is way i)
-    ∙ ap (λ m. roll-Node K V (record { pairs = own_pairs n; children = Some (slice_set bs i (set_box b (written m (way ++ p ∷ []) w))) })) same
-    ∙ ap (λ ds. roll-Node K V (record { pairs = own_pairs n; children = Some ds })) (set_is_boxed bs i b new h at)
-    ∙ ap (λ o. roll-Node K V (record { pairs = own_pairs n; children = option_map (λ ds. set_boxed ds i new) o })) (sym is)
+pub below_written : {K V : Type 0} (way : List ℕ) (p : ℕ) (n : Node K V) (cs : List (Node K V)) (c : Node K V) (w : V) → (out-Node K V n).children ≡ Some cs
+    → (length way ≡ 0 → ⊥) → c ≡ get_or cs (get_or way 0 0) c → IsPlace (way ++ p ∷ []) n
+    → roll-Node K V (record {
+      pairs = own_pairs n;
+      children = Some (slice_set cs (get_or way 0 0) (written c (later_steps way ++ p ∷ []) w));
+    }) ≡ written n (way ++ p ∷ []) w
+below_written [] p n cs c w is more at q = absurd (more refl)
+below_written {K} {V} (i ∷ way) p n cs c w is more at q =
+    let same = child_in (i ∷ way) p n cs c is more at q in
+    let made : Node K V → Option (List (Node K V)) → Node K V = λ new o.
+    roll-Node K V (record { pairs = own_pairs n; children = option_map (λ ds. slice_set ds i new) o }) in
+    ap (λ r. made (written c (r ++ p ∷ []) w) (Some cs)) (after_is way i)
+    ∙ ap (λ m. made (written m (way ++ p ∷ []) w) (Some cs)) same
+    ∙ ap (made (written (child_at n i) (way ++ p ∷ []) w)) (sym is)
     ∙ step_written i way p n w
 
 -- a path is the way to the node of its last step, and that step

@@ -1,10 +1,9 @@
 -- The tree in which a value is written at a place: its pairs, its levels, and what a search passes in it.
-use Rattle.std.proofs.Common.{◌≡◌, ℕ, zero, suc, ◌+◌, ◌<◌, ◌≤◌, List, [], ◌∷◌, ◌++◌, length, map, take, drop, get_or, slice_get, slice_set, Option, Some, None, Box, refl, sym, ap, subst, ◌∙◌, arith, cond}
+use Rattle.std.proofs.Common.{◌≡◌, ℕ, zero, suc, ◌+◌, ◌<◌, ◌≤◌, List, [], ◌∷◌, ◌++◌, length, map, take, drop, get_or, slice_get, slice_set, Option, Some, None, refl, sym, ap, subst, ◌∙◌, arith, cond}
 use Rattle.std.specs.Prelude.{Bool, true, false, unwrap_or, not, ◌||◌, slice_index}
 use Rattle.std.specs.List.{AllByRecursion, list_any}
 use Rattle.std.specs.Option.{option_map}
 use Rattle.std.specs.Ordering.{is_lt, is_eq}
-use Rattle.std.specs.declared.alloc.Global.{Global}
 use Rattle.std.specs.declared.cmp.Ordering.{Ordering}
 use Rattle.std.specs.declared.cmp.Ordering.TheVariants.{Less}
 use Rattle.fc_base.specs.Ascending.{IsAscending}
@@ -12,12 +11,12 @@ use Rattle.fc_base.specs.Parts.{below, at}
 use Rattle.fc_base.specs.OneKey.{put_by}
 use Rattle.fc_tree_node.specs.Weave.{weave, before_list, after_list}
 use Rattle.fc_tree_node.specs.declared.node.Node.{Node, out-Node}
-use Rattle.fc_tree_node.specs.Node.{items_or_none, own_pairs, children_of, child_at, boxed, pairs_of, IsLevelled}
+use Rattle.fc_tree_node.specs.Node.{items_or_none, own_pairs, children_of, child_at, pairs_of, IsLevelled}
 use Rattle.fc_tree_node.specs.Place.{before_child, after_child, IsPlace, place_pair, before_pair, after_pair}
 use Rattle.fc_tree_search.specs.Passed.{lower_count, stop_count, down_count, passed}
 use Rattle.fc_tree_node.specs.Node.{IsTree}
 use Rattle.fc_tree_search.specs.Found.{IsFound}
-use Rattle.fc_tree_search.specs.Written.{set_value, set_boxed, with_value, with_child, written}
+use Rattle.fc_tree_search.specs.Written.{set_value, with_value, with_child, written}
 use Rattle.fc_tree_node.proofs.Lists.{length_set, all_set}
 use Rattle.fc_tree_node.proofs.Pairs.{IsBelow, child_below}
 use Rattle.fc_tree_node.proofs.Made.{own_made, children_made, field_made}
@@ -63,11 +62,6 @@ module _ {K V : Type 0} where
   length_value (e ∷ s) zero w = refl
   length_value (e ∷ s) (suc i) w = ap suc (length_value s i w)
 
-  boxed_with : (bs : List (Node K V)) (i : ℕ) (c : Node K V) → boxed (set_boxed bs i c) ≡ slice_set (boxed bs) i c
-  boxed_with [] i c = refl
-  boxed_with (b ∷ bs) zero c = refl
-  boxed_with (b ∷ bs) (suc i) c = ap (λ zs. b ∷ zs) (boxed_with bs i c)
-
   -- the parts of the changed nodes
   pub value_own : (n : Node K V) (i : ℕ) (w : V) → own_pairs (with_value n i w) ≡ set_value (own_pairs n) i w
   value_own n i w = own_made _
@@ -78,9 +72,9 @@ module _ {K V : Type 0} where
   pub child_own : (n : Node K V) (i : ℕ) (c : Node K V) → own_pairs (with_child n i c) ≡ own_pairs n
   child_own n i c = own_made _
 
-  with_in : (o : Option (List (Node K V))) (i : ℕ) (c : Node K V) → boxed (items_or_none (option_map (λ bs. set_boxed bs i c) o)) ≡ slice_set (boxed (items_or_none o)) i c
+  with_in : (o : Option (List (Node K V))) (i : ℕ) (c : Node K V) → items_or_none (option_map (λ cs. slice_set cs i c) o) ≡ slice_set (items_or_none o) i c
   with_in None i c = refl
-  with_in (Some bs) i c = boxed_with bs i c
+  with_in (Some cs) i c = refl
 
   pub child_children : (n : Node K V) (i : ℕ) (c : Node K V) → children_of (with_child n i c) ≡ slice_set (children_of n) i c
   child_children n i c = children_made _ ∙ with_in (out-Node K V n).children i c

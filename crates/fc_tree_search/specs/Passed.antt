@@ -1,5 +1,5 @@
 -- How many keys a search passes on its way down.
-use Rattle.std.specs.Prelude.{ℕ, ◌+◌, List, map, not, if◌then◌else◌, slice_index, length}
+use Rattle.std.specs.Prelude.{ℕ, ◌+◌, List, not, if◌then◌else◌, slice_index, length}
 use Rattle.std.specs.List.{list_any}
 use Rattle.std.specs.Ordering.{is_lt, is_eq}
 use Rattle.std.specs.declared.cmp.Ordering.{Ordering}
@@ -22,7 +22,7 @@ module _ {K Q V : Type 0} (cmp : K → Q → Ordering) (k : Q) where
 
   -- The keys below k, one more where there is a key not below k, and what is passed further down.
   abbrev pub passed_step : Node-F K V ℕ → ℕ
-  passed_step f = lower_count f.pairs + stop_count f.pairs + down_count f.pairs (map (λ b. b) (items_or_none f.children))
+  passed_step f = lower_count f.pairs + stop_count f.pairs + down_count f.pairs (items_or_none f.children)
 
   -- How many keys a search for k passes in the node and below it.
   abbrev pub passed : Node K V → ℕ

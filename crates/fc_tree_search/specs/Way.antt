@@ -1,5 +1,5 @@
 -- The path that a search takes down a tree.
-use Rattle.std.specs.Prelude.{ℕ, List, [], ◌∷◌, map, if◌then◌else◌, slice_index_or}
+use Rattle.std.specs.Prelude.{ℕ, List, [], ◌∷◌, if◌then◌else◌, slice_index_or}
 use Rattle.std.specs.List.{list_any}
 use Rattle.std.specs.Ordering.{is_eq}
 use Rattle.std.specs.declared.cmp.Ordering.{Ordering}
@@ -14,7 +14,7 @@ module _ {K Q V : Type 0} (cmp : K → Q → Ordering) (k : Q) where
 
   -- The number of keys below k, and then the path further down.
   abbrev pub way_step : Node-F K V (List ℕ) → List ℕ
-  way_step f = lower_count cmp k f.pairs ∷ onward f.pairs (map (λ b. b) (items_or_none f.children))
+  way_step f = lower_count cmp k f.pairs ∷ onward f.pairs (items_or_none f.children)
 
   -- The path from the node to the pair with a key equal to k, or else to the gap between the pairs of a leaf where k would go.
   abbrev pub path_to : Node K V → List ℕ

@@ -1,10 +1,8 @@
 -- What a tree is, once a value is written at a place.
-use Rattle.std.specs.Prelude.{ℕ, zero, suc, List, [], ◌∷◌, Option, Some}
+use Rattle.std.specs.Prelude.{ℕ, zero, suc, List, [], ◌∷◌, slice_set, Option, Some}
 use Rattle.std.specs.Option.{option_map}
 use Rattle.std.specs.Borrow.{Fml, RattleType, MutBor, Lends}
 use Rattle.std.specs.contracts.option.Option as option
-use Rattle.std.specs.declared.alloc.Global.{Global}
-use Rattle.std.specs.Box.{with_value as set_box}
 use Rattle.fc_tree_node.specs.declared.node.Node.{Node, out-Node, roll-Node}
 use Rattle.fc_tree_node.specs.Node.{child_at}
 use Rattle.fc_tree_node.specs.contracts.node.Node.{the_row}
@@ -16,19 +14,13 @@ set_value (e ∷ es) zero w = (e.0, w) ∷ es
 set_value (e ∷ es) (suc i) w = e ∷ set_value es i w
 
 module _ {K V : Type 0} where
-  -- The boxes with this node in the one at the place.
-  abbrev pub set_boxed : List (Node K V) → ℕ → Node K V → List (Node K V)
-  set_boxed [] i c = []
-  set_boxed (b ∷ bs) zero c = set_box b c ∷ bs
-  set_boxed (b ∷ bs) (suc i) c = b ∷ set_boxed bs i c
-
   -- The node with this value in its own pair at the place.
   abbrev pub with_value : Node K V → ℕ → V → Node K V
   with_value n i w = roll-Node K V (record { pairs = set_value (out-Node K V n).pairs i w; children = (out-Node K V n).children })
 
   -- The node with this child at the place.
   abbrev pub with_child : Node K V → ℕ → Node K V → Node K V
-  with_child n i c = roll-Node K V (record { pairs = (out-Node K V n).pairs; children = option_map (λ bs. set_boxed bs i c) (out-Node K V n).children })
+  with_child n i c = roll-Node K V (record { pairs = (out-Node K V n).pairs; children = option_map (λ cs. slice_set cs i c) (out-Node K V n).children })
 
   -- The tree with this value at the place that the path leads to.
   unfoldable pub written : Node K V → List ℕ → V → Node K V

@@ -14,7 +14,10 @@ returns-else-way-eq0 g c =
     let way = c.args.way.now in
     let p = c.args.place in
     let n = c.args.node.now in
-    let same = child_in way p n c.content.result.now c.get_mut.result.now c.deref_mut.result.now c.content.ensures.value c.if-way-eq0.false c.get_mut.ensures.value c.deref_mut.ensures.value c.requires.place in (
-      (refl, λ w. below_written way p n c.content.result.now c.get_mut.result.now c.deref_mut.result.now w c.content.ensures.value c.if-way-eq0.false c.get_mut.ensures.value c.deref_mut.ensures.value c.requires.place),
-      record { writes_back = tt; value = ap (option_map (λ e. e.1)) (below_pair way p n c.deref_mut.result.now c.if-way-eq0.false same) ∙ c.value_at.ensures.value },
+    let cs = c.content.result.now in
+    let d = c.get_mut.result.now in
+    let more = c.if-way-eq0.false in
+    let same = child_in way p n cs d c.content.ensures.value more c.get_mut.ensures.value c.requires.place in (
+      (refl, λ w. below_written way p n cs d w c.content.ensures.value more c.get_mut.ensures.value c.requires.place),
+      record { writes_back = tt; value = ap (option_map (λ e. e.1)) (below_pair way p n d more same) ∙ c.value_at.ensures.value },
     )
