@@ -1,0 +1,14 @@
+use Rattle.std.proofs.Common.{refl}
+use Rattle.fc_tree_node.specs.Node.{IsSoundRoot}
+use Rattle.fc_tree_removal.proofs.first_last.take_last.Goals as goal
+
+pub take_empty_root-requires : goal.take_empty_root-requires
+take_empty_root-requires g c =
+    let h = c.requires.0 in
+    let sound : IsSoundRoot h c.in-Some.root = rw c.in-Some.is at c.requires.1 in
+    (_, refl, h, (c.remove_last-pair.ensures.levels h sound).0)
+
+pub returns-clause-levels : goal.returns-clause-levels
+returns-clause-levels g c h s =
+    let sound : IsSoundRoot h c.in-Some.root = rw c.in-Some.is at s in
+    c.take_empty_root.ensures.levels _ refl h (c.remove_last-pair.ensures.levels h sound).0
