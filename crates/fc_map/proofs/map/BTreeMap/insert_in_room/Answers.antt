@@ -17,11 +17,11 @@ invariant_of-self g c =
     let gap = rw c.in-Some.is at (rw (← c.self.view_is) at c.requires.gap) in
     let sound = rw c.in-Some.is at c.self.invariant.1 in
     let steps = gap.levels sound.0 sound.2.1 in
-    let parts = subst (λ n. pairs_of new ≡ before_gap path n ++ c.args.pair ∷ after_gap path n) c.deref_mut.ensures.value (rw c.as_slice.ensures.value at c.insert_in_leaf.ensures.pairs) in
+    let parts = rw c.as_slice.ensures.value at c.insert_in_leaf.ensures.pairs in
     let longer = length_in root path sound steps c.args.pair _ gap.way parts in
     let ascending : IsAscending cmp (pairs_of root) = rw c.in-Some.is at c.self.invariant.0 in
     let len : c.self.inside.len ≡ length (pairs_of root) = c.self.invariant.2 ∙ ap (λ r. length (entries r)) c.in-Some.is in
-    let size : length (own_pairs root) ≤ length (own_pairs new) = rw c.deref_mut.ensures.value at c.insert_in_leaf.ensures.size in
+    let size : length (own_pairs root) ≤ length (own_pairs new) = c.insert_in_leaf.ensures.size in
     let same : length c.as_slice.result.now - 1 ≡ sound.0 = rw c.as_slice.ensures.value (omega (arith, steps)) in
     let levels = subst (λ h. IsLevelled h new) same c.insert_in_leaf.ensures.levels in
     let put = put_in root path sound cmp c.args.pair.0 c.args.pair.1 _ gap parts in
@@ -30,7 +30,7 @@ invariant_of-self g c =
 pub returns-clause-put : goal.returns-clause-put
 returns-clause-put g c =
     let gap = rw c.in-Some.is at (rw (← c.self.view_is) at c.requires.gap) in
-    let parts = subst (λ n. pairs_of c.insert_in_leaf.new.node ≡ before_gap c.args.path.now n ++ c.args.pair ∷ after_gap c.args.path.now n) c.deref_mut.ensures.value (rw c.as_slice.ensures.value at c.insert_in_leaf.ensures.pairs) in
+    let parts = rw c.as_slice.ensures.value at c.insert_in_leaf.ensures.pairs in
     rw (← c.self.view_is) (rw c.in-Some.is (put_in c.in-Some.root c.args.path.now (rw c.in-Some.is at c.self.invariant.1) g.K.Ord.cmp c.args.pair.0 c.args.pair.1 _ gap parts))
 
 pub returns-clause-ascending : goal.returns-clause-ascending

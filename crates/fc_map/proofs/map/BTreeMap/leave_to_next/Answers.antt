@@ -14,8 +14,8 @@ go_on-requires g c = record {
 pub pass_next-last-requires : goal.pass_next-last-requires
 pass_next-last-requires g c =
     let m = c.args.self.now in
-    let n = c.deref-root.result.now in
-    let is = sym c.self.view_is ∙ ap c.in-Some.is ∙ ap Some (sym c.deref-root.ensures) in
+    let n = c.in-Some.root.now in
+    let is = sym c.self.view_is ∙ c.in-Some.is in
     let sound = rw c.self.view_is at c.self.invariant.1 in
     let q = c.go_on.new.gap in
     let slot : IsGapIn m q = subst (IsGapIn m) (sym c.go_on.ensures) c.requires.gap in
@@ -27,8 +27,8 @@ pass_next-last-requires g c =
 pub returns : goal.returns
 returns g c =
     let m = c.args.self.now in
-    let n = c.deref-root.result.now in
-    let is = sym c.self.view_is ∙ ap c.in-Some.is ∙ ap Some (sym c.deref-root.ensures) in
+    let n = c.in-Some.root.now in
+    let is = sym c.self.view_is ∙ c.in-Some.is in
     let sound = rw c.self.view_is at c.self.invariant.1 in
     let q = c.go_on.new.gap in
     let slot : IsGapIn m q = subst (IsGapIn m) (sym c.go_on.ensures) c.requires.gap in

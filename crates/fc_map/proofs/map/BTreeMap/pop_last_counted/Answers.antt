@@ -24,6 +24,6 @@ pub returns-clause-bounded : goal.returns-clause-bounded
 returns-clause-bounded g c =
     let root = c.in_ok-root.root in
     let taken : c.self.inside.root ≡ Some c.in_ok-root.root = sym c.take.ensures.value ∙ c.in_ok-root.was in
-    let is : c.args.self.now ≡ Some root = sym c.self.view_is ∙ ap taken in
+    let is : c.args.self.now ≡ Some root = sym c.self.view_is ∙ taken in
     let sound : IsSoundMap (Some root) = rw taken at c.self.invariant.1 in
     rw is (popped_cost root sound c.args.count.now c.take_last-pair.new.count c.take_last-pair.ensures.comparisons (c.take_last-pair.ensures.moves sound.0 sound.2))

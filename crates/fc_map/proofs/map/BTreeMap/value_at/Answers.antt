@@ -7,7 +7,7 @@ use Rattle.fc_map.proofs.map.BTreeMap.value_at.Goals as goal
 
 pub invariant_of-self-lent : goal.invariant_of-self-lent
 invariant_of-self-lent g c = λ w.
-    let n = c.deref_mut.result.now in
+    let n = c.unwrap-root.result.now in
     let path = c.args.way.now ++ c.args.place ∷ [] in
     let same : c.self.inside.root ≡ Some n = search rules in
     let place : IsPlace path n = search rules in

@@ -15,17 +15,16 @@ returns-in_err-copy-clause-copied g c =
     let p = err_from_is_err_and c.from_residual.result c.from_residual.ensures.1 in
     let sound : IsSoundMap (Some c.in-Some.root) = rw c.in-Some.is at c.self.invariant.1 in
     let list : entries c.args.self.now ≡ pairs_of c.in-Some.root = sym (ap entries c.self.view_is) ∙ ap (λ r. entries r) c.in-Some.is in
-    let is = c.in_err-copy.ensures.error sound.0 (subst (IsLevelled sound.0) (sym c.deref.ensures) sound.2.1) in
-    let all = subst (λ n. MayRefuseNodes may (pairs_of n) c.in_err-copy.field-0.0) c.deref.ensures is in
+    let is = c.in_err-copy.ensures.error sound.0 sound.2.1 in
     let some = subst (λ s. 0 < length s) (sym list) (has_pair c.in-Some.root sound) in
-    rw p.1 (some, search (rules, p.2, subst (λ s. MayRefuseNodes may s c.in_err-copy.field-0.0) (sym list) all))
+    rw p.1 (some, search (rules, p.2, subst (λ s. MayRefuseNodes may s c.in_err-copy.field-0.0) (sym list) is))
 
 pub invariant_of-result : goal.invariant_of-result
 invariant_of-result g c =
     let source = c.in-Some.root in
     let copy = c.in_ok-copy.copy in
     let same = AreSame g.K.TryClone.same g.V.TryClone.same in
-    let copied = subst (λ n. IsCopy same n copy) c.deref.ensures c.in_ok-copy.ensures.copied in
+    let copied = c.in_ok-copy.ensures.copied in
     let ascending : IsAscending g.K.Ord.cmp (pairs_of source) = rw c.in-Some.is at c.self.invariant.0 in
     let sound : IsSoundMap (Some source) = rw c.in-Some.is at c.self.invariant.1 in
     let len : c.self.inside.len ≡ length (pairs_of source) = c.self.invariant.2 ∙ ap (λ r. length (entries r)) c.in-Some.is in
@@ -37,7 +36,7 @@ pub returns-clause-ascending : goal.returns-clause-ascending
 returns-clause-ascending g c =
     let source = c.in-Some.root in
     let copy = c.in_ok-copy.copy in
-    let copied = subst (λ n. IsCopy (AreSame g.K.TryClone.same g.V.TryClone.same) n copy) c.deref.ensures c.in_ok-copy.ensures.copied in
+    let copied = c.in_ok-copy.ensures.copied in
     let ascending : IsAscending g.K.Ord.cmp (pairs_of source) = rw c.in-Some.is at c.self.invariant.0 in
     let equal = λ (a : g.row.K.Denot) (b : g.row.K.Denot) (s : g.K.TryClone.same a b).
     equal_answer (g.K.Ord.cmp a b) (sym (g.met.K.Ord.matches_eq a b) ∙ c.requires.2 a b s) in
@@ -48,6 +47,6 @@ returns-clause-sound g c =
     let source = c.in-Some.root in
     let copy = c.in_ok-copy.copy in
     let same = AreSame g.K.TryClone.same g.V.TryClone.same in
-    let copied = subst (λ n. IsCopy same n copy) c.deref.ensures c.in_ok-copy.ensures.copied in
+    let copied = c.in_ok-copy.ensures.copied in
     let sound : IsSoundMap (Some source) = rw c.in-Some.is at c.self.invariant.1 in
     sound_copied same source copy copied sound
