@@ -1,8 +1,7 @@
 -- The two parts of a tree that is cut along a path.
-use Rattle.std.proofs.Common.{◌≡◌, ℕ, zero, suc, ◌+◌, ◌<◌, ◌≤◌, List, [], ◌∷◌, ◌++◌, length, get_or, map, take, drop, slice_get, refl, sym, ap, subst, ◌∙◌, arith, add-one, append-nil, length-append, Box, Option, Some, None, Result, Ok, Err, IfOk, inl, inr}
+use Rattle.std.proofs.Common.{◌≡◌, ℕ, zero, suc, ◌+◌, ◌<◌, ◌≤◌, List, [], ◌∷◌, ◌++◌, length, get_or, map, take, drop, slice_get, refl, sym, ap, subst, ◌∙◌, arith, add-one, append-nil, length-append, Option, Some, None, Result, Ok, Err, IfOk, inl, inr}
 use Rattle.std.specs.Prelude.{slice_set, slice_range}
 use Rattle.std.specs.List.{AllByRecursion}
-use Rattle.std.specs.declared.alloc.Global.{Global}
 use Rattle.std.proofs.lemmas.List.{length-drop}
 use Rattle.fc_base.specs.Sizes.{most_height}
 use Rattle.fc_tree_node.specs.Weave.{weave, before_list}
@@ -16,7 +15,7 @@ use Rattle.fc_tree_node.specs.Tree.{Map, entries, IsSoundMap, IsSoundWithin}
 use Rattle.fc_tree_node.proofs.Lists.{take_nil, length_take, take_drop, all_front, all_back}
 use Rattle.fc_tree_node.proofs.Pairs.{pairs_is, leaf_pairs, leaf_children, child_below}
 use Rattle.fc_tree_node.proofs.Made.{IsChildSet, inner_length}
-use Rattle.fc_tree_node.proofs.Shared.{boxed_child}
+use Rattle.fc_tree_node.proofs.Shared.{listed_child}
 use Rattle.fc_tree_node.proofs.Gaps.{take_item, after_child_pair, step_levels}
 use Rattle.fc_tree_node.proofs.PathSteps.{one_step, more_steps}
 use Rattle.fc_tree_node.proofs.Siblings.{around_one}
@@ -217,18 +216,18 @@ module _ {K V : Type 0} where
     before_on [] s = absurd (omega arith)
     before_on (j ∷ q) s = refl
 
-    -- the two nodes that the cut goes on with, in their boxes
-    pub fork_child : (bs : List (Node K V)) (b : Node K V) (child : Node K V) → (out-Node K V left).children ≡ Some bs → b ≡ get_or bs step b → child ≡ b → child ≡ child_at left step
-    fork_child bs b child e q v =
+    -- the two nodes that the cut goes on with, lent out of their lists
+    pub fork_child : (bs : List (Node K V)) (child : Node K V) → (out-Node K V left).children ≡ Some bs → child ≡ get_or bs step child → child ≡ child_at left step
+    fork_child bs child e q =
         let le = f.le in
         let k = inner_length left bs e f.left_inner in
         let o = ap length f.left_own ∙ length_take step (own_pairs n) le in
-        boxed_child left 0 bs e step b child (omega arith) q v
+        listed_child left 0 bs e step child (omega arith) q
 
-    pub fork_top : (bs : List (Node K V)) (b : Node K V) (other : Node K V) → (out-Node K V right).children ≡ Some bs → b ≡ get_or bs 0 b → other ≡ b → other ≡ f.top
-    fork_top bs b other e q v =
+    pub fork_top : (bs : List (Node K V)) (other : Node K V) → (out-Node K V right).children ≡ Some bs → other ≡ get_or bs 0 other → other ≡ f.top
+    fork_top bs other e q =
         let k = inner_length right bs e f.right_inner in
-        boxed_child right 0 bs e 0 b other (omega arith) q v ∙ ap (λ cs. get_or cs 0 right) f.right_children
+        listed_child right 0 bs e 0 other (omega arith) q ∙ ap (λ cs. get_or cs 0 right) f.right_children
 
     pub fork_levels : (child : Node K V) → child ≡ child_at left step → IsLevelled f.below child
     fork_levels child is = subst (IsLevelled f.below) (sym (is ∙ f.left_child)) (child_below f.below n step f.levels f.le).1
@@ -282,7 +281,7 @@ module _ {K V : Type 0} where
   blank_leaf zero n top e b l = b
   blank_leaf (suc h) n top e b l = absurd (leaf_or_inner n e l.1)
 
-  pub blank_made : {E : Type 0} (n : Node K V) (made : Result (Node K V) E) → IsLeaf n → IfOk made (λ b. IsBlankLeaf b) → IfOk made (λ b. (h : ℕ) → IsLevelled h n → IsBlank h b)
+  pub blank_made : {E : Type 0} (n : Node K V) (made : Result (Node K V) E) → IsLeaf n → IfOk made IsBlankLeaf → IfOk made (λ b. (h : ℕ) → IsLevelled h n → IsBlank h b)
   blank_made n (Ok b) e i = λ h l. blank_leaf h n b e i l
   blank_made n (Err x) e i = i
 
@@ -308,4 +307,4 @@ module _ {K V : Type 0} where
 
   -- the root of a map
   pub root_sound : (root : Option (Node K V)) (b : Node K V) → root ≡ Some b → IsSoundMap root → (h : ℕ) × (h ≤ most_height) × IsSoundRoot h b
-  root_sound root b e s = subst (λ o. IsSoundMap o) e s
+  root_sound root b e s = subst IsSoundMap e s

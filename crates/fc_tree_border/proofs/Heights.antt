@@ -1,9 +1,8 @@
 -- How many levels a tree has below its root: a recursion goes on with fewer.
-use Rattle.std.proofs.Common.{◌≡◌, ℕ, zero, suc, ◌<◌, List, [], ◌∷◌, length, map, Option, Some, None, Box, refl, ap, ◌∙◌, arith}
+use Rattle.std.proofs.Common.{◌≡◌, ℕ, zero, suc, ◌<◌, List, [], ◌∷◌, length, map, Option, Some, None, refl, ap, ◌∙◌, arith}
 use Rattle.std.specs.List.{AllByRecursion}
-use Rattle.std.specs.declared.alloc.Global.{Global}
 use Rattle.fc_tree_node.specs.declared.node.Node.{Node, Node-F, out-Node, map-Node, fold-Node, fold_out-Node}
-use Rattle.fc_tree_node.specs.Node.{items_or_none, children_of, boxed, IsLevelled, IsSound}
+use Rattle.fc_tree_node.specs.Node.{items_or_none, children_of, IsLevelled, IsSound}
 use Rattle.fc_tree_node.specs.Bordered.{FirstThen, LastAfter}
 use Rattle.fc_tree_node.proofs.Pairs.{leaf_children}
 use Rattle.fc_tree_border.specs.Border.{IsBordered}
@@ -17,22 +16,15 @@ above_first (x ∷ xs) = suc x
 
 module _ {K V : Type 0} where
   abbrev height_step : Node-F K V ℕ → ℕ
-  height_step f = above_first (map (λ b. b) (items_or_none f.children))
+  height_step f = above_first (items_or_none f.children)
 
   -- the levels below the node, along its first children
   abbrev pub height_of : Node K V → ℕ
   height_of = fold-Node K V ℕ height_step
 
-  abbrev refilled : Node K V → Box ℕ Global
-  refilled d = record { ptr = d.ptr; alloc = d.alloc; value = height_of d }
-
-  heights : (bs : List (Node K V)) → map (λ (b : Box ℕ Global). b) (map refilled bs) ≡ map height_of (boxed bs)
-  heights [] = refl
-  heights (b ∷ bs) = ap (λ zs. height_of b ∷ zs) (heights bs)
-
-  folded : (ps : List (K × V)) (o : Option (List (Node K V))) → height_step (map-Node K V (Node K V) ℕ height_of (record { pairs = ps; children = o })) ≡ above_first (map height_of (boxed (items_or_none o)))
+  folded : (ps : List (K × V)) (o : Option (List (Node K V))) → height_step (map-Node K V (Node K V) ℕ height_of (record { pairs = ps; children = o })) ≡ above_first (map height_of (items_or_none o))
   folded ps None = refl
-  folded ps (Some bs) = ap above_first (heights bs)
+  folded ps (Some cs) = refl
 
   pub height_is : (n : Node K V) → height_of n ≡ above_first (map height_of (children_of n))
   height_is n = fold_out-Node K V ℕ height_step n ∙ folded (out-Node K V n).pairs (out-Node K V n).children

@@ -1,19 +1,19 @@
 -- A node whose child on the border was mended, and a root that gives way to its only child.
-use Rattle.std.proofs.Common.{◌≡◌, ℕ, zero, suc, ◌+◌, ◌<◌, ◌≤◌, List, [], ◌∷◌, ◌++◌, length, get_or, take, drop, map, refl, sym, ap, subst, ◌∙◌, arith, append-nil, Box, Option, Some, None, MatchOption, inl, inr}
-use Rattle.std.specs.declared.alloc.Global.{Global}
+use Rattle.std.proofs.Common.{◌≡◌, ℕ, zero, suc, ◌+◌, ◌<◌, ◌≤◌, List, [], ◌∷◌, ◌++◌, length, get_or, take, drop, map, refl, sym, ap, subst, ◌∙◌, arith, append-nil, Option, Some, None, MatchOption, inl, inr}
 use Rattle.std.specs.List.{AllByRecursion}
 use Rattle.fc_base.specs.Sizes.{min_len}
 use Rattle.fc_tree_node.specs.Weave.{weave}
 use Rattle.fc_tree_node.specs.declared.node.Node.{Node, out-Node}
-use Rattle.fc_tree_node.specs.Node.{items_or_none, own_pairs, children_of, child_at, boxed, pairs_of, IsLeaf, IsInner, IsLevelled, IsSound}
+use Rattle.fc_tree_node.specs.Node.{own_pairs, children_of, child_at, pairs_of, IsLeaf, IsInner, IsLevelled, IsSound}
 use Rattle.fc_tree_node.specs.Bordered.{FirstThen, LastAfter, IsLeftBordered, IsRightBordered}
 use Rattle.fc_tree_node.specs.Siblings.{IsFormed}
 use Rattle.fc_tree_node.specs.Tree.{Map, entries, IsSoundWithin}
 use Rattle.fc_tree_node.proofs.Formed.{inner_opened}
 use Rattle.fc_tree_node.specs.Place.{before_child, after_child}
 use Rattle.fc_tree_node.proofs.Lists.{length_take, take_drop, set_is, length_set, all_both}
-use Rattle.fc_tree_node.proofs.Pairs.{pairs_is, leaf_pairs, leaf_children, child_is}
+use Rattle.fc_tree_node.proofs.Pairs.{pairs_is, leaf_pairs, leaf_children}
 use Rattle.fc_tree_node.proofs.Made.{IsChildSet, children_in, inner_length}
+use Rattle.fc_tree_node.proofs.Shared.{listed_child}
 use Rattle.fc_tree_node.proofs.Gaps.{inner_gap}
 use Rattle.fc_tree_node.proofs.Siblings.{around_one}
 use Rattle.fc_tree_border.specs.Border.{IsBordered, border_place, IsStocked}
@@ -34,7 +34,7 @@ module _ {K V : Type 0} where
   above_leaf Right zero n f b = absurd (f b.1)
   above_leaf s (suc h) n f b = record { below = h; height = refl; bordered = b }
 
-  -- the node after it was stocked, with the child on its border in a box
+  -- the node after it was stocked, with the child on its border lent out
   pub record IsLent (s : Border) (h : ℕ) (mid child : Node K V) (bs : List (Node K V)) (i : ℕ) : Type 0 where
     pub opened : IsOpened s h mid
     pub bounds : i < length bs
@@ -51,13 +51,12 @@ module _ {K V : Type 0} where
       let k = inner_length mid bs e o.inner in
       omega arith
 
-  pub lent : (s : Border) (h : ℕ) (old mid child : Node K V) (bs : List (Node K V)) (b : Node K V) (i : ℕ) → (out-Node K V mid).children ≡ Some bs → IsStocked s h old mid → i ≡ border_place s mid
-      → b ≡ get_or bs i b → child ≡ b → IsLent s h mid child bs i
-  lent s h old mid child bs b i e st p q f =
+  pub lent : (s : Border) (h : ℕ) (old mid child : Node K V) (bs : List (Node K V)) (i : ℕ) → (out-Node K V mid).children ≡ Some bs → IsStocked s h old mid → i ≡ border_place s mid
+      → child ≡ get_or bs i child → IsLent s h mid child bs i
+  lent s h old mid child bs i e st p q =
       let o = border_opened s h mid st.0 in
       let k = lent_bounds s h old mid bs i e st p in
-      let same : bs ≡ items_or_none (out-Node K V mid).children = ap items_or_none (sym e) in
-      let is = child_is mid i b child (subst (λ xs. i < length xs) same k) (subst (λ xs. b ≡ get_or xs i b) same q) f in
+      let is = listed_child mid i bs e i child k q in
       let there = is ∙ ap (child_at mid) p in
       record { opened = o; bounds = k; place = p; is = is; bordered = subst (IsBordered s h) (sym there) o.child; many = subst (λ n. min_len + 1 ≤ length (own_pairs n)) (sym there) st.1 }
 
@@ -101,7 +100,7 @@ module _ {K V : Type 0} where
   pub only_one : (root : Node K V) (bs : List (Node K V)) (b : Node K V) → (out-Node K V root).children ≡ Some bs → IsFormed root → length (own_pairs root) ≡ 0 → b ≡ get_or bs 0 b → children_of root ≡ b ∷ []
   only_one root bs b e formed h f = children_in root bs e ∙ single bs b (inner_length root bs e (inner_opened root bs e formed) ∙ ap (λ k. k + 1) h) f
     where
-      single : (bs : List (Node K V)) (b : Node K V) → length bs ≡ 1 → b ≡ get_or bs 0 b → boxed bs ≡ b ∷ []
+      single : (bs : List (Node K V)) (b : Node K V) → length bs ≡ 1 → b ≡ get_or bs 0 b → bs ≡ b ∷ []
       single [] b e f = absurd (omega arith)
       single (x ∷ []) b e f = ap (λ y. y ∷ []) (sym f)
       single (x ∷ y ∷ bs) b e f = absurd (omega arith)

@@ -2,7 +2,7 @@
 use Rattle.std.specs.Prelude.{ℕ, suc, ◌+◌, ◌≤◌, length}
 use Rattle.fc_base.specs.Sizes.{min_len}
 use Rattle.fc_tree_node.specs.declared.node.Node.{Node}
-use Rattle.fc_tree_node.specs.Node.{own_pairs, child_at, IsLevelled}
+use Rattle.fc_tree_node.specs.Node.{own_pairs, child_at}
 use Rattle.fc_tree_node.specs.Bordered.{IsLeftBordered, IsRightBordered}
 use Rattle.fc_tree_node.specs.Shrunk.{IsOneFewer}
 use Rattle.fc_tree_border.specs.declared.mending.Border.{Border}

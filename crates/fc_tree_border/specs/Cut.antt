@@ -1,8 +1,7 @@
 -- A tree that is cut in two along a path.
-use Rattle.std.specs.Prelude.{◌≡◌, ℕ, zero, suc, ◌+◌, List, [], ◌∷◌, length, Some, None, ◌⊎◌}
+use Rattle.std.specs.Prelude.{◌≡◌, ℕ, zero, suc, List, [], ◌∷◌, Some, None, ◌⊎◌}
 use Rattle.fc_tree_node.specs.declared.node.Node.{Node}
-use Rattle.fc_tree_node.specs.Node.{own_pairs, children_of, IsLevelled, IsBlankLeaf}
-use Rattle.fc_tree_node.specs.Path.{IsPath}
+use Rattle.fc_tree_node.specs.Node.{own_pairs, children_of, IsBlankLeaf}
 use Rattle.fc_tree_node.specs.LeafGap.{IsLeafGap}
 use Rattle.fc_tree_node.specs.Place.{IsPlace}
 use Rattle.fc_tree_node.specs.Tree.{Map, entries}

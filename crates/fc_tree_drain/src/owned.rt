@@ -23,11 +23,7 @@ fn into_run<K: Drop, V: Drop>(node: Node<K, V>) -> Run<K, V>
 }
 
 // Goes down to the first leaf, whose pairs become the run, and leaves each node on the way without its first child.
-pub fn open_first<K: Drop, V: Drop>(
-    stack: &mut Nodes<K, V>,
-    run: &mut Run<K, V>,
-    node: Node<K, V>,
-)
+pub fn open_first<K: Drop, V: Drop>(stack: &mut Nodes<K, V>, run: &mut Run<K, V>, node: Node<K, V>)
     requires { IsUnder node stack.old }
     ensures pairs { items_or_none run.new ++ after_front stack.new ≡ pairs_of node ++ after_front stack.old }
     ensures levels { IsFalling 0 most_levels stack.new }
@@ -44,11 +40,7 @@ pub fn open_first<K: Drop, V: Drop>(
 }
 
 // Goes down to the last leaf, whose pairs become the run, and leaves each node on the way without its last child.
-pub fn open_last<K: Drop, V: Drop>(
-    stack: &mut Nodes<K, V>,
-    run: &mut Run<K, V>,
-    node: Node<K, V>,
-)
+pub fn open_last<K: Drop, V: Drop>(stack: &mut Nodes<K, V>, run: &mut Run<K, V>, node: Node<K, V>)
     requires { IsUnder node stack.old }
     ensures pairs { before_back stack.new ++ items_or_none run.new ≡ before_back stack.old ++ pairs_of node }
     ensures levels { IsFalling 0 most_levels stack.new }

@@ -1,5 +1,4 @@
 use Rattle.std.proofs.Common.{◌<◌, length, get_or, rules, ap, sym, subst, ◌∙◌, arith}
-use Rattle.std.specs.Box.{with_value}
 use Rattle.fc_tree_node.specs.Path.{IsPath}
 use Rattle.std.specs.Prelude.{slice_range}
 use Rattle.fc_tree_node.proofs.PathSteps.{more_steps}
@@ -37,8 +36,8 @@ cut_into-requires g t c κs within =
     let l = c.move_suffix.new.self in
     let r = c.move_suffix.new.other in
     let f = forked w.0 c.args.path.now n c.args.right.now l r c.if-path-eq1.false (record { some = c.requires.some; short = w.1; path = c.requires.path }) w.2 w.3 m.pairs m.children m.other_pairs m.other_children m.alike.0 m.alike.1 in
-    let is = fork_child _ c.args.path.now n l r f _ c.get_mut.result.now c.deref_mut-child.result.now c.in-Some.is c.get_mut.ensures.value c.deref_mut-child.ensures.value in
-    let top = fork_top _ c.args.path.now n l r f _ c.get_mut-2.result.now c.deref_mut-other.result.now c.in-Some-children.is c.get_mut-2.ensures.value c.deref_mut-other.ensures.value in
+    let is = fork_child _ c.args.path.now n l r f _ c.get_mut-child.result.now c.in-Some.is c.get_mut-child.ensures.value in
+    let top = fork_top _ c.args.path.now n l r f _ c.get_mut-other.result.now c.in-Some-children.is c.get_mut-other.ensures.value in
     let on = f.onward in
     let some = on.some in
     let q = more_steps c.args.path.now c.requires.some in
@@ -54,8 +53,8 @@ returns-clause-front g t c =
     let l = c.move_suffix.new.self in
     let r = c.move_suffix.new.other in
     let f = forked w.0 c.args.path.now n c.args.right.now l r c.if-path-eq1.false (record { some = c.requires.some; short = w.1; path = c.requires.path }) w.2 w.3 m.pairs m.children m.other_pairs m.other_children m.alike.0 m.alike.1 in
-    let is = fork_child _ c.args.path.now n l r f _ c.get_mut.result.now c.deref_mut-child.result.now c.in-Some.is c.get_mut.ensures.value c.deref_mut-child.ensures.value in
-    let set = child_set l _ (get_or c.args.path.now 0 0) (with_value c.get_mut.result.now c.cut_into.new.node) c.in-Some.is in
+    let is = fork_child _ c.args.path.now n l r f _ c.get_mut-child.result.now c.in-Some.is c.get_mut-child.ensures.value in
+    let set = child_set l _ (get_or c.args.path.now 0 0) c.cut_into.new.node c.in-Some.is in
     fork_front _ c.args.path.now n l r f _ _ _ set is c.cut_into.ensures.front
 
 pub returns-clause-back : goal.returns-clause-back
@@ -66,8 +65,8 @@ returns-clause-back g t c =
     let l = c.move_suffix.new.self in
     let r = c.move_suffix.new.other in
     let f = forked w.0 c.args.path.now n c.args.right.now l r c.if-path-eq1.false (record { some = c.requires.some; short = w.1; path = c.requires.path }) w.2 w.3 m.pairs m.children m.other_pairs m.other_children m.alike.0 m.alike.1 in
-    let is = fork_child _ c.args.path.now n l r f _ c.get_mut.result.now c.deref_mut-child.result.now c.in-Some.is c.get_mut.ensures.value c.deref_mut-child.ensures.value in
-    let set = child_set r _ 0 (with_value c.get_mut-2.result.now c.cut_into.new.right) c.in-Some-children.is in
+    let is = fork_child _ c.args.path.now n l r f _ c.get_mut-child.result.now c.in-Some.is c.get_mut-child.ensures.value in
+    let set = child_set r _ 0 c.cut_into.new.right c.in-Some-children.is in
     fork_back _ c.args.path.now n l r f _ _ _ set is c.cut_into.ensures.back
 
 pub returns-clause-front_levels : goal.returns-clause-front_levels
@@ -81,9 +80,9 @@ returns-clause-front_levels g t c h lv b =
     let y = levelled_height w.0 n w.2 in
     let short = w.1 in
     let f = forked h c.args.path.now n c.args.right.now l r c.if-path-eq1.false (record { some = c.requires.some; short = omega arith; path = c.requires.path }) lv b m.pairs m.children m.other_pairs m.other_children m.alike.0 m.alike.1 in
-    let is = fork_child _ c.args.path.now n l r f _ c.get_mut.result.now c.deref_mut-child.result.now c.in-Some.is c.get_mut.ensures.value c.deref_mut-child.ensures.value in
-    let top = fork_top _ c.args.path.now n l r f _ c.get_mut-2.result.now c.deref_mut-other.result.now c.in-Some-children.is c.get_mut-2.ensures.value c.deref_mut-other.ensures.value in
-    let set = child_set l _ (get_or c.args.path.now 0 0) (with_value c.get_mut.result.now c.cut_into.new.node) c.in-Some.is in
+    let is = fork_child _ c.args.path.now n l r f _ c.get_mut-child.result.now c.in-Some.is c.get_mut-child.ensures.value in
+    let top = fork_top _ c.args.path.now n l r f _ c.get_mut-other.result.now c.in-Some-children.is c.get_mut-other.ensures.value in
+    let set = child_set l _ (get_or c.args.path.now 0 0) c.cut_into.new.node c.in-Some.is in
     fork_front_levels h c.args.path.now n l r f _ _ set (c.cut_into.ensures.front_levels f.below (fork_levels _ c.args.path.now n l r f _ is) (subst (IsBlank f.below) (sym top) f.blank))
 
 pub returns-clause-back_levels : goal.returns-clause-back_levels
@@ -97,7 +96,7 @@ returns-clause-back_levels g t c h lv b =
     let y = levelled_height w.0 n w.2 in
     let short = w.1 in
     let f = forked h c.args.path.now n c.args.right.now l r c.if-path-eq1.false (record { some = c.requires.some; short = omega arith; path = c.requires.path }) lv b m.pairs m.children m.other_pairs m.other_children m.alike.0 m.alike.1 in
-    let is = fork_child _ c.args.path.now n l r f _ c.get_mut.result.now c.deref_mut-child.result.now c.in-Some.is c.get_mut.ensures.value c.deref_mut-child.ensures.value in
-    let top = fork_top _ c.args.path.now n l r f _ c.get_mut-2.result.now c.deref_mut-other.result.now c.in-Some-children.is c.get_mut-2.ensures.value c.deref_mut-other.ensures.value in
-    let set = child_set r _ 0 (with_value c.get_mut-2.result.now c.cut_into.new.right) c.in-Some-children.is in
+    let is = fork_child _ c.args.path.now n l r f _ c.get_mut-child.result.now c.in-Some.is c.get_mut-child.ensures.value in
+    let top = fork_top _ c.args.path.now n l r f _ c.get_mut-other.result.now c.in-Some-children.is c.get_mut-other.ensures.value in
+    let set = child_set r _ 0 c.cut_into.new.right c.in-Some-children.is in
     fork_back_levels h c.args.path.now n l r f _ _ set (c.cut_into.ensures.back_levels f.below (fork_levels _ c.args.path.now n l r f _ is) (subst (IsBlank f.below) (sym top) f.blank))

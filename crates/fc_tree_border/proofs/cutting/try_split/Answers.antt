@@ -1,4 +1,4 @@
-use Rattle.std.proofs.Common.{◌≡◌, sym, subst, ap, ◌∙◌}
+use Rattle.std.proofs.Common.{◌≡◌, sym, subst, ◌∙◌}
 use Rattle.fc_tree_node.specs.Node.{IsLevelled}
 use Rattle.fc_tree_border.specs.Cut.{IsCutPathIn, IsCutInTwo}
 use Rattle.fc_tree_border.proofs.Cuts.{root_sound, within_sound}
@@ -10,12 +10,12 @@ cut-left-requires-clause-levels g c =
     (r.0, r.2.1)
 
 pub cut-left-requires-clause-path : goal.cut-left-requires-clause-path
-cut-left-requires-clause-path g c = subst (λ o. IsCutPathIn c.args.path.now o) (sym c.take.ensures.value ∙ c.in-Some-take.is) c.requires.path
+cut-left-requires-clause-path g c = subst (IsCutPathIn c.args.path.now) (sym c.take.ensures.value ∙ c.in-Some-take.is) c.requires.path
 
 pub cut-left-requires-clause-border : goal.cut-left-requires-clause-border
 cut-left-requires-clause-border g c h l =
     let same : c.in-Some.whole ≡ c.in-Some-take.whole = cc (c.in-Some.is, c.take.ensures.value, c.in-Some-take.is) in
-    c.in_ok-border.ensures.ok h (subst (IsLevelled h) (sym (c.deref.ensures ∙ ap (λ b. b) same)) l)
+    c.in_ok-border.ensures.ok h (subst (IsLevelled h) (sym same) l)
 
 pub returns-clause-pairs : goal.returns-clause-pairs
 returns-clause-pairs g c =

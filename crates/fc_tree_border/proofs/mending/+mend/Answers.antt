@@ -1,6 +1,4 @@
-use Rattle.std.proofs.Common.{◌<◌, length, rules, arith, sym, ap, subst, ◌∙◌}
-use Rattle.fc_tree_node.specs.Node.{own_pairs, pairs_of}
-use Rattle.fc_tree_border.specs.Border.{IsBordered}
+use Rattle.std.proofs.Common.{◌<◌, rules, arith, ◌∙◌}
 use Rattle.fc_tree_border.proofs.Heights.{height_of, bordered_height}
 use Rattle.fc_tree_border.proofs.Mended.{bordered_formed, levelled_formed, only_pairs, heir_pairs, heir_levels, within_more, heir_bordered}
 use Rattle.fc_tree_border.proofs.mending.+mend.Goals as goal
@@ -19,7 +17,6 @@ mend-requires g t c κs within =
 
 pub returns-in-Some-clause-pairs : goal.returns-in-Some-clause-pairs
 returns-in-Some-clause-pairs g t c =
-    let d = ap (λ n. length (own_pairs n)) c.deref.ensures in
     let v = c.len.ensures.value in
     let z = c.if-len-eq0.true in
     c.mend.ensures.pairs ∙ only_pairs c.args.root _ (omega arith) c.in-Some.ensures
@@ -32,15 +29,14 @@ returns-in-Some-clause-levels g t c h b =
 
 pub only_child-requires-2-clause-formed : goal.only_child-requires-2-clause-formed
 only_child-requires-2-clause-formed g t c =
-    levelled_formed _ _ (c.mend_below.ensures.levels _ (subst (IsBordered c.args.side _) (sym c.deref_mut.ensures.value) c.requires.1)).0
+    levelled_formed _ _ (c.mend_below.ensures.levels _ c.requires.1).0
 
 pub returns-clause-pairs : goal.returns-clause-pairs
 returns-clause-pairs g t c =
-    let d = ap (λ n. length (own_pairs n)) c.deref-2.ensures in
     let v = c.len-2.ensures.value in
     let z = c.if-len-gt0.false in
-    heir_pairs _ c.mend_below.new.node (omega arith) c.only_child-2.ensures ∙ c.mend_below.ensures.pairs ∙ ap pairs_of c.deref_mut.ensures.value
+    heir_pairs _ c.mend_below.new.node (omega arith) c.only_child-2.ensures ∙ c.mend_below.ensures.pairs
 
 pub returns-clause-levels : goal.returns-clause-levels
 returns-clause-levels g t c h b =
-    heir_levels _ h c.mend_below.new.node c.only_child-2.ensures (c.mend_below.ensures.levels h (subst (IsBordered c.args.side h) (sym c.deref_mut.ensures.value) b)).0
+    heir_levels _ h c.mend_below.new.node c.only_child-2.ensures (c.mend_below.ensures.levels h b).0

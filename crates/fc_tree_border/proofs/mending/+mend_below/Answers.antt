@@ -1,5 +1,4 @@
 use Rattle.std.proofs.Common.{◌<◌, rules, ◌∙◌, arith}
-use Rattle.std.specs.Box.{with_value}
 use Rattle.std.proofs.lemmas.Bool.{false≢true}
 use Rattle.fc_tree_node.proofs.Made.{child_set}
 use Rattle.fc_tree_node.proofs.Formed.{leaf_or_inner}
@@ -13,37 +12,37 @@ stock-requires-clause-bordered g t c =
     let a = above_leaf c.args.side _ c.args.node.now (λ l. false≢true (c.if-is_leaf.ensures.1 l)) c.requires.bordered.1 in
     (a.below, a.bordered)
 
-pub get_mut-requires : goal.get_mut-requires
-get_mut-requires g t c =
+pub get_mut-child-requires : goal.get_mut-child-requires
+get_mut-child-requires g t c =
     let a = above_leaf c.args.side _ c.args.node.now (λ l. false≢true (c.if-is_leaf.ensures.1 l)) c.requires.bordered.1 in
     lent_bounds c.args.side a.below c.args.node.now _ _ _ c.in-Some.is (c.stock.ensures.stocked a.below a.bordered) c.border_child-place.ensures.value
 
 pub mend_below-requires : goal.mend_below-requires
 mend_below-requires g t c κs within =
     let a = above_leaf c.args.side _ c.args.node.now (λ l. false≢true (c.if-is_leaf.ensures.1 l)) c.requires.bordered.1 in
-    let l = lent c.args.side a.below c.args.node.now _ _ _ _ _ c.in-Some.is (c.stock.ensures.stocked a.below a.bordered) c.border_child-place.ensures.value c.get_mut.ensures.value c.deref_mut-child.ensures.value in
+    let l = lent c.args.side a.below c.args.node.now _ _ _ _ c.in-Some.is (c.stock.ensures.stocked a.below a.bordered) c.border_child-place.ensures.value c.get_mut-child.ensures.value in
     let many = l.many in
     let x = bordered_height c.args.side _ c.args.node.now a.bordered in
-    let y = bordered_height c.args.side _ c.deref_mut-child.result.now l.bordered in
-    let falls : height_of c.deref_mut-child.result.now < height_of c.args.node.now = omega arith in
+    let y = bordered_height c.args.side _ c.get_mut-child.result.now l.bordered in
+    let falls : height_of c.get_mut-child.result.now < height_of c.args.node.now = omega arith in
     (search rules, (search rules, (search rules, (omega arith, (a.below, l.bordered)))))
 
 pub returns-clause-pairs : goal.returns-clause-pairs
 returns-clause-pairs g t c =
     let a = above_leaf c.args.side _ c.args.node.now (λ l. false≢true (c.if-is_leaf.ensures.1 l)) c.requires.bordered.1 in
-    let l = lent c.args.side a.below c.args.node.now _ _ _ _ _ c.in-Some.is (c.stock.ensures.stocked a.below a.bordered) c.border_child-place.ensures.value c.get_mut.ensures.value c.deref_mut-child.ensures.value in
-    let m = child_set c.stock.new.node _ c.border_child-place.result (with_value c.get_mut.result.now c.mend_below.new.node) c.in-Some.is in
+    let l = lent c.args.side a.below c.args.node.now _ _ _ _ c.in-Some.is (c.stock.ensures.stocked a.below a.bordered) c.border_child-place.ensures.value c.get_mut-child.ensures.value in
+    let m = child_set c.stock.new.node _ c.border_child-place.result c.mend_below.new.node c.in-Some.is in
     let there = l.opened.there in
     let place = l.place in
-    mended_pairs c.stock.new.node _ c.deref_mut-child.result.now _ c.border_child-place.result l.opened.inner (omega arith) m l.is c.mend_below.ensures.pairs ∙ c.stock.ensures.pairs
+    mended_pairs c.stock.new.node _ c.get_mut-child.result.now _ c.border_child-place.result l.opened.inner (omega arith) m l.is c.mend_below.ensures.pairs ∙ c.stock.ensures.pairs
 
 pub returns-clause-levels : goal.returns-clause-levels
 returns-clause-levels g t c h b =
     let a = above_leaf c.args.side h c.args.node.now (λ l. false≢true (c.if-is_leaf.ensures.1 l)) b in
     let st = c.stock.ensures.stocked a.below a.bordered in
-    let l = lent c.args.side a.below c.args.node.now _ _ _ _ _ c.in-Some.is st c.border_child-place.ensures.value c.get_mut.ensures.value c.deref_mut-child.ensures.value in
-    let m = child_set c.stock.new.node _ c.border_child-place.result (with_value c.get_mut.result.now c.mend_below.new.node) c.in-Some.is in
-    mended_levels c.args.side h a.below c.args.node.now c.stock.new.node _ c.deref_mut-child.result.now _ _ _ a.height st l m (c.mend_below.ensures.levels a.below l.bordered)
+    let l = lent c.args.side a.below c.args.node.now _ _ _ _ c.in-Some.is st c.border_child-place.ensures.value c.get_mut-child.ensures.value in
+    let m = child_set c.stock.new.node _ c.border_child-place.result c.mend_below.new.node c.in-Some.is in
+    mended_levels c.args.side h a.below c.args.node.now c.stock.new.node _ c.get_mut-child.result.now _ _ _ a.height st l m (c.mend_below.ensures.levels a.below l.bordered)
 
 pub unreachable-requires : goal.unreachable-requires
 unreachable-requires g t c =

@@ -1,13 +1,11 @@
 use Rattle.std.proofs.Common.{rules, arith, ◌-◌, ◌<◌, ◌++◌, length, sym, ap, ◌∙◌, length-append}
 use Rattle.fc_base.specs.Sizes.{most_levels}
-use Rattle.fc_tree_node.specs.Node.{own_pairs, children_of}
 use Rattle.fc_tree_drain.specs.Opened.{after_front}
 use Rattle.fc_tree_drain.proofs.Opening.{no_item, under_room, under_levels, under_first, first_opened, leaf_own}
 use Rattle.fc_tree_drain.proofs.owned.+open_first.Goals as goal
 
 pub returns-then-child_count-eq0-clause-pairs : goal.returns-then-child_count-eq0-clause-pairs
 returns-then-child_count-eq0-clause-pairs g t c =
-    let d = ap (λ n. length (children_of n)) c.deref.ensures in
     let v = c.child_count.ensures.value in
     let z = c.if-child_count-eq0.true in
     ap (λ zs. zs ++ after_front c.args.stack.now) (c.into_run.ensures ∙ sym (leaf_own c.args.node (no_item _ (omega arith))))
@@ -26,9 +24,9 @@ open_first-requires g t c κs within =
     let r = under_room _ _ c.requires in
     let e = ap length c.push.ensures ∙ length-append c.args.stack.now _ in
     let falls : most_levels - length c.push.new.self < most_levels - length c.args.stack.now = omega arith in
-    let u = under_first c.args.node _ _ _ _ c.requires (ap children_of (sym c.deref_mut.ensures.value) ∙ c.take_first_child-child.ensures.children) (c.take_first_child-child.ensures.pairs ∙ ap own_pairs c.deref_mut.ensures.value) c.push.ensures in
+    let u = under_first c.args.node _ _ _ _ c.requires c.take_first_child-child.ensures.children c.take_first_child-child.ensures.pairs c.push.ensures in
     (search rules, (search rules, (search rules, (search rules, u))))
 
 pub returns-clause-pairs : goal.returns-clause-pairs
 returns-clause-pairs g t c =
-    first_opened c.args.node _ _ _ _ _ (ap children_of (sym c.deref_mut.ensures.value) ∙ c.take_first_child-child.ensures.children) (c.take_first_child-child.ensures.pairs ∙ ap own_pairs c.deref_mut.ensures.value) c.push.ensures c.open_first.ensures.pairs
+    first_opened c.args.node _ _ _ _ _ c.take_first_child-child.ensures.children c.take_first_child-child.ensures.pairs c.push.ensures c.open_first.ensures.pairs

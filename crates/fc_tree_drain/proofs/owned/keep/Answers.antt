@@ -1,18 +1,15 @@
-use Rattle.std.proofs.Common.{rules, arith, length, ap}
-use Rattle.fc_tree_node.specs.Node.{own_pairs}
+use Rattle.std.proofs.Common.{rules, arith}
 use Rattle.fc_tree_drain.proofs.Opening.{keep_room, kept, dropped, empty_front, empty_back, front_push, back_push}
 use Rattle.fc_tree_drain.proofs.owned.keep.Goals as goal
 
 pub returns-then-len-eq0-clause-front : goal.returns-then-len-eq0-clause-front
 returns-then-len-eq0-clause-front g c =
-    let d = ap (λ n. length (own_pairs n)) c.deref.ensures in
     let v = c.len.ensures.value in
     let z = c.if-len-eq0.true in
     empty_front c.args.node c.args.stack.now _ c.requires.1 (omega arith)
 
 pub returns-then-len-eq0-clause-back : goal.returns-then-len-eq0-clause-back
 returns-then-len-eq0-clause-back g c =
-    let d = ap (λ n. length (own_pairs n)) c.deref.ensures in
     let v = c.len.ensures.value in
     let z = c.if-len-eq0.true in
     empty_back c.args.node c.args.stack.now _ c.requires.1 (omega arith)
@@ -31,7 +28,6 @@ returns-clause-back g c = back_push _ _ _ c.push.ensures
 
 pub returns-clause-levels : goal.returns-clause-levels
 returns-clause-levels g c h o f =
-    let d = ap (λ n. length (own_pairs n)) c.deref.ensures in
     let v = c.len.ensures.value in
     let z = c.if-len-eq0.false in
     kept _ _ _ (omega arith) c.push.ensures h o f

@@ -1,5 +1,5 @@
-use Rattle.std.proofs.Common.{rules, arith, ◌++◌, length, sym, ap, ◌∙◌, length-append, append-nil}
-use Rattle.fc_tree_node.specs.Node.{own_pairs, children_of, items_or_none}
+use Rattle.std.proofs.Common.{rules, arith, ◌++◌, length, ap, ◌∙◌, length-append, append-nil}
+use Rattle.fc_tree_node.specs.Node.{items_or_none}
 use Rattle.fc_tree_drain.specs.Opened.{before_back}
 use Rattle.fc_tree_drain.proofs.Opening.{bottom_rest, bottom_over, bottom_even, under_over_last, filled_back, back_over, back_parted}
 use Rattle.fc_tree_drain.proofs.Ends.{back_some}
@@ -7,8 +7,6 @@ use Rattle.fc_tree_drain.proofs.owned.move_to_back.Goals as goal
 
 pub returns-then-child_count-len-clause-pairs : goal.returns-then-child_count-len-clause-pairs
 returns-then-child_count-len-clause-pairs g c =
-    let a = ap (λ n. length (children_of n)) c.deref.ensures in
-    let b = ap (λ n. length (own_pairs n)) c.deref-2.ensures in
     let v = c.child_count.ensures.value in
     let w = c.len.ensures.value in
     let t = c.if-child_count-len.true in
@@ -30,23 +28,19 @@ returns-then-child_count-len-clause-some g c =
 
 pub open_last-requires : goal.open_last-requires
 open_last-requires g c =
-    let a = ap (λ n. length (children_of n)) c.deref.ensures in
-    let b = ap (λ n. length (own_pairs n)) c.deref-2.ensures in
     let v = c.child_count.ensures.value in
     let w = c.len.ensures.value in
     let t = c.if-child_count-len.false in
     let e = bottom_even _ _ c.take_bottom-node.result c.requires.levels c.take_bottom-node.ensures (omega arith) in
-    (search rules, under_over_last _ _ c.args.back.now _ c.take_bottom-node.result _ _ c.requires.levels c.take_bottom-node.ensures e c.requires.none (ap children_of (sym c.deref_mut.ensures.value) ∙ c.take_last_child-child.ensures.children) (c.take_last_child-child.ensures.pairs ∙ ap own_pairs c.deref_mut.ensures.value) c.push-2.ensures)
+    (search rules, under_over_last _ _ c.args.back.now _ c.take_bottom-node.result _ _ c.requires.levels c.take_bottom-node.ensures e c.requires.none c.take_last_child-child.ensures.children c.take_last_child-child.ensures.pairs c.push-2.ensures)
 
 pub returns-clause-pairs : goal.returns-clause-pairs
 returns-clause-pairs g c =
-    let a = ap (λ n. length (children_of n)) c.deref.ensures in
-    let b = ap (λ n. length (own_pairs n)) c.deref-2.ensures in
     let v = c.child_count.ensures.value in
     let w = c.len.ensures.value in
     let t = c.if-child_count-len.false in
     let e = bottom_even _ _ c.take_bottom-node.result c.requires.levels c.take_bottom-node.ensures (omega arith) in
-    let p = back_parted c.args.back.now c.push-2.new.self _ c.take_bottom-node.result _ _ c.requires.none e (ap children_of (sym c.deref_mut.ensures.value) ∙ c.take_last_child-child.ensures.children) (c.take_last_child-child.ensures.pairs ∙ ap own_pairs c.deref_mut.ensures.value) c.push-2.ensures c.open_last.ensures.pairs in
+    let p = back_parted c.args.back.now c.push-2.new.self _ c.take_bottom-node.result _ _ c.requires.none e c.take_last_child-child.ensures.children c.take_last_child-child.ensures.pairs c.push-2.ensures c.open_last.ensures.pairs in
     filled_back c.args.front.now _ _ c.take_bottom-node.result c.take_bottom-node.ensures p
 
 pub returns-clause-front : goal.returns-clause-front

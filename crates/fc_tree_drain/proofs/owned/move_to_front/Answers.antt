@@ -1,5 +1,5 @@
-use Rattle.std.proofs.Common.{rules, arith, ◌++◌, length, sym, ap, ◌∙◌, length-append}
-use Rattle.fc_tree_node.specs.Node.{own_pairs, children_of, items_or_none}
+use Rattle.std.proofs.Common.{rules, arith, ◌++◌, length, ap, ◌∙◌, length-append}
+use Rattle.fc_tree_node.specs.Node.{items_or_none}
 use Rattle.fc_tree_drain.specs.Opened.{after_front}
 use Rattle.fc_tree_drain.proofs.Opening.{bottom_rest, bottom_over, bottom_even, under_over_first, filled_front, front_over, front_parted}
 use Rattle.fc_tree_drain.proofs.Ends.{front_some}
@@ -7,8 +7,6 @@ use Rattle.fc_tree_drain.proofs.owned.move_to_front.Goals as goal
 
 pub returns-then-child_count-len-clause-pairs : goal.returns-then-child_count-len-clause-pairs
 returns-then-child_count-len-clause-pairs g c =
-    let a = ap (λ n. length (children_of n)) c.deref.ensures in
-    let b = ap (λ n. length (own_pairs n)) c.deref-2.ensures in
     let v = c.child_count.ensures.value in
     let w = c.len.ensures.value in
     let t = c.if-child_count-len.true in
@@ -30,23 +28,19 @@ returns-then-child_count-len-clause-some g c =
 
 pub open_first-requires : goal.open_first-requires
 open_first-requires g c =
-    let a = ap (λ n. length (children_of n)) c.deref.ensures in
-    let b = ap (λ n. length (own_pairs n)) c.deref-2.ensures in
     let v = c.child_count.ensures.value in
     let w = c.len.ensures.value in
     let t = c.if-child_count-len.false in
     let e = bottom_even _ _ c.take_bottom-node.result c.requires.levels c.take_bottom-node.ensures (omega arith) in
-    (search rules, under_over_first _ _ c.args.front.now _ c.take_bottom-node.result _ _ c.requires.levels c.take_bottom-node.ensures e c.requires.none (ap children_of (sym c.deref_mut.ensures.value) ∙ c.take_first_child-child.ensures.children) (c.take_first_child-child.ensures.pairs ∙ ap own_pairs c.deref_mut.ensures.value) c.push-2.ensures)
+    (search rules, under_over_first _ _ c.args.front.now _ c.take_bottom-node.result _ _ c.requires.levels c.take_bottom-node.ensures e c.requires.none c.take_first_child-child.ensures.children c.take_first_child-child.ensures.pairs c.push-2.ensures)
 
 pub returns-clause-pairs : goal.returns-clause-pairs
 returns-clause-pairs g c =
-    let a = ap (λ n. length (children_of n)) c.deref.ensures in
-    let b = ap (λ n. length (own_pairs n)) c.deref-2.ensures in
     let v = c.child_count.ensures.value in
     let w = c.len.ensures.value in
     let t = c.if-child_count-len.false in
     let e = bottom_even _ _ c.take_bottom-node.result c.requires.levels c.take_bottom-node.ensures (omega arith) in
-    let p = front_parted c.args.front.now c.push-2.new.self _ c.take_bottom-node.result _ _ c.requires.none e (ap children_of (sym c.deref_mut.ensures.value) ∙ c.take_first_child-child.ensures.children) (c.take_first_child-child.ensures.pairs ∙ ap own_pairs c.deref_mut.ensures.value) c.push-2.ensures c.open_first.ensures.pairs in
+    let p = front_parted c.args.front.now c.push-2.new.self _ c.take_bottom-node.result _ _ c.requires.none e c.take_first_child-child.ensures.children c.take_first_child-child.ensures.pairs c.push-2.ensures c.open_first.ensures.pairs in
     filled_front c.args.back.now _ _ c.take_bottom-node.result c.take_bottom-node.ensures p
 
 pub returns-clause-back : goal.returns-clause-back

@@ -1,5 +1,5 @@
-use Rattle.std.proofs.Common.{◌-◌, ◌<◌, ◌++◌, length, get_or, sym, ap, ◌∙◌, subst, arith}
-use Rattle.fc_tree_node.specs.Node.{own_pairs, items_or_none}
+use Rattle.std.proofs.Common.{◌-◌, ◌++◌, sym, ap, ◌∙◌, arith}
+use Rattle.fc_tree_node.specs.Node.{items_or_none}
 use Rattle.fc_tree_drain.specs.Opened.{after_front}
 use Rattle.fc_tree_drain.proofs.Opening.{no_item}
 use Rattle.fc_tree_drain.proofs.Ends.{nodes_there, top_has, top_first}
@@ -12,7 +12,7 @@ pair-requires g c =
     let f = c.if-run_len-gt0.false in
     let v = c.len.ensures.value in
     let k = nodes_there (items_or_none s.run) s.nodes c.args.self.now c.self.view_is c.requires (omega arith) in
-    subst (λ n. 0 < length (own_pairs n)) (sym c.deref.ensures) (top_has s.nodes (c.len.result - 1) c.get.result.now c.self.invariant (omega arith) c.get.ensures)
+    top_has s.nodes (c.len.result - 1) c.get.result.now c.self.invariant (omega arith) c.get.ensures
 
 pub returns : goal.returns
 returns g c =
@@ -22,5 +22,5 @@ returns g c =
     let v = c.len.ensures.value in
     let none = no_item (items_or_none s.run) (omega arith) in
     let k = nodes_there (items_or_none s.run) s.nodes c.args.self.now c.self.view_is c.requires (omega arith) in
-    let t = top_first s.nodes (c.len.result - 1) c.get.result.now c.pair.result.now c.self.invariant (omega arith) c.get.ensures (c.pair.ensures ∙ ap (λ n. get_or (own_pairs n) 0 c.pair.result.now) c.deref.ensures) in
+    let t = top_first s.nodes (c.len.result - 1) c.get.result.now c.pair.result.now c.self.invariant (omega arith) c.get.ensures c.pair.ensures in
     (t.0, sym c.self.view_is ∙ ap (λ xs. xs ++ after_front s.nodes) none ∙ t.1)
