@@ -1,10 +1,9 @@
 -- What a walk of calls leaves of a list of pairs, and of a map.
-use Rattle.std.proofs.Common.{◌≡◌, ℕ, ◌+◌, ◌≤◌, List, [], ◌∷◌, ◌++◌, length, map, take, drop, Option, Some, None, Box, refl, sym, ap, subst, ◌∙◌, arith}
+use Rattle.std.proofs.Common.{◌≡◌, ℕ, ◌+◌, ◌≤◌, List, [], ◌∷◌, ◌++◌, length, map, take, drop, Option, Some, None, refl, sym, ap, subst, ◌∙◌, arith}
 use Rattle.std.proofs.lemmas.List.{length-map, map-append, length-append}
 use Rattle.std.specs.List.{AllByRecursion}
 use Rattle.std.specs.declared.cmp.Ordering.{Ordering}
 use Rattle.std.specs.declared.cmp.Ordering.TheVariants.{Less}
-use Rattle.std.specs.declared.alloc.Global.{Global}
 use Rattle.fc_base.specs.Ascending.{IsAscending}
 use Rattle.fc_tree_node.specs.declared.node.Node.{Node}
 use Rattle.fc_tree_node.specs.Node.{pairs_of}
@@ -71,30 +70,32 @@ module _ {F K V : Type 0} (R : F → K × V → F → V → Type 0) where
       (record { within = []; left = []; old_is = sym (ap (λ zs. zs ++ drop j none) (take_nil i) ∙ drop_nil j); new_is = sym (ap (λ zs. zs ++ drop j none) (take_nil i) ∙ drop_nil j); visits = (refl, refl) })
 
   -- the ends of a map as numbers
-  pub visited_cut : (m : Option (Node K V)) (b : Node K V) (n n' : Node K V) (front back p q : List ℕ) (f g : F) → m ≡ Some b → n ≡ b → p ≡ front → q ≡ back → IsSoundMap m → AreEndsIn m front back → IsVisited R f g (before_gap p n) (after_gap q n) (pairs_of n) (pairs_of n')
+  pub visited_cut : (m : Option (Node K V)) (n n' : Node K V) (front back p q : List ℕ) (f g : F) → m ≡ Some n → p ≡ front → q ≡ back → IsSoundMap m
+      → AreEndsIn m front back → IsVisited R f g (before_gap p n) (after_gap q n) (pairs_of n) (pairs_of n')
       → IsVisited R f g (take (length (before_gap_in m front)) (entries m)) (drop (length (before_gap_in m back)) (entries m)) (entries m) (pairs_of n')
-  visited_cut m b n n' front back p q f g is v i j sound ends w =
-      let s = subst (λ o. IsSoundMap o) is sound in
+  visited_cut m n n' front back p q f g is i j sound ends w =
+      let s = subst IsSoundMap is sound in
       let e = subst (λ o. AreEndsIn o front back) is ends in
       let h = s.0 in
       let l = s.2.1 in
-      let cf = gap_pairs front h b l (e.0.1 h l) e.0.0 in
-      let cb = gap_pairs back h b l (e.1.1 h l) e.1.0 in
-      let tf = ap (take (length (before_gap front b))) cf ∙ take_front (before_gap front b) (after_gap front b) in
-      let db = ap (drop (length (before_gap back b))) cb ∙ drop_front (before_gap back b) (after_gap back b) in
-      let u = subst (λ x. IsVisited R f g (before_gap p x) (after_gap q x) (pairs_of x) (pairs_of n')) v w in
-      let u' : IsVisited R f g (before_gap front b) (after_gap back b) (pairs_of b) (pairs_of n') = rw (i, j) at u in
-      subst (λ o. IsVisited R f g (take (length (before_gap_in o front)) (entries o)) (drop (length (before_gap_in o back)) (entries o)) (entries o) (pairs_of n')) (sym is)
-      (subst (λ x. IsVisited R f g x (drop (length (before_gap back b)) (pairs_of b)) (pairs_of b) (pairs_of n')) (sym tf) (subst (λ x. IsVisited R f g (before_gap front b) x (pairs_of b) (pairs_of n')) (sym db) u'))
+      let cf = gap_pairs front h n l (e.0.1 h l) e.0.0 in
+      let cb = gap_pairs back h n l (e.1.1 h l) e.1.0 in
+      let tf = ap (take (length (before_gap front n))) cf ∙ take_front (before_gap front n) (after_gap front n) in
+      let db = ap (drop (length (before_gap back n))) cb ∙ drop_front (before_gap back n) (after_gap back n) in
+      let Left : List (K × V) → List (K × V) → Type 0 = λ x y. IsVisited R f g x y (pairs_of n) (pairs_of n') in
+      let u : Left (before_gap front n) (after_gap back n) = rw (i, j) at w in
+      subst (λ o. IsVisited R f g (take (length (before_gap_in o front)) (entries o)) (drop (length (before_gap_in o back)) (entries o)) (entries o) (pairs_of n'))
+      (sym is) (subst (λ x. Left x (drop (length (before_gap back n)) (pairs_of n))) (sym tf) (subst (Left (before_gap front n)) (sym db) u))
 
 -- the ends of a map, in order in its root
-pub ends_order : {K V : Type 0} (m : Option (Node K V)) (b : Node K V) (n : Node K V) (front back p q : List ℕ) → m ≡ Some b → n ≡ b → p ≡ front → q ≡ back → IsSoundMap m → AreEndsIn m front back → length (before_gap p n) + length (after_gap q n) ≤ length (pairs_of n)
-ends_order m b n front back p q is v i j sound ends =
-    let s = subst (λ o. IsSoundMap o) is sound in
+pub ends_order : {K V : Type 0} (m : Option (Node K V)) (n : Node K V) (front back p q : List ℕ) → m ≡ Some n → p ≡ front → q ≡ back → IsSoundMap m
+    → AreEndsIn m front back → length (before_gap p n) + length (after_gap q n) ≤ length (pairs_of n)
+ends_order m n front back p q is i j sound ends =
+    let s = subst IsSoundMap is sound in
     let e = subst (λ o. AreEndsIn o front back) is ends in
     let h = s.0 in
     let l = s.2.1 in
-    let all = ap length (gap_pairs back h b l (e.1.1 h l) e.1.0) in
-    let cut = length-append (before_gap back b) (after_gap back b) in
-    let o : length (before_gap front b) + length (after_gap back b) ≤ length (pairs_of b) = (let f = e.2 in omega arith) in
-    subst (λ x. length (before_gap p x) + length (after_gap q x) ≤ length (pairs_of x)) (sym v) (rw (i, j) o)
+    let all = ap length (gap_pairs back h n l (e.1.1 h l) e.1.0) in
+    let cut = length-append (before_gap back n) (after_gap back n) in
+    let o : length (before_gap front n) + length (after_gap back n) ≤ length (pairs_of n) = (let f = e.2 in omega arith) in
+    rw (i, j) o

@@ -1,18 +1,17 @@
 -- The parts of a node, and what is left of them once a child or a value is written.
-use Rattle.std.proofs.Common.{◌≡◌, ℕ, zero, suc, ◌+◌, ◌<◌, ◌≤◌, List, [], ◌∷◌, ◌++◌, length, map, take, drop, get_or, slice_set, refl, sym, ap, subst, ◌∙◌, append_assoc, Some, Box, arith, ◌⊎◌, inl, inr}
+use Rattle.std.proofs.Common.{◌≡◌, ℕ, zero, suc, ◌+◌, ◌<◌, ◌≤◌, List, [], ◌∷◌, ◌++◌, length, map, take, drop, get_or, slice_set, refl, sym, ap, subst, ◌∙◌, append_assoc, Some, arith, ◌⊎◌, inl, inr}
 use Rattle.std.specs.List.{AllByRecursion}
 use Rattle.std.specs.Option.{option_map}
-use Rattle.std.specs.Box.{with_value as set_box}
-use Rattle.std.specs.declared.alloc.Global.{Global}
 use Rattle.std.proofs.lemmas.List.{append_cancel_right, length-append}
 use Rattle.fc_tree_node.specs.Weave.{weave, before_list, after_list}
 use Rattle.fc_tree_node.specs.declared.node.Node.{Node, out-Node, roll-Node}
-use Rattle.fc_tree_node.specs.Node.{items_or_none, own_pairs, children_of, child_at, pairs_of, IsLevelled}
+use Rattle.fc_tree_node.specs.Node.{own_pairs, children_of, child_at, pairs_of, IsLevelled}
 use Rattle.fc_tree_node.specs.Place.{before_child, after_child, before_own, after_own}
-use Rattle.fc_tree_search.specs.Written.{set_value, set_boxed, with_value, with_child}
+use Rattle.fc_tree_search.specs.Written.{set_value, with_value, with_child}
 use Rattle.fc_tree_node.proofs.Lists.{length_set, all_set}
-use Rattle.fc_tree_node.proofs.Made.{field_made}
-use Rattle.fc_tree_node.proofs.Pairs.{IsBelow, boxed_length, child_is}
+use Rattle.fc_tree_node.proofs.Made.{children_in, field_made}
+use Rattle.fc_tree_node.proofs.Shared.{listed_child}
+use Rattle.fc_tree_node.proofs.Pairs.{IsBelow}
 use Rattle.fc_tree_node.proofs.Gaps.{drop_item, item_there, leaf_gap, inner_gap, own_pair, before_child_pair, after_child_pair}
 use Rattle.fc_tree_search.proofs.WrittenPairs.{length_value, value_own, value_children, child_own, child_children}
 
@@ -75,11 +74,6 @@ module _ {K V : Type 0} where
   get_value [] i w e d h p = absurd (omega arith)
   get_value (x ∷ s) zero w e d h p = ap (λ y. (y.0, w)) (sym p)
   get_value (x ∷ s) (suc i) w e d h p = get_value s i w e d (omega arith) p
-
-  set_is_boxed : (bs : List (Node K V)) (i : ℕ) (b : Node K V) (c : Node K V) → i < length bs → b ≡ get_or bs i b → slice_set bs i (set_box b c) ≡ set_boxed bs i c
-  set_is_boxed [] i b c h r = refl
-  set_is_boxed (x ∷ bs) zero b c h r = ap (λ y. set_box y c ∷ bs) r
-  set_is_boxed (x ∷ bs) (suc i) b c h r = ap (λ t. x ∷ t) (set_is_boxed bs i b c (omega arith) r)
 
   -- what is before a pair ends with the child before it, or is what leads there
   pub before_own_child : (h : ℕ) (n : Node K V) (i : ℕ) → IsLevelled (suc h) n → i < length (own_pairs n) → before_own n i ≡ before_child n i ++ pairs_of (child_at n i)
@@ -168,22 +162,12 @@ module _ {K V : Type 0} where
         (omega (arith, l.0), omega arith, subst (AllByRecursion (IsBelow h)) (sym (child_children n i c)) (all_set (IsBelow h) (children_of n) i c l.2 b))
 
   -- a child that was lent, and came back as d
-  module _ (n : Node K V) (bs : List (Node K V)) (b : Node K V) (c : Node K V) (i : ℕ) (is : (out-Node K V n).children ≡ Some bs) (at : b ≡ get_or bs i b) (in' : c ≡ b) where
-    pub child_lent : i < length (children_of n) → c ≡ child_at n i
-    child_lent h =
-        let e : length (children_of n) ≡ length bs = boxed_length (items_or_none (out-Node K V n).children) ∙ ap (λ o. length (items_or_none o)) is in
-        let k : i < length bs = omega arith in
-        child_is n i b c (subst (λ o. i < length (items_or_none o)) (sym is) k) (subst (λ o. b ≡ get_or (items_or_none o) i b) (sym is) at) in'
+  module _ (n : Node K V) (cs : List (Node K V)) (i : ℕ) (is : (out-Node K V n).children ≡ Some cs) where
+    pub child_lent : (c : Node K V) → c ≡ get_or cs i c → i < length (children_of n) → c ≡ child_at n i
+    child_lent c at h = listed_child n i cs is i c (subst (λ ds. i < length ds) (children_in n cs is) h) at
 
-    pub boxes_there : i < length (children_of n) → i < length bs
-    boxes_there h =
-        let e : length (children_of n) ≡ length bs = boxed_length (items_or_none (out-Node K V n).children) ∙ ap (λ o. length (items_or_none o)) is in
-        omega arith
-
-    pub child_back : (d : Node K V) → i < length (children_of n) → roll-Node K V (record { pairs = own_pairs n; children = Some (slice_set bs i (set_box b d)) }) ≡ with_child n i d
-    child_back d h =
-        ap (λ ds. roll-Node K V (record { pairs = own_pairs n; children = Some ds })) (set_is_boxed bs i b d (boxes_there h) at)
-        ∙ ap (λ o. roll-Node K V (record { pairs = own_pairs n; children = option_map (λ ds. set_boxed ds i d) o })) (sym is)
+    pub child_back : (d : Node K V) → roll-Node K V (record { pairs = own_pairs n; children = Some (slice_set cs i d) }) ≡ with_child n i d
+    child_back d = ap (λ o. roll-Node K V (record { pairs = own_pairs n; children = option_map (λ ds. slice_set ds i d) o })) (sym is)
 
   -- the node with another value
   module _ (n : Node K V) (i : ℕ) (w : V) where

@@ -2,22 +2,32 @@ use Rattle.std.proofs.Common.{◌+◌, ◌-◌, ◌<◌, ◌≤◌, get_or, leng
 use Rattle.std.specs.Prelude.{slice_set, option_copied}
 use Rattle.fc_tree_node.specs.Node.{own_pairs, child_at}
 use Rattle.fc_tree_walk.specs.Gap.{IsAbove}
-use Rattle.fc_tree_walk.proofs.Ways.{near_step, near_leaf, near_next}
+use Rattle.fc_tree_walk.proofs.Ways.{IsNearStep, near_step, near_leaf, near_next}
+use Rattle.fc_tree_walk.proofs.run.pass_next.Given as given
 use Rattle.fc_tree_walk.proofs.run.pass_next.Goals as goal
+use Rattle.fc_tree_walk.proofs.run.pass_next.Goals.{After-step-place}
+
+steps : (g : given.Over) (c : After-step-place g) → IsNearStep c.args.root.now c.args.gap.now c.in-Some.node.now (c.len-last.result - 1) c.step-place.result
+steps g c =
+    let m = c.args.root.now in
+    let gap = c.args.gap.now in
+    let some = c.requires.some in
+    near_step m gap c.in-Some.node.now _ _ c.requires.sound c.requires.gap (subst (λ a. IsAbove m gap (option_copied a)) c.in-Some.is c.requires.above)
+    (omega arith) (ap (λ k. k - 1) c.len-last.ensures.value) c.step-place.ensures
 
 pub child-requires : goal.child-requires
 child-requires g c =
-    let s = near_step c.args.root.now c.args.gap.now c.in-Some.node.now _ _ c.requires.sound c.requires.gap (subst (λ a. IsAbove c.args.root.now c.args.gap.now (option_copied a)) c.in-Some.is c.requires.above) (let some = c.requires.some in omega arith) (ap (λ k. k - 1) c.len-last.ensures.value) c.step-place.ensures in
+    let s = steps g (goal.at.child-requires g c).After-step-place in
     omega (arith, s.within, s.inner)
 
 pub child-requires-then-len-step : goal.child-requires-then-len-step
 child-requires-then-len-step g c =
-    let s = near_step c.args.root.now c.args.gap.now c.in-Some.node.now _ _ c.requires.sound c.requires.gap (subst (λ a. IsAbove c.args.root.now c.args.gap.now (option_copied a)) c.in-Some.is c.requires.above) (let some = c.requires.some in omega arith) (ap (λ k. k - 1) c.len-last.ensures.value) c.step-place.ensures in
+    let s = steps g (goal.at.child-requires-then-len-step g c).After-step-place in
     omega (arith, s.inner, c.len.ensures.value, c.if-place-len.true)
 
 pub returns-then-len-step : goal.returns-then-len-step
 returns-then-len-step g c =
-    let s = near_step c.args.root.now c.args.gap.now c.in-Some.node.now _ _ c.requires.sound c.requires.gap (subst (λ a. IsAbove c.args.root.now c.args.gap.now (option_copied a)) c.in-Some.is c.requires.above) (let some = c.requires.some in omega arith) (ap (λ k. k - 1) c.len-last.ensures.value) c.step-place.ensures in
+    let s = steps g (goal.at.returns-then-len-step g c).After-step-place in
     let m = c.args.root.now in
     let gap = c.args.gap.now in
     let n = c.in-Some.node.now in
@@ -30,8 +40,10 @@ returns-then-len-step g c =
     let own : i < length (own_pairs n) = omega (arith, s.step, c.len.ensures.value, c.if-place-len.true) in
     let leaf = ap (λ d. length (own_pairs d)) (c.child.ensures ∙ ap (child_at n) s.step) in
     let last = c.step.ensures ∙ ap (λ k. get_or gap k 0) s.end in
-    let full : length (own_pairs (child_at n i)) ≤ get_or gap (x.level + 1) 0 = omega (arith, leaf, last, c.len-then-place-len.ensures.value, c.if-len-step.true) in
-    let r = near_next m gap mid new n x c.requires.sound c.pair.result.now own full e f (c.pair.ensures ∙ ap (λ k. get_or (own_pairs n) k c.pair.result.now) s.step) in
+    let full : length (own_pairs (child_at n i)) ≤ get_or gap (x.level + 1) 0 =
+    omega (arith, leaf, last, c.len-then-place-len.ensures.value, c.if-len-step.true) in
+    let r = near_next m gap mid new n x c.requires.sound c.pair.result.now own full e f
+    (c.pair.ensures ∙ ap (λ k. get_or (own_pairs n) k c.pair.result.now) s.step) in
     let q = near_leaf m gap mid new n x (i + 1) 0 e f in
     record {
       gap = r.slot;

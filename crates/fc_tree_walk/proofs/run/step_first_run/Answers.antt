@@ -13,12 +13,16 @@ pass_next-requires-clause-some g c =
 
 pub take_first_of-has_met-requires-clause-ends : goal.take_first_of-has_met-requires-clause-ends
 take_first_of-has_met-requires-clause-ends g c =
-    (next_between c.args.root.now c.requires.sound c.args.front.now c.args.back.now c.requires.ends c.requires.some _ _ c.pass_next.ensures.gap c.pass_next.ensures.step c.pass_next.ensures.pair).0
+    (next_between c.args.root.now c.requires.sound c.args.front.now c.args.back.now c.requires.ends c.requires.some _ _ c.pass_next.ensures.gap
+    c.pass_next.ensures.step c.pass_next.ensures.pair).0
 
 pub returns-clause-pairs : goal.returns-clause-pairs
 returns-clause-pairs g c =
-    (next_between c.args.root.now c.requires.sound c.args.front.now c.args.back.now c.requires.ends c.requires.some _ _ c.pass_next.ensures.gap c.pass_next.ensures.step c.pass_next.ensures.pair).1
+    (next_between c.args.root.now c.requires.sound c.args.front.now c.args.back.now c.requires.ends c.requires.some _ _ c.pass_next.ensures.gap
+    c.pass_next.ensures.step c.pass_next.ensures.pair).1
     ∙ ap (λ xs. c.pass_next.result.0.now ∷ xs) c.take_first_of-has_met.ensures.run
 
 pub returns-clause-above : goal.returns-clause-above
-returns-clause-above g c = above_beside c.args.root.now c.pass_next.new.gap c.take_first_of-has_met.new.front (option_copied c.pass_next.new.above) c.take_first_of-has_met.ensures.leaf c.pass_next.ensures.above
+returns-clause-above g c =
+    above_beside c.args.root.now c.pass_next.new.gap c.take_first_of-has_met.new.front (option_copied c.pass_next.new.above)
+    c.take_first_of-has_met.ensures.leaf c.pass_next.ensures.above
