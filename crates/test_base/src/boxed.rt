@@ -2,11 +2,10 @@
 ghost use Rattle.std.specs.Prelude.{◌≡◌, IfOk, IsTrue};
 ghost use Rattle.fc_base.specs.Boxed.{boxed_value};
 
-use crate::tokens::Token;
 use fc_base::{FallibleBox, TryBox, TryClone, TryReserveError};
 use std::alloc::Global;
-use std::cell::Cell;
 use std::test::Fail;
+use test_values::{Tally, Token};
 
 // The box holds the number that was put in.
 fn boxed_five(alloc: Global) -> Result<Box<u64>, TryReserveError>
@@ -46,13 +45,12 @@ fn a_box_holds_its_value(rt: HostRuntime) -> Result<(), Fail> {
 // With the request refused, the value is dropped as well, once.
 #[test]
 fn a_value_is_dropped_once(rt: HostRuntime) {
-    let there = Cell::new(0);
-    let copies = Cell::new(0);
-    match Box::try_new(rt.alloc(), Token::new(7, &there, &copies)) {
-        Ok(made) => assert!(rt; there.get() == 1 && made.number == 7),
+    let tally = Tally::of_copies(0, TryReserveError::CapacityOverflow);
+    match Box::try_new(rt.alloc(), Token::new(7, &tally)) {
+        Ok(made) => assert!(rt; tally.living() == 1 && made.number == 7),
         Err(refused) => assert!(rt; matches!(refused, TryReserveError::AllocError)),
     }
-    assert!(rt; there.get() == 0);
+    assert!(rt; tally.living() == 0);
 }
 
 #[test]
@@ -68,30 +66,30 @@ fn a_box_is_copied(rt: HostRuntime) -> Result<(), Fail> {
 // With the request of the first or of the second box refused: what was made by then is dropped, once, and the source stays.
 #[test]
 fn a_refused_copy_is_dropped(rt: HostRuntime) {
-    let there = Cell::new(0);
-    let copies = Cell::new(1);
-    match TryBox::try_new(rt.alloc(), Token::new(7, &there, &copies)) {
+    let tally = Tally::of_copies(1, TryReserveError::CapacityOverflow);
+    match TryBox::try_new(rt.alloc(), Token::new(7, &tally)) {
         Err(refused) => assert!(rt; matches!(refused, TryReserveError::AllocError)),
         Ok(source) => {
             match source.try_clone() {
-                Ok(copy) => assert!(rt; there.get() == 2 && copy.number == 7),
+                Ok(copy) => assert!(rt; tally.living() == 2 && copy.number == 7),
                 Err(refused) => {
-                    assert!(rt; matches!(refused, TryReserveError::AllocError) && there.get() == 1);
+                    assert!(rt;
+                        matches!(refused, TryReserveError::AllocError) && tally.living() == 1
+                    );
                 }
             }
-            assert!(rt; copies.get() == 0 && there.get() == 1 && source.number == 7);
+            assert!(rt; tally.left.get() == 0 && tally.living() == 1 && source.number == 7);
         }
     }
-    assert!(rt; there.get() == 0);
+    assert!(rt; tally.living() == 0);
 }
 
 #[test]
 fn a_values_own_refusal_is_passed_on(rt: HostRuntime) -> Result<(), Fail> {
-    let there = Cell::new(0);
-    let copies = Cell::new(0);
-    let source = TryBox::try_new(rt.alloc(), Token::new(7, &there, &copies))?;
+    let tally = Tally::of_copies(0, TryReserveError::CapacityOverflow);
+    let source = TryBox::try_new(rt.alloc(), Token::new(7, &tally))?;
     let answer = source.try_clone();
     assert!(rt; matches!(answer, Err(TryReserveError::CapacityOverflow)));
-    assert!(rt; there.get() == 1);
+    assert!(rt; tally.living() == 1);
     Ok(())
 }

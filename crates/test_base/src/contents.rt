@@ -1,9 +1,8 @@
 //! Copies of options, boxes and vectors, made or refused.
-use crate::tokens::Token;
 use fc_base::{TryClone, TryReserveError};
 use std::alloc::Global;
-use std::cell::Cell;
 use std::test::Fail;
+use test_values::{Tally, Token};
 
 #[test]
 fn options_and_boxes_are_copied(rt: HostRuntime) -> Result<(), Fail> {
@@ -67,14 +66,10 @@ fn numbers_are_copied_at_once(rt: HostRuntime) -> Result<(), Fail> {
 }
 
 // Three tokens, with the numbers 1, 4 and 5.
-fn three<'a>(
-    alloc: Global,
-    there: &'a Cell<u64>,
-    copies: &'a Cell<u64>,
-) -> Result<Vec<Token<'a>>, TryReserveError> {
+fn three<'a>(alloc: Global, tally: &'a Tally) -> Result<Vec<Token<'a>>, TryReserveError> {
     let mut tokens = Vec::with_capacity(alloc, 3)?;
     for number in [1u64, 4, 5] {
-        tokens.push(Token::new(number, there, copies))?;
+        tokens.push(Token::new(number, tally))?;
     }
     Ok(tokens)
 }
@@ -91,29 +86,27 @@ fn are_three(tokens: &Vec<Token<'_>>) -> bool {
 #[test]
 fn a_refused_copy_leaves_the_source(rt: HostRuntime) {
     for allowed in 0..4u64 {
-        let there = Cell::new(0);
-        let copies = Cell::new(allowed);
-        if let Ok(source) = three(rt.alloc(), &there, &copies) {
+        let tally = Tally::of_copies(allowed, TryReserveError::CapacityOverflow);
+        if let Ok(source) = three(rt.alloc(), &tally) {
             match source.try_clone() {
-                Ok(copy) => assert!(rt; allowed == 3 && there.get() == 6 && are_three(&copy)),
-                Err(TryReserveError::AllocError) => assert!(rt; copies.get() == allowed),
+                Ok(copy) => assert!(rt; allowed == 3 && tally.living() == 6 && are_three(&copy)),
+                Err(TryReserveError::AllocError) => assert!(rt; tally.left.get() == allowed),
                 Err(TryReserveError::CapacityOverflow) => assert!(rt; allowed < 3),
             }
-            assert!(rt; there.get() == 3 && are_three(&source));
+            assert!(rt; tally.living() == 3 && are_three(&source));
         }
-        assert!(rt; there.get() == 0);
+        assert!(rt; tally.living() == 0);
     }
 }
 
 #[test]
 fn an_options_own_refusal_is_passed_on(rt: HostRuntime) {
-    let there = Cell::new(0);
-    let copies = Cell::new(1);
-    let source = Some(Token::new(7, &there, &copies));
+    let tally = Tally::of_copies(1, TryReserveError::CapacityOverflow);
+    let source = Some(Token::new(7, &tally));
     match source.try_clone() {
         Ok(Some(copy)) => assert!(rt; copy.number == 7),
         _ => assert!(rt; false),
     }
     assert!(rt; matches!(source.try_clone(), Err(TryReserveError::CapacityOverflow)));
-    assert!(rt; there.get() == 1);
+    assert!(rt; tally.living() == 1);
 }

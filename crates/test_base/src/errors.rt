@@ -1,73 +1,43 @@
 //! Values whose copies are refused by either error: what holds them passes it on as it is, and not as the other one.
-ghost use Rattle.std.specs.Prelude.{⊤};
-
 use fc_base::{FallibleBox, TryBox, TryClone, TryReserveError};
 use std::alloc::{AllocError, Global};
-use std::cell::Cell;
+use test_values::{Tally, Token};
 
-// How many copies can be made, and by which error the next one is refused.
-#[derive(Drop)]
-struct Supply {
-    left: Cell<u64>,
-    error: TryReserveError,
-}
-
-// A value of which as many copies are made as the supply has.
-#[derive(Drop)]
-struct Scarce<'a>(&'a Supply);
-
-impl TryClone for Scarce<'_> {
-    ghost same = { λ _ _. ⊤ };
-
-    fn try_clone(&self) -> Result<Self, TryReserveError> {
-        let Scarce(supply) = self;
-        let left = supply.left.get();
-        if left == 0 {
-            return Err(supply.error);
-        }
-        supply.left.set(left - 1);
-        Ok(Scarce(*supply))
-    }
-}
-
-// Whether the value is copied by so many copies, and refused by the supply's own error where there is one less.
-fn is_passed_on<T: TryClone>(value: &T, supply: &Supply, needed: u64) -> bool
+// Whether the value is copied by so many copies, and refused by the tally's error where there is one less.
+fn is_passed_on<T: TryClone>(value: &T, tally: &Tally, needed: u64) -> bool
     requires { T.can_clone }
 {
-    supply.left.set(needed);
+    tally.left.set(needed);
     let is_copied = value.try_clone().is_ok();
-    supply.left.set(needed.saturating_sub(1));
+    tally.left.set(needed.saturating_sub(1));
     match value.try_clone() {
         Ok(_copy) => false,
-        Err(error) => is_copied && error == supply.error,
+        Err(error) => is_copied && error == tally.error,
     }
 }
 
-fn two<'a>(alloc: Global, supply: &'a Supply) -> Result<Vec<Scarce<'a>>, AllocError> {
+fn two<'a>(alloc: Global, tally: &'a Tally) -> Result<Vec<Token<'a>>, AllocError> {
     let mut made = Vec::new(alloc);
-    made.push(Scarce(supply))?;
-    made.push(Scarce(supply))?;
+    made.push(Token::new(7, tally))?;
+    made.push(Token::new(7, tally))?;
     Ok(made)
 }
 
 fn are_passed_on(alloc: Global, error: TryReserveError) -> bool {
-    let supply = Supply {
-        left: Cell::new(0),
-        error,
-    };
-    let Ok(in_std) = Box::try_new(alloc, Scarce(&supply)) else {
+    let tally = Tally::of_copies(0, error);
+    let Ok(in_std) = Box::try_new(alloc, Token::new(7, &tally)) else {
         return false;
     };
-    let Ok(in_ours) = TryBox::try_new(alloc, Scarce(&supply)) else {
+    let Ok(in_ours) = TryBox::try_new(alloc, Token::new(7, &tally)) else {
         return false;
     };
-    let Ok(in_vector) = two(alloc, &supply) else {
+    let Ok(in_vector) = two(alloc, &tally) else {
         return false;
     };
-    is_passed_on(&Some(Scarce(&supply)), &supply, 1)
-        && is_passed_on(&in_std, &supply, 1)
-        && is_passed_on(&in_ours, &supply, 1)
-        && is_passed_on(&in_vector, &supply, 2)
+    is_passed_on(&Some(Token::new(7, &tally)), &tally, 1)
+        && is_passed_on(&in_std, &tally, 1)
+        && is_passed_on(&in_ours, &tally, 1)
+        && is_passed_on(&in_vector, &tally, 2)
 }
 
 #[test]

@@ -12,8 +12,6 @@ mod errors;
 #[cfg(test)]
 mod rc;
 #[cfg(test)]
-mod tokens;
-#[cfg(test)]
 mod try_clone;
 #[cfg(test)]
 mod try_reserve_error;

@@ -1,12 +1,11 @@
 //! Shared values and their drops.
 ghost use Rattle.std.specs.Prelude.{◌≡◌, IfOk};
 
-use crate::tokens::Token;
 use fc_base::{FallibleRc, TryReserveError};
 use std::alloc::Global;
-use std::cell::Cell;
 use std::rc::Rc;
 use std::test::Fail;
+use test_values::{Tally, Token};
 
 // The owner shares the number that was put in.
 fn shared_five(alloc: Global) -> Result<Rc<u64>, TryReserveError>
@@ -29,11 +28,10 @@ fn each_owner_sees_the_value(rt: HostRuntime) -> Result<(), Fail> {
 // With the request refused, the value is dropped as well, once.
 #[test]
 fn a_value_is_dropped_once(rt: HostRuntime) {
-    let there = Cell::new(0);
-    let copies = Cell::new(0);
-    match Rc::try_new(rt.alloc(), Token::new(7, &there, &copies)) {
-        Ok(shared) => assert!(rt; there.get() == 1 && shared.number == 7),
+    let tally = Tally::of_copies(0, TryReserveError::CapacityOverflow);
+    match Rc::try_new(rt.alloc(), Token::new(7, &tally)) {
+        Ok(shared) => assert!(rt; tally.living() == 1 && shared.number == 7),
         Err(refused) => assert!(rt; matches!(refused, TryReserveError::AllocError)),
     }
-    assert!(rt; there.get() == 0);
+    assert!(rt; tally.living() == 0);
 }

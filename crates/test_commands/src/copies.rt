@@ -1,93 +1,46 @@
 //! Commands over keys and values of the tests' own, whose copies are refused by the key or by the value itself.
-ghost use Rattle.std.specs.Prelude.{◌≡◌};
-
-use fc_base::{TryClone, TryReserveError};
+use fc_base::TryReserveError;
 use fc_command::command::{Command, End, Items, Reply, SetOp, Side, World};
 use std::alloc::{AllocError, Global};
 use std::ops::Bound;
 use std::test::Fail;
+use test_values::Stubborn;
 
-// A number whose copy is refused by an error of its own, if it has one.
-#[derive(Drop)]
-struct Fussy {
-    number: u64,
-    refusal: Option<TryReserveError>,
-}
+type Stubborns = World<Stubborn, Stubborn>;
 
-impl TryClone for Fussy {
-    ghost same = { λ source copy. copy ≡ source };
+type StubbornReply = Reply<Stubborn, Stubborn>;
 
-    fn try_clone(&self) -> Result<Fussy, TryReserveError> {
-        match self.refusal {
-            None => Ok(Fussy {
-                number: self.number,
-                refusal: None,
-            }),
-            Some(refusal) => Err(refusal),
-        }
-    }
-}
-
-// A number as a key, whose copy is refused if it is told to: of an odd number as an overflow, of an even one for want of memory.
-#[derive(Clone, Copy, PartialEq, Eq, PartialOrd, Ord, Debug)]
-struct FussyKey {
-    number: u64,
-    refuses: bool,
-}
-
-impl TryClone for FussyKey {
-    ghost same = { λ source copy. copy ≡ source };
-
-    fn try_clone(&self) -> Result<FussyKey, TryReserveError> {
-        if !self.refuses {
-            Ok(*self)
-        } else if self.number % 2 == 1 {
-            Err(TryReserveError::CapacityOverflow)
-        } else {
-            Err(TryReserveError::AllocError)
-        }
-    }
-}
-
-type Fussies = World<FussyKey, Fussy>;
-
-type FussyReply = Reply<FussyKey, Fussy>;
-
-fn step(world: &mut Fussies, command: Command<FussyKey, Fussy>) -> FussyReply {
+fn step(world: &mut Stubborns, command: Command<Stubborn, Stubborn>) -> StubbornReply {
     world.step(command)
 }
 
-fn key(number: u64, refuses: bool) -> FussyKey {
-    FussyKey { number, refuses }
+fn stubborn(number: u64, refusal: Option<TryReserveError>) -> Stubborn {
+    Stubborn { number, refusal }
 }
 
-fn value(number: u64, refusal: Option<TryReserveError>) -> Fussy {
-    Fussy { number, refusal }
-}
-
-fn is_refused_by(reply: &FussyReply, error: TryReserveError) -> bool {
+fn is_refused_by(reply: &StubbornReply, error: TryReserveError) -> bool {
     match reply {
         Reply::Refused(refusal) => *refusal == error,
         _ => false,
     }
 }
 
-fn is_none(reply: &FussyReply) -> bool {
+fn is_none(reply: &StubbornReply) -> bool {
     matches!(reply, Reply::Value(None))
 }
 
-fn is_new(reply: &FussyReply) -> bool {
+fn is_new(reply: &StubbornReply) -> bool {
     matches!(reply, Reply::Flag(true))
 }
 
-fn is_number(reply: &FussyReply, number: u64) -> bool {
+fn is_number(reply: &StubbornReply, number: u64) -> bool {
     match reply {
         Reply::Value(Some(found)) => found.number == number,
         _ => false,
     }
 }
 
-fn is_len(reply: &FussyReply, wanted: usize) -> bool {
+fn is_len(reply: &StubbornReply, wanted: usize) -> bool {
     matches!(reply, Reply::Len(len) if *len == wanted)
 }
 
@@ -101,20 +54,20 @@ fn from_the_front(alloc: Global, steps: usize) -> Result<Items<End>, AllocError>
 }
 
 // A walk over a whole map.
-fn walk(side: Side, ends: Items<End>) -> Command<FussyKey, Fussy> {
+fn walk(side: Side, ends: Items<End>) -> Command<Stubborn, Stubborn> {
     Command::Walk(side, Bound::Unbounded, Bound::Unbounded, ends)
 }
 
 // A walk over a whole set.
-fn walk_items(side: Side, ends: Items<End>) -> Command<FussyKey, Fussy> {
+fn walk_items(side: Side, ends: Items<End>) -> Command<Stubborn, Stubborn> {
     Command::SetWalk(side, Bound::Unbounded, Bound::Unbounded, ends)
 }
 
 // Whether a pair is put in, of which no copy is to be had without that error.
 fn refuses_copies(
     alloc: Global,
-    world: &mut Fussies,
-    at: FussyKey,
+    world: &mut Stubborns,
+    at: Stubborn,
     error: TryReserveError,
 ) -> bool {
     let Ok(one_step) = from_the_front(alloc, 1) else {
@@ -133,10 +86,10 @@ fn a_values_own_refusal_is_the_reply(rt: HostRuntime) {
         TryReserveError::CapacityOverflow,
     ] {
         let mut world = World::new(rt.alloc());
-        let at = key(1, false);
+        let at = stubborn(1, None);
         let inserted = step(
             &mut world,
-            Command::Insert(Side::First, at, value(7, Some(error))),
+            Command::Insert(Side::First, at, stubborn(7, Some(error))),
         );
         assert!(rt; is_none(&inserted));
         assert!(rt; is_refused_by(&step(&mut world, Command::Get(Side::First, at)), error));
@@ -145,21 +98,25 @@ fn a_values_own_refusal_is_the_reply(rt: HostRuntime) {
 }
 
 // Whether the value of a key whose copy is refused is answered, and each copy of the pair is refused by that error.
-fn refuses_pairs_of(alloc: Global, at: FussyKey, error: TryReserveError) -> bool {
+fn refuses_pairs_of(alloc: Global, number: u64, error: TryReserveError) -> bool {
+    let at = stubborn(number, Some(error));
     let mut world = World::new(alloc);
-    is_none(&step(&mut world, Command::Insert(Side::First, at, value(5, None))))
-        && is_number(&step(&mut world, Command::Get(Side::First, at)), 5)
+    is_none(&step(
+        &mut world,
+        Command::Insert(Side::First, at, stubborn(5, None)),
+    )) && is_number(&step(&mut world, Command::Get(Side::First, at)), 5)
         && refuses_copies(alloc, &mut world, at, error)
 }
 
 #[test]
 fn a_keys_own_refusal_is_the_reply(rt: HostRuntime) {
-    assert!(rt; refuses_pairs_of(rt.alloc(), key(1, true), TryReserveError::CapacityOverflow));
-    assert!(rt; refuses_pairs_of(rt.alloc(), key(2, true), TryReserveError::AllocError));
+    assert!(rt; refuses_pairs_of(rt.alloc(), 1, TryReserveError::CapacityOverflow));
+    assert!(rt; refuses_pairs_of(rt.alloc(), 2, TryReserveError::AllocError));
 }
 
 // Whether each command that copies the one item of a set is refused by that error.
-fn refuses_items_of(alloc: Global, item: FussyKey, error: TryReserveError) -> bool {
+fn refuses_items_of(alloc: Global, number: u64, error: TryReserveError) -> bool {
+    let item = stubborn(number, Some(error));
     let mut world = World::new(alloc);
     let Ok(one_step) = from_the_front(alloc, 1) else {
         return false;
@@ -180,25 +137,25 @@ fn refuses_items_of(alloc: Global, item: FussyKey, error: TryReserveError) -> bo
 
 #[test]
 fn an_items_own_refusal_is_the_reply(rt: HostRuntime) {
-    assert!(rt; refuses_items_of(rt.alloc(), key(1, true), TryReserveError::CapacityOverflow));
-    assert!(rt; refuses_items_of(rt.alloc(), key(2, true), TryReserveError::AllocError));
+    assert!(rt; refuses_items_of(rt.alloc(), 1, TryReserveError::CapacityOverflow));
+    assert!(rt; refuses_items_of(rt.alloc(), 2, TryReserveError::AllocError));
 }
 
 // Writes behind the key 0 up to the key 1, from both ends.
-fn write_from_both_ends(alloc: Global) -> Result<Command<FussyKey, Fussy>, AllocError> {
+fn write_from_both_ends(alloc: Global) -> Result<Command<Stubborn, Stubborn>, AllocError> {
     let mut writes = Vec::new(alloc);
-    writes.push((End::Back, value(8, None)))?;
-    writes.push((End::Front, value(9, None)))?;
+    writes.push((End::Back, stubborn(8, None)))?;
+    writes.push((End::Front, stubborn(9, None)))?;
     Ok(Command::Write(
         Side::Second,
-        Bound::Excluded(key(0, false)),
-        Bound::Included(key(1, false)),
+        Bound::Excluded(stubborn(0, None)),
+        Bound::Included(stubborn(1, None)),
         Items::from(writes),
     ))
 }
 
 // Whether a walk of two steps gave the key 1 with the value 8, and then nothing.
-fn is_one_pair(reply: &FussyReply) -> bool {
+fn is_one_pair(reply: &StubbornReply) -> bool {
     match reply {
         Reply::Pairs(steps) => match steps.as_slice() {
             [Some((at, found)), None] => at.number == 1 && found.number == 8,
@@ -211,8 +168,8 @@ fn is_one_pair(reply: &FussyReply) -> bool {
 #[test]
 fn one_command_at_a_time_over_any_keys(rt: HostRuntime) -> Result<(), Fail> {
     let mut world = World::new(rt.alloc());
-    let at = key(1, false);
-    let insert = Command::Insert(Side::Second, at, value(7, None));
+    let at = stubborn(1, None);
+    let insert = Command::Insert(Side::Second, at, stubborn(7, None));
     let write = write_from_both_ends(rt.alloc())?;
     let two_steps = from_the_front(rt.alloc(), 2)?;
     assert!(rt; is_none(&step(&mut world, insert)));

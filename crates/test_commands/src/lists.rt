@@ -1,5 +1,5 @@
 //! Lists of commands, and commands that no line asks for.
-use crate::worlds::{Kind, counts, has_value, holds, is_ample, is_len, puts, puts_all, step};
+use crate::worlds::{Kind, counts, has_value, holds, is_len, puts, puts_all, step};
 use fc_base::TryReserveError;
 use fc_command::command::{Command, Items, Reply, Side, World};
 use fc_lines::lines::command_in;
@@ -7,6 +7,7 @@ use fc_lines::replies::write_reply;
 use std::alloc::{AllocError, Global};
 use std::ops::Bound;
 use std::test::Fail;
+use test_values::is_ample;
 
 const SIX: [&[u8]; 6] = [
     b"insert a 37 1",

@@ -1,12 +1,12 @@
 //! What refused commands leave of a world: the sweep refuses each request of these tests in turn. What they begin with is put in by a second command where
 //! the first is refused, so that it is lacking only where there is no memory.
 use crate::worlds::{
-    HALF, Kind, NUMBERS, counts, divided, has_value, holds, is_ample, is_divided, lacks, puts,
-    puts_all, step,
+    HALF, Kind, NUMBERS, counts, divided, has_value, holds, is_divided, lacks, puts, puts_all, step,
 };
 use fc_base::TryReserveError;
 use fc_command::command::{Command, Items, Reply, SetOp, Side, World};
 use std::alloc::{AllocError, Global};
+use test_values::is_ample;
 
 // What became of a command that is done or refused.
 #[derive(Clone, Copy)]

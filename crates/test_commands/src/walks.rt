@@ -1,9 +1,9 @@
 //! The lines of walks and writes under refused memory.
 use crate::serving::{in_pieces, served, wide};
-use crate::worlds::is_ample;
 use fc_base::TryReserveError;
 use fc_command::command::ServeError;
 use std::alloc::{AllocError, Global};
+use test_values::is_ample;
 
 const FOUR_LINES: &[u8] = b"insert a 1 2\nwalk a * * ff\nwrite a * * f=3 f=4\nwalk a * * b";
 

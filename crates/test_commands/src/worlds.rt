@@ -57,11 +57,6 @@ pub(crate) fn puts(world: &mut World<u64, u64>, kind: Kind, side: Side, number: 
     is_put(&step(world, put(kind, side, number))) || is_put(&step(world, put(kind, side, number)))
 }
 
-/// Whether memory is given.
-pub(crate) fn is_ample(alloc: Global) -> bool {
-    Vec::<u8>::with_capacity(alloc, 1).is_ok()
-}
-
 /// Whether the number is there, in a map with that value.
 pub(crate) fn has_value(
     world: &mut World<u64, u64>,

@@ -4,18 +4,10 @@ use fc_hash::TryHashMap;
 use std::alloc::Global;
 use std::collections::HashMap;
 use std::test::Fail;
-
-// Two tagged numbers are equal where the numbers are, whatever their letters.
-#[derive(Clone, Copy, Debug)]
-#[derive_where(PartialEq, Eq, Hash)]
-struct Tagged {
-    number: u64,
-    #[derive_where(skip(EqHashOrd))]
-    letter: char,
-}
+use test_values::{Tagged, is_ample};
 
 fn lettered(letter: char) -> Tagged {
-    Tagged { number: 1, letter }
+    Tagged::new(1, letter)
 }
 
 // The numbers below `end`, each with ten times itself, once more where one is refused.
@@ -27,11 +19,6 @@ fn tens(alloc: Global, end: u64) -> Result<TryHashMap<u64, u64>, TryReserveError
         }
     }
     Ok(map)
-}
-
-/// Whether memory is given.
-pub(crate) fn is_ample(alloc: Global) -> bool {
-    Vec::<u8>::with_capacity(alloc, 1).is_ok()
 }
 
 // The map holds the numbers below `end`, each with ten times itself, and nothing else.

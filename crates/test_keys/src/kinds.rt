@@ -1,5 +1,4 @@
 //! Keys of several parts, of any length and in reversed order: one run of calls for all of them.
-use crate::tagged::Tagged;
 use fc_base::TryReserveError;
 use fc_map::map::{BTreeMap, is_range};
 use fc_set::set::BTreeSet;
@@ -7,6 +6,7 @@ use std::alloc::Global;
 use std::cmp::Reverse;
 use std::ops::Bound;
 use std::test::Fail;
+use test_values::Tagged;
 
 // A type of keys, of which each number below the end has one of its own, in the order of the numbers.
 trait Nth: Ord + Drop {
@@ -63,11 +63,7 @@ impl Nth for Reverse<u64> {
 
 impl Nth for Tagged {
     fn nth(_alloc: Global, number: u64) -> Result<Self, TryReserveError> {
-        Ok(Tagged {
-            turn: END.wrapping_sub(number),
-            number,
-            letter: 'a',
-        })
+        Ok(Tagged::new(number, 'b'))
     }
 }
 

@@ -1,54 +1,10 @@
 //! A map of maps: the inner ones are put in by entries, changed by entries and through a lent value, copied with the outer one, and each
 //! value is dropped once.
-ghost use Rattle.std.specs.Prelude.{◌≡◌};
-
 use fc_base::{TryClone, TryReserveError};
 use fc_map::map::BTreeMap;
 use std::alloc::Global;
-use std::cell::Cell;
 use std::test::Fail;
-
-// How many values were made, copies among them, and how many were dropped.
-#[derive(Drop)]
-struct Tally {
-    made: Cell<u64>,
-    dropped: Cell<u64>,
-}
-
-// A number that is counted when it is made and when it is dropped.
-struct Token<'a> {
-    number: u64,
-    tally: &'a Tally,
-}
-
-fn add_one(count: &Cell<u64>) {
-    count.set(count.get().wrapping_add(1));
-}
-
-fn new_token(number: u64, tally: &Tally) -> Token<'_>
-    ensures { result.number ≡ number }
-{
-    add_one(&tally.made);
-    Token { number, tally }
-}
-
-impl Drop for Token<'_> {
-    fn drop(self) {
-        add_one(&self.tally.dropped);
-        let Token {
-            number: _,
-            tally: _,
-        } = self;
-    }
-}
-
-impl TryClone for Token<'_> {
-    ghost same = { λ source copy. copy.number ≡ source.number };
-
-    fn try_clone(&self) -> Result<Self, TryReserveError> {
-        Ok(new_token(self.number, self.tally))
-    }
-}
+use test_values::{Tally, Token};
 
 type Inner<'a> = BTreeMap<u64, Token<'a>>;
 
@@ -68,7 +24,7 @@ fn put<'a>(
     tally: &'a Tally,
 ) -> Result<(), TryReserveError> {
     let inner = outer.try_entry(at)?.or_try_insert(BTreeMap::new(alloc))?;
-    inner.try_insert(number, new_token(number, tally))?;
+    inner.try_insert(number, Token::new(number, tally))?;
     Ok(())
 }
 
@@ -134,17 +90,12 @@ fn takes_four(outer: &mut Outer<'_>) -> bool {
     true
 }
 
-// How many values live.
-fn living(tally: &Tally) -> u64 {
-    tally.made.get().wrapping_sub(tally.dropped.get())
-}
-
 // Whether a copy has all values, and what is then taken out of the outer map is still in the copy.
 fn is_copied_apart<'a>(outer: &mut Outer<'a>, tally: &'a Tally) -> Result<bool, TryReserveError> {
     let copy = outer.try_clone()?;
-    let is_copied = holds(&copy, 0) && living(tally) == 2 * MAPS * VALUES;
+    let is_copied = holds(&copy, 0) && tally.living() == 2 * MAPS * VALUES;
     let is_apart = takes_four(outer) && holds(outer, 4) && holds(&copy, 0);
-    Ok(is_copied && is_apart && living(tally) == 2 * MAPS * VALUES - MAPS * 4)
+    Ok(is_copied && is_apart && tally.living() == 2 * MAPS * VALUES - MAPS * 4)
 }
 
 // Whether an inner map that is written over, and one that is taken out, are dropped with their values.
@@ -153,20 +104,20 @@ fn drops_with_its_map<'a>(
     outer: &mut Outer<'a>,
     tally: &'a Tally,
 ) -> Result<bool, TryReserveError> {
-    let before = living(tally);
+    let before = tally.living();
     let old = outer.try_insert(100, BTreeMap::new(alloc))?;
-    let is_kept = living(tally) == before;
+    let is_kept = tally.living() == before;
     drop(old);
-    let is_one_gone = living(tally) == before.wrapping_sub(16);
+    let is_one_gone = tally.living() == before.wrapping_sub(16);
     drop(outer.remove(&200));
-    Ok(is_kept && is_one_gone && living(tally) == before.wrapping_sub(32))
+    Ok(is_kept && is_one_gone && tally.living() == before.wrapping_sub(32))
 }
 
 fn is_right(alloc: Global, tally: &Tally) -> Result<bool, TryReserveError> {
     let mut outer = filled(alloc, tally)?;
     Ok(
         holds(&outer, 0)
-            && living(tally) == MAPS * VALUES
+            && tally.living() == MAPS * VALUES
             && is_copied_apart(&mut outer, tally)?
             && drops_with_its_map(alloc, &mut outer, tally)?,
     )
@@ -174,11 +125,8 @@ fn is_right(alloc: Global, tally: &Tally) -> Result<bool, TryReserveError> {
 
 #[test]
 fn maps_in_a_map_are_changed_copied_and_dropped_once(rt: HostRuntime) -> Result<(), Fail> {
-    let tally = Tally {
-        made: Cell::new(0),
-        dropped: Cell::new(0),
-    };
+    let tally = Tally::new();
     assert!(rt; is_right(rt.alloc(), &tally)?);
-    assert!(rt; tally.made.get() == 2 * MAPS * VALUES && living(&tally) == 0);
+    assert!(rt; tally.made.get() == 2 * MAPS * VALUES && tally.living() == 0);
     Ok(())
 }

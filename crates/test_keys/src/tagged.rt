@@ -1,58 +1,24 @@
 //! Keys whose order reads one of three fields: which of two equal keys a call keeps, answers or hands back. A map has the letter a at each number
 //! and is asked by other letters.
-ghost use Rattle.std.specs.Prelude.{◌≡◌};
-
 use fc_base::{TryClone, TryReserveError};
 use fc_map::map::{BTreeMap, Entry, Room, insert_both, is_range};
 use fc_vec::TryFromIterator;
 use std::alloc::Global;
 use std::ops::Bound;
 use std::test::Fail;
-
-/// Two keys are equal where their numbers are, whatever else they have.
-#[derive(Clone, Copy, Debug)]
-#[derive_where(PartialEq, Eq, PartialOrd, Ord)]
-pub(crate) struct Tagged {
-    #[derive_where(skip(EqHashOrd))]
-    pub(crate) turn: u64,
-    pub(crate) number: u64,
-    #[derive_where(skip(EqHashOrd))]
-    pub(crate) letter: char,
-}
-
-impl TryClone for Tagged {
-    ghost same = { λ source copy. copy ≡ source };
-
-    fn try_clone(&self) -> Result<Tagged, TryReserveError> {
-        Ok(*self)
-    }
-}
+use test_values::Tagged;
 
 type Map = BTreeMap<Tagged, u64>;
 
 // So many pairs stand on three levels, since two hold at most 255.
 const END: u64 = 300;
 
-// The first field of two keys of one number differs by their letters.
-fn key(number: u64, letter: char) -> Tagged {
-    let turn = if letter == 'a' {
-        number
-    } else {
-        END.wrapping_sub(number)
-    };
-    Tagged {
-        turn,
-        number,
-        letter,
-    }
-}
-
 // The numbers below the end, each with this letter and itself, put in 37 apart and round.
 fn lettered(alloc: Global, letter: char, end: u64) -> Result<Map, TryReserveError> {
     let mut map = BTreeMap::new(alloc);
     for place in 0..end {
         let number = place.wrapping_mul(37) % end;
-        map.try_insert(key(number, letter), number)?;
+        map.try_insert(Tagged::new(number, letter), number)?;
     }
     Ok(map)
 }
@@ -60,13 +26,7 @@ fn lettered(alloc: Global, letter: char, end: u64) -> Result<Map, TryReserveErro
 // Whether the pair has the key that was made of the number and the letter, and this value.
 fn is_pair(found: Option<(&Tagged, &u64)>, number: u64, letter: char, value: u64) -> bool {
     match found {
-        Some((there, held)) => {
-            let wanted = key(number, letter);
-            there.number == number
-                && there.letter == letter
-                && there.turn == wanted.turn
-                && *held == value
-        }
+        Some((there, held)) => there.is(number, letter) && *held == value,
         None => false,
     }
 }
@@ -80,7 +40,12 @@ fn is_owned_pair(found: Option<(Tagged, u64)>, number: u64, letter: char) -> boo
 
 // Whether the key that is equal to the number has this letter and this value.
 fn has(map: &Map, number: u64, letter: char, value: u64) -> bool {
-    is_pair(map.get_key_value(&key(number, 'b')), number, letter, value)
+    is_pair(
+        map.get_key_value(&Tagged::new(number, 'b')),
+        number,
+        letter,
+        value,
+    )
 }
 
 // Whether the map has the numbers from `first` on below `end`, each with this letter and itself, as a walk gives them.
@@ -103,14 +68,14 @@ fn is_number(found: Option<u64>, wanted: u64) -> bool {
 
 // An insertion puts another value at the key that is there, and one more the former value.
 fn insertions_keep_it(map: &mut Map, number: u64) -> Result<bool, TryReserveError> {
-    let old = map.try_insert(key(number, 'b'), 1000)?;
+    let old = map.try_insert(Tagged::new(number, 'b'), 1000)?;
     let is_kept = is_number(old, number) && has(map, number, 'a', 1000);
-    let second = map.try_insert(key(number, 'c'), number)?;
+    let second = map.try_insert(Tagged::new(number, 'c'), number)?;
     Ok(is_kept && is_number(second, 1000) && has(map, number, 'a', number))
 }
 
 fn occupied_entry_has_it(map: &mut Map, number: u64) -> Result<bool, TryReserveError> {
-    match map.try_entry(key(number, 'b'))? {
+    match map.try_entry(Tagged::new(number, 'b'))? {
         Entry::Vacant(_entry) => Ok(false),
         Entry::Occupied(mut entry) => {
             let is_key = entry.key().letter == 'a' && entry.key().number == number;
@@ -120,13 +85,13 @@ fn occupied_entry_has_it(map: &mut Map, number: u64) -> Result<bool, TryReserveE
 }
 
 fn entry_keeps_it(map: &mut Map, number: u64) -> Result<bool, TryReserveError> {
-    let entry = map.try_entry(key(number, 'b'))?;
+    let entry = map.try_entry(Tagged::new(number, 'b'))?;
     let is_key = entry.key().letter == 'a' && entry.key().number == number;
     let value = *entry
         .and_modify(|held| *held = held.wrapping_add(1))
         .or_try_insert(0)?;
     let is_changed = value == number.wrapping_add(1) && has(map, number, 'a', value);
-    let old = map.try_insert(key(number, 'b'), number)?;
+    let old = map.try_insert(Tagged::new(number, 'b'), number)?;
     Ok(is_key && is_changed && is_number(old, value))
 }
 
@@ -151,14 +116,14 @@ fn an_insertion_keeps_the_key_that_is_there(rt: HostRuntime) -> Result<(), Fail>
 
 // A pair that is taken out by its entry has the key that was there; a vacant entry has its own, gives it back and puts it in.
 fn entry_gives_it(map: &mut Map, number: u64) -> Result<bool, TryReserveError> {
-    match map.try_entry(key(number, 'b'))? {
+    match map.try_entry(Tagged::new(number, 'b'))? {
         Entry::Vacant(_entry) => Ok(false),
         Entry::Occupied(entry) => Ok(is_owned_pair(Some(entry.remove_entry()), number, 'a')),
     }
 }
 
 fn vacant_entry_gives_its_own(map: &mut Map, number: u64) -> Result<bool, TryReserveError> {
-    match map.try_entry(key(number, 'b'))? {
+    match map.try_entry(Tagged::new(number, 'b'))? {
         Entry::Vacant(entry) => {
             let is_own = entry.key().letter == 'b';
             Ok(is_own && entry.into_key().letter == 'b')
@@ -168,7 +133,7 @@ fn vacant_entry_gives_its_own(map: &mut Map, number: u64) -> Result<bool, TryRes
 }
 
 fn ready_entry_gives_its_own(map: &mut Map, number: u64) -> Result<bool, TryReserveError> {
-    match map.try_entry(key(number, 'c'))? {
+    match map.try_entry(Tagged::new(number, 'c'))? {
         Entry::Vacant(entry) => {
             let ready = entry.try_ready()?;
             let is_own = ready.key().letter == 'c';
@@ -180,14 +145,14 @@ fn ready_entry_gives_its_own(map: &mut Map, number: u64) -> Result<bool, TryRese
 
 // Puts the number in by its entry, or by one that was made ready.
 fn vacant_entry_puts_it_in(map: &mut Map, number: u64) -> Result<bool, TryReserveError> {
-    match map.try_entry(key(number, 'd'))? {
+    match map.try_entry(Tagged::new(number, 'd'))? {
         Entry::Vacant(entry) => Ok(*entry.try_insert(number)? == number),
         Entry::Occupied(_entry) => Ok(false),
     }
 }
 
 fn ready_entry_puts_it_in(map: &mut Map, number: u64) -> Result<bool, TryReserveError> {
-    match map.try_entry(key(number, 'd'))? {
+    match map.try_entry(Tagged::new(number, 'd'))? {
         Entry::Vacant(entry) => {
             let there = entry.try_ready()?.insert_entry(number);
             Ok(there.key().letter == 'd')
@@ -253,7 +218,7 @@ fn has_two_parts(
     first: char,
     second: char,
 ) -> Result<bool, TryReserveError> {
-    let rest = map.split_off(&key(middle, '?'))?;
+    let rest = map.split_off(&Tagged::new(middle, '?'))?;
     Ok(counts_up(&map, 0, middle, first) && counts_up(&rest, middle, END, second))
 }
 
@@ -269,7 +234,7 @@ fn append_takes_theirs(alloc: Global) -> Result<bool, TryReserveError> {
 fn split_keeps_them(map: &mut Map) -> Result<bool, TryReserveError> {
     for part in 0..43 {
         let at = part * 7;
-        let mut rest = map.split_off(&key(at, 'b'))?;
+        let mut rest = map.split_off(&Tagged::new(at, 'b'))?;
         if !counts_up(map, 0, at, 'a') || !counts_up(&rest, at, END, 'a') {
             return Ok(false);
         }
@@ -291,7 +256,10 @@ fn made_map_has_the_first(alloc: Global) -> Result<bool, TryReserveError> {
     let mut pairs = Vec::new(alloc);
     for place in 0..END.wrapping_mul(2) {
         let number = place % END;
-        pairs.push((key(number, if place < END { 'a' } else { 'b' }), number))?;
+        pairs.push((
+            Tagged::new(number, if place < END { 'a' } else { 'b' }),
+            number,
+        ))?;
     }
     let map: Map = BTreeMap::try_from_iterator(alloc, pairs)?;
     Ok(counts_up(&map, 0, END, 'a'))
@@ -308,7 +276,14 @@ fn calls_on_whole_maps_keep_or_take_keys(rt: HostRuntime) -> Result<(), Fail> {
 // Of two pairs for two maps each is put at the key that is there, or goes in with its own.
 fn both_keep_theirs(a: &mut Map, b: &mut Map, number: u64) -> Result<bool, TryReserveError> {
     let new = number.wrapping_add(END);
-    match insert_both(a, b, key(number, 'b'), number, key(new, 'c'), new) {
+    match insert_both(
+        a,
+        b,
+        Tagged::new(number, 'b'),
+        number,
+        Tagged::new(new, 'c'),
+        new,
+    ) {
         Ok((old, none)) => {
             let is_kept = is_number(old, number) && has(a, number, 'a', number);
             Ok(is_kept && none.is_none() && has(b, new, 'c', new))
@@ -339,7 +314,7 @@ fn put(map: &mut Map, room: &mut Room<Tagged, u64>, number: u64) {
     if room.places() == 0 || map.len() >= room.pairs() {
         return;
     }
-    map.insert_with(room, key(number, 'b'), number);
+    map.insert_with(room, Tagged::new(number, 'b'), number);
 }
 
 // With room for a hundred insertions, equal keys stay and use none of it, and new ones go in.
@@ -348,7 +323,7 @@ fn room_keeps_them(map: &mut Map) -> Result<bool, TryReserveError> {
     for number in 0..END.wrapping_add(100) {
         put(map, &mut room, number);
     }
-    let rest = map.split_off(&key(END, 'c'))?;
+    let rest = map.split_off(&Tagged::new(END, 'c'))?;
     Ok(counts_up(map, 0, END, 'a') && counts_up(&rest, END, END.wrapping_add(100), 'b'))
 }
 
@@ -361,7 +336,7 @@ fn room_leaves_the_keys_that_are_there(rt: HostRuntime) -> Result<(), Fail> {
 
 // The keys from the bound on, whose own letter is another.
 fn range_gives_them(map: &Map, from: u64) -> bool {
-    let at = key(from, 'b');
+    let at = Tagged::new(from, 'b');
     let (lo, hi) = (Bound::Included(&at), Bound::Unbounded);
     if !is_range(&lo, &hi) {
         return false;

@@ -1,12 +1,12 @@
 //! The pairs at the ends of a map as entries, pairs taken out by a query, and maps taken apart into their keys and values.
-use crate::map::{Drops, Tracked, TrackedKey, TrackedValue, has_memory, take_all_memory};
+use crate::map::{Drops, Tracked, no_drops, pair, take_all_memory, were_dropped};
 use crate::numbers::{Numbers, has, is_number, multiples};
 use crate::sizes::CAPACITY;
 use fc_base::TryReserveError;
 use fc_map::map::BTreeMap;
 use std::alloc::Global;
-use std::cell::Cell;
 use std::test::Fail;
+use test_values::is_ample;
 
 // Takes the first pairs out up to the number, each by its entry, which shows it first, and answers how many.
 fn taken_up_to(map: &mut Numbers, number: u64) -> u64 {
@@ -100,7 +100,7 @@ fn entries_at_both_ends_are_shown_written_and_taken(rt: HostRuntime) -> Result<(
 fn entries_at_the_ends_take_no_memory(rt: HostRuntime) -> Result<(), Fail> {
     let mut map = multiples(rt.alloc(), 0, 300, 3)?;
     let held = take_all_memory(rt.alloc())?;
-    let is_right = !has_memory(rt.alloc())
+    let is_right = !is_ample(rt.alloc())
         && write_ends(&mut map, 0, 897)
         && taken_up_to(&mut map, 199) == 200
         && taken_down_to(&mut map, 200) == 100;
@@ -152,7 +152,7 @@ fn a_value_is_made_of_its_key(rt: HostRuntime) -> Result<(), Fail> {
 fn is_made_or_comes_back(alloc: Global) -> Result<bool, TryReserveError> {
     let last = CAPACITY as u64;
     let Ok(mut map) = multiples(alloc, 0, last, 3) else {
-        return Ok(!has_memory(alloc));
+        return Ok(!is_ample(alloc));
     };
     let made = map
         .try_entry(last)?
@@ -207,23 +207,11 @@ fn keys_and_values_are_given_by_value_from_both_ends(rt: HostRuntime) -> Result<
     Ok(())
 }
 
-fn tracked<'a>(
-    alloc: Global,
-    end: usize,
-    drops: &'a Drops,
-) -> Result<Tracked<'a>, TryReserveError> {
+fn tracked<'a>(alloc: Global, end: u64, drops: &'a Drops) -> Result<Tracked<'a>, TryReserveError> {
     let mut map = BTreeMap::new(alloc);
     for number in 0..end {
-        let key = TrackedKey {
-            number,
-            drops: &drops.key,
-        };
-        map.try_insert(
-            key,
-            TrackedValue {
-                drops: &drops.value,
-            },
-        )?;
+        let (key, value) = pair(number, drops);
+        map.try_insert(key, value)?;
     }
     Ok(map)
 }
@@ -233,21 +221,18 @@ fn each_is_dropped_once(alloc: Global, drops: &Drops) -> Result<bool, TryReserve
     let mut keys = tracked(alloc, 20, drops)?.into_keys();
     drop(keys.next());
     drop(keys.next_back());
-    let is_two = drops.key.get() == 2 && drops.value.get() == 2;
+    let is_two = were_dropped(drops, 2, 2);
     drop(keys);
     let mut values = tracked(alloc, 20, drops)?.into_values();
     drop(values.next());
-    let is_one = drops.key.get() == 21 && drops.value.get() == 21;
+    let is_one = were_dropped(drops, 21, 21);
     drop(values);
-    Ok(is_two && is_one && drops.key.get() == 40 && drops.value.get() == 40)
+    Ok(is_two && is_one && were_dropped(drops, 40, 40))
 }
 
 #[test]
 fn each_pair_of_a_map_taken_apart_is_dropped_once(rt: HostRuntime) -> Result<(), Fail> {
-    let drops = Drops {
-        key: Cell::new(0),
-        value: Cell::new(0),
-    };
+    let drops = no_drops();
     assert!(rt; each_is_dropped_once(rt.alloc(), &drops)?);
     Ok(())
 }

@@ -1,7 +1,6 @@
 //! Maps that are extended by the items of an iterator, or made of them, where memory is refused.
 use crate::map::{
-    Drops, Tracked, TrackedKey, TrackedValue, fresh_drops, has_memory, room_for, take_all_memory,
-    were_all_dropped, were_dropped,
+    Drops, Tracked, fresh_drops, pair, room_for, take_all_memory, were_all_dropped, were_dropped,
 };
 use crate::numbers::{Numbers, has, has_up_to, multiples};
 use crate::sizes::{BEYOND, CAPACITY};
@@ -9,8 +8,8 @@ use fc_base::TryReserveError;
 use fc_map::map::BTreeMap;
 use fc_vec::TryFromIterator;
 use std::alloc::{AllocError, Global};
-use std::cell::Cell;
 use std::test::Fail;
+use test_values::{Tally, Token, is_ample};
 
 // The numbers below `count`, each with itself: from 0 on, always so many on, and round. Room that is refused is asked for once more.
 fn pairs(alloc: Global, count: u64, step: u64) -> Result<Vec<(u64, u64)>, AllocError> {
@@ -63,11 +62,11 @@ fn is_told(done: Result<(), TryReserveError>, len: usize) -> bool {
 #[test]
 fn a_refused_extension_keeps_the_items_before(rt: HostRuntime) {
     let Ok(mut map) = multiples(rt.alloc(), 0, 85, 3) else {
-        assert!(rt; !has_memory(rt.alloc()));
+        assert!(rt; !is_ample(rt.alloc()));
         return;
     };
     let Ok(items) = pairs(rt.alloc(), 170, 37) else {
-        assert!(rt; !has_memory(rt.alloc()));
+        assert!(rt; !is_ample(rt.alloc()));
         return;
     };
     let done = extend(&mut map, items);
@@ -78,27 +77,20 @@ fn a_refused_extension_keeps_the_items_before(rt: HostRuntime) {
 fn tracked_pairs(
     alloc: Global,
     drops: &[Drops],
-) -> Result<Vec<(TrackedKey<'_>, TrackedValue<'_>)>, AllocError> {
+) -> Result<Vec<(Token<'_>, Token<'_>)>, AllocError> {
     let mut all = room_for(alloc, drops.len())?;
     for (place, each) in drops.iter().enumerate() {
-        let key = TrackedKey {
-            number: place.wrapping_mul(37) % 170,
-            drops: &each.key,
-        };
-        all.push((key, TrackedValue { drops: &each.value }))?;
+        all.push(pair((place.wrapping_mul(37) % 170) as u64, each))?;
     }
     Ok(all)
 }
 
 // Whether the map has as many of the tracked pairs as its length says, those in front, and the others were dropped once. The keys
 // that it is asked for count their drops in `sought`.
-fn has_the_front<'a>(map: &Tracked<'a>, drops: &[Drops], sought: &'a Cell<u64>) -> bool {
+fn has_the_front<'a>(map: &Tracked<'a>, drops: &[Drops], sought: &'a Tally) -> bool {
     for place in 0..drops.len() {
         let is_there = place < map.len();
-        let key = TrackedKey {
-            number: place.wrapping_mul(37) % 170,
-            drops: sought,
-        };
+        let key = Token::new((place.wrapping_mul(37) % 170) as u64, sought);
         let dropped = u64::from(!is_there);
         if map.contains_key(&key) != is_there || !were_dropped(&drops[place], dropped, dropped) {
             return false;
@@ -109,7 +101,7 @@ fn has_the_front<'a>(map: &Tracked<'a>, drops: &[Drops], sought: &'a Cell<u64>) 
 
 fn extend_tracked<'a>(
     map: &mut Tracked<'a>,
-    items: Vec<(TrackedKey<'a>, TrackedValue<'a>)>,
+    items: Vec<(Token<'a>, Token<'a>)>,
 ) -> Result<(), TryReserveError> {
     map.try_extend(items)
 }
@@ -117,14 +109,14 @@ fn extend_tracked<'a>(
 // Each request is refused in turn by the sweep.
 #[test]
 fn each_item_of_an_extension_is_dropped_once(rt: HostRuntime) {
-    let sought = Cell::new(0);
+    let sought = Tally::new();
     let Ok(drops) = fresh_drops(rt.alloc(), 170) else {
-        assert!(rt; !has_memory(rt.alloc()));
+        assert!(rt; !is_ample(rt.alloc()));
         return;
     };
     {
         let Ok(items) = tracked_pairs(rt.alloc(), &drops) else {
-            assert!(rt; !has_memory(rt.alloc()));
+            assert!(rt; !is_ample(rt.alloc()));
             return;
         };
         let mut map = BTreeMap::new(rt.alloc());
@@ -136,7 +128,7 @@ fn each_item_of_an_extension_is_dropped_once(rt: HostRuntime) {
 
 fn tracked_map<'a>(
     alloc: Global,
-    items: Vec<(TrackedKey<'a>, TrackedValue<'a>)>,
+    items: Vec<(Token<'a>, Token<'a>)>,
 ) -> Result<Tracked<'a>, TryReserveError> {
     BTreeMap::try_from_iterator(alloc, items)
 }
@@ -145,7 +137,7 @@ fn tracked_map<'a>(
 fn is_made<'a>(
     made: &Result<Tracked<'a>, TryReserveError>,
     drops: &[Drops],
-    sought: &'a Cell<u64>,
+    sought: &'a Tally,
 ) -> bool {
     match made {
         Ok(map) => map.len() == 170 && has_the_front(map, drops, sought),
@@ -156,14 +148,14 @@ fn is_made<'a>(
 // Each request is refused in turn by the sweep.
 #[test]
 fn each_item_of_a_made_map_is_dropped_once(rt: HostRuntime) {
-    let sought = Cell::new(0);
+    let sought = Tally::new();
     let Ok(drops) = fresh_drops(rt.alloc(), 170) else {
-        assert!(rt; !has_memory(rt.alloc()));
+        assert!(rt; !is_ample(rt.alloc()));
         return;
     };
     {
         let Ok(items) = tracked_pairs(rt.alloc(), &drops) else {
-            assert!(rt; !has_memory(rt.alloc()));
+            assert!(rt; !is_ample(rt.alloc()));
             return;
         };
         assert!(rt; is_made(&tracked_map(rt.alloc(), items), &drops, &sought));
@@ -189,7 +181,7 @@ fn a_refused_extension_of_an_empty_map_keeps_a_leaf(rt: HostRuntime) -> Result<(
     let items = pairs(rt.alloc(), 30, 1)?;
     let mut map = BTreeMap::new(rt.alloc());
     let held = take_all_memory(rt.alloc())?;
-    let has_none = !has_memory(rt.alloc());
+    let has_none = !is_ample(rt.alloc());
     drop(spare);
     let done = extend(&mut map, items);
     drop(held);
@@ -214,7 +206,7 @@ fn a_refused_extension_fills_the_leaf(rt: HostRuntime) -> Result<(), Fail> {
     let mut map = multiples(rt.alloc(), 1, CAPACITY as u64, 1)?;
     let items = three_pairs(rt.alloc())?;
     let held = take_all_memory(rt.alloc())?;
-    let has_none = !has_memory(rt.alloc());
+    let has_none = !is_ample(rt.alloc());
     let done = extend(&mut map, items);
     drop(held);
     assert!(rt; has_none && matches!(done, Err(TryReserveError::AllocError)));

@@ -8,51 +8,24 @@ use crate::sizes::{BEYOND, CAPACITY};
 use fc_base::TryReserveError;
 use fc_map::map::BTreeMap;
 use std::alloc::{AllocError, Global};
-use std::cell::Cell;
 use std::cmp::Reverse;
 use std::test::Fail;
+use test_values::{Tally, Token, is_ample};
 
-pub(crate) type Tracked<'a> = BTreeMap<TrackedKey<'a>, TrackedValue<'a>>;
+pub(crate) type Tracked<'a> = BTreeMap<Token<'a>, Token<'a>>;
 
-// A number as a key, which counts its drops.
-#[derive_where(PartialEq, Eq, PartialOrd, Ord)]
-pub(crate) struct TrackedKey<'a> {
-    pub(crate) number: usize,
-    #[derive_where(skip)]
-    pub(crate) drops: &'a Cell<u64>,
-}
-
-impl Drop for TrackedKey<'_> {
-    fn drop(self) {
-        add_one(self.drops);
-        let TrackedKey {
-            number: _,
-            drops: _,
-        } = self;
-    }
-}
-
-// A value that counts its drops.
-pub(crate) struct TrackedValue<'a> {
-    pub(crate) drops: &'a Cell<u64>,
-}
-
-impl Drop for TrackedValue<'_> {
-    fn drop(self) {
-        add_one(self.drops);
-        let TrackedValue { drops: _ } = self;
-    }
-}
-
-// How often a key and its value were dropped.
+// What is told of the keys of one pair and of its values.
 #[derive(Drop)]
 pub(crate) struct Drops {
-    pub(crate) key: Cell<u64>,
-    pub(crate) value: Cell<u64>,
+    pub(crate) key: Tally,
+    pub(crate) value: Tally,
 }
 
-pub(crate) fn add_one(count: &Cell<u64>) {
-    count.set(count.get().wrapping_add(1));
+pub(crate) fn pair<'a>(number: u64, drops: &'a Drops) -> (Token<'a>, Token<'a>) {
+    (
+        Token::new(number, &drops.key),
+        Token::new(number, &drops.value),
+    )
 }
 
 // Inserts the numbers from 1 to the last until one is refused: how many were taken, or `None` where one was there already or refused
@@ -103,10 +76,6 @@ pub(crate) fn take_all_memory(alloc: Global) -> Result<Vec<Vec<u8>>, AllocError>
     Ok(held)
 }
 
-pub(crate) fn has_memory(alloc: Global) -> bool {
-    Vec::<u8>::with_capacity(alloc, 1).is_ok()
-}
-
 // Whether a map whose leaf has room for one number takes it and an old one, and refuses one more; and one of 150, whose first leaf has room,
 // takes a lower one.
 fn only_a_full_leaf_refuses(small: &mut Numbers, large: &mut Numbers) -> bool {
@@ -125,7 +94,7 @@ fn with_all_memory_refused_only_a_full_leaf_refuses(rt: HostRuntime) -> Result<(
     let mut small = multiples(rt.alloc(), 1, CAPACITY as u64, 1)?;
     let mut large = multiples(rt.alloc(), 1, 151, 1)?;
     let held = take_all_memory(rt.alloc())?;
-    let is_right = !has_memory(rt.alloc()) && only_a_full_leaf_refuses(&mut small, &mut large);
+    let is_right = !is_ample(rt.alloc()) && only_a_full_leaf_refuses(&mut small, &mut large);
     drop(held);
     assert!(rt; is_right && has_up_to(&small, CAPACITY as u64) && large.len() == 151);
     Ok(())
@@ -164,13 +133,13 @@ fn keys_in_reversed_order(rt: HostRuntime) {
 
 // Whether key and value were dropped so often.
 pub(crate) fn were_dropped(drops: &Drops, key: u64, value: u64) -> bool {
-    drops.key.get() == key && drops.value.get() == value
+    drops.key.dropped.get() == key && drops.value.dropped.get() == value
 }
 
-fn no_drops() -> Drops {
+pub(crate) fn no_drops() -> Drops {
     Drops {
-        key: Cell::new(0),
-        value: Cell::new(0),
+        key: Tally::new(),
+        value: Tally::new(),
     }
 }
 
@@ -209,11 +178,7 @@ pub(crate) enum Fate {
 }
 
 // Whether a refused pair came back, for want of memory: neither its key nor its value was dropped by then, and each is once it is let go.
-fn came_back(
-    back: (TrackedKey<'_>, TrackedValue<'_>, TryReserveError),
-    number: usize,
-    drops: &Drops,
-) -> Fate {
+fn came_back(back: (Token<'_>, Token<'_>, TryReserveError), number: u64, drops: &Drops) -> Fate {
     let (key, value, e) = back;
     let is_told = key.number == number && matches!(e, TryReserveError::AllocError);
     let is_whole = were_dropped(drops, 0, 0);
@@ -227,14 +192,8 @@ fn came_back(
     }
 }
 
-fn insert_tracked<'a>(map: &mut Tracked<'a>, number: usize, drops: &'a Drops) -> Fate {
-    let key = TrackedKey {
-        number,
-        drops: &drops.key,
-    };
-    let value = TrackedValue {
-        drops: &drops.value,
-    };
+fn insert_tracked<'a>(map: &mut Tracked<'a>, number: u64, drops: &'a Drops) -> Fate {
+    let (key, value) = pair(number, drops);
     match map.try_insert(key, value) {
         Ok(_old) => Fate::PutIn,
         Err(back) => came_back(back, number, drops),
@@ -242,17 +201,14 @@ fn insert_tracked<'a>(map: &mut Tracked<'a>, number: usize, drops: &'a Drops) ->
 }
 
 // Takes the pair of the number out, with a key whose own drop is counted in `sought`.
-fn remove_tracked<'a>(map: &mut Tracked<'a>, number: usize, sought: &'a Cell<u64>) {
-    let _ = map.remove(&TrackedKey {
-        number,
-        drops: sought,
-    });
+fn remove_tracked<'a>(map: &mut Tracked<'a>, number: u64, sought: &'a Tally) {
+    let _ = map.remove(&Token::new(number, sought));
 }
 
 // Inserts a pair for each that counts drops; whether each came back where it was refused, and else neither its key nor its value was dropped.
 pub(crate) fn keeps_or_hands_back_each<'a>(map: &mut Tracked<'a>, drops: &'a [Drops]) -> bool {
     for i in 0..drops.len() {
-        let is_right = match insert_tracked(map, i, &drops[i]) {
+        let is_right = match insert_tracked(map, i as u64, &drops[i]) {
             Fate::PutIn => were_dropped(&drops[i], 0, 0),
             Fate::HandedBack => true,
             Fate::Lost => false,
@@ -265,10 +221,10 @@ pub(crate) fn keeps_or_hands_back_each<'a>(map: &mut Tracked<'a>, drops: &'a [Dr
 }
 
 // Takes sixty even ones out; whether each was dropped once.
-fn drops_even_ones<'a>(map: &mut Tracked<'a>, drops: &[Drops], sought: &'a Cell<u64>) -> bool {
+fn drops_even_ones<'a>(map: &mut Tracked<'a>, drops: &[Drops], sought: &'a Tally) -> bool {
     for i in 0..drops.len() {
         if i < 120 && i % 2 == 0 {
-            remove_tracked(map, i, sought);
+            remove_tracked(map, i as u64, sought);
             if !were_dropped(&drops[i], 1, 1) {
                 return false;
             }
@@ -281,10 +237,10 @@ fn drops_even_ones<'a>(map: &mut Tracked<'a>, drops: &[Drops], sought: &'a Cell<
 #[test]
 fn each_key_and_value_is_dropped_once(rt: HostRuntime) {
     let Ok(drops) = fresh_drops(rt.alloc(), 170) else {
-        assert!(rt; !has_memory(rt.alloc()));
+        assert!(rt; !is_ample(rt.alloc()));
         return;
     };
-    let sought = Cell::new(0);
+    let sought = Tally::new();
     {
         let mut map = BTreeMap::new(rt.alloc());
         assert!(rt; keeps_or_hands_back_each(&mut map, &drops));

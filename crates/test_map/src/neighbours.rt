@@ -1,19 +1,10 @@
 //! The pairs next to a key, against numbers: for each key from below the first to beyond the last.
-use crate::map::entries::CountingKey;
 use fc_base::{Count, TryReserveError};
 use fc_map::map::BTreeMap;
 use std::alloc::Global;
 use std::cell::Cell;
 use std::test::Fail;
-
-// Two tagged numbers are equal where the numbers are, whatever their letters.
-#[derive(Clone, Copy, Debug)]
-#[derive_where(PartialEq, Eq, PartialOrd, Ord)]
-pub(crate) struct Tagged {
-    pub(crate) number: u64,
-    #[derive_where(skip(EqHashOrd))]
-    pub(crate) letter: char,
-}
+use test_values::{CountingKey, Tagged};
 
 // The even numbers from 2 on, so many, each with its tenfold, put in from the first on.
 fn even(alloc: Global, n: u64) -> Result<BTreeMap<u64, u64>, TryReserveError> {
@@ -91,7 +82,7 @@ fn neighbours_of_each_key_on_each_level(rt: HostRuntime) -> Result<(), Fail> {
 
 fn is_tagged(found: Option<(&Tagged, &u64)>, number: u64) -> bool {
     match found {
-        Some((key, _value)) => key.number == number && key.letter == 'a',
+        Some((key, _value)) => key.is(number, 'a'),
         None => number == 0,
     }
 }
@@ -103,8 +94,7 @@ pub(crate) fn tagged_below(
 ) -> Result<BTreeMap<Tagged, u64>, TryReserveError> {
     let mut map = BTreeMap::new(alloc);
     for number in 1..end {
-        let letter = 'a';
-        map.try_insert(Tagged { number, letter }, number)?;
+        map.try_insert(Tagged::new(number, 'a'), number)?;
     }
     Ok(map)
 }
@@ -114,8 +104,7 @@ pub(crate) fn tagged_below(
 fn neighbours_are_the_keys_of_the_map(rt: HostRuntime) -> Result<(), Fail> {
     let map = tagged_below(rt.alloc(), 153)?;
     for number in 1..153 {
-        let letter = 'b';
-        let key = Tagged { number, letter };
+        let key = Tagged::new(number, 'b');
         assert!(rt; is_tagged(map.first_at_or_after(&key), number));
         assert!(rt; is_tagged(map.last_at_or_before(&key), number));
         assert!(rt; is_tagged(map.first_after(&key), number.wrapping_add(1) % 153));

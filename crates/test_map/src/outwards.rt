@@ -1,5 +1,4 @@
 //! A map that grows from its middle to both sides and is then emptied from its front: what it walks, and what its calls compare.
-use crate::map::entries::CountingKey;
 use crate::numbers::{is_lent, is_number};
 use crate::sizes::LEVEL_COMPARISONS;
 use crate::sorted::greatest_levels;
@@ -8,6 +7,7 @@ use fc_map::map::BTreeMap;
 use std::alloc::Global;
 use std::cell::Cell;
 use std::test::Fail;
+use test_values::CountingKey;
 
 type Counted<'a> = BTreeMap<CountingKey<'a>, u64>;
 

@@ -1,10 +1,11 @@
 //! Look-ups by borrowed forms of a key, and by keys of several parts.
-use crate::map::{has_memory, take_all_memory};
+use crate::map::take_all_memory;
 use crate::numbers::{is_lent, is_number};
 use fc_base::TryReserveError;
 use fc_map::map::BTreeMap;
 use std::alloc::Global;
 use std::test::Fail;
+use test_values::is_ample;
 
 // A prefix of each text but the first is there, too, and twenty texts stand on two levels of nodes.
 const TEXTS: [&str; 20] = [
@@ -83,7 +84,7 @@ fn a_text_is_written_at_and_removed(rt: HostRuntime) -> Result<(), Fail> {
 fn with_all_memory_refused_a_text_is_found(rt: HostRuntime) -> Result<(), Fail> {
     let mut map = words(rt.alloc())?;
     let held = take_all_memory(rt.alloc())?;
-    let is_right = !has_memory(rt.alloc())
+    let is_right = !is_ample(rt.alloc())
         && String::from_str(rt.alloc(), "word").is_err()
         && finds_each(&map)
         && finds_no_other(&map)

@@ -1,11 +1,12 @@
 //! Insertions that are made ready, and pairs put into two maps: on maps of one to three levels, under refused memory, and without any.
-use crate::map::{has_memory, take_all_memory};
+use crate::map::take_all_memory;
 use crate::numbers::{Numbers, has, has_up_to, is_number, multiples};
 use crate::sizes::{BEYOND, CAPACITY};
 use fc_base::{Count, TryReserveError};
 use fc_map::map::{Entry, insert_both};
 use std::alloc::Global;
 use std::test::Fail;
+use test_values::is_ample;
 
 // How many numbers a map has that is empty, has one, fills a leaf, has two levels, fills all leaves on its last path, and has three.
 const LENGTHS: [u64; 6] = [0, 1, CAPACITY as u64, BEYOND, 150, 151];
@@ -144,11 +145,11 @@ fn goes_in_or_comes_back(a: &mut Numbers, b: &mut Numbers, number: u64) -> bool 
 #[test]
 fn a_refused_pair_of_insertions_leaves_both_maps(rt: HostRuntime) {
     let Ok(mut a) = multiples(rt.alloc(), 1, BEYOND, 1) else {
-        assert!(rt; !has_memory(rt.alloc()));
+        assert!(rt; !is_ample(rt.alloc()));
         return;
     };
     let Ok(mut b) = multiples(rt.alloc(), 1, BEYOND, 1) else {
-        assert!(rt; !has_memory(rt.alloc()));
+        assert!(rt; !is_ample(rt.alloc()));
         return;
     };
     assert!(rt; goes_in_or_comes_back(&mut a, &mut b, BEYOND));
@@ -177,7 +178,7 @@ fn a_refused_ready_entry_leaves_every_pair(rt: HostRuntime) -> Result<(), Fail> 
     for last in [CAPACITY as u64, BEYOND, 150] {
         match multiples(rt.alloc(), 1, last.wrapping_add(1), 1) {
             Ok(mut map) => assert!(rt; is_ready_or_comes_back(&mut map, last)?),
-            Err(_refused) => assert!(rt; !has_memory(rt.alloc())),
+            Err(_refused) => assert!(rt; !is_ample(rt.alloc())),
         }
     }
     Ok(())
@@ -190,7 +191,7 @@ fn is_put_without_memory(alloc: Global, map: &mut Numbers) -> Result<bool, TryRe
         Entry::Vacant(entry) => {
             let ready = entry.try_ready()?;
             let held = take_all_memory(alloc)?;
-            let has_none = !has_memory(alloc);
+            let has_none = !is_ample(alloc);
             let Ok(_value) = ready.insert(BEYOND);
             drop(held);
             Ok(has_none)
@@ -232,7 +233,7 @@ fn only_a_full_leaf_refuses_two_pairs(rt: HostRuntime) -> Result<(), Fail> {
     let mut a = multiples(rt.alloc(), 1, CAPACITY as u64, 1)?;
     let mut b = multiples(rt.alloc(), 1, BEYOND, 1)?;
     let held = take_all_memory(rt.alloc())?;
-    let is_right = !has_memory(rt.alloc())
+    let is_right = !is_ample(rt.alloc())
         && comes_back_for_the_second(&mut a, &mut b)
         && needs_no_memory(&mut a, &mut b);
     drop(held);

@@ -1,35 +1,9 @@
 //! Copies of maps that are refused by a key's or a value's own error, which is passed on as it is.
-ghost use Rattle.std.specs.Prelude.{◌≡◌, Some};
-
 use fc_base::{TryClone, TryReserveError};
 use fc_map::map::BTreeMap;
 use std::alloc::Global;
 use std::test::Fail;
-
-// A number whose copy is refused with this error, where it has one.
-#[derive_where(PartialEq, Eq, PartialOrd, Ord)]
-#[derive(Drop)]
-struct Stubborn {
-    number: u64,
-    #[derive_where(skip)]
-    refusal: Option<TryReserveError>,
-}
-
-impl TryClone for Stubborn {
-    ghost same = { λ source copy. copy.number ≡ source.number };
-
-    ghost may_refuse = { λ source e. source.refusal ≡ Some e };
-
-    fn try_clone(&self) -> Result<Stubborn, TryReserveError> {
-        match self.refusal {
-            Some(refusal) => Err(refusal),
-            None => Ok(Stubborn {
-                number: self.number,
-                refusal: None,
-            }),
-        }
-    }
-}
+use test_values::Stubborn;
 
 // What refuses the copy of a map of the numbers below 30, whose key and value at 17 refuse theirs with these errors.
 fn refusal(

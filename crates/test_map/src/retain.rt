@@ -1,14 +1,14 @@
 //! Pairs that stay and pairs that are taken out, by their keys: which were asked and in which order, what is left, and that it takes
 //! pairs again.
 use crate::map::{
-    Drops, Tracked, fresh_drops, has_memory, keeps_or_hands_back_each, were_all_dropped,
-    were_dropped,
+    Drops, Tracked, fresh_drops, keeps_or_hands_back_each, were_all_dropped, were_dropped,
 };
 use crate::numbers::{Numbers, insert, multiples};
 use fc_base::TryReserveError;
 use fc_map::map::BTreeMap;
 use std::alloc::Global;
 use std::test::Fail;
+use test_values::is_ample;
 
 // Which numbers stay: those with these bits in the mask, or those without them.
 #[derive(Clone, Copy)]
@@ -164,7 +164,7 @@ fn drops_odd_ones<'a>(map: &mut Tracked<'a>, drops: &[Drops]) -> bool {
 #[test]
 fn those_that_do_not_stay_are_dropped_once(rt: HostRuntime) {
     let Ok(drops) = fresh_drops(rt.alloc(), 170) else {
-        assert!(rt; !has_memory(rt.alloc()));
+        assert!(rt; !is_ample(rt.alloc()));
         return;
     };
     {

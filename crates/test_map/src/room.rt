@@ -1,10 +1,11 @@
 //! Insertions with room that was taken before.
-use crate::map::{has_memory, take_all_memory};
+use crate::map::take_all_memory;
 use crate::numbers::{Numbers, has_up_to, multiples};
 use crate::sizes::MOST_LEVELS;
 use fc_base::TryReserveError;
 use fc_map::map::{BTreeMap, Room};
 use std::test::Fail;
+use test_values::is_ample;
 
 type NumberRoom = Room<u64, u64>;
 
@@ -47,7 +48,7 @@ fn with_all_memory_refused_each_place_is_used(rt: HostRuntime) -> Result<(), Fai
     let mut map = multiples(rt.alloc(), 1, 51, 1)?;
     let mut room = map.try_room_for(100)?;
     let held = take_all_memory(rt.alloc())?;
-    let has_memory = has_memory(rt.alloc());
+    let has_memory = is_ample(rt.alloc());
     let count = put_numbers(&mut map, &mut room, 41, 152);
     drop(held);
     assert!(rt; !has_memory && count == 100 && room.places() == 0);

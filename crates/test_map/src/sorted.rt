@@ -1,11 +1,11 @@
 //! What a map kept as one sorted vector would cost: more than the clauses on the counts of a map's calls allow.
-use crate::map::entries::CountingKey;
 use crate::sizes::{BEYOND, CAPACITY, LEAST_CHILDREN, LEVEL_COMPARISONS, LEVEL_MOVES};
 use fc_base::TryReserveError;
 use fc_map::map::BTreeMap;
 use std::alloc::{AllocError, Global};
 use std::cell::Cell;
 use std::test::Fail;
+use test_values::CountingKey;
 
 // How many levels a tree of so many pairs has at most: one, and one more for each h from 1 on with
 // `2 * LEAST_CHILDREN^h <= pairs + 1`.

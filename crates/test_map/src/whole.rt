@@ -1,18 +1,15 @@
 //! Appends and splits of a few pairs, with ample memory and with none. The keys have a letter by which none is compared, the values are letters.
-use crate::map::{has_memory, take_all_memory};
-use crate::neighbours::Tagged;
+use crate::map::take_all_memory;
 use fc_base::TryReserveError;
 use fc_map::map::BTreeMap;
 use std::alloc::Global;
 use std::test::Fail;
+use test_values::{Tagged, is_ample};
 
 type Letters = BTreeMap<Tagged, char>;
 
 fn key(number: u64) -> Tagged {
-    Tagged {
-        number,
-        letter: '?',
-    }
+    Tagged::new(number, '?')
 }
 
 // These numbers, each with the letter of the map and the letter at its place.
@@ -25,7 +22,7 @@ fn letters(
     let mut map = BTreeMap::new(alloc);
     for (number, value) in numbers.iter().zip(values.chars()) {
         let number = *number;
-        map.try_insert(Tagged { number, letter }, value)?;
+        map.try_insert(Tagged::new(number, letter), value)?;
     }
     Ok(map)
 }
@@ -132,7 +129,7 @@ fn with_all_memory_refused_only_pairs_are_joined_or_cut_in_vain(
     let mut other = letters(rt.alloc(), &[3, 4, 5], 'y', "def")?;
     let mut none = letters(rt.alloc(), &[], 'z', "")?;
     let held = take_all_memory(rt.alloc())?;
-    let is_right = !has_memory(rt.alloc())
+    let is_right = !is_ample(rt.alloc())
         && only_two_with_pairs_are_refused(&mut map, &mut other, &mut none)
         && only_one_with_pairs_is_refused(&mut map, &mut other);
     drop(held);

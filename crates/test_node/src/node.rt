@@ -6,9 +6,9 @@ ghost use Rattle.fc_tree_node.specs.Siblings.{AreAlike};
 use fc_base::{Count, TryReserveError};
 use fc_tree_node::node::{CAPACITY, MIN_LEN, Node};
 use std::alloc::Global;
-use std::cell::Cell;
 use std::process::Abort;
 use std::test::Fail;
+use test_values::{Tally, Token};
 
 // Puts the pair behind those of a leaf. The helpers are generic, so that they are proved once for numbers and tokens.
 fn push<V: Drop>(rt: &impl Abort, leaf: &mut Node<u64, V>, key: u64, value: V) {
@@ -568,49 +568,37 @@ fn takes_out_and_replaces_a_pair(rt: HostRuntime) -> Result<(), Fail> {
     Ok(())
 }
 
-// A value that counts its drop.
-struct Token<'a> {
-    drops: &'a Cell<u64>,
-}
-
-impl Drop for Token<'_> {
-    fn drop(self) {
-        let Token { drops } = self;
-        drops.set(drops.get().wrapping_add(1));
-    }
-}
-
 // A leaf of `n` pairs from `first` on, whose values count their drops.
 fn tokens<'a>(
     rt: &impl Abort,
     alloc: Global,
     first: u64,
     n: u64,
-    drops: &'a Cell<u64>,
+    tally: &'a Tally,
 ) -> Result<Node<u64, Token<'a>>, TryReserveError> {
     let mut node = Node::try_leaf(alloc)?;
     for i in 0..n {
-        push(rt, &mut node, first.wrapping_add(i), Token { drops });
+        push(rt, &mut node, first.wrapping_add(i), Token::new(i, tally));
     }
     Ok(node)
 }
 
 #[test]
 fn a_split_drops_no_pair(rt: HostRuntime) -> Result<(), Fail> {
-    let drops = Cell::new(0);
-    let mut node = tokens(&rt, rt.alloc(), 0, CAPACITY as u64, &drops)?;
+    let tally = Tally::new();
+    let mut node = tokens(&rt, rt.alloc(), 0, CAPACITY as u64, &tally)?;
     let right = Node::try_leaf(rt.alloc())?;
-    let pair = (CAPACITY as u64, Token { drops: &drops });
+    let pair = (CAPACITY as u64, Token::new(7, &tally));
     let (up, right) = split_leaf(&rt, &mut node, CAPACITY, pair, right);
-    let of_none = drops.get();
+    let of_none = tally.dropped.get();
     drop(up);
-    let of_middle = drops.get();
+    let of_middle = tally.dropped.get();
     drop(node);
-    let of_left = drops.get();
+    let of_left = tally.dropped.get();
     drop(right);
     // The pair goes to the right half, so the left one has one more than the fewest.
     assert!(&rt; of_none == 0 && of_middle == 1 && of_left == of_middle + MIN_LEN as u64 + 1);
-    assert!(&rt; drops.get() == PLACES as u64);
+    assert!(&rt; tally.dropped.get() == PLACES as u64);
     Ok(())
 }
 
@@ -618,13 +606,13 @@ fn a_split_drops_no_pair(rt: HostRuntime) -> Result<(), Fail> {
 fn fourteen_pairs<'a>(
     rt: &impl Abort,
     alloc: Global,
-    drops: &'a Cell<u64>,
+    tally: &'a Tally,
 ) -> Result<Node<u64, Token<'a>>, TryReserveError> {
-    let left = tokens(rt, alloc, 0, 6, drops)?;
-    let right = tokens(rt, alloc, 7, 7, drops)?;
+    let left = tokens(rt, alloc, 0, 6, tally)?;
+    let right = tokens(rt, alloc, 7, 7, tally)?;
     let mut node = Node::try_inner(alloc)?;
     node.adopt(left);
-    push_child(rt, &mut node, 6, Token { drops }, right);
+    push_child(rt, &mut node, 6, Token::new(7, tally), right);
     Ok(node)
 }
 
@@ -642,12 +630,12 @@ fn call_of(number: usize) -> Call {
 #[test]
 fn a_merge_and_thefts_drop_no_pair(rt: HostRuntime) -> Result<(), Fail> {
     for number in 0..5usize {
-        let drops = Cell::new(0);
-        let mut node = fourteen_pairs(&rt, rt.alloc(), &drops)?;
+        let tally = Tally::new();
+        let mut node = fourteen_pairs(&rt, rt.alloc(), &tally)?;
         mend(&rt, &mut node, 0, call_of(number));
-        let before = drops.get();
+        let before = tally.dropped.get();
         drop(node);
-        assert!(&rt; before == 0 && drops.get() == 14);
+        assert!(&rt; before == 0 && tally.dropped.get() == 14);
     }
     Ok(())
 }
@@ -660,17 +648,17 @@ fn has_one_child_alone<V: Drop>(node: &Node<u64, V>) -> bool {
 fn one_of_each(
     rt: &impl Abort,
     alloc: Global,
-    drops: &Cell<u64>,
+    tally: &Tally,
     made: &mut u64,
 ) -> Result<(), TryReserveError> {
-    let below = tokens(rt, alloc, 0, 1, drops)?;
+    let below = tokens(rt, alloc, 0, 1, tally)?;
     *made = 1;
     let mut node = Node::try_inner(alloc)?;
     node.adopt(below);
     assert!(rt; has_one_child_alone(&node));
-    let right = tokens(rt, alloc, 2, 1, drops)?;
+    let right = tokens(rt, alloc, 2, 1, tally)?;
     *made = 2;
-    push_child(rt, &mut node, 1, Token { drops }, right);
+    push_child(rt, &mut node, 1, Token::new(7, tally), right);
     *made = 3;
     Ok(())
 }
@@ -678,11 +666,11 @@ fn one_of_each(
 // With a request refused, it ends as well: what was made is dropped, each pair once.
 #[test]
 fn makes_an_inner_node(rt: HostRuntime) {
-    let drops = Cell::new(0);
+    let tally = Tally::new();
     let mut made = 0;
-    match one_of_each(&rt, rt.alloc(), &drops, &mut made) {
+    match one_of_each(&rt, rt.alloc(), &tally, &mut made) {
         Ok(()) => assert!(&rt; made == 3),
         Err(refused) => assert!(&rt; matches!(refused, TryReserveError::AllocError)),
     }
-    assert!(&rt; drops.get() == made);
+    assert!(&rt; tally.dropped.get() == made);
 }

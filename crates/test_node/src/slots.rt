@@ -4,23 +4,10 @@ use fc_tree_node::node::{CAPACITY, Node};
 use fc_tree_slots::rest::Rest;
 use fc_tree_slots::slots::Slots;
 use std::alloc::{AllocError, Global};
-use std::cell::Cell;
 use std::mem::size_of;
 use std::process::Abort;
 use std::test::Fail;
-
-// An item that counts its drop.
-struct Token<'a> {
-    id: u64,
-    drops: &'a Cell<u64>,
-}
-
-impl Drop for Token<'_> {
-    fn drop(self) {
-        let Token { id: _, drops } = self;
-        drops.set(drops.get().wrapping_add(1));
-    }
-}
+use test_values::{Tally, Token};
 
 // Puts the item behind the others.
 fn push<T: Drop>(rt: &impl Abort, slots: &mut Slots<T, 4>, item: T) {
@@ -34,23 +21,23 @@ fn list<'a>(
     alloc: Global,
     first: u64,
     n: u64,
-    drops: &'a Cell<u64>,
+    tally: &'a Tally,
 ) -> Result<Slots<Token<'a>, 4>, Fail> {
     let mut slots = Slots::try_new(alloc)?;
     for i in 0..n {
-        let id = first.wrapping_add(i);
-        push(rt, &mut slots, Token { id, drops });
+        let number = first.wrapping_add(i);
+        push(rt, &mut slots, Token::new(number, tally));
     }
     Ok(slots)
 }
 
 // Whether the list holds the items of these numbers.
-fn has_ids(slots: &Slots<Token<'_>, 4>, ids: &[u64]) -> bool {
-    if slots.len() != ids.len() {
+fn has_numbers(slots: &Slots<Token<'_>, 4>, numbers: &[u64]) -> bool {
+    if slots.len() != numbers.len() {
         return false;
     }
-    for i in 0..ids.len() {
-        if slots.get(i).id != ids[i] {
+    for i in 0..numbers.len() {
+        if slots.get(i).number != numbers[i] {
             return false;
         }
     }
@@ -60,34 +47,30 @@ fn has_ids(slots: &Slots<Token<'_>, 4>, ids: &[u64]) -> bool {
 #[test]
 fn a_dropped_list_drops_each_item_once(rt: HostRuntime) -> Result<(), Fail> {
     for n in [0, 1, 4] {
-        let drops = Cell::new(0);
-        let slots = list(&rt, rt.alloc(), 0, n, &drops)?;
-        assert!(&rt; drops.get() == 0);
+        let tally = Tally::new();
+        let slots = list(&rt, rt.alloc(), 0, n, &tally)?;
+        assert!(&rt; tally.dropped.get() == 0);
         drop(slots);
-        assert!(&rt; drops.get() == n);
+        assert!(&rt; tally.dropped.get() == n);
     }
     Ok(())
 }
 
 #[test]
 fn a_removed_or_replaced_item_is_handed_out(rt: HostRuntime) -> Result<(), Fail> {
-    let drops = Cell::new(0);
-    let mut slots = list(&rt, rt.alloc(), 0, 4, &drops)?;
+    let tally = Tally::new();
+    let mut slots = list(&rt, rt.alloc(), 0, 4, &tally)?;
     assert!(&rt; slots.len() == 4);
     let gone = slots.remove(1, &mut Count::new());
-    assert!(&rt; gone.id == 1 && drops.get() == 0);
+    assert!(&rt; gone.number == 1 && tally.dropped.get() == 0);
     drop(gone);
-    assert!(&rt; drops.get() == 1 && has_ids(&slots, &[0, 2, 3]));
-    let token = Token {
-        id: 9,
-        drops: &drops,
-    };
-    let gone = slots.replace(2, token, &mut Count::new());
-    assert!(&rt; gone.id == 3 && drops.get() == 1);
+    assert!(&rt; tally.dropped.get() == 1 && has_numbers(&slots, &[0, 2, 3]));
+    let gone = slots.replace(2, Token::new(9, &tally), &mut Count::new());
+    assert!(&rt; gone.number == 3 && tally.dropped.get() == 1);
     drop(gone);
-    assert!(&rt; has_ids(&slots, &[0, 2, 9]));
+    assert!(&rt; has_numbers(&slots, &[0, 2, 9]));
     drop(slots);
-    assert!(&rt; drops.get() == 5);
+    assert!(&rt; tally.dropped.get() == 5);
     Ok(())
 }
 
@@ -119,16 +102,18 @@ fn moved(call: usize) -> (&'static [u64], &'static [u64]) {
 #[test]
 fn moved_items_are_dropped_by_the_list_that_has_them(rt: HostRuntime) -> Result<(), Fail> {
     for call in 0..3usize {
-        let drops = Cell::new(0);
-        let mut slots = list(&rt, rt.alloc(), 0, 4, &drops)?;
-        let mut other = list(&rt, rt.alloc(), 7, 1, &drops)?;
+        let tally = Tally::new();
+        let mut slots = list(&rt, rt.alloc(), 0, 4, &tally)?;
+        let mut other = list(&rt, rt.alloc(), 7, 1, &tally)?;
         move_three(&rt, &mut slots, &mut other, call);
         let (kept, gone) = moved(call);
-        assert!(&rt; drops.get() == 0 && has_ids(&slots, kept) && has_ids(&other, gone));
+        assert!(&rt;
+            tally.dropped.get() == 0 && has_numbers(&slots, kept) && has_numbers(&other, gone)
+        );
         drop(slots);
-        assert!(&rt; drops.get() == 1);
+        assert!(&rt; tally.dropped.get() == 1);
         drop(other);
-        assert!(&rt; drops.get() == 5);
+        assert!(&rt; tally.dropped.get() == 5);
     }
     Ok(())
 }
@@ -149,9 +134,9 @@ fn take_ends<T>(rest: &mut Rest<T, 4>) -> (Option<T>, Option<T>) {
 }
 
 // Whether there is the item of this number.
-fn has_id(item: &Option<Token<'_>>, id: u64) -> bool {
+fn has_number(item: &Option<Token<'_>>, number: u64) -> bool {
     match item {
-        Some(token) => token.id == id,
+        Some(token) => token.number == number,
         None => false,
     }
 }
@@ -159,16 +144,16 @@ fn has_id(item: &Option<Token<'_>>, id: u64) -> bool {
 #[test]
 fn what_is_left_between_the_ends_is_dropped_once(rt: HostRuntime) -> Result<(), Fail> {
     for n in [0u64, 1, 4] {
-        let drops = Cell::new(0);
-        let mut rest = list(&rt, rt.alloc(), 0, n, &drops)?.into_rest();
+        let tally = Tally::new();
+        let mut rest = list(&rt, rt.alloc(), 0, n, &tally)?.into_rest();
         let (first, last) = take_ends(&mut rest);
-        assert!(&rt; has_id(&first, 0) == (n > 0) && has_id(&last, 3) == (n == 4));
-        assert!(&rt; drops.get() == 0);
+        assert!(&rt; has_number(&first, 0) == (n > 0) && has_number(&last, 3) == (n == 4));
+        assert!(&rt; tally.dropped.get() == 0);
         drop(rest);
-        assert!(&rt; drops.get() == n.saturating_sub(2));
+        assert!(&rt; tally.dropped.get() == n.saturating_sub(2));
         drop(first);
         drop(last);
-        assert!(&rt; drops.get() == n);
+        assert!(&rt; tally.dropped.get() == n);
     }
     Ok(())
 }

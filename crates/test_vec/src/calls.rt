@@ -3,6 +3,7 @@ use fc_base::TryReserveError;
 use fc_vec::{FallibleCopyVec, FallibleVec};
 use std::alloc::{AllocError, Global};
 use std::cell::Cell;
+use test_values::is_ample;
 
 pub(crate) fn holds(items: &[u64], expected: &[u64]) -> bool {
     items == expected
@@ -179,11 +180,6 @@ fn with_room_at_last(alloc: Global, items: &[u64], room: usize) -> Result<Vec<u6
         Ok(v) => Ok(v),
         Err(_refused) => with_room(alloc, items, room),
     }
-}
-
-/// Whether memory is given.
-pub(crate) fn is_ample(alloc: Global) -> bool {
-    Vec::<u8>::with_capacity(alloc, 1).is_ok()
 }
 
 // Whether the call that was refused is done when it is made again, or is refused again, as there is no memory.

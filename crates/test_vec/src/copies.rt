@@ -1,66 +1,23 @@
 //! Elements whose copies are refused at a given place, by either error: it comes out as it went in, and not as the other one.
-ghost use Rattle.std.specs.Prelude.{◌≡◌};
-
 use fc_base::{TryClone, TryReserveError};
 use fc_vec::{FallibleVec, TryVec, try_from_elem};
 use std::alloc::{AllocError, Global};
-use std::cell::Cell;
-
-// How many copies can be made, and by which error the next one is refused.
-#[derive(Drop)]
-struct Supply {
-    left: Cell<u64>,
-    error: TryReserveError,
-}
-
-// A number of which as many copies are made as the supply has.
-#[derive(Drop)]
-struct Scarce<'a> {
-    number: u64,
-    supply: &'a Supply,
-}
-
-impl TryClone for Scarce<'_> {
-    ghost same = { λ source copy. copy.number ≡ source.number };
-
-    fn try_clone(&self) -> Result<Self, TryReserveError> {
-        let left = self.supply.left.get();
-        if left == 0 {
-            return Err(self.supply.error);
-        }
-        self.supply.left.set(left - 1);
-        Ok(Scarce {
-            number: self.number,
-            supply: self.supply,
-        })
-    }
-}
-
-fn scarce_number<'a>(number: u64, supply: &'a Supply) -> Scarce<'a> {
-    Scarce { number, supply }
-}
-
-fn supply_of(left: u64, error: TryReserveError) -> Supply {
-    Supply {
-        left: Cell::new(left),
-        error,
-    }
-}
+use test_values::{Tally, Token};
 
 // The numbers from 1 on.
-fn scarce_up_to<'a>(
+fn tokens_up_to<'a>(
     alloc: Global,
     last: u64,
-    supply: &'a Supply,
-) -> Result<Vec<Scarce<'a>>, AllocError> {
+    tally: &'a Tally,
+) -> Result<Vec<Token<'a>>, AllocError> {
     let mut made = Vec::new(alloc);
     for before in 0..last {
-        made.push(scarce_number(before.wrapping_add(1), supply))?;
+        made.push(Token::new(before.wrapping_add(1), tally))?;
     }
     Ok(made)
 }
 
-fn are(items: &[Scarce], expected: &[u64]) -> bool {
+fn are(items: &[Token], expected: &[u64]) -> bool {
     if items.len() != expected.len() {
         return false;
     }
@@ -89,30 +46,30 @@ fn is_as_given(error: Option<TryReserveError>, is_enough: bool, own: TryReserveE
 }
 
 // The calls that copy, each in a helper that promises nothing.
-fn extended<'a>(v: &mut Vec<Scarce<'a>>, sources: &[Scarce<'a>]) -> Result<(), TryReserveError> {
+fn extended<'a>(v: &mut Vec<Token<'a>>, sources: &[Token<'a>]) -> Result<(), TryReserveError> {
     v.try_extend_from_slice_no_copy(sources)
 }
 
 fn also_extended<'a>(
-    v: &mut TryVec<Scarce<'a>>,
-    sources: &[Scarce<'a>],
+    v: &mut TryVec<Token<'a>>,
+    sources: &[Token<'a>],
 ) -> Result<(), TryReserveError> {
     v.extend_from_slice(sources)
 }
 
 fn resized<'a>(
-    v: &mut Vec<Scarce<'a>>,
+    v: &mut Vec<Token<'a>>,
     length: usize,
-    value: Scarce<'a>,
+    value: Token<'a>,
 ) -> Result<(), TryReserveError> {
     v.try_resize_no_copy(length, value)
 }
 
 fn repeated<'a>(
     alloc: Global,
-    value: Scarce<'a>,
+    value: Token<'a>,
     count: usize,
-) -> Result<Vec<Scarce<'a>>, TryReserveError> {
+) -> Result<Vec<Token<'a>>, TryReserveError> {
     try_from_elem(alloc, value, count)
 }
 
@@ -123,11 +80,11 @@ const NO_MEMORY: TryReserveError = TryReserveError::AllocError;
 const AFTER_EXTENSION: [&[u64]; 3] = [&[1, 2], &[1, 2, 1], &[1, 2, 1, 2]];
 
 fn is_extended(alloc: Global, given: u64, own: TryReserveError, after: &[u64]) -> bool {
-    let supply = supply_of(given, own);
-    let Ok(mut v) = scarce_up_to(alloc, 2, &supply) else {
+    let tally = Tally::of_copies(given, own);
+    let Ok(mut v) = tokens_up_to(alloc, 2, &tally) else {
         return false;
     };
-    let Ok(sources) = scarce_up_to(alloc, 2, &supply) else {
+    let Ok(sources) = tokens_up_to(alloc, 2, &tally) else {
         return false;
     };
     let error = error_of(extended(&mut v, &sources));
@@ -144,16 +101,16 @@ fn an_extension_keeps_the_copies_before_the_refused_one(rt: HostRuntime) {
 }
 
 fn is_also_extended(alloc: Global, given: u64, own: TryReserveError, after: &[u64]) -> bool {
-    let supply = supply_of(given, own);
-    let Ok(items) = scarce_up_to(alloc, 2, &supply) else {
+    let tally = Tally::of_copies(given, own);
+    let Ok(items) = tokens_up_to(alloc, 2, &tally) else {
         return false;
     };
     let mut v = TryVec::from(items);
-    let Ok(sources) = scarce_up_to(alloc, 2, &supply) else {
+    let Ok(sources) = tokens_up_to(alloc, 2, &tally) else {
         return false;
     };
     let error = error_of(also_extended(&mut v, &sources));
-    is_as_given(error, given == 2, own) && are(v.as_slice(), after) && supply.left.get() == 0
+    is_as_given(error, given == 2, own) && are(v.as_slice(), after) && tally.left.get() == 0
 }
 
 // The same by the call of `TryVec`, whose error is the copy's too.
@@ -170,11 +127,11 @@ const AFTER_RESIZE: [&[u64]; 3] = [&[1, 2], &[1, 2, 9], &[1, 2, 9, 9, 9]];
 
 // A vector of two that is resized to five: the last place gets the value itself.
 fn is_resized(alloc: Global, given: u64, own: TryReserveError, after: &[u64]) -> bool {
-    let supply = supply_of(given, own);
-    let Ok(mut v) = scarce_up_to(alloc, 2, &supply) else {
+    let tally = Tally::of_copies(given, own);
+    let Ok(mut v) = tokens_up_to(alloc, 2, &tally) else {
         return false;
     };
-    let error = error_of(resized(&mut v, 5, scarce_number(9, &supply)));
+    let error = error_of(resized(&mut v, 5, Token::new(9, &tally)));
     is_as_given(error, given == 2, own) && are(&v, after)
 }
 
@@ -190,12 +147,12 @@ fn a_resize_keeps_the_copies_before_the_refused_one(rt: HostRuntime) {
 
 // One item more takes no copy.
 fn are_put_in_themselves(alloc: Global) -> bool {
-    let supply = supply_of(0, OVERFLOW);
-    let Ok(mut v) = scarce_up_to(alloc, 2, &supply) else {
+    let tally = Tally::of_copies(0, OVERFLOW);
+    let Ok(mut v) = tokens_up_to(alloc, 2, &tally) else {
         return false;
     };
-    let is_done = resized(&mut v, 3, scarce_number(9, &supply)).is_ok();
-    match repeated(alloc, scarce_number(8, &supply), 1) {
+    let is_done = resized(&mut v, 3, Token::new(9, &tally)).is_ok();
+    match repeated(alloc, Token::new(8, &tally), 1) {
         Ok(made) => is_done && are(&v, &[1, 2, 9]) && are(&made, &[8]),
         Err(_refused) => false,
     }
@@ -209,45 +166,45 @@ fn one_element_more_takes_no_copy(rt: HostRuntime) {
 // Two parts of two numbers each.
 fn parts<'a>(
     alloc: Global,
-    supply: &'a Supply,
-) -> Result<TryVec<TryVec<Scarce<'a>>>, TryReserveError> {
+    tally: &'a Tally,
+) -> Result<TryVec<TryVec<Token<'a>>>, TryReserveError> {
     let mut made = TryVec::new(alloc);
     for _ in 0..2u64 {
-        made.push(TryVec::from(scarce_up_to(alloc, 2, supply)?))?;
+        made.push(TryVec::from(tokens_up_to(alloc, 2, tally)?))?;
     }
     Ok(made)
 }
 
-fn joined<'a>(parts: &TryVec<TryVec<Scarce<'a>>>) -> Result<TryVec<Scarce<'a>>, TryReserveError> {
+fn joined<'a>(parts: &TryVec<TryVec<Token<'a>>>) -> Result<TryVec<Token<'a>>, TryReserveError> {
     parts.concat()
 }
 
 fn copied<'a>(
-    parts: &TryVec<TryVec<Scarce<'a>>>,
-) -> Result<TryVec<TryVec<Scarce<'a>>>, TryReserveError> {
+    parts: &TryVec<TryVec<Token<'a>>>,
+) -> Result<TryVec<TryVec<Token<'a>>>, TryReserveError> {
     parts.try_clone()
 }
 
 fn sliced<'a>(
     alloc: Global,
-    parts: &[TryVec<Scarce<'a>>],
-) -> Result<TryVec<TryVec<Scarce<'a>>>, TryReserveError> {
+    parts: &[TryVec<Token<'a>>],
+) -> Result<TryVec<TryVec<Token<'a>>>, TryReserveError> {
     TryVec::try_from_slice(alloc, parts)
 }
 
 // By each call that makes copies of the four numbers: with one copy too few, and with enough.
 fn are_passed_on(alloc: Global, given: u64, own: TryReserveError) -> bool {
-    let supply = supply_of(given, own);
-    let Ok(parts) = parts(alloc, &supply) else {
+    let tally = Tally::of_copies(given, own);
+    let Ok(parts) = parts(alloc, &tally) else {
         return false;
     };
     let by_concat = error_of(joined(&parts));
-    supply.left.set(given);
+    tally.left.set(given);
     let by_clone = error_of(copied(&parts));
-    supply.left.set(given);
+    tally.left.set(given);
     let by_slice = error_of(sliced(alloc, parts.as_slice()));
-    supply.left.set(given);
-    let by_element = error_of(repeated(alloc, scarce_number(8, &supply), 5));
+    tally.left.set(given);
+    let by_element = error_of(repeated(alloc, Token::new(8, &tally), 5));
     let is_enough = given == 4;
     is_as_given(by_concat, is_enough, own)
         && is_as_given(by_clone, is_enough, own)

@@ -1,70 +1,34 @@
 //! Items that count their drops.
-ghost use Rattle.std.specs.Prelude.{⊤};
-
-use crate::calls::{holds, is_ample};
-use fc_base::{TryClone, TryReserveError};
+use crate::calls::holds;
+use fc_base::TryReserveError;
 use fc_vec::{FallibleVec, TryCollect, TryVec, try_from_elem};
 use std::alloc::Global;
-use std::cell::Cell;
 use std::test::Fail;
+use test_values::{Tally, Token, is_ample};
 
-// An item that counts its drop.
-struct Token<'a>(&'a Cell<u64>);
-
-impl Drop for Token<'_> {
-    fn drop(self) {
-        let Token(drops) = self;
-        drops.set(drops.get().wrapping_add(1));
-    }
-}
-
-// A token of which as many copies are made as the cell says.
-#[derive(Drop)]
-struct Copied<'a> {
-    token: Token<'a>,
-    copies_left: &'a Cell<u64>,
-}
-
-impl TryClone for Copied<'_> {
-    ghost same = { λ _ _. ⊤ };
-
-    fn try_clone(&self) -> Result<Self, TryReserveError> {
-        let left = self.copies_left.get();
-        if left == 0 {
-            return Err(TryReserveError::CapacityOverflow);
-        }
-        self.copies_left.set(left - 1);
-        let Token(drops) = &self.token;
-        Ok(Copied {
-            token: Token(*drops),
-            copies_left: self.copies_left,
-        })
-    }
-}
-
-fn three<'a>(alloc: Global, drops: &'a Cell<u64>) -> Result<TryVec<Token<'a>>, TryReserveError> {
+fn three<'a>(alloc: Global, tally: &'a Tally) -> Result<TryVec<Token<'a>>, TryReserveError> {
     let mut made = TryVec::new(alloc);
     for _ in 0..3 {
-        made.push(Token(drops))?;
+        made.push(Token::new(7, tally))?;
     }
     Ok(made)
 }
 
 #[test]
 fn each_item_is_dropped_once(rt: HostRuntime) -> Result<(), Fail> {
-    let drops = Cell::new(0);
-    let mut v = three(rt.alloc(), &drops)?;
-    let at_first = drops.get();
+    let tally = Tally::new();
+    let mut v = three(rt.alloc(), &tally)?;
+    let at_first = tally.dropped.get();
     drop(v.pop());
-    let popped = drops.get();
+    let popped = tally.dropped.get();
     let left = v.len() as u64;
     v.clear();
-    let cleared = drops.get();
+    let cleared = tally.dropped.get();
     let none = v.len() as u64;
     drop(v);
     assert!(rt;
         holds(
-            &[at_first, popped, left, cleared, none, drops.get()],
+            &[at_first, popped, left, cleared, none, tally.dropped.get()],
             &[0, 1, 2, 3, 0, 3]
         )
     );
@@ -80,77 +44,74 @@ fn joined<'a>(
 
 #[test]
 fn an_appended_item_is_dropped_by_its_new_owner(rt: HostRuntime) -> Result<(), Fail> {
-    let drops = Cell::new(0);
-    let mut ours = three(rt.alloc(), &drops)?;
-    let mut theirs = three(rt.alloc(), &drops)?;
+    let tally = Tally::new();
+    let mut ours = three(rt.alloc(), &tally)?;
+    let mut theirs = three(rt.alloc(), &tally)?;
     let answer = joined(&mut ours, &mut theirs);
     drop(theirs);
-    let kept = drops.get();
+    let kept = tally.dropped.get();
     let length = ours.len() as u64;
     drop(ours);
-    assert!(rt; answer.is_ok() && holds(&[kept, length, drops.get()], &[0, 6, 6]));
+    assert!(rt; answer.is_ok() && holds(&[kept, length, tally.dropped.get()], &[0, 6, 6]));
     Ok(())
 }
 
 #[test]
 fn a_walk_that_is_dropped_early_drops_the_rest(rt: HostRuntime) -> Result<(), Fail> {
-    let drops = Cell::new(0);
-    let mut walk = three(rt.alloc(), &drops)?.into_iter();
+    let tally = Tally::new();
+    let mut walk = three(rt.alloc(), &tally)?.into_iter();
     drop(walk.next());
-    let first = drops.get();
+    let first = tally.dropped.get();
     drop(walk);
-    assert!(rt; first == 1 && drops.get() == 3);
+    assert!(rt; first == 1 && tally.dropped.get() == 3);
     Ok(())
 }
 
-fn resized<'a>(v: &mut TryVec<Token<'a>>, length: usize, drops: &'a Cell<u64>) -> bool {
-    v.resize_with(length, || Token(drops)).is_ok()
+fn resized<'a>(v: &mut TryVec<Token<'a>>, length: usize, tally: &'a Tally) -> bool {
+    v.resize_with(length, || Token::new(7, tally)).is_ok()
 }
 
 // What a resize to a lower length cuts off, the value of one that copies, and what a refused one would have put in.
 #[test]
 fn a_resize_drops_what_it_leaves_out(rt: HostRuntime) -> Result<(), Fail> {
-    let drops = Cell::new(0);
-    let mut v = three(rt.alloc(), &drops)?;
-    let is_cut = resized(&mut v, 2, &drops);
-    let after_cut = drops.get();
+    let tally = Tally::new();
+    let mut v = three(rt.alloc(), &tally)?;
+    let is_cut = resized(&mut v, 2, &tally);
+    let after_cut = tally.dropped.get();
     let two = v.len() as u64;
-    let is_grown = resized(&mut v, 4, &drops);
-    let after_growth = drops.get();
+    let is_grown = resized(&mut v, 4, &tally);
+    let after_growth = tally.dropped.get();
     let four = v.len() as u64;
-    let is_too_long = resized(&mut v, usize::MAX, &drops);
-    let after_refusal = drops.get();
+    let is_too_long = resized(&mut v, usize::MAX, &tally);
+    let after_refusal = tally.dropped.get();
     let still_four = v.len() as u64;
     drop(v);
     assert!(rt; is_cut && is_grown && !is_too_long);
     assert!(rt; holds(&[after_cut, two, after_growth, four], &[1, 2, 1, 4]));
-    assert!(rt; holds(&[after_refusal, still_four, drops.get()], &[1, 4, 5]));
+    assert!(rt;
+        holds(
+            &[after_refusal, still_four, tally.dropped.get()],
+            &[1, 4, 5]
+        )
+    );
     Ok(())
-}
-
-fn token_with_copies<'a>(drops: &'a Cell<u64>, copies_left: &'a Cell<u64>) -> Copied<'a> {
-    Copied {
-        token: Token(drops),
-        copies_left,
-    }
 }
 
 fn repeated<'a>(
     alloc: Global,
-    value: Copied<'a>,
+    value: Token<'a>,
     count: usize,
-) -> Result<Vec<Copied<'a>>, TryReserveError> {
+) -> Result<Vec<Token<'a>>, TryReserveError> {
     try_from_elem(alloc, value, count)
 }
 
 // How often items are dropped of a vector of three that is made with so many copies to be had, and whether it is made.
 fn drops_of_three(alloc: Global, given: u64) -> (bool, u64) {
-    let drops = Cell::new(0);
-    let copies_left = Cell::new(given);
-    let made = repeated(alloc, token_with_copies(&drops, &copies_left), 3);
+    let tally = Tally::of_copies(given, TryReserveError::CapacityOverflow);
+    let made = repeated(alloc, Token::new(7, &tally), 3);
     let is_made = made.is_ok();
     drop(made);
-    (is_made, drops.get())
+    (is_made, tally.dropped.get())
 }
 
 // Each copy is dropped once, also where it was made for a vector that was then refused.
@@ -163,7 +124,7 @@ fn a_copy_is_dropped_once(rt: HostRuntime) {
     }
 }
 
-fn resized_to<'a>(v: &mut Vec<Copied<'a>>, length: usize, value: Copied<'a>) -> bool {
+fn resized_to<'a>(v: &mut Vec<Token<'a>>, length: usize, value: Token<'a>) -> bool {
     v.try_resize_no_copy(length, value).is_ok()
 }
 
@@ -171,20 +132,15 @@ fn resized_to<'a>(v: &mut Vec<Copied<'a>>, length: usize, value: Copied<'a>) -> 
 // repeated no time.
 #[test]
 fn a_value_that_is_not_put_in_is_dropped(rt: HostRuntime) -> Result<(), Fail> {
-    let drops = Cell::new(0);
-    let copies_left = Cell::new(0);
-    let mut one = repeated(rt.alloc(), token_with_copies(&drops, &copies_left), 1)?;
-    let is_too_long = resized_to(
-        &mut one,
-        usize::MAX,
-        token_with_copies(&drops, &copies_left),
-    );
-    let after_refusal = drops.get();
-    let is_cut = resized_to(&mut one, 0, token_with_copies(&drops, &copies_left));
-    let after_cut = drops.get();
-    let none = repeated(rt.alloc(), token_with_copies(&drops, &copies_left), 0)?;
+    let tally = Tally::of_copies(0, TryReserveError::CapacityOverflow);
+    let mut one = repeated(rt.alloc(), Token::new(7, &tally), 1)?;
+    let is_too_long = resized_to(&mut one, usize::MAX, Token::new(7, &tally));
+    let after_refusal = tally.dropped.get();
+    let is_cut = resized_to(&mut one, 0, Token::new(7, &tally));
+    let after_cut = tally.dropped.get();
+    let none = repeated(rt.alloc(), Token::new(7, &tally), 0)?;
     assert!(rt; !is_too_long && is_cut && one.is_empty() && none.is_empty());
-    assert!(rt; holds(&[after_refusal, after_cut, drops.get()], &[1, 3, 4]));
+    assert!(rt; holds(&[after_refusal, after_cut, tally.dropped.get()], &[1, 3, 4]));
     Ok(())
 }
 
@@ -198,13 +154,13 @@ fn collected<'a>(
 // Once more where they are refused, which drops those that were made by then.
 fn three_at_last<'a>(
     alloc: Global,
-    drops: &'a Cell<u64>,
+    tally: &'a Tally,
 ) -> Result<TryVec<Token<'a>>, TryReserveError> {
-    match three(alloc, drops) {
+    match three(alloc, tally) {
         Ok(made) => Ok(made),
         Err(_refused) => {
-            drops.set(0);
-            three(alloc, drops)
+            tally.forget();
+            three(alloc, tally)
         }
     }
 }
@@ -212,8 +168,8 @@ fn three_at_last<'a>(
 // The sweep refuses the requests in turn: the items that were put in are dropped then, the one that found no room, and those that were still to come.
 #[test]
 fn each_collected_item_is_dropped_once(rt: HostRuntime) {
-    let drops = Cell::new(0);
-    let Ok(items) = three_at_last(rt.alloc(), &drops) else {
+    let tally = Tally::new();
+    let Ok(items) = three_at_last(rt.alloc(), &tally) else {
         assert!(rt; !is_ample(rt.alloc()));
         return;
     };
@@ -222,22 +178,22 @@ fn each_collected_item_is_dropped_once(rt: HostRuntime) {
         Ok(made) => made.len(),
         Err(_refused) => 0,
     };
-    let dropped = drops.get();
+    let dropped = tally.dropped.get();
     drop(answer);
-    assert!(rt; (length as u64).wrapping_add(dropped) == 3 && drops.get() == 3);
+    assert!(rt; (length as u64).wrapping_add(dropped) == 3 && tally.dropped.get() == 3);
 }
 
-fn pushed<'a>(v: &mut Vec<Token<'a>>, drops: &'a Cell<u64>) -> bool {
-    v.try_push(Token(drops)).is_ok()
+fn pushed<'a>(v: &mut Vec<Token<'a>>, tally: &'a Tally) -> bool {
+    v.try_push(Token::new(7, tally)).is_ok()
 }
 
 // The sweep refuses the request: the item is then dropped.
 #[test]
 fn an_item_that_finds_no_room(rt: HostRuntime) {
-    let drops = Cell::new(0);
+    let tally = Tally::new();
     let mut v = Vec::new(rt.alloc());
-    let is_pushed = pushed(&mut v, &drops);
-    let dropped = drops.get();
+    let is_pushed = pushed(&mut v, &tally);
+    let dropped = tally.dropped.get();
     let length = v.len() as u64;
     drop(v);
     assert!(rt;
@@ -247,25 +203,27 @@ fn an_item_that_finds_no_room(rt: HostRuntime) {
             dropped == 1 && length == 0
         }
     );
-    assert!(rt; drops.get() == 1);
+    assert!(rt; tally.dropped.get() == 1);
 }
 
 // How many items are dropped while the item is there that found no room, if it did not.
-fn given_back<'a>(v: &mut Vec<Token<'a>>, drops: &'a Cell<u64>) -> Option<u64> {
-    match v.try_push_give_back(Token(drops)) {
+fn given_back<'a>(v: &mut Vec<Token<'a>>, tally: &'a Tally) -> Option<u64> {
+    match v.try_push_give_back(Token::new(7, tally)) {
         Ok(()) => None,
-        Err((_token, _refused)) => Some(drops.get()),
+        Err((_token, _refused)) => Some(tally.dropped.get()),
     }
 }
 
 // The sweep refuses the request: the item is then given back.
 #[test]
 fn an_item_that_is_given_back(rt: HostRuntime) {
-    let drops = Cell::new(0);
+    let tally = Tally::new();
     let mut v = Vec::new(rt.alloc());
-    let dropped = given_back(&mut v, &drops).unwrap_or(0);
+    let dropped = given_back(&mut v, &tally).unwrap_or(0);
     let length = v.len() as u64;
-    let dropped_by_then = drops.get();
+    let dropped_by_then = tally.dropped.get();
     drop(v);
-    assert!(rt; dropped == 0 && length.wrapping_add(dropped_by_then) == 1 && drops.get() == 1);
+    assert!(rt;
+        dropped == 0 && length.wrapping_add(dropped_by_then) == 1 && tally.dropped.get() == 1
+    );
 }

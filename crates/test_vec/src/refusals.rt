@@ -1,12 +1,13 @@
 //! What refused requests leave: the sweep refuses each request of these tests in turn.
 ghost use Rattle.std.specs.Prelude.{◌≡◌};
 
-use crate::calls::{calls_that_end_well, holds, is_ample, is_refused};
+use crate::calls::{calls_that_end_well, holds, is_refused};
 use fc_base::{TryClone, TryReserveError};
 use fc_vec::{FallibleVec, TryCollect, TryVec, try_from_elem};
 use std::alloc::{AllocError, Global};
 use std::cell::Cell;
 use std::test::Fail;
+use test_values::{add_one, is_ample};
 
 #[test]
 fn a_refused_call_leaves_the_vector(rt: HostRuntime) {
@@ -24,7 +25,7 @@ impl TryClone for Boxed<'_> {
     ghost same = { λ source copy. copy.number.value ≡ source.number.value };
 
     fn try_clone(&self) -> Result<Self, TryReserveError> {
-        self.asked.set(self.asked.get().wrapping_add(1));
+        add_one(self.asked);
         let number = self.number.try_clone()?;
         Ok(Boxed {
             number,

@@ -1,16 +1,10 @@
 //! Appends of maps of many lengths, by keys that tell whose they are and count their comparisons.
-ghost use Rattle.std.specs.Prelude.{◌==◌};
-ghost use Rattle.std.proofs.Common.{rules};
-ghost use Rattle.std.specs.Cmp.{partial_order_from_own_ties};
-ghost use Rattle.std.specs.Cmp.Rules.{comparing};
-ghost use Rattle.std.specs.Ordering.{nat_cmp, on, as_partial_cmp};
-
 use fc_base::{Count, TryReserveError};
 use fc_map::map::{BTreeMap, Iter};
 use std::alloc::Global;
 use std::cell::Cell;
-use std::cmp::Ordering;
 use std::test::Fail;
+use test_values::CountingKey;
 
 // Which of the two maps a pair comes from.
 const OURS: u64 = 0;
@@ -19,49 +13,11 @@ const THEIRS: u64 = 1;
 
 // A number as a key, with the map that it comes from, of which its order knows nothing.
 #[derive(Clone, Copy)]
+#[derive_where(PartialEq, Eq, PartialOrd, Ord)]
 struct Key<'a> {
-    number: u64,
+    counted: CountingKey<'a>,
+    #[derive_where(skip(EqHashOrd))]
     side: u64,
-    comparisons: &'a Cell<u64>,
-}
-
-impl PartialEq for Key<'_> {
-    ghost eq = { on (λ key. key.number) ◌==◌ };
-
-    ghost laws = { Prim.search (comparing, rules) };
-
-    fn eq(&self, other: &Self) -> bool {
-        self.number == other.number
-    }
-}
-
-impl Eq for Key<'_> {
-    ghost laws = { Prim.search (comparing, rules) };
-}
-
-impl PartialOrd for Key<'_> {
-    ghost partial_cmp = { as_partial_cmp (on (λ key. key.number) nat_cmp) };
-
-    ghost laws = { partial_order_from_own_ties (Prim.search (comparing, rules)) (Prim.search (comparing, rules)) };
-
-    fn partial_cmp(&self, other: &Self) -> Option<Ordering> {
-        Some(self.cmp(other))
-    }
-}
-
-impl Ord for Key<'_> {
-    ghost cmp = { on (λ key. key.number) nat_cmp };
-
-    ghost total = { Prim.search (comparing, rules) };
-
-    ghost matches_partial_cmp = { Prim.search (comparing, rules) };
-
-    ghost matches_eq = { Prim.search (comparing, rules) };
-
-    fn cmp(&self, other: &Self) -> Ordering {
-        self.comparisons.set(self.comparisons.get().wrapping_add(1));
-        self.number.cmp(&other.number)
-    }
 }
 
 // As many numbers from `first` on, one after another, or each second one.
@@ -152,11 +108,11 @@ fn map_of<'a>(
     let mut map = BTreeMap::new(alloc);
     for i in 0..numbers.len {
         let number = numbers.number(i);
-        let key = Key {
+        let counted = CountingKey {
             number,
-            side,
             comparisons,
         };
+        let key = Key { counted, side };
         map.try_insert(key, value_of(number, side))?;
     }
     Ok(map)
@@ -167,7 +123,7 @@ fn is_joined_pair(item: Option<(&Key<'_>, &u64)>, number: u64, theirs: Run) -> b
     let side = if theirs.has(number) { THEIRS } else { OURS };
     match item {
         Some((key, value)) => {
-            key.number == number && key.side == side && *value == value_of(number, side)
+            key.counted.number == number && key.side == side && *value == value_of(number, side)
         }
         None => false,
     }

@@ -1,8 +1,6 @@
 //! Insertions, appends, splits and maps made of an iterator where each request is refused in turn by the sweep: what a refused call leaves, the same
 //! call once more, and that each key and value is dropped once.
-use crate::tracked::{
-    Key, Ledger, Map, NUMBERS, Value, holds, is_ample, is_pair, make_key, map_of, pair,
-};
+use crate::tracked::{Key, Ledger, Map, NUMBERS, Value, holds, is_pair, make_key, map_of, pair};
 use fc_base::TryReserveError;
 use fc_map::map::BTreeMap;
 use fc_tree_node::node::CAPACITY;
@@ -10,6 +8,7 @@ use fc_vec::TryFromIterator;
 use std::alloc::{AllocError, Global};
 use std::process::Abort;
 use std::test::Fail;
+use test_values::is_ample;
 
 // What became of a call that is made, and made again where it was refused.
 #[derive(Clone, Copy)]
@@ -113,7 +112,7 @@ fn inserts<'a>(alloc: Global, ledgers: [&'a Ledger; 2]) -> Fate {
                 return fate_of(turn, is_put);
             }
             Err((key, value, e)) => {
-                let is_back = key.number == 151 && value.number == 151 && is_no_memory(e);
+                let is_back = key.number() == 151 && value.number == 151 && is_no_memory(e);
                 if !is_back || !holds(&map, &all[1..151]) || !ledger.are_living(&all[1..152], &[]) {
                     return Fate::Wrong;
                 }

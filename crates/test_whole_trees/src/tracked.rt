@@ -1,14 +1,8 @@
 //! Keys and values that tell which of them live, keys that count their comparisons as well, and maps of them.
-ghost use Rattle.std.specs.Prelude.{◌==◌};
-ghost use Rattle.std.proofs.Common.{rules};
-ghost use Rattle.std.specs.Cmp.{partial_order_from_own_ties};
-ghost use Rattle.std.specs.Cmp.Rules.{comparing};
-ghost use Rattle.std.specs.Ordering.{nat_cmp, on, as_partial_cmp};
-
 use fc_map::map::{BTreeMap, Iter};
 use std::alloc::Global;
 use std::cell::Cell;
-use std::cmp::Ordering;
+use test_values::CountingKey;
 
 /// The numbers below this one are told apart.
 pub(crate) const NUMBERS: usize = 192;
@@ -79,9 +73,17 @@ impl Ledger {
 }
 
 /// A number as a key.
+#[derive_where(PartialEq, Eq, PartialOrd, Ord)]
 pub(crate) struct Key<'a> {
-    pub(crate) number: usize,
+    counted: CountingKey<'a>,
+    #[derive_where(skip)]
     ledger: &'a Ledger,
+}
+
+impl Key<'_> {
+    pub(crate) fn number(&self) -> usize {
+        self.counted.number as usize
+    }
 }
 
 /// A value that belongs to a number.
@@ -92,7 +94,11 @@ pub(crate) struct Value<'a> {
 
 pub(crate) fn make_key<'a>(number: usize, ledger: &'a Ledger) -> Key<'a> {
     ledger.keys.turn(number, true);
-    Key { number, ledger }
+    let counted = CountingKey {
+        number: number as u64,
+        comparisons: &ledger.comparisons,
+    };
+    Key { counted, ledger }
 }
 
 pub(crate) fn pair<'a>(number: usize, ledger: &'a Ledger) -> (Key<'a>, Value<'a>) {
@@ -102,8 +108,11 @@ pub(crate) fn pair<'a>(number: usize, ledger: &'a Ledger) -> (Key<'a>, Value<'a>
 
 impl Drop for Key<'_> {
     fn drop(self) {
-        let Key { number, ledger } = self;
-        ledger.keys.turn(number, false);
+        self.ledger.keys.turn(self.number(), false);
+        let Key {
+            counted: _,
+            ledger: _,
+        } = self;
     }
 }
 
@@ -111,46 +120,6 @@ impl Drop for Value<'_> {
     fn drop(self) {
         let Value { number, ledger } = self;
         ledger.values.turn(number, false);
-    }
-}
-
-impl PartialEq for Key<'_> {
-    ghost eq = { on (λ key. key.number) ◌==◌ };
-
-    ghost laws = { Prim.search (comparing, rules) };
-
-    fn eq(&self, other: &Self) -> bool {
-        self.number == other.number
-    }
-}
-
-impl Eq for Key<'_> {
-    ghost laws = { Prim.search (comparing, rules) };
-}
-
-impl PartialOrd for Key<'_> {
-    ghost partial_cmp = { as_partial_cmp (on (λ key. key.number) nat_cmp) };
-
-    ghost laws = { partial_order_from_own_ties (Prim.search (comparing, rules)) (Prim.search (comparing, rules)) };
-
-    fn partial_cmp(&self, other: &Self) -> Option<Ordering> {
-        Some(self.cmp(other))
-    }
-}
-
-impl Ord for Key<'_> {
-    ghost cmp = { on (λ key. key.number) nat_cmp };
-
-    ghost total = { Prim.search (comparing, rules) };
-
-    ghost matches_partial_cmp = { Prim.search (comparing, rules) };
-
-    ghost matches_eq = { Prim.search (comparing, rules) };
-
-    fn cmp(&self, other: &Self) -> Ordering {
-        let made = &self.ledger.comparisons;
-        made.set(made.get().wrapping_add(1));
-        self.number.cmp(&other.number)
     }
 }
 
@@ -178,7 +147,7 @@ pub(crate) fn map_of<'a>(alloc: Global, numbers: &[usize], ledger: &'a Ledger) -
 
 pub(crate) fn is_pair(item: Option<(&Key<'_>, &Value<'_>)>, number: usize) -> bool {
     match item {
-        Some((key, value)) => key.number == number && value.number == number,
+        Some((key, value)) => key.number() == number && value.number == number,
         None => false,
     }
 }
@@ -206,9 +175,4 @@ pub(crate) fn holds(map: &Map<'_>, numbers: &[usize]) -> bool {
     map.len() == numbers.len()
         && gives_forward(&mut map.iter(), numbers)
         && gives_backward(&mut map.iter(), numbers)
-}
-
-/// Whether memory is given.
-pub(crate) fn is_ample(alloc: Global) -> bool {
-    Vec::<u8>::with_capacity(alloc, 1).is_ok()
 }

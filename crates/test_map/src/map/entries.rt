@@ -1,14 +1,9 @@
 //! Entries of numbers, by keys that count their comparisons, and under refused memory.
-ghost use Rattle.std.specs.Prelude.{◌==◌};
-ghost use Rattle.std.proofs.Common.{rules};
-ghost use Rattle.std.specs.Cmp.{partial_order_from_own_ties};
-ghost use Rattle.std.specs.Cmp.Rules.{comparing};
-ghost use Rattle.std.specs.Ordering.{nat_cmp, on, as_partial_cmp};
-
 use super::*;
 use crate::numbers::has;
 use fc_map::map::Entry;
-use std::cmp::Ordering;
+use std::cell::Cell;
+use test_values::{CountingKey, add_one};
 
 // A value of its type's own, where there is none, at one number of a new map.
 fn is_default_put(alloc: Global) -> Result<bool, TryReserveError> {
@@ -86,53 +81,6 @@ fn each_gap_of_a_full_leaf_is_filled(rt: HostRuntime) -> Result<(), Fail> {
     Ok(())
 }
 
-// A number as a key, which counts each of its comparisons.
-#[derive(Clone, Copy)]
-pub(crate) struct CountingKey<'a> {
-    pub(crate) number: u64,
-    pub(crate) comparisons: &'a Cell<u64>,
-}
-
-impl PartialEq for CountingKey<'_> {
-    ghost eq = { on (λ key. key.number) ◌==◌ };
-
-    ghost laws = { Prim.search (comparing, rules) };
-
-    fn eq(&self, other: &Self) -> bool {
-        add_one(self.comparisons);
-        self.number == other.number
-    }
-}
-
-impl Eq for CountingKey<'_> {
-    ghost laws = { Prim.search (comparing, rules) };
-}
-
-impl PartialOrd for CountingKey<'_> {
-    ghost partial_cmp = { as_partial_cmp (on (λ key. key.number) nat_cmp) };
-
-    ghost laws = { partial_order_from_own_ties (Prim.search (comparing, rules)) (Prim.search (comparing, rules)) };
-
-    fn partial_cmp(&self, other: &Self) -> Option<Ordering> {
-        Some(self.cmp(other))
-    }
-}
-
-impl Ord for CountingKey<'_> {
-    ghost cmp = { on (λ key. key.number) nat_cmp };
-
-    ghost total = { Prim.search (comparing, rules) };
-
-    ghost matches_partial_cmp = { Prim.search (comparing, rules) };
-
-    ghost matches_eq = { Prim.search (comparing, rules) };
-
-    fn cmp(&self, other: &Self) -> Ordering {
-        add_one(self.comparisons);
-        self.number.cmp(&other.number)
-    }
-}
-
 type Counted<'a> = BTreeMap<CountingKey<'a>, u64>;
 
 // A map of the numbers from 1 to 151, each with itself: three levels.
@@ -189,19 +137,14 @@ fn an_entry_compares_in_its_search_alone(rt: HostRuntime) -> Result<(), Fail> {
 // Fills the number's entry by a closure that counts its calls.
 fn fill_entry<'a>(
     map: &mut Tracked<'a>,
-    number: usize,
+    number: u64,
     drops: &'a Drops,
     calls: &Cell<u64>,
 ) -> Result<Fate, TryReserveError> {
-    let key = TrackedKey {
-        number,
-        drops: &drops.key,
-    };
+    let key = Token::new(number, &drops.key);
     let filled = map.try_entry(key)?.or_try_insert_with(|| {
         add_one(calls);
-        TrackedValue {
-            drops: &drops.value,
-        }
+        Token::new(number, &drops.value)
     });
     match filled {
         Ok(_lent) => Ok(Fate::PutIn),
@@ -213,11 +156,7 @@ fn fill_entry<'a>(
 fn tracked_up_to<'a>(alloc: Global, last: usize, kept: &'a Drops) -> Option<Tracked<'a>> {
     let mut map = BTreeMap::new(alloc);
     for number in 0..last {
-        let key = TrackedKey {
-            number: number + 1,
-            drops: &kept.key,
-        };
-        let value = TrackedValue { drops: &kept.value };
+        let (key, value) = pair((number + 1) as u64, kept);
         if let Err((key, value, _refused)) = map.try_insert(key, value) {
             if map.try_insert(key, value).is_err() {
                 return None;
@@ -239,7 +178,7 @@ fn a_refused_entry_calls_its_closure_once_and_hands_its_value_back(
         return Ok(());
     };
     let held = take_all_memory(rt.alloc())?;
-    let has_none = !has_memory(rt.alloc());
+    let has_none = !is_ample(rt.alloc());
     let fate = fill_entry(&mut map, 0, &refused, &calls);
     drop(held);
     assert!(rt; has_none && matches!(fate, Ok(Fate::HandedBack)) && calls.get() == 1);
@@ -248,12 +187,9 @@ fn a_refused_entry_calls_its_closure_once_and_hands_its_value_back(
 }
 
 // Whether a map has the numbers from 1 to the last, and nothing else.
-fn has_tracked_up_to<'a>(map: &Tracked<'a>, last: usize, sought: &'a Cell<u64>) -> bool {
+fn has_tracked_up_to<'a>(map: &Tracked<'a>, last: usize, sought: &'a Tally) -> bool {
     for number in 1..200 {
-        let key = TrackedKey {
-            number,
-            drops: sought,
-        };
+        let key = Token::new(number as u64, sought);
         if map.contains_key(&key) != (number <= last) {
             return false;
         }
@@ -267,9 +203,9 @@ fn leaves_every_pair(alloc: Global, last: usize) -> Result<bool, TryReserveError
     let (kept, new, sought) = (no_drops(), no_drops(), no_drops());
     let calls = Cell::new(0);
     let Some(mut map) = tracked_up_to(alloc, last, &kept) else {
-        return Ok(!has_memory(alloc));
+        return Ok(!is_ample(alloc));
     };
-    let (length, dropped) = match fill_entry(&mut map, last.wrapping_add(1), &new, &calls)? {
+    let (length, dropped) = match fill_entry(&mut map, last.wrapping_add(1) as u64, &new, &calls)? {
         Fate::PutIn => (last.wrapping_add(1), 0),
         Fate::HandedBack => (last, 1),
         Fate::Lost => return Ok(false),

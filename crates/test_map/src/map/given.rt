@@ -1,17 +1,6 @@
 //! What a call of the map drops of what it was given. No clause speaks of that: a body that leaves a value to `mem::forget` is proved too.
 use super::*;
 
-fn pair<'a>(number: usize, drops: &'a Drops) -> (TrackedKey<'a>, TrackedValue<'a>) {
-    let key = TrackedKey {
-        number,
-        drops: &drops.key,
-    };
-    let value = TrackedValue {
-        drops: &drops.value,
-    };
-    (key, value)
-}
-
 fn one_pair<'a>(alloc: Global, kept: &'a Drops) -> Result<Tracked<'a>, TryReserveError> {
     let mut map = BTreeMap::new(alloc);
     let (key, value) = pair(1, kept);

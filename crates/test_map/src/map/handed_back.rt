@@ -1,28 +1,23 @@
 //! What a refused insertion hands back: the key and the value that went in, a key with its letter.
-use super::{has_memory, take_all_memory};
-use crate::neighbours::{Tagged, tagged_below};
+use super::take_all_memory;
+use crate::neighbours::tagged_below;
 use crate::numbers::{Numbers, has, has_up_to, insert, multiples};
 use crate::sizes::{BEYOND, CAPACITY};
 use fc_base::{Count, TryReserveError};
 use fc_map::map::{BTreeMap, Entry};
 use std::test::Fail;
+use test_values::{Tagged, is_ample};
 
 type TaggedMap = BTreeMap<Tagged, u64>;
 
 fn beyond(letter: char) -> Tagged {
-    Tagged {
-        number: BEYOND,
-        letter,
-    }
+    Tagged::new(BEYOND, letter)
 }
 
 // Whether the number behind a full leaf came back with this letter and this value, for want of memory.
 fn is_back(back: (Tagged, u64, TryReserveError), letter: char, value: u64) -> bool {
     let (key, found, e) = back;
-    key.number == BEYOND
-        && key.letter == letter
-        && found == value
-        && matches!(e, TryReserveError::AllocError)
+    key.is(BEYOND, letter) && found == value && matches!(e, TryReserveError::AllocError)
 }
 
 fn insertion_hands_back(map: &mut TaggedMap) -> bool {
@@ -97,7 +92,7 @@ fn entry_hands_the_default_back(map: &mut TaggedMap) -> bool {
 fn each_refused_call_hands_its_pair_back(rt: HostRuntime) -> Result<(), Fail> {
     let mut map = tagged_below(rt.alloc(), BEYOND)?;
     let held = take_all_memory(rt.alloc())?;
-    let is_right = !has_memory(rt.alloc())
+    let is_right = !is_ample(rt.alloc())
         && insertion_hands_back(&mut map)
         && counted_insertion_hands_back(&mut map)
         && vacant_entry_hands_back(&mut map)
@@ -124,7 +119,7 @@ fn hands_back(map: &mut Numbers, number: u64, given: u64) -> bool {
 fn a_refused_pair_goes_in_once_memory_is_there(rt: HostRuntime) -> Result<(), Fail> {
     let mut map = multiples(rt.alloc(), 1, BEYOND, 1)?;
     let held = take_all_memory(rt.alloc())?;
-    let is_back = !has_memory(rt.alloc()) && hands_back(&mut map, BEYOND, 7);
+    let is_back = !is_ample(rt.alloc()) && hands_back(&mut map, BEYOND, 7);
     drop(held);
     assert!(rt; is_back && has_up_to(&map, CAPACITY as u64));
     assert!(rt; matches!(insert(&mut map, BEYOND, 7), Ok(None)) && has(&map, BEYOND, 7));
