@@ -105,7 +105,7 @@ pub fn split_full<K: Drop, V: Drop>(
     requires full { length (own_pairs node.old) ≡ capacity }
     requires in_bounds { index ≤ capacity }
     requires leaf { IsLeaf node.old }
-    requires blank { IsBlankLeaf right.value }
+    requires blank { IsBlankLeaf right }
     ensures first { index ≡ 0 → result.moves ≡ 16 }
     ensures before_middle { index ≡ min_len → result.moves ≡ 9 }
     ensures after_middle { index ≡ min_len + 1 → result.moves ≡ 16 }

@@ -197,7 +197,7 @@ fn split_leaf<V: Drop>(
     pair: (u64, V),
     right: Node<u64, V>,
 ) -> ((u64, V), Node<u64, V>)
-    requires { IsBlankLeaf right.value }
+    requires { IsBlankLeaf right }
 {
     assert!(rt; place < PLACES && node.is_leaf() && node.len() == CAPACITY);
     node.split_leaf(place, pair, right, &mut Count::new())

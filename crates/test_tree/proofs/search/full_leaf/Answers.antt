@@ -45,15 +45,14 @@ grown s t p end e i a b =
 
 pub loop-half-preserved : goal.loop-half-preserved
 loop-half-preserved c =
-    let same : own_pairs c.deref_mut.result.now ≡ own_pairs c.loop-half.leaf.value = ap own_pairs c.deref_mut.ensures.value in
-    let end : c.len-end.result ≡ length (own_pairs c.loop-half.leaf.value) = c.len-end.ensures.value ∙ ap (λ n. length (own_pairs n)) c.deref.ensures in
+    let end = c.len-end.ensures.value in
     let pair : Pair = (record { number = 2 * c.loop-half.half; comparisons = c.args.comparisons }, c.loop-half.half) in
-    let put : own_pairs c.insert_leaf.new.self ≡ insert (own_pairs c.loop-half.leaf.value) c.len-end.result pair = c.insert_leaf.ensures.pairs ∙ ap (λ s. insert s c.len-end.result pair) same in
-    let g = grown (own_pairs c.loop-half.leaf.value) (own_pairs c.insert_leaf.new.self) pair c.len-end.result end put c.loop-half.invariant.2 c.loop-half.invariant.3 in
+    let put : own_pairs c.insert_leaf.new.self ≡ insert (own_pairs c.loop-half.leaf) c.len-end.result pair = c.insert_leaf.ensures.pairs in
+    let g = grown (own_pairs c.loop-half.leaf) (own_pairs c.insert_leaf.new.self) pair c.len-end.result end put c.loop-half.invariant.2 c.loop-half.invariant.3 in
     let twice : 2 * c.loop-half.half + 2 ≡ 2 * (c.loop-half.half + 1) = omega arith in
     (c.insert_leaf.ensures.leaf, omega (arith, g.size), g.ordered, subst (λ m. AllUnder m (own_pairs c.insert_leaf.new.self)) twice g.under)
 
 pub returns : goal.returns
 returns c =
-    let leaf = c.loop-half.leaf.value in
+    let leaf = c.loop-half.leaf in
     ((0, omega arith, (omega arith, c.loop-half.invariant.0)), subst (IsAscending (on (λ k. k.number) nat_cmp)) (sym (leaf_pairs leaf c.loop-half.invariant.0)) c.loop-half.invariant.2)
