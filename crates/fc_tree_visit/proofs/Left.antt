@@ -84,8 +84,8 @@ module _ {F K V : Type 0} (R : F → K × V → F → V → Type 0) where
       let db = ap (drop (length (before_gap back n))) cb ∙ drop_front (before_gap back n) (after_gap back n) in
       let Left : List (K × V) → List (K × V) → Type 0 = λ x y. IsVisited R f g x y (pairs_of n) (pairs_of n') in
       let u : Left (before_gap front n) (after_gap back n) = rw (i, j) at w in
-      subst (λ o. IsVisited R f g (take (length (before_gap_in o front)) (entries o)) (drop (length (before_gap_in o back)) (entries o)) (entries o) (pairs_of n'))
-      (sym is) (subst (λ x. Left x (drop (length (before_gap back n)) (pairs_of n))) (sym tf) (subst (Left (before_gap front n)) (sym db) u))
+      subst (λ o. IsVisited R f g (take (length (before_gap_in o front)) (entries o)) (drop (length (before_gap_in o back)) (entries o)) (entries o)
+      (pairs_of n')) (sym is) (subst (λ x. Left x (drop (length (before_gap back n)) (pairs_of n))) (sym tf) (subst (Left (before_gap front n)) (sym db) u))
 
 -- the ends of a map, in order in its root
 pub ends_order : {K V : Type 0} (m : Option (Node K V)) (n : Node K V) (front back p q : List ℕ) → m ≡ Some n → p ≡ front → q ≡ back → IsSoundMap m

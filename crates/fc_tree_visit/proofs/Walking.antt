@@ -1,20 +1,21 @@
 -- A walk from one gap of a tree to another: where it stands in a node.
-use Rattle.std.proofs.Common.{◌≡◌, ℕ, zero, suc, ◌+◌, ◌<◌, ◌≤◌, List, [], ◌∷◌, ◌++◌, length, drop, get_or, refl, sym, ap, subst, ◌∙◌, append-nil, arith}
+use Rattle.std.proofs.Common.{◌≡◌, ℕ, zero, suc, ◌+◌, ◌<◌, ◌≤◌, List, [], ◌∷◌, ◌++◌, length, drop, get_or, slice_set, refl, sym, ap, subst, ◌∙◌, append-nil, arith, Some}
 use Rattle.std.proofs.lemmas.List.{length-append}
 use Rattle.fc_base.specs.Sizes.{min_len}
-use Rattle.fc_tree_node.specs.declared.node.Node.{Node}
+use Rattle.fc_tree_node.specs.declared.node.Node.{Node, out-Node, roll-Node}
 use Rattle.fc_tree_node.specs.Node.{own_pairs, children_of, child_at, pairs_of, IsLevelled, IsLeaf}
 use Rattle.fc_tree_node.specs.Path.{before_gap, after_gap}
 use Rattle.fc_tree_node.specs.Place.{before_child, after_child, before_own}
 use Rattle.fc_tree_search.specs.Written.{with_value, with_child}
+use Rattle.fc_tree_search.proofs.Nodes.{nodes_of, fewer_nodes}
 use Rattle.fc_tree_node.proofs.Formed.{leaf_or_inner}
 use Rattle.fc_tree_node.proofs.Pairs.{IsBelow, child_below}
 use Rattle.fc_tree_node.proofs.Gaps.{inner_gap, leaf_gap}
 use Rattle.fc_tree_visit.specs.Shape.{IsSameAlong}
 use Rattle.fc_tree_visit.specs.Visits.{IsVisited, IsEnd}
 use Rattle.fc_tree_visit.proofs.Turns.{Grown, grown_start, grown_end}
-use Rattle.fc_tree_visit.proofs.Parts.{in_order, drop_next, before_leaf}
-use Rattle.fc_tree_visit.proofs.Steps.{IsFirstStep, from_step, to_step, after_within, before_within, IsKept, kept_all, kept_child, kept_rest, one_height, own_step, child_step, child_end}
+use Rattle.fc_tree_visit.proofs.Parts.{in_order, drop_next, before_leaf, child_levels, child_lent, child_back}
+use Rattle.fc_tree_visit.proofs.Steps.{IsFirstStep, from_step, to_step, after_within, before_within, IsKept, kept_all, kept_child, kept_rest, one_height, own_step, child_step, child_shape, child_end}
 
 module _ {F K V : Type 0} (R : F → K × V → F → V → Type 0) where
   -- before the child at i, from an end below it on
@@ -115,6 +116,46 @@ module _ {F K V : Type 0} (R : F → K × V → F → V → Type 0) where
       let w = end_below h old i rest step in
       subst (λ x. IsReached h old x i rest) (sym is) (record { is = refl; levels = b.1; some = b.0; from = w; within = before_within h (child_at old i) rest b.1 w })
 
+  -- the node of a walk has a child at the place
+  pub child_room : {old now : Node K V} {first f : F} {from to front back rest : List ℕ} {start i end : ℕ} (s : AreInner old from to start end front back)
+      → IsAt old now first f from i end rest back → i < length (children_of now)
+  child_room {now = now} s at =
+      let many : length (children_of now) ≡ length (own_pairs now) + 1 = (at.kept.levels (suc s.h) s.levels).1 in
+      let le = at.le in
+      let last = s.steps.last.le in
+      let same = at.kept.same in
+      omega arith
+
+  -- the child at the place of a walk, lent out of the node's list
+  pub record IsLent (h : ℕ) (old now c : Node K V) (i : ℕ) (rest : List ℕ) : Type 0 where
+    pub is : c ≡ child_at now i
+    pub child : IsReached h old c i rest
+    pub fewer : nodes_of c < nodes_of old
+
+  pub lent : {old now c : Node K V} {first f : F} {from to front back rest : List ℕ} {start i end : ℕ} (s : AreInner old from to start end front back)
+      → IsAt old now first f from i end rest back → (cs : List (Node K V)) → (out-Node K V now).children ≡ Some cs → c ≡ get_or cs i c
+      → IsLent s.h old now c i rest
+  lent {old = old} {now = now} {c = c} {first = first} {f = f} {from = from} {back = back} {rest = rest} {i = i} {end = end} s at cs e p =
+      let is = child_lent now cs i e c p (child_room s at) in
+      let r = reached s.h old now c first f from i end rest back s.levels s.steps.last.le at is in
+      let many : length (children_of old) ≡ length (own_pairs old) + 1 = s.levels.1 in
+      let le = at.le in
+      let last = s.steps.last.le in
+      record { is = is; child = r; fewer = fewer_nodes old c i (omega arith) r.is }
+
+  -- it comes back as sound as it was
+  pub below_back : {h : ℕ} {old now c c' : Node K V} {i : ℕ} {rest : List ℕ} → IsLent h old now c i rest → length (own_pairs c') ≡ length (own_pairs c)
+      → ((j : ℕ) → IsLevelled j c → IsLevelled j c') → IsBelow h c'
+  below_back {h = h} l size levels = let some = l.child.some in (omega arith, levels h l.child.levels)
+
+  -- at the last child
+  pub at_last : {old now : Node K V} {first f : F} {from to rest : List ℕ} {i end : ℕ} → IsAt old now first f from i end rest to → end ≤ i
+      → IsAt old now first f from end end rest to
+  at_last {old = old} {now = now} {first = first} {f = f} {from = from} {to = to} {rest = rest} {i = i} {end = end} at ge =
+      let le = at.le in
+      let e : i ≡ end = omega arith in
+      subst (λ j. IsAt old now first f from j end rest to) e at
+
   -- past the child and the pair after it
   pub at_next : (h : ℕ) (old now c c' : Node K V) (first f g k : F) (from : List ℕ) (i end : ℕ) (rest to : List ℕ) (e : K × V) (w : V) → IsLevelled (suc h) old → end ≤ length (own_pairs old) → IsFirstStep (suc h) old end to → IsAt old now first f from i end rest to → i < end
       → c ≡ child_at now i → IsVisited R f g (before_gap rest c) [] (pairs_of c) (pairs_of c') → IsBelow h c' → ((p : List ℕ) → IsSameAlong p c c') → R g e k w → e ≡ get_or (own_pairs (with_child now i c')) i e → IsAt old (with_value (with_child now i c') i w) first k from (suc i) end [] to
@@ -141,6 +182,28 @@ module _ {F K V : Type 0} (R : F → K × V → F → V → Type 0) where
   at_end h old now c c' first f g from to start i end front rest back l s at e is v b =
       let t = child_end R h old now c c' i rest back first f g (before_gap from old) l at.kept (at.step (suc h) l).le at.grown is v b in
       subst (λ zs. IsVisited R first g (before_gap from old) zs (pairs_of old) (pairs_of (with_child now i c'))) (subst (λ j. after_gap back (child_at old j) ++ after_child old j ≡ after_gap to old) (sym e) (sym s.tail)) t
+
+  -- the walk is over once the last child is back, as c'
+  pub record IsOver (old new : Node K V) (first g : F) (from to : List ℕ) : Type 0 where
+    pub levels : (h : ℕ) → IsLevelled h old → IsLevelled h new
+    pub shape : (path : List ℕ) → IsSameAlong path old new
+    pub visited : IsVisited R first g (before_gap from old) (after_gap to old) (pairs_of old) (pairs_of new)
+
+  pub over : {old now c c' : Node K V} {first f g : F} {from to front back rest : List ℕ} {start end : ℕ} (s : AreInner old from to start end front back)
+      → IsAt old now first f from end end rest back → (cs : List (Node K V)) → (out-Node K V now).children ≡ Some cs → c ≡ get_or cs end c
+      → IsVisited R f g (before_gap rest c) (after_gap back c) (pairs_of c) (pairs_of c') → length (own_pairs c') ≡ length (own_pairs c)
+      → ((j : ℕ) → IsLevelled j c → IsLevelled j c') → ((p : List ℕ) → IsSameAlong p c c')
+      → IsOver old (roll-Node K V (record { pairs = own_pairs now; children = Some (slice_set cs end c') })) first g from to
+  over {old = old} {now = now} {c = c} {c' = c'} {first = first} {f = f} {g = g} {from = from} {to = to} {front = front} {back = back} {rest = rest}
+      {start = start} {end = end} s at cs e p v size levels shape =
+      let x = lent s at cs e p in
+      let b = below_back x size levels in
+      let kept = child_levels now end c' s.h (at.kept.levels (suc s.h) s.levels) b in
+      subst (λ y. IsOver old y first g from to) (sym (child_back now cs end e c')) (record {
+        levels = λ h l. subst (λ k. IsLevelled k (with_child now end c')) (one_height (suc s.h) h old s.levels l) kept;
+        shape = child_shape R s.h old now c c' end rest back f g s.levels at.kept s.steps.last.le x.is v shape;
+        visited = at_end s.h old now c c' first f g from to start end end front rest back s.levels s.steps at refl x.is v b;
+      })
 
   -- a leaf's pair
   pub leaf_step : (old n n' : Node K V) (i : ℕ) (e : K × V) (w : V) (first f g : F) (front : List (K × V)) → IsLevelled 0 old → IsKept old n i i → i < length (own_pairs old) → Grown R first f front (before_child old i) (before_child n i) → R f e g w → e ≡ get_or (own_pairs n) i e → n' ≡ with_value n i w

@@ -1,4 +1,4 @@
-use Rattle.std.proofs.Common.{◌≡◌, ◌+◌, ◌-◌, length, rules, arith, sym, subst, refl}
+use Rattle.std.proofs.Common.{rules, arith, sym, subst, refl}
 use Rattle.fc_tree_node.specs.Node.{IsLevelled}
 use Rattle.fc_tree_node.specs.Path.{IsPath}
 use Rattle.fc_tree_node.proofs.PathSteps.{one_step, step_of}

@@ -1,4 +1,4 @@
-use Rattle.std.proofs.Common.{◌≡◌, ◌+◌, arith}
+use Rattle.std.proofs.Common.{arith}
 use Rattle.fc_tree_visit.proofs.LeafFacts.{lowest_is, own_small, past}
 use Rattle.fc_tree_visit.proofs.leaf.pass_next.Goals as goal
 

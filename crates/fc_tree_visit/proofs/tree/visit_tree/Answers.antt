@@ -1,5 +1,4 @@
 use Rattle.std.proofs.Common.{length, sym, ap, ◌∙◌}
-use Rattle.fc_tree_node.specs.Node.{pairs_of}
 use Rattle.fc_tree_node.specs.Tree.{entries}
 use Rattle.fc_tree_visit.specs.Visits.{CalledAtPair}
 use Rattle.fc_tree_visit.proofs.Left.{keys_ascending, visited_keys, visited_length, visited_none, visited_cut, ends_order}
@@ -26,8 +25,8 @@ pub returns-clause-visited : goal.returns-clause-visited
 returns-clause-visited g c = (
   c.visit.new.f,
   visited_cut (CalledAtPair g.F.FnMut) c.args.root.now c.in-Some.root c.visit.new.node c.args.front.now c.args.back.now c.as_slice.result.now
-  c.as_slice-in-Some.result.now c.args.f c.visit.new.f c.in-Some.is c.as_slice.ensures.value c.as_slice-in-Some.ensures.value c.requires.sound
-  c.requires.ends c.visit.ensures.visited,
+      c.as_slice-in-Some.result.now c.args.f c.visit.new.f c.in-Some.is c.as_slice.ensures.value c.as_slice-in-Some.ensures.value c.requires.sound
+      c.requires.ends c.visit.ensures.visited,
 )
 
 pub returns-clause-gaps : goal.returns-clause-gaps
