@@ -21,7 +21,7 @@ use Rattle.fc_tree_node.proofs.Pairs.{IsBelow, child_below, pairs_is, leaf_child
 use Rattle.fc_tree_node.proofs.Gaps.{place_pairs}
 use Rattle.fc_tree_node.proofs.Made.{IsChildSet}
 use Rattle.fc_tree_node.proofs.PathSteps.{IsStep}
-use Rattle.fc_tree_insertion.proofs.Cascades.{IsCascadeStep, leaf_full, leaf_room, cascade_part, first_full, needed_whole, needed_part}
+use Rattle.fc_tree_insertion.proofs.Cascades.{rest_of, IsCascadeStep, leaf_full, leaf_room, cascade_part, first_full, needed_whole, needed_part}
 use Rattle.fc_tree_insertion.proofs.InsertedLevels.{levelled_root}
 use Rattle.fc_tree_insertion.proofs.InsertedPairs.{put_root}
 use Rattle.fc_tree_node.proofs.DepthFacts.{deep_root, deep_full, few_levels}
@@ -166,38 +166,51 @@ module _ {K V : Type 0} where
         both true h = let t = taken in step_next q (take i (children_of old)) (drop (suc i) (children_of old)) (take i (own_pairs old)) (drop i (own_pairs old)) c r up i f t.0 t.1 h.0 h.1
 
   -- below an inner node, where the child was not split
-  pub arrived_below : (p : List ℕ) (old mid c child : Node K V) → IsStep p old → IsCascadeStep p old child → IsChildSet old mid (get_or p 0 0) c → child ≡ child_at old (get_or p 0 0) → cascade (slice_range p 1 (length p)) child < length (slice_range p 1 (length p))
-      → HasArrived (slice_range p 1 (length p)) child c None → HasArrived p old mid None
-  arrived_below p old mid c child s k m ci lt h =
-      let rest : List ℕ = slice_range p 1 (length p) in
+  pub arrived_below : {p : List ℕ} {old mid c child : Node K V} → IsCascadeStep p old child → IsChildSet old mid (get_or p 0 0) c
+      → cascade (rest_of p) child < length (rest_of p) → HasArrived (rest_of p) child c None → HasArrived p old mid None
+  arrived_below {p} {old} {mid} {c} {child} k m lt h =
+      let s = k.step in
+      let rest : List ℕ = rest_of p in
+      let i : ℕ = get_or p 0 0 in
       let part = k.part lt in
       let long = s.long in
       let w : kept_whole p old ≡ suc (kept_whole rest child) = omega arith in
-      let b = settled_below old (get_or p 0 0) s.le s.inner mid c _ _ (before_gap rest child) m h in
-      by_steps p (get_or p 0 0 ∷ rest) old mid None (suc (kept_whole rest child)) s.path_is w (subst (λ x. IsSettled false (arrival (suc (kept_whole rest child)) (get_or p 0 0 ∷ rest)) mid None (before_child old (get_or p 0 0) ++ before_gap rest x)) ci b)
+      let b = settled_below old i s.le s.inner mid c _ _ (before_gap rest child) m h in
+      by_steps p (i ∷ rest) old mid None (suc (kept_whole rest child)) s.path_is w
+      (subst (λ x. IsSettled false (arrival (suc (kept_whole rest child)) (i ∷ rest)) mid None (before_child old i ++ before_gap rest x)) k.is b)
 
   -- below an inner node, where the child was split
-  pub arrived_above : (p : List ℕ) (old mid c child new : Node K V) (t : Split K V) (up : K × V) (r : Node K V) → IsStep p old → IsCascadeStep p old child → IsChildSet old mid (get_or p 0 0) c → child ≡ child_at old (get_or p 0 0)
-      → length (slice_range p 1 (length p)) ≤ cascade (slice_range p 1 (length p)) child → MatchOption t (length (own_pairs old) < capacity) (λ _. length (own_pairs old) ≡ capacity)
-      → own_pairs_after new t ≡ insert (own_pairs mid) (get_or p 0 0) up → children_after new t ≡ insert (children_of mid) (get_or p 0 0 + 1) r → IsInner new → IfSome t (λ _. length (own_pairs new) ≡ left_length (get_or p 0 0))
-      → HasArrived (slice_range p 1 (length p)) child c (Some (up, r)) → HasArrived p old new t
-  arrived_above p old mid c child new t up r s k m ci le room a b inner left h =
-      let rest : List ℕ = slice_range p 1 (length p) in
+  pub arrived_above : {p : List ℕ} {old mid c child : Node K V} (new : Node K V) (t : Split K V) (up : K × V) (r : Node K V)
+      → IsCascadeStep p old child → IsChildSet old mid (get_or p 0 0) c → cascade (rest_of p) child ≡ length (rest_of p)
+      → MatchOption t (length (own_pairs old) < capacity) (λ _. length (own_pairs old) ≡ capacity)
+      → own_pairs_after new t ≡ insert (own_pairs mid) (get_or p 0 0) up
+      → children_after new t ≡ insert (children_of mid) (get_or p 0 0 + 1) r → IsInner new
+      → IfSome t (λ _. length (own_pairs new) ≡ left_length (get_or p 0 0)) → HasArrived (rest_of p) child c (Some (up, r)) → HasArrived p old new t
+  arrived_above {p} {old} {mid} {c} {child} new t up r k m le room a b inner left h =
+      let s = k.step in
+      let rest : List ℕ = rest_of p in
       let i : ℕ = get_or p 0 0 in
       let all : kept_whole rest child ≡ 0 = omega arith in
-      let g : IsSettled (is_right 0 rest) (arrival 0 rest) c (Some (up, r)) (before_gap rest (child_at old i)) = subst (λ x. IsSettled (is_right 0 rest) (arrival 0 rest) c (Some (up, r)) (before_gap rest x)) ci (rw all at h) in
-      settled t room left (stepped_above old i s.le s.inner mid c (is_right 0 rest) (arrival 0 rest) (before_gap rest (child_at old i)) up r (children_after new t) (own_pairs_after new t) m a b g)
+      let g : IsSettled (is_right 0 rest) (arrival 0 rest) c (Some (up, r)) (before_gap rest (child_at old i)) =
+      subst (λ x. IsSettled (is_right 0 rest) (arrival 0 rest) c (Some (up, r)) (before_gap rest x)) k.is (rw all at h) in
+      settled t room left
+      (stepped_above old i s.le s.inner mid c (is_right 0 rest) (arrival 0 rest) (before_gap rest (child_at old i)) up r _ _ m a b g)
     where
-      settled : (t : Split K V) → MatchOption t (length (own_pairs old) < capacity) (λ _. length (own_pairs old) ≡ capacity) → IfSome t (λ _. length (own_pairs new) ≡ left_length (get_or p 0 0))
-          → HasStep (arrival 0 (slice_range p 1 (length p))) (children_after new t) (own_pairs_after new t) (step_from (get_or p 0 0) (is_right 0 (slice_range p 1 (length p)))) (before_child old (get_or p 0 0) ++ before_gap (slice_range p 1 (length p)) (child_at old (get_or p 0 0))) → HasArrived p old new t
+      settled : (t : Split K V) → MatchOption t (length (own_pairs old) < capacity) (λ _. length (own_pairs old) ≡ capacity)
+          → IfSome t (λ _. length (own_pairs new) ≡ left_length (get_or p 0 0))
+          → HasStep (arrival 0 (rest_of p)) (children_after new t) (own_pairs_after new t) (step_from (get_or p 0 0) (is_right 0 (rest_of p)))
+          (before_child old (get_or p 0 0) ++ before_gap (rest_of p) (child_at old (get_or p 0 0))) → HasArrived p old new t
       settled None room left st =
+          let s = k.step in
           let part = k.room room in
           let long = s.long in
           let most = k.most in
-          by_steps p (get_or p 0 0 ∷ slice_range p 1 (length p)) old new None 1 s.path_is (omega arith) (step_in _ new _ _ st)
+          by_steps p (get_or p 0 0 ∷ rest_of p) old new None 1 s.path_is (omega arith) (step_in _ new _ _ st)
       settled (Some x) room left st =
-          let full = k.full room le in
-          by_steps p (get_or p 0 0 ∷ slice_range p 1 (length p)) old new (Some x) 0 s.path_is (omega arith) (step_half _ new x.0 x.1 (left_length (get_or p 0 0)) _ _ inner left st (nat_lt (left_length (get_or p 0 0)) (step_from (get_or p 0 0) (is_right 0 (slice_range p 1 (length p))))) refl)
+          let full = k.full room (omega arith) in
+          let i : ℕ = get_or p 0 0 in
+          let right = nat_lt (left_length i) (step_from i (is_right 0 (rest_of p))) in
+          by_steps p (i ∷ rest_of p) old new (Some x) 0 k.step.path_is (omega arith) (step_half _ new x.0 x.1 (left_length i) _ _ inner left st right refl)
 
   -- a leaf
   leaf_front : (n : Node K V) (i : ℕ) → IsLeaf n → before_own n i ≡ take i (own_pairs n)

@@ -89,14 +89,20 @@ module _ {K V : Type 0} where
   pub moves_part : (p : List ℕ) (n : Node K V) → cascade p n < length p → insertion_moves p n ≡ most_split_moves * cascade p n + capacity
   moves_part p n h = rw (part_full p n h) refl
 
--- what a cascade is, by the one that is a step down the path
+-- the path from its second place on
+abbrev pub rest_of : List ℕ → List ℕ
+rest_of p = slice_range p 1 (length p)
+
+-- a step down the path, to the child that was lent, and what a cascade is by the child's
 pub record IsCascadeStep {K V : Type 0} (p : List ℕ) (n child : Node K V) : Type 0 where
-  pub most : cascade (slice_range p 1 (length p)) child ≤ length (slice_range p 1 (length p))
-  pub more : cascade (slice_range p 1 (length p)) child ≤ cascade p n
-  pub none : cascade (slice_range p 1 (length p)) child ≡ 0 → cascade p n ≡ 0
-  pub part : cascade (slice_range p 1 (length p)) child < length (slice_range p 1 (length p)) → cascade p n ≡ cascade (slice_range p 1 (length p)) child
-  pub room : length (own_pairs n) < capacity → cascade p n ≡ cascade (slice_range p 1 (length p)) child
-  pub full : length (own_pairs n) ≡ capacity → length (slice_range p 1 (length p)) ≤ cascade (slice_range p 1 (length p)) child → cascade p n ≡ length p
+  pub step : IsStep p n
+  pub is : child ≡ child_at n (get_or p 0 0)
+  pub most : cascade (rest_of p) child ≤ length (rest_of p)
+  pub more : cascade (rest_of p) child ≤ cascade p n
+  pub none : cascade (rest_of p) child ≡ 0 → cascade p n ≡ 0
+  pub part : cascade (rest_of p) child < length (rest_of p) → cascade p n ≡ cascade (rest_of p) child
+  pub room : length (own_pairs n) < capacity → cascade p n ≡ cascade (rest_of p) child
+  pub full : length (own_pairs n) ≡ capacity → length (rest_of p) ≤ cascade (rest_of p) child → cascade p n ≡ length p
 
 positive : (a b : ℕ) → (a ≡ 0 → b ≡ 0) → 1 ≤ b → 1 ≤ a
 positive zero b f h = let e = f refl in omega arith
@@ -105,12 +111,14 @@ positive (suc a) b f h = omega arith
 module _ {K V : Type 0} where
   pub cascade_step : (p : List ℕ) (n child : Node K V) → IsStep p n → child ≡ child_at n (get_or p 0 0) → IsCascadeStep p n child
   cascade_step p n child s e =
-      let rest : List ℕ = slice_range p 1 (length p) in
+      let rest : List ℕ = rest_of p in
       let i : ℕ = get_or p 0 0 in
       let at : cascade p n ≡ cascade (i ∷ rest) n = ap (λ (q : List ℕ). cascade q n) s.path_is in
       let c : cascade rest child ≡ cascade rest (child_at n i) = ap (cascade rest) e in
       let l = s.long in
       record {
+        step = s;
+        is = e;
         most = cascade_most rest child;
         more = (let w = cons_more i rest n in omega arith);
         none = λ h. at ∙ cons_part i rest n (let t = s.height in omega arith) ∙ sym c ∙ h;
@@ -120,9 +128,10 @@ module _ {K V : Type 0} where
       }
 
   -- the spare leaf goes down with the path
-  pub leaf_passed : (o : Option (Node K V)) (p : List ℕ) (n child : Node K V) → IsStep p n → IsCascadeStep p n child → length (own_pairs n) ≤ capacity → IsSpareLeaf o (cascade p n) → IsSpareLeaf o (cascade (slice_range p 1 (length p)) child)
-  leaf_passed None p n child s k f h = omega arith
-  leaf_passed (Some b) p n child s k f h = (positive _ _ k.none h.0, h.1)
+  pub leaf_passed : (o : Option (Node K V)) {p : List ℕ} {n child : Node K V} → IsCascadeStep p n child → IsSpareLeaf o (cascade p n)
+      → IsSpareLeaf o (cascade (rest_of p) child)
+  leaf_passed None k h = let more = k.more in omega arith
+  leaf_passed (Some b) k h = (positive _ _ k.none h.0, h.1)
 
   -- what a room holds, by the cascade
   pub new_nodes_given : (o : Option (Node K V)) (inner : ℕ) (p : List ℕ) (n : Node K V) → spare_count o inner ≡ nodes_needed p n → IsSpareLeaf o (spare_count o inner)
@@ -132,18 +141,21 @@ module _ {K V : Type 0} where
 
 -- what a node adds to a cascade that has come up to it
 module _ {K V : Type 0} where
-  pub above_halved : (o : Split K V) (p : List ℕ) (n child : Node K V) → IsStep p n → IsCascadeStep p n child → length (slice_range p 1 (length p)) ≤ cascade (slice_range p 1 (length p)) child
-      → MatchOption o (length (own_pairs n) < capacity) (λ _. length (own_pairs n) ≡ capacity) → MatchOption o (cascade p n < length p) (λ _. cascade p n ≡ length p)
-  above_halved None p n child s k h f = let e = k.room f in omega arith
-  above_halved (Some x) p n child s k h f = k.full f h
+  pub above_halved : (o : Split K V) {p : List ℕ} {n child : Node K V} → IsCascadeStep p n child → cascade (rest_of p) child ≡ length (rest_of p)
+      → MatchOption o (length (own_pairs n) < capacity) (λ _. length (own_pairs n) ≡ capacity)
+      → MatchOption o (cascade p n < length p) (λ _. cascade p n ≡ length p)
+  above_halved None k h f = let e = k.room f in let long = k.step.long in omega arith
+  above_halved (Some x) k h f = k.full f (omega arith)
 
-  pub above_used : (o : Split K V) (p : List ℕ) (n child : Node K V) (a b d : ℕ) → IsStep p n → IsCascadeStep p n child → length (slice_range p 1 (length p)) ≤ cascade (slice_range p 1 (length p)) child
-      → MatchOption o (length (own_pairs n) < capacity) (λ _. length (own_pairs n) ≡ capacity) → b + (cascade (slice_range p 1 (length p)) child - 1) ≡ a → MatchOption o (d ≡ b) (λ _. d + 1 ≡ b) → d + (cascade p n - 1) ≡ a
-  above_used None p n child a b d s k h f u w = let e = k.room f in omega arith
-  above_used (Some x) p n child a b d s k h f u w = let e = k.full f h in omega arith
+  pub above_used : (o : Split K V) {p : List ℕ} {n child : Node K V} (a b d : ℕ) → IsCascadeStep p n child
+      → cascade (rest_of p) child ≡ length (rest_of p) → MatchOption o (length (own_pairs n) < capacity) (λ _. length (own_pairs n) ≡ capacity)
+      → b + (cascade (rest_of p) child - 1) ≡ a → MatchOption o (d ≡ b) (λ _. d + 1 ≡ b) → d + (cascade p n - 1) ≡ a
+  above_used None a b d k h f u w = let e = k.room f in omega arith
+  above_used (Some x) a b d k h f u w = let e = k.full f (omega arith) in let long = k.step.long in let height = k.step.height in omega arith
 
-  pub above_moves : (o : Split K V) (p : List ℕ) (n child : Node K V) (a b d : ℕ) → IsStep p n → IsCascadeStep p n child → length (slice_range p 1 (length p)) ≤ cascade (slice_range p 1 (length p)) child
-      → MatchOption o (length (own_pairs n) < capacity) (λ _. length (own_pairs n) ≡ capacity) → b ≤ a + most_split_moves * cascade (slice_range p 1 (length p)) child → MatchOption o (d ≤ b + capacity) (λ _. d ≤ b + most_split_moves)
+  pub above_moves : (o : Split K V) {p : List ℕ} {n child : Node K V} (a b d : ℕ) → IsCascadeStep p n child
+      → cascade (rest_of p) child ≡ length (rest_of p) → MatchOption o (length (own_pairs n) < capacity) (λ _. length (own_pairs n) ≡ capacity)
+      → b ≤ a + most_split_moves * cascade (rest_of p) child → MatchOption o (d ≤ b + capacity) (λ _. d ≤ b + most_split_moves)
       → MatchOption o (d ≤ a + most_split_moves * cascade p n + capacity) (λ _. d ≤ a + most_split_moves * cascade p n)
-  above_moves None p n child a b d s k h f u w = let e = k.room f in omega arith
-  above_moves (Some x) p n child a b d s k h f u w = let e = k.full f h in omega arith
+  above_moves None a b d k h f u w = let e = k.room f in omega arith
+  above_moves (Some x) a b d k h f u w = let e = k.full f (omega arith) in let long = k.step.long in omega arith

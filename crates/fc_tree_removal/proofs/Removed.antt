@@ -75,41 +75,74 @@ module _ {K V : Type 0} where
       let r = length-remove (own_pairs old) i lt in
       subst (λ k. IsShrunk k old new) (sym z) ((omega arith, e'), (omega arith, omega arith))
 
-  pub below_root : (h : ℕ) (n child : Node K V) (i : ℕ) → IsLevelled (suc h) n → i ≤ length (own_pairs n) → child ≡ child_at n i → IsSoundRoot h child
-  below_root h n child i l le e =
-      let b = child_below h n i l le in
-      let b₀ = b.0 in
-      subst (IsSoundRoot h) (sym e) (omega arith, b.1)
+  -- a child that was lent out of the list of a node above the leaves
+  pub record IsLent (h : ℕ) (n child : Node K V) (i : ℕ) : Type 0 where
+    pub below : ℕ
+    pub height : h ≡ suc below
+    pub levels : IsLevelled (suc below) n
+    pub inner : IsInner n
+    pub place : i ≤ length (own_pairs n)
+    pub is : child ≡ child_at n i
+    pub whole : IsSound below child
+    pub sound : IsSoundRoot below child
 
-  -- the child that has lost a pair is short at most
-  pub short_set : (h : ℕ) (old mid child c : Node K V) (i : ℕ) → IsLevelled (suc h) old → 1 ≤ length (own_pairs old) → i ≤ length (own_pairs old) → length (own_pairs mid) ≡ length (own_pairs old)
-      → children_of mid ≡ slice_set (children_of old) i c → child ≡ child_at old i → IsShrunk h child c → IsShortAt h mid i
-  short_set h old mid child c i l some le e f ci s =
-      let k : length (children_of old) ≡ length (own_pairs old) + 1 = l.1 in
-      let n : length (children_of mid) ≡ length (children_of old) = ap length f ∙ length_set (children_of old) i c in
-      let fits = l.0 in
-      let b = (child_below h old i l le).0 in
-      let b' = ap (λ x. length (own_pairs x)) ci in
-      let s' = s.1.1 in
-      let cm : child_at mid i ≡ c = ap (λ cs. get_or cs i mid) f ∙ at_set (children_of old) i c mid (omega arith) in
-      let cl : length (own_pairs (child_at mid i)) ≡ length (own_pairs c) = ap (λ x. length (own_pairs x)) cm in
-      let ta : take i (children_of old) ≡ take i (children_of mid) = sym (ap (take i) f ∙ take_set (children_of old) i c) in
-      let da : drop (suc i) (children_of old) ≡ drop (suc i) (children_of mid) = sym (ap (drop (suc i)) f ∙ drop_set (children_of old) i c) in
+  pub lent : (h : ℕ) (n child : Node K V) (cs : List (Node K V)) (i : ℕ) → (out-Node K V n).children ≡ Some cs → IsLevelled h n
+      → i ≤ length (own_pairs n) → child ≡ get_or cs i child → IsLent h n child i
+  lent h n child cs i e l le q =
+      let a = some_above h n cs e l in
+      let is = opened_child n cs i child e a.inner le q in
+      let whole : IsSound a.below child = subst (IsSound a.below) (sym is) (child_below a.below n i a.levels le) in
       record {
-        some = omega arith;
-        fits = omega arith;
-        inner = omega arith;
-        place = omega arith;
-        before = subst (AllByRecursion (IsSound h)) ta (all_front (IsSound h) (take i (children_of old)) (drop i (children_of old)) (subst (AllByRecursion (IsSound h)) (sym (take_drop i (children_of old))) l.2));
-        short = omega arith;
-        levels = subst (IsLevelled h) (sym cm) s.0;
-        after = subst (AllByRecursion (IsSound h)) da (all_back (IsSound h) (take (suc i) (children_of old)) (drop (suc i) (children_of old)) (subst (AllByRecursion (IsSound h)) (sym (take_drop (suc i) (children_of old))) l.2));
+        below = a.below;
+        height = a.height;
+        levels = a.levels;
+        inner = a.inner;
+        place = le;
+        is = is;
+        whole = whole;
+        sound = (omega arith, whole.1);
       }
 
-  pub shrunk_from : (h : ℕ) (g : ℕ) (old mid new : Node K V) → h ≡ suc g → length (own_pairs mid) ≡ length (own_pairs old) → IsShrunk (suc g) mid new → IsShrunk h old new
-  shrunk_from h g old mid new e f s =
-      let a = s.1.0 in let b = s.1.1 in
-      subst (λ k. IsShrunk k old new) (sym e) (s.0, (omega arith, omega arith))
+  module _ {h : ℕ} {old child : Node K V} {i : ℕ} (l : IsLent h old child i) where
+    -- it came back as c, and is short at most if it has lost a pair
+    came_short : (mid c : Node K V) → 1 ≤ length (own_pairs old) → length (own_pairs mid) ≡ length (own_pairs old)
+        → children_of mid ≡ slice_set (children_of old) i c → IsShrunk l.below child c → IsShortAt l.below mid i
+    came_short mid c some same f s =
+        let cs = children_of old in
+        let k : length cs ≡ length (own_pairs old) + 1 = l.inner in
+        let n : length (children_of mid) ≡ length cs = ap length f ∙ length_set cs i c in
+        let le = l.place in
+        let fits = l.levels.0 in
+        let least = l.whole.0 in
+        let fewer = s.1.1 in
+        let cm : child_at mid i ≡ c = ap (λ ds. get_or ds i mid) f ∙ at_set cs i c mid (omega arith) in
+        let cl : length (own_pairs (child_at mid i)) ≡ length (own_pairs c) = ap (λ x. length (own_pairs x)) cm in
+        let All = AllByRecursion (IsSound l.below) in
+        record {
+          some = omega arith;
+          fits = omega arith;
+          inner = omega arith;
+          place = omega arith;
+          before = subst All (sym (ap (take i) f ∙ take_set cs i c))
+              (all_front (IsSound l.below) (take i cs) (drop i cs) (subst All (sym (take_drop i cs)) l.levels.2));
+          short = omega arith;
+          levels = subst (IsLevelled l.below) (sym cm) s.0;
+          after = subst All (sym (ap (drop (suc i)) f ∙ drop_set cs i c))
+              (all_back (IsSound l.below) (take (suc i) cs) (drop (suc i) cs) (subst All (sym (take_drop (suc i) cs)) l.levels.2));
+        }
+
+    -- the node that had it was mended
+    came_mended : (mid new : Node K V) → length (own_pairs mid) ≡ length (own_pairs old) → IsShrunk (suc l.below) mid new → IsShrunk h old new
+    came_mended mid new same s =
+        let a = s.1.0 in let b = s.1.1 in
+        subst (λ k. IsShrunk k old new) (sym l.height) (s.0, (omega arith, omega arith))
+
+    pub lent_short : {mid c : Node K V} → 1 ≤ length (own_pairs old) → IsChildSet old mid i c → IsShrunk l.below child c → IsShortAt l.below mid i
+    lent_short some m s = came_short _ _ some (ap length m.same) m.child s
+
+    pub lent_mended : {mid c : Node K V} (new : Node K V) → 1 ≤ length (own_pairs old) → IsChildSet old mid i c → IsShrunk l.below child c
+        → (IsShortAt l.below mid i → IsShrunk (suc l.below) mid new) → IsShrunk h old new
+    lent_mended new some m s f = came_mended _ new (ap length m.same) (f (lent_short some m s))
 
   -- the pairs of a node with another child
   pub set_gap : (old mid c : Node K V) (i : ℕ) → IsInner old → i ≤ length (own_pairs old) → IsChildSet old mid i c → pairs_of mid ≡ before_child old i ++ (pairs_of c ++ after_child old i)
@@ -147,34 +180,45 @@ module _ {K V : Type 0} where
   -- the node with another pair of its own at a place and another child after it
   pub record IsOwnSet (old mid : Node K V) (i : ℕ) (next : K × V) (c : Node K V) : Type 0 where
     pub pairs : own_pairs mid ≡ slice_set (own_pairs old) i next
-    pub children : children_of mid ≡ slice_set (children_of old) (suc i) c
+    pub children : children_of mid ≡ slice_set (children_of old) (i + 1) c
 
   pub own_set : (old mid new : Node K V) (i : ℕ) (next : K × V) (c : Node K V) → IsChildSet old mid (i + 1) c → own_pairs new ≡ slice_set (own_pairs mid) i next → children_of new ≡ children_of mid → IsOwnSet old new i next c
   own_set old mid new i next c m e f = record {
     pairs = e ∙ ap (λ ps. slice_set ps i next) m.same;
-    children = f ∙ m.child ∙ ap (λ k. slice_set (children_of old) k c) (add-one i);
+    children = f ∙ m.child;
   }
 
-  pub own_short : (h : ℕ) (old mid child c : Node K V) (next : K × V) (i : ℕ) → IsLevelled (suc h) old → i < length (own_pairs old) → IsOwnSet old mid i next c → child ≡ child_at old (suc i) → IsShrunk h child c → IsShortAt h mid (i + 1)
-  own_short h old mid child c next i l lt m ci s =
-      subst (IsShortAt h mid) (sym (add-one i)) (short_set h old mid child c (suc i) l (omega arith) (omega arith) (ap length m.pairs ∙ length_set (own_pairs old) i next) m.children ci s)
-
-  pub own_kept : (old mid c : Node K V) (next : K × V) (i : ℕ) → IsOwnSet old mid i next c → length (own_pairs mid) ≡ length (own_pairs old)
+  own_kept : (old mid c : Node K V) (next : K × V) (i : ℕ) → IsOwnSet old mid i next c → length (own_pairs mid) ≡ length (own_pairs old)
   own_kept old mid c next i m = ap length m.pairs ∙ length_set (own_pairs old) i next
 
+  module _ {h : ℕ} {old child : Node K V} {i : ℕ} (l : IsLent h old child (i + 1)) where
+    pub own_short : {mid c : Node K V} {next : K × V} → 1 ≤ length (own_pairs old) → IsOwnSet old mid i next c → IsShrunk l.below child c
+        → IsShortAt l.below mid (i + 1)
+    own_short some m s = came_short l _ _ some (own_kept _ _ _ _ _ m) m.children s
+
+    pub own_mended : {mid c : Node K V} {next : K × V} (new : Node K V) → 1 ≤ length (own_pairs old) → IsOwnSet old mid i next c
+        → IsShrunk l.below child c → (IsShortAt l.below mid (i + 1) → IsShrunk (suc l.below) mid new) → IsShrunk h old new
+    own_mended new some m s f = came_mended l _ new (own_kept _ _ _ _ _ m) (f (own_short some m s))
+
   -- the pairs of a node of which the first pair after one of its own has taken that one's place
-  pub own_replaced : (old mid child c : Node K V) (next : K × V) (i : ℕ) → IsInner old → i < length (own_pairs old) → IsOwnSet old mid i next c → child ≡ child_at old (suc i) → pairs_of child ≡ next ∷ pairs_of c → pairs_of mid ≡ before_own old i ++ after_own old i
-  own_replaced old mid child c next i inner h m ci q =
-      let k : length (children_of old) ≡ length (own_pairs old) + 1 = inner in
+  pub own_replaced : {h : ℕ} (old mid child c : Node K V) (next : K × V) (i : ℕ) → IsLent h old child (i + 1) → IsOwnSet old mid i next c
+      → pairs_of child ≡ next ∷ pairs_of c → pairs_of mid ≡ before_own old i ++ after_own old i
+  own_replaced old mid child c next i l m q =
+      let le = l.place in
+      let h : i < length (own_pairs old) = omega arith in
+      let children_is : children_of mid ≡ slice_set (children_of old) (suc i) c = m.children ∙ ap (λ k. slice_set (children_of old) k c) (add-one i) in
+      let next_is : child ≡ child_at old (suc i) = l.is ∙ ap (child_at old) (add-one i) in
+      let k : length (children_of old) ≡ length (own_pairs old) + 1 = l.inner in
       let cs = take (suc i) (children_of old) in let ds = drop (suc (suc i)) (children_of old) in
       let ps = take i (own_pairs old) in let qs = drop (suc i) (own_pairs old) in
       let n : length (map pairs_of cs) ≡ length ps + 1 = length-map cs pairs_of ∙ length_take (suc i) (children_of old) (omega arith) ∙ (let t = length_take i (own_pairs old) (omega arith) in omega arith) in
       pairs_is mid ∙ ap (λ zs. weave (map pairs_of (children_of mid)) zs) (m.pairs ∙ set_is (own_pairs old) i next h)
-      ∙ ap (λ zs. weave (map pairs_of zs) (ps ++ next ∷ qs)) (m.children ∙ set_is (children_of old) (suc i) c (omega arith))
+      ∙ ap (λ zs. weave (map pairs_of zs) (ps ++ next ∷ qs)) (children_is ∙ set_is (children_of old) (suc i) c (omega arith))
       ∙ ap (λ zs. weave zs (ps ++ next ∷ qs)) (map-append pairs_of cs (c ∷ ds))
       ∙ weave_parts (map pairs_of cs) (map pairs_of (c ∷ ds)) ps next qs n (omega arith)
       ∙ ap (λ zs. before_own old i ++ zs)
-      (ap (λ zs. weave (zs ∷ map pairs_of ds) qs) (sym q ∙ ap pairs_of ci) ∙ ap (λ zs. weave (map pairs_of zs) qs) (sym (drop_item (children_of old) (suc i) old (omega arith))))
+      (ap (λ zs. weave (zs ∷ map pairs_of ds) qs) (sym q ∙ ap pairs_of next_is)
+      ∙ ap (λ zs. weave (map pairs_of zs) qs) (sym (drop_item (children_of old) (suc i) old (omega arith))))
 
 module _ {K V : Type 0} where
   pub empty_leaf : (root : Node K V) → IsLeaf root → length (own_pairs root) ≡ 0 → pairs_of root ≡ []

@@ -1,56 +1,43 @@
-use Rattle.std.proofs.Common.{◌≡◌, ◌+◌, length, get_or, ap, ◌∙◌, arith}
-use Rattle.fc_tree_node.specs.Node.{own_pairs, children_of}
+use Rattle.std.proofs.Common.{◌≡◌, ℕ, ◌+◌, length, get_or, ◌∙◌, arith}
+use Rattle.fc_tree_node.specs.Node.{own_pairs, children_of, IsLevelled}
 use Rattle.fc_tree_node.proofs.Made.{child_set}
-use Rattle.fc_tree_removal.proofs.Removed.{some_above, opened_child, below_root, short_set, shrunk_from, place_step, below_removed}
+use Rattle.fc_tree_removal.proofs.Removed.{some_above, IsLent, lent, lent_short, lent_mended, IsPlaceStep, place_step, below_removed}
+use Rattle.fc_tree_removal.proofs.removal.+remove_at.Given as given
 use Rattle.fc_tree_removal.proofs.removal.+remove_at.Goals as goal
+use Rattle.fc_tree_removal.proofs.removal.+remove_at.Goals.{After-get_mut-child}
+
+step : (g : given.Over) (t : ℕ) (c : After-get_mut-child g t) → IsPlaceStep c.args.path.now c.args.node.now
+step g t c = place_step c.args.path.now c.args.node.now c.if-path-eq1.false c.requires.place
+
+child : (g : given.Over) (t : ℕ) (c : After-get_mut-child g t) (h : ℕ) → IsLevelled h c.args.node.now
+    → IsLent h c.args.node.now c.get_mut-child.result.now (get_or c.args.path.now 0 0)
+child g t c h l =
+    let n = c.args.node.now in
+    let k : length (children_of n) ≡ length (own_pairs n) + 1 = (some_above h n _ c.in-Some.is l).inner in
+    let lt = (step g t c).child in
+    lent h n _ _ _ c.in-Some.is l (omega arith) c.get_mut-child.ensures.value
 
 pub mend_child-requires : goal.mend_child-requires
 mend_child-requires g t c =
-    let n = c.args.node.now in
-    let i = get_or c.args.path.now 0 0 in
-    let a = some_above _ n _ c.in-Some.is c.requires.sound.1.1 in
-    let s = place_step c.args.path.now n c.if-path-eq1.false c.requires.place in
-    let k : length (children_of n) ≡ length (own_pairs n) + 1 = a.inner in
-    let lt = s.child in
-    let ci = opened_child n _ i c.get_mut-child.result.now c.in-Some.is a.inner (omega arith) c.get_mut-child.ensures.value in
-    let m = child_set n _ i c.remove_at-pair.new.node c.in-Some.is in
-    (a.below, short_set a.below n _ _ _ i a.levels c.requires.sound.1.0 (omega arith) (ap length m.same) m.child ci (c.remove_at-pair.ensures.levels a.below (below_root a.below n _ i a.levels (omega arith) ci)))
+    let l = child g t (goal.at.mend_child-requires g t c).After-get_mut-child _ c.requires.sound.1.1 in
+    (l.below, lent_short l c.requires.sound.1.0 (child_set _ _ _ _ c.in-Some.is) (c.remove_at-pair.ensures.levels l.below l.sound))
 
 pub returns-clause-pairs : goal.returns-clause-pairs
 returns-clause-pairs g t c =
-    let n = c.args.node.now in
-    let i = get_or c.args.path.now 0 0 in
-    let a = some_above _ n _ c.in-Some.is c.requires.sound.1.1 in
-    let s = place_step c.args.path.now n c.if-path-eq1.false c.requires.place in
-    let k : length (children_of n) ≡ length (own_pairs n) + 1 = a.inner in
-    let lt = s.child in
-    let ci = opened_child n _ i c.get_mut-child.result.now c.in-Some.is a.inner (omega arith) c.get_mut-child.ensures.value in
-    let m = child_set n _ i c.remove_at-pair.new.node c.in-Some.is in
-    c.mend_child.ensures.pairs ∙ below_removed c.args.path.now n _ _ _ s a.inner m ci c.remove_at-pair.ensures.pairs
+    let p = (goal.at.returns-clause-pairs g t c).After-get_mut-child in
+    let l = child g t p _ c.requires.sound.1.1 in
+    c.mend_child.ensures.pairs
+    ∙ below_removed c.args.path.now _ _ _ _ (step g t p) l.inner (child_set _ _ _ _ c.in-Some.is) l.is c.remove_at-pair.ensures.pairs
 
 pub returns-clause-levels : goal.returns-clause-levels
-returns-clause-levels g t c h r =
-    let n = c.args.node.now in
-    let i = get_or c.args.path.now 0 0 in
-    let a = some_above h n _ c.in-Some.is r.1 in
-    let s = place_step c.args.path.now n c.if-path-eq1.false c.requires.place in
-    let k : length (children_of n) ≡ length (own_pairs n) + 1 = a.inner in
-    let lt = s.child in
-    let ci = opened_child n _ i c.get_mut-child.result.now c.in-Some.is a.inner (omega arith) c.get_mut-child.ensures.value in
-    let m = child_set n _ i c.remove_at-pair.new.node c.in-Some.is in
-    let short = short_set a.below n _ _ _ i a.levels r.0 (omega arith) (ap length m.same) m.child ci (c.remove_at-pair.ensures.levels a.below (below_root a.below n _ i a.levels (omega arith) ci)) in
-    shrunk_from h a.below n _ _ a.height (ap length m.same) (c.mend_child.ensures.levels a.below short)
+returns-clause-levels g t c h s =
+    let l = child g t (goal.at.returns-clause-levels g t c).After-get_mut-child h s.1 in
+    lent_mended l _ s.0 (child_set _ _ _ _ c.in-Some.is) (c.remove_at-pair.ensures.levels l.below l.sound) (c.mend_child.ensures.levels l.below)
 
 pub returns-clause-moves : goal.returns-clause-moves
-returns-clause-moves g t c h r =
-    let n = c.args.node.now in
-    let i = get_or c.args.path.now 0 0 in
-    let a = some_above h n _ c.in-Some.is r.1 in
-    let s = place_step c.args.path.now n c.if-path-eq1.false c.requires.place in
-    let k : length (children_of n) ≡ length (own_pairs n) + 1 = a.inner in
-    let lt = s.child in
-    let ci = opened_child n _ i c.get_mut-child.result.now c.in-Some.is a.inner (omega arith) c.get_mut-child.ensures.value in
-    let e = a.height in
-    let x = c.remove_at-pair.ensures.moves a.below (below_root a.below n _ i a.levels (omega arith) ci) in
+returns-clause-moves g t c h s =
+    let l = child g t (goal.at.returns-clause-moves g t c).After-get_mut-child h s.1 in
+    let e = l.height in
+    let x = c.remove_at-pair.ensures.moves l.below l.sound in
     let y = c.mend_child.ensures.moves in
     omega arith

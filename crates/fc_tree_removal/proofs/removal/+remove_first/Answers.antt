@@ -1,39 +1,35 @@
-use Rattle.std.proofs.Common.{◌∷◌, length, ap, sym, ◌∙◌, arith}
+use Rattle.std.proofs.Common.{ℕ, ◌∷◌, ap, sym, ◌∙◌, arith}
+use Rattle.fc_tree_node.specs.Node.{IsLevelled}
 use Rattle.fc_tree_node.proofs.Made.{child_set}
-use Rattle.fc_tree_removal.proofs.Removed.{some_above, opened_child, below_root, short_set, shrunk_from, first_removed}
+use Rattle.fc_tree_removal.proofs.Removed.{IsLent, lent, lent_short, lent_mended, first_removed}
+use Rattle.fc_tree_removal.proofs.removal.+remove_first.Given as given
 use Rattle.fc_tree_removal.proofs.removal.+remove_first.Goals as goal
+use Rattle.fc_tree_removal.proofs.removal.+remove_first.Goals.{After-get_mut-child}
+
+child : (g : given.Over) (t : ℕ) (c : After-get_mut-child g t) (h : ℕ) → IsLevelled h c.args.node.now
+    → IsLent h c.args.node.now c.get_mut-child.result.now 0
+child g t c h l = lent h _ _ _ 0 c.in-Some.is l (omega arith) c.get_mut-child.ensures.value
 
 pub mend_child-requires : goal.mend_child-requires
 mend_child-requires g t c =
-    let n = c.args.node.now in
-    let a = some_above _ n _ c.in-Some.is c.requires.sound.1.1 in
-    let ci = opened_child n _ 0 c.get_mut-child.result.now c.in-Some.is a.inner (omega arith) c.get_mut-child.ensures.value in
-    let m = child_set n _ 0 c.remove_first-pair.new.node c.in-Some.is in
-    (a.below, short_set a.below n _ _ _ 0 a.levels c.requires.sound.1.0 (omega arith) (ap length m.same) m.child ci (c.remove_first-pair.ensures.levels a.below (below_root a.below n _ 0 a.levels (omega arith) ci)))
+    let l = child g t (goal.at.mend_child-requires g t c).After-get_mut-child _ c.requires.sound.1.1 in
+    (l.below, lent_short l c.requires.sound.1.0 (child_set _ _ _ _ c.in-Some.is) (c.remove_first-pair.ensures.levels l.below l.sound))
 
 pub returns-clause-pairs : goal.returns-clause-pairs
 returns-clause-pairs g t c =
-    let n = c.args.node.now in
-    let a = some_above _ n _ c.in-Some.is c.requires.sound.1.1 in
-    let ci = opened_child n _ 0 c.get_mut-child.result.now c.in-Some.is a.inner (omega arith) c.get_mut-child.ensures.value in
-    let m = child_set n _ 0 c.remove_first-pair.new.node c.in-Some.is in
-    first_removed n _ _ _ _ a.inner m ci c.remove_first-pair.ensures.pairs ∙ ap (λ zs. c.remove_first-pair.result ∷ zs) (sym c.mend_child.ensures.pairs)
+    let l = child g t (goal.at.returns-clause-pairs g t c).After-get_mut-child _ c.requires.sound.1.1 in
+    first_removed _ _ _ _ _ l.inner (child_set _ _ _ _ c.in-Some.is) l.is c.remove_first-pair.ensures.pairs
+    ∙ ap (λ zs. c.remove_first-pair.result ∷ zs) (sym c.mend_child.ensures.pairs)
 
 pub returns-clause-levels : goal.returns-clause-levels
 returns-clause-levels g t c h s =
-    let n = c.args.node.now in
-    let a = some_above h n _ c.in-Some.is s.1 in
-    let ci = opened_child n _ 0 c.get_mut-child.result.now c.in-Some.is a.inner (omega arith) c.get_mut-child.ensures.value in
-    let m = child_set n _ 0 c.remove_first-pair.new.node c.in-Some.is in
-    let short = short_set a.below n _ _ _ 0 a.levels s.0 (omega arith) (ap length m.same) m.child ci (c.remove_first-pair.ensures.levels a.below (below_root a.below n _ 0 a.levels (omega arith) ci)) in
-    shrunk_from h a.below n _ _ a.height (ap length m.same) (c.mend_child.ensures.levels a.below short)
+    let l = child g t (goal.at.returns-clause-levels g t c).After-get_mut-child h s.1 in
+    lent_mended l _ s.0 (child_set _ _ _ _ c.in-Some.is) (c.remove_first-pair.ensures.levels l.below l.sound) (c.mend_child.ensures.levels l.below)
 
 pub returns-clause-moves : goal.returns-clause-moves
 returns-clause-moves g t c h s =
-    let n = c.args.node.now in
-    let a = some_above h n _ c.in-Some.is s.1 in
-    let ci = opened_child n _ 0 c.get_mut-child.result.now c.in-Some.is a.inner (omega arith) c.get_mut-child.ensures.value in
-    let e = a.height in
-    let x = c.remove_first-pair.ensures.moves a.below (below_root a.below n _ 0 a.levels (omega arith) ci) in
+    let l = child g t (goal.at.returns-clause-moves g t c).After-get_mut-child h s.1 in
+    let e = l.height in
+    let x = c.remove_first-pair.ensures.moves l.below l.sound in
     let y = c.mend_child.ensures.moves in
     omega arith

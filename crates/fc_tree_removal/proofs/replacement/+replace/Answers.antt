@@ -1,36 +1,32 @@
-use Rattle.std.proofs.Common.{◌≡◌, ◌+◌, length, get_or, ap, arith}
-use Rattle.fc_tree_node.specs.Node.{own_pairs, children_of}
+use Rattle.std.proofs.Common.{◌≡◌, ℕ, ◌+◌, length, get_or, arith}
+use Rattle.fc_tree_node.specs.Node.{own_pairs, children_of, IsLevelled}
 use Rattle.fc_tree_node.proofs.Made.{child_set}
-use Rattle.fc_tree_node.proofs.Pairs.{child_below}
-use Rattle.fc_tree_removal.proofs.Removed.{some_above, opened_child, place_step}
+use Rattle.fc_tree_removal.proofs.Removed.{some_above, IsLent, lent, IsPlaceStep, place_step}
 use Rattle.fc_tree_removal.proofs.Replaced.{below_levels, below_pairs}
+use Rattle.fc_tree_removal.proofs.replacement.+replace.Given as given
 use Rattle.fc_tree_removal.proofs.replacement.+replace.Goals as goal
+use Rattle.fc_tree_removal.proofs.replacement.+replace.Goals.{After-get_mut-child}
+
+step : (g : given.Over) (t : ℕ) (c : After-get_mut-child g t) → IsPlaceStep c.args.path.now c.args.node.now
+step g t c = place_step c.args.path.now c.args.node.now c.if-path-eq1.false c.requires.place
+
+child : (g : given.Over) (t : ℕ) (c : After-get_mut-child g t) (h : ℕ) → IsLevelled h c.args.node.now
+    → IsLent h c.args.node.now c.get_mut-child.result.now (get_or c.args.path.now 0 0)
+child g t c h l =
+    let n = c.args.node.now in
+    let k : length (children_of n) ≡ length (own_pairs n) + 1 = (some_above h n _ c.in-Some.is l).inner in
+    let lt = (step g t c).child in
+    lent h n _ _ _ c.in-Some.is l (omega arith) c.get_mut-child.ensures.value
 
 pub returns-clause-pairs : goal.returns-clause-pairs
 returns-clause-pairs g t c =
-    let n = c.args.node.now in
-    let i = get_or c.args.path.now 0 0 in
-    let a = some_above _ n _ c.in-Some.is c.requires.levels.1 in
-    let s = place_step c.args.path.now n c.if-path-eq1.false c.requires.place in
-    let k : length (children_of n) ≡ length (own_pairs n) + 1 = a.inner in
-    let lt = s.child in
-    let ci = opened_child n _ i c.get_mut-child.result.now c.in-Some.is a.inner (omega arith) c.get_mut-child.ensures.value in
-    let m = child_set n _ i c.replace.new.node c.in-Some.is in
-    below_pairs c.args.path.now n _ _ _ c.args.pair s a.inner m ci c.replace.ensures.pairs
+    let p = (goal.at.returns-clause-pairs g t c).After-get_mut-child in
+    let l = child g t p _ c.requires.levels.1 in
+    below_pairs c.args.path.now _ _ _ _ c.args.pair (step g t p) l.inner (child_set _ _ _ _ c.in-Some.is) l.is c.replace.ensures.pairs
 
 pub returns-clause-levels : goal.returns-clause-levels
 returns-clause-levels g t c h l =
-    let n = c.args.node.now in
-    let i = get_or c.args.path.now 0 0 in
-    let a = some_above h n _ c.in-Some.is l in
-    let s = place_step c.args.path.now n c.if-path-eq1.false c.requires.place in
-    let k : length (children_of n) ≡ length (own_pairs n) + 1 = a.inner in
-    let lt = s.child in
-    let ci = opened_child n _ i c.get_mut-child.result.now c.in-Some.is a.inner (omega arith) c.get_mut-child.ensures.value in
-    let m = child_set n _ i c.replace.new.node c.in-Some.is in
-    let b = child_below a.below n i a.levels (omega arith) in
-    let q = ap (λ x. length (own_pairs x)) ci in
-    let least = b.0 in
+    let a = child g t (goal.at.returns-clause-levels g t c).After-get_mut-child h l in
+    let least = a.whole.0 in
     let z = c.replace.ensures.size in
-    let r = c.replace.ensures.levels a.below (rw ci b.1) in
-    rw a.height (below_levels a.below n _ c.replace.new.node i a.levels m (omega arith, r))
+    rw a.height (below_levels a.below _ _ _ _ a.levels (child_set _ _ _ _ c.in-Some.is) (omega arith, c.replace.ensures.levels a.below a.whole.1))

@@ -13,11 +13,11 @@ below zero o b s e = absurd (cc)
 below (suc n) None b s e = absurd s
 below (suc n) (Some d) b s e = search rules
 
-one : {X : Type 0} (x y : Option X) → option_to_list x ≡ option_to_list y → x ≡ y
-one None None e = refl
-one None (Some b) e = absurd (cc)
-one (Some a) None e = absurd (cc)
-one (Some a) (Some b) e = cc
+same_items : {X : Type 0} (x y : Option X) → option_to_list x ≡ option_to_list y → x ≡ y
+same_items None None e = refl
+same_items None (Some b) e = absurd (cc)
+same_items (Some a) None e = absurd (cc)
+same_items (Some a) (Some b) e = cc
 
 lower : (g : given.Over) (c : In-Some g) → (x : Option (Node g.row.K.Denot g.row.V.Denot)) × IsAbove c.in-Some.node x × AreSpares (c.self.inside.len - 1) x
 lower g c = below _ _ _ c.self.invariant.1 (sym c.take.ensures.value ∙ c.in-Some.is)
@@ -29,4 +29,4 @@ pub invariant_of-self : goal.invariant_of-self
 invariant_of-self g c =
     let l = lower g (goal.at.invariant_of-self g c).In-Some in
     let above = c.take_below.ensures.below in
-    (omega arith, subst (AreSpares (c.self.inside.len - 1)) (one l.0 c.take_below.result (cc)) l.2)
+    (omega arith, subst (AreSpares _) (same_items l.0 c.take_below.result (cc)) l.2)
