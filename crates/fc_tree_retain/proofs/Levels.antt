@@ -105,8 +105,8 @@ module _ {K V : Type 0} where
     pub loose : IsLoose below d
     pub falls : height_of d < h
 
-  pub lent : (h : ℕ) (n : Node K V) (cs : List (Node K V)) (i : ℕ) (d : Node K V) → (out-Node K V n).children ≡ Some cs → IsInner n → IsLoose h n → i ≤ length (own_pairs n)
-      → d ≡ get_or cs i d → IsLent h n d i
+  pub lent : (h : ℕ) (n : Node K V) (cs : List (Node K V)) (i : ℕ) (d : Node K V) → (out-Node K V n).children ≡ Some cs → IsInner n
+      → IsLoose h n → i ≤ length (own_pairs n) → d ≡ get_or cs i d → IsLent h n d i
   lent zero n cs i d e inner l le q = absurd (leaf_or_inner n l.1 inner)
   lent (suc h) n cs i d e inner l le q =
       let is = opened_child n cs i d e inner le q in
