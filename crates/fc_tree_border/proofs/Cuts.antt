@@ -44,16 +44,8 @@ module _ {K V : Type 0} where
   blank_pairs (suc h) n b =
       pairs_is n ∙ ap (λ ps. weave (map pairs_of (children_of n)) ps) b.0 ∙ ap (λ cs. weave (map pairs_of cs) []) b.2 ∙ append-nil (pairs_of b.1) ∙ blank_pairs h b.1 b.3
 
-  blank_own : (h : ℕ) (n : Node K V) → IsBlank h n → own_pairs n ≡ []
-  blank_own zero n b = b.0
-  blank_own (suc h) n b = b.0
-
   blank_inner : (h : ℕ) (n : Node K V) → IsBlank (suc h) n → IsInner n
   blank_inner h n b = let e : length (own_pairs n) ≡ 0 = ap length b.0 in let f : length (children_of n) ≡ 1 = ap length b.2 in omega arith
-
-  pub blank_alike : (h : ℕ) (n r : Node K V) → IsLevelled h n → IsBlank h r → AreAlike n r
-  blank_alike zero n r l b = inl (l.1, b.1)
-  blank_alike (suc h) n r l b = inr (l.1, blank_inner h r b)
 
   blank_bordered : (h : ℕ) (n : Node K V) → IsBlank h n → IsLeftBordered h n
   blank_bordered zero n b = let e : length (own_pairs n) ≡ 0 = ap length b.0 in (omega arith, b.1)

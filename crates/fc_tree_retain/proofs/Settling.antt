@@ -6,7 +6,6 @@ use Rattle.std.proofs.lemmas.List.{length-append, length-drop}
 use Rattle.fc_base.specs.Sizes.{capacity, min_len}
 use Rattle.fc_tree_node.specs.declared.node.Node.{Node, out-Node}
 use Rattle.fc_tree_node.specs.Node.{own_pairs, children_of, child_at, pairs_of, IsLeaf, IsInner, IsSound}
-use Rattle.fc_tree_node.proofs.Formed.{leaf_or_inner}
 use Rattle.fc_tree_node.proofs.Lists.{length_take, length_set, all_both}
 use Rattle.fc_tree_node.proofs.Gaps.{drop_all}
 use Rattle.fc_tree_node.proofs.Siblings.{one_at, two_at}
@@ -105,10 +104,6 @@ module _ {K V : Type 0} where
   pub record IsMetLeft (h : ℕ) (c c' : Node K V) : Type 0 where
     pub thin : IsThin h c'
     pub kept : length (own_pairs c) ≤ length (own_pairs c') + 1
-
-  pub leaf_left : (h seam : ℕ) (c : Node K V) → IsLeaf c → IsMet h seam c → IsMetLeft h c c
-  leaf_left zero seam c e m = record { thin = m; kept = omega arith }
-  leaf_left (suc h) seam c e m = absurd (leaf_or_inner c e m.0.inner)
 
   pub met_left : (g seam j : ℕ) (c c' : Node K V) → IsMet (suc g) seam c → IsSettled g seam j c c' → IsMetLeft (suc g) c c'
   met_left g seam j c c' (s, after, one) (inl (q, o)) = go (length (own_pairs c')) refl

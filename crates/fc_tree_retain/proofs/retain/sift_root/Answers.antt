@@ -1,8 +1,9 @@
 use Rattle.std.proofs.Common.{ℕ, ◌≤◌, Some, sym, subst, ◌∙◌}
 use Rattle.fc_base.specs.Sizes.{most_height}
 use Rattle.fc_tree_node.specs.Tree.{IsSoundMap}
+use Rattle.fc_tree_border.proofs.Cuts.{within_sound}
 use Rattle.fc_tree_retain.specs.Loose.{IsLoose}
-use Rattle.fc_tree_retain.proofs.Levels.{levelled_loose, within_map}
+use Rattle.fc_tree_retain.proofs.Levels.{levelled_loose}
 use Rattle.fc_tree_retain.proofs.retain.sift_root.Given as given
 use Rattle.fc_tree_retain.proofs.retain.sift_root.Goals as goal
 use Rattle.fc_tree_retain.proofs.retain.sift_root.Goals.{In-Some}
@@ -26,4 +27,4 @@ without_thin_roots-requires g c =
 pub returns-in-Some-clause-sound : goal.returns-in-Some-clause-sound
 returns-in-Some-clause-sound g c =
     let s = root_loose g (goal.at.returns-in-Some-clause-sound g c).In-Some in
-    within_map s.0 _ s.1 (c.without_thin_roots.ensures.levels s.0 (c.mend.ensures.levels s.0 (c.sift.ensures.loose s.0 s.2)))
+    within_sound s.0 _ s.1 (c.without_thin_roots.ensures.levels s.0 (c.mend.ensures.levels s.0 (c.sift.ensures.loose s.0 s.2)))
