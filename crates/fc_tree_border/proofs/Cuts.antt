@@ -44,16 +44,8 @@ module _ {K V : Type 0} where
   blank_pairs (suc h) n b =
       pairs_is n ∙ ap (λ ps. weave (map pairs_of (children_of n)) ps) b.0 ∙ ap (λ cs. weave (map pairs_of cs) []) b.2 ∙ append-nil (pairs_of b.1) ∙ blank_pairs h b.1 b.3
 
-  blank_own : (h : ℕ) (n : Node K V) → IsBlank h n → own_pairs n ≡ []
-  blank_own zero n b = b.0
-  blank_own (suc h) n b = b.0
-
   blank_inner : (h : ℕ) (n : Node K V) → IsBlank (suc h) n → IsInner n
   blank_inner h n b = let e : length (own_pairs n) ≡ 0 = ap length b.0 in let f : length (children_of n) ≡ 1 = ap length b.2 in omega arith
-
-  pub blank_alike : (h : ℕ) (n r : Node K V) → IsLevelled h n → IsBlank h r → AreAlike n r
-  blank_alike zero n r l b = inl (l.1, b.1)
-  blank_alike (suc h) n r l b = inr (l.1, blank_inner h r b)
 
   blank_bordered : (h : ℕ) (n : Node K V) → IsBlank h n → IsLeftBordered h n
   blank_bordered zero n b = let e : length (own_pairs n) ≡ 0 = ap length b.0 in (omega arith, b.1)
@@ -217,20 +209,25 @@ module _ {K V : Type 0} where
     before_on (j ∷ q) s = refl
 
     -- the two nodes that the cut goes on with, lent out of their lists
-    pub fork_child : (bs : List (Node K V)) (child : Node K V) → (out-Node K V left).children ≡ Some bs → child ≡ get_or bs step child → child ≡ child_at left step
-    fork_child bs child e q =
+    pub record IsForkedOn (child other : Node K V) : Type 0 where
+      pub is : child ≡ child_at left step
+      pub levels : IsLevelled f.below child
+      pub blank : IsBlank f.below other
+
+    pub forked_on : (cs ds : List (Node K V)) (child other : Node K V) → (out-Node K V left).children ≡ Some cs → child ≡ get_or cs step child
+        → (out-Node K V right).children ≡ Some ds → other ≡ get_or ds 0 other → IsForkedOn child other
+    forked_on cs ds child other e q e' q' =
         let le = f.le in
-        let k = inner_length left bs e f.left_inner in
+        let k = inner_length left cs e f.left_inner in
+        let k' = inner_length right ds e' f.right_inner in
         let o = ap length f.left_own ∙ length_take step (own_pairs n) le in
-        listed_child left 0 bs e step child (omega arith) q
-
-    pub fork_top : (bs : List (Node K V)) (other : Node K V) → (out-Node K V right).children ≡ Some bs → other ≡ get_or bs 0 other → other ≡ f.top
-    fork_top bs other e q =
-        let k = inner_length right bs e f.right_inner in
-        listed_child right 0 bs e 0 other (omega arith) q ∙ ap (λ cs. get_or cs 0 right) f.right_children
-
-    pub fork_levels : (child : Node K V) → child ≡ child_at left step → IsLevelled f.below child
-    fork_levels child is = subst (IsLevelled f.below) (sym (is ∙ f.left_child)) (child_below f.below n step f.levels f.le).1
+        let is = listed_child left 0 cs e step child (omega arith) q in
+        let top = listed_child right 0 ds e' 0 other (omega arith) q' ∙ ap (λ cs. get_or cs 0 right) f.right_children in
+        record {
+          is = is;
+          levels = subst (IsLevelled f.below) (sym (is ∙ f.left_child)) (child_below f.below n step f.levels f.le).1;
+          blank = subst (IsBlank f.below) (sym top) f.blank;
+        }
 
     pub fork_front : (new child c : Node K V) → IsChildSet left new step c → child ≡ child_at left step → pairs_of c ≡ before_pair rest child → pairs_of new ≡ before_pair p n
     fork_front new child c m ci e =
@@ -281,7 +278,8 @@ module _ {K V : Type 0} where
   blank_leaf zero n top e b l = b
   blank_leaf (suc h) n top e b l = absurd (leaf_or_inner n e l.1)
 
-  pub blank_made : {E : Type 0} (n : Node K V) (made : Result (Node K V) E) → IsLeaf n → IfOk made IsBlankLeaf → IfOk made (λ b. (h : ℕ) → IsLevelled h n → IsBlank h b)
+  pub blank_made : {E : Type 0} (n : Node K V) (made : Result (Node K V) E) → IsLeaf n → IfOk made IsBlankLeaf
+      → IfOk made (λ b. (h : ℕ) → IsLevelled h n → IsBlank h b)
   blank_made n (Ok b) e i = λ h l. blank_leaf h n b e i l
   blank_made n (Err x) e i = i
 

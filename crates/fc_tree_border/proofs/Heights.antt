@@ -22,7 +22,8 @@ module _ {K V : Type 0} where
   abbrev pub height_of : Node K V → ℕ
   height_of = fold-Node K V ℕ height_step
 
-  folded : (ps : List (K × V)) (o : Option (List (Node K V))) → height_step (map-Node K V (Node K V) ℕ height_of (record { pairs = ps; children = o })) ≡ above_first (map height_of (items_or_none o))
+  folded : (ps : List (K × V)) (o : Option (List (Node K V)))
+      → height_step (map-Node K V (Node K V) ℕ height_of (record { pairs = ps; children = o })) ≡ above_first (map height_of (items_or_none o))
   folded ps None = refl
   folded ps (Some cs) = refl
 

@@ -34,31 +34,45 @@ module _ {K V : Type 0} where
   above_leaf Right zero n f b = absurd (f b.1)
   above_leaf s (suc h) n f b = record { below = h; height = refl; bordered = b }
 
-  -- the node after it was stocked, with the child on its border lent out
-  pub record IsLent (s : Border) (h : ℕ) (mid child : Node K V) (bs : List (Node K V)) (i : ℕ) : Type 0 where
-    pub opened : IsOpened s h mid
-    pub bounds : i < length bs
-    pub place : i ≡ border_place s mid
-    pub is : child ≡ child_at mid i
-    pub bordered : IsBordered s h child
-    pub many : min_len + 1 ≤ length (own_pairs child)
-
-  pub lent_bounds : (s : Border) (h : ℕ) (old mid : Node K V) (bs : List (Node K V)) (i : ℕ) → (out-Node K V mid).children ≡ Some bs → IsStocked s h old mid → i ≡ border_place s mid → i < length bs
-  lent_bounds s h old mid bs i e st p =
+  pub lent_bounds : (s : Border) (h : ℕ) (old mid : Node K V) (cs : List (Node K V)) (i : ℕ) → (out-Node K V mid).children ≡ Some cs
+      → IsStocked s h old mid → i ≡ border_place s mid → i < length cs
+  lent_bounds s h old mid cs i e st p =
       let o = border_opened s h mid st.0 in
       let there = o.there in
       let inner : length (children_of mid) ≡ length (own_pairs mid) + 1 = o.inner in
-      let k = inner_length mid bs e o.inner in
+      let k = inner_length mid cs e o.inner in
       omega arith
 
-  pub lent : (s : Border) (h : ℕ) (old mid child : Node K V) (bs : List (Node K V)) (i : ℕ) → (out-Node K V mid).children ≡ Some bs → IsStocked s h old mid → i ≡ border_place s mid
-      → child ≡ get_or bs i child → IsLent s h mid child bs i
-  lent s h old mid child bs i e st p q =
-      let o = border_opened s h mid st.0 in
-      let k = lent_bounds s h old mid bs i e st p in
-      let is = listed_child mid i bs e i child k q in
+  -- the node after it was stocked, with the child on its border lent out
+  pub record IsLent (s : Border) (h : ℕ) (old mid child : Node K V) (i : ℕ) : Type 0 where
+    pub below : ℕ
+    pub height : h ≡ suc below
+    pub stocked : IsStocked s below old mid
+    pub opened : IsOpened s below mid
+    pub place : i ≡ border_place s mid
+    pub is : child ≡ child_at mid i
+    pub bordered : IsBordered s below child
+    pub many : min_len + 1 ≤ length (own_pairs child)
+
+  pub lent : (s : Border) (h : ℕ) (old mid child : Node K V) (cs : List (Node K V)) (i : ℕ) → IsAbove s h old
+      → ((g : ℕ) → IsBordered s (suc g) old → IsStocked s g old mid)
+      → (out-Node K V mid).children ≡ Some cs → i ≡ border_place s mid → child ≡ get_or cs i child
+      → IsLent s h old mid child i
+  lent s h old mid child cs i a stocked e p q =
+      let st = stocked a.below a.bordered in
+      let o = border_opened s a.below mid st.0 in
+      let is = listed_child mid i cs e i child (lent_bounds s a.below old mid cs i e st p) q in
       let there = is ∙ ap (child_at mid) p in
-      record { opened = o; bounds = k; place = p; is = is; bordered = subst (IsBordered s h) (sym there) o.child; many = subst (λ n. min_len + 1 ≤ length (own_pairs n)) (sym there) st.1 }
+      record {
+        below = a.below;
+        height = a.height;
+        stocked = st;
+        opened = o;
+        place = p;
+        is = is;
+        bordered = subst (IsBordered s a.below) (sym there) o.child;
+        many = subst (λ n. min_len + 1 ≤ length (own_pairs n)) (sym there) st.1;
+      }
 
   pub mended_pairs : (mid new child c : Node K V) (i : ℕ) → IsInner mid → i < length (children_of mid) → IsChildSet mid new i c → child ≡ child_at mid i → pairs_of c ≡ pairs_of child → pairs_of new ≡ pairs_of mid
   mended_pairs mid new child c i inner lt m ci e =
@@ -68,8 +82,10 @@ module _ {K V : Type 0} where
       (length_take i (children_of mid) (omega arith) ∙ sym (length_take i (own_pairs mid) le))
       ∙ ap (λ zs. before_child mid i ++ (zs ++ after_child mid i)) (e ∙ ap pairs_of ci) ∙ sym (inner_gap mid i inner le)
 
-  pub mended_levels : (s : Border) (h g : ℕ) (old mid new child c : Node K V) (bs : List (Node K V)) (i : ℕ) → h ≡ suc g → IsStocked s g old mid → IsLent s g mid child bs i → IsChildSet mid new i c → IsShrunk g child c → IsShrunk h old new
-  mended_levels s h g old mid new child c bs i e st l m sh =
+  pub mended_levels : (s : Border) (h : ℕ) (old mid new child c : Node K V) (i : ℕ) (l : IsLent s h old mid child i) → IsChildSet mid new i c
+      → IsShrunk l.below child c → IsShrunk h old new
+  mended_levels s h old mid new child c i l m sh =
+      let g = l.below in
       let many = l.many in
       let kept = sh.1.1 in
       let o = l.opened in
@@ -83,8 +99,8 @@ module _ {K V : Type 0} where
       let before = subst (λ j. AllByRecursion (IsSound g) (take j (children_of mid))) (sym place) o.before in
       let after = subst (λ j. AllByRecursion (IsSound g) (drop (suc j) (children_of mid))) (sym place) o.after in
       let all = subst (AllByRecursion (IsSound g)) (sym is) (all_both (IsSound g) (take i (children_of mid)) _ before ((omega arith, sh.0), after)) in
-      let few = st.2 in
-      subst (λ k. IsShrunk k old new) (sym e) ((omega arith, omega arith, all), (omega arith, omega arith))
+      let few = l.stocked.2 in
+      subst (λ k. IsShrunk k old new) (sym l.height) ((omega arith, omega arith, all), (omega arith, omega arith))
 
   pub bordered_formed : (s : Border) (h : ℕ) (n : Node K V) → IsBordered s h n → IsFormed n
   bordered_formed Left zero n b = inl b.1
@@ -97,13 +113,14 @@ module _ {K V : Type 0} where
   levelled_formed (suc h) n l = inr l.1
 
   -- the only child of a root without pairs
-  pub only_one : (root : Node K V) (bs : List (Node K V)) (b : Node K V) → (out-Node K V root).children ≡ Some bs → IsFormed root → length (own_pairs root) ≡ 0 → b ≡ get_or bs 0 b → children_of root ≡ b ∷ []
-  only_one root bs b e formed h f = children_in root bs e ∙ single bs b (inner_length root bs e (inner_opened root bs e formed) ∙ ap (λ k. k + 1) h) f
+  pub only_one : (root : Node K V) (cs : List (Node K V)) (c : Node K V) → (out-Node K V root).children ≡ Some cs → IsFormed root
+      → length (own_pairs root) ≡ 0 → c ≡ get_or cs 0 c → children_of root ≡ c ∷ []
+  only_one root cs c e formed h f = children_in root cs e ∙ single cs c (inner_length root cs e (inner_opened root cs e formed) ∙ ap (λ k. k + 1) h) f
     where
-      single : (bs : List (Node K V)) (b : Node K V) → length bs ≡ 1 → b ≡ get_or bs 0 b → bs ≡ b ∷ []
-      single [] b e f = absurd (omega arith)
-      single (x ∷ []) b e f = ap (λ y. y ∷ []) (sym f)
-      single (x ∷ y ∷ bs) b e f = absurd (omega arith)
+      single : (cs : List (Node K V)) (c : Node K V) → length cs ≡ 1 → c ≡ get_or cs 0 c → cs ≡ c ∷ []
+      single [] c e f = absurd (omega arith)
+      single (x ∷ []) c e f = ap (λ y. y ∷ []) (sym f)
+      single (x ∷ y ∷ cs) c e f = absurd (omega arith)
 
   no_pairs : (xs : List (K × V)) → length xs ≡ 0 → xs ≡ []
   no_pairs [] e = refl
@@ -114,11 +131,13 @@ module _ {K V : Type 0} where
       sym (pairs_is root ∙ ap (λ ps. weave (map pairs_of (children_of root)) ps) (no_pairs (own_pairs root) h) ∙ ap (λ cs. weave (map pairs_of cs) []) e ∙ append-nil (pairs_of c))
 
   -- what takes the place of a root without pairs holds the same
-  pub heir_pairs : (heir : Option (Node K V)) (root : Node K V) → length (own_pairs root) ≡ 0 → MatchOption heir (IsLeaf root) (λ c. children_of root ≡ c ∷ []) → entries heir ≡ pairs_of root
+  pub heir_pairs : (heir : Option (Node K V)) (root : Node K V) → length (own_pairs root) ≡ 0
+      → MatchOption heir (IsLeaf root) (λ c. children_of root ≡ c ∷ []) → entries heir ≡ pairs_of root
   heir_pairs None root h l = sym (leaf_pairs root l ∙ no_pairs (own_pairs root) h)
   heir_pairs (Some c) root h e = only_pairs root c h e
 
-  pub heir_levels : (heir : Option (Node K V)) (h : ℕ) (root : Node K V) → MatchOption heir (IsLeaf root) (λ c. children_of root ≡ c ∷ []) → IsLevelled h root → IsSoundWithin h heir
+  pub heir_levels : (heir : Option (Node K V)) (h : ℕ) (root : Node K V)
+      → MatchOption heir (IsLeaf root) (λ c. children_of root ≡ c ∷ []) → IsLevelled h root → IsSoundWithin h heir
   heir_levels None h root e l = tt
   heir_levels (Some c) zero root e l = absurd (let z : length (children_of root) ≡ 0 = ap length (leaf_children root l.1) in let o : length (children_of root) ≡ 1 = ap length e in omega arith)
   heir_levels (Some c) (suc h) root e l =

@@ -1,5 +1,5 @@
 -- A node whose child on the border is stocked up from its sibling, or merged with it.
-use Rattle.std.proofs.Common.{◌≡◌, ℕ, suc, ◌+◌, ◌-◌, ◌<◌, ◌≤◌, List, [], ◌∷◌, ◌++◌, length, get_or, take, drop, sym, ap, subst, ◌∙◌, arith, length-append, append_assoc}
+use Rattle.std.proofs.Common.{◌≡◌, ℕ, suc, ◌+◌, ◌-◌, ◌<◌, ◌≤◌, List, [], ◌∷◌, ◌++◌, length, get_or, take, drop, refl, sym, ap, subst, ◌∙◌, arith, length-append, append_assoc}
 use Rattle.std.specs.List.{AllByRecursion}
 use Rattle.std.proofs.lemmas.List.Edits.{length-remove}
 use Rattle.fc_base.specs.Sizes.{capacity, min_len}
@@ -35,6 +35,7 @@ module _ {K V : Type 0} where
 
   -- the border and its sibling, among sound nodes
   pub record IsPairAt (s : Border) (h : ℕ) (n : Node K V) (j : ℕ) : Type 0 where
+    pub place : j ≡ pair_place s n
     pub in_bounds : j < length (own_pairs n)
     pub fits : length (own_pairs n) ≤ capacity
     pub inner : IsInner n
@@ -49,7 +50,8 @@ module _ {K V : Type 0} where
       let k : length (children_of n) ≡ length (own_pairs n) + 1 = b.1 in
       let t = subst (FirstThen (IsLeftBordered h) (IsSound h)) (two_at (children_of n) 0 n (omega arith)) b.2 in
       let m = t.1.0.0 in
-      subst (λ i. IsPairAt Left h n i) (sym e) (record { in_bounds = some; fits = b.0; inner = b.1; before = tt; left = t.0; right = t.1.0.1; after = t.1.1; many = omega arith })
+      subst (λ i. IsPairAt Left h n i) (sym e)
+      (record { place = refl; in_bounds = some; fits = b.0; inner = b.1; before = tt; left = t.0; right = t.1.0.1; after = t.1.1; many = omega arith })
   pair_opened Right h n j some b e =
       let k : length (children_of n) ≡ length (own_pairs n) + 1 = b.1 in
       let D = drop (suc (suc j)) (children_of n) in
@@ -60,7 +62,17 @@ module _ {K V : Type 0} where
       let parts = last_split (IsRightBordered h) (IsSound h) (take j (children_of n)) (child_at n j ∷ R ∷ D) (omega arith) (subst (LastAfter (IsRightBordered h) (IsSound h)) two b.2) in
       let ends = last_two h (child_at n j) R D (omega arith) parts.1 in
       let m = ends.0.0 in
-      record { in_bounds = omega arith; fits = b.0; inner = b.1; before = parts.0; left = ends.0.1; right = ends.1; after = ends.2; many = omega arith }
+      record {
+        place = e;
+        in_bounds = omega arith;
+        fits = b.0;
+        inner = b.1;
+        before = parts.0;
+        left = ends.0.1;
+        right = ends.1;
+        after = ends.2;
+        many = omega arith;
+      }
     where
       last_two : (h : ℕ) (l r : Node K V) (D : List (Node K V)) → length D ≡ 0 → LastAfter (IsRightBordered h) (IsSound h) (l ∷ r ∷ D) → IsSound h l × IsRightBordered h r × AllByRecursion (IsSound h) D
       last_two h l r [] z a = (a.0, a.1, tt)
@@ -73,8 +85,9 @@ module _ {K V : Type 0} where
   merged_place Left old new j e some o = e
   merged_place Right old new j e some o = omega arith
 
-  pub merged_stocked : (s : Border) (h : ℕ) (old new : Node K V) (j : ℕ) → j ≡ pair_place s old → IsPairAt s h old j → both_of old j < capacity → IsMerged j old new → IsStocked s h old new
-  merged_stocked s h old new j e p room m =
+  pub merged_stocked : (s : Border) (h : ℕ) (old new : Node K V) (j : ℕ) → IsPairAt s h old j
+      → both_of old j < capacity → IsMerged j old new → IsStocked s h old new
+  merged_stocked s h old new j p room m =
       let lt = p.in_bounds in
       let many = p.many in
       let fits = p.fits in
@@ -83,7 +96,7 @@ module _ {K V : Type 0} where
       let o : length (own_pairs new) + 1 ≡ length (own_pairs old) = ap (λ ps. length ps + 1) m.pairs ∙ length-remove (own_pairs old) j p.in_bounds in
       let w = ap length (m.own d) ∙ length-append (own_pairs (child_at old j)) (get_or (own_pairs old) j d ∷ own_pairs (child_at old (j + 1))) in
       let there = m.children ∙ set_removed (children_of old) j m.whole (omega arith) in
-      let place = merged_place s old new j e (omega arith) o in
+      let place = merged_place s old new j p.place (omega arith) o in
       let front : length (take j (children_of old)) ≡ border_place s new = length_take j (children_of old) (omega arith) ∙ place in
       let c = ap (λ n. length (own_pairs n)) (child_here new m.whole _ _ _ there front) in (
         border_closed s h new m.whole _ _ (omega arith) (merged_inner old j p.inner p.in_bounds new m) there front p.before (side_whole s h _ _ _ p.left p.right m.below m.alike (omega arith)) p.after,
@@ -119,25 +132,27 @@ module _ {K V : Type 0} where
         sides = side_both s h _ _ m.left m.right p.left p.right m.below m.alike_before m.alike (omega arith) (omega arith);
       }
 
-  pub shared_stocked : (s : Border) (h : ℕ) (old new : Node K V) (j : ℕ) → j ≡ pair_place s old → IsPairAt s h old j → capacity ≤ both_of old j → both_of old j ≤ capacity + (min_len + 1) → (k : ℕ) → k ≡ left_share s (both_of old j) → IsShared j k old new → IsStocked s h old new
-  shared_stocked Left h old new j e p lo hi n w m =
+  pub shared_stocked : (s : Border) (h : ℕ) (old new : Node K V) (j : ℕ) → IsPairAt s h old j → capacity ≤ both_of old j
+      → both_of old j ≤ capacity + (min_len + 1) → (k : ℕ) → k ≡ left_share s (both_of old j) → IsShared j k old new → IsStocked s h old new
+  shared_stocked Left h old new j p lo hi n w m =
       let t = traded Left h old new j p lo hi n w m in
       let lt = p.in_bounds in
       let z = m.size in
-      let front : length (take j (children_of old)) ≡ 0 = length_take j (children_of old) (omega arith) ∙ e in
+      let front : length (take j (children_of old)) ≡ 0 = length_take j (children_of old) (omega arith) ∙ p.place in
       let c = ap (λ n. length (own_pairs n)) (child_here new m.left _ _ 0 t.there front) in
       let size = t.sizes in (
         border_closed Left h new m.left _ _ t.fits (shared_inner old j p.inner p.in_bounds _ new m) t.there front p.before t.sides.0 ((omega arith, t.sides.1), p.after),
         omega arith,
         t.same,
       )
-  shared_stocked Right h old new j e p lo hi n w m =
+  shared_stocked Right h old new j p lo hi n w m =
       let t = traded Right h old new j p lo hi n w m in
       let lt = p.in_bounds in
       let z = m.size in
       let A = take j (children_of old) in
       let o = t.own in
       let there = t.there ∙ sym (append_assoc A (m.left ∷ []) (m.right ∷ drop (suc (suc j)) (children_of old))) in
+      let e = p.place in
       let a = length_take j (children_of old) (omega arith) in
       let b = length-append A (m.left ∷ []) in
       let front : length (A ++ m.left ∷ []) ≡ length (own_pairs new) = omega arith in

@@ -1,12 +1,11 @@
 -- How high nodes are of which some hold few pairs.
-use Rattle.std.proofs.Common.{◌≡◌, ℕ, suc, zero, ◌+◌, ◌<◌, ◌≤◌, List, [], ◌∷◌, length, get_or, map, take, refl, sym, ap, subst, ◌∙◌, arith, inl, inr, Some, None}
+use Rattle.std.proofs.Common.{◌≡◌, ℕ, suc, zero, ◌+◌, ◌<◌, ◌≤◌, List, [], ◌∷◌, length, get_or, map, take, refl, sym, ap, subst, ◌∙◌, arith, inl, inr, Some}
 use Rattle.std.specs.List.{AllByRecursion, remove}
 use Rattle.std.proofs.lemmas.List.Edits.{length-remove}
-use Rattle.fc_base.specs.Sizes.{capacity, min_len, most_height}
+use Rattle.fc_base.specs.Sizes.{capacity, min_len}
 use Rattle.fc_tree_node.specs.declared.node.Node.{Node, out-Node}
 use Rattle.fc_tree_node.specs.Node.{own_pairs, children_of, child_at, IsLeaf, IsInner, IsLevelled, IsSound}
 use Rattle.fc_tree_node.specs.Siblings.{AreAlike, IsFormed}
-use Rattle.fc_tree_node.specs.Tree.{Map, IsSoundWithin, IsSoundMap}
 use Rattle.fc_tree_node.proofs.Formed.{leaf_or_inner}
 use Rattle.fc_tree_node.proofs.Pairs.{leaf_children}
 use Rattle.fc_tree_node.proofs.Lists.{all_at}
@@ -55,10 +54,6 @@ module _ {K V : Type 0} where
   loose_above zero n f l = absurd (f l.1)
   loose_above (suc h) n f l = record { below = h; height = refl; levels = l }
 
-  pub loose_leaf : (h : ℕ) (n : Node K V) → IsLeaf n → IsLoose h n → h ≡ 0
-  loose_leaf zero n e l = refl
-  loose_leaf (suc h) n e l = absurd (leaf_or_inner n e l.1)
-
   pub loose_child : (h : ℕ) (n : Node K V) (i : ℕ) → IsLoose (suc h) n → i ≤ length (own_pairs n) → IsLoose h (child_at n i)
   loose_child h n i l le = let k : length (children_of n) ≡ length (own_pairs n) + 1 = l.1 in all_at (IsLoose h) (children_of n) i n (omega arith) l.2
 
@@ -105,8 +100,8 @@ module _ {K V : Type 0} where
     pub loose : IsLoose below d
     pub falls : height_of d < h
 
-  pub lent : (h : ℕ) (n : Node K V) (cs : List (Node K V)) (i : ℕ) (d : Node K V) → (out-Node K V n).children ≡ Some cs → IsInner n → IsLoose h n → i ≤ length (own_pairs n)
-      → d ≡ get_or cs i d → IsLent h n d i
+  pub lent : (h : ℕ) (n : Node K V) (cs : List (Node K V)) (i : ℕ) (d : Node K V) → (out-Node K V n).children ≡ Some cs → IsInner n
+      → IsLoose h n → i ≤ length (own_pairs n) → d ≡ get_or cs i d → IsLent h n d i
   lent zero n cs i d e inner l le q = absurd (leaf_or_inner n l.1 inner)
   lent (suc h) n cs i d e inner l le q =
       let is = opened_child n cs i d e inner le q in
@@ -117,10 +112,6 @@ module _ {K V : Type 0} where
   pub inner_above : (h : ℕ) (n : Node K V) → IsInner n → IsLoose h n → IsAbove h n
   inner_above zero n i l = absurd (leaf_or_inner n l.1 i)
   inner_above (suc h) n i l = record { below = h; height = refl; levels = l }
-
-  pub leaf_thin : (h : ℕ) (n : Node K V) → IsLeaf n → IsLoose h n → IsThin h n
-  leaf_thin zero n e l = l
-  leaf_thin (suc h) n e l = absurd (leaf_or_inner n e l.1)
 
   pub thin_levelled : (h : ℕ) (n : Node K V) → 1 ≤ length (own_pairs n) → IsThin h n → IsLevelled h n
   thin_levelled zero n some t = t
@@ -137,7 +128,3 @@ module _ {K V : Type 0} where
   thin_heir zero n c e z t = absurd (let x : length (children_of n) ≡ 0 = ap length (leaf_children n t.1) in let y = ap length e in omega arith)
   thin_heir (suc h) n c e z (f, i, inl a) = record { below = h; height = refl; thin = levelled_thin h c (subst (AllByRecursion (IsSound h)) e a).0.1 }
   thin_heir (suc h) n c e z (f, i, inr t) = record { below = h; height = refl; thin = subst (IsThin h) (ap (λ cs. get_or cs 0 n) e) t.1 }
-
-pub within_map : {K V : Type 0} (h : ℕ) (m : Map K V) → h ≤ most_height → IsSoundWithin h m → IsSoundMap m
-within_map h None le w = tt
-within_map h (Some n) le w = let g = w.1 in (w.0, omega arith, w.2)

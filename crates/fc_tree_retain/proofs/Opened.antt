@@ -6,7 +6,7 @@ use Rattle.fc_tree_node.specs.declared.node.Node.{Node}
 use Rattle.fc_tree_node.specs.Node.{own_pairs, children_of, child_at, pairs_of, IsInner}
 use Rattle.fc_tree_node.specs.Place.{before_child, after_child}
 use Rattle.fc_tree_node.proofs.Lists.{length_take, take_drop}
-use Rattle.fc_tree_node.proofs.Siblings.{one_at, two_at, around_one}
+use Rattle.fc_tree_node.proofs.Siblings.{one_at, two_at}
 use Rattle.fc_tree_retain.proofs.Lists.{at_place, take_place, drop_place}
 
 module _ {X : Type 0} where
@@ -37,9 +37,6 @@ module _ {K V : Type 0} where
     open_after =
         ap (λ ps. after_list ps (map pairs_of (drop (suc i) (children_of n)))) (ap (drop i) o.own ∙ drop_place P Q i o.own_before)
         ∙ ap (λ cs. after_list Q (map pairs_of cs)) (ap (drop (suc i)) (o.children ∙ sym (append_assoc A (c ∷ []) D)) ∙ drop_place (A ++ c ∷ []) D (suc i) (length-append A (c ∷ []) ∙ (let b = o.before in omega arith)))
-
-    pub open_pairs : pairs_of n ≡ before_list (map pairs_of A) P ++ (pairs_of c ++ after_list Q (map pairs_of D))
-    open_pairs = around_one n c A D P Q o.children o.own (o.before ∙ sym o.own_before)
 
     pub open_inner : length D ≡ length Q → IsInner n
     open_inner e =

@@ -99,33 +99,71 @@ module _ {K V : Type 0} where
         levels = λ h l b. let f = l.0 in (omega arith, omega arith, subst (AllByRecursion (IsLoose h)) (sym m.child) (all_set (IsLoose h) (children_of old) i c l.2 b));
       }
 
+  -- a node with another value, and another child before it
+  pub record IsTurned (old mid : Node K V) (i : ℕ) (w : V) (c : Node K V) : Type 0 where
+    pub own : own_pairs mid ≡ set_value (own_pairs old) i w
+    pub size : length (own_pairs mid) ≡ length (own_pairs old)
+    pub children : children_of mid ≡ slice_set (children_of old) i c
+    pub inner : IsInner mid
+
+  pub turned : (old new mid : Node K V) (i : ℕ) (w : V) (c : Node K V) → IsInner old → i < length (own_pairs old) → IsWritten old new i w
+      → IsChildSet new mid i c → IsTurned old mid i w c
+  turned old new mid i w c inner lt n m =
+      let z = n.size in
+      record {
+        own = m.same ∙ n.own;
+        size = ap length m.same ∙ n.size;
+        children = m.child ∙ ap (λ cs. slice_set cs i c) n.children;
+        inner = (child_left new mid c i (n.inner inner) (omega arith) m).inner;
+      }
+
   pub child_loose : (h : ℕ) (old mid d c : Node K V) (i : ℕ) → IsInner old → i ≤ length (own_pairs old) → d ≡ child_at old i → IsChildSet old mid i c → ((g : ℕ) → IsLoose g d → IsLoose g c) → IsLoose h old → IsLoose h mid
   child_loose zero old mid d c i inner le is m lo l = absurd (leaf_or_inner old l.1 inner)
   child_loose (suc h) old mid d c i inner le is m lo l = (child_left old mid c i inner le m).levels h l (lo h (subst (IsLoose h) (sym is) (loose_child h old i l le)))
 
   -- a node's pairs around a child
-  pub last_pairs : (n : Node K V) (i : ℕ) → IsInner n → i ≡ length (own_pairs n) → pairs_of n ≡ before_child n i ++ pairs_of (child_at n i)
-  last_pairs n i inner e = inner_gap n i inner (omega arith) ∙ ap (λ zs. before_child n i ++ (pairs_of (child_at n i) ++ zs)) (after_none n i (omega arith)) ∙ ap (λ zs. before_child n i ++ zs) (append-nil (pairs_of (child_at n i)))
+  last_pairs : (n : Node K V) (i : ℕ) → IsInner n → i ≡ length (own_pairs n) → pairs_of n ≡ before_child n i ++ pairs_of (child_at n i)
+  last_pairs n i inner e =
+      inner_gap n i inner (omega arith) ∙ ap (λ zs. before_child n i ++ (pairs_of (child_at n i) ++ zs)) (after_none n i (omega arith))
+      ∙ ap (λ zs. before_child n i ++ zs) (append-nil (pairs_of (child_at n i)))
 
-  -- the last pair below a node taken out of its last child
-  pub last_below : (old mid d c : Node K V) (i : ℕ) (r : Option (K × V)) → IsInner old → i ≡ length (own_pairs old) → IsChildSet old mid i c → d ≡ child_at old i → pairs_of d ≡ pairs_of c ++ option_to_list r → pairs_of old ≡ pairs_of mid ++ option_to_list r
-  last_below old mid d c i r inner e m is p =
-      let l = child_left old mid c i inner (omega arith) m in
-      let o : length (own_pairs mid) ≡ length (own_pairs old) = ap length m.same in
-      last_pairs old i inner e ∙ ap (λ n. before_child old i ++ pairs_of n) (sym is) ∙ ap (λ zs. before_child old i ++ zs) p ∙ sym (append_assoc (before_child old i) (pairs_of c) (option_to_list r))
-      ∙ ap (λ zs. zs ++ option_to_list r) (ap (λ zs. zs ++ pairs_of c) (sym l.before) ∙ ap (λ n. before_child mid i ++ pairs_of n) (sym l.child) ∙ sym (last_pairs mid i l.inner (omega arith)))
+  -- a node whose last child became another
+  pub record IsLastLent (old mid d c : Node K V) (i : ℕ) : Type 0 where
+    pub inner : IsInner old
+    pub last : i ≡ length (own_pairs old)
+    pub is : d ≡ child_at old i
+    pub set : IsChildSet old mid i c
 
-  pub none_below : (old mid c : Node K V) (i : ℕ) → IsInner old → i ≡ length (own_pairs old) → i ≡ 0 → IsChildSet old mid i c → pairs_of c ≡ [] → pairs_of mid ≡ []
-  none_below old mid c i inner e z m p =
-      let l = child_left old mid c i inner (omega arith) m in
-      let o : length (own_pairs mid) ≡ length (own_pairs old) = ap length m.same in
-      last_pairs mid i l.inner (omega arith) ∙ ap (λ n. before_child mid i ++ pairs_of n) l.child ∙ ap (λ zs. before_child mid i ++ zs) p ∙ append-nil (before_child mid i) ∙ ap (before_child mid) z
+  pub last_left : (old mid d c : Node K V) (i : ℕ) → IsLastLent old mid d c i → IsChildLeft old mid c i
+  last_left old mid d c i l = let e = l.last in child_left old mid c i l.inner (omega arith) l.set
 
-  pub empty_last : (old mid c : Node K V) (i : ℕ) → IsInner old → i ≡ length (own_pairs old) → IsChildSet old mid i c → pairs_of c ≡ [] → pairs_of (child_at mid (length (own_pairs mid))) ≡ []
-  empty_last old mid c i inner e m p =
-      let l = child_left old mid c i inner (omega arith) m in
-      let o : length (own_pairs mid) ≡ i = ap length m.same ∙ sym e in
-      ap (λ j. pairs_of (child_at mid j)) o ∙ ap pairs_of l.child ∙ p
+  -- the node's last pair taken out of its last child
+  pub last_below : (old mid d c : Node K V) (i : ℕ) (r : Option (K × V)) → IsLastLent old mid d c i → pairs_of d ≡ pairs_of c ++ option_to_list r
+      → pairs_of old ≡ pairs_of mid ++ option_to_list r
+  last_below old mid d c i r l p =
+      let e = l.last in
+      let m = last_left old mid d c i l in
+      let o : length (own_pairs mid) ≡ length (own_pairs old) = ap length m.own in
+      last_pairs old i l.inner e ∙ ap (λ n. before_child old i ++ pairs_of n) (sym l.is) ∙ ap (λ zs. before_child old i ++ zs) p
+      ∙ sym (append_assoc (before_child old i) (pairs_of c) (option_to_list r)) ∙ ap (λ zs. (zs ++ pairs_of c) ++ option_to_list r) (sym m.before)
+      ∙ ap (λ n. (before_child mid i ++ pairs_of n) ++ option_to_list r) (sym m.child)
+      ∙ ap (λ zs. zs ++ option_to_list r) (sym (last_pairs mid i m.inner (omega arith)))
+
+  pub none_below : (old mid d c : Node K V) (i : ℕ) → IsLastLent old mid d c i → i ≡ 0 → pairs_of c ≡ [] → pairs_of mid ≡ []
+  none_below old mid d c i l z p =
+      let e = l.last in
+      let m = last_left old mid d c i l in
+      let o : length (own_pairs mid) ≡ length (own_pairs old) = ap length m.own in
+      last_pairs mid i m.inner (omega arith) ∙ ap (λ n. before_child mid i ++ pairs_of n) m.child ∙ ap (λ zs. before_child mid i ++ zs) p
+      ∙ append-nil (before_child mid i) ∙ ap (before_child mid) z
+
+  pub empty_last : (old mid d c : Node K V) (i : ℕ) → IsLastLent old mid d c i → pairs_of c ≡ [] → pairs_of (child_at mid (length (own_pairs mid))) ≡ []
+  empty_last old mid d c i l p =
+      let m = last_left old mid d c i l in
+      ap (λ j. pairs_of (child_at mid j)) (ap length m.own ∙ sym l.last) ∙ ap pairs_of m.child ∙ p
+
+  pub last_loose : (h : ℕ) (old mid d c : Node K V) (i : ℕ) → IsLastLent old mid d c i → ((g : ℕ) → IsLoose g d → IsLoose g c) → IsLoose h old → IsLoose h mid
+  last_loose h old mid d c i l lo b = let e = l.last in child_loose h old mid d c i l.inner (omega arith) l.is l.set lo b
 
   -- the own last pair, and an empty child behind it
   pub record IsEndOff (old new : Node K V) (x : K × V) : Type 0 where
@@ -304,21 +342,26 @@ module _ {S K V : Type 0} (R : S → K × V → S → V → Bool → Type 0) whe
         (λ h x a. all_both (IsLoose h) A (c ∷ []) a (x, tt))
 
     -- another pair takes its place
-    pub passed_moved : (w : V) (mid c' : Node K V) (p : K × V) → R s e t w false → own_pairs mid ≡ set_value (own_pairs old) i w → children_of mid ≡ slice_set (children_of old) i c' → own_pairs new ≡ slice_set (own_pairs mid) i p → children_of new ≡ children_of mid
-        → pairs_of c ≡ pairs_of c' ++ p ∷ [] → ((h : ℕ) → IsLoose h c → IsLoose h c') → IsPassed R s t i (i + 1) old new
-    passed_moved w mid c' p r mo mc so sc pe lo =
-        let f : own_pairs new ≡ P ++ p ∷ Q = so ∙ ap (λ xs. slice_set xs i p) (mo ∙ ap (λ xs. set_value xs i w) there.own ∙ value_place P Q e w i there.own_before) ∙ set_place P Q (e.0, w) p i there.own_before in
-        let g : children_of new ≡ A ++ c' ∷ d ∷ D = sc ∙ mc ∙ ap (λ xs. slice_set xs i c') there.children ∙ set_place A (d ∷ D) c c' i there.before in
+    pub passed_moved : (w : V) (mid c' : Node K V) (p : K × V) → R s e t w false → IsTurned old mid i w c'
+        → own_pairs new ≡ slice_set (own_pairs mid) i p → children_of new ≡ children_of mid → pairs_of c ≡ pairs_of c' ++ p ∷ []
+        → ((h : ℕ) → IsLoose h c → IsLoose h c') → IsPassed R s t i (i + 1) old new
+    passed_moved w mid c' p r m so sc pe lo =
+        let v = m.own ∙ ap (λ xs. set_value xs i w) there.own ∙ value_place P Q e w i there.own_before in
+        let f : own_pairs new ≡ P ++ p ∷ Q = so ∙ ap (λ xs. slice_set xs i p) v ∙ set_place P Q (e.0, w) p i there.own_before in
+        let g : children_of new ≡ A ++ c' ∷ d ∷ D = sc ∙ m.children ∙ ap (λ xs. slice_set xs i c') there.children ∙ set_place A (d ∷ D) c c' i there.before in
         let o : IsOpenAt new i A c' (d ∷ D) P (p ∷ Q) = record { children = g; own = f; before = there.before; own_before = there.own_before } in
         passed (i + 1) (A ++ c' ∷ []) (P ++ p ∷ []) [] (open_next new i A c' (d ∷ D) P (p ∷ Q) o p Q d D refl refl) (retains_one R e s t w false r)
         (before_next A c' P p same_length ∙ ap (λ zs. before_list (map pairs_of A) P ++ zs) (sym pe ∙ sym (append-nil (pairs_of c)))) (omega arith)
         (λ h x a. all_both (IsLoose h) A (c' ∷ []) a (lo h x, tt))
 
     -- a child without pairs goes with it
-    pub passed_gone : (w : V) (mid c' : Node K V) → R s e t w false → own_pairs mid ≡ set_value (own_pairs old) i w → children_of mid ≡ slice_set (children_of old) i c' → own_pairs new ≡ remove (own_pairs mid) i → children_of new ≡ remove (children_of mid) i → pairs_of c ≡ [] → IsPassed R s t i i old new
-    passed_gone w mid c' r mo mc so sc pe =
-        let f : own_pairs new ≡ P ++ Q = so ∙ ap (λ xs. remove xs i) (mo ∙ ap (λ xs. set_value xs i w) there.own ∙ value_place P Q e w i there.own_before) ∙ remove_place P Q (e.0, w) i there.own_before in
-        let g : children_of new ≡ A ++ d ∷ D = sc ∙ ap (λ xs. remove xs i) (mc ∙ ap (λ xs. slice_set xs i c') there.children ∙ set_place A (d ∷ D) c c' i there.before) ∙ remove_place A (d ∷ D) c' i there.before in
+    pub passed_gone : (w : V) (mid c' : Node K V) → R s e t w false → IsTurned old mid i w c'
+        → own_pairs new ≡ remove (own_pairs mid) i → children_of new ≡ remove (children_of mid) i → pairs_of c ≡ [] → IsPassed R s t i i old new
+    passed_gone w mid c' r m so sc pe =
+        let v = m.own ∙ ap (λ xs. set_value xs i w) there.own ∙ value_place P Q e w i there.own_before in
+        let f : own_pairs new ≡ P ++ Q = so ∙ ap (λ xs. remove xs i) v ∙ remove_place P Q (e.0, w) i there.own_before in
+        let l = m.children ∙ ap (λ xs. slice_set xs i c') there.children ∙ set_place A (d ∷ D) c c' i there.before in
+        let g : children_of new ≡ A ++ d ∷ D = sc ∙ ap (λ xs. remove xs i) l ∙ remove_place A (d ∷ D) c' i there.before in
         let o : IsOpenAt new i A d D P Q = record { children = g; own = f; before = there.before; own_before = there.own_before } in
         passed i A P [] o (retains_one R e s t w false r) (sym (append-nil (before_list (map pairs_of A) P)) ∙ ap (λ zs. before_list (map pairs_of A) P ++ zs) (sym (ap (λ zs. zs ++ []) pe))) (omega arith) (λ h x a. a)
 

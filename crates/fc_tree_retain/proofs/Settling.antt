@@ -1,18 +1,17 @@
 -- A node of which two children were mended, and one of which all were.
-use Rattle.std.proofs.Common.{◌≡◌, ℕ, suc, zero, ◌+◌, ◌<◌, ◌≤◌, List, [], ◌∷◌, ◌++◌, length, get_or, take, drop, refl, sym, ap, subst, ◌∙◌, arith, append_assoc, inl, inr}
+use Rattle.std.proofs.Common.{◌≡◌, ℕ, suc, zero, ◌+◌, ◌<◌, ◌≤◌, List, [], ◌∷◌, ◌++◌, length, get_or, take, drop, refl, sym, ap, subst, ◌∙◌, arith, append_assoc, inl, inr, Some}
 use Rattle.std.specs.Prelude.{◌⊎◌, slice_set}
 use Rattle.std.specs.List.{AllByRecursion}
 use Rattle.std.proofs.lemmas.List.{length-append, length-drop}
 use Rattle.fc_base.specs.Sizes.{capacity, min_len}
-use Rattle.fc_tree_node.specs.declared.node.Node.{Node}
+use Rattle.fc_tree_node.specs.declared.node.Node.{Node, out-Node}
 use Rattle.fc_tree_node.specs.Node.{own_pairs, children_of, child_at, pairs_of, IsLeaf, IsInner, IsSound}
-use Rattle.fc_tree_node.proofs.Formed.{leaf_or_inner}
 use Rattle.fc_tree_node.proofs.Lists.{length_take, length_set, all_both}
 use Rattle.fc_tree_node.proofs.Gaps.{drop_all}
 use Rattle.fc_tree_node.proofs.Siblings.{one_at, two_at}
 use Rattle.fc_tree_node.proofs.Made.{IsChildSet}
 use Rattle.fc_tree_border.proofs.Mended.{mended_pairs}
-use Rattle.fc_tree_removal.proofs.Removed.{drop_set, at_set}
+use Rattle.fc_tree_removal.proofs.Removed.{drop_set, at_set, opened_child}
 use Rattle.fc_tree_retain.specs.Loose.{IsLoose}
 use Rattle.fc_tree_retain.specs.Mending.{IsThin, IsSeam, IsMet, IsSettled, IsJoined, together}
 use Rattle.fc_tree_retain.proofs.Lists.{at_place, take_place, drop_place, set_place}
@@ -30,12 +29,12 @@ module _ {K V : Type 0} where
   around cs i lt = let d = length-drop (suc (suc i)) cs in (length_take i cs (omega arith), omega arith)
 
   -- the child where the children of two meet
-  pub record IsMetChild (h place seam : ℕ) (mid : Node K V) : Type 0 where
+  record IsMetChild (h place seam : ℕ) (mid : Node K V) : Type 0 where
     pub bounds : place < length (children_of mid)
     pub inner : IsInner mid
     pub met : IsMet h seam (child_at mid place)
 
-  pub met_child : (h i place seam last : ℕ) (old mid : Node K V) → IsSeam h old i → IsJoined h i place seam last old mid → IsMetChild h place seam mid
+  met_child : (h i place seam last : ℕ) (old mid : Node K V) → IsSeam h old i → IsJoined h i place seam last old mid → IsMetChild h place seam mid
   met_child h i place seam last old mid s (inl (p, q, m)) =
       let k : length (children_of old) ≡ length (own_pairs old) + 1 = s.inner in
       let lt = s.in_bounds in
@@ -73,23 +72,38 @@ module _ {K V : Type 0} where
           subst (λ j. IsMetChild h j seam mid) (sym p) (record { bounds = omega arith; inner = m.inner; met = subst (IsMet h seam) (sym is) m.met })
 
   -- a child that is no leaf
-  pub record IsMetAbove (h seam : ℕ) (c : Node K V) : Type 0 where
+  record IsMetAbove (h seam : ℕ) (c : Node K V) : Type 0 where
     pub below : ℕ
     pub height : h ≡ suc below
     pub met : IsMet (suc below) seam c
 
-  pub met_above : (h seam : ℕ) (c : Node K V) → (IsLeaf c → ⊥) → IsMet h seam c → IsMetAbove h seam c
+  met_above : (h seam : ℕ) (c : Node K V) → (IsLeaf c → ⊥) → IsMet h seam c → IsMetAbove h seam c
   met_above zero seam c f m = absurd (f m.1)
   met_above (suc h) seam c f m = record { below = h; height = refl; met = m }
+
+  -- the child where they meet, lent out
+  pub record IsMetLent (h place seam : ℕ) (mid d : Node K V) : Type 0 where
+    pub bounds : place < length (children_of mid)
+    pub inner : IsInner mid
+    pub is : d ≡ child_at mid place
+    pub below : ℕ
+    pub height : h ≡ suc below
+    pub met : IsMet (suc below) seam d
+
+  pub met_lent : (h i place seam last : ℕ) (old mid d : Node K V) (cs : List (Node K V)) → IsSeam h old i → IsJoined h i place seam last old mid
+      → (IsLeaf (child_at mid place) → ⊥) → (out-Node K V mid).children ≡ Some cs → d ≡ get_or cs place d → IsMetLent h place seam mid d
+  met_lent h i place seam last old mid d cs s j up e q =
+      let x = met_child h i place seam last old mid s j in
+      let k : length (children_of mid) ≡ length (own_pairs mid) + 1 = x.inner in
+      let lt = x.bounds in
+      let a = met_above h seam (child_at mid place) up x.met in
+      let is = opened_child mid cs place d e x.inner (omega arith) q in
+      record { bounds = lt; inner = x.inner; is = is; below = a.below; height = a.height; met = subst (IsMet (suc a.below) seam) (sym is) a.met }
 
   -- once those that meet are settled, the child is whole but for how many pairs it has
   pub record IsMetLeft (h : ℕ) (c c' : Node K V) : Type 0 where
     pub thin : IsThin h c'
     pub kept : length (own_pairs c) ≤ length (own_pairs c') + 1
-
-  pub leaf_left : (h seam : ℕ) (c : Node K V) → IsLeaf c → IsMet h seam c → IsMetLeft h c c
-  leaf_left zero seam c e m = record { thin = m; kept = omega arith }
-  leaf_left (suc h) seam c e m = absurd (leaf_or_inner c e m.0.inner)
 
   pub met_left : (g seam j : ℕ) (c c' : Node K V) → IsMet (suc g) seam c → IsSettled g seam j c c' → IsMetLeft (suc g) c c'
   met_left g seam j c c' (s, after, one) (inl (q, o)) = go (length (own_pairs c')) refl

@@ -1,15 +1,21 @@
-use Rattle.std.proofs.Common.{◌<◌, length, rules, ap, sym, subst, arith}
+use Rattle.std.proofs.Common.{ℕ, ◌<◌, length, rules, ap, sym, subst, arith}
 use Rattle.fc_tree_node.specs.Node.{pairs_of, children_of, IsLevelled}
 use Rattle.fc_tree_border.proofs.Heights.{height_of}
-use Rattle.fc_tree_border.proofs.Counts.{counted, counted_all, next_child}
+use Rattle.fc_tree_border.proofs.Counts.{IsNext, counted, counted_all, next_child}
+use Rattle.fc_tree_border.proofs.counting.+count_pairs.Given as given
 use Rattle.fc_tree_border.proofs.counting.+count_pairs.Goals as goal
+use Rattle.fc_tree_border.proofs.counting.+count_pairs.Goals.{After-child}
+
+next : (g : given.Over) (t : ℕ) (c : After-child g t) → IsNext c.args.node.now c.loop-i.i
+next g t c =
+    let all = c.child_count-i-end.ensures.value in
+    let lt = c.loop-i-test.true in
+    next_child c.requires.levels.0 c.args.node.now c.loop-i.i c.requires.levels.1 (omega arith)
 
 pub count_pairs-total-requires : goal.count_pairs-total-requires
 count_pairs-total-requires g t c κs within =
     let n = c.args.node.now in
-    let all = c.child_count-i-end.ensures.value in
-    let lt = c.loop-i-test.true in
-    let r = next_child c.requires.levels.0 n c.loop-i.i c.requires.levels.1 (omega arith) in
+    let r = next g t (goal.at.count_pairs-total-requires g t c).After-child in
     let fits = r.fits in
     let more = r.more in
     let few = c.requires.fits in
@@ -21,10 +27,7 @@ count_pairs-total-requires g t c κs within =
 
 pub overflow_add-total : goal.overflow_add-total
 overflow_add-total g t c =
-    let n = c.args.node.now in
-    let all = c.child_count-i-end.ensures.value in
-    let lt = c.loop-i-test.true in
-    let r = next_child c.requires.levels.0 n c.loop-i.i c.requires.levels.1 (omega arith) in
+    let r = next g t (goal.at.overflow_add-total g t c).After-child in
     let fits = r.fits in
     let more = r.more in
     let few = c.requires.fits in
@@ -35,11 +38,7 @@ overflow_add-total g t c =
 
 pub loop-i-preserved : goal.loop-i-preserved
 loop-i-preserved g t c =
-    let n = c.args.node.now in
-    let all = c.child_count-i-end.ensures.value in
-    let lt = c.loop-i-test.true in
-    let r = next_child c.requires.levels.0 n c.loop-i.i c.requires.levels.1 (omega arith) in
-    let more = r.more in
+    let more = (next g t (goal.at.loop-i-preserved g t c).After-child).more in
     let p = ap (λ m. length (pairs_of m)) c.child.ensures in
     let e = c.count_pairs-total.ensures in
     let inv = c.loop-i.invariant in

@@ -18,4 +18,5 @@ try_border-requires g t c κs within =
 
 pub returns-clause-ok : goal.returns-clause-ok
 returns-clause-ok g t c h l =
-    blank_above h c.args.node.now c.adopt.new.self c.in_ok-below.below c.child.result.now (λ l. false≢true (c.if-is_leaf.ensures.1 l)) c.adopt.ensures.pairs c.adopt.ensures.children c.child.ensures c.in_ok-below.ensures.ok l
+    blank_above h c.args.node.now c.adopt.new.self c.in_ok-below.below c.child.result.now (λ l. false≢true (c.if-is_leaf.ensures.1 l))
+    c.adopt.ensures.pairs c.adopt.ensures.children c.child.ensures c.in_ok-below.ensures.ok l

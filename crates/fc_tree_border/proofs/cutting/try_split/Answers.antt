@@ -19,7 +19,7 @@ cut-left-requires-clause-border g c h l =
 
 pub returns-clause-pairs : goal.returns-clause-pairs
 returns-clause-pairs g c =
-    subst (λ o. IsCutInTwo c.args.path.now o c.cut-left.result.0 c.cut-left.result.1) (sym (sym c.take.ensures.value ∙ c.in-Some-take.is)) c.cut-left.ensures.pairs
+    subst (λ o. IsCutInTwo c.args.path.now o c.cut-left.result.0 c.cut-left.result.1) (sym c.in-Some-take.is ∙ c.take.ensures.value) c.cut-left.ensures.pairs
 
 pub returns-clause-sound : goal.returns-clause-sound
 returns-clause-sound g c =

@@ -1,5 +1,5 @@
-use Rattle.std.proofs.Common.{◌<◌, rules, arith}
-use Rattle.fc_tree_search.proofs.Nodes.{nodes_of, fewer_nodes}
+use Rattle.std.proofs.Common.{rules, arith}
+use Rattle.fc_tree_search.proofs.Nodes.{fewer_nodes}
 use Rattle.std.proofs.lemmas.Result.{err_from_is_err_and}
 use Rattle.fc_base.specs.Copies.{MayRefusePair}
 use Rattle.fc_tree_copy.specs.Copy.{AreSame}
@@ -8,26 +8,32 @@ use Rattle.fc_tree_copy.proofs.copy.+try_copy.Goals as goal
 
 pub try_copy-requires : goal.try_copy-requires
 try_copy-requires g t c κs within =
-    let fewer : nodes_of c.child.result.now < nodes_of c.args.node.now = fewer_nodes c.args.node.now c.child.result.now c.loop-i.i (omega (arith, c.loop-i.invariant.0)) c.child.ensures in
+    let fewer = fewer_nodes c.args.node.now c.child.result.now c.loop-i.i (omega (arith, c.loop-i.invariant.0)) c.child.ensures in
     (omega (arith, fewer, c.decreases), (search rules, (search rules, (search rules, search rules))))
 
 pub push_child-requires-clause-room : goal.push_child-requires-clause-room
 push_child-requires-clause-room g t c =
-    let many = children_copied (AreSame g.K.TryClone.same g.V.TryClone.same) c.loop-i.i c.args.node.now c.loop-i.copy c.loop-i.invariant.1 (omega (arith, c.loop-i.invariant.0)) in
-    omega (arith, many, c.loop-i.invariant.0, c.child_count-i-end.ensures.fits)
+    let i = c.loop-i.invariant in
+    let many = children_copied (AreSame g.K.TryClone.same g.V.TryClone.same) c.loop-i.i c.args.node.now c.loop-i.copy i.1 (omega (arith, i.0)) in
+    omega (arith, many, i.0, c.child_count-i-end.ensures.fits)
 
 pub push_child-requires-clause-inner : goal.push_child-requires-clause-inner
 push_child-requires-clause-inner g t c =
-    inner_copy (AreSame g.K.TryClone.same g.V.TryClone.same) c.loop-i.i c.args.node.now c.loop-i.copy c.loop-i.invariant.1 (omega (arith, c.loop-i.invariant.0))
+    let i = c.loop-i.invariant in
+    inner_copy (AreSame g.K.TryClone.same g.V.TryClone.same) c.loop-i.i c.args.node.now c.loop-i.copy i.1 (omega (arith, i.0))
 
 pub loop-i-preserved : goal.loop-i-preserved
 loop-i-preserved g t c =
+    let i = c.loop-i.invariant in
     let put = c.push_child.ensures in
-    (c.loop-i.invariant.0, child_copied (AreSame g.K.TryClone.same g.V.TryClone.same) c.loop-i.i c.args.node.now c.loop-i.copy c.loop-i.invariant.1 c.push_child.new.node c.child.result.now c.in_ok-child.child (omega (arith, c.loop-i.invariant.0)) c.child.ensures c.in_ok-child.ensures.copied put.own put.children put.inner)
+    let more = child_copied (AreSame g.K.TryClone.same g.V.TryClone.same) c.loop-i.i c.args.node.now c.loop-i.copy i.1 c.push_child.new.node
+    c.child.result.now c.in_ok-child.child (omega (arith, i.0)) c.child.ensures c.in_ok-child.ensures.copied put.own put.children put.inner in
+    (i.0, more)
 
 pub returns-clause-copied : goal.returns-clause-copied
 returns-clause-copied g t c =
-    tree_copied (AreSame g.K.TryClone.same g.V.TryClone.same) c.loop-i.i c.args.node.now c.loop-i.copy c.loop-i.invariant.1 (omega (arith, c.loop-i.invariant.0))
+    let i = c.loop-i.invariant in
+    tree_copied (AreSame g.K.TryClone.same g.V.TryClone.same) c.loop-i.i c.args.node.now c.loop-i.copy i.1 (omega (arith, i.0))
 
 pub returns-in_err-copy-clause-error : goal.returns-in_err-copy-clause-error
 returns-in_err-copy-clause-error g t c h l =
@@ -39,4 +45,6 @@ pub returns-in_err-child-clause-error : goal.returns-in_err-child-clause-error
 returns-in_err-child-clause-error g t c h l =
     let may = MayRefusePair g.K.TryClone.may_refuse g.V.TryClone.may_refuse in
     let p = err_from_is_err_and c.from_residual-in_err-child.result c.from_residual-in_err-child.ensures.1 in
-    rw (p.1, p.2) (refused_below may c.in_err-child.field-0.0 h c.args.node.now c.child.result.now c.loop-i.i l (omega (arith, c.loop-i.invariant.0)) c.child.ensures c.in_err-child.ensures.error)
+    let i = c.loop-i.invariant in
+    rw (p.1, p.2) (refused_below may c.in_err-child.field-0.0 h c.args.node.now c.child.result.now c.loop-i.i l (omega (arith, i.0)) c.child.ensures
+    c.in_err-child.ensures.error)

@@ -1,19 +1,31 @@
-use Rattle.std.proofs.Common.{◌≡◌, suc, ◌+◌, ◌-◌, ◌<◌, length, sym, subst, ◌∙◌, arith, rules}
+use Rattle.std.proofs.Common.{◌≡◌, ℕ, suc, ◌+◌, ◌-◌, ◌<◌, length, sym, subst, ◌∙◌, arith, rules}
 use Rattle.std.proofs.lemmas.Bool.{false≢true}
-use Rattle.fc_tree_node.specs.Node.{own_pairs, children_of}
+use Rattle.fc_tree_node.specs.Node.{own_pairs, children_of, child_at}
 use Rattle.fc_tree_node.proofs.Made.{child_set}
 use Rattle.fc_tree_removal.proofs.Removed.{opened_child}
 use Rattle.fc_tree_border.proofs.Heights.{height_of}
 use Rattle.fc_tree_retain.specs.Loose.{IsLoose}
 use Rattle.fc_tree_retain.specs.Mending.{IsThin}
-use Rattle.fc_tree_retain.proofs.Levels.{loose_above, loose_height}
+use Rattle.fc_tree_retain.proofs.Levels.{IsAbove, loose_above, loose_height}
 use Rattle.fc_tree_retain.proofs.Settling.{IsMending, mending_start, mending_more, mending_end, next_loose, next_mended}
+use Rattle.fc_tree_retain.proofs.mending.+mend.Given as given
 use Rattle.fc_tree_retain.proofs.mending.+mend.Goals as goal
+use Rattle.fc_tree_retain.proofs.mending.+mend.Goals.{Else-is_leaf, After-get_mut-in-loop}
+
+above : (g : given.Over) (t : ℕ) (c : Else-is_leaf g t) (h : ℕ) → IsLoose h c.args.node.now → IsAbove h c.args.node.now
+above g t c h l = loose_above h c.args.node.now (λ l. false≢true (c.if-is_leaf.ensures.1 l)) l
+
+lent : (g : given.Over) (t : ℕ) (c : After-get_mut-in-loop g t) → c.get_mut-in-loop.result.now ≡ child_at c.loop.node (c.loop.at + 1)
+lent g t c =
+    let at = c.loop.invariant in
+    let li = at.left_is in
+    let test = c.loop-test.true in
+    opened_child c.loop.node _ (c.loop.at + 1) _ c.content-in-loop.ensures.value at.inner (omega arith) c.get_mut-in-loop.ensures.value
 
 pub loop-init : goal.loop-init
 loop-init g t c =
     let n = c.args.node.now in
-    let a = loose_above _ n (λ l. false≢true (c.if-is_leaf.ensures.1 l)) c.requires.loose.1 in
+    let a = above g t (goal.at.loop-init g t c).Else-is_leaf _ c.requires.loose.1 in
     let k : length (children_of n) ≡ length (own_pairs n) + 1 = a.levels.1 in
     let is = opened_child n _ 0 _ c.content.ensures.value a.levels.1 (omega arith) c.get_mut.ensures.value in
     let m = child_set n _ 0 c.mend.new.node c.content.ensures.value in
@@ -23,7 +35,7 @@ loop-init g t c =
 
 pub overflow_add-at : goal.overflow_add-at
 overflow_add-at g t c =
-    let a = loose_above _ c.args.node.now (λ l. false≢true (c.if-is_leaf.ensures.1 l)) c.requires.loose.1 in
+    let a = above g t (goal.at.overflow_add-at g t c).Else-is_leaf _ c.requires.loose.1 in
     let at = c.loop.invariant in
     let li = at.left_is in
     let fits = (at.levels a.below a.levels).fits in
@@ -32,14 +44,13 @@ overflow_add-at g t c =
 pub mend-requires-in-loop : goal.mend-requires-in-loop
 mend-requires-in-loop g t c κs within =
     let n = c.args.node.now in
-    let a = loose_above _ n (λ l. false≢true (c.if-is_leaf.ensures.1 l)) c.requires.loose.1 in
+    let w = goal.at.mend-requires-in-loop g t c in
+    let a = above g t w.Else-is_leaf _ c.requires.loose.1 in
     let at = c.loop.invariant in
     let li = at.left_is in
     let test = c.loop-test.true in
-    let now = c.loop.node in
-    let k : length (children_of now) ≡ length (own_pairs now) + 1 = at.inner in
-    let is = opened_child now _ (c.loop.at + 1) _ c.content-in-loop.ensures.value at.inner (omega arith) c.get_mut-in-loop.ensures.value in
-    let b = subst (IsLoose a.below) (sym is) (next_loose a.below c.loop.at now at.inner (omega arith) (at.levels a.below a.levels)) in
+    let next = next_loose a.below c.loop.at c.loop.node at.inner (omega arith) (at.levels a.below a.levels) in
+    let b = subst (IsLoose a.below) (sym (lent g t w.After-get_mut-in-loop)) next in
     let x = loose_height (suc a.below) n a.levels in
     let y = loose_height a.below c.get_mut-in-loop.result.now b in
     let falls : height_of c.get_mut-in-loop.result.now < height_of n = omega arith in
@@ -47,27 +58,25 @@ mend-requires-in-loop g t c κs within =
 
 pub settle-at-requires : goal.settle-at-requires
 settle-at-requires g t c =
-    let n = c.args.node.now in
-    let a = loose_above _ n (λ l. false≢true (c.if-is_leaf.ensures.1 l)) c.requires.loose.1 in
+    let w = goal.at.settle-at-requires g t c in
+    let a = above g t w.Else-is_leaf _ c.requires.loose.1 in
     let at = c.loop.invariant in
     let li = at.left_is in
     let test = c.loop-test.true in
-    let now = c.loop.node in
-    let is = opened_child now _ (c.loop.at + 1) _ c.content-in-loop.ensures.value at.inner (omega arith) c.get_mut-in-loop.ensures.value in
-    let m = child_set now _ (c.loop.at + 1) c.mend-in-loop.new.node c.content-in-loop.ensures.value in
-    (a.below, (next_mended a.below c.loop.at now _ c.get_mut-in-loop.result.now c.mend-in-loop.new.node at.inner (omega arith) (at.levels a.below a.levels) is m c.mend-in-loop.ensures.levels).seam)
+    let m = child_set c.loop.node _ (c.loop.at + 1) c.mend-in-loop.new.node c.content-in-loop.ensures.value in
+    let next = next_mended a.below c.loop.at c.loop.node _ c.get_mut-in-loop.result.now c.mend-in-loop.new.node at.inner (omega arith)
+    (at.levels a.below a.levels) (lent g t w.After-get_mut-in-loop) m c.mend-in-loop.ensures.levels in
+    (a.below, next.seam)
 
 pub loop-preserved : goal.loop-preserved
 loop-preserved g t c =
-    let n = c.args.node.now in
-    let a = loose_above _ n (λ l. false≢true (c.if-is_leaf.ensures.1 l)) c.requires.loose.1 in
-    let at = c.loop.invariant in
-    let li = at.left_is in
+    let w = goal.at.loop-preserved g t c in
+    let a = above g t w.Else-is_leaf _ c.requires.loose.1 in
     let test = c.loop-test.true in
-    let now = c.loop.node in
-    let is = opened_child now _ (c.loop.at + 1) _ c.content-in-loop.ensures.value at.inner (omega arith) c.get_mut-in-loop.ensures.value in
-    let m = child_set now _ (c.loop.at + 1) c.mend-in-loop.new.node c.content-in-loop.ensures.value in
-    mending_more n now _ c.settle-at.new.node c.get_mut-in-loop.result.now c.mend-in-loop.new.node c.loop.at (c.len-end.result - c.loop.counter) (c.len-end.result - (c.loop.counter + 1)) c.settle-at.result a.below at (omega arith) a.levels is m c.mend-in-loop.ensures.pairs c.mend-in-loop.ensures.levels c.settle-at.ensures.pairs c.settle-at.ensures.settled
+    let m = child_set c.loop.node _ (c.loop.at + 1) c.mend-in-loop.new.node c.content-in-loop.ensures.value in
+    mending_more c.args.node.now c.loop.node _ c.settle-at.new.node c.get_mut-in-loop.result.now c.mend-in-loop.new.node c.loop.at
+    (c.len-end.result - c.loop.counter) (c.len-end.result - (c.loop.counter + 1)) c.settle-at.result a.below c.loop.invariant (omega arith) a.levels
+    (lent g t w.After-get_mut-in-loop) m c.mend-in-loop.ensures.pairs c.mend-in-loop.ensures.levels c.settle-at.ensures.pairs c.settle-at.ensures.settled
 
 pub returns-clause-pairs : goal.returns-clause-pairs
 returns-clause-pairs g t c = c.loop.invariant.pairs
@@ -75,7 +84,8 @@ returns-clause-pairs g t c = c.loop.invariant.pairs
 pub returns-clause-levels : goal.returns-clause-levels
 returns-clause-levels g t c h l =
     let n = c.args.node.now in
-    let a = loose_above h n (λ l. false≢true (c.if-is_leaf.ensures.1 l)) l in
+    let a = above g t (goal.at.returns-clause-levels g t c).Else-is_leaf h l in
     let test = c.loop-test.false in
     let z : c.len-end.result - c.loop.counter ≡ 0 = omega arith in
-    subst (λ i. IsThin i c.loop.node) (sym a.height) (mending_end n c.loop.node c.loop.at (subst (λ j. IsMending n c.loop.node c.loop.at j) z c.loop.invariant) a.below a.levels)
+    let done = subst (λ j. IsMending n c.loop.node c.loop.at j) z c.loop.invariant in
+    subst (λ i. IsThin i c.loop.node) (sym a.height) (mending_end n c.loop.node c.loop.at done a.below a.levels)

@@ -1,20 +1,48 @@
-use Rattle.std.proofs.Common.{suc, ◌-◌, ◌<◌, Some, None, rules, arith, ◌∙◌, append-nil}
+use Rattle.std.proofs.Common.{ℕ, suc, ◌-◌, ◌<◌, Some, None, rules, arith, ◌∙◌, append-nil}
+use Rattle.std.specs.Prelude.{slice_set}
 use Rattle.std.proofs.lemmas.Bool.{false≢true}
+use Rattle.fc_tree_node.specs.declared.node.Node.{Node, roll-Node}
+use Rattle.fc_tree_node.specs.Node.{own_pairs}
 use Rattle.fc_tree_node.proofs.Made.{child_set}
-use Rattle.fc_tree_removal.proofs.Removed.{last_taken}
+use Rattle.fc_tree_removal.proofs.Removed.{last_taken, opened_child}
 use Rattle.fc_tree_border.proofs.Heights.{height_of}
 use Rattle.fc_tree_retain.proofs.Levels.{loose_above, loose_height, lent, leaf_fewer}
-use Rattle.fc_tree_retain.proofs.Passing.{child_left, last_below, none_below, empty_last, child_loose}
+use Rattle.fc_tree_retain.proofs.Passing.{IsLastLent, last_left, last_below, none_below, empty_last, last_loose}
+use Rattle.fc_tree_retain.proofs.sifting.+take_last.Given as given
 use Rattle.fc_tree_retain.proofs.sifting.+take_last.Goals as goal
+use Rattle.fc_tree_retain.proofs.sifting.+take_last.Goals.{After-take_last}
+
+-- the node, whose last child came back
+abbrev left : (g : given.Over) (t : ℕ) → After-take_last g t → Node g.row.K.Denot g.row.V.Denot
+left g t c =
+    roll-Node _ _ (record { pairs = own_pairs c.args.node.now; children = Some (slice_set c.content.result.now c.len-end.result c.take_last.new.node) })
+
+last : (g : given.Over) (t : ℕ) (c : After-take_last g t)
+    → IsLastLent c.args.node.now (left g t c) c.get_mut.result.now c.take_last.new.node c.len-end.result
+last g t c =
+    let n = c.args.node.now in
+    let e = c.len-end.ensures.value in
+    let a = loose_above _ n (λ l. false≢true (c.if-is_leaf.ensures.1 l)) c.requires.loose.1 in
+    record {
+      inner = a.levels.1;
+      last = e;
+      is = opened_child n _ c.len-end.result _ c.content.ensures.value a.levels.1 (omega arith) c.get_mut.ensures.value;
+      set = child_set n _ c.len-end.result c.take_last.new.node c.content.ensures.value;
+    }
 
 pub returns-then-is_leaf-clause-loose : goal.returns-then-is_leaf-clause-loose
-returns-then-is_leaf-clause-loose g t c h l = leaf_fewer h c.args.node.now _ (c.len-end.result - 1) (let e = c.len-end.ensures.value in let f = c.if-end-eq0.false in omega arith) c.remove_leaf.ensures.leaf (c.if-is_leaf.ensures.0 (search rules)) c.remove_leaf.ensures.pairs l
+returns-then-is_leaf-clause-loose g t c h l =
+    let e = c.len-end.ensures.value in
+    let f = c.if-end-eq0.false in
+    leaf_fewer h c.args.node.now _ (c.len-end.result - 1) (omega arith) c.remove_leaf.ensures.leaf (c.if-is_leaf.ensures.0 (search rules))
+    c.remove_leaf.ensures.pairs l
 
 pub returns-then-is_leaf-clause-pairs : goal.returns-then-is_leaf-clause-pairs
 returns-then-is_leaf-clause-pairs g t c =
     let e = c.len-end.ensures.value in
     let f = c.if-end-eq0.false in
-    last_taken c.args.node.now _ (c.len-end.result - 1) c.remove_leaf.result (c.if-is_leaf.ensures.0 (search rules)) c.remove_leaf.ensures.leaf (omega arith) c.remove_leaf.ensures.value c.remove_leaf.ensures.pairs
+    last_taken c.args.node.now _ (c.len-end.result - 1) c.remove_leaf.result (c.if-is_leaf.ensures.0 (search rules)) c.remove_leaf.ensures.leaf
+    (omega arith) c.remove_leaf.ensures.value c.remove_leaf.ensures.pairs
 
 pub take_last-requires : goal.take_last-requires
 take_last-requires g t c κs within =
@@ -29,78 +57,39 @@ take_last-requires g t c κs within =
 
 pub returns-in-Some-clause-loose : goal.returns-in-Some-clause-loose
 returns-in-Some-clause-loose g t c h b =
-    let n = c.args.node.now in
-    let e = c.len-end.ensures.value in
-    let a = loose_above _ n (λ l. false≢true (c.if-is_leaf.ensures.1 l)) b in
-    let l = lent h n _ c.len-end.result _ c.content.ensures.value a.levels.1 b (omega arith) c.get_mut.ensures.value in
-    let m = child_set n _ c.len-end.result c.take_last.new.node c.content.ensures.value in
-    child_loose h n _ c.get_mut.result.now _ c.len-end.result a.levels.1 (omega arith) l.is m c.take_last.ensures.loose b
+    last_loose h _ _ _ _ _ (last g t (goal.at.returns-in-Some-clause-loose g t c).After-take_last) c.take_last.ensures.loose b
 
 pub returns-in-Some-clause-pairs : goal.returns-in-Some-clause-pairs
 returns-in-Some-clause-pairs g t c =
-    let n = c.args.node.now in
-    let e = c.len-end.ensures.value in
-    let a = loose_above _ n (λ l. false≢true (c.if-is_leaf.ensures.1 l)) c.requires.loose.1 in
-    let l = lent (suc a.below) n _ c.len-end.result _ c.content.ensures.value a.levels.1 a.levels (omega arith) c.get_mut.ensures.value in
-    let m = child_set n _ c.len-end.result c.take_last.new.node c.content.ensures.value in
-    last_below n _ c.get_mut.result.now _ c.len-end.result (Some c.in-Some.pair) a.levels.1 e m l.is c.in-Some.ensures.pairs
+    last_below _ _ _ _ _ (Some c.in-Some.pair) (last g t (goal.at.returns-in-Some-clause-pairs g t c).After-take_last) c.in-Some.ensures.pairs
 
 pub returns-then-end-eq0-2-clause-loose : goal.returns-then-end-eq0-2-clause-loose
 returns-then-end-eq0-2-clause-loose g t c h b =
-    let n = c.args.node.now in
-    let e = c.len-end.ensures.value in
-    let a = loose_above _ n (λ l. false≢true (c.if-is_leaf.ensures.1 l)) b in
-    let l = lent h n _ c.len-end.result _ c.content.ensures.value a.levels.1 b (omega arith) c.get_mut.ensures.value in
-    let m = child_set n _ c.len-end.result c.take_last.new.node c.content.ensures.value in
-    child_loose h n _ c.get_mut.result.now _ c.len-end.result a.levels.1 (omega arith) l.is m c.take_last.ensures.loose b
+    last_loose h _ _ _ _ _ (last g t (goal.at.returns-then-end-eq0-2-clause-loose g t c).After-take_last) c.take_last.ensures.loose b
 
 pub returns-then-end-eq0-2-clause-pairs : goal.returns-then-end-eq0-2-clause-pairs
 returns-then-end-eq0-2-clause-pairs g t c =
-    let n = c.args.node.now in
-    let e = c.len-end.ensures.value in
-    let a = loose_above _ n (λ l. false≢true (c.if-is_leaf.ensures.1 l)) c.requires.loose.1 in
-    let l = lent (suc a.below) n _ c.len-end.result _ c.content.ensures.value a.levels.1 a.levels (omega arith) c.get_mut.ensures.value in
-    let m = child_set n _ c.len-end.result c.take_last.new.node c.content.ensures.value in
-    last_below n _ c.get_mut.result.now _ c.len-end.result None a.levels.1 e m l.is c.in_default.ensures.pairs
+    last_below _ _ _ _ _ None (last g t (goal.at.returns-then-end-eq0-2-clause-pairs g t c).After-take_last) c.in_default.ensures.pairs
 
 pub returns-then-end-eq0-2-clause-none : goal.returns-then-end-eq0-2-clause-none
 returns-then-end-eq0-2-clause-none g t c =
-    let n = c.args.node.now in
-    let e = c.len-end.ensures.value in
-    let a = loose_above _ n (λ l. false≢true (c.if-is_leaf.ensures.1 l)) c.requires.loose.1 in
-    let m = child_set n _ c.len-end.result c.take_last.new.node c.content.ensures.value in
-    none_below n _ _ c.len-end.result a.levels.1 e c.if-end-eq0-2.true m c.in_default.ensures.none
+    let l = last g t (goal.at.returns-then-end-eq0-2-clause-none g t c).After-take_last in
+    none_below _ _ _ _ _ l c.if-end-eq0-2.true c.in_default.ensures.none
 
 pub take_own_last-requires-clause-inner : goal.take_own_last-requires-clause-inner
 take_own_last-requires-clause-inner g t c =
-    let n = c.args.node.now in
-    let e = c.len-end.ensures.value in
-    let a = loose_above _ n (λ l. false≢true (c.if-is_leaf.ensures.1 l)) c.requires.loose.1 in
-    let m = child_set n _ c.len-end.result c.take_last.new.node c.content.ensures.value in
-    (child_left n _ _ c.len-end.result a.levels.1 (omega arith) m).inner
+    (last_left _ _ _ _ _ (last g t (goal.at.take_own_last-requires-clause-inner g t c).After-take_last)).inner
 
 pub take_own_last-requires-clause-empty : goal.take_own_last-requires-clause-empty
 take_own_last-requires-clause-empty g t c =
-    let n = c.args.node.now in
-    let e = c.len-end.ensures.value in
-    let a = loose_above _ n (λ l. false≢true (c.if-is_leaf.ensures.1 l)) c.requires.loose.1 in
-    let m = child_set n _ c.len-end.result c.take_last.new.node c.content.ensures.value in
-    empty_last n _ _ c.len-end.result a.levels.1 e m c.in_default.ensures.none
+    empty_last _ _ _ _ _ (last g t (goal.at.take_own_last-requires-clause-empty g t c).After-take_last) c.in_default.ensures.none
 
 pub returns-clause-loose : goal.returns-clause-loose
 returns-clause-loose g t c h b =
-    let n = c.args.node.now in
-    let e = c.len-end.ensures.value in
-    let a = loose_above _ n (λ l. false≢true (c.if-is_leaf.ensures.1 l)) b in
-    let l = lent h n _ c.len-end.result _ c.content.ensures.value a.levels.1 b (omega arith) c.get_mut.ensures.value in
-    let m = child_set n _ c.len-end.result c.take_last.new.node c.content.ensures.value in
-    c.take_own_last.ensures.loose h (child_loose h n _ c.get_mut.result.now _ c.len-end.result a.levels.1 (omega arith) l.is m c.take_last.ensures.loose b)
+    let l = last g t (goal.at.returns-clause-loose g t c).After-take_last in
+    c.take_own_last.ensures.loose h (last_loose h _ _ _ _ _ l c.take_last.ensures.loose b)
 
 pub returns-clause-pairs : goal.returns-clause-pairs
 returns-clause-pairs g t c =
-    let n = c.args.node.now in
-    let e = c.len-end.ensures.value in
-    let a = loose_above _ n (λ l. false≢true (c.if-is_leaf.ensures.1 l)) c.requires.loose.1 in
-    let l = lent (suc a.below) n _ c.len-end.result _ c.content.ensures.value a.levels.1 a.levels (omega arith) c.get_mut.ensures.value in
-    let m = child_set n _ c.len-end.result c.take_last.new.node c.content.ensures.value in
-    last_below n _ c.get_mut.result.now _ c.len-end.result None a.levels.1 e m l.is c.in_default.ensures.pairs ∙ append-nil _ ∙ c.take_own_last.ensures.pairs
+    let l = last g t (goal.at.returns-clause-pairs g t c).After-take_last in
+    last_below _ _ _ _ _ None l c.in_default.ensures.pairs ∙ append-nil _ ∙ c.take_own_last.ensures.pairs
