@@ -1,7 +1,6 @@
 -- Where a new pair stands once it is put in.
-use Rattle.std.proofs.Common.{◌^◌, length-append, ◌≡◌, ℕ, suc, zero, ◌+◌, ◌-◌, ◌<◌, ◌≤◌, Bool, true, false, nat_lt, List, [], ◌∷◌, ◌++◌, length, get_or, map, take, drop, refl, sym, ap, ◌∙◌, subst, arith, append_assoc, append-nil, Some, None, IfSome, MatchOption, Box}
+use Rattle.std.proofs.Common.{◌^◌, length-append, ◌≡◌, ℕ, suc, zero, ◌+◌, ◌-◌, ◌<◌, ◌≤◌, Bool, true, false, nat_lt, List, [], ◌∷◌, ◌++◌, length, get_or, map, take, drop, refl, sym, ap, ◌∙◌, subst, arith, append_assoc, append-nil, Some, None, IfSome, MatchOption}
 use Rattle.std.specs.Prelude.{slice_range, if◌then◌else◌}
-use Rattle.std.specs.declared.alloc.Global.{Global}
 use Rattle.std.specs.List.{AllByRecursion, insert}
 use Rattle.std.proofs.lemmas.List.Edits.{length-insert}
 use Rattle.std.proofs.lemmas.Bool.{ltb-true, ltb-false, lt-ltb, le-ltb}
@@ -113,9 +112,8 @@ module _ {K V : Type 0} where
       ap (λ xs. before_list (map pairs_of xs) (take t (own_pairs n))) (sym (take-append-le t (children_of n) (children_of b) (omega arith)))
       ∙ ap (λ ys. before_list (map pairs_of (take t (children_of n ++ children_of b))) ys) (sym (take-append-le t (own_pairs n) (up ∷ own_pairs b) (omega arith))) in
       stepped q n s.child t f lt (sym (get_or_append_left (children_of n) (children_of b) n t lt) ∙ s.is n) s.place (ap (λ zs. zs ++ before_pair q s.child) before_child_is ∙ s.before_is)
-  step_half q n up b k t f inner e s true is =
+  step_half q n up r k t f inner e s true is =
       let gt : k < t = ltb-true k t is in
-      let r : Node K V = b in
       let j : ℕ = t - (k + 1) in
       let m : length (children_of n) ≡ length (own_pairs n) + 1 = inner in
       let l = length-append (children_of n) (children_of r) in
@@ -213,9 +211,8 @@ module _ {K V : Type 0} where
   leaf_half n up b k i f l₁ l₂ e ne lt g false is =
       let le : i ≤ k = ltb-false k i is in
       (omega (arith, ne), leaf_front n i l₁ ∙ sym (take-append-le i (own_pairs n) (up ∷ own_pairs b) (omega arith)) ∙ g)
-  leaf_half n up b k i f l₁ l₂ e ne lt g true is =
+  leaf_half n up r k i f l₁ l₂ e ne lt g true is =
       let gt : k < i = ltb-true k i is in
-      let r : Node K V = b in
       let l = length-append (own_pairs n) (up ∷ own_pairs r) in
       let at_pairs : i ≡ length (own_pairs n) + suc (i - (k + 1)) = omega arith in (
         omega arith,

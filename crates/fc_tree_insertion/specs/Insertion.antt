@@ -1,6 +1,5 @@
 -- What an insertion leaves of a node, and what the node hands out where it was split.
 use Rattle.std.specs.Prelude.{◌+◌, ◌≤◌, List, ◌∷◌, ◌++◌, length, Option, Some, None}
-use Rattle.std.specs.declared.alloc.Global.{Global}
 use Rattle.fc_base.specs.Sizes.{min_len}
 use Rattle.fc_tree_node.specs.declared.node.Node.{Node}
 use Rattle.fc_tree_node.specs.Node.{own_pairs, children_of, pairs_of}

@@ -1,6 +1,5 @@
 //! Inner nodes that hold nothing, made ahead for the nodes that an insertion splits.
 ghost use Rattle.std.specs.Prelude.{◌≡◌, ◌+◌, ◌<◌, ◌≤◌, Option, None, Some};
-ghost use Rattle.std.specs.declared.alloc.Global.{Global};
 ghost use Rattle.fc_base.specs.Sizes.{most_levels};
 ghost use Rattle.fc_tree_node.specs.Node.{IsBlankInner};
 ghost use Rattle.fc_tree_insertion.specs.Chain.{IsAbove};

@@ -1,5 +1,5 @@
 -- A sound tree in which a pair was put in the place of another.
-use Rattle.std.proofs.Common.{◌≡◌, ℕ, ◌+◌, ◌<◌, List, ◌∷◌, ◌++◌, length, Some, sym, ap, subst, ◌∙◌, arith, length-append}
+use Rattle.std.proofs.Common.{◌≡◌, ℕ, ◌+◌, ◌<◌, List, ◌∷◌, ◌++◌, length, Some, sym, ap, ◌∙◌, arith, length-append}
 use Rattle.fc_base.specs.declared.count.Count.{Count}
 use Rattle.fc_tree_node.specs.declared.node.Node.{Node}
 use Rattle.fc_tree_node.specs.Depth.{HasFewMoves}
@@ -19,16 +19,15 @@ module _ {K V : Type 0} where
     pub sound : IsSoundMap (Some new)
     pub moves : HasFewMoves (length (pairs_of new)) start stop
 
-  -- The tree lies in a box, and the path is read as a slice.
-  pub exchanged : (root node new : Node K V) (path slice : List ℕ) (pair old : K × V) (start stop : Count) → node ≡ root → slice ≡ path → IsSoundMap (Some root) → IsPlace path root
-      → place_pair slice node ≡ Some old → pairs_of new ≡ before_pair slice node ++ pair ∷ after_pair slice node → length (own_pairs new) ≡ length (own_pairs node) → ((h : ℕ) → IsLevelled h node → IsLevelled h new)
+  -- The path is read as a slice.
+  pub exchanged : (root new : Node K V) (path slice : List ℕ) (pair old : K × V) (start stop : Count) → slice ≡ path → IsSoundMap (Some root)
+      → IsPlace path root → place_pair slice root ≡ Some old → pairs_of new ≡ before_pair slice root ++ pair ∷ after_pair slice root
+      → length (own_pairs new) ≡ length (own_pairs root) → ((h : ℕ) → IsLevelled h root → IsLevelled h new)
       → stop.moves ≡ start.moves + 2 → IsExchanged root new path pair old start stop
-  exchanged root node new path slice pair old start stop here way sound place o p z l two =
-      let was : place_pair path root ≡ Some old = ap (place_pair path) (sym here) ∙ ap (λ q. place_pair q node) (sym way) ∙ o in
+  exchanged root new path slice pair old start stop way sound place o p size levels two =
+      let was : place_pair path root ≡ Some old = ap (λ q. place_pair q root) (sym way) ∙ o in
       let parts : pairs_of new ≡ before_pair path root ++ pair ∷ after_pair path root =
-      p ∙ ap (λ q. before_pair q node ++ pair ∷ after_pair q node) way ∙ ap (λ n. before_pair path n ++ pair ∷ after_pair path n) here in
-      let size = z ∙ ap (λ n. length (own_pairs n)) here in
-      let levels : (h : ℕ) → IsLevelled h root → IsLevelled h new = subst (λ n. (h : ℕ) → IsLevelled h n → IsLevelled h new) here l in
+      p ∙ ap (λ q. before_pair q root ++ pair ∷ after_pair q root) way in
       let cut = place_pairs path sound.0 root sound.2.1 place in
       let before = ap length cut.parts ∙ length-append (before_pair path root) (cut.pair ∷ after_pair path root) in
       let after = ap length parts ∙ length-append (before_pair path root) (pair ∷ after_pair path root) in

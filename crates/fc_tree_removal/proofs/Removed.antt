@@ -1,21 +1,21 @@
 -- A node from which a pair was removed, by what is left below it.
-use Rattle.std.proofs.Common.{length-append, ◌≡◌, ℕ, suc, zero, ◌+◌, ◌-◌, ◌<◌, ◌≤◌, List, [], ◌∷◌, ◌++◌, length, get_or, map, take, drop, refl, sym, ap, subst, ◌∙◌, arith, append_assoc, add-one, append-nil, inr, Box, Some}
+use Rattle.std.proofs.Common.{length-append, ◌≡◌, ℕ, suc, zero, ◌+◌, ◌-◌, ◌<◌, ◌≤◌, List, [], ◌∷◌, ◌++◌, length, get_or, map, take, drop, refl, sym, ap, subst, ◌∙◌, arith, append_assoc, add-one, append-nil, inr, Some}
 use Rattle.std.specs.Prelude.{slice_set, slice_range, slice_get, ◌⊎◌}
 use Rattle.std.specs.List.{AllByRecursion, remove}
 use Rattle.std.proofs.lemmas.List.Edits.{length-remove}
 use Rattle.std.proofs.lemmas.List.{length-map, map-append}
-use Rattle.std.specs.declared.alloc.Global.{Global}
 use Rattle.fc_base.specs.Sizes.{capacity}
 use Rattle.fc_tree_node.specs.Weave.{weave}
 use Rattle.fc_tree_node.specs.declared.node.Node.{Node, out-Node}
-use Rattle.fc_tree_node.specs.Node.{items_or_none, own_pairs, children_of, child_at, boxed, pairs_of, IsLeaf, IsInner, IsLevelled, IsSound, IsSoundRoot}
+use Rattle.fc_tree_node.specs.Node.{own_pairs, children_of, child_at, pairs_of, IsLeaf, IsInner, IsLevelled, IsSound, IsSoundRoot}
 use Rattle.fc_tree_node.specs.Place.{before_child, after_child, before_own, after_own, IsPlace, place_pair, before_pair, after_pair}
 use Rattle.fc_tree_removal.specs.Mending.{IsShortAt}
 use Rattle.fc_tree_node.specs.Shrunk.{IsShrunk}
 use Rattle.fc_tree_node.proofs.Lists.{length_take, take_drop, set_is, length_set, all_front, all_back}
 use Rattle.fc_tree_node.proofs.Weaves.{weave_parts}
-use Rattle.fc_tree_node.proofs.Pairs.{pairs_is, leaf_children, leaf_pairs, child_is, child_below}
+use Rattle.fc_tree_node.proofs.Pairs.{pairs_is, leaf_children, leaf_pairs, child_below}
 use Rattle.fc_tree_node.proofs.Made.{IsChildSet, children_in, inner_length}
+use Rattle.fc_tree_node.proofs.Shared.{listed_child}
 use Rattle.fc_tree_node.proofs.Cuts.{last_out}
 use Rattle.fc_tree_node.proofs.Gaps.{drop_item, inner_gap, item_there, before_child_pair, after_none}
 use Rattle.fc_tree_node.proofs.Siblings.{around_one}
@@ -51,16 +51,14 @@ module _ {K V : Type 0} where
     pub levels : IsLevelled (suc below) n
     pub inner : IsInner n
 
-  pub some_above : (h : ℕ) (n : Node K V) (bs : List (Node K V)) → (out-Node K V n).children ≡ Some bs → IsLevelled h n → IsAbove h n
-  some_above zero n bs e l = absurd (let f = sym e ∙ l.1 in cc)
-  some_above (suc h) n bs e l = record { below = h; height = refl; levels = l; inner = l.1 }
+  pub some_above : (h : ℕ) (n : Node K V) (cs : List (Node K V)) → (out-Node K V n).children ≡ Some cs → IsLevelled h n → IsAbove h n
+  some_above zero n cs e l = absurd (let f = sym e ∙ l.1 in cc)
+  some_above (suc h) n cs e l = record { below = h; height = refl; levels = l; inner = l.1 }
 
-  -- the child in a box of the list that a node has
-  pub opened_child : (n : Node K V) (bs : List (Node K V)) (i : ℕ) (b : Node K V) (c : Node K V) → (out-Node K V n).children ≡ Some bs → IsInner n → i ≤ length (own_pairs n) → b ≡ get_or bs i b → c ≡ b → c ≡ child_at n i
-  opened_child n bs i b c e inner h q f =
-      let k = inner_length n bs e inner in
-      let s : bs ≡ items_or_none (out-Node K V n).children = ap items_or_none (sym e) in
-      child_is n i b c (subst (λ xs. i < length xs) s (omega arith)) (subst (λ xs. b ≡ get_or xs i b) s q) f
+  -- the child that is read from the list that a node has
+  pub opened_child : (n : Node K V) (cs : List (Node K V)) (i : ℕ) (c : Node K V) → (out-Node K V n).children ≡ Some cs → IsInner n
+      → i ≤ length (own_pairs n) → c ≡ get_or cs i c → c ≡ child_at n i
+  opened_child n cs i c e inner h q = let k = inner_length n cs e inner in listed_child n i cs e i c (omega arith) q
 
   pub none_leaf : (h : ℕ) (n : Node K V) → IsLeaf n → IsLevelled h n → h ≡ 0
   none_leaf zero n e l = refl
@@ -183,21 +181,23 @@ module _ {K V : Type 0} where
   empty_leaf root l e = leaf_pairs root l ∙ no_pairs (own_pairs root) e
 
   -- the only child of a root without pairs
-  pub only_child : (root : Node K V) (bs : List (Node K V)) (b : Node K V) → (out-Node K V root).children ≡ Some bs → IsInner root → length (own_pairs root) ≡ 0 → b ≡ get_or bs 0 b → children_of root ≡ b ∷ []
-  only_child root bs b e inner h f = children_in root bs e ∙ single bs b (inner_length root bs e inner ∙ ap (λ k. k + 1) h) f
+  pub only_child : (root : Node K V) (cs : List (Node K V)) (c : Node K V) → (out-Node K V root).children ≡ Some cs → IsInner root
+      → length (own_pairs root) ≡ 0 → c ≡ get_or cs 0 c → children_of root ≡ c ∷ []
+  only_child root cs c e inner h f = children_in root cs e ∙ single cs c (inner_length root cs e inner ∙ ap (λ k. k + 1) h) f
     where
-      single : (bs : List (Node K V)) (b : Node K V) → length bs ≡ 1 → b ≡ get_or bs 0 b → boxed bs ≡ b ∷ []
-      single [] b e f = absurd (omega arith)
-      single (x ∷ []) b e f = ap (λ y. y ∷ []) (sym f)
-      single (x ∷ y ∷ bs) b e f = absurd (omega arith)
+      single : (cs : List (Node K V)) (c : Node K V) → length cs ≡ 1 → c ≡ get_or cs 0 c → cs ≡ c ∷ []
+      single [] c e f = absurd (omega arith)
+      single (d ∷ []) c e f = ap (λ x. x ∷ []) (sym f)
+      single (d ∷ x ∷ cs) c e f = absurd (omega arith)
 
   pub only_pairs : (root c : Node K V) → length (own_pairs root) ≡ 0 → children_of root ≡ c ∷ [] → pairs_of c ≡ pairs_of root
   only_pairs root c h e =
       sym (pairs_is root ∙ ap (λ ps. weave (map pairs_of (children_of root)) ps) (no_pairs (own_pairs root) h) ∙ ap (λ cs. weave (map pairs_of cs) []) e ∙ append-nil (pairs_of c))
 
-  pub one_lower : (h : ℕ) (root c : Node K V) (bs : List (Node K V)) → (out-Node K V root).children ≡ Some bs → children_of root ≡ c ∷ [] → IsLevelled h root → IsSoundRoot h c ⊎ ((0 < h) × IsSoundRoot (h - 1) c)
-  one_lower zero root c bs e f l = absurd (let q = sym e ∙ l.1 in cc)
-  one_lower (suc h) root c bs e f l =
+  pub one_lower : (h : ℕ) (root c : Node K V) (cs : List (Node K V)) → (out-Node K V root).children ≡ Some cs → children_of root ≡ c ∷ []
+      → IsLevelled h root → IsSoundRoot h c ⊎ ((0 < h) × IsSoundRoot (h - 1) c)
+  one_lower zero root c cs e f l = absurd (let q = sym e ∙ l.1 in cc)
+  one_lower (suc h) root c cs e f l =
       let a = (subst (AllByRecursion (IsSound h)) f l.2).0 in
       let a₀ = a.0 in
       let k : h ≡ suc h - 1 = omega arith in

@@ -1,8 +1,7 @@
 -- What is left of a node and of a tree after a removal.
-use Rattle.std.specs.Prelude.{◌≡◌, ℕ, ◌+◌, ◌-◌, ◌≤◌, ◌<◌, ◌⊎◌, List, [], length, Option, Some, None, MatchOption}
-use Rattle.std.specs.declared.alloc.Global.{Global}
+use Rattle.std.specs.Prelude.{◌≡◌, ℕ, ◌-◌, ◌<◌, ◌⊎◌, Option, Some, None, MatchOption}
 use Rattle.fc_tree_node.specs.declared.node.Node.{Node}
-use Rattle.fc_tree_node.specs.Node.{own_pairs, pairs_of, IsLevelled, IsSoundRoot}
+use Rattle.fc_tree_node.specs.Node.{IsSoundRoot}
 use Rattle.fc_tree_node.specs.Tree.{Map}
 
 module _ {K V : Type 0} where

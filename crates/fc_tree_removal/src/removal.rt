@@ -1,6 +1,5 @@
 //! Removal at a place, which mends the nodes above it on its way up.
 ghost use Rattle.std.specs.Prelude.{◌≡◌, ℕ, suc, ◌+◌, ◌-◌, ◌*◌, ◌<◌, ◌≤◌, [], ◌∷◌, ◌++◌, length, Some};
-ghost use Rattle.std.specs.declared.alloc.Global.{Global};
 ghost use Rattle.fc_base.specs.Sizes.{capacity, min_len, level_moves};
 ghost use Rattle.fc_tree_node.specs.Node.{own_pairs, child_at, pairs_of, IsLevelled, IsSoundRoot};
 ghost use Rattle.fc_tree_node.specs.Place.{IsPlace, place_pair, before_pair, after_pair};

@@ -3,7 +3,6 @@ use Rattle.std.proofs.lemmas.List.Edits.{length-insert}
 use Rattle.fc_base.specs.Sizes.{capacity}
 use Rattle.fc_tree_node.specs.Node.{own_pairs, IsLevelled}
 use Rattle.fc_tree_node.specs.Path.{IsPath}
-use Rattle.std.specs.Box.{with_value}
 use Rattle.fc_tree_node.proofs.PathSteps.{one_step, step_of, child_there, child_lent}
 use Rattle.fc_tree_node.proofs.Pairs.{child_below}
 use Rattle.fc_tree_node.proofs.Made.{child_set}
@@ -20,16 +19,16 @@ returns-then-path-eq1-clause-pairs g t c =
     let i = c.put_leaf.ensures in
     put_in_leaf c.args.path.now c.args.node.now c.put_leaf.new.node c.put_leaf.result c.args.pair (one_step _ c.if-path-eq1.true) l.1 i.leaf.0 i.leaf.1 i.pairs
 
-pub get_mut-requires : goal.get_mut-requires
-get_mut-requires g t c =
+pub get_mut-child-requires : goal.get_mut-child-requires
+get_mut-child-requires g t c =
     let s = step_of c.args.path.now c.args.node.now (omega arith) c.requires.path c.requires.levels in
     child_there c.args.path.now c.args.node.now _ s c.in-Some.is
 
 pub insert_below-below-requires : goal.insert_below-below-requires
 insert_below-below-requires g t c κs within =
     let s = step_of c.args.path.now c.args.node.now (omega arith) c.requires.path c.requires.levels in
-    let ci = child_lent c.args.path.now c.args.node.now _ _ c.deref_mut-child.result.now s c.in-Some.is c.get_mut.ensures.value c.deref_mut-child.ensures.value in
-    let k = cascade_step c.args.path.now c.args.node.now c.deref_mut-child.result.now s ci in
+    let ci = child_lent c.args.path.now c.args.node.now _ c.get_mut-child.result.now s c.in-Some.is c.get_mut-child.ensures.value in
+    let k = cascade_step c.args.path.now c.args.node.now c.get_mut-child.result.now s ci in
     let b = child_below _ c.args.node.now _ s.levels s.le in
     let long = s.long in
     let height = s.height in
@@ -39,9 +38,9 @@ insert_below-below-requires g t c κs within =
 pub put_inner-requires : goal.put_inner-requires
 put_inner-requires g t c =
     let s = step_of c.args.path.now c.args.node.now (omega arith) c.requires.path c.requires.levels in
-    let ci = child_lent c.args.path.now c.args.node.now _ _ c.deref_mut-child.result.now s c.in-Some.is c.get_mut.ensures.value c.deref_mut-child.ensures.value in
-    let k = cascade_step c.args.path.now c.args.node.now c.deref_mut-child.result.now s ci in
-    let m = child_set c.args.node.now c.in-Some.children _ (with_value c.get_mut.result.now c.insert_below-below.new.node) c.in-Some.is in
+    let ci = child_lent c.args.path.now c.args.node.now _ c.get_mut-child.result.now s c.in-Some.is c.get_mut-child.ensures.value in
+    let k = cascade_step c.args.path.now c.args.node.now c.get_mut-child.result.now s ci in
+    let m = child_set c.args.node.now c.in-Some.children _ c.insert_below-below.new.node c.in-Some.is in
     let same = ap length m.same in
     let le = s.le in
     let long = s.long in
@@ -53,15 +52,15 @@ put_inner-requires g t c =
 pub returns-in-None-below-clause-pairs : goal.returns-in-None-below-clause-pairs
 returns-in-None-below-clause-pairs g t c =
     let s = step_of c.args.path.now c.args.node.now (omega arith) c.requires.path c.requires.levels in
-    let ci = child_lent c.args.path.now c.args.node.now _ _ c.deref_mut-child.result.now s c.in-Some.is c.get_mut.ensures.value c.deref_mut-child.ensures.value in
-    let m = child_set c.args.node.now c.in-Some.children _ (with_value c.get_mut.result.now c.insert_below-below.new.node) c.in-Some.is in
-    put_below c.args.path.now c.args.node.now _ _ c.deref_mut-child.result.now c.args.pair s m ci c.in-None-below.ensures.pairs
+    let ci = child_lent c.args.path.now c.args.node.now _ c.get_mut-child.result.now s c.in-Some.is c.get_mut-child.ensures.value in
+    let m = child_set c.args.node.now c.in-Some.children _ c.insert_below-below.new.node c.in-Some.is in
+    put_below c.args.path.now c.args.node.now _ _ c.get_mut-child.result.now c.args.pair s m ci c.in-None-below.ensures.pairs
 
 pub returns-in-None-below-clause-levels : goal.returns-in-None-below-clause-levels
 returns-in-None-below-clause-levels g t c =
     let s = step_of c.args.path.now c.args.node.now (omega arith) c.requires.path c.requires.levels in
-    let ci = child_lent c.args.path.now c.args.node.now _ _ c.deref_mut-child.result.now s c.in-Some.is c.get_mut.ensures.value c.deref_mut-child.ensures.value in
-    let m = child_set c.args.node.now c.in-Some.children _ (with_value c.get_mut.result.now c.insert_below-below.new.node) c.in-Some.is in
+    let ci = child_lent c.args.path.now c.args.node.now _ c.get_mut-child.result.now s c.in-Some.is c.get_mut-child.ensures.value in
+    let m = child_set c.args.node.now c.in-Some.children _ c.insert_below-below.new.node c.in-Some.is in
     let b = child_below _ c.args.node.now _ s.levels s.le in
     let q = ap (λ x. length (own_pairs x)) ci in
     let least = b.0 in
@@ -71,8 +70,8 @@ returns-in-None-below-clause-levels g t c =
 pub returns-in-None-below-clause-halved : goal.returns-in-None-below-clause-halved
 returns-in-None-below-clause-halved g t c =
     let s = step_of c.args.path.now c.args.node.now (omega arith) c.requires.path c.requires.levels in
-    let ci = child_lent c.args.path.now c.args.node.now _ _ c.deref_mut-child.result.now s c.in-Some.is c.get_mut.ensures.value c.deref_mut-child.ensures.value in
-    let k = cascade_step c.args.path.now c.args.node.now c.deref_mut-child.result.now s ci in
+    let ci = child_lent c.args.path.now c.args.node.now _ c.get_mut-child.result.now s c.in-Some.is c.get_mut-child.ensures.value in
+    let k = cascade_step c.args.path.now c.args.node.now c.get_mut-child.result.now s ci in
     let part = k.part c.in-None-below.ensures.halved in
     let long = s.long in
     let halved = c.in-None-below.ensures.halved in
@@ -81,16 +80,16 @@ returns-in-None-below-clause-halved g t c =
 pub returns-in-None-below-clause-used : goal.returns-in-None-below-clause-used
 returns-in-None-below-clause-used g t c =
     let s = step_of c.args.path.now c.args.node.now (omega arith) c.requires.path c.requires.levels in
-    let ci = child_lent c.args.path.now c.args.node.now _ _ c.deref_mut-child.result.now s c.in-Some.is c.get_mut.ensures.value c.deref_mut-child.ensures.value in
-    let k = cascade_step c.args.path.now c.args.node.now c.deref_mut-child.result.now s ci in
+    let ci = child_lent c.args.path.now c.args.node.now _ c.get_mut-child.result.now s c.in-Some.is c.get_mut-child.ensures.value in
+    let k = cascade_step c.args.path.now c.args.node.now c.get_mut-child.result.now s ci in
     let part = k.part c.in-None-below.ensures.halved in
     omega arith
 
 pub returns-in-None-below-clause-moves : goal.returns-in-None-below-clause-moves
 returns-in-None-below-clause-moves g t c =
     let s = step_of c.args.path.now c.args.node.now (omega arith) c.requires.path c.requires.levels in
-    let ci = child_lent c.args.path.now c.args.node.now _ _ c.deref_mut-child.result.now s c.in-Some.is c.get_mut.ensures.value c.deref_mut-child.ensures.value in
-    let k = cascade_step c.args.path.now c.args.node.now c.deref_mut-child.result.now s ci in
+    let ci = child_lent c.args.path.now c.args.node.now _ c.get_mut-child.result.now s c.in-Some.is c.get_mut-child.ensures.value in
+    let k = cascade_step c.args.path.now c.args.node.now c.get_mut-child.result.now s ci in
     let part = k.part c.in-None-below.ensures.halved in
     let moves = c.in-None-below.ensures.moves in
     omega arith
@@ -98,16 +97,16 @@ returns-in-None-below-clause-moves g t c =
 pub returns-in-Some-below-clause-pairs : goal.returns-in-Some-below-clause-pairs
 returns-in-Some-below-clause-pairs g t c =
     let s = step_of c.args.path.now c.args.node.now (omega arith) c.requires.path c.requires.levels in
-    let ci = child_lent c.args.path.now c.args.node.now _ _ c.deref_mut-child.result.now s c.in-Some.is c.get_mut.ensures.value c.deref_mut-child.ensures.value in
-    let m = child_set c.args.node.now c.in-Some.children _ (with_value c.get_mut.result.now c.insert_below-below.new.node) c.in-Some.is in
+    let ci = child_lent c.args.path.now c.args.node.now _ c.get_mut-child.result.now s c.in-Some.is c.get_mut-child.ensures.value in
+    let m = child_set c.args.node.now c.in-Some.children _ c.insert_below-below.new.node c.in-Some.is in
     let i = c.put_inner.ensures in
-    put_above c.args.path.now c.args.node.now _ c.insert_below-below.new.node c.deref_mut-child.result.now c.put_inner.new.node c.put_inner.result c.in-Some-below.up c.args.pair c.in-Some-below.right s m ci i.pairs i.children i.inner.0 i.inner.1 c.in-Some-below.ensures.pairs
+    put_above c.args.path.now c.args.node.now _ c.insert_below-below.new.node c.get_mut-child.result.now c.put_inner.new.node c.put_inner.result c.in-Some-below.up c.args.pair c.in-Some-below.right s m ci i.pairs i.children i.inner.0 i.inner.1 c.in-Some-below.ensures.pairs
 
 pub returns-in-Some-below-clause-levels : goal.returns-in-Some-below-clause-levels
 returns-in-Some-below-clause-levels g t c =
     let s = step_of c.args.path.now c.args.node.now (omega arith) c.requires.path c.requires.levels in
-    let ci = child_lent c.args.path.now c.args.node.now _ _ c.deref_mut-child.result.now s c.in-Some.is c.get_mut.ensures.value c.deref_mut-child.ensures.value in
-    let m = child_set c.args.node.now c.in-Some.children _ (with_value c.get_mut.result.now c.insert_below-below.new.node) c.in-Some.is in
+    let ci = child_lent c.args.path.now c.args.node.now _ c.get_mut-child.result.now s c.in-Some.is c.get_mut-child.ensures.value in
+    let m = child_set c.args.node.now c.in-Some.children _ c.insert_below-below.new.node c.in-Some.is in
     let i = c.put_inner.ensures in
     let l = c.in-Some-below.ensures.levels in
     let z = c.in-Some-below.ensures.size in
@@ -116,7 +115,7 @@ returns-in-Some-below-clause-levels g t c =
 pub returns-in-Some-below-clause-size : goal.returns-in-Some-below-clause-size
 returns-in-Some-below-clause-size g t c =
     let s = step_of c.args.path.now c.args.node.now (omega arith) c.requires.path c.requires.levels in
-    let m = child_set c.args.node.now c.in-Some.children _ (with_value c.get_mut.result.now c.insert_below-below.new.node) c.in-Some.is in
+    let m = child_set c.args.node.now c.in-Some.children _ c.insert_below-below.new.node c.in-Some.is in
     let i = c.put_inner.ensures in
     let same = ap length m.same in
     let le = s.le in
@@ -125,32 +124,32 @@ returns-in-Some-below-clause-size g t c =
 pub returns-in-Some-below-clause-halved : goal.returns-in-Some-below-clause-halved
 returns-in-Some-below-clause-halved g t c =
     let s = step_of c.args.path.now c.args.node.now (omega arith) c.requires.path c.requires.levels in
-    let ci = child_lent c.args.path.now c.args.node.now _ _ c.deref_mut-child.result.now s c.in-Some.is c.get_mut.ensures.value c.deref_mut-child.ensures.value in
-    let k = cascade_step c.args.path.now c.args.node.now c.deref_mut-child.result.now s ci in
-    let m = child_set c.args.node.now c.in-Some.children _ (with_value c.get_mut.result.now c.insert_below-below.new.node) c.in-Some.is in
+    let ci = child_lent c.args.path.now c.args.node.now _ c.get_mut-child.result.now s c.in-Some.is c.get_mut-child.ensures.value in
+    let k = cascade_step c.args.path.now c.args.node.now c.get_mut-child.result.now s ci in
+    let m = child_set c.args.node.now c.in-Some.children _ c.insert_below-below.new.node c.in-Some.is in
     let f = subst (λ ps. MatchOption c.put_inner.result (length ps < capacity) (λ _. length ps ≡ capacity)) m.same c.put_inner.ensures.halved in
     let halved = c.in-Some-below.ensures.halved in
-    above_halved c.put_inner.result c.args.path.now c.args.node.now c.deref_mut-child.result.now s k (omega arith) f
+    above_halved c.put_inner.result c.args.path.now c.args.node.now c.get_mut-child.result.now s k (omega arith) f
 
 pub returns-in-Some-below-clause-used : goal.returns-in-Some-below-clause-used
 returns-in-Some-below-clause-used g t c =
     let s = step_of c.args.path.now c.args.node.now (omega arith) c.requires.path c.requires.levels in
-    let ci = child_lent c.args.path.now c.args.node.now _ _ c.deref_mut-child.result.now s c.in-Some.is c.get_mut.ensures.value c.deref_mut-child.ensures.value in
-    let k = cascade_step c.args.path.now c.args.node.now c.deref_mut-child.result.now s ci in
-    let m = child_set c.args.node.now c.in-Some.children _ (with_value c.get_mut.result.now c.insert_below-below.new.node) c.in-Some.is in
+    let ci = child_lent c.args.path.now c.args.node.now _ c.get_mut-child.result.now s c.in-Some.is c.get_mut-child.ensures.value in
+    let k = cascade_step c.args.path.now c.args.node.now c.get_mut-child.result.now s ci in
+    let m = child_set c.args.node.now c.in-Some.children _ c.insert_below-below.new.node c.in-Some.is in
     let f = subst (λ ps. MatchOption c.put_inner.result (length ps < capacity) (λ _. length ps ≡ capacity)) m.same c.put_inner.ensures.halved in
     let halved = c.in-Some-below.ensures.halved in
-    above_used c.put_inner.result c.args.path.now c.args.node.now c.deref_mut-child.result.now _ _ _ s k (omega arith) f c.insert_below-below.ensures.used c.put_inner.ensures.used
+    above_used c.put_inner.result c.args.path.now c.args.node.now c.get_mut-child.result.now _ _ _ s k (omega arith) f c.insert_below-below.ensures.used c.put_inner.ensures.used
 
 pub returns-in-Some-below-clause-moves : goal.returns-in-Some-below-clause-moves
 returns-in-Some-below-clause-moves g t c =
     let s = step_of c.args.path.now c.args.node.now (omega arith) c.requires.path c.requires.levels in
-    let ci = child_lent c.args.path.now c.args.node.now _ _ c.deref_mut-child.result.now s c.in-Some.is c.get_mut.ensures.value c.deref_mut-child.ensures.value in
-    let k = cascade_step c.args.path.now c.args.node.now c.deref_mut-child.result.now s ci in
-    let m = child_set c.args.node.now c.in-Some.children _ (with_value c.get_mut.result.now c.insert_below-below.new.node) c.in-Some.is in
+    let ci = child_lent c.args.path.now c.args.node.now _ c.get_mut-child.result.now s c.in-Some.is c.get_mut-child.ensures.value in
+    let k = cascade_step c.args.path.now c.args.node.now c.get_mut-child.result.now s ci in
+    let m = child_set c.args.node.now c.in-Some.children _ c.insert_below-below.new.node c.in-Some.is in
     let f = subst (λ ps. MatchOption c.put_inner.result (length ps < capacity) (λ _. length ps ≡ capacity)) m.same c.put_inner.ensures.halved in
     let halved = c.in-Some-below.ensures.halved in
-    above_moves c.put_inner.result c.args.path.now c.args.node.now c.deref_mut-child.result.now _ _ _ s k (omega arith) f c.in-Some-below.ensures.moves c.put_inner.ensures.moves
+    above_moves c.put_inner.result c.args.path.now c.args.node.now c.get_mut-child.result.now _ _ _ s k (omega arith) f c.in-Some-below.ensures.moves c.put_inner.ensures.moves
 
 pub returns-then-path-eq1-clause-arrived : goal.returns-then-path-eq1-clause-arrived
 returns-then-path-eq1-clause-arrived g t c =
@@ -164,18 +163,18 @@ returns-then-path-eq1-clause-arrived g t c =
 pub returns-in-None-below-clause-arrived : goal.returns-in-None-below-clause-arrived
 returns-in-None-below-clause-arrived g t c =
     let s = step_of c.args.path.now c.args.node.now (omega arith) c.requires.path c.requires.levels in
-    let ci = child_lent c.args.path.now c.args.node.now _ _ c.deref_mut-child.result.now s c.in-Some.is c.get_mut.ensures.value c.deref_mut-child.ensures.value in
-    let k = cascade_step c.args.path.now c.args.node.now c.deref_mut-child.result.now s ci in
-    let m = child_set c.args.node.now c.in-Some.children _ (with_value c.get_mut.result.now c.insert_below-below.new.node) c.in-Some.is in
-    arrived_below c.args.path.now c.args.node.now _ c.insert_below-below.new.node c.deref_mut-child.result.now s k m ci c.in-None-below.ensures.halved c.in-None-below.ensures.arrived
+    let ci = child_lent c.args.path.now c.args.node.now _ c.get_mut-child.result.now s c.in-Some.is c.get_mut-child.ensures.value in
+    let k = cascade_step c.args.path.now c.args.node.now c.get_mut-child.result.now s ci in
+    let m = child_set c.args.node.now c.in-Some.children _ c.insert_below-below.new.node c.in-Some.is in
+    arrived_below c.args.path.now c.args.node.now _ c.insert_below-below.new.node c.get_mut-child.result.now s k m ci c.in-None-below.ensures.halved c.in-None-below.ensures.arrived
 
 pub returns-in-Some-below-clause-arrived : goal.returns-in-Some-below-clause-arrived
 returns-in-Some-below-clause-arrived g t c =
     let s = step_of c.args.path.now c.args.node.now (omega arith) c.requires.path c.requires.levels in
-    let ci = child_lent c.args.path.now c.args.node.now _ _ c.deref_mut-child.result.now s c.in-Some.is c.get_mut.ensures.value c.deref_mut-child.ensures.value in
-    let k = cascade_step c.args.path.now c.args.node.now c.deref_mut-child.result.now s ci in
-    let m = child_set c.args.node.now c.in-Some.children _ (with_value c.get_mut.result.now c.insert_below-below.new.node) c.in-Some.is in
+    let ci = child_lent c.args.path.now c.args.node.now _ c.get_mut-child.result.now s c.in-Some.is c.get_mut-child.ensures.value in
+    let k = cascade_step c.args.path.now c.args.node.now c.get_mut-child.result.now s ci in
+    let m = child_set c.args.node.now c.in-Some.children _ c.insert_below-below.new.node c.in-Some.is in
     let f = subst (λ ps. MatchOption c.put_inner.result (length ps < capacity) (λ _. length ps ≡ capacity)) m.same c.put_inner.ensures.halved in
     let halved = c.in-Some-below.ensures.halved in
     let i = c.put_inner.ensures in
-    arrived_above c.args.path.now c.args.node.now _ c.insert_below-below.new.node c.deref_mut-child.result.now c.put_inner.new.node c.put_inner.result c.in-Some-below.up c.in-Some-below.right s k m ci (omega arith) f i.pairs i.children i.inner.0 i.left c.in-Some-below.ensures.arrived
+    arrived_above c.args.path.now c.args.node.now _ c.insert_below-below.new.node c.get_mut-child.result.now c.put_inner.new.node c.put_inner.result c.in-Some-below.up c.in-Some-below.right s k m ci (omega arith) f i.pairs i.children i.inner.0 i.left c.in-Some-below.ensures.arrived

@@ -1,5 +1,4 @@
 use Rattle.std.proofs.Common.{◌≡◌, ◌-◌, length, None, rules, ap, sym, subst, arith}
-use Rattle.std.specs.Box.{with_value}
 use Rattle.fc_tree_node.specs.Node.{own_pairs, IsLevelled}
 use Rattle.fc_tree_node.specs.Path.{IsPath}
 use Rattle.fc_tree_node.proofs.PathSteps.{one_step, step_of, child_there, child_lent}
@@ -27,15 +26,15 @@ returns-then-path-eq1-clause-place g t c =
     let room = ap (λ n. length (own_pairs n)) (leaf_here c.args.path.now c.args.node.now o) in
     put_in_room c.args.path.now c.args.node.now c.insert_leaf.new.self c.args.pair o l.1 i.leaf (omega arith) w.0 i.pairs (returns-then-path-eq1-clause-pairs g t c)
 
-pub get_mut-requires : goal.get_mut-requires
-get_mut-requires g t c =
+pub get_mut-child-requires : goal.get_mut-child-requires
+get_mut-child-requires g t c =
     let s = step_of c.args.path.now c.args.node.now (omega arith) c.requires.path c.requires.levels in
     child_there c.args.path.now c.args.node.now _ s c.in-Some.is
 
 pub insert_in_leaf-requires : goal.insert_in_leaf-requires
 insert_in_leaf-requires g t c κs within =
     let s = step_of c.args.path.now c.args.node.now (omega arith) c.requires.path c.requires.levels in
-    let ci = child_lent c.args.path.now c.args.node.now _ _ c.deref_mut-child.result.now s c.in-Some.is c.get_mut.ensures.value c.deref_mut-child.ensures.value in
+    let ci = child_lent c.args.path.now c.args.node.now _ c.get_mut-child.result.now s c.in-Some.is c.get_mut-child.ensures.value in
     let b = child_below _ c.args.node.now _ s.levels s.le in
     let e = ap (λ n. length (own_pairs n)) (leaf_below c.args.path.now c.args.node.now _ (omega arith) s ci) in
     let long = s.long in
@@ -45,15 +44,15 @@ insert_in_leaf-requires g t c κs within =
 pub returns-clause-pairs : goal.returns-clause-pairs
 returns-clause-pairs g t c =
     let s = step_of c.args.path.now c.args.node.now (omega arith) c.requires.path c.requires.levels in
-    let ci = child_lent c.args.path.now c.args.node.now _ _ c.deref_mut-child.result.now s c.in-Some.is c.get_mut.ensures.value c.deref_mut-child.ensures.value in
-    let m = child_set c.args.node.now c.in-Some.children _ (with_value c.get_mut.result.now c.insert_in_leaf.new.node) c.in-Some.is in
-    put_below c.args.path.now c.args.node.now _ _ c.deref_mut-child.result.now c.args.pair s m ci c.insert_in_leaf.ensures.pairs
+    let ci = child_lent c.args.path.now c.args.node.now _ c.get_mut-child.result.now s c.in-Some.is c.get_mut-child.ensures.value in
+    let m = child_set c.args.node.now c.in-Some.children _ c.insert_in_leaf.new.node c.in-Some.is in
+    put_below c.args.path.now c.args.node.now _ _ c.get_mut-child.result.now c.args.pair s m ci c.insert_in_leaf.ensures.pairs
 
 pub returns-clause-levels : goal.returns-clause-levels
 returns-clause-levels g t c =
     let s = step_of c.args.path.now c.args.node.now (omega arith) c.requires.path c.requires.levels in
-    let ci = child_lent c.args.path.now c.args.node.now _ _ c.deref_mut-child.result.now s c.in-Some.is c.get_mut.ensures.value c.deref_mut-child.ensures.value in
-    let m = child_set c.args.node.now c.in-Some.children _ (with_value c.get_mut.result.now c.insert_in_leaf.new.node) c.in-Some.is in
+    let ci = child_lent c.args.path.now c.args.node.now _ c.get_mut-child.result.now s c.in-Some.is c.get_mut-child.ensures.value in
+    let m = child_set c.args.node.now c.in-Some.children _ c.insert_in_leaf.new.node c.in-Some.is in
     let b = child_below _ c.args.node.now _ s.levels s.le in
     let q = ap (λ x. length (own_pairs x)) ci in
     let least = b.0 in
@@ -63,6 +62,6 @@ returns-clause-levels g t c =
 pub returns-clause-place : goal.returns-clause-place
 returns-clause-place g t c =
     let s = step_of c.args.path.now c.args.node.now (omega arith) c.requires.path c.requires.levels in
-    let ci = child_lent c.args.path.now c.args.node.now _ _ c.deref_mut-child.result.now s c.in-Some.is c.get_mut.ensures.value c.deref_mut-child.ensures.value in
-    let m = child_set c.args.node.now c.in-Some.children _ (with_value c.get_mut.result.now c.insert_in_leaf.new.node) c.in-Some.is in
-    put_in_room_below c.args.path.now c.args.node.now _ c.insert_in_leaf.new.node c.deref_mut-child.result.now c.args.pair _ s m ci (returns-clause-levels g t c) (returns-clause-pairs g t c) c.insert_in_leaf.ensures.place
+    let ci = child_lent c.args.path.now c.args.node.now _ c.get_mut-child.result.now s c.in-Some.is c.get_mut-child.ensures.value in
+    let m = child_set c.args.node.now c.in-Some.children _ c.insert_in_leaf.new.node c.in-Some.is in
+    put_in_room_below c.args.path.now c.args.node.now _ c.insert_in_leaf.new.node c.get_mut-child.result.now c.args.pair _ s m ci (returns-clause-levels g t c) (returns-clause-pairs g t c) c.insert_in_leaf.ensures.place

@@ -13,4 +13,4 @@ returns-clause-leaf g c =
     let steps = c.requires.levels c.requires.sound.0 c.requires.sound.2.1 in
     let within = leaf_within path c.requires.sound.0 root c.requires.sound.2.1 steps c.requires.path in
     let full : length (own_pairs (leaf_at path root)) ≡ capacity → capacity ≤ length (pairs_of root) = λ is. omega (arith, is) in
-    on_err_weaker _ full (rw (c.deref.ensures, c.as_slice.ensures.value) at c.try_new_nodes.ensures.full)
+    on_err_weaker _ full (rw c.as_slice.ensures.value at c.try_new_nodes.ensures.full)

@@ -1,5 +1,4 @@
 use Rattle.std.proofs.Common.{◌++◌, ◌∷◌, [], ◌-◌, ◌<◌, length, get_or, ap, sym, ◌∙◌, arith, rules}
-use Rattle.std.specs.Box.{with_value}
 use Rattle.std.specs.List.{remove}
 use Rattle.fc_tree_node.specs.Node.{pairs_of}
 use Rattle.fc_tree_node.proofs.Made.{own_made, child_set}
@@ -26,8 +25,8 @@ remove_last-pair-requires g t c κs within =
     let n = c.args.node.now in
     let a = some_above _ n _ c.in-Some.is c.requires.sound.1.1 in
     let e = c.len-end.ensures.value in
-    let ci = opened_child n _ c.len-end.result _ _ c.in-Some.is a.inner (omega arith) c.get_mut.ensures.value c.deref_mut-child.ensures.value in
-    let falls : length (pairs_of c.deref_mut-child.result.now) < length (pairs_of n) = fewer_last a.below n _ c.len-end.result a.levels c.requires.sound.1.0 e ci in
+    let ci = opened_child n _ c.len-end.result c.get_mut-child.result.now c.in-Some.is a.inner (omega arith) c.get_mut-child.ensures.value in
+    let falls : length (pairs_of c.get_mut-child.result.now) < length (pairs_of n) = fewer_last a.below n _ c.len-end.result a.levels c.requires.sound.1.0 e ci in
     (search rules, (search rules, (search rules, (a.below, below_root a.below n _ c.len-end.result a.levels (omega arith) ci))))
 
 pub mend_child-requires : goal.mend_child-requires
@@ -35,8 +34,8 @@ mend_child-requires g t c =
     let n = c.args.node.now in
     let end = c.len-end.result in
     let a = some_above _ n _ c.in-Some.is c.requires.sound.1.1 in
-    let ci = opened_child n _ end _ _ c.in-Some.is a.inner (omega arith) c.get_mut.ensures.value c.deref_mut-child.ensures.value in
-    let m = child_set n _ end (with_value c.get_mut.result.now c.remove_last-pair.new.node) c.in-Some.is in
+    let ci = opened_child n _ end c.get_mut-child.result.now c.in-Some.is a.inner (omega arith) c.get_mut-child.ensures.value in
+    let m = child_set n _ end c.remove_last-pair.new.node c.in-Some.is in
     (a.below, short_set a.below n _ _ _ end a.levels c.requires.sound.1.0 (omega arith) (ap length m.same) m.child ci (c.remove_last-pair.ensures.levels a.below (below_root a.below n _ end a.levels (omega arith) ci)))
 
 pub returns-clause-pairs : goal.returns-clause-pairs
@@ -44,8 +43,8 @@ returns-clause-pairs g t c =
     let n = c.args.node.now in
     let end = c.len-end.result in
     let a = some_above _ n _ c.in-Some.is c.requires.sound.1.1 in
-    let ci = opened_child n _ end _ _ c.in-Some.is a.inner (omega arith) c.get_mut.ensures.value c.deref_mut-child.ensures.value in
-    let m = child_set n _ end (with_value c.get_mut.result.now c.remove_last-pair.new.node) c.in-Some.is in
+    let ci = opened_child n _ end c.get_mut-child.result.now c.in-Some.is a.inner (omega arith) c.get_mut-child.ensures.value in
+    let m = child_set n _ end c.remove_last-pair.new.node c.in-Some.is in
     last_removed n _ _ _ end _ c.len-end.ensures.value a.inner m ci c.remove_last-pair.ensures.pairs ∙ ap (λ zs. zs ++ c.remove_last-pair.result ∷ []) (sym c.mend_child.ensures.pairs)
 
 pub returns-clause-levels : goal.returns-clause-levels
@@ -53,8 +52,8 @@ returns-clause-levels g t c h s =
     let n = c.args.node.now in
     let end = c.len-end.result in
     let a = some_above h n _ c.in-Some.is s.1 in
-    let ci = opened_child n _ end _ _ c.in-Some.is a.inner (omega arith) c.get_mut.ensures.value c.deref_mut-child.ensures.value in
-    let m = child_set n _ end (with_value c.get_mut.result.now c.remove_last-pair.new.node) c.in-Some.is in
+    let ci = opened_child n _ end c.get_mut-child.result.now c.in-Some.is a.inner (omega arith) c.get_mut-child.ensures.value in
+    let m = child_set n _ end c.remove_last-pair.new.node c.in-Some.is in
     let short = short_set a.below n _ _ _ end a.levels s.0 (omega arith) (ap length m.same) m.child ci (c.remove_last-pair.ensures.levels a.below (below_root a.below n _ end a.levels (omega arith) ci)) in
     shrunk_from h a.below n _ _ a.height (ap length m.same) (c.mend_child.ensures.levels a.below short)
 
@@ -63,7 +62,7 @@ returns-clause-moves g t c h s =
     let n = c.args.node.now in
     let end = c.len-end.result in
     let a = some_above h n _ c.in-Some.is s.1 in
-    let ci = opened_child n _ end _ _ c.in-Some.is a.inner (omega arith) c.get_mut.ensures.value c.deref_mut-child.ensures.value in
+    let ci = opened_child n _ end c.get_mut-child.result.now c.in-Some.is a.inner (omega arith) c.get_mut-child.ensures.value in
     let e = a.height in
     let x = c.remove_last-pair.ensures.moves a.below (below_root a.below n _ end a.levels (omega arith) ci) in
     let y = c.mend_child.ensures.moves in

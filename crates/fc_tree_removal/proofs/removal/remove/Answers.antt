@@ -1,4 +1,4 @@
-use Rattle.std.proofs.Common.{refl, sym, subst}
+use Rattle.std.proofs.Common.{refl}
 use Rattle.fc_tree_node.specs.Node.{IsSoundRoot}
 use Rattle.fc_tree_removal.proofs.removal.remove.Goals as goal
 
@@ -6,9 +6,9 @@ pub take_empty_root-requires : goal.take_empty_root-requires
 take_empty_root-requires g c =
     let h = c.requires.sound.0 in
     let sound : IsSoundRoot h c.in-Some.root = rw c.in-Some.is at c.requires.sound.1 in
-    (_, refl, h, (c.remove_at-pair.ensures.levels h (subst (IsSoundRoot h) (sym c.deref_mut-node.ensures.value) sound)).0)
+    (_, refl, h, (c.remove_at-pair.ensures.levels h sound).0)
 
 pub returns-clause-levels : goal.returns-clause-levels
 returns-clause-levels g c h s =
     let sound : IsSoundRoot h c.in-Some.root = rw c.in-Some.is at s in
-    c.take_empty_root.ensures.levels _ refl h (c.remove_at-pair.ensures.levels h (subst (IsSoundRoot h) (sym c.deref_mut-node.ensures.value) sound)).0
+    c.take_empty_root.ensures.levels _ refl h (c.remove_at-pair.ensures.levels h sound).0

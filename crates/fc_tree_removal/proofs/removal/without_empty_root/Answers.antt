@@ -1,5 +1,4 @@
-use Rattle.std.proofs.Common.{◌≡◌, length, sym, ap, ◌∙◌, arith}
-use Rattle.fc_tree_node.specs.declared.node.Node.{out-Node}
+use Rattle.std.proofs.Common.{◌≡◌, length, sym, arith}
 use Rattle.fc_tree_node.specs.Node.{own_pairs}
 use Rattle.fc_tree_node.proofs.Made.{inner_length}
 use Rattle.fc_tree_removal.proofs.Removed.{none_leaf, some_above, empty_leaf, only_child, only_pairs, one_lower}
@@ -7,38 +6,35 @@ use Rattle.fc_tree_removal.proofs.removal.without_empty_root.Goals as goal
 
 pub remove-requires : goal.remove-requires
 remove-requires g c =
-    let is = ap (λ n. (out-Node _ _ n).children) (sym c.into_inner-children.ensures) ∙ c.in-Some.is in
+    let is = c.in-Some.is in
     let a = some_above _ c.args.root _ is c.requires.1 in
     let k = inner_length c.args.root _ is a.inner in
     omega arith
 
 pub returns-in-None-clause-pairs : goal.returns-in-None-clause-pairs
 returns-in-None-clause-pairs g c =
-    let is = ap (λ n. (out-Node _ _ n).children) (sym c.into_inner-children.ensures) ∙ c.in-None.is in
-    let d = ap (λ n. length (own_pairs n)) c.deref.ensures in
+    let is = c.in-None.is in
     let v = c.len.ensures.value in
     let z = c.if-len-gt0.false in
     sym (empty_leaf c.args.root is (omega arith))
 
 pub returns-in-None-clause-levels : goal.returns-in-None-clause-levels
 returns-in-None-clause-levels g c h l =
-    none_leaf h c.args.root (ap (λ n. (out-Node _ _ n).children) (sym c.into_inner-children.ensures) ∙ c.in-None.is) l
+    none_leaf h c.args.root (c.in-None.is) l
 
-pub returns-in-Some-clause-pairs : goal.returns-in-Some-clause-pairs
-returns-in-Some-clause-pairs g c =
-    let is = ap (λ n. (out-Node _ _ n).children) (sym c.into_inner-children.ensures) ∙ c.in-Some.is in
+pub returns-clause-pairs : goal.returns-clause-pairs
+returns-clause-pairs g c =
+    let is = c.in-Some.is in
     let a = some_above _ c.args.root _ is c.requires.1 in
-    let d = ap (λ n. length (own_pairs n)) c.deref.ensures in
     let v = c.len.ensures.value in
     let z = c.if-len-gt0.false in
     let e : length (own_pairs c.args.root) ≡ 0 = omega arith in
     only_pairs c.args.root _ e (only_child c.args.root _ c.remove.result is a.inner e c.remove.ensures.value)
 
-pub returns-in-Some-clause-levels : goal.returns-in-Some-clause-levels
-returns-in-Some-clause-levels g c h l =
-    let is = ap (λ n. (out-Node _ _ n).children) (sym c.into_inner-children.ensures) ∙ c.in-Some.is in
+pub returns-clause-levels : goal.returns-clause-levels
+returns-clause-levels g c h l =
+    let is = c.in-Some.is in
     let a = some_above h c.args.root _ is l in
-    let d = ap (λ n. length (own_pairs n)) c.deref.ensures in
     let v = c.len.ensures.value in
     let z = c.if-len-gt0.false in
     let e : length (own_pairs c.args.root) ≡ 0 = omega arith in

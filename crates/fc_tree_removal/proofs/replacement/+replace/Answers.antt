@@ -1,5 +1,4 @@
 use Rattle.std.proofs.Common.{◌≡◌, ◌+◌, length, get_or, ap, arith}
-use Rattle.std.specs.Box.{with_value}
 use Rattle.fc_tree_node.specs.Node.{own_pairs, children_of}
 use Rattle.fc_tree_node.proofs.Made.{child_set}
 use Rattle.fc_tree_node.proofs.Pairs.{child_below}
@@ -15,8 +14,8 @@ returns-clause-pairs g t c =
     let s = place_step c.args.path.now n c.if-path-eq1.false c.requires.place in
     let k : length (children_of n) ≡ length (own_pairs n) + 1 = a.inner in
     let lt = s.child in
-    let ci = opened_child n _ i _ _ c.in-Some.is a.inner (omega arith) c.get_mut.ensures.value c.deref_mut-child.ensures.value in
-    let m = child_set n _ i (with_value c.get_mut.result.now c.replace.new.node) c.in-Some.is in
+    let ci = opened_child n _ i c.get_mut-child.result.now c.in-Some.is a.inner (omega arith) c.get_mut-child.ensures.value in
+    let m = child_set n _ i c.replace.new.node c.in-Some.is in
     below_pairs c.args.path.now n _ _ _ c.args.pair s a.inner m ci c.replace.ensures.pairs
 
 pub returns-clause-levels : goal.returns-clause-levels
@@ -27,8 +26,8 @@ returns-clause-levels g t c h l =
     let s = place_step c.args.path.now n c.if-path-eq1.false c.requires.place in
     let k : length (children_of n) ≡ length (own_pairs n) + 1 = a.inner in
     let lt = s.child in
-    let ci = opened_child n _ i _ _ c.in-Some.is a.inner (omega arith) c.get_mut.ensures.value c.deref_mut-child.ensures.value in
-    let m = child_set n _ i (with_value c.get_mut.result.now c.replace.new.node) c.in-Some.is in
+    let ci = opened_child n _ i c.get_mut-child.result.now c.in-Some.is a.inner (omega arith) c.get_mut-child.ensures.value in
+    let m = child_set n _ i c.replace.new.node c.in-Some.is in
     let b = child_below a.below n i a.levels (omega arith) in
     let q = ap (λ x. length (own_pairs x)) ci in
     let least = b.0 in

@@ -14,7 +14,7 @@ take_new_nodes-requires-clause-enough g c =
     let pairs = ap (λ (r : Places). r.pairs) c.self.view_is in
     let few = needed_most root path c.requires.sound steps room.levels room.pairs (omega arith) c.self.invariant.2 in
     let enough = place_enough room.places room.levels room.stock (omega arith) c.self.invariant.0 in
-    rw (c.deref.ensures, c.as_slice.ensures.value) (omega arith)
+    rw c.as_slice.ensures.value (omega arith)
 
 pub invariant_of-self : goal.invariant_of-self
 invariant_of-self g c =
@@ -25,5 +25,5 @@ invariant_of-self g c =
     let places = ap (λ (r : Places). r.places) c.self.view_is in
     let pairs = ap (λ (r : Places). r.pairs) c.self.view_is in
     let few : nodes_needed path root ≤ room.levels = needed_most root path c.requires.sound steps room.levels room.pairs (omega arith) c.self.invariant.2 in
-    let len = rw (c.deref.ensures, c.as_slice.ensures.value) at c.take_new_nodes.ensures.len in
+    let len = rw c.as_slice.ensures.value at c.take_new_nodes.ensures.len in
     (place_used room.places room.levels room.stock _ _ (omega arith) c.self.invariant.0 few len, c.self.invariant.1, c.self.invariant.2)
