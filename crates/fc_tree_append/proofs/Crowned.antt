@@ -1,7 +1,6 @@
 -- Two trees of one height below a new root.
-use Rattle.std.proofs.Common.{◌≡◌, ℕ, suc, ◌+◌, ◌<◌, ◌≤◌, [], ◌∷◌, ◌++◌, ◌^◌, length, get_or, ap, subst, ◌∙◌, arith, length-append, Box, Some, None}
+use Rattle.std.proofs.Common.{◌≡◌, ℕ, suc, ◌+◌, ◌<◌, ◌≤◌, [], ◌∷◌, ◌++◌, ◌^◌, length, get_or, ap, subst, ◌∙◌, arith, length-append, Some, None}
 use Rattle.std.specs.Prelude.{slice_set}
-use Rattle.std.specs.declared.alloc.Global.{Global}
 use Rattle.std.specs.List.{remove}
 use Rattle.fc_base.specs.Sizes.{capacity, min_len}
 use Rattle.fc_tree_node.specs.declared.node.Node.{Node}
@@ -22,7 +21,7 @@ module _ {K V : Type 0} where
     pub first : IsLevelled h left
     pub second : IsLevelled h right
 
-  module _ (h : ℕ) (root left : Node K V) (up : K × V) (right : Node K V) (r : IsCrowned h root left up right) where
+  module _ {h : ℕ} {root left right : Node K V} {up : K × V} (r : IsCrowned h root left up right) where
     pub crowned_right : min_len ≤ length (own_pairs left) → IsBordered Right (suc h) root
     crowned_right m = root_bordered Right h root left up right r.own r.children ((m, r.first), levelled_bordered Right h right r.second)
 

@@ -1,14 +1,13 @@
 -- A spine with a node at its end.
-use Rattle.std.proofs.Common.{◌≡◌, ℕ, suc, ◌+◌, ◌*◌, ◌^◌, ◌<◌, ◌≤◌, ◌⊎◌, inl, inr, true, false, List, [], ◌∷◌, ◌++◌, length, refl, sym, ap, ◌∙◌, subst, arith, add-one, lit<, Box, append_assoc, length-append, pow-suc}
+use Rattle.std.proofs.Common.{◌≡◌, ℕ, suc, ◌+◌, ◌*◌, ◌^◌, ◌<◌, ◌≤◌, ◌⊎◌, inl, inr, true, false, List, [], ◌∷◌, ◌++◌, length, refl, sym, ap, ◌∙◌, subst, arith, add-one, lit<, append_assoc, length-append, pow-suc}
 use Rattle.std.specs.Prelude.{nat_le, if◌then◌else◌}
 use Rattle.std.proofs.lemmas.Bool.{cases_lt}
 use Rattle.std.proofs.lemmas.Bool.Decides.{leb_tells}
 use Rattle.std.proofs.Math.Nat.{pow-le-pow_right}
-use Rattle.std.specs.declared.alloc.Global.{Global}
 use Rattle.std.specs.List.{AllByRecursion}
 use Rattle.fc_base.specs.Sizes.{capacity, most_children}
 use Rattle.fc_tree_node.specs.declared.node.Node.{Node}
-use Rattle.fc_tree_node.specs.Node.{own_pairs, children_of, pairs_of, items_or_none, boxed, IsLeaf, IsInner, IsSound, IsBlankInner}
+use Rattle.fc_tree_node.specs.Node.{own_pairs, children_of, pairs_of, items_or_none, IsLeaf, IsInner, IsSound, IsBlankInner}
 use Rattle.fc_tree_node.specs.Bordered.{LastAfter, IsRightBordered}
 use Rattle.fc_tree_node.proofs.Lists.{all_both, all_front, all_back}
 use Rattle.fc_tree_drain.specs.Opened.{before_back_in, before_back}
@@ -86,7 +85,7 @@ module _ {K V : Type 0} where
   -- ---- a blank node as the spine's end
 
   blank_children : (n : Node K V) → IsBlankInner n → children_of n ≡ []
-  blank_children n z = ap (λ o. boxed (items_or_none o)) z.1
+  blank_children n z = ap items_or_none z.1
 
   pub blank_end : (h : ℕ) (n : Node K V) → IsBlankInner n → IsOpenEnd h n
   blank_end h n z =

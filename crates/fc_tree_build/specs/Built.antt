@@ -1,7 +1,6 @@
 -- What contracts see of a builder, and how it is laid out.
 use Rattle.std.specs.Prelude.{◌≡◌, ℕ, ◌+◌, ◌*◌, ◌≤◌, List, [], ◌++◌, length, Option, Some, None}
 use Rattle.std.specs.List.{AllByRecursion}
-use Rattle.std.specs.declared.alloc.Global.{Global}
 use Rattle.fc_base.specs.Sizes.{capacity, most_children, most_height}
 use Rattle.fc_tree_node.specs.declared.node.Node.{Node}
 use Rattle.fc_tree_node.specs.Node.{own_pairs, IsLeaf, IsBlankLeaf, IsBlankInner}

@@ -120,10 +120,7 @@ pub(crate) fn last_of<K, V>(spine: &Spine<K, V>) -> Option<&(K, V)>
 }
 
 /// Goes down to the last leaf, which it answers, and puts each node on the way at the spine's end, without its last child.
-pub(crate) fn open_right<K: Drop, V: Drop>(
-    spine: &mut Spine<K, V>,
-    node: Node<K, V>,
-) -> Node<K, V>
+pub(crate) fn open_right<K: Drop, V: Drop>(spine: &mut Spine<K, V>, node: Node<K, V>) -> Node<K, V>
     requires levels { (h : ℕ) × IsSoundRoot h node × IsSpine h spine.old × (length spine.old + h ≤ most_height) }
     ensures pairs { before_back spine.new ++ own_pairs result ≡ before_back spine.old ++ pairs_of node }
     ensures leaf { (length (own_pairs result) ≤ capacity) × IsLeaf result }
@@ -139,10 +136,7 @@ pub(crate) fn open_right<K: Drop, V: Drop>(
 }
 
 // Takes the spine's last node out, or a blank one where it has none.
-fn open_end<K: Drop, V: Drop>(
-    spine: &mut Spine<K, V>,
-    spares: &mut Vec<Node<K, V>>,
-) -> Node<K, V>
+fn open_end<K: Drop, V: Drop>(spine: &mut Spine<K, V>, spares: &mut Vec<Node<K, V>>) -> Node<K, V>
     requires blank { AllByRecursion (λ b. IsBlankInner b) spares.old.items }
     requires some { 0 < length spine.old + length spares.old.items }
     ensures pairs { before_back spine.old ≡ before_back spine.new ++ before_back_in result }

@@ -1,40 +1,30 @@
-use Rattle.std.proofs.Common.{suc, ◌+◌, ◌≤◌, length, sym, ap, subst, ◌∙◌, arith}
-use Rattle.fc_base.specs.Sizes.{min_len}
-use Rattle.fc_tree_node.specs.Node.{own_pairs, pairs_of, IsLevelled}
+use Rattle.std.proofs.Common.{suc, ◌+◌, ◌∙◌, arith}
 use Rattle.fc_tree_border.proofs.Mended.{within_more}
 use Rattle.fc_tree_insertion.proofs.InsertedPairs.{put_root}
-use Rattle.fc_tree_append.specs.Hung.{beside}
 use Rattle.fc_tree_append.proofs.HungFacts.{root_bordered}
 use Rattle.fc_tree_append.proofs.hanging.hang.Goals as goal
 
-pub hang_below-requires-clause-levels : goal.hang_below-requires-clause-levels
-hang_below-requires-clause-levels g c = (c.requires.levels.0, subst (IsLevelled _) (sym c.deref_mut.ensures.value) c.requires.levels.1, c.requires.levels.2)
-
-pub hang_below-requires-clause-some : goal.hang_below-requires-clause-some
-hang_below-requires-clause-some g c z = subst (λ n. min_len ≤ length (own_pairs n)) (sym c.deref_mut.ensures.value) (c.requires.some z)
-
 pub mend-requires : goal.mend-requires
-mend-requires g c = (c.args.depth + c.requires.levels.0, c.in-None.ensures.levels c.requires.levels.0 (subst (IsLevelled _) (sym c.deref_mut.ensures.value) c.requires.levels.1) c.requires.levels.2)
+mend-requires g c = (c.args.depth + c.requires.levels.0, c.in-None.ensures.levels c.requires.levels.0 c.requires.levels.1 c.requires.levels.2)
 
 pub returns-in-None-clause-pairs : goal.returns-in-None-clause-pairs
-returns-in-None-clause-pairs g c =
-    c.mend.ensures.pairs ∙ c.in-None.ensures.pairs ∙ ap (λ n. beside c.args.side (pairs_of n) c.args.pair (pairs_of c.args.other)) c.deref_mut.ensures.value
+returns-in-None-clause-pairs g c = c.mend.ensures.pairs ∙ c.in-None.ensures.pairs
 
 pub returns-in-None-clause-levels : goal.returns-in-None-clause-levels
 returns-in-None-clause-levels g c h l o =
-    within_more (c.args.depth + h) (suc (c.args.depth + h)) _ (omega arith) (c.mend.ensures.levels (c.args.depth + h) (c.in-None.ensures.levels h (subst (IsLevelled _) (sym c.deref_mut.ensures.value) l) o))
+    within_more (c.args.depth + h) (suc (c.args.depth + h)) _ (omega arith) (c.mend.ensures.levels (c.args.depth + h) (c.in-None.ensures.levels h l o))
 
 pub mend-requires-in-Some : goal.mend-requires-in-Some
 mend-requires-in-Some g c =
-    let k = c.in-Some.ensures.levels c.requires.levels.0 (subst (IsLevelled _) (sym c.deref_mut.ensures.value) c.requires.levels.1) c.requires.levels.2 in
+    let k = c.in-Some.ensures.levels c.requires.levels.0 c.requires.levels.1 c.requires.levels.2 in
     (suc (c.args.depth + c.requires.levels.0), root_bordered c.args.side _ c.grow.new.root c.hang_below.new.node c.in-Some.up c.in-Some.right c.grow.ensures.pairs c.grow.ensures.children k)
 
 pub returns-clause-pairs : goal.returns-clause-pairs
 returns-clause-pairs g c =
     c.mend-in-Some.ensures.pairs ∙ put_root c.grow.new.root c.hang_below.new.node c.in-Some.right c.in-Some.up c.grow.ensures.pairs c.grow.ensures.children
-    ∙ c.in-Some.ensures.pairs ∙ ap (λ n. beside c.args.side (pairs_of n) c.args.pair (pairs_of c.args.other)) c.deref_mut.ensures.value
+    ∙ c.in-Some.ensures.pairs
 
 pub returns-clause-levels : goal.returns-clause-levels
 returns-clause-levels g c h l o =
-    let k = c.in-Some.ensures.levels h (subst (IsLevelled _) (sym c.deref_mut.ensures.value) l) o in
+    let k = c.in-Some.ensures.levels h l o in
     c.mend-in-Some.ensures.levels (suc (c.args.depth + h)) (root_bordered c.args.side _ c.grow.new.root c.hang_below.new.node c.in-Some.up c.in-Some.right c.grow.ensures.pairs c.grow.ensures.children k)

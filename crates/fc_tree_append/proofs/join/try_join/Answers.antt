@@ -9,19 +9,19 @@ use Rattle.fc_tree_append.proofs.join.try_join.Goals as goal
 pub height-requires : goal.height-requires
 height-requires g c =
     let r = root_sound _ _ c.in-Some.is c.requires.sound.0 in
-    (r.0, r.1, subst (IsLevelled r.0) (sym c.deref.ensures) r.2.1)
+    (r.0, r.1, r.2.1)
 
 pub height-requires-2 : goal.height-requires-2
 height-requires-2 g c =
     let r = root_sound _ _ c.in-Some-theirs.is c.requires.sound.1 in
-    (r.0, r.1, subst (IsLevelled r.0) (sym c.deref-2.ensures) r.2.1)
+    (r.0, r.1, r.2.1)
 
 pub try_spares-requires : goal.try_spares-requires
 try_spares-requires g c =
     let l = root_sound _ _ c.in-Some.is c.requires.sound.0 in
     let r = root_sound _ _ c.in-Some-theirs.is c.requires.sound.1 in
-    let x = c.height.ensures l.0 (subst (IsLevelled l.0) (sym c.deref.ensures) l.2.1) in
-    let y = c.height-2.ensures r.0 (subst (IsLevelled r.0) (sym c.deref-2.ensures) r.2.1) in
+    let x = c.height.ensures l.0 l.2.1 in
+    let y = c.height-2.ensures r.0 r.2.1 in
     let a = l.1 in
     let b = r.1 in
     let d = c.abs_diff-levels.ensures in
@@ -37,8 +37,8 @@ pub join-requires-clause-spares : goal.join-requires-clause-spares
 join-requires-clause-spares g c a b l r =
     let left : c.in-Some.left ≡ c.in-Some-take.left = cc (c.in-Some.is, c.take.ensures.value, c.in-Some-take.is) in
     let right : c.in-Some-theirs.right ≡ c.in-Some-take-2.right = cc (c.in-Some-theirs.is, c.take-2.ensures.value, c.in-Some-take-2.is) in
-    let x = c.height.ensures a (subst (IsLevelled a) (sym (c.deref.ensures ∙ ap (λ k. k) left)) l.1) in
-    let y = c.height-2.ensures b (subst (IsLevelled b) (sym (c.deref-2.ensures ∙ ap (λ k. k) right)) r.1) in
+    let x = c.height.ensures a (subst (IsLevelled a) (sym left) l.1) in
+    let y = c.height-2.ensures b (subst (IsLevelled b) (sym right) r.1) in
     let d = c.abs_diff-levels.ensures in
     let s = c.in_ok-spares.ensures.len in
     (omega arith, omega arith)

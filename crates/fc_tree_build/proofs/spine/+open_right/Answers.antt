@@ -1,6 +1,5 @@
-use Rattle.std.proofs.Common.{rules, arith, ◌-◌, ◌<◌, ◌++◌, length, sym, ap, subst, ◌∙◌}
+use Rattle.std.proofs.Common.{rules, arith, ◌-◌, ◌<◌, ◌++◌, length, sym, ap, subst}
 use Rattle.fc_base.specs.Sizes.{most_levels}
-use Rattle.fc_tree_node.specs.Node.{own_pairs, children_of}
 use Rattle.fc_tree_node.proofs.Pairs.{leaf_pairs}
 use Rattle.fc_tree_drain.specs.Opened.{before_back}
 use Rattle.fc_tree_build.specs.Spine.{IsSpine}
@@ -10,7 +9,6 @@ use Rattle.fc_tree_build.proofs.spine.+open_right.Goals as goal
 
 pub returns-then-child_count-eq0-clause-pairs : goal.returns-then-child_count-eq0-clause-pairs
 returns-then-child_count-eq0-clause-pairs g t c =
-    let d = ap (λ n. length (children_of n)) c.deref.ensures in
     let v = c.child_count.ensures.value in
     let z = c.if-child_count-eq0.true in
     let b = bottom c.requires.levels.0 c.args.node c.requires.levels.1 (omega arith) in
@@ -18,7 +16,6 @@ returns-then-child_count-eq0-clause-pairs g t c =
 
 pub returns-then-child_count-eq0-clause-leaf : goal.returns-then-child_count-eq0-clause-leaf
 returns-then-child_count-eq0-clause-leaf g t c =
-    let d = ap (λ n. length (children_of n)) c.deref.ensures in
     let v = c.child_count.ensures.value in
     let z = c.if-child_count-eq0.true in
     let b = bottom c.requires.levels.0 c.args.node c.requires.levels.1 (omega arith) in
@@ -26,7 +23,6 @@ returns-then-child_count-eq0-clause-leaf g t c =
 
 pub returns-then-child_count-eq0-clause-levels : goal.returns-then-child_count-eq0-clause-levels
 returns-then-child_count-eq0-clause-levels g t c =
-    let d = ap (λ n. length (children_of n)) c.deref.ensures in
     let v = c.child_count.ensures.value in
     let z = c.if-child_count-eq0.true in
     let b = bottom c.requires.levels.0 c.args.node c.requires.levels.1 (omega arith) in
@@ -35,10 +31,9 @@ returns-then-child_count-eq0-clause-levels g t c =
 
 pub open_right-requires : goal.open_right-requires
 open_right-requires g t c κs within =
-    let d = ap (λ n. length (children_of n)) c.deref.ensures in
     let v = c.child_count.ensures.value in
     let z = c.if-child_count-eq0.false in
-    let o = opened_right c.requires.levels.0 c.args.node _ _ c.requires.levels.1 (omega arith) (ap children_of (sym c.deref_mut.ensures.value) ∙ c.take_last_child-child.ensures.children) (c.take_last_child-child.ensures.pairs ∙ ap own_pairs c.deref_mut.ensures.value) in
+    let o = opened_right c.requires.levels.0 c.args.node _ _ c.requires.levels.1 (omega arith) c.take_last_child-child.ensures.children c.take_last_child-child.ensures.pairs in
     let e = length_pushed _ _ _ c.push.ensures in
     let fits = c.requires.levels.3 in
     let above = o.above in
@@ -47,8 +42,7 @@ open_right-requires g t c κs within =
 
 pub returns-clause-pairs : goal.returns-clause-pairs
 returns-clause-pairs g t c =
-    let d = ap (λ n. length (children_of n)) c.deref.ensures in
     let v = c.child_count.ensures.value in
     let z = c.if-child_count-eq0.false in
-    let o = opened_right c.requires.levels.0 c.args.node _ _ c.requires.levels.1 (omega arith) (ap children_of (sym c.deref_mut.ensures.value) ∙ c.take_last_child-child.ensures.children) (c.take_last_child-child.ensures.pairs ∙ ap own_pairs c.deref_mut.ensures.value) in
+    let o = opened_right c.requires.levels.0 c.args.node _ _ c.requires.levels.1 (omega arith) c.take_last_child-child.ensures.children c.take_last_child-child.ensures.pairs in
     opened_pairs _ _ _ c.args.node _ _ c.push.ensures o.pairs c.open_right.ensures.pairs

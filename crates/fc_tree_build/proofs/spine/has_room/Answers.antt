@@ -1,5 +1,4 @@
-use Rattle.std.proofs.Common.{◌-◌, length, ap, arith}
-use Rattle.fc_tree_node.specs.Node.{own_pairs}
+use Rattle.std.proofs.Common.{◌-◌, arith}
 use Rattle.fc_tree_build.proofs.SpineFacts.{needed_room}
 use Rattle.fc_tree_build.proofs.Ends.{last_taken}
 use Rattle.fc_tree_build.proofs.spine.has_room.Goals as goal
@@ -9,5 +8,4 @@ returns-then-len-gt0 g c room =
     let some = c.if-len-gt0.true in
     let n = c.len-len.ensures.value in
     let v = c.len.ensures.value in
-    let d = ap (λ n. length (own_pairs n)) c.deref.ensures in
     needed_room _ _ _ (last_taken c.args.spine.now (c.len-len.result - 1) c.get.result.now (omega arith) c.get.ensures) (grind (arith))

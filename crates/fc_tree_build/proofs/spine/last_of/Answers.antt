@@ -1,6 +1,5 @@
-use Rattle.std.proofs.Common.{◌+◌, ◌-◌, length, slice_index_or, sym, ap, subst, ◌∙◌, arith}
+use Rattle.std.proofs.Common.{◌+◌, ◌-◌, sym, subst, arith}
 use Rattle.std.specs.Prelude.{take}
-use Rattle.fc_tree_node.specs.Node.{own_pairs}
 use Rattle.fc_tree_drain.specs.Opened.{before_back}
 use Rattle.fc_tree_build.specs.Spine.{IsLastPair}
 use Rattle.fc_tree_build.proofs.Ends.{taken, spine_at, end_last, end_none}
@@ -14,15 +13,13 @@ loop-i-preserved g c =
     let here = c.loop-i-test.true in
     let e = taken c.args.spine.now c.loop-i.i c.get-node.result.now (omega arith) c.get-node.ensures in
     let o = spine_at c.requires.0 c.args.spine.now c.loop-i.i c.get-node.result.now c.requires.1 (omega arith) c.get-node.ensures in
-    let d = ap (λ n. length (own_pairs n)) c.deref.ensures in
     let v = c.len.ensures.value in (
       end,
       elim c.if-len-gt0.branch [
         | then-len-gt0 w ↦
             (let some = w.if-len-gt0.true in
-            let b = ap (λ n. length (own_pairs n)) w.deref-then-len-gt0-2.ensures in
             let n = w.len-then-len-gt0.ensures.value in
-            let p = w.pair.ensures ∙ ap (λ n. slice_index_or (own_pairs n) (w.len-then-len-gt0.result - 1) w.pair.result.now) w.deref-then-len-gt0.ensures in
+            let p = w.pair.ensures in
             subst (IsLastPair (before_back (take (c.loop-i.i + 1) c.args.spine.now))) (sym w.last-is) (end_last _ _ _ o.0 (w.len-then-len-gt0.result - 1) _ e o.1 (omega arith) p))
         | else-len-gt0 w ↦
             (let none = w.if-len-gt0.false in

@@ -1,6 +1,5 @@
-use Rattle.std.proofs.Common.{◌≡◌, ◌+◌, ◌≤◌, length, sym, ap, ◌∙◌, arith}
+use Rattle.std.proofs.Common.{◌≡◌, ◌+◌, ◌≤◌, sym, ap, ◌∙◌, arith}
 use Rattle.std.specs.Prelude.{take}
-use Rattle.fc_tree_node.specs.Node.{own_pairs}
 use Rattle.fc_tree_build.specs.Spares.{needed}
 use Rattle.fc_tree_build.proofs.SpineFacts.{needed_full, needed_room}
 use Rattle.fc_tree_build.proofs.Ends.{taken}
@@ -14,7 +13,6 @@ loop-i-preserved g c =
     let so_far = i.2 in
     let here = c.loop-i-test.true in
     let e = taken c.args.spine.now c.loop-i.i c.get.result.now (omega arith) c.get.ensures in
-    let d = ap (λ n. length (own_pairs n)) c.deref.ensures in
     let v = c.len.ensures.value in
     let next : (c.if-len-lt-CAPACITY.count ≡ needed (take (c.loop-i.i + 1) c.args.spine.now)) × (c.if-len-lt-CAPACITY.count ≤ c.loop-i.i + 1 + 1) = elim c.if-len-lt-CAPACITY.branch [
       | then-len-lt-CAPACITY w ↦ (let room = w.if-len-lt-CAPACITY.true in let is = w.count-is in (w.count-is ∙ sym (needed_room _ _ _ e (omega arith)), omega arith))

@@ -1,5 +1,4 @@
 use Rattle.std.proofs.Common.{rules, ◌≡◌, length, Some, ap, arith}
-use Rattle.fc_tree_node.specs.Node.{own_pairs}
 use Rattle.fc_tree_build.proofs.SpineFacts.{length_pushed, enough_needed}
 use Rattle.fc_tree_build.proofs.Builders.{leaf_taken, last_is, leaf_sound, enough_for_one, enough_left, push_pairs}
 use Rattle.fc_tree_build.proofs.builder.Builder.push.Goals as goal
@@ -10,7 +9,6 @@ attach-requires g c =
     let was : c.self.inside.last ≡ Some c.in-Some.last = c.in-Some.is in
     let l = last_is c.self.inside.last c.in-Some.last _ _ _ was i.0 in
     let few = l.0 in
-    let d = ap (λ n. length (own_pairs n)) c.deref.ensures in
     let v = c.len.ensures.value in
     let x = c.if-len-lt-CAPACITY.false in
     let q = length_pushed _ _ _ c.take_spare.ensures in
@@ -26,7 +24,6 @@ invariant_of-self-2 g c =
     let l = last_is c.self.inside.last c.in-Some.last _ _ _ was i.0 in
     let few = l.0 in
     let fits = l.2 in
-    let d = ap (λ n. length (own_pairs n)) c.deref.ensures in
     let v = c.len.ensures.value in
     let x = c.if-len-lt-CAPACITY.false in
     let t = leaf_taken _ _ _ c.take_spare.ensures i.2 in

@@ -1,4 +1,4 @@
-use Rattle.std.proofs.Common.{◌∷◌, [], ◌-◌, ◌++◌, length, slice_index_or, sym, ap, ◌∙◌, arith, append_assoc}
+use Rattle.std.proofs.Common.{◌∷◌, [], ◌-◌, ◌++◌, sym, ap, ◌∙◌, arith, append_assoc}
 use Rattle.std.specs.Prelude.{take}
 use Rattle.fc_tree_node.specs.Node.{own_pairs}
 use Rattle.fc_tree_drain.specs.Opened.{before_back}
@@ -9,13 +9,11 @@ use Rattle.fc_tree_build.proofs.growing.Growing.last.Goals as goal
 pub returns-then-len-gt0 : goal.returns-then-len-gt0
 returns-then-len-gt0 g c =
     let some = c.if-len-gt0.true in
-    let a = ap (λ n. length (own_pairs n)) c.deref.ensures in
     let v = c.len.ensures.value in
-    let b = ap (λ n. length (own_pairs n)) c.deref-then-len-gt0-2.ensures in
     let n = c.len-then-len-gt0.ensures.value in
     let i = c.len-then-len-gt0.result - 1 in
     let own = own_pairs c.in-Some.leaf in
-    let p = c.pair.ensures ∙ ap (λ n. slice_index_or (own_pairs n) (c.len-then-len-gt0.result - 1) c.pair.result.now) c.deref-then-len-gt0.ensures in
+    let p = c.pair.ensures in
     let l = last_taken (own_pairs c.in-Some.leaf) (c.len-then-len-gt0.result - 1) c.pair.result.now (omega arith) p in (
       before_back c.self.inside.spine ++ take i own,
       sym c.self.view_is ∙ ap (λ o. before_back c.self.inside.spine ++ last_pairs o) c.in-Some.is ∙ ap (λ ps. before_back c.self.inside.spine ++ ps) l ∙ sym (append_assoc (before_back c.self.inside.spine) (take i own) (c.pair.result.now ∷ [])),
