@@ -1,5 +1,5 @@
 -- A removal from a tree.
-use Rattle.std.proofs.Common.{◌≡◌, ℕ, ◌+◌, ◌-◌, ◌*◌, ◌≤◌, inl, inr, List, [], ◌∷◌, ◌++◌, length, Some, None, Option, refl, ap, ◌∙◌, arith, length-append}
+use Rattle.std.proofs.Common.{◌≡◌, ℕ, ◌+◌, ◌-◌, ◌*◌, ◌≤◌, inl, inr, List, [], ◌∷◌, ◌++◌, length, Some, None, Option, ap, ◌∙◌, arith, length-append}
 use Rattle.std.specs.declared.cmp.Ordering.{Ordering}
 use Rattle.std.specs.declared.cmp.Ordering.TheVariants.{Less}
 use Rattle.std.specs.List.{AllByRecursion}
@@ -17,13 +17,8 @@ use Rattle.fc_tree_node.proofs.Gaps.{place_pairs}
 use Rattle.fc_map.specs.Entries.{Map, entries, IsSoundMap}
 
 module _ {K V : Type 0} where
-  -- The list of the map at what is left of a tree.
-  pub left_entries : (left : Option (Node K V)) → entries left ≡ entries left
-  left_entries None = refl
-  left_entries (Some root) = refl
-
   -- What a removal leaves is sound, and no higher.
-  pub left_sound : (h : ℕ) (left : Option (Node K V)) → h ≤ most_height → IsTreeLeft h left → IsSoundMap left
+  pub left_sound : (h : ℕ) (left : Map K V) → h ≤ most_height → IsTreeLeft h left → IsSoundMap left
   left_sound h None le l = tt
   left_sound h (Some root) le (inl same) = (h, le, same)
   left_sound h (Some root) le (inr lower) = (h - 1, omega arith, lower.1)
@@ -37,23 +32,19 @@ module _ {K V : Type 0} where
       dropped [] b = b.1
       dropped (y ∷ s) b = (b.0, dropped s b.1)
 
-  module _ (root : Node K V) (path : List ℕ) (sound : IsSoundMap (Some root)) (place : IsPlace path root) (left : Option (Node K V)) (rest : entries left ≡ before_pair path root ++ after_pair path root) where
-    -- The pairs before the place and those after it are left.
-    pub left_list : entries left ≡ before_pair path root ++ after_pair path root
-    left_list = left_entries left ∙ rest
-
+  module _ (root : Node K V) (path : List ℕ) (sound : IsSoundMap (Some root)) (place : IsPlace path root) (left : Map K V) (rest : entries left ≡ before_pair path root ++ after_pair path root) where
     pub left_length : length (pairs_of root) ≡ length (entries left) + 1
     left_length =
         let c = place_pairs path sound.0 root sound.2.1 place in
         let old = ap length c.parts ∙ length-append (before_pair path root) (c.pair ∷ after_pair path root) in
-        let new = ap length left_list ∙ length-append (before_pair path root) (after_pair path root) in
+        let new = ap length rest ∙ length-append (before_pair path root) (after_pair path root) in
         omega (arith, old, new)
 
     -- The map's invariant holds of what is left.
     pub left_kept : (cmp : K → K → Ordering) → IsAscending cmp (pairs_of root) → IsTreeLeft sound.0 left → IsAscending cmp (entries left) × IsSoundMap left
     left_kept cmp ascending l =
         let c = place_pairs path sound.0 root sound.2.1 place in
-        (rw left_list (without_ascending cmp (before_pair path root) (after_pair path root) c.pair (rw c.parts at ascending)), left_sound sound.0 left sound.1 l)
+        (rw rest (without_ascending cmp (before_pair path root) (after_pair path root) c.pair (rw c.parts at ascending)), left_sound sound.0 left sound.1 l)
 
   -- The moves of a removal from a tree.
   pub left_moves : (root : Node K V) (sound : IsSoundMap (Some root)) (old new : Count) → new.moves ≤ old.moves + level_moves * (sound.0 + 1) → HasFewMoves (length (pairs_of root)) old new
@@ -64,11 +55,11 @@ module _ {K V : Type 0} where
   map_height None path sound place = absurd place
   map_height (Some root) path sound place = (sound.0, sound.2)
 
-  pub map_length : (m : Map K V) (path : List ℕ) → IsSoundMap m → IsPlaceIn m path → (left : Option (Node K V)) → entries left ≡ before_pair_in m path ++ after_pair_in m path → length (entries m) ≡ length (entries left) + 1
+  pub map_length : (m : Map K V) (path : List ℕ) → IsSoundMap m → IsPlaceIn m path → (left : Map K V) → entries left ≡ before_pair_in m path ++ after_pair_in m path → length (entries m) ≡ length (entries left) + 1
   map_length None path sound place left rest = absurd place
   map_length (Some root) path sound place left rest = left_length root path sound place left rest
 
-  pub map_kept : (m : Map K V) (path : List ℕ) → IsSoundMap m → IsPlaceIn m path → (left : Option (Node K V)) → entries left ≡ before_pair_in m path ++ after_pair_in m path → (cmp : K → K → Ordering) → IsAscending cmp (entries m) → ((h : ℕ) → IsSoundTree h m → IsTreeLeft h left) → IsAscending cmp (entries left) × IsSoundMap left
+  pub map_kept : (m : Map K V) (path : List ℕ) → IsSoundMap m → IsPlaceIn m path → (left : Map K V) → entries left ≡ before_pair_in m path ++ after_pair_in m path → (cmp : K → K → Ordering) → IsAscending cmp (entries m) → ((h : ℕ) → IsSoundTree h m → IsTreeLeft h left) → IsAscending cmp (entries left) × IsSoundMap left
   map_kept None path sound place left rest cmp ascending l = absurd place
   map_kept (Some root) path sound place left rest cmp ascending l = left_kept root path sound place left rest cmp ascending (l sound.0 sound.2)
 

@@ -14,7 +14,7 @@ go_on-requires g c = record {
 pub pass_next-last-requires : goal.pass_next-last-requires
 pass_next-last-requires g c =
     let m = c.args.self.now in
-    let n = c.in-Some.root.now in
+    let n = c.in-Some.root in
     let is = sym c.self.view_is ∙ c.in-Some.is in
     let sound = rw c.self.view_is at c.self.invariant.1 in
     let q = c.go_on.new.gap in
@@ -27,7 +27,7 @@ pass_next-last-requires g c =
 pub returns : goal.returns
 returns g c =
     let m = c.args.self.now in
-    let n = c.in-Some.root.now in
+    let n = c.in-Some.root in
     let is = sym c.self.view_is ∙ c.in-Some.is in
     let sound = rw c.self.view_is at c.self.invariant.1 in
     let q = c.go_on.new.gap in

@@ -10,7 +10,7 @@ overflow_sub-gap g c =
     let p = c.as_slice-gap.result.now in
     let is = sym c.self.view_is ∙ c.in-Some.is in
     let e = c.steps_to_previous-last.ensures in
-    let last : IsLast p c.in-Some.root.now c.steps_to_previous-last.result = record { within = e.within; none = e.none; place = e.place; before = e.before; step = e.step } in
+    let last : IsLast p c.in-Some.root c.steps_to_previous-last.result = record { within = e.within; none = e.none; place = e.place; before = e.before; step = e.step } in
     let some = some_last m _ p c.steps_to_previous-last.result is last (rw c.as_slice-gap.ensures.value c.requires.some) in
     let k = e.step (c.steps_to_previous-last.result - 1) (omega (arith, some)) in
     omega (arith, k)
@@ -21,18 +21,18 @@ push_gap_before-requires-clause-place g c =
     let p = c.as_slice-gap.result.now in
     let is = sym c.self.view_is ∙ c.in-Some.is in
     let e = c.steps_to_previous-last.ensures in
-    let last : IsLast p c.in-Some.root.now c.steps_to_previous-last.result = record { within = e.within; none = e.none; place = e.place; before = e.before; step = e.step } in
+    let last : IsLast p c.in-Some.root c.steps_to_previous-last.result = record { within = e.within; none = e.none; place = e.place; before = e.before; step = e.step } in
     let some = some_last m _ p c.steps_to_previous-last.result is last (rw c.as_slice-gap.ensures.value c.requires.some) in
     let i = c.steps_to_previous-last.result - 1 in
     let place : c.as_slice.result.now ≡ take i p ++ (get_or p i 0 - 1) ∷ [] = c.as_slice.ensures.value ∙ c.push.ensures ∙ ap (λ q. q ++ (get_or p i 0 - 1) ∷ []) c.of-place.ensures in
-    (place_back c.in-Some.root.now p c.as_slice.result.now i c.steps_to_previous-last.result last (omega (arith, some)) place).0
+    (place_back c.in-Some.root p c.as_slice.result.now i c.steps_to_previous-last.result last (omega (arith, some)) place).0
 
 pub returns : goal.returns
 returns g c =
     let m = c.args.self.now in
     let p = c.as_slice-gap.result.now in
     let same = c.as_slice-gap.ensures.value in
-    let n = c.in-Some.root.now in
+    let n = c.in-Some.root in
     let is = sym c.self.view_is ∙ c.in-Some.is in
     let e = c.steps_to_previous-last.ensures in
     let last : IsLast p n c.steps_to_previous-last.result = record { within = e.within; none = e.none; place = e.place; before = e.before; step = e.step } in

@@ -1,7 +1,7 @@
 use Rattle.std.proofs.Common.{◌≡◌, ◌∙◌, ◌++◌, length, sym, subst, arith}
 use Rattle.fc_tree_node.specs.TreePlace.{IsPlaceIn, before_pair_in, after_pair_in}
 use Rattle.fc_map.specs.Entries.{entries}
-use Rattle.fc_map.proofs.RemoveFacts.{left_entries, map_height, map_kept, map_length, map_moves}
+use Rattle.fc_map.proofs.RemoveFacts.{map_height, map_kept, map_length, map_moves}
 use Rattle.fc_map.proofs.map.BTreeMap.take_at.Goals as goal
 
 pub remove-pair-requires-clause-sound : goal.remove-pair-requires-clause-sound
@@ -37,7 +37,7 @@ pub returns-clause-pair : goal.returns-clause-pair
 returns-clause-pair g c = rw (← c.self.view_is) (rw c.as_slice.ensures.value at c.remove-pair.ensures.pair)
 
 pub returns-clause-rest : goal.returns-clause-rest
-returns-clause-rest g c = rw (← c.self.view_is) (left_entries c.remove-pair.new.tree ∙ rw c.as_slice.ensures.value at c.remove-pair.ensures.pairs)
+returns-clause-rest g c = rw (← c.self.view_is) (rw c.as_slice.ensures.value at c.remove-pair.ensures.pairs)
 
 pub returns-clause-length : goal.returns-clause-length
 returns-clause-length g c =
