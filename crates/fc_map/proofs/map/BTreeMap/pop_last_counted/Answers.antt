@@ -20,4 +20,4 @@ pub returns-clause-bounded : goal.returns-clause-bounded
 returns-clause-bounded g c =
     rw (← c.self.view_is)
     (popped_cost c.self.inside.root c.self.invariant.1 c.if-is_none.ensures c.args.count.now c.take_last-pair.new.count
-        c.take_last-pair.ensures.comparisons c.take_last-pair.ensures.moves)
+    c.take_last-pair.ensures.comparisons c.take_last-pair.ensures.moves)
