@@ -19,14 +19,16 @@ less_if Greater b e h = absurd (false≢true (sym e ∙ h))
 
 module _ {K V : Type 0} (cmp : K → K → Ordering) (total : IsTotalOrder cmp) where
   -- a key that lies before the first one lies before all
-  before_all : (x first : K × V) (t : List (K × V)) → slice_get t 0 ≡ Some first → cmp x.0 first.0 ≡ Less → IsAscending cmp t → AllByRecursion (λ y. cmp x.0 y.0 ≡ Less) t
+  before_all : (x first : K × V) (t : List (K × V)) → slice_get t 0 ≡ Some first → cmp x.0 first.0 ≡ Less → IsAscending cmp t
+      → AllByRecursion (λ y. cmp x.0 y.0 ≡ Less) t
   before_all x first [] e h a = absurd (cc e)
   before_all x first (y ∷ t) e h a =
       let q : first ≡ y = cc e in
       let l : cmp x.0 y.0 ≡ Less = ap (λ z. cmp x.0 z.0) (sym q) ∙ h in
       (l, all_map _ _ (λ z m. total.trans x.0 y.0 z.0 l m) t a.0)
 
-  pub both_ascend : (i : ℕ) (s t : List (K × V)) (last first : K × V) → i + 1 ≡ length s → slice_get s i ≡ Some last → slice_get t 0 ≡ Some first → cmp last.0 first.0 ≡ Less → IsAscending cmp s → IsAscending cmp t → IsAscending cmp (s ++ t)
+  pub both_ascend : (i : ℕ) (s t : List (K × V)) (last first : K × V) → i + 1 ≡ length s → slice_get s i ≡ Some last → slice_get t 0 ≡ Some first
+      → cmp last.0 first.0 ≡ Less → IsAscending cmp s → IsAscending cmp t → IsAscending cmp (s ++ t)
   both_ascend i [] t last first n e f h a b = absurd (omega arith)
   both_ascend zero (x ∷ []) t last first n e f h a b =
       let q : last ≡ x = cc e in
@@ -38,6 +40,7 @@ module _ {K V : Type 0} (cmp : K → K → Ordering) (total : IsTotalOrder cmp) 
       let l = a.0.0 in
       ((l, all_both (λ z. cmp x.0 z.0 ≡ Less) s t a.0.1 (all_back_of x y s t l r.0)), r)
     where
-      all_back_of : (x y : K × V) (s t : List (K × V)) → cmp x.0 y.0 ≡ Less → AllByRecursion (λ z. cmp y.0 z.0 ≡ Less) (s ++ t) → AllByRecursion (λ z. cmp x.0 z.0 ≡ Less) t
+      all_back_of : (x y : K × V) (s t : List (K × V)) → cmp x.0 y.0 ≡ Less → AllByRecursion (λ z. cmp y.0 z.0 ≡ Less) (s ++ t)
+          → AllByRecursion (λ z. cmp x.0 z.0 ≡ Less) t
       all_back_of x y [] t l r = all_map _ _ (λ z m. total.trans x.0 y.0 z.0 l m) t r
       all_back_of x y (w ∷ s) t l r = all_back_of x y s t l r.1

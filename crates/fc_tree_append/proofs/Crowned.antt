@@ -40,7 +40,8 @@ module _ {K V : Type 0} where
     pub crowned_alike : AreAlike (child_at root 0) (child_at root 1)
     crowned_alike = rw (first_is, second_is) (sides_alike Right h left right r.first (levelled_bordered Right h right r.second))
 
-    pub crowned_room : length (own_pairs left) + length (own_pairs right) < capacity → length (own_pairs (child_at root 0)) + length (own_pairs (child_at root 1)) + 1 ≤ capacity
+    pub crowned_room : length (own_pairs left) + length (own_pairs right) < capacity
+        → length (own_pairs (child_at root 0)) + length (own_pairs (child_at root 1)) + 1 ≤ capacity
     crowned_room m = rw (first_is, second_is) (omega arith)
 
     -- where the two become one node
@@ -49,9 +50,12 @@ module _ {K V : Type 0} where
         let none : length (own_pairs new) ≡ 0 = ap length g.pairs ∙ ap (λ ps. length (remove ps 0)) r.own in
         let one : children_of new ≡ g.whole ∷ [] = g.children ∙ ap (λ cs. slice_set (remove cs 1) 0 g.whole) r.children in
         let n : length (children_of new) ≡ 1 = ap length one in
-        let own : length (own_pairs g.whole) ≡ length (own_pairs left) + (length (own_pairs right) + 1) = ap length (g.own up ∙ ap (λ n. own_pairs n ++ get_or (own_pairs root) 0 up ∷ own_pairs (child_at root 1)) first_is ∙ ap (λ n. own_pairs left ++ get_or (own_pairs root) 0 up ∷ own_pairs n) second_is) ∙ length-append (own_pairs left) _ ∙ omega arith in
+        let own : length (own_pairs g.whole) ≡ length (own_pairs left) + (length (own_pairs right) + 1) = ap length
+        (g.own up ∙ ap (λ n. own_pairs n ++ get_or (own_pairs root) 0 up ∷ own_pairs (child_at root 1)) first_is
+        ∙ ap (λ n. own_pairs left ++ get_or (own_pairs root) 0 up ∷ own_pairs n) second_is) ∙ length-append (own_pairs left) _ ∙ omega arith in
         let below = g.below ∙ ap (λ n. children_of n ++ children_of (child_at root 1)) first_is ∙ ap (λ n. children_of left ++ children_of n) second_is in
-        let whole = side_whole Right h left right g.whole r.first (levelled_bordered Right h right r.second) below (subst (λ n. AreAlike n g.whole) first_is g.alike) (omega arith) in
+        let whole = side_whole Right h left right g.whole r.first (levelled_bordered Right h right r.second) below
+        (subst (λ n. AreAlike n g.whole) first_is g.alike) (omega arith) in
         (omega arith, omega arith, rw one whole)
 
   -- a tree of at most 2^64 - 1 pairs is not too high

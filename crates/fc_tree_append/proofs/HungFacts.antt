@@ -1,5 +1,6 @@
 -- A node whose child on the border has a tree hung on it.
-use Rattle.std.proofs.Common.{◌≡◌, ℕ, suc, ◌+◌, ◌<◌, ◌≤◌, List, [], ◌∷◌, ◌++◌, length, take, drop, refl, sym, ap, subst, ◌∙◌, arith, append_assoc, append-nil, Some, None, IfSome, MatchOption}
+use Rattle.std.proofs.Common.{◌≡◌, ℕ, suc, ◌+◌, ◌<◌, ◌≤◌, List, [], ◌∷◌, ◌++◌, length, take, drop, refl, sym, ap, subst, ◌∙◌, arith, append_assoc}
+use Rattle.std.proofs.Common.{append-nil, Some, None, IfSome, MatchOption}
 use Rattle.std.specs.List.{AllByRecursion, insert}
 use Rattle.fc_base.specs.Sizes.{capacity}
 use Rattle.fc_tree_node.specs.declared.node.Node.{Node}
@@ -55,11 +56,13 @@ module _ {K V : Type 0} where
       record { place = p; levels = l; le = le; there = omega arith; child = child_below g n i l le }
 
   -- the other node put on that side of a node of its level
-  pub placed_pairs : (s : Border) (old other new right : Node K V) (p : K × V) → IsPlacedBeside s old other new right → pairs_of new ++ p ∷ pairs_of right ≡ beside s (pairs_of old) p (pairs_of other)
+  pub placed_pairs : (s : Border) (old other new right : Node K V) (p : K × V) → IsPlacedBeside s old other new right
+      → pairs_of new ++ p ∷ pairs_of right ≡ beside s (pairs_of old) p (pairs_of other)
   placed_pairs Left old other new right p e = ap (λ n. pairs_of n ++ p ∷ pairs_of right) e.0 ∙ ap (λ n. pairs_of other ++ p ∷ pairs_of n) e.1
   placed_pairs Right old other new right p e = ap (λ n. pairs_of n ++ p ∷ pairs_of right) e.0 ∙ ap (λ n. pairs_of old ++ p ∷ pairs_of n) e.1
 
-  pub placed_levels : (s : Border) (h : ℕ) (old other new right : Node K V) → IsPlacedBeside s old other new right → IsSound h old → IsLevelled h other → AreHalves s h new right
+  pub placed_levels : (s : Border) (h : ℕ) (old other new right : Node K V) → IsPlacedBeside s old other new right → IsSound h old → IsLevelled h other
+      → AreHalves s h new right
   placed_levels Left h old other new right e a b = (subst (IsLeftBordered h) (sym e.0) (levelled_bordered Left h other b), subst (IsSound h) (sym e.1) a)
   placed_levels Right h old other new right e a b = (subst (IsSound h) (sym e.0) a, subst (IsRightBordered h) (sym e.1) (levelled_bordered Right h other b))
 
@@ -82,15 +85,19 @@ module _ {K V : Type 0} where
   bordered_of Right g n le i a = (le, i, a)
 
   -- two halves among sound children
-  halves_among : (s : Border) (g : ℕ) (c r : Node K V) (front back : List (Node K V)) → IsOuter s front back → AllByRecursion (IsSound g) front → AllByRecursion (IsSound g) back → AreHalves s g c r → AreBordered s g (front ++ c ∷ r ∷ back)
+  halves_among : (s : Border) (g : ℕ) (c r : Node K V) (front back : List (Node K V)) → IsOuter s front back → AllByRecursion (IsSound g) front
+      → AllByRecursion (IsSound g) back → AreHalves s g c r → AreBordered s g (front ++ c ∷ r ∷ back)
   halves_among Left g c r front back e a b h = subst (λ xs. FirstThen (IsLeftBordered g) (IsSound g) (xs ++ c ∷ r ∷ back)) (sym e) (h.0, (h.1, b))
-  halves_among Right g c r front back e a b h = subst (λ xs. LastAfter (IsRightBordered g) (IsSound g) (front ++ c ∷ r ∷ xs)) (sym e) (last_join (IsRightBordered g) (IsSound g) front (c ∷ r ∷ []) (omega arith) a h)
+  halves_among Right g c r front back e a b h =
+      subst (λ xs. LastAfter (IsRightBordered g) (IsSound g) (front ++ c ∷ r ∷ xs)) (sym e)
+      (last_join (IsRightBordered g) (IsSound g) front (c ∷ r ∷ []) (omega arith) a h)
 
   some_child : (n : Node K V) → IsInner n → 0 < length (children_of n)
   some_child n i = let e : length (children_of n) ≡ length (own_pairs n) + 1 = i in omega arith
 
   -- such children in a node, or in the two that it was halved into
-  hung_of : (s : Border) (g : ℕ) (new : Node K V) (t : Split K V) → AreBordered s g (children_after new t) → IsInner new → IfSome t (λ x. IsInner x.1) → MatchOption t (length (own_pairs new) ≤ capacity) (λ x. IsHalved new × IsHalved x.1) → IsHung s (suc g) new t
+  hung_of : (s : Border) (g : ℕ) (new : Node K V) (t : Split K V) → AreBordered s g (children_after new t) → IsInner new → IfSome t (λ x. IsInner x.1)
+      → MatchOption t (length (own_pairs new) ≤ capacity) (λ x. IsHalved new × IsHalved x.1) → IsHung s (suc g) new t
   hung_of s g new None a i j m = bordered_of s g new m i a
   hung_of Left g new (Some (up, r)) a i j m =
       let t = first_split (IsLeftBordered g) (IsSound g) (children_of new) (children_of r) (some_child new i) a in
@@ -105,7 +112,8 @@ module _ {K V : Type 0} where
 
   module _ (s : Border) (g : ℕ) (old mid c : Node K V) (i : ℕ) (on : IsOnBorder s g old i) (m : IsChildSet old mid i c) where
     -- the node, whose child on the border is now c
-    pub stay_pairs : (p : K × V) (other : List (K × V)) → pairs_of c ≡ beside s (pairs_of (child_at old i)) p other → pairs_of mid ≡ beside s (pairs_of old) p other
+    pub stay_pairs : (p : K × V) (other : List (K × V)) → pairs_of c ≡ beside s (pairs_of (child_at old i)) p other
+        → pairs_of mid ≡ beside s (pairs_of old) p other
     stay_pairs p other e =
         child_pairs old i on.le on.levels.1 mid c m ∙ ap (λ zs. before_child old i ++ (zs ++ after_child old i)) e
         ∙ beside_around s (before_child old i) (pairs_of (child_at old i)) (after_child old i) p other (outer s old i on.place)
@@ -118,10 +126,12 @@ module _ {K V : Type 0} where
         let fits = on.levels.0 in
         let there = on.there in
         border_closed s g mid c (take i cs) (drop (suc i) cs) (omega arith) (inner_kept old mid c i m on.levels.1) (m.child ∙ set_is cs i c there)
-        (length_take i cs (omega arith) ∙ on.place ∙ sym (place_kept s old mid m.same)) (all_take (IsSound g) i cs on.levels.2) b (all_drop (IsSound g) (suc i) cs on.levels.2)
+        (length_take i cs (omega arith) ∙ on.place ∙ sym (place_kept s old mid m.same)) (all_take (IsSound g) i cs on.levels.2) b
+        (all_drop (IsSound g) (suc i) cs on.levels.2)
 
     -- the same once it has taken the pair and the node that the child has handed out
-    pub put_pairs : (p : K × V) (other : List (K × V)) (new r : Node K V) (t : Split K V) (up : K × V) → own_pairs_after new t ≡ insert (own_pairs mid) i up → children_after new t ≡ insert (children_of mid) (i + 1) r → IsInner new → IfSome t (λ x. IsInner x.1)
+    pub put_pairs : (p : K × V) (other : List (K × V)) (new r : Node K V) (t : Split K V) (up : K × V) → own_pairs_after new t ≡ insert (own_pairs mid) i up
+        → children_after new t ≡ insert (children_of mid) (i + 1) r → IsInner new → IfSome t (λ x. IsInner x.1)
         → pairs_of c ++ up ∷ pairs_of r ≡ beside s (pairs_of (child_at old i)) p other → spread new t ≡ beside s (pairs_of old) p other
     put_pairs p other new r t up q f h k e =
         split_pairs old i on.le on.levels.1 mid c new t up r m q f h k ∙ ap (λ zs. before_child old i ++ (zs ++ after_child old i)) e
@@ -130,17 +140,23 @@ module _ {K V : Type 0} where
 
     around_outer : (t : Border) → i ≡ border_place t old → IsOuter t (take i (children_of old)) (drop (suc i) (children_of old))
     around_outer Left e = ap (λ k. take k (children_of old)) e
-    around_outer Right e = let q : i ≡ length (own_pairs old) = e in let n : length (children_of old) ≡ length (own_pairs old) + 1 = on.levels.1 in drop_all (children_of old) (suc i) (omega arith)
+    around_outer Right e =
+        let q : i ≡ length (own_pairs old) = e in let n : length (children_of old) ≡ length (own_pairs old) + 1 = on.levels.1 in drop_all (children_of old)
+        (suc i) (omega arith)
 
-    pub put_levels : (new : Node K V) (r : Node K V) (t : Split K V) (up : K × V) → IsHung s g c (Some (up, r)) → children_after new t ≡ insert (children_of mid) (i + 1) r → IsInner new → IfSome t (λ x. IsInner x.1)
+    pub put_levels : (new r : Node K V) (t : Split K V) (up : K × V) → IsHung s g c (Some (up, r)) → children_after new t ≡ insert (children_of mid) (i + 1) r
+        → IsInner new → IfSome t (λ x. IsInner x.1)
         → MatchOption t (length (own_pairs new) ≤ capacity) (λ x. IsHalved new × IsHalved x.1) → IsHung s (suc g) new t
     put_levels new r t up u f h k size =
         let cs = children_of old in
         let is = f ∙ ap (λ zs. insert zs (i + 1) r) m.child ∙ set_put cs i c r on.there in
-        hung_of s g new t (subst (AreBordered s g) (sym is) (halves_among s g c r (take i cs) (drop (suc i) cs) (around_outer s on.place) (all_take (IsSound g) i cs on.levels.2) (all_drop (IsSound g) (suc i) cs on.levels.2) u)) h k size
+        hung_of s g new t (subst (AreBordered s g) (sym is)
+        (halves_among s g c r (take i cs) (drop (suc i) cs) (around_outer s on.place) (all_take (IsSound g) i cs on.levels.2)
+        (all_drop (IsSound g) (suc i) cs on.levels.2) u)) h k size
 
   -- a new root above the two
-  pub root_bordered : (s : Border) (g : ℕ) (root left : Node K V) (up : K × V) (right : Node K V) → own_pairs root ≡ up ∷ [] → children_of root ≡ left ∷ right ∷ [] → IsHung s g left (Some (up, right)) → IsBordered s (suc g) root
+  pub root_bordered : (s : Border) (g : ℕ) (root left : Node K V) (up : K × V) (right : Node K V) → own_pairs root ≡ up ∷ []
+      → children_of root ≡ left ∷ right ∷ [] → IsHung s g left (Some (up, right)) → IsBordered s (suc g) root
   root_bordered s g root left up right e f h =
       let n : length (own_pairs root) ≡ 1 = ap length e in
       let k : length (children_of root) ≡ 2 = ap length f in

@@ -44,12 +44,14 @@ module _ {K V : Type 0} (cmp : K → K → Ordering) where
 
     joined_equal : cmp x.0 e.0 ≡ Equal → joined cmp (x ∷ s) (e ∷ t) ≡ e ∷ joined cmp s t
     joined_equal h =
-        ap (λ l. joined cmp l t) (placed_equal x e s h ∙ placed_first e s (all_map _ _ (λ y l. over_one cmp total e.0 y.0 (sym (total.congr x.0 e.0 y.0 h) ∙ l)) s a.0))
+        ap (λ l. joined cmp l t) (placed_equal x e s h ∙ placed_first e s
+        (all_map _ _ (λ y l. over_one cmp total e.0 y.0 (sym (total.congr x.0 e.0 y.0 h) ∙ l)) s a.0))
         ∙ joined_below e s t b.0
 
     joined_greater : cmp x.0 e.0 ≡ Greater → joined cmp (x ∷ s) (e ∷ t) ≡ e ∷ joined cmp (x ∷ s) t
     joined_greater h =
-        ap (λ l. joined cmp l t) (placed_first e (x ∷ s) (h, all_map _ _ (λ y l. over_one cmp total e.0 y.0 (total.trans e.0 x.0 y.0 (under_one cmp total e.0 x.0 h) l)) s a.0))
+        ap (λ l. joined cmp l t) (placed_first e (x ∷ s)
+        (h, all_map _ _ (λ y l. over_one cmp total e.0 y.0 (total.trans e.0 x.0 y.0 (under_one cmp total e.0 x.0 h) l)) s a.0))
         ∙ joined_below e (x ∷ s) t b.0
 
   -- ---- what is put after the pairs before, and what is left to be joined
@@ -60,25 +62,30 @@ module _ {K V : Type 0} (cmp : K → K → Ordering) where
   moved : (old new j k : List (K × V)) (p : K × V) → new ≡ old ++ p ∷ [] → k ≡ p ∷ j → new ++ j ≡ old ++ k
   moved old new j k p e f = ap (λ zs. zs ++ j) e ∙ append_assoc old (p ∷ []) j ∙ ap (λ zs. old ++ zs) (sym f)
 
-  module _ (total : IsTotalOrder cmp) (l r : List (K × V)) (x e : K × V) (s t : List (K × V)) (f : l ≡ x ∷ s) (g : r ≡ e ∷ t) (a : IsAscending cmp l) (b : IsAscending cmp r) (old new : List (K × V)) where
+  module _ (total : IsTotalOrder cmp) (l r : List (K × V)) (x e : K × V) (s t : List (K × V)) (f : l ≡ x ∷ s) (g : r ≡ e ∷ t) (a : IsAscending cmp l)
+      (b : IsAscending cmp r) (old new : List (K × V)) where
     pub step_less : (p : K × V) (u : List (K × V)) → l ≡ p ∷ u → cmp x.0 e.0 ≡ Less → new ≡ old ++ p ∷ [] → new ++ joined cmp u r ≡ old ++ joined cmp l r
     step_less p u i h n =
         let q = same_head p x u s l i f in
         let k = joined_less total p e u t (subst (IsAscending cmp) i a) (subst (IsAscending cmp) g b) (ap (λ y. cmp y.0 e.0) q ∙ h) in
-        moved old new (joined cmp u r) (joined cmp l r) p n (ap (λ y. joined cmp y r) i ∙ ap (λ y. joined cmp (p ∷ u) y) g ∙ k ∙ ap (λ y. p ∷ joined cmp u y) (sym g))
+        moved old new (joined cmp u r) (joined cmp l r) p n
+        (ap (λ y. joined cmp y r) i ∙ ap (λ y. joined cmp (p ∷ u) y) g ∙ k ∙ ap (λ y. p ∷ joined cmp u y) (sym g))
 
-    pub step_equal : (p q : K × V) (u v : List (K × V)) → l ≡ p ∷ u → r ≡ q ∷ v → cmp x.0 e.0 ≡ Equal → new ≡ old ++ q ∷ [] → new ++ joined cmp u v ≡ old ++ joined cmp l r
+    pub step_equal : (p q : K × V) (u v : List (K × V)) → l ≡ p ∷ u → r ≡ q ∷ v → cmp x.0 e.0 ≡ Equal → new ≡ old ++ q ∷ []
+        → new ++ joined cmp u v ≡ old ++ joined cmp l r
     step_equal p q u v i j h n =
         let c = same_head p x u s l i f in
         let d = same_head q e v t r j g in
-        let k = joined_equal total p q u v (subst (IsAscending cmp) i a) (subst (IsAscending cmp) j b) (ap (λ y. cmp y.0 q.0) c ∙ ap (λ y. cmp x.0 y.0) d ∙ h) in
+        let k = joined_equal total p q u v (subst (IsAscending cmp) i a) (subst (IsAscending cmp) j b)
+        (ap (λ y. cmp y.0 q.0) c ∙ ap (λ y. cmp x.0 y.0) d ∙ h) in
         moved old new (joined cmp u v) (joined cmp l r) q n (ap (λ y. joined cmp y r) i ∙ ap (λ y. joined cmp (p ∷ u) y) j ∙ k)
 
     pub step_greater : (q : K × V) (v : List (K × V)) → r ≡ q ∷ v → cmp x.0 e.0 ≡ Greater → new ≡ old ++ q ∷ [] → new ++ joined cmp l v ≡ old ++ joined cmp l r
     step_greater q v j h n =
         let d = same_head q e v t r j g in
         let k = joined_greater total x q s v (subst (IsAscending cmp) f a) (subst (IsAscending cmp) j b) (ap (λ y. cmp x.0 y.0) d ∙ h) in
-        moved old new (joined cmp l v) (joined cmp l r) q n (ap (λ y. joined cmp y r) f ∙ ap (λ y. joined cmp (x ∷ s) y) j ∙ k ∙ ap (λ y. q ∷ joined cmp y v) (sym f))
+        moved old new (joined cmp l v) (joined cmp l r) q n
+        (ap (λ y. joined cmp y r) f ∙ ap (λ y. joined cmp (x ∷ s) y) j ∙ k ∙ ap (λ y. q ∷ joined cmp y v) (sym f))
 
   -- what is left of an ascending list
   pub ascending_tail : (l u : List (K × V)) (p : K × V) → l ≡ p ∷ u → IsAscending cmp l → IsAscending cmp u
@@ -86,5 +93,7 @@ module _ {K V : Type 0} (cmp : K → K → Ordering) where
 
   -- once one list has no more, what is left of the other comes after
   pub drained : (old f t : List (K × V)) → (f ≡ []) ⊎ (t ≡ []) → IsAscending cmp t → (old ++ f) ++ t ≡ old ++ joined cmp f t
-  drained old f t (inl e) a = ap (λ zs. (old ++ zs) ++ t) e ∙ ap (λ zs. zs ++ t) (append-nil old) ∙ ap (λ zs. old ++ zs) (sym (joined_none t a)) ∙ ap (λ zs. old ++ joined cmp zs t) (sym e)
+  drained old f t (inl e) a =
+      ap (λ zs. (old ++ zs) ++ t) e ∙ ap (λ zs. zs ++ t) (append-nil old) ∙ ap (λ zs. old ++ zs) (sym (joined_none t a))
+      ∙ ap (λ zs. old ++ joined cmp zs t) (sym e)
   drained old f t (inr e) a = ap (λ zs. (old ++ f) ++ zs) e ∙ append-nil (old ++ f) ∙ ap (λ zs. old ++ joined cmp f zs) (sym e)

@@ -1,5 +1,6 @@
 -- A new builder, and one whose last leaf was full.
-use Rattle.std.proofs.Common.{◌≡◌, ℕ, zero, suc, ◌+◌, ◌*◌, ◌/◌, ◌<◌, ◌≤◌, List, [], ◌∷◌, ◌++◌, length, refl, sym, ap, ◌∙◌, subst, arith, append_assoc, append-nil, length-append, Option, Some, None}
+use Rattle.std.proofs.Common.{◌≡◌, ℕ, zero, suc, ◌+◌, ◌*◌, ◌/◌, ◌<◌, ◌≤◌, List, [], ◌∷◌, ◌++◌, length, refl, sym, ap, ◌∙◌, subst, arith, append_assoc}
+use Rattle.std.proofs.Common.{append-nil, length-append, Option, Some, None}
 use Rattle.std.specs.Option.{option_to_list}
 use Rattle.std.specs.List.{AllByRecursion}
 use Rattle.fc_base.specs.Sizes.{capacity, most_children}
@@ -25,7 +26,8 @@ some_left zero m e = let f : 0 ≡ m + 1 = e in absurd (omega arith)
 some_left (suc n) m e = let f : suc n / most_children + 1 ≡ m + 1 = e in omega arith
 
 module _ {K V : Type 0} where
-  pub leaf_taken : (old new : List (Node K V)) (b : Node K V) → old ≡ new ++ b ∷ [] → AllByRecursion (λ x. IsBlankLeaf x) old → IsBlankLeaf b × AllByRecursion (λ x. IsBlankLeaf x) new
+  pub leaf_taken : (old new : List (Node K V)) (b : Node K V) → old ≡ new ++ b ∷ [] → AllByRecursion (λ x. IsBlankLeaf x) old
+      → IsBlankLeaf b × AllByRecursion (λ x. IsBlankLeaf x) new
   leaf_taken old new b e a =
       let P : Node K V → Type 0 = λ x. IsBlankLeaf x in
       let f = subst (AllByRecursion P) e a in
@@ -34,14 +36,16 @@ module _ {K V : Type 0} where
   -- ---- a new builder: of its leaves the last one is taken out, if there is one
 
   -- how many leaves are left
-  pub spare_leaves : (n : ℕ) (all new : List (Node K V)) (o : Option (Node K V)) → all ≡ new ++ option_to_list o → length all ≡ leaves_for n → (o ≡ None → length all ≡ 0) → length new ≤ n / most_children
+  pub spare_leaves : (n : ℕ) (all new : List (Node K V)) (o : Option (Node K V)) → all ≡ new ++ option_to_list o → length all ≡ leaves_for n
+      → (o ≡ None → length all ≡ 0) → length new ≤ n / most_children
   spare_leaves n all new None e l z = let k = ap length e ∙ length-append new [] in let y = z refl in omega arith
   spare_leaves n all new (Some b) e l z =
       let k = ap length e ∙ length-append new (b ∷ []) in
       let m = some_left n (length new) (omega arith) in
       omega arith
 
-  pub first_last : (n : ℕ) (all new s : List (Node K V)) (o : Option (Node K V)) → s ≡ [] → all ≡ new ++ option_to_list o → length all ≡ leaves_for n → AllByRecursion (λ x. IsBlankLeaf x) all → (o ≡ None → length all ≡ 0) → IsLast o (length new) n s
+  pub first_last : (n : ℕ) (all new s : List (Node K V)) (o : Option (Node K V)) → s ≡ [] → all ≡ new ++ option_to_list o → length all ≡ leaves_for n
+      → AllByRecursion (λ x. IsBlankLeaf x) all → (o ≡ None → length all ≡ 0) → IsLast o (length new) n s
   first_last n all new s None f e l a z = (none_left n (let y = z refl in omega arith), f)
   first_last n all new s (Some b) f e l a z =
       let k = ap length e ∙ length-append new (b ∷ []) in
@@ -50,7 +54,8 @@ module _ {K V : Type 0} where
       let w = ap length t.0 in
       (omega arith, t.1, omega arith)
 
-  pub first_leaves : (all new : List (Node K V)) (o : Option (Node K V)) → all ≡ new ++ option_to_list o → AllByRecursion (λ x. IsBlankLeaf x) all → AllByRecursion (λ x. IsBlankLeaf x) new
+  pub first_leaves : (all new : List (Node K V)) (o : Option (Node K V)) → all ≡ new ++ option_to_list o → AllByRecursion (λ x. IsBlankLeaf x) all
+      → AllByRecursion (λ x. IsBlankLeaf x) new
   first_leaves all new o e a = all_front (λ (x : Node K V). IsBlankLeaf x) new (option_to_list o) (subst (AllByRecursion (λ (x : Node K V). IsBlankLeaf x)) e a)
 
   pub first_enough : (n inner q : ℕ) (s : List (Node K V)) → s ≡ [] → q ≤ n / most_children → AreInnerFor n inner → (d : ℕ) × IsEnough d inner q s
@@ -63,7 +68,8 @@ module _ {K V : Type 0} where
       let z = i.3 in
       (i.0, (omega arith, x, omega arith, omega arith))
 
-  pub first_pairs : (all new s : List (Node K V)) (o : Option (Node K V)) → s ≡ [] → all ≡ new ++ option_to_list o → AllByRecursion (λ x. IsBlankLeaf x) all → before_back s ++ last_pairs o ≡ []
+  pub first_pairs : (all new s : List (Node K V)) (o : Option (Node K V)) → s ≡ [] → all ≡ new ++ option_to_list o → AllByRecursion (λ x. IsBlankLeaf x) all
+      → before_back s ++ last_pairs o ≡ []
   first_pairs all new s None f e a = ap (λ t. before_back t ++ []) f
   first_pairs all new s (Some b) f e a = ap (λ t. before_back t ++ own_pairs b) f ∙ (leaf_taken all new b e a).0.0
 
@@ -78,10 +84,13 @@ module _ {K V : Type 0} where
   pub enough_for_one : (d i q : ℕ) (s : List (Node K V)) → 1 ≤ q → IsEnough d i q s → IsEnough d i 1 s
   enough_for_one d i q s h e = let w = e.2 in let k = e.3 in (e.0, e.1, omega arith, omega arith)
 
-  pub enough_left : (d i j q r : ℕ) (s new : List (Node K V)) → IsEnough d i q s → q ≡ r + 1 → length new ≤ d → worth new ≡ worth s + 1 → capacity * (j + length new) + own_count s + 1 ≡ capacity * (i + length s) + own_count new → IsEnough d j r new
+  pub enough_left : (d i j q r : ℕ) (s new : List (Node K V)) → IsEnough d i q s → q ≡ r + 1 → length new ≤ d → worth new ≡ worth s + 1
+      → capacity * (j + length new) + own_count s + 1 ≡ capacity * (i + length s) + own_count new → IsEnough d j r new
   enough_left d i j q r s new e f l w k = let a = e.2 in let b = e.3 in (l, e.1, omega arith, omega arith)
 
-  pub push_pairs : (s new : List (Node K V)) (blank : Node K V) (o : Option (Node K V)) (b : Node K V) (pair : K × V) (zs : List (K × V)) → o ≡ Some b → IsLeaf b → own_pairs blank ≡ [] → before_back s ++ last_pairs o ≡ zs → before_back new ≡ before_back s ++ (pairs_of b ++ pair ∷ []) → before_back new ++ own_pairs blank ≡ zs ++ pair ∷ []
+  pub push_pairs : (s new : List (Node K V)) (blank : Node K V) (o : Option (Node K V)) (b : Node K V) (pair : K × V) (zs : List (K × V)) → o ≡ Some b
+      → IsLeaf b → own_pairs blank ≡ [] → before_back s ++ last_pairs o ≡ zs → before_back new ≡ before_back s ++ (pairs_of b ++ pair ∷ [])
+      → before_back new ++ own_pairs blank ≡ zs ++ pair ∷ []
   push_pairs s new blank o b pair zs e l z v f =
       ap (λ ys. before_back new ++ ys) z ∙ append-nil (before_back new) ∙ f
       ∙ ap (λ ys. before_back s ++ (ys ++ pair ∷ [])) (leaf_pairs b l) ∙ sym (append_assoc (before_back s) (own_pairs b) (pair ∷ []))

@@ -20,7 +20,8 @@ few_digits (suc n) r l f e = within (cases_lt most_height r)
         absurd (omega arith)
 
 -- one digit more than the number without its last one
-pub digits_least : (n r : ℕ) → 0 < n → (0 < n / most_children → most_children ^ r ≤ most_children * (n / most_children)) → (n / most_children ≡ 0 → r ≡ 0) → most_children ^ (r + 1) ≤ most_children * n
+pub digits_least : (n r : ℕ) → 0 < n → (0 < n / most_children → most_children ^ r ≤ most_children * (n / most_children)) → (n / most_children ≡ 0 → r ≡ 0)
+    → most_children ^ (r + 1) ≤ most_children * n
 digits_least n r h f e = go (n / most_children) refl
   where
     go : (m : ℕ) → n / most_children ≡ m → most_children ^ (r + 1) ≤ most_children * n

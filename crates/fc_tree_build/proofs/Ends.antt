@@ -1,5 +1,6 @@
 -- The nodes of a spine one after another, and a tree opened at its right edge.
-use Rattle.std.proofs.Common.{◌≡◌, ℕ, zero, suc, ◌+◌, ◌-◌, ◌<◌, ◌≤◌, List, [], ◌∷◌, ◌++◌, length, map, refl, sym, ap, ◌∙◌, subst, arith, add-one, append_assoc, length-append}
+use Rattle.std.proofs.Common.{◌≡◌, ℕ, zero, suc, ◌+◌, ◌-◌, ◌<◌, ◌≤◌, List, [], ◌∷◌, ◌++◌, length, map, refl, sym, ap, ◌∙◌, subst, arith, add-one}
+use Rattle.std.proofs.Common.{append_assoc, length-append}
 use Rattle.std.specs.Prelude.{slice_index_or, get_or, take}
 use Rattle.std.specs.List.{AllByRecursion}
 use Rattle.std.proofs.Math.Seq.{take-suc, take-length}
@@ -22,7 +23,8 @@ module _ {X : Type 0} where
   last_taken s i b h e = sym (take-length s) ∙ ap (λ j. take j s) (sym h) ∙ taken s i b (omega arith) e
 
   -- as many lists as items end with the last item
-  last_before : (i : ℕ) (ps : List X) (cs : List (List X)) (d : X) → length cs ≡ length ps → i + 1 ≡ length ps → (front : List X) × (before_list cs ps ≡ front ++ get_or ps i d ∷ [])
+  last_before : (i : ℕ) (ps : List X) (cs : List (List X)) (d : X) → length cs ≡ length ps → i + 1 ≡ length ps
+      → (front : List X) × (before_list cs ps ≡ front ++ get_or ps i d ∷ [])
   last_before i [] cs d e l = absurd (omega arith)
   last_before i (p ∷ ps) [] d e l = absurd (omega arith)
   last_before zero (p ∷ []) (c ∷ []) d e l = (c, refl)
@@ -39,7 +41,8 @@ module _ {K V : Type 0} where
   spine_at h (x ∷ s) (suc i) b f l e = spine_at h s i b f.1 (omega arith) e
 
   -- a node with a pair ends with its last pair
-  pub end_last : (s new : List (Node K V)) (b : Node K V) (k i : ℕ) (p : K × V) → new ≡ s ++ b ∷ [] → IsOpenEnd k b → i + 1 ≡ length (own_pairs b) → p ≡ slice_index_or (own_pairs b) i p → (front : List (K × V)) × (before_back new ≡ front ++ p ∷ [])
+  pub end_last : (s new : List (Node K V)) (b : Node K V) (k i : ℕ) (p : K × V) → new ≡ s ++ b ∷ [] → IsOpenEnd k b → i + 1 ≡ length (own_pairs b)
+      → p ≡ slice_index_or (own_pairs b) i p → (front : List (K × V)) × (before_back new ≡ front ++ p ∷ [])
   end_last s new b k i p e o l f =
       let same = o.2 in
       let n = length-map (children_of b) pairs_of in
@@ -51,7 +54,8 @@ module _ {K V : Type 0} where
       )
 
   -- a node without a pair holds nothing
-  pub end_none : (s new : List (Node K V)) (b : Node K V) (k : ℕ) → new ≡ s ++ b ∷ [] → IsOpenEnd k b → length (own_pairs b) ≡ 0 → before_back new ≡ before_back s
+  pub end_none : (s new : List (Node K V)) (b : Node K V) (k : ℕ) → new ≡ s ++ b ∷ [] → IsOpenEnd k b → length (own_pairs b) ≡ 0
+      → before_back new ≡ before_back s
   end_none s new b k e o l =
       let same = o.2 in
       let none = no_item (children_of b) (omega arith) in
@@ -71,7 +75,8 @@ module _ {K V : Type 0} where
     pub opened : IsOpenEnd level m
     pub pairs : pairs_of n ≡ before_back_in m ++ pairs_of c
 
-  pub opened_right : (h : ℕ) (n m c : Node K V) → IsSoundRoot h n → 0 < length (children_of n) → children_of n ≡ children_of m ++ c ∷ [] → own_pairs m ≡ own_pairs n → IsOpenedRight h n m c
+  pub opened_right : (h : ℕ) (n m c : Node K V) → IsSoundRoot h n → 0 < length (children_of n) → children_of n ≡ children_of m ++ c ∷ []
+      → own_pairs m ≡ own_pairs n → IsOpenedRight h n m c
   opened_right zero n m c s l f e = absurd (let z = ap length (leaf_children n s.1.1) in omega arith)
   opened_right (suc h) n m c s l f e =
       let i = s.1.1 in
@@ -86,10 +91,18 @@ module _ {K V : Type 0} where
         level = h;
         above = refl;
         child = (omega arith, last.1);
-        opened = (omega arith, λ leaf. (let z = ap length (leaf_children m leaf) in absurd (omega arith)), omega arith, all_front (IsSound h) (children_of m) (c ∷ []) all);
+        opened = (
+          omega arith,
+          λ leaf. (let z = ap length (leaf_children m leaf) in absurd (omega arith)),
+          omega arith,
+          all_front (IsSound h) (children_of m)
+              (c ∷ []) all,
+        );
         pairs = whole_back n m c i f e;
       }
 
-  pub opened_pairs : (old mid : List (Node K V)) (b : Node K V) (n c : Node K V) (zs : List (K × V)) → mid ≡ old ++ b ∷ [] → pairs_of n ≡ before_back_in b ++ pairs_of c → zs ≡ before_back mid ++ pairs_of c → zs ≡ before_back old ++ pairs_of n
+  pub opened_pairs : (old mid : List (Node K V)) (b n c : Node K V) (zs : List (K × V)) → mid ≡ old ++ b ∷ [] → pairs_of n ≡ before_back_in b ++ pairs_of c
+      → zs ≡ before_back mid ++ pairs_of c → zs ≡ before_back old ++ pairs_of n
   opened_pairs old mid b n c zs e f g =
-      g ∙ ap (λ ys. ys ++ pairs_of c) (back_push old mid b e) ∙ append_assoc (before_back old) (before_back_in b) (pairs_of c) ∙ ap (λ ys. before_back old ++ ys) (sym f)
+      g ∙ ap (λ ys. ys ++ pairs_of c) (back_push old mid b e) ∙ append_assoc (before_back old) (before_back_in b) (pairs_of c)
+      ∙ ap (λ ys. before_back old ++ ys) (sym f)

@@ -1,8 +1,8 @@
 -- A spine with a node at its end.
-use Rattle.std.proofs.Common.{◌≡◌, ℕ, suc, ◌+◌, ◌*◌, ◌^◌, ◌<◌, ◌≤◌, ◌⊎◌, inl, inr, true, false, List, [], ◌∷◌, ◌++◌, length, refl, sym, ap, ◌∙◌, subst, arith, add-one, lit<, append_assoc, length-append, pow-suc}
+use Rattle.std.proofs.Common.{◌≡◌, ℕ, suc, ◌+◌, ◌*◌, ◌^◌, ◌<◌, ◌≤◌, ◌⊎◌, inl, inr, List, [], ◌∷◌, ◌++◌, length, refl, sym, ap, ◌∙◌}
+use Rattle.std.proofs.Common.{subst, arith, add-one, lit<, append_assoc, length-append, pow-suc}
 use Rattle.std.specs.Prelude.{nat_le, if◌then◌else◌}
-use Rattle.std.proofs.lemmas.Bool.{cases_lt}
-use Rattle.std.proofs.lemmas.Bool.Decides.{leb_tells}
+use Rattle.std.proofs.lemmas.Bool.{cases_lt, le-leb, lt-leb}
 use Rattle.std.proofs.Math.Nat.{pow-le-pow_right}
 use Rattle.std.specs.List.{AllByRecursion}
 use Rattle.fc_base.specs.Sizes.{capacity, most_children}
@@ -15,33 +15,31 @@ use Rattle.fc_tree_drain.proofs.Opening.{back_last, whole_back, back_push, empty
 use Rattle.fc_tree_build.specs.Spine.{IsOpenEnd, level_above, IsSpine}
 use Rattle.fc_tree_build.specs.Spares.{own_count, digits_after, worth, needed_after, needed, IsEnough}
 
--- what one more node makes of how many are needed
-needed_one : (a k : ℕ) → ((capacity ≤ k) × ((if nat_le capacity k then suc a else 0) ≡ suc a)) ⊎ ((k < capacity) × ((if nat_le capacity k then suc a else 0) ≡ 0))
-needed_one a k = within (leb_tells capacity k)
-  where
-    within : ((nat_le capacity k ≡ true) × (capacity ≤ k)) ⊎ ((nat_le capacity k ≡ false) × (k < capacity)) → ((capacity ≤ k) × ((if nat_le capacity k then suc a else 0) ≡ suc a)) ⊎ ((k < capacity) × ((if nat_le capacity k then suc a else 0) ≡ 0))
-    within (inl w) = inl (w.1, ap (λ f. if f then suc a else 0) w.0)
-    within (inr w) = inr (w.1, ap (λ f. if f then suc a else 0) w.0)
+-- what one more node, with k pairs, makes of how many are needed
+full_one : (a k : ℕ) → capacity ≤ k → (if nat_le capacity k then suc a else 0) ≡ suc a
+full_one a k h = ap (λ f. if f then suc a else 0) (le-leb capacity k h)
+
+room_one : (a k : ℕ) → k < capacity → (if nat_le capacity k then suc a else 0) ≡ 0
+room_one a k h = ap (λ f. if f then suc a else 0) (lt-leb capacity k h)
 
 -- Of l nodes as many are full as are needed, and as their pairs and their digits show; or all of them are, and there is a new root.
 abbrev IsTally : ℕ → ℕ → ℕ → ℕ → Type 0
 IsTally a w n l = ((a ≡ l + 1) × (most_children ^ l ≤ w + 1) × (capacity * l ≤ n)) ⊎ ((a ≤ l) × (capacity * a ≤ n))
 
 tally_more : (a w n l k : ℕ) → IsTally a w n l → IsTally (if nat_le capacity k then suc a else 0) (most_children * w + k) (n + k) (l + 1)
-tally_more a w n l k t = within (needed_one a k) t
+tally_more a w n l k t = within (cases_lt k capacity) t
   where
-    within : ((capacity ≤ k) × ((if nat_le capacity k then suc a else 0) ≡ suc a)) ⊎ ((k < capacity) × ((if nat_le capacity k then suc a else 0) ≡ 0)) → IsTally a w n l → IsTally (if nat_le capacity k then suc a else 0) (most_children * w + k) (n + k) (l + 1)
-    within (inl f) (inl t) =
-        let full = f.0 in
-        let is = f.1 in
+    within : (k < capacity) ⊎ (capacity ≤ k) → IsTally a w n l → IsTally (if nat_le capacity k then suc a else 0) (most_children * w + k) (n + k) (l + 1)
+    within (inr full) (inl t) =
+        let is = full_one a k full in
         let all = t.0 in
         let many = t.1 in
         let pairs = t.2 in
         let more = pow-suc most_children l in
         let next : most_children ^ (l + 1) ≡ most_children ^ suc l = ap (λ j. most_children ^ j) (add-one l) in
         inl (omega arith, omega arith, omega arith)
-    within (inl f) (inr t) = let full = f.0 in let is = f.1 in let few = t.0 in let pairs = t.1 in inr (omega arith, omega arith)
-    within (inr f) t = let is = f.1 in inr (omega arith, omega arith)
+    within (inr full) (inr t) = let is = full_one a k full in let few = t.0 in let pairs = t.1 in inr (omega arith, omega arith)
+    within (inl room) t = let is = room_one a k room in inr (omega arith, omega arith)
 
 module _ {K V : Type 0} where
   level_push : (h : ℕ) (s : List (Node K V)) (b : Node K V) → level_above h (s ++ b ∷ []) ≡ level_above (suc h) s
@@ -104,11 +102,13 @@ module _ {K V : Type 0} where
   pub child_room : (h : ℕ) (n : Node K V) → IsOpenEnd h n → length (children_of n) ≤ capacity
   child_room h n o = let a = o.0 in let b = o.2 in omega arith
 
-  children_both : (h : ℕ) (n m c : Node K V) → IsOpenEnd h n → children_of m ≡ children_of n ++ c ∷ [] → IsSound h c → AllByRecursion (IsSound h) (children_of m)
+  children_both : (h : ℕ) (n m c : Node K V) → IsOpenEnd h n → children_of m ≡ children_of n ++ c ∷ [] → IsSound h c
+      → AllByRecursion (IsSound h) (children_of m)
   children_both h n m c o f s = subst (AllByRecursion (IsSound h)) (sym f) (all_both (IsSound h) (children_of n) (c ∷ []) o.3 (s, tt))
 
   -- n, then with a child as m, then with a pair as r
-  pub end_grown : (h : ℕ) (n m r c : Node K V) (p : K × V) → IsOpenEnd h n → own_pairs m ≡ own_pairs n → children_of m ≡ children_of n ++ c ∷ [] → own_pairs r ≡ own_pairs m ++ p ∷ [] → children_of r ≡ children_of m → (IsLeaf r → ⊥) → length (own_pairs m) < capacity → IsSound h c → IsOpenEnd h r
+  pub end_grown : (h : ℕ) (n m r c : Node K V) (p : K × V) → IsOpenEnd h n → own_pairs m ≡ own_pairs n → children_of m ≡ children_of n ++ c ∷ []
+      → own_pairs r ≡ own_pairs m ++ p ∷ [] → children_of r ≡ children_of m → (IsLeaf r → ⊥) → length (own_pairs m) < capacity → IsSound h c → IsOpenEnd h r
   end_grown h n m r c p o e f q i k l s =
       let a = ap length e in
       let b = ap length f ∙ length-append (children_of n) (c ∷ []) in
@@ -117,15 +117,18 @@ module _ {K V : Type 0} where
       let w = o.2 in
       (omega arith, k, omega arith, subst (AllByRecursion (IsSound h)) (sym i) (children_both h n m c o f s))
 
-  pub end_pairs : (h : ℕ) (n m r c : Node K V) (p : K × V) → IsOpenEnd h n → own_pairs m ≡ own_pairs n → children_of m ≡ children_of n ++ c ∷ [] → own_pairs r ≡ own_pairs m ++ p ∷ [] → children_of r ≡ children_of m → before_back_in r ≡ before_back_in n ++ (pairs_of c ++ p ∷ [])
+  pub end_pairs : (h : ℕ) (n m r c : Node K V) (p : K × V) → IsOpenEnd h n → own_pairs m ≡ own_pairs n → children_of m ≡ children_of n ++ c ∷ []
+      → own_pairs r ≡ own_pairs m ++ p ∷ [] → children_of r ≡ children_of m → before_back_in r ≡ before_back_in n ++ (pairs_of c ++ p ∷ [])
   end_pairs h n m r c p o e f q i =
       let w = o.2 in
       back_last r n p c (q ∙ ap (λ ps. ps ++ p ∷ []) e) (i ∙ f) (omega arith) (omega arith)
 
   -- the whole spine, once its last node n has become b
-  pub spine_pairs : (old s new : List (Node K V)) (b : Node K V) (n c : Node K V) (p : K × V) → before_back old ≡ before_back s ++ before_back_in n → new ≡ s ++ b ∷ [] → before_back_in b ≡ before_back_in n ++ (pairs_of c ++ p ∷ []) → before_back new ≡ before_back old ++ (pairs_of c ++ p ∷ [])
+  pub spine_pairs : (old s new : List (Node K V)) (b n c : Node K V) (p : K × V) → before_back old ≡ before_back s ++ before_back_in n → new ≡ s ++ b ∷ []
+      → before_back_in b ≡ before_back_in n ++ (pairs_of c ++ p ∷ []) → before_back new ≡ before_back old ++ (pairs_of c ++ p ∷ [])
   spine_pairs old s new b n c p e f g =
-      back_push s new b f ∙ ap (λ zs. before_back s ++ zs) g ∙ sym (append_assoc (before_back s) (before_back_in n) (pairs_of c ++ p ∷ [])) ∙ ap (λ zs. zs ++ (pairs_of c ++ p ∷ [])) (sym e)
+      back_push s new b f ∙ ap (λ zs. before_back s ++ zs) g ∙ sym (append_assoc (before_back s) (before_back_in n) (pairs_of c ++ p ∷ []))
+      ∙ ap (λ zs. zs ++ (pairs_of c ++ p ∷ [])) (sym e)
 
   -- ---- a node closed by its last child
 
@@ -136,13 +139,15 @@ module _ {K V : Type 0} where
       let w = o.2 in
       omega arith
 
-  pub closed_sound : (h : ℕ) (n m c : Node K V) → IsOpenEnd h n → own_pairs m ≡ own_pairs n → children_of m ≡ children_of n ++ c ∷ [] → capacity ≤ length (own_pairs m) → IsSound h c → IsSound (suc h) m
+  pub closed_sound : (h : ℕ) (n m c : Node K V) → IsOpenEnd h n → own_pairs m ≡ own_pairs n → children_of m ≡ children_of n ++ c ∷ []
+      → capacity ≤ length (own_pairs m) → IsSound h c → IsSound (suc h) m
   closed_sound h n m c o e f l s =
       let a = ap length e in
       let w = o.0 in
       (omega arith, (omega arith, closed_inner h n m c o e f, children_both h n m c o f s))
 
-  pub closed_pairs : (h : ℕ) (n m c : Node K V) → IsOpenEnd h n → own_pairs m ≡ own_pairs n → children_of m ≡ children_of n ++ c ∷ [] → pairs_of m ≡ before_back_in n ++ pairs_of c
+  pub closed_pairs : (h : ℕ) (n m c : Node K V) → IsOpenEnd h n → own_pairs m ≡ own_pairs n → children_of m ≡ children_of n ++ c ∷ []
+      → pairs_of m ≡ before_back_in n ++ pairs_of c
   closed_pairs h n m c o e f = whole_back m n c (closed_inner h n m c o e f) f (sym e)
 
   last_after : (P Q : Node K V → Type 0) (cs : List (Node K V)) (c : Node K V) → AllByRecursion Q cs → P c → LastAfter P Q (cs ++ c ∷ [])
@@ -150,14 +155,21 @@ module _ {K V : Type 0} where
   last_after P Q (x ∷ []) c a p = (a.0, p)
   last_after P Q (x ∷ y ∷ cs) c a p = (a.0, last_after P Q (y ∷ cs) c a.1 p)
 
-  pub closed_bordered : (h : ℕ) (n m c : Node K V) → IsOpenEnd h n → own_pairs m ≡ own_pairs n → children_of m ≡ children_of n ++ c ∷ [] → IsRightBordered h c → IsRightBordered (suc h) m
+  pub closed_bordered : (h : ℕ) (n m c : Node K V) → IsOpenEnd h n → own_pairs m ≡ own_pairs n → children_of m ≡ children_of n ++ c ∷ [] → IsRightBordered h c
+      → IsRightBordered (suc h) m
   closed_bordered h n m c o e f r =
       let a = ap length e in
-      let w = o.0 in
-      (omega arith, closed_inner h n m c o e f, subst (LastAfter (IsRightBordered h) (IsSound h)) (sym f) (last_after (IsRightBordered h) (IsSound h) (children_of n) c o.3 r))
+      let w = o.0 in (
+        omega arith,
+        closed_inner h n m c o e f,
+        subst (LastAfter (IsRightBordered h) (IsSound h)) (sym f)
+            (last_after (IsRightBordered h) (IsSound h) (children_of n) c o.3 r),
+      )
 
   -- the pairs, where a closed node m goes up and a blank one takes its place
-  pub carried_pairs : (old s up new : List (Node K V)) (b : Node K V) (n m c : Node K V) (p : K × V) → before_back old ≡ before_back s ++ before_back_in n → pairs_of m ≡ before_back_in n ++ pairs_of c → before_back up ≡ before_back s ++ (pairs_of m ++ p ∷ []) → IsBlankInner b → new ≡ up ++ b ∷ [] → before_back new ≡ before_back old ++ (pairs_of c ++ p ∷ [])
+  pub carried_pairs : (old s up new : List (Node K V)) (b n m c : Node K V) (p : K × V) → before_back old ≡ before_back s ++ before_back_in n
+      → pairs_of m ≡ before_back_in n ++ pairs_of c → before_back up ≡ before_back s ++ (pairs_of m ++ p ∷ []) → IsBlankInner b → new ≡ up ++ b ∷ []
+      → before_back new ≡ before_back old ++ (pairs_of c ++ p ∷ [])
   carried_pairs old s up new b n m c p e f g z i =
       back_push up new b i ∙ sym (blank_back up b z) ∙ g
       ∙ ap (λ zs. before_back s ++ (zs ++ p ∷ [])) f ∙ ap (λ zs. before_back s ++ zs) (append_assoc (before_back_in n) (pairs_of c) (p ∷ []))
@@ -165,23 +177,16 @@ module _ {K V : Type 0} where
 
   -- ---- spare nodes
 
-  needed_put : (a : ℕ) (s : List (Node K V)) (b : Node K V) → needed_after a (s ++ b ∷ []) ≡ (if nat_le capacity (length (own_pairs b)) then suc (needed_after a s) else 0)
+  needed_put : (a : ℕ) (s : List (Node K V)) (b : Node K V)
+      → needed_after a (s ++ b ∷ []) ≡ (if nat_le capacity (length (own_pairs b)) then suc (needed_after a s) else 0)
   needed_put a [] b = refl
   needed_put a (x ∷ s) b = needed_put (if nat_le capacity (length (own_pairs x)) then suc a else 0) s b
 
   pub needed_full : (old s : List (Node K V)) (b : Node K V) → old ≡ s ++ b ∷ [] → capacity ≤ length (own_pairs b) → needed old ≡ needed s + 1
-  needed_full old s b e f = ap needed e ∙ needed_put 1 s b ∙ within (needed_one (needed s) (length (own_pairs b)))
-    where
-      within : ((capacity ≤ length (own_pairs b)) × ((if nat_le capacity (length (own_pairs b)) then suc (needed s) else 0) ≡ suc (needed s))) ⊎ ((length (own_pairs b) < capacity) × ((if nat_le capacity (length (own_pairs b)) then suc (needed s) else 0) ≡ 0)) → (if nat_le capacity (length (own_pairs b)) then suc (needed s) else 0) ≡ needed s + 1
-      within (inl w) = w.1 ∙ sym (add-one (needed s))
-      within (inr w) = absurd (let v = w.0 in omega arith)
+  needed_full old s b e f = ap needed e ∙ needed_put 1 s b ∙ full_one (needed s) (length (own_pairs b)) f ∙ sym (add-one (needed s))
 
   pub needed_room : (old s : List (Node K V)) (b : Node K V) → old ≡ s ++ b ∷ [] → length (own_pairs b) < capacity → needed old ≡ 0
-  needed_room old s b e f = ap needed e ∙ needed_put 1 s b ∙ within (needed_one (needed s) (length (own_pairs b)))
-    where
-      within : ((capacity ≤ length (own_pairs b)) × ((if nat_le capacity (length (own_pairs b)) then suc (needed s) else 0) ≡ suc (needed s))) ⊎ ((length (own_pairs b) < capacity) × ((if nat_le capacity (length (own_pairs b)) then suc (needed s) else 0) ≡ 0)) → (if nat_le capacity (length (own_pairs b)) then suc (needed s) else 0) ≡ 0
-      within (inl w) = absurd (let v = w.0 in omega arith)
-      within (inr w) = w.1
+  needed_room old s b e f = ap needed e ∙ needed_put 1 s b ∙ room_one (needed s) (length (own_pairs b)) f
 
   pub last_has_room : (old s : List (Node K V)) (b : Node K V) → old ≡ s ++ b ∷ [] → needed old ≡ 0 → length (own_pairs b) < capacity
   last_has_room old s b e none = within (cases_lt (length (own_pairs b)) capacity)
@@ -195,13 +200,15 @@ module _ {K V : Type 0} where
   some_needed (b ∷ s) = omega arith
 
   tally : (a w n l : ℕ) (s : List (Node K V)) → IsTally a w n l → IsTally (needed_after a s) (digits_after w s) (n + own_count s) (l + length s)
-  tally a w n l [] t = subst (λ j. IsTally a w j (l + 0)) (let e : n ≡ n + 0 = omega arith in e) (subst (λ j. IsTally a w n j) (let e : l ≡ l + 0 = omega arith in e) t)
+  tally a w n l [] t =
+      subst (λ j. IsTally a w j (l + 0)) (let e : n ≡ n + 0 = omega arith in e) (subst (λ j. IsTally a w n j) (let e : l ≡ l + 0 = omega arith in e) t)
   tally a w n l (b ∷ s) t =
       let k = length (own_pairs b) in
       let more = tally (if nat_le capacity k then suc a else 0) (most_children * w + k) (n + k) (l + 1) s (tally_more a w n l k t) in
       let e : n + k + own_count s ≡ n + (k + own_count s) = omega arith in
       let f : l + 1 + length s ≡ l + suc (length s) = omega arith in
-      subst (λ j. IsTally (needed_after a (b ∷ s)) (digits_after w (b ∷ s)) j (l + suc (length s))) e (subst (λ j. IsTally (needed_after a (b ∷ s)) (digits_after w (b ∷ s)) (n + k + own_count s) j) f more)
+      subst (λ j. IsTally (needed_after a (b ∷ s)) (digits_after w (b ∷ s)) j (l + suc (length s))) e
+      (subst (λ j. IsTally (needed_after a (b ∷ s)) (digits_after w (b ∷ s)) (n + k + own_count s) j) f more)
 
   pub enough_needed : (d i : ℕ) (s : List (Node K V)) → IsEnough d i 1 s → (needed s ≤ i) × (needed s ≤ d)
   enough_needed d i s e = within (tally 1 0 0 0 s (inl (omega arith, omega arith, omega arith))) (cases_lt (length s) d)
@@ -219,13 +226,16 @@ module _ {K V : Type 0} where
   not_blank [] n f h = absurd (let e = ap length (f refl) in omega arith)
   not_blank (b ∷ s) n f h = omega arith
 
-  pub spare_taken : (old new : List (Node K V)) (b : Node K V) → old ≡ new ++ b ∷ [] → AllByRecursion (λ x. IsBlankInner x) old → IsBlankInner b × AllByRecursion (λ x. IsBlankInner x) new
+  pub spare_taken : (old new : List (Node K V)) (b : Node K V) → old ≡ new ++ b ∷ [] → AllByRecursion (λ x. IsBlankInner x) old
+      → IsBlankInner b × AllByRecursion (λ x. IsBlankInner x) new
   spare_taken old new b e a =
       let P : Node K V → Type 0 = λ x. IsBlankInner x in
       let f = subst (AllByRecursion P) e a in
       ((all_back P new (b ∷ []) f).0, all_front P new (b ∷ []) f)
 
   -- the pairs, once the last node n is closed as m
-  pub closing_pairs : (old s : List (Node K V)) (b : Node K V) (m c : Node K V) (zs : List (K × V)) → old ≡ s ++ b ∷ [] → pairs_of m ≡ before_back_in b ++ pairs_of c → zs ≡ before_back s ++ pairs_of m → zs ≡ before_back old ++ pairs_of c
+  pub closing_pairs : (old s : List (Node K V)) (b m c : Node K V) (zs : List (K × V)) → old ≡ s ++ b ∷ [] → pairs_of m ≡ before_back_in b ++ pairs_of c
+      → zs ≡ before_back s ++ pairs_of m → zs ≡ before_back old ++ pairs_of c
   closing_pairs old s b m c zs e f g =
-      g ∙ ap (λ ys. before_back s ++ ys) f ∙ sym (append_assoc (before_back s) (before_back_in b) (pairs_of c)) ∙ ap (λ ys. ys ++ pairs_of c) (sym (back_push s old b e))
+      g ∙ ap (λ ys. before_back s ++ ys) f ∙ sym (append_assoc (before_back s) (before_back_in b) (pairs_of c))
+      ∙ ap (λ ys. ys ++ pairs_of c) (sym (back_push s old b e))

@@ -56,7 +56,8 @@ module _ {T : Type 0} where
     pub split : xs ≡ item ∷ above
     pub left : rest ≡ map Some above
 
-  pub take_cells : (cells rest : List (Option T)) (xs : List T) (o : Option T) → 0 < length xs → cells ≡ map Some xs → o ≡ get_or cells 0 o → rest ≡ remove cells 0 → IsTaken xs rest o
+  pub take_cells : (cells rest : List (Option T)) (xs : List T) (o : Option T) → 0 < length xs → cells ≡ map Some xs → o ≡ get_or cells 0 o
+      → rest ≡ remove cells 0 → IsTaken xs rest o
   take_cells cells rest [] o h e v r = absurd (omega arith)
   take_cells cells rest (x ∷ xs) o h e v r = record {
     item = x;

@@ -1,5 +1,6 @@
 -- The first pair that is left of a tree that is taken apart, and when none is.
-use Rattle.std.proofs.Common.{◌≡◌, ℕ, zero, suc, ◌+◌, ◌-◌, ◌<◌, List, [], ◌∷◌, ◌++◌, length, get_or, refl, sym, ap, ◌∙◌, arith, map, append_assoc, append-nil, length-append}
+use Rattle.std.proofs.Common.{◌≡◌, ℕ, zero, suc, ◌+◌, ◌-◌, ◌<◌, List, [], ◌∷◌, ◌++◌, length, get_or, refl, sym, ap, ◌∙◌, arith, map, append_assoc}
+use Rattle.std.proofs.Common.{append-nil, length-append}
 use Rattle.fc_base.specs.Sizes.{most_levels}
 use Rattle.fc_tree_node.specs.declared.node.Node.{Node}
 use Rattle.fc_tree_node.specs.Node.{own_pairs, children_of, pairs_of}
@@ -44,7 +45,8 @@ module _ {X : Type 0} where
   refilled_front new rest old r front back e f h = sym (append_assoc new rest r) ∙ ap (λ zs. zs ++ r) e ∙ f ∙ ap (λ zs. zs ++ back) (sym (no_item front h))
 
   pub refilled_back : (r rest new old front back : List X) → rest ++ new ≡ old → r ++ old ≡ front → length back ≡ 0 → (r ++ rest) ++ new ≡ front ++ back
-  refilled_back r rest new old front back e f h = append_assoc r rest new ∙ ap (λ zs. r ++ zs) e ∙ f ∙ sym (append-nil front) ∙ ap (λ zs. front ++ zs) (sym (no_item back h))
+  refilled_back r rest new old front back e f h =
+      append_assoc r rest new ∙ ap (λ zs. r ++ zs) e ∙ f ∙ sym (append-nil front) ∙ ap (λ zs. front ++ zs) (sym (no_item back h))
 
 module _ {K V : Type 0} where
   pub front_some : (s : List (Node K V)) (low high : ℕ) → IsFalling low high s → 0 < length s → 0 < length (after_front s)
@@ -78,9 +80,13 @@ module _ {K V : Type 0} where
   top_has s n b f l e = let t = last_split s n b l e in top_some s t.0 b f t.1
 
   -- and that pair stands first of all
-  pub top_first : (s : List (Node K V)) (n : ℕ) (b : Node K V) (p : K × V) → IsFalling 0 most_levels s → length s ≡ n + 1 → b ≡ get_or s n b → p ≡ get_or (own_pairs b) 0 p → (rest : List (K × V)) × (after_front s ≡ p ∷ rest)
+  pub top_first : (s : List (Node K V)) (n : ℕ) (b : Node K V) (p : K × V) → IsFalling 0 most_levels s → length s ≡ n + 1 → b ≡ get_or s n b
+      → p ≡ get_or (own_pairs b) 0 p → (rest : List (K × V)) × (after_front s ≡ p ∷ rest)
   top_first s n b p f l e q =
       let t = last_split s n b l e in
       let i = first_split (own_pairs b) p (top_some s t.0 b f t.1) q in
-      let k = after_head p i.0 (map pairs_of (children_of b)) in
-      (k.0 ++ after_front t.0, front_push t.0 s b t.1 ∙ ap (λ ps. after_list ps (map pairs_of (children_of b)) ++ after_front t.0) i.1 ∙ ap (λ zs. zs ++ after_front t.0) k.1)
+      let k = after_head p i.0 (map pairs_of (children_of b)) in (
+        k.0 ++ after_front t.0,
+        front_push t.0 s b t.1 ∙ ap (λ ps. after_list ps (map pairs_of (children_of b)) ++ after_front t.0) i.1
+            ∙ ap (λ zs. zs ++ after_front t.0) k.1,
+      )

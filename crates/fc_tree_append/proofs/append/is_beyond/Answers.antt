@@ -20,4 +20,5 @@ returns-clause-beyond g c h =
     let r : pairs_of c.in-Some-theirs.right ≡ theirs = ap (λ o. entries o) (sym c.in-Some-theirs.is) in
     let last = subst (λ xs. slice_get xs (length xs - 1) ≡ Some c.last_pair.result.now) l c.last_pair.ensures in
     let first = subst (λ xs. slice_get xs 0 ≡ Some c.first_pair.result.now) r c.first_pair.ensures in
-    both_ascend g.K.Ord.cmp g.met.K.Ord.total (length ours - 1) ours theirs c.last_pair.result.now c.first_pair.result.now (omega arith) last first (sym c.compare.ensures.value ∙ less_if _ _ c.is_lt.ensures h) c.requires.order.0 c.requires.order.1
+    both_ascend g.K.Ord.cmp g.met.K.Ord.total (length ours - 1) ours theirs c.last_pair.result.now c.first_pair.result.now (omega arith) last first
+    (sym c.compare.ensures.value ∙ less_if _ _ c.is_lt.ensures h) c.requires.order.0 c.requires.order.1

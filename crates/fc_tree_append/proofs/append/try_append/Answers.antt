@@ -16,7 +16,8 @@ returns-then-our_len-eq0-clause-joined g c =
 
 pub returns-then-is_beyond-clause-joined : goal.returns-then-is_beyond-clause-joined
 returns-then-is_beyond-clause-joined g c =
-    c.in_ok-try_join.ensures.pairs ∙ sym (joined_behind g.K.Ord.cmp (entries c.args.ours.now) (entries c.args.theirs.now) (c.is_beyond.ensures.beyond (search rules)))
+    c.in_ok-try_join.ensures.pairs ∙ sym (joined_behind g.K.Ord.cmp (entries c.args.ours.now) (entries c.args.theirs.now)
+    (c.is_beyond.ensures.beyond (search rules)))
 
 pub returns-then-is_beyond-clause-len : goal.returns-then-is_beyond-clause-len
 returns-then-is_beyond-clause-len g c =

@@ -11,13 +11,14 @@ use Rattle.fc_tree_append.proofs.hanging.+hang_below.Given as given
 use Rattle.fc_tree_append.proofs.hanging.+hang_below.Goals as goal
 use Rattle.fc_tree_append.proofs.hanging.+hang_below.Goals.{After-border_child-place, After-get_mut-child}
 
+-- the level of the node, and of its children
+deeper : (g : given.Over) (t : ℕ) (c : goal.After-border_child-place g t) (h : ℕ) → c.args.depth + h ≡ suc (c.args.depth - 1 + h)
+deeper g t c h = let z = c.if-depth-eq0.false in omega arith
+
 -- the child on the border of the node
 on : (g : given.Over) (t : ℕ) (c : goal.After-border_child-place g t) (h : ℕ) → IsLevelled (c.args.depth + h) c.args.node.now
     → IsOnBorder c.args.side (c.args.depth - 1 + h) c.args.node.now c.border_child-place.result
-on g t c h l =
-    let z = c.if-depth-eq0.false in
-    let more : c.args.depth + h ≡ suc (c.args.depth - 1 + h) = omega arith in
-    on_border c.args.side _ _ _ (subst (λ k. IsLevelled k c.args.node.now) more l) c.border_child-place.ensures.value
+on g t c h l = on_border c.args.side _ _ _ (subst (λ k. IsLevelled k c.args.node.now) (deeper g t c h) l) c.border_child-place.ensures.value
 
 -- is what was lent out
 lent : (g : given.Over) (t : ℕ) (c : goal.After-get_mut-child g t) (b : ℕ) → IsOnBorder c.args.side b c.args.node.now c.border_child-place.result
@@ -79,38 +80,34 @@ pub returns-in-None-below-clause-pairs : goal.returns-in-None-below-clause-pairs
 returns-in-None-below-clause-pairs g t c =
     let o = on g t (goal.at.returns-in-None-below-clause-pairs g t c).After-border_child-place c.requires.levels.0 c.requires.levels.1 in
     let ci = lent g t (goal.at.returns-in-None-below-clause-pairs g t c).After-get_mut-child _ o in
-    let m = child_set c.args.node.now _ c.border_child-place.result c.hang_below-below.new.node c.in-Some.is in
-    stay_pairs c.args.side _ _ _ _ _ o m c.args.pair (pairs_of c.args.other) (rw ci at c.in-None-below.ensures.pairs)
+    stay_pairs c.args.side _ _ _ c.hang_below-below.new.node _ o (child_set _ _ _ _ c.in-Some.is) c.args.pair (pairs_of c.args.other)
+    (rw ci at c.in-None-below.ensures.pairs)
 
 pub returns-in-None-below-clause-levels : goal.returns-in-None-below-clause-levels
 returns-in-None-below-clause-levels g t c h l k =
-    let o = on g t (goal.at.returns-in-None-below-clause-levels g t c).After-border_child-place h l in
+    let b = (goal.at.returns-in-None-below-clause-levels g t c).After-border_child-place in
+    let o = on g t b h l in
     let ci = lent g t (goal.at.returns-in-None-below-clause-levels g t c).After-get_mut-child _ o in
-    let m = child_set c.args.node.now _ c.border_child-place.result c.hang_below-below.new.node c.in-Some.is in
-    let z = c.if-depth-eq0.false in
-    let more : c.args.depth + h ≡ suc (c.args.depth - 1 + h) = omega arith in
-    rw more (stay_levels c.args.side _ _ _ _ _ o m (c.in-None-below.ensures.levels h (subst (IsLevelled _) (sym ci) o.child.1) k))
+    rw (deeper g t b h) (stay_levels c.args.side _ _ _ c.hang_below-below.new.node _ o (child_set _ _ _ _ c.in-Some.is)
+    (c.in-None-below.ensures.levels h (subst (IsLevelled _) (sym ci) o.child.1) k))
 
 pub returns-in-Some-below-clause-pairs : goal.returns-in-Some-below-clause-pairs
 returns-in-Some-below-clause-pairs g t c =
     let o = on g t (goal.at.returns-in-Some-below-clause-pairs g t c).After-border_child-place c.requires.levels.0 c.requires.levels.1 in
     let ci = lent g t (goal.at.returns-in-Some-below-clause-pairs g t c).After-get_mut-child _ o in
-    let m = child_set c.args.node.now _ c.border_child-place.result c.hang_below-below.new.node c.in-Some.is in
     let p = c.put_inner.ensures in
-    put_pairs c.args.side _ _ _ _ _ o m c.args.pair (pairs_of c.args.other) c.put_inner.new.node c.in-Some-below.right c.put_inner.result c.in-Some-below.up
-    p.pairs p.children p.inner.0 p.inner.1 (rw ci at c.in-Some-below.ensures.pairs)
+    put_pairs c.args.side _ _ _ c.hang_below-below.new.node _ o (child_set _ _ _ _ c.in-Some.is) c.args.pair (pairs_of c.args.other) c.put_inner.new.node
+    c.in-Some-below.right c.put_inner.result c.in-Some-below.up p.pairs p.children p.inner.0 p.inner.1 (rw ci at c.in-Some-below.ensures.pairs)
 
 pub returns-in-Some-below-clause-levels : goal.returns-in-Some-below-clause-levels
 returns-in-Some-below-clause-levels g t c h l k =
-    let o = on g t (goal.at.returns-in-Some-below-clause-levels g t c).After-border_child-place h l in
+    let b = (goal.at.returns-in-Some-below-clause-levels g t c).After-border_child-place in
+    let o = on g t b h l in
     let ci = lent g t (goal.at.returns-in-Some-below-clause-levels g t c).After-get_mut-child _ o in
-    let m = child_set c.args.node.now _ c.border_child-place.result c.hang_below-below.new.node c.in-Some.is in
-    let z = c.if-depth-eq0.false in
-    let more : c.args.depth + h ≡ suc (c.args.depth - 1 + h) = omega arith in
     let hung = c.in-Some-below.ensures.levels h (subst (IsLevelled _) (sym ci) o.child.1) k in
     let p = c.put_inner.ensures in
-    rw more (put_levels c.args.side _ _ _ _ _ o m c.put_inner.new.node c.in-Some-below.right c.put_inner.result c.in-Some-below.up hung
-    p.children p.inner.0 p.inner.1 p.size)
+    rw (deeper g t b h) (put_levels c.args.side _ _ _ c.hang_below-below.new.node _ o (child_set _ _ _ _ c.in-Some.is) c.put_inner.new.node
+    c.in-Some-below.right c.put_inner.result c.in-Some-below.up hung p.children p.inner.0 p.inner.1 p.size)
 
 pub returns-in-Some-below-clause-spares : goal.returns-in-Some-below-clause-spares
 returns-in-Some-below-clause-spares g t c =

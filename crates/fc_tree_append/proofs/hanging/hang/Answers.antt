@@ -16,8 +16,11 @@ returns-in-None-clause-levels g c h l o =
 
 pub mend-requires-in-Some : goal.mend-requires-in-Some
 mend-requires-in-Some g c =
-    let k = c.in-Some.ensures.levels c.requires.levels.0 c.requires.levels.1 c.requires.levels.2 in
-    (suc (c.args.depth + c.requires.levels.0), root_bordered c.args.side _ c.grow.new.root c.hang_below.new.node c.in-Some.up c.in-Some.right c.grow.ensures.pairs c.grow.ensures.children k)
+    let k = c.in-Some.ensures.levels c.requires.levels.0 c.requires.levels.1 c.requires.levels.2 in (
+      suc (c.args.depth + c.requires.levels.0),
+      root_bordered c.args.side _ c.grow.new.root c.hang_below.new.node c.in-Some.up c.in-Some.right
+          c.grow.ensures.pairs c.grow.ensures.children k,
+    )
 
 pub returns-clause-pairs : goal.returns-clause-pairs
 returns-clause-pairs g c =
@@ -27,4 +30,5 @@ returns-clause-pairs g c =
 pub returns-clause-levels : goal.returns-clause-levels
 returns-clause-levels g c h l o =
     let k = c.in-Some.ensures.levels h l o in
-    c.mend-in-Some.ensures.levels (suc (c.args.depth + h)) (root_bordered c.args.side _ c.grow.new.root c.hang_below.new.node c.in-Some.up c.in-Some.right c.grow.ensures.pairs c.grow.ensures.children k)
+    c.mend-in-Some.ensures.levels (suc (c.args.depth + h))
+    (root_bordered c.args.side _ c.grow.new.root c.hang_below.new.node c.in-Some.up c.in-Some.right c.grow.ensures.pairs c.grow.ensures.children k)

@@ -1,6 +1,6 @@
-use Rattle.std.proofs.Common.{◌≡◌, ◌+◌, ◌-◌, ◌≤◌, ◌++◌, ◌∷◌, [], ap, sym, subst, ◌∙◌, arith, append_assoc}
+use Rattle.std.proofs.Common.{◌≡◌, ◌+◌, ◌-◌, ◌≤◌, ◌++◌, ◌∷◌, [], ap, sym, ◌∙◌, arith, append_assoc}
 use Rattle.fc_base.specs.Sizes.{most_levels, most_height}
-use Rattle.fc_tree_node.specs.Node.{pairs_of, IsLevelled}
+use Rattle.fc_tree_node.specs.Node.{pairs_of}
 use Rattle.fc_tree_border.proofs.Mended.{within_more}
 use Rattle.fc_tree_append.proofs.join.join.Given as given
 use Rattle.fc_tree_append.proofs.join.join.Goals as goal
@@ -32,7 +32,7 @@ hang-requires g c =
     let r = c.requires.right in
     let z = c.if-ours-theirs.true in
     let same : r.0 ≡ c.height-theirs.result - c.height-ours.result + l.0 = omega arith in
-    let levels = subst (λ k. IsLevelled k c.args.right) same r.2.1 in
+    let levels = rw same at r.2.1 in
     record { levels = (l.0, levels, (c.remove_last-pair.ensures.levels l.0 l.2).0); some = λ e. absurd (omega arith); spares = omega arith }
 
 pub returns-then-ours-theirs-clause-pairs : goal.returns-then-ours-theirs-clause-pairs
@@ -47,7 +47,7 @@ returns-then-ours-theirs-clause-levels g c =
     let r = c.requires.right in
     let z = c.if-ours-theirs.true in
     let same : r.0 ≡ c.height-theirs.result - c.height-ours.result + l.0 = omega arith in
-    let levels = subst (λ k. IsLevelled k c.args.right) same r.2.1 in
+    let levels = rw same at r.2.1 in
     within_more _ most_levels _ (omega arith) (c.hang.ensures.levels l.0 levels (c.remove_last-pair.ensures.levels l.0 l.2).0)
 
 pub remove_first-pair-requires : goal.remove_first-pair-requires
@@ -60,7 +60,7 @@ hang-requires-then-ours-theirs-2 g c =
     let r = c.requires.right in
     let z = c.if-ours-theirs-2.true in
     let same : l.0 ≡ c.height-ours.result - c.height-theirs.result + r.0 = omega arith in
-    let levels = subst (λ k. IsLevelled k c.args.left) same l.2.1 in
+    let levels = rw same at l.2.1 in
     record { levels = (r.0, levels, (c.remove_first-pair.ensures.levels r.0 r.2).0); some = λ e. absurd (omega arith); spares = omega arith }
 
 pub returns-then-ours-theirs-2-clause-pairs : goal.returns-then-ours-theirs-2-clause-pairs
@@ -74,7 +74,7 @@ returns-then-ours-theirs-2-clause-levels g c =
     let r = c.requires.right in
     let z = c.if-ours-theirs-2.true in
     let same : l.0 ≡ c.height-ours.result - c.height-theirs.result + r.0 = omega arith in
-    let levels = subst (λ k. IsLevelled k c.args.left) same l.2.1 in
+    let levels = rw same at l.2.1 in
     within_more _ most_levels _ (omega arith) (c.hang-then-ours-theirs-2.ensures.levels r.0 levels (c.remove_first-pair.ensures.levels r.0 r.2).0)
 
 pub take-requires : goal.take-requires
@@ -88,7 +88,7 @@ crown-requires-clause-levels g c =
     let z = c.if-ours-theirs.false in
     let w = c.if-ours-theirs-2.false in
     let same : l.0 ≡ r.0 = omega arith in
-    (r.0, subst (λ k. IsLevelled k c.args.left) same l.2.1, (c.remove_first-pair.ensures.levels r.0 r.2).0)
+    (r.0, rw same at l.2.1, (c.remove_first-pair.ensures.levels r.0 r.2).0)
 
 pub returns-clause-pairs : goal.returns-clause-pairs
 returns-clause-pairs g c = c.crown.ensures.pairs ∙ ap (λ zs. pairs_of c.args.left ++ zs) (sym c.remove_first-pair.ensures.pairs)
@@ -101,5 +101,5 @@ returns-clause-levels g c =
     let z = c.if-ours-theirs.false in
     let w = c.if-ours-theirs-2.false in
     let same : l.0 ≡ r.0 = omega arith in
-    let levels = subst (λ k. IsLevelled k c.args.left) same l.2.1 in
+    let levels = rw same at l.2.1 in
     within_more _ most_levels _ (omega arith) (c.crown.ensures.levels r.0 levels (c.remove_first-pair.ensures.levels r.0 r.2).0)

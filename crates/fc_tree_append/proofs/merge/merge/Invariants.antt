@@ -7,10 +7,12 @@ abbrev pub invariant-loop-their_pairs : goal.invariant-loop-their_pairs
 invariant-loop-their_pairs g l =
     (IsAscending g.K.Ord.cmp l.our_pairs × IsAscending g.K.Ord.cmp l.their_pairs)
     × (length l.our_pairs + length l.their_pairs ≤ l.builder.room)
-    × (l.builder.pairs ++ joined g.K.Ord.cmp l.our_pairs l.their_pairs ≡ l.initial.builder.pairs ++ joined g.K.Ord.cmp l.initial.our_pairs l.initial.their_pairs)
+    × (l.builder.pairs ++ joined g.K.Ord.cmp l.our_pairs l.their_pairs ≡ l.initial.builder.pairs ++ joined g.K.Ord.cmp l.initial.our_pairs
+    l.initial.their_pairs)
     × (length l.builder.pairs + l.builder.room ≡ length l.initial.builder.pairs + l.initial.builder.room)
     × (l.count.comparisons < l.initial.count.comparisons + (length l.initial.our_pairs + length l.initial.their_pairs))
-    × (l.count.comparisons + (length l.our_pairs + length l.their_pairs) ≤ l.initial.count.comparisons + (length l.initial.our_pairs + length l.initial.their_pairs))
+    × (l.count.comparisons + (length l.our_pairs + length l.their_pairs) ≤ l.initial.count.comparisons + (length l.initial.our_pairs + length
+    l.initial.their_pairs))
     × (l.initial.count.comparisons + length l.initial.our_pairs ≤ l.count.comparisons + length l.our_pairs)
     × (l.initial.count.comparisons + length l.initial.their_pairs ≤ l.count.comparisons + length l.their_pairs)
     × (l.count.moves ≡ l.initial.count.moves)

@@ -7,11 +7,19 @@ attach-requires g c =
     let n = c.needed.ensures in
     let i = c.in-Ok.ensures.inner in
     let few = i.2 in
-    let many = i.0 in
-    (search rules, ((0, c.requires.levels.0, rw c.replace-leaf.ensures.value c.requires.levels.1), (i.1, (omega arith, (most_height, omega arith, c.requires.low, omega arith)))))
+    let many = i.0 in (
+      search rules,
+      (
+        (0, c.requires.levels.0, rw c.replace-leaf.ensures.value c.requires.levels.1),
+        (i.1, (omega arith, (most_height, omega arith, c.requires.low, omega arith))),
+      ),
+    )
 
 pub returns-in-Ok-clause-levels : goal.returns-in-Ok-clause-levels
 returns-in-Ok-clause-levels g c =
     let n = c.needed.ensures in
-    let few = c.in-Ok.ensures.inner.2 in
-    (c.attach.ensures.levels 0 c.requires.levels.0 (rw c.replace-leaf.ensures.value c.requires.levels.1), c.attach.ensures.short most_height c.requires.low (omega arith))
+    let few = c.in-Ok.ensures.inner.2 in (
+      c.attach.ensures.levels 0 c.requires.levels.0 (rw c.replace-leaf.ensures.value c.requires.levels.1),
+      c.attach.ensures.short most_height c.requires.low
+          (omega arith),
+    )

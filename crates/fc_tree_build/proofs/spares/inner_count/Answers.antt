@@ -11,5 +11,9 @@ overflow_add-result c =
 
 pub returns-clause-enough : goal.returns-clause-enough
 returns-clause-enough c =
-    let n = c.ranges.n.fits in
-    (c.digit_count.result, few_digits (c.args.n / most_children) c.digit_count.result (omega arith) c.digit_count.ensures.least c.digit_count.ensures.none, c.digit_count.ensures.above, refl)
+    let n = c.ranges.n.fits in (
+      c.digit_count.result,
+      few_digits (c.args.n / most_children) c.digit_count.result (omega arith) c.digit_count.ensures.least c.digit_count.ensures.none,
+      c.digit_count.ensures.above,
+      refl,
+    )

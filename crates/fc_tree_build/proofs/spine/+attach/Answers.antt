@@ -90,31 +90,20 @@ returns-then-len-lt-CAPACITY-clause-short g t c d long few =
 pub attach-requires : goal.attach-requires
 attach-requires g t c κs within =
     let f = full g t (goal.at.attach-requires g t c).After-len c.if-len-lt-CAPACITY.false in
-    let o = c.open_end-node.ensures.levels c.requires.levels.0 c.requires.levels.1 in
+    let h = c.requires.levels.0 in
+    let o = c.open_end-node.ensures.levels h c.requires.levels.1 in
     let e = c.put_child.ensures.pairs in
     let k = ap length e in
-    let closed = closed_sound c.requires.levels.0 _ _ _ o.0 e c.put_child.ensures.children (omega arith) c.requires.levels.2 in
+    let closed = closed_sound h _ _ _ o.0 e c.put_child.ensures.children (omega arith) c.requires.levels.2 in
     let x = c.open_end-node.ensures.shorter in
+    let blank = c.open_end-node.ensures.blank in
     let enough = c.requires.enough in
+    let d = c.requires.low.0 - 1 in
     let low = c.requires.low.1 in
     let long = c.requires.low.2 in
     let few = c.requires.low.3 in
-    let falls : length c.open_end-node.new.spine < length c.args.spine.now = omega arith in (
-      search rules,
-      (
-        search rules,
-        (
-          search rules,
-          (
-            search rules,
-            (
-              (suc c.requires.levels.0, o.1, closed),
-              (c.open_end-node.ensures.blank, (omega arith, (c.requires.low.0 - 1, omega arith, omega arith, omega arith))),
-            ),
-          ),
-        ),
-      ),
-    )
+    let falls : length c.open_end-node.new.spine < length c.args.spine.now = omega arith in
+    (search rules, (search rules, (search rules, (search rules, ((suc h, o.1, closed), (blank, (omega arith, (d, omega arith, omega arith, omega arith))))))))
 
 pub take_spare-requires : goal.take_spare-requires
 take_spare-requires g t c =

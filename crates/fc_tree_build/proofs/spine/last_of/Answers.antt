@@ -20,9 +20,11 @@ loop-i-preserved g c =
             (let some = w.if-len-gt0.true in
             let n = w.len-then-len-gt0.ensures.value in
             let p = w.pair.ensures in
-            subst (IsLastPair (before_back (take (c.loop-i.i + 1) c.args.spine.now))) (sym w.last-is) (end_last _ _ _ o.0 (w.len-then-len-gt0.result - 1) _ e o.1 (omega arith) p))
+            subst (IsLastPair (before_back (take (c.loop-i.i + 1) c.args.spine.now))) (sym w.last-is)
+            (end_last _ _ _ o.0 (w.len-then-len-gt0.result - 1) _ e o.1 (omega arith) p))
         | else-len-gt0 w ↦
             (let none = w.if-len-gt0.false in
-            subst (IsLastPair (before_back (take (c.loop-i.i + 1) c.args.spine.now))) (sym w.last-is) (subst (λ zs. IsLastPair zs c.loop-i.last) (sym (end_none _ _ _ o.0 e o.1 (omega arith))) i.1))
+            subst (IsLastPair (before_back (take (c.loop-i.i + 1) c.args.spine.now))) (sym w.last-is)
+            (subst (λ zs. IsLastPair zs c.loop-i.last) (sym (end_none _ _ _ o.0 e o.1 (omega arith))) i.1))
       ],
     )

@@ -12,4 +12,6 @@ move_to_back-requires g c =
     (search rules, (n.1, (n.0, (omega arith, c.front.invariant))))
 
 pub returns-clause-pairs : goal.returns-clause-pairs
-returns-clause-pairs g c = refilled_back (items_or_none c.front.inside.run) _ _ _ c.args.front.now c.args.back.now c.move_to_back.ensures.pairs c.front.view_is (c.is_empty.ensures.0 c.if-not-is_empty.false)
+returns-clause-pairs g c =
+    refilled_back (items_or_none c.front.inside.run) _ _ _ c.args.front.now c.args.back.now c.move_to_back.ensures.pairs c.front.view_is
+    (c.is_empty.ensures.0 c.if-not-is_empty.false)

@@ -12,4 +12,6 @@ move_to_front-requires g c =
     (search rules, (n.1, (n.0, (omega arith, c.back.invariant))))
 
 pub returns-clause-pairs : goal.returns-clause-pairs
-returns-clause-pairs g c = refilled_front _ _ _ (items_or_none c.back.inside.run) c.args.front.now c.args.back.now c.move_to_front.ensures.pairs c.back.view_is (c.is_empty.ensures.0 c.if-not-is_empty.false)
+returns-clause-pairs g c =
+    refilled_front _ _ _ (items_or_none c.back.inside.run) c.args.front.now c.args.back.now c.move_to_front.ensures.pairs c.back.view_is
+    (c.is_empty.ensures.0 c.if-not-is_empty.false)

@@ -29,4 +29,5 @@ open_first-requires g t c κs within =
 
 pub returns-clause-pairs : goal.returns-clause-pairs
 returns-clause-pairs g t c =
-    first_opened c.args.node _ _ _ _ _ c.take_first_child-child.ensures.children c.take_first_child-child.ensures.pairs c.push.ensures c.open_first.ensures.pairs
+    first_opened c.args.node _ _ _ _ _ c.take_first_child-child.ensures.children c.take_first_child-child.ensures.pairs c.push.ensures
+    c.open_first.ensures.pairs

@@ -29,4 +29,5 @@ open_last-requires g t c κs within =
 
 pub returns-clause-pairs : goal.returns-clause-pairs
 returns-clause-pairs g t c =
-    last_opened c.args.node _ _ _ _ _ c.requires c.take_last_child-child.ensures.children c.take_last_child-child.ensures.pairs c.push.ensures c.open_last.ensures.pairs
+    last_opened c.args.node _ _ _ _ _ c.requires c.take_last_child-child.ensures.children c.take_last_child-child.ensures.pairs c.push.ensures
+    c.open_last.ensures.pairs

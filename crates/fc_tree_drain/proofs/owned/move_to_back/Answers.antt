@@ -10,7 +10,9 @@ returns-then-child_count-len-clause-pairs g c =
     let v = c.child_count.ensures.value in
     let w = c.len.ensures.value in
     let t = c.if-child_count-len.true in
-    filled_back c.args.front.now _ _ c.take_bottom-node.result c.take_bottom-node.ensures (ap (λ zs. before_back c.push.new.self ++ zs) c.requires.used_up ∙ append-nil (before_back c.push.new.self) ∙ back_over c.args.back.now _ _ c.requires.none (omega arith) c.push.ensures)
+    filled_back c.args.front.now _ _ c.take_bottom-node.result c.take_bottom-node.ensures
+    (ap (λ zs. before_back c.push.new.self ++ zs) c.requires.used_up ∙ append-nil (before_back c.push.new.self)
+    ∙ back_over c.args.back.now _ _ c.requires.none (omega arith) c.push.ensures)
 
 pub returns-then-child_count-len-clause-back : goal.returns-then-child_count-len-clause-back
 returns-then-child_count-len-clause-back g c = bottom_over _ _ c.args.back.now _ _ c.requires.levels c.take_bottom-node.ensures c.requires.none c.push.ensures
@@ -31,8 +33,11 @@ open_last-requires g c =
     let v = c.child_count.ensures.value in
     let w = c.len.ensures.value in
     let t = c.if-child_count-len.false in
-    let e = bottom_even _ _ c.take_bottom-node.result c.requires.levels c.take_bottom-node.ensures (omega arith) in
-    (search rules, under_over_last _ _ c.args.back.now _ c.take_bottom-node.result _ _ c.requires.levels c.take_bottom-node.ensures e c.requires.none c.take_last_child-child.ensures.children c.take_last_child-child.ensures.pairs c.push-2.ensures)
+    let e = bottom_even _ _ c.take_bottom-node.result c.requires.levels c.take_bottom-node.ensures (omega arith) in (
+      search rules,
+      under_over_last _ _ c.args.back.now _ c.take_bottom-node.result _ _ c.requires.levels c.take_bottom-node.ensures e c.requires.none
+          c.take_last_child-child.ensures.children c.take_last_child-child.ensures.pairs c.push-2.ensures,
+    )
 
 pub returns-clause-pairs : goal.returns-clause-pairs
 returns-clause-pairs g c =
@@ -40,11 +45,13 @@ returns-clause-pairs g c =
     let w = c.len.ensures.value in
     let t = c.if-child_count-len.false in
     let e = bottom_even _ _ c.take_bottom-node.result c.requires.levels c.take_bottom-node.ensures (omega arith) in
-    let p = back_parted c.args.back.now c.push-2.new.self _ c.take_bottom-node.result _ _ c.requires.none e c.take_last_child-child.ensures.children c.take_last_child-child.ensures.pairs c.push-2.ensures c.open_last.ensures.pairs in
+    let q = c.take_last_child-child.ensures in
+    let p = back_parted c.args.back.now c.push-2.new.self _ _ _ _ c.requires.none e q.children q.pairs c.push-2.ensures c.open_last.ensures.pairs in
     filled_back c.args.front.now _ _ c.take_bottom-node.result c.take_bottom-node.ensures p
 
 pub returns-clause-front : goal.returns-clause-front
 returns-clause-front g c = bottom_rest _ _ _ c.requires.levels c.take_bottom-node.ensures
 
 pub returns-clause-some : goal.returns-clause-some
-returns-clause-some g c = let k = c.open_last.ensures.some in let l = length-append (before_back c.open_last.new.stack) (items_or_none c.open_last.new.run) in omega arith
+returns-clause-some g c =
+    let k = c.open_last.ensures.some in let l = length-append (before_back c.open_last.new.stack) (items_or_none c.open_last.new.run) in omega arith

@@ -10,7 +10,8 @@ returns-then-child_count-len-clause-pairs g c =
     let v = c.child_count.ensures.value in
     let w = c.len.ensures.value in
     let t = c.if-child_count-len.true in
-    filled_front c.args.back.now _ _ c.take_bottom-node.result c.take_bottom-node.ensures (ap (λ zs. zs ++ after_front c.push.new.self) c.requires.used_up ∙ front_over c.args.front.now _ _ c.requires.none (omega arith) c.push.ensures)
+    filled_front c.args.back.now _ _ c.take_bottom-node.result c.take_bottom-node.ensures
+    (ap (λ zs. zs ++ after_front c.push.new.self) c.requires.used_up ∙ front_over c.args.front.now _ _ c.requires.none (omega arith) c.push.ensures)
 
 pub returns-then-child_count-len-clause-front : goal.returns-then-child_count-len-clause-front
 returns-then-child_count-len-clause-front g c = bottom_over _ _ c.args.front.now _ _ c.requires.levels c.take_bottom-node.ensures c.requires.none c.push.ensures
@@ -31,8 +32,11 @@ open_first-requires g c =
     let v = c.child_count.ensures.value in
     let w = c.len.ensures.value in
     let t = c.if-child_count-len.false in
-    let e = bottom_even _ _ c.take_bottom-node.result c.requires.levels c.take_bottom-node.ensures (omega arith) in
-    (search rules, under_over_first _ _ c.args.front.now _ c.take_bottom-node.result _ _ c.requires.levels c.take_bottom-node.ensures e c.requires.none c.take_first_child-child.ensures.children c.take_first_child-child.ensures.pairs c.push-2.ensures)
+    let e = bottom_even _ _ c.take_bottom-node.result c.requires.levels c.take_bottom-node.ensures (omega arith) in (
+      search rules,
+      under_over_first _ _ c.args.front.now _ c.take_bottom-node.result _ _ c.requires.levels c.take_bottom-node.ensures e c.requires.none
+          c.take_first_child-child.ensures.children c.take_first_child-child.ensures.pairs c.push-2.ensures,
+    )
 
 pub returns-clause-pairs : goal.returns-clause-pairs
 returns-clause-pairs g c =
@@ -40,11 +44,13 @@ returns-clause-pairs g c =
     let w = c.len.ensures.value in
     let t = c.if-child_count-len.false in
     let e = bottom_even _ _ c.take_bottom-node.result c.requires.levels c.take_bottom-node.ensures (omega arith) in
-    let p = front_parted c.args.front.now c.push-2.new.self _ c.take_bottom-node.result _ _ c.requires.none e c.take_first_child-child.ensures.children c.take_first_child-child.ensures.pairs c.push-2.ensures c.open_first.ensures.pairs in
+    let q = c.take_first_child-child.ensures in
+    let p = front_parted c.args.front.now c.push-2.new.self _ _ _ _ c.requires.none e q.children q.pairs c.push-2.ensures c.open_first.ensures.pairs in
     filled_front c.args.back.now _ _ c.take_bottom-node.result c.take_bottom-node.ensures p
 
 pub returns-clause-back : goal.returns-clause-back
 returns-clause-back g c = bottom_rest _ _ _ c.requires.levels c.take_bottom-node.ensures
 
 pub returns-clause-some : goal.returns-clause-some
-returns-clause-some g c = let k = c.open_first.ensures.some in let l = length-append (items_or_none c.open_first.new.run) (after_front c.open_first.new.stack) in omega arith
+returns-clause-some g c =
+    let k = c.open_first.ensures.some in let l = length-append (items_or_none c.open_first.new.run) (after_front c.open_first.new.stack) in omega arith

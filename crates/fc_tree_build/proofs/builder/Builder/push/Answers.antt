@@ -1,13 +1,19 @@
-use Rattle.std.proofs.Common.{rules, ◌≡◌, length, Some, ap, arith}
+use Rattle.std.proofs.Common.{rules, length, Some, ap, arith}
+use Rattle.fc_tree_build.specs.Built.{IsLast}
 use Rattle.fc_tree_build.proofs.SpineFacts.{length_pushed, enough_needed}
 use Rattle.fc_tree_build.proofs.Builders.{leaf_taken, last_is, leaf_sound, enough_for_one, enough_left, push_pairs}
+use Rattle.fc_tree_build.proofs.builder.Builder.push.Given as given
 use Rattle.fc_tree_build.proofs.builder.Builder.push.Goals as goal
+use Rattle.fc_tree_build.proofs.builder.Builder.push.Goals.{In-Some}
+
+-- the last leaf, and that there is room after it
+last : (g : given.Over) (c : goal.In-Some g) → IsLast (Some c.in-Some.last) (length c.self.inside.leaves.items) c.self.inside.room c.self.inside.spine
+last g c = last_is c.self.inside.last c.in-Some.last _ _ _ c.in-Some.is c.self.invariant.0
 
 pub attach-requires : goal.attach-requires
 attach-requires g c =
     let i = c.self.invariant in
-    let was : c.self.inside.last ≡ Some c.in-Some.last = c.in-Some.is in
-    let l = last_is c.self.inside.last c.in-Some.last _ _ _ was i.0 in
+    let l = last g (goal.at.attach-requires g c).In-Some in
     let few = l.0 in
     let v = c.len.ensures.value in
     let x = c.if-len-lt-CAPACITY.false in
@@ -20,8 +26,7 @@ attach-requires g c =
 pub invariant_of-self-2 : goal.invariant_of-self-2
 invariant_of-self-2 g c =
     let i = c.self.invariant in
-    let was : c.self.inside.last ≡ Some c.in-Some.last = c.in-Some.is in
-    let l = last_is c.self.inside.last c.in-Some.last _ _ _ was i.0 in
+    let l = last g (goal.at.invariant_of-self-2 g c).In-Some in
     let few = l.0 in
     let fits = l.2 in
     let v = c.len.ensures.value in
@@ -37,8 +42,8 @@ invariant_of-self-2 g c =
 
 pub returns-clause-pairs : goal.returns-clause-pairs
 returns-clause-pairs g c =
-    let i = c.self.invariant in
-    let was : c.self.inside.last ≡ Some c.in-Some.last = c.in-Some.is in
-    let l = last_is c.self.inside.last c.in-Some.last _ _ _ was i.0 in
-    let t = leaf_taken _ _ _ c.take_spare.ensures i.2 in
-    rw c.replace-full.ensures.after (push_pairs c.self.inside.spine _ _ _ c.in-Some.last c.args.pair _ was l.1 t.0.0 (ap (λ b. b.pairs) c.self.view_is) (rw c.replace-full.ensures.value at c.attach.ensures.pairs))
+    let l = last g (goal.at.returns-clause-pairs g c).In-Some in
+    let blank = (leaf_taken _ _ _ c.take_spare.ensures c.self.invariant.2).0.0 in
+    let same = ap (λ b. b.pairs) c.self.view_is in
+    let more = rw c.replace-full.ensures.value at c.attach.ensures.pairs in
+    rw c.replace-full.ensures.after (push_pairs c.self.inside.spine _ _ _ c.in-Some.last c.args.pair _ c.in-Some.is l.1 blank same more)

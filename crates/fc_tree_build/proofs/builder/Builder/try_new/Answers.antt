@@ -15,8 +15,10 @@ invariant_of-result g c =
     let is = c.in_ok-leaves.leaves.ok.0 in
     let z : c.pop-last.result ≡ None → length c.in_ok-leaves.leaves.items ≡ 0 = λ e. (let w = (none_was _ _ c.pop-last.ensures.cases e).0 in omega arith) in
     let q = spare_leaves c.args.n c.in_ok-leaves.leaves.items c.pop-last.new.self.items c.pop-last.result c.pop-last.ensures.items (ok.0 ∙ len) z in
-    let last = first_last c.args.n c.in_ok-leaves.leaves.items c.pop-last.new.self.items c.new.result c.pop-last.result c.new.ensures c.pop-last.ensures.items (ok.0 ∙ len) ok.1 z in
-    let enough = first_enough c.args.n _ _ c.new.result c.new.ensures q (subst (AreInnerFor c.args.n) (sym c.in_ok-inner.ensures.ok.0) c.inner_count.ensures.enough) in
+    let last = first_last c.args.n c.in_ok-leaves.leaves.items c.pop-last.new.self.items c.new.result c.pop-last.result c.new.ensures c.pop-last.ensures.items
+    (ok.0 ∙ len) ok.1 z in
+    let enough = first_enough c.args.n _ _ c.new.result c.new.ensures q
+    (subst (AreInnerFor c.args.n) (sym c.in_ok-inner.ensures.ok.0) c.inner_count.ensures.enough) in
     (last, subst (IsSpine 0) (sym c.new.ensures) tt, first_leaves _ _ _ c.pop-last.ensures.items ok.1, c.in_ok-inner.ensures.ok.1, enough)
 
 pub returns-clause-ok : goal.returns-clause-ok

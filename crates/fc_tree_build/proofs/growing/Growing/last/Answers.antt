@@ -16,5 +16,6 @@ returns-then-len-gt0 g c =
     let p = c.pair.ensures in
     let l = last_taken (own_pairs c.in-Some.leaf) (c.len-then-len-gt0.result - 1) c.pair.result.now (omega arith) p in (
       before_back c.self.inside.spine ++ take i own,
-      sym c.self.view_is ∙ ap (λ o. before_back c.self.inside.spine ++ last_pairs o) c.in-Some.is ∙ ap (λ ps. before_back c.self.inside.spine ++ ps) l ∙ sym (append_assoc (before_back c.self.inside.spine) (take i own) (c.pair.result.now ∷ [])),
+      sym c.self.view_is ∙ ap (λ o. before_back c.self.inside.spine ++ last_pairs o) c.in-Some.is ∙ ap (λ ps. before_back c.self.inside.spine ++ ps) l
+          ∙ sym (append_assoc (before_back c.self.inside.spine) (take i own) (c.pair.result.now ∷ [])),
     )
