@@ -1,11 +1,15 @@
 //! Asks the library's ordered map and std's `BTreeMap` for the pairs next to random keys, half of which are not there, and compares the
 //! answers. With the word `count` each call is made so at a thousand pairs and at a hundred thousand, for `bench/instructions`.
+mod checksum;
 mod counted;
+mod jobs;
 #[allow(dead_code)] // Nothing is timed here.
 mod phases;
 mod random;
 
+use checksum::{mixed, told};
 use counted::tell;
+use jobs::bench_map_neighbours;
 use phases::mark;
 use random::Random;
 use std::collections::BTreeMap;
@@ -26,36 +30,18 @@ const WAYS: [&str; 8] = [
 ];
 const SIZES: [u64; 6] = [0, 1, 7, 90, 1_000, 100_000];
 
-unsafe extern "C" {
-    fn bench_map_neighbours(
-        keys: *const u64,
-        key_count: usize,
-        sought: *const u64,
-        sought_count: usize,
-        way: u64,
-        checksum: *mut u64,
-    ) -> bool;
-}
-
-fn mixed(checksum: u64, answer: Option<u64>) -> u64 {
-    checksum.rotate_left(5) ^ answer.map_or(0, |value| value.wrapping_add(1))
-}
-
 #[inline(never)]
 fn ask_ours(keys: &[u64], sought: &[u64], way: u64) -> u64 {
-    let mut checksum = 0;
-    let done = unsafe {
+    told(|checksum| unsafe {
         bench_map_neighbours(
             keys.as_ptr(),
             keys.len(),
             sought.as_ptr(),
             sought.len(),
             way,
-            &mut checksum,
+            checksum,
         )
-    };
-    assert!(done, "memory was refused");
-    checksum
+    })
 }
 
 #[inline(never)]

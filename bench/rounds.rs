@@ -10,6 +10,7 @@ pub struct Compared {
 }
 
 impl Compared {
+    #[allow(dead_code)] // Some drivers print the least times' multiple.
     /// The median over the rounds of ours as a multiple of std's in the same round. What else the machine does in a round
     /// makes both slower, so this is steadier than two least times, of which each is of a round of its own.
     pub fn median(&self) -> f64 {

@@ -5,12 +5,16 @@
 //! each round gave (`rounds.rs`).
 //!
 //! With the word `count` each walk runs once over two sets of a thousand, for `bench/instructions`.
+mod checksum;
 mod counted;
+mod jobs;
 mod phases;
 mod random;
 mod rounds;
 
+use checksum::{mixed, told};
 use counted::tell;
+use jobs::{bench_set_run, bench_set_walk};
 use phases::{machine, mark};
 use random::Random;
 use rounds::{Compared, compare};
@@ -36,33 +40,6 @@ const SMALL: u64 = 100;
 // Items of each of two sets that have half of them in common, walks a run, and rounds of runs.
 const HALVES: [(u64, u64, usize); 2] = [(1_000, 400, 60), (100_000, 20, 20)];
 
-unsafe extern "C" {
-    fn bench_set_run(
-        items: *const u64,
-        item_count: usize,
-        sought: *const u64,
-        sought_count: usize,
-        taken: *const u64,
-        taken_count: usize,
-        removed: *const u64,
-        removed_count: usize,
-        checksum: *mut u64,
-    ) -> bool;
-    fn bench_set_walk(
-        items: *const u64,
-        item_count: usize,
-        others: *const u64,
-        other_count: usize,
-        way: u64,
-        times: u64,
-        checksum: *mut u64,
-    ) -> bool;
-}
-
-fn mixed(checksum: u64, answer: Option<u64>) -> u64 {
-    checksum.rotate_left(5) ^ answer.map_or(0, |value| value.wrapping_add(1))
-}
-
 struct Calls {
     items: Vec<u64>,
     sought: Vec<u64>,
@@ -72,8 +49,7 @@ struct Calls {
 
 #[inline(never)]
 fn call_ours(job: &Calls) -> u64 {
-    let mut checksum = 0;
-    let done = unsafe {
+    told(|checksum| unsafe {
         bench_set_run(
             job.items.as_ptr(),
             job.items.len(),
@@ -83,11 +59,9 @@ fn call_ours(job: &Calls) -> u64 {
             job.taken.len(),
             job.removed.as_ptr(),
             job.removed.len(),
-            &mut checksum,
+            checksum,
         )
-    };
-    assert!(done, "memory was refused");
-    checksum
+    })
 }
 
 #[inline(never)]
@@ -131,8 +105,7 @@ struct Walks {
 
 #[inline(never)]
 fn walk_ours(job: &Walks) -> u64 {
-    let mut checksum = 0;
-    let done = unsafe {
+    told(|checksum| unsafe {
         bench_set_walk(
             job.items.as_ptr(),
             job.items.len(),
@@ -140,11 +113,9 @@ fn walk_ours(job: &Walks) -> u64 {
             job.others.len(),
             job.way,
             job.times,
-            &mut checksum,
+            checksum,
         )
-    };
-    assert!(done, "memory was refused");
-    checksum
+    })
 }
 
 fn mixed_all<'a>(start: u64, items: impl Iterator<Item = &'a u64>) -> u64 {

@@ -3,6 +3,9 @@
 //! Before each phase of a job (`phases.rs` tells of them) the stack below is written full of one byte, and after it the lowest byte that
 //! is another one is looked for. A depth is counted from the caller of the job, so that the frames of the job and of the allocator count
 //! too: what it tells is too much rather than too little.
+mod jobs;
+
+use jobs::{bench_map_put, bench_map_run, bench_map_walk, bench_map_whole};
 use std::ffi::c_void;
 use std::hint::black_box;
 use std::ptr;
@@ -17,35 +20,6 @@ const MOST: usize = 8;
 
 unsafe extern "C" {
     fn __real_malloc(size: usize) -> *mut c_void;
-    fn bench_map_run(
-        keys: *const u64,
-        key_count: usize,
-        sought: *const u64,
-        sought_count: usize,
-        removed: *const u64,
-        removed_count: usize,
-        way: u64,
-        checksum: *mut u64,
-    ) -> bool;
-    fn bench_map_put(keys: *const u64, key_count: usize, is_ready: bool, len: *mut usize) -> bool;
-    fn bench_map_whole(
-        keys: *const u64,
-        key_count: usize,
-        others: *const u64,
-        other_count: usize,
-        at: u64,
-        way: u64,
-        checksum: *mut u64,
-    ) -> bool;
-    fn bench_map_walk(
-        keys: *const u64,
-        key_count: usize,
-        starts: *const u64,
-        start_count: usize,
-        way: u64,
-        times: u64,
-        checksum: *mut u64,
-    ) -> bool;
 }
 
 static mut TOP: usize = 0;

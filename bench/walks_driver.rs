@@ -1,15 +1,19 @@
 //! Times walks over the library's ordered map beside std's `BTreeMap` on the same random keys, and compares what both saw.
 //!
 //! A time is the best of some runs, the two maps in turn, of the time that the walks of a job took (`phases.rs`); a multiple is the median
-//! of those that each round gave (`rounds.rs`). `into_iter` stands with the other calls that end a map, in `bench/map`.
+//! of those that each round gave (`rounds.rs`). `into_iter` stands with the other calls that end a map, in `map_driver.rs`.
 //!
 //! With the word `count` each job runs once at a thousand pairs, and with `misses` a walk over 200,000, for `bench/instructions`.
+mod checksum;
 mod counted;
+mod jobs;
 mod phases;
 mod random;
 mod rounds;
 
+use checksum::{mixed, told};
 use counted::tell;
+use jobs::bench_map_walk;
 use phases::{machine, mark};
 use random::Random;
 use rounds::{Compared, compare};
@@ -29,18 +33,6 @@ const WAYS: [&str; 6] = [
     "values_mut by for_each",
 ];
 
-unsafe extern "C" {
-    fn bench_map_walk(
-        keys: *const u64,
-        key_count: usize,
-        starts: *const u64,
-        start_count: usize,
-        way: u64,
-        times: u64,
-        checksum: *mut u64,
-    ) -> bool;
-}
-
 struct Job {
     keys: Vec<u64>,
     starts: Vec<u64>,
@@ -48,14 +40,9 @@ struct Job {
     times: u64,
 }
 
-fn mixed(checksum: u64, answer: Option<u64>) -> u64 {
-    checksum.rotate_left(5) ^ answer.map_or(0, |value| value.wrapping_add(1))
-}
-
 #[inline(never)]
 fn run_ours(job: &Job) -> u64 {
-    let mut checksum = 0;
-    let done = unsafe {
+    told(|checksum| unsafe {
         bench_map_walk(
             job.keys.as_ptr(),
             job.keys.len(),
@@ -63,11 +50,9 @@ fn run_ours(job: &Job) -> u64 {
             job.starts.len(),
             job.way,
             job.times,
-            &mut checksum,
+            checksum,
         )
-    };
-    assert!(done, "memory was refused");
-    checksum
+    })
 }
 
 #[inline(never)]

@@ -4,12 +4,16 @@
 //! that each round gave (`rounds.rs`).
 //!
 //! With the word `count` each job runs once at a thousand pairs, for `bench/instructions`.
+mod checksum;
 mod counted;
+mod jobs;
 mod phases;
 mod random;
 mod rounds;
 
+use checksum::{mixed, told};
 use counted::tell;
+use jobs::{bench_map_collect, bench_map_whole};
 use phases::{machine, mark};
 use random::Random;
 use rounds::compare;
@@ -25,19 +29,6 @@ const CLONE: u64 = 2;
 const POP: u64 = 3;
 const POP_LAST: u64 = 4;
 
-unsafe extern "C" {
-    fn bench_map_whole(
-        keys: *const u64,
-        key_count: usize,
-        others: *const u64,
-        other_count: usize,
-        at: u64,
-        way: u64,
-        checksum: *mut u64,
-    ) -> bool;
-    fn bench_map_collect(keys: *const u64, key_count: usize, len: *mut usize) -> bool;
-}
-
 #[derive(Default)]
 struct Job {
     name: &'static str,
@@ -49,15 +40,10 @@ struct Job {
     way: u64,
 }
 
-fn mixed(checksum: u64, answer: Option<u64>) -> u64 {
-    checksum.rotate_left(5) ^ answer.map_or(0, |value| value.wrapping_add(1))
-}
-
 #[inline(never)]
 fn run_ours(job: &Job) -> u64 {
-    let mut checksum = 0;
     let mut len = 0;
-    let done = unsafe {
+    let checksum = told(|checksum| unsafe {
         if job.collects {
             bench_map_collect(job.keys.as_ptr(), job.keys.len(), &mut len)
         } else {
@@ -68,11 +54,10 @@ fn run_ours(job: &Job) -> u64 {
                 job.others.len(),
                 job.at,
                 job.way,
-                &mut checksum,
+                checksum,
             )
         }
-    };
-    assert!(done, "memory was refused");
+    });
     checksum ^ len as u64
 }
 

@@ -1,5 +1,7 @@
 //! The commands that lines spell.
 
+use bounded_lines::{Line, number};
+
 /// What a line asks for.
 #[derive(Clone, Copy)]
 pub enum Command<'a> {
@@ -10,9 +12,9 @@ pub enum Command<'a> {
     List,
 }
 
-/// The command that a line spells: its words stand apart by single spaces. `None` where it spells none.
-pub fn parse(line: &[u8]) -> Option<Command<'_>> {
-    let text = str::from_utf8(line).ok()?;
+/// The command that a line spells: its words stand apart by single spaces. `None` where it spells none, or is too long.
+pub fn parse<const N: usize>(line: &Line<N>) -> Option<Command<'_>> {
+    let text = line.text()?;
     let (word, rest) = text.split_once(' ').unwrap_or((text, ""));
     match word {
         "add" => {
@@ -24,15 +26,6 @@ pub fn parse(line: &[u8]) -> Option<Command<'_>> {
         "remove" => Some(Command::Remove(number(rest)?)),
         "list" if text.len() == 4 => Some(Command::List),
         _ => None,
-    }
-}
-
-// The number that a word spells by decimal digits alone.
-fn number(word: &str) -> Option<u64> {
-    if word.as_bytes().first()?.is_ascii_digit() {
-        word.parse().ok()
-    } else {
-        None
     }
 }
 

@@ -1,5 +1,7 @@
 //! The commands that lines spell.
 
+use bounded_lines::{Line, number};
+
 /// What a line asks for.
 #[derive(Clone, Copy)]
 pub enum Command {
@@ -9,9 +11,9 @@ pub enum Command {
     List,
 }
 
-/// The command that a line spells: its words stand apart by single spaces. `None` where it spells none.
-pub fn parse(line: &[u8]) -> Option<Command> {
-    let text = str::from_utf8(line).ok()?;
+/// The command that a line spells: its words stand apart by single spaces. `None` where it spells none, or is too long.
+pub fn parse<const N: usize>(line: &Line<N>) -> Option<Command> {
+    let text = line.text()?;
     let (word, rest) = text.split_once(' ').unwrap_or((text, ""));
     match word {
         "put" => {
@@ -22,14 +24,5 @@ pub fn parse(line: &[u8]) -> Option<Command> {
         "at" => Some(Command::At(number(rest)?)),
         "list" if text.len() == 4 => Some(Command::List),
         _ => None,
-    }
-}
-
-// The number that a word spells by decimal digits alone.
-fn number(word: &str) -> Option<u64> {
-    if word.as_bytes().first()?.is_ascii_digit() {
-        word.parse().ok()
-    } else {
-        None
     }
 }

@@ -3,12 +3,11 @@
 
 mod command;
 mod intervals;
-mod lines;
 mod spans;
 
+use bounded_lines::Line;
 use command::Command;
 use intervals::Intervals;
-use lines::Line;
 use std::io::{self, BufReader, BufWriter, Write};
 use std::process::ExitCode;
 
@@ -25,21 +24,21 @@ fn main(rt: HostRuntime) -> ExitCode {
     }
 }
 
-// Answers line after line. All room for lines and replies is taken before the first.
+// Answers line after line. All room for input and replies is taken before the first.
 fn run(rt: &(impl Input + Print + AllocGlobal)) -> io::Result<()> {
     let alloc = rt.alloc();
-    let mut line = Vec::with_capacity(alloc, ROOM)?;
+    let mut line = Line::<ROOM>::new();
     let mut source = BufReader::with_capacity(alloc, ROOM, rt.reader())?;
     let mut out = BufWriter::with_capacity(alloc, ROOM, io::writer(rt))?;
     let mut intervals = Intervals::new(alloc);
     for _ in 0..u64::MAX {
-        match lines::read_line(&mut source, &mut line)? {
-            Line::End => break,
-            Line::TooLong => writeln!(out, "line too long")?,
-            Line::Whole => match command::parse(&line) {
-                Some(command) => answer(&mut intervals, command, &mut out)?,
-                None => writeln!(out, "bad line")?,
-            },
+        if !line.read(&mut source)? {
+            break;
+        }
+        match command::parse(&line) {
+            Some(command) => answer(&mut intervals, command, &mut out)?,
+            None if line.is_too_long() => writeln!(out, "line too long")?,
+            None => writeln!(out, "bad line")?,
         }
         out.flush()?;
     }

@@ -4,9 +4,13 @@
 mod commands;
 mod limiter;
 
-use commands::{Command, LONGEST, Line, command_in};
+use bounded_lines::Line;
+use commands::{Command, command_in};
 use limiter::Limiter;
-use std::io::{self, Read};
+use std::io;
+
+/// The longest line, in bytes.
+const LONGEST: usize = 80;
 
 /// How many requests of a client are allowed within how long a time.
 const LIMIT: usize = 3;
@@ -20,24 +24,18 @@ fn main(rt: HostRuntime) -> io::Result<()> {
 // Answers each line. The limiter alone takes memory.
 fn serve(rt: &(impl Input + Print + AllocGlobal)) -> io::Result<()> {
     let mut limiter = Limiter::new(rt.alloc(), LIMIT, WINDOW);
-    let mut line = Line::new();
-    for byte in rt.reader().bytes() {
-        let byte = byte?;
-        if byte == b'\n' {
-            answer(rt, &mut limiter, &line)?;
-            line.clear();
-        } else {
-            line.push(byte);
+    let mut line = Line::<LONGEST>::new();
+    let mut source = rt.reader();
+    for _ in 0..u64::MAX {
+        if !line.read(&mut source)? {
+            break;
         }
+        answer(rt, &mut limiter, &line)?;
     }
-    if line.is_empty() {
-        Ok(())
-    } else {
-        answer(rt, &mut limiter, &line)
-    }
+    Ok(())
 }
 
-fn answer(rt: &impl Print, limiter: &mut Limiter, line: &Line) -> io::Result<()> {
+fn answer(rt: &impl Print, limiter: &mut Limiter, line: &Line<LONGEST>) -> io::Result<()> {
     let Some(text) = line.text() else {
         return println!(rt; "error: a line is text of at most {LONGEST} bytes");
     };

@@ -6,8 +6,12 @@ mod commands;
 mod ladder;
 
 use book::{Book, NotPlaced, Side};
-use commands::{Command, LONGEST, Line, command_in};
-use std::io::{self, Read};
+use bounded_lines::Line;
+use commands::{Command, command_in};
+use std::io;
+
+/// The longest line, in bytes.
+const LONGEST: usize = 80;
 
 fn main(rt: HostRuntime) -> io::Result<()> {
     serve(&rt)
@@ -16,24 +20,18 @@ fn main(rt: HostRuntime) -> io::Result<()> {
 // Answers each line. The book alone takes memory.
 fn serve(rt: &(impl Input + Print + AllocGlobal)) -> io::Result<()> {
     let mut book = Book::new(rt.alloc());
-    let mut line = Line::new();
-    for byte in rt.reader().bytes() {
-        let byte = byte?;
-        if byte == b'\n' {
-            answer(rt, &mut book, &line)?;
-            line.clear();
-        } else {
-            line.push(byte);
+    let mut line = Line::<LONGEST>::new();
+    let mut source = rt.reader();
+    for _ in 0..u64::MAX {
+        if !line.read(&mut source)? {
+            break;
         }
+        answer(rt, &mut book, &line)?;
     }
-    if line.is_empty() {
-        Ok(())
-    } else {
-        answer(rt, &mut book, &line)
-    }
+    Ok(())
 }
 
-fn answer(rt: &impl Print, book: &mut Book, line: &Line) -> io::Result<()> {
+fn answer(rt: &impl Print, book: &mut Book, line: &Line<LONGEST>) -> io::Result<()> {
     let Some(text) = line.text() else {
         return println!(rt; "error: a line is text of at most {LONGEST} bytes");
     };

@@ -4,9 +4,13 @@
 mod commands;
 mod timers;
 
-use commands::{Command, LONGEST, Line, command_in};
-use std::io::{self, Read};
+use bounded_lines::Line;
+use commands::{Command, command_in};
+use std::io;
 use timers::{NotSet, Timers};
+
+/// The longest line, in bytes.
+const LONGEST: usize = 80;
 
 fn main(rt: HostRuntime) -> io::Result<()> {
     serve(&rt)
@@ -15,24 +19,18 @@ fn main(rt: HostRuntime) -> io::Result<()> {
 // Answers each line. The timers alone take memory.
 fn serve(rt: &(impl Input + Print + AllocGlobal)) -> io::Result<()> {
     let mut timers = Timers::new(rt.alloc());
-    let mut line = Line::new();
-    for byte in rt.reader().bytes() {
-        let byte = byte?;
-        if byte == b'\n' {
-            answer(rt, &mut timers, &line)?;
-            line.clear();
-        } else {
-            line.push(byte);
+    let mut line = Line::<LONGEST>::new();
+    let mut source = rt.reader();
+    for _ in 0..u64::MAX {
+        if !line.read(&mut source)? {
+            break;
         }
+        answer(rt, &mut timers, &line)?;
     }
-    if line.is_empty() {
-        Ok(())
-    } else {
-        answer(rt, &mut timers, &line)
-    }
+    Ok(())
 }
 
-fn answer(rt: &impl Print, timers: &mut Timers, line: &Line) -> io::Result<()> {
+fn answer(rt: &impl Print, timers: &mut Timers, line: &Line<LONGEST>) -> io::Result<()> {
     let Some(text) = line.text() else {
         return println!(rt; "error: a line is text of at most {LONGEST} bytes");
     };

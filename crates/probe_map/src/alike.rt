@@ -19,14 +19,14 @@ fn is_alike(world: World<'_>, found: Option<u64>, expected: Seen) -> bool {
 
 pub(crate) fn number_of(value: Option<&Item<'_>>) -> Option<u64> {
     match value {
-        Some(value) => Some(value.number),
+        Some(value) => Some(value.counted.number),
         None => None,
     }
 }
 
 fn number_of_pair(pair: Option<(&Item<'_>, &Item<'_>)>) -> Option<u64> {
     match pair {
-        Some((_key, value)) => Some(value.number),
+        Some((_key, value)) => Some(value.counted.number),
         None => None,
     }
 }

@@ -64,7 +64,11 @@ pub(crate) fn refused(e: TryReserveError) -> Answer {
 pub(crate) fn handed_back(back: (Item<'_>, Item<'_>, TryReserveError)) -> Answer {
     let (key, value, e) = back;
     match e {
-        TryReserveError::AllocError => Answer::Back([key.number, key.tag, value.number]),
+        TryReserveError::AllocError => Answer::Back([
+            key.counted.number,
+            key.tag,
+            value.counted.number,
+        ]),
         TryReserveError::CapacityOverflow => refused(e),
     }
 }

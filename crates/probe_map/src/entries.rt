@@ -2,8 +2,9 @@
 use crate::Map;
 use crate::answer::{Answer, DONE, UNKNOWN, handed_back, refused};
 use fc_base::TryReserveError;
-use probe_rows::items::{Item, World, add_one};
+use probe_rows::items::{Item, World};
 use probe_rows::row::Row;
+use test_values::add_one;
 
 pub(crate) fn run<'a>(map: &mut Map<'a>, world: World<'a>, row: &Row) -> Answer {
     let number = row.number(0);
@@ -18,7 +19,7 @@ pub(crate) fn run<'a>(map: &mut Map<'a>, world: World<'a>, row: &Row) -> Answer 
 
 fn value_of<'a>(lent: Result<&mut Item<'a>, (Item<'a>, Item<'a>, TryReserveError)>) -> Answer {
     match lent {
-        Ok(value) => Answer::Number(value.number),
+        Ok(value) => Answer::Number(value.counted.number),
         Err(back) => handed_back(back),
     }
 }
@@ -31,8 +32,8 @@ fn tally<'a>(map: &mut Map<'a>, world: World<'a>, number: u64) -> Answer {
     };
     match entry.or_try_insert(world.value(number, 0)) {
         Ok(value) => {
-            value.number = value.number.wrapping_add(1);
-            Answer::Number(value.number)
+            value.counted.number = value.counted.number.wrapping_add(1);
+            Answer::Number(value.counted.number)
         }
         Err(back) => handed_back(back),
     }
@@ -43,7 +44,7 @@ fn modify<'a>(map: &mut Map<'a>, world: World<'a>, number: u64) -> Answer {
     match map.try_entry(world.key(number, 0)) {
         Ok(entry) => value_of(
             entry
-                .and_modify(|value| value.number = value.number.wrapping_add(1))
+                .and_modify(|value| value.counted.number = value.counted.number.wrapping_add(1))
                 .or_try_insert(world.value(number, 42)),
         ),
         Err(e) => refused(e),

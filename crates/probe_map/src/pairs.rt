@@ -59,7 +59,7 @@ fn remove<'a>(map: &mut Map<'a>, world: World<'a>, number: u64) -> Option<u64> {
 
 fn index<'a>(map: &Map<'a>, key: &Item<'a>) -> Answer {
     if map.contains_key(key) {
-        Answer::Number(map[key].number)
+        Answer::Number(map[key].counted.number)
     } else {
         NONE
     }
@@ -69,8 +69,8 @@ fn index<'a>(map: &Map<'a>, key: &Item<'a>) -> Answer {
 fn set<'a>(map: &mut Map<'a>, key: &Item<'a>, new: u64) -> Answer {
     match map.get_mut(key) {
         Some(value) => {
-            let old = value.number;
-            value.number = new;
+            let old = value.counted.number;
+            value.counted.number = new;
             Answer::Number(old)
         }
         None => NONE,
@@ -79,7 +79,7 @@ fn set<'a>(map: &mut Map<'a>, key: &Item<'a>, new: u64) -> Answer {
 
 fn pair_of(found: Option<(&Item<'_>, &Item<'_>)>) -> Answer {
     match found {
-        Some((key, value)) => Answer::Pair([key.number, key.tag, value.number]),
+        Some((key, value)) => Answer::Pair([key.counted.number, key.tag, value.counted.number]),
         None => NONE,
     }
 }

@@ -39,13 +39,13 @@ impl<'a> Bounds<'a> {
 
     // Whether upstream takes these bounds.
     fn are_taken(&self) -> bool {
-        let (lo, hi) = (self.lo_key.number, self.hi_key.number);
+        let (lo, hi) = (self.lo_key.counted.number, self.hi_key.counted.number);
         let is_one_included = self.lo == INCLUDED || self.hi == INCLUDED;
         self.lo == 0 || self.hi == 0 || lo < hi || lo == hi && is_one_included
     }
 
     fn let_in_number(&self, number: u64) -> bool {
-        let (lo, hi) = (self.lo_key.number, self.hi_key.number);
+        let (lo, hi) = (self.lo_key.counted.number, self.hi_key.counted.number);
         let is_after = self.lo == 0 || lo < number || lo == number && self.lo == INCLUDED;
         let is_ahead = self.hi == 0 || number < hi || number == hi && self.hi == INCLUDED;
         is_after && is_ahead
@@ -189,7 +189,7 @@ fn visits<'a>(map: &mut Map<'a>, bounds: &Bounds<'a>, wanted: Stretch) -> bool {
     map.range_mut((lo, hi)).for_each(|key, value| {
         right = right && is_pair(Some((key, &*value)), wanted.number(place), 0);
         place = place.wrapping_add(1);
-        value.number = value.number.wrapping_add(1);
+        value.counted.number = value.counted.number.wrapping_add(1);
     });
     right && place == wanted.count
 }

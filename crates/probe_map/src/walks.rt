@@ -66,7 +66,8 @@ pub(crate) fn both_go_on<W: Walk>(walk: &mut W, clone: &mut W, left: Stretch) ->
 pub(crate) fn is_pair(item: Option<(&Item<'_>, &Item<'_>)>, number: u64, more: u64) -> bool {
     match item {
         Some((key, value)) => {
-            key.number == number && value.number == number.wrapping_mul(10).wrapping_add(more)
+            key.counted.number == number
+                && value.counted.number == number.wrapping_mul(10).wrapping_add(more)
         }
         None => false,
     }
@@ -118,7 +119,7 @@ impl Walk for Keys<'_, Item<'_>, Item<'_>> {
             self.next_back()
         };
         match item {
-            Some(key) => key.number == number,
+            Some(key) => key.counted.number == number,
             None => false,
         }
     }
@@ -140,7 +141,7 @@ impl Walk for Values<'_, Item<'_>, Item<'_>> {
             self.next_back()
         };
         match item {
-            Some(value) => value.number == number.wrapping_mul(10),
+            Some(value) => value.counted.number == number.wrapping_mul(10),
             None => false,
         }
     }

@@ -43,8 +43,8 @@ pub(crate) fn is_written(map: &Map<'_>, all: Stretch, part: Stretch) -> bool {
 fn adds_one(lent: Option<&mut Item<'_>>, number: u64) -> bool {
     match lent {
         Some(value) => {
-            let old = value.number;
-            value.number = old.wrapping_add(1);
+            let old = value.counted.number;
+            value.counted.number = old.wrapping_add(1);
             old == number.wrapping_mul(10)
         }
         None => false,
@@ -149,7 +149,7 @@ fn visits_all(map: &mut Map<'_>, all: Stretch, taken: u64) -> bool {
     walk.for_each(|key, value| {
         right = right && is_pair(Some((key, &*value)), all.number(place), 0);
         place = place.wrapping_add(1);
-        value.number = value.number.wrapping_add(1);
+        value.counted.number = value.counted.number.wrapping_add(1);
     });
     right && place == all.count && is_written(map, all, all)
 }

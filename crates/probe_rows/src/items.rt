@@ -1,16 +1,14 @@
 //! Items that tell what is done to them: compared, copied or dropped. They serve as keys and as values.
-ghost use Rattle.std.specs.Prelude.{◌==◌, ◌≡◌, ℕ};
-ghost use Rattle.std.proofs.Common.{rules};
+ghost use Rattle.std.specs.Prelude.{◌≡◌, ℕ};
 ghost use Rattle.std.proofs.lemmas.Cmp.{nat_cmp_total};
-ghost use Rattle.std.specs.Cmp.{partial_order_from_own_ties};
-ghost use Rattle.std.specs.Cmp.Rules.{comparing};
-ghost use Rattle.std.specs.Ordering.{nat_cmp, on, as_partial_cmp};
+ghost use Rattle.std.specs.Ordering.{nat_cmp};
 ghost use Rattle.fc_base.specs.Viewed.{viewed};
 
 use fc_base::{Query, TryClone, TryReserveError};
 use std::alloc::{AllocError, Global};
 use std::cell::Cell;
 use std::cmp::Ordering;
+use test_values::{CountingKey, add_one};
 
 /// How often an item was copied, and how often it or a copy of it was dropped.
 #[derive(Drop)]
@@ -91,7 +89,7 @@ impl<'a> World<'a> {
     /// A pair's key, with a tag by which no key is compared.
     pub fn key(&self, number: u64, tag: u64) -> Item<'a> {
         Item {
-            number,
+            counted: CountingKey::new(number, &self.counts.comparisons),
             tag,
             lives: &self.lives_of(number).key,
             counts: self.counts,
@@ -101,7 +99,7 @@ impl<'a> World<'a> {
     /// A key to search by, whose drop is no pair's.
     pub fn sought(&self, number: u64) -> Item<'a> {
         Item {
-            number,
+            counted: CountingKey::new(number, &self.counts.comparisons),
             tag: 0,
             lives: &self.sought.key,
             counts: self.counts,
@@ -111,7 +109,7 @@ impl<'a> World<'a> {
     /// The value of a pair whose key has this number.
     pub fn value(&self, of: u64, number: u64) -> Item<'a> {
         Item {
-            number,
+            counted: CountingKey::new(number, &self.counts.comparisons),
             tag: 0,
             lives: &self.lives_of(of).value,
             counts: self.counts,
@@ -177,58 +175,22 @@ fn are_same_lives(one: &Lives, other: &Lives) -> bool {
 }
 
 /// A number that counts its comparisons, copies and drops. Items of one number are equal, whatever their tags.
+#[derive_where(PartialEq, Eq, PartialOrd, Ord)]
 pub struct Item<'a> {
-    pub number: u64,
+    pub counted: CountingKey<'a>,
+    #[derive_where(skip)]
     pub tag: u64,
+    #[derive_where(skip)]
     pub lives: &'a Lives,
+    #[derive_where(skip)]
     pub counts: &'a Counts,
-}
-
-impl PartialEq for Item<'_> {
-    ghost eq = { on (λ item. item.number) ◌==◌ };
-
-    ghost laws = { Prim.search (comparing, rules) };
-
-    fn eq(&self, other: &Self) -> bool {
-        add_one(&self.counts.comparisons);
-        self.number == other.number
-    }
-}
-
-impl Eq for Item<'_> {
-    ghost laws = { Prim.search (comparing, rules) };
-}
-
-impl PartialOrd for Item<'_> {
-    ghost partial_cmp = { as_partial_cmp (on (λ item. item.number) nat_cmp) };
-
-    ghost laws = { partial_order_from_own_ties (Prim.search (comparing, rules)) (Prim.search (comparing, rules)) };
-
-    fn partial_cmp(&self, other: &Self) -> Option<Ordering> {
-        Some(self.cmp(other))
-    }
-}
-
-impl Ord for Item<'_> {
-    ghost cmp = { on (λ item. item.number) nat_cmp };
-
-    ghost total = { Prim.search (comparing, rules) };
-
-    ghost matches_partial_cmp = { Prim.search (comparing, rules) };
-
-    ghost matches_eq = { Prim.search (comparing, rules) };
-
-    fn cmp(&self, other: &Self) -> Ordering {
-        add_one(&self.counts.comparisons);
-        self.number.cmp(&other.number)
-    }
 }
 
 impl Drop for Item<'_> {
     fn drop(self) {
         add_one(&self.lives.drops);
         let Item {
-            number: _,
+            counted: _,
             tag: _,
             lives: _,
             counts: _,
@@ -237,14 +199,14 @@ impl Drop for Item<'_> {
 }
 
 impl TryClone for Item<'_> {
-    ghost same = { λ source copy. copy.number ≡ source.number };
+    ghost same = { λ source copy. copy.counted.number ≡ source.counted.number };
 
     fn try_clone(&self) -> Result<Self, TryReserveError> {
         if !takes_copy(self.counts, self.lives) {
             return Err(TryReserveError::CapacityOverflow);
         }
         Ok(Item {
-            number: self.number,
+            counted: self.counted,
             tag: self.tag,
             lives: self.lives,
             counts: self.counts,
@@ -261,19 +223,14 @@ impl Query<Item<'_>> for Number {
 
     ghost sought = { λ query. query.0 };
 
-    ghost order = { λ item number. nat_cmp item.number number };
+    ghost order = { λ item number. nat_cmp item.counted.number number };
 
-    ghost fits = { viewed nat_cmp_total (λ item. item.number) (λ number. number) };
+    ghost fits = { viewed nat_cmp_total (λ item. item.counted.number) (λ number. number) };
 
     fn order_of(&self, item: &Item<'_>) -> Ordering {
         add_one(&item.counts.comparisons);
-        item.number.cmp(&self.0)
+        item.counted.number.cmp(&self.0)
     }
-}
-
-/// Counts one more.
-pub fn add_one(count: &Cell<u64>) {
-    count.set(count.get().wrapping_add(1));
 }
 
 // Whether one more copy is left, which is then counted.

@@ -44,12 +44,12 @@ impl Given {
         if self.shows {
             out.debug(item);
         }
-        self.ascends = self.ascends && self.least <= item.number;
-        self.least = item.number.wrapping_add(1);
+        self.ascends = self.ascends && self.least <= item.counted.number;
+        self.least = item.counted.number.wrapping_add(1);
         self.count = self.count.wrapping_add(1);
-        self.sum = self.sum.wrapping_add(item.number);
-        if item.number < 64 {
-            self.bits |= 1 << item.number;
+        self.sum = self.sum.wrapping_add(item.counted.number);
+        if item.counted.number < 64 {
+            self.bits |= 1 << item.counted.number;
         }
     }
 

@@ -1,14 +1,10 @@
 //! Items: numbers that may have a letter, and tell what is done with them.
-ghost use Rattle.std.specs.Prelude.{◌≡◌, ◌==◌};
-ghost use Rattle.std.proofs.Common.{rules};
-ghost use Rattle.std.specs.Cmp.{partial_order_from_own_ties};
-ghost use Rattle.std.specs.Cmp.Rules.{comparing};
-ghost use Rattle.std.specs.Ordering.{nat_cmp, on, as_partial_cmp};
+ghost use Rattle.std.specs.Prelude.{◌≡◌};
 
 use fc_base::{TryClone, TryReserveError};
 use std::cell::Cell;
-use std::cmp::Ordering;
 use std::fmt::{self, Debug, Formatter};
+use test_values::{CountingKey, add_one};
 
 // How many comparisons there were, how many items live, how many copies of items may still be made and whether the next one is refused as an overflow; and
 // how many items were dropped by letter.
@@ -66,27 +62,26 @@ impl Tally {
 }
 
 // Items are equal where their numbers are, whatever their letters.
+#[derive_where(PartialEq, Eq, PartialOrd, Ord)]
 pub(crate) struct Item<'a> {
-    pub(crate) number: u64,
+    pub(crate) counted: CountingKey<'a>,
+    #[derive_where(skip)]
     pub(crate) letter: &'static str,
+    #[derive_where(skip)]
     pub(crate) tally: &'a Tally,
 }
 
 impl<'a> Item<'a> {
     pub(crate) fn new(number: u64, letter: &'static str, tally: &'a Tally) -> Item<'a>
-        ensures { result.number ≡ number }
+        ensures { result.counted.number ≡ number }
     {
         add_one(&tally.living);
         Item {
-            number,
+            counted: CountingKey::new(number, &tally.comparisons),
             letter,
             tally,
         }
     }
-}
-
-fn add_one(count: &Cell<u64>) {
-    count.set(count.get().wrapping_add(1));
 }
 
 impl Drop for Item<'_> {
@@ -95,7 +90,7 @@ impl Drop for Item<'_> {
         let living = &self.tally.living;
         living.set(living.get().wrapping_sub(1));
         let Item {
-            number: _,
+            counted: _,
             letter: _,
             tally: _,
         } = self;
@@ -103,7 +98,7 @@ impl Drop for Item<'_> {
 }
 
 impl TryClone for Item<'_> {
-    ghost same = { λ source copy. copy.number ≡ source.number };
+    ghost same = { λ source copy. copy.counted.number ≡ source.counted.number };
 
     fn try_clone(&self) -> Result<Self, TryReserveError> {
         let left = self.tally.copies_left.get();
@@ -111,52 +106,12 @@ impl TryClone for Item<'_> {
             return Err(self.tally.refusal());
         }
         self.tally.copies_left.set(left - 1);
-        Ok(Item::new(self.number, self.letter, self.tally))
+        Ok(Item::new(self.counted.number, self.letter, self.tally))
     }
 }
 
 impl Debug for Item<'_> {
     fn fmt<W: fmt::Write>(&self, f: &mut Formatter<W>) -> fmt::Result {
-        write!(f, "{}{}", self.number, self.letter)
-    }
-}
-
-impl PartialEq for Item<'_> {
-    ghost eq = { on (λ item. item.number) ◌==◌ };
-
-    ghost laws = { Prim.search (comparing, rules) };
-
-    fn eq(&self, other: &Self) -> bool {
-        add_one(&self.tally.comparisons);
-        self.number == other.number
-    }
-}
-
-impl Eq for Item<'_> {
-    ghost laws = { Prim.search (comparing, rules) };
-}
-
-impl PartialOrd for Item<'_> {
-    ghost partial_cmp = { as_partial_cmp (on (λ item. item.number) nat_cmp) };
-
-    ghost laws = { partial_order_from_own_ties (Prim.search (comparing, rules)) (Prim.search (comparing, rules)) };
-
-    fn partial_cmp(&self, other: &Self) -> Option<Ordering> {
-        Some(self.cmp(other))
-    }
-}
-
-impl Ord for Item<'_> {
-    ghost cmp = { on (λ item. item.number) nat_cmp };
-
-    ghost total = { Prim.search (comparing, rules) };
-
-    ghost matches_partial_cmp = { Prim.search (comparing, rules) };
-
-    ghost matches_eq = { Prim.search (comparing, rules) };
-
-    fn cmp(&self, other: &Self) -> Ordering {
-        add_one(&self.tally.comparisons);
-        self.number.cmp(&other.number)
+        write!(f, "{}{}", self.counted.number, self.letter)
     }
 }

@@ -16,7 +16,7 @@ pub(crate) fn show<'a>(set: &Set<'a>, item: &Item<'a>, out: &mut Out) {
 fn told(item: Option<&Item<'_>>) -> u64 {
     match item {
         Some(item) => {
-            let number = item.number.wrapping_add(1).wrapping_mul(2);
+            let number = item.counted.number.wrapping_add(1).wrapping_mul(2);
             number.wrapping_add(item.letter.len() as u64)
         }
         None => 0,

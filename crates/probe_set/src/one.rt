@@ -87,7 +87,7 @@ fn is_just(sets: &Sets<'_>, numbers: Numbers) -> bool {
 
 fn is_number(item: Option<&Item<'_>>, number: u64) -> bool {
     match item {
-        Some(item) => item.number == number,
+        Some(item) => item.counted.number == number,
         None => false,
     }
 }

@@ -72,6 +72,7 @@ fn digest(set: &Set<'_>, from: u64) -> u64 {
     let mut digest = from;
     for item in set {
         let told = item
+            .counted
             .number
             .wrapping_mul(2)
             .wrapping_add(item.letter.len() as u64);

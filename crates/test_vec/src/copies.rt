@@ -65,7 +65,7 @@ fn resized<'a>(
     v.try_resize_no_copy(length, value)
 }
 
-fn repeated<'a>(
+pub(crate) fn repeated<'a>(
     alloc: Global,
     value: Token<'a>,
     count: usize,

@@ -1,7 +1,8 @@
 //! Items that count their drops.
 use crate::calls::holds;
+use crate::copies::repeated;
 use fc_base::TryReserveError;
-use fc_vec::{FallibleVec, TryCollect, TryVec, try_from_elem};
+use fc_vec::{FallibleVec, TryCollect, TryVec};
 use std::alloc::Global;
 use std::test::Fail;
 use test_values::{Tally, Token, is_ample};
@@ -95,14 +96,6 @@ fn a_resize_drops_what_it_leaves_out(rt: HostRuntime) -> Result<(), Fail> {
         )
     );
     Ok(())
-}
-
-fn repeated<'a>(
-    alloc: Global,
-    value: Token<'a>,
-    count: usize,
-) -> Result<Vec<Token<'a>>, TryReserveError> {
-    try_from_elem(alloc, value, count)
 }
 
 // How often items are dropped of a vector of three that is made with so many copies to be had, and whether it is made.
