@@ -43,16 +43,15 @@ use Rattle.std.proofs.lemmas.Str.{digit_value_digit}
 use Rattle.std.specs.Int.{IsInRange}
 use Rattle.std.proofs.lemmas.Int.Digits.{digits_value_more}
 use Rattle.std.proofs.lemmas.Str.Parse.{digits_value-take-le}
-use Rattle.fc_lines.specs.declared.command.Command.{Command}
 use Rattle.fc_lines.specs.Lines.{words_of, onto_first}
 use Rattle.fc_lines.specs.Grammar.{whole_line}
 
-ends_onto : (c : Command ℕ ℕ) (x : ℕ) (ws : List (List ℕ)) → whole_line c (onto_first x ws) ≡ None
+ends_onto : {A : Type 0} (c : A) (x : ℕ) (ws : List (List ℕ)) → whole_line c (onto_first x ws) ≡ None
 ends_onto c x [] = refl
 ends_onto c x (w ∷ ws) = refl
 
 -- a line has at least one word
-pub ends_words : (c : Command ℕ ℕ) (line : List ℕ) → whole_line c (words_of line) ≡ None
+pub ends_words : {A : Type 0} (c : A) (line : List ℕ) → whole_line c (words_of line) ≡ None
 ends_words c [] = refl
 ends_words c (x ∷ line) = elim (eqb x 32) as (λ b. whole_line c (if b then [] ∷ words_of line else onto_first x (words_of line)) ≡ None) [
   | true ↦ refl
