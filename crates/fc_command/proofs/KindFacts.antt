@@ -10,12 +10,50 @@ use Rattle.fc_lines.specs.declared.command.Side.{Side}
 use Rattle.fc_lines.specs.declared.command.End.{End}
 use Rattle.fc_lines.specs.declared.command.SetOp.{SetOp}
 use Rattle.fc_lines.specs.declared.command.Command.{Command}
-use Rattle.fc_lines.specs.declared.command.Command.TheVariants.{Insert, Get, GetKeyValue, ContainsKey, Remove, Set, Entry, RemoveEntry, Len as CountPairs, Clear, Walk, Write, Append, SplitOff, TryClone, Extend, InsertBoth, AddItem, ReplaceItem, TakeItem, RemoveItem, ContainsItem, GetItem, SetLen, SetClear, SetAppend, SetSplitOff, SetClone, SetExtend, SetWalk, List as ListItems, Keep, IsDisjoint, IsSubset, IsSuperset, SetCmp}
+use Rattle.fc_lines.specs.declared.command.Command.TheVariants.{
+  Insert,
+  Get,
+  GetKeyValue,
+  ContainsKey,
+  Remove,
+  Set,
+  Entry,
+  RemoveEntry,
+  Len as CountPairs,
+  Clear,
+  Walk,
+  Write,
+  Append,
+  SplitOff,
+  TryClone,
+  Extend,
+  InsertBoth,
+  AddItem,
+  ReplaceItem,
+  TakeItem,
+  RemoveItem,
+  ContainsItem,
+  GetItem,
+  SetLen,
+  SetClear,
+  SetAppend,
+  SetSplitOff,
+  SetClone,
+  SetExtend,
+  SetWalk,
+  List as ListItems,
+  Keep,
+  IsDisjoint,
+  IsSubset,
+  IsSuperset,
+  SetCmp,
+}
 use Rattle.fc_lines.specs.declared.command.Reply.TheVariants.{Done}
 use Rattle.fc_command.specs.SetStep as sets
 use Rattle.fc_command.specs.Step.{StepOn, answered}
 
-module _ {K V : Type 0} (cmp : K → K → Ordering) (refuses_key : K → TryReserveError → Type 0) (refuses_value : V → TryReserveError → Type 0) (m o : Map K V) where
+module _ {K V : Type 0} (cmp : K → K → Ordering) (refuses_key : K → TryReserveError → Type 0) (refuses_value : V → TryReserveError → Type 0)
+    (m o : Map K V) where
   -- a command on sets
   pub not_on_maps : (c : Command K V)
       → ((s : Side) (k : K) (v : V) → ¬ (c ≡ Insert s k v))

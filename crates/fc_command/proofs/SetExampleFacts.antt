@@ -9,7 +9,22 @@ use Rattle.fc_lines.specs.declared.command.Side.{Side}
 use Rattle.fc_lines.specs.declared.command.Side.TheVariants.{First}
 use Rattle.fc_lines.specs.declared.command.End.TheVariants.{Front, Back}
 use Rattle.fc_lines.specs.declared.command.SetOp.TheVariants.{Difference, SymmetricDifference, Intersection, Union}
-use Rattle.fc_lines.specs.declared.command.Command.TheVariants.{AddItem, ReplaceItem, TakeItem, RemoveItem, SetAppend, SetSplitOff, SetExtend, SetWalk, List as ListItems, Keep, IsDisjoint, IsSubset, IsSuperset, SetCmp}
+use Rattle.fc_lines.specs.declared.command.Command.TheVariants.{
+  AddItem,
+  ReplaceItem,
+  TakeItem,
+  RemoveItem,
+  SetAppend,
+  SetSplitOff,
+  SetExtend,
+  SetWalk,
+  List as ListItems,
+  Keep,
+  IsDisjoint,
+  IsSubset,
+  IsSuperset,
+  SetCmp,
+}
 use Rattle.fc_lines.specs.declared.command.Reply.TheVariants.{Done, Flag, Key, Keys, Order, BadRange}
 use Rattle.fc_command.specs.SetStep.{answer_on_sets, MayRefuseOnSets, MayStopOnSets}
 
@@ -26,7 +41,8 @@ set_answers : (answer_on_sets {V = ℕ} nat_cmp (AddItem First 4) three [] ≡ r
     × (answer_on_sets {V = ℕ} nat_cmp (SetAppend First) three (2 ∷ 5 ∷ []) ≡ record { m = 2 ∷ 3 ∷ 5 ∷ 8 ∷ []; o = []; reply = Done })
     × (answer_on_sets {V = ℕ} nat_cmp (SetSplitOff First 5) three (2 ∷ []) ≡ record { m = 3 ∷ []; o = 5 ∷ 8 ∷ []; reply = Done })
     × (answer_on_sets {V = ℕ} nat_cmp (SetExtend First (5 ∷ 4 ∷ 4 ∷ [])) three [] ≡ record { m = 3 ∷ 4 ∷ 5 ∷ 8 ∷ []; o = []; reply = Done })
-    × (answer_on_sets {V = ℕ} nat_cmp (SetWalk First (Included 4) Unbounded (Back ∷ Front ∷ Back ∷ [])) three [] ≡ record { m = three; o = []; reply = Keys (Some 8 ∷ Some 5 ∷ None ∷ []) })
+    × (answer_on_sets {V = ℕ} nat_cmp (SetWalk First (Included 4) Unbounded (Back ∷ Front ∷ Back ∷ [])) three []
+    ≡ record { m = three; o = []; reply = Keys (Some 8 ∷ Some 5 ∷ None ∷ []) })
     × (answer_on_sets {V = ℕ} nat_cmp (SetWalk First (Excluded 5) (Excluded 5) (Front ∷ [])) three [] ≡ record { m = three; o = []; reply = BadRange })
 set_answers = (refl, refl, refl, refl, refl, refl, refl, refl, refl, refl, refl)
 
@@ -49,8 +65,10 @@ operation_answers = (refl, refl, refl, refl, refl, refl, refl, refl)
 
 -- An extension can be read item by item: each is put in as it is added, and the one where it stops may be refused as it is there.
 module _ {K : Type 0} (V : Type 0) (cmp : K → K → Ordering) (may_refuse : K → TryReserveError → Type 0) (side : Side) (m o : List K) where
-  put_in_turn : (k : K) (more : List K) → answer_on_sets {V = V} cmp (SetExtend side (k ∷ more)) m o ≡ answer_on_sets cmp (SetExtend side more) (answer_on_sets {V = V} cmp (AddItem side k) m o).m o
+  put_in_turn : (k : K) (more : List K) → answer_on_sets {V = V} cmp (SetExtend side (k ∷ more)) m o
+      ≡ answer_on_sets cmp (SetExtend side more) (answer_on_sets {V = V} cmp (AddItem side k) m o).m o
   put_in_turn k more = refl
 
-  stopped_in_turn : (more m' : List K) (e : TryReserveError) (s : MayStopOnSets {V = V} cmp (SetExtend side more) m m' e) → (m' ≡ (answer_on_sets {V = V} cmp (SetExtend side s.front) m o).m) × MayRefuseOnSets {V = V} cmp may_refuse (AddItem side s.item) m' o e
+  stopped_in_turn : (more m' : List K) (e : TryReserveError) (s : MayStopOnSets {V = V} cmp (SetExtend side more) m m' e)
+      → (m' ≡ (answer_on_sets {V = V} cmp (SetExtend side s.front) m o).m) × MayRefuseOnSets {V = V} cmp may_refuse (AddItem side s.item) m' o e
   stopped_in_turn more m' e s = (s.put_in, (s.new_item, s.error))

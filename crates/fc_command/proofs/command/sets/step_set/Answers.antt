@@ -49,14 +49,33 @@ returns-in-SetCmp g c = rw c.in-SetCmp.is (c.compare.ensures c.in-SetCmp.field-0
 
 -- whether an operation gives nothing
 pub returns-in-IsDisjoint : goal.returns-in-IsDisjoint
-returns-in-IsDisjoint g c = rw c.in-IsDisjoint.is (answered (λ h. h) (ap Flag (none_flag c.is_disjoint.result (intersection g.K.Ord.cmp (items c.args.set.now) (items c.args.other.now)) c.is_disjoint.ensures), refl, refl))
+returns-in-IsDisjoint g c = rw c.in-IsDisjoint.is (answered (λ h. h) (
+  ap Flag
+      (none_flag c.is_disjoint.result (intersection g.K.Ord.cmp (items c.args.set.now) (items c.args.other.now)) c.is_disjoint.ensures),
+  refl,
+  refl,
+))
 
 pub returns-in-IsSubset : goal.returns-in-IsSubset
-returns-in-IsSubset g c = rw c.in-IsSubset.is (answered (λ h. h) (ap Flag (none_flag c.is_subset.result (difference g.K.Ord.cmp (items c.args.set.now) (items c.args.other.now)) c.is_subset.ensures), refl, refl))
+returns-in-IsSubset g c = rw c.in-IsSubset.is (answered (λ h. h) (
+  ap Flag
+      (none_flag c.is_subset.result (difference g.K.Ord.cmp (items c.args.set.now) (items c.args.other.now)) c.is_subset.ensures),
+  refl,
+  refl,
+))
 
 pub returns-in-IsSuperset : goal.returns-in-IsSuperset
-returns-in-IsSuperset g c = rw c.in-IsSuperset.is (answered (λ h. h) (ap Flag (none_flag c.is_superset.result (difference g.K.Ord.cmp (items c.args.other.now) (items c.args.set.now)) c.is_superset.ensures), refl, refl))
+returns-in-IsSuperset g c = rw c.in-IsSuperset.is (answered (λ h. h) (
+  ap Flag
+      (none_flag c.is_superset.result (difference g.K.Ord.cmp (items c.args.other.now) (items c.args.set.now)) c.is_superset.ensures),
+  refl,
+  refl,
+))
 
 -- a command on maps
 pub returns-in_default : goal.returns-in_default
-returns-in_default g c = not_on_sets g.K.Ord.cmp _ c.args.set.now c.args.other.now c.args.command c.in_default.not-AddItem c.in_default.not-ReplaceItem c.in_default.not-TakeItem c.in_default.not-RemoveItem c.in_default.not-ContainsItem c.in_default.not-GetItem c.in_default.not-SetLen c.in_default.not-SetClear c.in_default.not-SetAppend c.in_default.not-SetSplitOff c.in_default.not-SetClone c.in_default.not-SetExtend c.in_default.not-SetWalk c.in_default.not-List c.in_default.not-Keep c.in_default.not-IsDisjoint c.in_default.not-IsSubset c.in_default.not-IsSuperset c.in_default.not-SetCmp
+returns-in_default g c = not_on_sets g.K.Ord.cmp _ c.args.set.now c.args.other.now c.args.command c.in_default.not-AddItem c.in_default.not-ReplaceItem
+    c.in_default.not-TakeItem c.in_default.not-RemoveItem c.in_default.not-ContainsItem c.in_default.not-GetItem c.in_default.not-SetLen
+    c.in_default.not-SetClear c.in_default.not-SetAppend c.in_default.not-SetSplitOff c.in_default.not-SetClone c.in_default.not-SetExtend
+    c.in_default.not-SetWalk c.in_default.not-List c.in_default.not-Keep c.in_default.not-IsDisjoint c.in_default.not-IsSubset c.in_default.not-IsSuperset
+    c.in_default.not-SetCmp
