@@ -10,32 +10,80 @@ use Rattle.fc_command.specs.declared.command.world.World.{World}
 use Rattle.fc_lines.specs.declared.command.Command.{Command}
 use Rattle.fc_lines.specs.declared.command.Command.TheVariants.{OnMap, OnSet}
 use Rattle.fc_lines.specs.declared.command.MapCommand.{MapCommand}
-use Rattle.fc_lines.specs.declared.command.MapCommand.TheVariants.{Insert, Get, GetKeyValue, ContainsKey, Remove, Set, Entry, RemoveEntry, Len as CountPairs, Clear, Walk, Write, Append, SplitOff, TryClone, Extend, InsertBoth}
+use Rattle.fc_lines.specs.declared.command.MapCommand.TheVariants.{
+  Insert,
+  Get,
+  GetKeyValue,
+  ContainsKey,
+  Remove,
+  Set,
+  Entry,
+  RemoveEntry,
+  Len as CountPairs,
+  Clear,
+  Walk,
+  Write,
+  Append,
+  SplitOff,
+  TryClone,
+  Extend,
+  InsertBoth,
+}
 use Rattle.fc_lines.specs.declared.command.SetCommand.{SetCommand}
-use Rattle.fc_lines.specs.declared.command.SetCommand.TheVariants.{AddItem, ReplaceItem, TakeItem, RemoveItem, ContainsItem, GetItem, SetLen, SetClear, SetAppend, SetSplitOff, SetClone, SetExtend, SetWalk, List as ListItems, Keep, IsDisjoint, IsSubset, IsSuperset, SetCmp}
+use Rattle.fc_lines.specs.declared.command.SetCommand.TheVariants.{
+  AddItem,
+  ReplaceItem,
+  TakeItem,
+  RemoveItem,
+  ContainsItem,
+  GetItem,
+  SetLen,
+  SetClear,
+  SetAppend,
+  SetSplitOff,
+  SetClone,
+  SetExtend,
+  SetWalk,
+  List as ListItems,
+  Keep,
+  IsDisjoint,
+  IsSubset,
+  IsSuperset,
+  SetCmp,
+}
 use Rattle.fc_lines.specs.declared.command.Reply.{Reply}
 use Rattle.fc_lines.specs.declared.command.Reply.TheVariants.{Len, BadRange}
 use Rattle.fc_lines.specs.Room.{AsksForList, IsNoList}
 use Rattle.fc_command.specs.Step.{refusal, answer, StepOn, answered, refused, stopped, Step}
-use Rattle.fc_command.specs.SetStep.{item_refusal, answer_on_sets, StepOnSets, answered as answered_on_sets, refused as refused_on_sets, stopped as stopped_on_sets}
+use Rattle.fc_command.specs.SetStep.{
+  item_refusal,
+  answer_on_sets,
+  StepOnSets,
+  answered as answered_on_sets,
+  refused as refused_on_sets,
+  stopped as stopped_on_sets,
+}
 
 either : (K V : Type 0) (b : Bool) (n : ℕ) → IsNoList {K = K} {V = V} (if b then Len n else BadRange)
 either K V true n = tt
 either K V false n = tt
 
 module _ {K V : Type 0} (cmp : K → K → Ordering) (refuses_key : K → TryReserveError → Type 0) (refuses_value : V → TryReserveError → Type 0) where
-  on_maps : (c : MapCommand K V) (m o : Map K V) (r : Reply K V) (m' o' : Map K V) → ((e : TryReserveError) → IsNoList (refusal c e)) → IsNoList (answer cmp c (entries m) (entries o)).reply → StepOn cmp refuses_key refuses_value c m o r m' o' → IsNoList r
+  on_maps : (c : MapCommand K V) (m o : Map K V) (r : Reply K V) (m' o' : Map K V) → ((e : TryReserveError) → IsNoList (refusal c e))
+      → IsNoList (answer cmp c (entries m) (entries o)).reply → StepOn cmp refuses_key refuses_value c m o r m' o' → IsNoList r
   on_maps c m o r m' o' refuses answers (answered must h) = rw h.0 answers
   on_maps c m o r m' o' refuses answers (refused e may h) = rw h.0 (refuses e)
   on_maps c m o r m' o' refuses answers (stopped e may h) = rw h.0 tt
 
-  on_sets : (c : SetCommand K) (m o : Map K ⊤) (r : Reply K V) (m' o' : Map K ⊤) → ((e : TryReserveError) → IsNoList (item_refusal {V = V} c e)) → IsNoList (answer_on_sets {V = V} cmp c (items m) (items o)).reply → StepOnSets cmp refuses_key c m o r m' o' → IsNoList r
+  on_sets : (c : SetCommand K) (m o : Map K ⊤) (r : Reply K V) (m' o' : Map K ⊤) → ((e : TryReserveError) → IsNoList (item_refusal {V = V} c e))
+      → IsNoList (answer_on_sets {V = V} cmp c (items m) (items o)).reply → StepOnSets cmp refuses_key c m o r m' o' → IsNoList r
   on_sets c m o r m' o' refuses answers (answered_on_sets must h) = rw h.0 answers
   on_sets c m o r m' o' refuses answers (refused_on_sets e may h) = rw h.0 (refuses e)
   on_sets c m o r m' o' refuses answers (stopped_on_sets e may h) = rw h.0 tt
 
   -- a command whose reply is a list asks for one
-  pub asks : (before : World K V) (c : Command K V) (r : Reply K V) (after : World K V) → Step cmp refuses_key refuses_value before c r after → (IsNoList r → ⊥) → AsksForList c
+  pub asks : (before : World K V) (c : Command K V) (r : Reply K V) (after : World K V) → Step cmp refuses_key refuses_value before c r after
+      → (IsNoList r → ⊥) → AsksForList c
   asks before (OnMap side (Insert k v)) r after s list = absurd (list (on_maps (Insert k v) _ _ r _ _ (λ e. tt) tt s.0))
   asks before (OnMap side (Get k)) r after s list = absurd (list (on_maps (Get k) _ _ r _ _ (λ e. tt) tt s.0))
   asks before (OnMap side (GetKeyValue k)) r after s list = absurd (list (on_maps (GetKeyValue k) _ _ r _ _ (λ e. tt) tt s.0))
@@ -47,7 +95,8 @@ module _ {K V : Type 0} (cmp : K → K → Ordering) (refuses_key : K → TryRes
   asks before (OnMap side CountPairs) r after s list = absurd (list (on_maps CountPairs _ _ r _ _ (λ e. tt) tt s.0))
   asks before (OnMap side Clear) r after s list = absurd (list (on_maps Clear _ _ r _ _ (λ e. tt) tt s.0))
   asks before (OnMap side (Walk lo hi ends)) r after s list = tt
-  asks before (OnMap side (Write lo hi writes)) r after s list = absurd (list (on_maps (Write lo hi writes) _ _ r _ _ (λ e. tt) (either K V (is_range cmp lo hi) _) s.0))
+  asks before (OnMap side (Write lo hi writes)) r after s list = absurd (list
+      (on_maps (Write lo hi writes) _ _ r _ _ (λ e. tt) (either K V (is_range cmp lo hi) _) s.0))
   asks before (OnMap side Append) r after s list = absurd (list (on_maps Append _ _ r _ _ (λ e. tt) tt s.0))
   asks before (OnMap side (SplitOff k)) r after s list = absurd (list (on_maps (SplitOff k) _ _ r _ _ (λ e. tt) tt s.0))
   asks before (OnMap side TryClone) r after s list = absurd (list (on_maps TryClone _ _ r _ _ (λ e. tt) tt s.0))

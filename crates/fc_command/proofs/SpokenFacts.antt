@@ -23,14 +23,16 @@ texts_push [] r = append-nil (text_of r)
 texts_push (r0 ∷ rs) r = ap (λ l. text_of r0 ++ l) (texts_push rs r) ∙ sym (append_assoc (text_of r0) (flat_map text_of rs) (text_of r))
 
 -- one line more
-pub spoken_more : (front : List (List ℕ)) (said : List ℕ) (w w' : World ℕ ℕ) (line : List ℕ) (c : Command ℕ ℕ) (r : Reply ℕ ℕ) → SpokenTo front said w → command_of line ≡ Some c → Step nat_cmp (λ _ _. ⊥) (λ _ _. ⊥) w c r w'
+pub spoken_more : (front : List (List ℕ)) (said : List ℕ) (w w' : World ℕ ℕ) (line : List ℕ) (c : Command ℕ ℕ) (r : Reply ℕ ℕ) → SpokenTo front said w
+    → command_of line ≡ Some c → Step nat_cmp (λ _ _. ⊥) (λ _ _. ⊥) w c r w'
     → SpokenTo (front ++ line ∷ []) (said ++ text_of r) w'
 spoken_more front said w w' line c r s is step = record {
   start = s.start;
   new = s.new;
   commands = s.commands ++ c ∷ [];
   replies = s.replies ++ r ∷ [];
-  each = map_push command_of front line ∙ ap (λ l. l ++ command_of line ∷ []) s.each ∙ ap (λ o. map Some s.commands ++ o ∷ []) is ∙ sym (map_push Some s.commands c);
+  each = map_push command_of front line ∙ ap (λ l. l ++ command_of line ∷ []) s.each ∙ ap (λ o. map Some s.commands ++ o ∷ []) is
+      ∙ sym (map_push Some s.commands c);
   run = runs_more nat_cmp _ _ s.start _ _ s.commands s.replies c r s.run step;
   says = ap (λ l. l ++ text_of r) s.says ∙ sym (texts_push s.replies r);
 }

@@ -48,10 +48,25 @@ returns-in-SetCmp g c = rw c.in-SetCmp.is c.compare.ensures
 
 -- whether an operation gives nothing
 pub returns-in-IsDisjoint : goal.returns-in-IsDisjoint
-returns-in-IsDisjoint g c = rw c.in-IsDisjoint.is (answered (λ h. h) (ap Flag (none_flag c.is_disjoint.result (intersection g.K.Ord.cmp (items c.args.set.now) (items c.args.other.now)) c.is_disjoint.ensures), refl, refl))
+returns-in-IsDisjoint g c = rw c.in-IsDisjoint.is (answered (λ h. h) (
+  ap Flag
+      (none_flag c.is_disjoint.result (intersection g.K.Ord.cmp (items c.args.set.now) (items c.args.other.now)) c.is_disjoint.ensures),
+  refl,
+  refl,
+))
 
 pub returns-in-IsSubset : goal.returns-in-IsSubset
-returns-in-IsSubset g c = rw c.in-IsSubset.is (answered (λ h. h) (ap Flag (none_flag c.is_subset.result (difference g.K.Ord.cmp (items c.args.set.now) (items c.args.other.now)) c.is_subset.ensures), refl, refl))
+returns-in-IsSubset g c = rw c.in-IsSubset.is (answered (λ h. h) (
+  ap Flag
+      (none_flag c.is_subset.result (difference g.K.Ord.cmp (items c.args.set.now) (items c.args.other.now)) c.is_subset.ensures),
+  refl,
+  refl,
+))
 
 pub returns-in-IsSuperset : goal.returns-in-IsSuperset
-returns-in-IsSuperset g c = rw c.in-IsSuperset.is (answered (λ h. h) (ap Flag (none_flag c.is_superset.result (difference g.K.Ord.cmp (items c.args.other.now) (items c.args.set.now)) c.is_superset.ensures), refl, refl))
+returns-in-IsSuperset g c = rw c.in-IsSuperset.is (answered (λ h. h) (
+  ap Flag
+      (none_flag c.is_superset.result (difference g.K.Ord.cmp (items c.args.other.now) (items c.args.set.now)) c.is_superset.ensures),
+  refl,
+  refl,
+))
