@@ -6,7 +6,7 @@ use Rattle.fc_command.specs.SetStep.{answered}
 use Rattle.fc_command.proofs.OperationFacts.{none_flag}
 use Rattle.fc_command.proofs.command.sets.step_set.Goals as goal
 
--- one item or none, on whichever side
+-- one item or none
 pub returns-in-AddItem : goal.returns-in-AddItem
 returns-in-AddItem g c = rw c.in-AddItem.is (c.add.ensures c.args.other.now)
 
@@ -19,14 +19,14 @@ returns-in-SetClear g c = rw c.in-SetClear.is (c.clear.ensures c.args.other.now)
 pub returns-in-GetItem : goal.returns-in-GetItem
 returns-in-GetItem g c = rw c.in-GetItem.is (c.find.ensures c.args.other.now)
 
--- what was put in or given, on whichever side
+-- what was put in or given
 pub returns-in-SetExtend : goal.returns-in-SetExtend
 returns-in-SetExtend g c = rw c.in-SetExtend.is (c.extend.ensures c.args.other.now)
 
 pub returns-in-SetWalk : goal.returns-in-SetWalk
 returns-in-SetWalk g c = rw c.in-SetWalk.is (c.walk.ensures c.args.other.now)
 
--- what was copied, listed and kept, on whichever side
+-- what was copied, listed and kept
 pub returns-in-SetClone : goal.returns-in-SetClone
 returns-in-SetClone g c = rw c.in-SetClone.is c.copy.ensures
 
@@ -36,7 +36,7 @@ returns-in-List g c = rw c.in-List.is c.list.ensures
 pub returns-in-Keep : goal.returns-in-Keep
 returns-in-Keep g c = rw c.in-Keep.is c.keep.ensures
 
--- what was joined, split and compared, on whichever side
+-- what was joined, split and compared
 pub returns-in-SetAppend : goal.returns-in-SetAppend
 returns-in-SetAppend g c = rw c.in-SetAppend.is c.append.ensures
 
