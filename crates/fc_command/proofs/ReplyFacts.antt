@@ -10,59 +10,18 @@ use Rattle.fc_command.specs.declared.command.world.World.{World}
 use Rattle.fc_lines.specs.declared.command.Command.{Command}
 use Rattle.fc_lines.specs.declared.command.Command.TheVariants.{OnMap, OnSet}
 use Rattle.fc_lines.specs.declared.command.MapCommand.{MapCommand}
-use Rattle.fc_lines.specs.declared.command.MapCommand.TheVariants.{
-  Insert,
-  Get,
-  GetKeyValue,
-  ContainsKey,
-  Remove,
-  Set,
-  Entry,
-  RemoveEntry,
-  Len as CountPairs,
-  Clear,
-  Walk,
-  Write,
-  Append,
-  SplitOff,
-  TryClone,
-  Extend,
-  InsertBoth,
-}
+use Rattle.fc_lines.specs.declared.command.MapCommand.TheVariants.{Insert, Get, GetKeyValue, ContainsKey, Remove, Set, Entry, RemoveEntry, Len as CountPairs}
+use Rattle.fc_lines.specs.declared.command.MapCommand.TheVariants.{Clear, Walk, Write, Append, SplitOff, TryClone, Extend, InsertBoth}
 use Rattle.fc_lines.specs.declared.command.SetCommand.{SetCommand}
-use Rattle.fc_lines.specs.declared.command.SetCommand.TheVariants.{
-  AddItem,
-  ReplaceItem,
-  TakeItem,
-  RemoveItem,
-  ContainsItem,
-  GetItem,
-  SetLen,
-  SetClear,
-  SetAppend,
-  SetSplitOff,
-  SetClone,
-  SetExtend,
-  SetWalk,
-  List as ListItems,
-  Keep,
-  IsDisjoint,
-  IsSubset,
-  IsSuperset,
-  SetCmp,
-}
+use Rattle.fc_lines.specs.declared.command.SetCommand.TheVariants.{AddItem, ReplaceItem, TakeItem, RemoveItem, ContainsItem, GetItem, SetLen, SetClear}
+use Rattle.fc_lines.specs.declared.command.SetCommand.TheVariants.{SetAppend, SetSplitOff, SetClone, SetExtend, SetWalk, List as ListItems, Keep, IsDisjoint}
+use Rattle.fc_lines.specs.declared.command.SetCommand.TheVariants.{IsSubset, IsSuperset, SetCmp}
 use Rattle.fc_lines.specs.declared.command.Reply.{Reply}
 use Rattle.fc_lines.specs.declared.command.Reply.TheVariants.{Len, BadRange}
 use Rattle.fc_lines.specs.Room.{AsksForList, IsNoList}
 use Rattle.fc_command.specs.Step.{refusal, answer, StepOn, answered, refused, stopped, Step}
-use Rattle.fc_command.specs.SetStep.{
-  item_refusal,
-  answer_on_sets,
-  StepOnSets,
-  answered as answered_on_sets,
-  refused as refused_on_sets,
-  stopped as stopped_on_sets,
-}
+use Rattle.fc_command.specs.SetStep.{item_refusal, answer_on_sets, StepOnSets, answered as answered_on_sets, refused as refused_on_sets}
+use Rattle.fc_command.specs.SetStep.{stopped as stopped_on_sets}
 
 either : (K V : Type 0) (b : Bool) (n : ℕ) → IsNoList {K = K} {V = V} (if b then Len n else BadRange)
 either K V true n = tt

@@ -8,91 +8,17 @@ use Rattle.std.specs.declared.ops.Bound.TheVariants.{Included, Excluded, Unbound
 use Rattle.fc_lines.specs.declared.command.Side.TheVariants.{First, Second}
 use Rattle.fc_lines.specs.declared.command.End.TheVariants.{Front, Back}
 use Rattle.fc_lines.specs.declared.command.Command.TheVariants.{OnMap, OnSet}
-use Rattle.fc_lines.specs.declared.command.MapCommand.TheVariants.{
-  Insert,
-  Get,
-  GetKeyValue,
-  ContainsKey,
-  Remove,
-  Set,
-  Entry,
-  RemoveEntry,
-  Len as CountPairs,
-  Clear,
-  Walk,
-  Write,
-  Append,
-  SplitOff,
-  TryClone,
-  Extend,
-  InsertBoth,
-}
-use Rattle.fc_lines.specs.declared.command.SetCommand.TheVariants.{
-  AddItem,
-  ReplaceItem,
-  TakeItem,
-  RemoveItem,
-  ContainsItem,
-  GetItem,
-  SetLen,
-  SetClear,
-  SetAppend,
-  SetSplitOff,
-  SetClone,
-  SetExtend,
-  SetWalk,
-  List as ListItems,
-  Keep,
-  IsDisjoint,
-  IsSubset,
-  IsSuperset,
-  SetCmp,
-}
-use Rattle.fc_lines.specs.declared.command.Reply.TheVariants.{
-  Done,
-  Flag,
-  Value,
-  Pair,
-  Len,
-  Pairs,
-  BadRange,
-  Refused,
-  GivenBack,
-  ItemGivenBack,
-  Both,
-  BothGivenBack,
-  Key,
-  Keys,
-  Order,
-}
+use Rattle.fc_lines.specs.declared.command.MapCommand.TheVariants.{Insert, Get, GetKeyValue, ContainsKey, Remove, Set, Entry, RemoveEntry, Len as CountPairs}
+use Rattle.fc_lines.specs.declared.command.MapCommand.TheVariants.{Clear, Walk, Write, Append, SplitOff, TryClone, Extend, InsertBoth}
+use Rattle.fc_lines.specs.declared.command.SetCommand.TheVariants.{AddItem, ReplaceItem, TakeItem, RemoveItem, ContainsItem, GetItem, SetLen, SetClear}
+use Rattle.fc_lines.specs.declared.command.SetCommand.TheVariants.{SetAppend, SetSplitOff, SetClone, SetExtend, SetWalk, List as ListItems, Keep, IsDisjoint}
+use Rattle.fc_lines.specs.declared.command.SetCommand.TheVariants.{IsSubset, IsSuperset, SetCmp}
+use Rattle.fc_lines.specs.declared.command.Reply.TheVariants.{Done, Flag, Value, Pair, Len, Pairs, BadRange, Refused, GivenBack, ItemGivenBack, Both}
+use Rattle.fc_lines.specs.declared.command.Reply.TheVariants.{BothGivenBack, Key, Keys, Order}
 use Rattle.fc_lines.specs.Lines.{lines_of}
-use Rattle.fc_lines.specs.Grammar.{
-  command_of,
-  on_maps_of,
-  on_map_of,
-  map_command_of,
-  plain_of,
-  keyed_of,
-  valued_of,
-  entry_of,
-  both_of,
-  steps_of,
-  walk_of,
-  write_of,
-  extend_of,
-  map_at,
-  number_at,
-  bound_at,
-  on_sets_of,
-  on_set_of,
-  set_command_of,
-  plain_on_set_of,
-  with_item_of,
-  walk_items_of,
-  extend_items_of,
-  keep_of,
-  set_at,
-}
+use Rattle.fc_lines.specs.Grammar.{command_of, on_maps_of, on_map_of, map_command_of, plain_of, keyed_of, valued_of, entry_of, both_of, steps_of, walk_of}
+use Rattle.fc_lines.specs.Grammar.{write_of, extend_of, map_at, number_at, bound_at, on_sets_of, on_set_of, set_command_of, plain_on_set_of, with_item_of}
+use Rattle.fc_lines.specs.Grammar.{walk_items_of, extend_items_of, keep_of, set_at}
 use Rattle.fc_lines.specs.Texts.{text_of}
 use Rattle.std.specs.declared.cmp.Ordering.TheVariants.{Less, Equal, Greater}
 use Rattle.fc_lines.specs.declared.command.SetOp.TheVariants.{Difference, SymmetricDifference, Intersection, Union}

@@ -1,39 +1,6 @@
 -- Words of bytes, and digits.
-use Rattle.std.proofs.Common.{
-  ◌≡◌,
-  ℕ,
-  ◌+◌,
-  ◌*◌,
-  ◌-◌,
-  ◌^◌,
-  ◌<◌,
-  ◌≤◌,
-  suc,
-  zero,
-  ◌&&◌,
-  eqb,
-  List,
-  [],
-  ◌∷◌,
-  length,
-  take,
-  drop,
-  get_or,
-  Some,
-  None,
-  refl,
-  ◌∙◌,
-  arith,
-  if◌then◌else◌,
-  true,
-  false,
-  not,
-  cond,
-  one-add,
-  add-one,
-  IsTrue,
-  Bool,
-}
+use Rattle.std.proofs.Common.{◌≡◌, ℕ, ◌+◌, ◌*◌, ◌-◌, ◌^◌, ◌<◌, ◌≤◌, suc, zero, ◌&&◌, eqb, List, [], ◌∷◌, length, take, drop, get_or, Some, None, refl, ◌∙◌}
+use Rattle.std.proofs.Common.{arith, if◌then◌else◌, true, false, not, cond, one-add, add-one, IsTrue, Bool}
 use Rattle.std.specs.Prelude.{nat_lt, position}
 use Rattle.std.specs.List.{position_or_len, list_all}
 use Rattle.std.specs.Char.{is_ascii_digit}
