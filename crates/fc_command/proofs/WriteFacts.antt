@@ -1,6 +1,6 @@
 -- One write of a walk that writes.
-use Rattle.std.proofs.Common.{◌≡◌, ℕ, ◌+◌, ◌-◌, ◌<◌, ◌≤◌, List, [], ◌∷◌, length, suc, Bool, true, false, not, cond, refl, ap, ◌∙◌, inl, inr, arith}
-use Rattle.std.specs.Prelude.{nat_lt, ◌&&◌, filter, min, IsTrue, ◌↔◌}
+use Rattle.std.proofs.Common.{◌≡◌, ℕ, ◌+◌, ◌-◌, ◌<◌, ◌≤◌, List, ◌∷◌, length, Bool, true, false, refl, ap, ◌∙◌, inl, inr, arith}
+use Rattle.std.specs.Prelude.{nat_lt, min, IsTrue, ◌↔◌}
 use Rattle.std.specs.Int.{from_bool}
 use Rattle.std.specs.declared.cmp.Ordering.{Ordering}
 use Rattle.std.specs.declared.ops.Bound.{Bound}

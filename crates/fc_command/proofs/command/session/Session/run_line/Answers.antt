@@ -1,4 +1,4 @@
-use Rattle.std.proofs.Common.{◌≡◌, Some, None, refl, sym, inl, inr, arith, ◌∙◌, ap, subst, ◌++◌, ◌∷◌, []}
+use Rattle.std.proofs.Common.{◌≡◌, None, refl, sym, inl, inr, arith, ◌∙◌, ap, subst, ◌++◌, ◌∷◌, []}
 use Rattle.std.proofs.KnownBytes.{Appends-nil}
 use Rattle.fc_command.specs.Spoken.{SpokenTo}
 use Rattle.std.proofs.lemmas.Result.{err_from_is_err_and}
