@@ -1,5 +1,6 @@
 -- What is spoken, one line more at a time.
 use Rattle.std.proofs.Common.{◌≡◌, ℕ, List, [], ◌∷◌, ◌++◌, map, Some, refl, sym, ap, ◌∙◌, append_assoc, append-nil}
+use Rattle.std.proofs.lemmas.List.{map_push}
 use Rattle.std.specs.List.{flat_map}
 use Rattle.std.specs.Ordering.{nat_cmp}
 use Rattle.fc_command.specs.declared.command.world.World.{World}
@@ -13,10 +14,6 @@ use Rattle.fc_command.proofs.RunFacts.{runs_more}
 
 pub spoken_none : (w : World ℕ ℕ) → IsNew w → SpokenTo [] [] w
 spoken_none w new = record { start = w; new = new; commands = []; replies = []; each = refl; run = refl; says = refl }
-
-map_push : {A B : Type 0} (f : A → B) (xs : List A) (x : A) → map f (xs ++ x ∷ []) ≡ map f xs ++ f x ∷ []
-map_push f [] x = refl
-map_push f (y ∷ xs) x = ap (λ l. f y ∷ l) (map_push f xs x)
 
 texts_push : (rs : List (Reply ℕ ℕ)) (r : Reply ℕ ℕ) → flat_map text_of (rs ++ r ∷ []) ≡ flat_map text_of rs ++ text_of r
 texts_push [] r = append-nil (text_of r)
