@@ -90,6 +90,25 @@ line_failed lines old new front after said more Write place s num h = (
   ],
 )
 
+-- the refusal of a line failed, or was written
+pub refused_line : (lines : List (List ℕ)) (front after : List (List ℕ)) (line said more : List ℕ) (w : World ℕ ℕ) (number : ℕ)
+    (r : Result (Option ℕ) ServeError) → lines ≡ front ++ line ∷ after → SpokenTo front said w → number ≡ min (length front) (2 ^ 64 - 1)
+    → command_of line ≡ None → FaultTold (min (number + 1) (2 ^ 64 - 1)) more r
+    → MatchResult r (λ o. (n : ℕ) × (o ≡ Some n) × Faulted lines (said ++ more) n) (λ e. Failed lines (said ++ more) e)
+refused_line lines front after line said more w number (Ok None) place s num bad h = absurd h
+refused_line lines front after line said more w number (Ok (Some n)) place s num bad h =
+    (n, refl, faulted_here lines front after line said more w number n place s num bad h.0 h.1)
+refused_line lines front after line said more w number (Err (Memory e)) place s num bad h = absurd h
+refused_line lines front after line said more w number (Err Read) place s num bad h = absurd h
+refused_line lines front after line said more w number (Err Write) place s num bad h = (
+  h.0,
+  inr (
+    min (number + 1) (2 ^ 64 - 1),
+    rw (append_assoc said more h.0)
+        (faulted_here lines front after line said (more ++ h.0) w number (min (number + 1) (2 ^ 64 - 1)) place s num bad refl h.1),
+  ),
+)
+
 -- where the line ends
 pub place_feed : (seen : List ℕ) (front : List (List ℕ)) (line after : List ℕ) → Cuts seen front line
     → lines_of (seen ++ 10 ∷ after) ≡ front ++ line ∷ lines_of after
