@@ -36,15 +36,12 @@ returns-in-List g c = rw c.in-List.is c.list.ensures
 pub returns-in-Keep : goal.returns-in-Keep
 returns-in-Keep g c = rw c.in-Keep.is c.keep.ensures
 
--- what was joined, split and compared
+-- what was joined and split
 pub returns-in-SetAppend : goal.returns-in-SetAppend
 returns-in-SetAppend g c = rw c.in-SetAppend.is c.append.ensures
 
 pub returns-in-SetSplitOff : goal.returns-in-SetSplitOff
 returns-in-SetSplitOff g c = rw c.in-SetSplitOff.is c.split_off.ensures
-
-pub returns-in-SetCmp : goal.returns-in-SetCmp
-returns-in-SetCmp g c = rw c.in-SetCmp.is c.compare.ensures
 
 -- whether an operation gives nothing
 pub returns-in-IsDisjoint : goal.returns-in-IsDisjoint
