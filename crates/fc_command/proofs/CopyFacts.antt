@@ -1,5 +1,6 @@
 -- By which errors copies are refused.
-use Rattle.std.proofs.Common.{◌≡◌, ◌<◌, ◌+◌, ℕ, List, [], ◌∷◌, ◌++◌, length, get_or, drop, drop-cons, add-one, Option, Some, refl, sym, ap, ◌∙◌, subst, inl, inr, arith, length-append}
+use Rattle.std.proofs.Common.{◌≡◌, ◌<◌, ◌+◌, ℕ, List, [], ◌∷◌, ◌++◌, length, get_or, drop, drop-cons, add-one, Option, Some, refl, sym, ap, ◌∙◌, subst, inl}
+use Rattle.std.proofs.Common.{inr, arith, length-append}
 use Rattle.fc_base.specs.declared.try_reserve_error.TryReserveError.{TryReserveError}
 use Rattle.fc_base.specs.declared.try_reserve_error.TryReserveError.TheVariants.{AllocError}
 use Rattle.fc_base.specs.Copies.{MayRefuseCopies}
@@ -38,9 +39,11 @@ module _ {X : Type 0} (may_refuse : X → TryReserveError → Type 0) where
   refused_steps s (end ∷ ends) some = (omega arith, inl refl)
 
   -- the copy of what a walk gave at one of the ends was refused
-  pub refused_step : (start now : List X) (ends : List End) (steps : List (Option X)) (i : ℕ) (d : End) (found : Option X) (e : TryReserveError) → i < length ends → walked start ends ≡ steps ++ walked now (drop i ends) → found ≡ given (get_or ends i d) now
+  pub refused_step : (start now : List X) (ends : List End) (steps : List (Option X)) (i : ℕ) (d : End) (found : Option X) (e : TryReserveError)
+      → i < length ends → walked start ends ≡ steps ++ walked now (drop i ends) → found ≡ given (get_or ends i d) now
       → MayRefuseFound may_refuse found e → MayRefuseCopies (MayRefuseFound may_refuse) (walked start ends) e
   refused_step start now ends steps i d found e lt so_far gives own =
       let cell : drop i ends ≡ get_or ends i d ∷ drop (i + 1) ends = rw (add-one, drop-cons ends i d) refl in
       let rest = walked (left (get_or ends i d) now) (drop (i + 1) ends) in
-      refused_item (MayRefuseFound may_refuse) (walked start ends) steps rest found e (so_far ∙ ap (λ l. steps ++ walked now l) cell ∙ ap (λ f. steps ++ f ∷ rest) (sym gives)) own
+      refused_item (MayRefuseFound may_refuse) (walked start ends) steps rest found e (so_far ∙ ap (λ l. steps ++ walked now l) cell
+      ∙ ap (λ f. steps ++ f ∷ rest) (sym gives)) own

@@ -1,5 +1,6 @@
 -- How bytes are cut into lines, one byte more at a time.
-use Rattle.std.proofs.Common.{◌≡◌, ◌≢◌, ℕ, zero, suc, ◌<◌, get_or, take, eqb, List, [], ◌∷◌, ◌++◌, length, None, refl, sym, ap, ◌∙◌, arith, false, append_assoc, append-nil}
+use Rattle.std.proofs.Common.{◌≡◌, ◌≢◌, ℕ, zero, suc, ◌<◌, get_or, take, eqb, List, [], ◌∷◌, ◌++◌, length, None, refl, sym, ap, ◌∙◌, arith, false, append_assoc}
+use Rattle.std.proofs.Common.{append-nil}
 use Rattle.std.specs.List.{AllByRecursion}
 use Rattle.std.proofs.lemmas.Bool.Decides.{nat_tests}
 use Rattle.fc_lines.specs.Lines.{lines_of, whole_lines_of, onto_first}
@@ -22,6 +23,11 @@ open_take text zero h = tt
 open_take [] (suc n) h = tt
 open_take (x ∷ text) (suc n) h = (h 0 (omega arith), open_take text n (λ k lt. h (suc k) (omega (arith, lt))))
 
+-- what is cut off at a line feed begins with it
+pub fed_first : (left from after : List ℕ) (x : ℕ) → left ≡ from → left ≡ x ∷ after → ((x : ℕ) (after : List ℕ) → from ≡ x ∷ after → x ≡ 10)
+    → left ≡ 10 ∷ after
+fed_first left from after x cut cell feed = cell ∙ ap (λ y. y ∷ after) (feed x after (sym cut ∙ cell))
+
 -- a line feed ends the line
 pub lines_feed : (line rest : List ℕ) → Open line → lines_of (line ++ 10 ∷ rest) ≡ line ∷ lines_of rest
 lines_feed [] rest o = refl
@@ -42,7 +48,8 @@ lines_open x [] o = rw (eqb_other x o.0) refl
 lines_open x (y ∷ line) o = rw (eqb_other x o.0, lines_open y line o.1) refl
 
 -- the first line begins with what is there, whatever follows
-pub lines_begin : (x : ℕ) (line rest : List ℕ) → Open (x ∷ line) → (tail : List ℕ) × (after : List (List ℕ)) × (lines_of ((x ∷ line) ++ rest) ≡ ((x ∷ line) ++ tail) ∷ after)
+pub lines_begin : (x : ℕ) (line rest : List ℕ) → Open (x ∷ line) → (tail : List ℕ) × (after : List (List ℕ))
+    × (lines_of ((x ∷ line) ++ rest) ≡ ((x ∷ line) ++ tail) ∷ after)
 lines_begin x [] rest o = let two = onto x (lines_of rest) in (two.0, two.1, rw (eqb_other x o.0) two.2)
   where
     onto : (x : ℕ) (ls : List (List ℕ)) → (tail : List ℕ) × (after : List (List ℕ)) × (onto_first x ls ≡ (x ∷ tail) ∷ after)
@@ -50,7 +57,8 @@ lines_begin x [] rest o = let two = onto x (lines_of rest) in (two.0, two.1, rw 
     onto x (l ∷ ls) = (l, ls, refl)
 lines_begin x (y ∷ line) rest o = let more = lines_begin y line rest o.1 in (more.0, more.1, rw (eqb_other x o.0, more.2) refl)
 
-pub lines_begin_any : (line rest : List ℕ) → Open line → 0 < length line → (tail : List ℕ) × (after : List (List ℕ)) × (lines_of (line ++ rest) ≡ (line ++ tail) ∷ after)
+pub lines_begin_any : (line rest : List ℕ) → Open line → 0 < length line
+    → (tail : List ℕ) × (after : List (List ℕ)) × (lines_of (line ++ rest) ≡ (line ++ tail) ∷ after)
 lines_begin_any [] rest o h = absurd (omega arith)
 lines_begin_any (x ∷ line) rest o h = lines_begin x line rest o
 
@@ -74,11 +82,14 @@ module _ (seen : List ℕ) (front : List (List ℕ)) (line : List ℕ) (cuts : C
   -- a line feed ends it
   pub cuts_feed : Cuts (seen ++ 10 ∷ []) (front ++ line ∷ []) []
   cuts_feed = record {
-    lines = λ rest. rw (append_assoc seen (10 ∷ []) rest, append_assoc front (line ∷ []) (lines_of rest)) (cuts.lines (10 ∷ rest) ∙ ap (λ l. front ++ l) (lines_feed line rest cuts.open_line));
-    whole = λ rest. rw (append_assoc seen (10 ∷ []) rest, append_assoc front (line ∷ []) (whole_lines_of rest)) (cuts.whole (10 ∷ rest) ∙ ap (λ l. front ++ l) (whole_feed line rest cuts.open_line));
+    lines = λ rest. rw (append_assoc seen (10 ∷ []) rest, append_assoc front (line ∷ []) (lines_of rest)) (cuts.lines (10 ∷ rest)
+        ∙ ap (λ l. front ++ l) (lines_feed line rest cuts.open_line));
+    whole = λ rest. rw (append_assoc seen (10 ∷ []) rest, append_assoc front (line ∷ []) (whole_lines_of rest)) (cuts.whole (10 ∷ rest)
+        ∙ ap (λ l. front ++ l) (whole_feed line rest cuts.open_line));
     open_line = tt;
   }
 
   -- the whole lines of what was seen
   pub cuts_whole : whole_lines_of seen ≡ front
-  cuts_whole = ap whole_lines_of (sym (append-nil seen)) ∙ cuts.whole [] ∙ ap (λ l. front ++ whole_lines_of l) (append-nil line) ∙ ap (λ l. front ++ l) (whole_open line cuts.open_line) ∙ append-nil front
+  cuts_whole = ap whole_lines_of (sym (append-nil seen)) ∙ cuts.whole [] ∙ ap (λ l. front ++ whole_lines_of l) (append-nil line)
+      ∙ ap (λ l. front ++ l) (whole_open line cuts.open_line) ∙ append-nil front

@@ -16,5 +16,6 @@ module _ {S A : Type 0} (steps : S → Option A → S → Type 0) (rest : S → 
   given_first s t (x ∷ xs) y = first s y.0 x y.1 ∙ ap (λ l. x ∷ l) (given_first y.0 t xs y.2)
 
   -- what holds of those that were given, whatever follows them, where the walk begins with these
-  pub given_front : (becomes : S → Type 0) (items : List A) (P : List A → Type 0) → ((s : S) → becomes s → rest s ≡ items) → (taken : List A) × ((s : S) × becomes s × (t : S) × Yields steps s taken t) × ((more : List A) → P (taken ++ more)) → P items
+  pub given_front : (becomes : S → Type 0) (items : List A) (P : List A → Type 0) → ((s : S) → becomes s → rest s ≡ items)
+      → (taken : List A) × ((s : S) × becomes s × (t : S) × Yields steps s taken t) × ((more : List A) → P (taken ++ more)) → P items
   given_front becomes items P begins (taken, (s, is, t, yields), holds) = subst P (sym (given_first s t taken yields) ∙ begins s is) (holds (rest t))

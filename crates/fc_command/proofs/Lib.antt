@@ -2,7 +2,6 @@ mod CopyFacts
 mod CutFacts
 mod ExampleFacts
 mod ItemFacts
-mod KindFacts
 mod OperationFacts
 mod ReplyFacts
 mod RunFacts

@@ -1,5 +1,6 @@
 -- What the operations on two sets answer: copies of what a walk lends.
-use Rattle.std.proofs.Common.{◌≡◌, ◌↔◌, Bool, true, false, List, [], ◌∷◌, ◌++◌, map, Option, Some, None, Result, Ok, Err, IfOk, refl, sym, ap, ◌∙◌, append_assoc, append-nil}
+use Rattle.std.proofs.Common.{◌≡◌, ◌↔◌, Bool, true, false, List, [], ◌∷◌, ◌++◌, map, Option, Some, None, Result, Ok, Err, IfOk, refl, sym, ap, ◌∙◌}
+use Rattle.std.proofs.Common.{append_assoc, append-nil}
 use Rattle.std.specs.Prelude.{IsTrue}
 use Rattle.std.specs.Iterator.{AlwaysYields}
 use Rattle.std.specs.List.{AllZip}
@@ -21,7 +22,8 @@ none_flag false (x ∷ s) h = refl
 
 module _ {S T : Type 0} (steps : S → Option (Bor T) → S → Type 0) where
   -- An item that a walk gives is the first of those that it had left.
-  some_left : (s j : S) (x : Bor T) (left : List T) → AlwaysYields steps (λ x. x.now) s left → steps s (Some x) j → (rest : List T) × (left ≡ x.now ∷ rest) × AlwaysYields steps (λ x. x.now) j rest
+  some_left : (s j : S) (x : Bor T) (left : List T) → AlwaysYields steps (λ x. x.now) s left → steps s (Some x) j
+      → (rest : List T) × (left ≡ x.now ∷ rest) × AlwaysYields steps (λ x. x.now) j rest
   some_left s j x [] a h = absurd (a x j h)
   some_left s j x (y ∷ left) a h = (left, ap (λ z. z ∷ left) (sym (a.1 x j h).0), (a.1 x j h).1)
 
@@ -41,7 +43,8 @@ module _ {S T : Type 0} (steps : S → Option (Bor T) → S → Type 0) where
     pub copied_start : (copies : List (Option T)) (s : S) → copies ≡ [] → AlwaysYields steps (λ x. x.now) s all → IsCopiedSoFar copies s
     copied_start copies s none a = record { done = []; left = all; gives = a; parted = refl; copied = none }
 
-    pub copied_more : (copies : List (Option T)) (s j : S) (x : Bor T) (y : T) → IsCopiedSoFar copies s → steps s (Some x) j → y ≡ x.now → IsCopiedSoFar (copies ++ Some y ∷ []) j
+    pub copied_more : (copies : List (Option T)) (s j : S) (x : Bor T) (y : T) → IsCopiedSoFar copies s → steps s (Some x) j → y ≡ x.now
+        → IsCopiedSoFar (copies ++ Some y ∷ []) j
     copied_more copies s j x y f h e =
         let l = some_left s j x f.left f.gives h in
         record {
@@ -53,7 +56,8 @@ module _ {S T : Type 0} (steps : S → Option (Bor T) → S → Type 0) where
         }
 
     -- where the item that it gave next stands among all
-    pub next_left : (copies : List (Option T)) (s j : S) (x : Bor T) → IsCopiedSoFar copies s → steps s (Some x) j → (done rest : List T) × (all ≡ done ++ x.now ∷ rest)
+    pub next_left : (copies : List (Option T)) (s j : S) (x : Bor T) → IsCopiedSoFar copies s → steps s (Some x) j
+        → (done rest : List T) × (all ≡ done ++ x.now ∷ rest)
     next_left copies s j x f h = let l = some_left s j x f.left f.gives h in (f.done, l.0, f.parted ∙ ap (λ r. f.done ++ r) l.1)
 
     pub copied_all : (copies : List (Option T)) (s j : S) → IsCopiedSoFar copies s → steps s None j → copies ≡ map Some all
@@ -62,6 +66,7 @@ module _ {S T : Type 0} (steps : S → Option (Bor T) → S → Type 0) where
         f.copied ∙ ap (map Some) (sym (f.parted ∙ ap (λ r. f.done ++ r) none ∙ append-nil f.done))
 
 -- where it was answered, exact copies are the items themselves
-pub exact_items : {K V : Type 0} (same : K → K → Type 0) → IsExact same → (r : Result (Map K V) TryReserveError) (s : List K) → IfOk r (λ made. AllZip same s (items made)) → IfOk r (λ made. items made ≡ s)
+pub exact_items : {K V : Type 0} (same : K → K → Type 0) → IsExact same → (r : Result (Map K V) TryReserveError) (s : List K)
+    → IfOk r (λ made. AllZip same s (items made)) → IfOk r (λ made. items made ≡ s)
 exact_items same exact (Ok made) s copied = same_from_all_zip same s (items made) copied exact
 exact_items same exact (Err e) s copied = tt

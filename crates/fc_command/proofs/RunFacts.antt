@@ -9,7 +9,8 @@ use Rattle.fc_command.specs.Step.{Step, Runs}
 
 module _ {K V : Type 0} (cmp : K → K → Ordering) (refuses_key : K → TryReserveError → Type 0) (refuses_value : V → TryReserveError → Type 0) where
   -- a run, and one step more
-  pub runs_more : (w mid w' : World K V) (cs : List (Command K V)) (rs : List (Reply K V)) (c : Command K V) (r : Reply K V) → Runs cmp refuses_key refuses_value w cs rs mid → Step cmp refuses_key refuses_value mid c r w'
+  pub runs_more : (w mid w' : World K V) (cs : List (Command K V)) (rs : List (Reply K V)) (c : Command K V) (r : Reply K V)
+      → Runs cmp refuses_key refuses_value w cs rs mid → Step cmp refuses_key refuses_value mid c r w'
       → Runs cmp refuses_key refuses_value w (cs ++ c ∷ []) (rs ++ r ∷ []) w'
   runs_more w mid w' [] [] c r e step = (w', rw e at step, refl)
   runs_more w mid w' (c0 ∷ cs) (r0 ∷ rs) c r run step = (run.0, run.1, runs_more run.0 mid w' cs rs c r run.2 step)

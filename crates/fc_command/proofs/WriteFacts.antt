@@ -1,6 +1,6 @@
 -- One write of a walk that writes.
-use Rattle.std.proofs.Common.{◌≡◌, ℕ, ◌+◌, ◌-◌, ◌<◌, ◌≤◌, List, [], ◌∷◌, length, suc, Bool, true, false, not, cond, refl, ap, ◌∙◌, inl, inr, arith}
-use Rattle.std.specs.Prelude.{nat_lt, ◌&&◌, filter, min, IsTrue, ◌↔◌}
+use Rattle.std.proofs.Common.{◌≡◌, ℕ, ◌+◌, ◌-◌, ◌<◌, ◌≤◌, List, ◌∷◌, length, Bool, true, false, refl, ap, ◌∙◌, inl, inr, arith}
+use Rattle.std.specs.Prelude.{nat_lt, min, IsTrue, ◌↔◌}
 use Rattle.std.specs.Int.{from_bool}
 use Rattle.std.specs.declared.cmp.Ordering.{Ordering}
 use Rattle.std.specs.declared.ops.Bound.{Bound}
@@ -23,7 +23,8 @@ module _ {K V : Type 0} where
   wrote_none t w l = let p : nat_lt t.front t.back ≡ false = grind (arith, nat_tests) in rw p refl
 
   -- the other writes give what all gave
-  pub wrote_more : (t n : Stretch K V) (w : Bool × V) (ws : List (Bool × V)) (s : List (K × V)) → n ≡ wrote t w → (wrote_all t (w ∷ ws)).list ≡ s → (wrote_all n ws).list ≡ s
+  pub wrote_more : (t n : Stretch K V) (w : Bool × V) (ws : List (Bool × V)) (s : List (K × V)) → n ≡ wrote t w → (wrote_all t (w ∷ ws)).list ≡ s
+      → (wrote_all n ws).list ≡ s
   wrote_more t n w ws s e h = rw e h
 
   -- one place less is left, if there was one
@@ -41,7 +42,8 @@ module _ {K V : Type 0} where
   places_more t n w y places e h = rw e (omega (arith, left_wrote t w, h))
 
 -- one write more, of y so far over n places
-pub count_more : (lent : Bool) (count y n front back : ℕ) → count ≡ min y n → back - front ≡ n - y → (IsTrue lent ↔ (front < back)) → count + from_bool lent ≡ min (y + 1) n
+pub count_more : (lent : Bool) (count y n front back : ℕ) → count ≡ min y n → back - front ≡ n - y → (IsTrue lent ↔ (front < back))
+    → count + from_bool lent ≡ min (y + 1) n
 count_more true count y n front back e left is = omega (arith, is.0 refl)
 count_more false count y n front back e left is = elim (cases_lt front back) [
   | inl l ↦ (let bad : false ≡ true = is.1 l in absurd cc)
@@ -49,5 +51,6 @@ count_more false count y n front back e left is = elim (cases_lt front back) [
 ]
 
 -- a range has as many places to lend as pairs
-pub places_within : {K V : Type 0} (cmp : K → K → Ordering) (lo hi : Bound K) (s : List (K × V)) → (starting cmp lo hi s).back - (starting cmp lo hi s).front ≡ length (within cmp lo hi s)
+pub places_within : {K V : Type 0} (cmp : K → K → Ordering) (lo hi : Bound K) (s : List (K × V))
+    → (starting cmp lo hi s).back - (starting cmp lo hi s).front ≡ length (within cmp lo hi s)
 places_within cmp lo hi s = omega arith

@@ -15,12 +15,11 @@ use Rattle.fc_map.specs.Entries.{Map, entries}
 use Rattle.fc_set.specs.Items.{items}
 use Rattle.fc_command.specs.declared.command.world.World.{World}
 use Rattle.fc_lines.specs.declared.command.Side.{Side}
-use Rattle.fc_lines.specs.declared.command.Target.{Target}
-use Rattle.fc_lines.specs.declared.command.Target.TheVariants.{OnMap, OnSet}
-use Rattle.fc_lines.specs.Targets.{target_of}
 use Rattle.fc_lines.specs.declared.command.Side.TheVariants.{First, Second}
 use Rattle.fc_lines.specs.declared.command.Command.{Command}
-use Rattle.fc_lines.specs.declared.command.Command.TheVariants.{Insert, Get, GetKeyValue, ContainsKey, Remove, Set, Entry, RemoveEntry, Len as CountPairs, Clear, Walk, Write, Append, SplitOff, TryClone, Extend, InsertBoth}
+use Rattle.fc_lines.specs.declared.command.Command.TheVariants.{OnMap, OnSet}
+use Rattle.fc_lines.specs.declared.command.MapCommand.{MapCommand}
+use Rattle.fc_lines.specs.declared.command.MapCommand.TheVariants.{Insert, Get, GetKeyValue, ContainsKey, Remove, Set, Entry, RemoveEntry, Len as CountPairs, Clear, Walk, Write, Append, SplitOff, TryClone, Extend, InsertBoth}
 use Rattle.fc_lines.specs.declared.command.Reply.{Reply}
 use Rattle.fc_lines.specs.declared.command.Reply.TheVariants.{Done, Flag, Value, Pair, Len, Pairs, BadRange, Refused, GivenBack, Both, BothGivenBack}
 use Rattle.fc_command.specs.SetStep.{StepOnSets}
@@ -58,51 +57,50 @@ pub record Outcome (K V : Type 0) : Type 0 where
   pub reply : Reply K V
 
 -- The reply to a command that is refused: an insertion hands back each key and value that it was to put in.
-abbrev pub refusal : {K V : Type 0} → Command K V → TryReserveError → Reply K V
-refusal (Insert side k v) e = GivenBack k v e
-refusal (Entry side k v w) e = GivenBack k w e
+abbrev pub refusal : {K V : Type 0} → MapCommand K V → TryReserveError → Reply K V
+refusal (Insert k v) e = GivenBack k v e
+refusal (Entry k v w) e = GivenBack k w e
 refusal (InsertBoth k v l w) e = BothGivenBack k v l w e
 refusal c e = Refused e
 
 module _ {K V : Type 0} (cmp : K → K → Ordering) where
   -- The table of commands on maps, where they are answered: the list of the named map, that of the other, and the reply.
-  abbrev pub answer : Command K V → List (K × V) → List (K × V) → Outcome K V
-  answer (Insert side k v) m o = record { m = put cmp m k v; o = o; reply = Value (value_at cmp m k) }
-  answer (Get side k) m o = record { m = m; o = o; reply = Value (value_at cmp m k) }
-  answer (GetKeyValue side k) m o = record { m = m; o = o; reply = Pair (at cmp m k) }
-  answer (ContainsKey side k) m o = record { m = m; o = o; reply = Flag (is_some (at cmp m k)) }
-  answer (Remove side k) m o = record { m = cut cmp m k; o = o; reply = Value (value_at cmp m k) }
-  answer (Set side k v) m o = record { m = if is_some (at cmp m k) then put cmp m k v else m; o = o; reply = Value (value_at cmp m k) }
-  answer (Entry side k v w) m o = record { m = put cmp m k (if is_some (at cmp m k) then v else w); o = o; reply = Flag (is_some (at cmp m k)) }
-  answer (RemoveEntry side k) m o = record { m = cut cmp m k; o = o; reply = Pair (at cmp m k) }
-  answer (CountPairs side) m o = record { m = m; o = o; reply = Len (length m) }
-  answer (Clear side) m o = record { m = []; o = o; reply = Done }
-  answer (Walk side lo hi ends) m o = record { m = m; o = o; reply = if is_range cmp lo hi then Pairs (walked (within cmp lo hi m) ends) else BadRange }
-  answer (Write side lo hi writes) m o = record {
+  abbrev pub answer : MapCommand K V → List (K × V) → List (K × V) → Outcome K V
+  answer (Insert k v) m o = record { m = put cmp m k v; o = o; reply = Value (value_at cmp m k) }
+  answer (Get k) m o = record { m = m; o = o; reply = Value (value_at cmp m k) }
+  answer (GetKeyValue k) m o = record { m = m; o = o; reply = Pair (at cmp m k) }
+  answer (ContainsKey k) m o = record { m = m; o = o; reply = Flag (is_some (at cmp m k)) }
+  answer (Remove k) m o = record { m = cut cmp m k; o = o; reply = Value (value_at cmp m k) }
+  answer (Set k v) m o = record { m = if is_some (at cmp m k) then put cmp m k v else m; o = o; reply = Value (value_at cmp m k) }
+  answer (Entry k v w) m o = record { m = put cmp m k (if is_some (at cmp m k) then v else w); o = o; reply = Flag (is_some (at cmp m k)) }
+  answer (RemoveEntry k) m o = record { m = cut cmp m k; o = o; reply = Pair (at cmp m k) }
+  answer CountPairs m o = record { m = m; o = o; reply = Len (length m) }
+  answer Clear m o = record { m = []; o = o; reply = Done }
+  answer (Walk lo hi ends) m o = record { m = m; o = o; reply = if is_range cmp lo hi then Pairs (walked (within cmp lo hi m) ends) else BadRange }
+  answer (Write lo hi writes) m o = record {
     m = if is_range cmp lo hi then rewritten cmp lo hi m writes else m;
     o = o;
     reply = if is_range cmp lo hi then Len (min (length writes) (length (within cmp lo hi m))) else BadRange;
   }
-  answer (Append side) m o = record { m = joined cmp m o; o = []; reply = Done }
-  answer (SplitOff side k) m o = record { m = below cmp m k; o = not_below cmp m k; reply = Done }
-  answer (TryClone side) m o = record { m = m; o = m; reply = Done }
-  answer (Extend side pairs) m o = record { m = extended cmp m pairs; o = o; reply = Done }
+  answer Append m o = record { m = joined cmp m o; o = []; reply = Done }
+  answer (SplitOff k) m o = record { m = below cmp m k; o = not_below cmp m k; reply = Done }
+  answer TryClone m o = record { m = m; o = m; reply = Done }
+  answer (Extend pairs) m o = record { m = extended cmp m pairs; o = o; reply = Done }
   answer (InsertBoth k v l w) m o = record { m = put cmp m k v; o = put cmp o l w; reply = Both (value_at cmp m k) (value_at cmp o l) }
-  answer c m o = record { m = m; o = o; reply = Done }
 
   -- Whether a command may be refused when a part of it is done, what it has then made of the list, and by which error: an extension
   -- at a pair with a new key, as an insertion of it there. The pairs before it stay.
-  abbrev pub MayStop : Command K V → List (K × V) → List (K × V) → TryReserveError → Type 0
-  MayStop (Extend side pairs) m m' e = IsExtendedUpTo cmp m pairs m' e
+  abbrev pub MayStop : MapCommand K V → List (K × V) → List (K × V) → TryReserveError → Type 0
+  MayStop (Extend pairs) m m' e = IsExtendedUpTo cmp m pairs m' e
   MayStop c m m' e = ⊥
 
   -- Whether a command is always refused: an insertion of a new key into a map of the greatest length, alone or as one of two, an append
   -- where neither map is empty and the lengths add past it, and an extension that would make the map longer.
-  abbrev pub MustRefuse : Command K V → List (K × V) → List (K × V) → Type 0
-  MustRefuse (Insert side k v) m o = (at cmp m k ≡ None) × (length m ≡ 2 ^ 64 - 1)
-  MustRefuse (Entry side k v w) m o = (at cmp m k ≡ None) × (length m ≡ 2 ^ 64 - 1)
-  MustRefuse (Append side) m o = (0 < length m) × (0 < length o) × (2 ^ 64 - 1 < length m + length o)
-  MustRefuse (Extend side pairs) m o = 2 ^ 64 - 1 < length (extended cmp m pairs)
+  abbrev pub MustRefuse : MapCommand K V → List (K × V) → List (K × V) → Type 0
+  MustRefuse (Insert k v) m o = (at cmp m k ≡ None) × (length m ≡ 2 ^ 64 - 1)
+  MustRefuse (Entry k v w) m o = (at cmp m k ≡ None) × (length m ≡ 2 ^ 64 - 1)
+  MustRefuse Append m o = (0 < length m) × (0 < length o) × (2 ^ 64 - 1 < length m + length o)
+  MustRefuse (Extend pairs) m o = 2 ^ 64 - 1 < length (extended cmp m pairs)
   MustRefuse (InsertBoth k v l w) m o = ((at cmp m k ≡ None) × (length m ≡ 2 ^ 64 - 1)) ⊎ ((at cmp o l ≡ None) × (length o ≡ 2 ^ 64 - 1))
   MustRefuse c m o = ⊥
 
@@ -110,33 +108,30 @@ module _ {K V : Type 0} (cmp : K → K → Ordering) (refuses_key : K → TryRes
   -- Whether a command may be refused and change nothing, and by which error, given by which one a copy of a key or of a value may be: an
   -- insertion at a new key, where the map is empty or has enough pairs to fill a leaf, two of which one is such, a copy of what was found,
   -- or the room for copies, an append where neither map is empty, and a split and a copy of a map that is not empty.
-  abbrev pub MayRefuseCommand : Command K V → List (K × V) → List (K × V) → TryReserveError → Type 0
-  MayRefuseCommand (Insert side k v) m o e = (at cmp m k ≡ None) × MayGrowRefuse (length m) e
-  MayRefuseCommand (Get side k) m o e = MayRefuseFound refuses_value (value_at cmp m k) e
-  MayRefuseCommand (GetKeyValue side k) m o e = MayRefuseFound (MayRefusePair refuses_key refuses_value) (at cmp m k) e
-  MayRefuseCommand (Entry side k v w) m o e = (at cmp m k ≡ None) × MayGrowRefuse (length m) e
-  MayRefuseCommand (Walk side lo hi ends) m o e = IsTrue (is_range cmp lo hi) × MayRefuseCopies (MayRefuseFound (MayRefusePair refuses_key refuses_value)) (walked (within cmp lo hi m) ends) e
-  MayRefuseCommand (Append side) m o e = MayAppendRefuse (length m) (length o) e
-  MayRefuseCommand (SplitOff side k) m o e = (e ≡ AllocError) × (0 < length m)
-  MayRefuseCommand (TryClone side) m o e = MayRefuseCopies (MayRefusePair refuses_key refuses_value) m e
+  abbrev pub MayRefuseCommand : MapCommand K V → List (K × V) → List (K × V) → TryReserveError → Type 0
+  MayRefuseCommand (Insert k v) m o e = (at cmp m k ≡ None) × MayGrowRefuse (length m) e
+  MayRefuseCommand (Get k) m o e = MayRefuseFound refuses_value (value_at cmp m k) e
+  MayRefuseCommand (GetKeyValue k) m o e = MayRefuseFound (MayRefusePair refuses_key refuses_value) (at cmp m k) e
+  MayRefuseCommand (Entry k v w) m o e = (at cmp m k ≡ None) × MayGrowRefuse (length m) e
+  MayRefuseCommand (Walk lo hi ends) m o e = IsTrue (is_range cmp lo hi) × MayRefuseCopies (MayRefuseFound (MayRefusePair refuses_key refuses_value)) (walked (within cmp lo hi m) ends) e
+  MayRefuseCommand Append m o e = MayAppendRefuse (length m) (length o) e
+  MayRefuseCommand (SplitOff k) m o e = (e ≡ AllocError) × (0 < length m)
+  MayRefuseCommand TryClone m o e = MayRefuseCopies (MayRefusePair refuses_key refuses_value) m e
   MayRefuseCommand (InsertBoth k v l w) m o e = ((at cmp m k ≡ None) × MayGrowRefuse (length m) e) ⊎ ((at cmp o l ≡ None) × MayGrowRefuse (length o) e)
   MayRefuseCommand c m o e = ⊥
 
   -- A command on the named map m and the other map o is answered by the table, or it is refused and changes nothing, or it is refused
   -- when a part of it is done.
-  pub data StepOn (c : Command K V) (m o : Map K V) (r : Reply K V) (m' o' : Map K V) : Type 0 where
+  pub data StepOn (c : MapCommand K V) (m o : Map K V) (r : Reply K V) (m' o' : Map K V) : Type 0 where
     answered : (MustRefuse cmp c (entries m) (entries o) → ⊥) → (let out = answer cmp c (entries m) (entries o) in (r ≡ out.reply) × (entries m' ≡ out.m) × (entries o' ≡ out.o)) → StepOn c m o r m' o'
     refused : (e : TryReserveError) → MayRefuseCommand c (entries m) (entries o) e → (r ≡ refusal c e) × (m' ≡ m) × (o' ≡ o) → StepOn c m o r m' o'
     stopped : (e : TryReserveError) → MayStop cmp c (entries m) (entries m') e → (r ≡ Refused e) × (o' ≡ o) → StepOn c m o r m' o'
 
-  -- A command on what it names may lead from one world to another with this reply. The maps or sets of the other kind are as before.
-  abbrev pub StepAt : Target → World K V → Command K V → Reply K V → World K V → Type 0
-  StepAt (OnMap side) w c r w' = StepOn c (named side w) (other side w) r (named side w') (other side w') × (w'.s ≡ w.s) × (w'.t ≡ w.t)
-  StepAt (OnSet side) w c r w' = StepOnSets cmp refuses_key c (named_set side w) (other_set side w) r (named_set side w') (other_set side w') × (w'.a ≡ w.a) × (w'.b ≡ w.b)
-
-  -- A command may lead from one world to another with this reply.
+  -- A command may lead from one world to another with this reply. The maps or sets of the other kind are as before.
   abbrev pub Step : World K V → Command K V → Reply K V → World K V → Type 0
-  Step w c r w' = StepAt (target_of c) w c r w'
+  Step w (OnMap side c) r w' = StepOn c (named side w) (other side w) r (named side w') (other side w') × (w'.s ≡ w.s) × (w'.t ≡ w.t)
+  Step w (OnSet side c) r w' = StepOnSets cmp refuses_key c (named_set side w) (other_set side w) r (named_set side w') (other_set side w')
+      × (w'.a ≡ w.a) × (w'.b ≡ w.b)
 
   -- The commands may lead from one world to another, with a reply to each.
   abbrev pub Runs : World K V → List (Command K V) → List (Reply K V) → World K V → Type 0

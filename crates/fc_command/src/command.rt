@@ -5,7 +5,7 @@ mod session;
 mod sets;
 mod world;
 
-pub use fc_lines::command::{Command, End, Reply, SetOp, Side, Target};
+pub use fc_lines::command::{Command, End, MapCommand, Reply, SetCommand, SetOp, Side};
 pub use fc_lines::items::Items;
 pub use session::{ServeEnd, ServeError, ending, serve};
 pub use world::World;

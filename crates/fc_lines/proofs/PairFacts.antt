@@ -1,5 +1,6 @@
 -- How pairs of numbers are read, one more at a time.
-use Rattle.std.proofs.Common.{◌≡◌, ℕ, ◌<◌, List, [], ◌∷◌, ◌++◌, length, Option, Some, None, Bool, true, false, eqb, IfSome, if◌then◌else◌, refl, sym, ap, ◌∙◌, arith, append_assoc, append-nil}
+use Rattle.std.proofs.Common.{◌≡◌, ℕ, ◌<◌, List, [], ◌∷◌, ◌++◌, length, Option, Some, None, Bool, true, false, eqb, IfSome, if◌then◌else◌, refl, sym, ap, ◌∙◌}
+use Rattle.std.proofs.Common.{arith, append_assoc, append-nil}
 use Rattle.std.specs.Prelude.{nat_lt}
 use Rattle.std.specs.Option.{option_map}
 use Rattle.std.proofs.lemmas.Bool.Decides.{nat_tests}
@@ -25,10 +26,12 @@ first_pair : (words : List (List ℕ)) → 0 < length words → all_pairs words 
 unfolding pair_at number_at
 first_pair [] h = absurd (omega arith)
 first_pair (k ∷ []) h = elim (number_of k) as (λ a. None ≡ before_rest (paired (behind [] a))) [ None ↦ refl | Some n ↦ refl ]
-first_pair (k ∷ v ∷ words) h = elim (number_of k) as (λ a. (a >>= λ x. number_of v >>= λ y. option_map (λ pairs. (x, y) ∷ pairs) (all_pairs words)) ≡ before_rest (paired (behind (v ∷ words) a))) [
-  | None ↦ refl
-  | Some x ↦ elim (number_of v) as (λ b. (b >>= λ y. option_map (λ pairs. (x, y) ∷ pairs) (all_pairs words)) ≡ before_rest (behind words b >>= λ value. Some ((x, value.0), value.1))) [ None ↦ refl | Some y ↦ refl ]
-]
+first_pair (k ∷ v ∷ words) h = elim (number_of k) as (λ a. (a >>= λ x. number_of v >>= λ y. option_map (λ pairs. (x, y) ∷ pairs) (all_pairs words))
+    ≡ before_rest (paired (behind (v ∷ words) a))) [
+      | None ↦ refl
+      | Some x ↦ elim (number_of v) as (λ b. (b >>= λ y. option_map (λ pairs. (x, y) ∷ pairs) (all_pairs words))
+          ≡ before_rest (behind words b >>= λ value. Some ((x, value.0), value.1))) [ None ↦ refl | Some y ↦ refl ]
+    ]
 
 -- fewer words than n are left behind a pair
 abbrev IsShort : ℕ → Option ((ℕ × ℕ) × List (List ℕ)) → Type 0
@@ -38,10 +41,14 @@ short : (words : List (List ℕ)) → IsShort (length words) (pair_at words)
 unfolding pair_at number_at
 short [] = tt
 short (k ∷ []) = elim (number_of k) as (λ a. IsShort 1 (paired (behind [] a))) [ None ↦ tt | Some n ↦ tt ]
-short (k ∷ v ∷ words) = let two_more : length words < length (k ∷ v ∷ words) = omega arith in elim (number_of k) as (λ a. IsShort (length (k ∷ v ∷ words)) (paired (behind (v ∷ words) a))) [
-  | None ↦ tt
-  | Some x ↦ elim (number_of v) as (λ b. IsShort (length (k ∷ v ∷ words)) (behind words b >>= λ value. Some ((x, value.0), value.1))) [ None ↦ tt | Some y ↦ two_more ]
-]
+short (k ∷ v ∷ words) = let two_more : length words < length (k ∷ v ∷ words) = omega arith in
+    elim (number_of k) as (λ a. IsShort (length (k ∷ v ∷ words)) (paired (behind (v ∷ words) a))) [
+      | None ↦ tt
+      | Some x ↦ elim (number_of v) as (λ b. IsShort (length (k ∷ v ∷ words)) (behind words b >>= λ value. Some ((x, value.0), value.1))) [
+        | None ↦ tt
+        | Some y ↦ two_more
+      ]
+    ]
 
 pub pairs_shorter : (words later : List (List ℕ)) (p : ℕ × ℕ) → pair_at words ≡ Some (p, later) → length later < length words
 pairs_shorter words later p e = rw e at (short words)
@@ -53,10 +60,14 @@ onto_some x (word ∷ words) = omega arith
 -- a line has at least one word
 pub some_words : (line : List ℕ) → 0 < length (words_of line)
 some_words [] = omega arith
-some_words (x ∷ line) = elim (eqb x 32) as (λ b. 0 < length (if b then [] ∷ words_of line else onto_first x (words_of line))) [ true ↦ omega arith | false ↦ onto_some x (words_of line) ]
+some_words (x ∷ line) = elim (eqb x 32) as (λ b. 0 < length (if b then [] ∷ words_of line else onto_first x (words_of line))) [
+  | true ↦ omega arith
+  | false ↦ onto_some x (words_of line)
+]
 
 -- one pair more was read
-pub pairs_more : (all words later : List (List ℕ)) (read : List (ℕ × ℕ)) (p : ℕ × ℕ) → pair_at words ≡ Some (p, later) → ReadsPairs all read words → ReadsPairs all (read ++ p ∷ []) later
+pub pairs_more : (all words later : List (List ℕ)) (read : List (ℕ × ℕ)) (p : ℕ × ℕ) → pair_at words ≡ Some (p, later) → ReadsPairs all read words
+    → ReadsPairs all (read ++ p ∷ []) later
 pairs_more all words later read p e r =
     let h : 0 < length words = omega (arith, pairs_shorter words later p e) in
     r ∙ ap (option_map (λ ys. read ++ ys)) (rw e at (first_pair words h)) ∙ on (all_pairs later)

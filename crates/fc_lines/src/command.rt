@@ -1,6 +1,4 @@
 //! Commands over two ordered maps and two ordered sets, and what they answer.
-ghost use Rattle.std.specs.Prelude.{◌≡◌};
-ghost use Rattle.fc_lines.specs.Targets.{target_of};
 
 use crate::items::Items;
 use fc_base::TryReserveError;
@@ -14,15 +12,6 @@ pub enum Side {
     First,
     /// The map `b`, the set `t`.
     Second,
-}
-
-/// The map or the set that a command names. "The other" is the other one of the same kind.
-#[derive(Clone, Copy, PartialEq, Eq, Debug)]
-pub enum Target {
-    /// A map.
-    OnMap(Side),
-    /// A set.
-    OnSet(Side),
 }
 
 /// An operation on two sets.
@@ -47,94 +36,107 @@ pub enum End {
     Back,
 }
 
-/// A command on the map or the set that its side names, and in some also on the other one of its kind; one that names no side is on
-/// both maps.
+/// A command on the map or the set that a side names, and in some also on the other one of its kind.
 #[derive(PartialEq, Eq, Debug, Drop)]
 pub enum Command<K, V> {
+    /// On a map.
+    OnMap(Side, MapCommand<K, V>),
+    /// On a set.
+    OnSet(Side, SetCommand<K>),
+}
+
+/// A command on a map.
+#[derive(PartialEq, Eq, Debug, Drop)]
+pub enum MapCommand<K, V> {
     /// `try_insert` of the key and the value; replies `Value`, the old one. A new key may be refused: then `GivenBack`, both.
-    Insert(Side, K, V),
+    Insert(K, V),
     /// `get`; replies `Value`, a copy. The copy may be refused.
-    Get(Side, K),
+    Get(K),
     /// `get_key_value`; replies `Pair`, a copy. The copy may be refused.
-    GetKeyValue(Side, K),
+    GetKeyValue(K),
     /// `contains_key`; replies `Flag`.
-    ContainsKey(Side, K),
+    ContainsKey(K),
     /// `remove`; replies `Value`, the one taken out.
-    Remove(Side, K),
+    Remove(K),
     /// Writes the value through `get_mut` where the key is there; replies `Value`, the old one.
-    Set(Side, K, V),
+    Set(K, V),
     /// By `try_entry`: `and_modify` to the first value where the key is there, else `or_try_insert` of the second; replies `Flag`,
     /// true where the key was there. A new key may be refused: then `GivenBack`, the key and the second value; the first is dropped.
-    Entry(Side, K, V, V),
+    Entry(K, V, V),
     /// `remove_entry` of the key's entry where it is there; replies `Pair`, the one taken out.
-    RemoveEntry(Side, K),
+    RemoveEntry(K),
     /// `len`; replies `Len`.
-    Len(Side),
+    Len,
     /// `clear`; replies `Done`.
-    Clear(Side),
+    Clear,
     /// A `range` between the two bounds, and one `next` or `next_back` for each end; replies `Pairs`, copies, or `BadRange` where the
     /// bounds are no range. Where there is an end, room for the copies or one of them may be refused.
-    Walk(Side, Bound<K>, Bound<K>, Items<End>),
+    Walk(Bound<K>, Bound<K>, Items<End>),
     /// A `range_mut` between the two bounds, which writes each value at the pair that its end lends, or drops it where no pair is
     /// left; replies `Len`, how many were written, or `BadRange` where the bounds are no range.
-    Write(Side, Bound<K>, Bound<K>, Items<(End, V)>),
+    Write(Bound<K>, Bound<K>, Items<(End, V)>),
     /// `append` of the other map, which is then empty; replies `Done`. It may be refused where neither map is empty.
-    Append(Side),
+    Append,
     /// The other map becomes `split_off` of this one at the key, and its own pairs are dropped; replies `Done`. It may be refused
     /// where this map is not empty.
-    SplitOff(Side, K),
+    SplitOff(K),
     /// The other map becomes `try_clone` of this one, and its own pairs are dropped; replies `Done`. It may be refused where this map
     /// is not empty.
-    TryClone(Side),
+    TryClone,
     /// `try_extend` by the pairs; replies `Done`. It may be refused at a pair with a new key, as `Insert` there: the pairs before it
     /// are then in the map.
-    Extend(Side, Items<(K, V)>),
-    /// `insert_both` of a key and a value for `a` and of a key and a value for `b`; replies `Both`, the old values. A new key may be
-    /// refused in its map: then `BothGivenBack`, all four, and neither map changes.
+    Extend(Items<(K, V)>),
+    /// `insert_both` of a key and a value for this map and of a key and a value for the other; replies `Both`, the old values. A new
+    /// key may be refused in its map: then `BothGivenBack`, all four, and neither map changes.
     InsertBoth(K, V, K, V),
+}
+
+/// A command on a set.
+#[derive(PartialEq, Eq, Debug, Drop)]
+pub enum SetCommand<K> {
     /// `try_insert` of the item into a set; replies `Flag`, true where it was new. A new item may be refused: then `ItemGivenBack`.
-    AddItem(Side, K),
+    AddItem(K),
     /// `replace`; replies `Key`, the equal item that was there. A new item may be refused: then `ItemGivenBack`.
-    ReplaceItem(Side, K),
+    ReplaceItem(K),
     /// `take`; replies `Key`, the item taken out.
-    TakeItem(Side, K),
+    TakeItem(K),
     /// `remove`; replies `Flag`, true where there was an equal item.
-    RemoveItem(Side, K),
+    RemoveItem(K),
     /// `contains`; replies `Flag`.
-    ContainsItem(Side, K),
+    ContainsItem(K),
     /// `get`; replies `Key`, a copy. The copy may be refused.
-    GetItem(Side, K),
+    GetItem(K),
     /// `len` of a set; replies `Len`.
-    SetLen(Side),
+    SetLen,
     /// `clear` of a set; replies `Done`.
-    SetClear(Side),
+    SetClear,
     /// `append` of the other set, which is then empty; replies `Done`. It may be refused where neither set is empty.
-    SetAppend(Side),
+    SetAppend,
     /// The other set becomes `try_split_off` of this one at the item, and its own items are dropped; replies `Done`. It may be refused
     /// where this set is not empty.
-    SetSplitOff(Side, K),
+    SetSplitOff(K),
     /// The other set becomes `try_clone` of this one, and its own items are dropped; replies `Done`. It may be refused where this set
     /// is not empty.
-    SetClone(Side),
+    SetClone,
     /// `try_extend` of a set by the items; replies `Done`. It may be refused at a new item, as `AddItem` there: the items before it
     /// are then in the set.
-    SetExtend(Side, Items<K>),
+    SetExtend(Items<K>),
     /// A `range` of a set, as `Walk`; replies `Keys`, copies, or `BadRange`.
-    SetWalk(Side, Bound<K>, Bound<K>, Items<End>),
+    SetWalk(Bound<K>, Bound<K>, Items<End>),
     /// The lazy operation on this set and the other; replies `Keys`, copies of its items. Where it has one, room for the copies or one
     /// of them may be refused.
-    List(SetOp, Side),
+    List(SetOp),
     /// This set becomes the set of that operation, made by `sub`, `bitxor`, `bitand` or `bitor`; replies `Done`. It may be refused where
     /// that set has an item.
-    Keep(SetOp, Side),
+    Keep(SetOp),
     /// `is_disjoint`: whether no item is in both sets; replies `Flag`.
-    IsDisjoint(Side),
+    IsDisjoint,
     /// `is_subset`: whether the other set has an equal of each item; replies `Flag`.
-    IsSubset(Side),
+    IsSubset,
     /// `is_superset`: whether this set has an equal of each item of the other; replies `Flag`.
-    IsSuperset(Side),
+    IsSuperset,
     /// `cmp` of this set with the other; replies `Order`.
-    SetCmp(Side),
+    SetCmp,
 }
 
 /// What a command answers.
@@ -150,7 +152,7 @@ pub enum Reply<K, V> {
     Len(usize),
     /// A value, if there was one.
     Value(Option<V>),
-    /// The value that was in `a`, and the one that was in `b`, if there was one.
+    /// The value that was in the named map, and the one that was in the other, if there was one.
     Both(Option<V>, Option<V>),
     /// A pair, if there was one.
     Pair(Option<(K, V)>),
@@ -166,54 +168,9 @@ pub enum Reply<K, V> {
     Refused(TryReserveError),
     /// An `Insert` or an `Entry` was refused, and the world is as before: the key and the value that were to be put in.
     GivenBack(K, V, TryReserveError),
-    /// An `InsertBoth` was refused, and the world is as before: the keys and the values that were to be put in, those for `a` first.
+    /// An `InsertBoth` was refused, and the world is as before: the keys and the values that were to be put in, those for the named map
+    /// first.
     BothGivenBack(K, V, K, V, TryReserveError),
     /// An `AddItem` or a `ReplaceItem` was refused, and the world is as before: the item that was to be put in.
     ItemGivenBack(K, TryReserveError),
-}
-
-impl<K, V> Command<K, V> {
-    /// The map or the set that the command names.
-    pub fn target(&self) -> Target
-        ensures { result ≡ target_of self.now }
-    {
-        match self {
-            Command::Insert(side, _, _) => Target::OnMap(*side),
-            Command::Get(side, _) => Target::OnMap(*side),
-            Command::GetKeyValue(side, _) => Target::OnMap(*side),
-            Command::ContainsKey(side, _) => Target::OnMap(*side),
-            Command::Remove(side, _) => Target::OnMap(*side),
-            Command::Set(side, _, _) => Target::OnMap(*side),
-            Command::Entry(side, _, _, _) => Target::OnMap(*side),
-            Command::RemoveEntry(side, _) => Target::OnMap(*side),
-            Command::Len(side) => Target::OnMap(*side),
-            Command::Clear(side) => Target::OnMap(*side),
-            Command::Walk(side, _, _, _) => Target::OnMap(*side),
-            Command::Write(side, _, _, _) => Target::OnMap(*side),
-            Command::Append(side) => Target::OnMap(*side),
-            Command::SplitOff(side, _) => Target::OnMap(*side),
-            Command::TryClone(side) => Target::OnMap(*side),
-            Command::Extend(side, _) => Target::OnMap(*side),
-            Command::InsertBoth(_, _, _, _) => Target::OnMap(Side::First),
-            Command::AddItem(side, _) => Target::OnSet(*side),
-            Command::ReplaceItem(side, _) => Target::OnSet(*side),
-            Command::TakeItem(side, _) => Target::OnSet(*side),
-            Command::RemoveItem(side, _) => Target::OnSet(*side),
-            Command::ContainsItem(side, _) => Target::OnSet(*side),
-            Command::GetItem(side, _) => Target::OnSet(*side),
-            Command::SetLen(side) => Target::OnSet(*side),
-            Command::SetClear(side) => Target::OnSet(*side),
-            Command::SetAppend(side) => Target::OnSet(*side),
-            Command::SetSplitOff(side, _) => Target::OnSet(*side),
-            Command::SetClone(side) => Target::OnSet(*side),
-            Command::SetExtend(side, _) => Target::OnSet(*side),
-            Command::SetWalk(side, _, _, _) => Target::OnSet(*side),
-            Command::List(_, side) => Target::OnSet(*side),
-            Command::Keep(_, side) => Target::OnSet(*side),
-            Command::IsDisjoint(side) => Target::OnSet(*side),
-            Command::IsSubset(side) => Target::OnSet(*side),
-            Command::IsSuperset(side) => Target::OnSet(*side),
-            Command::SetCmp(side) => Target::OnSet(*side),
-        }
-    }
 }

@@ -1,5 +1,5 @@
 //! Lines as commands.
-ghost use Rattle.std.specs.Prelude.{◌≡◌, ◌^◌, ◌∷◌, ◌==◌, IfOk, OnErr, position, nat_lt, Some, None, IsTrue, vec_items, if◌then◌else◌};
+ghost use Rattle.std.specs.Prelude.{◌≡◌, ◌^◌, ◌∷◌, ◌==◌, IfOk, OnErr, position, nat_lt, Some, None, IsTrue, vec_items, if◌then◌else◌, []};
 ghost use Rattle.std.specs.List.{list_all};
 ghost use Rattle.std.specs.Char.{is_ascii_digit};
 ghost use Rattle.std.specs.Str.Parse.{digits_value};
@@ -24,20 +24,22 @@ ghost use Rattle.fc_lines.specs.Grammar.{
   whole_line,
   entry_of,
   both_of,
+  steps_of,
   walk_of,
   write_of,
   extend_of,
-  on_map,
+  on_whole_map,
   on_key,
   on_pair,
-  mapped_of,
   keyed_of,
   valued_of,
   plain_of,
+  map_command_of,
+  on_map_of,
   on_maps_of,
 };
 
-use crate::command::{Command, End, Side};
+use crate::command::{Command, End, MapCommand, Side};
 use crate::items::Items;
 use crate::set_lines::on_sets_in;
 use std::alloc::{AllocError, Global};
@@ -74,120 +76,12 @@ fn on_maps_in(alloc: Global, words: Option<&[u8]>) -> Result<Option<Command<u64,
         return Ok(None)
     };
     match word {
-        b"walk" => walk_in(alloc, words),
-        b"write" => write_in(alloc, words),
-        b"extend" => extend_in(alloc, words),
-        _ => Ok(plain_in(word, words)),
+        b"both" => Ok(both_in(words)),
+        _ => on_map_in(alloc, word, words),
     }
 }
 
-// The command without a list that the words after its word ask for.
-#[tactic(auto, unfolding(crate::specs::Grammar::plain_of))]
-fn plain_in(word: &[u8], words: Option<&[u8]>) -> Option<Command<u64, u64>>
-    ensures { result ≡ plain_of word.entry.now (words_left words.entry) }
-{
-    match word {
-        b"entry" => entry_in(words),
-        b"both" => both_in(words),
-        _ => mapped_in(word, words),
-    }
-}
-
-// The words after such a word are a map, and a key where the word wants one.
-#[tactic(auto, unfolding(crate::specs::Grammar::mapped_of))]
-fn mapped_in(word: &[u8], words: Option<&[u8]>) -> Option<Command<u64, u64>>
-    ensures { result ≡ mapped_of word.entry.now (words_left words.entry) }
-{
-    let (side, words) = next_map(words)?;
-    match on_map_in(word, side) {
-        Some(command) => at_line_end(command, words),
-        None => keyed_in(word, side, words),
-    }
-}
-
-// The words after a map are a key, and a value where the word wants one.
-#[tactic(auto, unfolding(crate::specs::Grammar::keyed_of))]
-fn keyed_in(word: &[u8], side: Side, words: Option<&[u8]>) -> Option<Command<u64, u64>>
-    ensures { result ≡ keyed_of word.entry.now side (words_left words.entry) }
-{
-    let (key, words) = next_number(words)?;
-    match on_key_in(word, side, key) {
-        Some(command) => at_line_end(command, words),
-        None => valued_in(word, side, key, words),
-    }
-}
-
-// The words after a map and a key are a value.
-#[tactic(auto, unfolding(crate::specs::Grammar::valued_of))]
-fn valued_in(word: &[u8], side: Side, key: u64, words: Option<&[u8]>) -> Option<Command<u64, u64>>
-    ensures { result ≡ valued_of word.entry.now side key (words_left words.entry) }
-{
-    let (value, words) = next_number(words)?;
-    at_line_end(on_pair_in(word, side, key, value)?, words)
-}
-
-// The command that a word asks for on a map.
-fn on_map_in(word: &[u8], side: Side) -> Option<Command<u64, u64>>
-    ensures { result ≡ on_map word.entry.now side }
-{
-    if is_word(word, b"len") {
-        Some(Command::Len(side))
-    } else if is_word(word, b"clear") {
-        Some(Command::Clear(side))
-    } else if is_word(word, b"append") {
-        Some(Command::Append(side))
-    } else if is_word(word, b"copy") {
-        Some(Command::TryClone(side))
-    } else {
-        None
-    }
-}
-
-// The command that a word asks for on a map and a key.
-fn on_key_in(word: &[u8], side: Side, key: u64) -> Option<Command<u64, u64>>
-    ensures { result ≡ on_key word.entry.now side key }
-{
-    if is_word(word, b"get") {
-        Some(Command::Get(side, key))
-    } else if is_word(word, b"pair") {
-        Some(Command::GetKeyValue(side, key))
-    } else if is_word(word, b"has") {
-        Some(Command::ContainsKey(side, key))
-    } else if is_word(word, b"remove") {
-        Some(Command::Remove(side, key))
-    } else if is_word(word, b"evict") {
-        Some(Command::RemoveEntry(side, key))
-    } else if is_word(word, b"split") {
-        Some(Command::SplitOff(side, key))
-    } else {
-        None
-    }
-}
-
-// The command that a word asks for on a map, a key and a value.
-fn on_pair_in(word: &[u8], side: Side, key: u64, value: u64) -> Option<Command<u64, u64>>
-    ensures { result ≡ on_pair word.entry.now side key value }
-{
-    if is_word(word, b"insert") {
-        Some(Command::Insert(side, key, value))
-    } else if is_word(word, b"set") {
-        Some(Command::Set(side, key, value))
-    } else {
-        None
-    }
-}
-
-#[tactic(auto, unfolding(crate::specs::Grammar::entry_of))]
-fn entry_in(words: Option<&[u8]>) -> Option<Command<u64, u64>>
-    ensures { result ≡ entry_of (words_left words.entry) }
-{
-    let (side, words) = next_map(words)?;
-    let (key, words) = next_number(words)?;
-    let (there, words) = next_number(words)?;
-    let (new, words) = next_number(words)?;
-    at_line_end(Command::Entry(side, key, there, new), words)
-}
-
+// The words after `both` are a key and a value for the first map, and a key and a value for the second.
 #[tactic(auto, unfolding(crate::specs::Grammar::both_of))]
 fn both_in(words: Option<&[u8]>) -> Option<Command<u64, u64>>
     ensures { result ≡ both_of (words_left words.entry) }
@@ -196,19 +90,167 @@ fn both_in(words: Option<&[u8]>) -> Option<Command<u64, u64>>
     let (value, words) = next_number(words)?;
     let (second_key, words) = next_number(words)?;
     let (second_value, words) = next_number(words)?;
-    at_line_end(
-        Command::InsertBoth(key, value, second_key, second_value),
-        words,
-    )
+    let both = MapCommand::InsertBoth(key, value, second_key, second_value);
+    at_line_end(Command::OnMap(Side::First, both), words)
 }
 
-#[tactic(auto, unfolding(crate::specs::Grammar::walk_of))]
-fn walk_in(alloc: Global, words: Option<&[u8]>) -> Result<Option<Command<u64, u64>>, AllocError>
-    ensures { IfOk result (λ command. command ≡ walk_of (words_left words.entry)) }
+// The words after such a word are a map, and what the word wants behind it.
+#[tactic(auto, unfolding(crate::specs::Grammar::on_map_of))]
+fn on_map_in(
+    alloc: Global,
+    word: &[u8],
+    words: Option<&[u8]>,
+) -> Result<Option<Command<u64, u64>>, AllocError>
+    ensures command { IfOk result (λ command. command ≡ on_map_of word.entry.now (words_left words.entry)) }
+    ensures list { OnErr result (NamesList (word.entry.now ∷ [])) }
 {
     let Some((side, words)) = next_map(words) else {
         return Ok(None)
     };
+    let Some(command) = map_command_in(alloc, word, words)? else {
+        return Ok(None)
+    };
+    Ok(Some(Command::OnMap(side, command)))
+}
+
+// What a word and those behind the map ask of it.
+#[tactic(auto, unfolding(crate::specs::Grammar::map_command_of))]
+fn map_command_in(
+    alloc: Global,
+    word: &[u8],
+    words: Option<&[u8]>,
+) -> Result<Option<MapCommand<u64, u64>>, AllocError>
+    ensures command { IfOk result (λ command. command ≡ map_command_of word.entry.now (words_left words.entry)) }
+    ensures list { OnErr result (NamesList (word.entry.now ∷ [])) }
+{
+    if is_word(word, b"walk") {
+        walk_in(alloc, words)
+    } else if is_word(word, b"write") {
+        write_in(alloc, words)
+    } else if is_word(word, b"extend") {
+        extend_in(alloc, words)
+    } else {
+        Ok(plain_in(word, words))
+    }
+}
+
+// Behind the map is a key where the word wants one.
+#[tactic(auto, unfolding(crate::specs::Grammar::plain_of))]
+fn plain_in(word: &[u8], words: Option<&[u8]>) -> Option<MapCommand<u64, u64>>
+    ensures { result ≡ plain_of word.entry.now (words_left words.entry) }
+{
+    match whole_in(word) {
+        Some(command) => at_line_end(command, words),
+        None => keyed_in(word, words),
+    }
+}
+
+// Behind the map are a key, and a value where the word wants one.
+#[tactic(auto, unfolding(crate::specs::Grammar::keyed_of))]
+fn keyed_in(word: &[u8], words: Option<&[u8]>) -> Option<MapCommand<u64, u64>>
+    ensures { result ≡ keyed_of word.entry.now (words_left words.entry) }
+{
+    let (key, words) = next_number(words)?;
+    match on_key_in(word, key) {
+        Some(command) => at_line_end(command, words),
+        None => valued_in(word, key, words),
+    }
+}
+
+// Behind the key are a value, and another where the word wants one.
+#[tactic(auto, unfolding(crate::specs::Grammar::valued_of))]
+fn valued_in(word: &[u8], key: u64, words: Option<&[u8]>) -> Option<MapCommand<u64, u64>>
+    ensures { result ≡ valued_of word.entry.now key (words_left words.entry) }
+{
+    let (value, words) = next_number(words)?;
+    match on_pair_in(word, key, value) {
+        Some(command) => at_line_end(command, words),
+        None => entry_in(word, key, value, words),
+    }
+}
+
+// Behind the first value is the second one of an entry.
+#[tactic(auto, unfolding(crate::specs::Grammar::entry_of))]
+fn entry_in(word: &[u8], key: u64, there: u64, words: Option<&[u8]>) -> Option<MapCommand<u64, u64>>
+    ensures { result ≡ entry_of word.entry.now key there (words_left words.entry) }
+{
+    let (new, words) = next_number(words)?;
+    if is_word(word, b"entry") {
+        at_line_end(MapCommand::Entry(key, there, new), words)
+    } else {
+        None
+    }
+}
+
+// The command that a word asks for on a map.
+fn whole_in(word: &[u8]) -> Option<MapCommand<u64, u64>>
+    ensures { result ≡ on_whole_map word.entry.now }
+{
+    if is_word(word, b"len") {
+        Some(MapCommand::Len)
+    } else if is_word(word, b"clear") {
+        Some(MapCommand::Clear)
+    } else if is_word(word, b"append") {
+        Some(MapCommand::Append)
+    } else if is_word(word, b"copy") {
+        Some(MapCommand::TryClone)
+    } else {
+        None
+    }
+}
+
+// The command that a word asks for on a map and a key.
+fn on_key_in(word: &[u8], key: u64) -> Option<MapCommand<u64, u64>>
+    ensures { result ≡ on_key word.entry.now key }
+{
+    if is_word(word, b"get") {
+        Some(MapCommand::Get(key))
+    } else if is_word(word, b"pair") {
+        Some(MapCommand::GetKeyValue(key))
+    } else if is_word(word, b"has") {
+        Some(MapCommand::ContainsKey(key))
+    } else if is_word(word, b"remove") {
+        Some(MapCommand::Remove(key))
+    } else if is_word(word, b"evict") {
+        Some(MapCommand::RemoveEntry(key))
+    } else if is_word(word, b"split") {
+        Some(MapCommand::SplitOff(key))
+    } else {
+        None
+    }
+}
+
+// The command that a word asks for on a map, a key and a value.
+fn on_pair_in(word: &[u8], key: u64, value: u64) -> Option<MapCommand<u64, u64>>
+    ensures { result ≡ on_pair word.entry.now key value }
+{
+    if is_word(word, b"insert") {
+        Some(MapCommand::Insert(key, value))
+    } else if is_word(word, b"set") {
+        Some(MapCommand::Set(key, value))
+    } else {
+        None
+    }
+}
+
+#[tactic(auto, unfolding(crate::specs::Grammar::walk_of))]
+fn walk_in(alloc: Global, words: Option<&[u8]>) -> Result<Option<MapCommand<u64, u64>>, AllocError>
+    ensures { IfOk result (λ command. command ≡ walk_of (words_left words.entry)) }
+{
+    let Some((lo, hi, ends)) = steps_in(alloc, words)? else {
+        return Ok(None)
+    };
+    Ok(Some(MapCommand::Walk(lo, hi, ends)))
+}
+
+// The words that are left are two bounds and one word of letters.
+#[tactic(auto, unfolding(crate::specs::Grammar::steps_of))]
+pub(crate) fn steps_in(
+    alloc: Global,
+    words: Option<&[u8]>,
+) -> Result<Option<(Bound<u64>, Bound<u64>, Items<End>)>, AllocError>
+    ensures { IfOk result (λ steps. steps ≡ steps_of (words_left words.entry)) }
+{
     let Some((lo, words)) = next_bound(words) else {
         return Ok(None)
     };
@@ -221,16 +263,13 @@ fn walk_in(alloc: Global, words: Option<&[u8]>) -> Result<Option<Command<u64, u6
     let Some(list) = ends_of_letters(alloc, letters)? else {
         return Ok(None)
     };
-    Ok(at_line_end(Command::Walk(side, lo, hi, Items::from(list)), words))
+    Ok(at_line_end((lo, hi, Items::from(list)), words))
 }
 
 #[tactic(auto, unfolding(crate::specs::Grammar::write_of))]
-fn write_in(alloc: Global, words: Option<&[u8]>) -> Result<Option<Command<u64, u64>>, AllocError>
+fn write_in(alloc: Global, words: Option<&[u8]>) -> Result<Option<MapCommand<u64, u64>>, AllocError>
     ensures { IfOk result (λ command. command ≡ write_of (words_left words.entry)) }
 {
-    let Some((side, words)) = next_map(words) else {
-        return Ok(None)
-    };
     let Some((lo, words)) = next_bound(words) else {
         return Ok(None)
     };
@@ -240,24 +279,24 @@ fn write_in(alloc: Global, words: Option<&[u8]>) -> Result<Option<Command<u64, u
     let Some(list) = writes_in(alloc, words)? else {
         return Ok(None)
     };
-    Ok(Some(Command::Write(side, lo, hi, Items::from(list))))
+    Ok(Some(MapCommand::Write(lo, hi, Items::from(list))))
 }
 
 #[tactic(auto, unfolding(crate::specs::Grammar::extend_of))]
-fn extend_in(alloc: Global, words: Option<&[u8]>) -> Result<Option<Command<u64, u64>>, AllocError>
+fn extend_in(
+    alloc: Global,
+    words: Option<&[u8]>,
+) -> Result<Option<MapCommand<u64, u64>>, AllocError>
     ensures { IfOk result (λ command. command ≡ extend_of (words_left words.entry)) }
 {
-    let Some((side, words)) = next_map(words) else {
-        return Ok(None)
-    };
     let Some(list) = pairs_in(alloc, words)? else {
         return Ok(None)
     };
-    Ok(Some(Command::Extend(side, Items::from(list))))
+    Ok(Some(MapCommand::Extend(Items::from(list))))
 }
 
 // The ends that the letters of a word name.
-pub(crate) fn ends_of_letters(alloc: Global, letters: &[u8]) -> Result<Option<Vec<End>>, AllocError>
+fn ends_of_letters(alloc: Global, letters: &[u8]) -> Result<Option<Vec<End>>, AllocError>
     ensures { IfOk result (λ list. option_map vec_items list ≡ some_read end_of letters.now) }
 {
     if letters.is_empty() {
@@ -313,15 +352,12 @@ fn pairs_in(alloc: Global, words: Option<&[u8]>) -> Result<Option<Vec<(u64, u64)
     Ok(Some(list))
 }
 
-// The command, if no word is left.
-pub(crate) fn at_line_end(
-    command: Command<u64, u64>,
-    words: Option<&[u8]>,
-) -> Option<Command<u64, u64>>
-    ensures { result ≡ whole_line command (words_left words.entry) }
+// What was read, if no word is left.
+pub(crate) fn at_line_end<T: Drop>(read: T, words: Option<&[u8]>) -> Option<T>
+    ensures { result ≡ whole_line read (words_left words.entry) }
 {
     match words {
-        None => Some(command),
+        None => Some(read),
         Some(_) => None,
     }
 }
@@ -354,7 +390,7 @@ fn next_pair(words: Option<&[u8]>) -> Option<((u64, u64), Option<&[u8]>)>
 }
 
 #[tactic(auto, unfolding(crate::specs::Grammar::bound_at))]
-pub(crate) fn next_bound(words: Option<&[u8]>) -> Option<(Bound<u64>, Option<&[u8]>)>
+fn next_bound(words: Option<&[u8]>) -> Option<(Bound<u64>, Option<&[u8]>)>
     ensures { option_map (λ x. (x.0, words_left x.1)) result ≡ bound_at (words_left words.entry) }
 {
     let (word, words) = next_word(words)?;

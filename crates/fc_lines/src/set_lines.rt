@@ -1,5 +1,5 @@
 //! Lines as commands on sets.
-ghost use Rattle.std.specs.Prelude.{◌≡◌, IfOk, OnErr, vec_items};
+ghost use Rattle.std.specs.Prelude.{◌≡◌, ◌∷◌, [], IfOk, OnErr, vec_items};
 ghost use Rattle.std.specs.Option.{option_map};
 ghost use Rattle.fc_lines.specs.Lines.{words_left};
 ghost use Rattle.fc_lines.specs.Room.{NamesList};
@@ -9,23 +9,21 @@ ghost use Rattle.fc_lines.specs.Grammar.{
   set_named,
   op_of,
   set_at,
-  with_set,
-  with_set_and_item,
-  set_of_word,
-  set_and_item_of,
+  on_whole_set,
+  on_item,
+  plain_on_set_of,
+  with_item_of,
   keep_of,
   walk_items_of,
   extend_items_of,
-  plain_on_sets_of,
+  set_command_of,
+  on_set_of,
   on_sets_of,
 };
 
-use crate::command::{Command, SetOp, Side};
+use crate::command::{Command, SetCommand, SetOp, Side};
 use crate::items::Items;
-use crate::lines::{
-    at_line_end, ends_of_letters, first_word, is_word, next_bound, next_number, next_word,
-    number_in,
-};
+use crate::lines::{at_line_end, first_word, is_word, next_number, next_word, number_in, steps_in};
 use std::alloc::{AllocError, Global};
 
 // The command on sets that the words ask for.
@@ -41,87 +39,123 @@ pub fn on_sets_in(
         return Ok(None)
     };
     match word {
-        b"walk" => walk_in(alloc, words),
-        b"extend" => extend_in(alloc, words),
-        _ => Ok(plain_in(word, words)),
+        b"keep" => Ok(keep_in(words)),
+        _ => on_set_in(alloc, word, words),
     }
 }
 
-// The command without a list that the words after its word ask for.
-#[tactic(auto, unfolding(crate::specs::Grammar::plain_on_sets_of))]
-fn plain_in(word: &[u8], words: Option<&[u8]>) -> Option<Command<u64, u64>>
-    ensures { result ≡ plain_on_sets_of word.entry.now (words_left words.entry) }
+// The words after `keep` are an operation and a set.
+#[tactic(auto, unfolding(crate::specs::Grammar::keep_of))]
+fn keep_in(words: Option<&[u8]>) -> Option<Command<u64, u64>>
+    ensures { result ≡ keep_of (words_left words.entry) }
 {
-    match word {
-        b"keep" => keep_in(words),
-        _ => set_in(word, words),
-    }
-}
-
-// The words after such a word are a set, and an item where the word wants one.
-#[tactic(auto, unfolding(crate::specs::Grammar::set_of_word))]
-fn set_in(word: &[u8], words: Option<&[u8]>) -> Option<Command<u64, u64>>
-    ensures { result ≡ set_of_word word.entry.now (words_left words.entry) }
-{
+    let (word, words) = next_word(words)?;
+    let op = op_in(word)?;
     let (side, words) = next_set(words)?;
-    match with_set_in(word, side) {
-        Some(command) => at_line_end(command, words),
-        None => set_and_item_in(word, side, words),
+    at_line_end(Command::OnSet(side, SetCommand::Keep(op)), words)
+}
+
+// The words after such a word are a set, and what the word wants behind it.
+#[tactic(auto, unfolding(crate::specs::Grammar::on_set_of))]
+fn on_set_in(
+    alloc: Global,
+    word: &[u8],
+    words: Option<&[u8]>,
+) -> Result<Option<Command<u64, u64>>, AllocError>
+    ensures command { IfOk result (λ command. command ≡ on_set_of word.entry.now (words_left words.entry)) }
+    ensures list { OnErr result (NamesList (word.entry.now ∷ [])) }
+{
+    let Some((side, words)) = next_set(words) else {
+        return Ok(None)
+    };
+    let Some(command) = set_command_in(alloc, word, words)? else {
+        return Ok(None)
+    };
+    Ok(Some(Command::OnSet(side, command)))
+}
+
+// What a word and those behind the set ask of it.
+#[tactic(auto, unfolding(crate::specs::Grammar::set_command_of))]
+fn set_command_in(
+    alloc: Global,
+    word: &[u8],
+    words: Option<&[u8]>,
+) -> Result<Option<SetCommand<u64>>, AllocError>
+    ensures command { IfOk result (λ command. command ≡ set_command_of word.entry.now (words_left words.entry)) }
+    ensures list { OnErr result (NamesList (word.entry.now ∷ [])) }
+{
+    if is_word(word, b"walk") {
+        walk_in(alloc, words)
+    } else if is_word(word, b"extend") {
+        extend_in(alloc, words)
+    } else {
+        Ok(plain_in(word, words))
     }
 }
 
-// The words after a set are an item.
-#[tactic(auto, unfolding(crate::specs::Grammar::set_and_item_of))]
-fn set_and_item_in(word: &[u8], side: Side, words: Option<&[u8]>) -> Option<Command<u64, u64>>
-    ensures { result ≡ set_and_item_of word.entry.now side (words_left words.entry) }
+// Behind the set is an item where the word wants one.
+#[tactic(auto, unfolding(crate::specs::Grammar::plain_on_set_of))]
+fn plain_in(word: &[u8], words: Option<&[u8]>) -> Option<SetCommand<u64>>
+    ensures { result ≡ plain_on_set_of word.entry.now (words_left words.entry) }
+{
+    match whole_in(word) {
+        Some(command) => at_line_end(command, words),
+        None => item_in(word, words),
+    }
+}
+
+// Behind the set is an item.
+#[tactic(auto, unfolding(crate::specs::Grammar::with_item_of))]
+fn item_in(word: &[u8], words: Option<&[u8]>) -> Option<SetCommand<u64>>
+    ensures { result ≡ with_item_of word.entry.now (words_left words.entry) }
 {
     let (item, words) = next_number(words)?;
-    at_line_end(with_set_and_item_in(word, side, item)?, words)
+    at_line_end(on_item_in(word, item)?, words)
 }
 
 // The command that a word asks for on a set.
-fn with_set_in(word: &[u8], side: Side) -> Option<Command<u64, u64>>
-    ensures { result ≡ with_set word.entry.now side }
+fn whole_in(word: &[u8]) -> Option<SetCommand<u64>>
+    ensures { result ≡ on_whole_set word.entry.now }
 {
     if is_word(word, b"len") {
-        Some(Command::SetLen(side))
+        Some(SetCommand::SetLen)
     } else if is_word(word, b"clear") {
-        Some(Command::SetClear(side))
+        Some(SetCommand::SetClear)
     } else if is_word(word, b"append") {
-        Some(Command::SetAppend(side))
+        Some(SetCommand::SetAppend)
     } else if is_word(word, b"copy") {
-        Some(Command::SetClone(side))
+        Some(SetCommand::SetClone)
     } else if is_word(word, b"disjoint") {
-        Some(Command::IsDisjoint(side))
+        Some(SetCommand::IsDisjoint)
     } else if is_word(word, b"subset") {
-        Some(Command::IsSubset(side))
+        Some(SetCommand::IsSubset)
     } else if is_word(word, b"superset") {
-        Some(Command::IsSuperset(side))
+        Some(SetCommand::IsSuperset)
     } else if is_word(word, b"cmp") {
-        Some(Command::SetCmp(side))
+        Some(SetCommand::SetCmp)
     } else {
-        Some(Command::List(op_in(word)?, side))
+        Some(SetCommand::List(op_in(word)?))
     }
 }
 
 // The command that a word asks for on a set and an item.
-fn with_set_and_item_in(word: &[u8], side: Side, item: u64) -> Option<Command<u64, u64>>
-    ensures { result ≡ with_set_and_item word.entry.now side item }
+fn on_item_in(word: &[u8], item: u64) -> Option<SetCommand<u64>>
+    ensures { result ≡ on_item word.entry.now item }
 {
     if is_word(word, b"add") {
-        Some(Command::AddItem(side, item))
+        Some(SetCommand::AddItem(item))
     } else if is_word(word, b"replace") {
-        Some(Command::ReplaceItem(side, item))
+        Some(SetCommand::ReplaceItem(item))
     } else if is_word(word, b"take") {
-        Some(Command::TakeItem(side, item))
+        Some(SetCommand::TakeItem(item))
     } else if is_word(word, b"drop") {
-        Some(Command::RemoveItem(side, item))
+        Some(SetCommand::RemoveItem(item))
     } else if is_word(word, b"in") {
-        Some(Command::ContainsItem(side, item))
+        Some(SetCommand::ContainsItem(item))
     } else if is_word(word, b"find") {
-        Some(Command::GetItem(side, item))
+        Some(SetCommand::GetItem(item))
     } else if is_word(word, b"split") {
-        Some(Command::SetSplitOff(side, item))
+        Some(SetCommand::SetSplitOff(item))
     } else {
         None
     }
@@ -140,49 +174,24 @@ fn op_in(word: &[u8]) -> Option<SetOp>
     }
 }
 
-#[tactic(auto, unfolding(crate::specs::Grammar::keep_of))]
-fn keep_in(words: Option<&[u8]>) -> Option<Command<u64, u64>>
-    ensures { result ≡ keep_of (words_left words.entry) }
-{
-    let (word, words) = next_word(words)?;
-    let op = op_in(word)?;
-    let (side, words) = next_set(words)?;
-    at_line_end(Command::Keep(op, side), words)
-}
-
 #[tactic(auto, unfolding(crate::specs::Grammar::walk_items_of))]
-fn walk_in(alloc: Global, words: Option<&[u8]>) -> Result<Option<Command<u64, u64>>, AllocError>
+fn walk_in(alloc: Global, words: Option<&[u8]>) -> Result<Option<SetCommand<u64>>, AllocError>
     ensures { IfOk result (λ command. command ≡ walk_items_of (words_left words.entry)) }
 {
-    let Some((side, words)) = next_set(words) else {
+    let Some((lo, hi, ends)) = steps_in(alloc, words)? else {
         return Ok(None)
     };
-    let Some((lo, words)) = next_bound(words) else {
-        return Ok(None)
-    };
-    let Some((hi, words)) = next_bound(words) else {
-        return Ok(None)
-    };
-    let Some((letters, words)) = next_word(words) else {
-        return Ok(None)
-    };
-    let Some(list) = ends_of_letters(alloc, letters)? else {
-        return Ok(None)
-    };
-    Ok(at_line_end(Command::SetWalk(side, lo, hi, Items::from(list)), words))
+    Ok(Some(SetCommand::SetWalk(lo, hi, ends)))
 }
 
 #[tactic(auto, unfolding(crate::specs::Grammar::extend_items_of))]
-fn extend_in(alloc: Global, words: Option<&[u8]>) -> Result<Option<Command<u64, u64>>, AllocError>
+fn extend_in(alloc: Global, words: Option<&[u8]>) -> Result<Option<SetCommand<u64>>, AllocError>
     ensures { IfOk result (λ command. command ≡ extend_items_of (words_left words.entry)) }
 {
-    let Some((side, words)) = next_set(words) else {
-        return Ok(None)
-    };
     let Some(list) = items_in(alloc, words)? else {
         return Ok(None)
     };
-    Ok(Some(Command::SetExtend(side, Items::from(list))))
+    Ok(Some(SetCommand::SetExtend(Items::from(list))))
 }
 
 // The items of all words that are left.

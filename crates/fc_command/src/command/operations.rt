@@ -7,7 +7,7 @@ ghost use Rattle.fc_set.specs.Copied.{Lends, MayCopyRefuse};
 ghost use Rattle.fc_command.specs.SetStep.{StepOnSets, combined};
 
 use fc_base::{TryClone, TryReserveError};
-use fc_lines::command::{Command, Reply, SetOp, Side};
+use fc_lines::command::{Reply, SetCommand, SetOp};
 use fc_lines::items::Items;
 use fc_set::set::BTreeSet;
 use std::alloc::Global;
@@ -21,7 +21,7 @@ pub fn list<K: Ord + TryClone, V: TryClone>(
 ) -> Reply<K, V>
     requires copied { K.can_clone }
     requires same { IsExact K.same }
-    ensures { (side : Side) → StepOnSets K.cmp K.may_refuse (Command.List op side) set.now other.now result set.now other.now }
+    ensures { StepOnSets K.cmp K.may_refuse (SetCommand.List op) set.now other.now result set.now other.now }
 {
     match listed(alloc, op, set, other) {
         Ok(items) => Reply::Keys(Items::from(items)),
@@ -76,7 +76,7 @@ pub fn keep<K: Ord + TryClone, V: TryClone>(
 ) -> Reply<K, V>
     requires copied { K.can_clone }
     requires same { IsExact K.same }
-    ensures { (side : Side) → StepOnSets K.cmp K.may_refuse (Command.Keep op side) set.old other.now result set.new other.now }
+    ensures { StepOnSets K.cmp K.may_refuse (SetCommand.Keep op) set.old other.now result set.new other.now }
 {
     match kept(op, set, other) {
         Ok(made) => {

@@ -7,51 +7,50 @@ ghost use Rattle.fc_command.specs.Walks.{given, left, walked, MayRefuseFound};
 
 use crate::command::operations::{keep, list};
 use fc_base::{TryClone, TryReserveError};
-use fc_lines::command::{Command, End, Reply, Side};
+use fc_lines::command::{End, Reply, SetCommand};
 use fc_lines::items::Items;
 use fc_map::map::is_range;
 use fc_set::set::{BTreeSet, Range};
 use std::alloc::Global;
 use std::ops::Bound;
 
-// Runs a command on the set that it names and on the other one. One on maps does nothing here.
+// Runs a command on a set and on the other one.
 pub fn step_set<K: Ord + TryClone, V: TryClone>(
     alloc: Global,
     set: &mut BTreeSet<K>,
     other: &mut BTreeSet<K>,
-    command: Command<K, V>,
+    command: SetCommand<K>,
 ) -> Reply<K, V>
     requires copied { K.can_clone }
     requires same { IsExact K.same }
     ensures { StepOnSets K.cmp K.may_refuse command set.old other.old result set.new other.new }
 {
     match command {
-        Command::AddItem(_, item) => add(set, item),
-        Command::ReplaceItem(_, item) => replace(set, item),
-        Command::TakeItem(_, item) => Reply::Key(set.take(&item)),
-        Command::RemoveItem(_, item) => Reply::Flag(set.remove(&item)),
-        Command::ContainsItem(_, item) => Reply::Flag(set.contains(&item)),
-        Command::GetItem(_, item) => find(set, &item),
-        Command::SetLen(_) => Reply::Len(set.len()),
-        Command::SetClear(_) => clear(set),
-        Command::SetAppend(_) => append(set, other),
-        Command::SetSplitOff(_, item) => split_off(set, other, item),
-        Command::SetClone(_) => copy(set, other),
-        Command::SetExtend(_, items) => extend(set, items),
-        Command::SetWalk(_, lo, hi, ends) => walk(alloc, set, lo, hi, ends),
-        Command::List(op, _) => list(alloc, op, set, other),
-        Command::Keep(op, _) => keep(op, set, other),
-        Command::IsDisjoint(_) => Reply::Flag(set.is_disjoint(other)),
-        Command::IsSubset(_) => Reply::Flag(set.is_subset(other)),
-        Command::IsSuperset(_) => Reply::Flag(set.is_superset(other)),
-        Command::SetCmp(_) => compare(set, other),
-        _on_maps => Reply::Done,
+        SetCommand::AddItem(item) => add(set, item),
+        SetCommand::ReplaceItem(item) => replace(set, item),
+        SetCommand::TakeItem(item) => Reply::Key(set.take(&item)),
+        SetCommand::RemoveItem(item) => Reply::Flag(set.remove(&item)),
+        SetCommand::ContainsItem(item) => Reply::Flag(set.contains(&item)),
+        SetCommand::GetItem(item) => find(set, &item),
+        SetCommand::SetLen => Reply::Len(set.len()),
+        SetCommand::SetClear => clear(set),
+        SetCommand::SetAppend => append(set, other),
+        SetCommand::SetSplitOff(item) => split_off(set, other, item),
+        SetCommand::SetClone => copy(set, other),
+        SetCommand::SetExtend(items) => extend(set, items),
+        SetCommand::SetWalk(lo, hi, ends) => walk(alloc, set, lo, hi, ends),
+        SetCommand::List(op) => list(alloc, op, set, other),
+        SetCommand::Keep(op) => keep(op, set, other),
+        SetCommand::IsDisjoint => Reply::Flag(set.is_disjoint(other)),
+        SetCommand::IsSubset => Reply::Flag(set.is_subset(other)),
+        SetCommand::IsSuperset => Reply::Flag(set.is_superset(other)),
+        SetCommand::SetCmp => compare(set, other),
     }
 }
 
 // Puts the item in where no equal one is.
 fn add<K: Ord + TryClone, V: TryClone>(set: &mut BTreeSet<K>, item: K) -> Reply<K, V>
-    ensures { (o : Map K ⊤) (side : Side) → StepOnSets K.cmp K.may_refuse (Command.AddItem side item) set.old o result set.new o }
+    ensures { (o : Map K ⊤) → StepOnSets K.cmp K.may_refuse (SetCommand.AddItem item) set.old o result set.new o }
 {
     match set.try_insert(item) {
         Ok(new) => Reply::Flag(new),
@@ -61,7 +60,7 @@ fn add<K: Ord + TryClone, V: TryClone>(set: &mut BTreeSet<K>, item: K) -> Reply<
 
 // Puts the item in the place of an equal one, or where it belongs.
 fn replace<K: Ord + TryClone, V: TryClone>(set: &mut BTreeSet<K>, item: K) -> Reply<K, V>
-    ensures { (o : Map K ⊤) (side : Side) → StepOnSets K.cmp K.may_refuse (Command.ReplaceItem side item) set.old o result set.new o }
+    ensures { (o : Map K ⊤) → StepOnSets K.cmp K.may_refuse (SetCommand.ReplaceItem item) set.old o result set.new o }
 {
     match set.replace(item) {
         Ok(old) => Reply::Key(old),
@@ -71,7 +70,7 @@ fn replace<K: Ord + TryClone, V: TryClone>(set: &mut BTreeSet<K>, item: K) -> Re
 
 // Drops all items.
 fn clear<K: Ord + TryClone, V: TryClone>(set: &mut BTreeSet<K>) -> Reply<K, V>
-    ensures { (o : Map K ⊤) (side : Side) → StepOnSets K.cmp K.may_refuse (Command.SetClear side) set.old o result set.new o }
+    ensures { (o : Map K ⊤) → StepOnSets K.cmp K.may_refuse SetCommand.SetClear set.old o result set.new o }
 {
     set.clear();
     Reply::Done
@@ -81,7 +80,7 @@ fn clear<K: Ord + TryClone, V: TryClone>(set: &mut BTreeSet<K>) -> Reply<K, V>
 fn find<K: Ord + TryClone, V: TryClone>(set: &BTreeSet<K>, item: &K) -> Reply<K, V>
     requires copied { K.can_clone }
     requires same { IsExact K.same }
-    ensures { (o : Map K ⊤) (side : Side) → StepOnSets K.cmp K.may_refuse (Command.GetItem side item.now) set.now o result set.now o }
+    ensures { (o : Map K ⊤) → StepOnSets K.cmp K.may_refuse (SetCommand.GetItem item.now) set.now o result set.now o }
 {
     match set.get(item) {
         Some(held) => match held.try_clone() {
@@ -97,7 +96,7 @@ fn append<K: Ord + TryClone, V: TryClone>(
     set: &mut BTreeSet<K>,
     other: &mut BTreeSet<K>,
 ) -> Reply<K, V>
-    ensures { (side : Side) → StepOnSets K.cmp K.may_refuse (Command.SetAppend side) set.old other.old result set.new other.new }
+    ensures { StepOnSets K.cmp K.may_refuse SetCommand.SetAppend set.old other.old result set.new other.new }
 {
     match set.append(other) {
         Ok(()) => Reply::Done,
@@ -111,7 +110,7 @@ fn split_off<K: Ord + TryClone, V: TryClone>(
     other: &mut BTreeSet<K>,
     item: K,
 ) -> Reply<K, V>
-    ensures { (side : Side) → StepOnSets K.cmp K.may_refuse (Command.SetSplitOff side item) set.old other.old result set.new other.new }
+    ensures { StepOnSets K.cmp K.may_refuse (SetCommand.SetSplitOff item) set.old other.old result set.new other.new }
 {
     match set.try_split_off(&item) {
         Ok(rest) => {
@@ -124,7 +123,7 @@ fn split_off<K: Ord + TryClone, V: TryClone>(
 
 // Puts the items in, in turn, up to the one that is refused.
 fn extend<K: Ord + TryClone, V: TryClone>(set: &mut BTreeSet<K>, more: Items<K>) -> Reply<K, V>
-    ensures { (o : Map K ⊤) (side : Side) → StepOnSets K.cmp K.may_refuse (Command.SetExtend side more) set.old o result set.new o }
+    ensures { (o : Map K ⊤) → StepOnSets K.cmp K.may_refuse (SetCommand.SetExtend more) set.old o result set.new o }
 {
     match set.try_extend(more.into_vec()) {
         Ok(()) => {
@@ -146,7 +145,7 @@ fn walk<K: Ord + TryClone, V: TryClone>(
 ) -> Reply<K, V>
     requires copied { K.can_clone }
     requires same { IsExact K.same }
-    ensures { (o : Map K ⊤) (side : Side) → StepOnSets K.cmp K.may_refuse (Command.SetWalk side lo hi ends) set.now o result set.now o }
+    ensures { (o : Map K ⊤) → StepOnSets K.cmp K.may_refuse (SetCommand.SetWalk lo hi ends) set.now o result set.now o }
 {
     let bounds = (lo.as_ref(), hi.as_ref());
     if !is_range(&bounds.0, &bounds.1) {
@@ -203,7 +202,7 @@ fn copy_step<K: TryClone>(item: Option<&K>) -> Result<Option<K>, TryReserveError
 
 // How the set stands to the other.
 fn compare<K: Ord + TryClone, V: TryClone>(set: &BTreeSet<K>, other: &BTreeSet<K>) -> Reply<K, V>
-    ensures { (side : Side) → StepOnSets K.cmp K.may_refuse (Command.SetCmp side) set.now other.now result set.now other.now }
+    ensures { StepOnSets K.cmp K.may_refuse SetCommand.SetCmp set.now other.now result set.now other.now }
 {
     Reply::Order(set.cmp(other))
 }
@@ -212,7 +211,7 @@ fn compare<K: Ord + TryClone, V: TryClone>(set: &BTreeSet<K>, other: &BTreeSet<K
 fn copy<K: Ord + TryClone, V: TryClone>(set: &BTreeSet<K>, other: &mut BTreeSet<K>) -> Reply<K, V>
     requires copied { K.can_clone }
     requires same { IsExact K.same }
-    ensures { (side : Side) → StepOnSets K.cmp K.may_refuse (Command.SetClone side) set.now other.old result set.now other.new }
+    ensures { StepOnSets K.cmp K.may_refuse SetCommand.SetClone set.now other.old result set.now other.new }
 {
     match set.try_clone() {
         Ok(items) => {

@@ -9,11 +9,11 @@ ghost use Rattle.fc_map.specs.Stretches.{range_map_ref, stretch};
 ghost use Rattle.fc_command.specs.Writing.{flagged, rewritten};
 ghost use Rattle.fc_map.specs.Entries.{Map, entries, now_pair};
 ghost use Rattle.fc_command.specs.Walks.{given, left, walked, MayRefuseFound};
-ghost use Rattle.fc_command.specs.Step.{IsNew, Step, StepAt, StepOn, Runs};
+ghost use Rattle.fc_command.specs.Step.{IsNew, Step, StepOn, Runs};
 
 use crate::command::sets::step_set;
 use fc_base::{TryClone, TryReserveError};
-use fc_lines::command::{Command, End, Reply, Side, Target};
+use fc_lines::command::{Command, End, MapCommand, Reply, Side};
 use fc_lines::items::Items;
 use fc_map::map::{BTreeMap, Entry, Range, RangeMut, insert_both, is_range};
 use fc_set::set::BTreeSet;
@@ -59,33 +59,19 @@ impl<K: Ord + TryClone, V: TryClone> World<K, V> {
         requires same { IsExact K.same × IsExact V.same }
         ensures { Step K.cmp K.may_refuse V.may_refuse self.old command result self.new }
     {
-        match command.target() {
-            Target::OnMap(side) => self.step_on_map(side, command),
-            Target::OnSet(side) => self.step_on_set(side, command),
-        }
-    }
-
-    // Runs a command on the map of the side.
-    fn step_on_map(&mut self, side: Side, command: Command<K, V>) -> Reply<K, V>
-        requires copied { K.can_clone × V.can_clone }
-        requires same { IsExact K.same × IsExact V.same }
-        ensures { StepAt K.cmp K.may_refuse V.may_refuse (Target.OnMap side) self.old command result self.new }
-    {
-        match side {
-            Side::First => step_on(self.alloc, &mut self.a, &mut self.b, command),
-            Side::Second => step_on(self.alloc, &mut self.b, &mut self.a, command),
-        }
-    }
-
-    // Runs a command on the set of the side.
-    fn step_on_set(&mut self, side: Side, command: Command<K, V>) -> Reply<K, V>
-        requires copied { K.can_clone × V.can_clone }
-        requires same { IsExact K.same × IsExact V.same }
-        ensures { StepAt K.cmp K.may_refuse V.may_refuse (Target.OnSet side) self.old command result self.new }
-    {
-        match side {
-            Side::First => step_set(self.alloc, &mut self.s, &mut self.t, command),
-            Side::Second => step_set(self.alloc, &mut self.t, &mut self.s, command),
+        match command {
+            Command::OnMap(Side::First, command) => {
+                step_on(self.alloc, &mut self.a, &mut self.b, command)
+            }
+            Command::OnMap(Side::Second, command) => {
+                step_on(self.alloc, &mut self.b, &mut self.a, command)
+            }
+            Command::OnSet(Side::First, command) => {
+                step_set(self.alloc, &mut self.s, &mut self.t, command)
+            }
+            Command::OnSet(Side::Second, command) => {
+                step_set(self.alloc, &mut self.t, &mut self.s, command)
+            }
         }
     }
 
@@ -111,42 +97,41 @@ impl<K: Ord + TryClone, V: TryClone> World<K, V> {
     }
 }
 
-// Runs a command on the map that it names and on the other one. One on sets does nothing here.
+// Runs a command on a map and on the other one.
 fn step_on<K: Ord + TryClone, V: TryClone>(
     alloc: Global,
     map: &mut BTreeMap<K, V>,
     other: &mut BTreeMap<K, V>,
-    command: Command<K, V>,
+    command: MapCommand<K, V>,
 ) -> Reply<K, V>
     requires copied { K.can_clone × V.can_clone }
     requires same { IsExact K.same × IsExact V.same }
     ensures { StepOn K.cmp K.may_refuse V.may_refuse command map.old other.old result map.new other.new }
 {
     match command {
-        Command::Insert(_, key, value) => match map.try_insert(key, value) {
+        MapCommand::Insert(key, value) => match map.try_insert(key, value) {
             Ok(old) => Reply::Value(old),
             Err((key, value, e)) => Reply::GivenBack(key, value, e),
         },
-        Command::Get(_, key) => get(map, &key),
-        Command::GetKeyValue(_, key) => get_key_value(map, &key),
-        Command::ContainsKey(_, key) => Reply::Flag(map.contains_key(&key)),
-        Command::Remove(_, key) => Reply::Value(map.remove(&key)),
-        Command::Set(_, key, value) => set(map, key, value),
-        Command::Entry(_, key, there, new) => entry(map, key, there, new),
-        Command::RemoveEntry(_, key) => Reply::Pair(evict(map, key)),
-        Command::Len(_) => Reply::Len(map.len()),
-        Command::Clear(_) => {
+        MapCommand::Get(key) => get(map, &key),
+        MapCommand::GetKeyValue(key) => get_key_value(map, &key),
+        MapCommand::ContainsKey(key) => Reply::Flag(map.contains_key(&key)),
+        MapCommand::Remove(key) => Reply::Value(map.remove(&key)),
+        MapCommand::Set(key, value) => set(map, key, value),
+        MapCommand::Entry(key, there, new) => entry(map, key, there, new),
+        MapCommand::RemoveEntry(key) => Reply::Pair(evict(map, key)),
+        MapCommand::Len => Reply::Len(map.len()),
+        MapCommand::Clear => {
             map.clear();
             Reply::Done
         }
-        Command::Walk(_, lo, hi, ends) => walk(alloc, map, lo, hi, ends),
-        Command::Write(_, lo, hi, writes) => write(map, lo, hi, writes),
-        Command::Append(_) => append(map, other),
-        Command::SplitOff(_, key) => split_off(map, other, key),
-        Command::TryClone(_) => copy(map, other),
-        Command::Extend(_, pairs) => extend(map, pairs),
-        Command::InsertBoth(k, v, l, w) => put_both(map, other, k, v, l, w),
-        _on_sets => Reply::Done,
+        MapCommand::Walk(lo, hi, ends) => walk(alloc, map, lo, hi, ends),
+        MapCommand::Write(lo, hi, writes) => write(map, lo, hi, writes),
+        MapCommand::Append => append(map, other),
+        MapCommand::SplitOff(key) => split_off(map, other, key),
+        MapCommand::TryClone => copy(map, other),
+        MapCommand::Extend(pairs) => extend(map, pairs),
+        MapCommand::InsertBoth(k, v, l, w) => put_both(map, other, k, v, l, w),
     }
 }
 
@@ -155,7 +140,7 @@ fn append<K: Ord + TryClone, V: TryClone>(
     map: &mut BTreeMap<K, V>,
     other: &mut BTreeMap<K, V>,
 ) -> Reply<K, V>
-    ensures { (side : Side) → StepOn K.cmp K.may_refuse V.may_refuse (Command.Append side) map.old other.old result map.new other.new }
+    ensures { StepOn K.cmp K.may_refuse V.may_refuse MapCommand.Append map.old other.old result map.new other.new }
 {
     match map.append(other) {
         Ok(()) => Reply::Done,
@@ -169,7 +154,7 @@ fn split_off<K: Ord + TryClone, V: TryClone>(
     other: &mut BTreeMap<K, V>,
     key: K,
 ) -> Reply<K, V>
-    ensures { (side : Side) → StepOn K.cmp K.may_refuse V.may_refuse (Command.SplitOff side key) map.old other.old result map.new other.new }
+    ensures { StepOn K.cmp K.may_refuse V.may_refuse (MapCommand.SplitOff key) map.old other.old result map.new other.new }
 {
     match map.split_off(&key) {
         Ok(rest) => {
@@ -190,7 +175,7 @@ fn walk<K: Ord + TryClone, V: TryClone>(
 ) -> Reply<K, V>
     requires copied { K.can_clone × V.can_clone }
     requires same { IsExact K.same × IsExact V.same }
-    ensures { (o : Map K V) (side : Side) → StepOn K.cmp K.may_refuse V.may_refuse (Command.Walk side lo hi ends) map.now o result map.now o }
+    ensures { (o : Map K V) → StepOn K.cmp K.may_refuse V.may_refuse (MapCommand.Walk lo hi ends) map.now o result map.now o }
 {
     let bounds = (lo.as_ref(), hi.as_ref());
     if !is_range(&bounds.0, &bounds.1) {
@@ -254,7 +239,7 @@ fn write<K: Ord + TryClone, V: TryClone>(
     hi: Bound<K>,
     writes: Items<(End, V)>,
 ) -> Reply<K, V>
-    ensures { (o : Map K V) (side : Side) → StepOn K.cmp K.may_refuse V.may_refuse (Command.Write side lo hi writes) map.old o result map.new o }
+    ensures { (o : Map K V) → StepOn K.cmp K.may_refuse V.may_refuse (MapCommand.Write lo hi writes) map.old o result map.new o }
 {
     let bounds = (lo.as_ref(), hi.as_ref());
     if is_range(&bounds.0, &bounds.1) {
@@ -313,7 +298,7 @@ fn copy<K: Ord + TryClone, V: TryClone>(
 ) -> Reply<K, V>
     requires copied { K.can_clone × V.can_clone }
     requires same { IsExact K.same × IsExact V.same }
-    ensures { (side : Side) → StepOn K.cmp K.may_refuse V.may_refuse (Command.TryClone side) map.now other.old result map.now other.new }
+    ensures { StepOn K.cmp K.may_refuse V.may_refuse MapCommand.TryClone map.now other.old result map.now other.new }
 {
     match map.try_clone() {
         Ok(pairs) => {
@@ -329,7 +314,7 @@ fn extend<K: Ord + TryClone, V: TryClone>(
     map: &mut BTreeMap<K, V>,
     pairs: Items<(K, V)>,
 ) -> Reply<K, V>
-    ensures { (o : Map K V) (side : Side) → StepOn K.cmp K.may_refuse V.may_refuse (Command.Extend side pairs) map.old o result map.new o }
+    ensures { (o : Map K V) → StepOn K.cmp K.may_refuse V.may_refuse (MapCommand.Extend pairs) map.old o result map.new o }
 {
     match map.try_extend(pairs.into_vec()) {
         Ok(()) => {
@@ -350,7 +335,7 @@ fn put_both<K: Ord + TryClone, V: TryClone>(
     l: K,
     w: V,
 ) -> Reply<K, V>
-    ensures { StepOn K.cmp K.may_refuse V.may_refuse (Command.InsertBoth k v l w) map.old other.old result map.new other.new }
+    ensures { StepOn K.cmp K.may_refuse V.may_refuse (MapCommand.InsertBoth k v l w) map.old other.old result map.new other.new }
 {
     match insert_both(map, other, k, v, l, w) {
         Ok((first, second)) => Reply::Both(first, second),
@@ -360,7 +345,7 @@ fn put_both<K: Ord + TryClone, V: TryClone>(
 
 // Writes the value where the key is there, and answers the old one.
 fn set<K: Ord + TryClone, V: TryClone>(map: &mut BTreeMap<K, V>, key: K, value: V) -> Reply<K, V>
-    ensures { (o : Map K V) (side : Side) → StepOn K.cmp K.may_refuse V.may_refuse (Command.Set side key value) map.old o result map.new o }
+    ensures { (o : Map K V) → StepOn K.cmp K.may_refuse V.may_refuse (MapCommand.Set key value) map.old o result map.new o }
 {
     match map.get_mut(&key) {
         Some(held) => Reply::Value(Some(mem::replace(held, value))),
@@ -375,7 +360,7 @@ fn entry<K: Ord + TryClone, V: TryClone>(
     there: V,
     new: V,
 ) -> Reply<K, V>
-    ensures { (o : Map K V) (side : Side) → StepOn K.cmp K.may_refuse V.may_refuse (Command.Entry side key there new) map.old o result map.new o }
+    ensures { (o : Map K V) → StepOn K.cmp K.may_refuse V.may_refuse (MapCommand.Entry key there new) map.old o result map.new o }
 {
     let held = match map.try_entry(key) {
         Ok(held) => held,
@@ -405,7 +390,7 @@ fn evict<K: Ord + TryClone, V: TryClone>(map: &mut BTreeMap<K, V>, key: K) -> Op
 fn get<K: Ord + TryClone, V: TryClone>(map: &BTreeMap<K, V>, key: &K) -> Reply<K, V>
     requires copied { V.can_clone }
     requires same { IsExact V.same }
-    ensures { (o : Map K V) (side : Side) → StepOn K.cmp K.may_refuse V.may_refuse (Command.Get side key.now) map.now o result map.now o }
+    ensures { (o : Map K V) → StepOn K.cmp K.may_refuse V.may_refuse (MapCommand.Get key.now) map.now o result map.now o }
 {
     match map.get(key) {
         Some(value) => match value.try_clone() {
@@ -420,7 +405,7 @@ fn get<K: Ord + TryClone, V: TryClone>(map: &BTreeMap<K, V>, key: &K) -> Reply<K
 fn get_key_value<K: Ord + TryClone, V: TryClone>(map: &BTreeMap<K, V>, key: &K) -> Reply<K, V>
     requires copied { K.can_clone × V.can_clone }
     requires same { IsExact K.same × IsExact V.same }
-    ensures { (o : Map K V) (side : Side) → StepOn K.cmp K.may_refuse V.may_refuse (Command.GetKeyValue side key.now) map.now o result map.now o }
+    ensures { (o : Map K V) → StepOn K.cmp K.may_refuse V.may_refuse (MapCommand.GetKeyValue key.now) map.now o result map.now o }
 {
     match map.get_key_value(key) {
         Some((held, value)) => match copy_pair(held, value) {

@@ -7,7 +7,8 @@ pub returns-in-Some : goal.returns-in-Some
 returns-in-Some c =
     let line = c.args.line.now in
     let at = c.in-Some.end in
-    words_found line at (sym c.in-Some.ensures) ∙ ap (λ l. take at line ∷ words_of l) (sym (take_all (length line - (at + 1)) (drop (at + 1) line) (omega (arith, length-drop (at + 1) line))))
+    words_found line at (sym c.in-Some.ensures) ∙ ap (λ l. take at line ∷ words_of l)
+    (sym (take_all (length line - (at + 1)) (drop (at + 1) line) (omega (arith, length-drop (at + 1) line))))
 
 pub returns-in-None : goal.returns-in-None
 returns-in-None c = words_whole c.args.line.now (sym c.in-None.ensures)

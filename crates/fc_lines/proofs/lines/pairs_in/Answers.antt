@@ -18,7 +18,8 @@ loop-words-smaller c =
 pub loop-words-preserved : goal.loop-words-preserved
 loop-words-preserved c =
     let e : pair_at (words_left c.loop-words.words) ≡ Some (c.in-Some.pair, words_left c.in-Some.rest) = search rules in
-    rw c.in_ok-push.ensures.items (pairs_more (words_left c.args.words) (words_left c.loop-words.words) (words_left c.in-Some.rest) c.loop-words.list.items c.in-Some.pair e c.loop-words.invariant)
+    rw c.in_ok-push.ensures.items (pairs_more (words_left c.args.words) (words_left c.loop-words.words) (words_left c.in-Some.rest) c.loop-words.list.items
+    c.in-Some.pair e c.loop-words.invariant)
 
 pub returns : goal.returns
 returns c =

@@ -1,21 +1,20 @@
 use Rattle.std.proofs.Common.{◌≡◌, take, ap, ◌∙◌, arith, take_all}
 use Rattle.std.specs.Str.Parse.{digits_value}
-use Rattle.fc_lines.proofs.LineFacts.{digit_step, number_small, number_big}
+use Rattle.fc_lines.proofs.LineFacts.{digit_step, number_small, too_great}
 use Rattle.fc_lines.proofs.lines.value_in.Goals as goal
 
 pub returns-in_err-tens : goal.returns-in_err-tens
-returns-in_err-tens c =
-    let s = digit_step c.args.digits.now c.loop-digit.digit-index c.loop-digit.n c.requires c.loop-digit-test.true c.loop-digit.invariant.1 in
-    c.from_residual.ensures ∙ number_big (digits_value 10 c.args.digits.now) (omega (arith, s.1, c.in_err-tens.ensures))
+returns-in_err-tens c = c.from_residual.ensures
+    ∙ too_great _ _ _ c.requires c.loop-digit-test.true c.loop-digit.invariant.1 (omega (arith, c.in_err-tens.ensures))
 
 pub returns-in_err-n : goal.returns-in_err-n
-returns-in_err-n c =
-    let s = digit_step c.args.digits.now c.loop-digit.digit-index c.loop-digit.n c.requires c.loop-digit-test.true c.loop-digit.invariant.1 in
-    c.from_residual-in_err-n.ensures ∙ number_big (digits_value 10 c.args.digits.now) (omega (arith, s.1, c.in_err-n.ensures, c.in_ok-tens.ensures, c.from.ensures))
+returns-in_err-n c = c.from_residual-in_err-n.ensures
+    ∙ too_great _ _ _ c.requires c.loop-digit-test.true c.loop-digit.invariant.1
+    (omega (arith, c.in_err-n.ensures, c.in_ok-tens.ensures, c.from.ensures))
 
 pub loop-digit-preserved : goal.loop-digit-preserved
 loop-digit-preserved c =
-    let s = digit_step c.args.digits.now c.loop-digit.digit-index c.loop-digit.n c.requires c.loop-digit-test.true c.loop-digit.invariant.1 in
+    let s = digit_step _ _ _ c.requires c.loop-digit-test.true c.loop-digit.invariant.1 in
     (omega (arith, c.in_ok-n.ensures), omega (arith, s.0, c.in_ok-n.ensures, c.in_ok-tens.ensures, c.from.ensures))
 
 pub returns : goal.returns

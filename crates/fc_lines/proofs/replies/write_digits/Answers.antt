@@ -12,36 +12,29 @@ at_least : (start n left : ℕ) → n < 2 ^ 64 → left < 2 ^ 64 → start + len
 at_least start n left fits fits_left e = omega (arith, length-decimal-le 20 n (omega arith) (omega arith) fits, decimal_nonempty left fits_left)
 
 pub loop-left-init : goal.loop-left-init
-loop-left-init c = (omega arith, omega arith, refl, rw (drop_all 20 c.args.digits.now (omega arith), append-nil))
-
-pub overflow_sub-start : goal.overflow_sub-start
-overflow_sub-start c = at_least _ c.args.n c.loop-left.left c.ranges.n.fits c.loop-left.auto.left-fits.fits c.loop-left.invariant.2
+loop-left-init c = (omega arith, omega arith, omega arith, refl, rw (drop_all 20 c.args.digits.now (omega arith), append-nil))
 
 pub loop-left-preserved : goal.loop-left-preserved
 loop-left-preserved c =
     let l = c.loop-left in
-    let some = at_least _ c.args.n l.left c.ranges.n.fits l.auto.left-fits.fits l.invariant.2 in
-    let step = length_step l.left c.loop-left-test.true l.auto.left-fits.fits in
+    let fewer = length_step l.left c.loop-left-test.true l.auto.left-fits.fits in
+    let same : l.start - 1 + length (decimal c.args.n) ≡ 20 + length (decimal (l.left / 10)) = omega (arith, l.invariant.3) in
     let e : l.start - 1 + 1 ≡ l.start = omega arith in (
+      at_least _ c.args.n (l.left / 10) c.ranges.n.fits (omega (arith, l.auto.left-fits.fits)) same,
       omega arith,
       omega (arith, length-set l.digits (l.start - 1) (48 + l.left % 10)),
-      omega arith,
-      rw (drop-set l.digits (l.start - 1) _ (omega arith), e) (rw (decimal_step l.left c.loop-left-test.true l.auto.left-fits.fits, append_assoc) at l.invariant.3),
+      same,
+      rw (drop-set l.digits (l.start - 1) _ (omega arith), e)
+          (rw (decimal_step l.left c.loop-left-test.true l.auto.left-fits.fits, append_assoc) at l.invariant.4),
     )
-
-pub overflow_sub-start-2 : goal.overflow_sub-start-2
-overflow_sub-start-2 c = at_least _ c.args.n c.loop-left.left c.ranges.n.fits c.loop-left.auto.left-fits.fits c.loop-left.invariant.2
 
 pub returns-clause-start : goal.returns-clause-start
 returns-clause-start c =
-    let l = c.loop-left in
-    let some = at_least _ c.args.n l.left c.ranges.n.fits l.auto.left-fits.fits l.invariant.2 in
-    let one : length (decimal l.left) ≡ 1 = ap length (decimal_digit l.left (omega arith)) in
+    let one : length (decimal c.loop-left.left) ≡ 1 = ap length (decimal_digit c.loop-left.left (omega arith)) in
     omega arith
 
 pub returns-clause-written : goal.returns-clause-written
 returns-clause-written c =
     let l = c.loop-left in
-    let some = at_least _ c.args.n l.left c.ranges.n.fits l.auto.left-fits.fits l.invariant.2 in
     let e : l.start - 1 + 1 ≡ l.start = omega arith in
-    rw (drop-set l.digits (l.start - 1) _ (omega arith), e) (rw (decimal_digit l.left (omega arith)) at l.invariant.3)
+    rw (drop-set l.digits (l.start - 1) _ (omega arith), e) (rw (decimal_digit l.left (omega arith)) at l.invariant.4)

@@ -4,4 +4,4 @@ use Rattle.fc_command.proofs.command.operations.keep.Goals as goal
 
 -- room or a copy was refused
 pub returns-in-Err : goal.returns-in-Err
-returns-in-Err g c side = refused c.in-Err.e c.in-Err.ensures.error (refl, refl, refl)
+returns-in-Err g c = refused c.in-Err.e c.in-Err.ensures.error (refl, refl, refl)

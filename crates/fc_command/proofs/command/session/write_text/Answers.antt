@@ -9,5 +9,6 @@ loop-rest-preserved g c =
     let left = drop c.in-Ok.n c.loop-rest.rest.now in (
       m.0 ++ front,
       Appends-trans _ _ _ m.0 front m.1 c.in-Ok.ensures.bytes,
-      m.2 ∙ ap (λ l. m.0 ++ l) (sym (take-append-drop c.in-Ok.n c.loop-rest.rest.now)) ∙ sym (append_assoc m.0 front left) ∙ ap (λ l. (m.0 ++ front) ++ l) (sym c.split_at.ensures.back),
+      m.2 ∙ ap (λ l. m.0 ++ l) (sym (take-append-drop c.in-Ok.n c.loop-rest.rest.now)) ∙ sym (append_assoc m.0 front left)
+          ∙ ap (λ l. (m.0 ++ front) ++ l) (sym c.split_at.ensures.back),
     )

@@ -3,6 +3,6 @@ use Rattle.fc_command.specs.SetStep.{refused}
 use Rattle.fc_command.proofs.command.sets.append.Goals as goal
 
 pub returns-in-Err : goal.returns-in-Err
-returns-in-Err g c side =
+returns-in-Err g c =
     let why = c.in-Err.ensures in
     refused c.in-Err.e why.error (refl, why.unchanged.0, why.unchanged.1)

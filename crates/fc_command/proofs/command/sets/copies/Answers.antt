@@ -14,4 +14,5 @@ returns-in_err-steps-clause-error g c =
 pub returns-in_err-step-clause-error : goal.returns-in_err-step-clause-error
 returns-in_err-step-clause-error g c =
     let p = err_from_is_err_and c.from_residual-in_err-step.result c.from_residual-in_err-step.ensures.1 in
-    rw (p.1, p.2) (refused_step g.K.TryClone.may_refuse c.args.walk c.loop-end.walk c.args.ends.now c.loop-end.steps.items c.loop-end.end-index _ _ c.in_err-step.field-0.0 c.loop-end-test.true c.loop-end.invariant.given c.step_at.ensures.gives c.in_err-step.ensures)
+    rw (p.1, p.2) (refused_step g.K.TryClone.may_refuse c.args.walk c.loop-end.walk c.args.ends.now c.loop-end.steps.items c.loop-end.end-index _ _
+    c.in_err-step.field-0.0 c.loop-end-test.true c.loop-end.invariant.given c.step_at.ensures.gives c.in_err-step.ensures)

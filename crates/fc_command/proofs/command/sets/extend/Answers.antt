@@ -8,16 +8,20 @@ use Rattle.fc_command.proofs.command.sets.extend.Goals as goal
 
 -- all were put in
 pub returns-in-Ok : goal.returns-in-Ok
-returns-in-Ok g c o side =
+returns-in-Ok g c o =
     let steps = into_iter_steps {X = g.row.K.Denot} {Z = Global} in
-    let put_in = given_all steps _ c.args.more (λ all. items c.try_extend.new.self ≡ extended_items g.K.Ord.cmp (items c.args.set.now) all) (λ walk is. YieldsList-from_vec c.args.more (is.0 ∙ c.into_vec.ensures) (is.1 ∙ c.into_vec.result.ok.0 ∙ ap length c.into_vec.ensures)) c.in-Ok.ensures.all in
+    let put_in = given_all steps _ c.args.more (λ all. items c.try_extend.new.self ≡ extended_items g.K.Ord.cmp (items c.args.set.now) all)
+    (λ walk is. YieldsList-from_vec c.args.more (is.0 ∙ c.into_vec.ensures) (is.1 ∙ c.into_vec.result.ok.0 ∙ ap length c.into_vec.ensures))
+    c.in-Ok.ensures.all in
     let all = ap length put_in in
     let len = c.len-len.ensures.value in
     answered (λ past. omega (arith, all, len, past)) (refl, put_in, refl)
 
 -- those before the one that was refused were put in
 pub returns-in-Err : goal.returns-in-Err
-returns-in-Err g c o side =
+returns-in-Err g c o =
     let steps = into_iter_steps {X = g.row.K.Denot} {Z = Global} in
-    let up_to = given_front steps into_iter_items (λ s t x step. step.0) _ c.args.more (λ all. AreExtendedUpTo g.K.Ord.cmp (items c.args.set.now) all (items c.try_extend.new.self) c.in-Err.e) (λ walk is. is.0 ∙ c.into_vec.ensures) c.in-Err.ensures.error in
+    let up_to = given_front steps into_iter_items (λ s t x step. step.0) _ c.args.more
+    (λ all. AreExtendedUpTo g.K.Ord.cmp (items c.args.set.now) all (items c.try_extend.new.self) c.in-Err.e) (λ walk is. is.0 ∙ c.into_vec.ensures)
+    c.in-Err.ensures.error in
     stopped c.in-Err.e up_to (refl, refl)

@@ -5,4 +5,5 @@ use Rattle.fc_command.proofs.command.sets.find.Goals as goal
 
 -- the copy of the item was refused
 pub returns-in-Err : goal.returns-in-Err
-returns-in-Err g c o side = refused c.in-Err.e (refused_found g.K.TryClone.may_refuse _ c.in-Some.held.now c.in-Err.e c.in-Some.ensures.item c.in-Err.ensures) (refl, refl, refl)
+returns-in-Err g c o = refused c.in-Err.e (refused_found g.K.TryClone.may_refuse _ c.in-Some.held.now c.in-Err.e c.in-Some.ensures.item c.in-Err.ensures)
+    (refl, refl, refl)

@@ -4,59 +4,66 @@ use Rattle.fc_set.specs.Operations.{difference, intersection}
 use Rattle.fc_lines.specs.declared.command.Reply.TheVariants.{Flag}
 use Rattle.fc_command.specs.SetStep.{answered}
 use Rattle.fc_command.proofs.OperationFacts.{none_flag}
-use Rattle.fc_command.proofs.KindFacts.{not_on_sets}
 use Rattle.fc_command.proofs.command.sets.step_set.Goals as goal
 
--- one item or none, on whichever side
+-- one item or none
 pub returns-in-AddItem : goal.returns-in-AddItem
-returns-in-AddItem g c = rw c.in-AddItem.is (c.add.ensures c.args.other.now c.in-AddItem.field-0)
+returns-in-AddItem g c = rw c.in-AddItem.is (c.add.ensures c.args.other.now)
 
 pub returns-in-ReplaceItem : goal.returns-in-ReplaceItem
-returns-in-ReplaceItem g c = rw c.in-ReplaceItem.is (c.replace.ensures c.args.other.now c.in-ReplaceItem.field-0)
+returns-in-ReplaceItem g c = rw c.in-ReplaceItem.is (c.replace.ensures c.args.other.now)
 
 pub returns-in-SetClear : goal.returns-in-SetClear
-returns-in-SetClear g c = rw c.in-SetClear.is (c.clear.ensures c.args.other.now c.in-SetClear.field-0)
+returns-in-SetClear g c = rw c.in-SetClear.is (c.clear.ensures c.args.other.now)
 
 pub returns-in-GetItem : goal.returns-in-GetItem
-returns-in-GetItem g c = rw c.in-GetItem.is (c.find.ensures c.args.other.now c.in-GetItem.field-0)
+returns-in-GetItem g c = rw c.in-GetItem.is (c.find.ensures c.args.other.now)
 
--- what was put in or given, on whichever side
+-- what was put in or given
 pub returns-in-SetExtend : goal.returns-in-SetExtend
-returns-in-SetExtend g c = rw c.in-SetExtend.is (c.extend.ensures c.args.other.now c.in-SetExtend.field-0)
+returns-in-SetExtend g c = rw c.in-SetExtend.is (c.extend.ensures c.args.other.now)
 
 pub returns-in-SetWalk : goal.returns-in-SetWalk
-returns-in-SetWalk g c = rw c.in-SetWalk.is (c.walk.ensures c.args.other.now c.in-SetWalk.field-0)
+returns-in-SetWalk g c = rw c.in-SetWalk.is (c.walk.ensures c.args.other.now)
 
--- what was copied, listed and kept, on whichever side
+-- what was copied, listed and kept
 pub returns-in-SetClone : goal.returns-in-SetClone
-returns-in-SetClone g c = rw c.in-SetClone.is (c.copy.ensures c.in-SetClone.field-0)
+returns-in-SetClone g c = rw c.in-SetClone.is c.copy.ensures
 
 pub returns-in-List : goal.returns-in-List
-returns-in-List g c = rw c.in-List.is (c.list.ensures c.in-List.field-1)
+returns-in-List g c = rw c.in-List.is c.list.ensures
 
 pub returns-in-Keep : goal.returns-in-Keep
-returns-in-Keep g c = rw c.in-Keep.is (c.keep.ensures c.in-Keep.field-1)
+returns-in-Keep g c = rw c.in-Keep.is c.keep.ensures
 
--- what was joined, split and compared, on whichever side
+-- what was joined and split
 pub returns-in-SetAppend : goal.returns-in-SetAppend
-returns-in-SetAppend g c = rw c.in-SetAppend.is (c.append.ensures c.in-SetAppend.field-0)
+returns-in-SetAppend g c = rw c.in-SetAppend.is c.append.ensures
 
 pub returns-in-SetSplitOff : goal.returns-in-SetSplitOff
-returns-in-SetSplitOff g c = rw c.in-SetSplitOff.is (c.split_off.ensures c.in-SetSplitOff.field-0)
-
-pub returns-in-SetCmp : goal.returns-in-SetCmp
-returns-in-SetCmp g c = rw c.in-SetCmp.is (c.compare.ensures c.in-SetCmp.field-0)
+returns-in-SetSplitOff g c = rw c.in-SetSplitOff.is c.split_off.ensures
 
 -- whether an operation gives nothing
 pub returns-in-IsDisjoint : goal.returns-in-IsDisjoint
-returns-in-IsDisjoint g c = rw c.in-IsDisjoint.is (answered (λ h. h) (ap Flag (none_flag c.is_disjoint.result (intersection g.K.Ord.cmp (items c.args.set.now) (items c.args.other.now)) c.is_disjoint.ensures), refl, refl))
+returns-in-IsDisjoint g c = rw c.in-IsDisjoint.is (answered (λ h. h) (
+  ap Flag
+      (none_flag c.is_disjoint.result (intersection g.K.Ord.cmp (items c.args.set.now) (items c.args.other.now)) c.is_disjoint.ensures),
+  refl,
+  refl,
+))
 
 pub returns-in-IsSubset : goal.returns-in-IsSubset
-returns-in-IsSubset g c = rw c.in-IsSubset.is (answered (λ h. h) (ap Flag (none_flag c.is_subset.result (difference g.K.Ord.cmp (items c.args.set.now) (items c.args.other.now)) c.is_subset.ensures), refl, refl))
+returns-in-IsSubset g c = rw c.in-IsSubset.is (answered (λ h. h) (
+  ap Flag
+      (none_flag c.is_subset.result (difference g.K.Ord.cmp (items c.args.set.now) (items c.args.other.now)) c.is_subset.ensures),
+  refl,
+  refl,
+))
 
 pub returns-in-IsSuperset : goal.returns-in-IsSuperset
-returns-in-IsSuperset g c = rw c.in-IsSuperset.is (answered (λ h. h) (ap Flag (none_flag c.is_superset.result (difference g.K.Ord.cmp (items c.args.other.now) (items c.args.set.now)) c.is_superset.ensures), refl, refl))
-
--- a command on maps
-pub returns-in_default : goal.returns-in_default
-returns-in_default g c = not_on_sets g.K.Ord.cmp _ c.args.set.now c.args.other.now c.args.command c.in_default.not-AddItem c.in_default.not-ReplaceItem c.in_default.not-TakeItem c.in_default.not-RemoveItem c.in_default.not-ContainsItem c.in_default.not-GetItem c.in_default.not-SetLen c.in_default.not-SetClear c.in_default.not-SetAppend c.in_default.not-SetSplitOff c.in_default.not-SetClone c.in_default.not-SetExtend c.in_default.not-SetWalk c.in_default.not-List c.in_default.not-Keep c.in_default.not-IsDisjoint c.in_default.not-IsSubset c.in_default.not-IsSuperset c.in_default.not-SetCmp
+returns-in-IsSuperset g c = rw c.in-IsSuperset.is (answered (λ h. h) (
+  ap Flag
+      (none_flag c.is_superset.result (difference g.K.Ord.cmp (items c.args.other.now) (items c.args.set.now)) c.is_superset.ensures),
+  refl,
+  refl,
+))

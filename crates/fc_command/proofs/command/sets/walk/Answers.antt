@@ -7,7 +7,7 @@ use Rattle.fc_command.proofs.command.sets.walk.Goals as goal
 
 -- room or a copy was refused
 pub returns : goal.returns
-returns g c o side =
+returns g c o =
     let range : IsTrue (is_range g.K.Ord.cmp c.args.lo c.args.hi) = search rules in
     let given : c.range.result ≡ items_within g.K.Ord.cmp c.args.lo c.args.hi (items c.args.set.now) = search rules in
     refused c.in-Err.e (range, rw (given, c.as_slice.ensures) at c.in-Err.ensures.error) (refl, refl, refl)

@@ -21,7 +21,7 @@ module _ {F X R : Type 0} (g : Once F (MutBor X × Unit {0}) (R × (MutBor X × 
 
 -- a new key was refused
 pub returns-in-Err-or_try_insert : goal.returns-in-Err-or_try_insert
-returns-in-Err-or_try_insert g c o side =
+returns-in-Err-or_try_insert g c o =
     let why = c.in-Err-or_try_insert.ensures in
     let none = unmapped _ (entry_pair c.in-Ok.held) (unmodified _ _ (entry_value c.in-Ok.held) _ c.and_modify.ensures.update why.absent) in
     let absent = sym c.in-Ok.ensures.pair ∙ none in

@@ -5,4 +5,5 @@ use Rattle.fc_command.proofs.command.world.get.Goals as goal
 
 -- the copy of the value was refused
 pub returns-in-Err : goal.returns-in-Err
-returns-in-Err g c o side = refused c.in-Err.e (refused_found g.V.TryClone.may_refuse _ c.in-Some.value.now c.in-Err.e c.in-Some.ensures.value c.in-Err.ensures) (refl, refl, refl)
+returns-in-Err g c o = refused c.in-Err.e (refused_found g.V.TryClone.may_refuse _ c.in-Some.value.now c.in-Err.e c.in-Some.ensures.value c.in-Err.ensures)
+    (refl, refl, refl)

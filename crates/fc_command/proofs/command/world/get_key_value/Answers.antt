@@ -6,4 +6,7 @@ use Rattle.fc_command.proofs.command.world.get_key_value.Goals as goal
 
 -- the copy of the key or of the value was refused
 pub returns-in-Err : goal.returns-in-Err
-returns-in-Err g c o side = refused c.in-Err.e (refused_found (MayRefusePair g.K.TryClone.may_refuse g.V.TryClone.may_refuse) _ (c.in-Some.held.now, c.in-Some.value.now) c.in-Err.e c.in-Some.ensures.pair c.in-Err.ensures) (refl, refl, refl)
+returns-in-Err g c o = refused c.in-Err.e (refused_found (MayRefusePair g.K.TryClone.may_refuse g.V.TryClone.may_refuse) _ (
+  c.in-Some.held.now,
+  c.in-Some.value.now,
+) c.in-Err.e c.in-Some.ensures.pair c.in-Err.ensures) (refl, refl, refl)

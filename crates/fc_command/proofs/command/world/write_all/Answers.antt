@@ -37,5 +37,6 @@ loop-end-preserved g c =
       all = inv.all ∙ ap (λ l. c.loop-end.yielded ++ l) one ∙ sym (append_assoc c.loop-end.yielded (w ∷ []) rest);
       wrote = wrote_more old new (flagged w) (map flagged rest) _ c.write_at.ensures.written (rw one at inv.wrote);
       left = rw (length_push c.loop-end.yielded w) (places_more old new (flagged w) (length c.loop-end.yielded) _ c.write_at.ensures.written inv.left);
-      count = rw (length_push c.loop-end.yielded w, c.from-count.ensures) (count_more c.write_at.result c.loop-end.count (length c.loop-end.yielded) _ _ _ inv.count inv.left c.write_at.ensures.lent);
+      count = rw (length_push c.loop-end.yielded w, c.from-count.ensures)
+          (count_more c.write_at.result c.loop-end.count (length c.loop-end.yielded) _ _ _ inv.count inv.left c.write_at.ensures.lent);
     }

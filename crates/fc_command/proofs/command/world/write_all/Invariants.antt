@@ -14,7 +14,8 @@ invariant-loop-end g l =
     record {
       same_map : (range_map_ref l.walk).ghost_name ≡ (range_map_ref l.initial.walk).ghost_name;
       all : l.fn.writes.items ≡ l.yielded ++ into_iter_items l.end-iterator;
-      wrote : (wrote_all (stretch l.walk) (map flagged (into_iter_items l.end-iterator))).list ≡ rewritten g.K.Ord.cmp (bound_now l.fn.bounds.0) (bound_now l.fn.bounds.1) (entries l.fn.map) l.fn.writes.items;
+      wrote : (wrote_all (stretch l.walk) (map flagged (into_iter_items l.end-iterator))).list
+          ≡ rewritten g.K.Ord.cmp (bound_now l.fn.bounds.0) (bound_now l.fn.bounds.1) (entries l.fn.map) l.fn.writes.items;
       left : (stretch l.walk).back - (stretch l.walk).front ≡ places - length l.yielded;
       count : l.count ≡ min (length l.yielded) places;
     }

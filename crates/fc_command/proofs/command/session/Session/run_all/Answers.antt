@@ -28,25 +28,35 @@ pub returns-in_err-n : goal.returns-in_err-n
 returns-in_err-n g c =
     let m = c.loop.invariant.ran in
     let f = c.in_err-n.ensures.ran m.0 m.1 m.4 in
-    let took = Consumes-trans _ _ _ m.0 (take c.in-Ok.n c.read.new.buf) m.2 c.in-Ok.ensures.bytes.0 in
-    let p = err_from_is_err_and c.from_residual.result c.from_residual.ensures.1 in
-    (m.1 ++ f.0, Appends-trans _ _ _ m.1 f.0 m.3 f.1, rw (p.1, p.2) (served_failed _ _ _ (m.1 ++ f.0) c.in_err-n.field-0.0 took f.2))
+    let p = err_from_is_err_and c.from_residual.result c.from_residual.ensures.1 in (
+      m.1 ++ f.0,
+      Appends-trans _ _ _ m.1 f.0 m.3 f.1,
+      rw (p.1, p.2) (served_failed _ _ _ (m.1 ++ f.0) c.in_err-n.field-0.0
+          (Consumes-trans _ _ _ m.0 _ m.2 c.in-Ok.ensures.bytes.0) f.2),
+    )
 
 pub returns-in-Some : goal.returns-in-Some
 returns-in-Some g c =
     let m = c.loop.invariant.ran in
-    let f = rw c.in-Some.is at (c.in_ok-n.ensures.ran m.0 m.1 m.4) in
-    let took = Consumes-trans _ _ _ m.0 (take c.in-Ok.n c.read.new.buf) m.2 c.in-Ok.ensures.bytes.0 in
-    (m.1 ++ f.0, Appends-kept _ _ _ (m.1 ++ f.0) (Appends-trans _ _ _ m.1 f.0 m.3 f.1) c.flushed.ensures.0, served_fault _ _ _ (m.1 ++ f.0) c.in-Some.n c.flushed.result took f.2 c.flushed.ensures.1)
+    let f = rw c.in-Some.is at (c.in_ok-n.ensures.ran m.0 m.1 m.4) in (
+      m.1 ++ f.0,
+      Appends-kept _ _ _ (m.1 ++ f.0) (Appends-trans _ _ _ m.1 f.0 m.3 f.1) c.flushed.ensures.0,
+      served_fault _ _ _ (m.1 ++ f.0) c.in-Some.n c.flushed.result (Consumes-trans _ _ _ m.0 _ m.2 c.in-Ok.ensures.bytes.0) f.2 c.flushed.ensures.1,
+    )
 
 pub loop-preserved : goal.loop-preserved
 loop-preserved g c =
     let m = c.loop.invariant.ran in
     let f = rw c.in-None.is at (c.in_ok-n.ensures.ran m.0 m.1 m.4) in
-    let took = Consumes-trans _ _ _ m.0 (take c.in-Ok.n c.read.new.buf) m.2 c.in-Ok.ensures.bytes.0 in
     record {
       room = c.in_ok-n.ensures.room (ap Ok c.in-None.is);
-      ran = (m.0 ++ take c.in-Ok.n c.read.new.buf, m.1 ++ f.0, took, Appends-trans _ _ _ m.1 f.0 m.3 f.1, f.2);
+      ran = (
+        m.0 ++ take c.in-Ok.n c.read.new.buf,
+        m.1 ++ f.0,
+        Consumes-trans _ _ _ m.0 _ m.2 c.in-Ok.ensures.bytes.0,
+        Appends-trans _ _ _ m.1 f.0 m.3 f.1,
+        f.2,
+      );
     }
 
 pub returns : goal.returns

@@ -7,5 +7,6 @@ use Rattle.fc_command.proofs.command.session.Session.run_all.Given as goal
 abbrev pub invariant-loop : goal.invariant-loop
 invariant-loop g l = record {
   room : HasRoom l.self;
-  ran : (seen said : List ℕ) × Consumes (g.R.Read.remaining l.fn.src) (g.R.Read.remaining l.src) seen × Appends (g.W.Write.contents l.fn.out) (g.W.Write.contents l.out) said × IsAfter l.self seen said;
+  ran : (seen said : List ℕ) × Consumes (g.R.Read.remaining l.fn.src) (g.R.Read.remaining l.src) seen
+      × Appends (g.W.Write.contents l.fn.out) (g.W.Write.contents l.out) said × IsAfter l.self seen said;
 }

@@ -9,7 +9,8 @@ invariant-loop-rest g l = record {
   room : HasRoom l.self;
   taken : List ℕ;
   place : l.piece ≡ taken ++ l.rest;
-  ran : (seen said : List ℕ) → IsAfter l.fn.self seen said → (more : List ℕ) × Appends (g.W.Write.contents l.fn.out) (g.W.Write.contents l.out) more × IsAfter l.self (seen ++ taken) (said ++ more);
+  ran : (seen said : List ℕ) → IsAfter l.fn.self seen said → (more : List ℕ) × Appends (g.W.Write.contents l.fn.out) (g.W.Write.contents l.out) more
+      × IsAfter l.self (seen ++ taken) (said ++ more);
 }
 
 abbrev pub decreases-loop-rest : goal.decreases-loop-rest

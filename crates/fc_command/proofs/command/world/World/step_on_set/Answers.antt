@@ -1,8 +1,0 @@
-use Rattle.std.proofs.Common.{refl}
-use Rattle.fc_command.proofs.command.world.World.step_on_set.Goals as goal
-
-pub returns-in-First : goal.returns-in-First
-returns-in-First g c = rw c.in-First.is (c.step_set.ensures, refl, refl)
-
-pub returns-in-Second : goal.returns-in-Second
-returns-in-Second g c = rw c.in-Second.is (c.step_set-in-Second.ensures, refl, refl)
