@@ -7,7 +7,8 @@ use Rattle.fc_tree_search.proofs.NeighbourFacts.{found_from, none_from, way_afte
 use Rattle.fc_tree_search.proofs.neighbours.first_from.Goals as goal
 
 pub returns-in-Ok-clause-value : goal.returns-in-Ok-clause-value
-returns-in-Ok-clause-value g c = found_from g.met.Q.Query.fits (g.Q.Query.sought c.args.key) c.requires.levels c.requires.order c.down.invariant.0.1 c.in-Ok.i c.in-Ok.ensures.found c.pair.result.now c.pair.ensures
+returns-in-Ok-clause-value g c = found_from g.met.Q.Query.fits (g.Q.Query.sought c.args.key) c.requires.levels c.requires.order c.down.invariant.0.1 c.in-Ok.i
+    c.in-Ok.ensures.found c.pair.result.now c.pair.ensures
 
 pub returns-in-Ok-clause-comparisons : goal.returns-in-Ok-clause-comparisons
 returns-in-Ok-clause-comparisons g c =
@@ -22,7 +23,9 @@ returns-in-Ok-clause-bounded g c =
 
 pub returns-then-is_leaf-clause-value : goal.returns-then-is_leaf-clause-value
 returns-then-is_leaf-clause-value g c =
-    c.next_after_child-next.ensures _ c.down.invariant.0.2 ∙ ap first_item (none_from g.met.Q.Query.fits (g.Q.Query.sought c.args.key) c.requires.levels c.requires.order c.down.invariant.0.1 c.in-Err.gap c.in-Err.ensures.gap (c.if-is_leaf.ensures.0 refl))
+    c.next_after_child-next.ensures _ c.down.invariant.0.2 ∙ ap first_item
+    (none_from g.met.Q.Query.fits (g.Q.Query.sought c.args.key) c.requires.levels c.requires.order c.down.invariant.0.1 c.in-Err.gap c.in-Err.ensures.gap
+    (c.if-is_leaf.ensures.0 refl))
 
 pub returns-then-is_leaf-clause-comparisons : goal.returns-then-is_leaf-clause-comparisons
 returns-then-is_leaf-clause-comparisons g c =
@@ -57,5 +60,8 @@ down-preserved g c =
     let there = child_there d.0 node c.in-Err.gap d.2 c.if-is_leaf.ensures.1 c.in-Err.ensures.gap.0 in
     let a = way_ascending _ _ _ c.requires.levels c.requires.order c.down.invariant.0.1 in
     let w = way_more o key c.requires.levels c.requires.order c.down.invariant.0.1 c.in-Err.gap child _ refl c.in-Err.ensures.gap there c.child-node.ensures in
-    let p = passed_down o key node child c.in-Err.gap a c.in-Err.ensures.gap there c.child-node.ensures in
-    ((_, w, c.next_after_child-next.ensures _ c.down.invariant.0.2 ∙ ap first_item (way_after _ _ c.down.invariant.0.1 c.in-Err.gap)), omega (arith, c.in-Err.ensures.comparisons), omega (arith, c.in-Err.ensures.moves))
+    let p = passed_down o key node child c.in-Err.gap a c.in-Err.ensures.gap there c.child-node.ensures in (
+      (_, w, c.next_after_child-next.ensures _ c.down.invariant.0.2 ∙ ap first_item (way_after _ _ c.down.invariant.0.1 c.in-Err.gap)),
+      omega (arith, c.in-Err.ensures.comparisons),
+      omega (arith, c.in-Err.ensures.moves),
+    )

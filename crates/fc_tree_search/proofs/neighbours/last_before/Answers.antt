@@ -12,7 +12,9 @@ last_before_own-requires-clause-levels g c = let d = way_levels _ _ c.requires.l
 
 pub returns-in-Ok-clause-value : goal.returns-in-Ok-clause-value
 returns-in-Ok-clause-value g c =
-    c.last_before_own.ensures (before_gap c.down.invariant.0.0 c.args.root.now) c.down.invariant.0.2 ∙ ap last_item (found_before g.met.Q.Query.fits (g.Q.Query.sought c.args.key) c.requires.levels c.requires.order c.down.invariant.0.1 c.in-Ok.i c.in-Ok.ensures.found)
+    c.last_before_own.ensures (before_gap c.down.invariant.0.0 c.args.root.now) c.down.invariant.0.2
+    ∙ ap last_item (found_before g.met.Q.Query.fits (g.Q.Query.sought c.args.key) c.requires.levels c.requires.order c.down.invariant.0.1 c.in-Ok.i
+    c.in-Ok.ensures.found)
 
 pub last_before_child-last-requires-clause-levels : goal.last_before_child-last-requires-clause-levels
 last_before_child-last-requires-clause-levels g c = let d = way_levels _ _ c.requires.levels c.down.invariant.0.1 in (d.0, d.2)
@@ -30,7 +32,9 @@ returns-in-Ok-clause-bounded g c =
 
 pub returns-then-is_leaf-clause-value : goal.returns-then-is_leaf-clause-value
 returns-then-is_leaf-clause-value g c =
-    c.last_before_child-last.ensures (before_gap c.down.invariant.0.0 c.args.root.now) c.down.invariant.0.2 ∙ ap last_item (none_before g.met.Q.Query.fits (g.Q.Query.sought c.args.key) c.requires.levels c.requires.order c.down.invariant.0.1 c.in-Err.gap c.in-Err.ensures.gap (c.if-is_leaf.ensures.0 refl))
+    c.last_before_child-last.ensures (before_gap c.down.invariant.0.0 c.args.root.now) c.down.invariant.0.2
+    ∙ ap last_item (none_before g.met.Q.Query.fits (g.Q.Query.sought c.args.key) c.requires.levels c.requires.order c.down.invariant.0.1 c.in-Err.gap
+    c.in-Err.ensures.gap (c.if-is_leaf.ensures.0 refl))
 
 pub returns-then-is_leaf-clause-comparisons : goal.returns-then-is_leaf-clause-comparisons
 returns-then-is_leaf-clause-comparisons g c =
@@ -65,5 +69,13 @@ down-preserved g c =
     let there = child_there d.0 node c.in-Err.gap d.2 c.if-is_leaf.ensures.1 c.in-Err.ensures.gap.0 in
     let a = way_ascending _ _ _ c.requires.levels c.requires.order c.down.invariant.0.1 in
     let w = way_more o key c.requires.levels c.requires.order c.down.invariant.0.1 c.in-Err.gap child _ refl c.in-Err.ensures.gap there c.child-node.ensures in
-    let p = passed_down o key node child c.in-Err.gap a c.in-Err.ensures.gap there c.child-node.ensures in
-    ((_, w, c.last_before_child-last.ensures (before_gap c.down.invariant.0.0 c.args.root.now) c.down.invariant.0.2 ∙ ap last_item (way_before _ _ c.down.invariant.0.1 c.in-Err.gap)), omega (arith, c.in-Err.ensures.comparisons), omega (arith, c.in-Err.ensures.moves))
+    let p = passed_down o key node child c.in-Err.gap a c.in-Err.ensures.gap there c.child-node.ensures in (
+      (
+        _,
+        w,
+        c.last_before_child-last.ensures (before_gap c.down.invariant.0.0 c.args.root.now) c.down.invariant.0.2
+            ∙ ap last_item (way_before _ _ c.down.invariant.0.1 c.in-Err.gap),
+      ),
+      omega (arith, c.in-Err.ensures.comparisons),
+      omega (arith, c.in-Err.ensures.moves),
+    )

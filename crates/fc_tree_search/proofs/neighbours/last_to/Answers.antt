@@ -8,7 +8,8 @@ use Rattle.fc_tree_search.proofs.NeighbourFacts.{found_to, none_to, way_before}
 use Rattle.fc_tree_search.proofs.neighbours.last_to.Goals as goal
 
 pub returns-in-Ok-clause-value : goal.returns-in-Ok-clause-value
-returns-in-Ok-clause-value g c = found_to g.met.Q.Query.fits (g.Q.Query.sought c.args.key) c.requires.levels c.requires.order c.down.invariant.0.1 c.in-Ok.i c.in-Ok.ensures.found c.pair.result.now c.pair.ensures
+returns-in-Ok-clause-value g c = found_to g.met.Q.Query.fits (g.Q.Query.sought c.args.key) c.requires.levels c.requires.order c.down.invariant.0.1 c.in-Ok.i
+    c.in-Ok.ensures.found c.pair.result.now c.pair.ensures
 
 pub last_before_child-last-requires-clause-levels : goal.last_before_child-last-requires-clause-levels
 last_before_child-last-requires-clause-levels g c = let d = way_levels _ _ c.requires.levels c.down.invariant.0.1 in (d.0, d.2)
@@ -26,7 +27,9 @@ returns-in-Ok-clause-bounded g c =
 
 pub returns-then-is_leaf-clause-value : goal.returns-then-is_leaf-clause-value
 returns-then-is_leaf-clause-value g c =
-    c.last_before_child-last.ensures (before_gap c.down.invariant.0.0 c.args.root.now) c.down.invariant.0.2 ∙ ap last_item (none_to g.met.Q.Query.fits (g.Q.Query.sought c.args.key) c.requires.levels c.requires.order c.down.invariant.0.1 c.in-Err.gap c.in-Err.ensures.gap (c.if-is_leaf.ensures.0 refl))
+    c.last_before_child-last.ensures (before_gap c.down.invariant.0.0 c.args.root.now) c.down.invariant.0.2
+    ∙ ap last_item (none_to g.met.Q.Query.fits (g.Q.Query.sought c.args.key) c.requires.levels c.requires.order c.down.invariant.0.1 c.in-Err.gap
+    c.in-Err.ensures.gap (c.if-is_leaf.ensures.0 refl))
 
 pub returns-then-is_leaf-clause-comparisons : goal.returns-then-is_leaf-clause-comparisons
 returns-then-is_leaf-clause-comparisons g c =
@@ -61,5 +64,13 @@ down-preserved g c =
     let there = child_there d.0 node c.in-Err.gap d.2 c.if-is_leaf.ensures.1 c.in-Err.ensures.gap.0 in
     let a = way_ascending _ _ _ c.requires.levels c.requires.order c.down.invariant.0.1 in
     let w = way_more o key c.requires.levels c.requires.order c.down.invariant.0.1 c.in-Err.gap child _ refl c.in-Err.ensures.gap there c.child-node.ensures in
-    let p = passed_down o key node child c.in-Err.gap a c.in-Err.ensures.gap there c.child-node.ensures in
-    ((_, w, c.last_before_child-last.ensures (before_gap c.down.invariant.0.0 c.args.root.now) c.down.invariant.0.2 ∙ ap last_item (way_before _ _ c.down.invariant.0.1 c.in-Err.gap)), omega (arith, c.in-Err.ensures.comparisons), omega (arith, c.in-Err.ensures.moves))
+    let p = passed_down o key node child c.in-Err.gap a c.in-Err.ensures.gap there c.child-node.ensures in (
+      (
+        _,
+        w,
+        c.last_before_child-last.ensures (before_gap c.down.invariant.0.0 c.args.root.now) c.down.invariant.0.2
+            ∙ ap last_item (way_before _ _ c.down.invariant.0.1 c.in-Err.gap),
+      ),
+      omega (arith, c.in-Err.ensures.comparisons),
+      omega (arith, c.in-Err.ensures.moves),
+    )

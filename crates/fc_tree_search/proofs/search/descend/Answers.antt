@@ -5,14 +5,23 @@ use Rattle.fc_tree_search.proofs.WayFacts.{path_ends, path_ends_leaf, path_goes_
 use Rattle.fc_tree_search.proofs.search.descend.Goals as goal
 
 pub push-requires : goal.push-requires
-push-requires g c = record { room = way_room _ _ c.requires.levels c.down.invariant.0; small = way_small _ _ c.in-Ok.i c.requires.levels c.down.invariant.0 (let found = c.in-Ok.ensures.found.0 in omega arith) }
+push-requires g c = record {
+  room = way_room _ _ c.requires.levels c.down.invariant.0;
+  small =
+      way_small _ _ c.in-Ok.i c.requires.levels c.down.invariant.0 (let found = c.in-Ok.ensures.found.0 in omega arith);
+}
 
 pub push-requires-in-Err : goal.push-requires-in-Err
-push-requires-in-Err g c = record { room = way_room _ _ c.requires.levels c.down.invariant.0; small = way_small _ _ c.in-Err.i c.requires.levels c.down.invariant.0 c.in-Err.ensures.gap.0 }
+push-requires-in-Err g c = record {
+  room = way_room _ _ c.requires.levels c.down.invariant.0;
+  small =
+      way_small _ _ c.in-Err.i c.requires.levels c.down.invariant.0 c.in-Err.ensures.gap.0;
+}
 
 pub returns-in-Ok-clause-found : goal.returns-in-Ok-clause-found
 returns-in-Ok-clause-found g c =
-    way_found g.met.Q.Query.fits (g.Q.Query.sought c.args.key) c.requires.levels c.requires.order c.down.invariant.0 c.in-Ok.i _ c.push.ensures c.in-Ok.ensures.found
+    way_found g.met.Q.Query.fits (g.Q.Query.sought c.args.key) c.requires.levels c.requires.order c.down.invariant.0 c.in-Ok.i _ c.push.ensures
+    c.in-Ok.ensures.found
 
 pub returns-in-Ok-clause-node : goal.returns-in-Ok-clause-node
 returns-in-Ok-clause-node g c = sym (way_leaf _ _ c.in-Ok.i _ c.push.ensures c.down.invariant.0)
@@ -30,11 +39,13 @@ returns-in-Ok-clause-bounded g c =
 
 pub returns-in-Ok-clause-path : goal.returns-in-Ok-clause-path
 returns-in-Ok-clause-path g c =
-    path_ends g.met.Q.Query.fits (g.Q.Query.sought c.args.key) c.requires.levels c.requires.order c.down.invariant.0 c.down.invariant.3 c.in-Ok.i _ c.push.ensures c.in-Ok.ensures.found
+    path_ends g.met.Q.Query.fits (g.Q.Query.sought c.args.key) c.requires.levels c.requires.order c.down.invariant.0 c.down.invariant.3 c.in-Ok.i _
+    c.push.ensures c.in-Ok.ensures.found
 
 pub returns-then-is_leaf-clause-gap : goal.returns-then-is_leaf-clause-gap
 returns-then-is_leaf-clause-gap g c =
-    way_gap g.met.Q.Query.fits (g.Q.Query.sought c.args.key) c.requires.levels c.requires.order c.down.invariant.0 c.in-Err.i _ c.push-in-Err.ensures c.in-Err.ensures.gap (c.if-is_leaf.ensures.0 refl)
+    way_gap g.met.Q.Query.fits (g.Q.Query.sought c.args.key) c.requires.levels c.requires.order c.down.invariant.0 c.in-Err.i _ c.push-in-Err.ensures
+    c.in-Err.ensures.gap (c.if-is_leaf.ensures.0 refl)
 
 pub returns-then-is_leaf-clause-leaf : goal.returns-then-is_leaf-clause-leaf
 returns-then-is_leaf-clause-leaf g c = sym (way_leaf _ _ c.in-Err.i _ c.push-in-Err.ensures c.down.invariant.0)
@@ -52,7 +63,8 @@ returns-then-is_leaf-clause-bounded g c =
 
 pub returns-then-is_leaf-clause-path : goal.returns-then-is_leaf-clause-path
 returns-then-is_leaf-clause-path g c =
-    path_ends_leaf g.met.Q.Query.fits (g.Q.Query.sought c.args.key) c.requires.levels c.requires.order c.down.invariant.0 c.down.invariant.3 c.in-Err.i _ c.push-in-Err.ensures c.in-Err.ensures.gap (c.if-is_leaf.ensures.0 refl)
+    path_ends_leaf g.met.Q.Query.fits (g.Q.Query.sought c.args.key) c.requires.levels c.requires.order c.down.invariant.0 c.down.invariant.3 c.in-Err.i _
+    c.push-in-Err.ensures c.in-Err.ensures.gap (c.if-is_leaf.ensures.0 refl)
 
 pub child-node-requires : goal.child-node-requires
 child-node-requires g c =
@@ -75,7 +87,9 @@ down-preserved g c =
     let d = way_levels _ _ c.requires.levels c.down.invariant.0 in
     let there = child_there d.0 node c.in-Err.i d.2 c.if-is_leaf.ensures.1 c.in-Err.ensures.gap.0 in
     let a = way_ascending _ _ _ c.requires.levels c.requires.order c.down.invariant.0 in
-    let w = way_more o key c.requires.levels c.requires.order c.down.invariant.0 c.in-Err.i child _ c.push-in-Err.ensures c.in-Err.ensures.gap there c.child-node.ensures in
+    let w = way_more o key c.requires.levels c.requires.order c.down.invariant.0 c.in-Err.i child _ c.push-in-Err.ensures c.in-Err.ensures.gap there
+    c.child-node.ensures in
     let p = passed_down o key node child c.in-Err.i a c.in-Err.ensures.gap there c.child-node.ensures in
-    let q = path_goes_on o key c.requires.levels c.requires.order c.down.invariant.0 c.down.invariant.3 c.in-Err.i child _ c.push-in-Err.ensures c.in-Err.ensures.gap there c.child-node.ensures in
+    let q = path_goes_on o key c.requires.levels c.requires.order c.down.invariant.0 c.down.invariant.3 c.in-Err.i child _ c.push-in-Err.ensures
+    c.in-Err.ensures.gap there c.child-node.ensures in
     (w, omega (arith, c.in-Err.ensures.comparisons), omega (arith, c.in-Err.ensures.moves), q)

@@ -5,7 +5,8 @@ use Rattle.fc_tree_search.proofs.Nodes.{fewer_nodes}
 use Rattle.fc_tree_search.proofs.search.get.Goals as goal
 
 pub returns-in-Ok-clause-value : goal.returns-in-Ok-clause-value
-returns-in-Ok-clause-value g c = value_found g.met.Q.Query.fits (g.Q.Query.sought c.args.key) c.requires.levels c.requires.order c.down.invariant.0.1 c.in-Ok.i c.pair.result.now c.in-Ok.ensures.found c.pair.ensures
+returns-in-Ok-clause-value g c = value_found g.met.Q.Query.fits (g.Q.Query.sought c.args.key) c.requires.levels c.requires.order c.down.invariant.0.1 c.in-Ok.i
+    c.pair.result.now c.in-Ok.ensures.found c.pair.ensures
 
 pub returns-in-Ok-clause-comparisons : goal.returns-in-Ok-clause-comparisons
 returns-in-Ok-clause-comparisons g c =
@@ -19,7 +20,8 @@ returns-in-Ok-clause-bounded g c =
     λ h l. let b = passed_bound g.Q.Query.order (g.Q.Query.sought c.args.key) h c.args.root.now l in omega (arith, e)
 
 pub returns-then-is_leaf-clause-value : goal.returns-then-is_leaf-clause-value
-returns-then-is_leaf-clause-value g c = value_none g.met.Q.Query.fits (g.Q.Query.sought c.args.key) c.requires.levels c.requires.order c.down.invariant.0.1 c.in-Err.gap c.in-Err.ensures.gap (c.if-is_leaf.ensures.0 refl)
+returns-then-is_leaf-clause-value g c = value_none g.met.Q.Query.fits (g.Q.Query.sought c.args.key) c.requires.levels c.requires.order c.down.invariant.0.1
+    c.in-Err.gap c.in-Err.ensures.gap (c.if-is_leaf.ensures.0 refl)
 
 pub returns-then-is_leaf-clause-comparisons : goal.returns-then-is_leaf-clause-comparisons
 returns-then-is_leaf-clause-comparisons g c =

@@ -1,4 +1,5 @@
-use Rattle.std.proofs.Common.{◌≡◌, ◌++◌, suc, take, drop, length-set, length-append, length-take, length-drop, ◌≤◌, sym, ap, ◌+◌, ◌-◌, length, get_or, subst, arith}
+use Rattle.std.proofs.Common.{◌≡◌, ◌++◌, suc, take, drop, length-set, length-append, length-take, length-drop, ◌≤◌, sym, ap, ◌+◌, ◌-◌, length, get_or, subst}
+use Rattle.std.proofs.Common.{arith}
 use Rattle.fc_tree_node.specs.declared.node.Node.{Node}
 use Rattle.fc_tree_node.specs.Node.{own_pairs, child_at}
 use Rattle.fc_tree_node.proofs.Made.{inner_length}
@@ -10,11 +11,17 @@ pub returns-clause-shared : goal.returns-clause-shared
 returns-clause-shared g c =
     let n = inner_length c.args.self.now _ c.in-Some.is c.requires.inner in
     let r = listed_child c.args.self.now c.args.index _ c.in-Some.is (c.args.index + 1) c.remove-right.result (omega arith) c.remove-right.ensures.value in
-    let l = kept_child c.args.self.now c.args.index _ c.in-Some.is _ c.get_mut-left.result.now (omega arith) c.remove-right.ensures.items c.get_mut-left.ensures.value in
-    let P : Node g.row.K.Denot g.row.V.Denot → Node g.row.K.Denot g.row.V.Denot → Type 0 = λ x y. IsBulkTrade (length (own_pairs x) - c.args.n) x y c.send_right.new.self c.send_right.new.right (get_or (own_pairs c.args.self.now) c.args.index) (get_or (own_pairs c.get_mut-left.result.now) (length (own_pairs c.get_mut-left.result.now) - c.args.n)) in
+    let l = kept_child c.args.self.now c.args.index _ c.in-Some.is _ c.get_mut-left.result.now (omega arith) c.remove-right.ensures.items
+    c.get_mut-left.ensures.value in
+    let P : Node g.row.K.Denot g.row.V.Denot → Node g.row.K.Denot g.row.V.Denot → Type 0 =
+    λ x y. IsBulkTrade (length (own_pairs x) - c.args.n) x y c.send_right.new.self c.send_right.new.right (get_or (own_pairs c.args.self.now) c.args.index)
+    (get_or (own_pairs c.get_mut-left.result.now) (length (own_pairs c.get_mut-left.result.now) - c.args.n)) in
     let z = c.send_right.ensures.size in
-    bulk_made c.args.self.now c.args.index _ c.in-Some.is _ _ _ (get_or (own_pairs c.get_mut-left.result.now) (length (own_pairs c.get_mut-left.result.now) - c.args.n)) _ _ _ c.requires.in_bounds (omega arith) c.send_right.ensures.parent c.remove-right.ensures.items c.insert.ensures
-    (subst (λ x. P x (child_at c.args.self.now (c.args.index + 1))) l (subst (P c.get_mut-left.result.now) r (record { own = c.send_right.ensures.pairs; below = c.send_right.ensures.children; size = omega arith; alike = c.send_right.ensures.alike })))
+    bulk_made c.args.self.now c.args.index _ c.in-Some.is _ _ _ (get_or (own_pairs c.get_mut-left.result.now)
+    (length (own_pairs c.get_mut-left.result.now) - c.args.n)) _ _ _ c.requires.in_bounds (omega arith) c.send_right.ensures.parent
+    c.remove-right.ensures.items c.insert.ensures
+    (subst (λ x. P x (child_at c.args.self.now (c.args.index + 1))) l (subst (P c.get_mut-left.result.now) r
+    (record { own = c.send_right.ensures.pairs; below = c.send_right.ensures.children; size = omega arith; alike = c.send_right.ensures.alike })))
 
 pub returns-clause-inner : goal.returns-clause-inner
 returns-clause-inner g c = shared_inner _ _ c.requires.inner c.requires.in_bounds _ _ (returns-clause-shared g c)
@@ -25,14 +32,24 @@ returns-clause-all_pairs g c = shared_pairs _ _ c.requires.inner c.requires.in_b
 pub send_right-requires-clause-some : goal.send_right-requires-clause-some
 send_right-requires-clause-some g c =
     let n = inner_length c.args.self.now _ c.in-Some.is c.requires.inner in
-    let l = kept_child c.args.self.now c.args.index _ c.in-Some.is _ c.get_mut-left.result.now (omega arith) c.remove-right.ensures.items c.get_mut-left.ensures.value in
+    let l = kept_child c.args.self.now c.args.index _ c.in-Some.is _ c.get_mut-left.result.now (omega arith) c.remove-right.ensures.items
+    c.get_mut-left.ensures.value in
     (c.requires.some.0, subst (λ x. c.args.n ≤ length (own_pairs x)) (sym l) c.requires.some.1)
 
 pub insert-requires-clause-room : goal.insert-requires-clause-room
 insert-requires-clause-room g c =
     let n = inner_length c.args.self.now _ c.in-Some.is c.requires.inner in let cs = c.in-Some.children in let i = c.args.index in
     let gone : length c.remove-right.new.self ≡ length (take (i + 1) cs ++ drop (suc (i + 1)) cs) = ap length c.remove-right.ensures.items in
-    omega (arith, length-set c.remove-right.new.self i c.send_right.new.self, length-append (take (i + 1) cs) (drop (suc (i + 1)) cs), length-take (i + 1) cs, length-drop (suc (i + 1)) cs, c.len.ensures.fits, c.len.ensures.value, c.requires.in_bounds)
+    omega (
+      arith,
+      length-set c.remove-right.new.self i c.send_right.new.self,
+      length-append (take (i + 1) cs) (drop (suc (i + 1)) cs),
+      length-take (i + 1) cs,
+      length-drop (suc (i + 1)) cs,
+      c.len.ensures.fits,
+      c.len.ensures.value,
+      c.requires.in_bounds,
+    )
 
 pub returns-clause-moves : goal.returns-clause-moves
 returns-clause-moves g c =

@@ -8,22 +8,26 @@ pub join-requires-clause-alike : goal.join-requires-clause-alike
 join-requires-clause-alike g c =
     let n = inner_length c.args.self.now _ c.in-Some.is c.requires.inner in
     let r = listed_child c.args.self.now c.args.index _ c.in-Some.is (c.args.index + 1) c.remove-right.result (omega arith) c.remove-right.ensures.value in
-    let l = kept_child c.args.self.now c.args.index _ c.in-Some.is _ c.get_mut-left.result.now (omega arith) c.remove-right.ensures.items c.get_mut-left.ensures.value in
+    let l = kept_child c.args.self.now c.args.index _ c.in-Some.is _ c.get_mut-left.result.now (omega arith) c.remove-right.ensures.items
+    c.get_mut-left.ensures.value in
     rw (l, r) c.requires.alike
 
 pub join-requires-clause-room : goal.join-requires-clause-room
 join-requires-clause-room g c =
     let n = inner_length c.args.self.now _ c.in-Some.is c.requires.inner in
     let r = listed_child c.args.self.now c.args.index _ c.in-Some.is (c.args.index + 1) c.remove-right.result (omega arith) c.remove-right.ensures.value in
-    let l = kept_child c.args.self.now c.args.index _ c.in-Some.is _ c.get_mut-left.result.now (omega arith) c.remove-right.ensures.items c.get_mut-left.ensures.value in
+    let l = kept_child c.args.self.now c.args.index _ c.in-Some.is _ c.get_mut-left.result.now (omega arith) c.remove-right.ensures.items
+    c.get_mut-left.ensures.value in
     rw (l, r) c.requires.room
 
 pub returns-clause-merged : goal.returns-clause-merged
 returns-clause-merged g c =
     let n = inner_length c.args.self.now _ c.in-Some.is c.requires.inner in
     let r = listed_child c.args.self.now c.args.index _ c.in-Some.is (c.args.index + 1) c.remove-right.result (omega arith) c.remove-right.ensures.value in
-    let l = kept_child c.args.self.now c.args.index _ c.in-Some.is _ c.get_mut-left.result.now (omega arith) c.remove-right.ensures.items c.get_mut-left.ensures.value in
-    merge_made c.args.self.now c.args.index _ c.in-Some.is _ c.remove-pair.result _ _ c.requires.in_bounds c.remove-pair.ensures.items c.remove-right.ensures.items c.remove-pair.ensures.value
+    let l = kept_child c.args.self.now c.args.index _ c.in-Some.is _ c.get_mut-left.result.now (omega arith) c.remove-right.ensures.items
+    c.get_mut-left.ensures.value in
+    merge_made c.args.self.now c.args.index _ c.in-Some.is _ c.remove-pair.result _ _ c.requires.in_bounds c.remove-pair.ensures.items
+    c.remove-right.ensures.items c.remove-pair.ensures.value
     (rw (← l, ← r) c.join.ensures.pairs) (rw (← l, ← r) c.join.ensures.children) (rw (← l) c.join.ensures.alike)
 
 pub returns-clause-inner : goal.returns-clause-inner
