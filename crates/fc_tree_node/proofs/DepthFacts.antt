@@ -11,7 +11,6 @@ use Rattle.fc_tree_node.specs.Weave.{weave, after_list}
 use Rattle.fc_tree_node.specs.declared.node.Node.{Node}
 use Rattle.fc_tree_node.specs.Node.{own_pairs, children_of, pairs_of, IsLevelled, IsSoundRoot}
 use Rattle.fc_tree_node.specs.Depth.{IsDeep}
-use Rattle.fc_tree_node.specs.Node.{IsTree}
 use Rattle.fc_tree_node.proofs.Pairs.{pairs_is, leaf_pairs, IsBelow}
 
 -- what so many nodes below, or twice as many, come to a level higher
