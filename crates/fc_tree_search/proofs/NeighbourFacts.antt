@@ -1,24 +1,22 @@
 -- The first pair after a place of a tree and the last before it, and the parts of a list up to a key and from it on.
-use Rattle.std.proofs.Common.{◌≡◌, ℕ, zero, suc, ◌+◌, ◌-◌, ◌<◌, ◌≤◌, List, [], ◌∷◌, ◌++◌, length, get_or, slice_get, Some, refl, sym, ap, ◌∙◌, arith, add-one}
+use Rattle.std.proofs.Common.{◌≡◌, ℕ, zero, suc, ◌+◌, ◌-◌, ◌<◌, List, [], ◌∷◌, ◌++◌, length, get_or, slice_get, Some, refl, sym, ap, ◌∙◌, arith, add-one}
 use Rattle.std.proofs.Common.{append_assoc, append-nil, length-append}
 use Rattle.std.specs.Ordering.{is_le, is_ge}
 use Rattle.std.specs.declared.cmp.Ordering.{Ordering}
 use Rattle.std.specs.declared.cmp.Ordering.TheVariants.{Equal}
 use Rattle.std.proofs.lemmas.List.{append_cancel_left, append_cancel_right}
 use Rattle.std.proofs.lemmas.List.Elements.{filter-append}
-use Rattle.fc_base.specs.Ascending.{IsAscending}
 use Rattle.fc_base.specs.Halves.{not_below}
 use Rattle.fc_base.specs.Parts.{below, above}
-use Rattle.fc_base.specs.Query.{IsQueryOrder}
 use Rattle.fc_tree_node.specs.declared.node.Node.{Node}
-use Rattle.fc_tree_node.specs.Node.{own_pairs, child_at, pairs_of, IsLeaf, IsInner, IsLevelled, IsTree}
+use Rattle.fc_tree_node.specs.Node.{own_pairs, child_at, pairs_of, IsLeaf, IsInner, IsLevelled}
 use Rattle.fc_tree_node.specs.Path.{before_gap, after_gap}
 use Rattle.fc_tree_node.specs.Place.{before_child, after_child, before_own, after_own, place_pair, before_pair, after_pair}
-use Rattle.fc_tree_node.proofs.Gaps.{leaf_gap, inner_gap, own_pair, before_child_pair, after_child_pair, after_none, item_there, place_pairs, gap_pairs}
+use Rattle.fc_tree_node.proofs.Gaps.{leaf_gap, inner_gap, own_pair, before_child_pair, after_child_pair, item_there, place_pairs, gap_pairs}
 use Rattle.fc_tree_node.proofs.Gaps.{before_more, after_more, pair_more, before_own_more, after_own_more}
 use Rattle.fc_tree_search.specs.Found.{AllBelow, AllAbove, IsFoundAt, IsGapAt, IsFound, IsGap}
 use Rattle.fc_tree_search.specs.Neighbours.{first_item, last_item, not_above}
-use Rattle.fc_tree_search.proofs.SearchFacts.{IsOnWay, way_gap, way_found, found_at, gap_at}
+use Rattle.fc_tree_search.proofs.SearchFacts.{IsOnWay, IsSearch, way_gap, way_found, found_at, gap_at}
 
 module _ {X : Type 0} where
   last_past : (xs : List X) (x : X) → slice_get (xs ++ x ∷ []) (length xs) ≡ Some x
@@ -147,21 +145,21 @@ module _ {K Q V : Type 0} (cmp : K → Q → Ordering) (k : Q) {root node : Node
   way_before = sym (before_more path i root ∙ ap (λ n. before_gap path root ++ before_child n i) (sym w.here))
 
 -- where a way down ends
-module _ {K Q V : Type 0} {own : K → K → Ordering} {cmp : K → Q → Ordering} (o : IsQueryOrder own cmp) (k : Q) {root node : Node K V} {path : List ℕ}
-    (t : IsTree root) (a : IsAscending own (pairs_of root)) (w : IsOnWay cmp k root node path) where
+module _ {K Q V : Type 0} {own : K → K → Ordering} {cmp : K → Q → Ordering} {k : Q} {root node : Node K V} {path : List ℕ}
+    (on : IsSearch own cmp k root node path) where
   -- in a gap of a leaf
   module _ (i : ℕ) (f : IsGapAt cmp k (own_pairs node) i) (leaf : IsLeaf node) where
     here : IsGap cmp k root (path ++ i ∷ [])
-    here = way_gap o k t a w i _ refl f leaf
+    here = way_gap on i _ refl f leaf
 
     whole : pairs_of root ≡ before_gap (path ++ i ∷ []) root ++ after_gap (path ++ i ∷ []) root
-    whole = gap_pairs (path ++ i ∷ []) t.0 root t.2 (here.levels t.0 t.2) here.way
+    whole = gap_pairs (path ++ i ∷ []) on.levels.0 root on.levels.2 (here.levels on.levels.0 on.levels.2) here.way
 
     after : after_child node i ++ after_gap path root ≡ after_gap (path ++ i ∷ []) root
-    after = way_after cmp k w i
+    after = way_after cmp k on.way i
 
     before : before_gap path root ++ before_child node i ≡ before_gap (path ++ i ∷ []) root
-    before = way_before cmp k w i
+    before = way_before cmp k on.way i
 
     pub none_from : after_child node i ++ after_gap path root ≡ not_below cmp (pairs_of root) k
     none_from = after ∙ sym (gap_from cmp k _ _ here.front here.back).0 ∙ ap (λ s. not_below cmp s k) (sym whole)
@@ -170,31 +168,31 @@ module _ {K Q V : Type 0} {own : K → K → Ordering} {cmp : K → Q → Orderi
     none_to = before ∙ sym (gap_from cmp k _ _ here.front here.back).1 ∙ ap (λ s. not_above cmp s k) (sym whole)
 
     pub none_after : after_child node i ++ after_gap path root ≡ above cmp (pairs_of root) k
-    none_after = after ∙ sym (gap_at cmp k (path ++ i ∷ []) t.0 root t.2 here).upper
+    none_after = after ∙ sym (gap_at cmp k (path ++ i ∷ []) on.levels.0 root on.levels.2 here).upper
 
     pub none_before : before_gap path root ++ before_child node i ≡ below cmp (pairs_of root) k
-    none_before = before ∙ sym (gap_at cmp k (path ++ i ∷ []) t.0 root t.2 here).lower
+    none_before = before ∙ sym (gap_at cmp k (path ++ i ∷ []) on.levels.0 root on.levels.2 here).lower
 
   -- at a pair
   module _ (i : ℕ) (f : IsFoundAt cmp k (own_pairs node) i) where
     there : IsFound cmp k root (path ++ i ∷ [])
-    there = way_found o k t a w i _ refl f
+    there = way_found on i _ refl f
 
     after_own_pair : after_own node i ++ after_gap path root ≡ after_pair (path ++ i ∷ []) root
-    after_own_pair = sym (after_own_more path i root ∙ ap (λ n. after_own n i ++ after_gap path root) (sym w.here))
+    after_own_pair = sym (after_own_more path i root ∙ ap (λ n. after_own n i ++ after_gap path root) (sym on.way.here))
 
     before_own_pair : before_gap path root ++ before_own node i ≡ before_pair (path ++ i ∷ []) root
-    before_own_pair = sym (before_own_more path i root ∙ ap (λ n. before_gap path root ++ before_own n i) (sym w.here))
+    before_own_pair = sym (before_own_more path i root ∙ ap (λ n. before_gap path root ++ before_own n i) (sym on.way.here))
 
     pub found_after : after_own node i ++ after_gap path root ≡ above cmp (pairs_of root) k
-    found_after = after_own_pair ∙ sym (found_at cmp k (path ++ i ∷ []) t.0 root t.2 there).upper
+    found_after = after_own_pair ∙ sym (found_at cmp k (path ++ i ∷ []) on.levels.0 root on.levels.2 there).upper
 
     pub found_before : before_gap path root ++ before_own node i ≡ below cmp (pairs_of root) k
-    found_before = before_own_pair ∙ sym (found_at cmp k (path ++ i ∷ []) t.0 root t.2 there).lower
+    found_before = before_own_pair ∙ sym (found_at cmp k (path ++ i ∷ []) on.levels.0 root on.levels.2 there).lower
 
     module _ (p : K × V) (e : p ≡ get_or (own_pairs node) i p) where
       is : place_pair (path ++ i ∷ []) root ≡ Some p
-      is = let x = item_there (own_pairs node) i f.0 in pair_more path i root ∙ ap (λ n. slice_get (own_pairs n) i) (sym w.here) ∙ x.2
+      is = let x = item_there (own_pairs node) i f.0 in pair_more path i root ∙ ap (λ n. slice_get (own_pairs n) i) (sym on.way.here) ∙ x.2
           ∙ ap Some (sym (x.1 p) ∙ sym e)
 
       equal : cmp p.0 k ≡ Equal
@@ -202,7 +200,7 @@ module _ {K Q V : Type 0} {own : K → K → Ordering} {cmp : K → Q → Orderi
 
       cut : pairs_of root ≡ before_pair (path ++ i ∷ []) root ++ p ∷ after_pair (path ++ i ∷ []) root
       cut =
-          let c = place_pairs (path ++ i ∷ []) t.0 root t.2 there.place in
+          let c = place_pairs (path ++ i ∷ []) on.levels.0 root on.levels.2 there.place in
           let both : Some c.pair ≡ Some p = sym c.is ∙ is in
           let q : c.pair ≡ p = cc in
           c.parts ∙ ap (λ x. before_pair (path ++ i ∷ []) root ++ x ∷ after_pair (path ++ i ∷ []) root) q

@@ -62,6 +62,13 @@ pub record IsOnWay {K Q V : Type 0} (cmp : K → Q → Ordering) (k : Q) (root n
   pub front : AllBelow cmp k (before_gap path root)
   pub back : AllAbove cmp k (after_gap path root)
 
+-- a search for the key, down an ascending tree, has come to the node
+pub record IsSearch {K Q V : Type 0} (own : K → K → Ordering) (cmp : K → Q → Ordering) (k : Q) (root node : Node K V) (path : List ℕ) : Type 0 where
+  pub fits : IsQueryOrder own cmp
+  pub levels : IsTree root
+  pub order : IsAscending own (pairs_of root)
+  pub way : IsOnWay cmp k root node path
+
 module _ {K Q V : Type 0} (cmp : K → Q → Ordering) (k : Q) where
   -- the levels of the node that a search has come to
   pub way_levels : {root node : Node K V} {path : List ℕ} (t : IsTree root) → IsOnWay cmp k root node path
@@ -114,74 +121,75 @@ module _ {K Q V : Type 0} {own : K → K → Ordering} {cmp : K → Q → Orderi
       let b = subst (IsAscending own) (own_pair h n i t.0 l lt) a in
       subst (AllAbove cmp k) (sym (after_child_pair n i t.0 lt)) (side_upper o k (before_own n i) (after_own n i) p b (f.2 t.0 lt))
 
-  module _ {root node : Node K V} {path : List ℕ} (t : IsTree root) (a : IsAscending own (pairs_of root)) (w : IsOnWay cmp k root node path) where
-    -- the path, with a gap of the node as its last step
-    way_front : (i : ℕ) → IsGapAt cmp k (own_pairs node) i → AllBelow cmp k (before_gap (path ++ i ∷ []) root)
-    way_front i f =
-        let d = way_levels cmp k t w in
-        let b = before_below d.0 node i d.2 (way_ascending cmp k own t a w) f in
-        subst (AllBelow cmp k) (sym (before_more path i root ∙ ap (λ n. before_gap path root ++ before_child n i) (sym w.here)))
-        (all_both (λ x. cmp x.0 k ≡ Less) (before_gap path root) (before_child node i) w.front b)
+module _ {K Q V : Type 0} {own : K → K → Ordering} {cmp : K → Q → Ordering} {k : Q} {root node : Node K V} {path : List ℕ}
+    (on : IsSearch own cmp k root node path) where
+  -- the path, with a gap of the node as its last step
+  way_front : (i : ℕ) → IsGapAt cmp k (own_pairs node) i → AllBelow cmp k (before_gap (path ++ i ∷ []) root)
+  way_front i f =
+      let d = way_levels cmp k on.levels on.way in
+      let b = before_below on.fits k d.0 node i d.2 (way_ascending cmp k own on.levels on.order on.way) f in
+      subst (AllBelow cmp k) (sym (before_more path i root ∙ ap (λ n. before_gap path root ++ before_child n i) (sym on.way.here)))
+      (all_both (λ x. cmp x.0 k ≡ Less) (before_gap path root) (before_child node i) on.way.front b)
 
-    way_back : (i : ℕ) → IsGapAt cmp k (own_pairs node) i → AllAbove cmp k (after_gap (path ++ i ∷ []) root)
-    way_back i f =
-        let d = way_levels cmp k t w in
-        let b = rest_above d.0 node i d.2 (way_ascending cmp k own t a w) f (cases_lt i (length (own_pairs node))) in
-        subst (AllAbove cmp k) (sym (after_more path i root ∙ ap (λ n. after_child n i ++ after_gap path root) (sym w.here)))
-        (all_both (λ x. cmp x.0 k ≡ Greater) (after_child node i) (after_gap path root) b w.back)
+  way_back : (i : ℕ) → IsGapAt cmp k (own_pairs node) i → AllAbove cmp k (after_gap (path ++ i ∷ []) root)
+  way_back i f =
+      let d = way_levels cmp k on.levels on.way in
+      let b = rest_above on.fits k d.0 node i d.2 (way_ascending cmp k own on.levels on.order on.way) f (cases_lt i (length (own_pairs node))) in
+      subst (AllAbove cmp k) (sym (after_more path i root ∙ ap (λ n. after_child n i ++ after_gap path root) (sym on.way.here)))
+      (all_both (λ x. cmp x.0 k ≡ Greater) (after_child node i) (after_gap path root) b on.way.back)
 
-    -- the search goes on in a child
-    pub way_more : (i : ℕ) (child : Node K V) (more : List ℕ) → more ≡ path ++ i ∷ [] → IsGapAt cmp k (own_pairs node) i → i < length (children_of node)
-        → child ≡ child_at node i → IsOnWay cmp k root child more
-    way_more i child more is f lt e = subst (IsOnWay cmp k root child) (sym is) record {
-      descent = descent_more path i root w.descent (subst (λ n. i < length (children_of n)) w.here lt);
-      here = e ∙ ap (λ n. child_at n i) w.here ∙ sym (node_more path i root);
-      front = way_front i f;
-      back = way_back i f;
-    }
+  -- the search goes on in a child
+  pub way_more : (i : ℕ) (child : Node K V) (more : List ℕ) → more ≡ path ++ i ∷ [] → IsGapAt cmp k (own_pairs node) i → i < length (children_of node)
+      → child ≡ child_at node i → IsOnWay cmp k root child more
+  way_more i child more is f lt e = subst (IsOnWay cmp k root child) (sym is) record {
+    descent = descent_more path i root on.way.descent (subst (λ n. i < length (children_of n)) on.way.here lt);
+    here = e ∙ ap (λ n. child_at n i) on.way.here ∙ sym (node_more path i root);
+    front = way_front i f;
+    back = way_back i f;
+  }
 
-    -- the search ends at a gap of a leaf
-    pub way_gap : (i : ℕ) (more : List ℕ) → more ≡ path ++ i ∷ [] → IsGapAt cmp k (own_pairs node) i → IsLeaf node → IsGap cmp k root more
-    way_gap i more is f leaf = subst (IsGap cmp k root) (sym is) record {
-      way = path_more path i t.0 root t.2 w.descent (subst (λ n. i ≤ length (own_pairs n)) w.here f.0);
-      levels = λ h l. let d = descent_levels path h root l w.descent in last h d.0 d.1 (subst (IsLevelled d.0) (sym w.here) d.2);
-      front = way_front i f;
-      back = way_back i f;
-    }
-      where
-        last : (g j : ℕ) → length path + j ≡ g → IsLevelled j node → length (path ++ i ∷ []) ≡ g + 1
-        last g zero e m = omega (arith, length-append path (i ∷ []))
-        last g (suc j) e m =
-            let inner : length (children_of node) ≡ length (own_pairs node) + 1 = m.1 in
-            let none : length (children_of node) ≡ 0 = ap length (leaf_children node leaf) in
-            absurd (omega arith)
+  -- the search ends at a gap of a leaf
+  pub way_gap : (i : ℕ) (more : List ℕ) → more ≡ path ++ i ∷ [] → IsGapAt cmp k (own_pairs node) i → IsLeaf node → IsGap cmp k root more
+  way_gap i more is f leaf = subst (IsGap cmp k root) (sym is) record {
+    way = path_more path i on.levels.0 root on.levels.2 on.way.descent (subst (λ n. i ≤ length (own_pairs n)) on.way.here f.0);
+    levels = λ h l. let d = descent_levels path h root l on.way.descent in last h d.0 d.1 (subst (IsLevelled d.0) (sym on.way.here) d.2);
+    front = way_front i f;
+    back = way_back i f;
+  }
+    where
+      last : (g j : ℕ) → length path + j ≡ g → IsLevelled j node → length (path ++ i ∷ []) ≡ g + 1
+      last g zero e m = omega (arith, length-append path (i ∷ []))
+      last g (suc j) e m =
+          let inner : length (children_of node) ≡ length (own_pairs node) + 1 = m.1 in
+          let none : length (children_of node) ≡ 0 = ap length (leaf_children node leaf) in
+          absurd (omega arith)
 
-    -- the search ends at a pair of the node
-    pub way_found : (i : ℕ) (more : List ℕ) → more ≡ path ++ i ∷ [] → IsFoundAt cmp k (own_pairs node) i → IsFound cmp k root more
-    way_found i more same f =
-        let d = way_levels cmp k t w in
-        let x = item_there (own_pairs node) i f.0 in
-        let p = x.0 in
-        let cut : pairs_of node ≡ before_own node i ++ p ∷ after_own node i = own_pair d.0 node i p d.2 f.0
-        ∙ ap (λ z. before_own node i ++ z ∷ after_own node i) (x.1 p) in
-        let whole : pairs_of root ≡ (before_gap path root ++ before_own node i) ++ p ∷ (after_own node i ++ after_gap path root) =
-        descent_pairs path t.0 root t.2 w.descent
-        ∙ ap (λ n. before_gap path root ++ (pairs_of n ++ after_gap path root)) (sym w.here)
-        ∙ ap (λ s. before_gap path root ++ (s ++ after_gap path root)) cut
-        ∙ regroup (before_gap path root) (before_own node i) (after_own node i) (after_gap path root) p in
-        let equal : cmp p.0 k ≡ Equal = ap (λ x. cmp x.0 k) (sym (x.1 p)) ∙ f.2 p in
-        let sides = sides_equal o k (before_gap path root ++ before_own node i) (after_own node i ++ after_gap path root) p (subst (IsAscending own) whole a)
-        equal in
-        let is : place_pair (path ++ i ∷ []) root ≡ Some p = pair_more path i root ∙ ap (λ n. slice_get (own_pairs n) i) (sym w.here) ∙ x.2 in
-        subst (IsFound cmp k root) (sym same) record {
-          place = place_more path i root w.descent (subst (λ n. i < length (own_pairs n)) w.here f.0);
-          equal = subst (λ x. IfSome x (λ e. cmp e.0 k ≡ Equal)) (sym is) equal;
-          before = subst (AllBelow cmp k) (sym (before_own_more path i root ∙ ap (λ n. before_gap path root ++ before_own n i) (sym w.here))) sides.0;
-          after = subst (AllAbove cmp k) (sym (after_own_more path i root ∙ ap (λ n. after_own n i ++ after_gap path root) (sym w.here))) sides.1;
-        }
-      where
-        regroup : (x y z u : List (K × V)) (p : K × V) → x ++ ((y ++ p ∷ z) ++ u) ≡ (x ++ y) ++ p ∷ (z ++ u)
-        regroup x y z u p = simp append_assoc
+  -- the search ends at a pair of the node
+  pub way_found : (i : ℕ) (more : List ℕ) → more ≡ path ++ i ∷ [] → IsFoundAt cmp k (own_pairs node) i → IsFound cmp k root more
+  way_found i more same f =
+      let d = way_levels cmp k on.levels on.way in
+      let x = item_there (own_pairs node) i f.0 in
+      let p = x.0 in
+      let cut : pairs_of node ≡ before_own node i ++ p ∷ after_own node i = own_pair d.0 node i p d.2 f.0
+      ∙ ap (λ z. before_own node i ++ z ∷ after_own node i) (x.1 p) in
+      let whole : pairs_of root ≡ (before_gap path root ++ before_own node i) ++ p ∷ (after_own node i ++ after_gap path root) =
+      descent_pairs path on.levels.0 root on.levels.2 on.way.descent
+      ∙ ap (λ n. before_gap path root ++ (pairs_of n ++ after_gap path root)) (sym on.way.here)
+      ∙ ap (λ s. before_gap path root ++ (s ++ after_gap path root)) cut
+      ∙ regroup (before_gap path root) (before_own node i) (after_own node i) (after_gap path root) p in
+      let equal : cmp p.0 k ≡ Equal = ap (λ x. cmp x.0 k) (sym (x.1 p)) ∙ f.2 p in
+      let sides = sides_equal on.fits k (before_gap path root ++ before_own node i) (after_own node i ++ after_gap path root) p
+      (subst (IsAscending own) whole on.order) equal in
+      let is : place_pair (path ++ i ∷ []) root ≡ Some p = pair_more path i root ∙ ap (λ n. slice_get (own_pairs n) i) (sym on.way.here) ∙ x.2 in
+      subst (IsFound cmp k root) (sym same) record {
+        place = place_more path i root on.way.descent (subst (λ n. i < length (own_pairs n)) on.way.here f.0);
+        equal = subst (λ x. IfSome x (λ e. cmp e.0 k ≡ Equal)) (sym is) equal;
+        before = subst (AllBelow cmp k) (sym (before_own_more path i root ∙ ap (λ n. before_gap path root ++ before_own n i) (sym on.way.here))) sides.0;
+        after = subst (AllAbove cmp k) (sym (after_own_more path i root ∙ ap (λ n. after_own n i ++ after_gap path root) (sym on.way.here))) sides.1;
+      }
+    where
+      regroup : (x y z u : List (K × V)) (p : K × V) → x ++ ((y ++ p ∷ z) ++ u) ≡ (x ++ y) ++ p ∷ (z ++ u)
+      regroup x y z u p = simp append_assoc
 
 module _ {K Q V : Type 0} (cmp : K → Q → Ordering) (k : Q) where
   -- what a path to a found pair says of the tree's list
@@ -209,7 +217,7 @@ module _ {K Q V : Type 0} (cmp : K → Q → Ordering) (k : Q) where
         here = ap (λ s. at cmp s k) e ∙ r.here;
       }
 
-  -- the list without the pair at a key, where there is one and where there is none
+  -- the list without the pair at a key, where there is one
   pub found_cut : (path : List ℕ) (h : ℕ) (root : Node K V) → IsLevelled h root → IsFound cmp k root path
       → cut cmp (pairs_of root) k ≡ before_pair path root ++ after_pair path root
   found_cut path h root l f = let a = found_at path h root l f in ap (λ s. s ++ above cmp (pairs_of root) k) a.lower
@@ -225,17 +233,17 @@ module _ {K V : Type 0} (cmp : K → K → Ordering) (k : K) where
       ∙ ap (λ x. before_gap path root ++ (unwrap_or (option_map (λ e. e.0) x) k, v) ∷ above cmp (pairs_of root) k) a.here
       ∙ ap (λ s. before_gap path root ++ (k, v) ∷ s) a.upper
 
-module _ {K Q V : Type 0} {own : K → K → Ordering} {cmp : K → Q → Ordering} (o : IsQueryOrder own cmp) (k : Q) {root node : Node K V} {path : List ℕ}
-    (t : IsTree root) (a : IsAscending own (pairs_of root)) (w : IsOnWay cmp k root node path) where
+module _ {K Q V : Type 0} {own : K → K → Ordering} {cmp : K → Q → Ordering} {k : Q} {root node : Node K V} {path : List ℕ}
+    (on : IsSearch own cmp k root node path) where
   -- what the look-up of the key gives, where the search ends at a pair
   pub value_found : (i : ℕ) (p : K × V) → IsFoundAt cmp k (own_pairs node) i → p ≡ get_or (own_pairs node) i p → Some p ≡ at cmp (pairs_of root) k
   value_found i p f e =
       let x = item_there (own_pairs node) i f.0 in
-      let is : place_pair (path ++ i ∷ []) root ≡ Some p = pair_more path i root ∙ ap (λ n. slice_get (own_pairs n) i) (sym w.here) ∙ x.2
+      let is : place_pair (path ++ i ∷ []) root ≡ Some p = pair_more path i root ∙ ap (λ n. slice_get (own_pairs n) i) (sym on.way.here) ∙ x.2
       ∙ ap Some (sym (x.1 p) ∙ sym e) in
-      let r = found_at cmp k (path ++ i ∷ []) t.0 root t.2 (way_found o k t a w i _ refl f) in
+      let r = found_at cmp k (path ++ i ∷ []) on.levels.0 root on.levels.2 (way_found on i _ refl f) in
       sym (r.here ∙ is)
 
   -- and where it ends at a gap of a leaf
   pub value_none : (i : ℕ) → IsGapAt cmp k (own_pairs node) i → IsLeaf node → None ≡ at cmp (pairs_of root) k
-  value_none i f leaf = let r = gap_at cmp k (path ++ i ∷ []) t.0 root t.2 (way_gap o k t a w i _ refl f leaf) in sym r.here
+  value_none i f leaf = let r = gap_at cmp k (path ++ i ∷ []) on.levels.0 root on.levels.2 (way_gap on i _ refl f leaf) in sym r.here
