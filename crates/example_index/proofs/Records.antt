@@ -15,7 +15,8 @@ use Rattle.std.proofs.lemmas.Map.Lookups.{exact_unsigned, exact_bytes}
 use Rattle.fallible_collections.specs.Words.{value_at}
 use Rattle.fallible_collections.specs.Words.{put, cut}
 use Rattle.fallible_collections.specs.Words.{IsQueryOrder, text_order}
-use Rattle.fallible_collections.proofs.Laws.{value_at_put, value_at_put_other, value_at_put_query, value_at_put_other_query, at_cut, value_at_cut_other, value_at_query, cut_query}
+use Rattle.fallible_collections.proofs.Laws.{value_at_put, value_at_put_other, value_at_put_query, value_at_put_other_query, at_cut, value_at_cut_other}
+use Rattle.fallible_collections.proofs.Laws.{value_at_query, cut_query}
 use Rattle.example_index.specs.Records.{name_of, id_of, InStep}
 
 -- Where a test for a key failed, nothing stands there.
@@ -59,7 +60,8 @@ module _ {A : Type 0} where
     same = λ q x y e. equal_right (string_bytes x) (string_bytes y) q e;
     lower = λ q x y l e. nat_list_cmp_total.trans (string_bytes x) (string_bytes y) q l e;
     past = λ q x y l e. equal_right (string_bytes x) (string_bytes y) q e ∙ over (string_bytes x) (string_bytes y) l;
-    upper = λ q x y l g. over q (string_bytes y) (nat_list_cmp_total.trans q (string_bytes x) (string_bytes y) (nat_list_cmp_total.antisymm q (string_bytes x) ∙ ap ordering_reverse g) l);
+    upper = λ q x y l g. over q (string_bytes y) (nat_list_cmp_total.trans q (string_bytes x) (string_bytes y)
+        (nat_list_cmp_total.antisymm q (string_bytes x) ∙ ap ordering_reverse g) l);
   }
 
   is_text : (t : String A) (n : List ℕ) → string_bytes t ≡ n → text_order t n ≡ Equal
@@ -91,7 +93,8 @@ module _ {A : Type 0} where
   found [] n v h = absurd cc
   found (e ∷ ids) n v h = go (found ids n v) (text_order e.0 n) refl
     where
-      go : (id_of ids n ≡ Some v → (t : String A) × (text_order t n ≡ Equal)) → (o : Ordering) → text_order e.0 n ≡ o → (t : String A) × (text_order t n ≡ Equal)
+      go : (id_of ids n ≡ Some v → (t : String A) × (text_order t n ≡ Equal)) → (o : Ordering) → text_order e.0 n ≡ o
+          → (t : String A) × (text_order t n ≡ Equal)
       go more Less q = more (rw q at h)
       go more Equal q = (e.0, q)
       go more Greater q = more (rw q at h)
@@ -99,9 +102,13 @@ module _ {A : Type 0} where
   module _ (ids : List (String A × ℕ)) (t : String A) (n : List ℕ) (d : n ≢ string_bytes t) where
     by_key : (u : String A) → text_order u n ≡ Equal → id_of (cut text_order ids (string_bytes t)) n ≡ id_of ids n
     by_key u e =
-        let key : cut text_order ids (string_bytes t) ≡ cut name_cmp ids t = cut_query name_cmp text_order ids t (string_bytes t) texts (is_text t (string_bytes t) refl) in
-        let other : value_at name_cmp (cut name_cmp ids t) u ≡ value_at name_cmp ids u = value_at_cut_other name_cmp ids t u names_total (λ q. d (sym (exact_bytes (string_bytes u) n e) ∙ exact_bytes (string_bytes u) (string_bytes t) q)) in
-        ap (λ s. id_of s n) key ∙ value_at_query name_cmp text_order (cut name_cmp ids t) u n texts e ∙ other ∙ sym (value_at_query name_cmp text_order ids u n texts e)
+        let key : cut text_order ids (string_bytes t) ≡ cut name_cmp ids t =
+            cut_query name_cmp text_order ids t (string_bytes t) texts (is_text t (string_bytes t) refl) in
+        let other : value_at name_cmp (cut name_cmp ids t) u ≡ value_at name_cmp ids u =
+            value_at_cut_other name_cmp ids t u names_total (λ q. d (sym (exact_bytes (string_bytes u) n e)
+            ∙ exact_bytes (string_bytes u) (string_bytes t) q)) in
+        ap (λ s. id_of s n) key ∙ value_at_query name_cmp text_order (cut name_cmp ids t) u n texts e ∙ other
+            ∙ sym (value_at_query name_cmp text_order ids u n texts e)
 
     id_cut_from : (v : ℕ) → id_of (cut text_order ids (string_bytes t)) n ≡ Some v → id_of ids n ≡ Some v
     id_cut_from v h = let f = found (cut text_order ids (string_bytes t)) n v h in sym (by_key f.0 f.1) ∙ h
@@ -109,20 +116,25 @@ module _ {A : Type 0} where
     id_cut_to : (v : ℕ) → id_of ids n ≡ Some v → id_of (cut text_order ids (string_bytes t)) n ≡ Some v
     id_cut_to v h = let f = found ids n v h in by_key f.0 f.1 ∙ h
 
-  pub in_step_put : (names : List (ℕ × String A)) (ids : List (String A × ℕ)) (id : ℕ) (s t : String A) → string_bytes s ≡ string_bytes t → InStep names ids → name_of names id ≡ None → id_of ids (string_bytes t) ≡ None → InStep (put nat_cmp names id s) (put name_cmp ids t id)
+  pub in_step_put : (names : List (ℕ × String A)) (ids : List (String A × ℕ)) (id : ℕ) (s t : String A) → string_bytes s ≡ string_bytes t → InStep names ids
+      → name_of names id ≡ None → id_of ids (string_bytes t) ≡ None → InStep (put nat_cmp names id s) (put name_cmp ids t id)
   in_step_put names ids id s t e step new_id new_name = record { same = λ j n. go j n (same_id j id) (same_text (string_bytes t) n) }
     where
-      go : (j : ℕ) (n : List ℕ) → (j ≡ id) ⊎ (j ≢ id) → (string_bytes t ≡ n) ⊎ (string_bytes t ≢ n) → (name_of (put nat_cmp names id s) j ≡ Some n) ↔ (id_of (put name_cmp ids t id) n ≡ Some j)
+      go : (j : ℕ) (n : List ℕ) → (j ≡ id) ⊎ (j ≢ id) → (string_bytes t ≡ n) ⊎ (string_bytes t ≢ n)
+          → (name_of (put nat_cmp names id s) j ≡ Some n) ↔ (id_of (put name_cmp ids t id) n ≡ Some j)
       go j n (inl i) (inl k) = (
         λ h. id_put ids t id n k ∙ ap Some (sym i),
         λ h. ap (λ x. name_of (put nat_cmp names id s) x) i ∙ name_put names id s ∙ ap Some (e ∙ k),
       )
       go j n (inl i) (inr k) = (
-        λ h. absurd (let a : Some n ≡ Some (string_bytes s) = sym h ∙ ap (λ x. name_of (put nat_cmp names id s) x) i ∙ name_put names id s in let b : n ≡ string_bytes s = cc in k (sym (b ∙ e))),
-        λ h. absurd (let a = (step.same j n).1 (sym (id_put_other ids t id n k) ∙ h) in let b : None ≡ Some n = sym new_id ∙ ap (λ x. name_of names x) (sym i) ∙ a in cc),
+        λ h. absurd (let a : Some n ≡ Some (string_bytes s) = sym h ∙ ap (λ x. name_of (put nat_cmp names id s) x) i
+            ∙ name_put names id s in let b : n ≡ string_bytes s = cc in k (sym (b ∙ e))),
+        λ h. absurd (let a = (step.same j n).1 (sym (id_put_other ids t id n k) ∙ h) in let b : None ≡ Some n = sym new_id ∙ ap (λ x. name_of names x) (sym i)
+            ∙ a in cc),
       )
       go j n (inr i) (inl k) = (
-        λ h. absurd (let a = (step.same j n).0 (sym (name_put_other names id s j i) ∙ h) in let b : None ≡ Some j = sym new_name ∙ ap (λ x. id_of ids x) k ∙ a in cc),
+        λ h. absurd (let a = (step.same j n).0 (sym (name_put_other names id s j i) ∙ h) in let b : None ≡ Some j = sym new_name ∙ ap (λ x. id_of ids x) k
+            ∙ a in cc),
         λ h. absurd (let a : Some j ≡ Some id = sym h ∙ id_put ids t id n k in let b : j ≡ id = cc in i b),
       )
       go j n (inr i) (inr k) = (
@@ -130,20 +142,24 @@ module _ {A : Type 0} where
         λ h. name_put_other names id s j i ∙ (step.same j n).1 (sym (id_put_other ids t id n k) ∙ h),
       )
 
-  pub in_step_cut : (names : List (ℕ × String A)) (ids : List (String A × ℕ)) (id : ℕ) (t : String A) → InStep names ids → name_of names id ≡ Some (string_bytes t) → InStep (cut nat_cmp names id) (cut text_order ids (string_bytes t))
+  pub in_step_cut : (names : List (ℕ × String A)) (ids : List (String A × ℕ)) (id : ℕ) (t : String A) → InStep names ids
+      → name_of names id ≡ Some (string_bytes t) → InStep (cut nat_cmp names id) (cut text_order ids (string_bytes t))
   in_step_cut names ids id t step held = record { same = λ j n. go j n (same_id j id) (same_text n (string_bytes t)) }
     where
-      go : (j : ℕ) (n : List ℕ) → (j ≡ id) ⊎ (j ≢ id) → (n ≡ string_bytes t) ⊎ (n ≢ string_bytes t) → (name_of (cut nat_cmp names id) j ≡ Some n) ↔ (id_of (cut text_order ids (string_bytes t)) n ≡ Some j)
+      go : (j : ℕ) (n : List ℕ) → (j ≡ id) ⊎ (j ≢ id) → (n ≡ string_bytes t) ⊎ (n ≢ string_bytes t)
+          → (name_of (cut nat_cmp names id) j ≡ Some n) ↔ (id_of (cut text_order ids (string_bytes t)) n ≡ Some j)
       go j n (inl i) (inl k) = (
         λ h. absurd (let b : Some n ≡ None = sym h ∙ ap (λ x. name_of (cut nat_cmp names id) x) i ∙ name_cut names id in cc),
         λ h. absurd (let b : Some j ≡ None = sym h ∙ ap (λ x. id_of (cut text_order ids (string_bytes t)) x) k ∙ id_cut ids (string_bytes t) in cc),
       )
       go j n (inl i) (inr k) = (
         λ h. absurd (let b : Some n ≡ None = sym h ∙ ap (λ x. name_of (cut nat_cmp names id) x) i ∙ name_cut names id in cc),
-        λ h. absurd (let a = (step.same j n).1 (id_cut_from ids t n k j h) in let b : Some n ≡ Some (string_bytes t) = sym a ∙ ap (λ x. name_of names x) i ∙ held in let c : n ≡ string_bytes t = cc in k c),
+        λ h. absurd (let a = (step.same j n).1 (id_cut_from ids t n k j h) in let b : Some n ≡ Some (string_bytes t) = sym a ∙ ap (λ x. name_of names x) i
+            ∙ held in let c : n ≡ string_bytes t = cc in k c),
       )
       go j n (inr i) (inl k) = (
-        λ h. absurd (let a = (step.same j n).0 (sym (name_cut_other names id j i) ∙ h) in let c = (step.same id (string_bytes t)).0 held in let b : Some j ≡ Some id = sym a ∙ ap (λ x. id_of ids x) k ∙ c in let l : j ≡ id = cc in i l),
+        λ h. absurd (let a = (step.same j n).0 (sym (name_cut_other names id j i) ∙ h) in let c =
+            (step.same id (string_bytes t)).0 held in let b : Some j ≡ Some id = sym a ∙ ap (λ x. id_of ids x) k ∙ c in let l : j ≡ id = cc in i l),
         λ h. absurd (let b : Some j ≡ None = sym h ∙ ap (λ x. id_of (cut text_order ids (string_bytes t)) x) k ∙ id_cut ids (string_bytes t) in cc),
       )
       go j n (inr i) (inr k) = (

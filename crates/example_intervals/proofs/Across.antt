@@ -13,27 +13,34 @@ use Rattle.example_intervals.specs.declared.spans.Span.{Span}
 use Rattle.example_intervals.proofs.Passing.{IsLast, last_passing, none_passes, is_above, is_above_to, is_below, is_below_to, is_up_to, is_up_to_to}
 
 module _ (spans : List (ℕ × Span)) (p : ℕ) where
-  pub across_some : (last : ℕ × Span) → IsAscending nat_cmp spans → Some last ≡ last_item (below nat_cmp spans p) → p < last.1.end → IsAcross spans p (Some last)
+  pub across_some : (last : ℕ × Span) → IsAscending nat_cmp spans → Some last ≡ last_item (below nat_cmp spans p) → p < last.1.end
+      → IsAcross spans p (Some last)
   across_some last asc found e = let l = last_passing (λ k. is_lt (nat_cmp k p)) spans last asc found in (l.held, is_below last.0 p l.passes, e)
 
-  pub across_none : (last : ℕ × Span) → AreApart spans → IsAscending nat_cmp spans → Some last ≡ last_item (below nat_cmp spans p) → last.1.end ≤ p → IsAcross spans p None
-  across_none last a asc found e s x h b = let l = last_passing (λ k. is_lt (nat_cmp k p)) spans last asc found in ended s x last p h l.held (l.greatest s x h (is_below_to s p b)) e
+  pub across_none : (last : ℕ × Span) → AreApart spans → IsAscending nat_cmp spans → Some last ≡ last_item (below nat_cmp spans p) → last.1.end ≤ p
+      → IsAcross spans p None
+  across_none last a asc found e s x h b = let l = last_passing (λ k. is_lt (nat_cmp k p)) spans last asc found in
+      ended s x last p h l.held (l.greatest s x h (is_below_to s p b)) e
     where
       ended : (s : ℕ) (x : Span) (last : ℕ × Span) (p : ℕ) → IsIn spans s x → IsIn spans last.0 last.1 → s ≤ last.0 → last.1.end ≤ p → x.end ≤ p
       ended s x last p h i b e = go (cases_order s last.0)
         where
           go : (s ≡ last.0) ⊎ ((s < last.0) ⊎ (last.0 < s)) → x.end ≤ p
-          go (inl q) = let g : Some x ≡ Some last.1 = sym h ∙ ap (λ n. value_at nat_cmp spans n) q ∙ i in let j : x ≡ last.1 = cc in subst (λ (z : Span). z.end ≤ p) (sym j) e
+          go (inl q) = let g : Some x ≡ Some last.1 = sym h ∙ ap (λ n. value_at nat_cmp spans n) q ∙ i in let j : x ≡ last.1 =
+              cc in subst (λ (z : Span). z.end ≤ p) (sym j) e
           go (inr (inl q)) = let c = a.apart s last.0 x last.1 h i q in let d = a.whole last.0 last.1 i in omega arith
           go (inr (inr q)) = absurd (omega arith)
 
   pub across_empty : None ≡ last_item (below nat_cmp spans p) → IsAcross spans p None
   across_empty f s x h b = absurd (none_passes (λ k. is_lt (nat_cmp k p)) spans f s x h (is_below_to s p b))
 
-  pub value_some : (last : ℕ × Span) → IsAscending nat_cmp spans → Some last ≡ last_item (not_above nat_cmp spans p) → p < last.1.end → HasValue spans p last.1.value
-  value_some last asc found e = let l = last_passing (λ k. is_le (nat_cmp k p)) spans last asc found in record { start = last.0; span = last.1; held = l.held; from = is_up_to last.0 p l.passes; to = e; value = refl }
+  pub value_some : (last : ℕ × Span) → IsAscending nat_cmp spans → Some last ≡ last_item (not_above nat_cmp spans p) → p < last.1.end
+      → HasValue spans p last.1.value
+  value_some last asc found e = let l = last_passing (λ k. is_le (nat_cmp k p)) spans last asc found in
+      record { start = last.0; span = last.1; held = l.held; from = is_up_to last.0 p l.passes; to = e; value = refl }
 
-  pub value_none : (last : ℕ × Span) → AreApart spans → IsAscending nat_cmp spans → Some last ≡ last_item (not_above nat_cmp spans p) → last.1.end ≤ p → (v : ℕ) → HasValue spans p v → ⊥
+  pub value_none : (last : ℕ × Span) → AreApart spans → IsAscending nat_cmp spans → Some last ≡ last_item (not_above nat_cmp spans p) → last.1.end ≤ p
+      → (v : ℕ) → HasValue spans p v → ⊥
   value_none last a asc found e v h = go (cases_order h.start last.0)
     where
       l : IsLast (λ k. is_le (nat_cmp k p)) spans last
@@ -68,7 +75,8 @@ module _ (spans : List (ℕ × Span)) (lo : ℕ) where
   there : (o : Option (ℕ × Span)) (e : ℕ × Span) → at nat_cmp spans e.0 ≡ o → o ≡ Some e → IsSome (at nat_cmp spans e.0)
   there o e q h = rw (q, h) refl
 
-  pub some_between : (hi : ℕ) (first : ℕ × Span) → IsAscending nat_cmp spans → Some first ≡ first_item (above nat_cmp spans lo) → first.0 < hi → (lo < first.0) × (first.0 < hi) × IsSome (at nat_cmp spans first.0)
+  pub some_between : (hi : ℕ) (first : ℕ × Span) → IsAscending nat_cmp spans → Some first ≡ first_item (above nat_cmp spans lo) → first.0 < hi
+      → (lo < first.0) × (first.0 < hi) × IsSome (at nat_cmp spans first.0)
   some_between hi first a f l = (
     is_above first.0 lo (first_passes nat_cmp (λ k. is_gt (nat_cmp k lo)) spans first (sym f)),
     l,
@@ -80,9 +88,13 @@ module _ (spans : List (ℕ × Span)) (lo : ℕ) where
   nothing s not (Some x) q = absurd (not x q)
 
   pub none_behind : None ≡ first_item (above nat_cmp spans lo) → (s : ℕ) → lo < s → value_at nat_cmp spans s ≡ None
-  none_behind f s b = nothing s (λ x h. first_none nat_cmp (λ k. is_gt (nat_cmp k lo)) spans s (s, x) (sym f) (exact_pair nat_cmp spans s x exact_unsigned h) (is_above_to s lo b)) _ refl
+  none_behind f s b = nothing s (λ x h. first_none nat_cmp (λ k. is_gt (nat_cmp k lo)) spans s (s, x) (sym f) (exact_pair nat_cmp spans s x exact_unsigned h)
+      (is_above_to s lo b)) _ refl
 
-  pub none_ahead : (first : ℕ × Span) → IsAscending nat_cmp spans → Some first ≡ first_item (above nat_cmp spans lo) → (s : ℕ) → lo < s → s < first.0 → value_at nat_cmp spans s ≡ None
+  pub none_ahead : (first : ℕ × Span) → IsAscending nat_cmp spans → Some first ≡ first_item (above nat_cmp spans lo) → (s : ℕ) → lo < s → s < first.0
+      → value_at nat_cmp spans s ≡ None
   none_ahead first a f s b l =
-      let least = λ (x : Span) (h : IsIn spans s x). le_from_is_le first.0 s (first_least nat_cmp (λ k. is_gt (nat_cmp k lo)) spans first s (s, x) nat_cmp_total a (sym f) (exact_pair nat_cmp spans s x exact_unsigned h) (is_above_to s lo b)) in
+      let least = λ (x : Span) (h : IsIn spans s x). le_from_is_le first.0 s
+          (first_least nat_cmp (λ k. is_gt (nat_cmp k lo)) spans first s (s, x) nat_cmp_total a (sym f) (exact_pair nat_cmp spans s x exact_unsigned h)
+          (is_above_to s lo b)) in
       nothing s (λ x h. let m = least x h in absurd (omega arith)) _ refl

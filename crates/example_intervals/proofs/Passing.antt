@@ -15,7 +15,8 @@ use Rattle.example_intervals.specs.declared.spans.Span.{Span}
 
 module _ (a b : ℕ) where
   pub is_below : is_lt (nat_cmp a b) ≡ true → a < b
-  is_below h = by_ranked (a < b) (a ≡ b) (b < a) (nat_cmp a b) (ranked a b (nat_cmp a b) refl) (λ e l. l) (λ e l. let no = rw e at h in absurd cc) (λ e l. let no = rw e at h in absurd cc)
+  is_below h = by_ranked (a < b) (a ≡ b) (b < a) (nat_cmp a b) (ranked a b (nat_cmp a b) refl) (λ e l. l) (λ e l. let no = rw e at h in absurd cc)
+      (λ e l. let no = rw e at h in absurd cc)
 
   pub is_below_to : a < b → is_lt (nat_cmp a b) ≡ true
   is_below_to l = ap is_lt (sym (nat_cmp_is a b Less l))
@@ -24,10 +25,12 @@ module _ (a b : ℕ) where
   is_up_to = le_from_is_le a b
 
   pub is_up_to_to : a ≤ b → is_le (nat_cmp a b) ≡ true
-  is_up_to_to l = by_ranked (a < b) (a ≡ b) (b < a) (nat_cmp a b) (ranked a b (nat_cmp a b) refl) (λ e m. ap is_le e) (λ e m. ap is_le e) (λ e m. absurd (omega arith))
+  is_up_to_to l = by_ranked (a < b) (a ≡ b) (b < a) (nat_cmp a b) (ranked a b (nat_cmp a b) refl) (λ e m. ap is_le e) (λ e m. ap is_le e)
+      (λ e m. absurd (omega arith))
 
   pub is_above : is_gt (nat_cmp a b) ≡ true → b < a
-  is_above h = by_ranked (a < b) (a ≡ b) (b < a) (nat_cmp a b) (ranked a b (nat_cmp a b) refl) (λ e l. let no = rw e at h in absurd cc) (λ e l. let no = rw e at h in absurd cc) (λ e l. l)
+  is_above h = by_ranked (a < b) (a ≡ b) (b < a) (nat_cmp a b) (ranked a b (nat_cmp a b) refl) (λ e l. let no = rw e at h in absurd cc)
+      (λ e l. let no = rw e at h in absurd cc) (λ e l. l)
 
   pub is_above_to : b < a → is_gt (nat_cmp a b) ≡ true
   is_above_to l = ap is_gt (sym (nat_cmp_is a b Greater l))
@@ -42,7 +45,8 @@ module _ (p : ℕ → Bool) (spans : List (ℕ × Span)) where
   last_passing last a l = record {
     held = ap (option_map (λ e. e.1)) (last_there nat_cmp p spans last nat_cmp_total a (sym l));
     passes = last_passes nat_cmp p spans last (sym l);
-    greatest = λ s x h t. le_from_is_le s last.0 (last_greatest nat_cmp p spans last s (s, x) nat_cmp_total a (sym l) (exact_pair nat_cmp spans s x exact_unsigned h) t);
+    greatest = λ s x h t. le_from_is_le s last.0 (last_greatest nat_cmp p spans last s (s, x) nat_cmp_total a (sym l)
+        (exact_pair nat_cmp spans s x exact_unsigned h) t);
   }
 
   pub none_passes : None ≡ last_item (filter (λ e. p e.0) spans) → (s : ℕ) (x : Span) → IsIn spans s x → p s ≡ true → ⊥

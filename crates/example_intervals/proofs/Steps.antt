@@ -40,12 +40,14 @@ module _ (old : List (ℕ × Span)) (lo hi v : ℕ) (some : lo < hi) (apart : Ar
   front_held back None a = tt
   front_held back (Some e) a = let b = a.1 in at_second back e.0 (λ q. absurd (omega arith)) (λ q. absurd (omega arith)) ∙ a.0
 
-  other_front : (m : List (ℕ × Span)) (o : Option (ℕ × Span)) → IsAcross old lo o → (s : ℕ) → lo ≤ s → value_at nat_cmp (with_front m lo o) s ≡ value_at nat_cmp m s
+  other_front : (m : List (ℕ × Span)) (o : Option (ℕ × Span)) → IsAcross old lo o → (s : ℕ) → lo ≤ s
+      → value_at nat_cmp (with_front m lo o) s ≡ value_at nat_cmp m s
   other_front m None a s l = refl
   other_front m (Some e) a s l = put_other m e.0 (record { end = lo; value = e.1.value }) s (λ q. let b = a.1 in absurd (omega arith))
 
   -- in front of the new interval
-  from_front : (m : List (ℕ × Span)) (o : Option (ℕ × Span)) → IsAcross old lo o → (s : ℕ) (y : Span) → s < lo → value_at nat_cmp m s ≡ value_at nat_cmp old s → IsIn (with_front m lo o) s y → IsFront old lo s y
+  from_front : (m : List (ℕ × Span)) (o : Option (ℕ × Span)) → IsAcross old lo o → (s : ℕ) (y : Span) → s < lo → value_at nat_cmp m s ≡ value_at nat_cmp old s
+      → IsIn (with_front m lo o) s y → IsFront old lo s y
   from_front m None a s y l q h =
       let held : IsIn old s y = sym q ∙ h in
       let e : y.end ≡ min y.end lo = (let b = a s y held l in omega arith) in
@@ -56,18 +58,21 @@ module _ (old : List (ℕ × Span)) (lo hi v : ℕ) (some : lo < hi) (apart : Ar
       other n = sym q ∙ sym (put_other m f.0 (record { end = lo; value = f.1.value }) s n) ∙ h
 
       whole : IsIn old s y → y.end ≤ lo → IsFront old lo s y
-      whole held b = record { span = y; held = held; ahead = l; is = ap (λ n. let z : Span = record { end = n; value = y.value } in z) (let e : y.end ≡ min y.end lo = omega arith in e) }
+      whole held b = record { span = y; held = held; ahead = l; is = ap (λ n. let z : Span = record { end = n; value = y.value } in z)
+          (let e : y.end ≡ min y.end lo = omega arith in e) }
 
       go : (s ≡ f.0) ⊎ ((s < f.0) ⊎ (f.0 < s)) → IsFront old lo s y
       go (inl e) =
           let z : Span = record { end = lo; value = f.1.value } in
           let g : y ≡ z = same (sym h ∙ ap (λ n. value_at nat_cmp (put nat_cmp m f.0 z) n) e ∙ put_same m f.0 z) in
           let d : lo ≡ min f.1.end lo = (let b = a.2 in omega arith) in
-          record { span = f.1; held = subst (λ n. IsIn old n f.1) (sym e) a.0; ahead = l; is = g ∙ ap (λ n. let w : Span = record { end = n; value = f.1.value } in w) d }
+          record { span = f.1; held = subst (λ n. IsIn old n f.1) (sym e) a.0; ahead = l; is = g
+              ∙ ap (λ n. let w : Span = record { end = n; value = f.1.value } in w) d }
       go (inr (inl b)) = let i = other (λ e. absurd (omega arith)) in whole i (let c = apart.apart s f.0 y f.1 i a.0 b in let d = a.1 in omega arith)
       go (inr (inr b)) = let i = other (λ e. absurd (omega arith)) in let c = apart.apart f.0 s f.1 y a.0 i b in let d = a.2 in absurd (omega arith)
 
-  to_front : (m : List (ℕ × Span)) (o : Option (ℕ × Span)) → IsAcross old lo o → (s : ℕ) (y : Span) → value_at nat_cmp m s ≡ value_at nat_cmp old s → IsFront old lo s y → IsIn (with_front m lo o) s y
+  to_front : (m : List (ℕ × Span)) (o : Option (ℕ × Span)) → IsAcross old lo o → (s : ℕ) (y : Span) → value_at nat_cmp m s ≡ value_at nat_cmp old s
+      → IsFront old lo s y → IsIn (with_front m lo o) s y
   to_front m None a s y q f =
       let e : min f.span.end lo ≡ f.span.end = (let b = a s f.span f.held f.ahead in omega arith) in
       q ∙ f.held ∙ ap (λ n. let z : Span = record { end = n; value = f.span.value } in Some z) (sym e) ∙ ap Some (sym f.is)
@@ -76,14 +81,16 @@ module _ (old : List (ℕ × Span)) (lo hi v : ℕ) (some : lo < hi) (apart : Ar
       other : s ≢ g.0 → f.span.end ≤ lo → IsIn (put nat_cmp m g.0 (record { end = lo; value = g.1.value })) s y
       other n b =
           let e : min f.span.end lo ≡ f.span.end = omega arith in
-          put_other m g.0 (record { end = lo; value = g.1.value }) s n ∙ q ∙ f.held ∙ ap (λ k. let z : Span = record { end = k; value = f.span.value } in Some z) (sym e) ∙ ap Some (sym f.is)
+          put_other m g.0 (record { end = lo; value = g.1.value }) s n ∙ q ∙ f.held
+              ∙ ap (λ k. let z : Span = record { end = k; value = f.span.value } in Some z) (sym e) ∙ ap Some (sym f.is)
 
       go : (s ≡ g.0) ⊎ ((s < g.0) ⊎ (g.0 < s)) → IsIn (put nat_cmp m g.0 (record { end = lo; value = g.1.value })) s y
       go (inl e) =
           let z : Span = record { end = lo; value = g.1.value } in
           let i : f.span ≡ g.1 = same (sym f.held ∙ ap (λ n. value_at nat_cmp old n) e ∙ a.0) in
           let d : lo ≡ min g.1.end lo = (let b = a.2 in omega arith) in
-          ap (λ n. value_at nat_cmp (put nat_cmp m g.0 z) n) e ∙ put_same m g.0 z ∙ ap (λ n. let w : Span = record { end = n; value = g.1.value } in Some w) d ∙ ap (λ (u : Span). let w : Span = record { end = min u.end lo; value = u.value } in Some w) (sym i) ∙ ap Some (sym f.is)
+          ap (λ n. value_at nat_cmp (put nat_cmp m g.0 z) n) e ∙ put_same m g.0 z ∙ ap (λ n. let w : Span = record { end = n; value = g.1.value } in Some w) d
+              ∙ ap (λ (u : Span). let w : Span = record { end = min u.end lo; value = u.value } in Some w) (sym i) ∙ ap Some (sym f.is)
       go (inr (inl b)) = other (λ e. absurd (omega arith)) (let c = apart.apart s g.0 f.span g.1 f.held a.0 b in let d = a.1 in omega arith)
       go (inr (inr b)) = let c = apart.apart g.0 s g.1 f.span a.0 f.held b in let d = a.2 in let l = f.ahead in absurd (omega arith)
 
@@ -132,7 +139,8 @@ module _ (old : List (ℕ × Span)) (lo hi v : ℕ) (some : lo < hi) (apart : Ar
       go (inr (inl q)) = early (cases_order b.start f.0) q
       go (inr (inr q)) = late (omega arith)
 
-  module _ (new : List (ℕ × Span)) (front back : Option (ℕ × Span)) (is_front : IsAcross old lo front) (is_back : IsAcross old hi back) (cleared : IsCleared (with_front (second back) lo front) new lo hi) where
+  module _ (new : List (ℕ × Span)) (front back : Option (ℕ × Span)) (is_front : IsAcross old lo front) (is_back : IsAcross old hi back)
+      (cleared : IsCleared (with_front (second back) lo front) new lo hi) where
     at_new : (s : ℕ) → lo ≤ s → (s ≤ lo) ⊎ (hi ≤ s) → value_at nat_cmp new s ≡ value_at nat_cmp (second back) s
     at_new s l k = cleared.kept s k ∙ other_front (second back) front is_front s l
 
@@ -141,20 +149,26 @@ module _ (old : List (ℕ × Span)) (lo hi v : ℕ) (some : lo < hi) (apart : Ar
       where
         late : lo < s → (s < hi) ⊎ (hi ≤ s) → IsPiece old lo hi v s y
         late l (inl b) = absurd (let n = cleared.gone s l b in let m : None ≡ Some y = sym n ∙ h in cc)
-        late l (inr b) = inr (from_back back is_back s y b (sym (put_other (with_back old hi back) lo (record { end = hi; value = v }) s (λ e. absurd (omega arith))) ∙ sym (at_new s (omega arith) (inr b)) ∙ h))
+        late l (inr b) = inr (from_back back is_back s y b (sym (put_other (with_back old hi back) lo (record { end = hi; value = v }) s
+            (λ e. absurd (omega arith))) ∙ sym (at_new s (omega arith) (inr b)) ∙ h))
 
         go : (s ≡ lo) ⊎ ((s < lo) ⊎ (lo < s)) → IsPiece old lo hi v s y
         go (inl e) =
             let z : Span = record { end = hi; value = v } in
-            inl (inr (record { start = e; is = same (sym h ∙ at_new s (omega arith) (inl (omega arith)) ∙ ap (λ n. value_at nat_cmp (second back) n) e ∙ put_same (with_back old hi back) lo z) }))
-        go (inr (inl l)) = inl (inl (from_front (second back) front is_front s y l (at_second back s (λ e. absurd (omega arith)) (λ e. absurd (omega arith))) (sym (cleared.kept s (inl (omega arith))) ∙ h)))
+            inl (inr (record { start = e; is = same (sym h ∙ at_new s (omega arith) (inl (omega arith)) ∙ ap (λ n. value_at nat_cmp (second back) n) e
+                ∙ put_same (with_back old hi back) lo z) }))
+        go (inr (inl l)) = inl (inl (from_front (second back) front is_front s y l (at_second back s (λ e. absurd (omega arith)) (λ e. absurd (omega arith)))
+            (sym (cleared.kept s (inl (omega arith))) ∙ h)))
         go (inr (inr l)) = late l (cases_lt s hi)
 
     pub pieces_to : (s : ℕ) (y : Span) → IsPiece old lo hi v s y → IsIn new s y
-    pieces_to s y (inl (inl f)) = cleared.kept s (inl (omega (arith, f.ahead))) ∙ to_front (second back) front is_front s y (at_second back s (λ e. absurd (omega (arith, f.ahead))) (λ e. absurd (omega (arith, f.ahead)))) f
+    pieces_to s y (inl (inl f)) = cleared.kept s (inl (omega (arith, f.ahead)))
+        ∙ to_front (second back) front is_front s y (at_second back s (λ e. absurd (omega (arith, f.ahead))) (λ e. absurd (omega (arith, f.ahead)))) f
     pieces_to s y (inl (inr n)) =
         let z : Span = record { end = hi; value = v } in
-        at_new s (omega (arith, n.start)) (inl (omega (arith, n.start))) ∙ ap (λ k. value_at nat_cmp (second back) k) n.start ∙ put_same (with_back old hi back) lo z ∙ ap Some (sym n.is)
+        at_new s (omega (arith, n.start)) (inl (omega (arith, n.start))) ∙ ap (λ k. value_at nat_cmp (second back) k) n.start
+            ∙ put_same (with_back old hi back) lo z ∙ ap Some (sym n.is)
     pieces_to s y (inr b) =
         let l : hi ≤ s = omega (arith, b.is) in
-        at_new s (omega arith) (inr l) ∙ put_other (with_back old hi back) lo (record { end = hi; value = v }) s (λ e. absurd (omega arith)) ∙ to_back back is_back s y b
+        at_new s (omega arith) (inr l) ∙ put_other (with_back old hi back) lo (record { end = hi; value = v }) s (λ e. absurd (omega arith))
+            ∙ to_back back is_back s y b

@@ -17,7 +17,9 @@ pub record IsInserted (old new : List (ℕ × Span)) (lo hi v : ℕ) : Type 0 wh
   pub is_back : IsAcross old hi back
   pub cleared : IsCleared (with_front (put nat_cmp (with_back old hi back) lo (record { end = hi; value = v })) lo front) new lo hi
 
-pub inserted : (old new second third : List (ℕ × Span)) (lo hi v : ℕ) (front back : Option (ℕ × Span)) → lo < hi → AreApart old → IsAcross old lo front → IsAcross old hi back → second ≡ put nat_cmp (with_back old hi back) lo (record { end = hi; value = v }) → third ≡ with_front second lo front → IsCleared third new lo hi → IsInserted old new lo hi v
+pub inserted : (old new second third : List (ℕ × Span)) (lo hi v : ℕ) (front back : Option (ℕ × Span)) → lo < hi → AreApart old → IsAcross old lo front
+    → IsAcross old hi back → second ≡ put nat_cmp (with_back old hi back) lo (record { end = hi; value = v }) → third ≡ with_front second lo front
+    → IsCleared third new lo hi → IsInserted old new lo hi v
 inserted old new second third lo hi v front back some apart is_front is_back put_in ended cleared = record {
   some = some;
   apart = apart;
@@ -33,7 +35,9 @@ module _ (old new : List (ℕ × Span)) (lo hi v : ℕ) (i : IsInserted old new 
   still_apart = pieces_apart old new lo hi v i.some i.apart (pieces_from old lo hi v i.some i.apart new i.front i.back i.is_front i.is_back i.cleared)
 
   pub inside : (p : ℕ) → lo ≤ p → p < hi → (w : ℕ) → HasValue new p w ↔ w ≡ v
-  inside = value_inside old new lo hi v i.some i.apart (pieces_from old lo hi v i.some i.apart new i.front i.back i.is_front i.is_back i.cleared) (pieces_to old lo hi v i.some i.apart new i.front i.back i.is_front i.is_back i.cleared)
+  inside = value_inside old new lo hi v i.some i.apart (pieces_from old lo hi v i.some i.apart new i.front i.back i.is_front i.is_back i.cleared)
+      (pieces_to old lo hi v i.some i.apart new i.front i.back i.is_front i.is_back i.cleared)
 
   pub outside : (p : ℕ) → (p < lo) ⊎ (hi ≤ p) → (w : ℕ) → HasValue new p w ↔ HasValue old p w
-  outside = value_outside old new lo hi v i.some i.apart (pieces_from old lo hi v i.some i.apart new i.front i.back i.is_front i.is_back i.cleared) (pieces_to old lo hi v i.some i.apart new i.front i.back i.is_front i.is_back i.cleared)
+  outside = value_outside old new lo hi v i.some i.apart (pieces_from old lo hi v i.some i.apart new i.front i.back i.is_front i.is_back i.cleared)
+      (pieces_to old lo hi v i.some i.apart new i.front i.back i.is_front i.is_back i.cleared)

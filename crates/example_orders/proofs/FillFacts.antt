@@ -39,7 +39,9 @@ module _ (limit w : ℕ) where
       (λ b. let no = rw b at e in absurd cc)
 
   -- The first fill, and then those for what is still wanted.
-  pub one_filled : (s : Orders) (f : Fill) → 0 < w → Some f ≡ best_fill limit w s → (after_fills limit (w - f.quantity) (after_fill limit w s) ≡ after_fills limit w s) × (unfilled limit (w - f.quantity) (after_fill limit w s) ≡ unfilled limit w s)
+  pub one_filled : (s : Orders) (f : Fill) → 0 < w → Some f ≡ best_fill limit w s
+      → (after_fills limit (w - f.quantity) (after_fill limit w s) ≡ after_fills limit w s)
+      × (unfilled limit (w - f.quantity) (after_fill limit w s) ≡ unfilled limit w s)
   one_filled [] f p e = absurd cc
   one_filled (o ∷ os) f p e = decided (nat_lt limit o.0.0)
       (λ b. let no = rw b at e in absurd cc)
@@ -87,7 +89,8 @@ total_after limit w [] = refl
 total_after limit w (o ∷ os) = decided (w == 0) (λ z. rw z refl)
     (λ z. decided (nat_lt limit o.0.0) (λ b. rw (z, b) refl)
     (λ b. decided (nat_lt w o.1)
-    (λ d. let l = is_less w o.1 d in rw (z, b, d) (omega (arith, sum_by-cons (λ (o : (ℕ × ℕ) × ℕ). o.1) o os, sum_by-cons (λ (o : (ℕ × ℕ) × ℕ). o.1) (o.0, o.1 - w) os)))
+    (λ d. let l = is_less w o.1 d in rw (z, b, d) (omega (arith, sum_by-cons (λ (o : (ℕ × ℕ) × ℕ). o.1) o os,
+        sum_by-cons (λ (o : (ℕ × ℕ) × ℕ). o.1) (o.0, o.1 - w) os)))
     (λ d. let l = is_not_less w o.1 d in rw (z, b, d) (omega (arith, total_after limit (w - o.1) os, sum_by-cons (λ (o : (ℕ × ℕ) × ℕ). o.1) o os)))))
 
 -- What holds of all keys holds of those that are left.
@@ -103,4 +106,5 @@ pub all_after : (P : ℕ × ℕ → Type 0) (limit w : ℕ) (s : Orders) → All
 all_after P limit w s h = All-from_recursion (λ o. P o.0) (after_fills limit w s) (keys_after P limit w s (recursion_from_All (λ o. P o.0) s h))
 
 pub apart_after : (own others : Orders) (limit w : ℕ) → AreApart own others → AreApart own (after_fills limit w others)
-apart_after own others limit w a = All-weaker (λ x. All (λ y. 2 ^ 64 - 1 < x.0.0 + y.0.0) others) (λ x. All (λ y. 2 ^ 64 - 1 < x.0.0 + y.0.0) (after_fills limit w others)) (λ x h. all_after (λ j. 2 ^ 64 - 1 < x.0.0 + j.0) limit w others h) own a
+apart_after own others limit w a = All-weaker (λ x. All (λ y. 2 ^ 64 - 1 < x.0.0 + y.0.0) others)
+    (λ x. All (λ y. 2 ^ 64 - 1 < x.0.0 + y.0.0) (after_fills limit w others)) (λ x h. all_after (λ j. 2 ^ 64 - 1 < x.0.0 + j.0) limit w others h) own a

@@ -29,19 +29,24 @@ module _ (cmp : ℕ × ℕ → ℕ × ℕ → Ordering) (k : ℕ × ℕ) where
   parts_total [] n = refl
   parts_total (e ∷ es) n = go (cmp e.0 k) refl (parts_total es)
     where
-      go : (o : Ordering) → cmp e.0 k ≡ o → (at cmp es k ≡ None → total (below cmp es k) + total (above cmp es k) ≡ total es) → total (below cmp (e ∷ es) k) + total (above cmp (e ∷ es) k) ≡ total (e ∷ es)
-      go Less c more = let m : at cmp es k ≡ None = rw c at n in rw c (omega (arith, more m, sum_by-cons (λ (o : (ℕ × ℕ) × ℕ). o.1) e es, sum_by-cons (λ (o : (ℕ × ℕ) × ℕ). o.1) e (below cmp es k)))
+      go : (o : Ordering) → cmp e.0 k ≡ o → (at cmp es k ≡ None → total (below cmp es k) + total (above cmp es k) ≡ total es)
+          → total (below cmp (e ∷ es) k) + total (above cmp (e ∷ es) k) ≡ total (e ∷ es)
+      go Less c more = let m : at cmp es k ≡ None = rw c at n in rw c (omega
+          (arith, more m, sum_by-cons (λ (o : (ℕ × ℕ) × ℕ). o.1) e es, sum_by-cons (λ (o : (ℕ × ℕ) × ℕ). o.1) e (below cmp es k)))
       go Equal c more = let no = rw c at n in absurd cc
-      go Greater c more = let m : at cmp es k ≡ None = rw c at n in rw c (omega (arith, more m, sum_by-cons (λ (o : (ℕ × ℕ) × ℕ). o.1) e es, sum_by-cons (λ (o : (ℕ × ℕ) × ℕ). o.1) e (above cmp es k)))
+      go Greater c more = let m : at cmp es k ≡ None = rw c at n in rw c
+          (omega (arith, more m, sum_by-cons (λ (o : (ℕ × ℕ) × ℕ). o.1) e es, sum_by-cons (λ (o : (ℕ × ℕ) × ℕ). o.1) e (above cmp es k)))
 
 -- A new order adds its quantity.
 pub total_put : (s : Orders) (k : ℕ × ℕ) (v : ℕ) → at key_cmp s k ≡ None → total (put key_cmp s k v) ≡ total s + v
 total_put s k v n =
     let j = unwrap_or (option_map (λ (e : (ℕ × ℕ) × ℕ). e.0) (at key_cmp s k)) k in
-    omega (arith, parts_total key_cmp k s n, sum_by-append (λ (o : (ℕ × ℕ) × ℕ). o.1) (below key_cmp s k) ((j, v) ∷ above key_cmp s k), sum_by-cons (λ (o : (ℕ × ℕ) × ℕ). o.1) (j, v) (above key_cmp s k))
+    omega (arith, parts_total key_cmp k s n, sum_by-append (λ (o : (ℕ × ℕ) × ℕ). o.1) (below key_cmp s k) ((j, v) ∷ above key_cmp s k),
+        sum_by-cons (λ (o : (ℕ × ℕ) × ℕ). o.1) (j, v) (above key_cmp s k))
 
 less : (x y : ℕ) → x < y → nat_cmp x y ≡ Less
-less x y l = by_ranked (x < y) (x ≡ y) (y < x) (nat_cmp x y) (ranked x y (nat_cmp x y) refl) (λ e p. e) (λ e p. absurd (omega arith)) (λ e p. absurd (omega arith))
+less x y l = by_ranked (x < y) (x ≡ y) (y < x) (nat_cmp x y) (ranked x y (nat_cmp x y) refl) (λ e p. e) (λ e p. absurd (omega arith))
+    (λ e p. absurd (omega arith))
 
 apart_numbers : (x y m n : ℕ) → m < n → is_eq (ordering_then (nat_cmp x y) (nat_cmp m n)) ≡ false
 apart_numbers x y m n l = by_ranked (x < y) (x ≡ y) (y < x) (nat_cmp x y) (ranked x y (nat_cmp x y) refl)
@@ -61,8 +66,10 @@ pub apart_swapped : (s t : Orders) → AreApart s t → AreApart t s
 apart_swapped s t h = λ k d l j e m. omega (arith, h j e m k d l)
 
 -- An order is put among its own whose rank reaches none of the others.
-pub apart_put : (own others : Orders) (rank next v : ℕ) → AreNumberedBelow next own → All (λ o. 2 ^ 64 - 1 - rank < o.0.0) others → AreApart own others → AreApart (put key_cmp own (rank, next) v) others
-apart_put own others rank next v n b a = all_put_new (λ x. All (λ y. 2 ^ 64 - 1 < x.0.0 + y.0.0) others) own (rank, next) v (new_key rank next own n) (All-weaker (λ y. 2 ^ 64 - 1 - rank < y.0.0) (λ y. 2 ^ 64 - 1 < rank + y.0.0) (λ y h. omega arith) others b) a
+pub apart_put : (own others : Orders) (rank next v : ℕ) → AreNumberedBelow next own → All (λ o. 2 ^ 64 - 1 - rank < o.0.0) others → AreApart own others
+    → AreApart (put key_cmp own (rank, next) v) others
+apart_put own others rank next v n b a = all_put_new (λ x. All (λ y. 2 ^ 64 - 1 < x.0.0 + y.0.0) others) own (rank, next) v (new_key rank next own n)
+    (All-weaker (λ y. 2 ^ 64 - 1 - rank < y.0.0) (λ y. 2 ^ 64 - 1 < rank + y.0.0) (λ y h. omega arith) others b) a
 
 pub numbered_more : (s : Orders) (next : ℕ) → AreNumberedBelow next s → AreNumberedBelow (next + 1) s
 numbered_more s next n = All-weaker (λ o. o.0.1 < next) (λ o. o.0.1 < next + 1) (λ o h. omega arith) s n
@@ -79,7 +86,8 @@ cut_bids bids asks next k i = record {
 
 pub cut_asks : (bids asks : Orders) (next : ℕ) (k : ℕ × ℕ) → IsBook bids asks next → IsBook bids (cut key_cmp asks k) next
 cut_asks bids asks next k i = record {
-  apart = All-weaker (λ x. All (λ y. 2 ^ 64 - 1 < x.0.0 + y.0.0) asks) (λ x. All (λ y. 2 ^ 64 - 1 < x.0.0 + y.0.0) (cut key_cmp asks k)) (λ x h. all_cut (λ y. 2 ^ 64 - 1 < x.0.0 + y.0.0) asks k h) bids i.apart;
+  apart = All-weaker (λ x. All (λ y. 2 ^ 64 - 1 < x.0.0 + y.0.0) asks) (λ x. All (λ y. 2 ^ 64 - 1 < x.0.0 + y.0.0) (cut key_cmp asks k))
+      (λ x h. all_cut (λ y. 2 ^ 64 - 1 < x.0.0 + y.0.0) asks k h) bids i.apart;
   bids_numbered = i.bids_numbered;
   asks_numbered = all_cut (λ o. o.0.1 < next) asks k i.asks_numbered;
 }

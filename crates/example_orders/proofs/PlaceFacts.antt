@@ -7,7 +7,8 @@ use Rattle.example_orders.specs.Placing.{limit_at, IsPlaced}
 use Rattle.example_orders.proofs.OrderFacts.{new_key, total_put}
 use Rattle.example_orders.proofs.FillFacts.{not_zero, total_after}
 
-module _ (rank quantity : ℕ) (own others rest : Orders) (next r : ℕ) (missing : r ≡ unfilled (limit_at rank) quantity others) (most : r ≤ quantity) (left : rest ≡ after_fills (limit_at rank) quantity others) where
+module _ (rank quantity : ℕ) (own others rest : Orders) (next r : ℕ) (missing : r ≡ unfilled (limit_at rank) quantity others) (most : r ≤ quantity)
+    (left : rest ≡ after_fills (limit_at rank) quantity others) where
   whole_is : quantity - r + r ≡ quantity
   whole_is = omega arith
 
@@ -26,7 +27,8 @@ module _ (rank quantity : ℕ) (own others rest : Orders) (next r : ℕ) (missin
     counted = subst (λ n. next ≡ (if n == 0 then next else next + 1)) (sym z) refl;
   }
 
-  pub some_rests : (put_there : Orders) → 0 < r → AreNumberedBelow next own → put_there ≡ put key_cmp own (rank, next) r → IsPlaced rank quantity own others next (record { filled = quantity - r; resting = r; number = next }) put_there rest (next + 1)
+  pub some_rests : (put_there : Orders) → 0 < r → AreNumberedBelow next own → put_there ≡ put key_cmp own (rank, next) r
+      → IsPlaced rank quantity own others next (record { filled = quantity - r; resting = r; number = next }) put_there rest (next + 1)
   some_rests put_there l n p = let e : put key_cmp own (rank, next) r ≡ with_rest own (rank, next) r = rw (not_zero r l) refl in record {
     whole = whole_is;
     resting = missing;

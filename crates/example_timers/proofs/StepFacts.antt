@@ -10,7 +10,8 @@ use Rattle.std.specs.declared.cmp.Ordering.TheVariants.{Less, Equal, Greater}
 use Rattle.std.proofs.lemmas.Cmp.{nat_cmp_total, on_total, then_total, ranked, by_ranked, tied_itself}
 use Rattle.std.proofs.lemmas.List.Elements.{All-from_recursion}
 use Rattle.fallible_collections.specs.Words.{at, value_at, put, cut, item_at, without, with_item, AreAscending, IsAscending}
-use Rattle.fallible_collections.proofs.Laws.{value_at_put, value_at_put_other, at_cut, value_at_cut_other, cut_put_new, item_at_with, item_at_with_other, item_at_without, item_at_without_other, item_at_first, without_first}
+use Rattle.fallible_collections.proofs.Laws.{value_at_put, value_at_put_other, at_cut, value_at_cut_other, cut_put_new, item_at_with, item_at_with_other}
+use Rattle.fallible_collections.proofs.Laws.{item_at_without, item_at_without_other, item_at_first, without_first}
 use Rattle.example_timers.specs.Due.{timer_cmp, IsSet, IsFree, AreInStep}
 
 timers_total : IsTotalOrder timer_cmp
@@ -18,7 +19,8 @@ timers_total = then_total (on_total (λ t. t.0) nat_cmp_total) (on_total (λ t. 
 
 -- what equal answers say
 same : (x y : ℕ) → nat_cmp x y ≡ Equal → x ≡ y
-same x y h = by_ranked (x < y) (x ≡ y) (y < x) (nat_cmp x y) (ranked x y (nat_cmp x y) refl) (λ e p. let no = rw e at h in absurd cc) (λ e p. p) (λ e p. let no = rw e at h in absurd cc)
+same x y h = by_ranked (x < y) (x ≡ y) (y < x) (nat_cmp x y) (ranked x y (nat_cmp x y) refl) (λ e p. let no = rw e at h in absurd cc) (λ e p. p)
+    (λ e p. let no = rw e at h in absurd cc)
 
 both : (a b : Ordering) → ordering_then a b ≡ Equal → (a ≡ Equal) × (b ≡ Equal)
 both Less b h = absurd cc
@@ -26,7 +28,8 @@ both Equal b h = (refl, h)
 both Greater b h = absurd cc
 
 not_after : (d x : ℕ) (o : Ordering) → ordering_then (nat_cmp d x) o ≡ Less → d ≤ x
-not_after d x o h = by_ranked (d < x) (d ≡ x) (x < d) (nat_cmp d x) (ranked d x (nat_cmp d x) refl) (λ e p. omega arith) (λ e p. omega arith) (λ e p. let no = rw e at h in absurd cc)
+not_after d x o h = by_ranked (d < x) (d ≡ x) (x < d) (nat_cmp d x) (ranked d x (nat_cmp d x) refl) (λ e p. omega arith) (λ e p. omega arith)
+    (λ e p. let no = rw e at h in absurd cc)
 
 -- timers of two ids, and of two times, are apart
 apart_ids : (d i due id : ℕ) → ¬ (nat_cmp i id ≡ Equal) → ¬ (timer_cmp (d, i) (due, id) ≡ Equal)
@@ -37,7 +40,8 @@ apart_times d i due id h e = h (both (nat_cmp d due) (nat_cmp i id) e).0
 
 -- one number is the other or not
 decided : (x y : ℕ) {G : Type 0} → (x ≡ y → G) → (¬ (nat_cmp x y ≡ Equal) → G) → G
-decided x y one two = by_ranked (x < y) (x ≡ y) (y < x) (nat_cmp x y) (ranked x y (nat_cmp x y) refl) (λ e p. two (λ h. let n = rw e at h in absurd cc)) (λ e p. one p) (λ e p. two (λ h. let n = rw e at h in absurd cc))
+decided x y one two = by_ranked (x < y) (x ≡ y) (y < x) (nat_cmp x y) (ranked x y (nat_cmp x y) refl) (λ e p. two (λ h. let n = rw e at h in absurd cc))
+    (λ e p. one p) (λ e p. two (λ h. let n = rw e at h in absurd cc))
 
 apart : (x y : ℕ) → ¬ (nat_cmp x y ≡ Equal) → ¬ (x ≡ y)
 apart x y n e = n (rw e (tied_itself nat_cmp_total y))
@@ -66,7 +70,8 @@ module _ (queue times : List (ℕ × ℕ)) (step : AreInStep queue times) (due i
       Step d i = IsSet (with_item timer_cmp queue (due, id)) d i ↔ (value_at nat_cmp (put nat_cmp times id due) i ≡ Some d)
 
       other : ¬ (nat_cmp i id ≡ Equal) → Step d i
-      other n = rw (item_at_with_other timer_cmp queue (due, id) (d, i) timers_total (apart_ids d i due id n), value_at_put_other nat_cmp times id due i nat_cmp_total n) (step d i)
+      other n = rw (item_at_with_other timer_cmp queue (due, id) (d, i) timers_total (apart_ids d i due id n),
+          value_at_put_other nat_cmp times id due i nat_cmp_total n) (step d i)
 
       now : value_at nat_cmp (put nat_cmp times id due) id ≡ Some due
       now = value_at_put nat_cmp times id due nat_cmp_total
@@ -75,7 +80,8 @@ module _ (queue times : List (ℕ × ℕ)) (step : AreInStep queue times) (due i
       here = decided d due
           (λ q. subst (λ d. Step d id) (sym q) (λ _. now, λ _. rw (item_at_with timer_cmp queue (due, id) timers_total) refl))
           (λ n. (
-            λ is. let old = rw (item_at_with_other timer_cmp queue (due, id) (d, id) timers_total (apart_times d id due id n)) at is in absurd (free_if_absent h d old),
+            λ is. let old = rw (item_at_with_other timer_cmp queue (due, id) (d, id) timers_total (apart_times d id due id n)) at is in
+                absurd (free_if_absent h d old),
             λ e. let put_there = now in let q : d ≡ due = cc in absurd (apart d due n q),
           ))
 
@@ -87,7 +93,8 @@ module _ (queue times : List (ℕ × ℕ)) (step : AreInStep queue times) (due i
       Step d i = IsSet (without timer_cmp queue (due, id)) d i ↔ (value_at nat_cmp (cut nat_cmp times id) i ≡ Some d)
 
       other : ¬ (nat_cmp i id ≡ Equal) → Step d i
-      other n = rw (item_at_without_other timer_cmp queue (due, id) (d, i) timers_total (apart_ids d i due id n), value_at_cut_other nat_cmp times id i nat_cmp_total n) (step d i)
+      other n = rw (item_at_without_other timer_cmp queue (due, id) (d, i) timers_total (apart_ids d i due id n),
+          value_at_cut_other nat_cmp times id i nat_cmp_total n) (step d i)
 
       gone : value_at nat_cmp (cut nat_cmp times id) id ≡ None
       gone = ap (option_map (λ e. e.1)) (at_cut nat_cmp times id)
@@ -99,7 +106,8 @@ module _ (queue times : List (ℕ × ℕ)) (step : AreInStep queue times) (due i
       here = decided d due
           (λ q. subst (λ d. Step d id) (sym q) (λ is. let no = rw out at is in absurd cc, λ e. let none = gone in absurd cc))
           (λ n. (
-            λ is. let set = rw (item_at_without_other timer_cmp queue (due, id) (d, id) timers_total (apart_times d id due id n)) at is in let old = (step d id).0 set in let q : d ≡ due = cc in absurd (apart d due n q),
+            λ is. let set = rw (item_at_without_other timer_cmp queue (due, id) (d, id) timers_total (apart_times d id due id n)) at is in let old =
+                (step d id).0 set in let q : d ≡ due = cc in absurd (apart d due n q),
             λ e. let none = gone in absurd cc,
           ))
 
@@ -119,7 +127,8 @@ absent None b h n = refl
 absent (Some x) b h n = absurd (let no : IsTrue false = subst IsTrue n (h.1 refl) in cc)
 
 -- A time that was put at a new id and cut again leaves the times as they were.
-pub rolled_back : (times : List (ℕ × ℕ)) (id due : ℕ) → IsAscending nat_cmp times → at nat_cmp times id ≡ None → cut nat_cmp (put nat_cmp times id due) id ≡ times
+pub rolled_back : (times : List (ℕ × ℕ)) (id due : ℕ) → IsAscending nat_cmp times → at nat_cmp times id ≡ None
+    → cut nat_cmp (put nat_cmp times id due) id ≡ times
 rolled_back times id due a h = cut_put_new nat_cmp times id due nat_cmp_total a h
 
 -- what is known of the first timer holds of those behind it

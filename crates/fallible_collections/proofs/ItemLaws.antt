@@ -21,7 +21,8 @@ module _ {T Q : Type 0} (order : T → Q → Ordering) (s : List T) (q : Q) wher
 
   -- Where an item was taken out, none is left.
   pub item_at_without : item_at order (without order s q) q ≡ None
-  item_at_without = ap (λ l. item_at order l q) without_pairs ∙ item_at_keys order (cut order (pairs s) q) q ∙ ap (option_map (λ e. e.0)) (at_cut order (pairs s) q)
+  item_at_without = ap (λ l. item_at order l q) without_pairs ∙ item_at_keys order (cut order (pairs s) q) q
+      ∙ ap (option_map (λ e. e.0)) (at_cut order (pairs s) q)
 
 module _ {T : Type 0} (cmp : T → T → Ordering) (s : List T) (x : T) where
   with_pairs : with_item cmp s x ≡ keys (put cmp (pairs s) x tt)
@@ -35,22 +36,27 @@ module _ {T : Type 0} (cmp : T → T → Ordering) (s : List T) (x : T) where
 
   pub item_at_with_other : (y : T) → IsTotalOrder cmp → ¬ (cmp y x ≡ Equal) → item_at cmp (with_item cmp s x) y ≡ item_at cmp s y
   item_at_with_other y total other =
-      ap (λ l. item_at cmp l y) with_pairs ∙ item_at_keys cmp (put cmp (pairs s) x tt) y ∙ ap (option_map (λ e. e.0)) (at_put_other cmp (pairs s) x tt y total other) ∙ sym (at_pair cmp s y)
+      ap (λ l. item_at cmp l y) with_pairs ∙ item_at_keys cmp (put cmp (pairs s) x tt) y
+          ∙ ap (option_map (λ e. e.0)) (at_put_other cmp (pairs s) x tt y total other) ∙ sym (at_pair cmp s y)
 
   pub item_at_without_other : (y : T) → IsTotalOrder cmp → ¬ (cmp y x ≡ Equal) → item_at cmp (without cmp s x) y ≡ item_at cmp s y
   item_at_without_other y total other =
-      ap (λ l. item_at cmp l y) (without_pairs cmp s x) ∙ item_at_keys cmp (cut cmp (pairs s) x) y ∙ ap (option_map (λ e. e.0)) (at_cut_other cmp (pairs s) x y total other) ∙ sym (at_pair cmp s y)
+      ap (λ l. item_at cmp l y) (without_pairs cmp s x) ∙ item_at_keys cmp (cut cmp (pairs s) x) y
+          ∙ ap (option_map (λ e. e.0)) (at_cut_other cmp (pairs s) x y total other) ∙ sym (at_pair cmp s y)
 
   -- An ascending list stays one.
   pub ascending_with : IsTotalOrder cmp → AreAscending cmp s → AreAscending cmp (with_item cmp s x)
   ascending_with total a = subst (AreAscending cmp) (sym with_pairs) (ascending_keys cmp _ (ascending_put cmp (pairs s) x tt total (pairs_ascend cmp s a)))
 
   pub ascending_without : IsTotalOrder cmp → AreAscending cmp s → AreAscending cmp (without cmp s x)
-  ascending_without total a = subst (AreAscending cmp) (sym (without_pairs cmp s x)) (ascending_keys cmp _ (ascending_cut cmp (pairs s) x total (pairs_ascend cmp s a)))
+  ascending_without total a = subst (AreAscending cmp) (sym (without_pairs cmp s x))
+      (ascending_keys cmp _ (ascending_cut cmp (pairs s) x total (pairs_ascend cmp s a)))
 
   -- The first item of an ascending list stands at itself, and without it the others are left.
   pub item_at_first : (rest : List T) → IsTotalOrder cmp → AreAscending cmp s → s ≡ x ∷ rest → item_at cmp s x ≡ Some x
-  item_at_first rest total a is = at_pair cmp s x ∙ ap (option_map (λ e. e.0)) (at_first cmp (pairs s) (pairs rest) x tt total (pairs_ascend cmp s a) (ap pairs is))
+  item_at_first rest total a is = at_pair cmp s x ∙ ap (option_map (λ e. e.0))
+      (at_first cmp (pairs s) (pairs rest) x tt total (pairs_ascend cmp s a) (ap pairs is))
 
   pub without_first : (rest : List T) → IsTotalOrder cmp → AreAscending cmp s → s ≡ x ∷ rest → without cmp s x ≡ rest
-  without_first rest total a is = without_pairs cmp s x ∙ ap keys (cut_first cmp (pairs s) (pairs rest) x tt total (pairs_ascend cmp s a) (ap pairs is)) ∙ pairs_keys rest
+  without_first rest total a is = without_pairs cmp s x ∙ ap keys (cut_first cmp (pairs s) (pairs rest) x tt total (pairs_ascend cmp s a) (ap pairs is))
+      ∙ pairs_keys rest

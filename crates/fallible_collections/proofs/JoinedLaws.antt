@@ -64,17 +64,20 @@ module _ {K V : Type 0} where
 
 module _ {K Q V : Type 0} (cmp : K → K → Ordering) (order : K → Q → Ordering) where
   -- At a query stands in joined lists what stands there in the second, or else in the first.
-  pub at_joined_query : (s t : List (K × V)) (q : Q) → IsTotalOrder cmp → IsQueryOrder cmp order → IsAscending cmp t → at order (joined cmp s t) q ≡ option_or (at order t q) (at order s q)
+  pub at_joined_query : (s t : List (K × V)) (q : Q) → IsTotalOrder cmp → IsQueryOrder cmp order → IsAscending cmp t
+      → at order (joined cmp s t) q ≡ option_or (at order t q) (at order s q)
   at_joined_query s [] q total fits a = refl
   at_joined_query s (e ∷ t) q total fits a = at_joined_query (placed cmp s e) t q total fits a.1 ∙ go (order e.0 q) refl
     where
-      go : (r : Ordering) → order e.0 q ≡ r → option_or (at order t q) (at order (placed cmp s e) q) ≡ option_or (cond (is_eq r) (Some e) (at order t q)) (at order s q)
+      go : (r : Ordering) → order e.0 q ≡ r → option_or (at order t q) (at order (placed cmp s e) q)
+          ≡ option_or (cond (is_eq r) (Some e) (at order t q)) (at order s q)
       go Less i = ap (option_or (at order t q)) (placed_elsewhere cmp order total fits q s e (λ h. absurd (let no = sym i ∙ h in cc)))
       go Equal i = rw (none_behind cmp order total fits q e t (ap is_lt i) a.0) (placed_there cmp order total fits q s e i)
       go Greater i = ap (option_or (at order t q)) (placed_elsewhere cmp order total fits q s e (λ h. absurd (let no = sym i ∙ h in cc)))
 
   -- At a query stands in joined lists the value that stands there in the second, or else in the first.
-  pub value_at_joined_query : (s t : List (K × V)) (q : Q) → IsTotalOrder cmp → IsQueryOrder cmp order → IsAscending cmp t → value_at order (joined cmp s t) q ≡ option_or (value_at order t q) (value_at order s q)
+  pub value_at_joined_query : (s t : List (K × V)) (q : Q) → IsTotalOrder cmp → IsQueryOrder cmp order → IsAscending cmp t
+      → value_at order (joined cmp s t) q ≡ option_or (value_at order t q) (value_at order s q)
   value_at_joined_query s t q total fits a = ap (option_map (λ e. e.1)) (at_joined_query s t q total fits a) ∙ either (at order t q) (at order s q)
 
 module _ {K V : Type 0} (cmp : K → K → Ordering) where
@@ -83,7 +86,8 @@ module _ {K V : Type 0} (cmp : K → K → Ordering) where
   at_joined s t k total a = at_joined_query cmp cmp s t k total (own_order total) a
 
   -- At a key stands in joined lists the value that stands there in the second, or else in the first.
-  pub value_at_joined : (s t : List (K × V)) (k : K) → IsTotalOrder cmp → IsAscending cmp t → value_at cmp (joined cmp s t) k ≡ option_or (value_at cmp t k) (value_at cmp s k)
+  pub value_at_joined : (s t : List (K × V)) (k : K) → IsTotalOrder cmp → IsAscending cmp t
+      → value_at cmp (joined cmp s t) k ≡ option_or (value_at cmp t k) (value_at cmp s k)
   value_at_joined s t k total a = value_at_joined_query cmp cmp s t k total (own_order total) a
 
   at_head : (x : K × V) (s : List (K × V)) → IsTotalOrder cmp → at cmp (x ∷ s) x.0 ≡ Some x
@@ -99,7 +103,8 @@ module _ {K V : Type 0} (cmp : K → K → Ordering) where
       none : (k : K) (e : K × V) (u : List (K × V)) → is_lt (cmp e.0 k) ≡ false → AllByRecursion (λ z. cmp e.0 z.0 ≡ Less) u → at cmp u k ≡ None
       none k = none_behind cmp cmp total (own_order total) k
 
-      rest : (k : K) (r : Ordering) → cmp x.0 k ≡ r → x ≡ y → cond (is_eq r) (Some x) (at cmp s k) ≡ cond (is_eq r) (Some x) (at cmp t k) → at cmp s k ≡ at cmp t k
+      rest : (k : K) (r : Ordering) → cmp x.0 k ≡ r → x ≡ y → cond (is_eq r) (Some x) (at cmp s k) ≡ cond (is_eq r) (Some x) (at cmp t k)
+          → at cmp s k ≡ at cmp t k
       rest k Less i e h = h
       rest k Equal i e h = none k x s (ap is_lt i) a.0 ∙ sym (none k y t (ap (λ (z : K × V). is_lt (cmp z.0 k)) (sym e) ∙ ap is_lt i) b.0)
       rest k Greater i e h = h
@@ -119,6 +124,7 @@ module _ {K V : Type 0} (cmp : K → K → Ordering) where
           absurd (let h : Some x ≡ None = sym (at_head x s total) ∙ same x.0 ∙ f in cc)
 
   -- An ascending list that answers so at each key is the joined one.
-  pub joined_is : (s t u : List (K × V)) → IsTotalOrder cmp → IsAscending cmp s → IsAscending cmp t → IsAscending cmp u → ((k : K) → at cmp u k ≡ option_or (at cmp t k) (at cmp s k)) → u ≡ joined cmp s t
+  pub joined_is : (s t u : List (K × V)) → IsTotalOrder cmp → IsAscending cmp s → IsAscending cmp t → IsAscending cmp u
+      → ((k : K) → at cmp u k ≡ option_or (at cmp t k) (at cmp s k)) → u ≡ joined cmp s t
   joined_is s t u total a b c answers =
       same_pairs u (joined cmp s t) total c (ascending_joined cmp s t total a) (λ k. answers k ∙ sym (at_joined s t k total b))

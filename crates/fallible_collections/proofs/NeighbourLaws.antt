@@ -1,6 +1,7 @@
 -- The laws of the pairs next to a key: the parts of a list that they stand at the ends of are ranges that are open at one end, which pairs of an ascending
 -- list they are, and what they are once a pair was put or cut at that key.
-use Rattle.std.proofs.Common.{◌≡◌, suc, ◌-◌, Bool, true, false, cond, List, [], ◌∷◌, ◌++◌, length, slice_get, Some, None, refl, sym, ap, ◌∙◌, subst, arith, append-nil}
+use Rattle.std.proofs.Common.{◌≡◌, suc, ◌-◌, Bool, true, false, cond, List, [], ◌∷◌, ◌++◌, length, slice_get, Some, None, refl, sym, ap, ◌∙◌, subst, arith}
+use Rattle.std.proofs.Common.{append-nil}
 use Rattle.std.specs.Prelude.{◌&&◌, unwrap_or}
 use Rattle.std.specs.List.{AllByRecursion, filter, find}
 use Rattle.std.specs.Option.{option_map}
@@ -42,7 +43,8 @@ module _ {K V : Type 0} (cmp : K → K → Ordering) (s : List (K × V)) (k : K)
   pub within_before : within cmp Unbounded (Excluded k) s ≡ below cmp s k
   within_before = refl
 
-module _ {K Q V : Type 0} (cmp : K → K → Ordering) (order : K → Q → Ordering) (s : List (K × V)) (k : K) (q : Q) (fits : IsQueryOrder cmp order) (equal : order k q ≡ Equal) where
+module _ {K Q V : Type 0} (cmp : K → K → Ordering) (order : K → Q → Ordering) (s : List (K × V)) (k : K) (q : Q) (fits : IsQueryOrder cmp order)
+    (equal : order k q ≡ Equal) where
   -- The parts of a list around a query are those around a key equal to it.
   pub not_below_query : not_below order s q ≡ not_below cmp s k
   not_below_query = ap (λ (f : K → Ordering). filter (λ e. is_ge (f e.0)) s) (alike_query cmp order k q fits equal)
@@ -106,14 +108,16 @@ module _ {X : Type 0} where
 
     all_kept : (P : X → Type 0) (s : List X) → AllByRecursion P s → AllByRecursion P (filter p s)
     all_kept P [] a = tt
-    all_kept P (y ∷ s) a = elim (p y) as (λ b. AllByRecursion P (cond b (y ∷ filter p s) (filter p s))) [ true ↦ (a.0, all_kept P s a.1) | false ↦ all_kept P s a.1 ]
+    all_kept P (y ∷ s) a = elim (p y) as (λ b. AllByRecursion P (cond b (y ∷ filter p s) (filter p s)))
+        [ true ↦ (a.0, all_kept P s a.1) | false ↦ all_kept P s a.1 ]
 
     -- what holds of all that a test keeps holds of each item that passes
     all_passing : (P : X → Type 0) (s : List X) → AllByRecursion P (filter p s) → AllByRecursion (λ x. p x ≡ true → P x) s
     all_passing P [] a = tt
     all_passing P (y ∷ s) a = go (p y) refl a (all_passing P s)
       where
-        go : (b : Bool) → p y ≡ b → AllByRecursion P (cond b (y ∷ filter p s) (filter p s)) → (AllByRecursion P (filter p s) → AllByRecursion (λ x. p x ≡ true → P x) s) → AllByRecursion (λ x. p x ≡ true → P x) (y ∷ s)
+        go : (b : Bool) → p y ≡ b → AllByRecursion P (cond b (y ∷ filter p s) (filter p s))
+            → (AllByRecursion P (filter p s) → AllByRecursion (λ x. p x ≡ true → P x) s) → AllByRecursion (λ x. p x ≡ true → P x) (y ∷ s)
         go true e a more = (λ h. a.0, more a.1)
         go false e a more = (λ h. absurd cc, more a)
 
@@ -123,7 +127,8 @@ module _ {K V : Type 0} (cmp : K → K → Ordering) where
   each_there [] total a = tt
   each_there (e ∷ s) total a = (rw (tied_itself total e.0) refl, behind s a.0 (each_there s total a.1))
     where
-      behind : (t : List (K × V)) → AllByRecursion (λ x. cmp e.0 x.0 ≡ Less) t → AllByRecursion (λ x. at cmp s x.0 ≡ Some x) t → AllByRecursion (λ x. at cmp (e ∷ s) x.0 ≡ Some x) t
+      behind : (t : List (K × V)) → AllByRecursion (λ x. cmp e.0 x.0 ≡ Less) t → AllByRecursion (λ x. at cmp s x.0 ≡ Some x) t
+          → AllByRecursion (λ x. at cmp (e ∷ s) x.0 ≡ Some x) t
       behind [] l h = tt
       behind (x ∷ t) l h = (rw l.0 h.0, behind t l.1 h.1)
 
@@ -132,7 +137,8 @@ module _ {K V : Type 0} (cmp : K → K → Ordering) where
   exact_pair [] k v exact h = absurd cc
   exact_pair (e ∷ s) k v exact h = go (cmp e.0 k) refl h (exact_pair s k v exact)
     where
-      go : (r : Ordering) → cmp e.0 k ≡ r → option_map (λ x. x.1) (cond (is_eq r) (Some e) (at cmp s k)) ≡ Some v → (value_at cmp s k ≡ Some v → at cmp s k ≡ Some (k, v)) → cond (is_eq r) (Some e) (at cmp s k) ≡ Some (k, v)
+      go : (r : Ordering) → cmp e.0 k ≡ r → option_map (λ x. x.1) (cond (is_eq r) (Some e) (at cmp s k)) ≡ Some v
+          → (value_at cmp s k ≡ Some v → at cmp s k ≡ Some (k, v)) → cond (is_eq r) (Some e) (at cmp s k) ≡ Some (k, v)
       go Less q h more = more h
       go Equal q h more = let key : e.0 ≡ k = exact e.0 k q in let value : e.1 ≡ v = cc in λ i. Some (key i, value i)
       go Greater q h more = more h
@@ -147,9 +153,11 @@ module _ {K V : Type 0} (cmp : K → K → Ordering) where
   up_to : (s : List (K × V)) (e : K × V) → IsTotalOrder cmp → IsAscending cmp s → last_item s ≡ Some e → AllByRecursion (λ x. is_le (cmp x.0 e.0) ≡ true) s
   up_to [] e total a f = tt
   up_to (y ∷ []) e total a f = let same : y ≡ e = cc in (subst (λ z. is_le (cmp y.0 z.0) ≡ true) same (ap is_le (tied_itself total y.0)), tt)
-  up_to (y ∷ z ∷ s) e total a f = let g = sym (last_more y z s) ∙ f in (ap is_le (of_last (λ x. cmp y.0 x.0 ≡ Less) (z ∷ s) e a.0 g), up_to (z ∷ s) e total a.1 g)
+  up_to (y ∷ z ∷ s) e total a f = let g = sym (last_more y z s) ∙ f in
+      (ap is_le (of_last (λ x. cmp y.0 x.0 ≡ Less) (z ∷ s) e a.0 g), up_to (z ∷ s) e total a.1 g)
 
-  -- The test p of keys is `λ k. is_ge (order k q)` for `first_at_or_after` at a query q, with `is_gt`, `is_le` and `is_lt` for the other three calls; for a range it is its two bounds.
+  -- The test p of keys is `λ k. is_ge (order k q)` for `first_at_or_after` at a query q, with `is_gt`, `is_le` and
+  -- `is_lt` for the other three calls; for a range it is its two bounds.
   module _ (p : K → Bool) (s : List (K × V)) (e : K × V) where
     -- The first pair that passes stands in the list, and passes.
     pub first_there : IsTotalOrder cmp → IsAscending cmp s → first_item (filter (λ x. p x.0) s) ≡ Some e → at cmp s e.0 ≡ Some e
@@ -159,9 +167,11 @@ module _ {K V : Type 0} (cmp : K → K → Ordering) where
     first_passes f = of_first (λ x. p x.0 ≡ true) _ e (all_pass (λ x. p x.0) s) f
 
     -- It is not above any that stands in the list and passes.
-    pub first_least : (k : K) (x : K × V) → IsTotalOrder cmp → IsAscending cmp s → first_item (filter (λ x. p x.0) s) ≡ Some e → at cmp s k ≡ Some x → p x.0 ≡ true → is_le (cmp e.0 x.0) ≡ true
+    pub first_least : (k : K) (x : K × V) → IsTotalOrder cmp → IsAscending cmp s → first_item (filter (λ x. p x.0) s) ≡ Some e → at cmp s k ≡ Some x
+        → p x.0 ≡ true → is_le (cmp e.0 x.0) ≡ true
     first_least k x total a f there passes =
-        of_found (λ y. p y.0 ≡ true → is_le (cmp e.0 y.0) ≡ true) _ s x (all_passing (λ y. p y.0) (λ y. is_le (cmp e.0 y.0) ≡ true) s (up_from _ e total (asc_filter cmp _ s a) f)) there passes
+        of_found (λ y. p y.0 ≡ true → is_le (cmp e.0 y.0) ≡ true) _ s x
+            (all_passing (λ y. p y.0) (λ y. is_le (cmp e.0 y.0) ≡ true) s (up_from _ e total (asc_filter cmp _ s a) f)) there passes
 
     -- The last pair that passes stands in the list, and passes.
     pub last_there : IsTotalOrder cmp → IsAscending cmp s → last_item (filter (λ x. p x.0) s) ≡ Some e → at cmp s e.0 ≡ Some e
@@ -171,9 +181,11 @@ module _ {K V : Type 0} (cmp : K → K → Ordering) where
     last_passes f = of_last (λ x. p x.0 ≡ true) _ e (all_pass (λ x. p x.0) s) f
 
     -- None that stands in the list and passes is above it.
-    pub last_greatest : (k : K) (x : K × V) → IsTotalOrder cmp → IsAscending cmp s → last_item (filter (λ x. p x.0) s) ≡ Some e → at cmp s k ≡ Some x → p x.0 ≡ true → is_le (cmp x.0 e.0) ≡ true
+    pub last_greatest : (k : K) (x : K × V) → IsTotalOrder cmp → IsAscending cmp s → last_item (filter (λ x. p x.0) s) ≡ Some e → at cmp s k ≡ Some x
+        → p x.0 ≡ true → is_le (cmp x.0 e.0) ≡ true
     last_greatest k x total a f there passes =
-        of_found (λ y. p y.0 ≡ true → is_le (cmp y.0 e.0) ≡ true) _ s x (all_passing (λ y. p y.0) (λ y. is_le (cmp y.0 e.0) ≡ true) s (up_to _ e total (asc_filter cmp _ s a) f)) there passes
+        of_found (λ y. p y.0 ≡ true → is_le (cmp y.0 e.0) ≡ true) _ s x
+            (all_passing (λ y. p y.0) (λ y. is_le (cmp y.0 e.0) ≡ true) s (up_to _ e total (asc_filter cmp _ s a) f)) there passes
 
   module _ (p : K → Bool) (s : List (K × V)) (k : K) (x : K × V) where
     none_kept : filter (λ x. p x.0) s ≡ [] → at cmp s k ≡ Some x → ¬ (p x.0 ≡ true)
@@ -192,15 +204,18 @@ module _ {K Q V : Type 0} (cmp : K → Q → Ordering) (t : Ordering → Bool) (
   one_way r [] a = elim (t r) as (λ b. ◌≡◌ {A = List (K × V)} [] (cond b [] [])) [ true ↦ refl | false ↦ refl ]
   one_way r (e ∷ s) a = rw a.0 (go (t r) (one_way r s a.1))
     where
-      go : (b : Bool) → filter (λ e. t (cmp e.0 k)) s ≡ cond b s [] → cond b (e ∷ filter (λ e. t (cmp e.0 k)) s) (filter (λ e. t (cmp e.0 k)) s) ≡ cond b (e ∷ s) []
+      go : (b : Bool) → filter (λ e. t (cmp e.0 k)) s ≡ cond b s [] → cond b (e ∷ filter (λ e. t (cmp e.0 k)) s) (filter (λ e. t (cmp e.0 k)) s)
+          ≡ cond b (e ∷ s) []
       go true i = ap (λ zs. e ∷ zs) i
       go false i = i
 
   -- and so it does with what is below k and above k, whatever stands between them
-  around : (s between : List (K × V)) → filter (λ e. t (cmp e.0 k)) (below cmp s k ++ (between ++ above cmp s k)) ≡ cond (t Less) (below cmp s k) [] ++ (filter (λ e. t (cmp e.0 k)) between ++ cond (t Greater) (above cmp s k) [])
+  around : (s between : List (K × V)) → filter (λ e. t (cmp e.0 k)) (below cmp s k ++ (between ++ above cmp s k)) ≡ cond (t Less) (below cmp s k) []
+      ++ (filter (λ e. t (cmp e.0 k)) between ++ cond (t Greater) (above cmp s k) [])
   around s between =
       filter-append _ (below cmp s k) (between ++ above cmp s k)
-      ∙ rw (one_way Less (below cmp s k) (all_below cmp s k), filter-append (λ e. t (cmp e.0 k)) between (above cmp s k), one_way Greater (above cmp s k) (all_above cmp s k)) refl
+      ∙ rw (one_way Less (below cmp s k) (all_below cmp s k), filter-append (λ e. t (cmp e.0 k)) between (above cmp s k),
+          one_way Greater (above cmp s k) (all_above cmp s k)) refl
 
 module _ {K Q V : Type 0} (cmp : K → Q → Ordering) (s : List (K × V)) (k : Q) where
   -- A cut at a key leaves what is below it and what is above it; so the pairs from the key on are those behind it, and those up to it are those ahead of it.

@@ -1,7 +1,8 @@
 -- The laws of what is said of all pairs of a list, once a pair is put or cut: a test of each, a sum over them, and what a filter keeps; what stands at a
 -- query that a cut key is not equal to; and of the first and the last pair.
 -- A caller names one on a function, as `#[tactic(auto, using(fallible_collections::proofs::Laws::sum_cut))]`, or cites it in an answer.
-use Rattle.std.proofs.Common.{◌≡◌, ℕ, ◌+◌, ◌-◌, Bool, true, false, cond, List, [], ◌∷◌, ◌++◌, length, slice_get, All, Option, Some, None, refl, sym, ap, ◌∙◌, subst, arith}
+use Rattle.std.proofs.Common.{◌≡◌, ℕ, ◌+◌, ◌-◌, Bool, true, false, cond, List, [], ◌∷◌, ◌++◌, length, slice_get, All, Option, Some, None, refl, sym, ap, ◌∙◌}
+use Rattle.std.proofs.Common.{subst, arith}
 use Rattle.std.specs.Prelude.{unwrap_or, string_bytes}
 use Rattle.std.specs.List.{AllByRecursion, filter, find, sum_by}
 use Rattle.std.specs.Option.{option_map, option_or, option_to_list}
@@ -38,7 +39,8 @@ module _ {X : Type 0} (p q : X → Bool) where
   swapped [] = refl
   swapped (x ∷ s) = go (p x) (q x) refl refl (swapped s)
     where
-      go : (a b : Bool) → p x ≡ a → q x ≡ b → filter p (filter q s) ≡ filter q (filter p s) → filter p (cond b (x ∷ filter q s) (filter q s)) ≡ filter q (cond a (x ∷ filter p s) (filter p s))
+      go : (a b : Bool) → p x ≡ a → q x ≡ b → filter p (filter q s) ≡ filter q (filter p s)
+          → filter p (cond b (x ∷ filter q s) (filter q s)) ≡ filter q (cond a (x ∷ filter p s) (filter p s))
       go true true e f h = rw (e, f) (ap (λ t. x ∷ t) h)
       go true false e f h = rw f h
       go false true e f h = rw e h
@@ -55,18 +57,24 @@ module _ {K V : Type 0} (cmp : K → K → Ordering) where
   put_pair s k v = (unwrap_or (option_map (λ e. e.0) (at cmp s k)) k, v)
 
   -- A filter that leaves the put pair out is the filtered list without a pair at that key, and one that keeps it has it between what is below and above.
-  pub filter_put_out : (p : K × V → Bool) (s : List (K × V)) (k : K) (v : V) → p (unwrap_or (option_map (λ e. e.0) (at cmp s k)) k, v) ≡ false → filter p (put cmp s k v) ≡ cut cmp (filter p s) k
-  filter_put_out p s k v out = filter-append p (below cmp s k) (put_pair s k v ∷ above cmp s k) ∙ rw out (sym (filter-append p (below cmp s k) (above cmp s k)) ∙ filter_cut cmp p s k)
+  pub filter_put_out : (p : K × V → Bool) (s : List (K × V)) (k : K) (v : V) → p (unwrap_or (option_map (λ e. e.0) (at cmp s k)) k, v) ≡ false
+      → filter p (put cmp s k v) ≡ cut cmp (filter p s) k
+  filter_put_out p s k v out = filter-append p (below cmp s k) (put_pair s k v ∷ above cmp s k)
+      ∙ rw out (sym (filter-append p (below cmp s k) (above cmp s k)) ∙ filter_cut cmp p s k)
 
-  pub filter_put_kept : (p : K × V → Bool) (s : List (K × V)) (k : K) (v : V) → p (unwrap_or (option_map (λ e. e.0) (at cmp s k)) k, v) ≡ true → filter p (put cmp s k v) ≡ below cmp (filter p s) k ++ (unwrap_or (option_map (λ e. e.0) (at cmp s k)) k, v) ∷ above cmp (filter p s) k
-  filter_put_kept p s k v kept = filter-append p (below cmp s k) (put_pair s k v ∷ above cmp s k) ∙ rw kept (λ i. swapped p (λ e. is_lt (cmp e.0 k)) s i ++ put_pair s k v ∷ swapped p (λ e. is_gt (cmp e.0 k)) s i)
+  pub filter_put_kept : (p : K × V → Bool) (s : List (K × V)) (k : K) (v : V) → p (unwrap_or (option_map (λ e. e.0) (at cmp s k)) k, v) ≡ true
+      → filter p (put cmp s k v) ≡ below cmp (filter p s) k ++ (unwrap_or (option_map (λ e. e.0) (at cmp s k)) k, v) ∷ above cmp (filter p s) k
+  filter_put_kept p s k v kept = filter-append p (below cmp s k) (put_pair s k v ∷ above cmp s k)
+      ∙ rw kept (λ i. swapped p (λ e. is_lt (cmp e.0 k)) s i ++ put_pair s k v ∷ swapped p (λ e. is_gt (cmp e.0 k)) s i)
 
   -- What holds of all pairs holds of those that a cut leaves, and, where it holds of the pair that is put, of all once it is there.
   pub all_cut : (P : K × V → Type 0) (s : List (K × V)) (k : K) → All P s → All P (cut cmp s k)
   all_cut P s k a = All-append P (below cmp s k) (above cmp s k) (All-filter _ P s a) (All-filter _ P s a)
 
-  pub all_put : (P : K × V → Type 0) (s : List (K × V)) (k : K) (v : V) → All P s → P (unwrap_or (option_map (λ e. e.0) (at cmp s k)) k, v) → All P (put cmp s k v)
-  all_put P s k v a h = All-append P (below cmp s k) (put_pair s k v ∷ above cmp s k) (All-filter _ P s a) (All-cons P (put_pair s k v) (above cmp s k) h (All-filter _ P s a))
+  pub all_put : (P : K × V → Type 0) (s : List (K × V)) (k : K) (v : V) → All P s → P (unwrap_or (option_map (λ e. e.0) (at cmp s k)) k, v)
+      → All P (put cmp s k v)
+  all_put P s k v a h = All-append P (below cmp s k) (put_pair s k v ∷ above cmp s k) (All-filter _ P s a)
+      (All-cons P (put_pair s k v) (above cmp s k) h (All-filter _ P s a))
 
   module _ (f : K × V → ℕ) (s : List (K × V)) (k : K) where
     -- the sum over what is below a key, a pair and what is above
@@ -101,7 +109,8 @@ module _ {K V : Type 0} (cmp : K → K → Ordering) (f : V → ℕ) (s : List (
     where
       go : (o : Option (K × V)) → at cmp s k ≡ o → option_map (λ e. e.1) o ≡ Some old → sum_by (λ e. f e.1) (cut cmp s k) + f old ≡ sum_by (λ e. f e.1) s
       go None e h = absurd cc
-      go (Some x) e h = let same : x.1 ≡ old = cc in subst (λ v. sum_by (λ e. f e.1) (cut cmp s k) + f v ≡ sum_by (λ e. f e.1) s) same (sum_cut cmp (λ e. f e.1) s k x total a e)
+      go (Some x) e h = let same : x.1 ≡ old = cc in subst (λ v. sum_by (λ e. f e.1) (cut cmp s k) + f v ≡ sum_by (λ e. f e.1) s) same
+          (sum_cut cmp (λ e. f e.1) s k x total a e)
 
   pub sum_values_cut_absent : value_at cmp s k ≡ None → sum_by (λ e. f e.1) (cut cmp s k) ≡ sum_by (λ e. f e.1) s
   sum_values_cut_absent none = ap (sum_by (λ e. f e.1)) (cut_absent cmp s k total a (no_pair (at cmp s k) none))
@@ -109,9 +118,11 @@ module _ {K V : Type 0} (cmp : K → K → Ordering) (f : V → ℕ) (s : List (
   pub sum_values_put : (old v : V) → value_at cmp s k ≡ Some old → sum_by (λ e. f e.1) (put cmp s k v) + f old ≡ sum_by (λ e. f e.1) s + f v
   sum_values_put old v there = go (at cmp s k) refl there
     where
-      go : (o : Option (K × V)) → at cmp s k ≡ o → option_map (λ e. e.1) o ≡ Some old → sum_by (λ e. f e.1) (put cmp s k v) + f old ≡ sum_by (λ e. f e.1) s + f v
+      go : (o : Option (K × V)) → at cmp s k ≡ o → option_map (λ e. e.1) o ≡ Some old
+          → sum_by (λ e. f e.1) (put cmp s k v) + f old ≡ sum_by (λ e. f e.1) s + f v
       go None e h = absurd cc
-      go (Some x) e h = let same : x.1 ≡ old = cc in subst (λ w. sum_by (λ e. f e.1) (put cmp s k v) + f w ≡ sum_by (λ e. f e.1) s + f v) same (sum_put cmp (λ e. f e.1) s k v x total a e)
+      go (Some x) e h = let same : x.1 ≡ old = cc in subst (λ w. sum_by (λ e. f e.1) (put cmp s k v) + f w ≡ sum_by (λ e. f e.1) s + f v) same
+          (sum_put cmp (λ e. f e.1) s k v x total a e)
 
   pub sum_values_put_new : (v : V) → value_at cmp s k ≡ None → sum_by (λ e. f e.1) (put cmp s k v) ≡ sum_by (λ e. f e.1) s + f v
   sum_values_put_new v none = sum_put_new cmp (λ e. f e.1) s k v total a (no_pair (at cmp s k) none)

@@ -51,7 +51,8 @@ found_among : {X : Type 0} (p q : X → Bool) (s : List X) (b : Bool) → ((x : 
 found_among {X = X} p q [] b same = elim b as (λ c. ◌≡◌ {A = Option X} None (cond c None None)) [ true ↦ refl | false ↦ refl ]
 found_among p q (x ∷ s) b same = go (p x) (q x) refl (same x) (found_among p q s b same)
   where
-    go : (u v : Bool) → p x ≡ u → (u ≡ true → v ≡ b) → find p (filter q s) ≡ cond b (find p s) None → find p (cond v (x ∷ filter q s) (filter q s)) ≡ cond b (cond u (Some x) (find p s)) None
+    go : (u v : Bool) → p x ≡ u → (u ≡ true → v ≡ b) → find p (filter q s) ≡ cond b (find p s) None
+        → find p (cond v (x ∷ filter q s) (filter q s)) ≡ cond b (cond u (Some x) (find p s)) None
     go true true e h i = rw (e, sym (h refl)) refl
     go true false e h i = i ∙ rw (sym (h refl)) refl
     go false true e h i = rw e i
@@ -86,36 +87,44 @@ module _ {T : Type 0} (cmp : T → T → Ordering) where
       sym (pairs_keys s) ∙ ap keys (same_pairs cmp (pairs s) (pairs t) total (pairs_ascend s a) (pairs_ascend t b) each) ∙ pairs_keys t
 
   -- At a query stands in joined lists the item of the second, or else of the first.
-  pub item_at_joined_query : {Q : Type 0} (order : T → Q → Ordering) (s t : List T) (q : Q) → IsTotalOrder cmp → IsQueryOrder cmp order → AreAscending cmp t → item_at order (joined_items cmp s t) q ≡ option_or (item_at order t q) (item_at order s q)
+  pub item_at_joined_query : {Q : Type 0} (order : T → Q → Ordering) (s t : List T) (q : Q) → IsTotalOrder cmp → IsQueryOrder cmp order → AreAscending cmp t
+      → item_at order (joined_items cmp s t) q ≡ option_or (item_at order t q) (item_at order s q)
   item_at_joined_query order s t q total fits b =
       ap (λ l. item_at order l q) (joined_pairs s t) ∙ item_at_keys order (joined cmp (pairs s) (pairs t)) q
       ∙ ap (option_map (λ e. e.0)) (at_joined_query cmp order (pairs s) (pairs t) q total fits (pairs_ascend t b))
       ∙ either (at order (pairs t) q) (at order (pairs s) q) ∙ (λ i. option_or (sym (at_pair order t q) i) (sym (at_pair order s q) i))
 
   -- At an item stands in joined lists the one of the second, or else of the first.
-  pub item_at_joined : (s t : List T) (x : T) → IsTotalOrder cmp → AreAscending cmp t → item_at cmp (joined_items cmp s t) x ≡ option_or (item_at cmp t x) (item_at cmp s x)
+  pub item_at_joined : (s t : List T) (x : T) → IsTotalOrder cmp → AreAscending cmp t
+      → item_at cmp (joined_items cmp s t) x ≡ option_or (item_at cmp t x) (item_at cmp s x)
   item_at_joined s t x total b = item_at_joined_query cmp s t x total (own_order total) b
 
   -- An ascending list that answers so at each item is the joined one.
-  pub joined_items_is : (s t u : List T) → IsTotalOrder cmp → AreAscending cmp s → AreAscending cmp t → AreAscending cmp u → ((x : T) → item_at cmp u x ≡ option_or (item_at cmp t x) (item_at cmp s x)) → u ≡ joined_items cmp s t
+  pub joined_items_is : (s t u : List T) → IsTotalOrder cmp → AreAscending cmp s → AreAscending cmp t → AreAscending cmp u
+      → ((x : T) → item_at cmp u x ≡ option_or (item_at cmp t x) (item_at cmp s x)) → u ≡ joined_items cmp s t
   joined_items_is s t u total a b c answers =
       same_items u (joined_items cmp s t) total c (ascending_joined_items s t total a) (λ x. answers x ∙ sym (item_at_joined s t x total b))
 
   -- In a union stands the item of the first, or else of the second.
-  pub item_at_union : (s t : List T) (x : T) → IsTotalOrder cmp → AreAscending cmp s → item_at cmp (union cmp s t) x ≡ option_or (item_at cmp s x) (item_at cmp t x)
+  pub item_at_union : (s t : List T) (x : T) → IsTotalOrder cmp → AreAscending cmp s
+      → item_at cmp (union cmp s t) x ≡ option_or (item_at cmp s x) (item_at cmp t x)
   item_at_union s t x total a = item_at_joined t s x total a
 
   -- In a difference stands the item of the first, where the second has none.
-  pub item_at_difference : (s t : List T) (x : T) → IsTotalOrder cmp → item_at cmp (difference cmp s t) x ≡ (if is_none (item_at cmp t x) then item_at cmp s x else None)
+  pub item_at_difference : (s t : List T) (x : T) → IsTotalOrder cmp → item_at cmp (difference cmp s t) x
+      ≡ (if is_none (item_at cmp t x) then item_at cmp s x else None)
   item_at_difference s t x total = found_among _ (λ y. is_none (item_at cmp t y)) s (is_none (item_at cmp t x)) (λ y i. ap is_none (item_equal t y x total i))
 
   -- In a symmetric difference stands the item of the one list that has it alone.
-  pub item_at_symmetric : (s t : List T) (x : T) → IsTotalOrder cmp → AreAscending cmp t → item_at cmp (symmetric_difference cmp s t) x ≡ (if is_none (item_at cmp s x) then item_at cmp t x else if is_none (item_at cmp t x) then item_at cmp s x else None)
+  pub item_at_symmetric : (s t : List T) (x : T) → IsTotalOrder cmp → AreAscending cmp t
+      → item_at cmp (symmetric_difference cmp s t) x ≡ (if is_none (item_at cmp s x) then item_at cmp t x else if is_none (item_at cmp t x) then item_at cmp s
+      x else None)
   item_at_symmetric s t x total b =
       item_at_joined (difference cmp s t) (difference cmp t s) x total (ascending_kept cmp _ t b)
       ∙ rw (item_at_difference t s x total, item_at_difference s t x total) (alone (item_at cmp s x) (item_at cmp t x))
     where
-      alone : (o p : Option T) → option_or (if is_none o then p else None) (if is_none p then o else None) ≡ (if is_none o then p else if is_none p then o else None)
+      alone : (o p : Option T) → option_or (if is_none o then p else None) (if is_none p then o else None)
+          ≡ (if is_none o then p else if is_none p then o else None)
       alone None None = refl
       alone None (Some y) = refl
       alone (Some z) p = refl

@@ -13,7 +13,8 @@ module _ {T : Type 0} (R : T → T → Type 0) where
   none_copied old xs = record { copies = []; copied = tt; is = sym (append-nil old) }
 
   -- One more item was copied, and its copy put behind the others.
-  pub one_copied : (old xs mid new : List T) (i : ℕ) (x y : T) → i < length xs → x ≡ get_or xs i x → IsExtended R old (take i xs) mid → R x y → new ≡ mid ++ y ∷ [] → IsExtended R old (take (i + 1) xs) new
+  pub one_copied : (old xs mid new : List T) (i : ℕ) (x y : T) → i < length xs → x ≡ get_or xs i x → IsExtended R old (take i xs) mid → R x y
+      → new ≡ mid ++ y ∷ [] → IsExtended R old (take (i + 1) xs) new
   one_copied old xs mid new i x y h e m r is = record {
     copies = m.copies ++ y ∷ [];
     copied = all_zip_more R xs m.copies i x y h e m.copied r;
@@ -25,7 +26,8 @@ module _ {T : Type 0} (R : T → T → Type 0) where
   all_copied old xs new i e m = subst (λ l. IsExtended R old l new) (take_all i xs (omega arith)) m
 
   -- The copy of the next item was refused.
-  pub front_copied : (may_refuse : T → TryReserveError → Type 0) (error : TryReserveError) (old xs new : List T) (i : ℕ) (x : T) → i < length xs → x ≡ get_or xs i x → IsExtended R old (take i xs) new → may_refuse x error → IsCopiedUpTo R may_refuse error old xs new
+  pub front_copied : (may_refuse : T → TryReserveError → Type 0) (error : TryReserveError) (old xs new : List T) (i : ℕ) (x : T) → i < length xs
+      → x ≡ get_or xs i x → IsExtended R old (take i xs) new → may_refuse x error → IsCopiedUpTo R may_refuse error old xs new
   front_copied may_refuse error old xs new i x h e m refusable = record {
     front = take i xs;
     source = x;
@@ -36,10 +38,17 @@ module _ {T : Type 0} (R : T → T → Type 0) where
   }
 
   -- What is refused is a copy of one of the sources.
-  pub one_refused : (may_refuse : T → TryReserveError → Type 0) (error : TryReserveError) (old xs new : List T) → IsCopiedUpTo R may_refuse error old xs new → Any (λ x. may_refuse x error) xs
+  pub one_refused : (may_refuse : T → TryReserveError → Type 0) (error : TryReserveError) (old xs new : List T) → IsCopiedUpTo R may_refuse error old xs new
+      → Any (λ x. may_refuse x error) xs
   one_refused may_refuse error old xs new u =
-      let parts = ap length u.taken ∙ length-append u.front (u.source ∷ u.rest) in
-      (length u.front, u.source, omega (arith, parts), ap (λ l. get_or l (length u.front) u.source) u.taken ∙ get_or-append_seam u.front u.source u.rest u.source, u.refusable)
+      let parts = ap length u.taken ∙ length-append u.front (u.source ∷ u.rest) in (
+        length u.front,
+        u.source,
+        omega (arith, parts),
+        ap (λ l. get_or l (length u.front) u.source) u.taken
+            ∙ get_or-append_seam u.front u.source u.rest u.source,
+        u.refusable,
+      )
 
 -- What is its own copy.
 equal : {T : Type 0} (xs : List T) → AllZip (λ source copy. copy ≡ source) xs xs

@@ -34,7 +34,8 @@ module _ {K Q V : Type 0} (cmp : K → K → Ordering) (order : K → Q → Orde
       none : AllByRecursion (λ x. order x.0 q ≡ Greater) s → (below order s q ≡ []) × (not_below order s q ≡ s)
       none g = (left_out _ s (all_map _ _ (λ x h. ap is_lt h) s g), kept _ s (all_map _ _ (λ x h. ap is_ge h) s g))
 
-      go : (r : Ordering) → order e.0 q ≡ r → below order s q ++ not_below order s q ≡ s → cond (is_lt r) (e ∷ below order s q) (below order s q) ++ cond (is_ge r) (e ∷ not_below order s q) (not_below order s q) ≡ e ∷ s
+      go : (r : Ordering) → order e.0 q ≡ r → below order s q ++ not_below order s q ≡ s
+          → cond (is_lt r) (e ∷ below order s q) (below order s q) ++ cond (is_ge r) (e ∷ not_below order s q) (not_below order s q) ≡ e ∷ s
       go Less h i = ap (λ zs. e ∷ zs) i
       go Equal h i = let n = none (all_map _ _ (λ x l. fits.past q e.0 x.0 l h) s a.0) in rw (n.0, n.1) refl
       go Greater h i = let n = none (all_map _ _ (λ x l. fits.upper q e.0 x.0 l h) s a.0) in rw (n.0, n.1) refl
@@ -53,7 +54,8 @@ module _ {K V : Type 0} (cmp : K → K → Ordering) where
       ∙ append_assoc front (e ∷ []) back
 
   -- What a cut left and what it took out are joined to the list that there was.
-  pub joined_halves : {Q : Type 0} (order : K → Q → Ordering) (s : List (K × V)) (q : Q) → IsQueryOrder cmp order → IsAscending cmp s → joined cmp (below order s q) (not_below order s q) ≡ s
+  pub joined_halves : {Q : Type 0} (order : K → Q → Ordering) (s : List (K × V)) (q : Q) → IsQueryOrder cmp order → IsAscending cmp s
+      → joined cmp (below order s q) (not_below order s q) ≡ s
   joined_halves order s q fits a =
       let e = halves_joined cmp order s q fits a in
       joined_behind (below order s q) (not_below order s q) (subst (IsAscending cmp) (sym e) a) ∙ e

@@ -1,6 +1,8 @@
--- The laws of lists of pairs: what stands at each key once a pair is put or cut, how many pairs there are then, the first and the last pair, and the part between two bounds.
+-- The laws of lists of pairs: what stands at each key once a pair is put or cut, how many pairs there are then, the
+-- first and the last pair, and the part between two bounds.
 -- A caller names one on a function, as `#[tactic(auto, using(fc_base::proofs::Laws::value_at_put))]`, or cites it in an answer.
-use Rattle.std.proofs.Common.{◌≡◌, suc, ◌+◌, ◌-◌, Bool, true, false, cond, List, [], ◌∷◌, ◌++◌, length, take, drop, Option, Some, None, IsSome, IsTrue, All, refl, sym, ap, ◌∙◌, subst, arith, append-nil, length-append, length-take-le, take-append-drop}
+use Rattle.std.proofs.Common.{◌≡◌, suc, ◌+◌, ◌-◌, Bool, true, false, cond, List, [], ◌∷◌, ◌++◌, length, take, drop, Option, Some, None, IsSome, IsTrue, All}
+use Rattle.std.proofs.Common.{refl, sym, ap, ◌∙◌, subst, arith, append-nil, length-append, length-take-le, take-append-drop}
 use Rattle.std.specs.Prelude.{◌&&◌, unwrap_or, ⊤}
 use Rattle.std.specs.List.{AllByRecursion, filter, find}
 use Rattle.std.specs.Option.{option_map, option_or, option_to_list}
@@ -48,7 +50,8 @@ module _ {X : Type 0} (p : X → Bool) where
   found_in q b same [] = elim b as (λ c. ◌≡◌ {A = Option X} None (cond c None None)) [ true ↦ refl | false ↦ refl ]
   found_in q b same (x ∷ s) = go (p x) (q x) refl (same x) (found_in q b same s)
     where
-      go : (u v : Bool) → p x ≡ u → (u ≡ true → v ≡ b) → find p (filter q s) ≡ cond b (find p s) None → find p (cond v (x ∷ filter q s) (filter q s)) ≡ cond b (cond u (Some x) (find p s)) None
+      go : (u v : Bool) → p x ≡ u → (u ≡ true → v ≡ b) → find p (filter q s) ≡ cond b (find p s) None
+          → find p (cond v (x ∷ filter q s) (filter q s)) ≡ cond b (cond u (Some x) (find p s)) None
       go true true e h i = rw (e, sym (h refl)) refl
       go true false e h i = i ∙ rw (sym (h refl)) refl
       go false true e h i = rw e i
@@ -92,7 +95,8 @@ module _ {K : Type 0} (cmp : K → K → Ordering) where
       go Greater e h = ap is_lt (over_one cmp total b y (total.trans b x y (under_one cmp total b x e) l))
 
 -- each key stands to a query as to a key that is equal to it
-pub alike_query : {K Q : Type 0} (cmp : K → K → Ordering) (order : K → Q → Ordering) (k : K) (q : Q) → IsQueryOrder cmp order → order k q ≡ Equal → ◌≡◌ {A = K → Ordering} (λ x. order x q) (λ x. cmp x k)
+pub alike_query : {K Q : Type 0} (cmp : K → K → Ordering) (order : K → Q → Ordering) (k : K) (q : Q) → IsQueryOrder cmp order → order k q ≡ Equal
+    → ◌≡◌ {A = K → Ordering} (λ x. order x q) (λ x. cmp x k)
 alike_query cmp order k q fits equal = λ i x. fits.same q k x equal i
 
 module _ {K Q V : Type 0} (cmp : K → K → Ordering) (order : K → Q → Ordering) where
@@ -127,7 +131,8 @@ module _ {K Q V : Type 0} (cmp : K → Q → Ordering) where
 
 module _ {K Q V : Type 0} (cmp : K → K → Ordering) (order : K → Q → Ordering) where
   -- what stands at a query that k is not equal to is where it was, whatever stands between what is below and above k
-  stays : (s between : List (K × V)) (k : K) (q : Q) → IsTotalOrder cmp → IsQueryOrder cmp order → ¬ (order k q ≡ Equal) → at order between q ≡ None → at order (below cmp s k ++ (between ++ above cmp s k)) q ≡ at order s q
+  stays : (s between : List (K × V)) (k : K) (q : Q) → IsTotalOrder cmp → IsQueryOrder cmp order → ¬ (order k q ≡ Equal) → at order between q ≡ None
+      → at order (below cmp s k ++ (between ++ above cmp s k)) q ≡ at order s q
   stays s between k q total fits other none =
       find-append test (below cmp s k) (between ++ above cmp s k)
       ∙ ap (option_or (at order (below cmp s k) q)) (find-append test between (above cmp s k) ∙ ap (λ o. option_or o (at order (above cmp s k) q)) none)
@@ -136,8 +141,10 @@ module _ {K Q V : Type 0} (cmp : K → K → Ordering) (order : K → Q → Orde
       test : K × V → Bool
       test e = is_eq (order e.0 q)
 
-      found : (p : Ordering → Bool) (r : Ordering) → order k q ≡ r → find test (filter (λ e. p (cmp e.0 k)) s) ≡ cond (p (ordering_reverse r)) (at order s q) None
-      found p r e = found_in test (λ x. p (cmp x.0 k)) (p (ordering_reverse r)) (λ x h. ap p (total.antisymm x.0 k ∙ ap ordering_reverse (sym (fits.same q x.0 k (is_equal (order x.0 q) h)) ∙ e))) s
+      found : (p : Ordering → Bool) (r : Ordering) → order k q ≡ r → find test (filter (λ e. p (cmp e.0 k)) s)
+          ≡ cond (p (ordering_reverse r)) (at order s q) None
+      found p r e = found_in test (λ x. p (cmp x.0 k)) (p (ordering_reverse r))
+          (λ x h. ap p (total.antisymm x.0 k ∙ ap ordering_reverse (sym (fits.same q x.0 k (is_equal (order x.0 q) h)) ∙ e))) s
 
       no_more : (o : Option (K × V)) → option_or o None ≡ o
       no_more None = refl
@@ -149,7 +156,8 @@ module _ {K Q V : Type 0} (cmp : K → K → Ordering) (order : K → Q → Orde
       go Greater e = ap (option_or (at order (below cmp s k) q)) (found is_gt Greater e) ∙ no_more (at order (below cmp s k) q) ∙ found is_lt Greater e
 
   -- The pair at a query stays where one is put at a key that is not equal to it.
-  pub at_put_other_query : (s : List (K × V)) (k : K) (v : V) (q : Q) → IsTotalOrder cmp → IsQueryOrder cmp order → ¬ (order k q ≡ Equal) → at order (put cmp s k v) q ≡ at order s q
+  pub at_put_other_query : (s : List (K × V)) (k : K) (v : V) (q : Q) → IsTotalOrder cmp → IsQueryOrder cmp order → ¬ (order k q ≡ Equal)
+      → at order (put cmp s k v) q ≡ at order s q
   at_put_other_query s k v q total fits other = stays s (x ∷ []) k q total fits other (none (order x.0 q) refl)
     where
       x : K × V
@@ -161,7 +169,8 @@ module _ {K Q V : Type 0} (cmp : K → K → Ordering) (order : K → Q → Orde
       none Greater e = refl
 
   -- The value at a query stays where a pair is put at a key that is not equal to it.
-  pub value_at_put_other_query : (s : List (K × V)) (k : K) (v : V) (q : Q) → IsTotalOrder cmp → IsQueryOrder cmp order → ¬ (order k q ≡ Equal) → value_at order (put cmp s k v) q ≡ value_at order s q
+  pub value_at_put_other_query : (s : List (K × V)) (k : K) (v : V) (q : Q) → IsTotalOrder cmp → IsQueryOrder cmp order → ¬ (order k q ≡ Equal)
+      → value_at order (put cmp s k v) q ≡ value_at order s q
   value_at_put_other_query s k v q total fits other = ap (option_map (λ e. e.1)) (at_put_other_query s k v q total fits other)
 
 module _ {K V : Type 0} (cmp : K → K → Ordering) where
@@ -196,7 +205,8 @@ module _ {K V : Type 0} (cmp : K → K → Ordering) where
   at_put_other s k v j total other = at_put_other_query cmp cmp s k v j total (own_order total) (apart cmp j k total other)
 
   -- The values at other keys stay where one is put.
-  pub value_at_put_other : (s : List (K × V)) (k : K) (v : V) (j : K) → IsTotalOrder cmp → ¬ (cmp j k ≡ Equal) → value_at cmp (put cmp s k v) j ≡ value_at cmp s j
+  pub value_at_put_other : (s : List (K × V)) (k : K) (v : V) (j : K) → IsTotalOrder cmp → ¬ (cmp j k ≡ Equal)
+      → value_at cmp (put cmp s k v) j ≡ value_at cmp s j
   value_at_put_other s k v j total other = ap (option_map (λ e. e.1)) (at_put_other s k v j total other)
 
   -- The pairs at other keys stay where one is cut.
@@ -216,7 +226,8 @@ module _ {K V : Type 0} (cmp : K → K → Ordering) where
   ascending_cut s k total a = asc_cut cmp total s a k
 
   -- what stands behind a pair whose key is not below k is above k
-  later_above : (e : K × V) (s : List (K × V)) (k : K) → IsTotalOrder cmp → IsAscending cmp (e ∷ s) → (r : Ordering) → cmp e.0 k ≡ r → is_lt r ≡ false → AllByRecursion (λ x. cmp x.0 k ≡ Greater) s
+  later_above : (e : K × V) (s : List (K × V)) (k : K) → IsTotalOrder cmp → IsAscending cmp (e ∷ s) → (r : Ordering) → cmp e.0 k ≡ r → is_lt r ≡ false
+      → AllByRecursion (λ x. cmp x.0 k ≡ Greater) s
   later_above e s k total a Less h n = absurd cc
   later_above e s k total a Equal h n = all_map _ _ (λ x l. over_one cmp total k x.0 (sym (total.congr e.0 k x.0 h) ∙ l)) s a.0
   later_above e s k total a Greater h n = all_map _ _ (λ x l. over_one cmp total k x.0 (total.trans k e.0 x.0 (under_one cmp total k e.0 h) l)) s a.0
@@ -231,7 +242,9 @@ module _ {K V : Type 0} (cmp : K → K → Ordering) where
           let g = later_above e s k total a r h n in
           (left_out _ s (passes cmp is_lt Greater k s g), kept _ s (passes cmp is_gt Greater k s g), not_found _ s (passes cmp is_eq Greater k s g))
 
-      go : (r : Ordering) → cmp e.0 k ≡ r → below cmp s k ++ (option_to_list (at cmp s k) ++ above cmp s k) ≡ s → cond (is_lt r) (e ∷ below cmp s k) (below cmp s k) ++ (option_to_list (cond (is_eq r) (Some e) (at cmp s k)) ++ cond (is_gt r) (e ∷ above cmp s k) (above cmp s k)) ≡ e ∷ s
+      go : (r : Ordering) → cmp e.0 k ≡ r → below cmp s k ++ (option_to_list (at cmp s k) ++ above cmp s k) ≡ s
+          → cond (is_lt r) (e ∷ below cmp s k) (below cmp s k) ++ (option_to_list (cond (is_eq r) (Some e) (at cmp s k))
+          ++ cond (is_gt r) (e ∷ above cmp s k) (above cmp s k)) ≡ e ∷ s
       go Less h i = ap (λ zs. e ∷ zs) i
       go Equal h i = let l = later Equal h refl in rw (l.0, l.1) refl
       go Greater h i = let l = later Greater h refl in rw (l.0, l.1, l.2) refl
@@ -247,21 +260,25 @@ module _ {K V : Type 0} (cmp : K → K → Ordering) where
       x : K × V
       x = (unwrap_or (option_map (λ (e : K × V). e.0) (at cmp s k)) k, v)
 
-      same : (q : Ordering → Bool) → q Equal ≡ false → filter (λ e. q (cmp e.0 k)) (put cmp s k v) ≡ filter (λ e. q (cmp e.0 k)) (below cmp s k) ++ filter (λ e. q (cmp e.0 k)) (above cmp s k)
+      same : (q : Ordering → Bool) → q Equal ≡ false → filter (λ e. q (cmp e.0 k)) (put cmp s k v) ≡ filter (λ e. q (cmp e.0 k)) (below cmp s k)
+          ++ filter (λ e. q (cmp e.0 k)) (above cmp s k)
       same q away = filter-append _ (below cmp s k) (x ∷ above cmp s k) ∙ rw (at_key cmp total k s, away) refl
 
       lower : below cmp (put cmp s k v) k ≡ below cmp s k
-      lower = same is_lt refl ∙ rw (kept _ _ (passes cmp is_lt Less k _ (all_below cmp s k)), left_out _ _ (passes cmp is_lt Greater k _ (all_above cmp s k))) (append-nil (below cmp s k))
+      lower = same is_lt refl ∙ rw (kept _ _ (passes cmp is_lt Less k _ (all_below cmp s k)), left_out _ _ (passes cmp is_lt Greater k _ (all_above cmp s k)))
+          (append-nil (below cmp s k))
 
       upper : above cmp (put cmp s k v) k ≡ above cmp s k
-      upper = same is_gt refl ∙ rw (left_out _ _ (passes cmp is_gt Less k _ (all_below cmp s k)), kept _ _ (passes cmp is_gt Greater k _ (all_above cmp s k))) refl
+      upper = same is_gt refl ∙ rw (left_out _ _ (passes cmp is_gt Less k _ (all_below cmp s k)), kept _ _ (passes cmp is_gt Greater k _ (all_above cmp s k)))
+          refl
 
   -- A new pair that was put and is cut again leaves the list as it was.
   pub cut_put_new : (s : List (K × V)) (k : K) (v : V) → IsTotalOrder cmp → IsAscending cmp s → at cmp s k ≡ None → cut cmp (put cmp s k v) k ≡ s
   cut_put_new s k v total a none = cut_put s k v total ∙ cut_absent s k total a none
 
   -- A new pair that was put and is cut at an equal key leaves the list as it was.
-  pub cut_put_equal : (s : List (K × V)) (k : K) (v : V) (j : K) → IsTotalOrder cmp → IsAscending cmp s → cmp j k ≡ Equal → at cmp s k ≡ None → cut cmp (put cmp s k v) j ≡ s
+  pub cut_put_equal : (s : List (K × V)) (k : K) (v : V) (j : K) → IsTotalOrder cmp → IsAscending cmp s → cmp j k ≡ Equal → at cmp s k ≡ None
+      → cut cmp (put cmp s k v) j ≡ s
   cut_put_equal s k v j total a same none = cut_equal (put cmp s k v) k j total same ∙ cut_put_new s k v total a none
 
   -- how many pairs a cut and a put leave
@@ -319,16 +336,20 @@ module _ {K V : Type 0} (cmp : K → K → Ordering) where
   ahead : (s front back : List (K × V)) (k : K) (v : V) → IsAscending cmp s → s ≡ front ++ (k, v) ∷ back → AllByRecursion (λ x. cmp x.0 k ≡ Less) front
   ahead s front back k v a e = smaller_ahead front back (k, v) (subst (IsAscending cmp) e a)
 
-  behind : (s front back : List (K × V)) (k : K) (v : V) → IsTotalOrder cmp → IsAscending cmp s → s ≡ front ++ (k, v) ∷ back → AllByRecursion (λ x. cmp x.0 k ≡ Greater) back
-  behind s front back k v total a e = later_above (k, v) back k total (ascending_back front ((k, v) ∷ back) (subst (IsAscending cmp) e a)) Equal (tied_itself total k) refl
+  behind : (s front back : List (K × V)) (k : K) (v : V) → IsTotalOrder cmp → IsAscending cmp s → s ≡ front ++ (k, v) ∷ back
+      → AllByRecursion (λ x. cmp x.0 k ≡ Greater) back
+  behind s front back k v total a e = later_above (k, v) back k total (ascending_back front ((k, v) ∷ back) (subst (IsAscending cmp) e a)) Equal
+      (tied_itself total k) refl
 
   -- At the key of a pair of an ascending list stands that pair.
   pub at_between : (s front back : List (K × V)) (k : K) (v : V) → IsTotalOrder cmp → IsAscending cmp s → s ≡ front ++ (k, v) ∷ back → at cmp s k ≡ Some (k, v)
   at_between s front back k v total a e =
-      ap (λ t. at cmp t k) e ∙ find-append _ front ((k, v) ∷ back) ∙ rw (not_found _ front (passes cmp is_eq Less k _ (ahead s front back k v a e)), tied_itself total k) refl
+      ap (λ t. at cmp t k) e ∙ find-append _ front ((k, v) ∷ back) ∙ rw
+      (not_found _ front (passes cmp is_eq Less k _ (ahead s front back k v a e)), tied_itself total k) refl
 
   -- A cut at the key of a pair of an ascending list leaves what stands around that pair.
-  pub cut_between : (s front back : List (K × V)) (k : K) (v : V) → IsTotalOrder cmp → IsAscending cmp s → s ≡ front ++ (k, v) ∷ back → cut cmp s k ≡ front ++ back
+  pub cut_between : (s front back : List (K × V)) (k : K) (v : V) → IsTotalOrder cmp → IsAscending cmp s → s ≡ front ++ (k, v) ∷ back
+      → cut cmp s k ≡ front ++ back
   cut_between s front back k v total a e = ap (λ t. cut cmp t k) e ∙ rw (lower, upper) refl
     where
       less : AllByRecursion (λ x. cmp x.0 k ≡ Less) front
@@ -338,10 +359,18 @@ module _ {K V : Type 0} (cmp : K → K → Ordering) where
       more = behind s front back k v total a e
 
       lower : below cmp (front ++ (k, v) ∷ back) k ≡ front
-      lower = filter-append _ front ((k, v) ∷ back) ∙ rw (tied_itself total k, kept _ _ (passes cmp is_lt Less k _ less), left_out _ _ (passes cmp is_lt Greater k _ more)) (append-nil front)
+      lower = filter-append _ front ((k, v) ∷ back) ∙ rw (
+        tied_itself total k,
+        kept _ _ (passes cmp is_lt Less k _ less),
+        left_out _ _ (passes cmp is_lt Greater k _ more),
+      ) (append-nil front)
 
       upper : above cmp (front ++ (k, v) ∷ back) k ≡ back
-      upper = filter-append _ front ((k, v) ∷ back) ∙ rw (tied_itself total k, left_out _ _ (passes cmp is_gt Less k _ less), kept _ _ (passes cmp is_gt Greater k _ more)) refl
+      upper = filter-append _ front ((k, v) ∷ back) ∙ rw (
+        tied_itself total k,
+        left_out _ _ (passes cmp is_gt Less k _ less),
+        kept _ _ (passes cmp is_gt Greater k _ more),
+      ) refl
 
   -- The keys behind the first are above it.
   pub first_is_least : (s rest : List (K × V)) (k : K) (v : V) → IsAscending cmp s → s ≡ (k, v) ∷ rest → All (λ e. cmp k e.0 ≡ Less) rest
@@ -382,7 +411,8 @@ module _ {K V : Type 0} (cmp : K → K → Ordering) where
 
   -- Each key of the pairs within two bounds is within them.
   pub within_bounds : (lo hi : Bound K) (s : List (K × V)) → All (λ e. IsTrue (starts cmp lo e.0) × IsTrue (stops cmp hi e.0)) (within cmp lo hi s)
-  within_bounds lo hi s = All-weaker _ _ (λ e h. parts (starts cmp lo e.0) (stops cmp hi e.0) h) (within cmp lo hi s) (filter_passes (λ e. starts cmp lo e.0 && stops cmp hi e.0) s)
+  within_bounds lo hi s = All-weaker _ _ (λ e h. parts (starts cmp lo e.0) (stops cmp hi e.0) h) (within cmp lo hi s)
+      (filter_passes (λ e. starts cmp lo e.0 && stops cmp hi e.0) s)
     where
       parts : (a b : Bool) → (a && b) ≡ true → IsTrue a × IsTrue b
       parts true true h = (refl, refl)
@@ -394,24 +424,28 @@ module _ {K V : Type 0} (cmp : K → K → Ordering) where
   ascending_within lo hi s a = asc_filter cmp _ s a
 
   -- From where a range starts on, all pairs of an ascending list pass.
-  started : (lo : Bound K) (s : List (K × V)) → IsTotalOrder cmp → IsAscending cmp s → drop (length s - length (filter (λ e. starts cmp lo e.0) s)) s ≡ filter (λ e. starts cmp lo e.0) s
+  started : (lo : Bound K) (s : List (K × V)) → IsTotalOrder cmp → IsAscending cmp s
+      → drop (length s - length (filter (λ e. starts cmp lo e.0) s)) s ≡ filter (λ e. starts cmp lo e.0) s
   started lo [] total a = refl
   started lo (e ∷ s) total a = go (starts cmp lo e.0) refl (started lo s total a.1)
     where
       rest : List (K × V)
       rest = filter (λ e. starts cmp lo e.0) s
 
-      go : (b : Bool) → starts cmp lo e.0 ≡ b → drop (length s - length rest) s ≡ rest → drop (suc (length s) - length (cond b (e ∷ rest) rest)) (e ∷ s) ≡ cond b (e ∷ rest) rest
+      go : (b : Bool) → starts cmp lo e.0 ≡ b → drop (length s - length rest) s ≡ rest
+          → drop (suc (length s) - length (cond b (e ∷ rest) rest)) (e ∷ s) ≡ cond b (e ∷ rest) rest
       go true h i =
           let all : rest ≡ s = kept (λ e. starts cmp lo e.0) s (all_map _ _ (λ x l. starts_on cmp total lo e.0 x.0 l h) s a.0) in
           let n : suc (length s) - suc (length rest) ≡ 0 = let l = ap length all in omega arith in
           rw n (ap (λ zs. e ∷ zs) (sym all))
       go false h i =
-          let n : suc (length s) - length rest ≡ suc (length s - length rest) = omega (arith, length-filter (λ (e : K × V). starts cmp lo e.0) s, count_by-le-length (λ (e : K × V). starts cmp lo e.0) s) in
+          let n : suc (length s) - length rest ≡ suc (length s - length rest) =
+          omega (arith, length-filter (λ (e : K × V). starts cmp lo e.0) s, count_by-le-length (λ (e : K × V). starts cmp lo e.0) s) in
           rw n i
 
   -- Up to where a range ends, all pairs of an ascending list pass.
-  stopped : (hi : Bound K) (s : List (K × V)) → IsTotalOrder cmp → IsAscending cmp s → take (length (filter (λ e. stops cmp hi e.0) s)) s ≡ filter (λ e. stops cmp hi e.0) s
+  stopped : (hi : Bound K) (s : List (K × V)) → IsTotalOrder cmp → IsAscending cmp s
+      → take (length (filter (λ e. stops cmp hi e.0) s)) s ≡ filter (λ e. stops cmp hi e.0) s
   stopped hi [] total a = refl
   stopped hi (e ∷ s) total a = go (stops cmp hi e.0) refl (stopped hi s total a.1)
     where
@@ -425,17 +459,21 @@ module _ {K V : Type 0} (cmp : K → K → Ordering) where
           rw none refl
 
   -- The places of an ascending list from where a range starts up to where it ends are the pairs within its bounds.
-  pub places_are_within : (lo hi : Bound K) (s : List (K × V)) → IsTotalOrder cmp → IsAscending cmp s → IsTrue (is_range cmp lo hi) → let front = length s - length (filter (λ e. starts cmp lo e.0) s) in let back = length (filter (λ e. stops cmp hi e.0) s) in take (back - front) (drop front s) ≡ within cmp lo hi s
+  pub places_are_within : (lo hi : Bound K) (s : List (K × V)) → IsTotalOrder cmp → IsAscending cmp s → IsTrue (is_range cmp lo hi) → let front =
+      length s - length (filter (λ e. starts cmp lo e.0) s) in let back =
+      length (filter (λ e. stops cmp hi e.0) s) in take (back - front) (drop front s) ≡ within cmp lo hi s
   places_are_within lo hi s total a range =
       let front = length s - length (filter (λ e. starts cmp lo e.0) s) in
       let back = length (filter (λ e. stops cmp hi e.0) s) in
       let ahead : length (take front s) ≡ front = length-take-le front s (omega arith) in
       let behind : length (take back s) ≡ back = ap length (stopped hi s total a) in
       let n : back - front ≡ length (take back s) - length (take front s) = omega (arith, ahead, behind) in
-      let between = between_tests (λ (e : K × V). starts cmp lo e.0) (λ e. stops cmp hi e.0) (λ e. not_past total lo hi range e.0) s (take front s) (drop front s) (take back s) (drop back s) (take-append-drop front s) (take-append-drop back s) (started lo s total a) (stopped hi s total a) in
+      let between = between_tests (λ (e : K × V). starts cmp lo e.0) (λ e. stops cmp hi e.0) (λ e. not_past total lo hi range e.0) s (take front s)
+      (drop front s) (take back s) (drop back s) (take-append-drop front s) (take-append-drop back s) (started lo s total a) (stopped hi s total a) in
       ap (λ m. take m (drop front s)) n ∙ between.is
 
 module _ {K Q V : Type 0} (cmp : K → K → Ordering) (order : K → Q → Ordering) where
   -- The value that was put at a key stands at each query equal to it.
-  pub value_at_put_query : (s : List (K × V)) (k : K) (v : V) (q : Q) → IsTotalOrder cmp → IsQueryOrder cmp order → order k q ≡ Equal → value_at order (put cmp s k v) q ≡ Some v
+  pub value_at_put_query : (s : List (K × V)) (k : K) (v : V) (q : Q) → IsTotalOrder cmp → IsQueryOrder cmp order → order k q ≡ Equal
+      → value_at order (put cmp s k v) q ≡ Some v
   value_at_put_query s k v q total fits equal = value_at_query cmp order (put cmp s k v) k q fits equal ∙ value_at_put cmp s k v total

@@ -1,5 +1,6 @@
 -- The part of a list between two bounds, as what two cuts of it leave between them.
-use Rattle.std.proofs.Common.{◌≡◌, ℕ, ◌-◌, ◌≤◌, Bool, true, false, cond, List, [], ◌∷◌, ◌++◌, length, take, refl, sym, ap, ◌∙◌, arith, append_assoc, append-nil, length-append}
+use Rattle.std.proofs.Common.{◌≡◌, ℕ, ◌-◌, ◌≤◌, Bool, true, false, cond, List, [], ◌∷◌, ◌++◌, length, take, refl, sym, ap, ◌∙◌, arith, append_assoc, append-nil}
+use Rattle.std.proofs.Common.{length-append}
 use Rattle.std.specs.Prelude.{◌&&◌}
 use Rattle.std.specs.List.{filter}
 use Rattle.std.specs.Cmp.{IsTotalOrder}
@@ -27,8 +28,10 @@ module _ {X : Type 0} where
   filter_both p q [] = refl
   filter_both p q (x ∷ s) = go (p x) (filter_both p q s)
     where
-      go : (b : Bool) → filter q (filter p s) ≡ filter (λ y. p y && q y) s → filter q (cond b (x ∷ filter p s) (filter p s)) ≡ cond (b && q x) (x ∷ filter (λ y. p y && q y) s) (filter (λ y. p y && q y) s)
-      go true i = elim (q x) as (λ c. cond c (x ∷ filter q (filter p s)) (filter q (filter p s)) ≡ cond c (x ∷ filter (λ y. p y && q y) s) (filter (λ y. p y && q y) s)) [ true ↦ ap (λ zs. x ∷ zs) i | false ↦ i ]
+      go : (b : Bool) → filter q (filter p s) ≡ filter (λ y. p y && q y) s
+          → filter q (cond b (x ∷ filter p s) (filter p s)) ≡ cond (b && q x) (x ∷ filter (λ y. p y && q y) s) (filter (λ y. p y && q y) s)
+      go true i = elim (q x) as (λ c. cond c (x ∷ filter q (filter p s)) (filter q (filter p s))
+          ≡ cond c (x ∷ filter (λ y. p y && q y) s) (filter (λ y. p y && q y) s)) [ true ↦ ap (λ zs. x ∷ zs) i | false ↦ i ]
       go false i = i
 
   -- Nothing passes ahead of all that passes, or behind it.
@@ -40,7 +43,8 @@ module _ {X : Type 0} where
   none_behind : (p : X → Bool) (s a b : List X) → s ≡ a ++ b → a ≡ filter p s → filter p b ≡ []
   none_behind p s a b e f =
       let g : filter p a ≡ a = ap (filter p) f ∙ filter_twice p s ∙ sym f in
-      append_cancel_left a (filter p b) [] (ap (λ zs. zs ++ filter p b) (sym g) ∙ sym (filter-append p a b) ∙ ap (filter p) (sym e) ∙ sym f ∙ sym (append-nil a))
+      append_cancel_left a (filter p b) [] (ap (λ zs. zs ++ filter p b) (sym g) ∙ sym (filter-append p a b) ∙ ap (filter p) (sym e) ∙ sym f
+      ∙ sym (append-nil a))
 
   -- Where what fails one test passes another, so does what nothing of passes the one.
   others_pass : (p q : X → Bool) (other : (x : X) → p x ≡ false → q x ≡ true) (s : List X) → filter p s ≡ [] → filter q s ≡ s
@@ -56,7 +60,8 @@ module _ {X : Type 0} where
     pub le : length lf ≤ length lb
     pub is : take (length lb - length lf) rf ≡ middle
 
-  pub between_tests : (p q : X → Bool) (other : (x : X) → p x ≡ false → q x ≡ true) (s lf rf lb rb : List X) → lf ++ rf ≡ s → lb ++ rb ≡ s → rf ≡ filter p s → lb ≡ filter q s → IsBetween lf rf lb (filter (λ x. p x && q x) s)
+  pub between_tests : (p q : X → Bool) (other : (x : X) → p x ≡ false → q x ≡ true) (s lf rf lb rb : List X) → lf ++ rf ≡ s → lb ++ rb ≡ s → rf ≡ filter p s
+      → lb ≡ filter q s → IsBetween lf rf lb (filter (λ x. p x && q x) s)
   between_tests p q other s lf rf lb rb e f g h =
       let lead : filter q lf ≡ lf = others_pass p q other lf (none_ahead p s lf rf (sym e) g) in
       let mid = filter q rf in
@@ -108,7 +113,8 @@ module _ {K : Type 0} {cmp : K → K → Ordering} (o : IsTotalOrder cmp) where
   not_past (Excluded a) (Excluded b) r x e = le_below o x a b (cmp x a) (cmp a b) refl refl e r
 
 -- No more pairs lie within two bounds than there are.
-pub within_fits : {K Q V : Type 0} (cmp : K → Q → Ordering) (lo hi : Bound Q) (s part : List (K × V)) (n most : ℕ) → part ≡ within cmp lo hi s → n ≡ length s → n ≤ most → length part ≤ most
+pub within_fits : {K Q V : Type 0} (cmp : K → Q → Ordering) (lo hi : Bound Q) (s part : List (K × V)) (n most : ℕ) → part ≡ within cmp lo hi s → n ≡ length s
+    → n ≤ most → length part ≤ most
 within_fits {K} {Q} {V} cmp lo hi s part n most e f h =
     let p = λ (x : K × V). starts cmp lo x.0 && stops cmp hi x.0 in
     let same = ap length e ∙ length-filter p s in

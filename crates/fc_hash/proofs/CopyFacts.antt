@@ -1,5 +1,6 @@
 -- Copies of pairs, put into a hashed map one after another.
-use Rattle.std.proofs.Common.{◌≡◌, ◌<◌, Bool, true, false, List, [], ◌∷◌, ◌++◌, Option, None, Some, length, get_or, inl, inr, sym, ap, ◌∙◌, subst, append_assoc, arith}
+use Rattle.std.proofs.Common.{◌≡◌, ◌<◌, Bool, true, false, List, [], ◌∷◌, ◌++◌, Option, None, Some, length, get_or, inl, inr, sym, ap, ◌∙◌, subst, append_assoc}
+use Rattle.std.proofs.Common.{arith}
 use Rattle.std.proofs.lemmas.List.{length-append}
 use Rattle.std.proofs.Math.Seq.{get_or-append_seam}
 use Rattle.std.proofs.lemmas.List.Sorted.{IsPermutation-sym, IsPermutation-trans, IsPermutation-cons, IsPermutation-to_front, All-permutation}
@@ -16,7 +17,8 @@ use Rattle.fc_base.specs.declared.try_reserve_error.TryReserveError.TheVariants.
 use Rattle.fc_base.specs.Copies.{MayRefuseCopies}
 use Rattle.fc_hash.specs.Pairs.{IsMap, IsPut}
 
-module _ {X : Type 0} (may_refuse : X → TryReserveError → Type 0) (error : TryReserveError) (all done left rest : List X) (x : X) (e : all ≡ done ++ left) (step : left ≡ x ∷ rest) where
+module _ {X : Type 0} (may_refuse : X → TryReserveError → Type 0) (error : TryReserveError) (all done left rest : List X) (x : X) (e : all ≡ done ++ left)
+    (step : left ≡ x ∷ rest) where
   whole : all ≡ done ++ x ∷ rest
   whole = e ∙ ap (λ l. done ++ l) step
 
@@ -52,14 +54,16 @@ module _ {K V : Type 0} (eq : K → K → Bool) where
     copy_differs : (a b x y : K) → eq a b ≡ false → same_key a x → same_key b y → eq y x ≡ false
     copy_differs a b x y d s t = sym (laws.congr b y x (equal b y t)) ∙ laws.symm b x ∙ sym (laws.congr a x b (equal a x s)) ∙ d
 
-    copies_differ : (ps cs : List (K × V)) (k copy : K) → AllByRecursion (λ p. eq p.0 k ≡ false) ps → Copies ps cs → same_key k copy → AllByRecursion (λ c. eq copy c.0 ≡ false) cs
+    copies_differ : (ps cs : List (K × V)) (k copy : K) → AllByRecursion (λ p. eq p.0 k ≡ false) ps → Copies ps cs → same_key k copy
+        → AllByRecursion (λ c. eq copy c.0 ≡ false) cs
     copies_differ [] [] k copy d z s = tt
     copies_differ [] (c ∷ cs) k copy d z s = absurd z
     copies_differ (p ∷ ps) [] k copy d z s = absurd z
     copies_differ (p ∷ ps) (c ∷ cs) k copy d z s = (copy_differs p.0 k c.0 copy d.0 z.0.0 s, copies_differ ps cs k copy d.1 z.1 s)
 
     -- The copy of the next pair was put beside the others.
-    copied_on : (ps rest cs made after : List (K × V)) (e copy : K × V) (old : Option V) → IsMap eq (ps ++ e ∷ rest) → Copies ps cs → IsPermutation cs made → same_key e.0 copy.0
+    copied_on : (ps rest cs made after : List (K × V)) (e copy : K × V) (old : Option V) → IsMap eq (ps ++ e ∷ rest) → Copies ps cs → IsPermutation cs made
+        → same_key e.0 copy.0
         → IsPut eq copy.0 copy.1 old made after → IsPermutation (cs ++ copy ∷ []) after
     copied_on ps rest cs made after e copy None distinct z p s put =
         IsPermutation-trans (cs ++ copy ∷ []) (copy ∷ cs) after (IsPermutation-to_front cs copy)
@@ -73,9 +77,11 @@ module _ {K V : Type 0} (eq : K → K → Bool) where
         absurd (both_ways (eq copy.0 put.0) not.0 put.2.0)
 
     -- The pairs that were walked over have copies in the map, and so has the next one.
-    pub one_more : (all done left rest cs made after : List (K × V)) (k key : K) (v value : V) (old : Option V) → IsMap eq all → all ≡ done ++ left → left ≡ (k, v) ∷ rest → Copies done cs
+    pub one_more : (all done left rest cs made after : List (K × V)) (k key : K) (v value : V) (old : Option V) → IsMap eq all → all ≡ done ++ left
+        → left ≡ (k, v) ∷ rest → Copies done cs
         → IsPermutation cs made → same_key k key → same_value v value → IsPut eq key value old made after
-        → (walked copies : List (K × V)) × (all ≡ walked ++ rest) × AllZip (λ p q. same_key p.0 q.0 × same_value p.1 q.1) walked copies × IsPermutation copies after
+        → (walked copies : List (K × V)) × (all ≡ walked ++ rest) × AllZip (λ p q. same_key p.0 q.0 × same_value p.1 q.1) walked copies
+        × IsPermutation copies after
     one_more all done left rest cs made after k key v value old distinct e step z p s t put =
         let whole : all ≡ done ++ (k, v) ∷ rest = e ∙ ap (λ l. done ++ l) step in (
           done ++ (k, v) ∷ [],

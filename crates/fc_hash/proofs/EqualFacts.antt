@@ -7,7 +7,8 @@ use Rattle.std.specs.Option.{option_eq, option_map}
 use Rattle.fc_hash.specs.Pairs.{agree_at, are_equal}
 
 module _ {K V : Type 0} where
-  value_of_first : (b : Bool) (p : K × V) (rest : Option (K × V)) → option_map (λ e. e.1) (cond b (Some p) rest) ≡ cond b (Some p.1) (option_map (λ e. e.1) rest)
+  value_of_first : (b : Bool) (p : K × V) (rest : Option (K × V)) → option_map (λ e. e.1) (cond b (Some p) rest)
+      ≡ cond b (Some p.1) (option_map (λ e. e.1) rest)
   value_of_first true p rest = refl
   value_of_first false p rest = refl
 
@@ -15,7 +16,8 @@ module _ {K V : Type 0} where
   value_of_entry test [] = refl
   value_of_entry test (p ∷ ps) = value_of_first (test p.0) p (lookup_entry test ps) ∙ ap (cond (test p.0) (Some p.1)) (value_of_entry test ps)
 
-  by_values : (same : V → V → Bool) (a b : Option (K × V)) → option_eq (λ p q. same p.1 q.1) a b ≡ option_eq same (option_map (λ e. e.1) a) (option_map (λ e. e.1) b)
+  by_values : (same : V → V → Bool) (a b : Option (K × V)) → option_eq (λ p q. same p.1 q.1) a b
+      ≡ option_eq same (option_map (λ e. e.1) a) (option_map (λ e. e.1) b)
   by_values same None None = refl
   by_values same None (Some q) = refl
   by_values same (Some p) None = refl

@@ -24,7 +24,8 @@ module _ {K V : Type 0} (test : K → Bool) where
     pub written : (v : V) → set_value test es v ≡ front ++ (key, v) ∷ back
     pub removed : remove_entry test es ≡ front ++ back
 
-  found_first : (e : K × V) (es : List (K × V)) (w : V) (b : Bool) → test e.0 ≡ b → cond b (Some e.1) (lookup test es) ≡ Some w → (lookup test es ≡ Some w → Found es w) → Found (e ∷ es) w
+  found_first : (e : K × V) (es : List (K × V)) (w : V) (b : Bool) → test e.0 ≡ b → cond b (Some e.1) (lookup test es) ≡ Some w
+      → (lookup test es ≡ Some w → Found es w) → Found (e ∷ es) w
   found_first e es w true p h rest = record {
     front = [];
     key = e.0;
@@ -52,7 +53,8 @@ module _ {K V : Type 0} (test : K → Bool) where
 
 module _ {K V : Type 0} (eq : K → K → Bool) (k : K) where
   -- The value is put at the key.
-  pub put_in : (v : V) (old : Option V) (ps qs : List (K × V)) → old ≡ lookup (eq k) ps → MatchOption old (IsPermutation ((k, v) ∷ ps) qs) (λ _. qs ≡ set_value (eq k) ps v) → IsPut eq k v old ps qs
+  pub put_in : (v : V) (old : Option V) (ps qs : List (K × V)) → old ≡ lookup (eq k) ps
+      → MatchOption old (IsPermutation ((k, v) ∷ ps) qs) (λ _. qs ≡ set_value (eq k) ps v) → IsPut eq k v old ps qs
   put_in v None ps qs e put = (sym e, put)
   put_in v (Some w) ps qs e put =
       let f = found (eq k) ps w (sym e) in
@@ -64,10 +66,17 @@ module _ {K V : Type 0} (eq : K → K → Bool) (k : K) where
       )
 
   -- The pair at the key is taken out.
-  pub taken_out : (old : Option V) (ps qs : List (K × V)) → old ≡ lookup (eq k) ps → IsPermutation (remove_entry (eq k) ps) qs → IfNone old (qs ≡ ps) → IsTaken eq k old ps qs
+  pub taken_out : (old : Option V) (ps qs : List (K × V)) → old ≡ lookup (eq k) ps → IsPermutation (remove_entry (eq k) ps) qs → IfNone old (qs ≡ ps)
+      → IsTaken eq k old ps qs
   taken_out None ps qs e p same = (sym e, same)
   taken_out (Some w) ps qs e p same =
       let f = found (eq k) ps w (sym e) in
       let others = f.front ++ f.back in
-      let left = IsPermutation-sym others qs (subst (λ l. IsPermutation l qs) f.removed p) in
-      (f.key, (f.passes, IsPermutation-trans ((f.key, w) ∷ qs) ((f.key, w) ∷ others) ps (IsPermutation-cons (f.key, w) qs others left) (subst (IsPermutation ((f.key, w) ∷ others)) (sym f.is) (middle f.front f.back (f.key, w)))))
+      let left = IsPermutation-sym others qs (subst (λ l. IsPermutation l qs) f.removed p) in (
+        f.key,
+        (
+          f.passes,
+          IsPermutation-trans ((f.key, w) ∷ qs) ((f.key, w) ∷ others) ps (IsPermutation-cons (f.key, w) qs others left)
+              (subst (IsPermutation ((f.key, w) ∷ others)) (sym f.is) (middle f.front f.back (f.key, w))),
+        ),
+      )

@@ -66,10 +66,6 @@ module _ {K V : Type 0} where
       let c = place_pairs path sound.0 root sound.2.1 place in
       ap (λ s. slice_get s (length (before_pair path root))) c.parts ∙ pair_at (before_pair path root) (after_pair path root) c.pair ∙ sym c.is
 
-  -- the steps of a path beside the number of pairs that went by in its leaf
-  pub path_some : (m : Map K V) (path : List ℕ) (gone : ℕ) (other : List ℕ) → IsSoundMap m → IsGapIn m (gone_on path gone) → 0 < length (before_gap_in m other) → 0 < length path
-  path_some m path gone other sound gap k = let s = gap_some m (gone_on path gone) other sound gap k in let l = on_length path gone in omega arith
-
   pub steps_fit : (m : Map K V) (path : List ℕ) (gone last : ℕ) → IsSoundMap m → IsGapIn m (gone_on path gone) → last + 1 ≡ length path → get_or path last 0 + gone ≤ capacity
   steps_fit m path gone last sound gap e = let l = on_length path gone in subst (λ k. k ≤ capacity) (on_last path last gone e) (gap_small m (gone_on path gone) last sound gap (omega arith))
 

@@ -10,7 +10,3 @@ use Rattle.fc_map.specs.Entries.{Map, entries, IsSoundMap}
 use Rattle.fc_map.specs.LendsKey.{written_at}
 
 module _ {K V : Type 0} {cmp : K → K → Ordering} (total : IsTotalOrder cmp) (k : K) where
-  -- Where an equal key is there, a value written at it is put there.
-  pub written_at_put : (m : Map K V) (w : V) → IsSoundMap m → IsAscending cmp (entries m) → IsSome (at cmp (entries m) k) → entries (written_at cmp k m w) ≡ put cmp (entries m) k w
-  written_at_put None w sound a some = absurd cc
-  written_at_put (Some root) w sound a some = written_to_put total k (sound.0, sound.1, sound.2.1) a w some

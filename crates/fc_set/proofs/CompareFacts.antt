@@ -17,7 +17,8 @@ module _ {T V : Type 0} where
   eq_keys E (e ∷ s) [] = refl
   eq_keys E (e ∷ s) (f ∷ t) = go (E e.0 f.0) (eq_keys E s t)
     where
-      go : (b : Bool) → pointwise (pair_eq E (λ _ _. true)) s t ≡ pointwise E (keys s) (keys t) → ((b && true) && pointwise (pair_eq E (λ _ _. true)) s t) ≡ (b && pointwise E (keys s) (keys t))
+      go : (b : Bool) → pointwise (pair_eq E (λ _ _. true)) s t ≡ pointwise E (keys s) (keys t)
+          → ((b && true) && pointwise (pair_eq E (λ _ _. true)) s t) ≡ (b && pointwise E (keys s) (keys t))
       go true i = i
       go false i = refl
 
@@ -27,24 +28,23 @@ module _ {T V : Type 0} where
   cmp_keys R (e ∷ s) [] = refl
   cmp_keys R (e ∷ s) (f ∷ t) = go (R e.0 f.0) (cmp_keys R s t)
     where
-      go : (r : Ordering) → slice_cmp (pair_cmp R (λ _ _. Equal)) s t ≡ slice_cmp R (keys s) (keys t) → ordering_then (ordering_then r Equal) (slice_cmp (pair_cmp R (λ _ _. Equal)) s t) ≡ ordering_then r (slice_cmp R (keys s) (keys t))
+      go : (r : Ordering) → slice_cmp (pair_cmp R (λ _ _. Equal)) s t ≡ slice_cmp R (keys s) (keys t)
+          → ordering_then (ordering_then r Equal) (slice_cmp (pair_cmp R (λ _ _. Equal)) s t) ≡ ordering_then r (slice_cmp R (keys s) (keys t))
       go Less i = refl
       go Equal i = i
       go Greater i = refl
 
-  pub partial_cmp_keys : (C : T → T → Option Ordering) (s t : List (T × V)) → slice_partial_cmp (pair_partial_cmp C (λ _ _. Some Equal)) s t ≡ slice_partial_cmp C (keys s) (keys t)
+  pub partial_cmp_keys : (C : T → T → Option Ordering) (s t : List (T × V))
+      → slice_partial_cmp (pair_partial_cmp C (λ _ _. Some Equal)) s t ≡ slice_partial_cmp C (keys s) (keys t)
   partial_cmp_keys C [] [] = refl
   partial_cmp_keys C [] (f ∷ t) = refl
   partial_cmp_keys C (e ∷ s) [] = refl
   partial_cmp_keys C (e ∷ s) (f ∷ t) = go (C e.0 f.0) (partial_cmp_keys C s t)
     where
       go : (r : Option Ordering) → slice_partial_cmp (pair_partial_cmp C (λ _ _. Some Equal)) s t ≡ slice_partial_cmp C (keys s) (keys t)
-          → partial_ordering_then (partial_ordering_then r (Some Equal)) (slice_partial_cmp (pair_partial_cmp C (λ _ _. Some Equal)) s t) ≡ partial_ordering_then r (slice_partial_cmp C (keys s) (keys t))
+          → partial_ordering_then (partial_ordering_then r (Some Equal)) (slice_partial_cmp (pair_partial_cmp C (λ _ _. Some Equal)) s t)
+          ≡ partial_ordering_then r (slice_partial_cmp C (keys s) (keys t))
       go None i = refl
       go (Some Less) i = refl
       go (Some Equal) i = i
       go (Some Greater) i = refl
-
-  pub input_keys : (F : T → HashWrites) (s : List (T × V)) → flat_map (pair_input F (λ _. [])) s ≡ flat_map F (keys s)
-  input_keys F [] = refl
-  input_keys F (e ∷ s) = ap (λ l. l ++ flat_map (pair_input F (λ _. [])) s) (append-nil (F e.0)) ∙ ap (λ l. F e.0 ++ l) (input_keys F s)

@@ -1,5 +1,6 @@
 -- Copies of the items that a walk gives, made one after another.
-use Rattle.std.proofs.Common.{◌≡◌, ℕ, ◌+◌, ◌<◌, List, [], ◌∷◌, ◌++◌, map, length, Option, Some, None, true, Any, refl, sym, ap, ◌∙◌, subst, arith, append_assoc, append-nil}
+use Rattle.std.proofs.Common.{◌≡◌, ℕ, ◌+◌, ◌<◌, List, [], ◌∷◌, ◌++◌, map, length, Option, Some, None, true, Any, refl, sym, ap, ◌∙◌, subst, arith, append_assoc}
+use Rattle.std.proofs.Common.{append-nil}
 use Rattle.std.specs.Iterator.{AlwaysYields, YieldsFirstRef}
 use Rattle.std.specs.List.{AllZip, AllByRecursion}
 use Rattle.std.specs.Cmp.{IsTotalOrder}
@@ -17,7 +18,8 @@ use Rattle.fc_set.proofs.ItemFacts.{any_later}
 
 module _ {S A B : Type 0} (steps : S → Option A → S → Type 0) (v : A → B) where
   -- An item that a walk gives is the first of those that it had left.
-  some_left : (s j : S) (x : A) (left : List B) → AlwaysYields steps v s left → steps s (Some x) j → (rest : List B) × (left ≡ v x ∷ rest) × AlwaysYields steps v j rest
+  some_left : (s j : S) (x : A) (left : List B) → AlwaysYields steps v s left → steps s (Some x) j
+      → (rest : List B) × (left ≡ v x ∷ rest) × AlwaysYields steps v j rest
   some_left s j x [] a h = absurd (a x j h)
   some_left s j x (y ∷ left) a h = (left, ap (λ z. z ∷ left) (sym (a.1 x j h).0), (a.1 x j h).1)
 
@@ -36,7 +38,10 @@ module _ {S T : Type 0} (rest : S → List T) where
 
   lends : (left : List T) (s : S) → rest s ≡ left → AlwaysYields (YieldsFirstRef rest) (λ x. x.now) s left
   lends [] s e = λ x j h. let c : ◌≡◌ {A = List T} [] (x.now ∷ rest j) = sym e ∙ h in absurd cc
-  lends (y ∷ left) s e = ((λ j h. let c : ◌≡◌ {A = List T} (y ∷ left) [] = sym e ∙ h.0 in absurd cc), λ x j h. (sym (ap (first y) (sym e ∙ h)), lends left j (sym (ap others (sym e ∙ h)))))
+  lends (y ∷ left) s e = (
+    (λ j h. let c : ◌≡◌ {A = List T} (y ∷ left) [] = sym e ∙ h.0 in absurd cc),
+    λ x j h. (sym (ap (first y) (sym e ∙ h)), lends left j (sym (ap others (sym e ∙ h)))),
+  )
 
   -- A walk that gives the first of a list gives all of the list.
   pub lends_rest : (s : S) → AlwaysYields (YieldsFirstRef rest) (λ x. x.now) s (rest s)
@@ -139,10 +144,12 @@ equal_copy Greater h = absurd cc
 module _ {T : Type 0} (cmp : T → T → Ordering) (total : IsTotalOrder cmp) (same : T → T → Type 0) (equal : (a b : T) → same a b → cmp a b ≡ Equal) where
   -- An item stands to a later one as their copies stand.
   still_less : (a b x y : T) → same a b → same x y → cmp a x ≡ Less → cmp b y ≡ Less
-  still_less a b x y s t less = sym (total.congr a b y (equal a b s)) ∙ under_one cmp total a y (sym (total.congr x y a (equal x y t)) ∙ over_one cmp total a x less)
+  still_less a b x y s t less = sym (total.congr a b y (equal a b s)) ∙ under_one cmp total a y
+      (sym (total.congr x y a (equal x y t)) ∙ over_one cmp total a x less)
 
   module _ {V : Type 0} where
-    later_copies : (a b : T) → same a b → (s : List T) (t : List (T × V)) → AllZip same s (map (λ e. e.0) t) → AllByRecursion (λ later. cmp a later ≡ Less) s → AllByRecursion (λ later. cmp b later.0 ≡ Less) t
+    later_copies : (a b : T) → same a b → (s : List T) (t : List (T × V)) → AllZip same s (map (λ e. e.0) t) → AllByRecursion (λ later. cmp a later ≡ Less) s
+        → AllByRecursion (λ later. cmp b later.0 ≡ Less) t
     later_copies a b e [] [] z l = tt
     later_copies a b e [] (q ∷ t) z l = absurd z
     later_copies a b e (x ∷ s) [] z l = absurd z

@@ -1,5 +1,6 @@
 -- Each word on lists of items, at the keys of a list of pairs, is the word on pairs.
-use Rattle.std.proofs.Common.{◌≡◌, Bool, true, false, cond, List, [], ◌∷◌, ◌++◌, map, filter, find, length, slice_get, ℕ, zero, suc, Any, Option, Some, None, is_some, IsSome, IsTrue, IfOk, Result, Ok, Err, not, ◌↔◌, ◌⊎◌, inl, inr, refl, sym, ap, ◌∙◌, subst, arith}
+use Rattle.std.proofs.Common.{◌≡◌, Bool, true, false, cond, List, [], ◌∷◌, ◌++◌, map, filter, find, length, slice_get, ℕ, zero, suc, Any, Option, Some, None}
+use Rattle.std.proofs.Common.{is_some, IsSome, IsTrue, IfOk, Result, Ok, Err, not, ◌↔◌, ◌⊎◌, inl, inr, refl, sym, ap, ◌∙◌, subst, arith}
 use Rattle.std.specs.Prelude.{unwrap_or}
 use Rattle.std.specs.List.{AllByRecursion, AllZip}
 use Rattle.std.specs.Option.{option_map}
@@ -56,17 +57,21 @@ module _ {T V : Type 0} where
     not_smaller_keys = filter_keys _ s
 
     pub without_keys : without cmp (keys s) q ≡ keys (cut cmp s q)
-    without_keys = ap (λ l. l ++ greater cmp (keys s) q) smaller_keys ∙ ap (λ l. keys (below cmp s q) ++ l) greater_keys ∙ sym (map-append (λ e. e.0) (below cmp s q) (above cmp s q))
+    without_keys = ap (λ l. l ++ greater cmp (keys s) q) smaller_keys ∙ ap (λ l. keys (below cmp s q) ++ l) greater_keys
+        ∙ sym (map-append (λ e. e.0) (below cmp s q) (above cmp s q))
 
-  pub items_within_keys : {Q : Type 0} (cmp : T → Q → Ordering) (lo hi : Bound Q) (s : List (T × V)) → items_within cmp lo hi (keys s) ≡ keys (within cmp lo hi s)
+  pub items_within_keys : {Q : Type 0} (cmp : T → Q → Ordering) (lo hi : Bound Q) (s : List (T × V))
+      → items_within cmp lo hi (keys s) ≡ keys (within cmp lo hi s)
   items_within_keys cmp lo hi s = filter_keys _ s
 
   module _ (cmp : T → T → Ordering) where
     around : (s : List (T × V)) (x : T) (e : T × V) → smaller cmp (keys s) x ++ e.0 ∷ greater cmp (keys s) x ≡ keys (below cmp s x ++ e ∷ above cmp s x)
-    around s x e = ap (λ l. l ++ e.0 ∷ greater cmp (keys s) x) (smaller_keys cmp s x) ∙ ap (λ l. keys (below cmp s x) ++ e.0 ∷ l) (greater_keys cmp s x) ∙ sym (map-append (λ e. e.0) (below cmp s x) (e ∷ above cmp s x))
+    around s x e = ap (λ l. l ++ e.0 ∷ greater cmp (keys s) x) (smaller_keys cmp s x) ∙ ap (λ l. keys (below cmp s x) ++ e.0 ∷ l) (greater_keys cmp s x)
+        ∙ sym (map-append (λ e. e.0) (below cmp s x) (e ∷ above cmp s x))
 
     pub with_item_keys : (s : List (T × V)) (x : T) (v : V) → with_item cmp (keys s) x ≡ keys (put cmp s x v)
-    with_item_keys s x v = ap (λ o. smaller cmp (keys s) x ++ unwrap_or o x ∷ greater cmp (keys s) x) (item_at_keys cmp s x) ∙ around s x (unwrap_or (option_map (λ e. e.0) (at cmp s x)) x, v)
+    with_item_keys s x v = ap (λ o. smaller cmp (keys s) x ++ unwrap_or o x ∷ greater cmp (keys s) x) (item_at_keys cmp s x)
+        ∙ around s x (unwrap_or (option_map (λ e. e.0) (at cmp s x)) x, v)
 
     pub with_replaced_keys : (s : List (T × V)) (x : T) (v : V) → with_replaced cmp (keys s) x ≡ keys (placed cmp s (x, v))
     with_replaced_keys s x v = around s x (x, v)
@@ -101,9 +106,13 @@ module _ {T V : Type 0} where
   any_key P R f (e ∷ s) (suc k, x, l, is, p) = any_later R e.0 (keys s) (any_key P R f s (k, x, omega (arith, l), is, p))
 
   -- Copies of pairs whose values are never refused are refused as copies of their keys.
-  pub refused_keys : (may_refuse : T → TryReserveError → Type 0) (s : List (T × V)) (e : TryReserveError) → MayRefuseCopies (MayRefusePair may_refuse (λ _ _. ⊥)) s e → MayRefuseCopies may_refuse (keys s) e
+  pub refused_keys : (may_refuse : T → TryReserveError → Type 0) (s : List (T × V)) (e : TryReserveError)
+      → MayRefuseCopies (MayRefusePair may_refuse (λ _ _. ⊥)) s e → MayRefuseCopies may_refuse (keys s) e
   refused_keys may_refuse s e (some, inl memory) = (rw (keys_length s) some, inl memory)
-  refused_keys may_refuse s e (some, inr own) = (rw (keys_length s) some, inr (any_key (λ p. MayRefusePair may_refuse (λ _ _. ⊥) p e) (λ x. may_refuse x e) of_key s own))
+  refused_keys may_refuse s e (some, inr own) = (
+    rw (keys_length s) some,
+    inr (any_key (λ p. MayRefusePair may_refuse (λ _ _. ⊥) p e) (λ x. may_refuse x e) of_key s own),
+  )
     where
       of_key : (p : T × V) → MayRefusePair may_refuse (λ _ _. ⊥) p e → may_refuse p.0 e
       of_key p (inl h) = h

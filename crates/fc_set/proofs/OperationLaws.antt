@@ -1,6 +1,7 @@
 -- The laws of the set operations over ascending lists: how many items they have.
 -- A caller names one on a function, as `#[tactic(auto, using(fc_set::proofs::OperationLaws::lengths))]`, or cites it in an answer.
-use Rattle.std.proofs.Common.{◌≡◌, ℕ, ◌+◌, ◌-◌, ◌^◌, ◌<◌, ◌≤◌, ◌↔◌, ◌⊎◌, inl, inr, Bool, true, false, cond, List, [], ◌∷◌, length, Option, Some, None, SomeIff, IfSome, MatchOption, IsTrue, is_some, is_none, not, max, refl, sym, ap, ◌∙◌, arith}
+use Rattle.std.proofs.Common.{◌≡◌, ℕ, ◌+◌, ◌-◌, ◌^◌, ◌<◌, ◌≤◌, ◌↔◌, ◌⊎◌, inl, inr, Bool, true, false, cond, List, [], ◌∷◌, length, Option, Some, None, SomeIff}
+use Rattle.std.proofs.Common.{IfSome, MatchOption, IsTrue, is_some, is_none, not, max, refl, sym, ap, ◌∙◌, arith}
 use Rattle.std.specs.Prelude.{nat_le}
 use Rattle.std.specs.Iterator.{UpTo, at_most}
 use Rattle.std.specs.Cmp.{IsTotalOrder}
@@ -13,15 +14,18 @@ use Rattle.fc_base.proofs.AscendingFacts.{under_one}
 use Rattle.fc_set.specs.Items.{AreAscending, joined_items}
 use Rattle.fc_set.specs.Operations.{difference, common, symmetric_difference, intersection, union}
 use Rattle.fc_set.specs.Sides.{begin_sifting, begin_with_shorter}
-use Rattle.fc_set.proofs.SideFacts.{IsBelow, below_on, tied_back, common_of_none, common_ours, common_past, common_tied, joined_first, joined_ours, joined_tied, joined_to_none, ascending_kept}
+use Rattle.fc_set.proofs.SideFacts.{IsBelow, below_on, tied_back, common_of_none, common_ours, common_past, common_tied, joined_first, joined_ours, joined_tied}
+use Rattle.fc_set.proofs.SideFacts.{joined_to_none, ascending_kept}
 
 module _ {T : Type 0} (cmp : T → T → Ordering) (total : IsTotalOrder cmp) where
   -- the items of both and those of either, and that both sides have as many in common
   abbrev Count : List T → List T → Type 0
   Count s t = (length (joined_items cmp t s) + length (common cmp s t) ≡ length s + length t) × (length (common cmp s t) ≡ length (common cmp t s))
 
-  with_first : (x : T) (s : List T) → AreAscending cmp (x ∷ s) → ((t : List T) → AreAscending cmp t → Count s t) → (t : List T) → AreAscending cmp t → Count (x ∷ s) t
-  with_first x s a ih [] b = let j = ap length (joined_to_none cmp total (x ∷ s) a) in let c = ap length (common_of_none cmp (x ∷ s)) in (omega (arith, j, c), c)
+  with_first : (x : T) (s : List T) → AreAscending cmp (x ∷ s) → ((t : List T) → AreAscending cmp t → Count s t) → (t : List T) → AreAscending cmp t
+      → Count (x ∷ s) t
+  with_first x s a ih [] b = let j = ap length (joined_to_none cmp total (x ∷ s) a) in let c =
+      ap length (common_of_none cmp (x ∷ s)) in (omega (arith, j, c), c)
   with_first x s a ih (y ∷ t) b = go (cmp x y) refl (ih (y ∷ t) b) (ih t b.1) (with_first x s a ih t b.1)
     where
       go : (r : Ordering) → cmp x y ≡ r → Count s (y ∷ t) → Count s t → Count (x ∷ s) t → Count (x ∷ s) (y ∷ t)
@@ -88,12 +92,18 @@ module _ {T : Type 0} (cmp : T → T → Ordering) (total : IsTotalOrder cmp) wh
   pub intersection_at_most : (s t : List T) → length (intersection cmp s t) ≤ length s
   intersection_at_most s t = within (leb_tells (length s) (length t))
     where
-      within : ((nat_le (length s) (length t) ≡ true) × (length s ≤ length t)) ⊎ ((nat_le (length s) (length t) ≡ false) × (length t < length s)) → length (intersection cmp s t) ≤ length s
+      within : ((nat_le (length s) (length t) ≡ true) × (length s ≤ length t)) ⊎ ((nat_le (length s) (length t) ≡ false) × (length t < length s))
+          → length (intersection cmp s t) ≤ length s
       within (inl w) = rw w.0 (common_at_most s t)
       within (inr w) = rw w.0 (omega (arith, common_at_most t s, w.1))
 
   pub symmetric_at_most : (s t : List T) → AreAscending cmp s → AreAscending cmp t → length (symmetric_difference cmp s t) ≤ length s + length t
-  symmetric_at_most s t a b = omega (arith, union_at_most (difference cmp t s) (difference cmp s t) (ascending_kept cmp _ t b) (ascending_kept cmp _ s a), difference_at_most s t, difference_at_most t s)
+  symmetric_at_most s t a b = omega (
+    arith,
+    union_at_most (difference cmp t s) (difference cmp s t) (ascending_kept cmp _ t b) (ascending_kept cmp _ s a),
+    difference_at_most s t,
+    difference_at_most t s,
+  )
 
 -- A sum of two lengths, where it fits, is an upper bound of what is at most as long.
 pub within_sum : (r : Option ℕ) (a b n : ℕ) → SomeIff r (a + b < 2 ^ 64) (a + b) → n ≤ a + b → IfSome r (UpTo (at_most n))
@@ -101,8 +111,13 @@ within_sum None a b n h le = tt
 within_sum (Some k) a b n h le = let e = h.1 in (tt, omega (arith, le, e))
 
 -- A longer list is no part of another.
-pub longer_is_no_part : {T : Type 0} (cmp : T → T → Ordering) → IsTotalOrder cmp → (s t : List T) → AreAscending cmp s → AreAscending cmp t → length t < length s → IsTrue false ↔ (difference cmp s t ≡ [])
-longer_is_no_part cmp total s t a b longer = (λ f. absurd cc, λ e. let n = ap length e in let m = difference_at_least cmp total s t a b in absurd (omega (arith, n, m, longer)))
+pub longer_is_no_part : {T : Type 0} (cmp : T → T → Ordering) → IsTotalOrder cmp → (s t : List T) → AreAscending cmp s → AreAscending cmp t
+    → length t < length s → IsTrue false ↔ (difference cmp s t ≡ [])
+longer_is_no_part cmp total s t a b longer = (
+  λ f. absurd cc,
+  λ e. let n = ap length e in let m =
+      difference_at_least cmp total s t a b in absurd (omega (arith, n, m, longer)),
+)
 
 -- The items that the shorter list has in common with the other, by either way round.
 pub common_by_length : {T : Type 0} (cmp : T → T → Ordering) (s t : List T) → let w = begin_with_shorter s t in common cmp w.left w.right ≡ intersection cmp s t
@@ -113,7 +128,8 @@ common_by_length cmp s t = go (nat_le (length s) (length t))
     go false = refl
 
 -- Nothing came first just where the list is empty.
-pub none_first : {A B : Type 0} (view : A → B) (r : Option A) (all rest : List B) (none : Bool) → none ≡ is_none r → MatchOption r ((all ≡ []) × (rest ≡ [])) (λ x. all ≡ view x ∷ rest) → IsTrue none ↔ (all ≡ [])
+pub none_first : {A B : Type 0} (view : A → B) (r : Option A) (all rest : List B) (none : Bool) → none ≡ is_none r
+    → MatchOption r ((all ≡ []) × (rest ≡ [])) (λ x. all ≡ view x ∷ rest) → IsTrue none ↔ (all ≡ [])
 none_first view None all rest none e h = (λ _. h.0, λ _. e)
 none_first view (Some x) all rest none e h = ((λ t. absurd (true≢false (sym t ∙ e))), λ n. absurd (not_empty (view x) rest (sym n ∙ h)))
   where

@@ -32,11 +32,13 @@ module _ {T : Type 0} (cmp : T → T → Ordering) where
   ascending_paired (x ∷ s) a = (all_paired (λ later. cmp x later ≡ Less) s a.0, ascending_paired s a.1)
 
   joined_paired : (s t : List T) → keys (joined cmp (paired s) (paired t)) ≡ joined_items cmp s t
-  joined_paired s t = sym (joined_keys cmp (paired s) (paired t)) ∙ ap (λ l. joined_items cmp l (keys (paired t))) (keys_paired s) ∙ ap (joined_items cmp s) (keys_paired t)
+  joined_paired s t = sym (joined_keys cmp (paired s) (paired t)) ∙ ap (λ l. joined_items cmp l (keys (paired t))) (keys_paired s)
+      ∙ ap (joined_items cmp s) (keys_paired t)
 
   ascending_joined_items : (s t : List T) → IsTotalOrder cmp → AreAscending cmp s → AreAscending cmp (joined_items cmp s t)
   ascending_joined_items s t total a =
-      subst (AreAscending cmp) (joined_paired s t) (ascending_keys cmp (joined cmp (paired s) (paired t)) (ascending_joined cmp (paired s) (paired t) total (ascending_paired s a)))
+      subst (AreAscending cmp) (joined_paired s t) (ascending_keys cmp (joined cmp (paired s) (paired t))
+      (ascending_joined cmp (paired s) (paired t) total (ascending_paired s a)))
 
   pub ascending_difference : (s t : List T) → AreAscending cmp s → AreAscending cmp (difference cmp s t)
   ascending_difference s t a = ascending_kept cmp _ s a
@@ -46,7 +48,8 @@ module _ {T : Type 0} (cmp : T → T → Ordering) where
 
   pub ascending_intersection : (s t : List T) → AreAscending cmp s → AreAscending cmp t → AreAscending cmp (intersection cmp s t)
   ascending_intersection s t a b =
-      elim (nat_le (length s) (length t)) as (λ r. AreAscending cmp (if r then common cmp s t else common cmp t s)) [ true ↦ ascending_kept cmp _ s a | false ↦ ascending_kept cmp _ t b ]
+      elim (nat_le (length s) (length t)) as (λ r. AreAscending cmp (if r then common cmp s t else common cmp t s))
+      [ true ↦ ascending_kept cmp _ s a | false ↦ ascending_kept cmp _ t b ]
 
   pub ascending_union : (s t : List T) → IsTotalOrder cmp → AreAscending cmp t → AreAscending cmp (union cmp s t)
   ascending_union s t total b = ascending_joined_items t s total b

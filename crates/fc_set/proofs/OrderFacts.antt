@@ -20,7 +20,8 @@ equal_if o Less equal is e h = absurd (true≢false (sym h ∙ e))
 equal_if o Equal equal is e h = sym is
 equal_if o Greater equal is e h = absurd (true≢false (sym h ∙ e))
 
-pub equal_else : (o order : Ordering) (greater less : Bool) → order ≡ o → greater ≡ is_gt order → greater ≡ false → less ≡ is_lt order → less ≡ false → o ≡ Equal
+pub equal_else : (o order : Ordering) (greater less : Bool) → order ≡ o → greater ≡ is_gt order → greater ≡ false → less ≡ is_lt order → less ≡ false
+    → o ≡ Equal
 equal_else o Less greater less is e h f i = absurd (true≢false (sym f ∙ i))
 equal_else o Equal greater less is e h f i = sym is
 equal_else o Greater greater less is e h f i = absurd (true≢false (sym e ∙ h))

@@ -20,7 +20,8 @@ filter_alike p q (x ∷ s) a = rw (a.0, filter_alike p q s a.1) refl
 
 pub all_kept : {X : Type 0} (P : X → Type 0) (p : X → Bool) (s : List X) → AllByRecursion P s → AllByRecursion P (filter p s)
 all_kept P p [] a = tt
-all_kept P p (x ∷ s) a = elim (p x) as (λ b. AllByRecursion P (cond b (x ∷ filter p s) (filter p s))) [ true ↦ (a.0, all_kept P p s a.1) | false ↦ all_kept P p s a.1 ]
+all_kept P p (x ∷ s) a = elim (p x) as (λ b. AllByRecursion P (cond b (x ∷ filter p s) (filter p s)))
+    [ true ↦ (a.0, all_kept P p s a.1) | false ↦ all_kept P p s a.1 ]
 
 module _ {T : Type 0} (cmp : T → T → Ordering) where
   -- The item is below all of the list.
@@ -29,7 +30,8 @@ module _ {T : Type 0} (cmp : T → T → Ordering) where
 
   pub ascending_kept : (p : T → Bool) (s : List T) → AreAscending cmp s → AreAscending cmp (filter p s)
   ascending_kept p [] a = tt
-  ascending_kept p (x ∷ s) a = elim (p x) as (λ b. AreAscending cmp (cond b (x ∷ filter p s) (filter p s))) [ true ↦ (all_kept _ p s a.0, ascending_kept p s a.1) | false ↦ ascending_kept p s a.1 ]
+  ascending_kept p (x ∷ s) a = elim (p x) as (λ b. AreAscending cmp (cond b (x ∷ filter p s) (filter p s)))
+      [ true ↦ (all_kept _ p s a.0, ascending_kept p s a.1) | false ↦ ascending_kept p s a.1 ]
 
   -- the items of s that a test keeps by what is equal to them in t
   abbrev sifted : (Option T → Bool) → List T → List T → List T
@@ -124,16 +126,12 @@ module _ {T : Type 0} (cmp : T → T → Ordering) where
 
     pub symmetric_theirs : (s t : List T) (y : T) → IsBelow y s → IsBelow y t → symmetric_difference cmp s (y ∷ t) ≡ y ∷ symmetric_difference cmp s t
     symmetric_theirs s t y below later =
-        rw (difference_past s t y below, difference_ours t s y below) (joined_ours (difference cmp t s) (difference cmp s t) y (all_kept _ _ t later) (all_kept _ _ s below))
+        rw (difference_past s t y below, difference_ours t s y below) (joined_ours (difference cmp t s) (difference cmp s t) y (all_kept _ _ t later)
+        (all_kept _ _ s below))
 
-    pub symmetric_tied : (s t : List T) (x y : T) → cmp x y ≡ Equal → IsBelow x s → IsBelow y t → symmetric_difference cmp (x ∷ s) (y ∷ t) ≡ symmetric_difference cmp s t
+    pub symmetric_tied : (s t : List T) (x y : T) → cmp x y ≡ Equal → IsBelow x s → IsBelow y t
+        → symmetric_difference cmp (x ∷ s) (y ∷ t) ≡ symmetric_difference cmp s t
     symmetric_tied s t x y same later below = rw (difference_tied s t x y same later, difference_tied t s y x (tied_back x y same) below) refl
-
-    pub symmetric_of_none : (s : List T) → symmetric_difference cmp s [] ≡ s
-    symmetric_of_none s = difference_of_none s
-
-    pub symmetric_to_none : (t : List T) → AreAscending cmp t → symmetric_difference cmp [] t ≡ t
-    symmetric_to_none t a = rw (difference_of_none t) (joined_to_none t a)
 
     -- What stands behind the first item is what is greater than it.
     pub after_first : (x : T) (s : List T) → IsBelow x s → greater cmp (x ∷ s) x ≡ s

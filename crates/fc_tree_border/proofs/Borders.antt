@@ -1,5 +1,6 @@
 -- Children of which the one on the border may be short, taken apart and put together.
-use Rattle.std.proofs.Common.{◌≡◌, ℕ, zero, suc, ◌+◌, ◌<◌, ◌≤◌, List, [], ◌∷◌, ◌++◌, length, get_or, take, drop, refl, sym, ap, subst, ◌∙◌, arith, length-append, inl, inr}
+use Rattle.std.proofs.Common.{◌≡◌, ℕ, zero, suc, ◌+◌, ◌<◌, ◌≤◌, List, [], ◌∷◌, ◌++◌, length, get_or, take, drop, refl, sym, ap, subst, ◌∙◌, arith}
+use Rattle.std.proofs.Common.{length-append, inl, inr}
 use Rattle.std.specs.List.{AllByRecursion}
 use Rattle.fc_base.specs.Sizes.{capacity}
 use Rattle.fc_tree_node.specs.declared.node.Node.{Node}
@@ -92,29 +93,41 @@ module _ {K V : Type 0} where
   sides_alike Right (suc h) l r a b = inr (a.1, b.1)
 
   -- two neighbours made one
-  pub side_whole : (s : Border) (h : ℕ) (l r w : Node K V) → LeftOf s h l → RightOf s h r → children_of w ≡ children_of l ++ children_of r → AreAlike l w → length (own_pairs w) ≤ capacity → IsBordered s h w
+  pub side_whole : (s : Border) (h : ℕ) (l r w : Node K V) → LeftOf s h l → RightOf s h r → children_of w ≡ children_of l ++ children_of r → AreAlike l w
+      → length (own_pairs w) ≤ capacity → IsBordered s h w
   side_whole Left zero l r w a b e x le = (le, leaf_alike l w a.1 x)
   side_whole Right zero l r w a b e x le = (le, leaf_alike l w a.1 x)
-  side_whole Left (suc h) l r w a b e x le =
-      (le, inner_alike l w a.1 x, subst (FirstThen (IsLeftBordered h) (IsSound h)) (sym e) (first_join (IsLeftBordered h) (IsSound h) (children_of l) (children_of r) (some_child l a.1) a.2 b.2))
-  side_whole Right (suc h) l r w a b e x le =
-      (le, inner_alike l w a.1 x, subst (LastAfter (IsRightBordered h) (IsSound h)) (sym e) (last_join (IsRightBordered h) (IsSound h) (children_of l) (children_of r) (some_child r b.1) a.2 b.2))
+  side_whole Left (suc h) l r w a b e x le = (
+    le,
+    inner_alike l w a.1 x,
+    subst (FirstThen (IsLeftBordered h) (IsSound h)) (sym e)
+        (first_join (IsLeftBordered h) (IsSound h) (children_of l) (children_of r) (some_child l a.1) a.2 b.2),
+  )
+  side_whole Right (suc h) l r w a b e x le = (
+    le,
+    inner_alike l w a.1 x,
+    subst (LastAfter (IsRightBordered h) (IsSound h)) (sym e)
+        (last_join (IsRightBordered h) (IsSound h) (children_of l) (children_of r) (some_child r b.1) a.2 b.2),
+  )
 
   -- two neighbours of which one took from the other
-  pub side_both : (s : Border) (h : ℕ) (l r l' r' : Node K V) → LeftOf s h l → RightOf s h r → children_of l' ++ children_of r' ≡ children_of l ++ children_of r → AreAlike l l' → AreAlike l' r'
+  pub side_both : (s : Border) (h : ℕ) (l r l' r' : Node K V) → LeftOf s h l → RightOf s h r
+      → children_of l' ++ children_of r' ≡ children_of l ++ children_of r → AreAlike l l' → AreAlike l' r'
       → length (own_pairs l') ≤ capacity → length (own_pairs r') ≤ capacity → LeftOf s h l' × RightOf s h r'
   side_both Left zero l r l' r' a b e x y m n = let i = leaf_alike l l' a.1 x in ((m, i), (n, leaf_alike l' r' i y))
   side_both Right zero l r l' r' a b e x y m n = let i = leaf_alike l l' a.1 x in ((m, i), (n, leaf_alike l' r' i y))
   side_both Left (suc h) l r l' r' a b e x y m n =
       let i = inner_alike l l' a.1 x in
       let t = first_split (IsLeftBordered h) (IsSound h) (children_of l') (children_of r') (some_child l' i)
-      (subst (FirstThen (IsLeftBordered h) (IsSound h)) (sym e) (first_join (IsLeftBordered h) (IsSound h) (children_of l) (children_of r) (some_child l a.1) a.2 b.2)) in
+      (subst (FirstThen (IsLeftBordered h) (IsSound h)) (sym e) (first_join (IsLeftBordered h) (IsSound h) (children_of l) (children_of r) (some_child l a.1)
+      a.2 b.2)) in
       ((m, i, t.0), (n, inner_alike l' r' i y, t.1))
   side_both Right (suc h) l r l' r' a b e x y m n =
       let i = inner_alike l l' a.1 x in
       let j = inner_alike l' r' i y in
       let t = last_split (IsRightBordered h) (IsSound h) (children_of l') (children_of r') (some_child r' j)
-      (subst (LastAfter (IsRightBordered h) (IsSound h)) (sym e) (last_join (IsRightBordered h) (IsSound h) (children_of l) (children_of r) (some_child r b.1) a.2 b.2)) in
+      (subst (LastAfter (IsRightBordered h) (IsSound h)) (sym e) (last_join (IsRightBordered h) (IsSound h) (children_of l) (children_of r) (some_child r b.1)
+      a.2 b.2)) in
       ((m, i, t.0), (n, j, t.1))
 
   -- a node above the leaves, with the child on its border among sound ones
@@ -126,11 +139,13 @@ module _ {K V : Type 0} where
     pub child : IsBordered s h (child_at n (border_place s n))
     pub after : AllByRecursion (IsSound h) (drop (suc (border_place s n)) (children_of n))
 
-  first_parts : (P Q : Node K V → Type 0) (cs : List (Node K V)) (d : Node K V) → 0 < length cs → FirstThen P Q cs → P (get_or cs 0 d) × AllByRecursion Q (drop 1 cs)
+  first_parts : (P Q : Node K V → Type 0) (cs : List (Node K V)) (d : Node K V) → 0 < length cs → FirstThen P Q cs
+      → P (get_or cs 0 d) × AllByRecursion Q (drop 1 cs)
   first_parts P Q [] d h a = absurd (omega arith)
   first_parts P Q (c ∷ cs) d h a = a
 
-  last_parts : (P Q : Node K V → Type 0) (cs : List (Node K V)) (i : ℕ) (d : Node K V) → length cs ≡ i + 1 → LastAfter P Q cs → AllByRecursion Q (take i cs) × P (get_or cs i d) × AllByRecursion Q (drop (suc i) cs)
+  last_parts : (P Q : Node K V → Type 0) (cs : List (Node K V)) (i : ℕ) (d : Node K V) → length cs ≡ i + 1 → LastAfter P Q cs
+      → AllByRecursion Q (take i cs) × P (get_or cs i d) × AllByRecursion Q (drop (suc i) cs)
   last_parts P Q [] i d h a = absurd (omega arith)
   last_parts P Q (c ∷ []) zero d h a = (tt, a, tt)
   last_parts P Q (c ∷ []) (suc i) d h a = absurd (omega arith)
@@ -148,15 +163,20 @@ module _ {K V : Type 0} where
       record { fits = b.0; inner = b.1; there = omega arith; before = p.0; child = p.1; after = p.2 }
 
   -- a node whose child on the border stands among sound ones
-  pub border_closed : (s : Border) (h : ℕ) (n c : Node K V) (A D : List (Node K V)) → length (own_pairs n) ≤ capacity → IsInner n → children_of n ≡ A ++ c ∷ D → length A ≡ border_place s n
+  pub border_closed : (s : Border) (h : ℕ) (n c : Node K V) (A D : List (Node K V)) → length (own_pairs n) ≤ capacity → IsInner n → children_of n ≡ A ++ c ∷ D
+      → length A ≡ border_place s n
       → AllByRecursion (IsSound h) A → IsBordered s h c → AllByRecursion (IsSound h) D → IsBordered s (suc h) n
   border_closed Left h n c A D le i e k a b d =
       (le, i, subst (FirstThen (IsLeftBordered h) (IsSound h)) (sym (e ∙ ap (λ zs. zs ++ c ∷ D) (none A k))) (b, d))
   border_closed Right h n c A D le i e k a b d =
       let m : length (children_of n) ≡ length (own_pairs n) + 1 = i in
       let t : length (children_of n) ≡ length A + suc (length D) = ap length e ∙ length-append A (c ∷ D) in
-      let z : D ≡ [] = none D (omega arith) in
-      (le, i, subst (LastAfter (IsRightBordered h) (IsSound h)) (sym (e ∙ ap (λ zs. A ++ c ∷ zs) z)) (last_join (IsRightBordered h) (IsSound h) A (c ∷ []) (omega arith) a b))
+      let z : D ≡ [] = none D (omega arith) in (
+        le,
+        i,
+        subst (LastAfter (IsRightBordered h) (IsSound h)) (sym (e ∙ ap (λ zs. A ++ c ∷ zs) z))
+            (last_join (IsRightBordered h) (IsSound h) A (c ∷ []) (omega arith) a b),
+      )
 
   pub child_here : (n c : Node K V) (A D : List (Node K V)) (i : ℕ) → children_of n ≡ A ++ c ∷ D → length A ≡ i → child_at n i ≡ c
   child_here n c A D i e k = ap (λ cs. get_or cs i n) e ∙ at_end A c D i n k

@@ -40,12 +40,14 @@ module _ {K V : Type 0} where
       let w = length_weave (map pairs_of (children_of n)) (own_pairs n) (length-map (children_of n) pairs_of ∙ e) in
       ap length (pairs_is n) ∙ w ∙ ap (λ k. length (own_pairs n) + k) (all_in (children_of n))
 
-  next_in : (cs : List (Node K V)) (i : ℕ) (d : Node K V) → i < length cs → (pairs_in (take (suc i) cs) ≡ pairs_in (take i cs) + length (pairs_of (get_or cs i d))) × (pairs_in (take (suc i) cs) ≤ pairs_in cs)
+  next_in : (cs : List (Node K V)) (i : ℕ) (d : Node K V) → i < length cs
+      → (pairs_in (take (suc i) cs) ≡ pairs_in (take i cs) + length (pairs_of (get_or cs i d))) × (pairs_in (take (suc i) cs) ≤ pairs_in cs)
   next_in [] i d h = absurd (omega arith)
   next_in (c ∷ cs) zero d h = (omega arith, omega arith)
   next_in (c ∷ cs) (suc i) d h = let r = next_in cs i d (omega arith) in let a = r.0 in let b = r.1 in (omega arith, omega arith)
 
-  pub counted_more : (cs : List (Node K V)) (i : ℕ) (d : Node K V) → i < length cs → (pairs_in (take (i + 1) cs) ≡ pairs_in (take i cs) + length (pairs_of (get_or cs i d))) × (pairs_in (take (i + 1) cs) ≤ pairs_in cs)
+  pub counted_more : (cs : List (Node K V)) (i : ℕ) (d : Node K V) → i < length cs
+      → (pairs_in (take (i + 1) cs) ≡ pairs_in (take i cs) + length (pairs_of (get_or cs i d))) × (pairs_in (take (i + 1) cs) ≤ pairs_in cs)
   counted_more cs i d h = rw add-one (next_in cs i d h)
 
   pub counted_all : (cs : List (Node K V)) (i : ℕ) → i ≡ length cs → pairs_in (take i cs) ≡ pairs_in cs

@@ -1,5 +1,6 @@
 -- The two parts of a tree that is cut along a path.
-use Rattle.std.proofs.Common.{◌≡◌, ℕ, zero, suc, ◌+◌, ◌<◌, ◌≤◌, List, [], ◌∷◌, ◌++◌, length, get_or, map, take, drop, slice_get, refl, sym, ap, subst, ◌∙◌, arith, add-one, append-nil, length-append, Option, Some, None, Result, Ok, Err, IfOk, inl, inr}
+use Rattle.std.proofs.Common.{◌≡◌, ℕ, zero, suc, ◌+◌, ◌<◌, ◌≤◌, List, [], ◌∷◌, ◌++◌, length, get_or, map, take, drop, slice_get, refl, sym, ap, subst, ◌∙◌}
+use Rattle.std.proofs.Common.{arith, add-one, append-nil, length-append, Option, Some, None, Result, Ok, Err, IfOk, inl, inr}
 use Rattle.std.specs.Prelude.{slice_set, slice_range}
 use Rattle.std.specs.List.{AllByRecursion}
 use Rattle.std.proofs.lemmas.List.{length-drop}
@@ -42,7 +43,8 @@ module _ {K V : Type 0} where
   blank_pairs : (h : ℕ) (n : Node K V) → IsBlank h n → pairs_of n ≡ []
   blank_pairs zero n b = leaf_pairs n b.1 ∙ b.0
   blank_pairs (suc h) n b =
-      pairs_is n ∙ ap (λ ps. weave (map pairs_of (children_of n)) ps) b.0 ∙ ap (λ cs. weave (map pairs_of cs) []) b.2 ∙ append-nil (pairs_of b.1) ∙ blank_pairs h b.1 b.3
+      pairs_is n ∙ ap (λ ps. weave (map pairs_of (children_of n)) ps) b.0 ∙ ap (λ cs. weave (map pairs_of cs) []) b.2 ∙ append-nil (pairs_of b.1)
+      ∙ blank_pairs h b.1 b.3
 
   blank_inner : (h : ℕ) (n : Node K V) → IsBlank (suc h) n → IsInner n
   blank_inner h n b = let e : length (own_pairs n) ≡ 0 = ap length b.0 in let f : length (children_of n) ≡ 1 = ap length b.2 in omega arith
@@ -88,12 +90,15 @@ module _ {K V : Type 0} where
   gap_front [] h n l e w = absurd (omega arith)
   gap_front (i ∷ []) zero n l e w =
       let z = leaf_children n l.1 in
-      ap (λ cs. weave (map pairs_of (take (suc i) cs)) (take i (own_pairs n))) z ∙ sym (append-nil (before_child n i) ∙ ap (λ cs. before_list (map pairs_of (take i cs)) (take i (own_pairs n))) z ∙ ap (λ cs. before_list (map pairs_of cs) (take i (own_pairs n))) (take_nil i))
+      ap (λ cs. weave (map pairs_of (take (suc i) cs)) (take i (own_pairs n))) z
+      ∙ sym (append-nil (before_child n i) ∙ ap (λ cs. before_list (map pairs_of (take i cs)) (take i (own_pairs n))) z
+      ∙ ap (λ cs. before_list (map pairs_of cs) (take i (own_pairs n))) (take_nil i))
   gap_front (i ∷ []) (suc h) n l e w = absurd (omega arith)
   gap_front (i ∷ j ∷ p) zero n l e w = absurd (omega arith)
   gap_front (i ∷ j ∷ p) (suc h) n l e w = ap (λ zs. before_child n i ++ zs) (gap_front (j ∷ p) h (child_at n i) (child_below h n i l w.0).1 (omega arith) w.1)
 
-  pub cut_in_two : (p : List ℕ) (h : ℕ) (n : Node K V) (left right : Map K V) → IsLevelled h n → entries left ≡ before_pair p n → entries right ≡ after_gap p n → IsCutInTwo p (Some n) left right
+  pub cut_in_two : (p : List ℕ) (h : ℕ) (n : Node K V) (left right : Map K V) → IsLevelled h n → entries left ≡ before_pair p n → entries right ≡ after_gap p n
+      → IsCutInTwo p (Some n) left right
   cut_in_two p h n left right l e f = record {
     left_of_pair = λ x there. e;
     right_of_pair = λ x there. f ∙ place_rest p n x there;
@@ -108,13 +113,15 @@ module _ {K V : Type 0} where
 
     pub end_front : own_pairs new ≡ take last (own_pairs n) → children_of new ≡ take (last + 1) (children_of n) → pairs_of new ≡ before_pair p n
     end_front e f =
-        pairs_is new ∙ ap (λ ps. weave (map pairs_of (children_of new)) ps) e ∙ ap (λ cs. weave (map pairs_of cs) (take last (own_pairs n))) (f ∙ ap (λ k. take k (children_of n)) (add-one last))
+        pairs_is new ∙ ap (λ ps. weave (map pairs_of (children_of new)) ps) e
+        ∙ ap (λ cs. weave (map pairs_of cs) (take last (own_pairs n))) (f ∙ ap (λ k. take k (children_of n)) (add-one last))
         ∙ ap (λ q. before_pair q n) (sym (one_step p one))
 
     pub end_back : (h : ℕ) → IsBlank h r → pairs_of other ≡ pairs_of r ++ after_gap (last ∷ []) n → pairs_of other ≡ after_gap p n
     end_back h b e = e ∙ ap (λ zs. zs ++ after_gap (last ∷ []) n) (blank_pairs h r b) ∙ ap (λ q. after_gap q n) (sym (one_step p one))
 
-    pub end_front_levels : (h : ℕ) → IsLevelled h n → own_pairs new ≡ take last (own_pairs n) → children_of new ≡ take (last + 1) (children_of n) → AreAlike n new → IsRightBordered h new
+    pub end_front_levels : (h : ℕ) → IsLevelled h n → own_pairs new ≡ take last (own_pairs n) → children_of new ≡ take (last + 1) (children_of n)
+        → AreAlike n new → IsRightBordered h new
     end_front_levels zero l e f a =
         let le = (subst (λ q. IsPath q n) (one_step p one) w).0 in
         let t = ap length e ∙ length_take last (own_pairs n) le in
@@ -124,9 +131,14 @@ module _ {K V : Type 0} where
         let le = (subst (λ q. IsPath q n) (one_step p one) w).0 in
         let t = ap length e ∙ length_take last (own_pairs n) le in
         let fits = l.0 in
-        levelled_bordered Right (suc h) new (omega arith, inner_alike n new l.1 a, subst (AllByRecursion (IsSound h)) (sym f) (all_take (IsSound h) (last + 1) (children_of n) l.2))
+        levelled_bordered Right (suc h) new (
+          omega arith,
+          inner_alike n new l.1 a,
+          subst (AllByRecursion (IsSound h)) (sym f) (all_take (IsSound h) (last + 1) (children_of n) l.2),
+        )
 
-    pub end_back_levels : (h : ℕ) → IsLevelled h n → IsBlank h r → own_pairs other ≡ own_pairs r ++ drop last (own_pairs n) → children_of other ≡ children_of r ++ drop (last + 1) (children_of n) → AreAlike n other → IsLeftBordered h other
+    pub end_back_levels : (h : ℕ) → IsLevelled h n → IsBlank h r → own_pairs other ≡ own_pairs r ++ drop last (own_pairs n)
+        → children_of other ≡ children_of r ++ drop (last + 1) (children_of n) → AreAlike n other → IsLeftBordered h other
     end_back_levels zero l b e f a =
         let t = ap length e ∙ ap (λ ps. length (ps ++ drop last (own_pairs n))) b.0 ∙ length-drop last (own_pairs n) in
         let fits = l.0 in
@@ -135,8 +147,12 @@ module _ {K V : Type 0} where
         let t = ap length e ∙ ap (λ ps. length (ps ++ drop last (own_pairs n))) b.0 ∙ length-drop last (own_pairs n) in
         let fits = l.0 in
         let s : IsLeftBordered (suc h) r = blank_bordered (suc h) r b in
-        let some : length (children_of r) ≡ 1 = ap length b.2 in
-        (omega arith, inner_alike n other l.1 a, subst (FirstThen (IsLeftBordered h) (IsSound h)) (sym f) (first_join (IsLeftBordered h) (IsSound h) (children_of r) _ (omega arith) s.2 (all_drop (IsSound h) (last + 1) (children_of n) l.2)))
+        let some : length (children_of r) ≡ 1 = ap length b.2 in (
+          omega arith,
+          inner_alike n other l.1 a,
+          subst (FirstThen (IsLeftBordered h) (IsSound h)) (sym f)
+              (first_join (IsLeftBordered h) (IsSound h) (children_of r) _ (omega arith) s.2 (all_drop (IsSound h) (last + 1) (children_of n) l.2)),
+        )
 
   -- where the path goes on
   pub record IsForked (h : ℕ) (p : List ℕ) (n left right : Node K V) : Type 0 where
@@ -156,8 +172,10 @@ module _ {K V : Type 0} where
     pub blank : IsBlank below top
     pub right_children : children_of right ≡ top ∷ drop (suc (get_or p 0 0)) (children_of n)
 
-  pub forked : (h : ℕ) (p : List ℕ) (n r left right : Node K V) → (length p ≡ 1 → ⊥) → IsCutAlong h p n → IsLevelled h n → IsBlank h r → own_pairs left ≡ take (get_or p 0 0) (own_pairs n) → children_of left ≡ take (get_or p 0 0 + 1) (children_of n)
-      → own_pairs right ≡ own_pairs r ++ drop (get_or p 0 0) (own_pairs n) → children_of right ≡ children_of r ++ drop (get_or p 0 0 + 1) (children_of n) → AreAlike n left → AreAlike left right → IsForked h p n left right
+  pub forked : (h : ℕ) (p : List ℕ) (n r left right : Node K V) → (length p ≡ 1 → ⊥) → IsCutAlong h p n → IsLevelled h n → IsBlank h r
+      → own_pairs left ≡ take (get_or p 0 0) (own_pairs n) → children_of left ≡ take (get_or p 0 0 + 1) (children_of n)
+      → own_pairs right ≡ own_pairs r ++ drop (get_or p 0 0) (own_pairs n) → children_of right ≡ children_of r ++ drop (get_or p 0 0 + 1) (children_of n)
+      → AreAlike n left → AreAlike left right → IsForked h p n left right
   forked zero p n r left right more c l b e₁ f₁ e₂ f₂ a₁ a₂ = let s = c.some in let t = c.short in absurd (more (omega arith))
   forked (suc h) p n r left right more c l b e₁ f₁ e₂ f₂ a₁ a₂ =
       let some = c.some in
@@ -181,7 +199,8 @@ module _ {K V : Type 0} where
         left_inner = inner;
         left_own = e₁;
         left_children = there;
-        left_child = child_here left (child_at n i) (take i (children_of n)) [] i (there ∙ take_item (children_of n) i n (omega arith)) (length_take i (children_of n) (omega arith));
+        left_child = child_here left (child_at n i) (take i (children_of n)) [] i (there ∙ take_item (children_of n) i n (omega arith))
+            (length_take i (children_of n) (omega arith));
         right_inner = inner_alike left right inner a₂;
         right_own = e₂ ∙ ap (λ ps. ps ++ drop i (own_pairs n)) b.0;
         top = b.1;
@@ -229,18 +248,23 @@ module _ {K V : Type 0} where
           blank = subst (IsBlank f.below) (sym top) f.blank;
         }
 
-    pub fork_front : (new child c : Node K V) → IsChildSet left new step c → child ≡ child_at left step → pairs_of c ≡ before_pair rest child → pairs_of new ≡ before_pair p n
+    pub fork_front : (new child c : Node K V) → IsChildSet left new step c → child ≡ child_at left step → pairs_of c ≡ before_pair rest child
+        → pairs_of new ≡ before_pair p n
     fork_front new child c m ci e =
         let le = f.le in
         let lt = there in
-        around_one new c (take step (children_of n)) [] (take step (own_pairs n)) [] (m.child ∙ ap (λ cs. slice_set cs step c) f.left_children ∙ set_last (children_of n) step c there) (m.same ∙ f.left_own ∙ sym (append-nil (take step (own_pairs n))))
+        around_one new c (take step (children_of n)) [] (take step (own_pairs n)) []
+        (m.child ∙ ap (λ cs. slice_set cs step c) f.left_children ∙ set_last (children_of n) step c there)
+        (m.same ∙ f.left_own ∙ sym (append-nil (take step (own_pairs n))))
         (length_take step (children_of n) (omega arith) ∙ sym (length_take step (own_pairs n) le))
         ∙ ap (λ zs. before_child n step ++ zs) (append-nil (pairs_of c) ∙ e ∙ ap (before_pair rest) (ci ∙ f.left_child))
         ∙ sym (ap (λ q. before_pair q n) f.path_is ∙ before_on rest f.onward.some)
 
-    pub fork_back : (new child c : Node K V) → IsChildSet right new 0 c → child ≡ child_at left step → pairs_of c ≡ after_gap rest child → pairs_of new ≡ after_gap p n
+    pub fork_back : (new child c : Node K V) → IsChildSet right new 0 c → child ≡ child_at left step → pairs_of c ≡ after_gap rest child
+        → pairs_of new ≡ after_gap p n
     fork_back new child c m ci e =
-        pairs_is new ∙ ap (λ cs. weave (map pairs_of cs) (own_pairs new)) (m.child ∙ ap (λ cs. slice_set cs 0 c) f.right_children) ∙ ap (λ ps. weave (map pairs_of (c ∷ drop (suc step) (children_of n))) ps) (m.same ∙ f.right_own)
+        pairs_is new ∙ ap (λ cs. weave (map pairs_of cs) (own_pairs new)) (m.child ∙ ap (λ cs. slice_set cs 0 c) f.right_children)
+        ∙ ap (λ ps. weave (map pairs_of (c ∷ drop (suc step) (children_of n))) ps) (m.same ∙ f.right_own)
         ∙ ap (λ zs. zs ++ after_child n step) (e ∙ ap (after_gap rest) (ci ∙ f.left_child))
         ∙ sym (ap (λ q. after_gap q n) f.path_is)
 
@@ -254,7 +278,8 @@ module _ {K V : Type 0} where
         let o = ap length (m.same ∙ f.left_own) ∙ length_take step (own_pairs n) le in
         let t = length_take step (children_of n) (omega arith) in
         let k = ap length is ∙ length-append (take step (children_of n)) (c ∷ []) in
-        subst (λ k. IsRightBordered k new) (sym f.height) (border_closed Right g new c (take step (children_of n)) [] (omega arith) (omega arith) is (omega arith) (all_take (IsSound g) step (children_of n) f.levels.2) b tt)
+        subst (λ k. IsRightBordered k new) (sym f.height) (border_closed Right g new c (take step (children_of n)) [] (omega arith) (omega arith) is
+        (omega arith) (all_take (IsSound g) step (children_of n) f.levels.2) b tt)
 
     pub fork_back_levels : (new c : Node K V) → IsChildSet right new 0 c → IsLeftBordered f.below c → IsLeftBordered h new
     fork_back_levels new c m b =
@@ -267,7 +292,8 @@ module _ {K V : Type 0} where
         let o = ap length (m.same ∙ f.right_own) ∙ length-drop step (own_pairs n) in
         let t = length-drop (suc step) (children_of n) in
         let k = ap length is in
-        subst (λ k. IsLeftBordered k new) (sym f.height) (border_closed Left g new c [] (drop (suc step) (children_of n)) (omega arith) (omega arith) is refl tt b (all_drop (IsSound g) (suc step) (children_of n) f.levels.2))
+        subst (λ k. IsLeftBordered k new) (sym f.height) (border_closed Left g new c [] (drop (suc step) (children_of n)) (omega arith) (omega arith) is refl
+        tt b (all_drop (IsSound g) (suc step) (children_of n) f.levels.2))
 
   pub within_sound : (h : ℕ) (m : Map K V) → h ≤ most_height → IsSoundWithin h m → IsSoundMap m
   within_sound h None le w = tt
@@ -283,7 +309,8 @@ module _ {K V : Type 0} where
   blank_made n (Ok b) e i = λ h l. blank_leaf h n b e i l
   blank_made n (Err x) e i = i
 
-  pub blank_above : (h : ℕ) (n top below child : Node K V) → (IsLeaf n → ⊥) → own_pairs top ≡ [] → children_of top ≡ below ∷ [] → child ≡ child_at n 0 → ((g : ℕ) → IsLevelled g child → IsBlank g below) → IsLevelled h n → IsBlank h top
+  pub blank_above : (h : ℕ) (n top below child : Node K V) → (IsLeaf n → ⊥) → own_pairs top ≡ [] → children_of top ≡ below ∷ [] → child ≡ child_at n 0
+      → ((g : ℕ) → IsLevelled g child → IsBlank g below) → IsLevelled h n → IsBlank h top
   blank_above zero n top below child up e f c b l = absurd (up l.1)
   blank_above (suc h) n top below child up e f c b l = (e, below, f, b h (subst (IsLevelled h) (sym c) (child_below h n 0 l (omega arith)).1))
 

@@ -34,15 +34,18 @@ module _ {K V : Type 0} where
   no_children n e = height_is n ∙ ap (λ cs. above_first (map height_of cs)) e
 
   -- the first child is as high as each
-  pub first_all : (h : ℕ) (P : Node K V → Type 0) → ((c : Node K V) → P c → height_of c ≡ h) → (cs : List (Node K V)) → 0 < length cs → AllByRecursion P cs → above_first (map height_of cs) ≡ suc h
+  pub first_all : (h : ℕ) (P : Node K V → Type 0) → ((c : Node K V) → P c → height_of c ≡ h) → (cs : List (Node K V)) → 0 < length cs → AllByRecursion P cs
+      → above_first (map height_of cs) ≡ suc h
   first_all h P f [] k a = absurd (omega arith)
   first_all h P f (c ∷ cs) k a = ap suc (f c a.0)
 
-  first_then : (h : ℕ) (P Q : Node K V → Type 0) → ((c : Node K V) → P c → height_of c ≡ h) → (cs : List (Node K V)) → 0 < length cs → FirstThen P Q cs → above_first (map height_of cs) ≡ suc h
+  first_then : (h : ℕ) (P Q : Node K V → Type 0) → ((c : Node K V) → P c → height_of c ≡ h) → (cs : List (Node K V)) → 0 < length cs → FirstThen P Q cs
+      → above_first (map height_of cs) ≡ suc h
   first_then h P Q f [] k a = absurd (omega arith)
   first_then h P Q f (c ∷ cs) k a = ap suc (f c a.0)
 
-  last_after : (h : ℕ) (P Q : Node K V → Type 0) → ((c : Node K V) → P c → height_of c ≡ h) → ((c : Node K V) → Q c → height_of c ≡ h) → (cs : List (Node K V)) → 0 < length cs → LastAfter P Q cs → above_first (map height_of cs) ≡ suc h
+  last_after : (h : ℕ) (P Q : Node K V → Type 0) → ((c : Node K V) → P c → height_of c ≡ h) → ((c : Node K V) → Q c → height_of c ≡ h) → (cs : List (Node K V))
+      → 0 < length cs → LastAfter P Q cs → above_first (map height_of cs) ≡ suc h
   last_after h P Q f f' [] k a = absurd (omega arith)
   last_after h P Q f f' (c ∷ []) k a = ap suc (f c a)
   last_after h P Q f f' (c ∷ d ∷ cs) k a = ap suc (f' c a.0)
@@ -54,5 +57,7 @@ module _ {K V : Type 0} where
   pub bordered_height : (side : Border) (h : ℕ) (n : Node K V) → IsBordered side h n → height_of n ≡ h
   bordered_height Left zero n l = no_children n (leaf_children n l.1)
   bordered_height Right zero n l = no_children n (leaf_children n l.1)
-  bordered_height Left (suc h) n l = height_is n ∙ first_then h (IsBordered Left h) (IsSound h) (bordered_height Left h) (children_of n) (let e = l.1 in omega arith) l.2
-  bordered_height Right (suc h) n l = height_is n ∙ last_after h (IsBordered Right h) (IsSound h) (bordered_height Right h) (λ c s. levelled_height h c s.1) (children_of n) (let e = l.1 in omega arith) l.2
+  bordered_height Left (suc h) n l = height_is n ∙ first_then h (IsBordered Left h) (IsSound h) (bordered_height Left h) (children_of n)
+      (let e = l.1 in omega arith) l.2
+  bordered_height Right (suc h) n l = height_is n ∙ last_after h (IsBordered Right h) (IsSound h) (bordered_height Right h) (λ c s. levelled_height h c s.1)
+      (children_of n) (let e = l.1 in omega arith) l.2

@@ -1,5 +1,6 @@
 -- A node whose child on the border was mended, and a root that gives way to its only child.
-use Rattle.std.proofs.Common.{◌≡◌, ℕ, zero, suc, ◌+◌, ◌<◌, ◌≤◌, List, [], ◌∷◌, ◌++◌, length, get_or, take, drop, map, refl, sym, ap, subst, ◌∙◌, arith, append-nil, Option, Some, None, MatchOption, inl, inr}
+use Rattle.std.proofs.Common.{◌≡◌, ℕ, zero, suc, ◌+◌, ◌<◌, ◌≤◌, List, [], ◌∷◌, ◌++◌, length, get_or, take, drop, map, refl, sym, ap, subst, ◌∙◌, arith}
+use Rattle.std.proofs.Common.{append-nil, Option, Some, None, MatchOption, inl, inr}
 use Rattle.std.specs.List.{AllByRecursion}
 use Rattle.fc_base.specs.Sizes.{min_len}
 use Rattle.fc_tree_node.specs.Weave.{weave}
@@ -74,11 +75,13 @@ module _ {K V : Type 0} where
         many = subst (λ n. min_len + 1 ≤ length (own_pairs n)) (sym there) st.1;
       }
 
-  pub mended_pairs : (mid new child c : Node K V) (i : ℕ) → IsInner mid → i < length (children_of mid) → IsChildSet mid new i c → child ≡ child_at mid i → pairs_of c ≡ pairs_of child → pairs_of new ≡ pairs_of mid
+  pub mended_pairs : (mid new child c : Node K V) (i : ℕ) → IsInner mid → i < length (children_of mid) → IsChildSet mid new i c → child ≡ child_at mid i
+      → pairs_of c ≡ pairs_of child → pairs_of new ≡ pairs_of mid
   mended_pairs mid new child c i inner lt m ci e =
       let k : length (children_of mid) ≡ length (own_pairs mid) + 1 = inner in
       let le : i ≤ length (own_pairs mid) = omega arith in
-      around_one new c (take i (children_of mid)) (drop (suc i) (children_of mid)) (take i (own_pairs mid)) (drop i (own_pairs mid)) (m.child ∙ set_is (children_of mid) i c lt) (m.same ∙ sym (take_drop i (own_pairs mid)))
+      around_one new c (take i (children_of mid)) (drop (suc i) (children_of mid)) (take i (own_pairs mid)) (drop i (own_pairs mid))
+      (m.child ∙ set_is (children_of mid) i c lt) (m.same ∙ sym (take_drop i (own_pairs mid)))
       (length_take i (children_of mid) (omega arith) ∙ sym (length_take i (own_pairs mid) le))
       ∙ ap (λ zs. before_child mid i ++ (zs ++ after_child mid i)) (e ∙ ap pairs_of ci) ∙ sym (inner_gap mid i inner le)
 
@@ -128,7 +131,8 @@ module _ {K V : Type 0} where
 
   pub only_pairs : (root c : Node K V) → length (own_pairs root) ≡ 0 → children_of root ≡ c ∷ [] → pairs_of c ≡ pairs_of root
   only_pairs root c h e =
-      sym (pairs_is root ∙ ap (λ ps. weave (map pairs_of (children_of root)) ps) (no_pairs (own_pairs root) h) ∙ ap (λ cs. weave (map pairs_of cs) []) e ∙ append-nil (pairs_of c))
+      sym (pairs_is root ∙ ap (λ ps. weave (map pairs_of (children_of root)) ps) (no_pairs (own_pairs root) h) ∙ ap (λ cs. weave (map pairs_of cs) []) e
+      ∙ append-nil (pairs_of c))
 
   -- what takes the place of a root without pairs holds the same
   pub heir_pairs : (heir : Option (Node K V)) (root : Node K V) → length (own_pairs root) ≡ 0
@@ -139,7 +143,8 @@ module _ {K V : Type 0} where
   pub heir_levels : (heir : Option (Node K V)) (h : ℕ) (root : Node K V)
       → MatchOption heir (IsLeaf root) (λ c. children_of root ≡ c ∷ []) → IsLevelled h root → IsSoundWithin h heir
   heir_levels None h root e l = tt
-  heir_levels (Some c) zero root e l = absurd (let z : length (children_of root) ≡ 0 = ap length (leaf_children root l.1) in let o : length (children_of root) ≡ 1 = ap length e in omega arith)
+  heir_levels (Some c) zero root e l = absurd (let z : length (children_of root) ≡ 0 =
+      ap length (leaf_children root l.1) in let o : length (children_of root) ≡ 1 = ap length e in omega arith)
   heir_levels (Some c) (suc h) root e l =
       let a = (subst (AllByRecursion (IsSound h)) e l.2).0 in
       let many = a.0 in
@@ -156,7 +161,8 @@ module _ {K V : Type 0} where
     pub bordered : IsBordered s below c
 
   no_leaf : (n c : Node K V) → children_of n ≡ c ∷ [] → IsLeaf n → ⊥
-  no_leaf n c e l = absurd (let z : length (children_of n) ≡ 0 = ap length (leaf_children n l) in let o : length (children_of n) ≡ 1 = ap length e in omega arith)
+  no_leaf n c e l = absurd (let z : length (children_of n) ≡ 0 = ap length (leaf_children n l) in let o : length (children_of n) ≡ 1 =
+      ap length e in omega arith)
 
   pub heir_bordered : (s : Border) (h : ℕ) (n c : Node K V) → children_of n ≡ c ∷ [] → IsBordered s h n → IsHeir s h c
   heir_bordered Left zero n c e b = absurd (no_leaf n c e b.1)

@@ -1,5 +1,6 @@
 -- A node whose child on the border is stocked up from its sibling, or merged with it.
-use Rattle.std.proofs.Common.{◌≡◌, ℕ, suc, ◌+◌, ◌-◌, ◌<◌, ◌≤◌, List, [], ◌∷◌, ◌++◌, length, get_or, take, drop, refl, sym, ap, subst, ◌∙◌, arith, length-append, append_assoc}
+use Rattle.std.proofs.Common.{◌≡◌, ℕ, suc, ◌+◌, ◌-◌, ◌<◌, ◌≤◌, List, [], ◌∷◌, ◌++◌, length, get_or, take, drop, refl, sym, ap, subst, ◌∙◌, arith, length-append}
+use Rattle.std.proofs.Common.{append_assoc}
 use Rattle.std.specs.List.{AllByRecursion}
 use Rattle.std.proofs.lemmas.List.Edits.{length-remove}
 use Rattle.fc_base.specs.Sizes.{capacity, min_len}
@@ -59,7 +60,8 @@ module _ {K V : Type 0} where
       let two = two_at (children_of n) j n (omega arith) in
       let tl = length_take j (children_of n) (omega arith) in
       let t = ap length two ∙ length-append (take j (children_of n)) (child_at n j ∷ R ∷ D) in
-      let parts = last_split (IsRightBordered h) (IsSound h) (take j (children_of n)) (child_at n j ∷ R ∷ D) (omega arith) (subst (LastAfter (IsRightBordered h) (IsSound h)) two b.2) in
+      let parts = last_split (IsRightBordered h) (IsSound h) (take j (children_of n)) (child_at n j ∷ R ∷ D) (omega arith)
+      (subst (LastAfter (IsRightBordered h) (IsSound h)) two b.2) in
       let ends = last_two h (child_at n j) R D (omega arith) parts.1 in
       let m = ends.0.0 in
       record {
@@ -74,14 +76,16 @@ module _ {K V : Type 0} where
         many = omega arith;
       }
     where
-      last_two : (h : ℕ) (l r : Node K V) (D : List (Node K V)) → length D ≡ 0 → LastAfter (IsRightBordered h) (IsSound h) (l ∷ r ∷ D) → IsSound h l × IsRightBordered h r × AllByRecursion (IsSound h) D
+      last_two : (h : ℕ) (l r : Node K V) (D : List (Node K V)) → length D ≡ 0 → LastAfter (IsRightBordered h) (IsSound h) (l ∷ r ∷ D)
+          → IsSound h l × IsRightBordered h r × AllByRecursion (IsSound h) D
       last_two h l r [] z a = (a.0, a.1, tt)
       last_two h l r (d ∷ D) z a = absurd (omega arith)
 
   pub pair_alike : (s : Border) (h : ℕ) (n : Node K V) (j : ℕ) → IsPairAt s h n j → AreAlike (child_at n j) (child_at n (j + 1))
   pair_alike s h n j p = sides_alike s h _ _ p.left p.right
 
-  merged_place : (s : Border) (old new : Node K V) (j : ℕ) → j ≡ pair_place s old → 1 ≤ length (own_pairs old) → length (own_pairs new) + 1 ≡ length (own_pairs old) → j ≡ border_place s new
+  merged_place : (s : Border) (old new : Node K V) (j : ℕ) → j ≡ pair_place s old → 1 ≤ length (own_pairs old)
+      → length (own_pairs new) + 1 ≡ length (own_pairs old) → j ≡ border_place s new
   merged_place Left old new j e some o = e
   merged_place Right old new j e some o = omega arith
 
@@ -99,7 +103,8 @@ module _ {K V : Type 0} where
       let place = merged_place s old new j p.place (omega arith) o in
       let front : length (take j (children_of old)) ≡ border_place s new = length_take j (children_of old) (omega arith) ∙ place in
       let c = ap (λ n. length (own_pairs n)) (child_here new m.whole _ _ _ there front) in (
-        border_closed s h new m.whole _ _ (omega arith) (merged_inner old j p.inner p.in_bounds new m) there front p.before (side_whole s h _ _ _ p.left p.right m.below m.alike (omega arith)) p.after,
+        border_closed s h new m.whole _ _ (omega arith) (merged_inner old j p.inner p.in_bounds new m) there front p.before
+            (side_whole s h _ _ _ p.left p.right m.below m.alike (omega arith)) p.after,
         omega arith,
         (omega arith, omega arith),
       )
@@ -113,14 +118,16 @@ module _ {K V : Type 0} where
     pub sizes : length (own_pairs l) + length (own_pairs r) ≡ both_of old j
     pub sides : LeftOf s h l × RightOf s h r
 
-  traded : (s : Border) (h : ℕ) (old new : Node K V) (j : ℕ) → IsPairAt s h old j → capacity ≤ both_of old j → both_of old j ≤ capacity + (min_len + 1) → (k : ℕ) → k ≡ left_share s (both_of old j) → (m : IsShared j k old new) → IsTraded s h old new m.left m.right j
+  traded : (s : Border) (h : ℕ) (old new : Node K V) (j : ℕ) → IsPairAt s h old j → capacity ≤ both_of old j → both_of old j ≤ capacity + (min_len + 1)
+      → (k : ℕ) → k ≡ left_share s (both_of old j) → (m : IsShared j k old new) → IsTraded s h old new m.left m.right j
   traded s h old new j p lo hi n w m =
       let lt = p.in_bounds in
       let fits = p.fits in
       let k : length (children_of old) ≡ length (own_pairs old) + 1 = p.inner in
       let o : length (own_pairs new) ≡ length (own_pairs old) = ap length m.pairs ∙ length_set (own_pairs old) j m.between in
       let a = length-append (own_pairs m.left) (m.between ∷ own_pairs m.right) in
-      let b = ap length (m.own m.between) ∙ length-append (own_pairs (child_at old j)) (get_or (own_pairs old) j m.between ∷ own_pairs (child_at old (j + 1))) in
+      let b = ap length (m.own m.between) ∙ length-append (own_pairs (child_at old j))
+      (get_or (own_pairs old) j m.between ∷ own_pairs (child_at old (j + 1))) in
       let size = m.size in
       let few = share_fits s (both_of old j) lo hi in
       record {
@@ -141,7 +148,8 @@ module _ {K V : Type 0} where
       let front : length (take j (children_of old)) ≡ 0 = length_take j (children_of old) (omega arith) ∙ p.place in
       let c = ap (λ n. length (own_pairs n)) (child_here new m.left _ _ 0 t.there front) in
       let size = t.sizes in (
-        border_closed Left h new m.left _ _ t.fits (shared_inner old j p.inner p.in_bounds _ new m) t.there front p.before t.sides.0 ((omega arith, t.sides.1), p.after),
+        border_closed Left h new m.left _ _ t.fits (shared_inner old j p.inner p.in_bounds _ new m) t.there front p.before t.sides.0
+            ((omega arith, t.sides.1), p.after),
         omega arith,
         t.same,
       )
@@ -158,7 +166,8 @@ module _ {K V : Type 0} where
       let front : length (A ++ m.left ∷ []) ≡ length (own_pairs new) = omega arith in
       let c = ap (λ n. length (own_pairs n)) (child_here new m.right _ _ _ there front) in
       let size = t.sizes in (
-        border_closed Right h new m.right _ _ t.fits (shared_inner old j p.inner p.in_bounds _ new m) there front (all_both (IsSound h) A (m.left ∷ []) p.before ((omega arith, t.sides.0), tt)) t.sides.1 p.after,
+        border_closed Right h new m.right _ _ t.fits (shared_inner old j p.inner p.in_bounds _ new m) there front
+            (all_both (IsSound h) A (m.left ∷ []) p.before ((omega arith, t.sides.0), tt)) t.sides.1 p.after,
         omega arith,
         t.same,
       )

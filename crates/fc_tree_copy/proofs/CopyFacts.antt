@@ -39,7 +39,8 @@ module _ {X : Type 0} (R : X → X → Type 0) where
   many_copied i xs ys h a = sym (length_all_zip R (take i xs) ys a) ∙ length-take-le i xs h
 
   -- One more item was copied, and its copy put after the others.
-  pub one_copied : (i : ℕ) (xs ys zs : List X) (x y : X) → i < length xs → x ≡ get_or xs i x → AllZip R (take i xs) ys → R x y → zs ≡ ys ++ y ∷ [] → AllZip R (take (i + 1) xs) zs
+  pub one_copied : (i : ℕ) (xs ys zs : List X) (x y : X) → i < length xs → x ≡ get_or xs i x → AllZip R (take i xs) ys → R x y → zs ≡ ys ++ y ∷ []
+      → AllZip R (take (i + 1) xs) zs
   one_copied i xs ys zs x y h e a r is = subst (AllZip R (take (i + 1) xs)) (sym is) (all_zip_more R xs ys i x y h e a r)
 
   -- All items were copied.
@@ -53,7 +54,8 @@ module _ {K V : Type 0} (same : K × V → K × V → Type 0) where
   lists (c ∷ cs) [] a = absurd a
   lists (c ∷ cs) (d ∷ ds) a = (a.0.pairs, lists cs ds a.1)
 
-  lower : (h : ℕ) (cs ds : List (Node K V)) → AllZip (IsCopy same) cs ds → AllByRecursion (λ c. (min_len ≤ length (own_pairs c)) × IsLevelled h c) cs → AllByRecursion (λ c. (min_len ≤ length (own_pairs c)) × IsLevelled h c) ds
+  lower : (h : ℕ) (cs ds : List (Node K V)) → AllZip (IsCopy same) cs ds → AllByRecursion (λ c. (min_len ≤ length (own_pairs c)) × IsLevelled h c) cs
+      → AllByRecursion (λ c. (min_len ≤ length (own_pairs c)) × IsLevelled h c) ds
   lower h [] [] a l = tt
   lower h [] (d ∷ ds) a l = absurd a
   lower h (c ∷ cs) [] a l = absurd a
@@ -71,10 +73,12 @@ module _ {K V : Type 0} (same : K × V → K × V → Type 0) where
     children_copied h = many_copied (IsCopy same) i (children_of n) (children_of m) h copied.below
 
     -- One more child was copied, and its copy put after the others.
-    pub child_copied : (w c d : Node K V) → i < length (children_of n) → c ≡ child_at n i → IsCopy same c d → own_pairs w ≡ own_pairs m → children_of w ≡ children_of m ++ d ∷ [] → ¬ (IsLeaf w) → IsCopyUpTo same (i + 1) n w
+    pub child_copied : (w c d : Node K V) → i < length (children_of n) → c ≡ child_at n i → IsCopy same c d → own_pairs w ≡ own_pairs m
+        → children_of w ≡ children_of m ++ d ∷ [] → ¬ (IsLeaf w) → IsCopyUpTo same (i + 1) n w
     child_copied w c d h e copy own below inner = record {
       own = subst (AllZip same (own_pairs n)) (sym own) copied.own;
-      below = subst (AllZip (IsCopy same) (take (i + 1) (children_of n))) (sym below) (all_zip_more (IsCopy same) (children_of n) (children_of m) i c d h (e ∙ get_or_default (children_of n) i n c h) copied.below copy);
+      below = subst (AllZip (IsCopy same) (take (i + 1) (children_of n))) (sym below)
+          (all_zip_more (IsCopy same) (children_of n) (children_of m) i c d h (e ∙ get_or_default (children_of n) i n c h) copied.below copy);
       leaf = λ l. let e = ap length (leaf_children n l) in absurd (omega arith);
       inner = λ no. inner;
     }
@@ -82,7 +86,10 @@ module _ {K V : Type 0} (same : K × V → K × V → Type 0) where
     -- All children were copied: that is a copy of the tree.
     pub tree_copied : i ≡ length (children_of n) → IsCopy same n m
     tree_copied e = record {
-      pairs = subst (λ s. AllZip same s (pairs_of m)) (sym (pairs_is n)) (subst (AllZip same (weave (map pairs_of (children_of n)) (own_pairs n))) (sym (pairs_is m)) (zip_weave same (map pairs_of (children_of n)) (map pairs_of (children_of m)) (own_pairs n) (own_pairs m) (lists (children_of n) (children_of m) below) copied.own));
+      pairs = subst (λ s. AllZip same s (pairs_of m)) (sym (pairs_is n))
+          (subst (AllZip same (weave (map pairs_of (children_of n)) (own_pairs n))) (sym (pairs_is m))
+          (zip_weave same (map pairs_of (children_of n)) (map pairs_of (children_of m)) (own_pairs n) (own_pairs m)
+          (lists (children_of n) (children_of m) below) copied.own));
       own = copied.own;
       levels = levels;
     }
@@ -98,7 +105,11 @@ module _ {K V : Type 0} (same : K × V → K × V → Type 0) where
 
         levels : (h : ℕ) → IsLevelled h n → IsLevelled h m
         levels zero l = let f = l.0 in (omega (arith, many, f), copied.leaf l.1)
-        levels (suc h) l = let f = l.0 in let k = l.1 in (omega (arith, many, f), omega (arith, many, wide, k), lower h (children_of n) (children_of m) below l.2)
+        levels (suc h) l = let f = l.0 in let k = l.1 in (
+          omega (arith, many, f),
+          omega (arith, many, wide, k),
+          lower h (children_of n) (children_of m) below l.2,
+        )
 
 -- What holds of all pairs in and below a node holds of its own pairs, and of those in and below each child.
 module _ {X : Type 0} (P : X → Type 0) where
@@ -122,9 +133,11 @@ module _ {X : Type 0} (P : X → Type 0) where
 
 module _ {K V : Type 0} (P : K × V → Type 0) where
   all_own : (n : Node K V) → All P (pairs_of n) → All P (own_pairs n)
-  all_own n a = All-from_recursion P (own_pairs n) (own_woven P (map pairs_of (children_of n)) (own_pairs n) (subst (AllByRecursion P) (pairs_is n) (recursion_from_All P (pairs_of n) a)))
+  all_own n a = All-from_recursion P (own_pairs n) (own_woven P (map pairs_of (children_of n)) (own_pairs n)
+      (subst (AllByRecursion P) (pairs_is n) (recursion_from_All P (pairs_of n) a)))
 
-  list_at : (cs : List (Node K V)) (i : ℕ) (d : Node K V) → i < length cs → AllByRecursion (AllByRecursion P) (map pairs_of cs) → AllByRecursion P (pairs_of (get_or cs i d))
+  list_at : (cs : List (Node K V)) (i : ℕ) (d : Node K V) → i < length cs → AllByRecursion (AllByRecursion P) (map pairs_of cs)
+      → AllByRecursion P (pairs_of (get_or cs i d))
   list_at [] i d h a = absurd (omega arith)
   list_at (c ∷ cs) zero d h a = a.0
   list_at (c ∷ cs) (suc i) d h a = list_at cs i d (omega arith) a.1
@@ -133,12 +146,18 @@ module _ {K V : Type 0} (P : K × V → Type 0) where
   wide_list cs m e = length-map cs _ ∙ e
 
   -- A child of a levelled node is levelled too.
-  all_below : (h : ℕ) (n c : Node K V) (i : ℕ) → IsLevelled h n → i < length (children_of n) → c ≡ child_at n i → All P (pairs_of n) → (g : ℕ) × IsLevelled g c × All P (pairs_of c)
+  all_below : (h : ℕ) (n c : Node K V) (i : ℕ) → IsLevelled h n → i < length (children_of n) → c ≡ child_at n i → All P (pairs_of n)
+      → (g : ℕ) × IsLevelled g c × All P (pairs_of c)
   all_below zero n c i l h e a = let w = ap length (leaf_children n l.1) in absurd (omega arith)
   all_below (suc g) n c i l h e a =
-      let lists = lists_woven P (map pairs_of (children_of n)) (own_pairs n) (wide_list (children_of n) (length (own_pairs n) + 1) l.1) (subst (AllByRecursion P) (pairs_is n) (recursion_from_All P (pairs_of n) a)) in
-      let levels = all_at (IsBelow g) (children_of n) i n h l.2 in
-      (g, subst (IsLevelled g) (sym e) levels.1, subst (λ x. All P (pairs_of x)) (sym e) (All-from_recursion P (pairs_of (child_at n i)) (list_at (children_of n) i n h lists)))
+      let lists = lists_woven P (map pairs_of (children_of n)) (own_pairs n) (wide_list (children_of n) (length (own_pairs n) + 1) l.1)
+      (subst (AllByRecursion P) (pairs_is n) (recursion_from_All P (pairs_of n) a)) in
+      let levels = all_at (IsBelow g) (children_of n) i n h l.2 in (
+        g,
+        subst (IsLevelled g) (sym e) levels.1,
+        subst (λ x. All P (pairs_of x)) (sym e)
+            (All-from_recursion P (pairs_of (child_at n i)) (list_at (children_of n) i n h lists)),
+      )
 
 -- Of what implies a fact for each item, some item has it: so the fact holds.
 some_item : {X : Type 0} {R : Type 0} (P : X → Type 0) (xs : List X) → All (λ x. P x → R) xs → Any P xs → R
@@ -156,9 +175,11 @@ module _ {K V : Type 0} (may : K × V → TryReserveError → Type 0) (e : TryRe
   -- What may refuse a copy of a node's own pairs may refuse one of all in and below it, and so may what refuses that of a child.
   pub refused_own : (n : Node K V) → MayRefuseNodes may (own_pairs n) e → MayRefuseNodes may (pairs_of n) e
   refused_own n (inl no_memory) = inl no_memory
-  refused_own n (inr own) = inr (some_item (λ p. may p e) (own_pairs n) (all_own (λ p. may p e → Any (λ q. may q e) (pairs_of n)) n (each_item (λ p. may p e) (pairs_of n))) own)
+  refused_own n (inr own) = inr (some_item (λ p. may p e) (own_pairs n)
+      (all_own (λ p. may p e → Any (λ q. may q e) (pairs_of n)) n (each_item (λ p. may p e) (pairs_of n))) own)
 
-  pub refused_below : (h : ℕ) (n c : Node K V) (i : ℕ) → IsLevelled h n → i < length (children_of n) → c ≡ child_at n i → ((g : ℕ) → IsLevelled g c → MayRefuseNodes may (pairs_of c) e) → MayRefuseNodes may (pairs_of n) e
+  pub refused_below : (h : ℕ) (n c : Node K V) (i : ℕ) → IsLevelled h n → i < length (children_of n) → c ≡ child_at n i
+      → ((g : ℕ) → IsLevelled g c → MayRefuseNodes may (pairs_of c) e) → MayRefuseNodes may (pairs_of n) e
   refused_below h n c i l less is refused =
       let below = all_below (λ p. may p e → Any (λ q. may q e) (pairs_of n)) h n c i l less is (each_item (λ p. may p e) (pairs_of n)) in
       widened below.2 (refused below.0 below.1)

@@ -34,13 +34,15 @@ module _ (p q : List ℕ) (right : Bool) (whole j : ℕ) (lt : j < length p) (fo
       let w : whole - j ≡ suc (whole - suc j) = omega arith in
       let all : drop j p ≡ i ∷ drop (suc j) p = drop_item p j 0 lt in
       record {
-        steps = set_is _ ∙ ap (λ k. take j p ++ step_from k right ∷ arrival (whole - suc j) (drop (suc j) p)) index_is ∙ ap (λ b. take j p ++ step_from i b ∷ arrival (whole - suc j) (drop (suc j) p)) found.side
+        steps = set_is _ ∙ ap (λ k. take j p ++ step_from k right ∷ arrival (whole - suc j) (drop (suc j) p)) index_is
+            ∙ ap (λ b. take j p ++ step_from i b ∷ arrival (whole - suc j) (drop (suc j) p)) found.side
             ∙ ap (λ k. take j p ++ arrival k (i ∷ drop (suc j) p)) (sym w) ∙ ap (λ r. take j p ++ arrival (whole - j) r) (sym all);
         side = ap (λ k. is_right k (i ∷ drop (suc j) p)) (sym w) ∙ ap (is_right (whole - j)) (sym all);
       }
 
   -- a node that is split
-  pub found_split : whole ≤ j → IsFoundFrom p (slice_set q j (half_step (get_or q j 0) (step_from (get_or q j 0) right))) (goes_right (get_or q j 0) (step_from (get_or q j 0) right)) whole j
+  pub found_split : whole ≤ j → IsFoundFrom p (slice_set q j (half_step (get_or q j 0) (step_from (get_or q j 0) right)))
+      (goes_right (get_or q j 0) (step_from (get_or q j 0) right)) whole j
   found_split h =
       let i = get_or p j 0 in
       let w : whole - j ≡ 0 = omega arith in
@@ -48,10 +50,12 @@ module _ (p q : List ℕ) (right : Bool) (whole j : ℕ) (lt : j < length p) (fo
       let all : drop j p ≡ i ∷ drop (suc j) p = drop_item p j 0 lt in
       let b : right ≡ is_right 0 (drop (suc j) p) = found.side ∙ ap (λ k. is_right k (drop (suc j) p)) v in
       record {
-        steps = set_is _ ∙ ap (λ k. take j p ++ half_step k (step_from k right) ∷ arrival (whole - suc j) (drop (suc j) p)) index_is ∙ ap (λ c. take j p ++ half_step i (step_from i c) ∷ arrival (whole - suc j) (drop (suc j) p)) b
+        steps = set_is _ ∙ ap (λ k. take j p ++ half_step k (step_from k right) ∷ arrival (whole - suc j) (drop (suc j) p)) index_is
+            ∙ ap (λ c. take j p ++ half_step i (step_from i c) ∷ arrival (whole - suc j) (drop (suc j) p)) b
             ∙ ap (λ k. take j p ++ half_step i (step_from i (is_right 0 (drop (suc j) p))) ∷ arrival k (drop (suc j) p)) v
             ∙ ap (λ k. take j p ++ arrival k (i ∷ drop (suc j) p)) (sym w) ∙ ap (λ r. take j p ++ arrival (whole - j) r) (sym all);
-        side = ap (λ k. goes_right k (step_from k right)) index_is ∙ ap (λ c. goes_right i (step_from i c)) b ∙ ap (λ k. is_right k (i ∷ drop (suc j) p)) (sym w) ∙ ap (is_right (whole - j)) (sym all);
+        side = ap (λ k. goes_right k (step_from k right)) index_is ∙ ap (λ c. goes_right i (step_from i c)) b
+            ∙ ap (λ k. is_right k (i ∷ drop (suc j) p)) (sym w) ∙ ap (is_right (whole - j)) (sym all);
       }
 
 pub found_none : (p : List ℕ) (whole n : ℕ) → n ≡ length p → IsFoundFrom p p false whole n

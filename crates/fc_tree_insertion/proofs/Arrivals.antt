@@ -1,5 +1,6 @@
 -- Where a new pair stands once it is put in.
-use Rattle.std.proofs.Common.{◌^◌, length-append, ◌≡◌, ℕ, suc, zero, ◌+◌, ◌-◌, ◌<◌, ◌≤◌, Bool, true, false, nat_lt, List, [], ◌∷◌, ◌++◌, length, get_or, map, take, drop, refl, sym, ap, ◌∙◌, subst, arith, append_assoc, append-nil, Some, None, IfSome, MatchOption}
+use Rattle.std.proofs.Common.{◌^◌, length-append, ◌≡◌, ℕ, suc, zero, ◌+◌, ◌-◌, ◌<◌, ◌≤◌, Bool, true, false, nat_lt, List, [], ◌∷◌, ◌++◌, length, get_or, map}
+use Rattle.std.proofs.Common.{take, drop, refl, sym, ap, ◌∙◌, subst, arith, append_assoc, append-nil, Some, None, IfSome, MatchOption}
 use Rattle.std.specs.Prelude.{slice_range, if◌then◌else◌}
 use Rattle.std.specs.List.{AllByRecursion, insert}
 use Rattle.std.proofs.lemmas.List.Edits.{length-insert}
@@ -33,14 +34,17 @@ module _ {X : Type 0} where
   before_join [] ds [] qs e = refl
   before_join [] ds (p ∷ ps) qs e = absurd (omega arith)
   before_join (c ∷ cs) ds [] qs e = absurd (omega arith)
-  before_join (c ∷ cs) ds (p ∷ ps) qs e = ap (λ zs. c ++ p ∷ zs) (before_join cs ds ps qs (omega arith)) ∙ sym (append_assoc c (p ∷ before_list cs ps) (before_list ds qs))
+  before_join (c ∷ cs) ds (p ∷ ps) qs e = ap (λ zs. c ++ p ∷ zs) (before_join cs ds ps qs (omega arith))
+      ∙ sym (append_assoc c (p ∷ before_list cs ps) (before_list ds qs))
 
-  before_over : (cs ds : List (List X)) (ps : List X) (m : X) (qs : List X) → length cs ≡ length ps + 1 → before_list (cs ++ ds) (ps ++ m ∷ qs) ≡ weave cs ps ++ m ∷ before_list ds qs
+  before_over : (cs ds : List (List X)) (ps : List X) (m : X) (qs : List X) → length cs ≡ length ps + 1
+      → before_list (cs ++ ds) (ps ++ m ∷ qs) ≡ weave cs ps ++ m ∷ before_list ds qs
   before_over [] ds ps m qs e = absurd (omega arith)
   before_over (c ∷ []) ds [] m qs e = ap (λ zs. zs ++ m ∷ before_list ds qs) (sym (append-nil c))
   before_over (c ∷ []) ds (p ∷ ps) m qs e = absurd (omega arith)
   before_over (c ∷ d ∷ cs) ds [] m qs e = absurd (omega arith)
-  before_over (c ∷ d ∷ cs) ds (p ∷ ps) m qs e = ap (λ zs. c ++ p ∷ zs) (before_over (d ∷ cs) ds ps m qs (omega arith)) ∙ sym (append_assoc c (p ∷ weave (d ∷ cs) ps) (m ∷ before_list ds qs))
+  before_over (c ∷ d ∷ cs) ds (p ∷ ps) m qs e = ap (λ zs. c ++ p ∷ zs) (before_over (d ∷ cs) ds ps m qs (omega arith))
+      ∙ sym (append_assoc c (p ∷ weave (d ∷ cs) ps) (m ∷ before_list ds qs))
 
   -- a list, cut at an item: what is in front of it tells which it is and what is after it
   same_cut : (xs ys zs ws : List X) (x y : X) → xs ++ x ∷ ys ≡ zs ++ y ∷ ws → xs ≡ zs → (x ≡ y) × (ys ≡ ws)
@@ -71,38 +75,48 @@ pub record HasStep {K V : Type 0} (path : List ℕ) (cs : List (Node K V)) (ps :
 
 module _ {K V : Type 0} where
   -- at the child itself
-  step_here : (q : List ℕ) (A D : List (Node K V)) (P Q : List (K × V)) (c : Node K V) (i : ℕ) (f : List (K × V)) → length A ≡ i → length P ≡ i → IsPlace q c → before_pair q c ≡ f → HasStep q (A ++ c ∷ D) (P ++ Q) i (before_list (map pairs_of A) P ++ f)
+  step_here : (q : List ℕ) (A D : List (Node K V)) (P Q : List (K × V)) (c : Node K V) (i : ℕ) (f : List (K × V)) → length A ≡ i → length P ≡ i → IsPlace q c
+      → before_pair q c ≡ f → HasStep q (A ++ c ∷ D) (P ++ Q) i (before_list (map pairs_of A) P ++ f)
   step_here q A D P Q c i f a p w e = record {
     child = c;
     is = λ d. ap (λ j. get_or (A ++ c ∷ D) j d) (sym a) ∙ get_or-append_seam A c D d;
     there = (let l = length-append A (c ∷ D) in omega arith);
     place = w;
-    before_is = ap (λ j. before_list (map pairs_of (take j (A ++ c ∷ D))) (take i (P ++ Q)) ++ before_pair q c) (sym a) ∙ ap (λ j. before_list (map pairs_of (take (length A) (A ++ c ∷ D))) (take j (P ++ Q)) ++ before_pair q c) (sym p)
-        ∙ ap (λ xs. before_list (map pairs_of xs) (take (length P) (P ++ Q)) ++ before_pair q c) (take-append_seam A (c ∷ D)) ∙ ap (λ ys. before_list (map pairs_of A) ys ++ before_pair q c) (take-append_seam P Q) ∙ ap (λ zs. before_list (map pairs_of A) P ++ zs) e;
+    before_is = ap (λ j. before_list (map pairs_of (take j (A ++ c ∷ D))) (take i (P ++ Q)) ++ before_pair q c) (sym a)
+        ∙ ap (λ j. before_list (map pairs_of (take (length A) (A ++ c ∷ D))) (take j (P ++ Q)) ++ before_pair q c) (sym p)
+        ∙ ap (λ xs. before_list (map pairs_of xs) (take (length P) (P ++ Q)) ++ before_pair q c) (take-append_seam A (c ∷ D))
+        ∙ ap (λ ys. before_list (map pairs_of A) ys ++ before_pair q c) (take-append_seam P Q) ∙ ap (λ zs. before_list (map pairs_of A) P ++ zs) e;
   }
 
   -- at the node on the child's right
-  step_next : (q : List ℕ) (A D : List (Node K V)) (P Q : List (K × V)) (c r : Node K V) (up : K × V) (i : ℕ) (f : List (K × V)) → length A ≡ i → length P ≡ i → IsPlace q r → pairs_of c ++ up ∷ before_pair q r ≡ f → HasStep q (A ++ c ∷ r ∷ D) (P ++ up ∷ Q) (i + 1) (before_list (map pairs_of A) P ++ f)
+  step_next : (q : List ℕ) (A D : List (Node K V)) (P Q : List (K × V)) (c r : Node K V) (up : K × V) (i : ℕ) (f : List (K × V)) → length A ≡ i → length P ≡ i
+      → IsPlace q r → pairs_of c ++ up ∷ before_pair q r ≡ f → HasStep q (A ++ c ∷ r ∷ D) (P ++ up ∷ Q) (i + 1) (before_list (map pairs_of A) P ++ f)
   step_next q A D P Q c r up i f a p w e =
-      let s = step_here q (A ++ c ∷ []) D (P ++ up ∷ []) Q r (i + 1) (before_pair q r) (length-append A (c ∷ []) ∙ ap (λ j. j + 1) a) (length-append P (up ∷ []) ∙ ap (λ j. j + 1) p) w refl in
+      let s = step_here q (A ++ c ∷ []) D (P ++ up ∷ []) Q r (i + 1) (before_pair q r) (length-append A (c ∷ []) ∙ ap (λ j. j + 1) a)
+      (length-append P (up ∷ []) ∙ ap (λ j. j + 1) p) w refl in
       let same : length (map pairs_of A) ≡ length P = length-map A pairs_of ∙ a ∙ sym p in
-      let front : before_list (map pairs_of (A ++ c ∷ [])) (P ++ up ∷ []) ≡ before_list (map pairs_of A) P ++ (pairs_of c ++ up ∷ []) = ap (λ xs. before_list xs (P ++ up ∷ [])) (map-append pairs_of A (c ∷ [])) ∙ before_join (map pairs_of A) (pairs_of c ∷ []) P (up ∷ []) same in
+      let front : before_list (map pairs_of (A ++ c ∷ [])) (P ++ up ∷ []) ≡ before_list (map pairs_of A) P ++ (pairs_of c ++ up ∷ []) =
+      ap (λ xs. before_list xs (P ++ up ∷ [])) (map-append pairs_of A (c ∷ [])) ∙ before_join (map pairs_of A) (pairs_of c ∷ []) P (up ∷ []) same in
       let all : before_list (map pairs_of (A ++ c ∷ [])) (P ++ up ∷ []) ++ before_pair q r ≡ before_list (map pairs_of A) P ++ f =
-      ap (λ zs. zs ++ before_pair q r) front ∙ append_assoc (before_list (map pairs_of A) P) (pairs_of c ++ up ∷ []) (before_pair q r) ∙ ap (λ zs. before_list (map pairs_of A) P ++ zs) (append_assoc (pairs_of c) (up ∷ []) (before_pair q r) ∙ e) in
+      ap (λ zs. zs ++ before_pair q r) front ∙ append_assoc (before_list (map pairs_of A) P) (pairs_of c ++ up ∷ []) (before_pair q r)
+      ∙ ap (λ zs. before_list (map pairs_of A) P ++ zs) (append_assoc (pairs_of c) (up ∷ []) (before_pair q r) ∙ e) in
       subst (λ cs. HasStep q cs (P ++ up ∷ Q) (i + 1) (before_list (map pairs_of A) P ++ f)) (append_assoc A (c ∷ []) (r ∷ D))
       (subst (λ ps. HasStep q ((A ++ c ∷ []) ++ r ∷ D) ps (i + 1) (before_list (map pairs_of A) P ++ f)) (append_assoc P (up ∷ []) Q)
       (subst (HasStep q ((A ++ c ∷ []) ++ r ∷ D) ((P ++ up ∷ []) ++ Q) (i + 1)) all s))
 
   -- a node's own step
-  stepped : (q : List ℕ) (n c : Node K V) (t : ℕ) (f : List (K × V)) → t < length (children_of n) → child_at n t ≡ c → IsPlace q c → before_child n t ++ before_pair q c ≡ f → IsPlace (t ∷ q) n × (before_pair (t ∷ q) n ≡ f)
+  stepped : (q : List ℕ) (n c : Node K V) (t : ℕ) (f : List (K × V)) → t < length (children_of n) → child_at n t ≡ c → IsPlace q c
+      → before_child n t ++ before_pair q c ≡ f → IsPlace (t ∷ q) n × (before_pair (t ∷ q) n ≡ f)
   stepped [] n c t f h e w k = absurd w
   stepped (j ∷ q) n c t f h e w k = ((h, subst (IsPlace (j ∷ q)) (sym e) w), ap (λ x. before_child n t ++ before_pair (j ∷ q) x) e ∙ k)
 
-  step_in : (q : List ℕ) (n : Node K V) (t : ℕ) (f : List (K × V)) → HasStep q (children_of n) (own_pairs n) t f → IsPlace (t ∷ q) n × (before_pair (t ∷ q) n ≡ f)
+  step_in : (q : List ℕ) (n : Node K V) (t : ℕ) (f : List (K × V)) → HasStep q (children_of n) (own_pairs n) t f
+      → IsPlace (t ∷ q) n × (before_pair (t ∷ q) n ≡ f)
   step_in q n t f s = stepped q n s.child t f s.there (s.is n) s.place s.before_is
 
   -- the step in one of the two halves
-  step_half : (q : List ℕ) (n : Node K V) (up : K × V) (b : Node K V) (k t : ℕ) (f : List (K × V)) → IsInner n → length (own_pairs n) ≡ k → HasStep q (children_of n ++ children_of b) (own_pairs n ++ up ∷ own_pairs b) t f
+  step_half : (q : List ℕ) (n : Node K V) (up : K × V) (b : Node K V) (k t : ℕ) (f : List (K × V)) → IsInner n → length (own_pairs n) ≡ k
+      → HasStep q (children_of n ++ children_of b) (own_pairs n ++ up ∷ own_pairs b) t f
       → (test : Bool) → nat_lt k t ≡ test → IsSettled test ((if test then t - (k + 1) else t) ∷ q) n (Some (up, b)) f
   step_half q n up b k t f inner e s false is =
       let le : t ≤ k = ltb-false k t is in
@@ -110,8 +124,10 @@ module _ {K V : Type 0} where
       let lt : t < length (children_of n) = omega arith in
       let before_child_is : before_child n t ≡ lead (children_of n ++ children_of b) (own_pairs n ++ up ∷ own_pairs b) t =
       ap (λ xs. before_list (map pairs_of xs) (take t (own_pairs n))) (sym (take-append-le t (children_of n) (children_of b) (omega arith)))
-      ∙ ap (λ ys. before_list (map pairs_of (take t (children_of n ++ children_of b))) ys) (sym (take-append-le t (own_pairs n) (up ∷ own_pairs b) (omega arith))) in
-      stepped q n s.child t f lt (sym (get_or_append_left (children_of n) (children_of b) n t lt) ∙ s.is n) s.place (ap (λ zs. zs ++ before_pair q s.child) before_child_is ∙ s.before_is)
+      ∙ ap (λ ys. before_list (map pairs_of (take t (children_of n ++ children_of b))) ys)
+      (sym (take-append-le t (own_pairs n) (up ∷ own_pairs b) (omega arith))) in
+      stepped q n s.child t f lt (sym (get_or_append_left (children_of n) (children_of b) n t lt) ∙ s.is n) s.place
+      (ap (λ zs. zs ++ before_pair q s.child) before_child_is ∙ s.before_is)
   step_half q n up r k t f inner e s true is =
       let gt : k < t = ltb-true k t is in
       let j : ℕ = t - (k + 1) in
@@ -122,19 +138,26 @@ module _ {K V : Type 0} where
       let at_children : t ≡ length (children_of n) + (t - (k + 1)) = omega arith in
       let at_pairs : t ≡ length (own_pairs n) + suc (t - (k + 1)) = omega arith in
       let same : length (map pairs_of (children_of n)) ≡ length (own_pairs n) + 1 = length-map (children_of n) pairs_of ∙ m in
-      let c = stepped q r s.child (t - (k + 1)) _ lt (sym (get_or-append_right (children_of n) (children_of r) (k + 1) t r (omega arith) (omega arith)) ∙ s.is r) s.place refl in
+      let c = stepped q r s.child (t - (k + 1)) _ lt (sym (get_or-append_right (children_of n) (children_of r) (k + 1) t r (omega arith) (omega arith))
+      ∙ s.is r) s.place refl in
       let before_child_is : lead (children_of n ++ children_of r) (own_pairs n ++ up ∷ own_pairs r) t ≡ pairs_of n ++ up ∷ before_child r (t - (k + 1)) =
       ap (λ x. before_list (map pairs_of (take x (children_of n ++ children_of r))) (take t (own_pairs n ++ up ∷ own_pairs r))) at_children
       ∙ ap (λ xs. before_list (map pairs_of xs) (take t (own_pairs n ++ up ∷ own_pairs r))) (take-append-add (children_of n) (children_of r) (t - (k + 1)))
       ∙ ap (λ x. before_list (map pairs_of (children_of n ++ take (t - (k + 1)) (children_of r))) (take x (own_pairs n ++ up ∷ own_pairs r))) at_pairs
-      ∙ ap (λ ys. before_list (map pairs_of (children_of n ++ take (t - (k + 1)) (children_of r))) ys) (take-append-add (own_pairs n) (up ∷ own_pairs r) (suc (t - (k + 1))))
-      ∙ ap (λ xs. before_list xs (own_pairs n ++ up ∷ take (t - (k + 1)) (own_pairs r))) (map-append pairs_of (children_of n) (take (t - (k + 1)) (children_of r)))
+      ∙ ap (λ ys. before_list (map pairs_of (children_of n ++ take (t - (k + 1)) (children_of r))) ys)
+      (take-append-add (own_pairs n) (up ∷ own_pairs r) (suc (t - (k + 1))))
+      ∙ ap (λ xs. before_list xs (own_pairs n ++ up ∷ take (t - (k + 1)) (own_pairs r)))
+      (map-append pairs_of (children_of n) (take (t - (k + 1)) (children_of r)))
       ∙ before_over (map pairs_of (children_of n)) (map pairs_of (take (t - (k + 1)) (children_of r))) (own_pairs n) up (take (t - (k + 1)) (own_pairs r)) same
-      ∙ ap (λ zs. zs ++ up ∷ before_child r (t - (k + 1))) (sym (pairs_is n)) in
-      (c.0, ap (λ zs. pairs_of n ++ up ∷ zs) c.1 ∙ sym (append_assoc (pairs_of n) (up ∷ before_child r (t - (k + 1))) (before_pair q s.child)) ∙ ap (λ zs. zs ++ before_pair q s.child) (sym before_child_is) ∙ s.before_is)
+      ∙ ap (λ zs. zs ++ up ∷ before_child r (t - (k + 1))) (sym (pairs_is n)) in (
+        c.0,
+        ap (λ zs. pairs_of n ++ up ∷ zs) c.1 ∙ sym (append_assoc (pairs_of n) (up ∷ before_child r (t - (k + 1))) (before_pair q s.child))
+            ∙ ap (λ zs. zs ++ before_pair q s.child) (sym before_child_is) ∙ s.before_is,
+      )
 
   -- the new pair's place, by another word for its path and its number of nodes that stay whole
-  by_steps : (p r : List ℕ) (old new : Node K V) (s : Split K V) (w : ℕ) → p ≡ r → kept_whole p old ≡ w → IsSettled (is_right w r) (arrival w r) new s (before_gap r old) → HasArrived p old new s
+  by_steps : (p r : List ℕ) (old new : Node K V) (s : Split K V) (w : ℕ) → p ≡ r → kept_whole p old ≡ w
+      → IsSettled (is_right w r) (arrival w r) new s (before_gap r old) → HasArrived p old new s
   by_steps p r old new s w e k h = rw k (subst (λ q. IsSettled (is_right w q) (arrival w q) new s (before_gap q old)) (sym e) h)
 
   module _ (old : Node K V) (i : ℕ) (le : i ≤ length (own_pairs old)) (inner : IsInner old) where
@@ -144,26 +167,37 @@ module _ {K V : Type 0} where
         (length_take i (children_of old) (omega arith), length_take i (own_pairs old) le, omega arith)
 
     -- where the child was not split
-    settled_below : (mid c : Node K V) (b : Bool) (q : List ℕ) (f : List (K × V)) → IsChildSet old mid i c → IsSettled b q c None f → IsSettled false (step_from i b ∷ q) mid None (before_child old i ++ f)
+    settled_below : (mid c : Node K V) (b : Bool) (q : List ℕ) (f : List (K × V)) → IsChildSet old mid i c → IsSettled b q c None f
+        → IsSettled false (step_from i b ∷ q) mid None (before_child old i ++ f)
     settled_below mid c true q f m h = absurd h
     settled_below mid c false q f m h =
         let t = taken in
-        let here = step_here q (take i (children_of old)) (drop (suc i) (children_of old)) (take i (own_pairs old)) (drop i (own_pairs old)) c i f t.0 t.1 h.0 h.1 in
-        step_in q mid i (before_child old i ++ f) (subst (λ cs. HasStep q cs (own_pairs mid) i (before_child old i ++ f)) (sym (m.child ∙ set_is (children_of old) i c t.2))
-        (subst (λ ps. HasStep q (take i (children_of old) ++ c ∷ drop (suc i) (children_of old)) ps i (before_child old i ++ f)) (take_drop i (own_pairs old) ∙ sym m.same) here))
+        let here = step_here q (take i (children_of old)) (drop (suc i) (children_of old)) (take i (own_pairs old)) (drop i (own_pairs old)) c i f t.0 t.1 h.0
+        h.1 in
+        step_in q mid i (before_child old i ++ f) (subst (λ cs. HasStep q cs (own_pairs mid) i (before_child old i ++ f))
+        (sym (m.child ∙ set_is (children_of old) i c t.2))
+        (subst (λ ps. HasStep q (take i (children_of old) ++ c ∷ drop (suc i) (children_of old)) ps i (before_child old i ++ f))
+        (take_drop i (own_pairs old) ∙ sym m.same) here))
 
     -- where the child was split
-    stepped_above : (mid c : Node K V) (b : Bool) (q : List ℕ) (f : List (K × V)) (up : K × V) (r : Node K V) (cs : List (Node K V)) (ps : List (K × V)) → IsChildSet old mid i c → ps ≡ insert (own_pairs mid) i up → cs ≡ insert (children_of mid) (i + 1) r
+    stepped_above : (mid c : Node K V) (b : Bool) (q : List ℕ) (f : List (K × V)) (up : K × V) (r : Node K V) (cs : List (Node K V)) (ps : List (K × V))
+        → IsChildSet old mid i c → ps ≡ insert (own_pairs mid) i up → cs ≡ insert (children_of mid) (i + 1) r
         → IsSettled b q c (Some (up, r)) f → HasStep q cs ps (step_from i b) (before_child old i ++ f)
     stepped_above mid c b q f up r cs ps m e k h =
         let t = taken in
         let ps_is : ps ≡ take i (own_pairs old) ++ up ∷ drop i (own_pairs old) = e ∙ ap (λ xs. insert xs i up) m.same in
-        let cs_is : cs ≡ take i (children_of old) ++ c ∷ r ∷ drop (suc i) (children_of old) = k ∙ ap (λ xs. insert xs (i + 1) r) m.child ∙ set_put (children_of old) i c r t.2 in
-        subst (λ xs. HasStep q xs ps (step_from i b) (before_child old i ++ f)) (sym cs_is) (subst (λ xs. HasStep q (take i (children_of old) ++ c ∷ r ∷ drop (suc i) (children_of old)) xs (step_from i b) (before_child old i ++ f)) (sym ps_is) (both b h))
+        let cs_is : cs ≡ take i (children_of old) ++ c ∷ r ∷ drop (suc i) (children_of old) = k ∙ ap (λ xs. insert xs (i + 1) r) m.child
+        ∙ set_put (children_of old) i c r t.2 in
+        subst (λ xs. HasStep q xs ps (step_from i b) (before_child old i ++ f)) (sym cs_is)
+        (subst (λ xs. HasStep q (take i (children_of old) ++ c ∷ r ∷ drop (suc i) (children_of old)) xs (step_from i b) (before_child old i ++ f))
+        (sym ps_is) (both b h))
       where
-        both : (b : Bool) → IsSettled b q c (Some (up, r)) f → HasStep q (take i (children_of old) ++ c ∷ r ∷ drop (suc i) (children_of old)) (take i (own_pairs old) ++ up ∷ drop i (own_pairs old)) (step_from i b) (before_child old i ++ f)
-        both false h = let t = taken in step_here q (take i (children_of old)) (r ∷ drop (suc i) (children_of old)) (take i (own_pairs old)) (up ∷ drop i (own_pairs old)) c i f t.0 t.1 h.0 h.1
-        both true h = let t = taken in step_next q (take i (children_of old)) (drop (suc i) (children_of old)) (take i (own_pairs old)) (drop i (own_pairs old)) c r up i f t.0 t.1 h.0 h.1
+        both : (b : Bool) → IsSettled b q c (Some (up, r)) f → HasStep q (take i (children_of old) ++ c ∷ r ∷ drop (suc i) (children_of old))
+            (take i (own_pairs old) ++ up ∷ drop i (own_pairs old)) (step_from i b) (before_child old i ++ f)
+        both false h = let t = taken in step_here q (take i (children_of old)) (r ∷ drop (suc i) (children_of old)) (take i (own_pairs old))
+            (up ∷ drop i (own_pairs old)) c i f t.0 t.1 h.0 h.1
+        both true h = let t = taken in step_next q (take i (children_of old)) (drop (suc i) (children_of old)) (take i (own_pairs old))
+            (drop i (own_pairs old)) c r up i f t.0 t.1 h.0 h.1
 
   -- below an inner node, where the child was not split
   pub arrived_below : {p : List ℕ} {old mid c child : Node K V} → IsCascadeStep p old child → IsChildSet old mid (get_or p 0 0) c
@@ -217,9 +251,11 @@ module _ {K V : Type 0} where
   leaf_front n i e = ap (λ cs. weave (map pairs_of (take (suc i) cs)) (take i (own_pairs n))) (leaf_children n e)
 
   leaf_before_child : (n : Node K V) (i : ℕ) → IsLeaf n → before_gap (i ∷ []) n ≡ take i (own_pairs n)
-  leaf_before_child n i e = append-nil _ ∙ ap (λ cs. before_list (map pairs_of (take i cs)) (take i (own_pairs n))) (leaf_children n e) ∙ ap (λ cs. before_list (map pairs_of cs) (take i (own_pairs n))) (take_nil i)
+  leaf_before_child n i e = append-nil _ ∙ ap (λ cs. before_list (map pairs_of (take i cs)) (take i (own_pairs n))) (leaf_children n e)
+      ∙ ap (λ cs. before_list (map pairs_of cs) (take i (own_pairs n))) (take_nil i)
 
-  leaf_half : (n : Node K V) (up : K × V) (b : Node K V) (k i : ℕ) (f : List (K × V)) → IsLeaf n → IsLeaf b → length (own_pairs n) ≡ k → (i ≡ k → ⊥) → i < length (own_pairs n ++ up ∷ own_pairs b) → take i (own_pairs n ++ up ∷ own_pairs b) ≡ f
+  leaf_half : (n : Node K V) (up : K × V) (b : Node K V) (k i : ℕ) (f : List (K × V)) → IsLeaf n → IsLeaf b → length (own_pairs n) ≡ k → (i ≡ k → ⊥)
+      → i < length (own_pairs n ++ up ∷ own_pairs b) → take i (own_pairs n ++ up ∷ own_pairs b) ≡ f
       → (test : Bool) → nat_lt k i ≡ test → IsSettled test ((if test then i - (k + 1) else i) ∷ []) n (Some (up, b)) f
   leaf_half n up b k i f l₁ l₂ e ne lt g false is =
       let le : i ≤ k = ltb-false k i is in
@@ -234,83 +270,111 @@ module _ {K V : Type 0} where
       )
 
   -- in one that was not split
-  leaf_place : (old new : Node K V) (i : ℕ) (pair : K × V) → IsLeaf old → IsLeaf new → i ≤ length (own_pairs old) → own_pairs new ≡ insert (own_pairs old) i pair → IsPlace (i ∷ []) new × (before_pair (i ∷ []) new ≡ before_gap (i ∷ []) old)
+  leaf_place : (old new : Node K V) (i : ℕ) (pair : K × V) → IsLeaf old → IsLeaf new → i ≤ length (own_pairs old)
+      → own_pairs new ≡ insert (own_pairs old) i pair → IsPlace (i ∷ []) new × (before_pair (i ∷ []) new ≡ before_gap (i ∷ []) old)
   leaf_place old new i pair l₁ l₂ le e =
       let n : length (own_pairs new) ≡ length (own_pairs old) + 1 = ap length e ∙ length-insert (own_pairs old) i pair le in
       (omega arith, leaf_front new i l₂ ∙ ap (take i) e ∙ take_put (own_pairs old) i pair le ∙ sym (leaf_before_child old i l₁))
 
-  leaf_settled : (old new : Node K V) (i : ℕ) (s : Split K V) (pair : K × V) → IsLeaf old → IsLeaf new → IfSome s (λ x. IsLeaf x.1) → i ≤ length (own_pairs old) → own_pairs_after new s ≡ insert (own_pairs old) i pair
-      → MatchOption s (length (own_pairs old) < capacity) (λ _. length (own_pairs old) ≡ capacity) → IfSome s (λ _. length (own_pairs new) ≡ left_length i) → HasArrived (i ∷ []) old new s
+  leaf_settled : (old new : Node K V) (i : ℕ) (s : Split K V) (pair : K × V) → IsLeaf old → IsLeaf new → IfSome s (λ x. IsLeaf x.1)
+      → i ≤ length (own_pairs old) → own_pairs_after new s ≡ insert (own_pairs old) i pair
+      → MatchOption s (length (own_pairs old) < capacity) (λ _. length (own_pairs old) ≡ capacity) → IfSome s (λ _. length (own_pairs new) ≡ left_length i)
+      → HasArrived (i ∷ []) old new s
   leaf_settled old new i None pair l₁ l₂ l₃ le e room left =
       let none = leaf_room (i ∷ []) old refl room in
       by_steps (i ∷ []) (i ∷ []) old new None 1 refl (omega arith) (leaf_place old new i pair l₁ l₂ le e)
   leaf_settled old new i (Some x) pair l₁ l₂ l₃ le e room left =
       let all = leaf_full (i ∷ []) old refl room in
       let n : length (own_pairs new ++ x.0 ∷ own_pairs x.1) ≡ length (own_pairs old) + 1 = ap length e ∙ length-insert (own_pairs old) i pair le in
-      by_steps (i ∷ []) (i ∷ []) old new (Some x) 0 refl (omega arith) (leaf_half new x.0 x.1 (left_length i) i _ l₂ l₃ left (beside i) (omega arith) (ap (take i) e ∙ take_put (own_pairs old) i pair le ∙ sym (leaf_before_child old i l₁)) (nat_lt (left_length i) i) refl)
+      by_steps (i ∷ []) (i ∷ []) old new (Some x) 0 refl (omega arith)
+      (leaf_half new x.0 x.1 (left_length i) i _ l₂ l₃ left (beside i) (omega arith)
+      (ap (take i) e ∙ take_put (own_pairs old) i pair le ∙ sym (leaf_before_child old i l₁)) (nat_lt (left_length i) i) refl)
 
-  pub arrived_leaf : (p : List ℕ) (old new : Node K V) (s : Split K V) (pair : K × V) → p ≡ get_or p 0 0 ∷ [] → IsLeaf old → IsLeaf new → IfSome s (λ x. IsLeaf x.1) → get_or p 0 0 ≤ length (own_pairs old) → own_pairs_after new s ≡ insert (own_pairs old) (get_or p 0 0) pair
-      → MatchOption s (length (own_pairs old) < capacity) (λ _. length (own_pairs old) ≡ capacity) → IfSome s (λ _. length (own_pairs new) ≡ left_length (get_or p 0 0)) → HasArrived p old new s
-  arrived_leaf p old new s pair o l₁ l₂ l₃ le e room left = subst (λ q. HasArrived q old new s) (sym o) (leaf_settled old new (get_or p 0 0) s pair l₁ l₂ l₃ le e room left)
+  pub arrived_leaf : (p : List ℕ) (old new : Node K V) (s : Split K V) (pair : K × V) → p ≡ get_or p 0 0 ∷ [] → IsLeaf old → IsLeaf new
+      → IfSome s (λ x. IsLeaf x.1) → get_or p 0 0 ≤ length (own_pairs old) → own_pairs_after new s ≡ insert (own_pairs old) (get_or p 0 0) pair
+      → MatchOption s (length (own_pairs old) < capacity) (λ _. length (own_pairs old) ≡ capacity)
+      → IfSome s (λ _. length (own_pairs new) ≡ left_length (get_or p 0 0)) → HasArrived p old new s
+  arrived_leaf p old new s pair o l₁ l₂ l₃ le e room left = subst (λ q. HasArrived q old new s) (sym o)
+      (leaf_settled old new (get_or p 0 0) s pair l₁ l₂ l₃ le e room left)
 
   -- what is before a place tells which pair is there, and what is after it
-  put_at : (p : List ℕ) (n : Node K V) (pair : K × V) (front back : List (K × V)) (h : ℕ) → IsLevelled h n → pairs_of n ≡ front ++ pair ∷ back → IsPlace p n × (before_pair p n ≡ front) → IsPutAt p n pair front back
+  put_at : (p : List ℕ) (n : Node K V) (pair : K × V) (front back : List (K × V)) (h : ℕ) → IsLevelled h n → pairs_of n ≡ front ++ pair ∷ back
+      → IsPlace p n × (before_pair p n ≡ front) → IsPutAt p n pair front back
   put_at p n pair front back h l e w =
       let c = place_pairs p h n l w.0 in
       let d = same_cut (before_pair p n) (after_pair p n) front back c.pair pair (sym c.parts ∙ e) w.1 in
       record { place = w.0; pair_is = c.is ∙ ap Some d.0; before = w.1; after = d.1 }
 
   -- into a leaf that has room
-  pub put_in_room : (p : List ℕ) (old new : Node K V) (pair : K × V) → p ≡ get_or p 0 0 ∷ [] → IsLeaf old → IsLeaf new → length (own_pairs old) < capacity → get_or p 0 0 ≤ length (own_pairs old) → own_pairs new ≡ insert (own_pairs old) (get_or p 0 0) pair → pairs_of new ≡ before_gap p old ++ pair ∷ after_gap p old
+  pub put_in_room : (p : List ℕ) (old new : Node K V) (pair : K × V) → p ≡ get_or p 0 0 ∷ [] → IsLeaf old → IsLeaf new → length (own_pairs old) < capacity
+      → get_or p 0 0 ≤ length (own_pairs old) → own_pairs new ≡ insert (own_pairs old) (get_or p 0 0) pair
+      → pairs_of new ≡ before_gap p old ++ pair ∷ after_gap p old
       → IsPutAt p new pair (before_gap p old) (after_gap p old)
   put_in_room p old new pair o l₁ l₂ room le e parts =
       let n : length (own_pairs new) ≡ length (own_pairs old) + 1 = ap length e ∙ length-insert (own_pairs old) (get_or p 0 0) pair le in
-      put_at p new pair _ _ 0 (omega arith, l₂) parts (subst (λ q. IsPlace q new × (before_pair q new ≡ before_gap q old)) (sym o) (leaf_place old new (get_or p 0 0) pair l₁ l₂ le e))
+      put_at p new pair _ _ 0 (omega arith, l₂) parts (subst (λ q. IsPlace q new × (before_pair q new ≡ before_gap q old)) (sym o)
+      (leaf_place old new (get_or p 0 0) pair l₁ l₂ le e))
 
   -- below an inner node that stays whole
-  pub put_in_room_below : (p : List ℕ) (old mid c child : Node K V) (pair : K × V) (h : ℕ) → IsStep p old → IsChildSet old mid (get_or p 0 0) c → child ≡ child_at old (get_or p 0 0) → IsLevelled h mid → pairs_of mid ≡ before_gap p old ++ pair ∷ after_gap p old
-      → IsPutAt (slice_range p 1 (length p)) c pair (before_gap (slice_range p 1 (length p)) child) (after_gap (slice_range p 1 (length p)) child) → IsPutAt p mid pair (before_gap p old) (after_gap p old)
+  pub put_in_room_below : (p : List ℕ) (old mid c child : Node K V) (pair : K × V) (h : ℕ) → IsStep p old → IsChildSet old mid (get_or p 0 0) c
+      → child ≡ child_at old (get_or p 0 0) → IsLevelled h mid → pairs_of mid ≡ before_gap p old ++ pair ∷ after_gap p old
+      → IsPutAt (slice_range p 1 (length p)) c pair (before_gap (slice_range p 1 (length p)) child) (after_gap (slice_range p 1 (length p)) child)
+      → IsPutAt p mid pair (before_gap p old) (after_gap p old)
   put_in_room_below p old mid c child pair h s m ci l parts w =
       let rest : List ℕ = slice_range p 1 (length p) in
       let i : ℕ = get_or p 0 0 in
       let b = settled_below old i s.le s.inner mid c false rest (before_gap rest child) m (w.place, w.before) in
-      put_at p mid pair _ _ h l parts (subst (λ q. IsPlace q mid × (before_pair q mid ≡ before_gap q old)) (sym s.path_is) (subst (λ x. IsPlace (i ∷ rest) mid × (before_pair (i ∷ rest) mid ≡ before_child old i ++ before_gap rest x)) ci b))
+      put_at p mid pair _ _ h l parts (subst (λ q. IsPlace q mid × (before_pair q mid ≡ before_gap q old)) (sym s.path_is)
+      (subst (λ x. IsPlace (i ∷ rest) mid × (before_pair (i ∷ rest) mid ≡ before_child old i ++ before_gap rest x)) ci b))
 
   -- in a tree that is as high as before
-  pub put_same : (p : List ℕ) (old new : Node K V) (pair : K × V) (h : ℕ) → cascade p old < length p → IsLevelled h new → pairs_of new ≡ before_gap p old ++ pair ∷ after_gap p old → HasArrived p old new None → IsPutAt (path_after (nodes_needed p old) p) new pair (before_gap p old) (after_gap p old)
+  pub put_same : (p : List ℕ) (old new : Node K V) (pair : K × V) (h : ℕ) → cascade p old < length p → IsLevelled h new
+      → pairs_of new ≡ before_gap p old ++ pair ∷ after_gap p old → HasArrived p old new None
+      → IsPutAt (path_after (nodes_needed p old) p) new pair (before_gap p old) (after_gap p old)
   put_same p old new pair h lt l e a =
       rw (needed_part p old lt, le-ltb (length p) (cascade p old) (omega arith)) (put_at _ new pair _ _ h l e (here _ a))
     where
-      here : (b : Bool) → IsSettled b (arrival (kept_whole p old) p) new None (before_gap p old) → IsPlace (arrival (kept_whole p old) p) new × (before_pair (arrival (kept_whole p old) p) new ≡ before_gap p old)
+      here : (b : Bool) → IsSettled b (arrival (kept_whole p old) p) new None (before_gap p old)
+          → IsPlace (arrival (kept_whole p old) p) new × (before_pair (arrival (kept_whole p old) p) new ≡ before_gap p old)
       here false w = w
       here true w = absurd w
 
   -- under a new root
-  root_step : (b : Bool) (q : List ℕ) (root left : Node K V) (right : Node K V) (up : K × V) (f : List (K × V)) → own_pairs root ≡ up ∷ [] → children_of root ≡ left ∷ right ∷ [] → IsSettled b q left (Some (up, right)) f → IsPlace (step_from 0 b ∷ q) root × (before_pair (step_from 0 b ∷ q) root ≡ f)
+  root_step : (b : Bool) (q : List ℕ) (root left : Node K V) (right : Node K V) (up : K × V) (f : List (K × V)) → own_pairs root ≡ up ∷ []
+      → children_of root ≡ left ∷ right ∷ [] → IsSettled b q left (Some (up, right)) f
+      → IsPlace (step_from 0 b ∷ q) root × (before_pair (step_from 0 b ∷ q) root ≡ f)
   root_step b q root left right up f e k w =
-      step_in q root (step_from 0 b) f (subst (λ cs. HasStep q cs (own_pairs root) (step_from 0 b) f) (sym k) (subst (λ ps. HasStep q (left ∷ right ∷ []) ps (step_from 0 b) f) (sym e) (both b w)))
+      step_in q root (step_from 0 b) f (subst (λ cs. HasStep q cs (own_pairs root) (step_from 0 b) f) (sym k)
+      (subst (λ ps. HasStep q (left ∷ right ∷ []) ps (step_from 0 b) f) (sym e) (both b w)))
     where
       both : (b : Bool) → IsSettled b q left (Some (up, right)) f → HasStep q (left ∷ right ∷ []) (up ∷ []) (step_from 0 b) f
       both false w = step_here q [] (right ∷ []) [] (up ∷ []) left 0 f refl refl w.0 w.1
       both true w = step_next q [] [] [] [] left right up 0 f refl refl w.0 w.1
 
-  pub put_higher : (p : List ℕ) (old root left : Node K V) (right : Node K V) (up pair : K × V) (h : ℕ) → cascade p old ≡ length p → own_pairs root ≡ up ∷ [] → children_of root ≡ left ∷ right ∷ [] → IsBelow h left → IsBelow h right
-      → pairs_of left ++ up ∷ pairs_of right ≡ before_gap p old ++ pair ∷ after_gap p old → HasArrived p old left (Some (up, right)) → IsPutAt (path_after (nodes_needed p old) p) root pair (before_gap p old) (after_gap p old)
+  pub put_higher : (p : List ℕ) (old root left : Node K V) (right : Node K V) (up pair : K × V) (h : ℕ) → cascade p old ≡ length p → own_pairs root ≡ up ∷ []
+      → children_of root ≡ left ∷ right ∷ [] → IsBelow h left → IsBelow h right
+      → pairs_of left ++ up ∷ pairs_of right ≡ before_gap p old ++ pair ∷ after_gap p old → HasArrived p old left (Some (up, right))
+      → IsPutAt (path_after (nodes_needed p old) p) root pair (before_gap p old) (after_gap p old)
   put_higher p old root left right up pair h c e k b₁ b₂ parts a =
       let none : kept_whole p old ≡ 0 = omega arith in
       let more : length p < cascade p old + 1 = omega arith in
       let w = root_step (is_right 0 p) (arrival 0 p) root left right up (before_gap p old) e k (rw none at a) in
-      rw (needed_whole p old (omega arith), lt-ltb (length p) (cascade p old + 1) more) (put_at _ root pair _ _ (suc h) (levelled_root h root left right up e k b₁ b₂) (put_root root left right up e k ∙ parts) w)
+      rw (needed_whole p old (omega arith), lt-ltb (length p) (cascade p old + 1) more)
+      (put_at _ root pair _ _ (suc h) (levelled_root h root left right up e k b₁ b₂) (put_root root left right up e k ∙ parts) w)
 
   -- no step of a path is above the most pairs of a node
   pub small_steps : (p : List ℕ) (h : ℕ) (n : Node K V) → length p ≡ h + 1 → IsPath p n → IsLevelled h n → AllByRecursion (λ i. i ≤ capacity) p
   small_steps [] h n e w l = tt
   small_steps (i ∷ []) zero n e w l = (let a = w.0 in let b = l.0 in omega arith, tt)
   small_steps (i ∷ j ∷ p) zero n e w l = absurd (omega arith)
-  small_steps (i ∷ p) (suc h) n e w l = (let a = w.0 in let b = l.0 in omega arith, small_steps p h (child_at n i) (omega arith) w.1 (child_below h n i l w.0).1)
+  small_steps (i ∷ p) (suc h) n e w l = (
+    let a = w.0 in let b = l.0 in omega arith,
+    small_steps p h (child_at n i) (omega arith) w.1 (child_below h n i l w.0).1,
+  )
 
   -- the path to the new pair is short enough
-  pub steps_fit : (p : List ℕ) (n : Node K V) (nodes : ℕ) → nodes ≡ nodes_needed p n → steps_after p n ≤ most_levels → length p + (if nat_lt (length p) nodes then 1 else 0) ≤ most_levels
+  pub steps_fit : (p : List ℕ) (n : Node K V) (nodes : ℕ) → nodes ≡ nodes_needed p n → steps_after p n ≤ most_levels
+      → length p + (if nat_lt (length p) nodes then 1 else 0) ≤ most_levels
   steps_fit p n nodes e h = rw e (fits (all_full p n) refl)
     where
       one : (b : Bool) → (if b then 1 else 0) ≤ 1

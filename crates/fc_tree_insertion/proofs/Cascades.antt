@@ -1,5 +1,6 @@
 -- How long a cascade is, and how many nodes it needs.
-use Rattle.std.proofs.Common.{◌≡◌, ℕ, zero, suc, ◌+◌, ◌*◌, ◌-◌, ◌<◌, ◌≤◌, true, false, ◌&&◌, ◌==◌, inl, inr, List, [], ◌∷◌, length, get_or, refl, sym, ap, ◌∙◌, subst, arith, Option, Some, None, MatchOption}
+use Rattle.std.proofs.Common.{◌≡◌, ℕ, zero, suc, ◌+◌, ◌*◌, ◌-◌, ◌<◌, ◌≤◌, true, false, ◌&&◌, ◌==◌, inl, inr, List, [], ◌∷◌, length, get_or, refl, sym, ap, ◌∙◌}
+use Rattle.std.proofs.Common.{subst, arith, Option, Some, None, MatchOption}
 use Rattle.std.specs.Prelude.{slice_range, if◌then◌else◌}
 use Rattle.std.proofs.lemmas.Bool.{eq-eqb, ne_eqb}
 use Rattle.std.proofs.lemmas.Bool.Decides.{eqb_tells}
@@ -33,7 +34,8 @@ module _ {K V : Type 0} where
 
   cons_part : (i : ℕ) (p : List ℕ) (n : Node K V) → cascade p (child_at n i) < length p → cascade (i ∷ p) n ≡ cascade p (child_at n i)
   cons_part i p n h =
-      rw (part_full p (child_at n i) h) (elim (length (own_pairs n) == capacity) as (λ b. (if b && false then suc (length p) else cascade p (child_at n i)) ≡ cascade p (child_at n i)) [ true ↦ refl | false ↦ refl ])
+      rw (part_full p (child_at n i) h) (elim (length (own_pairs n) == capacity) as
+      (λ b. (if b && false then suc (length p) else cascade p (child_at n i)) ≡ cascade p (child_at n i)) [ true ↦ refl | false ↦ refl ])
 
   cons_room : (i : ℕ) (p : List ℕ) (n : Node K V) → length (own_pairs n) < capacity → cascade (i ∷ p) n ≡ cascade p (child_at n i)
   cons_room i p n h = let e : (length (own_pairs n) == capacity) ≡ false = ne_eqb _ _ (λ q. omega arith) in rw e refl
@@ -54,7 +56,8 @@ module _ {K V : Type 0} where
   cons_more : (i : ℕ) (p : List ℕ) (n : Node K V) → cascade p (child_at n i) ≤ cascade (i ∷ p) n
   cons_more i p n =
       let w = cascade_most p (child_at n i) in
-      elim (all_full (i ∷ p) n) as (λ b. cascade p (child_at n i) ≤ (if b then suc (length p) else cascade p (child_at n i))) [ true ↦ omega arith | false ↦ omega arith ]
+      elim (all_full (i ∷ p) n) as (λ b. cascade p (child_at n i) ≤ (if b then suc (length p) else cascade p (child_at n i)))
+      [ true ↦ omega arith | false ↦ omega arith ]
 
   -- a leaf
   pub leaf_full : (p : List ℕ) (n : Node K V) → p ≡ get_or p 0 0 ∷ [] → length (own_pairs n) ≡ capacity → cascade p n ≡ 1
@@ -81,10 +84,8 @@ module _ {K V : Type 0} where
   needed_least p n = by_fullness p n (cascade p n ≤ nodes_needed p n) (λ f. rw f (omega arith)) (λ f. rw f (omega arith))
 
   needed_positive : (p : List ℕ) (n : Node K V) → 0 < length p → 1 ≤ nodes_needed p n → 1 ≤ cascade p n
-  needed_positive p n l h = by_fullness p n (1 ≤ cascade p n) (λ f. let w = cascade_whole p n f in omega arith) (λ f. let q = needed_part p n (cascade_part p n f) in omega arith)
-
-  pub moves_whole : (p : List ℕ) (n : Node K V) → length p ≤ cascade p n → insertion_moves p n ≡ most_split_moves * cascade p n + 1
-  moves_whole p n h = rw (whole_full p n h) refl
+  needed_positive p n l h = by_fullness p n (1 ≤ cascade p n) (λ f. let w = cascade_whole p n f in omega arith)
+      (λ f. let q = needed_part p n (cascade_part p n f) in omega arith)
 
   pub moves_part : (p : List ℕ) (n : Node K V) → cascade p n < length p → insertion_moves p n ≡ most_split_moves * cascade p n + capacity
   moves_part p n h = rw (part_full p n h) refl
@@ -134,7 +135,8 @@ module _ {K V : Type 0} where
   leaf_passed (Some b) k h = (positive _ _ k.none h.0, h.1)
 
   -- what a room holds, by the cascade
-  pub new_nodes_given : (o : Option (Node K V)) (inner : ℕ) (p : List ℕ) (n : Node K V) → spare_count o inner ≡ nodes_needed p n → IsSpareLeaf o (spare_count o inner)
+  pub new_nodes_given : (o : Option (Node K V)) (inner : ℕ) (p : List ℕ) (n : Node K V) → spare_count o inner ≡ nodes_needed p n
+      → IsSpareLeaf o (spare_count o inner)
       → 0 < length p → IsSpareLeaf o (cascade p n) × (inner ≡ nodes_needed p n - 1)
   new_nodes_given None inner p n e h l = let w = needed_least p n in (omega arith, omega arith)
   new_nodes_given (Some b) inner p n e h l = let w = needed_positive p n l in ((omega arith, h.1), omega arith)

@@ -10,12 +10,6 @@ use Rattle.fc_tree_node.proofs.Lists.{length_set, all_front, all_back, all_set, 
 use Rattle.fc_tree_node.proofs.Pairs.{IsBelow}
 use Rattle.fc_tree_node.proofs.Made.{IsChildSet}
 
--- how long both parts of a list are, once an item went in and one was handed out
-pub cut_length : {T : Type 0} (xs ls rs : List T) (up : T) (i : ℕ) (x : T) → i ≤ length xs → ls ++ up ∷ rs ≡ insert xs i x → length ls + length rs ≡ length xs
-cut_length xs ls rs up i x h e =
-    let n : length ls + length (up ∷ rs) ≡ length xs + 1 = sym (length-append ls (up ∷ rs)) ∙ ap length e ∙ length-insert xs i x h in
-    omega arith
-
 module _ {K V : Type 0} where
   pub set_length : (old mid c : Node K V) (i : ℕ) → IsChildSet old mid i c → length (children_of mid) ≡ length (children_of old)
   set_length old mid c i m = ap length m.child ∙ length_set (children_of old) i c
@@ -25,13 +19,18 @@ module _ {K V : Type 0} where
 
   pub levelled_stay : (h : ℕ) (old mid c : Node K V) (i : ℕ) → IsLevelled (suc h) old → IsChildSet old mid i c → IsBelow h c → IsLevelled (suc h) mid
   levelled_stay h old mid c i l m b =
-      let P : List (K × V) → Type 0 = λ ps. length ps ≤ capacity in
-      (subst P (sym m.same) l.0, inner_kept old mid c i m l.1, subst (AllByRecursion (IsBelow h)) (sym m.child) (all_set (IsBelow h) (children_of old) i c l.2 b))
+      let P : List (K × V) → Type 0 = λ ps. length ps ≤ capacity in (
+        subst P (sym m.same) l.0,
+        inner_kept old mid c i m l.1,
+        subst (AllByRecursion (IsBelow h)) (sym m.child)
+            (all_set (IsBelow h) (children_of old) i c l.2 b),
+      )
 
   all_below : (h : ℕ) (old mid c new r : Node K V) (i : ℕ) (s : Split K V) → IsLevelled (suc h) old → IsChildSet old mid i c → IsBelow h c → IsBelow h r
       → children_after new s ≡ insert (children_of mid) (i + 1) r → AllByRecursion (IsBelow h) (children_after new s)
   all_below h old mid c new r i s l m b b₂ q =
-      subst (AllByRecursion (IsBelow h)) (sym (q ∙ ap (λ cs. insert cs (i + 1) r) m.child)) (all_put (IsBelow h) _ (i + 1) r (all_set (IsBelow h) (children_of old) i c l.2 b) b₂)
+      subst (AllByRecursion (IsBelow h)) (sym (q ∙ ap (λ cs. insert cs (i + 1) r) m.child))
+      (all_put (IsBelow h) _ (i + 1) r (all_set (IsBelow h) (children_of old) i c l.2 b) b₂)
 
   levelled_parts : (h : ℕ) (new : Node K V) (s : Split K V) → AllByRecursion (IsBelow h) (children_after new s)
       → IsInner new → IfSome s (λ x. IsInner x.1) → MatchOption s (length (own_pairs new) ≤ capacity) (λ x. IsHalved new × IsHalved x.1)
@@ -39,29 +38,27 @@ module _ {K V : Type 0} where
   levelled_parts h new None all h₁ h₂ size = ((size, h₁, all), tt)
   levelled_parts h new (Some (up, right)) all h₁ h₂ size =
       let s₁ : length (own_pairs new) ≤ min_len + 1 = size.0.1 in
-      let s₂ : length (own_pairs right) ≤ min_len + 1 = size.1.1 in
-      ((omega arith, h₁, all_front (IsBelow h) (children_of new) (children_of right) all), (omega arith, h₂, all_back (IsBelow h) (children_of new) (children_of right) all))
+      let s₂ : length (own_pairs right) ≤ min_len + 1 = size.1.1 in (
+        (omega arith, h₁, all_front (IsBelow h) (children_of new) (children_of right) all),
+        (omega arith, h₂, all_back (IsBelow h) (children_of new) (children_of right) all),
+      )
 
   pub levelled_put : (h : ℕ) (old mid c new r : Node K V) (i : ℕ) (s : Split K V) → IsLevelled (suc h) old → IsChildSet old mid i c → IsBelow h c → IsBelow h r
-      → children_after new s ≡ insert (children_of mid) (i + 1) r → IsInner new → IfSome s (λ x. IsInner x.1) → MatchOption s (length (own_pairs new) ≤ capacity) (λ x. IsHalved new × IsHalved x.1)
+      → children_after new s ≡ insert (children_of mid) (i + 1) r → IsInner new → IfSome s (λ x. IsInner x.1)
+      → MatchOption s (length (own_pairs new) ≤ capacity) (λ x. IsHalved new × IsHalved x.1)
       → IsLevelled (suc h) new × IfSome s (λ x. IsLevelled (suc h) x.1)
   levelled_put h old mid c new r i s l m b b₂ q = levelled_parts h new s (all_below h old mid c new r i s l m b b₂ q)
 
-  pub levelled_leaf : (new : Node K V) (s : Split K V) → IsLeaf new → IfSome s (λ x. IsLeaf x.1) → MatchOption s (length (own_pairs new) ≤ capacity) (λ x. IsHalved new × IsHalved x.1)
-      → IsLevelled 0 new × IfSome s (λ x. IsLevelled 0 x.1)
-  levelled_leaf new None e h size = ((size, e), tt)
-  levelled_leaf new (Some (up, right)) e h size =
-      let s₁ : length (own_pairs new) ≤ min_len + 1 = size.0.1 in
-      let s₂ : length (own_pairs right) ≤ min_len + 1 = size.1.1 in
-      ((omega arith, e), (omega arith, h))
-
   -- a node that was not split has not lost a pair
-  pub grown : (new : Node K V) (s : Split K V) (n : ℕ) → length (own_pairs_after new s) ≡ n + 1 → MatchOption s (length (own_pairs new) ≤ capacity) (λ x. IsHalved new × IsHalved x.1) → MatchOption s (n ≤ length (own_pairs new)) (λ x. IsHalved new × IsHalved x.1)
+  pub grown : (new : Node K V) (s : Split K V) (n : ℕ) → length (own_pairs_after new s) ≡ n + 1
+      → MatchOption s (length (own_pairs new) ≤ capacity) (λ x. IsHalved new × IsHalved x.1)
+      → MatchOption s (n ≤ length (own_pairs new)) (λ x. IsHalved new × IsHalved x.1)
   grown new None n e size = omega arith
   grown new (Some (up, right)) n e size = size
 
   -- a new root above two halves
-  pub levelled_root : (h : ℕ) (root left right : Node K V) (up : K × V) → own_pairs root ≡ up ∷ [] → children_of root ≡ left ∷ right ∷ [] → IsBelow h left → IsBelow h right → IsLevelled (suc h) root
+  pub levelled_root : (h : ℕ) (root left right : Node K V) (up : K × V) → own_pairs root ≡ up ∷ [] → children_of root ≡ left ∷ right ∷ [] → IsBelow h left
+      → IsBelow h right → IsLevelled (suc h) root
   levelled_root h root left right up e f b₁ b₂ =
       let n : length (own_pairs root) ≡ 1 = ap length e in
       let m : length (children_of root) ≡ 2 = ap length f in

@@ -1,5 +1,6 @@
 -- A sound tree after an insertion into one of its gaps.
-use Rattle.std.proofs.Common.{◌≡◌, ℕ, suc, zero, ◌+◌, ◌-◌, ◌*◌, ◌^◌, ◌<◌, ◌≤◌, Bool, true, false, List, [], ◌∷◌, ◌++◌, length, Some, refl, ap, ◌∙◌, arith, length-append}
+use Rattle.std.proofs.Common.{◌≡◌, ℕ, suc, zero, ◌+◌, ◌-◌, ◌*◌, ◌^◌, ◌<◌, ◌≤◌, Bool, true, false, List, [], ◌∷◌, ◌++◌, length, Some, refl, ap, ◌∙◌, arith}
+use Rattle.std.proofs.Common.{length-append}
 use Rattle.fc_base.specs.Sizes.{level_moves}
 use Rattle.fc_base.specs.declared.count.Count.{Count}
 use Rattle.fc_tree_node.specs.declared.node.Node.{Node}
@@ -15,7 +16,8 @@ use Rattle.fc_tree_insertion.specs.Cascade.{leaf_at, all_full}
 
 module _ {K V : Type 0} where
   -- A tree holds the pairs of the leaf that a path ends in.
-  pub leaf_within : (path : List ℕ) (h : ℕ) (n : Node K V) → IsLevelled h n → length path ≡ h + 1 → IsPath path n → length (own_pairs (leaf_at path n)) ≤ length (pairs_of n)
+  pub leaf_within : (path : List ℕ) (h : ℕ) (n : Node K V) → IsLevelled h n → length path ≡ h + 1 → IsPath path n
+      → length (own_pairs (leaf_at path n)) ≤ length (pairs_of n)
   leaf_within [] h n l e p = absurd (omega arith)
   leaf_within (i ∷ []) zero n l e p = let q = ap length (leaf_pairs n l.1) in omega arith
   leaf_within (i ∷ []) (suc h) n l e p = absurd (omega arith)
@@ -30,13 +32,16 @@ module _ {K V : Type 0} where
     gap_sound = let h : length path - 1 ≡ sound.0 = omega arith in rw h sound.2
 
     -- There is one pair more.
-    pub length_in : (p : K × V) (s : List (K × V)) → IsPath path root → s ≡ before_gap path root ++ p ∷ after_gap path root → length s ≡ length (pairs_of root) + 1
+    pub length_in : (p : K × V) (s : List (K × V)) → IsPath path root → s ≡ before_gap path root ++ p ∷ after_gap path root
+        → length s ≡ length (pairs_of root) + 1
     length_in p s way e =
         let g = gap_pairs path sound.0 root sound.2.1 steps way in
-        ap length e ∙ length-append (before_gap path root) (p ∷ after_gap path root) ∙ (let m = ap length g ∙ length-append (before_gap path root) (after_gap path root) in omega arith)
+        ap length e ∙ length-append (before_gap path root) (p ∷ after_gap path root)
+        ∙ (let m = ap length g ∙ length-append (before_gap path root) (after_gap path root) in omega arith)
 
     -- The tree that an insertion leaves is sound.
-    pub sound_in : (new : Node K V) → length (pairs_of new) < 2 ^ 64 → (all_full path root ≡ false → IsSoundRoot (length path - 1) new) → (all_full path root ≡ true → IsSoundRoot (length path) new × (length (own_pairs new) ≡ 1)) → IsSoundMap (Some new)
+    pub sound_in : (new : Node K V) → length (pairs_of new) < 2 ^ 64 → (all_full path root ≡ false → IsSoundRoot (length path - 1) new)
+        → (all_full path root ≡ true → IsSoundRoot (length path) new × (length (own_pairs new) ≡ 1)) → IsSoundMap (Some new)
     sound_in new fits same higher = go (all_full path root) refl
       where
         some : (h : ℕ) → IsSoundRoot h new → IsSoundMap (Some new)

@@ -14,7 +14,9 @@ module _ {K V : Type 0} where
   leaf_cons i [] n h = absurd (omega arith)
   leaf_cons i (j ∷ p) n h = refl
 
-  pub leaf_below : (p : List ℕ) (n child : Node K V) → 2 ≤ length p → IsStep p n → child ≡ child_at n (get_or p 0 0) → leaf_at p n ≡ leaf_at (slice_range p 1 (length p)) child
+  pub leaf_below : (p : List ℕ) (n child : Node K V) → 2 ≤ length p → IsStep p n → child ≡ child_at n (get_or p 0 0)
+      → leaf_at p n ≡ leaf_at (slice_range p 1 (length p)) child
   leaf_below p n child h s e =
       let long = s.long in
-      ap (λ q. leaf_at q n) s.path_is ∙ leaf_cons (get_or p 0 0) (slice_range p 1 (length p)) n (omega arith) ∙ ap (leaf_at (slice_range p 1 (length p))) (sym e)
+      ap (λ q. leaf_at q n) s.path_is ∙ leaf_cons (get_or p 0 0) (slice_range p 1 (length p)) n (omega arith)
+      ∙ ap (leaf_at (slice_range p 1 (length p))) (sym e)

@@ -1,5 +1,6 @@
 -- How many pairs a tree of so many levels has at the least.
-use Rattle.std.proofs.Common.{◌≡◌, ℕ, zero, suc, ◌+◌, ◌*◌, ◌^◌, ◌<◌, ◌≤◌, List, [], ◌∷◌, length, map, ap, arith, length-append, ◌⊎◌, inl, inr, lit<, le_trans, pow-suc}
+use Rattle.std.proofs.Common.{◌≡◌, ℕ, zero, suc, ◌+◌, ◌*◌, ◌^◌, ◌<◌, ◌≤◌, List, [], ◌∷◌, length, map, ap, arith, length-append, ◌⊎◌, inl, inr, lit<, le_trans}
+use Rattle.std.proofs.Common.{pow-suc}
 use Rattle.std.specs.List.{AllByRecursion}
 use Rattle.std.proofs.lemmas.List.{length-map}
 use Rattle.std.proofs.lemmas.Bool.{cases_lt}
@@ -10,7 +11,6 @@ use Rattle.fc_tree_node.specs.Weave.{weave, after_list}
 use Rattle.fc_tree_node.specs.declared.node.Node.{Node}
 use Rattle.fc_tree_node.specs.Node.{own_pairs, children_of, pairs_of, IsLevelled, IsSoundRoot}
 use Rattle.fc_tree_node.specs.Depth.{IsDeep}
-use Rattle.fc_tree_node.specs.Node.{IsTree}
 use Rattle.fc_tree_node.proofs.Pairs.{pairs_is, leaf_pairs, IsBelow}
 
 -- what so many nodes below, or twice as many, come to a level higher
@@ -37,7 +37,8 @@ module _ {X : Type 0} (b : ℕ) where
 
 module _ {K V : Type 0} where
   -- a node whose children have at least so many pairs
-  many_in : (n : Node K V) (b : ℕ) → length (children_of n) ≡ length (own_pairs n) + 1 → AllByRecursion (λ c. b ≤ length (pairs_of c) + 1) (children_of n) → length (children_of n) * b ≤ length (pairs_of n) + 1
+  many_in : (n : Node K V) (b : ℕ) → length (children_of n) ≡ length (own_pairs n) + 1 → AllByRecursion (λ c. b ≤ length (pairs_of c) + 1) (children_of n)
+      → length (children_of n) * b ≤ length (pairs_of n) + 1
   many_in n b e a =
       let m = length-map (children_of n) pairs_of in
       let w = long_weave b (map pairs_of (children_of n)) (own_pairs n) (lists (children_of n) a) (omega arith) in
@@ -57,7 +58,8 @@ module _ {K V : Type 0} where
   many_below : (h : ℕ) (n : Node K V) → min_len ≤ length (own_pairs n) → IsLevelled h n → least_children ^ suc h ≤ length (pairs_of n) + 1
   many_below zero n m l = let e : length (pairs_of n) ≡ length (own_pairs n) = ap length (leaf_pairs n l.1) in omega arith
   many_below (suc h) n m l =
-      let s = many_in n (least_children ^ suc h) l.1 (each (IsBelow h) (λ c. least_children ^ suc h ≤ length (pairs_of c) + 1) (λ c p. many_below h c p.0 p.1) (children_of n) l.2) in
+      let s = many_in n (least_children ^ suc h) l.1 (each (IsBelow h) (λ c. least_children ^ suc h ≤ length (pairs_of c) + 1) (λ c p. many_below h c p.0 p.1)
+      (children_of n) l.2) in
       let least : least_children ≤ length (children_of n) = let e : length (children_of n) ≡ length (own_pairs n) + 1 = l.1 in omega arith in
       level_more least_children (suc h) _ _ least s
 
@@ -91,7 +93,3 @@ few_levels h n d s = within (cases_lt most_height h)
         let le : most_levels ≤ h = omega arith in
         let big : least_children ^ most_levels ≤ least_children ^ h = pow-le-pow_right (lit< tt) le in
         absurd (omega (arith, levels_enough))
-
--- a sound root whose pairs are counted in 64 bits is not too high for a path
-pub tree_of : {K V : Type 0} (h : ℕ) (n : Node K V) → IsSoundRoot h n → length (pairs_of n) < 2 ^ 64 → IsTree n
-tree_of h n s l = (h, few_levels h (length (pairs_of n)) (deep_root h n s) l, s.1)

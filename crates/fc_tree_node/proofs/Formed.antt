@@ -17,7 +17,8 @@ module _ {K V : Type 0} where
   alike_opened n m bs e (inr inner) = inner
 
   -- an inner node with another number of pairs and as many more children
-  pub alike_made : (n : Node K V) (ps : List (K × V)) (bs : List (Node K V)) → IsInner n → length bs ≡ length ps + 1 → AreAlike n (roll-Node K V (record { pairs = ps; children = Some bs }))
+  pub alike_made : (n : Node K V) (ps : List (K × V)) (bs : List (Node K V)) → IsInner n → length bs ≡ length ps + 1
+      → AreAlike n (roll-Node K V (record { pairs = ps; children = Some bs }))
   alike_made n ps bs inner e = inr (inner, inner_made (record { pairs = ps; children = Some bs }) e)
 
   pub leaf_or_inner : (n : Node K V) → IsLeaf n → IsInner n → ⊥
@@ -38,9 +39,11 @@ module _ {K V : Type 0} where
   alike_back n m (inr a) = inr (a.1, a.0)
 
   -- two nodes with other numbers of pairs and as many more or fewer children
-  pub alike_traded : (n m : Node K V) (bs cs : List (Node K V)) → (out-Node K V n).children ≡ Some bs → (out-Node K V m).children ≡ Some cs → AreAlike n m → (ps qs : List (K × V)) (bs' cs' : List (Node K V))
+  pub alike_traded : (n m : Node K V) (bs cs : List (Node K V)) → (out-Node K V n).children ≡ Some bs → (out-Node K V m).children ≡ Some cs → AreAlike n m
+      → (ps qs : List (K × V)) (bs' cs' : List (Node K V))
       → length bs' + length (own_pairs n) ≡ length bs + length ps → length cs' + length (own_pairs m) ≡ length cs + length qs
-      → AreAlike n (roll-Node K V (record { pairs = ps; children = Some bs' })) × AreAlike (roll-Node K V (record { pairs = ps; children = Some bs' })) (roll-Node K V (record { pairs = qs; children = Some cs' }))
+      → AreAlike n (roll-Node K V (record { pairs = ps; children = Some bs' }))
+      × AreAlike (roll-Node K V (record { pairs = ps; children = Some bs' })) (roll-Node K V (record { pairs = qs; children = Some cs' }))
   alike_traded n m bs cs e f (inl a) ps qs bs' cs' h k = absurd (cc (e, a.0))
   alike_traded n m bs cs e f (inr a) ps qs bs' cs' h k =
       let p = inner_length n bs e a.0 in

@@ -1,5 +1,6 @@
 -- A node's pairs, cut at a child or at a pair of its own, and a tree's pairs, cut at the end of a path.
-use Rattle.std.proofs.Common.{◌≡◌, ℕ, zero, suc, ◌+◌, ◌<◌, ◌≤◌, List, [], ◌∷◌, ◌++◌, length, map, take, drop, get_or, slice_get, Some, refl, sym, ap, ◌∙◌, arith, append_assoc, append-nil}
+use Rattle.std.proofs.Common.{◌≡◌, ℕ, zero, suc, ◌+◌, ◌<◌, ◌≤◌, List, [], ◌∷◌, ◌++◌, length, map, take, drop, get_or, slice_get, Some, refl, sym, ap, ◌∙◌}
+use Rattle.std.proofs.Common.{arith, append_assoc, append-nil}
 use Rattle.std.proofs.lemmas.List.{length-map, map-append, length-drop}
 use Rattle.fc_tree_node.specs.Weave.{weave, before_list, after_list}
 use Rattle.fc_tree_node.specs.declared.node.Node.{Node}
@@ -47,7 +48,8 @@ module _ {X : Type 0} where
   before_item (c ∷ []) [] p e = ap (λ zs. zs ++ p ∷ []) (sym (append-nil c))
   before_item (c ∷ []) (q ∷ ps) p e = absurd (omega arith)
   before_item (c ∷ d ∷ cs) [] p e = absurd (omega arith)
-  before_item (c ∷ d ∷ cs) (q ∷ ps) p e = ap (λ zs. c ++ q ∷ zs) (before_item (d ∷ cs) ps p (omega arith)) ∙ sym (append_assoc c (q ∷ weave (d ∷ cs) ps) (p ∷ []))
+  before_item (c ∷ d ∷ cs) (q ∷ ps) p e = ap (λ zs. c ++ q ∷ zs) (before_item (d ∷ cs) ps p (omega arith))
+      ∙ sym (append_assoc c (q ∷ weave (d ∷ cs) ps) (p ∷ []))
 
 module _ {K V : Type 0} where
   abbrev lists : List (Node K V) → List (List (K × V))
@@ -55,7 +57,8 @@ module _ {K V : Type 0} where
 
   -- a leaf's parts
   leaf_before_child : (n : Node K V) (i : ℕ) → children_of n ≡ [] → before_child n i ≡ take i (own_pairs n)
-  leaf_before_child n i e = ap (λ cs. before_list (lists (take i cs)) (take i (own_pairs n))) e ∙ ap (λ cs. before_list (lists cs) (take i (own_pairs n))) (take_nil i)
+  leaf_before_child n i e = ap (λ cs. before_list (lists (take i cs)) (take i (own_pairs n))) e
+      ∙ ap (λ cs. before_list (lists cs) (take i (own_pairs n))) (take_nil i)
 
   leaf_after_child : (n : Node K V) (i : ℕ) → children_of n ≡ [] → after_child n i ≡ drop i (own_pairs n)
   leaf_after_child n i e = ap (λ cs. after_list (drop i (own_pairs n)) (lists (drop (suc i) cs))) e ∙ after_nil (drop i (own_pairs n))
@@ -64,7 +67,8 @@ module _ {K V : Type 0} where
   pub leaf_gap : (n : Node K V) (i : ℕ) → IsLeaf n → pairs_of n ≡ before_child n i ++ after_child n i
   leaf_gap n i l =
       let e = leaf_children n l in
-      leaf_pairs n l ∙ sym (take_drop i (own_pairs n)) ∙ ap (λ zs. zs ++ drop i (own_pairs n)) (sym (leaf_before_child n i e)) ∙ ap (λ zs. before_child n i ++ zs) (sym (leaf_after_child n i e))
+      leaf_pairs n l ∙ sym (take_drop i (own_pairs n)) ∙ ap (λ zs. zs ++ drop i (own_pairs n)) (sym (leaf_before_child n i e))
+      ∙ ap (λ zs. before_child n i ++ zs) (sym (leaf_after_child n i e))
 
   lists_taken : (n : Node K V) (i : ℕ) → i ≤ length (children_of n) → length (lists (take i (children_of n))) ≡ i
   lists_taken n i h = length-map (take i (children_of n)) pairs_of ∙ length_take i (children_of n) h
@@ -89,12 +93,14 @@ module _ {K V : Type 0} where
       ∙ ap (λ cs. weave (lists (take (suc i) cs)) (take i ps) ++ get_or ps i d ∷ weave (lists (drop (suc i) cs)) (drop (suc i) ps)) (sym e)
 
   -- an inner node's pairs, cut at one of its own
-  inner_pair : (n : Node K V) (i : ℕ) (d : K × V) → IsInner n → i < length (own_pairs n) → pairs_of n ≡ before_own n i ++ get_or (own_pairs n) i d ∷ after_own n i
+  inner_pair : (n : Node K V) (i : ℕ) (d : K × V) → IsInner n → i < length (own_pairs n)
+      → pairs_of n ≡ before_own n i ++ get_or (own_pairs n) i d ∷ after_own n i
   inner_pair n i d e h =
       let ps = own_pairs n in let cs = children_of n in
       let k : length cs ≡ length ps + 1 = e in
       let p = get_or ps i d in
-      let m : length (lists (take (suc i) cs)) ≡ length (take i ps) + 1 = lists_taken n (suc i) (omega arith) ∙ let t = length_take i ps (omega arith) in omega arith in
+      let m : length (lists (take (suc i) cs)) ≡ length (take i ps) + 1 = lists_taken n (suc i) (omega arith) ∙ let t =
+      length_take i ps (omega arith) in omega arith in
       let r : 0 < length (lists (drop (suc i) cs)) = omega (arith, length-map (drop (suc i) cs) pairs_of, length-drop (suc i) cs) in
       pairs_is n
       ∙ ap (λ qs. weave (lists cs) qs) (cut_item ps i d h)
@@ -103,19 +109,23 @@ module _ {K V : Type 0} where
       ∙ weave_parts (lists (take (suc i) cs)) (lists (drop (suc i) cs)) (take i ps) p (drop (suc i) ps) m r
 
   -- a levelled node's pairs, cut at one of its own
-  pub own_pair : (h : ℕ) (n : Node K V) (i : ℕ) (d : K × V) → IsLevelled h n → i < length (own_pairs n) → pairs_of n ≡ before_own n i ++ get_or (own_pairs n) i d ∷ after_own n i
+  pub own_pair : (h : ℕ) (n : Node K V) (i : ℕ) (d : K × V) → IsLevelled h n → i < length (own_pairs n)
+      → pairs_of n ≡ before_own n i ++ get_or (own_pairs n) i d ∷ after_own n i
   own_pair zero n i d l k = leaf_pair n i d l.1 k
   own_pair (suc h) n i d l k = inner_pair n i d l.1 k
 
   -- what leads to the child after a pair ends with the pair
-  pub before_child_pair : (h : ℕ) (n : Node K V) (i : ℕ) (d : K × V) → IsLevelled h n → i < length (own_pairs n) → before_child n (suc i) ≡ before_own n i ++ get_or (own_pairs n) i d ∷ []
+  pub before_child_pair : (h : ℕ) (n : Node K V) (i : ℕ) (d : K × V) → IsLevelled h n → i < length (own_pairs n)
+      → before_child n (suc i) ≡ before_own n i ++ get_or (own_pairs n) i d ∷ []
   before_child_pair zero n i d l k =
       let e = leaf_children n l.1 in
-      leaf_before_child n (suc i) e ∙ take_item (own_pairs n) i d k ∙ ap (λ cs. weave (lists (take (suc i) cs)) (take i (own_pairs n)) ++ get_or (own_pairs n) i d ∷ []) (sym e)
+      leaf_before_child n (suc i) e ∙ take_item (own_pairs n) i d k ∙ ap
+      (λ cs. weave (lists (take (suc i) cs)) (take i (own_pairs n)) ++ get_or (own_pairs n) i d ∷ []) (sym e)
   before_child_pair (suc h) n i d l k =
       let ps = own_pairs n in let cs = children_of n in
       let e : length cs ≡ length ps + 1 = l.1 in
-      let m : length (lists (take (suc i) cs)) ≡ length (take i ps) + 1 = lists_taken n (suc i) (omega arith) ∙ let t = length_take i ps (omega arith) in omega arith in
+      let m : length (lists (take (suc i) cs)) ≡ length (take i ps) + 1 = lists_taken n (suc i) (omega arith) ∙ let t =
+      length_take i ps (omega arith) in omega arith in
       ap (λ qs. before_list (lists (take (suc i) cs)) qs) (take_item ps i d k) ∙ before_item (lists (take (suc i) cs)) (take i ps) (get_or ps i d) m
 
   -- what is after a child begins with the next pair
@@ -129,7 +139,8 @@ module _ {K V : Type 0} where
   after_none n i h = ap (λ qs. after_list qs (lists (drop (suc i) (children_of n)))) (drop_all (own_pairs n) i h)
 
   -- a step down a levelled node
-  pub step_levels : (h : ℕ) (n : Node K V) (i : ℕ) → IsLevelled h n → i < length (children_of n) → (g : ℕ) × (h ≡ suc g) × IsLevelled g (child_at n i) × (i ≤ length (own_pairs n)) × IsInner n
+  pub step_levels : (h : ℕ) (n : Node K V) (i : ℕ) → IsLevelled h n → i < length (children_of n)
+      → (g : ℕ) × (h ≡ suc g) × IsLevelled g (child_at n i) × (i ≤ length (own_pairs n)) × IsInner n
   step_levels zero n i l k = absurd (let e : length (children_of n) ≡ 0 = ap length (leaf_children n l.1) in omega arith)
   step_levels (suc h) n i l k =
       let e : length (children_of n) ≡ length (own_pairs n) + 1 = l.1 in
@@ -137,7 +148,8 @@ module _ {K V : Type 0} where
       (h, refl, (child_below h n i l le).1, le, l.1)
 
   -- the levels below the end of a descent
-  pub descent_levels : (path : List ℕ) (h : ℕ) (n : Node K V) → IsLevelled h n → IsDescent path n → (g : ℕ) × (length path + g ≡ h) × IsLevelled g (node_at path n)
+  pub descent_levels : (path : List ℕ) (h : ℕ) (n : Node K V) → IsLevelled h n → IsDescent path n
+      → (g : ℕ) × (length path + g ≡ h) × IsLevelled g (node_at path n)
   descent_levels [] h n l d = (h, omega arith, l)
   descent_levels (i ∷ path) h n l d =
       let s = step_levels h n i l d.0 in
@@ -145,13 +157,15 @@ module _ {K V : Type 0} where
       (r.0, (let a = r.1 in let b = s.1 in omega arith), r.2)
 
   -- a tree's pairs, cut at the node that a descent leads to
-  pub descent_pairs : (path : List ℕ) (h : ℕ) (n : Node K V) → IsLevelled h n → IsDescent path n → pairs_of n ≡ before_gap path n ++ (pairs_of (node_at path n) ++ after_gap path n)
+  pub descent_pairs : (path : List ℕ) (h : ℕ) (n : Node K V) → IsLevelled h n → IsDescent path n
+      → pairs_of n ≡ before_gap path n ++ (pairs_of (node_at path n) ++ after_gap path n)
   descent_pairs [] h n l d = sym (append-nil (pairs_of n))
   descent_pairs (i ∷ path) h n l d =
       let s = step_levels h n i l d.0 in
       let c = child_at n i in
       let r = descent_pairs path s.0 c s.2 d.1 in
-      inner_gap n i s.4 s.3 ∙ ap (λ zs. before_child n i ++ (zs ++ after_child n i)) r ∙ regroup (before_child n i) (before_gap path c) (pairs_of (node_at path c)) (after_gap path c) (after_child n i)
+      inner_gap n i s.4 s.3 ∙ ap (λ zs. before_child n i ++ (zs ++ after_child n i)) r
+      ∙ regroup (before_child n i) (before_gap path c) (pairs_of (node_at path c)) (after_gap path c) (after_child n i)
     where
       regroup : (a b m c d : List (K × V)) → a ++ ((b ++ (m ++ c)) ++ d) ≡ (a ++ b) ++ (m ++ (c ++ d))
       regroup a b m c d = simp append_assoc
@@ -168,13 +182,16 @@ module _ {K V : Type 0} where
   -- what is before and after the gap that one more step leads to
   pub before_more : (path : List ℕ) (i : ℕ) (n : Node K V) → before_gap (path ++ i ∷ []) n ≡ before_gap path n ++ before_child (node_at path n) i
   before_more [] i n = append-nil (before_child n i)
-  before_more (j ∷ path) i n = ap (λ zs. before_child n j ++ zs) (before_more path i (child_at n j)) ∙ sym (append_assoc (before_child n j) (before_gap path (child_at n j)) _)
+  before_more (j ∷ path) i n = ap (λ zs. before_child n j ++ zs) (before_more path i (child_at n j))
+      ∙ sym (append_assoc (before_child n j) (before_gap path (child_at n j)) _)
 
   pub after_more : (path : List ℕ) (i : ℕ) (n : Node K V) → after_gap (path ++ i ∷ []) n ≡ after_child (node_at path n) i ++ after_gap path n
   after_more [] i n = sym (append-nil (after_child n i))
-  after_more (j ∷ path) i n = ap (λ zs. zs ++ after_child n j) (after_more path i (child_at n j)) ∙ append_assoc (after_child (node_at path (child_at n j)) i) (after_gap path (child_at n j)) (after_child n j)
+  after_more (j ∷ path) i n = ap (λ zs. zs ++ after_child n j) (after_more path i (child_at n j))
+      ∙ append_assoc (after_child (node_at path (child_at n j)) i) (after_gap path (child_at n j)) (after_child n j)
 
-  pub path_more : (path : List ℕ) (i h : ℕ) (n : Node K V) → IsLevelled h n → IsDescent path n → i ≤ length (own_pairs (node_at path n)) → IsPath (path ++ i ∷ []) n
+  pub path_more : (path : List ℕ) (i h : ℕ) (n : Node K V) → IsLevelled h n → IsDescent path n → i ≤ length (own_pairs (node_at path n))
+      → IsPath (path ++ i ∷ []) n
   path_more [] i h n l d k = (k, tt)
   path_more (j ∷ path) i h n l d k = let s = step_levels h n j l d.0 in (s.3, path_more path i s.0 (child_at n j) s.2 d.1 k)
 
@@ -192,15 +209,18 @@ module _ {K V : Type 0} where
   pub before_own_more : (path : List ℕ) (i : ℕ) (n : Node K V) → before_pair (path ++ i ∷ []) n ≡ before_gap path n ++ before_own (node_at path n) i
   before_own_more [] i n = refl
   before_own_more (j ∷ []) i n = ap (λ zs. zs ++ before_own (child_at n j) i) (sym (append-nil (before_child n j)))
-  before_own_more (j ∷ j' ∷ path) i n = ap (λ zs. before_child n j ++ zs) (before_own_more (j' ∷ path) i (child_at n j)) ∙ sym (append_assoc (before_child n j) (before_gap (j' ∷ path) (child_at n j)) _)
+  before_own_more (j ∷ j' ∷ path) i n = ap (λ zs. before_child n j ++ zs) (before_own_more (j' ∷ path) i (child_at n j))
+      ∙ sym (append_assoc (before_child n j) (before_gap (j' ∷ path) (child_at n j)) _)
 
   pub after_own_more : (path : List ℕ) (i : ℕ) (n : Node K V) → after_pair (path ++ i ∷ []) n ≡ after_own (node_at path n) i ++ after_gap path n
   after_own_more [] i n = sym (append-nil (after_own n i))
   after_own_more (j ∷ []) i n = refl
-  after_own_more (j ∷ j' ∷ path) i n = ap (λ zs. zs ++ after_child n j) (after_own_more (j' ∷ path) i (child_at n j)) ∙ append_assoc (after_own (node_at (j' ∷ path) (child_at n j)) i) (after_gap (j' ∷ path) (child_at n j)) (after_child n j)
+  after_own_more (j ∷ j' ∷ path) i n = ap (λ zs. zs ++ after_child n j) (after_own_more (j' ∷ path) i (child_at n j))
+      ∙ append_assoc (after_own (node_at (j' ∷ path) (child_at n j)) i) (after_gap (j' ∷ path) (child_at n j)) (after_child n j)
 
   -- a tree's pairs are those before and those after the gap that a path to a leaf leads to
-  pub gap_pairs : (path : List ℕ) (h : ℕ) (n : Node K V) → IsLevelled h n → length path ≡ h + 1 → IsPath path n → pairs_of n ≡ before_gap path n ++ after_gap path n
+  pub gap_pairs : (path : List ℕ) (h : ℕ) (n : Node K V) → IsLevelled h n → length path ≡ h + 1 → IsPath path n
+      → pairs_of n ≡ before_gap path n ++ after_gap path n
   gap_pairs [] h n l e p = absurd (omega arith)
   gap_pairs (i ∷ path) zero n l e p =
       let none : path ≡ [] = no_items path (omega arith) in
@@ -213,7 +233,8 @@ module _ {K V : Type 0} where
   gap_pairs (i ∷ path) (suc h) n l e p =
       let c = child_at n i in
       let r = gap_pairs path h c (child_below h n i l p.0).1 (omega arith) p.1 in
-      inner_gap n i l.1 p.0 ∙ ap (λ zs. before_child n i ++ (zs ++ after_child n i)) r ∙ regroup (before_child n i) (before_gap path c) (after_gap path c) (after_child n i)
+      inner_gap n i l.1 p.0 ∙ ap (λ zs. before_child n i ++ (zs ++ after_child n i)) r
+      ∙ regroup (before_child n i) (before_gap path c) (after_gap path c) (after_child n i)
     where
       regroup : (a b c d : List (K × V)) → a ++ ((b ++ c) ++ d) ≡ (a ++ b) ++ (c ++ d)
       regroup a b c d = simp append_assoc
@@ -235,7 +256,8 @@ module _ {K V : Type 0} where
       record {
         pair = r.pair;
         is = r.is;
-        parts = inner_gap n i s.4 s.3 ∙ ap (λ zs. before_child n i ++ (zs ++ after_child n i)) r.parts ∙ regroup (before_child n i) (before_pair (j ∷ path) (child_at n i)) (after_pair (j ∷ path) (child_at n i)) (after_child n i) r.pair;
+        parts = inner_gap n i s.4 s.3 ∙ ap (λ zs. before_child n i ++ (zs ++ after_child n i)) r.parts
+            ∙ regroup (before_child n i) (before_pair (j ∷ path) (child_at n i)) (after_pair (j ∷ path) (child_at n i)) (after_child n i) r.pair;
       }
     where
       regroup : (a b c d : List (K × V)) (x : K × V) → a ++ ((b ++ x ∷ c) ++ d) ≡ (a ++ b) ++ x ∷ (c ++ d)

@@ -51,14 +51,16 @@ module _ {X : Type 0} where
   pub set_next : (xs : List X) (i : ℕ) (x y : X) → slice_set (slice_set xs (i + 1) y) i x ≡ slice_set (slice_set xs i x) (i + 1) y
   set_next xs i x y = rw add-one (set_next_suc xs i x y)
 
-  set_around_suc : (xs : List X) (i : ℕ) (x y : X) → suc i < length xs → insert (slice_set (remove xs (suc i)) i x) (suc i) y ≡ slice_set (slice_set xs i x) (suc i) y
+  set_around_suc : (xs : List X) (i : ℕ) (x y : X) → suc i < length xs
+      → insert (slice_set (remove xs (suc i)) i x) (suc i) y ≡ slice_set (slice_set xs i x) (suc i) y
   set_around_suc [] i x y h = absurd (omega arith)
   set_around_suc (a ∷ []) i x y h = absurd (omega arith)
   set_around_suc (a ∷ b ∷ xs) zero x y h = refl
   set_around_suc (a ∷ b ∷ xs) (suc i) x y h = ap (λ zs. a ∷ zs) (set_around_suc (b ∷ xs) i x y (omega arith))
 
   -- an item taken out and put back, round a write to the one before it
-  pub set_around : (xs : List X) (i : ℕ) (x y : X) → i + 1 < length xs → insert (slice_set (remove xs (i + 1)) i x) (i + 1) y ≡ slice_set (slice_set xs i x) (i + 1) y
+  pub set_around : (xs : List X) (i : ℕ) (x y : X) → i + 1 < length xs
+      → insert (slice_set (remove xs (i + 1)) i x) (i + 1) y ≡ slice_set (slice_set xs i x) (i + 1) y
   set_around xs i x y h = rw add-one (set_around_suc xs i x y (rw add-one at h))
 
   -- some item of a list that has one

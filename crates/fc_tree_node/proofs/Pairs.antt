@@ -1,6 +1,5 @@
 -- What the pairs of a node are, by its children and its own pairs.
-use Rattle.std.proofs.Common.{◌≡◌, ℕ, suc, ◌+◌, ◌<◌, ◌≤◌, List, [], length, get_or, map, refl, ap, ◌∙◌, arith, Option, Some, None}
-use Rattle.std.proofs.lemmas.List.{get_or_default}
+use Rattle.std.proofs.Common.{◌≡◌, ℕ, suc, ◌+◌, ◌≤◌, List, [], length, map, refl, ap, ◌∙◌, arith, Option, Some, None}
 use Rattle.fc_base.specs.Sizes.{min_len}
 use Rattle.fc_tree_node.specs.Weave.{weave}
 use Rattle.fc_tree_node.specs.declared.node.Node.{Node, out-Node, map-Node, fold_out-Node}
@@ -8,7 +7,8 @@ use Rattle.fc_tree_node.specs.Node.{items_or_none, own_pairs, children_of, child
 use Rattle.fc_tree_node.proofs.Lists.{all_at}
 
 module _ {K V : Type 0} where
-  woven : (ps : List (K × V)) (o : Option (List (Node K V))) → pairs_step (map-Node K V (Node K V) (List (K × V)) pairs_of (record { pairs = ps; children = o })) ≡ weave (map pairs_of (items_or_none o)) ps
+  woven : (ps : List (K × V)) (o : Option (List (Node K V))) → pairs_step
+      (map-Node K V (Node K V) (List (K × V)) pairs_of (record { pairs = ps; children = o })) ≡ weave (map pairs_of (items_or_none o)) ps
   woven ps None = refl
   woven ps (Some cs) = refl
 
@@ -21,10 +21,6 @@ module _ {K V : Type 0} where
 
   pub leaf_pairs : (n : Node K V) → IsLeaf n → pairs_of n ≡ own_pairs n
   leaf_pairs n e = pairs_is n ∙ ap (λ cs. weave (map pairs_of cs) (own_pairs n)) (leaf_children n e)
-
-  -- the child that is read at a place
-  pub child_is : (n : Node K V) (i : ℕ) (c : Node K V) → i < length (children_of n) → c ≡ get_or (children_of n) i c → c ≡ child_at n i
-  child_is n i c h e = e ∙ get_or_default (children_of n) i c n h
 
   abbrev pub IsBelow : ℕ → Node K V → Type 0
   IsBelow h c = (min_len ≤ length (own_pairs c)) × IsLevelled h c

@@ -49,7 +49,8 @@ module _ {K V : Type 0} where
       let le = s.le in
       omega arith
 
-  pub child_lent : (p : List ℕ) (n : Node K V) (cs : List (Node K V)) (c : Node K V) → IsStep p n → (out-Node K V n).children ≡ Some cs → c ≡ get_or cs (get_or p 0 0) c → c ≡ child_at n (get_or p 0 0)
+  pub child_lent : (p : List ℕ) (n : Node K V) (cs : List (Node K V)) (c : Node K V) → IsStep p n → (out-Node K V n).children ≡ Some cs
+      → c ≡ get_or cs (get_or p 0 0) c → c ≡ child_at n (get_or p 0 0)
   child_lent p n cs c s e f =
       let there = child_there p n cs s e in
       f ∙ get_or_default cs (get_or p 0 0) c n there ∙ ap (λ (o : Option (List (Node K V))). get_or (items_or_none o) (get_or p 0 0) n) (sym e)

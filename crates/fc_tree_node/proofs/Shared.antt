@@ -29,8 +29,10 @@ pub record IsBulkTrade {K V : Type 0} (n : ℕ) (l r l' r' : Node K V) (down up 
 
 module _ {K V : Type 0} where
   -- the last pair of the left goes up, and the pair in the middle to the front of the right
-  pub traded_right : (l r l' r' : Node K V) (down up : K × V) (o : Option (Node K V)) → AreAlike l r → own_pairs l ≡ own_pairs l' ++ up ∷ [] → children_of l ≡ children_of l' ++ option_to_list o → AreAlike l l'
-      → own_pairs r' ≡ down ∷ own_pairs r → children_of r' ≡ option_to_list o ++ children_of r → AreAlike r r' → IsTrade (length (own_pairs l) - 1) l r l' r' down up
+  pub traded_right : (l r l' r' : Node K V) (down up : K × V) (o : Option (Node K V)) → AreAlike l r → own_pairs l ≡ own_pairs l' ++ up ∷ []
+      → children_of l ≡ children_of l' ++ option_to_list o → AreAlike l l'
+      → own_pairs r' ≡ down ∷ own_pairs r → children_of r' ≡ option_to_list o ++ children_of r → AreAlike r r'
+      → IsTrade (length (own_pairs l) - 1) l r l' r' down up
   traded_right l r l' r' down up o a p c k q d m = record {
     own = ap (λ ps. own_pairs l' ++ up ∷ ps) q ∙ sym (append_assoc (own_pairs l') (up ∷ []) _) ∙ ap (λ ps. ps ++ down ∷ own_pairs r) (sym p);
     below = ap (λ cs. children_of l' ++ cs) d ∙ sym (append_assoc (children_of l') _ _) ∙ ap (λ cs. cs ++ children_of r) (sym c);
@@ -40,8 +42,10 @@ module _ {K V : Type 0} where
   }
 
   -- the first pair of the right goes up, and the pair in the middle to the end of the left
-  pub traded_left : (l r l' r' : Node K V) (down up : K × V) (o : Option (Node K V)) → AreAlike l r → own_pairs r ≡ up ∷ own_pairs r' → children_of r ≡ option_to_list o ++ children_of r' → AreAlike r r'
-      → own_pairs l' ≡ own_pairs l ++ down ∷ [] → children_of l' ≡ children_of l ++ option_to_list o → AreAlike l l' → IsTrade (length (own_pairs l) + 1) l r l' r' down up
+  pub traded_left : (l r l' r' : Node K V) (down up : K × V) (o : Option (Node K V)) → AreAlike l r → own_pairs r ≡ up ∷ own_pairs r'
+      → children_of r ≡ option_to_list o ++ children_of r' → AreAlike r r'
+      → own_pairs l' ≡ own_pairs l ++ down ∷ [] → children_of l' ≡ children_of l ++ option_to_list o → AreAlike l l'
+      → IsTrade (length (own_pairs l) + 1) l r l' r' down up
   traded_left l r l' r' down up o a p c k q d m = record {
     own = ap (λ ps. ps ++ up ∷ own_pairs r') q ∙ append_assoc (own_pairs l) (down ∷ []) _ ∙ ap (λ ps. own_pairs l ++ down ∷ ps) (sym p);
     below = ap (λ cs. cs ++ children_of r') d ∙ append_assoc (children_of l) _ _ ∙ ap (λ cs. children_of l ++ cs) (sym c);
@@ -67,7 +71,8 @@ module _ {K V : Type 0} (old : Node K V) (i : ℕ) (bs : List (Node K V)) (e : (
   pub kept_child : (cs : List (Node K V)) (n : Node K V) → i + 1 < length bs → cs ≡ remove bs (i + 1) → n ≡ get_or cs i n → n ≡ child_at old i
   kept_child cs n h c p = listed_child i n (omega arith) (p ∙ ap (λ xs. get_or xs i n) c ∙ get_or-remove_below bs (i + 1) n i (omega arith) h)
 
-  pub share_made : (n : ℕ) (b b' : Node K V) (s d : K × V) (ps : List (K × V)) → i < length (own_pairs old) → ps ≡ slice_set (own_pairs old) i s → d ≡ get_or (own_pairs old) i d
+  pub share_made : (n : ℕ) (b b' : Node K V) (s d : K × V) (ps : List (K × V)) → i < length (own_pairs old) → ps ≡ slice_set (own_pairs old) i s
+      → d ≡ get_or (own_pairs old) i d
       → IsTrade n (child_at old i) (child_at old (i + 1)) b b' d s
       → IsShared i n old (roll-Node K V (record { pairs = ps; children = Some (slice_set (slice_set bs i b) (i + 1) b') }))
   share_made n b b' s d ps h p q t = record {
@@ -84,15 +89,18 @@ module _ {K V : Type 0} (old : Node K V) (i : ℕ) (bs : List (Node K V)) (e : (
   }
 
   -- the two came back in the other order
-  pub share_made_back : (n : ℕ) (b b' : Node K V) (s d : K × V) (ps : List (K × V)) → i < length (own_pairs old) → ps ≡ slice_set (own_pairs old) i s → d ≡ get_or (own_pairs old) i d
+  pub share_made_back : (n : ℕ) (b b' : Node K V) (s d : K × V) (ps : List (K × V)) → i < length (own_pairs old) → ps ≡ slice_set (own_pairs old) i s
+      → d ≡ get_or (own_pairs old) i d
       → IsTrade n (child_at old i) (child_at old (i + 1)) b b' d s
       → IsShared i n old (roll-Node K V (record { pairs = ps; children = Some (slice_set (slice_set bs (i + 1) b') i b) }))
   share_made_back n b b' s d ps h p q t =
       subst (λ cs. IsShared i n old (roll-Node K V (record { pairs = ps; children = Some cs }))) (sym (set_next bs i b b')) (share_made n b b' s d ps h p q t)
 
   -- the child at i + 1 was taken out, and the one at i came back with all of it
-  pub merge_made : (b : Node K V) (d : K × V) (ps : List (K × V)) (cs : List (Node K V)) → i < length (own_pairs old) → ps ≡ remove (own_pairs old) i → cs ≡ remove bs (i + 1) → d ≡ get_or (own_pairs old) i d
-      → own_pairs b ≡ own_pairs (child_at old i) ++ d ∷ own_pairs (child_at old (i + 1)) → children_of b ≡ children_of (child_at old i) ++ children_of (child_at old (i + 1)) → AreAlike (child_at old i) b
+  pub merge_made : (b : Node K V) (d : K × V) (ps : List (K × V)) (cs : List (Node K V)) → i < length (own_pairs old) → ps ≡ remove (own_pairs old) i
+      → cs ≡ remove bs (i + 1) → d ≡ get_or (own_pairs old) i d
+      → own_pairs b ≡ own_pairs (child_at old i) ++ d ∷ own_pairs (child_at old (i + 1))
+      → children_of b ≡ children_of (child_at old i) ++ children_of (child_at old (i + 1)) → AreAlike (child_at old i) b
       → IsMerged i old (roll-Node K V (record { pairs = ps; children = Some (slice_set cs i b) }))
   merge_made b d ps cs h p c q own below alike = record {
     whole = b;
@@ -104,7 +112,8 @@ module _ {K V : Type 0} (old : Node K V) (i : ℕ) (bs : List (Node K V)) (e : (
   }
 
   -- the child at i + 1 was taken out and put back, and the one at i was lent
-  pub bulk_made : (n : ℕ) (b b' : Node K V) (up : K × V → K × V) (ps : List (K × V)) (cs₀ cs : List (Node K V)) → i < length (own_pairs old) → i + 1 < length bs → ((d : K × V) → ps ≡ slice_set (own_pairs old) i (up d))
+  pub bulk_made : (n : ℕ) (b b' : Node K V) (up : K × V → K × V) (ps : List (K × V)) (cs₀ cs : List (Node K V)) → i < length (own_pairs old)
+      → i + 1 < length bs → ((d : K × V) → ps ≡ slice_set (own_pairs old) i (up d))
       → cs₀ ≡ remove bs (i + 1) → cs ≡ insert (slice_set cs₀ i b) (i + 1) b'
       → IsBulkTrade n (child_at old i) (child_at old (i + 1)) b b' (get_or (own_pairs old) i) up
       → IsShared i n old (roll-Node K V (record { pairs = ps; children = Some cs }))
@@ -112,5 +121,6 @@ module _ {K V : Type 0} (old : Node K V) (i : ℕ) (bs : List (Node K V)) (e : (
       let d₀ : K × V = item_in (own_pairs old) (omega arith) in
       let d : K × V = get_or (own_pairs old) i d₀ in
       let u = get_or_default (own_pairs old) i d₀ d h in
-      subst (λ xs. IsShared i n old (roll-Node K V (record { pairs = ps; children = Some xs }))) (sym (q ∙ ap (λ xs. insert (slice_set xs i b) (i + 1) b') q₀ ∙ set_around bs i b b' k))
+      subst (λ xs. IsShared i n old (roll-Node K V (record { pairs = ps; children = Some xs })))
+      (sym (q ∙ ap (λ xs. insert (slice_set xs i b) (i + 1) b') q₀ ∙ set_around bs i b b' k))
       (share_made n b b' (up d₀) d ps h (p d₀) u (record { own = t.own d₀; below = t.below; size = t.size; alike = t.alike.1; before = t.alike.0 }))

@@ -1,5 +1,6 @@
 -- What a trade between two neighbouring children, or their merge, leaves of all pairs and of the levels.
-use Rattle.std.proofs.Common.{◌≡◌, ℕ, suc, zero, ◌+◌, ◌<◌, ◌≤◌, List, [], ◌∷◌, ◌++◌, length, get_or, map, take, drop, refl, sym, subst, ap, ◌∙◌, arith, append_assoc, length-append, add-one, inl, inr}
+use Rattle.std.proofs.Common.{◌≡◌, ℕ, suc, zero, ◌+◌, ◌<◌, ◌≤◌, List, [], ◌∷◌, ◌++◌, length, get_or, map, take, drop, refl, sym, subst, ap, ◌∙◌, arith}
+use Rattle.std.proofs.Common.{append_assoc, length-append, add-one, inl, inr}
 use Rattle.std.specs.Prelude.{slice_set}
 use Rattle.std.specs.List.{AllByRecursion, remove}
 use Rattle.std.proofs.lemmas.List.{length-map, map-append}
@@ -55,10 +56,12 @@ module _ {X : Type 0} where
 
 module _ {K V : Type 0} where
   -- two nodes and a pair between them hold what one node of both their parts would
-  pub joined_pairs : (l r : Node K V) (s : K × V) → AreAlike l r → pairs_of l ++ s ∷ pairs_of r ≡ weave (map pairs_of (children_of l ++ children_of r)) (own_pairs l ++ s ∷ own_pairs r)
+  pub joined_pairs : (l r : Node K V) (s : K × V) → AreAlike l r → pairs_of l ++ s ∷ pairs_of r
+      ≡ weave (map pairs_of (children_of l ++ children_of r)) (own_pairs l ++ s ∷ own_pairs r)
   joined_pairs l r s (inl a) =
       ap (λ ps. ps ++ s ∷ pairs_of r) (leaf_pairs l a.0) ∙ ap (λ ps. own_pairs l ++ s ∷ ps) (leaf_pairs r a.1)
-      ∙ sym (ap (λ cs. weave (map pairs_of (cs ++ children_of r)) (own_pairs l ++ s ∷ own_pairs r)) (leaf_children l a.0) ∙ ap (λ cs. weave (map pairs_of cs) (own_pairs l ++ s ∷ own_pairs r)) (leaf_children r a.1))
+      ∙ sym (ap (λ cs. weave (map pairs_of (cs ++ children_of r)) (own_pairs l ++ s ∷ own_pairs r)) (leaf_children l a.0)
+      ∙ ap (λ cs. weave (map pairs_of cs) (own_pairs l ++ s ∷ own_pairs r)) (leaf_children r a.1))
   joined_pairs l r s (inr a) =
       let m : length (map pairs_of (children_of l)) ≡ length (own_pairs l) + 1 = length-map (children_of l) pairs_of ∙ a.0 in
       let k₀ : length (children_of r) ≡ length (own_pairs r) + 1 = a.1 in
@@ -69,24 +72,34 @@ module _ {K V : Type 0} where
       ∙ ap (λ cs. weave cs (own_pairs l ++ s ∷ own_pairs r)) (sym (map-append pairs_of (children_of l) (children_of r)))
 
   -- all pairs, around a child
-  pub around_one : (n c : Node K V) (A D : List (Node K V)) (P Q : List (K × V)) → children_of n ≡ A ++ c ∷ D → own_pairs n ≡ P ++ Q → length A ≡ length P → pairs_of n ≡ before_list (map pairs_of A) P ++ (pairs_of c ++ after_list Q (map pairs_of D))
+  pub around_one : (n c : Node K V) (A D : List (Node K V)) (P Q : List (K × V)) → children_of n ≡ A ++ c ∷ D → own_pairs n ≡ P ++ Q → length A ≡ length P
+      → pairs_of n ≡ before_list (map pairs_of A) P ++ (pairs_of c ++ after_list Q (map pairs_of D))
   around_one n c A D P Q e f h =
-      pairs_is n ∙ ap (λ cs. weave (map pairs_of cs) (own_pairs n)) e ∙ ap (λ ps. weave (map pairs_of (A ++ c ∷ D)) ps) f ∙ ap (λ cs. weave cs (P ++ Q)) (map-append pairs_of A (c ∷ D))
+      pairs_is n ∙ ap (λ cs. weave (map pairs_of cs) (own_pairs n)) e ∙ ap (λ ps. weave (map pairs_of (A ++ c ∷ D)) ps) f
+      ∙ ap (λ cs. weave cs (P ++ Q)) (map-append pairs_of A (c ∷ D))
       ∙ weave_at (map pairs_of A) (pairs_of c) (map pairs_of D) P Q (length-map A pairs_of ∙ h)
 
   -- all pairs, around two children and the pair between them
-  pub around_two : (n l r : Node K V) (s : K × V) (A D : List (Node K V)) (P Q : List (K × V)) → children_of n ≡ A ++ l ∷ r ∷ D → own_pairs n ≡ P ++ s ∷ Q → length A ≡ length P
+  pub around_two : (n l r : Node K V) (s : K × V) (A D : List (Node K V)) (P Q : List (K × V)) → children_of n ≡ A ++ l ∷ r ∷ D → own_pairs n ≡ P ++ s ∷ Q
+      → length A ≡ length P
       → pairs_of n ≡ before_list (map pairs_of A) P ++ ((pairs_of l ++ s ∷ pairs_of r) ++ after_list Q (map pairs_of D))
   around_two n l r s A D P Q e f h =
       around_one n l A (r ∷ D) P (s ∷ Q) e f h ∙ ap (λ ps. before_list (map pairs_of A) P ++ ps) (sym (append_assoc (pairs_of l) (s ∷ pairs_of r) _))
 
-  pub whole_level : (k : ℕ) (l r w : Node K V) → IsLevelled k l → IsLevelled k r → children_of w ≡ children_of l ++ children_of r → AreAlike l w → length (own_pairs w) ≤ capacity → IsLevelled k w
+  pub whole_level : (k : ℕ) (l r w : Node K V) → IsLevelled k l → IsLevelled k r → children_of w ≡ children_of l ++ children_of r → AreAlike l w
+      → length (own_pairs w) ≤ capacity → IsLevelled k w
   whole_level zero l r w a b e (inl x) h = (h, x.1)
   whole_level zero l r w a b e (inr x) h = absurd (leaf_or_inner l a.1 x.0)
   whole_level (suc k) l r w a b e (inl x) h = absurd (leaf_or_inner l x.0 a.1)
-  whole_level (suc k) l r w a b e (inr x) h = (h, x.1, subst (AllByRecursion (IsBelow k)) (sym e) (all_both (IsBelow k) (children_of l) (children_of r) a.2 b.2))
+  whole_level (suc k) l r w a b e (inr x) h = (
+    h,
+    x.1,
+    subst (AllByRecursion (IsBelow k)) (sym e)
+        (all_both (IsBelow k) (children_of l) (children_of r) a.2 b.2),
+  )
 
-  pub both_levels : (k : ℕ) (l r l' r' : Node K V) → IsLevelled k l → IsLevelled k r → children_of l' ++ children_of r' ≡ children_of l ++ children_of r → AreAlike l l' → AreAlike l' r'
+  pub both_levels : (k : ℕ) (l r l' r' : Node K V) → IsLevelled k l → IsLevelled k r → children_of l' ++ children_of r' ≡ children_of l ++ children_of r
+      → AreAlike l l' → AreAlike l' r'
       → length (own_pairs l') ≤ capacity → length (own_pairs r') ≤ capacity → IsLevelled k l' × IsLevelled k r'
   both_levels k l r l' r' a b e (inl x) (inr y) h₁ h₂ = absurd (leaf_or_inner l' x.1 y.0)
   both_levels k l r l' r' a b e (inr x) (inl y) h₁ h₂ = absurd (leaf_or_inner l' y.0 x.1)
@@ -114,34 +127,44 @@ module _ {K V : Type 0} where
     next : i + 1 < length (children_of old)
     next = let n : length (children_of old) ≡ length (own_pairs old) + 1 = inner in omega arith
 
-    pub old_pairs : (d : K × V) → pairs_of old ≡ before_list (map pairs_of (take i (children_of old))) (take i (own_pairs old)) ++ ((pairs_of L ++ get_or (own_pairs old) i d ∷ pairs_of R) ++ after_list (drop (suc i) (own_pairs old)) (map pairs_of (drop (suc (suc i)) (children_of old))))
+    pub old_pairs : (d : K × V) → pairs_of old ≡ before_list (map pairs_of (take i (children_of old))) (take i (own_pairs old))
+        ++ ((pairs_of L ++ get_or (own_pairs old) i d ∷ pairs_of R) ++ after_list (drop (suc i) (own_pairs old))
+        (map pairs_of (drop (suc (suc i)) (children_of old))))
     old_pairs d = around_two old L R (get_or (own_pairs old) i d) _ _ _ _ (two_at (children_of old) i old next) (one_at (own_pairs old) i d h) lengths
 
     pub shared_pairs : (n : ℕ) (new : Node K V) → AreAlike L R → IsShared i n old new → pairs_of new ≡ pairs_of old
     shared_pairs n new alike s =
-        let e = joined_pairs s.left s.right s.between s.alike ∙ ap (λ cs. weave (map pairs_of cs) (own_pairs s.left ++ s.between ∷ own_pairs s.right)) s.below ∙ ap (λ ps. weave (map pairs_of (children_of L ++ children_of R)) ps) (s.own s.between) ∙ sym (joined_pairs L R (get_or (own_pairs old) i s.between) alike) in
-        around_two new s.left s.right s.between _ _ _ _ (s.children ∙ set_two (children_of old) i s.left s.right next) (s.pairs ∙ set_is (own_pairs old) i s.between h) lengths
-        ∙ ap (λ ps. before_list (map pairs_of (take i (children_of old))) (take i (own_pairs old)) ++ (ps ++ after_list (drop (suc i) (own_pairs old)) (map pairs_of (drop (suc (suc i)) (children_of old))))) e
+        let e = joined_pairs s.left s.right s.between s.alike ∙ ap (λ cs. weave (map pairs_of cs) (own_pairs s.left ++ s.between ∷ own_pairs s.right)) s.below
+        ∙ ap (λ ps. weave (map pairs_of (children_of L ++ children_of R)) ps) (s.own s.between)
+        ∙ sym (joined_pairs L R (get_or (own_pairs old) i s.between) alike) in
+        around_two new s.left s.right s.between _ _ _ _ (s.children ∙ set_two (children_of old) i s.left s.right next)
+        (s.pairs ∙ set_is (own_pairs old) i s.between h) lengths
+        ∙ ap (λ ps. before_list (map pairs_of (take i (children_of old))) (take i (own_pairs old))
+        ++ (ps ++ after_list (drop (suc i) (own_pairs old)) (map pairs_of (drop (suc (suc i)) (children_of old))))) e
         ∙ sym (old_pairs s.between)
 
     pub merged_pairs : (new : Node K V) (d : K × V) → AreAlike L R → IsMerged i old new → pairs_of new ≡ pairs_of old
     merged_pairs new d alike s =
-        let e = pairs_is s.whole ∙ ap (λ cs. weave (map pairs_of cs) (own_pairs s.whole)) s.below ∙ ap (λ ps. weave (map pairs_of (children_of L ++ children_of R)) ps) (s.own d) ∙ sym (joined_pairs L R (get_or (own_pairs old) i d) alike) in
+        let e = pairs_is s.whole ∙ ap (λ cs. weave (map pairs_of cs) (own_pairs s.whole)) s.below
+        ∙ ap (λ ps. weave (map pairs_of (children_of L ++ children_of R)) ps) (s.own d) ∙ sym (joined_pairs L R (get_or (own_pairs old) i d) alike) in
         around_one new s.whole _ _ _ _ (s.children ∙ set_removed (children_of old) i s.whole next) (s.pairs ∙ remove_is (own_pairs old) i h) lengths
-        ∙ ap (λ ps. before_list (map pairs_of (take i (children_of old))) (take i (own_pairs old)) ++ (ps ++ after_list (drop (suc i) (own_pairs old)) (map pairs_of (drop (suc (suc i)) (children_of old))))) e
+        ∙ ap (λ ps. before_list (map pairs_of (take i (children_of old))) (take i (own_pairs old))
+        ++ (ps ++ after_list (drop (suc i) (own_pairs old)) (map pairs_of (drop (suc (suc i)) (children_of old))))) e
         ∙ sym (old_pairs d)
 
     pub shared_inner : (n : ℕ) (new : Node K V) → IsShared i n old new → IsInner new
     shared_inner n new s =
         let a : length (own_pairs new) ≡ length (own_pairs old) = ap length s.pairs ∙ length_set (own_pairs old) i s.between in
-        let b : length (children_of new) ≡ length (children_of old) = ap length s.children ∙ length_set (slice_set (children_of old) i s.left) (i + 1) s.right ∙ length_set (children_of old) i s.left in
+        let b : length (children_of new) ≡ length (children_of old) = ap length s.children ∙ length_set (slice_set (children_of old) i s.left) (i + 1) s.right
+        ∙ length_set (children_of old) i s.left in
         let n : length (children_of old) ≡ length (own_pairs old) + 1 = inner in
         omega arith
 
     pub merged_inner : (new : Node K V) → IsMerged i old new → IsInner new
     merged_inner new s =
         let a : length (own_pairs new) + 1 ≡ length (own_pairs old) = ap (λ ps. length ps + 1) s.pairs ∙ length-remove (own_pairs old) i h in
-        let b₀ : length (children_of new) ≡ length (remove (children_of old) (i + 1)) = ap length s.children ∙ length_set (remove (children_of old) (i + 1)) i s.whole in
+        let b₀ : length (children_of new) ≡ length (remove (children_of old) (i + 1)) = ap length s.children
+        ∙ length_set (remove (children_of old) (i + 1)) i s.whole in
         let b : length (remove (children_of old) (i + 1)) + 1 ≡ length (children_of old) = length-remove (children_of old) (i + 1) next in
         let n : length (children_of old) ≡ length (own_pairs old) + 1 = inner in
         omega arith
@@ -152,21 +175,32 @@ module _ {K V : Type 0} where
 
     -- the node is levelled once both of the two have as many pairs as a node below the root
     pub shared_levels : (k n : ℕ) (new : Node K V) → length (own_pairs old) ≤ capacity → OthersBelow k → IsLevelled k L → IsLevelled k R → IsShared i n old new
-        → min_len ≤ n → n ≤ capacity → n + min_len ≤ length (own_pairs L) + length (own_pairs R) → length (own_pairs L) + length (own_pairs R) ≤ n + capacity → IsLevelled (suc k) new
+        → min_len ≤ n → n ≤ capacity → n + min_len ≤ length (own_pairs L) + length (own_pairs R) → length (own_pairs L) + length (own_pairs R) ≤ n + capacity
+        → IsLevelled (suc k) new
     shared_levels k n new fits others l r s m₁ m₂ m₃ m₄ =
         let p : length (own_pairs new) ≡ length (own_pairs old) = ap length s.pairs ∙ length_set (own_pairs old) i s.between in
-        let q : length (own_pairs s.left ++ s.between ∷ own_pairs s.right) ≡ length (own_pairs L ++ get_or (own_pairs old) i s.between ∷ own_pairs R) = ap length (s.own s.between) in
+        let q : length (own_pairs s.left ++ s.between ∷ own_pairs s.right) ≡ length (own_pairs L ++ get_or (own_pairs old) i s.between ∷ own_pairs R) =
+        ap length (s.own s.between) in
         let a = length-append (own_pairs s.left) (s.between ∷ own_pairs s.right) in
         let b = length-append (own_pairs L) (get_or (own_pairs old) i s.between ∷ own_pairs R) in
         let z = s.size in
-        let c = both_levels k L R s.left s.right l r s.below s.alike_before s.alike (omega arith) (omega arith) in
-        (omega arith, shared_inner n new s, subst (AllByRecursion (IsBelow k)) (sym (s.children ∙ set_two (children_of old) i s.left s.right next)) (all_both (IsBelow k) (take i (children_of old)) _ others.0 ((omega arith, c.0), ((omega arith, c.1), others.1))))
+        let c = both_levels k L R s.left s.right l r s.below s.alike_before s.alike (omega arith) (omega arith) in (
+          omega arith,
+          shared_inner n new s,
+          subst (AllByRecursion (IsBelow k)) (sym (s.children ∙ set_two (children_of old) i s.left s.right next))
+              (all_both (IsBelow k) (take i (children_of old)) _ others.0 ((omega arith, c.0), ((omega arith, c.1), others.1))),
+        )
 
-    pub merged_levels : (k : ℕ) (new : Node K V) (d : K × V) → length (own_pairs old) ≤ capacity → OthersBelow k → IsLevelled k L → IsLevelled k R → IsMerged i old new
+    pub merged_levels : (k : ℕ) (new : Node K V) (d : K × V) → length (own_pairs old) ≤ capacity → OthersBelow k → IsLevelled k L → IsLevelled k R
+        → IsMerged i old new
         → min_len ≤ length (own_pairs L) + length (own_pairs R) + 1 → length (own_pairs L) + length (own_pairs R) + 1 ≤ capacity → IsLevelled (suc k) new
     merged_levels k new d fits others l r s m₁ m₂ =
         let p : length (own_pairs new) + 1 ≡ length (own_pairs old) = ap (λ ps. length ps + 1) s.pairs ∙ length-remove (own_pairs old) i h in
         let q : length (own_pairs s.whole) ≡ length (own_pairs L ++ get_or (own_pairs old) i d ∷ own_pairs R) = ap length (s.own d) in
         let b = length-append (own_pairs L) (get_or (own_pairs old) i d ∷ own_pairs R) in
-        let c = whole_level k L R s.whole l r s.below s.alike (omega arith) in
-        (omega arith, merged_inner new s, subst (AllByRecursion (IsBelow k)) (sym (s.children ∙ set_removed (children_of old) i s.whole next)) (all_both (IsBelow k) (take i (children_of old)) _ others.0 ((omega arith, c), others.1)))
+        let c = whole_level k L R s.whole l r s.below s.alike (omega arith) in (
+          omega arith,
+          merged_inner new s,
+          subst (AllByRecursion (IsBelow k)) (sym (s.children ∙ set_removed (children_of old) i s.whole next))
+              (all_both (IsBelow k) (take i (children_of old)) _ others.0 ((omega arith, c), others.1)),
+        )

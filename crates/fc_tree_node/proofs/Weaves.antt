@@ -9,7 +9,8 @@ module _ {X : Type 0} where
   after_nil (p ∷ ps) = refl
 
   -- at a list
-  pub weave_at : (cs : List (List X)) (c : List X) (ds : List (List X)) (ps qs : List X) → length cs ≡ length ps → weave (cs ++ c ∷ ds) (ps ++ qs) ≡ before_list cs ps ++ (c ++ after_list qs ds)
+  pub weave_at : (cs : List (List X)) (c : List X) (ds : List (List X)) (ps qs : List X) → length cs ≡ length ps
+      → weave (cs ++ c ∷ ds) (ps ++ qs) ≡ before_list cs ps ++ (c ++ after_list qs ds)
   weave_at [] c ds [] qs e = refl
   weave_at [] c ds (p ∷ ps) qs e = absurd (omega arith)
   weave_at (b ∷ cs) c ds [] qs e = absurd (omega arith)
@@ -20,7 +21,8 @@ module _ {X : Type 0} where
       ap (λ zs. b ++ p ∷ zs) i ∙ sym (append_assoc b (p ∷ before_list (d ∷ cs) ps) _)
 
   -- at an item: before it a list more than items
-  pub weave_join : (c : List X) (cs : List (List X)) (d : List X) (ds : List (List X)) (ps : List X) (m : X) (qs : List X) → length cs ≡ length ps → weave ((c ∷ cs) ++ (d ∷ ds)) (ps ++ m ∷ qs) ≡ weave (c ∷ cs) ps ++ m ∷ weave (d ∷ ds) qs
+  pub weave_join : (c : List X) (cs : List (List X)) (d : List X) (ds : List (List X)) (ps : List X) (m : X) (qs : List X) → length cs ≡ length ps
+      → weave ((c ∷ cs) ++ (d ∷ ds)) (ps ++ m ∷ qs) ≡ weave (c ∷ cs) ps ++ m ∷ weave (d ∷ ds) qs
   weave_join c [] d ds [] m qs e = ap (λ zs. zs ++ m ∷ (d ++ after_list qs ds)) (sym (append-nil c))
   weave_join c [] d ds (p ∷ ps) m qs e = absurd (omega arith)
   weave_join c (b ∷ cs) d ds [] m qs e = absurd (omega arith)
@@ -28,7 +30,8 @@ module _ {X : Type 0} where
       let i = weave_join b cs d ds ps m qs (omega arith) in
       ap (λ zs. c ++ p ∷ zs) i ∙ sym (append_assoc c (p ∷ (b ++ after_list ps cs)) _)
 
-  pub weave_parts : (cs ds : List (List X)) (ps : List X) (m : X) (qs : List X) → length cs ≡ length ps + 1 → 0 < length ds → weave (cs ++ ds) (ps ++ m ∷ qs) ≡ weave cs ps ++ m ∷ weave ds qs
+  pub weave_parts : (cs ds : List (List X)) (ps : List X) (m : X) (qs : List X) → length cs ≡ length ps + 1 → 0 < length ds
+      → weave (cs ++ ds) (ps ++ m ∷ qs) ≡ weave cs ps ++ m ∷ weave ds qs
   weave_parts [] ds ps m qs e h = absurd (omega arith)
   weave_parts (c ∷ cs) [] ps m qs e h = absurd (omega arith)
   weave_parts (c ∷ cs) (d ∷ ds) ps m qs e h = weave_join c cs d ds ps m qs (omega arith)
@@ -37,7 +40,8 @@ module _ {X : Type 0} where
   after_own_more [] ds [] qs e = refl
   after_own_more [] ds (p ∷ ps) qs e = absurd (omega arith)
   after_own_more (c ∷ cs) ds [] qs e = absurd (omega arith)
-  after_own_more (c ∷ cs) ds (p ∷ ps) qs e = ap (λ zs. p ∷ (c ++ zs)) (after_own_more cs ds ps qs (omega arith)) ∙ ap (λ zs. p ∷ zs) (sym (append_assoc c (after_list ps cs) _))
+  after_own_more (c ∷ cs) ds (p ∷ ps) qs e = ap (λ zs. p ∷ (c ++ zs)) (after_own_more cs ds ps qs (omega arith))
+      ∙ ap (λ zs. p ∷ zs) (sym (append_assoc c (after_list ps cs) _))
 
   -- more items, each with a list after it, after a list more than items
   pub weave_more : (cs ds : List (List X)) (ps qs : List X) → length cs ≡ length ps + 1 → weave (cs ++ ds) (ps ++ qs) ≡ weave cs ps ++ after_list qs ds

@@ -25,12 +25,14 @@ module _ {K V : Type 0} where
     pub before : AllByRecursion (IsSound h) (take i (children_of n))
     pub after : AllByRecursion (IsSound h) (drop (suc (suc i)) (children_of n))
 
-  all_next : (P : Node K V → Type 0) (cs : List (Node K V)) (i : ℕ) (d : Node K V) → i < length cs → AllByRecursion P (drop i cs) → P (get_or cs i d) × AllByRecursion P (drop (suc i) cs)
+  all_next : (P : Node K V → Type 0) (cs : List (Node K V)) (i : ℕ) (d : Node K V) → i < length cs → AllByRecursion P (drop i cs)
+      → P (get_or cs i d) × AllByRecursion P (drop (suc i) cs)
   all_next P [] i d h a = absurd (omega arith)
   all_next P (c ∷ cs) zero d h a = (a.0, a.1)
   all_next P (c ∷ cs) (suc i) d h a = all_next P cs i d (omega arith) a
 
-  all_last : (P : Node K V → Type 0) (cs : List (Node K V)) (i : ℕ) (d : Node K V) → i < length cs → AllByRecursion P (take (suc i) cs) → P (get_or cs i d) × AllByRecursion P (take i cs)
+  all_last : (P : Node K V → Type 0) (cs : List (Node K V)) (i : ℕ) (d : Node K V) → i < length cs → AllByRecursion P (take (suc i) cs)
+      → P (get_or cs i d) × AllByRecursion P (take i cs)
   all_last P [] i d h a = absurd (omega arith)
   all_last P (c ∷ cs) zero d h a = (a.0, tt)
   all_last P (c ∷ cs) (suc i) d h a = let r = all_last P cs i d (omega arith) a.1 in (r.0, (a.0, r.1))
@@ -43,7 +45,18 @@ module _ {K V : Type 0} where
       let f : j ≡ 0 = omega arith in
       let r = all_next (IsSound h) (children_of n) 1 n (omega arith) s.after in
       let r₀ = r.0.0 in
-      subst (λ m. IsPairAt h n m) (sym f) (record { in_bounds = omega arith; fits = s.fits; inner = s.inner; left = s.levels; right = r.0.1; left_length = s.short; right_length = omega arith; before = tt; after = r.1 })
+      subst (λ m. IsPairAt h n m) (sym f) (record {
+        in_bounds = omega arith;
+        fits = s.fits;
+        inner = s.inner;
+        left = s.levels;
+        right = r.0.1;
+        left_length =
+            s.short;
+        right_length = omega arith;
+        before = tt;
+        after = r.1;
+      })
   pair_short h n (suc i) j e s =
       let k : length (children_of n) ≡ length (own_pairs n) + 1 = s.inner in
       let le = s.place in
@@ -74,15 +87,20 @@ module _ {K V : Type 0} where
       let o' = length-remove (own_pairs old) i p.in_bounds in
       (merged_levels old i p.inner p.in_bounds h new d p.fits (p.before, p.after) p.left p.right m (omega arith) (omega arith), (omega arith, omega arith))
 
-  pub stolen_mended : (h : ℕ) (old new : Node K V) (i k : ℕ) → IsPairAt h old i → min_len ≤ k → k ≤ capacity → k + 1 + min_len ≤ together old i → together old i ≤ k + 1 + capacity → IsShared i k old new → IsShrunk (suc h) old new
+  pub stolen_mended : (h : ℕ) (old new : Node K V) (i k : ℕ) → IsPairAt h old i → min_len ≤ k → k ≤ capacity → k + 1 + min_len ≤ together old i
+      → together old i ≤ k + 1 + capacity → IsShared i k old new → IsShrunk (suc h) old new
   stolen_mended h old new i k p lo hi lo' hi' s =
-      let o = ap length s.pairs ∙ length_set (own_pairs old) i s.between in
-      (shared_levels old i p.inner p.in_bounds h k new p.fits (p.before, p.after) p.left p.right s lo hi (omega arith) (omega arith), (omega arith, omega arith))
+      let o = ap length s.pairs ∙ length_set (own_pairs old) i s.between in (
+        shared_levels old i p.inner p.in_bounds h k new p.fits (p.before, p.after) p.left p.right s lo hi (omega arith) (omega arith),
+        (omega arith, omega arith),
+      )
 
   -- the child was not short
   pub whole_levels : (h : ℕ) (n : Node K V) (i : ℕ) → IsShortAt h n i → min_len ≤ length (own_pairs (child_at n i)) → IsShrunk (suc h) n n
   whole_levels h n i s le =
       let k : length (children_of n) ≡ length (own_pairs n) + 1 = s.inner in
       let pl = s.place in
-      let e = one_at (children_of n) i n (omega arith) in
-      ((s.fits, s.inner, subst (AllByRecursion (IsSound h)) (sym e) (all_both (IsSound h) (take i (children_of n)) _ s.before ((le, s.levels), s.after))), (omega arith, omega arith))
+      let e = one_at (children_of n) i n (omega arith) in (
+        (s.fits, s.inner, subst (AllByRecursion (IsSound h)) (sym e) (all_both (IsSound h) (take i (children_of n)) _ s.before ((le, s.levels), s.after))),
+        (omega arith, omega arith),
+      )

@@ -1,5 +1,6 @@
 -- A node from which a pair was removed, by what is left below it.
-use Rattle.std.proofs.Common.{length-append, ◌≡◌, ℕ, suc, zero, ◌+◌, ◌-◌, ◌<◌, ◌≤◌, List, [], ◌∷◌, ◌++◌, length, get_or, map, take, drop, refl, sym, ap, subst, ◌∙◌, arith, append_assoc, add-one, append-nil, inr, Some}
+use Rattle.std.proofs.Common.{length-append, ◌≡◌, ℕ, suc, zero, ◌+◌, ◌-◌, ◌<◌, ◌≤◌, List, [], ◌∷◌, ◌++◌, length, get_or, map, take, drop, refl, sym, ap, subst}
+use Rattle.std.proofs.Common.{◌∙◌, arith, append_assoc, add-one, append-nil, inr, Some}
 use Rattle.std.specs.Prelude.{slice_set, slice_range, slice_get, ◌⊎◌}
 use Rattle.std.specs.List.{AllByRecursion, remove}
 use Rattle.std.proofs.lemmas.List.Edits.{length-remove}
@@ -67,7 +68,8 @@ module _ {K V : Type 0} where
       let z : length (children_of n) ≡ 0 = ap length (leaf_children n e) in
       absurd (omega arith)
 
-  pub leaf_shrunk : (h : ℕ) (old new : Node K V) (i : ℕ) → IsLeaf old → IsLevelled h old → i < length (own_pairs old) → own_pairs new ≡ remove (own_pairs old) i → IsLeaf new → IsShrunk h old new
+  pub leaf_shrunk : (h : ℕ) (old new : Node K V) (i : ℕ) → IsLeaf old → IsLevelled h old → i < length (own_pairs old)
+      → own_pairs new ≡ remove (own_pairs old) i → IsLeaf new → IsShrunk h old new
   leaf_shrunk h old new i e l lt f e' =
       let z = none_leaf h old e l in
       let fits : length (own_pairs old) ≤ capacity = (subst (λ k. IsLevelled k old) z l).0 in
@@ -145,34 +147,44 @@ module _ {K V : Type 0} where
     lent_mended new some m s f = came_mended _ new (ap length m.same) (f (lent_short some m s))
 
   -- the pairs of a node with another child
-  pub set_gap : (old mid c : Node K V) (i : ℕ) → IsInner old → i ≤ length (own_pairs old) → IsChildSet old mid i c → pairs_of mid ≡ before_child old i ++ (pairs_of c ++ after_child old i)
+  pub set_gap : (old mid c : Node K V) (i : ℕ) → IsInner old → i ≤ length (own_pairs old) → IsChildSet old mid i c
+      → pairs_of mid ≡ before_child old i ++ (pairs_of c ++ after_child old i)
   set_gap old mid c i inner le m =
       let k : length (children_of old) ≡ length (own_pairs old) + 1 = inner in
-      around_one mid c (take i (children_of old)) (drop (suc i) (children_of old)) (take i (own_pairs old)) (drop i (own_pairs old)) (m.child ∙ set_is (children_of old) i c (omega arith)) (m.same ∙ sym (take_drop i (own_pairs old)))
+      around_one mid c (take i (children_of old)) (drop (suc i) (children_of old)) (take i (own_pairs old)) (drop i (own_pairs old))
+      (m.child ∙ set_is (children_of old) i c (omega arith)) (m.same ∙ sym (take_drop i (own_pairs old)))
       (length_take i (children_of old) (omega arith) ∙ sym (length_take i (own_pairs old) le))
 
-  pub first_removed : (old mid child c : Node K V) (x : K × V) → IsInner old → IsChildSet old mid 0 c → child ≡ child_at old 0 → pairs_of child ≡ x ∷ pairs_of c → pairs_of old ≡ x ∷ pairs_of mid
+  pub first_removed : (old mid child c : Node K V) (x : K × V) → IsInner old → IsChildSet old mid 0 c → child ≡ child_at old 0
+      → pairs_of child ≡ x ∷ pairs_of c → pairs_of old ≡ x ∷ pairs_of mid
   first_removed old mid child c x inner m ci e =
-      inner_gap old 0 inner (omega arith) ∙ ap (λ n. pairs_of n ++ after_child old 0) (sym ci) ∙ ap (λ zs. zs ++ after_child old 0) e ∙ ap (λ zs. x ∷ zs) (sym (set_gap old mid c 0 inner (omega arith) m))
+      inner_gap old 0 inner (omega arith) ∙ ap (λ n. pairs_of n ++ after_child old 0) (sym ci) ∙ ap (λ zs. zs ++ after_child old 0) e
+      ∙ ap (λ zs. x ∷ zs) (sym (set_gap old mid c 0 inner (omega arith) m))
 
-  pub last_removed : (old mid child c : Node K V) (i : ℕ) (x : K × V) → i ≡ length (own_pairs old) → IsInner old → IsChildSet old mid i c → child ≡ child_at old i → pairs_of child ≡ pairs_of c ++ x ∷ [] → pairs_of old ≡ pairs_of mid ++ x ∷ []
+  pub last_removed : (old mid child c : Node K V) (i : ℕ) (x : K × V) → i ≡ length (own_pairs old) → IsInner old → IsChildSet old mid i c
+      → child ≡ child_at old i → pairs_of child ≡ pairs_of c ++ x ∷ [] → pairs_of old ≡ pairs_of mid ++ x ∷ []
   last_removed old mid child c i x end inner m ci e =
       let lead = before_child old i in
       let none = after_none old i (omega arith) in
-      inner_gap old i inner (omega arith) ∙ ap (λ r. lead ++ (pairs_of (child_at old i) ++ r)) none ∙ ap (λ zs. lead ++ zs) (append-nil (pairs_of (child_at old i)) ∙ sym (ap pairs_of ci) ∙ e)
+      inner_gap old i inner (omega arith) ∙ ap (λ r. lead ++ (pairs_of (child_at old i) ++ r)) none
+      ∙ ap (λ zs. lead ++ zs) (append-nil (pairs_of (child_at old i)) ∙ sym (ap pairs_of ci) ∙ e)
       ∙ sym (append_assoc lead (pairs_of c) (x ∷ []))
-      ∙ ap (λ zs. zs ++ x ∷ []) (sym (set_gap old mid c i inner (omega arith) m ∙ ap (λ r. lead ++ (pairs_of c ++ r)) none ∙ ap (λ zs. lead ++ zs) (append-nil (pairs_of c))))
+      ∙ ap (λ zs. zs ++ x ∷ []) (sym (set_gap old mid c i inner (omega arith) m ∙ ap (λ r. lead ++ (pairs_of c ++ r)) none
+      ∙ ap (λ zs. lead ++ zs) (append-nil (pairs_of c))))
 
-  pub last_taken : (old new : Node K V) (i : ℕ) (x : K × V) → IsLeaf old → IsLeaf new → i + 1 ≡ length (own_pairs old) → x ≡ get_or (own_pairs old) i x → own_pairs new ≡ remove (own_pairs old) i → pairs_of old ≡ pairs_of new ++ x ∷ []
+  pub last_taken : (old new : Node K V) (i : ℕ) (x : K × V) → IsLeaf old → IsLeaf new → i + 1 ≡ length (own_pairs old) → x ≡ get_or (own_pairs old) i x
+      → own_pairs new ≡ remove (own_pairs old) i → pairs_of old ≡ pairs_of new ++ x ∷ []
   last_taken old new i x l l' end e f = leaf_pairs old l ∙ last_out (own_pairs old) i x end e ∙ ap (λ ps. ps ++ x ∷ []) (sym (leaf_pairs new l' ∙ f))
 
   -- the last child holds fewer pairs than the node
-  pub fewer_last : (h : ℕ) (n child : Node K V) (i : ℕ) → IsLevelled (suc h) n → 1 ≤ length (own_pairs n) → i ≡ length (own_pairs n) → child ≡ child_at n i → length (pairs_of child) < length (pairs_of n)
+  pub fewer_last : (h : ℕ) (n child : Node K V) (i : ℕ) → IsLevelled (suc h) n → 1 ≤ length (own_pairs n) → i ≡ length (own_pairs n) → child ≡ child_at n i
+      → length (pairs_of child) < length (pairs_of n)
   fewer_last h n child zero l some end ci = absurd (omega arith)
   fewer_last h n child (suc j) l some end ci =
       let d = (item_there (own_pairs n) j (omega arith)).0 in
       let lead = ap length (before_child_pair (suc h) n j d l (omega arith)) ∙ length-append (before_own n j) (get_or (own_pairs n) j d ∷ []) in
-      let whole = ap length (inner_gap n (suc j) l.1 (omega arith)) ∙ length-append (before_child n (suc j)) (pairs_of (child_at n (suc j)) ++ after_child n (suc j)) in
+      let whole = ap length (inner_gap n (suc j) l.1 (omega arith)) ∙ length-append (before_child n (suc j))
+      (pairs_of (child_at n (suc j)) ++ after_child n (suc j)) in
       let back = length-append (pairs_of (child_at n (suc j))) (after_child n (suc j)) in
       let same : length (pairs_of child) ≡ length (pairs_of (child_at n (suc j))) = ap (λ m. length (pairs_of m)) ci in
       omega arith
@@ -182,7 +194,8 @@ module _ {K V : Type 0} where
     pub pairs : own_pairs mid ≡ slice_set (own_pairs old) i next
     pub children : children_of mid ≡ slice_set (children_of old) (i + 1) c
 
-  pub own_set : (old mid new : Node K V) (i : ℕ) (next : K × V) (c : Node K V) → IsChildSet old mid (i + 1) c → own_pairs new ≡ slice_set (own_pairs mid) i next → children_of new ≡ children_of mid → IsOwnSet old new i next c
+  pub own_set : (old mid new : Node K V) (i : ℕ) (next : K × V) (c : Node K V) → IsChildSet old mid (i + 1) c
+      → own_pairs new ≡ slice_set (own_pairs mid) i next → children_of new ≡ children_of mid → IsOwnSet old new i next c
   own_set old mid new i next c m e f = record {
     pairs = e ∙ ap (λ ps. slice_set ps i next) m.same;
     children = f ∙ m.child;
@@ -211,7 +224,8 @@ module _ {K V : Type 0} where
       let k : length (children_of old) ≡ length (own_pairs old) + 1 = l.inner in
       let cs = take (suc i) (children_of old) in let ds = drop (suc (suc i)) (children_of old) in
       let ps = take i (own_pairs old) in let qs = drop (suc i) (own_pairs old) in
-      let n : length (map pairs_of cs) ≡ length ps + 1 = length-map cs pairs_of ∙ length_take (suc i) (children_of old) (omega arith) ∙ (let t = length_take i (own_pairs old) (omega arith) in omega arith) in
+      let n : length (map pairs_of cs) ≡ length ps + 1 = length-map cs pairs_of ∙ length_take (suc i) (children_of old) (omega arith)
+      ∙ (let t = length_take i (own_pairs old) (omega arith) in omega arith) in
       pairs_is mid ∙ ap (λ zs. weave (map pairs_of (children_of mid)) zs) (m.pairs ∙ set_is (own_pairs old) i next h)
       ∙ ap (λ zs. weave (map pairs_of zs) (ps ++ next ∷ qs)) (children_is ∙ set_is (children_of old) (suc i) c (omega arith))
       ∙ ap (λ zs. weave zs (ps ++ next ∷ qs)) (map-append pairs_of cs (c ∷ ds))
@@ -236,7 +250,8 @@ module _ {K V : Type 0} where
 
   pub only_pairs : (root c : Node K V) → length (own_pairs root) ≡ 0 → children_of root ≡ c ∷ [] → pairs_of c ≡ pairs_of root
   only_pairs root c h e =
-      sym (pairs_is root ∙ ap (λ ps. weave (map pairs_of (children_of root)) ps) (no_pairs (own_pairs root) h) ∙ ap (λ cs. weave (map pairs_of cs) []) e ∙ append-nil (pairs_of c))
+      sym (pairs_is root ∙ ap (λ ps. weave (map pairs_of (children_of root)) ps) (no_pairs (own_pairs root) h) ∙ ap (λ cs. weave (map pairs_of cs) []) e
+      ∙ append-nil (pairs_of c))
 
   pub one_lower : (h : ℕ) (root c : Node K V) (cs : List (Node K V)) → (out-Node K V root).children ≡ Some cs → children_of root ≡ c ∷ []
       → IsLevelled h root → IsSoundRoot h c ⊎ ((0 < h) × IsSoundRoot (h - 1) c)
@@ -276,13 +291,16 @@ place_step (i ∷ j ∷ p) n h w =
 
 module _ {K V : Type 0} where
   -- a pair was removed below a child
-  pub below_removed : (p : List ℕ) (old mid child c : Node K V) → IsPlaceStep p old → IsInner old → IsChildSet old mid (get_or p 0 0) c → child ≡ child_at old (get_or p 0 0)
-      → pairs_of c ≡ before_pair (slice_range p 1 (length p)) child ++ after_pair (slice_range p 1 (length p)) child → pairs_of mid ≡ before_pair p old ++ after_pair p old
+  pub below_removed : (p : List ℕ) (old mid child c : Node K V) → IsPlaceStep p old → IsInner old → IsChildSet old mid (get_or p 0 0) c
+      → child ≡ child_at old (get_or p 0 0)
+      → pairs_of c ≡ before_pair (slice_range p 1 (length p)) child ++ after_pair (slice_range p 1 (length p)) child
+      → pairs_of mid ≡ before_pair p old ++ after_pair p old
   below_removed p old mid child c s inner m ci e =
       let i = get_or p 0 0 in let q = slice_range p 1 (length p) in
       let k : length (children_of old) ≡ length (own_pairs old) + 1 = inner in
       let lt = s.child in
       let a = before_pair q (child_at old i) in let b = after_pair q (child_at old i) in
-      set_gap old mid c i inner (omega arith) m ∙ ap (λ zs. before_child old i ++ (zs ++ after_child old i)) (e ∙ ap (λ n. before_pair q n ++ after_pair q n) ci)
+      set_gap old mid c i inner (omega arith) m ∙ ap (λ zs. before_child old i ++ (zs ++ after_child old i))
+      (e ∙ ap (λ n. before_pair q n ++ after_pair q n) ci)
       ∙ ap (λ zs. before_child old i ++ zs) (append_assoc a b (after_child old i)) ∙ sym (append_assoc (before_child old i) a (b ++ after_child old i))
       ∙ ap (λ zs. zs ++ (b ++ after_child old i)) (sym s.before) ∙ ap (λ zs. before_pair p old ++ zs) (sym s.after)

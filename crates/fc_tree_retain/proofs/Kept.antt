@@ -11,21 +11,25 @@ use Rattle.fc_tree_retain.specs.Sifted.{SiftsPair}
 use Rattle.fc_tree_retain.proofs.Turns.{retains_as}
 
 module _ {F K V : Type 0} (R : F → K × V → F → V → Bool → Type 0) where
-  cond_all : (P : K → Type 0) (b : Bool) (x : K × V) (zs : List (K × V)) → P x.0 → AllByRecursion (λ e. P e.0) zs → AllByRecursion (λ e. P e.0) (cond b (x ∷ zs) zs)
+  cond_all : (P : K → Type 0) (b : Bool) (x : K × V) (zs : List (K × V)) → P x.0 → AllByRecursion (λ e. P e.0) zs
+      → AllByRecursion (λ e. P e.0) (cond b (x ∷ zs) zs)
   cond_all P true x zs p a = (p, a)
   cond_all P false x zs p a = a
 
   all_kept : (P : K → Type 0) (xs ys : List (K × V)) (s t : F) → RetainsInTurn R s xs t ys → AllByRecursion (λ e. P e.0) xs → AllByRecursion (λ e. P e.0) ys
   all_kept P [] ys s t r a = subst (AllByRecursion (λ e. P e.0)) (sym r.1) tt
-  all_kept P (e ∷ es) ys s t (u, w, b, zs, r, rs, q) a = subst (AllByRecursion (λ e. P e.0)) (sym q) (cond_all P b (e.0, w) zs a.0 (all_kept P es zs u t rs a.1))
+  all_kept P (e ∷ es) ys s t (u, w, b, zs, r, rs, q) a = subst (AllByRecursion (λ e. P e.0)) (sym q)
+      (cond_all P b (e.0, w) zs a.0 (all_kept P es zs u t rs a.1))
 
-  cond_ascending : (cmp : K → K → Ordering) (b : Bool) (x : K × V) (zs : List (K × V)) → AllByRecursion (λ d. cmp x.0 d.0 ≡ Less) zs → IsAscending cmp zs → IsAscending cmp (cond b (x ∷ zs) zs)
+  cond_ascending : (cmp : K → K → Ordering) (b : Bool) (x : K × V) (zs : List (K × V)) → AllByRecursion (λ d. cmp x.0 d.0 ≡ Less) zs → IsAscending cmp zs
+      → IsAscending cmp (cond b (x ∷ zs) zs)
   cond_ascending cmp true x zs a r = (a, r)
   cond_ascending cmp false x zs a r = r
 
   pub kept_ascending : (cmp : K → K → Ordering) (xs ys : List (K × V)) (s t : F) → RetainsInTurn R s xs t ys → IsAscending cmp xs → IsAscending cmp ys
   kept_ascending cmp [] ys s t r a = subst (IsAscending cmp) (sym r.1) tt
-  kept_ascending cmp (e ∷ es) ys s t (u, w, b, zs, r, rs, q) a = subst (IsAscending cmp) (sym q) (cond_ascending cmp b (e.0, w) zs (all_kept (λ k. cmp e.0 k ≡ Less) es zs u t rs a.0) (kept_ascending cmp es zs u t rs a.1))
+  kept_ascending cmp (e ∷ es) ys s t (u, w, b, zs, r, rs, q) a = subst (IsAscending cmp) (sym q)
+      (cond_ascending cmp b (e.0, w) zs (all_kept (λ k. cmp e.0 k ≡ Less) es zs u t rs a.0) (kept_ascending cmp es zs u t rs a.1))
 
   pub kept_length : (xs ys : List (K × V)) (s t : F) → RetainsInTurn R s xs t ys → length ys ≤ length xs
   kept_length [] ys s t r = let e = ap length r.1 in omega arith
@@ -37,7 +41,8 @@ module _ {F K V : Type 0} (R : F → K × V → F → V → Bool → Type 0) whe
 
 module _ {S K V : Type 0} (asked : S → K × V → S → V → Bool → Type 0) (given : S → K × V → S → Type 0) where
   -- where what does not stay is dropped
-  pub as_retained : {F : Type 0} (Q : F → K × V → F → V → Bool → Type 0) (v : S → F) → ((s t : S) (e : K × V) (w : V) (b : Bool) → asked s e t w b → Q (v s) e (v t) w b) → ((s t : S) (e : K × V) → given s e t → v t ≡ v s)
+  pub as_retained : {F : Type 0} (Q : F → K × V → F → V → Bool → Type 0) (v : S → F)
+      → ((s t : S) (e : K × V) (w : V) (b : Bool) → asked s e t w b → Q (v s) e (v t) w b) → ((s t : S) (e : K × V) → given s e t → v t ≡ v s)
       → (xs ys : List (K × V)) (s t : S) → RetainsInTurn (SiftsPair asked given) s xs t ys → RetainsInTurn Q (v s) xs (v t) ys
   as_retained {F} Q v ask give = retains_as (SiftsPair asked given) Q v step
     where
@@ -50,7 +55,8 @@ module _ {S K V : Type 0} (asked : S → K × V → S → V → Bool → Type 0)
 
   -- where it is given to a second closure
   pub as_extracted : {F E : Type 0} (Q : F → K × V → F → V → Bool → Type 0) (G : E → K × V → E → Type 0) (p : S → F) (q : S → E)
-      → ((s t : S) (e : K × V) (w : V) (b : Bool) → asked s e t w b → (picked : Bool) × Q (p s) e (p t) w picked × (b ≡ not picked) × (q t ≡ q s)) → ((s t : S) (e : K × V) → given s e t → G (q s) e (q t) × (p t ≡ p s))
+      → ((s t : S) (e : K × V) (w : V) (b : Bool) → asked s e t w b → (picked : Bool) × Q (p s) e (p t) w picked × (b ≡ not picked) × (q t ≡ q s))
+      → ((s t : S) (e : K × V) → given s e t → G (q s) e (q t) × (p t ≡ p s))
       → (xs ys : List (K × V)) (s t : S) → RetainsInTurn (SiftsPair asked given) s xs t ys → RetainsInTurn (ExtractsBy Q G) (p s, q s) xs (p t, q t) ys
   as_extracted Q G p q ask give = retains_as (SiftsPair asked given) (ExtractsBy Q G) (λ s. (p s, q s)) step
     where

@@ -59,7 +59,8 @@ module _ {K V : Type 0} where
 
   pub loose_height : (h : ℕ) (n : Node K V) → IsLoose h n → height_of n ≡ h
   loose_height zero n l = no_children n (leaf_children n l.1)
-  loose_height (suc h) n l = height_is n ∙ first_all h (IsLoose h) (loose_height h) (children_of n) (let e : length (children_of n) ≡ length (own_pairs n) + 1 = l.1 in omega arith) l.2
+  loose_height (suc h) n l = height_is n ∙ first_all h (IsLoose h) (loose_height h) (children_of n)
+      (let e : length (children_of n) ≡ length (own_pairs n) + 1 = l.1 in omega arith) l.2
 
   first_height : (cs : List (Node K V)) (d : Node K V) → 0 < length cs → above_first (map height_of cs) ≡ suc (height_of (get_or cs 0 d))
   first_height [] d h = absurd (omega arith)
@@ -70,7 +71,8 @@ module _ {K V : Type 0} where
 
   pub thin_height : (h : ℕ) (n : Node K V) → IsThin h n → height_of n ≡ h
   thin_height zero n t = no_children n (leaf_children n t.1)
-  thin_height (suc h) n (f, i, inl a) = height_is n ∙ first_all h (IsSound h) (λ c s. levelled_height h c s.1) (children_of n) (let e : length (children_of n) ≡ length (own_pairs n) + 1 = i in omega arith) a
+  thin_height (suc h) n (f, i, inl a) = height_is n ∙ first_all h (IsSound h) (λ c s. levelled_height h c s.1) (children_of n)
+      (let e : length (children_of n) ≡ length (own_pairs n) + 1 = i in omega arith) a
   thin_height (suc h) n (f, i, inr z) = inner_height n i ∙ ap suc (thin_height h (child_at n 0) z.1)
 
   first_of : (h : ℕ) (cs : List (Node K V)) (d : Node K V) (i : ℕ) → 0 < length cs → AllByRecursion (IsSound h) (take (suc i) cs) → IsSound h (get_or cs 0 d)
@@ -83,7 +85,8 @@ module _ {K V : Type 0} where
       let f = first_of h (children_of n) n i (let e : length (children_of n) ≡ length (own_pairs n) + 1 = s.inner in omega arith) s.before in
       inner_height n s.inner ∙ ap suc (levelled_height h (child_at n 0) f.1)
 
-  pub leaf_fewer : (h : ℕ) (old new : Node K V) (i : ℕ) → i < length (own_pairs old) → IsLeaf new → IsLeaf old → own_pairs new ≡ remove (own_pairs old) i → IsLoose h old → IsLoose h new
+  pub leaf_fewer : (h : ℕ) (old new : Node K V) (i : ℕ) → i < length (own_pairs old) → IsLeaf new → IsLeaf old → own_pairs new ≡ remove (own_pairs old) i
+      → IsLoose h old → IsLoose h new
   leaf_fewer zero old new i lt e f q l =
       let m : length (own_pairs new) ≡ length (remove (own_pairs old) i) = ap length q in
       let r = length-remove (own_pairs old) i lt in

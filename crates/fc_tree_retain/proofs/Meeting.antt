@@ -1,5 +1,6 @@
 -- Two children that become one node, or of which one takes from the other: where their children meet.
-use Rattle.std.proofs.Common.{◌≡◌, ℕ, suc, zero, ◌+◌, ◌<◌, ◌≤◌, List, [], ◌∷◌, ◌++◌, length, get_or, take, drop, refl, sym, ap, subst, ◌∙◌, arith, append_assoc, inl, inr}
+use Rattle.std.proofs.Common.{◌≡◌, ℕ, suc, zero, ◌+◌, ◌<◌, ◌≤◌, List, [], ◌∷◌, ◌++◌, length, get_or, take, drop, refl, sym, ap, subst, ◌∙◌, arith, append_assoc}
+use Rattle.std.proofs.Common.{inl, inr}
 use Rattle.std.specs.Prelude.{◌⊎◌}
 use Rattle.std.specs.List.{AllByRecursion}
 use Rattle.std.proofs.lemmas.List.{length-append}
@@ -32,7 +33,8 @@ module _ {K V : Type 0} where
       let k : length (children_of n) ≡ length (own_pairs n) + 1 = i in
       let o = length (own_pairs n) in
       let s = all_at (IsSound h) (children_of n) o n (omega arith) a in
-      let e : children_of n ≡ take o (children_of n) ++ child_at n o ∷ [] = one_at (children_of n) o n (omega arith) ∙ ap (λ cs. take o (children_of n) ++ child_at n o ∷ cs) (drop_all (children_of n) (suc o) (omega arith)) in
+      let e : children_of n ≡ take o (children_of n) ++ child_at n o ∷ [] = one_at (children_of n) o n (omega arith)
+      ∙ ap (λ cs. take o (children_of n) ++ child_at n o ∷ cs) (drop_all (children_of n) (suc o) (omega arith)) in
       record {
         before = take o (children_of n);
         last = child_at n o;
@@ -71,7 +73,16 @@ module _ {K V : Type 0} where
       let e : children_of n ≡ child_at n 0 ∷ drop 1 (children_of n) = one_at (children_of n) 0 n (omega arith) in
       let b = subst (AllByRecursion (IsSound h)) e a in
       let m = ap length e in
-      record { first = child_at n 0; after = drop 1 (children_of n); children = e; size = omega arith; all = b.1; thin = levelled_thin h (child_at n 0) b.0.1; sound = λ _. b.0 }
+      record {
+        first = child_at n 0;
+        after = drop 1 (children_of n);
+        children = e;
+        size = omega arith;
+        all = b.1;
+        thin =
+            levelled_thin h (child_at n 0) b.0.1;
+        sound = λ _. b.0;
+      }
   beginning h n (f, i, inr z) =
       let k : length (children_of n) ≡ length (own_pairs n) + 1 = i in
       let none = z.0 in
@@ -85,14 +96,18 @@ module _ {K V : Type 0} where
         sound = λ some. absurd (omega arith);
       }
 
-  met_of : (g : ℕ) (n : Node K V) (i : ℕ) (A : List (Node K V)) (a b : Node K V) (B : List (Node K V)) → children_of n ≡ A ++ a ∷ b ∷ B → length A ≡ i → length (own_pairs n) ≤ capacity → IsInner n
-      → AllByRecursion (IsSound g) A → IsThin g a → IsThin g b → AllByRecursion (IsSound g) B → (2 ≤ length (own_pairs n) → IsSound g a ⊎ IsSound g b) → IsMet (suc g) i n
+  met_of : (g : ℕ) (n : Node K V) (i : ℕ) (A : List (Node K V)) (a b : Node K V) (B : List (Node K V)) → children_of n ≡ A ++ a ∷ b ∷ B → length A ≡ i
+      → length (own_pairs n) ≤ capacity → IsInner n
+      → AllByRecursion (IsSound g) A → IsThin g a → IsThin g b → AllByRecursion (IsSound g) B → (2 ≤ length (own_pairs n) → IsSound g a ⊎ IsSound g b)
+      → IsMet (suc g) i n
   met_of g n i A a b B e z fits inner al ta tb bl one =
       let k : length (children_of n) ≡ length (own_pairs n) + 1 = inner in
       let m = ap length e ∙ length-append A (a ∷ b ∷ B) in
       let la : child_at n i ≡ a = ap (λ cs. get_or cs i n) e ∙ at_place A (b ∷ B) a n i z in
-      let lb : child_at n (i + 1) ≡ b = ap (λ cs. get_or cs (i + 1) n) (e ∙ sym (append_assoc A (a ∷ []) (b ∷ B))) ∙ at_place (A ++ a ∷ []) B b n (i + 1) (length-append A (a ∷ []) ∙ ap (λ k. k + 1) z) in
-      let rest : drop (suc (suc i)) (children_of n) ≡ B = ap (drop (suc (suc i))) (e ∙ sym (append_assoc A (a ∷ b ∷ []) B)) ∙ drop_place (A ++ a ∷ b ∷ []) B (suc (suc i)) (let t = length-append A (a ∷ b ∷ []) in omega arith) in (
+      let lb : child_at n (i + 1) ≡ b = ap (λ cs. get_or cs (i + 1) n) (e ∙ sym (append_assoc A (a ∷ []) (b ∷ B)))
+      ∙ at_place (A ++ a ∷ []) B b n (i + 1) (length-append A (a ∷ []) ∙ ap (λ k. k + 1) z) in
+      let rest : drop (suc (suc i)) (children_of n) ≡ B = ap (drop (suc (suc i))) (e ∙ sym (append_assoc A (a ∷ b ∷ []) B))
+      ∙ drop_place (A ++ a ∷ b ∷ []) B (suc (suc i)) (let t = length-append A (a ∷ b ∷ []) in omega arith) in (
         record {
           in_bounds = omega arith;
           fits = fits;
@@ -106,14 +121,16 @@ module _ {K V : Type 0} where
       )
 
   -- of two children of which one has a pair, the two that meet are not both short
-  one_sound : (g : ℕ) (l r : Node K V) (e : IsEnding g l) (b : IsBeginning g r) → 2 ≤ length (own_pairs l) + 1 + length (own_pairs r) → IsSound g e.last ⊎ IsSound g b.first
+  one_sound : (g : ℕ) (l r : Node K V) (e : IsEnding g l) (b : IsBeginning g r) → 2 ≤ length (own_pairs l) + 1 + length (own_pairs r)
+      → IsSound g e.last ⊎ IsSound g b.first
   one_sound g l r e b two = go (length (own_pairs l)) refl
     where
       go : (k : ℕ) → length (own_pairs l) ≡ k → IsSound g e.last ⊎ IsSound g b.first
       go zero z = inr (b.sound (omega arith))
       go (suc k) z = inl (e.sound (omega arith))
 
-  pub one_met : (h i : ℕ) (old new : Node K V) → IsSeam h old i → together old i ≤ capacity → IsMerged i old new → IsInner new → IsOneMet h i (length (own_pairs (child_at old i))) old new
+  pub one_met : (h i : ℕ) (old new : Node K V) → IsSeam h old i → together old i ≤ capacity → IsMerged i old new → IsInner new
+      → IsOneMet h i (length (own_pairs (child_at old i))) old new
   one_met h i old new s room m inner =
       let k : length (children_of old) ≡ length (own_pairs old) + 1 = s.inner in
       let lt = s.in_bounds in
@@ -130,29 +147,37 @@ module _ {K V : Type 0} where
         size = omega arith;
       }
     where
-      go : (h : ℕ) → IsThin h (child_at old i) → IsThin h (child_at old (i + 1)) → AreAlike (child_at old i) m.whole → length (own_pairs m.whole) ≡ together old i → IsMet h (length (own_pairs (child_at old i))) m.whole
+      go : (h : ℕ) → IsThin h (child_at old i) → IsThin h (child_at old (i + 1)) → AreAlike (child_at old i) m.whole
+          → length (own_pairs m.whole) ≡ together old i → IsMet h (length (own_pairs (child_at old i))) m.whole
       go zero l r (inl x) z = (omega arith, x.1)
       go zero l r (inr x) z = absurd (leaf_or_inner (child_at old i) l.1 x.0)
       go (suc g) l r (inl x) z = absurd (leaf_or_inner (child_at old i) x.0 l.1)
       go (suc g) l r (inr x) z =
           let e = ending g (child_at old i) l in
           let b = beginning g (child_at old (i + 1)) r in
-          let cs : children_of m.whole ≡ e.before ++ e.last ∷ b.first ∷ b.after = m.below ∙ ap (λ xs. xs ++ children_of (child_at old (i + 1))) e.children ∙ ap (λ ys. (e.before ++ e.last ∷ []) ++ ys) b.children ∙ append_assoc e.before (e.last ∷ []) (b.first ∷ b.after) in
-          met_of g m.whole (length (own_pairs (child_at old i))) e.before e.last b.first b.after cs e.size (omega arith) x.1 e.all e.thin b.thin b.all (λ two. one_sound g (child_at old i) (child_at old (i + 1)) e b (omega arith))
+          let cs : children_of m.whole ≡ e.before ++ e.last ∷ b.first ∷ b.after = m.below ∙ ap (λ xs. xs ++ children_of (child_at old (i + 1))) e.children
+          ∙ ap (λ ys. (e.before ++ e.last ∷ []) ++ ys) b.children ∙ append_assoc e.before (e.last ∷ []) (b.first ∷ b.after) in
+          met_of g m.whole (length (own_pairs (child_at old i))) e.before e.last b.first b.after cs e.size (omega arith) x.1 e.all e.thin b.thin b.all
+          (λ two. one_sound g (child_at old i) (child_at old (i + 1)) e b (omega arith))
 
   -- the children of both, whichever has how many
-  parted : (g : ℕ) (L R l r : Node K V) (e : IsEnding g L) (b : IsBeginning g R) → children_of l ++ children_of r ≡ children_of L ++ children_of R → children_of l ++ children_of r ≡ e.before ++ e.last ∷ b.first ∷ b.after
-  parted g L R l r e b q = q ∙ ap (λ xs. xs ++ children_of R) e.children ∙ ap (λ ys. (e.before ++ e.last ∷ []) ++ ys) b.children ∙ append_assoc e.before (e.last ∷ []) (b.first ∷ b.after)
+  parted : (g : ℕ) (L R l r : Node K V) (e : IsEnding g L) (b : IsBeginning g R) → children_of l ++ children_of r ≡ children_of L ++ children_of R
+      → children_of l ++ children_of r ≡ e.before ++ e.last ∷ b.first ∷ b.after
+  parted g L R l r e b q = q ∙ ap (λ xs. xs ++ children_of R) e.children ∙ ap (λ ys. (e.before ++ e.last ∷ []) ++ ys) b.children
+      ∙ append_assoc e.before (e.last ∷ []) (b.first ∷ b.after)
 
-  sizes : (i k : ℕ) (old new : Node K V) (m : IsShared i k old new) → k + length (own_pairs m.right) ≡ length (own_pairs (child_at old i)) + length (own_pairs (child_at old (i + 1)))
+  sizes : (i k : ℕ) (old new : Node K V) (m : IsShared i k old new) → k + length (own_pairs m.right)
+      ≡ length (own_pairs (child_at old i)) + length (own_pairs (child_at old (i + 1)))
   sizes i k old new m =
       let a = length-append (own_pairs m.left) (m.between ∷ own_pairs m.right) in
-      let b = ap length (m.own m.between) ∙ length-append (own_pairs (child_at old i)) (get_or (own_pairs old) i m.between ∷ own_pairs (child_at old (i + 1))) in
+      let b = ap length (m.own m.between) ∙ length-append (own_pairs (child_at old i))
+      (get_or (own_pairs old) i m.between ∷ own_pairs (child_at old (i + 1))) in
       let z = m.size in
       omega arith
 
   -- the left one took
-  pub left_met : (h i k : ℕ) (old new : Node K V) → IsSeam h old i → capacity ≤ length (own_pairs (child_at old i)) + length (own_pairs (child_at old (i + 1))) → length (own_pairs (child_at old i)) < min_len → length (own_pairs (child_at old (i + 1))) ≤ capacity
+  pub left_met : (h i k : ℕ) (old new : Node K V) → IsSeam h old i → capacity ≤ length (own_pairs (child_at old i)) + length (own_pairs (child_at old (i + 1)))
+      → length (own_pairs (child_at old i)) < min_len → length (own_pairs (child_at old (i + 1))) ≤ capacity
       → k ≡ min_len + 1 → IsShared i k old new → IsInner new → AreTwoMet h i i (length (own_pairs (child_at old i))) old new
   left_met h i k old new s many few fits q m inner =
       let c : length (children_of old) ≡ length (own_pairs old) + 1 = s.inner in
@@ -171,7 +196,8 @@ module _ {K V : Type 0} where
         sound = both.1;
       }
     where
-      go : (h : ℕ) → IsThin h (child_at old i) → IsThin h (child_at old (i + 1)) → AreAlike (child_at old i) m.left → AreAlike m.left m.right → IsMet h (length (own_pairs (child_at old i))) m.left × IsSound h m.right
+      go : (h : ℕ) → IsThin h (child_at old i) → IsThin h (child_at old (i + 1)) → AreAlike (child_at old i) m.left → AreAlike m.left m.right
+          → IsMet h (length (own_pairs (child_at old i))) m.left × IsSound h m.right
       go zero l r (inl x) (inl y) = let z = m.size in let t = sizes i k old new m in ((omega arith, x.1), (omega arith, (omega arith, y.1)))
       go zero l r (inl x) (inr y) = absurd (leaf_or_inner m.left x.1 y.0)
       go zero l r (inr x) y = absurd (leaf_or_inner (child_at old i) l.1 x.0)
@@ -187,16 +213,20 @@ module _ {K V : Type 0} where
           let ln : length (children_of m.left) ≡ length (own_pairs m.left) + 1 = y.0 in
           let es = e.size in
           let el = length-append e.before (e.last ∷ b.first ∷ []) in
-          let p = longer (children_of m.left) (children_of m.right) (e.before ++ e.last ∷ b.first ∷ []) b.after (parted g L R m.left m.right e b m.below ∙ sym (append_assoc e.before (e.last ∷ b.first ∷ []) b.after)) (omega arith) in
+          let p = longer (children_of m.left) (children_of m.right) (e.before ++ e.last ∷ b.first ∷ []) b.after
+          (parted g L R m.left m.right e b m.below ∙ sym (append_assoc e.before (e.last ∷ b.first ∷ []) b.after)) (omega arith) in
           let rest = subst (AllByRecursion (IsSound g)) p.rest b.all in
           let cs : children_of m.left ≡ e.before ++ e.last ∷ b.first ∷ p.more = p.first ∙ append_assoc e.before (e.last ∷ b.first ∷ []) p.more in (
-            met_of g m.left (length (own_pairs L)) e.before e.last b.first p.more cs e.size (omega arith) y.0 e.all e.thin b.thin (all_front (IsSound g) p.more (children_of m.right) rest) (λ _. inr (b.sound (omega arith))),
+            met_of g m.left (length (own_pairs L)) e.before e.last b.first p.more cs e.size (omega arith) y.0 e.all e.thin b.thin
+                (all_front (IsSound g) p.more (children_of m.right) rest) (λ _. inr (b.sound (omega arith))),
             (omega arith, (omega arith, y.1, all_back (IsSound g) p.more (children_of m.right) rest)),
           )
 
   -- the right one took
-  pub right_met : (h i k j : ℕ) (old new : Node K V) → IsSeam h old i → capacity ≤ length (own_pairs (child_at old i)) + length (own_pairs (child_at old (i + 1))) → length (own_pairs (child_at old (i + 1))) < min_len → length (own_pairs (child_at old i)) ≤ capacity
-      → k + (min_len + 1) ≡ length (own_pairs (child_at old i)) + length (own_pairs (child_at old (i + 1))) → j + length (own_pairs (child_at old (i + 1))) ≡ min_len → IsShared i k old new → IsInner new → AreTwoMet h i (i + 1) j old new
+  pub right_met : (h i k j : ℕ) (old new : Node K V) → IsSeam h old i → capacity ≤ length (own_pairs (child_at old i)) + length
+      (own_pairs (child_at old (i + 1))) → length (own_pairs (child_at old (i + 1))) < min_len → length (own_pairs (child_at old i)) ≤ capacity
+      → k + (min_len + 1) ≡ length (own_pairs (child_at old i)) + length (own_pairs (child_at old (i + 1)))
+      → j + length (own_pairs (child_at old (i + 1))) ≡ min_len → IsShared i k old new → IsInner new → AreTwoMet h i (i + 1) j old new
   right_met h i k j old new s many few fits q u m inner =
       let c : length (children_of old) ≡ length (own_pairs old) + 1 = s.inner in
       let lt = s.in_bounds in
@@ -213,7 +243,8 @@ module _ {K V : Type 0} where
         sound = both.1;
       }
     where
-      go : (h : ℕ) → IsThin h (child_at old i) → IsThin h (child_at old (i + 1)) → AreAlike (child_at old i) m.left → AreAlike m.left m.right → IsMet h j m.right × IsSound h m.left
+      go : (h : ℕ) → IsThin h (child_at old i) → IsThin h (child_at old (i + 1)) → AreAlike (child_at old i) m.left → AreAlike m.left m.right
+          → IsMet h j m.right × IsSound h m.left
       go zero l r (inl x) (inl y) = let z = m.size in let t = sizes i k old new m in ((omega arith, y.1), (omega arith, (omega arith, x.1)))
       go zero l r (inl x) (inr y) = absurd (leaf_or_inner m.left x.1 y.0)
       go zero l r (inr x) y = absurd (leaf_or_inner (child_at old i) l.1 x.0)
@@ -228,9 +259,11 @@ module _ {K V : Type 0} where
           let b = beginning g R r in
           let ln : length (children_of m.left) ≡ length (own_pairs m.left) + 1 = y.0 in
           let es = e.size in
-          let p = longer e.before (e.last ∷ b.first ∷ b.after) (children_of m.left) (children_of m.right) (sym (parted g L R m.left m.right e b m.below)) (omega arith) in
+          let p = longer e.before (e.last ∷ b.first ∷ b.after) (children_of m.left) (children_of m.right) (sym (parted g L R m.left m.right e b m.below))
+          (omega arith) in
           let pl = ap length p.first ∙ length-append (children_of m.left) p.more in
           let all = subst (AllByRecursion (IsSound g)) p.first e.all in (
-            met_of g m.right j p.more e.last b.first b.after p.rest (omega arith) (omega arith) y.1 (all_back (IsSound g) (children_of m.left) p.more all) e.thin b.thin b.all (λ _. inl (e.sound (omega arith))),
+            met_of g m.right j p.more e.last b.first b.after p.rest (omega arith) (omega arith) y.1 (all_back (IsSound g) (children_of m.left) p.more all)
+                e.thin b.thin b.all (λ _. inl (e.sound (omega arith))),
             (omega arith, (omega arith, y.0, all_front (IsSound g) (children_of m.left) p.more all)),
           )

@@ -11,7 +11,8 @@ use Rattle.fc_tree_retain.proofs.Lists.{at_place, take_place, drop_place}
 
 module _ {X : Type 0} where
   -- a list and an item more
-  before_more : (cs : List (List X)) (c : List X) (ps : List X) (p : X) → length cs ≡ length ps → before_list (cs ++ c ∷ []) (ps ++ p ∷ []) ≡ before_list cs ps ++ (c ++ p ∷ [])
+  before_more : (cs : List (List X)) (c : List X) (ps : List X) (p : X) → length cs ≡ length ps
+      → before_list (cs ++ c ∷ []) (ps ++ p ∷ []) ≡ before_list cs ps ++ (c ++ p ∷ [])
   before_more [] c [] p e = refl
   before_more [] c (q ∷ ps) p e = absurd (omega arith)
   before_more (d ∷ cs) c [] p e = absurd (omega arith)
@@ -36,7 +37,8 @@ module _ {K V : Type 0} where
     pub open_after : after_child n i ≡ after_list Q (map pairs_of D)
     open_after =
         ap (λ ps. after_list ps (map pairs_of (drop (suc i) (children_of n)))) (ap (drop i) o.own ∙ drop_place P Q i o.own_before)
-        ∙ ap (λ cs. after_list Q (map pairs_of cs)) (ap (drop (suc i)) (o.children ∙ sym (append_assoc A (c ∷ []) D)) ∙ drop_place (A ++ c ∷ []) D (suc i) (length-append A (c ∷ []) ∙ (let b = o.before in omega arith)))
+        ∙ ap (λ cs. after_list Q (map pairs_of cs)) (ap (drop (suc i)) (o.children ∙ sym (append_assoc A (c ∷ []) D))
+        ∙ drop_place (A ++ c ∷ []) D (suc i) (length-append A (c ∷ []) ∙ (let b = o.before in omega arith)))
 
     pub open_inner : length D ≡ length Q → IsInner n
     open_inner e =
@@ -47,7 +49,8 @@ module _ {K V : Type 0} where
         omega arith
 
     -- the next child
-    pub open_next : (q : K × V) (Q' : List (K × V)) (d : Node K V) (D' : List (Node K V)) → Q ≡ q ∷ Q' → D ≡ d ∷ D' → IsOpenAt n (i + 1) (A ++ c ∷ []) d D' (P ++ q ∷ []) Q'
+    pub open_next : (q : K × V) (Q' : List (K × V)) (d : Node K V) (D' : List (Node K V)) → Q ≡ q ∷ Q' → D ≡ d ∷ D'
+        → IsOpenAt n (i + 1) (A ++ c ∷ []) d D' (P ++ q ∷ []) Q'
     open_next q Q' d D' e f = record {
       children = o.children ∙ ap (λ ds. A ++ c ∷ ds) f ∙ sym (append_assoc A (c ∷ []) (d ∷ D'));
       own = o.own ∙ ap (λ qs. P ++ qs) e ∙ sym (append_assoc P (q ∷ []) Q');
@@ -55,11 +58,14 @@ module _ {K V : Type 0} where
       own_before = length-append P (q ∷ []) ∙ ap (λ k. k + 1) o.own_before;
     }
 
-  pub before_next : (A : List (Node K V)) (c : Node K V) (P : List (K × V)) (q : K × V) → length A ≡ length P → before_list (map pairs_of (A ++ c ∷ [])) (P ++ q ∷ []) ≡ before_list (map pairs_of A) P ++ (pairs_of c ++ q ∷ [])
-  before_next A c P q e = ap (λ cs. before_list cs (P ++ q ∷ [])) (map-append pairs_of A (c ∷ [])) ∙ before_more (map pairs_of A) (pairs_of c) P q (length-map A pairs_of ∙ e)
+  pub before_next : (A : List (Node K V)) (c : Node K V) (P : List (K × V)) (q : K × V) → length A ≡ length P
+      → before_list (map pairs_of (A ++ c ∷ [])) (P ++ q ∷ []) ≡ before_list (map pairs_of A) P ++ (pairs_of c ++ q ∷ [])
+  before_next A c P q e = ap (λ cs. before_list cs (P ++ q ∷ [])) (map-append pairs_of A (c ∷ []))
+      ∙ before_more (map pairs_of A) (pairs_of c) P q (length-map A pairs_of ∙ e)
 
   -- at any child
-  pub opened : (n : Node K V) (i : ℕ) → IsInner n → i ≤ length (own_pairs n) → IsOpenAt n i (take i (children_of n)) (child_at n i) (drop (suc i) (children_of n)) (take i (own_pairs n)) (drop i (own_pairs n))
+  pub opened : (n : Node K V) (i : ℕ) → IsInner n → i ≤ length (own_pairs n)
+      → IsOpenAt n i (take i (children_of n)) (child_at n i) (drop (suc i) (children_of n)) (take i (own_pairs n)) (drop i (own_pairs n))
   opened n i inner le =
       let k : length (children_of n) ≡ length (own_pairs n) + 1 = inner in
       record {
@@ -70,7 +76,9 @@ module _ {K V : Type 0} where
       }
 
   -- at one with a pair behind it
-  pub opened_two : (n : Node K V) (i : ℕ) (e : K × V) → IsInner n → i < length (own_pairs n) → e ≡ get_or (own_pairs n) i e → IsOpenAt n i (take i (children_of n)) (child_at n i) (child_at n (i + 1) ∷ drop (suc (suc i)) (children_of n)) (take i (own_pairs n)) (e ∷ drop (suc i) (own_pairs n))
+  pub opened_two : (n : Node K V) (i : ℕ) (e : K × V) → IsInner n → i < length (own_pairs n) → e ≡ get_or (own_pairs n) i e
+      → IsOpenAt n i (take i (children_of n)) (child_at n i) (child_at n (i + 1) ∷ drop (suc (suc i)) (children_of n)) (take i (own_pairs n))
+      (e ∷ drop (suc i) (own_pairs n))
   opened_two n i e inner lt q =
       let k : length (children_of n) ≡ length (own_pairs n) + 1 = inner in
       record {

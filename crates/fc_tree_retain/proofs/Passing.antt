@@ -1,5 +1,6 @@
 -- A walk over the pairs of a node, of which some do not stay.
-use Rattle.std.proofs.Common.{◌≡◌, ℕ, suc, zero, ◌+◌, ◌<◌, ◌≤◌, List, [], ◌∷◌, ◌++◌, length, get_or, map, take, drop, refl, sym, ap, subst, ◌∙◌, arith, append_assoc, append-nil, Option}
+use Rattle.std.proofs.Common.{◌≡◌, ℕ, suc, zero, ◌+◌, ◌<◌, ◌≤◌, List, [], ◌∷◌, ◌++◌, length, get_or, map, take, drop, refl, sym, ap, subst, ◌∙◌, arith}
+use Rattle.std.proofs.Common.{append_assoc, append-nil, Option}
 use Rattle.std.specs.Prelude.{Bool, true, false, slice_set}
 use Rattle.std.specs.List.{AllByRecursion, remove}
 use Rattle.std.specs.Option.{option_to_list}
@@ -62,11 +63,13 @@ module _ {K V : Type 0} where
         size = z;
         children = cs;
         inner = λ k. let k' : length (children_of old) ≡ length (own_pairs old) + 1 = k in omega arith;
-        child = λ k le. let k' : length (children_of old) ≡ length (own_pairs old) + 1 = k in ap (λ xs. get_or xs i mid) cs ∙ get_any (children_of old) i mid old (omega arith);
+        child = λ k le. let k' : length (children_of old) ≡ length (own_pairs old) + 1 = k in ap (λ xs. get_or xs i mid) cs
+            ∙ get_any (children_of old) i mid old (omega arith);
       }
 
   pub written_leaf : (old mid : Node K V) (i : ℕ) (w : V) → IsLoose 0 old → mid ≡ with_value old i w → IsLoose 0 mid
-  written_leaf old mid i w l n = let z = (is_written old mid i w n).size in let fits = l.0 in (omega arith, ap (λ m. (out-Node K V m).children) n ∙ field_made _ ∙ l.1)
+  written_leaf old mid i w l n = let z = (is_written old mid i w n).size in let fits =
+      l.0 in (omega arith, ap (λ m. (out-Node K V m).children) n ∙ field_made _ ∙ l.1)
 
   empty_list : (xs : List (K × V)) → length xs ≡ 0 → xs ≡ []
   empty_list [] e = refl
@@ -91,12 +94,19 @@ module _ {K V : Type 0} where
       let n : length (children_of mid) ≡ length (children_of old) = ap length m.child ∙ length_set (children_of old) i c in
       let o : length (own_pairs mid) ≡ length (own_pairs old) = ap length m.same in
       record {
-        before = ap (λ cs. before_list (map pairs_of cs) (take i (own_pairs mid))) (ap (take i) m.child ∙ take_set (children_of old) i c) ∙ ap (λ ps. before_list (map pairs_of (take i (children_of old))) (take i ps)) m.same;
+        before = ap (λ cs. before_list (map pairs_of cs) (take i (own_pairs mid))) (ap (take i) m.child ∙ take_set (children_of old) i c)
+            ∙ ap (λ ps. before_list (map pairs_of (take i (children_of old))) (take i ps)) m.same;
         child = ap (λ cs. get_or cs i mid) m.child ∙ at_set (children_of old) i c mid (omega arith);
-        after = ap (λ cs. after_list (drop i (own_pairs mid)) (map pairs_of cs)) (ap (drop (suc i)) m.child ∙ drop_set (children_of old) i c) ∙ ap (λ ps. after_list (drop i ps) (map pairs_of (drop (suc i) (children_of old)))) m.same;
+        after = ap (λ cs. after_list (drop i (own_pairs mid)) (map pairs_of cs)) (ap (drop (suc i)) m.child ∙ drop_set (children_of old) i c)
+            ∙ ap (λ ps. after_list (drop i ps) (map pairs_of (drop (suc i) (children_of old)))) m.same;
         own = m.same;
         inner = omega arith;
-        levels = λ h l b. let f = l.0 in (omega arith, omega arith, subst (AllByRecursion (IsLoose h)) (sym m.child) (all_set (IsLoose h) (children_of old) i c l.2 b));
+        levels = λ h l b. let f = l.0 in (
+          omega arith,
+          omega arith,
+          subst (AllByRecursion (IsLoose h)) (sym m.child)
+              (all_set (IsLoose h) (children_of old) i c l.2 b),
+        );
       }
 
   -- a node with another value, and another child before it
@@ -117,9 +127,11 @@ module _ {K V : Type 0} where
         inner = (child_left new mid c i (n.inner inner) (omega arith) m).inner;
       }
 
-  pub child_loose : (h : ℕ) (old mid d c : Node K V) (i : ℕ) → IsInner old → i ≤ length (own_pairs old) → d ≡ child_at old i → IsChildSet old mid i c → ((g : ℕ) → IsLoose g d → IsLoose g c) → IsLoose h old → IsLoose h mid
+  pub child_loose : (h : ℕ) (old mid d c : Node K V) (i : ℕ) → IsInner old → i ≤ length (own_pairs old) → d ≡ child_at old i → IsChildSet old mid i c
+      → ((g : ℕ) → IsLoose g d → IsLoose g c) → IsLoose h old → IsLoose h mid
   child_loose zero old mid d c i inner le is m lo l = absurd (leaf_or_inner old l.1 inner)
-  child_loose (suc h) old mid d c i inner le is m lo l = (child_left old mid c i inner le m).levels h l (lo h (subst (IsLoose h) (sym is) (loose_child h old i l le)))
+  child_loose (suc h) old mid d c i inner le is m lo l = (child_left old mid c i inner le m).levels h l
+      (lo h (subst (IsLoose h) (sym is) (loose_child h old i l le)))
 
   -- a node's pairs around a child
   last_pairs : (n : Node K V) (i : ℕ) → IsInner n → i ≡ length (own_pairs n) → pairs_of n ≡ before_child n i ++ pairs_of (child_at n i)
@@ -170,13 +182,15 @@ module _ {K V : Type 0} where
     pub pairs : pairs_of old ≡ pairs_of new ++ x ∷ []
     pub levels : (h : ℕ) → IsLoose h old → IsLoose h new
 
-  pub end_off : (old new c : Node K V) (x : K × V) → IsInner old → pairs_of (child_at old (length (own_pairs old))) ≡ [] → own_pairs old ≡ own_pairs new ++ x ∷ [] → children_of old ≡ children_of new ++ c ∷ [] → IsEndOff old new x
+  pub end_off : (old new c : Node K V) (x : K × V) → IsInner old → pairs_of (child_at old (length (own_pairs old))) ≡ []
+      → own_pairs old ≡ own_pairs new ++ x ∷ [] → children_of old ≡ children_of new ++ c ∷ [] → IsEndOff old new x
   end_off old new c x inner none e f =
       let k : length (children_of old) ≡ length (own_pairs old) + 1 = inner in
       let a = ap length e ∙ length-append (own_pairs new) (x ∷ []) in
       let b = ap length f ∙ length-append (children_of new) (c ∷ []) in
       let n : length (children_of new) ≡ length (own_pairs new) + 1 = omega arith in
-      let is : child_at old (length (own_pairs old)) ≡ c = ap (λ cs. get_or cs (length (own_pairs old)) old) f ∙ at_place (children_of new) [] c old (length (own_pairs old)) (omega arith) in
+      let is : child_at old (length (own_pairs old)) ≡ c = ap (λ cs. get_or cs (length (own_pairs old)) old) f
+      ∙ at_place (children_of new) [] c old (length (own_pairs old)) (omega arith) in
       let z : pairs_of c ≡ [] = ap pairs_of (sym is) ∙ none in
       record {
         pairs = pairs_is old ∙ ap (λ cs. weave (map pairs_of cs) (own_pairs old)) f ∙ ap (λ ps. weave (map pairs_of (children_of new ++ c ∷ [])) ps) e
@@ -225,7 +239,8 @@ module _ {S K V : Type 0} (R : S → K × V → S → V → Bool → Type 0) whe
       let n : now ≡ l.stay = l.now_is ∙ ap (λ r. l.stay ++ r) z ∙ append-nil l.stay in
       subst (λ x. RetainsInTurn R s x t now) (sym o) (subst (λ x. RetainsInTurn R s l.seen t x) (sym n) l.sifts)
 
-  pub leaf_kept : (s t u : S) (old now new : List (K × V)) (at left left' : ℕ) (e : K × V) (w : V) → IsLeafSifted s t old now at left → left ≡ left' + 1 → R t e u w true → e ≡ get_or now at e → new ≡ set_value now at w → IsLeafSifted s u old new (at + 1) left'
+  pub leaf_kept : (s t u : S) (old now new : List (K × V)) (at left left' : ℕ) (e : K × V) (w : V) → IsLeafSifted s t old now at left → left ≡ left' + 1
+      → R t e u w true → e ≡ get_or now at e → new ≡ set_value now at w → IsLeafSifted s u old new (at + 1) left'
   leaf_kept s t u old now new at left left' e w l k r q v = go l.rest l.left_is l.old_is l.now_is
     where
       go : (rest : List (K × V)) → length rest ≡ left → old ≡ l.seen ++ rest → now ≡ l.stay ++ rest → IsLeafSifted s u old new (at + 1) left'
@@ -237,13 +252,15 @@ module _ {S K V : Type 0} (R : S → K × V → S → V → Bool → Type 0) whe
             stay = l.stay ++ (e.0, w) ∷ [];
             rest = rest;
             old_is = o ∙ ap (λ y. l.seen ++ y ∷ rest) (sym is) ∙ sym (append_assoc l.seen (e ∷ []) rest);
-            now_is = v ∙ ap (λ xs. set_value xs at w) (n ∙ ap (λ y. l.stay ++ y ∷ rest) (sym is)) ∙ value_place l.stay rest e w at l.place ∙ sym (append_assoc l.stay ((e.0, w) ∷ []) rest);
+            now_is = v ∙ ap (λ xs. set_value xs at w) (n ∙ ap (λ y. l.stay ++ y ∷ rest) (sym is)) ∙ value_place l.stay rest e w at l.place
+                ∙ sym (append_assoc l.stay ((e.0, w) ∷ []) rest);
             place = length-append l.stay ((e.0, w) ∷ []) ∙ ap (λ k. k + 1) l.place;
             left_is = omega arith;
             sifts = retains_join R l.seen (e ∷ []) l.stay ((e.0, w) ∷ []) s t u l.sifts (retains_one R e t u w true r);
           }
 
-  pub leaf_gone : (s t u : S) (old now new : List (K × V)) (at left left' : ℕ) (e : K × V) (w : V) → IsLeafSifted s t old now at left → left ≡ left' + 1 → R t e u w false → e ≡ get_or now at e → new ≡ remove (set_value now at w) at → IsLeafSifted s u old new at left'
+  pub leaf_gone : (s t u : S) (old now new : List (K × V)) (at left left' : ℕ) (e : K × V) (w : V) → IsLeafSifted s t old now at left → left ≡ left' + 1
+      → R t e u w false → e ≡ get_or now at e → new ≡ remove (set_value now at w) at → IsLeafSifted s u old new at left'
   leaf_gone s t u old now new at left left' e w l k r q v = go l.rest l.left_is l.old_is l.now_is
     where
       go : (rest : List (K × V)) → length rest ≡ left → old ≡ l.seen ++ rest → now ≡ l.stay ++ rest → IsLeafSifted s u old new at left'
@@ -255,15 +272,20 @@ module _ {S K V : Type 0} (R : S → K × V → S → V → Bool → Type 0) whe
             stay = l.stay;
             rest = rest;
             old_is = o ∙ ap (λ y. l.seen ++ y ∷ rest) (sym is) ∙ sym (append_assoc l.seen (e ∷ []) rest);
-            now_is = v ∙ ap (λ xs. remove (set_value xs at w) at) (n ∙ ap (λ y. l.stay ++ y ∷ rest) (sym is)) ∙ ap (λ xs. remove xs at) (value_place l.stay rest e w at l.place) ∙ remove_place l.stay rest (e.0, w) at l.place;
+            now_is = v ∙ ap (λ xs. remove (set_value xs at w) at) (n ∙ ap (λ y. l.stay ++ y ∷ rest) (sym is))
+                ∙ ap (λ xs. remove xs at) (value_place l.stay rest e w at l.place) ∙ remove_place l.stay rest (e.0, w) at l.place;
             place = l.place;
             left_is = omega arith;
-            sifts = subst (λ zs. RetainsInTurn R s (l.seen ++ e ∷ []) u zs) (append-nil l.stay) (retains_join R l.seen (e ∷ []) l.stay [] s t u l.sifts (retains_one R e t u w false r));
+            sifts = subst (λ zs. RetainsInTurn R s (l.seen ++ e ∷ []) u zs) (append-nil l.stay)
+                (retains_join R l.seen (e ∷ []) l.stay [] s t u l.sifts (retains_one R e t u w false r));
           }
 
-  pub leaf_passed : (s t u : S) (old now new : List (K × V)) (at left left' j : ℕ) → IsLeafSifted s t old now at left → left ≡ left' + 1 → IsOwnPassed R t u at j now new → IsLeafSifted s u old new j left'
-  leaf_passed s t u old now new at left left' j l k (e, w, true, r, q, p) = subst (λ i. IsLeafSifted s u old new i left') (sym p.0) (leaf_kept s t u old now new at left left' e w l k r q p.1)
-  leaf_passed s t u old now new at left left' j l k (e, w, false, r, q, p) = subst (λ i. IsLeafSifted s u old new i left') (sym p.0) (leaf_gone s t u old now new at left left' e w l k r q p.1)
+  pub leaf_passed : (s t u : S) (old now new : List (K × V)) (at left left' j : ℕ) → IsLeafSifted s t old now at left → left ≡ left' + 1
+      → IsOwnPassed R t u at j now new → IsLeafSifted s u old new j left'
+  leaf_passed s t u old now new at left left' j l k (e, w, true, r, q, p) =
+      subst (λ i. IsLeafSifted s u old new i left') (sym p.0) (leaf_kept s t u old now new at left left' e w l k r q p.1)
+  leaf_passed s t u old now new at left left' j l k (e, w, false, r, q, p) =
+      subst (λ i. IsLeafSifted s u old new i left') (sym p.0) (leaf_gone s t u old now new at left left' e w l k r q p.1)
 
   -- the pair behind a child was asked: what the node then is
   module _ (s t : S) (i : ℕ) (old new : Node K V) (e : K × V) (inner : IsInner old) (lt : i < length (own_pairs old)) (q : e ≡ get_or (own_pairs old) i e) where
@@ -300,7 +322,8 @@ module _ {S K V : Type 0} (R : S → K × V → S → V → Bool → Type 0) whe
         let y = there.own_before in
         omega arith
 
-    passed : (j : ℕ) (A' : List (Node K V)) (P' stay : List (K × V)) → IsOpenAt new j A' d D P' Q → RetainsInTurn R s (e ∷ []) t stay → before_list (map pairs_of A') P' ≡ before_list (map pairs_of A) P ++ (pairs_of c ++ stay)
+    passed : (j : ℕ) (A' : List (Node K V)) (P' stay : List (K × V)) → IsOpenAt new j A' d D P' Q → RetainsInTurn R s (e ∷ []) t stay
+        → before_list (map pairs_of A') P' ≡ before_list (map pairs_of A) P ++ (pairs_of c ++ stay)
         → j ≤ i + 1 → ((h : ℕ) → IsLoose h c → AllByRecursion (IsLoose h) A → AllByRecursion (IsLoose h) A') → IsPassed R s t i j old new
     passed j A' P' stay o r b le al =
         let now_inner = open_inner new j A' d D P' Q o even in
@@ -314,7 +337,8 @@ module _ {S K V : Type 0} (R : S → K × V → S → V → Bool → Type 0) whe
           sifted = r;
           before = open_before new j A' d D P' Q o ∙ b ∙ ap (λ zs. zs ++ (pairs_of c ++ stay)) (sym (open_before old i A c (d ∷ D) P (e ∷ Q) there));
           child = open_child new j A' d D P' Q o;
-          here = open_after old i A c (d ∷ D) P (e ∷ Q) there ∙ ap (λ zs. e ∷ (pairs_of d ++ zs)) (sym (open_after old (i + 1) (A ++ c ∷ []) d D (P ++ e ∷ []) Q next));
+          here = open_after old i A c (d ∷ D) P (e ∷ Q) there ∙ ap (λ zs. e ∷ (pairs_of d ++ zs))
+              (sym (open_after old (i + 1) (A ++ c ∷ []) d D (P ++ e ∷ []) Q next));
           after = open_after new j A' d D P' Q o ∙ sym (open_after old (i + 1) (A ++ c ∷ []) d D (P ++ e ∷ []) Q next);
           left = omega arith;
           inner = now_inner;
@@ -326,8 +350,12 @@ module _ {S K V : Type 0} (R : S → K × V → S → V → Bool → Type 0) whe
         go n f (suc h) l =
             let all = subst (AllByRecursion (IsLoose h)) there.children l.2 in
             let back = all_back (IsLoose h) A (c ∷ d ∷ D) all in
-            let fits = l.0 in
-            (omega arith, n, subst (AllByRecursion (IsLoose h)) (sym o.children) (all_both (IsLoose h) A' (d ∷ D) (al h back.0 (all_front (IsLoose h) A (c ∷ d ∷ D) all)) back.1))
+            let fits = l.0 in (
+              omega arith,
+              n,
+              subst (AllByRecursion (IsLoose h)) (sym o.children)
+                  (all_both (IsLoose h) A' (d ∷ D) (al h back.0 (all_front (IsLoose h) A (c ∷ d ∷ D) all)) back.1),
+            )
 
     same_length : length A ≡ length P
     same_length = there.before ∙ sym there.own_before
@@ -335,10 +363,12 @@ module _ {S K V : Type 0} (R : S → K × V → S → V → Bool → Type 0) whe
     -- it stays
     pub passed_kept : (w : V) → R s e t w true → new ≡ with_value old i w → IsPassed R s t i (i + 1) old new
     passed_kept w r n =
-        let f : own_pairs new ≡ P ++ (e.0, w) ∷ Q = ap own_pairs n ∙ value_own old i w ∙ ap (λ xs. set_value xs i w) there.own ∙ value_place P Q e w i there.own_before in
+        let f : own_pairs new ≡ P ++ (e.0, w) ∷ Q = ap own_pairs n ∙ value_own old i w ∙ ap (λ xs. set_value xs i w) there.own
+        ∙ value_place P Q e w i there.own_before in
         let g : children_of new ≡ A ++ c ∷ d ∷ D = ap children_of n ∙ value_children old i w ∙ there.children in
         let o : IsOpenAt new i A c (d ∷ D) P ((e.0, w) ∷ Q) = record { children = g; own = f; before = there.before; own_before = there.own_before } in
-        passed (i + 1) (A ++ c ∷ []) (P ++ (e.0, w) ∷ []) ((e.0, w) ∷ []) (open_next new i A c (d ∷ D) P ((e.0, w) ∷ Q) o (e.0, w) Q d D refl refl) (retains_one R e s t w true r) (before_next A c P (e.0, w) same_length) (omega arith)
+        passed (i + 1) (A ++ c ∷ []) (P ++ (e.0, w) ∷ []) ((e.0, w) ∷ []) (open_next new i A c (d ∷ D) P ((e.0, w) ∷ Q) o (e.0, w) Q d D refl refl)
+        (retains_one R e s t w true r) (before_next A c P (e.0, w) same_length) (omega arith)
         (λ h x a. all_both (IsLoose h) A (c ∷ []) a (x, tt))
 
     -- another pair takes its place
@@ -363,7 +393,8 @@ module _ {S K V : Type 0} (R : S → K × V → S → V → Bool → Type 0) whe
         let l = m.children ∙ ap (λ xs. slice_set xs i c') there.children ∙ set_place A (d ∷ D) c c' i there.before in
         let g : children_of new ≡ A ++ d ∷ D = sc ∙ ap (λ xs. remove xs i) l ∙ remove_place A (d ∷ D) c' i there.before in
         let o : IsOpenAt new i A d D P Q = record { children = g; own = f; before = there.before; own_before = there.own_before } in
-        passed i A P [] o (retains_one R e s t w false r) (sym (append-nil (before_list (map pairs_of A) P)) ∙ ap (λ zs. before_list (map pairs_of A) P ++ zs) (sym (ap (λ zs. zs ++ []) pe))) (omega arith) (λ h x a. a)
+        passed i A P [] o (retains_one R e s t w false r) (sym (append-nil (before_list (map pairs_of A) P))
+        ∙ ap (λ zs. before_list (map pairs_of A) P ++ zs) (sym (ap (λ zs. zs ++ []) pe))) (omega arith) (λ h x a. a)
 
   -- the pairs before a child were asked
   pub record IsSifting (s t : S) (old now : Node K V) (at left : ℕ) : Type 0 where
@@ -385,22 +416,27 @@ module _ {S K V : Type 0} (R : S → K × V → S → V → Bool → Type 0) whe
   }
 
   -- a child, and the pair behind it
-  pub sifting_more : (s t u v : S) (old now mid new dold dnew : Node K V) (at left left' j : ℕ) → IsSifting s t old now at left → left ≡ left' + 1 → dold ≡ child_at now at → IsChildSet now mid at dnew → RetainsInTurn R t (pairs_of dold) u (pairs_of dnew) → ((h : ℕ) → IsLoose h dold → IsLoose h dnew)
+  pub sifting_more : (s t u v : S) (old now mid new dold dnew : Node K V) (at left left' j : ℕ) → IsSifting s t old now at left → left ≡ left' + 1
+      → dold ≡ child_at now at → IsChildSet now mid at dnew → RetainsInTurn R t (pairs_of dold) u (pairs_of dnew) → ((h : ℕ) → IsLoose h dold → IsLoose h dnew)
       → IsPassed R u v at j mid new → IsSifting s v old new j left'
   sifting_more s t u v old now mid new dold dnew at left left' j g k is m r lo p =
       let li = g.left_is in
       let c = child_left now mid dnew at g.inner (omega arith) m in
       let o : length (own_pairs mid) ≡ length (own_pairs now) = ap length m.same in
       let pl = p.left in
-      let here : after_child now at ≡ p.asked ∷ (pairs_of (child_at new j) ++ after_child new j) = sym c.after ∙ p.here ∙ ap (λ n. p.asked ∷ (pairs_of n ++ after_child mid (at + 1))) (sym p.child) ∙ ap (λ zs. p.asked ∷ (pairs_of (child_at new j) ++ zs)) (sym p.after) in
+      let here : after_child now at ≡ p.asked ∷ (pairs_of (child_at new j) ++ after_child new j) = sym c.after ∙ p.here
+      ∙ ap (λ n. p.asked ∷ (pairs_of n ++ after_child mid (at + 1))) (sym p.child) ∙ ap (λ zs. p.asked ∷ (pairs_of (child_at new j) ++ zs)) (sym p.after) in
       let was : pairs_of old ≡ g.seen ++ (pairs_of dold ++ p.asked ∷ (pairs_of (child_at new j) ++ after_child new j)) =
       g.old_is ∙ ap (λ n. g.seen ++ (pairs_of n ++ after_child now at)) (sym is) ∙ ap (λ zs. g.seen ++ (pairs_of dold ++ zs)) here in
-      let front : before_child new j ≡ before_child now at ++ (pairs_of dnew ++ p.stay) = p.before ∙ ap (λ zs. zs ++ (pairs_of (child_at mid at) ++ p.stay)) c.before ∙ ap (λ n. before_child now at ++ (pairs_of n ++ p.stay)) c.child in
+      let front : before_child new j ≡ before_child now at ++ (pairs_of dnew ++ p.stay) = p.before
+      ∙ ap (λ zs. zs ++ (pairs_of (child_at mid at) ++ p.stay)) c.before ∙ ap (λ n. before_child now at ++ (pairs_of n ++ p.stay)) c.child in
       record {
         seen = g.seen ++ (pairs_of dold ++ p.asked ∷ []);
-        old_is = was ∙ ap (λ zs. g.seen ++ zs) (sym (append_assoc (pairs_of dold) (p.asked ∷ []) (pairs_of (child_at new j) ++ after_child new j))) ∙ sym (append_assoc g.seen (pairs_of dold ++ p.asked ∷ []) (pairs_of (child_at new j) ++ after_child new j));
+        old_is = was ∙ ap (λ zs. g.seen ++ zs) (sym (append_assoc (pairs_of dold) (p.asked ∷ []) (pairs_of (child_at new j) ++ after_child new j)))
+            ∙ sym (append_assoc g.seen (pairs_of dold ++ p.asked ∷ []) (pairs_of (child_at new j) ++ after_child new j));
         sifts = subst (λ zs. RetainsInTurn R s (g.seen ++ (pairs_of dold ++ p.asked ∷ [])) v zs) (sym front)
-            (retains_join R g.seen (pairs_of dold ++ p.asked ∷ []) (before_child now at) (pairs_of dnew ++ p.stay) s t v g.sifts (retains_join R (pairs_of dold) (p.asked ∷ []) (pairs_of dnew) p.stay t u v r p.sifted));
+            (retains_join R g.seen (pairs_of dold ++ p.asked ∷ []) (before_child now at) (pairs_of dnew ++ p.stay) s t v g.sifts
+            (retains_join R (pairs_of dold) (p.asked ∷ []) (pairs_of dnew) p.stay t u v r p.sifted));
         left_is = omega arith;
         inner = p.inner;
         levels = go;
@@ -414,14 +450,19 @@ module _ {S K V : Type 0} (R : S → K × V → S → V → Bool → Type 0) whe
     pub levels : (h : ℕ) → IsLoose h old → IsLoose h new
 
   -- the last child
-  pub sifting_end : (s t u : S) (old now new dold dnew : Node K V) (at : ℕ) → IsSifting s t old now at 0 → dold ≡ child_at now at → IsChildSet now new at dnew → RetainsInTurn R t (pairs_of dold) u (pairs_of dnew) → ((h : ℕ) → IsLoose h dold → IsLoose h dnew) → IsAllSifted s u old new
+  pub sifting_end : (s t u : S) (old now new dold dnew : Node K V) (at : ℕ) → IsSifting s t old now at 0 → dold ≡ child_at now at → IsChildSet now new at dnew
+      → RetainsInTurn R t (pairs_of dold) u (pairs_of dnew) → ((h : ℕ) → IsLoose h dold → IsLoose h dnew) → IsAllSifted s u old new
   sifting_end s t u old now new dold dnew at g is m r lo =
       let li = g.left_is in
       let c = child_left now new dnew at g.inner (omega arith) m in
       let o : length (own_pairs new) ≡ length (own_pairs now) = ap length m.same in
-      let was : pairs_of old ≡ g.seen ++ pairs_of dold = g.old_is ∙ ap (λ n. g.seen ++ (pairs_of n ++ after_child now at)) (sym is) ∙ ap (λ zs. g.seen ++ (pairs_of dold ++ zs)) (after_none now at (omega arith)) ∙ ap (λ zs. g.seen ++ zs) (append-nil (pairs_of dold)) in
-      let is' : pairs_of new ≡ before_child now at ++ pairs_of dnew = last_pairs new at c.inner (omega arith) ∙ ap (λ zs. zs ++ pairs_of (child_at new at)) c.before ∙ ap (λ n. before_child now at ++ pairs_of n) c.child in
+      let was : pairs_of old ≡ g.seen ++ pairs_of dold = g.old_is ∙ ap (λ n. g.seen ++ (pairs_of n ++ after_child now at)) (sym is)
+      ∙ ap (λ zs. g.seen ++ (pairs_of dold ++ zs)) (after_none now at (omega arith)) ∙ ap (λ zs. g.seen ++ zs) (append-nil (pairs_of dold)) in
+      let is' : pairs_of new ≡ before_child now at ++ pairs_of dnew = last_pairs new at c.inner (omega arith)
+      ∙ ap (λ zs. zs ++ pairs_of (child_at new at)) c.before ∙ ap (λ n. before_child now at ++ pairs_of n) c.child in
       record {
-        sifts = subst (λ x. RetainsInTurn R s x u (pairs_of new)) (sym was) (subst (λ x. RetainsInTurn R s (g.seen ++ pairs_of dold) u x) (sym is') (retains_join R g.seen (pairs_of dold) (before_child now at) (pairs_of dnew) s t u g.sifts r));
+        sifts = subst (λ x. RetainsInTurn R s x u (pairs_of new)) (sym was)
+            (subst (λ x. RetainsInTurn R s (g.seen ++ pairs_of dold) u x) (sym is')
+            (retains_join R g.seen (pairs_of dold) (before_child now at) (pairs_of dnew) s t u g.sifts r));
         levels = λ h l. child_loose h now new dold dnew at g.inner (omega arith) is m lo (g.levels h l);
       }

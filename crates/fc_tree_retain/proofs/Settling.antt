@@ -1,5 +1,6 @@
 -- A node of which two children were mended, and one of which all were.
-use Rattle.std.proofs.Common.{◌≡◌, ℕ, suc, zero, ◌+◌, ◌<◌, ◌≤◌, List, [], ◌∷◌, ◌++◌, length, get_or, take, drop, refl, sym, ap, subst, ◌∙◌, arith, append_assoc, inl, inr, Some}
+use Rattle.std.proofs.Common.{◌≡◌, ℕ, suc, zero, ◌+◌, ◌<◌, ◌≤◌, List, [], ◌∷◌, ◌++◌, length, get_or, take, drop, refl, sym, ap, subst, ◌∙◌, arith, append_assoc}
+use Rattle.std.proofs.Common.{inl, inr, Some}
 use Rattle.std.specs.Prelude.{◌⊎◌, slice_set}
 use Rattle.std.specs.List.{AllByRecursion}
 use Rattle.std.proofs.lemmas.List.{length-append, length-drop}
@@ -19,11 +20,22 @@ use Rattle.fc_tree_retain.proofs.Levels.{thin_sound, levelled_thin, loose_child}
 
 module _ {K V : Type 0} where
   -- neither of the two was short
-  pub whole_settled : (h i : ℕ) (n : Node K V) → IsSeam h n i → min_len ≤ length (own_pairs (child_at n i)) → min_len ≤ length (own_pairs (child_at n (i + 1))) → IsSettled h i (i + 1) n n
+  pub whole_settled : (h i : ℕ) (n : Node K V) → IsSeam h n i → min_len ≤ length (own_pairs (child_at n i)) → min_len ≤ length (own_pairs (child_at n (i + 1)))
+      → IsSettled h i (i + 1) n n
   whole_settled h i n s l r =
       let k : length (children_of n) ≡ length (own_pairs n) + 1 = s.inner in
       let lt = s.in_bounds in
-      inr (refl, record { left = child_at n i; right = child_at n (i + 1); children = two_at (children_of n) i n (omega arith); own = refl; sound = (thin_sound h _ l s.left, thin_sound h _ r s.right) })
+      inr (
+        refl,
+        record {
+          left = child_at n i;
+          right = child_at n (i + 1);
+          children = two_at (children_of n) i n (omega arith);
+          own = refl;
+          sound =
+              (thin_sound h _ l s.left, thin_sound h _ r s.right);
+        },
+      )
 
   around : (cs : List (Node K V)) (i : ℕ) → i + 1 < length cs → (length (take i cs) ≡ i) × (length (drop (suc (suc i)) cs) + (i + 2) ≡ length cs)
   around cs i lt = let d = length-drop (suc (suc i)) cs in (length_take i cs (omega arith), omega arith)
@@ -57,7 +69,8 @@ module _ {K V : Type 0} where
       D : List (Node K V)
       D = drop (suc (suc i)) (children_of old)
 
-      go : ((place ≡ i) × (children_of mid ≡ take i (children_of old) ++ m.grown ∷ m.other ∷ D)) ⊎ ((place ≡ i + 1) × (children_of mid ≡ take i (children_of old) ++ m.other ∷ m.grown ∷ D)) → IsMetChild h place seam mid
+      go : ((place ≡ i) × (children_of mid ≡ take i (children_of old) ++ m.grown ∷ m.other ∷ D))
+          ⊎ ((place ≡ i + 1) × (children_of mid ≡ take i (children_of old) ++ m.other ∷ m.grown ∷ D)) → IsMetChild h place seam mid
       go (inl (p, e)) =
           let a' = a in
           let t₀ = a'.0 in
@@ -68,7 +81,10 @@ module _ {K V : Type 0} where
           let a' = a in
           let t₀ = a'.0 in
           let cl = ap length e ∙ length-append (take i (children_of old)) (m.other ∷ m.grown ∷ D) in
-          let is : child_at mid (i + 1) ≡ m.grown = ap (λ cs. get_or cs (i + 1) mid) (e ∙ sym (append_assoc (take i (children_of old)) (m.other ∷ []) (m.grown ∷ D))) ∙ at_place (take i (children_of old) ++ m.other ∷ []) D m.grown mid (i + 1) (length-append (take i (children_of old)) (m.other ∷ []) ∙ ap (λ j. j + 1) t₀) in
+          let is : child_at mid (i + 1) ≡ m.grown = ap (λ cs. get_or cs (i + 1) mid)
+          (e ∙ sym (append_assoc (take i (children_of old)) (m.other ∷ []) (m.grown ∷ D)))
+          ∙ at_place (take i (children_of old) ++ m.other ∷ []) D m.grown mid (i + 1)
+          (length-append (take i (children_of old)) (m.other ∷ []) ∙ ap (λ j. j + 1) t₀) in
           subst (λ j. IsMetChild h j seam mid) (sym p) (record { bounds = omega arith; inner = m.inner; met = subst (IsMet h seam) (sym is) m.met })
 
   -- a child that is no leaf
@@ -114,7 +130,8 @@ module _ {K V : Type 0} where
           let lt = s.in_bounds in
           let oo = o.own in
           let i0 : seam ≡ 0 = omega arith in
-          let e : children_of c' ≡ o.whole ∷ [] = o.children ∙ ap (λ n. take n (children_of c) ++ o.whole ∷ drop (suc (suc n)) (children_of c)) i0 ∙ ap (λ ds. o.whole ∷ ds) (drop_all (children_of c) 2 (omega arith)) in
+          let e : children_of c' ≡ o.whole ∷ [] = o.children ∙ ap (λ n. take n (children_of c) ++ o.whole ∷ drop (suc (suc n)) (children_of c)) i0
+          ∙ ap (λ ds. o.whole ∷ ds) (drop_all (children_of c) 2 (omega arith)) in
           let n = ap length e in
           let is : child_at c' 0 ≡ o.whole = ap (λ cs. get_or cs 0 c') e in
           record { thin = (omega arith, omega arith, inr (z, subst (IsThin g) (sym is) o.thin)); kept = omega arith }
@@ -128,7 +145,15 @@ module _ {K V : Type 0} where
           let t₁ = a.1 in
           let n = ap length o.children ∙ length-append (take seam (children_of c)) (o.whole ∷ drop (suc (suc seam)) (children_of c)) in
           let w = o.sound (one (omega arith)) in
-          record { thin = (omega arith, omega arith, inl (subst (AllByRecursion (IsSound g)) (sym o.children) (all_both (IsSound g) (take seam (children_of c)) _ s.before (w, after)))); kept = omega arith }
+          record {
+            thin = (
+              omega arith,
+              omega arith,
+              inl (subst (AllByRecursion (IsSound g)) (sym o.children)
+                  (all_both (IsSound g) (take seam (children_of c)) _ s.before (w, after))),
+            );
+            kept = omega arith;
+          }
   met_left g seam j c c' (s, after, one) (inr (q, t)) =
       let k : length (children_of c) ≡ length (own_pairs c) + 1 = s.inner in
       let lt = s.in_bounds in
@@ -138,17 +163,29 @@ module _ {K V : Type 0} where
       let t₀ = a.0 in
       let t₁ = a.1 in
       let n = ap length t.children ∙ length-append (take seam (children_of c)) (t.left ∷ t.right ∷ drop (suc (suc seam)) (children_of c)) in
-      record { thin = (omega arith, omega arith, inl (subst (AllByRecursion (IsSound g)) (sym t.children) (all_both (IsSound g) (take seam (children_of c)) _ s.before (t.sound.0, (t.sound.1, after))))); kept = omega arith }
+      record {
+        thin = (
+          omega arith,
+          omega arith,
+          inl (subst (AllByRecursion (IsSound g)) (sym t.children)
+              (all_both (IsSound g) (take seam (children_of c)) _ s.before (t.sound.0, (t.sound.1, after)))),
+        );
+        kept = omega arith;
+      }
 
   -- so the two are settled
-  pub joined_settled : (h i place seam last : ℕ) (old mid new c' : Node K V) → IsSeam h old i → IsJoined h i place seam last old mid → children_of new ≡ slice_set (children_of mid) place c' → length (own_pairs new) ≡ length (own_pairs mid) → IsMetLeft h (child_at mid place) c' → IsSettled h i last old new
+  pub joined_settled : (h i place seam last : ℕ) (old mid new c' : Node K V) → IsSeam h old i → IsJoined h i place seam last old mid
+      → children_of new ≡ slice_set (children_of mid) place c' → length (own_pairs new) ≡ length (own_pairs mid) → IsMetLeft h (child_at mid place) c'
+      → IsSettled h i last old new
   joined_settled h i place seam last old mid new c' s (inl (p, q, m)) e o l =
       let k : length (children_of old) ≡ length (own_pairs old) + 1 = s.inner in
       let lt = s.in_bounds in
       let a = around (children_of old) i (omega arith) in
       let D = drop (suc (suc i)) (children_of old) in
-      let is : child_at mid place ≡ m.whole = ap (child_at mid) p ∙ ap (λ cs. get_or cs i mid) m.children ∙ at_place (take i (children_of old)) D m.whole mid i a.0 in
-      let cs : children_of new ≡ take i (children_of old) ++ c' ∷ D = e ∙ ap (λ j. slice_set (children_of mid) j c') p ∙ ap (λ xs. slice_set xs i c') m.children ∙ set_place (take i (children_of old)) D m.whole c' i a.0 in
+      let is : child_at mid place ≡ m.whole = ap (child_at mid) p ∙ ap (λ cs. get_or cs i mid) m.children
+      ∙ at_place (take i (children_of old)) D m.whole mid i a.0 in
+      let cs : children_of new ≡ take i (children_of old) ++ c' ∷ D = e ∙ ap (λ j. slice_set (children_of mid) j c') p
+      ∙ ap (λ xs. slice_set xs i c') m.children ∙ set_place (take i (children_of old)) D m.whole c' i a.0 in
       let size = m.size in
       let mo = m.own in
       let kept = l.kept in
@@ -182,29 +219,36 @@ module _ {K V : Type 0} where
           let kept = l.kept in
           thin_sound h c' (omega arith) l.thin
 
-      go : ((place ≡ i) × (children_of mid ≡ take i (children_of old) ++ m.grown ∷ m.other ∷ D)) ⊎ ((place ≡ i + 1) × (children_of mid ≡ take i (children_of old) ++ m.other ∷ m.grown ∷ D)) → IsSettled h i last old new
+      go : ((place ≡ i) × (children_of mid ≡ take i (children_of old) ++ m.grown ∷ m.other ∷ D))
+          ⊎ ((place ≡ i + 1) × (children_of mid ≡ take i (children_of old) ++ m.other ∷ m.grown ∷ D)) → IsSettled h i last old new
       go (inl (p, f)) =
-          let is : child_at mid place ≡ m.grown = ap (child_at mid) p ∙ ap (λ cs. get_or cs i mid) f ∙ at_place (take i (children_of old)) (m.other ∷ D) m.grown mid i front in
+          let is : child_at mid place ≡ m.grown = ap (child_at mid) p ∙ ap (λ cs. get_or cs i mid) f
+          ∙ at_place (take i (children_of old)) (m.other ∷ D) m.grown mid i front in
           inr (
             q,
             record {
               left = c';
               right = m.other;
-              children = e ∙ ap (λ j. slice_set (children_of mid) j c') p ∙ ap (λ xs. slice_set xs i c') f ∙ set_place (take i (children_of old)) (m.other ∷ D) m.grown c' i front;
+              children = e ∙ ap (λ j. slice_set (children_of mid) j c') p ∙ ap (λ xs. slice_set xs i c') f
+                  ∙ set_place (take i (children_of old)) (m.other ∷ D) m.grown c' i front;
               own = o ∙ m.own;
               sound = (enough is, m.sound);
             },
           )
       go (inr (p, f)) =
-          let f' : children_of mid ≡ (take i (children_of old) ++ m.other ∷ []) ++ m.grown ∷ D = f ∙ sym (append_assoc (take i (children_of old)) (m.other ∷ []) (m.grown ∷ D)) in
+          let f' : children_of mid ≡ (take i (children_of old) ++ m.other ∷ []) ++ m.grown ∷ D = f
+          ∙ sym (append_assoc (take i (children_of old)) (m.other ∷ []) (m.grown ∷ D)) in
           let z : length (take i (children_of old) ++ m.other ∷ []) ≡ i + 1 = length-append (take i (children_of old)) (m.other ∷ []) ∙ ap (λ j. j + 1) front in
-          let is : child_at mid place ≡ m.grown = ap (child_at mid) p ∙ ap (λ cs. get_or cs (i + 1) mid) f' ∙ at_place (take i (children_of old) ++ m.other ∷ []) D m.grown mid (i + 1) z in
+          let is : child_at mid place ≡ m.grown = ap (child_at mid) p ∙ ap (λ cs. get_or cs (i + 1) mid) f'
+          ∙ at_place (take i (children_of old) ++ m.other ∷ []) D m.grown mid (i + 1) z in
           inr (
             q,
             record {
               left = m.other;
               right = c';
-              children = e ∙ ap (λ j. slice_set (children_of mid) j c') p ∙ ap (λ xs. slice_set xs (i + 1) c') f' ∙ set_place (take i (children_of old) ++ m.other ∷ []) D m.grown c' (i + 1) z ∙ append_assoc (take i (children_of old)) (m.other ∷ []) (c' ∷ D);
+              children = e ∙ ap (λ j. slice_set (children_of mid) j c') p ∙ ap (λ xs. slice_set xs (i + 1) c') f'
+                  ∙ set_place (take i (children_of old) ++ m.other ∷ []) D m.grown c' (i + 1) z
+                  ∙ append_assoc (take i (children_of old)) (m.other ∷ []) (c' ∷ D);
               own = o ∙ m.own;
               sound = (m.sound, enough is);
             },
@@ -229,7 +273,8 @@ module _ {K V : Type 0} where
   all_from P [] (suc i) a = tt
   all_from P (c ∷ cs) (suc i) a = all_from P cs i a.1
 
-  pub mending_start : (old now d c : Node K V) (left : ℕ) → IsInner old → IsChildSet old now 0 c → d ≡ child_at old 0 → pairs_of c ≡ pairs_of d → ((h : ℕ) → IsLoose h d → IsThin h c) → length (own_pairs now) ≡ left → IsMending old now 0 left
+  pub mending_start : (old now d c : Node K V) (left : ℕ) → IsInner old → IsChildSet old now 0 c → d ≡ child_at old 0 → pairs_of c ≡ pairs_of d
+      → ((h : ℕ) → IsLoose h d → IsThin h c) → length (own_pairs now) ≡ left → IsMending old now 0 left
   mending_start old now d c left inner m is p th e =
       let k : length (children_of old) ≡ length (own_pairs old) + 1 = inner in
       let n : length (children_of now) ≡ length (children_of old) = ap length m.child ∙ length_set (children_of old) 0 c in
@@ -241,9 +286,11 @@ module _ {K V : Type 0} where
         levels = λ h l. let fits = l.0 in record {
           fits = omega arith;
           before = tt;
-          thin = subst (IsThin h) (sym (ap (λ cs. get_or cs 0 now) m.child ∙ at_set (children_of old) 0 c now (omega arith))) (th h (subst (IsLoose h) (sym is) (loose_child h old 0 l (omega arith))));
+          thin = subst (IsThin h) (sym (ap (λ cs. get_or cs 0 now) m.child ∙ at_set (children_of old) 0 c now (omega arith)))
+              (th h (subst (IsLoose h) (sym is) (loose_child h old 0 l (omega arith))));
           sound = λ z. absurd (omega arith);
-          after = subst (AllByRecursion (IsLoose h)) (sym (ap (drop 1) m.child ∙ drop_set (children_of old) 0 c)) (all_from (IsLoose h) (children_of old) 1 l.2);
+          after = subst (AllByRecursion (IsLoose h)) (sym (ap (drop 1) m.child ∙ drop_set (children_of old) 0 c))
+              (all_from (IsLoose h) (children_of old) 1 l.2);
         };
       }
 
@@ -273,14 +320,16 @@ module _ {K V : Type 0} where
       go : (cs : List (Node K V)) (i : ℕ) → i + 1 < length cs → AllByRecursion (IsLoose h) (drop (suc i) cs) → IsLoose h (get_or cs (i + 1) now)
       go [] i lt a = absurd (omega arith)
       go (c ∷ cs) zero lt a = head_of h cs now (omega arith) a
-      go (c ∷ cs) (suc i) lt a = let e : suc i + 1 ≡ suc (i + 1) = omega arith in subst (λ j. IsLoose h (get_or (c ∷ cs) j now)) (sym e) (go cs i (omega arith) a)
+      go (c ∷ cs) (suc i) lt a = let e : suc i + 1 ≡ suc (i + 1) = omega arith in
+          subst (λ j. IsLoose h (get_or (c ∷ cs) j now)) (sym e) (go cs i (omega arith) a)
 
   drop_one : (i : ℕ) (xs : List (Node K V)) → drop (suc (suc i)) xs ≡ drop 1 (drop (suc i) xs)
   drop_one i [] = refl
   drop_one zero (x ∷ xs) = refl
   drop_one (suc i) (x ∷ xs) = drop_one i xs
 
-  pub next_mended : (h at : ℕ) (now mid d c : Node K V) → IsInner now → at < length (own_pairs now) → IsMendedTo h at now → d ≡ child_at now (at + 1) → IsChildSet now mid (at + 1) c → ((g : ℕ) → IsLoose g d → IsThin g c) → IsNextMended h at mid
+  pub next_mended : (h at : ℕ) (now mid d c : Node K V) → IsInner now → at < length (own_pairs now) → IsMendedTo h at now → d ≡ child_at now (at + 1)
+      → IsChildSet now mid (at + 1) c → ((g : ℕ) → IsLoose g d → IsThin g c) → IsNextMended h at mid
   next_mended h at now mid d c inner lt g is m th =
       let k : length (children_of now) ≡ length (own_pairs now) + 1 = inner in
       let one : at + 1 ≡ suc at = omega arith in
@@ -289,7 +338,8 @@ module _ {K V : Type 0} where
       let o : length (own_pairs mid) ≡ length (own_pairs now) = ap length m.same in
       let fits = g.fits in
       let here : child_at mid at ≡ child_at now at = ap (λ cs. get_or cs at mid) e ∙ get_next (children_of now) at c mid now (omega arith) in
-      let there : child_at mid (at + 1) ≡ c = ap (child_at mid) one ∙ ap (λ cs. get_or cs (suc at) mid) e ∙ at_set (children_of now) (suc at) c mid (omega arith) in
+      let there : child_at mid (at + 1) ≡ c = ap (child_at mid) one ∙ ap (λ cs. get_or cs (suc at) mid) e
+      ∙ at_set (children_of now) (suc at) c mid (omega arith) in
       record {
         seam = record {
           in_bounds = omega arith;
@@ -300,7 +350,8 @@ module _ {K V : Type 0} where
           right = subst (IsThin h) (sym there) (th h (subst (IsLoose h) (sym is) (next_loose h at now inner lt g)));
         };
         sound = λ z. subst (IsSound h) (sym here) (g.sound z);
-        after = subst (AllByRecursion (IsLoose h)) (sym (ap (drop (suc (suc at))) e ∙ drop_set (children_of now) (suc at) c ∙ drop_one at (children_of now))) (all_from (IsLoose h) (drop (suc at) (children_of now)) 1 g.after);
+        after = subst (AllByRecursion (IsLoose h)) (sym (ap (drop (suc (suc at))) e ∙ drop_set (children_of now) (suc at) c ∙ drop_one at (children_of now)))
+            (all_from (IsLoose h) (drop (suc at) (children_of now)) 1 g.after);
       }
 
   -- and the two settled
@@ -320,7 +371,8 @@ module _ {K V : Type 0} where
         before = subst (AllByRecursion (IsSound h)) (sym (ap (take at) o.children ∙ take_place A (o.whole ∷ D) at a.0)) s.before;
         thin = subst (IsThin h) (sym is) o.thin;
         sound = λ z. subst (IsSound h) (sym is) (o.sound (inl (x.sound z)));
-        after = subst (AllByRecursion (IsLoose h)) (sym (ap (drop (suc at)) (o.children ∙ sym (append_assoc A (o.whole ∷ []) D)) ∙ drop_place (A ++ o.whole ∷ []) D (suc at) (let t = length-append A (o.whole ∷ []) in let t₀ = a.0 in omega arith))) x.after;
+        after = subst (AllByRecursion (IsLoose h)) (sym (ap (drop (suc at)) (o.children ∙ sym (append_assoc A (o.whole ∷ []) D))
+            ∙ drop_place (A ++ o.whole ∷ []) D (suc at) (let t = length-append A (o.whole ∷ []) in let t₀ = a.0 in omega arith))) x.after;
       })
   settled_to h at j mid new x (inr (q, o)) =
       let s = x.seam in
@@ -337,13 +389,17 @@ module _ {K V : Type 0} where
       let is : child_at new (at + 1) ≡ o.right = ap (λ cs. get_or cs (at + 1) new) e ∙ at_place (A ++ o.left ∷ []) D o.right new (at + 1) z in
       subst (λ i. IsMendedTo h i new) (sym q) (record {
         fits = omega arith;
-        before = subst (AllByRecursion (IsSound h)) (sym (ap (take (at + 1)) e ∙ take_place (A ++ o.left ∷ []) (o.right ∷ D) (at + 1) z)) (all_both (IsSound h) A (o.left ∷ []) s.before (o.sound.0, tt));
+        before = subst (AllByRecursion (IsSound h)) (sym (ap (take (at + 1)) e ∙ take_place (A ++ o.left ∷ []) (o.right ∷ D) (at + 1) z))
+            (all_both (IsSound h) A (o.left ∷ []) s.before (o.sound.0, tt));
         thin = subst (IsThin h) (sym is) (levelled_thin h o.right o.sound.1.1);
         sound = λ _. subst (IsSound h) (sym is) o.sound.1;
-        after = subst (AllByRecursion (IsLoose h)) (sym (ap (drop (suc (at + 1))) (e ∙ sym (append_assoc (A ++ o.left ∷ []) (o.right ∷ []) D)) ∙ drop_place ((A ++ o.left ∷ []) ++ o.right ∷ []) D (suc (at + 1)) (let t = length-append (A ++ o.left ∷ []) (o.right ∷ []) in omega arith))) x.after;
+        after = subst (AllByRecursion (IsLoose h)) (sym (ap (drop (suc (at + 1))) (e ∙ sym (append_assoc (A ++ o.left ∷ []) (o.right ∷ []) D))
+            ∙ drop_place ((A ++ o.left ∷ []) ++ o.right ∷ []) D (suc (at + 1)) (let t = length-append (A ++ o.left ∷ []) (o.right ∷ []) in omega arith)))
+            x.after;
       })
 
-  settled_sizes : (h at j : ℕ) (mid new : Node K V) → IsSeam h mid at → IsSettled h at j mid new → (length (own_pairs new) + (at + 1) ≡ length (own_pairs mid) + j) × IsInner new
+  settled_sizes : (h at j : ℕ) (mid new : Node K V) → IsSeam h mid at → IsSettled h at j mid new
+      → (length (own_pairs new) + (at + 1) ≡ length (own_pairs mid) + j) × IsInner new
   settled_sizes h at j mid new s (inl (q, o)) =
       let k : length (children_of mid) ≡ length (own_pairs mid) + 1 = s.inner in
       let lt = s.in_bounds in
@@ -363,7 +419,8 @@ module _ {K V : Type 0} where
       let n = ap length o.children ∙ length-append (take at (children_of mid)) (o.left ∷ o.right ∷ drop (suc (suc at)) (children_of mid)) in
       (omega arith, omega arith)
 
-  pub mending_more : (old now mid new d c : Node K V) (at left left' j g : ℕ) → IsMending old now at left → left ≡ left' + 1 → IsLoose (suc g) old → d ≡ child_at now (at + 1) → IsChildSet now mid (at + 1) c → pairs_of c ≡ pairs_of d → ((h : ℕ) → IsLoose h d → IsThin h c)
+  pub mending_more : (old now mid new d c : Node K V) (at left left' j g : ℕ) → IsMending old now at left → left ≡ left' + 1 → IsLoose (suc g) old
+      → d ≡ child_at now (at + 1) → IsChildSet now mid (at + 1) c → pairs_of c ≡ pairs_of d → ((h : ℕ) → IsLoose h d → IsThin h c)
       → pairs_of new ≡ pairs_of mid → ((h : ℕ) → IsSeam h mid at → IsSettled h at j mid new) → IsMending old new j left'
   mending_more old now mid new d c at left left' j g x e l is m p th np st =
       let li = x.left_is in
@@ -387,8 +444,11 @@ module _ {K V : Type 0} where
       let g = x.levels h l in
       (g.fits, x.inner, go at (omega arith) g)
     where
-      go : (at : ℕ) → length (children_of now) ≡ at + 1 → IsMendedTo h at now → AllByRecursion (IsSound h) (children_of now) ⊎ ((length (own_pairs now) ≡ 0) × IsThin h (child_at now 0))
+      go : (at : ℕ) → length (children_of now) ≡ at + 1 → IsMendedTo h at now
+          → AllByRecursion (IsSound h) (children_of now) ⊎ ((length (own_pairs now) ≡ 0) × IsThin h (child_at now 0))
       go zero n g = let k : length (children_of now) ≡ length (own_pairs now) + 1 = x.inner in inr (omega arith, g.thin)
       go (suc at) n g =
-          let e : children_of now ≡ take (suc at) (children_of now) ++ child_at now (suc at) ∷ [] = one_at (children_of now) (suc at) now (omega arith) ∙ ap (λ ds. take (suc at) (children_of now) ++ child_at now (suc at) ∷ ds) (drop_all (children_of now) (suc (suc at)) (omega arith)) in
-          inl (subst (AllByRecursion (IsSound h)) (sym e) (all_both (IsSound h) (take (suc at) (children_of now)) (child_at now (suc at) ∷ []) g.before (g.sound (omega arith), tt)))
+          let e : children_of now ≡ take (suc at) (children_of now) ++ child_at now (suc at) ∷ [] = one_at (children_of now) (suc at) now (omega arith)
+          ∙ ap (λ ds. take (suc at) (children_of now) ++ child_at now (suc at) ∷ ds) (drop_all (children_of now) (suc (suc at)) (omega arith)) in
+          inl (subst (AllByRecursion (IsSound h)) (sym e) (all_both (IsSound h) (take (suc at) (children_of now)) (child_at now (suc at) ∷ []) g.before
+          (g.sound (omega arith), tt)))

@@ -1,5 +1,6 @@
 -- The way down to the first and to the last pair of a tree.
-use Rattle.std.proofs.Common.{◌≡◌, ℕ, suc, zero, ◌+◌, ◌-◌, ◌<◌, ◌≤◌, List, [], ◌∷◌, ◌++◌, length, get_or, slice_get, Some, refl, sym, ap, ◌∙◌, arith, append_assoc, append-nil, length-append, subst, IsTrue, true, false}
+use Rattle.std.proofs.Common.{◌≡◌, ℕ, suc, zero, ◌+◌, ◌-◌, ◌<◌, ◌≤◌, List, [], ◌∷◌, ◌++◌, length, get_or, slice_get, Some, refl, sym, ap, ◌∙◌, arith}
+use Rattle.std.proofs.Common.{append_assoc, append-nil, length-append, subst, IsTrue, true, false}
 use Rattle.fc_tree_node.specs.declared.node.Node.{Node}
 use Rattle.fc_tree_node.specs.Node.{own_pairs, children_of, child_at, pairs_of, IsLeaf, IsInner, IsSoundRoot}
 use Rattle.fc_tree_node.specs.Place.{before_child, after_child}
@@ -60,10 +61,12 @@ module _ {K V : Type 0} where
     height = c.height;
     sound = subst (IsSoundRoot c.height) (sym e) c.sound;
     rest = after_child node 0 ++ w.rest;
-    pairs = w.pairs ∙ ap (λ s. s ++ w.rest) (inner_gap node 0 c.inner (omega arith) ∙ ap (λ n. pairs_of n ++ after_child node 0) (sym e)) ∙ append_assoc (pairs_of child) (after_child node 0) w.rest;
+    pairs = w.pairs ∙ ap (λ s. s ++ w.rest) (inner_gap node 0 c.inner (omega arith) ∙ ap (λ n. pairs_of n ++ after_child node 0) (sym e))
+        ∙ append_assoc (pairs_of child) (after_child node 0) w.rest;
   }
 
-  pub first_found : (root node : Node K V) (p : K × V) → IsFirst root node → IsLeaf node → p ≡ get_or (own_pairs node) 0 p → slice_get (pairs_of root) 0 ≡ Some p
+  pub first_found : (root node : Node K V) (p : K × V) → IsFirst root node → IsLeaf node → p ≡ get_or (own_pairs node) 0 p
+      → slice_get (pairs_of root) 0 ≡ Some p
   first_found root node p w l e =
       let some = w.sound.0 in
       ap (λ s. slice_get s 0) (w.pairs ∙ ap (λ s. s ++ w.rest) (leaf_pairs node l)) ∙ first_there (own_pairs node) w.rest p (omega arith) e
@@ -71,15 +74,19 @@ module _ {K V : Type 0} where
   pub last_start : (h : ℕ) (root : Node K V) → IsSoundRoot h root → IsLast root root
   last_start h root s = record { height = h; sound = s; lead = []; pairs = refl }
 
-  pub last_down : (root node child : Node K V) (i : ℕ) → IsLast root node → IsChild node i → i ≡ length (own_pairs node) → child ≡ child_at node i → IsLast root child
+  pub last_down : (root node child : Node K V) (i : ℕ) → IsLast root node → IsChild node i → i ≡ length (own_pairs node) → child ≡ child_at node i
+      → IsLast root child
   last_down root node child i w c end e = record {
     height = c.height;
     sound = subst (IsSoundRoot c.height) (sym e) c.sound;
     lead = w.lead ++ before_child node i;
-    pairs = w.pairs ∙ ap (λ s. w.lead ++ s) (inner_gap node i c.inner (omega arith) ∙ ap (λ s. before_child node i ++ s) (ap (λ r. pairs_of (child_at node i) ++ r) (after_none node i (omega arith)) ∙ append-nil (pairs_of (child_at node i)) ∙ ap pairs_of (sym e)))
+    pairs = w.pairs ∙ ap (λ s. w.lead ++ s) (inner_gap node i c.inner (omega arith)
+        ∙ ap (λ s. before_child node i ++ s) (ap (λ r. pairs_of (child_at node i) ++ r) (after_none node i (omega arith))
+        ∙ append-nil (pairs_of (child_at node i)) ∙ ap pairs_of (sym e)))
         ∙ sym (append_assoc w.lead (before_child node i) (pairs_of child));
   }
 
-  pub last_found : (root node : Node K V) (i : ℕ) (p : K × V) → IsLast root node → IsLeaf node → i + 1 ≡ length (own_pairs node) → p ≡ get_or (own_pairs node) i p → slice_get (pairs_of root) (length (pairs_of root) - 1) ≡ Some p
+  pub last_found : (root node : Node K V) (i : ℕ) (p : K × V) → IsLast root node → IsLeaf node → i + 1 ≡ length (own_pairs node)
+      → p ≡ get_or (own_pairs node) i p → slice_get (pairs_of root) (length (pairs_of root) - 1) ≡ Some p
   last_found root node i p w l end e =
       ap (λ s. slice_get s (length s - 1)) (w.pairs ∙ ap (λ s. w.lead ++ s) (leaf_pairs node l)) ∙ last_there w.lead (own_pairs node) i p end e

@@ -2,6 +2,7 @@ pub mod Ordered
 pub mod SearchFacts
 pub mod PassedFacts
 pub mod Nodes
+pub mod SearchSteps
 pub mod WrittenFacts
 pub mod WrittenPairs
 pub mod WayFacts

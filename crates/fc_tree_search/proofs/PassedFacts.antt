@@ -1,5 +1,6 @@
 -- How many keys a search passes, by the place that it comes to in a node.
-use Rattle.std.proofs.Common.{◌≡◌, ℕ, zero, suc, ◌+◌, ◌*◌, ◌<◌, ◌≤◌, List, [], ◌∷◌, ◌++◌, length, map, take, drop, get_or, Option, Some, None, refl, sym, ap, subst, ◌∙◌, arith}
+use Rattle.std.proofs.Common.{◌≡◌, ℕ, zero, suc, ◌+◌, ◌*◌, ◌<◌, ◌≤◌, List, [], ◌∷◌, ◌++◌, length, map, take, drop, get_or, Option, Some, None, refl, sym, ap}
+use Rattle.std.proofs.Common.{subst, ◌∙◌, arith}
 use Rattle.std.specs.Prelude.{Bool, true, false, cond, min, not, ◌||◌, slice_index}
 use Rattle.std.specs.List.{list_any}
 use Rattle.std.specs.List.{AllByRecursion}
@@ -48,12 +49,14 @@ module _ {K Q V : Type 0} (cmp : K → Q → Ordering) (k : Q) where
   past_equal (e ∷ L) s a = rw a.0 (past_equal L s a.1)
 
   -- keys above k are neither below it nor equal to it
-  pub upper_none : (R : List (K × V)) → AllAbove cmp k R → (lower_count cmp k R ≡ 0) × (list_any (λ e. is_eq (cmp e.0 k)) R ≡ list_any (λ (e : K × V). is_eq (cmp e.0 k)) [])
+  pub upper_none : (R : List (K × V)) → AllAbove cmp k R → (lower_count cmp k R ≡ 0)
+      × (list_any (λ e. is_eq (cmp e.0 k)) R ≡ list_any (λ (e : K × V). is_eq (cmp e.0 k)) [])
   upper_none [] a = (refl, refl)
   upper_none (e ∷ R) a = let i = upper_none R a.1 in (rw a.0 i.0, rw a.0 i.1)
 
   -- at a key that is equal to k
-  passed_equal : (L R : List (K × V)) (p : K × V) (ns : List ℕ) → AllBelow cmp k L → cmp p.0 k ≡ Equal → AllAbove cmp k R → passed_in (L ++ p ∷ R) ns ≡ length L + 1
+  passed_equal : (L R : List (K × V)) (p : K × V) (ns : List ℕ) → AllBelow cmp k L → cmp p.0 k ≡ Equal → AllAbove cmp k R
+      → passed_in (L ++ p ∷ R) ns ≡ length L + 1
   passed_equal L R p ns a e b =
       let l : lower_count cmp k (p ∷ R) ≡ 0 = rw e (upper_none R b).0 in
       let s : stop_count cmp k (p ∷ R) ≡ 1 = rw e refl in
@@ -63,7 +66,8 @@ module _ {K Q V : Type 0} (cmp : K → Q → Ordering) (k : Q) where
       omega arith
 
   -- at a gap, what is passed in the child there counts
-  passed_between : (L R : List (K × V)) (ns : List ℕ) → AllBelow cmp k L → AllAbove cmp k R → passed_in (L ++ R) ns ≡ length L + stop_count cmp k R + slice_index ns (length L)
+  passed_between : (L R : List (K × V)) (ns : List ℕ) → AllBelow cmp k L → AllAbove cmp k R
+      → passed_in (L ++ R) ns ≡ length L + stop_count cmp k R + slice_index ns (length L)
   passed_between L R ns a b =
       let n = upper_none R b in
       let l : lower_count cmp k (L ++ R) ≡ length L = let x = past_lower L R ns a in let y = n.0 in omega arith in
@@ -86,7 +90,10 @@ module _ {K V : Type 0} (cmp : K → K → Ordering) where
   own_after : (ps : List (K × V)) (cs : List (List (K × V))) → IsAscending cmp (after_list ps cs) → IsAscending cmp ps
   own_after [] cs a = tt
   own_after (p ∷ ps) [] a = a
-  own_after (p ∷ ps) (c ∷ cs) a = (own_all (λ e. cmp p.0 e.0 ≡ Less) ps cs (all_back (λ e. cmp p.0 e.0 ≡ Less) c (after_list ps cs) a.0), own_after ps cs (ascending_back cmp c (after_list ps cs) a.1))
+  own_after (p ∷ ps) (c ∷ cs) a = (
+    own_all (λ e. cmp p.0 e.0 ≡ Less) ps cs (all_back (λ e. cmp p.0 e.0 ≡ Less) c (after_list ps cs) a.0),
+    own_after ps cs (ascending_back cmp c (after_list ps cs) a.1),
+  )
 
   own_woven : (cs : List (List (K × V))) (ps : List (K × V)) → IsAscending cmp (weave cs ps) → IsAscending cmp ps
   own_woven [] ps a = a
@@ -116,7 +123,8 @@ module _ {K Q V : Type 0} {own : K → K → Ordering} {cmp : K → Q → Orderi
   upper_rest (e ∷ s) (suc i) a f = upper_rest s i a.1 (omega (arith, f.0), f.1.1, λ d h. f.2 d (omega arith))
 
   -- a search that goes on from a gap in the node
-  pub passed_gap : (n : Node K V) (i : ℕ) → IsAscending own (pairs_of n) → IsGapAt cmp k (own_pairs n) i → passed cmp k n ≡ min (i + 1) (length (own_pairs n)) + slice_index (map (passed cmp k) (children_of n)) i
+  pub passed_gap : (n : Node K V) (i : ℕ) → IsAscending own (pairs_of n) → IsGapAt cmp k (own_pairs n) i
+      → passed cmp k n ≡ min (i + 1) (length (own_pairs n)) + slice_index (map (passed cmp k) (children_of n)) i
   passed_gap n i a f =
       let s = own_pairs n in
       let ns = map (passed cmp k) (children_of n) in
@@ -139,18 +147,21 @@ module _ {K Q V : Type 0} {own : K → K → Ordering} {cmp : K → Q → Orderi
   count_there (c ∷ cs) (suc i) n h = count_there cs i n (omega arith)
 
   -- from a gap into the child there
-  pub passed_down : (n c : Node K V) (i : ℕ) → IsAscending own (pairs_of n) → IsGapAt cmp k (own_pairs n) i → i < length (children_of n) → c ≡ child_at n i → passed cmp k n ≡ min (i + 1) (length (own_pairs n)) + passed cmp k c
+  pub passed_down : (n c : Node K V) (i : ℕ) → IsAscending own (pairs_of n) → IsGapAt cmp k (own_pairs n) i → i < length (children_of n) → c ≡ child_at n i
+      → passed cmp k n ≡ min (i + 1) (length (own_pairs n)) + passed cmp k c
   passed_down n c i a f h e =
       passed_gap n i a f ∙ ap (λ m. min (i + 1) (length (own_pairs n)) + m) (count_there (children_of n) i n h ∙ ap (passed cmp k) (sym e))
 
   -- at a gap in a leaf
-  pub passed_leaf : (n : Node K V) (i : ℕ) → IsAscending own (pairs_of n) → IsGapAt cmp k (own_pairs n) i → IsLeaf n → passed cmp k n ≡ min (i + 1) (length (own_pairs n))
+  pub passed_leaf : (n : Node K V) (i : ℕ) → IsAscending own (pairs_of n) → IsGapAt cmp k (own_pairs n) i → IsLeaf n
+      → passed cmp k n ≡ min (i + 1) (length (own_pairs n))
   passed_leaf n i a f l =
       let none : slice_index (map (passed cmp k) (children_of n)) i ≡ 0 = ap (λ cs. slice_index (map (passed cmp k) cs) i) (leaf_children n l) in
       let g = passed_gap n i a f in
       omega arith
 
-one_key : {X : Type 0} (lower others : Bool) (x : X) (ls : List X) (n : ℕ) → length ls + cond others 1 0 ≤ n → length (cond lower (x ∷ ls) ls) + cond (not lower || others) 1 0 ≤ suc n
+one_key : {X : Type 0} (lower others : Bool) (x : X) (ls : List X) (n : ℕ) → length ls + cond others 1 0 ≤ n
+    → length (cond lower (x ∷ ls) ls) + cond (not lower || others) 1 0 ≤ suc n
 one_key true others x ls n h = omega (arith, h)
 one_key false others x ls n h = omega (arith, h)
 
@@ -177,13 +188,15 @@ module _ {K Q V : Type 0} (cmp : K → Q → Ordering) (k : Q) where
       let e = passed_is cmp k n in
       omega arith
 
-  few_each : (P : Node K V → Type 0) (m : ℕ) → ((c : Node K V) → P c → passed cmp k c ≤ m) → (cs : List (Node K V)) → AllByRecursion P cs → AllByRecursion (λ c. passed cmp k c ≤ m) cs
+  few_each : (P : Node K V → Type 0) (m : ℕ) → ((c : Node K V) → P c → passed cmp k c ≤ m) → (cs : List (Node K V)) → AllByRecursion P cs
+      → AllByRecursion (λ c. passed cmp k c ≤ m) cs
   few_each P m f [] a = tt
   few_each P m f (c ∷ cs) a = (f c a.0, few_each P m f cs a.1)
 
   pub passed_bound : (h : ℕ) (n : Node K V) → IsLevelled h n → passed cmp k n ≤ level_comparisons * (h + 1)
   passed_bound zero n l = let b = few_down n 0 (subst (AllByRecursion (λ c. passed cmp k c ≤ 0)) (sym (leaf_children n l.1)) tt) in let f = l.0 in omega arith
   passed_bound (suc h) n l =
-      let b = few_down n (level_comparisons * (h + 1)) (few_each (λ c. (min_len ≤ length (own_pairs c)) × IsLevelled h c) (level_comparisons * (h + 1)) (λ c p. passed_bound h c p.1) (children_of n) l.2) in
+      let b = few_down n (level_comparisons * (h + 1)) (few_each (λ c. (min_len ≤ length (own_pairs c)) × IsLevelled h c) (level_comparisons * (h + 1))
+      (λ c p. passed_bound h c p.1) (children_of n) l.2) in
       let f = l.0 in
       omega arith

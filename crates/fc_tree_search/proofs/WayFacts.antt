@@ -1,29 +1,21 @@
 -- The path that a search takes, by the place that it comes to in a node.
-use Rattle.std.proofs.Common.{◌≡◌, ℕ, zero, suc, ◌+◌, ◌<◌, List, [], ◌∷◌, ◌++◌, length, map, take, drop, get_or, Option, Some, None, refl, sym, ap, subst, ◌∙◌, arith, append_assoc, append-nil, IsSome, ◌⊎◌, inl, inr}
-use Rattle.std.specs.Prelude.{true}
-use Rattle.std.specs.Option.{is_some}
-use Rattle.std.specs.Cmp.{IsTotalOrder}
+use Rattle.std.proofs.Common.{◌≡◌, ℕ, zero, suc, ◌<◌, List, [], ◌∷◌, ◌++◌, length, map, take, drop, get_or, Option, Some, None, refl, sym, ap, subst, ◌∙◌}
+use Rattle.std.proofs.Common.{arith, append_assoc, append-nil}
 use Rattle.std.specs.declared.cmp.Ordering.{Ordering}
-use Rattle.std.specs.declared.cmp.Ordering.TheVariants.{Less, Equal, Greater}
+use Rattle.std.specs.declared.cmp.Ordering.TheVariants.{Equal}
 use Rattle.fc_base.specs.Ascending.{IsAscending}
-use Rattle.fc_base.specs.Parts.{at}
 use Rattle.fc_base.specs.Query.{IsQueryOrder}
-use Rattle.fc_base.specs.Viewed.{own_order}
-use Rattle.fc_base.specs.OneKey.{put}
 use Rattle.fc_tree_node.specs.declared.node.Node.{Node, out-Node, map-Node, fold_out-Node}
-use Rattle.fc_tree_node.specs.Node.{items_or_none, own_pairs, children_of, child_at, pairs_of, IsLeaf, IsLevelled}
+use Rattle.fc_tree_node.specs.Node.{items_or_none, own_pairs, children_of, child_at, pairs_of, IsLeaf}
 use Rattle.fc_tree_search.specs.Passed.{lower_count}
 use Rattle.fc_tree_search.specs.Way.{onward, way_step, path_to}
-use Rattle.fc_tree_node.specs.Node.{IsTree}
-use Rattle.fc_tree_search.specs.Found.{AllBelow, AllAbove, IsFoundAt, IsGapAt, IsFound, IsGap}
-use Rattle.fc_tree_search.specs.Written.{written}
+use Rattle.fc_tree_search.specs.Found.{AllBelow, AllAbove, IsFoundAt, IsGapAt}
 use Rattle.fc_tree_node.proofs.Lists.{length_take, take_drop}
-use Rattle.fc_tree_node.proofs.Pairs.{leaf_children, child_below}
+use Rattle.fc_tree_node.proofs.Pairs.{leaf_children}
 use Rattle.fc_tree_search.proofs.Ordered.{sides_equal}
 use Rattle.fc_tree_node.proofs.Gaps.{cut_item, item_there}
 use Rattle.fc_tree_search.proofs.PassedFacts.{past_lower, past_equal, upper_none, own_ascending, upper_rest}
-use Rattle.fc_tree_search.proofs.SearchFacts.{IsOnWay, way_ascending, way_more, way_gap, way_found, gap_at}
-use Rattle.fc_tree_search.proofs.WrittenPairs.{written_put}
+use Rattle.fc_tree_search.proofs.SearchFacts.{IsSearch, way_ascending}
 
 module _ {K Q V : Type 0} (cmp : K → Q → Ordering) (k : Q) where
   -- the path in a node of these pairs, with the path in each child
@@ -31,7 +23,8 @@ module _ {K Q V : Type 0} (cmp : K → Q → Ordering) (k : Q) where
   way_in s paths = lower_count cmp k s ∷ onward cmp k s paths
 
   folded : (ps : List (K × V)) (o : Option (List (Node K V)))
-      → way_step cmp k (map-Node K V (Node K V) (List ℕ) (path_to cmp k) (record { pairs = ps; children = o })) ≡ way_in ps (map (path_to cmp k) (items_or_none o))
+      → way_step cmp k (map-Node K V (Node K V) (List ℕ) (path_to cmp k) (record { pairs = ps; children = o }))
+      ≡ way_in ps (map (path_to cmp k) (items_or_none o))
   folded ps None = refl
   folded ps (Some cs) = refl
 
@@ -39,7 +32,8 @@ module _ {K Q V : Type 0} (cmp : K → Q → Ordering) (k : Q) where
   path_is n = fold_out-Node K V (List ℕ) (way_step cmp k) n ∙ folded (own_pairs n) (out-Node K V n).children
 
   -- at a key that is equal to k
-  way_equal : (L R : List (K × V)) (p : K × V) (paths : List (List ℕ)) → AllBelow cmp k L → cmp p.0 k ≡ Equal → AllAbove cmp k R → way_in (L ++ p ∷ R) paths ≡ length L ∷ []
+  way_equal : (L R : List (K × V)) (p : K × V) (paths : List (List ℕ)) → AllBelow cmp k L → cmp p.0 k ≡ Equal → AllAbove cmp k R
+      → way_in (L ++ p ∷ R) paths ≡ length L ∷ []
   way_equal L R p paths a e b =
       let l : lower_count cmp k (p ∷ R) ≡ 0 = rw e (upper_none cmp k R b).0 in
       let i : lower_count cmp k (L ++ p ∷ R) ≡ length L = let x = past_lower cmp k L (p ∷ R) [] a in omega arith in
@@ -47,7 +41,8 @@ module _ {K Q V : Type 0} (cmp : K → Q → Ordering) (k : Q) where
       ap (λ q. lower_count cmp k (L ++ p ∷ R) ∷ q) d ∙ ap (λ j. j ∷ []) i
 
   -- at a gap, the path in the child there goes on
-  way_between : (L R : List (K × V)) (paths : List (List ℕ)) → AllBelow cmp k L → AllAbove cmp k R → way_in (L ++ R) paths ≡ length L ∷ get_or paths (length L) []
+  way_between : (L R : List (K × V)) (paths : List (List ℕ)) → AllBelow cmp k L → AllAbove cmp k R
+      → way_in (L ++ R) paths ≡ length L ∷ get_or paths (length L) []
   way_between L R paths a b =
       let n = upper_none cmp k R b in
       let i : lower_count cmp k (L ++ R) ≡ length L = let x = past_lower cmp k L R [] a in let y = n.0 in omega arith in
@@ -68,7 +63,8 @@ module _ {K Q V : Type 0} {own : K → K → Ordering} {cmp : K → Q → Orderi
       path_is cmp k n ∙ ap (λ ps. way_in cmp k ps paths) cut ∙ way_equal cmp k (take i s) (drop (suc i) s) p paths f.1 e sides.1
       ∙ ap (λ j. j ∷ []) (length_take i s (omega (arith, f.0)))
 
-  path_gap : (n : Node K V) (i : ℕ) → IsAscending own (pairs_of n) → IsGapAt cmp k (own_pairs n) i → path_to cmp k n ≡ i ∷ get_or (map (path_to cmp k) (children_of n)) i []
+  path_gap : (n : Node K V) (i : ℕ) → IsAscending own (pairs_of n) → IsGapAt cmp k (own_pairs n) i
+      → path_to cmp k n ≡ i ∷ get_or (map (path_to cmp k) (children_of n)) i []
   path_gap n i a f =
       let s = own_pairs n in
       let paths = map (path_to cmp k) (children_of n) in
@@ -82,7 +78,8 @@ module _ {K Q V : Type 0} {own : K → K → Ordering} {cmp : K → Q → Orderi
   path_there (c ∷ cs) (suc i) n h = path_there cs i n (omega arith)
 
   -- from a gap into the child there
-  pub path_down : (n c : Node K V) (i : ℕ) → IsAscending own (pairs_of n) → IsGapAt cmp k (own_pairs n) i → i < length (children_of n) → c ≡ child_at n i → path_to cmp k n ≡ i ∷ path_to cmp k c
+  pub path_down : (n c : Node K V) (i : ℕ) → IsAscending own (pairs_of n) → IsGapAt cmp k (own_pairs n) i → i < length (children_of n) → c ≡ child_at n i
+      → path_to cmp k n ≡ i ∷ path_to cmp k c
   path_down n c i a f h e = path_gap n i a f ∙ ap (λ q. i ∷ q) (path_there (children_of n) i n h ∙ ap (path_to cmp k) (sym e))
 
   -- the path ends at a gap in a leaf
@@ -90,59 +87,23 @@ module _ {K Q V : Type 0} {own : K → K → Ordering} {cmp : K → Q → Orderi
   path_leaf n i a f l = path_gap n i a f ∙ ap (λ cs. i ∷ get_or (map (path_to cmp k) cs) i []) (leaf_children n l)
 
 -- a descent along the path
-module _ {K Q V : Type 0} {own : K → K → Ordering} {cmp : K → Q → Ordering} (o : IsQueryOrder own cmp) (k : Q) {root node : Node K V} {path : List ℕ} (t : IsTree root) (a : IsAscending own (pairs_of root)) (w : IsOnWay cmp k root node path) (q : path_to cmp k root ≡ path ++ path_to cmp k node) where
+module _ {K Q V : Type 0} {own : K → K → Ordering} {cmp : K → Q → Ordering} {k : Q} {root node : Node K V} {path : List ℕ}
+    (on : IsSearch own cmp k root node path) (q : path_to cmp k root ≡ path ++ path_to cmp k node) where
+  ascending : IsAscending own (pairs_of node)
+  ascending = way_ascending cmp k own on.levels on.order on.way
+
   grown : (i : ℕ) (more rest : List ℕ) → more ≡ path ++ i ∷ [] → path_to cmp k node ≡ i ∷ rest → path_to cmp k root ≡ more ++ rest
   grown i more rest e f = q ∙ ap (λ p. path ++ p) f ∙ sym (append_assoc path (i ∷ []) rest) ∙ ap (λ p. p ++ rest) (sym e)
 
   -- it ends at a pair of the node
   pub path_ends : (i : ℕ) (more : List ℕ) → more ≡ path ++ i ∷ [] → IsFoundAt cmp k (own_pairs node) i → more ≡ path_to cmp k root
-  path_ends i more e f = sym (grown i more [] e (path_found o k node i (way_ascending cmp k own t a w) f) ∙ append-nil more)
+  path_ends i more e f = sym (grown i more [] e (path_found on.fits k node i ascending f) ∙ append-nil more)
 
   -- it ends at a gap of a leaf
   pub path_ends_leaf : (i : ℕ) (more : List ℕ) → more ≡ path ++ i ∷ [] → IsGapAt cmp k (own_pairs node) i → IsLeaf node → more ≡ path_to cmp k root
-  path_ends_leaf i more e f leaf = sym (grown i more [] e (path_leaf o k node i (way_ascending cmp k own t a w) f leaf) ∙ append-nil more)
+  path_ends_leaf i more e f leaf = sym (grown i more [] e (path_leaf on.fits k node i ascending f leaf) ∙ append-nil more)
 
   -- it goes on in a child
-  pub path_goes_on : (i : ℕ) (child : Node K V) (more : List ℕ) → more ≡ path ++ i ∷ [] → IsGapAt cmp k (own_pairs node) i → i < length (children_of node) → child ≡ child_at node i → path_to cmp k root ≡ more ++ path_to cmp k child
-  path_goes_on i child more e f lt c = grown i more (path_to cmp k child) e (path_down o k node child i (way_ascending cmp k own t a w) f lt c)
-
-module _ {K Q V : Type 0} {own : K → K → Ordering} {cmp : K → Q → Ordering} (o : IsQueryOrder own cmp) (k : Q) where
-  -- in a node the key is found, or its gap
-  seek : (s : List (K × V)) → ((i : ℕ) × IsFoundAt cmp k s i) ⊎ ((i : ℕ) × IsGapAt cmp k s i)
-  seek [] = inr (0, (omega arith, tt, λ d h. absurd (omega arith)))
-  seek (e ∷ s) = go (cmp e.0 k) refl (seek s)
-    where
-      go : (r : Ordering) → cmp e.0 k ≡ r → ((i : ℕ) × IsFoundAt cmp k s i) ⊎ ((i : ℕ) × IsGapAt cmp k s i) → ((i : ℕ) × IsFoundAt cmp k (e ∷ s) i) ⊎ ((i : ℕ) × IsGapAt cmp k (e ∷ s) i)
-      go Less h (inl f) = inl (suc f.0, (omega (arith, f.1.0), (h, f.1.1), f.1.2))
-      go Less h (inr f) = inr (suc f.0, (omega (arith, f.1.0), (h, f.1.1), λ d lt. f.1.2 d (omega arith)))
-      go Equal h f = inl (0, (omega arith, tt, λ d. h))
-      go Greater h f = inr (0, (omega arith, tt, λ d lt. h))
-
-  module _ {root : Node K V} (t : IsTree root) (a : IsAscending own (pairs_of root)) where
-    abbrev Leads : Type 0
-    Leads = IsFound cmp k root (path_to cmp k root) ⊎ IsGap cmp k root (path_to cmp k root)
-
-    leads_from : {node : Node K V} {path : List ℕ} → IsOnWay cmp k root node path → path_to cmp k root ≡ path ++ path_to cmp k node → ((i : ℕ) × IsFoundAt cmp k (own_pairs node) i) ⊎ ((i : ℕ) × IsGapAt cmp k (own_pairs node) i) → ((i : ℕ) → IsGapAt cmp k (own_pairs node) i → Leads) → Leads
-    leads_from w q (inl f) further = inl (subst (IsFound cmp k root) (path_ends o k t a w q f.0 _ refl f.1) (way_found o k t a w f.0 _ refl f.1))
-    leads_from w q (inr f) further = further f.0 f.1
-
-    -- the path leads to the pair with an equal key, or to the gap where the key would go
-    leads : (h : ℕ) (node : Node K V) (path : List ℕ) → IsLevelled h node → IsOnWay cmp k root node path → path_to cmp k root ≡ path ++ path_to cmp k node → Leads
-    leads zero node path l w q =
-        leads_from w q (seek (own_pairs node)) λ i f. inr (subst (IsGap cmp k root) (path_ends_leaf o k t a w q i _ refl f l.1) (way_gap o k t a w i _ refl f l.1))
-    leads (suc h) node path l w q = leads_from w q (seek (own_pairs node)) λ i f.
-        let there : i < length (children_of node) = let e : length (children_of node) ≡ length (own_pairs node) + 1 = l.1 in omega (arith, f.0) in
-        leads h (child_at node i) (path ++ i ∷ []) (child_below h node i l f.0).1 (way_more o k t a w i _ _ refl f there refl) (path_goes_on o k t a w q i _ _ refl f there refl)
-
-    -- where an equal key is in the tree, the path leads to its pair
-    pub path_held : IsSome (at cmp (pairs_of root) k) → IsFound cmp k root (path_to cmp k root)
-    path_held some = go (leads t.0 root [] t.2 record { descent = tt; here = refl; front = tt; back = tt } refl)
-      where
-        go : Leads → IsFound cmp k root (path_to cmp k root)
-        go (inl f) = f
-        go (inr f) = absurd (let none = (gap_at cmp k (path_to cmp k root) t.0 root t.2 f).here in let no : is_some (let o : Option (K × V) = None in o) ≡ true = rw none at some in cc)
-
-module _ {K V : Type 0} {cmp : K → K → Ordering} (o : IsTotalOrder cmp) (k : K) {root : Node K V} (t : IsTree root) (a : IsAscending cmp (pairs_of root)) where
-  -- a value written there is put at the key
-  pub written_to_put : (w : V) → IsSome (at cmp (pairs_of root) k) → pairs_of (written root (path_to cmp k root) w) ≡ put cmp (pairs_of root) k w
-  written_to_put w some = written_put cmp k (path_to cmp k root) t.0 root k w t.2 (path_held (own_order o) k t a some)
+  pub path_goes_on : (i : ℕ) (child : Node K V) (more : List ℕ) → more ≡ path ++ i ∷ [] → IsGapAt cmp k (own_pairs node) i → i < length (children_of node)
+      → child ≡ child_at node i → path_to cmp k root ≡ more ++ path_to cmp k child
+  path_goes_on i child more e f lt c = grown i more (path_to cmp k child) e (path_down on.fits k node child i ascending f lt c)

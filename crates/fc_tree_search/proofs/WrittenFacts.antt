@@ -1,5 +1,6 @@
 -- A descent to the pair at a place, and what a tree is once a value is written there.
-use Rattle.std.proofs.Common.{◌≡◌, ℕ, zero, suc, ◌+◌, ◌-◌, ◌<◌, List, [], ◌∷◌, ◌++◌, length, take, drop, get_or, slice_get, slice_set, Option, Some, refl, sym, ap, subst, ◌∙◌, arith, add-one}
+use Rattle.std.proofs.Common.{◌≡◌, ℕ, zero, suc, ◌+◌, ◌-◌, ◌<◌, List, [], ◌∷◌, ◌++◌, length, take, drop, get_or, slice_get, slice_set, Option, Some, refl, sym}
+use Rattle.std.proofs.Common.{ap, subst, ◌∙◌, arith, add-one}
 use Rattle.std.specs.Option.{option_map}
 use Rattle.fc_tree_node.specs.declared.node.Node.{Node, out-Node, roll-Node}
 use Rattle.fc_tree_node.specs.Node.{own_pairs, children_of, child_at}
@@ -35,7 +36,8 @@ module _ {K V : Type 0} where
   place_step path n i j h e p =
       let next : drop (suc i) path ≡ get_or path (suc i) 0 ∷ drop (suc (suc i)) path = drop_item path (suc i) 0 (omega arith) in
       let same : drop (i + 1) path ≡ get_or path (suc i) 0 ∷ drop (suc (suc i)) path = rw add-one next in
-      let all : drop i path ≡ j ∷ get_or path (suc i) 0 ∷ drop (suc (suc i)) path = drop_item path i 0 (omega arith) ∙ ap (λ q. get_or path i 0 ∷ q) next ∙ ap (λ m. m ∷ get_or path (suc i) 0 ∷ drop (suc (suc i)) path) (sym e) in
+      let all : drop i path ≡ j ∷ get_or path (suc i) 0 ∷ drop (suc (suc i)) path = drop_item path i 0 (omega arith) ∙ ap (λ q. get_or path i 0 ∷ q) next
+      ∙ ap (λ m. m ∷ get_or path (suc i) 0 ∷ drop (suc (suc i)) path) (sym e) in
       let q = subst (λ q. IsPlace q n) all p in
       record {
         there = q.0;
@@ -44,9 +46,11 @@ module _ {K V : Type 0} where
       }
 
   -- the end of a path
-  pub place_end : (path : List ℕ) (n : Node K V) (i m j : ℕ) → m ≡ i → m + 1 ≡ length path → j ≡ get_or path m 0 → IsPlace (drop i path) n → (j < length (own_pairs n)) × (place_pair (drop i path) n ≡ slice_get (own_pairs n) j)
+  pub place_end : (path : List ℕ) (n : Node K V) (i m j : ℕ) → m ≡ i → m + 1 ≡ length path → j ≡ get_or path m 0 → IsPlace (drop i path) n
+      → (j < length (own_pairs n)) × (place_pair (drop i path) n ≡ slice_get (own_pairs n) j)
   place_end path n i m j s h e p =
-      let all : drop i path ≡ j ∷ [] = drop_item path i 0 (omega arith) ∙ ap (λ q. get_or path i 0 ∷ q) (drop_all path (suc i) (omega arith)) ∙ ap (λ x. get_or path x 0 ∷ []) (sym s) ∙ ap (λ x. x ∷ []) (sym e) in
+      let all : drop i path ≡ j ∷ [] = drop_item path i 0 (omega arith) ∙ ap (λ q. get_or path i 0 ∷ q) (drop_all path (suc i) (omega arith))
+      ∙ ap (λ x. get_or path x 0 ∷ []) (sym s) ∙ ap (λ x. x ∷ []) (sym e) in
       (subst (λ q. IsPlace q n) all p, ap (λ q. place_pair q n) all)
 
   pub own_there : (n : Node K V) (i : ℕ) (p : K × V) → i < length (own_pairs n) → p ≡ get_or (own_pairs n) i p → slice_get (own_pairs n) i ≡ Some p
@@ -67,7 +71,8 @@ module _ {K V : Type 0} where
   here_written (i ∷ way) p n w e = absurd (omega arith)
 
   -- one step ahead of others
-  step_place : (i : ℕ) (way : List ℕ) (p : ℕ) (n : Node K V) → IsPlace (i ∷ way ++ p ∷ []) n → (i < length (children_of n)) × IsPlace (way ++ p ∷ []) (child_at n i)
+  step_place : (i : ℕ) (way : List ℕ) (p : ℕ) (n : Node K V) → IsPlace (i ∷ way ++ p ∷ []) n
+      → (i < length (children_of n)) × IsPlace (way ++ p ∷ []) (child_at n i)
   step_place i [] p n q = q
   step_place i (j ∷ way) p n q = q
 
@@ -75,7 +80,8 @@ module _ {K V : Type 0} where
   step_pair i [] p n = refl
   step_pair i (j ∷ way) p n = refl
 
-  step_written : (i : ℕ) (way : List ℕ) (p : ℕ) (n : Node K V) (w : V) → with_child n i (written (child_at n i) (way ++ p ∷ []) w) ≡ written n (i ∷ way ++ p ∷ []) w
+  step_written : (i : ℕ) (way : List ℕ) (p : ℕ) (n : Node K V) (w : V)
+      → with_child n i (written (child_at n i) (way ++ p ∷ []) w) ≡ written n (i ∷ way ++ p ∷ []) w
   unfolding written
   step_written i [] p n w = refl
   step_written i (j ∷ way) p n w = refl
@@ -85,11 +91,8 @@ module _ {K V : Type 0} where
   below_there [] p n e q = absurd (e refl)
   below_there (i ∷ way) p n e q = (step_place i way p n q).0
 
-  pub below_place : (way : List ℕ) (p : ℕ) (n c : Node K V) → (length way ≡ 0 → ⊥) → c ≡ child_at n (get_or way 0 0) → IsPlace (way ++ p ∷ []) n → IsPlace (later_steps way ++ p ∷ []) c
-  below_place [] p n c e s q = absurd (e refl)
-  below_place (i ∷ way) p n c e s q = subst (λ r. IsPlace (r ++ p ∷ []) c) (sym (after_is way i)) (subst (IsPlace (way ++ p ∷ [])) (sym s) (step_place i way p n q).1)
-
-  pub below_pair : (way : List ℕ) (p : ℕ) (n c : Node K V) → (length way ≡ 0 → ⊥) → c ≡ child_at n (get_or way 0 0) → place_pair (way ++ p ∷ []) n ≡ place_pair (later_steps way ++ p ∷ []) c
+  pub below_pair : (way : List ℕ) (p : ℕ) (n c : Node K V) → (length way ≡ 0 → ⊥) → c ≡ child_at n (get_or way 0 0)
+      → place_pair (way ++ p ∷ []) n ≡ place_pair (later_steps way ++ p ∷ []) c
   below_pair [] p n c e s = absurd (e refl)
   below_pair (i ∷ way) p n c e s = step_pair i way p n ∙ ap (place_pair (way ++ p ∷ [])) (sym s) ∙ ap (λ r. place_pair (r ++ p ∷ []) c) (sym (after_is way i))
 
@@ -99,7 +102,8 @@ module _ {K V : Type 0} where
   set_is_value (x ∷ s) (suc i) e w h r = ap (λ t. x ∷ t) (set_is_value s i e w (omega arith) r)
 
   -- what a lent pair of the node's own leaves
-  pub own_written : (n : Node K V) (i : ℕ) (e : K × V) (w : V) → i < length (own_pairs n) → e ≡ get_or (own_pairs n) i e → roll-Node K V (record { pairs = slice_set (own_pairs n) i (e.0, w); children = (out-Node K V n).children }) ≡ with_value n i w
+  pub own_written : (n : Node K V) (i : ℕ) (e : K × V) (w : V) → i < length (own_pairs n) → e ≡ get_or (own_pairs n) i e
+      → roll-Node K V (record { pairs = slice_set (own_pairs n) i (e.0, w); children = (out-Node K V n).children }) ≡ with_value n i w
   own_written n i e w h r = ap (λ ps. roll-Node K V (record { pairs = ps; children = (out-Node K V n).children })) (set_is_value (own_pairs n) i e w h r)
 
   -- the child that a way of more steps leads through, lent out of the list

@@ -1,5 +1,6 @@
 -- The tree in which a value is written at a place: its pairs, its levels, and what a search passes in it.
-use Rattle.std.proofs.Common.{◌≡◌, ℕ, zero, suc, ◌+◌, ◌<◌, ◌≤◌, List, [], ◌∷◌, ◌++◌, length, map, take, drop, get_or, slice_get, slice_set, Option, Some, None, refl, sym, ap, subst, ◌∙◌, arith, cond}
+use Rattle.std.proofs.Common.{◌≡◌, ℕ, zero, suc, ◌+◌, ◌<◌, ◌≤◌, List, [], ◌∷◌, ◌++◌, length, map, take, drop, get_or, slice_get, slice_set, Option, Some, None}
+use Rattle.std.proofs.Common.{refl, sym, ap, subst, ◌∙◌, arith, cond}
 use Rattle.std.specs.Prelude.{Bool, true, false, unwrap_or, not, ◌||◌, slice_index}
 use Rattle.std.specs.List.{AllByRecursion, list_any}
 use Rattle.std.specs.Option.{option_map}
@@ -98,7 +99,8 @@ module _ {K V : Type 0} where
       (omega (arith, l.0), omega arith, subst (AllByRecursion (IsBelow h)) (sym (child_children n i c)) (all_set (IsBelow h) (children_of n) i c l.2 b))
 
   -- the levels of the tree in which a value is written
-  pub written_levels : (path : List ℕ) (h : ℕ) (n : Node K V) (w : V) → IsLevelled h n → IsPlace path n → IsLevelled h (written n path w) × (length (own_pairs (written n path w)) ≡ length (own_pairs n))
+  pub written_levels : (path : List ℕ) (h : ℕ) (n : Node K V) (w : V) → IsLevelled h n → IsPlace path n
+      → IsLevelled h (written n path w) × (length (own_pairs (written n path w)) ≡ length (own_pairs n))
   unfolding written
   written_levels [] h n w l q = absurd q
   written_levels (i ∷ []) h n w l q = (value_levels h n i w l, ap length (value_own n i w) ∙ length_value (own_pairs n) i w)
@@ -118,7 +120,8 @@ module _ {K V : Type 0} where
     pub before : before_pair path m ≡ before_pair path n
     pub after : after_pair path m ≡ after_pair path n
 
-  own_at : (n : Node K V) (i : ℕ) (p : K × V) (w : V) → i < length (own_pairs n) → slice_get (own_pairs n) i ≡ Some p → IsWrittenAt (i ∷ []) n (with_value n i w) p w
+  own_at : (n : Node K V) (i : ℕ) (p : K × V) (w : V) → i < length (own_pairs n) → slice_get (own_pairs n) i ≡ Some p
+      → IsWrittenAt (i ∷ []) n (with_value n i w) p w
   own_at n i p w lt e =
       let m = with_value n i w in
       let s = own_pairs n in
@@ -127,8 +130,10 @@ module _ {K V : Type 0} where
       record {
         place = omega arith;
         pair = ap (λ ps. slice_get ps i) (value_own n i w) ∙ get_value s i w p e;
-        before = ap (λ cs. part (take (suc i) cs) (take i (own_pairs m))) (value_children n i w) ∙ ap (part (take (suc i) (children_of n))) (ap (take i) (value_own n i w) ∙ take_value s i w);
-        after = ap (λ cs. part (drop (suc i) cs) (drop (suc i) (own_pairs m))) (value_children n i w) ∙ ap (part (drop (suc i) (children_of n))) (ap (drop (suc i)) (value_own n i w) ∙ drop_value s i w);
+        before = ap (λ cs. part (take (suc i) cs) (take i (own_pairs m))) (value_children n i w)
+            ∙ ap (part (take (suc i) (children_of n))) (ap (take i) (value_own n i w) ∙ take_value s i w);
+        after = ap (λ cs. part (drop (suc i) cs) (drop (suc i) (own_pairs m))) (value_children n i w)
+            ∙ ap (part (drop (suc i) (children_of n))) (ap (drop (suc i)) (value_own n i w) ∙ drop_value s i w);
       }
 
   pub written_at : (path : List ℕ) (n : Node K V) (p : K × V) (w : V) → IsPlace path n → place_pair path n ≡ Some p → IsWrittenAt path n (written n path w) p w
@@ -142,14 +147,19 @@ module _ {K V : Type 0} where
       let r = written_at (j ∷ path) (child_at n i) p w q.1 e in
       let all = child_children n i c in
       let same : child_at m i ≡ c = ap (λ ds. get_or ds i m) all ∙ get_set cs i c m q.0 in
-      let lt : i < length (children_of m) = let f = q.0 in let g = length_set cs i c in let k : length (children_of m) ≡ length (slice_set cs i c) = ap length all in omega arith in
-      let lead : before_child m i ≡ before_child n i = ap (λ ds. before_list (map pairs_of ds) (take i (own_pairs m))) (ap (take i) all ∙ take_set cs i c) ∙ ap (λ ps. before_list (map pairs_of (take i cs)) (take i ps)) (child_own n i c) in
-      let rest : after_child m i ≡ after_child n i = ap (λ ds. after_list (drop i (own_pairs m)) (map pairs_of ds)) (ap (drop (suc i)) all ∙ drop_set cs i c) ∙ ap (λ ps. after_list (drop i ps) (map pairs_of (drop (suc i) cs))) (child_own n i c) in
+      let lt : i < length (children_of m) = let f = q.0 in let g = length_set cs i c in let k : length (children_of m) ≡ length (slice_set cs i c) =
+      ap length all in omega arith in
+      let lead : before_child m i ≡ before_child n i = ap (λ ds. before_list (map pairs_of ds) (take i (own_pairs m))) (ap (take i) all ∙ take_set cs i c)
+      ∙ ap (λ ps. before_list (map pairs_of (take i cs)) (take i ps)) (child_own n i c) in
+      let rest : after_child m i ≡ after_child n i = ap (λ ds. after_list (drop i (own_pairs m)) (map pairs_of ds)) (ap (drop (suc i)) all ∙ drop_set cs i c)
+      ∙ ap (λ ps. after_list (drop i ps) (map pairs_of (drop (suc i) cs))) (child_own n i c) in
       record {
         place = (lt, subst (IsPlace (j ∷ path)) (sym same) r.place);
         pair = ap (place_pair (j ∷ path)) same ∙ r.pair;
-        before = ap (λ d. before_child m i ++ before_pair (j ∷ path) d) same ∙ ap (λ zs. zs ++ before_pair (j ∷ path) c) lead ∙ ap (λ zs. before_child n i ++ zs) r.before;
-        after = ap (λ d. after_pair (j ∷ path) d ++ after_child m i) same ∙ ap (λ zs. after_pair (j ∷ path) c ++ zs) rest ∙ ap (λ zs. zs ++ after_child n i) r.after;
+        before = ap (λ d. before_child m i ++ before_pair (j ∷ path) d) same ∙ ap (λ zs. zs ++ before_pair (j ∷ path) c) lead
+            ∙ ap (λ zs. before_child n i ++ zs) r.before;
+        after = ap (λ d. after_pair (j ∷ path) d ++ after_child m i) same ∙ ap (λ zs. after_pair (j ∷ path) c ++ zs) rest
+            ∙ ap (λ zs. zs ++ after_child n i) r.after;
       }
 
   pair_there : (path : List ℕ) (n : Node K V) → IsPlace path n → (p : K × V) × (place_pair path n ≡ Some p)
@@ -164,18 +174,21 @@ module _ {K V : Type 0} where
   written_tree path n w t q = (t.0, t.1, (written_levels path t.0 n w t.2 q).0)
 
   -- the pairs are the same but for the value
-  pub written_pairs : (path : List ℕ) (h : ℕ) (n : Node K V) (p : K × V) (w : V) → IsLevelled h n → IsPlace path n → place_pair path n ≡ Some p → pairs_of (written n path w) ≡ before_pair path n ++ (p.0, w) ∷ after_pair path n
+  pub written_pairs : (path : List ℕ) (h : ℕ) (n : Node K V) (p : K × V) (w : V) → IsLevelled h n → IsPlace path n → place_pair path n ≡ Some p
+      → pairs_of (written n path w) ≡ before_pair path n ++ (p.0, w) ∷ after_pair path n
   written_pairs path h n p w l q e =
       let m = written n path w in
       let r = written_at path n p w q e in
       let c = place_pairs path h m (written_levels path h n w l q).0 r.place in
       let both : Some c.pair ≡ Some (p.0, w) = sym c.is ∙ r.pair in
       let x : c.pair ≡ (p.0, w) = cc in
-      c.parts ∙ ap (λ zs. zs ++ c.pair ∷ after_pair path m) r.before ∙ ap (λ y. before_pair path n ++ y ∷ after_pair path m) x ∙ ap (λ zs. before_pair path n ++ (p.0, w) ∷ zs) r.after
+      c.parts ∙ ap (λ zs. zs ++ c.pair ∷ after_pair path m) r.before ∙ ap (λ y. before_pair path n ++ y ∷ after_pair path m) x
+      ∙ ap (λ zs. before_pair path n ++ (p.0, w) ∷ zs) r.after
 
 -- the pairs stay in order
 module _ {K V : Type 0} (cmp : K → K → Ordering) where
-  same_keys : (P : K → Type 0) (L R : List (K × V)) (p : K × V) (w : V) → AllByRecursion (λ e. P e.0) (L ++ p ∷ R) → AllByRecursion (λ e. P e.0) (L ++ (p.0, w) ∷ R)
+  same_keys : (P : K → Type 0) (L R : List (K × V)) (p : K × V) (w : V) → AllByRecursion (λ e. P e.0) (L ++ p ∷ R)
+      → AllByRecursion (λ e. P e.0) (L ++ (p.0, w) ∷ R)
   same_keys P [] R p w a = a
   same_keys P (x ∷ L) R p w a = (a.0, same_keys P L R p w a.1)
 
@@ -183,10 +196,12 @@ module _ {K V : Type 0} (cmp : K → K → Ordering) where
   ascending_value [] R p w a = a
   ascending_value (x ∷ L) R p w a = (same_keys (λ k. cmp x.0 k ≡ Less) L R p w a.0, ascending_value L R p w a.1)
 
-  pub written_ascending : (path : List ℕ) (h : ℕ) (n : Node K V) (w : V) → IsLevelled h n → IsPlace path n → IsAscending cmp (pairs_of n) → IsAscending cmp (pairs_of (written n path w))
+  pub written_ascending : (path : List ℕ) (h : ℕ) (n : Node K V) (w : V) → IsLevelled h n → IsPlace path n → IsAscending cmp (pairs_of n)
+      → IsAscending cmp (pairs_of (written n path w))
   written_ascending path h n w l q a =
       let c = place_pairs path h n l q in
-      subst (IsAscending cmp) (sym (written_pairs path h n c.pair w l q c.is)) (ascending_value (before_pair path n) (after_pair path n) c.pair w (subst (IsAscending cmp) c.parts a))
+      subst (IsAscending cmp) (sym (written_pairs path h n c.pair w l q c.is))
+      (ascending_value (before_pair path n) (after_pair path n) c.pair w (subst (IsAscending cmp) c.parts a))
 
 -- what a search passes stays
 module _ {K Q V : Type 0} (cmp : K → Q → Ordering) (k : Q) where
@@ -212,10 +227,13 @@ module _ {K Q V : Type 0} (cmp : K → Q → Ordering) (k : Q) where
   value_passed s ns i w =
       let l = value_lower s i w in
       let st : stop_count cmp k (set_value s i w) ≡ stop_count cmp k s = ap (λ b. cond b 1 0) (value_any (λ x. not (is_lt (cmp x k))) s i w) in
-      let d : down_count cmp k (set_value s i w) ns ≡ down_count cmp k s ns = ap (λ b. cond b 0 (slice_index ns (lower_count cmp k (set_value s i w)))) (value_any (λ x. is_eq (cmp x k)) s i w) ∙ ap (λ j. cond (list_any (λ e. is_eq (cmp e.0 k)) s) 0 (slice_index ns j)) l in
+      let d : down_count cmp k (set_value s i w) ns ≡ down_count cmp k s ns =
+      ap (λ b. cond b 0 (slice_index ns (lower_count cmp k (set_value s i w)))) (value_any (λ x. is_eq (cmp x k)) s i w)
+      ∙ ap (λ j. cond (list_any (λ e. is_eq (cmp e.0 k)) s) 0 (slice_index ns j)) l in
       omega arith
 
-  counts_set : (cs : List (Node K V)) (i : ℕ) (c d : Node K V) → passed cmp k c ≡ passed cmp k (get_or cs i d) → map (passed cmp k) (slice_set cs i c) ≡ map (passed cmp k) cs
+  counts_set : (cs : List (Node K V)) (i : ℕ) (c d : Node K V) → passed cmp k c ≡ passed cmp k (get_or cs i d)
+      → map (passed cmp k) (slice_set cs i c) ≡ map (passed cmp k) cs
   counts_set [] i c d e = refl
   counts_set (x ∷ cs) zero c d e = ap (λ m. m ∷ map (passed cmp k) cs) e
   counts_set (x ∷ cs) (suc i) c d e = ap (λ ms. passed cmp k x ∷ ms) (counts_set cs i c d e)
@@ -225,7 +243,8 @@ module _ {K Q V : Type 0} (cmp : K → Q → Ordering) (k : Q) where
   written_passed [] n w = refl
   written_passed (i ∷ []) n w =
       passed_is cmp k (with_value n i w) ∙ ap (λ cs. passed_in cmp k (own_pairs (with_value n i w)) (map (passed cmp k) cs)) (value_children n i w)
-      ∙ ap (λ s. passed_in cmp k s (map (passed cmp k) (children_of n))) (value_own n i w) ∙ value_passed (own_pairs n) (map (passed cmp k) (children_of n)) i w ∙ sym (passed_is cmp k n)
+      ∙ ap (λ s. passed_in cmp k s (map (passed cmp k) (children_of n))) (value_own n i w)
+      ∙ value_passed (own_pairs n) (map (passed cmp k) (children_of n)) i w ∙ sym (passed_is cmp k n)
   written_passed (i ∷ j ∷ path) n w =
       let c = written (child_at n i) (j ∷ path) w in
       passed_is cmp k (with_child n i c) ∙ ap (λ cs. passed_in cmp k (own_pairs (with_child n i c)) (map (passed cmp k) cs)) (child_children n i c)
@@ -233,7 +252,8 @@ module _ {K Q V : Type 0} (cmp : K → Q → Ordering) (k : Q) where
       ∙ ap (λ s. passed_in cmp k s (map (passed cmp k) (children_of n))) (child_own n i c) ∙ sym (passed_is cmp k n)
 
   -- a value written at the place of a key's pair is the value put at the key
-  pub written_put : (path : List ℕ) (h : ℕ) (n : Node K V) (j : K) (w : V) → IsLevelled h n → IsFound cmp k n path → pairs_of (written n path w) ≡ put_by cmp (pairs_of n) k j w
+  pub written_put : (path : List ℕ) (h : ℕ) (n : Node K V) (j : K) (w : V) → IsLevelled h n → IsFound cmp k n path
+      → pairs_of (written n path w) ≡ put_by cmp (pairs_of n) k j w
   written_put path h n j w l f =
       let c = place_pairs path h n l f.place in
       let a = found_at cmp k path h n l f in

@@ -5,7 +5,10 @@
 --     cut, glued     room for an array is a row of empty places
 --     nowhere     where an item has no size, empty places are made of nothing
 --     sized, unsized     whether there is a block to give back
-use Rattle.fc_tree_slots.proofs.Steps.{◌≡◌, ℕ, zero, suc, ◌+◌, ◌*◌, ◌^◌, ◌<◌, List, [], ◌∷◌, length, set, get_or, Option, Some, None, refl, sym, ap, ◌∙◌, arith, length-set, Ura, Lft, Fml, fsep, never, id⊢, Logic, Item, Goal, Seq, Step, step, ‵, ◌$◌, use1, move, drop, rewrite, fsplit, fjoin, flt_i, flt_l, RattleType, Ptr, block_ptr, in_a_block, ftrue, fat, froom, full_share, Val, El, R, elτ, some, given, pick, learn, split, use2, ◌⊛◌, nothing, map, ◌++◌, replicate, use0, raw}
+use Rattle.fc_tree_slots.proofs.Steps.{◌≡◌, ℕ, zero, suc, ◌+◌, ◌*◌, ◌^◌, ◌<◌, List, [], ◌∷◌, length, set, get_or, Option, Some, None, refl, sym, ap, ◌∙◌, arith}
+use Rattle.fc_tree_slots.proofs.Steps.{length-set, Ura, Lft, Fml, fsep, never, id⊢, Logic, Item, Goal, Seq, Step, step, ‵, ◌$◌, use1, move, drop, rewrite}
+use Rattle.fc_tree_slots.proofs.Steps.{fsplit, fjoin, flt_i, flt_l, RattleType, Ptr, block_ptr, in_a_block, ftrue, fat, froom, full_share, Val, El, R, elτ}
+use Rattle.fc_tree_slots.proofs.Steps.{some, given, pick, learn, split, use2, ◌⊛◌, nothing, map, ◌++◌, replicate, use0, raw}
 use lib.ListN.{take, take-append-drop, length-take, length-map}
 use lib.ListN.{drop as drop_l}
 use denote.Slice.{elements_shared}
@@ -46,24 +49,30 @@ module _ (R : RattleType) where
   here o = omega (arith, zero-mul s)
 
   pub small_step : (n i : ℕ) → i < n → n * s < 2 ^ 63 → (s < 2 ^ 64) × (i * s < 2 ^ 64)
-  small_step n i lt small = let one = one_below n s (2 ^ 63) (omega arith) small in let far = times_below i n s (2 ^ 63) (omega arith) small in (omega arith, omega arith)
+  small_step n i lt small = let one = one_below n s (2 ^ 63) (omega arith) small in let far =
+      times_below i n s (2 ^ 63) (omega arith) small in (omega arith, omega arith)
 
   module _ {M : Type 1} {𝓤 : Ura M} {𝓛 : Logic 𝓤} {K : Type 0} {G : Goal 𝓤 𝓛.H} where
-    out : K → (b o : ℕ) (cs : List (Option R.Denot)) (i : ℕ) → i < length cs → {Γ : List (Item 𝓤)} → Step K 𝓛 (‵ (place R b (i * s + o) (get_or cs i None)) ∷ ‵ (others b o cs i) ∷ Γ) G (‵ (places R b o cs) ∷ Γ) G
+    out : K → (b o : ℕ) (cs : List (Option R.Denot)) (i : ℕ) → i < length cs → {Γ : List (Item 𝓤)}
+        → Step K 𝓛 (‵ (place R b (i * s + o) (get_or cs i None)) ∷ ‵ (others b o cs i) ∷ Γ) G (‵ (places R b o cs) ∷ Γ) G
     out t b o [] i lt = absurd (omega arith)
     out t b o (c ∷ cs) zero lt = step (λ k. fsplit t $ rewrite t 0 (λ at. ‵ (place R b at c)) (here o) refl $ k)
     out t b o (c ∷ cs) (suc i) lt = step (λ k. fsplit t $ move t (1 ∷ []) $ out t b (o + s) cs i (omega arith) $
         rewrite t 0 (λ at. ‵ (place R b at (get_or cs i None))) (next o i) refl $ move t (2 ∷ 1 ∷ []) $ fjoin t $ move t (1 ∷ []) $ k)
 
-    into : K → (b o : ℕ) (cs : List (Option R.Denot)) (i : ℕ) → i < length cs → (c : Option R.Denot) → {Γ : List (Item 𝓤)} → Step K 𝓛 (‵ (places R b o (set cs i c)) ∷ Γ) G (‵ (place R b (i * s + o) c) ∷ ‵ (others b o cs i) ∷ Γ) G
+    into : K → (b o : ℕ) (cs : List (Option R.Denot)) (i : ℕ) → i < length cs → (c : Option R.Denot) → {Γ : List (Item 𝓤)}
+        → Step K 𝓛 (‵ (places R b o (set cs i c)) ∷ Γ) G (‵ (place R b (i * s + o) c) ∷ ‵ (others b o cs i) ∷ Γ) G
     into t b o [] i lt c = absurd (omega arith)
     into t b o (x ∷ cs) zero lt c = step (λ k. rewrite t 0 (λ at. ‵ (place R b at c)) (sym (here o)) refl $ fjoin t $ k)
-    into t b o (x ∷ cs) (suc i) lt c = step (λ k. rewrite t 0 (λ at. ‵ (place R b at c)) (sym (next o i)) refl $ move t (1 ∷ []) $ fsplit t $ move t (2 ∷ 1 ∷ []) $
+    into t b o (x ∷ cs) (suc i) lt c = step (λ k. rewrite t 0 (λ at. ‵ (place R b at c)) (sym (next o i)) refl $ move t (1 ∷ []) $ fsplit t $ move t
+        (2 ∷ 1 ∷ []) $
         into t b (o + s) cs i (omega arith) c $ move t (1 ∷ 0 ∷ []) $ fjoin t $ k)
 
     pub reach : K → (p : Ptr) (cs : List (Option R.Denot)) (i : ℕ) → i < length cs → {Γ : List (Item 𝓤)}
-        → ((b o : ℕ) → p ≡ block_ptr b o → (s < 2 ^ 64) × (i * s < 2 ^ 64) → Seq K 𝓛 (‵ (place R b (i * s + o) (get_or cs i None)) ∷ ‵ (Rest b o cs i) ∷ Γ) G) → Seq K 𝓛 (‵ (row_owned R p cs) ∷ Γ) G
-    reach t p cs i lt k = in_a_block t p (λ r. row_owned R r cs) (id⊢ 𝓤 (never 𝓤)) (λ b o e. fsplit t $ fsplit t $ flt_l t (λ small. flt_i t (length cs * s) (2 ^ 63) small $ fjoin t $
+        → ((b o : ℕ) → p ≡ block_ptr b o → (s < 2 ^ 64) × (i * s < 2 ^ 64) → Seq K 𝓛 (‵ (place R b (i * s + o) (get_or cs i None)) ∷ ‵ (Rest b o cs i) ∷ Γ) G)
+        → Seq K 𝓛 (‵ (row_owned R p cs) ∷ Γ) G
+    reach t p cs i lt k = in_a_block t p (λ r. row_owned R r cs) (id⊢ 𝓤 (never 𝓤))
+        (λ b o e. fsplit t $ fsplit t $ flt_l t (λ small. flt_i t (length cs * s) (2 ^ 63) small $ fjoin t $
         move t (1 ∷ []) $ out t b o cs i lt $ move t (2 ∷ 1 ∷ []) $ fjoin t $ move t (1 ∷ []) $ k b o e (small_step (length cs) i lt small)))
 
     pub rejoin : K → (p : Ptr) (b o : ℕ) → p ≡ block_ptr b o → (cs : List (Option R.Denot)) (i : ℕ) → i < length cs → (c : Option R.Denot)
@@ -71,16 +80,21 @@ module _ (R : RattleType) where
     rejoin t p b o e cs i lt c = step (λ k. move t (1 ∷ []) $ fsplit t $ rewrite t 0 (λ n. ‵ (block R (block_ptr b o) n)) (sym (length-set cs i c)) refl $
         move t (2 ∷ 1 ∷ []) $ into t b o cs i lt c $ move t (1 ∷ 0 ∷ []) $ fjoin t $ rewrite t 0 (λ r. ‵ (row_owned R r (set cs i c))) (sym e) refl $ k)
 
-    seen : K → (κ : Lft) (b o : ℕ) (cs : List (Option R.Denot)) (i : ℕ) → i < length cs → {Γ : List (Item 𝓤)} → Step K 𝓛 (‵ (place_lent R b (i * s + o) (get_or cs i None) κ) ∷ Γ) G (‵ (places_lent R b o cs κ) ∷ Γ) G
+    seen : K → (κ : Lft) (b o : ℕ) (cs : List (Option R.Denot)) (i : ℕ) → i < length cs → {Γ : List (Item 𝓤)}
+        → Step K 𝓛 (‵ (place_lent R b (i * s + o) (get_or cs i None) κ) ∷ Γ) G (‵ (places_lent R b o cs κ) ∷ Γ) G
     seen t κ b o [] i lt = absurd (omega arith)
     seen t κ b o (c ∷ cs) zero lt = step (λ k. fsplit t $ move t (1 ∷ []) $ drop t $ rewrite t 0 (λ at. ‵ (place_lent R b at c κ)) (here o) refl $ k)
-    seen t κ b o (c ∷ cs) (suc i) lt = step (λ k. fsplit t $ drop t $ seen t κ b (o + s) cs i (omega arith) $ rewrite t 0 (λ at. ‵ (place_lent R b at (get_or cs i None) κ)) (next o i) refl $ k)
+    seen t κ b o (c ∷ cs) (suc i) lt = step (λ k. fsplit t $ drop t $ seen t κ b (o + s) cs i (omega arith) $ rewrite t 0
+        (λ at. ‵ (place_lent R b at (get_or cs i None) κ)) (next o i) refl $ k)
 
     pub reach_lent : K → (κ : Lft) (p : Ptr) (cs : List (Option R.Denot)) (i : ℕ) → i < length cs → {Γ : List (Item 𝓤)}
-        → ((b o : ℕ) → p ≡ block_ptr b o → (s < 2 ^ 64) × (i * s < 2 ^ 64) → Seq K 𝓛 (‵ (place_lent R b (i * s + o) (get_or cs i None) κ) ∷ Γ) G) → Seq K 𝓛 (‵ (row_lent R p cs κ) ∷ Γ) G
-    reach_lent t κ p cs i lt k = in_a_block t p (λ r. row_lent R r cs κ) (id⊢ 𝓤 (never 𝓤)) (λ b o e. fsplit t $ flt_l t (λ small. seen t κ b o cs i lt $ k b o e (small_step (length cs) i lt small)))
+        → ((b o : ℕ) → p ≡ block_ptr b o → (s < 2 ^ 64) × (i * s < 2 ^ 64) → Seq K 𝓛 (‵ (place_lent R b (i * s + o) (get_or cs i None) κ) ∷ Γ) G)
+        → Seq K 𝓛 (‵ (row_lent R p cs κ) ∷ Γ) G
+    reach_lent t κ p cs i lt k = in_a_block t p (λ r. row_lent R r cs κ) (id⊢ 𝓤 (never 𝓤))
+        (λ b o e. fsplit t $ flt_l t (λ small. seen t κ b o cs i lt $ k b o e (small_step (length cs) i lt small)))
 
-    run : K → (κ : Lft) (b o : ℕ) (xs : List R.Denot) (rest : List (Option R.Denot)) → {Γ : List (Item 𝓤)} → Step K 𝓛 (‵ (elements_shared R xs b o κ) ∷ Γ) G (‵ (places_lent R b o (map Some xs ++ rest) κ) ∷ Γ) G
+    run : K → (κ : Lft) (b o : ℕ) (xs : List R.Denot) (rest : List (Option R.Denot)) → {Γ : List (Item 𝓤)}
+        → Step K 𝓛 (‵ (elements_shared R xs b o κ) ∷ Γ) G (‵ (places_lent R b o (map Some xs ++ rest) κ) ∷ Γ) G
     run t κ b o [] rest = step (λ k. drop t $ nothing t $ k)
     run t κ b o (x ∷ xs) rest = step (λ k. fsplit t $ move t (1 ∷ []) $ run t κ b (o + s) xs rest $ move t (1 ∷ 0 ∷ []) $ fjoin t $ k)
 
@@ -92,20 +106,24 @@ module _ (R : RattleType) where
         k b o e (times_below (length xs) (length cs) s (2 ^ 63) (omega (arith, ap length is, length-map xs Some, length-take n cs)) small)))
 
 module _ (E : El) {M : Type 1} {𝓤 : Ura M} {𝓛 : Logic 𝓤} {K : Type 0} {G : Goal 𝓤 𝓛.H} {Γ : List (Item 𝓤)} where
-  pub value_out : K → (x : E.row.Denot) (b at : ℕ) → ((v : Val) → Good E v → Seq K 𝓛 (‵ (fat full_share (elτ E) b at v) ∷ ‵ (E.row.own_val x (v ∷ [])) ∷ Γ) G) → Seq K 𝓛 (‵ (place (R E) b at (Some x)) ∷ Γ) G
-  value_out t x b at k = use1 𝓛 (some (λ (v : Val). ‵ (fat full_share (elτ E) b at v) ⊛ ‵ (E.row.own_val x (v ∷ [])))) (part_out 𝓛 (R E) refl full_share x b at) $ pick t (λ v. split t $
+  pub value_out : K → (x : E.row.Denot) (b at : ℕ) → ((v : Val) → Good E v → Seq K 𝓛 (‵ (fat full_share (elτ E) b at v) ∷ ‵ (E.row.own_val x (v ∷ [])) ∷ Γ) G)
+      → Seq K 𝓛 (‵ (place (R E) b at (Some x)) ∷ Γ) G
+  value_out t x b at k = use1 𝓛 (some (λ (v : Val). ‵ (fat full_share (elτ E) b at v) ⊛ ‵ (E.row.own_val x (v ∷ []))))
+      (part_out 𝓛 (R E) refl full_share x b at) $ pick t (λ v. split t $
       use1 𝓛 (given (Good E v) (‵ (fat full_share (elτ E) b at v))) (𝓛.laws.at_wt full_share (elτ E) b at v) $ learn t (λ ok. k v ok))
 
   pub emptied : K → (b at : ℕ) (v : Val) → Step K 𝓛 (‵ (place (R E) b at None) ∷ Γ) G (‵ (fat full_share (elτ E) b at v) ∷ Γ) G
   emptied t b at v = step (λ k. use1 𝓛 (‵ (froom (elτ E) b at)) (𝓛.laws.at_room (elτ E) b at v) $ as_raw t (elτ E) b at $ k)
 
-  pub value_in : K → (x : E.row.Denot) (b at : ℕ) (v : Val) → Step K 𝓛 (‵ (place (R E) b at (Some x)) ∷ Γ) G (‵ (fat full_share (elτ E) b at v) ∷ ‵ (E.row.own_val x (v ∷ [])) ∷ Γ) G
+  pub value_in : K → (x : E.row.Denot) (b at : ℕ) (v : Val) → Step K 𝓛 (‵ (place (R E) b at (Some x)) ∷ Γ) G
+      (‵ (fat full_share (elτ E) b at v) ∷ ‵ (E.row.own_val x (v ∷ [])) ∷ Γ) G
   value_in t x b at v = step (λ k. use2 𝓛 (‵ (place (R E) b at (Some x))) (part_in 𝓛 (R E) refl full_share x b at v) $ k)
 
 module _ (E : El) {M : Type 1} {𝓤 : Ura M} {𝓛 : Logic 𝓤} {K : Type 0} {G : Goal 𝓤 𝓛.H} where
   pub cut : K → (n b o : ℕ) → {Γ : List (Item 𝓤)} → Step K 𝓛 (‵ (places (R E) b o (replicate n None)) ∷ Γ) G (‵ (froom (ty_array (elτ E) n) b o) ∷ Γ) G
   cut t zero b o = step (λ k. move t (0 ∷ []) $ drop t $ nothing t $ k)
-  cut t (suc n) b o = step (λ k. use1 𝓛 (‵ (froom (elτ E) b o) ⊛ ‵ (froom (ty_array (elτ E) n) b (o + type_size (R E)))) (𝓛.laws.room_uncons (elτ E) n b o) $ split t $ move t (1 ∷ []) $
+  cut t (suc n) b o = step (λ k. use1 𝓛 (‵ (froom (elτ E) b o) ⊛ ‵ (froom (ty_array (elτ E) n) b (o + type_size (R E)))) (𝓛.laws.room_uncons (elτ E) n b o) $
+      split t $ move t (1 ∷ []) $
       cut t n b (o + type_size (R E)) $ move t (1 ∷ []) $ as_raw t (elτ E) b o $ fjoin t $ k)
 
   pub glued : K → (n b o : ℕ) → {Γ : List (Item 𝓤)} → Step K 𝓛 (‵ (froom (ty_array (elτ E) n) b o) ∷ Γ) G (‵ (places (R E) b o (replicate n None)) ∷ Γ) G
@@ -117,7 +135,8 @@ module _ (E : El) {M : Type 1} {𝓤 : Ura M} {𝓛 : Logic 𝓤} {K : Type 0} {
   nowhere t none zero b o = step (λ k. nothing t $ k)
   nowhere t none (suc n) b o = step (λ k. nowhere t none n b (o + type_size (R E)) $ use0 𝓛 (‵ (froom (ty_array (elτ E) 0) b o)) (𝓛.laws.room_nil (elτ E) b o) $
       use1 𝓛 (‵ (froom (elτ E) b o) ⊛ raw (wand 𝓤 (𝓛.H.room (elτ E) b o) (𝓛.H.room (ty_array (elτ E) 0) b o)))
-      (𝓛.laws.room_as (ty_array (elτ E) 0) (elτ E) b o (none ∙ sym (zero-mul (type_size (R E)))) (dv_self (align (elτ E)))) $ split t $ move t (1 ∷ []) $ drop t $ as_raw t (elτ E) b o $ fjoin t $ k)
+      (𝓛.laws.room_as (ty_array (elτ E) 0) (elτ E) b o (none ∙ sym (zero-mul (type_size (R E)))) (dv_self (align (elτ E)))) $ split t $ move t (1 ∷ []) $ drop
+      t $ as_raw t (elτ E) b o $ fjoin t $ k)
 
 pub sized : (n : ℕ) (owned : Fml) → (n ≡ 0 → ⊥) → if_sized n owned ≡ owned
 sized zero owned nz = absurd (nz refl)

@@ -3,7 +3,8 @@
 --     get_first, set_first     the hole's first place is filled
 --     get_last, set_last     the last place before the hole is emptied
 --     get_end, set_end     the hole's last place is filled
-use Rattle.std.proofs.Common.{◌≡◌, ℕ, zero, suc, ◌+◌, ◌-◌, ◌<◌, List, [], ◌∷◌, ◌++◌, map, length, take, drop, set, get_or, replicate, Option, Some, None, refl, sym, ap, ◌∙◌, arith, length-append, length-take, append_assoc, append-nil}
+use Rattle.std.proofs.Common.{◌≡◌, ℕ, zero, suc, ◌+◌, ◌-◌, ◌<◌, List, [], ◌∷◌, ◌++◌, map, length, take, drop, set, get_or, replicate, Option, Some, None, refl}
+use Rattle.std.proofs.Common.{sym, ap, ◌∙◌, arith, length-append, length-take, append_assoc, append-nil}
 use Rattle.std.specs.Prelude.{true, false}
 use Rattle.fc_tree_slots.specs.Cells.{present, holds, IsPacked, row}
 
@@ -96,8 +97,11 @@ module _ {X : Type 0} where
 
   pub packs : (cs : List (Option X)) (xs : List X) (m k n : ℕ) → cs ≡ row xs 0 [] m → k ≡ length xs → n ≡ k + m → IsPacked cs k n × (present cs ≡ xs)
   packs cs xs m k n e long whole =
-      let left : m ≡ n - k = omega arith in
-      ((omega arith, ap (map holds) e ∙ holds_row xs m ∙ (λ i. replicate (sym long i) true ++ replicate (left i) false)), ap present e ∙ present_row xs 0 [] m ∙ append-nil xs)
+      let left : m ≡ n - k = omega arith in (
+        (omega arith, ap (map holds) e ∙ holds_row xs m ∙ (λ i. replicate (sym long i) true ++ replicate (left i) false)),
+        ap present e ∙ present_row xs 0 [] m
+            ∙ append-nil xs,
+      )
 
   empty : (xs : List X) → length xs ≡ 0 → xs ≡ []
   empty [] e = refl
@@ -114,7 +118,8 @@ module _ {X : Type 0} where
   laid (None ∷ cs) (suc k) m e = cc
   laid (Some x ∷ cs) zero zero e = cc
   laid (Some x ∷ cs) zero (suc m) e = cc
-  laid (Some x ∷ cs) (suc k) m e = let rest : map holds cs ≡ replicate k true ++ replicate m false = cc in let on = laid cs k m rest in (ap (λ l. Some x ∷ l) on.0, ap suc on.1)
+  laid (Some x ∷ cs) (suc k) m e = let rest : map holds cs ≡ replicate k true ++ replicate m false = cc in let on =
+      laid cs k m rest in (ap (λ l. Some x ∷ l) on.0, ap suc on.1)
 
   pub unpacks : (cs : List (Option X)) (k n : ℕ) → IsPacked cs k n → (cs ≡ row (present cs) 0 [] (n - k)) × (length (present cs) ≡ k)
   unpacks cs k n h = laid cs k (n - k) h.1
@@ -130,7 +135,8 @@ module _ {X : Type 0} where
   cut_at (y ∷ ys) (suc j) lt = let on = cut_at ys j (omega arith) in (on.0, on.1, ap (λ l. y ∷ l) on.2)
 
   -- the items of ys go down by k places, the first ones first, and j have gone
-  module _ (xs ys : List X) (k m j p q : ℕ) (cs : List (Option X)) (is : cs ≡ row (xs ++ take j ys) k (drop j ys) m) (lt : j < length ys) (at_p : p ≡ length xs + k + j) (at_q : q ≡ length xs + j) where
+  module _ (xs ys : List X) (k m j p q : ℕ) (cs : List (Option X)) (is : cs ≡ row (xs ++ take j ys) k (drop j ys) m) (lt : j < length ys)
+      (at_p : p ≡ length xs + k + j) (at_q : q ≡ length xs + j) where
     abbrev zs : List X
     zs = xs ++ take j ys
 
@@ -154,14 +160,18 @@ module _ {X : Type 0} where
         let size = length-row zs (suc k) (drop (suc j) ys) m in let same : length ds ≡ length (row zs (suc k) (drop (suc j) ys) m) = ap length (taken ds e) in
         (omega (arith, long), ap (λ l. get_or l q None) (taken ds e) ∙ get_first zs k (drop (suc j) ys) m q (omega (arith, long)))
 
-    pub down_done : (ds es : List (Option X)) (item : X) (j' : ℕ) → ds ≡ set cs p None → get_or cs p None ≡ Some item → es ≡ set ds q (Some item) → j' ≡ suc j → es ≡ row (xs ++ take j' ys) k (drop j' ys) m
+    pub down_done : (ds es : List (Option X)) (item : X) (j' : ℕ) → ds ≡ set cs p None → get_or cs p None ≡ Some item → es ≡ set ds q (Some item) → j' ≡ suc j
+        → es ≡ row (xs ++ take j' ys) k (drop j' ys) m
     down_done ds es item j' e got f next =
         let both : Some y ≡ Some item = sym down_holds ∙ got in let same : y ≡ item = cc in
-        let more : zs ++ item ∷ [] ≡ xs ++ take j' ys = append_assoc xs (take j ys) (item ∷ []) ∙ (λ i. xs ++ (take j ys ++ sym same i ∷ [])) ∙ (λ i. xs ++ sym (cut_at ys j lt).2 i) ∙ (λ i. xs ++ take (sym next i) ys) in
-        f ∙ ap (λ l. set l q (Some item)) (taken ds e) ∙ set_first zs k (drop (suc j) ys) m q item (omega (arith, long)) ∙ (λ i. row (more i) k (drop (sym next i) ys) m)
+        let more : zs ++ item ∷ [] ≡ xs ++ take j' ys = append_assoc xs (take j ys) (item ∷ []) ∙ (λ i. xs ++ (take j ys ++ sym same i ∷ []))
+        ∙ (λ i. xs ++ sym (cut_at ys j lt).2 i) ∙ (λ i. xs ++ take (sym next i) ys) in
+        f ∙ ap (λ l. set l q (Some item)) (taken ds e) ∙ set_first zs k (drop (suc j) ys) m q item (omega (arith, long))
+        ∙ (λ i. row (more i) k (drop (sym next i) ys) m)
 
   -- the items of zs go up by k places, the last ones first, and those before j are left
-  module _ (zs : List X) (k m j p q : ℕ) (cs : List (Option X)) (is : cs ≡ row (take (suc j) zs) k (drop (suc j) zs) m) (lt : j < length zs) (at_p : p ≡ j) (at_q : q ≡ j + k) where
+  module _ (zs : List X) (k m j p q : ℕ) (cs : List (Option X)) (is : cs ≡ row (take (suc j) zs) k (drop (suc j) zs) m) (lt : j < length zs) (at_p : p ≡ j)
+      (at_q : q ≡ j + k) where
     abbrev z : X
     z = (cut_at zs j lt).0
 
@@ -179,25 +189,31 @@ module _ {X : Type 0} where
 
     pub up_free : (ds : List (Option X)) → ds ≡ set cs p None → IsFree ds q
     up_free ds e =
-        let size = length-row (take j zs) (suc k) (drop (suc j) zs) m in let same : length ds ≡ length (row (take j zs) (suc k) (drop (suc j) zs) m) = ap length (lifted ds e) in
+        let size = length-row (take j zs) (suc k) (drop (suc j) zs) m in let same : length ds ≡ length (row (take j zs) (suc k) (drop (suc j) zs) m) =
+        ap length (lifted ds e) in
         (omega (arith, short), ap (λ l. get_or l q None) (lifted ds e) ∙ get_end (take j zs) k (drop (suc j) zs) m q (omega (arith, short)))
 
-    pub up_done : (ds es : List (Option X)) (item : X) (j' : ℕ) → ds ≡ set cs p None → get_or cs p None ≡ Some item → es ≡ set ds q (Some item) → j' ≡ j → es ≡ row (take j' zs) k (drop j' zs) m
+    pub up_done : (ds es : List (Option X)) (item : X) (j' : ℕ) → ds ≡ set cs p None → get_or cs p None ≡ Some item → es ≡ set ds q (Some item) → j' ≡ j
+        → es ≡ row (take j' zs) k (drop j' zs) m
     up_done ds es item j' e got f next =
         let both : Some z ≡ Some item = sym up_holds ∙ got in let same : z ≡ item = cc in
         let more : item ∷ drop (suc j) zs ≡ drop j' zs = (λ i. sym same i ∷ drop (suc j) zs) ∙ sym (cut_at zs j lt).1 ∙ (λ i. drop (sym next i) zs) in
-        f ∙ ap (λ l. set l q (Some item)) (lifted ds e) ∙ set_end (take j zs) k (drop (suc j) zs) m q item (omega (arith, short)) ∙ (λ i. row (take (sym next i) zs) k (more i) m)
+        f ∙ ap (λ l. set l q (Some item)) (lifted ds e) ∙ set_end (take j zs) k (drop (suc j) zs) m q item (omega (arith, short))
+        ∙ (λ i. row (take (sym next i) zs) k (more i) m)
 
   -- the items of ys leave a row after the first j of them, which are gone
   module _ (xs ys : List X) (m j p : ℕ) (cs : List (Option X)) (is : cs ≡ row xs j (drop j ys) m) (lt : j < length ys) (at_p : p ≡ length xs + j) where
     pub leave_holds : get_or cs p None ≡ Some (cut_at ys j lt).0
-    leave_holds = ap (λ l. get_or l p None) (is ∙ ap (λ l. row xs j l m) (cut_at ys j lt).1) ∙ get_next xs j (cut_at ys j lt).0 (drop (suc j) ys) m p (omega arith)
+    leave_holds = ap (λ l. get_or l p None) (is ∙ ap (λ l. row xs j l m) (cut_at ys j lt).1)
+        ∙ get_next xs j (cut_at ys j lt).0 (drop (suc j) ys) m p (omega arith)
 
     pub leave_done : (ds : List (Option X)) (j' : ℕ) → ds ≡ set cs p None → j' ≡ suc j → ds ≡ row xs j' (drop j' ys) m
-    leave_done ds j' e next = e ∙ ap (λ l. set l p None) (is ∙ ap (λ l. row xs j l m) (cut_at ys j lt).1) ∙ set_next xs j (cut_at ys j lt).0 (drop (suc j) ys) m p (omega arith) ∙ (λ i. row xs (sym next i) (drop (sym next i) ys) m)
+    leave_done ds j' e next = e ∙ ap (λ l. set l p None) (is ∙ ap (λ l. row xs j l m) (cut_at ys j lt).1)
+        ∙ set_next xs j (cut_at ys j lt).0 (drop (suc j) ys) m p (omega arith) ∙ (λ i. row xs (sym next i) (drop (sym next i) ys) m)
 
   -- the items of ys go one by one into a hole after us
-  module _ (us ys vs : List X) (w j h q : ℕ) (cs : List (Option X)) (is : cs ≡ row (us ++ take j ys) h vs w) (lt : j < length ys) (some : 0 < h) (at_q : q ≡ length us + j) where
+  module _ (us ys vs : List X) (w j h q : ℕ) (cs : List (Option X)) (is : cs ≡ row (us ++ take j ys) h vs w) (lt : j < length ys) (some : 0 < h)
+      (at_q : q ≡ length us + j) where
     full : length (us ++ take j ys) ≡ length us + j
     full = omega (arith, length-append us (take j ys), length-take j ys)
 
@@ -215,8 +231,10 @@ module _ {X : Type 0} where
         let size = length-row (us ++ take j ys) (suc left) vs w in let same = ap length holed in
         (omega (arith, full), ap (λ l. get_or l q None) holed ∙ get_first (us ++ take j ys) left vs w q (omega (arith, full)))
 
-    pub enter_done : (ds : List (Option X)) (item : X) (j' h' : ℕ) → (cut_at ys j lt).0 ≡ item → ds ≡ set cs q (Some item) → j' ≡ suc j → h' + 1 ≡ h → ds ≡ row (us ++ take j' ys) h' vs w
+    pub enter_done : (ds : List (Option X)) (item : X) (j' h' : ℕ) → (cut_at ys j lt).0 ≡ item → ds ≡ set cs q (Some item) → j' ≡ suc j → h' + 1 ≡ h
+        → ds ≡ row (us ++ take j' ys) h' vs w
     enter_done ds item j' h' same f next less =
         let fewer : left ≡ h' = omega arith in
-        let more : (us ++ take j ys) ++ item ∷ [] ≡ us ++ take j' ys = append_assoc us (take j ys) (item ∷ []) ∙ (λ i. us ++ (take j ys ++ sym same i ∷ [])) ∙ (λ i. us ++ sym (cut_at ys j lt).2 i) ∙ (λ i. us ++ take (sym next i) ys) in
+        let more : (us ++ take j ys) ++ item ∷ [] ≡ us ++ take j' ys = append_assoc us (take j ys) (item ∷ []) ∙ (λ i. us ++ (take j ys ++ sym same i ∷ []))
+        ∙ (λ i. us ++ sym (cut_at ys j lt).2 i) ∙ (λ i. us ++ take (sym next i) ys) in
         f ∙ ap (λ l. set l q (Some item)) holed ∙ set_first (us ++ take j ys) left vs w q item (omega (arith, full)) ∙ (λ i. row (more i) (fewer i) vs w)

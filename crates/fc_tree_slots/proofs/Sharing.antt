@@ -37,4 +37,5 @@ module _ {M : Type 1} {𝓤 : Ura M} (𝓛 : Logic 𝓤) (l : Lft) (R : RattleTy
   pub Lends-row : (p : Ptr) (cs : List (Option R.Denot)) → Lends 𝓛 (row_owned R p cs) (row_lent R p cs) l
   Lends-row null_ptr cs = Lends-false 𝓛 (said ffalse) l
   Lends-row (block_ptr b o) cs = let n = length cs in let full = block R (block_ptr b o) n in let seen = said (bounded R n) in
-      Lends-both 𝓛 full (places R b o cs) seen (places_lent R b o cs) l (Lends-first 𝓛 (bounded R n) _ seen l (Lends-said 𝓛 (bounded R n) tt l)) (Lends-places b o cs)
+      Lends-both 𝓛 full (places R b o cs) seen (places_lent R b o cs) l (Lends-first 𝓛 (bounded R n) _ seen l (Lends-said 𝓛 (bounded R n) tt l))
+      (Lends-places b o cs)

@@ -1,5 +1,6 @@
 -- The names that the walks of `raw` cite.
-pub use Rattle.std.proofs.Common.{◌≡◌, ℕ, zero, suc, ◌+◌, ◌*◌, ◌^◌, ◌<◌, List, [], ◌∷◌, ◌++◌, map, length, replicate, set, get_or, Option, Some, None, refl, sym, ap, ◌∙◌, subst, arith, w64}
+pub use Rattle.std.proofs.Common.{◌≡◌, ℕ, zero, suc, ◌+◌, ◌*◌, ◌^◌, ◌<◌, List, [], ◌∷◌, ◌++◌, map, length, replicate, set, get_or, Option, Some, None, refl}
+pub use Rattle.std.proofs.Common.{sym, ap, ◌∙◌, subst, arith, w64}
 pub use lib.ListN.{length-set, length-replicate}
 pub use mathlib.Core.Bool.{true, false}
 pub use seplogic.Ra.Ura.{Ura}
@@ -15,9 +16,11 @@ pub use contract.Running.{tables}
 pub use prog.Wp.{WpFn}
 pub use types.Logic.{Logic, sem}
 pub use types.SemTy.{Body}
-pub use types.Kit.{Item, Goal, Seq, Step, step, ‵, raw, some, given, later, prop, at_ret, ◌⊛◌, ◌$◌, ◌∵◌, !, qed, by, done, move, keep, drop, use0, use1, use2, split, split3, join, group, pick, learn, await, rewrite, regoal, fsplit, fsplit3, fjoin, fjoin3, fpack, feq_i, feq_l, flt_i, flt_l}
+pub use types.Kit.{Item, Goal, Seq, Step, step, ‵, raw, some, given, later, prop, at_ret, ◌⊛◌, ◌$◌, ◌∵◌, !, qed, by, done, move, keep, drop, use0, use1, use2}
+pub use types.Kit.{split, split3, join, group, pick, learn, await, rewrite, regoal, fsplit, fsplit3, fjoin, fjoin3, fpack, feq_i, feq_l, flt_i, flt_l}
 pub use types.Part.{whole, sub, agg, look_in}
-pub use types.Run.{enter, stop, fld, of_opd, addr, load, look, init, lit, unit_lit, bin, size_lit, size_word, align_word, and_then, no_more, first, blocks, exec, returns, assigns_last}
+pub use types.Run.{enter, stop, fld, of_opd, addr, load, look, init, lit, unit_lit, bin, size_lit, size_word, align_word, and_then, no_more, first, blocks}
+pub use types.Run.{exec, returns, assigns_last}
 pub use types.ByLocal.{alloc_all, pass_all, free_all, look_at, get, get_in, through, sets, sets_last, is, env}
 pub use denote.RattleType.{RattleType, owns}
 pub use denote.Param.{layout}

@@ -1,5 +1,6 @@
 -- From a gap of a leaf to its neighbours in the leaf.
-use Rattle.std.proofs.Common.{◌≡◌, ℕ, zero, suc, ◌+◌, ◌-◌, ◌<◌, ◌≤◌, inl, inr, List, [], ◌∷◌, ◌++◌, length, take, get_or, refl, sym, ap, subst, ◌∙◌, arith, add-one, Some, None, length-append, append-nil, append_assoc}
+use Rattle.std.proofs.Common.{◌≡◌, ℕ, zero, suc, ◌+◌, ◌-◌, ◌<◌, ◌≤◌, inl, inr, List, [], ◌∷◌, ◌++◌, length, take, get_or, refl, sym, ap, subst, ◌∙◌, arith}
+use Rattle.std.proofs.Common.{add-one, Some, None, length-append, append-nil, append_assoc}
 use Rattle.std.specs.Borrow.{Bor}
 use Rattle.std.proofs.lemmas.List.{take_all, take_more_set, get_or-set_same}
 use Rattle.std.specs.Prelude.{slice_range, slice_set}
@@ -78,15 +79,18 @@ module _ {K V : Type 0} where
   after_at_leaf : (i : ℕ) (n : Node K V) → i ≤ length (own_pairs n) → AreAllBehind (i ∷ []) n (length (own_pairs n) - i)
   after_at_leaf i n le = record { there = (omega arith, tt); all = λ k w. let u = w.0 in omega arith }
 
-  after_below : (i : ℕ) (rest : List ℕ) (n : Node K V) (run : ℕ) → 0 < length rest → i ≤ length (own_pairs n) → AreAllBehind rest (child_at n i) run → AreAllBehind (i ∷ rest) n run
+  after_below : (i : ℕ) (rest : List ℕ) (n : Node K V) (run : ℕ) → 0 < length rest → i ≤ length (own_pairs n) → AreAllBehind rest (child_at n i) run
+      → AreAllBehind (i ∷ rest) n run
   after_below i [] n run some le x = absurd (omega arith)
   after_below i (j ∷ rest) n run some le x = record { there = (le, x.there); all = λ k w. x.all k w.1 }
 
   -- the same by the steps of a path
   pub after_leaf : (gap : List ℕ) (n : Node K V) → gap ≡ get_or gap 0 0 ∷ [] → IsPath gap n → AreAllBehind gap n (length (own_pairs n) - get_or gap 0 0)
-  after_leaf gap n e w = subst (λ g. AreAllBehind g n (length (own_pairs n) - get_or gap 0 0)) (sym e) (after_at_leaf (get_or gap 0 0) n (subst (λ g. IsPath g n) e w).0)
+  after_leaf gap n e w = subst (λ g. AreAllBehind g n (length (own_pairs n) - get_or gap 0 0)) (sym e)
+      (after_at_leaf (get_or gap 0 0) n (subst (λ g. IsPath g n) e w).0)
 
-  pub after_own_child : (gap : List ℕ) (n : Node K V) (run : ℕ) → 2 ≤ length gap → (s : IsStep gap n) → AreAllBehind (slice_range gap 1 (length gap)) (child_at n (get_or gap 0 0)) run → AreAllBehind gap n run
+  pub after_own_child : (gap : List ℕ) (n : Node K V) (run : ℕ) → 2 ≤ length gap → (s : IsStep gap n)
+      → AreAllBehind (slice_range gap 1 (length gap)) (child_at n (get_or gap 0 0)) run → AreAllBehind gap n run
   after_own_child gap n run more s x = let e = s.long in subst (λ g. AreAllBehind g n run) (sym s.path_is) (after_below _ _ n run (omega arith) s.le x)
 
   -- a gap of a leaf with a pair of the leaf after it, and the gap after that pair
@@ -98,7 +102,8 @@ module _ {K V : Type 0} where
     pub count : length (before_gap_in m next) ≡ length (before_gap_in m gap) + 1
 
   near : (h : ℕ) (n : Node K V) (gap : List ℕ) (k : ℕ) → IsLevelled h n → length gap ≡ h + 1 → IsPath (gone_on gap (suc k)) n
-      → IsPath gap n × IsPlace gap n × (length (before_pair gap n) ≡ length (before_gap gap n)) × IsPath (gone_on gap 1) n × (length (before_gap (gone_on gap 1) n) ≡ length (before_gap gap n) + 1)
+      → IsPath gap n × IsPlace gap n × (length (before_pair gap n) ≡ length (before_gap gap n)) × IsPath (gone_on gap 1) n
+      × (length (before_gap (gone_on gap 1) n) ≡ length (before_gap gap n) + 1)
   near h n [] k l e w = absurd (omega arith)
   near (suc h) n (i ∷ []) k l e w = absurd (omega arith)
   near zero n (i ∷ []) k l e w =
@@ -131,32 +136,49 @@ module _ {K V : Type 0} where
       record { start = (r.0, λ j o. sym long ∙ w.1 j o); place = r.1; before = r.2; slot = (r.3, λ j o. on_length gap 1 ∙ sym long ∙ w.1 j o); count = r.4 }
 
   -- the node of the pair after a gap
-  holds_here : (gap : List ℕ) (n : Node K V) (level : ℕ) (other found : Bor (Node K V) × ℕ) → IsNext gap n 1 → other.0.now ≡ n → other.1 ≡ level → found ≡ other → get_or gap 0 0 < length (own_pairs n) → IsLevelled (length gap - 1) n
+  holds_here : (gap : List ℕ) (n : Node K V) (level : ℕ) (other found : Bor (Node K V) × ℕ) → IsNext gap n 1 → other.0.now ≡ n → other.1 ≡ level
+      → found ≡ other → get_or gap 0 0 < length (own_pairs n) → IsLevelled (length gap - 1) n
       → (way : ℕ) × (found.1 ≡ level + way) × IsHolder gap n way found.0.now
   holds_here gap n level other found x node at is there l =
       let same : found.0.now ≡ n = ap (λ r. r.0.now) is ∙ node in
-      let w = x.within in
-      (0, ap (λ r. r.1) is ∙ at ∙ omega arith, (omega (arith, w), x.place (omega arith), x.before (omega arith), same, subst (λ d. get_or gap 0 0 < length (own_pairs d)) (sym same) there, subst (IsLevelled (length gap - 1)) (sym same) l))
+      let w = x.within in (
+        0,
+        ap (λ r. r.1) is ∙ at ∙ omega arith,
+        (
+          omega (arith, w),
+          x.place (omega arith),
+          x.before (omega arith),
+          same,
+          subst (λ d. get_or gap 0 0 < length (own_pairs d)) (sym same) there,
+          subst (IsLevelled (length gap - 1)) (sym same) l,
+        ),
+      )
 
-  lowest_here : (gap : List ℕ) (n : Node K V) (level own : ℕ) (best other found : Bor (Node K V) × ℕ) → own ≡ length (own_pairs n) - get_or gap 0 0 → other.0.now ≡ n → other.1 ≡ level → (0 < own → found ≡ other) → (own ≡ 0 → found ≡ best) → IsLevelled (length gap - 1) n
-      → ((c : ℕ) → (c ≡ 0 → length (own_pairs n) ≤ get_or gap 0 0) → (0 < c → (c ≡ 1) × (get_or gap 0 0 < length (own_pairs n))) → IsNext gap n c) → IsLowest gap n level best found
+  lowest_here : (gap : List ℕ) (n : Node K V) (level own : ℕ) (best other found : Bor (Node K V) × ℕ) → own ≡ length (own_pairs n) - get_or gap 0 0
+      → other.0.now ≡ n → other.1 ≡ level → (0 < own → found ≡ other) → (own ≡ 0 → found ≡ best) → IsLevelled (length gap - 1) n
+      → ((c : ℕ) → (c ≡ 0 → length (own_pairs n) ≤ get_or gap 0 0) → (0 < c → (c ≡ 1) × (get_or gap 0 0 < length (own_pairs n))) → IsNext gap n c)
+      → IsLowest gap n level best found
   lowest_here gap n level zero best other found o node at has lacks l x = inl ((x 0 (λ _. omega (arith, o)) (λ k. absurd (omega arith))).none refl, lacks refl)
   lowest_here gap n level (suc own) best other found o node at has lacks l x =
       let there : get_or gap 0 0 < length (own_pairs n) = omega (arith, o) in
       inr (holds_here gap n level other found (x 1 (λ k. absurd (omega arith)) (λ _. (refl, there))) node at (has (omega arith)) there l)
 
-  pub lowest_leaf : (gap : List ℕ) (n : Node K V) (level own : ℕ) (best other found : Bor (Node K V) × ℕ) → gap ≡ get_or gap 0 0 ∷ [] → IsPath gap n → IsLevelled (length gap - 1) n
-      → own ≡ length (own_pairs n) - get_or gap 0 0 → other.0.now ≡ n → other.1 ≡ level → (0 < own → found ≡ other) → (own ≡ 0 → found ≡ best) → IsLowest gap n level best found
+  pub lowest_leaf : (gap : List ℕ) (n : Node K V) (level own : ℕ) (best other found : Bor (Node K V) × ℕ) → gap ≡ get_or gap 0 0 ∷ [] → IsPath gap n
+      → IsLevelled (length gap - 1) n
+      → own ≡ length (own_pairs n) - get_or gap 0 0 → other.0.now ≡ n → other.1 ≡ level → (0 < own → found ≡ other) → (own ≡ 0 → found ≡ best)
+      → IsLowest gap n level best found
   lowest_leaf gap n level own best other found e p l o node at has lacks =
       let long = ap length e in
       let h : length gap - 1 ≡ 0 = omega (arith, long) in
       lowest_here gap n level own best other found o node at has lacks l (λ c. next_leaf gap n c e p (subst (λ k. IsLevelled k n) h l))
 
   -- the same above a child
-  pub lowest_above : (gap : List ℕ) (n : Node K V) (level own : ℕ) (best other mid found : Bor (Node K V) × ℕ) (s : IsStep gap n) → IsLevelled (length gap - 1) n
+  pub lowest_above : (gap : List ℕ) (n : Node K V) (level own : ℕ) (best other mid found : Bor (Node K V) × ℕ) (s : IsStep gap n)
+      → IsLevelled (length gap - 1) n
       → own ≡ length (own_pairs n) - get_or gap 0 0 → other.0.now ≡ n → other.1 ≡ level → (0 < own → mid ≡ other) → (own ≡ 0 → mid ≡ best)
       → IsLowest (slice_range gap 1 (length gap)) (child_at n (get_or gap 0 0)) (level + 1) mid found → IsLowest gap n level best found
-  lowest_above gap n level own best other mid found s l o node at has lacks (inl (e, is)) = lowest_here gap n level own best other found o node at (λ k. is ∙ has k) (λ k. is ∙ lacks k) l (λ c. next_own gap n c s e)
+  lowest_above gap n level own best other mid found s l o node at has lacks (inl (e, is)) =
+      lowest_here gap n level own best other found o node at (λ k. is ∙ has k) (λ k. is ∙ lacks k) l (λ c. next_own gap n c s e)
   lowest_above gap n level own best other mid found s l o node at has lacks (inr (w, a, h)) =
       let rest = slice_range gap 1 (length gap) in
       let c = child_at n (get_or gap 0 0) in
@@ -167,9 +189,22 @@ module _ {K V : Type 0} where
       let deep : length rest - suc w ≡ length gap - suc (suc w) = omega (arith, long) in
       let is = ap (λ g. node_at (take (suc w) g) n) s.path_is in
       let step = ap (λ g. get_or g (suc w) 0) s.path_is in
-      inr (suc w, omega (arith, a), (omega (arith, within), x.place (omega arith), x.before (omega arith), h.3 ∙ sym is, subst (λ k. k < length (own_pairs found.0.now)) (sym step) h.4, subst (λ k. IsLevelled k found.0.now) deep h.5))
+      inr (
+        suc w,
+        omega (arith, a),
+        (
+          omega (arith, within),
+          x.place (omega arith),
+          x.before (omega arith),
+          h.3
+              ∙ sym is,
+          subst (λ k. k < length (own_pairs found.0.now)) (sym step) h.4,
+          subst (λ k. IsLevelled k found.0.now) deep h.5,
+        ),
+      )
 
-  pub lowest_is : (gap : List ℕ) (n : Node K V) (best found : Bor (Node K V) × ℕ) → IsLowest gap n 0 best found → length (before_gap gap n) < length (pairs_of n) → IsHolder gap n found.1 found.0.now
+  pub lowest_is : (gap : List ℕ) (n : Node K V) (best found : Bor (Node K V) × ℕ) → IsLowest gap n 0 best found
+      → length (before_gap gap n) < length (pairs_of n) → IsHolder gap n found.1 found.0.now
   lowest_is gap n best found (inl (e, is)) k = absurd (omega (arith, e, k))
   lowest_is gap n best found (inr (w, a, h)) k = let same : w ≡ found.1 = omega (arith, a) in subst (λ i. IsHolder gap n i found.0.now) same h
 
@@ -181,7 +216,8 @@ module _ {K V : Type 0} where
     pub gap_is : new ≡ take (suc level) gap ++ zeros (length gap - suc level)
     pub run_is : IsPath (gone_on (get_or gap level 0 ∷ zeros (length gap - suc level)) run) n
 
-  pub down_leaf : (gap : List ℕ) (n : Node K V) (level : ℕ) → suc level ≡ length gap → get_or gap level 0 ≤ length (own_pairs n) → IsDown gap gap n level (length (own_pairs n) - get_or gap level 0)
+  pub down_leaf : (gap : List ℕ) (n : Node K V) (level : ℕ) → suc level ≡ length gap → get_or gap level 0 ≤ length (own_pairs n)
+      → IsDown gap gap n level (length (own_pairs n) - get_or gap level 0)
   down_leaf gap n level e le =
       let none : 0 ≡ length gap - suc level = omega (arith, e) in
       let s = get_or gap level 0 in
@@ -192,25 +228,32 @@ module _ {K V : Type 0} where
         run_is = subst (λ k. IsPath (gone_on (s ∷ zeros k) r) n) none (fits, tt);
       }
 
-  down_next : (gap mid new : List ℕ) (n : Node K V) (level run : ℕ) → suc level < length gap → get_or gap level 0 ≤ length (own_pairs n) → mid ≡ slice_set gap (suc level) 0 → IsDown mid new (child_at n (get_or gap level 0)) (suc level) run → IsDown gap new n level run
+  down_next : (gap mid new : List ℕ) (n : Node K V) (level run : ℕ) → suc level < length gap → get_or gap level 0 ≤ length (own_pairs n)
+      → mid ≡ slice_set gap (suc level) 0 → IsDown mid new (child_at n (get_or gap level 0)) (suc level) run → IsDown gap new n level run
   down_next gap mid new n level run k le is d =
       let long = ap length is ∙ length_set gap (suc level) 0 in
       let m = length mid - suc (suc level) in
       let more : suc m ≡ length gap - suc level = omega (arith, long, k) in
       let c = child_at n (get_or gap level 0) in
       let first : get_or mid (suc level) 0 ≡ 0 = ap (λ p. get_or p (suc level) 0) is ∙ get_or-set_same gap (suc level) 0 0 k in
-      let prefix : take (suc (suc level)) mid ≡ take (suc level) gap ++ 0 ∷ [] = ap (take (suc (suc level))) is ∙ (rw add-one at (take_more_set gap (suc level) 0 k)) in
+      let prefix : take (suc (suc level)) mid ≡ take (suc level) gap ++ 0 ∷ [] = ap (take (suc (suc level))) is
+      ∙ (rw add-one at (take_more_set gap (suc level) 0 k)) in
       record {
-        gap_is = d.gap_is ∙ ap (λ p. p ++ zeros m) prefix ∙ append_assoc (take (suc level) gap) (0 ∷ []) (zeros m) ∙ ap (λ k. take (suc level) gap ++ zeros k) more;
+        gap_is = d.gap_is ∙ ap (λ p. p ++ zeros m) prefix ∙ append_assoc (take (suc level) gap) (0 ∷ []) (zeros m)
+            ∙ ap (λ k. take (suc level) gap ++ zeros k) more;
         run_is = subst (λ k. IsPath (gone_on (get_or gap level 0 ∷ zeros k) run) n) more (le, subst (λ i. IsPath (gone_on (i ∷ zeros m) run) c) first d.run_is);
       }
 
-  pub down_child : (gap mid new : List ℕ) (n c : Node K V) (level next run : ℕ) → next ≡ suc level → next < length gap → get_or gap level 0 ≤ length (own_pairs n) → mid ≡ slice_set gap next 0 → c ≡ child_at n (get_or gap level 0) → IsDown mid new c next run → IsDown gap new n level run
+  pub down_child : (gap mid new : List ℕ) (n c : Node K V) (level next run : ℕ) → next ≡ suc level → next < length gap
+      → get_or gap level 0 ≤ length (own_pairs n) → mid ≡ slice_set gap next 0 → c ≡ child_at n (get_or gap level 0) → IsDown mid new c next run
+      → IsDown gap new n level run
   down_child gap mid new n c level next run e k le is same d =
-      down_next gap mid new n level run (subst (λ j. j < length gap) e k) le (subst (λ j. mid ≡ slice_set gap j 0) e is) (subst (λ j. IsDown mid new (child_at n (get_or gap level 0)) j run) e (subst (λ c. IsDown mid new c next run) same d))
+      down_next gap mid new n level run (subst (λ j. j < length gap) e k) le (subst (λ j. mid ≡ slice_set gap j 0) e is)
+      (subst (λ j. IsDown mid new (child_at n (get_or gap level 0)) j run) e (subst (λ c. IsDown mid new c next run) same d))
 
   -- a path's run below a node on its way
-  run_below : (way : ℕ) (gap : List ℕ) (i : ℕ) (rest : List ℕ) (n : Node K V) (run : ℕ) → IsPath gap n → way < length gap → IsPath (gone_on (i ∷ rest) run) (node_at (take way gap) n) → IsPath (gone_on (take way gap ++ i ∷ rest) run) n
+  run_below : (way : ℕ) (gap : List ℕ) (i : ℕ) (rest : List ℕ) (n : Node K V) (run : ℕ) → IsPath gap n → way < length gap
+      → IsPath (gone_on (i ∷ rest) run) (node_at (take way gap) n) → IsPath (gone_on (take way gap ++ i ∷ rest) run) n
   run_below zero gap i rest n run p k w = w
   run_below (suc way) [] i rest n run p k w = absurd (omega arith)
   run_below (suc zero) (j ∷ gap) i rest n run p k w = (p.0, w)
@@ -224,7 +267,8 @@ module _ {K V : Type 0} where
     pub gap_is : new ≡ take way gap ++ (place + 1) ∷ zeros (length gap - suc way)
     pub run_is : IsPath (gone_on new run) root
 
-  pub past : (gap mid new : List ℕ) (root n : Node K V) (way place run : ℕ) → IsPath gap root → IsHolder gap root way n → place ≡ get_or gap way 0 → mid ≡ slice_set gap way (place + 1) → IsDown mid new n way run → IsPast gap new root way place run
+  pub past : (gap mid new : List ℕ) (root n : Node K V) (way place run : ℕ) → IsPath gap root → IsHolder gap root way n → place ≡ get_or gap way 0
+      → mid ≡ slice_set gap way (place + 1) → IsDown mid new n way run → IsPast gap new root way place run
   past gap mid new root n way place run p h own is d =
       let long = ap length is ∙ length_set gap way (place + 1) in
       let m = length gap - suc way in
@@ -232,11 +276,14 @@ module _ {K V : Type 0} where
       let same : length mid - suc way ≡ m = omega (arith, long) in
       let step : get_or mid way 0 ≡ place + 1 = ap (λ p. get_or p way 0) is ∙ get_or-set_same gap way (place + 1) 0 h.0 in
       let prefix : take (suc way) mid ≡ take way gap ++ (place + 1) ∷ [] = ap (take (suc way)) is ∙ (rw add-one at (take_more_set gap way (place + 1) h.0)) in
-      let all = d.gap_is ∙ ap (λ p. p ++ zeros (length mid - suc way)) prefix ∙ ap (λ k. (take way gap ++ (place + 1) ∷ []) ++ zeros k) same ∙ append_assoc (take way gap) ((place + 1) ∷ []) (zeros m) in
-      let run_there = subst (λ k. IsPath (gone_on ((place + 1) ∷ zeros k) run) n) same (subst (λ i. IsPath (gone_on (i ∷ zeros (length mid - suc way)) run) n) step d.run_is) in
+      let all = d.gap_is ∙ ap (λ p. p ++ zeros (length mid - suc way)) prefix ∙ ap (λ k. (take way gap ++ (place + 1) ∷ []) ++ zeros k) same
+      ∙ append_assoc (take way gap) ((place + 1) ∷ []) (zeros m) in
+      let run_there = subst (λ k. IsPath (gone_on ((place + 1) ∷ zeros k) run) n) same
+      (subst (λ i. IsPath (gone_on (i ∷ zeros (length mid - suc way)) run) n) step d.run_is) in
       record {
         place_is = subst (λ p. IsPlace p root) here h.1;
         before = subst (λ p. length (before_pair p root) ≡ length (before_gap gap root)) here h.2;
         gap_is = all;
-        run_is = subst (λ p. IsPath (gone_on p run) root) (sym all) (run_below way gap (place + 1) (zeros m) root run p h.0 (subst (IsPath (gone_on ((place + 1) ∷ zeros m) run)) h.3 run_there));
+        run_is = subst (λ p. IsPath (gone_on p run) root) (sym all) (run_below way gap (place + 1) (zeros m) root run p h.0
+            (subst (IsPath (gone_on ((place + 1) ∷ zeros m) run)) h.3 run_there));
       }

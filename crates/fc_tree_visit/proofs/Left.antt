@@ -67,7 +67,14 @@ module _ {F K V : Type 0} (R : F → K × V → F → V → Type 0) where
   pub visited_none : (f : F) (m : Option (Node K V)) (i j : ℕ) → m ≡ None → IsVisited R f f (take i (entries m)) (drop j (entries m)) (entries m) (entries m)
   visited_none f m i j e =
       subst (λ o. IsVisited R f f (take i (entries o)) (drop j (entries o)) (entries o) (entries o)) (sym e)
-      (record { within = []; left = []; old_is = sym (ap (λ zs. zs ++ drop j none) (take_nil i) ∙ drop_nil j); new_is = sym (ap (λ zs. zs ++ drop j none) (take_nil i) ∙ drop_nil j); visits = (refl, refl) })
+      (record {
+        within = [];
+        left = [];
+        old_is = sym (ap (λ zs. zs ++ drop j none) (take_nil i) ∙ drop_nil j);
+        new_is =
+            sym (ap (λ zs. zs ++ drop j none) (take_nil i) ∙ drop_nil j);
+        visits = (refl, refl);
+      })
 
   -- the ends of a map as numbers
   pub visited_cut : (m : Option (Node K V)) (n n' : Node K V) (front back p q : List ℕ) (f g : F) → m ≡ Some n → p ≡ front → q ≡ back → IsSoundMap m

@@ -1,5 +1,6 @@
 -- The parts of a node, and what is left of them once a child or a value is written.
-use Rattle.std.proofs.Common.{◌≡◌, ℕ, zero, suc, ◌+◌, ◌<◌, ◌≤◌, List, [], ◌∷◌, ◌++◌, length, map, take, drop, get_or, slice_set, refl, sym, ap, subst, ◌∙◌, append_assoc, Some, arith, ◌⊎◌, inl, inr}
+use Rattle.std.proofs.Common.{◌≡◌, ℕ, zero, suc, ◌+◌, ◌<◌, ◌≤◌, List, [], ◌∷◌, ◌++◌, length, map, take, drop, get_or, slice_set, refl, sym, ap, subst, ◌∙◌}
+use Rattle.std.proofs.Common.{append_assoc, Some, arith, ◌⊎◌, inl, inr}
 use Rattle.std.specs.List.{AllByRecursion}
 use Rattle.std.specs.Option.{option_map}
 use Rattle.std.proofs.lemmas.List.{append_cancel_right, length-append}
@@ -76,7 +77,8 @@ module _ {K V : Type 0} where
   get_value (x ∷ s) (suc i) w e d h p = get_value s i w e d (omega arith) p
 
   -- what is before a pair ends with the child before it, or is what leads there
-  pub before_own_child : (h : ℕ) (n : Node K V) (i : ℕ) → IsLevelled (suc h) n → i < length (own_pairs n) → before_own n i ≡ before_child n i ++ pairs_of (child_at n i)
+  pub before_own_child : (h : ℕ) (n : Node K V) (i : ℕ) → IsLevelled (suc h) n → i < length (own_pairs n)
+      → before_own n i ≡ before_child n i ++ pairs_of (child_at n i)
   before_own_child h n i l lt =
       let p = (item_there (own_pairs n) i lt).0 in
       let a = own_pair (suc h) n i p l lt in
@@ -120,7 +122,8 @@ module _ {K V : Type 0} where
           omega arith
 
   -- a gap before another is not after it
-  pub in_order : (h : ℕ) (n : Node K V) (i j : ℕ) → IsLevelled h n → i ≤ length (own_pairs n) → length (before_child n i) + length (after_child n j) ≤ length (pairs_of n) → i ≤ j
+  pub in_order : (h : ℕ) (n : Node K V) (i j : ℕ) → IsLevelled h n → i ≤ length (own_pairs n)
+      → length (before_child n i) + length (after_child n j) ≤ length (pairs_of n) → i ≤ j
   in_order h n i j l le o = go (order i j)
     where
       go : (i ≤ j) ⊎ (j < i) → i ≤ j

@@ -12,7 +12,8 @@ use Rattle.fc_tree_visit.specs.Shape.{IsSameAlong}
 
 module _ {X : Type 0} where
   -- the length of lists and items in turn hangs on the lengths
-  before_length : (cs ds : List (List X)) (ps qs : List X) → map length cs ≡ map length ds → length ps ≡ length qs → length (before_list cs ps) ≡ length (before_list ds qs)
+  before_length : (cs ds : List (List X)) (ps qs : List X) → map length cs ≡ map length ds → length ps ≡ length qs
+      → length (before_list cs ps) ≡ length (before_list ds qs)
   before_length [] [] ps qs e f = f
   before_length [] (d ∷ ds) ps qs e f = absurd cc
   before_length (c ∷ cs) [] ps qs e f = absurd cc
@@ -40,7 +41,8 @@ module _ {X : Type 0} where
   get_case (x ∷ xs) zero d e = inl refl
   get_case (x ∷ xs) (suc j) d e = get_case xs j d e
 
-  set_case : (xs : List X) (i j : ℕ) (c d e : X) → i < length xs → ((get_or xs j d ≡ get_or xs i d) × (get_or (slice_set xs i c) j e ≡ c)) ⊎ ((get_or xs j d ≡ get_or (slice_set xs i c) j e) ⊎ ((get_or xs j d ≡ d) × (get_or (slice_set xs i c) j e ≡ e)))
+  set_case : (xs : List X) (i j : ℕ) (c d e : X) → i < length xs → ((get_or xs j d ≡ get_or xs i d) × (get_or (slice_set xs i c) j e ≡ c))
+      ⊎ ((get_or xs j d ≡ get_or (slice_set xs i c) j e) ⊎ ((get_or xs j d ≡ d) × (get_or (slice_set xs i c) j e ≡ e)))
   set_case [] i j c d e h = absurd (omega arith)
   set_case (x ∷ xs) zero zero c d e h = inl (refl, refl)
   set_case (x ∷ xs) zero (suc j) c d e h = inr (get_case xs j d e)
@@ -56,7 +58,8 @@ module _ {K V : Type 0} where
   same_trans [] a b c p q = tt
   same_trans (i ∷ path) a b c p q = (p.0 ∙ q.0, p.1 ∙ q.1, same_trans path (child_at a i) (child_at b i) (child_at c i) p.2 q.2)
 
-  lengths_set : (cs : List (Node K V)) (i j : ℕ) (c d : Node K V) → length (pairs_of (get_or cs i d)) ≡ length (pairs_of c) → map length (map pairs_of (take j cs)) ≡ map length (map pairs_of (take j (slice_set cs i c)))
+  lengths_set : (cs : List (Node K V)) (i j : ℕ) (c d : Node K V) → length (pairs_of (get_or cs i d)) ≡ length (pairs_of c)
+      → map length (map pairs_of (take j cs)) ≡ map length (map pairs_of (take j (slice_set cs i c)))
   lengths_set [] i j c d e = refl
   lengths_set (x ∷ cs) i zero c d e = refl
   lengths_set (x ∷ cs) zero (suc j) c d e = ap (λ k. k ∷ map length (map pairs_of (take j cs))) e
@@ -68,29 +71,41 @@ module _ {K V : Type 0} where
       let v = with_value n i w in
       let e = sym (ap length (value_own n i w) ∙ length_value (own_pairs n) i w) in
       let cs = children_of n in
-      let lead : length (before_child n j) ≡ length (before_child v j) = before_length (map pairs_of (take j cs)) (map pairs_of (take j (children_of v))) (take j (own_pairs n)) (take j (own_pairs v)) (ap (λ ds. map length (map pairs_of (take j ds))) (sym (value_children n i w))) (take_lengths j (own_pairs n) (own_pairs v) e) in
+      let lead : length (before_child n j) ≡ length (before_child v j) =
+      before_length (map pairs_of (take j cs)) (map pairs_of (take j (children_of v))) (take j (own_pairs n)) (take j (own_pairs v))
+      (ap (λ ds. map length (map pairs_of (take j ds))) (sym (value_children n i w))) (take_lengths j (own_pairs n) (own_pairs v) e) in
       let at : child_at v j ≡ get_or cs j v = ap (λ ds. get_or ds j v) (value_children n i w) in
       (e, lead, subst (λ x. IsSameAlong path (child_at n j) x) (sym at) (go (get_case cs j n v) (value_same path n i w)))
     where
-      go : (get_or (children_of n) j n ≡ get_or (children_of n) j (with_value n i w)) ⊎ ((get_or (children_of n) j n ≡ n) × (get_or (children_of n) j (with_value n i w) ≡ with_value n i w)) → IsSameAlong path n (with_value n i w) → IsSameAlong path (child_at n j) (get_or (children_of n) j (with_value n i w))
+      go : (get_or (children_of n) j n ≡ get_or (children_of n) j (with_value n i w))
+          ⊎ ((get_or (children_of n) j n ≡ n) × (get_or (children_of n) j (with_value n i w) ≡ with_value n i w)) → IsSameAlong path n (with_value n i w)
+          → IsSameAlong path (child_at n j) (get_or (children_of n) j (with_value n i w))
       go (inl q) on = subst (IsSameAlong path (child_at n j)) q (same_refl path (child_at n j))
       go (inr q) on = subst (λ x. IsSameAlong path x (get_or (children_of n) j (with_value n i w))) (sym q.0) (subst (IsSameAlong path n) (sym q.1) on)
 
-  pub child_same : (path : List ℕ) (n : Node K V) (i : ℕ) (c : Node K V) → i < length (children_of n) → length (pairs_of (child_at n i)) ≡ length (pairs_of c) → ((p : List ℕ) → IsSameAlong p (child_at n i) c) → IsSameAlong path n (with_child n i c)
+  pub child_same : (path : List ℕ) (n : Node K V) (i : ℕ) (c : Node K V) → i < length (children_of n) → length (pairs_of (child_at n i)) ≡ length (pairs_of c)
+      → ((p : List ℕ) → IsSameAlong p (child_at n i) c) → IsSameAlong path n (with_child n i c)
   child_same [] n i c lt e s = tt
   child_same (j ∷ path) n i c lt e s =
       let m = with_child n i c in
       let own = sym (ap length (child_own n i c)) in
       let cs = children_of n in
-      let lead : length (before_child n j) ≡ length (before_child m j) = before_length (map pairs_of (take j cs)) (map pairs_of (take j (children_of m))) (take j (own_pairs n)) (take j (own_pairs m)) (lengths_set cs i j c n e ∙ ap (λ ds. map length (map pairs_of (take j ds))) (sym (child_children n i c))) (take_lengths j (own_pairs n) (own_pairs m) own) in
+      let lead : length (before_child n j) ≡ length (before_child m j) =
+      before_length (map pairs_of (take j cs)) (map pairs_of (take j (children_of m))) (take j (own_pairs n)) (take j (own_pairs m))
+      (lengths_set cs i j c n e ∙ ap (λ ds. map length (map pairs_of (take j ds))) (sym (child_children n i c)))
+      (take_lengths j (own_pairs n) (own_pairs m) own) in
       let at : child_at m j ≡ get_or (slice_set cs i c) j m = ap (λ ds. get_or ds j m) (child_children n i c) in
       (own, lead, subst (λ x. IsSameAlong path (child_at n j) x) (sym at) (go (set_case cs i j c n m lt) (child_same path n i c lt e s)))
     where
-      go : ((get_or (children_of n) j n ≡ get_or (children_of n) i n) × (get_or (slice_set (children_of n) i c) j (with_child n i c) ≡ c)) ⊎ ((get_or (children_of n) j n ≡ get_or (slice_set (children_of n) i c) j (with_child n i c)) ⊎ ((get_or (children_of n) j n ≡ n) × (get_or (slice_set (children_of n) i c) j (with_child n i c) ≡ with_child n i c)))
+      go : ((get_or (children_of n) j n ≡ get_or (children_of n) i n) × (get_or (slice_set (children_of n) i c) j (with_child n i c) ≡ c))
+          ⊎ ((get_or (children_of n) j n ≡ get_or (slice_set (children_of n) i c) j (with_child n i c))
+          ⊎ ((get_or (children_of n) j n ≡ n) × (get_or (slice_set (children_of n) i c) j (with_child n i c) ≡ with_child n i c)))
           → IsSameAlong path n (with_child n i c) → IsSameAlong path (child_at n j) (get_or (slice_set (children_of n) i c) j (with_child n i c))
-      go (inl q) on = subst (λ x. IsSameAlong path x (get_or (slice_set (children_of n) i c) j (with_child n i c))) (sym q.0) (subst (IsSameAlong path (child_at n i)) (sym q.1) (s path))
+      go (inl q) on = subst (λ x. IsSameAlong path x (get_or (slice_set (children_of n) i c) j (with_child n i c))) (sym q.0)
+          (subst (IsSameAlong path (child_at n i)) (sym q.1) (s path))
       go (inr (inl q)) on = subst (IsSameAlong path (child_at n j)) q (same_refl path (child_at n j))
-      go (inr (inr q)) on = subst (λ x. IsSameAlong path x (get_or (slice_set (children_of n) i c) j (with_child n i c))) (sym q.0) (subst (IsSameAlong path n) (sym q.1) on)
+      go (inr (inr q)) on = subst (λ x. IsSameAlong path x (get_or (slice_set (children_of n) i c) j (with_child n i c))) (sym q.0)
+          (subst (IsSameAlong path n) (sym q.1) on)
 
   -- a path stays one, and as many pairs are before its end
   pub same_path : (path : List ℕ) (n m : Node K V) → IsSameAlong path n m → IsPath path n → IsPath path m

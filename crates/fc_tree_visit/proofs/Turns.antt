@@ -19,9 +19,17 @@ module _ {F K V : Type 0} (R : F → K × V → F → V → Type 0) where
     pub visits : VisitsInTurn R first seen f done
 
   pub grown_start : (f : F) (front was now : List (K × V)) → was ≡ front → now ≡ front → Grown f f front was now
-  grown_start f front was now p q = record { seen = []; done = []; was_is = p ∙ sym (append-nil front); now_is = q ∙ sym (append-nil front); visits = (refl, refl) }
+  grown_start f front was now p q = record {
+    seen = [];
+    done = [];
+    was_is = p ∙ sym (append-nil front);
+    now_is = q ∙ sym (append-nil front);
+    visits =
+        (refl, refl);
+  }
 
-  pub grown_more : (first f g : F) (front was now xs ys was' now' : List (K × V)) → Grown first f front was now → VisitsInTurn R f xs g ys → was' ≡ was ++ xs → now' ≡ now ++ ys → Grown first g front was' now'
+  pub grown_more : (first f g : F) (front was now xs ys was' now' : List (K × V)) → Grown first f front was now → VisitsInTurn R f xs g ys → was' ≡ was ++ xs
+      → now' ≡ now ++ ys → Grown first g front was' now'
   grown_more first f g front was now xs ys was' now' k v p q = record {
     seen = k.seen ++ xs;
     done = k.done ++ ys;
@@ -30,7 +38,8 @@ module _ {F K V : Type 0} (R : F → K × V → F → V → Type 0) where
     visits = visits_join k.seen xs k.done ys first f g k.visits v;
   }
 
-  pub grown_end : (first f : F) (front was now after old new : List (K × V)) → Grown first f front was now → old ≡ was ++ after → new ≡ now ++ after → IsVisited R first f front after old new
+  pub grown_end : (first f : F) (front was now after old new : List (K × V)) → Grown first f front was now → old ≡ was ++ after → new ≡ now ++ after
+      → IsVisited R first f front after old new
   grown_end first f front was now after old new k p q = record {
     within = k.seen;
     left = k.done;

@@ -1,5 +1,6 @@
 -- A walk from one gap of a tree to another: where it stands in a node.
-use Rattle.std.proofs.Common.{◌≡◌, ℕ, zero, suc, ◌+◌, ◌<◌, ◌≤◌, List, [], ◌∷◌, ◌++◌, length, drop, get_or, slice_set, refl, sym, ap, subst, ◌∙◌, append-nil, arith, Some}
+use Rattle.std.proofs.Common.{◌≡◌, ℕ, zero, suc, ◌+◌, ◌<◌, ◌≤◌, List, [], ◌∷◌, ◌++◌, length, drop, get_or, slice_set, refl, sym, ap, subst, ◌∙◌, append-nil}
+use Rattle.std.proofs.Common.{arith, Some}
 use Rattle.std.proofs.lemmas.List.{length-append}
 use Rattle.fc_base.specs.Sizes.{min_len}
 use Rattle.fc_tree_node.specs.declared.node.Node.{Node, out-Node, roll-Node}
@@ -15,7 +16,8 @@ use Rattle.fc_tree_visit.specs.Shape.{IsSameAlong}
 use Rattle.fc_tree_visit.specs.Visits.{IsVisited, IsEnd}
 use Rattle.fc_tree_visit.proofs.Turns.{Grown, grown_start, grown_end}
 use Rattle.fc_tree_visit.proofs.Parts.{in_order, drop_next, before_leaf, child_levels, child_lent, child_back}
-use Rattle.fc_tree_visit.proofs.Steps.{IsFirstStep, from_step, to_step, after_within, before_within, IsKept, kept_all, kept_child, kept_rest, one_height, own_step, child_step, child_shape, child_end}
+use Rattle.fc_tree_visit.proofs.Steps.{IsFirstStep, from_step, to_step, after_within, before_within, IsKept, kept_all, kept_child, kept_rest, one_height}
+use Rattle.fc_tree_visit.proofs.Steps.{own_step, child_step, child_shape, child_end}
 
 module _ {F K V : Type 0} (R : F → K × V → F → V → Type 0) where
   -- before the child at i, from an end below it on
@@ -24,7 +26,8 @@ module _ {F K V : Type 0} (R : F → K × V → F → V → Type 0) where
     pub kept : IsKept old now i i
     pub step : (h : ℕ) → IsLevelled h old → IsFirstStep h old i rest
     pub order : i ≡ end → length (before_gap rest (child_at old i)) + length (after_gap to (child_at old i)) ≤ length (pairs_of (child_at old i))
-    pub grown : Grown R first f (before_gap from old) (before_child old i ++ before_gap rest (child_at old i)) (before_child now i ++ before_gap rest (child_at old i))
+    pub grown : Grown R first f (before_gap from old) (before_child old i ++ before_gap rest (child_at old i))
+        (before_child now i ++ before_gap rest (child_at old i))
 
   -- the ends of a walk in a node
   pub record AreSteps (h : ℕ) (n : Node K V) (from to : List ℕ) (start end : ℕ) (rest back : List ℕ) : Type 0 where
@@ -34,15 +37,20 @@ module _ {F K V : Type 0} (R : F → K × V → F → V → Type 0) where
     pub tail : after_gap to n ≡ after_gap back (child_at n end) ++ after_child n end
     pub le : start ≤ end
 
-  steps_of : (h : ℕ) (n : Node K V) (from to : List ℕ) (start end len : ℕ) (rest back : List ℕ) → IsLevelled h n → IsEnd h from n → IsEnd h to n → length (before_gap from n) + length (after_gap to n) ≤ length (pairs_of n) → start ≡ get_or from 0 0 → rest ≡ drop 1 from → end ≡ get_or to 0 len → back ≡ drop 1 to → len ≡ length (own_pairs n) → AreSteps h n from to start end rest back
+  steps_of : (h : ℕ) (n : Node K V) (from to : List ℕ) (start end len : ℕ) (rest back : List ℕ) → IsLevelled h n → IsEnd h from n → IsEnd h to n
+      → length (before_gap from n) + length (after_gap to n) ≤ length (pairs_of n) → start ≡ get_or from 0 0 → rest ≡ drop 1 from → end ≡ get_or to 0 len
+      → back ≡ drop 1 to → len ≡ length (own_pairs n) → AreSteps h n from to start end rest back
   steps_of h n from to start end len rest back l a b o s r e k m =
       let p = from_step h n from a in
       let q = to_step h n to b in
       let ee : end ≡ get_or to 0 (length (own_pairs n)) = e ∙ ap (get_or to 0) m in
       let first = subst (λ x. IsFirstStep h n x rest) (sym s) (subst (IsFirstStep h n (get_or from 0 0)) (sym r) p.0) in
-      let lead = subst (λ x. before_gap from n ≡ before_child n x ++ before_gap rest (child_at n x)) (sym s) (subst (λ x. before_gap from n ≡ before_child n (get_or from 0 0) ++ before_gap x (child_at n (get_or from 0 0))) (sym r) p.1) in
+      let lead = subst (λ x. before_gap from n ≡ before_child n x ++ before_gap rest (child_at n x)) (sym s)
+      (subst (λ x. before_gap from n ≡ before_child n (get_or from 0 0) ++ before_gap x (child_at n (get_or from 0 0))) (sym r) p.1) in
       let last = subst (λ x. IsFirstStep h n x back) (sym ee) (subst (IsFirstStep h n (get_or to 0 (length (own_pairs n)))) (sym k) q.0) in
-      let tail = subst (λ x. after_gap to n ≡ after_gap back (child_at n x) ++ after_child n x) (sym ee) (subst (λ x. after_gap to n ≡ after_gap x (child_at n (get_or to 0 (length (own_pairs n)))) ++ after_child n (get_or to 0 (length (own_pairs n)))) (sym k) q.1) in
+      let tail = subst (λ x. after_gap to n ≡ after_gap back (child_at n x) ++ after_child n x) (sym ee)
+      (subst (λ x. after_gap to n ≡ after_gap x (child_at n (get_or to 0 (length (own_pairs n)))) ++ after_child n (get_or to 0 (length (own_pairs n))))
+      (sym k) q.1) in
       let f = length-append (before_child n start) (before_gap rest (child_at n start)) in
       let g = length-append (after_gap back (child_at n end)) (after_child n end) in
       let lp = ap length lead in
@@ -53,7 +61,9 @@ module _ {F K V : Type 0} (R : F → K × V → F → V → Type 0) where
   abbrev pub AreEnds : Node K V → List ℕ → List ℕ → Type 0
   AreEnds n from to = (h : ℕ) × IsLevelled h n × IsEnd h from n × IsEnd h to n
 
-  pub leaf_steps : (n : Node K V) (from to : List ℕ) (start end len : ℕ) (rest back : List ℕ) → AreEnds n from to → IsLeaf n → length (before_gap from n) + length (after_gap to n) ≤ length (pairs_of n) → start ≡ get_or from 0 0 → rest ≡ drop 1 from → end ≡ get_or to 0 len → back ≡ drop 1 to → len ≡ length (own_pairs n) → AreSteps 0 n from to start end rest back
+  pub leaf_steps : (n : Node K V) (from to : List ℕ) (start end len : ℕ) (rest back : List ℕ) → AreEnds n from to → IsLeaf n
+      → length (before_gap from n) + length (after_gap to n) ≤ length (pairs_of n) → start ≡ get_or from 0 0 → rest ≡ drop 1 from → end ≡ get_or to 0 len
+      → back ≡ drop 1 to → len ≡ length (own_pairs n) → AreSteps 0 n from to start end rest back
   leaf_steps n from to start end len rest back (zero, l, a, b) leaf o s r e k m = steps_of 0 n from to start end len rest back l a b o s r e k m
   leaf_steps n from to start end len rest back (suc h, l, a, b) leaf o s r e k m = absurd (leaf_or_inner n leaf l.1)
 
@@ -62,26 +72,34 @@ module _ {F K V : Type 0} (R : F → K × V → F → V → Type 0) where
     pub levels : IsLevelled (suc h) n
     pub steps : AreSteps (suc h) n from to start end rest back
 
-  pub inner_steps : (n : Node K V) (from to : List ℕ) (start end len : ℕ) (rest back : List ℕ) → AreEnds n from to → (IsLeaf n → ⊥) → length (before_gap from n) + length (after_gap to n) ≤ length (pairs_of n) → start ≡ get_or from 0 0 → rest ≡ drop 1 from → end ≡ get_or to 0 len → back ≡ drop 1 to → len ≡ length (own_pairs n) → AreInner n from to start end rest back
+  pub inner_steps : (n : Node K V) (from to : List ℕ) (start end len : ℕ) (rest back : List ℕ) → AreEnds n from to → (IsLeaf n → ⊥)
+      → length (before_gap from n) + length (after_gap to n) ≤ length (pairs_of n) → start ≡ get_or from 0 0 → rest ≡ drop 1 from → end ≡ get_or to 0 len
+      → back ≡ drop 1 to → len ≡ length (own_pairs n) → AreInner n from to start end rest back
   inner_steps n from to start end len rest back (zero, l, a, b) leaf o s r e k m = absurd (leaf l.1)
-  inner_steps n from to start end len rest back (suc h, l, a, b) leaf o s r e k m = record { h = h; levels = l; steps = steps_of (suc h) n from to start end len rest back l a b o s r e k m }
+  inner_steps n from to start end len rest back (suc h, l, a, b) leaf o s r e k m =
+      record { h = h; levels = l; steps = steps_of (suc h) n from to start end len rest back l a b o s r e k m }
 
   none : (p : List ℕ) → (0 < length p → length p ≡ 0) → p ≡ []
   none [] h = refl
   none (x ∷ p) h = let e = h (omega arith) in absurd (omega arith)
 
   -- a leaf's ends have one step
-  pub leaf_front : (n : Node K V) (from to : List ℕ) (start end : ℕ) (rest back : List ℕ) → AreSteps 0 n from to start end rest back → before_gap from n ≡ before_child n start
-  leaf_front n from to start end rest back s = s.lead ∙ ap (λ p. before_child n start ++ before_gap p (child_at n start)) (none rest s.first.long) ∙ append-nil (before_child n start)
+  pub leaf_front : (n : Node K V) (from to : List ℕ) (start end : ℕ) (rest back : List ℕ) → AreSteps 0 n from to start end rest back
+      → before_gap from n ≡ before_child n start
+  leaf_front n from to start end rest back s = s.lead ∙ ap (λ p. before_child n start ++ before_gap p (child_at n start)) (none rest s.first.long)
+      ∙ append-nil (before_child n start)
 
-  pub leaf_back : (n : Node K V) (from to : List ℕ) (start end : ℕ) (rest back : List ℕ) → AreSteps 0 n from to start end rest back → after_gap to n ≡ after_child n end
+  pub leaf_back : (n : Node K V) (from to : List ℕ) (start end : ℕ) (rest back : List ℕ) → AreSteps 0 n from to start end rest back
+      → after_gap to n ≡ after_child n end
   leaf_back n from to start end rest back s = s.tail ∙ ap (λ p. after_gap p (child_at n end) ++ after_child n end) (none back s.last.long)
 
   -- an end below a child
   pub end_below : (h : ℕ) (n : Node K V) (i : ℕ) (rest : List ℕ) → IsFirstStep (suc h) n i rest → IsEnd h rest (child_at n i)
   end_below h n i rest s = (s.path, λ q. let e = s.long q in omega arith)
 
-  pub at_start : (h : ℕ) (n : Node K V) (f : F) (from to : List ℕ) (start end : ℕ) (rest back : List ℕ) → IsLevelled (suc h) n → length (before_gap from n) + length (after_gap to n) ≤ length (pairs_of n) → AreSteps (suc h) n from to start end rest back → IsAt n n f f from start end rest back
+  pub at_start : (h : ℕ) (n : Node K V) (f : F) (from to : List ℕ) (start end : ℕ) (rest back : List ℕ) → IsLevelled (suc h) n
+      → length (before_gap from n) + length (after_gap to n) ≤ length (pairs_of n) → AreSteps (suc h) n from to start end rest back
+      → IsAt n n f f from start end rest back
   at_start h n f from to start end rest back l o s = record {
     le = s.le;
     kept = kept_all n start start;
@@ -94,10 +112,12 @@ module _ {F K V : Type 0} (R : F → K × V → F → V → Type 0) where
         let c = ap length (inner_gap n start l.1 s.first.le) in
         let d = length-append (before_child n start) (pairs_of (child_at n start) ++ after_child n start) in
         let k = length-append (pairs_of (child_at n start)) (after_child n start) in
-        let x : length (after_gap back (child_at n end)) ≡ length (after_gap back (child_at n start)) = ap (λ j. length (after_gap back (child_at n j))) (sym e) in
+        let x : length (after_gap back (child_at n end)) ≡ length (after_gap back (child_at n start)) =
+        ap (λ j. length (after_gap back (child_at n j))) (sym e) in
         let y : length (after_child n end) ≡ length (after_child n start) = ap (λ j. length (after_child n j)) (sym e) in
         omega arith;
-    grown = grown_start R f (before_gap from n) (before_child n start ++ before_gap rest (child_at n start)) (before_child n start ++ before_gap rest (child_at n start)) (sym s.lead) (sym s.lead);
+    grown = grown_start R f (before_gap from n) (before_child n start ++ before_gap rest (child_at n start))
+        (before_child n start ++ before_gap rest (child_at n start)) (sym s.lead) (sym s.lead);
   }
 
   -- the child, which is as it was
@@ -108,13 +128,21 @@ module _ {F K V : Type 0} (R : F → K × V → F → V → Type 0) where
     pub from : IsEnd h rest c
     pub within : length (before_gap rest c) ≤ length (pairs_of c)
 
-  pub reached : (h : ℕ) (old now c : Node K V) (first f : F) (from : List ℕ) (i end : ℕ) (rest to : List ℕ) → IsLevelled (suc h) old → end ≤ length (own_pairs old) → IsAt old now first f from i end rest to → c ≡ child_at now i → IsReached h old c i rest
+  pub reached : (h : ℕ) (old now c : Node K V) (first f : F) (from : List ℕ) (i end : ℕ) (rest to : List ℕ) → IsLevelled (suc h) old
+      → end ≤ length (own_pairs old) → IsAt old now first f from i end rest to → c ≡ child_at now i → IsReached h old c i rest
   reached h old now c first f from i end rest to l le at e =
       let step = at.step (suc h) l in
       let is = e ∙ kept_child h old now i l at.kept step.le in
       let b = child_below h old i l step.le in
       let w = end_below h old i rest step in
-      subst (λ x. IsReached h old x i rest) (sym is) (record { is = refl; levels = b.1; some = b.0; from = w; within = before_within h (child_at old i) rest b.1 w })
+      subst (λ x. IsReached h old x i rest) (sym is) (record {
+        is = refl;
+        levels = b.1;
+        some = b.0;
+        from = w;
+        within =
+            before_within h (child_at old i) rest b.1 w;
+      })
 
   -- the node of a walk has a child at the place
   pub child_room : {old now : Node K V} {first f : F} {from to front back rest : List ℕ} {start i end : ℕ} (s : AreInner old from to start end front back)
@@ -157,8 +185,10 @@ module _ {F K V : Type 0} (R : F → K × V → F → V → Type 0) where
       subst (λ j. IsAt old now first f from j end rest to) e at
 
   -- past the child and the pair after it
-  pub at_next : (h : ℕ) (old now c c' : Node K V) (first f g k : F) (from : List ℕ) (i end : ℕ) (rest to : List ℕ) (e : K × V) (w : V) → IsLevelled (suc h) old → end ≤ length (own_pairs old) → IsFirstStep (suc h) old end to → IsAt old now first f from i end rest to → i < end
-      → c ≡ child_at now i → IsVisited R f g (before_gap rest c) [] (pairs_of c) (pairs_of c') → IsBelow h c' → ((p : List ℕ) → IsSameAlong p c c') → R g e k w → e ≡ get_or (own_pairs (with_child now i c')) i e → IsAt old (with_value (with_child now i c') i w) first k from (suc i) end [] to
+  pub at_next : (h : ℕ) (old now c c' : Node K V) (first f g k : F) (from : List ℕ) (i end : ℕ) (rest to : List ℕ) (e : K × V) (w : V) → IsLevelled (suc h) old
+      → end ≤ length (own_pairs old) → IsFirstStep (suc h) old end to → IsAt old now first f from i end rest to → i < end
+      → c ≡ child_at now i → IsVisited R f g (before_gap rest c) [] (pairs_of c) (pairs_of c') → IsBelow h c' → ((p : List ℕ) → IsSameAlong p c c') → R g e k w
+      → e ≡ get_or (own_pairs (with_child now i c')) i e → IsAt old (with_value (with_child now i c') i w) first k from (suc i) end [] to
   at_next h old now c c' first f g k from i end rest to e w l le last at lt is v b shape r p =
       let s = child_step R h old now c c' i rest first f g (before_gap from old) l at.kept (omega arith) at.grown is v b shape in
       let t = own_step R (suc h) old (with_child now i c') i e w first g k (before_gap from old) l s.0 (omega arith) s.1 r p in
@@ -169,19 +199,25 @@ module _ {F K V : Type 0} (R : F → K × V → F → V → Type 0) where
         order = λ z.
             let m = end_below h old end to last in
             let a = after_within h (child_at old end) to (child_below h old end l le).1 m in
-            let x : length (after_gap to (child_at old (suc i))) ≡ length (after_gap to (child_at old end)) = ap (λ j. length (after_gap to (child_at old j))) z in
+            let x : length (after_gap to (child_at old (suc i))) ≡ length (after_gap to (child_at old end)) =
+            ap (λ j. length (after_gap to (child_at old j))) z in
             let y : length (pairs_of (child_at old (suc i))) ≡ length (pairs_of (child_at old end)) = ap (λ j. length (pairs_of (child_at old j))) z in
             omega arith;
-        grown = subst (λ zs. Grown R first k (before_gap from old) zs (before_child (with_value (with_child now i c') i w) (suc i) ++ [])) (sym (append-nil (before_child old (suc i))))
-            (subst (λ zs. Grown R first k (before_gap from old) (before_child old (suc i)) zs) (sym (append-nil (before_child (with_value (with_child now i c') i w) (suc i)))) t.1);
+        grown = subst (λ zs. Grown R first k (before_gap from old) zs (before_child (with_value (with_child now i c') i w) (suc i) ++ []))
+            (sym (append-nil (before_child old (suc i))))
+            (subst (λ zs. Grown R first k (before_gap from old) (before_child old (suc i)) zs)
+            (sym (append-nil (before_child (with_value (with_child now i c') i w) (suc i)))) t.1);
       }
 
   -- past the last child
-  pub at_end : (h : ℕ) (old now c c' : Node K V) (first f g : F) (from to : List ℕ) (start i end : ℕ) (front rest back : List ℕ) → IsLevelled (suc h) old → AreSteps (suc h) old from to start end front back → IsAt old now first f from i end rest back → i ≡ end
-      → c ≡ child_at now i → IsVisited R f g (before_gap rest c) (after_gap back c) (pairs_of c) (pairs_of c') → IsBelow h c' → IsVisited R first g (before_gap from old) (after_gap to old) (pairs_of old) (pairs_of (with_child now i c'))
+  pub at_end : (h : ℕ) (old now c c' : Node K V) (first f g : F) (from to : List ℕ) (start i end : ℕ) (front rest back : List ℕ) → IsLevelled (suc h) old
+      → AreSteps (suc h) old from to start end front back → IsAt old now first f from i end rest back → i ≡ end
+      → c ≡ child_at now i → IsVisited R f g (before_gap rest c) (after_gap back c) (pairs_of c) (pairs_of c') → IsBelow h c'
+      → IsVisited R first g (before_gap from old) (after_gap to old) (pairs_of old) (pairs_of (with_child now i c'))
   at_end h old now c c' first f g from to start i end front rest back l s at e is v b =
       let t = child_end R h old now c c' i rest back first f g (before_gap from old) l at.kept (at.step (suc h) l).le at.grown is v b in
-      subst (λ zs. IsVisited R first g (before_gap from old) zs (pairs_of old) (pairs_of (with_child now i c'))) (subst (λ j. after_gap back (child_at old j) ++ after_child old j ≡ after_gap to old) (sym e) (sym s.tail)) t
+      subst (λ zs. IsVisited R first g (before_gap from old) zs (pairs_of old) (pairs_of (with_child now i c')))
+      (subst (λ j. after_gap back (child_at old j) ++ after_child old j ≡ after_gap to old) (sym e) (sym s.tail)) t
 
   -- the walk is over once the last child is back, as c'
   pub record IsOver (old new : Node K V) (first g : F) (from to : List ℕ) : Type 0 where
@@ -206,15 +242,27 @@ module _ {F K V : Type 0} (R : F → K × V → F → V → Type 0) where
       })
 
   -- a leaf's pair
-  pub leaf_step : (old n n' : Node K V) (i : ℕ) (e : K × V) (w : V) (first f g : F) (front : List (K × V)) → IsLevelled 0 old → IsKept old n i i → i < length (own_pairs old) → Grown R first f front (before_child old i) (before_child n i) → R f e g w → e ≡ get_or (own_pairs n) i e → n' ≡ with_value n i w
+  pub leaf_step : (old n n' : Node K V) (i : ℕ) (e : K × V) (w : V) (first f g : F) (front : List (K × V)) → IsLevelled 0 old → IsKept old n i i
+      → i < length (own_pairs old) → Grown R first f front (before_child old i) (before_child n i) → R f e g w → e ≡ get_or (own_pairs n) i e
+      → n' ≡ with_value n i w
       → IsKept old n' (suc i) (suc i) × Grown R first g front (before_child old (suc i)) (before_child n' (suc i))
   leaf_step old n n' i e w first f g front l k lt grown r p is =
       let s = k.same in
-      let more : IsKept old n i (suc i) = record { same = k.same; own = k.own; below = drop_next i (children_of n) (children_of old) k.below; levels = k.levels; shape = k.shape } in
+      let more : IsKept old n i (suc i) = record {
+        same = k.same;
+        own = k.own;
+        below = drop_next i (children_of n) (children_of old) k.below;
+        levels =
+            k.levels;
+        shape = k.shape;
+      } in
       subst (λ x. IsKept old x (suc i) (suc i) × Grown R first g front (before_child old (suc i)) (before_child x (suc i))) (sym is)
-      (own_step R 0 old n i e w first f g front l more lt (subst (λ zs. Grown R first f front zs (before_own n i)) (sym (before_leaf old i l lt)) (subst (λ zs. Grown R first f front (before_child old i) zs) (sym (before_leaf n i (k.levels 0 l) (omega arith))) grown)) r p)
+      (own_step R 0 old n i e w first f g front l more lt (subst (λ zs. Grown R first f front zs (before_own n i)) (sym (before_leaf old i l lt))
+      (subst (λ zs. Grown R first f front (before_child old i) zs) (sym (before_leaf n i (k.levels 0 l) (omega arith))) grown)) r p)
 
-  pub leaf_end : (old n : Node K V) (i end : ℕ) (first f : F) (front : List (K × V)) → IsLevelled 0 old → IsKept old n i i → i ≡ end → Grown R first f front (before_child old i) (before_child n i) → IsVisited R first f front (after_child old end) (pairs_of old) (pairs_of n)
+  pub leaf_end : (old n : Node K V) (i end : ℕ) (first f : F) (front : List (K × V)) → IsLevelled 0 old → IsKept old n i i → i ≡ end
+      → Grown R first f front (before_child old i) (before_child n i) → IsVisited R first f front (after_child old end) (pairs_of old) (pairs_of n)
   leaf_end old n i end first f front l k e grown =
       subst (λ j. IsVisited R first f front (after_child old j) (pairs_of old) (pairs_of n)) e
-      (grown_end R first f front (before_child old i) (before_child n i) (after_child old i) (pairs_of old) (pairs_of n) grown (leaf_gap old i l.1) (leaf_gap n i (k.levels 0 l).1 ∙ ap (λ zs. before_child n i ++ zs) (kept_rest old n i k)))
+      (grown_end R first f front (before_child old i) (before_child n i) (after_child old i) (pairs_of old) (pairs_of n) grown (leaf_gap old i l.1)
+      (leaf_gap n i (k.levels 0 l).1 ∙ ap (λ zs. before_child n i ++ zs) (kept_rest old n i k)))

@@ -10,7 +10,8 @@ module _ {S A : Type 0} (steps : S → Option A → S → Type 0) where
   yields_more s t u [] x e h = (u, subst (λ k. steps k (Some x) u) (sym e) h, refl)
   yields_more s t u (y ∷ xs) x e h = (e.0, e.1, yields_more e.0 t u xs x e.2 h)
 
-leading : {S A : Type 0} (steps : S → Option A → S → Type 0) (s t : S) (all given : List A) → AlwaysYields steps (λ x. x) s all → Yields steps s given t → (rest : List A) × (given ++ rest ≡ all)
+leading : {S A : Type 0} (steps : S → Option A → S → Type 0) (s t : S) (all given : List A) → AlwaysYields steps (λ x. x) s all → Yields steps s given t
+    → (rest : List A) × (given ++ rest ≡ all)
 leading steps s t all [] road y = (all, refl)
 leading steps s t [] (x ∷ given) road y = absurd (road x y.0 y.1)
 leading steps s t (a ∷ all) (x ∷ given) road y =

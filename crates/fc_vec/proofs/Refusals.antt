@@ -8,7 +8,8 @@ use Rattle.fc_vec.specs.Vectors.{MayRefuse}
 
 -- Where the lengths fit together, a refusal is for want of memory.
 pub no_overflow : (room m n : ℕ) (e : TryReserveError) → m + n ≤ 18446744073709551615 → MayRefuse room m n e → e ≡ AllocError
-no_overflow room m n e h r = let fits : nat_le (m + n) 18446744073709551615 ≡ true = grind (arith, h) in r.1 ∙ ap (λ b. if b then AllocError else CapacityOverflow) fits
+no_overflow room m n e h r = let fits : nat_le (m + n) 18446744073709551615 ≡ true = grind (arith, h) in r.1
+    ∙ ap (λ b. if b then AllocError else CapacityOverflow) fits
 
 -- A list that ends with an item is not empty.
 pub some_taken : {A : Type 0} (xs : List A) (x : A) → 0 < length (xs ++ x ∷ [])

@@ -5,4 +5,5 @@ use Rattle.fc_vec.proofs.ItemFacts.{all_given}
 use Rattle.callers_of_map.proofs.extend.any_of_list.Goals as goal
 
 pub returns : goal.returns
-returns g c = IfOk-weaker c.try_from_iterator.result _ _ (λ made w. subst (λ all. g.C.TryFromIterator.made_of all made) (all_given _ _ c.args.items.items _ (YieldsList-from_vec {s = w.1.0} _ w.1.1.0 (w.1.1.1 ∙ c.args.items.ok.0)) w.1.2) w.2) c.try_from_iterator.ensures.made
+returns g c = IfOk-weaker c.try_from_iterator.result _ _ (λ made w. subst (λ all. g.C.TryFromIterator.made_of all made)
+    (all_given _ _ c.args.items.items _ (YieldsList-from_vec {s = w.1.0} _ w.1.1.0 (w.1.1.1 ∙ c.args.items.ok.0)) w.1.2) w.2) c.try_from_iterator.ensures.made

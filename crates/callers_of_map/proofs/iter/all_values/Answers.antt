@@ -4,4 +4,5 @@ use Rattle.std.proofs.lemmas.Iterator.Consumers.{YieldsList-from_copied, YieldsL
 use Rattle.callers_of_map.proofs.iter.all_values.Goals as goal
 
 pub returns : goal.returns
-returns g c = items_from_collect _ c.collect.ensures.ran (YieldsList-from_copied (YieldsList-from_first (λ y. y.now) (λ s. s) _ (c.copied.ensures.source ∙ c.values.ensures.values)))
+returns g c = items_from_collect _ c.collect.ensures.ran (YieldsList-from_copied
+    (YieldsList-from_first (λ y. y.now) (λ s. s) _ (c.copied.ensures.source ∙ c.values.ensures.values)))

@@ -4,7 +4,8 @@ use Rattle.fc_map.specs.Stretches.{iter_stretch}
 use Rattle.fc_map.specs.Writing.{whole, wrote_all}
 use Rattle.fc_map.proofs.WritingFacts.{write_more, write_front, write_back, write_none, write_end}
 use Rattle.callers_of_map.proofs.iter_mut.write_all.Goals as goal
-use Rattle.callers_of_map.proofs.iter_mut.write_all.Goals.{then-write+in-Some, then-write+in_default, else-write+in-Some-next_back, else-write+in_default-next_back}
+use Rattle.callers_of_map.proofs.iter_mut.write_all.Goals.{then-write+in-Some, then-write+in_default, else-write+in-Some-next_back}
+use Rattle.callers_of_map.proofs.iter_mut.write_all.Goals.{else-write+in_default-next_back}
 
 pub loop-write-init : goal.loop-write-init
 loop-write-init g c = (refl, ap (λ t. wrote_all t c.args.writes.now) c.iter_mut-walk.ensures.start)
@@ -28,7 +29,8 @@ loop-write-preserved g c =
           let e : c.if-write.walk ≡ n = w.walk-is in
           let h = rw w.in_default.is at (w.next.follows.holds-at-none) in
           let one = write_none (iter_stretch t) item w.in_default.ensures.value ∙ sym (ap iter_stretch h) in
-          rw e (ap (λ m. m.map.ghost_name) h ∙ inv.0, write_more (iter_stretch t) (iter_stretch n) ws c.loop-write.write-index item r c.loop-write-test.true c.write-item.is one inv.1)
+          rw e (ap (λ m. m.map.ghost_name) h ∙ inv.0, write_more (iter_stretch t) (iter_stretch n) ws c.loop-write.write-index item r c.loop-write-test.true
+              c.write-item.is one inv.1)
       | else-write+in-Some-next_back w ↦
           let n = w.next_back.follows.lender item.1 in
           let e : c.if-write.walk ≡ n = w.walk-is in
@@ -40,7 +42,8 @@ loop-write-preserved g c =
           let e : c.if-write.walk ≡ n = w.walk-is in
           let h = rw w.in_default-next_back.is at (w.next_back.follows.holds-at-none) in
           let one = write_none (iter_stretch t) item w.in_default-next_back.ensures.value ∙ sym (ap iter_stretch h) in
-          rw e (ap (λ m. m.map.ghost_name) h ∙ inv.0, write_more (iter_stretch t) (iter_stretch n) ws c.loop-write.write-index item r c.loop-write-test.true c.write-item.is one inv.1)
+          rw e (ap (λ m. m.map.ghost_name) h ∙ inv.0, write_more (iter_stretch t) (iter_stretch n) ws c.loop-write.write-index item r c.loop-write-test.true
+              c.write-item.is one inv.1)
     ]
 
 pub returns : goal.returns

@@ -7,4 +7,5 @@ use Rattle.callers_of_map.proofs.iter_mut.write_all.Given as goal
 -- the writes that are left, from where the walk is, give what all the writes give
 abbrev pub invariant-loop-write : goal.invariant-loop-write
 invariant-loop-write g l =
-    ((iter_map_ref l.walk).ghost_name ≡ (iter_map_ref l.initial.walk).ghost_name) × (wrote_all (iter_stretch l.walk) (drop l.write-index l.writes) ≡ wrote_all (whole (entries l.fn.map)) l.fn.writes)
+    ((iter_map_ref l.walk).ghost_name ≡ (iter_map_ref l.initial.walk).ghost_name)
+        × (wrote_all (iter_stretch l.walk) (drop l.write-index l.writes) ≡ wrote_all (whole (entries l.fn.map)) l.fn.writes)

@@ -14,7 +14,9 @@ numbers_refused xs e (some, inr (k, p, h, is, inl key)) = absurd key
 numbers_refused xs e (some, inr (k, p, h, is, inr value)) = absurd value
 
 pub returns-clause-same : goal.returns-clause-same
-returns-clause-same c = MatchResult-weaker c.try_clone.result c.try_clone.ensures.copied (λ copy z. entries_from_clone _ _ (λ x y e. e) (λ x y e. e) _ _ z) (λ e h. tt)
+returns-clause-same c = MatchResult-weaker c.try_clone.result c.try_clone.ensures.copied (λ copy z. entries_from_clone _ _ (λ x y e. e) (λ x y e. e) _ _ z)
+    (λ e h. tt)
 
 pub returns-clause-error : goal.returns-clause-error
-returns-clause-error c = MatchResult-weaker c.try_clone.result c.try_clone.ensures.copied (λ copy z. tt) (λ e may. numbers_refused (entries c.args.map.now) e may)
+returns-clause-error c = MatchResult-weaker c.try_clone.result c.try_clone.ensures.copied (λ copy z. tt)
+    (λ e may. numbers_refused (entries c.args.map.now) e may)

@@ -10,13 +10,15 @@ use Rattle.callers_of_map.proofs.refusals.put_each.Goals as goal
 pub loop-key-preserved-in_ok-try_insert : goal.loop-key-preserved-in_ok-try_insert
 loop-key-preserved-in_ok-try_insert g c = record {
   all = moved_on c.args.pairs.items c.loop-key.yielded (c.in-Some.key, c.in-Some.value) _ _ c.loop-key.invariant.all c.in-Some.ensures.steps.0;
-  made = extended_more g.K.Ord.cmp (entries c.args.map.now) c.loop-key.yielded (entries c.loop-key.map) (entries c.try_insert.new.self) c.in-Some.key c.in-Some.value c.loop-key.invariant.made c.in_ok-try_insert.ensures.put;
+  made = extended_more g.K.Ord.cmp (entries c.args.map.now) c.loop-key.yielded (entries c.loop-key.map) (entries c.try_insert.new.self) c.in-Some.key
+      c.in-Some.value c.loop-key.invariant.made c.in_ok-try_insert.ensures.put;
 }
 
 pub loop-key-preserved : goal.loop-key-preserved
 loop-key-preserved g c = record {
   all = moved_on c.args.pairs.items c.loop-key.yielded (c.in-Some.key, c.in-Some.value) _ _ c.loop-key.invariant.all c.in-Some.ensures.steps.0;
-  made = extended_more g.K.Ord.cmp (entries c.args.map.now) c.loop-key.yielded (entries c.loop-key.map) (entries c.try_insert.new.self) c.in-Some.key c.in-Some.value c.loop-key.invariant.made c.in_ok-try_insert.ensures.put;
+  made = extended_more g.K.Ord.cmp (entries c.args.map.now) c.loop-key.yielded (entries c.loop-key.map) (entries c.try_insert.new.self) c.in-Some.key
+      c.in-Some.value c.loop-key.invariant.made c.in_ok-try_insert.ensures.put;
 }
 
 -- a new key was refused, and the pairs before it are put in

@@ -21,7 +21,13 @@ loop-left-preserved g c =
     let more = length-append m.0 bytes in
     let grown = ap length put ∙ length-append c.loop-left.buf.items bytes in
     record {
-      read = (m.0 ++ bytes, omega (arith, more, m.1, bound.1, within), put ∙ ap (λ l. l ++ bytes) m.2 ∙ append_assoc c.args.buf.now.items m.0 bytes, Consumes-trans _ _ _ m.0 bytes m.3 c.in_ok-n.ensures.bytes.0);
+      read = (
+        m.0 ++ bytes,
+        omega (arith, more, m.1, bound.1, within),
+        put ∙ ap (λ l. l ++ bytes) m.2
+            ∙ append_assoc c.args.buf.now.items m.0 bytes,
+        Consumes-trans _ _ _ m.0 bytes m.3 c.in_ok-n.ensures.bytes.0,
+      );
       room = omega (arith, grown, bound.1, within, c.loop-left.invariant.room, c.in_ok-write.ensures.kept);
       kept = omega (arith, c.loop-left.invariant.kept, c.in_ok-write.ensures.kept);
     }

@@ -5,7 +5,8 @@ use Rattle.fc_read.proofs.up_to.read_into_room.Given as goal
 -- What was read so far, and that the rest has room.
 abbrev pub invariant-loop-left : goal.invariant-loop-left
 invariant-loop-left g l = record {
-  read : (bytes : List ℕ) × (length bytes + l.left ≡ l.fn.limit) × (l.buf.items ≡ l.fn.buf.items ++ bytes) × Consumes (g.R.Read.remaining l.fn.src) (g.R.Read.remaining l.src) bytes;
+  read : (bytes : List ℕ) × (length bytes + l.left ≡ l.fn.limit) × (l.buf.items ≡ l.fn.buf.items ++ bytes)
+      × Consumes (g.R.Read.remaining l.fn.src) (g.R.Read.remaining l.src) bytes;
   room : length l.buf.items + l.left ≤ l.buf.room;
   kept : l.fn.buf.room ≤ l.buf.room;
 }

@@ -18,12 +18,14 @@ insert_with-requires-clause-sound g c = subst (λ p. IsSoundRoot (length p - 1) 
 
 pub insert_with-requires-clause-leaf : goal.insert_with-requires-clause-leaf
 insert_with-requires-clause-leaf g c =
-    let r = new_nodes_given c.new_nodes.inside.leaf c.new_nodes.inside.inner c.args.path.now c.args.root.now (c.new_nodes.view_is ∙ c.requires.new_nodes) c.new_nodes.invariant c.requires.some in
+    let r = new_nodes_given c.new_nodes.inside.leaf c.new_nodes.inside.inner c.args.path.now c.args.root.now (c.new_nodes.view_is ∙ c.requires.new_nodes)
+    c.new_nodes.invariant c.requires.some in
     subst (λ p. IsSpareLeaf c.new_nodes.inside.leaf (cascade p c.args.root.now)) (sym c.as_slice.ensures.value) r.0
 
 pub insert_with-requires-clause-inner : goal.insert_with-requires-clause-inner
 insert_with-requires-clause-inner g c =
-    let r = new_nodes_given c.new_nodes.inside.leaf c.new_nodes.inside.inner c.args.path.now c.args.root.now (c.new_nodes.view_is ∙ c.requires.new_nodes) c.new_nodes.invariant c.requires.some in
+    let r = new_nodes_given c.new_nodes.inside.leaf c.new_nodes.inside.inner c.args.path.now c.args.root.now (c.new_nodes.view_is ∙ c.requires.new_nodes)
+    c.new_nodes.invariant c.requires.some in
     subst (λ p. c.new_nodes.inside.inner ≡ nodes_needed p c.args.root.now - 1) (sym c.as_slice.ensures.value) r.1
 
 pub arrive-requires : goal.arrive-requires
@@ -39,5 +41,7 @@ returns-clause-place g c =
     let root = c.insert_with.new.root in
     let old = c.args.root.now in
     let nodes = c.len-nodes.ensures ∙ c.requires.new_nodes in
-    let put = subst (λ p. IsPutAt (path_after (nodes_needed p old) p) root c.args.pair (before_gap p old) (after_gap p old)) c.as_slice.ensures.value c.insert_with.ensures.place in
-    subst (λ p. IsPutAt p root c.args.pair (before_gap c.args.path.now old) (after_gap c.args.path.now old)) (sym (c.arrive.ensures ∙ ap (λ n. path_after n c.args.path.now) nodes)) put
+    let put = subst (λ p. IsPutAt (path_after (nodes_needed p old) p) root c.args.pair (before_gap p old) (after_gap p old)) c.as_slice.ensures.value
+    c.insert_with.ensures.place in
+    subst (λ p. IsPutAt p root c.args.pair (before_gap c.args.path.now old) (after_gap c.args.path.now old))
+    (sym (c.arrive.ensures ∙ ap (λ n. path_after n c.args.path.now) nodes)) put

@@ -17,8 +17,22 @@ has_room-requires g t c κs within =
     let s = step_of c.args.path.now c.args.node.now (omega arith) c.requires.path c.requires.levels in
     let long = s.long in
     let height = s.height in
-    let b = child_below _ c.args.node.now _ s.levels s.le in
-    (search rules, (search rules, (search rules, (omega arith, (subst (IsPath _) (sym c.child.ensures) s.onward, subst (IsLevelled _) (sym c.child.ensures) b.1)))))
+    let b = child_below _ c.args.node.now _ s.levels s.le in (
+      search rules,
+      (
+        search rules,
+        (
+          search rules,
+          (
+            omega arith,
+            (
+              subst (IsPath _) (sym c.child.ensures) s.onward,
+              subst (IsLevelled _) (sym c.child.ensures) b.1,
+            ),
+          ),
+        ),
+      ),
+    )
 
 pub returns : goal.returns
 returns g t c =

@@ -6,7 +6,8 @@ use Rattle.fc_tree_node.proofs.Pairs.{child_below}
 use Rattle.fc_tree_insertion.proofs.Cascades.{leaf_full, leaf_room, IsCascadeStep, cascade_step}
 use Rattle.fc_tree_insertion.proofs.new_nodes.+count_full.Given as given
 use Rattle.fc_tree_insertion.proofs.new_nodes.+count_full.Goals as goal
-use Rattle.fc_tree_insertion.proofs.new_nodes.+count_full.Goals.{After-child, else-below-rest-via-then-below-rest+else-len-eq-CAPACITY-2, else-below-rest-via-else-below-rest}
+use Rattle.fc_tree_insertion.proofs.new_nodes.+count_full.Goals.{After-child, else-below-rest-via-then-below-rest+else-len-eq-CAPACITY-2}
+use Rattle.fc_tree_insertion.proofs.new_nodes.+count_full.Goals.{else-below-rest-via-else-below-rest}
 
 pub returns-then-len-eq-CAPACITY : goal.returns-then-len-eq-CAPACITY
 returns-then-len-eq-CAPACITY g t c = sym (leaf_full _ _ (one_step _ c.if-path-eq1.true) (omega arith))

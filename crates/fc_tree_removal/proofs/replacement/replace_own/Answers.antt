@@ -8,7 +8,8 @@ returns-clause-old g c = get_there _ _ _ c.requires.place c.replace_pair.ensures
 pub returns-clause-pairs : goal.returns-clause-pairs
 returns-clause-pairs g c =
     let r = c.replace_pair.ensures in
-    set_pairs c.requires.levels.0 _ _ c.args.index c.args.pair (record { pairs = r.pairs; children = r.children; leaf = r.leaf }) c.requires.levels.1 c.requires.place
+    set_pairs c.requires.levels.0 _ _ c.args.index c.args.pair (record { pairs = r.pairs; children = r.children; leaf = r.leaf }) c.requires.levels.1
+    c.requires.place
 
 pub returns-clause-size : goal.returns-clause-size
 returns-clause-size g c =

@@ -20,7 +20,12 @@ returns-then-left-right-lt-CAPACITY-clause-joined g c h s =
     let r = c.requires.right in
     let z = c.if-left-right-lt-CAPACITY.true in
     let i = c.args.index in
-    inl (refl, refl, subst (λ k. IsOneMet h i k c.args.node.now c.merge.new.self) (sym l) (one_met h i c.args.node.now c.merge.new.self s (omega arith) c.merge.ensures.merged c.merge.ensures.inner))
+    inl (
+      refl,
+      refl,
+      subst (λ k. IsOneMet h i k c.args.node.now c.merge.new.self) (sym l)
+          (one_met h i c.args.node.now c.merge.new.self s (omega arith) c.merge.ensures.merged c.merge.ensures.inner),
+    )
 
 pub returns-then-left-lt-MIN_LEN-clause-joined : goal.returns-then-left-lt-MIN_LEN-clause-joined
 returns-then-left-lt-MIN_LEN-clause-joined g c h s =
@@ -30,7 +35,12 @@ returns-then-left-lt-MIN_LEN-clause-joined g c h s =
     let few = c.if-left-lt-MIN_LEN.true in
     let i = c.args.index in
     let n = c.args.node.now in
-    inr (refl, subst (λ k. AreTwoMet h i i k n c.bulk_steal_right.new.self) (sym l) (left_met h i _ n c.bulk_steal_right.new.self s (omega arith) (omega arith) (thin_fits h (child_at n (i + 1)) s.right) (omega arith) c.bulk_steal_right.ensures.shared c.bulk_steal_right.ensures.inner))
+    inr (
+      refl,
+      subst (λ k. AreTwoMet h i i k n c.bulk_steal_right.new.self) (sym l)
+          (left_met h i _ n c.bulk_steal_right.new.self s (omega arith) (omega arith) (thin_fits h (child_at n (i + 1)) s.right) (omega arith)
+          c.bulk_steal_right.ensures.shared c.bulk_steal_right.ensures.inner),
+    )
 
 pub returns-clause-joined : goal.returns-clause-joined
 returns-clause-joined g c h s =
@@ -42,4 +52,8 @@ returns-clause-joined g c h s =
     let i = c.args.index in
     let n = c.args.node.now in
     let x = thin_fits h (child_at n i) s.left in
-    inr (refl, right_met h i _ _ n c.bulk_steal_left.new.self s (omega arith) (omega arith) x (omega arith) (omega arith) c.bulk_steal_left.ensures.shared c.bulk_steal_left.ensures.inner)
+    inr (
+      refl,
+      right_met h i _ _ n c.bulk_steal_left.new.self s (omega arith) (omega arith) x (omega arith) (omega arith) c.bulk_steal_left.ensures.shared
+          c.bulk_steal_left.ensures.inner,
+    )

@@ -3,5 +3,8 @@ use Rattle.fc_tree_retain.proofs.Kept.{as_extracted}
 use Rattle.fc_tree_retain.proofs.retain.extract_if.Goals as goal
 
 pub returns-clause-extracted : goal.returns-clause-extracted
-returns-clause-extracted g c =
-    ((c.sift_tree.new.sieve.pick, c.sift_tree.new.sieve.each), as_extracted _ _ (AskedAtPair g.F.FnMut) (GivenPair g.E.FnMut) (λ s. s.pick) (λ s. s.each) (λ s t e w b a. a) (λ s t e q. q) _ _ _ _ c.sift_tree.ensures.sifted)
+returns-clause-extracted g c = (
+  (c.sift_tree.new.sieve.pick, c.sift_tree.new.sieve.each),
+  as_extracted _ _ (AskedAtPair g.F.FnMut) (GivenPair g.E.FnMut) (λ s. s.pick) (λ s. s.each)
+      (λ s t e w b a. a) (λ s t e q. q) _ _ _ _ c.sift_tree.ensures.sifted,
+)

@@ -3,4 +3,8 @@ use Rattle.fc_tree_retain.proofs.Kept.{as_retained}
 use Rattle.fc_tree_retain.proofs.retain.retain.Goals as goal
 
 pub returns-clause-retained : goal.returns-clause-retained
-returns-clause-retained g c = (c.sift_tree.new.sieve.keep, as_retained _ _ (AskedAtPair g.F.FnMut) (λ s. s.keep) (λ s t e w b a. a) (λ s t e q. q) _ _ _ _ c.sift_tree.ensures.sifted)
+returns-clause-retained g c = (
+  c.sift_tree.new.sieve.keep,
+  as_retained _ _ (AskedAtPair g.F.FnMut) (λ s. s.keep) (λ s t e w b a. a) (λ s t e q. q) _ _ _ _
+      c.sift_tree.ensures.sifted,
+)

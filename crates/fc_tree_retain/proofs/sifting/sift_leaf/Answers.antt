@@ -7,12 +7,18 @@ use Rattle.fc_tree_retain.proofs.sifting.sift_leaf.Goals as goal
 pub loop-init : goal.loop-init
 loop-init g c =
     let e = c.len-end.ensures.value in
-    record { callable = c.requires.callable; loose = c.requires.leaf; at = leaf_start (SiftsPair g.S.Sieve.asked g.S.Sieve.given) c.args.sieve.now (own_pairs c.args.node.now) (c.len-end.result - 0) (omega arith) }
+    record {
+      callable = c.requires.callable;
+      loose = c.requires.leaf;
+      at =
+          leaf_start (SiftsPair g.S.Sieve.asked g.S.Sieve.given) c.args.sieve.now (own_pairs c.args.node.now) (c.len-end.result - 0) (omega arith);
+    }
 
 pub sift_own-at-requires-clause-inside : goal.sift_own-at-requires-clause-inside
 sift_own-at-requires-clause-inside g c =
     let test = c.loop-test.true in
-    leaf_room (SiftsPair g.S.Sieve.asked g.S.Sieve.given) c.args.sieve.now c.loop.sieve _ _ c.loop.at (c.len-end.result - c.loop.counter) c.loop.invariant.at (omega arith)
+    leaf_room (SiftsPair g.S.Sieve.asked g.S.Sieve.given) c.args.sieve.now c.loop.sieve _ _ c.loop.at (c.len-end.result - c.loop.counter) c.loop.invariant.at
+    (omega arith)
 
 pub loop-preserved : goal.loop-preserved
 loop-preserved g c =
@@ -20,7 +26,9 @@ loop-preserved g c =
     record {
       callable = c.sift_own-at.ensures.callable;
       loose = c.sift_own-at.ensures.loose;
-      at = leaf_passed (SiftsPair g.S.Sieve.asked g.S.Sieve.given) c.args.sieve.now c.loop.sieve c.sift_own-at.new.sieve _ _ _ c.loop.at (c.len-end.result - c.loop.counter) (c.len-end.result - (c.loop.counter + 1)) c.sift_own-at.result c.loop.invariant.at (omega arith) c.sift_own-at.ensures.passed;
+      at = leaf_passed (SiftsPair g.S.Sieve.asked g.S.Sieve.given) c.args.sieve.now c.loop.sieve c.sift_own-at.new.sieve _ _ _ c.loop.at
+          (c.len-end.result - c.loop.counter) (c.len-end.result - (c.loop.counter + 1)) c.sift_own-at.result c.loop.invariant.at (omega arith)
+          c.sift_own-at.ensures.passed;
     }
 
 pub returns-clause-sifted : goal.returns-clause-sifted
@@ -28,4 +36,5 @@ returns-clause-sifted g c =
     let R = SiftsPair g.S.Sieve.asked g.S.Sieve.given in
     let test = c.loop-test.false in
     let z : c.len-end.result - c.loop.counter ≡ 0 = omega arith in
-    leaf_end R c.args.sieve.now c.loop.sieve (own_pairs c.args.node.now) (own_pairs c.loop.node) c.loop.at (subst (λ j. IsLeafSifted R c.args.sieve.now c.loop.sieve (own_pairs c.args.node.now) (own_pairs c.loop.node) c.loop.at j) z c.loop.invariant.at)
+    leaf_end R c.args.sieve.now c.loop.sieve (own_pairs c.args.node.now) (own_pairs c.loop.node) c.loop.at
+    (subst (λ j. IsLeafSifted R c.args.sieve.now c.loop.sieve (own_pairs c.args.node.now) (own_pairs c.loop.node) c.loop.at j) z c.loop.invariant.at)

@@ -17,5 +17,6 @@ loop-i-preserved g c =
 pub returns : goal.returns
 returns g c =
     let some = place_some c.args.path.now c.args.root.now c.requires in
-    let e = place_end c.args.path.now c.loop-i.node.now c.loop-i.i (c.len-last.result - 1) c.step-2.result (omega arith) (omega arith) c.step-2.ensures c.loop-i.invariant.0 in
+    let e = place_end c.args.path.now c.loop-i.node.now c.loop-i.i (c.len-last.result - 1) c.step-2.result (omega arith) (omega arith) c.step-2.ensures
+    c.loop-i.invariant.0 in
     sym c.loop-i.invariant.1 ∙ e.1 ∙ own_there c.loop-i.node.now c.step-2.result c.pair.result.now e.0 c.pair.ensures

@@ -12,4 +12,5 @@ pub returns-else-is_leaf : goal.returns-else-is_leaf
 returns-else-is_leaf g c = λ lead e.
     let l = c.requires.levels in
     let w = child_of l.0 c.args.node.now (c.args.place) (omega arith, l.1) c.if-is_leaf.ensures.1 (omega arith) in
-    own_before_inner l.0 c.args.node.now c.child.result.now c.args.place c.last_pair.result.now lead l.1 w.inner c.requires.place c.child.ensures c.last_pair.ensures
+    own_before_inner l.0 c.args.node.now c.child.result.now c.args.place c.last_pair.result.now lead l.1 w.inner c.requires.place c.child.ensures
+    c.last_pair.ensures

@@ -12,4 +12,5 @@ pub returns-else-is_leaf : goal.returns-else-is_leaf
 returns-else-is_leaf g c = λ rest e.
     let l = c.requires.levels in
     let w = child_of l.0 c.args.node.now (c.args.place + 1) (omega arith, l.1) c.if-is_leaf.ensures.1 (omega arith) in
-    own_after_inner l.0 c.args.node.now c.child.result.now c.args.place c.first_pair.result.now rest l.1 w.inner c.requires.place c.child.ensures c.first_pair.ensures
+    own_after_inner l.0 c.args.node.now c.child.result.now c.args.place c.first_pair.result.now rest l.1 w.inner c.requires.place c.child.ensures
+    c.first_pair.ensures

@@ -1,26 +1,38 @@
 use Rattle.std.proofs.Common.{sym, arith, refl}
-use Rattle.fc_tree_search.proofs.SearchFacts.{one_longer, child_there, way_levels, way_leaf, way_room, way_small, way_ascending, way_more, way_gap, way_found}
-use Rattle.fc_tree_search.proofs.PassedFacts.{passed_found, passed_down, passed_leaf, passed_bound}
+use Rattle.fc_tree_search.proofs.SearchFacts.{IsSearch, one_longer, way_leaf, way_room, way_small, way_more, way_gap, way_found}
+use Rattle.fc_tree_search.proofs.SearchSteps.{ends_at, ends_in, has_child, goes_on}
+use Rattle.fc_tree_search.proofs.PassedFacts.{passed_bound}
 use Rattle.fc_tree_search.proofs.WayFacts.{path_ends, path_ends_leaf, path_goes_on}
+use Rattle.fc_tree_search.proofs.search.descend.Given as given
 use Rattle.fc_tree_search.proofs.search.descend.Goals as goal
+use Rattle.fc_tree_search.proofs.search.descend.Goals.{After-search_node}
+
+on : (g : given.Over) (c : After-search_node g)
+    → IsSearch g.K.Ord.cmp g.Q.Query.order (g.Q.Query.sought c.args.key) c.args.root.now c.down.node.now c.down.path
+on g c = record { fits = g.met.Q.Query.fits; levels = c.requires.levels; order = c.requires.order; way = c.down.invariant.0 }
 
 pub push-requires : goal.push-requires
-push-requires g c = record { room = way_room _ _ c.requires.levels c.down.invariant.0; small = way_small _ _ c.in-Ok.i c.requires.levels c.down.invariant.0 (let found = c.in-Ok.ensures.found.0 in omega arith) }
+push-requires g c = record {
+  room = way_room _ _ c.requires.levels c.down.invariant.0;
+  small = way_small _ _ c.in-Ok.i c.requires.levels c.down.invariant.0 (let found = c.in-Ok.ensures.found.0 in omega arith);
+}
 
 pub push-requires-in-Err : goal.push-requires-in-Err
-push-requires-in-Err g c = record { room = way_room _ _ c.requires.levels c.down.invariant.0; small = way_small _ _ c.in-Err.i c.requires.levels c.down.invariant.0 c.in-Err.ensures.gap.0 }
+push-requires-in-Err g c = record {
+  room = way_room _ _ c.requires.levels c.down.invariant.0;
+  small = way_small _ _ c.in-Err.i c.requires.levels c.down.invariant.0 c.in-Err.ensures.gap.0;
+}
 
 pub returns-in-Ok-clause-found : goal.returns-in-Ok-clause-found
 returns-in-Ok-clause-found g c =
-    way_found g.met.Q.Query.fits (g.Q.Query.sought c.args.key) c.requires.levels c.requires.order c.down.invariant.0 c.in-Ok.i _ c.push.ensures c.in-Ok.ensures.found
+    way_found (on g (goal.at.returns-in-Ok-clause-found g c).After-search_node) c.in-Ok.i _ c.push.ensures c.in-Ok.ensures.found
 
 pub returns-in-Ok-clause-node : goal.returns-in-Ok-clause-node
 returns-in-Ok-clause-node g c = sym (way_leaf _ _ c.in-Ok.i _ c.push.ensures c.down.invariant.0)
 
 pub returns-in-Ok-clause-comparisons : goal.returns-in-Ok-clause-comparisons
 returns-in-Ok-clause-comparisons g c =
-    let a = way_ascending _ _ _ c.requires.levels c.requires.order c.down.invariant.0 in
-    let f = passed_found g.met.Q.Query.fits (g.Q.Query.sought c.args.key) c.down.node.now c.in-Ok.i a c.in-Ok.ensures.found in
+    let f = ends_at (on g (goal.at.returns-in-Ok-clause-comparisons g c).After-search_node) c.in-Ok.i c.in-Ok.ensures.found in
     omega (arith, c.in-Ok.ensures.comparisons)
 
 pub returns-in-Ok-clause-bounded : goal.returns-in-Ok-clause-bounded
@@ -30,19 +42,20 @@ returns-in-Ok-clause-bounded g c =
 
 pub returns-in-Ok-clause-path : goal.returns-in-Ok-clause-path
 returns-in-Ok-clause-path g c =
-    path_ends g.met.Q.Query.fits (g.Q.Query.sought c.args.key) c.requires.levels c.requires.order c.down.invariant.0 c.down.invariant.3 c.in-Ok.i _ c.push.ensures c.in-Ok.ensures.found
+    path_ends (on g (goal.at.returns-in-Ok-clause-path g c).After-search_node) c.down.invariant.3 c.in-Ok.i _ c.push.ensures c.in-Ok.ensures.found
 
 pub returns-then-is_leaf-clause-gap : goal.returns-then-is_leaf-clause-gap
 returns-then-is_leaf-clause-gap g c =
-    way_gap g.met.Q.Query.fits (g.Q.Query.sought c.args.key) c.requires.levels c.requires.order c.down.invariant.0 c.in-Err.i _ c.push-in-Err.ensures c.in-Err.ensures.gap (c.if-is_leaf.ensures.0 refl)
+    way_gap (on g (goal.at.returns-then-is_leaf-clause-gap g c).After-search_node) c.in-Err.i _ c.push-in-Err.ensures
+    c.in-Err.ensures.gap (c.if-is_leaf.ensures.0 refl)
 
 pub returns-then-is_leaf-clause-leaf : goal.returns-then-is_leaf-clause-leaf
 returns-then-is_leaf-clause-leaf g c = sym (way_leaf _ _ c.in-Err.i _ c.push-in-Err.ensures c.down.invariant.0)
 
 pub returns-then-is_leaf-clause-comparisons : goal.returns-then-is_leaf-clause-comparisons
 returns-then-is_leaf-clause-comparisons g c =
-    let a = way_ascending _ _ _ c.requires.levels c.requires.order c.down.invariant.0 in
-    let f = passed_leaf g.met.Q.Query.fits (g.Q.Query.sought c.args.key) c.down.node.now c.in-Err.i a c.in-Err.ensures.gap (c.if-is_leaf.ensures.0 refl) in
+    let s = on g (goal.at.returns-then-is_leaf-clause-comparisons g c).After-search_node in
+    let f = ends_in s c.in-Err.i c.in-Err.ensures.gap (c.if-is_leaf.ensures.0 refl) in
     omega (arith, c.in-Err.ensures.comparisons)
 
 pub returns-then-is_leaf-clause-bounded : goal.returns-then-is_leaf-clause-bounded
@@ -52,12 +65,12 @@ returns-then-is_leaf-clause-bounded g c =
 
 pub returns-then-is_leaf-clause-path : goal.returns-then-is_leaf-clause-path
 returns-then-is_leaf-clause-path g c =
-    path_ends_leaf g.met.Q.Query.fits (g.Q.Query.sought c.args.key) c.requires.levels c.requires.order c.down.invariant.0 c.down.invariant.3 c.in-Err.i _ c.push-in-Err.ensures c.in-Err.ensures.gap (c.if-is_leaf.ensures.0 refl)
+    path_ends_leaf (on g (goal.at.returns-then-is_leaf-clause-path g c).After-search_node) c.down.invariant.3 c.in-Err.i _
+    c.push-in-Err.ensures c.in-Err.ensures.gap (c.if-is_leaf.ensures.0 refl)
 
 pub child-node-requires : goal.child-node-requires
 child-node-requires g c =
-    let d = way_levels _ _ c.requires.levels c.down.invariant.0 in
-    let there = child_there d.0 c.down.node.now c.in-Err.i d.2 c.if-is_leaf.ensures.1 c.in-Err.ensures.gap.0 in
+    let there = has_child (on g (goal.at.child-node-requires g c).After-search_node) c.in-Err.i c.in-Err.ensures.gap c.if-is_leaf.ensures.1 in
     omega arith
 
 pub down-smaller : goal.down-smaller
@@ -68,14 +81,9 @@ down-smaller g c =
 
 pub down-preserved : goal.down-preserved
 down-preserved g c =
-    let o = g.met.Q.Query.fits in
-    let key = g.Q.Query.sought c.args.key in
-    let node = c.down.node.now in
-    let child = c.child-node.result.now in
-    let d = way_levels _ _ c.requires.levels c.down.invariant.0 in
-    let there = child_there d.0 node c.in-Err.i d.2 c.if-is_leaf.ensures.1 c.in-Err.ensures.gap.0 in
-    let a = way_ascending _ _ _ c.requires.levels c.requires.order c.down.invariant.0 in
-    let w = way_more o key c.requires.levels c.requires.order c.down.invariant.0 c.in-Err.i child _ c.push-in-Err.ensures c.in-Err.ensures.gap there c.child-node.ensures in
-    let p = passed_down o key node child c.in-Err.i a c.in-Err.ensures.gap there c.child-node.ensures in
-    let q = path_goes_on o key c.requires.levels c.requires.order c.down.invariant.0 c.down.invariant.3 c.in-Err.i child _ c.push-in-Err.ensures c.in-Err.ensures.gap there c.child-node.ensures in
+    let s = on g (goal.at.down-preserved g c).After-search_node in
+    let there = has_child s c.in-Err.i c.in-Err.ensures.gap c.if-is_leaf.ensures.1 in
+    let w = way_more s c.in-Err.i c.child-node.result.now _ c.push-in-Err.ensures c.in-Err.ensures.gap there c.child-node.ensures in
+    let p = (goes_on s c.in-Err.i c.child-node.result.now c.in-Err.ensures.gap c.if-is_leaf.ensures.1 c.child-node.ensures).passes in
+    let q = path_goes_on s c.down.invariant.3 c.in-Err.i c.child-node.result.now _ c.push-in-Err.ensures c.in-Err.ensures.gap there c.child-node.ensures in
     (w, omega (arith, c.in-Err.ensures.comparisons), omega (arith, c.in-Err.ensures.moves), q)

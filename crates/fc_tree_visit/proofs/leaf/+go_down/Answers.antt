@@ -13,7 +13,8 @@ returns-then-level-len g t c =
     let end = c.if-level-len.true in
     let len = c.len-len.ensures.value in
     let r = down_leaf gap n c.args.level (omega (arith, end, len)) c.requires.step in
-    let same : length (own_pairs n) - get_or gap c.args.level 0 ≡ c.len.result - c.step-step.result = (let a = c.len.ensures.value in let b = c.step-step.ensures in omega (arith, a, b)) in
+    let same : length (own_pairs n) - get_or gap c.args.level 0 ≡ c.len.result - c.step-step.result =
+    (let a = c.len.ensures.value in let b = c.step-step.ensures in omega (arith, a, b)) in
     record { gap = r.gap_is; run = subst (λ k. IsPath (gone_on (get_or gap c.args.level 0 ∷ zeros (length gap - suc c.args.level)) k) n) same r.run_is }
 
 pub returns : goal.returns
@@ -25,5 +26,7 @@ returns g t c =
     let len = c.len-len.ensures.value in
     let k = c.requires.level in
     let e = c.go_down.ensures in
-    let r = down_child gap c.set.new.self c.go_down.new.gap n c.child.result.now level (level + 1) c.go_down.result (add-one level) (omega (arith, further, len, k)) c.requires.step c.set.ensures (c.child.ensures ∙ ap (child_at n) c.step-step.ensures) (record { gap_is = e.gap; run_is = e.run }) in
+    let r = down_child gap c.set.new.self c.go_down.new.gap n c.child.result.now level (level + 1) c.go_down.result (add-one level)
+    (omega (arith, further, len, k)) c.requires.step c.set.ensures (c.child.ensures ∙ ap (child_at n) c.step-step.ensures)
+    (record { gap_is = e.gap; run_is = e.run }) in
     record { gap = r.gap_is; run = r.run_is }

@@ -10,7 +10,8 @@ pub returns-then-gap-eq1 : goal.returns-then-gap-eq1
 returns-then-gap-eq1 g t c =
     let e = c.lower-lowest.ensures in
     let n = c.len.ensures.value in
-    lowest_leaf c.args.gap.now c.args.node.now c.args.level _ _ _ _ (one_step _ c.if-gap-eq1.true) c.requires.path c.requires.levels (omega arith) refl refl e.other e.best
+    lowest_leaf c.args.gap.now c.args.node.now c.args.level _ _ _ _ (one_step _ c.if-gap-eq1.true) c.requires.path c.requires.levels (omega arith) refl refl
+    e.other e.best
 
 pub lowest_after-requires : goal.lowest_after-requires
 lowest_after-requires g t c κs within =
@@ -18,12 +19,27 @@ lowest_after-requires g t c κs within =
     let long = s.long in
     let height = s.height in
     let fits = c.requires.fits in
-    let b = child_below _ c.args.node.now _ s.levels s.le in
-    (omega arith, (search rules, (search rules, (omega arith, (subst (IsPath _) (sym c.child.ensures) s.onward, (subst (IsLevelled _) (sym c.child.ensures) b.1, omega arith))))))
+    let b = child_below _ c.args.node.now _ s.levels s.le in (
+      omega arith,
+      (
+        search rules,
+        (
+          search rules,
+          (
+            omega arith,
+            (
+              subst (IsPath _) (sym c.child.ensures) s.onward,
+              (subst (IsLevelled _) (sym c.child.ensures) b.1, omega arith),
+            ),
+          ),
+        ),
+      ),
+    )
 
 pub returns : goal.returns
 returns g t c =
     let e = c.lower-lowest.ensures in
     let n = c.len.ensures.value in
     let s = step_of c.args.gap.now c.args.node.now (omega arith) c.requires.path c.requires.levels in
-    lowest_above c.args.gap.now c.args.node.now c.args.level _ _ _ _ _ s c.requires.levels (omega arith) refl refl e.other e.best (rw c.child.ensures at c.lowest_after.ensures)
+    lowest_above c.args.gap.now c.args.node.now c.args.level _ _ _ _ _ s c.requires.levels (omega arith) refl refl e.other e.best
+    (rw c.child.ensures at c.lowest_after.ensures)

@@ -11,8 +11,22 @@ pairs_after-requires g t c κs within =
     let s = step_of c.args.gap.now c.args.node.now (omega arith) c.requires.path c.requires.levels in
     let long = s.long in
     let height = s.height in
-    let b = child_below _ c.args.node.now _ s.levels s.le in
-    (omega arith, (search rules, (search rules, (omega arith, (subst (IsPath _) (sym c.child.ensures) s.onward, subst (IsLevelled _) (sym c.child.ensures) b.1)))))
+    let b = child_below _ c.args.node.now _ s.levels s.le in (
+      omega arith,
+      (
+        search rules,
+        (
+          search rules,
+          (
+            omega arith,
+            (
+              subst (IsPath _) (sym c.child.ensures) s.onward,
+              subst (IsLevelled _) (sym c.child.ensures) b.1,
+            ),
+          ),
+        ),
+      ),
+    )
 
 pub returns-then-gap-eq1 : goal.returns-then-gap-eq1
 returns-then-gap-eq1 g t c =

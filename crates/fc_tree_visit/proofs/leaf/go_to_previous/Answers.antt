@@ -12,4 +12,5 @@ returns c =
     let last = c.len-last.result - 1 in
     let before = c.requires.before in
     let same : length p - 1 ≡ last = omega arith in
-    ap (λ q. gone_on q 1) (c.set.ensures ∙ ap (λ k. slice_set p last (k - 1)) c.step.ensures) ∙ set_back p last (omega arith) (subst (λ i. 0 < get_or p i 0) same before)
+    ap (λ q. gone_on q 1) (c.set.ensures ∙ ap (λ k. slice_set p last (k - 1)) c.step.ensures)
+    ∙ set_back p last (omega arith) (subst (λ i. 0 < get_or p i 0) same before)

@@ -7,7 +7,8 @@ use Rattle.fc_tree_node.proofs.Made.{children_in}
 use Rattle.fc_tree_search.specs.Written.{with_value, with_child}
 use Rattle.fc_tree_visit.specs.Visits.{CalledAtPair, IsEnd}
 use Rattle.fc_tree_visit.proofs.Parts.{child_back}
-use Rattle.fc_tree_visit.proofs.Walking.{AreSteps, AreInner, leaf_steps, inner_steps, leaf_front, leaf_back, at_start, child_room, lent, below_back, at_next, at_last, end_below, IsOver, over}
+use Rattle.fc_tree_visit.proofs.Walking.{AreSteps, AreInner, leaf_steps, inner_steps, leaf_front, leaf_back, at_start, child_room, lent, below_back, at_next}
+use Rattle.fc_tree_visit.proofs.Walking.{at_last, end_below, IsOver, over}
 use Rattle.fc_tree_visit.proofs.visit.+visit.Given as given
 use Rattle.fc_tree_visit.proofs.visit.+visit.Goals as goal
 use Rattle.fc_tree_visit.proofs.visit.+visit.Goals.{Then-is_leaf, Else-is_leaf, After-visit-2}

@@ -15,7 +15,8 @@ loop-i-preserved g c =
     let first = c.args.f.now in
     let front = before_child c.args.node.now c.args.start in
     let lt : at.i < length (own_pairs c.args.node.now) = (let o = c.requires.order in let t = c.loop-i-test.true in omega arith) in
-    let s = leaf_step R c.args.node.now at.node c.visit_own.new.node at.i v.0 v.1 first at.f c.visit_own.new.f front c.requires.leaf at.invariant.kept lt at.invariant.grown v.2 v.3 v.4 in
+    let s = leaf_step R c.args.node.now at.node c.visit_own.new.node at.i v.0 v.1 first at.f c.visit_own.new.f front c.requires.leaf at.invariant.kept lt
+    at.invariant.grown v.2 v.3 v.4 in
     let one : suc at.i ≡ at.i + 1 = sym (add-one at.i) in
     record {
       callable = c.visit_own.ensures.callable;
@@ -32,7 +33,8 @@ returns-clause-visited g c =
     let at = c.loop-i in
     let le = at.invariant.le in
     let done = c.loop-i-test.false in
-    leaf_end (CalledAtPair g.F.FnMut) c.args.node.now at.node at.i c.args.end c.args.f.now at.f (before_child c.args.node.now c.args.start) c.requires.leaf at.invariant.kept (omega arith) at.invariant.grown
+    leaf_end (CalledAtPair g.F.FnMut) c.args.node.now at.node at.i c.args.end c.args.f.now at.f (before_child c.args.node.now c.args.start) c.requires.leaf
+    at.invariant.kept (omega arith) at.invariant.grown
 
 pub returns-clause-shape : goal.returns-clause-shape
 returns-clause-shape g c path = c.loop-i.invariant.kept.shape path

@@ -8,4 +8,5 @@ pub get-requires-clause-levels : goal.get-requires-clause-levels
 get-requires-clause-levels g c = written_tree c.args.path.now c.args.root.now 100 c.requires.levels c.requires.place
 
 pub get-requires-clause-order : goal.get-requires-clause-order
-get-requires-clause-order g c = written_ascending _ c.args.path.now c.requires.levels.0 c.args.root.now 100 c.requires.levels.2 c.requires.place c.requires.order
+get-requires-clause-order g c = written_ascending _ c.args.path.now c.requires.levels.0 c.args.root.now 100 c.requires.levels.2 c.requires.place
+    c.requires.order

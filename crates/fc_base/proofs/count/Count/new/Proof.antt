@@ -1,5 +1,6 @@
 -- A count of nothing is made of nothing.
-use Rattle.fc_base.proofs.Steps.{[], ◌∷◌, refl, proved, ftrue, ‵, ◌⊛◌, ◌$◌, ◌∵◌, !, qed, done, keep, fjoin, suffices, enter, no_more, and_then, returns, alloc_all, pass_all, free_all, look_at, get, sets, nothing, Stays, walk_of, says, ends_at}
+use Rattle.fc_base.proofs.Steps.{[], ◌∷◌, refl, proved, ftrue, ‵, ◌⊛◌, ◌$◌, ◌∵◌, !, qed, done, keep, fjoin, suffices, enter, no_more, and_then, returns}
+use Rattle.fc_base.proofs.Steps.{alloc_all, pass_all, free_all, look_at, get, sets, nothing, Stays, walk_of, says, ends_at}
 use types.Kit.{use0}
 use types.Part.{agg}
 use denote.Builtin.{unit}
@@ -24,4 +25,5 @@ new_spec 𝓤 𝓛 𝓜 𝓡 wired =
     sets ! (agg ! (no_more !)) refl (tt, tt) $ sets ! (agg ! (and_then ! (get ! refl) (no_more !))) refl (tt, (tt, tt)) $
     returns ! (look_at ! 0 refl) $ free_all ! refl $
     suffices ! _ (ends_at 𝓛 f.ended stayed c y token record { marker = record {}; comparisons = 0; moves = 0 } tt tt) $
-    says ! (refl, refl) $ nothing ! $ use0 𝓛 (‵ ((Mark (count.the_type).name [] unit).own_val (tt, tt) (token ∷ []))) (made (count.the_type).name [] unit 𝓛) $ fjoin ! $ nothing ! $ nothing ! $ done !))
+    says ! (refl, refl) $ nothing ! $ use0 𝓛 (‵ ((Mark (count.the_type).name [] unit).own_val (tt, tt) (token ∷ []))) (made (count.the_type).name [] unit 𝓛) $
+    fjoin ! $ nothing ! $ nothing ! $ done !))

@@ -18,10 +18,13 @@ loop-i-preserved g c =
       refl,
       omega (arith, v.1, c.push_reserved.ensures.len),
       c.push_reserved.ensures.capacity ∙ v.2,
-      one_copied g.Self.TryClone.same c.args.copies.now.items c.args.sources.now c.loop-i.copies.items c.push_reserved.new.self.items c.loop-i.i c.index-sources-i.result
-          c.in_ok-copy.copy (omega (arith, c.loop-i-test.true, c.loop-i.invariant.0)) c.index-sources-i.is v.3 c.in_ok-copy.ensures c.push_reserved.ensures.items,
+      one_copied g.Self.TryClone.same c.args.copies.now.items c.args.sources.now c.loop-i.copies.items c.push_reserved.new.self.items c.loop-i.i
+          c.index-sources-i.result
+          c.in_ok-copy.copy (omega (arith, c.loop-i-test.true, c.loop-i.invariant.0)) c.index-sources-i.is v.3 c.in_ok-copy.ensures
+          c.push_reserved.ensures.items,
     )
 
 pub returns-clause-extended : goal.returns-clause-extended
 returns-clause-extended g c =
-    all_copied g.Self.TryClone.same c.args.copies.now.items c.args.sources.now c.loop-i.copies.items c.loop-i.i (omega (arith, c.loop-i-test.false, c.loop-i.invariant.0)) c.loop-i.invariant.3
+    all_copied g.Self.TryClone.same c.args.copies.now.items c.args.sources.now c.loop-i.copies.items c.loop-i.i
+    (omega (arith, c.loop-i-test.false, c.loop-i.invariant.0)) c.loop-i.invariant.3

@@ -13,19 +13,22 @@ pub returns-in_err-key_copy-clause-error : goal.returns-in_err-key_copy-clause-e
 returns-in_err-key_copy-clause-error g c =
     let p = err_from_is_err_and c.from_residual.result c.from_residual.ensures.1 in
     let m = c.pairs.invariant in
-    rw (p.1, p.2) (copy_refused (MayRefusePair g.K.TryClone.may_refuse g.V.TryClone.may_refuse) _ c.args.walk m.0 c.pairs.walk c.next.new.self (c.in-Some.key.now, c.in-Some.value.now) m.2 c.in-Some.ensures.steps (inl c.in_err-key_copy.ensures))
+    rw (p.1, p.2) (copy_refused (MayRefusePair g.K.TryClone.may_refuse g.V.TryClone.may_refuse) _ c.args.walk m.0 c.pairs.walk c.next.new.self
+    (c.in-Some.key.now, c.in-Some.value.now) m.2 c.in-Some.ensures.steps (inl c.in_err-key_copy.ensures))
 
 pub returns-in_err-value_copy-clause-error : goal.returns-in_err-value_copy-clause-error
 returns-in_err-value_copy-clause-error g c =
     let p = err_from_is_err_and c.from_residual-in_err-value_copy.result c.from_residual-in_err-value_copy.ensures.1 in
     let m = c.pairs.invariant in
-    rw (p.1, p.2) (copy_refused (MayRefusePair g.K.TryClone.may_refuse g.V.TryClone.may_refuse) _ c.args.walk m.0 c.pairs.walk c.next.new.self (c.in-Some.key.now, c.in-Some.value.now) m.2 c.in-Some.ensures.steps (inr c.in_err-value_copy.ensures))
+    rw (p.1, p.2) (copy_refused (MayRefusePair g.K.TryClone.may_refuse g.V.TryClone.may_refuse) _ c.args.walk m.0 c.pairs.walk c.next.new.self
+    (c.in-Some.key.now, c.in-Some.value.now) m.2 c.in-Some.ensures.steps (inr c.in_err-value_copy.ensures))
 
 pub returns-in_err-insert-clause-error : goal.returns-in_err-insert-clause-error
 returns-in_err-insert-clause-error g c =
     let p = err_from_is_err_and c.from_residual-in_err-insert.result c.from_residual-in_err-insert.ensures.1 in
     let m = c.pairs.invariant in
-    rw (p.1, p.2) (room_refused (MayRefusePair g.K.TryClone.may_refuse g.V.TryClone.may_refuse) _ c.args.walk m.0 c.pairs.walk c.next.new.self (c.in-Some.key.now, c.in-Some.value.now) m.2 c.in-Some.ensures.steps c.in_err-insert.ensures.error.2)
+    rw (p.1, p.2) (room_refused (MayRefusePair g.K.TryClone.may_refuse g.V.TryClone.may_refuse) _ c.args.walk m.0 c.pairs.walk c.next.new.self
+    (c.in-Some.key.now, c.in-Some.value.now) m.2 c.in-Some.ensures.steps c.in_err-insert.ensures.error.2)
 
 pub pairs-preserved-in_ok-insert : goal.pairs-preserved-in_ok-insert
 pairs-preserved-in_ok-insert g c =

@@ -5,7 +5,8 @@ use Rattle.fc_set.proofs.ItemFacts.{item_at_keys, ascending_keys}
 use Rattle.fc_set.proofs.set.BTreeSet.get_counted.Goals as goal
 
 pub returns-clause-item : goal.returns-clause-item
-returns-clause-item g c = rw (← c.self.view_is) (c.lent_item.ensures ∙ ap (option_map (λ e. e.0)) c.get_key_value_counted.ensures.pair ∙ sym (item_at_keys g.Q.Query.order (entries c.self.inside.map) (g.Q.Query.sought c.args.item)))
+returns-clause-item g c = rw (← c.self.view_is) (c.lent_item.ensures ∙ ap (option_map (λ e. e.0)) c.get_key_value_counted.ensures.pair
+    ∙ sym (item_at_keys g.Q.Query.order (entries c.self.inside.map) (g.Q.Query.sought c.args.item)))
 
 pub returns-clause-ascending : goal.returns-clause-ascending
 returns-clause-ascending g c = rw (← c.self.view_is) (ascending_keys g.T.Ord.cmp _ c.get_key_value_counted.ensures.ascending)

@@ -4,16 +4,19 @@ use Rattle.fc_set.proofs.ItemFacts.{keys, with_item_keys, ascending_keys, new_ke
 use Rattle.fc_set.proofs.set.BTreeSet.insert_with_counted.Goals as goal
 
 pub returns-clause-new : goal.returns-clause-new
-returns-clause-new g c = rw (← c.self.view_is) (new_keys g.T.Ord.cmp (entries c.self.inside.map) c.args.item _ _ c.is_none.ensures c.insert_with_counted.ensures.old)
+returns-clause-new g c = rw (← c.self.view_is) (new_keys g.T.Ord.cmp (entries c.self.inside.map) c.args.item _ _ c.is_none.ensures
+    c.insert_with_counted.ensures.old)
 
 pub returns-clause-put : goal.returns-clause-put
-returns-clause-put g c = rw (← c.self.view_is) (ap keys c.insert_with_counted.ensures.put ∙ sym (with_item_keys g.T.Ord.cmp (entries c.self.inside.map) c.args.item tt))
+returns-clause-put g c = rw (← c.self.view_is) (ap keys c.insert_with_counted.ensures.put
+    ∙ sym (with_item_keys g.T.Ord.cmp (entries c.self.inside.map) c.args.item tt))
 
 pub returns-clause-ascending : goal.returns-clause-ascending
 returns-clause-ascending g c = ascending_keys g.T.Ord.cmp _ c.insert_with_counted.ensures.ascending
 
 pub returns-clause-no_move : goal.returns-clause-no_move
-returns-clause-no_move g c = rw (← c.self.view_is) (λ i. c.insert_with_counted.ensures.no_move (some_keys g.T.Ord.cmp (entries c.self.inside.map) c.args.item i))
+returns-clause-no_move g c = rw (← c.self.view_is) (λ i. c.insert_with_counted.ensures.no_move
+    (some_keys g.T.Ord.cmp (entries c.self.inside.map) c.args.item i))
 
 pub returns-clause-moved : goal.returns-clause-moved
 returns-clause-moved g c = rw (← c.self.view_is) (λ n. c.insert_with_counted.ensures.moved (none_keys g.T.Ord.cmp (entries c.self.inside.map) c.args.item n))

@@ -5,13 +5,16 @@ use Rattle.fc_set.proofs.ItemFacts.{keys, keys_length, item_at_keys, with_replac
 use Rattle.fc_set.proofs.set.BTreeSet.replace_counted.Goals as goal
 
 pub returns-in-Ok-clause-old : goal.returns-in-Ok-clause-old
-returns-in-Ok-clause-old g c = rw (← c.self.view_is) (c.item_of.ensures ∙ ap (option_map (λ e. e.0)) c.in-Ok.ensures.old ∙ sym (item_at_keys g.T.Ord.cmp (entries c.self.inside.map) c.args.item))
+returns-in-Ok-clause-old g c = rw (← c.self.view_is) (c.item_of.ensures ∙ ap (option_map (λ e. e.0)) c.in-Ok.ensures.old
+    ∙ sym (item_at_keys g.T.Ord.cmp (entries c.self.inside.map) c.args.item))
 
 pub returns-in-Ok-clause-put : goal.returns-in-Ok-clause-put
-returns-in-Ok-clause-put g c = rw (← c.self.view_is) (ap keys c.in-Ok.ensures.put ∙ sym (with_replaced_keys g.T.Ord.cmp (entries c.self.inside.map) c.args.item tt))
+returns-in-Ok-clause-put g c = rw (← c.self.view_is) (ap keys c.in-Ok.ensures.put
+    ∙ sym (with_replaced_keys g.T.Ord.cmp (entries c.self.inside.map) c.args.item tt))
 
 pub returns-in-Ok-clause-full : goal.returns-in-Ok-clause-full
-returns-in-Ok-clause-full g c = rw (← c.self.view_is) (λ n l. c.in-Ok.ensures.full (none_keys g.T.Ord.cmp (entries c.self.inside.map) c.args.item n) (sym (keys_length (entries c.self.inside.map)) ∙ l))
+returns-in-Ok-clause-full g c = rw (← c.self.view_is) (λ n l. c.in-Ok.ensures.full (none_keys g.T.Ord.cmp (entries c.self.inside.map) c.args.item n)
+    (sym (keys_length (entries c.self.inside.map)) ∙ l))
 
 pub returns-in-Ok-clause-exchanged : goal.returns-in-Ok-clause-exchanged
 returns-in-Ok-clause-exchanged g c = rw (← c.self.view_is) (λ i. c.replace.ensures.exchanged (some_keys g.T.Ord.cmp (entries c.self.inside.map) c.args.item i))

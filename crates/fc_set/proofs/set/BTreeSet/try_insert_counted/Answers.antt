@@ -10,13 +10,15 @@ pub returns-in-Ok-clause-put : goal.returns-in-Ok-clause-put
 returns-in-Ok-clause-put g c = rw (← c.self.view_is) (ap keys c.in-Ok.ensures.put ∙ sym (with_item_keys g.T.Ord.cmp (entries c.self.inside.map) c.args.item tt))
 
 pub returns-in-Ok-clause-full : goal.returns-in-Ok-clause-full
-returns-in-Ok-clause-full g c = rw (← c.self.view_is) (λ n l. c.in-Ok.ensures.full (none_keys g.T.Ord.cmp (entries c.self.inside.map) c.args.item n) (sym (keys_length (entries c.self.inside.map)) ∙ l))
+returns-in-Ok-clause-full g c = rw (← c.self.view_is) (λ n l. c.in-Ok.ensures.full (none_keys g.T.Ord.cmp (entries c.self.inside.map) c.args.item n)
+    (sym (keys_length (entries c.self.inside.map)) ∙ l))
 
 pub returns-in-Ok-clause-ascending : goal.returns-in-Ok-clause-ascending
 returns-in-Ok-clause-ascending g c = ascending_keys g.T.Ord.cmp _ c.try_insert_counted.ensures.ascending
 
 pub returns-in-Ok-clause-no_move : goal.returns-in-Ok-clause-no_move
-returns-in-Ok-clause-no_move g c = rw (← c.self.view_is) (λ h. c.in-Ok.ensures.no_move (sum_keys g.T.Ord.cmp (entries c.self.inside.map) c.args.item (λ e. e) h))
+returns-in-Ok-clause-no_move g c = rw (← c.self.view_is) (λ h. c.in-Ok.ensures.no_move
+    (sum_keys g.T.Ord.cmp (entries c.self.inside.map) c.args.item (λ e. e) h))
 
 pub returns-in-Ok-clause-moved : goal.returns-in-Ok-clause-moved
 returns-in-Ok-clause-moved g c = rw (← c.self.view_is) (λ n. c.in-Ok.ensures.moved (none_keys g.T.Ord.cmp (entries c.self.inside.map) c.args.item n))

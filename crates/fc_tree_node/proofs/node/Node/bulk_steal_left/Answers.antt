@@ -1,20 +1,35 @@
-use Rattle.std.proofs.Common.{◌≡◌, ◌++◌, suc, take, drop, length-set, length-append, length-take, length-drop, ◌≤◌, sym, ap, ◌+◌, ◌-◌, length, get_or, subst, arith}
+use Rattle.std.proofs.Common.{◌≡◌, ◌++◌, suc, take, drop, length-set, length-append, length-take, length-drop, ◌≤◌, sym, ap, ◌+◌, ◌-◌, length, get_or, subst}
+use Rattle.std.proofs.Common.{arith}
 use Rattle.fc_tree_node.specs.declared.node.Node.{Node}
 use Rattle.fc_tree_node.specs.Node.{own_pairs, child_at}
 use Rattle.fc_tree_node.proofs.Made.{inner_length}
 use Rattle.fc_tree_node.proofs.Shared.{listed_child, kept_child, bulk_made, IsBulkTrade}
 use Rattle.fc_tree_node.proofs.Siblings.{shared_inner, shared_pairs}
+use Rattle.fc_tree_node.proofs.node.Node.bulk_steal_left.Given as given
 use Rattle.fc_tree_node.proofs.node.Node.bulk_steal_left.Goals as goal
+use Rattle.fc_tree_node.proofs.node.Node.bulk_steal_left.Goals.{After-get_mut-left}
+
+siblings : (g : given.Over) (c : After-get_mut-left g) → (c.get_mut-left.result.now ≡ child_at c.args.self.now c.args.index)
+    × (c.remove-right.result ≡ child_at c.args.self.now (c.args.index + 1))
+siblings g c =
+    let n = inner_length c.args.self.now _ c.in-Some.is c.requires.inner in (
+      kept_child c.args.self.now c.args.index _ c.in-Some.is _ _ (omega arith) c.remove-right.ensures.items c.get_mut-left.ensures.value,
+      listed_child c.args.self.now c.args.index _ c.in-Some.is (c.args.index + 1) _ (omega arith) c.remove-right.ensures.value,
+    )
 
 pub returns-clause-shared : goal.returns-clause-shared
 returns-clause-shared g c =
     let n = inner_length c.args.self.now _ c.in-Some.is c.requires.inner in
-    let r = listed_child c.args.self.now c.args.index _ c.in-Some.is (c.args.index + 1) c.remove-right.result (omega arith) c.remove-right.ensures.value in
-    let l = kept_child c.args.self.now c.args.index _ c.in-Some.is _ c.get_mut-left.result.now (omega arith) c.remove-right.ensures.items c.get_mut-left.ensures.value in
-    let P : Node g.row.K.Denot g.row.V.Denot → Node g.row.K.Denot g.row.V.Denot → Type 0 = λ x y. IsBulkTrade (length (own_pairs x) - c.args.n) x y c.send_right.new.self c.send_right.new.right (get_or (own_pairs c.args.self.now) c.args.index) (get_or (own_pairs c.get_mut-left.result.now) (length (own_pairs c.get_mut-left.result.now) - c.args.n)) in
+    let e = siblings g (goal.at.returns-clause-shared g c).After-get_mut-left in
+    let P : Node g.row.K.Denot g.row.V.Denot → Node g.row.K.Denot g.row.V.Denot → Type 0 =
+    λ x y. IsBulkTrade (length (own_pairs x) - c.args.n) x y c.send_right.new.self c.send_right.new.right (get_or (own_pairs c.args.self.now) c.args.index)
+    (get_or (own_pairs c.get_mut-left.result.now) (length (own_pairs c.get_mut-left.result.now) - c.args.n)) in
     let z = c.send_right.ensures.size in
-    bulk_made c.args.self.now c.args.index _ c.in-Some.is _ _ _ (get_or (own_pairs c.get_mut-left.result.now) (length (own_pairs c.get_mut-left.result.now) - c.args.n)) _ _ _ c.requires.in_bounds (omega arith) c.send_right.ensures.parent c.remove-right.ensures.items c.insert.ensures
-    (subst (λ x. P x (child_at c.args.self.now (c.args.index + 1))) l (subst (P c.get_mut-left.result.now) r (record { own = c.send_right.ensures.pairs; below = c.send_right.ensures.children; size = omega arith; alike = c.send_right.ensures.alike })))
+    bulk_made c.args.self.now c.args.index _ c.in-Some.is _ _ _ (get_or (own_pairs c.get_mut-left.result.now)
+    (length (own_pairs c.get_mut-left.result.now) - c.args.n)) _ _ _ c.requires.in_bounds (omega arith) c.send_right.ensures.parent
+    c.remove-right.ensures.items c.insert.ensures
+    (subst (λ x. P x (child_at c.args.self.now (c.args.index + 1))) e.0 (subst (P c.get_mut-left.result.now) e.1
+    (record { own = c.send_right.ensures.pairs; below = c.send_right.ensures.children; size = omega arith; alike = c.send_right.ensures.alike })))
 
 pub returns-clause-inner : goal.returns-clause-inner
 returns-clause-inner g c = shared_inner _ _ c.requires.inner c.requires.in_bounds _ _ (returns-clause-shared g c)
@@ -24,18 +39,25 @@ returns-clause-all_pairs g c = shared_pairs _ _ c.requires.inner c.requires.in_b
 
 pub send_right-requires-clause-some : goal.send_right-requires-clause-some
 send_right-requires-clause-some g c =
-    let n = inner_length c.args.self.now _ c.in-Some.is c.requires.inner in
-    let l = kept_child c.args.self.now c.args.index _ c.in-Some.is _ c.get_mut-left.result.now (omega arith) c.remove-right.ensures.items c.get_mut-left.ensures.value in
-    (c.requires.some.0, subst (λ x. c.args.n ≤ length (own_pairs x)) (sym l) c.requires.some.1)
+    let e = siblings g (goal.at.send_right-requires-clause-some g c).After-get_mut-left in
+    (c.requires.some.0, subst (λ x. c.args.n ≤ length (own_pairs x)) (sym e.0) c.requires.some.1)
 
 pub insert-requires-clause-room : goal.insert-requires-clause-room
 insert-requires-clause-room g c =
     let n = inner_length c.args.self.now _ c.in-Some.is c.requires.inner in let cs = c.in-Some.children in let i = c.args.index in
     let gone : length c.remove-right.new.self ≡ length (take (i + 1) cs ++ drop (suc (i + 1)) cs) = ap length c.remove-right.ensures.items in
-    omega (arith, length-set c.remove-right.new.self i c.send_right.new.self, length-append (take (i + 1) cs) (drop (suc (i + 1)) cs), length-take (i + 1) cs, length-drop (suc (i + 1)) cs, c.len.ensures.fits, c.len.ensures.value, c.requires.in_bounds)
+    omega (
+      arith,
+      length-set c.remove-right.new.self i c.send_right.new.self,
+      length-append (take (i + 1) cs) (drop (suc (i + 1)) cs),
+      length-take (i + 1) cs,
+      length-drop (suc (i + 1)) cs,
+      c.len.ensures.fits,
+      c.len.ensures.value,
+      c.requires.in_bounds,
+    )
 
 pub returns-clause-moves : goal.returns-clause-moves
 returns-clause-moves g c =
-    let n = inner_length c.args.self.now _ c.in-Some.is c.requires.inner in
-    let r = listed_child c.args.self.now c.args.index _ c.in-Some.is (c.args.index + 1) c.remove-right.result (omega arith) c.remove-right.ensures.value in
-    omega (arith, c.send_right.ensures.moves, ap (λ x. length (own_pairs x)) r)
+    let e = siblings g (goal.at.returns-clause-moves g c).After-get_mut-left in
+    omega (arith, c.send_right.ensures.moves, ap (λ x. length (own_pairs x)) e.1)

@@ -18,4 +18,5 @@ returns-clause-inner g c =
 
 pub returns-clause-all_pairs : goal.returns-clause-all_pairs
 returns-clause-all_pairs g c =
-    inserted_pairs c.args.self.now c.args.index c.requires.inner c.requires.in_bounds _ c.args.child c.args.pair (own_made _ ∙ c.insert.ensures.items) (returns-clause-children g c)
+    inserted_pairs c.args.self.now c.args.index c.requires.inner c.requires.in_bounds _ c.args.child c.args.pair (own_made _ ∙ c.insert.ensures.items)
+    (returns-clause-children g c)

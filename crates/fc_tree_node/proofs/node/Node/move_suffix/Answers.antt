@@ -10,14 +10,17 @@ pub returns-in-Some-Some-clause-children : goal.returns-in-Some-Some-clause-chil
 returns-in-Some-Some-clause-children g c =
     let p = ap length c.move_tail.ensures.items in
     let k : c.len-kept.result + 1 ≡ c.args.at + 1 = grind (arith, length-take) in
-    children_made _ ∙ c.move_tail-in-Some-Some.ensures.items ∙ ap (λ j. take j c.in-Some-Some.children) k ∙ ap (take (c.args.at + 1)) (sym (children_in _ _ c.in-Some-Some.is-0))
+    children_made _ ∙ c.move_tail-in-Some-Some.ensures.items ∙ ap (λ j. take j c.in-Some-Some.children) k
+    ∙ ap (take (c.args.at + 1)) (sym (children_in _ _ c.in-Some-Some.is-0))
 
 pub returns-in-Some-Some-clause-other_children : goal.returns-in-Some-Some-clause-other_children
 returns-in-Some-Some-clause-other_children g c =
     let p = ap length c.move_tail.ensures.items in
     let k : c.len-kept.result + 1 ≡ c.args.at + 1 = grind (arith, length-take) in
-    children_made _ ∙ c.move_tail-in-Some-Some.ensures.other ∙ ap (λ cs. cs ++ drop (c.len-kept.result + 1) c.in-Some-Some.children) (sym (children_in _ _ c.in-Some-Some.is-1))
-    ∙ ap (λ cs. children_of c.args.other.now ++ cs) (ap (λ j. drop j c.in-Some-Some.children) k ∙ ap (drop (c.args.at + 1)) (sym (children_in _ _ c.in-Some-Some.is-0)))
+    children_made _ ∙ c.move_tail-in-Some-Some.ensures.other ∙ ap (λ cs. cs ++ drop (c.len-kept.result + 1) c.in-Some-Some.children)
+    (sym (children_in _ _ c.in-Some-Some.is-1))
+    ∙ ap (λ cs. children_of c.args.other.now ++ cs) (ap (λ j. drop j c.in-Some-Some.children) k
+    ∙ ap (drop (c.args.at + 1)) (sym (children_in _ _ c.in-Some-Some.is-0)))
 
 pub returns-in-Some-Some-clause-alike : goal.returns-in-Some-Some-clause-alike
 returns-in-Some-Some-clause-alike g c =
@@ -33,15 +36,19 @@ returns-in-Some-Some-clause-alike g c =
 
 pub returns-in-Some-Some-clause-all_pairs : goal.returns-in-Some-Some-clause-all_pairs
 returns-in-Some-Some-clause-all_pairs g c =
-    front_pairs c.args.self.now c.args.at _ c.requires.in_bounds (returns-in-Some-Some-clause-alike g c).0 (own_made _ ∙ c.move_tail.ensures.items) (returns-in-Some-Some-clause-children g c)
+    front_pairs c.args.self.now c.args.at _ c.requires.in_bounds (returns-in-Some-Some-clause-alike g c).0 (own_made _ ∙ c.move_tail.ensures.items)
+    (returns-in-Some-Some-clause-children g c)
 
 pub returns-in-Some-Some-clause-other_all_pairs : goal.returns-in-Some-Some-clause-other_all_pairs
 returns-in-Some-Some-clause-other_all_pairs g c =
     let a = returns-in-Some-Some-clause-alike g c in
-    back_pairs c.args.self.now c.args.at c.args.other.now _ c.requires.alike (alike_both _ _ _ c.requires.alike (alike_both _ _ _ (alike_back _ _ a.0) a.1)) (own_made _ ∙ c.move_tail.ensures.other) (returns-in-Some-Some-clause-other_children g c)
+    back_pairs c.args.self.now c.args.at c.args.other.now _ c.requires.alike (alike_both _ _ _ c.requires.alike (alike_both _ _ _ (alike_back _ _ a.0) a.1))
+    (own_made _ ∙ c.move_tail.ensures.other) (returns-in-Some-Some-clause-other_children g c)
 
 pub returns-in-None-None-clause-all_pairs : goal.returns-in-None-None-clause-all_pairs
-returns-in-None-None-clause-all_pairs g c = leaf_front c.args.self.now c.args.at _ c.in-None-None.is-0 (field_made _ ∙ c.in-None-None.is-0) (own_made _ ∙ c.move_tail.ensures.items)
+returns-in-None-None-clause-all_pairs g c = leaf_front c.args.self.now c.args.at _ c.in-None-None.is-0 (field_made _ ∙ c.in-None-None.is-0)
+    (own_made _ ∙ c.move_tail.ensures.items)
 
 pub returns-in-None-None-clause-other_all_pairs : goal.returns-in-None-None-clause-other_all_pairs
-returns-in-None-None-clause-other_all_pairs g c = leaf_back c.args.self.now c.args.at c.args.other.now _ c.in-None-None.is-0 c.in-None-None.is-1 (field_made _ ∙ c.in-None-None.is-1) (own_made _ ∙ c.move_tail.ensures.other)
+returns-in-None-None-clause-other_all_pairs g c = leaf_back c.args.self.now c.args.at c.args.other.now _ c.in-None-None.is-0 c.in-None-None.is-1
+    (field_made _ ∙ c.in-None-None.is-1) (own_made _ ∙ c.move_tail.ensures.other)

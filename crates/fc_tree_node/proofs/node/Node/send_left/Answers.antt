@@ -8,7 +8,8 @@ use Rattle.fc_tree_node.proofs.node.Node.send_left.Goals as goal
 pub returns-in-Some-Some-clause-children : goal.returns-in-Some-Some-clause-children
 returns-in-Some-Some-clause-children g c =
     children_kept c.args.left.now c.args.self.now _ _ _ _ c.in-Some-Some.is-0 c.in-Some-Some.is-1
-    (ap (λ xs. xs ++ c.move_front.new.self) c.move_front.ensures.other ∙ ap (λ xs. (c.in-Some-Some.children ++ take c.args.n c.in-Some-Some.other_children) ++ xs) c.move_front.ensures.items
+    (ap (λ xs. xs ++ c.move_front.new.self) c.move_front.ensures.other
+    ∙ ap (λ xs. (c.in-Some-Some.children ++ take c.args.n c.in-Some-Some.other_children) ++ xs) c.move_front.ensures.items
     ∙ append_assoc c.in-Some-Some.children _ _ ∙ ap (λ xs. c.in-Some-Some.children ++ xs) (take_drop c.args.n c.in-Some-Some.other_children))
 
 pub returns-in-Some-Some-clause-alike : goal.returns-in-Some-Some-clause-alike
@@ -18,4 +19,5 @@ returns-in-Some-Some-clause-alike g c =
     let i = alike_opened c.args.left.now c.args.self.now _ c.in-Some-Some.is-0 c.requires.alike in
     let k = inner_length c.args.left.now _ c.in-Some-Some.is-0 i.0 in
     let m = inner_length c.args.self.now _ c.in-Some-Some.is-1 i.1 in
-    alike_traded c.args.left.now c.args.self.now _ _ c.in-Some-Some.is-0 c.in-Some-Some.is-1 c.requires.alike _ _ _ _ (grind (arith, length-take, length-drop, length-append)) (grind (arith, length-take, length-drop, length-append))
+    alike_traded c.args.left.now c.args.self.now _ _ c.in-Some-Some.is-0 c.in-Some-Some.is-1 c.requires.alike _ _ _ _
+    (grind (arith, length-take, length-drop, length-append)) (grind (arith, length-take, length-drop, length-append))

@@ -8,11 +8,13 @@ returns-then-index-le-MIN_LEN-clause-items g c =
     let h : c.middle_for-middle.result < length c.args.left.now = grind (arith, nat_tests) in
     let k : c.args.index ≤ c.middle_for-middle.result = grind (arith, nat_tests) in
     simp (c.insert.ensures.items, c.remove-up.ensures.items, c.move_tail.ensures.other, c.move_tail.ensures.items, c.requires.blank)
-    (cut_insert c.args.left.now c.middle_for-middle.result c.args.index c.remove-up.result c.args.item h k (simp c.move_tail.ensures.items at c.remove-up.ensures.value))
+    (cut_insert c.args.left.now c.middle_for-middle.result c.args.index c.remove-up.result c.args.item h k
+    (simp c.move_tail.ensures.items at c.remove-up.ensures.value))
 
 pub returns-else-index-le-MIN_LEN-clause-items : goal.returns-else-index-le-MIN_LEN-clause-items
 returns-else-index-le-MIN_LEN-clause-items g c =
     let h : c.middle_for-middle.result < length c.args.left.now = grind (arith, nat_tests) in
     let k : c.middle_for-middle.result + 1 ≤ c.args.index = grind (arith, nat_tests) in
     simp (c.insert-else-index-le-MIN_LEN.ensures.items, c.remove-up.ensures.items, c.move_tail.ensures.other, c.move_tail.ensures.items, c.requires.blank)
-    (cut_insert_back c.args.left.now c.middle_for-middle.result c.args.index c.remove-up.result c.args.item h k (simp c.move_tail.ensures.items at c.remove-up.ensures.value))
+    (cut_insert_back c.args.left.now c.middle_for-middle.result c.args.index c.remove-up.result c.args.item h k
+    (simp c.move_tail.ensures.items at c.remove-up.ensures.value))

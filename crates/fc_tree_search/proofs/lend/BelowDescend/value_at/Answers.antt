@@ -6,7 +6,11 @@ use Rattle.fc_tree_search.proofs.lend.BelowDescend.value_at.Goals as goal
 pub returns-then-way-eq0 : goal.returns-then-way-eq0
 returns-then-way-eq0 g c = (
   (refl, λ w. here_written c.args.way.now c.args.place c.args.node.now w c.if-way-eq0.true),
-  record { writes_back = tt; value = ap (option_map (λ e. e.1)) (here_pair c.args.way.now c.args.place c.args.node.now c.if-way-eq0.true) ∙ c.own_value.ensures.value },
+  record {
+    writes_back = tt;
+    value = ap (option_map (λ e. e.1)) (here_pair c.args.way.now c.args.place c.args.node.now c.if-way-eq0.true)
+        ∙ c.own_value.ensures.value;
+  },
 )
 
 pub returns-else-way-eq0 : goal.returns-else-way-eq0

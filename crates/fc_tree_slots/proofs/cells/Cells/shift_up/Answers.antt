@@ -23,8 +23,10 @@ pub loop-i-preserved : goal.loop-i-preserved
 loop-i-preserved g c =
     let t = c.loop-i-test.true in let j = c.loop-i.i - 1 in let o = c.requires.in_order in let v = c.loop-i.invariant in
     let next : c.loop-i.i ≡ suc j = omega arith in (
-      λ zs m e long. up_done zs c.args.by m j j (j + c.args.by) c.loop-i.places.held (v.0 zs m e long ∙ (λ d. row (take (next d) zs) c.args.by (drop (next d) zs) m)) (omega arith) (omega arith) (omega arith)
-          c.take_from-item.new.self.held c.set_from.new.self.held c.take_from-item.result j c.take_from-item.ensures.1 c.take_from-item.ensures.0 c.set_from.ensures.0 (omega arith),
+      λ zs m e long. up_done zs c.args.by m j j (j + c.args.by) c.loop-i.places.held
+          (v.0 zs m e long ∙ (λ d. row (take (next d) zs) c.args.by (drop (next d) zs) m)) (omega arith) (omega arith) (omega arith)
+          c.take_from-item.new.self.held c.set_from.new.self.held c.take_from-item.result j c.take_from-item.ensures.1 c.take_from-item.ensures.0
+          c.set_from.ensures.0 (omega arith),
       omega (arith, v.1, c.add_moves.ensures.moves),
       omega arith,
       c.add_moves.ensures.comparisons ∙ v.3,

@@ -5,4 +5,9 @@ use Rattle.fc_tree_slots.specs.contracts.raw.Row as P
 use Rattle.fc_tree_slots.proofs.Crossing.{row_shared}
 
 pub sync : (R : RattleType) → IsSync R → IsSync (P.the_row R)
-sync R shared = let O = P.the_type R in record { shared = λ p b o κ. ((struct_sync (shape O) (search sendable, tt)).shared (to O p) b o κ, row_shared R shared p.start p.held κ) }
+sync R shared = let O = P.the_type R in record {
+  shared = λ p b o κ. (
+    (struct_sync (shape O) (search sendable, tt)).shared (to O p) b o κ,
+    row_shared R shared p.start p.held κ,
+  );
+}

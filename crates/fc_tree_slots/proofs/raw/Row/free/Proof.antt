@@ -1,5 +1,10 @@
 -- `free` makes room of the empty places, and gives it back by the row's token.
-use Rattle.fc_tree_slots.proofs.Steps.{◌≡◌, ◌*◌, ◌^◌, ◌<◌, List, [], ◌∷◌, ◌++◌, replicate, None, sym, ap, ◌∙◌, subst, arith, refl, w64, length-replicate, Val, vint, vunit, vstruct, of_list, inst_fn, never, id⊢, ftrue, Fml, flft, ◌⊑◌, fact, tables, WpFn, ‵, raw, prop, at_ret, ◌⊛◌, ◌$◌, ◌∵◌, !, qed, by, move, keep, drop, use1, split, join, group, rewrite, regoal, fsplit, fjoin, feq_i, flt_l, whole, sub, enter, stop, fld, of_opd, lit, unit_lit, bin, size_word, align_word, and_then, no_more, first, blocks, exec, returns, alloc_all, pass_all, free_all, look_at, get, get_in, sets, is, env, owns, block_ptr, in_a_block, types_at, nothing, heard, Stays, stay_dropped, walk_of, Goes-dropped, proved_at, leaves, word, after, El, R, elτ, args, param_at}
+use Rattle.fc_tree_slots.proofs.Steps.{◌≡◌, ◌*◌, ◌^◌, ◌<◌, List, [], ◌∷◌, ◌++◌, replicate, None, sym, ap, ◌∙◌, subst, arith, refl, w64, length-replicate, Val}
+use Rattle.fc_tree_slots.proofs.Steps.{vint, vunit, vstruct, of_list, inst_fn, never, id⊢, ftrue, Fml, flft, ◌⊑◌, fact, tables, WpFn, ‵, raw, prop, at_ret, ◌⊛◌}
+use Rattle.fc_tree_slots.proofs.Steps.{◌$◌, ◌∵◌, !, qed, by, move, keep, drop, use1, split, join, group, rewrite, regoal, fsplit, fjoin, feq_i, flt_l, whole}
+use Rattle.fc_tree_slots.proofs.Steps.{sub, enter, stop, fld, of_opd, lit, unit_lit, bin, size_word, align_word, and_then, no_more, first, blocks, exec}
+use Rattle.fc_tree_slots.proofs.Steps.{returns, alloc_all, pass_all, free_all, look_at, get, get_in, sets, is, env, owns, block_ptr, in_a_block, types_at}
+use Rattle.fc_tree_slots.proofs.Steps.{nothing, heard, Stays, stay_dropped, walk_of, Goes-dropped, proved_at, leaves, word, after, El, R, elτ, args, param_at}
 use lib.Dec.{T}
 use mir.Syntax.{ty_unit, ty_array}
 use mir.Val.{has_ty, WT}
@@ -28,7 +33,10 @@ free_spec 𝓤 𝓛 𝓜 𝓡 wired X L =
     let E : El = record { row = X; laws = L } in let fn = inst_fn (args E) code.function in
     let En = f.ended X in let ps = En.signature.params in let ks = En.kept in let c = f.clauses X 𝓛 𝓜.mem 𝓡.returns in let 𝓣 = tables 𝓤 𝓛.H 𝓜 𝓡 𝓡.env in
     let hs : Stays ps ks = (stay_dropped _ _, (stay_dropped _ _, (stay_dropped _ _, tt))) in
-    proved_at 𝓛 En hs c 𝓜 𝓡 (Goes-blank 𝓛 2 (param_at 0 ps) ks.0 (λ κs x f. tt), (Goes-dropped 𝓛 2 (param_at 1 ps) ks.1.0 (λ κs x f. refl), (Goes-dropped 𝓛 2 (param_at 2 ps) ks.1.1.0 (λ κs x f. refl), tt)))
+    proved_at 𝓛 En hs c 𝓜 𝓡 (
+      Goes-blank 𝓛 2 (param_at 0 ps) ks.0 (λ κs x f. tt),
+      (Goes-dropped 𝓛 2 (param_at 1 ps) ks.1.0 (λ κs x f. refl), (Goes-dropped 𝓛 2 (param_at 2 ps) ks.1.1.0 (λ κs x f. refl), tt)),
+    )
     (f.Key.name (args E)) fn (code.unfolded 𝓤 𝓛.H 𝓜 𝓡 wired (X, tt)) (λ z are.
     let κ = z.0.0.0 in let κ₁ = z.0.0.1.0 in let q = z.0.1.0 in let d = z.0.3.0 in let self = z.0.3.1.0 in let len = z.0.3.1.1.0 in
     let Post = (walk_of 𝓛 En hs c).post z in let others = ‵ (flft κ₁ z.0.1.1.0) ⊛ ‵ ftrue in let s = type_size (R E) in
@@ -45,14 +53,19 @@ free_spec 𝓤 𝓛 𝓜 𝓡 wired X L =
     let small : len * s < 2 ^ 63 = subst (λ n. n * s < 2 ^ 63) (length-replicate len None) fit in let bytes : len * s < 2 ^ 64 = omega arith in
     regoal ! (λ us. prop (WpFn 𝓤 𝓛.H 𝓣.C 𝓣.Λ fn us Post)) (λ j. (word_is ∙ ap (λ p. word p ∷ []) e) j ++ (are.1.0.0 j ++ (are.1.1.0.0 j ++ []))) refl $
     enter ! _ _ _ _ _ $ alloc_all ! (λ l. pass_all ! refl ((tt, (tt, tt)), ((tt, tt), ((tt, record { fits = are.1.1.0.1 }), tt))) $ let Ev = env fn.locals l in
-    sets ! (of_opd ! (get_in ! (fld ! refl (stop !)) (sub ! 0 refl (whole !)))) refl (tt, tt) $ sets ! (of_opd ! (size_word !)) refl (tt, record { fits = capped_fits s }) $ sets ! (bin ! (get ! refl) (lit ! tt) tt) refl (tt, tt) $ first ! $ branches ! (get ! refl)
+    sets ! (of_opd ! (get_in ! (fld ! refl (stop !)) (sub ! 0 refl (whole !)))) refl (tt, tt) $ sets ! (of_opd ! (size_word !)) refl
+    (tt, record { fits = capped_fits s }) $ sets ! (bin ! (get ! refl) (lit ! tt) tt) refl (tt, tt) $ first ! $ branches ! (get ! refl)
     (λ some. let τ = block_ty E len in let al = capped (align (elτ E)) in let y = frees_at 𝓛 𝓜.mem 𝓡.returns κ q self.ref_ptr self.now (len * s) al τ b o in
-    rewrite ! 0 (λ (F : Fml). ‵ F) (sized s _ (λ none. is_not (capped s) 0 some (ap capped none))) refl $ rewrite ! 0 (λ n. ‵ (token (block_ty E n) (block_ptr b o))) (length-replicate len None) refl $
+    rewrite ! 0 (λ (F : Fml). ‵ F) (sized s _ (λ none. is_not (capped s) 0 some (ap capped none))) refl $ rewrite ! 0
+    (λ n. ‵ (token (block_ty E n) (block_ptr b o))) (length-replicate len None) refl $
     move ! (1 ∷ 0 ∷ []) $ glued E ! len b o $ as_raw ! (ty_array (elτ E) len) b o $
     blocks ! $ sets ! (of_opd ! (get ! refl)) refl (tt, tt) $
-    sets ! (is ! (bin ! (get ! refl) (get ! refl) (record { fits = subst (λ k. k < 2 ^ 64) (sym (uncapped len s bytes)) bytes })) (ap (vint w64) (uncapped len s bytes))) refl (tt, record { fits = bytes }) $
-    group ! 4 $ use1 𝓛 (raw ((Frees 𝓛 𝓜.mem 𝓡.returns).pre y)) (frees 𝓛 𝓜.mem 𝓡.returns κ q self.ref_ptr self.now (len * s) al τ b o (block_size E len bytes, block_align E len) bytes (capped_fits (align (elτ E)))) $
-    calls_at_last ! (fm 𝓛 𝓜 𝓡) (Frees 𝓛 𝓜.mem 𝓡.returns) (met 𝓤 𝓛 𝓜 𝓡 (code.calls-std::impls::GlobalAllocator::deallocate 𝓡.env wired)) y (and_then ! (get ! refl) (and_then ! (get ! refl) (and_then ! (get ! refl) (and_then ! (align_word !) (no_more !))))) (λ v.
+    sets ! (is ! (bin ! (get ! refl) (get ! refl) (record { fits = subst (λ k. k < 2 ^ 64) (sym (uncapped len s bytes)) bytes }))
+    (ap (vint w64) (uncapped len s bytes))) refl (tt, record { fits = bytes }) $
+    group ! 4 $ use1 𝓛 (raw ((Frees 𝓛 𝓜.mem 𝓡.returns).pre y)) (frees 𝓛 𝓜.mem 𝓡.returns κ q self.ref_ptr self.now (len * s) al τ b o
+    (block_size E len bytes, block_align E len) bytes (capped_fits (align (elτ E)))) $
+    calls_at_last ! (fm 𝓛 𝓜 𝓡) (Frees 𝓛 𝓜.mem 𝓡.returns) (met 𝓤 𝓛 𝓜 𝓡 (code.calls-std::impls::GlobalAllocator::deallocate 𝓡.env wired)) y
+    (and_then ! (get ! refl) (and_then ! (get ! refl) (and_then ! (get ! refl) (and_then ! (align_word !) (no_more !))))) (λ v.
     freed 𝓛 𝓜.mem 𝓡.returns κ q self.ref_ptr self.now (len * s) al τ ! tt b o v (λ gone.
     lands_last ! refl (subst (λ (w : Val). T (has_ty ty_unit w) × WT w) (sym gone) (tt, tt)) $ exec ! 𝓣.C 𝓣.Λ Ev (after 4 fn.body) (at_ret Ev Post) $
     sets ! (of_opd ! (unit_lit !)) refl (tt, tt) $ returns ! (look_at ! 0 refl) $ free_all ! refl $ out)))

@@ -1,5 +1,9 @@
 -- `get` follows the pointer to an item that the row lends.
-use Rattle.fc_tree_slots.proofs.Steps.{◌≡◌, ◌+◌, ◌*◌, [], ◌∷◌, ◌++◌, get_or, Some, None, refl, vptr, inst_fn, emp, ftrue, flft, ◌⊑◌, fact, fact_i, tables, WpFn, ‵, raw, ◌⊛◌, prop, at_ret, ◌$◌, ◌∵◌, !, qed, by, move, drop, use0, split, join, rewrite, regoal, fsplit, fjoin, feq_i, enter, stop, fld, of_opd, bin, size_lit, first, blocks, exec, returns, alloc_all, pass_all, free_all, look_at, get, through, sets, sets_last, env, owns, types_at, nothing, heard, Stays, stay_dropped, walk_of, Goes-dropped, param_at, load, look, addr, hide, proved_at, leaves, after, El, R, args, keep}
+use Rattle.fc_tree_slots.proofs.Steps.{◌≡◌, ◌+◌, ◌*◌, [], ◌∷◌, ◌++◌, get_or, Some, None, refl, vptr, inst_fn, emp, ftrue, flft, ◌⊑◌, fact, fact_i, tables, WpFn}
+use Rattle.fc_tree_slots.proofs.Steps.{‵, raw, ◌⊛◌, prop, at_ret, ◌$◌, ◌∵◌, !, qed, by, move, drop, use0, split, join, rewrite, regoal, fsplit, fjoin, feq_i}
+use Rattle.fc_tree_slots.proofs.Steps.{enter, stop, fld, of_opd, bin, size_lit, first, blocks, exec, returns, alloc_all, pass_all, free_all, look_at, get}
+use Rattle.fc_tree_slots.proofs.Steps.{through, sets, sets_last, env, owns, types_at, nothing, heard, Stays, stay_dropped, walk_of, Goes-dropped, param_at}
+use Rattle.fc_tree_slots.proofs.Steps.{load, look, addr, hide, proved_at, leaves, after, El, R, args, keep}
 use Rattle.fc_tree_slots.specs.Cells.{IsPresent}
 use Rattle.std.specs.Mem.{type_size}
 use Rattle.fc_tree_slots.specs.Ownership.{place_lent}
@@ -18,9 +22,11 @@ get_spec 𝓤 𝓛 𝓜 𝓡 wired T L =
     let hs : Stays ps En.kept = (stay_dropped _ _, (stay_dropped _ _, tt)) in
     proved_at 𝓛 En hs c 𝓜 𝓡 (Goes-dropped 𝓛 2 (param_at 0 ps) En.kept.0 (λ κs x f. refl), (Goes-dropped 𝓛 2 (param_at 1 ps) En.kept.1.0 (λ κs x f. refl), tt))
     (f.Key.name (args E)) fn (code.unfolded 𝓤 𝓛.H 𝓜 𝓡 wired (T, tt)) (λ z are.
-    let κ = z.0.0.0 in let r = z.0.3.0 in let rb = r.ref_ptr.0 in let ro = r.ref_ptr.1 in let d = r.now in let i = z.0.3.1.0 in let Post = (walk_of 𝓛 En hs c).post z in
+    let κ = z.0.0.0 in let r = z.0.3.0 in let rb = r.ref_ptr.0 in let ro = r.ref_ptr.1 in let d = r.now in let i = z.0.3.1.0 in let Post =
+    (walk_of 𝓛 En hs c).post z in
     let Asks = IsPresent d.held i in
-    qed 𝓛 (((‵ (flft κ z.0.1.0) ⊛ ‵ (flft z.0.0.1.0 z.0.1.1.0) ⊛ ‵ ftrue) ⊛ ‵ (owns (types_at ps z.0.0) z.0.3 z.0.4)) ∷ (raw (fact 𝓤 (z.0.0.1.0 ⊑ T.lives)) ⊛ raw (fact 𝓤 Asks)) ∷ []) ∵
+    qed 𝓛 (((‵ (flft κ z.0.1.0) ⊛ ‵ (flft z.0.0.1.0 z.0.1.1.0) ⊛ ‵ ftrue) ⊛ ‵ (owns (types_at ps z.0.0) z.0.3 z.0.4))
+    ∷ (raw (fact 𝓤 (z.0.0.1.0 ⊑ T.lives)) ⊛ raw (fact 𝓤 Asks)) ∷ []) ∵
     move ! (1 ∷ []) $ split ! $ drop ! $ heard ! Asks (λ asked. split ! $ split ! $ move ! (2 ∷ []) $ fsplit ! $ fsplit ! $ drop ! $ look_row E κ rb ro ! d $
     reach_lent (R E) ! κ d.start d.held i (inside d.held i asked.0 asked.1) (λ b o e fits. let at = i * type_size (R E) + o in keep ! (0 ∷ 1 ∷ 3 ∷ 4 ∷ []) $
     rewrite ! 0 (λ x. ‵ (place_lent (R E) b at x κ)) asked.1 refl $ hide ! $
@@ -29,9 +35,12 @@ get_spec 𝓤 𝓛 𝓜 𝓡 wired T L =
     look_start E κ rb ro ! tt d.start b o e (λ q'.
     first ! $ blocks ! $ sets ! (of_opd ! (load ! (through ! refl (fld ! refl (stop !))) (look ! 1 refl))) refl (tt, tt) $
     pointer_out ! tt (block_ptr b o) tt rb (ro + 0) $
-    sets ! (bin ! (get ! refl) (size_lit ! (record { fits = fits.0 })) (record { fits = fits.1 })) refl (tt, record { fits = fits.1 }) $ sets ! (bin ! (get ! refl) (get ! refl) tt) refl (tt, tt) $
-    sets_last ! (addr ! (through ! refl (stop !))) refl (tt, tt) $ exec ! 𝓣.C 𝓣.Λ (env fn.locals l) (after 1 fn.body) (at_ret _ Post) $ sets ! (of_opd ! (get ! refl)) refl (tt, tt) $
+    sets ! (bin ! (get ! refl) (size_lit ! (record { fits = fits.0 })) (record { fits = fits.1 })) refl (tt, record { fits = fits.1 }) $ sets !
+    (bin ! (get ! refl) (get ! refl) tt) refl (tt, tt) $
+    sets_last ! (addr ! (through ! refl (stop !))) refl (tt, tt) $ exec ! 𝓣.C 𝓣.Λ (env fn.locals l) (after 1 fn.body) (at_ret _ Post) $ sets !
+    (of_opd ! (get ! refl)) refl (tt, tt) $
     -- [the token of the `&`; its fields; the item; the other token; the locals]
     returns ! (look_at ! 0 refl) $ free_all ! refl $ keep ! (0 ∷ 3 ∷ 2 ∷ []) $ join ! $ move ! (1 ∷ []) $ feq_i ! _ (vptr b at ∷ []) _ refl $ fjoin ! $
-    use0 𝓛 (raw (fact 𝓤 (get_or d.held i None ≡ Some asked.0))) (fact_i 𝓤 _ (emp 𝓤) asked.1) $ nothing ! $ nothing ! $ fjoin ! $ nothing ! $ fjoin ! $ move ! (3 ∷ 0 ∷ 2 ∷ 1 ∷ []) $
+    use0 𝓛 (raw (fact 𝓤 (get_or d.held i None ≡ Some asked.0))) (fact_i 𝓤 _ (emp 𝓤) asked.1) $ nothing ! $ nothing ! $ fjoin ! $ nothing ! $ fjoin ! $ move !
+    (3 ∷ 0 ∷ 2 ∷ 1 ∷ []) $
     by ! (leaves 𝓛 En hs c z (vptr b at) (record { ref_ptr = (b, at); now = asked.0 }) (tt, (tt, tt)) (tt, (tt, tt))))))))

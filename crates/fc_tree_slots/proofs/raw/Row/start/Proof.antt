@@ -1,5 +1,8 @@
 -- `start` reads the pointer.
-use Rattle.fc_tree_slots.proofs.Steps.{◌≡◌, ◌+◌, [], ◌∷◌, ◌++◌, refl, sym, vptr, inst_fn, emp, ftrue, flft, ◌⊑◌, fact, fact_i, tables, WpFn, ‵, raw, ◌⊛◌, prop, ◌$◌, ◌∵◌, !, qed, by, move, drop, use0, split, join, regoal, fsplit, fjoin, feq_i, enter, stop, fld, of_opd, returns, alloc_all, pass_all, free_all, look_at, through, sets, owns, types_at, nothing, Stays, stay_dropped, walk_of, Goes-dropped, param_at, load, look, id⊢, never, proved_at, leaves, El, R, args, keep}
+use Rattle.fc_tree_slots.proofs.Steps.{◌≡◌, ◌+◌, [], ◌∷◌, ◌++◌, refl, sym, vptr, inst_fn, emp, ftrue, flft, ◌⊑◌, fact, fact_i, tables, WpFn, ‵, raw, ◌⊛◌, prop}
+use Rattle.fc_tree_slots.proofs.Steps.{◌$◌, ◌∵◌, !, qed, by, move, drop, use0, split, join, regoal, fsplit, fjoin, feq_i, enter, stop, fld, of_opd, returns}
+use Rattle.fc_tree_slots.proofs.Steps.{alloc_all, pass_all, free_all, look_at, through, sets, owns, types_at, nothing, Stays, stay_dropped, walk_of}
+use Rattle.fc_tree_slots.proofs.Steps.{Goes-dropped, param_at, load, look, id⊢, never, proved_at, leaves, El, R, args, keep}
 use Rattle.fc_tree_slots.specs.Ownership.{row_lent}
 use Rattle.std_alloc.proofs.Words.{pointer_out}
 use denote.RawPtr.{block_ptr, in_a_block}
@@ -16,7 +19,8 @@ start_spec 𝓤 𝓛 𝓜 𝓡 wired T L =
     proved_at 𝓛 En hs c 𝓜 𝓡 (Goes-dropped 𝓛 2 (param_at 0 ps) En.kept.0 (λ κs x f. refl), tt)
     (f.Key.name (args E)) fn (code.unfolded 𝓤 𝓛.H 𝓜 𝓡 wired (T, tt)) (λ z are.
     let κ = z.0.0.0 in let r = z.0.3.0 in let rb = r.ref_ptr.0 in let ro = r.ref_ptr.1 in let d = r.now in let Post = (walk_of 𝓛 En hs c).post z in
-    qed 𝓛 (((‵ (flft κ z.0.1.0) ⊛ ‵ (flft z.0.0.1.0 z.0.1.1.0) ⊛ ‵ ftrue) ⊛ ‵ (owns (types_at ps z.0.0) z.0.3 z.0.4)) ∷ (raw (fact 𝓤 (z.0.0.1.0 ⊑ T.lives)) ⊛ raw (emp 𝓤)) ∷ []) ∵
+    qed 𝓛 (((‵ (flft κ z.0.1.0) ⊛ ‵ (flft z.0.0.1.0 z.0.1.1.0) ⊛ ‵ ftrue) ⊛ ‵ (owns (types_at ps z.0.0) z.0.3 z.0.4))
+    ∷ (raw (fact 𝓤 (z.0.0.1.0 ⊑ T.lives)) ⊛ raw (emp 𝓤)) ∷ []) ∵
     move ! (1 ∷ []) $ drop ! $ split ! $ split ! $ move ! (2 ∷ []) $ fsplit ! $ fsplit ! $ drop ! $ look_row E κ rb ro ! d $
     in_a_block ! d.start (λ p. row_lent (R E) p d.held κ) (id⊢ 𝓤 (never 𝓤)) (λ b o e. keep ! (1 ∷ 3 ∷ 4 ∷ []) $
     regoal ! (λ us. prop (WpFn 𝓤 𝓛.H 𝓣.C 𝓣.Λ fn us Post)) (λ j. are.0.0 j ++ []) refl $

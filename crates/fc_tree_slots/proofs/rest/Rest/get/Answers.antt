@@ -3,7 +3,8 @@ use Rattle.fc_tree_slots.proofs.Rests.{rest_of, held_at, value_of}
 use Rattle.fc_tree_slots.proofs.rest.Rest.get.Goals as goal
 
 pub overflow_add-self-inside : goal.overflow_add-self-inside
-overflow_add-self-inside g c = let r = rest_of c.self.inside _ c.self.invariant c.self.view_is in record { fits = omega (arith, r.long, r.fits, c.requires, g.N.fits) }
+overflow_add-self-inside g c = let r = rest_of c.self.inside _ c.self.invariant c.self.view_is in
+    record { fits = omega (arith, r.long, r.fits, c.requires, g.N.fits) }
 
 pub get-requires : goal.get-requires
 get-requires g c =

@@ -13,14 +13,16 @@ take-requires g c =
 pub invariant_of-self : goal.invariant_of-self
 invariant_of-self g c =
     let s = c.self.inside in let r = rest_of s _ c.self.invariant c.self.view_is in let m = g.row.N - s.end in
-    let t = last_taken s.cells c.take.new.self c.args.self.now s.start m (s.end - 1) c.take.result r.is c.requires (omega (arith, r.long, c.requires)) c.take.ensures.value c.take.ensures.cells in
+    let t = last_taken s.cells c.take.new.self c.args.self.now s.start m (s.end - 1) c.take.result r.is c.requires (omega (arith, r.long, c.requires))
+    c.take.ensures.value c.take.ensures.cells in
     let size = ap length t.1 ∙ length-append t.0 (c.take.result ∷ []) in
     (packs_rest c.take.new.self t.0 (suc m) s.start (s.end - 1) g.row.N t.2 (omega (arith, r.long, size)) (omega (arith, r.fits, r.long, c.requires))).0
 
 pub returns : goal.returns
 returns g c =
     let s = c.self.inside in let r = rest_of s _ c.self.invariant c.self.view_is in let m = g.row.N - s.end in
-    let t = last_taken s.cells c.take.new.self c.args.self.now s.start m (s.end - 1) c.take.result r.is c.requires (omega (arith, r.long, c.requires)) c.take.ensures.value c.take.ensures.cells in
+    let t = last_taken s.cells c.take.new.self c.args.self.now s.start m (s.end - 1) c.take.result r.is c.requires (omega (arith, r.long, c.requires))
+    c.take.ensures.value c.take.ensures.cells in
     let size = ap length t.1 ∙ length-append t.0 (c.take.result ∷ []) in
     let p = packs_rest c.take.new.self t.0 (suc m) s.start (s.end - 1) g.row.N t.2 (omega (arith, r.long, size)) (omega (arith, r.fits, r.long, c.requires)) in
     cc (t.1, p.1)

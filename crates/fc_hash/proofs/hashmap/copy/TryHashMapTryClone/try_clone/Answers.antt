@@ -6,5 +6,6 @@ use Rattle.fc_hash.proofs.hashmap.copy.TryHashMapTryClone.try_clone.Goals as goa
 pub returns-in_err-insert_copies : goal.returns-in_err-insert_copies
 returns-in_err-insert_copies g c =
     let p = err_from_is_err_and c.from_residual-in_err-insert_copies.result c.from_residual-in_err-insert_copies.ensures.1 in
-    let refused = subst (λ ps. MayRefuseCopies (MayRefusePair g.K.TryClone.may_refuse g.V.TryClone.may_refuse) ps c.in_err-insert_copies.field-0.0) c.iter.ensures.rest c.in_err-insert_copies.ensures.error in
+    let refused = subst (λ ps. MayRefuseCopies (MayRefusePair g.K.TryClone.may_refuse g.V.TryClone.may_refuse) ps c.in_err-insert_copies.field-0.0)
+    c.iter.ensures.rest c.in_err-insert_copies.ensures.error in
     rw (p.1, p.2, ← c.self.view_is) refused

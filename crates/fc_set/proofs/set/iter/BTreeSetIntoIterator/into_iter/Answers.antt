@@ -7,4 +7,12 @@ use Rattle.fc_set.proofs.set.iter.BTreeSetIntoIterator.into_iter.Goals as goal
 pub returns : goal.returns
 returns g c =
     let w = c.into_iter.ensures.into_iter_gives in
-    record { into_iter_gives = (ap keys (w.0 ∙ ap entries c.self.view_is), subst (λ n. n < 2 ^ 64) (sym (keys_length c.into_iter.result)) w.1, ascending_keys g.T.Ord.cmp c.into_iter.result w.2, rest_runs, rest_runs_back) }
+    record {
+      into_iter_gives = (
+        ap keys (w.0 ∙ ap entries c.self.view_is),
+        subst (λ n. n < 2 ^ 64) (sym (keys_length c.into_iter.result)) w.1,
+        ascending_keys g.T.Ord.cmp c.into_iter.result w.2,
+        rest_runs,
+        rest_runs_back,
+      );
+    }

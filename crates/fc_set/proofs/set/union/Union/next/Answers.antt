@@ -5,10 +5,13 @@ use Rattle.fc_set.proofs.set.union.Union.next.Goals as goal
 
 pub returns-clause-steps : goal.returns-clause-steps
 returns-clause-steps g c =
-    rw (← c.self.view_is) (yields_first g.T.Ord.cmp g.met.T.Ord.total (union g.T.Ord.cmp) c.or.result c.self.inside.sides.left c.self.inside.sides.right c.next.new.self refl
-    (union_step g.T.Ord.cmp g.met.T.Ord.total c.next.result.0 c.next.result.1 c.or.result c.self.inside.sides.left c.self.inside.sides.right c.next.new.self c.or.ensures c.next.ensures.ours c.next.ensures.theirs c.next.ensures.firsts))
+    rw (← c.self.view_is) (yields_first g.T.Ord.cmp g.met.T.Ord.total (union g.T.Ord.cmp) c.or.result c.self.inside.sides.left c.self.inside.sides.right
+    c.next.new.self refl
+    (union_step g.T.Ord.cmp g.met.T.Ord.total c.next.result.0 c.next.result.1 c.or.result c.self.inside.sides.left c.self.inside.sides.right c.next.new.self
+    c.or.ensures c.next.ensures.ours c.next.ensures.theirs c.next.ensures.firsts))
 
 pub returns-clause-past : goal.returns-clause-past
 returns-clause-past g c =
     rw (← c.self.view_is) (stands_after g.T.Ord.cmp g.met.T.Ord.total (union g.T.Ord.cmp) c.or.result c.self.inside.sides c.next.new.self
-    (union_step g.T.Ord.cmp g.met.T.Ord.total c.next.result.0 c.next.result.1 c.or.result c.self.inside.sides.left c.self.inside.sides.right c.next.new.self c.or.ensures c.next.ensures.ours c.next.ensures.theirs c.next.ensures.firsts))
+    (union_step g.T.Ord.cmp g.met.T.Ord.total c.next.result.0 c.next.result.1 c.or.result c.self.inside.sides.left c.self.inside.sides.right c.next.new.self
+    c.or.ensures c.next.ensures.ours c.next.ensures.theirs c.next.ensures.firsts))

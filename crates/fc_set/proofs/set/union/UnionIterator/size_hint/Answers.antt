@@ -4,7 +4,8 @@ use Rattle.fc_set.proofs.set.union.UnionIterator.size_hint.Goals as goal
 
 pub returns-clause-lower : goal.returns-clause-lower
 returns-clause-lower g c =
-    let least = union_at_least g.T.Ord.cmp g.met.T.Ord.total c.self.inside.sides.left c.self.inside.sides.right c.lens-ours.ensures.ascending.0 c.lens-ours.ensures.ascending.1 in
+    let least = union_at_least g.T.Ord.cmp g.met.T.Ord.total c.self.inside.sides.left c.self.inside.sides.right c.lens-ours.ensures.ascending.0
+    c.lens-ours.ensures.ascending.1 in
     let ours : c.lens-ours.result.0 ≡ length c.self.inside.sides.left = ap (λ p. p.0) c.lens-ours.ensures.lens in
     let theirs : c.lens-ours.result.1 ≡ length c.self.inside.sides.right = ap (λ p. p.1) c.lens-ours.ensures.lens in
     let greater : c.max.result ≡ max c.lens-ours.result.0 c.lens-ours.result.1 = search rules in
@@ -12,7 +13,9 @@ returns-clause-lower g c =
 
 pub returns-clause-upper : goal.returns-clause-upper
 returns-clause-upper g c =
-    let most = union_at_most g.T.Ord.cmp g.met.T.Ord.total c.self.inside.sides.left c.self.inside.sides.right c.lens-ours.ensures.ascending.0 c.lens-ours.ensures.ascending.1 in
+    let most = union_at_most g.T.Ord.cmp g.met.T.Ord.total c.self.inside.sides.left c.self.inside.sides.right c.lens-ours.ensures.ascending.0
+    c.lens-ours.ensures.ascending.1 in
     let ours : c.lens-ours.result.0 ≡ length c.self.inside.sides.left = ap (λ p. p.0) c.lens-ours.ensures.lens in
     let theirs : c.lens-ours.result.1 ≡ length c.self.inside.sides.right = ap (λ p. p.1) c.lens-ours.ensures.lens in
-    rw (← c.self.view_is) (within_sum c.checked_add.result c.lens-ours.result.0 c.lens-ours.result.1 _ c.checked_add.ensures (omega (arith, most, ours, theirs)))
+    rw (← c.self.view_is) (within_sum c.checked_add.result c.lens-ours.result.0 c.lens-ours.result.1 _ c.checked_add.ensures
+    (omega (arith, most, ours, theirs)))

@@ -21,8 +21,11 @@ returns-in_err-try_clone_all-clause-error g c =
     let parts = c.args.parts.now in
     let i = c.loop-i.i in
     let part = c.index-parts-i.result in
-    let refused = subst (λ l. IsCopiedUpTo g.T.TryClone.same g.T.TryClone.may_refuse c.in_err-try_clone_all.field-0.0 c.loop-i.made.items l c.try_clone_all.new.copies.items) c.as_slice.ensures c.in_err-try_clone_all.ensures.error in
-    rw (p.1, p.2) (refused_on g.T.TryClone.same g.T.TryClone.may_refuse _ c.args.made.now.items (joined (take i parts)) c.loop-i.made.items part.items (joined (drop (i + 1) parts)) (joined parts) c.try_clone_all.new.copies.items c.loop-i.invariant.2 refused (joined_around parts i part (omega (arith, c.loop-i-test.true, c.loop-i.invariant.0)) c.index-parts-i.is))
+    let refused = subst (λ l. IsCopiedUpTo g.T.TryClone.same g.T.TryClone.may_refuse c.in_err-try_clone_all.field-0.0 c.loop-i.made.items l
+    c.try_clone_all.new.copies.items) c.as_slice.ensures c.in_err-try_clone_all.ensures.error in
+    rw (p.1, p.2) (refused_on g.T.TryClone.same g.T.TryClone.may_refuse _ c.args.made.now.items (joined (take i parts)) c.loop-i.made.items part.items
+    (joined (drop (i + 1) parts)) (joined parts) c.try_clone_all.new.copies.items c.loop-i.invariant.2 refused
+    (joined_around parts i part (omega (arith, c.loop-i-test.true, c.loop-i.invariant.0)) c.index-parts-i.is))
 
 pub loop-i-preserved : goal.loop-i-preserved
 loop-i-preserved g c =
@@ -33,5 +36,6 @@ loop-i-preserved g c =
     let new = c.try_clone_all.new.copies in
     let more = subst (λ l. IsExtended g.T.TryClone.same c.loop-i.made.items l new.items) c.as_slice.ensures c.in_ok-try_clone_all.ensures.extended in
     let next = joined_more parts i part (omega (arith, c.loop-i-test.true, c.loop-i.invariant.0)) c.index-parts-i.is in
-    let grown = subst (λ l. IsExtended g.T.TryClone.same c.args.made.now.items l new.items) (sym next) (extended_on g.T.TryClone.same c.args.made.now.items (joined (take i parts)) c.loop-i.made.items part.items new.items v.2 more) in
+    let grown = subst (λ l. IsExtended g.T.TryClone.same c.args.made.now.items l new.items) (sym next)
+    (extended_on g.T.TryClone.same c.args.made.now.items (joined (take i parts)) c.loop-i.made.items part.items new.items v.2 more) in
     (refl, omega (arith, v.1, c.try_clone_all.ensures.room), grown)
