@@ -23,12 +23,15 @@ equal_answer Less h = absurd cc
 equal_answer Equal h = refl
 equal_answer Greater h = absurd cc
 
-module _ {K V : Type 0} (cmp : K → K → Ordering) (total : IsTotalOrder cmp) (same_key : K → K → Type 0) (same_value : V → V → Type 0) (equal : (a b : K) → same_key a b → cmp a b ≡ Equal) where
+module _ {K V : Type 0} (cmp : K → K → Ordering) (total : IsTotalOrder cmp) (same_key : K → K → Type 0) (same_value : V → V → Type 0)
+    (equal : (a b : K) → same_key a b → cmp a b ≡ Equal) where
   -- a key stands to a later one as their copies stand
   still_below : (a b x y : K) → same_key a b → same_key x y → cmp a x ≡ Less → cmp b y ≡ Less
-  still_below a b x y s t less = sym (total.congr a b y (equal a b s)) ∙ under_one cmp total a y (sym (total.congr x y a (equal x y t)) ∙ over_one cmp total a x less)
+  still_below a b x y s t less = sym (total.congr a b y (equal a b s))
+      ∙ under_one cmp total a y (sym (total.congr x y a (equal x y t)) ∙ over_one cmp total a x less)
 
-  later_copied : (a b : K) → same_key a b → (s t : List (K × V)) → AllZip (AreSame same_key same_value) s t → AllByRecursion (λ later. cmp a later.0 ≡ Less) s → AllByRecursion (λ later. cmp b later.0 ≡ Less) t
+  later_copied : (a b : K) → same_key a b → (s t : List (K × V)) → AllZip (AreSame same_key same_value) s t → AllByRecursion (λ later. cmp a later.0 ≡ Less) s
+      → AllByRecursion (λ later. cmp b later.0 ≡ Less) t
   later_copied a b e [] [] z l = tt
   later_copied a b e [] (q ∷ t) z l = absurd z
   later_copied a b e (p ∷ s) [] z l = absurd z

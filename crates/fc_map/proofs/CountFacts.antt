@@ -20,7 +20,8 @@ module _ {K V : Type 0} where
   some_pairs h root s = let deep = deep_root h root s in let one = one-le-pow h least_children (lit< tt) in omega arith
 
   -- A look-up counts what its search passes.
-  pub looked_up : {Q : Type 0} (cmp : K → Q → Ordering) (k : Q) (m : Map K V) (root : Node K V) (old new : Count) → m ≡ Some root → IsSoundMap m → new.comparisons ≡ old.comparisons + passed cmp k root → new.moves ≡ old.moves → IsBounded (length (entries m)) old new
+  pub looked_up : {Q : Type 0} (cmp : K → Q → Ordering) (k : Q) (m : Map K V) (root : Node K V) (old new : Count) → m ≡ Some root → IsSoundMap m
+      → new.comparisons ≡ old.comparisons + passed cmp k root → new.moves ≡ old.moves → IsBounded (length (entries m)) old new
   looked_up cmp k m root old new is sound c e =
       let s = rw is at sound in
       let some = some_pairs s.0 root s.2 in
@@ -32,18 +33,22 @@ deeper : (h n m : ℕ) → IsDeep h n → n ≤ m → IsDeep h m
 deeper h n m d le = omega arith
 
 -- A search among n pairs and then moves among n' pairs, no fewer.
-pub moved_after : (n n' : ℕ) (old mid new : Count) → IsBounded n old mid → mid.moves ≡ old.moves → new.comparisons ≡ mid.comparisons → HasFewMoves n' mid new → n ≤ n' → 0 < n' → IsBounded n' old new
+pub moved_after : (n n' : ℕ) (old mid new : Count) → IsBounded n old mid → mid.moves ≡ old.moves → new.comparisons ≡ mid.comparisons → HasFewMoves n' mid new
+    → n ≤ n' → 0 < n' → IsBounded n' old new
 moved_after n n' old mid new b still same m le some = ((λ z. absurd (omega arith)), λ _. go (dec n))
   where
     dec : (n : ℕ) → (n ≡ 0) ⊎ (0 < n)
     dec zero = inl refl
     dec (suc n) = inr (omega arith)
 
-    highest : (h₁ h₂ : ℕ) → (h₁ < h₂) ⊎ (h₂ ≤ h₁) → IsDeep h₁ n' → IsDeep h₂ n' → mid.comparisons ≤ old.comparisons + level_comparisons * (h₁ + 1) → new.moves ≤ mid.moves + level_moves * (h₂ + 1) → (h : ℕ) × IsDeep h n' × (new.comparisons ≤ old.comparisons + level_comparisons * (h + 1)) × (new.moves ≤ old.moves + level_moves * (h + 1))
+    highest : (h₁ h₂ : ℕ) → (h₁ < h₂) ⊎ (h₂ ≤ h₁) → IsDeep h₁ n' → IsDeep h₂ n' → mid.comparisons ≤ old.comparisons + level_comparisons * (h₁ + 1)
+        → new.moves ≤ mid.moves + level_moves * (h₂ + 1) → (h : ℕ) × IsDeep h n' × (new.comparisons ≤ old.comparisons + level_comparisons * (h + 1))
+        × (new.moves ≤ old.moves + level_moves * (h + 1))
     highest h₁ h₂ (inl le) d₁ d₂ c v = (h₂, d₂, omega arith, omega arith)
     highest h₁ h₂ (inr le) d₁ d₂ c v = (h₁, d₁, omega arith, omega arith)
 
-    go : ((n ≡ 0) ⊎ (0 < n)) → (h : ℕ) × IsDeep h n' × (new.comparisons ≤ old.comparisons + level_comparisons * (h + 1)) × (new.moves ≤ old.moves + level_moves * (h + 1))
+    go : ((n ≡ 0) ⊎ (0 < n)) → (h : ℕ) × IsDeep h n' × (new.comparisons ≤ old.comparisons + level_comparisons * (h + 1))
+        × (new.moves ≤ old.moves + level_moves * (h + 1))
     go (inl z) = let e = b.0 z in (m.0, m.1, omega (arith, e.0), omega (arith, m.2))
     go (inr p) = let e = b.1 p in highest e.0 m.0 (cases_lt e.0 m.0) (deeper e.0 n n' e.1 le) m.1 e.2 m.2
 

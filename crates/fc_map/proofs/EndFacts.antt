@@ -1,5 +1,6 @@
 -- The ends of writing walks.
-use Rattle.std.proofs.Common.{◌≡◌, ℕ, zero, suc, ◌+◌, ◌-◌, ◌<◌, ◌≤◌, List, [], ◌∷◌, ◌++◌, length, take, get_or, slice_get, length-append, Some, None, refl, sym, ap, Bool, true, false, nat_eq, subst, ◌∙◌, arith}
+use Rattle.std.proofs.Common.{◌≡◌, ℕ, zero, suc, ◌+◌, ◌-◌, ◌<◌, ◌≤◌, List, [], ◌∷◌, ◌++◌, length, take, get_or, slice_get, length-append, Some, None, refl, sym}
+use Rattle.std.proofs.Common.{ap, Bool, true, false, nat_eq, subst, ◌∙◌, arith}
 use Rattle.std.specs.Option.{option_map}
 use Rattle.std.specs.Cmp.Lexicographic.{pointwise, other_text}
 use Rattle.fc_base.specs.Sizes.{capacity}
@@ -66,8 +67,10 @@ module _ {K V : Type 0} where
       let c = place_pairs path sound.0 root sound.2.1 place in
       ap (λ s. slice_get s (length (before_pair path root))) c.parts ∙ pair_at (before_pair path root) (after_pair path root) c.pair ∙ sym c.is
 
-  pub steps_fit : (m : Map K V) (path : List ℕ) (gone last : ℕ) → IsSoundMap m → IsGapIn m (gone_on path gone) → last + 1 ≡ length path → get_or path last 0 + gone ≤ capacity
-  steps_fit m path gone last sound gap e = let l = on_length path gone in subst (λ k. k ≤ capacity) (on_last path last gone e) (gap_small m (gone_on path gone) last sound gap (omega arith))
+  pub steps_fit : (m : Map K V) (path : List ℕ) (gone last : ℕ) → IsSoundMap m → IsGapIn m (gone_on path gone) → last + 1 ≡ length path
+      → get_or path last 0 + gone ≤ capacity
+  steps_fit m path gone last sound gap e = let l = on_length path gone in
+      subst (λ k. k ≤ capacity) (on_last path last gone e) (gap_small m (gone_on path gone) last sound gap (omega arith))
 
   -- a gap of a leaf, and one ahead of it
   path_less : (gap : List ℕ) (n : Node K V) (k j : ℕ) → IsPath (gone_on gap k) n → j ≤ k → IsPath (gone_on gap j) n
@@ -90,13 +93,15 @@ module _ {K V : Type 0} where
     pub count : length (before_gap_in m (gone_on path gone)) ≡ length (before_gap_in m old) + 1
 
   -- within a leaf
-  pub in_leaf : (m : Map K V) (path : List ℕ) (gone : ℕ) (other : List ℕ) → IsSoundMap m → IsGapIn m (gone_on path (gone + 1)) → length (before_gap_in m (gone_on path gone)) < length (before_gap_in m other) → IsInLeaf path gone
+  pub in_leaf : (m : Map K V) (path : List ℕ) (gone : ℕ) (other : List ℕ) → IsSoundMap m → IsGapIn m (gone_on path (gone + 1))
+      → length (before_gap_in m (gone_on path gone)) < length (before_gap_in m other) → IsInLeaf path gone
   in_leaf m path gone other sound g k =
       let s = gap_some m (gone_on path (gone + 1)) other sound g (omega (arith, k)) in
       let l = on_length path (gone + 1) in
       record { some = omega arith; fits = λ last e. (let f = steps_fit m path (gone + 1) last sound g e in omega (arith, f)) }
 
-  pub step_within : (m : Map K V) (path : List ℕ) (gone last place : ℕ) → IsSoundMap m → IsInLeaf path gone → last + 1 ≡ length path → place ≡ get_or path last 0 + gone → IsGapIn m (gone_on path (gone + 1)) → IsStepOn m (gone_on path gone) path (gone + 1) last place
+  pub step_within : (m : Map K V) (path : List ℕ) (gone last place : ℕ) → IsSoundMap m → IsInLeaf path gone → last + 1 ≡ length path
+      → place ≡ get_or path last 0 + gone → IsGapIn m (gone_on path (gone + 1)) → IsStepOn m (gone_on path gone) path (gone + 1) last place
   step_within m path gone last place sound inside e here r =
       let gap = gone_on path gone in
       let is : gap ≡ branch path last place = on_parts path last gone e ∙ ap (λ i. take last path ++ i ∷ []) (sym here) in
@@ -120,7 +125,8 @@ module _ {K V : Type 0} where
     pub levels : IsLevelled (length gap - 1) n
     pub later : length (before_gap gap n) < length (pairs_of n)
 
-  pub on_tree : (m : Map K V) (n : Node K V) (gap other : List ℕ) → m ≡ Some n → IsSoundMap m → IsGapIn m gap → IsGapIn m other → length (before_gap_in m gap) < length (before_gap_in m other) → IsOnTree gap n
+  pub on_tree : (m : Map K V) (n : Node K V) (gap other : List ℕ) → m ≡ Some n → IsSoundMap m → IsGapIn m gap → IsGapIn m other
+      → length (before_gap_in m gap) < length (before_gap_in m other) → IsOnTree gap n
   on_tree m n gap other is sound g o k =
       let w = gap_within m other sound o in
       let later : length (before_gap_in m gap) < length (entries m) = omega (arith, w, k) in
@@ -128,7 +134,13 @@ module _ {K V : Type 0} where
       let x = subst (λ o. IsGapIn o gap) is g in
       let e = x.1 s.0 s.2.1 in
       let h : s.0 ≡ length gap - 1 = omega arith in
-      record { some = omega arith; way = x.0; levels = subst (λ k. IsLevelled k n) h s.2.1; later = subst (λ o. length (before_gap_in o gap) < length (entries o)) is later }
+      record {
+        some = omega arith;
+        way = x.0;
+        levels = subst (λ k. IsLevelled k n) h s.2.1;
+        later =
+            subst (λ o. length (before_gap_in o gap) < length (entries o)) is later;
+      }
 
   -- past a pair at the root of the tree
   pub record IsPassed (gap next : List ℕ) (n : Node K V) (last place run : ℕ) : Type 0 where
@@ -139,15 +151,23 @@ module _ {K V : Type 0} where
     pub next_is : next ≡ take last gap ++ (place + 1) ∷ zeros (length gap - suc last)
     pub run_is : IsPath (gone_on next run) n
 
-  step_out_root : (n : Node K V) (gap next : List ℕ) (last place run : ℕ) → IsSoundMap (Some n) → IsGapIn (Some n) gap → IsPassed gap next n last place run → IsStepOn (Some n) gap next 0 last place × IsGapIn (Some n) (gone_on next run)
+  step_out_root : (n : Node K V) (gap next : List ℕ) (last place run : ℕ) → IsSoundMap (Some n) → IsGapIn (Some n) gap → IsPassed gap next n last place run
+      → IsStepOn (Some n) gap next 0 last place × IsGapIn (Some n) (gone_on next run)
   step_out_root n gap next last place run sound g x =
       let h = sound.0 in
       let w = x.way_is in
       let own = x.own in
       let here : take last gap ++ place ∷ [] ≡ take (suc last) gap = ap (λ i. take last gap ++ i ∷ []) own ∙ sym (take_item gap last 0 w) in
-      let y : IsNext gap n (suc last) = record { within = omega (arith, w); none = λ e. absurd (omega arith); place = λ _. subst (λ p. IsPlace p n) here x.place_is; before = λ _. subst (λ p. length (before_pair p n) ≡ length (before_gap gap n)) here x.before } in
+      let y : IsNext gap n (suc last) = record {
+        within = omega (arith, w);
+        none = λ e. absurd (omega arith);
+        place =
+            λ _. subst (λ p. IsPlace p n) here x.place_is;
+        before = λ _. subst (λ p. length (before_pair p n) ≡ length (before_gap gap n)) here x.before;
+      } in
       let t = length_take last gap (omega (arith, w)) in
-      let f = x.next_is ∙ ap (λ i. take last gap ++ (i + 1) ∷ zeros (length gap - suc last)) own ∙ ap (λ k. take last gap ++ (get_or gap last 0 + 1) ∷ zeros k) (omega (arith, t, w)) in
+      let f = x.next_is ∙ ap (λ i. take last gap ++ (i + 1) ∷ zeros (length gap - suc last)) own
+      ∙ ap (λ k. take last gap ++ (get_or gap last 0 + 1) ∷ zeros k) (omega (arith, t, w)) in
       let z = stepped_after (Some n) n gap next last (suc last) refl sound g y (omega arith) f in
       let b = branch_past gap next _ last place w x.next_is in
       let slot = z.slot in
@@ -165,9 +185,11 @@ module _ {K V : Type 0} where
         (x.run_is, λ k l. on_length next run ∙ slot.1 k l),
       )
 
-  pub step_out : (m : Map K V) (n : Node K V) (gap next : List ℕ) (last place run : ℕ) → m ≡ Some n → IsSoundMap m → IsGapIn m gap → IsPassed gap next n last place run → IsStepOn m gap next 0 last place × IsGapIn m (gone_on next run)
+  pub step_out : (m : Map K V) (n : Node K V) (gap next : List ℕ) (last place run : ℕ) → m ≡ Some n → IsSoundMap m → IsGapIn m gap
+      → IsPassed gap next n last place run → IsStepOn m gap next 0 last place × IsGapIn m (gone_on next run)
   step_out m n gap next last place run is sound g x =
-      subst (λ o. IsStepOn o gap next 0 last place × IsGapIn o (gone_on next run)) (sym is) (step_out_root n gap next last place run (subst IsSoundMap is sound) (subst (λ o. IsGapIn o gap) is g) x)
+      subst (λ o. IsStepOn o gap next 0 last place × IsGapIn o (gone_on next run)) (sym is)
+      (step_out_root n gap next last place run (subst IsSoundMap is sound) (subst (λ o. IsGapIn o gap) is g) x)
 
 pub text_same : (xs ys : List ℕ) (r : Bool) → r ≡ pointwise nat_eq xs ys → xs ≡ ys → r ≡ true
 text_same xs ys true e s = refl
@@ -181,18 +203,22 @@ module _ {K V : Type 0} where
   state_is s t f f' b b' p q r = ap (λ s. state s f b) p ∙ ap (λ f. state t f b) q ∙ ap (λ b. state t f' b) r
 
   -- the ends of a walk stay where a value is written
-  pub ends_stay : (m : Map K V) (path front back : List ℕ) (w : V) → IsSoundMap m → IsPlaceIn m path → AreEndsIn m front back → AreEndsIn (written_in m path w) front back
+  pub ends_stay : (m : Map K V) (path front back : List ℕ) (w : V) → IsSoundMap m → IsPlaceIn m path → AreEndsIn m front back
+      → AreEndsIn (written_in m path w) front back
   ends_stay m path front back w sound place ends =
       let f = gap_stays m path front w sound place ends.0 in
       let b = gap_stays m path back w sound place ends.1 in
       (f.slot, b.slot, omega (arith, f.count, b.count, ends.2))
 
-  pub counted_stays : (m : Map K V) (path gap : List ℕ) (count : ℕ) (w : V) → IsSoundMap m → IsPlaceIn m path → IsGapIn m gap → count ≡ length (before_gap_in m gap) → count ≡ length (before_gap_in (written_in m path w) gap)
+  pub counted_stays : (m : Map K V) (path gap : List ℕ) (count : ℕ) (w : V) → IsSoundMap m → IsPlaceIn m path → IsGapIn m gap
+      → count ≡ length (before_gap_in m gap) → count ≡ length (before_gap_in (written_in m path w) gap)
   counted_stays m path gap count w sound place g e = e ∙ sym ((gap_stays m path gap w sound place g).count)
 
-  stretch_written : (m : Map K V) (path front back : List ℕ) (w : V) (s : List (K × V)) (at from to : ℕ) → IsSoundMap m → IsPlaceIn m path → AreEndsIn m front back
+  stretch_written : (m : Map K V) (path front back : List ℕ) (w : V) (s : List (K × V)) (at from to : ℕ) → IsSoundMap m → IsPlaceIn m path
+      → AreEndsIn m front back
       → entries m ≡ s → length (before_pair_in m path) ≡ at → length (before_gap_in m front) ≡ from → length (before_gap_in m back) ≡ to
-      → state (entries (written_in m path w)) (length (before_gap_in (written_in m path w) front)) (length (before_gap_in (written_in m path w) back)) ≡ state (set_value s at w) from to
+      → state (entries (written_in m path w)) (length (before_gap_in (written_in m path w) front)) (length (before_gap_in (written_in m path w) back))
+      ≡ state (set_value s at w) from to
   stretch_written m path front back w s at from to sound place ends list a f b =
       state_is _ _ _ _ _ _
       (entries_written m path w sound place ∙ ap (λ z. set_value z (length (before_pair_in m path)) w) list ∙ ap (λ i. set_value s i w) a)
@@ -201,17 +227,22 @@ module _ {K V : Type 0} where
 
   pub first_written : (m : Map K V) (path front back : List ℕ) (w : V) (t : Stretch K V) → IsSoundMap m → IsPlaceIn m path → AreEndsIn m front back
       → entries m ≡ t.list → length (before_pair_in m path) ≡ t.front → length (before_gap_in m front) ≡ t.front + 1 → length (before_gap_in m back) ≡ t.back
-      → state (entries (written_in m path w)) (length (before_gap_in (written_in m path w) front)) (length (before_gap_in (written_in m path w) back)) ≡ wrote_first t w
+      → state (entries (written_in m path w)) (length (before_gap_in (written_in m path w) front)) (length (before_gap_in (written_in m path w) back))
+      ≡ wrote_first t w
   first_written m path front back w t = stretch_written m path front back w t.list t.front (t.front + 1) t.back
 
   pub last_written : (m : Map K V) (path front back : List ℕ) (w : V) (t : Stretch K V) → IsSoundMap m → IsPlaceIn m path → AreEndsIn m front back
       → entries m ≡ t.list → length (before_pair_in m path) + 1 ≡ t.back → length (before_gap_in m front) ≡ t.front → length (before_gap_in m back) + 1 ≡ t.back
-      → state (entries (written_in m path w)) (length (before_gap_in (written_in m path w) front)) (length (before_gap_in (written_in m path w) back)) ≡ wrote_last t w
-  last_written m path front back w t sound place ends list a f b = stretch_written m path front back w t.list (t.back - 1) t.front (t.back - 1) sound place ends list (omega arith) f (omega arith)
+      → state (entries (written_in m path w)) (length (before_gap_in (written_in m path w) front)) (length (before_gap_in (written_in m path w) back))
+      ≡ wrote_last t w
+  last_written m path front back w t sound place ends list a f b = stretch_written m path front back w t.list (t.back - 1) t.front (t.back - 1) sound place
+      ends list (omega arith) f (omega arith)
 
   -- the pair that a place has in a list
-  pub place_item : (m : Map K V) (path : List ℕ) (s : List (K × V)) (i : ℕ) → IsSoundMap m → IsPlaceIn m path → entries m ≡ s → length (before_pair_in m path) ≡ i → slice_get s i ≡ pair_in m path
+  pub place_item : (m : Map K V) (path : List ℕ) (s : List (K × V)) (i : ℕ) → IsSoundMap m → IsPlaceIn m path → entries m ≡ s
+      → length (before_pair_in m path) ≡ i → slice_get s i ≡ pair_in m path
   place_item m path s i sound place list a = ap (λ z. slice_get z i) (sym list) ∙ ap (λ j. slice_get (entries m) j) (sym a) ∙ pair_there m path sound place
 
-  pub place_value : (m : Map K V) (path : List ℕ) (s : List (K × V)) (i : ℕ) (v : V) → IsSoundMap m → IsPlaceIn m path → entries m ≡ s → length (before_pair_in m path) ≡ i → option_map (λ p. p.1) (pair_in m path) ≡ Some v → option_map (λ p. p.1) (slice_get s i) ≡ Some v
+  pub place_value : (m : Map K V) (path : List ℕ) (s : List (K × V)) (i : ℕ) (v : V) → IsSoundMap m → IsPlaceIn m path → entries m ≡ s
+      → length (before_pair_in m path) ≡ i → option_map (λ p. p.1) (pair_in m path) ≡ Some v → option_map (λ p. p.1) (slice_get s i) ≡ Some v
   place_value m path s i v sound place list a e = ap (option_map (λ p. p.1)) (place_item m path s i sound place list a) ∙ e

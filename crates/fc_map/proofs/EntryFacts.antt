@@ -44,7 +44,8 @@ module _ {K V : Type 0} (cmp : K → K → Ordering) (k : K) where
       let c = place_pairs path sound.0 root sound.2.1 held.place in
       ap (option_map (λ p. p.0)) c.is ∙ rw (held_pair cmp k (Some root) path sound held ∙ c.is) refl
 
-  pub open_put : (m : Map K V) (path : List ℕ) (v : V) → IsSoundMap m → IsOpenAt cmp k m path → before_gap_in m path ++ (k, v) ∷ after_gap_in m path ≡ put cmp (entries m) k v
+  pub open_put : (m : Map K V) (path : List ℕ) (v : V) → IsSoundMap m → IsOpenAt cmp k m path
+      → before_gap_in m path ++ (k, v) ∷ after_gap_in m path ≡ put cmp (entries m) k v
   open_put None path v sound gap = refl
   open_put (Some root) path v sound gap = sym (gap_put cmp k path sound.0 root v sound.2.1 gap)
 
@@ -66,16 +67,20 @@ module _ {K V : Type 0} where
       record {
         key_is = ap (option_map (λ p. p.0)) a.pair ∙ sym (ap (option_map (λ p. p.0)) c.is);
         value_is = ap (option_map (λ p. p.1)) a.pair;
-        again = λ w. written_pairs path sound.0 (written root path v) (c.pair.0, v) w l a.place a.pair ∙ rw (a.before, a.after) refl ∙ sym (written_pairs path sound.0 root c.pair w sound.2.1 place c.is);
+        again = λ w. written_pairs path sound.0 (written root path v) (c.pair.0, v) w l a.place a.pair ∙ rw (a.before, a.after) refl
+            ∙ sym (written_pairs path sound.0 root c.pair w sound.2.1 place c.is);
         sides = rw (a.before, a.after) refl;
       }
 
   -- The list of a map with another value in a pair that stands between known pairs.
-  pub put_written : (m : Map K V) (path : List ℕ) (k : K) (v w : V) (front back : List (K × V)) → IsSoundMap m → IsPutIn path m (k, v) front back → entries (written_in m path w) ≡ front ++ (k, w) ∷ back
+  pub put_written : (m : Map K V) (path : List ℕ) (k : K) (v w : V) (front back : List (K × V)) → IsSoundMap m → IsPutIn path m (k, v) front back
+      → entries (written_in m path w) ≡ front ++ (k, w) ∷ back
   put_written None path k v w front back sound put = absurd put
-  put_written (Some root) path k v w front back sound put = written_pairs path sound.0 root (k, v) w sound.2.1 put.place put.pair_is ∙ rw (put.before, put.after) refl
+  put_written (Some root) path k v w front back sound put = written_pairs path sound.0 root (k, v) w sound.2.1 put.place put.pair_is
+      ∙ rw (put.before, put.after) refl
 
-  pub put_place : (m : Map K V) (path : List ℕ) (p : K × V) (front back : List (K × V)) → IsPutIn path m p front back → IsPlaceIn m path × (pair_in m path ≡ Some p)
+  pub put_place : (m : Map K V) (path : List ℕ) (p : K × V) (front back : List (K × V)) → IsPutIn path m p front back
+      → IsPlaceIn m path × (pair_in m path ≡ Some p)
   put_place None path p front back put = absurd put
   put_place (Some root) path p front back put = (put.place, put.pair_is)
 

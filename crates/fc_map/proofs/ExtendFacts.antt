@@ -24,11 +24,13 @@ module _ {K V : Type 0} (cmp : K → K → Ordering) where
   more s (i ∷ items) e = more (put cmp s i.0 i.1) items e
 
   -- One more item is put into what those before it made.
-  pub extended_more : (s items old new : List (K × V)) (k : K) (v : V) → old ≡ extended cmp s items → new ≡ put cmp old k v → new ≡ extended cmp s (items ++ (k, v) ∷ [])
+  pub extended_more : (s items old new : List (K × V)) (k : K) (v : V) → old ≡ extended cmp s items → new ≡ put cmp old k v
+      → new ≡ extended cmp s (items ++ (k, v) ∷ [])
   extended_more s items old new k v e f = f ∙ ap (λ l. put cmp l k v) e ∙ more s items (k, v)
 
   -- An item with a new key was refused, and what stands after it was not looked at.
-  pub up_to : (s front new : List (K × V)) (item : K × V) (e : TryReserveError) → new ≡ extended cmp s front → at cmp new item.0 ≡ None → MayGrowRefuse (length new) e → (rest : List (K × V)) → IsExtendedUpTo cmp s ((front ++ item ∷ []) ++ rest) new e
+  pub up_to : (s front new : List (K × V)) (item : K × V) (e : TryReserveError) → new ≡ extended cmp s front → at cmp new item.0 ≡ None
+      → MayGrowRefuse (length new) e → (rest : List (K × V)) → IsExtendedUpTo cmp s ((front ++ item ∷ []) ++ rest) new e
   up_to s front new item e is absent error rest = record {
     front = front;
     item = item;
@@ -58,12 +60,14 @@ module _ {K V : Type 0} (cmp : K → K → Ordering) where
       )
 
   -- A key that is greater than the last one is greater than all.
-  pub behind : (s front : List (K × V)) (last : K × V) (k : K) → IsTotalOrder cmp → s ≡ front ++ last ∷ [] → IsAscending cmp s → cmp last.0 k ≡ Less → AllByRecursion (λ e. cmp e.0 k ≡ Less) s
+  pub behind : (s front : List (K × V)) (last : K × V) (k : K) → IsTotalOrder cmp → s ≡ front ++ last ∷ [] → IsAscending cmp s → cmp last.0 k ≡ Less
+      → AllByRecursion (λ e. cmp e.0 k ≡ Less) s
   behind s front last k total e a less = subst (AllByRecursion (λ e. cmp e.0 k ≡ Less)) (sym e) (go front (subst (IsAscending cmp) e a))
     where
       go : (front : List (K × V)) → IsAscending cmp (front ++ last ∷ []) → AllByRecursion (λ e. cmp e.0 k ≡ Less) (front ++ last ∷ [])
       go [] a = (less, tt)
       go (x ∷ front) a = (total.trans x.0 last.0 k (all_back (λ y. cmp x.0 y.0 ≡ Less) front (last ∷ []) a.0).0 less, go front a.1)
 
-  pub ascending_behind : (s new : List (K × V)) (k : K) (v : V) → IsTotalOrder cmp → new ≡ s ++ (k, v) ∷ [] → AllByRecursion (λ e. cmp e.0 k ≡ Less) s → IsAscending cmp s → IsAscending cmp new
+  pub ascending_behind : (s new : List (K × V)) (k : K) (v : V) → IsTotalOrder cmp → new ≡ s ++ (k, v) ∷ [] → AllByRecursion (λ e. cmp e.0 k ≡ Less) s
+      → IsAscending cmp s → IsAscending cmp new
   ascending_behind s new k v total e b a = subst (IsAscending cmp) ((put_behind s k v b).0 ∙ sym e) (ascending_put cmp s k v total a)

@@ -11,5 +11,6 @@ use Rattle.fc_map.specs.Entries.{IsSoundMap}
 
 module _ {K V : Type 0} (root : Node K V) (path : List ℕ) (sound : IsSoundMap (Some root)) where
   -- The pairs before the gap, the new pair and those after it are what `put` makes.
-  pub put_in : (cmp : K → K → Ordering) (k : K) (v : V) (s : List (K × V)) → IsGap cmp k root path → s ≡ before_gap path root ++ (k, v) ∷ after_gap path root → s ≡ put cmp (pairs_of root) k v
+  pub put_in : (cmp : K → K → Ordering) (k : K) (v : V) (s : List (K × V)) → IsGap cmp k root path → s ≡ before_gap path root ++ (k, v) ∷ after_gap path root
+      → s ≡ put cmp (pairs_of root) k v
   put_in cmp k v s gap e = let a = gap_at cmp k path sound.0 root sound.2.1 gap in e ∙ rw (a.lower, a.upper, a.here) refl

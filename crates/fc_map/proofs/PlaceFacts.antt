@@ -38,11 +38,13 @@ module _ {K Q V : Type 0} (cmp : K → Q → Ordering) (k : Q) where
       gap_pairs path sound.0 root sound.2.1 (gap.levels sound.0 sound.2.1) gap.way ∙ rw (a.lower, a.upper) refl
 
   -- What a search answers tells whether an equal key is there.
-  pub found_there : {A B : Type 0} (m : Map K V) (path : List ℕ) (r : Result A B) → IsSoundMap m → OnOk r (IsHeldAt cmp k m path) → OnOk r (IsSome (at cmp (entries m) k))
+  pub found_there : {A B : Type 0} (m : Map K V) (path : List ℕ) (r : Result A B) → IsSoundMap m → OnOk r (IsHeldAt cmp k m path)
+      → OnOk r (IsSome (at cmp (entries m) k))
   found_there m path (Ok x) sound held = held_some m path sound held
   found_there m path (Err x) sound held = tt
 
-  pub found_none : {A B : Type 0} (m : Map K V) (path : List ℕ) (r : Result A B) → IsSoundMap m → OnErr r (IsOpenAt cmp k m path) → OnErr r (at cmp (entries m) k ≡ None)
+  pub found_none : {A B : Type 0} (m : Map K V) (path : List ℕ) (r : Result A B) → IsSoundMap m → OnErr r (IsOpenAt cmp k m path)
+      → OnErr r (at cmp (entries m) k ≡ None)
   found_none m path (Ok x) sound gap = tt
   found_none m path (Err x) sound gap = open_none m path sound gap
 

@@ -1,5 +1,6 @@
 -- The gaps of a tree in which a value is written: they stay, each after as many pairs.
-use Rattle.std.proofs.Common.{◌≡◌, ℕ, zero, suc, ◌+◌, ◌<◌, ◌≤◌, List, [], ◌∷◌, ◌++◌, length, map, take, get_or, Some, None, refl, sym, ap, subst, ◌∙◌, arith, length-append, ◌⊎◌, inl, inr}
+use Rattle.std.proofs.Common.{◌≡◌, ℕ, zero, suc, ◌+◌, ◌<◌, ◌≤◌, List, [], ◌∷◌, ◌++◌, length, map, take, get_or, Some, None, refl, sym, ap, subst, ◌∙◌, arith}
+use Rattle.std.proofs.Common.{length-append, ◌⊎◌, inl, inr}
 use Rattle.std.specs.Prelude.{slice_set}
 use Rattle.fc_tree_node.specs.Weave.{before_list}
 use Rattle.fc_tree_node.specs.declared.node.Node.{Node}
@@ -59,7 +60,8 @@ same_or (suc i) (suc j) = next (same_or i j)
     next (inr f) = inr (λ e. f (omega arith))
 
 module _ {K V : Type 0} where
-  before_set : (cs : List (Node K V)) (i j : ℕ) (c d : Node K V) (ps : List (K × V)) → length (pairs_of c) ≡ length (pairs_of (get_or cs i d)) → length (before_list (map pairs_of (take j (slice_set cs i c))) ps) ≡ length (before_list (map pairs_of (take j cs)) ps)
+  before_set : (cs : List (Node K V)) (i j : ℕ) (c d : Node K V) (ps : List (K × V)) → length (pairs_of c) ≡ length (pairs_of (get_or cs i d))
+      → length (before_list (map pairs_of (take j (slice_set cs i c))) ps) ≡ length (before_list (map pairs_of (take j cs)) ps)
   before_set cs i zero c d ps e = refl
   before_set [] i (suc j) c d ps e = refl
   before_set (x ∷ cs) zero (suc j) c d [] e = refl
@@ -86,42 +88,57 @@ module _ {K V : Type 0} where
   kept_value (j ∷ gap) h n i w l e p =
       let m = with_value n i w in
       let own = ap length (value_own n i w) ∙ length_value (own_pairs n) i w in
-      let lead : length (before_child m j) ≡ length (before_child n j) = ap (λ cs. length (before_list (map pairs_of (take j cs)) (take j (own_pairs m)))) (value_children n i w) ∙ before_same (map pairs_of (take j (children_of n))) _ _ (taken j _ _ own) in
-      let r = rest gap h l e p.1 in
-      ((omega (arith, own, p.0), r.0), length-append (before_child m j) _ ∙ (let a = r.1 in let b = length-append (before_child n j) (before_gap gap (child_at n j)) in omega (arith, a, b, lead)))
+      let lead : length (before_child m j) ≡ length (before_child n j) = ap (λ cs. length (before_list (map pairs_of (take j cs)) (take j (own_pairs m))))
+      (value_children n i w) ∙ before_same (map pairs_of (take j (children_of n))) _ _ (taken j _ _ own) in
+      let r = rest gap h l e p.1 in (
+        (omega (arith, own, p.0), r.0),
+        length-append (before_child m j) _
+            ∙ (let a = r.1 in let b = length-append (before_child n j) (before_gap gap (child_at n j)) in omega (arith, a, b, lead)),
+      )
     where
-      rest : (gap : List ℕ) (h : ℕ) → IsLevelled h n → suc (length gap) ≡ h + 1 → IsPath gap (child_at n j) → IsPath gap (child_at (with_value n i w) j) × (length (before_gap gap (child_at (with_value n i w) j)) ≡ length (before_gap gap (child_at n j)))
+      rest : (gap : List ℕ) (h : ℕ) → IsLevelled h n → suc (length gap) ≡ h + 1 → IsPath gap (child_at n j)
+          → IsPath gap (child_at (with_value n i w) j) × (length (before_gap gap (child_at (with_value n i w) j)) ≡ length (before_gap gap (child_at n j)))
       rest [] h l e p = (tt, refl)
       rest (k ∷ gap) zero l e p = absurd (omega arith)
       rest (k ∷ gap) (suc h) l e q =
           let many : length (children_of n) ≡ length (own_pairs n) + 1 = l.1 in
           let le : j ≤ length (own_pairs n) = p.0 in
-          let same : child_at (with_value n i w) j ≡ child_at n j = ap (λ cs. get_or cs j (with_value n i w)) (value_children n i w) ∙ get_same (children_of n) j (with_value n i w) n (omega arith) in
+          let same : child_at (with_value n i w) j ≡ child_at n j = ap (λ cs. get_or cs j (with_value n i w)) (value_children n i w)
+          ∙ get_same (children_of n) j (with_value n i w) n (omega arith) in
           (subst (IsPath (k ∷ gap)) (sym same) q, ap (λ c. length (before_gap (k ∷ gap) c)) same)
 
-  kept_child : (gap : List ℕ) (h : ℕ) (n : Node K V) (i : ℕ) (c : Node K V) → IsLevelled (suc h) n → length gap ≡ h + 2 → IsPath gap n → i < length (children_of n) → length (pairs_of c) ≡ length (pairs_of (child_at n i))
+  kept_child : (gap : List ℕ) (h : ℕ) (n : Node K V) (i : ℕ) (c : Node K V) → IsLevelled (suc h) n → length gap ≡ h + 2 → IsPath gap n
+      → i < length (children_of n) → length (pairs_of c) ≡ length (pairs_of (child_at n i))
       → ((rest : List ℕ) → length rest ≡ h + 1 → IsPath rest (child_at n i) → IsKept rest c (child_at n i)) → IsKept gap (with_child n i c) n
   kept_child [] h n i c l e p k many inside = absurd (omega arith)
   kept_child (j ∷ gap) h n i c l e p k many inside =
       let m = with_child n i c in
       let own = ap length (child_own n i c) in
       let lead : length (before_child m j) ≡ length (before_child n j) =
-      ap (λ ps. length (before_list (map pairs_of (take j (children_of m))) (take j ps))) (child_own n i c) ∙ ap (λ cs. length (before_list (map pairs_of (take j cs)) (take j (own_pairs n)))) (child_children n i c) ∙ before_set (children_of n) i j c n (take j (own_pairs n)) many in
-      let r = below (same_or i j) in
-      ((omega (arith, own, p.0), r.0), length-append (before_child m j) _ ∙ (let a = r.1 in let b = length-append (before_child n j) (before_gap gap (child_at n j)) in omega (arith, a, b, lead)))
+      ap (λ ps. length (before_list (map pairs_of (take j (children_of m))) (take j ps))) (child_own n i c)
+      ∙ ap (λ cs. length (before_list (map pairs_of (take j cs)) (take j (own_pairs n)))) (child_children n i c)
+      ∙ before_set (children_of n) i j c n (take j (own_pairs n)) many in
+      let r = below (same_or i j) in (
+        (omega (arith, own, p.0), r.0),
+        length-append (before_child m j) _
+            ∙ (let a = r.1 in let b = length-append (before_child n j) (before_gap gap (child_at n j)) in omega (arith, a, b, lead)),
+      )
     where
       below : (i ≡ j) ⊎ (i ≡ j → ⊥) → IsKept gap (child_at (with_child n i c) j) (child_at n j)
       below (inl s) =
-          let same : child_at (with_child n i c) i ≡ c = ap (λ cs. get_or cs i (with_child n i c)) (child_children n i c) ∙ get_set (children_of n) i c (with_child n i c) k in
+          let same : child_at (with_child n i c) i ≡ c = ap (λ cs. get_or cs i (with_child n i c)) (child_children n i c)
+          ∙ get_set (children_of n) i c (with_child n i c) k in
           let x = inside gap (omega arith) (subst (λ j. IsPath gap (child_at n j)) (sym s) p.1) in
           subst (λ j. IsKept gap (child_at (with_child n i c) j) (child_at n j)) s (subst (λ d. IsKept gap d (child_at n i)) (sym same) x)
       below (inr other) =
           let many : length (children_of n) ≡ length (own_pairs n) + 1 = l.1 in
           let le : j ≤ length (own_pairs n) = p.0 in
-          let same : child_at (with_child n i c) j ≡ child_at n j = ap (λ cs. get_or cs j (with_child n i c)) (child_children n i c) ∙ get_other (children_of n) i j c (with_child n i c) n other (omega arith) in
+          let same : child_at (with_child n i c) j ≡ child_at n j = ap (λ cs. get_or cs j (with_child n i c)) (child_children n i c)
+          ∙ get_other (children_of n) i j c (with_child n i c) n other (omega arith) in
           (subst (IsPath gap) (sym same) p.1, ap (λ d. length (before_gap gap d)) same)
 
-  kept : (path : List ℕ) (gap : List ℕ) (h : ℕ) (n : Node K V) (w : V) → IsLevelled h n → IsPlace path n → length gap ≡ h + 1 → IsPath gap n → IsKept gap (written n path w) n
+  kept : (path : List ℕ) (gap : List ℕ) (h : ℕ) (n : Node K V) (w : V) → IsLevelled h n → IsPlace path n → length gap ≡ h + 1 → IsPath gap n
+      → IsKept gap (written n path w) n
   unfolding written
   kept [] gap h n w l q e p = absurd q
   kept (i ∷ []) gap h n w l q e p = kept_value gap h n i w l e p
@@ -130,7 +147,8 @@ module _ {K V : Type 0} where
       let many : length (children_of n) ≡ length (own_pairs n) + 1 = l.1 in
       let k = q.0 in
       let b = (child_below h n i l (omega arith)).1 in
-      kept_child gap h n i (written (child_at n i) (j ∷ path) w) l (omega arith) p k (written_many (j ∷ path) h (child_at n i) w b q.1) (λ rest long way. kept (j ∷ path) rest h (child_at n i) w b q.1 long way)
+      kept_child gap h n i (written (child_at n i) (j ∷ path) w) l (omega arith) p k (written_many (j ∷ path) h (child_at n i) w b q.1)
+      (λ rest long way. kept (j ∷ path) rest h (child_at n i) w b q.1 long way)
 
   -- a gap of a map stays where a value is written
   pub record IsStill (m new : Map K V) (gap : List ℕ) : Type 0 where
@@ -152,8 +170,10 @@ module _ {K V : Type 0} where
   set_at [] back p w = refl
   set_at (x ∷ front) back p w = ap (λ s. x ∷ s) (set_at front back p w)
 
-  pub entries_written : (m : Map K V) (path : List ℕ) (w : V) → IsSoundMap m → IsPlaceIn m path → entries (written_in m path w) ≡ set_value (entries m) (length (before_pair_in m path)) w
+  pub entries_written : (m : Map K V) (path : List ℕ) (w : V) → IsSoundMap m → IsPlaceIn m path
+      → entries (written_in m path w) ≡ set_value (entries m) (length (before_pair_in m path)) w
   entries_written None path w sound place = absurd place
   entries_written (Some root) path w sound place =
       let c = place_pairs path sound.0 root sound.2.1 place in
-      written_pairs path sound.0 root c.pair w sound.2.1 place c.is ∙ set_at (before_pair path root) (after_pair path root) c.pair w ∙ ap (λ s. set_value s (length (before_pair path root)) w) (sym c.parts)
+      written_pairs path sound.0 root c.pair w sound.2.1 place c.is ∙ set_at (before_pair path root) (after_pair path root) c.pair w
+      ∙ ap (λ s. set_value s (length (before_pair path root)) w) (sym c.parts)

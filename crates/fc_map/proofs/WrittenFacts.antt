@@ -16,11 +16,14 @@ module _ {K V : Type 0} (root : Node K V) (path : List ℕ) (w : V) (place : IsP
   written_length =
       let cut = place_pairs path sound.0 root sound.2.1 place in
       let old = ap length cut.parts ∙ length-append (before_pair path root) (cut.pair ∷ after_pair path root) in
-      let new = ap length (written_pairs path sound.0 root cut.pair w sound.2.1 place cut.is) ∙ length-append (before_pair path root) ((cut.pair.0, w) ∷ after_pair path root) in
+      let new = ap length (written_pairs path sound.0 root cut.pair w sound.2.1 place cut.is)
+      ∙ length-append (before_pair path root) ((cut.pair.0, w) ∷ after_pair path root) in
       omega (arith, old, new)
 
   -- The map's invariant holds whatever was written.
-  pub written_kept : (cmp : K → K → Ordering) → IsAscending cmp (pairs_of root) → IsAscending cmp (pairs_of (written root path w)) × IsSoundMap (Some (written root path w)) × (length (pairs_of root) ≡ length (pairs_of (written root path w)))
+  pub written_kept : (cmp : K → K → Ordering) → IsAscending cmp (pairs_of root)
+      → IsAscending cmp (pairs_of (written root path w)) × IsSoundMap (Some (written root path w))
+      × (length (pairs_of root) ≡ length (pairs_of (written root path w)))
   written_kept cmp ascending =
       let l = written_levels path sound.0 root w sound.2.1 place in
       let same = l.1 in

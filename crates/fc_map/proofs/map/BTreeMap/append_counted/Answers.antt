@@ -8,7 +8,8 @@ pub invariant_of-self-2 : goal.invariant_of-self-2
 invariant_of-self-2 g c =
     let ours = entries c.self.inside.root in
     let theirs = entries c.other.inside.root in
-    let a = subst (IsAscending g.K.Ord.cmp) (sym c.in_ok-self-inside.ensures.joined) (ascending_joined g.K.Ord.cmp ours theirs g.met.K.Ord.total c.self.invariant.0) in
+    let a = subst (IsAscending g.K.Ord.cmp) (sym c.in_ok-self-inside.ensures.joined)
+    (ascending_joined g.K.Ord.cmp ours theirs g.met.K.Ord.total c.self.invariant.0) in
     (a, c.try_append.ensures.sound.0, c.in_ok-self-inside.ensures.len)
 
 pub returns-clause-ascending : goal.returns-clause-ascending

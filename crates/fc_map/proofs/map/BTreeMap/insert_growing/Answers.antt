@@ -24,7 +24,8 @@ invariant_of-self-2 g c =
 pub returns-clause-put : goal.returns-clause-put
 returns-clause-put g c =
     let gap = rw c.in-Some.is at (rw (← c.self.view_is) at c.requires.gap) in
-    rw (← c.self.view_is) (rw c.in-Some.is (put_in c.in-Some.root c.args.path.now (rw c.in-Some.is at c.self.invariant.1) g.K.Ord.cmp c.args.key c.args.value _ gap c.in_ok-try_insert.ensures.pairs))
+    rw (← c.self.view_is) (rw c.in-Some.is (put_in c.in-Some.root c.args.path.now (rw c.in-Some.is at c.self.invariant.1) g.K.Ord.cmp c.args.key c.args.value _
+    gap c.in_ok-try_insert.ensures.pairs))
 
 pub returns-clause-ascending : goal.returns-clause-ascending
 returns-clause-ascending g c = (invariant_of-self-2 g c).0

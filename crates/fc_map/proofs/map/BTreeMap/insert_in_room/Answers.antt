@@ -24,14 +24,18 @@ invariant_of-self g c =
     let size : length (own_pairs root) ≤ length (own_pairs new) = c.insert_in_leaf.ensures.size in
     let same : length c.as_slice.result.now - 1 ≡ sound.0 = rw c.as_slice.ensures.value (omega (arith, steps)) in
     let levels = subst (λ h. IsLevelled h new) same c.insert_in_leaf.ensures.levels in
-    let put = put_in root path sound cmp c.args.pair.0 c.args.pair.1 _ gap parts in
-    (rw put (ascending_put cmp _ c.args.pair.0 c.args.pair.1 g.met.K.Ord.total ascending), (sound.0, sound.1, (omega (arith, size, sound.2.0), levels)), omega (arith, longer, len))
+    let put = put_in root path sound cmp c.args.pair.0 c.args.pair.1 _ gap parts in (
+      rw put (ascending_put cmp _ c.args.pair.0 c.args.pair.1 g.met.K.Ord.total ascending),
+      (sound.0, sound.1, (omega (arith, size, sound.2.0), levels)),
+      omega (arith, longer, len),
+    )
 
 pub returns-clause-put : goal.returns-clause-put
 returns-clause-put g c =
     let gap = rw c.in-Some.is at (rw (← c.self.view_is) at c.requires.gap) in
     let parts = rw c.as_slice.ensures.value at c.insert_in_leaf.ensures.pairs in
-    rw (← c.self.view_is) (rw c.in-Some.is (put_in c.in-Some.root c.args.path.now (rw c.in-Some.is at c.self.invariant.1) g.K.Ord.cmp c.args.pair.0 c.args.pair.1 _ gap parts))
+    rw (← c.self.view_is) (rw c.in-Some.is (put_in c.in-Some.root c.args.path.now (rw c.in-Some.is at c.self.invariant.1) g.K.Ord.cmp c.args.pair.0
+    c.args.pair.1 _ gap parts))
 
 pub returns-clause-ascending : goal.returns-clause-ascending
 returns-clause-ascending g c = (invariant_of-self g c).0

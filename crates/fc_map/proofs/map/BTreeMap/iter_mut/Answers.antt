@@ -17,4 +17,12 @@ invariant_of-result g c =
     let len : c.self.inside.len ≡ length (entries m) = rw c.self.view_is at c.self.invariant.2 in
     let f : length (before_gap_in m (gone_on front 0)) ≡ 0 = ap (λ p. length (before_gap_in m p)) (on_none front) ∙ e.front in
     let most = full.most in
-    record { ends = subst (λ p. AreEndsIn m p back) (sym (on_none front)) e.ends; run_is = gap_less m front _ _ c.run_after.ensures.run full.count; front_counted = omega (arith, f); back_counted = omega (arith, e.back, len); within = omega (arith, most) }
+    record {
+      ends = subst (λ p. AreEndsIn m p back) (sym (on_none front)) e.ends;
+      run_is =
+          gap_less m front _ _ c.run_after.ensures.run full.count;
+      front_counted = omega (arith, f);
+      back_counted = omega (arith, e.back, len);
+      within =
+          omega (arith, most);
+    }

@@ -7,7 +7,8 @@ use Rattle.fc_map.proofs.map.BTreeMap.leave_to_next.Goals as goal
 pub go_on-requires : goal.go_on-requires
 go_on-requires g c = record {
   small = λ some.
-      let fit = steps_fit c.args.self.now c.args.path.now c.args.gone.now (length c.args.path.now - 1) (rw c.self.view_is at c.self.invariant.1) c.requires.gap (omega arith) in
+      let fit = steps_fit c.args.self.now c.args.path.now c.args.gone.now (length c.args.path.now - 1) (rw c.self.view_is at c.self.invariant.1) c.requires.gap
+      (omega arith) in
       omega (arith, fit);
 }
 
@@ -36,6 +37,7 @@ returns g c =
     let next = c.pass_next-last.new.gap in
     let last = c.pass_next-last.result.0 in
     let place = c.pass_next-last.result.1 in
-    let out = step_out m n q next last place c.pass_next-last.result.2 is sound slot (record { way_is = e.way; own = e.own; place_is = e.place; before = e.before; next_is = e.gap; run_is = e.run }) in
+    let out = step_out m n q next last place c.pass_next-last.result.2 is sound slot
+    (record { way_is = e.way; own = e.own; place_is = e.place; before = e.before; next_is = e.gap; run_is = e.run }) in
     let r = subst (λ p. IsStepOn m p next 0 last place) c.go_on.ensures out.0 in
     record { way = r.way_is; small = r.small; place = r.place_is; before = r.before; gone = refl; gap = r.gap; full = out.1; step = r.count; sound = sound }

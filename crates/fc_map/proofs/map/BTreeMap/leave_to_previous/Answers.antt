@@ -10,7 +10,14 @@ overflow_sub-gap g c =
     let p = c.as_slice-gap.result.now in
     let is = sym c.self.view_is ∙ c.in-Some.is in
     let e = c.steps_to_previous-last.ensures in
-    let last : IsLast p c.in-Some.root c.steps_to_previous-last.result = record { within = e.within; none = e.none; place = e.place; before = e.before; step = e.step } in
+    let last : IsLast p c.in-Some.root c.steps_to_previous-last.result = record {
+      within = e.within;
+      none = e.none;
+      place = e.place;
+      before = e.before;
+      step =
+          e.step;
+    } in
     let some = some_last m _ p c.steps_to_previous-last.result is last (rw c.as_slice-gap.ensures.value c.requires.some) in
     let k = e.step (c.steps_to_previous-last.result - 1) (omega (arith, some)) in
     omega (arith, k)
@@ -21,10 +28,18 @@ push_gap_before-requires-clause-place g c =
     let p = c.as_slice-gap.result.now in
     let is = sym c.self.view_is ∙ c.in-Some.is in
     let e = c.steps_to_previous-last.ensures in
-    let last : IsLast p c.in-Some.root c.steps_to_previous-last.result = record { within = e.within; none = e.none; place = e.place; before = e.before; step = e.step } in
+    let last : IsLast p c.in-Some.root c.steps_to_previous-last.result = record {
+      within = e.within;
+      none = e.none;
+      place = e.place;
+      before = e.before;
+      step =
+          e.step;
+    } in
     let some = some_last m _ p c.steps_to_previous-last.result is last (rw c.as_slice-gap.ensures.value c.requires.some) in
     let i = c.steps_to_previous-last.result - 1 in
-    let place : c.as_slice.result.now ≡ take i p ++ (get_or p i 0 - 1) ∷ [] = c.as_slice.ensures.value ∙ c.push.ensures ∙ ap (λ q. q ++ (get_or p i 0 - 1) ∷ []) c.of-place.ensures in
+    let place : c.as_slice.result.now ≡ take i p ++ (get_or p i 0 - 1) ∷ [] = c.as_slice.ensures.value ∙ c.push.ensures
+    ∙ ap (λ q. q ++ (get_or p i 0 - 1) ∷ []) c.of-place.ensures in
     (place_back c.in-Some.root p c.as_slice.result.now i c.steps_to_previous-last.result last (omega (arith, some)) place).0
 
 pub returns : goal.returns
@@ -39,6 +54,7 @@ returns g c =
     let some = some_last m _ p c.steps_to_previous-last.result is last (rw same c.requires.some) in
     let i = c.steps_to_previous-last.result - 1 in
     let place : c.push.new.self ≡ take i p ++ (get_or p i 0 - 1) ∷ [] = c.push.ensures ∙ ap (λ q. q ++ (get_or p i 0 - 1) ∷ []) c.of-place.ensures in
-    let on = subst (λ q. GoesOn q c.push_gap_before.new.gap n (length (before_pair c.push.new.self n))) c.new-next.ensures (rw c.as_slice.ensures.value at c.push_gap_before.ensures) in
+    let on = subst (λ q. GoesOn q c.push_gap_before.new.gap n (length (before_pair c.push.new.self n))) c.new-next.ensures
+    (rw c.as_slice.ensures.value at c.push_gap_before.ensures) in
     let r = stepped_before m n p c.push.new.self c.push_gap_before.new.gap i c.steps_to_previous-last.result is last (omega (arith, some)) place on in
     record { place = r.place; before = rw (← same) r.before; gap = r.slot; step = rw (← same) r.count; sound = rw c.self.view_is at c.self.invariant.1 }

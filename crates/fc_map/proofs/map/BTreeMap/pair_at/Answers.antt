@@ -5,4 +5,5 @@ use Rattle.fc_map.proofs.map.BTreeMap.pair_at.Goals as goal
 pub returns-in-Some-clause-bounded : goal.returns-in-Some-clause-bounded
 returns-in-Some-clause-bounded g c =
     let is : c.args.self.now ≡ Some c.in-Some.root = sym c.self.view_is ∙ c.in-Some.is in
-    looked_up g.Q.Query.order (g.Q.Query.sought c.args.key) c.args.self.now c.in-Some.root _ _ is (rw c.self.view_is at c.self.invariant.1) c.get.ensures.comparisons c.get.ensures.moves
+    looked_up g.Q.Query.order (g.Q.Query.sought c.args.key) c.args.self.now c.in-Some.root _ _ is (rw c.self.view_is at c.self.invariant.1)
+    c.get.ensures.comparisons c.get.ensures.moves

@@ -7,7 +7,9 @@ pub take_at-requires : goal.take_at-requires
 take_at-requires g c = held_place g.Q.Query.order (g.Q.Query.sought c.args.key) c.args.self.now c.args.path.now c.requires.held
 
 pub returns-clause-pair : goal.returns-clause-pair
-returns-clause-pair g c = held_pair g.Q.Query.order (g.Q.Query.sought c.args.key) c.args.self.now c.args.path.now c.requires.sound c.requires.held ∙ c.take_at.ensures.pair
+returns-clause-pair g c = held_pair g.Q.Query.order (g.Q.Query.sought c.args.key) c.args.self.now c.args.path.now c.requires.sound c.requires.held
+    ∙ c.take_at.ensures.pair
 
 pub returns-clause-rest : goal.returns-clause-rest
-returns-clause-rest g c = c.take_at.ensures.rest ∙ held_cut g.Q.Query.order (g.Q.Query.sought c.args.key) c.args.self.now c.args.path.now c.requires.sound c.requires.held
+returns-clause-rest g c = c.take_at.ensures.rest ∙ held_cut g.Q.Query.order (g.Q.Query.sought c.args.key) c.args.self.now c.args.path.now c.requires.sound
+    c.requires.held

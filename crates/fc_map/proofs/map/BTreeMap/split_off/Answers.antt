@@ -9,7 +9,8 @@ returns-clause-below g c =
     let z = c.if-self-eq0.false in
     let v = ap (λ m. length (entries m)) c.self.view_is in
     let some : 0 < length (entries c.args.self.now) = omega arith in
-    (split_halves g.Q.Query.order (g.Q.Query.sought c.args.key) c.args.self.now c.split_at.new.self c.locate-found.new.path c.locate-found.result c.split_at.result c.locate-found.ensures.sound some c.locate-found.ensures.found c.locate-found.ensures.gap c.split_at.ensures.cut).0
+    (split_halves g.Q.Query.order (g.Q.Query.sought c.args.key) c.args.self.now c.split_at.new.self c.locate-found.new.path c.locate-found.result
+    c.split_at.result c.locate-found.ensures.sound some c.locate-found.ensures.found c.locate-found.ensures.gap c.split_at.ensures.cut).0
 
 pub returns-clause-from : goal.returns-clause-from
 returns-clause-from g c =
@@ -17,4 +18,5 @@ returns-clause-from g c =
     let z = c.if-self-eq0.false in
     let v = ap (λ m. length (entries m)) c.self.view_is in
     let some : 0 < length (entries c.args.self.now) = omega arith in
-    (split_halves g.Q.Query.order (g.Q.Query.sought c.args.key) c.args.self.now c.split_at.new.self c.locate-found.new.path c.locate-found.result c.split_at.result c.locate-found.ensures.sound some c.locate-found.ensures.found c.locate-found.ensures.gap c.split_at.ensures.cut).1
+    (split_halves g.Q.Query.order (g.Q.Query.sought c.args.key) c.args.self.now c.split_at.new.self c.locate-found.new.path c.locate-found.result
+    c.split_at.result c.locate-found.ensures.sound some c.locate-found.ensures.found c.locate-found.ensures.gap c.split_at.ensures.cut).1

@@ -13,4 +13,14 @@ returns-then-gone-full g c =
     let path = c.args.path.now in
     let e = c.step_in_leaf.ensures in
     let gap = gap_less m path c.args.full.now (c.args.gone.now + 1) c.requires.full (omega arith) in
-    record { way = e.way; small = e.small; place = e.place; before = e.before; gap = subst (λ k. IsGapIn m (gone_on path k)) (sym e.gone) gap; full = c.requires.full; step = e.step; sound = e.sound }
+    record {
+      way = e.way;
+      small = e.small;
+      place = e.place;
+      before = e.before;
+      gap = subst (λ k. IsGapIn m (gone_on path k)) (sym e.gone) gap;
+      full =
+          c.requires.full;
+      step = e.step;
+      sound = e.sound;
+    }

@@ -6,13 +6,23 @@ use Rattle.fc_map.proofs.ExtendFacts.{extended_more, up_to}
 use Rattle.fc_map.proofs.map.BTreeMap.try_extend.Goals as goal
 
 pub loop-key-preserved : goal.loop-key-preserved
-loop-key-preserved g c =
-    (search rules, search rules, extended_more g.K.Ord.cmp (entries c.args.self.now) c.loop-key.yielded c.loop-key.extension c.try_put.new.self c.in-Some.key c.in-Some.value c.loop-key.invariant.2 c.in-Ok.ensures.put)
+loop-key-preserved g c = (
+  search rules,
+  search rules,
+  extended_more g.K.Ord.cmp (entries c.args.self.now) c.loop-key.yielded c.loop-key.extension c.try_put.new.self c.in-Some.key
+      c.in-Some.value c.loop-key.invariant.2 c.in-Ok.ensures.put,
+)
 
 pub returns-in-Err-clause-error : goal.returns-in-Err-clause-error
 returns-in-Err-clause-error g c =
     let refusal = c.in-Err.ensures in
     let item : g.row.K.Denot × g.row.V.Denot = (c.in-Some.key, c.in-Some.value) in
-    let taken = yields_more g.I.IntoIter.Iterator.next_gives c.into_iter-key-iterator.result c.loop-key.key-iterator c.next.new.self c.loop-key.yielded item c.loop-key.yielded_by c.in-Some.ensures.steps in
-    let upto = up_to g.K.Ord.cmp (entries c.args.self.now) c.loop-key.yielded c.loop-key.extension item c.in-Err.error c.loop-key.invariant.2 refusal.new_key refusal.error in
-    (c.loop-key.yielded ++ item ∷ [], (c.into_iter-key-iterator.result, c.into_iter-key-iterator.ensures.into_iter_gives, c.next.new.self, taken), λ rest. subst (λ s. IsExtendedUpTo g.K.Ord.cmp (entries c.args.self.now) ((c.loop-key.yielded ++ item ∷ []) ++ rest) s c.in-Err.error) (sym (c.finish.ensures.pairs ∙ refusal.unchanged)) (upto rest))
+    let taken = yields_more g.I.IntoIter.Iterator.next_gives c.into_iter-key-iterator.result c.loop-key.key-iterator c.next.new.self c.loop-key.yielded item
+    c.loop-key.yielded_by c.in-Some.ensures.steps in
+    let upto = up_to g.K.Ord.cmp (entries c.args.self.now) c.loop-key.yielded c.loop-key.extension item c.in-Err.error c.loop-key.invariant.2 refusal.new_key
+    refusal.error in (
+      c.loop-key.yielded ++ item ∷ [],
+      (c.into_iter-key-iterator.result, c.into_iter-key-iterator.ensures.into_iter_gives, c.next.new.self, taken),
+      λ rest. subst (λ s. IsExtendedUpTo g.K.Ord.cmp (entries c.args.self.now) ((c.loop-key.yielded ++ item ∷ []) ++ rest) s c.in-Err.error)
+          (sym (c.finish.ensures.pairs ∙ refusal.unchanged)) (upto rest),
+    )

@@ -6,12 +6,14 @@ use Rattle.fc_map.proofs.map.BTreeMap.visit.Goals as goal
 pub go_on-requires : goal.go_on-requires
 go_on-requires g c = record {
   small = λ some.
-      let fit = steps_fit c.args.self.now c.args.front.now c.args.gone (length c.args.front.now - 1) (rw c.self.view_is at c.self.invariant.1) c.requires.ends.0 (omega arith) in
+      let fit = steps_fit c.args.self.now c.args.front.now c.args.gone (length c.args.front.now - 1) (rw c.self.view_is at c.self.invariant.1)
+      c.requires.ends.0 (omega arith) in
       omega (arith, fit);
 }
 
 pub visit_tree-requires-clause-ends : goal.visit_tree-requires-clause-ends
-visit_tree-requires-clause-ends g c = subst (λ p. AreEndsIn c.self.inside.root p c.args.back.now) (sym c.go_on.ensures) (rw (← c.self.view_is) at c.requires.ends)
+visit_tree-requires-clause-ends g c = subst (λ p. AreEndsIn c.self.inside.root p c.args.back.now) (sym c.go_on.ensures)
+    (rw (← c.self.view_is) at c.requires.ends)
 
 pub invariant_of-self : goal.invariant_of-self
 invariant_of-self g c =

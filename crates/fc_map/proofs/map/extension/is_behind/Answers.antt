@@ -5,4 +5,5 @@ use Rattle.fc_map.proofs.map.extension.is_behind.Goals as goal
 
 pub returns-in-Some : goal.returns-in-Some
 returns-in-Some g c h =
-    behind g.K.Ord.cmp c.args.tree.now c.in-Some.ensures.0 c.in-Some.last.now c.args.key.now g.met.K.Ord.total c.in-Some.ensures.1 c.requires.ascending (sym c.cmp.ensures ∙ less_if _ _ c.is_lt.ensures h)
+    behind g.K.Ord.cmp c.args.tree.now c.in-Some.ensures.0 c.in-Some.last.now c.args.key.now g.met.K.Ord.total c.in-Some.ensures.1 c.requires.ascending
+    (sym c.cmp.ensures ∙ less_if _ _ c.is_lt.ensures h)

@@ -7,7 +7,8 @@ use Rattle.fc_map.proofs.map.for_sets.take.Goals as goal
 pub returns-in-Ok-clause-bounded : goal.returns-in-Ok-clause-bounded
 returns-in-Ok-clause-bounded g c =
     let shorter = c.remove_at.ensures.length in
-    moved_after (length (entries c.args.map.now)) (length (entries c.args.map.now)) c.args.count.now c.locate.new.count c.remove_at.new.count c.locate.ensures.bounded c.locate.ensures.moves c.remove_at.ensures.comparisons c.remove_at.ensures.moves (omega arith) (omega arith)
+    moved_after (length (entries c.args.map.now)) (length (entries c.args.map.now)) c.args.count.now c.locate.new.count c.remove_at.new.count
+    c.locate.ensures.bounded c.locate.ensures.moves c.remove_at.ensures.comparisons c.remove_at.ensures.moves (omega arith) (omega arith)
 
 pub returns-in-Err-clause-rest : goal.returns-in-Err-clause-rest
 returns-in-Err-clause-rest g c = open_cut g.Q.Query.order (g.Q.Query.sought c.args.key) c.args.map.now _ c.locate.ensures.sound c.in-Err.ensures.gap

@@ -29,8 +29,11 @@ invariant_of-result g c =
     let sound : IsSoundMap (Some source) = rw c.in-Some.is at c.self.invariant.1 in
     let len : c.self.inside.len ≡ length (pairs_of source) = c.self.invariant.2 ∙ ap (λ r. length (entries r)) c.in-Some.is in
     let equal = λ (a : g.row.K.Denot) (b : g.row.K.Denot) (s : g.K.TryClone.same a b).
-    equal_answer (g.K.Ord.cmp a b) (sym (g.met.K.Ord.matches_eq a b) ∙ c.requires.2 a b s) in
-    (ascending_copied g.K.Ord.cmp g.met.K.Ord.total g.K.TryClone.same g.V.TryClone.same equal (pairs_of source) (pairs_of copy) copied.pairs ascending, sound_copied same source copy copied sound, len ∙ length_all_zip same (pairs_of source) (pairs_of copy) copied.pairs)
+    equal_answer (g.K.Ord.cmp a b) (sym (g.met.K.Ord.matches_eq a b) ∙ c.requires.2 a b s) in (
+      ascending_copied g.K.Ord.cmp g.met.K.Ord.total g.K.TryClone.same g.V.TryClone.same equal (pairs_of source) (pairs_of copy) copied.pairs ascending,
+      sound_copied same source copy copied sound,
+      len ∙ length_all_zip same (pairs_of source) (pairs_of copy) copied.pairs,
+    )
 
 pub returns-clause-ascending : goal.returns-clause-ascending
 returns-clause-ascending g c =

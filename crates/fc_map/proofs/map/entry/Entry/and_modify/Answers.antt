@@ -37,4 +37,5 @@ pub returns-in-Occupied-clause-map : goal.returns-in-Occupied-clause-map
 returns-in-Occupied-clause-map g c =
     let o = c.in-Occupied.entry in
     let u = c.modify.new.arg2 in
-    subst (λ x. IfSome x (λ w. entries (map_written o u) ≡ list_with c.args.self w)) (sym (rewritten o.map.now o.path u c.get_mut.ensures.sound o.place).value_is) (sym (ap (λ e. list_with e u) c.in-Occupied.is))
+    subst (λ x. IfSome x (λ w. entries (map_written o u) ≡ list_with c.args.self w))
+    (sym (rewritten o.map.now o.path u c.get_mut.ensures.sound o.place).value_is) (sym (ap (λ e. list_with e u) c.in-Occupied.is))

@@ -30,7 +30,8 @@ returns-in-Vacant g c =
         writes_back = tt;
         value = if_ok t.result (λ v s. subst (Made e.key) (sym s) made) t.ensures.value;
         absent = on_err t.result refl;
-        back = if_err t.result (λ b s. (s.0, (let k : e.key ≡ b.0 = let s = s.0 in cc in subst (λ k. Made k b.1) k (subst (Made e.key) (sym s.1) made)))) t.ensures.back;
+        back = if_err t.result (λ b s. (s.0, (let k : e.key ≡ b.0 = let s = s.0 in cc in subst (λ k. Made k b.1) k (subst (Made e.key) (sym s.1) made))))
+            t.ensures.back;
         error = t.ensures.error;
         full = λ _. t.ensures.full;
       },

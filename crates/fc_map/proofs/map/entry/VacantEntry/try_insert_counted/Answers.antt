@@ -25,7 +25,8 @@ returns-in-Ok g c =
         comparisons = c.in-Ok.ensures.comparisons;
         no_move = tt;
         moved = c.in-Ok.ensures.moved;
-        bounded = only_moved _ c.args.count.now c.insert_at.new.count (omega arith) c.in-Ok.ensures.comparisons (rw c.in-Ok.ensures.length at c.in-Ok.ensures.moves);
+        bounded = only_moved _ c.args.count.now c.insert_at.new.count (omega arith) c.in-Ok.ensures.comparisons
+            (rw c.in-Ok.ensures.length at c.in-Ok.ensures.moves);
       },
     )
 
@@ -41,6 +42,9 @@ returns-in-Err g c = (
     comparisons = c.in-Err.ensures.comparisons;
     no_move = c.in-Err.ensures.no_move;
     moved = tt;
-    bounded = (λ _. (c.in-Err.ensures.comparisons, c.in-Err.ensures.no_move), λ _. (0, omega arith, rw c.in-Err.ensures.comparisons (omega arith), rw c.in-Err.ensures.no_move (omega arith)));
+    bounded = (
+      λ _. (c.in-Err.ensures.comparisons, c.in-Err.ensures.no_move),
+      λ _. (0, omega arith, rw c.in-Err.ensures.comparisons (omega arith), rw c.in-Err.ensures.no_move (omega arith)),
+    );
   },
 )

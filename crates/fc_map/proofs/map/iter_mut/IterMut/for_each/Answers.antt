@@ -11,4 +11,11 @@ invariant_of-self g c =
     let f = front.1 in
     let b = back.1 in
     let o = ends.2 in
-    record { ends = (front.0, back.0, omega arith); run_is = run.0; front_counted = (let k = c.args.self.front_counted in omega arith); back_counted = (let k = c.args.self.back_counted in omega arith); within = c.args.self.within }
+    record {
+      ends = (front.0, back.0, omega arith);
+      run_is = run.0;
+      front_counted = (let k = c.args.self.front_counted in omega arith);
+      back_counted =
+          (let k = c.args.self.back_counted in omega arith);
+      within = c.args.self.within;
+    }

@@ -17,8 +17,16 @@ invariant_of-self-lent g c = λ w.
     let is = sym c.as_slice.ensures.value in
     let there = subst (λ p. IsPlaceIn m (branch p c.in-Some.way c.in-Some.place)) is s.1 in
     let gap = gone_on n.front n.gone in
-    let sound = c.value_at.ensures.sound in
-    (ends_stay m path gap n.back w sound there n.ends, ((gap_stays m path (gone_on n.front n.full) w sound there n.run_is).slot, (counted_stays m path gap (n.base + n.gone) w sound there n.ends.0 n.front_counted, (counted_stays m path n.back n.end w sound there n.ends.1 n.back_counted, (n.within, tt)))))
+    let sound = c.value_at.ensures.sound in (
+      ends_stay m path gap n.back w sound there n.ends,
+      (
+        (gap_stays m path (gone_on n.front n.full) w sound there n.run_is).slot,
+        (
+          counted_stays m path gap (n.base + n.gone) w sound there n.ends.0 n.front_counted,
+          (counted_stays m path n.back n.end w sound there n.ends.1 n.back_counted, (n.within, tt)),
+        ),
+      ),
+    )
 
 pub returns-in-Some : goal.returns-in-Some
 returns-in-Some g c =
@@ -33,6 +41,21 @@ returns-in-Some g c =
     let sound = c.value_at.ensures.sound in
     let before = ap (λ p. length (before_pair_in m (branch p c.in-Some.way c.in-Some.place))) c.as_slice.ensures.value ∙ s.2 in
     let list = ap (λ m. entries m.now) e.same_map in (
-      (refl, (λ w. (ap (λ m. m.ghost_name) e.same_map, first_written m path (gone_on n.front n.gone) n.back w (iter_stretch old) sound there n.ends list before s.4 s.5)), tt),
-      record { writes_back = tt; value = (s.3, place_value m path (entries old.map.now) _ c.value_at.result.now sound there list before c.value_at.ensures.value) },
+      (
+        refl,
+        (λ w. (
+          ap (λ m. m.ghost_name) e.same_map,
+          first_written m path (gone_on n.front n.gone) n.back w (iter_stretch old) sound there n.ends list before
+              s.4 s.5,
+        )),
+        tt,
+      ),
+      record {
+        writes_back = tt;
+        value = (
+          s.3,
+          place_value m path (entries old.map.now) _ c.value_at.result.now sound there list before
+              c.value_at.ensures.value,
+        );
+      },
     )

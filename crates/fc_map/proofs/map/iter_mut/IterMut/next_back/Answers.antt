@@ -12,8 +12,16 @@ invariant_of-self-lent g c = λ w.
     let m = n.map.now in
     let place = c.in-Some.place in
     let sound = c.value_mut.ensures.sound in
-    let there = c.in-Some.ensures.step.0 in
-    (ends_stay m place (gone_on n.front n.gone) n.back w sound there n.ends, ((gap_stays m place (gone_on n.front n.full) w sound there n.run_is).slot, (counted_stays m place (gone_on n.front n.gone) (n.base + n.gone) w sound there n.ends.0 n.front_counted, (counted_stays m place n.back n.end w sound there n.ends.1 n.back_counted, (n.within, tt)))))
+    let there = c.in-Some.ensures.step.0 in (
+      ends_stay m place (gone_on n.front n.gone) n.back w sound there n.ends,
+      (
+        (gap_stays m place (gone_on n.front n.full) w sound there n.run_is).slot,
+        (
+          counted_stays m place (gone_on n.front n.gone) (n.base + n.gone) w sound there n.ends.0 n.front_counted,
+          (counted_stays m place n.back n.end w sound there n.ends.1 n.back_counted, (n.within, tt)),
+        ),
+      ),
+    )
 
 pub returns-in-Some : goal.returns-in-Some
 returns-in-Some g c =
@@ -23,6 +31,21 @@ returns-in-Some g c =
     let s = e.step in
     let sound = c.value_mut.ensures.sound in
     let list = ap (λ m. entries m.now) e.same_map in (
-      (refl, (λ w. (ap (λ m. m.ghost_name) e.same_map, last_written n.map.now c.in-Some.place (gone_on n.front n.gone) n.back w (iter_stretch old) sound s.0 n.ends list s.1 s.3 s.4)), tt),
-      record { writes_back = tt; value = (s.2, place_value n.map.now c.in-Some.place (entries old.map.now) _ c.value_mut.result.now sound s.0 list (omega (arith, s.1)) c.value_mut.ensures.value) },
+      (
+        refl,
+        (λ w. (
+          ap (λ m. m.ghost_name) e.same_map,
+          last_written n.map.now c.in-Some.place (gone_on n.front n.gone) n.back w (iter_stretch old) sound s.0
+              n.ends list s.1 s.3 s.4,
+        )),
+        tt,
+      ),
+      record {
+        writes_back = tt;
+        value = (
+          s.2,
+          place_value n.map.now c.in-Some.place (entries old.map.now) _ c.value_mut.result.now sound s.0 list
+              (omega (arith, s.1)) c.value_mut.ensures.value,
+        );
+      },
     )

@@ -9,5 +9,8 @@ returns g c =
     let m = c.args.self.now.map.now in
     let e = c.is_done.ensures in
     let is = c.if-is_done.false in
-    let t = c.step_to_next-way in
-    (grind (arith, e.1, is), place_item m (branch t.new.path t.result.0 t.result.1) (entries m) _ t.ensures.sound t.ensures.place refl t.ensures.before ∙ c.pair_on-pair.ensures)
+    let t = c.step_to_next-way in (
+      grind (arith, e.1, is),
+      place_item m (branch t.new.path t.result.0 t.result.1) (entries m) _ t.ensures.sound t.ensures.place refl t.ensures.before
+          ∙ c.pair_on-pair.ensures,
+    )

@@ -5,7 +5,8 @@ use Rattle.fc_map.proofs.EndFacts.{gap_less}
 use Rattle.fc_map.proofs.map.iter_mut.IterMut.step.Goals as goal
 
 pub step_in_leaf-requires-clause-gap : goal.step_in_leaf-requires-clause-gap
-step_in_leaf-requires-clause-gap g c = let w = c.args.self.now in let less = c.if-self.true in gap_less w.map.now w.front w.full (w.gone + 1) w.run_is (omega (arith, less))
+step_in_leaf-requires-clause-gap g c = let w = c.args.self.now in let less = c.if-self.true in
+    gap_less w.map.now w.front w.full (w.gone + 1) w.run_is (omega (arith, less))
 
 pub invariant_of-self : goal.invariant_of-self
 invariant_of-self g c =

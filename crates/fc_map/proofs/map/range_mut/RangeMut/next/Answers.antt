@@ -33,6 +33,21 @@ returns-in-Some g c =
     let sound = c.value_at.ensures.sound in
     let before = ap (λ p. length (before_pair_in m (branch p c.in-Some.way c.in-Some.place))) c.as_slice.ensures.value ∙ s.2 in
     let list = ap (λ m. entries m.now) e.same_map in (
-      (refl, (λ w. (ap (λ m. m.ghost_name) e.same_map, first_written m path (gone_on n.front n.gone) n.back w (stretch old) sound there n.ends list before s.4 s.5)), tt),
-      record { writes_back = tt; value = (s.3, place_value m path (entries old.map.now) _ c.value_at.result.now sound there list before c.value_at.ensures.value) },
+      (
+        refl,
+        (λ w. (
+          ap (λ m. m.ghost_name) e.same_map,
+          first_written m path (gone_on n.front n.gone) n.back w (stretch old) sound there n.ends list before s.4
+              s.5,
+        )),
+        tt,
+      ),
+      record {
+        writes_back = tt;
+        value = (
+          s.3,
+          place_value m path (entries old.map.now) _ c.value_at.result.now sound there list before
+              c.value_at.ensures.value,
+        );
+      },
     )
