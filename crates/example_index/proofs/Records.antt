@@ -103,12 +103,12 @@ module _ {A : Type 0} where
     by_key : (u : String A) → text_order u n ≡ Equal → id_of (cut text_order ids (string_bytes t)) n ≡ id_of ids n
     by_key u e =
         let key : cut text_order ids (string_bytes t) ≡ cut name_cmp ids t =
-            cut_query name_cmp text_order ids t (string_bytes t) texts (is_text t (string_bytes t) refl) in
+        cut_query name_cmp text_order ids t (string_bytes t) texts (is_text t (string_bytes t) refl) in
         let other : value_at name_cmp (cut name_cmp ids t) u ≡ value_at name_cmp ids u =
-            value_at_cut_other name_cmp ids t u names_total (λ q. d (sym (exact_bytes (string_bytes u) n e)
-            ∙ exact_bytes (string_bytes u) (string_bytes t) q)) in
+        value_at_cut_other name_cmp ids t u names_total (λ q. d (sym (exact_bytes (string_bytes u) n e)
+        ∙ exact_bytes (string_bytes u) (string_bytes t) q)) in
         ap (λ s. id_of s n) key ∙ value_at_query name_cmp text_order (cut name_cmp ids t) u n texts e ∙ other
-            ∙ sym (value_at_query name_cmp text_order ids u n texts e)
+        ∙ sym (value_at_query name_cmp text_order ids u n texts e)
 
     id_cut_from : (v : ℕ) → id_of (cut text_order ids (string_bytes t)) n ≡ Some v → id_of ids n ≡ Some v
     id_cut_from v h = let f = found (cut text_order ids (string_bytes t)) n v h in sym (by_key f.0 f.1) ∙ h
@@ -158,8 +158,10 @@ module _ {A : Type 0} where
             ∙ held in let c : n ≡ string_bytes t = cc in k c),
       )
       go j n (inr i) (inl k) = (
-        λ h. absurd (let a = (step.same j n).0 (sym (name_cut_other names id j i) ∙ h) in let c =
-            (step.same id (string_bytes t)).0 held in let b : Some j ≡ Some id = sym a ∙ ap (λ x. id_of ids x) k ∙ c in let l : j ≡ id = cc in i l),
+        λ h. absurd (let a = (step.same j n).0 (sym (name_cut_other names id j i) ∙ h) in
+            let c = (step.same id (string_bytes t)).0 held in
+            let b : Some j ≡ Some id = sym a ∙ ap (λ x. id_of ids x) k ∙ c in
+            let l : j ≡ id = cc in i l),
         λ h. absurd (let b : Some j ≡ None = sym h ∙ ap (λ x. id_of (cut text_order ids (string_bytes t)) x) k ∙ id_cut ids (string_bytes t) in cc),
       )
       go j n (inr i) (inr k) = (

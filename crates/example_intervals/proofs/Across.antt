@@ -26,8 +26,9 @@ module _ (spans : List (ℕ × Span)) (p : ℕ) where
       ended s x last p h i b e = go (cases_order s last.0)
         where
           go : (s ≡ last.0) ⊎ ((s < last.0) ⊎ (last.0 < s)) → x.end ≤ p
-          go (inl q) = let g : Some x ≡ Some last.1 = sym h ∙ ap (λ n. value_at nat_cmp spans n) q ∙ i in let j : x ≡ last.1 =
-              cc in subst (λ (z : Span). z.end ≤ p) (sym j) e
+          go (inl q) =
+              let g : Some x ≡ Some last.1 = sym h ∙ ap (λ n. value_at nat_cmp spans n) q ∙ i in
+              let j : x ≡ last.1 = cc in subst (λ (z : Span). z.end ≤ p) (sym j) e
           go (inr (inl q)) = let c = a.apart s last.0 x last.1 h i q in let d = a.whole last.0 last.1 i in omega arith
           go (inr (inr q)) = absurd (omega arith)
 
@@ -95,6 +96,6 @@ module _ (spans : List (ℕ × Span)) (lo : ℕ) where
       → value_at nat_cmp spans s ≡ None
   none_ahead first a f s b l =
       let least = λ (x : Span) (h : IsIn spans s x). le_from_is_le first.0 s
-          (first_least nat_cmp (λ k. is_gt (nat_cmp k lo)) spans first s (s, x) nat_cmp_total a (sym f) (exact_pair nat_cmp spans s x exact_unsigned h)
-          (is_above_to s lo b)) in
+      (first_least nat_cmp (λ k. is_gt (nat_cmp k lo)) spans first s (s, x) nat_cmp_total a (sym f) (exact_pair nat_cmp spans s x exact_unsigned h)
+      (is_above_to s lo b)) in
       nothing s (λ x h. let m = least x h in absurd (omega arith)) _ refl

@@ -34,8 +34,9 @@ module _ (old new : List (ℕ × Span)) (lo hi v : ℕ) (some : lo < hi) (old_ap
     whole s y (inr b) = let a = old_apart.whole b.start y b.held in let c = b.is in let d = b.behind in omega arith
 
     apart : (s t : ℕ) (x y : Span) → IsPiece old lo hi v s x → IsPiece old lo hi v t y → s < t → x.end ≤ t
-    apart s t x y (inl (inl f)) (inl (inl g)) l = let a = old_apart.apart s t f.span g.span f.held g.held l in let e =
-        ap (λ (z : Span). z.end) f.is in omega arith
+    apart s t x y (inl (inl f)) (inl (inl g)) l =
+        let a = old_apart.apart s t f.span g.span f.held g.held l in
+        let e = ap (λ (z : Span). z.end) f.is in omega arith
     apart s t x y (inl (inl f)) (inl (inr n)) l = let e = ap (λ (z : Span). z.end) f.is in let b = n.start in omega arith
     apart s t x y (inl (inl f)) (inr b) l = let e = ap (λ (z : Span). z.end) f.is in let c = b.is in omega arith
     apart s t x y (inl (inr n)) (inl (inl g)) l = let b = n.start in let c = g.ahead in omega arith
@@ -69,20 +70,41 @@ module _ (old new : List (ℕ × Span)) (lo hi v : ℕ) (some : lo < hi) (old_ap
       pub value_inside : (p : ℕ) → lo ≤ p → p < hi → (w : ℕ) → HasValue new p w ↔ w ≡ v
       value_inside p a b w = (
         λ h. inside_new h.start h.span p w (from h.start h.span h.held) h.from h.to a b h.value,
-        λ e. record { start = lo; span = record { end = hi; value = v }; held =
-            to lo (record { end = hi; value = v }) (inl (inr (record { start = refl; is = refl }))); from = a; to = b; value = e },
+        λ e. record {
+          start = lo;
+          span = record { end = hi; value = v };
+          held =
+              to lo (record { end = hi; value = v }) (inl (inr (record { start = refl; is = refl })));
+          from = a;
+          to = b;
+          value = e;
+        },
       )
 
       kept : (p w : ℕ) → (p < lo) ⊎ (hi ≤ p) → HasValue old p w → HasValue new p w
       kept p w (inl a) h =
           let l : h.start < lo = omega (arith, h.from) in
           let y : Span = record { end = min h.span.end lo; value = h.span.value } in
-          record { start = h.start; span = y; held = to h.start y (inl (inl (record { span = h.span; held = h.held; ahead = l; is = refl }))); from =
-              h.from; to = omega (arith, h.to); value = h.value }
+          record {
+            start = h.start;
+            span = y;
+            held = to h.start y (inl (inl (record { span = h.span; held = h.held; ahead = l; is = refl })));
+            from =
+                h.from;
+            to = omega (arith, h.to);
+            value = h.value;
+          }
       kept p w (inr a) h =
           let l : hi < h.span.end = omega (arith, h.to) in
-          record { start = max h.start hi; span = h.span; held = to (max h.start hi) h.span
-              (inr (record { start = h.start; held = h.held; behind = l; is = refl })); from = omega (arith, h.from); to = h.to; value = h.value }
+          record {
+            start = max h.start hi;
+            span = h.span;
+            held = to (max h.start hi) h.span
+                (inr (record { start = h.start; held = h.held; behind = l; is = refl }));
+            from = omega (arith, h.from);
+            to = h.to;
+            value = h.value;
+          }
 
       pub value_outside : (p : ℕ) → (p < lo) ⊎ (hi ≤ p) → (w : ℕ) → HasValue new p w ↔ HasValue old p w
       value_outside p o w = (

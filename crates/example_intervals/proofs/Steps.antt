@@ -58,16 +58,26 @@ module _ (old : List (ℕ × Span)) (lo hi v : ℕ) (some : lo < hi) (apart : Ar
       other n = sym q ∙ sym (put_other m f.0 (record { end = lo; value = f.1.value }) s n) ∙ h
 
       whole : IsIn old s y → y.end ≤ lo → IsFront old lo s y
-      whole held b = record { span = y; held = held; ahead = l; is = ap (λ n. let z : Span = record { end = n; value = y.value } in z)
-          (let e : y.end ≡ min y.end lo = omega arith in e) }
+      whole held b = record {
+        span = y;
+        held = held;
+        ahead = l;
+        is = ap (λ n. let z : Span = record { end = n; value = y.value } in z)
+            (let e : y.end ≡ min y.end lo = omega arith in e);
+      }
 
       go : (s ≡ f.0) ⊎ ((s < f.0) ⊎ (f.0 < s)) → IsFront old lo s y
       go (inl e) =
           let z : Span = record { end = lo; value = f.1.value } in
           let g : y ≡ z = same (sym h ∙ ap (λ n. value_at nat_cmp (put nat_cmp m f.0 z) n) e ∙ put_same m f.0 z) in
           let d : lo ≡ min f.1.end lo = (let b = a.2 in omega arith) in
-          record { span = f.1; held = subst (λ n. IsIn old n f.1) (sym e) a.0; ahead = l; is = g
-              ∙ ap (λ n. let w : Span = record { end = n; value = f.1.value } in w) d }
+          record {
+            span = f.1;
+            held = subst (λ n. IsIn old n f.1) (sym e) a.0;
+            ahead = l;
+            is = g
+                ∙ ap (λ n. let w : Span = record { end = n; value = f.1.value } in w) d;
+          }
       go (inr (inl b)) = let i = other (λ e. absurd (omega arith)) in whole i (let c = apart.apart s f.0 y f.1 i a.0 b in let d = a.1 in omega arith)
       go (inr (inr b)) = let i = other (λ e. absurd (omega arith)) in let c = apart.apart f.0 s f.1 y a.0 i b in let d = a.2 in absurd (omega arith)
 
@@ -82,7 +92,7 @@ module _ (old : List (ℕ × Span)) (lo hi v : ℕ) (some : lo < hi) (apart : Ar
       other n b =
           let e : min f.span.end lo ≡ f.span.end = omega arith in
           put_other m g.0 (record { end = lo; value = g.1.value }) s n ∙ q ∙ f.held
-              ∙ ap (λ k. let z : Span = record { end = k; value = f.span.value } in Some z) (sym e) ∙ ap Some (sym f.is)
+          ∙ ap (λ k. let z : Span = record { end = k; value = f.span.value } in Some z) (sym e) ∙ ap Some (sym f.is)
 
       go : (s ≡ g.0) ⊎ ((s < g.0) ⊎ (g.0 < s)) → IsIn (put nat_cmp m g.0 (record { end = lo; value = g.1.value })) s y
       go (inl e) =
@@ -90,7 +100,7 @@ module _ (old : List (ℕ × Span)) (lo hi v : ℕ) (some : lo < hi) (apart : Ar
           let i : f.span ≡ g.1 = same (sym f.held ∙ ap (λ n. value_at nat_cmp old n) e ∙ a.0) in
           let d : lo ≡ min g.1.end lo = (let b = a.2 in omega arith) in
           ap (λ n. value_at nat_cmp (put nat_cmp m g.0 z) n) e ∙ put_same m g.0 z ∙ ap (λ n. let w : Span = record { end = n; value = g.1.value } in Some w) d
-              ∙ ap (λ (u : Span). let w : Span = record { end = min u.end lo; value = u.value } in Some w) (sym i) ∙ ap Some (sym f.is)
+          ∙ ap (λ (u : Span). let w : Span = record { end = min u.end lo; value = u.value } in Some w) (sym i) ∙ ap Some (sym f.is)
       go (inr (inl b)) = other (λ e. absurd (omega arith)) (let c = apart.apart s g.0 f.span g.1 f.held a.0 b in let d = a.1 in omega arith)
       go (inr (inr b)) = let c = apart.apart g.0 s g.1 f.span a.0 f.held b in let d = a.2 in let l = f.ahead in absurd (omega arith)
 
@@ -155,8 +165,11 @@ module _ (old : List (ℕ × Span)) (lo hi v : ℕ) (some : lo < hi) (apart : Ar
         go : (s ≡ lo) ⊎ ((s < lo) ⊎ (lo < s)) → IsPiece old lo hi v s y
         go (inl e) =
             let z : Span = record { end = hi; value = v } in
-            inl (inr (record { start = e; is = same (sym h ∙ at_new s (omega arith) (inl (omega arith)) ∙ ap (λ n. value_at nat_cmp (second back) n) e
-                ∙ put_same (with_back old hi back) lo z) }))
+            inl (inr (record {
+              start = e;
+              is = same (sym h ∙ at_new s (omega arith) (inl (omega arith)) ∙ ap (λ n. value_at nat_cmp (second back) n) e
+                  ∙ put_same (with_back old hi back) lo z);
+            }))
         go (inr (inl l)) = inl (inl (from_front (second back) front is_front s y l (at_second back s (λ e. absurd (omega arith)) (λ e. absurd (omega arith)))
             (sym (cleared.kept s (inl (omega arith))) ∙ h)))
         go (inr (inr l)) = late l (cases_lt s hi)
@@ -167,8 +180,8 @@ module _ (old : List (ℕ × Span)) (lo hi v : ℕ) (some : lo < hi) (apart : Ar
     pieces_to s y (inl (inr n)) =
         let z : Span = record { end = hi; value = v } in
         at_new s (omega (arith, n.start)) (inl (omega (arith, n.start))) ∙ ap (λ k. value_at nat_cmp (second back) k) n.start
-            ∙ put_same (with_back old hi back) lo z ∙ ap Some (sym n.is)
+        ∙ put_same (with_back old hi back) lo z ∙ ap Some (sym n.is)
     pieces_to s y (inr b) =
         let l : hi ≤ s = omega (arith, b.is) in
         at_new s (omega arith) (inr l) ∙ put_other (with_back old hi back) lo (record { end = hi; value = v }) s (λ e. absurd (omega arith))
-            ∙ to_back back is_back s y b
+        ∙ to_back back is_back s y b

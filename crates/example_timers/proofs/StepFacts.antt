@@ -70,8 +70,10 @@ module _ (queue times : List (ℕ × ℕ)) (step : AreInStep queue times) (due i
       Step d i = IsSet (with_item timer_cmp queue (due, id)) d i ↔ (value_at nat_cmp (put nat_cmp times id due) i ≡ Some d)
 
       other : ¬ (nat_cmp i id ≡ Equal) → Step d i
-      other n = rw (item_at_with_other timer_cmp queue (due, id) (d, i) timers_total (apart_ids d i due id n),
-          value_at_put_other nat_cmp times id due i nat_cmp_total n) (step d i)
+      other n = rw (
+        item_at_with_other timer_cmp queue (due, id) (d, i) timers_total (apart_ids d i due id n),
+        value_at_put_other nat_cmp times id due i nat_cmp_total n,
+      ) (step d i)
 
       now : value_at nat_cmp (put nat_cmp times id due) id ≡ Some due
       now = value_at_put nat_cmp times id due nat_cmp_total
@@ -93,8 +95,10 @@ module _ (queue times : List (ℕ × ℕ)) (step : AreInStep queue times) (due i
       Step d i = IsSet (without timer_cmp queue (due, id)) d i ↔ (value_at nat_cmp (cut nat_cmp times id) i ≡ Some d)
 
       other : ¬ (nat_cmp i id ≡ Equal) → Step d i
-      other n = rw (item_at_without_other timer_cmp queue (due, id) (d, i) timers_total (apart_ids d i due id n),
-          value_at_cut_other nat_cmp times id i nat_cmp_total n) (step d i)
+      other n = rw (
+        item_at_without_other timer_cmp queue (due, id) (d, i) timers_total (apart_ids d i due id n),
+        value_at_cut_other nat_cmp times id i nat_cmp_total n,
+      ) (step d i)
 
       gone : value_at nat_cmp (cut nat_cmp times id) id ≡ None
       gone = ap (option_map (λ e. e.1)) (at_cut nat_cmp times id)
@@ -106,8 +110,9 @@ module _ (queue times : List (ℕ × ℕ)) (step : AreInStep queue times) (due i
       here = decided d due
           (λ q. subst (λ d. Step d id) (sym q) (λ is. let no = rw out at is in absurd cc, λ e. let none = gone in absurd cc))
           (λ n. (
-            λ is. let set = rw (item_at_without_other timer_cmp queue (due, id) (d, id) timers_total (apart_times d id due id n)) at is in let old =
-                (step d id).0 set in let q : d ≡ due = cc in absurd (apart d due n q),
+            λ is. let set = rw (item_at_without_other timer_cmp queue (due, id) (d, id) timers_total (apart_times d id due id n)) at is in
+                let old = (step d id).0 set in
+                let q : d ≡ due = cc in absurd (apart d due n q),
             λ e. let none = gone in absurd cc,
           ))
 

@@ -24,8 +24,9 @@ module _ {T : Type 0} (cmp : T → T → Ordering) (total : IsTotalOrder cmp) wh
 
   with_first : (x : T) (s : List T) → AreAscending cmp (x ∷ s) → ((t : List T) → AreAscending cmp t → Count s t) → (t : List T) → AreAscending cmp t
       → Count (x ∷ s) t
-  with_first x s a ih [] b = let j = ap length (joined_to_none cmp total (x ∷ s) a) in let c =
-      ap length (common_of_none cmp (x ∷ s)) in (omega (arith, j, c), c)
+  with_first x s a ih [] b =
+      let j = ap length (joined_to_none cmp total (x ∷ s) a) in
+      let c = ap length (common_of_none cmp (x ∷ s)) in (omega (arith, j, c), c)
   with_first x s a ih (y ∷ t) b = go (cmp x y) refl (ih (y ∷ t) b) (ih t b.1) (with_first x s a ih t b.1)
     where
       go : (r : Ordering) → cmp x y ≡ r → Count s (y ∷ t) → Count s t → Count (x ∷ s) t → Count (x ∷ s) (y ∷ t)
@@ -115,8 +116,8 @@ pub longer_is_no_part : {T : Type 0} (cmp : T → T → Ordering) → IsTotalOrd
     → length t < length s → IsTrue false ↔ (difference cmp s t ≡ [])
 longer_is_no_part cmp total s t a b longer = (
   λ f. absurd cc,
-  λ e. let n = ap length e in let m =
-      difference_at_least cmp total s t a b in absurd (omega (arith, n, m, longer)),
+  λ e. let n = ap length e in
+      let m = difference_at_least cmp total s t a b in absurd (omega (arith, n, m, longer)),
 )
 
 -- The items that the shorter list has in common with the other, by either way round.

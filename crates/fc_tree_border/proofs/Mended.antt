@@ -161,8 +161,8 @@ module _ {K V : Type 0} where
     pub bordered : IsBordered s below c
 
   no_leaf : (n c : Node K V) → children_of n ≡ c ∷ [] → IsLeaf n → ⊥
-  no_leaf n c e l = absurd (let z : length (children_of n) ≡ 0 = ap length (leaf_children n l) in let o : length (children_of n) ≡ 1 =
-      ap length e in omega arith)
+  no_leaf n c e l = absurd (let z : length (children_of n) ≡ 0 = ap length (leaf_children n l) in
+      let o : length (children_of n) ≡ 1 = ap length e in omega arith)
 
   pub heir_bordered : (s : Border) (h : ℕ) (n c : Node K V) → children_of n ≡ c ∷ [] → IsBordered s h n → IsHeir s h c
   heir_bordered Left zero n c e b = absurd (no_leaf n c e b.1)

@@ -15,9 +15,10 @@ module _ {K V : Type 0} (E : K → K → Bool) (F : V → V → Bool) where
   equal_at [] (q ∷ t) h = absurd (false≢true h)
   equal_at (p ∷ s) [] h = absurd (false≢true h)
   equal_at (p ∷ s) (q ∷ t) h =
-      let here = first_so (pair_eq E F p q) (pointwise (pair_eq E F) s t) h in
-      ((first_so (E p.0 q.0) (F p.1 q.1) here, second_so (E p.0 q.0) (F p.1 q.1) here),
-          equal_at s t (second_so (pair_eq E F p q) (pointwise (pair_eq E F) s t) h))
+      let here = first_so (pair_eq E F p q) (pointwise (pair_eq E F) s t) h in (
+        (first_so (E p.0 q.0) (F p.1 q.1) here, second_so (E p.0 q.0) (F p.1 q.1) here),
+        equal_at s t (second_so (pair_eq E F p q) (pointwise (pair_eq E F) s t) h),
+      )
 
   equal_from : (s t : List (K × V)) → AreEqual s t → pointwise (pair_eq E F) s t ≡ true
   equal_from [] [] a = refl

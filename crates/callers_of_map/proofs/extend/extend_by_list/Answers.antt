@@ -11,6 +11,6 @@ returns-clause-all g c = on_ok_weaker c.try_extend.result (λ w. w.2 ∙ ap (ext
     (all_given _ _ c.args.pairs.items _ (YieldsList-from_vec {s = w.1.0} _ w.1.1.0 (w.1.1.1 ∙ c.args.pairs.ok.0)) w.1.2)) c.try_extend.ensures.all
 
 pub returns-clause-error : goal.returns-clause-error
-returns-clause-error g c = IfErr-weaker c.try_extend.result _ _ (λ e w. let f =
-    front_given _ _ c.args.pairs.items _ (YieldsList-from_vec {s = w.1.0} _ w.1.1.0 (w.1.1.1 ∙ c.args.pairs.ok.0)) w.1.2 w.1.3 in
+returns-clause-error g c = IfErr-weaker c.try_extend.result _ _ (λ e w. let f = front_given _ _ c.args.pairs.items _
+    (YieldsList-from_vec {s = w.1.0} _ w.1.1.0 (w.1.1.1 ∙ c.args.pairs.ok.0)) w.1.2 w.1.3 in
     subst (λ l. IsExtendedUpTo g.K.Ord.cmp (entries c.args.map.now) l (entries c.try_extend.new.self) e) f.1 (w.2 f.0)) c.try_extend.ensures.error

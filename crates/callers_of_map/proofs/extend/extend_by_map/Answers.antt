@@ -12,6 +12,6 @@ returns-clause-all g c = on_ok_weaker c.try_extend.result (λ w. w.2 ∙ ap (ext
     c.try_extend.ensures.all
 
 pub returns-clause-error : goal.returns-clause-error
-returns-clause-error g c = IfErr-weaker c.try_extend.result _ _ (λ e w. let f =
-    front_given _ _ (entries c.args.other) _ (YieldsList-from_first (λ s. s) (λ s. s) {s = w.1.0} (entries c.args.other) w.1.1.0) w.1.2 w.1.3 in
+returns-clause-error g c = IfErr-weaker c.try_extend.result _ _ (λ e w. let f = front_given _ _ (entries c.args.other) _
+    (YieldsList-from_first (λ s. s) (λ s. s) {s = w.1.0} (entries c.args.other) w.1.1.0) w.1.2 w.1.3 in
     subst (λ l. IsExtendedUpTo g.K.Ord.cmp (entries c.args.map.now) l (entries c.try_extend.new.self) e) f.1 (w.2 f.0)) c.try_extend.ensures.error

@@ -29,8 +29,11 @@ loop-write-preserved g c =
           let e : c.if-write.walk ≡ n = w.walk-is in
           let h = rw w.in_default.is at (w.next.follows.holds-at-none) in
           let one = write_none (iter_stretch t) item w.in_default.ensures.value ∙ sym (ap iter_stretch h) in
-          rw e (ap (λ m. m.map.ghost_name) h ∙ inv.0, write_more (iter_stretch t) (iter_stretch n) ws c.loop-write.write-index item r c.loop-write-test.true
-              c.write-item.is one inv.1)
+          rw e (
+            ap (λ m. m.map.ghost_name) h ∙ inv.0,
+            write_more (iter_stretch t) (iter_stretch n) ws c.loop-write.write-index item r c.loop-write-test.true
+                c.write-item.is one inv.1,
+          )
       | else-write+in-Some-next_back w ↦
           let n = w.next_back.follows.lender item.1 in
           let e : c.if-write.walk ≡ n = w.walk-is in
@@ -42,8 +45,11 @@ loop-write-preserved g c =
           let e : c.if-write.walk ≡ n = w.walk-is in
           let h = rw w.in_default-next_back.is at (w.next_back.follows.holds-at-none) in
           let one = write_none (iter_stretch t) item w.in_default-next_back.ensures.value ∙ sym (ap iter_stretch h) in
-          rw e (ap (λ m. m.map.ghost_name) h ∙ inv.0, write_more (iter_stretch t) (iter_stretch n) ws c.loop-write.write-index item r c.loop-write-test.true
-              c.write-item.is one inv.1)
+          rw e (
+            ap (λ m. m.map.ghost_name) h ∙ inv.0,
+            write_more (iter_stretch t) (iter_stretch n) ws c.loop-write.write-index item r c.loop-write-test.true
+                c.write-item.is one inv.1,
+          )
     ]
 
 pub returns : goal.returns

@@ -8,4 +8,4 @@ use Rattle.callers_of_map.proofs.iter_mut.write_all.Given as goal
 abbrev pub invariant-loop-write : goal.invariant-loop-write
 invariant-loop-write g l =
     ((iter_map_ref l.walk).ghost_name ≡ (iter_map_ref l.initial.walk).ghost_name)
-        × (wrote_all (iter_stretch l.walk) (drop l.write-index l.writes) ≡ wrote_all (whole (entries l.fn.map)) l.fn.writes)
+    × (wrote_all (iter_stretch l.walk) (drop l.write-index l.writes) ≡ wrote_all (whole (entries l.fn.map)) l.fn.writes)

@@ -23,26 +23,38 @@ loop-write-preserved g c =
           let n = w.next.follows.lender item.1 in
           let e : c.if-write.walk ≡ n = w.walk-is in
           let h = rw w.in-Some.is at (w.next.follows.holds item.1) in
-          rw (e, w.count-is) (h.0 ∙ inv.0, under_front s (stretch t) (stretch n) ws c.loop-write.write-index c.loop-write.count item inv.1
-              c.loop-write-test.true c.write-item.is w.if-write.true w.in-Some.ensures.value.0 h.1)
+          rw (e, w.count-is) (
+            h.0 ∙ inv.0,
+            under_front s (stretch t) (stretch n) ws c.loop-write.write-index c.loop-write.count item inv.1
+                c.loop-write-test.true c.write-item.is w.if-write.true w.in-Some.ensures.value.0 h.1,
+          )
       | then-write+in_default w ↦
           let n = w.next.follows.lender-at-none in
           let e : c.if-write.walk ≡ n = w.walk-is in
           let h = rw w.in_default.is at (w.next.follows.holds-at-none) in
-          rw (e, w.count-is) (ap (λ m. m.map.ghost_name) h ∙ inv.0, under_none s (stretch t) (stretch n) ws c.loop-write.write-index c.loop-write.count item
-              inv.1 c.loop-write-test.true c.write-item.is w.in_default.ensures.value (ap stretch h))
+          rw (e, w.count-is) (
+            ap (λ m. m.map.ghost_name) h ∙ inv.0,
+            under_none s (stretch t) (stretch n) ws c.loop-write.write-index c.loop-write.count item
+                inv.1 c.loop-write-test.true c.write-item.is w.in_default.ensures.value (ap stretch h),
+          )
       | else-write+in-Some-next_back w ↦
           let n = w.next_back.follows.lender item.1 in
           let e : c.if-write.walk ≡ n = w.walk-is in
           let h = rw w.in-Some-next_back.is at (w.next_back.follows.holds item.1) in
-          rw (e, w.count-is) (h.0 ∙ inv.0, under_back s (stretch t) (stretch n) ws c.loop-write.write-index c.loop-write.count item inv.1
-              c.loop-write-test.true c.write-item.is w.if-write.false w.in-Some-next_back.ensures.value.0 h.1)
+          rw (e, w.count-is) (
+            h.0 ∙ inv.0,
+            under_back s (stretch t) (stretch n) ws c.loop-write.write-index c.loop-write.count item inv.1
+                c.loop-write-test.true c.write-item.is w.if-write.false w.in-Some-next_back.ensures.value.0 h.1,
+          )
       | else-write+in_default-next_back w ↦
           let n = w.next_back.follows.lender-at-none in
           let e : c.if-write.walk ≡ n = w.walk-is in
           let h = rw w.in_default-next_back.is at (w.next_back.follows.holds-at-none) in
-          rw (e, w.count-is) (ap (λ m. m.map.ghost_name) h ∙ inv.0, under_none s (stretch t) (stretch n) ws c.loop-write.write-index c.loop-write.count item
-              inv.1 c.loop-write-test.true c.write-item.is w.in_default-next_back.ensures.value (ap stretch h))
+          rw (e, w.count-is) (
+            ap (λ m. m.map.ghost_name) h ∙ inv.0,
+            under_none s (stretch t) (stretch n) ws c.loop-write.write-index c.loop-write.count item
+                inv.1 c.loop-write-test.true c.write-item.is w.in_default-next_back.ensures.value (ap stretch h),
+          )
     ]
 
 pub returns-clause-written : goal.returns-clause-written
@@ -52,7 +64,7 @@ returns-clause-written g c =
     let ws = c.args.writes.now in
     let r = wrote_all s ws in
     let e : entries c.loop-write.walk.map.now ≡ r.list = write_end (stretch c.loop-write.walk) r ws c.loop-write.write-index c.loop-write-test.false
-        inv.1.rest in
+    inv.1.rest in
     let same = inv.0 in
     search rules
 
@@ -61,4 +73,4 @@ returns-clause-count g c =
     let s = starting g.K.Ord.cmp (bound_now c.args.bounds.0) (bound_now c.args.bounds.1) (entries c.args.map.now) in
     let end = c.loop-write.auto.write-index-end in
     under_end s (stretch c.loop-write.walk) c.args.writes.now c.loop-write.write-index c.loop-write.count c.loop-write.invariant.1
-        (omega (arith, end, c.loop-write-test.false))
+    (omega (arith, end, c.loop-write-test.false))

@@ -9,5 +9,5 @@ use Rattle.callers_of_map.proofs.iter_mut.write_range.Given as goal
 abbrev pub invariant-loop-write : goal.invariant-loop-write
 invariant-loop-write g l =
     ((range_map_ref l.walk).ghost_name ≡ (range_map_ref l.initial.walk).ghost_name)
-        × IsUnderWay (starting g.K.Ord.cmp (bound_now l.fn.bounds.0) (bound_now l.fn.bounds.1) (entries l.fn.map)) (stretch l.walk) l.fn.writes l.write-index
-        l.count
+    × IsUnderWay (starting g.K.Ord.cmp (bound_now l.fn.bounds.0) (bound_now l.fn.bounds.1) (entries l.fn.map)) (stretch l.walk) l.fn.writes l.write-index
+    l.count

@@ -8,6 +8,6 @@ pub returns-clause-stays : goal.returns-clause-stays
 returns-clause-stays g c =
     let cmp = g.K.Ord.cmp in
     let stays : value_at cmp (entries c.try_insert.new.self) c.args.other.now ≡ value_at cmp (entries c.args.map.now) c.args.other.now =
-        ap (λ s. value_at cmp s c.args.other.now) c.in_ok-try_insert.ensures.put
-        ∙ value_at_put_other cmp _ c.args.key c.args.value c.args.other.now g.met.K.Ord.total c.requires in
+    ap (λ s. value_at cmp s c.args.other.now) c.in_ok-try_insert.ensures.put
+    ∙ value_at_put_other cmp _ c.args.key c.args.value c.args.other.now g.met.K.Ord.total c.requires in
     search rules

@@ -8,7 +8,7 @@ pub returns : goal.returns
 returns g c =
     let first = c.in_ok-key.ensures.key in
     let value : Some c.in_ok-value.value ≡ Some first.0 = c.in_ok-value.ensures.value
-        ∙ ap (option_map (λ e. e.1)) (at_first g.K.Ord.cmp _ first.1 c.in_ok-key.key first.0 g.met.K.Ord.total c.first_key.ensures.ascending first.2) in
+    ∙ ap (option_map (λ e. e.1)) (at_first g.K.Ord.cmp _ first.1 c.in_ok-key.key first.0 g.met.K.Ord.total c.first_key.ensures.ascending first.2) in
     let rest : entries c.remove.new.self ≡ first.1 = c.remove.ensures.rest
-        ∙ cut_first g.K.Ord.cmp _ first.1 c.in_ok-key.key first.0 g.met.K.Ord.total c.first_key.ensures.ascending first.2 in
+    ∙ cut_first g.K.Ord.cmp _ first.1 c.in_ok-key.key first.0 g.met.K.Ord.total c.first_key.ensures.ascending first.2 in
     cc first.2

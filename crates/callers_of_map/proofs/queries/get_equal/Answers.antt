@@ -9,4 +9,4 @@ pub returns-clause-comparisons : goal.returns-clause-comparisons
 returns-clause-comparisons g c =
     let alike = alike_query g.K.Ord.cmp g.Q.Query.order c.args.key.now (g.Q.Query.sought c.args.query) g.met.Q.Query.fits c.requires in
     c.get_counted.ensures.comparisons ∙ ap (λ (f : g.row.K.Denot → Ordering). c.args.count.now.comparisons + passed_in (λ x (u : ⊤). f x) tt c.args.map.now)
-        alike
+    alike

@@ -9,6 +9,6 @@ returns g c =
     let order = g.Q.Query.order in
     let sought = g.Q.Query.sought c.args.query in
     let found : value_at order (entries c.try_insert.new.self) sought ≡ value_at order (entries c.args.map.now) sought =
-        ap (λ s. value_at order s sought) c.in_ok-try_insert.ensures.put
-        ∙ value_at_put_other_query g.K.Ord.cmp order _ c.args.key c.args.value sought g.met.K.Ord.total g.met.Q.Query.fits c.requires in
+    ap (λ s. value_at order s sought) c.in_ok-try_insert.ensures.put
+    ∙ value_at_put_other_query g.K.Ord.cmp order _ c.args.key c.args.value sought g.met.K.Ord.total g.met.Q.Query.fits c.requires in
     search rules

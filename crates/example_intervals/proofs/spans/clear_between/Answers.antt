@@ -7,7 +7,7 @@ use Rattle.example_intervals.proofs.spans.clear_between.Goals as goal
 pub loop-start-smaller : goal.loop-start-smaller
 loop-start-smaller c =
     let less : length (entries c.remove.new.self) < length (entries c.loop-start.spans) =
-        rw c.remove.ensures.rest (shorter (entries c.loop-start.spans) c.in-Some.start c.in-Some.ensures.ascending c.in-Some.ensures.some.2) in
+    rw c.remove.ensures.rest (shorter (entries c.loop-start.spans) c.in-Some.start c.in-Some.ensures.ascending c.in-Some.ensures.some.2) in
     less
 
 pub loop-start-preserved : goal.loop-start-preserved

@@ -21,13 +21,15 @@ invariant_of-self c =
     let names = c.args.self.now.names in
     let ids = c.args.self.now.ids in
     let new_id : name_of (entries names) c.args.id ≡ None = ap (λ o. option_map string_bytes (option_map (λ e. e.1) o))
-        (absent (at nat_cmp (entries names) c.args.id) c.contains_key.ensures.there c.if-contains_key.false) in
+    (absent (at nat_cmp (entries names) c.args.id) c.contains_key.ensures.there c.if-contains_key.false) in
     let new_name : id_of (entries ids) c.args.name.now ≡ None = ap (option_map (λ e. e.1))
-        (absent (at text_order (entries ids) c.args.name.now) c.contains_key-2.ensures.there c.if-contains_key-2.false) in
+    (absent (at text_order (entries ids) c.args.name.now) c.contains_key-2.ensures.there c.if-contains_key-2.false) in
     let key : string_bytes c.in_ok-key.key ≡ c.args.name.now = c.in_ok-key.ensures.ok in
     let held : string_bytes c.in_ok-held.held ≡ c.args.name.now = c.in_ok-held.ensures.ok in
     let both = c.insert_both.ensures in
     let put = in_step_put (entries names) (entries ids) c.args.id c.in_ok-held.held c.in_ok-key.key (held ∙ sym key) c.args.self.now.in_step new_id
-        (ap (λ n. id_of (entries ids) n) key ∙ new_name) in
-    record { in_step = in_step_both c.insert_both.result entries entries names c.insert_both.new.a ids c.insert_both.new.b _ _ both.first both.second
-        both.unchanged c.args.self.now.in_step put }
+    (ap (λ n. id_of (entries ids) n) key ∙ new_name) in
+    record {
+      in_step = in_step_both c.insert_both.result entries entries names c.insert_both.new.a ids c.insert_both.new.b _ _ both.first both.second
+          both.unchanged c.args.self.now.in_step put;
+    }

@@ -16,10 +16,12 @@ end_at-requires c = subst (λ m. IfSome c.across-front.result (λ e. value_at na
     c.across-front.result c.across-front.ensures.found)
 
 pub invariant_of-self-2 : goal.invariant_of-self-2
-invariant_of-self-2 c = record { apart = still_apart (entries c.args.self.now.spans) (entries c.clear_between.new.spans) c.args.start c.args.end c.args.value
-    (inserted (entries c.args.self.now.spans) (entries c.clear_between.new.spans) (entries c.add.new.spans) (entries c.end_at.new.spans) c.args.start
-    c.args.end c.args.value c.across-front.result c.across-back.result c.requires c.args.self.now.apart c.across-front.ensures.found
-    c.across-back.ensures.found c.in_ok-add.ensures.ok c.end_at.ensures c.clear_between.ensures) }
+invariant_of-self-2 c = record {
+  apart = still_apart (entries c.args.self.now.spans) (entries c.clear_between.new.spans) c.args.start c.args.end c.args.value
+      (inserted (entries c.args.self.now.spans) (entries c.clear_between.new.spans) (entries c.add.new.spans) (entries c.end_at.new.spans) c.args.start
+      c.args.end c.args.value c.across-front.result c.across-back.result c.requires c.args.self.now.apart c.across-front.ensures.found
+      c.across-back.ensures.found c.in_ok-add.ensures.ok c.end_at.ensures c.clear_between.ensures);
+}
 
 pub returns-clause-inside : goal.returns-clause-inside
 returns-clause-inside c = inside (entries c.args.self.now.spans) (entries c.clear_between.new.spans) c.args.start c.args.end c.args.value

@@ -13,5 +13,5 @@ pub returns-clause-free : goal.returns-clause-free
 returns-clause-free c =
     let times = entries c.self.inside.times in
     let step = moved _ _ _ _ c.remove-2.ensures.rest c.remove.ensures.rest
-        (in_step_cut (items c.self.inside.queue) times c.self.invariant c.in_ok-due.due c.args.id (sym c.in_ok-due.ensures.value)) in
+    (in_step_cut (items c.self.inside.queue) times c.self.invariant c.in_ok-due.due c.args.id (sym c.in_ok-due.ensures.value)) in
     free_if_absent (items c.remove-2.new.self) (entries c.remove.new.self) step 0 c.args.id (rw c.remove.ensures.rest (at_cut nat_cmp times c.args.id))

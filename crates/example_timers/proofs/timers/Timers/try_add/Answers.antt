@@ -19,7 +19,7 @@ invariant_of-self-in-Err-try_insert c =
     let times = entries c.self.inside.times in
     let new : at nat_cmp times c.args.id ≡ None = absent _ _ c.contains_key.ensures.there c.if-contains_key.false in
     let back = c.remove.ensures.rest ∙ ap (λ (t : List (ℕ × ℕ)). cut nat_cmp t c.args.id) c.in-Ok.ensures.put
-        ∙ rolled_back times c.args.id c.args.due c.contains_key.ensures.ascending new in
+    ∙ rolled_back times c.args.id c.args.due c.contains_key.ensures.ascending new in
     rw c.in-Err-try_insert.ensures.unchanged (moved _ _ _ _ refl back c.self.invariant)
 
 pub returns-in-Ok-try_insert-clause-added : goal.returns-in-Ok-try_insert-clause-added

@@ -28,8 +28,8 @@ try_copied-requires g c =
                     (ascending_intersection g.T.Ord.cmp (items c.args.self.now) (items c.args.other.now) c.intersection.ensures.ascending.0
                     c.intersection.ensures.ascending.1),
                 λ k. subst (λ l. length l ≤ 2 ^ 64 - 1) (sym c.intersection.ensures.all)
-                    (let most = intersection_at_most g.T.Ord.cmp g.met.T.Ord.total (items c.args.self.now) (items c.args.other.now) in let len =
-                    c.len-len.ensures.value in omega arith),
+                    (let most = intersection_at_most g.T.Ord.cmp g.met.T.Ord.total (items c.args.self.now) (items c.args.other.now) in
+                    let len = c.len-len.ensures.value in omega arith),
               ),
             ),
           ),
@@ -49,5 +49,5 @@ returns-clause-error g c =
     subst (λ l. IfErr c.try_copied.result (MayCopyRefuse g.T.TryClone.may_refuse l)) c.intersection.ensures.all
     (c.try_copied.ensures.error (common g.T.Ord.cmp w.left w.right) (lends_rest (λ v. common g.T.Ord.cmp v.left v.right) w)
     (λ k. subst (λ l. length l ≤ 2 ^ 64 - 1) (sym c.intersection.ensures.all)
-    (let most = intersection_at_most g.T.Ord.cmp g.met.T.Ord.total (items c.args.self.now) (items c.args.other.now) in let len =
-    c.len-len.ensures.value in omega arith)))
+    (let most = intersection_at_most g.T.Ord.cmp g.met.T.Ord.total (items c.args.self.now) (items c.args.other.now) in
+    let len = c.len-len.ensures.value in omega arith)))

@@ -27,8 +27,8 @@ try_copied-requires g c =
                 subst (λ v. AreAscending g.T.Ord.cmp (difference g.T.Ord.cmp v.left v.right)) (sym c.difference.ensures.sides)
                     (ascending_difference g.T.Ord.cmp (items c.args.self.now) (items c.args.other.now) c.difference.ensures.ascending.0),
                 λ k. subst (λ v. length (difference g.T.Ord.cmp v.left v.right) ≤ 2 ^ 64 - 1) (sym c.difference.ensures.sides)
-                    (let most = difference_at_most g.T.Ord.cmp g.met.T.Ord.total (items c.args.self.now) (items c.args.other.now) in let len =
-                    c.len-len.ensures.value in omega arith),
+                    (let most = difference_at_most g.T.Ord.cmp g.met.T.Ord.total (items c.args.self.now) (items c.args.other.now) in
+                    let len = c.len-len.ensures.value in omega arith),
               ),
             ),
           ),
@@ -48,5 +48,5 @@ returns-clause-error g c =
     subst (λ v. IfErr c.try_copied.result (MayCopyRefuse g.T.TryClone.may_refuse (difference g.T.Ord.cmp v.left v.right))) c.difference.ensures.sides
     (c.try_copied.ensures.error (difference g.T.Ord.cmp w.left w.right) (lends_rest (λ v. difference g.T.Ord.cmp v.left v.right) w)
     (λ k. subst (λ v. length (difference g.T.Ord.cmp v.left v.right) ≤ 2 ^ 64 - 1) (sym c.difference.ensures.sides)
-    (let most = difference_at_most g.T.Ord.cmp g.met.T.Ord.total (items c.args.self.now) (items c.args.other.now) in let len =
-    c.len-len.ensures.value in omega arith)))
+    (let most = difference_at_most g.T.Ord.cmp g.met.T.Ord.total (items c.args.self.now) (items c.args.other.now) in
+    let len = c.len-len.ensures.value in omega arith)))

@@ -51,8 +51,9 @@ get_mut_spec 𝓤 𝓛 𝓜 𝓡 wired T L =
     sets ! (bin ! (get ! refl) (get ! refl) tt) refl (tt, tt) $ sets_last ! (addr ! (through ! refl (stop !))) refl (tt, tt) $ exec ! 𝓣.C 𝓣.Λ (env fn.locals l)
     (after 1 fn.body) (at_ret _ Post) $ sets ! (of_opd ! (get ! refl)) refl (tt, tt) $
     -- [the item; the row, in five entries; the other token]
-    move ! (1 ∷ 2 ∷ []) $ fjoin ! $ move ! (2 ∷ 3 ∷ 4 ∷ 1 ∷ 0 ∷ []) $ group ! 5 $ let F = λ (w : T.Denot). with_place d i (Some w) in let Rests =
-    sem 𝓛 (Kept E rb ro b o d.held i) in let code_is = (Pr E).coded.code d in
+    move ! (1 ∷ 2 ∷ []) $ fjoin ! $ move ! (2 ∷ 3 ∷ 4 ∷ 1 ∷ 0 ∷ []) $ group ! 5 $ let F = λ (w : T.Denot). with_place d i (Some w) in
+    let Rests = sem 𝓛 (Kept E rb ro b o d.held i) in
+    let code_is = (Pr E).coded.code d in
     use1 𝓛 (later (some (λ (δ : GName). ‵ ((MutRef (named 0) κ (R E)).own_val (record { ref_ptr = (b, at); ghost_name = δ; now = x }) (vptr b at ∷ [])) ⊛ ‵
     (flft κ q) ⊛ ‵ (follows (Pr E) (R E) r.ghost_name δ F))))
     (lends_Part 𝓛 (Pr E) (R E) F (named 0) κ q rb ro b at r.ghost_name Rests (back E d i rb ro b o 𝓛 e lt) code_is code_is x) $ await ! tt $ pick !

@@ -112,8 +112,8 @@ try_new_spec 𝓤 𝓛 𝓜 𝓡 wired X L =
     returns ! (look_at ! 0 refl) $ free_all ! refl $ as_written ! (ty_array (elτ E) len) b o $ cut E ! len b o $ move ! (1 ∷ []) $
     rewrite ! 0 (λ (F : Fml). ‵ F) (sym (sized s (token τ p) (λ none. is_not (capped s) 0 some (ap capped none)))) refl $ made E ! b o len small $ out
     (Ok (empty E p len)) (live 0 (vcons (word p) vnil)) refl)
-    (λ e. let Refusal = Struct (Declared.shape AE.the_type) in let none : Val =
-    live 1 (vcons (vstruct vnil) vnil) in lands_as ! e refl (Answer-typed false 0 0) $
+    (λ e. let Refusal = Struct (Declared.shape AE.the_type) in
+    let none : Val = live 1 (vcons (vstruct vnil) vnil) in lands_as ! e refl (Answer-typed false 0 0) $
     first ! $ switches_on ! (get_tag ! (vrt ! refl (fld ! refl (stop !))) (whole !)) $ exec ! 𝓣.C 𝓣.Λ Ev (arm_body 1 both) Then $ sets !
     (of_opd ! (get_in ! (vrt ! refl (fld ! refl (stop !))) (in_variant ! 1 0 refl refl (whole !)))) refl (tt, tt) $
     sets_last ! (agg ! (and_then ! (lit ! tt) (and_then ! (get ! refl) (no_more !)))) refl (tt, (record { fits = lit< tt }, (tt, tt))) $ exec ! 𝓣.C 𝓣.Λ Ev

@@ -9,8 +9,9 @@ overflow_add-end g c = let s = c.self.inside in let o = opened s _ c.self.invari
     record { fits = omega (arith, o.long, c.requires.room, g.N.fits) }
 
 pub shift_up-requires-clause-in_order : goal.shift_up-requires-clause-in_order
-shift_up-requires-clause-in_order g c = let s = c.self.inside in let o =
-    opened s _ c.self.invariant c.self.view_is in omega (arith, o.long, c.requires.in_bounds)
+shift_up-requires-clause-in_order g c =
+    let s = c.self.inside in
+    let o = opened s _ c.self.invariant c.self.view_is in omega (arith, o.long, c.requires.in_bounds)
 
 pub shift_up-requires-clause-laid : goal.shift_up-requires-clause-laid
 shift_up-requires-clause-laid g c =

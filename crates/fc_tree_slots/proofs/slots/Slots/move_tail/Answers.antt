@@ -6,13 +6,23 @@ use Rattle.fc_tree_slots.proofs.slots.Slots.move_tail.Given as given
 use Rattle.fc_tree_slots.proofs.slots.Slots.move_tail.Goals as goal
 
 pub overflow_sub-end : goal.overflow_sub-end
-overflow_sub-end g c = let s = c.self.inside in let xs = c.args.self.now in let o = opened s xs c.self.invariant c.self.view_is in let r =
-    c.requires.room in let b = c.requires.in_bounds in omega (arith, o.long, b)
+overflow_sub-end g c =
+    let s = c.self.inside in
+    let xs = c.args.self.now in
+    let o = opened s xs c.self.invariant c.self.view_is in
+    let r = c.requires.room in
+    let b = c.requires.in_bounds in omega (arith, o.long, b)
 
 pub overflow_add-end : goal.overflow_add-end
-overflow_add-end g c = let s = c.self.inside in let xs = c.args.self.now in let o = opened s xs c.self.invariant c.self.view_is in let t =
-    c.other.inside in let ys = c.args.other.now in let u = opened t ys c.other.invariant c.other.view_is in let r = c.requires.room in let b =
-    c.requires.in_bounds in record { fits = omega (arith, o.long, u.long, r, g.N.fits) }
+overflow_add-end g c =
+    let s = c.self.inside in
+    let xs = c.args.self.now in
+    let o = opened s xs c.self.invariant c.self.view_is in
+    let t = c.other.inside in
+    let ys = c.args.other.now in
+    let u = opened t ys c.other.invariant c.other.view_is in
+    let r = c.requires.room in
+    let b = c.requires.in_bounds in record { fits = omega (arith, o.long, u.long, r, g.N.fits) }
 
 pub carry-requires-clause-source_laid : goal.carry-requires-clause-source_laid
 carry-requires-clause-source_laid g c =
@@ -42,8 +52,11 @@ target : (g : given.Over) (c : goal.After-other-1 g) → IsPacked c.carry.new.ta
     × (present c.carry.new.target ≡ c.args.other.now ++ drop c.args.from c.args.self.now)
 target g c =
     let s = c.self.inside in let xs = c.args.self.now in let o = opened s xs c.self.invariant c.self.view_is in let t = c.other.inside in let ys =
-    c.args.other.now in let u = opened t ys c.other.invariant c.other.view_is in let r = c.requires.room in let b = c.requires.in_bounds in let m =
-    g.row.N - s.len in
+    c.args.other.now in
+    let u = opened t ys c.other.invariant c.other.view_is in
+    let r = c.requires.room in
+    let b = c.requires.in_bounds in
+    let m = g.row.N - s.len in
     let f = c.args.from in let q = t.len + (s.len - f) - t.len in let w = g.row.N - (t.len + q) in let far : length (take f xs) ≡ f =
     omega (arith, o.long, length-take f xs) in let size : length (drop f xs) ≡ q = omega (arith, o.long, length-drop f xs) in
     packed c.carry.new.target (ys ++ drop f xs) 0 w (t.len + (s.len - f)) g.row.N
@@ -64,5 +77,9 @@ pub returns-clause-other : goal.returns-clause-other
 returns-clause-other g c = (target g c).1
 
 pub returns-clause-moves : goal.returns-clause-moves
-returns-clause-moves g c = let s = c.self.inside in let xs = c.args.self.now in let o = opened s xs c.self.invariant c.self.view_is in let r =
-    c.requires.room in let b = c.requires.in_bounds in omega (arith, o.long, b, c.carry.ensures.moves)
+returns-clause-moves g c =
+    let s = c.self.inside in
+    let xs = c.args.self.now in
+    let o = opened s xs c.self.invariant c.self.view_is in
+    let r = c.requires.room in
+    let b = c.requires.in_bounds in omega (arith, o.long, b, c.carry.ensures.moves)
