@@ -40,7 +40,7 @@ module _ {K V : Type 0} where
   pub around_child : (h : ℕ) (n c : Node K V) (i : ℕ) → IsLevelled h n → i < length (children_of n) → c ≡ child_at n i → IsAround n i (pairs_of c)
   around_child h n c i l k is = let s = step_levels h n i l k in subst (λ d. IsAround n i (pairs_of d)) (sym is) (inner_gap n i s.4 s.3)
 
-  around_length : (n : Node K V) (i : ℕ) (c : List (K × V)) → IsAround n i c → length (pairs_of n) ≡ length (before_child n i) + (length c + length (after_child n i))
+  pub around_length : (n : Node K V) (i : ℕ) (c : List (K × V)) → IsAround n i c → length (pairs_of n) ≡ length (before_child n i) + (length c + length (after_child n i))
   around_length n i c is = ap length is ∙ length-append (before_child n i) _ ∙ ap (λ m. length (before_child n i) + m) (length-append c (after_child n i))
 
   -- how many pairs are before a node's own pair: those that lead to the child before it, and that child's

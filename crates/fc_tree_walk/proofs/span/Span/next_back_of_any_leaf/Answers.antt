@@ -1,0 +1,26 @@
+use Rattle.std.proofs.Common.{◌≡◌, ◌∙◌, ◌∷◌, ◌++◌, [], sym, ap, arith, inl, append_assoc}
+use Rattle.std.proofs.lemmas.Grind.{common_steps}
+use Rattle.fc_tree_walk.specs.Span.{left_between}
+use Rattle.std.specs.Prelude.{option_copied}
+use Rattle.fc_tree_walk.proofs.Sought.{ends_found, met_found, known_above}
+use Rattle.fc_tree_walk.proofs.Slices.{back_step}
+use Rattle.fc_tree_walk.proofs.span.Span.next_back_of_any_leaf.Goals as goal
+
+pub invariant_of-self-then-not-self : goal.invariant_of-self-then-not-self
+invariant_of-self-then-not-self g c =
+    let m = c.self.inside.root.now in
+    let v = c.self.invariant in
+    let s = c.step_last_run-step.ensures in
+    let a = known_above m c.self.inside.front c.self.inside.back c.settle.new.front c.settle.new.back (option_copied c.self.inside.above_front) (option_copied c.self.inside.above_back) v.1 c.settle.ensures.same in
+    (v.0, inl (s.ends, a.0, s.above), met_found m c.settle.new.front c.step_last_run-step.new.back v.0 s.ends s.met)
+
+pub returns-then-not-self : goal.returns-then-not-self
+returns-then-not-self g c =
+    let m = c.self.inside.root.now in
+    let s = c.step_last_run-step.ensures in
+    let run = c.step_last_run-step.result.run.now in
+    let left = left_between m c.self.inside.front c.self.inside.back in
+    let same = (ends_found m c.settle.new.front c.step_last_run-step.new.back c.self.invariant.0 s.ends).1 in
+    let none : c.self.inside.tail.now ≡ [] = grind (arith, common_steps) in
+    sym c.self.view_is ∙ ap (λ xs. c.self.inside.head.now ++ (left ++ xs)) none ∙ ap (λ xs. c.self.inside.head.now ++ (xs ++ [])) (sym c.settle.ensures.pairs ∙ s.pairs ∙ ap (λ xs. xs ++ (run ++ c.step_last_run-step.result.pair.now ∷ [])) same)
+    ∙ back_step c.self.inside.head.now _ run c.step_last_run-step.result.pair.now
