@@ -1,5 +1,5 @@
 -- Parts of a list between two places.
-use Rattle.std.proofs.Common.{◌≡◌, ◌∙◌, ℕ, suc, zero, ◌+◌, ◌-◌, ◌≤◌, List, [], ◌∷◌, ◌++◌, length, take, drop, refl, sym, ap, arith, Some, slice_get, length-append, append_assoc, append-nil}
+use Rattle.std.proofs.Common.{◌≡◌, ◌∙◌, ℕ, suc, zero, ◌+◌, ◌-◌, ◌≤◌, List, [], ◌∷◌, ◌++◌, length, take, drop, refl, sym, ap, arith, Some, slice_get, length-append}
 use Rattle.std.specs.Prelude.{slice_range}
 use Rattle.fc_tree_walk.specs.Span.{IsPart}
 use Rattle.std.proofs.Math.Seq.{take-add, drop-append-add}
@@ -57,7 +57,3 @@ module _ {X : Type 0} where
         omega arith,
         p.2 ∙ sym (ap (λ k. slice_range s k b) e ∙ ap (slice_range s (length low + i)) f ∙ ap (λ xs. slice_range xs (length low + i) (length low + j)) is ∙ slice_inner low l high i j le fits),
       )
-
-  -- Where an item is taken off from the end of what is between.
-  pub back_step : (head left run : List X) (x : X) → head ++ ((left ++ (run ++ x ∷ [])) ++ []) ≡ (head ++ (left ++ run)) ++ x ∷ []
-  back_step head left run x = simp (append_assoc, append-nil)

@@ -12,18 +12,7 @@ use Rattle.fc_tree_walk.proofs.Bounds.{from_nothing}
 use Rattle.fc_tree_walk.proofs.Slices.{slice_none, slice_length, slice_split}
 
 module _ {K V : Type 0} where
-  pub found_end : (m : Map K V) (path : List ℕ) → 0 < length path → IsEndIn m path → IsGapIn m path × (length (before_gap_in m path) ≡ before_back m path)
-  found_end m [] k e = absurd (omega arith)
-  found_end m (i ∷ path) k (inl e) = absurd (let z = ap length e in omega (arith, z))
-  found_end m (i ∷ path) k (inr g) = (g, refl)
-
-  -- Where there is no root, an end is found at once.
-  pub rootless_end : (m : Map K V) (path : List ℕ) → m ≡ None → IsEndIn m path → IsGapIn m path × (length (before_gap_in m path) ≡ before_back m path)
-  rootless_end (Some root) path is e = absurd cc
-  rootless_end None [] is e = (refl, refl)
-  rootless_end None (i ∷ path) is (inl e) = (e, refl)
-  rootless_end None (i ∷ path) is (inr e) = (e, refl)
-
+  -- What is before a gap is before a back that is found.
   pub back_of_gap : (m : Map K V) (back : List ℕ) → IsSoundMap m → IsGapIn m back → length (before_gap_in m back) ≡ before_back m back
   back_of_gap None [] o g = refl
   back_of_gap None (i ∷ path) o g = refl

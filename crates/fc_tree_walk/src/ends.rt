@@ -161,23 +161,25 @@ pub(crate) fn push_start<'a, K: Ord, V, Q: Query<K>>(
     node: &'a Node<K, V>,
     cut: &Cut<Q>,
     gap: &mut Path,
+    run: &mut &'a [(K, V)],
     is_last: &mut bool,
-) -> &'a [(K, V)]
+)
     requires levels { (h : ℕ) × IsLevelled h node.now × (length gap.old + h < most_levels) }
     requires order { IsAscending K.cmp (pairs_of node.now) }
-    ensures gap { GoesOn gap.old gap.new node.now (ahead Q.order Q.sought cut.now (pairs_of node.now) + length result.now) }
-    ensures run { IsPart result.now (pairs_of node.now) (ahead Q.order Q.sought cut.now (pairs_of node.now)) (ahead Q.order Q.sought cut.now (pairs_of node.now) + length result.now) }
-    ensures last { IsTrue is_last.new ↔ (IsTrue is_last.old × (ahead Q.order Q.sought cut.now (pairs_of node.now) + length result.now ≡ length (pairs_of node.now))) }
+    ensures gap { GoesOn gap.old gap.new node.now (ahead Q.order Q.sought cut.now (pairs_of node.now) + length run.new.now) }
+    ensures run { IsPart run.new.now (pairs_of node.now) (ahead Q.order Q.sought cut.now (pairs_of node.now)) (ahead Q.order Q.sought cut.now (pairs_of node.now) + length run.new.now) }
+    ensures last { IsTrue is_last.new ↔ (IsTrue is_last.old × (ahead Q.order Q.sought cut.now (pairs_of node.now) + length run.new.now ≡ length (pairs_of node.now))) }
 {
     let place = place_in(node, cut, 0);
     let end = node.len();
     if node.is_leaf() {
         gap.push(end);
-        return &node.pairs()[place..end];
+        *run = &node.pairs()[place..end];
+        return;
     }
     gap.push(place);
     *is_last = is_outer(*is_last, place, end);
-    push_start(node.child(place), cut, gap, is_last)
+    push_start(node.child(place), cut, gap, run, is_last);
 }
 
 /// Goes on below the node to the start of the leaf where the cut is, and answers the leaf's pairs in front of the cut; and whether no
@@ -186,20 +188,22 @@ pub(crate) fn push_stop<'a, K: Ord, V, Q: Query<K>>(
     node: &'a Node<K, V>,
     cut: &Cut<Q>,
     gap: &mut Path,
+    run: &mut &'a [(K, V)],
     is_first: &mut bool,
-) -> &'a [(K, V)]
+)
     requires levels { (h : ℕ) × IsLevelled h node.now × (length gap.old + h < most_levels) }
     requires order { IsAscending K.cmp (pairs_of node.now) }
-    ensures gap { GoesOn gap.old gap.new node.now (ahead Q.order Q.sought cut.now (pairs_of node.now) - length result.now) }
-    ensures run { IsPart result.now (pairs_of node.now) (ahead Q.order Q.sought cut.now (pairs_of node.now) - length result.now) (ahead Q.order Q.sought cut.now (pairs_of node.now)) }
-    ensures first { IsTrue is_first.new ↔ (IsTrue is_first.old × (ahead Q.order Q.sought cut.now (pairs_of node.now) - length result.now ≡ 0)) }
+    ensures gap { GoesOn gap.old gap.new node.now (ahead Q.order Q.sought cut.now (pairs_of node.now) - length run.new.now) }
+    ensures run { IsPart run.new.now (pairs_of node.now) (ahead Q.order Q.sought cut.now (pairs_of node.now) - length run.new.now) (ahead Q.order Q.sought cut.now (pairs_of node.now)) }
+    ensures first { IsTrue is_first.new ↔ (IsTrue is_first.old × (ahead Q.order Q.sought cut.now (pairs_of node.now) - length run.new.now ≡ 0)) }
 {
     let place = place_in(node, cut, 0);
     if node.is_leaf() {
         gap.push(0);
-        return &node.pairs()[0..place];
+        *run = &node.pairs()[0..place];
+        return;
     }
     gap.push(place);
     *is_first = is_outer(*is_first, place, 0);
-    push_stop(node.child(place), cut, gap, is_first)
+    push_stop(node.child(place), cut, gap, run, is_first);
 }

@@ -284,28 +284,28 @@ fn start_within<'a, K: Ord, V, Q: Query<K>>(
             has_met: true,
         };
     };
+    let mut run: &'a [(K, V)] = &[];
+    let mut has_met = true;
     if !is_bounded(hi) {
-        let mut has_met = true;
-        let head = push_start(node, &start_of(lo), front, &mut has_met);
+        push_start(node, &start_of(lo), front, &mut run, &mut has_met);
         return Runs {
-            head,
+            head: run,
             tail: &[],
             has_met,
         };
     }
     if !is_bounded(lo) {
-        let mut has_met = true;
-        let tail = push_stop(node, &stop_of(hi), back, &mut has_met);
+        push_stop(node, &stop_of(hi), back, &mut run, &mut has_met);
         return Runs {
             head: &[],
-            tail,
+            tail: run,
             has_met,
         };
     }
     let (first, _last) = push_ends(node, lo, hi, front, back);
-    let (head, has_met) = take_first_of(root, first, front, back);
+    (run, has_met) = take_first_of(root, first, front, back);
     Runs {
-        head,
+        head: run,
         tail: &[],
         has_met,
     }

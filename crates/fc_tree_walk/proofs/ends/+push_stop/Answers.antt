@@ -4,7 +4,7 @@ use Rattle.fc_tree_node.specs.Node.{own_pairs, pairs_of, IsLevelled}
 use Rattle.fc_tree_node.proofs.Gaps.{step_levels}
 use Rattle.fc_tree_node.proofs.Pairs.{leaf_children, leaf_pairs}
 use Rattle.fc_tree_search.proofs.SearchFacts.{child_there}
-use Rattle.fc_tree_walk.proofs.GapFacts.{around_gap, around_child, around_length, goes_here, goes_below}
+use Rattle.fc_tree_walk.proofs.GapFacts.{around_gap, around_child, goes_here, goes_below}
 use Rattle.fc_tree_walk.proofs.Outer.{first_child, leaf_before, outer_on}
 use Rattle.fc_tree_walk.proofs.Slices.{part_inside, slice_length}
 use Rattle.fc_tree_walk.proofs.Turns.{turn_first, child_ascends, ahead_at}

@@ -1,8 +1,8 @@
-use Rattle.std.proofs.Common.{[], length, refl, sym, ap, ◌∙◌, arith}
+use Rattle.std.proofs.Common.{length, sym, ap, ◌∙◌, arith}
 use Rattle.fc_tree_node.specs.Tree.{entries}
 use Rattle.fc_tree_walk.specs.Span.{before_back}
 use Rattle.fc_tree_walk.proofs.Leaves.{no_items}
-use Rattle.fc_tree_walk.proofs.Sought.{found_end, rootless_end, new_end}
+use Rattle.fc_tree_walk.proofs.Sought.{new_end}
 use Rattle.fc_tree_walk.proofs.span.find_back.Goals as goal
 
 pub returns : goal.returns

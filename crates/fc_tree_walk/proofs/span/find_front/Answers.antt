@@ -1,7 +1,7 @@
-use Rattle.std.proofs.Common.{[], length, refl, sym, ap, ◌∙◌, arith}
+use Rattle.std.proofs.Common.{[], length, sym, ap, ◌∙◌, arith}
 use Rattle.fc_tree_node.specs.TreePlace.{before_gap_in}
 use Rattle.fc_tree_walk.proofs.Leaves.{no_items}
-use Rattle.fc_tree_walk.proofs.Sought.{found_end, rootless_end, new_end}
+use Rattle.fc_tree_walk.proofs.Sought.{new_end}
 use Rattle.fc_tree_walk.proofs.span.find_front.Goals as goal
 
 pub returns : goal.returns

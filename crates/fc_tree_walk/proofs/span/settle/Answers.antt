@@ -2,7 +2,6 @@ use Rattle.std.proofs.Common.{length, refl, ap, ◌∙◌, arith}
 use Rattle.std.specs.Prelude.{slice_range}
 use Rattle.fc_tree_node.specs.Tree.{entries}
 use Rattle.fc_tree_node.specs.TreePlace.{before_gap_in}
-use Rattle.fc_tree_walk.specs.Span.{before_back}
 use Rattle.fc_tree_walk.proofs.Sought.{back_of_gap}
 use Rattle.fc_tree_walk.proofs.span.settle.Goals as goal
 

@@ -16,11 +16,5 @@ invariant_of-self-then-not-self g c =
 
 pub returns-then-not-self : goal.returns-then-not-self
 returns-then-not-self g c =
-    let m = c.self.inside.root.now in
-    let s = c.step_last_run-step.ensures in
-    let run = c.step_last_run-step.result.run.now in
-    let left = left_between m c.self.inside.front c.self.inside.back in
-    let same = (ends_found m c.settle.new.front c.step_last_run-step.new.back c.self.invariant.0 s.ends).1 in
-    let none : c.self.inside.tail.now ≡ [] = grind (arith, common_steps) in
-    sym c.self.view_is ∙ ap (λ xs. c.self.inside.head.now ++ (left ++ xs)) none ∙ ap (λ xs. c.self.inside.head.now ++ (xs ++ [])) (sym c.settle.ensures.pairs ∙ s.pairs ∙ ap (λ xs. xs ++ (run ++ c.step_last_run-step.result.pair.now ∷ [])) same)
-    ∙ back_step c.self.inside.head.now _ run c.step_last_run-step.result.pair.now
+    let same = (ends_found c.self.inside.root.now c.settle.new.front c.step_last_run-step.new.back c.self.invariant.0 c.step_last_run-step.ensures.ends).1 in
+    grind (arith, common_steps, same)

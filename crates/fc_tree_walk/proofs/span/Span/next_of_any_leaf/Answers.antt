@@ -1,6 +1,5 @@
-use Rattle.std.proofs.Common.{◌≡◌, ◌∙◌, ◌∷◌, ◌++◌, [], sym, ap, arith, inl, append_assoc}
+use Rattle.std.proofs.Common.{arith, inl}
 use Rattle.std.proofs.lemmas.Grind.{common_steps}
-use Rattle.fc_tree_walk.specs.Span.{left_between}
 use Rattle.std.specs.Prelude.{option_copied}
 use Rattle.fc_tree_walk.proofs.Sought.{ends_found, met_found, known_above}
 use Rattle.fc_tree_walk.proofs.span.Span.next_of_any_leaf.Goals as goal
@@ -15,11 +14,5 @@ invariant_of-self-then-not-self g c =
 
 pub returns-then-not-self : goal.returns-then-not-self
 returns-then-not-self g c =
-    let m = c.self.inside.root.now in
-    let s = c.step_first_run-step.ensures in
-    let run = c.step_first_run-step.result.run.now in
-    let left = left_between m c.self.inside.front c.self.inside.back in
-    let same = (ends_found m c.step_first_run-step.new.front c.settle.new.back c.self.invariant.0 s.ends).1 in
-    let none : c.self.inside.head.now ≡ [] = grind (arith, common_steps) in
-    sym c.self.view_is ∙ ap (λ xs. xs ++ (left ++ c.self.inside.tail.now)) none ∙ ap (λ xs. xs ++ c.self.inside.tail.now) (sym c.settle.ensures.pairs ∙ s.pairs ∙ ap (λ xs. c.step_first_run-step.result.pair.now ∷ (run ++ xs)) same)
-    ∙ ap (λ xs. c.step_first_run-step.result.pair.now ∷ xs) (append_assoc run _ c.self.inside.tail.now)
+    let same = (ends_found c.self.inside.root.now c.step_first_run-step.new.front c.settle.new.back c.self.invariant.0 c.step_first_run-step.ensures.ends).1 in
+    grind (arith, common_steps, same)
