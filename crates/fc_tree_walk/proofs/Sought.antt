@@ -1,5 +1,5 @@
 -- The ends of a walk, where they are found, and where they are looked for.
-use Rattle.std.proofs.Common.{◌≡◌, ℕ, ◌+◌, ◌-◌, ◌<◌, List, [], ◌∷◌, ◌++◌, length, append-nil, refl, sym, ap, subst, ◌∙◌, arith, ◌⊎◌, inl, inr, Option, Some, None}
+use Rattle.std.proofs.Common.{◌≡◌, ℕ, ◌+◌, List, [], ◌∷◌, ◌++◌, length, append-nil, refl, sym, ap, subst, ◌∙◌, arith, inl, inr, Option, Some, None}
 use Rattle.std.specs.Prelude.{◌↔◌, slice_range}
 use Rattle.fc_tree_node.specs.declared.node.Node.{Node}
 use Rattle.fc_tree_node.specs.Node.{pairs_of}
@@ -7,7 +7,7 @@ use Rattle.fc_tree_node.specs.Path.{before_gap}
 use Rattle.fc_tree_node.specs.Tree.{Map, entries, IsSoundMap}
 use Rattle.fc_tree_node.specs.TreePlace.{before_gap_in}
 use Rattle.fc_tree_walk.specs.Gap.{IsGapIn, AreEndsIn, GoesOn, IsAbove}
-use Rattle.fc_tree_walk.specs.Span.{IsPart, between, IsEndIn, before_back, left_between, AreEndsSoughtIn, AreKnownIn}
+use Rattle.fc_tree_walk.specs.Span.{IsPart, between, before_back, left_between, AreEndsSoughtIn, AreKnownIn}
 use Rattle.fc_tree_walk.proofs.Bounds.{from_nothing}
 use Rattle.fc_tree_walk.proofs.Slices.{slice_none, slice_length, slice_split}
 
@@ -51,8 +51,7 @@ module _ {K V : Type 0} where
         let q = from_nothing old front n _ a g in
         let at = q.1 in
         let fits = p.1 in
-        subst (λ d. AreEndsSoughtIn d front [] × (w ≡ run ++ (left_between d front [] ++ [])) × (R ↔ (left_between d front [] ≡ []))) (sym is)
-        (
+        subst (λ d. AreEndsSoughtIn d front [] × (w ≡ run ++ (left_between d front [] ++ [])) × (R ↔ (left_between d front [] ≡ []))) (sym is) (
           (inr q.0, inl refl, omega (arith, at, fits)),
           sym all ∙ slice_split (pairs_of n) i (i + length run) _ p.0 p.1 ∙ ap (λ xs. xs ++ slice_range (pairs_of n) (i + length run) (length (pairs_of n))) (sym p.2)
               ∙ ap (λ xs. run ++ xs) (ap (λ k. slice_range (pairs_of n) k (length (pairs_of n))) (sym at) ∙ sym (append-nil _)),
@@ -66,8 +65,7 @@ module _ {K V : Type 0} where
         let at : i ≡ before_back (Some n) back = sym q.1 ∙ back_of_gap (Some n) back (subst IsSoundMap is o) q.0 in
         let le = p.0 in
         let fits = p.1 in
-        subst (λ d. AreEndsSoughtIn d [] back × (w ≡ left_between d [] back ++ run) × (R ↔ (left_between d [] back ≡ []))) (sym is)
-        (
+        subst (λ d. AreEndsSoughtIn d [] back × (w ≡ left_between d [] back ++ run) × (R ↔ (left_between d [] back ≡ []))) (sym is) (
           (inl refl, inr q.0, omega arith),
           sym all ∙ slice_split (pairs_of n) 0 i j (omega arith) p.0 ∙ ap (λ k. slice_range (pairs_of n) 0 k ++ slice_range (pairs_of n) i j) at ∙ ap (λ xs. slice_range (pairs_of n) 0 (before_back (Some n) back) ++ xs) (sym p.2),
           ((λ r. slice_none (pairs_of n) _ _ (sym (f.0 r).1 ∙ at)), (λ e. f.1 (t, let none = ap length e in omega (arith, none, slice_length (pairs_of n) 0 (before_back (Some n) back) (omega (arith, at, le, fits)), at)))),

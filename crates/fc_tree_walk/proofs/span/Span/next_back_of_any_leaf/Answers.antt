@@ -1,9 +1,7 @@
-use Rattle.std.proofs.Common.{◌≡◌, ◌∙◌, ◌∷◌, ◌++◌, [], sym, ap, arith, inl, append_assoc}
+use Rattle.std.proofs.Common.{arith, inl}
 use Rattle.std.proofs.lemmas.Grind.{common_steps}
-use Rattle.fc_tree_walk.specs.Span.{left_between}
 use Rattle.std.specs.Prelude.{option_copied}
 use Rattle.fc_tree_walk.proofs.Sought.{ends_found, met_found, known_above}
-use Rattle.fc_tree_walk.proofs.Slices.{back_step}
 use Rattle.fc_tree_walk.proofs.span.Span.next_back_of_any_leaf.Goals as goal
 
 pub invariant_of-self-then-not-self : goal.invariant_of-self-then-not-self
