@@ -1,7 +1,7 @@
 -- From a gap of a leaf to the pair on either side, and to the gap on the other side of it.
 use Rattle.std.proofs.Common.{◌≡◌, ℕ, zero, suc, ◌+◌, ◌-◌, ◌<◌, ◌≤◌, List, [], ◌∷◌, ◌++◌, length, take, get_or, refl, sym, ap, subst, ◌∙◌, arith, add-one, Some, None, append-nil, append_assoc, length-append}
 use Rattle.std.specs.Prelude.{slice_range}
-use Rattle.fc_base.specs.Sizes.{capacity}
+use Rattle.fc_base.specs.Sizes.{capacity, most_levels}
 use Rattle.fc_tree_node.specs.declared.node.Node.{Node}
 use Rattle.fc_tree_node.specs.Leaf.{leaf_at}
 use Rattle.fc_tree_node.specs.Node.{own_pairs, children_of, child_at, pairs_of, IsLevelled}
@@ -250,6 +250,16 @@ module _ {K V : Type 0} where
       let some : 0 < length q = (let k = g.2.1 l.0 l.1 in omega arith) in
       let there : new ≡ old ++ i ∷ q = g.1 ∙ ap (λ p. p ++ q) m ∙ append_assoc old (i ∷ []) q in
       e q g.1 ∙ ap (leaf_at q) is ∙ sym (leaf_more i q n some) ∙ ap (λ p. leaf_at p n) (same_cut old (i ∷ q) old path (sym there ∙ f) refl).1
+
+  -- a step down to a child: the path is one longer, and the child's levels one fewer
+  pub step_down : (old mid : List ℕ) (i : ℕ) (n c : Node K V) (l : (h : ℕ) × IsLevelled h n × (length old + h < most_levels)) → i < length (children_of n) → mid ≡ old ++ i ∷ [] → c ≡ child_at n i
+      → ((h : ℕ) × IsLevelled h c × (length mid + h < most_levels)) × (length mid ≡ length old + 1) × (length mid < most_levels)
+  step_down old mid i n c l k m is =
+      let s = step_levels l.0 n i l.1 k in
+      let e = s.1 in
+      let f = l.2 in
+      let p = ap length m ∙ length-append old (i ∷ []) in
+      ((s.0, subst (IsLevelled s.0) (sym is) s.2, omega arith), p, omega arith)
 
   -- the gap after a pair, on the way down to it
   pub next_before : (h : ℕ) (n : Node K V) (i : ℕ) → IsLevelled h n → i < length (own_pairs n) → length (before_child n (i + 1)) ≡ length (before_own n i) + 1

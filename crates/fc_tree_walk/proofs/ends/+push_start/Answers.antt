@@ -4,7 +4,7 @@ use Rattle.fc_tree_node.specs.Node.{own_pairs, pairs_of, IsLevelled}
 use Rattle.fc_tree_node.proofs.Gaps.{step_levels}
 use Rattle.fc_tree_node.proofs.Pairs.{leaf_children, leaf_pairs}
 use Rattle.fc_tree_search.proofs.SearchFacts.{child_there}
-use Rattle.fc_tree_walk.proofs.GapFacts.{around_gap, around_child, around_length, goes_here, goes_below}
+use Rattle.fc_tree_walk.proofs.GapFacts.{around_gap, around_child, around_length, goes_here, goes_below, step_down}
 use Rattle.fc_tree_walk.proofs.Outer.{last_child, leaf_before, outer_on}
 use Rattle.fc_tree_walk.proofs.Slices.{part_inside, slice_length}
 use Rattle.fc_tree_walk.proofs.Turns.{turn_first, child_ascends, ahead_at}
@@ -33,13 +33,11 @@ returns-then-is_leaf g t c =
 
 pub push_start-requires : goal.push_start-requires
 push_start-requires g t c κs within =
-    let l = c.requires.levels in
-    let k = child_there l.0 c.args.node.now c.place_in-place.result l.1 c.if-is_leaf.ensures.1 c.place_in-place.ensures.within in
-    let s = step_levels l.0 c.args.node.now c.place_in-place.result l.1 k in
-    let e = s.1 in
-    let f = l.2 in
-    let p = ap length c.push-2.ensures ∙ length-append c.args.gap.now _ in
-    (omega arith, (search rules, (search rules, (search rules, ((s.0, subst (IsLevelled s.0) (sym c.child.ensures) s.2, omega arith), child_ascends g.K.Ord.cmp l.0 _ _ _ l.1 k c.child.ensures c.requires.order)))))
+    let k = child_there c.requires.levels.0 c.args.node.now c.place_in-place.result c.requires.levels.1 c.if-is_leaf.ensures.1 c.place_in-place.ensures.within in
+    let d = step_down c.args.gap.now _ _ c.args.node.now _ c.requires.levels k c.push-2.ensures c.child.ensures in
+    let long = d.1 in
+    let room = d.2 in
+    (omega arith, (search rules, (search rules, (search rules, (d.0, child_ascends g.K.Ord.cmp c.requires.levels.0 _ _ _ c.requires.levels.1 k c.child.ensures c.requires.order)))))
 
 pub returns : goal.returns
 returns g t c =
