@@ -244,10 +244,11 @@ module _ {K V : Type 0} where
   pub ends_here : (old new : List ℕ) (i : ℕ) (n : Node K V) → new ≡ old ++ i ∷ [] → EndsIn old new n n
   ends_here old new i n e path f = ap (λ p. leaf_at p n) (same_cut old (i ∷ []) old path (sym e ∙ f) refl).1
 
-  pub ends_below : (old mid new : List ℕ) (i count : ℕ) (n c leaf : Node K V) → mid ≡ old ++ i ∷ [] → c ≡ child_at n i → (h : ℕ) × IsLevelled h c → GoesOn mid new c count → EndsIn mid new c leaf → EndsIn old new n leaf
-  ends_below old mid new i count n c leaf m is l g e path f =
+  pub ends_below : (old mid new : List ℕ) (i count : ℕ) (n c leaf : Node K V) → mid ≡ old ++ i ∷ [] → c ≡ child_at n i → (h : ℕ) → IsLevelled h n → i < length (children_of n) → GoesOn mid new c count → EndsIn mid new c leaf → EndsIn old new n leaf
+  ends_below old mid new i count n c leaf m is h l k g e path f =
       let q = g.0 in
-      let some : 0 < length q = (let k = g.2.1 l.0 l.1 in omega arith) in
+      let s = step_levels h n i l k in
+      let some : 0 < length q = (let long = g.2.1 s.0 (subst (IsLevelled s.0) (sym is) s.2) in omega arith) in
       let there : new ≡ old ++ i ∷ q = g.1 ∙ ap (λ p. p ++ q) m ∙ append_assoc old (i ∷ []) q in
       e q g.1 ∙ ap (leaf_at q) is ∙ sym (leaf_more i q n some) ∙ ap (λ p. leaf_at p n) (same_cut old (i ∷ q) old path (sym there ∙ f) refl).1
 

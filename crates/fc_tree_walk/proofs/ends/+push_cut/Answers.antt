@@ -1,6 +1,4 @@
-use Rattle.std.proofs.Common.{[], length, refl, rules, arith, sym, subst, ap, ◌∙◌, length-append}
-use Rattle.fc_tree_node.specs.Node.{IsLevelled}
-use Rattle.fc_tree_node.proofs.Gaps.{step_levels}
+use Rattle.std.proofs.Common.{[], length, refl, rules, arith, ap}
 use Rattle.fc_tree_node.proofs.Pairs.{leaf_children}
 use Rattle.fc_tree_search.proofs.SearchFacts.{child_there}
 use Rattle.fc_tree_walk.proofs.GapFacts.{around_gap, around_child, goes_here, goes_below, step_down, ends_here, ends_below}
@@ -42,5 +40,4 @@ returns-clause-gap g t c =
 pub returns-clause-leaf : goal.returns-clause-leaf
 returns-clause-leaf g t c =
     let l = c.requires.levels in
-    let s = step_levels l.0 c.args.node.now c.args.place l.1 (child_there l.0 c.args.node.now c.args.place l.1 c.if-is_leaf.ensures.1 c.requires.place.within) in
-    ends_below c.args.gap.now c.push.new.self c.push_cut.new.gap c.args.place _ c.args.node.now c.child-child.result.now c.push_cut.result.now c.push.ensures c.child-child.ensures (s.0, subst (IsLevelled s.0) (sym c.child-child.ensures) s.2) c.push_cut.ensures.gap c.push_cut.ensures.leaf
+    ends_below c.args.gap.now c.push.new.self c.push_cut.new.gap c.args.place _ c.args.node.now c.child-child.result.now c.push_cut.result.now c.push.ensures c.child-child.ensures l.0 l.1 (child_there l.0 c.args.node.now c.args.place l.1 c.if-is_leaf.ensures.1 c.requires.place.within) c.push_cut.ensures.gap c.push_cut.ensures.leaf

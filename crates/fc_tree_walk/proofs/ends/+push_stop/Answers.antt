@@ -1,7 +1,6 @@
-use Rattle.std.proofs.Common.{[], length, refl, rules, arith, sym, subst, ap, ◌∙◌, length-append, append-nil}
+use Rattle.std.proofs.Common.{[], length, refl, rules, arith, sym, ap, ◌∙◌, append-nil}
 use Rattle.std.specs.Prelude.{slice_range}
-use Rattle.fc_tree_node.specs.Node.{own_pairs, pairs_of, IsLevelled}
-use Rattle.fc_tree_node.proofs.Gaps.{step_levels}
+use Rattle.fc_tree_node.specs.Node.{own_pairs, pairs_of}
 use Rattle.fc_tree_node.proofs.Pairs.{leaf_children, leaf_pairs}
 use Rattle.fc_tree_search.proofs.SearchFacts.{child_there}
 use Rattle.fc_tree_walk.proofs.GapFacts.{around_gap, around_child, goes_here, goes_below, step_down}
