@@ -19,23 +19,22 @@ module _ {K V : Type 0} where
   back_of_gap (Some root) [] o g = absurd (let e = g.1 o.0 o.2.1 in omega (arith, e))
   back_of_gap (Some root) (i ∷ path) o g = refl
 
-  -- An end that is looked for is none that was found before.
-  pub new_end : (m : Map K V) (n : Node K V) (old new : List ℕ) (count : ℕ) → m ≡ Some n → IsSoundMap m → old ≡ [] → GoesOn old new n count → IsGapIn m new × (length (before_gap_in m new) ≡ count) × (IsGapIn m old → new ≡ old)
-  new_end None n old new count is o e g = absurd cc
-  new_end (Some root) n old new count is o e g =
-      let same : n ≡ root = cc in
-      let p = from_nothing old new root count e (subst (λ d. GoesOn old new d count) same g) in
-      (p.0, p.1, λ w. absurd (let long = w.1 o.0 o.2.1 in let none = ap length e in omega (arith, long, none)))
+  -- An end that has to be looked for is none that was found before.
+  pub not_sought : (m : Map K V) (old new : List ℕ) → IsSoundMap m → length old ≡ 0 → IsGapIn m new → (length (before_gap_in m old) ≡ 0) × (before_back m old ≡ length (entries m)) × (IsGapIn m old → new ≡ old)
+  not_sought m (j ∷ old) new o e g = absurd (omega arith)
+  not_sought None [] new o e g = (refl, refl, λ w. g)
+  not_sought (Some root) [] new o e g = (refl, refl, λ w. absurd (let long = w.1 o.0 o.2.1 in omega arith))
 
   -- Found ends are ends, with the same pairs between.
-  pub ends_found : (m : Map K V) (front back : List ℕ) → IsSoundMap m → AreEndsIn m front back → AreEndsSoughtIn m front back × (between m front back ≡ left_between m front back)
-  ends_found m front back o e =
-      let le = e.2 in
-      let same = back_of_gap m back o e.1 in
-      ((inr e.0, inr e.1, omega (arith, le, same)), ap (slice_range (entries m) (length (before_gap_in m front))) same)
+  pub ends_found : (m : Map K V) (front back : List ℕ) → IsSoundMap m → AreEndsIn m front back → AreEndsSoughtIn m front back
+  ends_found m front back o e = let le = e.2 in let same = back_of_gap m back o e.1 in (inr e.0, inr e.1, omega arith)
 
-  pub met_found : {R : Type 0} (m : Map K V) (front back : List ℕ) → IsSoundMap m → AreEndsIn m front back → (R ↔ (between m front back ≡ [])) → R ↔ (left_between m front back ≡ [])
-  met_found m front back o e f = let same = (ends_found m front back o e).1 in ((λ r. sym same ∙ f.0 r), (λ z. f.1 (same ∙ z)))
+  pub left_found : (m : Map K V) (front back : List ℕ) → IsSoundMap m → AreEndsIn m front back → between m front back ≡ left_between m front back
+  left_found m front back o e = ap (slice_range (entries m) (length (before_gap_in m front))) (back_of_gap m back o e.1)
+
+  pub met_found : {R : Type 0} (m : Map K V) (front back : List ℕ) → IsSoundMap m → AreEndsIn m front back → (R ↔ (between m front back ≡ []))
+      → R ↔ (left_between m front back ≡ [])
+  met_found m front back o e f = let same = left_found m front back o e in ((λ r. sym same ∙ f.0 r), (λ z. f.1 (same ∙ z)))
 
   -- A node that is known stays the one above, where what is found stays.
   pub known_above : (m : Map K V) (front back new other : List ℕ) (above_front above_back : Option (Node K V)) → AreKnownIn m front back above_front above_back → (AreEndsIn m front back → (new ≡ front) × (other ≡ back)) → IsAbove m new above_front × IsAbove m other above_back
@@ -46,20 +45,20 @@ module _ {K V : Type 0} where
   module _ {R T : Type 0} (m : Map K V) (n : Node K V) (run w : List (K × V)) (is : m ≡ Some n) (o : IsSoundMap m) (t : T) where
     pub start_taken : (old front back : List ℕ) (i : ℕ) → old ≡ [] → back ≡ [] → GoesOn old front n (i + length run) → IsPart run (pairs_of n) i (i + length run) → (R ↔ (T × (i + length run ≡ length (pairs_of n)))) → slice_range (pairs_of n) i (length (pairs_of n)) ≡ w
         → AreEndsSoughtIn m front back × (w ≡ run ++ (left_between m front back ++ [])) × (R ↔ (left_between m front back ≡ []))
-    start_taken old front (j ∷ back) i a b g p f all = absurd (let no = ap length b in omega (arith, no))
+    start_taken old front (j ∷ back) i a b g p f all = absurd (let no = ap length b in omega arith)
     start_taken old front [] i a b g p f all =
         let q = from_nothing old front n _ a g in
         let at = q.1 in
         let fits = p.1 in
         subst (λ d. AreEndsSoughtIn d front [] × (w ≡ run ++ (left_between d front [] ++ [])) × (R ↔ (left_between d front [] ≡ []))) (sym is) (
-          (inr q.0, inl refl, omega (arith, at, fits)),
+          (inr q.0, inl refl, omega arith),
           sym all ∙ slice_split (pairs_of n) i (i + length run) _ p.0 p.1 ∙ ap (λ xs. xs ++ slice_range (pairs_of n) (i + length run) (length (pairs_of n))) (sym p.2)
               ∙ ap (λ xs. run ++ xs) (ap (λ k. slice_range (pairs_of n) k (length (pairs_of n))) (sym at) ∙ sym (append-nil _)),
           ((λ r. slice_none (pairs_of n) _ _ (at ∙ (f.0 r).1)), (λ e. f.1 (t, let none = ap length e in omega (arith, none, slice_length (pairs_of n) (length (before_gap front n)) (length (pairs_of n)) (omega arith), at, fits)))),
         )
 
     pub stop_taken : (old front back : List ℕ) (i j : ℕ) → old ≡ [] → front ≡ [] → GoesOn old back n i → IsPart run (pairs_of n) i j → (R ↔ (T × (i ≡ 0))) → slice_range (pairs_of n) 0 j ≡ w → AreEndsSoughtIn m front back × (w ≡ left_between m front back ++ run) × (R ↔ (left_between m front back ≡ []))
-    stop_taken old (k ∷ front) back i j a b g p f all = absurd (let no = ap length b in omega (arith, no))
+    stop_taken old (k ∷ front) back i j a b g p f all = absurd (let no = ap length b in omega arith)
     stop_taken old [] back i j a b g p f all =
         let q = from_nothing old back n i a g in
         let at : i ≡ before_back (Some n) back = sym q.1 ∙ back_of_gap (Some n) back (subst IsSoundMap is o) q.0 in
@@ -68,5 +67,5 @@ module _ {K V : Type 0} where
         subst (λ d. AreEndsSoughtIn d [] back × (w ≡ left_between d [] back ++ run) × (R ↔ (left_between d [] back ≡ []))) (sym is) (
           (inl refl, inr q.0, omega arith),
           sym all ∙ slice_split (pairs_of n) 0 i j (omega arith) p.0 ∙ ap (λ k. slice_range (pairs_of n) 0 k ++ slice_range (pairs_of n) i j) at ∙ ap (λ xs. slice_range (pairs_of n) 0 (before_back (Some n) back) ++ xs) (sym p.2),
-          ((λ r. slice_none (pairs_of n) _ _ (sym (f.0 r).1 ∙ at)), (λ e. f.1 (t, let none = ap length e in omega (arith, none, slice_length (pairs_of n) 0 (before_back (Some n) back) (omega (arith, at, le, fits)), at)))),
+          ((λ r. slice_none (pairs_of n) _ _ (sym (f.0 r).1 ∙ at)), (λ e. f.1 (t, let none = ap length e in omega (arith, none, slice_length (pairs_of n) 0 (before_back (Some n) back) (omega arith), at)))),
         )

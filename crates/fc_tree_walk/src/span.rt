@@ -12,7 +12,7 @@ ghost use Rattle.fc_tree_walk.specs.Gap.{AreEndsIn, IsGapIn};
 ghost use Rattle.fc_tree_walk.specs.Span.{between, before_back, left_between, IsEndIn, AreEndsSoughtIn};
 
 use crate::cuts::{start_of, stop_of};
-use crate::ends::{push_ends, push_start, push_stop};
+use crate::ends::{first_gap_in, last_gap_in, push_ends, push_start, push_stop};
 use crate::gaps::{push_first, push_last};
 use crate::run::{step_first_run, step_last_run, take_first_of};
 use fc_base::Query;
@@ -135,6 +135,7 @@ impl<'a, K, V> Span<'a, K, V> {
 
     // The same wherever it lies: apart from `next`, so that a compiler takes the few lines of that one into its callers.
     #[inline(never)]
+    #[tactic(auto, using(crate::proofs::Sought::left_found, crate::proofs::Sought::met_found, crate::proofs::Sought::known_above))]
     fn next_of_any_leaf(&mut self) -> &'a (K, V)
         requires { 0 < length self.old }
         ensures { self.old ≡ result.now ∷ self.new }
@@ -182,6 +183,7 @@ impl<'a, K, V> Span<'a, K, V> {
 
     // As `next_of_any_leaf`.
     #[inline(never)]
+    #[tactic(auto, using(crate::proofs::Sought::met_found, crate::proofs::Sought::known_above))]
     fn next_back_of_any_leaf(&mut self) -> &'a (K, V)
         requires { 0 < length self.old }
         ensures { self.old ≡ self.new ++ result.now ∷ [] }
@@ -322,6 +324,7 @@ fn is_bounded<Q: Copy>(bound: &Bound<Q>) -> bool
 }
 
 // Finds the ends that were not looked for yet, unless both are known to be found.
+#[tactic(auto, using(crate::proofs::Sought::left_found))]
 fn settle<K, V>(root: &Option<Node<K, V>>, are_found: bool, front: &mut Path, back: &mut Path)
     requires sound { IsSoundMap root.now }
     requires ends { AreEndsSoughtIn root.now front.old back.old }
@@ -339,6 +342,7 @@ fn settle<K, V>(root: &Option<Node<K, V>>, are_found: bool, front: &mut Path, ba
 
 // Goes to the first gap, where the front was not looked for yet.
 #[inline(never)]
+#[tactic(auto, using(crate::proofs::Sought::not_sought))]
 fn find_front<K, V>(root: &Option<Node<K, V>>, front: &mut Path)
     requires sound { IsSoundMap root.now }
     requires end { IsEndIn root.now front.old }
@@ -346,17 +350,14 @@ fn find_front<K, V>(root: &Option<Node<K, V>>, front: &mut Path)
     ensures before { length (before_gap_in root.now front.new) ≡ length (before_gap_in root.now front.old) }
     ensures same { IsGapIn root.now front.old → front.new ≡ front.old }
 {
-    if 0 < front.len() {
-        return;
+    if front.len() == 0 {
+        *front = first_gap_in(root);
     }
-    let Some(root) = root else {
-        return;
-    };
-    push_first(root, front);
 }
 
 // Goes to the last gap, where the back was not looked for yet.
 #[inline(never)]
+#[tactic(auto, using(crate::proofs::Sought::not_sought))]
 fn find_back<K, V>(root: &Option<Node<K, V>>, back: &mut Path)
     requires sound { IsSoundMap root.now }
     requires end { IsEndIn root.now back.old }
@@ -364,11 +365,7 @@ fn find_back<K, V>(root: &Option<Node<K, V>>, back: &mut Path)
     ensures before { length (before_gap_in root.now back.new) ≡ before_back root.now back.old }
     ensures same { IsGapIn root.now back.old → back.new ≡ back.old }
 {
-    if 0 < back.len() {
-        return;
+    if back.len() == 0 {
+        *back = last_gap_in(root);
     }
-    let Some(root) = root else {
-        return;
-    };
-    push_last(root, back);
 }

@@ -21,13 +21,13 @@ returns-then-is_leaf g t c =
     let low = c.if-is_leaf.ensures.0 refl in
     let none = ap length (leaf_children n low) in
     let all = ap length (leaf_pairs n low) in
-    let a = ahead_at g.met.Q.Query.fits g.Q.Query.sought l.0 n l.1 c.requires.order i [] (around_gap l.0 n i l.1 (omega (arith, none)) le) c.args.cut.now (turn_first r) in
+    let a = ahead_at g.met.Q.Query.fits g.Q.Query.sought l.0 n l.1 c.requires.order i [] (around_gap l.0 n i l.1 (omega arith) le) c.args.cut.now (turn_first r) in
     let before = leaf_before n i low le in
     let long = ap (λ xs. length (slice_range xs i end)) c.pairs.ensures ∙ slice_length (own_pairs n) i end (omega arith) in
     record {
-      gap = goes_here c.args.gap.now c.push.new.self end l.0 n _ 0 l.1 (omega (arith, none)) (omega arith) c.push.ensures (omega (arith, a, before, leaf_before n end low (omega arith), long)) refl;
-      run = part_inside (pairs_of n) [] (own_pairs n) [] _ i end _ _ (leaf_pairs n low ∙ sym (append-nil _)) (omega arith, omega arith, ap (λ xs. slice_range xs i end) c.pairs.ensures) (omega (arith, a, before)) (omega (arith, a, before, long));
-      last = (λ f. (f, omega (arith, a, before, long, all, full)), λ p. p.0);
+      gap = goes_here c.args.gap.now c.push.new.self end l.0 n _ 0 l.1 (omega arith) (omega arith) c.push.ensures (omega (arith, a, before, leaf_before n end low (omega arith), long)) refl;
+      run = part_inside (pairs_of n) [] (own_pairs n) [] _ i end _ _ (leaf_pairs n low ∙ sym (append-nil _)) (omega arith, omega arith, ap (λ xs. slice_range xs i end) c.pairs.ensures) (omega arith) (omega arith);
+      last = (λ f. (f, omega arith), λ p. p.0);
     }
 
 pub push_start-requires : goal.push_start-requires
@@ -53,7 +53,7 @@ returns g t c =
     let fits = e.run.1 in
     let full = c.len-end.ensures.value in
     record {
-      gap = goes_below c.args.gap.now c.push-2.new.self c.push_start.new.gap i l.0 n c.child.result.now _ _ l.1 k c.push-2.ensures c.child.ensures e.gap (omega (arith, a));
-      run = part_inside _ _ _ _ _ _ _ _ _ is e.run a (omega (arith, a));
-      last = outer_on c.is_outer.ensures e.last (λ x. (end.1 (omega (arith, x, a, all, fits)) ∙ sym full, omega (arith, x, a, all, fits))) (λ x y. let z = end.0 (x ∙ full) in omega (arith, z, y, a, all));
+      gap = goes_below c.args.gap.now c.push-2.new.self c.push_start.new.gap i l.0 n c.child.result.now _ _ l.1 k c.push-2.ensures c.child.ensures e.gap (omega arith);
+      run = part_inside _ _ _ _ _ _ _ _ _ is e.run a (omega arith);
+      last = outer_on c.is_outer.ensures e.last (λ x. (end.1 (omega arith) ∙ sym full, omega arith)) (λ x y. let z = end.0 (x ∙ full) in omega arith);
     }

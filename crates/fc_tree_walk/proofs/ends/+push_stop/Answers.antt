@@ -19,13 +19,13 @@ returns-then-is_leaf g t c =
     let low = c.if-is_leaf.ensures.0 refl in
     let none = ap length (leaf_children n low) in
     let all = ap length (leaf_pairs n low) in
-    let a = ahead_at g.met.Q.Query.fits g.Q.Query.sought l.0 n l.1 c.requires.order i [] (around_gap l.0 n i l.1 (omega (arith, none)) le) c.args.cut.now (turn_first r) in
+    let a = ahead_at g.met.Q.Query.fits g.Q.Query.sought l.0 n l.1 c.requires.order i [] (around_gap l.0 n i l.1 (omega arith) le) c.args.cut.now (turn_first r) in
     let before = leaf_before n i low le in
     let long = ap (λ xs. length (slice_range xs 0 i)) c.pairs.ensures ∙ slice_length (own_pairs n) 0 i le in
     record {
-      gap = goes_here c.args.gap.now c.push.new.self 0 l.0 n _ 0 l.1 (omega (arith, none)) (omega arith) c.push.ensures (omega (arith, a, before, leaf_before n 0 low (omega arith), long)) refl;
-      run = part_inside (pairs_of n) [] (own_pairs n) [] _ 0 i _ _ (leaf_pairs n low ∙ sym (append-nil _)) (omega arith, le, ap (λ xs. slice_range xs 0 i) c.pairs.ensures) (omega (arith, a, before, long)) (omega (arith, a, before));
-      first = (λ f. (f, omega (arith, a, before, long)), λ p. p.0);
+      gap = goes_here c.args.gap.now c.push.new.self 0 l.0 n _ 0 l.1 (omega arith) (omega arith) c.push.ensures (omega (arith, a, before, leaf_before n 0 low (omega arith), long)) refl;
+      run = part_inside (pairs_of n) [] (own_pairs n) [] _ 0 i _ _ (leaf_pairs n low ∙ sym (append-nil _)) (omega arith, le, ap (λ xs. slice_range xs 0 i) c.pairs.ensures) (omega arith) (omega arith);
+      first = (λ f. (f, omega arith), λ p. p.0);
     }
 
 pub push_stop-requires : goal.push_stop-requires
@@ -50,7 +50,7 @@ returns g t c =
     let long = e.run.2 in
     let held = ap length e.run.2 ∙ slice_length (pairs_of c.child.result.now) _ _ e.run.1 in
     record {
-      gap = goes_below c.args.gap.now c.push-2.new.self c.push_stop.new.gap i l.0 n c.child.result.now _ _ l.1 k c.push-2.ensures c.child.ensures e.gap (omega (arith, a, held));
-      run = part_inside _ _ _ _ _ _ _ _ _ is e.run (omega (arith, a, held)) a;
-      first = outer_on c.is_outer.ensures e.first (λ x. (end.1 (omega (arith, x, a, held)), omega (arith, x, a, held))) (λ x y. let z = end.0 x in omega (arith, z, y, a));
+      gap = goes_below c.args.gap.now c.push-2.new.self c.push_stop.new.gap i l.0 n c.child.result.now _ _ l.1 k c.push-2.ensures c.child.ensures e.gap (omega arith);
+      run = part_inside _ _ _ _ _ _ _ _ _ is e.run (omega arith) a;
+      first = outer_on c.is_outer.ensures e.first (λ x. (end.1 (omega arith), omega arith)) (λ x y. let z = end.0 x in omega arith);
     }

@@ -1,5 +1,5 @@
 use Rattle.std.proofs.Common.{◌++◌, ◌∙◌, refl, sym, ap, append-nil}
-use Rattle.fc_tree_walk.proofs.Sought.{ends_found, met_found, start_taken, stop_taken}
+use Rattle.fc_tree_walk.proofs.Sought.{ends_found, left_found, met_found, start_taken, stop_taken}
 use Rattle.fc_tree_walk.proofs.Turns.{range_in, start_alone, stop_alone}
 use Rattle.fc_tree_walk.proofs.span.start_within.Goals as goal
 
@@ -32,9 +32,8 @@ returns g c =
     let t = c.take_first_of.ensures in
     let m = c.args.root.now in
     let w = range_in g.met.Q.Query.fits g.Q.Query.sought c.args.lo.now c.args.hi.now m _ _ _ c.in-Some.is c.requires.order e.gaps e.front e.back in
-    let r = ends_found m c.take_first_of.new.front c.push_ends.new.back c.requires.sound t.ends in
     record {
-      ends = r.0;
-      pairs = sym w.1 ∙ t.run ∙ ap (λ xs. c.take_first_of.result.0.now ++ xs) (r.1 ∙ sym (append-nil _));
+      ends = ends_found m _ _ c.requires.sound t.ends;
+      pairs = sym w.1 ∙ t.run ∙ ap (λ xs. c.take_first_of.result.0.now ++ xs) (left_found m c.take_first_of.new.front c.push_ends.new.back c.requires.sound t.ends ∙ sym (append-nil _));
       met = met_found m _ _ c.requires.sound t.ends t.met;
     }
