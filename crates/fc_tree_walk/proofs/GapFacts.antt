@@ -1,7 +1,7 @@
 -- From a gap of a leaf to the pair on either side, and to the gap on the other side of it.
 use Rattle.std.proofs.Common.{◌≡◌, ℕ, zero, suc, ◌+◌, ◌-◌, ◌<◌, ◌≤◌, List, [], ◌∷◌, ◌++◌, length, take, get_or, refl, sym, ap, subst, ◌∙◌, arith, add-one, Some, None, append-nil, append_assoc, length-append}
 use Rattle.std.specs.Prelude.{slice_range}
-use Rattle.fc_base.specs.Sizes.{capacity}
+use Rattle.fc_base.specs.Sizes.{capacity, most_levels}
 use Rattle.fc_tree_node.specs.declared.node.Node.{Node}
 use Rattle.fc_tree_node.specs.Leaf.{leaf_at}
 use Rattle.fc_tree_node.specs.Node.{own_pairs, children_of, child_at, pairs_of, IsLevelled}
@@ -40,7 +40,7 @@ module _ {K V : Type 0} where
   pub around_child : (h : ℕ) (n c : Node K V) (i : ℕ) → IsLevelled h n → i < length (children_of n) → c ≡ child_at n i → IsAround n i (pairs_of c)
   around_child h n c i l k is = let s = step_levels h n i l k in subst (λ d. IsAround n i (pairs_of d)) (sym is) (inner_gap n i s.4 s.3)
 
-  around_length : (n : Node K V) (i : ℕ) (c : List (K × V)) → IsAround n i c → length (pairs_of n) ≡ length (before_child n i) + (length c + length (after_child n i))
+  pub around_length : (n : Node K V) (i : ℕ) (c : List (K × V)) → IsAround n i c → length (pairs_of n) ≡ length (before_child n i) + (length c + length (after_child n i))
   around_length n i c is = ap length is ∙ length-append (before_child n i) _ ∙ ap (λ m. length (before_child n i) + m) (length-append c (after_child n i))
 
   -- how many pairs are before a node's own pair: those that lead to the child before it, and that child's
@@ -244,12 +244,23 @@ module _ {K V : Type 0} where
   pub ends_here : (old new : List ℕ) (i : ℕ) (n : Node K V) → new ≡ old ++ i ∷ [] → EndsIn old new n n
   ends_here old new i n e path f = ap (λ p. leaf_at p n) (same_cut old (i ∷ []) old path (sym e ∙ f) refl).1
 
-  pub ends_below : (old mid new : List ℕ) (i count : ℕ) (n c leaf : Node K V) → mid ≡ old ++ i ∷ [] → c ≡ child_at n i → (h : ℕ) × IsLevelled h c → GoesOn mid new c count → EndsIn mid new c leaf → EndsIn old new n leaf
-  ends_below old mid new i count n c leaf m is l g e path f =
+  pub ends_below : (old mid new : List ℕ) (i count : ℕ) (n c leaf : Node K V) → mid ≡ old ++ i ∷ [] → c ≡ child_at n i → (h : ℕ) → IsLevelled h n → i < length (children_of n) → GoesOn mid new c count → EndsIn mid new c leaf → EndsIn old new n leaf
+  ends_below old mid new i count n c leaf m is h l k g e path f =
       let q = g.0 in
-      let some : 0 < length q = (let k = g.2.1 l.0 l.1 in omega arith) in
+      let s = step_levels h n i l k in
+      let some : 0 < length q = (let long = g.2.1 s.0 (subst (IsLevelled s.0) (sym is) s.2) in omega arith) in
       let there : new ≡ old ++ i ∷ q = g.1 ∙ ap (λ p. p ++ q) m ∙ append_assoc old (i ∷ []) q in
       e q g.1 ∙ ap (leaf_at q) is ∙ sym (leaf_more i q n some) ∙ ap (λ p. leaf_at p n) (same_cut old (i ∷ q) old path (sym there ∙ f) refl).1
+
+  -- a step down to a child: the path is one longer, and the child's levels one fewer
+  pub step_down : (old mid : List ℕ) (i : ℕ) (n c : Node K V) (l : (h : ℕ) × IsLevelled h n × (length old + h < most_levels)) → i < length (children_of n) → mid ≡ old ++ i ∷ [] → c ≡ child_at n i
+      → ((h : ℕ) × IsLevelled h c × (length mid + h < most_levels)) × (length mid ≡ length old + 1) × (length mid < most_levels)
+  step_down old mid i n c l k m is =
+      let s = step_levels l.0 n i l.1 k in
+      let e = s.1 in
+      let f = l.2 in
+      let p = ap length m ∙ length-append old (i ∷ []) in
+      ((s.0, subst (IsLevelled s.0) (sym is) s.2, omega arith), p, omega arith)
 
   -- the gap after a pair, on the way down to it
   pub next_before : (h : ℕ) (n : Node K V) (i : ℕ) → IsLevelled h n → i < length (own_pairs n) → length (before_child n (i + 1)) ≡ length (before_own n i) + 1

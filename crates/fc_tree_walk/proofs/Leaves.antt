@@ -19,7 +19,7 @@ use Rattle.fc_tree_walk.specs.Span.{between}
 use Rattle.fc_tree_walk.proofs.Meetings.{earlier}
 use Rattle.fc_tree_walk.proofs.Slices.{get_seam, slice_none, slice_length, slice_split, slice_inner}
 
-no_items : (q : List ℕ) → length q ≡ 0 → q ≡ []
+pub no_items : (q : List ℕ) → length q ≡ 0 → q ≡ []
 no_items [] e = refl
 no_items (x ∷ q) e = absurd (omega arith)
 

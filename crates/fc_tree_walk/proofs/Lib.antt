@@ -6,3 +6,5 @@ pub mod Meetings
 pub mod Leaves
 pub mod Betweens
 pub mod Ways
+pub mod Outer
+pub mod Sought

@@ -1,6 +1,7 @@
 -- Parts of a list between two places.
-use Rattle.std.proofs.Common.{◌≡◌, ◌∙◌, ℕ, suc, zero, ◌+◌, ◌-◌, ◌≤◌, List, [], ◌∷◌, ◌++◌, length, take, drop, refl, ap, arith, Some, slice_get, length-append}
+use Rattle.std.proofs.Common.{◌≡◌, ◌∙◌, ℕ, suc, zero, ◌+◌, ◌-◌, ◌≤◌, List, [], ◌∷◌, ◌++◌, length, take, drop, refl, sym, ap, arith, Some, slice_get, length-append}
 use Rattle.std.specs.Prelude.{slice_range}
+use Rattle.fc_tree_walk.specs.Span.{IsPart}
 use Rattle.std.proofs.Math.Seq.{take-add, drop-append-add}
 use Rattle.std.proofs.lemmas.List.{drop-drop, length-drop, take-append-le, drop-append-le}
 
@@ -44,3 +45,15 @@ module _ {X : Type 0} where
   pub get_seam : (a b : List X) (x : X) → slice_get (a ++ x ∷ b) (length a) ≡ Some x
   get_seam [] b x = refl
   get_seam (y ∷ a) b x = get_seam a b x
+
+  -- A part of a list's middle, in the list.
+  pub part_inside : (s low l high run : List X) (i j a b : ℕ) → s ≡ low ++ (l ++ high) → IsPart run l i j → a ≡ length low + i → b ≡ length low + j → IsPart run s a b
+  part_inside s low l high run i j a b is p e f =
+      let all = ap length is ∙ length-append low (l ++ high) in
+      let more = length-append l high in
+      let le = p.0 in
+      let fits = p.1 in (
+        omega arith,
+        omega arith,
+        p.2 ∙ sym (ap (λ k. slice_range s k b) e ∙ ap (slice_range s (length low + i)) f ∙ ap (λ xs. slice_range xs (length low + i) (length low + j)) is ∙ slice_inner low l high i j le fits),
+      )

@@ -279,6 +279,29 @@ module _ {K Q S : Type 0} {cmp : K → K → Ordering} {order : K → S → Orde
         ap (λ k. slice_range s k j) a ∙ ap (slice_range s (ahead order sought (start_cut lo) s)) b
         ∙ amid_is cmp (λ e. leads order sought (start_cut lo) e.0) (λ e. leads order sought (stop_cut hi) e.0) (leads_below (start_cut lo)) (leads_below (stop_cut hi)) s o ∙ within_is
 
+  -- Where a range has but one bound, they are all pairs of a map on that side of its cut.
+  module _ {V : Type 0} (lo hi : Bound Q) (m : Map K V) (n : Node K V) (is : m ≡ Some n) (o : IsAscending cmp (entries m)) where
+    abbrev In : Map K V → List (K × V)
+    In d = within order (bound_by sought lo) (bound_by sought hi) (entries d)
+
+    one_bound : (a b : Cut Q) → a ≡ start_cut lo → b ≡ stop_cut hi → ((a ≡ First) ⊎ (b ≡ Last))
+        → slice_range (pairs_of n) (ahead order sought a (pairs_of n)) (ahead order sought b (pairs_of n)) ≡ In m
+    one_bound a b e f one =
+        let t = ends_told lo hi (pairs_of n) a b _ _ e f refl (amid_open a b one (pairs_of n)) in
+        within_at lo hi (pairs_of n) _ _ (subst (λ d. IsAscending cmp (entries d)) is o) t.0 t.1 ∙ ap In (sym is)
+
+    pub start_alone : (cut : Cut Q) → cut ≡ start_cut lo → hi ≡ Unbounded
+        → slice_range (pairs_of n) (ahead order sought cut (pairs_of n)) (length (pairs_of n)) ≡ within order (bound_by sought lo) (bound_by sought hi) (entries m)
+    start_alone cut e f =
+        ap (slice_range (pairs_of n) (ahead order sought cut (pairs_of n))) (sym (ap length (kept _ (pairs_of n) (each _ (λ x. refl) (pairs_of n)))))
+        ∙ one_bound cut Last e (sym (ap stop_cut f)) (inr refl)
+
+    pub stop_alone : (cut : Cut Q) → cut ≡ stop_cut hi → lo ≡ Unbounded
+        → slice_range (pairs_of n) 0 (ahead order sought cut (pairs_of n)) ≡ within order (bound_by sought lo) (bound_by sought hi) (entries m)
+    stop_alone cut e f =
+        ap (λ k. slice_range (pairs_of n) k (ahead order sought cut (pairs_of n))) (sym (ap length (left_out _ (pairs_of n) (each _ (λ x. refl) (pairs_of n)))))
+        ∙ one_bound First cut (sym (ap start_cut f)) e (inl refl)
+
   -- In a map they lie between the gaps of a range's ends.
   pub range_in : {V : Type 0} (lo hi : Bound Q) (m : Map K V) (n : Node K V) (front back : List ℕ) → m ≡ Some n → IsAscending cmp (entries m) → IsLeafGap front n × IsLeafGap back n → length (before_gap front n) + length (filter (λ e. starts order (bound_by sought lo) e.0) (pairs_of n)) ≡ length (pairs_of n)
       → length (before_gap back n) ≡ length (before_gap front n) + length (within order (bound_by sought lo) (bound_by sought hi) (pairs_of n)) → AreEndsIn m front back × (between m front back ≡ within order (bound_by sought lo) (bound_by sought hi) (entries m))

@@ -2,7 +2,7 @@
 //!
 //! Both ends of a range are found in one way down, until they part: in each node the end's place is looked for from the start's on. So the
 //! bounds need be no range: where no key can lie within them, both ends come to one gap.
-ghost use Rattle.std.specs.Prelude.{◌≡◌, ℕ, ◌+◌, ◌<◌, [], length, filter};
+ghost use Rattle.std.specs.Prelude.{◌≡◌, ℕ, ◌+◌, ◌-◌, ◌<◌, ◌↔◌, [], length, filter, IsTrue};
 ghost use Rattle.fc_base.specs.Ascending.{IsAscending};
 ghost use Rattle.fc_base.specs.Ranges.{bound_by, starts, within};
 ghost use Rattle.fc_base.specs.Sizes.{most_levels};
@@ -14,6 +14,7 @@ ghost use Rattle.fc_tree_node.specs.Tree.{entries, IsSoundMap};
 ghost use Rattle.fc_tree_node.specs.TreePlace.{before_gap_in};
 ghost use Rattle.fc_tree_walk.specs.Cut.{leads, ahead, amid, TurnsAt};
 ghost use Rattle.fc_tree_walk.specs.Gap.{AreEndsIn, IsGapIn, GoesOn, EndsIn};
+ghost use Rattle.fc_tree_walk.specs.Span.{IsPart};
 
 use crate::cuts::{Cut, is_open, place_in, start_of, stop_of};
 use crate::gaps::{push_first, push_last};
@@ -145,4 +146,64 @@ fn push_cut<'a, K: Ord, V, Q: Query<K>>(
     }
     let child = node.child(place);
     push_cut(child, place_in(child, cut, 0), cut, gap)
+}
+
+// Whether a child is the outermost of its level on a side, as its node is where the child's place is the last one on that side.
+fn is_outer(is_node_outer: bool, place: usize, edge: usize) -> bool
+    ensures { IsTrue result ↔ (IsTrue is_node_outer × (place ≡ edge)) }
+{
+    is_node_outer && place == edge
+}
+
+/// Goes on below the node to the end of the leaf where the cut is, and answers the leaf's pairs behind the cut; and whether no pair of
+/// the tree is behind them, where the node is the last of its level.
+pub(crate) fn push_start<'a, K: Ord, V, Q: Query<K>>(
+    node: &'a Node<K, V>,
+    cut: &Cut<Q>,
+    gap: &mut Path,
+    run: &mut &'a [(K, V)],
+    is_last: &mut bool,
+)
+    requires levels { (h : ℕ) × IsLevelled h node.now × (length gap.old + h < most_levels) }
+    requires order { IsAscending K.cmp (pairs_of node.now) }
+    ensures gap { GoesOn gap.old gap.new node.now (ahead Q.order Q.sought cut.now (pairs_of node.now) + length run.new.now) }
+    ensures run { IsPart run.new.now (pairs_of node.now) (ahead Q.order Q.sought cut.now (pairs_of node.now)) (ahead Q.order Q.sought cut.now (pairs_of node.now) + length run.new.now) }
+    ensures last { IsTrue is_last.new ↔ (IsTrue is_last.old × (ahead Q.order Q.sought cut.now (pairs_of node.now) + length run.new.now ≡ length (pairs_of node.now))) }
+{
+    let place = place_in(node, cut, 0);
+    let end = node.len();
+    if node.is_leaf() {
+        gap.push(end);
+        *run = &node.pairs()[place..end];
+        return;
+    }
+    gap.push(place);
+    *is_last = is_outer(*is_last, place, end);
+    push_start(node.child(place), cut, gap, run, is_last);
+}
+
+/// Goes on below the node to the start of the leaf where the cut is, and answers the leaf's pairs in front of the cut; and whether no
+/// pair of the tree is in front of them, where the node is the first of its level.
+pub(crate) fn push_stop<'a, K: Ord, V, Q: Query<K>>(
+    node: &'a Node<K, V>,
+    cut: &Cut<Q>,
+    gap: &mut Path,
+    run: &mut &'a [(K, V)],
+    is_first: &mut bool,
+)
+    requires levels { (h : ℕ) × IsLevelled h node.now × (length gap.old + h < most_levels) }
+    requires order { IsAscending K.cmp (pairs_of node.now) }
+    ensures gap { GoesOn gap.old gap.new node.now (ahead Q.order Q.sought cut.now (pairs_of node.now) - length run.new.now) }
+    ensures run { IsPart run.new.now (pairs_of node.now) (ahead Q.order Q.sought cut.now (pairs_of node.now) - length run.new.now) (ahead Q.order Q.sought cut.now (pairs_of node.now)) }
+    ensures first { IsTrue is_first.new ↔ (IsTrue is_first.old × (ahead Q.order Q.sought cut.now (pairs_of node.now) - length run.new.now ≡ 0)) }
+{
+    let place = place_in(node, cut, 0);
+    if node.is_leaf() {
+        gap.push(0);
+        *run = &node.pairs()[0..place];
+        return;
+    }
+    gap.push(place);
+    *is_first = is_outer(*is_first, place, 0);
+    push_stop(node.child(place), cut, gap, run, is_first);
 }

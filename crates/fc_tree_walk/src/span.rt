@@ -2,24 +2,27 @@
 //!
 //! Each end has taken the pairs of its leaf, of which most steps give one: only at a leaf's end a step looks at the tree. The node
 //! above the leaf has the next pair and the next leaf, but for its last child, from where the step goes one way down from the root.
-ghost use Rattle.std.specs.Prelude.{◌≡◌, ◌<◌, ◌↔◌, [], ◌∷◌, ◌++◌, length, IsTrue, Some, None};
+ghost use Rattle.std.specs.Prelude.{◌≡◌, ◌<◌, ◌↔◌, ◌⊎◌, [], ◌∷◌, ◌++◌, length, IsTrue, false, Some, None};
 ghost use Rattle.fc_base.specs.Ascending.{IsAscending};
 ghost use Rattle.fc_base.specs.Ranges.{bound_by, within};
 ghost use Rattle.fc_tree_node.specs.Leaf.{leaf_at};
 ghost use Rattle.fc_tree_node.specs.Tree.{entries, IsSoundMap};
-ghost use Rattle.fc_tree_walk.specs.Gap.{AreEndsIn};
-ghost use Rattle.fc_tree_walk.specs.Span.{between};
+ghost use Rattle.fc_tree_node.specs.TreePlace.{before_gap_in};
+ghost use Rattle.fc_tree_walk.specs.Gap.{AreEndsIn, IsGapIn};
+ghost use Rattle.fc_tree_walk.specs.Span.{between, before_back, left_between, IsEndIn, AreEndsSoughtIn};
 
-use crate::ends::push_ends;
+use crate::cuts::{start_of, stop_of};
+use crate::ends::{first_gap_in, last_gap_in, push_ends, push_start, push_stop};
 use crate::gaps::{push_first, push_last};
-use crate::run::{step_first_run, step_last_run, take_first_of, take_last_of};
+use crate::run::{step_first_run, step_last_run, take_first_of};
 use fc_base::Query;
 use fc_tree_node::node::Node;
 use fc_tree_node::path::Path;
 use std::marker::Model;
 use std::ops::Bound;
 
-/// The pairs that the front has taken, those between two gaps of a tree, and those that the back has taken.
+/// The pairs that the front has taken, those between two gaps of a tree, and those that the back has taken. The path to a gap at an end
+/// of the tree itself has no step, until a walk needs it.
 #[derive(Drop)]
 pub struct Span<'a, K, V> {
     root: &'a Option<Node<K, V>>,
@@ -35,14 +38,13 @@ pub struct Span<'a, K, V> {
 impl<'a, K, V> Model for Span<'a, K, V> {
     ghost use Rattle.std.specs.Prelude.{◌≡◌, ◌↔◌, [], ◌++◌, List, IsTrue, option_copied};
     ghost use Rattle.fc_tree_node.specs.Tree.{IsSoundMap};
-    ghost use Rattle.fc_tree_walk.specs.Gap.{AreEndsIn, IsAbove};
-    ghost use Rattle.fc_tree_walk.specs.Span.{between};
+    ghost use Rattle.fc_tree_walk.specs.Span.{left_between, AreKnownIn};
 
     ghost Value = { List (K × V) };
 
-    ghost view = { λ s. s.head.now ++ (between s.root.now s.front s.back ++ s.tail.now) };
+    ghost view = { λ s. s.head.now ++ (left_between s.root.now s.front s.back ++ s.tail.now) };
 
-    ghost invariant = { λ s. IsSoundMap s.root.now × AreEndsIn s.root.now s.front s.back × IsAbove s.root.now s.front (option_copied s.above_front) × IsAbove s.root.now s.back (option_copied s.above_back) × (IsTrue s.has_met ↔ (between s.root.now s.front s.back ≡ [])) };
+    ghost invariant = { λ s. IsSoundMap s.root.now × AreKnownIn s.root.now s.front s.back (option_copied s.above_front) (option_copied s.above_back) × (IsTrue s.has_met ↔ (left_between s.root.now s.front s.back ≡ [])) };
 }
 
 impl<'a, K, V> Span<'a, K, V> {
@@ -133,6 +135,7 @@ impl<'a, K, V> Span<'a, K, V> {
 
     // The same wherever it lies: apart from `next`, so that a compiler takes the few lines of that one into its callers.
     #[inline(never)]
+    #[tactic(auto, using(crate::proofs::Sought::left_found, crate::proofs::Sought::met_found, crate::proofs::Sought::known_above))]
     fn next_of_any_leaf(&mut self) -> &'a (K, V)
         requires { 0 < length self.old }
         ensures { self.old ≡ result.now ∷ self.new }
@@ -142,6 +145,12 @@ impl<'a, K, V> Span<'a, K, V> {
             return pair;
         }
         if !self.has_met {
+            settle(
+                self.root,
+                self.above_front.is_some(),
+                &mut self.front,
+                &mut self.back,
+            );
             let step = step_first_run(
                 self.root,
                 &mut self.above_front,
@@ -174,6 +183,7 @@ impl<'a, K, V> Span<'a, K, V> {
 
     // As `next_of_any_leaf`.
     #[inline(never)]
+    #[tactic(auto, using(crate::proofs::Sought::met_found, crate::proofs::Sought::known_above))]
     fn next_back_of_any_leaf(&mut self) -> &'a (K, V)
         requires { 0 < length self.old }
         ensures { self.old ≡ self.new ++ result.now ∷ [] }
@@ -183,6 +193,12 @@ impl<'a, K, V> Span<'a, K, V> {
             return pair;
         }
         if !self.has_met {
+            settle(
+                self.root,
+                self.above_back.is_some(),
+                &mut self.front,
+                &mut self.back,
+            );
             let step = step_last_run(self.root, &mut self.above_back, &self.front, &mut self.back);
             self.tail = step.run;
             self.has_met = step.has_met;
@@ -247,7 +263,7 @@ struct Runs<'a, K, V> {
     has_met: bool,
 }
 
-// Fills both paths with the gaps at the ends of a range, and takes the run of one end. The span is made once, behind this call, since a
+// Fills the paths with the gaps at the bounds of a range, and takes the run of one end: the back's where only it is bounded. The span is made once, behind this call, since a
 // struct of its size is copied wherever two of it could be the answer.
 fn start_within<'a, K: Ord, V, Q: Query<K>>(
     root: &'a Option<Node<K, V>>,
@@ -259,9 +275,9 @@ fn start_within<'a, K: Ord, V, Q: Query<K>>(
     requires sound { IsSoundMap root.now }
     requires order { IsAscending K.cmp (entries root.now) }
     requires start { (front.old ≡ []) × (back.old ≡ []) }
-    ensures ends { AreEndsIn root.now front.new back.new }
-    ensures pairs { within Q.order (bound_by Q.sought lo.now) (bound_by Q.sought hi.now) (entries root.now) ≡ result.head.now ++ (between root.now front.new back.new ++ result.tail.now) }
-    ensures met { IsTrue result.has_met ↔ (between root.now front.new back.new ≡ []) }
+    ensures ends { AreEndsSoughtIn root.now front.new back.new }
+    ensures pairs { within Q.order (bound_by Q.sought lo.now) (bound_by Q.sought hi.now) (entries root.now) ≡ result.head.now ++ (left_between root.now front.new back.new ++ result.tail.now) }
+    ensures met { IsTrue result.has_met ↔ (left_between root.now front.new back.new ≡ []) }
 {
     let Some(node) = root else {
         return Runs {
@@ -270,27 +286,86 @@ fn start_within<'a, K: Ord, V, Q: Query<K>>(
             has_met: true,
         };
     };
-    let (first, last) = push_ends(node, lo, hi, front, back);
-    if is_bounded(lo) {
-        let (head, has_met) = take_first_of(root, first, front, back);
+    let mut run: &'a [(K, V)] = &[];
+    let mut has_met = true;
+    if !is_bounded(hi) {
+        push_start(node, &start_of(lo), front, &mut run, &mut has_met);
         return Runs {
-            head,
+            head: run,
             tail: &[],
             has_met,
         };
     }
-    let (tail, has_met) = take_last_of(root, last, front, back);
+    if !is_bounded(lo) {
+        push_stop(node, &stop_of(hi), back, &mut run, &mut has_met);
+        return Runs {
+            head: &[],
+            tail: run,
+            has_met,
+        };
+    }
+    let (first, _last) = push_ends(node, lo, hi, front, back);
+    (run, has_met) = take_first_of(root, first, front, back);
     Runs {
-        head: &[],
-        tail,
+        head: run,
+        tail: &[],
         has_met,
     }
 }
 
 // Whether a range has an end on this side.
-fn is_bounded<Q: Copy>(bound: &Bound<Q>) -> bool {
+fn is_bounded<Q: Copy>(bound: &Bound<Q>) -> bool
+    ensures { (result ≡ false) → (bound.now ≡ Bound.Unbounded) }
+{
     match bound {
         Bound::Unbounded => false,
         _ => true,
+    }
+}
+
+// Finds the ends that were not looked for yet, unless both are known to be found.
+#[tactic(auto, using(crate::proofs::Sought::left_found))]
+fn settle<K, V>(root: &Option<Node<K, V>>, are_found: bool, front: &mut Path, back: &mut Path)
+    requires sound { IsSoundMap root.now }
+    requires ends { AreEndsSoughtIn root.now front.old back.old }
+    requires found { IsTrue are_found → AreEndsIn root.now front.old back.old }
+    ensures ends { AreEndsIn root.now front.new back.new }
+    ensures pairs { between root.now front.new back.new ≡ left_between root.now front.old back.old }
+    ensures same { AreEndsIn root.now front.old back.old → (front.new ≡ front.old) × (back.new ≡ back.old) }
+{
+    if are_found {
+        return;
+    }
+    find_front(root, front);
+    find_back(root, back);
+}
+
+// Goes to the first gap, where the front was not looked for yet.
+#[inline(never)]
+#[tactic(auto, using(crate::proofs::Sought::not_sought))]
+fn find_front<K, V>(root: &Option<Node<K, V>>, front: &mut Path)
+    requires sound { IsSoundMap root.now }
+    requires end { IsEndIn root.now front.old }
+    ensures gap { IsGapIn root.now front.new }
+    ensures before { length (before_gap_in root.now front.new) ≡ length (before_gap_in root.now front.old) }
+    ensures same { IsGapIn root.now front.old → front.new ≡ front.old }
+{
+    if front.len() == 0 {
+        *front = first_gap_in(root);
+    }
+}
+
+// Goes to the last gap, where the back was not looked for yet.
+#[inline(never)]
+#[tactic(auto, using(crate::proofs::Sought::not_sought))]
+fn find_back<K, V>(root: &Option<Node<K, V>>, back: &mut Path)
+    requires sound { IsSoundMap root.now }
+    requires end { IsEndIn root.now back.old }
+    ensures gap { IsGapIn root.now back.new }
+    ensures before { length (before_gap_in root.now back.new) ≡ before_back root.now back.old }
+    ensures same { IsGapIn root.now back.old → back.new ≡ back.old }
+{
+    if back.len() == 0 {
+        *back = last_gap_in(root);
     }
 }

@@ -61,15 +61,13 @@ pub returns-clause-first : goal.returns-clause-first
 returns-clause-first g t c =
     let l = c.requires.levels in
     let k = child_there l.0 c.args.node.now c.place_in-start.result l.1 c.if-is_leaf.ensures.1 (turn_first c.place_in-start.ensures).within in
-    let s = step_levels l.0 c.args.node.now c.place_in-start.result l.1 k in
-    ends_below c.args.front.now c.push.new.self c.push_both.new.front c.place_in-start.result _ c.args.node.now c.child.result.now c.push_both.result.0.now c.push.ensures c.child.ensures (s.0, subst (IsLevelled s.0) (sym c.child.ensures) s.2) c.push_both.ensures.front c.push_both.ensures.first
+    ends_below c.args.front.now c.push.new.self c.push_both.new.front c.place_in-start.result _ c.args.node.now c.child.result.now c.push_both.result.0.now c.push.ensures c.child.ensures l.0 l.1 k c.push_both.ensures.front c.push_both.ensures.first
 
 pub returns-clause-last : goal.returns-clause-last
 returns-clause-last g t c =
     let l = c.requires.levels in
     let k = child_there l.0 c.args.node.now c.place_in-start.result l.1 c.if-is_leaf.ensures.1 (turn_first c.place_in-start.ensures).within in
-    let s = step_levels l.0 c.args.node.now c.place_in-start.result l.1 k in
-    ends_below c.args.back.now c.push-2.new.self c.push_both.new.back c.place_in-start.result _ c.args.node.now c.child.result.now c.push_both.result.1.now c.push-2.ensures c.child.ensures (s.0, subst (IsLevelled s.0) (sym c.child.ensures) s.2) c.push_both.ensures.back c.push_both.ensures.last
+    ends_below c.args.back.now c.push-2.new.self c.push_both.new.back c.place_in-start.result _ c.args.node.now c.child.result.now c.push_both.result.1.now c.push-2.ensures c.child.ensures l.0 l.1 k c.push_both.ensures.back c.push_both.ensures.last
 
 pub returns-then-is_leaf-clause-front : goal.returns-then-is_leaf-clause-front
 returns-then-is_leaf-clause-front g t c =

@@ -1,9 +1,7 @@
-use Rattle.std.proofs.Common.{[], length, refl, rules, arith, sym, subst, ap, ◌∙◌, length-append}
-use Rattle.fc_tree_node.specs.Node.{IsLevelled}
-use Rattle.fc_tree_node.proofs.Gaps.{step_levels}
+use Rattle.std.proofs.Common.{[], length, refl, rules, arith, ap}
 use Rattle.fc_tree_node.proofs.Pairs.{leaf_children}
 use Rattle.fc_tree_search.proofs.SearchFacts.{child_there}
-use Rattle.fc_tree_walk.proofs.GapFacts.{around_gap, around_child, goes_here, goes_below, ends_here, ends_below}
+use Rattle.fc_tree_walk.proofs.GapFacts.{around_gap, around_child, goes_here, goes_below, step_down, ends_here, ends_below}
 use Rattle.fc_tree_walk.proofs.Turns.{turn_first, child_ascends, ahead_at}
 use Rattle.fc_tree_walk.proofs.ends.+push_cut.Goals as goal
 
@@ -24,13 +22,11 @@ child-child-requires g t c = child_there c.requires.levels.0 c.args.node.now c.a
 
 pub push_cut-requires : goal.push_cut-requires
 push_cut-requires g t c κs within =
-    let l = c.requires.levels in
-    let k = child_there l.0 c.args.node.now c.args.place l.1 c.if-is_leaf.ensures.1 c.requires.place.within in
-    let s = step_levels l.0 c.args.node.now c.args.place l.1 k in
-    let e = s.1 in
-    let f = l.2 in
-    let p = ap length c.push.ensures ∙ length-append c.args.gap.now _ in
-    (omega arith, (search rules, (search rules, (search rules, ((s.0, subst (IsLevelled s.0) (sym c.child-child.ensures) s.2, omega arith), (child_ascends g.K.Ord.cmp l.0 _ _ _ l.1 k c.child-child.ensures c.requires.order, turn_first c.place_in.ensures))))))
+    let k = child_there c.requires.levels.0 c.args.node.now c.args.place c.requires.levels.1 c.if-is_leaf.ensures.1 c.requires.place.within in
+    let d = step_down c.args.gap.now _ _ c.args.node.now _ c.requires.levels k c.push.ensures c.child-child.ensures in
+    let long = d.1 in
+    let room = d.2 in
+    (omega arith, (search rules, (search rules, (search rules, (d.0, (child_ascends g.K.Ord.cmp c.requires.levels.0 _ _ _ c.requires.levels.1 k c.child-child.ensures c.requires.order, turn_first c.place_in.ensures))))))
 
 pub returns-clause-gap : goal.returns-clause-gap
 returns-clause-gap g t c =
@@ -44,5 +40,4 @@ returns-clause-gap g t c =
 pub returns-clause-leaf : goal.returns-clause-leaf
 returns-clause-leaf g t c =
     let l = c.requires.levels in
-    let s = step_levels l.0 c.args.node.now c.args.place l.1 (child_there l.0 c.args.node.now c.args.place l.1 c.if-is_leaf.ensures.1 c.requires.place.within) in
-    ends_below c.args.gap.now c.push.new.self c.push_cut.new.gap c.args.place _ c.args.node.now c.child-child.result.now c.push_cut.result.now c.push.ensures c.child-child.ensures (s.0, subst (IsLevelled s.0) (sym c.child-child.ensures) s.2) c.push_cut.ensures.gap c.push_cut.ensures.leaf
+    ends_below c.args.gap.now c.push.new.self c.push_cut.new.gap c.args.place _ c.args.node.now c.child-child.result.now c.push_cut.result.now c.push.ensures c.child-child.ensures l.0 l.1 (child_there l.0 c.args.node.now c.args.place l.1 c.if-is_leaf.ensures.1 c.requires.place.within) c.push_cut.ensures.gap c.push_cut.ensures.leaf

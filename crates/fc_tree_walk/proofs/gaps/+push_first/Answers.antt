@@ -1,17 +1,13 @@
-use Rattle.std.proofs.Common.{length, refl, rules, arith, sym, subst, ap, ◌∙◌, length-append}
-use Rattle.fc_tree_node.specs.Node.{IsLevelled}
-use Rattle.fc_tree_node.proofs.Gaps.{step_levels}
-use Rattle.fc_tree_walk.proofs.GapFacts.{goes_here, goes_below, ends_here, ends_below}
+use Rattle.std.proofs.Common.{refl, rules, arith}
+use Rattle.fc_tree_walk.proofs.GapFacts.{goes_here, goes_below, step_down, ends_here, ends_below}
 use Rattle.fc_tree_walk.proofs.gaps.+push_first.Goals as goal
 
 pub push_first-requires : goal.push_first-requires
 push_first-requires g t c κs within =
-    let l = c.requires.levels in
-    let s = step_levels l.0 c.args.node.now 0 l.1 (omega arith) in
-    let e = s.1 in
-    let f = l.2 in
-    let p = ap length c.push.ensures ∙ length-append c.args.gap.now _ in
-    (omega arith, (search rules, (search rules, (s.0, subst (IsLevelled s.0) (sym c.child.ensures) s.2, omega arith))))
+    let d = step_down c.args.gap.now _ _ c.args.node.now _ c.requires.levels (omega arith) c.push.ensures c.child.ensures in
+    let long = d.1 in
+    let room = d.2 in
+    (omega arith, (search rules, (search rules, d.0)))
 
 pub returns-then-child_count-gt0-clause-gap : goal.returns-then-child_count-gt0-clause-gap
 returns-then-child_count-gt0-clause-gap g t c =
@@ -23,8 +19,7 @@ returns-clause-gap g t c = goes_here c.args.gap.now c.push.new.self 0 c.requires
 pub returns-then-child_count-gt0-clause-leaf : goal.returns-then-child_count-gt0-clause-leaf
 returns-then-child_count-gt0-clause-leaf g t c =
     let l = c.requires.levels in
-    let s = step_levels l.0 c.args.node.now 0 l.1 (omega arith) in
-    ends_below c.args.gap.now c.push.new.self c.push_first.new.gap 0 _ c.args.node.now c.child.result.now c.push_first.result.now c.push.ensures c.child.ensures (s.0, subst (IsLevelled s.0) (sym c.child.ensures) s.2) c.push_first.ensures.gap c.push_first.ensures.leaf
+    ends_below c.args.gap.now c.push.new.self c.push_first.new.gap 0 _ c.args.node.now c.child.result.now c.push_first.result.now c.push.ensures c.child.ensures l.0 l.1 (omega arith) c.push_first.ensures.gap c.push_first.ensures.leaf
 
 pub returns-clause-leaf : goal.returns-clause-leaf
 returns-clause-leaf g t c = ends_here c.args.gap.now c.push.new.self 0 c.args.node.now c.push.ensures
