@@ -26,7 +26,7 @@ use crate::items::Items;
 use crate::lines::{at_line_end, first_word, is_word, next_number, next_word, number_in, steps_in};
 use std::alloc::{AllocError, Global};
 
-// The command on sets that the words ask for.
+/// The command on sets that the words ask for.
 #[tactic(auto, unfolding(crate::specs::Grammar::on_sets_of))]
 pub fn on_sets_in(
     alloc: Global,

@@ -1,4 +1,7 @@
-//! The ordered map, a B-tree.
+//! The ordered map: the root of a B-tree, if there is a pair, and how many pairs there are.
+//!
+//! Between two calls the pairs ascend strictly by the order of their keys, and the tree is sound (`fc_tree_node`). Each call of one key searches
+//! first, which alone compares; what it then does at the path that the search filled is a call of the crates `fc_tree_..`.
 ghost use Rattle.std.specs.Prelude.{◌≡◌, ◌↔◌, [], length, IsTrue};
 ghost use Rattle.fc_base.specs.Ascending.{IsAscending};
 ghost use Rattle.fc_map.specs.Entries.{entries, IsSoundMap};

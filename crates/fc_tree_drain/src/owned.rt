@@ -22,7 +22,7 @@ fn into_run<K: Drop, V: Drop>(node: Node<K, V>) -> Run<K, V>
     Some(pairs.into_rest())
 }
 
-// Goes down to the first leaf, whose pairs become the run, and leaves each node on the way without its first child.
+/// Goes down to the first leaf, whose pairs become the run, and leaves each node on the way without its first child.
 pub fn open_first<K: Drop, V: Drop>(stack: &mut Nodes<K, V>, run: &mut Run<K, V>, node: Node<K, V>)
     requires { IsUnder node stack.old }
     ensures pairs { items_or_none run.new ++ after_front stack.new ≡ pairs_of node ++ after_front stack.old }
@@ -39,7 +39,7 @@ pub fn open_first<K: Drop, V: Drop>(stack: &mut Nodes<K, V>, run: &mut Run<K, V>
     open_first(stack, run, child);
 }
 
-// Goes down to the last leaf, whose pairs become the run, and leaves each node on the way without its last child.
+/// Goes down to the last leaf, whose pairs become the run, and leaves each node on the way without its last child.
 pub fn open_last<K: Drop, V: Drop>(stack: &mut Nodes<K, V>, run: &mut Run<K, V>, node: Node<K, V>)
     requires { IsUnder node stack.old }
     ensures pairs { before_back stack.new ++ items_or_none run.new ≡ before_back stack.old ++ pairs_of node }
@@ -69,7 +69,7 @@ fn keep<K: Drop, V: Drop>(stack: &mut Nodes<K, V>, node: Node<K, V>)
     stack.push(node);
 }
 
-// Gives the first pair out, and opens the child after it. It comes where the run is used up.
+/// Gives the first pair out, and opens the child after it. It comes where the run is used up.
 #[inline(never)]
 pub fn give_first<K: Drop, V: Drop>(stack: &mut Nodes<K, V>, run: &mut Run<K, V>) -> (K, V)
     requires some { 0 < length stack.old }
@@ -90,7 +90,7 @@ pub fn give_first<K: Drop, V: Drop>(stack: &mut Nodes<K, V>, run: &mut Run<K, V>
     pair
 }
 
-// Gives the last pair out, and opens the child before it. It comes where the run is used up.
+/// Gives the last pair out, and opens the child before it. It comes where the run is used up.
 #[inline(never)]
 pub fn give_last<K: Drop, V: Drop>(stack: &mut Nodes<K, V>, run: &mut Run<K, V>) -> (K, V)
     requires some { 0 < length stack.old }
@@ -111,7 +111,7 @@ pub fn give_last<K: Drop, V: Drop>(stack: &mut Nodes<K, V>, run: &mut Run<K, V>)
     pair
 }
 
-// Moves the lowest node of the back to the front, which has none, and opens its first child where it begins with one.
+/// Moves the lowest node of the back to the front, which has none, and opens its first child where it begins with one.
 pub fn move_to_front<K: Drop, V: Drop>(
     front: &mut Nodes<K, V>,
     run: &mut Run<K, V>,
@@ -136,7 +136,7 @@ pub fn move_to_front<K: Drop, V: Drop>(
     open_first(front, run, child);
 }
 
-// Moves the lowest node of the front to the back, which has none, and opens its last child where it ends with one.
+/// Moves the lowest node of the front to the back, which has none, and opens its last child where it ends with one.
 pub fn move_to_back<K: Drop, V: Drop>(
     front: &mut Nodes<K, V>,
     back: &mut Nodes<K, V>,

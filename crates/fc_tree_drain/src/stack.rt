@@ -26,7 +26,7 @@ impl<T> Model for Stack<T> {
 }
 
 impl<T> Stack<T> {
-    // How many items there are.
+    /// How many items there are.
     pub fn len(&self) -> usize
         ensures value { result ≡ length self.now }
         ensures fits { length self.now ≤ most_levels }
@@ -34,7 +34,7 @@ impl<T> Stack<T> {
         self.cells.len()
     }
 
-    // The item at `index`, from the bottom.
+    /// The item at `index`, from the bottom.
     pub fn get(&self, index: usize) -> &T
         requires { index < length self.now }
         ensures { result.now ≡ slice_index_or self.now index result.now }
@@ -47,7 +47,7 @@ impl<T> Stack<T> {
 }
 
 impl<T: Drop> Stack<T> {
-    // A stack of no item.
+    /// A stack of no item.
     pub fn new() -> Stack<T>
         ensures { result ≡ [] }
     {
@@ -56,7 +56,7 @@ impl<T: Drop> Stack<T> {
         }
     }
 
-    // Puts an item on top.
+    /// Puts an item on top.
     pub fn push(&mut self, item: T)
         requires { length self.old < most_levels }
         ensures { self.new ≡ self.old ++ item ∷ [] }
@@ -64,7 +64,7 @@ impl<T: Drop> Stack<T> {
         self.cells.push(Some(item));
     }
 
-    // Takes the item on top.
+    /// Takes the item on top.
     pub fn pop(&mut self) -> T
         requires { 0 < length self.old }
         ensures { self.old ≡ self.new ++ result ∷ [] }
@@ -76,7 +76,7 @@ impl<T: Drop> Stack<T> {
         item
     }
 
-    // Takes the item at the bottom.
+    /// Takes the item at the bottom.
     pub fn take_bottom(&mut self) -> T
         requires { 0 < length self.old }
         ensures { self.old ≡ result ∷ self.new }

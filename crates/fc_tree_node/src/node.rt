@@ -1,4 +1,12 @@
-//! Nodes of a B-tree, each with its pairs and, where it is no leaf, a child on either side of each pair.
+//! Nodes of a B-tree.
+//!
+//! A node holds 7 to 15 pairs, the root from 1 on, in the order of their keys. A leaf has no room for children; an inner node has one child more
+//! than pairs: child `i` lies before the pair `i`, and the last one after the last pair. Pairs and children lie in a list each, whose room is
+//! taken when the node is made; a child lies in its parent's list, and the root where the map does, so no node has a block for itself.
+//!
+//! Between two calls on a map all leaves of its tree lie equally deep, and each node holds as many pairs as it should (`IsSoundRoot` in
+//! `specs/Node.antt`). A call on one node may leave it short: who calls it mends it. Nothing here compares keys or takes memory, but for the
+//! two calls that make a node.
 ghost use Rattle.std.specs.Prelude.{◌≡◌, ◌+◌, ◌<◌, ◌≤◌, [], length, slice_index_or, IfOk, IfErr, IsTrue, ◌↔◌};
 ghost use Rattle.fc_base.specs.Sizes.{capacity, most_children};
 ghost use Rattle.fc_tree_node.specs.Node.{own_pairs, children_of, child_at, IsLeaf, IsBlankLeaf, IsBlankInner};

@@ -12,7 +12,7 @@ use fc_lines::items::Items;
 use fc_set::set::BTreeSet;
 use std::alloc::Global;
 
-// Answers copies of what the operation on both sets gives.
+/// Answers copies of what the operation on both sets gives.
 pub fn list<K: Ord + TryClone, V: TryClone>(
     alloc: Global,
     op: SetOp,
@@ -68,7 +68,7 @@ fn copies_of<'a, K: Ord + TryClone + 'a, I: Iterator<Item = &'a K> + Drop>(
     Ok(copies)
 }
 
-// Makes the set that of the operation on both sets.
+/// Makes the set that of the operation on both sets.
 pub fn keep<K: Ord + TryClone, V: TryClone>(
     op: SetOp,
     set: &mut BTreeSet<K>,

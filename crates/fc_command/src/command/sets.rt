@@ -14,7 +14,7 @@ use fc_set::set::{BTreeSet, Range};
 use std::alloc::Global;
 use std::ops::Bound;
 
-// Runs a command on a set and on the other one.
+/// Runs a command on a set and on the other one.
 pub fn step_set<K: Ord + TryClone, V: TryClone>(
     alloc: Global,
     set: &mut BTreeSet<K>,
