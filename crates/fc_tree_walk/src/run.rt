@@ -352,6 +352,7 @@ pub struct Step<'a, K, V> {
 }
 
 /// Goes on over a pair, and takes the run after it.
+#[tactic(auto, using(crate::proofs::Betweens::gap_fits, crate::proofs::Betweens::some_between, crate::proofs::Betweens::next_between, crate::proofs::Ways::above_beside))]
 pub fn step_first_run<'a, K, V>(
     root: &'a Option<Node<K, V>>,
     above: &mut Option<&'a Node<K, V>>,
@@ -373,6 +374,7 @@ pub fn step_first_run<'a, K, V>(
 }
 
 /// Goes back over a pair, and takes the run before it.
+#[tactic(auto, using(crate::proofs::Betweens::some_between, crate::proofs::Betweens::previous_between, crate::proofs::Ways::above_beside))]
 pub fn step_last_run<'a, K, V>(
     root: &'a Option<Node<K, V>>,
     above: &mut Option<&'a Node<K, V>>,
