@@ -73,8 +73,9 @@ module _ {X : Type 0} where
   laid_up {n = n} u xs h e room = let o = opened u xs h e in (o.is ∙ open_up xs 1 n u.len (omega (arith, o.long)), omega (arith, o.long))
 
   pub hole_free : (xs ys : List X) (m : ℕ) (cs : List (Option X)) (i : ℕ) → cs ≡ row xs 1 ys m → i ≡ length xs → (i < length cs) × (get_or cs i None ≡ None)
-  hole_free xs ys m cs i e at = let size = length-row xs 1 ys m in let same : length cs ≡ length (row xs 1 ys m) =
-      ap length e in (omega arith, ap (λ l. get_or l i None) e ∙ get_first xs 0 ys m i at)
+  hole_free xs ys m cs i e at =
+      let size = length-row xs 1 ys m in
+      let same : length cs ≡ length (row xs 1 ys m) = ap length e in (omega arith, ap (λ l. get_or l i None) e ∙ get_first xs 0 ys m i at)
 
   -- an item is put into the hole at i
   pub put_in : (xs : List X) (m i k n : ℕ) (cs ds : List (Option X)) (x : X) → cs ≡ row (take i xs) 1 (drop i xs) m → i ≤ length xs → ds ≡ set cs i (Some x)

@@ -49,8 +49,9 @@ module _ (R : RattleType) where
   here o = omega (arith, zero-mul s)
 
   pub small_step : (n i : ℕ) → i < n → n * s < 2 ^ 63 → (s < 2 ^ 64) × (i * s < 2 ^ 64)
-  small_step n i lt small = let one = one_below n s (2 ^ 63) (omega arith) small in let far =
-      times_below i n s (2 ^ 63) (omega arith) small in (omega arith, omega arith)
+  small_step n i lt small =
+      let one = one_below n s (2 ^ 63) (omega arith) small in
+      let far = times_below i n s (2 ^ 63) (omega arith) small in (omega arith, omega arith)
 
   module _ {M : Type 1} {𝓤 : Ura M} {𝓛 : Logic 𝓤} {K : Type 0} {G : Goal 𝓤 𝓛.H} where
     out : K → (b o : ℕ) (cs : List (Option R.Denot)) (i : ℕ) → i < length cs → {Γ : List (Item 𝓤)}

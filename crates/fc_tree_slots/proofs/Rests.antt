@@ -51,8 +51,9 @@ module _ {X : Type 0} where
       let p = unpacks cs k (k + m) (omega arith, e ∙ (λ i. replicate k true ++ replicate (sym left i) false)) in
       (p.0 ∙ (λ i. row (present cs) 0 [] (left i)) ∙ row_cut [] (present cs) m, p.1)
   after_gap [] (suc a) k m e = cc
-  after_gap (None ∷ cs) (suc a) k m e = let rest : map holds cs ≡ replicate a false ++ (replicate k true ++ replicate m false) = cc in let on =
-      after_gap cs a k m rest in (ap (λ l. None ∷ l) on.0, on.1)
+  after_gap (None ∷ cs) (suc a) k m e =
+      let rest : map holds cs ≡ replicate a false ++ (replicate k true ++ replicate m false) = cc in
+      let on = after_gap cs a k m rest in (ap (λ l. None ∷ l) on.0, on.1)
   after_gap (Some x ∷ cs) (suc a) k m e = cc
 
   pub rest_of : {n : ℕ} (u : Inside X n) (xs : List X) → IsPackedFrom u.cells u.start u.end n → present u.cells ≡ xs → IsRest u.cells xs u.start u.end n
