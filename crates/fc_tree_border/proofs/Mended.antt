@@ -143,8 +143,9 @@ module _ {K V : Type 0} where
   pub heir_levels : (heir : Option (Node K V)) (h : ℕ) (root : Node K V)
       → MatchOption heir (IsLeaf root) (λ c. children_of root ≡ c ∷ []) → IsLevelled h root → IsSoundWithin h heir
   heir_levels None h root e l = tt
-  heir_levels (Some c) zero root e l = absurd (let z : length (children_of root) ≡ 0 =
-      ap length (leaf_children root l.1) in let o : length (children_of root) ≡ 1 = ap length e in omega arith)
+  heir_levels (Some c) zero root e l =
+      let z : length (children_of root) ≡ 0 = ap length (leaf_children root l.1) in
+      let o : length (children_of root) ≡ 1 = ap length e in absurd (omega arith)
   heir_levels (Some c) (suc h) root e l =
       let a = (subst (AllByRecursion (IsSound h)) e l.2).0 in
       let many = a.0 in
@@ -161,8 +162,8 @@ module _ {K V : Type 0} where
     pub bordered : IsBordered s below c
 
   no_leaf : (n c : Node K V) → children_of n ≡ c ∷ [] → IsLeaf n → ⊥
-  no_leaf n c e l = absurd (let z : length (children_of n) ≡ 0 = ap length (leaf_children n l) in let o : length (children_of n) ≡ 1 =
-      ap length e in omega arith)
+  no_leaf n c e l = absurd (let z : length (children_of n) ≡ 0 = ap length (leaf_children n l) in
+      let o : length (children_of n) ≡ 1 = ap length e in omega arith)
 
   pub heir_bordered : (s : Border) (h : ℕ) (n c : Node K V) → children_of n ≡ c ∷ [] → IsBordered s h n → IsHeir s h c
   heir_bordered Left zero n c e b = absurd (no_leaf n c e b.1)
