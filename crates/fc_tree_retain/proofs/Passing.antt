@@ -68,16 +68,13 @@ module _ {K V : Type 0} where
       }
 
   pub written_leaf : (old mid : Node K V) (i : ℕ) (w : V) → IsLoose 0 old → mid ≡ with_value old i w → IsLoose 0 mid
-  written_leaf old mid i w l n = let z = (is_written old mid i w n).size in let fits =
-      l.0 in (omega arith, ap (λ m. (out-Node K V m).children) n ∙ field_made _ ∙ l.1)
+  written_leaf old mid i w l n =
+      let z = (is_written old mid i w n).size in
+      let fits = l.0 in (omega arith, ap (λ m. (out-Node K V m).children) n ∙ field_made _ ∙ l.1)
 
   empty_list : (xs : List (K × V)) → length xs ≡ 0 → xs ≡ []
   empty_list [] e = refl
   empty_list (x ∷ xs) e = absurd (omega arith)
-
-  empty_front : (xs ys : List (K × V)) → xs ++ ys ≡ [] → xs ≡ []
-  empty_front [] ys e = refl
-  empty_front (x ∷ xs) ys e = absurd (let l = ap length e in omega arith)
 
   -- a node whose child at a place became another
   pub record IsChildLeft (old mid c : Node K V) (i : ℕ) : Type 0 where
