@@ -461,7 +461,8 @@ module _ {K V : Type 0} (cmp : K → K → Ordering) where
   -- The places of an ascending list from where a range starts up to where it ends are the pairs within its bounds.
   pub places_are_within : (lo hi : Bound K) (s : List (K × V)) → IsTotalOrder cmp → IsAscending cmp s → IsTrue (is_range cmp lo hi)
       → let front = length s - length (filter (λ e. starts cmp lo e.0) s) in
-      let back = length (filter (λ e. stops cmp hi e.0) s) in take (back - front) (drop front s) ≡ within cmp lo hi s
+      let back = length (filter (λ e. stops cmp hi e.0) s) in
+      take (back - front) (drop front s) ≡ within cmp lo hi s
   places_are_within lo hi s total a range =
       let front = length s - length (filter (λ e. starts cmp lo e.0) s) in
       let back = length (filter (λ e. stops cmp hi e.0) s) in

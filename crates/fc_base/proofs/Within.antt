@@ -1,5 +1,5 @@
 -- The part of a list between two bounds, as what two cuts of it leave between them.
-use Rattle.std.proofs.Common.{◌≡◌, ℕ, ◌-◌, ◌≤◌, Bool, true, false, cond, List, [], ◌∷◌, ◌++◌, length, take, refl, sym, ap, ◌∙◌, arith, append_assoc, append-nil}
+use Rattle.std.proofs.Common.{◌≡◌, ℕ, ◌-◌, ◌≤◌, Bool, true, false, cond, List, [], ◌∷◌, ◌++◌, length, take, refl, sym, ap, ◌∙◌, arith, append_assoc}
 use Rattle.std.proofs.Common.{length-append}
 use Rattle.std.specs.Prelude.{◌&&◌}
 use Rattle.std.specs.List.{filter}
@@ -39,12 +39,6 @@ module _ {X : Type 0} where
   none_ahead p s a b e f =
       let g : filter p b ≡ b = ap (filter p) f ∙ filter_twice p s ∙ sym f in
       append_cancel_right (filter p a) [] b (ap (λ zs. filter p a ++ zs) (sym g) ∙ sym (filter-append p a b) ∙ ap (filter p) (sym e) ∙ sym f)
-
-  none_behind : (p : X → Bool) (s a b : List X) → s ≡ a ++ b → a ≡ filter p s → filter p b ≡ []
-  none_behind p s a b e f =
-      let g : filter p a ≡ a = ap (filter p) f ∙ filter_twice p s ∙ sym f in
-      append_cancel_left a (filter p b) [] (ap (λ zs. zs ++ filter p b) (sym g) ∙ sym (filter-append p a b) ∙ ap (filter p) (sym e) ∙ sym f
-      ∙ sym (append-nil a))
 
   -- Where what fails one test passes another, so does what nothing of passes the one.
   others_pass : (p q : X → Bool) (other : (x : X) → p x ≡ false → q x ≡ true) (s : List X) → filter p s ≡ [] → filter q s ≡ s

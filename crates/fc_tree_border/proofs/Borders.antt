@@ -43,10 +43,6 @@ module _ {X : Type 0} (P Q : X → Type 0) where
   last_of_all (x ∷ []) f a = f x a.0
   last_of_all (x ∷ y ∷ xs) f a = (a.0, last_of_all (y ∷ xs) f a.1)
 
-  first_all : (xs : List X) → ((x : X) → P x → Q x) → FirstThen P Q xs → AllByRecursion Q xs
-  first_all [] f a = tt
-  first_all (x ∷ xs) f a = (f x a.0, a.1)
-
 module _ {X : Type 0} where
   pub at_end : (A : List X) (c : X) (D : List X) (i : ℕ) (d : X) → length A ≡ i → get_or (A ++ c ∷ D) i d ≡ c
   at_end [] c D zero d e = refl

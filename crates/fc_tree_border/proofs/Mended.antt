@@ -143,8 +143,9 @@ module _ {K V : Type 0} where
   pub heir_levels : (heir : Option (Node K V)) (h : ℕ) (root : Node K V)
       → MatchOption heir (IsLeaf root) (λ c. children_of root ≡ c ∷ []) → IsLevelled h root → IsSoundWithin h heir
   heir_levels None h root e l = tt
-  heir_levels (Some c) zero root e l = absurd (let z : length (children_of root) ≡ 0 =
-      ap length (leaf_children root l.1) in let o : length (children_of root) ≡ 1 = ap length e in omega arith)
+  heir_levels (Some c) zero root e l =
+      let z : length (children_of root) ≡ 0 = ap length (leaf_children root l.1) in
+      let o : length (children_of root) ≡ 1 = ap length e in absurd (omega arith)
   heir_levels (Some c) (suc h) root e l =
       let a = (subst (AllByRecursion (IsSound h)) e l.2).0 in
       let many = a.0 in

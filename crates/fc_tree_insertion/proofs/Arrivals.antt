@@ -399,9 +399,3 @@ module _ {K V : Type 0} where
       steps false is =
           let d = few_levels (length p - 1) (length (pairs_of n)) (deep_root (length p - 1) n s) (omega arith) in
           rw is (omega arith)
-
-  -- the place of a first pair
-  pub put_first : (n : Node K V) (pair : K × V) → IsSoundRoot 0 n → pairs_of n ≡ pair ∷ [] → IsPutAt (0 ∷ []) n pair [] []
-  put_first n pair s e =
-      let own : own_pairs n ≡ pair ∷ [] = sym (leaf_pairs n s.1.1) ∙ e in
-      put_at (0 ∷ []) n pair [] [] 0 s.1 e (s.0, leaf_front n 0 s.1.1)

@@ -1,10 +1,9 @@
 -- The levels of a tree, after an insertion below a node.
-use Rattle.std.proofs.Common.{◌≡◌, ℕ, suc, ◌+◌, ◌≤◌, List, [], ◌∷◌, ◌++◌, length, sym, ap, ◌∙◌, subst, arith, Some, None, IfSome, MatchOption, length-append}
+use Rattle.std.proofs.Common.{◌≡◌, ℕ, suc, ◌+◌, ◌≤◌, List, [], ◌∷◌, length, sym, ap, ◌∙◌, subst, arith, Some, None, IfSome, MatchOption}
 use Rattle.std.specs.List.{AllByRecursion, insert}
-use Rattle.std.proofs.lemmas.List.Edits.{length-insert}
 use Rattle.fc_base.specs.Sizes.{capacity, min_len}
 use Rattle.fc_tree_node.specs.declared.node.Node.{Node}
-use Rattle.fc_tree_node.specs.Node.{own_pairs, children_of, IsLeaf, IsInner, IsLevelled}
+use Rattle.fc_tree_node.specs.Node.{own_pairs, children_of, IsInner, IsLevelled}
 use Rattle.fc_tree_insertion.specs.Insertion.{Split, own_pairs_after, children_after, IsHalved}
 use Rattle.fc_tree_node.proofs.Lists.{length_set, all_front, all_back, all_set, all_put}
 use Rattle.fc_tree_node.proofs.Pairs.{IsBelow}

@@ -99,8 +99,8 @@ module _ {K V : Type 0} where
       let ps = own_pairs n in let cs = children_of n in
       let k : length cs ≡ length ps + 1 = e in
       let p = get_or ps i d in
-      let m : length (lists (take (suc i) cs)) ≡ length (take i ps) + 1 = lists_taken n (suc i) (omega arith) ∙ let t =
-      length_take i ps (omega arith) in omega arith in
+      let m : length (lists (take (suc i) cs)) ≡ length (take i ps) + 1 =
+      lists_taken n (suc i) (omega arith) ∙ let t = length_take i ps (omega arith) in omega arith in
       let r : 0 < length (lists (drop (suc i) cs)) = omega (arith, length-map (drop (suc i) cs) pairs_of, length-drop (suc i) cs) in
       pairs_is n
       ∙ ap (λ qs. weave (lists cs) qs) (cut_item ps i d h)
@@ -124,8 +124,8 @@ module _ {K V : Type 0} where
   before_child_pair (suc h) n i d l k =
       let ps = own_pairs n in let cs = children_of n in
       let e : length cs ≡ length ps + 1 = l.1 in
-      let m : length (lists (take (suc i) cs)) ≡ length (take i ps) + 1 = lists_taken n (suc i) (omega arith) ∙ let t =
-      length_take i ps (omega arith) in omega arith in
+      let m : length (lists (take (suc i) cs)) ≡ length (take i ps) + 1 =
+      lists_taken n (suc i) (omega arith) ∙ let t = length_take i ps (omega arith) in omega arith in
       ap (λ qs. before_list (lists (take (suc i) cs)) qs) (take_item ps i d k) ∙ before_item (lists (take (suc i) cs)) (take i ps) (get_or ps i d) m
 
   -- what is after a child begins with the next pair

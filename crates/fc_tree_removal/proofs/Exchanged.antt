@@ -26,8 +26,7 @@ module _ {K V : Type 0} where
       → stop.moves ≡ start.moves + 2 → IsExchanged root new path pair old start stop
   exchanged root new path slice pair old start stop way sound place o p size levels two =
       let was : place_pair path root ≡ Some old = ap (λ q. place_pair q root) (sym way) ∙ o in
-      let parts : pairs_of new ≡ before_pair path root ++ pair ∷ after_pair path root =
-      p ∙ ap (λ q. before_pair q root ++ pair ∷ after_pair q root) way in
+      let parts : pairs_of new ≡ before_pair path root ++ pair ∷ after_pair path root = p ∙ ap (λ q. before_pair q root ++ pair ∷ after_pair q root) way in
       let cut = place_pairs path sound.0 root sound.2.1 place in
       let before = ap length cut.parts ∙ length-append (before_pair path root) (cut.pair ∷ after_pair path root) in
       let after = ap length parts ∙ length-append (before_pair path root) (pair ∷ after_pair path root) in

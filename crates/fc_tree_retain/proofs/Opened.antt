@@ -1,11 +1,11 @@
 -- A node opened at a child: what is before it, the child, and what is after it.
-use Rattle.std.proofs.Common.{◌≡◌, ℕ, suc, ◌+◌, ◌<◌, ◌≤◌, List, [], ◌∷◌, ◌++◌, length, get_or, map, take, drop, refl, sym, ap, ◌∙◌, arith, append_assoc}
+use Rattle.std.proofs.Common.{◌≡◌, ℕ, suc, ◌+◌, ◌<◌, List, [], ◌∷◌, ◌++◌, length, get_or, map, take, drop, refl, sym, ap, ◌∙◌, arith, append_assoc}
 use Rattle.std.proofs.lemmas.List.{length-map, map-append, length-append}
 use Rattle.fc_tree_node.specs.Weave.{before_list, after_list}
 use Rattle.fc_tree_node.specs.declared.node.Node.{Node}
 use Rattle.fc_tree_node.specs.Node.{own_pairs, children_of, child_at, pairs_of, IsInner}
 use Rattle.fc_tree_node.specs.Place.{before_child, after_child}
-use Rattle.fc_tree_node.proofs.Lists.{length_take, take_drop}
+use Rattle.fc_tree_node.proofs.Lists.{length_take}
 use Rattle.fc_tree_node.proofs.Siblings.{one_at, two_at}
 use Rattle.fc_tree_retain.proofs.Lists.{at_place, take_place, drop_place}
 
@@ -63,19 +63,7 @@ module _ {K V : Type 0} where
   before_next A c P q e = ap (λ cs. before_list cs (P ++ q ∷ [])) (map-append pairs_of A (c ∷ []))
       ∙ before_more (map pairs_of A) (pairs_of c) P q (length-map A pairs_of ∙ e)
 
-  -- at any child
-  pub opened : (n : Node K V) (i : ℕ) → IsInner n → i ≤ length (own_pairs n)
-      → IsOpenAt n i (take i (children_of n)) (child_at n i) (drop (suc i) (children_of n)) (take i (own_pairs n)) (drop i (own_pairs n))
-  opened n i inner le =
-      let k : length (children_of n) ≡ length (own_pairs n) + 1 = inner in
-      record {
-        children = one_at (children_of n) i n (omega arith);
-        own = sym (take_drop i (own_pairs n));
-        before = length_take i (children_of n) (omega arith);
-        own_before = length_take i (own_pairs n) le;
-      }
-
-  -- at one with a pair behind it
+  -- at a child with a pair behind it
   pub opened_two : (n : Node K V) (i : ℕ) (e : K × V) → IsInner n → i < length (own_pairs n) → e ≡ get_or (own_pairs n) i e
       → IsOpenAt n i (take i (children_of n)) (child_at n i) (child_at n (i + 1) ∷ drop (suc (suc i)) (children_of n)) (take i (own_pairs n))
       (e ∷ drop (suc i) (own_pairs n))

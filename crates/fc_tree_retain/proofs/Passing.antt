@@ -76,10 +76,6 @@ module _ {K V : Type 0} where
   empty_list [] e = refl
   empty_list (x ∷ xs) e = absurd (omega arith)
 
-  empty_front : (xs ys : List (K × V)) → xs ++ ys ≡ [] → xs ≡ []
-  empty_front [] ys e = refl
-  empty_front (x ∷ xs) ys e = absurd (let l = ap length e in omega arith)
-
   -- a node whose child at a place became another
   pub record IsChildLeft (old mid c : Node K V) (i : ℕ) : Type 0 where
     pub before : before_child mid i ≡ before_child old i

@@ -147,8 +147,8 @@ module _ {K V : Type 0} where
       let r = written_at (j ∷ path) (child_at n i) p w q.1 e in
       let all = child_children n i c in
       let same : child_at m i ≡ c = ap (λ ds. get_or ds i m) all ∙ get_set cs i c m q.0 in
-      let lt : i < length (children_of m) = let f = q.0 in let g = length_set cs i c in let k : length (children_of m) ≡ length (slice_set cs i c) =
-      ap length all in omega arith in
+      let lt : i < length (children_of m) = let f = q.0 in let g = length_set cs i c in
+      let k : length (children_of m) ≡ length (slice_set cs i c) = ap length all in omega arith in
       let lead : before_child m i ≡ before_child n i = ap (λ ds. before_list (map pairs_of ds) (take i (own_pairs m))) (ap (take i) all ∙ take_set cs i c)
       ∙ ap (λ ps. before_list (map pairs_of (take i cs)) (take i ps)) (child_own n i c) in
       let rest : after_child m i ≡ after_child n i = ap (λ ds. after_list (drop i (own_pairs m)) (map pairs_of ds)) (ap (drop (suc i)) all ∙ drop_set cs i c)

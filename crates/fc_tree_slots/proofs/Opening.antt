@@ -60,8 +60,8 @@ module _ (E : El) where
     -- [the place; the pointer; the rest of the row; the open borrow, in three entries]
     pub open_row : K → Soaks G → i < length d.held → {κ : Lft} {q : Share} {γ : GName} {Γ : List (Item 𝓤)}
         → ((b o : ℕ) → d.start ≡ block_ptr b o → (type_size (R E) < 2 ^ 64) × (i * type_size (R E) < 2 ^ 64)
-        → Seq K 𝓛 (‵ (place (R E) b (i * type_size (R E) + o) (get_or d.held i None)) ∷ ‵ (word_at rb ro (block_ptr b o)) ∷ ‵ (Rest (R E) b o d.held i) ∷ ‵
-        (fobor κ q (Body (mem Pr) rb ro γ)) ∷ ‵ (fobs γ (Pr.coded.code d)) ∷ ‵ (fauth γ (Pr.coded.code d)) ∷ Γ) G)
+        → Seq K 𝓛 (‵ (place (R E) b (i * type_size (R E) + o) (get_or d.held i None)) ∷ ‵ (word_at rb ro (block_ptr b o)) ∷ ‵ (Rest (R E) b o d.held i)
+        ∷ ‵ (fobor κ q (Body (mem Pr) rb ro γ)) ∷ ‵ (fobs γ (Pr.coded.code d)) ∷ ‵ (fauth γ (Pr.coded.code d)) ∷ Γ) G)
         → Seq K 𝓛 (‵ (fobs γ (Pr.coded.code d)) ∷ ‵ (fbor κ (Body (mem Pr) rb ro γ)) ∷ ‵ (flft κ q) ∷ Γ) G
     open_row t z lt k = opens t z Pr {h = d} rb ro (λ vs. move t (1 ∷ []) $ fsplit t $ peeks t Word (Is Word) (shows 𝓛 Word) (d.start, tt) vs (λ told. drop t $
         reach (R E) t d.start d.held i lt (λ b o e fits. move t (2 ∷ []) $
@@ -79,8 +79,8 @@ module _ (E : El) where
     pub shut_row : K → Soaks G → (b o : ℕ) → d.start ≡ block_ptr b o → i < length d.held → (c : Option E.row.Denot)
         → {κ : Lft} {q : Share} {u v : Gv} {γ : GName} {Γ : List (Item 𝓤)}
         → let new = with_place d i c in Step K 𝓛 (‵ (fobs γ (Pr.coded.code new)) ∷ ‵ (fbor κ (Body (mem Pr) rb ro γ)) ∷ ‵ (flft κ q) ∷ Γ) G
-        (‵ (place (R E) b (i * type_size (R E) + o) c) ∷ ‵ (word_at rb ro (block_ptr b o)) ∷ ‵ (Rest (R E) b o d.held i) ∷ ‵
-        (fobor κ q (Body (mem Pr) rb ro γ)) ∷ ‵ (fobs γ u) ∷ ‵ (fauth γ v) ∷ Γ) G
+        (‵ (place (R E) b (i * type_size (R E) + o) c) ∷ ‵ (word_at rb ro (block_ptr b o)) ∷ ‵ (Rest (R E) b o d.held i)
+        ∷ ‵ (fobor κ q (Body (mem Pr) rb ro γ)) ∷ ‵ (fobs γ u) ∷ ‵ (fauth γ v) ∷ Γ) G
     shut_row t z b o e lt c = step (λ k. move t (1 ∷ 2 ∷ []) $ fjoin t $ move t (1 ∷ []) $ row_back t b o e lt c $ close_ref t z (mem Pr) (with_place d i c)
         {b = rb} {o = ro} $ k)
 
@@ -102,8 +102,8 @@ module _ (E : El) where
 
     -- [nothing; the pointer, as it may be read; two entries that shut it]
     pub look_start : K → Soaks G → (p : Ptr) (b o : ℕ) → p ≡ block_ptr b o → {q : Share}
-        → ((q' : Share) → Seq K 𝓛 (‵ ftrue ∷ ‵ (fat q' ty_ptr rb (ro + 0) (vptr b o)) ∷ Shut 𝓛 κ q (part_at RawPtr q' (block_ptr b o) rb (ro + 0)) ∷ ‵
-        (Seen κ rb ro (block_ptr b o)) ∷ Γ) G)
+        → ((q' : Share) → Seq K 𝓛 (‵ ftrue ∷ ‵ (fat q' ty_ptr rb (ro + 0) (vptr b o)) ∷ Shut 𝓛 κ q (part_at RawPtr q' (block_ptr b o) rb (ro + 0))
+        ∷ ‵ (Seen κ rb ro (block_ptr b o)) ∷ Γ) G)
         → Seq K 𝓛 (‵ (Seen κ rb ro p) ∷ ‵ (flft κ q) ∷ Γ) G
     look_start t z p b o e k = rewrite t 0 (λ at. ‵ (Seen κ rb ro at)) e refl $ pointer_in t z (block_ptr b o) tt rb (ro + 0)
         (seen_start 𝓛 κ rb ro (block_ptr b o)) k

@@ -118,8 +118,9 @@ module _ {X : Type 0} where
   laid (None ∷ cs) (suc k) m e = cc
   laid (Some x ∷ cs) zero zero e = cc
   laid (Some x ∷ cs) zero (suc m) e = cc
-  laid (Some x ∷ cs) (suc k) m e = let rest : map holds cs ≡ replicate k true ++ replicate m false = cc in let on =
-      laid cs k m rest in (ap (λ l. Some x ∷ l) on.0, ap suc on.1)
+  laid (Some x ∷ cs) (suc k) m e =
+      let rest : map holds cs ≡ replicate k true ++ replicate m false = cc in
+      let on = laid cs k m rest in (ap (λ l. Some x ∷ l) on.0, ap suc on.1)
 
   pub unpacks : (cs : List (Option X)) (k n : ℕ) → IsPacked cs k n → (cs ≡ row (present cs) 0 [] (n - k)) × (length (present cs) ≡ k)
   unpacks cs k n h = laid cs k (n - k) h.1
@@ -189,8 +190,8 @@ module _ {X : Type 0} where
 
     pub up_free : (ds : List (Option X)) → ds ≡ set cs p None → IsFree ds q
     up_free ds e =
-        let size = length-row (take j zs) (suc k) (drop (suc j) zs) m in let same : length ds ≡ length (row (take j zs) (suc k) (drop (suc j) zs) m) =
-        ap length (lifted ds e) in
+        let size = length-row (take j zs) (suc k) (drop (suc j) zs) m in
+        let same : length ds ≡ length (row (take j zs) (suc k) (drop (suc j) zs) m) = ap length (lifted ds e) in
         (omega (arith, short), ap (λ l. get_or l q None) (lifted ds e) ∙ get_end (take j zs) k (drop (suc j) zs) m q (omega (arith, short)))
 
     pub up_done : (ds es : List (Option X)) (item : X) (j' : ℕ) → ds ≡ set cs p None → get_or cs p None ≡ Some item → es ≡ set ds q (Some item) → j' ≡ j

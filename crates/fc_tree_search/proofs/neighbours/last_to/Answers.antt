@@ -9,20 +9,20 @@ use Rattle.fc_tree_search.proofs.neighbours.last_to.Given as given
 use Rattle.fc_tree_search.proofs.neighbours.last_to.Goals as goal
 use Rattle.fc_tree_search.proofs.neighbours.last_to.Goals.{After-search_node}
 
-on : (g : given.Over) (c : After-search_node g)
+searched : (g : given.Over) (c : After-search_node g)
     → IsSearch g.K.Ord.cmp g.Q.Query.order (g.Q.Query.sought c.args.key) c.args.root.now c.down.node.now c.down.invariant.0.0
-on g c = record { fits = g.met.Q.Query.fits; levels = c.requires.levels; order = c.requires.order; way = c.down.invariant.0.1 }
+searched g c = record { fits = g.met.Q.Query.fits; levels = c.requires.levels; order = c.requires.order; way = c.down.invariant.0.1 }
 
 pub returns-in-Ok-clause-value : goal.returns-in-Ok-clause-value
 returns-in-Ok-clause-value g c =
-    found_to (on g (goal.at.returns-in-Ok-clause-value g c).After-search_node) c.in-Ok.i c.in-Ok.ensures.found c.pair.result.now c.pair.ensures
+    found_to (searched g (goal.at.returns-in-Ok-clause-value g c).After-search_node) c.in-Ok.i c.in-Ok.ensures.found c.pair.result.now c.pair.ensures
 
 pub last_before_child-last-requires-clause-levels : goal.last_before_child-last-requires-clause-levels
 last_before_child-last-requires-clause-levels g c = let d = way_levels _ _ c.requires.levels c.down.invariant.0.1 in (d.0, d.2)
 
 pub returns-in-Ok-clause-comparisons : goal.returns-in-Ok-clause-comparisons
 returns-in-Ok-clause-comparisons g c =
-    let f = ends_at (on g (goal.at.returns-in-Ok-clause-comparisons g c).After-search_node) c.in-Ok.i c.in-Ok.ensures.found in
+    let f = ends_at (searched g (goal.at.returns-in-Ok-clause-comparisons g c).After-search_node) c.in-Ok.i c.in-Ok.ensures.found in
     omega (arith, c.in-Ok.ensures.comparisons)
 
 pub returns-in-Ok-clause-bounded : goal.returns-in-Ok-clause-bounded
@@ -32,13 +32,13 @@ returns-in-Ok-clause-bounded g c =
 
 pub returns-then-is_leaf-clause-value : goal.returns-then-is_leaf-clause-value
 returns-then-is_leaf-clause-value g c =
-    let s = on g (goal.at.returns-then-is_leaf-clause-value g c).After-search_node in
+    let s = searched g (goal.at.returns-then-is_leaf-clause-value g c).After-search_node in
     c.last_before_child-last.ensures (before_gap c.down.invariant.0.0 c.args.root.now) c.down.invariant.0.2
     ∙ ap last_item (none_to s c.in-Err.gap c.in-Err.ensures.gap (c.if-is_leaf.ensures.0 refl))
 
 pub returns-then-is_leaf-clause-comparisons : goal.returns-then-is_leaf-clause-comparisons
 returns-then-is_leaf-clause-comparisons g c =
-    let s = on g (goal.at.returns-then-is_leaf-clause-comparisons g c).After-search_node in
+    let s = searched g (goal.at.returns-then-is_leaf-clause-comparisons g c).After-search_node in
     let f = ends_in s c.in-Err.gap c.in-Err.ensures.gap (c.if-is_leaf.ensures.0 refl) in
     omega (arith, c.in-Err.ensures.comparisons)
 
@@ -49,17 +49,17 @@ returns-then-is_leaf-clause-bounded g c =
 
 pub child-node-requires : goal.child-node-requires
 child-node-requires g c =
-    let there = has_child (on g (goal.at.child-node-requires g c).After-search_node) c.in-Err.gap c.in-Err.ensures.gap c.if-is_leaf.ensures.1 in
+    let there = has_child (searched g (goal.at.child-node-requires g c).After-search_node) c.in-Err.gap c.in-Err.ensures.gap c.if-is_leaf.ensures.1 in
     omega arith
 
 pub down-smaller : goal.down-smaller
 down-smaller g c =
-    let s = on g (goal.at.down-smaller g c).After-search_node in
+    let s = searched g (goal.at.down-smaller g c).After-search_node in
     (goes_on s c.in-Err.gap c.child-node.result.now c.in-Err.ensures.gap c.if-is_leaf.ensures.1 c.child-node.ensures).fewer
 
 pub down-preserved : goal.down-preserved
 down-preserved g c =
-    let s = on g (goal.at.down-preserved g c).After-search_node in
+    let s = searched g (goal.at.down-preserved g c).After-search_node in
     let next = goes_on s c.in-Err.gap c.child-node.result.now c.in-Err.ensures.gap c.if-is_leaf.ensures.1 c.child-node.ensures in
     let p = next.passes in (
       (

@@ -7,9 +7,9 @@ use Rattle.fc_tree_search.proofs.search.descend.Given as given
 use Rattle.fc_tree_search.proofs.search.descend.Goals as goal
 use Rattle.fc_tree_search.proofs.search.descend.Goals.{After-search_node}
 
-on : (g : given.Over) (c : After-search_node g)
+searched : (g : given.Over) (c : After-search_node g)
     → IsSearch g.K.Ord.cmp g.Q.Query.order (g.Q.Query.sought c.args.key) c.args.root.now c.down.node.now c.down.path
-on g c = record { fits = g.met.Q.Query.fits; levels = c.requires.levels; order = c.requires.order; way = c.down.invariant.0 }
+searched g c = record { fits = g.met.Q.Query.fits; levels = c.requires.levels; order = c.requires.order; way = c.down.invariant.0 }
 
 pub push-requires : goal.push-requires
 push-requires g c = record {
@@ -25,14 +25,14 @@ push-requires-in-Err g c = record {
 
 pub returns-in-Ok-clause-found : goal.returns-in-Ok-clause-found
 returns-in-Ok-clause-found g c =
-    way_found (on g (goal.at.returns-in-Ok-clause-found g c).After-search_node) c.in-Ok.i _ c.push.ensures c.in-Ok.ensures.found
+    way_found (searched g (goal.at.returns-in-Ok-clause-found g c).After-search_node) c.in-Ok.i _ c.push.ensures c.in-Ok.ensures.found
 
 pub returns-in-Ok-clause-node : goal.returns-in-Ok-clause-node
 returns-in-Ok-clause-node g c = sym (way_leaf _ _ c.in-Ok.i _ c.push.ensures c.down.invariant.0)
 
 pub returns-in-Ok-clause-comparisons : goal.returns-in-Ok-clause-comparisons
 returns-in-Ok-clause-comparisons g c =
-    let f = ends_at (on g (goal.at.returns-in-Ok-clause-comparisons g c).After-search_node) c.in-Ok.i c.in-Ok.ensures.found in
+    let f = ends_at (searched g (goal.at.returns-in-Ok-clause-comparisons g c).After-search_node) c.in-Ok.i c.in-Ok.ensures.found in
     omega (arith, c.in-Ok.ensures.comparisons)
 
 pub returns-in-Ok-clause-bounded : goal.returns-in-Ok-clause-bounded
@@ -42,11 +42,11 @@ returns-in-Ok-clause-bounded g c =
 
 pub returns-in-Ok-clause-path : goal.returns-in-Ok-clause-path
 returns-in-Ok-clause-path g c =
-    path_ends (on g (goal.at.returns-in-Ok-clause-path g c).After-search_node) c.down.invariant.3 c.in-Ok.i _ c.push.ensures c.in-Ok.ensures.found
+    path_ends (searched g (goal.at.returns-in-Ok-clause-path g c).After-search_node) c.down.invariant.3 c.in-Ok.i _ c.push.ensures c.in-Ok.ensures.found
 
 pub returns-then-is_leaf-clause-gap : goal.returns-then-is_leaf-clause-gap
 returns-then-is_leaf-clause-gap g c =
-    way_gap (on g (goal.at.returns-then-is_leaf-clause-gap g c).After-search_node) c.in-Err.i _ c.push-in-Err.ensures
+    way_gap (searched g (goal.at.returns-then-is_leaf-clause-gap g c).After-search_node) c.in-Err.i _ c.push-in-Err.ensures
     c.in-Err.ensures.gap (c.if-is_leaf.ensures.0 refl)
 
 pub returns-then-is_leaf-clause-leaf : goal.returns-then-is_leaf-clause-leaf
@@ -54,7 +54,7 @@ returns-then-is_leaf-clause-leaf g c = sym (way_leaf _ _ c.in-Err.i _ c.push-in-
 
 pub returns-then-is_leaf-clause-comparisons : goal.returns-then-is_leaf-clause-comparisons
 returns-then-is_leaf-clause-comparisons g c =
-    let s = on g (goal.at.returns-then-is_leaf-clause-comparisons g c).After-search_node in
+    let s = searched g (goal.at.returns-then-is_leaf-clause-comparisons g c).After-search_node in
     let f = ends_in s c.in-Err.i c.in-Err.ensures.gap (c.if-is_leaf.ensures.0 refl) in
     omega (arith, c.in-Err.ensures.comparisons)
 
@@ -65,12 +65,12 @@ returns-then-is_leaf-clause-bounded g c =
 
 pub returns-then-is_leaf-clause-path : goal.returns-then-is_leaf-clause-path
 returns-then-is_leaf-clause-path g c =
-    path_ends_leaf (on g (goal.at.returns-then-is_leaf-clause-path g c).After-search_node) c.down.invariant.3 c.in-Err.i _
+    path_ends_leaf (searched g (goal.at.returns-then-is_leaf-clause-path g c).After-search_node) c.down.invariant.3 c.in-Err.i _
     c.push-in-Err.ensures c.in-Err.ensures.gap (c.if-is_leaf.ensures.0 refl)
 
 pub child-node-requires : goal.child-node-requires
 child-node-requires g c =
-    let there = has_child (on g (goal.at.child-node-requires g c).After-search_node) c.in-Err.i c.in-Err.ensures.gap c.if-is_leaf.ensures.1 in
+    let there = has_child (searched g (goal.at.child-node-requires g c).After-search_node) c.in-Err.i c.in-Err.ensures.gap c.if-is_leaf.ensures.1 in
     omega arith
 
 pub down-smaller : goal.down-smaller
@@ -81,7 +81,7 @@ down-smaller g c =
 
 pub down-preserved : goal.down-preserved
 down-preserved g c =
-    let s = on g (goal.at.down-preserved g c).After-search_node in
+    let s = searched g (goal.at.down-preserved g c).After-search_node in
     let there = has_child s c.in-Err.i c.in-Err.ensures.gap c.if-is_leaf.ensures.1 in
     let w = way_more s c.in-Err.i c.child-node.result.now _ c.push-in-Err.ensures c.in-Err.ensures.gap there c.child-node.ensures in
     let p = (goes_on s c.in-Err.i c.child-node.result.now c.in-Err.ensures.gap c.if-is_leaf.ensures.1 c.child-node.ensures).passes in

@@ -24,8 +24,8 @@ record_spec 𝓤 𝓛 𝓜 𝓡 wired =
     let m = a.1.0 in let n = a.1.1.0 in
     let h' : R.Denot = record { marker = h.marker; comparisons = h.comparisons + m; moves = h.moves + n } in
     let y : W.Ghost = ((κs, qs, bounds, a, (vs, (uint_vals w64 m, (uint_vals w64 n, tt)))), tt) in
-    qed 𝓛 (((‵ (flft κs.0 qs.0) ⊛ ‵ ftrue) ⊛ ‵ ((MutRef (named 0) κs.0 R).own_val a.0 vs) ⊛ ‵ (u64.own_val m (vint w64 m ∷ [])) ⊛ ‵
-    (u64.own_val n (vint w64 n ∷ [])) ⊛ ‵ ftrue) ∷ ‵ ftrue ∷ []) ∵
+    qed 𝓛 (((‵ (flft κs.0 qs.0) ⊛ ‵ ftrue) ⊛ ‵ ((MutRef (named 0) κs.0 R).own_val a.0 vs) ⊛ ‵ (u64.own_val m (vint w64 m ∷ []))
+    ⊛ ‵ (u64.own_val n (vint w64 n ∷ [])) ⊛ ‵ ftrue) ∷ ‵ ftrue ∷ []) ∵
     split ! $ split ! $ move ! (2 ∷ []) $ split ! $ keep ! (0 ∷ 2 ∷ []) $
     enter ! _ _ _ _ _ $ alloc_all ! (λ l. pass_all ! refl ((tt, tt), ((tt, record { fits = are.1.0.1 }), ((tt, record { fits = are.1.1.0.1 }), tt))) $
     sets ! (of_opd ! (unit_lit !)) refl (tt, tt) $

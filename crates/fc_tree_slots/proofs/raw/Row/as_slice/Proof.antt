@@ -23,8 +23,8 @@ as_slice_spec 𝓤 𝓛 𝓜 𝓡 wired T L =
     let hs : Stays ps En.kept = (stay_dropped _ _, (stay_dropped _ _, tt)) in
     proved_at 𝓛 En hs c 𝓜 𝓡 (Goes-dropped 𝓛 2 (param_at 0 ps) En.kept.0 (λ κs x f. refl), (Goes-dropped 𝓛 2 (param_at 1 ps) En.kept.1.0 (λ κs x f. refl), tt))
     (f.Key.name (args E)) fn (code.unfolded 𝓤 𝓛.H 𝓜 𝓡 wired (T, tt)) (λ z are.
-    let κ = z.0.0.0 in let r = z.0.3.0 in let rb = r.ref_ptr.0 in let ro = r.ref_ptr.1 in let d = r.now in let len = z.0.3.1.0 in let Post =
-    (walk_of 𝓛 En hs c).post z in
+    let κ = z.0.0.0 in let r = z.0.3.0 in let rb = r.ref_ptr.0 in let ro = r.ref_ptr.1 in let d = r.now in let len = z.0.3.1.0 in
+    let Post = (walk_of 𝓛 En hs c).post z in
     let Asks = ArePresent d.held len in
     qed 𝓛 (((‵ (flft κ z.0.1.0) ⊛ ‵ (flft z.0.0.1.0 z.0.1.1.0) ⊛ ‵ ftrue) ⊛ ‵ (owns (types_at ps z.0.0) z.0.3 z.0.4))
     ∷ (raw (fact 𝓤 (z.0.0.1.0 ⊑ T.lives)) ⊛ raw (fact 𝓤 Asks)) ∷ []) ∵
@@ -42,6 +42,6 @@ as_slice_spec 𝓤 𝓛 𝓜 𝓡 wired T L =
     returns ! (look_at ! 0 refl) $ free_all ! refl $ keep ! (0 ∷ 3 ∷ 2 ∷ []) $ join ! $ move ! (1 ∷ []) $ let v = slice_val (b, o) (length xs) in
     flt_i ! (length xs * type_size (R E)) (2 ^ 63) small $ flt_i ! (length xs) (2 ^ 64) fits $ fjoin ! $ feq_i ! (List Val) (v ∷ []) (v ∷ []) refl $ fjoin ! $
     fjoin ! $
-    use0 𝓛 (raw (fact 𝓤 (take len d.held ≡ map Some xs))) (fact_i 𝓤 _ (emp 𝓤) asked.1) $ nothing ! $ nothing ! $ fjoin ! $ nothing ! $ fjoin ! $ move !
-    (3 ∷ 0 ∷ 2 ∷ 1 ∷ []) $
+    use0 𝓛 (raw (fact 𝓤 (take len d.held ≡ map Some xs))) (fact_i 𝓤 _ (emp 𝓤) asked.1) $ nothing ! $ nothing ! $ fjoin ! $ nothing ! $ fjoin ! $
+    move ! (3 ∷ 0 ∷ 2 ∷ 1 ∷ []) $
     by ! (leaves 𝓛 En hs c z v (record { ref_ptr = (b, o); now = xs }) (tt, (tt, tt)) (tt, (tt, tt))))))))

@@ -22,8 +22,8 @@ get_spec 𝓤 𝓛 𝓜 𝓡 wired T L =
     let hs : Stays ps En.kept = (stay_dropped _ _, (stay_dropped _ _, tt)) in
     proved_at 𝓛 En hs c 𝓜 𝓡 (Goes-dropped 𝓛 2 (param_at 0 ps) En.kept.0 (λ κs x f. refl), (Goes-dropped 𝓛 2 (param_at 1 ps) En.kept.1.0 (λ κs x f. refl), tt))
     (f.Key.name (args E)) fn (code.unfolded 𝓤 𝓛.H 𝓜 𝓡 wired (T, tt)) (λ z are.
-    let κ = z.0.0.0 in let r = z.0.3.0 in let rb = r.ref_ptr.0 in let ro = r.ref_ptr.1 in let d = r.now in let i = z.0.3.1.0 in let Post =
-    (walk_of 𝓛 En hs c).post z in
+    let κ = z.0.0.0 in let r = z.0.3.0 in let rb = r.ref_ptr.0 in let ro = r.ref_ptr.1 in let d = r.now in let i = z.0.3.1.0 in
+    let Post = (walk_of 𝓛 En hs c).post z in
     let Asks = IsPresent d.held i in
     qed 𝓛 (((‵ (flft κ z.0.1.0) ⊛ ‵ (flft z.0.0.1.0 z.0.1.1.0) ⊛ ‵ ftrue) ⊛ ‵ (owns (types_at ps z.0.0) z.0.3 z.0.4))
     ∷ (raw (fact 𝓤 (z.0.0.1.0 ⊑ T.lives)) ⊛ raw (fact 𝓤 Asks)) ∷ []) ∵
@@ -35,12 +35,12 @@ get_spec 𝓤 𝓛 𝓜 𝓡 wired T L =
     look_start E κ rb ro ! tt d.start b o e (λ q'.
     first ! $ blocks ! $ sets ! (of_opd ! (load ! (through ! refl (fld ! refl (stop !))) (look ! 1 refl))) refl (tt, tt) $
     pointer_out ! tt (block_ptr b o) tt rb (ro + 0) $
-    sets ! (bin ! (get ! refl) (size_lit ! (record { fits = fits.0 })) (record { fits = fits.1 })) refl (tt, record { fits = fits.1 }) $ sets !
-    (bin ! (get ! refl) (get ! refl) tt) refl (tt, tt) $
-    sets_last ! (addr ! (through ! refl (stop !))) refl (tt, tt) $ exec ! 𝓣.C 𝓣.Λ (env fn.locals l) (after 1 fn.body) (at_ret _ Post) $ sets !
-    (of_opd ! (get ! refl)) refl (tt, tt) $
+    sets ! (bin ! (get ! refl) (size_lit ! (record { fits = fits.0 })) (record { fits = fits.1 })) refl (tt, record { fits = fits.1 }) $
+    sets ! (bin ! (get ! refl) (get ! refl) tt) refl (tt, tt) $
+    sets_last ! (addr ! (through ! refl (stop !))) refl (tt, tt) $ exec ! 𝓣.C 𝓣.Λ (env fn.locals l) (after 1 fn.body) (at_ret _ Post) $
+    sets ! (of_opd ! (get ! refl)) refl (tt, tt) $
     -- [the token of the `&`; its fields; the item; the other token; the locals]
     returns ! (look_at ! 0 refl) $ free_all ! refl $ keep ! (0 ∷ 3 ∷ 2 ∷ []) $ join ! $ move ! (1 ∷ []) $ feq_i ! _ (vptr b at ∷ []) _ refl $ fjoin ! $
-    use0 𝓛 (raw (fact 𝓤 (get_or d.held i None ≡ Some asked.0))) (fact_i 𝓤 _ (emp 𝓤) asked.1) $ nothing ! $ nothing ! $ fjoin ! $ nothing ! $ fjoin ! $ move !
-    (3 ∷ 0 ∷ 2 ∷ 1 ∷ []) $
+    use0 𝓛 (raw (fact 𝓤 (get_or d.held i None ≡ Some asked.0))) (fact_i 𝓤 _ (emp 𝓤) asked.1) $ nothing ! $ nothing ! $ fjoin ! $ nothing ! $ fjoin ! $
+    move ! (3 ∷ 0 ∷ 2 ∷ 1 ∷ []) $
     by ! (leaves 𝓛 En hs c z (vptr b at) (record { ref_ptr = (b, at); now = asked.0 }) (tt, (tt, tt)) (tt, (tt, tt))))))))

@@ -35,8 +35,8 @@ get_mut_spec 𝓤 𝓛 𝓜 𝓡 wired T L =
     let hs : Stays ps En.kept = (stay_dropped _ _, (stay_dropped _ _, tt)) in
     proved_at 𝓛 En hs c 𝓜 𝓡 (Goes-spent_ref 𝓛 2 (0 ∷ []) tt (plain (λ _. Pr E)), (Goes-dropped 𝓛 2 (param_at 1 ps) En.kept.1.0 (λ κs x f. refl), tt))
     (f.Key.name (args E)) fn (code.unfolded 𝓤 𝓛.H 𝓜 𝓡 wired (T, tt)) (λ z are.
-    let κ = z.0.0.0 in let q = z.0.1.0 in let r = z.0.3.0 in let rb = r.ref_ptr.0 in let ro = r.ref_ptr.1 in let d = r.now in let i = z.0.3.1.0 in let Post =
-    (walk_of 𝓛 En hs c).post z in
+    let κ = z.0.0.0 in let q = z.0.1.0 in let r = z.0.3.0 in let rb = r.ref_ptr.0 in let ro = r.ref_ptr.1 in let d = r.now in let i = z.0.3.1.0 in
+    let Post = (walk_of 𝓛 En hs c).post z in
     let Asks = IsPresent d.held i in
     qed 𝓛 (((‵ (flft κ q) ⊛ ‵ (flft z.0.0.1.0 z.0.1.1.0) ⊛ ‵ ftrue) ⊛ ‵ (owns (types_at ps z.0.0) z.0.3 z.0.4))
     ∷ (raw (fact 𝓤 (z.0.0.1.0 ⊑ T.lives)) ⊛ raw (fact 𝓤 Asks)) ∷ []) ∵
@@ -46,18 +46,17 @@ get_mut_spec 𝓤 𝓛 𝓜 𝓡 wired T L =
     enter ! _ _ _ _ _ $ alloc_all ! (λ l. pass_all ! refl ((tt, tt), ((tt, record { fits = are.1.0.1 }), tt)) $
     open_row E d i rb ro ! tt lt (λ b o e fits. let at = i * type_size (R E) + o in
     rewrite ! 0 (λ y. ‵ (place (R E) b at y)) asked.1 refl $ first ! $ blocks ! $
-    sets ! (of_opd ! (load ! (through ! refl (fld ! refl (stop !))) (look_in ! 1 (sub ! 0 refl (whole !))))) refl (tt, tt) $ sets !
-    (bin ! (get ! refl) (size_lit ! (record { fits = fits.0 })) (record { fits = fits.1 })) refl (tt, record { fits = fits.1 }) $
+    sets ! (of_opd ! (load ! (through ! refl (fld ! refl (stop !))) (look_in ! 1 (sub ! 0 refl (whole !))))) refl (tt, tt) $
+    sets ! (bin ! (get ! refl) (size_lit ! (record { fits = fits.0 })) (record { fits = fits.1 })) refl (tt, record { fits = fits.1 }) $
     sets ! (bin ! (get ! refl) (get ! refl) tt) refl (tt, tt) $ sets_last ! (addr ! (through ! refl (stop !))) refl (tt, tt) $ exec ! 𝓣.C 𝓣.Λ (env fn.locals l)
     (after 1 fn.body) (at_ret _ Post) $ sets ! (of_opd ! (get ! refl)) refl (tt, tt) $
     -- [the item; the row, in five entries; the other token]
     move ! (1 ∷ 2 ∷ []) $ fjoin ! $ move ! (2 ∷ 3 ∷ 4 ∷ 1 ∷ 0 ∷ []) $ group ! 5 $ let F = λ (w : T.Denot). with_place d i (Some w) in
-    let Rests = sem 𝓛 (Kept E rb ro b o d.held i) in
-    let code_is = (Pr E).coded.code d in
-    use1 𝓛 (later (some (λ (δ : GName). ‵ ((MutRef (named 0) κ (R E)).own_val (record { ref_ptr = (b, at); ghost_name = δ; now = x }) (vptr b at ∷ [])) ⊛ ‵
-    (flft κ q) ⊛ ‵ (follows (Pr E) (R E) r.ghost_name δ F))))
-    (lends_Part 𝓛 (Pr E) (R E) F (named 0) κ q rb ro b at r.ghost_name Rests (back E d i rb ro b o 𝓛 e lt) code_is code_is x) $ await ! tt $ pick !
-    (λ δ. split3 ! $
+    let Rests = sem 𝓛 (Kept E rb ro b o d.held i) in let code_is = (Pr E).coded.code d in
+    use1 𝓛 (later (some (λ (δ : GName). ‵ ((MutRef (named 0) κ (R E)).own_val (record { ref_ptr = (b, at); ghost_name = δ; now = x }) (vptr b at ∷ []))
+    ⊛ ‵ (flft κ q) ⊛ ‵ (follows (Pr E) (R E) r.ghost_name δ F))))
+    (lends_Part 𝓛 (Pr E) (R E) F (named 0) κ q rb ro b at r.ghost_name Rests (back E d i rb ro b o 𝓛 e lt) code_is code_is x) $ await ! tt $
+    pick ! (λ δ. split3 ! $
     returns ! (look_at ! 0 refl) $ free_all ! refl $ move ! (1 ∷ 3 ∷ []) $ join ! $
     use0 𝓛 (raw (fact 𝓤 (get_or d.held i None ≡ Some x))) (fact_i 𝓤 _ (emp 𝓤) asked.1) $ move ! (3 ∷ 0 ∷ []) $ join ! $
     nothing ! $ nothing ! $ fjoin ! $ nothing ! $ fjoin ! $ move ! (2 ∷ 0 ∷ 3 ∷ 1 ∷ []) $

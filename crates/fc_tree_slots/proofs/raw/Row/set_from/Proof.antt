@@ -31,8 +31,8 @@ set_from_spec 𝓤 𝓛 𝓜 𝓡 wired T L =
       ),
     )
     (f.Key.name (args E)) fn (code.unfolded 𝓤 𝓛.H 𝓜 𝓡 wired (T, tt)) (λ z are.
-    let κ = z.0.0.0 in let r = z.0.3.0 in let rb = r.ref_ptr.0 in let ro = r.ref_ptr.1 in let d = r.now in let p = z.0.3.1.0 in let i =
-    z.0.3.1.1.0 in let item = z.0.3.1.1.1.0 in let Post = (walk_of 𝓛 En hs c).post z in
+    let κ = z.0.0.0 in let r = z.0.3.0 in let rb = r.ref_ptr.0 in let ro = r.ref_ptr.1 in let d = r.now in let p = z.0.3.1.0 in
+    let i = z.0.3.1.1.0 in let item = z.0.3.1.1.1.0 in let Post = (walk_of 𝓛 En hs c).post z in
     let got = one E z.0.4.1.1.1.0 ((lawful E 𝓛).typed item z.0.4.1.1.1.0 are.1.1.1.0) in let v = got.0 in let ok = got.2 in
     let Asks = (p ≡ d.start) × (i < length d.held) × (get_or d.held i None ≡ None) in
     qed 𝓛 (((‵ (flft κ z.0.1.0) ⊛ ‵ (flft z.0.0.1.0 z.0.1.1.0) ⊛ ‵ ftrue) ⊛ ‵ (owns (types_at ps z.0.0) z.0.3 z.0.4))
@@ -52,8 +52,8 @@ set_from_spec 𝓤 𝓛 𝓜 𝓡 wired T L =
     -- [the item's bytes; the row, in five entries; the other token; what the item owns]
     move ! (0 ∷ 7 ∷ []) $ value_in E ! item b at v $ shut_row E d i rb ro ! tt b o e asked.1 (Some item) $
     returns ! (look_at ! 0 refl) $ free_all ! refl $ feq_i ! (List Val) z.0.4.0 (vptr rb ro ∷ []) are.0.0 $ fjoin3 ! $
-    nothing ! $ nothing ! $ fjoin ! $ nothing ! $ fjoin ! $ nothing ! $ fjoin ! $ move ! (1 ∷ 0 ∷ []) $ fjoin ! $ move ! (1 ∷ 2 ∷ []) $ join ! $ feq_i !
-    (List Val) (vunit ∷ []) (vunit ∷ []) refl $
+    nothing ! $ nothing ! $ fjoin ! $ nothing ! $ fjoin ! $ nothing ! $ fjoin ! $ move ! (1 ∷ 0 ∷ []) $ fjoin ! $ move ! (1 ∷ 2 ∷ []) $ join ! $
+    feq_i ! (List Val) (vunit ∷ []) (vunit ∷ []) refl $
     let new = with_place d i (Some item) in let gives = (new.held ≡ set d.held i (Some item)) × (new.start ≡ d.start) in
     use0 𝓛 (raw (fact 𝓤 gives)) (fact_i 𝓤 gives (emp 𝓤) (refl, refl)) $ move ! (2 ∷ 3 ∷ 1 ∷ 0 ∷ []) $
     by ! (leaves 𝓛 En hs c z vunit tt (new, (tt, (tt, (tt, tt)))) (tt, (tt, (tt, (tt, tt)))))))))

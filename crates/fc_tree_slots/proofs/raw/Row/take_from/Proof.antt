@@ -30,8 +30,8 @@ take_from_spec 𝓤 𝓛 𝓜 𝓡 wired T L =
       ),
     )
     (f.Key.name (args E)) fn (code.unfolded 𝓤 𝓛.H 𝓜 𝓡 wired (T, tt)) (λ z are.
-    let κ = z.0.0.0 in let r = z.0.3.0 in let rb = r.ref_ptr.0 in let ro = r.ref_ptr.1 in let d = r.now in let p = z.0.3.1.0 in let i =
-    z.0.3.1.1.0 in let Post = (walk_of 𝓛 En hs c).post z in
+    let κ = z.0.0.0 in let r = z.0.3.0 in let rb = r.ref_ptr.0 in let ro = r.ref_ptr.1 in let d = r.now in let p = z.0.3.1.0 in
+    let i = z.0.3.1.1.0 in let Post = (walk_of 𝓛 En hs c).post z in
     let Asks = (p ≡ d.start) × IsPresent d.held i in
     qed 𝓛 (((‵ (flft κ z.0.1.0) ⊛ ‵ (flft z.0.0.1.0 z.0.1.1.0) ⊛ ‵ ftrue) ⊛ ‵ (owns (types_at ps z.0.0) z.0.3 z.0.4))
     ∷ (raw (fact 𝓤 (z.0.0.1.0 ⊑ T.lives)) ⊛ raw (fact 𝓤 Asks)) ∷ []) ∵

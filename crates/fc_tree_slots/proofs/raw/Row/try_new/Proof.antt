@@ -82,19 +82,19 @@ try_new_spec 𝓤 𝓛 𝓜 𝓡 wired X L =
     regoal ! (λ us. prop (WpFn 𝓤 𝓛.H 𝓣.C 𝓣.Λ fn us Post)) (λ j. are.0.0 j ++ (are.1.0.0 j ++ [])) refl $
     enter ! _ _ _ _ _ $ alloc_all ! (λ l. pass_all ! refl ((tt, tt), ((tt, record { fits = are.1.0.1 }), tt)) $ let Ev = env fn.locals l in
     let typed = λ (p : Ptr). first_Good (layout (Pr E)) (word p) (word-Good [] p) in
-    sets ! (of_opd ! (size_word !)) refl (tt, record { fits = capped_fits s }) $ sets ! (bin ! (get ! refl) (lit ! tt) tt) refl (tt, tt) $ first ! $ branches !
-    (get ! refl)
+    sets ! (of_opd ! (size_word !)) refl (tt, record { fits = capped_fits s }) $ sets ! (bin ! (get ! refl) (lit ! tt) tt) refl (tt, tt) $ first ! $
+    branches ! (get ! refl)
     (λ zero. let p : Ptr = block_ptr self.ref_ptr.0 self.ref_ptr.1 in
-    sets ! (addr ! (through ! refl (stop !))) refl (tt, tt) $ sets ! (of_opd ! (get ! refl)) refl (tt, tt) $ sets !
-    (agg ! (and_then ! (get ! refl) (no_more !))) refl (word-Good [] p) $
-    sets ! (agg ! (and_then ! (lit ! tt) (and_then ! (get ! refl) (no_more !)))) refl (typed p) $ returns_within ! Post refl (look_at ! 0 refl) $ free_all !
-    refl $
+    sets ! (addr ! (through ! refl (stop !))) refl (tt, tt) $ sets ! (of_opd ! (get ! refl)) refl (tt, tt) $
+    sets ! (agg ! (and_then ! (get ! refl) (no_more !))) refl (word-Good [] p) $
+    sets ! (agg ! (and_then ! (lit ! tt) (and_then ! (get ! refl) (no_more !)))) refl (typed p) $ returns_within ! Post refl (look_at ! 0 refl) $
+    free_all ! refl $
     drop ! $ nowhere E ! (no_size s zero) len self.ref_ptr.0 self.ref_ptr.1 $ nothing ! $ rewrite ! 0 (λ (F : Fml). ‵ F)
     (sym (unsized s (token (block_ty E len) p) (no_size s zero))) refl $
     made E ! self.ref_ptr.0 self.ref_ptr.1 len small $ out (Ok (empty E p len)) (live 0 (vcons (word p) vnil)) refl)
     (λ some. skips ! $ exec ! 𝓣.C 𝓣.Λ Ev (after 3 fn.body) (at_ret Ev Post) $
-    let both : Body = head (after 5 fn.body) in let Then : After 𝓤 𝓛.H =
-    any_q (after_seq 𝓤 𝓛.H (Wp 𝓤 𝓛.H 𝓣.C 𝓣.Λ Ev (after 6 fn.body) (at_return 𝓤 𝓛.H Ev Post)) (at_return 𝓤 𝓛.H Ev Post)) in
+    let both : Body = head (after 5 fn.body) in
+    let Then : After 𝓤 𝓛.H = any_q (after_seq 𝓤 𝓛.H (Wp 𝓤 𝓛.H 𝓣.C 𝓣.Λ Ev (after 6 fn.body) (at_return 𝓤 𝓛.H Ev Post)) (at_return 𝓤 𝓛.H Ev Post)) in
     let τ = block_ty E len in let al = capped (align (elτ E)) in let y = asks_at 𝓛 𝓜.mem 𝓡.returns κ q self.ref_ptr self.now (len * s) al τ in
     sets ! (is ! (bin ! (get ! refl) (get ! refl) (record { fits = subst (λ k. k < 2 ^ 64) (sym (uncapped len s bytes)) bytes }))
     (ap (vint w64) (uncapped len s bytes))) refl (tt, record { fits = bytes }) $
@@ -104,8 +104,8 @@ try_new_spec 𝓤 𝓛 𝓜 𝓡 wired X L =
     (and_then ! (get ! refl) (and_then ! (get ! refl) (and_then ! (align_word !) (no_more !)))) (λ v.
     asked 𝓛 𝓜.mem 𝓡.returns κ q self.ref_ptr self.now (len * s) al τ ! tt v
     (λ b o e. let p : Ptr = block_ptr b o in lands_as ! e refl (Answer-typed true b o) $
-    first ! $ switches_on ! (get_tag ! (vrt ! refl (fld ! refl (stop !))) (whole !)) $ exec ! 𝓣.C 𝓣.Λ Ev (arm_body 0 both) Then $ sets !
-    (of_opd ! (get_in ! (vrt ! refl (fld ! refl (stop !))) (in_variant ! 0 0 refl refl (whole !)))) refl (tt, tt) $
+    first ! $ switches_on ! (get_tag ! (vrt ! refl (fld ! refl (stop !))) (whole !)) $ exec ! 𝓣.C 𝓣.Λ Ev (arm_body 0 both) Then $
+    sets ! (of_opd ! (get_in ! (vrt ! refl (fld ! refl (stop !))) (in_variant ! 0 0 refl refl (whole !)))) refl (tt, tt) $
     sets ! (of_opd ! (get ! refl)) refl (tt, tt) $ sets ! (agg ! (and_then ! (get ! refl) (no_more !))) refl (word-Good [] p) $
     sets_last ! (agg ! (and_then ! (lit ! tt) (and_then ! (get ! refl) (no_more !)))) refl (typed p) $ exec ! 𝓣.C 𝓣.Λ Ev (after 6 fn.body) (at_ret Ev Post) $
     sets ! (of_opd ! (get ! refl)) refl (typed p) $
@@ -114,8 +114,8 @@ try_new_spec 𝓤 𝓛 𝓜 𝓡 wired X L =
     (Ok (empty E p len)) (live 0 (vcons (word p) vnil)) refl)
     (λ e. let Refusal = Struct (Declared.shape AE.the_type) in
     let none : Val = live 1 (vcons (vstruct vnil) vnil) in lands_as ! e refl (Answer-typed false 0 0) $
-    first ! $ switches_on ! (get_tag ! (vrt ! refl (fld ! refl (stop !))) (whole !)) $ exec ! 𝓣.C 𝓣.Λ Ev (arm_body 1 both) Then $ sets !
-    (of_opd ! (get_in ! (vrt ! refl (fld ! refl (stop !))) (in_variant ! 1 0 refl refl (whole !)))) refl (tt, tt) $
+    first ! $ switches_on ! (get_tag ! (vrt ! refl (fld ! refl (stop !))) (whole !)) $ exec ! 𝓣.C 𝓣.Λ Ev (arm_body 1 both) Then $
+    sets ! (of_opd ! (get_in ! (vrt ! refl (fld ! refl (stop !))) (in_variant ! 1 0 refl refl (whole !)))) refl (tt, tt) $
     sets_last ! (agg ! (and_then ! (lit ! tt) (and_then ! (get ! refl) (no_more !)))) refl (tt, (record { fits = lit< tt }, (tt, tt))) $ exec ! 𝓣.C 𝓣.Λ Ev
     (after 6 fn.body) (at_ret Ev Post) $ sets ! (of_opd ! (get ! refl)) refl (tt, (record { fits = lit< tt }, (tt, tt))) $ returns ! (look_at ! 0 refl) $
     free_all ! refl $

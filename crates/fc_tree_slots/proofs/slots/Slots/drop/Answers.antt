@@ -19,6 +19,6 @@ loop-i-preserved g c =
 pub free-requires : goal.free-requires
 free-requires g c =
     let s = c.self.inside in let xs = present s.cells in let m = g.row.N - s.len in let i = c.loop-i.i in let o = opened s xs c.self.invariant refl in
-    let none : drop i xs ≡ [] = drop_all i xs (omega (arith, o.long, c.loop-i-test.false)) in let whole : g.row.N ≡ i + m =
-    omega (arith, o.fits, c.loop-i-test.false, c.loop-i.auto.i-end) in
+    let none : drop i xs ≡ [] = drop_all i xs (omega (arith, o.long, c.loop-i-test.false)) in
+    let whole : g.row.N ≡ i + m = omega (arith, o.fits, c.loop-i-test.false, c.loop-i.auto.i-end) in
     c.loop-i.invariant xs m o.is o.long ∙ (λ d. row [] i (none d) m) ∙ sym (row_open [] i m g.row.N whole)

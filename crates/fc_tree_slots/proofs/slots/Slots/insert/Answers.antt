@@ -20,16 +20,16 @@ shift_up-requires-clause-laid g c =
 
 pub set-requires : goal.set-requires
 set-requires g c =
-    let s = c.self.inside in let xs = c.args.self.now in let i = c.args.index in let m = g.row.N - (s.len + 1) in let is =
-    c.shift_up.ensures.items xs m (laid_up s xs c.self.invariant c.self.view_is c.requires.room).0
+    let s = c.self.inside in let xs = c.args.self.now in let i = c.args.index in let m = g.row.N - (s.len + 1) in
+    let is = c.shift_up.ensures.items xs m (laid_up s xs c.self.invariant c.self.view_is c.requires.room).0
     (laid_up s xs c.self.invariant c.self.view_is c.requires.room).1 in
     hole_free (take i xs) (drop i xs) m c.shift_up.new.cells i is (omega (arith, length-take i xs, c.requires.in_bounds))
 
 after : (g : given.Over) (c : goal.After-self-1 g) → IsPacked c.set.new.self (c.self.inside.len + 1) g.row.N
     × (present c.set.new.self ≡ take c.args.index c.args.self.now ++ c.args.item ∷ drop c.args.index c.args.self.now)
 after g c =
-    let s = c.self.inside in let xs = c.args.self.now in let i = c.args.index in let m = g.row.N - (s.len + 1) in let up =
-    laid_up s xs c.self.invariant c.self.view_is c.requires.room in
+    let s = c.self.inside in let xs = c.args.self.now in let i = c.args.index in let m = g.row.N - (s.len + 1) in
+    let up = laid_up s xs c.self.invariant c.self.view_is c.requires.room in
     put_in xs m i (s.len + 1) g.row.N c.shift_up.new.cells c.set.new.self c.args.item (c.shift_up.ensures.items xs m up.0 up.1) c.requires.in_bounds
     c.set.ensures.cells (omega (arith, up.1)) (omega (arith, c.requires.room, up.1))
 

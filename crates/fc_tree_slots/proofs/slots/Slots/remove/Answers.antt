@@ -14,8 +14,8 @@ shift_down-requires-clause-in_order g c = let s = c.self.inside in let o = opene
 
 pub shift_down-requires-clause-laid : goal.shift_down-requires-clause-laid
 shift_down-requires-clause-laid g c =
-    let s = c.self.inside in let xs = c.args.self.now in let i = c.args.index in let m = g.row.N - s.len in let o =
-    opened s xs c.self.invariant c.self.view_is in let lt = c.requires in (
+    let s = c.self.inside in let xs = c.args.self.now in let i = c.args.index in let m = g.row.N - s.len in
+    let o = opened s xs c.self.invariant c.self.view_is in let lt = c.requires in (
       take i xs,
       drop (suc i) xs,
       m,
@@ -30,8 +30,8 @@ overflow_sub-self g c = let s = c.self.inside in let o = opened s _ c.self.invar
 after : (g : given.Over) (c : goal.After-self-1 g) → IsPacked c.shift_down.new.cells (c.self.inside.len - 1) g.row.N
     × (present c.shift_down.new.cells ≡ take c.args.index c.args.self.now ++ drop (suc c.args.index) c.args.self.now)
 after g c =
-    let s = c.self.inside in let xs = c.args.self.now in let i = c.args.index in let m = g.row.N - s.len in let o =
-    opened s xs c.self.invariant c.self.view_is in let lt = c.requires in
+    let s = c.self.inside in let xs = c.args.self.now in let i = c.args.index in let m = g.row.N - s.len in
+    let o = opened s xs c.self.invariant c.self.view_is in let lt = c.requires in
     let n = s.len - (i + 1) in let ys = drop (suc i) xs in let zs = take i xs in
     let far : length zs ≡ i + 1 - 1 = omega (arith, length-take i xs) in let all : n ≡ length ys = omega (arith, o.long, length-drop (suc i) xs) in
     let moved = c.shift_down.ensures.items zs ys m (left_out xs m s.cells c.take-item.new.self i o.is lt c.take-item.ensures.cells) far (omega arith) in

@@ -9,8 +9,8 @@ take-old-requires g c = let s = c.self.inside in let o = opened s _ c.self.invar
 
 pub invariant_of-self : goal.invariant_of-self
 invariant_of-self g c =
-    let s = c.self.inside in let xs = c.args.self.now in let i = c.args.index in let m = g.row.N - s.len in let w = c.args.item in let o =
-    opened s xs c.self.invariant c.self.view_is in
+    let s = c.self.inside in let xs = c.args.self.now in let i = c.args.index in let m = g.row.N - s.len in let w = c.args.item in
+    let o = opened s xs c.self.invariant c.self.view_is in
     let same = c.set.ensures.cells ∙ ap (λ l. set l i (Some w)) c.take-old.ensures.cells ∙ set-set s.cells i None (Some w) in
     (packed c.set.new.self (set xs i w) 0 m s.len g.row.N (same ∙ written xs m s.cells i w o.is c.requires) (omega (arith, o.long, length-set xs i w))
     (omega (arith, o.fits))).0
@@ -21,8 +21,8 @@ returns-clause-value g c = let s = c.self.inside in let o = opened s _ c.self.in
 
 pub returns-clause-items : goal.returns-clause-items
 returns-clause-items g c =
-    let s = c.self.inside in let xs = c.args.self.now in let i = c.args.index in let m = g.row.N - s.len in let w = c.args.item in let o =
-    opened s xs c.self.invariant c.self.view_is in
+    let s = c.self.inside in let xs = c.args.self.now in let i = c.args.index in let m = g.row.N - s.len in let w = c.args.item in
+    let o = opened s xs c.self.invariant c.self.view_is in
     let same = c.set.ensures.cells ∙ ap (λ l. set l i (Some w)) c.take-old.ensures.cells ∙ set-set s.cells i None (Some w) in
     (packed c.set.new.self (set xs i w) 0 m s.len g.row.N (same ∙ written xs m s.cells i w o.is c.requires) (omega (arith, o.long, length-set xs i w))
     (omega (arith, o.fits))).1
