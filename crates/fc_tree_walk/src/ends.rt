@@ -71,6 +71,7 @@ pub fn range_gaps_in<K: Ord, V, Q: Query<K>>(
 }
 
 /// Fills two paths of no step with the ways to the gaps between which the pairs of a range lie, and answers their leaves.
+#[tactic(auto, using(crate::proofs::Turns::turn_first))]
 pub(crate) fn push_ends<'a, K: Ord, V, Q: Query<K>>(
     root: &'a Node<K, V>,
     lo: &Bound<Q>,
