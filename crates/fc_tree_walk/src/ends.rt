@@ -98,6 +98,7 @@ pub(crate) fn push_ends<'a, K: Ord, V, Q: Query<K>>(
 }
 
 // Goes on to the gaps at two cuts below the node, the second not in front of the first, and answers their leaves.
+#[tactic(auto, using(crate::proofs::Turns::turn_first, crate::proofs::Turns::turn_later))]
 fn push_both<'a, K: Ord, V, Q: Query<K>>(
     node: &'a Node<K, V>,
     lo: &Cut<Q>,

@@ -260,6 +260,7 @@ fn pass_next<'a, K, V>(
 
 // The same on the way from the root.
 #[inline(never)]
+#[tactic(auto, using(crate::proofs::Ways::levels_in, crate::proofs::Ways::same_root))]
 fn pass_next_from_root<'a, K, V>(
     root: &'a Option<Node<K, V>>,
     above: &mut Option<&'a Node<K, V>>,
@@ -316,6 +317,7 @@ fn pass_previous<'a, K, V>(
 
 // The same on the way from the root.
 #[inline(never)]
+#[tactic(auto, using(crate::proofs::Ways::levels_in, crate::proofs::Ways::same_root))]
 fn pass_previous_from_root<'a, K, V>(
     root: &'a Option<Node<K, V>>,
     above: &mut Option<&'a Node<K, V>>,

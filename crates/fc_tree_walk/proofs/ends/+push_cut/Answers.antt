@@ -17,9 +17,6 @@ returns-then-is_leaf-clause-gap g t c =
 pub returns-then-is_leaf-clause-leaf : goal.returns-then-is_leaf-clause-leaf
 returns-then-is_leaf-clause-leaf g t c = ends_here c.args.gap.now c.push.new.self c.args.place c.args.node.now c.push.ensures
 
-pub child-child-requires : goal.child-child-requires
-child-child-requires g t c = child_there c.requires.levels.0 c.args.node.now c.args.place c.requires.levels.1 c.if-is_leaf.ensures.1 c.requires.place.within
-
 pub push_cut-requires : goal.push_cut-requires
 push_cut-requires g t c κs within =
     let k = child_there c.requires.levels.0 c.args.node.now c.args.place c.requires.levels.1 c.if-is_leaf.ensures.1 c.requires.place.within in
