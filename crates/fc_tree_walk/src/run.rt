@@ -14,6 +14,7 @@ use fc_tree_node::node::Node;
 use fc_tree_node::path::Path;
 
 // The leaf of a gap, and the node above it, if there is one.
+#[tactic(auto, using(crate::proofs::Ways::leaf_node))]
 fn leaf_of<'a, K, V>(root: &'a Node<K, V>, gap: &Path) -> (Option<&'a Node<K, V>>, &'a Node<K, V>)
     requires levels { IsTree root.now }
     requires gap { IsLeafGap gap.now root.now }
