@@ -10,7 +10,7 @@ returns-then-not-is_bounded-clause-pairs g c =
     let a = c.args in
     let o = c.requires in
     let w = start_alone g.met.Q.Query.fits g.Q.Query.sought a.lo.now a.hi.now a.root.now _ c.in-Some.is o.order _ c.start_of.ensures
-        (c.is_bounded.ensures c.if-not-is_bounded.true) in
+    (c.is_bounded.ensures c.if-not-is_bounded.true) in
     start_taken a.root.now _ _ _ c.in-Some.is c.push_start.new.gap a.back.now _ _ p.run o.start.1 (from_nothing _ _ _ _ o.start.0 p.gap) w
 
 pub returns-then-not-is_bounded-2-clause-pairs : goal.returns-then-not-is_bounded-2-clause-pairs
@@ -19,7 +19,7 @@ returns-then-not-is_bounded-2-clause-pairs g c =
     let a = c.args in
     let o = c.requires in
     let w = stop_alone g.met.Q.Query.fits g.Q.Query.sought a.lo.now a.hi.now a.root.now _ c.in-Some.is o.order _ c.stop_of.ensures
-        (c.is_bounded-2.ensures c.if-not-is_bounded-2.true) in
+    (c.is_bounded-2.ensures c.if-not-is_bounded-2.true) in
     stop_taken a.root.now _ _ _ c.in-Some.is a.front.now c.push_stop.new.gap _ _ p.run o.sound o.start.0 (from_nothing _ _ _ _ o.start.1 p.gap) w
 
 pub returns-clause-pairs : goal.returns-clause-pairs
