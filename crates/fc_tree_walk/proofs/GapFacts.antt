@@ -244,7 +244,8 @@ module _ {K V : Type 0} where
   pub ends_here : (old new : List ℕ) (i : ℕ) (n : Node K V) → new ≡ old ++ i ∷ [] → EndsIn old new n n
   ends_here old new i n e path f = ap (λ p. leaf_at p n) (same_cut old (i ∷ []) old path (sym e ∙ f) refl).1
 
-  pub ends_below : (old mid new : List ℕ) (i count : ℕ) (n c leaf : Node K V) → mid ≡ old ++ i ∷ [] → c ≡ child_at n i → (h : ℕ) → IsLevelled h n → i < length (children_of n) → GoesOn mid new c count → EndsIn mid new c leaf → EndsIn old new n leaf
+  pub ends_below : (old mid new : List ℕ) (i count : ℕ) (n c leaf : Node K V) → mid ≡ old ++ i ∷ [] → c ≡ child_at n i → (h : ℕ) → IsLevelled h n
+      → i < length (children_of n) → GoesOn mid new c count → EndsIn mid new c leaf → EndsIn old new n leaf
   ends_below old mid new i count n c leaf m is h l k g e path f =
       let q = g.0 in
       let s = step_levels h n i l k in
@@ -253,8 +254,8 @@ module _ {K V : Type 0} where
       e q g.1 ∙ ap (leaf_at q) is ∙ sym (leaf_more i q n some) ∙ ap (λ p. leaf_at p n) (same_cut old (i ∷ q) old path (sym there ∙ f) refl).1
 
   -- a step down to a child: the path is one longer, and the child's levels one fewer
-  pub step_down : (old mid : List ℕ) (i : ℕ) (n c : Node K V) (l : (h : ℕ) × IsLevelled h n × (length old + h < most_levels)) → i < length (children_of n) → mid ≡ old ++ i ∷ [] → c ≡ child_at n i
-      → ((h : ℕ) × IsLevelled h c × (length mid + h < most_levels)) × (length mid ≡ length old + 1) × (length mid < most_levels)
+  pub step_down : (old mid : List ℕ) (i : ℕ) (n c : Node K V) (l : (h : ℕ) × IsLevelled h n × (length old + h < most_levels))
+      → i < length (children_of n) → mid ≡ old ++ i ∷ [] → c ≡ child_at n i → ((h : ℕ) × IsLevelled h c × (length mid + h < most_levels)) × (length mid ≡ length old + 1) × (length mid < most_levels)
   step_down old mid i n c l k m is =
       let s = step_levels l.0 n i l.1 k in
       let e = s.1 in

@@ -11,14 +11,14 @@ use Rattle.fc_tree_walk.proofs.Leaves.{leaf_before_child}
 
 module _ {K V : Type 0} (n : Node K V) where
   -- No pair of the node is before its first child, nor after its last.
-  pub first_child : (h i : ℕ) → IsLevelled h n → i ≤ length (own_pairs n) → (i ≡ 0) ↔ (length (before_child n i) ≡ 0)
-  first_child h zero l le = ((λ e. omega arith), (λ e. omega arith))
-  first_child h (suc i) l le =
+  pub none_ahead : (h i : ℕ) → IsLevelled h n → i ≤ length (own_pairs n) → (i ≡ 0) ↔ (length (before_child n i) ≡ 0)
+  none_ahead h zero l le = ((λ e. omega arith), (λ e. omega arith))
+  none_ahead h (suc i) l le =
       let e = ap length (before_child_pair h n i (item_there (own_pairs n) i (omega arith)).0 l (omega arith)) ∙ length-append (before_own n i) _ in
       ((λ no. absurd (omega arith)), (λ no. absurd (omega (arith, e, no))))
 
-  pub last_child : (i : ℕ) → i ≤ length (own_pairs n) → (i ≡ length (own_pairs n)) ↔ (length (after_child n i) ≡ 0)
-  last_child i le = ((λ e. ap length (after_none n i (omega arith))), (λ e. order e (cases_lt i (length (own_pairs n)))))
+  pub none_behind : (i : ℕ) → i ≤ length (own_pairs n) → (i ≡ length (own_pairs n)) ↔ (length (after_child n i) ≡ 0)
+  none_behind i le = ((λ e. ap length (after_none n i (omega arith))), (λ e. order e (cases_lt i (length (own_pairs n)))))
     where
       order : length (after_child n i) ≡ 0 → (i < length (own_pairs n)) ⊎ (length (own_pairs n) ≤ i) → i ≡ length (own_pairs n)
       order e (inl k) = absurd (let some = ap length (after_child_pair n i (item_there (own_pairs n) i k).0 k) in omega (arith, some, e))

@@ -47,7 +47,8 @@ module _ {X : Type 0} where
   get_seam (y ∷ a) b x = get_seam a b x
 
   -- A part of a list's middle, in the list.
-  pub part_inside : (s low l high run : List X) (i j a b : ℕ) → s ≡ low ++ (l ++ high) → IsPart run l i j → a ≡ length low + i → b ≡ length low + j → IsPart run s a b
+  pub part_inside : (s low l high run : List X) (i j a b : ℕ) → s ≡ low ++ (l ++ high) → IsPart run l i j
+      → a ≡ length low + i → b ≡ length low + j → IsPart run s a b
   part_inside s low l high run i j a b is p e f =
       let all = ap length is ∙ length-append low (l ++ high) in
       let more = length-append l high in
@@ -55,5 +56,6 @@ module _ {X : Type 0} where
       let fits = p.1 in (
         omega arith,
         omega arith,
-        p.2 ∙ sym (ap (λ k. slice_range s k b) e ∙ ap (slice_range s (length low + i)) f ∙ ap (λ xs. slice_range xs (length low + i) (length low + j)) is ∙ slice_inner low l high i j le fits),
+        p.2 ∙ sym (ap (λ k. slice_range s k b) e ∙ ap (slice_range s (length low + i)) f ∙ ap (λ xs. slice_range xs (length low + i) (length low + j)) is
+            ∙ slice_inner low l high i j le fits),
       )

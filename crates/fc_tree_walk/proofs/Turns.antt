@@ -291,13 +291,13 @@ module _ {K Q S : Type 0} {cmp : K → K → Ordering} {order : K → S → Orde
         within_at lo hi (pairs_of n) _ _ (subst (λ d. IsAscending cmp (entries d)) is o) t.0 t.1 ∙ ap In (sym is)
 
     pub start_alone : (cut : Cut Q) → cut ≡ start_cut lo → hi ≡ Unbounded
-        → slice_range (pairs_of n) (ahead order sought cut (pairs_of n)) (length (pairs_of n)) ≡ within order (bound_by sought lo) (bound_by sought hi) (entries m)
+        → slice_range (pairs_of n) (ahead order sought cut (pairs_of n)) (length (pairs_of n)) ≡ In m
     start_alone cut e f =
         ap (slice_range (pairs_of n) (ahead order sought cut (pairs_of n))) (sym (ap length (kept _ (pairs_of n) (each _ (λ x. refl) (pairs_of n)))))
         ∙ one_bound cut Last e (sym (ap stop_cut f)) (inr refl)
 
     pub stop_alone : (cut : Cut Q) → cut ≡ stop_cut hi → lo ≡ Unbounded
-        → slice_range (pairs_of n) 0 (ahead order sought cut (pairs_of n)) ≡ within order (bound_by sought lo) (bound_by sought hi) (entries m)
+        → slice_range (pairs_of n) 0 (ahead order sought cut (pairs_of n)) ≡ In m
     stop_alone cut e f =
         ap (λ k. slice_range (pairs_of n) k (ahead order sought cut (pairs_of n))) (sym (ap length (left_out _ (pairs_of n) (each _ (λ x. refl) (pairs_of n)))))
         ∙ one_bound First cut (sym (ap start_cut f)) e (inl refl)

@@ -71,6 +71,7 @@ pub(crate) fn place_in<K: Ord, V, Q: Query<K>>(
 }
 
 // The first of the node's own pairs from a place on whose key is not below what is sought, or their end.
+#[tactic(auto, using(crate::proofs::Turns::held_on, crate::proofs::Turns::not_there))]
 fn first_not_below<K: Ord, V, Q: Query<K>>(node: &Node<K, V>, key: Q, from: usize) -> usize
     requires { from ≤ length (own_pairs node.now) }
     ensures { IsTurn (λ e. is_lt (Q.order e.0 (Q.sought key))) (own_pairs node.now) from result }
@@ -85,6 +86,7 @@ fn first_not_below<K: Ord, V, Q: Query<K>>(node: &Node<K, V>, key: Q, from: usiz
 }
 
 // The first of the node's own pairs from a place on whose key is above what is sought, or their end.
+#[tactic(auto, using(crate::proofs::Turns::held_on, crate::proofs::Turns::not_there))]
 fn first_above<K: Ord, V, Q: Query<K>>(node: &Node<K, V>, key: Q, from: usize) -> usize
     requires { from ≤ length (own_pairs node.now) }
     ensures { IsTurn (λ e. is_le (Q.order e.0 (Q.sought key))) (own_pairs node.now) from result }

@@ -71,6 +71,7 @@ pub fn range_gaps_in<K: Ord, V, Q: Query<K>>(
 }
 
 /// Fills two paths of no step with the ways to the gaps between which the pairs of a range lie, and answers their leaves.
+#[tactic(auto, using(crate::proofs::Turns::turn_first))]
 pub(crate) fn push_ends<'a, K: Ord, V, Q: Query<K>>(
     root: &'a Node<K, V>,
     lo: &Bound<Q>,
@@ -97,6 +98,7 @@ pub(crate) fn push_ends<'a, K: Ord, V, Q: Query<K>>(
 }
 
 // Goes on to the gaps at two cuts below the node, the second not in front of the first, and answers their leaves.
+#[tactic(auto, using(crate::proofs::Turns::turn_first, crate::proofs::Turns::turn_later))]
 fn push_both<'a, K: Ord, V, Q: Query<K>>(
     node: &'a Node<K, V>,
     lo: &Cut<Q>,
@@ -155,8 +157,10 @@ fn is_outer(is_node_outer: bool, place: usize, edge: usize) -> bool
     is_node_outer && place == edge
 }
 
-/// Goes on below the node to the end of the leaf where the cut is, and answers the leaf's pairs behind the cut; and whether no pair of
-/// the tree is behind them, where the node is the last of its level.
+/// Goes on below the node to the end of the leaf where the cut is, and takes the leaf's pairs behind the cut. The flag says whether the
+/// node is the last of its level, and then whether the leaf is, so that no pair is behind what is taken.
+///
+/// Run and flag are written where they belong, and not answered: of calls that answer nothing a compiler makes a loop.
 pub(crate) fn push_start<'a, K: Ord, V, Q: Query<K>>(
     node: &'a Node<K, V>,
     cut: &Cut<Q>,
@@ -182,8 +186,8 @@ pub(crate) fn push_start<'a, K: Ord, V, Q: Query<K>>(
     push_start(node.child(place), cut, gap, run, is_last);
 }
 
-/// Goes on below the node to the start of the leaf where the cut is, and answers the leaf's pairs in front of the cut; and whether no
-/// pair of the tree is in front of them, where the node is the first of its level.
+/// Goes on below the node to the start of the leaf where the cut is, and takes the leaf's pairs in front of the cut. The flag says
+/// whether the node is the first of its level, and then whether the leaf is.
 pub(crate) fn push_stop<'a, K: Ord, V, Q: Query<K>>(
     node: &'a Node<K, V>,
     cut: &Cut<Q>,

@@ -14,6 +14,7 @@ use fc_tree_node::node::Node;
 use fc_tree_node::path::Path;
 
 // The leaf of a gap, and the node above it, if there is one.
+#[tactic(auto, using(crate::proofs::Ways::leaf_node))]
 fn leaf_of<'a, K, V>(root: &'a Node<K, V>, gap: &Path) -> (Option<&'a Node<K, V>>, &'a Node<K, V>)
     requires levels { IsTree root.now }
     requires gap { IsLeafGap gap.now root.now }
@@ -260,6 +261,7 @@ fn pass_next<'a, K, V>(
 
 // The same on the way from the root.
 #[inline(never)]
+#[tactic(auto, using(crate::proofs::Ways::levels_in, crate::proofs::Ways::same_root))]
 fn pass_next_from_root<'a, K, V>(
     root: &'a Option<Node<K, V>>,
     above: &mut Option<&'a Node<K, V>>,
@@ -316,6 +318,7 @@ fn pass_previous<'a, K, V>(
 
 // The same on the way from the root.
 #[inline(never)]
+#[tactic(auto, using(crate::proofs::Ways::levels_in, crate::proofs::Ways::same_root))]
 fn pass_previous_from_root<'a, K, V>(
     root: &'a Option<Node<K, V>>,
     above: &mut Option<&'a Node<K, V>>,

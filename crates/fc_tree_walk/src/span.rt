@@ -263,8 +263,8 @@ struct Runs<'a, K, V> {
     has_met: bool,
 }
 
-// Fills the paths with the gaps at the bounds of a range, and takes the run of one end: the back's where only it is bounded. The span is made once, behind this call, since a
-// struct of its size is copied wherever two of it could be the answer.
+// Fills the paths with the gaps at the bounds of a range, and takes the run of one end: the back's where only it is bounded. The span is
+// made once, behind this call, since a struct of its size is copied wherever two of it could be the answer.
 #[tactic(auto, using(crate::proofs::Sought::ends_found, crate::proofs::Sought::met_found, crate::proofs::Sought::back_of_gap, crate::proofs::Bounds::from_nothing, crate::proofs::Turns::range_in))]
 fn start_within<'a, K: Ord, V, Q: Query<K>>(
     root: &'a Option<Node<K, V>>,
@@ -324,7 +324,8 @@ fn is_bounded<Q: Copy>(bound: &Bound<Q>) -> bool
     }
 }
 
-// Finds the ends that were not looked for yet, unless both are known to be found.
+// Finds the ends that were not looked for yet, unless both are known to be found. A step looks at the node above its leaf in any case,
+// so that it costs nothing to ask by it.
 #[tactic(auto, using(crate::proofs::Sought::left_found))]
 fn settle<K, V>(root: &Option<Node<K, V>>, are_found: bool, front: &mut Path, back: &mut Path)
     requires sound { IsSoundMap root.now }
@@ -341,7 +342,7 @@ fn settle<K, V>(root: &Option<Node<K, V>>, are_found: bool, front: &mut Path, ba
     find_back(root, back);
 }
 
-// Goes to the first gap, where the front was not looked for yet.
+// Goes to the first gap, where the front was not looked for yet. Apart from the steps, which need it once at most.
 #[inline(never)]
 #[tactic(auto, using(crate::proofs::Sought::not_sought))]
 fn find_front<K, V>(root: &Option<Node<K, V>>, front: &mut Path)
@@ -356,7 +357,7 @@ fn find_front<K, V>(root: &Option<Node<K, V>>, front: &mut Path)
     }
 }
 
-// Goes to the last gap, where the back was not looked for yet.
+// Goes to the last gap, where the back was not looked for yet. Apart as `find_front`.
 #[inline(never)]
 #[tactic(auto, using(crate::proofs::Sought::not_sought))]
 fn find_back<K, V>(root: &Option<Node<K, V>>, back: &mut Path)

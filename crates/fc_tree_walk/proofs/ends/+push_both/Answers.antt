@@ -5,14 +5,8 @@ use Rattle.fc_tree_node.proofs.Pairs.{leaf_children}
 use Rattle.fc_tree_search.proofs.SearchFacts.{child_there}
 use Rattle.fc_tree_walk.specs.Gap.{GoesOn}
 use Rattle.fc_tree_walk.proofs.GapFacts.{around_gap, around_child, goes_here, goes_below, ends_here, ends_below}
-use Rattle.fc_tree_walk.proofs.Turns.{turn_first, turn_later, child_ascends, ahead_at, amid_parted, both_at}
+use Rattle.fc_tree_walk.proofs.Turns.{turn_first, child_ascends, ahead_at, amid_parted, both_at}
 use Rattle.fc_tree_walk.proofs.ends.+push_both.Goals as goal
-
-pub push_cut-requires-clause-place : goal.push_cut-requires-clause-place
-push_cut-requires-clause-place g t c = turn_first c.place_in-start.ensures
-
-pub push_cut-requires-then-start-stop-clause-place : goal.push_cut-requires-then-start-stop-clause-place
-push_cut-requires-then-start-stop-clause-place g t c = turn_later c.if-start-stop.true c.place_in-stop.ensures
 
 pub returns-then-start-stop-clause-back : goal.returns-then-start-stop-clause-back
 returns-then-start-stop-clause-back g t c =
@@ -20,12 +14,6 @@ returns-then-start-stop-clause-back g t c =
     let n = c.args.node.now in
     let e = amid_parted g.met.Q.Query.fits g.Q.Query.sought l.0 n l.1 c.requires.order c.args.lo.now c.args.hi.now _ _ c.if-start-stop.true (turn_first c.place_in-start.ensures) c.place_in-stop.ensures in
     subst (GoesOn c.args.back.now c.push_cut-then-start-stop.new.gap n) e c.push_cut-then-start-stop.ensures.gap
-
-pub child-requires : goal.child-requires
-child-requires g t c =
-    let l = c.requires.levels in
-    let k = child_there l.0 c.args.node.now c.place_in-start.result l.1 c.if-is_leaf.ensures.1 (turn_first c.place_in-start.ensures).within in
-    k
 
 pub push_both-requires : goal.push_both-requires
 push_both-requires g t c κs within =

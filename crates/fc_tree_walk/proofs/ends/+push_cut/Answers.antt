@@ -17,16 +17,14 @@ returns-then-is_leaf-clause-gap g t c =
 pub returns-then-is_leaf-clause-leaf : goal.returns-then-is_leaf-clause-leaf
 returns-then-is_leaf-clause-leaf g t c = ends_here c.args.gap.now c.push.new.self c.args.place c.args.node.now c.push.ensures
 
-pub child-child-requires : goal.child-child-requires
-child-child-requires g t c = child_there c.requires.levels.0 c.args.node.now c.args.place c.requires.levels.1 c.if-is_leaf.ensures.1 c.requires.place.within
-
 pub push_cut-requires : goal.push_cut-requires
 push_cut-requires g t c κs within =
-    let k = child_there c.requires.levels.0 c.args.node.now c.args.place c.requires.levels.1 c.if-is_leaf.ensures.1 c.requires.place.within in
-    let d = step_down c.args.gap.now _ _ c.args.node.now _ c.requires.levels k c.push.ensures c.child-child.ensures in
+    let l = c.requires.levels in
+    let k = child_there l.0 c.args.node.now c.args.place l.1 c.if-is_leaf.ensures.1 c.requires.place.within in
+    let d = step_down c.args.gap.now _ _ c.args.node.now _ l k c.push.ensures c.child-child.ensures in
     let long = d.1 in
     let room = d.2 in
-    (omega arith, (search rules, (search rules, (search rules, (d.0, (child_ascends g.K.Ord.cmp c.requires.levels.0 _ _ _ c.requires.levels.1 k c.child-child.ensures c.requires.order, turn_first c.place_in.ensures))))))
+    (omega arith, (search rules, (search rules, (search rules, (d.0, (child_ascends g.K.Ord.cmp l.0 _ _ _ l.1 k c.child-child.ensures c.requires.order, turn_first c.place_in.ensures))))))
 
 pub returns-clause-gap : goal.returns-clause-gap
 returns-clause-gap g t c =

@@ -1,14 +1,8 @@
 use Rattle.std.proofs.Common.{◌∙◌}
 use Rattle.fc_tree_node.specs.Node.{pairs_of}
 use Rattle.fc_tree_walk.proofs.Bounds.{from_nothing}
-use Rattle.fc_tree_walk.proofs.Turns.{turn_first, amid_open, ends_told}
+use Rattle.fc_tree_walk.proofs.Turns.{amid_open, ends_told}
 use Rattle.fc_tree_walk.proofs.ends.push_ends.Goals as goal
-
-pub push_cut-first-requires-clause-place : goal.push_cut-first-requires-clause-place
-push_cut-first-requires-clause-place g c = turn_first c.place_in.ensures
-
-pub push_cut-last-requires-clause-place : goal.push_cut-last-requires-clause-place
-push_cut-last-requires-clause-place g c = turn_first c.place_in-then-is_open.ensures
 
 pub returns-then-is_open-clause-front : goal.returns-then-is_open-clause-front
 returns-then-is_open-clause-front g c =

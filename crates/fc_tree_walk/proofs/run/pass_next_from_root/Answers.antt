@@ -1,16 +1,10 @@
-use Rattle.std.proofs.Common.{◌-◌, length, get_or, subst, ap, ◌∙◌}
-use Rattle.std.specs.Prelude.{option_copied}
-use Rattle.fc_tree_node.specs.Leaf.{leaf_at}
+use Rattle.std.proofs.Common.{get_or, subst, ap, ◌∙◌}
 use Rattle.fc_tree_node.specs.Node.{own_pairs}
-use Rattle.fc_tree_walk.specs.Gap.{IsGapIn, IsAboveAt}
-use Rattle.fc_tree_walk.proofs.Ways.{IsNextAt, IsPassed, levels_in, same_root, passed_next}
+use Rattle.fc_tree_walk.specs.Gap.{IsGapIn}
+use Rattle.fc_tree_walk.proofs.Ways.{IsNextAt, IsPassed, passed_next}
 use Rattle.fc_tree_walk.proofs.run.pass_next_from_root.Given as given
 use Rattle.fc_tree_walk.proofs.run.pass_next_from_root.Goals as goal
 use Rattle.fc_tree_walk.proofs.run.pass_next_from_root.Goals.{After-set_after}
-
-pub set_after-requires-clause-levels : goal.set_after-requires-clause-levels
-set_after-requires-clause-levels g c =
-    levels_in c.args.root.now c.in-Some.node _ c.args.gap.now _ c.in-Some.is c.requires.sound c.requires.gap c.place_after-level.ensures.way
 
 passed : (g : given.Over) (c : After-set_after g) → IsPassed c.args.root.now c.args.gap.now c.set_after.new.gap c.pair-pair.result.now
 passed g c =
@@ -24,15 +18,11 @@ passed g c =
 pub leaf_of-requires-clause-gap : goal.leaf_of-requires-clause-gap
 leaf_of-requires-clause-gap g c = subst (λ d. IsGapIn d c.set_after.new.gap) c.in-Some.is (passed g c).slot
 
-pub returns : goal.returns
-returns g c =
-    let r = passed g (goal.at.returns g c).After-set_after in
-    let new = c.set_after.new.gap in
-    let same = same_root c.args.root.now c.in-Some.node in
-    record {
-      gap = r.slot;
-      above = λ d p. subst (λ n. IsAboveAt new n (length new - 1) (option_copied c.leaf_of.result.0)) (same d c.in-Some.is p) c.leaf_of.ensures.above;
-      step = r.step;
-      pair = r.pair;
-      leaf = λ d p. c.leaf_of.ensures.leaf ∙ ap (leaf_at new) (same d c.in-Some.is p);
-    }
+pub returns-clause-step : goal.returns-clause-step
+returns-clause-step g c = (passed g (goal.at.returns-clause-step g c).After-set_after).step
+
+pub returns-clause-pair : goal.returns-clause-pair
+returns-clause-pair g c = (passed g (goal.at.returns-clause-pair g c).After-set_after).pair
+
+pub returns-clause-gap : goal.returns-clause-gap
+returns-clause-gap g c = (passed g (goal.at.returns-clause-gap g c).After-set_after).slot

@@ -1,4 +1,5 @@
-use Rattle.std.proofs.Common.{◌++◌, ◌∙◌, refl, sym, ap, append-nil}
+use Rattle.std.proofs.Common.{◌++◌, ◌∙◌, sym, ap, append-nil}
+use Rattle.fc_tree_walk.proofs.Bounds.{from_nothing}
 use Rattle.fc_tree_walk.proofs.Sought.{left_found, start_taken, stop_taken}
 use Rattle.fc_tree_walk.proofs.Turns.{range_in, start_alone, stop_alone}
 use Rattle.fc_tree_walk.proofs.span.start_within.Goals as goal
@@ -9,9 +10,8 @@ returns-then-not-is_bounded-clause-pairs g c =
     let a = c.args in
     let o = c.requires in
     let w = start_alone g.met.Q.Query.fits g.Q.Query.sought a.lo.now a.hi.now a.root.now _ c.in-Some.is o.order _ c.start_of.ensures
-        (c.is_bounded.ensures c.if-not-is_bounded.true) in
-    (start_taken a.root.now _ c.push_start.new.run.now _ c.in-Some.is o.sound refl a.front.now c.push_start.new.gap a.back.now _
-    o.start.0 o.start.1 p.gap p.run p.last w).1
+    (c.is_bounded.ensures c.if-not-is_bounded.true) in
+    start_taken a.root.now _ _ _ c.in-Some.is c.push_start.new.gap a.back.now _ _ p.run o.start.1 (from_nothing _ _ _ _ o.start.0 p.gap) w
 
 pub returns-then-not-is_bounded-2-clause-pairs : goal.returns-then-not-is_bounded-2-clause-pairs
 returns-then-not-is_bounded-2-clause-pairs g c =
@@ -19,9 +19,8 @@ returns-then-not-is_bounded-2-clause-pairs g c =
     let a = c.args in
     let o = c.requires in
     let w = stop_alone g.met.Q.Query.fits g.Q.Query.sought a.lo.now a.hi.now a.root.now _ c.in-Some.is o.order _ c.stop_of.ensures
-        (c.is_bounded-2.ensures c.if-not-is_bounded-2.true) in
-    (stop_taken a.root.now _ c.push_stop.new.run.now _ c.in-Some.is o.sound refl a.back.now a.front.now c.push_stop.new.gap _ _
-    o.start.1 o.start.0 p.gap p.run p.first w).1
+    (c.is_bounded-2.ensures c.if-not-is_bounded-2.true) in
+    stop_taken a.root.now _ _ _ c.in-Some.is a.front.now c.push_stop.new.gap _ _ p.run o.sound o.start.0 (from_nothing _ _ _ _ o.start.1 p.gap) w
 
 pub returns-clause-pairs : goal.returns-clause-pairs
 returns-clause-pairs g c =
