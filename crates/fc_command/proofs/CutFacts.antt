@@ -17,12 +17,6 @@ pub open_append : (line part : List ℕ) → Open line → Open part → Open (l
 open_append [] part o p = p
 open_append (y ∷ line) part o p = (o.0, open_append line part o.1 p)
 
--- what stands before the first line feed
-pub open_take : (text : List ℕ) (n : ℕ) → ((k : ℕ) → k < n → get_or text k 0 ≢ 10) → Open (take n text)
-open_take text zero h = tt
-open_take [] (suc n) h = tt
-open_take (x ∷ text) (suc n) h = (h 0 (omega arith), open_take text n (λ k lt. h (suc k) (omega (arith, lt))))
-
 -- what is cut off at a line feed begins with it
 pub fed_first : (left from after : List ℕ) (x : ℕ) → left ≡ from → left ≡ x ∷ after → ((x : ℕ) (after : List ℕ) → from ≡ x ∷ after → x ≡ 10)
     → left ≡ 10 ∷ after

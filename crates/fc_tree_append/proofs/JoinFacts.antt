@@ -87,10 +87,6 @@ module _ {K V : Type 0} (cmp : K → K → Ordering) where
         moved old new (joined cmp l v) (joined cmp l r) q n
         (ap (λ y. joined cmp y r) f ∙ ap (λ y. joined cmp (x ∷ s) y) j ∙ k ∙ ap (λ y. q ∷ joined cmp y v) (sym f))
 
-  -- what is left of an ascending list
-  pub ascending_tail : (l u : List (K × V)) (p : K × V) → l ≡ p ∷ u → IsAscending cmp l → IsAscending cmp u
-  ascending_tail l u p e a = (subst (IsAscending cmp) e a).1
-
   -- once one list has no more, what is left of the other comes after
   pub drained : (old f t : List (K × V)) → (f ≡ []) ⊎ (t ≡ []) → IsAscending cmp t → (old ++ f) ++ t ≡ old ++ joined cmp f t
   drained old f t (inl e) a =
