@@ -7,13 +7,10 @@ use Rattle.fc_tree_slots.proofs.slots.Slots.move_back.Given as given
 use Rattle.fc_tree_slots.proofs.slots.Slots.move_back.Goals as goal
 
 pub overflow_add-end : goal.overflow_add-end
-overflow_add-end g c = let t = c.other.inside in let u = opened t c.args.other.now c.other.invariant c.other.view_is in
-    record { fits = omega (arith, u.long, c.requires.room, g.N.fits) }
+overflow_add-end g c = record { fits = omega (arith, (opened c.other.inside _ c.other.invariant c.other.view_is).long, c.requires.room, g.N.fits) }
 
 pub overflow_sub-from : goal.overflow_sub-from
-overflow_sub-from g c =
-    let s = c.self.inside in let xs = c.args.self.now in let o = opened s xs c.self.invariant c.self.view_is in
-    let r = c.requires.room in let b = c.requires.in_bounds in omega (arith, o.long, b)
+overflow_sub-from g c = omega (arith, (opened c.self.inside _ c.self.invariant c.self.view_is).long, c.requires.in_bounds)
 
 pub shift_up-requires-clause-laid : goal.shift_up-requires-clause-laid
 shift_up-requires-clause-laid g c =
@@ -91,5 +88,4 @@ returns-clause-other g c = (target g c).1
 
 pub returns-clause-moves : goal.returns-clause-moves
 returns-clause-moves g c =
-    let t = c.other.inside in let ys = c.args.other.now in let u = opened t ys c.other.invariant c.other.view_is in
-    let r = c.requires.room in let b = c.requires.in_bounds in omega (arith, u.long, b, c.carry.ensures.moves, c.shift_up.ensures.moves)
+    omega (arith, (opened c.other.inside _ c.other.invariant c.other.view_is).long, c.requires.in_bounds, c.carry.ensures.moves, c.shift_up.ensures.moves)

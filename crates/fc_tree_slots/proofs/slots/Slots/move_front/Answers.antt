@@ -7,8 +7,7 @@ use Rattle.fc_tree_slots.proofs.slots.Slots.move_front.Given as given
 use Rattle.fc_tree_slots.proofs.slots.Slots.move_front.Goals as goal
 
 pub overflow_add-end : goal.overflow_add-end
-overflow_add-end g c = let t = c.other.inside in let u = opened t c.args.other.now c.other.invariant c.other.view_is in
-    record { fits = omega (arith, u.long, c.requires.room, g.N.fits) }
+overflow_add-end g c = record { fits = omega (arith, (opened c.other.inside _ c.other.invariant c.other.view_is).long, c.requires.room, g.N.fits) }
 
 pub carry-requires-clause-source_laid : goal.carry-requires-clause-source_laid
 carry-requires-clause-source_laid g c =
@@ -22,15 +21,12 @@ carry-requires-clause-target_laid g c =
     let q = t.len + c.args.n - t.len in (ys, [], g.row.N - (t.len + q), u.is ∙ open_up ys q g.row.N t.len (omega (arith, u.long)), u.long, omega arith)
 
 pub shift_down-requires-clause-in_order : goal.shift_down-requires-clause-in_order
-shift_down-requires-clause-in_order g c =
-    let s = c.self.inside in let xs = c.args.self.now in let o = opened s xs c.self.invariant c.self.view_is in
-    let r = c.requires.room in let b = c.requires.in_bounds in omega (arith, o.long, b)
+shift_down-requires-clause-in_order g c = omega (arith, (opened c.self.inside _ c.self.invariant c.self.view_is).long, c.requires.in_bounds)
 
 pub shift_down-requires-clause-laid : goal.shift_down-requires-clause-laid
 shift_down-requires-clause-laid g c =
-    let s = c.self.inside in let xs = c.args.self.now in let o = opened s xs c.self.invariant c.self.view_is in let t = c.other.inside in
-    let r = c.requires.room in let b = c.requires.in_bounds in let m = g.row.N - s.len in
-    let n = c.args.n in let same : t.len + n - t.len ≡ n = omega arith in (
+    let xs = c.args.self.now in let o = opened c.self.inside xs c.self.invariant c.self.view_is in let b = c.requires.in_bounds in
+    let m = g.row.N - c.self.inside.len in let n = c.args.n in let t = c.other.inside.len in let same : t + n - t ≡ n = omega arith in (
       [],
       drop n xs,
       m,
@@ -41,9 +37,7 @@ shift_down-requires-clause-laid g c =
     )
 
 pub overflow_sub-self : goal.overflow_sub-self
-overflow_sub-self g c =
-    let s = c.self.inside in let xs = c.args.self.now in let o = opened s xs c.self.invariant c.self.view_is in
-    let r = c.requires.room in let b = c.requires.in_bounds in omega (arith, o.long, b)
+overflow_sub-self g c = omega (arith, (opened c.self.inside _ c.self.invariant c.self.view_is).long, c.requires.in_bounds)
 
 source : (g : given.Over) (c : goal.After-other-1 g) → IsPacked c.shift_down.new.cells (c.self.inside.len - c.args.n) g.row.N
     × (present c.shift_down.new.cells ≡ drop c.args.n c.args.self.now)
@@ -83,5 +77,4 @@ returns-clause-other g c = (target g c).1
 
 pub returns-clause-moves : goal.returns-clause-moves
 returns-clause-moves g c =
-    let s = c.self.inside in let xs = c.args.self.now in let o = opened s xs c.self.invariant c.self.view_is in
-    let r = c.requires.room in let b = c.requires.in_bounds in omega (arith, o.long, b, c.carry.ensures.moves, c.shift_down.ensures.moves)
+    omega (arith, (opened c.self.inside _ c.self.invariant c.self.view_is).long, c.requires.in_bounds, c.carry.ensures.moves, c.shift_down.ensures.moves)

@@ -6,15 +6,12 @@ use Rattle.fc_tree_slots.proofs.slots.Slots.move_tail.Given as given
 use Rattle.fc_tree_slots.proofs.slots.Slots.move_tail.Goals as goal
 
 pub overflow_sub-end : goal.overflow_sub-end
-overflow_sub-end g c =
-    let s = c.self.inside in let xs = c.args.self.now in let o = opened s xs c.self.invariant c.self.view_is in
-    let r = c.requires.room in let b = c.requires.in_bounds in omega (arith, o.long, b)
+overflow_sub-end g c = omega (arith, (opened c.self.inside _ c.self.invariant c.self.view_is).long, c.requires.in_bounds)
 
 pub overflow_add-end : goal.overflow_add-end
 overflow_add-end g c =
-    let s = c.self.inside in let xs = c.args.self.now in let o = opened s xs c.self.invariant c.self.view_is in
-    let t = c.other.inside in let ys = c.args.other.now in let u = opened t ys c.other.invariant c.other.view_is in let r = c.requires.room in
-    let b = c.requires.in_bounds in record { fits = omega (arith, o.long, u.long, r, g.N.fits) }
+    let o = opened c.self.inside _ c.self.invariant c.self.view_is in let u = opened c.other.inside _ c.other.invariant c.other.view_is in
+    let b = c.requires.in_bounds in record { fits = omega (arith, o.long, u.long, c.requires.room, g.N.fits) }
 
 pub carry-requires-clause-source_laid : goal.carry-requires-clause-source_laid
 carry-requires-clause-source_laid g c =
@@ -24,8 +21,8 @@ carry-requires-clause-source_laid g c =
 
 pub carry-requires-clause-target_laid : goal.carry-requires-clause-target_laid
 carry-requires-clause-target_laid g c =
-    let s = c.self.inside in let xs = c.args.self.now in let o = opened s xs c.self.invariant c.self.view_is in let t = c.other.inside in
-    let ys = c.args.other.now in let u = opened t ys c.other.invariant c.other.view_is in let r = c.requires.room in let b = c.requires.in_bounds in
+    let s = c.self.inside in let o = opened s _ c.self.invariant c.self.view_is in let r = c.requires.room in let b = c.requires.in_bounds in
+    let t = c.other.inside in let ys = c.args.other.now in let u = opened t ys c.other.invariant c.other.view_is in
     let q = t.len + (s.len - c.args.from) - t.len in
     (ys, [], g.row.N - (t.len + q), u.is ∙ open_up ys q g.row.N t.len (omega (arith, o.long, u.long)), u.long, omega arith)
 
@@ -66,6 +63,4 @@ pub returns-clause-other : goal.returns-clause-other
 returns-clause-other g c = (target g c).1
 
 pub returns-clause-moves : goal.returns-clause-moves
-returns-clause-moves g c =
-    let s = c.self.inside in let xs = c.args.self.now in let o = opened s xs c.self.invariant c.self.view_is in
-    let r = c.requires.room in let b = c.requires.in_bounds in omega (arith, o.long, b, c.carry.ensures.moves)
+returns-clause-moves g c = omega (arith, (opened c.self.inside _ c.self.invariant c.self.view_is).long, c.requires.in_bounds, c.carry.ensures.moves)
