@@ -23,9 +23,6 @@ pub put_other : (m : List (ℕ × Span)) (k : ℕ) (x : Span) (j : ℕ) → j �
 put_other m k x j n = value_at_put_other nat_cmp m k x j nat_cmp_total (λ e. n (exact_unsigned j k e))
 
 module _ (old : List (ℕ × Span)) (lo hi v : ℕ) (some : lo < hi) (apart : AreApart old) where
-  new_span : Span
-  new_span = record { end = hi; value = v }
-
   other_back : (o : Option (ℕ × Span)) (s : ℕ) → s ≢ hi → value_at nat_cmp (with_back old hi o) s ≡ value_at nat_cmp old s
   other_back None s n = refl
   other_back (Some e) s n = put_other old hi e.1 s n

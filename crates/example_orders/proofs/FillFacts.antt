@@ -31,32 +31,6 @@ none_wanted limit [] = (refl, refl)
 none_wanted limit (o ∷ os) = (refl, refl)
 
 module _ (limit w : ℕ) where
-  -- Where the first is beyond the limit, all stay.
-  pub none_reached : (s : Orders) → None ≡ best_fill limit w s → (after_fills limit w s ≡ s) × (unfilled limit w s ≡ w)
-  none_reached [] e = (refl, refl)
-  none_reached (o ∷ os) e = decided (nat_lt limit o.0.0)
-      (λ b. decided (w == 0) (λ z. (rw z refl, rw z refl)) (λ z. (rw (z, b) refl, rw (z, b) refl)))
-      (λ b. let no = rw b at e in absurd cc)
-
-  -- The first fill, and then those for what is still wanted.
-  pub one_filled : (s : Orders) (f : Fill) → 0 < w → Some f ≡ best_fill limit w s
-      → (after_fills limit (w - f.quantity) (after_fill limit w s) ≡ after_fills limit w s)
-      × (unfilled limit (w - f.quantity) (after_fill limit w s) ≡ unfilled limit w s)
-  one_filled [] f p e = absurd cc
-  one_filled (o ∷ os) f p e = decided (nat_lt limit o.0.0)
-      (λ b. let no = rw b at e in absurd cc)
-      (λ b. decided (nat_lt w o.1)
-      (λ d.
-      let g = rw (b, d) at e in
-      let q : f.quantity ≡ w = cc in
-      let z = not_zero w p in
-      (rw (q, nothing w, b, d, z) refl, rw (q, nothing w, b, d, z) refl))
-      (λ d.
-      let g = rw (b, d) at e in
-      let q : f.quantity ≡ o.1 = cc in
-      let z = not_zero w p in
-      (rw (q, b, d, z) refl, rw (q, b, d, z) refl)))
-
   -- Where no more is wanted, all stay.
   pub no_more : (s : Orders) → w ≤ 0 → (after_fills limit w s ≡ s) × (unfilled limit w s ≡ w)
   no_more s l = let z : w ≡ 0 = omega arith in subst (λ n. (after_fills limit n s ≡ s) × (unfilled limit n s ≡ n)) (sym z) (none_wanted limit s)
@@ -89,8 +63,11 @@ total_after limit w [] = refl
 total_after limit w (o ∷ os) = decided (w == 0) (λ z. rw z refl)
     (λ z. decided (nat_lt limit o.0.0) (λ b. rw (z, b) refl)
     (λ b. decided (nat_lt w o.1)
-    (λ d. let l = is_less w o.1 d in rw (z, b, d) (omega (arith, sum_by-cons (λ (o : (ℕ × ℕ) × ℕ). o.1) o os,
-        sum_by-cons (λ (o : (ℕ × ℕ) × ℕ). o.1) (o.0, o.1 - w) os)))
+    (λ d. let l = is_less w o.1 d in rw (z, b, d) (omega (
+      arith,
+      sum_by-cons (λ (o : (ℕ × ℕ) × ℕ). o.1) o os,
+      sum_by-cons (λ (o : (ℕ × ℕ) × ℕ). o.1) (o.0, o.1 - w) os,
+    )))
     (λ d. let l = is_not_less w o.1 d in rw (z, b, d) (omega (arith, total_after limit (w - o.1) os, sum_by-cons (λ (o : (ℕ × ℕ) × ℕ). o.1) o os)))))
 
 -- What holds of all keys holds of those that are left.

@@ -41,8 +41,12 @@ module _ (cmp : ℕ × ℕ → ℕ × ℕ → Ordering) (k : ℕ × ℕ) where
 pub total_put : (s : Orders) (k : ℕ × ℕ) (v : ℕ) → at key_cmp s k ≡ None → total (put key_cmp s k v) ≡ total s + v
 total_put s k v n =
     let j = unwrap_or (option_map (λ (e : (ℕ × ℕ) × ℕ). e.0) (at key_cmp s k)) k in
-    omega (arith, parts_total key_cmp k s n, sum_by-append (λ (o : (ℕ × ℕ) × ℕ). o.1) (below key_cmp s k) ((j, v) ∷ above key_cmp s k),
-        sum_by-cons (λ (o : (ℕ × ℕ) × ℕ). o.1) (j, v) (above key_cmp s k))
+    omega (
+      arith,
+      parts_total key_cmp k s n,
+      sum_by-append (λ (o : (ℕ × ℕ) × ℕ). o.1) (below key_cmp s k) ((j, v) ∷ above key_cmp s k),
+      sum_by-cons (λ (o : (ℕ × ℕ) × ℕ). o.1) (j, v) (above key_cmp s k),
+    )
 
 less : (x y : ℕ) → x < y → nat_cmp x y ≡ Less
 less x y l = by_ranked (x < y) (x ≡ y) (y < x) (nat_cmp x y) (ranked x y (nat_cmp x y) refl) (λ e p. e) (λ e p. absurd (omega arith))
@@ -61,9 +65,6 @@ new_key rank next s h = go s (recursion_from_All (λ o. o.0.1 < next) s h)
     go : (s : Orders) → AllByRecursion (λ o. o.0.1 < next) s → at key_cmp s (rank, next) ≡ None
     go [] a = refl
     go (o ∷ os) a = ap (λ b. cond b (Some o) (at key_cmp os (rank, next))) (apart_numbers o.0.0 rank o.0.1 next a.0) ∙ go os a.1
-
-pub apart_swapped : (s t : Orders) → AreApart s t → AreApart t s
-apart_swapped s t h = λ k d l j e m. omega (arith, h j e m k d l)
 
 -- An order is put among its own whose rank reaches none of the others.
 pub apart_put : (own others : Orders) (rank next v : ℕ) → AreNumberedBelow next own → All (λ o. 2 ^ 64 - 1 - rank < o.0.0) others → AreApart own others

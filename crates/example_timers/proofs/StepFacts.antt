@@ -145,10 +145,6 @@ later_than : (now : ℕ) (x : ℕ × ℕ) (s : List (ℕ × ℕ)) → now < x.0 
 later_than now x [] l a = tt
 later_than now x (y ∷ s) l a = ((let m : x.0 ≤ y.0 = a.0 in omega arith), later_than now x s l a.1)
 
--- The first timer is the least.
-pub least_first : (q rest : List (ℕ × ℕ)) (x : ℕ × ℕ) → AreAscending timer_cmp q → q ≡ x ∷ rest → All (λ y. x.0 ≤ y.0) rest
-least_first q rest x a e = let b : AreAscending timer_cmp (x ∷ rest) = subst (AreAscending timer_cmp) e a in All-from_recursion _ rest (later_due x rest b.0)
-
 -- Where the first timer is not due, none is.
 pub none_due : (now : ℕ) (q : List (ℕ × ℕ)) (x : ℕ × ℕ) → Some x ≡ slice_get q 0 → AreAscending timer_cmp q → now < x.0 → All (λ y. now < y.0) q
 none_due now [] x e a l = absurd cc
@@ -156,10 +152,3 @@ none_due now (y ∷ q) x e a l =
     let same : x ≡ y = cc in
     let m : now < y.0 = subst (λ z. now < z.0) same l in
     All-from_recursion _ (y ∷ q) (m, later_than now y q m (later_due y q a.0))
-
--- The first timer is the one that was looked at.
-pub first_again : (q rest : List (ℕ × ℕ)) (x y : ℕ × ℕ) → Some x ≡ slice_get q 0 → q ≡ y ∷ rest → x ≡ y
-first_again q rest x y e f =
-    let P : List (ℕ × ℕ) → Type 0 = λ t. Some x ≡ slice_get t 0 in
-    let g : Some x ≡ Some y = subst P f e in
-    cc

@@ -17,7 +17,6 @@ loop-write-preserved g c =
     let inv = c.loop-write.invariant in
     let item = c.write-item.result in
     let ws = c.args.writes.now in
-    let s = starting g.K.Ord.cmp (bound_now c.args.bounds.0) (bound_now c.args.bounds.1) (entries c.args.map.now) in
     elim c.if-write.branch [
       | then-write+in-Some w ↦
           let n = w.next.follows.lender item.1 in
@@ -25,7 +24,7 @@ loop-write-preserved g c =
           let h = rw w.in-Some.is at (w.next.follows.holds item.1) in
           rw (e, w.count-is) (
             h.0 ∙ inv.0,
-            under_front s (stretch t) (stretch n) ws c.loop-write.write-index c.loop-write.count item inv.1
+            under_front _ (stretch t) (stretch n) ws c.loop-write.write-index c.loop-write.count item inv.1
                 c.loop-write-test.true c.write-item.is w.if-write.true w.in-Some.ensures.value.0 h.1,
           )
       | then-write+in_default w ↦
@@ -34,7 +33,7 @@ loop-write-preserved g c =
           let h = rw w.in_default.is at (w.next.follows.holds-at-none) in
           rw (e, w.count-is) (
             ap (λ m. m.map.ghost_name) h ∙ inv.0,
-            under_none s (stretch t) (stretch n) ws c.loop-write.write-index c.loop-write.count item
+            under_none _ (stretch t) (stretch n) ws c.loop-write.write-index c.loop-write.count item
                 inv.1 c.loop-write-test.true c.write-item.is w.in_default.ensures.value (ap stretch h),
           )
       | else-write+in-Some-next_back w ↦
@@ -43,7 +42,7 @@ loop-write-preserved g c =
           let h = rw w.in-Some-next_back.is at (w.next_back.follows.holds item.1) in
           rw (e, w.count-is) (
             h.0 ∙ inv.0,
-            under_back s (stretch t) (stretch n) ws c.loop-write.write-index c.loop-write.count item inv.1
+            under_back _ (stretch t) (stretch n) ws c.loop-write.write-index c.loop-write.count item inv.1
                 c.loop-write-test.true c.write-item.is w.if-write.false w.in-Some-next_back.ensures.value.0 h.1,
           )
       | else-write+in_default-next_back w ↦
@@ -52,7 +51,7 @@ loop-write-preserved g c =
           let h = rw w.in_default-next_back.is at (w.next_back.follows.holds-at-none) in
           rw (e, w.count-is) (
             ap (λ m. m.map.ghost_name) h ∙ inv.0,
-            under_none s (stretch t) (stretch n) ws c.loop-write.write-index c.loop-write.count item
+            under_none _ (stretch t) (stretch n) ws c.loop-write.write-index c.loop-write.count item
                 inv.1 c.loop-write-test.true c.write-item.is w.in_default-next_back.ensures.value (ap stretch h),
           )
     ]
@@ -70,7 +69,6 @@ returns-clause-written g c =
 
 pub returns-clause-count : goal.returns-clause-count
 returns-clause-count g c =
-    let s = starting g.K.Ord.cmp (bound_now c.args.bounds.0) (bound_now c.args.bounds.1) (entries c.args.map.now) in
     let end = c.loop-write.auto.write-index-end in
-    under_end s (stretch c.loop-write.walk) c.args.writes.now c.loop-write.write-index c.loop-write.count c.loop-write.invariant.1
+    under_end _ (stretch c.loop-write.walk) c.args.writes.now c.loop-write.write-index c.loop-write.count c.loop-write.invariant.1
     (omega (arith, end, c.loop-write-test.false))
