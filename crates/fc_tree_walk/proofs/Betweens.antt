@@ -26,6 +26,14 @@ module _ {K V : Type 0} (m : Map K V) (sound : IsSoundMap m) where
           absurd (omega (arith, some, empty))
 
   module _ (front back : List ℕ) (ends : AreEndsIn m front back) (some : 0 < length (between m front back)) where
+    -- The front goes on past a pair.
+    pub next_between : (mid : List ℕ) (x : K × V) → IsGapIn m mid → length (before_gap_in m mid) ≡ length (before_gap_in m front) + 1 → slice_get (entries m) (length (before_gap_in m front)) ≡ Some x → AreEndsIn m mid back × (between m front back ≡ x ∷ between m mid back)
+    next_between mid x g step at =
+        let lt = some_between front back some in (
+          (g, ends.1, omega arith),
+          slice_split (entries m) _ (length (before_gap_in m front) + 1) _ (omega arith) (omega arith) ∙ ap (λ xs. xs ++ slice_range (entries m) (length (before_gap_in m front) + 1) (length (before_gap_in m back))) (slice_one (entries m) _ x at)
+              ∙ ap (λ k. x ∷ slice_range (entries m) k (length (before_gap_in m back))) (sym step),
+        )
 
     -- The back goes back past a pair.
     pub previous_between : (mid : List ℕ) (x : K × V) → IsGapIn m mid → length (before_gap_in m mid) + 1 ≡ length (before_gap_in m back) → slice_get (entries m) (length (before_gap_in m mid)) ≡ Some x → AreEndsIn m front mid × (between m front back ≡ between m front mid ++ x ∷ [])

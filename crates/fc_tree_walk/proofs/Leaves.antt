@@ -300,3 +300,10 @@ module _ {K V : Type 0} where
       go false e f = let r = back_leaves root (length back - 1) l front back ends (λ s. absurd (let no : false ≡ true = e.1 s in cc)) in rw f (r.0, ((λ t. absurd (let no : false ≡ true = t in cc)), (λ s. absurd (r.1 s))))
 
 module _ {K V : Type 0} where
+  -- The pair at a place, among the map's.
+  pub place_get : (m : Map K V) (n : Node K V) (path : List ℕ) (x : K × V) → m ≡ Some n → IsSoundMap m → IsPlace path n → place_pair path n ≡ Some x → slice_get (entries m) (length (before_pair path n)) ≡ Some x
+  place_get None n path x is o p e = absurd cc
+  place_get (Some root) n path x is o p e =
+      let same : n ≡ root = cc in
+      let c = place_pairs path o.0 n (subst (IsLevelled o.0) (sym same) o.2.1) p in
+      ap (λ r. slice_get (pairs_of r) (length (before_pair path n))) (sym same) ∙ ap (λ xs. slice_get xs (length (before_pair path n))) c.parts ∙ get_seam (before_pair path n) (after_pair path n) c.pair ∙ sym c.is ∙ e

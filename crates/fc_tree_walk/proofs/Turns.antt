@@ -32,6 +32,16 @@ use Rattle.fc_tree_walk.specs.declared.cuts.Cut.TheVariants.{First, Before, Afte
 use Rattle.fc_tree_walk.specs.Cut.{start_cut, stop_cut, leads, ahead, amid, HoldsFrom, FailsAt, IsTurn, TurnsAt}
 
 module _ {X : Type 0} (t : X → Bool) (s : List X) where
+  -- The test holds at one more item.
+  pub held_on : (from i : ℕ) (x : X) → i < length s → x ≡ get_or s i x → t x ≡ true → HoldsFrom t s from i → HoldsFrom t s from (i + 1)
+  held_on from i x h e p all k d ge lt = order (cases_lt k i)
+    where
+      order : (k < i) ⊎ (i ≤ k) → t (get_or s k d) ≡ true
+      order (inl a) = all k d ge a
+      order (inr b) =
+          let same : k ≡ i = omega arith in
+          let there = item_there s i h in
+          ap (λ j. t (get_or s j d)) same ∙ ap t (there.1 d ∙ sym (there.1 x) ∙ sym e) ∙ p
 
   -- It does not hold at the item at a place.
   pub not_there : (i : ℕ) (x : X) → x ≡ get_or s i x → t x ≡ false → FailsAt t s i
@@ -41,6 +51,9 @@ module _ {X : Type 0} {t : X → Bool} {s : List X} where
   -- A turn from the front on, and one that leaves its first place.
   pub turn_first : {i : ℕ} → IsTurn t s 0 i → TurnsAt t s i
   turn_first r = record { within = r.within; holds = λ k d ge lt. r.holds k d (omega arith) lt; fails = r.fails }
+
+  pub turn_later : {from i : ℕ} → from < i → IsTurn t s from i → TurnsAt t s i
+  turn_later lt r = record { within = r.within; holds = λ k d ge le. r.holds k d (omega arith) le; fails = r.fails }
 
 module _ {X : Type 0} where
   filter_same : (p q : X → Bool) → ((x : X) → p x ≡ q x) → (s : List X) → filter p s ≡ filter q s

@@ -241,6 +241,9 @@ module _ {K V : Type 0} where
 
   -- ---- the gap on the other side of the pair
 
+  pub same_root : (m : Map K V) (n r : Node K V) → m ≡ Some n → m ≡ Some r → n ≡ r
+  same_root m n r a b = let e : Some n ≡ Some r = sym a ∙ b in cc
+
   along : (s path : List ℕ) (h : ℕ) (root : Node K V) → IsLevelled h root → IsDescent s root → IsLeafGap path (node_at s root)
       → IsLeafGap (s ++ path) root × (length (before_gap (s ++ path) root) ≡ length (before_gap s root) + length (before_gap path (node_at s root)))
   along [] path h root l d w = (w, omega arith)
@@ -282,6 +285,13 @@ module _ {K V : Type 0} where
 
       seam : (a b c d : List (K × V)) (y : K × V) → slice_get (a ++ ((b ++ y ∷ c) ++ d)) (length a + length b) ≡ Some y
       seam a b c d y = ap (slice_get (a ++ ((b ++ y ∷ c) ++ d))) (sym (length-append a b)) ∙ ap (λ zs. slice_get zs (length (a ++ b))) (regroup a b c d y) ∙ get_seam (a ++ b) (c ++ d) y
+
+  -- The levels of a node on the way, in a map.
+  pub levels_in : (m : Map K V) (root n : Node K V) (gap : List ℕ) (level : ℕ) → m ≡ Some root → IsSoundMap m → IsGapIn m gap → LeadsTo gap root level n → IsLevelled (length gap - level - 1) n
+  levels_in None root n gap level is o g w = absurd cc
+  levels_in (Some r) root n gap level is o g w =
+      let same : root ≡ r = cc in
+      way_levels gap o.0 level r n o.2.1 g (subst (λ d. LeadsTo gap d level n) same w)
 
   pub record IsPassed (m : Map K V) (gap new : List ℕ) (x : K × V) : Type 0 where
     pub slot : IsGapIn m new
@@ -325,6 +335,15 @@ module _ {K V : Type 0} where
   leaf_node (i ∷ j ∷ gap) (suc level) n e = leaf_node (j ∷ gap) level (child_at n i) (omega arith)
 
   -- ---- the leaf of a gap, and the node above it
+
+  -- It is above another gap of the leaf too.
+  pub above_beside : (m : Map K V) (gap new : List ℕ) (above : Option (Node K V)) → IsBeside gap new → IsAbove m gap above → IsAbove m new above
+  above_beside m gap new None s w root is = tt
+  above_beside m gap new (Some n) s w root is =
+      let long = ap length s.1 ∙ length_set gap (length gap - 1) s.0 in
+      let same : length gap - 1 - 1 ≡ length new - 1 - 1 = omega arith in
+      let v = w root is in
+      (omega (arith, long, v.0), v.1 ∙ ap (λ p. node_at p root) (sym (take-set-le (length gap - 1 - 1) gap (length gap - 1) s.0 (omega arith)) ∙ ap (take (length gap - 1 - 1)) (sym s.1) ∙ ap (λ k. take k new) same))
 
   -- The way to the node above the leaf of a gap, and on to the leaf.
   pub record IsNear (m : Map K V) (gap : List ℕ) (n : Node K V) : Type 0 where
