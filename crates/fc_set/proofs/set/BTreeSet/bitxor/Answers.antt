@@ -28,8 +28,10 @@ try_copied-requires g c =
                     (ascending_symmetric_difference g.T.Ord.cmp (items c.args.self.now) (items c.args.other.now) g.met.T.Ord.total
                     c.symmetric_difference.ensures.ascending.0),
                 λ k. subst (λ v. length (symmetric_difference g.T.Ord.cmp v.left v.right) ≤ 2 ^ 64 - 1)
-                    (sym c.symmetric_difference.ensures.sides) (let most = symmetric_at_most g.T.Ord.cmp g.met.T.Ord.total (items c.args.self.now) (items c.args.other.now)
-                    c.symmetric_difference.ensures.ascending.0 c.symmetric_difference.ensures.ascending.1 in let few = c.fit_together.ensures k in omega arith),
+                    (sym c.symmetric_difference.ensures.sides)
+                    (let most = symmetric_at_most g.T.Ord.cmp g.met.T.Ord.total (items c.args.self.now) (items c.args.other.now)
+                    c.symmetric_difference.ensures.ascending.0 c.symmetric_difference.ensures.ascending.1 in
+                    let few = c.fit_together.ensures k in omega arith),
               ),
             ),
           ),
