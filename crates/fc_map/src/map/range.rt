@@ -13,8 +13,9 @@ impl<K: Ord, V> BTreeMap<K, V> {
 
     /// A walk over the pairs whose keys lie within both bounds, in ascending order of their keys. The bounds are by a `Query`, as in `get`:
     /// by references to keys, or by a borrowed form of them, so that pairs of a `String` and what it begins with are had by two `&str`.
-    /// Both ends are found in one way down the tree, until they part; the steps of the walk compare no key. Bounds that are no range,
-    /// within which no key can lie, make a walk that is empty: upstream panics. `is_range` is the test of them. Upstream: `BTreeMap::range`.
+    /// A bound is found in one way down the tree, two in the same one until they part; an end without a bound when the walk first needs it.
+    /// The steps of the walk compare no key. Bounds that are no range, within which no key can lie, make a walk that is empty: upstream
+    /// panics. `is_range` is the test of them. Upstream: `BTreeMap::range`.
     pub fn range<Q: Query<K>>(&self, bounds: (Bound<Q>, Bound<Q>)) -> Range<'_, K, V>
         ensures pairs { result ≡ within Q.order (bound_by Q.sought bounds.0) (bound_by Q.sought bounds.1) (entries self.now) }
         ensures fits { length result ≤ usize.MAX }

@@ -224,9 +224,10 @@ impl<T: Ord> BTreeSet<T> {
         }
     }
 
-    /// A walk over the items that lie within both bounds, in ascending order. The bounds are by a `Query`, as in `get`. Both ends are found in
-    /// one way down the tree, until they part; the steps of the walk compare no item. Bounds that are no range, within which no item can
-    /// lie, make a walk that is empty: upstream panics. `is_range` is the test of them. Upstream: `BTreeSet::range`.
+    /// A walk over the items that lie within both bounds, in ascending order. The bounds are by a `Query`, as in `get`. A bound is found in
+    /// one way down the tree, two in the same one until they part; an end without a bound when the walk first needs it. The steps of the
+    /// walk compare no item. Bounds that are no range, within which no item can lie, make a walk that is empty: upstream panics. `is_range`
+    /// is the test of them. Upstream: `BTreeSet::range`.
     pub fn range<Q: Query<T>>(&self, bounds: (Bound<Q>, Bound<Q>)) -> Range<'_, T>
         ensures items { result ≡ items_within Q.order (bound_by Q.sought bounds.0) (bound_by Q.sought bounds.1) (items self.now) }
         ensures fits { length result ≤ usize.MAX }
