@@ -1,5 +1,6 @@
 -- What lies between two gaps of a map, when one of them goes on.
-use Rattle.std.proofs.Common.{◌≡◌, ℕ, ◌+◌, ◌-◌, ◌<◌, ◌≤◌, List, [], ◌∷◌, ◌++◌, length, take, drop, Some, slice_get, sym, ap, ◌∙◌, arith, length-append, ◌⊎◌, inl, inr}
+use Rattle.std.proofs.Common.{◌≡◌, ℕ, ◌+◌, ◌-◌, ◌<◌, ◌≤◌, List, [], ◌∷◌, ◌++◌, length, take, drop, Some, slice_get, sym, ap, ◌∙◌, arith, length-append, ◌⊎◌}
+use Rattle.std.proofs.Common.{inl, inr}
 use Rattle.std.specs.Prelude.{slice_range}
 use Rattle.std.proofs.lemmas.Bool.{cases_lt}
 use Rattle.fc_tree_node.specs.Tree.{Map, entries, IsSoundMap}
@@ -18,7 +19,8 @@ module _ {K V : Type 0} (m : Map K V) (sound : IsSoundMap m) where
   pub some_between : (front back : List ℕ) → 0 < length (between m front back) → length (before_gap_in m front) < length (before_gap_in m back)
   some_between front back some = order (cases_lt (length (before_gap_in m front)) (length (before_gap_in m back)))
     where
-      order : (length (before_gap_in m front) < length (before_gap_in m back)) ⊎ (length (before_gap_in m back) ≤ length (before_gap_in m front)) → length (before_gap_in m front) < length (before_gap_in m back)
+      order : (length (before_gap_in m front) < length (before_gap_in m back)) ⊎ (length (before_gap_in m back) ≤ length (before_gap_in m front))
+          → length (before_gap_in m front) < length (before_gap_in m back)
       order (inl lt) = lt
       order (inr le) =
           let none : length (before_gap_in m back) - length (before_gap_in m front) ≡ 0 = omega arith in
@@ -27,19 +29,23 @@ module _ {K V : Type 0} (m : Map K V) (sound : IsSoundMap m) where
 
   module _ (front back : List ℕ) (ends : AreEndsIn m front back) (some : 0 < length (between m front back)) where
     -- The front goes on past a pair.
-    pub next_between : (mid : List ℕ) (x : K × V) → IsGapIn m mid → length (before_gap_in m mid) ≡ length (before_gap_in m front) + 1 → slice_get (entries m) (length (before_gap_in m front)) ≡ Some x → AreEndsIn m mid back × (between m front back ≡ x ∷ between m mid back)
+    pub next_between : (mid : List ℕ) (x : K × V) → IsGapIn m mid → length (before_gap_in m mid) ≡ length (before_gap_in m front) + 1
+        → slice_get (entries m) (length (before_gap_in m front)) ≡ Some x → AreEndsIn m mid back × (between m front back ≡ x ∷ between m mid back)
     next_between mid x g step at =
         let lt = some_between front back some in (
           (g, ends.1, omega arith),
-          slice_split (entries m) _ (length (before_gap_in m front) + 1) _ (omega arith) (omega arith) ∙ ap (λ xs. xs ++ slice_range (entries m) (length (before_gap_in m front) + 1) (length (before_gap_in m back))) (slice_one (entries m) _ x at)
+          slice_split (entries m) _ (length (before_gap_in m front) + 1) _ (omega arith) (omega arith)
+              ∙ ap (λ xs. xs ++ slice_range (entries m) (length (before_gap_in m front) + 1) (length (before_gap_in m back))) (slice_one (entries m) _ x at)
               ∙ ap (λ k. x ∷ slice_range (entries m) k (length (before_gap_in m back))) (sym step),
         )
 
     -- The back goes back past a pair.
-    pub previous_between : (mid : List ℕ) (x : K × V) → IsGapIn m mid → length (before_gap_in m mid) + 1 ≡ length (before_gap_in m back) → slice_get (entries m) (length (before_gap_in m mid)) ≡ Some x → AreEndsIn m front mid × (between m front back ≡ between m front mid ++ x ∷ [])
+    pub previous_between : (mid : List ℕ) (x : K × V) → IsGapIn m mid → length (before_gap_in m mid) + 1 ≡ length (before_gap_in m back)
+        → slice_get (entries m) (length (before_gap_in m mid)) ≡ Some x → AreEndsIn m front mid × (between m front back ≡ between m front mid ++ x ∷ [])
     previous_between mid x g step at =
         let lt = some_between front back some in (
           (ends.0, g, omega arith),
-          slice_split (entries m) _ (length (before_gap_in m mid)) _ (omega arith) (omega arith) ∙ ap (λ k. between m front mid ++ slice_range (entries m) (length (before_gap_in m mid)) k) (sym step)
+          slice_split (entries m) _ (length (before_gap_in m mid)) _ (omega arith) (omega arith)
+              ∙ ap (λ k. between m front mid ++ slice_range (entries m) (length (before_gap_in m mid)) k) (sym step)
               ∙ ap (λ xs. between m front mid ++ xs) (slice_one (entries m) _ x at),
         )

@@ -1,5 +1,6 @@
 -- From a gap of a leaf to the pair on either side, and to the gap on the other side of it.
-use Rattle.std.proofs.Common.{◌≡◌, ℕ, zero, suc, ◌+◌, ◌-◌, ◌<◌, ◌≤◌, List, [], ◌∷◌, ◌++◌, length, take, get_or, refl, sym, ap, subst, ◌∙◌, arith, add-one, Some, None, append-nil, append_assoc, length-append}
+use Rattle.std.proofs.Common.{◌≡◌, ℕ, zero, suc, ◌+◌, ◌-◌, ◌<◌, ◌≤◌, List, [], ◌∷◌, ◌++◌, length, take, get_or, refl, sym, ap, subst, ◌∙◌, arith, add-one, Some}
+use Rattle.std.proofs.Common.{None, append-nil, append_assoc, length-append}
 use Rattle.std.specs.Prelude.{slice_range}
 use Rattle.fc_base.specs.Sizes.{capacity, most_levels}
 use Rattle.fc_tree_node.specs.declared.node.Node.{Node}
@@ -40,26 +41,31 @@ module _ {K V : Type 0} where
   pub around_child : (h : ℕ) (n c : Node K V) (i : ℕ) → IsLevelled h n → i < length (children_of n) → c ≡ child_at n i → IsAround n i (pairs_of c)
   around_child h n c i l k is = let s = step_levels h n i l k in subst (λ d. IsAround n i (pairs_of d)) (sym is) (inner_gap n i s.4 s.3)
 
-  pub around_length : (n : Node K V) (i : ℕ) (c : List (K × V)) → IsAround n i c → length (pairs_of n) ≡ length (before_child n i) + (length c + length (after_child n i))
+  pub around_length : (n : Node K V) (i : ℕ) (c : List (K × V)) → IsAround n i c
+      → length (pairs_of n) ≡ length (before_child n i) + (length c + length (after_child n i))
   around_length n i c is = ap length is ∙ length-append (before_child n i) _ ∙ ap (λ m. length (before_child n i) + m) (length-append c (after_child n i))
 
   -- how many pairs are before a node's own pair: those that lead to the child before it, and that child's
-  pub own_count : (h : ℕ) (n : Node K V) (i : ℕ) (c : List (K × V)) → IsLevelled h n → i < length (own_pairs n) → IsAround n i c → length (before_own n i) ≡ length (before_child n i) + length c
+  pub own_count : (h : ℕ) (n : Node K V) (i : ℕ) (c : List (K × V)) → IsLevelled h n → i < length (own_pairs n) → IsAround n i c
+      → length (before_own n i) ≡ length (before_child n i) + length c
   own_count h n i c l k is =
       let x = (item_there (own_pairs n) i k).0 in
       omega (arith, ap length (own_pair h n i x l k) ∙ length-append (before_own n i) _, around_length n i c is, ap length (after_child_pair n i x k))
 
   -- and all pairs of the node are those before its end, and the last child's
-  pub end_count : (n : Node K V) (i : ℕ) (c : List (K × V)) → length (own_pairs n) ≤ i → IsAround n i c → length (pairs_of n) ≡ length (before_child n i) + length c
+  pub end_count : (n : Node K V) (i : ℕ) (c : List (K × V)) → length (own_pairs n) ≤ i → IsAround n i c
+      → length (pairs_of n) ≡ length (before_child n i) + length c
   end_count n i c h is = omega (arith, around_length n i c is, ap length (after_none n i h))
 
   pub leaf_before_own : (n : Node K V) (i : ℕ) → IsLevelled 0 n → i < length (own_pairs n) → length (before_own n i) ≡ length (before_child n i)
   leaf_before_own n i l k = omega (arith, own_count 0 n i [] l k (leaf_gap n i l.1))
 
-  pub inner_length : (h : ℕ) (n : Node K V) (i : ℕ) → IsLevelled (suc h) n → i ≤ length (own_pairs n) → length (pairs_of n) ≡ length (before_child n i) + (length (pairs_of (child_at n i)) + length (after_child n i))
+  pub inner_length : (h : ℕ) (n : Node K V) (i : ℕ) → IsLevelled (suc h) n → i ≤ length (own_pairs n)
+      → length (pairs_of n) ≡ length (before_child n i) + (length (pairs_of (child_at n i)) + length (after_child n i))
   inner_length h n i l le = around_length n i (pairs_of (child_at n i)) (inner_gap n i l.1 le)
 
-  pub inner_before : (h : ℕ) (n : Node K V) (i : ℕ) → IsLevelled (suc h) n → i < length (own_pairs n) → length (before_own n i) ≡ length (before_child n i) + length (pairs_of (child_at n i))
+  pub inner_before : (h : ℕ) (n : Node K V) (i : ℕ) → IsLevelled (suc h) n → i < length (own_pairs n)
+      → length (before_own n i) ≡ length (before_child n i) + length (pairs_of (child_at n i))
   inner_before h n i l k = own_count (suc h) n i (pairs_of (child_at n i)) l k (inner_gap n i l.1 (omega arith))
 
   -- the pair after a gap
@@ -69,7 +75,8 @@ module _ {K V : Type 0} where
     pub place : 0 < steps → IsPlace (take steps gap) n
     pub before : 0 < steps → length (before_pair (take steps gap) n) ≡ length (before_gap gap n)
 
-  next_at_leaf : (i : ℕ) (n : Node K V) (own : ℕ) → i ≤ length (own_pairs n) → IsLevelled 0 n → (own ≡ 0 → length (own_pairs n) ≤ i) → (0 < own → (own ≡ 1) × (i < length (own_pairs n))) → IsNext (i ∷ []) n own
+  next_at_leaf : (i : ℕ) (n : Node K V) (own : ℕ) → i ≤ length (own_pairs n) → IsLevelled 0 n → (own ≡ 0 → length (own_pairs n) ≤ i)
+      → (0 < own → (own ≡ 1) × (i < length (own_pairs n))) → IsNext (i ∷ []) n own
   next_at_leaf i n zero le l z s =
       record {
         within = omega arith;
@@ -91,7 +98,8 @@ module _ {K V : Type 0} where
       }
   next_at_leaf i n (suc (suc own)) le l z s = absurd (let e = (s (omega arith)).0 in omega arith)
 
-  next_above : (i : ℕ) (rest : List ℕ) (h : ℕ) (n : Node K V) (own : ℕ) → i ≤ length (own_pairs n) → IsLevelled (suc h) n → length (before_gap rest (child_at n i)) ≡ length (pairs_of (child_at n i))
+  next_above : (i : ℕ) (rest : List ℕ) (h : ℕ) (n : Node K V) (own : ℕ) → i ≤ length (own_pairs n) → IsLevelled (suc h) n
+      → length (before_gap rest (child_at n i)) ≡ length (pairs_of (child_at n i))
       → (own ≡ 0 → length (own_pairs n) ≤ i) → (0 < own → (own ≡ 1) × (i < length (own_pairs n))) → IsNext (i ∷ rest) n own
   next_above i rest h n zero le l e z s =
       record {
@@ -114,7 +122,8 @@ module _ {K V : Type 0} where
       }
   next_above i rest h n (suc (suc own)) le l e z s = absurd (let e = (s (omega arith)).0 in omega arith)
 
-  next_below : (i : ℕ) (rest : List ℕ) (h : ℕ) (n : Node K V) (steps : ℕ) → i ≤ length (own_pairs n) → IsLevelled (suc h) n → IsNext rest (child_at n i) steps → 0 < steps → IsNext (i ∷ rest) n (suc steps)
+  next_below : (i : ℕ) (rest : List ℕ) (h : ℕ) (n : Node K V) (steps : ℕ) → i ≤ length (own_pairs n) → IsLevelled (suc h) n → IsNext rest (child_at n i) steps
+      → 0 < steps → IsNext (i ∷ rest) n (suc steps)
   next_below i rest h n zero le l x k = absurd (omega arith)
   next_below i [] h n (suc steps) le l x k = absurd (let w : suc steps ≤ 0 = x.within in omega arith)
   next_below i (j ∷ rest) h n (suc steps) le l x k =
@@ -127,14 +136,17 @@ module _ {K V : Type 0} where
       }
 
   -- the same by the steps of a path
-  pub next_leaf : (gap : List ℕ) (n : Node K V) (own : ℕ) → gap ≡ get_or gap 0 0 ∷ [] → IsPath gap n → IsLevelled 0 n → (own ≡ 0 → length (own_pairs n) ≤ get_or gap 0 0) → (0 < own → (own ≡ 1) × (get_or gap 0 0 < length (own_pairs n))) → IsNext gap n own
+  pub next_leaf : (gap : List ℕ) (n : Node K V) (own : ℕ) → gap ≡ get_or gap 0 0 ∷ [] → IsPath gap n → IsLevelled 0 n
+      → (own ≡ 0 → length (own_pairs n) ≤ get_or gap 0 0) → (0 < own → (own ≡ 1) × (get_or gap 0 0 < length (own_pairs n))) → IsNext gap n own
   next_leaf gap n own e p l z s = subst (λ g. IsNext g n own) (sym e) (next_at_leaf (get_or gap 0 0) n own (subst (λ g. IsPath g n) e p).0 l z s)
 
-  pub next_own : (gap : List ℕ) (n : Node K V) (own : ℕ) (s : IsStep gap n) → length (before_gap (slice_range gap 1 (length gap)) (child_at n (get_or gap 0 0))) ≡ length (pairs_of (child_at n (get_or gap 0 0)))
+  pub next_own : (gap : List ℕ) (n : Node K V) (own : ℕ) (s : IsStep gap n)
+      → length (before_gap (slice_range gap 1 (length gap)) (child_at n (get_or gap 0 0))) ≡ length (pairs_of (child_at n (get_or gap 0 0)))
       → (own ≡ 0 → length (own_pairs n) ≤ get_or gap 0 0) → (0 < own → (own ≡ 1) × (get_or gap 0 0 < length (own_pairs n))) → IsNext gap n own
   next_own gap n own s e z o = subst (λ g. IsNext g n own) (sym s.path_is) (next_above _ _ _ n own s.le s.levels e z o)
 
-  pub next_child : (gap : List ℕ) (n : Node K V) (steps : ℕ) (s : IsStep gap n) → IsNext (slice_range gap 1 (length gap)) (child_at n (get_or gap 0 0)) steps → 0 < steps → IsNext gap n (steps + 1)
+  pub next_child : (gap : List ℕ) (n : Node K V) (steps : ℕ) (s : IsStep gap n) → IsNext (slice_range gap 1 (length gap)) (child_at n (get_or gap 0 0)) steps
+      → 0 < steps → IsNext gap n (steps + 1)
   next_child gap n steps s x k = subst (λ g. IsNext g n (steps + 1)) (sym s.path_is) (rw (add-one steps) (next_below _ _ _ n steps s.le s.levels x k))
 
   -- the pair before a gap
@@ -145,9 +157,17 @@ module _ {K V : Type 0} where
     pub before : 0 < steps → length (before_pair (one_back (take steps gap)) n) + 1 ≡ length (before_gap gap n)
     pub step : (last : ℕ) → last + 1 ≡ steps → 0 < get_or gap last 0
 
-  last_own : (i : ℕ) (rest : List ℕ) (h : ℕ) (n : Node K V) (own : ℕ) → i ≤ length (own_pairs n) → IsLevelled h n → length (before_gap rest (child_at n i)) ≡ 0 → (own ≡ 0 → i ≡ 0) → (0 < own → (own ≡ 1) × (0 < i)) → IsLast (i ∷ rest) n own
+  last_own : (i : ℕ) (rest : List ℕ) (h : ℕ) (n : Node K V) (own : ℕ) → i ≤ length (own_pairs n) → IsLevelled h n → length (before_gap rest (child_at n i)) ≡ 0
+      → (own ≡ 0 → i ≡ 0) → (0 < own → (own ≡ 1) × (0 < i)) → IsLast (i ∷ rest) n own
   last_own zero rest h n zero le l e z s =
-      record { within = omega arith; none = λ _. e; place = λ k. absurd (omega arith); before = λ k. absurd (omega arith); step = λ last s. absurd (omega arith) }
+      record {
+        within = omega arith;
+        none = λ _. e;
+        place = λ k. absurd (omega arith);
+        before = λ k. absurd (omega arith);
+        step =
+            λ last s. absurd (omega arith);
+      }
   last_own (suc i) rest h n zero le l e z s = absurd (let y = z refl in omega arith)
   last_own zero rest h n (suc own) le l e z s = absurd (let y = (s (omega arith)).1 in omega arith)
   last_own (suc i) rest h n (suc zero) le l e z s =
@@ -169,7 +189,8 @@ module _ {K V : Type 0} where
       here (suc last) e = absurd (omega arith)
   last_own (suc i) rest h n (suc (suc own)) le l e z s = absurd (let e = (s (omega arith)).0 in omega arith)
 
-  last_below : (i : ℕ) (rest : List ℕ) (h : ℕ) (n : Node K V) (steps : ℕ) → i ≤ length (own_pairs n) → IsLevelled (suc h) n → IsLast rest (child_at n i) steps → 0 < steps → IsLast (i ∷ rest) n (suc steps)
+  last_below : (i : ℕ) (rest : List ℕ) (h : ℕ) (n : Node K V) (steps : ℕ) → i ≤ length (own_pairs n) → IsLevelled (suc h) n → IsLast rest (child_at n i) steps
+      → 0 < steps → IsLast (i ∷ rest) n (suc steps)
   last_below i rest h n zero le l x k = absurd (omega arith)
   last_below i [] h n (suc steps) le l x k = absurd (let w : suc steps ≤ 0 = x.within in omega arith)
   last_below i (j ∷ rest) h n (suc steps) le l x k =
@@ -190,18 +211,25 @@ module _ {K V : Type 0} where
       there zero s = absurd (omega arith)
       there (suc last) s = x.step last (omega arith)
 
-      below_one : (path : List ℕ) → IsPlace (one_back (j ∷ path)) (child_at n i) → (i < length (children_of n) → IsPlace (i ∷ one_back (j ∷ path)) n) × (before_pair (i ∷ one_back (j ∷ path)) n ≡ before_child n i ++ before_pair (one_back (j ∷ path)) (child_at n i))
+      below_one : (path : List ℕ) → IsPlace (one_back (j ∷ path)) (child_at n i)
+          → (i < length (children_of n) → IsPlace (i ∷ one_back (j ∷ path)) n)
+          × (before_pair (i ∷ one_back (j ∷ path)) n ≡ before_child n i ++ before_pair (one_back (j ∷ path)) (child_at n i))
       below_one [] p = ((λ k. (k, p)), refl)
       below_one (m ∷ path) p = ((λ k. (k, p)), refl)
 
   -- the same by the steps of a path
-  pub last_leaf : (gap : List ℕ) (n : Node K V) (own : ℕ) → gap ≡ get_or gap 0 0 ∷ [] → IsPath gap n → IsLevelled 0 n → (own ≡ 0 → get_or gap 0 0 ≡ 0) → (0 < own → (own ≡ 1) × (0 < get_or gap 0 0)) → IsLast gap n own
+  pub last_leaf : (gap : List ℕ) (n : Node K V) (own : ℕ) → gap ≡ get_or gap 0 0 ∷ [] → IsPath gap n → IsLevelled 0 n → (own ≡ 0 → get_or gap 0 0 ≡ 0)
+      → (0 < own → (own ≡ 1) × (0 < get_or gap 0 0)) → IsLast gap n own
   last_leaf gap n own e p l z s = subst (λ g. IsLast g n own) (sym e) (last_own (get_or gap 0 0) [] 0 n own (subst (λ g. IsPath g n) e p).0 l refl z s)
 
-  pub last_above : (gap : List ℕ) (n : Node K V) (own : ℕ) (s : IsStep gap n) → length (before_gap (slice_range gap 1 (length gap)) (child_at n (get_or gap 0 0))) ≡ 0 → (own ≡ 0 → get_or gap 0 0 ≡ 0) → (0 < own → (own ≡ 1) × (0 < get_or gap 0 0)) → IsLast gap n own
-  last_above gap n own s e z o = subst (λ g. IsLast g n own) (sym s.path_is) (last_own _ _ (suc (length (slice_range gap 1 (length gap)) - 1)) n own s.le s.levels e z o)
+  pub last_above : (gap : List ℕ) (n : Node K V) (own : ℕ) (s : IsStep gap n)
+      → length (before_gap (slice_range gap 1 (length gap)) (child_at n (get_or gap 0 0))) ≡ 0 → (own ≡ 0 → get_or gap 0 0 ≡ 0)
+      → (0 < own → (own ≡ 1) × (0 < get_or gap 0 0)) → IsLast gap n own
+  last_above gap n own s e z o = subst (λ g. IsLast g n own) (sym s.path_is)
+      (last_own _ _ (suc (length (slice_range gap 1 (length gap)) - 1)) n own s.le s.levels e z o)
 
-  pub last_child : (gap : List ℕ) (n : Node K V) (steps : ℕ) (s : IsStep gap n) → IsLast (slice_range gap 1 (length gap)) (child_at n (get_or gap 0 0)) steps → 0 < steps → IsLast gap n (steps + 1)
+  pub last_child : (gap : List ℕ) (n : Node K V) (steps : ℕ) (s : IsStep gap n) → IsLast (slice_range gap 1 (length gap)) (child_at n (get_or gap 0 0)) steps
+      → 0 < steps → IsLast gap n (steps + 1)
   last_child gap n steps s x k = subst (λ g. IsLast g n (steps + 1)) (sym s.path_is) (rw (add-one steps) (last_below _ _ _ n steps s.le s.levels x k))
 
   -- all pairs of a leaf are before the end of it
@@ -209,7 +237,8 @@ module _ {K V : Type 0} where
   end_leaf n i l h = omega (arith, end_count n i [] h (leaf_gap n i l.1))
 
   -- a path that goes on by one step, to the gap of a leaf
-  pub goes_leaf : (old : List ℕ) (i h : ℕ) (n : Node K V) → IsLevelled h n → length (children_of n) ≤ i → i ≤ length (own_pairs n) → GoesOn old (old ++ i ∷ []) n (length (before_child n i))
+  pub goes_leaf : (old : List ℕ) (i h : ℕ) (n : Node K V) → IsLevelled h n → length (children_of n) ≤ i → i ≤ length (own_pairs n)
+      → GoesOn old (old ++ i ∷ []) n (length (before_child n i))
   goes_leaf old i zero n l c le = (i ∷ [], refl, ((le, tt), λ h m. one h m), ap length (append-nil (before_child n i)))
     where
       one : (h : ℕ) → IsLevelled h n → 1 ≡ h + 1
@@ -218,22 +247,32 @@ module _ {K V : Type 0} where
   goes_leaf old i (suc h) n l c le = absurd (let e : length (children_of n) ≡ length (own_pairs n) + 1 = l.1 in omega arith)
 
   -- and one that goes on below a child
-  pub goes_child : (old new : List ℕ) (i h : ℕ) (n : Node K V) (count : ℕ) → IsLevelled (suc h) n → i ≤ length (own_pairs n) → GoesOn (old ++ i ∷ []) new (child_at n i) count → GoesOn old new n (length (before_child n i) + count)
-  goes_child old new i h n count l le g =
-      (i ∷ g.0, g.1 ∙ append_assoc old (i ∷ []) g.0, ((le, g.2.0), λ k m. deep k m), length-append (before_child n i) (before_gap g.0 (child_at n i)) ∙ ap (λ m. length (before_child n i) + m) g.3)
+  pub goes_child : (old new : List ℕ) (i h : ℕ) (n : Node K V) (count : ℕ) → IsLevelled (suc h) n → i ≤ length (own_pairs n)
+      → GoesOn (old ++ i ∷ []) new (child_at n i) count → GoesOn old new n (length (before_child n i) + count)
+  goes_child old new i h n count l le g = (
+    i ∷ g.0,
+    g.1 ∙ append_assoc old (i ∷ []) g.0,
+    ((le, g.2.0), λ k m. deep k m),
+    length-append (before_child n i) (before_gap g.0 (child_at n i))
+        ∙ ap (λ m. length (before_child n i) + m) g.3,
+  )
     where
       deep : (k : ℕ) → IsLevelled k n → suc (length g.0) ≡ k + 1
-      deep zero m = absurd (let e : length (children_of n) ≡ length (own_pairs n) + 1 = l.1 in let f : length (children_of n) ≡ 0 = ap length (leaf_children n m.1) in omega arith)
+      deep zero m = absurd (let e : length (children_of n) ≡ length (own_pairs n) + 1 = l.1 in
+          let f : length (children_of n) ≡ 0 = ap length (leaf_children n m.1) in omega arith)
       deep (suc k) m = let d = g.2.1 k (child_below k n i m le).1 in omega arith
 
   -- the same, with the pairs before the gap counted
-  pub goes_here : (old new : List ℕ) (i h : ℕ) (n : Node K V) (count more : ℕ) → IsLevelled h n → length (children_of n) ≤ i → i ≤ length (own_pairs n) → new ≡ old ++ i ∷ [] → count ≡ length (before_child n i) + more → more ≡ 0 → GoesOn old new n count
+  pub goes_here : (old new : List ℕ) (i h : ℕ) (n : Node K V) (count more : ℕ) → IsLevelled h n → length (children_of n) ≤ i → i ≤ length (own_pairs n)
+      → new ≡ old ++ i ∷ [] → count ≡ length (before_child n i) + more → more ≡ 0 → GoesOn old new n count
   goes_here old new i h n count more l c le is e z = let g = goes_leaf old i h n l c le in (g.0, is ∙ g.1, g.2, omega (arith, g.3, e, z))
 
-  pub goes_below : (old mid new : List ℕ) (i h : ℕ) (n c : Node K V) (below count : ℕ) → IsLevelled h n → i < length (children_of n) → mid ≡ old ++ i ∷ [] → c ≡ child_at n i → GoesOn mid new c below → count ≡ length (before_child n i) + below → GoesOn old new n count
+  pub goes_below : (old mid new : List ℕ) (i h : ℕ) (n c : Node K V) (below count : ℕ) → IsLevelled h n → i < length (children_of n) → mid ≡ old ++ i ∷ []
+      → c ≡ child_at n i → GoesOn mid new c below → count ≡ length (before_child n i) + below → GoesOn old new n count
   goes_below old mid new i h n c below count l k m is g e =
       let s = step_levels h n i l k in
-      let r = goes_child old new i s.0 n below (subst (λ k. IsLevelled k n) s.1 l) s.3 (subst (λ d. GoesOn (old ++ i ∷ []) new d below) is (subst (λ m. GoesOn m new c below) m g)) in
+      let r = goes_child old new i s.0 n below (subst (λ k. IsLevelled k n) s.1 l) s.3
+      (subst (λ d. GoesOn (old ++ i ∷ []) new d below) is (subst (λ m. GoesOn m new c below) m g)) in
       (r.0, r.1, r.2, r.3 ∙ sym e)
 
   -- the leaf that a path goes on to
@@ -255,7 +294,8 @@ module _ {K V : Type 0} where
 
   -- a step down to a child: the path is one longer, and the child's levels one fewer
   pub step_down : (old mid : List ℕ) (i : ℕ) (n c : Node K V) (l : (h : ℕ) × IsLevelled h n × (length old + h < most_levels))
-      → i < length (children_of n) → mid ≡ old ++ i ∷ [] → c ≡ child_at n i → ((h : ℕ) × IsLevelled h c × (length mid + h < most_levels)) × (length mid ≡ length old + 1) × (length mid < most_levels)
+      → i < length (children_of n) → mid ≡ old ++ i ∷ [] → c ≡ child_at n i
+      → ((h : ℕ) × IsLevelled h c × (length mid + h < most_levels)) × (length mid ≡ length old + 1) × (length mid < most_levels)
   step_down old mid i n c l k m is =
       let s = step_levels l.0 n i l.1 k in
       let e = s.1 in
@@ -265,7 +305,8 @@ module _ {K V : Type 0} where
 
   -- the gap after a pair, on the way down to it
   pub next_before : (h : ℕ) (n : Node K V) (i : ℕ) → IsLevelled h n → i < length (own_pairs n) → length (before_child n (i + 1)) ≡ length (before_own n i) + 1
-  next_before h n i l k = let x = (item_there (own_pairs n) i k).0 in ap (λ j. length (before_child n j)) (add-one i) ∙ ap length (before_child_pair h n i x l k) ∙ length-append (before_own n i) _
+  next_before h n i l k = let x = (item_there (own_pairs n) i k).0 in ap (λ j. length (before_child n j)) (add-one i)
+      ∙ ap length (before_child_pair h n i x l k) ∙ length-append (before_own n i) _
 
   -- the gap after a pair
   zeros_gap : (h : ℕ) (n : Node K V) → IsLevelled h n → IsPath (zeros (suc h)) n × (before_gap (zeros (suc h)) n ≡ [])
@@ -292,7 +333,8 @@ module _ {K V : Type 0} where
       let d = ap length z.1 in
       record { way = (omega arith, z.0); count = omega (arith, a, b, d) }
 
-  pub pair_after_gap : (gap : List ℕ) (last k h : ℕ) (n : Node K V) → IsLevelled h n → length gap ≡ h + 1 → IsPath gap n → k + last + 1 ≡ length gap → IsPlace (take (suc last) gap) n → IsBehind (take (suc last) gap) (take last gap ++ (get_or gap last 0 + 1) ∷ zeros k) n
+  pub pair_after_gap : (gap : List ℕ) (last k h : ℕ) (n : Node K V) → IsLevelled h n → length gap ≡ h + 1 → IsPath gap n → k + last + 1 ≡ length gap
+      → IsPlace (take (suc last) gap) n → IsBehind (take (suc last) gap) (take last gap ++ (get_or gap last 0 + 1) ∷ zeros k) n
   pair_after_gap [] last k h n l e w c p = absurd (omega arith)
   pair_after_gap (i ∷ rest) zero k h n l e w c p = rw (add-one i) (zeros_after k h i n l (omega arith) p)
   pair_after_gap (i ∷ []) (suc last) k h n l e w c p = absurd (omega arith)
@@ -301,7 +343,8 @@ module _ {K V : Type 0} where
       let r = pair_after_gap (j ∷ rest) last k h (child_at n i) (child_below h n i l w.0).1 (omega arith) w.1 (omega arith) p.1 in
       record {
         way = (w.0, r.way);
-        count = length-append (before_child n i) _ ∙ ap (λ m. length (before_child n i) + m) r.count ∙ let a = length-append (before_child n i) (before_pair (take (suc last) (j ∷ rest)) (child_at n i)) in omega (arith, a);
+        count = length-append (before_child n i) _ ∙ ap (λ m. length (before_child n i) + m) r.count
+            ∙ let a = length-append (before_child n i) (before_pair (take (suc last) (j ∷ rest)) (child_at n i)) in omega (arith, a);
       }
 
   -- a step of a path is at most what a node holds
@@ -315,8 +358,10 @@ module _ {K V : Type 0} where
   -- the levels of a tree are of one height
   pub one_height : (h k : ℕ) (n : Node K V) → IsLevelled h n → IsLevelled k n → h ≡ k
   one_height zero zero n l m = refl
-  one_height zero (suc k) n l m = absurd (let e : length (children_of n) ≡ 0 = ap length (leaf_children n l.1) in let f : length (children_of n) ≡ length (own_pairs n) + 1 = m.1 in omega arith)
-  one_height (suc h) zero n l m = absurd (let e : length (children_of n) ≡ 0 = ap length (leaf_children n m.1) in let f : length (children_of n) ≡ length (own_pairs n) + 1 = l.1 in omega arith)
+  one_height zero (suc k) n l m = absurd (let e : length (children_of n) ≡ 0 = ap length (leaf_children n l.1) in
+      let f : length (children_of n) ≡ length (own_pairs n) + 1 = m.1 in omega arith)
+  one_height (suc h) zero n l m = absurd (let e : length (children_of n) ≡ 0 = ap length (leaf_children n m.1) in
+      let f : length (children_of n) ≡ length (own_pairs n) + 1 = l.1 in omega arith)
   one_height (suc h) (suc k) n l m = ap suc (one_height h k (child_at n 0) (child_below h n 0 l (omega arith)).1 (child_below k n 0 m (omega arith)).1)
 
   -- the one step of a short path to a pair
@@ -338,7 +383,8 @@ module _ {K V : Type 0} where
       let w : suc last ≤ length gap = y.within in
       let t = length_take last gap (omega arith) in
       let r = pair_after_gap gap last (length gap - last - 1) h n l (g.1 h l) g.0 (omega arith) (y.place (omega arith)) in
-      let same : next ≡ take last gap ++ (get_or gap last 0 + 1) ∷ zeros (length gap - last - 1) = is ∙ ap (λ k. take last gap ++ (get_or gap last 0 + 1) ∷ zeros (length gap - k - 1)) t in
+      let same : next ≡ take last gap ++ (get_or gap last 0 + 1) ∷ zeros (length gap - last - 1) = is
+      ∙ ap (λ k. take last gap ++ (get_or gap last 0 + 1) ∷ zeros (length gap - k - 1)) t in
       let z = length_zeros (length gap - last - 1) in
       let long : length next ≡ length gap = ap length same ∙ length-append (take last gap) _ ∙ omega arith in
       record {
@@ -346,7 +392,8 @@ module _ {K V : Type 0} where
         count = ap (λ p. length (before_gap p n)) same ∙ r.count ∙ ap (λ k. k + 1) (y.before (omega arith));
       }
 
-  pub stepped_after : (m : Map K V) (n : Node K V) (gap next : List ℕ) (last steps : ℕ) → m ≡ Some n → IsSoundMap m → IsGapIn m gap → IsNext gap n steps → last + 1 ≡ steps
+  pub stepped_after : (m : Map K V) (n : Node K V) (gap next : List ℕ) (last steps : ℕ) → m ≡ Some n → IsSoundMap m → IsGapIn m gap → IsNext gap n steps
+      → last + 1 ≡ steps
       → next ≡ take last gap ++ (get_or gap last 0 + 1) ∷ zeros (length gap - length (take last gap) - 1) → IsStepped m gap next
   stepped_after None n gap next last steps is sound g x e f = absurd cc
   stepped_after (Some root) n gap next last steps is sound g x e f =
@@ -359,13 +406,17 @@ module _ {K V : Type 0} where
   gap_small (Some root) gap i sound g k = step_small gap i sound.0 root sound.2.1 (g.1 sound.0 sound.2.1) g.0 k
 
   -- the pair before a gap, and the gap before it
-  pub place_back : (n : Node K V) (gap place : List ℕ) (last steps : ℕ) → IsLast gap n steps → last + 1 ≡ steps → place ≡ take last gap ++ (get_or gap last 0 - 1) ∷ [] → IsPlace place n × (length (before_pair place n) + 1 ≡ length (before_gap gap n))
+  pub place_back : (n : Node K V) (gap place : List ℕ) (last steps : ℕ) → IsLast gap n steps → last + 1 ≡ steps
+      → place ≡ take last gap ++ (get_or gap last 0 - 1) ∷ [] → IsPlace place n × (length (before_pair place n) + 1 ≡ length (before_gap gap n))
   place_back n gap place last steps x e is =
       let s : steps ≡ suc last = sym e ∙ add-one last in
       let y = subst (IsLast gap n) s x in
       let w : suc last ≤ length gap = y.within in
-      let same : one_back (take (suc last) gap) ≡ place = back_is gap last (omega arith) ∙ sym is in
-      (subst (λ p. IsPlace p n) same (y.place (omega arith)), subst (λ p. length (before_pair p n) + 1 ≡ length (before_gap gap n)) same (y.before (omega arith)))
+      let same : one_back (take (suc last) gap) ≡ place = back_is gap last (omega arith) ∙ sym is in (
+        subst (λ p. IsPlace p n) same (y.place (omega arith)),
+        subst (λ p. length (before_pair p n) + 1 ≡ length (before_gap gap n)) same
+            (y.before (omega arith)),
+      )
 
   pub record IsBacked (m : Map K V) (gap path next : List ℕ) : Type 0 where
     pub place : IsPlaceIn m path
@@ -381,7 +432,8 @@ module _ {K V : Type 0} where
   some_last None n gap steps is x k = absurd cc
   some_last (Some root) n gap steps is x k = let same : n ≡ root = cc in some_before gap root steps (subst (λ d. IsLast gap d steps) same x) k
 
-  pub stepped_before : (m : Map K V) (n : Node K V) (gap place next : List ℕ) (last steps : ℕ) → m ≡ Some n → IsLast gap n steps → last + 1 ≡ steps → place ≡ take last gap ++ (get_or gap last 0 - 1) ∷ [] → GoesOn [] next n (length (before_pair place n)) → IsBacked m gap place next
+  pub stepped_before : (m : Map K V) (n : Node K V) (gap place next : List ℕ) (last steps : ℕ) → m ≡ Some n → IsLast gap n steps → last + 1 ≡ steps
+      → place ≡ take last gap ++ (get_or gap last 0 - 1) ∷ [] → GoesOn [] next n (length (before_pair place n)) → IsBacked m gap place next
   stepped_before None n gap place next last steps is x e p g = absurd cc
   stepped_before (Some root) n gap place next last steps is x e p g =
       let same : n ≡ root = cc in

@@ -1,5 +1,6 @@
 -- The gaps of one leaf lie together, and the pairs between them are pairs of the leaf.
-use Rattle.std.proofs.Common.{◌≡◌, ℕ, zero, suc, ◌+◌, ◌-◌, ◌<◌, ◌≤◌, List, [], ◌∷◌, ◌++◌, length, map, take, drop, get_or, refl, sym, ap, subst, ◌∙◌, arith, Bool, true, false, IsTrue, Some, None, slice_get, ◌⊎◌, inl, inr, length-append, append_assoc, append-nil}
+use Rattle.std.proofs.Common.{◌≡◌, ℕ, zero, suc, ◌+◌, ◌-◌, ◌<◌, ◌≤◌, List, [], ◌∷◌, ◌++◌, length, map, take, drop, get_or, refl, sym, ap, subst, ◌∙◌, arith}
+use Rattle.std.proofs.Common.{Bool, true, false, IsTrue, Some, None, ◌⊎◌, inl, inr, length-append, append_assoc, append-nil}
 use Rattle.std.specs.Prelude.{◌↔◌, if◌then◌else◌, slice_range, slice_set}
 use Rattle.std.proofs.lemmas.Bool.{cases_lt}
 use Rattle.std.proofs.lemmas.List.{set-get_or}
@@ -8,16 +9,16 @@ use Rattle.fc_tree_node.specs.Leaf.{leaf_at}
 use Rattle.fc_tree_node.specs.LeafGap.{IsLeafGap}
 use Rattle.fc_tree_node.specs.Node.{own_pairs, child_at, pairs_of, IsLeaf, IsLevelled}
 use Rattle.fc_tree_node.specs.Path.{IsPath, before_gap, after_gap}
-use Rattle.fc_tree_node.specs.Place.{before_child, after_child, IsPlace, place_pair, before_pair, after_pair}
-use Rattle.fc_tree_node.specs.Tree.{Map, entries, IsSoundMap}
+use Rattle.fc_tree_node.specs.Place.{before_child, after_child}
+use Rattle.fc_tree_node.specs.Tree.{Map, IsSoundMap}
 use Rattle.fc_tree_node.specs.Weave.{before_list}
-use Rattle.fc_tree_node.proofs.Gaps.{inner_gap, place_pairs, gap_pairs}
+use Rattle.fc_tree_node.proofs.Gaps.{inner_gap, gap_pairs}
 use Rattle.fc_tree_node.proofs.Lists.{take_nil, length_take, length_set, set_is}
 use Rattle.fc_tree_node.proofs.Pairs.{leaf_children, leaf_pairs, child_below}
 use Rattle.fc_tree_walk.specs.Gap.{AreEndsIn}
 use Rattle.fc_tree_walk.specs.Span.{between}
 use Rattle.fc_tree_walk.proofs.Meetings.{earlier}
-use Rattle.fc_tree_walk.proofs.Slices.{get_seam, slice_none, slice_length, slice_split, slice_inner}
+use Rattle.fc_tree_walk.proofs.Slices.{slice_none, slice_length, slice_split, slice_inner}
 
 pub no_items : (q : List ℕ) → length q ≡ 0 → q ≡ []
 no_items [] e = refl
@@ -45,10 +46,12 @@ other_last g h j e = set_is g h j (omega arith) ∙ ap (λ r. take h g ++ j ∷ 
 module _ {K V : Type 0} where
   -- A leaf has its own pairs alone on either side of a gap.
   pub leaf_before_child : (n : Node K V) (i : ℕ) → IsLeaf n → before_child n i ≡ take i (own_pairs n)
-  leaf_before_child n i l = ap (λ cs. before_list (map pairs_of (take i cs)) (take i (own_pairs n))) (leaf_children n l) ∙ ap (λ cs. before_list (map pairs_of cs) (take i (own_pairs n))) (take_nil i)
+  leaf_before_child n i l = ap (λ cs. before_list (map pairs_of (take i cs)) (take i (own_pairs n))) (leaf_children n l)
+      ∙ ap (λ cs. before_list (map pairs_of cs) (take i (own_pairs n))) (take_nil i)
 
   -- A gap of another leaf that is not before a leaf's gap k is after its gap e too.
-  pub apart_leaf : (f : List ℕ) (h : ℕ) (n : Node K V) (k e : ℕ) (q : List ℕ) → IsLevelled h n → IsPath (f ++ k ∷ []) n → IsPath (f ++ e ∷ []) n → IsPath q n → length f ≡ h → length q ≡ h + 1
+  pub apart_leaf : (f : List ℕ) (h : ℕ) (n : Node K V) (k e : ℕ) (q : List ℕ) → IsLevelled h n → IsPath (f ++ k ∷ []) n → IsPath (f ++ e ∷ []) n → IsPath q n
+      → length f ≡ h → length q ≡ h + 1
       → (take h q ≡ f → ⊥) → length (before_gap (f ++ k ∷ []) n) ≤ length (before_gap q n) → length (before_gap (f ++ e ∷ []) n) < length (before_gap q n)
   apart_leaf [] zero n k e q l v w x a b other le = absurd (other refl)
   apart_leaf [] (suc h) n k e q l v w x a b other le = absurd (omega arith)
@@ -58,7 +61,8 @@ module _ {K V : Type 0} where
       order (λ y u m. apart_leaf f h (child_at n i) k e q (child_below h n i l v.0).1 v.1 w.1 y (omega arith) (omega arith) u m) (cases_lt i j) (cases_lt j i)
     where
       Below : Type 0
-      Below = IsPath q (child_at n i) → (take h q ≡ f → ⊥) → length (before_gap (f ++ k ∷ []) (child_at n i)) ≤ length (before_gap q (child_at n i)) → length (before_gap (f ++ e ∷ []) (child_at n i)) < length (before_gap q (child_at n i))
+      Below = IsPath q (child_at n i) → (take h q ≡ f → ⊥) → length (before_gap (f ++ k ∷ []) (child_at n i)) ≤ length (before_gap q (child_at n i))
+          → length (before_gap (f ++ e ∷ []) (child_at n i)) < length (before_gap q (child_at n i))
 
       same : Below → i ≡ j → length (before_gap (i ∷ (f ++ e ∷ [])) n) < length (before_gap (j ∷ q) n)
       same below s =
@@ -100,7 +104,8 @@ module _ {K V : Type 0} where
         parts = leaf_pairs n l.1 ∙ sym (append-nil (own_pairs n));
         within = p.0;
         way = λ j k. (k, tt);
-        count = λ j k. let a = ap length (append-nil (before_child n j) ∙ leaf_before_child n j l.1) in let b = length_take j (own_pairs n) k in omega (arith, a, b);
+        count = λ j k. let a = ap length (append-nil (before_child n j) ∙ leaf_before_child n j l.1) in let b = length_take j (own_pairs n) k in
+            omega (arith, a, b);
         leaf = λ j. refl;
       }
   leaf_cut (i ∷ []) (suc h) n l e p = absurd (omega arith)
@@ -111,10 +116,12 @@ module _ {K V : Type 0} where
       record {
         low = before_child n i ++ r.low;
         high = r.high ++ after_child n i;
-        parts = inner_gap n i l.1 p.0 ∙ ap (λ zs. before_child n i ++ (zs ++ after_child n i)) r.parts ∙ regroup (before_child n i) r.low (own_pairs (leaf_at (k ∷ g) c)) r.high (after_child n i);
+        parts = inner_gap n i l.1 p.0 ∙ ap (λ zs. before_child n i ++ (zs ++ after_child n i)) r.parts
+            ∙ regroup (before_child n i) r.low (own_pairs (leaf_at (k ∷ g) c)) r.high (after_child n i);
         within = r.within;
         way = λ j m. (p.0, r.way j m);
-        count = λ j m. let a = length-append (before_child n i) (before_gap (slice_set (k ∷ g) h j) c) in let b = length-append (before_child n i) r.low in let d = r.count j m in omega (arith, a, b, d);
+        count = λ j m. let a = length-append (before_child n i) (before_gap (slice_set (k ∷ g) h j) c) in let b = length-append (before_child n i) r.low in
+            let d = r.count j m in omega (arith, a, b, d);
         leaf = λ j. below h j ∙ r.leaf j;
       }
     where
@@ -154,11 +161,14 @@ module _ {K V : Type 0} where
     here g w = ap (λ p. length (before_gap p n)) (sym (set-get_or g h 0)) ∙ (cut_of g w).count (get_or g h 0) (cut_of g w).within
 
     -- The pairs between two gaps of the leaf.
-    taken : (g : List ℕ) (w : IsLeafGap g n) (i j : ℕ) → i ≤ j → j ≤ length (own_pairs (leaf_at g n)) → slice_range (pairs_of n) (length (cut_of g w).low + i) (length (cut_of g w).low + j) ≡ slice_range (own_pairs (leaf_at g n)) i j
-    taken g w i j a b = let c = cut_of g w in ap (λ xs. slice_range xs (length c.low + i) (length c.low + j)) c.parts ∙ slice_inner c.low (own_pairs (leaf_at g n)) c.high i j a b
+    taken : (g : List ℕ) (w : IsLeafGap g n) (i j : ℕ) → i ≤ j → j ≤ length (own_pairs (leaf_at g n))
+        → slice_range (pairs_of n) (length (cut_of g w).low + i) (length (cut_of g w).low + j) ≡ slice_range (own_pairs (leaf_at g n)) i j
+    taken g w i j a b = let c = cut_of g w in ap (λ xs. slice_range xs (length c.low + i) (length c.low + j)) c.parts
+        ∙ slice_inner c.low (own_pairs (leaf_at g n)) c.high i j a b
 
     -- The gap of another end in the same leaf.
-    other_here : (g q : List ℕ) (w : IsLeafGap g n) → IsLeafGap q n → take h g ≡ take h q → (get_or q h 0 ≤ length (own_pairs (leaf_at g n))) × (length (before_gap q n) ≡ length (cut_of g w).low + get_or q h 0)
+    other_here : (g q : List ℕ) (w : IsLeafGap g n) → IsLeafGap q n → take h g ≡ take h q
+        → (get_or q h 0 ≤ length (own_pairs (leaf_at g n))) × (length (before_gap q n) ≡ length (cut_of g w).low + get_or q h 0)
     other_here g q w v e =
         let s = same_set g q h (deep g w) (deep q v) e in
         let c = cut_of g w in
@@ -166,7 +176,9 @@ module _ {K V : Type 0} where
         let k = subst (λ m. get_or q h 0 ≤ length (own_pairs m)) same (cut_of q v).within in
         (k, ap (λ p. length (before_gap p n)) (sym s) ∙ c.count (get_or q h 0) k)
 
-    front_took : (front back : List ℕ) (w : IsLeafGap front n) (end : ℕ) → IsLeafGap back n → get_or front h 0 ≤ end → end ≤ length (own_pairs (leaf_at front n)) → length (cut_of front w).low + end ≤ length (before_gap back n) → FrontTaken (Some n) front back (leaf_at front n) h end
+    front_took : (front back : List ℕ) (w : IsLeafGap front n) (end : ℕ) → IsLeafGap back n → get_or front h 0 ≤ end
+        → end ≤ length (own_pairs (leaf_at front n)) → length (cut_of front w).low + end ≤ length (before_gap back n)
+        → FrontTaken (Some n) front back (leaf_at front n) h end
     front_took front back w end v a b d =
         let c = cut_of front w in
         let s = c.count end b in
@@ -175,11 +187,14 @@ module _ {K V : Type 0} where
           order = a;
           fits = b;
           ends = (moved front w end b, v, omega (arith, s, d));
-          run = slice_split (pairs_of n) _ (length c.low + end) _ (omega (arith, now)) d ∙ ap (λ zs. zs ++ slice_range (pairs_of n) (length c.low + end) (length (before_gap back n))) (ap (λ k. slice_range (pairs_of n) k (length c.low + end)) now ∙ taken front w (get_or front h 0) end a b)
+          run = slice_split (pairs_of n) _ (length c.low + end) _ (omega (arith, now)) d
+              ∙ ap (λ zs. zs ++ slice_range (pairs_of n) (length c.low + end) (length (before_gap back n)))
+              (ap (λ k. slice_range (pairs_of n) k (length c.low + end)) now ∙ taken front w (get_or front h 0) end a b)
               ∙ ap (λ k. slice_range (own_pairs (leaf_at front n)) (get_or front h 0) end ++ slice_range (pairs_of n) k (length (before_gap back n))) (sym s);
         }
 
-    back_took : (front back : List ℕ) (w : IsLeafGap back n) (start : ℕ) → IsLeafGap front n → start ≤ get_or back h 0 → length (before_gap front n) ≤ length (cut_of back w).low + start → BackTaken (Some n) front back (leaf_at back n) h start
+    back_took : (front back : List ℕ) (w : IsLeafGap back n) (start : ℕ) → IsLeafGap front n → start ≤ get_or back h 0
+        → length (before_gap front n) ≤ length (cut_of back w).low + start → BackTaken (Some n) front back (leaf_at back n) h start
     back_took front back w start v a d =
         let c = cut_of back w in
         let f = c.within in
@@ -189,27 +204,33 @@ module _ {K V : Type 0} where
           order = a;
           fits = f;
           ends = (v, moved back w start (omega arith), omega (arith, s, d));
-          run = slice_split (pairs_of n) _ (length c.low + start) _ d (omega (arith, now)) ∙ ap (λ zs. slice_range (pairs_of n) (length (before_gap front n)) (length c.low + start) ++ zs) (ap (λ k. slice_range (pairs_of n) (length c.low + start) k) now ∙ taken back w start (get_or back h 0) a f)
+          run = slice_split (pairs_of n) _ (length c.low + start) _ d (omega (arith, now))
+              ∙ ap (λ zs. slice_range (pairs_of n) (length (before_gap front n)) (length c.low + start) ++ zs)
+              (ap (λ k. slice_range (pairs_of n) (length c.low + start) k) now ∙ taken back w start (get_or back h 0) a f)
               ∙ ap (λ k. slice_range (pairs_of n) (length (before_gap front n)) k ++ slice_range (own_pairs (leaf_at back n)) start (get_or back h 0)) (sym s);
         }
 
     -- All gaps of the front's leaf are before a back in another leaf.
-    all_before : (g q : List ℕ) (w : IsLeafGap g n) → IsLeafGap q n → (take h g ≡ take h q → ⊥) → length (before_gap g n) ≤ length (before_gap q n) → (j : ℕ) → j ≤ length (own_pairs (leaf_at g n)) → length (cut_of g w).low + j < length (before_gap q n)
+    all_before : (g q : List ℕ) (w : IsLeafGap g n) → IsLeafGap q n → (take h g ≡ take h q → ⊥) → length (before_gap g n) ≤ length (before_gap q n) → (j : ℕ)
+        → j ≤ length (own_pairs (leaf_at g n)) → length (cut_of g w).low + j < length (before_gap q n)
     all_before g q w v other le j k =
         let c = cut_of g w in
         let s : g ≡ take h g ++ get_or g h 0 ∷ [] = sym (set-get_or g h 0) ∙ other_last g h (get_or g h 0) (deep g w) in
         let t = other_last g h j (deep g w) in
         let long : length (take h g) ≡ h = length_take h g (let d = deep g w in omega arith) in
-        let r = apart_leaf (take h g) h n (get_or g h 0) j q l (subst (λ p. IsPath p n) s w.0) (subst (λ p. IsPath p n) t (c.way j k)) v.0 long (deep q v) (λ e. other (sym e)) (subst (λ p. length (before_gap p n) ≤ length (before_gap q n)) s le) in
+        let r = apart_leaf (take h g) h n (get_or g h 0) j q l (subst (λ p. IsPath p n) s w.0) (subst (λ p. IsPath p n) t (c.way j k)) v.0 long (deep q v)
+        (λ e. other (sym e)) (subst (λ p. length (before_gap p n) ≤ length (before_gap q n)) s le) in
         let m = c.count j k in
         let u = ap (λ p. length (before_gap p n)) t in
         omega (arith, r, m, u)
 
     -- And all gaps of the back's leaf are after a front in another leaf.
-    all_after : (g q : List ℕ) (w : IsLeafGap q n) → IsLeafGap g n → (take h q ≡ take h g → ⊥) → length (before_gap g n) ≤ length (before_gap q n) → length (before_gap g n) < length (cut_of q w).low + 0
+    all_after : (g q : List ℕ) (w : IsLeafGap q n) → IsLeafGap g n → (take h q ≡ take h g → ⊥) → length (before_gap g n) ≤ length (before_gap q n)
+        → length (before_gap g n) < length (cut_of q w).low + 0
     all_after g q w v other le = order (cases_lt (length (before_gap g n)) (length (cut_of q w).low + 0))
       where
-        order : (length (before_gap g n) < length (cut_of q w).low + 0) ⊎ (length (cut_of q w).low + 0 ≤ length (before_gap g n)) → length (before_gap g n) < length (cut_of q w).low + 0
+        order : (length (before_gap g n) < length (cut_of q w).low + 0) ⊎ (length (cut_of q w).low + 0 ≤ length (before_gap g n))
+            → length (before_gap g n) < length (cut_of q w).low + 0
         order (inl lt) = lt
         order (inr ge) =
             let c = cut_of q w in
@@ -218,7 +239,8 @@ module _ {K V : Type 0} where
             let long : length (take h q) ≡ h = length_take h q (let d = deep q w in omega arith) in
             let m = c.count 0 (omega arith) in
             let u = ap (λ p. length (before_gap p n)) s in
-            let r = apart_leaf (take h q) h n 0 (get_or q h 0) g l (subst (λ p. IsPath p n) s (c.way 0 (omega arith))) (subst (λ p. IsPath p n) t w.0) v.0 long (deep g v) (λ e. other (sym e)) (omega (arith, ge, m, u)) in
+            let r = apart_leaf (take h q) h n 0 (get_or q h 0) g l (subst (λ p. IsPath p n) s (c.way 0 (omega arith))) (subst (λ p. IsPath p n) t w.0) v.0 long
+            (deep g v) (λ e. other (sym e)) (omega (arith, ge, m, u)) in
             let x = ap (λ p. length (before_gap p n)) t in
             absurd (omega (arith, r, x, le))
 
@@ -230,7 +252,8 @@ module _ {K V : Type 0} where
         omega (arith, long, none, lt)
 
     -- ---- What is taken up to the other end, and what in another leaf.
-    front_meets : (front back : List ℕ) → AreEndsIn (Some n) front back → take h front ≡ take h back → FrontTaken (Some n) front back (leaf_at front n) h (get_or back h 0) × (between (Some n) (slice_set front h (get_or back h 0)) back ≡ [])
+    front_meets : (front back : List ℕ) → AreEndsIn (Some n) front back → take h front ≡ take h back
+        → FrontTaken (Some n) front back (leaf_at front n) h (get_or back h 0) × (between (Some n) (slice_set front h (get_or back h 0)) back ≡ [])
     front_meets front back ends e =
         let w = ends.0 in
         let o = other_here front back w ends.1 e in
@@ -240,7 +263,9 @@ module _ {K V : Type 0} where
         let le = ends.2 in
         (front_took front back w (get_or back h 0) ends.1 (omega arith) o.0 (omega arith), slice_none (pairs_of n) _ _ (s ∙ sym same))
 
-    front_leaves : (front back : List ℕ) → AreEndsIn (Some n) front back → (take h front ≡ take h back → ⊥) → FrontTaken (Some n) front back (leaf_at front n) h (length (own_pairs (leaf_at front n))) × (between (Some n) (slice_set front h (length (own_pairs (leaf_at front n)))) back ≡ [] → ⊥)
+    front_leaves : (front back : List ℕ) → AreEndsIn (Some n) front back → (take h front ≡ take h back → ⊥)
+        → FrontTaken (Some n) front back (leaf_at front n) h (length (own_pairs (leaf_at front n)))
+        × (between (Some n) (slice_set front h (length (own_pairs (leaf_at front n)))) back ≡ [] → ⊥)
     front_leaves front back ends other =
         let w = ends.0 in
         let c = cut_of front w in
@@ -249,7 +274,8 @@ module _ {K V : Type 0} where
         let s = c.count end (omega arith) in
         (front_took front back w end ends.1 c.within (omega arith) (omega arith), some_left (slice_set front h end) back ends.1 (omega (arith, s, lt)))
 
-    back_meets : (front back : List ℕ) → AreEndsIn (Some n) front back → take h back ≡ take h front → BackTaken (Some n) front back (leaf_at back n) h (get_or front h 0) × (between (Some n) front (slice_set back h (get_or front h 0)) ≡ [])
+    back_meets : (front back : List ℕ) → AreEndsIn (Some n) front back → take h back ≡ take h front
+        → BackTaken (Some n) front back (leaf_at back n) h (get_or front h 0) × (between (Some n) front (slice_set back h (get_or front h 0)) ≡ [])
     back_meets front back ends e =
         let w = ends.1 in
         let o = other_here back front w ends.0 e in
@@ -259,20 +285,28 @@ module _ {K V : Type 0} where
         let le = ends.2 in
         (back_took front back w (get_or front h 0) ends.0 (omega arith) (omega arith), slice_none (pairs_of n) _ _ (same ∙ sym s))
 
-    back_leaves : (front back : List ℕ) → AreEndsIn (Some n) front back → (take h back ≡ take h front → ⊥) → BackTaken (Some n) front back (leaf_at back n) h 0 × (between (Some n) front (slice_set back h 0) ≡ [] → ⊥)
+    back_leaves : (front back : List ℕ) → AreEndsIn (Some n) front back → (take h back ≡ take h front → ⊥)
+        → BackTaken (Some n) front back (leaf_at back n) h 0 × (between (Some n) front (slice_set back h 0) ≡ [] → ⊥)
     back_leaves front back ends other =
         let w = ends.1 in
         let lt = all_after front back w ends.0 other ends.2 in
-        let s = (cut_of back w).count 0 (omega arith) in
-        (back_took front back w 0 ends.0 (omega arith) (omega arith), some_left front (slice_set back h 0) (moved back w 0 (omega arith)) (omega (arith, s, lt)))
+        let s = (cut_of back w).count 0 (omega arith) in (
+          back_took front back w 0 ends.0 (omega arith) (omega arith),
+          some_left front (slice_set back h 0) (moved back w 0 (omega arith))
+              (omega (arith, s, lt)),
+        )
 
   -- ---- The same in a map, as far as an end reaches.
-  pub front_takes : (m : Map K V) (n leaf : Node K V) (front back : List ℕ) (last end : ℕ) (met : Bool) → m ≡ Some n → IsSoundMap m → AreEndsIn m front back → leaf ≡ leaf_at front n → last ≡ length front - 1
-      → (IsTrue met ↔ (take (length front - 1) front ≡ take (length front - 1) back)) → end ≡ (if met then get_or back (length front - 1) 0 else length (own_pairs leaf)) → FrontTaken m front back leaf last end × (IsTrue met ↔ (between m (slice_set front last end) back ≡ []))
+  pub front_takes : (m : Map K V) (n leaf : Node K V) (front back : List ℕ) (last end : ℕ) (met : Bool) → m ≡ Some n → IsSoundMap m → AreEndsIn m front back
+      → leaf ≡ leaf_at front n → last ≡ length front - 1
+      → (IsTrue met ↔ (take (length front - 1) front ≡ take (length front - 1) back))
+      → end ≡ (if met then get_or back (length front - 1) 0 else length (own_pairs leaf))
+      → FrontTaken m front back leaf last end × (IsTrue met ↔ (between m (slice_set front last end) back ≡ []))
   front_takes None n leaf front back last end met is o ends at la e f = absurd cc
   front_takes (Some root) n leaf front back last end met is o ends at la e f =
       subst (λ d. FrontTaken (Some root) front back d last end × (IsTrue met ↔ (between (Some root) (slice_set front last end) back ≡ []))) (sym there)
-      (subst (λ k. FrontTaken (Some root) front back (leaf_at front root) k end × (IsTrue met ↔ (between (Some root) (slice_set front k end) back ≡ []))) (sym la) (go met e (f ∙ ap (λ d. if met then get_or back (length front - 1) 0 else length (own_pairs d)) there)))
+      (subst (λ k. FrontTaken (Some root) front back (leaf_at front root) k end × (IsTrue met ↔ (between (Some root) (slice_set front k end) back ≡ [])))
+      (sym la) (go met e (f ∙ ap (λ d. if met then get_or back (length front - 1) 0 else length (own_pairs d)) there)))
     where
       there : leaf ≡ leaf_at front root
       there = at ∙ ap (leaf_at front) (let same : n ≡ root = cc in same)
@@ -280,30 +314,31 @@ module _ {K V : Type 0} where
       l : IsLevelled (length front - 1) root
       l = let long = ends.0.1 o.0 o.2.1 in let h : o.0 ≡ length front - 1 = omega arith in subst (λ j. IsLevelled j root) h o.2.1
 
-      go : (b : Bool) → (IsTrue b ↔ (take (length front - 1) front ≡ take (length front - 1) back)) → end ≡ (if b then get_or back (length front - 1) 0 else length (own_pairs (leaf_at front root)))
-          → FrontTaken (Some root) front back (leaf_at front root) (length front - 1) end × (IsTrue b ↔ (between (Some root) (slice_set front (length front - 1) end) back ≡ []))
+      go : (b : Bool) → (IsTrue b ↔ (take (length front - 1) front ≡ take (length front - 1) back))
+          → end ≡ (if b then get_or back (length front - 1) 0 else length (own_pairs (leaf_at front root)))
+          → FrontTaken (Some root) front back (leaf_at front root) (length front - 1) end
+          × (IsTrue b ↔ (between (Some root) (slice_set front (length front - 1) end) back ≡ []))
       go true e f = let r = front_meets root (length front - 1) l front back ends (e.0 refl) in rw f (r.0, ((λ _. r.1), (λ _. refl)))
-      go false e f = let r = front_leaves root (length front - 1) l front back ends (λ s. absurd (let no : false ≡ true = e.1 s in cc)) in rw f (r.0, ((λ t. absurd (let no : false ≡ true = t in cc)), (λ s. absurd (r.1 s))))
+      go false e f = let r = front_leaves root (length front - 1) l front back ends (λ s. absurd (let no : false ≡ true = e.1 s in cc)) in
+          rw f (r.0, ((λ t. absurd (let no : false ≡ true = t in cc)), (λ s. absurd (r.1 s))))
 
-  pub back_takes : (m : Map K V) (n leaf : Node K V) (front back : List ℕ) (last start : ℕ) (met : Bool) → m ≡ Some n → IsSoundMap m → AreEndsIn m front back → leaf ≡ leaf_at back n → last ≡ length back - 1
-      → (IsTrue met ↔ (take (length back - 1) back ≡ take (length back - 1) front)) → start ≡ (if met then get_or front (length back - 1) 0 else 0) → BackTaken m front back leaf last start × (IsTrue met ↔ (between m front (slice_set back last start) ≡ []))
+  pub back_takes : (m : Map K V) (n leaf : Node K V) (front back : List ℕ) (last start : ℕ) (met : Bool) → m ≡ Some n → IsSoundMap m → AreEndsIn m front back
+      → leaf ≡ leaf_at back n → last ≡ length back - 1
+      → (IsTrue met ↔ (take (length back - 1) back ≡ take (length back - 1) front)) → start ≡ (if met then get_or front (length back - 1) 0 else 0)
+      → BackTaken m front back leaf last start × (IsTrue met ↔ (between m front (slice_set back last start) ≡ []))
   back_takes None n leaf front back last start met is o ends at la e f = absurd cc
   back_takes (Some root) n leaf front back last start met is o ends at la e f =
-      subst (λ d. BackTaken (Some root) front back d last start × (IsTrue met ↔ (between (Some root) front (slice_set back last start) ≡ []))) (sym (at ∙ ap (leaf_at back) (let same : n ≡ root = cc in same)))
-      (subst (λ k. BackTaken (Some root) front back (leaf_at back root) k start × (IsTrue met ↔ (between (Some root) front (slice_set back k start) ≡ []))) (sym la) (go met e f))
+      subst (λ d. BackTaken (Some root) front back d last start × (IsTrue met ↔ (between (Some root) front (slice_set back last start) ≡ [])))
+      (sym (at ∙ ap (leaf_at back) (let same : n ≡ root = cc in same)))
+      (subst (λ k. BackTaken (Some root) front back (leaf_at back root) k start × (IsTrue met ↔ (between (Some root) front (slice_set back k start) ≡ [])))
+      (sym la) (go met e f))
     where
       l : IsLevelled (length back - 1) root
       l = let long = ends.1.1 o.0 o.2.1 in let h : o.0 ≡ length back - 1 = omega arith in subst (λ j. IsLevelled j root) h o.2.1
 
-      go : (b : Bool) → (IsTrue b ↔ (take (length back - 1) back ≡ take (length back - 1) front)) → start ≡ (if b then get_or front (length back - 1) 0 else 0) → BackTaken (Some root) front back (leaf_at back root) (length back - 1) start × (IsTrue b ↔ (between (Some root) front (slice_set back (length back - 1) start) ≡ []))
+      go : (b : Bool) → (IsTrue b ↔ (take (length back - 1) back ≡ take (length back - 1) front)) → start ≡ (if b then get_or front (length back - 1) 0 else 0)
+          → BackTaken (Some root) front back (leaf_at back root) (length back - 1) start
+          × (IsTrue b ↔ (between (Some root) front (slice_set back (length back - 1) start) ≡ []))
       go true e f = let r = back_meets root (length back - 1) l front back ends (e.0 refl) in rw f (r.0, ((λ _. r.1), (λ _. refl)))
-      go false e f = let r = back_leaves root (length back - 1) l front back ends (λ s. absurd (let no : false ≡ true = e.1 s in cc)) in rw f (r.0, ((λ t. absurd (let no : false ≡ true = t in cc)), (λ s. absurd (r.1 s))))
-
-module _ {K V : Type 0} where
-  -- The pair at a place, among the map's.
-  pub place_get : (m : Map K V) (n : Node K V) (path : List ℕ) (x : K × V) → m ≡ Some n → IsSoundMap m → IsPlace path n → place_pair path n ≡ Some x → slice_get (entries m) (length (before_pair path n)) ≡ Some x
-  place_get None n path x is o p e = absurd cc
-  place_get (Some root) n path x is o p e =
-      let same : n ≡ root = cc in
-      let c = place_pairs path o.0 n (subst (IsLevelled o.0) (sym same) o.2.1) p in
-      ap (λ r. slice_get (pairs_of r) (length (before_pair path n))) (sym same) ∙ ap (λ xs. slice_get xs (length (before_pair path n))) c.parts ∙ get_seam (before_pair path n) (after_pair path n) c.pair ∙ sym c.is ∙ e
+      go false e f = let r = back_leaves root (length back - 1) l front back ends (λ s. absurd (let no : false ≡ true = e.1 s in cc)) in
+          rw f (r.0, ((λ t. absurd (let no : false ≡ true = t in cc)), (λ s. absurd (r.1 s))))

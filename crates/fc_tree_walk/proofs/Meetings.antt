@@ -1,5 +1,6 @@
 -- Two paths down one tree to gaps of leaves are the same where as many pairs are before the one as before the other.
-use Rattle.std.proofs.Common.{◌≡◌, ℕ, zero, suc, ◌+◌, ◌-◌, ◌<◌, ◌≤◌, List, [], ◌∷◌, ◌++◌, length, refl, sym, ap, subst, ◌∙◌, arith, ◌⊎◌, inl, inr, length-append}
+use Rattle.std.proofs.Common.{◌≡◌, ℕ, zero, suc, ◌+◌, ◌-◌, ◌<◌, ◌≤◌, List, [], ◌∷◌, ◌++◌, length, refl, sym, ap, subst, ◌∙◌, arith, ◌⊎◌, inl, inr}
+use Rattle.std.proofs.Common.{length-append}
 use Rattle.std.proofs.lemmas.Bool.{cases_lt}
 use Rattle.fc_tree_node.specs.declared.node.Node.{Node}
 use Rattle.fc_tree_node.specs.Node.{own_pairs, child_at, pairs_of, IsLevelled}
@@ -15,7 +16,8 @@ module _ {K V : Type 0} where
   inside (suc h) n i = length (pairs_of (child_at n i))
 
   -- From one place to the next come the child's pairs and the pair between.
-  next_before : (h : ℕ) (n : Node K V) (i : ℕ) → IsLevelled h n → i < length (own_pairs n) → length (before_child n (suc i)) ≡ length (before_child n i) + inside h n i + 1
+  next_before : (h : ℕ) (n : Node K V) (i : ℕ) → IsLevelled h n → i < length (own_pairs n)
+      → length (before_child n (suc i)) ≡ length (before_child n i) + inside h n i + 1
   unfolding inside
   next_before zero n i l k =
       let p = (item_there (own_pairs n) i k).0 in
@@ -27,14 +29,16 @@ module _ {K V : Type 0} where
   next_before (suc h) n i l k =
       let p = (item_there (own_pairs n) i k).0 in
       let a = ap length (before_child_pair (suc h) n i p l k) ∙ length-append (before_own n i) _ in
-      let b = ap length (sym (own_pair (suc h) n i p l k) ∙ inner_gap n i l.1 (omega arith) ∙ ap (λ zs. before_child n i ++ (pairs_of (child_at n i) ++ zs)) (after_child_pair n i p k)) in
+      let b = ap length (sym (own_pair (suc h) n i p l k) ∙ inner_gap n i l.1 (omega arith)
+      ∙ ap (λ zs. before_child n i ++ (pairs_of (child_at n i) ++ zs)) (after_child_pair n i p k)) in
       let c = length-append (before_own n i) in
       let d = length-append (before_child n i) in
       let e = length-append (pairs_of (child_at n i)) in
       omega (arith, a, b, c, d, e)
 
   -- At a later place the child's pairs and more lead.
-  later_before : (h : ℕ) (n : Node K V) (i d : ℕ) → IsLevelled h n → i + suc d ≤ length (own_pairs n) → length (before_child n i) + inside h n i < length (before_child n (i + suc d))
+  later_before : (h : ℕ) (n : Node K V) (i d : ℕ) → IsLevelled h n → i + suc d ≤ length (own_pairs n)
+      → length (before_child n i) + inside h n i < length (before_child n (i + suc d))
   later_before h n i zero l k =
       let e : i + 1 ≡ suc i = omega arith in
       rw e (omega (arith, next_before h n i l (omega arith)))
@@ -43,7 +47,8 @@ module _ {K V : Type 0} where
       rw e (omega (arith, later_before h n i d l (omega arith), next_before h n (i + suc d) l (omega arith)))
 
   -- What is before a gap below the child at a place are pairs of the child.
-  before_inside : (path : List ℕ) (h : ℕ) (n : Node K V) (i : ℕ) → IsLevelled h n → i ≤ length (own_pairs n) → IsPath path (child_at n i) → length path ≡ h → length (before_gap path (child_at n i)) ≤ inside h n i
+  before_inside : (path : List ℕ) (h : ℕ) (n : Node K V) (i : ℕ) → IsLevelled h n → i ≤ length (own_pairs n) → IsPath path (child_at n i) → length path ≡ h
+      → length (before_gap path (child_at n i)) ≤ inside h n i
   unfolding inside
   before_inside [] h n i l k p e = omega arith
   before_inside (j ∷ path) zero n i l k p e = absurd (omega arith)
@@ -53,7 +58,8 @@ module _ {K V : Type 0} where
       omega (arith, r)
 
   -- A path with an earlier first step has fewer pairs ahead.
-  pub earlier : (h : ℕ) (n : Node K V) (i j : ℕ) (p q : List ℕ) → IsLevelled h n → i < j → j ≤ length (own_pairs n) → IsPath p (child_at n i) → length p ≡ h → length (before_gap (i ∷ p) n) < length (before_gap (j ∷ q) n)
+  pub earlier : (h : ℕ) (n : Node K V) (i j : ℕ) (p q : List ℕ) → IsLevelled h n → i < j → j ≤ length (own_pairs n) → IsPath p (child_at n i) → length p ≡ h
+      → length (before_gap (i ∷ p) n) < length (before_gap (j ∷ q) n)
   earlier h n i j p q l lt le w e =
       let d = later_before h n i (j - suc i) l (omega arith) in
       let s : i + suc (j - suc i) ≡ j = omega arith in
@@ -62,7 +68,8 @@ module _ {K V : Type 0} where
       omega (arith, g, b, length-append (before_child n i) (before_gap p (child_at n i)), length-append (before_child n j) (before_gap q (child_at n j)))
 
   -- So with as many pairs ahead the first steps are the same.
-  first_step : (h : ℕ) (n : Node K V) (i j : ℕ) (p q : List ℕ) → IsLevelled h n → IsPath (i ∷ p) n → IsPath (j ∷ q) n → length p ≡ h → length q ≡ h → length (before_gap (i ∷ p) n) ≡ length (before_gap (j ∷ q) n) → i ≡ j
+  first_step : (h : ℕ) (n : Node K V) (i j : ℕ) (p q : List ℕ) → IsLevelled h n → IsPath (i ∷ p) n → IsPath (j ∷ q) n → length p ≡ h → length q ≡ h
+      → length (before_gap (i ∷ p) n) ≡ length (before_gap (j ∷ q) n) → i ≡ j
   first_step h n i j p q l v w e f g = order (cases_lt i j) (cases_lt j i)
     where
       order : (i < j) ⊎ (j ≤ i) → (j < i) ⊎ (i ≤ j) → i ≡ j
@@ -71,7 +78,8 @@ module _ {K V : Type 0} where
       order (inr a) (inr b) = omega arith
 
   -- And so are all others.
-  pub same_path : (h : ℕ) (n : Node K V) (p q : List ℕ) → IsLevelled h n → IsPath p n → IsPath q n → length p ≡ h + 1 → length q ≡ h + 1 → length (before_gap p n) ≡ length (before_gap q n) → p ≡ q
+  pub same_path : (h : ℕ) (n : Node K V) (p q : List ℕ) → IsLevelled h n → IsPath p n → IsPath q n → length p ≡ h + 1 → length q ≡ h + 1
+      → length (before_gap p n) ≡ length (before_gap q n) → p ≡ q
   same_path h n [] q l v w e f g = absurd (omega arith)
   same_path h n (i ∷ p) [] l v w e f g = absurd (omega arith)
   same_path zero n (i ∷ p) (j ∷ q) l v w e f g =

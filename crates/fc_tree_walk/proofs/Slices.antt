@@ -1,5 +1,6 @@
 -- Parts of a list between two places.
-use Rattle.std.proofs.Common.{◌≡◌, ◌∙◌, ℕ, suc, zero, ◌+◌, ◌-◌, ◌≤◌, List, [], ◌∷◌, ◌++◌, length, take, drop, refl, sym, ap, arith, Some, slice_get, length-append}
+use Rattle.std.proofs.Common.{◌≡◌, ◌∙◌, ℕ, suc, zero, ◌+◌, ◌-◌, ◌≤◌, List, [], ◌∷◌, ◌++◌, length, take, drop, refl, sym, ap, arith, Some, slice_get}
+use Rattle.std.proofs.Common.{length-append}
 use Rattle.std.specs.Prelude.{slice_range}
 use Rattle.fc_tree_walk.specs.Span.{IsPart}
 use Rattle.std.proofs.Math.Seq.{take-add, drop-append-add}
@@ -21,7 +22,8 @@ module _ {X : Type 0} where
   slice_split xs i j k a b =
       let n : k - i ≡ (j - i) + (k - j) = omega arith in
       let s : i + (j - i) ≡ j = omega arith in
-      ap (λ m. take m (drop i xs)) n ∙ take-add (j - i) (k - j) (drop i xs) ∙ ap (λ ys. take (j - i) (drop i xs) ++ take (k - j) ys) (drop-drop (j - i) i xs ∙ ap (λ m. drop m xs) s)
+      ap (λ m. take m (drop i xs)) n ∙ take-add (j - i) (k - j) (drop i xs)
+      ∙ ap (λ ys. take (j - i) (drop i xs) ++ take (k - j) ys) (drop-drop (j - i) i xs ∙ ap (λ m. drop m xs) s)
 
   pub slice_one : (xs : List X) (i : ℕ) (x : X) → slice_get xs i ≡ Some x → slice_range xs i (i + 1) ≡ x ∷ []
   slice_one xs i x e = let n : i + 1 - i ≡ 1 = omega arith in ap (λ m. take m (drop i xs)) n ∙ one xs i e
@@ -35,7 +37,8 @@ module _ {X : Type 0} where
   slice_inner a l c j k h f =
       let n : length a + k - (length a + j) ≡ k - j = omega arith in
       let d = length-drop j l in
-      ap (λ m. take m (drop (length a + j) (a ++ (l ++ c)))) n ∙ ap (take (k - j)) (drop-append-add a (l ++ c) j ∙ drop-append-le j l c (omega arith)) ∙ take-append-le (k - j) (drop j l) c (omega arith)
+      ap (λ m. take m (drop (length a + j) (a ++ (l ++ c)))) n ∙ ap (take (k - j)) (drop-append-add a (l ++ c) j ∙ drop-append-le j l c (omega arith))
+      ∙ take-append-le (k - j) (drop j l) c (omega arith)
 
   -- What an end has taken, what is between, and what the other end has taken.
   pub parts_length : (head mid tail : List X) → length (head ++ (mid ++ tail)) ≡ length head + (length mid + length tail)

@@ -1,5 +1,6 @@
 -- Ascending pairs at a cut: those in front of it, those behind it, and those amid two cuts.
-use Rattle.std.proofs.Common.{◌≡◌, ℕ, zero, suc, ◌+◌, ◌<◌, ◌≤◌, Bool, true, false, cond, List, [], ◌∷◌, ◌++◌, length, take, drop, get_or, refl, sym, ap, subst, ◌∙◌, arith, ◌⊎◌, inl, inr, Some, append-nil, length-append}
+use Rattle.std.proofs.Common.{◌≡◌, ℕ, zero, suc, ◌+◌, ◌<◌, ◌≤◌, Bool, true, false, cond, List, [], ◌∷◌, ◌++◌, length, take, drop, get_or, refl, sym, ap, subst}
+use Rattle.std.proofs.Common.{◌∙◌, arith, ◌⊎◌, inl, inr, Some, append-nil, length-append}
 use Rattle.std.specs.Prelude.{not, ◌&&◌, slice_range}
 use Rattle.std.specs.List.{AllByRecursion, filter}
 use Rattle.std.specs.Ordering.{is_lt, is_le, is_gt, is_ge}
@@ -61,12 +62,16 @@ module _ {X : Type 0} where
   filter_same p q e (x ∷ s) = ap (λ b. cond b (x ∷ filter p s) (filter p s)) (e x) ∙ ap (λ zs. cond (q x) (x ∷ zs) zs) (filter_same p q e s)
 
   -- A list in three parts, of which the test holds at all of the first, or at none, and at none of the last.
-  pub lead_and_inside : (t : X → Bool) (a c d : List X) → AllByRecursion (λ x. t x ≡ true) a → AllByRecursion (λ x. t x ≡ false) d → length (filter t (a ++ (c ++ d))) ≡ length a + length (filter t c)
+  pub lead_and_inside : (t : X → Bool) (a c d : List X) → AllByRecursion (λ x. t x ≡ true) a → AllByRecursion (λ x. t x ≡ false) d
+      → length (filter t (a ++ (c ++ d))) ≡ length a + length (filter t c)
   lead_and_inside t a c d h k =
-      ap length (filter-append t a (c ++ d) ∙ ap (λ zs. zs ++ filter t (c ++ d)) (kept t a h) ∙ ap (λ zs. a ++ zs) (filter-append t c d ∙ ap (λ zs. filter t c ++ zs) (left_out t d k) ∙ append-nil (filter t c))) ∙ length-append a (filter t c)
+      ap length (filter-append t a (c ++ d) ∙ ap (λ zs. zs ++ filter t (c ++ d)) (kept t a h)
+      ∙ ap (λ zs. a ++ zs) (filter-append t c d ∙ ap (λ zs. filter t c ++ zs) (left_out t d k) ∙ append-nil (filter t c))) ∙ length-append a (filter t c)
 
-  pub inside_alone : (t : X → Bool) (a c d : List X) → AllByRecursion (λ x. t x ≡ false) a → AllByRecursion (λ x. t x ≡ false) d → length (filter t (a ++ (c ++ d))) ≡ length (filter t c)
-  inside_alone t a c d h k = ap length (filter-append t a (c ++ d) ∙ ap (λ zs. zs ++ filter t (c ++ d)) (left_out t a h) ∙ filter-append t c d ∙ ap (λ zs. filter t c ++ zs) (left_out t d k) ∙ append-nil (filter t c))
+  pub inside_alone : (t : X → Bool) (a c d : List X) → AllByRecursion (λ x. t x ≡ false) a → AllByRecursion (λ x. t x ≡ false) d
+      → length (filter t (a ++ (c ++ d))) ≡ length (filter t c)
+  inside_alone t a c d h k = ap length (filter-append t a (c ++ d) ∙ ap (λ zs. zs ++ filter t (c ++ d)) (left_out t a h) ∙ filter-append t c d
+      ∙ ap (λ zs. filter t c ++ zs) (left_out t d k) ∙ append-nil (filter t c))
 
   each : (P : X → Type 0) → ((x : X) → P x) → (s : List X) → AllByRecursion P s
   each P h [] = tt
@@ -77,20 +82,24 @@ module _ {X : Type 0} where
   both_counts t [] = refl
   both_counts t (x ∷ s) = go (t x) (both_counts t s)
     where
-      go : (b : Bool) → length (filter t s) + length (filter (λ x. not (t x)) s) ≡ length s → length (cond b (x ∷ filter t s) (filter t s)) + length (cond (not b) (x ∷ filter (λ x. not (t x)) s) (filter (λ x. not (t x)) s)) ≡ suc (length s)
+      go : (b : Bool) → length (filter t s) + length (filter (λ x. not (t x)) s) ≡ length s
+          → length (cond b (x ∷ filter t s) (filter t s)) + length (cond (not b) (x ∷ filter (λ x. not (t x)) s) (filter (λ x. not (t x)) s)) ≡ suc (length s)
       go true e = omega (arith, e)
       go false e = omega (arith, e)
 
   module _ (t u : X → Bool) where
     -- Where the second test holds at all that the first one holds at, it holds at those and at those amid.
-    counts_amid : (s : List X) → AllByRecursion (λ x. t x ≡ true → u x ≡ true) s → length (filter u s) ≡ length (filter t s) + length (filter (λ x. not (t x) && u x) s)
+    counts_amid : (s : List X) → AllByRecursion (λ x. t x ≡ true → u x ≡ true) s
+        → length (filter u s) ≡ length (filter t s) + length (filter (λ x. not (t x) && u x) s)
     counts_amid [] h = refl
     counts_amid (x ∷ s) h = go (t x) (u x) h.0 (counts_amid s h.1)
       where
         w : X → Bool
         w y = not (t y) && u y
 
-        go : (a b : Bool) → (a ≡ true → b ≡ true) → length (filter u s) ≡ length (filter t s) + length (filter w s) → length (cond b (x ∷ filter u s) (filter u s)) ≡ length (cond a (x ∷ filter t s) (filter t s)) + length (cond (not a && b) (x ∷ filter w s) (filter w s))
+        go : (a b : Bool) → (a ≡ true → b ≡ true) → length (filter u s) ≡ length (filter t s) + length (filter w s)
+            → length (cond b (x ∷ filter u s) (filter u s)) ≡ length (cond a (x ∷ filter t s) (filter t s)) + length
+            (cond (not a && b) (x ∷ filter w s) (filter w s))
         go true true h e = omega (arith, e)
         go true false h e = absurd (let no : false ≡ true = h refl in cc)
         go false true h e = omega (arith, e)
@@ -120,7 +129,8 @@ module _ {K V : Type 0} (cmp : K → K → Ordering) where
     first_held [] o = refl
     first_held (x ∷ s) o = go (t x) refl (first_held s o.1)
       where
-        go : (b : Bool) → t x ≡ b → take (length (filter t s)) s ≡ filter t s → take (length (cond b (x ∷ filter t s) (filter t s))) (x ∷ s) ≡ cond b (x ∷ filter t s) (filter t s)
+        go : (b : Bool) → t x ≡ b → take (length (filter t s)) s ≡ filter t s
+            → take (length (cond b (x ∷ filter t s) (filter t s))) (x ∷ s) ≡ cond b (x ∷ filter t s) (filter t s)
         go true e i = ap (λ zs. x ∷ zs) i
         go false e i = let none = left_out t s (fails_behind [] s x o e) in ap (λ zs. take (length zs) (x ∷ s)) none ∙ sym none
 
@@ -129,13 +139,16 @@ module _ {K V : Type 0} (cmp : K → K → Ordering) where
     amid_test x = not (t x) && u x
 
     -- At a pair amid two cuts: those in front of the second are those in front of the first, and those amid.
-    pub parted_counts : (a b : List (K × V)) (x : K × V) → IsAscending cmp (a ++ x ∷ b) → t x ≡ false → u x ≡ true → length (filter u (a ++ x ∷ b)) ≡ length (filter t (a ++ x ∷ b)) + length (filter (λ x. not (t x) && u x) (a ++ x ∷ b))
+    pub parted_counts : (a b : List (K × V)) (x : K × V) → IsAscending cmp (a ++ x ∷ b) → t x ≡ false → u x ≡ true
+        → length (filter u (a ++ x ∷ b)) ≡ length (filter t (a ++ x ∷ b)) + length (filter (λ x. not (t x) && u x) (a ++ x ∷ b))
     parted_counts a b x o e f =
         counts_amid t u (a ++ x ∷ b)
-        (all_both _ a (x ∷ b) (all_map _ _ (λ y h _. h) a (holds_ahead u under a b x o f)) ((λ _. f), all_map _ _ (λ y h g. absurd (let no : false ≡ true = sym h ∙ g in cc)) b (fails_behind t down a b x o e)))
+        (all_both _ a (x ∷ b) (all_map _ _ (λ y h _. h) a (holds_ahead u under a b x o f))
+        ((λ _. f), all_map _ _ (λ y h g. absurd (let no : false ≡ true = sym h ∙ g in cc)) b (fails_behind t down a b x o e)))
 
     -- The pairs amid two cuts lie together behind those in front of the first.
-    pub amid_is : (s : List (K × V)) → IsAscending cmp s → slice_range s (length (filter t s)) (length (filter t s) + length (filter (λ x. not (t x) && u x) s)) ≡ filter (λ x. not (t x) && u x) s
+    pub amid_is : (s : List (K × V)) → IsAscending cmp s → slice_range s (length (filter t s))
+        (length (filter t s) + length (filter (λ x. not (t x) && u x) s)) ≡ filter (λ x. not (t x) && u x) s
     amid_is s o = ap (λ k. take k (drop (length (filter t s)) s)) (omega arith) ∙ together s o
       where
         together : (s : List (K × V)) → IsAscending cmp s → take (length (filter amid_test s)) (drop (length (filter t s)) s) ≡ filter amid_test s
@@ -150,11 +163,13 @@ module _ {K V : Type 0} (cmp : K → K → Ordering) where
             alike (y ∷ s) h = ap (λ b. cond (not b && u y) (y ∷ filter amid_test s) (filter amid_test s)) h.0 ∙ ap (λ zs. cond (u y) (y ∷ zs) zs) (alike s h.1)
 
             go : (b : Bool) → t x ≡ b → take (length (filter amid_test s)) (drop (length (filter t s)) s) ≡ filter amid_test s
-                → take (length (cond (not b && u x) (x ∷ filter amid_test s) (filter amid_test s))) (drop (length (cond b (x ∷ filter t s) (filter t s))) (x ∷ s)) ≡ cond (not b && u x) (x ∷ filter amid_test s) (filter amid_test s)
+                → take (length (cond (not b && u x) (x ∷ filter amid_test s) (filter amid_test s)))
+                (drop (length (cond b (x ∷ filter t s) (filter t s))) (x ∷ s)) ≡ cond (not b && u x) (x ∷ filter amid_test s) (filter amid_test s)
             go true e i = i
             go false e i =
                 ap (λ zs. take (length (cond (u x) (x ∷ filter amid_test s) (filter amid_test s))) (drop (length zs) (x ∷ s))) (none e)
-                ∙ ap (λ zs. take (length (cond (u x) (x ∷ zs) zs)) (x ∷ s)) (alike s (fails_behind t down [] s x o e)) ∙ first_held u under (x ∷ s) o ∙ ap (λ zs. cond (u x) (x ∷ zs) zs) (sym (alike s (fails_behind t down [] s x o e)))
+                ∙ ap (λ zs. take (length (cond (u x) (x ∷ zs) zs)) (x ∷ s)) (alike s (fails_behind t down [] s x o e)) ∙ first_held u under (x ∷ s) o
+                ∙ ap (λ zs. cond (u x) (x ∷ zs) zs) (sym (alike s (fails_behind t down [] s x o e)))
 
   -- What stands before and after a child of a node, of the pairs that a test holds at as far as the child's place.
   module _ (t : K × V → Bool) (down : HoldsBelow t) (h : ℕ) (n : Node K V) (l : IsLevelled h n) (o : IsAscending cmp (pairs_of n)) where
@@ -165,7 +180,9 @@ module _ {K V : Type 0} (cmp : K → K → Ordering) where
         let x = (item_there (own_pairs n) j k).0 in
         let p = get_or (own_pairs n) j x in
         let e : t p ≡ true = r.holds j x (omega arith) (omega arith) in
-        subst (AllByRecursion (λ y. t y ≡ true)) (sym (before_child_pair h n j x l k)) (all_both _ (before_own n j) (p ∷ []) (holds_ahead t down (before_own n j) (after_own n j) p (subst (IsAscending cmp) (own_pair h n j x l k) o) e) (e, tt))
+        subst (AllByRecursion (λ y. t y ≡ true)) (sym (before_child_pair h n j x l k))
+        (all_both _ (before_own n j) (p ∷ []) (holds_ahead t down (before_own n j) (after_own n j) p (subst (IsAscending cmp) (own_pair h n j x l k) o) e)
+        (e, tt))
 
     pub fails_after : (i : ℕ) → FailsAt t (own_pairs n) i → AllByRecursion (λ y. t y ≡ false) (after_child n i)
     fails_after i r = order (cases_lt i (length (own_pairs n)))
@@ -176,12 +193,15 @@ module _ {K V : Type 0} (cmp : K → K → Ordering) where
             let x = (item_there (own_pairs n) i k).0 in
             let p = get_or (own_pairs n) i x in
             let e : t p ≡ false = r x k in
-            subst (AllByRecursion (λ y. t y ≡ false)) (sym (after_child_pair n i x k)) (e, fails_behind t down (before_own n i) (after_own n i) p (subst (IsAscending cmp) (own_pair h n i x l k) o) e)
+            subst (AllByRecursion (λ y. t y ≡ false)) (sym (after_child_pair n i x k))
+            (e, fails_behind t down (before_own n i) (after_own n i) p (subst (IsAscending cmp) (own_pair h n i x l k) o) e)
 
 module _ {K V : Type 0} where
   -- The child's pairs ascend with the node's.
-  pub child_ascends : (cmp : K → K → Ordering) (h : ℕ) (n c : Node K V) (i : ℕ) → IsLevelled h n → i < length (children_of n) → c ≡ child_at n i → IsAscending cmp (pairs_of n) → IsAscending cmp (pairs_of c)
-  child_ascends cmp h n c i l k is o = ascending_middle cmp (before_child n i) (pairs_of c) (after_child n i) (subst (IsAscending cmp) (around_child h n c i l k is) o)
+  pub child_ascends : (cmp : K → K → Ordering) (h : ℕ) (n c : Node K V) (i : ℕ) → IsLevelled h n → i < length (children_of n) → c ≡ child_at n i
+      → IsAscending cmp (pairs_of n) → IsAscending cmp (pairs_of c)
+  child_ascends cmp h n c i l k is o = ascending_middle cmp (before_child n i) (pairs_of c) (after_child n i)
+      (subst (IsAscending cmp) (around_child h n c i l k is) o)
 
 module _ {K Q S : Type 0} {cmp : K → K → Ordering} {order : K → S → Ordering} (fits : IsQueryOrder cmp order) (sought : Q → S) where
   pub leads_below : {V : Type 0} (cut : Cut Q) → HoldsBelow {V = V} cmp (λ e. leads order sought cut e.0)
@@ -202,23 +222,31 @@ module _ {K Q S : Type 0} {cmp : K → K → Ordering} {order : K → S → Orde
 
   module _ {V : Type 0} (h : ℕ) (n : Node K V) (l : IsLevelled h n) (o : IsAscending cmp (pairs_of n)) (i : ℕ) (c : List (K × V)) (is : IsAround n i c) where
     -- In front of a cut are the pairs before the child at its place, and those of the child.
-    pub ahead_at : (cut : Cut Q) → TurnsAt (λ e. leads order sought cut e.0) (own_pairs n) i → ahead order sought cut (pairs_of n) ≡ length (before_child n i) + ahead order sought cut c
+    pub ahead_at : (cut : Cut Q) → TurnsAt (λ e. leads order sought cut e.0) (own_pairs n) i
+        → ahead order sought cut (pairs_of n) ≡ length (before_child n i) + ahead order sought cut c
     ahead_at cut r =
-        ap (ahead order sought cut) is ∙ lead_and_inside (λ e. leads order sought cut e.0) (before_child n i) c (after_child n i) (holds_before cmp _ (leads_below cut) h n l o i r) (fails_after cmp _ (leads_below cut) h n l o i r.fails)
+        ap (ahead order sought cut) is ∙ lead_and_inside (λ e. leads order sought cut e.0) (before_child n i) c (after_child n i)
+        (holds_before cmp _ (leads_below cut) h n l o i r) (fails_after cmp _ (leads_below cut) h n l o i r.fails)
 
     -- Amid two cuts at one place are pairs of the child alone.
-    pub amid_at : (lo hi : Cut Q) → TurnsAt (λ e. leads order sought lo e.0) (own_pairs n) i → FailsAt (λ e. leads order sought hi e.0) (own_pairs n) i → amid order sought lo hi (pairs_of n) ≡ amid order sought lo hi c
+    pub amid_at : (lo hi : Cut Q) → TurnsAt (λ e. leads order sought lo e.0) (own_pairs n) i → FailsAt (λ e. leads order sought hi e.0) (own_pairs n) i
+        → amid order sought lo hi (pairs_of n) ≡ amid order sought lo hi c
     amid_at lo hi r f =
-        ap (amid order sought lo hi) is ∙ inside_alone (λ e. not (leads order sought lo e.0) && leads order sought hi e.0) (before_child n i) c (after_child n i)
-        (all_map _ _ (λ e h. ap (λ b. not b && leads order sought hi e.0) h) _ (holds_before cmp _ (leads_below lo) h n l o i r)) (all_map _ _ (λ e h. ap (λ b. not (leads order sought lo e.0) && b) h ∙ both_false (leads order sought lo e.0)) _ (fails_after cmp _ (leads_below hi) h n l o i f))
+        ap (amid order sought lo hi) is ∙ inside_alone (λ e. not (leads order sought lo e.0) && leads order sought hi e.0) (before_child n i) c
+        (after_child n i)
+        (all_map _ _ (λ e h. ap (λ b. not b && leads order sought hi e.0) h) _ (holds_before cmp _ (leads_below lo) h n l o i r))
+        (all_map _ _ (λ e h. ap (λ b. not (leads order sought lo e.0) && b) h ∙ both_false (leads order sought lo e.0)) _
+        (fails_after cmp _ (leads_below hi) h n l o i f))
       where
         both_false : (b : Bool) → (not b && false) ≡ false
         both_false true = refl
         both_false false = refl
 
     -- So in front of the second come the pairs before the child, and those of the child up to there.
-    pub both_at : (lo hi : Cut Q) (stop : ℕ) → IsTurn (λ e. leads order sought lo e.0) (own_pairs n) 0 i → IsTurn (λ e. leads order sought hi e.0) (own_pairs n) i stop → stop ≤ i
-        → ahead order sought lo (pairs_of n) + amid order sought lo hi (pairs_of n) ≡ length (before_child n i) + (ahead order sought lo c + amid order sought lo hi c)
+    pub both_at : (lo hi : Cut Q) (stop : ℕ) → IsTurn (λ e. leads order sought lo e.0) (own_pairs n) 0 i
+        → IsTurn (λ e. leads order sought hi e.0) (own_pairs n) i stop → stop ≤ i
+        → ahead order sought lo (pairs_of n) + amid order sought lo hi (pairs_of n)
+        ≡ length (before_child n i) + (ahead order sought lo c + amid order sought lo hi c)
     both_at lo hi stop r v le =
         let same : stop ≡ i = (let ge = v.later in omega arith) in
         let turn = turn_first r in
@@ -227,7 +255,8 @@ module _ {K Q S : Type 0} {cmp : K → K → Ordering} {order : K → S → Orde
         omega (arith, a, b)
 
   -- The two cuts part at a pair of the node.
-  pub amid_parted : {V : Type 0} (h : ℕ) (n : Node K V) → IsLevelled h n → IsAscending cmp (pairs_of n) → (lo hi : Cut Q) (start stop : ℕ) → start < stop → TurnsAt (λ e. leads order sought lo e.0) (own_pairs n) start → IsTurn (λ e. leads order sought hi e.0) (own_pairs n) start stop
+  pub amid_parted : {V : Type 0} (h : ℕ) (n : Node K V) → IsLevelled h n → IsAscending cmp (pairs_of n) → (lo hi : Cut Q) (start stop : ℕ) → start < stop
+      → TurnsAt (λ e. leads order sought lo e.0) (own_pairs n) start → IsTurn (λ e. leads order sought hi e.0) (own_pairs n) start stop
       → ahead order sought hi (pairs_of n) ≡ ahead order sought lo (pairs_of n) + amid order sought lo hi (pairs_of n)
   amid_parted h n l o lo hi start stop lt r v =
       let k : start < length (own_pairs n) = (let le = v.within in omega arith) in
@@ -235,14 +264,20 @@ module _ {K Q S : Type 0} {cmp : K → K → Ordering} {order : K → S → Orde
       let p = get_or (own_pairs n) start x in
       let is = own_pair h n start x l k in
       subst (λ s. ahead order sought hi s ≡ ahead order sought lo s + amid order sought lo hi s) (sym is)
-      (parted_counts cmp (λ e. leads order sought lo e.0) (λ e. leads order sought hi e.0) (leads_below lo) (leads_below hi) (before_own n start) (after_own n start) p (subst (IsAscending cmp) is o) (r.fails x k) (v.holds start x (omega arith) lt))
+      (parted_counts cmp (λ e. leads order sought lo e.0) (λ e. leads order sought hi e.0) (leads_below lo) (leads_below hi) (before_own n start)
+      (after_own n start) p (subst (IsAscending cmp) is o) (r.fails x k) (v.holds start x (omega arith) lt))
 
   -- Where a range has but one bound.
-  pub amid_open : {V : Type 0} (lo hi : Cut Q) → ((lo ≡ First) ⊎ (hi ≡ Last)) → (s : List (K × V)) → ahead order sought hi s ≡ ahead order sought lo s + amid order sought lo hi s
+  pub amid_open : {V : Type 0} (lo hi : Cut Q) → ((lo ≡ First) ⊎ (hi ≡ Last)) → (s : List (K × V))
+      → ahead order sought hi s ≡ ahead order sought lo s + amid order sought lo hi s
   amid_open lo hi e s = counts_amid (λ e. leads order sought lo e.0) (λ e. leads order sought hi e.0) s (each _ (λ x. under x.0) s)
     where
       under : (k : K) → leads order sought lo k ≡ true → leads order sought hi k ≡ true
-      under k h = elim e [ inl f ↦ absurd (let no : false ≡ true = ap (λ c. leads order sought c k) (sym f) ∙ h in cc) | inr f ↦ ap (λ c. leads order sought c k) f ]
+      under k h = elim e [
+        | inl f ↦ absurd (let no : false ≡ true = ap (λ c. leads order sought c k) (sym f) ∙ h in cc)
+        | inr f ↦
+            ap (λ c. leads order sought c k) f
+      ]
 
   -- What cuts are to bounds.
   start_leads : (lo : Bound Q) (k : K) → not (leads order sought (start_cut lo) k) ≡ starts order (bound_by sought lo) k
@@ -258,26 +293,36 @@ module _ {K Q S : Type 0} {cmp : K → K → Ordering} {order : K → S → Orde
   module _ {V : Type 0} (lo hi : Bound Q) (s : List (K × V)) where
     start_counts : ahead order sought (start_cut lo) s + length (filter (λ e. starts order (bound_by sought lo) e.0) s) ≡ length s
     start_counts =
-        ap (λ zs. ahead order sought (start_cut lo) s + length zs) (sym (filter_same (λ e. not (leads order sought (start_cut lo) e.0)) (λ e. starts order (bound_by sought lo) e.0) (λ e. start_leads lo e.0) s))
+        ap (λ zs. ahead order sought (start_cut lo) s + length zs) (sym
+        (filter_same (λ e. not (leads order sought (start_cut lo) e.0)) (λ e. starts order (bound_by sought lo) e.0) (λ e. start_leads lo e.0) s))
         ∙ both_counts (λ e. leads order sought (start_cut lo) e.0) s
 
-    within_is : filter (λ e. not (leads order sought (start_cut lo) e.0) && leads order sought (stop_cut hi) e.0) s ≡ within order (bound_by sought lo) (bound_by sought hi) s
-    within_is = filter_same _ _ (λ e. ap (λ b. b && leads order sought (stop_cut hi) e.0) (start_leads lo e.0) ∙ ap (λ b. starts order (bound_by sought lo) e.0 && b) (stop_leads hi e.0)) s
+    within_is : filter (λ e. not (leads order sought (start_cut lo) e.0) && leads order sought (stop_cut hi) e.0) s
+        ≡ within order (bound_by sought lo) (bound_by sought hi) s
+    within_is = filter_same _ _ (λ e. ap (λ b. b && leads order sought (stop_cut hi) e.0) (start_leads lo e.0)
+        ∙ ap (λ b. starts order (bound_by sought lo) e.0 && b) (stop_leads hi e.0)) s
 
     -- In front of a range are the pairs in front of its first cut, and in it those amid both.
-    pub ends_told : (a b : Cut Q) (i j : ℕ) → a ≡ start_cut lo → b ≡ stop_cut hi → i ≡ ahead order sought a s → j ≡ ahead order sought a s + amid order sought a b s → (i + length (filter (λ e. starts order (bound_by sought lo) e.0) s) ≡ length s) × (j ≡ i + length (within order (bound_by sought lo) (bound_by sought hi) s))
+    pub ends_told : (a b : Cut Q) (i j : ℕ) → a ≡ start_cut lo → b ≡ stop_cut hi → i ≡ ahead order sought a s
+        → j ≡ ahead order sought a s + amid order sought a b s → (i + length (filter (λ e. starts order (bound_by sought lo) e.0) s) ≡ length s)
+        × (j ≡ i + length (within order (bound_by sought lo) (bound_by sought hi) s))
     ends_told a b i j ea eb ei ej =
         let first = ap (λ c. ahead order sought c s) ea in
         let inside = ap (λ c. amid order sought c b s) ea ∙ ap (λ c. amid order sought (start_cut lo) c s) eb ∙ ap length within_is in
         (omega (arith, ei, first, start_counts), omega (arith, ei, ej, inside))
 
     -- They lie together.
-    pub within_at : (i j : ℕ) → IsAscending cmp s → i + length (filter (λ e. starts order (bound_by sought lo) e.0) s) ≡ length s → j ≡ i + length (within order (bound_by sought lo) (bound_by sought hi) s) → slice_range s i j ≡ within order (bound_by sought lo) (bound_by sought hi) s
+    pub within_at : (i j : ℕ) → IsAscending cmp s → i + length (filter (λ e. starts order (bound_by sought lo) e.0) s) ≡ length s
+        → j ≡ i + length (within order (bound_by sought lo) (bound_by sought hi) s)
+        → slice_range s i j ≡ within order (bound_by sought lo) (bound_by sought hi) s
     within_at i j o e f =
         let a : i ≡ ahead order sought (start_cut lo) s = (let c = start_counts in omega (arith, c, e)) in
-        let b : j ≡ ahead order sought (start_cut lo) s + amid order sought (start_cut lo) (stop_cut hi) s = f ∙ ap (λ k. k + length (within order (bound_by sought lo) (bound_by sought hi) s)) a ∙ ap (λ k. ahead order sought (start_cut lo) s + k) (sym (ap length within_is)) in
+        let b : j ≡ ahead order sought (start_cut lo) s + amid order sought (start_cut lo) (stop_cut hi) s = f
+        ∙ ap (λ k. k + length (within order (bound_by sought lo) (bound_by sought hi) s)) a
+        ∙ ap (λ k. ahead order sought (start_cut lo) s + k) (sym (ap length within_is)) in
         ap (λ k. slice_range s k j) a ∙ ap (slice_range s (ahead order sought (start_cut lo) s)) b
-        ∙ amid_is cmp (λ e. leads order sought (start_cut lo) e.0) (λ e. leads order sought (stop_cut hi) e.0) (leads_below (start_cut lo)) (leads_below (stop_cut hi)) s o ∙ within_is
+        ∙ amid_is cmp (λ e. leads order sought (start_cut lo) e.0) (λ e. leads order sought (stop_cut hi) e.0) (leads_below (start_cut lo))
+        (leads_below (stop_cut hi)) s o ∙ within_is
 
   -- Where a range has but one bound, they are all pairs of a map on that side of its cut.
   module _ {V : Type 0} (lo hi : Bound Q) (m : Map K V) (n : Node K V) (is : m ≡ Some n) (o : IsAscending cmp (entries m)) where
@@ -303,8 +348,11 @@ module _ {K Q S : Type 0} {cmp : K → K → Ordering} {order : K → S → Orde
         ∙ one_bound First cut (sym (ap start_cut f)) e (inl refl)
 
   -- In a map they lie between the gaps of a range's ends.
-  pub range_in : {V : Type 0} (lo hi : Bound Q) (m : Map K V) (n : Node K V) (front back : List ℕ) → m ≡ Some n → IsAscending cmp (entries m) → IsLeafGap front n × IsLeafGap back n → length (before_gap front n) + length (filter (λ e. starts order (bound_by sought lo) e.0) (pairs_of n)) ≡ length (pairs_of n)
-      → length (before_gap back n) ≡ length (before_gap front n) + length (within order (bound_by sought lo) (bound_by sought hi) (pairs_of n)) → AreEndsIn m front back × (between m front back ≡ within order (bound_by sought lo) (bound_by sought hi) (entries m))
+  pub range_in : {V : Type 0} (lo hi : Bound Q) (m : Map K V) (n : Node K V) (front back : List ℕ) → m ≡ Some n → IsAscending cmp (entries m)
+      → IsLeafGap front n × IsLeafGap back n → length (before_gap front n) + length (filter (λ e. starts order (bound_by sought lo) e.0) (pairs_of n))
+      ≡ length (pairs_of n)
+      → length (before_gap back n) ≡ length (before_gap front n) + length (within order (bound_by sought lo) (bound_by sought hi) (pairs_of n))
+      → AreEndsIn m front back × (between m front back ≡ within order (bound_by sought lo) (bound_by sought hi) (entries m))
   range_in lo hi m n front back is o gaps e f =
       subst (λ d. AreEndsIn d front back × (between d front back ≡ within order (bound_by sought lo) (bound_by sought hi) (entries d))) (sym is)
       ((gaps.0, gaps.1, omega (arith, f)), within_at lo hi (pairs_of n) _ _ (subst (λ d. IsAscending cmp (entries d)) is o) e f)

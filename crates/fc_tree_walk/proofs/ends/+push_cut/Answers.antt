@@ -11,7 +11,8 @@ returns-then-is_leaf-clause-gap g t c =
     let n = c.args.node.now in
     let i = c.args.place in
     let none = ap length (leaf_children n (c.if-is_leaf.ensures.0 refl)) in
-    let a = ahead_at g.met.Q.Query.fits g.Q.Query.sought l.0 n l.1 c.requires.order i [] (around_gap l.0 n i l.1 (omega (arith, none)) c.requires.place.within) c.args.cut.now c.requires.place in
+    let a = ahead_at g.met.Q.Query.fits g.Q.Query.sought l.0 n l.1 c.requires.order i [] (around_gap l.0 n i l.1 (omega (arith, none)) c.requires.place.within)
+    c.args.cut.now c.requires.place in
     goes_here c.args.gap.now c.push.new.self i l.0 n _ _ l.1 (omega (arith, none)) c.requires.place.within c.push.ensures a refl
 
 pub returns-then-is_leaf-clause-leaf : goal.returns-then-is_leaf-clause-leaf
@@ -23,8 +24,25 @@ push_cut-requires g t c κs within =
     let k = child_there l.0 c.args.node.now c.args.place l.1 c.if-is_leaf.ensures.1 c.requires.place.within in
     let d = step_down c.args.gap.now _ _ c.args.node.now _ l k c.push.ensures c.child-child.ensures in
     let long = d.1 in
-    let room = d.2 in
-    (omega arith, (search rules, (search rules, (search rules, (d.0, (child_ascends g.K.Ord.cmp l.0 _ _ _ l.1 k c.child-child.ensures c.requires.order, turn_first c.place_in.ensures))))))
+    let room = d.2 in (
+      omega arith,
+      (
+        search rules,
+        (
+          search rules,
+          (
+            search rules,
+            (
+              d.0,
+              (
+                child_ascends g.K.Ord.cmp l.0 _ _ _ l.1 k c.child-child.ensures c.requires.order,
+                turn_first c.place_in.ensures,
+              ),
+            ),
+          ),
+        ),
+      ),
+    )
 
 pub returns-clause-gap : goal.returns-clause-gap
 returns-clause-gap g t c =
@@ -32,10 +50,14 @@ returns-clause-gap g t c =
     let n = c.args.node.now in
     let i = c.args.place in
     let k = child_there l.0 n i l.1 c.if-is_leaf.ensures.1 c.requires.place.within in
-    let a = ahead_at g.met.Q.Query.fits g.Q.Query.sought l.0 n l.1 c.requires.order i _ (around_child l.0 n _ i l.1 k c.child-child.ensures) c.args.cut.now c.requires.place in
-    goes_below c.args.gap.now c.push.new.self c.push_cut.new.gap i l.0 n c.child-child.result.now _ _ l.1 k c.push.ensures c.child-child.ensures c.push_cut.ensures.gap a
+    let a = ahead_at g.met.Q.Query.fits g.Q.Query.sought l.0 n l.1 c.requires.order i _ (around_child l.0 n _ i l.1 k c.child-child.ensures) c.args.cut.now
+    c.requires.place in
+    goes_below c.args.gap.now c.push.new.self c.push_cut.new.gap i l.0 n c.child-child.result.now _ _ l.1 k c.push.ensures c.child-child.ensures
+    c.push_cut.ensures.gap a
 
 pub returns-clause-leaf : goal.returns-clause-leaf
 returns-clause-leaf g t c =
     let l = c.requires.levels in
-    ends_below c.args.gap.now c.push.new.self c.push_cut.new.gap c.args.place _ c.args.node.now c.child-child.result.now c.push_cut.result.now c.push.ensures c.child-child.ensures l.0 l.1 (child_there l.0 c.args.node.now c.args.place l.1 c.if-is_leaf.ensures.1 c.requires.place.within) c.push_cut.ensures.gap c.push_cut.ensures.leaf
+    ends_below c.args.gap.now c.push.new.self c.push_cut.new.gap c.args.place _ c.args.node.now c.child-child.result.now c.push_cut.result.now c.push.ensures
+    c.child-child.ensures l.0 l.1 (child_there l.0 c.args.node.now c.args.place l.1 c.if-is_leaf.ensures.1 c.requires.place.within) c.push_cut.ensures.gap
+    c.push_cut.ensures.leaf

@@ -7,23 +7,29 @@ use Rattle.fc_tree_walk.proofs.ends.push_ends.Goals as goal
 pub returns-then-is_open-clause-front : goal.returns-then-is_open-clause-front
 returns-then-is_open-clause-front g c =
     let f = (from_nothing _ _ _ _ c.requires.start.0 c.push_cut-first.ensures.gap).1 in
-    let b = (from_nothing _ _ _ _ c.requires.start.1 c.push_cut-last.ensures.gap).1 ∙ amid_open g.met.Q.Query.fits g.Q.Query.sought _ _ (c.is_open.ensures c.if-is_open.true) (pairs_of c.args.root.now) in
-    (ends_told g.met.Q.Query.fits g.Q.Query.sought c.args.lo.now c.args.hi.now (pairs_of c.args.root.now) _ _ _ _ c.start_of-lo.ensures c.stop_of-hi.ensures f b).0
+    let b = (from_nothing _ _ _ _ c.requires.start.1 c.push_cut-last.ensures.gap).1
+    ∙ amid_open g.met.Q.Query.fits g.Q.Query.sought _ _ (c.is_open.ensures c.if-is_open.true) (pairs_of c.args.root.now) in
+    (ends_told g.met.Q.Query.fits g.Q.Query.sought c.args.lo.now c.args.hi.now (pairs_of c.args.root.now) _ _ _ _ c.start_of-lo.ensures c.stop_of-hi.ensures f
+    b).0
 
 pub returns-then-is_open-clause-back : goal.returns-then-is_open-clause-back
 returns-then-is_open-clause-back g c =
     let f = (from_nothing _ _ _ _ c.requires.start.0 c.push_cut-first.ensures.gap).1 in
-    let b = (from_nothing _ _ _ _ c.requires.start.1 c.push_cut-last.ensures.gap).1 ∙ amid_open g.met.Q.Query.fits g.Q.Query.sought _ _ (c.is_open.ensures c.if-is_open.true) (pairs_of c.args.root.now) in
-    (ends_told g.met.Q.Query.fits g.Q.Query.sought c.args.lo.now c.args.hi.now (pairs_of c.args.root.now) _ _ _ _ c.start_of-lo.ensures c.stop_of-hi.ensures f b).1
+    let b = (from_nothing _ _ _ _ c.requires.start.1 c.push_cut-last.ensures.gap).1
+    ∙ amid_open g.met.Q.Query.fits g.Q.Query.sought _ _ (c.is_open.ensures c.if-is_open.true) (pairs_of c.args.root.now) in
+    (ends_told g.met.Q.Query.fits g.Q.Query.sought c.args.lo.now c.args.hi.now (pairs_of c.args.root.now) _ _ _ _ c.start_of-lo.ensures c.stop_of-hi.ensures f
+    b).1
 
 pub returns-clause-front : goal.returns-clause-front
 returns-clause-front g c =
     let f = (from_nothing _ _ _ _ c.requires.start.0 c.push_both.ensures.front).1 in
     let b = (from_nothing _ _ _ _ c.requires.start.1 c.push_both.ensures.back).1 in
-    (ends_told g.met.Q.Query.fits g.Q.Query.sought c.args.lo.now c.args.hi.now (pairs_of c.args.root.now) _ _ _ _ c.start_of-lo.ensures c.stop_of-hi.ensures f b).0
+    (ends_told g.met.Q.Query.fits g.Q.Query.sought c.args.lo.now c.args.hi.now (pairs_of c.args.root.now) _ _ _ _ c.start_of-lo.ensures c.stop_of-hi.ensures f
+    b).0
 
 pub returns-clause-back : goal.returns-clause-back
 returns-clause-back g c =
     let f = (from_nothing _ _ _ _ c.requires.start.0 c.push_both.ensures.front).1 in
     let b = (from_nothing _ _ _ _ c.requires.start.1 c.push_both.ensures.back).1 in
-    (ends_told g.met.Q.Query.fits g.Q.Query.sought c.args.lo.now c.args.hi.now (pairs_of c.args.root.now) _ _ _ _ c.start_of-lo.ensures c.stop_of-hi.ensures f b).1
+    (ends_told g.met.Q.Query.fits g.Q.Query.sought c.args.lo.now c.args.hi.now (pairs_of c.args.root.now) _ _ _ _ c.start_of-lo.ensures c.stop_of-hi.ensures f
+    b).1

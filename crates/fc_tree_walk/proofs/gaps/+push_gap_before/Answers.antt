@@ -13,8 +13,13 @@ returns-then-place-gt1 g t c =
     let q = more_steps (slice_range place 1 (length place)) (let k = ap length p in omega arith) in
     let all = p ∙ ap (λ r. get_or place 0 0 ∷ r) q in
     subst (λ (r : List _). GoesOn c.args.gap.now c.push_gap_before.new.gap c.args.node.now (length (before_pair r c.args.node.now))) (sym all)
-    (goes_below c.args.gap.now c.push.new.self c.push_gap_before.new.gap (get_or place 0 0) c.requires.levels.0 c.args.node.now c.child.result.now _ _ c.requires.levels.1 (subst (λ r. IsPlace r c.args.node.now) all c.requires.place).0 c.push.ensures c.child.ensures
-    (subst (λ r. GoesOn c.push.new.self c.push_gap_before.new.gap c.child.result.now (length (before_pair r c.child.result.now))) q c.push_gap_before.ensures) (length-append (before_child c.args.node.now (get_or place 0 0)) _ ∙ ap (λ d. length (before_child c.args.node.now (get_or place 0 0)) + length (before_pair (get_or (slice_range place 1 (length place)) 0 0 ∷ slice_range (slice_range place 1 (length place)) 1 (length (slice_range place 1 (length place)))) d)) (sym c.child.ensures)))
+    (goes_below c.args.gap.now c.push.new.self c.push_gap_before.new.gap (get_or place 0 0) c.requires.levels.0 c.args.node.now c.child.result.now _ _
+    c.requires.levels.1 (subst (λ r. IsPlace r c.args.node.now) all c.requires.place).0 c.push.ensures c.child.ensures
+    (subst (λ r. GoesOn c.push.new.self c.push_gap_before.new.gap c.child.result.now (length (before_pair r c.child.result.now))) q c.push_gap_before.ensures)
+    (length-append (before_child c.args.node.now (get_or place 0 0)) _
+    ∙ ap (λ d. length (before_child c.args.node.now (get_or place 0 0)) + length
+    (before_pair (get_or (slice_range place 1 (length place)) 0 0 ∷ slice_range (slice_range place 1 (length place)) 1
+    (length (slice_range place 1 (length place)))) d)) (sym c.child.ensures)))
 
 pub returns-then-step-child_count : goal.returns-then-step-child_count
 returns-then-step-child_count g t c =
@@ -22,8 +27,10 @@ returns-then-step-child_count g t c =
     let l = c.requires.levels in
     let all = end_step place c.args.node.now c.requires.place (omega arith) in
     subst (λ (r : List _). GoesOn c.args.gap.now c.push_last.new.gap c.args.node.now (length (before_pair r c.args.node.now))) (sym all)
-    (goes_below c.args.gap.now c.push.new.self c.push_last.new.gap (get_or place 0 0) l.0 c.args.node.now c.child-then-step-child_count.result.now _ _ l.1 (omega arith) c.push.ensures c.child-then-step-child_count.ensures c.push_last.ensures.gap
-    (own_count l.0 c.args.node.now (get_or place 0 0) _ l.1 (subst (λ r. IsPlace r c.args.node.now) all c.requires.place) (around_child l.0 c.args.node.now _ (get_or place 0 0) l.1 (omega arith) c.child-then-step-child_count.ensures)))
+    (goes_below c.args.gap.now c.push.new.self c.push_last.new.gap (get_or place 0 0) l.0 c.args.node.now c.child-then-step-child_count.result.now _ _ l.1
+    (omega arith) c.push.ensures c.child-then-step-child_count.ensures c.push_last.ensures.gap
+    (own_count l.0 c.args.node.now (get_or place 0 0) _ l.1 (subst (λ r. IsPlace r c.args.node.now) all c.requires.place)
+    (around_child l.0 c.args.node.now _ (get_or place 0 0) l.1 (omega arith) c.child-then-step-child_count.ensures)))
 
 pub returns-else-step-child_count : goal.returns-else-step-child_count
 returns-else-step-child_count g t c =
@@ -32,4 +39,5 @@ returns-else-step-child_count g t c =
     let all = end_step place c.args.node.now c.requires.place (omega arith) in
     subst (λ (r : List _). GoesOn c.args.gap.now c.push.new.self c.args.node.now (length (before_pair r c.args.node.now))) (sym all)
     (let own = subst (λ r. IsPlace r c.args.node.now) all c.requires.place in
-    goes_here c.args.gap.now c.push.new.self (get_or place 0 0) l.0 c.args.node.now _ _ l.1 (omega arith) (omega arith) c.push.ensures (own_count l.0 c.args.node.now (get_or place 0 0) [] l.1 own (around_gap l.0 c.args.node.now (get_or place 0 0) l.1 (omega arith) (omega arith))) refl)
+    goes_here c.args.gap.now c.push.new.self (get_or place 0 0) l.0 c.args.node.now _ _ l.1 (omega arith) (omega arith) c.push.ensures
+    (own_count l.0 c.args.node.now (get_or place 0 0) [] l.1 own (around_gap l.0 c.args.node.now (get_or place 0 0) l.1 (omega arith) (omega arith))) refl)

@@ -14,19 +14,23 @@ pub returns-then-end-child_count-clause-gap : goal.returns-then-end-child_count-
 returns-then-end-child_count-clause-gap g t c =
     let l = c.requires.levels in
     let end = c.len-end.ensures.value in
-    goes_below c.args.gap.now c.push.new.self c.push_last.new.gap c.len-end.result l.0 c.args.node.now c.child.result.now _ _ l.1 (omega arith) c.push.ensures c.child.ensures c.push_last.ensures.gap
-    (end_count c.args.node.now c.len-end.result (pairs_of c.child.result.now) (omega arith) (around_child l.0 c.args.node.now c.child.result.now c.len-end.result l.1 (omega arith) c.child.ensures))
+    goes_below c.args.gap.now c.push.new.self c.push_last.new.gap c.len-end.result l.0 c.args.node.now c.child.result.now _ _ l.1 (omega arith) c.push.ensures
+    c.child.ensures c.push_last.ensures.gap
+    (end_count c.args.node.now c.len-end.result (pairs_of c.child.result.now) (omega arith)
+    (around_child l.0 c.args.node.now c.child.result.now c.len-end.result l.1 (omega arith) c.child.ensures))
 
 pub returns-clause-gap : goal.returns-clause-gap
 returns-clause-gap g t c =
     let l = c.requires.levels in
     let end = c.len-end.ensures.value in
-    goes_here c.args.gap.now c.push.new.self c.len-end.result l.0 c.args.node.now _ _ l.1 (omega arith) (omega arith) c.push.ensures (end_count c.args.node.now c.len-end.result [] (omega arith) (around_gap l.0 c.args.node.now c.len-end.result l.1 (omega arith) (omega arith))) refl
+    goes_here c.args.gap.now c.push.new.self c.len-end.result l.0 c.args.node.now _ _ l.1 (omega arith) (omega arith) c.push.ensures
+    (end_count c.args.node.now c.len-end.result [] (omega arith) (around_gap l.0 c.args.node.now c.len-end.result l.1 (omega arith) (omega arith))) refl
 
 pub returns-then-end-child_count-clause-leaf : goal.returns-then-end-child_count-clause-leaf
 returns-then-end-child_count-clause-leaf g t c =
     let l = c.requires.levels in
-    ends_below c.args.gap.now c.push.new.self c.push_last.new.gap c.len-end.result _ c.args.node.now c.child.result.now c.push_last.result.now c.push.ensures c.child.ensures l.0 l.1 (omega arith) c.push_last.ensures.gap c.push_last.ensures.leaf
+    ends_below c.args.gap.now c.push.new.self c.push_last.new.gap c.len-end.result _ c.args.node.now c.child.result.now c.push_last.result.now c.push.ensures
+    c.child.ensures l.0 l.1 (omega arith) c.push_last.ensures.gap c.push_last.ensures.leaf
 
 pub returns-clause-leaf : goal.returns-clause-leaf
 returns-clause-leaf g t c = ends_here c.args.gap.now c.push.new.self c.len-end.result c.args.node.now c.push.ensures

@@ -5,27 +5,40 @@ use Rattle.fc_tree_walk.proofs.run.place_after.Goals as goal
 
 pub overflow_sub-len : goal.overflow_sub-len
 overflow_sub-len g c =
-    let d = down c.args.gap.now c.requires.levels.0 c.loop-level.level c.args.root.now c.loop-level.node.now c.requires.levels.2 c.requires.gap (omega (arith, c.len-last.ensures.value, c.loop-level-test.true)) c.loop-level.invariant.0 in
+    let d = down c.args.gap.now c.requires.levels.0 c.loop-level.level c.args.root.now c.loop-level.node.now c.requires.levels.2 c.requires.gap
+    (omega (arith, c.len-last.ensures.value, c.loop-level-test.true)) c.loop-level.invariant.0 in
     omega (arith, d.within, c.step-step.ensures, c.len.ensures.value)
 
 pub child-node-requires : goal.child-node-requires
 child-node-requires g c =
-    let d = down c.args.gap.now c.requires.levels.0 c.loop-level.level c.args.root.now c.loop-level.node.now c.requires.levels.2 c.requires.gap (omega (arith, c.len-last.ensures.value, c.loop-level-test.true)) c.loop-level.invariant.0 in
-    omega (arith, c.step-step.ensures, (down_child c.args.gap.now c.args.root.now c.loop-level.node.now c.loop-level.level d (omega (arith, c.len-last.ensures.value, c.loop-level-test.true))).0)
+    let d = down c.args.gap.now c.requires.levels.0 c.loop-level.level c.args.root.now c.loop-level.node.now c.requires.levels.2 c.requires.gap
+    (omega (arith, c.len-last.ensures.value, c.loop-level-test.true)) c.loop-level.invariant.0 in
+    omega (
+      arith,
+      c.step-step.ensures,
+      (down_child c.args.gap.now c.args.root.now c.loop-level.node.now c.loop-level.level d
+          (omega (arith, c.len-last.ensures.value, c.loop-level-test.true))).0,
+    )
 
 pub loop-level-preserved : goal.loop-level-preserved
 loop-level-preserved g c =
-    let d = down c.args.gap.now c.requires.levels.0 c.loop-level.level c.args.root.now c.loop-level.node.now c.requires.levels.2 c.requires.gap (omega (arith, c.len-last.ensures.value, c.loop-level-test.true)) c.loop-level.invariant.0 in
+    let d = down c.args.gap.now c.requires.levels.0 c.loop-level.level c.args.root.now c.loop-level.node.now c.requires.levels.2 c.requires.gap
+    (omega (arith, c.len-last.ensures.value, c.loop-level-test.true)) c.loop-level.invariant.0 in
     let b = c.len.ensures.value in
     let s = c.step-step.ensures in
-    subst (λ n. AfterWay c.args.gap.now c.args.root.now n (c.loop-level.level + 1) c.lower.result.0.now c.lower.result.1) (sym (c.child-node.ensures ∙ ap (child_at c.loop-level.node.now) c.step-step.ensures))
-    (after_step c.args.gap.now c.args.root.now c.loop-level.node.now c.loop-level.best.now c.lower.result.0.now c.loop-level.level c.loop-level.place c.lower.result.1 d (omega (arith, c.len-last.ensures.value, c.loop-level-test.true)) c.loop-level.invariant (λ z. let r = c.lower.ensures.other (omega arith) in (ap (λ x. x.0.now) r, ap (λ x. x.1) r)) (λ z. let r = c.lower.ensures.best (omega arith) in (ap (λ x. x.0.now) r, ap (λ x. x.1) r)))
+    subst (λ n. AfterWay c.args.gap.now c.args.root.now n (c.loop-level.level + 1) c.lower.result.0.now c.lower.result.1)
+    (sym (c.child-node.ensures ∙ ap (child_at c.loop-level.node.now) c.step-step.ensures))
+    (after_step c.args.gap.now c.args.root.now c.loop-level.node.now c.loop-level.best.now c.lower.result.0.now c.loop-level.level c.loop-level.place
+    c.lower.result.1 d (omega (arith, c.len-last.ensures.value, c.loop-level-test.true)) c.loop-level.invariant
+    (λ z. let r = c.lower.ensures.other (omega arith) in (ap (λ x. x.0.now) r, ap (λ x. x.1) r))
+    (λ z. let r = c.lower.ensures.best (omega arith) in (ap (λ x. x.0.now) r, ap (λ x. x.1) r)))
 
 pub overflow_sub-len-2 : goal.overflow_sub-len-2
 overflow_sub-len-2 g c =
     let long = c.requires.gap.1 c.requires.levels.0 c.requires.levels.2 in
     let lv : c.loop-level.level ≡ c.len-last.result - 1 = omega arith in
-    let d = down c.args.gap.now c.requires.levels.0 c.loop-level.level c.args.root.now c.loop-level.node.now c.requires.levels.2 c.requires.gap (omega (arith, long, c.len-last.ensures.value)) c.loop-level.invariant.0 in
+    let d = down c.args.gap.now c.requires.levels.0 c.loop-level.level c.args.root.now c.loop-level.node.now c.requires.levels.2 c.requires.gap
+    (omega (arith, long, c.len-last.ensures.value)) c.loop-level.invariant.0 in
     let e : c.step.result ≡ get_or c.args.gap.now c.loop-level.level 0 = c.step.ensures ∙ ap (λ i. get_or c.args.gap.now i 0) (sym lv) in
     omega (arith, d.within, e, c.len-2.ensures.value)
 
@@ -33,8 +46,12 @@ pub returns : goal.returns
 returns g c =
     let long = c.requires.gap.1 c.requires.levels.0 c.requires.levels.2 in
     let lv : c.loop-level.level ≡ c.len-last.result - 1 = omega arith in
-    let d = down c.args.gap.now c.requires.levels.0 c.loop-level.level c.args.root.now c.loop-level.node.now c.requires.levels.2 c.requires.gap (omega (arith, long, c.len-last.ensures.value)) c.loop-level.invariant.0 in
+    let d = down c.args.gap.now c.requires.levels.0 c.loop-level.level c.args.root.now c.loop-level.node.now c.requires.levels.2 c.requires.gap
+    (omega (arith, long, c.len-last.ensures.value)) c.loop-level.invariant.0 in
     let e : c.step.result ≡ get_or c.args.gap.now c.loop-level.level 0 = c.step.ensures ∙ ap (λ i. get_or c.args.gap.now i 0) (sym lv) in
     let b = c.len-2.ensures.value in
-    let r = after_end c.args.gap.now c.args.root.now c.loop-level.node.now c.loop-level.best.now c.lower-2.result.0.now c.loop-level.level c.loop-level.place c.lower-2.result.1 d (omega (arith, long, c.len-last.ensures.value)) c.loop-level.invariant c.requires.some (λ z. let r = c.lower-2.ensures.other (omega arith) in (ap (λ x. x.0.now) r, ap (λ x. x.1) r ∙ sym lv)) (λ z. let r = c.lower-2.ensures.best (omega arith) in (ap (λ x. x.0.now) r, ap (λ x. x.1) r)) in
+    let r = after_end c.args.gap.now c.args.root.now c.loop-level.node.now c.loop-level.best.now c.lower-2.result.0.now c.loop-level.level c.loop-level.place
+    c.lower-2.result.1 d (omega (arith, long, c.len-last.ensures.value)) c.loop-level.invariant c.requires.some
+    (λ z. let r = c.lower-2.ensures.other (omega arith) in (ap (λ x. x.0.now) r, ap (λ x. x.1) r ∙ sym lv))
+    (λ z. let r = c.lower-2.ensures.best (omega arith) in (ap (λ x. x.0.now) r, ap (λ x. x.1) r)) in
     record { way = r.way; own = r.own; before = r.before }
