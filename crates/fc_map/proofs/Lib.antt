@@ -8,7 +8,6 @@ pub mod ShapeFacts
 pub mod EndFacts
 pub mod WritingFacts
 pub mod VisitLaws
-pub mod PutFacts
 pub mod ExtendFacts
 pub mod PopFacts
 pub mod SplitFacts
