@@ -22,7 +22,8 @@ same_cut (x ∷ a) b (y ∷ c) d e h =
 module _ {K V : Type 0} where
   -- A path that went on from nothing.
   pub from_nothing : (old new : List ℕ) (n : Node K V) (count : ℕ) → old ≡ [] → GoesOn old new n count → IsLeafGap new n × (length (before_gap new n) ≡ count)
-  from_nothing old new n count e g = let s : new ≡ g.0 = g.1 ∙ ap (λ o. o ++ g.0) e in
+  from_nothing old new n count e g =
+      let s : new ≡ g.0 = g.1 ∙ ap (λ o. o ++ g.0) e in
       (subst (λ p. IsLeafGap p n) (sym s) g.2, ap (λ p. length (before_gap p n)) s ∙ g.3)
 
   -- A map's pairs are those before a gap, and those after it.

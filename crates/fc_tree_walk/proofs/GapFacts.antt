@@ -258,8 +258,10 @@ module _ {K V : Type 0} where
   )
     where
       deep : (k : ℕ) → IsLevelled k n → suc (length g.0) ≡ k + 1
-      deep zero m = absurd (let e : length (children_of n) ≡ length (own_pairs n) + 1 = l.1 in
-          let f : length (children_of n) ≡ 0 = ap length (leaf_children n m.1) in omega arith)
+      deep zero m =
+          let e : length (children_of n) ≡ length (own_pairs n) + 1 = l.1 in
+          let f : length (children_of n) ≡ 0 = ap length (leaf_children n m.1) in
+          absurd (omega arith)
       deep (suc k) m = let d = g.2.1 k (child_below k n i m le).1 in omega arith
 
   -- the same, with the pairs before the gap counted
@@ -358,10 +360,14 @@ module _ {K V : Type 0} where
   -- the levels of a tree are of one height
   pub one_height : (h k : ℕ) (n : Node K V) → IsLevelled h n → IsLevelled k n → h ≡ k
   one_height zero zero n l m = refl
-  one_height zero (suc k) n l m = absurd (let e : length (children_of n) ≡ 0 = ap length (leaf_children n l.1) in
-      let f : length (children_of n) ≡ length (own_pairs n) + 1 = m.1 in omega arith)
-  one_height (suc h) zero n l m = absurd (let e : length (children_of n) ≡ 0 = ap length (leaf_children n m.1) in
-      let f : length (children_of n) ≡ length (own_pairs n) + 1 = l.1 in omega arith)
+  one_height zero (suc k) n l m =
+      let e : length (children_of n) ≡ 0 = ap length (leaf_children n l.1) in
+      let f : length (children_of n) ≡ length (own_pairs n) + 1 = m.1 in
+      absurd (omega arith)
+  one_height (suc h) zero n l m =
+      let e : length (children_of n) ≡ 0 = ap length (leaf_children n m.1) in
+      let f : length (children_of n) ≡ length (own_pairs n) + 1 = l.1 in
+      absurd (omega arith)
   one_height (suc h) (suc k) n l m = ap suc (one_height h k (child_at n 0) (child_below h n 0 l (omega arith)).1 (child_below k n 0 m (omega arith)).1)
 
   -- the one step of a short path to a pair

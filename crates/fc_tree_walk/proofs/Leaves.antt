@@ -104,7 +104,9 @@ module _ {K V : Type 0} where
         parts = leaf_pairs n l.1 ∙ sym (append-nil (own_pairs n));
         within = p.0;
         way = λ j k. (k, tt);
-        count = λ j k. let a = ap length (append-nil (before_child n j) ∙ leaf_before_child n j l.1) in let b = length_take j (own_pairs n) k in
+        count = λ j k.
+            let a = ap length (append-nil (before_child n j) ∙ leaf_before_child n j l.1) in
+            let b = length_take j (own_pairs n) k in
             omega (arith, a, b);
         leaf = λ j. refl;
       }
@@ -120,8 +122,11 @@ module _ {K V : Type 0} where
             ∙ regroup (before_child n i) r.low (own_pairs (leaf_at (k ∷ g) c)) r.high (after_child n i);
         within = r.within;
         way = λ j m. (p.0, r.way j m);
-        count = λ j m. let a = length-append (before_child n i) (before_gap (slice_set (k ∷ g) h j) c) in let b = length-append (before_child n i) r.low in
-            let d = r.count j m in omega (arith, a, b, d);
+        count = λ j m.
+            let a = length-append (before_child n i) (before_gap (slice_set (k ∷ g) h j) c) in
+            let b = length-append (before_child n i) r.low in
+            let d = r.count j m in
+            omega (arith, a, b, d);
         leaf = λ j. below h j ∙ r.leaf j;
       }
     where
@@ -318,8 +323,11 @@ module _ {K V : Type 0} where
           → end ≡ (if b then get_or back (length front - 1) 0 else length (own_pairs (leaf_at front root)))
           → FrontTaken (Some root) front back (leaf_at front root) (length front - 1) end
           × (IsTrue b ↔ (between (Some root) (slice_set front (length front - 1) end) back ≡ []))
-      go true e f = let r = front_meets root (length front - 1) l front back ends (e.0 refl) in rw f (r.0, ((λ _. r.1), (λ _. refl)))
-      go false e f = let r = front_leaves root (length front - 1) l front back ends (λ s. absurd (let no : false ≡ true = e.1 s in cc)) in
+      go true e f =
+          let r = front_meets root (length front - 1) l front back ends (e.0 refl) in
+          rw f (r.0, ((λ _. r.1), (λ _. refl)))
+      go false e f =
+          let r = front_leaves root (length front - 1) l front back ends (λ s. absurd (let no : false ≡ true = e.1 s in cc)) in
           rw f (r.0, ((λ t. absurd (let no : false ≡ true = t in cc)), (λ s. absurd (r.1 s))))
 
   pub back_takes : (m : Map K V) (n leaf : Node K V) (front back : List ℕ) (last start : ℕ) (met : Bool) → m ≡ Some n → IsSoundMap m → AreEndsIn m front back
@@ -339,6 +347,9 @@ module _ {K V : Type 0} where
       go : (b : Bool) → (IsTrue b ↔ (take (length back - 1) back ≡ take (length back - 1) front)) → start ≡ (if b then get_or front (length back - 1) 0 else 0)
           → BackTaken (Some root) front back (leaf_at back root) (length back - 1) start
           × (IsTrue b ↔ (between (Some root) front (slice_set back (length back - 1) start) ≡ []))
-      go true e f = let r = back_meets root (length back - 1) l front back ends (e.0 refl) in rw f (r.0, ((λ _. r.1), (λ _. refl)))
-      go false e f = let r = back_leaves root (length back - 1) l front back ends (λ s. absurd (let no : false ≡ true = e.1 s in cc)) in
+      go true e f =
+          let r = back_meets root (length back - 1) l front back ends (e.0 refl) in
+          rw f (r.0, ((λ _. r.1), (λ _. refl)))
+      go false e f =
+          let r = back_leaves root (length back - 1) l front back ends (λ s. absurd (let no : false ≡ true = e.1 s in cc)) in
           rw f (r.0, ((λ t. absurd (let no : false ≡ true = t in cc)), (λ s. absurd (r.1 s))))

@@ -98,8 +98,8 @@ module _ {X : Type 0} where
         w y = not (t y) && u y
 
         go : (a b : Bool) → (a ≡ true → b ≡ true) → length (filter u s) ≡ length (filter t s) + length (filter w s)
-            → length (cond b (x ∷ filter u s) (filter u s)) ≡ length (cond a (x ∷ filter t s) (filter t s)) + length
-            (cond (not a && b) (x ∷ filter w s) (filter w s))
+            → length (cond b (x ∷ filter u s) (filter u s))
+            ≡ length (cond a (x ∷ filter t s) (filter t s)) + length (cond (not a && b) (x ∷ filter w s) (filter w s))
         go true true h e = omega (arith, e)
         go true false h e = absurd (let no : false ≡ true = h refl in cc)
         go false true h e = omega (arith, e)
@@ -293,8 +293,8 @@ module _ {K Q S : Type 0} {cmp : K → K → Ordering} {order : K → S → Orde
   module _ {V : Type 0} (lo hi : Bound Q) (s : List (K × V)) where
     start_counts : ahead order sought (start_cut lo) s + length (filter (λ e. starts order (bound_by sought lo) e.0) s) ≡ length s
     start_counts =
-        ap (λ zs. ahead order sought (start_cut lo) s + length zs) (sym
-        (filter_same (λ e. not (leads order sought (start_cut lo) e.0)) (λ e. starts order (bound_by sought lo) e.0) (λ e. start_leads lo e.0) s))
+        ap (λ zs. ahead order sought (start_cut lo) s + length zs)
+        (sym (filter_same (λ e. not (leads order sought (start_cut lo) e.0)) (λ e. starts order (bound_by sought lo) e.0) (λ e. start_leads lo e.0) s))
         ∙ both_counts (λ e. leads order sought (start_cut lo) e.0) s
 
     within_is : filter (λ e. not (leads order sought (start_cut lo) e.0) && leads order sought (stop_cut hi) e.0) s
@@ -302,10 +302,14 @@ module _ {K Q S : Type 0} {cmp : K → K → Ordering} {order : K → S → Orde
     within_is = filter_same _ _ (λ e. ap (λ b. b && leads order sought (stop_cut hi) e.0) (start_leads lo e.0)
         ∙ ap (λ b. starts order (bound_by sought lo) e.0 && b) (stop_leads hi e.0)) s
 
+    -- So many pairs lie in front of a range's start, and so many in front of its end.
+    abbrev pub AreEnds : ℕ → ℕ → Type 0
+    AreEnds i j = (i + length (filter (λ e. starts order (bound_by sought lo) e.0) s) ≡ length s)
+        × (j ≡ i + length (within order (bound_by sought lo) (bound_by sought hi) s))
+
     -- In front of a range are the pairs in front of its first cut, and in it those amid both.
     pub ends_told : (a b : Cut Q) (i j : ℕ) → a ≡ start_cut lo → b ≡ stop_cut hi → i ≡ ahead order sought a s
-        → j ≡ ahead order sought a s + amid order sought a b s → (i + length (filter (λ e. starts order (bound_by sought lo) e.0) s) ≡ length s)
-        × (j ≡ i + length (within order (bound_by sought lo) (bound_by sought hi) s))
+        → j ≡ ahead order sought a s + amid order sought a b s → AreEnds i j
     ends_told a b i j ea eb ei ej =
         let first = ap (λ c. ahead order sought c s) ea in
         let inside = ap (λ c. amid order sought c b s) ea ∙ ap (λ c. amid order sought (start_cut lo) c s) eb ∙ ap length within_is in

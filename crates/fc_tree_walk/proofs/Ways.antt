@@ -36,8 +36,9 @@ pub set_length : (gap new : List ℕ) (level step : ℕ) → new ≡ slice_set g
 set_length gap new level step e = ap length e ∙ length_set gap level step
 
 pub end_set : (gap new : List ℕ) (level step : ℕ) → level + 1 ≡ length gap → new ≡ slice_set gap level step → new ≡ take level gap ++ step ∷ []
-end_set gap new level step k e = let long = ap length e ∙ length_set gap level step in sym (whole new (level + 1) (omega arith))
-    ∙ prefix_set gap new level step (omega arith) e
+end_set gap new level step k e =
+    let long = ap length e ∙ length_set gap level step in
+    sym (whole new (level + 1) (omega arith)) ∙ prefix_set gap new level step (omega arith) e
 
 module _ {K V : Type 0} where
   -- A path with another step at a level: to the gap of a leaf, and on below a child.
@@ -227,12 +228,11 @@ module _ {K V : Type 0} where
           let s = above (omega arith) in
           let a = end_leaf n (get_or gap i 0) l ge in
           let e = lead in
+          let same : length (before_gap (take i gap) root) + length (pairs_of n) ≡ length (before_gap gap root) = omega (arith, a, e) in
           elim w.1 [
             | inl x ↦ absurd (omega (arith, a, e, x, some))
             | inr x ↦ subst (λ b. IsNextAt gap root b place' (length (before_gap gap root))) (sym s.0)
-                (subst (λ p. IsNextAt gap root best p (length (before_gap gap root))) (sym s.1)
-                (let same : length (before_gap (take i gap) root) + length (pairs_of n) ≡ length (before_gap gap root) = omega (arith, a, e) in
-                subst (λ m. IsNextAt gap root best place m) same x))
+                (subst (λ p. IsNextAt gap root best p (length (before_gap gap root))) (sym s.1) (subst (λ m. IsNextAt gap root best place m) same x))
           ]
 
   -- ---- the lowest node with a pair before the way
@@ -478,8 +478,8 @@ module _ {K V : Type 0} where
       record { way = x; above = above; end = omega arith; step = step; within = omega arith; inner = x.levels.1; fits = x.levels.0 }
 
   module _ (m : Map K V) (gap mid new : List ℕ) (n : Node K V) (x : IsNear m gap n) where
-    before_way : length (before_gap gap x.root) ≡ length (before_gap (take x.level gap) x.root) + length (before_child n (get_or gap x.level 0)) + length
-        (before_child (child_at n (get_or gap x.level 0)) (get_or gap (x.level + 1) 0))
+    before_way : length (before_gap gap x.root) ≡ length (before_gap (take x.level gap) x.root) + length (before_child n (get_or gap x.level 0))
+        + length (before_child (child_at n (get_or gap x.level 0)) (get_or gap (x.level + 1) 0))
     before_way =
         let a = ap length x.way.onward ∙ length-append (before_gap (take x.level gap) x.root) _ in
         let b = ap (λ p. length (before_gap p x.root)) (sym (whole gap (x.level + 1 + 1) (let l = x.long in omega (arith, l)))) ∙ ap length x.leaf.onward

@@ -1,12 +1,20 @@
-use Rattle.std.proofs.Common.{[], length, refl, rules, arith, sym, subst, ap, ◌∙◌, length-append}
-use Rattle.fc_tree_node.specs.Node.{IsLevelled}
+use Rattle.std.proofs.Common.{ℕ, ◌<◌, [], length, refl, rules, arith, sym, subst, ap, ◌∙◌, length-append}
+use Rattle.fc_tree_node.specs.Node.{children_of, IsLevelled}
 use Rattle.fc_tree_node.proofs.Gaps.{step_levels}
 use Rattle.fc_tree_node.proofs.Pairs.{leaf_children}
 use Rattle.fc_tree_search.proofs.SearchFacts.{child_there}
 use Rattle.fc_tree_walk.specs.Gap.{GoesOn}
 use Rattle.fc_tree_walk.proofs.GapFacts.{around_gap, around_child, goes_here, goes_below, ends_here, ends_below}
 use Rattle.fc_tree_walk.proofs.Turns.{turn_first, child_ascends, ahead_at, amid_parted, both_at}
+use Rattle.fc_tree_walk.proofs.ends.+push_both.Given as given
 use Rattle.fc_tree_walk.proofs.ends.+push_both.Goals as goal
+use Rattle.fc_tree_walk.proofs.ends.+push_both.Goals.{Else-is_leaf}
+
+-- below the node there is a child where both cuts are
+has_child : (g : given.Over) (t : ℕ) (c : Else-is_leaf g t) → c.place_in-start.result < length (children_of c.args.node.now)
+has_child g t c =
+    let l = c.requires.levels in
+    child_there l.0 c.args.node.now c.place_in-start.result l.1 c.if-is_leaf.ensures.1 (turn_first c.place_in-start.ensures).within
 
 pub returns-then-start-stop-clause-back : goal.returns-then-start-stop-clause-back
 returns-then-start-stop-clause-back g t c =
@@ -19,35 +27,23 @@ returns-then-start-stop-clause-back g t c =
 pub push_both-requires : goal.push_both-requires
 push_both-requires g t c κs within =
     let l = c.requires.levels in
-    let k = child_there l.0 c.args.node.now c.place_in-start.result l.1 c.if-is_leaf.ensures.1 (turn_first c.place_in-start.ensures).within in
+    let k = has_child g t (goal.at.push_both-requires g t c).Else-is_leaf in
     let s = step_levels l.0 c.args.node.now c.place_in-start.result l.1 k in
     let e = s.1 in
     let f = l.2 in
     let b = l.3 in
     let p = ap length c.push.ensures ∙ length-append c.args.front.now _ in
-    let q = ap length c.push-2.ensures ∙ length-append c.args.back.now _ in (
-      omega arith,
-      (
-        search rules,
-        (
-          search rules,
-          (
-            search rules,
-            (
-              (s.0, subst (IsLevelled s.0) (sym c.child.ensures) s.2, omega arith, omega arith),
-              child_ascends g.K.Ord.cmp l.0 _ _ _ l.1 k c.child.ensures c.requires.order,
-            ),
-          ),
-        ),
-      ),
-    )
+    let q = ap length c.push-2.ensures ∙ length-append c.args.back.now _ in
+    let ordered = child_ascends g.K.Ord.cmp l.0 _ _ _ l.1 k c.child.ensures c.requires.order in
+    let levels = subst (IsLevelled s.0) (sym c.child.ensures) s.2 in
+    (omega arith, (search rules, (search rules, (search rules, ((s.0, levels, omega arith, omega arith), ordered)))))
 
 pub returns-clause-front : goal.returns-clause-front
 returns-clause-front g t c =
     let l = c.requires.levels in
     let n = c.args.node.now in
     let i = c.place_in-start.result in
-    let k = child_there l.0 c.args.node.now c.place_in-start.result l.1 c.if-is_leaf.ensures.1 (turn_first c.place_in-start.ensures).within in
+    let k = has_child g t (goal.at.returns-clause-front g t c).Else-is_leaf in
     goes_below c.args.front.now c.push.new.self c.push_both.new.front i l.0 n c.child.result.now _ _ l.1 k c.push.ensures c.child.ensures
     c.push_both.ensures.front
     (ahead_at g.met.Q.Query.fits g.Q.Query.sought l.0 n l.1 c.requires.order i _ (around_child l.0 n _ i l.1 k c.child.ensures) c.args.lo.now
@@ -58,7 +54,7 @@ returns-clause-back g t c =
     let l = c.requires.levels in
     let n = c.args.node.now in
     let i = c.place_in-start.result in
-    let k = child_there l.0 c.args.node.now c.place_in-start.result l.1 c.if-is_leaf.ensures.1 (turn_first c.place_in-start.ensures).within in
+    let k = has_child g t (goal.at.returns-clause-back g t c).Else-is_leaf in
     let e = both_at g.met.Q.Query.fits g.Q.Query.sought l.0 n l.1 c.requires.order i _ (around_child l.0 n _ i l.1 k c.child.ensures) c.args.lo.now
     c.args.hi.now _ c.place_in-start.ensures c.place_in-stop.ensures (omega (arith, c.if-start-stop.false)) in
     goes_below c.args.back.now c.push-2.new.self c.push_both.new.back i l.0 n c.child.result.now _ _ l.1 k c.push-2.ensures c.child.ensures
@@ -67,14 +63,14 @@ returns-clause-back g t c =
 pub returns-clause-first : goal.returns-clause-first
 returns-clause-first g t c =
     let l = c.requires.levels in
-    let k = child_there l.0 c.args.node.now c.place_in-start.result l.1 c.if-is_leaf.ensures.1 (turn_first c.place_in-start.ensures).within in
+    let k = has_child g t (goal.at.returns-clause-first g t c).Else-is_leaf in
     ends_below c.args.front.now c.push.new.self c.push_both.new.front c.place_in-start.result _ c.args.node.now c.child.result.now c.push_both.result.0.now
     c.push.ensures c.child.ensures l.0 l.1 k c.push_both.ensures.front c.push_both.ensures.first
 
 pub returns-clause-last : goal.returns-clause-last
 returns-clause-last g t c =
     let l = c.requires.levels in
-    let k = child_there l.0 c.args.node.now c.place_in-start.result l.1 c.if-is_leaf.ensures.1 (turn_first c.place_in-start.ensures).within in
+    let k = has_child g t (goal.at.returns-clause-last g t c).Else-is_leaf in
     ends_below c.args.back.now c.push-2.new.self c.push_both.new.back c.place_in-start.result _ c.args.node.now c.child.result.now c.push_both.result.1.now
     c.push-2.ensures c.child.ensures l.0 l.1 k c.push_both.ensures.back c.push_both.ensures.last
 
