@@ -1,7 +1,6 @@
-use Rattle.std.proofs.Common.{◌≡◌, ◌+◌, ◌-◌, ◌≤◌, ◌∷◌, ◌++◌, ◌∙◌, length, ap, arith, subst}
+use Rattle.std.proofs.Common.{◌≡◌, ◌+◌, ◌-◌, ◌≤◌, ◌∙◌, length, ap, arith, subst}
 use Rattle.fc_base.specs.Ascending.{IsAscending}
 use Rattle.fc_tree_node.specs.Node.{own_pairs, pairs_of, IsLevelled}
-use Rattle.fc_tree_node.specs.Path.{before_gap, after_gap}
 use Rattle.fc_map.specs.Entries.{entries}
 use Rattle.fc_base.proofs.Laws.{ascending_put}
 use Rattle.fc_tree_insertion.proofs.InsertedTrees.{length_in}

@@ -1,4 +1,4 @@
-use Rattle.std.proofs.Common.{◌≡◌, ◌-◌, ◌∷◌, ◌++◌, [], take, get_or, length, Some, arith, sym, ap, subst, ◌∙◌}
+use Rattle.std.proofs.Common.{◌≡◌, ◌-◌, ◌∷◌, ◌++◌, [], take, get_or, length, arith, sym, ap, subst, ◌∙◌}
 use Rattle.fc_tree_node.specs.Place.{before_pair}
 use Rattle.fc_tree_walk.specs.Gap.{GoesOn}
 use Rattle.fc_tree_walk.proofs.GapFacts.{IsLast, some_last, place_back, stepped_before}

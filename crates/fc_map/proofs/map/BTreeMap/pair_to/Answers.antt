@@ -1,4 +1,4 @@
-use Rattle.std.proofs.Common.{◌≡◌, ◌∙◌, ap, sym, Some}
+use Rattle.std.proofs.Common.{◌≡◌, ◌∙◌, sym, Some}
 use Rattle.fc_map.proofs.CountFacts.{looked_up}
 use Rattle.fc_map.proofs.map.BTreeMap.pair_to.Goals as goal
 

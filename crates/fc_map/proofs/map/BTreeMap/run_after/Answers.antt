@@ -1,4 +1,4 @@
-use Rattle.std.proofs.Common.{Some, sym, ap, subst, ◌∙◌}
+use Rattle.std.proofs.Common.{sym, subst, ◌∙◌}
 use Rattle.fc_tree_visit.specs.Leaf.{gone_on}
 use Rattle.fc_tree_visit.proofs.LeafFacts.{on_length}
 use Rattle.fc_tree_walk.specs.Gap.{IsGapIn}

@@ -3,8 +3,8 @@ use Rattle.std.proofs.lemmas.List.Elements.{length_all_zip}
 use Rattle.std.proofs.lemmas.Result.{err_from_is_err_and}
 use Rattle.fc_base.specs.Ascending.{IsAscending}
 use Rattle.fc_base.specs.Copies.{MayRefusePair}
-use Rattle.fc_tree_node.specs.Node.{pairs_of, IsLevelled}
-use Rattle.fc_tree_copy.specs.Copy.{AreSame, IsCopy, MayRefuseNodes}
+use Rattle.fc_tree_node.specs.Node.{pairs_of}
+use Rattle.fc_tree_copy.specs.Copy.{AreSame, MayRefuseNodes}
 use Rattle.fc_map.specs.Entries.{entries, IsSoundMap}
 use Rattle.fc_map.proofs.CopyFacts.{equal_answer, ascending_copied, sound_copied, has_pair}
 use Rattle.fc_map.proofs.map.copy.BTreeMapTryClone.try_clone.Goals as goal
