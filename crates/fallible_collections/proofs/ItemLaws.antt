@@ -37,12 +37,12 @@ module _ {T : Type 0} (cmp : T → T → Ordering) (s : List T) (x : T) where
   pub item_at_with_other : (y : T) → IsTotalOrder cmp → ¬ (cmp y x ≡ Equal) → item_at cmp (with_item cmp s x) y ≡ item_at cmp s y
   item_at_with_other y total other =
       ap (λ l. item_at cmp l y) with_pairs ∙ item_at_keys cmp (put cmp (pairs s) x tt) y
-          ∙ ap (option_map (λ e. e.0)) (at_put_other cmp (pairs s) x tt y total other) ∙ sym (at_pair cmp s y)
+      ∙ ap (option_map (λ e. e.0)) (at_put_other cmp (pairs s) x tt y total other) ∙ sym (at_pair cmp s y)
 
   pub item_at_without_other : (y : T) → IsTotalOrder cmp → ¬ (cmp y x ≡ Equal) → item_at cmp (without cmp s x) y ≡ item_at cmp s y
   item_at_without_other y total other =
       ap (λ l. item_at cmp l y) (without_pairs cmp s x) ∙ item_at_keys cmp (cut cmp (pairs s) x) y
-          ∙ ap (option_map (λ e. e.0)) (at_cut_other cmp (pairs s) x y total other) ∙ sym (at_pair cmp s y)
+      ∙ ap (option_map (λ e. e.0)) (at_cut_other cmp (pairs s) x y total other) ∙ sym (at_pair cmp s y)
 
   -- An ascending list stays one.
   pub ascending_with : IsTotalOrder cmp → AreAscending cmp s → AreAscending cmp (with_item cmp s x)

@@ -171,7 +171,7 @@ module _ {K V : Type 0} (cmp : K → K → Ordering) where
         → p x.0 ≡ true → is_le (cmp e.0 x.0) ≡ true
     first_least k x total a f there passes =
         of_found (λ y. p y.0 ≡ true → is_le (cmp e.0 y.0) ≡ true) _ s x
-            (all_passing (λ y. p y.0) (λ y. is_le (cmp e.0 y.0) ≡ true) s (up_from _ e total (asc_filter cmp _ s a) f)) there passes
+        (all_passing (λ y. p y.0) (λ y. is_le (cmp e.0 y.0) ≡ true) s (up_from _ e total (asc_filter cmp _ s a) f)) there passes
 
     -- The last pair that passes stands in the list, and passes.
     pub last_there : IsTotalOrder cmp → IsAscending cmp s → last_item (filter (λ x. p x.0) s) ≡ Some e → at cmp s e.0 ≡ Some e
@@ -185,7 +185,7 @@ module _ {K V : Type 0} (cmp : K → K → Ordering) where
         → p x.0 ≡ true → is_le (cmp x.0 e.0) ≡ true
     last_greatest k x total a f there passes =
         of_found (λ y. p y.0 ≡ true → is_le (cmp y.0 e.0) ≡ true) _ s x
-            (all_passing (λ y. p y.0) (λ y. is_le (cmp y.0 e.0) ≡ true) s (up_to _ e total (asc_filter cmp _ s a) f)) there passes
+        (all_passing (λ y. p y.0) (λ y. is_le (cmp y.0 e.0) ≡ true) s (up_to _ e total (asc_filter cmp _ s a) f)) there passes
 
   module _ (p : K → Bool) (s : List (K × V)) (k : K) (x : K × V) where
     none_kept : filter (λ x. p x.0) s ≡ [] → at cmp s k ≡ Some x → ¬ (p x.0 ≡ true)
@@ -214,8 +214,11 @@ module _ {K Q V : Type 0} (cmp : K → Q → Ordering) (t : Ordering → Bool) (
       ++ (filter (λ e. t (cmp e.0 k)) between ++ cond (t Greater) (above cmp s k) [])
   around s between =
       filter-append _ (below cmp s k) (between ++ above cmp s k)
-      ∙ rw (one_way Less (below cmp s k) (all_below cmp s k), filter-append (λ e. t (cmp e.0 k)) between (above cmp s k),
-          one_way Greater (above cmp s k) (all_above cmp s k)) refl
+      ∙ rw (
+        one_way Less (below cmp s k) (all_below cmp s k),
+        filter-append (λ e. t (cmp e.0 k)) between (above cmp s k),
+        one_way Greater (above cmp s k) (all_above cmp s k),
+      ) refl
 
 module _ {K Q V : Type 0} (cmp : K → Q → Ordering) (s : List (K × V)) (k : Q) where
   -- A cut at a key leaves what is below it and what is above it; so the pairs from the key on are those behind it, and those up to it are those ahead of it.

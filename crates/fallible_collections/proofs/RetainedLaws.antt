@@ -20,7 +20,7 @@ module _ {F K V : Type 0} (R : F → K × V → F → V → Bool → Type 0) (st
   retained_is says (e ∷ es) ys f g (h, w, b, zs, r, rs, q) =
       let a = says f h e w b r in
       q ∙ ap (λ c. cond c ((e.0, w) ∷ zs) zs) a.1 ∙ ap (λ x. cond (stays e) ((e.0, x) ∷ zs) zs) a.0
-          ∙ ap (λ s. cond (stays e) (written e ∷ s) s) (retained_is says es zs h g rs) ∙ sym (map_cond (stays e) e (filter stays es))
+      ∙ ap (λ s. cond (stays e) (written e ∷ s) s) (retained_is says es zs h g rs) ∙ sym (map_cond (stays e) e (filter stays es))
 
 module _ {F T : Type 0} (R : F → T → Bool → F → Type 0) (stays : T → Bool) where
   -- those items of which the closure says so

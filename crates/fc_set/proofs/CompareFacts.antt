@@ -1,13 +1,11 @@
 -- Equality, order and hash of pairs whose values are all alike are those of their keys.
-use Rattle.std.proofs.Common.{◌≡◌, Bool, true, false, List, [], ◌∷◌, ◌++◌, Option, Some, None, refl, ap, ◌∙◌, append-nil}
+use Rattle.std.proofs.Common.{◌≡◌, Bool, true, false, List, [], ◌∷◌, Option, Some, None, refl}
 use Rattle.std.specs.Prelude.{◌&&◌}
 use Rattle.std.specs.Cmp.Lexicographic.{pointwise, slice_cmp, slice_partial_cmp}
-use Rattle.std.specs.Hash.{HashWrites}
-use Rattle.std.specs.List.{flat_map}
 use Rattle.std.specs.Ordering.{ordering_then, partial_ordering_then}
 use Rattle.std.specs.declared.cmp.Ordering.{Ordering}
 use Rattle.std.specs.declared.cmp.Ordering.TheVariants.{Less, Equal, Greater}
-use Rattle.fc_map.specs.Compare.{pair_eq, pair_cmp, pair_partial_cmp, pair_input}
+use Rattle.fc_map.specs.Compare.{pair_eq, pair_cmp, pair_partial_cmp}
 use Rattle.fc_set.proofs.ItemFacts.{keys}
 
 module _ {T V : Type 0} where

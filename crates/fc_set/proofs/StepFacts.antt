@@ -1,11 +1,9 @@
 -- What the steps of the lazy set operations give, over lists.
-use Rattle.std.proofs.Common.{◌≡◌, ◌++◌, ◌↔◌, Bool, true, false, IsTrue, IsSome, is_some, List, [], ◌∷◌, drop, length, Option, Some, None, option_copied}
-use Rattle.std.proofs.Common.{option_to_list, MatchOption, refl, sym, ap, ◌∙◌, subst, arith, Bor}
+use Rattle.std.proofs.Common.{◌≡◌, ◌++◌, ◌↔◌, Bool, true, false, IsTrue, IsSome, is_some, List, [], ◌∷◌, drop, Option, Some, None, option_copied}
+use Rattle.std.proofs.Common.{option_to_list, MatchOption, refl, sym, ap, ◌∙◌, subst, Bor}
 use Rattle.std.proofs.lemmas.Bool.{true≢false}
-use Rattle.std.specs.Prelude.{⊤}
 use Rattle.std.specs.Option.{option_or}
 use Rattle.std.specs.Cmp.{IsTotalOrder}
-use Rattle.std.specs.Iterator.{YieldsFirstRef, MakesProgress, item_count}
 use Rattle.std.specs.declared.cmp.Ordering.{Ordering}
 use Rattle.std.specs.declared.cmp.Ordering.TheVariants.{Less, Equal, Greater}
 use Rattle.fc_base.specs.Viewed.{over_one}

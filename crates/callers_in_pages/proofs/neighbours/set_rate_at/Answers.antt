@@ -11,7 +11,7 @@ pub returns-in_default-get_mut : goal.returns-in_default-get_mut
 returns-in_default-get_mut c =
     let step : ℕ × ℕ = (c.in-Some.from.now, c.in-Some._rate.now) in
     let there : value_at nat_cmp (entries c.args.steps.now) c.in-Some.from.now ≡ Some c.in-Some._rate.now =
-        ap (option_map (λ e. e.1)) (last_there nat_cmp (λ k. is_le (nat_cmp k c.args.amount)) (entries c.args.steps.now) step nat_cmp_total
-        c.in-Some.ensures.ascending (sym c.in-Some.ensures.pair)) in
+    ap (option_map (λ e. e.1)) (last_there nat_cmp (λ k. is_le (nat_cmp k c.args.amount)) (entries c.args.steps.now) step nat_cmp_total
+    c.in-Some.ensures.ascending (sym c.in-Some.ensures.pair)) in
     let none : None ≡ value_at nat_cmp (entries c.args.steps.now) c.in-Some.from.now = c.in_default-get_mut.ensures.value in
     absurd (let no = none ∙ there in cc)

@@ -11,4 +11,4 @@ pub returns : goal.returns
 returns c =
     c.copied.ensures ∙ c.get.ensures.value ∙ ap (λ s. value_at text_order s c.args.other.now) c.remove.ensures.rest
     ∙ value_at_cut_other_query string_cmp text_order (on_total string_bytes nat_list_cmp_total) text_order_fits (entries c.args.counts.now) c.args.word.now
-        c.args.other.now c.requires
+    c.args.other.now c.requires

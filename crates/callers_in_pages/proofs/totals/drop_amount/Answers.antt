@@ -9,7 +9,7 @@ overflow_sub-result g c =
     let told = c.requires in
     let there = sym c.remove.ensures.value ∙ c.in-Some.is in
     let law = sum_values_cut g.K.Ord.cmp (λ x. x) (entries c.args.amounts.now) c.args.key.now g.met.K.Ord.total c.len-len.ensures.ascending c.in-Some.old
-        there in
+    there in
     omega (arith, told, law)
 
 pub returns-in-Some : goal.returns-in-Some
@@ -17,7 +17,7 @@ returns-in-Some g c =
     let told = c.requires in
     let there = sym c.remove.ensures.value ∙ c.in-Some.is in
     let law = sum_values_cut g.K.Ord.cmp (λ x. x) (entries c.args.amounts.now) c.args.key.now g.met.K.Ord.total c.len-len.ensures.ascending c.in-Some.old
-        there in
+    there in
     let new = ap (sum_by (λ e. e.1)) c.remove.ensures.rest in
     omega (arith, told, law, new)
 
@@ -25,4 +25,4 @@ pub returns-in-None : goal.returns-in-None
 returns-in-None g c =
     let none = sym c.remove.ensures.value ∙ c.in-None.is in
     c.requires ∙ sym (ap (sum_by (λ e. e.1)) c.remove.ensures.rest ∙ sum_values_cut_absent g.K.Ord.cmp (λ x. x) (entries c.args.amounts.now) c.args.key.now
-        g.met.K.Ord.total c.len-len.ensures.ascending none)
+    g.met.K.Ord.total c.len-len.ensures.ascending none)

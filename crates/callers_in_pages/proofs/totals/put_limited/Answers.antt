@@ -7,4 +7,4 @@ pub returns : goal.returns
 returns g c =
     let amounts = entries c.args.amounts.now in
     subst (All (λ e. e.1 ≤ c.args.limit)) (sym c.in_ok-try_insert.ensures.put)
-        (all_put g.K.Ord.cmp (λ e. e.1 ≤ c.args.limit) amounts c.args.key c.args.amount c.requires.all c.requires.one)
+    (all_put g.K.Ord.cmp (λ e. e.1 ≤ c.args.limit) amounts c.args.key c.args.amount c.requires.all c.requires.one)

@@ -9,7 +9,7 @@ overflow_sub-result g c =
     let told = c.requires.told in
     let there = sym c.in_ok-old.ensures.old ∙ c.in-Some.is in
     let law = sum_values_put g.K.Ord.cmp (λ x. x) (entries c.args.amounts.now) c.args.key g.met.K.Ord.total c.len-len.ensures.ascending c.in-Some.old
-        c.args.amount there in
+    c.args.amount there in
     omega (arith, told, law)
 
 pub returns-in-Some-clause-total : goal.returns-in-Some-clause-total
@@ -17,7 +17,7 @@ returns-in-Some-clause-total g c =
     let told = c.requires.told in
     let there = sym c.in_ok-old.ensures.old ∙ c.in-Some.is in
     let law = sum_values_put g.K.Ord.cmp (λ x. x) (entries c.args.amounts.now) c.args.key g.met.K.Ord.total c.len-len.ensures.ascending c.in-Some.old
-        c.args.amount there in
+    c.args.amount there in
     let new = ap (sum_by (λ e. e.1)) c.in_ok-old.ensures.put in
     omega (arith, told, law, new)
 
@@ -26,6 +26,6 @@ returns-in-None-clause-total g c =
     let told = c.requires.told in
     let none = sym c.in_ok-old.ensures.old ∙ c.in-None.is in
     let law = sum_values_put_new g.K.Ord.cmp (λ x. x) (entries c.args.amounts.now) c.args.key g.met.K.Ord.total c.len-len.ensures.ascending c.args.amount
-        none in
+    none in
     let new = ap (sum_by (λ e. e.1)) c.in_ok-old.ensures.put in
     omega (arith, told, law, new)

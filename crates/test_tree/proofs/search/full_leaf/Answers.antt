@@ -27,8 +27,10 @@ under_more (e ∷ s) m k h a = (omega (arith, a.0), under_more s m k h a.1)
 ascending_more : (s : List Pair) (p : Pair) → IsAscending (on (λ k. k.number) nat_cmp) s → AllUnder p.0.number s
     → IsAscending (on (λ k. k.number) nat_cmp) (s ++ p ∷ [])
 ascending_more [] p a b = (tt, tt)
-ascending_more (e ∷ s) p a b = (all_both (λ x. nat_cmp e.0.number x.0.number ≡ Less) s (p ∷ []) a.0 (sym (nat_cmp_is e.0.number p.0.number Less b.0), tt),
-    ascending_more s p a.1 b.1)
+ascending_more (e ∷ s) p a b = (
+  all_both (λ x. nat_cmp e.0.number x.0.number ≡ Less) s (p ∷ []) a.0 (sym (nat_cmp_is e.0.number p.0.number Less b.0), tt),
+  ascending_more s p a.1 b.1,
+)
 
 -- the leaf's pairs with one more at the end
 record IsGrown (s t : List Pair) (m : ℕ) : Type 0 where
@@ -53,12 +55,14 @@ loop-half-preserved c =
     let pair : Pair = (record { number = 2 * c.loop-half.half; comparisons = c.args.comparisons }, c.loop-half.half) in
     let put : own_pairs c.insert_leaf.new.self ≡ insert (own_pairs c.loop-half.leaf) c.len-end.result pair = c.insert_leaf.ensures.pairs in
     let g = grown (own_pairs c.loop-half.leaf) (own_pairs c.insert_leaf.new.self) pair c.len-end.result end put c.loop-half.invariant.2
-        c.loop-half.invariant.3 in
+    c.loop-half.invariant.3 in
     let twice : 2 * c.loop-half.half + 2 ≡ 2 * (c.loop-half.half + 1) = omega arith in
     (c.insert_leaf.ensures.leaf, omega (arith, g.size), g.ordered, subst (λ m. AllUnder m (own_pairs c.insert_leaf.new.self)) twice g.under)
 
 pub returns : goal.returns
 returns c =
-    let leaf = c.loop-half.leaf in
-    ((0, omega arith, (omega arith, c.loop-half.invariant.0)), subst (IsAscending (on (λ k. k.number) nat_cmp)) (sym (leaf_pairs leaf c.loop-half.invariant.0))
-        c.loop-half.invariant.2)
+    let leaf = c.loop-half.leaf in (
+      (0, omega arith, (omega arith, c.loop-half.invariant.0)),
+      subst (IsAscending (on (λ k. k.number) nat_cmp)) (sym (leaf_pairs leaf c.loop-half.invariant.0))
+          c.loop-half.invariant.2,
+    )
