@@ -9,23 +9,16 @@ use bounded_lines::Line;
 use command::Command;
 use intervals::Intervals;
 use std::io::{self, BufReader, BufWriter, Write};
-use std::process::ExitCode;
 
 // The most bytes of a line, and how many bytes of input and of replies are kept.
 const ROOM: usize = 1024;
 
-fn main(rt: HostRuntime) -> ExitCode {
-    match run(&rt) {
-        Ok(()) => ExitCode::SUCCESS,
-        Err(e) => {
-            let _ = eprintln!(rt; "{e}");
-            ExitCode::from(2)
-        }
-    }
+fn main(rt: HostRuntime) -> io::Result<()> {
+    serve(&rt)
 }
 
 // Answers line after line. All room for input and replies is taken before the first.
-fn run(rt: &(impl Input + Print + AllocGlobal)) -> io::Result<()> {
+fn serve(rt: &(impl Input + Print + AllocGlobal)) -> io::Result<()> {
     let alloc = rt.alloc();
     let mut line = Line::<ROOM>::new();
     let mut source = BufReader::with_capacity(alloc, ROOM, rt.reader())?;

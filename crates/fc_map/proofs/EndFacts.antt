@@ -214,35 +214,54 @@ module _ {K V : Type 0} where
       → count ≡ length (before_gap_in m gap) → count ≡ length (before_gap_in (written_in m path w) gap)
   counted_stays m path gap count w sound place g e = e ∙ sym ((gap_stays m path gap w sound place g).count)
 
+  -- a walk once a value is written
+  abbrev once : Map K V → List ℕ → List ℕ → List ℕ → V → Stretch K V
+  once m path front back w = let o = written_in m path w in state (entries o) (length (before_gap_in o front)) (length (before_gap_in o back))
+
   stretch_written : (m : Map K V) (path front back : List ℕ) (w : V) (s : List (K × V)) (at from to : ℕ) → IsSoundMap m → IsPlaceIn m path
       → AreEndsIn m front back
       → entries m ≡ s → length (before_pair_in m path) ≡ at → length (before_gap_in m front) ≡ from → length (before_gap_in m back) ≡ to
-      → state (entries (written_in m path w)) (length (before_gap_in (written_in m path w) front)) (length (before_gap_in (written_in m path w) back))
-      ≡ state (set_value s at w) from to
+      → once m path front back w ≡ state (set_value s at w) from to
   stretch_written m path front back w s at from to sound place ends list a f b =
       state_is _ _ _ _ _ _
       (entries_written m path w sound place ∙ ap (λ z. set_value z (length (before_pair_in m path)) w) list ∙ ap (λ i. set_value s i w) a)
       ((gap_stays m path front w sound place ends.0).count ∙ f)
       ((gap_stays m path back w sound place ends.1).count ∙ b)
 
-  pub first_written : (m : Map K V) (path front back : List ℕ) (w : V) (t : Stretch K V) → IsSoundMap m → IsPlaceIn m path → AreEndsIn m front back
-      → entries m ≡ t.list → length (before_pair_in m path) ≡ t.front → length (before_gap_in m front) ≡ t.front + 1 → length (before_gap_in m back) ≡ t.back
-      → state (entries (written_in m path w)) (length (before_gap_in (written_in m path w) front)) (length (before_gap_in (written_in m path w) back))
-      ≡ wrote_first t w
-  first_written m path front back w t = stretch_written m path front back w t.list t.front (t.front + 1) t.back
-
-  pub last_written : (m : Map K V) (path front back : List ℕ) (w : V) (t : Stretch K V) → IsSoundMap m → IsPlaceIn m path → AreEndsIn m front back
-      → entries m ≡ t.list → length (before_pair_in m path) + 1 ≡ t.back → length (before_gap_in m front) ≡ t.front → length (before_gap_in m back) + 1 ≡ t.back
-      → state (entries (written_in m path w)) (length (before_gap_in (written_in m path w) front)) (length (before_gap_in (written_in m path w) back))
-      ≡ wrote_last t w
-  last_written m path front back w t sound place ends list a f b = stretch_written m path front back w t.list (t.back - 1) t.front (t.back - 1) sound place
-      ends list (omega arith) f (omega arith)
-
   -- the pair that a place has in a list
   pub place_item : (m : Map K V) (path : List ℕ) (s : List (K × V)) (i : ℕ) → IsSoundMap m → IsPlaceIn m path → entries m ≡ s
       → length (before_pair_in m path) ≡ i → slice_get s i ≡ pair_in m path
   place_item m path s i sound place list a = ap (λ z. slice_get z i) (sym list) ∙ ap (λ j. slice_get (entries m) j) (sym a) ∙ pair_there m path sound place
 
-  pub place_value : (m : Map K V) (path : List ℕ) (s : List (K × V)) (i : ℕ) (v : V) → IsSoundMap m → IsPlaceIn m path → entries m ≡ s
+  place_value : (m : Map K V) (path : List ℕ) (s : List (K × V)) (i : ℕ) (v : V) → IsSoundMap m → IsPlaceIn m path → entries m ≡ s
       → length (before_pair_in m path) ≡ i → option_map (λ p. p.1) (pair_in m path) ≡ Some v → option_map (λ p. p.1) (slice_get s i) ≡ Some v
   place_value m path s i v sound place list a e = ap (option_map (λ p. p.1)) (place_item m path s i sound place list a) ∙ e
+
+  -- a place on a path, and on what is the same path
+  pub place_on : (m : Map K V) (path same : List ℕ) (way place i : ℕ) → same ≡ path → IsPlaceIn m (branch path way place)
+      → length (before_pair_in m (branch path way place)) ≡ i
+      → IsPlaceIn m (branch same way place) × (length (before_pair_in m (branch same way place)) ≡ i)
+  place_on m path same way place i is there before =
+      (subst (λ p. IsPlaceIn m (branch p way place)) (sym is) there, ap (λ p. length (before_pair_in m (branch p way place))) is ∙ before)
+
+  -- What is written to the first value of a walk, past which its front has gone, and which value it is.
+  pub lent_first : (m : Map K V) (path front back : List ℕ) (v : V) (t : Stretch K V) → IsSoundMap m → AreEndsIn m front back → entries m ≡ t.list
+      → IsPlaceIn m path × (length (before_pair_in m path) ≡ t.front) → length (before_gap_in m front) ≡ t.front + 1
+      → length (before_gap_in m back) ≡ t.back
+      → option_map (λ p. p.1) (pair_in m path) ≡ Some v
+      → ((w : V) → once m path front back w ≡ wrote_first t w) × (option_map (λ p. p.1) (slice_get t.list t.front) ≡ Some v)
+  lent_first m path front back v t sound ends list place f b value = (
+    λ w. stretch_written m path front back w t.list t.front (t.front + 1) t.back sound place.0 ends list place.1 f b,
+    place_value m path t.list t.front v sound place.0 list place.1 value,
+  )
+
+  -- The same of the last value, before which its back has gone.
+  pub lent_last : (m : Map K V) (path front back : List ℕ) (v : V) (t : Stretch K V) → IsSoundMap m → AreEndsIn m front back → entries m ≡ t.list
+      → IsPlaceIn m path → length (before_pair_in m path) + 1 ≡ t.back → length (before_gap_in m front) ≡ t.front
+      → length (before_gap_in m back) + 1 ≡ t.back
+      → option_map (λ p. p.1) (pair_in m path) ≡ Some v
+      → ((w : V) → once m path front back w ≡ wrote_last t w) × (option_map (λ p. p.1) (slice_get t.list (t.back - 1)) ≡ Some v)
+  lent_last m path front back v t sound ends list place at f b value = (
+    λ w. stretch_written m path front back w t.list (t.back - 1) t.front (t.back - 1) sound place ends list (omega arith) f (omega arith),
+    place_value m path t.list (t.back - 1) v sound place list (omega arith) value,
+  )

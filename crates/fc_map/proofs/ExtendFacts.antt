@@ -1,5 +1,6 @@
 -- A list extended by items, one after another.
-use Rattle.std.proofs.Common.{◌≡◌, List, [], ◌∷◌, ◌++◌, Some, None, cond, length, refl, sym, ap, subst, ◌∙◌, append_assoc}
+use Rattle.std.proofs.Common.{◌≡◌, List, [], ◌∷◌, ◌++◌, Some, None, cond, length, inl, inr, refl, sym, ap, subst, ◌∙◌, arith}
+use Rattle.std.proofs.Common.{append_assoc, append-nil, length-append}
 use Rattle.std.specs.Prelude.{unwrap_or}
 use Rattle.std.specs.Option.{option_map}
 use Rattle.std.specs.Cmp.{IsTotalOrder}
@@ -17,6 +18,8 @@ use Rattle.fc_base.specs.Extended.{extended, IsExtendedUpTo}
 use Rattle.fc_base.specs.Growth.{MayGrowRefuse}
 use Rattle.fc_base.specs.OneKey.{put}
 use Rattle.fc_base.specs.Parts.{below, above, at}
+use Rattle.fc_tree_build.specs.Built.{IsBehindLast}
+use Rattle.fc_map.specs.Extension.{IsExtension}
 
 module _ {K V : Type 0} (cmp : K → K → Ordering) where
   more : (s items : List (K × V)) (e : K × V) → put cmp (extended cmp s items) e.0 e.1 ≡ extended cmp s (items ++ e ∷ [])
@@ -71,3 +74,20 @@ module _ {K V : Type 0} (cmp : K → K → Ordering) where
   pub ascending_behind : (s new : List (K × V)) (k : K) (v : V) → IsTotalOrder cmp → new ≡ s ++ (k, v) ∷ [] → AllByRecursion (λ e. cmp e.0 k ≡ Less) s
       → IsAscending cmp s → IsAscending cmp new
   ascending_behind s new k v total e b a = subst (IsAscending cmp) ((put_behind s k v b).0 ∙ sym e) (ascending_put cmp s k v total a)
+
+  -- ---- a tree that is open, and a map beside it
+
+  -- Where the tree has a pair, it has all.
+  pub none_beside : (t m front : List (K × V)) (last : K × V) → IsExtension cmp t m → t ≡ front ++ last ∷ [] → m ≡ []
+  none_beside t m front last (a, inl none) e = absurd (let n = length-append front (last ∷ []) in let z = ap length (sym none ∙ e) in omega arith)
+  none_beside t m front last (a, inr none) e = none
+
+  -- A pair whose key is greater than the last one is put behind all.
+  pub put_last : (t m new : List (K × V)) (k : K) (v : V) → IsTotalOrder cmp → IsExtension cmp t m → IsBehindLast cmp t k → new ≡ t ++ (k, v) ∷ []
+      → (new ++ m ≡ put cmp (t ++ m) k v) × IsExtension cmp new m
+  put_last t m new k v total x b e =
+      let none = none_beside t m b.0 b.1 x b.2 in
+      let all = behind t b.0 b.1 k total b.2 x.0 b.3 in (
+        rw none (append-nil new ∙ e ∙ sym (put_behind t k v all).0 ∙ ap (λ z. put cmp z k v) (sym (append-nil t))),
+        (ascending_behind t new k v total e all x.0, inr none),
+      )

@@ -70,39 +70,28 @@ module _ {S T : Type 0} (steps : S → Option (Bor T) → S → Type 0) (all : L
       let counted = k.counted in
       omega (arith, counted, none)
 
-  -- Copies of a front of the items were made, and counted.
-  pub record IsCopiedSoFar {V : Type 0} (same : T → T → Type 0) (made : List (T × V)) (count : ℕ) (walk : S) : Type 0 where
+  -- Copies of a front of the items were made.
+  pub record IsCopiedSoFar {V : Type 0} (same : T → T → Type 0) (made : List (T × V)) (walk : S) : Type 0 where
     pub done : List T
     pub left : List T
     pub gives : AlwaysYields steps (λ x. x.now) walk left
     pub parted : all ≡ done ++ left
     pub copied : AllZip same done (map (λ e. e.0) made)
-    pub counted : count + length left ≡ length all
 
   module _ {V : Type 0} (same : T → T → Type 0) where
-    pub filled_start : (made : List (T × V)) (s : S) → AlwaysYields steps (λ x. x.now) s all → made ≡ [] → IsCopiedSoFar same made 0 s
+    pub filled_start : (made : List (T × V)) (s : S) → AlwaysYields steps (λ x. x.now) s all → made ≡ [] → IsCopiedSoFar same made s
     filled_start made s a none = record {
       done = [];
       left = all;
       gives = a;
       parted = refl;
       copied = rw none tt;
-      counted = omega arith;
     }
 
-    -- An item more is one of those that are left.
-    pub fewer : (made : List (T × V)) (n : ℕ) (s j : S) (x : Bor T) → IsCopiedSoFar same made n s → steps s (Some x) j → n < length all
-    fewer made n s j x f h =
-        let long = ap length (some_left steps (λ x. x.now) s j x f.left f.gives h).1 in
-        let counted = f.counted in
-        omega (arith, counted, long)
-
-    pub filled_more : (made more : List (T × V)) (n : ℕ) (s j : S) (x : Bor T) (y : T) (w : V) → IsCopiedSoFar same made n s → steps s (Some x) j → same x.now y
-        → more ≡ made ++ (y, w) ∷ [] → IsCopiedSoFar same more (n + 1) j
-    filled_more made more n s j x y w f h e pairs =
+    pub filled_more : (made more : List (T × V)) (s j : S) (x : Bor T) (y : T) (w : V) → IsCopiedSoFar same made s → steps s (Some x) j → same x.now y
+        → more ≡ made ++ (y, w) ∷ [] → IsCopiedSoFar same more j
+    filled_more made more s j x y w f h e pairs =
         let l = some_left steps (λ x. x.now) s j x f.left f.gives h in
-        let long = ap length l.1 in
-        let counted = f.counted in
         let put = ap (map (λ e. e.0)) pairs ∙ map-append (λ e. e.0) made ((y, w) ∷ []) in
         record {
           done = f.done ++ x.now ∷ [];
@@ -110,24 +99,17 @@ module _ {S T : Type 0} (steps : S → Option (Bor T) → S → Type 0) (all : L
           gives = l.2;
           parted = f.parted ∙ ap (λ r. f.done ++ r) l.1 ∙ sym (append_assoc f.done (x.now ∷ []) l.0);
           copied = subst (AllZip same (f.done ++ x.now ∷ [])) (sym put) (AllZip-push same f.done (map (λ e. e.0) made) x.now y f.copied e);
-          counted = omega (arith, counted, long);
         }
 
-    pub filled_count : (made : List (T × V)) (n : ℕ) (s j : S) → IsCopiedSoFar same made n s → steps s None j → n ≡ length all
-    filled_count made n s j f h =
-        let none = ap length (none_left steps (λ x. x.now) s j f.left f.gives h) in
-        let counted = f.counted in
-        omega (arith, counted, none)
-
-    pub filled_all : (made : List (T × V)) (n : ℕ) (s j : S) → IsCopiedSoFar same made n s → steps s None j → AllZip same all (map (λ e. e.0) made)
-    filled_all made n s j f h =
+    pub filled_all : (made : List (T × V)) (s j : S) → IsCopiedSoFar same made s → steps s None j → AllZip same all (map (λ e. e.0) made)
+    filled_all made s j f h =
         let none = none_left steps (λ x. x.now) s j f.left f.gives h in
         let whole = f.parted ∙ ap (λ r. f.done ++ r) none ∙ append-nil f.done in
         subst (λ l. AllZip same l (map (λ e. e.0) made)) (sym whole) f.copied
 
     -- What holds of the item that comes holds of one of all items.
-    pub any_next : (P : T → Type 0) (made : List (T × V)) (n : ℕ) (s j : S) (x : Bor T) → IsCopiedSoFar same made n s → steps s (Some x) j → P x.now → Any P all
-    any_next P made n s j x f h p =
+    pub any_next : (P : T → Type 0) (made : List (T × V)) (s j : S) (x : Bor T) → IsCopiedSoFar same made s → steps s (Some x) j → P x.now → Any P all
+    any_next P made s j x f h p =
         let l = some_left steps (λ x. x.now) s j x f.left f.gives h in
         subst (Any P) (sym (f.parted ∙ ap (λ r. f.done ++ r) l.1)) (any_after P f.done x.now l.0 p)
       where

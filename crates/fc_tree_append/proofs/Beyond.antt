@@ -1,21 +1,12 @@
 -- Two ascending lists, of which one lies beyond the other.
-use Rattle.std.proofs.Common.{◌≡◌, Bool, ℕ, zero, suc, ◌+◌, List, [], ◌∷◌, ◌++◌, length, slice_get, Some, refl, sym, ap, ◌∙◌, arith}
-use Rattle.std.specs.Prelude.{IsTrue}
+use Rattle.std.proofs.Common.{◌≡◌, ℕ, zero, suc, ◌+◌, List, [], ◌∷◌, ◌++◌, length, slice_get, Some, sym, ap, ◌∙◌, arith}
 use Rattle.std.specs.List.{AllByRecursion}
-use Rattle.std.specs.Ordering.{is_lt}
-use Rattle.std.proofs.lemmas.Bool.{false≢true}
 use Rattle.std.specs.Cmp.{IsTotalOrder}
 use Rattle.std.specs.declared.cmp.Ordering.{Ordering}
-use Rattle.std.specs.declared.cmp.Ordering.TheVariants.{Less, Equal, Greater}
+use Rattle.std.specs.declared.cmp.Ordering.TheVariants.{Less}
 use Rattle.fc_base.specs.Ascending.{IsAscending}
 use Rattle.fc_base.proofs.AscendingFacts.{all_map}
 use Rattle.fc_tree_node.proofs.Lists.{all_both}
-
--- an answer that is less
-pub less_if : (o : Ordering) (b : Bool) → b ≡ is_lt o → IsTrue b → o ≡ Less
-less_if Less b e h = refl
-less_if Equal b e h = absurd (false≢true (sym e ∙ h))
-less_if Greater b e h = absurd (false≢true (sym e ∙ h))
 
 module _ {K V : Type 0} (cmp : K → K → Ordering) (total : IsTotalOrder cmp) where
   -- a key that lies before the first one lies before all

@@ -1,8 +1,12 @@
 -- The nodes of a spine one after another, and a tree opened at its right edge.
 use Rattle.std.proofs.Common.{◌≡◌, ℕ, zero, suc, ◌+◌, ◌-◌, ◌<◌, ◌≤◌, List, [], ◌∷◌, ◌++◌, length, map, refl, sym, ap, ◌∙◌, subst, arith, add-one}
 use Rattle.std.proofs.Common.{append_assoc, length-append}
-use Rattle.std.specs.Prelude.{slice_index_or, get_or, take}
+use Rattle.std.specs.Prelude.{Bool, IsTrue, slice_index_or, get_or, take}
+use Rattle.std.specs.Ordering.{is_lt}
+use Rattle.std.specs.declared.cmp.Ordering.{Ordering}
+use Rattle.std.specs.declared.cmp.Ordering.TheVariants.{Less, Equal, Greater}
 use Rattle.std.specs.List.{AllByRecursion}
+use Rattle.std.proofs.lemmas.Bool.{false≢true}
 use Rattle.std.proofs.Math.Seq.{take-suc, take-length}
 use Rattle.std.proofs.lemmas.List.{length-map}
 use Rattle.fc_base.specs.Sizes.{capacity}
@@ -14,6 +18,12 @@ use Rattle.fc_tree_node.proofs.Pairs.{leaf_children}
 use Rattle.fc_tree_drain.specs.Opened.{before_back_in, before_back, closing}
 use Rattle.fc_tree_drain.proofs.Opening.{no_item, whole_back, back_push, empty_back}
 use Rattle.fc_tree_build.specs.Spine.{IsOpenEnd, IsSpine, level_above}
+
+-- an answer that is less
+pub less_if : (o : Ordering) (b : Bool) → b ≡ is_lt o → IsTrue b → o ≡ Less
+less_if Less b e h = refl
+less_if Equal b e h = absurd (false≢true (sym e ∙ h))
+less_if Greater b e h = absurd (false≢true (sym e ∙ h))
 
 module _ {X : Type 0} where
   pub taken : (s : List X) (i : ℕ) (b : X) → i < length s → b ≡ slice_index_or s i b → take (i + 1) s ≡ take i s ++ b ∷ []

@@ -1,6 +1,8 @@
 -- What contracts see of a builder, and how it is laid out.
-use Rattle.std.specs.Prelude.{◌≡◌, ℕ, ◌+◌, ◌*◌, ◌≤◌, List, [], ◌++◌, length, Option, Some, None}
+use Rattle.std.specs.Prelude.{◌≡◌, ℕ, ◌+◌, ◌-◌, ◌*◌, ◌^◌, ◌≤◌, List, [], ◌∷◌, ◌++◌, length, Option, Some, None}
 use Rattle.std.specs.List.{AllByRecursion}
+use Rattle.std.specs.declared.cmp.Ordering.{Ordering}
+use Rattle.std.specs.declared.cmp.Ordering.TheVariants.{Less}
 use Rattle.fc_base.specs.Sizes.{capacity, most_children, most_height}
 use Rattle.fc_tree_node.specs.declared.node.Node.{Node}
 use Rattle.fc_tree_node.specs.Node.{own_pairs, IsLeaf, IsBlankLeaf, IsBlankInner}
@@ -29,9 +31,17 @@ module _ {K V : Type 0} where
   grown s last = before_back s ++ last_pairs last
 
   -- The tree so far stands above the last leaf and is not too high. With no leaf there is nothing else.
-  abbrev pub IsGrown : List (Node K V) → Option (Node K V) → Type 0
-  IsGrown s None = s ≡ []
-  IsGrown s (Some leaf) = (length (own_pairs leaf) ≤ capacity) × IsLeaf leaf × IsSpine 0 s × (length s ≤ most_height)
+  abbrev pub IsAbove : List (Node K V) → Option (Node K V) → Type 0
+  IsAbove s None = s ≡ []
+  IsAbove s (Some leaf) = (length (own_pairs leaf) ≤ capacity) × IsLeaf leaf × IsSpine 0 s × (length s ≤ most_height)
+
+  -- So many pairs stand before the last leaf, and with a full one there are no more than a machine can count.
+  abbrev pub IsGrown : List (Node K V) → Option (Node K V) → ℕ → Type 0
+  IsGrown s last before = IsAbove s last × (before ≡ length (before_back s)) × (before + capacity ≤ 2 ^ 64 - 1)
+
+  -- The key is greater than that of the last pair.
+  abbrev pub IsBehindLast : (K → K → Ordering) → List (K × V) → K → Type 0
+  IsBehindLast cmp s k = (front : List (K × V)) × (last : K × V) × (s ≡ front ++ last ∷ []) × (cmp last.0 k ≡ Less)
 
   -- The last leaf and so many spare ones have room for so many more pairs and one between each two leaves. With no leaf there is
   -- no room and nothing else.

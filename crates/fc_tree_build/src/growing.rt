@@ -1,10 +1,11 @@
 //! A tree that grows at its right end, with its nodes made as they are needed.
-ghost use Rattle.std.specs.Prelude.{◌≡◌, ◌≤◌, ◌⊎◌, [], ◌∷◌, ◌++◌, length, IfOk, IfErr, IfSome, None};
+ghost use Rattle.std.specs.Prelude.{◌≡◌, ◌+◌, ◌<◌, ◌≤◌, ◌⊎◌, [], ◌∷◌, ◌++◌, length, IsTrue, IfOk, IfErr, IfSome, None};
 ghost use Rattle.fc_base.specs.Sizes.{capacity, most_height};
 ghost use Rattle.fc_tree_drain.specs.Opened.{before_back};
 ghost use Rattle.fc_tree_node.specs.Node.{own_pairs, pairs_of, IsLeaf, IsBlankLeaf, IsBlankInner, IsSound};
 ghost use Rattle.std.specs.List.{AllByRecursion};
 ghost use Rattle.fc_tree_node.specs.Tree.{entries, IsSoundMap};
+ghost use Rattle.fc_tree_build.specs.Built.{IsBehindLast};
 ghost use Rattle.fc_tree_build.specs.Spine.{IsLastPair, IsSpine};
 
 use crate::spares::try_inner_nodes;
@@ -25,6 +26,8 @@ use std::mem;
 pub struct Growing<K, V> {
     spine: Spine<K, V>,
     last: Option<Node<K, V>>,
+    // How many pairs stand before those of the last leaf, which can take as many more as it has room for.
+    before: usize,
     alloc: Global,
 }
 
@@ -36,7 +39,7 @@ impl<K, V> Model for Growing<K, V> {
 
     ghost view = { λ g. grown g.spine g.last };
 
-    ghost invariant = { λ g. IsGrown g.spine g.last };
+    ghost invariant = { λ g. IsGrown g.spine g.last g.before };
 }
 
 impl<K, V> Growing<K, V> {
@@ -52,6 +55,35 @@ impl<K, V> Growing<K, V> {
         }
         last_of(&self.spine)
     }
+
+    /// How many pairs there are.
+    pub fn len(&self) -> usize
+        ensures { result ≡ length self.now }
+    {
+        match &self.last {
+            None => 0,
+            Some(leaf) => self.before + leaf.len(),
+        }
+    }
+}
+
+impl<K: Ord + Drop, V: Drop> Growing<K, V> {
+    /// Puts the pair after the others where the last leaf has room and its last key is less; else the pair comes back. It takes no memory.
+    #[inline(always)]
+    pub fn put_if_behind(&mut self, pair: (K, V)) -> Option<(K, V)>
+        ensures put { result ≡ None → self.new ≡ self.old ++ pair ∷ [] }
+        ensures behind { result ≡ None → IsBehindLast K.cmp self.old pair.0 }
+        ensures back { IfSome result (λ back. (back ≡ pair) × (self.new ≡ self.old)) }
+    {
+        let Some(leaf) = &mut self.last else {
+            return Some(pair);
+        };
+        if 0 < leaf.len() && leaf.len() < CAPACITY && is_behind(leaf, &pair.0) {
+            put_pair(leaf, pair);
+            return None;
+        }
+        Some(pair)
+    }
 }
 
 impl<K: Drop, V: Drop> Growing<K, V> {
@@ -62,28 +94,38 @@ impl<K: Drop, V: Drop> Growing<K, V> {
         Growing {
             spine: Stack::new(),
             last: None,
+            before: 0,
             alloc,
         }
     }
 
-    /// The tree at `root`, taken apart at its right edge. It takes no memory, compares nothing and moves no pair.
-    pub fn over(alloc: Global, root: Option<Node<K, V>>) -> Growing<K, V>
-        requires { IsSoundMap root }
+    /// The tree at `root` of `len` pairs, taken apart at its right edge. It takes no memory, compares nothing and moves no pair.
+    pub fn over(alloc: Global, root: Option<Node<K, V>>, len: usize) -> Growing<K, V>
+        requires sound { IsSoundMap root }
+        requires len { len ≡ length (entries root) }
+        requires room { len + capacity ≤ usize.MAX }
         ensures { result ≡ entries root }
     {
-        let mut spine = Stack::new();
-        let last = match root {
-            None => None,
-            Some(root) => Some(open_right(&mut spine, root)),
+        let Some(root) = root else {
+            return Growing::new(alloc);
         };
-        Growing { spine, last, alloc }
+        let mut spine = Stack::new();
+        let leaf = open_right(&mut spine, root);
+        let before = len - leaf.len();
+        Growing {
+            spine,
+            last: Some(leaf),
+            before,
+            alloc,
+        }
     }
 
     /// Puts the pair after the others. It compares nothing and moves no other pair. At the first pair it makes a leaf; where the last leaf
     /// is full, a leaf, a blank node for each full one of the right edge that is closed, and a new root where all are full.
     ///
     /// # Errors
-    /// The pair and `AllocError` if one of them is refused: all are made before the pair is put. The tree is then as before.
+    /// The pair and `AllocError` if one of them is refused: all are made before the pair is put. The tree is then as before. So is a leaf
+    /// that would let the tree grow to more than `usize::MAX` pairs.
     pub fn push(&mut self, pair: (K, V)) -> Result<(), ((K, V), TryReserveError)>
         ensures pairs { IfOk result (λ _. self.new ≡ self.old ++ pair ∷ []) }
         ensures unchanged { IfErr result (λ _. self.new ≡ self.old) }
@@ -94,22 +136,6 @@ impl<K: Drop, V: Drop> Growing<K, V> {
         match self.put_in_leaf(pair) {
             None => Ok(()),
             Some(pair) => self.push_growing(pair),
-        }
-    }
-
-    /// As `push`, but a pair that is refused is dropped.
-    ///
-    /// # Errors
-    /// As `push`.
-    pub fn put(&mut self, pair: (K, V)) -> Result<(), TryReserveError>
-        ensures pairs { IfOk result (λ _. self.new ≡ self.old ++ pair ∷ []) }
-        ensures unchanged { IfErr result (λ _. self.new ≡ self.old) }
-        ensures error { IfErr result (λ e. e ≡ TryReserveError.AllocError) }
-        ensures full { IfErr result (λ _. (self.old ≡ []) ⊎ (capacity ≤ length self.old)) }
-    {
-        match self.put_in_leaf(pair) {
-            None => Ok(()),
-            Some(pair) => self.put_growing(pair),
         }
     }
 
@@ -126,20 +152,6 @@ impl<K: Drop, V: Drop> Growing<K, V> {
             }
         }
         Some(pair)
-    }
-
-    // The same by what takes memory, as `push_growing`.
-    #[inline(never)]
-    fn put_growing(&mut self, pair: (K, V)) -> Result<(), TryReserveError>
-        ensures pairs { IfOk result (λ _. self.new ≡ self.old ++ pair ∷ []) }
-        ensures unchanged { IfErr result (λ _. self.new ≡ self.old) }
-        ensures error { IfErr result (λ e. e ≡ TryReserveError.AllocError) }
-        ensures full { IfErr result (λ _. (self.old ≡ []) ⊎ (capacity ≤ length self.old)) }
-    {
-        match self.push_growing(pair) {
-            Ok(()) => Ok(()),
-            Err((_pair, error)) => Err(error),
-        }
     }
 
     // The same by what takes memory, whether the last leaf is full or not. It is not inlined, since the pushes that take none would then
@@ -165,7 +177,12 @@ impl<K: Drop, V: Drop> Growing<K, V> {
             put_pair(last, pair);
             return Ok(());
         }
+        // With one leaf more there could be more than `usize::MAX` pairs.
+        if self.before >= usize::MAX - 2 * CAPACITY {
+            return Err((pair, TryReserveError::AllocError));
+        }
         hang_full(self.alloc, &mut self.spine, last, pair)?;
+        self.before += CAPACITY + 1;
         Ok(())
     }
 
@@ -177,6 +194,7 @@ impl<K: Drop, V: Drop> Growing<K, V> {
         let Growing {
             mut spine,
             last,
+            before: _,
             alloc: _,
         } = self;
         let Some(last) = last else {
@@ -184,6 +202,14 @@ impl<K: Drop, V: Drop> Growing<K, V> {
         };
         mend_right(close(&mut spine, last))
     }
+}
+
+// Whether the key is greater than the leaf's last one.
+fn is_behind<K: Ord, V>(leaf: &Node<K, V>, key: &K) -> bool
+    requires { 0 < length (own_pairs leaf.now) }
+    ensures { IsTrue result → IsBehindLast K.cmp (own_pairs leaf.now) key.now }
+{
+    leaf.pair(leaf.len() - 1).0.cmp(key).is_lt()
 }
 
 // A leaf of one pair.

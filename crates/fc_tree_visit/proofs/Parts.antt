@@ -3,7 +3,7 @@ use Rattle.std.proofs.Common.{◌≡◌, ℕ, zero, suc, ◌+◌, ◌<◌, ◌�
 use Rattle.std.proofs.Common.{append_assoc, Some, arith, ◌⊎◌, inl, inr}
 use Rattle.std.specs.List.{AllByRecursion}
 use Rattle.std.specs.Option.{option_map}
-use Rattle.std.proofs.lemmas.List.{append_cancel_right, length-append}
+use Rattle.std.proofs.lemmas.List.{append_cancel_right, length-append, take-set, drop-set-lt, get_or-set_same}
 use Rattle.fc_tree_node.specs.Weave.{weave, before_list, after_list}
 use Rattle.fc_tree_node.specs.declared.node.Node.{Node, out-Node, roll-Node}
 use Rattle.fc_tree_node.specs.Node.{own_pairs, children_of, child_at, pairs_of, IsLevelled}
@@ -26,21 +26,6 @@ order (suc i) (suc j) = one (order i j)
     one (inr h) = inr (omega arith)
 
 module _ {X : Type 0} where
-  take_set : (xs : List X) (i : ℕ) (x : X) → take i (slice_set xs i x) ≡ take i xs
-  take_set [] i x = refl
-  take_set (y ∷ xs) zero x = refl
-  take_set (y ∷ xs) (suc i) x = ap (λ zs. y ∷ zs) (take_set xs i x)
-
-  drop_set : (xs : List X) (i : ℕ) (x : X) → drop (suc i) (slice_set xs i x) ≡ drop (suc i) xs
-  drop_set [] i x = refl
-  drop_set (y ∷ xs) zero x = refl
-  drop_set (y ∷ xs) (suc i) x = drop_set xs i x
-
-  get_set : (xs : List X) (i : ℕ) (x d : X) → i < length xs → get_or (slice_set xs i x) i d ≡ x
-  get_set [] i x d h = absurd (omega arith)
-  get_set (y ∷ xs) zero x d h = refl
-  get_set (y ∷ xs) (suc i) x d h = get_set xs i x d (omega arith)
-
   drop_more : (i : ℕ) (xs : List X) → drop (suc i) xs ≡ drop 1 (drop i xs)
   drop_more zero xs = refl
   drop_more (suc i) [] = refl
@@ -61,15 +46,11 @@ module _ {X : Type 0} where
       cc
 
 module _ {K V : Type 0} where
-  take_value : (s : List (K × V)) (i : ℕ) (w : V) → take i (set_value s i w) ≡ take i s
-  take_value [] i w = refl
-  take_value (e ∷ s) zero w = refl
-  take_value (e ∷ s) (suc i) w = ap (λ zs. e ∷ zs) (take_value s i w)
-
-  drop_value : (s : List (K × V)) (i : ℕ) (w : V) → drop (suc i) (set_value s i w) ≡ drop (suc i) s
-  drop_value [] i w = refl
-  drop_value (e ∷ s) zero w = refl
-  drop_value (e ∷ s) (suc i) w = drop_value s i w
+  -- A value stands alone: what is before it and after it stays.
+  around_value : (s : List (K × V)) (i : ℕ) (w : V) → (take i (set_value s i w) ≡ take i s) × (drop (suc i) (set_value s i w) ≡ drop (suc i) s)
+  around_value [] i w = (refl, refl)
+  around_value (e ∷ s) zero w = (refl, refl)
+  around_value (e ∷ s) (suc i) w = let r = around_value s i w in (ap (λ zs. e ∷ zs) r.0, r.1)
 
   get_value : (s : List (K × V)) (i : ℕ) (w : V) (e d : K × V) → i < length s → e ≡ get_or s i e → get_or (set_value s i w) i d ≡ (e.0, w)
   get_value [] i w e d h p = absurd (omega arith)
@@ -143,19 +124,20 @@ module _ {K V : Type 0} where
 
     pub child_before : before_child m i ≡ before_child n i
     child_before =
-        ap (λ ds. before_list (map pairs_of ds) (take i (own_pairs m))) (ap (take i) (child_children n i c) ∙ take_set (children_of n) i c)
+        ap (λ ds. before_list (map pairs_of ds) (take i (own_pairs m))) (ap (take i) (child_children n i c) ∙ take-set (children_of n) i c)
         ∙ ap (λ ps. before_list (map pairs_of (take i (children_of n))) (take i ps)) (child_own n i c)
 
     pub child_after_child : after_child m i ≡ after_child n i
     child_after_child =
-        ap (λ ds. after_list (drop i (own_pairs m)) (map pairs_of ds)) (ap (drop (suc i)) (child_children n i c) ∙ drop_set (children_of n) i c)
+        ap (λ ds. after_list (drop i (own_pairs m)) (map pairs_of ds)) (ap (drop (suc i)) (child_children n i c)
+        ∙ drop-set-lt (suc i) (children_of n) i c (omega arith))
         ∙ ap (λ ps. after_list (drop i ps) (map pairs_of (drop (suc i) (children_of n)))) (child_own n i c)
 
     pub child_there : i < length (children_of n) → child_at m i ≡ c
-    child_there lt = ap (λ ds. get_or ds i m) (child_children n i c) ∙ get_set (children_of n) i c m lt
+    child_there lt = ap (λ ds. get_or ds i m) (child_children n i c) ∙ get_or-set_same (children_of n) i c m lt
 
     pub child_after : drop (suc i) (children_of m) ≡ drop (suc i) (children_of n)
-    child_after = ap (drop (suc i)) (child_children n i c) ∙ drop_set (children_of n) i c
+    child_after = ap (drop (suc i)) (child_children n i c) ∙ drop-set-lt (suc i) (children_of n) i c (omega arith)
 
     pub child_levels : (h : ℕ) → IsLevelled (suc h) n → IsBelow h c → IsLevelled (suc h) m
     child_levels h l b =
@@ -180,7 +162,7 @@ module _ {K V : Type 0} where
     pub value_before : before_own v i ≡ before_own n i
     value_before =
         ap (λ cs. weave (map pairs_of (take (suc i) cs)) (take i (own_pairs v))) (value_children n i w)
-        ∙ ap (weave (map pairs_of (take (suc i) (children_of n)))) (ap (take i) (value_own n i w) ∙ take_value (own_pairs n) i w)
+        ∙ ap (weave (map pairs_of (take (suc i) (children_of n)))) (ap (take i) (value_own n i w) ∙ (around_value (own_pairs n) i w).0)
 
     pub value_there : (e d : K × V) → i < length (own_pairs n) → e ≡ get_or (own_pairs n) i e → get_or (own_pairs v) i d ≡ (e.0, w)
     value_there e d lt p = ap (λ s. get_or s i d) (value_own n i w) ∙ get_value (own_pairs n) i w e d lt p
@@ -189,7 +171,7 @@ module _ {K V : Type 0} where
     value_length = ap length (value_own n i w) ∙ length_value (own_pairs n) i w
 
     pub value_after : drop (suc i) (own_pairs v) ≡ drop (suc i) (own_pairs n)
-    value_after = ap (drop (suc i)) (value_own n i w) ∙ drop_value (own_pairs n) i w
+    value_after = ap (drop (suc i)) (value_own n i w) ∙ (around_value (own_pairs n) i w).1
 
     pub value_levels : (h : ℕ) → IsLevelled h n → IsLevelled h v
     value_levels zero l = let e = value_length in (omega (arith, l.0), field_made _ ∙ l.1)

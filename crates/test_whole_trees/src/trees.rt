@@ -114,8 +114,9 @@ fn is_grown(alloc: Global, n: u64, end: u64) -> Result<bool, TryReserveError> {
     if !grows(&mut tree, 0, n)? {
         return Ok(false);
     }
-    let mut again = Growing::over(alloc, tree.finish());
-    if !grows(&mut again, n, end)? {
+    let len = tree.len();
+    let mut again = Growing::over(alloc, tree.finish(), len);
+    if !grows(&mut again, n, end)? || len as u64 != n || again.len() as u64 != end {
         return Ok(false);
     }
     Ok(is_sound(&again.finish(), 0, end))

@@ -7,32 +7,33 @@ ghost use Rattle.fc_base.specs.Growth.{MayGrowRefuse};
 ghost use Rattle.fc_base.specs.OneKey.{put};
 ghost use Rattle.fc_base.specs.Parts.{at};
 ghost use Rattle.fc_map.specs.Entries.{entries, IsSoundMap};
-ghost use Rattle.fc_map.specs.Extension.{pairs_so_far, IsExtension};
+ghost use Rattle.fc_map.specs.Extension.{IsExtension};
 
 use super::{BTreeMap, for_sets};
 use fc_base::{Count, TryReserveError};
 use fc_tree_build::growing::Growing;
+use fc_tree_node::node::CAPACITY;
 use std::marker::Model;
 use std::mem;
 
-/// A map while it is extended, seen as the list of its pairs: its tree is open at its right edge until an item comes that doesn't lie behind
-/// the last one, and from then on each item is inserted from the root.
+/// A map while it is extended, seen as the list of its pairs: they stand in a tree that is open at its right edge, until an item comes that
+/// doesn't lie behind the last one; then they stand in the map, and from there on each item is inserted from the root.
 #[derive(Drop)]
 pub struct Extension<K: Ord, V> {
-    tree: Option<Growing<K, V>>,
-    len: usize,
+    tree: Growing<K, V>,
     map: BTreeMap<K, V>,
 }
 
 impl<K: Ord, V> Model for Extension<K, V> {
-    ghost use Rattle.std.specs.Prelude.{List};
-    ghost use Rattle.fc_map.specs.Extension.{pairs_so_far, IsExtension};
+    ghost use Rattle.std.specs.Prelude.{◌++◌, List};
+    ghost use Rattle.fc_map.specs.Entries.{entries};
+    ghost use Rattle.fc_map.specs.Extension.{IsExtension};
 
     ghost Value = { List (K × V) };
 
-    ghost view = { λ e. pairs_so_far e.tree e.map };
+    ghost view = { λ e. e.tree ++ entries e.map };
 
-    ghost invariant = { λ e. IsExtension K.cmp e.tree e.len e.map };
+    ghost invariant = { λ e. IsExtension K.cmp e.tree (entries e.map) };
 }
 
 impl<K: Ord + Drop, V: Drop> Extension<K, V> {
@@ -41,16 +42,22 @@ impl<K: Ord + Drop, V: Drop> Extension<K, V> {
         ensures { result ≡ entries map.old }
     {
         let alloc = map.alloc;
-        let root = map.root.take();
+        let mut map = mem::replace(map, BTreeMap::new(alloc));
+        if map.len > usize::MAX - CAPACITY {
+            return Extension {
+                tree: Growing::new(alloc),
+                map,
+            };
+        }
         let len = mem::replace(&mut map.len, 0);
+        let root = map.root.take();
         Extension {
-            tree: Some(Growing::over(alloc, root)),
-            len,
-            map: BTreeMap::new(alloc),
+            tree: Growing::over(alloc, root, len),
+            map,
         }
     }
 
-    /// Puts the item in, as `BTreeMap::try_insert`: by one comparison with the last key where all items so far came in ascending order.
+    /// Puts the item in, as `BTreeMap::try_insert`: by a comparison or two with the last key where all items so far came in ascending order.
     ///
     /// # Errors
     /// As `BTreeMap::try_insert`. The item is dropped.
@@ -60,16 +67,16 @@ impl<K: Ord + Drop, V: Drop> Extension<K, V> {
         ensures new_key { IfErr result (λ _. at K.cmp self.old key ≡ None) }
         ensures error { IfErr result (λ e. MayGrowRefuse (length self.old) e) }
     {
-        match &mut self.tree {
-            None => self.map.put(key, value, &mut Count::new()),
-            Some(tree) => {
-                if is_behind(tree, &key) {
-                    return push_behind(tree, &mut self.len, key, value);
-                }
-                close(&mut self.tree, self.len, &mut self.map);
-                self.map.put(key, value, &mut Count::new())
-            }
+        let Some((key, value)) = self.tree.put_if_behind((key, value)) else {
+            return Ok(());
+        };
+        if is_behind(&self.tree, &self.map, &key) {
+            return push_behind(&mut self.tree, key, value);
         }
+        if self.map.is_empty() {
+            close(&mut self.tree, &mut self.map);
+        }
+        self.map.put(key, value, &mut Count::new())
     }
 
     /// The map of all pairs.
@@ -78,71 +85,57 @@ impl<K: Ord + Drop, V: Drop> Extension<K, V> {
         ensures ascending { IsAscending K.cmp (entries result) }
         ensures sound { IsSoundMap result }
     {
-        let Extension { tree, len, map } = self;
-        match tree {
-            None => {
-                // Shows that the map is ascending and sound.
-                let _len = map.len();
-                map
-            }
-            Some(tree) => for_sets::from_grown(map.alloc, tree, len),
+        let Extension { tree, map } = self;
+        if map.is_empty() {
+            return for_sets::from_grown(map.alloc, tree);
         }
+        map
     }
 }
 
-// Whether the key lies behind all keys of the tree: it is compared with the last one.
-fn is_behind<K: Ord, V>(tree: &Growing<K, V>, key: &K) -> bool
-    requires ascending { IsAscending K.cmp tree.now }
-    ensures { IsTrue result → AllByRecursion (λ e. K.cmp e.0 key.now ≡ Less) tree.now }
+// Whether the map has no pair, and the key lies behind all keys of the tree: it is compared with the last one.
+fn is_behind<K: Ord, V>(tree: &Growing<K, V>, map: &BTreeMap<K, V>, key: &K) -> bool
+    requires { IsExtension K.cmp tree.now (entries map.now) }
+    ensures behind { IsTrue result → AllByRecursion (λ e. K.cmp e.0 key.now ≡ Less) tree.now }
+    ensures open { IsTrue result → entries map.now ≡ [] }
 {
     match tree.last() {
-        None => true,
+        None => map.is_empty(),
         Some(last) => last.0.cmp(key).is_lt(),
     }
 }
 
-// Puts a pair behind all others.
+// Puts a pair behind all others. It is not inlined, since the pairs that a leaf has room for would then pay for its locals.
+#[inline(never)]
 fn push_behind<K: Ord + Drop, V: Drop>(
     tree: &mut Growing<K, V>,
-    len: &mut usize,
     key: K,
     value: V,
 ) -> Result<(), TryReserveError>
     requires ascending { IsAscending K.cmp tree.old }
     requires behind { AllByRecursion (λ e. K.cmp e.0 key ≡ Less) tree.old }
-    requires len { len.old ≡ length tree.old }
     ensures put { IfOk result (λ _. tree.new ≡ put K.cmp tree.old key value) }
     ensures ascending { IsAscending K.cmp tree.new }
-    ensures len { len.new ≡ length tree.new }
     ensures unchanged { IfErr result (λ _. tree.new ≡ tree.old) }
     ensures new_key { IfErr result (λ _. at K.cmp tree.old key ≡ None) }
     ensures error { IfErr result (λ e. MayGrowRefuse (length tree.old) e) }
 {
-    if *len == usize::MAX {
+    if tree.len() == usize::MAX {
         return Err(TryReserveError::CapacityOverflow);
     }
-    match tree.put((key, value)) {
-        Ok(()) => {
-            *len += 1;
-            Ok(())
-        }
-        Err(error) => Err(error),
+    match tree.push((key, value)) {
+        Ok(()) => Ok(()),
+        Err((_pair, error)) => Err(error),
     }
 }
 
-// Makes the map of the tree's pairs, if the tree is still open.
-fn close<K: Ord + Drop, V: Drop>(
-    tree: &mut Option<Growing<K, V>>,
-    len: usize,
-    map: &mut BTreeMap<K, V>,
-)
-    requires { IsExtension K.cmp tree.old len map.old }
-    ensures pairs { entries map.new ≡ pairs_so_far tree.old map.old }
-    ensures closed { tree.new ≡ None }
+// Moves the tree's pairs into the map, which has none.
+#[cold]
+fn close<K: Ord + Drop, V: Drop>(tree: &mut Growing<K, V>, map: &mut BTreeMap<K, V>)
+    requires { IsAscending K.cmp tree.old }
+    ensures pairs { entries map.new ≡ tree.old }
+    ensures closed { tree.new ≡ [] }
 {
-    let alloc = map.alloc;
-    match tree.take() {
-        None => (),
-        Some(tree) => *map = for_sets::from_grown(alloc, tree, len),
-    }
+    let grown = mem::replace(tree, Growing::new(map.alloc));
+    *map = for_sets::from_grown(map.alloc, grown);
 }

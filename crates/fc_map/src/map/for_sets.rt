@@ -88,16 +88,12 @@ pub fn allocator<K: Ord, V>(map: &BTreeMap<K, V>) -> Global {
 }
 
 /// A map of the pairs of the tree, which ascend. It takes no memory, compares nothing and moves no pair.
-pub fn from_grown<K: Ord + Drop, V: Drop>(
-    alloc: Global,
-    tree: Growing<K, V>,
-    len: usize,
-) -> BTreeMap<K, V>
-    requires ascending { IsAscending K.cmp tree }
-    requires len { len ≡ length tree }
+pub fn from_grown<K: Ord + Drop, V: Drop>(alloc: Global, tree: Growing<K, V>) -> BTreeMap<K, V>
+    requires { IsAscending K.cmp tree }
     ensures pairs { entries result ≡ tree }
     ensures sound { IsSoundMap result }
 {
+    let len = tree.len();
     BTreeMap {
         root: tree.finish(),
         len,

@@ -70,15 +70,14 @@ fn try_filled<'a, T: Ord + TryClone + 'a, I: Iterator<Item = &'a T> + Drop>(
     ensures sound { IfOk result (λ made. IsSoundMap made) }
 {
     let mut builder = Growing::new(alloc);
-    let mut count = 0usize;
     for item in walk {
         let copy = item.try_clone()?;
         match builder.push((copy, ())) {
-            Ok(()) => count += 1,
+            Ok(()) => (),
             Err((_pair, error)) => return Err(error),
         }
     }
     Ok(BTreeSet {
-        map: for_sets::from_grown(alloc, builder, count),
+        map: for_sets::from_grown(alloc, builder),
     })
 }

@@ -2,7 +2,8 @@ use Rattle.std.proofs.Common.{◌≡◌, ◌-◌, length, slice_get, Some, sym, 
 use Rattle.fc_tree_node.specs.Node.{pairs_of}
 use Rattle.fc_tree_node.specs.Tree.{entries}
 use Rattle.fc_tree_border.proofs.Cuts.{root_sound}
-use Rattle.fc_tree_append.proofs.Beyond.{less_if, both_ascend}
+use Rattle.fc_tree_build.proofs.Ends.{less_if}
+use Rattle.fc_tree_append.proofs.Beyond.{both_ascend}
 use Rattle.fc_tree_append.proofs.append.is_beyond.Goals as goal
 
 pub last_pair-requires : goal.last_pair-requires

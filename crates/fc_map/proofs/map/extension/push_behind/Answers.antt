@@ -9,7 +9,7 @@ pub returns-in-Ok-clause-put : goal.returns-in-Ok-clause-put
 returns-in-Ok-clause-put g c = c.in-Ok.ensures.pairs ∙ sym (put_behind g.K.Ord.cmp c.args.tree.now c.args.key c.args.value c.requires.behind).0
 
 pub returns-in-Ok-clause-ascending : goal.returns-in-Ok-clause-ascending
-returns-in-Ok-clause-ascending g c = ascending_behind g.K.Ord.cmp c.args.tree.now c.put.new.self c.args.key c.args.value g.met.K.Ord.total
+returns-in-Ok-clause-ascending g c = ascending_behind g.K.Ord.cmp c.args.tree.now c.push.new.self c.args.key c.args.value g.met.K.Ord.total
     c.in-Ok.ensures.pairs c.requires.behind c.requires.ascending
 
 pub returns-in-Err-clause-new_key : goal.returns-in-Err-clause-new_key

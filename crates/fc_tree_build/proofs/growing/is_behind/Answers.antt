@@ -1,0 +1,16 @@
+use Rattle.std.proofs.Common.{◌-◌, take, sym, ◌∙◌, arith}
+use Rattle.fc_tree_node.specs.Node.{own_pairs}
+use Rattle.fc_tree_build.proofs.Ends.{last_taken, less_if}
+use Rattle.fc_tree_build.proofs.growing.is_behind.Goals as goal
+
+pub returns : goal.returns
+returns g c less =
+    let v = c.len.ensures.value in
+    let some = c.requires in
+    let own = own_pairs c.args.leaf.now in
+    let i = c.len.result - 1 in (
+      take i own,
+      c.pair.result.now,
+      last_taken own i c.pair.result.now (omega arith) c.pair.ensures,
+      sym c.cmp.ensures ∙ less_if _ _ c.is_lt.ensures less,
+    )
