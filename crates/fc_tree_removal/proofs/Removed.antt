@@ -290,6 +290,14 @@ place_step (i ∷ j ∷ p) n h w =
     }
 
 module _ {K V : Type 0} where
+  -- the child on the way to a pair
+  pub lent_onward : (h : ℕ) (p : List ℕ) (n child : Node K V) (cs : List (Node K V)) → IsPlaceStep p n → (out-Node K V n).children ≡ Some cs → IsLevelled h n
+      → child ≡ get_or cs (get_or p 0 0) child → IsLent h n child (get_or p 0 0)
+  lent_onward h p n child cs s e l q =
+      let k : length (children_of n) ≡ length (own_pairs n) + 1 = (some_above h n cs e l).inner in
+      let lt = s.child in
+      lent h n child cs _ e l (omega arith) q
+
   -- a pair was removed below a child
   pub below_removed : (p : List ℕ) (old mid child c : Node K V) → IsPlaceStep p old → IsInner old → IsChildSet old mid (get_or p 0 0) c
       → child ≡ child_at old (get_or p 0 0)

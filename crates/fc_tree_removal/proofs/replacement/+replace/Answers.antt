@@ -1,7 +1,7 @@
-use Rattle.std.proofs.Common.{◌≡◌, ℕ, ◌+◌, length, get_or, arith}
-use Rattle.fc_tree_node.specs.Node.{own_pairs, children_of, IsLevelled}
+use Rattle.std.proofs.Common.{ℕ, get_or, arith}
+use Rattle.fc_tree_node.specs.Node.{IsLevelled}
 use Rattle.fc_tree_node.proofs.Made.{child_set}
-use Rattle.fc_tree_removal.proofs.Removed.{some_above, IsLent, lent, IsPlaceStep, place_step}
+use Rattle.fc_tree_removal.proofs.Removed.{IsLent, lent_onward, IsPlaceStep, place_step}
 use Rattle.fc_tree_removal.proofs.Replaced.{below_levels, below_pairs}
 use Rattle.fc_tree_removal.proofs.replacement.+replace.Given as given
 use Rattle.fc_tree_removal.proofs.replacement.+replace.Goals as goal
@@ -12,11 +12,7 @@ step g t c = place_step c.args.path.now c.args.node.now c.if-path-eq1.false c.re
 
 child : (g : given.Over) (t : ℕ) (c : After-get_mut-child g t) (h : ℕ) → IsLevelled h c.args.node.now
     → IsLent h c.args.node.now c.get_mut-child.result.now (get_or c.args.path.now 0 0)
-child g t c h l =
-    let n = c.args.node.now in
-    let k : length (children_of n) ≡ length (own_pairs n) + 1 = (some_above h n _ c.in-Some.is l).inner in
-    let lt = (step g t c).child in
-    lent h n _ _ _ c.in-Some.is l (omega arith) c.get_mut-child.ensures.value
+child g t c h l = lent_onward h c.args.path.now _ _ _ (step g t c) c.in-Some.is l c.get_mut-child.ensures.value
 
 pub returns-clause-pairs : goal.returns-clause-pairs
 returns-clause-pairs g t c =
