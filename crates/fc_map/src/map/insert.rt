@@ -173,7 +173,7 @@ impl<K: Ord + Drop, V: Drop> BTreeMap<K, V> {
 
     // Puts a pair with a new key into the gap that the path leads to, whose leaf has room. The path then leads to the pair.
     #[inline(always)]
-    fn insert_in_room(&mut self, path: &Path, pair: (K, V), count: &mut Count)
+    pub(crate) fn insert_in_room(&mut self, path: &Path, pair: (K, V), count: &mut Count)
         requires gap { IsOpenAt K.cmp pair.0 self.old path.now }
         requires room { TellsRoom true path.now self.old }
         requires fits { length (entries self.old) < usize.MAX }

@@ -53,6 +53,9 @@ impl<K: Ord + Drop, V: Drop> BTreeMap<K, V> {
         let Some(root) = &mut self.root else {
             return self.start(path, pair, new_nodes, count);
         };
+        if new_nodes.len() == 0 {
+            return self.insert_in_room(path, pair, count);
+        }
         insert_ready(root, path, pair, new_nodes, count);
         self.len += 1;
     }
