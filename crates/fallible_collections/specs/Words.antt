@@ -29,8 +29,10 @@ pub use Rattle.fc_hash.specs.EqualMaps.{equal_maps_per}
 -- maps, their entries and walks
 pub use Rattle.fc_map.specs.Entries.{Map, entries, IsSoundMap, passed_in, now_value, now_pair}
 pub use Rattle.fc_map.specs.Counts.{IsBounded}
-pub use Rattle.fc_map.specs.LendsKey.{lends_get, lent_value, written_at}
-pub use Rattle.fc_map.specs.Entry.{entry_map, entry_map_ref, entry_key, entry_pair, entry_value, list_with, list_without, IsWritten, IsFirstOf, IsLastOf, map_written, entry_lends_ok, occupied_lends, occupied_lends_whole, rests_if_none, rests_if_refused}
+pub use Rattle.fc_map.specs.LendsKey.{path_in, lends_get, lent_value, written_at}
+pub use Rattle.fc_map.specs.Full.{IsFullAt, TakesNode}
+pub use Rattle.fc_map.specs.Fewest.{fewest_moves, root_len, HasFewestMoves}
+pub use Rattle.fc_map.specs.Entry.{entry_map, entry_map_ref, entry_path, entry_key, entry_pair, entry_value, list_with, list_without, IsWritten, IsFirstOf, IsLastOf, map_written, entry_lends_ok, occupied_lends, occupied_lends_whole, rests_if_none, rests_if_refused}
 pub use Rattle.fc_map.specs.ReadyEntry.{ready_map_ref, ready_map, ready_key, ready_list_with, ready_lends, rests_if_not_ready}
 pub use Rattle.fc_map.specs.Room.{Places, room_error}
 pub use Rattle.fc_map.specs.Walks.{deref_pair, keys_of, values_of}

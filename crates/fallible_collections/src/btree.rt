@@ -1,6 +1,7 @@
 //! Ordered collections.
 
-pub use fc_map::map;
-pub use fc_map::map::BTreeMap;
+pub mod map;
+
 pub use fc_set::set;
 pub use fc_set::set::BTreeSet;
+pub use map::BTreeMap;

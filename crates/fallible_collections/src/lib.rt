@@ -7,12 +7,13 @@
 #![tactic(auto)]
 
 pub mod btree;
+pub mod count;
 pub mod format;
 pub mod vec;
 
 pub use fc_base::{
-    FallibleBox, FallibleRc, Query, TryBox, TryClone, TryReserveError, boxed, count, query, rc,
-    try_clone, try_reserve_error,
+    FallibleBox, FallibleRc, Query, TryBox, TryClone, TryReserveError, boxed, query, rc, try_clone,
+    try_reserve_error,
 };
 pub use fc_command::command;
 pub use fc_hash::{TryHashMap, hashmap};

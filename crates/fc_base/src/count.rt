@@ -36,14 +36,14 @@ impl Count {
     fn record(&mut self, comparisons: u64, moves: u64)
         ensures { (self.new.comparisons ≡ self.old.comparisons + comparisons) × (self.new.moves ≡ self.old.moves + moves) }
     {}
+}
 
-    /// Adds moves. Only the modules `cells` and `slots` of `fc_tree_slots` may do so.
-    pub fn add_moves(&mut self, moves: usize)
-        ensures comparisons { self.new.comparisons ≡ self.old.comparisons }
-        ensures moves { self.new.moves ≡ self.old.moves + moves }
-    {
-        self.record(0, moves as u64)
-    }
+/// Adds moves. Only the modules `cells` and `slots` of `fc_tree_slots` may do so.
+pub fn add_moves(count: &mut Count, moves: usize)
+    ensures comparisons { count.new.comparisons ≡ count.old.comparisons }
+    ensures moves { count.new.moves ≡ count.old.moves + moves }
+{
+    count.record(0, moves as u64)
 }
 
 /// How the key stands to the query. It adds one comparison to the count.

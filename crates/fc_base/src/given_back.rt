@@ -12,6 +12,15 @@ impl<K: Drop, V: Drop> From<(K, V, TryReserveError)> for TryReserveError {
     }
 }
 
+/// Why an insertion of two pairs was refused. The keys and the values that it handed back are dropped.
+impl<K: Drop, V: Drop, L: Drop, W: Drop> From<(K, V, L, W, TryReserveError)> for TryReserveError {
+    ghost from_gives = { λ back e. e ≡ back.4 };
+
+    fn from(back: (K, V, L, W, TryReserveError)) -> TryReserveError {
+        back.4
+    }
+}
+
 /// Why an insertion of an item was refused. The item that it handed back is dropped.
 impl<T: Drop> From<(T, TryReserveError)> for TryReserveError {
     ghost from_gives = { λ back e. e ≡ back.1 };

@@ -5,8 +5,8 @@ use Rattle.std.specs.declared.cmp.Ordering.{Ordering}
 use Rattle.fc_base.specs.declared.try_reserve_error.TryReserveError.{TryReserveError}
 use Rattle.std.specs.declared.ops.Bound.TheVariants.{Included, Excluded, Unbounded}
 use Rattle.fc_lines.specs.declared.command.End.TheVariants.{Front, Back}
-use Rattle.fc_lines.specs.declared.command.MapCommand.TheVariants.{Insert, Get, Remove, Len as CountPairs, Walk, Write, Append, SplitOff, TryClone, Extend}
-use Rattle.fc_lines.specs.declared.command.MapCommand.TheVariants.{InsertBoth}
+use Rattle.fc_command.specs.declared.command.kinds.MapCommand.TheVariants.{Insert, Get, Remove, Len as CountPairs, Walk, Write, Append, SplitOff}
+use Rattle.fc_command.specs.declared.command.kinds.MapCommand.TheVariants.{TryClone, Extend, InsertBoth}
 use Rattle.fc_lines.specs.declared.command.Reply.TheVariants.{Done, Value, Len, Pairs, BadRange, Both}
 use Rattle.fc_command.specs.Step.{answer, MustRefuse, MayRefuseCommand, MayStop}
 use Rattle.fc_map.specs.Writing.{wrote}

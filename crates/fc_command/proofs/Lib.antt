@@ -2,6 +2,7 @@ mod CopyFacts
 mod CutFacts
 mod ExampleFacts
 mod ItemFacts
+mod KindFacts
 mod OperationFacts
 mod ReplyFacts
 mod RunFacts

@@ -7,8 +7,8 @@ use Rattle.std.specs.declared.ops.Bound.TheVariants.{Included, Excluded, Unbound
 use Rattle.fc_base.specs.declared.try_reserve_error.TryReserveError.{TryReserveError}
 use Rattle.fc_lines.specs.declared.command.End.TheVariants.{Front, Back}
 use Rattle.fc_lines.specs.declared.command.SetOp.TheVariants.{Difference, SymmetricDifference, Intersection, Union}
-use Rattle.fc_lines.specs.declared.command.SetCommand.TheVariants.{AddItem, ReplaceItem, TakeItem, RemoveItem, SetAppend, SetSplitOff, SetExtend, SetWalk}
-use Rattle.fc_lines.specs.declared.command.SetCommand.TheVariants.{List as ListItems, Keep, IsDisjoint, IsSubset, IsSuperset, SetCmp}
+use Rattle.fc_command.specs.declared.command.kinds.SetCommand.TheVariants.{AddItem, ReplaceItem, TakeItem, RemoveItem, SetAppend, SetSplitOff, SetExtend}
+use Rattle.fc_command.specs.declared.command.kinds.SetCommand.TheVariants.{SetWalk, List as ListItems, Keep, IsDisjoint, IsSubset, IsSuperset, SetCmp}
 use Rattle.fc_lines.specs.declared.command.Reply.TheVariants.{Done, Flag, Key, Keys, Order, BadRange}
 use Rattle.fc_command.specs.SetStep.{answer_on_sets, MayRefuseOnSets, MayStopOnSets}
 

@@ -1,3 +1,4 @@
+pub mod Kinds
 pub mod Session
 pub mod Spoken
 pub mod SetStep

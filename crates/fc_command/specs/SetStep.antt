@@ -13,8 +13,8 @@ use Rattle.fc_set.specs.Items.{items, item_at, smaller, not_smaller, without, wi
 use Rattle.fc_set.specs.Operations.{difference, symmetric_difference, intersection, union}
 use Rattle.fc_lines.specs.declared.command.SetOp.{SetOp}
 use Rattle.fc_lines.specs.declared.command.SetOp.TheVariants.{Difference, SymmetricDifference, Intersection, Union}
-use Rattle.fc_lines.specs.declared.command.SetCommand.{SetCommand}
-use Rattle.fc_lines.specs.declared.command.SetCommand.TheVariants.{AddItem, ReplaceItem, TakeItem, RemoveItem, ContainsItem, GetItem, SetLen, SetClear, SetAppend, SetSplitOff, SetClone, SetExtend, SetWalk, List as ListItems, Keep, IsDisjoint, IsSubset, IsSuperset, SetCmp}
+use Rattle.fc_command.specs.declared.command.kinds.SetCommand.{SetCommand}
+use Rattle.fc_command.specs.declared.command.kinds.SetCommand.TheVariants.{AddItem, ReplaceItem, TakeItem, RemoveItem, ContainsItem, GetItem, SetLen, SetClear, SetAppend, SetSplitOff, SetClone, SetExtend, SetWalk, List as ListItems, Keep, IsDisjoint, IsSubset, IsSuperset, SetCmp}
 use Rattle.fc_lines.specs.declared.command.Reply.{Reply}
 use Rattle.fc_lines.specs.declared.command.Reply.TheVariants.{Done, Flag, Key, Keys, Len, Order, BadRange, Refused, ItemGivenBack}
 use Rattle.fc_command.specs.Walks.{walked, MayRefuseFound}

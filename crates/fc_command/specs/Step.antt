@@ -17,11 +17,13 @@ use Rattle.fc_command.specs.declared.command.world.World.{World}
 use Rattle.fc_lines.specs.declared.command.Side.{Side}
 use Rattle.fc_lines.specs.declared.command.Side.TheVariants.{First, Second}
 use Rattle.fc_lines.specs.declared.command.Command.{Command}
-use Rattle.fc_lines.specs.declared.command.Command.TheVariants.{OnMap, OnSet}
-use Rattle.fc_lines.specs.declared.command.MapCommand.{MapCommand}
-use Rattle.fc_lines.specs.declared.command.MapCommand.TheVariants.{Insert, Get, GetKeyValue, ContainsKey, Remove, Set, Entry, RemoveEntry, Len as CountPairs, Clear, Walk, Write, Append, SplitOff, TryClone, Extend, InsertBoth}
+use Rattle.fc_command.specs.declared.command.kinds.MapCommand.{MapCommand}
+use Rattle.fc_command.specs.declared.command.kinds.MapCommand.TheVariants.{Insert, Get, GetKeyValue, ContainsKey, Remove, Set, Entry, RemoveEntry, Len as CountPairs, Clear, Walk, Write, Append, SplitOff, TryClone, Extend, InsertBoth}
 use Rattle.fc_lines.specs.declared.command.Reply.{Reply}
 use Rattle.fc_lines.specs.declared.command.Reply.TheVariants.{Done, Flag, Value, Pair, Len, Pairs, BadRange, Refused, GivenBack, Both, BothGivenBack}
+use Rattle.fc_command.specs.declared.command.kinds.Kind.{Kind}
+use Rattle.fc_command.specs.declared.command.kinds.Kind.TheVariants.{OnMaps, OnSets}
+use Rattle.fc_command.specs.Kinds.{kind_of}
 use Rattle.fc_command.specs.SetStep.{StepOnSets}
 use Rattle.fc_command.specs.Walks.{walked, MayRefuseFound}
 use Rattle.fc_command.specs.Writing.{rewritten}
@@ -127,11 +129,15 @@ module _ {K V : Type 0} (cmp : K → K → Ordering) (refuses_key : K → TryRes
     refused : (e : TryReserveError) → MayRefuseCommand c (entries m) (entries o) e → (r ≡ refusal c e) × (m' ≡ m) × (o' ≡ o) → StepOn c m o r m' o'
     stopped : (e : TryReserveError) → MayStop cmp c (entries m) (entries m') e → (r ≡ Refused e) × (o' ≡ o) → StepOn c m o r m' o'
 
-  -- A command may lead from one world to another with this reply. The maps or sets of the other kind are as before.
-  abbrev pub Step : World K V → Command K V → Reply K V → World K V → Type 0
-  Step w (OnMap side c) r w' = StepOn c (named side w) (other side w) r (named side w') (other side w') × (w'.s ≡ w.s) × (w'.t ≡ w.t)
-  Step w (OnSet side c) r w' = StepOnSets cmp refuses_key c (named_set side w) (other_set side w) r (named_set side w') (other_set side w')
+  -- The same of what a side names in a world, and of the other one. The sets or the maps are as before.
+  abbrev pub StepKind : World K V → Kind K V → Reply K V → World K V → Type 0
+  StepKind w (OnMaps side c) r w' = StepOn c (named side w) (other side w) r (named side w') (other side w') × (w'.s ≡ w.s) × (w'.t ≡ w.t)
+  StepKind w (OnSets side c) r w' = StepOnSets cmp refuses_key c (named_set side w) (other_set side w) r (named_set side w') (other_set side w')
       × (w'.a ≡ w.a) × (w'.b ≡ w.b)
+
+  -- A command may lead from one world to another with this reply.
+  abbrev pub Step : World K V → Command K V → Reply K V → World K V → Type 0
+  Step w c r w' = StepKind w (kind_of c) r w'
 
   -- The commands may lead from one world to another, with a reply to each.
   abbrev pub Runs : World K V → List (Command K V) → List (Reply K V) → World K V → Type 0

@@ -1,6 +1,7 @@
 //! A map by the hashes of its keys.
-ghost use Rattle.std.specs.Prelude.{◌≡◌, ◌+◌, ◌<◌, ◌≤◌, [], length, None, Some, Option, is_some, if◌then◌else◌, IfOk, OnOk, IfErr, IsOk};
+ghost use Rattle.std.specs.Prelude.{◌≡◌, ◌+◌, ◌^◌, ◌<◌, ◌≤◌, [], length, None, Some, Option, is_some, if◌then◌else◌, IfOk, OnOk, IfErr, IsOk};
 ghost use Rattle.std.specs.Option.{option_copied};
+ghost use Rattle.fc_base.specs.Growth.{append_error};
 ghost use Rattle.fc_hash.specs.Pairs.{IsMap, value_at, IsPut, IsTaken};
 
 mod compare;
@@ -95,8 +96,8 @@ impl<K: Eq + Hash, V> TryHashMap<K, V> {
     /// no memory. Where there is room, no insertion is refused, and each uses up room for at most one. Upstream: `TryHashMap::insert`.
     ///
     /// # Errors
-    /// `AllocError` where the key is new, there was no room, and memory was refused. The map has then the pairs that it had, and key
-    /// and value are dropped.
+    /// Only where the key is new and there was no room: `CapacityOverflow` exactly where the length plus one passes `usize::MAX`, else
+    /// `AllocError`. The map has then the pairs that it had, and key and value are dropped.
     pub fn insert(&mut self, key: K, value: V) -> Result<Option<V>, TryReserveError>
     where
         K: Drop,
@@ -104,10 +105,13 @@ impl<K: Eq + Hash, V> TryHashMap<K, V> {
         ensures put { IfOk result (λ old. IsPut K.eq key value old self.old.pairs self.new.pairs) }
         ensures values { OnOk result ((q : K) → value_at K.eq q self.new.pairs ≡ (if K.eq key q then Some value else value_at K.eq q self.old.pairs)) }
         ensures map { IsMap K.eq self.new.pairs }
+        ensures length { length self.new.pairs < 2 ^ 64 }
         ensures fits { 0 < self.old.spare → IsOk result }
         ensures kept { self.old.spare ≤ self.new.spare + 1 }
-        ensures error { IfErr result (λ e. (self.old.spare ≡ 0) × (value_at K.eq key self.old.pairs ≡ None) × (e ≡ TryReserveError.AllocError) × (self.new.pairs ≡ self.old.pairs)) }
+        ensures error { IfErr result (λ e. (self.old.spare ≡ 0) × (value_at K.eq key self.old.pairs ≡ None) × (e ≡ append_error (length self.old.pairs) 1) × (self.new.pairs ≡ self.old.pairs)) }
     {
+        // std's map never has so many pairs that one more passes the greatest length.
+        let _len = self.inner.len();
         let old = self.inner.insert(key, value)?;
         Ok(old)
     }

@@ -7,12 +7,11 @@ use Rattle.fc_base.specs.declared.try_reserve_error.TryReserveError.TheVariants.
 use Rattle.std.specs.declared.ops.Bound.TheVariants.{Included, Excluded, Unbounded}
 use Rattle.fc_lines.specs.declared.command.Side.TheVariants.{First, Second}
 use Rattle.fc_lines.specs.declared.command.End.TheVariants.{Front, Back}
-use Rattle.fc_lines.specs.declared.command.Command.TheVariants.{OnMap, OnSet}
-use Rattle.fc_lines.specs.declared.command.MapCommand.TheVariants.{Insert, Get, GetKeyValue, ContainsKey, Remove, Set, Entry, RemoveEntry, Len as CountPairs}
-use Rattle.fc_lines.specs.declared.command.MapCommand.TheVariants.{Clear, Walk, Write, Append, SplitOff, TryClone, Extend, InsertBoth}
-use Rattle.fc_lines.specs.declared.command.SetCommand.TheVariants.{AddItem, ReplaceItem, TakeItem, RemoveItem, ContainsItem, GetItem, SetLen, SetClear}
-use Rattle.fc_lines.specs.declared.command.SetCommand.TheVariants.{SetAppend, SetSplitOff, SetClone, SetExtend, SetWalk, List as ListItems, Keep, IsDisjoint}
-use Rattle.fc_lines.specs.declared.command.SetCommand.TheVariants.{IsSubset, IsSuperset, SetCmp}
+use Rattle.fc_lines.specs.declared.command.Command.TheVariants.{Insert, Get, GetKeyValue, ContainsKey, Remove, Set, Entry, RemoveEntry, Len as CountPairs}
+use Rattle.fc_lines.specs.declared.command.Command.TheVariants.{Clear, Walk, Write, Append, SplitOff, TryClone, Extend, InsertBoth}
+use Rattle.fc_lines.specs.declared.command.Command.TheVariants.{AddItem, ReplaceItem, TakeItem, RemoveItem, ContainsItem, GetItem, SetLen, SetClear}
+use Rattle.fc_lines.specs.declared.command.Command.TheVariants.{SetAppend, SetSplitOff, SetClone, SetExtend, SetWalk, List as ListItems, Keep, IsDisjoint}
+use Rattle.fc_lines.specs.declared.command.Command.TheVariants.{IsSubset, IsSuperset, SetCmp}
 use Rattle.fc_lines.specs.declared.command.Reply.TheVariants.{Done, Flag, Value, Pair, Len, Pairs, BadRange, Refused, GivenBack, ItemGivenBack, Both}
 use Rattle.fc_lines.specs.declared.command.Reply.TheVariants.{BothGivenBack, Key, Keys, Order}
 use Rattle.fc_lines.specs.Lines.{lines_of}
@@ -26,15 +25,15 @@ use Rattle.fc_lines.specs.declared.command.SetOp.TheVariants.{Difference, Symmet
 abbrev six : List ℕ
 six = codes "insert a 37 1\ninsert a 037 2\nget a 37\nlen a\nremove a 37\nget b 1\n"
 
-six_commands : map command_of (lines_of six) ≡ Some (OnMap First (Insert 37 1)) ∷ Some (OnMap First (Insert 37 2)) ∷ Some (OnMap First (Get 37))
-    ∷ Some (OnMap First CountPairs)
-    ∷ Some (OnMap First (Remove 37)) ∷ Some (OnMap Second (Get 1)) ∷ []
+six_commands : map command_of (lines_of six) ≡ Some (Insert First 37 1) ∷ Some (Insert First 37 2) ∷ Some (Get First 37)
+    ∷ Some (CountPairs First)
+    ∷ Some (Remove First 37) ∷ Some (Get Second 1) ∷ []
 unfolding command_of on_maps_of on_map_of map_command_of plain_of keyed_of valued_of entry_of map_at number_at
 six_commands = refl
 
 -- The longest number, and one with leading zeros.
-numbers_read : map command_of (codes "get a 18446744073709551615" ∷ codes "get a 00000000000000000001" ∷ []) ≡ Some (OnMap First (Get 18446744073709551615))
-    ∷ Some (OnMap First (Get 1)) ∷ []
+numbers_read : map command_of (codes "get a 18446744073709551615" ∷ codes "get a 00000000000000000001" ∷ []) ≡ Some (Get First 18446744073709551615)
+    ∷ Some (Get First 1) ∷ []
 unfolding command_of on_maps_of on_map_of map_command_of plain_of keyed_of valued_of entry_of map_at number_at
 numbers_read = refl
 
@@ -50,18 +49,18 @@ bad_lines = refl
 
 -- The other commands on one key or one map.
 more_commands : map command_of (codes "pair a 1" ∷ codes "has b 1" ∷ codes "clear b" ∷ codes "set a 1 2" ∷ codes "entry b 1 2 3" ∷ codes "evict a 1" ∷ [])
-    ≡ Some (OnMap First (GetKeyValue 1)) ∷ Some (OnMap Second (ContainsKey 1)) ∷ Some (OnMap Second Clear) ∷ Some (OnMap First (Set 1 2))
-    ∷ Some (OnMap Second (Entry 1 2 3))
-    ∷ Some (OnMap First (RemoveEntry 1)) ∷ []
+    ≡ Some (GetKeyValue First 1) ∷ Some (ContainsKey Second 1) ∷ Some (Clear Second) ∷ Some (Set First 1 2)
+    ∷ Some (Entry Second 1 2 3)
+    ∷ Some (RemoveEntry First 1) ∷ []
 unfolding command_of on_maps_of on_map_of map_command_of plain_of keyed_of valued_of entry_of map_at number_at
 more_commands = refl
 
 -- Walks: bounds, the letters of ends, and writes.
 walk_commands : map command_of (codes "walk a =4 =8 bffb" ∷ codes "walk b !5 !5 f" ∷ codes "walk a * =007 b" ∷ codes "write a =4 * f=9"
     ∷ codes "write b * * f=10 b=30" ∷ [])
-    ≡ Some (OnMap First (Walk (Included 4) (Included 8) (Back ∷ Front ∷ Front ∷ Back ∷ []))) ∷ Some (OnMap Second (Walk (Excluded 5) (Excluded 5) (Front ∷ [])))
-    ∷ Some (OnMap First (Walk Unbounded (Included 7) (Back ∷ [])))
-    ∷ Some (OnMap First (Write (Included 4) Unbounded ((Front, 9) ∷ []))) ∷ Some (OnMap Second (Write Unbounded Unbounded ((Front, 10) ∷ (Back, 30) ∷ []))) ∷ []
+    ≡ Some (Walk First (Included 4) (Included 8) (Back ∷ Front ∷ Front ∷ Back ∷ [])) ∷ Some (Walk Second (Excluded 5) (Excluded 5) (Front ∷ []))
+    ∷ Some (Walk First Unbounded (Included 7) (Back ∷ []))
+    ∷ Some (Write First (Included 4) Unbounded ((Front, 9) ∷ [])) ∷ Some (Write Second Unbounded Unbounded ((Front, 10) ∷ (Back, 30) ∷ [])) ∷ []
 unfolding command_of on_maps_of on_map_of map_command_of walk_of steps_of write_of map_at bound_at
 walk_commands = refl
 
@@ -77,8 +76,8 @@ bad_walks = refl
 
 -- Commands on both maps, and of many pairs.
 map_commands : map command_of (codes "append a" ∷ codes "split b 5" ∷ codes "copy a" ∷ codes "extend b 3 1" ∷ codes "extend a 3 1 5 2 8 3" ∷ [])
-    ≡ Some (OnMap First Append) ∷ Some (OnMap Second (SplitOff 5)) ∷ Some (OnMap First TryClone) ∷ Some (OnMap Second (Extend ((3, 1) ∷ [])))
-    ∷ Some (OnMap First (Extend ((3, 1) ∷ (5, 2) ∷ (8, 3) ∷ []))) ∷ []
+    ≡ Some (Append First) ∷ Some (SplitOff Second 5) ∷ Some (TryClone First) ∷ Some (Extend Second ((3, 1) ∷ []))
+    ∷ Some (Extend First ((3, 1) ∷ (5, 2) ∷ (8, 3) ∷ [])) ∷ []
 unfolding command_of on_maps_of on_map_of map_command_of plain_of keyed_of valued_of entry_of extend_of map_at number_at
 map_commands = refl
 
@@ -95,7 +94,7 @@ bad_map_commands = refl
 -- is too great.
 both_commands : map command_of (codes "both 1 2 5 9" ∷ codes "both 0 00 18446744073709551615 1" ∷ codes "both" ∷ codes "both 1 2 5" ∷ codes "both 1 2 5 9 0"
     ∷ codes "both a 1 2 5 9" ∷ codes "both 1 2 x 9" ∷ codes "both 1 2  5 9" ∷ codes "both 1 2 5 9 " ∷ codes "both 1 2 18446744073709551616 9" ∷ [])
-    ≡ Some (OnMap First (InsertBoth 1 2 5 9)) ∷ Some (OnMap First (InsertBoth 0 0 18446744073709551615 1)) ∷ None ∷ None ∷ None ∷ None ∷ None ∷ None ∷ None
+    ≡ Some (InsertBoth 1 2 5 9) ∷ Some (InsertBoth 0 0 18446744073709551615 1) ∷ None ∷ None ∷ None ∷ None ∷ None ∷ None ∷ None
     ∷ None ∷ []
 unfolding command_of on_maps_of on_map_of map_command_of on_sets_of on_set_of set_command_of plain_on_set_of with_item_of walk_items_of steps_of
     extend_items_of set_at plain_of both_of keyed_of valued_of entry_of map_at number_at
@@ -104,11 +103,11 @@ both_commands = refl
 -- Lines of one set, of a set and an item, and of many items.
 set_commands : map command_of (codes "add s 1" ∷ codes "replace t 02" ∷ codes "take s 3" ∷ codes "drop s 4" ∷ codes "in t 5" ∷ codes "find s 6"
     ∷ codes "len t" ∷ codes "clear s" ∷ codes "append s" ∷ codes "split t 7" ∷ codes "copy s" ∷ codes "extend s 3 1 3" ∷ codes "walk t =4 !8 bf" ∷ [])
-    ≡ Some (OnSet First (AddItem 1)) ∷ Some (OnSet Second (ReplaceItem 2)) ∷ Some (OnSet First (TakeItem 3)) ∷ Some (OnSet First (RemoveItem 4))
-    ∷ Some (OnSet Second (ContainsItem 5))
-    ∷ Some (OnSet First (GetItem 6)) ∷ Some (OnSet Second SetLen) ∷ Some (OnSet First SetClear) ∷ Some (OnSet First SetAppend)
-    ∷ Some (OnSet Second (SetSplitOff 7)) ∷ Some (OnSet First SetClone) ∷ Some (OnSet First (SetExtend (3 ∷ 1 ∷ 3 ∷ [])))
-    ∷ Some (OnSet Second (SetWalk (Included 4) (Excluded 8) (Back ∷ Front ∷ []))) ∷ []
+    ≡ Some (AddItem First 1) ∷ Some (ReplaceItem Second 2) ∷ Some (TakeItem First 3) ∷ Some (RemoveItem First 4)
+    ∷ Some (ContainsItem Second 5)
+    ∷ Some (GetItem First 6) ∷ Some (SetLen Second) ∷ Some (SetClear First) ∷ Some (SetAppend First)
+    ∷ Some (SetSplitOff Second 7) ∷ Some (SetClone First) ∷ Some (SetExtend First (3 ∷ 1 ∷ 3 ∷ []))
+    ∷ Some (SetWalk Second (Included 4) (Excluded 8) (Back ∷ Front ∷ [])) ∷ []
 unfolding command_of on_maps_of on_map_of map_command_of walk_of steps_of extend_of plain_of keyed_of valued_of entry_of map_at number_at bound_at on_sets_of
     on_set_of
     set_command_of plain_on_set_of with_item_of walk_items_of extend_items_of set_at
@@ -117,11 +116,11 @@ set_commands = refl
 -- Lines of two sets.
 operations_read : map command_of (codes "diff s" ∷ codes "sym t" ∷ codes "inter s" ∷ codes "union t" ∷ codes "keep diff s" ∷ codes "keep sym t"
     ∷ codes "keep inter s" ∷ codes "keep union t" ∷ codes "disjoint s" ∷ codes "subset t" ∷ codes "superset s" ∷ codes "cmp t" ∷ [])
-    ≡ Some (OnSet First (ListItems Difference)) ∷ Some (OnSet Second (ListItems SymmetricDifference)) ∷ Some (OnSet First (ListItems Intersection))
-    ∷ Some (OnSet Second (ListItems Union))
-    ∷ Some (OnSet First (Keep Difference)) ∷ Some (OnSet Second (Keep SymmetricDifference)) ∷ Some (OnSet First (Keep Intersection))
-    ∷ Some (OnSet Second (Keep Union))
-    ∷ Some (OnSet First IsDisjoint) ∷ Some (OnSet Second IsSubset) ∷ Some (OnSet First IsSuperset) ∷ Some (OnSet Second SetCmp) ∷ []
+    ≡ Some (ListItems Difference First) ∷ Some (ListItems SymmetricDifference Second) ∷ Some (ListItems Intersection First)
+    ∷ Some (ListItems Union Second)
+    ∷ Some (Keep Difference First) ∷ Some (Keep SymmetricDifference Second) ∷ Some (Keep Intersection First)
+    ∷ Some (Keep Union Second)
+    ∷ Some (IsDisjoint First) ∷ Some (IsSubset Second) ∷ Some (IsSuperset First) ∷ Some (SetCmp Second) ∷ []
 unfolding command_of on_maps_of on_map_of map_command_of plain_of keyed_of valued_of entry_of map_at on_sets_of on_set_of set_command_of plain_on_set_of
     with_item_of
     keep_of set_at

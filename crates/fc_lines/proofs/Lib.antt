@@ -1,3 +1,4 @@
+mod BeginFacts
 pub mod LineFacts
 pub mod ReadFacts
 pub mod PairFacts

@@ -14,11 +14,8 @@ use Rattle.fc_lines.specs.declared.command.End.TheVariants.{Front, Back}
 use Rattle.fc_lines.specs.declared.command.SetOp.{SetOp}
 use Rattle.fc_lines.specs.declared.command.SetOp.TheVariants.{Difference, SymmetricDifference, Intersection, Union}
 use Rattle.fc_lines.specs.declared.command.Command.{Command}
-use Rattle.fc_lines.specs.declared.command.Command.TheVariants.{OnMap, OnSet}
-use Rattle.fc_lines.specs.declared.command.MapCommand.{MapCommand}
-use Rattle.fc_lines.specs.declared.command.MapCommand.TheVariants.{Insert, Get, GetKeyValue, ContainsKey, Remove, Set, Entry, RemoveEntry, Len, Clear, Walk, Write, Append, SplitOff, TryClone, Extend, InsertBoth}
-use Rattle.fc_lines.specs.declared.command.SetCommand.{SetCommand}
-use Rattle.fc_lines.specs.declared.command.SetCommand.TheVariants.{AddItem, ReplaceItem, TakeItem, RemoveItem, ContainsItem, GetItem, SetLen, SetClear, SetAppend, SetSplitOff, SetClone, SetExtend, SetWalk, List as ListItems, Keep, IsDisjoint, IsSubset, IsSuperset, SetCmp}
+use Rattle.fc_lines.specs.declared.command.Command.TheVariants.{Insert, Get, GetKeyValue, ContainsKey, Remove, Set, Entry, RemoveEntry, Len, Clear, Walk, Write, Append, SplitOff, TryClone, Extend, InsertBoth}
+use Rattle.fc_lines.specs.declared.command.Command.TheVariants.{AddItem, ReplaceItem, TakeItem, RemoveItem, ContainsItem, GetItem, SetLen, SetClear, SetAppend, SetSplitOff, SetClone, SetExtend, SetWalk, List as ListItems, Keep, IsDisjoint, IsSubset, IsSuperset, SetCmp}
 use Rattle.fc_lines.specs.Lines.{words_of}
 
 -- What follows is asked only where something is there.
@@ -147,27 +144,27 @@ whole_line x [] = Some x
 whole_line x (word ∷ words) = None
 
 -- The command that a word asks for on a map.
-abbrev pub on_whole_map : List ℕ → Option (MapCommand ℕ ℕ)
-on_whole_map word = if is_text word (codes "len") then Some Len
-    else if is_text word (codes "clear") then Some Clear
-    else if is_text word (codes "append") then Some Append
-    else if is_text word (codes "copy") then Some TryClone
+abbrev pub on_whole_map : List ℕ → Side → Option (Command ℕ ℕ)
+on_whole_map word side = if is_text word (codes "len") then Some (Len side)
+    else if is_text word (codes "clear") then Some (Clear side)
+    else if is_text word (codes "append") then Some (Append side)
+    else if is_text word (codes "copy") then Some (TryClone side)
     else None
 
 -- The command that a word asks for on a map and a key.
-abbrev pub on_key : List ℕ → ℕ → Option (MapCommand ℕ ℕ)
-on_key word k = if is_text word (codes "get") then Some (Get k)
-    else if is_text word (codes "pair") then Some (GetKeyValue k)
-    else if is_text word (codes "has") then Some (ContainsKey k)
-    else if is_text word (codes "remove") then Some (Remove k)
-    else if is_text word (codes "evict") then Some (RemoveEntry k)
-    else if is_text word (codes "split") then Some (SplitOff k)
+abbrev pub on_key : List ℕ → Side → ℕ → Option (Command ℕ ℕ)
+on_key word side k = if is_text word (codes "get") then Some (Get side k)
+    else if is_text word (codes "pair") then Some (GetKeyValue side k)
+    else if is_text word (codes "has") then Some (ContainsKey side k)
+    else if is_text word (codes "remove") then Some (Remove side k)
+    else if is_text word (codes "evict") then Some (RemoveEntry side k)
+    else if is_text word (codes "split") then Some (SplitOff side k)
     else None
 
 -- The command that a word asks for on a map, a key and a value.
-abbrev pub on_pair : List ℕ → ℕ → ℕ → Option (MapCommand ℕ ℕ)
-on_pair word k v = if is_text word (codes "insert") then Some (Insert k v)
-    else if is_text word (codes "set") then Some (Set k v)
+abbrev pub on_pair : List ℕ → Side → ℕ → ℕ → Option (Command ℕ ℕ)
+on_pair word side k v = if is_text word (codes "insert") then Some (Insert side k v)
+    else if is_text word (codes "set") then Some (Set side k v)
     else None
 
 -- What was looked up, if it is there and the line ends, and else what is asked for otherwise.
@@ -176,26 +173,26 @@ ended_or (Some x) words other = whole_line x words
 ended_or None words other = other
 
 -- Behind a key and a value is the second value of `entry`.
-unfoldable pub entry_of : List ℕ → ℕ → ℕ → List (List ℕ) → Option (MapCommand ℕ ℕ)
-entry_of word k v words = do
+unfoldable pub entry_of : List ℕ → Side → ℕ → ℕ → List (List ℕ) → Option (Command ℕ ℕ)
+entry_of word side k v words = do
   w ← number_at words
-  if is_text word (codes "entry") then whole_line (Entry k v w.0) w.1 else None
+  if is_text word (codes "entry") then whole_line (Entry side k v w.0) w.1 else None
 
 -- Behind a key are a value, and another where the word wants one.
-unfoldable pub valued_of : List ℕ → ℕ → List (List ℕ) → Option (MapCommand ℕ ℕ)
-valued_of word k words = do
+unfoldable pub valued_of : List ℕ → Side → ℕ → List (List ℕ) → Option (Command ℕ ℕ)
+valued_of word side k words = do
   v ← number_at words
-  ended_or (on_pair word k v.0) v.1 (entry_of word k v.0 v.1)
+  ended_or (on_pair word side k v.0) v.1 (entry_of word side k v.0 v.1)
 
 -- Behind a map are a key, and a value where the word wants one.
-unfoldable pub keyed_of : List ℕ → List (List ℕ) → Option (MapCommand ℕ ℕ)
-keyed_of word words = do
+unfoldable pub keyed_of : List ℕ → Side → List (List ℕ) → Option (Command ℕ ℕ)
+keyed_of word side words = do
   k ← number_at words
-  ended_or (on_key word k.0) k.1 (valued_of word k.0 k.1)
+  ended_or (on_key word side k.0) k.1 (valued_of word side k.0 k.1)
 
 -- Behind a map is a key where the word wants one.
-unfoldable pub plain_of : List ℕ → List (List ℕ) → Option (MapCommand ℕ ℕ)
-plain_of word words = ended_or (on_whole_map word) words (keyed_of word words)
+unfoldable pub plain_of : List ℕ → Side → List (List ℕ) → Option (Command ℕ ℕ)
+plain_of word side words = ended_or (on_whole_map word side) words (keyed_of word side words)
 
 -- The steps of a walk are two bounds and one word of letters.
 unfoldable pub steps_of : List (List ℕ) → Option (Bound ℕ × Bound ℕ × List End)
@@ -207,34 +204,33 @@ steps_of words = do
   whole_line (lo.0, hi.0, ends) letters.1
 
 -- Behind the map of `walk` are steps.
-unfoldable pub walk_of : List (List ℕ) → Option (MapCommand ℕ ℕ)
-walk_of words = option_map (λ steps. Walk steps.0 steps.1 steps.2) (steps_of words)
+unfoldable pub walk_of : Side → List (List ℕ) → Option (Command ℕ ℕ)
+walk_of side words = option_map (λ steps. Walk side steps.0 steps.1 steps.2) (steps_of words)
 
 -- Behind the map of `write` are two bounds and one or more writes.
-unfoldable pub write_of : List (List ℕ) → Option (MapCommand ℕ ℕ)
-write_of words = do
+unfoldable pub write_of : Side → List (List ℕ) → Option (Command ℕ ℕ)
+write_of side words = do
   lo ← bound_at words
   hi ← bound_at lo.1
   writes ← some_read one_write_of hi.1
-  Some (Write lo.0 hi.0 writes)
+  Some (Write side lo.0 hi.0 writes)
 
 -- Behind the map of `extend` are one or more pairs.
-unfoldable pub extend_of : List (List ℕ) → Option (MapCommand ℕ ℕ)
-extend_of words = option_map Extend (some_pairs words)
+unfoldable pub extend_of : Side → List (List ℕ) → Option (Command ℕ ℕ)
+extend_of side words = option_map (Extend side) (some_pairs words)
 
 -- What a word and those behind the map ask of it.
-unfoldable pub map_command_of : List ℕ → List (List ℕ) → Option (MapCommand ℕ ℕ)
-map_command_of word words = if is_text word (codes "walk") then walk_of words
-    else if is_text word (codes "write") then write_of words
-    else if is_text word (codes "extend") then extend_of words
-    else plain_of word words
+unfoldable pub map_command_of : List ℕ → Side → List (List ℕ) → Option (Command ℕ ℕ)
+map_command_of word side words = if is_text word (codes "walk") then walk_of side words
+    else if is_text word (codes "write") then write_of side words
+    else if is_text word (codes "extend") then extend_of side words
+    else plain_of word side words
 
 -- The words after such a word are a map, and what the word wants behind it.
 unfoldable pub on_map_of : List ℕ → List (List ℕ) → Option (Command ℕ ℕ)
 on_map_of word words = do
   m ← map_at words
-  command ← map_command_of word m.1
-  Some (OnMap m.0 command)
+  map_command_of word m.0 m.1
 
 -- The words after `both` are a key and a value for the first map, and a key and a value for the second.
 unfoldable pub both_of : List (List ℕ) → Option (Command ℕ ℕ)
@@ -243,7 +239,7 @@ both_of words = do
   v ← number_at k.1
   l ← number_at v.1
   w ← number_at l.1
-  whole_line (OnMap First (InsertBoth k.0 v.0 l.0 w.0)) w.1
+  whole_line (InsertBoth k.0 v.0 l.0 w.0) w.1
 
 -- The command on maps that the words ask for, by the first of them.
 unfoldable pub on_maps_of : List (List ℕ) → Option (Command ℕ ℕ)
@@ -252,59 +248,58 @@ on_maps_of words = do
   if is_text first.0 (codes "both") then both_of first.1 else on_map_of first.0 first.1
 
 -- The command that a word asks for on a set.
-abbrev pub on_whole_set : List ℕ → Option (SetCommand ℕ)
-on_whole_set word = if is_text word (codes "len") then Some SetLen
-    else if is_text word (codes "clear") then Some SetClear
-    else if is_text word (codes "append") then Some SetAppend
-    else if is_text word (codes "copy") then Some SetClone
-    else if is_text word (codes "disjoint") then Some IsDisjoint
-    else if is_text word (codes "subset") then Some IsSubset
-    else if is_text word (codes "superset") then Some IsSuperset
-    else if is_text word (codes "cmp") then Some SetCmp
-    else option_map ListItems (op_of word)
+abbrev pub on_whole_set : List ℕ → Side → Option (Command ℕ ℕ)
+on_whole_set word side = if is_text word (codes "len") then Some (SetLen side)
+    else if is_text word (codes "clear") then Some (SetClear side)
+    else if is_text word (codes "append") then Some (SetAppend side)
+    else if is_text word (codes "copy") then Some (SetClone side)
+    else if is_text word (codes "disjoint") then Some (IsDisjoint side)
+    else if is_text word (codes "subset") then Some (IsSubset side)
+    else if is_text word (codes "superset") then Some (IsSuperset side)
+    else if is_text word (codes "cmp") then Some (SetCmp side)
+    else option_map (λ op. ListItems op side) (op_of word)
 
 -- The command that a word asks for on a set and an item.
-abbrev pub on_item : List ℕ → ℕ → Option (SetCommand ℕ)
-on_item word k = if is_text word (codes "add") then Some (AddItem k)
-    else if is_text word (codes "replace") then Some (ReplaceItem k)
-    else if is_text word (codes "take") then Some (TakeItem k)
-    else if is_text word (codes "drop") then Some (RemoveItem k)
-    else if is_text word (codes "in") then Some (ContainsItem k)
-    else if is_text word (codes "find") then Some (GetItem k)
-    else if is_text word (codes "split") then Some (SetSplitOff k)
+abbrev pub on_item : List ℕ → Side → ℕ → Option (Command ℕ ℕ)
+on_item word side k = if is_text word (codes "add") then Some (AddItem side k)
+    else if is_text word (codes "replace") then Some (ReplaceItem side k)
+    else if is_text word (codes "take") then Some (TakeItem side k)
+    else if is_text word (codes "drop") then Some (RemoveItem side k)
+    else if is_text word (codes "in") then Some (ContainsItem side k)
+    else if is_text word (codes "find") then Some (GetItem side k)
+    else if is_text word (codes "split") then Some (SetSplitOff side k)
     else None
 
 -- Behind a set is an item.
-unfoldable pub with_item_of : List ℕ → List (List ℕ) → Option (SetCommand ℕ)
-with_item_of word words = do
+unfoldable pub with_item_of : List ℕ → Side → List (List ℕ) → Option (Command ℕ ℕ)
+with_item_of word side words = do
   k ← number_at words
-  command ← on_item word k.0
+  command ← on_item word side k.0
   whole_line command k.1
 
 -- Behind a set is an item where the word wants one.
-unfoldable pub plain_on_set_of : List ℕ → List (List ℕ) → Option (SetCommand ℕ)
-plain_on_set_of word words = ended_or (on_whole_set word) words (with_item_of word words)
+unfoldable pub plain_on_set_of : List ℕ → Side → List (List ℕ) → Option (Command ℕ ℕ)
+plain_on_set_of word side words = ended_or (on_whole_set word side) words (with_item_of word side words)
 
 -- Behind the set of `walk` are steps.
-unfoldable pub walk_items_of : List (List ℕ) → Option (SetCommand ℕ)
-walk_items_of words = option_map (λ steps. SetWalk steps.0 steps.1 steps.2) (steps_of words)
+unfoldable pub walk_items_of : Side → List (List ℕ) → Option (Command ℕ ℕ)
+walk_items_of side words = option_map (λ steps. SetWalk side steps.0 steps.1 steps.2) (steps_of words)
 
 -- Behind the set of `extend` are one or more items.
-unfoldable pub extend_items_of : List (List ℕ) → Option (SetCommand ℕ)
-extend_items_of words = option_map SetExtend (some_read number_of words)
+unfoldable pub extend_items_of : Side → List (List ℕ) → Option (Command ℕ ℕ)
+extend_items_of side words = option_map (SetExtend side) (some_read number_of words)
 
 -- What a word and those behind the set ask of it.
-unfoldable pub set_command_of : List ℕ → List (List ℕ) → Option (SetCommand ℕ)
-set_command_of word words = if is_text word (codes "walk") then walk_items_of words
-    else if is_text word (codes "extend") then extend_items_of words
-    else plain_on_set_of word words
+unfoldable pub set_command_of : List ℕ → Side → List (List ℕ) → Option (Command ℕ ℕ)
+set_command_of word side words = if is_text word (codes "walk") then walk_items_of side words
+    else if is_text word (codes "extend") then extend_items_of side words
+    else plain_on_set_of word side words
 
 -- The words after such a word are a set, and what the word wants behind it.
 unfoldable pub on_set_of : List ℕ → List (List ℕ) → Option (Command ℕ ℕ)
 on_set_of word words = do
   c ← set_at words
-  command ← set_command_of word c.1
-  Some (OnSet c.0 command)
+  set_command_of word c.0 c.1
 
 -- The words after `keep` are an operation and a set.
 unfoldable pub keep_of : List (List ℕ) → Option (Command ℕ ℕ)
@@ -312,7 +307,7 @@ keep_of words = do
   first ← word_at words
   op ← op_of first.0
   c ← set_at first.1
-  whole_line (OnSet c.0 (Keep op)) c.1
+  whole_line (Keep op c.0) c.1
 
 -- The command on sets that the words ask for, by the first of them.
 unfoldable pub on_sets_of : List (List ℕ) → Option (Command ℕ ℕ)

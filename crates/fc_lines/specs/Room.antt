@@ -1,9 +1,7 @@
 -- Where room is taken: for lists that lines name, and for the text of lists.
 use Rattle.std.specs.Prelude.{ℕ, ⊤, ◌||◌, List, codes, IsSomeAnd, IsTrue}
 use Rattle.fc_lines.specs.declared.command.Command.{Command}
-use Rattle.fc_lines.specs.declared.command.Command.TheVariants.{OnMap, OnSet}
-use Rattle.fc_lines.specs.declared.command.MapCommand.TheVariants.{Walk}
-use Rattle.fc_lines.specs.declared.command.SetCommand.TheVariants.{SetWalk, List as ListItems}
+use Rattle.fc_lines.specs.declared.command.Command.TheVariants.{Walk, SetWalk, List as ListItems}
 use Rattle.fc_lines.specs.declared.command.Reply.{Reply}
 use Rattle.fc_lines.specs.declared.command.Reply.TheVariants.{Pairs, Keys}
 use Rattle.fc_lines.specs.Grammar.{is_text, word_at}
@@ -14,9 +12,9 @@ NamesList words = IsSomeAnd (word_at words) (λ first. IsTrue (is_text first.0 (
 
 -- The commands whose reply may be a list: the walks, and the operations on two sets.
 abbrev pub AsksForList : {K V : Type 0} → Command K V → Type 0
-AsksForList (OnMap side (Walk lo hi ends)) = ⊤
-AsksForList (OnSet side (SetWalk lo hi ends)) = ⊤
-AsksForList (OnSet side (ListItems op)) = ⊤
+AsksForList (Walk side lo hi ends) = ⊤
+AsksForList (SetWalk side lo hi ends) = ⊤
+AsksForList (ListItems op side) = ⊤
 AsksForList c = ⊥
 
 -- Every reply but a list.

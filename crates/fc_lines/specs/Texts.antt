@@ -1,5 +1,5 @@
 -- Replies as text.
-use Rattle.std.specs.Prelude.{ℕ, List, [], ◌∷◌, ◌++◌, codes, Bool, true, false, Option, Some, None}
+use Rattle.std.specs.Prelude.{◌≡◌, ℕ, ◌≤◌, length, take, List, [], ◌∷◌, ◌++◌, codes, Bool, true, false, Option, Some, None}
 use Rattle.std.specs.List.{flat_map}
 use Rattle.std.specs.Fmt.{decimal}
 use Rattle.std.specs.declared.cmp.Ordering.{Ordering}
@@ -70,3 +70,7 @@ text_of reply = words_of_reply reply ++ 10 ∷ []
 -- The line that is written for line n where that is not a command.
 unfoldable pub fault_text : ℕ → List ℕ
 fault_text n = codes "line " ++ decimal n ++ codes ": not a command\n"
+
+-- What is left of a text that was not wholly appended: what was there, and a beginning of it behind that.
+abbrev pub IsBegun : (old text new : List ℕ) → Type 0
+IsBegun old text new = (length old ≤ length new) × (new ≡ take (length new) (old ++ text))

@@ -39,7 +39,7 @@ ghost use Rattle.fc_lines.specs.Grammar.{
   on_maps_of,
 };
 
-use crate::command::{Command, End, MapCommand, Side};
+use crate::command::{Command, End, Side};
 use crate::items::Items;
 use crate::set_lines::on_sets_in;
 use std::alloc::{AllocError, Global};
@@ -90,8 +90,10 @@ fn both_in(words: Option<&[u8]>) -> Option<Command<u64, u64>>
     let (value, words) = next_number(words)?;
     let (second_key, words) = next_number(words)?;
     let (second_value, words) = next_number(words)?;
-    let both = MapCommand::InsertBoth(key, value, second_key, second_value);
-    at_line_end(Command::OnMap(Side::First, both), words)
+    at_line_end(
+        Command::InsertBoth(key, value, second_key, second_value),
+        words,
+    )
 }
 
 // The words after such a word are a map, and what the word wants behind it.
@@ -107,10 +109,7 @@ fn on_map_in(
     let Some((side, words)) = next_map(words) else {
         return Ok(None)
     };
-    let Some(command) = map_command_in(alloc, word, words)? else {
-        return Ok(None)
-    };
-    Ok(Some(Command::OnMap(side, command)))
+    map_command_in(alloc, word, side, words)
 }
 
 // What a word and those behind the map ask of it.
@@ -118,129 +117,140 @@ fn on_map_in(
 fn map_command_in(
     alloc: Global,
     word: &[u8],
+    side: Side,
     words: Option<&[u8]>,
-) -> Result<Option<MapCommand<u64, u64>>, AllocError>
-    ensures command { IfOk result (λ command. command ≡ map_command_of word.entry.now (words_left words.entry)) }
+) -> Result<Option<Command<u64, u64>>, AllocError>
+    ensures command { IfOk result (λ command. command ≡ map_command_of word.entry.now side (words_left words.entry)) }
     ensures list { OnErr result (NamesList (word.entry.now ∷ [])) }
 {
     if is_word(word, b"walk") {
-        walk_in(alloc, words)
+        walk_in(alloc, side, words)
     } else if is_word(word, b"write") {
-        write_in(alloc, words)
+        write_in(alloc, side, words)
     } else if is_word(word, b"extend") {
-        extend_in(alloc, words)
+        extend_in(alloc, side, words)
     } else {
-        Ok(plain_in(word, words))
+        Ok(plain_in(word, side, words))
     }
 }
 
 // Behind the map is a key where the word wants one.
 #[tactic(auto, unfolding(crate::specs::Grammar::plain_of))]
-fn plain_in(word: &[u8], words: Option<&[u8]>) -> Option<MapCommand<u64, u64>>
-    ensures { result ≡ plain_of word.entry.now (words_left words.entry) }
+fn plain_in(word: &[u8], side: Side, words: Option<&[u8]>) -> Option<Command<u64, u64>>
+    ensures { result ≡ plain_of word.entry.now side (words_left words.entry) }
 {
-    match whole_in(word) {
+    match whole_in(word, side) {
         Some(command) => at_line_end(command, words),
-        None => keyed_in(word, words),
+        None => keyed_in(word, side, words),
     }
 }
 
 // Behind the map are a key, and a value where the word wants one.
 #[tactic(auto, unfolding(crate::specs::Grammar::keyed_of))]
-fn keyed_in(word: &[u8], words: Option<&[u8]>) -> Option<MapCommand<u64, u64>>
-    ensures { result ≡ keyed_of word.entry.now (words_left words.entry) }
+fn keyed_in(word: &[u8], side: Side, words: Option<&[u8]>) -> Option<Command<u64, u64>>
+    ensures { result ≡ keyed_of word.entry.now side (words_left words.entry) }
 {
     let (key, words) = next_number(words)?;
-    match on_key_in(word, key) {
+    match on_key_in(word, side, key) {
         Some(command) => at_line_end(command, words),
-        None => valued_in(word, key, words),
+        None => valued_in(word, side, key, words),
     }
 }
 
 // Behind the key are a value, and another where the word wants one.
 #[tactic(auto, unfolding(crate::specs::Grammar::valued_of))]
-fn valued_in(word: &[u8], key: u64, words: Option<&[u8]>) -> Option<MapCommand<u64, u64>>
-    ensures { result ≡ valued_of word.entry.now key (words_left words.entry) }
+fn valued_in(word: &[u8], side: Side, key: u64, words: Option<&[u8]>) -> Option<Command<u64, u64>>
+    ensures { result ≡ valued_of word.entry.now side key (words_left words.entry) }
 {
     let (value, words) = next_number(words)?;
-    match on_pair_in(word, key, value) {
+    match on_pair_in(word, side, key, value) {
         Some(command) => at_line_end(command, words),
-        None => entry_in(word, key, value, words),
+        None => entry_in(word, side, key, value, words),
     }
 }
 
 // Behind the first value is the second one of an entry.
 #[tactic(auto, unfolding(crate::specs::Grammar::entry_of))]
-fn entry_in(word: &[u8], key: u64, there: u64, words: Option<&[u8]>) -> Option<MapCommand<u64, u64>>
-    ensures { result ≡ entry_of word.entry.now key there (words_left words.entry) }
+fn entry_in(
+    word: &[u8],
+    side: Side,
+    key: u64,
+    there: u64,
+    words: Option<&[u8]>,
+) -> Option<Command<u64, u64>>
+    ensures { result ≡ entry_of word.entry.now side key there (words_left words.entry) }
 {
     let (new, words) = next_number(words)?;
     if is_word(word, b"entry") {
-        at_line_end(MapCommand::Entry(key, there, new), words)
+        at_line_end(Command::Entry(side, key, there, new), words)
     } else {
         None
     }
 }
 
 // The command that a word asks for on a map.
-fn whole_in(word: &[u8]) -> Option<MapCommand<u64, u64>>
-    ensures { result ≡ on_whole_map word.entry.now }
+fn whole_in(word: &[u8], side: Side) -> Option<Command<u64, u64>>
+    ensures { result ≡ on_whole_map word.entry.now side }
 {
     if is_word(word, b"len") {
-        Some(MapCommand::Len)
+        Some(Command::Len(side))
     } else if is_word(word, b"clear") {
-        Some(MapCommand::Clear)
+        Some(Command::Clear(side))
     } else if is_word(word, b"append") {
-        Some(MapCommand::Append)
+        Some(Command::Append(side))
     } else if is_word(word, b"copy") {
-        Some(MapCommand::TryClone)
+        Some(Command::TryClone(side))
     } else {
         None
     }
 }
 
 // The command that a word asks for on a map and a key.
-fn on_key_in(word: &[u8], key: u64) -> Option<MapCommand<u64, u64>>
-    ensures { result ≡ on_key word.entry.now key }
+fn on_key_in(word: &[u8], side: Side, key: u64) -> Option<Command<u64, u64>>
+    ensures { result ≡ on_key word.entry.now side key }
 {
     if is_word(word, b"get") {
-        Some(MapCommand::Get(key))
+        Some(Command::Get(side, key))
     } else if is_word(word, b"pair") {
-        Some(MapCommand::GetKeyValue(key))
+        Some(Command::GetKeyValue(side, key))
     } else if is_word(word, b"has") {
-        Some(MapCommand::ContainsKey(key))
+        Some(Command::ContainsKey(side, key))
     } else if is_word(word, b"remove") {
-        Some(MapCommand::Remove(key))
+        Some(Command::Remove(side, key))
     } else if is_word(word, b"evict") {
-        Some(MapCommand::RemoveEntry(key))
+        Some(Command::RemoveEntry(side, key))
     } else if is_word(word, b"split") {
-        Some(MapCommand::SplitOff(key))
+        Some(Command::SplitOff(side, key))
     } else {
         None
     }
 }
 
 // The command that a word asks for on a map, a key and a value.
-fn on_pair_in(word: &[u8], key: u64, value: u64) -> Option<MapCommand<u64, u64>>
-    ensures { result ≡ on_pair word.entry.now key value }
+fn on_pair_in(word: &[u8], side: Side, key: u64, value: u64) -> Option<Command<u64, u64>>
+    ensures { result ≡ on_pair word.entry.now side key value }
 {
     if is_word(word, b"insert") {
-        Some(MapCommand::Insert(key, value))
+        Some(Command::Insert(side, key, value))
     } else if is_word(word, b"set") {
-        Some(MapCommand::Set(key, value))
+        Some(Command::Set(side, key, value))
     } else {
         None
     }
 }
 
 #[tactic(auto, unfolding(crate::specs::Grammar::walk_of))]
-fn walk_in(alloc: Global, words: Option<&[u8]>) -> Result<Option<MapCommand<u64, u64>>, AllocError>
-    ensures { IfOk result (λ command. command ≡ walk_of (words_left words.entry)) }
+fn walk_in(
+    alloc: Global,
+    side: Side,
+    words: Option<&[u8]>,
+) -> Result<Option<Command<u64, u64>>, AllocError>
+    ensures { IfOk result (λ command. command ≡ walk_of side (words_left words.entry)) }
 {
     let Some((lo, hi, ends)) = steps_in(alloc, words)? else {
         return Ok(None)
     };
-    Ok(Some(MapCommand::Walk(lo, hi, ends)))
+    Ok(Some(Command::Walk(side, lo, hi, ends)))
 }
 
 // The words that are left are two bounds and one word of letters.
@@ -267,8 +277,12 @@ pub(crate) fn steps_in(
 }
 
 #[tactic(auto, unfolding(crate::specs::Grammar::write_of))]
-fn write_in(alloc: Global, words: Option<&[u8]>) -> Result<Option<MapCommand<u64, u64>>, AllocError>
-    ensures { IfOk result (λ command. command ≡ write_of (words_left words.entry)) }
+fn write_in(
+    alloc: Global,
+    side: Side,
+    words: Option<&[u8]>,
+) -> Result<Option<Command<u64, u64>>, AllocError>
+    ensures { IfOk result (λ command. command ≡ write_of side (words_left words.entry)) }
 {
     let Some((lo, words)) = next_bound(words) else {
         return Ok(None)
@@ -279,20 +293,21 @@ fn write_in(alloc: Global, words: Option<&[u8]>) -> Result<Option<MapCommand<u64
     let Some(list) = writes_in(alloc, words)? else {
         return Ok(None)
     };
-    Ok(Some(MapCommand::Write(lo, hi, Items::from(list))))
+    Ok(Some(Command::Write(side, lo, hi, Items::from(list))))
 }
 
 #[tactic(auto, unfolding(crate::specs::Grammar::extend_of))]
 fn extend_in(
     alloc: Global,
+    side: Side,
     words: Option<&[u8]>,
-) -> Result<Option<MapCommand<u64, u64>>, AllocError>
-    ensures { IfOk result (λ command. command ≡ extend_of (words_left words.entry)) }
+) -> Result<Option<Command<u64, u64>>, AllocError>
+    ensures { IfOk result (λ command. command ≡ extend_of side (words_left words.entry)) }
 {
     let Some(list) = pairs_in(alloc, words)? else {
         return Ok(None)
     };
-    Ok(Some(MapCommand::Extend(Items::from(list))))
+    Ok(Some(Command::Extend(side, Items::from(list))))
 }
 
 // The ends that the letters of a word name.

@@ -2,7 +2,7 @@
 ghost use Rattle.std.specs.Prelude.{◌≡◌, ◌+◌, ◌*◌, ◌<◌, ◌≤◌, ◌++◌, OnOk, OnErr, MatchResult, codes, length, drop, vec_items, vec_len, vec_capacity};
 ghost use Rattle.std.specs.List.{flat_map};
 ghost use Rattle.std.specs.Fmt.{decimal};
-ghost use Rattle.fc_lines.specs.Texts.{text_of, step_text, item_text, order_text, refusal_text, fault_text};
+ghost use Rattle.fc_lines.specs.Texts.{text_of, step_text, item_text, order_text, refusal_text, fault_text, IsBegun};
 ghost use Rattle.fc_lines.specs.Room.{IsNoList};
 
 use crate::command::Reply;
@@ -19,11 +19,12 @@ const MAX_DIGITS: usize = 20;
 /// Appends the line that is written for a reply.
 ///
 /// # Errors
-/// `AllocError` where the text has no room for the line and growing it was refused; it may then end in a part of the line. Room for
-/// `MAX_REPLY` more bytes is enough for each reply that is no list.
+/// `AllocError` where the text has no room for the line and growing it was refused; it may then end in a beginning of the line. Room
+/// for `MAX_REPLY` more bytes is enough for each reply that is no list.
 #[tactic(auto, unfolding(crate::specs::Texts::text_of))]
 pub fn write_reply(text: &mut Vec<u8>, reply: &Reply<u64, u64>) -> Result<(), AllocError>
     ensures written { OnOk result (text.new.items ≡ text.old.items ++ text_of reply.now) }
+    ensures begun { OnErr result (IsBegun text.old.items (text_of reply.now) text.new.items) }
     ensures full { OnErr result (vec_capacity text.old < vec_len text.old + length (text_of reply.now)) }
     ensures room { vec_capacity text.old ≤ vec_capacity text.new }
     ensures short { OnErr result (IsNoList reply.now → vec_capacity text.old < vec_len text.old + 101) }
@@ -78,6 +79,7 @@ fn refusal_words(e: TryReserveError) -> &'static [u8]
 // Appends a line of these words and items.
 fn write_line(text: &mut Vec<u8>, words: &[u8], items: &[Option<u64>]) -> Result<(), AllocError>
     ensures written { OnOk result (text.new.items ≡ text.old.items ++ words.now ++ flat_map item_text items.now ++ codes "\n") }
+    ensures begun { OnErr result (IsBegun text.old.items (words.now ++ flat_map item_text items.now ++ codes "\n") text.new.items) }
     ensures full { OnErr result (vec_capacity text.old < vec_len text.old + length (words.now ++ flat_map item_text items.now ++ codes "\n")) }
     ensures short { OnErr result (vec_capacity text.old < vec_len text.old + length words.now + 21 * length items.now + 1) }
     ensures room { vec_capacity text.old ≤ vec_capacity text.new }
@@ -90,6 +92,7 @@ fn write_line(text: &mut Vec<u8>, words: &[u8], items: &[Option<u64>]) -> Result
 // Appends each item, or what stands for a missing one.
 fn write_items(text: &mut Vec<u8>, items: &[Option<u64>]) -> Result<(), AllocError>
     ensures written { OnOk result (text.new.items ≡ text.old.items ++ flat_map item_text items.now) }
+    ensures begun { OnErr result (IsBegun text.old.items (flat_map item_text items.now) text.new.items) }
     ensures full { OnErr result (vec_capacity text.old < vec_len text.old + length (flat_map item_text items.now)) }
     ensures short { MatchResult result (λ _. length (flat_map item_text items.now) ≤ 21 * length items.now) (λ _. vec_capacity text.old < vec_len text.old + 21 * length items.now) }
     ensures room { vec_capacity text.old ≤ vec_capacity text.new }
@@ -102,6 +105,7 @@ fn write_items(text: &mut Vec<u8>, items: &[Option<u64>]) -> Result<(), AllocErr
 
 fn write_item(text: &mut Vec<u8>, item: Option<u64>) -> Result<(), AllocError>
     ensures written { OnOk result (text.new.items ≡ text.old.items ++ item_text item) }
+    ensures begun { OnErr result (IsBegun text.old.items (item_text item) text.new.items) }
     ensures full { OnErr result (vec_capacity text.old < vec_len text.old + length (item_text item)) }
     ensures short { length (item_text item) ≤ 21 }
     ensures room { vec_capacity text.old ≤ vec_capacity text.new }
@@ -115,6 +119,7 @@ fn write_item(text: &mut Vec<u8>, item: Option<u64>) -> Result<(), AllocError>
 // Appends what each step of a walk gave, as a line.
 fn write_steps(text: &mut Vec<u8>, steps: &[Option<(u64, u64)>]) -> Result<(), AllocError>
     ensures written { OnOk result (text.new.items ≡ text.old.items ++ codes "list" ++ flat_map step_text steps.now ++ codes "\n") }
+    ensures begun { OnErr result (IsBegun text.old.items (codes "list" ++ flat_map step_text steps.now ++ codes "\n") text.new.items) }
     ensures full { OnErr result (vec_capacity text.old < vec_len text.old + length (codes "list" ++ flat_map step_text steps.now ++ codes "\n")) }
     ensures room { vec_capacity text.old ≤ vec_capacity text.new }
 {
@@ -127,6 +132,7 @@ fn write_steps(text: &mut Vec<u8>, steps: &[Option<(u64, u64)>]) -> Result<(), A
 
 fn write_step(text: &mut Vec<u8>, step: Option<(u64, u64)>) -> Result<(), AllocError>
     ensures written { OnOk result (text.new.items ≡ text.old.items ++ step_text step) }
+    ensures begun { OnErr result (IsBegun text.old.items (step_text step) text.new.items) }
     ensures full { OnErr result (vec_capacity text.old < vec_len text.old + length (step_text step)) }
     ensures room { vec_capacity text.old ≤ vec_capacity text.new }
 {
@@ -142,6 +148,7 @@ fn write_step(text: &mut Vec<u8>, step: Option<(u64, u64)>) -> Result<(), AllocE
 // Appends words, a number and the words behind it.
 fn write_between(text: &mut Vec<u8>, before: &[u8], n: u64, after: &[u8]) -> Result<(), AllocError>
     ensures written { OnOk result (text.new.items ≡ text.old.items ++ (before.now ++ (decimal n ++ after.now))) }
+    ensures begun { OnErr result (IsBegun text.old.items (before.now ++ (decimal n ++ after.now)) text.new.items) }
     ensures full { OnErr result (vec_capacity text.old < vec_len text.old + length (before.now ++ (decimal n ++ after.now))) }
     ensures short { length (decimal n) ≤ 20 }
     ensures room { vec_capacity text.old ≤ vec_capacity text.new }
@@ -153,6 +160,7 @@ fn write_between(text: &mut Vec<u8>, before: &[u8], n: u64, after: &[u8]) -> Res
 // Appends words and a number behind them.
 fn write_number(text: &mut Vec<u8>, words: &[u8], n: u64) -> Result<(), AllocError>
     ensures written { OnOk result (text.new.items ≡ text.old.items ++ words.now ++ decimal n) }
+    ensures begun { OnErr result (IsBegun text.old.items (words.now ++ decimal n) text.new.items) }
     ensures full { OnErr result (vec_capacity text.old < vec_len text.old + length (words.now ++ decimal n)) }
     ensures short { length (decimal n) ≤ 20 }
     ensures room { vec_capacity text.old ≤ vec_capacity text.new }
@@ -183,11 +191,12 @@ fn write_digits(n: u64, digits: &mut [u8; MAX_DIGITS]) -> usize
 /// Appends the line that is written for line `n`, which is not a command.
 ///
 /// # Errors
-/// `AllocError` where the text has no room for the line and growing it was refused; it may then end in a part of the line. Room for
-/// `MAX_REPLY` more bytes is enough.
+/// `AllocError` where the text has no room for the line and growing it was refused; it may then end in a beginning of the line. Room
+/// for `MAX_REPLY` more bytes is enough.
 #[tactic(auto, unfolding(crate::specs::Texts::fault_text))]
 pub fn write_fault(text: &mut Vec<u8>, n: u64) -> Result<(), AllocError>
     ensures written { OnOk result (text.new.items ≡ text.old.items ++ fault_text n) }
+    ensures begun { OnErr result (IsBegun text.old.items (fault_text n) text.new.items) }
     ensures full { OnErr result (vec_capacity text.old < vec_len text.old + length (fault_text n)) }
     ensures short { OnErr result (vec_capacity text.old < vec_len text.old + 101) }
     ensures room { vec_capacity text.old ≤ vec_capacity text.new }

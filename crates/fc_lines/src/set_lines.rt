@@ -21,7 +21,7 @@ ghost use Rattle.fc_lines.specs.Grammar.{
   on_sets_of,
 };
 
-use crate::command::{Command, SetCommand, SetOp, Side};
+use crate::command::{Command, SetOp, Side};
 use crate::items::Items;
 use crate::lines::{at_line_end, first_word, is_word, next_number, next_word, number_in, steps_in};
 use std::alloc::{AllocError, Global};
@@ -52,7 +52,7 @@ fn keep_in(words: Option<&[u8]>) -> Option<Command<u64, u64>>
     let (word, words) = next_word(words)?;
     let op = op_in(word)?;
     let (side, words) = next_set(words)?;
-    at_line_end(Command::OnSet(side, SetCommand::Keep(op)), words)
+    at_line_end(Command::Keep(op, side), words)
 }
 
 // The words after such a word are a set, and what the word wants behind it.
@@ -68,10 +68,7 @@ fn on_set_in(
     let Some((side, words)) = next_set(words) else {
         return Ok(None)
     };
-    let Some(command) = set_command_in(alloc, word, words)? else {
-        return Ok(None)
-    };
-    Ok(Some(Command::OnSet(side, command)))
+    set_command_in(alloc, word, side, words)
 }
 
 // What a word and those behind the set ask of it.
@@ -79,83 +76,84 @@ fn on_set_in(
 fn set_command_in(
     alloc: Global,
     word: &[u8],
+    side: Side,
     words: Option<&[u8]>,
-) -> Result<Option<SetCommand<u64>>, AllocError>
-    ensures command { IfOk result (λ command. command ≡ set_command_of word.entry.now (words_left words.entry)) }
+) -> Result<Option<Command<u64, u64>>, AllocError>
+    ensures command { IfOk result (λ command. command ≡ set_command_of word.entry.now side (words_left words.entry)) }
     ensures list { OnErr result (NamesList (word.entry.now ∷ [])) }
 {
     if is_word(word, b"walk") {
-        walk_in(alloc, words)
+        walk_in(alloc, side, words)
     } else if is_word(word, b"extend") {
-        extend_in(alloc, words)
+        extend_in(alloc, side, words)
     } else {
-        Ok(plain_in(word, words))
+        Ok(plain_in(word, side, words))
     }
 }
 
 // Behind the set is an item where the word wants one.
 #[tactic(auto, unfolding(crate::specs::Grammar::plain_on_set_of))]
-fn plain_in(word: &[u8], words: Option<&[u8]>) -> Option<SetCommand<u64>>
-    ensures { result ≡ plain_on_set_of word.entry.now (words_left words.entry) }
+fn plain_in(word: &[u8], side: Side, words: Option<&[u8]>) -> Option<Command<u64, u64>>
+    ensures { result ≡ plain_on_set_of word.entry.now side (words_left words.entry) }
 {
-    match whole_in(word) {
+    match whole_in(word, side) {
         Some(command) => at_line_end(command, words),
-        None => item_in(word, words),
+        None => item_in(word, side, words),
     }
 }
 
 // Behind the set is an item.
 #[tactic(auto, unfolding(crate::specs::Grammar::with_item_of))]
-fn item_in(word: &[u8], words: Option<&[u8]>) -> Option<SetCommand<u64>>
-    ensures { result ≡ with_item_of word.entry.now (words_left words.entry) }
+fn item_in(word: &[u8], side: Side, words: Option<&[u8]>) -> Option<Command<u64, u64>>
+    ensures { result ≡ with_item_of word.entry.now side (words_left words.entry) }
 {
     let (item, words) = next_number(words)?;
-    at_line_end(on_item_in(word, item)?, words)
+    at_line_end(on_item_in(word, side, item)?, words)
 }
 
 // The command that a word asks for on a set.
-fn whole_in(word: &[u8]) -> Option<SetCommand<u64>>
-    ensures { result ≡ on_whole_set word.entry.now }
+fn whole_in(word: &[u8], side: Side) -> Option<Command<u64, u64>>
+    ensures { result ≡ on_whole_set word.entry.now side }
 {
     if is_word(word, b"len") {
-        Some(SetCommand::SetLen)
+        Some(Command::SetLen(side))
     } else if is_word(word, b"clear") {
-        Some(SetCommand::SetClear)
+        Some(Command::SetClear(side))
     } else if is_word(word, b"append") {
-        Some(SetCommand::SetAppend)
+        Some(Command::SetAppend(side))
     } else if is_word(word, b"copy") {
-        Some(SetCommand::SetClone)
+        Some(Command::SetClone(side))
     } else if is_word(word, b"disjoint") {
-        Some(SetCommand::IsDisjoint)
+        Some(Command::IsDisjoint(side))
     } else if is_word(word, b"subset") {
-        Some(SetCommand::IsSubset)
+        Some(Command::IsSubset(side))
     } else if is_word(word, b"superset") {
-        Some(SetCommand::IsSuperset)
+        Some(Command::IsSuperset(side))
     } else if is_word(word, b"cmp") {
-        Some(SetCommand::SetCmp)
+        Some(Command::SetCmp(side))
     } else {
-        Some(SetCommand::List(op_in(word)?))
+        Some(Command::List(op_in(word)?, side))
     }
 }
 
 // The command that a word asks for on a set and an item.
-fn on_item_in(word: &[u8], item: u64) -> Option<SetCommand<u64>>
-    ensures { result ≡ on_item word.entry.now item }
+fn on_item_in(word: &[u8], side: Side, item: u64) -> Option<Command<u64, u64>>
+    ensures { result ≡ on_item word.entry.now side item }
 {
     if is_word(word, b"add") {
-        Some(SetCommand::AddItem(item))
+        Some(Command::AddItem(side, item))
     } else if is_word(word, b"replace") {
-        Some(SetCommand::ReplaceItem(item))
+        Some(Command::ReplaceItem(side, item))
     } else if is_word(word, b"take") {
-        Some(SetCommand::TakeItem(item))
+        Some(Command::TakeItem(side, item))
     } else if is_word(word, b"drop") {
-        Some(SetCommand::RemoveItem(item))
+        Some(Command::RemoveItem(side, item))
     } else if is_word(word, b"in") {
-        Some(SetCommand::ContainsItem(item))
+        Some(Command::ContainsItem(side, item))
     } else if is_word(word, b"find") {
-        Some(SetCommand::GetItem(item))
+        Some(Command::GetItem(side, item))
     } else if is_word(word, b"split") {
-        Some(SetCommand::SetSplitOff(item))
+        Some(Command::SetSplitOff(side, item))
     } else {
         None
     }
@@ -175,23 +173,31 @@ fn op_in(word: &[u8]) -> Option<SetOp>
 }
 
 #[tactic(auto, unfolding(crate::specs::Grammar::walk_items_of))]
-fn walk_in(alloc: Global, words: Option<&[u8]>) -> Result<Option<SetCommand<u64>>, AllocError>
-    ensures { IfOk result (λ command. command ≡ walk_items_of (words_left words.entry)) }
+fn walk_in(
+    alloc: Global,
+    side: Side,
+    words: Option<&[u8]>,
+) -> Result<Option<Command<u64, u64>>, AllocError>
+    ensures { IfOk result (λ command. command ≡ walk_items_of side (words_left words.entry)) }
 {
     let Some((lo, hi, ends)) = steps_in(alloc, words)? else {
         return Ok(None)
     };
-    Ok(Some(SetCommand::SetWalk(lo, hi, ends)))
+    Ok(Some(Command::SetWalk(side, lo, hi, ends)))
 }
 
 #[tactic(auto, unfolding(crate::specs::Grammar::extend_items_of))]
-fn extend_in(alloc: Global, words: Option<&[u8]>) -> Result<Option<SetCommand<u64>>, AllocError>
-    ensures { IfOk result (λ command. command ≡ extend_items_of (words_left words.entry)) }
+fn extend_in(
+    alloc: Global,
+    side: Side,
+    words: Option<&[u8]>,
+) -> Result<Option<Command<u64, u64>>, AllocError>
+    ensures { IfOk result (λ command. command ≡ extend_items_of side (words_left words.entry)) }
 {
     let Some(list) = items_in(alloc, words)? else {
         return Ok(None)
     };
-    Ok(Some(SetCommand::SetExtend(Items::from(list))))
+    Ok(Some(Command::SetExtend(side, Items::from(list))))
 }
 
 // The items of all words that are left.

@@ -7,7 +7,7 @@ use Rattle.std.specs.declared.cmp.Ord as ord
 use Rattle.std.specs.declared.cmp.PartialEq as eq
 use Rattle.std.specs.declared.cmp.PartialOrd as partial
 use mir.Syntax.{named}
-use Rattle.fc_tree_search.proofs.WrittenPairs.{written_place}
+use Rattle.fc_map.specs.KeptPlace.{written_place}
 use Rattle.fc_map.specs.Entries.{Map, entries, IsSoundMap}
 use Rattle.fc_tree_node.specs.TreePlace.{IsPlaceIn, pair_in, before_gap_in, after_gap_in, before_pair_in, after_pair_in}
 use Rattle.fc_map.specs.Lends.{written_in}
@@ -31,6 +31,11 @@ module _ {K V : Type 0} {g : ord.Ghosts K} {g' : eq.Ghosts K} {g'' : partial.Gho
   -- The map, as the entry holds it.
   abbrev pub entry_map : Entry K V g g' g'' → Map K V
   entry_map e = (entry_map_ref e).now
+
+  -- The path of the search that found the place: to the pair, or to the gap of a leaf.
+  abbrev pub entry_path : Entry K V g g' g'' → List ℕ
+  entry_path (Vacant e) = e.path
+  entry_path (Occupied o) = o.path
 
   -- The pair that is there, if there is one.
   abbrev pub entry_pair : Entry K V g g' g'' → Option (K × V)

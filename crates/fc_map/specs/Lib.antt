@@ -3,9 +3,12 @@ pub mod Counts
 pub mod Place
 pub mod Lends
 pub mod LendsKey
+pub mod Full
 pub mod Room
+pub mod Fewest
 pub mod Unique
 pub mod Ready
+pub mod KeptPlace
 pub mod Entry
 pub mod ReadyEntry
 pub mod Writing

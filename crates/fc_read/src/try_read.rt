@@ -1,5 +1,6 @@
 //! Reading a bounded source to its end.
-ghost use Rattle.std.specs.Prelude.{◌≡◌, ℕ, ◌+◌, ◌<◌, ◌≤◌, ◌⊎◌, Option, List, [], Ok, length, IfOk, IsOk, OnOk, IfErr};
+ghost use Rattle.std.specs.Prelude.{◌≡◌, ℕ, ◌+◌, ◌<◌, ◌≤◌, ◌⊎◌, ⊤, Option, List, [], Ok, length, IfOk, IsOk, OnOk, IfErr};
+ghost use Rattle.std.specs.declared.io.Error.{Error};
 ghost use Rattle.std.specs.IoError.{error_kind};
 ghost use Rattle.std.specs.Io.Take.{take_limit, take_inner};
 ghost use Rattle.fc_read.specs.Reading.{IsMoved, IsWhole};
@@ -15,6 +16,8 @@ pub trait TryRead {
     ghost source: { Self → Option (List ℕ) };
     // How many bytes may be read.
     ghost bound: { Self → ℕ };
+    // By which errors a read of the source may fail, where it tells that.
+    ghost fails: { Self → Error → Type 0 } = { λ _ _. ⊤ };
 
     /// `try_read_up_to` from the source with its limit, which falls by the bytes read. Upstream: `TryRead::try_read_to_end`.
     ///
@@ -27,12 +30,13 @@ pub trait TryRead {
         ensures none { bound self.old ≡ 0 → (result ≡ Ok 0) × (source self.new ≡ source self.old) × (buf.new ≡ buf.old) }
         ensures error { IfErr result (λ e.
             ((buf.old.room < length buf.old.items + bound self.old) × (error_kind e ≡ ErrorKind.OutOfMemory) × (source self.new ≡ source self.old) × (buf.new ≡ buf.old))
-            ⊎ (length buf.new.items < length buf.old.items + bound self.old)) };
+            ⊎ ((length buf.old.items + bound self.old ≤ buf.new.room) × (length buf.new.items < length buf.old.items + bound self.old) × fails self.old e)) };
 
     /// The same into a new vector, which is dropped where that fails. Upstream: `TryRead::read_into_try_vec`.
     ///
     /// # Errors
-    /// As `try_read_up_to`. What was read before is lost, fewer bytes than the limit, by which the limit fell.
+    /// As `try_read_up_to`: a failed read's is the very error of the source. What was read before is lost, fewer bytes than the limit, by
+    /// which the limit fell.
     fn read_into_try_vec(&mut self, alloc: Global) -> io::Result<TryVec<u8>>
     where
         Self: Sized,
@@ -41,7 +45,7 @@ pub trait TryRead {
         ensures none { bound self.old ≡ 0 → IsOk result × IfOk result (λ v. v.items ≡ []) × (source self.new ≡ source self.old) }
         ensures error { IfErr result (λ e.
             ((error_kind e ≡ ErrorKind.OutOfMemory) × (source self.new ≡ source self.old) × (bound self.new ≡ bound self.old))
-            ⊎ ((lost : List ℕ) × (length lost < bound self.old) × IsMoved (source self.old) (source self.new) [] lost (bound self.old) × (bound self.new + length lost ≡ bound self.old))) }
+            ⊎ ((lost : List ℕ) × (length lost < bound self.old) × IsMoved (source self.old) (source self.new) [] lost (bound self.old) × (bound self.new + length lost ≡ bound self.old) × fails self.old e)) }
     {
         let mut buf = TryVec::new(alloc);
         self.try_read_to_end(&mut buf)?;

@@ -1,8 +1,10 @@
 //! The ordered set: a map whose values take no memory.
-ghost use Rattle.std.specs.Prelude.{◌≡◌, ◌+◌, ◌<◌, ◌↔◌, ◌⊎◌, [], length, IsTrue, IsSome, IsErr, IfOk, IfErr, OnOk, None};
+ghost use Rattle.std.specs.Prelude.{◌≡◌, ◌+◌, ◌<◌, ◌↔◌, ◌⊎◌, [], length, IsTrue, IsSome, IsErr, IfOk, IfErr, OnOk, OnErr, None};
 ghost use Rattle.std.specs.Option.{option_map};
 ghost use Rattle.fc_base.specs.Growth.{MayGrowRefuse};
 ghost use Rattle.fc_map.specs.Counts.{IsBounded};
+ghost use Rattle.fc_map.specs.Full.{TakesNode};
+ghost use Rattle.fc_map.specs.Fewest.{HasFewestMoves};
 ghost use Rattle.fc_map.specs.Entries.{IsSoundMap, now_pair, now_value, passed_in};
 ghost use Rattle.fc_set.specs.Items.{items, item_at, without, AreAscending, with_item, with_replaced};
 
@@ -152,6 +154,7 @@ impl<T: Ord + Drop> BTreeSet<T> {
         ensures new_item { IfErr result (λ _. item_at T.cmp (items self.old) item ≡ None) }
         ensures back { IfErr result (λ e. e.0 ≡ item) }
         ensures error { IfErr result (λ e. MayGrowRefuse (length (items self.old)) e.1) }
+        ensures only_full { OnErr result (length (items self.old) < usize.MAX → TakesNode T.cmp item self.old) }
         ensures full { item_at T.cmp (items self.old) item ≡ None → length (items self.old) ≡ usize.MAX → IsErr result }
         ensures ascending { AreAscending T.cmp (items self.new) }
         ensures sound { IsSoundMap self.new }
@@ -175,6 +178,7 @@ impl<T: Ord + Drop> BTreeSet<T> {
         ensures new_item { IfErr result (λ _. item_at T.cmp (items self.old) item ≡ None) }
         ensures back { IfErr result (λ e. e.0 ≡ item) }
         ensures error { IfErr result (λ e. MayGrowRefuse (length (items self.old)) e.1) }
+        ensures only_full { OnErr result (length (items self.old) < usize.MAX → TakesNode T.cmp item self.old) }
         ensures full { item_at T.cmp (items self.old) item ≡ None → length (items self.old) ≡ usize.MAX → IsErr result }
         ensures ascending { AreAscending T.cmp (items self.new) }
         ensures sound { IsSoundMap self.new }
@@ -211,6 +215,7 @@ impl<T: Ord + Drop> BTreeSet<T> {
         ensures comparisons { count.new.comparisons ≡ count.old.comparisons + passed_in Q.order (Q.sought item) self.old }
         ensures no_move { item_at Q.order (items self.old) (Q.sought item) ≡ None → count.new.moves ≡ count.old.moves }
         ensures moved { IsSome (item_at Q.order (items self.old) (Q.sought item)) → count.old.moves < count.new.moves }
+        ensures fewest { HasFewestMoves self.old self.new count.old count.new }
         ensures bounded { IsBounded (length (items self.old)) count.old count.new }
     {
         self.map.remove_counted(item, count).is_some()
@@ -238,6 +243,7 @@ impl<T: Ord + Drop> BTreeSet<T> {
         ensures comparisons { count.new.comparisons ≡ count.old.comparisons + passed_in Q.order (Q.sought item) self.old }
         ensures no_move { item_at Q.order (items self.old) (Q.sought item) ≡ None → count.new.moves ≡ count.old.moves }
         ensures moved { IsSome (item_at Q.order (items self.old) (Q.sought item)) → count.old.moves < count.new.moves }
+        ensures fewest { HasFewestMoves self.old self.new count.old count.new }
         ensures bounded { IsBounded (length (items self.old)) count.old count.new }
     {
         item_of(for_sets::take(&mut self.map, item, count))
@@ -255,6 +261,7 @@ impl<T: Ord + Drop> BTreeSet<T> {
         ensures new_item { IfErr result (λ _. item_at T.cmp (items self.old) item ≡ None) }
         ensures back { IfErr result (λ e. e.0 ≡ item) }
         ensures error { IfErr result (λ e. MayGrowRefuse (length (items self.old)) e.1) }
+        ensures only_full { OnErr result (length (items self.old) < usize.MAX → TakesNode T.cmp item self.old) }
         ensures full { item_at T.cmp (items self.old) item ≡ None → length (items self.old) ≡ usize.MAX → IsErr result }
         ensures ascending { AreAscending T.cmp (items self.new) }
         ensures sound { IsSoundMap self.new }
@@ -278,6 +285,7 @@ impl<T: Ord + Drop> BTreeSet<T> {
         ensures new_item { IfErr result (λ _. item_at T.cmp (items self.old) item ≡ None) }
         ensures back { IfErr result (λ e. e.0 ≡ item) }
         ensures error { IfErr result (λ e. MayGrowRefuse (length (items self.old)) e.1) }
+        ensures only_full { OnErr result (length (items self.old) < usize.MAX → TakesNode T.cmp item self.old) }
         ensures full { item_at T.cmp (items self.old) item ≡ None → length (items self.old) ≡ usize.MAX → IsErr result }
         ensures ascending { AreAscending T.cmp (items self.new) }
         ensures sound { IsSoundMap self.new }

@@ -35,3 +35,16 @@ module _ {K V : Type 0} (cmp : K → K → Ordering) (total : IsTotalOrder cmp) 
           → AllByRecursion (λ z. cmp x.0 z.0 ≡ Less) t
       all_back_of x y [] t l r = all_map _ _ (λ z m. total.trans x.0 y.0 z.0 l m) t r
       all_back_of x y (w ∷ s) t l r = all_back_of x y s t l r.1
+
+  -- the last of the one lies before the first of the other
+  pub last_before : (i : ℕ) (s t : List (K × V)) (last first : K × V) → i + 1 ≡ length s → slice_get s i ≡ Some last → slice_get t 0 ≡ Some first
+      → IsAscending cmp (s ++ t) → cmp last.0 first.0 ≡ Less
+  last_before i [] t last first n e f a = absurd (omega arith)
+  last_before zero (x ∷ []) [] last first n e f a = absurd (cc f)
+  last_before zero (x ∷ []) (y ∷ t) last first n e f a =
+      let q : last ≡ x = cc e in
+      let r : first ≡ y = cc f in
+      ap (λ z. cmp z.0 first.0) q ∙ ap (λ z. cmp x.0 z.0) r ∙ a.0.0
+  last_before (suc i) (x ∷ []) t last first n e f a = absurd (omega arith)
+  last_before zero (x ∷ y ∷ s) t last first n e f a = absurd (omega arith)
+  last_before (suc i) (x ∷ y ∷ s) t last first n e f a = last_before i (y ∷ s) t last first (omega arith) e f a.1

@@ -16,7 +16,7 @@ use std::mem;
 
 /// Moves all pairs of `theirs` into `ours`, and answers how many there are then. Of two equal keys the pair of `theirs` stays, and
 /// ours is dropped. Where either holds none nothing is asked for and nothing compared. Where all keys of `theirs` lie beyond ours, that
-/// takes one comparison, and a few nodes of each level from the shorter tree's root up. Else each key is compared at most once, and
+/// takes just one comparison, and a few nodes of each level from the shorter tree's root up. Else each key is compared at most once, and
 /// there are at least as many comparisons as the shorter tree has pairs. No move is counted.
 ///
 /// # Errors
@@ -45,6 +45,7 @@ pub fn try_append<K: Ord + Drop, V: Drop>(
     ensures grown { count.old.comparisons ≤ count.new.comparisons }
     ensures counted { IfOk result (λ _. 0 < our_len → 0 < their_len → count.old.comparisons < count.new.comparisons) }
     ensures merged { IfOk result (λ _. ¬ IsAscending K.cmp (entries ours.old ++ entries theirs.old) → count.old.comparisons + min our_len their_len ≤ count.new.comparisons) }
+    ensures beyond { 0 < our_len → 0 < their_len → our_len + their_len ≤ usize.MAX → IsAscending K.cmp (entries ours.old ++ entries theirs.old) → count.new.comparisons ≡ count.old.comparisons + 1 }
     ensures moves { count.new.moves ≡ count.old.moves }
 {
     if their_len == 0 {
@@ -77,6 +78,7 @@ fn is_beyond<K: Ord, V>(
     requires order { IsAscending K.cmp (entries ours.now) × IsAscending K.cmp (entries theirs.now) }
     requires some { (0 < length (entries ours.now)) × (0 < length (entries theirs.now)) }
     ensures beyond { IsTrue result → IsAscending K.cmp (entries ours.now ++ entries theirs.now) }
+    ensures told { IsAscending K.cmp (entries ours.now ++ entries theirs.now) → IsTrue result }
     ensures comparisons { count.new.comparisons ≡ count.old.comparisons + 1 }
     ensures moves { count.new.moves ≡ count.old.moves }
 {

@@ -1,15 +1,16 @@
 -- A new builder, and one whose last leaf was full.
-use Rattle.std.proofs.Common.{◌≡◌, ℕ, zero, suc, ◌+◌, ◌*◌, ◌/◌, ◌<◌, ◌≤◌, List, [], ◌∷◌, ◌++◌, length, refl, sym, ap, ◌∙◌, subst, arith, append_assoc}
+use Rattle.std.proofs.Common.{◌≡◌, ℕ, zero, suc, ◌+◌, ◌/◌, ◌^◌, ◌<◌, ◌≤◌, List, [], ◌∷◌, ◌++◌, length, refl, sym, ap, ◌∙◌, subst, arith, append_assoc}
 use Rattle.std.proofs.Common.{append-nil, length-append, Option, Some, None}
 use Rattle.std.specs.Option.{option_to_list}
 use Rattle.std.specs.List.{AllByRecursion}
-use Rattle.fc_base.specs.Sizes.{capacity, most_children}
+use Rattle.fc_base.specs.Sizes.{capacity, most_children, most_levels}
+use Rattle.fc_base.proofs.Sizes.{digits_enough}
 use Rattle.fc_tree_node.specs.declared.node.Node.{Node}
 use Rattle.fc_tree_node.specs.Node.{own_pairs, pairs_of, IsLeaf, IsSound, IsBlankLeaf}
 use Rattle.fc_tree_node.proofs.Lists.{all_front, all_back}
 use Rattle.fc_tree_node.proofs.Pairs.{leaf_pairs}
 use Rattle.fc_tree_drain.specs.Opened.{before_back}
-use Rattle.fc_tree_build.specs.Spares.{own_count, worth, IsEnough, leaves_for, AreInnerFor}
+use Rattle.fc_tree_build.specs.Spares.{inner_above, inner_for, IsEnough, leaves_for}
 use Rattle.fc_tree_build.specs.Built.{last_pairs, IsLast}
 
 pub leaves_some : (n : ℕ) → 0 < n → n / most_children + 1 ≡ leaves_for n
@@ -37,8 +38,12 @@ module _ {K V : Type 0} where
 
   -- how many leaves are left
   pub spare_leaves : (n : ℕ) (all new : List (Node K V)) (o : Option (Node K V)) → all ≡ new ++ option_to_list o → length all ≡ leaves_for n
-      → (o ≡ None → length all ≡ 0) → length new ≤ n / most_children
-  spare_leaves n all new None e l z = let k = ap length e ∙ length-append new [] in let y = z refl in omega arith
+      → (o ≡ None → length all ≡ 0) → length new ≡ n / most_children
+  spare_leaves n all new None e l z =
+      let k = ap length e ∙ length-append new [] in
+      let y = z refl in
+      let none = none_left n (omega arith) in
+      omega arith
   spare_leaves n all new (Some b) e l z =
       let k = ap length e ∙ length-append new (b ∷ []) in
       let m = some_left n (length new) (omega arith) in
@@ -46,7 +51,10 @@ module _ {K V : Type 0} where
 
   pub first_last : (n : ℕ) (all new s : List (Node K V)) (o : Option (Node K V)) → s ≡ [] → all ≡ new ++ option_to_list o → length all ≡ leaves_for n
       → AllByRecursion (λ x. IsBlankLeaf x) all → (o ≡ None → length all ≡ 0) → IsLast o (length new) n s
-  first_last n all new s None f e l a z = (none_left n (let y = z refl in omega arith), f)
+  first_last n all new s None f e l a z =
+      let k = ap length e ∙ length-append new [] in
+      let y = z refl in
+      (none_left n (omega arith), omega arith, f)
   first_last n all new s (Some b) f e l a z =
       let k = ap length e ∙ length-append new (b ∷ []) in
       let m = some_left n (length new) (omega arith) in
@@ -58,15 +66,12 @@ module _ {K V : Type 0} where
       → AllByRecursion (λ x. IsBlankLeaf x) new
   first_leaves all new o e a = all_front (λ (x : Node K V). IsBlankLeaf x) new (option_to_list o) (subst (AllByRecursion (λ (x : Node K V). IsBlankLeaf x)) e a)
 
-  pub first_enough : (n inner q : ℕ) (s : List (Node K V)) → s ≡ [] → q ≤ n / most_children → AreInnerFor n inner → (d : ℕ) × IsEnough d inner q s
-  first_enough n inner q s f l i =
-      let a = ap length f in
-      let w : worth s ≡ 0 = ap worth f in
-      let k : own_count s ≡ 0 = ap own_count f in
-      let x = i.1 in
-      let y = i.2 in
-      let z = i.3 in
-      (i.0, (omega arith, x, omega arith, omega arith))
+  pub first_enough : (n inner q : ℕ) (s : List (Node K V)) → s ≡ [] → n < 2 ^ 64 → q ≡ n / most_children → inner ≡ inner_for n → IsEnough inner q s
+  first_enough n inner q (b ∷ s) f fits l i = absurd (cc f)
+  first_enough n inner q [] f fits l i =
+      let high = digits_enough in
+      let all : inner_for n ≡ inner_above most_levels (0 + q) = ap (inner_above most_levels) (omega arith) in
+      (omega arith, omega arith, omega arith, omega arith)
 
   pub first_pairs : (all new s : List (Node K V)) (o : Option (Node K V)) → s ≡ [] → all ≡ new ++ option_to_list o → AllByRecursion (λ x. IsBlankLeaf x) all
       → before_back s ++ last_pairs o ≡ []
@@ -80,13 +85,6 @@ module _ {K V : Type 0} where
 
   pub leaf_sound : (n : Node K V) → length (own_pairs n) ≤ capacity → IsLeaf n → capacity ≤ length (own_pairs n) → IsSound 0 n
   leaf_sound n h l f = (omega arith, (h, l))
-
-  pub enough_for_one : (d i q : ℕ) (s : List (Node K V)) → 1 ≤ q → IsEnough d i q s → IsEnough d i 1 s
-  enough_for_one d i q s h e = let w = e.2 in let k = e.3 in (e.0, e.1, omega arith, omega arith)
-
-  pub enough_left : (d i j q r : ℕ) (s new : List (Node K V)) → IsEnough d i q s → q ≡ r + 1 → length new ≤ d → worth new ≡ worth s + 1
-      → capacity * (j + length new) + own_count s + 1 ≡ capacity * (i + length s) + own_count new → IsEnough d j r new
-  enough_left d i j q r s new e f l w k = let a = e.2 in let b = e.3 in (l, e.1, omega arith, omega arith)
 
   pub push_pairs : (s new : List (Node K V)) (blank : Node K V) (o : Option (Node K V)) (b : Node K V) (pair : K × V) (zs : List (K × V)) → o ≡ Some b
       → IsLeaf b → own_pairs blank ≡ [] → before_back s ++ last_pairs o ≡ zs → before_back new ≡ before_back s ++ (pairs_of b ++ pair ∷ [])

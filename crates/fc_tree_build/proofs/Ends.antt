@@ -18,6 +18,7 @@ use Rattle.fc_tree_node.proofs.Pairs.{leaf_children}
 use Rattle.fc_tree_drain.specs.Opened.{before_back_in, before_back, closing}
 use Rattle.fc_tree_drain.proofs.Opening.{no_item, whole_back, back_push, empty_back}
 use Rattle.fc_tree_build.specs.Spine.{IsOpenEnd, IsSpine, level_above}
+use Rattle.fc_tree_build.specs.Built.{IsBehindLast}
 
 -- an answer that is less
 pub less_if : (o : Ordering) (b : Bool) → b ≡ is_lt o → IsTrue b → o ≡ Less
@@ -25,7 +26,27 @@ less_if Less b e h = refl
 less_if Equal b e h = absurd (false≢true (sym e ∙ h))
 less_if Greater b e h = absurd (false≢true (sym e ∙ h))
 
+-- and so it is told
+pub less_then : (o : Ordering) (b : Bool) → b ≡ is_lt o → o ≡ Less → IsTrue b
+less_then Less b e h = e
+less_then Equal b e h = absurd (cc h)
+less_then Greater b e h = absurd (cc h)
+
 module _ {X : Type 0} where
+  last_same : (a b : List X) (x y : X) → a ++ x ∷ [] ≡ b ++ y ∷ [] → x ≡ y
+  last_same [] [] x y e = cc e
+  last_same [] (z ∷ b) x y e = absurd (let n = ap length e ∙ ap suc (length-append b (y ∷ [])) in omega arith)
+  last_same (z ∷ a) [] x y e = absurd (let n = ap length e in let m = length-append a (x ∷ []) in omega arith)
+  last_same (z ∷ a) (w ∷ b) x y e = last_same a b x y (cc e)
+
+  -- where a list ends with an item, so does its back that has one
+  last_of_back : (a b front : List X) (x : X) → 0 < length b → a ++ b ≡ front ++ x ∷ [] → (lead : List X) × (b ≡ lead ++ x ∷ [])
+  last_of_back a [] front x some e = absurd (omega arith)
+  last_of_back a (y ∷ []) front x some e = ([], ap (λ z. z ∷ []) (last_same a front y x e))
+  last_of_back a (y ∷ z ∷ b) front x some e =
+      let r = last_of_back (a ++ y ∷ []) (z ∷ b) front x (omega arith) (append_assoc a (y ∷ []) (z ∷ b) ∙ e) in
+      (y ∷ r.0, ap (λ zs. y ∷ zs) r.1)
+
   pub taken : (s : List X) (i : ℕ) (b : X) → i < length s → b ≡ slice_index_or s i b → take (i + 1) s ≡ take i s ++ b ∷ []
   taken s i b h e = ap (λ j. take j s) (add-one i) ∙ take-suc s i b h ∙ ap (λ x. take i s ++ x ∷ []) (sym e)
 
@@ -45,6 +66,15 @@ module _ {X : Type 0} where
       (c ++ p ∷ r.0, ap (λ zs. c ++ p ∷ zs) r.1 ∙ sym (append_assoc c (p ∷ r.0) _))
 
 module _ {K V : Type 0} where
+  -- a key behind the last pair of all is behind that of the last leaf
+  pub behind_leaf : (cmp : K → K → Ordering) (front own s : List (K × V)) (k : K) → front ++ own ≡ s → 0 < length own → IsBehindLast cmp s k
+      → IsBehindLast cmp own k
+  behind_leaf cmp front own s k e some b = let r = last_of_back front own b.0 b.1 some (e ∙ b.2) in (r.0, b.1, r.1, b.3)
+
+  pub behind_told : (cmp : K → K → Ordering) (front own : List (K × V)) (last : K × V) (k : K) → own ≡ front ++ last ∷ [] → IsBehindLast cmp own k
+      → cmp last.0 k ≡ Less
+  behind_told cmp front own last k e b = ap (λ z. cmp z.0 k) (last_same front b.0 last b.1 (sym e ∙ b.2)) ∙ b.3
+
   pub spine_at : (h : ℕ) (s : List (Node K V)) (i : ℕ) (b : Node K V) → IsSpine h s → i < length s → b ≡ slice_index_or s i b → (k : ℕ) × IsOpenEnd k b
   spine_at h [] i b f l e = absurd (omega arith)
   spine_at h (x ∷ s) zero b f l e = (level_above h s, subst (λ y. IsOpenEnd (level_above h s) y) (sym e) f.0)

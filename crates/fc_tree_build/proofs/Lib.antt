@@ -1,4 +1,4 @@
-pub mod Digits
+pub mod Above
 pub mod SpineFacts
 pub mod Builders
 pub mod Ends

@@ -1,11 +1,11 @@
 -- A spine with a node at its end.
-use Rattle.std.proofs.Common.{◌≡◌, ℕ, suc, ◌+◌, ◌*◌, ◌^◌, ◌<◌, ◌≤◌, ◌⊎◌, inl, inr, List, [], ◌∷◌, ◌++◌, length, refl, sym, ap, ◌∙◌}
+use Rattle.std.proofs.Common.{◌≡◌, ℕ, suc, ◌+◌, ◌-◌, ◌*◌, ◌^◌, ◌<◌, ◌≤◌, ◌⊎◌, inl, inr, List, [], ◌∷◌, ◌++◌, length, refl, sym, ap, ◌∙◌}
 use Rattle.std.proofs.Common.{subst, arith, add-one, lit<, append_assoc, length-append, pow-suc}
 use Rattle.std.specs.Prelude.{nat_le, if◌then◌else◌}
-use Rattle.std.proofs.lemmas.Bool.{cases_lt, le-leb, lt-leb}
+use Rattle.std.proofs.lemmas.Bool.{cases_lt}
 use Rattle.std.proofs.Math.Nat.{pow-le-pow_right}
 use Rattle.std.specs.List.{AllByRecursion}
-use Rattle.fc_base.specs.Sizes.{capacity, most_children}
+use Rattle.fc_base.specs.Sizes.{capacity, most_children, most_height, most_levels}
 use Rattle.fc_tree_node.specs.declared.node.Node.{Node}
 use Rattle.fc_tree_node.specs.Node.{own_pairs, children_of, pairs_of, items_or_none, IsLeaf, IsInner, IsSound, IsBlankInner}
 use Rattle.fc_tree_node.specs.Bordered.{LastAfter, IsRightBordered}
@@ -13,14 +13,11 @@ use Rattle.fc_tree_node.proofs.Lists.{all_both, all_front, all_back}
 use Rattle.fc_tree_drain.specs.Opened.{before_back_in, before_back}
 use Rattle.fc_tree_drain.proofs.Opening.{back_last, whole_back, back_push, empty_back}
 use Rattle.fc_tree_build.specs.Spine.{IsOpenEnd, level_above, IsSpine}
-use Rattle.fc_tree_build.specs.Spares.{own_count, digits_after, worth, needed_after, needed, IsEnough}
+use Rattle.fc_tree_build.specs.Spares.{inner_above, own_count, digits_after, worth, needed_after, needed, IsShort, IsEnough}
+use Rattle.fc_tree_build.proofs.Above.{full_one, room_one, above_first, above_next, above_grows}
 
--- what one more node, with k pairs, makes of how many are needed
-full_one : (a k : ℕ) → capacity ≤ k → (if nat_le capacity k then suc a else 0) ≡ suc a
-full_one a k h = ap (λ f. if f then suc a else 0) (le-leb capacity k h)
-
-room_one : (a k : ℕ) → k < capacity → (if nat_le capacity k then suc a else 0) ≡ 0
-room_one a k h = ap (λ f. if f then suc a else 0) (lt-leb capacity k h)
+more_digits : (i j : ℕ) → i ≤ j → most_children ^ i ≤ most_children ^ j
+more_digits i j l = pow-le-pow_right (lit< tt) l
 
 -- Of l nodes as many are full as are needed, and as their pairs and their digits show; or all of them are, and there is a new root.
 abbrev IsTally : ℕ → ℕ → ℕ → ℕ → Type 0
@@ -210,17 +207,103 @@ module _ {K V : Type 0} where
       subst (λ j. IsTally (needed_after a (b ∷ s)) (digits_after w (b ∷ s)) j (l + suc (length s))) e
       (subst (λ j. IsTally (needed_after a (b ∷ s)) (digits_after w (b ∷ s)) (n + k + own_count s) j) f more)
 
-  pub enough_needed : (d i : ℕ) (s : List (Node K V)) → IsEnough d i 1 s → (needed s ≤ i) × (needed s ≤ d)
-  enough_needed d i s e = within (tally 1 0 0 0 s (inl (omega arith, omega arith, omega arith))) (cases_lt (length s) d)
+  digits_below : (h l w : ℕ) (s : List (Node K V)) → IsSpine h s → w < most_children ^ l → digits_after w s < most_children ^ (l + length s)
+  digits_below h l w [] f b = subst (λ j. w < most_children ^ j) (let e : l ≡ l + 0 = omega arith in e) b
+  digits_below h l w (n ∷ s) f b =
+      let few = f.0.0 in
+      let more = pow-suc most_children l in
+      let all = digits_below h (suc l) (most_children * w + length (own_pairs n)) s f.1 (omega arith) in
+      subst (λ j. digits_after w (n ∷ s) < most_children ^ j) (let e : suc l + length s ≡ l + suc (length s) = omega arith in e) all
+
+  first_some : (h : ℕ) (b : Node K V) (s : List (Node K V)) → IsSpine h (b ∷ s) → IsShort (b ∷ s) → 0 < length (own_pairs b)
+  first_some h b s f i = within (cases_lt 0 (length (own_pairs b)))
     where
-      within : IsTally (needed s) (worth s) (0 + own_count s) (0 + length s) → (length s < d) ⊎ (d ≤ length s) → (needed s ≤ i) × (needed s ≤ d)
-      within (inr t) o = let a = t.0 in let b = t.1 in let l = e.0 in let n = e.3 in (omega arith, omega arith)
-      within (inl t) (inl o) = let a = t.0 in let b = t.2 in let n = e.3 in (omega arith, omega arith)
+      within : (0 < length (own_pairs b)) ⊎ (length (own_pairs b) ≤ 0) → 0 < length (own_pairs b)
+      within (inl some) = some
+      within (inr none) =
+          let one : most_children ^ 0 ≡ 1 = refl in
+          let less : worth (b ∷ s) < most_children ^ (0 + length s) = digits_below h 0 (most_children * 0 + length (own_pairs b)) s f.1 (omega arith) in
+          let none : 0 + length s ≡ length s = omega arith in
+          let same = ap (λ j. most_children ^ j) none in
+          let long : most_children ^ suc (length s) ≤ most_children * worth (b ∷ s) + 1 = i in
+          let more = pow-suc most_children (length s) in
+          absurd (omega arith)
+
+  above_later : (h d a w : ℕ) (s : List (Node K V)) → IsSpine h s → 0 < w → inner_above d (w + 1) ≡ inner_above d w + a
+      → inner_above (d + length s) (digits_after w s + 1) ≡ inner_above (d + length s) (digits_after w s) + needed_after a s
+  above_later h d a w [] f p e = subst (λ j. inner_above j (w + 1) ≡ inner_above j w + a) (let q : d ≡ d + 0 = omega arith in q) e
+  above_later h d a w (b ∷ s) f p e =
+      let k = length (own_pairs b) in
+      let v = most_children * w + k in
+      let next = above_next d w k a f.0.0 (omega arith) e in
+      let all = above_later h (suc d) (if nat_le capacity k then suc a else 0) v s f.1 (omega arith) next in
+      let q : suc d + length s ≡ d + suc (length s) = omega arith in
+      subst (λ j. inner_above j (digits_after v s + 1) ≡ inner_above j (digits_after v s) + needed_after a (b ∷ s)) q all
+
+  above_one : (h : ℕ) (s : List (Node K V)) → IsSpine h s → IsShort s → length s ≤ most_height
+      → inner_above most_levels (worth s + 1) ≡ inner_above most_levels (worth s) + needed s
+  above_one h [] f i l = above_first most_levels (omega arith)
+  above_one h (b ∷ s) f i l =
+      let k = length (own_pairs b) in
+      let d = most_height - length s in
+      let some = first_some h b s f i in
+      let next = above_next d 0 k 1 f.0.0 (omega arith) (above_first d (omega arith)) in
+      let all = above_later h (suc d) (if nat_le capacity k then 2 else 0) (most_children * 0 + k) s f.1 (omega arith) next in
+      let q : suc d + length s ≡ most_levels = omega arith in
+      subst (λ j. inner_above j (worth (b ∷ s) + 1) ≡ inner_above j (worth (b ∷ s)) + needed (b ∷ s)) q all
+
+  pub enough_needed : (h i q : ℕ) (s : List (Node K V)) → IsSpine h s → 1 ≤ q → IsEnough i q s → (needed s ≤ i) × (needed s ≤ most_height)
+  enough_needed h i q s f some e = (
+    let one = above_one h s f e.1 e.0 in
+        let grows = above_grows most_levels (worth s + 1) (worth s + q) (omega arith) in
+        let all = e.3 in
+        omega arith,
+    within (tally 1 0 0 0 s (inl (omega arith, omega arith, omega arith))) (cases_lt (length s) most_height),
+  )
+    where
+      within : IsTally (needed s) (worth s) (0 + own_count s) (0 + length s) → (length s < most_height) ⊎ (most_height ≤ length s) → needed s ≤ most_height
+      within (inr t) o = let a = t.0 in let l = e.0 in omega arith
+      within (inl t) (inl o) = let a = t.0 in omega arith
       within (inl t) (inr o) =
           let many : most_children ^ (0 + length s) ≤ worth s + 1 = t.1 in
-          let less : worth s + 1 < most_children ^ d = e.2 in
-          let big : most_children ^ d ≤ most_children ^ (0 + length s) = pow-le-pow_right (lit< tt) (omega arith) in
+          let less : worth s + q < most_children ^ most_height = e.2 in
+          let big = more_digits most_height (0 + length s) (omega arith) in
           absurd (omega arith)
+
+  -- a spine stays short, with one more subtree put at its end
+  short_left : (s new : List (Node K V)) → IsShort s → worth new ≡ worth s + 1 → ((d : ℕ) → length s ≤ d → needed s ≤ d → length new ≤ d) → IsShort new
+  short_left s new i w f = within (tally 1 0 0 0 s (inl (omega arith, omega arith, omega arith))) (cases_lt (length s) (needed s))
+    where
+      within : IsTally (needed s) (worth s) (0 + own_count s) (0 + length s) → (length s < needed s) ⊎ (needed s ≤ length s) → IsShort new
+      within t (inr few) =
+          let l = f (length s) (omega arith) few in
+          let big = more_digits (length new) (length s) l in
+          let short : most_children ^ length s ≤ most_children * worth s + 1 = i in
+          omega arith
+      within (inr t) (inl all) = absurd (let a = t.0 in omega arith)
+      within (inl t) (inl all) =
+          let a = t.0 in
+          let many : most_children ^ (0 + length s) ≤ worth s + 1 = t.1 in
+          let l = f (suc (0 + length s)) (omega arith) (omega arith) in
+          let big = more_digits (length new) (suc (0 + length s)) l in
+          let more = pow-suc most_children (0 + length s) in
+          omega arith
+
+  pub enough_left : (h i j q r : ℕ) (s new : List (Node K V)) → IsSpine h s → IsEnough i q s → q ≡ r + 1 → length new ≤ most_height
+      → worth new ≡ worth s + 1 → i ≡ j + needed s → ((d : ℕ) → length s ≤ d → needed s ≤ d → length new ≤ d) → IsEnough j r new
+  enough_left h i j q r s new f e one l w u short =
+      let next = above_one h s f e.1 e.0 in
+      let now = ap (inner_above most_levels) w in
+      let last : inner_above most_levels (worth new + r) ≡ inner_above most_levels (worth s + q) = ap (inner_above most_levels) (omega arith) in
+      let all = e.3 in
+      let high = e.2 in
+      (l, short_left s new e.1 w short, omega arith, omega arith)
+
+  -- how many spare nodes one more subtree takes where the spine's last node has room, or where there is none
+  pub used_here : (s : List (Node K V)) (i j l : ℕ) → (0 < length s → j ≡ i) → (0 < length s → needed s ≡ 0) → i + length s ≡ j + l + 1
+      → l ≡ length s - 1 → i ≡ j + needed s
+  used_here [] i j l k r n f = omega arith
+  used_here (b ∷ s) i j l k r n f = let same = k (omega arith) in let none = r (omega arith) in omega arith
 
   pub not_blank : (s : List (Node K V)) (n : Node K V) → (length s ≡ 0 → own_pairs n ≡ []) → capacity ≤ length (own_pairs n) → 0 < length s
   not_blank [] n f h = absurd (let e = ap length (f refl) in omega arith)

@@ -1,5 +1,5 @@
 -- What contracts see of a builder, and how it is laid out.
-use Rattle.std.specs.Prelude.{◌≡◌, ℕ, ◌+◌, ◌-◌, ◌*◌, ◌^◌, ◌≤◌, List, [], ◌∷◌, ◌++◌, length, Option, Some, None}
+use Rattle.std.specs.Prelude.{◌≡◌, ℕ, ◌+◌, ◌-◌, ◌/◌, ◌^◌, ◌≤◌, List, [], ◌∷◌, ◌++◌, length, Option, Some, None}
 use Rattle.std.specs.List.{AllByRecursion}
 use Rattle.std.specs.declared.cmp.Ordering.{Ordering}
 use Rattle.std.specs.declared.cmp.Ordering.TheVariants.{Less}
@@ -16,6 +16,11 @@ pub record Built (K V : Type 0) : Type 0 where
   pub pairs : List (K × V)
   pub room : ℕ
 
+-- The pairs of a tree that grows, in order, and for how many more its last leaf has room: for none where there is no leaf.
+pub record Grown (K V : Type 0) : Type 0 where
+  pub pairs : List (K × V)
+  pub room : ℕ
+
 module _ {K V : Type 0} where
   -- The pairs of the last leaf, if there is one.
   abbrev pub last_pairs : Option (Node K V) → List (K × V)
@@ -26,9 +31,14 @@ module _ {K V : Type 0} where
   abbrev pub built : Inside K V → Built K V
   built b = record { pairs = before_back b.spine ++ last_pairs b.last; room = b.room }
 
-  -- The pairs of a tree that grows.
-  abbrev pub grown : List (Node K V) → Option (Node K V) → List (K × V)
-  grown s last = before_back s ++ last_pairs last
+  -- For how many more pairs the last leaf has room, if there is one.
+  abbrev pub last_room : Option (Node K V) → ℕ
+  last_room None = 0
+  last_room (Some leaf) = capacity - length (own_pairs leaf)
+
+  -- The pairs of a tree that grows, and the room of its last leaf.
+  abbrev pub grown : List (Node K V) → Option (Node K V) → Grown K V
+  grown s last = record { pairs = before_back s ++ last_pairs last; room = last_room last }
 
   -- The tree so far stands above the last leaf and is not too high. With no leaf there is nothing else.
   abbrev pub IsAbove : List (Node K V) → Option (Node K V) → Type 0
@@ -43,14 +53,14 @@ module _ {K V : Type 0} where
   abbrev pub IsBehindLast : (K → K → Ordering) → List (K × V) → K → Type 0
   IsBehindLast cmp s k = (front : List (K × V)) × (last : K × V) × (s ≡ front ++ last ∷ []) × (cmp last.0 k ≡ Less)
 
-  -- The last leaf and so many spare ones have room for so many more pairs and one between each two leaves. With no leaf there is
-  -- no room and nothing else.
+  -- There are as many spare leaves as so many more pairs take behind those of the last one, and no more: each next leaf takes a pair between
+  -- it and the one before, and as many as it holds. With no leaf there is no room and nothing else.
   abbrev pub IsLast : Option (Node K V) → ℕ → ℕ → List (Node K V) → Type 0
-  IsLast None spares room s = (room ≡ 0) × (s ≡ [])
-  IsLast (Some leaf) spares room s = (length (own_pairs leaf) ≤ capacity) × IsLeaf leaf × (length (own_pairs leaf) + room ≤ most_children * spares + capacity)
+  IsLast None spares room s = (room ≡ 0) × (spares ≡ 0) × (s ≡ [])
+  IsLast (Some leaf) spares room s = (length (own_pairs leaf) ≤ capacity) × IsLeaf leaf × (spares ≡ (length (own_pairs leaf) + room) / most_children)
 
-  -- The tree so far stands above the last leaf, and there are enough spare nodes for the room.
+  -- The tree so far stands above the last leaf, and there are just as many spare nodes as the room takes.
   abbrev pub IsBuilder : Inside K V → Type 0
   IsBuilder b = IsLast b.last (length b.leaves.items) b.room b.spine × IsSpine 0 b.spine
       × AllByRecursion (λ n. IsBlankLeaf n) b.leaves.items × AllByRecursion (λ n. IsBlankInner n) b.inner.items
-      × ((d : ℕ) × IsEnough d (length b.inner.items) (length b.leaves.items) b.spine)
+      × IsEnough (length b.inner.items) (length b.leaves.items) b.spine

@@ -1,6 +1,6 @@
--- How many nodes are enough for a tree that grows at its right end.
+-- How many nodes a tree takes that grows at its right end.
 use Rattle.std.specs.Prelude.{◌≡◌, ℕ, zero, suc, ◌+◌, ◌*◌, ◌/◌, ◌^◌, ◌<◌, ◌≤◌, List, [], ◌∷◌, length, nat_le, if◌then◌else◌}
-use Rattle.fc_base.specs.Sizes.{capacity, most_children, most_height}
+use Rattle.fc_base.specs.Sizes.{capacity, most_children, most_height, most_levels}
 use Rattle.fc_tree_node.specs.declared.node.Node.{Node}
 use Rattle.fc_tree_node.specs.Node.{own_pairs}
 
@@ -10,9 +10,16 @@ abbrev pub leaves_for : ℕ → ℕ
 leaves_for zero = 0
 leaves_for (suc n) = suc n / most_children + 1
 
--- So many inner nodes are enough for n pairs: one for as many pairs between two leaves as a node holds, and one for each level.
-abbrev pub AreInnerFor : ℕ → ℕ → Type 0
-AreInnerFor n inner = (levels : ℕ) × (levels ≤ most_height) × (n / most_children < most_children ^ levels) × (inner ≡ n / most_children / capacity + levels)
+-- How many inner nodes so many subtrees take that are put one after another at the end of a tree, each with the pair behind it, where those
+-- nodes have at most d levels: right above the subtrees one for as many as a node has children, and one more; and those above these.
+abbrev pub inner_above : ℕ → ℕ → ℕ
+inner_above zero n = 0
+inner_above (suc d) zero = 0
+inner_above (suc d) (suc n) = suc n / most_children + 1 + inner_above d (suc n / most_children)
+
+-- How many inner nodes a tree of n pairs has that is made of them in order, where each leaf but the last is full.
+abbrev pub inner_for : ℕ → ℕ
+inner_for n = inner_above most_levels (n / most_children)
 
 module _ {K V : Type 0} where
   -- How many pairs stand in the nodes themselves.
@@ -40,7 +47,11 @@ module _ {K V : Type 0} where
   abbrev pub needed : List (Node K V) → ℕ
   needed s = needed_after 1 s
 
-  -- With so many spare nodes, so many more subtrees can be put at the spine's end, and it then has at most d nodes: the pairs that
-  -- they bring fill nodes, and what is left of them fills none.
-  abbrev pub IsEnough : ℕ → ℕ → ℕ → List (Node K V) → Type 0
-  IsEnough d spares more s = (length s ≤ d) × (d ≤ most_height) × (worth s + more < most_children ^ d) × (own_count s + more + capacity * d < capacity * (spares + length s + 1))
+  -- The nodes are as few as they can be: the first has a pair, so that the digits are no more than the number needs.
+  abbrev pub IsShort : List (Node K V) → Type 0
+  IsShort s = most_children ^ length s ≤ most_children * worth s + 1
+
+  -- There are as many spare nodes as so many more subtrees at the spine's end take, and no more; the tree is then not too high.
+  abbrev pub IsEnough : ℕ → ℕ → List (Node K V) → Type 0
+  IsEnough spares more s = (length s ≤ most_height) × IsShort s × (worth s + more < most_children ^ most_height)
+      × (spares + inner_above most_levels (worth s) ≡ inner_above most_levels (worth s + more))

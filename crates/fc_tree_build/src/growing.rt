@@ -1,5 +1,5 @@
 //! A tree that grows at its right end, with its nodes made as they are needed.
-ghost use Rattle.std.specs.Prelude.{◌≡◌, ◌+◌, ◌<◌, ◌≤◌, ◌⊎◌, [], ◌∷◌, ◌++◌, length, IsTrue, IfOk, IfErr, IfSome, None};
+ghost use Rattle.std.specs.Prelude.{◌≡◌, ◌+◌, ◌<◌, ◌≤◌, ◌⊎◌, ◌↔◌, [], ◌∷◌, ◌++◌, length, IsTrue, IfOk, IfErr, IfSome, None};
 ghost use Rattle.fc_base.specs.Sizes.{capacity, most_height};
 ghost use Rattle.fc_tree_drain.specs.Opened.{before_back};
 ghost use Rattle.fc_tree_node.specs.Node.{own_pairs, pairs_of, IsLeaf, IsBlankLeaf, IsBlankInner, IsSound};
@@ -21,7 +21,8 @@ use std::alloc::Global;
 use std::marker::Model;
 use std::mem;
 
-/// A tree to whose end pairs are put, seen as the list of its pairs. It asks for memory at its first pair and where its last leaf is full.
+/// A tree to whose end pairs are put. It asks for memory at its first pair and where its last leaf is full. A contract sees the pairs, and for
+/// how many more the last leaf has room.
 #[derive(Drop)]
 pub struct Growing<K, V> {
     spine: Spine<K, V>,
@@ -32,10 +33,9 @@ pub struct Growing<K, V> {
 }
 
 impl<K, V> Model for Growing<K, V> {
-    ghost use Rattle.std.specs.Prelude.{List};
-    ghost use Rattle.fc_tree_build.specs.Built.{grown, IsGrown};
+    ghost use Rattle.fc_tree_build.specs.Built.{Grown, grown, IsGrown};
 
-    ghost Value = { List (K × V) };
+    ghost Value = { Grown K V };
 
     ghost view = { λ g. grown g.spine g.last };
 
@@ -45,7 +45,7 @@ impl<K, V> Model for Growing<K, V> {
 impl<K, V> Growing<K, V> {
     /// The last pair; none where there is no pair.
     pub fn last(&self) -> Option<&(K, V)>
-        ensures { IsLastPair self.now result }
+        ensures { IsLastPair self.now.pairs result }
     {
         let Some(leaf) = &self.last else {
             return None;
@@ -58,7 +58,7 @@ impl<K, V> Growing<K, V> {
 
     /// How many pairs there are.
     pub fn len(&self) -> usize
-        ensures { result ≡ length self.now }
+        ensures { result ≡ length self.now.pairs }
     {
         match &self.last {
             None => 0,
@@ -68,11 +68,14 @@ impl<K, V> Growing<K, V> {
 }
 
 impl<K: Ord + Drop, V: Drop> Growing<K, V> {
-    /// Puts the pair after the others where the last leaf has room and its last key is less; else the pair comes back. It takes no memory.
+    /// Puts the pair after the others where the last leaf has a pair and room for one more, and its last key is less; else the pair comes back.
+    /// It takes no memory.
     #[inline(always)]
     pub fn put_if_behind(&mut self, pair: (K, V)) -> Option<(K, V)>
-        ensures put { result ≡ None → self.new ≡ self.old ++ pair ∷ [] }
-        ensures behind { result ≡ None → IsBehindLast K.cmp self.old pair.0 }
+        ensures put { result ≡ None → self.new.pairs ≡ self.old.pairs ++ pair ∷ [] }
+        ensures room { result ≡ None → self.new.room + 1 ≡ self.old.room }
+        ensures behind { result ≡ None → IsBehindLast K.cmp self.old.pairs pair.0 }
+        ensures taken { 0 < self.old.room → self.old.room < capacity → IsBehindLast K.cmp self.old.pairs pair.0 → result ≡ None }
         ensures back { IfSome result (λ back. (back ≡ pair) × (self.new ≡ self.old)) }
     {
         let Some(leaf) = &mut self.last else {
@@ -89,7 +92,8 @@ impl<K: Ord + Drop, V: Drop> Growing<K, V> {
 impl<K: Drop, V: Drop> Growing<K, V> {
     /// A tree of no pair. It asks for nothing.
     pub fn new(alloc: Global) -> Growing<K, V>
-        ensures { result ≡ [] }
+        ensures pairs { result.pairs ≡ [] }
+        ensures room { result.room ≡ 0 }
     {
         Growing {
             spine: Stack::new(),
@@ -104,7 +108,7 @@ impl<K: Drop, V: Drop> Growing<K, V> {
         requires sound { IsSoundMap root }
         requires len { len ≡ length (entries root) }
         requires room { len + capacity ≤ usize.MAX }
-        ensures { result ≡ entries root }
+        ensures { result.pairs ≡ entries root }
     {
         let Some(root) = root else {
             return Growing::new(alloc);
@@ -125,13 +129,16 @@ impl<K: Drop, V: Drop> Growing<K, V> {
     ///
     /// # Errors
     /// The pair and `AllocError` if one of them is refused: all are made before the pair is put. The tree is then as before. So is a leaf
-    /// that would let the tree grow to more than `usize::MAX` pairs.
+    /// that would let the tree grow to more than `usize::MAX` pairs. Where the last leaf has room it is never refused.
     pub fn push(&mut self, pair: (K, V)) -> Result<(), ((K, V), TryReserveError)>
-        ensures pairs { IfOk result (λ _. self.new ≡ self.old ++ pair ∷ []) }
+        ensures pairs { IfOk result (λ _. self.new.pairs ≡ self.old.pairs ++ pair ∷ []) }
+        ensures room { IfOk result (λ _. 0 < self.old.room → self.new.room + 1 ≡ self.old.room) }
+        ensures fresh { IfOk result (λ _. self.old.room ≡ 0 → capacity ≤ self.new.room + 1) }
         ensures unchanged { IfErr result (λ _. self.new ≡ self.old) }
         ensures back { IfErr result (λ e. e.0 ≡ pair) }
         ensures error { IfErr result (λ e. e.1 ≡ TryReserveError.AllocError) }
-        ensures full { IfErr result (λ _. (self.old ≡ []) ⊎ (capacity ≤ length self.old)) }
+        ensures full { IfErr result (λ _. (self.old.pairs ≡ []) ⊎ (capacity ≤ length self.old.pairs)) }
+        ensures no_room { IfErr result (λ _. self.old.room ≡ 0) }
     {
         match self.put_in_leaf(pair) {
             None => Ok(()),
@@ -142,7 +149,9 @@ impl<K: Drop, V: Drop> Growing<K, V> {
     // Puts the pair into the last leaf where that has room, else it comes back.
     #[inline(always)]
     fn put_in_leaf(&mut self, pair: (K, V)) -> Option<(K, V)>
-        ensures put { result ≡ None → self.new ≡ self.old ++ pair ∷ [] }
+        ensures put { result ≡ None → self.new.pairs ≡ self.old.pairs ++ pair ∷ [] }
+        ensures room { result ≡ None → self.new.room + 1 ≡ self.old.room }
+        ensures taken { 0 < self.old.room → result ≡ None }
         ensures back { IfSome result (λ back. (back ≡ pair) × (self.new ≡ self.old)) }
     {
         if let Some(leaf) = &mut self.last {
@@ -158,11 +167,14 @@ impl<K: Drop, V: Drop> Growing<K, V> {
     // pay for its locals.
     #[inline(never)]
     fn push_growing(&mut self, pair: (K, V)) -> Result<(), ((K, V), TryReserveError)>
-        ensures pairs { IfOk result (λ _. self.new ≡ self.old ++ pair ∷ []) }
+        ensures pairs { IfOk result (λ _. self.new.pairs ≡ self.old.pairs ++ pair ∷ []) }
+        ensures room { IfOk result (λ _. 0 < self.old.room → self.new.room + 1 ≡ self.old.room) }
+        ensures fresh { IfOk result (λ _. self.old.room ≡ 0 → capacity ≤ self.new.room + 1) }
         ensures unchanged { IfErr result (λ _. self.new ≡ self.old) }
         ensures back { IfErr result (λ e. e.0 ≡ pair) }
         ensures error { IfErr result (λ e. e.1 ≡ TryReserveError.AllocError) }
-        ensures full { IfErr result (λ _. (self.old ≡ []) ⊎ (capacity ≤ length self.old)) }
+        ensures full { IfErr result (λ _. (self.old.pairs ≡ []) ⊎ (capacity ≤ length self.old.pairs)) }
+        ensures no_room { IfErr result (λ _. self.old.room ≡ 0) }
     {
         let Some(last) = &mut self.last else {
             return match first_leaf(self.alloc, pair) {
@@ -188,7 +200,7 @@ impl<K: Drop, V: Drop> Growing<K, V> {
 
     /// The root of a sound tree of the pairs; none where there is no pair.
     pub fn finish(self) -> Option<Node<K, V>>
-        ensures pairs { entries result ≡ self }
+        ensures pairs { entries result ≡ self.pairs }
         ensures sound { IsSoundMap result }
     {
         let Growing {
@@ -207,7 +219,7 @@ impl<K: Drop, V: Drop> Growing<K, V> {
 // Whether the key is greater than the leaf's last one.
 fn is_behind<K: Ord, V>(leaf: &Node<K, V>, key: &K) -> bool
     requires { 0 < length (own_pairs leaf.now) }
-    ensures { IsTrue result → IsBehindLast K.cmp (own_pairs leaf.now) key.now }
+    ensures { IsTrue result ↔ IsBehindLast K.cmp (own_pairs leaf.now) key.now }
 {
     leaf.pair(leaf.len() - 1).0.cmp(key).is_lt()
 }

@@ -1,9 +1,9 @@
 //! Nodes that hold nothing, all made before the first is used.
-ghost use Rattle.std.specs.Prelude.{◌≡◌, ◌+◌, ◌*◌, ◌^◌, ◌<◌, ◌≤◌, [], ◌∷◌, ◌++◌, length, IfOk, IfErr, IsOk};
+ghost use Rattle.std.specs.Prelude.{◌≡◌, ℕ, ◌^◌, ◌<◌, ◌≤◌, [], ◌∷◌, ◌++◌, length, IfOk, IfErr, IsOk};
 ghost use Rattle.std.specs.List.{AllByRecursion};
 ghost use Rattle.fc_base.specs.Sizes.{most_children};
 ghost use Rattle.fc_tree_node.specs.Node.{IsBlankLeaf, IsBlankInner};
-ghost use Rattle.fc_tree_build.specs.Spares.{leaves_for, AreInnerFor};
+ghost use Rattle.fc_tree_build.specs.Spares.{leaves_for, inner_above, inner_for};
 
 use fc_base::TryReserveError;
 use fc_tree_node::node::{CAPACITY, Node};
@@ -65,23 +65,21 @@ pub(crate) fn leaf_count(n: usize) -> usize
     if n == 0 { 0 } else { n / (CAPACITY + 1) + 1 }
 }
 
-/// How many inner nodes are enough for `n` pairs.
+/// How many inner nodes a tree of `n` pairs has that is made of them in order.
 pub(crate) fn inner_count(n: usize) -> usize
-    ensures enough { AreInnerFor n result }
-    ensures none { n ≡ 0 → result ≡ 0 }
+    ensures { result ≡ inner_for n }
 {
-    let between = n / (CAPACITY + 1);
-    between / CAPACITY + digit_count(between)
+    nodes_above(n / (CAPACITY + 1))
 }
 
-// How many digits the number has where the base is the most children of a node; 0 has none.
-fn digit_count(n: usize) -> usize
-    ensures above { n < most_children ^ result }
-    ensures least { 0 < n → most_children ^ result ≤ most_children * n }
-    ensures none { n ≡ 0 → result ≡ 0 }
+// How many inner nodes so many subtrees take that are put one after another at the end of a tree, each with the pair behind it.
+fn nodes_above(subtrees: usize) -> usize
+    ensures value { (d : ℕ) → subtrees < most_children ^ d → result ≡ inner_above d subtrees }
+    ensures few { result ≤ subtrees }
 {
-    if n == 0 {
+    if subtrees == 0 {
         return 0;
     }
-    digit_count(n / (CAPACITY + 1)) + 1
+    let above = subtrees / (CAPACITY + 1);
+    above + 1 + nodes_above(above)
 }

@@ -34,7 +34,7 @@ pub fn attach<K: Drop, V: Drop>(
     ensures blank { AllByRecursion (λ b. IsBlankInner b) spares.new.items }
     ensures worth { worth spine.new ≡ worth spine.old + 1 }
     ensures left { capacity * (length spares.new.items + length spine.new) + own_count spine.old + 1 ≡ capacity * (length spares.old.items + length spine.old) + own_count spine.new }
-    ensures used { length spares.old.items ≤ length spares.new.items + needed spine.old }
+    ensures used { length spares.old.items ≡ length spares.new.items + needed spine.old }
     ensures short { (d : ℕ) → length spine.old ≤ d → needed spine.old ≤ d → length spine.new ≤ d }
 {
     let mut node = open_end(spine, spares);
@@ -148,6 +148,7 @@ fn open_end<K: Drop, V: Drop>(spine: &mut Spine<K, V>, spares: &mut Vec<Node<K, 
     ensures shorter { length spine.new ≡ length spine.old - 1 }
     ensures new_root { length spine.old ≡ 0 → own_pairs result ≡ [] }
     ensures full { 0 < length spine.old → capacity ≤ length (own_pairs result) → needed spine.old ≡ needed spine.new + 1 }
+    ensures room { 0 < length spine.old → length (own_pairs result) < capacity → needed spine.old ≡ 0 }
     ensures used { length spares.old.items ≤ length spares.new.items + needed spine.old }
     ensures kept { 0 < length spine.old → spares.new ≡ spares.old }
 {

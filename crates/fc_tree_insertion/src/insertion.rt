@@ -5,7 +5,7 @@ ghost use Rattle.fc_tree_node.specs.Node.{own_pairs, children_of, pairs_of, IsLe
 ghost use Rattle.fc_tree_node.specs.Depth.{HasFewMoves};
 ghost use Rattle.fc_tree_node.specs.Path.{IsPath, before_gap, after_gap};
 ghost use Rattle.fc_tree_node.specs.Tree.{IsSoundMap};
-ghost use Rattle.fc_tree_insertion.specs.Cascade.{all_full, cascade, nodes_needed, insertion_moves, IsSpareLeaf};
+ghost use Rattle.fc_tree_insertion.specs.Cascade.{leaf_at, all_full, cascade, nodes_needed, insertion_moves, IsSpareLeaf};
 ghost use Rattle.fc_tree_insertion.specs.Insertion.{spread, own_pairs_after, children_after, IsHalved};
 ghost use Rattle.fc_tree_node.specs.Split.{left_length, split_moves};
 ghost use Rattle.fc_tree_insertion.specs.Arrival.{steps_after, path_after, IsPutAt, HasArrived};
@@ -47,6 +47,7 @@ pub fn try_insert<K: Drop, V: Drop>(
     ensures back { IfErr result (λ e. (e.0 ≡ pair.0) × (e.1 ≡ pair.1)) }
     ensures error { IfErr result (λ e. e.2 ≡ TryReserveError.AllocError) }
     ensures leaf { OnErr result (capacity ≤ length (pairs_of root.old)) }
+    ensures full { OnErr result (length (own_pairs (leaf_at path.old root.old)) ≡ capacity) }
     ensures comparisons { count.new.comparisons ≡ count.old.comparisons }
     ensures no_move { OnErr result (count.new.moves ≡ count.old.moves) }
     ensures moves { OnOk result (HasFewMoves (length (pairs_of root.new)) count.old count.new) }

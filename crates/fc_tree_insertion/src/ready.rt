@@ -1,12 +1,12 @@
 //! An insertion in two halves: its nodes are made, and then nothing refuses it.
 ghost use Rattle.std.specs.Prelude.{◌≡◌, ℕ, ◌+◌, ◌<◌, ◌≤◌, [], ◌∷◌, ◌++◌, length, IfOk, IfErr, OnErr, Some};
 ghost use Rattle.fc_base.specs.Sizes.{capacity};
-ghost use Rattle.fc_tree_node.specs.Node.{pairs_of, IsLevelled, IsSoundRoot, IsBlankLeaf};
+ghost use Rattle.fc_tree_node.specs.Node.{own_pairs, pairs_of, IsLevelled, IsSoundRoot, IsBlankLeaf};
 ghost use Rattle.fc_tree_node.specs.Depth.{HasFewMoves};
 ghost use Rattle.fc_tree_node.specs.Path.{IsPath, before_gap, after_gap};
 ghost use Rattle.fc_tree_node.specs.Tree.{IsSoundMap};
 ghost use Rattle.fc_tree_insertion.specs.Arrival.{IsPutAt};
-ghost use Rattle.fc_tree_insertion.specs.Cascade.{nodes_needed};
+ghost use Rattle.fc_tree_insertion.specs.Cascade.{leaf_at, nodes_needed};
 
 use crate::insertion::insert;
 use crate::new_nodes::{NewNodes, try_new_nodes};
@@ -32,6 +32,7 @@ pub fn try_nodes_at<K: Drop, V: Drop>(
     ensures ok { IfOk result (λ made. made ≡ nodes_needed path.now root.now) }
     ensures error { IfErr result (λ e. e ≡ TryReserveError.AllocError) }
     ensures leaf { OnErr result (capacity ≤ length (pairs_of root.now)) }
+    ensures full { OnErr result (length (own_pairs (leaf_at path.now root.now)) ≡ capacity) }
 {
     try_new_nodes(alloc, root, path.as_slice())
 }

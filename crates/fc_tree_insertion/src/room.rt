@@ -1,5 +1,5 @@
 //! Room for several insertions: their nodes, taken before the first of them.
-ghost use Rattle.std.specs.Prelude.{◌≡◌, ℕ, ◌+◌, ◌-◌, ◌*◌, ◌^◌, ◌<◌, ◌≤◌, length, IfOk, IfErr, IsErr, Some};
+ghost use Rattle.std.specs.Prelude.{◌≡◌, ℕ, ◌+◌, ◌-◌, ◌*◌, ◌^◌, ◌<◌, ◌≤◌, length, IfOk, IfErr, IsOk, IsErr, Some};
 ghost use Rattle.fc_base.specs.Sizes.{least_children, most_levels};
 ghost use Rattle.fc_tree_node.specs.Node.{pairs_of, IsLevelled};
 ghost use Rattle.fc_tree_node.specs.Path.{IsPath};
@@ -54,7 +54,7 @@ impl<K, V> Room<K, V> {
 }
 
 impl<K: Drop, V: Drop> Room<K, V> {
-    /// Takes the nodes for so many insertions into a map of so many pairs.
+    /// Takes the nodes for so many insertions into a map of so many pairs. For none it takes no memory, and is Ok.
     ///
     /// # Errors
     /// `CapacityOverflow` where the pairs and the insertions together pass `usize::MAX`, or `MAX_STEPS` nodes for each insertion do, and then
@@ -66,6 +66,7 @@ impl<K: Drop, V: Drop> Room<K, V> {
     ) -> Result<Room<K, V>, TryReserveError>
         ensures places { IfOk result (λ room. room.places ≡ insertions) }
         ensures pairs { IfOk result (λ room. room.pairs ≡ pairs + insertions) }
+        ensures none { insertions ≡ 0 → IsOk result }
         ensures error { IfErr result (λ e. e ≡ room_error pairs insertions) }
         ensures overflow { room_error pairs insertions ≡ TryReserveError.CapacityOverflow → IsErr result }
     {

@@ -1,5 +1,5 @@
 //! Nodes made ahead for several insertions.
-ghost use Rattle.std.specs.Prelude.{◌≡◌, ◌+◌, ◌-◌, ◌<◌, ◌≤◌, length, IfOk, IfErr};
+ghost use Rattle.std.specs.Prelude.{◌≡◌, ◌+◌, ◌-◌, ◌<◌, ◌≤◌, length, IfOk, IfErr, IsOk};
 ghost use Rattle.fc_base.specs.Sizes.{most_levels};
 ghost use Rattle.fc_tree_node.specs.Node.{IsLevelled, IsBlankLeaf, IsBlankInner};
 ghost use Rattle.fc_tree_node.specs.Path.{IsPath};
@@ -35,14 +35,19 @@ impl<K, V> Model for Stock<K, V> {
 }
 
 impl<K: Drop, V: Drop> Stock<K, V> {
-    /// As many nodes.
+    /// As many nodes. None of them takes no memory.
     ///
     /// # Errors
     /// `AllocError` if the list or a node is refused. Nothing is then left after.
     pub fn try_new(alloc: Global, count: usize) -> Result<Stock<K, V>, TryReserveError>
         ensures len { IfOk result (λ stock. stock ≡ count) }
+        ensures none { count ≡ 0 → IsOk result }
         ensures error { IfErr result (λ e. e ≡ TryReserveError.AllocError) }
     {
+        if count == 0 {
+            let nodes = Vec::new(alloc);
+            return Ok(Stock { nodes });
+        }
         let mut stock = Stock {
             nodes: Vec::with_capacity(alloc, count)?,
         };

@@ -1,4 +1,5 @@
 pub mod Mended
 pub mod Removed
+pub mod FewestFacts
 pub mod Replaced
 pub mod Exchanged

@@ -1,13 +1,14 @@
 -- A node from which a pair was removed, by what is left below it.
 use Rattle.std.proofs.Common.{length-append, ◌≡◌, ℕ, suc, zero, ◌+◌, ◌-◌, ◌<◌, ◌≤◌, List, [], ◌∷◌, ◌++◌, length, get_or, map, take, drop, refl, sym, ap, subst}
-use Rattle.std.proofs.Common.{◌∙◌, arith, append_assoc, add-one, append-nil, inr, Some}
+use Rattle.std.proofs.Common.{◌∙◌, arith, append_assoc, add-one, append-nil, inl, inr, Some}
 use Rattle.std.specs.Prelude.{slice_set, slice_range, slice_get, ◌⊎◌}
 use Rattle.std.specs.List.{AllByRecursion, remove}
+use Rattle.std.proofs.lemmas.Bool.{cases_lt}
 use Rattle.std.proofs.lemmas.List.Edits.{length-remove}
 use Rattle.std.proofs.lemmas.List.{length-map, map-append}
-use Rattle.fc_base.specs.Sizes.{capacity}
+use Rattle.fc_base.specs.Sizes.{capacity, min_len}
 use Rattle.fc_tree_node.specs.Weave.{weave}
-use Rattle.fc_tree_node.specs.declared.node.Node.{Node, out-Node}
+use Rattle.fc_tree_node.specs.declared.node.Node.{Node, out-Node, roll-Node}
 use Rattle.fc_tree_node.specs.Node.{own_pairs, children_of, child_at, pairs_of, IsLeaf, IsInner, IsLevelled, IsSound, IsSoundRoot}
 use Rattle.fc_tree_node.specs.Place.{before_child, after_child, before_own, after_own, IsPlace, place_pair, before_pair, after_pair}
 use Rattle.fc_tree_removal.specs.Mending.{IsShortAt}
@@ -15,7 +16,7 @@ use Rattle.fc_tree_node.specs.Shrunk.{IsShrunk}
 use Rattle.fc_tree_node.proofs.Lists.{length_take, take_drop, set_is, length_set, all_front, all_back}
 use Rattle.fc_tree_node.proofs.Weaves.{weave_parts}
 use Rattle.fc_tree_node.proofs.Pairs.{pairs_is, leaf_children, leaf_pairs, child_below}
-use Rattle.fc_tree_node.proofs.Made.{IsChildSet, children_in, inner_length}
+use Rattle.fc_tree_node.proofs.Made.{own_made, IsChildSet, children_in, inner_length}
 use Rattle.fc_tree_node.proofs.Shared.{listed_child}
 use Rattle.fc_tree_node.proofs.Cuts.{last_out}
 use Rattle.fc_tree_node.proofs.Gaps.{drop_item, inner_gap, item_there, before_child_pair, after_none}
@@ -67,6 +68,11 @@ module _ {K V : Type 0} where
       let k : length (children_of n) ≡ length (own_pairs n) + 1 = l.1 in
       let z : length (children_of n) ≡ 0 = ap length (leaf_children n e) in
       absurd (omega arith)
+
+  -- a node that was opened holds what it held
+  pub opened_length : (n : Node K V)
+      → length (own_pairs (roll-Node K V (record { pairs = own_pairs n; children = (out-Node K V n).children }))) ≡ length (own_pairs n)
+  opened_length n = ap length (own_made _)
 
   pub leaf_shrunk : (h : ℕ) (old new : Node K V) (i : ℕ) → IsLeaf old → IsLevelled h old → i < length (own_pairs old)
       → own_pairs new ≡ remove (own_pairs old) i → IsLeaf new → IsShrunk h old new
@@ -139,6 +145,28 @@ module _ {K V : Type 0} where
         let a = s.1.0 in let b = s.1.1 in
         subst (λ k. IsShrunk k old new) (sym l.height) (s.0, (omega arith, omega arith))
 
+    -- a child that was not short leaves the node as it is: so where the node lost a pair, the child that came back did too, and is short
+    came_lost : (mid new c : Node K V) → length (own_pairs mid) ≡ length (own_pairs old) → children_of mid ≡ slice_set (children_of old) i c
+        → (min_len ≤ length (own_pairs (child_at mid i)) → new ≡ mid) → length (own_pairs new) < length (own_pairs old)
+        → (length (own_pairs c) < length (own_pairs child)) × (length (own_pairs (child_at mid i)) < min_len)
+    came_lost mid new c same f stays lost = found (cases_lt (length (own_pairs (child_at mid i))) min_len)
+      where
+        found : (length (own_pairs (child_at mid i)) < min_len) ⊎ (min_len ≤ length (own_pairs (child_at mid i)))
+            → (length (own_pairs c) < length (own_pairs child)) × (length (own_pairs (child_at mid i)) < min_len)
+        found (inl short) =
+            let k : length (children_of old) ≡ length (own_pairs old) + 1 = l.inner in
+            let le = l.place in
+            let least = l.whole.0 in
+            let cm : child_at mid i ≡ c = ap (λ ds. get_or ds i mid) f ∙ at_set (children_of old) i c mid (omega arith) in
+            let cl : length (own_pairs (child_at mid i)) ≡ length (own_pairs c) = ap (λ x. length (own_pairs x)) cm in
+            (omega arith, short)
+        found (inr whole) = absurd (let e = ap (λ n. length (own_pairs n)) (stays whole) in omega arith)
+
+    pub lent_lost : {mid c : Node K V} (new : Node K V) → IsChildSet old mid i c → (min_len ≤ length (own_pairs (child_at mid i)) → new ≡ mid)
+        → length (own_pairs new) < length (own_pairs old)
+        → (length (own_pairs c) < length (own_pairs child)) × (length (own_pairs (child_at mid i)) < min_len)
+    lent_lost new m stays lost = came_lost _ new _ (ap length m.same) m.child stays lost
+
     pub lent_short : {mid c : Node K V} → 1 ≤ length (own_pairs old) → IsChildSet old mid i c → IsShrunk l.below child c → IsShortAt l.below mid i
     lent_short some m s = came_short _ _ some (ap length m.same) m.child s
 
@@ -208,6 +236,11 @@ module _ {K V : Type 0} where
     pub own_short : {mid c : Node K V} {next : K × V} → 1 ≤ length (own_pairs old) → IsOwnSet old mid i next c → IsShrunk l.below child c
         → IsShortAt l.below mid (i + 1)
     own_short some m s = came_short l _ _ some (own_kept _ _ _ _ _ m) m.children s
+
+    pub own_lost : {mid c : Node K V} {next : K × V} (new : Node K V) → IsOwnSet old mid i next c
+        → (min_len ≤ length (own_pairs (child_at mid (i + 1))) → new ≡ mid) → length (own_pairs new) < length (own_pairs old)
+        → (length (own_pairs c) < length (own_pairs child)) × (length (own_pairs (child_at mid (i + 1))) < min_len)
+    own_lost new m stays lost = came_lost l _ new _ (own_kept _ _ _ _ _ m) m.children stays lost
 
     pub own_mended : {mid c : Node K V} {next : K × V} (new : Node K V) → 1 ≤ length (own_pairs old) → IsOwnSet old mid i next c
         → IsShrunk l.below child c → (IsShortAt l.below mid (i + 1) → IsShrunk (suc l.below) mid new) → IsShrunk h old new

@@ -1,2 +1,3 @@
 pub mod Mending
 pub mod Removal
+pub mod Fewest

@@ -1,8 +1,9 @@
 //! The first or the last pair of a tree taken out, with the nodes above it mended.
-ghost use Rattle.std.specs.Prelude.{◌≡◌, ℕ, ◌+◌, ◌*◌, ◌<◌, ◌≤◌, [], ◌∷◌, ◌++◌};
+ghost use Rattle.std.specs.Prelude.{◌≡◌, ℕ, ◌+◌, ◌*◌, ◌<◌, ◌≤◌, [], ◌∷◌, ◌++◌, length};
 ghost use Rattle.fc_base.specs.Sizes.{capacity, level_moves};
-ghost use Rattle.fc_tree_node.specs.Node.{pairs_of, IsSoundRoot};
+ghost use Rattle.fc_tree_node.specs.Node.{own_pairs, pairs_of, IsSoundRoot};
 ghost use Rattle.fc_tree_node.specs.Tree.{entries};
+ghost use Rattle.fc_tree_removal.specs.Fewest.{fewest_moves, HasFewestMoves};
 ghost use Rattle.fc_tree_removal.specs.Removal.{IsSoundTree, IsTreeLeft};
 ghost use Rattle.fc_tree_node.specs.Shrunk.{IsShrunk};
 
@@ -19,6 +20,7 @@ pub fn take_first<K: Drop, V: Drop>(tree: &mut Option<Node<K, V>>, count: &mut C
     ensures levels { (h : ℕ) → IsSoundTree h tree.old → IsTreeLeft h tree.new }
     ensures moves { (h : ℕ) → IsSoundTree h tree.old → count.new.moves ≤ count.old.moves + level_moves * (h + 1) }
     ensures moved { count.old.moves < count.new.moves }
+    ensures fewest { HasFewestMoves tree.old tree.new count.old count.new }
     ensures comparisons { count.new.comparisons ≡ count.old.comparisons }
 {
     let Some(root) = tree else { unreachable!() };
@@ -40,6 +42,7 @@ pub fn take_last<K: Drop, V: Drop>(tree: &mut Option<Node<K, V>>, count: &mut Co
     ensures levels { (h : ℕ) → IsSoundTree h tree.old → IsTreeLeft h tree.new }
     ensures moves { (h : ℕ) → IsSoundTree h tree.old → count.new.moves ≤ count.old.moves + level_moves * (h + 1) }
     ensures moved { count.old.moves < count.new.moves }
+    ensures fewest { HasFewestMoves tree.old tree.new count.old count.new }
     ensures comparisons { count.new.comparisons ≡ count.old.comparisons }
 {
     let Some(root) = tree else { unreachable!() };
@@ -59,6 +62,7 @@ pub fn remove_last<K: Drop, V: Drop>(node: &mut Node<K, V>, count: &mut Count) -
     ensures levels { (h : ℕ) → IsSoundRoot h node.old → IsShrunk h node.old node.new }
     ensures moves { (h : ℕ) → IsSoundRoot h node.old → count.new.moves ≤ count.old.moves + (capacity + level_moves * h) }
     ensures moved { count.old.moves < count.new.moves }
+    ensures fewest { (h : ℕ) → IsSoundRoot h node.old → length (own_pairs node.new) < length (own_pairs node.old) → count.old.moves + fewest_moves h ≤ count.new.moves }
     ensures comparisons { count.new.comparisons ≡ count.old.comparisons }
 {
     let end = node.len();

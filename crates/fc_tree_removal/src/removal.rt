@@ -6,6 +6,7 @@ ghost use Rattle.fc_tree_node.specs.Place.{IsPlace, place_pair, before_pair, aft
 ghost use Rattle.fc_tree_node.specs.Siblings.{IsMerged, IsShared};
 ghost use Rattle.fc_tree_node.specs.Tree.{entries};
 ghost use Rattle.fc_tree_node.specs.TreePlace.{IsPlaceIn, pair_in, before_pair_in, after_pair_in};
+ghost use Rattle.fc_tree_removal.specs.Fewest.{least_mending, fewest_moves, HasFewestMoves};
 ghost use Rattle.fc_tree_removal.specs.Mending.{together, IsShortAt};
 ghost use Rattle.fc_tree_removal.specs.Removal.{IsSoundTree, IsTreeLeft};
 ghost use Rattle.fc_tree_node.specs.Shrunk.{IsShrunk};
@@ -29,6 +30,7 @@ pub fn remove<K: Drop, V: Drop>(
     ensures levels { (h : ℕ) → IsSoundTree h tree.old → IsTreeLeft h tree.new }
     ensures moves { (h : ℕ) → IsSoundTree h tree.old → count.new.moves ≤ count.old.moves + level_moves * (h + 1) }
     ensures moved { count.old.moves < count.new.moves }
+    ensures fewest { HasFewestMoves tree.old tree.new count.old count.new }
     ensures comparisons { count.new.comparisons ≡ count.old.comparisons }
 {
     let Some(root) = tree else { unreachable!() };
@@ -79,6 +81,7 @@ fn remove_at<K: Drop, V: Drop>(node: &mut Node<K, V>, path: &[u8], count: &mut C
     ensures levels { (h : ℕ) → IsSoundRoot h node.old → IsShrunk h node.old node.new }
     ensures moves { (h : ℕ) → IsSoundRoot h node.old → count.new.moves ≤ count.old.moves + (capacity + 2 + level_moves * h) }
     ensures moved { count.old.moves < count.new.moves }
+    ensures fewest { (h : ℕ) → IsSoundRoot h node.old → length (own_pairs node.new) < length (own_pairs node.old) → count.old.moves + fewest_moves h ≤ count.new.moves }
     ensures comparisons { count.new.comparisons ≡ count.old.comparisons }
 {
     let i = path[0] as usize;
@@ -106,6 +109,7 @@ fn remove_own<K: Drop, V: Drop>(node: &mut Node<K, V>, index: usize, count: &mut
     ensures levels { (h : ℕ) → IsSoundRoot h node.old → IsShrunk h node.old node.new }
     ensures moves { (h : ℕ) → IsSoundRoot h node.old → count.new.moves ≤ count.old.moves + (capacity + 2 + level_moves * h) }
     ensures moved { count.old.moves < count.new.moves }
+    ensures fewest { (h : ℕ) → IsSoundRoot h node.old → length (own_pairs node.new) < length (own_pairs node.old) → count.old.moves + fewest_moves h ≤ count.new.moves }
     ensures comparisons { count.new.comparisons ≡ count.old.comparisons }
 {
     let next = match &mut node.children {
@@ -127,6 +131,7 @@ pub fn remove_first<K: Drop, V: Drop>(node: &mut Node<K, V>, count: &mut Count) 
     ensures levels { (h : ℕ) → IsSoundRoot h node.old → IsShrunk h node.old node.new }
     ensures moves { (h : ℕ) → IsSoundRoot h node.old → count.new.moves ≤ count.old.moves + (capacity + level_moves * h) }
     ensures moved { count.old.moves < count.new.moves }
+    ensures fewest { (h : ℕ) → IsSoundRoot h node.old → length (own_pairs node.new) < length (own_pairs node.old) → count.old.moves + fewest_moves h ≤ count.new.moves }
     ensures comparisons { count.new.comparisons ≡ count.old.comparisons }
 {
     let pair = match &mut node.children {
@@ -153,6 +158,7 @@ pub(crate) fn mend_child<K: Drop, V: Drop>(node: &mut Node<K, V>, index: usize, 
     ensures pairs { pairs_of node.new ≡ pairs_of node.old }
     ensures levels { (h : ℕ) → IsShortAt h node.old index → IsShrunk (suc h) node.old node.new }
     ensures kept_moves { count.old.moves ≤ count.new.moves }
+    ensures least { length (own_pairs (child_at node.old index)) < min_len → count.old.moves + least_mending ≤ count.new.moves }
     ensures moves { count.new.moves ≤ count.old.moves + level_moves }
     ensures comparisons { count.new.comparisons ≡ count.old.comparisons }
 {
@@ -177,6 +183,7 @@ fn mend_short<K: Drop, V: Drop>(node: &mut Node<K, V>, index: usize, count: &mut
     ensures left_theft_moves { capacity < together node.old (index - 1) → 0 < index → count.new.moves ≡ count.old.moves + (length (own_pairs (child_at node.old (index - 1 + 1))) + 4) }
     ensures right_theft_moves { capacity < together node.old (index - 1) → index ≡ 0 → count.new.moves ≡ count.old.moves + (length (own_pairs (child_at node.old 1)) + 3) }
     ensures kept_moves { count.old.moves ≤ count.new.moves }
+    ensures least { count.old.moves + least_mending ≤ count.new.moves }
     ensures moves { count.new.moves ≤ count.old.moves + level_moves }
     ensures theft_moves { capacity < together node.old (index - 1) → count.new.moves ≤ count.old.moves + (capacity + 3) }
     ensures comparisons { count.new.comparisons ≡ count.old.comparisons }

@@ -4,6 +4,7 @@ ghost use Rattle.std.specs.Borrow.{sem};
 
 use crate::raw::Row;
 use fc_base::Count;
+use fc_base::count::add_moves;
 use std::alloc::{AllocError, Global};
 use std::marker::Model;
 use std_alloc::room::may_hold;
@@ -83,7 +84,7 @@ impl<T> Cells<T> {
         ensures moves { count.new.moves ≡ count.old.moves + 1 }
         ensures comparisons { count.new.comparisons ≡ count.old.comparisons }
     {
-        count.add_moves(1);
+        add_moves(count, 1);
         self.row.set(index, item)
     }
 

@@ -9,6 +9,7 @@ ghost use Rattle.fc_tree_slots.specs.Cells.{row, HasRow};
 
 use crate::cells::Cells;
 use fc_base::Count;
+use fc_base::count::add_moves;
 use std::alloc::{AllocError, Global};
 use std::marker::Model;
 
@@ -102,7 +103,7 @@ impl<T, const N: usize> Slots<T, N> {
         ensures moves { count.new.moves ≡ count.old.moves + (length self.old - index) }
         ensures comparisons { count.new.comparisons ≡ count.old.comparisons }
     {
-        count.add_moves(1);
+        add_moves(count, 1);
         let item = self.cells.take(index);
         shift_down(&mut self.cells, index + 1, 1, self.len, count);
         self.len -= 1;
@@ -117,7 +118,7 @@ impl<T, const N: usize> Slots<T, N> {
         ensures moves { count.new.moves ≡ count.old.moves + 2 }
         ensures comparisons { count.new.comparisons ≡ count.old.comparisons }
     {
-        count.add_moves(1);
+        add_moves(count, 1);
         let old = self.cells.take(index);
         self.cells.set(index, item, count);
         old

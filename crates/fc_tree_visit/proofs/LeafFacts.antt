@@ -215,6 +215,7 @@ module _ {K V : Type 0} where
   pub record IsDown (gap new : List ℕ) (n : Node K V) (level run : ℕ) : Type 0 where
     pub gap_is : new ≡ take (suc level) gap ++ zeros (length gap - suc level)
     pub run_is : IsPath (gone_on (get_or gap level 0 ∷ zeros (length gap - suc level)) run) n
+    pub run_all : (k : ℕ) → IsPath (gone_on (get_or gap level 0 ∷ zeros (length gap - suc level)) k) n → k ≤ run
 
   pub down_leaf : (gap : List ℕ) (n : Node K V) (level : ℕ) → suc level ≡ length gap → get_or gap level 0 ≤ length (own_pairs n)
       → IsDown gap gap n level (length (own_pairs n) - get_or gap level 0)
@@ -226,6 +227,7 @@ module _ {K V : Type 0} where
       record {
         gap_is = sym (ap (λ k. take (suc level) gap ++ zeros k) (sym none) ∙ append-nil (take (suc level) gap) ∙ take_all (suc level) gap (omega (arith, e)));
         run_is = subst (λ k. IsPath (gone_on (s ∷ zeros k) r) n) none (fits, tt);
+        run_all = λ k w. let u = (subst (λ j. IsPath (gone_on (s ∷ zeros j) k) n) (sym none) w).0 in omega (arith, u);
       }
 
   down_next : (gap mid new : List ℕ) (n : Node K V) (level run : ℕ) → suc level < length gap → get_or gap level 0 ≤ length (own_pairs n)
@@ -242,6 +244,8 @@ module _ {K V : Type 0} where
         gap_is = d.gap_is ∙ ap (λ p. p ++ zeros m) prefix ∙ append_assoc (take (suc level) gap) (0 ∷ []) (zeros m)
             ∙ ap (λ k. take (suc level) gap ++ zeros k) more;
         run_is = subst (λ k. IsPath (gone_on (get_or gap level 0 ∷ zeros k) run) n) more (le, subst (λ i. IsPath (gone_on (i ∷ zeros m) run) c) first d.run_is);
+        run_all = λ k w. d.run_all k (subst (λ i. IsPath (gone_on (i ∷ zeros m) k) c) (sym first)
+            (subst (λ j. IsPath (gone_on (get_or gap level 0 ∷ zeros j) k) n) (sym more) w).1);
       }
 
   pub down_child : (gap mid new : List ℕ) (n c : Node K V) (level next run : ℕ) → next ≡ suc level → next < length gap
@@ -260,12 +264,21 @@ module _ {K V : Type 0} where
   run_below (suc (suc way)) (j ∷ []) i rest n run p k w = absurd (omega arith)
   run_below (suc (suc way)) (j ∷ l ∷ gap) i rest n run p k w = (p.0, run_below (suc way) (l ∷ gap) i rest (child_at n j) run p.1 (omega (arith, k)) w)
 
+  run_above : (way : ℕ) (gap : List ℕ) (i : ℕ) (rest : List ℕ) (n : Node K V) (k : ℕ) → way < length gap
+      → IsPath (gone_on (take way gap ++ i ∷ rest) k) n → IsPath (gone_on (i ∷ rest) k) (node_at (take way gap) n)
+  run_above zero gap i rest n k h w = w
+  run_above (suc way) [] i rest n k h w = absurd (omega arith)
+  run_above (suc zero) (j ∷ gap) i rest n k h w = w.1
+  run_above (suc (suc way)) (j ∷ []) i rest n k h w = absurd (omega arith)
+  run_above (suc (suc way)) (j ∷ l ∷ gap) i rest n k h w = run_above (suc way) (l ∷ gap) i rest (child_at n j) k (omega (arith, h)) w.1
+
   -- past a pair of a node on the way
   pub record IsPast (gap new : List ℕ) (root : Node K V) (way place run : ℕ) : Type 0 where
     pub place_is : IsPlace (take way gap ++ place ∷ []) root
     pub before : length (before_pair (take way gap ++ place ∷ []) root) ≡ length (before_gap gap root)
     pub gap_is : new ≡ take way gap ++ (place + 1) ∷ zeros (length gap - suc way)
     pub run_is : IsPath (gone_on new run) root
+    pub run_all : (k : ℕ) → IsPath (gone_on new k) root → k ≤ run
 
   pub past : (gap mid new : List ℕ) (root n : Node K V) (way place run : ℕ) → IsPath gap root → IsHolder gap root way n → place ≡ get_or gap way 0
       → mid ≡ slice_set gap way (place + 1) → IsDown mid new n way run → IsPast gap new root way place run
@@ -286,4 +299,9 @@ module _ {K V : Type 0} where
         gap_is = all;
         run_is = subst (λ p. IsPath (gone_on p run) root) (sym all) (run_below way gap (place + 1) (zeros m) root run p h.0
             (subst (IsPath (gone_on ((place + 1) ∷ zeros m) run)) h.3 run_there));
+        run_all = λ k w.
+            let below = run_above way gap (place + 1) (zeros m) root k h.0 (subst (λ p. IsPath (gone_on p k) root) all w) in
+            let there = subst (IsPath (gone_on ((place + 1) ∷ zeros m) k)) (sym h.3) below in
+            d.run_all k (subst (λ i. IsPath (gone_on (i ∷ zeros (length mid - suc way)) k) n) (sym step)
+            (subst (λ j. IsPath (gone_on ((place + 1) ∷ zeros j) k) n) (sym same) there));
       }

@@ -82,6 +82,7 @@ fn go_down<K, V>(node: &Node<K, V>, gap: &mut Path, level: usize) -> usize
     requires levels { IsLevelled (length gap.old - suc level) node.now }
     ensures gap { gap.new ≡ take (suc level) gap.old ++ zeros (length gap.old - suc level) }
     ensures run { IsPath (gone_on (slice_index gap.old level ∷ zeros (length gap.old - suc level)) result) node.now }
+    ensures all { (k : ℕ) → IsPath (gone_on (slice_index gap.old level ∷ zeros (length gap.old - suc level)) k) node.now → k ≤ result }
 {
     let len = gap.len();
     let step = gap.step(level);
@@ -106,6 +107,7 @@ pub fn pass_next<K, V>(root: &Node<K, V>, gap: &mut Path) -> (usize, usize, usiz
     ensures before { length (before_pair (take result.0 gap.old ++ result.1 ∷ []) root.now) ≡ length (before_gap gap.old root.now) }
     ensures gap { gap.new ≡ take result.0 gap.old ++ (result.1 + 1) ∷ zeros (length gap.old - suc result.0) }
     ensures run { IsPath (gone_on gap.new result.2) root.now }
+    ensures all { (k : ℕ) → IsPath (gone_on gap.new k) root.now → k ≤ result.2 }
 {
     let (holder, last) = lowest_after(root, gap.as_slice(), 0, (root, 0));
     let place = gap.step(last);

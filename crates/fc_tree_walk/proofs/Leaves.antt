@@ -3,7 +3,7 @@ use Rattle.std.proofs.Common.{◌≡◌, ℕ, zero, suc, ◌+◌, ◌-◌, ◌<�
 use Rattle.std.proofs.Common.{Bool, true, false, IsTrue, Some, None, ◌⊎◌, inl, inr, length-append, append_assoc, append-nil}
 use Rattle.std.specs.Prelude.{◌↔◌, if◌then◌else◌, slice_range, slice_set}
 use Rattle.std.proofs.lemmas.Bool.{cases_lt}
-use Rattle.std.proofs.lemmas.List.{set-get_or}
+use Rattle.std.proofs.lemmas.List.{set-get_or, get_or-set_same}
 use Rattle.fc_tree_node.specs.declared.node.Node.{Node}
 use Rattle.fc_tree_node.specs.Leaf.{leaf_at}
 use Rattle.fc_tree_node.specs.LeafGap.{IsLeafGap}
@@ -15,7 +15,7 @@ use Rattle.fc_tree_node.specs.Weave.{before_list}
 use Rattle.fc_tree_node.proofs.Gaps.{inner_gap, gap_pairs}
 use Rattle.fc_tree_node.proofs.Lists.{take_nil, length_take, length_set, set_is}
 use Rattle.fc_tree_node.proofs.Pairs.{leaf_children, leaf_pairs, child_below}
-use Rattle.fc_tree_walk.specs.Gap.{AreEndsIn}
+use Rattle.fc_tree_walk.specs.Gap.{IsGapIn, AreEndsIn, IsLeafEnd, IsLeafStart}
 use Rattle.fc_tree_walk.specs.Span.{between}
 use Rattle.fc_tree_walk.proofs.Meetings.{earlier}
 use Rattle.fc_tree_walk.proofs.Slices.{slice_none, slice_length, slice_split, slice_inner}
@@ -43,7 +43,44 @@ other_last g h j e = set_is g h j (omega arith) ∙ ap (λ r. take h g ++ j ∷ 
     dropped (x ∷ g) zero e = omega arith
     dropped (x ∷ g) (suc h) e = dropped g h (omega arith)
 
+-- What the last step is once it is set.
+last_set : (g : List ℕ) (h j : ℕ) → length g ≡ h + 1 → get_or (slice_set g h j) (length (slice_set g h j) - 1) 0 ≡ j
+last_set g h j e =
+    let long = length_set g h j in
+    let last : length (slice_set g h j) - 1 ≡ h = omega arith in
+    ap (λ k. get_or (slice_set g h j) k 0) last ∙ get_or-set_same g h j 0 (omega arith)
+
 module _ {K V : Type 0} where
+  -- Another last step leads to the same leaf.
+  same_leaf : (g : List ℕ) (h j : ℕ) (n : Node K V) → length g ≡ h + 1 → leaf_at (slice_set g h j) n ≡ leaf_at g n
+  same_leaf [] h j n e = refl
+  same_leaf (i ∷ []) zero j n e = refl
+  same_leaf (i ∷ []) (suc h) j n e = absurd (omega arith)
+  same_leaf (i ∷ k ∷ g) zero j n e = absurd (omega arith)
+  same_leaf (i ∷ k ∷ []) (suc zero) j n e = refl
+  same_leaf (i ∷ k ∷ []) (suc (suc h)) j n e = absurd (omega arith)
+  same_leaf (i ∷ k ∷ l ∷ g) (suc zero) j n e = absurd (omega arith)
+  same_leaf (i ∷ k ∷ l ∷ g) (suc (suc h)) j n e = same_leaf (k ∷ l ∷ g) (suc h) j (child_at n i) (omega arith)
+
+  -- A gap whose last step is set to the end of its leaf, or to the start.
+  pub end_set : (m : Map K V) (n leaf : Node K V) (g to : List ℕ) (h j : ℕ) → m ≡ Some n → IsSoundMap m → IsGapIn m g → leaf ≡ leaf_at g n
+      → h ≡ length g - 1 → to ≡ slice_set g h j → j ≡ length (own_pairs leaf) → IsLeafEnd m to
+  end_set None n leaf g to h j is sound gap at la set end = absurd cc
+  end_set (Some root) n leaf g to h j is sound gap at la set end =
+      let some = gap.1 sound.0 sound.2.1 in
+      let long : length g ≡ h + 1 = omega arith in
+      let same : n ≡ root = cc in
+      let there = at ∙ ap (leaf_at g) same ∙ sym (same_leaf g h j root long) in
+      subst (IsLeafEnd (Some root)) (sym set) (last_set g h j long ∙ end ∙ ap (λ l. length (own_pairs l)) there)
+
+  pub start_set : (m : Map K V) (n : Node K V) (g to : List ℕ) (h j : ℕ) → m ≡ Some n → IsSoundMap m → IsGapIn m g → h ≡ length g - 1
+      → to ≡ slice_set g h j → j ≡ 0 → IsLeafStart m to
+  start_set None n g to h j is sound gap la set start = absurd cc
+  start_set (Some root) n g to h j is sound gap la set start =
+      let some = gap.1 sound.0 sound.2.1 in
+      let long : length g ≡ h + 1 = omega arith in
+      subst (IsLeafStart (Some root)) (sym set) (last_set g h j long ∙ start)
+
   -- A leaf has its own pairs alone on either side of a gap.
   pub leaf_before_child : (n : Node K V) (i : ℕ) → IsLeaf n → before_child n i ≡ take i (own_pairs n)
   leaf_before_child n i l = ap (λ cs. before_list (map pairs_of (take i cs)) (take i (own_pairs n))) (leaf_children n l)

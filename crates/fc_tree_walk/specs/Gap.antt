@@ -1,6 +1,7 @@
 -- Gaps of the leaves of a tree: each gap between two pairs is the gap of one leaf.
-use Rattle.std.specs.Prelude.{◌≡◌, ℕ, zero, suc, ◌-◌, ◌<◌, ◌≤◌, List, [], ◌∷◌, ◌++◌, length, take, slice_set, Option, Some, None}
+use Rattle.std.specs.Prelude.{◌≡◌, ℕ, zero, suc, ◌-◌, ◌<◌, ◌≤◌, List, [], ◌∷◌, ◌++◌, length, take, slice_index, slice_set, Option, Some, None}
 use Rattle.fc_tree_node.specs.declared.node.Node.{Node}
+use Rattle.fc_tree_node.specs.Node.{own_pairs}
 use Rattle.fc_tree_node.specs.Path.{before_gap}
 use Rattle.fc_tree_node.specs.Leaf.{leaf_at}
 use Rattle.fc_tree_node.specs.LeafGap.{IsLeafGap}
@@ -28,6 +29,16 @@ module _ {K V : Type 0} where
   abbrev pub IsGapIn : Map K V → List ℕ → Type 0
   IsGapIn None path = path ≡ []
   IsGapIn (Some root) path = IsLeafGap path root
+
+  -- The path leads to the gap after all pairs of its leaf; it has no step where there is no root.
+  abbrev pub IsLeafEnd : Map K V → List ℕ → Type 0
+  IsLeafEnd None path = path ≡ []
+  IsLeafEnd (Some root) path = slice_index path (length path - 1) ≡ length (own_pairs (leaf_at path root))
+
+  -- The path leads to the gap before all pairs of its leaf; it has no step where there is no root.
+  abbrev pub IsLeafStart : Map K V → List ℕ → Type 0
+  IsLeafStart None path = path ≡ []
+  IsLeafStart (Some root) path = slice_index path (length path - 1) ≡ 0
 
   -- A path goes on to a gap of a leaf below the node, which is after that many of the node's pairs.
   abbrev pub GoesOn : List ℕ → List ℕ → Node K V → ℕ → Type 0

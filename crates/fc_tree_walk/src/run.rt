@@ -1,5 +1,5 @@
 //! Steps of a walk's ends from leaf to leaf: each takes all pairs of its leaf at once, as far as the other end.
-ghost use Rattle.std.specs.Prelude.{option_copied, ◌≡◌, ◌+◌, ◌-◌, ◌<◌, ◌≤◌, ◌↔◌, [], ◌∷◌, ◌++◌, length, take, Some, IsTrue, slice_get, slice_index, slice_range, if◌then◌else◌};
+ghost use Rattle.std.specs.Prelude.{option_copied, ◌≡◌, ◌+◌, ◌-◌, ◌<◌, ◌≤◌, ◌↔◌, [], ◌∷◌, ◌++◌, length, take, Some, IsTrue, IsFalse, slice_get, slice_index, slice_range, if◌then◌else◌};
 ghost use Rattle.fc_tree_node.specs.Leaf.{leaf_at};
 ghost use Rattle.fc_tree_node.specs.LeafGap.{IsLeafGap};
 ghost use Rattle.fc_tree_node.specs.Node.{own_pairs, pairs_of, IsLevelled, IsTree};
@@ -7,7 +7,7 @@ ghost use Rattle.fc_tree_node.specs.Path.{before_gap};
 ghost use Rattle.fc_tree_node.specs.Place.{before_own};
 ghost use Rattle.fc_tree_node.specs.Tree.{entries, IsSoundMap};
 ghost use Rattle.fc_tree_node.specs.TreePlace.{before_gap_in};
-ghost use Rattle.fc_tree_walk.specs.Gap.{IsGapIn, AreEndsIn, GoesOn, LeadsTo, IsBeside, IsAboveAt, IsAbove};
+ghost use Rattle.fc_tree_walk.specs.Gap.{IsGapIn, AreEndsIn, IsLeafEnd, IsLeafStart, GoesOn, LeadsTo, IsBeside, IsAboveAt, IsAbove};
 ghost use Rattle.fc_tree_walk.specs.Span.{between};
 
 use fc_tree_node::node::Node;
@@ -82,6 +82,7 @@ pub fn take_first_of<'a, K, V>(
     ensures leaf { IsBeside front.old front.new }
     ensures run { between root.now front.old back.now ≡ result.0.now ++ between root.now front.new back.now }
     ensures met { IsTrue result.1 ↔ (between root.now front.new back.now ≡ []) }
+    ensures all { IsFalse result.1 → IsLeafEnd root.now front.new }
 {
     let Some(_node) = root else {
         return (&[], true);
@@ -108,6 +109,7 @@ pub fn take_last_of<'a, K, V>(
     ensures leaf { IsBeside back.old back.new }
     ensures run { between root.now front.now back.old ≡ between root.now front.now back.new ++ result.0.now }
     ensures met { IsTrue result.1 ↔ (between root.now front.now back.new ≡ []) }
+    ensures all { IsFalse result.1 → IsLeafStart root.now back.new }
 {
     let Some(_node) = root else {
         return (&[], true);
@@ -370,6 +372,7 @@ pub fn step_first_run<'a, K, V>(
     ensures above { IsAbove root.now front.new (option_copied above.new) }
     ensures pairs { between root.now front.old back.now ≡ result.pair.now ∷ (result.run.now ++ between root.now front.new back.now) }
     ensures met { IsTrue result.has_met ↔ (between root.now front.new back.now ≡ []) }
+    ensures all { IsFalse result.has_met → IsLeafEnd root.now front.new }
 {
     let (pair, leaf) = pass_next(root, above, front);
     let (run, has_met) = take_first_of(root, leaf, front, back);
@@ -392,6 +395,7 @@ pub fn step_last_run<'a, K, V>(
     ensures above { IsAbove root.now back.new (option_copied above.new) }
     ensures pairs { between root.now front.now back.old ≡ between root.now front.now back.new ++ (result.run.now ++ result.pair.now ∷ []) }
     ensures met { IsTrue result.has_met ↔ (between root.now front.now back.new ≡ []) }
+    ensures all { IsFalse result.has_met → IsLeafStart root.now back.new }
 {
     let (pair, leaf) = pass_previous(root, above, back);
     let (run, has_met) = take_last_of(root, leaf, front, back);

@@ -6,8 +6,9 @@ ghost use Rattle.fc_set.specs.Items.{items};
 ghost use Rattle.fc_set.specs.Copied.{Lends, MayCopyRefuse};
 ghost use Rattle.fc_command.specs.SetStep.{StepOnSets, combined};
 
+use crate::command::kinds::SetCommand;
 use fc_base::{TryClone, TryReserveError};
-use fc_lines::command::{Reply, SetCommand, SetOp};
+use fc_lines::command::{Reply, SetOp};
 use fc_lines::items::Items;
 use fc_set::set::BTreeSet;
 use std::alloc::Global;

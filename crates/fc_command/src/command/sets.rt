@@ -5,9 +5,10 @@ ghost use Rattle.fc_map.specs.Entries.{Map, now_value};
 ghost use Rattle.fc_command.specs.SetStep.{StepOnSets};
 ghost use Rattle.fc_command.specs.Walks.{given, left, walked, MayRefuseFound};
 
+use crate::command::kinds::SetCommand;
 use crate::command::operations::{keep, list};
 use fc_base::{TryClone, TryReserveError};
-use fc_lines::command::{End, Reply, SetCommand};
+use fc_lines::command::{End, Reply};
 use fc_lines::items::Items;
 use fc_map::map::is_range;
 use fc_set::set::{BTreeSet, Range};

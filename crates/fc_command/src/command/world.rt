@@ -11,9 +11,10 @@ ghost use Rattle.fc_map.specs.Entries.{Map, entries, now_pair};
 ghost use Rattle.fc_command.specs.Walks.{given, left, walked, MayRefuseFound};
 ghost use Rattle.fc_command.specs.Step.{IsNew, Step, StepOn, Runs};
 
+use crate::command::kinds::{Kind, MapCommand};
 use crate::command::sets::step_set;
 use fc_base::{TryClone, TryReserveError};
-use fc_lines::command::{Command, End, MapCommand, Reply, Side};
+use fc_lines::command::{Command, End, Reply, Side};
 use fc_lines::items::Items;
 use fc_map::map::{BTreeMap, Entry, Range, RangeMut, insert_both, is_range};
 use fc_set::set::BTreeSet;
@@ -59,17 +60,17 @@ impl<K: Ord + TryClone, V: TryClone> World<K, V> {
         requires same { IsExact K.same × IsExact V.same }
         ensures { Step K.cmp K.may_refuse V.may_refuse self.old command result self.new }
     {
-        match command {
-            Command::OnMap(Side::First, command) => {
+        match Kind::of(command) {
+            Kind::OnMaps(Side::First, command) => {
                 step_on(self.alloc, &mut self.a, &mut self.b, command)
             }
-            Command::OnMap(Side::Second, command) => {
+            Kind::OnMaps(Side::Second, command) => {
                 step_on(self.alloc, &mut self.b, &mut self.a, command)
             }
-            Command::OnSet(Side::First, command) => {
+            Kind::OnSets(Side::First, command) => {
                 step_set(self.alloc, &mut self.s, &mut self.t, command)
             }
-            Command::OnSet(Side::Second, command) => {
+            Kind::OnSets(Side::Second, command) => {
                 step_set(self.alloc, &mut self.t, &mut self.s, command)
             }
         }

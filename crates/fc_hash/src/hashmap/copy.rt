@@ -45,6 +45,7 @@ fn insert_copies<K: Eq + Hash + TryClone, V: TryClone>(
     'pairs: while let Some((key, value)) = walk.next() {
         let key_copy = key.try_clone()?;
         let value_copy = value.try_clone()?;
+        let _len = made.inner.len();
         made.insert(key_copy, value_copy)?;
     }
     Ok(())

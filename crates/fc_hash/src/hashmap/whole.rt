@@ -1,5 +1,5 @@
 //! Calls on all pairs of a hashed map, and on its room.
-ghost use Rattle.std.specs.Prelude.{◌≡◌, ◌+◌, ◌<◌, ◌≤◌, [], length, OnOk, IfErr, IsOk, IsTrue, ◌↔◌};
+ghost use Rattle.std.specs.Prelude.{◌≡◌, ◌+◌, ◌^◌, ◌<◌, ◌≤◌, [], length, OnOk, IfErr, IsOk, IsTrue, ◌↔◌};
 ghost use Rattle.std.specs.List.Sorted.{IsPermutation};
 ghost use Rattle.std.specs.Map.Calls.{CalledAtPair, TakesPair, CallableOnEachPair, RetainsPairs};
 ghost use Rattle.fc_base.specs.Growth.{append_error};
@@ -28,6 +28,7 @@ impl<K: Eq + Hash, V> TryHashMap<K, V> {
         ensures values { (q : K) → value_at K.eq q self.new.pairs ≡ value_at K.eq q self.old.pairs }
         ensures map { IsMap K.eq self.new.pairs }
         ensures room { OnOk result (additional ≤ self.new.spare) }
+        ensures length { OnOk result (length self.old.pairs + additional < 2 ^ 64) }
         ensures kept { self.old.spare ≤ self.new.spare }
         ensures fits { additional ≤ self.old.spare → IsOk result × (self.new ≡ self.old) }
         ensures error { IfErr result (λ e. (self.old.spare < additional) × (e ≡ append_error (length self.old.pairs) additional) × (self.new.pairs ≡ self.old.pairs)) }

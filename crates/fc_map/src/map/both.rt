@@ -1,10 +1,11 @@
 //! A pair put into each of two maps, or into neither.
-ghost use Rattle.std.specs.Prelude.{◌≡◌, ◌⊎◌, [], length, IsErr, IfOk, IfErr, OnOk, OnErr, None};
+ghost use Rattle.std.specs.Prelude.{◌≡◌, ◌<◌, ◌⊎◌, [], length, IsErr, IfOk, IfErr, OnOk, OnErr, None};
 ghost use Rattle.fc_base.specs.Ascending.{IsAscending};
 ghost use Rattle.fc_base.specs.Growth.{MayGrowRefuse};
 ghost use Rattle.fc_base.specs.OneKey.{put};
 ghost use Rattle.fc_base.specs.Parts.{at, value_at};
 ghost use Rattle.fc_map.specs.Entries.{entries, IsSoundMap};
+ghost use Rattle.fc_map.specs.Full.{TakesNode};
 ghost use Rattle.fc_map.specs.Ready.{IsPrepared};
 
 use super::BTreeMap;
@@ -33,6 +34,7 @@ pub fn insert_both<K: Ord + Drop, V: Drop, L: Ord + Drop, W: Drop>(
     ensures unchanged { OnErr result ((a.new ≡ a.old) × (b.new ≡ b.old)) }
     ensures back { IfErr result (λ e. (e.0 ≡ k) × (e.1 ≡ v) × (e.2 ≡ l) × (e.3 ≡ w)) }
     ensures error { IfErr result (λ e. ((at K.cmp (entries a.old) k ≡ None) × MayGrowRefuse (length (entries a.old)) e.4) ⊎ ((at L.cmp (entries b.old) l ≡ None) × MayGrowRefuse (length (entries b.old)) e.4)) }
+    ensures only_full { OnErr result (((at K.cmp (entries a.old) k ≡ None) × (length (entries a.old) < usize.MAX → TakesNode K.cmp k a.old)) ⊎ ((at L.cmp (entries b.old) l ≡ None) × (length (entries b.old) < usize.MAX → TakesNode L.cmp l b.old))) }
     ensures first_full { at K.cmp (entries a.old) k ≡ None → length (entries a.old) ≡ usize.MAX → IsErr result }
     ensures second_full { at L.cmp (entries b.old) l ≡ None → length (entries b.old) ≡ usize.MAX → IsErr result }
     ensures first_ascending { IsAscending K.cmp (entries a.new) }
@@ -71,6 +73,7 @@ impl<K: Ord + Drop, V: Drop> BTreeMap<K, V> {
         ensures ok { IfOk result (λ made. IsPrepared K.cmp key.now self.now path.new made) }
         ensures absent { OnErr result (at K.cmp (entries self.now) key.now ≡ None) }
         ensures error { IfErr result (MayGrowRefuse (length (entries self.now))) }
+        ensures only_full { OnErr result (length (entries self.now) < usize.MAX → TakesNode K.cmp key.now self.now) }
         ensures full { at K.cmp (entries self.now) key.now ≡ None → length (entries self.now) ≡ usize.MAX → IsErr result }
         ensures ascending { IsAscending K.cmp (entries self.now) }
         ensures sound { IsSoundMap self.now }

@@ -31,9 +31,9 @@ impl<K: Ord, V> Model for Extension<K, V> {
 
     ghost Value = { List (K × V) };
 
-    ghost view = { λ e. e.tree ++ entries e.map };
+    ghost view = { λ e. e.tree.pairs ++ entries e.map };
 
-    ghost invariant = { λ e. IsExtension K.cmp e.tree (entries e.map) };
+    ghost invariant = { λ e. IsExtension K.cmp e.tree.pairs (entries e.map) };
 }
 
 impl<K: Ord + Drop, V: Drop> Extension<K, V> {
@@ -95,8 +95,8 @@ impl<K: Ord + Drop, V: Drop> Extension<K, V> {
 
 // Whether the map has no pair, and the key lies behind all keys of the tree: it is compared with the last one.
 fn is_behind<K: Ord, V>(tree: &Growing<K, V>, map: &BTreeMap<K, V>, key: &K) -> bool
-    requires { IsExtension K.cmp tree.now (entries map.now) }
-    ensures behind { IsTrue result → AllByRecursion (λ e. K.cmp e.0 key.now ≡ Less) tree.now }
+    requires { IsExtension K.cmp tree.now.pairs (entries map.now) }
+    ensures behind { IsTrue result → AllByRecursion (λ e. K.cmp e.0 key.now ≡ Less) tree.now.pairs }
     ensures open { IsTrue result → entries map.now ≡ [] }
 {
     match tree.last() {
@@ -112,13 +112,13 @@ fn push_behind<K: Ord + Drop, V: Drop>(
     key: K,
     value: V,
 ) -> Result<(), TryReserveError>
-    requires ascending { IsAscending K.cmp tree.old }
-    requires behind { AllByRecursion (λ e. K.cmp e.0 key ≡ Less) tree.old }
-    ensures put { IfOk result (λ _. tree.new ≡ put K.cmp tree.old key value) }
-    ensures ascending { IsAscending K.cmp tree.new }
+    requires ascending { IsAscending K.cmp tree.old.pairs }
+    requires behind { AllByRecursion (λ e. K.cmp e.0 key ≡ Less) tree.old.pairs }
+    ensures put { IfOk result (λ _. tree.new.pairs ≡ put K.cmp tree.old.pairs key value) }
+    ensures ascending { IsAscending K.cmp tree.new.pairs }
     ensures unchanged { IfErr result (λ _. tree.new ≡ tree.old) }
-    ensures new_key { IfErr result (λ _. at K.cmp tree.old key ≡ None) }
-    ensures error { IfErr result (λ e. MayGrowRefuse (length tree.old) e) }
+    ensures new_key { IfErr result (λ _. at K.cmp tree.old.pairs key ≡ None) }
+    ensures error { IfErr result (λ e. MayGrowRefuse (length tree.old.pairs) e) }
 {
     if tree.len() == usize::MAX {
         return Err(TryReserveError::CapacityOverflow);
@@ -132,9 +132,9 @@ fn push_behind<K: Ord + Drop, V: Drop>(
 // Moves the tree's pairs into the map, which has none.
 #[cold]
 fn close<K: Ord + Drop, V: Drop>(tree: &mut Growing<K, V>, map: &mut BTreeMap<K, V>)
-    requires { IsAscending K.cmp tree.old }
-    ensures pairs { entries map.new ≡ tree.old }
-    ensures closed { tree.new ≡ [] }
+    requires { IsAscending K.cmp tree.old.pairs }
+    ensures pairs { entries map.new ≡ tree.old.pairs }
+    ensures closed { tree.new.pairs ≡ [] }
 {
     let grown = mem::replace(tree, Growing::new(map.alloc));
     *map = for_sets::from_grown(map.alloc, grown);

@@ -3,6 +3,7 @@ ghost use Rattle.std.specs.Prelude.{◌≡◌, ◌-◌, ◌<◌, [], ◌∷◌, 
 ghost use Rattle.fc_base.specs.Ascending.{IsAscending};
 ghost use Rattle.fc_map.specs.Counts.{IsBounded};
 ghost use Rattle.fc_map.specs.Entries.{entries, now_pair, IsSoundMap};
+ghost use Rattle.fc_map.specs.Fewest.{HasFewestMoves};
 
 use super::BTreeMap;
 use fc_base::Count;
@@ -62,6 +63,7 @@ impl<K: Ord + Drop, V: Drop> BTreeMap<K, V> {
         ensures comparisons { count.new.comparisons ≡ count.old.comparisons }
         ensures no_move { IfNone result (count.new.moves ≡ count.old.moves) }
         ensures moved { OnSome result (count.old.moves < count.new.moves) }
+        ensures fewest { HasFewestMoves self.old self.new count.old count.new }
         ensures bounded { IsBounded (length (entries self.old)) count.old count.new }
     {
         if self.root.is_none() {
@@ -92,6 +94,7 @@ impl<K: Ord + Drop, V: Drop> BTreeMap<K, V> {
         ensures comparisons { count.new.comparisons ≡ count.old.comparisons }
         ensures no_move { IfNone result (count.new.moves ≡ count.old.moves) }
         ensures moved { OnSome result (count.old.moves < count.new.moves) }
+        ensures fewest { HasFewestMoves self.old self.new count.old count.new }
         ensures bounded { IsBounded (length (entries self.old)) count.old count.new }
     {
         if self.root.is_none() {

@@ -1,6 +1,6 @@
 //! What a set, which is a map of its items, rests on: a key with its pair taken out and replaced, a map made of pairs in order, and keys
 //! asked in turn.
-ghost use Rattle.std.specs.Prelude.{◌≡◌, ◌+◌, ◌<◌, length, IsSome, IsErr, IfOk, IfErr, OnOk, Some, None};
+ghost use Rattle.std.specs.Prelude.{◌≡◌, ◌+◌, ◌<◌, length, IsSome, IsErr, IfOk, IfErr, OnOk, OnErr, Some, None};
 ghost use Rattle.fc_base.specs.Ascending.{IsAscending};
 ghost use Rattle.fc_base.specs.Growth.{MayGrowRefuse};
 ghost use Rattle.fc_base.specs.Joined.{placed};
@@ -8,8 +8,10 @@ ghost use Rattle.fc_base.specs.OneKey.{cut};
 ghost use Rattle.fc_base.specs.Parts.{at};
 ghost use Rattle.fc_map.specs.Counts.{IsBounded};
 ghost use Rattle.fc_map.specs.Entries.{entries, IsSoundMap, passed_in};
+ghost use Rattle.fc_map.specs.Full.{TakesNode};
 ghost use Rattle.fc_map.specs.Place.{IsHeldAt};
 ghost use Rattle.fc_tree_node.specs.Depth.{HasFewMoves};
+ghost use Rattle.fc_map.specs.Fewest.{HasFewestMoves};
 ghost use Rattle.fc_tree_retain.specs.Retained.{AskedAtKey, ExtractsBy, GivenKey, RetainsInTurn};
 
 use super::BTreeMap;
@@ -36,6 +38,7 @@ pub fn take<K: Ord + Drop, V: Drop, Q: Query<K>>(
     ensures comparisons { count.new.comparisons ≡ count.old.comparisons + passed_in Q.order (Q.sought key) map.old }
     ensures no_move { at Q.order (entries map.old) (Q.sought key) ≡ None → count.new.moves ≡ count.old.moves }
     ensures moved { IsSome (at Q.order (entries map.old) (Q.sought key)) → count.old.moves < count.new.moves }
+    ensures fewest { HasFewestMoves map.old map.new count.old count.new }
     ensures bounded { IsBounded (length (entries map.old)) count.old count.new }
 {
     let mut path = Path::new();
@@ -63,6 +66,7 @@ pub fn replace<K: Ord + Drop, V: Drop>(
     ensures new_key { IfErr result (λ _. at K.cmp (entries map.old) key ≡ None) }
     ensures back { IfErr result (λ e. (e.0 ≡ key) × (e.1 ≡ value)) }
     ensures error { IfErr result (λ e. MayGrowRefuse (length (entries map.old)) e.2) }
+    ensures only_full { OnErr result (length (entries map.old) < usize.MAX → TakesNode K.cmp key map.old) }
     ensures full { at K.cmp (entries map.old) key ≡ None → length (entries map.old) ≡ usize.MAX → IsErr result }
     ensures ascending { IsAscending K.cmp (entries map.new) }
     ensures sound { IsSoundMap map.new }
@@ -89,8 +93,8 @@ pub fn allocator<K: Ord, V>(map: &BTreeMap<K, V>) -> Global {
 
 /// A map of the pairs of the tree, which ascend. It takes no memory, compares nothing and moves no pair.
 pub fn from_grown<K: Ord + Drop, V: Drop>(alloc: Global, tree: Growing<K, V>) -> BTreeMap<K, V>
-    requires { IsAscending K.cmp tree }
-    ensures pairs { entries result ≡ tree }
+    requires { IsAscending K.cmp tree.pairs }
+    ensures pairs { entries result ≡ tree.pairs }
     ensures sound { IsSoundMap result }
 {
     let len = tree.len();

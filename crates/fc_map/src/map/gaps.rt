@@ -152,6 +152,7 @@ impl<K: Ord, V> BTreeMap<K, V> {
         ensures gone { gone.new ≡ 0 }
         ensures gap { IsGapIn self.now (gone_on path.new gone.new) }
         ensures full { IsGapIn self.now (gone_on path.new full.new) }
+        ensures all { (k : ℕ) → IsGapIn self.now (gone_on path.new k) → k ≤ full.new }
         ensures step { length (before_gap_in self.now (gone_on path.new gone.new)) ≡ length (before_gap_in self.now (gone_on path.old gone.old)) + 1 }
         ensures sound { IsSoundMap self.now }
     {

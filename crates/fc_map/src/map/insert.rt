@@ -6,6 +6,7 @@ ghost use Rattle.fc_base.specs.OneKey.{put};
 ghost use Rattle.fc_base.specs.Parts.{at, value_at};
 ghost use Rattle.fc_map.specs.Counts.{IsBounded};
 ghost use Rattle.fc_map.specs.Entries.{entries, IsSoundMap, passed_in};
+ghost use Rattle.fc_map.specs.Full.{IsFullAt, TakesNode};
 ghost use Rattle.fc_map.specs.Place.{IsHeldAt, IsOpenAt, IsPutIn, TellsRoom};
 ghost use Rattle.fc_tree_node.specs.Depth.{HasFewMoves};
 ghost use Rattle.fc_tree_node.specs.TreePlace.{before_gap_in, after_gap_in};
@@ -32,6 +33,7 @@ impl<K: Ord + Drop, V: Drop> BTreeMap<K, V> {
         ensures new_key { IfErr result (λ _. at K.cmp (entries self.old) key ≡ None) }
         ensures back { IfErr result (λ e. (e.0 ≡ key) × (e.1 ≡ value)) }
         ensures error { IfErr result (λ e. MayGrowRefuse (length (entries self.old)) e.2) }
+        ensures only_full { OnErr result (length (entries self.old) < usize.MAX → TakesNode K.cmp key self.old) }
         ensures full { at K.cmp (entries self.old) key ≡ None → length (entries self.old) ≡ usize.MAX → IsErr result }
         ensures ascending { IsAscending K.cmp (entries self.new) }
         ensures sound { IsSoundMap self.new }
@@ -56,6 +58,7 @@ impl<K: Ord + Drop, V: Drop> BTreeMap<K, V> {
         ensures new_key { IfErr result (λ _. at K.cmp (entries self.old) key ≡ None) }
         ensures back { IfErr result (λ e. (e.0 ≡ key) × (e.1 ≡ value)) }
         ensures error { IfErr result (λ e. MayGrowRefuse (length (entries self.old)) e.2) }
+        ensures only_full { OnErr result (length (entries self.old) < usize.MAX → TakesNode K.cmp key self.old) }
         ensures full { at K.cmp (entries self.old) key ≡ None → length (entries self.old) ≡ usize.MAX → IsErr result }
         ensures ascending { IsAscending K.cmp (entries self.new) }
         ensures sound { IsSoundMap self.new }
@@ -91,6 +94,7 @@ impl<K: Ord + Drop, V: Drop> BTreeMap<K, V> {
         ensures unchanged { IfErr result (λ _. self.new ≡ self.old) }
         ensures new_key { IfErr result (λ _. at K.cmp (entries self.old) key ≡ None) }
         ensures error { IfErr result (λ e. MayGrowRefuse (length (entries self.old)) e) }
+        ensures only_full { OnErr result (length (entries self.old) < usize.MAX → TakesNode K.cmp key self.old) }
     {
         let mut path = Path::new();
         let Err(gap) = self.locate(&key, &mut path, count) else {
@@ -118,6 +122,7 @@ impl<K: Ord + Drop, V: Drop> BTreeMap<K, V> {
         ensures put { OnOk result (entries self.new ≡ put K.cmp (entries self.old) key value) }
         ensures unchanged { OnErr result (self.new ≡ self.old) }
         ensures error { IfErr result (λ e. MayGrowRefuse (length (entries self.old)) e) }
+        ensures only_full { OnErr result (length (entries self.old) < usize.MAX → IsFullAt self.old path.old) }
     {
         match self.insert_growing(path, key, value, count) {
             Ok(()) => Ok(()),
@@ -155,6 +160,7 @@ impl<K: Ord + Drop, V: Drop> BTreeMap<K, V> {
         ensures unchanged { OnErr result (self.new ≡ self.old) }
         ensures back { IfErr result (λ e. (e.0 ≡ key) × (e.1 ≡ value)) }
         ensures error { IfErr result (λ e. MayGrowRefuse (length (entries self.old)) e.2) }
+        ensures only_full { OnErr result (length (entries self.old) < usize.MAX → IsFullAt self.old path.old) }
         ensures full { length (entries self.old) ≡ usize.MAX → IsErr result }
         ensures ascending { IsAscending K.cmp (entries self.new) }
         ensures sound { IsSoundMap self.new }
@@ -209,6 +215,7 @@ impl<K: Ord + Drop, V: Drop> BTreeMap<K, V> {
         ensures unchanged { OnErr result (self.new ≡ self.old) }
         ensures back { IfErr result (λ e. (e.0 ≡ key) × (e.1 ≡ value)) }
         ensures error { IfErr result (λ e. MayGrowRefuse (length (entries self.old)) e.2) }
+        ensures only_full { OnErr result (length (entries self.old) < usize.MAX → IsFullAt self.old path.old) }
         ensures full { length (entries self.old) ≡ usize.MAX → IsErr result }
         ensures ascending { IsAscending K.cmp (entries self.new) }
         ensures sound { IsSoundMap self.new }

@@ -1,9 +1,10 @@
 //! An insertion in two halves: its nodes are made, and then nothing refuses it.
-ghost use Rattle.std.specs.Prelude.{◌≡◌, ◌+◌, ◌<◌, ◌∷◌, [], length, IsErr, IfOk, IfErr, None};
+ghost use Rattle.std.specs.Prelude.{◌≡◌, ◌+◌, ◌<◌, ◌∷◌, [], length, IsErr, IfOk, IfErr, OnErr, None};
 ghost use Rattle.fc_base.specs.Ascending.{IsAscending};
 ghost use Rattle.fc_base.specs.Growth.{MayGrowRefuse};
 ghost use Rattle.fc_base.specs.OneKey.{put};
 ghost use Rattle.fc_map.specs.Entries.{entries, IsSoundMap};
+ghost use Rattle.fc_map.specs.Full.{IsFullAt};
 ghost use Rattle.fc_map.specs.Place.{IsOpenAt, IsPutIn};
 ghost use Rattle.fc_map.specs.Ready.{AreNodesFor, IsReadyAt};
 ghost use Rattle.fc_tree_node.specs.Depth.{HasFewMoves};
@@ -21,6 +22,7 @@ impl<K: Ord + Drop, V: Drop> BTreeMap<K, V> {
         requires { (key : K) × IsOpenAt K.cmp key self.now path.now }
         ensures ok { IfOk result (λ made. AreNodesFor self.now path.now made) }
         ensures error { IfErr result (MayGrowRefuse (length (entries self.now))) }
+        ensures only_full { OnErr result (length (entries self.now) < usize.MAX → IsFullAt self.now path.now) }
         ensures full { length (entries self.now) ≡ usize.MAX → IsErr result }
     {
         if self.len == usize::MAX {

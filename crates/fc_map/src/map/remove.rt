@@ -7,6 +7,7 @@ ghost use Rattle.fc_map.specs.Counts.{IsBounded};
 ghost use Rattle.fc_map.specs.Entries.{entries, IsSoundMap, passed_in};
 ghost use Rattle.fc_map.specs.Place.{IsHeldAt};
 ghost use Rattle.fc_tree_node.specs.Depth.{HasFewMoves};
+ghost use Rattle.fc_map.specs.Fewest.{HasFewestMoves};
 ghost use Rattle.fc_tree_node.specs.TreePlace.{IsPlaceIn, pair_in, before_pair_in, after_pair_in};
 
 use super::BTreeMap;
@@ -38,6 +39,7 @@ impl<K: Ord + Drop, V: Drop> BTreeMap<K, V> {
         ensures comparisons { count.new.comparisons ≡ count.old.comparisons + passed_in Q.order (Q.sought key) self.old }
         ensures no_move { at Q.order (entries self.old) (Q.sought key) ≡ None → count.new.moves ≡ count.old.moves }
         ensures moved { IsSome (at Q.order (entries self.old) (Q.sought key)) → count.old.moves < count.new.moves }
+        ensures fewest { HasFewestMoves self.old self.new count.old count.new }
         ensures bounded { IsBounded (length (entries self.old)) count.old count.new }
     {
         match self.remove_entry_counted(key, count) {
@@ -69,6 +71,7 @@ impl<K: Ord + Drop, V: Drop> BTreeMap<K, V> {
         ensures comparisons { count.new.comparisons ≡ count.old.comparisons + passed_in Q.order (Q.sought key) self.old }
         ensures no_move { at Q.order (entries self.old) (Q.sought key) ≡ None → count.new.moves ≡ count.old.moves }
         ensures moved { IsSome (at Q.order (entries self.old) (Q.sought key)) → count.old.moves < count.new.moves }
+        ensures fewest { HasFewestMoves self.old self.new count.old count.new }
         ensures bounded { IsBounded (length (entries self.old)) count.old count.new }
     {
         let mut path = Path::new();
@@ -95,6 +98,7 @@ impl<K: Ord + Drop, V: Drop> BTreeMap<K, V> {
         ensures comparisons { count.new.comparisons ≡ count.old.comparisons }
         ensures moves { HasFewMoves (length (entries self.old)) count.old count.new }
         ensures moved { count.old.moves < count.new.moves }
+        ensures fewest { HasFewestMoves self.old self.new count.old count.new }
     {
         self.take_at(path, count)
     }
@@ -110,6 +114,7 @@ impl<K: Ord + Drop, V: Drop> BTreeMap<K, V> {
         ensures comparisons { count.new.comparisons ≡ count.old.comparisons }
         ensures moves { HasFewMoves (length (entries self.old)) count.old count.new }
         ensures moved { count.old.moves < count.new.moves }
+        ensures fewest { HasFewestMoves self.old self.new count.old count.new }
     {
         let pair = remove(&mut self.root, path.as_slice(), count);
         self.len -= 1;

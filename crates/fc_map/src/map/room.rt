@@ -1,5 +1,5 @@
 //! Insertions that nothing refuses, by nodes that were taken before the first of them.
-ghost use Rattle.std.specs.Prelude.{◌≡◌, ◌+◌, ◌<◌, length, IsErr, IsSome, IfOk, IfErr, MatchOption, None};
+ghost use Rattle.std.specs.Prelude.{◌≡◌, ◌+◌, ◌<◌, length, IsOk, IsErr, IsSome, IfOk, IfErr, MatchOption, None};
 ghost use Rattle.fc_base.specs.Ascending.{IsAscending};
 ghost use Rattle.fc_base.specs.OneKey.{put};
 ghost use Rattle.fc_base.specs.Parts.{at, value_at};
@@ -17,7 +17,7 @@ use fc_tree_node::path::Path;
 
 impl<K: Ord + Drop, V: Drop> BTreeMap<K, V> {
     /// Takes nodes enough for so many insertions of new keys, whatever the keys, so that `insert_with` can't be refused: what `reserve` is for
-    /// a vector. The map is only read; the room serves any map of fewer pairs than `Room::pairs`, so this one until so many keys are put in.
+    /// a vector. Room of none takes no memory, and is Ok. The map is only read; the room serves any map of fewer pairs than `Room::pairs`, so this one until so many keys are put in.
     ///
     /// # Errors
     /// `CapacityOverflow` where the map's pairs and the insertions together pass `usize::MAX`, or a node for each insertion at each level of the
@@ -25,6 +25,7 @@ impl<K: Ord + Drop, V: Drop> BTreeMap<K, V> {
     pub fn try_room_for(&self, insertions: usize) -> Result<Room<K, V>, TryReserveError>
         ensures places { IfOk result (λ room. room.places ≡ insertions) }
         ensures pairs { IfOk result (λ room. room.pairs ≡ length (entries self.now) + insertions) }
+        ensures none { insertions ≡ 0 → IsOk result }
         ensures error { IfErr result (λ e. e ≡ room_error (length (entries self.now)) insertions) }
         ensures overflow { room_error (length (entries self.now)) insertions ≡ TryReserveError.CapacityOverflow → IsErr result }
     {

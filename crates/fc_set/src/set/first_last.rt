@@ -1,6 +1,7 @@
 //! The first and the last item of a set, read or taken out.
 ghost use Rattle.std.specs.Prelude.{◌≡◌, ◌-◌, ◌<◌, [], ◌∷◌, ◌++◌, length, slice_get, IfNone, OnSome, MatchOption};
 ghost use Rattle.fc_map.specs.Counts.{IsBounded};
+ghost use Rattle.fc_map.specs.Fewest.{HasFewestMoves};
 ghost use Rattle.fc_map.specs.Entries.{IsSoundMap, now_value};
 ghost use Rattle.fc_set.specs.Items.{items, AreAscending};
 
@@ -46,6 +47,7 @@ impl<T: Ord + Drop> BTreeSet<T> {
         ensures comparisons { count.new.comparisons ≡ count.old.comparisons }
         ensures no_move { IfNone result (count.new.moves ≡ count.old.moves) }
         ensures moved { OnSome result (count.old.moves < count.new.moves) }
+        ensures fewest { HasFewestMoves self.old self.new count.old count.new }
         ensures bounded { IsBounded (length (items self.old)) count.old count.new }
     {
         match self.map.pop_first_counted(count) {
@@ -74,6 +76,7 @@ impl<T: Ord + Drop> BTreeSet<T> {
         ensures comparisons { count.new.comparisons ≡ count.old.comparisons }
         ensures no_move { IfNone result (count.new.moves ≡ count.old.moves) }
         ensures moved { OnSome result (count.old.moves < count.new.moves) }
+        ensures fewest { HasFewestMoves self.old self.new count.old count.new }
         ensures bounded { IsBounded (length (items self.old)) count.old count.new }
     {
         match self.map.pop_last_counted(count) {

@@ -1,5 +1,5 @@
 //! Sets made of copies of the items of two others.
-ghost use Rattle.std.specs.Prelude.{◌≡◌, ◌+◌, ◌<◌, ◌≤◌, true, length, IfOk, IfErr, IsErr};
+ghost use Rattle.std.specs.Prelude.{◌≡◌, ◌+◌, ◌<◌, ◌≤◌, ◌↔◌, true, length, IfOk, IfErr, IsErr};
 ghost use Rattle.std.specs.List.{AllZip};
 ghost use Rattle.fc_map.specs.Entries.{IsSoundMap};
 ghost use Rattle.fc_set.specs.Copied.{MayCopyRefuse};
@@ -101,7 +101,7 @@ impl<T: Ord + TryClone> BTreeSet<T> {
 
 // Whether both sets together have at most `usize::MAX` items.
 fn fit_together<T: Ord>(one: &BTreeSet<T>, other: &BTreeSet<T>) -> bool
-    ensures { result ≡ true → length (items one.now) + length (items other.now) ≤ usize.MAX }
+    ensures { result ≡ true ↔ (length (items one.now) + length (items other.now) ≤ usize.MAX) }
 {
     one.len().checked_add(other.len()).is_some()
 }

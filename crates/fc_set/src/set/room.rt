@@ -1,5 +1,5 @@
 //! Insertions that nothing refuses, by nodes that were taken before the first of them.
-ghost use Rattle.std.specs.Prelude.{◌≡◌, ◌+◌, ◌<◌, ◌↔◌, length, IsTrue, IsSome, IsErr, IfOk, IfErr, None, if◌then◌else◌};
+ghost use Rattle.std.specs.Prelude.{◌≡◌, ◌+◌, ◌<◌, ◌↔◌, length, IsTrue, IsSome, IsOk, IsErr, IfOk, IfErr, None, if◌then◌else◌};
 ghost use Rattle.fc_map.specs.Counts.{IsBounded};
 ghost use Rattle.fc_map.specs.Entries.{IsSoundMap, passed_in};
 ghost use Rattle.fc_map.specs.Room.{room_error};
@@ -11,13 +11,14 @@ use fc_map::map::Room;
 
 impl<T: Ord + Drop> BTreeSet<T> {
     /// Takes the nodes that so many insertions of new items can need, whatever the items, so that `insert_with` can't be refused: what
-    /// `reserve` is for a vector. The set is only read, and need not be the one that the room is used for.
+    /// `reserve` is for a vector. Room of none takes no memory, and is Ok. The set is only read, and need not be the one that the room is used for.
     ///
     /// # Errors
     /// As `BTreeMap::try_room_for`. What was taken is then given back.
     pub fn try_room_for(&self, insertions: usize) -> Result<Room<T, ()>, TryReserveError>
         ensures places { IfOk result (λ room. room.places ≡ insertions) }
         ensures pairs { IfOk result (λ room. room.pairs ≡ length (items self.now) + insertions) }
+        ensures none { insertions ≡ 0 → IsOk result }
         ensures error { IfErr result (λ e. e ≡ room_error (length (items self.now)) insertions) }
         ensures overflow { room_error (length (items self.now)) insertions ≡ TryReserveError.CapacityOverflow → IsErr result }
     {

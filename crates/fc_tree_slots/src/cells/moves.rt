@@ -4,6 +4,7 @@ ghost use Rattle.fc_tree_slots.specs.Cells.{row, HasRow};
 
 use super::Cells;
 use fc_base::Count;
+use fc_base::count::add_moves;
 
 impl<T> Cells<T> {
     /// Moves the items from `from` to `end` down by `by` cells, which are empty.
@@ -18,7 +19,7 @@ impl<T> Cells<T> {
         let start = places.start();
         for i in from..end {
             let item = places.take_from(start, i);
-            count.add_moves(1);
+            add_moves(count, 1);
             places.set_from(start, i - by, item);
         }
     }
@@ -35,7 +36,7 @@ impl<T> Cells<T> {
         let start = places.start();
         for i in (from..end - by).rev() {
             let item = places.take_from(start, i);
-            count.add_moves(1);
+            add_moves(count, 1);
             places.set_from(start, i + by, item);
         }
     }
@@ -63,7 +64,7 @@ impl<T> Cells<T> {
         let first_target = targets.start();
         for i in to..end {
             let item = sources.take_from(first, from + (i - to));
-            count.add_moves(1);
+            add_moves(count, 1);
             targets.set_from(first_target, i, item);
         }
     }

@@ -37,6 +37,7 @@ pub trait FallibleVec<T>: Sized {
     fn try_with_capacity(alloc: Global, capacity: usize) -> Result<Self, TryReserveError>
         ensures contents { IfOk result (λ v. contents v ≡ []) }
         ensures room { IfOk result (λ v. capacity ≤ room v) }
+        ensures exact { IfOk result (λ v. room v ≡ capacity) }
         ensures none { capacity ≡ 0 → IsOk result }
         ensures error { IfErr result (λ e. e ≡ TryReserveError.AllocError) };
 
@@ -106,6 +107,7 @@ pub trait FallibleVec<T>: Sized {
         ensures length { OnOk result (length (contents self.new) ≡ new_len) }
         ensures kept { room self.old ≤ room self.new }
         ensures shorter { new_len ≤ length (contents self.old) → IsOk result × (room self.new ≡ room self.old) }
+        ensures room { new_len ≤ room self.old → room self.new ≡ room self.old }
         ensures error { IfErr result (λ e. (room self.old < new_len) × (e ≡ TryReserveError.AllocError) × (contents self.new ≡ contents self.old) × (room self.new ≡ room self.old)) };
 
     /// Cuts the vector to `new_len` items, or fills it up with copies of `value`, of which the last is `value` itself. Upstream:
@@ -121,6 +123,7 @@ pub trait FallibleVec<T>: Sized {
         ensures cut { new_len ≤ length (contents self.old) → IsOk result × (contents self.new ≡ take new_len (contents self.old)) × (room self.new ≡ room self.old) }
         ensures filled { length (contents self.old) < new_len → OnOk result (IsFilled T.same (contents self.old) new_len value (contents self.new)) }
         ensures kept { room self.old ≤ room self.new }
+        ensures room { new_len ≤ room self.old → room self.new ≡ room self.old }
         ensures error { IfErr result (λ e. ((room self.old < new_len) × (e ≡ TryReserveError.AllocError) × (contents self.new ≡ contents self.old) × (room self.new ≡ room self.old)) ⊎ IsCopiedUpTo T.same T.may_refuse e (contents self.old) (replicate (new_len - length (contents self.old) - 1) value) (contents self.new)) };
 
     /// Puts a copy of each item of `other`, by `try_clone`, behind the own ones. Upstream:
@@ -156,6 +159,20 @@ pub(crate) fn reserve<T>(v: &mut Vec<T>, additional: usize) -> Result<(), TryRes
     }
     v.reserve(additional)?;
     Ok(())
+}
+
+// Puts what so many calls of `f` answer behind the items, for which there is room. std's own call does not say that the room stays.
+fn push_results<T, F: FnMut() -> T>(v: &mut Vec<T>, count: usize, mut f: F)
+    requires called { F.IsAlwaysCallable f }
+    requires room { vec_len v.old + count ≤ vec_capacity v.old }
+    ensures filled { AppendsResults F.step v.old.items v.new.items f }
+    ensures length { vec_len v.new ≡ vec_len v.old + count }
+    ensures room { vec_capacity v.new ≡ vec_capacity v.old }
+{
+    for i in 0..count {
+        let item = f();
+        v.push_reserved(item);
+    }
 }
 
 impl<T> FallibleVec<T> for Vec<T> {
@@ -217,8 +234,9 @@ impl<T> FallibleVec<T> for Vec<T> {
             self.truncate(new_len);
             return Ok(());
         }
-        reserve(self, new_len - self.len())?;
-        self.resize_with(new_len, f)?;
+        let lacking = new_len - self.len();
+        reserve(self, lacking)?;
+        push_results(self, lacking, f);
         Ok(())
     }
 

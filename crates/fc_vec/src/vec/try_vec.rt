@@ -62,6 +62,7 @@ impl<T> TryVec<T> {
     pub fn with_capacity(alloc: Global, capacity: usize) -> Result<TryVec<T>, TryReserveError>
         ensures items { IfOk result (λ v. v.items ≡ []) }
         ensures room { IfOk result (λ v. capacity ≤ v.room) }
+        ensures exact { IfOk result (λ v. v.room ≡ capacity) }
         ensures none { capacity ≡ 0 → IsOk result }
         ensures error { IfErr result (λ e. e ≡ TryReserveError.AllocError) }
     {
@@ -191,6 +192,7 @@ impl<T> TryVec<T> {
         ensures length { OnOk result (length self.new.items ≡ new_len) }
         ensures kept { self.old.room ≤ self.new.room }
         ensures shorter { new_len ≤ length self.old.items → IsOk result × (self.new.room ≡ self.old.room) }
+        ensures room { new_len ≤ self.old.room → self.new.room ≡ self.old.room }
         ensures error { IfErr result (λ e. (self.old.room < new_len) × (e ≡ TryReserveError.AllocError) × (self.new ≡ self.old)) }
     {
         FallibleVec::try_resize_with(&mut self.inner, new_len, f)

@@ -1,12 +1,13 @@
 //! What an entry does whether its key is there or not.
-ghost use Rattle.std.specs.Prelude.{◌≡◌, length, unwrap_or, IsErr, IfOk, IfErr, IfSome, MatchOption, OnErr, None, Some};
+ghost use Rattle.std.specs.Prelude.{◌≡◌, ◌<◌, length, unwrap_or, IsErr, IfOk, IfErr, IfSome, MatchOption, OnErr, None, Some};
 ghost use Rattle.std.specs.Borrow.{sem, Bor, MutBor};
 ghost use Rattle.std.specs.Fn.{FnOnceReturnsAt};
 ghost use Rattle.std.specs.Map.Calls.{ModifiesValue};
 ghost use Rattle.std.specs.Option.{UnwrapsOrElse};
 ghost use Rattle.fc_base.specs.Growth.{MayGrowRefuse};
 ghost use Rattle.fc_map.specs.Entries.{entries};
-ghost use Rattle.fc_map.specs.Entry.{entry_key, entry_lends_ok, entry_map, entry_map_ref, entry_pair, entry_value, list_with, list_without};
+ghost use Rattle.fc_map.specs.Full.{IsFullAt};
+ghost use Rattle.fc_map.specs.Entry.{entry_key, entry_lends_ok, entry_map, entry_map_ref, entry_path, entry_pair, entry_value, list_with, list_without};
 
 use super::Entry;
 use fc_base::TryReserveError;
@@ -56,6 +57,7 @@ impl<'a, K: Ord + Drop, V: Drop> Entry<'a, K, V> {
         ensures back { IfErr result (λ e. (entry_key self.entry ≡ Some e.0) × (e.1 ≡ value)) }
         ensures absent { OnErr result (entry_value self.entry ≡ None) }
         ensures error { IfErr result (λ e. MayGrowRefuse (length (entries (entry_map self.entry))) e.2) }
+        ensures only_full { OnErr result (length (entries (entry_map self.entry)) < usize.MAX → IsFullAt (entry_map self.entry) (entry_path self.entry)) }
         ensures full { entry_value self.entry ≡ None → length (entries (entry_map self.entry)) ≡ usize.MAX → IsErr result }
     {
         match self {
@@ -79,6 +81,7 @@ impl<'a, K: Ord + Drop, V: Drop> Entry<'a, K, V> {
         ensures absent { OnErr result (entry_value self.entry ≡ None) }
         ensures back { IfErr result (λ e. (entry_key self.entry ≡ Some e.0) × F.post make e.1) }
         ensures error { IfErr result (λ e. MayGrowRefuse (length (entries (entry_map self.entry))) e.2) }
+        ensures only_full { OnErr result (length (entries (entry_map self.entry)) < usize.MAX → IsFullAt (entry_map self.entry) (entry_path self.entry)) }
         ensures full { entry_value self.entry ≡ None → length (entries (entry_map self.entry)) ≡ usize.MAX → IsErr result }
     {
         match self {
@@ -103,6 +106,7 @@ impl<'a, K: Ord + Drop, V: Drop> Entry<'a, K, V> {
         ensures absent { OnErr result (entry_value self.entry ≡ None) }
         ensures back { IfErr result (λ e. (entry_key self.entry ≡ Some e.0) × FnOnceReturnsAt F.FnOnce make e.0 e.1) }
         ensures error { IfErr result (λ e. MayGrowRefuse (length (entries (entry_map self.entry))) e.2) }
+        ensures only_full { OnErr result (length (entries (entry_map self.entry)) < usize.MAX → IsFullAt (entry_map self.entry) (entry_path self.entry)) }
         ensures full { entry_value self.entry ≡ None → length (entries (entry_map self.entry)) ≡ usize.MAX → IsErr result }
     {
         match self {
@@ -127,6 +131,7 @@ impl<'a, K: Ord + Drop, V: Drop> Entry<'a, K, V> {
         ensures back { IfErr result (λ e. (entry_key self.entry ≡ Some e.0) × V.is_default e.1) }
         ensures absent { OnErr result (entry_value self.entry ≡ None) }
         ensures error { IfErr result (λ e. MayGrowRefuse (length (entries (entry_map self.entry))) e.2) }
+        ensures only_full { OnErr result (length (entries (entry_map self.entry)) < usize.MAX → IsFullAt (entry_map self.entry) (entry_path self.entry)) }
         ensures full { entry_value self.entry ≡ None → length (entries (entry_map self.entry)) ≡ usize.MAX → IsErr result }
     {
         match self {

@@ -4,6 +4,7 @@ ghost use Rattle.std.specs.Option.{option_map};
 ghost use Rattle.std.specs.Borrow.{sem};
 ghost use Rattle.fc_map.specs.Counts.{IsBounded};
 ghost use Rattle.fc_map.specs.Entries.{entries, IsSoundMap};
+ghost use Rattle.fc_map.specs.Fewest.{HasFewestMoves};
 ghost use Rattle.fc_map.specs.Entry.{Occupied, entry_key, entry_map, entry_pair, entry_value, list_without, map_written, occupied_lends, occupied_lends_whole, IsWritten};
 
 use super::OccupiedEntry;
@@ -81,6 +82,7 @@ impl<'a, K: Ord + Drop, V: Drop> OccupiedEntry<'a, K, V> {
         ensures sound { IsSoundMap self.exit.0.now }
         ensures comparisons { count.new.comparisons ≡ count.old.comparisons }
         ensures moved { count.old.moves < count.new.moves }
+        ensures fewest { HasFewestMoves (entry_map (Occupied self.entry)) self.exit.0.now count.old count.new }
         ensures bounded { IsBounded (length (entries (entry_map (Occupied self.entry)))) count.old count.new }
     {
         let path = self.path;

@@ -7,7 +7,8 @@ ghost use Rattle.fc_base.specs.OneKey.{put, cut};
 ghost use Rattle.fc_base.specs.Parts.{at};
 ghost use Rattle.fc_map.specs.Counts.{IsBounded};
 ghost use Rattle.fc_map.specs.Entries.{entries, passed_in};
-ghost use Rattle.fc_map.specs.Entry.{entry_map, entry_map_ref, entry_key, entry_pair, list_with, list_without, rests_if_refused};
+ghost use Rattle.fc_map.specs.LendsKey.{path_in};
+ghost use Rattle.fc_map.specs.Entry.{entry_map, entry_map_ref, entry_path, entry_key, entry_pair, list_with, list_without, rests_if_refused};
 
 use super::super::BTreeMap;
 use super::{Entry, OccupiedEntry, VacantEntry};
@@ -25,6 +26,7 @@ impl<K: Ord + Drop, V: Drop> BTreeMap<K, V> {
         ensures ok { IsOk result }
         ensures same_map { IfOk result (λ e. (entry_map_ref e).ghost_name ≡ self.entry.ghost_name) }
         ensures map { IfOk result (λ e. entry_map e ≡ self.old) }
+        ensures path { IfOk result (λ e. entry_path e ≡ path_in K.cmp key self.old) }
         ensures pair { IfOk result (λ e. entry_pair e ≡ at K.cmp (entries self.old) key) }
         ensures key { IfOk result (λ e. entry_key e ≡ Some (unwrap_or (option_map (λ p. p.0) (at K.cmp (entries self.old) key)) key)) }
         ensures writes { IfOk result (λ e. (v : V) → list_with e v ≡ put K.cmp (entries self.old) key v) }
@@ -48,6 +50,7 @@ impl<K: Ord + Drop, V: Drop> BTreeMap<K, V> {
         ensures ok { IsOk result }
         ensures same_map { IfOk result (λ e. (entry_map_ref e).ghost_name ≡ self.entry.ghost_name) }
         ensures map { IfOk result (λ e. entry_map e ≡ self.old) }
+        ensures path { IfOk result (λ e. entry_path e ≡ path_in K.cmp key self.old) }
         ensures pair { IfOk result (λ e. entry_pair e ≡ at K.cmp (entries self.old) key) }
         ensures key { IfOk result (λ e. entry_key e ≡ Some (unwrap_or (option_map (λ p. p.0) (at K.cmp (entries self.old) key)) key)) }
         ensures writes { IfOk result (λ e. (v : V) → list_with e v ≡ put K.cmp (entries self.old) key v) }

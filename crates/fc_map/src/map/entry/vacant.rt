@@ -4,7 +4,8 @@ ghost use Rattle.std.specs.Borrow.{sem};
 ghost use Rattle.fc_base.specs.Growth.{MayGrowRefuse};
 ghost use Rattle.fc_map.specs.Counts.{IsBounded};
 ghost use Rattle.fc_map.specs.Entries.{entries};
-ghost use Rattle.fc_map.specs.Entry.{Vacant, entry_key, entry_lends_ok, entry_map};
+ghost use Rattle.fc_map.specs.Full.{IsFullAt};
+ghost use Rattle.fc_map.specs.Entry.{Vacant, entry_key, entry_lends_ok, entry_map, entry_path};
 
 use super::VacantEntry;
 use fc_base::{Count, TryReserveError};
@@ -44,6 +45,7 @@ impl<'a, K: Ord + Drop, V: Drop> VacantEntry<'a, K, V> {
         ensures value { IfOk result (λ v. v.now ≡ value) }
         ensures back { IfErr result (λ e. (entry_key (Vacant self.entry) ≡ Some e.0) × (e.1 ≡ value)) }
         ensures error { IfErr result (λ e. MayGrowRefuse (length (entries (entry_map (Vacant self.entry)))) e.2) }
+        ensures only_full { OnErr result (length (entries (entry_map (Vacant self.entry))) < usize.MAX → IsFullAt (entry_map (Vacant self.entry)) (entry_path (Vacant self.entry))) }
         ensures full { length (entries (entry_map (Vacant self.entry))) ≡ usize.MAX → IsErr result }
     {
         self.try_insert_counted(value, &mut Count::new())
@@ -62,6 +64,7 @@ impl<'a, K: Ord + Drop, V: Drop> VacantEntry<'a, K, V> {
         ensures value { IfOk result (λ v. v.now ≡ value) }
         ensures back { IfErr result (λ e. (entry_key (Vacant self.entry) ≡ Some e.0) × (e.1 ≡ value)) }
         ensures error { IfErr result (λ e. MayGrowRefuse (length (entries (entry_map (Vacant self.entry)))) e.2) }
+        ensures only_full { OnErr result (length (entries (entry_map (Vacant self.entry))) < usize.MAX → IsFullAt (entry_map (Vacant self.entry)) (entry_path (Vacant self.entry))) }
         ensures full { length (entries (entry_map (Vacant self.entry))) ≡ usize.MAX → IsErr result }
         ensures comparisons { count.new.comparisons ≡ count.old.comparisons }
         ensures no_move { OnErr result (count.new.moves ≡ count.old.moves) }

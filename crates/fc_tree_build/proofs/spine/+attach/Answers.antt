@@ -4,7 +4,7 @@ use Rattle.fc_tree_node.specs.Node.{own_pairs, IsBlankInner}
 use Rattle.fc_tree_build.specs.Spine.{IsOpenEnd}
 use Rattle.fc_tree_build.specs.Spares.{needed}
 use Rattle.fc_tree_build.proofs.SpineFacts.{child_room, end_grown, end_pairs, spine_pairs, spine_pushed, worth_pushed, count_pushed, length_pushed}
-use Rattle.fc_tree_build.proofs.SpineFacts.{closed_sound, closed_pairs, carried_pairs, some_needed, not_blank, spare_taken, blank_end}
+use Rattle.fc_tree_build.proofs.SpineFacts.{closed_sound, closed_pairs, carried_pairs, some_needed, used_here, not_blank, spare_taken, blank_end}
 use Rattle.fc_tree_build.proofs.spine.+attach.Given as given
 use Rattle.fc_tree_build.proofs.spine.+attach.Goals as goal
 use Rattle.fc_tree_build.proofs.spine.+attach.Goals.{After-open_end-node, After-len, After-take_spare}
@@ -78,7 +78,12 @@ returns-then-len-lt-CAPACITY-clause-left g t c =
     omega arith
 
 pub returns-then-len-lt-CAPACITY-clause-used : goal.returns-then-len-lt-CAPACITY-clause-used
-returns-then-len-lt-CAPACITY-clause-used g t c = c.open_end-node.ensures.used
+returns-then-len-lt-CAPACITY-clause-used g t c =
+    let e = ap length c.put_child.ensures.pairs in
+    let v = c.len.ensures.value in
+    let z = c.if-len-lt-CAPACITY.true in
+    let o = c.open_end-node.ensures in
+    used_here _ _ _ _ (λ some. ap (λ v. length v.items) (o.kept some)) (λ some. o.room some (omega arith)) o.nodes o.shorter
 
 pub returns-then-len-lt-CAPACITY-clause-short : goal.returns-then-len-lt-CAPACITY-clause-short
 returns-then-len-lt-CAPACITY-clause-short g t c d long few =

@@ -2,7 +2,7 @@ use Rattle.std.proofs.Common.{◌≡◌, suc, length, sym, ap, subst, arith}
 use Rattle.fc_tree_drain.proofs.Opening.{no_item, back_push}
 use Rattle.fc_tree_build.specs.Spine.{IsSpine}
 use Rattle.fc_tree_build.specs.Spares.{worth}
-use Rattle.fc_tree_build.proofs.SpineFacts.{spare_taken, blank_back, blank_end, spine_popped, worth_pushed, count_pushed, needed_full}
+use Rattle.fc_tree_build.proofs.SpineFacts.{spare_taken, blank_back, blank_end, spine_popped, worth_pushed, count_pushed, needed_full, needed_room}
 use Rattle.fc_tree_build.proofs.spine.open_end.Goals as goal
 
 pub returns-then-len-eq0-clause-pairs : goal.returns-then-len-eq0-clause-pairs
@@ -48,3 +48,6 @@ returns-clause-count g c = count_pushed _ _ _ c.pop.ensures
 
 pub returns-clause-full : goal.returns-clause-full
 returns-clause-full g c some full = needed_full _ _ _ c.pop.ensures full
+
+pub returns-clause-room : goal.returns-clause-room
+returns-clause-room g c some room = needed_room _ _ _ c.pop.ensures room

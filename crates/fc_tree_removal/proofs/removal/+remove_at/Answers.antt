@@ -1,7 +1,7 @@
 use Rattle.std.proofs.Common.{ℕ, get_or, ◌∙◌, arith}
 use Rattle.fc_tree_node.specs.Node.{IsLevelled}
 use Rattle.fc_tree_node.proofs.Made.{child_set}
-use Rattle.fc_tree_removal.proofs.Removed.{IsLent, lent_onward, lent_short, lent_mended, IsPlaceStep, place_step, below_removed}
+use Rattle.fc_tree_removal.proofs.Removed.{IsLent, lent_onward, lent_short, lent_lost, lent_mended, IsPlaceStep, place_step, below_removed}
 use Rattle.fc_tree_removal.proofs.removal.+remove_at.Given as given
 use Rattle.fc_tree_removal.proofs.removal.+remove_at.Goals as goal
 use Rattle.fc_tree_removal.proofs.removal.+remove_at.Goals.{After-get_mut-child}
@@ -36,4 +36,13 @@ returns-clause-moves g t c h s =
     let e = l.height in
     let x = c.remove_at-pair.ensures.moves l.below l.sound in
     let y = c.mend_child.ensures.moves in
+    omega arith
+
+pub returns-clause-fewest : goal.returns-clause-fewest
+returns-clause-fewest g t c h s lost =
+    let l = child g t (goal.at.returns-clause-fewest g t c).After-get_mut-child h s.1 in
+    let e = l.height in
+    let came = lent_lost l _ (child_set _ _ _ _ c.in-Some.is) c.mend_child.ensures.whole lost in
+    let x = c.remove_at-pair.ensures.fewest l.below l.sound came.0 in
+    let y = c.mend_child.ensures.least came.1 in
     omega arith

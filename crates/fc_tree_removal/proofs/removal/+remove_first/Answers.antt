@@ -1,7 +1,7 @@
 use Rattle.std.proofs.Common.{ℕ, ◌∷◌, ap, sym, ◌∙◌, arith}
 use Rattle.fc_tree_node.specs.Node.{IsLevelled}
 use Rattle.fc_tree_node.proofs.Made.{child_set}
-use Rattle.fc_tree_removal.proofs.Removed.{IsLent, lent, lent_short, lent_mended, first_removed}
+use Rattle.fc_tree_removal.proofs.Removed.{none_leaf, opened_length, IsLent, lent, lent_short, lent_lost, lent_mended, first_removed}
 use Rattle.fc_tree_removal.proofs.removal.+remove_first.Given as given
 use Rattle.fc_tree_removal.proofs.removal.+remove_first.Goals as goal
 use Rattle.fc_tree_removal.proofs.removal.+remove_first.Goals.{After-get_mut-child}
@@ -32,4 +32,21 @@ returns-clause-moves g t c h s =
     let e = l.height in
     let x = c.remove_first-pair.ensures.moves l.below l.sound in
     let y = c.mend_child.ensures.moves in
+    omega arith
+
+pub returns-in-None-clause-fewest : goal.returns-in-None-clause-fewest
+returns-in-None-clause-fewest g t c h s lost =
+    let z = none_leaf h c.args.node.now c.in-None.is s.1 in
+    let some = s.0 in
+    let m = c.remove_leaf.ensures.moves in
+    let opened = opened_length c.args.node.now in
+    omega arith
+
+pub returns-clause-fewest : goal.returns-clause-fewest
+returns-clause-fewest g t c h s lost =
+    let l = child g t (goal.at.returns-clause-fewest g t c).After-get_mut-child h s.1 in
+    let e = l.height in
+    let came = lent_lost l _ (child_set _ _ _ _ c.in-Some.is) c.mend_child.ensures.whole lost in
+    let x = c.remove_first-pair.ensures.fewest l.below l.sound came.0 in
+    let y = c.mend_child.ensures.least came.1 in
     omega arith

@@ -80,3 +80,27 @@ returns-else-index-gt0-clause-levels g c h s =
     let q = p.left_length in
     let top = level_size h _ p.right in
     stolen_mended h _ _ _ _ p (omega arith) (omega arith) (omega arith) (omega arith) c.steal_right.ensures.shared
+
+pub returns-then-len-lt-CAPACITY-clause-least : goal.returns-then-len-lt-CAPACITY-clause-least
+returns-then-len-lt-CAPACITY-clause-least g c =
+    let p = siblings g (goal.at.returns-then-len-lt-CAPACITY-clause-least g c).After-saturating_sub-place _ c.requires.at.1 in
+    let some = p.in_bounds in
+    let right = p.right_length in
+    let m = c.merge.ensures.moves in
+    omega arith
+
+pub returns-then-index-gt0-clause-least : goal.returns-then-index-gt0-clause-least
+returns-then-index-gt0-clause-least g c =
+    let p = siblings g (goal.at.returns-then-index-gt0-clause-least g c).After-saturating_sub-place _ c.requires.at.1 in
+    let some = p.in_bounds in
+    let right = p.right_length in
+    let m = c.steal_left.ensures.moves in
+    omega arith
+
+pub returns-else-index-gt0-clause-least : goal.returns-else-index-gt0-clause-least
+returns-else-index-gt0-clause-least g c =
+    let p = siblings g (goal.at.returns-else-index-gt0-clause-least g c).After-saturating_sub-place _ c.requires.at.1 in
+    let some = p.in_bounds in
+    let right = p.right_length in
+    let m = c.steal_right.ensures.moves in
+    omega arith

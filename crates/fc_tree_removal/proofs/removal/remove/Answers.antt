@@ -1,5 +1,6 @@
-use Rattle.std.proofs.Common.{refl}
+use Rattle.std.proofs.Common.{refl, arith}
 use Rattle.fc_tree_node.specs.Node.{IsSoundRoot}
+use Rattle.fc_tree_removal.proofs.FewestFacts.{fewest_kept, fewest_gone}
 use Rattle.fc_tree_removal.proofs.removal.remove.Goals as goal
 
 pub take_empty_root-requires : goal.take_empty_root-requires
@@ -12,3 +13,13 @@ pub returns-clause-levels : goal.returns-clause-levels
 returns-clause-levels g c h s =
     let sound : IsSoundRoot h c.in-Some.root = rw c.in-Some.is at s in
     c.take_empty_root.ensures.levels _ refl h (c.remove_at-pair.ensures.levels h sound).0
+
+pub returns-then-len-gt0-clause-fewest : goal.returns-then-len-gt0-clause-fewest
+returns-then-len-gt0-clause-fewest g c =
+    fewest_kept c.args.tree.now c.in-Some.root _ c.args.count.now c.remove_at-pair.new.count c.in-Some.is
+    c.remove_at-pair.ensures.levels c.remove_at-pair.ensures.fewest
+
+pub returns-clause-fewest : goal.returns-clause-fewest
+returns-clause-fewest g c h s other =
+    fewest_gone c.args.tree.now c.in-Some.root _ c.args.count.now c.remove_at-pair.new.count c.in-Some.is
+    c.remove_at-pair.ensures.fewest (omega arith) h s

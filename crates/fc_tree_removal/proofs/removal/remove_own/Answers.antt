@@ -2,7 +2,8 @@ use Rattle.std.proofs.Common.{ℕ, ◌+◌, get_or, ap, ◌∙◌, arith}
 use Rattle.std.specs.List.{remove}
 use Rattle.fc_tree_node.specs.Node.{IsLevelled}
 use Rattle.fc_tree_node.proofs.Made.{own_made, child_set}
-use Rattle.fc_tree_removal.proofs.Removed.{leaf_shrunk, get_there, IsLent, lent, IsOwnSet, own_set, own_short, own_mended, own_replaced}
+use Rattle.fc_tree_removal.proofs.Removed.{leaf_shrunk, none_leaf, opened_length, get_there, IsLent, lent, IsOwnSet, own_set}
+use Rattle.fc_tree_removal.proofs.Removed.{own_short, own_lost, own_mended, own_replaced}
 use Rattle.fc_tree_removal.proofs.removal.remove_own.Given as given
 use Rattle.fc_tree_removal.proofs.removal.remove_own.Goals as goal
 use Rattle.fc_tree_removal.proofs.removal.remove_own.Goals.{After-get_mut-child, After-replace_pair-pair}
@@ -58,5 +59,25 @@ returns-clause-moves g c h s =
     let e = l.height in
     let x = c.remove_first-next.ensures.moves l.below l.sound in
     let y = c.mend_child.ensures.moves in
+    let z = c.replace_pair-pair.ensures.moves in
+    omega arith
+
+pub returns-in-None-clause-fewest : goal.returns-in-None-clause-fewest
+returns-in-None-clause-fewest g c h s lost =
+    let z = none_leaf h c.args.node.now c.in-None.is s.1 in
+    let some = s.0 in
+    let m = c.remove_leaf.ensures.moves in
+    let opened = opened_length c.args.node.now in
+    let there = c.requires.place in
+    omega arith
+
+pub returns-clause-fewest : goal.returns-clause-fewest
+returns-clause-fewest g c h s lost =
+    let at = goal.at.returns-clause-fewest g c in
+    let l = next g at.After-get_mut-child h s.1 in
+    let e = l.height in
+    let came = own_lost l _ (set g at.After-replace_pair-pair) c.mend_child.ensures.whole lost in
+    let x = c.remove_first-next.ensures.fewest l.below l.sound came.0 in
+    let y = c.mend_child.ensures.least came.1 in
     let z = c.replace_pair-pair.ensures.moves in
     omega arith

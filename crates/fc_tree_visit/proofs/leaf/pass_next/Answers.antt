@@ -29,5 +29,5 @@ returns g c =
     let h = holder g (goal.at.returns g c).After-step-place in
     let e = c.go_down-run.ensures in
     let r = past c.args.gap.now c.set.new.self c.go_down-run.new.gap c.args.root.now found.0.now found.1 c.step-place.result c.go_down-run.result
-    c.requires.path h c.step-place.ensures c.set.ensures (record { gap_is = e.gap; run_is = e.run }) in
-    record { way = h.0; own = c.step-place.ensures; place = r.place_is; before = r.before; gap = r.gap_is; run = r.run_is }
+    c.requires.path h c.step-place.ensures c.set.ensures (record { gap_is = e.gap; run_is = e.run; run_all = e.all }) in
+    record { way = h.0; own = c.step-place.ensures; place = r.place_is; before = r.before; gap = r.gap_is; run = r.run_is; all = r.run_all }

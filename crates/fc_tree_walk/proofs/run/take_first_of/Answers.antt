@@ -1,9 +1,9 @@
 use Rattle.std.proofs.Common.{◌≡◌, ◌-◌, ◌++◌, [], length, get_or, arith, sym, ap, subst, ◌∙◌}
-use Rattle.std.specs.Prelude.{IsTrue, ◌↔◌, if◌then◌else◌, slice_range, slice_set}
+use Rattle.std.specs.Prelude.{Bool, IsTrue, ◌↔◌, if◌then◌else◌, slice_range, slice_set}
 use Rattle.fc_tree_node.specs.Node.{own_pairs}
 use Rattle.fc_tree_walk.specs.Gap.{AreEndsIn}
 use Rattle.fc_tree_walk.specs.Span.{between}
-use Rattle.fc_tree_walk.proofs.Leaves.{FrontTaken, front_takes}
+use Rattle.fc_tree_walk.proofs.Leaves.{FrontTaken, front_takes, end_set}
 use Rattle.fc_tree_walk.proofs.run.take_first_of.Given as given
 use Rattle.fc_tree_walk.proofs.run.take_first_of.Goals as goal
 use Rattle.fc_tree_walk.proofs.run.take_first_of.Goals.{After-len-last}
@@ -40,10 +40,13 @@ returns g c =
     let last = c.len-last.result - 1 in
     let end = c.reach-end.result.0 in
     let set = c.set.ensures in
+    let reached = λ (met : Bool). if met then get_or back (length front - 1) 0 else c.len.result in
     let part = c.part.ensures ∙ ap (λ i. slice_range (own_pairs c.args.leaf.now) i end) c.step-start.ensures in
     record {
       leaf = (_, set ∙ ap (λ k. slice_set front k end) (ap (λ k. k - 1) c.len-last.ensures.value));
       ends = subst (λ p. AreEndsIn m p back) (sym set) r.0.ends;
       run = r.0.run ∙ ap (λ xs. xs ++ between m (slice_set front last end) back) (sym part) ∙ ap (λ p. c.part.result.now ++ between m p back) (sym set);
+      all = λ apart. end_set m _ c.args.leaf.now front _ last end c.in-Some.is c.requires.sound c.requires.ends.0 (c.requires.leaf _ c.in-Some.is)
+          (ap (λ k. k - 1) c.len-last.ensures.value) set (c.reach-end.ensures.place ∙ ap reached apart ∙ c.len.ensures.value);
       met = (λ t. ap (λ p. between m p back) set ∙ r.1.0 t, λ e. r.1.1 (ap (λ p. between m p back) (sym set) ∙ e));
     }

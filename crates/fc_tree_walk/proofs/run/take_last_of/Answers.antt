@@ -1,10 +1,10 @@
-use Rattle.std.proofs.Common.{◌≡◌, ◌-◌, ◌++◌, [], rules, arith, sym, ap, subst, ◌∙◌}
-use Rattle.std.specs.Prelude.{IsTrue, ◌↔◌, slice_range, slice_set}
+use Rattle.std.proofs.Common.{◌≡◌, ◌-◌, ◌++◌, [], length, get_or, rules, arith, sym, ap, subst, ◌∙◌}
+use Rattle.std.specs.Prelude.{Bool, IsTrue, ◌↔◌, if◌then◌else◌, slice_range, slice_set}
 use Rattle.fc_tree_node.specs.Node.{own_pairs}
 use Rattle.fc_tree_walk.specs.Gap.{AreEndsIn}
 use Rattle.fc_tree_walk.specs.Span.{between}
 use Rattle.fc_tree_walk.proofs.GapFacts.{gap_small}
-use Rattle.fc_tree_walk.proofs.Leaves.{BackTaken, back_takes}
+use Rattle.fc_tree_walk.proofs.Leaves.{BackTaken, back_takes, start_set}
 use Rattle.fc_tree_walk.proofs.run.take_last_of.Given as given
 use Rattle.fc_tree_walk.proofs.run.take_last_of.Goals as goal
 use Rattle.fc_tree_walk.proofs.run.take_last_of.Goals.{After-len-last}
@@ -42,10 +42,13 @@ returns g c =
     let last = c.len-last.result - 1 in
     let start = c.reach-start.result.0 in
     let set = c.set.ensures in
+    let reached = λ (met : Bool). if met then get_or front (length back - 1) 0 else 0 in
     let part = c.part.ensures ∙ ap (slice_range (own_pairs c.args.leaf.now) start) c.step-end.ensures in
     record {
       leaf = (_, set ∙ ap (λ k. slice_set back k start) (ap (λ k. k - 1) c.len-last.ensures.value));
       ends = subst (λ p. AreEndsIn m front p) (sym set) r.0.ends;
       run = r.0.run ∙ ap (λ xs. between m front (slice_set back last start) ++ xs) (sym part) ∙ ap (λ p. between m front p ++ c.part.result.now) (sym set);
+      all = λ apart. start_set m _ back _ last start c.in-Some.is c.requires.sound c.requires.ends.1 (ap (λ k. k - 1) c.len-last.ensures.value) set
+          (c.reach-start.ensures.place ∙ ap reached apart);
       met = (λ t. ap (λ p. between m front p) set ∙ r.1.0 t, λ e. r.1.1 (ap (λ p. between m front p) (sym set) ∙ e));
     }

@@ -1,8 +1,10 @@
-use Rattle.std.proofs.Common.{[], refl, sym, subst, inl, inr}
+use Rattle.std.proofs.Common.{◌+◌, ◌≤◌, [], length, refl, sym, ap, subst, inl, inr, arith}
 use Rattle.std.proofs.lemmas.Result.{err_from_is_err_and}
 use Rattle.std.proofs.lemmas.List.Sorted.{IsPermutation-refl}
 use Rattle.std.specs.List.Sorted.{IsPermutation}
 use Rattle.fc_base.specs.Copies.{MayRefusePair}
+use Rattle.fc_vec.proofs.Refusals.{no_overflow}
+use Rattle.fc_hash.specs.Pairs.{Hashed}
 use Rattle.fc_hash.proofs.CopyFacts.{copy_refused, room_refused, one_more}
 use Rattle.fc_hash.proofs.hashmap.copy.insert_copies.Goals as goal
 
@@ -27,8 +29,11 @@ pub returns-in_err-insert-clause-error : goal.returns-in_err-insert-clause-error
 returns-in_err-insert-clause-error g c =
     let p = err_from_is_err_and c.from_residual-in_err-insert.result c.from_residual-in_err-insert.ensures.1 in
     let m = c.pairs.invariant in
+    let same = ap (λ (map : Hashed g.row.K.Denot g.row.V.Denot). length map.pairs) c.made.view_is in
+    let short : length c.pairs.made.pairs + 1 ≤ 18446744073709551615 = omega (arith, same, c.len-len.ensures.len, c.len-len.ensures.small) in
+    let no_memory = no_overflow 0 (length c.pairs.made.pairs) 1 _ short (omega arith, c.in_err-insert.ensures.error.2) in
     rw (p.1, p.2) (room_refused (MayRefusePair g.K.TryClone.may_refuse g.V.TryClone.may_refuse) _ c.args.walk m.0 c.pairs.walk c.next.new.self
-    (c.in-Some.key.now, c.in-Some.value.now) m.2 c.in-Some.ensures.steps c.in_err-insert.ensures.error.2)
+    (c.in-Some.key.now, c.in-Some.value.now) m.2 c.in-Some.ensures.steps no_memory)
 
 pub pairs-preserved-in_ok-insert : goal.pairs-preserved-in_ok-insert
 pairs-preserved-in_ok-insert g c =

@@ -1,6 +1,7 @@
 use Rattle.std.proofs.Common.{◌-◌, ◌<◌, length, arith, refl, sym, subst, ◌∙◌}
 use Rattle.fc_tree_walk.specs.Gap.{IsGapIn}
 use Rattle.fc_tree_node.specs.TreePlace.{before_gap_in}
+use Rattle.fc_tree_visit.specs.Leaf.{gone_on}
 use Rattle.fc_map.proofs.EndFacts.{steps_fit, on_tree, step_out, IsStepOn}
 use Rattle.fc_map.proofs.map.BTreeMap.leave_to_next.Goals as goal
 
@@ -40,4 +41,15 @@ returns g c =
     let out = step_out m n q next last place c.pass_next-last.result.2 is sound slot
     (record { way_is = e.way; own = e.own; place_is = e.place; before = e.before; next_is = e.gap; run_is = e.run }) in
     let r = subst (λ p. IsStepOn m p next 0 last place) c.go_on.ensures out.0 in
-    record { way = r.way_is; small = r.small; place = r.place_is; before = r.before; gone = refl; gap = r.gap; full = out.1; step = r.count; sound = sound }
+    record {
+      way = r.way_is;
+      small = r.small;
+      place = r.place_is;
+      before = r.before;
+      gone = refl;
+      gap = r.gap;
+      full = out.1;
+      all = λ k w. e.all k (subst (λ o. IsGapIn o (gone_on next k)) is w).0;
+      step = r.count;
+      sound = sound;
+    }

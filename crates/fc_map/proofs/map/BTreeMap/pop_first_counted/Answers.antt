@@ -1,5 +1,6 @@
 use Rattle.std.proofs.Common.{length, ap, subst, arith}
 use Rattle.fc_base.specs.Ascending.{IsAscending}
+use Rattle.fc_tree_removal.specs.Fewest.{HasFewestMoves}
 use Rattle.fc_map.proofs.PopFacts.{popped_sound, popped_cost}
 use Rattle.fc_map.proofs.map.BTreeMap.pop_first_counted.Goals as goal
 
@@ -19,3 +20,7 @@ returns-clause-bounded g c =
     rw (← c.self.view_is)
     (popped_cost c.self.inside.root c.self.invariant.1 c.if-is_none.ensures c.args.count.now c.take_first-pair.new.count
     c.take_first-pair.ensures.comparisons c.take_first-pair.ensures.moves)
+
+pub returns-clause-fewest : goal.returns-clause-fewest
+returns-clause-fewest g c =
+    subst (λ m. HasFewestMoves m c.take_first-pair.new.tree c.args.count.now c.take_first-pair.new.count) c.self.view_is c.take_first-pair.ensures.fewest

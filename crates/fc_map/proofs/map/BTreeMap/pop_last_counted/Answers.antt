@@ -1,4 +1,5 @@
-use Rattle.std.proofs.Common.{arith}
+use Rattle.std.proofs.Common.{subst, arith}
+use Rattle.fc_tree_removal.specs.Fewest.{HasFewestMoves}
 use Rattle.fc_map.proofs.PopFacts.{last_popped, popped_sound, popped_cost}
 use Rattle.fc_map.proofs.map.BTreeMap.pop_last_counted.Goals as goal
 
@@ -21,3 +22,7 @@ returns-clause-bounded g c =
     rw (← c.self.view_is)
     (popped_cost c.self.inside.root c.self.invariant.1 c.if-is_none.ensures c.args.count.now c.take_last-pair.new.count
     c.take_last-pair.ensures.comparisons c.take_last-pair.ensures.moves)
+
+pub returns-clause-fewest : goal.returns-clause-fewest
+returns-clause-fewest g c =
+    subst (λ m. HasFewestMoves m c.take_last-pair.new.tree c.args.count.now c.take_last-pair.new.count) c.self.view_is c.take_last-pair.ensures.fewest

@@ -1,5 +1,6 @@
 use Rattle.std.proofs.Common.{◌≡◌, ◌+◌, ◌++◌, length, sym, subst, arith}
 use Rattle.fc_tree_node.specs.TreePlace.{IsPlaceIn, before_pair_in, after_pair_in}
+use Rattle.fc_tree_removal.specs.Fewest.{HasFewestMoves}
 use Rattle.fc_map.specs.Entries.{entries}
 use Rattle.fc_map.proofs.RemoveFacts.{map_height, map_kept, map_length, map_moves}
 use Rattle.fc_map.proofs.map.BTreeMap.take_at.Given as given
@@ -62,3 +63,7 @@ returns-clause-ascending g c = (invariant_of-self g c).0
 
 pub returns-clause-sound : goal.returns-clause-sound
 returns-clause-sound g c = (invariant_of-self g c).1
+
+pub returns-clause-fewest : goal.returns-clause-fewest
+returns-clause-fewest g c =
+    subst (λ m. HasFewestMoves m c.remove-pair.new.tree c.args.count.now c.remove-pair.new.count) c.self.view_is c.remove-pair.ensures.fewest

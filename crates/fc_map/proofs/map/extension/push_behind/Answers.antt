@@ -3,14 +3,14 @@ use Rattle.fc_map.proofs.ExtendFacts.{put_behind, ascending_behind}
 use Rattle.fc_map.proofs.map.extension.push_behind.Goals as goal
 
 pub returns-then-len-eq18446744073709551615-clause-new_key : goal.returns-then-len-eq18446744073709551615-clause-new_key
-returns-then-len-eq18446744073709551615-clause-new_key g c = (put_behind g.K.Ord.cmp c.args.tree.now c.args.key c.args.value c.requires.behind).1
+returns-then-len-eq18446744073709551615-clause-new_key g c = (put_behind g.K.Ord.cmp c.args.tree.now.pairs c.args.key c.args.value c.requires.behind).1
 
 pub returns-in-Ok-clause-put : goal.returns-in-Ok-clause-put
-returns-in-Ok-clause-put g c = c.in-Ok.ensures.pairs ∙ sym (put_behind g.K.Ord.cmp c.args.tree.now c.args.key c.args.value c.requires.behind).0
+returns-in-Ok-clause-put g c = c.in-Ok.ensures.pairs ∙ sym (put_behind g.K.Ord.cmp c.args.tree.now.pairs c.args.key c.args.value c.requires.behind).0
 
 pub returns-in-Ok-clause-ascending : goal.returns-in-Ok-clause-ascending
-returns-in-Ok-clause-ascending g c = ascending_behind g.K.Ord.cmp c.args.tree.now c.push.new.self c.args.key c.args.value g.met.K.Ord.total
+returns-in-Ok-clause-ascending g c = ascending_behind g.K.Ord.cmp c.args.tree.now.pairs c.push.new.self.pairs c.args.key c.args.value g.met.K.Ord.total
     c.in-Ok.ensures.pairs c.requires.behind c.requires.ascending
 
 pub returns-in-Err-clause-new_key : goal.returns-in-Err-clause-new_key
-returns-in-Err-clause-new_key g c = (put_behind g.K.Ord.cmp c.args.tree.now c.args.key c.args.value c.requires.behind).1
+returns-in-Err-clause-new_key g c = (put_behind g.K.Ord.cmp c.args.tree.now.pairs c.args.key c.args.value c.requires.behind).1

@@ -1,9 +1,10 @@
 //! The nodes made that an insertion into a gap takes.
-ghost use Rattle.std.specs.Prelude.{◌≡◌, length, IsErr, IfOk, IfErr, Some};
+ghost use Rattle.std.specs.Prelude.{◌≡◌, ◌<◌, length, IsErr, IfOk, IfErr, OnErr, Some};
 ghost use Rattle.std.specs.Borrow.{sem};
 ghost use Rattle.fc_base.specs.Growth.{MayGrowRefuse};
 ghost use Rattle.fc_map.specs.Entries.{entries};
-ghost use Rattle.fc_map.specs.Entry.{Vacant, entry_key, entry_map, entry_map_ref, list_with};
+ghost use Rattle.fc_map.specs.Full.{IsFullAt};
+ghost use Rattle.fc_map.specs.Entry.{Vacant, entry_key, entry_map, entry_map_ref, entry_path, list_with};
 ghost use Rattle.fc_map.specs.ReadyEntry.{ready_map, ready_map_ref, ready_key, ready_list_with, rests_if_not_ready};
 
 use super::super::VacantEntry;
@@ -24,6 +25,7 @@ impl<'a, K: Ord + Drop, V: Drop> VacantEntry<'a, K, V> {
         ensures writes { IfOk result (λ e. (v : V) → ready_list_with e v ≡ list_with (Vacant self.entry) v) }
         ensures back { IfErr result (λ e. entry_key (Vacant self.entry) ≡ Some e.0) }
         ensures error { IfErr result (λ e. MayGrowRefuse (length (entries (entry_map (Vacant self.entry)))) e.1) }
+        ensures only_full { OnErr result (length (entries (entry_map (Vacant self.entry))) < usize.MAX → IsFullAt (entry_map (Vacant self.entry)) (entry_path (Vacant self.entry))) }
         ensures full { length (entries (entry_map (Vacant self.entry))) ≡ usize.MAX → IsErr result }
     {
         let VacantEntry { map, key, path } = self;

@@ -28,7 +28,7 @@ try_copied-requires g c =
                     (ascending_union g.T.Ord.cmp (items c.args.self.now) (items c.args.other.now) g.met.T.Ord.total c.union.ensures.ascending.1),
                 λ k. subst (λ v. length (union g.T.Ord.cmp v.left v.right) ≤ 2 ^ 64 - 1) (sym c.union.ensures.sides)
                     (let most = union_at_most g.T.Ord.cmp g.met.T.Ord.total (items c.args.self.now) (items c.args.other.now) c.union.ensures.ascending.0
-                    c.union.ensures.ascending.1 in let few = c.fit_together.ensures k in omega arith),
+                    c.union.ensures.ascending.1 in let few = c.fit_together.ensures.0 k in omega arith),
               ),
             ),
           ),
@@ -49,7 +49,7 @@ returns-clause-error g c =
     (c.try_copied.ensures.error (union g.T.Ord.cmp w.left w.right) (lends_rest (λ v. union g.T.Ord.cmp v.left v.right) w)
     (λ k. subst (λ v. length (union g.T.Ord.cmp v.left v.right) ≤ 2 ^ 64 - 1) (sym c.union.ensures.sides)
     (let most = union_at_most g.T.Ord.cmp g.met.T.Ord.total (items c.args.self.now) (items c.args.other.now) c.union.ensures.ascending.0
-    c.union.ensures.ascending.1 in let few = c.fit_together.ensures k in omega arith)))
+    c.union.ensures.ascending.1 in let few = c.fit_together.ensures.0 k in omega arith)))
 
 pub returns-clause-full : goal.returns-clause-full
 returns-clause-full g c =

@@ -31,7 +31,7 @@ try_copied-requires g c =
                     (sym c.symmetric_difference.ensures.sides)
                     (let most = symmetric_at_most g.T.Ord.cmp g.met.T.Ord.total (items c.args.self.now) (items c.args.other.now)
                     c.symmetric_difference.ensures.ascending.0 c.symmetric_difference.ensures.ascending.1 in
-                    let few = c.fit_together.ensures k in omega arith),
+                    let few = c.fit_together.ensures.0 k in omega arith),
               ),
             ),
           ),
@@ -54,7 +54,7 @@ returns-clause-error g c =
     (lends_rest (λ v. symmetric_difference g.T.Ord.cmp v.left v.right) w)
     (λ k. subst (λ v. length (symmetric_difference g.T.Ord.cmp v.left v.right) ≤ 2 ^ 64 - 1) (sym c.symmetric_difference.ensures.sides)
     (let most = symmetric_at_most g.T.Ord.cmp g.met.T.Ord.total (items c.args.self.now) (items c.args.other.now) c.symmetric_difference.ensures.ascending.0
-    c.symmetric_difference.ensures.ascending.1 in let few = c.fit_together.ensures k in omega arith)))
+    c.symmetric_difference.ensures.ascending.1 in let few = c.fit_together.ensures.0 k in omega arith)))
 
 pub returns-clause-full : goal.returns-clause-full
 returns-clause-full g c =

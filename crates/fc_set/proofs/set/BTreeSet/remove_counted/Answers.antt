@@ -1,5 +1,6 @@
-use Rattle.std.proofs.Common.{sym, ap, ◌∙◌}
+use Rattle.std.proofs.Common.{subst, sym, ap, ◌∙◌}
 use Rattle.fc_map.specs.Entries.{entries}
+use Rattle.fc_map.specs.Fewest.{HasFewestMoves}
 use Rattle.fc_set.proofs.ItemFacts.{keys, without_keys, ascending_keys, held_keys, none_keys, some_keys}
 use Rattle.fc_set.proofs.set.BTreeSet.remove_counted.Goals as goal
 
@@ -25,3 +26,7 @@ returns-clause-no_move g c = rw (← c.self.view_is) (λ n. c.remove_counted.ens
 pub returns-clause-moved : goal.returns-clause-moved
 returns-clause-moved g c = rw (← c.self.view_is) (λ i. c.remove_counted.ensures.moved
     (some_keys g.Q.Query.order (entries c.self.inside.map) (g.Q.Query.sought c.args.item) i))
+
+pub returns-clause-fewest : goal.returns-clause-fewest
+returns-clause-fewest g c =
+    subst (λ m. HasFewestMoves m c.remove_counted.new.self c.args.count.now c.remove_counted.new.count) c.self.view_is c.remove_counted.ensures.fewest

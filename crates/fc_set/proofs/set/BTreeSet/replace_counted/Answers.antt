@@ -1,4 +1,4 @@
-use Rattle.std.proofs.Common.{sym, ap, ◌∙◌}
+use Rattle.std.proofs.Common.{sym, ap, ◌∙◌, arith}
 use Rattle.std.specs.Option.{option_map}
 use Rattle.fc_map.specs.Entries.{entries}
 use Rattle.fc_set.proofs.ItemFacts.{keys, keys_length, item_at_keys, with_replaced_keys, ascending_keys, none_keys, keys_none, some_keys}
@@ -30,3 +30,7 @@ returns-in-Err-clause-exchanged g c = rw (← c.self.view_is) (λ i. c.replace.e
 
 pub returns-in-Err-clause-ascending : goal.returns-in-Err-clause-ascending
 returns-in-Err-clause-ascending g c = ascending_keys g.T.Ord.cmp _ c.replace.ensures.ascending
+
+pub returns-in-Err-clause-only_full : goal.returns-in-Err-clause-only_full
+returns-in-Err-clause-only_full g c = rw (← c.self.view_is)
+    (λ fits. c.in-Err.ensures.only_full (let e = keys_length (entries c.self.inside.map) in omega arith))

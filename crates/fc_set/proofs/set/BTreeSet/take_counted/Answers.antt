@@ -1,6 +1,7 @@
-use Rattle.std.proofs.Common.{sym, ap, ◌∙◌}
+use Rattle.std.proofs.Common.{subst, sym, ap, ◌∙◌}
 use Rattle.std.specs.Option.{option_map}
 use Rattle.fc_map.specs.Entries.{entries}
+use Rattle.fc_map.specs.Fewest.{HasFewestMoves}
 use Rattle.fc_set.proofs.ItemFacts.{keys, item_at_keys, without_keys, ascending_keys, none_keys, some_keys}
 use Rattle.fc_set.proofs.set.BTreeSet.take_counted.Goals as goal
 
@@ -26,3 +27,7 @@ returns-clause-no_move g c = rw (← c.self.view_is) (λ n. c.take.ensures.no_mo
 pub returns-clause-moved : goal.returns-clause-moved
 returns-clause-moved g c = rw (← c.self.view_is) (λ i. c.take.ensures.moved
     (some_keys g.Q.Query.order (entries c.self.inside.map) (g.Q.Query.sought c.args.item) i))
+
+pub returns-clause-fewest : goal.returns-clause-fewest
+returns-clause-fewest g c =
+    subst (λ m. HasFewestMoves m c.take.new.map c.args.count.now c.take.new.count) c.self.view_is c.take.ensures.fewest

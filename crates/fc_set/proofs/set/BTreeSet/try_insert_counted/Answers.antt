@@ -1,4 +1,4 @@
-use Rattle.std.proofs.Common.{inl, refl, sym, ap, ◌∙◌}
+use Rattle.std.proofs.Common.{inl, refl, sym, ap, ◌∙◌, arith}
 use Rattle.fc_map.specs.Entries.{entries}
 use Rattle.fc_set.proofs.ItemFacts.{keys, keys_length, with_item_keys, ascending_keys, new_keys, none_keys, keys_none, sum_keys}
 use Rattle.fc_set.proofs.set.BTreeSet.try_insert_counted.Goals as goal
@@ -31,3 +31,7 @@ returns-in-Err-clause-ascending g c = ascending_keys g.T.Ord.cmp _ c.try_insert_
 
 pub returns-in-Err-clause-no_move : goal.returns-in-Err-clause-no_move
 returns-in-Err-clause-no_move g c = λ h. c.in-Err.ensures.no_move (inl refl)
+
+pub returns-in-Err-clause-only_full : goal.returns-in-Err-clause-only_full
+returns-in-Err-clause-only_full g c = rw (← c.self.view_is)
+    (λ fits. c.in-Err.ensures.only_full (let e = keys_length (entries c.self.inside.map) in omega arith))

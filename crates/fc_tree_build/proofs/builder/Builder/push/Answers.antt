@@ -1,7 +1,8 @@
 use Rattle.std.proofs.Common.{rules, length, Some, ap, arith}
+use Rattle.fc_base.specs.Sizes.{most_height}
 use Rattle.fc_tree_build.specs.Built.{IsLast}
-use Rattle.fc_tree_build.proofs.SpineFacts.{length_pushed, enough_needed}
-use Rattle.fc_tree_build.proofs.Builders.{leaf_taken, last_is, leaf_sound, enough_for_one, enough_left, push_pairs}
+use Rattle.fc_tree_build.proofs.SpineFacts.{length_pushed, enough_needed, enough_left}
+use Rattle.fc_tree_build.proofs.Builders.{leaf_taken, last_is, leaf_sound, push_pairs}
 use Rattle.fc_tree_build.proofs.builder.Builder.push.Given as given
 use Rattle.fc_tree_build.proofs.builder.Builder.push.Goals as goal
 use Rattle.fc_tree_build.proofs.builder.Builder.push.Goals.{In-Some}
@@ -15,30 +16,32 @@ attach-requires g c =
     let i = c.self.invariant in
     let l = last g (goal.at.attach-requires g c).In-Some in
     let few = l.0 in
+    let left = l.2 in
     let v = c.len.ensures.value in
     let x = c.if-len-lt-CAPACITY.false in
-    let q = length_pushed _ _ _ c.take_spare.ensures in
-    let e = i.4 in
-    let low = e.1.1 in
-    let n = enough_needed e.0 _ _ (enough_for_one e.0 _ _ _ (omega arith) e.1) in
-    rw c.replace-full.ensures.value (search rules, ((0, i.1, leaf_sound _ few l.1 (omega arith)), (i.3, (n.0, (e.0, omega arith, e.1.0, n.1)))))
+    let some = c.requires in
+    let same = ap (λ b. b.room) c.self.view_is in
+    let n = enough_needed 0 _ (length c.self.inside.leaves.items) _ i.1 (omega arith) i.4 in
+    let low = i.4.0 in
+    rw c.replace-full.ensures.value (search rules, ((0, i.1, leaf_sound _ few l.1 (omega arith)), (i.3, (n.0, (most_height, omega arith, low, n.1)))))
 
 pub invariant_of-self-2 : goal.invariant_of-self-2
 invariant_of-self-2 g c =
     let i = c.self.invariant in
     let l = last g (goal.at.invariant_of-self-2 g c).In-Some in
     let few = l.0 in
-    let fits = l.2 in
+    let left = l.2 in
     let v = c.len.ensures.value in
     let x = c.if-len-lt-CAPACITY.false in
+    let some = c.requires in
+    let same = ap (λ b. b.room) c.self.view_is in
     let t = leaf_taken _ _ _ c.take_spare.ensures i.2 in
     let q = length_pushed _ _ _ c.take_spare.ensures in
     let z = ap length t.0.0 in
-    let e = i.4 in
     let a = rw c.replace-full.ensures.value at c.attach.ensures in
-    let n = enough_needed e.0 _ _ (enough_for_one e.0 _ _ _ (omega arith) e.1) in
-    let e1 = enough_left e.0 _ _ _ _ c.self.inside.spine _ e.1 q (a.short e.0 e.1.0 n.1) a.worth a.left in
-    rw c.replace-full.ensures.after ((omega arith, t.0.1, omega arith), a.levels 0 i.1 (leaf_sound _ few l.1 (omega arith)), t.1, a.blank, (e.0, e1))
+    let n = enough_needed 0 _ (length c.self.inside.leaves.items) _ i.1 (omega arith) i.4 in
+    let e = enough_left 0 _ _ _ _ c.self.inside.spine _ i.1 i.4 q (a.short most_height i.4.0 n.1) a.worth a.used a.short in
+    rw c.replace-full.ensures.after ((omega arith, t.0.1, omega arith), a.levels 0 i.1 (leaf_sound _ few l.1 (omega arith)), t.1, a.blank, e)
 
 pub returns-clause-pairs : goal.returns-clause-pairs
 returns-clause-pairs g c =

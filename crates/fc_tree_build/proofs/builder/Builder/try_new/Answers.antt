@@ -1,6 +1,5 @@
 use Rattle.std.proofs.Common.{◌≡◌, length, None, Some, MatchOption, refl, sym, ◌∙◌, subst, arith, Option}
 use Rattle.fc_tree_build.specs.Spine.{IsSpine}
-use Rattle.fc_tree_build.specs.Spares.{AreInnerFor}
 use Rattle.fc_tree_build.proofs.Builders.{spare_leaves, first_last, first_leaves, first_enough, first_pairs}
 use Rattle.fc_tree_build.proofs.builder.Builder.try_new.Goals as goal
 
@@ -17,8 +16,7 @@ invariant_of-result g c =
     let q = spare_leaves c.args.n c.in_ok-leaves.leaves.items c.pop-last.new.self.items c.pop-last.result c.pop-last.ensures.items (ok.0 ∙ len) z in
     let last = first_last c.args.n c.in_ok-leaves.leaves.items c.pop-last.new.self.items c.new.result c.pop-last.result c.new.ensures c.pop-last.ensures.items
     (ok.0 ∙ len) ok.1 z in
-    let enough = first_enough c.args.n _ _ c.new.result c.new.ensures q
-    (subst (AreInnerFor c.args.n) (sym c.in_ok-inner.ensures.ok.0) c.inner_count.ensures.enough) in
+    let enough = first_enough c.args.n _ _ c.new.result c.new.ensures c.ranges.n.fits q (c.in_ok-inner.ensures.ok.0 ∙ c.inner_count.ensures) in
     (last, subst (IsSpine 0) (sym c.new.ensures) tt, first_leaves _ _ _ c.pop-last.ensures.items ok.1, c.in_ok-inner.ensures.ok.1, enough)
 
 pub returns-clause-ok : goal.returns-clause-ok

@@ -14,8 +14,9 @@ returns-then-len-gt0 g c =
     let i = c.len-then-len-gt0.result - 1 in
     let own = own_pairs c.in-Some.leaf in
     let p = c.pair.ensures in
+    let s = before_back c.self.inside.spine in
+    let pairs = ap (λ v. v.pairs) c.self.view_is in
     let l = last_taken (own_pairs c.in-Some.leaf) (c.len-then-len-gt0.result - 1) c.pair.result.now (omega arith) p in (
-      before_back c.self.inside.spine ++ take i own,
-      sym c.self.view_is ∙ ap (λ o. before_back c.self.inside.spine ++ last_pairs o) c.in-Some.is ∙ ap (λ ps. before_back c.self.inside.spine ++ ps) l
-          ∙ sym (append_assoc (before_back c.self.inside.spine) (take i own) (c.pair.result.now ∷ [])),
+      s ++ take i own,
+      sym pairs ∙ ap (λ o. s ++ last_pairs o) c.in-Some.is ∙ ap (λ ps. s ++ ps) l ∙ sym (append_assoc s (take i own) (c.pair.result.now ∷ [])),
     )

@@ -1,15 +1,37 @@
-use Rattle.std.proofs.Common.{◌∷◌, [], ◌++◌, refl, sym, ap, ◌∙◌, append_assoc}
+use Rattle.std.proofs.Common.{◌≡◌, ◌-◌, ◌<◌, ◌∷◌, [], ◌++◌, length, refl, sym, ap, ◌∙◌, append_assoc, arith}
+use Rattle.fc_base.specs.Sizes.{capacity}
+use Rattle.fc_tree_node.specs.Node.{own_pairs}
 use Rattle.fc_tree_drain.specs.Opened.{before_back}
-use Rattle.fc_tree_build.specs.Built.{last_pairs}
+use Rattle.fc_tree_build.specs.Built.{last_pairs, last_room}
+use Rattle.fc_tree_build.proofs.Ends.{behind_leaf}
 use Rattle.fc_tree_build.proofs.growing.Growing.put_if_behind.Goals as goal
+use Rattle.fc_tree_build.proofs.growing.Growing.put_if_behind.Goals.{else-len-gt0-via-else-len-gt0, else-len-gt0-via-then-len-gt0+else-len-lt-CAPACITY}
+use Rattle.fc_tree_build.proofs.growing.Growing.put_if_behind.Goals.{else-len-gt0-via-then-len-gt0+then-len-lt-CAPACITY+else-is_behind}
 
 pub returns-then-is_behind-clause-behind : goal.returns-then-is_behind-clause-behind
 returns-then-is_behind-clause-behind g c =
-    let b = c.if-is_behind.ensures refl in
+    let b = c.if-is_behind.ensures.0 refl in
     let s = before_back c.self.inside.spine in
     λ _. (
       s ++ b.0,
       b.1,
-      sym c.self.view_is ∙ ap (λ o. s ++ last_pairs o) c.in-Some.is ∙ ap (λ ps. s ++ ps) b.2 ∙ sym (append_assoc s b.0 (b.1 ∷ [])),
+      sym (ap (λ v. v.pairs) c.self.view_is) ∙ ap (λ o. s ++ last_pairs o) c.in-Some.is ∙ ap (λ ps. s ++ ps) b.2 ∙ sym (append_assoc s b.0 (b.1 ∷ [])),
       b.3,
     )
+
+-- the last leaf has a pair and room, and the key is behind: one of the three was found not to be so
+pub returns-clause-taken : goal.returns-clause-taken
+returns-clause-taken g c some less behind =
+    let v = c.len.ensures.value in
+    let s = before_back c.self.inside.spine in
+    let own = own_pairs c.in-Some.leaf in
+    let room : capacity - length own ≡ c.args.self.now.room = ap last_room (sym c.in-Some.is) ∙ ap (λ v. v.room) c.self.view_is in
+    let pairs : s ++ own ≡ c.args.self.now.pairs = ap (λ o. s ++ last_pairs o) (sym c.in-Some.is) ∙ ap (λ v. v.pairs) c.self.view_is in
+    let last = λ (some : 0 < length own). behind_leaf g.K.Ord.cmp s own c.args.self.now.pairs c.args.pair.0 pairs some behind in
+    absurd (elim c.else-len-gt0.branch [
+      | else-len-gt0-via-else-len-gt0 w ↦ (let z = w.if-len-gt0.false in omega arith)
+      | else-len-gt0-via-then-len-gt0+else-len-lt-CAPACITY w ↦
+          (let z = w.if-len-lt-CAPACITY.false in let n = w.len-then-len-gt0.ensures.value in omega arith)
+      | else-len-gt0-via-then-len-gt0+then-len-lt-CAPACITY+else-is_behind w ↦
+          (let z = w.if-len-gt0.true in cc (w.if-is_behind.ensures.1 (last (omega arith))))
+    ])

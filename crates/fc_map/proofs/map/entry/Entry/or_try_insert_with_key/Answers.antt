@@ -33,6 +33,7 @@ returns-in-Vacant g c =
         back = if_err t.result (λ b s. (s.0, (let k : e.key ≡ b.0 = let s = s.0 in cc in subst (λ k. Made k b.1) k (subst (Made e.key) (sym s.1) made))))
             t.ensures.back;
         error = t.ensures.error;
+        only_full = t.ensures.only_full;
         full = λ _. t.ensures.full;
       },
     )

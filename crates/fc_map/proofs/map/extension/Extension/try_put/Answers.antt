@@ -5,10 +5,14 @@ use Rattle.fc_map.proofs.ExtendFacts.{put_last}
 use Rattle.fc_map.proofs.map.extension.Extension.try_put.Goals as goal
 
 pub invariant_of-self : goal.invariant_of-self
-invariant_of-self g c = (put_last g.K.Ord.cmp c.self.inside.tree (entries c.self.inside.map) c.put_if_behind.new.self c.args.key c.args.value
-    g.met.K.Ord.total c.self.invariant (c.in_default.ensures.behind refl) (c.in_default.ensures.put refl)).1
+invariant_of-self g c =
+    let behind = c.in_default.ensures.behind refl in
+    let put = c.in_default.ensures.put refl in
+    (put_last g.K.Ord.cmp c.self.inside.tree.pairs (entries c.self.inside.map) _ c.args.key c.args.value g.met.K.Ord.total c.self.invariant behind put).1
 
 pub returns-in_default-clause-put : goal.returns-in_default-clause-put
-returns-in_default-clause-put g c = (put_last g.K.Ord.cmp c.self.inside.tree (entries c.self.inside.map) c.put_if_behind.new.self c.args.key c.args.value
-    g.met.K.Ord.total c.self.invariant (c.in_default.ensures.behind refl) (c.in_default.ensures.put refl)).0
+returns-in_default-clause-put g c =
+    let behind = c.in_default.ensures.behind refl in
+    let last = c.in_default.ensures.put refl in
+    (put_last g.K.Ord.cmp c.self.inside.tree.pairs (entries c.self.inside.map) _ c.args.key c.args.value g.met.K.Ord.total c.self.invariant behind last).0
     ∙ ap (λ s. put g.K.Ord.cmp s c.args.key c.args.value) c.self.view_is

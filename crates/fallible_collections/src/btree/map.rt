@@ -1,0 +1,6 @@
+//! The ordered map.
+
+pub use fc_map::map::{
+    BTreeMap, Entry, IntoIter, IntoKeys, IntoValues, Iter, IterMut, Keys, OccupiedEntry, Range,
+    RangeMut, ReadyEntry, Room, VacantEntry, Values, ValuesMut, insert_both, is_range,
+};
