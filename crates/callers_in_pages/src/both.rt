@@ -17,8 +17,6 @@ pub fn put_in_both<I: Ord + Copy + Drop, O: Ord + Copy + Drop>(
     ensures reverse { OnOk result (entries ids.new ≡ put O.cmp (entries ids.old) owner id) }
     ensures unchanged { OnErr result ((owners.new ≡ owners.old) × (ids.new ≡ ids.old)) }
 {
-    match insert_both(owners, ids, id, owner, owner, id) {
-        Ok(_old) => Ok(()),
-        Err(back) => Err(back.4), // the first four are what was given
-    }
+    insert_both(owners, ids, id, owner, owner, id)?; // what comes back is what was given
+    Ok(())
 }

@@ -4,6 +4,7 @@
 mod alike;
 mod answer;
 mod entries;
+mod kept;
 mod pairs;
 mod ranges;
 mod walks;
@@ -136,6 +137,7 @@ fn run<'a>(map: &mut Map<'a>, other: &mut Map<'a>, world: World<'a>, row: &Row) 
         5 => whole::run(map, other, world, row),
         6 => whole::run_one(map, world, row),
         7 => whole::tell(world, row),
+        8 => kept::run(map, world, row),
         _ => UNKNOWN,
     }
 }

@@ -4,8 +4,8 @@ use std::str::SplitWhitespace;
 /// So many words behind the name are read.
 pub const WORDS: usize = 8;
 
-// The names of the rows that each of the parts, eight by number, answers, which knows a row by its place among them.
-const NAMES: [&str; 8] = [
+// The names of the rows that each of the parts, nine by number, answers, which knows a row by its place among them.
+const NAMES: [&str; 9] = [
     "insert get pair index set remove removes query query_remove first last pop_first pop_last look_ups",
     "tally modify or_with entry_dropped",
     "walk keys_and_values clone_walk clone_keys_and_values owned owned_loops held drop_walk",
@@ -14,6 +14,7 @@ const NAMES: [&str; 8] = [
     "swap copy compare extend_map step copy_refused extend make extend_pairs make_pairs",
     "len is_empty clear drop fill holds pops",
     "comparisons calls left copies_left lives forget",
+    "retain extract room",
 ];
 
 /// A number behind marks: '=' includes a bound and '!' excludes it, and '$' and '@' add what a row is repeated with.

@@ -1,6 +1,6 @@
 use callers_of_map::into_iter::{collected, ends_of};
 use callers_of_map::iter_mut::{raise_each, write_all, write_first, write_range};
-use callers_of_map::refusals::{put_each, put_once, put_or_hand_on, put_twice};
+use callers_of_map::refusals::{put_both, put_each, put_in_room, put_once, put_or_hand_on, put_twice};
 use fc_base::TryReserveError;
 use fc_map::map::{BTreeMap, is_range};
 use std::alloc::Global;
@@ -110,6 +110,17 @@ fn put_all_in(alloc: Global, map: &mut Numbers) -> Result<bool, TryReserveError>
     put_twice(map, (1, 1), (2, 2))?;
     put_each(map, pairs)?;
     Ok(is_new && put_or_hand_on(map, 5, 5)? == 6)
+}
+
+// One pair goes into each of two maps, and answers what was there.
+#[test]
+fn callers_put_a_pair_into_each_of_two_maps(rt: HostRuntime) -> Result<(), Fail> {
+    let mut first = numbers(rt.alloc(), 2)?;
+    let mut second = numbers(rt.alloc(), 0)?;
+    let old = put_both(&mut first, &mut second, (1, 5), (7, 8))?;
+    assert!(rt; old.0 == Some(1) && old.1.is_none());
+    assert!(rt; has(&first, 1, 5) && has(&second, 7, 8));
+    Ok(())
 }
 
 #[test]

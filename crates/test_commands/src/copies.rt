@@ -1,6 +1,6 @@
 //! Commands over keys and values of the tests' own, whose copies are refused by the key or by the value itself.
 use fc_base::TryReserveError;
-use fc_command::command::{Command, End, Items, MapCommand, Reply, SetCommand, SetOp, Side, World};
+use fc_command::command::{Command, End, Items, Reply, SetOp, Side, World};
 use std::alloc::{AllocError, Global};
 use std::ops::Bound;
 use std::test::Fail;
@@ -55,18 +55,12 @@ fn from_the_front(alloc: Global, steps: usize) -> Result<Items<End>, AllocError>
 
 // A walk over a whole map.
 fn walk(side: Side, ends: Items<End>) -> Command<Stubborn, Stubborn> {
-    Command::OnMap(
-        side,
-        MapCommand::Walk(Bound::Unbounded, Bound::Unbounded, ends),
-    )
+    Command::Walk(side, Bound::Unbounded, Bound::Unbounded, ends)
 }
 
 // A walk over a whole set.
 fn walk_items(side: Side, ends: Items<End>) -> Command<Stubborn, Stubborn> {
-    Command::OnSet(
-        side,
-        SetCommand::SetWalk(Bound::Unbounded, Bound::Unbounded, ends),
-    )
+    Command::SetWalk(side, Bound::Unbounded, Bound::Unbounded, ends)
 }
 
 // Whether a pair is put in, of which no copy is to be had without that error.
@@ -79,21 +73,10 @@ fn refuses_copies(
     let Ok(one_step) = from_the_front(alloc, 1) else {
         return false;
     };
-    is_refused_by(
-        &step(
-            world,
-            Command::OnMap(Side::First, MapCommand::GetKeyValue(at)),
-        ),
-        error,
-    ) && is_refused_by(&step(world, walk(Side::First, one_step)), error)
-        && is_refused_by(
-            &step(world, Command::OnMap(Side::First, MapCommand::TryClone)),
-            error,
-        )
-        && is_len(
-            &step(world, Command::OnMap(Side::First, MapCommand::Len)),
-            1,
-        )
+    is_refused_by(&step(world, Command::GetKeyValue(Side::First, at)), error)
+        && is_refused_by(&step(world, walk(Side::First, one_step)), error)
+        && is_refused_by(&step(world, Command::TryClone(Side::First)), error)
+        && is_len(&step(world, Command::Len(Side::First)), 1)
 }
 
 #[test]
@@ -106,18 +89,10 @@ fn a_values_own_refusal_is_the_reply(rt: HostRuntime) {
         let at = stubborn(1, None);
         let inserted = step(
             &mut world,
-            Command::OnMap(
-                Side::First,
-                MapCommand::Insert(at, stubborn(7, Some(error))),
-            ),
+            Command::Insert(Side::First, at, stubborn(7, Some(error))),
         );
         assert!(rt; is_none(&inserted));
-        assert!(rt;
-            is_refused_by(
-                &step(&mut world, Command::OnMap(Side::First, MapCommand::Get(at))),
-                error
-            )
-        );
+        assert!(rt; is_refused_by(&step(&mut world, Command::Get(Side::First, at)), error));
         assert!(rt; refuses_copies(rt.alloc(), &mut world, at, error));
     }
 }
@@ -128,11 +103,9 @@ fn refuses_pairs_of(alloc: Global, number: u64, error: TryReserveError) -> bool 
     let mut world = World::new(alloc);
     is_none(&step(
         &mut world,
-        Command::OnMap(Side::First, MapCommand::Insert(at, stubborn(5, None))),
-    )) && is_number(
-        &step(&mut world, Command::OnMap(Side::First, MapCommand::Get(at))),
-        5,
-    ) && refuses_copies(alloc, &mut world, at, error)
+        Command::Insert(Side::First, at, stubborn(5, None)),
+    )) && is_number(&step(&mut world, Command::Get(Side::First, at)), 5)
+        && refuses_copies(alloc, &mut world, at, error)
 }
 
 #[test]
@@ -148,31 +121,18 @@ fn refuses_items_of(alloc: Global, number: u64, error: TryReserveError) -> bool 
     let Ok(one_step) = from_the_front(alloc, 1) else {
         return false;
     };
-    let list = Command::OnSet(Side::First, SetCommand::List(SetOp::Union));
-    let keep = Command::OnSet(Side::First, SetCommand::Keep(SetOp::Difference));
-    is_new(&step(
-        &mut world,
-        Command::OnSet(Side::First, SetCommand::AddItem(item)),
-    )) && is_refused_by(
-        &step(
-            &mut world,
-            Command::OnSet(Side::First, SetCommand::GetItem(item)),
-        ),
-        error,
-    ) && is_refused_by(&step(&mut world, walk_items(Side::First, one_step)), error)
-        && is_refused_by(&step(&mut world, list), error)
-        && is_refused_by(&step(&mut world, keep), error)
+    let list = Command::List(SetOp::Union, Side::First);
+    let keep = Command::Keep(SetOp::Difference, Side::First);
+    is_new(&step(&mut world, Command::AddItem(Side::First, item)))
         && is_refused_by(
-            &step(
-                &mut world,
-                Command::OnSet(Side::First, SetCommand::SetClone),
-            ),
+            &step(&mut world, Command::GetItem(Side::First, item)),
             error,
         )
-        && is_len(
-            &step(&mut world, Command::OnSet(Side::First, SetCommand::SetLen)),
-            1,
-        )
+        && is_refused_by(&step(&mut world, walk_items(Side::First, one_step)), error)
+        && is_refused_by(&step(&mut world, list), error)
+        && is_refused_by(&step(&mut world, keep), error)
+        && is_refused_by(&step(&mut world, Command::SetClone(Side::First)), error)
+        && is_len(&step(&mut world, Command::SetLen(Side::First)), 1)
 }
 
 #[test]
@@ -186,13 +146,11 @@ fn write_from_both_ends(alloc: Global) -> Result<Command<Stubborn, Stubborn>, Al
     let mut writes = Vec::new(alloc);
     writes.push((End::Back, stubborn(8, None)))?;
     writes.push((End::Front, stubborn(9, None)))?;
-    Ok(Command::OnMap(
+    Ok(Command::Write(
         Side::Second,
-        MapCommand::Write(
-            Bound::Excluded(stubborn(0, None)),
-            Bound::Included(stubborn(1, None)),
-            Items::from(writes),
-        ),
+        Bound::Excluded(stubborn(0, None)),
+        Bound::Included(stubborn(1, None)),
+        Items::from(writes),
     ))
 }
 
@@ -211,26 +169,13 @@ fn is_one_pair(reply: &StubbornReply) -> bool {
 fn one_command_at_a_time_over_any_keys(rt: HostRuntime) -> Result<(), Fail> {
     let mut world = World::new(rt.alloc());
     let at = stubborn(1, None);
-    let insert = Command::OnMap(Side::Second, MapCommand::Insert(at, stubborn(7, None)));
+    let insert = Command::Insert(Side::Second, at, stubborn(7, None));
     let write = write_from_both_ends(rt.alloc())?;
     let two_steps = from_the_front(rt.alloc(), 2)?;
     assert!(rt; is_none(&step(&mut world, insert)));
-    assert!(rt;
-        is_len(
-            &step(&mut world, Command::OnMap(Side::Second, MapCommand::Len)),
-            1
-        )
-    );
-    assert!(rt; is_none(&step(&mut world, Command::OnMap(Side::First, MapCommand::Get(at)))));
-    assert!(rt;
-        is_number(
-            &step(
-                &mut world,
-                Command::OnMap(Side::Second, MapCommand::Get(at))
-            ),
-            7
-        )
-    );
+    assert!(rt; is_len(&step(&mut world, Command::Len(Side::Second)), 1));
+    assert!(rt; is_none(&step(&mut world, Command::Get(Side::First, at))));
+    assert!(rt; is_number(&step(&mut world, Command::Get(Side::Second, at)), 7));
     assert!(rt; is_len(&step(&mut world, write), 1));
     assert!(rt; is_one_pair(&step(&mut world, walk(Side::Second, two_steps))));
     Ok(())

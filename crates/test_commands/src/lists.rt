@@ -1,7 +1,7 @@
 //! Lists of commands, and commands that no line asks for.
 use crate::worlds::{Kind, counts, has_value, holds, is_len, puts, puts_all, step};
 use fc_base::TryReserveError;
-use fc_command::command::{Command, Items, MapCommand, Reply, SetCommand, Side, World};
+use fc_command::command::{Command, Items, Reply, Side, World};
 use fc_lines::lines::command_in;
 use fc_lines::replies::write_reply;
 use std::alloc::{AllocError, Global};
@@ -227,15 +227,9 @@ fn is_extended_by_nothing(alloc: Global, kind: Kind, command: Command<u64, u64>)
 
 #[test]
 fn an_extension_by_nothing_is_done(rt: HostRuntime) {
-    let no_pairs = Command::OnMap(
-        Side::First,
-        MapCommand::Extend(Items::from(Vec::new(rt.alloc()))),
-    );
+    let no_pairs = Command::Extend(Side::First, Items::from(Vec::new(rt.alloc())));
     assert!(rt; is_extended_by_nothing(rt.alloc(), Kind::Maps, no_pairs));
-    let no_items = Command::OnSet(
-        Side::Second,
-        SetCommand::SetExtend(Items::from(Vec::new(rt.alloc()))),
-    );
+    let no_items = Command::SetExtend(Side::Second, Items::from(Vec::new(rt.alloc())));
     assert!(rt; is_extended_by_nothing(rt.alloc(), Kind::Sets, no_items));
 }
 
@@ -249,23 +243,18 @@ fn is_empty_list(reply: &Reply<u64, u64>) -> bool {
 #[test]
 fn a_walk_of_no_steps_gives_nothing(rt: HostRuntime) {
     let mut world = World::new(rt.alloc());
-    let walk = Command::OnMap(
+    let walk = Command::Walk(
         Side::First,
-        MapCommand::Walk(
-            Bound::Unbounded,
-            Bound::Unbounded,
-            Items::from(Vec::new(rt.alloc())),
-        ),
+        Bound::Unbounded,
+        Bound::Unbounded,
+        Items::from(Vec::new(rt.alloc())),
     );
     assert!(rt; is_empty_list(&step(&mut world, walk)));
 }
 
 fn inserts(world: &mut World<u64, u64>, key: u64) -> bool {
     matches!(
-        step(
-            world,
-            Command::OnMap(Side::Second, MapCommand::Insert(key, key))
-        ),
+        step(world, Command::Insert(Side::Second, key, key)),
         Reply::Value(None)
     )
 }

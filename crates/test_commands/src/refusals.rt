@@ -4,7 +4,7 @@ use crate::worlds::{
     HALF, Kind, NUMBERS, counts, divided, has_value, holds, is_divided, lacks, puts, puts_all, step,
 };
 use fc_base::TryReserveError;
-use fc_command::command::{Command, Items, MapCommand, Reply, SetCommand, SetOp, Side, World};
+use fc_command::command::{Command, Items, Reply, SetOp, Side, World};
 use std::alloc::{AllocError, Global};
 use test_values::is_ample;
 
@@ -46,14 +46,14 @@ fn is_put_in_or_handed_back(alloc: Global, command: Command<u64, u64>, value: u6
 #[test]
 fn a_refused_insertion_hands_back_what_it_was_given(rt: HostRuntime) {
     let (insert, entry) = (
-        Command::OnMap(Side::First, MapCommand::Insert(1, 7)),
-        Command::OnMap(Side::First, MapCommand::Entry(1, 8, 9)),
+        Command::Insert(Side::First, 1, 7),
+        Command::Entry(Side::First, 1, 8, 9),
     );
     assert!(rt; is_put_in_or_handed_back(rt.alloc(), insert, 7));
     assert!(rt; is_put_in_or_handed_back(rt.alloc(), entry, 9));
     let (add, replace) = (
-        Command::OnSet(Side::First, SetCommand::AddItem(1)),
-        Command::OnSet(Side::Second, SetCommand::ReplaceItem(1)),
+        Command::AddItem(Side::First, 1),
+        Command::ReplaceItem(Side::Second, 1),
     );
     assert!(rt; is_put_in_or_handed_back(rt.alloc(), add, NO_VALUE));
     assert!(rt; is_put_in_or_handed_back(rt.alloc(), replace, NO_VALUE));
@@ -84,33 +84,9 @@ fn is_done_or_undone(
 #[test]
 fn a_refused_append_split_or_copy_changes_neither_map(rt: HostRuntime) {
     let maps = Kind::Maps;
-    assert!(rt;
-        is_done_or_undone(
-            rt.alloc(),
-            maps,
-            Command::OnMap(Side::First, MapCommand::Append),
-            2 * HALF,
-            0
-        )
-    );
-    assert!(rt;
-        is_done_or_undone(
-            rt.alloc(),
-            maps,
-            Command::OnMap(Side::First, MapCommand::SplitOff(51)),
-            26,
-            59
-        )
-    );
-    assert!(rt;
-        is_done_or_undone(
-            rt.alloc(),
-            maps,
-            Command::OnMap(Side::First, MapCommand::TryClone),
-            HALF,
-            HALF
-        )
-    );
+    assert!(rt; is_done_or_undone(rt.alloc(), maps, Command::Append(Side::First), 2 * HALF, 0));
+    assert!(rt; is_done_or_undone(rt.alloc(), maps, Command::SplitOff(Side::First, 51), 26, 59));
+    assert!(rt; is_done_or_undone(rt.alloc(), maps, Command::TryClone(Side::First), HALF, HALF));
 }
 
 #[test]
@@ -120,7 +96,7 @@ fn a_refused_append_split_or_copy_changes_neither_set(rt: HostRuntime) {
         is_done_or_undone(
             rt.alloc(),
             sets,
-            Command::OnSet(Side::First, SetCommand::SetAppend),
+            Command::SetAppend(Side::First),
             2 * HALF,
             0
         )
@@ -129,20 +105,12 @@ fn a_refused_append_split_or_copy_changes_neither_set(rt: HostRuntime) {
         is_done_or_undone(
             rt.alloc(),
             sets,
-            Command::OnSet(Side::First, SetCommand::SetSplitOff(51)),
+            Command::SetSplitOff(Side::First, 51),
             26,
             59
         )
     );
-    assert!(rt;
-        is_done_or_undone(
-            rt.alloc(),
-            sets,
-            Command::OnSet(Side::First, SetCommand::SetClone),
-            HALF,
-            HALF
-        )
-    );
+    assert!(rt; is_done_or_undone(rt.alloc(), sets, Command::SetClone(Side::First), HALF, HALF));
 }
 
 // A world whose maps have the keys from 1 up to those; or nothing, where one was refused.
@@ -164,10 +132,7 @@ fn is_put_in_both_or_in_neither(alloc: Global, len: u64, key: u64) -> bool {
         return !is_ample(alloc);
     };
     let maps = Kind::Maps;
-    match step(
-        &mut world,
-        Command::OnMap(Side::First, MapCommand::InsertBoth(key, 7, key, 8)),
-    ) {
+    match step(&mut world, Command::InsertBoth(key, 7, key, 8)) {
         Reply::Both(None, None) => {
             has_value(&mut world, maps, Side::First, key, 7)
                 && has_value(&mut world, maps, Side::Second, key, 8)
@@ -192,20 +157,14 @@ fn is_refused_where_it_takes_memory(alloc: Global) -> bool {
     let Some(mut world) = filled(alloc, LEAF - 1, LEAF) else {
         return !is_ample(alloc);
     };
-    let was_refused = match step(
-        &mut world,
-        Command::OnMap(Side::First, MapCommand::InsertBoth(LEAF, 7, LEAF + 1, 8)),
-    ) {
+    let was_refused = match step(&mut world, Command::InsertBoth(LEAF, 7, LEAF + 1, 8)) {
         Reply::Both(None, None) => false,
         Reply::BothGivenBack(LEAF, 7, _, 8, TryReserveError::AllocError) => true,
         _ => return false,
     };
     let is_as_before = lacks(&mut world, Kind::Maps, Side::First, LEAF)
         && lacks(&mut world, Kind::Maps, Side::Second, LEAF + 1);
-    match step(
-        &mut world,
-        Command::OnMap(Side::First, MapCommand::InsertBoth(LEAF, 9, 5, 6)),
-    ) {
+    match step(&mut world, Command::InsertBoth(LEAF, 9, 5, 6)) {
         Reply::Both(None, Some(50)) => was_refused && is_as_before,
         Reply::Both(Some(7), Some(50)) => !was_refused,
         _ => false,
@@ -229,7 +188,7 @@ fn more_pairs(alloc: Global) -> Result<Command<u64, u64>, AllocError> {
     for place in 0..NUMBERS {
         items.push((scattered(place), scattered(place)))?;
     }
-    Ok(Command::OnMap(Side::First, MapCommand::Extend(Items::from(items))))
+    Ok(Command::Extend(Side::First, Items::from(items)))
 }
 
 fn more_items(alloc: Global) -> Result<Command<u64, u64>, AllocError> {
@@ -237,7 +196,7 @@ fn more_items(alloc: Global) -> Result<Command<u64, u64>, AllocError> {
     for place in 0..NUMBERS {
         items.push(scattered(place))?;
     }
-    Ok(Command::OnSet(Side::First, SetCommand::SetExtend(Items::from(items))))
+    Ok(Command::SetExtend(Side::First, Items::from(items)))
 }
 
 // Whether a number on the first side that no extension came to is as it was.
@@ -341,7 +300,7 @@ fn keeps(alloc: Global, op: SetOp, side: Side, wanted: &[u64]) -> bool {
     if !overlaps(&mut world) {
         return !is_ample(alloc);
     }
-    let (first, second) = match outcome(&mut world, Command::OnSet(side, SetCommand::Keep(op))) {
+    let (first, second) = match outcome(&mut world, Command::Keep(op, side)) {
         Fate::Carried => match side {
             Side::First => (wanted, SECOND),
             Side::Second => (FIRST, wanted),

@@ -1,7 +1,7 @@
 //! Lists of commands that are made as values, and not of lines: each is run on a new world, and its replies are told with their kinds.
 use crate::lists::run;
 use fc_base::TryReserveError;
-use fc_command::command::{Command, End, Items, MapCommand, Reply, SetCommand, SetOp, Side, World};
+use fc_command::command::{Command, End, Items, Reply, SetOp, Side, World};
 use fc_lines::replies::write_reply;
 use std::alloc::{AllocError, Global};
 use std::ops::Bound;
@@ -50,35 +50,32 @@ fn on_a_map(alloc: Global) -> Result<Commands, AllocError> {
     let front = Items::from(vec![in alloc; End::Front]?);
     let nine = Items::from(vec![in alloc; (End::Front, 9)]?);
     Ok(vec![in alloc;
-        Command::OnMap(a, MapCommand::Extend(pairs)),
-        Command::OnMap(
-            a,
-            MapCommand::Walk(Bound::Included(4), Bound::Included(8), ends)
-        ),
-        Command::OnMap(
-            a,
-            MapCommand::Walk(Bound::Excluded(5), Bound::Excluded(5), front)
-        ),
-        Command::OnMap(
-            a,
-            MapCommand::Write(Bound::Included(4), Bound::Unbounded, nine)
-        ),
-        Command::OnMap(a, MapCommand::Get(5)),
-        Command::OnMap(a, MapCommand::SplitOff(5)),
-        Command::OnMap(Side::Second, MapCommand::Len),
+        Command::Extend(a, pairs),
+        Command::Walk(a, Bound::Included(4), Bound::Included(8), ends),
+        Command::Walk(a, Bound::Excluded(5), Bound::Excluded(5), front),
+        Command::Write(a, Bound::Included(4), Bound::Unbounded, nine),
+        Command::Get(a, 5),
+        Command::SplitOff(a, 5),
+        Command::Len(Side::Second),
     ]?)
 }
 
-const OF_A_MAP: &str =
-    "Done done\nPairs list 8:3 5:2 - -\nBadRange bad range\nLen 1\nValue some 9\nDone done\nLen 2\n";
+const OF_A_MAP: &str = "Done done
+Pairs list 8:3 5:2 - -
+BadRange bad range
+Len 1
+Value some 9
+Done done
+Len 2
+";
 
 // One key's entry, twice.
 fn on_an_entry(alloc: Global) -> Result<Commands, AllocError> {
     let a = Side::First;
     Ok(vec![in alloc;
-        Command::OnMap(a, MapCommand::Entry(7, 43, 42)),
-        Command::OnMap(a, MapCommand::Entry(7, 43, 42)),
-        Command::OnMap(a, MapCommand::Get(7)),
+        Command::Entry(a, 7, 43, 42),
+        Command::Entry(a, 7, 43, 42),
+        Command::Get(a, 7),
     ]?)
 }
 
@@ -89,23 +86,14 @@ fn on_sets(alloc: Global) -> Result<Commands, AllocError> {
     let (s, t) = (Side::First, Side::Second);
     let ends = vec![in alloc; End::Front, End::Front, End::Front, End::Front, End::Back]?;
     Ok(vec![in alloc;
-        Command::OnSet(
-            s,
-            SetCommand::SetExtend(Items::from(vec![in alloc; 1, 2, 3]?))
-        ),
-        Command::OnSet(
-            t,
-            SetCommand::SetExtend(Items::from(vec![in alloc; 2, 3, 4]?))
-        ),
-        Command::OnSet(s, SetCommand::List(SetOp::Intersection)),
-        Command::OnSet(s, SetCommand::List(SetOp::SymmetricDifference)),
-        Command::OnSet(s, SetCommand::Keep(SetOp::Union)),
-        Command::OnSet(
-            s,
-            SetCommand::SetWalk(Bound::Unbounded, Bound::Unbounded, Items::from(ends))
-        ),
-        Command::OnSet(t, SetCommand::IsSubset),
-        Command::OnSet(s, SetCommand::SetCmp),
+        Command::SetExtend(s, Items::from(vec![in alloc; 1, 2, 3]?)),
+        Command::SetExtend(t, Items::from(vec![in alloc; 2, 3, 4]?)),
+        Command::List(SetOp::Intersection, s),
+        Command::List(SetOp::SymmetricDifference, s),
+        Command::Keep(SetOp::Union, s),
+        Command::SetWalk(s, Bound::Unbounded, Bound::Unbounded, Items::from(ends)),
+        Command::IsSubset(t),
+        Command::SetCmp(s),
     ]?)
 }
 
@@ -116,16 +104,16 @@ const OF_SETS: &str =
 fn on_one_key(alloc: Global) -> Result<Commands, AllocError> {
     let (a, b) = (Side::First, Side::Second);
     Ok(vec![in alloc;
-        Command::OnMap(b, MapCommand::Set(5, 6)),
-        Command::OnMap(b, MapCommand::Insert(5, 6)),
-        Command::OnMap(b, MapCommand::ContainsKey(5)),
-        Command::OnMap(a, MapCommand::ContainsKey(5)),
-        Command::OnMap(b, MapCommand::Set(5, 7)),
-        Command::OnMap(b, MapCommand::GetKeyValue(5)),
-        Command::OnMap(b, MapCommand::RemoveEntry(5)),
-        Command::OnMap(b, MapCommand::RemoveEntry(5)),
-        Command::OnMap(b, MapCommand::Remove(5)),
-        Command::OnMap(b, MapCommand::Clear),
+        Command::Set(b, 5, 6),
+        Command::Insert(b, 5, 6),
+        Command::ContainsKey(b, 5),
+        Command::ContainsKey(a, 5),
+        Command::Set(b, 5, 7),
+        Command::GetKeyValue(b, 5),
+        Command::RemoveEntry(b, 5),
+        Command::RemoveEntry(b, 5),
+        Command::Remove(b, 5),
+        Command::Clear(b),
     ]?)
 }
 
@@ -136,15 +124,15 @@ const OF_ONE_KEY: &str =
 fn on_one_item(alloc: Global) -> Result<Commands, AllocError> {
     let (s, t) = (Side::First, Side::Second);
     Ok(vec![in alloc;
-        Command::OnSet(t, SetCommand::AddItem(5)),
-        Command::OnSet(t, SetCommand::ContainsItem(5)),
-        Command::OnSet(t, SetCommand::GetItem(6)),
-        Command::OnSet(s, SetCommand::IsDisjoint),
-        Command::OnSet(t, SetCommand::IsSuperset),
-        Command::OnSet(t, SetCommand::TakeItem(5)),
-        Command::OnSet(t, SetCommand::RemoveItem(5)),
-        Command::OnSet(t, SetCommand::SetClear),
-        Command::OnSet(t, SetCommand::SetLen),
+        Command::AddItem(t, 5),
+        Command::ContainsItem(t, 5),
+        Command::GetItem(t, 6),
+        Command::IsDisjoint(s),
+        Command::IsSuperset(t),
+        Command::TakeItem(t, 5),
+        Command::RemoveItem(t, 5),
+        Command::SetClear(t),
+        Command::SetLen(t),
     ]?)
 }
 

@@ -1,5 +1,5 @@
 //! A world of numbers, and what tests see of it: by commands alone, for maps and for sets alike.
-use fc_command::command::{Command, MapCommand, Reply, SetCommand, Side, World};
+use fc_command::command::{Command, Reply, Side, World};
 use std::alloc::Global;
 
 /// One step, of which the tests know only what they see of its reply.
@@ -20,15 +20,15 @@ fn tenfold(number: u64) -> u64 {
 
 fn put(kind: Kind, side: Side, number: u64) -> Command<u64, u64> {
     match kind {
-        Kind::Maps => Command::OnMap(side, MapCommand::Insert(number, tenfold(number))),
-        Kind::Sets => Command::OnSet(side, SetCommand::AddItem(number)),
+        Kind::Maps => Command::Insert(side, number, tenfold(number)),
+        Kind::Sets => Command::AddItem(side, number),
     }
 }
 
 fn look_up(kind: Kind, side: Side, number: u64) -> Command<u64, u64> {
     match kind {
-        Kind::Maps => Command::OnMap(side, MapCommand::Get(number)),
-        Kind::Sets => Command::OnSet(side, SetCommand::ContainsItem(number)),
+        Kind::Maps => Command::Get(side, number),
+        Kind::Sets => Command::ContainsItem(side, number),
     }
 }
 
@@ -78,8 +78,8 @@ pub(crate) fn lacks(world: &mut World<u64, u64>, kind: Kind, side: Side, number:
 
 pub(crate) fn counts(world: &mut World<u64, u64>, kind: Kind, side: Side, wanted: usize) -> bool {
     let count = match kind {
-        Kind::Maps => Command::OnMap(side, MapCommand::Len),
-        Kind::Sets => Command::OnSet(side, SetCommand::SetLen),
+        Kind::Maps => Command::Len(side),
+        Kind::Sets => Command::SetLen(side),
     };
     is_len(&step(world, count), wanted)
 }

@@ -4,7 +4,11 @@
 #[cfg(test)]
 mod errors;
 #[cfg(test)]
+mod large;
+#[cfg(test)]
 mod map;
+#[cfg(test)]
+mod owned;
 #[cfg(test)]
 mod printing;
 #[cfg(test)]

@@ -13,6 +13,10 @@ mod kinds;
 #[cfg(test)]
 mod nested;
 #[cfg(test)]
+mod operators;
+#[cfg(test)]
+mod owned;
+#[cfg(test)]
 mod prefixes;
 #[cfg(test)]
 mod retain;

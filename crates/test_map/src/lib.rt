@@ -23,11 +23,15 @@ mod numbers;
 #[cfg(test)]
 mod outwards;
 #[cfg(test)]
+mod owned;
+#[cfg(test)]
 mod queries;
 #[cfg(test)]
 mod ready;
 #[cfg(test)]
 mod refusals;
+#[cfg(test)]
+mod requests;
 #[cfg(test)]
 mod retain;
 #[cfg(test)]

@@ -107,3 +107,13 @@ fn room_that_cannot_be_counted(rt: HostRuntime) -> Result<(), Fail> {
     );
     Ok(())
 }
+
+// No clause says that room is given where there is memory: a body that refuses it above so many pairs is proved too.
+#[test]
+fn room_for_a_hundred_is_given_on_100_000_pairs(rt: HostRuntime) -> Result<(), Fail> {
+    let mut map = multiples(rt.alloc(), 0, 100_000, 1)?;
+    let mut room = map.try_room_for(100)?;
+    assert!(rt; put_numbers(&mut map, &mut room, 100_000, 100_100) == 100 && room.places() == 0);
+    assert!(rt; map.len() == 100_100);
+    Ok(())
+}

@@ -49,6 +49,36 @@ fn a_failed_printing_is_refused(rt: HostRuntime) {
     assert!(rt; is_refused(&try_format(rt.alloc(), usize::MAX, &123u64)));
 }
 
+const HUNDRED: &str =
+    "0123456789012345678901234567890123456789012345678901234567890123456789012345678901234567890123456789";
+
+// Its text has a million bytes, a hundred at a time.
+#[derive(Drop)]
+struct Million;
+
+impl fmt::Display for Million {
+    fn fmt<W: fmt::Write>(&self, f: &mut fmt::Formatter<W>) -> fmt::Result {
+        for _ in 0..10000 {
+            f.write_str(HUNDRED)?;
+        }
+        Ok(())
+    }
+}
+
+fn is_million(answer: &Result<String, TryReserveError>) -> bool {
+    match answer {
+        Ok(text) => text.len() == 1000000 && text.as_str().ends_with(HUNDRED),
+        Err(_) => false,
+    }
+}
+
+// Room for all of it takes one request for just so many bytes. Without, the room is for 100 bytes, and then for twice as much, 14 times, up to 1,638,400.
+#[test]
+fn a_million_bytes_are_printed(rt: HostRuntime) {
+    assert!(rt; is_million(&try_format(rt.alloc(), 1000000, &Million)));
+    assert!(rt; is_million(&try_format(rt.alloc(), 0, &Million)));
+}
+
 // The sweep refuses the requests in turn.
 #[test]
 fn a_text_is_whole_or_refused(rt: HostRuntime) {

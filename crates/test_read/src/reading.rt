@@ -1,9 +1,10 @@
 //! Reading up to a limit, from sources that give little at a time, end early or fail.
 use crate::pieces::read_in_steps;
+use fc_base::TryReserveError;
 use fc_read::{TryRead, try_read_up_to};
-use fc_vec::TryVec;
+use fc_vec::{TryVec, try_from_elem};
 use std::alloc::Global;
-use std::io::{self, ErrorKind, Read};
+use std::io::{self, ErrorKind, Read, Take};
 use std::test::Fail;
 
 // Bytes in memory, given in pieces of at most so many. Before the byte at `fails_at` one read fails, and the next would go on.
@@ -144,6 +145,60 @@ fn a_refused_read_leaves_source_and_buffer(rt: HostRuntime) {
     }
 }
 
+// What the source gives up to the limit, in a new vector.
+fn read_into(src: &mut Take<Pieces<'_>>, alloc: Global) -> io::Result<TryVec<u8>> {
+    src.read_into_try_vec(alloc)
+}
+
+fn is_text(answer: &io::Result<TryVec<u8>>, wanted: &[u8]) -> bool {
+    match answer {
+        Ok(buf) => holds(buf, wanted),
+        Err(_) => false,
+    }
+}
+
+fn vector_failed_as(answer: &io::Result<TryVec<u8>>, kind: ErrorKind) -> bool {
+    match answer {
+        Ok(_) => false,
+        Err(error) => error.kind() == kind,
+    }
+}
+
+const KINDS: [ErrorKind; 5] = [
+    ErrorKind::Interrupted,
+    ErrorKind::BrokenPipe,
+    ErrorKind::OutOfMemory,
+    ErrorKind::UnexpectedEof,
+    ErrorKind::Other,
+];
+
+// The error of a source is passed on as it is by either call, and the limit falls by the bytes that were read before. Each buffer gives its block back.
+#[test]
+fn an_error_is_passed_on(rt: HostRuntime) {
+    for kind in KINDS {
+        let mut src = failing(b"12345", 2, 3, kind).take(5);
+        assert!(rt; vector_failed_as(&read_into(&mut src, rt.alloc()), kind) && src.limit() == 2);
+        let mut src = failing(b"12345", 2, 3, kind).take(5);
+        let mut buf = TryVec::new(rt.alloc());
+        assert!(rt; failed_as(&src.try_read_to_end(&mut buf), kind) && holds(&buf, b"123"));
+    }
+}
+
+// The sweep refuses the room for five bytes, of which a block has eight at least: the source and the limit stay as they are. With room, the source fails behind
+// three, and the buffer is dropped with these.
+#[test]
+fn a_failed_or_refused_vector_is_dropped(rt: HostRuntime) -> Result<(), Fail> {
+    let mut src = failing(b"12345", 2, 3, ErrorKind::BrokenPipe).take(5);
+    let answer = read_into(&mut src, rt.alloc());
+    if vector_failed_as(&answer, ErrorKind::OutOfMemory) {
+        println!(rt; "refused")?;
+        assert!(rt; src.limit() == 5 && src.get_ref().rest == b"12345".as_slice());
+    } else {
+        assert!(rt; vector_failed_as(&answer, ErrorKind::BrokenPipe) && src.limit() == 2);
+    }
+    Ok(())
+}
+
 #[test]
 fn a_limit_falls_by_the_bytes_read(rt: HostRuntime) -> Result<(), Fail> {
     let mut src = in_pieces(b"1234567890", 3).take(5);
@@ -157,6 +212,31 @@ fn a_limit_falls_by_the_bytes_read(rt: HostRuntime) -> Result<(), Fail> {
     let answer = broken.try_read_to_end(&mut buf);
     assert!(rt; failed_as(&answer, ErrorKind::BrokenPipe));
     assert!(rt; holds(&buf, b"12345123") && broken.limit() == 2);
+    Ok(())
+}
+
+const MANY: usize = 1000000;
+
+fn million(alloc: Global) -> Result<TryVec<u8>, TryReserveError> {
+    Ok(TryVec::from(try_from_elem(alloc, b'1', MANY)?))
+}
+
+// The million, and its bytes by each call: a block of just so many for each. In steps of 65,536 the room is for 1, 2, 4, 8 and 16 of them.
+#[test]
+fn a_million_bytes(rt: HostRuntime) -> Result<(), Fail> {
+    let text = million(rt.alloc())?;
+    let mut first = TryVec::new(rt.alloc());
+    let mut src = in_pieces(text.as_slice(), usize::MAX);
+    assert!(rt; is_count(&read(&mut src, MANY as u64, &mut first), MANY) && first == text);
+    let mut second = TryVec::new(rt.alloc());
+    let mut src = in_pieces(text.as_slice(), 5000).take(MANY as u64);
+    assert!(rt; is_count(&src.try_read_to_end(&mut second), MANY) && second == text);
+    let mut src = in_pieces(text.as_slice(), 5000).take(MANY as u64);
+    assert!(rt; is_text(&read_into(&mut src, rt.alloc()), text.as_slice()));
+    let mut third = TryVec::new(rt.alloc());
+    let mut src = in_pieces(text.as_slice(), usize::MAX);
+    read_in_steps(&mut src, u64::MAX, &mut third)?;
+    assert!(rt; third == text);
     Ok(())
 }
 

@@ -29,3 +29,14 @@ fn a_refused_write_changes_nothing(rt: HostRuntime) {
         }
     }
 }
+
+// A million bytes in two writes: room for the first half, and for twice as much.
+#[test]
+fn a_million_bytes_are_written(rt: HostRuntime) -> Result<(), Fail> {
+    let half = Vec::from_elem(rt.alloc(), b'1', 500000)?;
+    let mut out = TryVec::new(rt.alloc());
+    assert!(rt; out.write(&half)? == 500000);
+    assert!(rt; out.write(&half)? == 500000);
+    assert!(rt; out.len() == 1000000 && out.as_slice().ends_with(&half));
+    Ok(())
+}

@@ -6,6 +6,7 @@ ghost use Rattle.std.specs.Cmp.Rules.{comparing};
 ghost use Rattle.std.specs.Ordering.{nat_cmp, on, as_partial_cmp};
 
 use crate::add_one;
+use fc_base::{TryClone, TryReserveError};
 use std::cell::Cell;
 use std::cmp::Ordering;
 
@@ -65,5 +66,13 @@ impl Ord for CountingKey<'_> {
     fn cmp(&self, other: &Self) -> Ordering {
         add_one(self.comparisons);
         self.number.cmp(&other.number)
+    }
+}
+
+impl<'a> TryClone for CountingKey<'a> {
+    ghost same = { λ source copy. copy.number ≡ source.number };
+
+    fn try_clone(&self) -> Result<CountingKey<'a>, TryReserveError> {
+        Ok(*self)
     }
 }

@@ -3,12 +3,14 @@
 
 mod counting;
 mod memory;
+mod owned;
 mod stubborn;
 mod tagged;
 mod token;
 
 pub use counting::CountingKey;
 pub use memory::is_ample;
+pub use owned::Owned;
 use std::cell::Cell;
 pub use stubborn::Stubborn;
 pub use tagged::Tagged;

@@ -13,6 +13,10 @@ mod drops;
 #[cfg(test)]
 mod items;
 #[cfg(test)]
+mod large;
+#[cfg(test)]
+mod owned;
+#[cfg(test)]
 mod printing;
 #[cfg(test)]
 mod refusals;

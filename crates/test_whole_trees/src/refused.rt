@@ -202,6 +202,16 @@ fn a_refused_append_leaves_two_full_leaves(rt: HostRuntime) -> Result<(), Fail> 
     ends(&rt, fate, &ours)
 }
 
+// Eleven and eleven pairs are more than one node holds, so that both leaves stay below a new root.
+#[test]
+fn a_refused_append_leaves_two_leaves_that_do_not_fit(rt: HostRuntime) -> Result<(), Fail> {
+    let (ours, theirs) = (Ledger::new(), Ledger::new());
+    let all = numbers();
+    let fate = appends(rt.alloc(), &all[1..12], &all[12..23], [&ours, &theirs]);
+    assert!(rt; theirs.are_living(&[], &[]));
+    ends(&rt, fate, &ours)
+}
+
 fn split<'a>(
     map: &mut Map<'a>,
     number: usize,

@@ -86,6 +86,19 @@ fn is_built(alloc: Global, n: u32) -> Result<bool, TryReserveError> {
     Ok(is_sound(&tree, 0, u64::from(n)))
 }
 
+// `tools/requests.txt` says how many requests these two make, and for how many bytes.
+#[test]
+fn a_full_tree_of_two_levels_asks_for_its_nodes_alone(rt: HostRuntime) -> Result<(), Fail> {
+    assert!(rt; is_built(rt.alloc(), 255)?);
+    Ok(())
+}
+
+#[test]
+fn a_full_tree_of_three_levels_asks_for_its_nodes_alone(rt: HostRuntime) -> Result<(), Fail> {
+    assert!(rt; is_built(rt.alloc(), 4095)?);
+    Ok(())
+}
+
 // Whether the last key is this one behind all below it; none where it is 0.
 fn ends_before(tree: &Growing<u64, u64>, key: u64) -> bool {
     match tree.last() {

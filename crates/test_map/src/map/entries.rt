@@ -134,6 +134,38 @@ fn an_entry_compares_in_its_search_alone(rt: HostRuntime) -> Result<(), Fail> {
     Ok(())
 }
 
+// Pairs are kept and taken out by their numbers, and then those at both ends.
+fn take_by_numbers<'a>(map: &mut Counted<'a>) {
+    map.retain(|key, _value| key.number % 3 > 0);
+    map.extract_if(|key, _value| key.number % 5 == 0, |_key, _value| ());
+    if let Some(first) = map.first_entry() {
+        let _value = first.remove();
+    }
+    if let Some(last) = map.last_entry() {
+        let _value = last.remove();
+    }
+}
+
+// What searches for no key compares none; nor does an insertion that is made ready, behind the search for its entry.
+#[test]
+fn what_searches_for_no_key_compares_none(rt: HostRuntime) -> Result<(), Fail> {
+    let comparisons = Cell::new(0);
+    let mut map = three_levels(rt.alloc(), &comparisons)?;
+    comparisons.set(0);
+    take_by_numbers(&mut map);
+    assert!(rt; comparisons.get() == 0 && map.len() == 79);
+    let key = CountingKey {
+        number: 75,
+        comparisons: &comparisons,
+    };
+    let (expected, is_there) = look_up(&map, &key);
+    if let Entry::Vacant(entry) = map.try_entry(key)? {
+        let Ok(_value) = entry.try_ready().map_err(|back| back.1)?.insert(75);
+    }
+    assert!(rt; !is_there && comparisons.get() == expected);
+    Ok(())
+}
+
 // Fills the number's entry by a closure that counts its calls.
 fn fill_entry<'a>(
     map: &mut Tracked<'a>,

@@ -1,0 +1,51 @@
+//! Calls that take nodes and lists of them, on maps of numbers: `tools/sweep.txt` says how many requests each test makes, and for how many bytes.
+use crate::numbers::{Numbers, insert, multiples};
+use crate::owned::is_right;
+use fc_base::TryReserveError;
+use fc_map::map::BTreeMap;
+use std::alloc::Global;
+
+// So many numbers that ascend, each second one from the first on.
+fn each_second(alloc: Global, first: u64, count: u64) -> Result<Numbers, TryReserveError> {
+    let mut map = BTreeMap::new(alloc);
+    for place in 0..count {
+        insert(&mut map, place.wrapping_mul(2).wrapping_add(first), place)?;
+    }
+    Ok(map)
+}
+
+// Appends so many odd numbers to so many even ones, so that they take turns.
+fn appends_in_turns(alloc: Global, ours: u64, theirs: u64) -> Result<bool, TryReserveError> {
+    let mut map = each_second(alloc, 0, ours)?;
+    let mut other = each_second(alloc, 1, theirs)?;
+    map.append(&mut other)?;
+    Ok(map.len() as u64 == ours.wrapping_add(theirs))
+}
+
+#[test]
+fn an_append_of_five_and_five_asks_for_one_leaf(rt: HostRuntime) {
+    assert!(rt; is_right(appends_in_turns(rt.alloc(), 5, 5)));
+}
+
+#[test]
+fn an_append_of_85_and_85_asks_for_eleven_leaves_and_a_root(rt: HostRuntime) {
+    assert!(rt; is_right(appends_in_turns(rt.alloc(), 85, 85)));
+}
+
+// Together they fill a tree of two levels, so that a node more, or room for one, is seen.
+#[test]
+fn an_append_of_128_and_127_asks_for_sixteen_leaves_and_a_root(rt: HostRuntime) {
+    assert!(rt; is_right(appends_in_turns(rt.alloc(), 128, 127)));
+}
+
+// Extends an empty map by so many numbers in order, which another map gives up.
+fn extends_in_order(alloc: Global, count: u64) -> Result<bool, TryReserveError> {
+    let mut map: Numbers = BTreeMap::new(alloc);
+    map.try_extend(multiples(alloc, 0, count, 1)?)?;
+    Ok(map.len() as u64 == count)
+}
+
+#[test]
+fn an_extension_by_170_in_order_asks_for_eleven_leaves_and_a_root(rt: HostRuntime) {
+    assert!(rt; is_right(extends_in_order(rt.alloc(), 170)));
+}
