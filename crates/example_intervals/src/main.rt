@@ -5,23 +5,23 @@ mod command;
 mod intervals;
 mod spans;
 
-use bounded_lines::Line;
+use bounded_lines::{Line, Pieces};
 use command::Command;
 use intervals::Intervals;
-use std::io::{self, BufReader, BufWriter, Write};
+use std::io::{self, BufWriter, Write};
 
-// The most bytes of a line, and how many bytes of input and of replies are kept.
+// The most bytes of a line, and how many bytes of replies are kept.
 const ROOM: usize = 1024;
 
 fn main(rt: HostRuntime) -> io::Result<()> {
     serve(&rt)
 }
 
-// Answers line after line. All room for input and replies is taken before the first.
+// Answers line after line. All room for replies is taken before the first.
 fn serve(rt: &(impl Input + Print + AllocGlobal)) -> io::Result<()> {
     let alloc = rt.alloc();
     let mut line = Line::<ROOM>::new();
-    let mut source = BufReader::with_capacity(alloc, ROOM, rt.reader())?;
+    let mut source = Pieces::new(rt.reader());
     let mut out = BufWriter::with_capacity(alloc, ROOM, io::writer(rt))?;
     let mut intervals = Intervals::new(alloc);
     for _ in 0..u64::MAX {

@@ -4,7 +4,7 @@
 mod commands;
 mod limiter;
 
-use bounded_lines::Line;
+use bounded_lines::{Line, Pieces};
 use commands::{Command, command_in};
 use limiter::Limiter;
 use std::io;
@@ -25,7 +25,7 @@ fn main(rt: HostRuntime) -> io::Result<()> {
 fn serve(rt: &(impl Input + Print + AllocGlobal)) -> io::Result<()> {
     let mut limiter = Limiter::new(rt.alloc(), LIMIT, WINDOW);
     let mut line = Line::<LONGEST>::new();
-    let mut source = rt.reader();
+    let mut source = Pieces::new(rt.reader());
     for _ in 0..u64::MAX {
         if !line.read(&mut source)? {
             break;

@@ -6,7 +6,7 @@ use Rattle.std.proofs.lemmas.Bool.Decides.{nat_tests}
 use Rattle.std.proofs.lemmas.List.Elements.{All-from_recursion, recursion_from_All, All-weaker}
 use Rattle.std.proofs.lemmas.List.Sums.{sum_by-cons}
 use Rattle.example_orders.specs.Orders.{Orders, total, after_fills, unfilled, AreApart}
-use Rattle.example_orders.specs.Fills.{best_fill, after_fill}
+use Rattle.example_orders.specs.Fills.{fill_from, best_fill, after_fill, fills_of}
 use Rattle.example_orders.specs.declared.ladder.Fill.{Fill}
 
 module _ {G : Type 0} where
@@ -30,10 +30,31 @@ pub none_wanted : (limit : ℕ) (s : Orders) → (after_fills limit 0 s ≡ s) �
 none_wanted limit [] = (refl, refl)
 none_wanted limit (o ∷ os) = (refl, refl)
 
+none_made : (limit : ℕ) (s : Orders) → fills_of limit 0 s ≡ []
+none_made limit [] = refl
+none_made limit (o ∷ os) = refl
+
 module _ (limit w : ℕ) where
+  pub no_fills : (s : Orders) → w ≤ 0 → fills_of limit w s ≡ []
+  no_fills s l = let z : w ≡ 0 = omega arith in rw z (none_made limit s)
+
   -- Where no more is wanted, all stay.
   pub no_more : (s : Orders) → w ≤ 0 → (after_fills limit w s ≡ s) × (unfilled limit w s ≡ w)
   no_more s l = let z : w ≡ 0 = omega arith in subst (λ n. (after_fills limit n s ≡ s) × (unfilled limit n s ≡ n)) (sym z) (none_wanted limit s)
+
+  -- The first fill, and those that come behind it.
+  pub next_fill : (s : Orders) (fill : Fill) → 0 < w → best_fill limit w s ≡ Some fill
+      → fills_of limit w s ≡ fill ∷ fills_of limit (w - fill.quantity) (after_fill limit w s)
+  next_fill [] fill p e = cc
+  next_fill (o ∷ os) fill p e = decided (nat_lt limit o.0.0)
+      (λ b. let none : None ≡ Some fill = rw b at e in cc)
+      (λ b.
+      let some : Some (fill_from w o) ≡ Some fill = rw b at e in
+      let is : fill_from w o ≡ fill = cc in
+      subst (λ (f : Fill). fills_of limit w (o ∷ os) ≡ f ∷ fills_of limit (w - f.quantity) (after_fill limit w (o ∷ os))) is
+      (decided (nat_lt w o.1)
+      (λ d. let l = is_less w o.1 d in let z : w - o.1 ≡ 0 = omega arith in rw (not_zero w p, b, d, z, nothing w, none_made limit os) refl)
+      (λ d. rw (not_zero w p, b, d) refl)))
 
   -- A fill is of something, and of what is wanted at most.
   fill_of : (s : Orders) → AllByRecursion (λ o. 0 < o.1) s → 0 < w → IfSome (best_fill limit w s) (λ f. (0 < f.quantity) × (f.quantity ≤ w))

@@ -3,7 +3,8 @@ ghost use Rattle.std.specs.Prelude.{◌≡◌, ◌+◌, ◌-◌, ◌^◌, ◌<�
 ghost use Rattle.fallible_collections.specs.Words.{cut, value_at};
 ghost use Rattle.example_orders.specs.Orders.{key_cmp, AreApart, AreNumberedBelow};
 ghost use Rattle.example_orders.specs.Sides.{Sides};
-ghost use Rattle.example_orders.specs.Placing.{rank_of, other_of, orders_of, others_of, IsPlaced, IsRefused};
+ghost use Rattle.example_orders.specs.Fills.{fills_of, AreTold};
+ghost use Rattle.example_orders.specs.Placing.{rank_of, other_of, limit_at, orders_of, others_of, IsPlaced, IsRefused};
 
 use crate::ladder::{Fill, Key, Ladder};
 use fallible_collections::TryReserveError;
@@ -110,8 +111,8 @@ impl Book {
         }
     }
 
-    /// Fills an order by those of the other side that its price reaches, the best first and of one price the earliest, and tells each fill.
-    /// What is left of it rests under the next number. Its memory is taken before the first fill.
+    /// Fills an order by those of the other side that its price reaches, the best first and of one price the earliest, and tells each fill,
+    /// once and in that order. What is left of it rests under the next number. Its memory is taken before the first fill.
     ///
     /// # Errors
     /// `NoNumber` where all numbers are given away, and `Memory` where the room for one more order was refused. The book is then as it was,
@@ -121,9 +122,11 @@ impl Book {
         side: Side,
         price: u64,
         quantity: u64,
-        tell: F,
+        tell: &mut F,
     ) -> Result<Placed, NotPlaced>
-        requires { F.IsAlwaysCallable tell }
+        requires { F.IsAlwaysCallable tell.old }
+        ensures told { OnOk result (AreTold F.step tell.old (fills_of (limit_at (rank_of side price)) quantity (others_of side self.old)) tell.new) }
+        ensures untold { OnErr result (tell.new ≡ tell.old) }
         ensures placed { IfOk result (λ placed. IsPlaced (rank_of side price) quantity (orders_of side self.old) (others_of side self.old) self.old.next placed (orders_of side self.new) (others_of side self.new) self.new.next) }
         ensures error { IfErr result (λ e. IsRefused e (length (orders_of side self.old)) self.old.next) }
         ensures full { self.old.next ≡ 2 ^ 64 - 1 → result ≡ Err NotPlaced.NoNumber }
@@ -174,12 +177,14 @@ fn place<F: FnMut(Fill)>(
     next: &mut u64,
     rank: u64,
     quantity: u64,
-    tell: F,
+    tell: &mut F,
 ) -> Result<Placed, NotPlaced>
-    requires callable { F.IsAlwaysCallable tell }
+    requires callable { F.IsAlwaysCallable tell.old }
     requires apart { AreApart own.old others.old }
     requires numbered { AreNumberedBelow next.old own.old }
     requires others_numbered { AreNumberedBelow next.old others.old }
+    ensures told { OnOk result (AreTold F.step tell.old (fills_of (limit_at rank) quantity others.old) tell.new) }
+    ensures untold { OnErr result (tell.new ≡ tell.old) }
     ensures placed { IfOk result (λ placed. IsPlaced rank quantity own.old others.old next.old placed own.new others.new next.new) }
     ensures error { IfErr result (λ e. IsRefused e (length own.old) next.old) }
     ensures full { next.old ≡ 2 ^ 64 - 1 → result ≡ Err NotPlaced.NoNumber }

@@ -2,7 +2,7 @@
 ghost use Rattle.std.specs.Prelude.{◌≡◌, ◌+◌, ◌<◌, ◌≤◌, [], length, All, IfSome, IfNone, IfOk, IfErr};
 ghost use Rattle.fallible_collections.specs.Words.{entries, put, cut, value_at, room_error, Places};
 ghost use Rattle.example_orders.specs.Orders.{key_cmp, after_fills, unfilled};
-ghost use Rattle.example_orders.specs.Fills.{best_fill, after_fill};
+ghost use Rattle.example_orders.specs.Fills.{best_fill, after_fill, fills_of, AreTold};
 
 use fallible_collections::TryReserveError;
 use fallible_collections::btree::BTreeMap;
@@ -103,8 +103,10 @@ impl Ladder {
 
     /// Takes so much from the orders whose rank is within the limit, the best first, tells each fill, and answers what was not to be had.
     /// It takes no memory.
-    pub fn take_all<F: FnMut(Fill)>(&mut self, limit: u64, wanted: u64, mut tell: F) -> u64
-        requires { F.IsAlwaysCallable tell }
+    pub fn take_all<F: FnMut(Fill)>(&mut self, limit: u64, wanted: u64, tell: &mut F) -> u64
+        requires { F.IsAlwaysCallable tell.old }
+        ensures told { AreTold F.step tell.old (fills_of limit wanted self.old) tell.new }
+        ensures callable { F.IsAlwaysCallable tell.new }
         ensures left { result ≡ unfilled limit wanted self.old }
         ensures at_most { result ≤ wanted }
         ensures rest { self.new ≡ after_fills limit wanted self.old }

@@ -6,8 +6,9 @@ mod commands;
 mod ladder;
 
 use book::{Book, NotPlaced, Side};
-use bounded_lines::Line;
+use bounded_lines::{Line, Pieces};
 use commands::{Command, command_in};
+use ladder::Fill;
 use std::io;
 
 /// The longest line, in bytes.
@@ -21,7 +22,7 @@ fn main(rt: HostRuntime) -> io::Result<()> {
 fn serve(rt: &(impl Input + Print + AllocGlobal)) -> io::Result<()> {
     let mut book = Book::new(rt.alloc());
     let mut line = Line::<LONGEST>::new();
-    let mut source = rt.reader();
+    let mut source = Pieces::new(rt.reader());
     for _ in 0..u64::MAX {
         if !line.read(&mut source)? {
             break;
@@ -55,13 +56,14 @@ fn place(
     quantity: u64,
 ) -> io::Result<()> {
     let mut shown = Ok(());
-    let placed = book.try_place(side, price, quantity, |fill| {
+    let mut tell = |fill: Fill| {
         if shown.is_ok() {
             let (rank, number) = fill.key;
             let price = side.other().price(rank);
             shown = println!(rt; "{} at {price} from {number}", fill.quantity);
         }
-    });
+    };
+    let placed = book.try_place(side, price, quantity, &mut tell);
     shown?;
     match placed {
         Ok(placed) if placed.resting > 0 => println!(rt;

@@ -4,7 +4,7 @@
 mod commands;
 mod timers;
 
-use bounded_lines::Line;
+use bounded_lines::{Line, Pieces};
 use commands::{Command, command_in};
 use std::io;
 use timers::{NotSet, Timers};
@@ -20,7 +20,7 @@ fn main(rt: HostRuntime) -> io::Result<()> {
 fn serve(rt: &(impl Input + Print + AllocGlobal)) -> io::Result<()> {
     let mut timers = Timers::new(rt.alloc());
     let mut line = Line::<LONGEST>::new();
-    let mut source = rt.reader();
+    let mut source = Pieces::new(rt.reader());
     for _ in 0..u64::MAX {
         if !line.read(&mut source)? {
             break;
