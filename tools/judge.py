@@ -1,6 +1,7 @@
 """What the program is to do, by sorted lists: what each line makes of two maps and two sets, what may be refused, and what is wrong with a run.
 
-tools/fuzz and tools/refusals judge by it. It follows docs/COMMANDS.md, and shares no code with the program."""
+tools/fuzz and tools/refusals judge by it. It follows docs/COMMANDS.md, and shares no code with the program. It also says how many requests a copy of a sound
+tree makes, which tells from outside whether a tree is sound."""
 import bisect
 import os
 import pathlib
@@ -11,6 +12,7 @@ top = pathlib.Path(__file__).resolve().parent.parent
 GREATEST = 2**64 - 1  # the greatest number
 LONGEST = 4096  # the most bytes of a line
 CAPACITY = 15  # the most pairs of a node: with as many, a map may need a node for a new key
+LEAST = 7  # the fewest pairs of a node that is not the root
 STARTS = 3  # how many requests for memory the program makes at its start
 SHORT = 100  # the bytes of the longest reply that is no list, without its line feed
 PATIENCE = 20  # the most seconds of a run
@@ -85,6 +87,24 @@ class Pairs:
     def may_refuse(self, key):
         """Whether a pair at the key may be refused: at a new key, where there is no pair yet or as many as fill a leaf."""
         return (len(self) == 0 or len(self) >= CAPACITY) and not self.has(key)
+
+
+class Stopped(Pairs):
+    """What pairs are with the first of some others put in. The lists are made where they are looked at: of the many places where an extension may stop, its
+    length mostly tells the one."""
+
+    def __init__(self, before, more, length):
+        self.before, self.more, self.length = before, more, length
+
+    def __len__(self):
+        return self.length
+
+    def __getattr__(self, name):
+        if name not in ("keys", "values"):
+            raise AttributeError(name)
+        made = self.before.put(*self.more)
+        self.keys, self.values = made.keys, made.values
+        return getattr(made, name)
 
 
 # Lines as commands.
@@ -305,9 +325,9 @@ def refusal(command):
 def stops(m, more):
     """What an extension may leave where it is refused: the pairs before one that may be."""
     new = Pairs(m.keys, m.values)
-    for key, value in more:
+    for i, (key, value) in enumerate(more):
         if new.may_refuse(key):
-            yield Pairs(new.keys, new.values)
+            yield Stopped(m, more[:i], len(new))
         new.lay(key, value)
 
 
@@ -329,6 +349,29 @@ def refused(world, command):
     if command.word == "extend":
         return [after(world, command, left, o) for left in stops(m, *command.said)]
     return [world] if command.word in MAY_REFUSE and MAY_REFUSE[command.word](m, o, *command.said) else []
+
+
+# How a tree looks from outside.
+
+
+def requests_of_copy(n):
+    """How many requests the copy of a sound tree of n pairs makes, at the least and at the most: it has the same nodes, of which a leaf asks once and an inner node
+    twice.
+
+    Between two neighbouring leaves stands one pair of a node above. So where there are several leaves, each with its 7 to 15 pairs takes 8 to 16 of n + 1.
+    A node above has a child more than pairs, so 8 to 16 of the level below, but the root 2 at least. A level has the fewest nodes, or the most, where the one
+    below it has: as few as hold all, or as many as find 8 each, or one, the root."""
+    if n == 0:
+        return 0, 0
+    fewest, most = -(-(n + 1) // (CAPACITY + 1)), max(1, (n + 1) // (LEAST + 1))
+    least_asked, most_asked = fewest, most
+    while fewest > 1:
+        fewest = -(-fewest // (CAPACITY + 1))
+        least_asked += 2 * fewest
+    while most > 1:
+        most = max(1, most // (LEAST + 1))
+        most_asked += 2 * most
+    return least_asked, most_asked
 
 
 # A run, and what is wrong with it.
@@ -388,6 +431,12 @@ class Program:
         return Run(replies, status, (ended.stderr or b"").decode("latin-1"), int(counts[0]), int(counts[1]), counts[2])
 
 
+def fault_of_copy(at, n, asked):
+    """What is wrong where the copy of n pairs, behind so many lines, made so many requests, or None: the copy of a sound tree makes no fewer and no more."""
+    least, most = requests_of_copy(n)
+    return None if least <= asked <= most else Fault(at, f"{least} to {most} requests for a copy of {n} pairs in a sound tree", str(asked))
+
+
 def may_give_up(case, at, replies, longest):
     """Whether there may be no room at this line: at the first, where a request of the start is refused, for the list that it names, or for a reply that
     is a list, longer than each before and than the room of the start."""
@@ -413,7 +462,7 @@ def fault_of_end(case, ran, lines, refusals, status):
 
 
 def fault_of(case, ran, see=None):
-    """Where what was told differs from what is wanted, or None. What stands before each command that ran, the command and its reply are shown to `see`."""
+    """Where what was told differs from what is wanted, or None. Each command that ran, what stands before it and its reply are shown to `see`, with its place."""
     worlds, longest, refusals = [[Pairs()] * 4], 0, 0
     for at, line in enumerate(case.lines):
         told = ran.replies[at] if at < len(ran.replies) else None
@@ -431,7 +480,7 @@ def fault_of(case, ran, see=None):
         if command is None:
             return fault_of_end(case, ran, at + 1, refusals, 1)
         if see:
-            see(command, [worlds[0][i] for i in command.names], told)
+            see(at, command, [worlds[0][i] for i in command.names], told)
         if len(left) > FOLLOWED:
             return None
         worlds, longest = left, max(longest, len(told))
