@@ -1,10 +1,9 @@
 //! The README's examples, in a crate that names `fallible_collections` alone.
 #![tactic(auto)]
 
-ghost use Rattle.std.specs.Prelude.{◌≡◌, List, map, min, [], IfOk, IfSome, IsOk, IsSome, None, OnErr, OnOk, Some, string_bytes, decimal, unwrap_or, ◌+◌, ◌<◌};
+ghost use Rattle.std.specs.Prelude.{◌≡◌, List, [], IfOk, IfSome, IsOk, IsSome, OnErr, Some, string_bytes, decimal, unwrap_or, ◌+◌, ◌<◌};
 ghost use Rattle.std.specs.Iterator.{IsFiniteIterable};
 ghost use Rattle.fallible_collections.specs.Words.{at, entries, extended, front, hashed_value_at, put, text_order, GivesAll};
-ghost use Rattle.callers_in_pages.specs.Counted.{IsFirst};
 
 pub mod both;
 pub mod boxes;
@@ -43,7 +42,6 @@ pub fn count_word(
     word: &str,
 ) -> Result<(), TryReserveError>
     ensures known { IsSome (at text_order (entries counts.old) word.now) → IsOk result × (set_aside.new ≡ set_aside.old) }
-    ensures new { OnOk result (at text_order (entries counts.old) word.now ≡ None → IsFirst (entries counts.old) word.now (entries counts.new)) }
     ensures unchanged { OnErr result (counts.new ≡ counts.old) }
 {
     if let Some(count) = counts.get_mut(word) {
@@ -58,15 +56,6 @@ pub fn count_word(
             Ok(())
         }
     }
-}
-
-/// Raises each price by one, as far as its numbers go.
-pub fn raise<K: Ord>(prices: &mut BTreeMap<K, u64>)
-    ensures { entries prices.new ≡ map (λ e. (e.0, min (e.1 + 1) u64.MAX)) (entries prices.old) }
-{
-    prices
-        .iter_mut()
-        .for_each(|_key, price| *price = price.saturating_add(1));
 }
 
 /// The highest of the prices whose keys are 10 or more, and 0 where there is none.

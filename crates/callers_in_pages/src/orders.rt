@@ -1,5 +1,5 @@
-//! Keys that are pairs, and how a contract names their order.
-ghost use Rattle.std.specs.Prelude.{◌≡◌, OnOk, OnErr, IfErr};
+//! Queues: keys that are pairs, how a contract names their order, and what is due.
+ghost use Rattle.std.specs.Prelude.{◌≡◌, ◌≤◌, ◌∷◌, OnOk, OnErr, IfErr, MatchOption};
 ghost use Rattle.fallible_collections.specs.Words.{entries, put};
 
 use fallible_collections::TryReserveError;
@@ -21,7 +21,13 @@ pub fn schedule<T: Drop>(
     Ok(())
 }
 
-/// The pair that is due first, which is then no longer there.
-pub fn due_first<T: Drop>(queue: &mut BTreeMap<(u64, u64), T>) -> Option<((u64, u64), T)> {
+/// Takes the first task out, where it is due by now: it is the first of the queue. Else nothing changes.
+pub fn take_due<T: Drop>(queue: &mut BTreeMap<u64, T>, now: u64) -> Option<(u64, T)>
+    ensures { MatchOption result (queue.new ≡ queue.old) (λ due. (due.0 ≤ now) × (entries queue.old ≡ due ∷ entries queue.new)) }
+{
+    let (first, _task) = queue.first_key_value()?;
+    if *first > now {
+        return None;
+    }
     queue.pop_first()
 }

@@ -107,25 +107,6 @@ pub fn has<K: Ord + Drop, V: Drop>(
     }
 }
 
-/// An entry of either kind that is dropped leaves the map as it was.
-pub fn has_by_drop<K: Ord + Drop, V: Drop>(
-    map: &mut BTreeMap<K, V>,
-    key: K,
-) -> Result<bool, TryReserveError>
-    ensures { map.new ≡ map.old }
-{
-    match map.try_entry(key)? {
-        Entry::Vacant(entry) => {
-            drop(entry);
-            Ok(false)
-        }
-        Entry::Occupied(held) => {
-            drop(held);
-            Ok(true)
-        }
-    }
-}
-
 /// An entry that is never matched leaves the map as it was.
 pub fn look_up_alone<K: Ord + Drop, V: Drop>(
     map: &mut BTreeMap<K, V>,

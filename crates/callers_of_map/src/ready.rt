@@ -6,7 +6,7 @@ ghost use Rattle.fc_base.specs.Parts.{at};
 ghost use Rattle.fc_map.specs.Entries.{entries, passed_in};
 
 use fc_base::{Count, TryReserveError};
-use fc_map::map::{BTreeMap, Entry, insert_both};
+use fc_map::map::{BTreeMap, Entry};
 
 /// Puts the value at the key: where the key is new, by an insertion that was made ready, and then written over.
 pub fn put_by_ready<K: Ord + Drop, V: Drop>(
@@ -123,23 +123,8 @@ pub fn put_counted<K: Ord + Drop, V: Drop>(
     Ok(())
 }
 
-/// Keeps each name with its number and each number with its name, in two maps that agree: both pairs are put in, or neither.
-pub fn name_number<K: Ord + Copy + Drop, L: Ord + Copy + Drop>(
-    numbers: &mut BTreeMap<K, L>,
-    names: &mut BTreeMap<L, K>,
-    name: K,
-    number: L,
-) -> Result<(), TryReserveError>
-    ensures both { OnOk result ((entries numbers.new ≡ put K.cmp (entries numbers.old) name number) × (entries names.new ≡ put L.cmp (entries names.old) number name)) }
-    ensures neither { OnErr result ((numbers.new ≡ numbers.old) × (names.new ≡ names.old)) }
-{
-    match insert_both(numbers, names, name, number, number, name) {
-        Ok(_old) => Ok(()),
-        Err(back) => Err(back.4),
-    }
-}
-
-/// The same where both keys are new, by two insertions that are made ready first.
+/// Keeps each name with its number and each number with its name, in two maps that agree: where both keys are new both pairs are put in, by
+/// two insertions that are made ready first, and else neither.
 pub fn name_new_number<K: Ord + Copy + Drop, L: Ord + Copy + Drop>(
     numbers: &mut BTreeMap<K, L>,
     names: &mut BTreeMap<L, K>,

@@ -35,25 +35,6 @@ pub fn put_all<K: Ord + Drop, V: Drop>(
     Ok(())
 }
 
-/// Puts the pairs of one list into one map and those of another into another, or none of them.
-pub fn put_all_in_both<K: Ord + Drop, V: Drop, L: Ord + Drop, W: Drop>(
-    first: &mut BTreeMap<K, V>,
-    second: &mut BTreeMap<L, W>,
-    pairs: Vec<(K, V)>,
-    others: Vec<(L, W)>,
-) -> Result<(), TryReserveError>
-    ensures first { OnOk result (entries first.new ≡ extended K.cmp (entries first.old) pairs.items) }
-    ensures second { OnOk result (entries second.new ≡ extended L.cmp (entries second.old) others.items) }
-    ensures neither { OnErr result ((first.new ≡ first.old) × (second.new ≡ second.old)) }
-{
-    let mut room = first.try_room_for(pairs.len())?;
-    let mut other_room = second.try_room_for(others.len())?;
-    // Nothing can be refused from here on.
-    put_with_room(first, &mut room, pairs);
-    put_with_room(second, &mut other_room, others);
-    Ok(())
-}
-
 /// Puts two pairs in, or none of them.
 pub fn put_two<K: Ord + Drop, V: Drop>(
     map: &mut BTreeMap<K, V>,
