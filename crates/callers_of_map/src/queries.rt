@@ -1,5 +1,5 @@
 //! What callers prove of look-ups by a reference to a key, and by a borrowed form of it.
-ghost use Rattle.std.specs.Prelude.{◌≡◌, ◌+◌, ◌<◌, ◌↔◌, length, IsTrue, IsSome, IfOk, None, Some, string_bytes};
+ghost use Rattle.std.specs.Prelude.{◌≡◌, ◌+◌, ◌<◌, ◌↔◌, length, IsTrue, IsSome, IfOk, IfSome, None, Some, string_bytes};
 ghost use Rattle.std.specs.Borrow.{sem};
 ghost use Rattle.std.specs.declared.cmp.Ordering.TheVariants.{Equal};
 ghost use Rattle.fc_base.specs.Ascending.{IsAscending};
@@ -34,6 +34,16 @@ pub fn get_pair<'a, K: Ord, V>(
     ensures comparisons { count.new.comparisons ≡ count.old.comparisons + passed_in K.cmp key.now map.now }
 {
     map.get_key_value_counted(key, count)
+}
+
+/// The key that stands in the map where an equal one is looked up.
+#[tactic(auto, using(fc_laws::proofs::Laws::key_at))]
+pub fn stored_key<K: Ord + Copy, V>(map: &BTreeMap<K, V>, key: &K) -> Option<K>
+    ensures equal { IfSome result (λ stored. K.cmp stored key.now ≡ Equal) }
+    ensures none { result ≡ None → at K.cmp (entries map.now) key.now ≡ None }
+{
+    let (stored, _value) = map.get_key_value(key)?;
+    Some(*stored)
 }
 
 /// Whether a key is there, by a reference to it.

@@ -1,15 +1,13 @@
 -- The laws of lists of items: what stands at each item once one is put in or taken out, that they ascend, and the first item.
 -- A caller names one on a function, as `#[tactic(auto, using(fallible_collections::proofs::Laws::item_at_with))]`, or cites it in an answer. A set's items
 -- are the keys of pairs with nothing at them.
-use Rattle.std.proofs.Common.{◌≡◌, List, [], ◌∷◌, Option, Some, None, refl, sym, ap, ◌∙◌, subst}
+use Rattle.std.proofs.Common.{◌≡◌, List, ◌∷◌, Some, None, sym, ap, ◌∙◌, subst}
 use Rattle.std.specs.Prelude.{unwrap_or}
 use Rattle.std.specs.Option.{option_map}
 use Rattle.std.specs.Cmp.{IsTotalOrder}
 use Rattle.std.specs.declared.cmp.Ordering.{Ordering}
-use Rattle.std.specs.declared.cmp.Ordering.TheVariants.{Less, Equal, Greater}
+use Rattle.std.specs.declared.cmp.Ordering.TheVariants.{Equal}
 use Rattle.fc_base.specs.OneKey.{put, cut}
-use Rattle.fc_base.specs.Parts.{at}
-use Rattle.fc_base.specs.Query.{IsQueryOrder}
 use Rattle.fc_base.proofs.Laws.{at_put, at_put_other, at_cut, at_cut_other, ascending_put, ascending_cut, at_first, cut_first}
 use Rattle.fc_set.specs.Items.{item_at, without, AreAscending, with_item}
 use Rattle.fc_set.proofs.ItemFacts.{keys, item_at_keys, with_item_keys, without_keys, ascending_keys}

@@ -2,4 +2,6 @@
 #![tactic(auto)]
 
 #[cfg(test)]
+mod tables;
+#[cfg(test)]
 mod tests;

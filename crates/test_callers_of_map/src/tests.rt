@@ -1,8 +1,6 @@
 use callers_of_map::into_iter::{collected, ends_of};
 use callers_of_map::iter_mut::{raise_each, write_all, write_first, write_range};
-use callers_of_map::refusals::{
-    put_both, put_each, put_in_room, put_once, put_or_hand_on, put_twice,
-};
+use callers_of_map::refusals::{put_both, put_each, put_once, put_or_hand_on, put_twice};
 use fc_base::TryReserveError;
 use fc_map::map::{BTreeMap, is_range};
 use std::alloc::Global;

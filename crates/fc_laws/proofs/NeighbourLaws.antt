@@ -3,7 +3,7 @@
 use Rattle.std.proofs.Common.{◌≡◌, suc, ◌-◌, Bool, true, false, cond, List, [], ◌∷◌, ◌++◌, length, slice_get, Some, None, refl, sym, ap, ◌∙◌, subst, arith}
 use Rattle.std.proofs.Common.{append-nil}
 use Rattle.std.specs.Prelude.{◌&&◌, unwrap_or}
-use Rattle.std.specs.List.{AllByRecursion, filter, find}
+use Rattle.std.specs.List.{AllByRecursion, filter}
 use Rattle.std.specs.Option.{option_map}
 use Rattle.std.specs.Cmp.{IsTotalOrder}
 use Rattle.std.specs.Ordering.{is_lt, is_le, is_eq, is_gt, is_ge}
@@ -21,6 +21,7 @@ use Rattle.fc_base.specs.Query.{IsQueryOrder}
 use Rattle.fc_base.specs.Ranges.{within}
 use Rattle.fc_base.proofs.AscendingFacts.{all_map, all_below, all_above, at_key, asc_filter}
 use Rattle.fc_base.proofs.Laws.{alike_query}
+use Rattle.fc_laws.proofs.ListFacts.{of_found, each_there}
 use Rattle.fc_tree_search.specs.Neighbours.{first_item, last_item, not_above}
 
 -- a test that another one is joined to which always passes
@@ -62,7 +63,7 @@ module _ {X : Type 0} where
   last_more : (x y : X) (s : List X) → last_item (x ∷ y ∷ s) ≡ last_item (y ∷ s)
   last_more x y s = let n : suc (suc (length s)) - 1 ≡ suc (suc (length s) - 1) = omega arith in ap (slice_get (x ∷ y ∷ s)) n
 
-  -- what holds of each item holds of the first, of the last, and of one that a search finds
+  -- what holds of each item holds of the first and of the last
   of_first : (P : X → Type 0) (s : List X) (x : X) → AllByRecursion P s → first_item s ≡ Some x → P x
   of_first P [] x a e = absurd cc
   of_first P (y ∷ s) x a e = let same : y ≡ x = cc in subst P same a.0
@@ -71,14 +72,6 @@ module _ {X : Type 0} where
   of_last P [] x a e = absurd cc
   of_last P (y ∷ []) x a e = let same : y ≡ x = cc in subst P same a.0
   of_last P (y ∷ z ∷ s) x a e = of_last P (z ∷ s) x a.1 (sym (last_more y z s) ∙ e)
-
-  of_found : (P : X → Type 0) (q : X → Bool) (s : List X) (x : X) → AllByRecursion P s → find q s ≡ Some x → P x
-  of_found P q [] x a e = absurd cc
-  of_found P q (y ∷ s) x a e = go (q y) e (of_found P q s x a.1)
-    where
-      go : (b : Bool) → cond b (Some y) (find q s) ≡ Some x → (find q s ≡ Some x → P x) → P x
-      go true f more = let same : y ≡ x = cc in subst P same a.0
-      go false f more = more f
 
   -- a list that has no first or no last item is empty
   no_first : (s : List X) → first_item s ≡ None → s ≡ []
@@ -122,16 +115,6 @@ module _ {X : Type 0} where
         go false e a more = (λ h. absurd cc, more a)
 
 module _ {K V : Type 0} (cmp : K → K → Ordering) where
-  -- at the key of each pair of an ascending list stands that pair
-  each_there : (s : List (K × V)) → IsTotalOrder cmp → IsAscending cmp s → AllByRecursion (λ e. at cmp s e.0 ≡ Some e) s
-  each_there [] total a = tt
-  each_there (e ∷ s) total a = (rw (tied_itself total e.0) refl, behind s a.0 (each_there s total a.1))
-    where
-      behind : (t : List (K × V)) → AllByRecursion (λ x. cmp e.0 x.0 ≡ Less) t → AllByRecursion (λ x. at cmp s x.0 ≡ Some x) t
-          → AllByRecursion (λ x. at cmp (e ∷ s) x.0 ≡ Some x) t
-      behind [] l h = tt
-      behind (x ∷ t) l h = (rw l.0 h.0, behind t l.1 h.1)
-
   -- Where keys that compare as equal are one key, at the key of a value stands the pair of both.
   pub exact_pair : (s : List (K × V)) (k : K) (v : V) → CmpEqualImpliesEq cmp → value_at cmp s k ≡ Some v → at cmp s k ≡ Some (k, v)
   exact_pair [] k v exact h = absurd cc
@@ -161,7 +144,7 @@ module _ {K V : Type 0} (cmp : K → K → Ordering) where
   module _ (p : K → Bool) (s : List (K × V)) (e : K × V) where
     -- The first pair that passes stands in the list, and passes.
     pub first_there : IsTotalOrder cmp → IsAscending cmp s → first_item (filter (λ x. p x.0) s) ≡ Some e → at cmp s e.0 ≡ Some e
-    first_there total a f = of_first _ _ e (all_kept (λ x. p x.0) _ s (each_there s total a)) f
+    first_there total a f = of_first _ _ e (all_kept (λ x. p x.0) _ s (each_there cmp s total a)) f
 
     pub first_passes : first_item (filter (λ x. p x.0) s) ≡ Some e → p e.0 ≡ true
     first_passes f = of_first (λ x. p x.0 ≡ true) _ e (all_pass (λ x. p x.0) s) f
@@ -175,7 +158,7 @@ module _ {K V : Type 0} (cmp : K → K → Ordering) where
 
     -- The last pair that passes stands in the list, and passes.
     pub last_there : IsTotalOrder cmp → IsAscending cmp s → last_item (filter (λ x. p x.0) s) ≡ Some e → at cmp s e.0 ≡ Some e
-    last_there total a f = of_last _ _ e (all_kept (λ x. p x.0) _ s (each_there s total a)) f
+    last_there total a f = of_last _ _ e (all_kept (λ x. p x.0) _ s (each_there cmp s total a)) f
 
     pub last_passes : last_item (filter (λ x. p x.0) s) ≡ Some e → p e.0 ≡ true
     last_passes f = of_last (λ x. p x.0 ≡ true) _ e (all_pass (λ x. p x.0) s) f

@@ -1,10 +1,10 @@
 -- The laws of what is said of all pairs of a list, once a pair is put or cut: a test of each, a sum over them, and what a filter keeps; what stands at a
 -- query that a cut key is not equal to; and of the first and the last pair.
--- A caller names one on a function, as `#[tactic(auto, using(fallible_collections::proofs::Laws::sum_cut))]`, or cites it in an answer.
-use Rattle.std.proofs.Common.{◌≡◌, ℕ, ◌+◌, ◌-◌, Bool, true, false, cond, List, [], ◌∷◌, ◌++◌, length, slice_get, All, Option, Some, None, refl, sym, ap, ◌∙◌}
+-- A caller names one on a function, as `#[tactic(auto, using(fc_laws::proofs::Laws::sum_cut))]`, or cites it in an answer.
+use Rattle.std.proofs.Common.{◌≡◌, ℕ, ◌+◌, Bool, true, false, cond, List, [], ◌∷◌, ◌++◌, slice_get, All, Option, Some, None, refl, sym, ap, ◌∙◌}
 use Rattle.std.proofs.Common.{subst, arith}
 use Rattle.std.specs.Prelude.{unwrap_or, string_bytes}
-use Rattle.std.specs.List.{AllByRecursion, filter, find, sum_by}
+use Rattle.std.specs.List.{AllByRecursion, filter, sum_by}
 use Rattle.std.specs.Option.{option_map, option_or, option_to_list}
 use Rattle.std.specs.Cmp.{IsTotalOrder}
 use Rattle.std.specs.Cmp.Lexicographic.{nat_list_cmp_total}
@@ -22,7 +22,7 @@ use Rattle.fc_base.specs.Parts.{below, above, at, value_at}
 use Rattle.fc_base.specs.Query.{IsQueryOrder, text_order}
 use Rattle.fc_base.specs.Viewed.{viewed}
 use Rattle.fc_base.proofs.AscendingFacts.{at_key}
-use Rattle.fc_base.proofs.Laws.{parts_joined, cut_absent, at_put_other_query, at_first, at_last}
+use Rattle.fc_base.proofs.Laws.{parts_joined, cut_absent, at_put_other_query, at_first}
 
 -- The order of a `String` by a text fits that of `String`s.
 pub text_order_fits : {A : Type 0} → IsQueryOrder (λ (s t : String A). text_order s (string_bytes t)) text_order

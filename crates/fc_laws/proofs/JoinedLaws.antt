@@ -1,5 +1,5 @@
 -- The laws of lists of pairs that are joined: what stands at each key, and that no other ascending list answers so.
--- A caller names one on a function, as `#[tactic(auto, using(fallible_collections::proofs::Laws::value_at_joined))]`, or cites it in an answer.
+-- A caller names one on a function, as `#[tactic(auto, using(fc_laws::proofs::Laws::value_at_joined))]`, or cites it in an answer.
 use Rattle.std.proofs.Common.{◌≡◌, false, cond, List, [], ◌∷◌, ◌++◌, Option, Some, None, refl, sym, ap, ◌∙◌}
 use Rattle.std.specs.Prelude.{unwrap_or}
 use Rattle.std.specs.List.{AllByRecursion}
@@ -19,7 +19,7 @@ use Rattle.fc_base.specs.Viewed.{over_one, own_order}
 use Rattle.fc_base.proofs.AscendingFacts.{at_key}
 use Rattle.fc_base.proofs.Laws.{at_query, at_put, at_put_other_query, at_cut}
 use Rattle.fc_base.proofs.JoinedLaws.{ascending_joined}
-use Rattle.fallible_collections.proofs.NeighbourLaws.{below_cut, above_cut}
+use Rattle.fc_laws.proofs.NeighbourLaws.{below_cut, above_cut}
 
 module _ {K Q V : Type 0} (cmp : K → K → Ordering) (order : K → Q → Ordering) (total : IsTotalOrder cmp) (fits : IsQueryOrder cmp order) (q : Q) where
   -- nothing stands behind a pair at a query that is not above it

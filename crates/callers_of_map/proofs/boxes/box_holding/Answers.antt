@@ -1,0 +1,18 @@
+use Rattle.std.proofs.Common.{◌≡◌, sym, arith}
+use Rattle.std.proofs.lemmas.Bool.Decides.{nat_tests}
+use Rattle.fc_laws.specs.Words.{entries}
+use Rattle.fc_laws.proofs.Laws.{last_at_or_before_there, last_at_or_before_side, number_tuple_at_most, number_tuple_total}
+use Rattle.callers_of_map.proofs.Places.{place_cmp}
+use Rattle.callers_of_map.proofs.boxes.box_holding.Goals as goal
+
+pub returns-then-byte-end-clause-there : goal.returns-then-byte-end-clause-there
+returns-then-byte-end-clause-there c = last_at_or_before_there place_cmp place_cmp (entries c.args.boxes.now) (c.args.depth, c.args.byte)
+    c.in_ok-place.place.now c.in_ok-place.end.now number_tuple_total c.in_ok-place.ensures.ascending (sym c.in_ok-place.ensures.pair)
+
+pub returns-then-byte-end-clause-side : goal.returns-then-byte-end-clause-side
+returns-then-byte-end-clause-side c =
+    let place = c.in_ok-place.place.now in
+    let side = (number_tuple_at_most place.0 c.args.depth place.1 c.args.byte).0 (last_at_or_before_side place_cmp (entries c.args.boxes.now)
+    (c.args.depth, c.args.byte) place c.in_ok-place.end.now (sym c.in_ok-place.ensures.pair)) in
+    let same : place.0 ≡ c.args.depth = grind (arith, nat_tests, c.if-place-depth.true) in
+    (same, grind (arith, same, side))

@@ -1,0 +1,9 @@
+pub mod JoinedLaws
+pub mod Laws
+pub mod ListFacts
+pub mod NeighbourCallLaws
+pub mod NeighbourLaws
+pub mod OrderLaws
+pub mod PairLaws
+pub mod PlaceLaws
+pub mod RetainedLaws
