@@ -1,0 +1,77 @@
+//! The count of what is out, for one holder that lends it by `&mut`: each call is exact.
+ghost use Rattle.std.specs.Prelude.{◌≡◌, ◌+◌, ◌-◌, ◌≤◌, ◌↔◌, IsOk, IfOk, OnErr};
+
+use std::alloc::AllocError;
+
+/// How many bytes are out, and how many may be out at once.
+#[derive(Clone, Copy, Debug, PartialEq, Eq)]
+pub struct Account {
+    used: usize,
+    cap: usize,
+    ghost within: { used ≤ cap },
+}
+
+impl Account {
+    /// An account with nothing out, of which at most `cap` bytes can be out at once.
+    pub fn new(cap: usize) -> Account
+        ensures cap { result.cap ≡ cap }
+        ensures none { result.used ≡ 0 }
+    {
+        Account { used: 0, cap }
+    }
+
+    // The account that has so many bytes out, or all if these are more than the cap.
+    pub(crate) fn having(used: usize, cap: usize) -> Account
+        ensures cap { result.cap ≡ cap }
+        ensures used { used ≤ cap → result.used ≡ used }
+    {
+        Account {
+            used: used.min(cap),
+            cap,
+        }
+    }
+
+    /// The most bytes that can be out at once.
+    pub fn cap(&self) -> usize
+        ensures { result ≡ self.now.cap }
+    {
+        self.cap
+    }
+
+    /// How many bytes are out.
+    pub fn used(&self) -> usize
+        ensures used { result ≡ self.now.used }
+        ensures within { result ≤ self.now.cap }
+    {
+        self.used
+    }
+
+    /// How many more bytes can go out.
+    pub fn left(&self) -> usize
+        ensures { self.now.used + result ≡ self.now.cap }
+    {
+        self.cap - self.used
+    }
+
+    /// Counts so many bytes as out. Refused exactly where they are more than are left, and then nothing is counted.
+    pub fn take(&mut self, bytes: usize) -> Result<(), AllocError>
+        ensures fits { IsOk result ↔ (self.old.used + bytes ≤ self.old.cap) }
+        ensures taken { IfOk result (λ _. self.new.used ≡ self.old.used + bytes) }
+        ensures unchanged { OnErr result (self.new ≡ self.old) }
+        ensures cap { self.new.cap ≡ self.old.cap }
+    {
+        if bytes > self.cap - self.used {
+            return Err(AllocError);
+        }
+        self.used += bytes;
+        Ok(())
+    }
+
+    /// Counts so many bytes as back; if fewer were out, all.
+    pub fn give(&mut self, bytes: usize)
+        ensures given { self.new.used ≡ self.old.used - bytes }
+        ensures cap { self.new.cap ≡ self.old.cap }
+    {
+        self.used = self.used.saturating_sub(bytes);
+    }
+}
