@@ -1,9 +1,9 @@
 //! The README's examples, in a crate that names `fallible_collections` alone.
 #![tactic(auto)]
 
-ghost use Rattle.std.specs.Prelude.{◌≡◌, List, [], IfOk, IfSome, IsOk, IsSome, OnErr, Some, string_bytes, decimal, unwrap_or, ◌+◌, ◌<◌};
+ghost use Rattle.std.specs.Prelude.{◌≡◌, List, [], None, OnOk, IfOk, IfSome, IsOk, IsSome, OnErr, Some, string_bytes, decimal, unwrap_or, ◌+◌, ◌<◌};
 ghost use Rattle.std.specs.Iterator.{IsFiniteIterable};
-ghost use Rattle.fallible_collections.specs.Words.{at, entries, extended, front, hashed_value_at, put, text_order, GivesAll};
+ghost use Rattle.fallible_collections.specs.Words.{at, entries, extended, front, hashed_value_at, put, text_order, value_at, GivesAll};
 
 pub mod both;
 pub mod boxes;
@@ -35,6 +35,7 @@ pub fn first_words(alloc: Global) -> Result<BTreeMap<u64, &'static str>, TryRese
 ///
 /// # Errors
 /// Only at a new word: where memory for a copy of it was refused, or for its place in the map, twice. The counts are then as they were.
+#[tactic(auto, using(fallible_collections::proofs::Laws::value_at_text_put))]
 pub fn count_word(
     counts: &mut BTreeMap<String, u64>,
     set_aside: &mut TryVec<u8>,
@@ -42,6 +43,7 @@ pub fn count_word(
     word: &str,
 ) -> Result<(), TryReserveError>
     ensures known { IsSome (at text_order (entries counts.old) word.now) → IsOk result × (set_aside.new ≡ set_aside.old) }
+    ensures new { OnOk result (at text_order (entries counts.old) word.now ≡ None → value_at text_order (entries counts.new) word.now ≡ Some 1) }
     ensures unchanged { OnErr result (counts.new ≡ counts.old) }
 {
     if let Some(count) = counts.get_mut(word) {

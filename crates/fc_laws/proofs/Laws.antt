@@ -18,7 +18,7 @@ pub use Rattle.fc_laws.proofs.PlaceLaws.{length_put_at_most, length_written}
 pub use Rattle.fc_laws.proofs.JoinedLaws.{at_joined, value_at_joined, at_joined_query, value_at_joined_query, same_pairs, joined_is}
 pub use Rattle.fc_laws.proofs.PairLaws.{text_order_fits, filter_cut, filter_put_out, filter_put_kept, all_cut, all_put, sum_cut, sum_put, sum_put_new}
 pub use Rattle.fc_laws.proofs.PairLaws.{sum_values_cut, sum_values_cut_absent, sum_values_put, sum_values_put_new, at_cut_other_query, value_at_cut_other_query}
-pub use Rattle.fc_laws.proofs.PairLaws.{not_below_all, not_below_rest, at_first_pair}
+pub use Rattle.fc_laws.proofs.PairLaws.{value_at_text_put, not_below_all, not_below_rest, at_first_pair}
 pub use Rattle.fc_laws.proofs.OrderLaws.{tuple_less, tuple_equal, tuple_greater, tuple_total}
 pub use Rattle.fc_laws.proofs.OrderLaws.{number_total, number_less, number_equal, number_greater, number_at_most}
 pub use Rattle.fc_laws.proofs.OrderLaws.{number_at_least, number_tuple_less, number_tuple_equal}

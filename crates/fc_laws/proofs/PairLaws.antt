@@ -6,7 +6,8 @@ use Rattle.std.proofs.Common.{subst, arith}
 use Rattle.std.specs.Prelude.{unwrap_or, string_bytes}
 use Rattle.std.specs.List.{AllByRecursion, filter, sum_by}
 use Rattle.std.specs.Option.{option_map, option_or, option_to_list}
-use Rattle.std.specs.Cmp.{IsTotalOrder}
+use Rattle.std.specs.Cmp.{IsTotalOrder, tied_itself}
+use Rattle.std.specs.String.{string_cmp, string_cmp_total}
 use Rattle.std.specs.Cmp.Lexicographic.{nat_list_cmp_total}
 use Rattle.std.specs.Ordering.{is_lt, is_eq, is_gt, is_ge, ordering_reverse}
 use Rattle.std.specs.declared.cmp.Ordering.{Ordering}
@@ -22,11 +23,18 @@ use Rattle.fc_base.specs.Parts.{below, above, at, value_at}
 use Rattle.fc_base.specs.Query.{IsQueryOrder, text_order}
 use Rattle.fc_base.specs.Viewed.{viewed}
 use Rattle.fc_base.proofs.AscendingFacts.{at_key}
-use Rattle.fc_base.proofs.Laws.{parts_joined, cut_absent, at_put_other_query, at_first}
+use Rattle.fc_base.proofs.Laws.{parts_joined, cut_absent, at_put_other_query, at_first, value_at_put_query}
 
 -- The order of a `String` by a text fits that of `String`s.
 pub text_order_fits : {A : Type 0} → IsQueryOrder (λ (s t : String A). text_order s (string_bytes t)) text_order
 text_order_fits = viewed nat_list_cmp_total string_bytes (λ text. text)
+
+-- At a text stands the value that was put at a `String` of that text.
+pub value_at_text_put : {A V : Type 0} (s : List (String A × V)) (k : String A) (v : V) (text : List ℕ) → string_bytes k ≡ text
+    → value_at text_order (put string_cmp s k v) text ≡ Some v
+value_at_text_put s k v text e =
+    let same = subst (λ t. text_order k t ≡ Equal) e (tied_itself string_cmp_total k) in
+    value_at_put_query string_cmp text_order s k v text string_cmp_total text_order_fits same
 
 -- where there is no value there is no pair
 no_pair : {A B : Type 0} (o : Option (A × B)) → option_map (λ e. e.1) o ≡ None → o ≡ None
