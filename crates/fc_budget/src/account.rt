@@ -12,18 +12,20 @@ pub struct Account {
 }
 
 impl Account {
+    ghost use Rattle.fc_budget.specs.Accounts.{used_of, cap_of};
+
     /// An account with nothing out, of which at most `cap` bytes can be out at once.
     pub fn new(cap: usize) -> Account
-        ensures cap { result.cap ≡ cap }
-        ensures none { result.used ≡ 0 }
+        ensures cap { cap_of result ≡ cap }
+        ensures none { used_of result ≡ 0 }
     {
         Account { used: 0, cap }
     }
 
     // The account that has so many bytes out, or all if these are more than the cap.
     pub(crate) fn having(used: usize, cap: usize) -> Account
-        ensures cap { result.cap ≡ cap }
-        ensures used { used ≤ cap → result.used ≡ used }
+        ensures cap { cap_of result ≡ cap }
+        ensures used { used ≤ cap → used_of result ≡ used }
     {
         Account {
             used: used.min(cap),
@@ -33,32 +35,32 @@ impl Account {
 
     /// The most bytes that can be out at once.
     pub fn cap(&self) -> usize
-        ensures { result ≡ self.now.cap }
+        ensures { result ≡ cap_of self.now }
     {
         self.cap
     }
 
     /// How many bytes are out.
     pub fn used(&self) -> usize
-        ensures used { result ≡ self.now.used }
-        ensures within { result ≤ self.now.cap }
+        ensures used { result ≡ used_of self.now }
+        ensures within { result ≤ cap_of self.now }
     {
         self.used
     }
 
     /// How many more bytes can go out.
     pub fn left(&self) -> usize
-        ensures { self.now.used + result ≡ self.now.cap }
+        ensures { used_of self.now + result ≡ cap_of self.now }
     {
         self.cap - self.used
     }
 
     /// Counts so many bytes as out. Refused exactly where they are more than are left, and then nothing is counted.
     pub fn take(&mut self, bytes: usize) -> Result<(), AllocError>
-        ensures fits { IsOk result ↔ (self.old.used + bytes ≤ self.old.cap) }
-        ensures taken { IfOk result (λ _. self.new.used ≡ self.old.used + bytes) }
+        ensures fits { IsOk result ↔ (used_of self.old + bytes ≤ cap_of self.old) }
+        ensures taken { IfOk result (λ _. used_of self.new ≡ used_of self.old + bytes) }
         ensures unchanged { OnErr result (self.new ≡ self.old) }
-        ensures cap { self.new.cap ≡ self.old.cap }
+        ensures cap { cap_of self.new ≡ cap_of self.old }
     {
         if bytes > self.cap - self.used {
             return Err(AllocError);
@@ -69,8 +71,8 @@ impl Account {
 
     /// Counts so many bytes as back; if fewer were out, all.
     pub fn give(&mut self, bytes: usize)
-        ensures given { self.new.used ≡ self.old.used - bytes }
-        ensures cap { self.new.cap ≡ self.old.cap }
+        ensures given { used_of self.new ≡ used_of self.old - bytes }
+        ensures cap { cap_of self.new ≡ cap_of self.old }
     {
         self.used = self.used.saturating_sub(bytes);
     }

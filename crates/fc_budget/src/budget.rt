@@ -1,5 +1,6 @@
 //! An allocator over another, with a cap.
 ghost use Rattle.std.specs.Prelude.{◌≡◌, ◌≤◌};
+ghost use Rattle.fc_budget.specs.Accounts.{cap_of, budget_cap, budget_inner};
 
 use crate::account::Account;
 use crate::meter::Meter;
@@ -15,8 +16,8 @@ pub struct Budget<B: Allocator> {
 impl<B: Allocator> Budget<B> {
     /// A budget of which at most `bytes` bytes can be out at once.
     pub fn new(inner: B, bytes: usize) -> Budget<B>
-        ensures cap { result.meter.cap ≡ bytes }
-        ensures inner { result.inner ≡ inner }
+        ensures cap { budget_cap result ≡ bytes }
+        ensures inner { budget_inner result ≡ inner }
     {
         Budget {
             inner,
@@ -26,28 +27,28 @@ impl<B: Allocator> Budget<B> {
 
     /// How many bytes are out, and how many may be.
     pub fn account(&self) -> Account
-        ensures { result.cap ≡ self.now.meter.cap }
+        ensures { cap_of result ≡ budget_cap self.now }
     {
         self.meter.account()
     }
 
     /// The most bytes that can be out at once.
     pub fn cap(&self) -> usize
-        ensures { result ≡ self.now.meter.cap }
+        ensures { result ≡ budget_cap self.now }
     {
         self.account().cap()
     }
 
     /// How many bytes are out.
     pub fn used(&self) -> usize
-        ensures { result ≤ self.now.meter.cap }
+        ensures { result ≤ budget_cap self.now }
     {
         self.account().used()
     }
 
     /// How many more bytes can go out.
     pub fn left(&self) -> usize
-        ensures { result ≤ self.now.meter.cap }
+        ensures { result ≤ budget_cap self.now }
     {
         self.account().left()
     }
@@ -60,7 +61,7 @@ impl<B: Allocator> Drop for Budget<B> {
 }
 
 unsafe impl<B: Allocator> Allocator for Budget<B> {
-    ghost dealloc_token = { λ heap ty ptr. B.dealloc_token heap.inner ty ptr };
+    ghost dealloc_token = { λ heap ty ptr. B.dealloc_token (budget_inner heap) ty ptr };
 
     fn allocate(&self, size: usize, align: usize) -> Result<*mut u8, AllocError> {
         if !self.meter.charge(size) {

@@ -1,5 +1,6 @@
 //! A count that many collections share by `&`.
 ghost use Rattle.std.specs.Prelude.{◌≡◌};
+ghost use Rattle.fc_budget.specs.Accounts.{cap_of};
 
 use crate::account::Account;
 use std::cell::Cell;
@@ -22,7 +23,7 @@ impl Meter {
     }
 
     pub(crate) fn account(&self) -> Account
-        ensures { result.cap ≡ self.now.cap }
+        ensures { cap_of result ≡ self.now.cap }
     {
         Account::having(self.used.get(), self.cap)
     }
