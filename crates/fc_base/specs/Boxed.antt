@@ -2,5 +2,5 @@
 use Rattle.fc_base.specs.declared.boxed.TryBox.{TryBox}
 
 -- `*b`
-abbrev pub boxed_value : {T : Type 0} → TryBox T → T
+abbrev pub boxed_value : {T Z : Type 0} → TryBox T Z → T
 boxed_value b = b.inner.value

@@ -3,6 +3,7 @@ ghost use Rattle.std.specs.Prelude.{◌≡◌, ◌⊎◌, IfOk, IfErr};
 ghost use Rattle.fc_base.specs.declared.try_reserve_error.TryReserveError.{TryReserveError};
 ghost use Rattle.fc_base.specs.Boxed.{boxed_value};
 
+use crate::handle::Handle;
 use crate::{TryClone, TryReserveError};
 use std::alloc::Global;
 use std::ops::Deref;
@@ -32,27 +33,27 @@ impl<T: Drop> FallibleBox<T> for Box<T> {
 /// A value on the heap, in a box that is made in one request for memory or not at all, and that is copied the same way. It is read through
 /// `Deref`. Upstream: `TryBox`.
 #[derive(Drop)]
-pub struct TryBox<T> {
-    inner: Box<T>,
+pub struct TryBox<T, A: Handle = Global> {
+    inner: Box<T, A>,
 }
 
-impl<T> TryBox<T> {
+impl<T, A: Handle> TryBox<T, A> {
     /// Puts the value into a box. Upstream: `TryBox::try_new`.
     ///
     /// # Errors
     /// `AllocError` if the memory for it is refused. The value is then dropped. A value of no size takes no memory.
-    pub fn try_new(alloc: Global, t: T) -> Result<TryBox<T>, TryReserveError>
+    pub fn try_new(alloc: A, t: T) -> Result<TryBox<T, A>, TryReserveError>
     where
         T: Drop,
         ensures ok { IfOk result (λ b. boxed_value b ≡ t) }
         ensures error { IfErr result (λ e. e ≡ TryReserveError.AllocError) }
     {
-        let inner = Box::try_new(alloc, t)?;
+        let inner = Box::new(alloc, t)?;
         Ok(TryBox { inner })
     }
 }
 
-impl<T> Deref for TryBox<T> {
+impl<T, A: Handle> Deref for TryBox<T, A> {
     type Target = T;
 
     ghost deref_gives = { λ b x. x ≡ boxed_value b };
@@ -68,14 +69,14 @@ impl<T> Deref for TryBox<T> {
 ///
 /// # Errors
 /// The error of the value's own copy, or `AllocError` if the memory for the box is refused. What was made by then is dropped.
-impl<T: TryClone> TryClone for TryBox<T> {
+impl<T: TryClone, A: Handle> TryClone for TryBox<T, A> {
     ghost same = { λ source copy. T.same (boxed_value source) (boxed_value copy) };
 
     ghost can_clone = { T.can_clone };
 
     ghost may_refuse = { λ source e. (e ≡ TryReserveError.AllocError) ⊎ T.may_refuse (boxed_value source) e };
 
-    fn try_clone(&self) -> Result<TryBox<T>, TryReserveError> {
+    fn try_clone(&self) -> Result<TryBox<T, A>, TryReserveError> {
         let inner = self.inner.try_clone()?;
         Ok(TryBox { inner })
     }

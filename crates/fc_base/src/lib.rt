@@ -5,6 +5,7 @@
 pub mod boxed;
 pub mod count;
 mod given_back;
+pub mod handle;
 pub mod list_laws;
 pub mod query;
 pub mod rc;
@@ -13,6 +14,7 @@ pub mod try_reserve_error;
 
 pub use boxed::{FallibleBox, TryBox};
 pub use count::{Count, compare};
+pub use handle::Handle;
 pub use query::Query;
 pub use rc::FallibleRc;
 pub use try_clone::TryClone;

@@ -3,6 +3,7 @@ ghost use Rattle.std.specs.Prelude.{◌≡◌, ◌+◌, ◌≤◌, length, Match
 ghost use Rattle.fc_base.specs.declared.try_reserve_error.TryReserveError.{TryReserveError};
 ghost use Rattle.fc_base.specs.CopiedLists.{IsExtended, IsCopiedUpTo};
 
+use crate::handle::Handle;
 use crate::try_reserve_error::TryReserveError;
 use at_once::copy_all;
 
@@ -27,7 +28,10 @@ pub trait TryClone: Drop {
 
     /// Puts a copy of each source behind the items of `copies`, for which there is room. An error is that of a refused copy; those made
     /// before it stay. It copies one by one, and is there for types whose values can be copied all at once.
-    fn try_clone_all(sources: &[Self], copies: &mut Vec<Self>) -> Result<(), TryReserveError>
+    fn try_clone_all<A: Handle>(
+        sources: &[Self],
+        copies: &mut Vec<Self, A>,
+    ) -> Result<(), TryReserveError>
     where
         Self: Sized,
         requires copied { can_clone }
@@ -53,7 +57,10 @@ impl TryClone for u8 {
         Ok(*self)
     }
 
-    fn try_clone_all(sources: &[u8], copies: &mut Vec<u8>) -> Result<(), TryReserveError> {
+    fn try_clone_all<A: Handle>(
+        sources: &[u8],
+        copies: &mut Vec<u8, A>,
+    ) -> Result<(), TryReserveError> {
         copy_all(sources, copies)
     }
 }
@@ -67,7 +74,10 @@ impl TryClone for u16 {
         Ok(*self)
     }
 
-    fn try_clone_all(sources: &[u16], copies: &mut Vec<u16>) -> Result<(), TryReserveError> {
+    fn try_clone_all<A: Handle>(
+        sources: &[u16],
+        copies: &mut Vec<u16, A>,
+    ) -> Result<(), TryReserveError> {
         copy_all(sources, copies)
     }
 }
@@ -81,7 +91,10 @@ impl TryClone for u32 {
         Ok(*self)
     }
 
-    fn try_clone_all(sources: &[u32], copies: &mut Vec<u32>) -> Result<(), TryReserveError> {
+    fn try_clone_all<A: Handle>(
+        sources: &[u32],
+        copies: &mut Vec<u32, A>,
+    ) -> Result<(), TryReserveError> {
         copy_all(sources, copies)
     }
 }
@@ -95,7 +108,10 @@ impl TryClone for u64 {
         Ok(*self)
     }
 
-    fn try_clone_all(sources: &[u64], copies: &mut Vec<u64>) -> Result<(), TryReserveError> {
+    fn try_clone_all<A: Handle>(
+        sources: &[u64],
+        copies: &mut Vec<u64, A>,
+    ) -> Result<(), TryReserveError> {
         copy_all(sources, copies)
     }
 }
@@ -109,7 +125,10 @@ impl TryClone for usize {
         Ok(*self)
     }
 
-    fn try_clone_all(sources: &[usize], copies: &mut Vec<usize>) -> Result<(), TryReserveError> {
+    fn try_clone_all<A: Handle>(
+        sources: &[usize],
+        copies: &mut Vec<usize, A>,
+    ) -> Result<(), TryReserveError> {
         copy_all(sources, copies)
     }
 }
@@ -123,7 +142,10 @@ impl TryClone for i8 {
         Ok(*self)
     }
 
-    fn try_clone_all(sources: &[i8], copies: &mut Vec<i8>) -> Result<(), TryReserveError> {
+    fn try_clone_all<A: Handle>(
+        sources: &[i8],
+        copies: &mut Vec<i8, A>,
+    ) -> Result<(), TryReserveError> {
         copy_all(sources, copies)
     }
 }
@@ -137,7 +159,10 @@ impl TryClone for i16 {
         Ok(*self)
     }
 
-    fn try_clone_all(sources: &[i16], copies: &mut Vec<i16>) -> Result<(), TryReserveError> {
+    fn try_clone_all<A: Handle>(
+        sources: &[i16],
+        copies: &mut Vec<i16, A>,
+    ) -> Result<(), TryReserveError> {
         copy_all(sources, copies)
     }
 }
@@ -151,7 +176,10 @@ impl TryClone for i32 {
         Ok(*self)
     }
 
-    fn try_clone_all(sources: &[i32], copies: &mut Vec<i32>) -> Result<(), TryReserveError> {
+    fn try_clone_all<A: Handle>(
+        sources: &[i32],
+        copies: &mut Vec<i32, A>,
+    ) -> Result<(), TryReserveError> {
         copy_all(sources, copies)
     }
 }
@@ -165,7 +193,10 @@ impl TryClone for i64 {
         Ok(*self)
     }
 
-    fn try_clone_all(sources: &[i64], copies: &mut Vec<i64>) -> Result<(), TryReserveError> {
+    fn try_clone_all<A: Handle>(
+        sources: &[i64],
+        copies: &mut Vec<i64, A>,
+    ) -> Result<(), TryReserveError> {
         copy_all(sources, copies)
     }
 }
@@ -179,7 +210,10 @@ impl TryClone for isize {
         Ok(*self)
     }
 
-    fn try_clone_all(sources: &[isize], copies: &mut Vec<isize>) -> Result<(), TryReserveError> {
+    fn try_clone_all<A: Handle>(
+        sources: &[isize],
+        copies: &mut Vec<isize, A>,
+    ) -> Result<(), TryReserveError> {
         copy_all(sources, copies)
     }
 }
@@ -193,7 +227,10 @@ impl TryClone for () {
         Ok(())
     }
 
-    fn try_clone_all(sources: &[()], copies: &mut Vec<()>) -> Result<(), TryReserveError> {
+    fn try_clone_all<A: Handle>(
+        sources: &[()],
+        copies: &mut Vec<(), A>,
+    ) -> Result<(), TryReserveError> {
         copy_all(sources, copies)
     }
 }
@@ -207,7 +244,10 @@ impl TryClone for bool {
         Ok(*self)
     }
 
-    fn try_clone_all(sources: &[bool], copies: &mut Vec<bool>) -> Result<(), TryReserveError> {
+    fn try_clone_all<A: Handle>(
+        sources: &[bool],
+        copies: &mut Vec<bool, A>,
+    ) -> Result<(), TryReserveError> {
         copy_all(sources, copies)
     }
 }

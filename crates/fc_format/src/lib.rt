@@ -3,8 +3,7 @@
 
 ghost use Rattle.std.specs.Prelude.{◌≡◌, IfOk, IfErr, IfSome, string_bytes};
 
-use fc_base::TryReserveError;
-use std::alloc::Global;
+use fc_base::{Handle, TryReserveError};
 use std::fmt::Display;
 
 /// The text that `{}` prints of the value. Room for `max_capacity` bytes is taken before the printing begins; a longer text asks
@@ -14,11 +13,11 @@ use std::fmt::Display;
 /// # Errors
 /// `AllocError` where the room was refused, or where the printing failed, for whatever cause. What was printed by then is
 /// dropped.
-pub fn try_format<T: Display>(
-    alloc: Global,
+pub fn try_format<T: Display, A: Handle>(
+    alloc: A,
     max_capacity: usize,
     value: &T,
-) -> Result<String, TryReserveError>
+) -> Result<String<A>, TryReserveError>
     ensures text { IfOk result (λ s. IfSome (T.output value.now) (λ bytes. string_bytes s ≡ bytes)) }
     ensures error { IfErr result (λ e. e ≡ TryReserveError.AllocError) }
 {

@@ -12,10 +12,10 @@ mod iter;
 mod lend;
 mod whole;
 
-use fc_base::TryReserveError;
+use fc_base::{Handle, TryReserveError};
 use std::alloc::Global;
 use std::collections::HashMap;
-use std::hash::Hash;
+use std::hash::{BuildHasherDefault, FoldHasher, Hash};
 use std::marker::Model;
 
 /// A map whose keys are found by their hashes. Its pairs have no order: a walk gives them in one that any change may alter.
@@ -24,12 +24,12 @@ use std::marker::Model;
 /// The hasher is std's fixed one, so whoever chooses the keys can choose many of one hash, and each call then looks at all of
 /// them. Where keys come from outside, take `BTreeMap`, whose calls compare few keys whatever these are.
 #[derive(Drop)]
-pub struct TryHashMap<K: Eq + Hash, V> {
-    inner: HashMap<K, V>,
-    alloc: Global,
+pub struct TryHashMap<K: Eq + Hash, V, A: Handle = Global> {
+    inner: HashMap<K, V, BuildHasherDefault<FoldHasher>, A>,
+    alloc: A,
 }
 
-impl<K: Eq + Hash, V> Model for TryHashMap<K, V> {
+impl<K: Eq + Hash, V, A: Handle> Model for TryHashMap<K, V, A> {
     ghost use Rattle.std.specs.HashMap.{spare as spare_of};
     ghost use Rattle.fc_hash.specs.Pairs.{Hashed};
 
@@ -38,9 +38,9 @@ impl<K: Eq + Hash, V> Model for TryHashMap<K, V> {
     ghost view = { λ m. record { pairs = m.inner.entries; spare = spare_of m.inner } };
 }
 
-impl<K: Eq + Hash, V> TryHashMap<K, V> {
+impl<K: Eq + Hash, V, A: Handle> TryHashMap<K, V, A> {
     /// An empty map, which takes no memory. Later requests go to `alloc`. Upstream: `TryHashMap::default`.
-    pub fn default(alloc: Global) -> TryHashMap<K, V>
+    pub fn default(alloc: A) -> TryHashMap<K, V, A>
         ensures { result.pairs ≡ [] }
     {
         TryHashMap {
@@ -54,10 +54,7 @@ impl<K: Eq + Hash, V> TryHashMap<K, V> {
     ///
     /// # Errors
     /// `AllocError` where the room was refused.
-    pub fn with_capacity(
-        alloc: Global,
-        capacity: usize,
-    ) -> Result<TryHashMap<K, V>, TryReserveError>
+    pub fn with_capacity(alloc: A, capacity: usize) -> Result<TryHashMap<K, V, A>, TryReserveError>
         ensures pairs { IfOk result (λ m. m.pairs ≡ []) }
         ensures spare { IfOk result (λ m. capacity ≤ m.spare) }
         ensures none { capacity ≡ 0 → IsOk result }

@@ -6,8 +6,8 @@ ghost use Rattle.std.specs.Io.Take.{take_limit, take_inner};
 ghost use Rattle.fc_read.specs.Reading.{IsMoved, IsWhole};
 
 use crate::up_to::try_read_up_to;
+use fc_base::Handle;
 use fc_vec::TryVec;
-use std::alloc::Global;
 use std::io::{self, ErrorKind, Read, Take};
 
 /// A source with a limit on what may be read of it. Upstream: `TryRead`.
@@ -23,7 +23,7 @@ pub trait TryRead {
     ///
     /// # Errors
     /// As `try_read_up_to`.
-    fn try_read_to_end(&mut self, buf: &mut TryVec<u8>) -> io::Result<usize>
+    fn try_read_to_end<A: Handle>(&mut self, buf: &mut TryVec<u8, A>) -> io::Result<usize>
         ensures moved { IsMoved (source self.old) (source self.new) buf.old.items buf.new.items (bound self.old) }
         ensures whole { IfOk result (IsWhole (source self.old) (source self.new) buf.old.items buf.new.items (bound self.old)) }
         ensures fallen { bound self.new + length buf.new.items ≡ bound self.old + length buf.old.items }
@@ -37,7 +37,7 @@ pub trait TryRead {
     /// # Errors
     /// As `try_read_up_to`: a failed read's is the very error of the source. What was read before is lost, fewer bytes than the limit, by
     /// which the limit fell.
-    fn read_into_try_vec(&mut self, alloc: Global) -> io::Result<TryVec<u8>>
+    fn read_into_try_vec<A: Handle>(&mut self, alloc: A) -> io::Result<TryVec<u8, A>>
     where
         Self: Sized,
         ensures whole { IfOk result (λ v. IsWhole (source self.old) (source self.new) [] v.items (bound self.old) (length v.items)) }
@@ -58,7 +58,7 @@ impl<R: Read> TryRead for Take<R> {
 
     ghost bound = { λ t. take_limit t };
 
-    fn try_read_to_end(&mut self, buf: &mut TryVec<u8>) -> io::Result<usize> {
+    fn try_read_to_end<A: Handle>(&mut self, buf: &mut TryVec<u8, A>) -> io::Result<usize> {
         let limit = self.limit();
         let before = buf.len();
         let answer = try_read_up_to(self.get_mut(), limit, buf);

@@ -3,6 +3,7 @@ ghost use Rattle.std.specs.Prelude.{◌≡◌, ◌+◌, ◌<◌, ◌≤◌, ◌�
 ghost use Rattle.std.specs.IoError.{error_kind};
 ghost use Rattle.fc_read.specs.Reading.{IsMoved, IsWhole};
 
+use fc_base::Handle;
 use fc_vec::TryVec;
 use std::io::{self, ErrorKind, Read, Write};
 
@@ -19,7 +20,11 @@ const PIECE: usize = 8192;
 /// # Errors
 /// The room was refused, which has the kind `OutOfMemory`: nothing was read, and `buf` is as before. Or a read failed or was
 /// interrupted, and the answer is its error: `buf` keeps the bytes read before, which are fewer than `limit`.
-pub fn try_read_up_to<R: Read>(src: &mut R, limit: u64, buf: &mut TryVec<u8>) -> io::Result<usize>
+pub fn try_read_up_to<R: Read, A: Handle>(
+    src: &mut R,
+    limit: u64,
+    buf: &mut TryVec<u8, A>,
+) -> io::Result<usize>
     ensures moved { IsMoved (R.remaining src.old) (R.remaining src.new) buf.old.items buf.new.items limit }
     ensures whole { IfOk result (IsWhole (R.remaining src.old) (R.remaining src.new) buf.old.items buf.new.items limit) }
     ensures room { 0 < limit → OnOk result (length buf.old.items + limit ≤ buf.new.room) }
@@ -40,7 +45,11 @@ pub fn try_read_up_to<R: Read>(src: &mut R, limit: u64, buf: &mut TryVec<u8>) ->
 }
 
 // Reads up to the limit, for which there is room.
-fn read_into_room<R: Read>(src: &mut R, limit: usize, buf: &mut TryVec<u8>) -> io::Result<usize>
+fn read_into_room<R: Read, A: Handle>(
+    src: &mut R,
+    limit: usize,
+    buf: &mut TryVec<u8, A>,
+) -> io::Result<usize>
     requires { length buf.old.items + limit ≤ buf.old.room }
     ensures moved { IsMoved (R.remaining src.old) (R.remaining src.new) buf.old.items buf.new.items limit }
     ensures whole { IfOk result (IsWhole (R.remaining src.old) (R.remaining src.new) buf.old.items buf.new.items limit) }

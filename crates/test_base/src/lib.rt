@@ -4,6 +4,8 @@
 #[cfg(test)]
 mod boxed;
 #[cfg(test)]
+mod budgets;
+#[cfg(test)]
 mod contents;
 #[cfg(test)]
 mod count;

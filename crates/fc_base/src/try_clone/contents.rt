@@ -5,7 +5,7 @@ ghost use Rattle.fc_base.specs.declared.try_reserve_error.TryReserveError.{TryRe
 ghost use Rattle.fc_base.specs.Copies.{SameContents, MayRefuseCopies};
 
 use super::TryClone;
-use crate::boxed::FallibleBox;
+use crate::handle::Handle;
 use crate::try_reserve_error::TryReserveError;
 
 /// `None`, or a copy of the value. Upstream: `Option::try_clone`.
@@ -34,16 +34,16 @@ impl<T: TryClone> TryClone for Option<T> {
 ///
 /// # Errors
 /// The error of the value's own copy, or `AllocError` if the memory for the box is refused. What was made by then is dropped.
-impl<T: TryClone> TryClone for Box<T> {
+impl<T: TryClone, A: Handle> TryClone for Box<T, A> {
     ghost same = { λ source copy. T.same source.value copy.value };
 
     ghost can_clone = { T.can_clone };
 
     ghost may_refuse = { λ source e. (e ≡ TryReserveError.AllocError) ⊎ T.may_refuse source.value e };
 
-    fn try_clone(&self) -> Result<Box<T>, TryReserveError> {
+    fn try_clone(&self) -> Result<Box<T, A>, TryReserveError> {
         let copy = self.as_ref().try_clone()?;
-        Box::try_new(*Box::allocator(self), copy)
+        Ok(Box::new(*Box::allocator(self), copy)?)
     }
 }
 
@@ -51,14 +51,14 @@ impl<T: TryClone> TryClone for Box<T> {
 ///
 /// # Errors
 /// `AllocError` if the room is refused, or the error of an item's own copy; never for an empty vector. What was made by then is dropped.
-impl<T: TryClone> TryClone for Vec<T> {
+impl<T: TryClone, A: Handle> TryClone for Vec<T, A> {
     ghost same = { λ source copy. AllZip T.same source.items copy.items };
 
     ghost can_clone = { T.can_clone };
 
     ghost may_refuse = { λ source. MayRefuseCopies T.may_refuse source.items };
 
-    fn try_clone(&self) -> Result<Vec<T>, TryReserveError> {
+    fn try_clone(&self) -> Result<Vec<T, A>, TryReserveError> {
         let mut copies = Vec::with_capacity(*self.allocator(), self.len())?;
         T::try_clone_all(self.as_slice(), &mut copies)?;
         Ok(copies)

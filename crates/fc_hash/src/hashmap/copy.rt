@@ -4,7 +4,7 @@ ghost use Rattle.fc_base.specs.Copies.{MayRefuseCopies, MayRefusePair};
 ghost use Rattle.fc_hash.specs.Pairs.{IsMap, AreCopies};
 
 use super::TryHashMap;
-use fc_base::{TryClone, TryReserveError};
+use fc_base::{Handle, TryClone, TryReserveError};
 use std::collections::hash_map;
 use std::hash::Hash;
 
@@ -14,14 +14,14 @@ use std::hash::Hash;
 /// # Errors
 /// `AllocError` where the room was refused, or the error of a key or a value whose copy was; never where the map is empty. What was
 /// made by then is dropped.
-impl<K: Eq + Hash + TryClone, V: TryClone> TryClone for TryHashMap<K, V> {
+impl<K: Eq + Hash + TryClone, V: TryClone, A: Handle> TryClone for TryHashMap<K, V, A> {
     ghost same = { λ source copy. AreCopies K.same V.same source.pairs copy.pairs };
 
     ghost can_clone = { K.can_clone × V.can_clone × ((a b : K) → K.same a b → K.eq a b ≡ true) };
 
     ghost may_refuse = { λ source. MayRefuseCopies (MayRefusePair K.may_refuse V.may_refuse) source.pairs };
 
-    fn try_clone(&self) -> Result<TryHashMap<K, V>, TryReserveError> {
+    fn try_clone(&self) -> Result<TryHashMap<K, V, A>, TryReserveError> {
         let mut made = TryHashMap::with_capacity(self.alloc, self.inner.len())?;
         insert_copies(&mut made, self.inner.iter())?;
         Ok(made)
@@ -29,8 +29,8 @@ impl<K: Eq + Hash + TryClone, V: TryClone> TryClone for TryHashMap<K, V> {
 }
 
 // Puts a copy of each pair that the walk gives into the map, which has none yet.
-fn insert_copies<K: Eq + Hash + TryClone, V: TryClone>(
-    made: &mut TryHashMap<K, V>,
+fn insert_copies<K: Eq + Hash + TryClone, V: TryClone, A: Handle>(
+    made: &mut TryHashMap<K, V, A>,
     walk: hash_map::Iter<'_, K, V>,
 ) -> Result<(), TryReserveError>
     requires keys { K.can_clone }

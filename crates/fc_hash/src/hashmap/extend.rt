@@ -7,12 +7,12 @@ ghost use Rattle.fc_hash.specs.Pairs.{IsMap};
 ghost use Rattle.fc_hash.specs.Extended.{IsPutAll, IsPutUpTo};
 
 use super::TryHashMap;
-use fc_base::TryReserveError;
+use fc_base::{Handle, TryReserveError};
 use fc_vec::TryFromIterator;
 use std::alloc::Global;
 use std::hash::Hash;
 
-impl<K: Eq + Hash + Drop, V: Drop> TryHashMap<K, V> {
+impl<K: Eq + Hash + Drop, V: Drop, A: Handle> TryHashMap<K, V, A> {
     /// Puts all items that the iterator gives into the map, in turn, each as `insert` does: where an equal key is there, that key stays
     /// and the new value takes the place of the old one, which is dropped. Not in upstream: it is `extend` of std's map.
     ///

@@ -6,10 +6,10 @@ ghost use Rattle.fc_base.specs.Growth.{append_error};
 ghost use Rattle.fc_hash.specs.Pairs.{IsMap, value_at};
 
 use super::TryHashMap;
-use fc_base::TryReserveError;
+use fc_base::{Handle, TryReserveError};
 use std::hash::Hash;
 
-impl<K: Eq + Hash, V> TryHashMap<K, V> {
+impl<K: Eq + Hash, V, A: Handle> TryHashMap<K, V, A> {
     /// Whether there is no pair. Not in upstream: it is that of std's map.
     pub fn is_empty(&self) -> bool
         ensures { IsTrue result ↔ (self.now.pairs ≡ []) }

@@ -3,12 +3,11 @@ ghost use Rattle.std.specs.Prelude.{◌≡◌, ◌+◌, ◌-◌, ◌<◌, ◌≤
 ghost use Rattle.fc_vec.specs.Vectors.{IsExtended, IsFilled, IsCopiedUpTo};
 
 use super::fallible_vec::FallibleVec;
-use fc_base::{TryClone, TryReserveError};
-use std::alloc::Global;
+use fc_base::{Handle, TryClone, TryReserveError};
 
 // Puts so many copies of the source behind the items, for which there is room.
-pub(crate) fn push_repeated<T: TryClone>(
-    v: &mut Vec<T>,
+pub(crate) fn push_repeated<T: TryClone, A: Handle>(
+    v: &mut Vec<T, A>,
     source: &T,
     count: usize,
 ) -> Result<(), TryReserveError>
@@ -30,11 +29,11 @@ pub(crate) fn push_repeated<T: TryClone>(
 ///
 /// # Errors
 /// `AllocError` where the room was refused, or the error of a refused copy. What was made by then is dropped.
-pub fn try_from_elem<T: TryClone>(
-    alloc: Global,
+pub fn try_from_elem<T: TryClone, A: Handle>(
+    alloc: A,
     elem: T,
     n: usize,
-) -> Result<Vec<T>, TryReserveError>
+) -> Result<Vec<T, A>, TryReserveError>
     requires { T.can_clone }
     ensures none { n ≡ 0 → IsOk result × IfOk result (λ v. v.items ≡ []) }
     ensures filled { 0 < n → IfOk result (λ v. IsFilled T.same [] n elem v.items) }

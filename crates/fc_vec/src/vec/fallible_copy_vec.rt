@@ -3,7 +3,7 @@ ghost use Rattle.std.specs.Prelude.{◌≡◌, ℕ, ◌+◌, ◌<◌, ◌≤◌,
 ghost use Rattle.fc_vec.specs.Vectors.{MayRefuse, resized};
 
 use super::fallible_vec::reserve;
-use fc_base::TryReserveError;
+use fc_base::{Handle, TryReserveError};
 
 /// The calls of `FallibleVec` that ask `T: Copy`: a trait's method cannot ask that of the trait's own parameter, so the impl
 /// does. Upstream they are methods of `FallibleVec`.
@@ -34,7 +34,7 @@ pub trait FallibleCopyVec<T> {
         ensures error { IfErr result (λ e. MayRefuse (room self.old) (length (contents self.old)) (length other.now) e × (contents self.new ≡ contents self.old) × (room self.new ≡ room self.old)) };
 }
 
-impl<T: Copy> FallibleCopyVec<T> for Vec<T> {
+impl<T: Copy, A: Handle> FallibleCopyVec<T> for Vec<T, A> {
     ghost contents = { λ v. v.items };
 
     ghost room = { λ v. vec_capacity v };

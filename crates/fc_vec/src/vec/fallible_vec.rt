@@ -4,12 +4,14 @@ ghost use Rattle.std.specs.List.{AppendsResults, insert};
 ghost use Rattle.fc_vec.specs.Vectors.{MayRefuse, IsExtended, IsFilled, IsCopiedUpTo};
 
 use super::copies::push_repeated;
-use fc_base::{TryClone, TryReserveError};
-use std::alloc::Global;
+use fc_base::{Handle, TryClone, TryReserveError};
 
 /// Calls on a vector that may grow it, each of which answers an error where memory is refused. None takes memory where what
 /// it adds fits the room that is there. Upstream: `FallibleVec`.
 pub trait FallibleVec<T>: Sized {
+    /// What the vector takes its memory from.
+    type Alloc;
+
     // The items, in order.
     ghost contents: { Self → List T };
     // How many items fit before the next request for memory.
@@ -34,7 +36,7 @@ pub trait FallibleVec<T>: Sized {
     ///
     /// # Errors
     /// `AllocError` where the room was refused.
-    fn try_with_capacity(alloc: Global, capacity: usize) -> Result<Self, TryReserveError>
+    fn try_with_capacity(alloc: Self::Alloc, capacity: usize) -> Result<Self, TryReserveError>
         ensures contents { IfOk result (λ v. contents v ≡ []) }
         ensures room { IfOk result (λ v. capacity ≤ room v) }
         ensures exact { IfOk result (λ v. room v ≡ capacity) }
@@ -142,7 +144,10 @@ pub trait FallibleVec<T>: Sized {
 }
 
 // Makes room for so many more items; what fits takes no memory.
-pub(crate) fn reserve<T>(v: &mut Vec<T>, additional: usize) -> Result<(), TryReserveError>
+pub(crate) fn reserve<T, A: Handle>(
+    v: &mut Vec<T, A>,
+    additional: usize,
+) -> Result<(), TryReserveError>
     ensures items { v.new.items ≡ v.old.items }
     ensures len { vec_len v.new ≡ vec_len v.old }
     ensures room { OnOk result (vec_len v.old + additional ≤ vec_capacity v.new) }
@@ -162,7 +167,7 @@ pub(crate) fn reserve<T>(v: &mut Vec<T>, additional: usize) -> Result<(), TryRes
 }
 
 // Puts what so many calls of `f` answer behind the items, for which there is room. std's own call does not say that the room stays.
-fn push_results<T, F: FnMut() -> T>(v: &mut Vec<T>, count: usize, mut f: F)
+fn push_results<T, A: Handle, F: FnMut() -> T>(v: &mut Vec<T, A>, count: usize, mut f: F)
     requires called { F.IsAlwaysCallable f }
     requires room { vec_len v.old + count ≤ vec_capacity v.old }
     ensures filled { AppendsResults F.step v.old.items v.new.items f }
@@ -175,7 +180,9 @@ fn push_results<T, F: FnMut() -> T>(v: &mut Vec<T>, count: usize, mut f: F)
     }
 }
 
-impl<T> FallibleVec<T> for Vec<T> {
+impl<T, A: Handle> FallibleVec<T> for Vec<T, A> {
+    type Alloc = A;
+
     ghost contents = { λ v. v.items };
 
     ghost room = { λ v. vec_capacity v };
@@ -184,7 +191,7 @@ impl<T> FallibleVec<T> for Vec<T> {
         reserve(self, additional)
     }
 
-    fn try_with_capacity(alloc: Global, capacity: usize) -> Result<Vec<T>, TryReserveError> {
+    fn try_with_capacity(alloc: A, capacity: usize) -> Result<Vec<T, A>, TryReserveError> {
         Ok(Vec::with_capacity(alloc, capacity)?)
     }
 
@@ -215,7 +222,7 @@ impl<T> FallibleVec<T> for Vec<T> {
         }
     }
 
-    fn try_append(&mut self, other: &mut Vec<T>) -> Result<(), TryReserveError> {
+    fn try_append(&mut self, other: &mut Vec<T, A>) -> Result<(), TryReserveError> {
         let more = other.len();
         reserve(self, more)?;
         self.append(other)?;

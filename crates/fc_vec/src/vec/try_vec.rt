@@ -16,18 +16,18 @@ mod removal;
 mod std_io;
 
 use super::fallible_vec::FallibleVec;
-use fc_base::{TryClone, TryReserveError};
+use fc_base::{Handle, TryClone, TryReserveError};
 pub use iter::Iter;
 use std::alloc::Global;
 use std::marker::Model;
 
 /// A vector that grows by calls that may be refused, and by no other. Upstream: `TryVec`.
 #[derive(Drop)]
-pub struct TryVec<T> {
-    inner: Vec<T>,
+pub struct TryVec<T, A: Handle = Global> {
+    inner: Vec<T, A>,
 }
 
-impl<T> Model for TryVec<T> {
+impl<T, A: Handle> Model for TryVec<T, A> {
     ghost use Rattle.std.specs.Prelude.{vec_capacity};
     ghost use Rattle.fc_vec.specs.Vectors.{Vector};
 
@@ -36,9 +36,9 @@ impl<T> Model for TryVec<T> {
     ghost view = { λ v. record { items = v.inner.items; room = vec_capacity v.inner } };
 }
 
-impl<T> TryVec<T> {
+impl<T, A: Handle> TryVec<T, A> {
     /// An empty vector, which takes no memory. Later requests go to `alloc`. Upstream: `TryVec::new`.
-    pub fn new(alloc: Global) -> TryVec<T>
+    pub fn new(alloc: A) -> TryVec<T, A>
         ensures items { result.items ≡ [] }
         ensures room { result.room ≡ 0 }
     {
@@ -48,7 +48,7 @@ impl<T> TryVec<T> {
     }
 
     /// An empty vector, as `new` makes it. Upstream: `TryVec::default`.
-    pub fn default(alloc: Global) -> TryVec<T>
+    pub fn default(alloc: A) -> TryVec<T, A>
         ensures items { result.items ≡ [] }
         ensures room { result.room ≡ 0 }
     {
@@ -59,7 +59,7 @@ impl<T> TryVec<T> {
     ///
     /// # Errors
     /// `AllocError` where the room was refused.
-    pub fn with_capacity(alloc: Global, capacity: usize) -> Result<TryVec<T>, TryReserveError>
+    pub fn with_capacity(alloc: A, capacity: usize) -> Result<TryVec<T, A>, TryReserveError>
         ensures items { IfOk result (λ v. v.items ≡ []) }
         ensures room { IfOk result (λ v. capacity ≤ v.room) }
         ensures exact { IfOk result (λ v. v.room ≡ capacity) }
@@ -164,7 +164,7 @@ impl<T> TryVec<T> {
     ///
     /// # Errors
     /// As `reserve` for the length of `other`. Both vectors are then as before.
-    pub fn append(&mut self, other: &mut TryVec<T>) -> Result<(), TryReserveError>
+    pub fn append(&mut self, other: &mut TryVec<T, A>) -> Result<(), TryReserveError>
         ensures appended { OnOk result ((self.new.items ≡ self.old.items ++ other.old.items) × (other.new.items ≡ [])) }
         ensures kept { (self.old.room ≤ self.new.room) × (other.new.room ≡ other.old.room) }
         ensures none { other.old.items ≡ [] → IsOk result }
@@ -215,7 +215,7 @@ impl<T> TryVec<T> {
     }
 
     /// The vector of std's, with its items and room, handed out. Not in upstream, where it stays inside.
-    pub fn into_vec(self) -> Vec<T>
+    pub fn into_vec(self) -> Vec<T, A>
         ensures items { result.items ≡ self.items }
         ensures room { vec_capacity result ≡ self.room }
     {
@@ -225,10 +225,10 @@ impl<T> TryVec<T> {
 }
 
 /// The vector's items and room, taken over as they are.
-impl<T> From<Vec<T>> for TryVec<T> {
+impl<T, A: Handle> From<Vec<T, A>> for TryVec<T, A> {
     ghost from_gives = { λ v made. (made.items ≡ v.items) × (made.room ≡ vec_capacity v) };
 
-    fn from(value: Vec<T>) -> TryVec<T> {
+    fn from(value: Vec<T, A>) -> TryVec<T, A> {
         TryVec { inner: value }
     }
 }

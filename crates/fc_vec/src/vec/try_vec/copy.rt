@@ -7,15 +7,14 @@ ghost use Rattle.fc_vec.specs.Vectors.{MayRefuse, IsExtended, IsCopiedUpTo};
 
 use super::super::fallible_vec::FallibleVec;
 use super::TryVec;
-use fc_base::{TryClone, TryReserveError};
-use std::alloc::Global;
+use fc_base::{Handle, TryClone, TryReserveError};
 
-impl<T: TryClone> TryVec<T> {
+impl<T: TryClone, A: Handle> TryVec<T, A> {
     /// A vector of copies of the items, by `try_clone`, in order. Upstream: `TryVec::try_from` of a slice.
     ///
     /// # Errors
     /// `AllocError` where the room was refused, or the error of a refused copy. What was made by then is dropped.
-    pub fn try_from_slice(alloc: Global, items: &[T]) -> Result<TryVec<T>, TryReserveError>
+    pub fn try_from_slice(alloc: A, items: &[T]) -> Result<TryVec<T, A>, TryReserveError>
         requires { T.can_clone }
         ensures copied { IfOk result (λ v. AllZip T.same items.now v.items) }
         ensures error { IfErr result (MayRefuseCopies T.may_refuse items.now) }
@@ -26,12 +25,12 @@ impl<T: TryClone> TryVec<T> {
     }
 }
 
-impl TryVec<u8> {
+impl<A: Handle> TryVec<u8, A> {
     /// A vector of the text's bytes. Upstream: `TryVec::try_from` of a text.
     ///
     /// # Errors
     /// `AllocError` where the room was refused.
-    pub fn try_from_str(alloc: Global, text: &str) -> Result<TryVec<u8>, TryReserveError>
+    pub fn try_from_str(alloc: A, text: &str) -> Result<TryVec<u8, A>, TryReserveError>
         ensures bytes { IfOk result (λ v. v.items ≡ text.now) }
         ensures error { IfErr result (λ e. (0 < length text.now) × (e ≡ TryReserveError.AllocError)) }
     {
@@ -45,26 +44,26 @@ impl TryVec<u8> {
 /// # Errors
 /// `AllocError` where the room was refused, or the error of a refused copy; never where the vector is empty. What was made by
 /// then is dropped.
-impl<T: TryClone> TryClone for TryVec<T> {
+impl<T: TryClone, A: Handle> TryClone for TryVec<T, A> {
     ghost same = { λ source copy. AllZip T.same source.items copy.items };
 
     ghost can_clone = { T.can_clone };
 
     ghost may_refuse = { λ source. MayRefuseCopies T.may_refuse source.items };
 
-    fn try_clone(&self) -> Result<TryVec<T>, TryReserveError> {
+    fn try_clone(&self) -> Result<TryVec<T, A>, TryReserveError> {
         TryVec::try_from_slice(*self.inner.allocator(), self.inner.as_slice())
     }
 }
 
-impl<T: TryClone> TryVec<TryVec<T>> {
+impl<T: TryClone, A: Handle, B: Handle> TryVec<TryVec<T, B>, A> {
     /// The items of all parts in one vector, copied by `try_clone`, in order. It takes its memory where this vector does, and
     /// all of it before the first copy. Upstream: `TryVec::concat`, which adds up lengths unchecked.
     ///
     /// # Errors
     /// `CapacityOverflow` exactly where the lengths pass `usize::MAX` together, else `AllocError` where the room was refused;
     /// or the error of a refused copy. What was made by then is dropped.
-    pub fn concat(&self) -> Result<TryVec<T>, TryReserveError>
+    pub fn concat(&self) -> Result<TryVec<T, A>, TryReserveError>
         requires { T.can_clone }
         ensures joined { IfOk result (λ v. AllZip T.same (joined self.now.items) v.items) }
         ensures length { IfOk result (λ _. length (joined self.now.items) < 2 ^ 64) }
@@ -80,7 +79,7 @@ impl<T: TryClone> TryVec<TryVec<T>> {
 }
 
 // How many items all parts have, or `None` where that passes `usize::MAX`.
-fn total_len<T>(parts: &[TryVec<T>]) -> Option<usize>
+fn total_len<T, B: Handle>(parts: &[TryVec<T, B>]) -> Option<usize>
     ensures { MatchOption result (2 ^ 64 ≤ length (joined parts.now)) (λ n. n ≡ length (joined parts.now)) }
 {
     let mut total: usize = 0;
@@ -92,7 +91,10 @@ fn total_len<T>(parts: &[TryVec<T>]) -> Option<usize>
 }
 
 // Puts a copy of each item of each part behind the items, for which there is room.
-fn push_parts<T: TryClone>(made: &mut Vec<T>, parts: &[TryVec<T>]) -> Result<(), TryReserveError>
+fn push_parts<T: TryClone, A: Handle, B: Handle>(
+    made: &mut Vec<T, A>,
+    parts: &[TryVec<T, B>],
+) -> Result<(), TryReserveError>
     requires copied { T.can_clone }
     requires room { vec_len made.old + length (joined parts.now) ≤ vec_capacity made.old }
     ensures extended { OnOk result (IsExtended T.same made.old.items (joined parts.now) made.new.items) }

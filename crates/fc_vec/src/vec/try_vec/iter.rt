@@ -3,11 +3,11 @@ ghost use Rattle.std.specs.Prelude.{◌≡◌, ◌^◌, ◌<◌, length, IfSome,
 ghost use Rattle.std.specs.Iterator.Runs.{EveryRun, ItemsAre, ItemsMapTo};
 ghost use Rattle.std.specs.Iterator.{YieldsFirstBy, YieldsLastBy, item_count, at_most, UpTo};
 ghost use Rattle.std.specs.Iterator.SizeHint.{IsWithinCount};
-ghost use Rattle.std.specs.declared.alloc.Global.{Global};
 ghost use Rattle.std.specs.Vec.Iter.{into_iter_items, into_iter_len, into_iter_steps};
 ghost use Rattle.std.specs.Slice.Iter.{iter_rest, iter_steps};
 
 use super::TryVec;
+use fc_base::Handle;
 use std::iter::FusedIterator;
 use std::marker::Model;
 use std::{slice, vec};
@@ -27,7 +27,7 @@ impl<'a, T> Model for Iter<'a, T> {
     ghost view = { λ w. w.rest.now };
 }
 
-impl<T> TryVec<T> {
+impl<T, A: Handle> TryVec<T, A> {
     /// A walk over the items, from both ends. Upstream: `TryVec::iter`.
     pub fn iter(&self) -> Iter<'_, T>
         ensures { result ≡ self.now.items }
@@ -80,21 +80,21 @@ impl<'a, T> ExactSizeIterator for Iter<'a, T> {
 impl<'a, T> FusedIterator for Iter<'a, T> {}
 
 /// The items by value, in order: std's walk, which drops what it did not give.
-impl<T: Drop> IntoIterator for TryVec<T> {
+impl<T: Drop, A: Handle> IntoIterator for TryVec<T, A> {
     type Item = T;
 
-    type IntoIter = vec::IntoIter<T>;
+    type IntoIter = vec::IntoIter<T, A>;
 
-    ghost into_iter_gives = { λ v r. (into_iter_items r ≡ v.items) × (into_iter_len r ≡ length v.items) × EveryRun (into_iter_steps {X = T} {Z = Global}) (λ p. ItemsAre p (into_iter_items p.from)) };
+    ghost into_iter_gives = { λ v r. (into_iter_items r ≡ v.items) × (into_iter_len r ≡ length v.items) × EveryRun (into_iter_steps {X = T} {Z = A}) (λ p. ItemsAre p (into_iter_items p.from)) };
 
-    fn into_iter(self) -> vec::IntoIter<T> {
+    fn into_iter(self) -> vec::IntoIter<T, A> {
         let TryVec { inner } = self;
         inner.into_iter()
     }
 }
 
 /// The items by reference, in order: std's walk over a slice.
-impl<'a, T> IntoIterator for &'a TryVec<T> {
+impl<'a, T, A: Handle> IntoIterator for &'a TryVec<T, A> {
     type Item = &'a T;
 
     type IntoIter = slice::Iter<'a, T>;

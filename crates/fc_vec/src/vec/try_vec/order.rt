@@ -3,9 +3,10 @@ ghost use Rattle.std.specs.Prelude.{◌≡◌, length};
 ghost use Rattle.std.specs.List.Sorted.{IsPermutation, IsSorted, IsSortedByClosure};
 
 use super::TryVec;
+use fc_base::Handle;
 use std::cmp::Ordering;
 
-impl<T> TryVec<T> {
+impl<T, A: Handle> TryVec<T, A> {
     /// Puts the items in ascending order; it takes no memory, and equal ones may change places. Upstream: `sort_unstable` of the
     /// slice.
     pub fn sort_unstable(&mut self)

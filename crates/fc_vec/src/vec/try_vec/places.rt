@@ -5,9 +5,10 @@ ghost use Rattle.std.specs.Option.{option_copied};
 ghost use Rattle.std.specs.Slice.{IsGetResult, IsItemAt};
 
 use super::TryVec;
+use fc_base::Handle;
 use std::ops::Index;
 
-impl<T> TryVec<T> {
+impl<T, A: Handle> TryVec<T, A> {
     /// The item at `index`; `None` from the length on. Upstream: `get` of the slice.
     pub fn get(&self, index: usize) -> Option<&T>
         ensures value { option_copied result ≡ slice_get self.now.items index }
@@ -43,7 +44,7 @@ impl<T> TryVec<T> {
 }
 
 /// The item at a place below the length: a condition on the caller, where upstream panics.
-impl<T> Index<usize> for TryVec<T> {
+impl<T, A: Handle> Index<usize> for TryVec<T, A> {
     ghost use Rattle.std.specs.Prelude.{◌≡◌, ◌<◌, length, slice_index_or};
 
     type Output = T;

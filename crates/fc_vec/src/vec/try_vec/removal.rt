@@ -5,8 +5,9 @@ ghost use Rattle.std.specs.List.{remove, swap_remove, dedup};
 ghost use Rattle.std.specs.List.Retain.{IsFiltered};
 
 use super::TryVec;
+use fc_base::Handle;
 
-impl<T> TryVec<T> {
+impl<T, A: Handle> TryVec<T, A> {
     /// Keeps the first `len` items and drops those behind them; where there are no more, it does nothing. Not in upstream: it is
     /// that of std's vector.
     pub fn truncate(&mut self, len: usize)

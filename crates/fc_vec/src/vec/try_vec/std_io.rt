@@ -6,10 +6,11 @@ ghost use Rattle.std.specs.IoError.{error_kind};
 
 use super::super::fallible_copy_vec::FallibleCopyVec;
 use super::TryVec;
+use fc_base::Handle;
 use std::io::{self, ErrorKind, Write};
 
 /// What is written stands behind the bytes that are there. Upstream: `Write` for `TryVec<u8>`, in `vec::std_io`.
-impl Write for TryVec<u8> {
+impl<A: Handle> Write for TryVec<u8, A> {
     ghost contents = { λ v. Some v.items };
 
     /// Puts all the bytes behind the own ones, and answers how many these are. Where they fit into the room that is there, as
