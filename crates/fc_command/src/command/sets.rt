@@ -51,7 +51,7 @@ pub fn step_set<K: Ord + TryClone, V: TryClone>(
 
 // Puts the item in where no equal one is.
 fn add<K: Ord + TryClone, V: TryClone>(set: &mut BTreeSet<K>, item: K) -> Reply<K, V>
-    ensures { (o : Map K ⊤) → StepOnSets K.cmp K.may_refuse (SetCommand.AddItem item) set.old o result set.new o }
+    ensures { (o : Map K ⊤ Global) → StepOnSets K.cmp K.may_refuse (SetCommand.AddItem item) set.old o result set.new o }
 {
     match set.try_insert(item) {
         Ok(new) => Reply::Flag(new),
@@ -61,7 +61,7 @@ fn add<K: Ord + TryClone, V: TryClone>(set: &mut BTreeSet<K>, item: K) -> Reply<
 
 // Puts the item in the place of an equal one, or where it belongs.
 fn replace<K: Ord + TryClone, V: TryClone>(set: &mut BTreeSet<K>, item: K) -> Reply<K, V>
-    ensures { (o : Map K ⊤) → StepOnSets K.cmp K.may_refuse (SetCommand.ReplaceItem item) set.old o result set.new o }
+    ensures { (o : Map K ⊤ Global) → StepOnSets K.cmp K.may_refuse (SetCommand.ReplaceItem item) set.old o result set.new o }
 {
     match set.replace(item) {
         Ok(old) => Reply::Key(old),
@@ -71,7 +71,7 @@ fn replace<K: Ord + TryClone, V: TryClone>(set: &mut BTreeSet<K>, item: K) -> Re
 
 // Drops all items.
 fn clear<K: Ord + TryClone, V: TryClone>(set: &mut BTreeSet<K>) -> Reply<K, V>
-    ensures { (o : Map K ⊤) → StepOnSets K.cmp K.may_refuse SetCommand.SetClear set.old o result set.new o }
+    ensures { (o : Map K ⊤ Global) → StepOnSets K.cmp K.may_refuse SetCommand.SetClear set.old o result set.new o }
 {
     set.clear();
     Reply::Done
@@ -81,7 +81,7 @@ fn clear<K: Ord + TryClone, V: TryClone>(set: &mut BTreeSet<K>) -> Reply<K, V>
 fn find<K: Ord + TryClone, V: TryClone>(set: &BTreeSet<K>, item: &K) -> Reply<K, V>
     requires copied { K.can_clone }
     requires same { IsExact K.same }
-    ensures { (o : Map K ⊤) → StepOnSets K.cmp K.may_refuse (SetCommand.GetItem item.now) set.now o result set.now o }
+    ensures { (o : Map K ⊤ Global) → StepOnSets K.cmp K.may_refuse (SetCommand.GetItem item.now) set.now o result set.now o }
 {
     match set.get(item) {
         Some(held) => match held.try_clone() {
@@ -124,7 +124,7 @@ fn split_off<K: Ord + TryClone, V: TryClone>(
 
 // Puts the items in, in turn, up to the one that is refused.
 fn extend<K: Ord + TryClone, V: TryClone>(set: &mut BTreeSet<K>, more: Items<K>) -> Reply<K, V>
-    ensures { (o : Map K ⊤) → StepOnSets K.cmp K.may_refuse (SetCommand.SetExtend more) set.old o result set.new o }
+    ensures { (o : Map K ⊤ Global) → StepOnSets K.cmp K.may_refuse (SetCommand.SetExtend more) set.old o result set.new o }
 {
     match set.try_extend(more.into_vec()) {
         Ok(()) => {
@@ -146,7 +146,7 @@ fn walk<K: Ord + TryClone, V: TryClone>(
 ) -> Reply<K, V>
     requires copied { K.can_clone }
     requires same { IsExact K.same }
-    ensures { (o : Map K ⊤) → StepOnSets K.cmp K.may_refuse (SetCommand.SetWalk lo hi ends) set.now o result set.now o }
+    ensures { (o : Map K ⊤ Global) → StepOnSets K.cmp K.may_refuse (SetCommand.SetWalk lo hi ends) set.now o result set.now o }
 {
     let bounds = (lo.as_ref(), hi.as_ref());
     if !is_range(&bounds.0, &bounds.1) {

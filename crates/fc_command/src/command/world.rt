@@ -176,7 +176,7 @@ fn walk<K: Ord + TryClone, V: TryClone>(
 ) -> Reply<K, V>
     requires copied { K.can_clone × V.can_clone }
     requires same { IsExact K.same × IsExact V.same }
-    ensures { (o : Map K V) → StepOn K.cmp K.may_refuse V.may_refuse (MapCommand.Walk lo hi ends) map.now o result map.now o }
+    ensures { (o : Map K V Global) → StepOn K.cmp K.may_refuse V.may_refuse (MapCommand.Walk lo hi ends) map.now o result map.now o }
 {
     let bounds = (lo.as_ref(), hi.as_ref());
     if !is_range(&bounds.0, &bounds.1) {
@@ -240,7 +240,7 @@ fn write<K: Ord + TryClone, V: TryClone>(
     hi: Bound<K>,
     writes: Items<(End, V)>,
 ) -> Reply<K, V>
-    ensures { (o : Map K V) → StepOn K.cmp K.may_refuse V.may_refuse (MapCommand.Write lo hi writes) map.old o result map.new o }
+    ensures { (o : Map K V Global) → StepOn K.cmp K.may_refuse V.may_refuse (MapCommand.Write lo hi writes) map.old o result map.new o }
 {
     let bounds = (lo.as_ref(), hi.as_ref());
     if is_range(&bounds.0, &bounds.1) {
@@ -315,7 +315,7 @@ fn extend<K: Ord + TryClone, V: TryClone>(
     map: &mut BTreeMap<K, V>,
     pairs: Items<(K, V)>,
 ) -> Reply<K, V>
-    ensures { (o : Map K V) → StepOn K.cmp K.may_refuse V.may_refuse (MapCommand.Extend pairs) map.old o result map.new o }
+    ensures { (o : Map K V Global) → StepOn K.cmp K.may_refuse V.may_refuse (MapCommand.Extend pairs) map.old o result map.new o }
 {
     match map.try_extend(pairs.into_vec()) {
         Ok(()) => {
@@ -346,7 +346,7 @@ fn put_both<K: Ord + TryClone, V: TryClone>(
 
 // Writes the value where the key is there, and answers the old one.
 fn set<K: Ord + TryClone, V: TryClone>(map: &mut BTreeMap<K, V>, key: K, value: V) -> Reply<K, V>
-    ensures { (o : Map K V) → StepOn K.cmp K.may_refuse V.may_refuse (MapCommand.Set key value) map.old o result map.new o }
+    ensures { (o : Map K V Global) → StepOn K.cmp K.may_refuse V.may_refuse (MapCommand.Set key value) map.old o result map.new o }
 {
     match map.get_mut(&key) {
         Some(held) => Reply::Value(Some(mem::replace(held, value))),
@@ -361,7 +361,7 @@ fn entry<K: Ord + TryClone, V: TryClone>(
     there: V,
     new: V,
 ) -> Reply<K, V>
-    ensures { (o : Map K V) → StepOn K.cmp K.may_refuse V.may_refuse (MapCommand.Entry key there new) map.old o result map.new o }
+    ensures { (o : Map K V Global) → StepOn K.cmp K.may_refuse V.may_refuse (MapCommand.Entry key there new) map.old o result map.new o }
 {
     let held = match map.try_entry(key) {
         Ok(held) => held,
@@ -391,7 +391,7 @@ fn evict<K: Ord + TryClone, V: TryClone>(map: &mut BTreeMap<K, V>, key: K) -> Op
 fn get<K: Ord + TryClone, V: TryClone>(map: &BTreeMap<K, V>, key: &K) -> Reply<K, V>
     requires copied { V.can_clone }
     requires same { IsExact V.same }
-    ensures { (o : Map K V) → StepOn K.cmp K.may_refuse V.may_refuse (MapCommand.Get key.now) map.now o result map.now o }
+    ensures { (o : Map K V Global) → StepOn K.cmp K.may_refuse V.may_refuse (MapCommand.Get key.now) map.now o result map.now o }
 {
     match map.get(key) {
         Some(value) => match value.try_clone() {
@@ -406,7 +406,7 @@ fn get<K: Ord + TryClone, V: TryClone>(map: &BTreeMap<K, V>, key: &K) -> Reply<K
 fn get_key_value<K: Ord + TryClone, V: TryClone>(map: &BTreeMap<K, V>, key: &K) -> Reply<K, V>
     requires copied { K.can_clone × V.can_clone }
     requires same { IsExact K.same × IsExact V.same }
-    ensures { (o : Map K V) → StepOn K.cmp K.may_refuse V.may_refuse (MapCommand.GetKeyValue key.now) map.now o result map.now o }
+    ensures { (o : Map K V Global) → StepOn K.cmp K.may_refuse V.may_refuse (MapCommand.GetKeyValue key.now) map.now o result map.now o }
 {
     match map.get_key_value(key) {
         Some((held, value)) => match copy_pair(held, value) {

@@ -1,7 +1,7 @@
 use Rattle.fc_tree_node.specs.TreePlace.{before_gap_in, after_gap_in}
 use Rattle.fc_map.proofs.EntryFacts.{put_written}
 use Rattle.fc_map.proofs.ReadyFacts.{put_list}
-use Rattle.fc_map.proofs.map.entry.ready.calls.ReadyEntry+K+V.insert_entry.Goals as goal
+use Rattle.fc_map.proofs.map.entry.ready.calls.ReadyEntry+K+V+A.insert_entry.Goals as goal
 
 pub returns-clause-put : goal.returns-clause-put
 returns-clause-put g c =

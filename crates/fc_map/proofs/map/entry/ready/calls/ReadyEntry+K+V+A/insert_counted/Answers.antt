@@ -3,7 +3,7 @@ use Rattle.std.specs.Option.{option_map}
 use Rattle.fc_tree_node.specs.TreePlace.{before_gap_in, after_gap_in}
 use Rattle.fc_map.proofs.CountFacts.{only_moved}
 use Rattle.fc_map.proofs.EntryFacts.{put_place, put_written}
-use Rattle.fc_map.proofs.map.entry.ready.calls.ReadyEntry+K+V.insert_counted.Goals as goal
+use Rattle.fc_map.proofs.map.entry.ready.calls.ReadyEntry+K+V+A.insert_counted.Goals as goal
 
 pub returns : goal.returns
 returns g c =
