@@ -1,4 +1,5 @@
 //! Standard input and output that take turns: what was written goes out before the next read.
+#![tactic(auto)]
 
 use std::cell::RefCell;
 use std::io::{self, ErrorKind, Read, Write};
