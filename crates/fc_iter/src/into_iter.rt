@@ -15,7 +15,6 @@ use std::marker::Model;
 
 /// The pairs of a map by value, seen as the list of those that are left. It compares nothing, takes no memory, and drops what is
 /// left. Upstream: `btree_map::IntoIter`.
-#[derive(Drop)]
 pub struct IntoIter<K, V, A: Handle = Global> {
     drain: Drain<K, V, A>,
     left: usize,
@@ -29,6 +28,14 @@ impl<K, V, A: Handle> Model for IntoIter<K, V, A> {
     ghost view = { λ a. a.drain };
 
     ghost invariant = { λ a. a.left ≡ length a.drain };
+}
+
+// By hand, so that who drops a walk owes its size for the types there, and not for any allocator.
+impl<K: Drop, V: Drop, A: Handle> Drop for IntoIter<K, V, A> {
+    fn drop(self) {
+        let IntoIter { drain, left: _ } = self;
+        drop(drain);
+    }
 }
 
 impl<K, V, A: Handle> IntoIter<K, V, A> {

@@ -13,7 +13,6 @@ use std::marker::Model;
 
 /// The keys of a map by value, in ascending order, seen as the list of those that are left. A key's value is dropped as the key is given out.
 /// It compares nothing, takes no memory, and drops what is left. Not in upstream: it is that of std's map.
-#[derive(Drop)]
 pub struct IntoKeys<K, V, A: Handle = Global> {
     pairs: IntoIter<K, V, A>,
 }
@@ -25,6 +24,14 @@ impl<K, V, A: Handle> Model for IntoKeys<K, V, A> {
     ghost Value = { List K };
 
     ghost view = { λ w. keys_of w.pairs };
+}
+
+// By hand, as `IntoIter`'s.
+impl<K: Drop, V: Drop, A: Handle> Drop for IntoKeys<K, V, A> {
+    fn drop(self) {
+        let IntoKeys { pairs } = self;
+        drop(pairs);
+    }
 }
 
 impl<K, V, A: Handle> IntoKeys<K, V, A> {

@@ -13,7 +13,6 @@ use std::marker::Model;
 
 /// The values of a map by value, in ascending order of their keys, seen as the list of those that are left. A value's key is dropped as the value is given out.
 /// It compares nothing, takes no memory, and drops what is left. Not in upstream: it is that of std's map.
-#[derive(Drop)]
 pub struct IntoValues<K, V, A: Handle = Global> {
     pairs: IntoIter<K, V, A>,
 }
@@ -25,6 +24,14 @@ impl<K, V, A: Handle> Model for IntoValues<K, V, A> {
     ghost Value = { List V };
 
     ghost view = { λ w. values_of w.pairs };
+}
+
+// By hand, as `IntoIter`'s.
+impl<K: Drop, V: Drop, A: Handle> Drop for IntoValues<K, V, A> {
+    fn drop(self) {
+        let IntoValues { pairs } = self;
+        drop(pairs);
+    }
 }
 
 impl<K, V, A: Handle> IntoValues<K, V, A> {

@@ -92,7 +92,6 @@ impl<'a, T, A: Handle> FusedIterator for Iter<'a, T, A> {}
 
 /// The items of a set by value, seen as the list of those that are left. It compares nothing, takes no memory, and drops what is left.
 /// Upstream: `btree_set::IntoIter`.
-#[derive(Drop)]
 pub struct IntoIter<T, A: Handle = Global> {
     pairs: map::IntoIter<T, (), A>,
 }
@@ -103,6 +102,14 @@ impl<T, A: Handle> Model for IntoIter<T, A> {
     ghost Value = { List T };
 
     ghost view = { λ w. map (λ e. e.0) w.pairs };
+}
+
+// By hand, as that of a map's walk.
+impl<T: Drop, A: Handle> Drop for IntoIter<T, A> {
+    fn drop(self) {
+        let IntoIter { pairs } = self;
+        drop(pairs);
+    }
 }
 
 impl<T, A: Handle> IntoIter<T, A> {
