@@ -1,6 +1,4 @@
 pub mod Above
 pub mod SpineFacts
-pub mod StackSizes
 pub mod Builders
 pub mod Ends
-pub mod GrownFacts

@@ -9,22 +9,21 @@ ghost use Rattle.fc_tree_build.specs.Spine.{IsLastPair, IsOpenEnd, IsSpine, leve
 ghost use Rattle.fc_tree_build.specs.Spares.{own_count, worth, needed};
 
 use crate::spares::take_spare;
-use fc_base::{Count, Handle};
+use fc_base::Count;
 use fc_tree_drain::stack::Stack;
 use fc_tree_node::node::{CAPACITY, Node};
-use std::alloc::Global;
 
 /// The nodes on the right edge of a tree, from the root down, each without its last child: that is the next one, or what comes
 /// below the last of them.
-pub type Spine<K, V, A: Handle = Global> = Stack<Node<K, V, A>>;
+pub type Spine<K, V> = Stack<Node<K, V>>;
 
 /// Puts a subtree at the spine's end, and the pair that comes after it: both go into the lowest node with room. The full nodes
 /// below that one are closed, and blank ones take their places; where all are full there is a new root.
-pub fn attach<K: Drop, V: Drop, A: Handle>(
-    spine: &mut Spine<K, V, A>,
-    subtree: Node<K, V, A>,
+pub fn attach<K: Drop, V: Drop>(
+    spine: &mut Spine<K, V>,
+    subtree: Node<K, V>,
     pair: (K, V),
-    spares: &mut Vec<Node<K, V, A>, A>,
+    spares: &mut Vec<Node<K, V>>,
 )
     requires levels { (h : ℕ) × IsSpine h spine.old × IsSound h subtree }
     requires blank { AllByRecursion (λ b. IsBlankInner b) spares.old.items }
@@ -50,9 +49,9 @@ pub fn attach<K: Drop, V: Drop, A: Handle>(
 }
 
 /// The same where the spine's last node has room.
-pub(crate) fn put_in_room<K: Drop, V: Drop, A: Handle>(
-    spine: &mut Spine<K, V, A>,
-    subtree: Node<K, V, A>,
+pub(crate) fn put_in_room<K: Drop, V: Drop>(
+    spine: &mut Spine<K, V>,
+    subtree: Node<K, V>,
     pair: (K, V),
 )
     requires levels { IsSpine 0 spine.old × IsSound 0 subtree }
@@ -69,10 +68,7 @@ pub(crate) fn put_in_room<K: Drop, V: Drop, A: Handle>(
 }
 
 /// The tree with the spine on its right edge and `last` below it.
-pub fn close<K: Drop, V: Drop, A: Handle>(
-    spine: &mut Spine<K, V, A>,
-    last: Node<K, V, A>,
-) -> Node<K, V, A>
+pub fn close<K: Drop, V: Drop>(spine: &mut Spine<K, V>, last: Node<K, V>) -> Node<K, V>
     requires levels { (h : ℕ) × IsSpine h spine.old × IsRightBordered h last }
     ensures pairs { pairs_of result ≡ before_back spine.old ++ pairs_of last }
     ensures levels { (h : ℕ) → IsSpine h spine.old → IsRightBordered h last → IsRightBordered (level_above h spine.old) result }
@@ -86,7 +82,7 @@ pub fn close<K: Drop, V: Drop, A: Handle>(
 }
 
 /// Whether the spine's last node has room for one more subtree.
-pub(crate) fn has_room<K, V, A: Handle>(spine: &Spine<K, V, A>) -> bool
+pub(crate) fn has_room<K, V>(spine: &Spine<K, V>) -> bool
     ensures { IsTrue result → needed spine.now ≡ 0 }
 {
     let len = spine.len();
@@ -94,7 +90,7 @@ pub(crate) fn has_room<K, V, A: Handle>(spine: &Spine<K, V, A>) -> bool
 }
 
 /// How many inner nodes one more subtree at the spine's end takes.
-pub(crate) fn needed<K, V, A: Handle>(spine: &Spine<K, V, A>) -> usize
+pub(crate) fn needed<K, V>(spine: &Spine<K, V>) -> usize
     ensures { result ≡ needed spine.now }
 {
     let mut count = 1;
@@ -109,7 +105,7 @@ pub(crate) fn needed<K, V, A: Handle>(spine: &Spine<K, V, A>) -> usize
 }
 
 /// The last of the pairs in the spine's nodes; none where they hold no pair.
-pub(crate) fn last_of<K, V, A: Handle>(spine: &Spine<K, V, A>) -> Option<&(K, V)>
+pub(crate) fn last_of<K, V>(spine: &Spine<K, V>) -> Option<&(K, V)>
     requires { (h : ℕ) × IsSpine h spine.now }
     ensures { IsLastPair (before_back spine.now) result }
 {
@@ -124,10 +120,7 @@ pub(crate) fn last_of<K, V, A: Handle>(spine: &Spine<K, V, A>) -> Option<&(K, V)
 }
 
 /// Goes down to the last leaf, which it answers, and puts each node on the way at the spine's end, without its last child.
-pub(crate) fn open_right<K: Drop, V: Drop, A: Handle>(
-    spine: &mut Spine<K, V, A>,
-    node: Node<K, V, A>,
-) -> Node<K, V, A>
+pub(crate) fn open_right<K: Drop, V: Drop>(spine: &mut Spine<K, V>, node: Node<K, V>) -> Node<K, V>
     requires levels { (h : ℕ) × IsSoundRoot h node × IsSpine h spine.old × (length spine.old + h ≤ most_height) }
     ensures pairs { before_back spine.new ++ own_pairs result ≡ before_back spine.old ++ pairs_of node }
     ensures leaf { (length (own_pairs result) ≤ capacity) × IsLeaf result }
@@ -143,10 +136,7 @@ pub(crate) fn open_right<K: Drop, V: Drop, A: Handle>(
 }
 
 // Takes the spine's last node out, or a blank one where it has none.
-fn open_end<K: Drop, V: Drop, A: Handle>(
-    spine: &mut Spine<K, V, A>,
-    spares: &mut Vec<Node<K, V, A>, A>,
-) -> Node<K, V, A>
+fn open_end<K: Drop, V: Drop>(spine: &mut Spine<K, V>, spares: &mut Vec<Node<K, V>>) -> Node<K, V>
     requires blank { AllByRecursion (λ b. IsBlankInner b) spares.old.items }
     requires some { 0 < length spine.old + length spares.old.items }
     ensures pairs { before_back spine.old ≡ before_back spine.new ++ before_back_in result }
@@ -169,7 +159,7 @@ fn open_end<K: Drop, V: Drop, A: Handle>(
 }
 
 // Puts a child at the node's end.
-fn put_child<K: Drop, V: Drop, A: Handle>(node: &mut Node<K, V, A>, child: Node<K, V, A>)
+fn put_child<K: Drop, V: Drop>(node: &mut Node<K, V>, child: Node<K, V>)
     requires inner { IsLeaf node.old → ⊥ }
     requires room { length (children_of node.old) ≤ capacity }
     ensures pairs { own_pairs node.new ≡ own_pairs node.old }
@@ -183,7 +173,7 @@ fn put_child<K: Drop, V: Drop, A: Handle>(node: &mut Node<K, V, A>, child: Node<
 }
 
 /// Puts a pair at the node's end. Its children stay.
-pub(crate) fn put_pair<K: Drop, V: Drop, A: Handle>(node: &mut Node<K, V, A>, pair: (K, V))
+pub(crate) fn put_pair<K: Drop, V: Drop>(node: &mut Node<K, V>, pair: (K, V))
     requires room { length (own_pairs node.old) < capacity }
     ensures pairs { own_pairs node.new ≡ own_pairs node.old ++ pair ∷ [] }
     ensures children { children_of node.new ≡ children_of node.old }

@@ -1,4 +1,3 @@
 pub mod Cells
 pub mod Ends
 pub mod Opening
-pub mod Sizes

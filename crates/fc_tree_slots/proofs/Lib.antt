@@ -1,4 +1,5 @@
 mod Crossing
+mod Heap
 mod Laid
 mod Memory
 mod Opening

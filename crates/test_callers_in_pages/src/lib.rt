@@ -2,8 +2,6 @@
 #![tactic(auto)]
 
 #[cfg(test)]
-mod budgets;
-#[cfg(test)]
 mod refusals;
 #[cfg(test)]
 mod set_room;

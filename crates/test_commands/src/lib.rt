@@ -4,8 +4,6 @@
 #![tactic(auto)]
 
 #[cfg(test)]
-mod budgets;
-#[cfg(test)]
 mod copies;
 #[cfg(test)]
 mod lists;

@@ -4,19 +4,18 @@ ghost use Rattle.fc_iter.specs.Walks.{keys_of};
 ghost use Rattle.std.specs.Iterator.{YieldsFirstRef, YieldsLastRef, UpTo, at_most, item_count};
 
 use super::Iter;
-use fc_base::Handle;
-use std::alloc::{AllocError, Global};
+use std::alloc::AllocError;
 use std::iter::FusedIterator;
 use std::marker::Model;
 
 /// The keys that are still to come, in ascending order. `next` gives the first of them and `next_back` the last; once there is
 /// none, both answer `None` ever after. No call compares keys or takes memory. Upstream: `btree_map::Keys`.
 #[derive(Drop)]
-pub struct Keys<'a, K, V, A: Handle = Global> {
-    pairs: Iter<'a, K, V, A>,
+pub struct Keys<'a, K, V> {
+    pairs: Iter<'a, K, V>,
 }
 
-impl<'a, K, V, A: Handle> Model for Keys<'a, K, V, A> {
+impl<'a, K, V> Model for Keys<'a, K, V> {
     ghost use Rattle.std.specs.Prelude.{List};
     ghost use Rattle.fc_iter.specs.Walks.{keys_of};
 
@@ -25,9 +24,9 @@ impl<'a, K, V, A: Handle> Model for Keys<'a, K, V, A> {
     ghost view = { λ w. keys_of w.pairs };
 }
 
-impl<'a, K, V, A: Handle> Keys<'a, K, V, A> {
+impl<'a, K, V> Keys<'a, K, V> {
     /// The keys of the pairs still to come.
-    pub fn of(pairs: Iter<'a, K, V, A>) -> Keys<'a, K, V, A>
+    pub fn of(pairs: Iter<'a, K, V>) -> Keys<'a, K, V>
         ensures { result ≡ keys_of pairs.entry }
     {
         Keys { pairs }
@@ -41,20 +40,20 @@ impl<'a, K, V, A: Handle> Keys<'a, K, V, A> {
     }
 }
 
-impl<'a, K, V, A: Handle> Clone for Keys<'a, K, V, A> {
+impl<'a, K, V> Clone for Keys<'a, K, V> {
     ghost is_clone = { λ s r. r ≡ s };
 
     ghost is_infallible = { λ _. ⊤ };
 
     /// A second walk over the keys still to come, which takes no memory.
-    fn clone(&self) -> Result<Keys<'a, K, V, A>, AllocError> {
+    fn clone(&self) -> Result<Keys<'a, K, V>, AllocError> {
         Ok(Keys {
             pairs: self.pairs.clone()?,
         })
     }
 }
 
-impl<'a, K, V, A: Handle> Iterator for Keys<'a, K, V, A> {
+impl<'a, K, V> Iterator for Keys<'a, K, V> {
     type Item = &'a K;
 
     ghost next_gives = { YieldsFirstRef (λ s. s) };
@@ -76,7 +75,7 @@ impl<'a, K, V, A: Handle> Iterator for Keys<'a, K, V, A> {
     }
 }
 
-impl<'a, K, V, A: Handle> DoubleEndedIterator for Keys<'a, K, V, A> {
+impl<'a, K, V> DoubleEndedIterator for Keys<'a, K, V> {
     ghost next_back_gives = { YieldsLastRef (λ s. s) };
 
     fn next_back(&mut self) -> Option<&'a K> {
@@ -85,10 +84,10 @@ impl<'a, K, V, A: Handle> DoubleEndedIterator for Keys<'a, K, V, A> {
     }
 }
 
-impl<'a, K, V, A: Handle> ExactSizeIterator for Keys<'a, K, V, A> {
+impl<'a, K, V> ExactSizeIterator for Keys<'a, K, V> {
     fn len(&self) -> usize {
         self.pairs.len()
     }
 }
 
-impl<'a, K, V, A: Handle> FusedIterator for Keys<'a, K, V, A> {}
+impl<'a, K, V> FusedIterator for Keys<'a, K, V> {}

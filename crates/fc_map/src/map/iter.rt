@@ -5,12 +5,11 @@ ghost use Rattle.fc_map.specs.Entries.{entries};
 ghost use Rattle.fc_map.specs.Walks.{keys_of, values_of};
 
 use super::BTreeMap;
-use fc_base::Handle;
 pub use fc_iter::iter::{Iter, Keys, Values};
 
-impl<K: Ord, V, A: Handle> BTreeMap<K, V, A> {
+impl<K: Ord, V> BTreeMap<K, V> {
     /// A walk over all pairs, in ascending order of their keys. Upstream: `BTreeMap::iter`.
-    pub fn iter(&self) -> Iter<'_, K, V, A>
+    pub fn iter(&self) -> Iter<'_, K, V>
         ensures pairs { result ≡ entries self.now }
         ensures ascending { IsAscending K.cmp result }
     {
@@ -18,7 +17,7 @@ impl<K: Ord, V, A: Handle> BTreeMap<K, V, A> {
     }
 
     /// A walk over all keys, in ascending order. Upstream: `BTreeMap::keys`.
-    pub fn keys(&self) -> Keys<'_, K, V, A>
+    pub fn keys(&self) -> Keys<'_, K, V>
         ensures keys { result ≡ keys_of (entries self.now) }
         ensures ascending { IsAscending K.cmp (entries self.now) }
     {
@@ -26,7 +25,7 @@ impl<K: Ord, V, A: Handle> BTreeMap<K, V, A> {
     }
 
     /// A walk over all values, in ascending order of their keys. Upstream: `BTreeMap::values`.
-    pub fn values(&self) -> Values<'_, K, V, A>
+    pub fn values(&self) -> Values<'_, K, V>
         ensures values { result ≡ values_of (entries self.now) }
         ensures ascending { IsAscending K.cmp (entries self.now) }
     {
@@ -34,14 +33,14 @@ impl<K: Ord, V, A: Handle> BTreeMap<K, V, A> {
     }
 }
 
-impl<'a, K: Ord, V, A: Handle> IntoIterator for &'a BTreeMap<K, V, A> {
+impl<'a, K: Ord, V> IntoIterator for &'a BTreeMap<K, V> {
     type Item = (&'a K, &'a V);
 
-    type IntoIter = Iter<'a, K, V, A>;
+    type IntoIter = Iter<'a, K, V>;
 
     ghost into_iter_gives = { λ map walk. walk ≡ entries map.now };
 
-    fn into_iter(self) -> Iter<'a, K, V, A> {
+    fn into_iter(self) -> Iter<'a, K, V> {
         self.iter()
     }
 }

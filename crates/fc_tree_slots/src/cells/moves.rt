@@ -5,9 +5,8 @@ ghost use Rattle.fc_tree_slots.specs.Cells.{row, HasRow};
 use super::Cells;
 use fc_base::Count;
 use fc_base::count::add_moves;
-use std::alloc::Allocator;
 
-impl<T, A: Allocator> Cells<T, A> {
+impl<T> Cells<T> {
     /// Moves the items from `from` to `end` down by `by` cells, which are empty.
     pub(crate) fn shift_down(&mut self, from: usize, by: usize, end: usize, count: &mut Count)
         requires in_order { (by ≤ from) × (from ≤ end) }
@@ -46,7 +45,7 @@ impl<T, A: Allocator> Cells<T, A> {
     pub(crate) fn carry(
         &mut self,
         from: usize,
-        target: &mut Cells<T, A>,
+        target: &mut Cells<T>,
         to: usize,
         end: usize,
         count: &mut Count,

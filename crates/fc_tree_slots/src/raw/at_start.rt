@@ -3,21 +3,20 @@ ghost use Rattle.std.specs.Prelude.{◌≡◌, ◌<◌, Some, None, length, get_
 ghost use Rattle.fc_tree_slots.specs.Cells.{IsPresent};
 
 use super::Row;
-use std::alloc::Allocator;
 
-impl<T, A: Allocator> Row<T, A> {
+impl<T> Row<T> {
     /// Where the row begins. A loop that writes keeps that at hand: the row is behind a `&mut`, and the compiler has to think that what is
     /// written may change it.
     pub(crate) fn start(&self) -> *mut T
         ensures { result ≡ self.now.start }
     {
-        self.start as *mut T
+        self.start
     }
 
     /// Moves the item at `index` out.
     pub(crate) fn take_from(&mut self, start: *mut T, index: usize) -> T
         requires { (start ≡ self.old.start) × IsPresent self.old.held index }
-        ensures { (get_or self.old.held index None ≡ Some result) × (self.new.held ≡ slice_set self.old.held index None) × (self.new.start ≡ self.old.start) × (self.new.alloc ≡ self.old.alloc) }
+        ensures { (get_or self.old.held index None ≡ Some result) × (self.new.held ≡ slice_set self.old.held index None) × (self.new.start ≡ self.old.start) }
     {
         unsafe { start.add(index).read() }
     }
@@ -25,7 +24,7 @@ impl<T, A: Allocator> Row<T, A> {
     /// Moves `item` into the place at `index`, which is empty.
     pub(crate) fn set_from(&mut self, start: *mut T, index: usize, item: T)
         requires { (start ≡ self.old.start) × (index < length self.old.held) × (get_or self.old.held index None ≡ None) }
-        ensures { (self.new.held ≡ slice_set self.old.held index (Some item)) × (self.new.start ≡ self.old.start) × (self.new.alloc ≡ self.old.alloc) }
+        ensures { (self.new.held ≡ slice_set self.old.held index (Some item)) × (self.new.start ≡ self.old.start) }
     {
         unsafe { start.add(index).write(item) }
     }

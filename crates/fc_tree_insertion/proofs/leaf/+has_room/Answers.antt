@@ -24,13 +24,10 @@ has_room-requires g t c κs within =
         (
           search rules,
           (
-            search rules,
+            omega arith,
             (
-              omega arith,
-              (
-                subst (IsPath _) (sym c.child.ensures) s.onward,
-                subst (IsLevelled _) (sym c.child.ensures) b.1,
-              ),
+              subst (IsPath _) (sym c.child.ensures) s.onward,
+              subst (IsLevelled _) (sym c.child.ensures) b.1,
             ),
           ),
         ),

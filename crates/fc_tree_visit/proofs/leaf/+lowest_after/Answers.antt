@@ -26,13 +26,10 @@ lowest_after-requires g t c κs within =
         (
           search rules,
           (
-            search rules,
+            omega arith,
             (
-              omega arith,
-              (
-                subst (IsPath _) (sym c.child.ensures) s.onward,
-                (subst (IsLevelled _) (sym c.child.ensures) b.1, omega arith),
-              ),
+              subst (IsPath _) (sym c.child.ensures) s.onward,
+              (subst (IsLevelled _) (sym c.child.ensures) b.1, omega arith),
             ),
           ),
         ),
