@@ -3,7 +3,7 @@
 //! `btree` has the ordered map and the ordered set, `hashmap` a map by the hashes of its keys, `vec` vectors, collections that are made of an
 //! iterator's items, and bounded reading (`vec::std_io`), `boxed` and `rc` boxes and shared values, `format` printing, `command` a world of maps
 //! and sets behind commands and lines of text. The error of a refused call is `TryReserveError`; `TryClone` is for types whose copies may be
-//! refused; a `Query` is what keys are looked up by. `count` counts comparisons and moves for contracts alone.
+//! refused; a `Query` is what keys are looked up by; a `Handle` is what memory is taken from. `count` counts comparisons and moves for contracts alone.
 #![tactic(auto)]
 
 pub mod btree;
@@ -12,8 +12,8 @@ pub mod format;
 pub mod vec;
 
 pub use fc_base::{
-    FallibleBox, FallibleRc, Query, TryBox, TryClone, TryReserveError, boxed, query, rc, try_clone,
-    try_reserve_error,
+    FallibleBox, FallibleRc, Handle, Query, TryBox, TryClone, TryReserveError, boxed, handle,
+    query, rc, try_clone, try_reserve_error,
 };
 pub use fc_command::command;
 pub use fc_hash::{TryHashMap, hashmap};
