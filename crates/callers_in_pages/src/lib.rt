@@ -1,4 +1,4 @@
-//! The README's examples, in a crate that names `fallible_collections` alone.
+//! The README's examples, in a crate that names `fallible_collections` and `fc_budget` alone.
 #![tactic(auto)]
 
 ghost use Rattle.std.specs.Prelude.{◌≡◌, List, [], None, OnOk, IfOk, IfSome, IsOk, IsSome, OnErr, Some, string_bytes, decimal, unwrap_or, ◌+◌, ◌<◌};
@@ -7,6 +7,7 @@ ghost use Rattle.fallible_collections.specs.Words.{at, entries, extended, front,
 
 pub mod both;
 pub mod boxes;
+pub mod budgets;
 pub mod joins;
 pub mod neighbours;
 pub mod orders;

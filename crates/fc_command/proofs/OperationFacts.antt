@@ -66,7 +66,7 @@ module _ {S T : Type 0} (steps : S → Option (Bor T) → S → Type 0) where
         f.copied ∙ ap (map Some) (sym (f.parted ∙ ap (λ r. f.done ++ r) none ∙ append-nil f.done))
 
 -- where it was answered, exact copies are the items themselves
-pub exact_items : {K V : Type 0} (same : K → K → Type 0) → IsExact same → (r : Result (Map K V) TryReserveError) (s : List K)
+pub exact_items : {K V Z : Type 0} (same : K → K → Type 0) → IsExact same → (r : Result (Map K V Z) TryReserveError) (s : List K)
     → IfOk r (λ made. AllZip same s (items made)) → IfOk r (λ made. items made ≡ s)
 exact_items same exact (Ok made) s copied = same_from_all_zip same s (items made) copied exact
 exact_items same exact (Err e) s copied = tt

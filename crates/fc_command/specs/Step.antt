@@ -1,5 +1,6 @@
 -- What a command does to a world, and what it answers. `SetStep` has the table of commands on sets.
 use Rattle.std.specs.Prelude.{◌≡◌, ◌+◌, ◌-◌, ◌^◌, ◌<◌, min, ◌⊎◌, ⊤, List, [], ◌∷◌, length, None, is_some, IsTrue, if◌then◌else◌}
+use Rattle.std.specs.declared.alloc.Global.{Global}
 use Rattle.std.specs.declared.cmp.Ordering.{Ordering}
 use Rattle.fc_base.specs.declared.try_reserve_error.TryReserveError.{TryReserveError}
 use Rattle.fc_base.specs.declared.try_reserve_error.TryReserveError.TheVariants.{AllocError}
@@ -33,22 +34,22 @@ abbrev pub IsNew : {K V : Type 0} → World K V → Type 0
 IsNew w = (entries w.a ≡ []) × (entries w.b ≡ []) × (items w.s ≡ []) × (items w.t ≡ [])
 
 -- The map that a side names.
-abbrev pub named : {K V : Type 0} → Side → World K V → Map K V
+abbrev pub named : {K V : Type 0} → Side → World K V → Map K V Global
 named First w = w.a
 named Second w = w.b
 
 -- The other map.
-abbrev pub other : {K V : Type 0} → Side → World K V → Map K V
+abbrev pub other : {K V : Type 0} → Side → World K V → Map K V Global
 other First w = w.b
 other Second w = w.a
 
 -- The set that a side names.
-abbrev pub named_set : {K V : Type 0} → Side → World K V → Map K ⊤
+abbrev pub named_set : {K V : Type 0} → Side → World K V → Map K ⊤ Global
 named_set First w = w.s
 named_set Second w = w.t
 
 -- The other set.
-abbrev pub other_set : {K V : Type 0} → Side → World K V → Map K ⊤
+abbrev pub other_set : {K V : Type 0} → Side → World K V → Map K ⊤ Global
 other_set First w = w.t
 other_set Second w = w.s
 
@@ -124,7 +125,7 @@ module _ {K V : Type 0} (cmp : K → K → Ordering) (refuses_key : K → TryRes
 
   -- A command on the named map m and the other map o is answered by the table, or it is refused and changes nothing, or it is refused
   -- when a part of it is done.
-  pub data StepOn (c : MapCommand K V) (m o : Map K V) (r : Reply K V) (m' o' : Map K V) : Type 0 where
+  pub data StepOn (c : MapCommand K V) (m o : Map K V Global) (r : Reply K V) (m' o' : Map K V Global) : Type 0 where
     answered : (MustRefuse cmp c (entries m) (entries o) → ⊥) → (let out = answer cmp c (entries m) (entries o) in (r ≡ out.reply) × (entries m' ≡ out.m) × (entries o' ≡ out.o)) → StepOn c m o r m' o'
     refused : (e : TryReserveError) → MayRefuseCommand c (entries m) (entries o) e → (r ≡ refusal c e) × (m' ≡ m) × (o' ≡ o) → StepOn c m o r m' o'
     stopped : (e : TryReserveError) → MayStop cmp c (entries m) (entries m') e → (r ≡ Refused e) × (o' ≡ o) → StepOn c m o r m' o'

@@ -8,5 +8,5 @@ mod world;
 
 pub use fc_lines::command::{Command, End, Reply, SetOp, Side};
 pub use fc_lines::items::Items;
-pub use session::{ServeEnd, ServeError, ending, serve};
+pub use session::{ServeEnd, ServeError, ending, serve, serve_within};
 pub use world::World;

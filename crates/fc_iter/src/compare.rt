@@ -5,10 +5,14 @@ ghost use Rattle.std.specs.Ordering.{ordering_then, partial_ordering_then};
 ghost use Rattle.fc_iter.specs.Compare.{pair_eq, pair_cmp, pair_partial_cmp};
 
 use crate::iter::Iter;
+use fc_base::Handle;
 use std::cmp::Ordering;
 
 /// Whether both walks give as many pairs, equal in order.
-pub fn are_equal<K: PartialEq, V: PartialEq>(mine: Iter<'_, K, V>, theirs: Iter<'_, K, V>) -> bool
+pub fn are_equal<K: PartialEq, V: PartialEq, A: Handle>(
+    mine: Iter<'_, K, V, A>,
+    theirs: Iter<'_, K, V, A>,
+) -> bool
     ensures { result ≡ pointwise (pair_eq K.eq V.eq) mine.entry theirs.entry }
 {
     if mine.len() != theirs.len() {
@@ -38,9 +42,9 @@ fn is_equal_pair<K: PartialEq, V: PartialEq>(
 }
 
 /// The order of the pairs that both walks give, or `None` where the first that are not equal do not compare.
-pub fn partial_order<K: PartialOrd, V: PartialOrd>(
-    mine: Iter<'_, K, V>,
-    theirs: Iter<'_, K, V>,
+pub fn partial_order<K: PartialOrd, V: PartialOrd, A: Handle>(
+    mine: Iter<'_, K, V, A>,
+    theirs: Iter<'_, K, V, A>,
 ) -> Option<Ordering>
     ensures { result ≡ slice_partial_cmp (pair_partial_cmp K.partial_cmp V.partial_cmp) mine.entry theirs.entry }
 {
@@ -85,7 +89,10 @@ fn partial_pair_order<K: PartialOrd, V: PartialOrd>(
 }
 
 /// The order of the pairs that both walks give.
-pub fn order<K: Ord, V: Ord>(mine: Iter<'_, K, V>, theirs: Iter<'_, K, V>) -> Ordering
+pub fn order<K: Ord, V: Ord, A: Handle>(
+    mine: Iter<'_, K, V, A>,
+    theirs: Iter<'_, K, V, A>,
+) -> Ordering
     ensures { result ≡ slice_cmp (pair_cmp K.cmp V.cmp) mine.entry theirs.entry }
 {
     let mut mine = mine;

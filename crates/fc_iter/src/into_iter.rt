@@ -6,20 +6,21 @@ ghost use Rattle.fc_tree_node.specs.Tree.{entries, IsSoundMap};
 
 mod debug;
 
+use fc_base::Handle;
 use fc_tree_drain::drain::Drain;
 use fc_tree_node::node::Node;
+use std::alloc::Global;
 use std::iter::FusedIterator;
 use std::marker::Model;
 
 /// The pairs of a map by value, seen as the list of those that are left. It compares nothing, takes no memory, and drops what is
 /// left. Upstream: `btree_map::IntoIter`.
-#[derive(Drop)]
-pub struct IntoIter<K, V> {
-    drain: Drain<K, V>,
+pub struct IntoIter<K, V, A: Handle = Global> {
+    drain: Drain<K, V, A>,
     left: usize,
 }
 
-impl<K, V> Model for IntoIter<K, V> {
+impl<K, V, A: Handle> Model for IntoIter<K, V, A> {
     ghost use Rattle.std.specs.Prelude.{◌≡◌, List, length};
 
     ghost Value = { List (K × V) };
@@ -29,7 +30,15 @@ impl<K, V> Model for IntoIter<K, V> {
     ghost invariant = { λ a. a.left ≡ length a.drain };
 }
 
-impl<K, V> IntoIter<K, V> {
+// By hand, so that who drops a walk owes its size for the types there, and not for any allocator.
+impl<K: Drop, V: Drop, A: Handle> Drop for IntoIter<K, V, A> {
+    fn drop(self) {
+        let IntoIter { drain, left: _ } = self;
+        drop(drain);
+    }
+}
+
+impl<K, V, A: Handle> IntoIter<K, V, A> {
     /// The number of pairs that are left. Upstream: `IntoIter::len`.
     pub fn len(&self) -> usize
         ensures { result ≡ length self.now }
@@ -38,9 +47,9 @@ impl<K, V> IntoIter<K, V> {
     }
 }
 
-impl<K: Drop, V: Drop> IntoIter<K, V> {
+impl<K: Drop, V: Drop, A: Handle> IntoIter<K, V, A> {
     /// A walk that takes a tree apart, of which there are `len` pairs.
-    pub fn over(root: Option<Node<K, V>>, len: usize) -> IntoIter<K, V>
+    pub fn over(root: Option<Node<K, V, A>>, len: usize) -> IntoIter<K, V, A>
         requires sound { IsSoundMap root }
         requires all { len ≡ length (entries root) }
         ensures { result ≡ entries root }
@@ -52,7 +61,7 @@ impl<K: Drop, V: Drop> IntoIter<K, V> {
     }
 }
 
-impl<K: Drop, V: Drop> Iterator for IntoIter<K, V> {
+impl<K: Drop, V: Drop, A: Handle> Iterator for IntoIter<K, V, A> {
     type Item = (K, V);
 
     ghost next_gives = { YieldsFirst (λ s. s) };
@@ -76,7 +85,7 @@ impl<K: Drop, V: Drop> Iterator for IntoIter<K, V> {
     }
 }
 
-impl<K: Drop, V: Drop> DoubleEndedIterator for IntoIter<K, V> {
+impl<K: Drop, V: Drop, A: Handle> DoubleEndedIterator for IntoIter<K, V, A> {
     ghost next_back_gives = { YieldsLast (λ s. s) };
 
     fn next_back(&mut self) -> Option<(K, V)> {
@@ -88,10 +97,10 @@ impl<K: Drop, V: Drop> DoubleEndedIterator for IntoIter<K, V> {
     }
 }
 
-impl<K: Drop, V: Drop> ExactSizeIterator for IntoIter<K, V> {
+impl<K: Drop, V: Drop, A: Handle> ExactSizeIterator for IntoIter<K, V, A> {
     fn len(&self) -> usize {
         self.left
     }
 }
 
-impl<K: Drop, V: Drop> FusedIterator for IntoIter<K, V> {}
+impl<K: Drop, V: Drop, A: Handle> FusedIterator for IntoIter<K, V, A> {}

@@ -6,10 +6,11 @@ ghost use Rattle.std.specs.Iterator.{YieldsFirstBy, YieldsLastBy, UpTo, at_most,
 mod keys;
 mod values;
 
+use fc_base::Handle;
 use fc_tree_node::node::Node;
 use fc_tree_walk::span::Span;
 pub use keys::Keys;
-use std::alloc::AllocError;
+use std::alloc::{AllocError, Global};
 use std::iter::FusedIterator;
 use std::marker::Model;
 pub use values::Values;
@@ -17,12 +18,12 @@ pub use values::Values;
 /// The pairs that are still to come, in ascending order of their keys. `next` gives the first of them and `next_back` the last;
 /// once there is none, both answer `None` ever after. No call compares keys or takes memory. Upstream: `btree_map::Iter`.
 #[derive(Drop)]
-pub struct Iter<'a, K, V> {
-    span: Span<'a, K, V>,
+pub struct Iter<'a, K, V, A: Handle = Global> {
+    span: Span<'a, K, V, A>,
     left: usize,
 }
 
-impl<'a, K, V> Model for Iter<'a, K, V> {
+impl<'a, K, V, A: Handle> Model for Iter<'a, K, V, A> {
     ghost use Rattle.std.specs.Prelude.{◌≡◌, List, length};
 
     ghost Value = { List (K × V) };
@@ -32,9 +33,9 @@ impl<'a, K, V> Model for Iter<'a, K, V> {
     ghost invariant = { λ w. w.left ≡ length w.span };
 }
 
-impl<'a, K, V> Iter<'a, K, V> {
+impl<'a, K, V, A: Handle> Iter<'a, K, V, A> {
     /// A walk over all pairs of a tree, of which there are `len`.
-    pub fn over(root: &'a Option<Node<K, V>>, len: usize) -> Iter<'a, K, V>
+    pub fn over(root: &'a Option<Node<K, V, A>>, len: usize) -> Iter<'a, K, V, A>
         requires sound { IsSoundMap root.now }
         requires all { len ≡ length (entries root.now) }
         ensures { result ≡ entries root.now }
@@ -53,13 +54,13 @@ impl<'a, K, V> Iter<'a, K, V> {
     }
 }
 
-impl<'a, K, V> Clone for Iter<'a, K, V> {
+impl<'a, K, V, A: Handle> Clone for Iter<'a, K, V, A> {
     ghost is_clone = { λ s r. r ≡ s };
 
     ghost is_infallible = { λ _. ⊤ };
 
     /// A second walk over the pairs still to come, which takes no memory.
-    fn clone(&self) -> Result<Iter<'a, K, V>, AllocError> {
+    fn clone(&self) -> Result<Iter<'a, K, V, A>, AllocError> {
         Ok(Iter {
             span: self.span.copied(),
             left: self.left,
@@ -67,7 +68,7 @@ impl<'a, K, V> Clone for Iter<'a, K, V> {
     }
 }
 
-impl<'a, K, V> Iterator for Iter<'a, K, V> {
+impl<'a, K, V, A: Handle> Iterator for Iter<'a, K, V, A> {
     ghost use Rattle.fc_iter.specs.Walks.{deref_pair};
 
     type Item = (&'a K, &'a V);
@@ -95,7 +96,7 @@ impl<'a, K, V> Iterator for Iter<'a, K, V> {
     }
 }
 
-impl<'a, K, V> DoubleEndedIterator for Iter<'a, K, V> {
+impl<'a, K, V, A: Handle> DoubleEndedIterator for Iter<'a, K, V, A> {
     ghost use Rattle.fc_iter.specs.Walks.{deref_pair};
 
     ghost next_back_gives = { YieldsLastBy deref_pair (λ s. s) };
@@ -110,10 +111,10 @@ impl<'a, K, V> DoubleEndedIterator for Iter<'a, K, V> {
     }
 }
 
-impl<'a, K, V> ExactSizeIterator for Iter<'a, K, V> {
+impl<'a, K, V, A: Handle> ExactSizeIterator for Iter<'a, K, V, A> {
     fn len(&self) -> usize {
         self.left
     }
 }
 
-impl<'a, K, V> FusedIterator for Iter<'a, K, V> {}
+impl<'a, K, V, A: Handle> FusedIterator for Iter<'a, K, V, A> {}

@@ -5,10 +5,10 @@ ghost use Rattle.fc_base.specs.Ranges.{bound_by, within};
 ghost use Rattle.fc_tree_node.specs.Tree.{entries, IsSoundMap};
 ghost use Rattle.std.specs.Iterator.{YieldsFirstBy, YieldsLastBy, item_count, UpTo, at_most};
 
-use fc_base::Query;
+use fc_base::{Handle, Query};
 use fc_tree_node::node::Node;
 use fc_tree_walk::span::Span;
-use std::alloc::AllocError;
+use std::alloc::{AllocError, Global};
 use std::iter::FusedIterator;
 use std::marker::Model;
 use std::ops::Bound;
@@ -17,11 +17,11 @@ use std::ops::Bound;
 /// the last; once there is none, both answer `None` ever after. No call compares keys or takes memory. Upstream:
 /// `btree_map::Range`.
 #[derive(Drop)]
-pub struct Range<'a, K, V> {
-    span: Span<'a, K, V>,
+pub struct Range<'a, K, V, A: Handle = Global> {
+    span: Span<'a, K, V, A>,
 }
 
-impl<'a, K, V> Model for Range<'a, K, V> {
+impl<'a, K, V, A: Handle> Model for Range<'a, K, V, A> {
     ghost use Rattle.std.specs.Prelude.{List};
 
     ghost Value = { List (K × V) };
@@ -29,13 +29,13 @@ impl<'a, K, V> Model for Range<'a, K, V> {
     ghost view = { λ w. w.span };
 }
 
-impl<'a, K: Ord, V> Range<'a, K, V> {
+impl<'a, K: Ord, V, A: Handle> Range<'a, K, V, A> {
     /// A walk over the pairs of a tree whose keys lie within both bounds.
     pub fn within<Q: Query<K>>(
-        root: &'a Option<Node<K, V>>,
+        root: &'a Option<Node<K, V, A>>,
         lo: &Bound<Q>,
         hi: &Bound<Q>,
-    ) -> Range<'a, K, V>
+    ) -> Range<'a, K, V, A>
         requires sound { IsSoundMap root.now }
         requires ascending { IsAscending K.cmp (entries root.now) }
         ensures { result ≡ within Q.order (bound_by Q.sought lo.now) (bound_by Q.sought hi.now) (entries root.now) }
@@ -46,20 +46,20 @@ impl<'a, K: Ord, V> Range<'a, K, V> {
     }
 }
 
-impl<'a, K, V> Clone for Range<'a, K, V> {
+impl<'a, K, V, A: Handle> Clone for Range<'a, K, V, A> {
     ghost is_clone = { λ s r. r ≡ s };
 
     ghost is_infallible = { λ _. ⊤ };
 
     /// A second walk over the pairs still to come, which takes no memory.
-    fn clone(&self) -> Result<Range<'a, K, V>, AllocError> {
+    fn clone(&self) -> Result<Range<'a, K, V, A>, AllocError> {
         Ok(Range {
             span: self.span.copied(),
         })
     }
 }
 
-impl<'a, K, V> Iterator for Range<'a, K, V> {
+impl<'a, K, V, A: Handle> Iterator for Range<'a, K, V, A> {
     ghost use Rattle.fc_iter.specs.Walks.{deref_pair};
 
     type Item = (&'a K, &'a V);
@@ -86,7 +86,7 @@ impl<'a, K, V> Iterator for Range<'a, K, V> {
     }
 }
 
-impl<'a, K, V> DoubleEndedIterator for Range<'a, K, V> {
+impl<'a, K, V, A: Handle> DoubleEndedIterator for Range<'a, K, V, A> {
     ghost use Rattle.fc_iter.specs.Walks.{deref_pair};
 
     ghost next_back_gives = { YieldsLastBy deref_pair (λ s. s) };
@@ -100,4 +100,4 @@ impl<'a, K, V> DoubleEndedIterator for Range<'a, K, V> {
     }
 }
 
-impl<'a, K, V> FusedIterator for Range<'a, K, V> {}
+impl<'a, K, V, A: Handle> FusedIterator for Range<'a, K, V, A> {}

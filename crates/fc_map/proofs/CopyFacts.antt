@@ -44,16 +44,16 @@ module _ {K V : Type 0} (cmp : K → K → Ordering) (total : IsTotalOrder cmp) 
   ascending_copied (p ∷ s) [] z a = absurd z
   ascending_copied (p ∷ s) (q ∷ t) z a = (later_copied p.0 q.0 z.0.0 s t z.1 a.0, ascending_copied s t z.1 a.1)
 
-module _ {K V : Type 0} where
+module _ {K V Z : Type 0} where
   -- The copy of a sound tree is sound.
-  pub sound_copied : (same : K × V → K × V → Type 0) (n m : Node K V) → IsCopy same n m → IsSoundMap (Some n) → IsSoundMap (Some m)
+  pub sound_copied : (same : K × V → K × V → Type 0) (n m : Node K V Z) → IsCopy same n m → IsSoundMap (Some n) → IsSoundMap (Some m)
   sound_copied same n m copy sound =
       let many = length_all_zip same (own_pairs n) (own_pairs m) copy.own in
       let one = sound.2.0 in
       (sound.0, sound.1, (omega (arith, many, one), copy.levels sound.0 sound.2.1))
 
   -- A tree has a pair.
-  pub has_pair : (n : Node K V) → IsSoundMap (Some n) → 0 < length (pairs_of n)
+  pub has_pair : (n : Node K V Z) → IsSoundMap (Some n) → 0 < length (pairs_of n)
   has_pair n sound =
       let deep = deep_root sound.0 n sound.2 in
       let low : 0 ≤ sound.0 = omega arith in

@@ -14,13 +14,13 @@ use Rattle.fc_tree_search.proofs.PassedFacts.{passed_bound}
 use Rattle.fc_map.specs.Counts.{IsBounded}
 use Rattle.fc_map.specs.Entries.{Map, entries, IsSoundMap}
 
-module _ {K V : Type 0} where
+module _ {K V Z : Type 0} where
   -- A tree has a pair.
-  pub some_pairs : (h : ℕ) (root : Node K V) → IsSoundRoot h root → 0 < length (pairs_of root)
+  pub some_pairs : (h : ℕ) (root : Node K V Z) → IsSoundRoot h root → 0 < length (pairs_of root)
   some_pairs h root s = let deep = deep_root h root s in let one = one-le-pow h least_children (lit< tt) in omega arith
 
   -- A look-up counts what its search passes.
-  pub looked_up : {Q : Type 0} (cmp : K → Q → Ordering) (k : Q) (m : Map K V) (root : Node K V) (old new : Count) → m ≡ Some root → IsSoundMap m
+  pub looked_up : {Q : Type 0} (cmp : K → Q → Ordering) (k : Q) (m : Map K V Z) (root : Node K V Z) (old new : Count) → m ≡ Some root → IsSoundMap m
       → new.comparisons ≡ old.comparisons + passed cmp k root → new.moves ≡ old.moves → IsBounded (length (entries m)) old new
   looked_up cmp k m root old new is sound c e =
       let s = rw is at sound in

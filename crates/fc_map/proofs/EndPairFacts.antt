@@ -19,9 +19,9 @@ none_there : {X : Type 0} (s : List X) → length s ≡ 0 → s ≡ []
 none_there [] e = refl
 none_there (x ∷ s) e = absurd (omega arith)
 
-module _ {K V : Type 0} where
+module _ {K V Z : Type 0} where
   -- the gap of a leaf that no pair is before is the place of the pair behind it
-  first_place : (path : List ℕ) (h : ℕ) (n : Node K V) → 1 ≤ length (own_pairs n) → IsLevelled h n → length path ≡ h + 1 → IsPath path n
+  first_place : (path : List ℕ) (h : ℕ) (n : Node K V Z) → 1 ≤ length (own_pairs n) → IsLevelled h n → length path ≡ h + 1 → IsPath path n
       → length (before_gap path n) ≡ 0 → IsPlace path n × (length (before_pair path n) ≡ 0)
   first_place [] h n some l e p z = absurd (omega arith)
   first_place (i ∷ []) (suc h) n some l e p z = absurd (omega arith)
@@ -45,12 +45,12 @@ module _ {K V : Type 0} where
       let all : length (children_of n) ≡ length (own_pairs n) + 1 = l.1 in
       ((omega arith, rest.0), length-append (before_child n i) (before_pair (j ∷ path) c) ∙ (let r = rest.1 in omega (arith, both, r)))
 
-  pub first_at : (m : Map K V) (gap : List ℕ) → IsSoundMap m → IsGapIn m gap → length (before_gap_in m gap) ≡ 0 → 0 < length (entries m)
+  pub first_at : (m : Map K V Z) (gap : List ℕ) → IsSoundMap m → IsGapIn m gap → length (before_gap_in m gap) ≡ 0 → 0 < length (entries m)
       → IsPlaceIn m gap × (length (before_pair_in m gap) ≡ 0)
   first_at None gap sound g z some = absurd (omega arith)
   first_at (Some root) gap sound g z some = let h = sound.0 in first_place gap h root sound.2.0 sound.2.1 (g.1 h sound.2.1) g.0 z
 
-  module _ (m : Map K V) (path : List ℕ) where
+  module _ (m : Map K V Z) (path : List ℕ) where
     -- what a pair that no other is before is to a map's list, and what one is that no other is behind
     abbrev IsFirst : Type 0
     IsFirst = (p : K × V) × (pair_in m path ≡ Some p) × (entries m ≡ p ∷ (before_pair_in m path ++ after_pair_in m path))
@@ -60,14 +60,14 @@ module _ {K V : Type 0} where
     IsLast = (p : K × V) × (pair_in m path ≡ Some p) × (entries m ≡ (before_pair_in m path ++ after_pair_in m path) ++ p ∷ [])
         × ((v : V) → entries (written_in m path v) ≡ (before_pair_in m path ++ after_pair_in m path) ++ (p.0, v) ∷ [])
 
-  pub first_is : (m : Map K V) (path : List ℕ) → IsSoundMap m → IsPlaceIn m path → length (before_pair_in m path) ≡ 0 → IsFirst m path
+  pub first_is : (m : Map K V Z) (path : List ℕ) → IsSoundMap m → IsPlaceIn m path → length (before_pair_in m path) ≡ 0 → IsFirst m path
   first_is None path sound place z = absurd place
   first_is (Some root) path sound place z =
       let c = place_pairs path sound.0 root sound.2.1 place in
       let none = none_there (before_pair path root) z in
       (c.pair, c.is, c.parts ∙ rw none refl, λ v. written_pairs path sound.0 root c.pair v sound.2.1 place c.is ∙ rw none refl)
 
-  pub last_is : (m : Map K V) (path : List ℕ) → IsSoundMap m → IsPlaceIn m path → length (before_pair_in m path) + 1 ≡ length (entries m) → IsLast m path
+  pub last_is : (m : Map K V Z) (path : List ℕ) → IsSoundMap m → IsPlaceIn m path → length (before_pair_in m path) + 1 ≡ length (entries m) → IsLast m path
   last_is None path sound place z = absurd place
   last_is (Some root) path sound place z =
       let c = place_pairs path sound.0 root sound.2.1 place in
@@ -82,7 +82,7 @@ module _ {K V : Type 0} where
       )
 
   -- The gap ahead of all pairs leads to the first of them, where there is one.
-  pub first_found : (m n : Map K V) (gap : List ℕ) (len : ℕ) → m ≡ n → IsSoundMap m → IsGapIn m gap → length (before_gap_in m gap) ≡ 0
+  pub first_found : (m n : Map K V Z) (gap : List ℕ) (len : ℕ) → m ≡ n → IsSoundMap m → IsGapIn m gap → length (before_gap_in m gap) ≡ 0
       → len ≡ length (entries m) → (len ≡ 0 → ⊥) → IsPlaceIn n gap × IsFirst n gap
   first_found m n gap len is sound g z all some = subst (λ n. IsPlaceIn n gap × IsFirst n gap) is (go (length (entries m)) refl)
     where

@@ -21,44 +21,44 @@ use Rattle.fc_map.specs.Unique.{place-prop}
 use Rattle.fc_map.specs.declared.map.entry.OccupiedEntry.{OccupiedEntry}
 use Rattle.fc_map.proofs.PlaceFacts.{held_pair, open_none}
 
-module _ {K Q V : Type 0} (cmp : K → Q → Ordering) (k : Q) where
-  pub held_place : (m : Map K V) (path : List ℕ) → IsHeldAt cmp k m path → IsPlaceIn m path
+module _ {K Q V Z : Type 0} (cmp : K → Q → Ordering) (k : Q) where
+  pub held_place : (m : Map K V Z) (path : List ℕ) → IsHeldAt cmp k m path → IsPlaceIn m path
   held_place None path held = absurd held
   held_place (Some root) path held = held.place
 
-  pub held_cut : (m : Map K V) (path : List ℕ) → IsSoundMap m → IsHeldAt cmp k m path → before_pair_in m path ++ after_pair_in m path ≡ cut cmp (entries m) k
+  pub held_cut : (m : Map K V Z) (path : List ℕ) → IsSoundMap m → IsHeldAt cmp k m path → before_pair_in m path ++ after_pair_in m path ≡ cut cmp (entries m) k
   held_cut None path sound held = absurd held
   held_cut (Some root) path sound held = sym (found_cut cmp k path sound.0 root sound.2.1 held)
 
-module _ {K V : Type 0} (cmp : K → K → Ordering) (k : K) where
+module _ {K V Z : Type 0} (cmp : K → K → Ordering) (k : K) where
   -- The key that `put` leaves in a map's list.
-  abbrev pub left_key : Map K V → K
+  abbrev pub left_key : Map K V Z → K
   left_key m = unwrap_or (option_map (λ p. p.0) (at cmp (entries m) k)) k
 
-  pub open_key : (m : Map K V) (path : List ℕ) → IsSoundMap m → IsOpenAt cmp k m path → Some k ≡ Some (left_key m)
+  pub open_key : (m : Map K V Z) (path : List ℕ) → IsSoundMap m → IsOpenAt cmp k m path → Some k ≡ Some (left_key m)
   open_key m path sound gap = rw (open_none cmp k m path sound gap) refl
 
-  pub held_key : (m : Map K V) (path : List ℕ) → IsSoundMap m → IsHeldAt cmp k m path → option_map (λ p. p.0) (pair_in m path) ≡ Some (left_key m)
+  pub held_key : (m : Map K V Z) (path : List ℕ) → IsSoundMap m → IsHeldAt cmp k m path → option_map (λ p. p.0) (pair_in m path) ≡ Some (left_key m)
   held_key None path sound held = absurd held
   held_key (Some root) path sound held =
       let c = place_pairs path sound.0 root sound.2.1 held.place in
       ap (option_map (λ p. p.0)) c.is ∙ rw (held_pair cmp k (Some root) path sound held ∙ c.is) refl
 
-  pub open_put : (m : Map K V) (path : List ℕ) (v : V) → IsSoundMap m → IsOpenAt cmp k m path
+  pub open_put : (m : Map K V Z) (path : List ℕ) (v : V) → IsSoundMap m → IsOpenAt cmp k m path
       → before_gap_in m path ++ (k, v) ∷ after_gap_in m path ≡ put cmp (entries m) k v
   open_put None path v sound gap = refl
   open_put (Some root) path v sound gap = sym (gap_put cmp k path sound.0 root v sound.2.1 gap)
 
 -- An entry's map in which a value was written at its place.
-module _ {K V : Type 0} where
+module _ {K V Z : Type 0} where
   -- What another value at a place leaves of what can be seen there.
-  pub record IsRewritten (m : Map K V) (path : List ℕ) (v : V) : Type 0 where
+  pub record IsRewritten (m : Map K V Z) (path : List ℕ) (v : V) : Type 0 where
     pub key_is : option_map (λ p. p.0) (pair_in (written_in m path v) path) ≡ option_map (λ p. p.0) (pair_in m path)
     pub value_is : option_map (λ p. p.1) (pair_in (written_in m path v) path) ≡ Some v
     pub again : (w : V) → entries (written_in (written_in m path v) path w) ≡ entries (written_in m path w)
     pub sides : before_pair_in (written_in m path v) path ++ after_pair_in (written_in m path v) path ≡ before_pair_in m path ++ after_pair_in m path
 
-  pub rewritten : (m : Map K V) (path : List ℕ) (v : V) → IsSoundMap m → IsPlaceIn m path → IsRewritten m path v
+  pub rewritten : (m : Map K V Z) (path : List ℕ) (v : V) → IsSoundMap m → IsPlaceIn m path → IsRewritten m path v
   rewritten None path v sound place = absurd place
   rewritten (Some root) path v sound place =
       let c = place_pairs path sound.0 root sound.2.1 place in
@@ -73,18 +73,18 @@ module _ {K V : Type 0} where
       }
 
   -- The list of a map with another value in a pair that stands between known pairs.
-  pub put_written : (m : Map K V) (path : List ℕ) (k : K) (v w : V) (front back : List (K × V)) → IsSoundMap m → IsPutIn path m (k, v) front back
+  pub put_written : (m : Map K V Z) (path : List ℕ) (k : K) (v w : V) (front back : List (K × V)) → IsSoundMap m → IsPutIn path m (k, v) front back
       → entries (written_in m path w) ≡ front ++ (k, w) ∷ back
   put_written None path k v w front back sound put = absurd put
   put_written (Some root) path k v w front back sound put = written_pairs path sound.0 root (k, v) w sound.2.1 put.place put.pair_is
       ∙ rw (put.before, put.after) refl
 
-  pub put_place : (m : Map K V) (path : List ℕ) (p : K × V) (front back : List (K × V)) → IsPutIn path m p front back
+  pub put_place : (m : Map K V Z) (path : List ℕ) (p : K × V) (front back : List (K × V)) → IsPutIn path m p front back
       → IsPlaceIn m path × (pair_in m path ≡ Some p)
   put_place None path p front back put = absurd put
   put_place (Some root) path p front back put = (put.place, put.pair_is)
 
-module _ {K V : Type 0} {g : ord.Ghosts K} {g' : eq.Ghosts K} {g'' : partial.Ghosts K} where
-  pub occupied_written : (o : OccupiedEntry K V g g' g'') (v : V) (p : IsPlaceIn (map_written o v) o.path)
+module _ {K V Z : Type 0} {g : ord.Ghosts K} {g' : eq.Ghosts K} {g'' : partial.Ghosts K} where
+  pub occupied_written : (o : OccupiedEntry K V Z g g' g'') (v : V) (p : IsPlaceIn (map_written o v) o.path)
       → record { map = record o.map { now = map_written o v }; path = o.path; place = p } ≡ with_entry_value o v
   occupied_written o v p = ap (λ q. record (with_entry_value o v) { place = q }) (place-prop (map_written o v) o.path p (with_entry_value o v).place)

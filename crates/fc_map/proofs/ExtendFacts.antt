@@ -1,6 +1,9 @@
 -- A list extended by items, one after another.
 use Rattle.std.proofs.Common.{◌≡◌, List, [], ◌∷◌, ◌++◌, Some, None, cond, length, inl, inr, refl, sym, ap, subst, ◌∙◌, arith}
-use Rattle.std.proofs.Common.{append_assoc, append-nil, length-append}
+use Rattle.std.proofs.Common.{append_assoc, append-nil, length-append, ℕ, ◌+◌, ◌-◌, ◌^◌, ◌≤◌, ◌⊎◌, Bool, false, IsTrue, Result, Ok, Err, ◌↔◌}
+use Rattle.std.specs.Bool.{if◌then◌else◌}
+use Rattle.std.specs.Result.{IfOk, IfErr}
+use Rattle.std.proofs.lemmas.Bool.{iff_false, ne_eqb}
 use Rattle.std.specs.Prelude.{unwrap_or}
 use Rattle.std.specs.Option.{option_map}
 use Rattle.std.specs.Cmp.{IsTotalOrder}
@@ -14,11 +17,14 @@ use Rattle.fc_base.proofs.Laws.{ascending_put}
 use Rattle.fc_tree_node.proofs.Lists.{all_back}
 use Rattle.std.specs.declared.cmp.Ordering.{Ordering}
 use Rattle.fc_base.specs.declared.try_reserve_error.TryReserveError.{TryReserveError}
+use Rattle.fc_base.specs.declared.try_reserve_error.TryReserveError.TheVariants.{CapacityOverflow, AllocError}
+use Rattle.fc_base.specs.Sizes.{capacity}
 use Rattle.fc_base.specs.Extended.{extended, IsExtendedUpTo}
 use Rattle.fc_base.specs.Growth.{MayGrowRefuse}
 use Rattle.fc_base.specs.OneKey.{put}
 use Rattle.fc_base.specs.Parts.{below, above, at}
-use Rattle.fc_tree_build.specs.Built.{IsBehindLast}
+use Rattle.fc_tree_build.specs.Built.{Grown, IsBehindLast}
+use Rattle.fc_map.specs.Entries.{Map, entries}
 use Rattle.fc_map.specs.Extension.{IsExtension}
 
 module _ {K V : Type 0} (cmp : K → K → Ordering) where
@@ -91,3 +97,68 @@ module _ {K V : Type 0} (cmp : K → K → Ordering) where
         rw none (append-nil new ∙ e ∙ sym (put_behind t k v all).0 ∙ ap (λ z. put cmp z k v) (sym (append-nil t))),
         (ascending_behind t new k v total e all x.0, inr none),
       )
+
+  -- All pairs stand in the map once it has one,
+  none_open : (t m : List (K × V)) (b : Bool) → IsExtension cmp t m → b ≡ false → IsTrue b ↔ (m ≡ []) → t ≡ []
+  none_open t m b (a, inl none) unset is = none
+  none_open t m b (a, inr none) unset is = absurd (iff_false is unset none)
+
+  pub all_in_map : (t m s : List (K × V)) (b : Bool) → IsExtension cmp t m → t ++ m ≡ s → b ≡ false → IsTrue b ↔ (m ≡ []) → (t ≡ []) × (m ≡ s)
+  all_in_map t m s b x e unset is = let none = none_open t m b x unset is in (none, sym (ap (λ z. z ++ m) none) ∙ e)
+
+-- and in the tree where the map has none.
+pub all_in_tree : {X : Type 0} (t m s : List X) → t ++ m ≡ s → m ≡ [] → t ≡ s
+all_in_tree t m s e none = sym (append-nil t) ∙ ap (λ z. t ++ z) (sym none) ∙ e
+
+-- ---- what a call that put a pair into one of them tells of both
+
+module _ {K V : Type 0} (cmp : K → K → Ordering) (r : Result (Unit {0}) TryReserveError) (s : List (K × V)) (pair now : K × V) where
+  pub put_in_tree : (t m new : List (K × V)) → now ≡ pair → t ≡ s → m ≡ [] → IfOk r (λ _. new ≡ put cmp t now.0 now.1)
+      → IfOk r (λ _. new ++ m ≡ put cmp s pair.0 pair.1)
+  put_in_tree t m new p e none h = go r h
+    where
+      go : (r : Result (Unit {0}) TryReserveError) → IfOk r (λ _. new ≡ put cmp t now.0 now.1) → IfOk r (λ _. new ++ m ≡ put cmp s pair.0 pair.1)
+      go (Ok x) h = ap (λ z. new ++ z) none ∙ append-nil new ∙ h ∙ ap (λ q. put cmp t q.0 q.1) p ∙ ap (λ z. put cmp z pair.0 pair.1) e
+      go (Err x) h = tt
+
+  pub put_in_map : (t m new : List (K × V)) → now ≡ pair → m ≡ s → t ≡ [] → IfOk r (λ _. new ≡ put cmp m now.0 now.1)
+      → IfOk r (λ _. t ++ new ≡ put cmp s pair.0 pair.1)
+  put_in_map t m new p e none h = go r h
+    where
+      go : (r : Result (Unit {0}) TryReserveError) → IfOk r (λ _. new ≡ put cmp m now.0 now.1) → IfOk r (λ _. t ++ new ≡ put cmp s pair.0 pair.1)
+      go (Ok x) h = ap (λ z. z ++ new) none ∙ h ∙ ap (λ q. put cmp m q.0 q.1) p ∙ ap (λ z. put cmp z pair.0 pair.1) e
+      go (Err x) h = tt
+
+  pub same_in_tree : (t new : Grown K V) (m : List (K × V)) → t.pairs ++ m ≡ s → IfErr r (λ _. new ≡ t) → IfErr r (λ _. new.pairs ++ m ≡ s)
+  same_in_tree t new m e h = go r h
+    where
+      go : (r : Result (Unit {0}) TryReserveError) → IfErr r (λ _. new ≡ t) → IfErr r (λ _. new.pairs ++ m ≡ s)
+      go (Ok x) h = tt
+      go (Err x) h = ap (λ z. z.pairs ++ m) h ∙ e
+
+  pub same_in_map : {Z : Type 0} (t : List (K × V)) (m new : Map K V Z) → t ≡ [] → entries m ≡ s → IfErr r (λ _. new ≡ m) → IfErr r (λ _. t ++ entries new ≡ s)
+  same_in_map t m new none e h = go r h
+    where
+      go : (r : Result (Unit {0}) TryReserveError) → IfErr r (λ _. new ≡ m) → IfErr r (λ _. t ++ entries new ≡ s)
+      go (Ok x) h = tt
+      go (Err x) h = ap (λ z. z ++ entries new) none ∙ ap entries h ∙ e
+
+  pub still_new : (m : List (K × V)) → now ≡ pair → m ≡ s → IfErr r (λ _. at cmp m now.0 ≡ None) → IfErr r (λ _. at cmp s pair.0 ≡ None)
+  still_new m p e h = subst (λ z. IfErr r (λ _. at cmp z pair.0 ≡ None)) e (subst (λ q. IfErr r (λ _. at cmp m q.0 ≡ None)) p h)
+
+  pub same_refusal : (m : List (K × V)) → m ≡ s → IfErr r (λ e. MayGrowRefuse (length m) e) → IfErr r (λ e. MayGrowRefuse (length s) e)
+  same_refusal m e h = subst (λ z. IfErr r (λ e. MayGrowRefuse (length z) e)) e h
+
+-- A tree that may still be counted has no other error than that of memory.
+pub push_refusal : {X : Type 0} (s : List X) (n : ℕ) (e : TryReserveError) → n ≡ length s → (n ≡ 2 ^ 64 - 1 → ⊥) → e ≡ AllocError
+    → (s ≡ []) ⊎ (capacity ≤ length s) → MayGrowRefuse (length s) e
+push_refusal s n e l few is full =
+    let other = ne_eqb (length s) (2 ^ 64 - 1) (λ x. few (l ∙ x)) in
+    (is ∙ sym (ap (λ b. if b then CapacityOverflow else AllocError) other), blank_or_full full)
+  where
+    blank_or_full : (s ≡ []) ⊎ (capacity ≤ length s) → (length s ≡ 0) ⊎ (capacity ≤ length s)
+    blank_or_full (inl none) = inl (ap length none)
+    blank_or_full (inr many) = inr many
+
+pub still_counted : (n l : ℕ) → n ≡ l → l ≤ 2 ^ 64 - 1 - capacity → n + capacity ≤ 2 ^ 64 - 1
+still_counted n l e h = omega arith

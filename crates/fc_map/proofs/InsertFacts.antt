@@ -16,14 +16,14 @@ use Rattle.fc_tree_search.proofs.SearchFacts.{gap_at}
 use Rattle.fc_map.specs.Entries.{IsSoundMap}
 use Rattle.fc_map.specs.Place.{TellsRoom}
 
-module _ {K V : Type 0} (root : Node K V) (path : List ℕ) (sound : IsSoundMap (Some root)) where
+module _ {K V Z : Type 0} (root : Node K V Z) (path : List ℕ) (sound : IsSoundMap (Some root)) where
   -- The pairs before the gap, the new pair and those after it are what `put` makes.
   pub put_in : (cmp : K → K → Ordering) (k : K) (v : V) (s : List (K × V)) → IsGap cmp k root path → s ≡ before_gap path root ++ (k, v) ∷ after_gap path root
       → s ≡ put cmp (pairs_of root) k v
   put_in cmp k v s gap e = let a = gap_at cmp k path sound.0 root sound.2.1 gap in e ∙ rw (a.lower, a.upper, a.here) refl
 
-module _ {K V : Type 0} where
-  room_left : (path : List ℕ) (h : ℕ) (n : Node K V) → IsLevelled h n → length path ≡ h + 1 → IsPath path n → cascade path n ≡ 0
+module _ {K V Z : Type 0} where
+  room_left : (path : List ℕ) (h : ℕ) (n : Node K V Z) → IsLevelled h n → length path ≡ h + 1 → IsPath path n → cascade path n ≡ 0
       → length (own_pairs (leaf_at path n)) < capacity
   room_left [] h n l e p none = absurd (omega arith)
   room_left (i ∷ []) zero n l e p none = elim (eqb_tells (length (own_pairs n)) capacity) [
@@ -39,7 +39,7 @@ module _ {K V : Type 0} where
       [ true ↦ (λ z. absurd (omega arith)) | false ↦ (λ z. z) ] none)
 
   -- Where an insertion takes no node, the leaf has room.
-  pub leaf_has_room : (root : Node K V) (path : List ℕ) → IsSoundMap (Some root) → (cmp : K → K → Ordering) (k : K) → IsGap cmp k root path
+  pub leaf_has_room : (root : Node K V Z) (path : List ℕ) → IsSoundMap (Some root) → (cmp : K → K → Ordering) (k : K) → IsGap cmp k root path
       → 0 ≡ nodes_needed path root → TellsRoom true path (Some root)
   leaf_has_room root path sound cmp k gap none =
       let split = elim (all_full path root) as (λ b. 0 ≡ (if b then cascade path root + 1 else cascade path root) → cascade path root ≡ 0)

@@ -15,3 +15,6 @@ pub mod CopyFacts
 pub mod ExchangeFacts
 pub mod ReadyFacts
 pub mod EndPairFacts
+pub mod WalkSizes
+pub mod OwnedFacts
+pub mod ExtensionSizes

@@ -12,14 +12,14 @@ use Rattle.fc_map.specs.Entries.{Map, entries, IsSoundMap}
 use Rattle.fc_map.proofs.CountFacts.{some_pairs, only_moved}
 use Rattle.fc_map.proofs.RemoveFacts.{left_sound, left_moves, without_ascending}
 
-module _ {K V : Type 0} where
+module _ {K V Z : Type 0} where
   -- What is left of a sound map is sound.
-  pub popped_sound : (m left : Map K V) → IsSoundMap m → is_some m ≡ true → ((h : ℕ) → IsSoundTree h m → IsTreeLeft h left) → IsSoundMap left
+  pub popped_sound : (m left : Map K V Z) → IsSoundMap m → is_some m ≡ true → ((h : ℕ) → IsSoundTree h m → IsTreeLeft h left) → IsSoundMap left
   popped_sound None left sound some levels = absurd (false≢true some)
   popped_sound (Some root) left sound some levels = left_sound sound.0 left sound.1 (levels sound.0 sound.2)
 
   -- Without its last pair the list ascends, and is shorter by one.
-  pub last_popped : (cmp : K → K → Ordering) (m left : Map K V) (e : K × V) → IsAscending cmp (entries m) → entries m ≡ entries left ++ e ∷ []
+  pub last_popped : (cmp : K → K → Ordering) (m left : Map K V Z) (e : K × V) → IsAscending cmp (entries m) → entries m ≡ entries left ++ e ∷ []
       → IsAscending cmp (entries left) × (length (entries m) ≡ length (entries left) + 1)
   last_popped cmp m left e ascending p = (
     subst (IsAscending cmp) (append-nil (entries left)) (without_ascending cmp (entries left) [] e (subst (IsAscending cmp) p ascending)),
@@ -27,7 +27,7 @@ module _ {K V : Type 0} where
   )
 
   -- What a removal at an end costs.
-  pub popped_cost : (m : Map K V) → IsSoundMap m → is_some m ≡ true → (old new : Count) → new.comparisons ≡ old.comparisons
+  pub popped_cost : (m : Map K V Z) → IsSoundMap m → is_some m ≡ true → (old new : Count) → new.comparisons ≡ old.comparisons
       → ((h : ℕ) → IsSoundTree h m → new.moves ≤ old.moves + level_moves * (h + 1)) → IsBounded (length (entries m)) old new
   popped_cost None sound some old new same few = absurd (false≢true some)
   popped_cost (Some root) sound some old new same few =

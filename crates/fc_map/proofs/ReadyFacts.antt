@@ -4,9 +4,9 @@ use Rattle.fc_tree_node.proofs.Gaps.{place_pairs}
 use Rattle.fc_map.specs.Entries.{Map, entries, IsSoundMap}
 use Rattle.fc_map.specs.Place.{IsPutIn}
 
-module _ {K V : Type 0} where
+module _ {K V Z : Type 0} where
   -- The list of a map in which a pair stands between known pairs.
-  pub put_list : (m : Map K V) (path : List ℕ) (p : K × V) (front back : List (K × V)) → IsSoundMap m → IsPutIn path m p front back
+  pub put_list : (m : Map K V Z) (path : List ℕ) (p : K × V) (front back : List (K × V)) → IsSoundMap m → IsPutIn path m p front back
       → entries m ≡ front ++ p ∷ back
   put_list None path p front back sound put = absurd put
   put_list (Some root) path p front back sound put =

@@ -10,7 +10,7 @@ use Rattle.fc_tree_node.proofs.Gaps.{place_pairs}
 use Rattle.fc_tree_search.proofs.WrittenPairs.{written_levels, written_pairs, written_ascending}
 use Rattle.fc_map.specs.Entries.{IsSoundMap}
 
-module _ {K V : Type 0} (root : Node K V) (path : List ℕ) (w : V) (place : IsPlace path root) (sound : IsSoundMap (Some root)) where
+module _ {K V Z : Type 0} (root : Node K V Z) (path : List ℕ) (w : V) (place : IsPlace path root) (sound : IsSoundMap (Some root)) where
   -- There are as many pairs.
   pub written_length : length (pairs_of root) ≡ length (pairs_of (written root path w))
   written_length =

@@ -3,6 +3,7 @@ pub use Rattle.fc_map.specs.declared.map.entry.Entry.TheVariants.{Occupied, Vaca
 use Rattle.std.specs.Prelude.{◌≡◌, ℕ, List, [], ◌∷◌, ◌++◌, Option, None, Some, Result}
 use Rattle.std.specs.Option.{option_map}
 use Rattle.std.specs.Borrow.{Fml, RattleType, MutBor, follows, LendsSoOk, RestsIfErr, RestsIfNone}
+use Rattle.core.specs.declared.alloc.Allocator.{Ghosts}
 use Rattle.std.specs.declared.cmp.Ord as ord
 use Rattle.std.specs.declared.cmp.PartialEq as eq
 use Rattle.std.specs.declared.cmp.PartialOrd as partial
@@ -16,57 +17,57 @@ use Rattle.fc_map.specs.declared.map.entry.OccupiedEntry.{OccupiedEntry}
 use Rattle.fc_map.specs.contracts.map.BTreeMap.{the_row}
 use Rattle.fc_map.specs.contracts.map.entry.OccupiedEntry as occupied
 
-module _ {K V : Type 0} where
+module _ {K V Z : Type 0} where
   -- A place stays one, whatever is written there.
-  pub place_stays : (m : Map K V) (path : List ℕ) (v : V) → IsPlaceIn m path → IsPlaceIn (written_in m path v) path
+  pub place_stays : (m : Map K V Z) (path : List ℕ) (v : V) → IsPlaceIn m path → IsPlaceIn (written_in m path v) path
   place_stays None path v p = p
   place_stays (Some root) path v p = written_place path root v p
 
-module _ {K V : Type 0} {g : ord.Ghosts K} {g' : eq.Ghosts K} {g'' : partial.Ghosts K} where
+module _ {K V Z : Type 0} {g : ord.Ghosts K} {g' : eq.Ghosts K} {g'' : partial.Ghosts K} where
   -- The reference to the map.
-  abbrev pub entry_map_ref : Entry K V g g' g'' → MutBor (Map K V)
+  abbrev pub entry_map_ref : Entry K V Z g g' g'' → MutBor (Map K V Z)
   entry_map_ref (Vacant e) = e.map
   entry_map_ref (Occupied o) = o.map
 
   -- The map, as the entry holds it.
-  abbrev pub entry_map : Entry K V g g' g'' → Map K V
+  abbrev pub entry_map : Entry K V Z g g' g'' → Map K V Z
   entry_map e = (entry_map_ref e).now
 
   -- The path of the search that found the place: to the pair, or to the gap of a leaf.
-  abbrev pub entry_path : Entry K V g g' g'' → List ℕ
+  abbrev pub entry_path : Entry K V Z g g' g'' → List ℕ
   entry_path (Vacant e) = e.path
   entry_path (Occupied o) = o.path
 
   -- The pair that is there, if there is one.
-  abbrev pub entry_pair : Entry K V g g' g'' → Option (K × V)
+  abbrev pub entry_pair : Entry K V Z g g' g'' → Option (K × V)
   entry_pair (Vacant e) = None
   entry_pair (Occupied o) = pair_in o.map.now o.path
 
   -- The value that is there, if there is one.
-  abbrev pub entry_value : Entry K V g g' g'' → Option V
+  abbrev pub entry_value : Entry K V Z g g' g'' → Option V
   entry_value e = option_map (λ p. p.1) (entry_pair e)
 
   -- The key that is there, and else the one that was searched for.
-  abbrev pub entry_key : Entry K V g g' g'' → Option K
+  abbrev pub entry_key : Entry K V Z g g' g'' → Option K
   entry_key (Vacant e) = Some e.key
   entry_key (Occupied o) = option_map (λ p. p.0) (pair_in o.map.now o.path)
 
   -- The map with v in the pair of an occupied entry: the tree keeps its shape.
-  abbrev pub map_written : OccupiedEntry K V g g' g'' → V → Map K V
+  abbrev pub map_written : OccupiedEntry K V Z g g' g'' → V → Map K V Z
   map_written o v = written_in o.map.now o.path v
 
   -- The pairs of the map, once v is the value at the entry's key.
-  abbrev pub list_with : Entry K V g g' g'' → V → List (K × V)
+  abbrev pub list_with : Entry K V Z g g' g'' → V → List (K × V)
   list_with (Vacant e) v = before_gap_in e.map.now e.path ++ (e.key, v) ∷ after_gap_in e.map.now e.path
   list_with (Occupied o) v = entries (map_written o v)
 
   -- The pairs of the map, once there is none at the entry's key.
-  abbrev pub list_without : Entry K V g g' g'' → List (K × V)
+  abbrev pub list_without : Entry K V Z g g' g'' → List (K × V)
   list_without (Vacant e) = entries e.map.now
   list_without (Occupied o) = before_pair_in o.map.now o.path ++ after_pair_in o.map.now o.path
 
   -- An occupied entry, once v is its value.
-  abbrev pub with_entry_value : OccupiedEntry K V g g' g'' → V → OccupiedEntry K V g g' g''
+  abbrev pub with_entry_value : OccupiedEntry K V Z g g' g'' → V → OccupiedEntry K V Z g g' g''
   with_entry_value o v = record {
     map = record o.map { now = map_written o v };
     path = o.path;
@@ -74,36 +75,36 @@ module _ {K V : Type 0} {g : ord.Ghosts K} {g' : eq.Ghosts K} {g'' : partial.Gho
   }
 
   -- The new entry is the old one, once v is its value.
-  abbrev pub IsWritten : OccupiedEntry K V g g' g'' → V → OccupiedEntry K V g g' g'' → Type 0
+  abbrev pub IsWritten : OccupiedEntry K V Z g g' g'' → V → OccupiedEntry K V Z g g' g'' → Type 0
   IsWritten old v new = (new.map.ghost_name ≡ old.map.ghost_name) × (new.map.now ≡ map_written old v) × (entry_key (Occupied new) ≡ entry_key (Occupied old)) × (entry_value (Occupied new) ≡ Some v)
       × ((w : V) → list_with (Occupied new) w ≡ list_with (Occupied old) w) × (list_without (Occupied new) ≡ list_without (Occupied old))
 
   -- The entry is the first pair of the list: what is left without it, and what stands ahead of that with v in it.
-  abbrev pub IsFirstOf : OccupiedEntry K V g g' g'' → List (K × V) → Type 0
+  abbrev pub IsFirstOf : OccupiedEntry K V Z g g' g'' → List (K × V) → Type 0
   IsFirstOf o s = (p : K × V) × (entry_pair (Occupied o) ≡ Some p) × (s ≡ p ∷ list_without (Occupied o)) × ((v : V) → list_with (Occupied o) v ≡ (p.0, v) ∷ list_without (Occupied o))
 
   -- The entry is the last pair of the list.
-  abbrev pub IsLastOf : OccupiedEntry K V g g' g'' → List (K × V) → Type 0
+  abbrev pub IsLastOf : OccupiedEntry K V Z g g' g'' → List (K × V) → Type 0
   IsLastOf o s = (p : K × V) × (entry_pair (Occupied o) ≡ Some p) × (s ≡ list_without (Occupied o) ++ p ∷ []) × ((v : V) → list_with (Occupied o) v ≡ list_without (Occupied o) ++ (p.0, v) ∷ [])
 
-module _ (K V : RattleType) {g : ord.Ghosts K.Denot} {g' : eq.Ghosts K.Denot} {g'' : partial.Ghosts K.Denot} where
+module _ (K V Z : RattleType) {g : ord.Ghosts K.Denot} {g' : eq.Ghosts K.Denot} {g'' : partial.Ghosts K.Denot} (heap : Ghosts Z.Denot) where
   -- Once the borrow r ends, the map has the last value written through r in the entry's pair.
-  abbrev pub occupied_lends_whole : OccupiedEntry K.Denot V.Denot g g' g'' → MutBor V.Denot → Fml
-  occupied_lends_whole o r = follows (the_row K V g g' g'') V o.map.ghost_name r.ghost_name (map_written o)
+  abbrev pub occupied_lends_whole : OccupiedEntry K.Denot V.Denot Z.Denot g g' g'' → MutBor V.Denot → Fml
+  occupied_lends_whole o r = follows (the_row K V Z g g' g'' heap) V o.map.ghost_name r.ghost_name (map_written o)
 
   -- Once the borrow r ends, the entry after o has the last value written through r. Its lifetime is the second of the signature.
-  abbrev pub occupied_lends : MutBor (OccupiedEntry K.Denot V.Denot g g' g'') → MutBor V.Denot → Fml
-  occupied_lends o r = follows (occupied.the_row (record { mir = named 1; lft = [] }) K V g g' g'') V o.ghost_name r.ghost_name (with_entry_value o.now)
+  abbrev pub occupied_lends : MutBor (OccupiedEntry K.Denot V.Denot Z.Denot g g' g'') → MutBor V.Denot → Fml
+  occupied_lends o r = follows (occupied.the_row (record { mir = named 1; lft = [] }) K V Z g g' g'' heap) V o.ghost_name r.ghost_name (with_entry_value o.now)
 
   -- Once the borrow r ends, the map's pairs are those with the last value written through r at the entry's key; where there is
   -- none, the map stays as it is.
-  abbrev pub entry_lends_ok : {E : Type 0} → Entry K.Denot V.Denot g g' g'' → Result (MutBor V.Denot) E → Fml
-  entry_lends_ok e r = LendsSoOk (the_row K V g g' g'') V (entry_map_ref e) r (λ n w. (entries n ≡ list_with e w) × IsSoundMap n) (λ n. n ≡ entry_map e)
+  abbrev pub entry_lends_ok : {E : Type 0} → Entry K.Denot V.Denot Z.Denot g g' g'' → Result (MutBor V.Denot) E → Fml
+  entry_lends_ok e r = LendsSoOk (the_row K V Z g g' g'' heap) V (entry_map_ref e) r (λ n w. (entries n ≡ list_with e w) × IsSoundMap n) (λ n. n ≡ entry_map e)
 
   -- Where r has no entry, the map after m stays as it is.
-  abbrev pub rests_if_refused : {E : Type 0} → MutBor (Map K.Denot V.Denot) → Result (Entry K.Denot V.Denot g g' g'') E → Fml
-  rests_if_refused m r = RestsIfErr (the_row K V g g' g'') m (λ e. (entry_map_ref e).ghost_name) r (λ n. n ≡ m.now)
+  abbrev pub rests_if_refused : {E : Type 0} → MutBor (Map K.Denot V.Denot Z.Denot) → Result (Entry K.Denot V.Denot Z.Denot g g' g'') E → Fml
+  rests_if_refused m r = RestsIfErr (the_row K V Z g g' g'' heap) m (λ e. (entry_map_ref e).ghost_name) r (λ n. n ≡ m.now)
 
   -- Where r has no entry, the map after m stays as it is.
-  abbrev pub rests_if_none : MutBor (Map K.Denot V.Denot) → Option (OccupiedEntry K.Denot V.Denot g g' g'') → Fml
-  rests_if_none m r = RestsIfNone (the_row K V g g' g'') m (λ o. o.map.ghost_name) r (λ n. n ≡ m.now)
+  abbrev pub rests_if_none : MutBor (Map K.Denot V.Denot Z.Denot) → Option (OccupiedEntry K.Denot V.Denot Z.Denot g g' g'') → Fml
+  rests_if_none m r = RestsIfNone (the_row K V Z g g' g'' heap) m (λ o. o.map.ghost_name) r (λ n. n ≡ m.now)

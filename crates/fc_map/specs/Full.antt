@@ -8,10 +8,10 @@ use Rattle.fc_map.specs.Entries.{Map}
 use Rattle.fc_map.specs.LendsKey.{path_in}
 
 -- The map has no leaf at all, or the one at the end of the path holds 15 pairs.
-abbrev pub IsFullAt : {K V : Type 0} → Map K V → List ℕ → Type 0
+abbrev pub IsFullAt : {K V Z : Type 0} → Map K V Z → List ℕ → Type 0
 IsFullAt None path = Unit {0}
 IsFullAt (Some root) path = length (own_pairs (leaf_at path root)) ≡ capacity
 
 -- A new key k takes a node: the map is empty, or the leaf that a search for k ends in holds 15 pairs.
-abbrev pub TakesNode : {K Q V : Type 0} → (K → Q → Ordering) → Q → Map K V → Type 0
+abbrev pub TakesNode : {K Q V Z : Type 0} → (K → Q → Ordering) → Q → Map K V Z → Type 0
 TakesNode cmp k m = IsFullAt m (path_in cmp k m)

@@ -15,27 +15,28 @@ module _ {K V : Type 0} where
   values_length (e ∷ s) zero w = refl
   values_length (e ∷ s) (suc i) w = ap suc (values_length s i w)
 
-  own_with : (n : Node K V) (i : ℕ) (w : V) → length (own_pairs (with_value n i w)) ≡ length (own_pairs n)
-  own_with n i w = ap (λ r. length r.pairs) (out-roll-Node K V (record { pairs = set_value (own_pairs n) i w; children = (out-Node K V n).children }))
-      ∙ values_length (own_pairs n) i w
+  module _ {Z : Type 0} where
+    own_with : (n : Node K V Z) (i : ℕ) (w : V) → length (own_pairs (with_value n i w)) ≡ length (own_pairs n)
+    own_with n i w = ap (λ r. length r.pairs) (out-roll-Node K V Z (record { pairs = set_value (own_pairs n) i w; children = (out-Node K V Z n).children }))
+        ∙ values_length (own_pairs n) i w
 
-  set_children : (o : Option (List (Node K V))) (i : ℕ) (c : Node K V) → items_or_none (option_map (λ cs. slice_set cs i c) o) ≡ slice_set (items_or_none o) i c
-  set_children None i c = refl
-  set_children (Some cs) i c = refl
+    set_children : (o : Option (List (Node K V Z))) (i : ℕ) (c : Node K V Z) → items_or_none (option_map (λ cs. slice_set cs i c) o) ≡ slice_set (items_or_none o) i c
+    set_children None i c = refl
+    set_children (Some cs) i c = refl
 
-  children_with : (n : Node K V) (i : ℕ) (c : Node K V) → children_of (with_child n i c) ≡ slice_set (children_of n) i c
-  children_with n i c = ap (λ r. items_or_none r.children)
-      (out-roll-Node K V (record { pairs = own_pairs n; children = option_map (λ cs. slice_set cs i c) (out-Node K V n).children }))
-      ∙ set_children (out-Node K V n).children i c
+    children_with : (n : Node K V Z) (i : ℕ) (c : Node K V Z) → children_of (with_child n i c) ≡ slice_set (children_of n) i c
+    children_with n i c = ap (λ r. items_or_none r.children)
+        (out-roll-Node K V Z (record { pairs = own_pairs n; children = option_map (λ cs. slice_set cs i c) (out-Node K V Z n).children }))
+        ∙ set_children (out-Node K V Z n).children i c
 
-  pub written_place : (path : List ℕ) (n : Node K V) (w : V) → IsPlace path n → IsPlace path (written n path w)
-  unfolding written
-  written_place [] n w q = q
-  written_place (i ∷ []) n w q = subst (λ k. i < k) (sym (own_with n i w)) q
-  written_place (i ∷ j ∷ path) n w q =
-      let c = written (child_at n i) (j ∷ path) w in
-      let m = with_child n i c in
-      let cs = children_with n i c in
-      let here = ap (λ ds. slice_index_or ds i m) cs ∙ get_or-set_same (children_of n) i c m q.0 in
-      let long = ap length cs ∙ length-set (children_of n) i c in
-      (subst (λ k. i < k) (sym long) q.0, subst (IsPlace (j ∷ path)) (sym here) (written_place (j ∷ path) (child_at n i) w q.1))
+    pub written_place : (path : List ℕ) (n : Node K V Z) (w : V) → IsPlace path n → IsPlace path (written n path w)
+    unfolding written
+    written_place [] n w q = q
+    written_place (i ∷ []) n w q = subst (λ k. i < k) (sym (own_with n i w)) q
+    written_place (i ∷ j ∷ path) n w q =
+        let c = written (child_at n i) (j ∷ path) w in
+        let m = with_child n i c in
+        let cs = children_with n i c in
+        let here = ap (λ ds. slice_index_or ds i m) cs ∙ get_or-set_same (children_of n) i c m q.0 in
+        let long = ap length cs ∙ length-set (children_of n) i c in
+        (subst (λ k. i < k) (sym long) q.0, subst (IsPlace (j ∷ path)) (sym here) (written_place (j ∷ path) (child_at n i) w q.1))

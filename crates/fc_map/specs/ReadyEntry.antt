@@ -1,6 +1,7 @@
 -- What the contracts of an entry whose insertion is ready cite.
 use Rattle.std.specs.Prelude.{◌≡◌, List, ◌∷◌, ◌++◌, Result}
 use Rattle.std.specs.Borrow.{Fml, RattleType, MutBor, LendsSoOk, RestsIfErr}
+use Rattle.core.specs.declared.alloc.Allocator.{Ghosts}
 use Rattle.std.specs.declared.cmp.Ord as ord
 use Rattle.std.specs.declared.cmp.PartialEq as eq
 use Rattle.std.specs.declared.cmp.PartialOrd as partial
@@ -11,28 +12,28 @@ use Rattle.fc_map.specs.declared.map.entry.ready.ReadyEntry.{ReadyEntry}
 use Rattle.fc_map.specs.declared.map.entry.ready.Nodes as nodes
 use Rattle.fc_map.specs.contracts.map.BTreeMap.{the_row}
 
-module _ {K V N : Type 0} {g : ord.Ghosts K} {g' : eq.Ghosts K} {g'' : partial.Ghosts K} {n : nodes.Ghosts N} where
+module _ {K V Z N : Type 0} {g : ord.Ghosts K} {g' : eq.Ghosts K} {g'' : partial.Ghosts K} {n : nodes.Ghosts N} where
   -- The reference to the map.
-  abbrev pub ready_map_ref : ReadyEntry K V N g g' g'' n → MutBor (Map K V)
+  abbrev pub ready_map_ref : ReadyEntry K V Z N g g' g'' n → MutBor (Map K V Z)
   ready_map_ref e = e.map
 
   -- The map, as the entry holds it.
-  abbrev pub ready_map : ReadyEntry K V N g g' g'' n → Map K V
+  abbrev pub ready_map : ReadyEntry K V Z N g g' g'' n → Map K V Z
   ready_map e = e.map.now
 
   -- The key that is to be put in.
-  abbrev pub ready_key : ReadyEntry K V N g g' g'' n → K
+  abbrev pub ready_key : ReadyEntry K V Z N g g' g'' n → K
   ready_key e = e.key
 
   -- The pairs of the map, once the key is in its gap with the value v.
-  abbrev pub ready_list_with : ReadyEntry K V N g g' g'' n → V → List (K × V)
+  abbrev pub ready_list_with : ReadyEntry K V Z N g g' g'' n → V → List (K × V)
   ready_list_with e v = before_gap_in e.map.now e.path ++ (e.key, v) ∷ after_gap_in e.map.now e.path
 
-module _ (K V : RattleType) {N : Type 0} {g : ord.Ghosts K.Denot} {g' : eq.Ghosts K.Denot} {g'' : partial.Ghosts K.Denot} {n : nodes.Ghosts N} where
+module _ (K V Z : RattleType) {N : Type 0} {g : ord.Ghosts K.Denot} {g' : eq.Ghosts K.Denot} {g'' : partial.Ghosts K.Denot} {n : nodes.Ghosts N} (heap : Ghosts Z.Denot) where
   -- Where r has no entry, the map after the vacant entry stays as it is.
-  abbrev pub rests_if_not_ready : {E : Type 0} → VacantEntry K.Denot V.Denot g g' g'' → Result (ReadyEntry K.Denot V.Denot N g g' g'' n) E → Fml
-  rests_if_not_ready e r = RestsIfErr (the_row K V g g' g'') e.map (λ ready. ready.map.ghost_name) r (λ m. m ≡ e.map.now)
+  abbrev pub rests_if_not_ready : {E : Type 0} → VacantEntry K.Denot V.Denot Z.Denot g g' g'' → Result (ReadyEntry K.Denot V.Denot Z.Denot N g g' g'' n) E → Fml
+  rests_if_not_ready e r = RestsIfErr (the_row K V Z g g' g'' heap) e.map (λ ready. ready.map.ghost_name) r (λ m. m ≡ e.map.now)
 
   -- Once the borrow r ends, the map's pairs are those with the last value written through r at the entry's key.
-  abbrev pub ready_lends : {E : Type 0} → ReadyEntry K.Denot V.Denot N g g' g'' n → Result (MutBor V.Denot) E → Fml
-  ready_lends e r = LendsSoOk (the_row K V g g' g'') V e.map r (λ m w. (entries m ≡ ready_list_with e w) × IsSoundMap m) (λ m. m ≡ e.map.now)
+  abbrev pub ready_lends : {E : Type 0} → ReadyEntry K.Denot V.Denot Z.Denot N g g' g'' n → Result (MutBor V.Denot) E → Fml
+  ready_lends e r = LendsSoOk (the_row K V Z g g' g'' heap) V e.map r (λ m w. (entries m ≡ ready_list_with e w) × IsSoundMap m) (λ m. m ≡ e.map.now)

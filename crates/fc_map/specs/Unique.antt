@@ -12,33 +12,33 @@ use Rattle.fc_tree_walk.specs.Gap.{IsGapIn, AreEndsIn}
 use Rattle.fc_tree_node.specs.TreePlace.{IsPlaceIn}
 use Rattle.fc_map.specs.Place.{IsOpenAt}
 
-module _ {K V : Type 0} where
+module _ {K V Z : Type 0} where
   -- That each step of a path is a place or the one after them.
-  way-prop : (path : List ℕ) (n : Node K V) → IsProp (IsPath path n)
+  way-prop : (path : List ℕ) (n : Node K V Z) → IsProp (IsPath path n)
   way-prop [] n = Unit-prop
   way-prop (i ∷ path) n = ×_prop le_prop (way-prop path (child_at n i))
 
   -- That a path leads to a pair of the tree below a node.
-  end-prop : (path : List ℕ) (n : Node K V) → IsProp (IsPlace path n)
+  end-prop : (path : List ℕ) (n : Node K V Z) → IsProp (IsPlace path n)
   end-prop [] n = λ x. absurd x
   end-prop (i ∷ []) n = le_prop
   end-prop (i ∷ j ∷ path) n = ×_prop le_prop (end-prop (j ∷ path) (child_at n i))
 
   -- That a path leads to a pair of a map.
-  pub place-prop : (m : Map K V) (path : List ℕ) → IsProp (IsPlaceIn m path)
+  pub place-prop : (m : Map K V Z) (path : List ℕ) → IsProp (IsPlaceIn m path)
   place-prop None path = λ x. absurd x
   place-prop (Some root) path = end-prop path root
 
   -- That a path leads to the gap of a key in a map.
-  pub open-prop : (cmp : K → K → Ordering) (k : K) (m : Map K V) (path : List ℕ) → IsProp (IsOpenAt cmp k m path)
+  pub open-prop : (cmp : K → K → Ordering) (k : K) (m : Map K V Z) (path : List ℕ) → IsProp (IsOpenAt cmp k m path)
   open-prop cmp k None path = hlevel props
   open-prop cmp k (Some root) path = hlevel (props, way-prop path root)
 
   -- That a path leads to a gap of a map.
-  pub gap-prop : (m : Map K V) (path : List ℕ) → IsProp (IsGapIn m path)
+  pub gap-prop : (m : Map K V Z) (path : List ℕ) → IsProp (IsGapIn m path)
   gap-prop None path = hlevel props
   gap-prop (Some root) path = hlevel (props, way-prop path root)
 
   -- That two paths lead to gaps of a map, the first to no later one.
-  pub ends-prop : (m : Map K V) (front back : List ℕ) → IsProp (AreEndsIn m front back)
+  pub ends-prop : (m : Map K V Z) (front back : List ℕ) → IsProp (AreEndsIn m front back)
   ends-prop m front back = hlevel (props, gap-prop m front, gap-prop m back)

@@ -41,6 +41,7 @@ mod split_off;
 pub use both::insert_both;
 pub use bounds::is_range;
 pub use entry::{Entry, OccupiedEntry, ReadyEntry, VacantEntry};
+use fc_base::Handle;
 use fc_tree_node::node::Node;
 pub use into_iter::IntoIter;
 pub use into_keys::IntoKeys;
@@ -56,32 +57,33 @@ use std::marker::Model;
 /// An ordered map: pairs in strictly ascending order of their keys, in a B-tree whose nodes hold 7 to 15 pairs. Only calls that
 /// answer a `Result` take memory.
 #[derive(Drop)]
-pub struct BTreeMap<K: Ord, V> {
-    root: Option<Node<K, V>>,
+pub struct BTreeMap<K: Ord, V, A: Handle = Global> {
+    root: Option<Node<K, V, A>>,
     len: usize,
-    alloc: Global,
+    alloc: A,
 }
 
-impl<K: Ord, V> Model for BTreeMap<K, V> {
+impl<K: Ord, V, A: Handle> Model for BTreeMap<K, V, A> {
     ghost use Rattle.std.specs.Prelude.{◌≡◌, length};
     ghost use Rattle.std.specs.Coded.{coded_option};
+    ghost use base.Fml.{ftrue};
     ghost use borrow.Follows.Maybe.{bare};
     ghost use Rattle.fc_base.specs.Ascending.{IsAscending};
     ghost use Rattle.fc_tree_node.specs.contracts.node.Node as node;
     ghost use Rattle.fc_map.specs.Entries.{Map, entries, IsSoundMap};
 
-    ghost Value = { Map K V };
+    ghost Value = { Map K V A };
 
-    ghost coded = { coded_option ((node.the_row (bare K K.code) (bare V V.code)).coded) };
+    ghost coded = { coded_option ((node.the_row (bare K K.code) (bare V V.code) (bare A A.code) (record { dealloc_token = λ _ _ _. ftrue })).coded) };
 
     ghost view = { λ m. m.root };
 
     ghost invariant = { λ m. IsAscending K.cmp (entries m.root) × IsSoundMap m.root × (m.len ≡ length (entries m.root)) };
 }
 
-impl<K: Ord, V> BTreeMap<K, V> {
+impl<K: Ord, V, A: Handle> BTreeMap<K, V, A> {
     /// An empty map, which takes no memory. Later requests go to `alloc`. Upstream: `BTreeMap::new`.
-    pub fn new(alloc: Global) -> BTreeMap<K, V>
+    pub fn new(alloc: A) -> BTreeMap<K, V, A>
         ensures { entries result ≡ [] }
     {
         BTreeMap {
@@ -92,7 +94,7 @@ impl<K: Ord, V> BTreeMap<K, V> {
     }
 
     /// An empty map, as `new` makes it. Upstream: `BTreeMap::default`.
-    pub fn default(alloc: Global) -> BTreeMap<K, V>
+    pub fn default(alloc: A) -> BTreeMap<K, V, A>
         ensures { entries result ≡ [] }
     {
         BTreeMap::new(alloc)
@@ -115,7 +117,7 @@ impl<K: Ord, V> BTreeMap<K, V> {
     }
 }
 
-impl<K: Ord + Drop, V: Drop> BTreeMap<K, V> {
+impl<K: Ord + Drop, V: Drop, A: Handle> BTreeMap<K, V, A> {
     /// Drops all pairs. It takes no memory. Upstream: `BTreeMap::clear`.
     pub fn clear(&mut self)
         ensures { entries self.new ≡ [] }

@@ -18,35 +18,35 @@ abbrev pub inner_below : Option (List ℕ) → ℕ
 inner_below None = 0
 inner_below (Some ns) = suc (total ns)
 
-module _ {K V : Type 0} where
+module _ {K V Z : Type 0} where
   -- One, and what the children have.
-  abbrev pub nodes_step : Node-F K V ℕ → ℕ
+  abbrev pub nodes_step : Node-F K V Z ℕ → ℕ
   nodes_step f = suc (nodes_below f.children)
 
   -- The node and all below it.
-  abbrev pub nodes_of : Node K V → ℕ
-  nodes_of = fold-Node K V ℕ nodes_step
+  abbrev pub nodes_of : Node K V Z → ℕ
+  nodes_of = fold-Node K V Z ℕ nodes_step
 
   -- The same of nodes with room for children.
-  abbrev pub inner_step : Node-F K V ℕ → ℕ
+  abbrev pub inner_step : Node-F K V Z ℕ → ℕ
   inner_step f = inner_below f.children
 
   -- Those of them with room for children.
-  abbrev pub inner_of : Node K V → ℕ
-  inner_of = fold-Node K V ℕ inner_step
+  abbrev pub inner_of : Node K V Z → ℕ
+  inner_of = fold-Node K V Z ℕ inner_step
 
   -- The nodes of a map.
-  abbrev pub nodes_in : Map K V → ℕ
+  abbrev pub nodes_in : Map K V Z → ℕ
   nodes_in None = 0
   nodes_in (Some root) = nodes_of root
 
   -- Those of them with room for children.
-  abbrev pub inner_in : Map K V → ℕ
+  abbrev pub inner_in : Map K V Z → ℕ
   inner_in None = 0
   inner_in (Some root) = inner_of root
 
   -- The bytes that a map holds, where a node's room for pairs has p bytes, and an inner node's room for children c.
-  abbrev pub bytes_in : ℕ → ℕ → Map K V → ℕ
+  abbrev pub bytes_in : ℕ → ℕ → Map K V Z → ℕ
   bytes_in p c m = nodes_in m * p + inner_in m * c
 
 -- The most nodes of a map of n pairs: one for each seven, and one for what is left.

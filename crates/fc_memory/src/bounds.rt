@@ -3,6 +3,7 @@ ghost use Rattle.std.specs.Prelude.{◌≡◌, ℕ, ◌+◌, ◌*◌, ◌^◌, �
 ghost use Rattle.fc_map.specs.Entries.{entries};
 ghost use Rattle.fc_memory.specs.Held as held;
 
+use fc_base::Handle;
 use fc_map::map::BTreeMap;
 
 /// The most nodes of a map of so many pairs. Each has one block, for its pairs.
@@ -30,7 +31,7 @@ pub fn most_bytes(pairs: usize, pair_room: usize, child_room: usize) -> Option<u
 }
 
 /// Says nothing but what holds of each map: a proof that has such a map calls it.
-pub fn held_within<K: Ord, V>(map: &BTreeMap<K, V>)
+pub fn held_within<K: Ord, V, A: Handle>(map: &BTreeMap<K, V, A>)
     ensures nodes { 7 * held.nodes_in map.now ≤ length (entries map.now) + 6 }
     ensures inner { 8 * held.inner_in map.now ≤ held.nodes_in map.now + 5 }
     ensures bytes { (p c n : ℕ) → length (entries map.now) ≤ n → held.bytes_in p c map.now ≤ held.most_bytes p c n }

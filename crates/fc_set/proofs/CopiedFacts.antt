@@ -117,6 +117,10 @@ module _ {S T : Type 0} (steps : S → Option (Bor T) → S → Type 0) (all : L
         any_after P [] x rest p = (0, x, omega arith, refl, p)
         any_after P (y ∷ done) x rest p = any_later P y (done ++ x ∷ rest) (any_after P done x rest p)
 
+    -- Where an item comes, there is one.
+    pub some_there : (made : List (T × V)) (s j : S) (x : Bor T) → IsCopiedSoFar same made s → steps s (Some x) j → 0 < length all
+    some_there made s j x f h = let there = (any_next (λ y. Unit {0}) made s j x f h tt).2 in omega arith
+
 -- the one answer that is equal
 pub equal_copy : (r : Ordering) → is_eq r ≡ true → r ≡ Equal
 equal_copy Less h = absurd cc

@@ -11,7 +11,7 @@ use Rattle.fc_base.specs.Ranges.{starts, stops}
 use Rattle.fc_map.specs.Entries.{Map, entries}
 
 -- The items of a set, in ascending order.
-abbrev pub items : {T V : Type 0} → Map T V → List T
+abbrev pub items : {T V Z : Type 0} → Map T V Z → List T
 items s = map (λ e. e.0) (entries s)
 
 -- How items stand to a query.

@@ -26,7 +26,7 @@ mod union;
 mod whole;
 
 pub use difference::Difference;
-use fc_base::{Count, Query, TryReserveError, compare};
+use fc_base::{Count, Handle, Query, TryReserveError, compare};
 use fc_map::map::{BTreeMap, for_sets};
 pub use intersection::Intersection;
 pub use iter::{IntoIter, Iter, Range};
@@ -39,28 +39,29 @@ pub use union::Union;
 /// An ordered set: items in strictly ascending order, as the keys of a `BTreeMap`, in a B-tree whose nodes hold 7 to 15 of them. Only
 /// calls that answer a `Result` take memory. Upstream: `BTreeSet`.
 #[derive(Drop)]
-pub struct BTreeSet<T: Ord> {
-    map: BTreeMap<T, ()>,
+pub struct BTreeSet<T: Ord, A: Handle = Global> {
+    map: BTreeMap<T, (), A>,
 }
 
-impl<T: Ord> Model for BTreeSet<T> {
+impl<T: Ord, A: Handle> Model for BTreeSet<T, A> {
     ghost use Rattle.std.specs.Prelude.{⊤};
     ghost use Rattle.std.specs.Coded.{coded_option};
+    ghost use base.Fml.{ftrue};
     ghost use base.Stored.{coded_unit};
     ghost use borrow.Follows.Maybe.{bare};
     ghost use Rattle.fc_map.specs.Entries.{Map};
     ghost use Rattle.fc_tree_node.specs.contracts.node.Node as node;
 
-    ghost Value = { Map T ⊤ };
+    ghost Value = { Map T ⊤ A };
 
-    ghost coded = { coded_option ((node.the_row (bare T T.code) (bare ⊤ coded_unit)).coded) };
+    ghost coded = { coded_option ((node.the_row (bare T T.code) (bare ⊤ coded_unit) (bare A A.code) (record { dealloc_token = λ _ _ _. ftrue })).coded) };
 
     ghost view = { λ s. s.map };
 }
 
-impl<T: Ord> BTreeSet<T> {
+impl<T: Ord, A: Handle> BTreeSet<T, A> {
     /// An empty set, which takes no memory. Later requests go to `alloc`. Upstream: `BTreeSet::new`.
-    pub fn new(alloc: Global) -> BTreeSet<T>
+    pub fn new(alloc: A) -> BTreeSet<T, A>
         ensures { items result ≡ [] }
     {
         BTreeSet {
@@ -69,7 +70,7 @@ impl<T: Ord> BTreeSet<T> {
     }
 
     /// An empty set, as `new` makes it. Upstream: `BTreeSet::default`.
-    pub fn default(alloc: Global) -> BTreeSet<T>
+    pub fn default(alloc: A) -> BTreeSet<T, A>
         ensures { items result ≡ [] }
     {
         BTreeSet::new(alloc)
@@ -132,7 +133,7 @@ impl<T: Ord> BTreeSet<T> {
     }
 }
 
-impl<T: Ord + Drop> BTreeSet<T> {
+impl<T: Ord + Drop, A: Handle> BTreeSet<T, A> {
     /// Drops all items. It takes no memory. Upstream: `BTreeSet::clear`.
     pub fn clear(&mut self)
         ensures { items self.new ≡ [] }

@@ -13,15 +13,15 @@ use Rattle.fc_tree_border.specs.declared.mending.Border.TheVariants.{Left, Right
 use Rattle.fc_tree_border.proofs.Borders.{levelled_bordered, sides_alike, side_whole}
 use Rattle.fc_tree_append.proofs.HungFacts.{root_bordered}
 
-module _ {K V : Type 0} where
+module _ {K V Z : Type 0} where
   -- the root and its two children
-  pub record IsCrowned (h : ℕ) (root left : Node K V) (up : K × V) (right : Node K V) : Type 0 where
+  pub record IsCrowned (h : ℕ) (root left : Node K V Z) (up : K × V) (right : Node K V Z) : Type 0 where
     pub own : own_pairs root ≡ up ∷ []
     pub children : children_of root ≡ left ∷ right ∷ []
     pub first : IsLevelled h left
     pub second : IsLevelled h right
 
-  module _ {h : ℕ} {root left right : Node K V} {up : K × V} (r : IsCrowned h root left up right) where
+  module _ {h : ℕ} {root left right : Node K V Z} {up : K × V} (r : IsCrowned h root left up right) where
     pub crowned_right : min_len ≤ length (own_pairs left) → IsBordered Right (suc h) root
     crowned_right m = root_bordered Right h root left up right r.own r.children ((m, r.first), levelled_bordered Right h right r.second)
 
@@ -45,7 +45,7 @@ module _ {K V : Type 0} where
     crowned_room m = rw (first_is, second_is) (omega arith)
 
     -- where the two become one node
-    pub merged_right : (new : Node K V) → length (own_pairs left) + length (own_pairs right) < capacity → IsMerged 0 root new → IsBordered Right (suc h) new
+    pub merged_right : (new : Node K V Z) → length (own_pairs left) + length (own_pairs right) < capacity → IsMerged 0 root new → IsBordered Right (suc h) new
     merged_right new m g =
         let none : length (own_pairs new) ≡ 0 = ap length g.pairs ∙ ap (λ ps. length (remove ps 0)) r.own in
         let one : children_of new ≡ g.whole ∷ [] = g.children ∙ ap (λ cs. slice_set (remove cs 1) 0 g.whole) r.children in
@@ -59,6 +59,6 @@ module _ {K V : Type 0} where
         (omega arith, omega arith, rw one whole)
 
   -- a tree of at most 2^64 - 1 pairs is not too high
-  pub within_few : (h : ℕ) (m : Map K V) → IsSoundWithin h m → length (entries m) < 2 ^ 64 → IsSoundMap m
+  pub within_few : (h : ℕ) (m : Map K V Z) → IsSoundWithin h m → length (entries m) < 2 ^ 64 → IsSoundMap m
   within_few h None w l = tt
   within_few h (Some root) w l = (w.0, few_levels w.0 (length (pairs_of root)) (deep_root w.0 root w.2) l, w.2)

@@ -32,71 +32,71 @@ module _ {X : Type 0} where
   beside_around Right a own b p o e =
       rw e (ap (λ zs. a ++ zs) (append-nil (own ++ p ∷ o)) ∙ sym (append_assoc a own (p ∷ o)) ∙ ap (λ zs. (a ++ zs) ++ p ∷ o) (sym (append-nil own)))
 
-module _ {K V : Type 0} where
-  outer : (s : Border) (n : Node K V) (i : ℕ) → i ≡ border_place s n → IsOuter s (before_child n i) (after_child n i)
+module _ {K V Z : Type 0} where
+  outer : (s : Border) (n : Node K V Z) (i : ℕ) → i ≡ border_place s n → IsOuter s (before_child n i) (after_child n i)
   outer Left n i e = ap (before_child n) e
   outer Right n i e = let q : i ≡ length (own_pairs n) = e in after_none n i (omega arith)
 
   -- the child at the place is on the border of the node
-  pub record IsOnBorder (s : Border) (g : ℕ) (n : Node K V) (i : ℕ) : Type 0 where
+  pub record IsOnBorder (s : Border) (g : ℕ) (n : Node K V Z) (i : ℕ) : Type 0 where
     pub place : i ≡ border_place s n
     pub levels : IsLevelled (suc g) n
     pub le : i ≤ length (own_pairs n)
     pub there : i < length (children_of n)
     pub child : IsSound g (child_at n i)
 
-  place_le : (s : Border) (n : Node K V) (i : ℕ) → i ≡ border_place s n → i ≤ length (own_pairs n)
+  place_le : (s : Border) (n : Node K V Z) (i : ℕ) → i ≡ border_place s n → i ≤ length (own_pairs n)
   place_le Left n i e = let q : i ≡ 0 = e in omega arith
   place_le Right n i e = let q : i ≡ length (own_pairs n) = e in omega arith
 
-  pub on_border : (s : Border) (g : ℕ) (n : Node K V) (i : ℕ) → IsLevelled (suc g) n → i ≡ border_place s n → IsOnBorder s g n i
+  pub on_border : (s : Border) (g : ℕ) (n : Node K V Z) (i : ℕ) → IsLevelled (suc g) n → i ≡ border_place s n → IsOnBorder s g n i
   on_border s g n i l p =
       let many : length (children_of n) ≡ length (own_pairs n) + 1 = l.1 in
       let le = place_le s n i p in
       record { place = p; levels = l; le = le; there = omega arith; child = child_below g n i l le }
 
   -- the other node put on that side of a node of its level
-  pub placed_pairs : (s : Border) (old other new right : Node K V) (p : K × V) → IsPlacedBeside s old other new right
+  pub placed_pairs : (s : Border) (old other new right : Node K V Z) (p : K × V) → IsPlacedBeside s old other new right
       → pairs_of new ++ p ∷ pairs_of right ≡ beside s (pairs_of old) p (pairs_of other)
   placed_pairs Left old other new right p e = ap (λ n. pairs_of n ++ p ∷ pairs_of right) e.0 ∙ ap (λ n. pairs_of other ++ p ∷ pairs_of n) e.1
   placed_pairs Right old other new right p e = ap (λ n. pairs_of n ++ p ∷ pairs_of right) e.0 ∙ ap (λ n. pairs_of old ++ p ∷ pairs_of n) e.1
 
-  pub placed_levels : (s : Border) (h : ℕ) (old other new right : Node K V) → IsPlacedBeside s old other new right → IsSound h old → IsLevelled h other
+  pub placed_levels : (s : Border) (h : ℕ) (old other new right : Node K V Z) → IsPlacedBeside s old other new right → IsSound h old → IsLevelled h other
       → AreHalves s h new right
   placed_levels Left h old other new right e a b = (subst (IsLeftBordered h) (sym e.0) (levelled_bordered Left h other b), subst (IsSound h) (sym e.1) a)
   placed_levels Right h old other new right e a b = (subst (IsSound h) (sym e.0) a, subst (IsRightBordered h) (sym e.1) (levelled_bordered Right h other b))
 
   -- a node takes at most one spare node
-  pub used_most : (t : Split K V) (old new : ℕ) → MatchOption t (new ≡ old) (λ _. new + 1 ≡ old) → old ≤ new + 1
+  pub used_most : (t : Split K V Z) (old new : ℕ) → MatchOption t (new ≡ old) (λ _. new + 1 ≡ old) → old ≤ new + 1
   used_most None old new e = omega arith
   used_most (Some x) old new e = omega arith
 
-  place_kept : (s : Border) (old mid : Node K V) → own_pairs mid ≡ own_pairs old → border_place s mid ≡ border_place s old
+  place_kept : (s : Border) (old mid : Node K V Z) → own_pairs mid ≡ own_pairs old → border_place s mid ≡ border_place s old
   place_kept Left old mid e = refl
   place_kept Right old mid e = ap length e
 
   -- children of which the one on the border may be short
-  abbrev AreBordered : Border → ℕ → List (Node K V) → Type 0
+  abbrev AreBordered : Border → ℕ → List (Node K V Z) → Type 0
   AreBordered Left g = FirstThen (IsLeftBordered g) (IsSound g)
   AreBordered Right g = LastAfter (IsRightBordered g) (IsSound g)
 
-  bordered_of : (s : Border) (g : ℕ) (n : Node K V) → length (own_pairs n) ≤ capacity → IsInner n → AreBordered s g (children_of n) → IsBordered s (suc g) n
+  bordered_of : (s : Border) (g : ℕ) (n : Node K V Z) → length (own_pairs n) ≤ capacity → IsInner n → AreBordered s g (children_of n) → IsBordered s (suc g) n
   bordered_of Left g n le i a = (le, i, a)
   bordered_of Right g n le i a = (le, i, a)
 
   -- two halves among sound children
-  halves_among : (s : Border) (g : ℕ) (c r : Node K V) (front back : List (Node K V)) → IsOuter s front back → AllByRecursion (IsSound g) front
+  halves_among : (s : Border) (g : ℕ) (c r : Node K V Z) (front back : List (Node K V Z)) → IsOuter s front back → AllByRecursion (IsSound g) front
       → AllByRecursion (IsSound g) back → AreHalves s g c r → AreBordered s g (front ++ c ∷ r ∷ back)
   halves_among Left g c r front back e a b h = subst (λ xs. FirstThen (IsLeftBordered g) (IsSound g) (xs ++ c ∷ r ∷ back)) (sym e) (h.0, (h.1, b))
   halves_among Right g c r front back e a b h =
       subst (λ xs. LastAfter (IsRightBordered g) (IsSound g) (front ++ c ∷ r ∷ xs)) (sym e)
       (last_join (IsRightBordered g) (IsSound g) front (c ∷ r ∷ []) (omega arith) a h)
 
-  some_child : (n : Node K V) → IsInner n → 0 < length (children_of n)
+  some_child : (n : Node K V Z) → IsInner n → 0 < length (children_of n)
   some_child n i = let e : length (children_of n) ≡ length (own_pairs n) + 1 = i in omega arith
 
   -- such children in a node, or in the two that it was halved into
-  hung_of : (s : Border) (g : ℕ) (new : Node K V) (t : Split K V) → AreBordered s g (children_after new t) → IsInner new → IfSome t (λ x. IsInner x.1)
+  hung_of : (s : Border) (g : ℕ) (new : Node K V Z) (t : Split K V Z) → AreBordered s g (children_after new t) → IsInner new → IfSome t (λ x. IsInner x.1)
       → MatchOption t (length (own_pairs new) ≤ capacity) (λ x. IsHalved new × IsHalved x.1) → IsHung s (suc g) new t
   hung_of s g new None a i j m = bordered_of s g new m i a
   hung_of Left g new (Some (up, r)) a i j m =
@@ -110,7 +110,7 @@ module _ {K V : Type 0} where
       let y = m.1.1 in
       ((m.0.0, (omega arith, i, t.0)), (omega arith, j, t.1))
 
-  module _ (s : Border) (g : ℕ) (old mid c : Node K V) (i : ℕ) (on : IsOnBorder s g old i) (m : IsChildSet old mid i c) where
+  module _ (s : Border) (g : ℕ) (old mid c : Node K V Z) (i : ℕ) (on : IsOnBorder s g old i) (m : IsChildSet old mid i c) where
     -- the node, whose child on the border is now c
     pub stay_pairs : (p : K × V) (other : List (K × V)) → pairs_of c ≡ beside s (pairs_of (child_at old i)) p other
         → pairs_of mid ≡ beside s (pairs_of old) p other
@@ -130,7 +130,7 @@ module _ {K V : Type 0} where
         (all_drop (IsSound g) (suc i) cs on.levels.2)
 
     -- the same once it has taken the pair and the node that the child has handed out
-    pub put_pairs : (p : K × V) (other : List (K × V)) (new r : Node K V) (t : Split K V) (up : K × V) → own_pairs_after new t ≡ insert (own_pairs mid) i up
+    pub put_pairs : (p : K × V) (other : List (K × V)) (new r : Node K V Z) (t : Split K V Z) (up : K × V) → own_pairs_after new t ≡ insert (own_pairs mid) i up
         → children_after new t ≡ insert (children_of mid) (i + 1) r → IsInner new → IfSome t (λ x. IsInner x.1)
         → pairs_of c ++ up ∷ pairs_of r ≡ beside s (pairs_of (child_at old i)) p other → spread new t ≡ beside s (pairs_of old) p other
     put_pairs p other new r t up q f h k e =
@@ -144,8 +144,8 @@ module _ {K V : Type 0} where
         let q : i ≡ length (own_pairs old) = e in let n : length (children_of old) ≡ length (own_pairs old) + 1 = on.levels.1 in drop_all (children_of old)
         (suc i) (omega arith)
 
-    pub put_levels : (new r : Node K V) (t : Split K V) (up : K × V) → IsHung s g c (Some (up, r)) → children_after new t ≡ insert (children_of mid) (i + 1) r
-        → IsInner new → IfSome t (λ x. IsInner x.1)
+    pub put_levels : (new r : Node K V Z) (t : Split K V Z) (up : K × V) → IsHung s g c (Some (up, r))
+        → children_after new t ≡ insert (children_of mid) (i + 1) r → IsInner new → IfSome t (λ x. IsInner x.1)
         → MatchOption t (length (own_pairs new) ≤ capacity) (λ x. IsHalved new × IsHalved x.1) → IsHung s (suc g) new t
     put_levels new r t up u f h k size =
         let cs = children_of old in
@@ -155,7 +155,7 @@ module _ {K V : Type 0} where
         (all_drop (IsSound g) (suc i) cs on.levels.2) u)) h k size
 
   -- a new root above the two
-  pub root_bordered : (s : Border) (g : ℕ) (root left : Node K V) (up : K × V) (right : Node K V) → own_pairs root ≡ up ∷ []
+  pub root_bordered : (s : Border) (g : ℕ) (root left : Node K V Z) (up : K × V) (right : Node K V Z) → own_pairs root ≡ up ∷ []
       → children_of root ≡ left ∷ right ∷ [] → IsHung s g left (Some (up, right)) → IsBordered s (suc g) root
   root_bordered s g root left up right e f h =
       let n : length (own_pairs root) ≡ 1 = ap length e in

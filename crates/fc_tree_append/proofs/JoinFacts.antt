@@ -1,5 +1,7 @@
 -- What stands first in two lists that are joined.
-use Rattle.std.proofs.Common.{◌≡◌, List, [], ◌∷◌, ◌++◌, refl, sym, ap, ◌∙◌, subst, cond, append_assoc, append-nil, ◌⊎◌, inl, inr}
+use Rattle.std.proofs.Common.{◌≡◌, ◌<◌, ◌↔◌, length, arith, List, [], ◌∷◌, ◌++◌, refl, sym, ap, ◌∙◌, subst, cond, append_assoc, append-nil, ◌⊎◌, inl, inr}
+use Rattle.std.specs.Prelude.{Bool, false, IsTrue}
+use Rattle.std.proofs.lemmas.Bool.{false≢true}
 use Rattle.std.specs.List.{AllByRecursion}
 use Rattle.std.specs.Ordering.{is_lt, is_gt}
 use Rattle.std.specs.Cmp.{IsTotalOrder}
@@ -93,3 +95,16 @@ module _ {K V : Type 0} (cmp : K → K → Ordering) where
       ap (λ zs. (old ++ zs) ++ t) e ∙ ap (λ zs. zs ++ t) (append-nil old) ∙ ap (λ zs. old ++ zs) (sym (joined_none t a))
       ∙ ap (λ zs. old ++ joined cmp zs t) (sym e)
   drained old f t (inr e) a = ap (λ zs. (old ++ f) ++ zs) e ∙ append-nil (old ++ f) ∙ ap (λ zs. old ++ joined cmp f zs) (sym e)
+
+module _ {X : Type 0} where
+  -- an item goes over from one list's front to another's end
+  pub gone_over : (old new given pairs rest : List X) (x : X) → pairs ≡ x ∷ rest → new ≡ old ++ x ∷ [] → old ++ pairs ≡ given → new ++ rest ≡ given
+  gone_over old new given pairs rest x e f h = ap (λ zs. zs ++ rest) f ∙ append_assoc old (x ∷ []) rest ∙ ap (λ zs. old ++ zs) (sym e) ∙ h
+
+  pub all_gone_over : (old given rest : List X) → rest ≡ [] → old ++ rest ≡ given → old ≡ given
+  all_gone_over old given rest e h = sym (append-nil old) ∙ ap (λ zs. old ++ zs) (sym e) ∙ h
+
+  -- a list that is told to have an item
+  pub some_left : (b : Bool) (xs : List X) → IsTrue b ↔ (length xs ≡ 0) → b ≡ false → 0 < length xs
+  some_left b [] e some = absurd (false≢true (sym some ∙ e.1 refl))
+  some_left b (x ∷ xs) e some = omega arith

@@ -7,11 +7,10 @@ ghost use Rattle.fc_tree_node.specs.Tree.{entries, IsSoundMap};
 
 use crate::join::try_join;
 use crate::merge::merge;
-use fc_base::{Count, TryReserveError, compare};
+use fc_base::{Count, Handle, TryReserveError, compare};
 use fc_tree_build::builder::Builder;
 use fc_tree_node::node::Node;
 use fc_tree_search::first_last::{first_pair, last_pair};
-use std::alloc::Global;
 use std::mem;
 
 /// Moves all pairs of `theirs` into `ours`, and answers how many there are then. Of two equal keys the pair of `theirs` stays, and
@@ -22,11 +21,11 @@ use std::mem;
 /// # Errors
 /// `CapacityOverflow` where both hold pairs and their lengths pass `usize::MAX` together, and `AllocError` if a node for them is
 /// refused: all nodes are made first. Both are then as before.
-pub fn try_append<K: Ord + Drop, V: Drop>(
-    alloc: Global,
-    ours: &mut Option<Node<K, V>>,
+pub fn try_append<K: Ord + Drop, V: Drop, A: Handle>(
+    alloc: A,
+    ours: &mut Option<Node<K, V, A>>,
     our_len: usize,
-    theirs: &mut Option<Node<K, V>>,
+    theirs: &mut Option<Node<K, V, A>>,
     their_len: usize,
     count: &mut Count,
 ) -> Result<usize, TryReserveError>
@@ -69,9 +68,9 @@ pub fn try_append<K: Ord + Drop, V: Drop>(
 }
 
 // Whether all keys of `theirs` lie beyond all of `ours`: the last of the one and the first of the other are compared.
-fn is_beyond<K: Ord, V>(
-    ours: &Option<Node<K, V>>,
-    theirs: &Option<Node<K, V>>,
+fn is_beyond<K: Ord, V, A: Handle>(
+    ours: &Option<Node<K, V, A>>,
+    theirs: &Option<Node<K, V, A>>,
     count: &mut Count,
 ) -> bool
     requires sound { IsSoundMap ours.now × IsSoundMap theirs.now }

@@ -6,7 +6,7 @@ ghost use Rattle.fc_tree_node.specs.Tree.{entries, IsSoundWithin};
 ghost use Rattle.fc_tree_insertion.specs.Insertion.{spread};
 ghost use Rattle.fc_tree_append.specs.Hung.{beside, IsHung, IsPlacedBeside};
 
-use fc_base::Count;
+use fc_base::{Count, Handle};
 use fc_tree_border::mending::{Border, border_child, mend};
 use fc_tree_insertion::insertion::{grow, put_inner};
 use fc_tree_insertion::spares::Spares;
@@ -15,14 +15,14 @@ use std::mem;
 
 /// Hangs the tree at `other` on one border of the tree at `root`, whose leaves lie `depth` levels deeper, with `pair` between the
 /// two. It compares nothing, and what it takes no border for stays as it is. `other` may hold too few pairs for a node, none too.
-pub(crate) fn hang<K: Drop, V: Drop>(
-    root: Node<K, V>,
+pub(crate) fn hang<K: Drop, V: Drop, A: Handle>(
+    root: Node<K, V, A>,
     side: Border,
     depth: usize,
     pair: (K, V),
-    other: Node<K, V>,
-    spares: Spares<K, V>,
-) -> Option<Node<K, V>>
+    other: Node<K, V, A>,
+    spares: Spares<K, V, A>,
+) -> Option<Node<K, V, A>>
     requires levels { (h : ℕ) × IsLevelled (depth + h) root × IsLevelled h other }
     requires some { depth ≡ 0 → min_len ≤ length (own_pairs root) }
     requires spares { depth + 1 ≤ spares }
@@ -43,14 +43,14 @@ pub(crate) fn hang<K: Drop, V: Drop>(
 
 // Hangs the tree at `other` so many levels below the node, on its border. A full node is halved, as by an insertion: it hands out
 // the pair in its middle and a node of those after it.
-fn hang_below<K: Drop, V: Drop>(
-    node: &mut Node<K, V>,
+fn hang_below<K: Drop, V: Drop, A: Handle>(
+    node: &mut Node<K, V, A>,
     side: Border,
     depth: usize,
     pair: (K, V),
-    other: Node<K, V>,
-    spares: &mut Spares<K, V>,
-) -> Option<((K, V), Node<K, V>)>
+    other: Node<K, V, A>,
+    spares: &mut Spares<K, V, A>,
+) -> Option<((K, V), Node<K, V, A>)>
     requires levels { (h : ℕ) × IsLevelled (depth + h) node.old × IsLevelled h other }
     requires some { depth ≡ 0 → min_len ≤ length (own_pairs node.old) }
     requires spares { depth ≤ spares.old }
@@ -65,7 +65,7 @@ fn hang_below<K: Drop, V: Drop>(
     let below = match &mut node.children {
         None => unreachable!(),
         Some(children) => {
-            let child: &mut Node<K, V> = children.get_mut(place);
+            let child: &mut Node<K, V, A> = children.get_mut(place);
             hang_below(child, side, depth - 1, pair, other, spares)
         }
     };
@@ -76,11 +76,11 @@ fn hang_below<K: Drop, V: Drop>(
 }
 
 // Puts the other node on that side of the node, and hands out the one that is then on the right.
-fn put_beside<K: Drop, V: Drop>(
-    node: &mut Node<K, V>,
+fn put_beside<K: Drop, V: Drop, A: Handle>(
+    node: &mut Node<K, V, A>,
     side: Border,
-    other: Node<K, V>,
-) -> Node<K, V>
+    other: Node<K, V, A>,
+) -> Node<K, V, A>
     ensures { IsPlacedBeside side node.old other node.new result }
 {
     let mut right = other;

@@ -5,7 +5,7 @@ ghost use Rattle.fc_tree_node.specs.Node.{pairs_of, IsBlankInner, IsLevelled, Is
 ghost use Rattle.fc_tree_node.specs.Tree.{entries, IsSoundMap, IsSoundWithin};
 
 use crate::hanging::hang;
-use fc_base::{Count, TryReserveError};
+use fc_base::{Count, Handle, TryReserveError};
 use fc_tree_border::mending::{Border, mend};
 use fc_tree_insertion::insertion::grow;
 use fc_tree_insertion::new_nodes::try_spares;
@@ -13,17 +13,16 @@ use fc_tree_insertion::spares::Spares;
 use fc_tree_node::node::{CAPACITY, MIN_LEN, Node};
 use fc_tree_removal::first_last::remove_last;
 use fc_tree_removal::removal::remove_first;
-use std::alloc::Global;
 
 /// Puts the pairs of `theirs` after those of `ours`, in a few nodes of each level from the shorter tree's root up. It compares
 /// nothing.
 ///
 /// # Errors
 /// `AllocError` if a node is refused: one is made for each of these levels, and one for a new root. Both are then as before.
-pub(crate) fn try_join<K: Drop, V: Drop>(
-    alloc: Global,
-    ours: &mut Option<Node<K, V>>,
-    theirs: &mut Option<Node<K, V>>,
+pub(crate) fn try_join<K: Drop, V: Drop, A: Handle>(
+    alloc: A,
+    ours: &mut Option<Node<K, V, A>>,
+    theirs: &mut Option<Node<K, V, A>>,
 ) -> Result<(), TryReserveError>
     requires sound { IsSoundMap ours.old × IsSoundMap theirs.old }
     requires some { (0 < length (entries ours.old)) × (0 < length (entries theirs.old)) }
@@ -50,7 +49,7 @@ pub(crate) fn try_join<K: Drop, V: Drop>(
 }
 
 // How many levels lie below the node.
-fn height<K, V>(node: &Node<K, V>) -> usize
+fn height<K, V, A: Handle>(node: &Node<K, V, A>) -> usize
     requires { IsTree node.now }
     ensures { (h : ℕ) → IsLevelled h node.now → result ≡ h }
 {
@@ -61,11 +60,11 @@ fn height<K, V>(node: &Node<K, V>) -> usize
 }
 
 // One tree of the pairs of two. The pair between them comes from the shorter one.
-fn join<K: Drop, V: Drop>(
-    left: Node<K, V>,
-    right: Node<K, V>,
-    spares: Spares<K, V>,
-) -> Option<Node<K, V>>
+fn join<K: Drop, V: Drop, A: Handle>(
+    left: Node<K, V, A>,
+    right: Node<K, V, A>,
+    spares: Spares<K, V, A>,
+) -> Option<Node<K, V, A>>
     requires left { (g : ℕ) × (g ≤ most_height) × IsSoundRoot g left }
     requires right { (h : ℕ) × (h ≤ most_height) × IsSoundRoot h right }
     requires spares { (g h : ℕ) → IsSoundRoot g left → IsSoundRoot h right → (g + 1 ≤ spares + h) × (h + 1 ≤ spares + g) }
@@ -89,12 +88,12 @@ fn join<K: Drop, V: Drop>(
 }
 
 // A tree of two others of one height, with the pair between them: both go below a new root, or become one node where they fit.
-fn crown<K: Drop, V: Drop>(
-    left: Node<K, V>,
+fn crown<K: Drop, V: Drop, A: Handle>(
+    left: Node<K, V, A>,
     pair: (K, V),
-    right: Node<K, V>,
-    blank: Node<K, V>,
-) -> Option<Node<K, V>>
+    right: Node<K, V, A>,
+    blank: Node<K, V, A>,
+) -> Option<Node<K, V, A>>
     requires levels { (h : ℕ) × IsLevelled h left × IsLevelled h right }
     requires blank { IsBlankInner blank }
     ensures pairs { entries result ≡ pairs_of left ++ pair ∷ pairs_of right }

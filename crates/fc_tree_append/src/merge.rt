@@ -4,7 +4,7 @@ ghost use Rattle.fc_base.specs.Ascending.{IsAscending};
 ghost use Rattle.fc_base.specs.Joined.{joined};
 ghost use Rattle.fc_tree_node.specs.Tree.{entries, IsSoundMap};
 
-use fc_base::{Count, compare};
+use fc_base::{Count, Handle, compare};
 use fc_tree_build::builder::Builder;
 use fc_tree_drain::drain::Front;
 use fc_tree_node::node::Node;
@@ -13,12 +13,12 @@ use std::cmp::Ordering;
 /// Merges two trees: the pairs of both in ascending order, and how many they are; of two equal keys the pair of `theirs` stays,
 /// and ours is dropped. A key is compared once for each pair that is put in, until either tree has no more: never for the last one, and
 /// at least as often as the shorter has pairs.
-pub fn merge<K: Ord + Drop, V: Drop>(
-    ours: Option<Node<K, V>>,
-    theirs: Option<Node<K, V>>,
-    builder: Builder<K, V>,
+pub fn merge<K: Ord + Drop, V: Drop, A: Handle>(
+    ours: Option<Node<K, V, A>>,
+    theirs: Option<Node<K, V, A>>,
+    builder: Builder<K, V, A>,
     count: &mut Count,
-) -> (Option<Node<K, V>>, usize)
+) -> (Option<Node<K, V, A>>, usize)
     requires some { (0 < length (entries ours)) × (0 < length (entries theirs)) }
     requires sound { IsSoundMap ours × IsSoundMap theirs }
     requires order { IsAscending K.cmp (entries ours) × IsAscending K.cmp (entries theirs) }
@@ -45,10 +45,10 @@ pub fn merge<K: Ord + Drop, V: Drop>(
 }
 
 // Puts the smaller one of two first pairs into the builder, and of two equal keys theirs.
-fn step<K: Ord + Drop, V: Drop>(
-    ours: &mut Front<K, V>,
-    theirs: &mut Front<K, V>,
-    builder: &mut Builder<K, V>,
+fn step<K: Ord + Drop, V: Drop, A: Handle>(
+    ours: &mut Front<K, V, A>,
+    theirs: &mut Front<K, V, A>,
+    builder: &mut Builder<K, V, A>,
     count: &mut Count,
 )
     requires some { (0 < length ours.old) × (0 < length theirs.old) }
@@ -74,7 +74,7 @@ fn step<K: Ord + Drop, V: Drop>(
 }
 
 // Puts all pairs that are left into the builder.
-fn push_all<K: Drop, V: Drop>(pairs: &mut Front<K, V>, builder: &mut Builder<K, V>)
+fn push_all<K: Drop, V: Drop, A: Handle>(pairs: &mut Front<K, V, A>, builder: &mut Builder<K, V, A>)
     requires room { length pairs.old ≤ builder.old.room }
     ensures pairs { builder.new.pairs ≡ builder.old.pairs ++ pairs.old }
     ensures filled { length builder.new.pairs + builder.new.room ≡ length builder.old.pairs + builder.old.room }

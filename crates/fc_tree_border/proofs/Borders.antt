@@ -54,42 +54,42 @@ module _ {X : Type 0} where
   none [] e = refl
   none (x ∷ xs) e = absurd (omega arith)
 
-module _ {K V : Type 0} where
+module _ {K V Z : Type 0} where
   -- what a node is, on the left and on the right of the two that the border and its sibling are
-  abbrev pub LeftOf : Border → ℕ → Node K V → Type 0
+  abbrev pub LeftOf : Border → ℕ → Node K V Z → Type 0
   LeftOf Left = IsLeftBordered
   LeftOf Right = IsLevelled
 
-  abbrev pub RightOf : Border → ℕ → Node K V → Type 0
+  abbrev pub RightOf : Border → ℕ → Node K V Z → Type 0
   RightOf Left = IsLevelled
   RightOf Right = IsRightBordered
 
   -- a sound border is one that may be short
-  pub levelled_bordered : (s : Border) (h : ℕ) (n : Node K V) → IsLevelled h n → IsBordered s h n
+  pub levelled_bordered : (s : Border) (h : ℕ) (n : Node K V Z) → IsLevelled h n → IsBordered s h n
   levelled_bordered Left zero n l = l
   levelled_bordered Right zero n l = l
   levelled_bordered Left (suc h) n l = (l.0, l.1, first_of_all (IsLeftBordered h) (IsSound h) (children_of n) (λ c s. levelled_bordered Left h c s.1) l.2)
   levelled_bordered Right (suc h) n l = (l.0, l.1, last_of_all (IsRightBordered h) (IsSound h) (children_of n) (λ c s. levelled_bordered Right h c s.1) l.2)
 
-  pub leaf_alike : (n m : Node K V) → IsLeaf n → AreAlike n m → IsLeaf m
+  pub leaf_alike : (n m : Node K V Z) → IsLeaf n → AreAlike n m → IsLeaf m
   leaf_alike n m l (inl a) = a.1
   leaf_alike n m l (inr a) = absurd (leaf_or_inner n l a.0)
 
-  pub inner_alike : (n m : Node K V) → IsInner n → AreAlike n m → IsInner m
+  pub inner_alike : (n m : Node K V Z) → IsInner n → AreAlike n m → IsInner m
   inner_alike n m i (inl a) = absurd (leaf_or_inner n a.0 i)
   inner_alike n m i (inr a) = a.1
 
-  some_child : (n : Node K V) → IsInner n → 0 < length (children_of n)
+  some_child : (n : Node K V Z) → IsInner n → 0 < length (children_of n)
   some_child n i = let e : length (children_of n) ≡ length (own_pairs n) + 1 = i in omega arith
 
-  pub sides_alike : (s : Border) (h : ℕ) (l r : Node K V) → LeftOf s h l → RightOf s h r → AreAlike l r
+  pub sides_alike : (s : Border) (h : ℕ) (l r : Node K V Z) → LeftOf s h l → RightOf s h r → AreAlike l r
   sides_alike Left zero l r a b = inl (a.1, b.1)
   sides_alike Right zero l r a b = inl (a.1, b.1)
   sides_alike Left (suc h) l r a b = inr (a.1, b.1)
   sides_alike Right (suc h) l r a b = inr (a.1, b.1)
 
   -- two neighbours made one
-  pub side_whole : (s : Border) (h : ℕ) (l r w : Node K V) → LeftOf s h l → RightOf s h r → children_of w ≡ children_of l ++ children_of r → AreAlike l w
+  pub side_whole : (s : Border) (h : ℕ) (l r w : Node K V Z) → LeftOf s h l → RightOf s h r → children_of w ≡ children_of l ++ children_of r → AreAlike l w
       → length (own_pairs w) ≤ capacity → IsBordered s h w
   side_whole Left zero l r w a b e x le = (le, leaf_alike l w a.1 x)
   side_whole Right zero l r w a b e x le = (le, leaf_alike l w a.1 x)
@@ -107,7 +107,7 @@ module _ {K V : Type 0} where
   )
 
   -- two neighbours of which one took from the other
-  pub side_both : (s : Border) (h : ℕ) (l r l' r' : Node K V) → LeftOf s h l → RightOf s h r
+  pub side_both : (s : Border) (h : ℕ) (l r l' r' : Node K V Z) → LeftOf s h l → RightOf s h r
       → children_of l' ++ children_of r' ≡ children_of l ++ children_of r → AreAlike l l' → AreAlike l' r'
       → length (own_pairs l') ≤ capacity → length (own_pairs r') ≤ capacity → LeftOf s h l' × RightOf s h r'
   side_both Left zero l r l' r' a b e x y m n = let i = leaf_alike l l' a.1 x in ((m, i), (n, leaf_alike l' r' i y))
@@ -127,7 +127,7 @@ module _ {K V : Type 0} where
       ((m, i, t.0), (n, j, t.1))
 
   -- a node above the leaves, with the child on its border among sound ones
-  pub record IsOpened (s : Border) (h : ℕ) (n : Node K V) : Type 0 where
+  pub record IsOpened (s : Border) (h : ℕ) (n : Node K V Z) : Type 0 where
     pub fits : length (own_pairs n) ≤ capacity
     pub inner : IsInner n
     pub there : border_place s n < length (children_of n)
@@ -135,12 +135,12 @@ module _ {K V : Type 0} where
     pub child : IsBordered s h (child_at n (border_place s n))
     pub after : AllByRecursion (IsSound h) (drop (suc (border_place s n)) (children_of n))
 
-  first_parts : (P Q : Node K V → Type 0) (cs : List (Node K V)) (d : Node K V) → 0 < length cs → FirstThen P Q cs
+  first_parts : (P Q : Node K V Z → Type 0) (cs : List (Node K V Z)) (d : Node K V Z) → 0 < length cs → FirstThen P Q cs
       → P (get_or cs 0 d) × AllByRecursion Q (drop 1 cs)
   first_parts P Q [] d h a = absurd (omega arith)
   first_parts P Q (c ∷ cs) d h a = a
 
-  last_parts : (P Q : Node K V → Type 0) (cs : List (Node K V)) (i : ℕ) (d : Node K V) → length cs ≡ i + 1 → LastAfter P Q cs
+  last_parts : (P Q : Node K V Z → Type 0) (cs : List (Node K V Z)) (i : ℕ) (d : Node K V Z) → length cs ≡ i + 1 → LastAfter P Q cs
       → AllByRecursion Q (take i cs) × P (get_or cs i d) × AllByRecursion Q (drop (suc i) cs)
   last_parts P Q [] i d h a = absurd (omega arith)
   last_parts P Q (c ∷ []) zero d h a = (tt, a, tt)
@@ -148,7 +148,7 @@ module _ {K V : Type 0} where
   last_parts P Q (c ∷ b ∷ cs) zero d h a = absurd (omega arith)
   last_parts P Q (c ∷ b ∷ cs) (suc i) d h a = let r = last_parts P Q (b ∷ cs) i d (omega arith) a.1 in ((a.0, r.0), r.1, r.2)
 
-  pub border_opened : (s : Border) (h : ℕ) (n : Node K V) → IsBordered s (suc h) n → IsOpened s h n
+  pub border_opened : (s : Border) (h : ℕ) (n : Node K V Z) → IsBordered s (suc h) n → IsOpened s h n
   border_opened Left h n b =
       let k = some_child n b.1 in
       let p = first_parts (IsLeftBordered h) (IsSound h) (children_of n) n k b.2 in
@@ -159,7 +159,8 @@ module _ {K V : Type 0} where
       record { fits = b.0; inner = b.1; there = omega arith; before = p.0; child = p.1; after = p.2 }
 
   -- a node whose child on the border stands among sound ones
-  pub border_closed : (s : Border) (h : ℕ) (n c : Node K V) (A D : List (Node K V)) → length (own_pairs n) ≤ capacity → IsInner n → children_of n ≡ A ++ c ∷ D
+  pub border_closed : (s : Border) (h : ℕ) (n c : Node K V Z) (A D : List (Node K V Z)) → length (own_pairs n) ≤ capacity → IsInner n
+      → children_of n ≡ A ++ c ∷ D
       → length A ≡ border_place s n
       → AllByRecursion (IsSound h) A → IsBordered s h c → AllByRecursion (IsSound h) D → IsBordered s (suc h) n
   border_closed Left h n c A D le i e k a b d =
@@ -174,5 +175,5 @@ module _ {K V : Type 0} where
             (last_join (IsRightBordered h) (IsSound h) A (c ∷ []) (omega arith) a b),
       )
 
-  pub child_here : (n c : Node K V) (A D : List (Node K V)) (i : ℕ) → children_of n ≡ A ++ c ∷ D → length A ≡ i → child_at n i ≡ c
+  pub child_here : (n c : Node K V Z) (A D : List (Node K V Z)) (i : ℕ) → children_of n ≡ A ++ c ∷ D → length A ≡ i → child_at n i ≡ c
   child_here n c A D i e k = ap (λ cs. get_or cs i n) e ∙ at_end A c D i n k

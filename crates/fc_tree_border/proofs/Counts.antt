@@ -23,48 +23,48 @@ module _ {X : Type 0} where
   length_weave [] ps e = absurd (omega arith)
   length_weave (c ∷ cs) ps e = let i = length_after ps cs (omega arith) in omega (arith, length-append c (after_list ps cs))
 
-module _ {K V : Type 0} where
+module _ {K V Z : Type 0} where
   -- how many pairs the nodes hold with those below them
-  abbrev pub pairs_in : List (Node K V) → ℕ
+  abbrev pub pairs_in : List (Node K V Z) → ℕ
   pairs_in [] = 0
   pairs_in (c ∷ cs) = length (pairs_of c) + pairs_in cs
 
-  all_in : (cs : List (Node K V)) → all_of (map pairs_of cs) ≡ pairs_in cs
+  all_in : (cs : List (Node K V Z)) → all_of (map pairs_of cs) ≡ pairs_in cs
   all_in [] = refl
   all_in (c ∷ cs) = ap (λ k. length (pairs_of c) + k) (all_in cs)
 
-  pub counted : (h : ℕ) (n : Node K V) → IsLevelled h n → length (pairs_of n) ≡ length (own_pairs n) + pairs_in (children_of n)
+  pub counted : (h : ℕ) (n : Node K V Z) → IsLevelled h n → length (pairs_of n) ≡ length (own_pairs n) + pairs_in (children_of n)
   counted zero n l = let z = ap pairs_in (leaf_children n l.1) in ap length (leaf_pairs n l.1) ∙ omega arith
   counted (suc h) n l =
       let e : length (children_of n) ≡ length (own_pairs n) + 1 = l.1 in
       let w = length_weave (map pairs_of (children_of n)) (own_pairs n) (length-map (children_of n) pairs_of ∙ e) in
       ap length (pairs_is n) ∙ w ∙ ap (λ k. length (own_pairs n) + k) (all_in (children_of n))
 
-  next_in : (cs : List (Node K V)) (i : ℕ) (d : Node K V) → i < length cs
+  next_in : (cs : List (Node K V Z)) (i : ℕ) (d : Node K V Z) → i < length cs
       → (pairs_in (take (suc i) cs) ≡ pairs_in (take i cs) + length (pairs_of (get_or cs i d))) × (pairs_in (take (suc i) cs) ≤ pairs_in cs)
   next_in [] i d h = absurd (omega arith)
   next_in (c ∷ cs) zero d h = (omega arith, omega arith)
   next_in (c ∷ cs) (suc i) d h = let r = next_in cs i d (omega arith) in let a = r.0 in let b = r.1 in (omega arith, omega arith)
 
-  pub counted_more : (cs : List (Node K V)) (i : ℕ) (d : Node K V) → i < length cs
+  pub counted_more : (cs : List (Node K V Z)) (i : ℕ) (d : Node K V Z) → i < length cs
       → (pairs_in (take (i + 1) cs) ≡ pairs_in (take i cs) + length (pairs_of (get_or cs i d))) × (pairs_in (take (i + 1) cs) ≤ pairs_in cs)
   counted_more cs i d h = rw add-one (next_in cs i d h)
 
-  pub counted_all : (cs : List (Node K V)) (i : ℕ) → i ≡ length cs → pairs_in (take i cs) ≡ pairs_in cs
+  pub counted_all : (cs : List (Node K V Z)) (i : ℕ) → i ≡ length cs → pairs_in (take i cs) ≡ pairs_in cs
   counted_all [] zero e = refl
   counted_all [] (suc i) e = absurd (omega arith)
   counted_all (c ∷ cs) zero e = absurd (omega arith)
   counted_all (c ∷ cs) (suc i) e = ap (λ k. length (pairs_of c) + k) (counted_all cs i (omega arith))
 
   -- a child that is counted next
-  pub record IsNext (n : Node K V) (i : ℕ) : Type 0 where
+  pub record IsNext (n : Node K V Z) (i : ℕ) : Type 0 where
     pub below : ℕ
     pub levels : IsLevelled below (child_at n i)
     pub lower : height_of (child_at n i) < height_of n
     pub more : pairs_in (take (i + 1) (children_of n)) ≡ pairs_in (take i (children_of n)) + length (pairs_of (child_at n i))
     pub fits : length (own_pairs n) + pairs_in (take (i + 1) (children_of n)) ≤ length (pairs_of n)
 
-  pub next_child : (h : ℕ) (n : Node K V) (i : ℕ) → IsLevelled h n → i < length (children_of n) → IsNext n i
+  pub next_child : (h : ℕ) (n : Node K V Z) (i : ℕ) → IsLevelled h n → i < length (children_of n) → IsNext n i
   next_child h n i l lt =
       let s = step_levels h n i l lt in
       let e = s.1 in

@@ -24,149 +24,151 @@ use Rattle.fc_tree_border.specs.declared.mending.Border.{Border}
 use Rattle.fc_tree_border.specs.declared.mending.Border.TheVariants.{Left, Right}
 
 module _ {K V : Type 0} where
-  -- a node above the leaves
-  pub record IsAbove (s : Border) (h : ℕ) (n : Node K V) : Type 0 where
-    pub below : ℕ
-    pub height : h ≡ suc below
-    pub bordered : IsBordered s (suc below) n
+  module _ {Z : Type 0} where
+    -- a node above the leaves
+    pub record IsAbove (s : Border) (h : ℕ) (n : Node K V Z) : Type 0 where
+      pub below : ℕ
+      pub height : h ≡ suc below
+      pub bordered : IsBordered s (suc below) n
 
-  pub above_leaf : (s : Border) (h : ℕ) (n : Node K V) → (IsLeaf n → ⊥) → IsBordered s h n → IsAbove s h n
-  above_leaf Left zero n f b = absurd (f b.1)
-  above_leaf Right zero n f b = absurd (f b.1)
-  above_leaf s (suc h) n f b = record { below = h; height = refl; bordered = b }
+    pub above_leaf : (s : Border) (h : ℕ) (n : Node K V Z) → (IsLeaf n → ⊥) → IsBordered s h n → IsAbove s h n
+    above_leaf Left zero n f b = absurd (f b.1)
+    above_leaf Right zero n f b = absurd (f b.1)
+    above_leaf s (suc h) n f b = record { below = h; height = refl; bordered = b }
 
-  pub lent_bounds : (s : Border) (h : ℕ) (old mid : Node K V) (cs : List (Node K V)) (i : ℕ) → (out-Node K V mid).children ≡ Some cs
-      → IsStocked s h old mid → i ≡ border_place s mid → i < length cs
-  lent_bounds s h old mid cs i e st p =
-      let o = border_opened s h mid st.0 in
-      let there = o.there in
-      let inner : length (children_of mid) ≡ length (own_pairs mid) + 1 = o.inner in
-      let k = inner_length mid cs e o.inner in
-      omega arith
+    pub lent_bounds : (s : Border) (h : ℕ) (old mid : Node K V Z) (cs : List (Node K V Z)) (i : ℕ) → (out-Node K V Z mid).children ≡ Some cs
+        → IsStocked s h old mid → i ≡ border_place s mid → i < length cs
+    lent_bounds s h old mid cs i e st p =
+        let o = border_opened s h mid st.0 in
+        let there = o.there in
+        let inner : length (children_of mid) ≡ length (own_pairs mid) + 1 = o.inner in
+        let k = inner_length mid cs e o.inner in
+        omega arith
 
-  -- the node after it was stocked, with the child on its border lent out
-  pub record IsLent (s : Border) (h : ℕ) (old mid child : Node K V) (i : ℕ) : Type 0 where
-    pub below : ℕ
-    pub height : h ≡ suc below
-    pub stocked : IsStocked s below old mid
-    pub opened : IsOpened s below mid
-    pub place : i ≡ border_place s mid
-    pub is : child ≡ child_at mid i
-    pub bordered : IsBordered s below child
-    pub many : min_len + 1 ≤ length (own_pairs child)
+    -- the node after it was stocked, with the child on its border lent out
+    pub record IsLent (s : Border) (h : ℕ) (old mid child : Node K V Z) (i : ℕ) : Type 0 where
+      pub below : ℕ
+      pub height : h ≡ suc below
+      pub stocked : IsStocked s below old mid
+      pub opened : IsOpened s below mid
+      pub place : i ≡ border_place s mid
+      pub is : child ≡ child_at mid i
+      pub bordered : IsBordered s below child
+      pub many : min_len + 1 ≤ length (own_pairs child)
 
-  pub lent : (s : Border) (h : ℕ) (old mid child : Node K V) (cs : List (Node K V)) (i : ℕ) → IsAbove s h old
-      → ((g : ℕ) → IsBordered s (suc g) old → IsStocked s g old mid)
-      → (out-Node K V mid).children ≡ Some cs → i ≡ border_place s mid → child ≡ get_or cs i child
-      → IsLent s h old mid child i
-  lent s h old mid child cs i a stocked e p q =
-      let st = stocked a.below a.bordered in
-      let o = border_opened s a.below mid st.0 in
-      let is = listed_child mid i cs e i child (lent_bounds s a.below old mid cs i e st p) q in
-      let there = is ∙ ap (child_at mid) p in
-      record {
-        below = a.below;
-        height = a.height;
-        stocked = st;
-        opened = o;
-        place = p;
-        is = is;
-        bordered = subst (IsBordered s a.below) (sym there) o.child;
-        many = subst (λ n. min_len + 1 ≤ length (own_pairs n)) (sym there) st.1;
-      }
+    pub lent : (s : Border) (h : ℕ) (old mid child : Node K V Z) (cs : List (Node K V Z)) (i : ℕ) → IsAbove s h old
+        → ((g : ℕ) → IsBordered s (suc g) old → IsStocked s g old mid)
+        → (out-Node K V Z mid).children ≡ Some cs → i ≡ border_place s mid → child ≡ get_or cs i child
+        → IsLent s h old mid child i
+    lent s h old mid child cs i a stocked e p q =
+        let st = stocked a.below a.bordered in
+        let o = border_opened s a.below mid st.0 in
+        let is = listed_child mid i cs e i child (lent_bounds s a.below old mid cs i e st p) q in
+        let there = is ∙ ap (child_at mid) p in
+        record {
+          below = a.below;
+          height = a.height;
+          stocked = st;
+          opened = o;
+          place = p;
+          is = is;
+          bordered = subst (IsBordered s a.below) (sym there) o.child;
+          many = subst (λ n. min_len + 1 ≤ length (own_pairs n)) (sym there) st.1;
+        }
 
-  pub mended_pairs : (mid new child c : Node K V) (i : ℕ) → IsInner mid → i < length (children_of mid) → IsChildSet mid new i c → child ≡ child_at mid i
-      → pairs_of c ≡ pairs_of child → pairs_of new ≡ pairs_of mid
-  mended_pairs mid new child c i inner lt m ci e =
-      let k : length (children_of mid) ≡ length (own_pairs mid) + 1 = inner in
-      let le : i ≤ length (own_pairs mid) = omega arith in
-      around_one new c (take i (children_of mid)) (drop (suc i) (children_of mid)) (take i (own_pairs mid)) (drop i (own_pairs mid))
-      (m.child ∙ set_is (children_of mid) i c lt) (m.same ∙ sym (take_drop i (own_pairs mid)))
-      (length_take i (children_of mid) (omega arith) ∙ sym (length_take i (own_pairs mid) le))
-      ∙ ap (λ zs. before_child mid i ++ (zs ++ after_child mid i)) (e ∙ ap pairs_of ci) ∙ sym (inner_gap mid i inner le)
+    pub mended_pairs : (mid new child c : Node K V Z) (i : ℕ) → IsInner mid → i < length (children_of mid) → IsChildSet mid new i c → child ≡ child_at mid i
+        → pairs_of c ≡ pairs_of child → pairs_of new ≡ pairs_of mid
+    mended_pairs mid new child c i inner lt m ci e =
+        let k : length (children_of mid) ≡ length (own_pairs mid) + 1 = inner in
+        let le : i ≤ length (own_pairs mid) = omega arith in
+        around_one new c (take i (children_of mid)) (drop (suc i) (children_of mid)) (take i (own_pairs mid)) (drop i (own_pairs mid))
+        (m.child ∙ set_is (children_of mid) i c lt) (m.same ∙ sym (take_drop i (own_pairs mid)))
+        (length_take i (children_of mid) (omega arith) ∙ sym (length_take i (own_pairs mid) le))
+        ∙ ap (λ zs. before_child mid i ++ (zs ++ after_child mid i)) (e ∙ ap pairs_of ci) ∙ sym (inner_gap mid i inner le)
 
-  pub mended_levels : (s : Border) (h : ℕ) (old mid new child c : Node K V) (i : ℕ) (l : IsLent s h old mid child i) → IsChildSet mid new i c
-      → IsShrunk l.below child c → IsShrunk h old new
-  mended_levels s h old mid new child c i l m sh =
-      let g = l.below in
-      let many = l.many in
-      let kept = sh.1.1 in
-      let o = l.opened in
-      let fits = o.fits in
-      let there = o.there in
-      let place = l.place in
-      let inner : length (children_of mid) ≡ length (own_pairs mid) + 1 = o.inner in
-      let same : length (own_pairs new) ≡ length (own_pairs mid) = ap length m.same in
-      let is = m.child ∙ set_is (children_of mid) i c (omega arith) in
-      let n : length (children_of new) ≡ length (children_of mid) = ap length m.child ∙ length_set (children_of mid) i c in
-      let before = subst (λ j. AllByRecursion (IsSound g) (take j (children_of mid))) (sym place) o.before in
-      let after = subst (λ j. AllByRecursion (IsSound g) (drop (suc j) (children_of mid))) (sym place) o.after in
-      let all = subst (AllByRecursion (IsSound g)) (sym is) (all_both (IsSound g) (take i (children_of mid)) _ before ((omega arith, sh.0), after)) in
-      let few = l.stocked.2 in
-      subst (λ k. IsShrunk k old new) (sym l.height) ((omega arith, omega arith, all), (omega arith, omega arith))
+    pub mended_levels : (s : Border) (h : ℕ) (old mid new child c : Node K V Z) (i : ℕ) (l : IsLent s h old mid child i) → IsChildSet mid new i c
+        → IsShrunk l.below child c → IsShrunk h old new
+    mended_levels s h old mid new child c i l m sh =
+        let g = l.below in
+        let many = l.many in
+        let kept = sh.1.1 in
+        let o = l.opened in
+        let fits = o.fits in
+        let there = o.there in
+        let place = l.place in
+        let inner : length (children_of mid) ≡ length (own_pairs mid) + 1 = o.inner in
+        let same : length (own_pairs new) ≡ length (own_pairs mid) = ap length m.same in
+        let is = m.child ∙ set_is (children_of mid) i c (omega arith) in
+        let n : length (children_of new) ≡ length (children_of mid) = ap length m.child ∙ length_set (children_of mid) i c in
+        let before = subst (λ j. AllByRecursion (IsSound g) (take j (children_of mid))) (sym place) o.before in
+        let after = subst (λ j. AllByRecursion (IsSound g) (drop (suc j) (children_of mid))) (sym place) o.after in
+        let all = subst (AllByRecursion (IsSound g)) (sym is) (all_both (IsSound g) (take i (children_of mid)) _ before ((omega arith, sh.0), after)) in
+        let few = l.stocked.2 in
+        subst (λ k. IsShrunk k old new) (sym l.height) ((omega arith, omega arith, all), (omega arith, omega arith))
 
-  pub bordered_formed : (s : Border) (h : ℕ) (n : Node K V) → IsBordered s h n → IsFormed n
-  bordered_formed Left zero n b = inl b.1
-  bordered_formed Right zero n b = inl b.1
-  bordered_formed Left (suc h) n b = inr b.1
-  bordered_formed Right (suc h) n b = inr b.1
+    pub bordered_formed : (s : Border) (h : ℕ) (n : Node K V Z) → IsBordered s h n → IsFormed n
+    bordered_formed Left zero n b = inl b.1
+    bordered_formed Right zero n b = inl b.1
+    bordered_formed Left (suc h) n b = inr b.1
+    bordered_formed Right (suc h) n b = inr b.1
 
-  pub levelled_formed : (h : ℕ) (n : Node K V) → IsLevelled h n → IsFormed n
-  levelled_formed zero n l = inl l.1
-  levelled_formed (suc h) n l = inr l.1
+    pub levelled_formed : (h : ℕ) (n : Node K V Z) → IsLevelled h n → IsFormed n
+    levelled_formed zero n l = inl l.1
+    levelled_formed (suc h) n l = inr l.1
 
-  -- the only child of a root without pairs
-  pub only_one : (root : Node K V) (cs : List (Node K V)) (c : Node K V) → (out-Node K V root).children ≡ Some cs → IsFormed root
-      → length (own_pairs root) ≡ 0 → c ≡ get_or cs 0 c → children_of root ≡ c ∷ []
-  only_one root cs c e formed h f = children_in root cs e ∙ single cs c (inner_length root cs e (inner_opened root cs e formed) ∙ ap (λ k. k + 1) h) f
-    where
-      single : (cs : List (Node K V)) (c : Node K V) → length cs ≡ 1 → c ≡ get_or cs 0 c → cs ≡ c ∷ []
-      single [] c e f = absurd (omega arith)
-      single (x ∷ []) c e f = ap (λ y. y ∷ []) (sym f)
-      single (x ∷ y ∷ cs) c e f = absurd (omega arith)
+    -- the only child of a root without pairs
+    pub only_one : (root : Node K V Z) (cs : List (Node K V Z)) (c : Node K V Z) → (out-Node K V Z root).children ≡ Some cs → IsFormed root
+        → length (own_pairs root) ≡ 0 → c ≡ get_or cs 0 c → children_of root ≡ c ∷ []
+    only_one root cs c e formed h f = children_in root cs e ∙ single cs c (inner_length root cs e (inner_opened root cs e formed) ∙ ap (λ k. k + 1) h) f
+      where
+        single : (cs : List (Node K V Z)) (c : Node K V Z) → length cs ≡ 1 → c ≡ get_or cs 0 c → cs ≡ c ∷ []
+        single [] c e f = absurd (omega arith)
+        single (x ∷ []) c e f = ap (λ y. y ∷ []) (sym f)
+        single (x ∷ y ∷ cs) c e f = absurd (omega arith)
 
   no_pairs : (xs : List (K × V)) → length xs ≡ 0 → xs ≡ []
   no_pairs [] e = refl
   no_pairs (x ∷ xs) e = absurd (omega arith)
 
-  pub only_pairs : (root c : Node K V) → length (own_pairs root) ≡ 0 → children_of root ≡ c ∷ [] → pairs_of c ≡ pairs_of root
-  only_pairs root c h e =
-      sym (pairs_is root ∙ ap (λ ps. weave (map pairs_of (children_of root)) ps) (no_pairs (own_pairs root) h) ∙ ap (λ cs. weave (map pairs_of cs) []) e
-      ∙ append-nil (pairs_of c))
+  module _ {Z : Type 0} where
+    pub only_pairs : (root c : Node K V Z) → length (own_pairs root) ≡ 0 → children_of root ≡ c ∷ [] → pairs_of c ≡ pairs_of root
+    only_pairs root c h e =
+        sym (pairs_is root ∙ ap (λ ps. weave (map pairs_of (children_of root)) ps) (no_pairs (own_pairs root) h) ∙ ap (λ cs. weave (map pairs_of cs) []) e
+        ∙ append-nil (pairs_of c))
 
-  -- what takes the place of a root without pairs holds the same
-  pub heir_pairs : (heir : Option (Node K V)) (root : Node K V) → length (own_pairs root) ≡ 0
-      → MatchOption heir (IsLeaf root) (λ c. children_of root ≡ c ∷ []) → entries heir ≡ pairs_of root
-  heir_pairs None root h l = sym (leaf_pairs root l ∙ no_pairs (own_pairs root) h)
-  heir_pairs (Some c) root h e = only_pairs root c h e
+    -- what takes the place of a root without pairs holds the same
+    pub heir_pairs : (heir : Option (Node K V Z)) (root : Node K V Z) → length (own_pairs root) ≡ 0
+        → MatchOption heir (IsLeaf root) (λ c. children_of root ≡ c ∷ []) → entries heir ≡ pairs_of root
+    heir_pairs None root h l = sym (leaf_pairs root l ∙ no_pairs (own_pairs root) h)
+    heir_pairs (Some c) root h e = only_pairs root c h e
 
-  pub heir_levels : (heir : Option (Node K V)) (h : ℕ) (root : Node K V)
-      → MatchOption heir (IsLeaf root) (λ c. children_of root ≡ c ∷ []) → IsLevelled h root → IsSoundWithin h heir
-  heir_levels None h root e l = tt
-  heir_levels (Some c) zero root e l =
-      let z : length (children_of root) ≡ 0 = ap length (leaf_children root l.1) in
-      let o : length (children_of root) ≡ 1 = ap length e in absurd (omega arith)
-  heir_levels (Some c) (suc h) root e l =
-      let a = (subst (AllByRecursion (IsSound h)) e l.2).0 in
-      let many = a.0 in
-      (h, omega arith, (omega arith, a.1))
+    pub heir_levels : (heir : Option (Node K V Z)) (h : ℕ) (root : Node K V Z)
+        → MatchOption heir (IsLeaf root) (λ c. children_of root ≡ c ∷ []) → IsLevelled h root → IsSoundWithin h heir
+    heir_levels None h root e l = tt
+    heir_levels (Some c) zero root e l =
+        let z : length (children_of root) ≡ 0 = ap length (leaf_children root l.1) in
+        let o : length (children_of root) ≡ 1 = ap length e in absurd (omega arith)
+    heir_levels (Some c) (suc h) root e l =
+        let a = (subst (AllByRecursion (IsSound h)) e l.2).0 in
+        let many = a.0 in
+        (h, omega arith, (omega arith, a.1))
 
-  pub within_more : (g h : ℕ) (m : Map K V) → g ≤ h → IsSoundWithin g m → IsSoundWithin h m
-  within_more g h None le w = tt
-  within_more g h (Some n) le w = let k = w.1 in (w.0, omega arith, w.2)
+    pub within_more : (g h : ℕ) (m : Map K V Z) → g ≤ h → IsSoundWithin g m → IsSoundWithin h m
+    within_more g h None le w = tt
+    within_more g h (Some n) le w = let k = w.1 in (w.0, omega arith, w.2)
 
-  -- the only child of a root is the one on the border
-  pub record IsHeir (s : Border) (h : ℕ) (c : Node K V) : Type 0 where
-    pub below : ℕ
-    pub height : h ≡ suc below
-    pub bordered : IsBordered s below c
+    -- the only child of a root is the one on the border
+    pub record IsHeir (s : Border) (h : ℕ) (c : Node K V Z) : Type 0 where
+      pub below : ℕ
+      pub height : h ≡ suc below
+      pub bordered : IsBordered s below c
 
-  no_leaf : (n c : Node K V) → children_of n ≡ c ∷ [] → IsLeaf n → ⊥
-  no_leaf n c e l = absurd (let z : length (children_of n) ≡ 0 = ap length (leaf_children n l) in
-      let o : length (children_of n) ≡ 1 = ap length e in omega arith)
+    no_leaf : (n c : Node K V Z) → children_of n ≡ c ∷ [] → IsLeaf n → ⊥
+    no_leaf n c e l = absurd (let z : length (children_of n) ≡ 0 = ap length (leaf_children n l) in
+        let o : length (children_of n) ≡ 1 = ap length e in omega arith)
 
-  pub heir_bordered : (s : Border) (h : ℕ) (n c : Node K V) → children_of n ≡ c ∷ [] → IsBordered s h n → IsHeir s h c
-  heir_bordered Left zero n c e b = absurd (no_leaf n c e b.1)
-  heir_bordered Right zero n c e b = absurd (no_leaf n c e b.1)
-  heir_bordered Left (suc h) n c e b = record { below = h; height = refl; bordered = (subst (FirstThen (IsLeftBordered h) (IsSound h)) e b.2).0 }
-  heir_bordered Right (suc h) n c e b = record { below = h; height = refl; bordered = subst (LastAfter (IsRightBordered h) (IsSound h)) e b.2 }
+    pub heir_bordered : (s : Border) (h : ℕ) (n c : Node K V Z) → children_of n ≡ c ∷ [] → IsBordered s h n → IsHeir s h c
+    heir_bordered Left zero n c e b = absurd (no_leaf n c e b.1)
+    heir_bordered Right zero n c e b = absurd (no_leaf n c e b.1)
+    heir_bordered Left (suc h) n c e b = record { below = h; height = refl; bordered = (subst (FirstThen (IsLeftBordered h) (IsSound h)) e b.2).0 }
+    heir_bordered Right (suc h) n c e b = record { below = h; height = refl; bordered = subst (LastAfter (IsRightBordered h) (IsSound h)) e b.2 }

@@ -4,7 +4,7 @@ use Rattle.fc_tree_node.specs.Tree.{Map, entries, IsSoundMap}
 use Rattle.fc_tree_node.proofs.Gaps.{gap_pairs, place_pairs}
 use Rattle.fc_tree_border.specs.Cut.{IsCutPathIn, IsCutInTwo}
 
-pub cut_parts : {K V : Type 0} (m left right : Map K V) (path : List ℕ) → IsSoundMap m → IsCutPathIn path m → IsCutInTwo path m left right
+pub cut_parts : {K V Z : Type 0} (m left right : Map K V Z) (path : List ℕ) → IsSoundMap m → IsCutPathIn path m → IsCutInTwo path m left right
     → entries left ++ entries right ≡ entries m
 cut_parts None left right path sound way cut = absurd way
 cut_parts (Some root) left right path sound (inl place) cut =

@@ -26,16 +26,16 @@ share_fits : (s : Border) (n : ℕ) → capacity ≤ n → n ≤ capacity + (min
 share_fits Left n lo hi = (omega arith, omega arith)
 share_fits Right n lo hi = (omega arith, omega arith)
 
-module _ {K V : Type 0} where
+module _ {K V Z : Type 0} where
   -- the place of the pair between the border and its sibling
-  abbrev pub pair_place : Border → Node K V → ℕ
+  abbrev pub pair_place : Border → Node K V Z → ℕ
   pair_place s n = border_place s n - 1
 
-  abbrev pub both_of : Node K V → ℕ → ℕ
+  abbrev pub both_of : Node K V Z → ℕ → ℕ
   both_of n j = length (own_pairs (child_at n j)) + length (own_pairs (child_at n (j + 1)))
 
   -- the border and its sibling, among sound nodes
-  pub record IsPairAt (s : Border) (h : ℕ) (n : Node K V) (j : ℕ) : Type 0 where
+  pub record IsPairAt (s : Border) (h : ℕ) (n : Node K V Z) (j : ℕ) : Type 0 where
     pub place : j ≡ pair_place s n
     pub in_bounds : j < length (own_pairs n)
     pub fits : length (own_pairs n) ≤ capacity
@@ -46,7 +46,7 @@ module _ {K V : Type 0} where
     pub after : AllByRecursion (IsSound h) (drop (suc (suc j)) (children_of n))
     pub many : min_len ≤ both_of n j
 
-  pub pair_opened : (s : Border) (h : ℕ) (n : Node K V) (j : ℕ) → 1 ≤ length (own_pairs n) → IsBordered s (suc h) n → j ≡ pair_place s n → IsPairAt s h n j
+  pub pair_opened : (s : Border) (h : ℕ) (n : Node K V Z) (j : ℕ) → 1 ≤ length (own_pairs n) → IsBordered s (suc h) n → j ≡ pair_place s n → IsPairAt s h n j
   pair_opened Left h n j some b e =
       let k : length (children_of n) ≡ length (own_pairs n) + 1 = b.1 in
       let t = subst (FirstThen (IsLeftBordered h) (IsSound h)) (two_at (children_of n) 0 n (omega arith)) b.2 in
@@ -76,20 +76,20 @@ module _ {K V : Type 0} where
         many = omega arith;
       }
     where
-      last_two : (h : ℕ) (l r : Node K V) (D : List (Node K V)) → length D ≡ 0 → LastAfter (IsRightBordered h) (IsSound h) (l ∷ r ∷ D)
+      last_two : (h : ℕ) (l r : Node K V Z) (D : List (Node K V Z)) → length D ≡ 0 → LastAfter (IsRightBordered h) (IsSound h) (l ∷ r ∷ D)
           → IsSound h l × IsRightBordered h r × AllByRecursion (IsSound h) D
       last_two h l r [] z a = (a.0, a.1, tt)
       last_two h l r (d ∷ D) z a = absurd (omega arith)
 
-  pub pair_alike : (s : Border) (h : ℕ) (n : Node K V) (j : ℕ) → IsPairAt s h n j → AreAlike (child_at n j) (child_at n (j + 1))
+  pub pair_alike : (s : Border) (h : ℕ) (n : Node K V Z) (j : ℕ) → IsPairAt s h n j → AreAlike (child_at n j) (child_at n (j + 1))
   pair_alike s h n j p = sides_alike s h _ _ p.left p.right
 
-  merged_place : (s : Border) (old new : Node K V) (j : ℕ) → j ≡ pair_place s old → 1 ≤ length (own_pairs old)
+  merged_place : (s : Border) (old new : Node K V Z) (j : ℕ) → j ≡ pair_place s old → 1 ≤ length (own_pairs old)
       → length (own_pairs new) + 1 ≡ length (own_pairs old) → j ≡ border_place s new
   merged_place Left old new j e some o = e
   merged_place Right old new j e some o = omega arith
 
-  pub merged_stocked : (s : Border) (h : ℕ) (old new : Node K V) (j : ℕ) → IsPairAt s h old j
+  pub merged_stocked : (s : Border) (h : ℕ) (old new : Node K V Z) (j : ℕ) → IsPairAt s h old j
       → both_of old j < capacity → IsMerged j old new → IsStocked s h old new
   merged_stocked s h old new j p room m =
       let lt = p.in_bounds in
@@ -110,7 +110,7 @@ module _ {K V : Type 0} where
       )
 
   -- the two after pairs went from one to the other
-  record IsTraded (s : Border) (h : ℕ) (old new l r : Node K V) (j : ℕ) : Type 0 where
+  record IsTraded (s : Border) (h : ℕ) (old new l r : Node K V Z) (j : ℕ) : Type 0 where
     pub own : length (own_pairs new) ≡ length (own_pairs old)
     pub fits : length (own_pairs new) ≤ capacity
     pub same : IsOneFewer old new
@@ -118,7 +118,7 @@ module _ {K V : Type 0} where
     pub sizes : length (own_pairs l) + length (own_pairs r) ≡ both_of old j
     pub sides : LeftOf s h l × RightOf s h r
 
-  traded : (s : Border) (h : ℕ) (old new : Node K V) (j : ℕ) → IsPairAt s h old j → capacity ≤ both_of old j → both_of old j ≤ capacity + (min_len + 1)
+  traded : (s : Border) (h : ℕ) (old new : Node K V Z) (j : ℕ) → IsPairAt s h old j → capacity ≤ both_of old j → both_of old j ≤ capacity + (min_len + 1)
       → (k : ℕ) → k ≡ left_share s (both_of old j) → (m : IsShared j k old new) → IsTraded s h old new m.left m.right j
   traded s h old new j p lo hi n w m =
       let lt = p.in_bounds in
@@ -139,7 +139,7 @@ module _ {K V : Type 0} where
         sides = side_both s h _ _ m.left m.right p.left p.right m.below m.alike_before m.alike (omega arith) (omega arith);
       }
 
-  pub shared_stocked : (s : Border) (h : ℕ) (old new : Node K V) (j : ℕ) → IsPairAt s h old j → capacity ≤ both_of old j
+  pub shared_stocked : (s : Border) (h : ℕ) (old new : Node K V Z) (j : ℕ) → IsPairAt s h old j → capacity ≤ both_of old j
       → both_of old j ≤ capacity + (min_len + 1) → (k : ℕ) → k ≡ left_share s (both_of old j) → IsShared j k old new → IsStocked s h old new
   shared_stocked Left h old new j p lo hi n w m =
       let t = traded Left h old new j p lo hi n w m in

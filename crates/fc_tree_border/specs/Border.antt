@@ -9,15 +9,15 @@ use Rattle.fc_tree_border.specs.declared.mending.Border.{Border}
 use Rattle.fc_tree_border.specs.declared.mending.Border.TheVariants.{Left, Right}
 
 -- The nodes on the path along the side may hold too few pairs.
-abbrev pub IsBordered : {K V : Type 0} → Border → ℕ → Node K V → Type 0
+abbrev pub IsBordered : {K V Z : Type 0} → Border → ℕ → Node K V Z → Type 0
 IsBordered Left = IsLeftBordered
 IsBordered Right = IsRightBordered
 
 -- The place of the child on the side.
-abbrev pub border_place : {K V : Type 0} → Border → Node K V → ℕ
+abbrev pub border_place : {K V Z : Type 0} → Border → Node K V Z → ℕ
 border_place Left n = 0
 border_place Right n = length (own_pairs n)
 
 -- The new node's border is as before, its child on it has one pair more than it needs at least, and it has as many pairs as the old one or one fewer.
-abbrev pub IsStocked : {K V : Type 0} → Border → ℕ → Node K V → Node K V → Type 0
+abbrev pub IsStocked : {K V Z : Type 0} → Border → ℕ → Node K V Z → Node K V Z → Type 0
 IsStocked side h old new = IsBordered side (suc h) new × (min_len + 1 ≤ length (own_pairs (child_at new (border_place side new)))) × IsOneFewer old new

@@ -7,28 +7,28 @@ use Rattle.fc_tree_node.specs.Place.{IsPlace}
 use Rattle.fc_tree_node.specs.Tree.{Map, entries}
 use Rattle.fc_tree_node.specs.TreePlace.{before_gap_in, after_gap_in, before_pair_in, after_pair_in, pair_in}
 
-module _ {K V : Type 0} where
+module _ {K V Z : Type 0} where
   -- Nodes without pairs, each the only child of the one above it, down to a leaf so many levels below.
-  abbrev pub IsBlank : ℕ → Node K V → Type 0
+  abbrev pub IsBlank : ℕ → Node K V Z → Type 0
   IsBlank zero n = IsBlankLeaf n
-  IsBlank (suc h) n = (own_pairs n ≡ []) × (below : Node K V) × (children_of n ≡ below ∷ []) × IsBlank h below
+  IsBlank (suc h) n = (own_pairs n ≡ []) × (below : Node K V Z) × (children_of n ≡ below ∷ []) × IsBlank h below
 
   -- The path leads to a pair, or down to a gap between the pairs of a leaf.
-  abbrev pub IsCutPath : List ℕ → Node K V → Type 0
+  abbrev pub IsCutPath : List ℕ → Node K V Z → Type 0
   IsCutPath path root = IsPlace path root ⊎ IsLeafGap path root
 
   -- The same of the tree of a map.
-  abbrev pub IsCutPathIn : List ℕ → Map K V → Type 0
+  abbrev pub IsCutPathIn : List ℕ → Map K V Z → Type 0
   IsCutPathIn path None = ⊥
   IsCutPathIn path (Some root) = IsCutPath path root
 
   -- The path leads down to a gap between the pairs of a leaf of the map.
-  abbrev pub IsLeafGapIn : List ℕ → Map K V → Type 0
+  abbrev pub IsLeafGapIn : List ℕ → Map K V Z → Type 0
   IsLeafGapIn path None = ⊥
   IsLeafGapIn path (Some root) = IsLeafGap path root
 
   -- One map was cut into two others: at a pair, into those before it, and the pair with those after it; at a gap, into those before and those after it.
-  pub record IsCutInTwo (path : List ℕ) (whole left right : Map K V) : Type 0 where
+  pub record IsCutInTwo (path : List ℕ) (whole left right : Map K V Z) : Type 0 where
     pub left_of_pair : (pair : K × V) → pair_in whole path ≡ Some pair → entries left ≡ before_pair_in whole path
     pub right_of_pair : (pair : K × V) → pair_in whole path ≡ Some pair → entries right ≡ pair ∷ after_pair_in whole path
     pub left_of_gap : IsLeafGapIn path whole → entries left ≡ before_gap_in whole path

@@ -3,10 +3,11 @@ ghost use Rattle.std.specs.Prelude.{◌≡◌, ℕ, ◌<◌, ◌≤◌, ◌^◌,
 ghost use Rattle.fc_tree_node.specs.Node.{pairs_of, IsLevelled};
 ghost use Rattle.fc_tree_node.specs.Tree.{entries, IsSoundMap};
 
+use fc_base::Handle;
 use fc_tree_node::node::Node;
 
 /// How many pairs there are in a tree, if there is one, by a walk over its nodes.
-pub fn count_in<K, V>(root: &Option<Node<K, V>>) -> usize
+pub fn count_in<K, V, A: Handle>(root: &Option<Node<K, V, A>>) -> usize
     requires sound { IsSoundMap root.now }
     requires fits { length (entries root.now) ≤ usize.MAX }
     ensures { result ≡ length (entries root.now) }
@@ -18,7 +19,7 @@ pub fn count_in<K, V>(root: &Option<Node<K, V>>) -> usize
 }
 
 // How many pairs are in the node and below it, by a walk over the nodes.
-fn count_pairs<K, V>(node: &Node<K, V>) -> usize
+fn count_pairs<K, V, A: Handle>(node: &Node<K, V, A>) -> usize
     requires levels { (h : ℕ) × IsLevelled h node.now }
     requires fits { length (pairs_of node.now) < 2 ^ 64 }
     ensures { result ≡ length (pairs_of node.now) }

@@ -9,21 +9,20 @@ ghost use Rattle.fc_tree_border.specs.Cut.{IsBlank, IsCutPath, IsCutPathIn, IsCu
 
 use crate::counting::count_in;
 use crate::mending::{mend_left, mend_right};
-use fc_base::{Count, TryReserveError};
+use fc_base::{Count, Handle, TryReserveError};
 use fc_tree_node::node::Node;
-use std::alloc::Global;
 
 /// Cuts a tree of `len` pairs in two, as `try_split` does, and answers the right part with the number of its pairs. Only the part
 /// that seems to be the smaller is counted, node by node.
 ///
 /// # Errors
 /// As `try_split`.
-pub fn try_split_counted<K: Drop, V: Drop>(
-    alloc: Global,
-    root: &mut Option<Node<K, V>>,
+pub fn try_split_counted<K: Drop, V: Drop, A: Handle>(
+    alloc: A,
+    root: &mut Option<Node<K, V, A>>,
     len: usize,
     path: &[u8],
-) -> Result<(Option<Node<K, V>>, usize), TryReserveError>
+) -> Result<(Option<Node<K, V, A>>, usize), TryReserveError>
     requires sound { IsSoundMap root.old }
     requires path { IsCutPathIn path.now root.old }
     requires len { len ≡ length (entries root.old) }
@@ -53,11 +52,11 @@ pub fn try_split_counted<K: Drop, V: Drop>(
 ///
 /// # Errors
 /// `AllocError` if one of these nodes is refused. The tree is then as before.
-pub fn try_split<K: Drop, V: Drop>(
-    alloc: Global,
-    root: &mut Option<Node<K, V>>,
+pub fn try_split<K: Drop, V: Drop, A: Handle>(
+    alloc: A,
+    root: &mut Option<Node<K, V, A>>,
     path: &[u8],
-) -> Result<Option<Node<K, V>>, TryReserveError>
+) -> Result<Option<Node<K, V, A>>, TryReserveError>
     requires sound { IsSoundMap root.old }
     requires path { IsCutPathIn path.now root.old }
     ensures pairs { IfOk result (λ right. IsCutInTwo path.now root.old root.new right) }
@@ -79,10 +78,10 @@ pub fn try_split<K: Drop, V: Drop>(
 ///
 /// # Errors
 /// `AllocError` if one is refused. Those made before are dropped.
-pub fn try_border<K: Drop, V: Drop>(
-    alloc: Global,
-    node: &Node<K, V>,
-) -> Result<Node<K, V>, TryReserveError>
+pub fn try_border<K: Drop, V: Drop, A: Handle>(
+    alloc: A,
+    node: &Node<K, V, A>,
+) -> Result<Node<K, V, A>, TryReserveError>
     requires { (h : ℕ) × IsLevelled h node.now }
     ensures ok { IfOk result (λ top. (h : ℕ) → IsLevelled h node.now → IsBlank h top) }
     ensures error { IfErr result (λ e. e ≡ TryReserveError.AllocError) }
@@ -99,11 +98,11 @@ pub fn try_border<K: Drop, V: Drop>(
 /// Cuts a tree in two at the pair, or at the gap of a leaf, that the path leads to: into the pairs before it, and the pair with
 /// those after it. What the path doesn't touch stays as it is, and `border` becomes the border of the right part. It
 /// takes no memory.
-pub fn cut<K: Drop, V: Drop>(
-    root: Node<K, V>,
+pub fn cut<K: Drop, V: Drop, A: Handle>(
+    root: Node<K, V, A>,
     path: &[u8],
-    border: Node<K, V>,
-) -> (Option<Node<K, V>>, Option<Node<K, V>>)
+    border: Node<K, V, A>,
+) -> (Option<Node<K, V, A>>, Option<Node<K, V, A>>)
     requires levels { (h : ℕ) × IsLevelled h root }
     requires path { IsCutPath path.now root }
     requires border { (h : ℕ) → IsLevelled h root → IsBlank h border }
@@ -117,10 +116,10 @@ pub fn cut<K: Drop, V: Drop>(
 }
 
 // Moves the pairs from the place on to the nodes of the border, level by level.
-fn cut_into<K: Drop, V: Drop>(
-    node: &mut Node<K, V>,
+fn cut_into<K: Drop, V: Drop, A: Handle>(
+    node: &mut Node<K, V, A>,
     path: &[u8],
-    right: &mut Node<K, V>,
+    right: &mut Node<K, V, A>,
     count: &mut Count,
 )
     requires some { 0 < length path.now }
@@ -143,13 +142,13 @@ fn cut_into<K: Drop, V: Drop>(
     let Some(others) = &mut right.children else {
         unreachable!()
     };
-    let child: &mut Node<K, V> = children.get_mut(i);
-    let other: &mut Node<K, V> = others.get_mut(0);
+    let child: &mut Node<K, V, A> = children.get_mut(i);
+    let other: &mut Node<K, V, A> = others.get_mut(0);
     cut_into(child, rest, other, count);
 }
 
 // A guess which part of a cut is the smaller, from the first step of the path alone: whether it is in the left half of the root.
-fn is_left_smaller<K, V>(root: &Node<K, V>, path: &[u8]) -> bool
+fn is_left_smaller<K, V, A: Handle>(root: &Node<K, V, A>, path: &[u8]) -> bool
     requires some { 0 < length path.now }
     ensures { IsTrue result ↔ (2 * slice_index path.now 0 < length (own_pairs root.now)) }
 {

@@ -8,7 +8,7 @@ ghost use Rattle.fc_tree_node.specs.Siblings.{IsFormed};
 ghost use Rattle.fc_tree_border.specs.Border.{IsBordered, border_place, IsStocked};
 ghost use Rattle.fc_tree_node.specs.Shrunk.{IsShrunk};
 
-use fc_base::Count;
+use fc_base::{Count, Handle};
 use fc_tree_node::node::{CAPACITY, MIN_LEN, Node};
 
 /// The border of a tree where nodes may hold too few pairs.
@@ -22,7 +22,7 @@ pub enum Border {
 
 /// Mends a tree whose nodes on the rightmost path may hold too few pairs, none too, and hands out what is left of it: none where
 /// it held no pair. It compares nothing and takes no memory.
-pub fn mend_right<K: Drop, V: Drop>(root: Node<K, V>) -> Option<Node<K, V>>
+pub fn mend_right<K: Drop, V: Drop, A: Handle>(root: Node<K, V, A>) -> Option<Node<K, V, A>>
     requires { (h : ℕ) × IsRightBordered h root }
     ensures pairs { entries result ≡ pairs_of root }
     ensures levels { (h : ℕ) → IsRightBordered h root → IsSoundWithin h result }
@@ -32,7 +32,7 @@ pub fn mend_right<K: Drop, V: Drop>(root: Node<K, V>) -> Option<Node<K, V>>
 
 /// Mends a tree whose nodes on the leftmost path may hold too few pairs, none too, and hands out what is left of it: none where
 /// it held no pair. It compares nothing and takes no memory.
-pub fn mend_left<K: Drop, V: Drop>(root: Node<K, V>) -> Option<Node<K, V>>
+pub fn mend_left<K: Drop, V: Drop, A: Handle>(root: Node<K, V, A>) -> Option<Node<K, V, A>>
     requires { (h : ℕ) × IsLeftBordered h root }
     ensures pairs { entries result ≡ pairs_of root }
     ensures levels { (h : ℕ) → IsLeftBordered h root → IsSoundWithin h result }
@@ -42,11 +42,11 @@ pub fn mend_left<K: Drop, V: Drop>(root: Node<K, V>) -> Option<Node<K, V>>
 
 /// Mends a tree whose nodes on that border may hold too few pairs, none too, and hands out what is left of it: none where it held
 /// no pair. It compares nothing and takes no memory.
-pub fn mend<K: Drop, V: Drop>(
-    root: Node<K, V>,
+pub fn mend<K: Drop, V: Drop, A: Handle>(
+    root: Node<K, V, A>,
     side: Border,
     count: &mut Count,
-) -> Option<Node<K, V>>
+) -> Option<Node<K, V, A>>
     requires { (h : ℕ) × IsBordered side h root }
     ensures pairs { entries result ≡ pairs_of root }
     ensures levels { (h : ℕ) → IsBordered side h root → IsSoundWithin h result }
@@ -67,7 +67,7 @@ pub fn mend<K: Drop, V: Drop>(
 }
 
 // What takes the place of a root without pairs: its only child, or nothing where it is a leaf.
-fn only_child<K: Drop, V: Drop>(root: Node<K, V>) -> Option<Node<K, V>>
+fn only_child<K: Drop, V: Drop, A: Handle>(root: Node<K, V, A>) -> Option<Node<K, V, A>>
     requires none { length (own_pairs root) ≡ 0 }
     requires formed { IsFormed root }
     ensures { MatchOption result (IsLeaf root) (λ c. children_of root ≡ c ∷ []) }
@@ -80,7 +80,11 @@ fn only_child<K: Drop, V: Drop>(root: Node<K, V>) -> Option<Node<K, V>>
 }
 
 // Mends the border below a node that has a pair, from the node downwards.
-fn mend_below<K: Drop, V: Drop>(node: &mut Node<K, V>, side: Border, count: &mut Count)
+fn mend_below<K: Drop, V: Drop, A: Handle>(
+    node: &mut Node<K, V, A>,
+    side: Border,
+    count: &mut Count,
+)
     requires some { 1 ≤ length (own_pairs node.old) }
     requires bordered { (h : ℕ) × IsBordered side h node.old }
     ensures pairs { pairs_of node.new ≡ pairs_of node.old }
@@ -94,14 +98,14 @@ fn mend_below<K: Drop, V: Drop>(node: &mut Node<K, V>, side: Border, count: &mut
     match &mut node.children {
         None => unreachable!(),
         Some(children) => {
-            let child: &mut Node<K, V> = children.get_mut(place);
+            let child: &mut Node<K, V, A> = children.get_mut(place);
             mend_below(child, side, count);
         }
     }
 }
 
 /// The place of the child on the border.
-pub fn border_child<K, V>(node: &Node<K, V>, side: Border) -> usize
+pub fn border_child<K, V, A: Handle>(node: &Node<K, V, A>, side: Border) -> usize
     ensures value { result ≡ border_place side node.now }
     ensures fits { result ≤ capacity }
 {
@@ -113,7 +117,7 @@ pub fn border_child<K, V>(node: &Node<K, V>, side: Border) -> usize
 
 // Sees to it that the child on the border has one pair more than it needs, since the mending below it may take one. It is merged with
 // its sibling where both and the pair between them fit in one node, and else takes from it.
-fn stock<K: Drop, V: Drop>(node: &mut Node<K, V>, side: Border, count: &mut Count)
+fn stock<K: Drop, V: Drop, A: Handle>(node: &mut Node<K, V, A>, side: Border, count: &mut Count)
     requires some { 1 ≤ length (own_pairs node.old) }
     requires bordered { (h : ℕ) × IsBordered side (suc h) node.old }
     ensures pairs { pairs_of node.new ≡ pairs_of node.old }

@@ -75,13 +75,14 @@ module _ {K V : Type 0} where
       → cmp last.0 k ≡ Less
   behind_told cmp front own last k e b = ap (λ z. cmp z.0 k) (last_same front b.0 last b.1 (sym e ∙ b.2)) ∙ b.3
 
-  pub spine_at : (h : ℕ) (s : List (Node K V)) (i : ℕ) (b : Node K V) → IsSpine h s → i < length s → b ≡ slice_index_or s i b → (k : ℕ) × IsOpenEnd k b
+module _ {K V Z : Type 0} where
+  pub spine_at : (h : ℕ) (s : List (Node K V Z)) (i : ℕ) (b : Node K V Z) → IsSpine h s → i < length s → b ≡ slice_index_or s i b → (k : ℕ) × IsOpenEnd k b
   spine_at h [] i b f l e = absurd (omega arith)
   spine_at h (x ∷ s) zero b f l e = (level_above h s, subst (λ y. IsOpenEnd (level_above h s) y) (sym e) f.0)
   spine_at h (x ∷ s) (suc i) b f l e = spine_at h s i b f.1 (omega arith) e
 
   -- a node with a pair ends with its last pair
-  pub end_last : (s new : List (Node K V)) (b : Node K V) (k i : ℕ) (p : K × V) → new ≡ s ++ b ∷ [] → IsOpenEnd k b → i + 1 ≡ length (own_pairs b)
+  pub end_last : (s new : List (Node K V Z)) (b : Node K V Z) (k i : ℕ) (p : K × V) → new ≡ s ++ b ∷ [] → IsOpenEnd k b → i + 1 ≡ length (own_pairs b)
       → p ≡ slice_index_or (own_pairs b) i p → (front : List (K × V)) × (before_back new ≡ front ++ p ∷ [])
   end_last s new b k i p e o l f =
       let same = o.2 in
@@ -94,7 +95,7 @@ module _ {K V : Type 0} where
       )
 
   -- a node without a pair holds nothing
-  pub end_none : (s new : List (Node K V)) (b : Node K V) (k : ℕ) → new ≡ s ++ b ∷ [] → IsOpenEnd k b → length (own_pairs b) ≡ 0
+  pub end_none : (s new : List (Node K V Z)) (b : Node K V Z) (k : ℕ) → new ≡ s ++ b ∷ [] → IsOpenEnd k b → length (own_pairs b) ≡ 0
       → before_back new ≡ before_back s
   end_none s new b k e o l =
       let same = o.2 in
@@ -103,19 +104,19 @@ module _ {K V : Type 0} where
 
   -- ---- a tree opened at its right edge
 
-  pub bottom : (h : ℕ) (n : Node K V) → IsSoundRoot h n → length (children_of n) ≡ 0 → (h ≡ 0) × (length (own_pairs n) ≤ capacity) × IsLeaf n
+  pub bottom : (h : ℕ) (n : Node K V Z) → IsSoundRoot h n → length (children_of n) ≡ 0 → (h ≡ 0) × (length (own_pairs n) ≤ capacity) × IsLeaf n
   bottom zero n s e = (refl, s.1.0, s.1.1)
   bottom (suc h) n s e = absurd (let i = s.1.1 in omega arith)
 
   -- a node n, which without its last child c is m
-  pub record IsOpenedRight (h : ℕ) (n m c : Node K V) : Type 0 where
+  pub record IsOpenedRight (h : ℕ) (n m c : Node K V Z) : Type 0 where
     pub level : ℕ
     pub above : h ≡ suc level
     pub child : IsSoundRoot level c
     pub opened : IsOpenEnd level m
     pub pairs : pairs_of n ≡ before_back_in m ++ pairs_of c
 
-  pub opened_right : (h : ℕ) (n m c : Node K V) → IsSoundRoot h n → 0 < length (children_of n) → children_of n ≡ children_of m ++ c ∷ []
+  pub opened_right : (h : ℕ) (n m c : Node K V Z) → IsSoundRoot h n → 0 < length (children_of n) → children_of n ≡ children_of m ++ c ∷ []
       → own_pairs m ≡ own_pairs n → IsOpenedRight h n m c
   opened_right zero n m c s l f e = absurd (let z = ap length (leaf_children n s.1.1) in omega arith)
   opened_right (suc h) n m c s l f e =
@@ -141,7 +142,7 @@ module _ {K V : Type 0} where
         pairs = whole_back n m c i f e;
       }
 
-  pub opened_pairs : (old mid : List (Node K V)) (b n c : Node K V) (zs : List (K × V)) → mid ≡ old ++ b ∷ [] → pairs_of n ≡ before_back_in b ++ pairs_of c
+  pub opened_pairs : (old mid : List (Node K V Z)) (b n c : Node K V Z) (zs : List (K × V)) → mid ≡ old ++ b ∷ [] → pairs_of n ≡ before_back_in b ++ pairs_of c
       → zs ≡ before_back mid ++ pairs_of c → zs ≡ before_back old ++ pairs_of n
   opened_pairs old mid b n c zs e f g =
       g ∙ ap (λ ys. ys ++ pairs_of c) (back_push old mid b e) ∙ append_assoc (before_back old) (before_back_in b) (pairs_of c)

@@ -1,4 +1,6 @@
 pub mod Above
 pub mod SpineFacts
+pub mod StackSizes
 pub mod Builders
 pub mod Ends
+pub mod GrownFacts

@@ -38,57 +38,57 @@ tally_more a w n l k t = within (cases_lt k capacity) t
     within (inr full) (inr t) = let is = full_one a k full in let few = t.0 in let pairs = t.1 in inr (omega arith, omega arith)
     within (inl room) t = let is = room_one a k room in inr (omega arith, omega arith)
 
-module _ {K V : Type 0} where
-  level_push : (h : ℕ) (s : List (Node K V)) (b : Node K V) → level_above h (s ++ b ∷ []) ≡ level_above (suc h) s
+module _ {K V Z : Type 0} where
+  level_push : (h : ℕ) (s : List (Node K V Z)) (b : Node K V Z) → level_above h (s ++ b ∷ []) ≡ level_above (suc h) s
   level_push h [] b = refl
   level_push h (x ∷ s) b = ap suc (level_push h s b)
 
-  pub level_pushed : (h : ℕ) (s new : List (Node K V)) (b : Node K V) → new ≡ s ++ b ∷ [] → level_above h new ≡ level_above (suc h) s
+  pub level_pushed : (h : ℕ) (s new : List (Node K V Z)) (b : Node K V Z) → new ≡ s ++ b ∷ [] → level_above h new ≡ level_above (suc h) s
   level_pushed h s new b e = ap (level_above h) e ∙ level_push h s b
 
-  spine_put : (h : ℕ) (s : List (Node K V)) (b : Node K V) → IsSpine (suc h) s → IsOpenEnd h b → IsSpine h (s ++ b ∷ [])
+  spine_put : (h : ℕ) (s : List (Node K V Z)) (b : Node K V Z) → IsSpine (suc h) s → IsOpenEnd h b → IsSpine h (s ++ b ∷ [])
   spine_put h [] b f o = (o, tt)
   spine_put h (x ∷ s) b f o = (subst (λ k. IsOpenEnd k x) (sym (level_push h s b)) f.0, spine_put h s b f.1 o)
 
-  pub spine_pushed : (h : ℕ) (s new : List (Node K V)) (b : Node K V) → new ≡ s ++ b ∷ [] → IsSpine (suc h) s → IsOpenEnd h b → IsSpine h new
+  pub spine_pushed : (h : ℕ) (s new : List (Node K V Z)) (b : Node K V Z) → new ≡ s ++ b ∷ [] → IsSpine (suc h) s → IsOpenEnd h b → IsSpine h new
   spine_pushed h s new b e f o = subst (IsSpine h) (sym e) (spine_put h s b f o)
 
-  spine_parts : (h : ℕ) (s : List (Node K V)) (b : Node K V) → IsSpine h (s ++ b ∷ []) → IsOpenEnd h b × IsSpine (suc h) s
+  spine_parts : (h : ℕ) (s : List (Node K V Z)) (b : Node K V Z) → IsSpine h (s ++ b ∷ []) → IsOpenEnd h b × IsSpine (suc h) s
   spine_parts h [] b f = (f.0, tt)
   spine_parts h (x ∷ s) b f = let i = spine_parts h s b f.1 in (i.0, (subst (λ k. IsOpenEnd k x) (level_push h s b) f.0, i.1))
 
-  pub spine_popped : (h : ℕ) (old s : List (Node K V)) (b : Node K V) → old ≡ s ++ b ∷ [] → IsSpine h old → IsOpenEnd h b × IsSpine (suc h) s
+  pub spine_popped : (h : ℕ) (old s : List (Node K V Z)) (b : Node K V Z) → old ≡ s ++ b ∷ [] → IsSpine h old → IsOpenEnd h b × IsSpine (suc h) s
   spine_popped h old s b e f = spine_parts h s b (subst (IsSpine h) e f)
 
-  digits_push : (a : ℕ) (s : List (Node K V)) (b : Node K V) → digits_after a (s ++ b ∷ []) ≡ most_children * digits_after a s + length (own_pairs b)
+  digits_push : (a : ℕ) (s : List (Node K V Z)) (b : Node K V Z) → digits_after a (s ++ b ∷ []) ≡ most_children * digits_after a s + length (own_pairs b)
   digits_push a [] b = refl
   digits_push a (x ∷ s) b = digits_push (most_children * a + length (own_pairs x)) s b
 
-  pub worth_pushed : (s new : List (Node K V)) (b : Node K V) → new ≡ s ++ b ∷ [] → worth new ≡ most_children * worth s + length (own_pairs b)
+  pub worth_pushed : (s new : List (Node K V Z)) (b : Node K V Z) → new ≡ s ++ b ∷ [] → worth new ≡ most_children * worth s + length (own_pairs b)
   worth_pushed s new b e = ap worth e ∙ digits_push 0 s b
 
-  count_push : (s : List (Node K V)) (b : Node K V) → own_count (s ++ b ∷ []) ≡ own_count s + length (own_pairs b)
+  count_push : (s : List (Node K V Z)) (b : Node K V Z) → own_count (s ++ b ∷ []) ≡ own_count s + length (own_pairs b)
   count_push [] b = omega arith
   count_push (x ∷ s) b = let i = count_push s b in omega arith
 
-  pub count_pushed : (s new : List (Node K V)) (b : Node K V) → new ≡ s ++ b ∷ [] → own_count new ≡ own_count s + length (own_pairs b)
+  pub count_pushed : (s new : List (Node K V Z)) (b : Node K V Z) → new ≡ s ++ b ∷ [] → own_count new ≡ own_count s + length (own_pairs b)
   count_pushed s new b e = ap own_count e ∙ count_push s b
 
-  pub length_pushed : (s new : List (Node K V)) (b : Node K V) → new ≡ s ++ b ∷ [] → length new ≡ length s + 1
+  pub length_pushed : (s new : List (Node K V Z)) (b : Node K V Z) → new ≡ s ++ b ∷ [] → length new ≡ length s + 1
   length_pushed s new b e = ap length e ∙ length-append s (b ∷ [])
 
   -- ---- a blank node as the spine's end
 
-  blank_children : (n : Node K V) → IsBlankInner n → children_of n ≡ []
+  blank_children : (n : Node K V Z) → IsBlankInner n → children_of n ≡ []
   blank_children n z = ap items_or_none z.1
 
-  pub blank_end : (h : ℕ) (n : Node K V) → IsBlankInner n → IsOpenEnd h n
+  pub blank_end : (h : ℕ) (n : Node K V Z) → IsBlankInner n → IsOpenEnd h n
   blank_end h n z =
       let a = ap length z.0 in
       let b = ap length (blank_children n z) in
       (omega arith, λ leaf. cc (z.1, leaf), omega arith, subst (AllByRecursion (IsSound h)) (sym (blank_children n z)) tt)
 
-  pub blank_back : (s : List (Node K V)) (n : Node K V) → IsBlankInner n → before_back s ≡ before_back s ++ before_back_in n
+  pub blank_back : (s : List (Node K V Z)) (n : Node K V Z) → IsBlankInner n → before_back s ≡ before_back s ++ before_back_in n
   blank_back s n z =
       let a = ap length z.0 in
       let b = ap length (blank_children n z) in
@@ -96,15 +96,15 @@ module _ {K V : Type 0} where
 
   -- ---- a child at the end, and the pair that comes after it
 
-  pub child_room : (h : ℕ) (n : Node K V) → IsOpenEnd h n → length (children_of n) ≤ capacity
+  pub child_room : (h : ℕ) (n : Node K V Z) → IsOpenEnd h n → length (children_of n) ≤ capacity
   child_room h n o = let a = o.0 in let b = o.2 in omega arith
 
-  children_both : (h : ℕ) (n m c : Node K V) → IsOpenEnd h n → children_of m ≡ children_of n ++ c ∷ [] → IsSound h c
+  children_both : (h : ℕ) (n m c : Node K V Z) → IsOpenEnd h n → children_of m ≡ children_of n ++ c ∷ [] → IsSound h c
       → AllByRecursion (IsSound h) (children_of m)
   children_both h n m c o f s = subst (AllByRecursion (IsSound h)) (sym f) (all_both (IsSound h) (children_of n) (c ∷ []) o.3 (s, tt))
 
   -- n, then with a child as m, then with a pair as r
-  pub end_grown : (h : ℕ) (n m r c : Node K V) (p : K × V) → IsOpenEnd h n → own_pairs m ≡ own_pairs n → children_of m ≡ children_of n ++ c ∷ []
+  pub end_grown : (h : ℕ) (n m r c : Node K V Z) (p : K × V) → IsOpenEnd h n → own_pairs m ≡ own_pairs n → children_of m ≡ children_of n ++ c ∷ []
       → own_pairs r ≡ own_pairs m ++ p ∷ [] → children_of r ≡ children_of m → (IsLeaf r → ⊥) → length (own_pairs m) < capacity → IsSound h c → IsOpenEnd h r
   end_grown h n m r c p o e f q i k l s =
       let a = ap length e in
@@ -114,14 +114,14 @@ module _ {K V : Type 0} where
       let w = o.2 in
       (omega arith, k, omega arith, subst (AllByRecursion (IsSound h)) (sym i) (children_both h n m c o f s))
 
-  pub end_pairs : (h : ℕ) (n m r c : Node K V) (p : K × V) → IsOpenEnd h n → own_pairs m ≡ own_pairs n → children_of m ≡ children_of n ++ c ∷ []
+  pub end_pairs : (h : ℕ) (n m r c : Node K V Z) (p : K × V) → IsOpenEnd h n → own_pairs m ≡ own_pairs n → children_of m ≡ children_of n ++ c ∷ []
       → own_pairs r ≡ own_pairs m ++ p ∷ [] → children_of r ≡ children_of m → before_back_in r ≡ before_back_in n ++ (pairs_of c ++ p ∷ [])
   end_pairs h n m r c p o e f q i =
       let w = o.2 in
       back_last r n p c (q ∙ ap (λ ps. ps ++ p ∷ []) e) (i ∙ f) (omega arith) (omega arith)
 
   -- the whole spine, once its last node n has become b
-  pub spine_pairs : (old s new : List (Node K V)) (b n c : Node K V) (p : K × V) → before_back old ≡ before_back s ++ before_back_in n → new ≡ s ++ b ∷ []
+  pub spine_pairs : (old s new : List (Node K V Z)) (b n c : Node K V Z) (p : K × V) → before_back old ≡ before_back s ++ before_back_in n → new ≡ s ++ b ∷ []
       → before_back_in b ≡ before_back_in n ++ (pairs_of c ++ p ∷ []) → before_back new ≡ before_back old ++ (pairs_of c ++ p ∷ [])
   spine_pairs old s new b n c p e f g =
       back_push s new b f ∙ ap (λ zs. before_back s ++ zs) g ∙ sym (append_assoc (before_back s) (before_back_in n) (pairs_of c ++ p ∷ []))
@@ -129,30 +129,30 @@ module _ {K V : Type 0} where
 
   -- ---- a node closed by its last child
 
-  closed_inner : (h : ℕ) (n m c : Node K V) → IsOpenEnd h n → own_pairs m ≡ own_pairs n → children_of m ≡ children_of n ++ c ∷ [] → IsInner m
+  closed_inner : (h : ℕ) (n m c : Node K V Z) → IsOpenEnd h n → own_pairs m ≡ own_pairs n → children_of m ≡ children_of n ++ c ∷ [] → IsInner m
   closed_inner h n m c o e f =
       let a = ap length e in
       let b = ap length f ∙ length-append (children_of n) (c ∷ []) in
       let w = o.2 in
       omega arith
 
-  pub closed_sound : (h : ℕ) (n m c : Node K V) → IsOpenEnd h n → own_pairs m ≡ own_pairs n → children_of m ≡ children_of n ++ c ∷ []
+  pub closed_sound : (h : ℕ) (n m c : Node K V Z) → IsOpenEnd h n → own_pairs m ≡ own_pairs n → children_of m ≡ children_of n ++ c ∷ []
       → capacity ≤ length (own_pairs m) → IsSound h c → IsSound (suc h) m
   closed_sound h n m c o e f l s =
       let a = ap length e in
       let w = o.0 in
       (omega arith, (omega arith, closed_inner h n m c o e f, children_both h n m c o f s))
 
-  pub closed_pairs : (h : ℕ) (n m c : Node K V) → IsOpenEnd h n → own_pairs m ≡ own_pairs n → children_of m ≡ children_of n ++ c ∷ []
+  pub closed_pairs : (h : ℕ) (n m c : Node K V Z) → IsOpenEnd h n → own_pairs m ≡ own_pairs n → children_of m ≡ children_of n ++ c ∷ []
       → pairs_of m ≡ before_back_in n ++ pairs_of c
   closed_pairs h n m c o e f = whole_back m n c (closed_inner h n m c o e f) f (sym e)
 
-  last_after : (P Q : Node K V → Type 0) (cs : List (Node K V)) (c : Node K V) → AllByRecursion Q cs → P c → LastAfter P Q (cs ++ c ∷ [])
+  last_after : (P Q : Node K V Z → Type 0) (cs : List (Node K V Z)) (c : Node K V Z) → AllByRecursion Q cs → P c → LastAfter P Q (cs ++ c ∷ [])
   last_after P Q [] c a p = p
   last_after P Q (x ∷ []) c a p = (a.0, p)
   last_after P Q (x ∷ y ∷ cs) c a p = (a.0, last_after P Q (y ∷ cs) c a.1 p)
 
-  pub closed_bordered : (h : ℕ) (n m c : Node K V) → IsOpenEnd h n → own_pairs m ≡ own_pairs n → children_of m ≡ children_of n ++ c ∷ [] → IsRightBordered h c
+  pub closed_bordered : (h : ℕ) (n m c : Node K V Z) → IsOpenEnd h n → own_pairs m ≡ own_pairs n → children_of m ≡ children_of n ++ c ∷ [] → IsRightBordered h c
       → IsRightBordered (suc h) m
   closed_bordered h n m c o e f r =
       let a = ap length e in
@@ -164,7 +164,7 @@ module _ {K V : Type 0} where
       )
 
   -- the pairs, where a closed node m goes up and a blank one takes its place
-  pub carried_pairs : (old s up new : List (Node K V)) (b n m c : Node K V) (p : K × V) → before_back old ≡ before_back s ++ before_back_in n
+  pub carried_pairs : (old s up new : List (Node K V Z)) (b n m c : Node K V Z) (p : K × V) → before_back old ≡ before_back s ++ before_back_in n
       → pairs_of m ≡ before_back_in n ++ pairs_of c → before_back up ≡ before_back s ++ (pairs_of m ++ p ∷ []) → IsBlankInner b → new ≡ up ++ b ∷ []
       → before_back new ≡ before_back old ++ (pairs_of c ++ p ∷ [])
   carried_pairs old s up new b n m c p e f g z i =
@@ -174,29 +174,29 @@ module _ {K V : Type 0} where
 
   -- ---- spare nodes
 
-  needed_put : (a : ℕ) (s : List (Node K V)) (b : Node K V)
+  needed_put : (a : ℕ) (s : List (Node K V Z)) (b : Node K V Z)
       → needed_after a (s ++ b ∷ []) ≡ (if nat_le capacity (length (own_pairs b)) then suc (needed_after a s) else 0)
   needed_put a [] b = refl
   needed_put a (x ∷ s) b = needed_put (if nat_le capacity (length (own_pairs x)) then suc a else 0) s b
 
-  pub needed_full : (old s : List (Node K V)) (b : Node K V) → old ≡ s ++ b ∷ [] → capacity ≤ length (own_pairs b) → needed old ≡ needed s + 1
+  pub needed_full : (old s : List (Node K V Z)) (b : Node K V Z) → old ≡ s ++ b ∷ [] → capacity ≤ length (own_pairs b) → needed old ≡ needed s + 1
   needed_full old s b e f = ap needed e ∙ needed_put 1 s b ∙ full_one (needed s) (length (own_pairs b)) f ∙ sym (add-one (needed s))
 
-  pub needed_room : (old s : List (Node K V)) (b : Node K V) → old ≡ s ++ b ∷ [] → length (own_pairs b) < capacity → needed old ≡ 0
+  pub needed_room : (old s : List (Node K V Z)) (b : Node K V Z) → old ≡ s ++ b ∷ [] → length (own_pairs b) < capacity → needed old ≡ 0
   needed_room old s b e f = ap needed e ∙ needed_put 1 s b ∙ room_one (needed s) (length (own_pairs b)) f
 
-  pub last_has_room : (old s : List (Node K V)) (b : Node K V) → old ≡ s ++ b ∷ [] → needed old ≡ 0 → length (own_pairs b) < capacity
+  pub last_has_room : (old s : List (Node K V Z)) (b : Node K V Z) → old ≡ s ++ b ∷ [] → needed old ≡ 0 → length (own_pairs b) < capacity
   last_has_room old s b e none = within (cases_lt (length (own_pairs b)) capacity)
     where
       within : (length (own_pairs b) < capacity) ⊎ (capacity ≤ length (own_pairs b)) → length (own_pairs b) < capacity
       within (inl room) = room
       within (inr full) = absurd (let more = needed_full old s b e full in omega (arith, none))
 
-  pub some_needed : (s : List (Node K V)) → 0 < length s + needed s
+  pub some_needed : (s : List (Node K V Z)) → 0 < length s + needed s
   some_needed [] = omega arith
   some_needed (b ∷ s) = omega arith
 
-  tally : (a w n l : ℕ) (s : List (Node K V)) → IsTally a w n l → IsTally (needed_after a s) (digits_after w s) (n + own_count s) (l + length s)
+  tally : (a w n l : ℕ) (s : List (Node K V Z)) → IsTally a w n l → IsTally (needed_after a s) (digits_after w s) (n + own_count s) (l + length s)
   tally a w n l [] t =
       subst (λ j. IsTally a w j (l + 0)) (let e : n ≡ n + 0 = omega arith in e) (subst (λ j. IsTally a w n j) (let e : l ≡ l + 0 = omega arith in e) t)
   tally a w n l (b ∷ s) t =
@@ -207,7 +207,7 @@ module _ {K V : Type 0} where
       subst (λ j. IsTally (needed_after a (b ∷ s)) (digits_after w (b ∷ s)) j (l + suc (length s))) e
       (subst (λ j. IsTally (needed_after a (b ∷ s)) (digits_after w (b ∷ s)) (n + k + own_count s) j) f more)
 
-  digits_below : (h l w : ℕ) (s : List (Node K V)) → IsSpine h s → w < most_children ^ l → digits_after w s < most_children ^ (l + length s)
+  digits_below : (h l w : ℕ) (s : List (Node K V Z)) → IsSpine h s → w < most_children ^ l → digits_after w s < most_children ^ (l + length s)
   digits_below h l w [] f b = subst (λ j. w < most_children ^ j) (let e : l ≡ l + 0 = omega arith in e) b
   digits_below h l w (n ∷ s) f b =
       let few = f.0.0 in
@@ -215,7 +215,7 @@ module _ {K V : Type 0} where
       let all = digits_below h (suc l) (most_children * w + length (own_pairs n)) s f.1 (omega arith) in
       subst (λ j. digits_after w (n ∷ s) < most_children ^ j) (let e : suc l + length s ≡ l + suc (length s) = omega arith in e) all
 
-  first_some : (h : ℕ) (b : Node K V) (s : List (Node K V)) → IsSpine h (b ∷ s) → IsShort (b ∷ s) → 0 < length (own_pairs b)
+  first_some : (h : ℕ) (b : Node K V Z) (s : List (Node K V Z)) → IsSpine h (b ∷ s) → IsShort (b ∷ s) → 0 < length (own_pairs b)
   first_some h b s f i = within (cases_lt 0 (length (own_pairs b)))
     where
       within : (0 < length (own_pairs b)) ⊎ (length (own_pairs b) ≤ 0) → 0 < length (own_pairs b)
@@ -229,7 +229,7 @@ module _ {K V : Type 0} where
           let more = pow-suc most_children (length s) in
           absurd (omega arith)
 
-  above_later : (h d a w : ℕ) (s : List (Node K V)) → IsSpine h s → 0 < w → inner_above d (w + 1) ≡ inner_above d w + a
+  above_later : (h d a w : ℕ) (s : List (Node K V Z)) → IsSpine h s → 0 < w → inner_above d (w + 1) ≡ inner_above d w + a
       → inner_above (d + length s) (digits_after w s + 1) ≡ inner_above (d + length s) (digits_after w s) + needed_after a s
   above_later h d a w [] f p e = subst (λ j. inner_above j (w + 1) ≡ inner_above j w + a) (let q : d ≡ d + 0 = omega arith in q) e
   above_later h d a w (b ∷ s) f p e =
@@ -240,7 +240,7 @@ module _ {K V : Type 0} where
       let q : suc d + length s ≡ d + suc (length s) = omega arith in
       subst (λ j. inner_above j (digits_after v s + 1) ≡ inner_above j (digits_after v s) + needed_after a (b ∷ s)) q all
 
-  above_one : (h : ℕ) (s : List (Node K V)) → IsSpine h s → IsShort s → length s ≤ most_height
+  above_one : (h : ℕ) (s : List (Node K V Z)) → IsSpine h s → IsShort s → length s ≤ most_height
       → inner_above most_levels (worth s + 1) ≡ inner_above most_levels (worth s) + needed s
   above_one h [] f i l = above_first most_levels (omega arith)
   above_one h (b ∷ s) f i l =
@@ -252,7 +252,7 @@ module _ {K V : Type 0} where
       let q : suc d + length s ≡ most_levels = omega arith in
       subst (λ j. inner_above j (worth (b ∷ s) + 1) ≡ inner_above j (worth (b ∷ s)) + needed (b ∷ s)) q all
 
-  pub enough_needed : (h i q : ℕ) (s : List (Node K V)) → IsSpine h s → 1 ≤ q → IsEnough i q s → (needed s ≤ i) × (needed s ≤ most_height)
+  pub enough_needed : (h i q : ℕ) (s : List (Node K V Z)) → IsSpine h s → 1 ≤ q → IsEnough i q s → (needed s ≤ i) × (needed s ≤ most_height)
   enough_needed h i q s f some e = (
     let one = above_one h s f e.1 e.0 in
         let grows = above_grows most_levels (worth s + 1) (worth s + q) (omega arith) in
@@ -271,7 +271,7 @@ module _ {K V : Type 0} where
           absurd (omega arith)
 
   -- a spine stays short, with one more subtree put at its end
-  short_left : (s new : List (Node K V)) → IsShort s → worth new ≡ worth s + 1 → ((d : ℕ) → length s ≤ d → needed s ≤ d → length new ≤ d) → IsShort new
+  short_left : (s new : List (Node K V Z)) → IsShort s → worth new ≡ worth s + 1 → ((d : ℕ) → length s ≤ d → needed s ≤ d → length new ≤ d) → IsShort new
   short_left s new i w f = within (tally 1 0 0 0 s (inl (omega arith, omega arith, omega arith))) (cases_lt (length s) (needed s))
     where
       within : IsTally (needed s) (worth s) (0 + own_count s) (0 + length s) → (length s < needed s) ⊎ (needed s ≤ length s) → IsShort new
@@ -289,7 +289,7 @@ module _ {K V : Type 0} where
           let more = pow-suc most_children (0 + length s) in
           omega arith
 
-  pub enough_left : (h i j q r : ℕ) (s new : List (Node K V)) → IsSpine h s → IsEnough i q s → q ≡ r + 1 → length new ≤ most_height
+  pub enough_left : (h i j q r : ℕ) (s new : List (Node K V Z)) → IsSpine h s → IsEnough i q s → q ≡ r + 1 → length new ≤ most_height
       → worth new ≡ worth s + 1 → i ≡ j + needed s → ((d : ℕ) → length s ≤ d → needed s ≤ d → length new ≤ d) → IsEnough j r new
   enough_left h i j q r s new f e one l w u short =
       let next = above_one h s f e.1 e.0 in
@@ -300,24 +300,24 @@ module _ {K V : Type 0} where
       (l, short_left s new e.1 w short, omega arith, omega arith)
 
   -- how many spare nodes one more subtree takes where the spine's last node has room, or where there is none
-  pub used_here : (s : List (Node K V)) (i j l : ℕ) → (0 < length s → j ≡ i) → (0 < length s → needed s ≡ 0) → i + length s ≡ j + l + 1
+  pub used_here : (s : List (Node K V Z)) (i j l : ℕ) → (0 < length s → j ≡ i) → (0 < length s → needed s ≡ 0) → i + length s ≡ j + l + 1
       → l ≡ length s - 1 → i ≡ j + needed s
   used_here [] i j l k r n f = omega arith
   used_here (b ∷ s) i j l k r n f = let same = k (omega arith) in let none = r (omega arith) in omega arith
 
-  pub not_blank : (s : List (Node K V)) (n : Node K V) → (length s ≡ 0 → own_pairs n ≡ []) → capacity ≤ length (own_pairs n) → 0 < length s
+  pub not_blank : (s : List (Node K V Z)) (n : Node K V Z) → (length s ≡ 0 → own_pairs n ≡ []) → capacity ≤ length (own_pairs n) → 0 < length s
   not_blank [] n f h = absurd (let e = ap length (f refl) in omega arith)
   not_blank (b ∷ s) n f h = omega arith
 
-  pub spare_taken : (old new : List (Node K V)) (b : Node K V) → old ≡ new ++ b ∷ [] → AllByRecursion (λ x. IsBlankInner x) old
+  pub spare_taken : (old new : List (Node K V Z)) (b : Node K V Z) → old ≡ new ++ b ∷ [] → AllByRecursion (λ x. IsBlankInner x) old
       → IsBlankInner b × AllByRecursion (λ x. IsBlankInner x) new
   spare_taken old new b e a =
-      let P : Node K V → Type 0 = λ x. IsBlankInner x in
+      let P : Node K V Z → Type 0 = λ x. IsBlankInner x in
       let f = subst (AllByRecursion P) e a in
       ((all_back P new (b ∷ []) f).0, all_front P new (b ∷ []) f)
 
   -- the pairs, once the last node n is closed as m
-  pub closing_pairs : (old s : List (Node K V)) (b m c : Node K V) (zs : List (K × V)) → old ≡ s ++ b ∷ [] → pairs_of m ≡ before_back_in b ++ pairs_of c
+  pub closing_pairs : (old s : List (Node K V Z)) (b m c : Node K V Z) (zs : List (K × V)) → old ≡ s ++ b ∷ [] → pairs_of m ≡ before_back_in b ++ pairs_of c
       → zs ≡ before_back s ++ pairs_of m → zs ≡ before_back old ++ pairs_of c
   closing_pairs old s b m c zs e f g =
       g ∙ ap (λ ys. before_back s ++ ys) f ∙ sym (append_assoc (before_back s) (before_back_in b) (pairs_of c))

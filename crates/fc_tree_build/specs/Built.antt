@@ -21,46 +21,48 @@ pub record Grown (K V : Type 0) : Type 0 where
   pub pairs : List (K × V)
   pub room : ℕ
 
-module _ {K V : Type 0} where
+module _ {K V Z : Type 0} where
   -- The pairs of the last leaf, if there is one.
-  abbrev pub last_pairs : Option (Node K V) → List (K × V)
+  abbrev pub last_pairs : Option (Node K V Z) → List (K × V)
   last_pairs None = []
   last_pairs (Some leaf) = own_pairs leaf
 
   -- The pairs and the room of a builder.
-  abbrev pub built : Inside K V → Built K V
+  abbrev pub built : Inside K V Z → Built K V
   built b = record { pairs = before_back b.spine ++ last_pairs b.last; room = b.room }
 
   -- For how many more pairs the last leaf has room, if there is one.
-  abbrev pub last_room : Option (Node K V) → ℕ
+  abbrev pub last_room : Option (Node K V Z) → ℕ
   last_room None = 0
   last_room (Some leaf) = capacity - length (own_pairs leaf)
 
   -- The pairs of a tree that grows, and the room of its last leaf.
-  abbrev pub grown : List (Node K V) → Option (Node K V) → Grown K V
+  abbrev pub grown : List (Node K V Z) → Option (Node K V Z) → Grown K V
   grown s last = record { pairs = before_back s ++ last_pairs last; room = last_room last }
 
   -- The tree so far stands above the last leaf and is not too high. With no leaf there is nothing else.
-  abbrev pub IsAbove : List (Node K V) → Option (Node K V) → Type 0
+  abbrev pub IsAbove : List (Node K V Z) → Option (Node K V Z) → Type 0
   IsAbove s None = s ≡ []
   IsAbove s (Some leaf) = (length (own_pairs leaf) ≤ capacity) × IsLeaf leaf × IsSpine 0 s × (length s ≤ most_height)
 
   -- So many pairs stand before the last leaf, and with a full one there are no more than a machine can count.
-  abbrev pub IsGrown : List (Node K V) → Option (Node K V) → ℕ → Type 0
+  abbrev pub IsGrown : List (Node K V Z) → Option (Node K V Z) → ℕ → Type 0
   IsGrown s last before = IsAbove s last × (before ≡ length (before_back s)) × (before + capacity ≤ 2 ^ 64 - 1)
 
+module _ {K V : Type 0} where
   -- The key is greater than that of the last pair.
   abbrev pub IsBehindLast : (K → K → Ordering) → List (K × V) → K → Type 0
   IsBehindLast cmp s k = (front : List (K × V)) × (last : K × V) × (s ≡ front ++ last ∷ []) × (cmp last.0 k ≡ Less)
 
+module _ {K V Z : Type 0} where
   -- There are as many spare leaves as so many more pairs take behind those of the last one, and no more: each next leaf takes a pair between
   -- it and the one before, and as many as it holds. With no leaf there is no room and nothing else.
-  abbrev pub IsLast : Option (Node K V) → ℕ → ℕ → List (Node K V) → Type 0
+  abbrev pub IsLast : Option (Node K V Z) → ℕ → ℕ → List (Node K V Z) → Type 0
   IsLast None spares room s = (room ≡ 0) × (spares ≡ 0) × (s ≡ [])
   IsLast (Some leaf) spares room s = (length (own_pairs leaf) ≤ capacity) × IsLeaf leaf × (spares ≡ (length (own_pairs leaf) + room) / most_children)
 
   -- The tree so far stands above the last leaf, and there are just as many spare nodes as the room takes.
-  abbrev pub IsBuilder : Inside K V → Type 0
+  abbrev pub IsBuilder : Inside K V Z → Type 0
   IsBuilder b = IsLast b.last (length b.leaves.items) b.room b.spine × IsSpine 0 b.spine
       × AllByRecursion (λ n. IsBlankLeaf n) b.leaves.items × AllByRecursion (λ n. IsBlankInner n) b.inner.items
       × IsEnough (length b.inner.items) (length b.leaves.items) b.spine

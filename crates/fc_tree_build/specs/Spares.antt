@@ -21,37 +21,37 @@ inner_above (suc d) (suc n) = suc n / most_children + 1 + inner_above d (suc n /
 abbrev pub inner_for : ℕ → ℕ
 inner_for n = inner_above most_levels (n / most_children)
 
-module _ {K V : Type 0} where
+module _ {K V Z : Type 0} where
   -- How many pairs stand in the nodes themselves.
-  abbrev pub own_count : List (Node K V) → ℕ
+  abbrev pub own_count : List (Node K V Z) → ℕ
   own_count [] = 0
   own_count (b ∷ s) = length (own_pairs b) + own_count s
 
   -- The numbers of the nodes' own pairs as the digits of a number, whose base is the most children of a node, after the digits of
   -- another one.
-  abbrev pub digits_after : ℕ → List (Node K V) → ℕ
+  abbrev pub digits_after : ℕ → List (Node K V Z) → ℕ
   digits_after a [] = a
   digits_after a (b ∷ s) = digits_after (most_children * a + length (own_pairs b)) s
 
   -- The numbers of the nodes' own pairs as the digits of a number.
-  abbrev pub worth : List (Node K V) → ℕ
+  abbrev pub worth : List (Node K V Z) → ℕ
   worth s = digits_after 0 s
 
   -- How many inner nodes one more subtree at the spine's end takes, where one above these nodes takes so many: a blank one for each of
   -- the full nodes at the end, and one for a new root where there is none with room.
-  abbrev pub needed_after : ℕ → List (Node K V) → ℕ
+  abbrev pub needed_after : ℕ → List (Node K V Z) → ℕ
   needed_after a [] = a
   needed_after a (b ∷ s) = needed_after (if nat_le capacity (length (own_pairs b)) then suc a else 0) s
 
   -- How many inner nodes one more subtree at the spine's end takes.
-  abbrev pub needed : List (Node K V) → ℕ
+  abbrev pub needed : List (Node K V Z) → ℕ
   needed s = needed_after 1 s
 
   -- The nodes are as few as they can be: the first has a pair, so that the digits are no more than the number needs.
-  abbrev pub IsShort : List (Node K V) → Type 0
+  abbrev pub IsShort : List (Node K V Z) → Type 0
   IsShort s = most_children ^ length s ≤ most_children * worth s + 1
 
   -- There are as many spare nodes as so many more subtrees at the spine's end take, and no more; the tree is then not too high.
-  abbrev pub IsEnough : ℕ → ℕ → List (Node K V) → Type 0
+  abbrev pub IsEnough : ℕ → ℕ → List (Node K V Z) → Type 0
   IsEnough spares more s = (length s ≤ most_height) × IsShort s × (worth s + more < most_children ^ most_height)
       × (spares + inner_above most_levels (worth s) ≡ inner_above most_levels (worth s + more))

@@ -4,7 +4,7 @@ ghost use Rattle.fc_tree_node.specs.Tree.{entries, IsSoundMap};
 
 use crate::spares::{inner_count, leaf_count, take_spare, try_inner_nodes, try_leaves};
 use crate::spine::{Spine, attach, close, put_pair};
-use fc_base::TryReserveError;
+use fc_base::{Handle, TryReserveError};
 use fc_tree_border::mending::mend_right;
 use fc_tree_drain::stack::Stack;
 use fc_tree_node::node::{CAPACITY, Node};
@@ -15,15 +15,15 @@ use std::mem;
 /// A tree that is made of pairs from the first on, each put at its end: leaves and inner nodes are full, but those on the right
 /// edge. All nodes are made before the first pair. A contract sees the pairs, and for how many more there is room.
 #[derive(Drop)]
-pub struct Builder<K, V> {
-    spine: Spine<K, V>,
-    last: Option<Node<K, V>>,
-    leaves: Vec<Node<K, V>>,
-    inner: Vec<Node<K, V>>,
+pub struct Builder<K, V, A: Handle = Global> {
+    spine: Spine<K, V, A>,
+    last: Option<Node<K, V, A>>,
+    leaves: Vec<Node<K, V, A>, A>,
+    inner: Vec<Node<K, V, A>, A>,
     room: usize,
 }
 
-impl<K, V> Model for Builder<K, V> {
+impl<K, V, A: Handle> Model for Builder<K, V, A> {
     ghost use Rattle.fc_tree_build.specs.Built.{Built, built, IsBuilder};
 
     ghost Value = { Built K V };
@@ -33,7 +33,7 @@ impl<K, V> Model for Builder<K, V> {
     ghost invariant = { λ b. IsBuilder b };
 }
 
-impl<K, V> Builder<K, V> {
+impl<K, V, A: Handle> Builder<K, V, A> {
     /// For how many more pairs there is room.
     pub fn room(&self) -> usize
         ensures { result ≡ self.now.room }
@@ -42,12 +42,12 @@ impl<K, V> Builder<K, V> {
     }
 }
 
-impl<K: Drop, V: Drop> Builder<K, V> {
+impl<K: Drop, V: Drop, A: Handle> Builder<K, V, A> {
     /// A builder of no pair, with room for `n`: each node that they can need is made now, and none where `n` is 0.
     ///
     /// # Errors
     /// `AllocError` if one of them or a list of them is refused, never where `n` is 0. Nothing is then left after.
-    pub fn try_new(alloc: Global, n: usize) -> Result<Builder<K, V>, TryReserveError>
+    pub fn try_new(alloc: A, n: usize) -> Result<Builder<K, V, A>, TryReserveError>
         ensures ok { IfOk result (λ b. (b.pairs ≡ []) × (b.room ≡ n)) }
         ensures error { IfErr result (λ e. e ≡ TryReserveError.AllocError) }
         ensures none { n ≡ 0 → IsOk result }
@@ -83,7 +83,7 @@ impl<K: Drop, V: Drop> Builder<K, V> {
     }
 
     /// The root of a sound tree of the pairs; none where there is no pair. Nodes that were not needed are dropped.
-    pub fn finish(self) -> Option<Node<K, V>>
+    pub fn finish(self) -> Option<Node<K, V, A>>
         ensures pairs { entries result ≡ self.pairs }
         ensures sound { IsSoundMap result }
     {

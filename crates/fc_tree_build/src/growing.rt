@@ -12,7 +12,7 @@ use crate::spares::try_inner_nodes;
 use crate::spine::{
     Spine, attach, close, has_room, last_of, needed, open_right, put_in_room, put_pair,
 };
-use fc_base::TryReserveError;
+use fc_base::{Handle, TryReserveError};
 use fc_tree_border::mending::mend_right;
 use fc_tree_drain::stack::Stack;
 use fc_tree_node::node::{CAPACITY, Node};
@@ -24,15 +24,15 @@ use std::mem;
 /// A tree to whose end pairs are put. It asks for memory at its first pair and where its last leaf is full. A contract sees the pairs, and for
 /// how many more the last leaf has room.
 #[derive(Drop)]
-pub struct Growing<K, V> {
-    spine: Spine<K, V>,
-    last: Option<Node<K, V>>,
+pub struct Growing<K, V, A: Handle = Global> {
+    spine: Spine<K, V, A>,
+    last: Option<Node<K, V, A>>,
     // How many pairs stand before those of the last leaf, which can take as many more as it has room for.
     before: usize,
-    alloc: Global,
+    alloc: A,
 }
 
-impl<K, V> Model for Growing<K, V> {
+impl<K, V, A: Handle> Model for Growing<K, V, A> {
     ghost use Rattle.fc_tree_build.specs.Built.{Grown, grown, IsGrown};
 
     ghost Value = { Grown K V };
@@ -42,7 +42,7 @@ impl<K, V> Model for Growing<K, V> {
     ghost invariant = { λ g. IsGrown g.spine g.last g.before };
 }
 
-impl<K, V> Growing<K, V> {
+impl<K, V, A: Handle> Growing<K, V, A> {
     /// The last pair; none where there is no pair.
     pub fn last(&self) -> Option<&(K, V)>
         ensures { IsLastPair self.now.pairs result }
@@ -67,7 +67,7 @@ impl<K, V> Growing<K, V> {
     }
 }
 
-impl<K: Ord + Drop, V: Drop> Growing<K, V> {
+impl<K: Ord + Drop, V: Drop, A: Handle> Growing<K, V, A> {
     /// Puts the pair after the others where the last leaf has a pair and room for one more, and its last key is less; else the pair comes back.
     /// It takes no memory.
     #[inline(always)]
@@ -89,9 +89,9 @@ impl<K: Ord + Drop, V: Drop> Growing<K, V> {
     }
 }
 
-impl<K: Drop, V: Drop> Growing<K, V> {
+impl<K: Drop, V: Drop, A: Handle> Growing<K, V, A> {
     /// A tree of no pair. It asks for nothing.
-    pub fn new(alloc: Global) -> Growing<K, V>
+    pub fn new(alloc: A) -> Growing<K, V, A>
         ensures pairs { result.pairs ≡ [] }
         ensures room { result.room ≡ 0 }
     {
@@ -104,7 +104,7 @@ impl<K: Drop, V: Drop> Growing<K, V> {
     }
 
     /// The tree at `root` of `len` pairs, taken apart at its right edge. It takes no memory, compares nothing and moves no pair.
-    pub fn over(alloc: Global, root: Option<Node<K, V>>, len: usize) -> Growing<K, V>
+    pub fn over(alloc: A, root: Option<Node<K, V, A>>, len: usize) -> Growing<K, V, A>
         requires sound { IsSoundMap root }
         requires len { len ≡ length (entries root) }
         requires room { len + capacity ≤ usize.MAX }
@@ -199,7 +199,7 @@ impl<K: Drop, V: Drop> Growing<K, V> {
     }
 
     /// The root of a sound tree of the pairs; none where there is no pair.
-    pub fn finish(self) -> Option<Node<K, V>>
+    pub fn finish(self) -> Option<Node<K, V, A>>
         ensures pairs { entries result ≡ self.pairs }
         ensures sound { IsSoundMap result }
     {
@@ -217,7 +217,7 @@ impl<K: Drop, V: Drop> Growing<K, V> {
 }
 
 // Whether the key is greater than the leaf's last one.
-fn is_behind<K: Ord, V>(leaf: &Node<K, V>, key: &K) -> bool
+fn is_behind<K: Ord, V, A: Handle>(leaf: &Node<K, V, A>, key: &K) -> bool
     requires { 0 < length (own_pairs leaf.now) }
     ensures { IsTrue result ↔ IsBehindLast K.cmp (own_pairs leaf.now) key.now }
 {
@@ -226,10 +226,10 @@ fn is_behind<K: Ord, V>(leaf: &Node<K, V>, key: &K) -> bool
 
 // A leaf of one pair.
 #[inline(never)]
-fn first_leaf<K: Drop, V: Drop>(
-    alloc: Global,
+fn first_leaf<K: Drop, V: Drop, A: Handle>(
+    alloc: A,
     pair: (K, V),
-) -> Result<Node<K, V>, ((K, V), TryReserveError)>
+) -> Result<Node<K, V, A>, ((K, V), TryReserveError)>
     ensures ok { IfOk result (λ leaf. (own_pairs leaf ≡ pair ∷ []) × IsLeaf leaf) }
     ensures error { IfErr result (λ e. (e.0 ≡ pair) × (e.1 ≡ TryReserveError.AllocError)) }
 {
@@ -244,10 +244,10 @@ fn first_leaf<K: Drop, V: Drop>(
 
 // Puts the full last leaf and the pair after it at the spine's end, and a blank leaf in its place. Where the spine's last node has room,
 // that is the one node that is made.
-fn hang_full<K: Drop, V: Drop>(
-    alloc: Global,
-    spine: &mut Spine<K, V>,
-    last: &mut Node<K, V>,
+fn hang_full<K: Drop, V: Drop, A: Handle>(
+    alloc: A,
+    spine: &mut Spine<K, V, A>,
+    last: &mut Node<K, V, A>,
     pair: (K, V),
 ) -> Result<(), ((K, V), TryReserveError)>
     requires levels { IsSpine 0 spine.old × IsSound 0 last.old }
@@ -273,10 +273,10 @@ fn hang_full<K: Drop, V: Drop>(
 
 // The same by what makes inner nodes, whether they are needed or not.
 #[inline(never)]
-fn hang_above<K: Drop, V: Drop>(
-    alloc: Global,
-    spine: &mut Spine<K, V>,
-    last: &mut Node<K, V>,
+fn hang_above<K: Drop, V: Drop, A: Handle>(
+    alloc: A,
+    spine: &mut Spine<K, V, A>,
+    last: &mut Node<K, V, A>,
     pair: (K, V),
 ) -> Result<(), ((K, V), TryReserveError)>
     requires levels { IsSpine 0 spine.old × IsSound 0 last.old }
@@ -299,10 +299,10 @@ fn hang_above<K: Drop, V: Drop>(
 
 // A leaf and so many inner nodes. For more than a tree has levels above its leaves none are made, so that no tree gets too high; as many as
 // `usize::MAX` pairs never need them.
-fn try_leaf_and_inner<K: Drop, V: Drop>(
-    alloc: Global,
+fn try_leaf_and_inner<K: Drop, V: Drop, A: Handle>(
+    alloc: A,
     inner: usize,
-) -> Result<(Node<K, V>, Vec<Node<K, V>>), TryReserveError>
+) -> Result<(Node<K, V, A>, Vec<Node<K, V, A>, A>), TryReserveError>
     ensures leaf { IfOk result (λ nodes. IsBlankLeaf nodes.0) }
     ensures inner { IfOk result (λ nodes. (length nodes.1.items ≡ inner) × AllByRecursion (λ b. IsBlankInner b) nodes.1.items × (inner ≤ most_height)) }
     ensures error { IfErr result (λ e. e ≡ TryReserveError.AllocError) }

@@ -5,18 +5,17 @@ ghost use Rattle.fc_base.specs.Sizes.{most_children};
 ghost use Rattle.fc_tree_node.specs.Node.{IsBlankLeaf, IsBlankInner};
 ghost use Rattle.fc_tree_build.specs.Spares.{leaves_for, inner_above, inner_for};
 
-use fc_base::TryReserveError;
+use fc_base::{Handle, TryReserveError};
 use fc_tree_node::node::{CAPACITY, Node};
-use std::alloc::Global;
 
 /// As many leaves.
 ///
 /// # Errors
 /// `AllocError` if one of them or the list of them is refused, never where there are none. Nothing is then left after.
-pub(crate) fn try_leaves<K: Drop, V: Drop>(
-    alloc: Global,
+pub(crate) fn try_leaves<K: Drop, V: Drop, A: Handle>(
+    alloc: A,
     count: usize,
-) -> Result<Vec<Node<K, V>>, TryReserveError>
+) -> Result<Vec<Node<K, V, A>, A>, TryReserveError>
     ensures ok { IfOk result (λ v. (length v.items ≡ count) × AllByRecursion (λ b. IsBlankLeaf b) v.items) }
     ensures error { IfErr result (λ e. e ≡ TryReserveError.AllocError) }
     ensures none { count ≡ 0 → IsOk result }
@@ -32,10 +31,10 @@ pub(crate) fn try_leaves<K: Drop, V: Drop>(
 ///
 /// # Errors
 /// `AllocError` if one of them or the list of them is refused, never where there are none. Nothing is then left after.
-pub(crate) fn try_inner_nodes<K: Drop, V: Drop>(
-    alloc: Global,
+pub(crate) fn try_inner_nodes<K: Drop, V: Drop, A: Handle>(
+    alloc: A,
     count: usize,
-) -> Result<Vec<Node<K, V>>, TryReserveError>
+) -> Result<Vec<Node<K, V, A>, A>, TryReserveError>
     ensures ok { IfOk result (λ v. (length v.items ≡ count) × AllByRecursion (λ b. IsBlankInner b) v.items) }
     ensures error { IfErr result (λ e. e ≡ TryReserveError.AllocError) }
     ensures none { count ≡ 0 → IsOk result }
@@ -48,7 +47,7 @@ pub(crate) fn try_inner_nodes<K: Drop, V: Drop>(
 }
 
 /// Takes one of the nodes out.
-pub(crate) fn take_spare<K, V>(spares: &mut Vec<Node<K, V>>) -> Node<K, V>
+pub(crate) fn take_spare<K, V, A: Handle>(spares: &mut Vec<Node<K, V, A>, A>) -> Node<K, V, A>
     requires { 0 < length spares.old.items }
     ensures { spares.old.items ≡ spares.new.items ++ result ∷ [] }
 {

@@ -9,21 +9,22 @@ ghost use Rattle.fc_tree_build.specs.Spine.{IsLastPair, IsOpenEnd, IsSpine, leve
 ghost use Rattle.fc_tree_build.specs.Spares.{own_count, worth, needed};
 
 use crate::spares::take_spare;
-use fc_base::Count;
+use fc_base::{Count, Handle};
 use fc_tree_drain::stack::Stack;
 use fc_tree_node::node::{CAPACITY, Node};
+use std::alloc::Global;
 
 /// The nodes on the right edge of a tree, from the root down, each without its last child: that is the next one, or what comes
 /// below the last of them.
-pub type Spine<K, V> = Stack<Node<K, V>>;
+pub type Spine<K, V, A: Handle = Global> = Stack<Node<K, V, A>>;
 
 /// Puts a subtree at the spine's end, and the pair that comes after it: both go into the lowest node with room. The full nodes
 /// below that one are closed, and blank ones take their places; where all are full there is a new root.
-pub fn attach<K: Drop, V: Drop>(
-    spine: &mut Spine<K, V>,
-    subtree: Node<K, V>,
+pub fn attach<K: Drop, V: Drop, A: Handle>(
+    spine: &mut Spine<K, V, A>,
+    subtree: Node<K, V, A>,
     pair: (K, V),
-    spares: &mut Vec<Node<K, V>>,
+    spares: &mut Vec<Node<K, V, A>, A>,
 )
     requires levels { (h : ℕ) × IsSpine h spine.old × IsSound h subtree }
     requires blank { AllByRecursion (λ b. IsBlankInner b) spares.old.items }
@@ -49,9 +50,9 @@ pub fn attach<K: Drop, V: Drop>(
 }
 
 /// The same where the spine's last node has room.
-pub(crate) fn put_in_room<K: Drop, V: Drop>(
-    spine: &mut Spine<K, V>,
-    subtree: Node<K, V>,
+pub(crate) fn put_in_room<K: Drop, V: Drop, A: Handle>(
+    spine: &mut Spine<K, V, A>,
+    subtree: Node<K, V, A>,
     pair: (K, V),
 )
     requires levels { IsSpine 0 spine.old × IsSound 0 subtree }
@@ -68,7 +69,10 @@ pub(crate) fn put_in_room<K: Drop, V: Drop>(
 }
 
 /// The tree with the spine on its right edge and `last` below it.
-pub fn close<K: Drop, V: Drop>(spine: &mut Spine<K, V>, last: Node<K, V>) -> Node<K, V>
+pub fn close<K: Drop, V: Drop, A: Handle>(
+    spine: &mut Spine<K, V, A>,
+    last: Node<K, V, A>,
+) -> Node<K, V, A>
     requires levels { (h : ℕ) × IsSpine h spine.old × IsRightBordered h last }
     ensures pairs { pairs_of result ≡ before_back spine.old ++ pairs_of last }
     ensures levels { (h : ℕ) → IsSpine h spine.old → IsRightBordered h last → IsRightBordered (level_above h spine.old) result }
@@ -82,7 +86,7 @@ pub fn close<K: Drop, V: Drop>(spine: &mut Spine<K, V>, last: Node<K, V>) -> Nod
 }
 
 /// Whether the spine's last node has room for one more subtree.
-pub(crate) fn has_room<K, V>(spine: &Spine<K, V>) -> bool
+pub(crate) fn has_room<K, V, A: Handle>(spine: &Spine<K, V, A>) -> bool
     ensures { IsTrue result → needed spine.now ≡ 0 }
 {
     let len = spine.len();
@@ -90,7 +94,7 @@ pub(crate) fn has_room<K, V>(spine: &Spine<K, V>) -> bool
 }
 
 /// How many inner nodes one more subtree at the spine's end takes.
-pub(crate) fn needed<K, V>(spine: &Spine<K, V>) -> usize
+pub(crate) fn needed<K, V, A: Handle>(spine: &Spine<K, V, A>) -> usize
     ensures { result ≡ needed spine.now }
 {
     let mut count = 1;
@@ -105,7 +109,7 @@ pub(crate) fn needed<K, V>(spine: &Spine<K, V>) -> usize
 }
 
 /// The last of the pairs in the spine's nodes; none where they hold no pair.
-pub(crate) fn last_of<K, V>(spine: &Spine<K, V>) -> Option<&(K, V)>
+pub(crate) fn last_of<K, V, A: Handle>(spine: &Spine<K, V, A>) -> Option<&(K, V)>
     requires { (h : ℕ) × IsSpine h spine.now }
     ensures { IsLastPair (before_back spine.now) result }
 {
@@ -120,7 +124,10 @@ pub(crate) fn last_of<K, V>(spine: &Spine<K, V>) -> Option<&(K, V)>
 }
 
 /// Goes down to the last leaf, which it answers, and puts each node on the way at the spine's end, without its last child.
-pub(crate) fn open_right<K: Drop, V: Drop>(spine: &mut Spine<K, V>, node: Node<K, V>) -> Node<K, V>
+pub(crate) fn open_right<K: Drop, V: Drop, A: Handle>(
+    spine: &mut Spine<K, V, A>,
+    node: Node<K, V, A>,
+) -> Node<K, V, A>
     requires levels { (h : ℕ) × IsSoundRoot h node × IsSpine h spine.old × (length spine.old + h ≤ most_height) }
     ensures pairs { before_back spine.new ++ own_pairs result ≡ before_back spine.old ++ pairs_of node }
     ensures leaf { (length (own_pairs result) ≤ capacity) × IsLeaf result }
@@ -136,7 +143,10 @@ pub(crate) fn open_right<K: Drop, V: Drop>(spine: &mut Spine<K, V>, node: Node<K
 }
 
 // Takes the spine's last node out, or a blank one where it has none.
-fn open_end<K: Drop, V: Drop>(spine: &mut Spine<K, V>, spares: &mut Vec<Node<K, V>>) -> Node<K, V>
+fn open_end<K: Drop, V: Drop, A: Handle>(
+    spine: &mut Spine<K, V, A>,
+    spares: &mut Vec<Node<K, V, A>, A>,
+) -> Node<K, V, A>
     requires blank { AllByRecursion (λ b. IsBlankInner b) spares.old.items }
     requires some { 0 < length spine.old + length spares.old.items }
     ensures pairs { before_back spine.old ≡ before_back spine.new ++ before_back_in result }
@@ -159,7 +169,7 @@ fn open_end<K: Drop, V: Drop>(spine: &mut Spine<K, V>, spares: &mut Vec<Node<K, 
 }
 
 // Puts a child at the node's end.
-fn put_child<K: Drop, V: Drop>(node: &mut Node<K, V>, child: Node<K, V>)
+fn put_child<K: Drop, V: Drop, A: Handle>(node: &mut Node<K, V, A>, child: Node<K, V, A>)
     requires inner { IsLeaf node.old → ⊥ }
     requires room { length (children_of node.old) ≤ capacity }
     ensures pairs { own_pairs node.new ≡ own_pairs node.old }
@@ -173,7 +183,7 @@ fn put_child<K: Drop, V: Drop>(node: &mut Node<K, V>, child: Node<K, V>)
 }
 
 /// Puts a pair at the node's end. Its children stay.
-pub(crate) fn put_pair<K: Drop, V: Drop>(node: &mut Node<K, V>, pair: (K, V))
+pub(crate) fn put_pair<K: Drop, V: Drop, A: Handle>(node: &mut Node<K, V, A>, pair: (K, V))
     requires room { length (own_pairs node.old) < capacity }
     ensures pairs { own_pairs node.new ≡ own_pairs node.old ++ pair ∷ [] }
     ensures children { children_of node.new ≡ children_of node.old }

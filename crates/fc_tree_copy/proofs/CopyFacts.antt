@@ -1,13 +1,14 @@
 -- A copy of a tree, made of copies of its parts.
-use Rattle.std.proofs.Common.{◌≡◌, ℕ, zero, suc, ◌+◌, ◌<◌, ◌≤◌, List, [], ◌∷◌, ◌++◌, length, map, take, get_or, sym, ap, ◌∙◌, subst, inl, inr, arith}
+use Rattle.std.proofs.Common.{◌≡◌, ℕ, zero, suc, ◌+◌, ◌<◌, ◌≤◌, List, [], ◌∷◌, ◌++◌, length, map, take, get_or, sym, ap, ◌∙◌, subst, inl, inr, arith, Some}
 use Rattle.std.specs.List.{All, Any, AllZip, AllByRecursion}
 use Rattle.std.proofs.lemmas.List.{get_or_default, take_all, length-take-le, length-map}
 use Rattle.std.proofs.lemmas.List.Elements.{length_all_zip, all_zip_more, All-from_recursion, recursion_from_All}
 use Rattle.fc_base.specs.Sizes.{min_len}
 use Rattle.fc_tree_node.specs.Weave.{after_list, weave}
-use Rattle.fc_tree_node.specs.declared.node.Node.{Node}
+use Rattle.fc_tree_node.specs.declared.node.Node.{Node, roll-Node}
 use Rattle.fc_tree_node.specs.Node.{own_pairs, children_of, child_at, pairs_of, IsLeaf, IsLevelled}
 use Rattle.fc_tree_node.proofs.Lists.{all_front, all_back, all_at}
+use Rattle.fc_tree_node.proofs.Made.{own_made, children_made, field_made}
 use Rattle.fc_tree_node.proofs.Pairs.{IsBelow, pairs_is, leaf_children}
 use Rattle.fc_base.specs.declared.try_reserve_error.TryReserveError.{TryReserveError}
 use Rattle.fc_tree_copy.specs.Copy.{IsCopy, IsCopyUpTo, MayRefuseNodes}
@@ -47,14 +48,14 @@ module _ {X : Type 0} (R : X → X → Type 0) where
   pub all_copied : (i : ℕ) (xs ys : List X) → i ≡ length xs → AllZip R (take i xs) ys → AllZip R xs ys
   all_copied i xs ys e a = subst (λ l. AllZip R l ys) (take_all i xs (omega arith)) a
 
-module _ {K V : Type 0} (same : K × V → K × V → Type 0) where
-  lists : (cs ds : List (Node K V)) → AllZip (IsCopy same) cs ds → AllZip (AllZip same) (map pairs_of cs) (map pairs_of ds)
+module _ {K V Z : Type 0} (same : K × V → K × V → Type 0) where
+  lists : (cs ds : List (Node K V Z)) → AllZip (IsCopy same) cs ds → AllZip (AllZip same) (map pairs_of cs) (map pairs_of ds)
   lists [] [] a = tt
   lists [] (d ∷ ds) a = absurd a
   lists (c ∷ cs) [] a = absurd a
   lists (c ∷ cs) (d ∷ ds) a = (a.0.pairs, lists cs ds a.1)
 
-  lower : (h : ℕ) (cs ds : List (Node K V)) → AllZip (IsCopy same) cs ds → AllByRecursion (λ c. (min_len ≤ length (own_pairs c)) × IsLevelled h c) cs
+  lower : (h : ℕ) (cs ds : List (Node K V Z)) → AllZip (IsCopy same) cs ds → AllByRecursion (λ c. (min_len ≤ length (own_pairs c)) × IsLevelled h c) cs
       → AllByRecursion (λ c. (min_len ≤ length (own_pairs c)) × IsLevelled h c) ds
   lower h [] [] a l = tt
   lower h [] (d ∷ ds) a l = absurd a
@@ -64,7 +65,17 @@ module _ {K V : Type 0} (same : K × V → K × V → Type 0) where
       let least = l.0.0 in
       ((omega (arith, many, least), a.0.levels h l.0.1), lower h cs ds a.1 l.1)
 
-  module _ (i : ℕ) (n m : Node K V) (copied : IsCopyUpTo same i n m) where
+  -- An inner node with the own pairs of another one copied, and none of its children yet.
+  pub inner_started : (n : Node K V Z) (ps : List (K × V)) (cs : List (Node K V Z)) → ¬ (IsLeaf n) → AllZip same (own_pairs n) ps → cs ≡ []
+      → IsCopyUpTo same 0 n (roll-Node K V Z (record { pairs = ps; children = Some cs }))
+  inner_started n ps cs inner own none = record {
+    own = subst (AllZip same (own_pairs n)) (sym (own_made _)) own;
+    below = subst (AllZip (IsCopy same) []) (sym (children_made _ ∙ none)) tt;
+    leaf = λ l. absurd (inner l);
+    inner = λ _ l. let e = sym (field_made (record { pairs = ps; children = Some cs })) in absurd (cc (e, l));
+  }
+
+  module _ (i : ℕ) (n m : Node K V Z) (copied : IsCopyUpTo same i n m) where
     -- A node with a child is no leaf, and nor is the copy.
     pub inner_copy : i < length (children_of n) → ¬ (IsLeaf m)
     inner_copy h = copied.inner (λ l. let e = ap length (leaf_children n l) in absurd (omega arith))
@@ -73,7 +84,7 @@ module _ {K V : Type 0} (same : K × V → K × V → Type 0) where
     children_copied h = many_copied (IsCopy same) i (children_of n) (children_of m) h copied.below
 
     -- One more child was copied, and its copy put after the others.
-    pub child_copied : (w c d : Node K V) → i < length (children_of n) → c ≡ child_at n i → IsCopy same c d → own_pairs w ≡ own_pairs m
+    pub child_copied : (w c d : Node K V Z) → i < length (children_of n) → c ≡ child_at n i → IsCopy same c d → own_pairs w ≡ own_pairs m
         → children_of w ≡ children_of m ++ d ∷ [] → ¬ (IsLeaf w) → IsCopyUpTo same (i + 1) n w
     child_copied w c d h e copy own below inner = record {
       own = subst (AllZip same (own_pairs n)) (sym own) copied.own;
@@ -131,22 +142,22 @@ module _ {X : Type 0} (P : X → Type 0) where
   lists_woven [] ps e a = tt
   lists_woven (c ∷ cs) ps e a = (all_front P c (after_list ps cs) a, lists_after ps cs (omega arith) (all_back P c (after_list ps cs) a))
 
-module _ {K V : Type 0} (P : K × V → Type 0) where
-  all_own : (n : Node K V) → All P (pairs_of n) → All P (own_pairs n)
+module _ {K V Z : Type 0} (P : K × V → Type 0) where
+  all_own : (n : Node K V Z) → All P (pairs_of n) → All P (own_pairs n)
   all_own n a = All-from_recursion P (own_pairs n) (own_woven P (map pairs_of (children_of n)) (own_pairs n)
       (subst (AllByRecursion P) (pairs_is n) (recursion_from_All P (pairs_of n) a)))
 
-  list_at : (cs : List (Node K V)) (i : ℕ) (d : Node K V) → i < length cs → AllByRecursion (AllByRecursion P) (map pairs_of cs)
+  list_at : (cs : List (Node K V Z)) (i : ℕ) (d : Node K V Z) → i < length cs → AllByRecursion (AllByRecursion P) (map pairs_of cs)
       → AllByRecursion P (pairs_of (get_or cs i d))
   list_at [] i d h a = absurd (omega arith)
   list_at (c ∷ cs) zero d h a = a.0
   list_at (c ∷ cs) (suc i) d h a = list_at cs i d (omega arith) a.1
 
-  wide_list : (cs : List (Node K V)) (m : ℕ) → length cs ≡ m → length (map pairs_of cs) ≡ m
+  wide_list : (cs : List (Node K V Z)) (m : ℕ) → length cs ≡ m → length (map pairs_of cs) ≡ m
   wide_list cs m e = length-map cs _ ∙ e
 
   -- A child of a levelled node is levelled too.
-  all_below : (h : ℕ) (n c : Node K V) (i : ℕ) → IsLevelled h n → i < length (children_of n) → c ≡ child_at n i → All P (pairs_of n)
+  all_below : (h : ℕ) (n c : Node K V Z) (i : ℕ) → IsLevelled h n → i < length (children_of n) → c ≡ child_at n i → All P (pairs_of n)
       → (g : ℕ) × IsLevelled g c × All P (pairs_of c)
   all_below zero n c i l h e a = let w = ap length (leaf_children n l.1) in absurd (omega arith)
   all_below (suc g) n c i l h e a =
@@ -172,13 +183,14 @@ module _ {K V : Type 0} (may : K × V → TryReserveError → Type 0) (e : TryRe
   pub refused_at : (pairs : List (K × V)) (i : ℕ) (p : K × V) → i < length pairs → p ≡ get_or pairs i p → may p e → MayRefuseNodes may pairs e
   refused_at pairs i p h is m = inr (i, p, h, sym is, m)
 
+module _ {K V Z : Type 0} (may : K × V → TryReserveError → Type 0) (e : TryReserveError) where
   -- What may refuse a copy of a node's own pairs may refuse one of all in and below it, and so may what refuses that of a child.
-  pub refused_own : (n : Node K V) → MayRefuseNodes may (own_pairs n) e → MayRefuseNodes may (pairs_of n) e
+  pub refused_own : (n : Node K V Z) → MayRefuseNodes may (own_pairs n) e → MayRefuseNodes may (pairs_of n) e
   refused_own n (inl no_memory) = inl no_memory
   refused_own n (inr own) = inr (some_item (λ p. may p e) (own_pairs n)
       (all_own (λ p. may p e → Any (λ q. may q e) (pairs_of n)) n (each_item (λ p. may p e) (pairs_of n))) own)
 
-  pub refused_below : (h : ℕ) (n c : Node K V) (i : ℕ) → IsLevelled h n → i < length (children_of n) → c ≡ child_at n i
+  pub refused_below : (h : ℕ) (n c : Node K V Z) (i : ℕ) → IsLevelled h n → i < length (children_of n) → c ≡ child_at n i
       → ((g : ℕ) → IsLevelled g c → MayRefuseNodes may (pairs_of c) e) → MayRefuseNodes may (pairs_of n) e
   refused_below h n c i l less is refused =
       let below = all_below (λ p. may p e → Any (λ q. may q e) (pairs_of n)) h n c i l less is (each_item (λ p. may p e) (pairs_of n)) in

@@ -16,14 +16,15 @@ module _ {K V : Type 0} where
   abbrev pub AreSame : (K → K → Type 0) → (V → V → Type 0) → K × V → K × V → Type 0
   AreSame same_key same_value p q = same_key p.0 q.0 × same_value p.1 q.1
 
+module _ {K V Z : Type 0} where
   -- A tree as another one: the same pairs, in the node itself and in all, and on as many levels.
-  pub record IsCopy (same : K × V → K × V → Type 0) (source copy : Node K V) : Type 0 where
+  pub record IsCopy (same : K × V → K × V → Type 0) (source copy : Node K V Z) : Type 0 where
     pub pairs : AllZip same (pairs_of source) (pairs_of copy)
     pub own : AllZip same (own_pairs source) (own_pairs copy)
     pub levels : (h : ℕ) → IsLevelled h source → IsLevelled h copy
 
   -- A node with the pairs of another one, and with copies of its first i children.
-  pub record IsCopyUpTo (same : K × V → K × V → Type 0) (i : ℕ) (source copy : Node K V) : Type 0 where
+  pub record IsCopyUpTo (same : K × V → K × V → Type 0) (i : ℕ) (source copy : Node K V Z) : Type 0 where
     pub own : AllZip same (own_pairs source) (own_pairs copy)
     pub below : AllZip (IsCopy same) (take i (children_of source)) (children_of copy)
     pub leaf : IsLeaf source → IsLeaf copy

@@ -6,21 +6,20 @@ ghost use Rattle.fc_base.specs.Copies.{MayRefusePair};
 ghost use Rattle.fc_tree_node.specs.Node.{own_pairs, children_of, pairs_of, IsLeaf, IsLevelled};
 ghost use Rattle.fc_tree_copy.specs.Copy.{AreSame, MayRefuseNodes, IsCopy, IsCopyUpTo};
 
-use fc_base::{Count, TryClone, TryReserveError};
+use fc_base::{Count, Handle, TryClone, TryReserveError};
 use fc_tree_node::node::{CAPACITY, Node};
 use fc_tree_slots::children::Children;
 use fc_tree_slots::slots::Slots;
-use std::alloc::Global;
 
 /// A copy of the tree at `node`: a node for each node, with as many pairs and children, and a copy of each pair by `try_clone`.
 /// The tree is only read.
 ///
 /// # Errors
 /// `AllocError` where a node was refused, or the error of a key or a value whose copy was. What was made by then is dropped.
-pub fn try_copy<K: TryClone, V: TryClone>(
-    alloc: Global,
-    node: &Node<K, V>,
-) -> Result<Node<K, V>, TryReserveError>
+pub fn try_copy<K: TryClone, V: TryClone, A: Handle>(
+    alloc: A,
+    node: &Node<K, V, A>,
+) -> Result<Node<K, V, A>, TryReserveError>
     requires keys { K.can_clone }
     requires values { V.can_clone }
     ensures copied { IfOk result (λ copy. IsCopy (AreSame K.same V.same) node.now copy) }
@@ -35,10 +34,10 @@ pub fn try_copy<K: TryClone, V: TryClone>(
 }
 
 // A node with copies of the node's own pairs, and with room for children where the node has it.
-fn try_copy_own<K: TryClone, V: TryClone>(
-    alloc: Global,
-    node: &Node<K, V>,
-) -> Result<Node<K, V>, TryReserveError>
+fn try_copy_own<K: TryClone, V: TryClone, A: Handle>(
+    alloc: A,
+    node: &Node<K, V, A>,
+) -> Result<Node<K, V, A>, TryReserveError>
     requires keys { K.can_clone }
     requires values { V.can_clone }
     ensures copied { IfOk result (λ copy. IsCopyUpTo (AreSame K.same V.same) 0 node.now copy) }
@@ -54,10 +53,10 @@ fn try_copy_own<K: TryClone, V: TryClone>(
 }
 
 // Copies of the pairs, in order.
-fn try_copy_pairs<K: TryClone, V: TryClone>(
-    alloc: Global,
-    pairs: &Slots<(K, V), CAPACITY>,
-) -> Result<Slots<(K, V), CAPACITY>, TryReserveError>
+fn try_copy_pairs<K: TryClone, V: TryClone, A: Handle>(
+    alloc: A,
+    pairs: &Slots<(K, V), CAPACITY, A>,
+) -> Result<Slots<(K, V), CAPACITY, A>, TryReserveError>
     requires keys { K.can_clone }
     requires values { V.can_clone }
     ensures copied { IfOk result (λ copies. AllZip (AreSame K.same V.same) pairs.now copies) }
@@ -84,7 +83,7 @@ fn try_copy_pair<K: TryClone, V: TryClone>(pair: &(K, V)) -> Result<(K, V), TryR
 }
 
 // Puts a child after those that are there.
-fn push_child<K: Drop, V: Drop>(node: &mut Node<K, V>, child: Node<K, V>)
+fn push_child<K: Drop, V: Drop, A: Handle>(node: &mut Node<K, V, A>, child: Node<K, V, A>)
     requires inner { ¬ (IsLeaf node.old) }
     requires room { length (children_of node.old) < most_children }
     ensures own { own_pairs node.new ≡ own_pairs node.old }

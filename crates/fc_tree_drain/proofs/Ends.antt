@@ -48,39 +48,43 @@ module _ {X : Type 0} where
   refilled_back r rest new old front back e f h =
       append_assoc r rest new ∙ ap (λ zs. r ++ zs) e ∙ f ∙ sym (append-nil front) ∙ ap (λ zs. front ++ zs) (sym (no_item back h))
 
-module _ {K V : Type 0} where
-  pub front_some : (s : List (Node K V)) (low high : ℕ) → IsFalling low high s → 0 < length s → 0 < length (after_front s)
+module _ {K V Z : Type 0} where
+  pub front_some : (s : List (Node K V Z)) (low high : ℕ) → IsFalling low high s → 0 < length s → 0 < length (after_front s)
   front_some [] low high f h = absurd (omega arith)
   front_some (b ∷ s) low high f h =
       let k = after_some (own_pairs b) (map pairs_of (children_of b)) f.2 in
       omega (arith, length-append (after_front s) (after_front_in b))
 
-  pub back_some : (s : List (Node K V)) (low high : ℕ) → IsFalling low high s → 0 < length s → 0 < length (before_back s)
+  pub back_some : (s : List (Node K V Z)) (low high : ℕ) → IsFalling low high s → 0 < length s → 0 < length (before_back s)
   back_some [] low high f h = absurd (omega arith)
   back_some (b ∷ s) low high f h =
       let k = closing_some (length (own_pairs b) - length (children_of b)) (own_pairs b) (map pairs_of (children_of b)) f.2 in
       omega (arith, length-append (before_back_in b) (before_back s))
 
   -- Nothing is left just where no node is, and no pair of a leaf.
-  pub none_front : (xs : List (K × V)) (s : List (Node K V)) → IsFalling 0 most_levels s → length (xs ++ after_front s) ≡ 0 → (xs ≡ []) × (length s ≡ 0)
-  none_front xs [] f e = let a = length-append xs (after_front {K = K} {V = V} []) in (no_item xs (omega arith), refl)
+  pub none_front : (xs : List (K × V)) (s : List (Node K V Z)) → IsFalling 0 most_levels s → length (xs ++ after_front s) ≡ 0 → (xs ≡ []) × (length s ≡ 0)
+  none_front xs [] f e = let a = length-append xs (after_front {K = K} {V = V} {Z = Z} []) in (no_item xs (omega arith), refl)
   none_front xs (b ∷ s) f e = let a = length-append xs (after_front (b ∷ s)) in let k = front_some (b ∷ s) 0 most_levels f (omega arith) in absurd (omega arith)
 
-  pub none_back : (s : List (Node K V)) (xs : List (K × V)) → IsFalling 0 most_levels s → length (before_back s ++ xs) ≡ 0 → (xs ≡ []) × (length s ≡ 0)
+  pub none_back : (s : List (Node K V Z)) (xs : List (K × V)) → IsFalling 0 most_levels s → length (before_back s ++ xs) ≡ 0 → (xs ≡ []) × (length s ≡ 0)
   none_back [] xs f e = (no_item xs e, refl)
   none_back (b ∷ s) xs f e = let a = length-append (before_back (b ∷ s)) xs in let k = back_some (b ∷ s) 0 most_levels f (omega arith) in absurd (omega arith)
 
   -- What is left where no pair of a leaf is, is in nodes.
-  pub nodes_there : (xs : List (K × V)) (s : List (Node K V)) (now : List (K × V)) → xs ++ after_front s ≡ now → 0 < length now → length xs ≡ 0 → 0 < length s
-  nodes_there xs [] now e h z = let l = ap length (sym e) ∙ length-append xs (after_front {K = K} {V = V} []) in absurd (omega arith)
+  pub nodes_there : (xs : List (K × V)) (s : List (Node K V Z)) (now : List (K × V)) → xs ++ after_front s ≡ now → 0 < length now → length xs ≡ 0 → 0 < length s
+  nodes_there xs [] now e h z = let l = ap length (sym e) ∙ length-append xs (after_front {K = K} {V = V} {Z = Z} []) in absurd (omega arith)
   nodes_there xs (b ∷ s) now e h z = omega arith
 
+  pub nodes_there_back : (s : List (Node K V Z)) (xs now : List (K × V)) → before_back s ++ xs ≡ now → 0 < length now → length xs ≡ 0 → 0 < length s
+  nodes_there_back [] xs now e h z = let l = ap length e in absurd (omega arith)
+  nodes_there_back (b ∷ s) xs now e h z = omega arith
+
   -- the node at the stack's last place has a pair
-  pub top_has : (s : List (Node K V)) (n : ℕ) (b : Node K V) → IsFalling 0 most_levels s → length s ≡ n + 1 → b ≡ get_or s n b → 0 < length (own_pairs b)
+  pub top_has : (s : List (Node K V Z)) (n : ℕ) (b : Node K V Z) → IsFalling 0 most_levels s → length s ≡ n + 1 → b ≡ get_or s n b → 0 < length (own_pairs b)
   top_has s n b f l e = let t = last_split s n b l e in top_some s t.0 b f t.1
 
   -- and that pair stands first of all
-  pub top_first : (s : List (Node K V)) (n : ℕ) (b : Node K V) (p : K × V) → IsFalling 0 most_levels s → length s ≡ n + 1 → b ≡ get_or s n b
+  pub top_first : (s : List (Node K V Z)) (n : ℕ) (b : Node K V Z) (p : K × V) → IsFalling 0 most_levels s → length s ≡ n + 1 → b ≡ get_or s n b
       → p ≡ get_or (own_pairs b) 0 p → (rest : List (K × V)) × (after_front s ≡ p ∷ rest)
   top_first s n b p f l e q =
       let t = last_split s n b l e in
@@ -90,3 +94,20 @@ module _ {K V : Type 0} where
         front_push t.0 s b t.1 ∙ ap (λ ps. after_list ps (map pairs_of (children_of b)) ++ after_front t.0) i.1
             ∙ ap (λ zs. zs ++ after_front t.0) k.1,
       )
+
+  -- Where neither end has a node and one has no pair of a leaf, the ends exchange what is left of their leaves.
+  pub exchanged : (xs ys : List (K × V)) (s t : List (Node K V Z)) → length s ≡ 0 → length t ≡ 0 → length ys ≡ 0
+      → (ys ++ after_front s) ++ (before_back t ++ xs) ≡ (xs ++ after_front s) ++ (before_back t ++ ys)
+  exchanged xs [] [] [] e f z = sym (append-nil (xs ++ []) ∙ append-nil xs)
+  exchanged xs (y ∷ ys) s t e f z = absurd (omega arith)
+  exchanged xs [] (b ∷ s) t e f z = absurd (omega arith)
+  exchanged xs [] [] (b ∷ t) e f z = absurd (omega arith)
+
+  -- What is left where no node is, is in a leaf.
+  pub front_run : (xs : List (K × V)) (s : List (Node K V Z)) (now : List (K × V)) → xs ++ after_front s ≡ now → 0 < length now → length s ≡ 0 → 0 < length xs
+  front_run xs [] now e h z = let l = ap length (sym e) ∙ length-append xs (after_front {K = K} {V = V} {Z = Z} []) in omega arith
+  front_run xs (b ∷ s) now e h z = absurd (omega arith)
+
+  pub back_run : (s : List (Node K V Z)) (xs now : List (K × V)) → before_back s ++ xs ≡ now → 0 < length now → length s ≡ 0 → 0 < length xs
+  back_run [] xs now e h z = let l = ap length e in omega arith
+  back_run (b ∷ s) xs now e h z = absurd (omega arith)

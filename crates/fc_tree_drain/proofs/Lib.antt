@@ -1,3 +1,4 @@
 pub mod Cells
 pub mod Ends
 pub mod Opening
+pub mod Sizes

@@ -6,19 +6,21 @@ ghost use Rattle.fc_tree_drain.specs.Opened.{after_front, before_back};
 
 use crate::owned::{Nodes, Run, give_first, give_last, move_to_back, move_to_front, open_first};
 use crate::stack::Stack;
+use fc_base::Handle;
 use fc_tree_node::node::Node;
+use std::alloc::Global;
 use std::marker::Model;
 use std::mem;
 
 /// The front of a tree that is taken apart, seen as the list of the pairs that are left: what is left of a leaf, and above it nodes that
 /// each begin with a pair. It takes no memory, and drops what is left.
 #[derive(Drop)]
-pub struct Front<K, V> {
-    run: Run<K, V>,
-    nodes: Nodes<K, V>,
+pub struct Front<K, V, A: Handle = Global> {
+    run: Run<K, V, A>,
+    nodes: Nodes<K, V, A>,
 }
 
-impl<K, V> Model for Front<K, V> {
+impl<K, V, A: Handle> Model for Front<K, V, A> {
     ghost use Rattle.std.specs.Prelude.{◌++◌, List};
     ghost use Rattle.fc_base.specs.Sizes.{most_levels};
     ghost use Rattle.fc_tree_node.specs.Node.{items_or_none};
@@ -34,12 +36,12 @@ impl<K, V> Model for Front<K, V> {
 /// The back of a tree that is taken apart, seen as the list of the pairs that are left: nodes that each end with a pair, and below them
 /// what is left of a leaf. It takes no memory, and drops what is left.
 #[derive(Drop)]
-pub struct Back<K, V> {
-    nodes: Nodes<K, V>,
-    run: Run<K, V>,
+pub struct Back<K, V, A: Handle = Global> {
+    nodes: Nodes<K, V, A>,
+    run: Run<K, V, A>,
 }
 
-impl<K, V> Model for Back<K, V> {
+impl<K, V, A: Handle> Model for Back<K, V, A> {
     ghost use Rattle.std.specs.Prelude.{◌++◌, List};
     ghost use Rattle.fc_base.specs.Sizes.{most_levels};
     ghost use Rattle.fc_tree_node.specs.Node.{items_or_none};
@@ -54,12 +56,12 @@ impl<K, V> Model for Back<K, V> {
 
 /// A tree that is taken apart from both ends, seen as the list of the pairs that are left. It takes no memory, and drops what is left.
 #[derive(Drop)]
-pub struct Drain<K, V> {
-    front: Front<K, V>,
-    back: Back<K, V>,
+pub struct Drain<K, V, A: Handle = Global> {
+    front: Front<K, V, A>,
+    back: Back<K, V, A>,
 }
 
-impl<K, V> Model for Drain<K, V> {
+impl<K, V, A: Handle> Model for Drain<K, V, A> {
     ghost use Rattle.std.specs.Prelude.{◌++◌, List};
 
     ghost Value = { List (K × V) };
@@ -68,7 +70,7 @@ impl<K, V> Model for Drain<K, V> {
 }
 
 // How many pairs are left of a leaf.
-fn run_len<K, V>(run: &Run<K, V>) -> usize
+fn run_len<K, V, A: Handle>(run: &Run<K, V, A>) -> usize
     ensures { result ≡ length (items_or_none run.now) }
 {
     match run {
@@ -78,7 +80,7 @@ fn run_len<K, V>(run: &Run<K, V>) -> usize
 }
 
 // The first pair that is left of a leaf.
-fn first_of<K, V>(run: &Run<K, V>) -> &(K, V)
+fn first_of<K, V, A: Handle>(run: &Run<K, V, A>) -> &(K, V)
     requires { 0 < length (items_or_none run.now) }
     ensures { (rest : List (K × V)) × (items_or_none run.now ≡ result.now ∷ rest) }
 {
@@ -89,7 +91,7 @@ fn first_of<K, V>(run: &Run<K, V>) -> &(K, V)
 }
 
 // Takes the first pair that is left of a leaf.
-fn take_first<K, V>(run: &mut Run<K, V>) -> (K, V)
+fn take_first<K, V, A: Handle>(run: &mut Run<K, V, A>) -> (K, V)
     requires { 0 < length (items_or_none run.old) }
     ensures { items_or_none run.old ≡ result ∷ items_or_none run.new }
 {
@@ -100,7 +102,7 @@ fn take_first<K, V>(run: &mut Run<K, V>) -> (K, V)
 }
 
 // Takes the last pair that is left of a leaf.
-fn take_last<K, V>(run: &mut Run<K, V>) -> (K, V)
+fn take_last<K, V, A: Handle>(run: &mut Run<K, V, A>) -> (K, V)
     requires { 0 < length (items_or_none run.old) }
     ensures { items_or_none run.old ≡ items_or_none run.new ++ result ∷ [] }
 {
@@ -110,7 +112,7 @@ fn take_last<K, V>(run: &mut Run<K, V>) -> (K, V)
     }
 }
 
-impl<K, V> Front<K, V> {
+impl<K, V, A: Handle> Front<K, V, A> {
     /// Whether no pair is left.
     pub fn is_empty(&self) -> bool
         ensures { IsTrue result ↔ (length self.now ≡ 0) }
@@ -130,9 +132,9 @@ impl<K, V> Front<K, V> {
     }
 }
 
-impl<K: Drop, V: Drop> Front<K, V> {
+impl<K: Drop, V: Drop, A: Handle> Front<K, V, A> {
     /// The front of a whole tree.
-    pub fn over(root: Option<Node<K, V>>) -> Front<K, V>
+    pub fn over(root: Option<Node<K, V, A>>) -> Front<K, V, A>
         requires { IsSoundMap root }
         ensures { result ≡ entries root }
     {
@@ -156,18 +158,18 @@ impl<K: Drop, V: Drop> Front<K, V> {
     }
 }
 
-impl<K, V> Front<K, V> {
+impl<K, V, A: Handle> Front<K, V, A> {
     // What is left of the leaf, and the nodes.
-    fn parts(&self) -> (&Run<K, V>, &Nodes<K, V>)
+    fn parts(&self) -> (&Run<K, V, A>, &Nodes<K, V, A>)
         ensures { items_or_none result.0.now ++ after_front result.1.now ≡ self.now }
     {
         (&self.run, &self.nodes)
     }
 }
 
-impl<K, V> Back<K, V> {
+impl<K, V, A: Handle> Back<K, V, A> {
     // The nodes, and what is left of the leaf.
-    fn parts(&self) -> (&Nodes<K, V>, &Run<K, V>)
+    fn parts(&self) -> (&Nodes<K, V, A>, &Run<K, V, A>)
         ensures { before_back result.0.now ++ items_or_none result.1.now ≡ self.now }
     {
         (&self.nodes, &self.run)
@@ -181,7 +183,7 @@ impl<K, V> Back<K, V> {
     }
 }
 
-impl<K: Drop, V: Drop> Back<K, V> {
+impl<K: Drop, V: Drop, A: Handle> Back<K, V, A> {
     // Gives the last pair out.
     fn next_back(&mut self) -> (K, V)
         requires { 0 < length self.old }
@@ -194,18 +196,23 @@ impl<K: Drop, V: Drop> Back<K, V> {
     }
 }
 
-impl<K, V> Drain<K, V> {
+impl<K, V, A: Handle> Drain<K, V, A> {
     /// The front's parts and the back's: what is left of a leaf and the nodes above it, and the nodes and what is left of a leaf.
-    pub fn parts(&self) -> ((&Run<K, V>, &Nodes<K, V>), (&Nodes<K, V>, &Run<K, V>))
+    pub fn parts(
+        &self,
+    ) -> (
+        (&Run<K, V, A>, &Nodes<K, V, A>),
+        (&Nodes<K, V, A>, &Run<K, V, A>),
+    )
         ensures { (items_or_none result.0.0.now ++ after_front result.0.1.now) ++ (before_back result.1.0.now ++ items_or_none result.1.1.now) ≡ self.now }
     {
         (self.front.parts(), self.back.parts())
     }
 }
 
-impl<K: Drop, V: Drop> Drain<K, V> {
+impl<K: Drop, V: Drop, A: Handle> Drain<K, V, A> {
     /// The whole tree.
-    pub fn over(root: Option<Node<K, V>>) -> Drain<K, V>
+    pub fn over(root: Option<Node<K, V, A>>) -> Drain<K, V, A>
         requires { IsSoundMap root }
         ensures { result ≡ entries root }
     {
@@ -238,7 +245,7 @@ impl<K: Drop, V: Drop> Drain<K, V> {
 }
 
 // Sees to it that the front has a pair, if there is one.
-fn fill_front<K: Drop, V: Drop>(front: &mut Front<K, V>, back: &mut Back<K, V>)
+fn fill_front<K: Drop, V: Drop, A: Handle>(front: &mut Front<K, V, A>, back: &mut Back<K, V, A>)
     requires { 0 < length (front.old ++ back.old) }
     ensures pairs { front.new ++ back.new ≡ front.old ++ back.old }
     ensures some { 0 < length front.new }
@@ -252,7 +259,7 @@ fn fill_front<K: Drop, V: Drop>(front: &mut Front<K, V>, back: &mut Back<K, V>)
 // The same, where nothing is left of the front's leaf. With no node above it the back's lowest node goes over, with its first child
 // opened, and where there is none what is left of the back's leaf.
 #[inline(never)]
-fn refill_front<K: Drop, V: Drop>(front: &mut Front<K, V>, back: &mut Back<K, V>)
+fn refill_front<K: Drop, V: Drop, A: Handle>(front: &mut Front<K, V, A>, back: &mut Back<K, V, A>)
     requires { 0 < length (front.old ++ back.old) }
     ensures pairs { front.new ++ back.new ≡ front.old ++ back.old }
     ensures some { 0 < length front.new }
@@ -268,7 +275,7 @@ fn refill_front<K: Drop, V: Drop>(front: &mut Front<K, V>, back: &mut Back<K, V>
 }
 
 // Sees to it that the back has a pair, if there is one.
-fn fill_back<K: Drop, V: Drop>(front: &mut Front<K, V>, back: &mut Back<K, V>)
+fn fill_back<K: Drop, V: Drop, A: Handle>(front: &mut Front<K, V, A>, back: &mut Back<K, V, A>)
     requires { 0 < length (front.old ++ back.old) }
     ensures pairs { front.new ++ back.new ≡ front.old ++ back.old }
     ensures some { 0 < length back.new }
@@ -282,7 +289,7 @@ fn fill_back<K: Drop, V: Drop>(front: &mut Front<K, V>, back: &mut Back<K, V>)
 // The same, where nothing is left of the back's leaf. With no node above it the front's lowest node goes over, with its last child
 // opened, and where there is none what is left of the front's leaf.
 #[inline(never)]
-fn refill_back<K: Drop, V: Drop>(front: &mut Front<K, V>, back: &mut Back<K, V>)
+fn refill_back<K: Drop, V: Drop, A: Handle>(front: &mut Front<K, V, A>, back: &mut Back<K, V, A>)
     requires { 0 < length (front.old ++ back.old) }
     ensures pairs { front.new ++ back.new ≡ front.old ++ back.old }
     ensures some { 0 < length back.new }

@@ -5,17 +5,19 @@ ghost use Rattle.fc_tree_node.specs.Node.{own_pairs, pairs_of, items_or_none};
 ghost use Rattle.fc_tree_drain.specs.Opened.{IsOpened, IsFalling, IsUnder, after_front_in, before_back_in, after_front, before_back};
 
 use crate::stack::Stack;
+use fc_base::Handle;
 use fc_tree_node::node::{CAPACITY, Node};
 use fc_tree_slots::rest::Rest;
+use std::alloc::Global;
 
 /// Nodes that are partly given out, each above one of a higher level.
-pub type Nodes<K, V> = Stack<Node<K, V>>;
+pub type Nodes<K, V, A: Handle = Global> = Stack<Node<K, V, A>>;
 
 /// What is left of a leaf's pairs.
-pub type Run<K, V> = Option<Rest<(K, V), CAPACITY>>;
+pub type Run<K, V, A: Handle = Global> = Option<Rest<(K, V), CAPACITY, A>>;
 
 // The pairs of a node that has no child. Nothing else of it is left.
-fn into_run<K: Drop, V: Drop>(node: Node<K, V>) -> Run<K, V>
+fn into_run<K: Drop, V: Drop, A: Handle>(node: Node<K, V, A>) -> Run<K, V, A>
     ensures { items_or_none result ≡ own_pairs node }
 {
     let Node { pairs, children: _ } = node;
@@ -23,7 +25,11 @@ fn into_run<K: Drop, V: Drop>(node: Node<K, V>) -> Run<K, V>
 }
 
 /// Goes down to the first leaf, whose pairs become the run, and leaves each node on the way without its first child.
-pub fn open_first<K: Drop, V: Drop>(stack: &mut Nodes<K, V>, run: &mut Run<K, V>, node: Node<K, V>)
+pub fn open_first<K: Drop, V: Drop, A: Handle>(
+    stack: &mut Nodes<K, V, A>,
+    run: &mut Run<K, V, A>,
+    node: Node<K, V, A>,
+)
     requires { IsUnder node stack.old }
     ensures pairs { items_or_none run.new ++ after_front stack.new ≡ pairs_of node ++ after_front stack.old }
     ensures levels { IsFalling 0 most_levels stack.new }
@@ -40,7 +46,11 @@ pub fn open_first<K: Drop, V: Drop>(stack: &mut Nodes<K, V>, run: &mut Run<K, V>
 }
 
 /// Goes down to the last leaf, whose pairs become the run, and leaves each node on the way without its last child.
-pub fn open_last<K: Drop, V: Drop>(stack: &mut Nodes<K, V>, run: &mut Run<K, V>, node: Node<K, V>)
+pub fn open_last<K: Drop, V: Drop, A: Handle>(
+    stack: &mut Nodes<K, V, A>,
+    run: &mut Run<K, V, A>,
+    node: Node<K, V, A>,
+)
     requires { IsUnder node stack.old }
     ensures pairs { before_back stack.new ++ items_or_none run.new ≡ before_back stack.old ++ pairs_of node }
     ensures levels { IsFalling 0 most_levels stack.new }
@@ -57,7 +67,7 @@ pub fn open_last<K: Drop, V: Drop>(stack: &mut Nodes<K, V>, run: &mut Run<K, V>,
 }
 
 // Puts a node back, if it still has a pair.
-fn keep<K: Drop, V: Drop>(stack: &mut Nodes<K, V>, node: Node<K, V>)
+fn keep<K: Drop, V: Drop, A: Handle>(stack: &mut Nodes<K, V, A>, node: Node<K, V, A>)
     requires { (h : ℕ) × IsOpened h node × IsFalling (suc h) most_levels stack.old }
     ensures front { after_front stack.new ≡ after_front_in node ++ after_front stack.old }
     ensures back { before_back stack.new ≡ before_back stack.old ++ before_back_in node }
@@ -71,7 +81,10 @@ fn keep<K: Drop, V: Drop>(stack: &mut Nodes<K, V>, node: Node<K, V>)
 
 /// Gives the first pair out, and opens the child after it. It comes where the run is used up.
 #[inline(never)]
-pub fn give_first<K: Drop, V: Drop>(stack: &mut Nodes<K, V>, run: &mut Run<K, V>) -> (K, V)
+pub fn give_first<K: Drop, V: Drop, A: Handle>(
+    stack: &mut Nodes<K, V, A>,
+    run: &mut Run<K, V, A>,
+) -> (K, V)
     requires some { 0 < length stack.old }
     requires levels { IsFalling 0 most_levels stack.old }
     requires used_up { items_or_none run.old ≡ [] }
@@ -92,7 +105,10 @@ pub fn give_first<K: Drop, V: Drop>(stack: &mut Nodes<K, V>, run: &mut Run<K, V>
 
 /// Gives the last pair out, and opens the child before it. It comes where the run is used up.
 #[inline(never)]
-pub fn give_last<K: Drop, V: Drop>(stack: &mut Nodes<K, V>, run: &mut Run<K, V>) -> (K, V)
+pub fn give_last<K: Drop, V: Drop, A: Handle>(
+    stack: &mut Nodes<K, V, A>,
+    run: &mut Run<K, V, A>,
+) -> (K, V)
     requires some { 0 < length stack.old }
     requires levels { IsFalling 0 most_levels stack.old }
     requires used_up { items_or_none run.old ≡ [] }
@@ -112,10 +128,10 @@ pub fn give_last<K: Drop, V: Drop>(stack: &mut Nodes<K, V>, run: &mut Run<K, V>)
 }
 
 /// Moves the lowest node of the back to the front, which has none, and opens its first child where it begins with one.
-pub fn move_to_front<K: Drop, V: Drop>(
-    front: &mut Nodes<K, V>,
-    run: &mut Run<K, V>,
-    back: &mut Nodes<K, V>,
+pub fn move_to_front<K: Drop, V: Drop, A: Handle>(
+    front: &mut Nodes<K, V, A>,
+    run: &mut Run<K, V, A>,
+    back: &mut Nodes<K, V, A>,
 )
     requires none { length front.old ≡ 0 }
     requires used_up { items_or_none run.old ≡ [] }
@@ -137,10 +153,10 @@ pub fn move_to_front<K: Drop, V: Drop>(
 }
 
 /// Moves the lowest node of the front to the back, which has none, and opens its last child where it ends with one.
-pub fn move_to_back<K: Drop, V: Drop>(
-    front: &mut Nodes<K, V>,
-    back: &mut Nodes<K, V>,
-    run: &mut Run<K, V>,
+pub fn move_to_back<K: Drop, V: Drop, A: Handle>(
+    front: &mut Nodes<K, V, A>,
+    back: &mut Nodes<K, V, A>,
+    run: &mut Run<K, V, A>,
 )
     requires none { length back.old ≡ 0 }
     requires used_up { items_or_none run.old ≡ [] }

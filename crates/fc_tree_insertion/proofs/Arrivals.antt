@@ -62,20 +62,21 @@ beside : (i : ℕ) → i ≡ left_length i → ⊥
 beside i e = grind (arith, nat_tests)
 
 -- the pairs before a child, of those in the two lists
-abbrev pub lead : {K V : Type 0} → List (Node K V) → List (K × V) → ℕ → List (K × V)
+abbrev pub lead : {K V Z : Type 0} → List (Node K V Z) → List (K × V) → ℕ → List (K × V)
 lead cs ps t = before_list (map pairs_of (take t cs)) (take t ps)
 
 -- the step t of a node with these children and pairs leads to the steps' place, with those pairs before it
-pub record HasStep {K V : Type 0} (path : List ℕ) (cs : List (Node K V)) (ps : List (K × V)) (t : ℕ) (front : List (K × V)) : Type 0 where
-  pub child : Node K V
-  pub is : (d : Node K V) → get_or cs t d ≡ child
+pub record HasStep {K V Z : Type 0} (path : List ℕ) (cs : List (Node K V Z)) (ps : List (K × V)) (t : ℕ) (front : List (K × V)) : Type 0 where
+  pub child : Node K V Z
+  pub is : (d : Node K V Z) → get_or cs t d ≡ child
   pub there : t < length cs
   pub place : IsPlace path child
   pub before_is : lead cs ps t ++ before_pair path child ≡ front
 
-module _ {K V : Type 0} where
+module _ {K V Z : Type 0} where
   -- at the child itself
-  step_here : (q : List ℕ) (A D : List (Node K V)) (P Q : List (K × V)) (c : Node K V) (i : ℕ) (f : List (K × V)) → length A ≡ i → length P ≡ i → IsPlace q c
+  step_here : (q : List ℕ) (A D : List (Node K V Z)) (P Q : List (K × V)) (c : Node K V Z) (i : ℕ) (f : List (K × V)) → length A ≡ i → length P ≡ i
+      → IsPlace q c
       → before_pair q c ≡ f → HasStep q (A ++ c ∷ D) (P ++ Q) i (before_list (map pairs_of A) P ++ f)
   step_here q A D P Q c i f a p w e = record {
     child = c;
@@ -89,7 +90,8 @@ module _ {K V : Type 0} where
   }
 
   -- at the node on the child's right
-  step_next : (q : List ℕ) (A D : List (Node K V)) (P Q : List (K × V)) (c r : Node K V) (up : K × V) (i : ℕ) (f : List (K × V)) → length A ≡ i → length P ≡ i
+  step_next : (q : List ℕ) (A D : List (Node K V Z)) (P Q : List (K × V)) (c r : Node K V Z) (up : K × V) (i : ℕ) (f : List (K × V)) → length A ≡ i
+      → length P ≡ i
       → IsPlace q r → pairs_of c ++ up ∷ before_pair q r ≡ f → HasStep q (A ++ c ∷ r ∷ D) (P ++ up ∷ Q) (i + 1) (before_list (map pairs_of A) P ++ f)
   step_next q A D P Q c r up i f a p w e =
       let s = step_here q (A ++ c ∷ []) D (P ++ up ∷ []) Q r (i + 1) (before_pair q r) (length-append A (c ∷ []) ∙ ap (λ j. j + 1) a)
@@ -105,17 +107,17 @@ module _ {K V : Type 0} where
       (subst (HasStep q ((A ++ c ∷ []) ++ r ∷ D) ((P ++ up ∷ []) ++ Q) (i + 1)) all s))
 
   -- a node's own step
-  stepped : (q : List ℕ) (n c : Node K V) (t : ℕ) (f : List (K × V)) → t < length (children_of n) → child_at n t ≡ c → IsPlace q c
+  stepped : (q : List ℕ) (n c : Node K V Z) (t : ℕ) (f : List (K × V)) → t < length (children_of n) → child_at n t ≡ c → IsPlace q c
       → before_child n t ++ before_pair q c ≡ f → IsPlace (t ∷ q) n × (before_pair (t ∷ q) n ≡ f)
   stepped [] n c t f h e w k = absurd w
   stepped (j ∷ q) n c t f h e w k = ((h, subst (IsPlace (j ∷ q)) (sym e) w), ap (λ x. before_child n t ++ before_pair (j ∷ q) x) e ∙ k)
 
-  step_in : (q : List ℕ) (n : Node K V) (t : ℕ) (f : List (K × V)) → HasStep q (children_of n) (own_pairs n) t f
+  step_in : (q : List ℕ) (n : Node K V Z) (t : ℕ) (f : List (K × V)) → HasStep q (children_of n) (own_pairs n) t f
       → IsPlace (t ∷ q) n × (before_pair (t ∷ q) n ≡ f)
   step_in q n t f s = stepped q n s.child t f s.there (s.is n) s.place s.before_is
 
   -- the step in one of the two halves
-  step_half : (q : List ℕ) (n : Node K V) (up : K × V) (b : Node K V) (k t : ℕ) (f : List (K × V)) → IsInner n → length (own_pairs n) ≡ k
+  step_half : (q : List ℕ) (n : Node K V Z) (up : K × V) (b : Node K V Z) (k t : ℕ) (f : List (K × V)) → IsInner n → length (own_pairs n) ≡ k
       → HasStep q (children_of n ++ children_of b) (own_pairs n ++ up ∷ own_pairs b) t f
       → (test : Bool) → nat_lt k t ≡ test → IsSettled test ((if test then t - (k + 1) else t) ∷ q) n (Some (up, b)) f
   step_half q n up b k t f inner e s false is =
@@ -156,18 +158,18 @@ module _ {K V : Type 0} where
       )
 
   -- the new pair's place, by another word for its path and its number of nodes that stay whole
-  by_steps : (p r : List ℕ) (old new : Node K V) (s : Split K V) (w : ℕ) → p ≡ r → kept_whole p old ≡ w
+  by_steps : (p r : List ℕ) (old new : Node K V Z) (s : Split K V Z) (w : ℕ) → p ≡ r → kept_whole p old ≡ w
       → IsSettled (is_right w r) (arrival w r) new s (before_gap r old) → HasArrived p old new s
   by_steps p r old new s w e k h = rw k (subst (λ q. IsSettled (is_right w q) (arrival w q) new s (before_gap q old)) (sym e) h)
 
-  module _ (old : Node K V) (i : ℕ) (le : i ≤ length (own_pairs old)) (inner : IsInner old) where
+  module _ (old : Node K V Z) (i : ℕ) (le : i ≤ length (own_pairs old)) (inner : IsInner old) where
     taken : (length (take i (children_of old)) ≡ i) × (length (take i (own_pairs old)) ≡ i) × (i < length (children_of old))
     taken =
         let n : length (children_of old) ≡ length (own_pairs old) + 1 = inner in
         (length_take i (children_of old) (omega arith), length_take i (own_pairs old) le, omega arith)
 
     -- where the child was not split
-    settled_below : (mid c : Node K V) (b : Bool) (q : List ℕ) (f : List (K × V)) → IsChildSet old mid i c → IsSettled b q c None f
+    settled_below : (mid c : Node K V Z) (b : Bool) (q : List ℕ) (f : List (K × V)) → IsChildSet old mid i c → IsSettled b q c None f
         → IsSettled false (step_from i b ∷ q) mid None (before_child old i ++ f)
     settled_below mid c true q f m h = absurd h
     settled_below mid c false q f m h =
@@ -180,7 +182,7 @@ module _ {K V : Type 0} where
         (take_drop i (own_pairs old) ∙ sym m.same) here))
 
     -- where the child was split
-    stepped_above : (mid c : Node K V) (b : Bool) (q : List ℕ) (f : List (K × V)) (up : K × V) (r : Node K V) (cs : List (Node K V)) (ps : List (K × V))
+    stepped_above : (mid c : Node K V Z) (b : Bool) (q : List ℕ) (f : List (K × V)) (up : K × V) (r : Node K V Z) (cs : List (Node K V Z)) (ps : List (K × V))
         → IsChildSet old mid i c → ps ≡ insert (own_pairs mid) i up → cs ≡ insert (children_of mid) (i + 1) r
         → IsSettled b q c (Some (up, r)) f → HasStep q cs ps (step_from i b) (before_child old i ++ f)
     stepped_above mid c b q f up r cs ps m e k h =
@@ -200,7 +202,7 @@ module _ {K V : Type 0} where
             (drop i (own_pairs old)) c r up i f t.0 t.1 h.0 h.1
 
   -- below an inner node, where the child was not split
-  pub arrived_below : {p : List ℕ} {old mid c child : Node K V} → IsCascadeStep p old child → IsChildSet old mid (get_or p 0 0) c
+  pub arrived_below : {p : List ℕ} {old mid c child : Node K V Z} → IsCascadeStep p old child → IsChildSet old mid (get_or p 0 0) c
       → cascade (rest_of p) child < length (rest_of p) → HasArrived (rest_of p) child c None → HasArrived p old mid None
   arrived_below {p} {old} {mid} {c} {child} k m lt h =
       let s = k.step in
@@ -214,7 +216,7 @@ module _ {K V : Type 0} where
       (subst (λ x. IsSettled false (arrival (suc (kept_whole rest child)) (i ∷ rest)) mid None (before_child old i ++ before_gap rest x)) k.is b)
 
   -- below an inner node, where the child was split
-  pub arrived_above : {p : List ℕ} {old mid c child : Node K V} (new : Node K V) (t : Split K V) (up : K × V) (r : Node K V)
+  pub arrived_above : {p : List ℕ} {old mid c child : Node K V Z} (new : Node K V Z) (t : Split K V Z) (up : K × V) (r : Node K V Z)
       → IsCascadeStep p old child → IsChildSet old mid (get_or p 0 0) c → cascade (rest_of p) child ≡ length (rest_of p)
       → MatchOption t (length (own_pairs old) < capacity) (λ _. length (own_pairs old) ≡ capacity)
       → own_pairs_after new t ≡ insert (own_pairs mid) (get_or p 0 0) up
@@ -230,7 +232,7 @@ module _ {K V : Type 0} where
       settled t room left
       (stepped_above old i s.le s.inner mid c (is_right 0 rest) (arrival 0 rest) (before_gap rest (child_at old i)) up r _ _ m a b g)
     where
-      settled : (t : Split K V) → MatchOption t (length (own_pairs old) < capacity) (λ _. length (own_pairs old) ≡ capacity)
+      settled : (t : Split K V Z) → MatchOption t (length (own_pairs old) < capacity) (λ _. length (own_pairs old) ≡ capacity)
           → IfSome t (λ _. length (own_pairs new) ≡ left_length (get_or p 0 0))
           → HasStep (arrival 0 (rest_of p)) (children_after new t) (own_pairs_after new t) (step_from (get_or p 0 0) (is_right 0 (rest_of p)))
           (before_child old (get_or p 0 0) ++ before_gap (rest_of p) (child_at old (get_or p 0 0))) → HasArrived p old new t
@@ -247,14 +249,14 @@ module _ {K V : Type 0} where
           by_steps p (i ∷ rest_of p) old new (Some x) 0 k.step.path_is (omega arith) (step_half _ new x.0 x.1 (left_length i) _ _ inner left st right refl)
 
   -- a leaf
-  leaf_front : (n : Node K V) (i : ℕ) → IsLeaf n → before_own n i ≡ take i (own_pairs n)
+  leaf_front : (n : Node K V Z) (i : ℕ) → IsLeaf n → before_own n i ≡ take i (own_pairs n)
   leaf_front n i e = ap (λ cs. weave (map pairs_of (take (suc i) cs)) (take i (own_pairs n))) (leaf_children n e)
 
-  leaf_before_child : (n : Node K V) (i : ℕ) → IsLeaf n → before_gap (i ∷ []) n ≡ take i (own_pairs n)
+  leaf_before_child : (n : Node K V Z) (i : ℕ) → IsLeaf n → before_gap (i ∷ []) n ≡ take i (own_pairs n)
   leaf_before_child n i e = append-nil _ ∙ ap (λ cs. before_list (map pairs_of (take i cs)) (take i (own_pairs n))) (leaf_children n e)
       ∙ ap (λ cs. before_list (map pairs_of cs) (take i (own_pairs n))) (take_nil i)
 
-  leaf_half : (n : Node K V) (up : K × V) (b : Node K V) (k i : ℕ) (f : List (K × V)) → IsLeaf n → IsLeaf b → length (own_pairs n) ≡ k → (i ≡ k → ⊥)
+  leaf_half : (n : Node K V Z) (up : K × V) (b : Node K V Z) (k i : ℕ) (f : List (K × V)) → IsLeaf n → IsLeaf b → length (own_pairs n) ≡ k → (i ≡ k → ⊥)
       → i < length (own_pairs n ++ up ∷ own_pairs b) → take i (own_pairs n ++ up ∷ own_pairs b) ≡ f
       → (test : Bool) → nat_lt k i ≡ test → IsSettled test ((if test then i - (k + 1) else i) ∷ []) n (Some (up, b)) f
   leaf_half n up b k i f l₁ l₂ e ne lt g false is =
@@ -270,13 +272,13 @@ module _ {K V : Type 0} where
       )
 
   -- in one that was not split
-  leaf_place : (old new : Node K V) (i : ℕ) (pair : K × V) → IsLeaf old → IsLeaf new → i ≤ length (own_pairs old)
+  leaf_place : (old new : Node K V Z) (i : ℕ) (pair : K × V) → IsLeaf old → IsLeaf new → i ≤ length (own_pairs old)
       → own_pairs new ≡ insert (own_pairs old) i pair → IsPlace (i ∷ []) new × (before_pair (i ∷ []) new ≡ before_gap (i ∷ []) old)
   leaf_place old new i pair l₁ l₂ le e =
       let n : length (own_pairs new) ≡ length (own_pairs old) + 1 = ap length e ∙ length-insert (own_pairs old) i pair le in
       (omega arith, leaf_front new i l₂ ∙ ap (take i) e ∙ take_put (own_pairs old) i pair le ∙ sym (leaf_before_child old i l₁))
 
-  leaf_settled : (old new : Node K V) (i : ℕ) (s : Split K V) (pair : K × V) → IsLeaf old → IsLeaf new → IfSome s (λ x. IsLeaf x.1)
+  leaf_settled : (old new : Node K V Z) (i : ℕ) (s : Split K V Z) (pair : K × V) → IsLeaf old → IsLeaf new → IfSome s (λ x. IsLeaf x.1)
       → i ≤ length (own_pairs old) → own_pairs_after new s ≡ insert (own_pairs old) i pair
       → MatchOption s (length (own_pairs old) < capacity) (λ _. length (own_pairs old) ≡ capacity) → IfSome s (λ _. length (own_pairs new) ≡ left_length i)
       → HasArrived (i ∷ []) old new s
@@ -290,7 +292,7 @@ module _ {K V : Type 0} where
       (leaf_half new x.0 x.1 (left_length i) i _ l₂ l₃ left (beside i) (omega arith)
       (ap (take i) e ∙ take_put (own_pairs old) i pair le ∙ sym (leaf_before_child old i l₁)) (nat_lt (left_length i) i) refl)
 
-  pub arrived_leaf : (p : List ℕ) (old new : Node K V) (s : Split K V) (pair : K × V) → p ≡ get_or p 0 0 ∷ [] → IsLeaf old → IsLeaf new
+  pub arrived_leaf : (p : List ℕ) (old new : Node K V Z) (s : Split K V Z) (pair : K × V) → p ≡ get_or p 0 0 ∷ [] → IsLeaf old → IsLeaf new
       → IfSome s (λ x. IsLeaf x.1) → get_or p 0 0 ≤ length (own_pairs old) → own_pairs_after new s ≡ insert (own_pairs old) (get_or p 0 0) pair
       → MatchOption s (length (own_pairs old) < capacity) (λ _. length (own_pairs old) ≡ capacity)
       → IfSome s (λ _. length (own_pairs new) ≡ left_length (get_or p 0 0)) → HasArrived p old new s
@@ -298,7 +300,7 @@ module _ {K V : Type 0} where
       (leaf_settled old new (get_or p 0 0) s pair l₁ l₂ l₃ le e room left)
 
   -- what is before a place tells which pair is there, and what is after it
-  put_at : (p : List ℕ) (n : Node K V) (pair : K × V) (front back : List (K × V)) (h : ℕ) → IsLevelled h n → pairs_of n ≡ front ++ pair ∷ back
+  put_at : (p : List ℕ) (n : Node K V Z) (pair : K × V) (front back : List (K × V)) (h : ℕ) → IsLevelled h n → pairs_of n ≡ front ++ pair ∷ back
       → IsPlace p n × (before_pair p n ≡ front) → IsPutAt p n pair front back
   put_at p n pair front back h l e w =
       let c = place_pairs p h n l w.0 in
@@ -306,7 +308,7 @@ module _ {K V : Type 0} where
       record { place = w.0; pair_is = c.is ∙ ap Some d.0; before = w.1; after = d.1 }
 
   -- into a leaf that has room
-  pub put_in_room : (p : List ℕ) (old new : Node K V) (pair : K × V) → p ≡ get_or p 0 0 ∷ [] → IsLeaf old → IsLeaf new → length (own_pairs old) < capacity
+  pub put_in_room : (p : List ℕ) (old new : Node K V Z) (pair : K × V) → p ≡ get_or p 0 0 ∷ [] → IsLeaf old → IsLeaf new → length (own_pairs old) < capacity
       → get_or p 0 0 ≤ length (own_pairs old) → own_pairs new ≡ insert (own_pairs old) (get_or p 0 0) pair
       → pairs_of new ≡ before_gap p old ++ pair ∷ after_gap p old
       → IsPutAt p new pair (before_gap p old) (after_gap p old)
@@ -316,7 +318,7 @@ module _ {K V : Type 0} where
       (leaf_place old new (get_or p 0 0) pair l₁ l₂ le e))
 
   -- below an inner node that stays whole
-  pub put_in_room_below : (p : List ℕ) (old mid c child : Node K V) (pair : K × V) (h : ℕ) → IsStep p old → IsChildSet old mid (get_or p 0 0) c
+  pub put_in_room_below : (p : List ℕ) (old mid c child : Node K V Z) (pair : K × V) (h : ℕ) → IsStep p old → IsChildSet old mid (get_or p 0 0) c
       → child ≡ child_at old (get_or p 0 0) → IsLevelled h mid → pairs_of mid ≡ before_gap p old ++ pair ∷ after_gap p old
       → IsPutAt (slice_range p 1 (length p)) c pair (before_gap (slice_range p 1 (length p)) child) (after_gap (slice_range p 1 (length p)) child)
       → IsPutAt p mid pair (before_gap p old) (after_gap p old)
@@ -328,7 +330,7 @@ module _ {K V : Type 0} where
       (subst (λ x. IsPlace (i ∷ rest) mid × (before_pair (i ∷ rest) mid ≡ before_child old i ++ before_gap rest x)) ci b))
 
   -- in a tree that is as high as before
-  pub put_same : (p : List ℕ) (old new : Node K V) (pair : K × V) (h : ℕ) → cascade p old < length p → IsLevelled h new
+  pub put_same : (p : List ℕ) (old new : Node K V Z) (pair : K × V) (h : ℕ) → cascade p old < length p → IsLevelled h new
       → pairs_of new ≡ before_gap p old ++ pair ∷ after_gap p old → HasArrived p old new None
       → IsPutAt (path_after (nodes_needed p old) p) new pair (before_gap p old) (after_gap p old)
   put_same p old new pair h lt l e a =
@@ -340,7 +342,7 @@ module _ {K V : Type 0} where
       here true w = absurd w
 
   -- under a new root
-  root_step : (b : Bool) (q : List ℕ) (root left : Node K V) (right : Node K V) (up : K × V) (f : List (K × V)) → own_pairs root ≡ up ∷ []
+  root_step : (b : Bool) (q : List ℕ) (root left : Node K V Z) (right : Node K V Z) (up : K × V) (f : List (K × V)) → own_pairs root ≡ up ∷ []
       → children_of root ≡ left ∷ right ∷ [] → IsSettled b q left (Some (up, right)) f
       → IsPlace (step_from 0 b ∷ q) root × (before_pair (step_from 0 b ∷ q) root ≡ f)
   root_step b q root left right up f e k w =
@@ -351,7 +353,8 @@ module _ {K V : Type 0} where
       both false w = step_here q [] (right ∷ []) [] (up ∷ []) left 0 f refl refl w.0 w.1
       both true w = step_next q [] [] [] [] left right up 0 f refl refl w.0 w.1
 
-  pub put_higher : (p : List ℕ) (old root left : Node K V) (right : Node K V) (up pair : K × V) (h : ℕ) → cascade p old ≡ length p → own_pairs root ≡ up ∷ []
+  pub put_higher : (p : List ℕ) (old root left : Node K V Z) (right : Node K V Z) (up pair : K × V) (h : ℕ) → cascade p old ≡ length p
+      → own_pairs root ≡ up ∷ []
       → children_of root ≡ left ∷ right ∷ [] → IsBelow h left → IsBelow h right
       → pairs_of left ++ up ∷ pairs_of right ≡ before_gap p old ++ pair ∷ after_gap p old → HasArrived p old left (Some (up, right))
       → IsPutAt (path_after (nodes_needed p old) p) root pair (before_gap p old) (after_gap p old)
@@ -363,7 +366,7 @@ module _ {K V : Type 0} where
       (put_at _ root pair _ _ (suc h) (levelled_root h root left right up e k b₁ b₂) (put_root root left right up e k ∙ parts) w)
 
   -- no step of a path is above the most pairs of a node
-  pub small_steps : (p : List ℕ) (h : ℕ) (n : Node K V) → length p ≡ h + 1 → IsPath p n → IsLevelled h n → AllByRecursion (λ i. i ≤ capacity) p
+  pub small_steps : (p : List ℕ) (h : ℕ) (n : Node K V Z) → length p ≡ h + 1 → IsPath p n → IsLevelled h n → AllByRecursion (λ i. i ≤ capacity) p
   small_steps [] h n e w l = tt
   small_steps (i ∷ []) zero n e w l = (let a = w.0 in let b = l.0 in omega arith, tt)
   small_steps (i ∷ j ∷ p) zero n e w l = absurd (omega arith)
@@ -373,7 +376,7 @@ module _ {K V : Type 0} where
   )
 
   -- the path to the new pair is short enough
-  pub steps_fit : (p : List ℕ) (n : Node K V) (nodes : ℕ) → nodes ≡ nodes_needed p n → steps_after p n ≤ most_levels
+  pub steps_fit : (p : List ℕ) (n : Node K V Z) (nodes : ℕ) → nodes ≡ nodes_needed p n → steps_after p n ≤ most_levels
       → length p + (if nat_lt (length p) nodes then 1 else 0) ≤ most_levels
   steps_fit p n nodes e h = rw e (fits (all_full p n) refl)
     where
@@ -389,7 +392,7 @@ module _ {K V : Type 0} where
           rw (needed_part p n lt, le-ltb (length p) (cascade p n) (omega arith)) (omega arith)
 
   -- it is, in a tree that has room for one pair more in 64 bits
-  pub steps_few : (p : List ℕ) (n : Node K V) → 0 < length p → IsSoundRoot (length p - 1) n → length (pairs_of n) + 1 < 2 ^ 64 → steps_after p n ≤ most_levels
+  pub steps_few : (p : List ℕ) (n : Node K V Z) → 0 < length p → IsSoundRoot (length p - 1) n → length (pairs_of n) + 1 < 2 ^ 64 → steps_after p n ≤ most_levels
   steps_few p n some s few = steps (all_full p n) refl
     where
       steps : (b : Bool) → all_full p n ≡ b → steps_after p n ≤ most_levels

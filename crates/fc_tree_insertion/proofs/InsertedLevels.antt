@@ -9,14 +9,14 @@ use Rattle.fc_tree_node.proofs.Lists.{length_set, all_front, all_back, all_set, 
 use Rattle.fc_tree_node.proofs.Pairs.{IsBelow}
 use Rattle.fc_tree_node.proofs.Made.{IsChildSet}
 
-module _ {K V : Type 0} where
-  pub set_length : (old mid c : Node K V) (i : ℕ) → IsChildSet old mid i c → length (children_of mid) ≡ length (children_of old)
+module _ {K V Z : Type 0} where
+  pub set_length : (old mid c : Node K V Z) (i : ℕ) → IsChildSet old mid i c → length (children_of mid) ≡ length (children_of old)
   set_length old mid c i m = ap length m.child ∙ length_set (children_of old) i c
 
-  pub inner_kept : (old mid c : Node K V) (i : ℕ) → IsChildSet old mid i c → IsInner old → IsInner mid
+  pub inner_kept : (old mid c : Node K V Z) (i : ℕ) → IsChildSet old mid i c → IsInner old → IsInner mid
   inner_kept old mid c i m n = set_length old mid c i m ∙ n ∙ ap (λ ps. length ps + 1) (sym m.same)
 
-  pub levelled_stay : (h : ℕ) (old mid c : Node K V) (i : ℕ) → IsLevelled (suc h) old → IsChildSet old mid i c → IsBelow h c → IsLevelled (suc h) mid
+  pub levelled_stay : (h : ℕ) (old mid c : Node K V Z) (i : ℕ) → IsLevelled (suc h) old → IsChildSet old mid i c → IsBelow h c → IsLevelled (suc h) mid
   levelled_stay h old mid c i l m b =
       let P : List (K × V) → Type 0 = λ ps. length ps ≤ capacity in (
         subst P (sym m.same) l.0,
@@ -25,13 +25,13 @@ module _ {K V : Type 0} where
             (all_set (IsBelow h) (children_of old) i c l.2 b),
       )
 
-  all_below : (h : ℕ) (old mid c new r : Node K V) (i : ℕ) (s : Split K V) → IsLevelled (suc h) old → IsChildSet old mid i c → IsBelow h c → IsBelow h r
+  all_below : (h : ℕ) (old mid c new r : Node K V Z) (i : ℕ) (s : Split K V Z) → IsLevelled (suc h) old → IsChildSet old mid i c → IsBelow h c → IsBelow h r
       → children_after new s ≡ insert (children_of mid) (i + 1) r → AllByRecursion (IsBelow h) (children_after new s)
   all_below h old mid c new r i s l m b b₂ q =
       subst (AllByRecursion (IsBelow h)) (sym (q ∙ ap (λ cs. insert cs (i + 1) r) m.child))
       (all_put (IsBelow h) _ (i + 1) r (all_set (IsBelow h) (children_of old) i c l.2 b) b₂)
 
-  levelled_parts : (h : ℕ) (new : Node K V) (s : Split K V) → AllByRecursion (IsBelow h) (children_after new s)
+  levelled_parts : (h : ℕ) (new : Node K V Z) (s : Split K V Z) → AllByRecursion (IsBelow h) (children_after new s)
       → IsInner new → IfSome s (λ x. IsInner x.1) → MatchOption s (length (own_pairs new) ≤ capacity) (λ x. IsHalved new × IsHalved x.1)
       → IsLevelled (suc h) new × IfSome s (λ x. IsLevelled (suc h) x.1)
   levelled_parts h new None all h₁ h₂ size = ((size, h₁, all), tt)
@@ -42,21 +42,22 @@ module _ {K V : Type 0} where
         (omega arith, h₂, all_back (IsBelow h) (children_of new) (children_of right) all),
       )
 
-  pub levelled_put : (h : ℕ) (old mid c new r : Node K V) (i : ℕ) (s : Split K V) → IsLevelled (suc h) old → IsChildSet old mid i c → IsBelow h c → IsBelow h r
+  pub levelled_put : (h : ℕ) (old mid c new r : Node K V Z) (i : ℕ) (s : Split K V Z) → IsLevelled (suc h) old → IsChildSet old mid i c → IsBelow h c
+      → IsBelow h r
       → children_after new s ≡ insert (children_of mid) (i + 1) r → IsInner new → IfSome s (λ x. IsInner x.1)
       → MatchOption s (length (own_pairs new) ≤ capacity) (λ x. IsHalved new × IsHalved x.1)
       → IsLevelled (suc h) new × IfSome s (λ x. IsLevelled (suc h) x.1)
   levelled_put h old mid c new r i s l m b b₂ q = levelled_parts h new s (all_below h old mid c new r i s l m b b₂ q)
 
   -- a node that was not split has not lost a pair
-  pub grown : (new : Node K V) (s : Split K V) (n : ℕ) → length (own_pairs_after new s) ≡ n + 1
+  pub grown : (new : Node K V Z) (s : Split K V Z) (n : ℕ) → length (own_pairs_after new s) ≡ n + 1
       → MatchOption s (length (own_pairs new) ≤ capacity) (λ x. IsHalved new × IsHalved x.1)
       → MatchOption s (n ≤ length (own_pairs new)) (λ x. IsHalved new × IsHalved x.1)
   grown new None n e size = omega arith
   grown new (Some (up, right)) n e size = size
 
   -- a new root above two halves
-  pub levelled_root : (h : ℕ) (root left right : Node K V) (up : K × V) → own_pairs root ≡ up ∷ [] → children_of root ≡ left ∷ right ∷ [] → IsBelow h left
+  pub levelled_root : (h : ℕ) (root left right : Node K V Z) (up : K × V) → own_pairs root ≡ up ∷ [] → children_of root ≡ left ∷ right ∷ [] → IsBelow h left
       → IsBelow h right → IsLevelled (suc h) root
   levelled_root h root left right up e f b₁ b₂ =
       let n : length (own_pairs root) ≡ 1 = ap length e in

@@ -14,9 +14,9 @@ use Rattle.fc_tree_node.proofs.Gaps.{inner_gap, gap_pairs}
 use Rattle.fc_tree_node.proofs.Pairs.{child_below, leaf_pairs}
 use Rattle.fc_tree_insertion.specs.Cascade.{leaf_at, all_full}
 
-module _ {K V : Type 0} where
+module _ {K V Z : Type 0} where
   -- A tree holds the pairs of the leaf that a path ends in.
-  pub leaf_within : (path : List ℕ) (h : ℕ) (n : Node K V) → IsLevelled h n → length path ≡ h + 1 → IsPath path n
+  pub leaf_within : (path : List ℕ) (h : ℕ) (n : Node K V Z) → IsLevelled h n → length path ≡ h + 1 → IsPath path n
       → length (own_pairs (leaf_at path n)) ≤ length (pairs_of n)
   leaf_within [] h n l e p = absurd (omega arith)
   leaf_within (i ∷ []) zero n l e p = let q = ap length (leaf_pairs n l.1) in omega arith
@@ -27,7 +27,7 @@ module _ {K V : Type 0} where
       let parts = ap length (inner_gap n i l.1 p.0) ∙ length-append (before_child n i) (pairs_of (child_at n i) ++ after_child n i) in
       omega (arith, parts, length-append (pairs_of (child_at n i)) (after_child n i), below)
 
-  module _ (root : Node K V) (path : List ℕ) (sound : IsSoundMap (Some root)) (steps : length path ≡ sound.0 + 1) where
+  module _ (root : Node K V Z) (path : List ℕ) (sound : IsSoundMap (Some root)) (steps : length path ≡ sound.0 + 1) where
     pub gap_sound : IsSoundRoot (length path - 1) root
     gap_sound = let h : length path - 1 ≡ sound.0 = omega arith in rw h sound.2
 
@@ -40,7 +40,7 @@ module _ {K V : Type 0} where
         ∙ (let m = ap length g ∙ length-append (before_gap path root) (after_gap path root) in omega arith)
 
     -- The tree that an insertion leaves is sound.
-    pub sound_in : (new : Node K V) → length (pairs_of new) < 2 ^ 64 → (all_full path root ≡ false → IsSoundRoot (length path - 1) new)
+    pub sound_in : (new : Node K V Z) → length (pairs_of new) < 2 ^ 64 → (all_full path root ≡ false → IsSoundRoot (length path - 1) new)
         → (all_full path root ≡ true → IsSoundRoot (length path) new × (length (own_pairs new) ≡ 1)) → IsSoundMap (Some new)
     sound_in new fits same higher = go (all_full path root) refl
       where

@@ -6,15 +6,15 @@ use Rattle.fc_tree_node.specs.Node.{child_at}
 use Rattle.fc_tree_insertion.specs.Cascade.{leaf_at}
 use Rattle.fc_tree_node.proofs.PathSteps.{IsStep}
 
-module _ {K V : Type 0} where
-  pub leaf_here : (p : List ℕ) (n : Node K V) → p ≡ get_or p 0 0 ∷ [] → leaf_at p n ≡ n
+module _ {K V Z : Type 0} where
+  pub leaf_here : (p : List ℕ) (n : Node K V Z) → p ≡ get_or p 0 0 ∷ [] → leaf_at p n ≡ n
   leaf_here p n e = ap (λ q. leaf_at q n) e
 
-  leaf_cons : (i : ℕ) (p : List ℕ) (n : Node K V) → 0 < length p → leaf_at (i ∷ p) n ≡ leaf_at p (child_at n i)
+  leaf_cons : (i : ℕ) (p : List ℕ) (n : Node K V Z) → 0 < length p → leaf_at (i ∷ p) n ≡ leaf_at p (child_at n i)
   leaf_cons i [] n h = absurd (omega arith)
   leaf_cons i (j ∷ p) n h = refl
 
-  pub leaf_below : (p : List ℕ) (n child : Node K V) → 2 ≤ length p → IsStep p n → child ≡ child_at n (get_or p 0 0)
+  pub leaf_below : (p : List ℕ) (n child : Node K V Z) → 2 ≤ length p → IsStep p n → child ≡ child_at n (get_or p 0 0)
       → leaf_at p n ≡ leaf_at (slice_range p 1 (length p)) child
   leaf_below p n child h s e =
       let long = s.long in

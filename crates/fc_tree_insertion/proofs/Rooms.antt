@@ -20,7 +20,7 @@ below_levels h levels n pairs deep fewer over = within (cases_lt h levels)
     within (inl lt) = lt
     within (inr le) = let big : least_children ^ levels ≤ least_children ^ h = pow-le-pow_right (lit< tt) le in absurd (omega arith)
 
-module _ {K V : Type 0} (root : Node K V) (path : List ℕ) (sound : IsSoundMap (Some root)) (steps : length path ≡ sound.0 + 1) where
+module _ {K V Z : Type 0} (root : Node K V Z) (path : List ℕ) (sound : IsSoundMap (Some root)) (steps : length path ≡ sound.0 + 1) where
   module _ (levels pairs : ℕ) (fewer : length (pairs_of root) < pairs) (over : IsOverDepth levels pairs) where
     split_whole : all_full path root ≡ true → nodes_needed path root ≤ levels
     split_whole f =

@@ -36,28 +36,28 @@ arrival zero (i ∷ path) = half_step i (step_from i (is_right zero path)) ∷ a
 abbrev pub path_after : ℕ → List ℕ → List ℕ
 path_after nodes path = if nat_lt (length path) nodes then step_from 0 (is_right 0 path) ∷ arrival 0 path else arrival (length path - nodes) path
 
-module _ {K V : Type 0} where
+module _ {K V Z : Type 0} where
   -- How many steps lead to a new pair: one for each of its path, and one more where a new root stands above the old one.
-  abbrev pub steps_after : List ℕ → Node K V → ℕ
+  abbrev pub steps_after : List ℕ → Node K V Z → ℕ
   steps_after path n = if all_full path n then length path + 1 else length path
 
   -- The path leads to the pair, with these pairs before it and those after it.
-  pub record IsPutAt (path : List ℕ) (n : Node K V) (pair : K × V) (front back : List (K × V)) : Type 0 where
+  pub record IsPutAt (path : List ℕ) (n : Node K V Z) (pair : K × V) (front back : List (K × V)) : Type 0 where
     pub place : IsPlace path n
     pub pair_is : place_pair path n ≡ Some pair
     pub before : before_pair path n ≡ front
     pub after : after_pair path n ≡ back
 
   -- The steps lead to a pair with these pairs before it, in the node or, on its right, in the one that it handed out.
-  abbrev pub IsSettled : Bool → List ℕ → Node K V → Split K V → List (K × V) → Type 0
+  abbrev pub IsSettled : Bool → List ℕ → Node K V Z → Split K V Z → List (K × V) → Type 0
   IsSettled false path n s front = IsPlace path n × (before_pair path n ≡ front)
   IsSettled true path n None front = ⊥
   IsSettled true path n (Some (up, right)) front = IsPlace path right × (pairs_of n ++ up ∷ before_pair path right ≡ front)
 
   -- How many nodes of the path an insertion does not split.
-  abbrev pub kept_whole : List ℕ → Node K V → ℕ
+  abbrev pub kept_whole : List ℕ → Node K V Z → ℕ
   kept_whole path n = length path - cascade path n
 
   -- The new pair stands where the path leads it, after the pairs that were before its gap.
-  abbrev pub HasArrived : List ℕ → Node K V → Node K V → Split K V → Type 0
+  abbrev pub HasArrived : List ℕ → Node K V Z → Node K V Z → Split K V Z → Type 0
   HasArrived path old n s = IsSettled (is_right (kept_whole path old) path) (arrival (kept_whole path old) path) n s (before_gap path old)

@@ -5,25 +5,25 @@ use Rattle.fc_tree_node.specs.declared.node.Node.{Node}
 use Rattle.fc_tree_node.specs.Node.{own_pairs, children_of, pairs_of}
 
 -- The pair in the middle and the node of those after it, where a node was split.
-abbrev pub Split : Type 0 → Type 0 → Type 0
-Split K V = Option ((K × V) × Node K V)
+abbrev pub Split : Type 0 → Type 0 → Type 0 → Type 0
+Split K V Z = Option ((K × V) × Node K V Z)
 
-module _ {K V : Type 0} where
+module _ {K V Z : Type 0} where
   -- All pairs in the node and below it, then those that it handed out.
-  abbrev pub spread : Node K V → Split K V → List (K × V)
+  abbrev pub spread : Node K V Z → Split K V Z → List (K × V)
   spread n None = pairs_of n
   spread n (Some (up, right)) = pairs_of n ++ up ∷ pairs_of right
 
   -- The node's own pairs, then those that it handed out.
-  abbrev pub own_pairs_after : Node K V → Split K V → List (K × V)
+  abbrev pub own_pairs_after : Node K V Z → Split K V Z → List (K × V)
   own_pairs_after n None = own_pairs n
   own_pairs_after n (Some (up, right)) = own_pairs n ++ up ∷ own_pairs right
 
   -- The node's children, then those of the node that it handed out.
-  abbrev pub children_after : Node K V → Split K V → List (Node K V)
+  abbrev pub children_after : Node K V Z → Split K V Z → List (Node K V Z)
   children_after n None = children_of n
   children_after n (Some (up, right)) = children_of n ++ children_of right
 
   -- The node has the fewest pairs or one more, as each half of a node that was split.
-  abbrev pub IsHalved : Node K V → Type 0
+  abbrev pub IsHalved : Node K V Z → Type 0
   IsHalved n = (min_len ≤ length (own_pairs n)) × (length (own_pairs n) ≤ min_len + 1)

@@ -14,10 +14,9 @@ use crate::arrival::arrive;
 use crate::new_nodes::NewNodes;
 use crate::ready::{insert_ready, try_nodes_at};
 use crate::spares::Spares;
-use fc_base::{Count, TryReserveError};
+use fc_base::{Count, Handle, TryReserveError};
 use fc_tree_node::node::{CAPACITY, Node};
 use fc_tree_node::path::Path;
-use std::alloc::Global;
 use std::mem;
 
 /// Puts a pair into the gap of a sound tree that the path leads to, with every node that it takes made before. The path then leads
@@ -26,9 +25,9 @@ use std::mem;
 /// # Errors
 /// `AllocError` if one of these nodes is refused, which takes a full leaf. The tree is then as before, and the pair comes back.
 #[inline(always)]
-pub fn try_insert<K: Drop, V: Drop>(
-    alloc: Global,
-    root: &mut Node<K, V>,
+pub fn try_insert<K: Drop, V: Drop, A: Handle>(
+    alloc: A,
+    root: &mut Node<K, V, A>,
     path: &mut Path,
     pair: (K, V),
     count: &mut Count,
@@ -64,11 +63,11 @@ pub fn try_insert<K: Drop, V: Drop>(
 
 /// Puts `pair` into the gap that the path leads to. Each node that this takes is in `new_nodes`, so nothing can be refused once
 /// the first pair moves. The path then leads to the pair in the tree as it is now.
-pub fn insert<K: Drop, V: Drop>(
-    root: &mut Node<K, V>,
+pub fn insert<K: Drop, V: Drop, A: Handle>(
+    root: &mut Node<K, V, A>,
     path: &mut Path,
     pair: (K, V),
-    new_nodes: NewNodes<K, V>,
+    new_nodes: NewNodes<K, V, A>,
     count: &mut Count,
 )
     requires some { 0 < length path.old }
@@ -98,12 +97,12 @@ pub fn insert<K: Drop, V: Drop>(
 }
 
 // Inserts with the nodes made ahead, and uses up all of them.
-fn insert_with<K: Drop, V: Drop>(
-    root: &mut Node<K, V>,
+fn insert_with<K: Drop, V: Drop, A: Handle>(
+    root: &mut Node<K, V, A>,
     path: &[u8],
     pair: (K, V),
-    leaf: Option<Node<K, V>>,
-    inner: &mut Spares<K, V>,
+    leaf: Option<Node<K, V, A>>,
+    inner: &mut Spares<K, V, A>,
     count: &mut Count,
 )
     requires some { 0 < length path.now }
@@ -131,11 +130,11 @@ fn insert_with<K: Drop, V: Drop>(
 }
 
 /// Puts a new root above the root and the node on its right, with the pair between them.
-pub fn grow<K: Drop, V: Drop>(
-    root: &mut Node<K, V>,
+pub fn grow<K: Drop, V: Drop, A: Handle>(
+    root: &mut Node<K, V, A>,
     pair: (K, V),
-    right: Node<K, V>,
-    blank: Node<K, V>,
+    right: Node<K, V, A>,
+    blank: Node<K, V, A>,
     count: &mut Count,
 )
     requires { IsBlankInner blank }
@@ -156,14 +155,14 @@ pub fn grow<K: Drop, V: Drop>(
 
 // Puts `pair` into the gap below the node. A full node is halved: it hands out the pair in its middle and a node of those
 // after it.
-fn insert_below<K: Drop, V: Drop>(
-    node: &mut Node<K, V>,
+fn insert_below<K: Drop, V: Drop, A: Handle>(
+    node: &mut Node<K, V, A>,
     path: &[u8],
     pair: (K, V),
-    leaf: Option<Node<K, V>>,
-    inner: &mut Spares<K, V>,
+    leaf: Option<Node<K, V, A>>,
+    inner: &mut Spares<K, V, A>,
     count: &mut Count,
-) -> Option<((K, V), Node<K, V>)>
+) -> Option<((K, V), Node<K, V, A>)>
     requires some { 0 < length path.now }
     requires path { IsPath path.now node.old }
     requires levels { IsLevelled (length path.now - 1) node.old }
@@ -195,7 +194,7 @@ fn insert_below<K: Drop, V: Drop>(
     let below = match &mut node.children {
         None => unreachable!(),
         Some(children) => {
-            let child: &mut Node<K, V> = children.get_mut(i);
+            let child: &mut Node<K, V, A> = children.get_mut(i);
             insert_below(child, rest, pair, leaf, inner, count)
         }
     };
@@ -206,13 +205,13 @@ fn insert_below<K: Drop, V: Drop>(
 }
 
 // Puts `pair` into a leaf, which is halved with the spare leaf where it is full.
-fn put_leaf<K: Drop, V: Drop>(
-    node: &mut Node<K, V>,
+fn put_leaf<K: Drop, V: Drop, A: Handle>(
+    node: &mut Node<K, V, A>,
     i: usize,
     pair: (K, V),
-    spare: Option<Node<K, V>>,
+    spare: Option<Node<K, V, A>>,
     count: &mut Count,
-) -> Option<((K, V), Node<K, V>)>
+) -> Option<((K, V), Node<K, V, A>)>
     requires in_bounds { i ≤ length (own_pairs node.old) }
     requires leaf { IsLeaf node.old }
     requires spare { MatchOption spare (length (own_pairs node.old) < capacity) (λ b. (length (own_pairs node.old) ≡ capacity) × IsBlankLeaf b) }
@@ -237,14 +236,14 @@ fn put_leaf<K: Drop, V: Drop>(
 /// Puts `pair` into an inner node with the child on its right. The node is halved with one of the spare nodes where it is full. It is
 /// inlined, since an insertion that splits would pay for a call at each node above the leaf.
 #[inline(always)]
-pub fn put_inner<K: Drop, V: Drop>(
-    node: &mut Node<K, V>,
+pub fn put_inner<K: Drop, V: Drop, A: Handle>(
+    node: &mut Node<K, V, A>,
     i: usize,
     pair: (K, V),
-    child: Node<K, V>,
-    spares: &mut Spares<K, V>,
+    child: Node<K, V, A>,
+    spares: &mut Spares<K, V, A>,
     count: &mut Count,
-) -> Option<((K, V), Node<K, V>)>
+) -> Option<((K, V), Node<K, V, A>)>
     requires in_bounds { i ≤ length (own_pairs node.old) }
     requires inner { IsInner node.old }
     requires some { length (own_pairs node.old) ≡ capacity → 0 < spares.old }
@@ -271,11 +270,11 @@ pub fn put_inner<K: Drop, V: Drop>(
 ///
 /// # Errors
 /// `AllocError` if the leaf is refused. The pair then comes back.
-pub fn first_leaf<K: Drop, V: Drop>(
-    alloc: Global,
+pub fn first_leaf<K: Drop, V: Drop, A: Handle>(
+    alloc: A,
     pair: (K, V),
     count: &mut Count,
-) -> Result<Node<K, V>, (K, V, TryReserveError)>
+) -> Result<Node<K, V, A>, (K, V, TryReserveError)>
     ensures pairs { IfOk result (λ root. pairs_of root ≡ pair ∷ []) }
     ensures sound { IfOk result (λ root. IsSoundRoot 0 root) }
     ensures back { IfErr result (λ e. (e.0, e.1) ≡ pair) }

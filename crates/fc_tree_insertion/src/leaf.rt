@@ -6,11 +6,11 @@ ghost use Rattle.fc_tree_node.specs.Path.{IsPath, before_gap, after_gap};
 ghost use Rattle.fc_tree_insertion.specs.Arrival.{IsPutAt};
 ghost use Rattle.fc_tree_insertion.specs.Cascade.{leaf_at};
 
-use fc_base::Count;
+use fc_base::{Count, Handle};
 use fc_tree_node::node::{CAPACITY, Node};
 
 /// Whether the leaf that the path ends in has room for a pair.
-pub fn has_room<K, V>(node: &Node<K, V>, path: &[u8]) -> bool
+pub fn has_room<K, V, A: Handle>(node: &Node<K, V, A>, path: &[u8]) -> bool
     requires some { 0 < length path.now }
     requires path { IsPath path.now node.now }
     requires levels { IsLevelled (length path.now - 1) node.now }
@@ -23,8 +23,8 @@ pub fn has_room<K, V>(node: &Node<K, V>, path: &[u8]) -> bool
 }
 
 /// Puts `pair` into the gap that the path leads to, whose leaf has room. The path then leads to the pair.
-pub fn insert_in_leaf<K: Drop, V: Drop>(
-    node: &mut Node<K, V>,
+pub fn insert_in_leaf<K: Drop, V: Drop, A: Handle>(
+    node: &mut Node<K, V, A>,
     path: &[u8],
     pair: (K, V),
     count: &mut Count,
@@ -52,7 +52,7 @@ pub fn insert_in_leaf<K: Drop, V: Drop>(
     match &mut node.children {
         None => unreachable!(),
         Some(children) => {
-            let child: &mut Node<K, V> = children.get_mut(i);
+            let child: &mut Node<K, V, A> = children.get_mut(i);
             insert_in_leaf(child, &path[1..], pair, count);
         }
     }

@@ -6,7 +6,7 @@ ghost use Rattle.fc_tree_node.specs.Path.{IsPath};
 ghost use Rattle.fc_tree_insertion.specs.Cascade.{leaf_at, cascade, nodes_needed};
 
 use crate::spares::Spares;
-use fc_base::TryReserveError;
+use fc_base::{Handle, TryReserveError};
 use fc_tree_node::node::{CAPACITY, Node};
 use std::alloc::Global;
 use std::marker::Model;
@@ -14,12 +14,12 @@ use std::marker::Model;
 /// Nodes that hold nothing, made ahead for one insertion: a leaf for the leaf that it splits, and an inner node for each
 /// further node that it splits and for a new root. A contract sees how many there are.
 #[derive(Drop)]
-pub struct NewNodes<K, V> {
-    pub(crate) leaf: Option<Node<K, V>>,
-    pub(crate) inner: Spares<K, V>,
+pub struct NewNodes<K, V, A: Handle = Global> {
+    pub(crate) leaf: Option<Node<K, V, A>>,
+    pub(crate) inner: Spares<K, V, A>,
 }
 
-impl<K, V> Model for NewNodes<K, V> {
+impl<K, V, A: Handle> Model for NewNodes<K, V, A> {
     ghost use Rattle.std.specs.Prelude.{ℕ};
     ghost use Rattle.std.specs.Coded.{coded_ℕ};
 
@@ -34,7 +34,7 @@ impl<K, V> Model for NewNodes<K, V> {
     ghost invariant = { λ r. AreNewNodes r };
 }
 
-impl<K, V> NewNodes<K, V> {
+impl<K, V, A: Handle> NewNodes<K, V, A> {
     /// How many nodes there are.
     pub fn len(&self) -> usize
         ensures { result ≡ self.now }
@@ -51,11 +51,11 @@ impl<K, V> NewNodes<K, V> {
 ///
 /// # Errors
 /// `AllocError` if one of them is refused, and those made before are dropped. Where the leaf has room nothing is asked for.
-pub fn try_new_nodes<K: Drop, V: Drop>(
-    alloc: Global,
-    root: &Node<K, V>,
+pub fn try_new_nodes<K: Drop, V: Drop, A: Handle>(
+    alloc: A,
+    root: &Node<K, V, A>,
     path: &[u8],
-) -> Result<NewNodes<K, V>, TryReserveError>
+) -> Result<NewNodes<K, V, A>, TryReserveError>
     requires some { 0 < length path.now }
     requires short { length path.now ≤ most_levels }
     requires path { IsPath path.now root.now }
@@ -94,10 +94,10 @@ pub fn try_new_nodes<K: Drop, V: Drop>(
 /// # Errors
 /// `AllocError` if one of them is refused, and those made before are dropped.
 #[inline(always)]
-pub fn try_spares<K: Drop, V: Drop>(
-    alloc: Global,
+pub fn try_spares<K: Drop, V: Drop, A: Handle>(
+    alloc: A,
     count: usize,
-) -> Result<Spares<K, V>, TryReserveError>
+) -> Result<Spares<K, V, A>, TryReserveError>
     requires { count ≤ most_levels }
     ensures len { IfOk result (λ spares. spares ≡ count) }
     ensures error { IfErr result (λ e. e ≡ TryReserveError.AllocError) }
@@ -111,7 +111,7 @@ pub fn try_spares<K: Drop, V: Drop>(
 }
 
 // How many nodes of the path are full, one after another from the leaf upwards.
-pub(crate) fn count_full<K, V>(node: &Node<K, V>, path: &[u8]) -> usize
+pub(crate) fn count_full<K, V, A: Handle>(node: &Node<K, V, A>, path: &[u8]) -> usize
     requires some { 0 < length path.now }
     requires path { IsPath path.now node.now }
     requires levels { IsLevelled (length path.now - 1) node.now }

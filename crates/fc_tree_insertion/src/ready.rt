@@ -11,21 +11,20 @@ ghost use Rattle.fc_tree_insertion.specs.Cascade.{leaf_at, nodes_needed};
 use crate::insertion::insert;
 use crate::new_nodes::{NewNodes, try_new_nodes};
 use crate::spares::Spares;
-use fc_base::{Count, TryReserveError};
+use fc_base::{Count, Handle, TryReserveError};
 use fc_tree_node::node::Node;
 use fc_tree_node::path::Path;
-use std::alloc::Global;
 
 /// Makes the nodes that an insertion into a gap of a sound tree takes. The tree is only read.
 ///
 /// # Errors
 /// `AllocError` if one of these nodes is refused, which takes a full leaf.
 #[inline(always)]
-pub fn try_nodes_at<K: Drop, V: Drop>(
-    alloc: Global,
-    root: &Node<K, V>,
+pub fn try_nodes_at<K: Drop, V: Drop, A: Handle>(
+    alloc: A,
+    root: &Node<K, V, A>,
     path: &Path,
-) -> Result<NewNodes<K, V>, TryReserveError>
+) -> Result<NewNodes<K, V, A>, TryReserveError>
     requires sound { IsSoundMap (Some root.now) }
     requires path { IsPath path.now root.now }
     requires levels { (h : ℕ) → IsLevelled h root.now → length path.now ≡ h + 1 }
@@ -39,11 +38,11 @@ pub fn try_nodes_at<K: Drop, V: Drop>(
 
 /// Puts a pair into the gap of a sound tree that the path leads to, by the nodes that this takes. The path then leads to the pair.
 #[inline(always)]
-pub fn insert_ready<K: Drop, V: Drop>(
-    root: &mut Node<K, V>,
+pub fn insert_ready<K: Drop, V: Drop, A: Handle>(
+    root: &mut Node<K, V, A>,
     path: &mut Path,
     pair: (K, V),
-    new_nodes: NewNodes<K, V>,
+    new_nodes: NewNodes<K, V, A>,
     count: &mut Count,
 )
     requires sound { IsSoundMap (Some root.old) }
@@ -68,7 +67,9 @@ pub fn insert_ready<K: Drop, V: Drop>(
 ///
 /// # Errors
 /// `AllocError` if it is refused.
-pub fn try_first_node<K: Drop, V: Drop>(alloc: Global) -> Result<NewNodes<K, V>, TryReserveError>
+pub fn try_first_node<K: Drop, V: Drop, A: Handle>(
+    alloc: A,
+) -> Result<NewNodes<K, V, A>, TryReserveError>
     ensures ok { IfOk result (λ made. made ≡ 1) }
     ensures error { IfErr result (λ e. e ≡ TryReserveError.AllocError) }
 {
@@ -80,11 +81,11 @@ pub fn try_first_node<K: Drop, V: Drop>(alloc: Global) -> Result<NewNodes<K, V>,
 }
 
 /// The root of a tree of one pair: the leaf that was made for it.
-pub fn first_root<K: Drop, V: Drop>(
+pub fn first_root<K: Drop, V: Drop, A: Handle>(
     pair: (K, V),
-    new_nodes: NewNodes<K, V>,
+    new_nodes: NewNodes<K, V, A>,
     count: &mut Count,
-) -> Node<K, V>
+) -> Node<K, V, A>
     requires { new_nodes ≡ 1 }
     ensures pairs { pairs_of result ≡ pair ∷ [] }
     ensures sound { IsSoundRoot 0 result }
@@ -97,7 +98,7 @@ pub fn first_root<K: Drop, V: Drop>(
 }
 
 // The leaf among the nodes that were made.
-fn new_leaf<K: Drop, V: Drop>(new_nodes: NewNodes<K, V>) -> Node<K, V>
+fn new_leaf<K: Drop, V: Drop, A: Handle>(new_nodes: NewNodes<K, V, A>) -> Node<K, V, A>
     requires { 0 < new_nodes }
     ensures { IsBlankLeaf result }
 {

@@ -9,7 +9,7 @@ ghost use Rattle.fc_tree_insertion.specs.Room.{IsOverDepth, room_error};
 
 use crate::new_nodes::NewNodes;
 use crate::stock::Stock;
-use fc_base::TryReserveError;
+use fc_base::{Handle, TryReserveError};
 use fc_tree_node::node::{MIN_LEN, Node};
 use fc_tree_node::path::{MAX_STEPS, Path};
 use std::alloc::Global;
@@ -18,15 +18,15 @@ use std::marker::Model;
 /// Room for insertions of new keys, wherever they fall: nodes enough for each of them, taken before the first. A contract sees how many
 /// insertions are left, `places`, and `pairs`, of which a map has to have fewer to be served. Dropped, it gives back the nodes that are left.
 #[derive(Drop)]
-pub struct Room<K, V> {
-    stock: Stock<K, V>,
+pub struct Room<K, V, A: Handle = Global> {
+    stock: Stock<K, V, A>,
     places: usize,
     pairs: usize,
     // The most nodes that one insertion takes: one for each level that a tree of so many pairs can have.
     levels: usize,
 }
 
-impl<K, V> Model for Room<K, V> {
+impl<K, V, A: Handle> Model for Room<K, V, A> {
     ghost use Rattle.std.specs.Prelude.{◌*◌, ◌≤◌};
     ghost use Rattle.fc_tree_insertion.specs.Room.{Places, IsOverDepth};
 
@@ -37,7 +37,7 @@ impl<K, V> Model for Room<K, V> {
     ghost invariant = { λ r. (r.places * r.levels ≤ r.stock) × (1 ≤ r.levels) × IsOverDepth r.levels r.pairs };
 }
 
-impl<K, V> Room<K, V> {
+impl<K, V, A: Handle> Room<K, V, A> {
     /// How many insertions of a new key are left.
     pub fn places(&self) -> usize
         ensures { result ≡ self.now.places }
@@ -53,17 +53,17 @@ impl<K, V> Room<K, V> {
     }
 }
 
-impl<K: Drop, V: Drop> Room<K, V> {
+impl<K: Drop, V: Drop, A: Handle> Room<K, V, A> {
     /// Takes the nodes for so many insertions into a map of so many pairs. For none it takes no memory, and is Ok.
     ///
     /// # Errors
     /// `CapacityOverflow` where the pairs and the insertions together pass `usize::MAX`, or `MAX_STEPS` nodes for each insertion do, and then
     /// always; else `AllocError`, where a request for memory was refused. Nothing is then left after.
     pub fn try_new(
-        alloc: Global,
+        alloc: A,
         pairs: usize,
         insertions: usize,
-    ) -> Result<Room<K, V>, TryReserveError>
+    ) -> Result<Room<K, V, A>, TryReserveError>
         ensures places { IfOk result (λ room. room.places ≡ insertions) }
         ensures pairs { IfOk result (λ room. room.pairs ≡ pairs + insertions) }
         ensures none { insertions ≡ 0 → IsOk result }
@@ -86,7 +86,7 @@ impl<K: Drop, V: Drop> Room<K, V> {
 
     /// Takes out the nodes of an insertion into the gap of a sound tree that the path leads to, and so uses a place up. The tree is only
     /// read.
-    pub fn take_for(&mut self, root: &Node<K, V>, path: &Path) -> NewNodes<K, V>
+    pub fn take_for(&mut self, root: &Node<K, V, A>, path: &Path) -> NewNodes<K, V, A>
         requires place { 0 < self.old.places }
         requires fits { length (pairs_of root.now) < self.old.pairs }
         requires sound { IsSoundMap (Some root.now) }
@@ -102,7 +102,7 @@ impl<K: Drop, V: Drop> Room<K, V> {
     }
 
     /// Takes out the one node that the first pair of a tree needs, and so uses a place up.
-    pub fn take_first(&mut self) -> NewNodes<K, V>
+    pub fn take_first(&mut self) -> NewNodes<K, V, A>
         requires { 0 < self.old.places }
         ensures taken { result ≡ 1 }
         ensures places { self.new.places + 1 ≡ self.old.places }

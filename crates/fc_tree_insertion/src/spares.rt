@@ -4,18 +4,20 @@ ghost use Rattle.fc_base.specs.Sizes.{most_levels};
 ghost use Rattle.fc_tree_node.specs.Node.{IsBlankInner};
 ghost use Rattle.fc_tree_insertion.specs.Chain.{IsAbove};
 
+use fc_base::Handle;
 use fc_tree_node::node::Node;
+use std::alloc::Global;
 use std::marker::Model;
 
 /// Inner nodes that hold no pair, each the only child of the one that was made next. So they need no list of their own. A contract
 /// sees how many there are.
 #[derive(Drop)]
-pub struct Spares<K, V> {
-    top: Option<Node<K, V>>,
+pub struct Spares<K, V, A: Handle = Global> {
+    top: Option<Node<K, V, A>>,
     len: usize,
 }
 
-impl<K, V> Model for Spares<K, V> {
+impl<K, V, A: Handle> Model for Spares<K, V, A> {
     ghost use Rattle.std.specs.Prelude.{ℕ, ◌≤◌};
     ghost use Rattle.std.specs.Coded.{coded_ℕ};
     ghost use Rattle.fc_base.specs.Sizes.{most_levels};
@@ -30,9 +32,9 @@ impl<K, V> Model for Spares<K, V> {
     ghost invariant = { λ s. (s.len ≤ most_levels) × AreSpares s.len s.top };
 }
 
-impl<K, V> Spares<K, V> {
+impl<K, V, A: Handle> Spares<K, V, A> {
     // None.
-    pub(crate) fn new() -> Spares<K, V>
+    pub(crate) fn new() -> Spares<K, V, A>
         ensures { result ≡ 0 }
     {
         Spares { top: None, len: 0 }
@@ -47,9 +49,9 @@ impl<K, V> Spares<K, V> {
     }
 }
 
-impl<K: Drop, V: Drop> Spares<K, V> {
+impl<K: Drop, V: Drop, A: Handle> Spares<K, V, A> {
     // Adds a node that holds nothing.
-    pub(crate) fn push(&mut self, node: Node<K, V>)
+    pub(crate) fn push(&mut self, node: Node<K, V, A>)
         requires blank { IsBlankInner node }
         requires few { self.old < most_levels }
         ensures { self.new ≡ self.old + 1 }
@@ -63,7 +65,7 @@ impl<K: Drop, V: Drop> Spares<K, V> {
     }
 
     /// Takes out the node that was added last.
-    pub fn take(&mut self) -> Node<K, V>
+    pub fn take(&mut self) -> Node<K, V, A>
         requires { 0 < self.old }
         ensures node { IsBlankInner result }
         ensures len { self.new + 1 ≡ self.old }
@@ -78,7 +80,7 @@ impl<K: Drop, V: Drop> Spares<K, V> {
 }
 
 // Makes `below` the node's only child.
-fn put_below<K: Drop, V: Drop>(node: &mut Node<K, V>, below: Node<K, V>)
+fn put_below<K: Drop, V: Drop, A: Handle>(node: &mut Node<K, V, A>, below: Node<K, V, A>)
     requires { IsAbove node.old None }
     ensures { IsAbove node.new (Some below) }
 {
@@ -89,8 +91,8 @@ fn put_below<K: Drop, V: Drop>(node: &mut Node<K, V>, below: Node<K, V>)
 }
 
 // Takes the node's only child out, if it has one.
-fn take_below<K, V>(node: &mut Node<K, V>) -> Option<Node<K, V>>
-    requires { (below : Option (Node K V)) × IsAbove node.old below }
+fn take_below<K, V, A: Handle>(node: &mut Node<K, V, A>) -> Option<Node<K, V, A>>
+    requires { (below : Option (Node K V A)) × IsAbove node.old below }
     ensures below { IsAbove node.old result }
     ensures none { IsAbove node.new None }
 {

@@ -7,7 +7,7 @@ ghost use Rattle.fc_tree_insertion.specs.Cascade.{nodes_needed};
 
 use crate::new_nodes::{NewNodes, count_full};
 use crate::spares::Spares;
-use fc_base::TryReserveError;
+use fc_base::{Handle, TryReserveError};
 use fc_tree_node::node::Node;
 use std::alloc::Global;
 use std::marker::Model;
@@ -15,11 +15,11 @@ use std::marker::Model;
 /// Inner nodes that hold nothing, each of which serves as a leaf too, once its room for children is dropped. They stand in a list,
 /// since a chain of as many would be dropped by as deep a recursion. A contract sees how many there are.
 #[derive(Drop)]
-pub struct Stock<K, V> {
-    nodes: Vec<Node<K, V>>,
+pub struct Stock<K, V, A: Handle = Global> {
+    nodes: Vec<Node<K, V, A>, A>,
 }
 
-impl<K, V> Model for Stock<K, V> {
+impl<K, V, A: Handle> Model for Stock<K, V, A> {
     ghost use Rattle.std.specs.Prelude.{ℕ, length};
     ghost use Rattle.std.specs.List.{AllByRecursion};
     ghost use Rattle.std.specs.Coded.{coded_ℕ};
@@ -34,12 +34,12 @@ impl<K, V> Model for Stock<K, V> {
     ghost invariant = { λ s. AllByRecursion (λ b. IsBlankInner b) s.nodes.items };
 }
 
-impl<K: Drop, V: Drop> Stock<K, V> {
+impl<K: Drop, V: Drop, A: Handle> Stock<K, V, A> {
     /// As many nodes. None of them takes no memory.
     ///
     /// # Errors
     /// `AllocError` if the list or a node is refused. Nothing is then left after.
-    pub fn try_new(alloc: Global, count: usize) -> Result<Stock<K, V>, TryReserveError>
+    pub fn try_new(alloc: A, count: usize) -> Result<Stock<K, V, A>, TryReserveError>
         ensures len { IfOk result (λ stock. stock ≡ count) }
         ensures none { count ≡ 0 → IsOk result }
         ensures error { IfErr result (λ e. e ≡ TryReserveError.AllocError) }
@@ -59,7 +59,7 @@ impl<K: Drop, V: Drop> Stock<K, V> {
     }
 
     // Adds a node.
-    fn try_put(&mut self, node: Node<K, V>) -> Result<(), TryReserveError>
+    fn try_put(&mut self, node: Node<K, V, A>) -> Result<(), TryReserveError>
         requires { IsBlankInner node }
         ensures len { IfOk result (λ _. self.new ≡ self.old + 1) }
         ensures error { IfErr result (λ e. e ≡ TryReserveError.AllocError) }
@@ -69,7 +69,7 @@ impl<K: Drop, V: Drop> Stock<K, V> {
     }
 
     // Takes a node out.
-    fn take(&mut self) -> Node<K, V>
+    fn take(&mut self) -> Node<K, V, A>
         requires { 0 < self.old }
         ensures blank { IsBlankInner result }
         ensures len { self.new + 1 ≡ self.old }
@@ -81,7 +81,7 @@ impl<K: Drop, V: Drop> Stock<K, V> {
     }
 
     // Takes a node out to be a leaf.
-    fn take_leaf(&mut self) -> Node<K, V>
+    fn take_leaf(&mut self) -> Node<K, V, A>
         requires { 0 < self.old }
         ensures blank { IsBlankLeaf result }
         ensures len { self.new + 1 ≡ self.old }
@@ -92,7 +92,7 @@ impl<K: Drop, V: Drop> Stock<K, V> {
     }
 
     // Takes so many nodes out to be inner nodes.
-    fn take_spares(&mut self, count: usize) -> Spares<K, V>
+    fn take_spares(&mut self, count: usize) -> Spares<K, V, A>
         requires few { count ≤ most_levels }
         requires enough { count ≤ self.old }
         ensures spares { result ≡ count }
@@ -107,7 +107,7 @@ impl<K: Drop, V: Drop> Stock<K, V> {
     }
 
     /// Takes out the one node that the first pair of a tree needs: a leaf.
-    pub fn take_first(&mut self) -> NewNodes<K, V>
+    pub fn take_first(&mut self) -> NewNodes<K, V, A>
         requires { 0 < self.old }
         ensures taken { result ≡ 1 }
         ensures len { self.new + 1 ≡ self.old }
@@ -120,7 +120,7 @@ impl<K: Drop, V: Drop> Stock<K, V> {
     }
 
     /// Takes out the nodes that an insertion at the path needs. The tree is only read.
-    pub fn take_new_nodes(&mut self, root: &Node<K, V>, path: &[u8]) -> NewNodes<K, V>
+    pub fn take_new_nodes(&mut self, root: &Node<K, V, A>, path: &[u8]) -> NewNodes<K, V, A>
         requires some { 0 < length path.now }
         requires short { length path.now ≤ most_levels }
         requires path { IsPath path.now root.now }

@@ -35,9 +35,9 @@ module _ {X : Type 0} (b : ℕ) where
   long_weave [] ps a e = omega arith
   long_weave (c ∷ cs) ps a e = let i = long_after ps cs a.1 (omega arith) in omega (arith, a.0, length-append c (after_list ps cs))
 
-module _ {K V : Type 0} where
+module _ {K V Z : Type 0} where
   -- a node whose children have at least so many pairs
-  many_in : (n : Node K V) (b : ℕ) → length (children_of n) ≡ length (own_pairs n) + 1 → AllByRecursion (λ c. b ≤ length (pairs_of c) + 1) (children_of n)
+  many_in : (n : Node K V Z) (b : ℕ) → length (children_of n) ≡ length (own_pairs n) + 1 → AllByRecursion (λ c. b ≤ length (pairs_of c) + 1) (children_of n)
       → length (children_of n) * b ≤ length (pairs_of n) + 1
   many_in n b e a =
       let m = length-map (children_of n) pairs_of in
@@ -46,16 +46,16 @@ module _ {K V : Type 0} where
       let p : length (pairs_of n) ≡ length (weave (map pairs_of (children_of n)) (own_pairs n)) = ap length (pairs_is n) in
       omega arith
     where
-      lists : (cs : List (Node K V)) → AllByRecursion (λ c. b ≤ length (pairs_of c) + 1) cs → AllByRecursion (IsLong b) (map pairs_of cs)
+      lists : (cs : List (Node K V Z)) → AllByRecursion (λ c. b ≤ length (pairs_of c) + 1) cs → AllByRecursion (IsLong b) (map pairs_of cs)
       lists [] a = tt
       lists (c ∷ cs) a = (a.0, lists cs a.1)
 
-  each : (P Q : Node K V → Type 0) → ((c : Node K V) → P c → Q c) → (cs : List (Node K V)) → AllByRecursion P cs → AllByRecursion Q cs
+  each : (P Q : Node K V Z → Type 0) → ((c : Node K V Z) → P c → Q c) → (cs : List (Node K V Z)) → AllByRecursion P cs → AllByRecursion Q cs
   each P Q f [] a = tt
   each P Q f (c ∷ cs) a = (f c a.0, each P Q f cs a.1)
 
   -- a node below the root
-  many_below : (h : ℕ) (n : Node K V) → min_len ≤ length (own_pairs n) → IsLevelled h n → least_children ^ suc h ≤ length (pairs_of n) + 1
+  many_below : (h : ℕ) (n : Node K V Z) → min_len ≤ length (own_pairs n) → IsLevelled h n → least_children ^ suc h ≤ length (pairs_of n) + 1
   many_below zero n m l = let e : length (pairs_of n) ≡ length (own_pairs n) = ap length (leaf_pairs n l.1) in omega arith
   many_below (suc h) n m l =
       let s = many_in n (least_children ^ suc h) l.1 (each (IsBelow h) (λ c. least_children ^ suc h ≤ length (pairs_of c) + 1) (λ c p. many_below h c p.0 p.1)
@@ -63,11 +63,11 @@ module _ {K V : Type 0} where
       let least : least_children ≤ length (children_of n) = let e : length (children_of n) ≡ length (own_pairs n) + 1 = l.1 in omega arith in
       level_more least_children (suc h) _ _ least s
 
-  all_below : (h : ℕ) (n : Node K V) → IsLevelled (suc h) n → AllByRecursion (λ c. least_children ^ suc h ≤ length (pairs_of c) + 1) (children_of n)
+  all_below : (h : ℕ) (n : Node K V Z) → IsLevelled (suc h) n → AllByRecursion (λ c. least_children ^ suc h ≤ length (pairs_of c) + 1) (children_of n)
   all_below h n l = each (IsBelow h) (λ c. least_children ^ suc h ≤ length (pairs_of c) + 1) (λ c p. many_below h c p.0 p.1) (children_of n) l.2
 
   -- a sound root
-  pub deep_root : (h : ℕ) (n : Node K V) → IsSoundRoot h n → IsDeep h (length (pairs_of n))
+  pub deep_root : (h : ℕ) (n : Node K V Z) → IsSoundRoot h n → IsDeep h (length (pairs_of n))
   deep_root zero n s = let e : length (pairs_of n) ≡ length (own_pairs n) = ap length (leaf_pairs n s.1.1) in let m = s.0 in omega arith
   deep_root (suc h) n s =
       let l = s.1 in
@@ -76,7 +76,7 @@ module _ {K V : Type 0} where
       le_trans (mul-le-mul_right (least_children ^ suc h) two) b
 
   -- a full root makes a tree of one level more where it is split
-  pub deep_full : (h : ℕ) (n : Node K V) → length (own_pairs n) ≡ capacity → IsLevelled h n → IsDeep (suc h) (length (pairs_of n))
+  pub deep_full : (h : ℕ) (n : Node K V Z) → length (own_pairs n) ≡ capacity → IsLevelled h n → IsDeep (suc h) (length (pairs_of n))
   deep_full zero n e l = let m : length (pairs_of n) ≡ length (own_pairs n) = ap length (leaf_pairs n l.1) in omega arith
   deep_full (suc h) n e l =
       let b = many_in n (least_children ^ suc h) l.1 (all_below h n l) in

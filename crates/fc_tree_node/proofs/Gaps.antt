@@ -51,30 +51,31 @@ module _ {X : Type 0} where
   before_item (c ∷ d ∷ cs) (q ∷ ps) p e = ap (λ zs. c ++ q ∷ zs) (before_item (d ∷ cs) ps p (omega arith))
       ∙ sym (append_assoc c (q ∷ weave (d ∷ cs) ps) (p ∷ []))
 
-module _ {K V : Type 0} where
-  abbrev lists : List (Node K V) → List (List (K × V))
+module _ {K V Z : Type 0} where
+  abbrev lists : List (Node K V Z) → List (List (K × V))
   lists = map pairs_of
 
   -- a leaf's parts
-  leaf_before_child : (n : Node K V) (i : ℕ) → children_of n ≡ [] → before_child n i ≡ take i (own_pairs n)
+  leaf_before_child : (n : Node K V Z) (i : ℕ) → children_of n ≡ [] → before_child n i ≡ take i (own_pairs n)
   leaf_before_child n i e = ap (λ cs. before_list (lists (take i cs)) (take i (own_pairs n))) e
       ∙ ap (λ cs. before_list (lists cs) (take i (own_pairs n))) (take_nil i)
 
-  leaf_after_child : (n : Node K V) (i : ℕ) → children_of n ≡ [] → after_child n i ≡ drop i (own_pairs n)
+  leaf_after_child : (n : Node K V Z) (i : ℕ) → children_of n ≡ [] → after_child n i ≡ drop i (own_pairs n)
   leaf_after_child n i e = ap (λ cs. after_list (drop i (own_pairs n)) (lists (drop (suc i) cs))) e ∙ after_nil (drop i (own_pairs n))
 
   -- a leaf's pairs are those that lead to a gap, and the rest
-  pub leaf_gap : (n : Node K V) (i : ℕ) → IsLeaf n → pairs_of n ≡ before_child n i ++ after_child n i
+  pub leaf_gap : (n : Node K V Z) (i : ℕ) → IsLeaf n → pairs_of n ≡ before_child n i ++ after_child n i
   leaf_gap n i l =
       let e = leaf_children n l in
       leaf_pairs n l ∙ sym (take_drop i (own_pairs n)) ∙ ap (λ zs. zs ++ drop i (own_pairs n)) (sym (leaf_before_child n i e))
       ∙ ap (λ zs. before_child n i ++ zs) (sym (leaf_after_child n i e))
 
-  lists_taken : (n : Node K V) (i : ℕ) → i ≤ length (children_of n) → length (lists (take i (children_of n))) ≡ i
+  lists_taken : (n : Node K V Z) (i : ℕ) → i ≤ length (children_of n) → length (lists (take i (children_of n))) ≡ i
   lists_taken n i h = length-map (take i (children_of n)) pairs_of ∙ length_take i (children_of n) h
 
   -- an inner node's pairs are those that lead to a child, the child's, and the rest
-  pub inner_gap : (n : Node K V) (i : ℕ) → IsInner n → i ≤ length (own_pairs n) → pairs_of n ≡ before_child n i ++ (pairs_of (child_at n i) ++ after_child n i)
+  pub inner_gap : (n : Node K V Z) (i : ℕ) → IsInner n → i ≤ length (own_pairs n)
+      → pairs_of n ≡ before_child n i ++ (pairs_of (child_at n i) ++ after_child n i)
   inner_gap n i e h =
       let ps = own_pairs n in let cs = children_of n in
       let k : length cs ≡ length ps + 1 = e in
@@ -86,14 +87,15 @@ module _ {K V : Type 0} where
       ∙ weave_at (lists (take i cs)) (pairs_of (child_at n i)) (lists (drop (suc i) cs)) (take i ps) (drop i ps) same
 
   -- a leaf's pairs, cut at one of them
-  leaf_pair : (n : Node K V) (i : ℕ) (d : K × V) → IsLeaf n → i < length (own_pairs n) → pairs_of n ≡ before_own n i ++ get_or (own_pairs n) i d ∷ after_own n i
+  leaf_pair : (n : Node K V Z) (i : ℕ) (d : K × V) → IsLeaf n → i < length (own_pairs n)
+      → pairs_of n ≡ before_own n i ++ get_or (own_pairs n) i d ∷ after_own n i
   leaf_pair n i d l h =
       let ps = own_pairs n in let e = leaf_children n l in
       leaf_pairs n l ∙ cut_item ps i d h
       ∙ ap (λ cs. weave (lists (take (suc i) cs)) (take i ps) ++ get_or ps i d ∷ weave (lists (drop (suc i) cs)) (drop (suc i) ps)) (sym e)
 
   -- an inner node's pairs, cut at one of its own
-  inner_pair : (n : Node K V) (i : ℕ) (d : K × V) → IsInner n → i < length (own_pairs n)
+  inner_pair : (n : Node K V Z) (i : ℕ) (d : K × V) → IsInner n → i < length (own_pairs n)
       → pairs_of n ≡ before_own n i ++ get_or (own_pairs n) i d ∷ after_own n i
   inner_pair n i d e h =
       let ps = own_pairs n in let cs = children_of n in
@@ -109,13 +111,13 @@ module _ {K V : Type 0} where
       ∙ weave_parts (lists (take (suc i) cs)) (lists (drop (suc i) cs)) (take i ps) p (drop (suc i) ps) m r
 
   -- a levelled node's pairs, cut at one of its own
-  pub own_pair : (h : ℕ) (n : Node K V) (i : ℕ) (d : K × V) → IsLevelled h n → i < length (own_pairs n)
+  pub own_pair : (h : ℕ) (n : Node K V Z) (i : ℕ) (d : K × V) → IsLevelled h n → i < length (own_pairs n)
       → pairs_of n ≡ before_own n i ++ get_or (own_pairs n) i d ∷ after_own n i
   own_pair zero n i d l k = leaf_pair n i d l.1 k
   own_pair (suc h) n i d l k = inner_pair n i d l.1 k
 
   -- what leads to the child after a pair ends with the pair
-  pub before_child_pair : (h : ℕ) (n : Node K V) (i : ℕ) (d : K × V) → IsLevelled h n → i < length (own_pairs n)
+  pub before_child_pair : (h : ℕ) (n : Node K V Z) (i : ℕ) (d : K × V) → IsLevelled h n → i < length (own_pairs n)
       → before_child n (suc i) ≡ before_own n i ++ get_or (own_pairs n) i d ∷ []
   before_child_pair zero n i d l k =
       let e = leaf_children n l.1 in
@@ -129,17 +131,17 @@ module _ {K V : Type 0} where
       ap (λ qs. before_list (lists (take (suc i) cs)) qs) (take_item ps i d k) ∙ before_item (lists (take (suc i) cs)) (take i ps) (get_or ps i d) m
 
   -- what is after a child begins with the next pair
-  pub after_child_pair : (n : Node K V) (i : ℕ) (d : K × V) → i < length (own_pairs n) → after_child n i ≡ get_or (own_pairs n) i d ∷ after_own n i
+  pub after_child_pair : (n : Node K V Z) (i : ℕ) (d : K × V) → i < length (own_pairs n) → after_child n i ≡ get_or (own_pairs n) i d ∷ after_own n i
   after_child_pair n i d k =
       ap (λ qs. after_list qs (lists (drop (suc i) (children_of n)))) (drop_item (own_pairs n) i d k)
       ∙ after_item (get_or (own_pairs n) i d) (drop (suc i) (own_pairs n)) (lists (drop (suc i) (children_of n)))
 
   -- nothing is after the last child
-  pub after_none : (n : Node K V) (i : ℕ) → length (own_pairs n) ≤ i → after_child n i ≡ []
+  pub after_none : (n : Node K V Z) (i : ℕ) → length (own_pairs n) ≤ i → after_child n i ≡ []
   after_none n i h = ap (λ qs. after_list qs (lists (drop (suc i) (children_of n)))) (drop_all (own_pairs n) i h)
 
   -- a step down a levelled node
-  pub step_levels : (h : ℕ) (n : Node K V) (i : ℕ) → IsLevelled h n → i < length (children_of n)
+  pub step_levels : (h : ℕ) (n : Node K V Z) (i : ℕ) → IsLevelled h n → i < length (children_of n)
       → (g : ℕ) × (h ≡ suc g) × IsLevelled g (child_at n i) × (i ≤ length (own_pairs n)) × IsInner n
   step_levels zero n i l k = absurd (let e : length (children_of n) ≡ 0 = ap length (leaf_children n l.1) in omega arith)
   step_levels (suc h) n i l k =
@@ -148,7 +150,7 @@ module _ {K V : Type 0} where
       (h, refl, (child_below h n i l le).1, le, l.1)
 
   -- the levels below the end of a descent
-  pub descent_levels : (path : List ℕ) (h : ℕ) (n : Node K V) → IsLevelled h n → IsDescent path n
+  pub descent_levels : (path : List ℕ) (h : ℕ) (n : Node K V Z) → IsLevelled h n → IsDescent path n
       → (g : ℕ) × (length path + g ≡ h) × IsLevelled g (node_at path n)
   descent_levels [] h n l d = (h, omega arith, l)
   descent_levels (i ∷ path) h n l d =
@@ -157,7 +159,7 @@ module _ {K V : Type 0} where
       (r.0, (let a = r.1 in let b = s.1 in omega arith), r.2)
 
   -- a tree's pairs, cut at the node that a descent leads to
-  pub descent_pairs : (path : List ℕ) (h : ℕ) (n : Node K V) → IsLevelled h n → IsDescent path n
+  pub descent_pairs : (path : List ℕ) (h : ℕ) (n : Node K V Z) → IsLevelled h n → IsDescent path n
       → pairs_of n ≡ before_gap path n ++ (pairs_of (node_at path n) ++ after_gap path n)
   descent_pairs [] h n l d = sym (append-nil (pairs_of n))
   descent_pairs (i ∷ path) h n l d =
@@ -171,55 +173,55 @@ module _ {K V : Type 0} where
       regroup a b m c d = simp append_assoc
 
   -- a descent goes on by one step
-  pub node_more : (path : List ℕ) (i : ℕ) (n : Node K V) → node_at (path ++ i ∷ []) n ≡ child_at (node_at path n) i
+  pub node_more : (path : List ℕ) (i : ℕ) (n : Node K V Z) → node_at (path ++ i ∷ []) n ≡ child_at (node_at path n) i
   node_more [] i n = refl
   node_more (j ∷ path) i n = node_more path i (child_at n j)
 
-  pub descent_more : (path : List ℕ) (i : ℕ) (n : Node K V) → IsDescent path n → i < length (children_of (node_at path n)) → IsDescent (path ++ i ∷ []) n
+  pub descent_more : (path : List ℕ) (i : ℕ) (n : Node K V Z) → IsDescent path n → i < length (children_of (node_at path n)) → IsDescent (path ++ i ∷ []) n
   descent_more [] i n d k = (k, tt)
   descent_more (j ∷ path) i n d k = (d.0, descent_more path i (child_at n j) d.1 k)
 
   -- what is before and after the gap that one more step leads to
-  pub before_more : (path : List ℕ) (i : ℕ) (n : Node K V) → before_gap (path ++ i ∷ []) n ≡ before_gap path n ++ before_child (node_at path n) i
+  pub before_more : (path : List ℕ) (i : ℕ) (n : Node K V Z) → before_gap (path ++ i ∷ []) n ≡ before_gap path n ++ before_child (node_at path n) i
   before_more [] i n = append-nil (before_child n i)
   before_more (j ∷ path) i n = ap (λ zs. before_child n j ++ zs) (before_more path i (child_at n j))
       ∙ sym (append_assoc (before_child n j) (before_gap path (child_at n j)) _)
 
-  pub after_more : (path : List ℕ) (i : ℕ) (n : Node K V) → after_gap (path ++ i ∷ []) n ≡ after_child (node_at path n) i ++ after_gap path n
+  pub after_more : (path : List ℕ) (i : ℕ) (n : Node K V Z) → after_gap (path ++ i ∷ []) n ≡ after_child (node_at path n) i ++ after_gap path n
   after_more [] i n = sym (append-nil (after_child n i))
   after_more (j ∷ path) i n = ap (λ zs. zs ++ after_child n j) (after_more path i (child_at n j))
       ∙ append_assoc (after_child (node_at path (child_at n j)) i) (after_gap path (child_at n j)) (after_child n j)
 
-  pub path_more : (path : List ℕ) (i h : ℕ) (n : Node K V) → IsLevelled h n → IsDescent path n → i ≤ length (own_pairs (node_at path n))
+  pub path_more : (path : List ℕ) (i h : ℕ) (n : Node K V Z) → IsLevelled h n → IsDescent path n → i ≤ length (own_pairs (node_at path n))
       → IsPath (path ++ i ∷ []) n
   path_more [] i h n l d k = (k, tt)
   path_more (j ∷ path) i h n l d k = let s = step_levels h n j l d.0 in (s.3, path_more path i s.0 (child_at n j) s.2 d.1 k)
 
   -- the pair that one more step leads to
-  pub place_more : (path : List ℕ) (i : ℕ) (n : Node K V) → IsDescent path n → i < length (own_pairs (node_at path n)) → IsPlace (path ++ i ∷ []) n
+  pub place_more : (path : List ℕ) (i : ℕ) (n : Node K V Z) → IsDescent path n → i < length (own_pairs (node_at path n)) → IsPlace (path ++ i ∷ []) n
   place_more [] i n d k = k
   place_more (j ∷ []) i n d k = (d.0, k)
   place_more (j ∷ j' ∷ path) i n d k = (d.0, place_more (j' ∷ path) i (child_at n j) d.1 k)
 
-  pub pair_more : (path : List ℕ) (i : ℕ) (n : Node K V) → place_pair (path ++ i ∷ []) n ≡ slice_get (own_pairs (node_at path n)) i
+  pub pair_more : (path : List ℕ) (i : ℕ) (n : Node K V Z) → place_pair (path ++ i ∷ []) n ≡ slice_get (own_pairs (node_at path n)) i
   pair_more [] i n = refl
   pair_more (j ∷ []) i n = refl
   pair_more (j ∷ j' ∷ path) i n = pair_more (j' ∷ path) i (child_at n j)
 
-  pub before_own_more : (path : List ℕ) (i : ℕ) (n : Node K V) → before_pair (path ++ i ∷ []) n ≡ before_gap path n ++ before_own (node_at path n) i
+  pub before_own_more : (path : List ℕ) (i : ℕ) (n : Node K V Z) → before_pair (path ++ i ∷ []) n ≡ before_gap path n ++ before_own (node_at path n) i
   before_own_more [] i n = refl
   before_own_more (j ∷ []) i n = ap (λ zs. zs ++ before_own (child_at n j) i) (sym (append-nil (before_child n j)))
   before_own_more (j ∷ j' ∷ path) i n = ap (λ zs. before_child n j ++ zs) (before_own_more (j' ∷ path) i (child_at n j))
       ∙ sym (append_assoc (before_child n j) (before_gap (j' ∷ path) (child_at n j)) _)
 
-  pub after_own_more : (path : List ℕ) (i : ℕ) (n : Node K V) → after_pair (path ++ i ∷ []) n ≡ after_own (node_at path n) i ++ after_gap path n
+  pub after_own_more : (path : List ℕ) (i : ℕ) (n : Node K V Z) → after_pair (path ++ i ∷ []) n ≡ after_own (node_at path n) i ++ after_gap path n
   after_own_more [] i n = sym (append-nil (after_own n i))
   after_own_more (j ∷ []) i n = refl
   after_own_more (j ∷ j' ∷ path) i n = ap (λ zs. zs ++ after_child n j) (after_own_more (j' ∷ path) i (child_at n j))
       ∙ append_assoc (after_own (node_at (j' ∷ path) (child_at n j)) i) (after_gap (j' ∷ path) (child_at n j)) (after_child n j)
 
   -- a tree's pairs are those before and those after the gap that a path to a leaf leads to
-  pub gap_pairs : (path : List ℕ) (h : ℕ) (n : Node K V) → IsLevelled h n → length path ≡ h + 1 → IsPath path n
+  pub gap_pairs : (path : List ℕ) (h : ℕ) (n : Node K V Z) → IsLevelled h n → length path ≡ h + 1 → IsPath path n
       → pairs_of n ≡ before_gap path n ++ after_gap path n
   gap_pairs [] h n l e p = absurd (omega arith)
   gap_pairs (i ∷ path) zero n l e p =
@@ -240,12 +242,12 @@ module _ {K V : Type 0} where
       regroup a b c d = simp append_assoc
 
   -- there is a pair at a place, and a tree's pairs are those before it, it, and those after it
-  pub record IsCutAt (path : List ℕ) (n : Node K V) : Type 0 where
+  pub record IsCutAt (path : List ℕ) (n : Node K V Z) : Type 0 where
     pub pair : K × V
     pub is : place_pair path n ≡ Some pair
     pub parts : pairs_of n ≡ before_pair path n ++ pair ∷ after_pair path n
 
-  pub place_pairs : (path : List ℕ) (h : ℕ) (n : Node K V) → IsLevelled h n → IsPlace path n → IsCutAt path n
+  pub place_pairs : (path : List ℕ) (h : ℕ) (n : Node K V Z) → IsLevelled h n → IsPlace path n → IsCutAt path n
   place_pairs [] h n l p = absurd p
   place_pairs (i ∷ []) h n l p =
       let t = item_there (own_pairs n) i p in

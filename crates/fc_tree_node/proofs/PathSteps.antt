@@ -22,7 +22,7 @@ pub more_steps : (p : List ℕ) → 0 < length p → p ≡ get_or p 0 0 ∷ slic
 more_steps [] h = absurd (omega arith)
 more_steps (i ∷ p) h = ap (λ q. i ∷ q) (sym (take_all p (suc (length p) - 1) (omega arith)))
 
-pub record IsStep {K V : Type 0} (p : List ℕ) (n : Node K V) : Type 0 where
+pub record IsStep {K V Z : Type 0} (p : List ℕ) (n : Node K V Z) : Type 0 where
   pub path_is : p ≡ get_or p 0 0 ∷ slice_range p 1 (length p)
   pub le : get_or p 0 0 ≤ length (own_pairs n)
   pub onward : IsPath (slice_range p 1 (length p)) (child_at n (get_or p 0 0))
@@ -31,7 +31,7 @@ pub record IsStep {K V : Type 0} (p : List ℕ) (n : Node K V) : Type 0 where
   pub levels : IsLevelled (suc (length (slice_range p 1 (length p)) - 1)) n
   pub inner : IsInner n
 
-pub step_of : {K V : Type 0} (p : List ℕ) (n : Node K V) → 2 ≤ length p → IsPath p n → IsLevelled (length p - 1) n → IsStep p n
+pub step_of : {K V Z : Type 0} (p : List ℕ) (n : Node K V Z) → 2 ≤ length p → IsPath p n → IsLevelled (length p - 1) n → IsStep p n
 step_of {K} {V} p n h w l =
     let e : p ≡ get_or p 0 0 ∷ slice_range p 1 (length p) = more_steps p (omega arith) in
     let k : length p ≡ suc (length (slice_range p 1 (length p))) = ap length e in
@@ -41,16 +41,16 @@ step_of {K} {V} p n h w l =
     record { path_is = e; le = q.0; onward = q.1; long = omega arith; height = s; levels = v; inner = v.1 }
 
 -- the child that the step leads to, lent out of the list
-module _ {K V : Type 0} where
-  pub child_there : (p : List ℕ) (n : Node K V) (bs : List (Node K V)) → IsStep p n → (out-Node K V n).children ≡ Some bs → get_or p 0 0 < length bs
+module _ {K V Z : Type 0} where
+  pub child_there : (p : List ℕ) (n : Node K V Z) (bs : List (Node K V Z)) → IsStep p n → (out-Node K V Z n).children ≡ Some bs → get_or p 0 0 < length bs
   child_there p n bs s e =
       let long = inner_len n s.inner in
       let same = ap (λ o. length (items_or_none o)) e in
       let le = s.le in
       omega arith
 
-  pub child_lent : (p : List ℕ) (n : Node K V) (cs : List (Node K V)) (c : Node K V) → IsStep p n → (out-Node K V n).children ≡ Some cs
+  pub child_lent : (p : List ℕ) (n : Node K V Z) (cs : List (Node K V Z)) (c : Node K V Z) → IsStep p n → (out-Node K V Z n).children ≡ Some cs
       → c ≡ get_or cs (get_or p 0 0) c → c ≡ child_at n (get_or p 0 0)
   child_lent p n cs c s e f =
       let there = child_there p n cs s e in
-      f ∙ get_or_default cs (get_or p 0 0) c n there ∙ ap (λ (o : Option (List (Node K V))). get_or (items_or_none o) (get_or p 0 0) n) (sym e)
+      f ∙ get_or_default cs (get_or p 0 0) c n there ∙ ap (λ (o : Option (List (Node K V Z))). get_or (items_or_none o) (get_or p 0 0) n) (sym e)

@@ -13,7 +13,7 @@ use Rattle.fc_tree_node.proofs.Pairs.{pairs_is, leaf_pairs, leaf_children}
 use Rattle.fc_tree_node.proofs.Formed.{leaf_or_inner}
 use Rattle.fc_tree_node.proofs.Siblings.{one_at, around_one, joined_pairs}
 
-module _ {K V : Type 0} (old : Node K V) (i : ℕ) where
+module _ {K V Z : Type 0} (old : Node K V Z) (i : ℕ) where
   module _ (inner : IsInner old) (h : i ≤ length (own_pairs old)) where
     fewer : i < length (children_of old)
     fewer = let n : length (children_of old) ≡ length (own_pairs old) + 1 = inner in omega arith
@@ -25,7 +25,7 @@ module _ {K V : Type 0} (old : Node K V) (i : ℕ) where
     lead = append-nil _
 
     -- a pair and a child put in after the child at i
-    pub put_pairs : (c : Node K V) (pair : K × V) → weave (map pairs_of (insert (children_of old) (i + 1) c)) (insert (own_pairs old) i pair)
+    pub put_pairs : (c : Node K V Z) (pair : K × V) → weave (map pairs_of (insert (children_of old) (i + 1) c)) (insert (own_pairs old) i pair)
         ≡ before_gap (i ∷ []) old ++ (pairs_of (child_at old i) ++ pair ∷ (pairs_of c ++ after_gap (i ∷ []) old))
     put_pairs c pair =
         let e = ap (λ cs. insert cs (i + 1) c) (sym (set-get_or (children_of old) i old)) ∙ set_put (children_of old) i (child_at old i) c fewer in
@@ -35,14 +35,14 @@ module _ {K V : Type 0} (old : Node K V) (i : ℕ) where
         (length-map (take i (children_of old)) pairs_of ∙ lengths)
         ∙ ap (λ ps. ps ++ (pairs_of (child_at old i) ++ pair ∷ (pairs_of c ++ after_gap (i ∷ []) old))) (sym lead)
 
-    pub inserted_pairs : (new c : Node K V) (pair : K × V) → own_pairs new ≡ insert (own_pairs old) i pair
+    pub inserted_pairs : (new c : Node K V Z) (pair : K × V) → own_pairs new ≡ insert (own_pairs old) i pair
         → children_of new ≡ insert (children_of old) (i + 1) c → pairs_of new ≡ before_gap (i ∷ []) old
         ++ (pairs_of (child_at old i) ++ pair ∷ (pairs_of c ++ after_gap (i ∷ []) old))
     inserted_pairs new c pair p q =
         pairs_is new ∙ ap (λ cs. weave (map pairs_of cs) (own_pairs new)) q ∙ ap (λ ps. weave (map pairs_of (insert (children_of old) (i + 1) c)) ps) p
         ∙ put_pairs c pair
 
-    pub halves_pairs : (l r c : Node K V) (up pair : K × V) → AreAlike l r → own_pairs l ++ up ∷ own_pairs r ≡ insert (own_pairs old) i pair
+    pub halves_pairs : (l r c : Node K V Z) (up pair : K × V) → AreAlike l r → own_pairs l ++ up ∷ own_pairs r ≡ insert (own_pairs old) i pair
         → children_of l ++ children_of r ≡ insert (children_of old) (i + 1) c
         → pairs_of l ++ up ∷ pairs_of r ≡ before_gap (i ∷ []) old ++ (pairs_of (child_at old i) ++ pair ∷ (pairs_of c ++ after_gap (i ∷ []) old))
     halves_pairs l r c up pair a p q =
@@ -52,14 +52,14 @@ module _ {K V : Type 0} (old : Node K V) (i : ℕ) where
   front_is : (h : i < length (children_of old)) → take (i + 1) (children_of old) ≡ take i (children_of old) ++ child_at old i ∷ []
   front_is h = take_more (children_of old) i old h
 
-  pub leaf_front : (new : Node K V) → IsLeaf old → IsLeaf new → own_pairs new ≡ take i (own_pairs old) → pairs_of old ≡ pairs_of new ++ after_gap (i ∷ []) old
+  pub leaf_front : (new : Node K V Z) → IsLeaf old → IsLeaf new → own_pairs new ≡ take i (own_pairs old) → pairs_of old ≡ pairs_of new ++ after_gap (i ∷ []) old
   leaf_front new a b p =
       leaf_pairs old a ∙ sym (take_drop i (own_pairs old)) ∙ ap (λ ps. ps ++ drop i (own_pairs old)) (sym (leaf_pairs new b ∙ p))
       ∙ ap (λ ps. pairs_of new ++ ps) (sym (ap (λ cs. after_list (drop i (own_pairs old)) (map pairs_of (drop (suc i) cs))) (leaf_children old a)
       ∙ after_nil (drop i (own_pairs old))))
 
   -- what stays where the end moved away
-  pub front_pairs : (new : Node K V) → i ≤ length (own_pairs old) → AreAlike old new → own_pairs new ≡ take i (own_pairs old)
+  pub front_pairs : (new : Node K V Z) → i ≤ length (own_pairs old) → AreAlike old new → own_pairs new ≡ take i (own_pairs old)
       → children_of new ≡ take (i + 1) (children_of old) → pairs_of old ≡ pairs_of new ++ after_gap (i ∷ []) old
   front_pairs new h (inl a) p c = leaf_front new a.0 a.1 p
   front_pairs new h (inr a) p c =
@@ -73,7 +73,7 @@ module _ {K V : Type 0} (old : Node K V) (i : ℕ) where
       ∙ ap (λ ps. ps ++ after_gap (i ∷ []) old) (sym (q ∙ ap (λ ps. before_list (map pairs_of (take i (children_of old))) (take i (own_pairs old)) ++ ps)
       (append-nil _)))
 
-  pub leaf_back : (other new : Node K V) → IsLeaf old → IsLeaf other → IsLeaf new → own_pairs new ≡ own_pairs other ++ drop i (own_pairs old)
+  pub leaf_back : (other new : Node K V Z) → IsLeaf old → IsLeaf other → IsLeaf new → own_pairs new ≡ own_pairs other ++ drop i (own_pairs old)
       → pairs_of new ≡ pairs_of other ++ after_gap (i ∷ []) old
   leaf_back other new a b₀ b₁ p =
       leaf_pairs new b₁ ∙ p ∙ ap (λ ps. ps ++ drop i (own_pairs old)) (sym (leaf_pairs other b₀))
@@ -81,7 +81,7 @@ module _ {K V : Type 0} (old : Node K V) (i : ℕ) where
       ∙ after_nil (drop i (own_pairs old))))
 
   -- what another node ends with, to which the end moved
-  pub back_pairs : (other new : Node K V) → AreAlike old other → AreAlike other new → own_pairs new ≡ own_pairs other ++ drop i (own_pairs old)
+  pub back_pairs : (other new : Node K V Z) → AreAlike old other → AreAlike other new → own_pairs new ≡ own_pairs other ++ drop i (own_pairs old)
       → children_of new ≡ children_of other ++ drop (i + 1) (children_of old) → pairs_of new ≡ pairs_of other ++ after_gap (i ∷ []) old
   back_pairs other new (inr a) (inl b) p c = absurd (leaf_or_inner other b.0 a.1)
   back_pairs other new (inl a) (inl b) p c = leaf_back other new a.0 b.0 b.1 p

@@ -54,9 +54,9 @@ module _ {X : Type 0} where
   pub set_removed : (xs : List X) (i : ℕ) (x : X) → i + 1 < length xs → slice_set (remove xs (i + 1)) i x ≡ take i xs ++ x ∷ drop (suc (suc i)) xs
   set_removed xs i x h = ap (λ j. slice_set (remove xs j) i x) (add-one i) ∙ set_removed_suc xs i x (rw add-one at h)
 
-module _ {K V : Type 0} where
+module _ {K V Z : Type 0} where
   -- two nodes and a pair between them hold what one node of both their parts would
-  pub joined_pairs : (l r : Node K V) (s : K × V) → AreAlike l r → pairs_of l ++ s ∷ pairs_of r
+  pub joined_pairs : (l r : Node K V Z) (s : K × V) → AreAlike l r → pairs_of l ++ s ∷ pairs_of r
       ≡ weave (map pairs_of (children_of l ++ children_of r)) (own_pairs l ++ s ∷ own_pairs r)
   joined_pairs l r s (inl a) =
       ap (λ ps. ps ++ s ∷ pairs_of r) (leaf_pairs l a.0) ∙ ap (λ ps. own_pairs l ++ s ∷ ps) (leaf_pairs r a.1)
@@ -72,7 +72,7 @@ module _ {K V : Type 0} where
       ∙ ap (λ cs. weave cs (own_pairs l ++ s ∷ own_pairs r)) (sym (map-append pairs_of (children_of l) (children_of r)))
 
   -- all pairs, around a child
-  pub around_one : (n c : Node K V) (A D : List (Node K V)) (P Q : List (K × V)) → children_of n ≡ A ++ c ∷ D → own_pairs n ≡ P ++ Q → length A ≡ length P
+  pub around_one : (n c : Node K V Z) (A D : List (Node K V Z)) (P Q : List (K × V)) → children_of n ≡ A ++ c ∷ D → own_pairs n ≡ P ++ Q → length A ≡ length P
       → pairs_of n ≡ before_list (map pairs_of A) P ++ (pairs_of c ++ after_list Q (map pairs_of D))
   around_one n c A D P Q e f h =
       pairs_is n ∙ ap (λ cs. weave (map pairs_of cs) (own_pairs n)) e ∙ ap (λ ps. weave (map pairs_of (A ++ c ∷ D)) ps) f
@@ -80,13 +80,13 @@ module _ {K V : Type 0} where
       ∙ weave_at (map pairs_of A) (pairs_of c) (map pairs_of D) P Q (length-map A pairs_of ∙ h)
 
   -- all pairs, around two children and the pair between them
-  pub around_two : (n l r : Node K V) (s : K × V) (A D : List (Node K V)) (P Q : List (K × V)) → children_of n ≡ A ++ l ∷ r ∷ D → own_pairs n ≡ P ++ s ∷ Q
+  pub around_two : (n l r : Node K V Z) (s : K × V) (A D : List (Node K V Z)) (P Q : List (K × V)) → children_of n ≡ A ++ l ∷ r ∷ D → own_pairs n ≡ P ++ s ∷ Q
       → length A ≡ length P
       → pairs_of n ≡ before_list (map pairs_of A) P ++ ((pairs_of l ++ s ∷ pairs_of r) ++ after_list Q (map pairs_of D))
   around_two n l r s A D P Q e f h =
       around_one n l A (r ∷ D) P (s ∷ Q) e f h ∙ ap (λ ps. before_list (map pairs_of A) P ++ ps) (sym (append_assoc (pairs_of l) (s ∷ pairs_of r) _))
 
-  pub whole_level : (k : ℕ) (l r w : Node K V) → IsLevelled k l → IsLevelled k r → children_of w ≡ children_of l ++ children_of r → AreAlike l w
+  pub whole_level : (k : ℕ) (l r w : Node K V Z) → IsLevelled k l → IsLevelled k r → children_of w ≡ children_of l ++ children_of r → AreAlike l w
       → length (own_pairs w) ≤ capacity → IsLevelled k w
   whole_level zero l r w a b e (inl x) h = (h, x.1)
   whole_level zero l r w a b e (inr x) h = absurd (leaf_or_inner l a.1 x.0)
@@ -98,7 +98,7 @@ module _ {K V : Type 0} where
         (all_both (IsBelow k) (children_of l) (children_of r) a.2 b.2),
   )
 
-  pub both_levels : (k : ℕ) (l r l' r' : Node K V) → IsLevelled k l → IsLevelled k r → children_of l' ++ children_of r' ≡ children_of l ++ children_of r
+  pub both_levels : (k : ℕ) (l r l' r' : Node K V Z) → IsLevelled k l → IsLevelled k r → children_of l' ++ children_of r' ≡ children_of l ++ children_of r
       → AreAlike l l' → AreAlike l' r'
       → length (own_pairs l') ≤ capacity → length (own_pairs r') ≤ capacity → IsLevelled k l' × IsLevelled k r'
   both_levels k l r l' r' a b e (inl x) (inr y) h₁ h₂ = absurd (leaf_or_inner l' x.1 y.0)
@@ -110,11 +110,11 @@ module _ {K V : Type 0} where
       let all = subst (AllByRecursion (IsBelow k)) (sym e) (all_both (IsBelow k) (children_of l) (children_of r) a.2 b.2) in
       ((h₁, y.0, all_front (IsBelow k) (children_of l') (children_of r') all), (h₂, y.1, all_back (IsBelow k) (children_of l') (children_of r') all))
 
-  module _ (old : Node K V) (i : ℕ) (inner : IsInner old) (h : i < length (own_pairs old)) where
-    abbrev L : Node K V
+  module _ (old : Node K V Z) (i : ℕ) (inner : IsInner old) (h : i < length (own_pairs old)) where
+    abbrev L : Node K V Z
     L = child_at old i
 
-    abbrev R : Node K V
+    abbrev R : Node K V Z
     R = child_at old (i + 1)
 
     lengths : length (take i (children_of old)) ≡ length (take i (own_pairs old))
@@ -132,7 +132,7 @@ module _ {K V : Type 0} where
         (map pairs_of (drop (suc (suc i)) (children_of old))))
     old_pairs d = around_two old L R (get_or (own_pairs old) i d) _ _ _ _ (two_at (children_of old) i old next) (one_at (own_pairs old) i d h) lengths
 
-    pub shared_pairs : (n : ℕ) (new : Node K V) → AreAlike L R → IsShared i n old new → pairs_of new ≡ pairs_of old
+    pub shared_pairs : (n : ℕ) (new : Node K V Z) → AreAlike L R → IsShared i n old new → pairs_of new ≡ pairs_of old
     shared_pairs n new alike s =
         let e = joined_pairs s.left s.right s.between s.alike ∙ ap (λ cs. weave (map pairs_of cs) (own_pairs s.left ++ s.between ∷ own_pairs s.right)) s.below
         ∙ ap (λ ps. weave (map pairs_of (children_of L ++ children_of R)) ps) (s.own s.between)
@@ -143,7 +143,7 @@ module _ {K V : Type 0} where
         ++ (ps ++ after_list (drop (suc i) (own_pairs old)) (map pairs_of (drop (suc (suc i)) (children_of old))))) e
         ∙ sym (old_pairs s.between)
 
-    pub merged_pairs : (new : Node K V) (d : K × V) → AreAlike L R → IsMerged i old new → pairs_of new ≡ pairs_of old
+    pub merged_pairs : (new : Node K V Z) (d : K × V) → AreAlike L R → IsMerged i old new → pairs_of new ≡ pairs_of old
     merged_pairs new d alike s =
         let e = pairs_is s.whole ∙ ap (λ cs. weave (map pairs_of cs) (own_pairs s.whole)) s.below
         ∙ ap (λ ps. weave (map pairs_of (children_of L ++ children_of R)) ps) (s.own d) ∙ sym (joined_pairs L R (get_or (own_pairs old) i d) alike) in
@@ -152,7 +152,7 @@ module _ {K V : Type 0} where
         ++ (ps ++ after_list (drop (suc i) (own_pairs old)) (map pairs_of (drop (suc (suc i)) (children_of old))))) e
         ∙ sym (old_pairs d)
 
-    pub shared_inner : (n : ℕ) (new : Node K V) → IsShared i n old new → IsInner new
+    pub shared_inner : (n : ℕ) (new : Node K V Z) → IsShared i n old new → IsInner new
     shared_inner n new s =
         let a : length (own_pairs new) ≡ length (own_pairs old) = ap length s.pairs ∙ length_set (own_pairs old) i s.between in
         let b : length (children_of new) ≡ length (children_of old) = ap length s.children ∙ length_set (slice_set (children_of old) i s.left) (i + 1) s.right
@@ -160,7 +160,7 @@ module _ {K V : Type 0} where
         let n : length (children_of old) ≡ length (own_pairs old) + 1 = inner in
         omega arith
 
-    pub merged_inner : (new : Node K V) → IsMerged i old new → IsInner new
+    pub merged_inner : (new : Node K V Z) → IsMerged i old new → IsInner new
     merged_inner new s =
         let a : length (own_pairs new) + 1 ≡ length (own_pairs old) = ap (λ ps. length ps + 1) s.pairs ∙ length-remove (own_pairs old) i h in
         let b₀ : length (children_of new) ≡ length (remove (children_of old) (i + 1)) = ap length s.children
@@ -174,7 +174,8 @@ module _ {K V : Type 0} where
     OthersBelow k = AllByRecursion (IsBelow k) (take i (children_of old)) × AllByRecursion (IsBelow k) (drop (suc (suc i)) (children_of old))
 
     -- the node is levelled once both of the two have as many pairs as a node below the root
-    pub shared_levels : (k n : ℕ) (new : Node K V) → length (own_pairs old) ≤ capacity → OthersBelow k → IsLevelled k L → IsLevelled k R → IsShared i n old new
+    pub shared_levels : (k n : ℕ) (new : Node K V Z) → length (own_pairs old) ≤ capacity → OthersBelow k → IsLevelled k L → IsLevelled k R
+        → IsShared i n old new
         → min_len ≤ n → n ≤ capacity → n + min_len ≤ length (own_pairs L) + length (own_pairs R) → length (own_pairs L) + length (own_pairs R) ≤ n + capacity
         → IsLevelled (suc k) new
     shared_levels k n new fits others l r s m₁ m₂ m₃ m₄ =
@@ -191,7 +192,7 @@ module _ {K V : Type 0} where
               (all_both (IsBelow k) (take i (children_of old)) _ others.0 ((omega arith, c.0), ((omega arith, c.1), others.1))),
         )
 
-    pub merged_levels : (k : ℕ) (new : Node K V) (d : K × V) → length (own_pairs old) ≤ capacity → OthersBelow k → IsLevelled k L → IsLevelled k R
+    pub merged_levels : (k : ℕ) (new : Node K V Z) (d : K × V) → length (own_pairs old) ≤ capacity → OthersBelow k → IsLevelled k L → IsLevelled k R
         → IsMerged i old new
         → min_len ≤ length (own_pairs L) + length (own_pairs R) + 1 → length (own_pairs L) + length (own_pairs R) + 1 ≤ capacity → IsLevelled (suc k) new
     merged_levels k new d fits others l r s m₁ m₂ =

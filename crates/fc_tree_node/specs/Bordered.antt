@@ -17,13 +17,13 @@ module _ {X : Type 0} (P Q : X → Type 0) where
   LastAfter (x ∷ []) = P x
   LastAfter (x ∷ y ∷ ys) = Q x × LastAfter (y ∷ ys)
 
-module _ {K V : Type 0} where
+module _ {K V Z : Type 0} where
   -- The node is as a sound one with its leaves h levels down, but that the nodes on its leftmost path may hold fewer pairs, none too.
-  abbrev pub IsLeftBordered : ℕ → Node K V → Type 0
+  abbrev pub IsLeftBordered : ℕ → Node K V Z → Type 0
   IsLeftBordered zero n = (length (own_pairs n) ≤ capacity) × IsLeaf n
   IsLeftBordered (suc h) n = (length (own_pairs n) ≤ capacity) × IsInner n × FirstThen (IsLeftBordered h) (IsSound h) (children_of n)
 
   -- The node is as a sound one with its leaves h levels down, but that the nodes on its rightmost path may hold fewer pairs, none too.
-  abbrev pub IsRightBordered : ℕ → Node K V → Type 0
+  abbrev pub IsRightBordered : ℕ → Node K V Z → Type 0
   IsRightBordered zero n = (length (own_pairs n) ≤ capacity) × IsLeaf n
   IsRightBordered (suc h) n = (length (own_pairs n) ≤ capacity) × IsInner n × LastAfter (IsRightBordered h) (IsSound h) (children_of n)

@@ -11,7 +11,7 @@ ghost use Rattle.std.specs.Prelude.{◌≡◌, ◌+◌, ◌<◌, ◌≤◌, [], 
 ghost use Rattle.fc_base.specs.Sizes.{capacity, most_children};
 ghost use Rattle.fc_tree_node.specs.Node.{own_pairs, children_of, child_at, IsLeaf, IsBlankLeaf, IsBlankInner};
 
-use fc_base::TryReserveError;
+use fc_base::{Handle, TryReserveError};
 use fc_tree_slots::children::Children;
 use fc_tree_slots::slots::Slots;
 use std::alloc::Global;
@@ -31,19 +31,19 @@ pub const MIN_LEN: usize = 7;
 
 /// A node: at most `CAPACITY` pairs, and in an inner node one child more than pairs. A leaf has no room for children.
 #[derive(Drop)]
-pub struct Node<K, V> {
+pub struct Node<K, V, A: Handle = Global> {
     /// The pairs of the node itself, in order.
-    pub pairs: Slots<(K, V), CAPACITY>,
+    pub pairs: Slots<(K, V), CAPACITY, A>,
     /// The children, in order; a leaf has no room for them.
-    pub children: Option<Children<Node<K, V>>>,
+    pub children: Option<Children<Node<K, V, A>, A>>,
 }
 
-impl<K: Drop, V: Drop> Node<K, V> {
+impl<K: Drop, V: Drop, A: Handle> Node<K, V, A> {
     /// A leaf that holds nothing, made in one request, for its pairs.
     ///
     /// # Errors
     /// `AllocError` if it is refused.
-    pub fn try_leaf(alloc: Global) -> Result<Node<K, V>, TryReserveError>
+    pub fn try_leaf(alloc: A) -> Result<Node<K, V, A>, TryReserveError>
         ensures ok { IfOk result (λ b. IsBlankLeaf b) }
         ensures error { IfErr result (λ e. e ≡ TryReserveError.AllocError) }
     {
@@ -58,7 +58,7 @@ impl<K: Drop, V: Drop> Node<K, V> {
     ///
     /// # Errors
     /// `AllocError` if one is refused. Nothing is then left after.
-    pub fn try_inner(alloc: Global) -> Result<Node<K, V>, TryReserveError>
+    pub fn try_inner(alloc: A) -> Result<Node<K, V, A>, TryReserveError>
         ensures ok { IfOk result (λ b. IsBlankInner b) }
         ensures error { IfErr result (λ e. e ≡ TryReserveError.AllocError) }
     {
@@ -71,7 +71,7 @@ impl<K: Drop, V: Drop> Node<K, V> {
     }
 }
 
-impl<K, V> Node<K, V> {
+impl<K, V, A: Handle> Node<K, V, A> {
     /// How many pairs the node holds itself.
     pub fn len(&self) -> usize
         ensures value { result ≡ length (own_pairs self.now) }
@@ -114,7 +114,7 @@ impl<K, V> Node<K, V> {
     }
 
     /// The child at `index`.
-    pub fn child(&self, index: usize) -> &Node<K, V>
+    pub fn child(&self, index: usize) -> &Node<K, V, A>
         requires { index < length (children_of self.now) }
         ensures { result.now ≡ child_at self.now index }
     {

@@ -9,9 +9,9 @@ use Rattle.fc_tree_node.specs.Tree.{IsSoundMap}
 use Rattle.fc_tree_node.proofs.DepthFacts.{deep_root}
 use Rattle.fc_tree_node.proofs.Gaps.{place_pairs}
 
-module _ {K V : Type 0} where
+module _ {K V Z : Type 0} where
   -- What the exchange leaves, and what it costs.
-  pub record IsExchanged (root new : Node K V) (path : List ℕ) (pair old : K × V) (start stop : Count) : Type 0 where
+  pub record IsExchanged (root new : Node K V Z) (path : List ℕ) (pair old : K × V) (start stop : Count) : Type 0 where
     pub old_is : place_pair path root ≡ Some old
     pub pairs_is : pairs_of new ≡ before_pair path root ++ pair ∷ after_pair path root
     pub length_is : length (pairs_of new) ≡ length (pairs_of root)
@@ -20,7 +20,7 @@ module _ {K V : Type 0} where
     pub moves : HasFewMoves (length (pairs_of new)) start stop
 
   -- The path is read as a slice.
-  pub exchanged : (root new : Node K V) (path slice : List ℕ) (pair old : K × V) (start stop : Count) → slice ≡ path → IsSoundMap (Some root)
+  pub exchanged : (root new : Node K V Z) (path slice : List ℕ) (pair old : K × V) (start stop : Count) → slice ≡ path → IsSoundMap (Some root)
       → IsPlace path root → place_pair slice root ≡ Some old → pairs_of new ≡ before_pair slice root ++ pair ∷ after_pair slice root
       → length (own_pairs new) ≡ length (own_pairs root) → ((h : ℕ) → IsLevelled h root → IsLevelled h new)
       → stop.moves ≡ start.moves + 2 → IsExchanged root new path pair old start stop

@@ -45,24 +45,24 @@ module _ {X : Type 0} where
   pub get_there : (xs : List X) (i : ℕ) (x : X) → i < length xs → x ≡ get_or xs i x → slice_get xs i ≡ Some x
   get_there xs i x h e = let t = item_there xs i h in t.2 ∙ ap Some (sym (t.1 x) ∙ sym e)
 
-module _ {K V : Type 0} where
+module _ {K V Z : Type 0} where
   -- a node with children lies above the leaves
-  pub record IsAbove (h : ℕ) (n : Node K V) : Type 0 where
+  pub record IsAbove (h : ℕ) (n : Node K V Z) : Type 0 where
     pub below : ℕ
     pub height : h ≡ suc below
     pub levels : IsLevelled (suc below) n
     pub inner : IsInner n
 
-  pub some_above : (h : ℕ) (n : Node K V) (cs : List (Node K V)) → (out-Node K V n).children ≡ Some cs → IsLevelled h n → IsAbove h n
+  pub some_above : (h : ℕ) (n : Node K V Z) (cs : List (Node K V Z)) → (out-Node K V Z n).children ≡ Some cs → IsLevelled h n → IsAbove h n
   some_above zero n cs e l = absurd (let f = sym e ∙ l.1 in cc)
   some_above (suc h) n cs e l = record { below = h; height = refl; levels = l; inner = l.1 }
 
   -- the child that is read from the list that a node has
-  pub opened_child : (n : Node K V) (cs : List (Node K V)) (i : ℕ) (c : Node K V) → (out-Node K V n).children ≡ Some cs → IsInner n
+  pub opened_child : (n : Node K V Z) (cs : List (Node K V Z)) (i : ℕ) (c : Node K V Z) → (out-Node K V Z n).children ≡ Some cs → IsInner n
       → i ≤ length (own_pairs n) → c ≡ get_or cs i c → c ≡ child_at n i
   opened_child n cs i c e inner h q = let k = inner_length n cs e inner in listed_child n i cs e i c (omega arith) q
 
-  pub none_leaf : (h : ℕ) (n : Node K V) → IsLeaf n → IsLevelled h n → h ≡ 0
+  pub none_leaf : (h : ℕ) (n : Node K V Z) → IsLeaf n → IsLevelled h n → h ≡ 0
   none_leaf zero n e l = refl
   none_leaf (suc h) n e l =
       let k : length (children_of n) ≡ length (own_pairs n) + 1 = l.1 in
@@ -70,11 +70,11 @@ module _ {K V : Type 0} where
       absurd (omega arith)
 
   -- a node that was opened holds what it held
-  pub opened_length : (n : Node K V)
-      → length (own_pairs (roll-Node K V (record { pairs = own_pairs n; children = (out-Node K V n).children }))) ≡ length (own_pairs n)
+  pub opened_length : (n : Node K V Z)
+      → length (own_pairs (roll-Node K V Z (record { pairs = own_pairs n; children = (out-Node K V Z n).children }))) ≡ length (own_pairs n)
   opened_length n = ap length (own_made _)
 
-  pub leaf_shrunk : (h : ℕ) (old new : Node K V) (i : ℕ) → IsLeaf old → IsLevelled h old → i < length (own_pairs old)
+  pub leaf_shrunk : (h : ℕ) (old new : Node K V Z) (i : ℕ) → IsLeaf old → IsLevelled h old → i < length (own_pairs old)
       → own_pairs new ≡ remove (own_pairs old) i → IsLeaf new → IsShrunk h old new
   leaf_shrunk h old new i e l lt f e' =
       let z = none_leaf h old e l in
@@ -84,7 +84,7 @@ module _ {K V : Type 0} where
       subst (λ k. IsShrunk k old new) (sym z) ((omega arith, e'), (omega arith, omega arith))
 
   -- a child that was lent out of the list of a node above the leaves
-  pub record IsLent (h : ℕ) (n child : Node K V) (i : ℕ) : Type 0 where
+  pub record IsLent (h : ℕ) (n child : Node K V Z) (i : ℕ) : Type 0 where
     pub below : ℕ
     pub height : h ≡ suc below
     pub levels : IsLevelled (suc below) n
@@ -94,7 +94,7 @@ module _ {K V : Type 0} where
     pub whole : IsSound below child
     pub sound : IsSoundRoot below child
 
-  pub lent : (h : ℕ) (n child : Node K V) (cs : List (Node K V)) (i : ℕ) → (out-Node K V n).children ≡ Some cs → IsLevelled h n
+  pub lent : (h : ℕ) (n child : Node K V Z) (cs : List (Node K V Z)) (i : ℕ) → (out-Node K V Z n).children ≡ Some cs → IsLevelled h n
       → i ≤ length (own_pairs n) → child ≡ get_or cs i child → IsLent h n child i
   lent h n child cs i e l le q =
       let a = some_above h n cs e l in
@@ -111,9 +111,9 @@ module _ {K V : Type 0} where
         sound = (omega arith, whole.1);
       }
 
-  module _ {h : ℕ} {old child : Node K V} {i : ℕ} (l : IsLent h old child i) where
+  module _ {h : ℕ} {old child : Node K V Z} {i : ℕ} (l : IsLent h old child i) where
     -- it came back as c, and is short at most if it has lost a pair
-    came_short : (mid c : Node K V) → 1 ≤ length (own_pairs old) → length (own_pairs mid) ≡ length (own_pairs old)
+    came_short : (mid c : Node K V Z) → 1 ≤ length (own_pairs old) → length (own_pairs mid) ≡ length (own_pairs old)
         → children_of mid ≡ slice_set (children_of old) i c → IsShrunk l.below child c → IsShortAt l.below mid i
     came_short mid c some same f s =
         let cs = children_of old in
@@ -140,13 +140,13 @@ module _ {K V : Type 0} where
         }
 
     -- the node that had it was mended
-    came_mended : (mid new : Node K V) → length (own_pairs mid) ≡ length (own_pairs old) → IsShrunk (suc l.below) mid new → IsShrunk h old new
+    came_mended : (mid new : Node K V Z) → length (own_pairs mid) ≡ length (own_pairs old) → IsShrunk (suc l.below) mid new → IsShrunk h old new
     came_mended mid new same s =
         let a = s.1.0 in let b = s.1.1 in
         subst (λ k. IsShrunk k old new) (sym l.height) (s.0, (omega arith, omega arith))
 
     -- a child that was not short leaves the node as it is: so where the node lost a pair, the child that came back did too, and is short
-    came_lost : (mid new c : Node K V) → length (own_pairs mid) ≡ length (own_pairs old) → children_of mid ≡ slice_set (children_of old) i c
+    came_lost : (mid new c : Node K V Z) → length (own_pairs mid) ≡ length (own_pairs old) → children_of mid ≡ slice_set (children_of old) i c
         → (min_len ≤ length (own_pairs (child_at mid i)) → new ≡ mid) → length (own_pairs new) < length (own_pairs old)
         → (length (own_pairs c) < length (own_pairs child)) × (length (own_pairs (child_at mid i)) < min_len)
     came_lost mid new c same f stays lost = found (cases_lt (length (own_pairs (child_at mid i))) min_len)
@@ -162,20 +162,20 @@ module _ {K V : Type 0} where
             (omega arith, short)
         found (inr whole) = absurd (let e = ap (λ n. length (own_pairs n)) (stays whole) in omega arith)
 
-    pub lent_lost : {mid c : Node K V} (new : Node K V) → IsChildSet old mid i c → (min_len ≤ length (own_pairs (child_at mid i)) → new ≡ mid)
+    pub lent_lost : {mid c : Node K V Z} (new : Node K V Z) → IsChildSet old mid i c → (min_len ≤ length (own_pairs (child_at mid i)) → new ≡ mid)
         → length (own_pairs new) < length (own_pairs old)
         → (length (own_pairs c) < length (own_pairs child)) × (length (own_pairs (child_at mid i)) < min_len)
     lent_lost new m stays lost = came_lost _ new _ (ap length m.same) m.child stays lost
 
-    pub lent_short : {mid c : Node K V} → 1 ≤ length (own_pairs old) → IsChildSet old mid i c → IsShrunk l.below child c → IsShortAt l.below mid i
+    pub lent_short : {mid c : Node K V Z} → 1 ≤ length (own_pairs old) → IsChildSet old mid i c → IsShrunk l.below child c → IsShortAt l.below mid i
     lent_short some m s = came_short _ _ some (ap length m.same) m.child s
 
-    pub lent_mended : {mid c : Node K V} (new : Node K V) → 1 ≤ length (own_pairs old) → IsChildSet old mid i c → IsShrunk l.below child c
+    pub lent_mended : {mid c : Node K V Z} (new : Node K V Z) → 1 ≤ length (own_pairs old) → IsChildSet old mid i c → IsShrunk l.below child c
         → (IsShortAt l.below mid i → IsShrunk (suc l.below) mid new) → IsShrunk h old new
     lent_mended new some m s f = came_mended _ new (ap length m.same) (f (lent_short some m s))
 
   -- the pairs of a node with another child
-  pub set_gap : (old mid c : Node K V) (i : ℕ) → IsInner old → i ≤ length (own_pairs old) → IsChildSet old mid i c
+  pub set_gap : (old mid c : Node K V Z) (i : ℕ) → IsInner old → i ≤ length (own_pairs old) → IsChildSet old mid i c
       → pairs_of mid ≡ before_child old i ++ (pairs_of c ++ after_child old i)
   set_gap old mid c i inner le m =
       let k : length (children_of old) ≡ length (own_pairs old) + 1 = inner in
@@ -183,13 +183,13 @@ module _ {K V : Type 0} where
       (m.child ∙ set_is (children_of old) i c (omega arith)) (m.same ∙ sym (take_drop i (own_pairs old)))
       (length_take i (children_of old) (omega arith) ∙ sym (length_take i (own_pairs old) le))
 
-  pub first_removed : (old mid child c : Node K V) (x : K × V) → IsInner old → IsChildSet old mid 0 c → child ≡ child_at old 0
+  pub first_removed : (old mid child c : Node K V Z) (x : K × V) → IsInner old → IsChildSet old mid 0 c → child ≡ child_at old 0
       → pairs_of child ≡ x ∷ pairs_of c → pairs_of old ≡ x ∷ pairs_of mid
   first_removed old mid child c x inner m ci e =
       inner_gap old 0 inner (omega arith) ∙ ap (λ n. pairs_of n ++ after_child old 0) (sym ci) ∙ ap (λ zs. zs ++ after_child old 0) e
       ∙ ap (λ zs. x ∷ zs) (sym (set_gap old mid c 0 inner (omega arith) m))
 
-  pub last_removed : (old mid child c : Node K V) (i : ℕ) (x : K × V) → i ≡ length (own_pairs old) → IsInner old → IsChildSet old mid i c
+  pub last_removed : (old mid child c : Node K V Z) (i : ℕ) (x : K × V) → i ≡ length (own_pairs old) → IsInner old → IsChildSet old mid i c
       → child ≡ child_at old i → pairs_of child ≡ pairs_of c ++ x ∷ [] → pairs_of old ≡ pairs_of mid ++ x ∷ []
   last_removed old mid child c i x end inner m ci e =
       let lead = before_child old i in
@@ -200,12 +200,12 @@ module _ {K V : Type 0} where
       ∙ ap (λ zs. zs ++ x ∷ []) (sym (set_gap old mid c i inner (omega arith) m ∙ ap (λ r. lead ++ (pairs_of c ++ r)) none
       ∙ ap (λ zs. lead ++ zs) (append-nil (pairs_of c))))
 
-  pub last_taken : (old new : Node K V) (i : ℕ) (x : K × V) → IsLeaf old → IsLeaf new → i + 1 ≡ length (own_pairs old) → x ≡ get_or (own_pairs old) i x
+  pub last_taken : (old new : Node K V Z) (i : ℕ) (x : K × V) → IsLeaf old → IsLeaf new → i + 1 ≡ length (own_pairs old) → x ≡ get_or (own_pairs old) i x
       → own_pairs new ≡ remove (own_pairs old) i → pairs_of old ≡ pairs_of new ++ x ∷ []
   last_taken old new i x l l' end e f = leaf_pairs old l ∙ last_out (own_pairs old) i x end e ∙ ap (λ ps. ps ++ x ∷ []) (sym (leaf_pairs new l' ∙ f))
 
   -- the last child holds fewer pairs than the node
-  pub fewer_last : (h : ℕ) (n child : Node K V) (i : ℕ) → IsLevelled (suc h) n → 1 ≤ length (own_pairs n) → i ≡ length (own_pairs n) → child ≡ child_at n i
+  pub fewer_last : (h : ℕ) (n child : Node K V Z) (i : ℕ) → IsLevelled (suc h) n → 1 ≤ length (own_pairs n) → i ≡ length (own_pairs n) → child ≡ child_at n i
       → length (pairs_of child) < length (pairs_of n)
   fewer_last h n child zero l some end ci = absurd (omega arith)
   fewer_last h n child (suc j) l some end ci =
@@ -218,36 +218,36 @@ module _ {K V : Type 0} where
       omega arith
 
   -- the node with another pair of its own at a place and another child after it
-  pub record IsOwnSet (old mid : Node K V) (i : ℕ) (next : K × V) (c : Node K V) : Type 0 where
+  pub record IsOwnSet (old mid : Node K V Z) (i : ℕ) (next : K × V) (c : Node K V Z) : Type 0 where
     pub pairs : own_pairs mid ≡ slice_set (own_pairs old) i next
     pub children : children_of mid ≡ slice_set (children_of old) (i + 1) c
 
-  pub own_set : (old mid new : Node K V) (i : ℕ) (next : K × V) (c : Node K V) → IsChildSet old mid (i + 1) c
+  pub own_set : (old mid new : Node K V Z) (i : ℕ) (next : K × V) (c : Node K V Z) → IsChildSet old mid (i + 1) c
       → own_pairs new ≡ slice_set (own_pairs mid) i next → children_of new ≡ children_of mid → IsOwnSet old new i next c
   own_set old mid new i next c m e f = record {
     pairs = e ∙ ap (λ ps. slice_set ps i next) m.same;
     children = f ∙ m.child;
   }
 
-  own_kept : (old mid c : Node K V) (next : K × V) (i : ℕ) → IsOwnSet old mid i next c → length (own_pairs mid) ≡ length (own_pairs old)
+  own_kept : (old mid c : Node K V Z) (next : K × V) (i : ℕ) → IsOwnSet old mid i next c → length (own_pairs mid) ≡ length (own_pairs old)
   own_kept old mid c next i m = ap length m.pairs ∙ length_set (own_pairs old) i next
 
-  module _ {h : ℕ} {old child : Node K V} {i : ℕ} (l : IsLent h old child (i + 1)) where
-    pub own_short : {mid c : Node K V} {next : K × V} → 1 ≤ length (own_pairs old) → IsOwnSet old mid i next c → IsShrunk l.below child c
+  module _ {h : ℕ} {old child : Node K V Z} {i : ℕ} (l : IsLent h old child (i + 1)) where
+    pub own_short : {mid c : Node K V Z} {next : K × V} → 1 ≤ length (own_pairs old) → IsOwnSet old mid i next c → IsShrunk l.below child c
         → IsShortAt l.below mid (i + 1)
     own_short some m s = came_short l _ _ some (own_kept _ _ _ _ _ m) m.children s
 
-    pub own_lost : {mid c : Node K V} {next : K × V} (new : Node K V) → IsOwnSet old mid i next c
+    pub own_lost : {mid c : Node K V Z} {next : K × V} (new : Node K V Z) → IsOwnSet old mid i next c
         → (min_len ≤ length (own_pairs (child_at mid (i + 1))) → new ≡ mid) → length (own_pairs new) < length (own_pairs old)
         → (length (own_pairs c) < length (own_pairs child)) × (length (own_pairs (child_at mid (i + 1))) < min_len)
     own_lost new m stays lost = came_lost l _ new _ (own_kept _ _ _ _ _ m) m.children stays lost
 
-    pub own_mended : {mid c : Node K V} {next : K × V} (new : Node K V) → 1 ≤ length (own_pairs old) → IsOwnSet old mid i next c
+    pub own_mended : {mid c : Node K V Z} {next : K × V} (new : Node K V Z) → 1 ≤ length (own_pairs old) → IsOwnSet old mid i next c
         → IsShrunk l.below child c → (IsShortAt l.below mid (i + 1) → IsShrunk (suc l.below) mid new) → IsShrunk h old new
     own_mended new some m s f = came_mended l _ new (own_kept _ _ _ _ _ m) (f (own_short some m s))
 
   -- the pairs of a node of which the first pair after one of its own has taken that one's place
-  pub own_replaced : {h : ℕ} (old mid child c : Node K V) (next : K × V) (i : ℕ) → IsLent h old child (i + 1) → IsOwnSet old mid i next c
+  pub own_replaced : {h : ℕ} (old mid child c : Node K V Z) (next : K × V) (i : ℕ) → IsLent h old child (i + 1) → IsOwnSet old mid i next c
       → pairs_of child ≡ next ∷ pairs_of c → pairs_of mid ≡ before_own old i ++ after_own old i
   own_replaced old mid child c next i l m q =
       let le = l.place in
@@ -267,26 +267,26 @@ module _ {K V : Type 0} where
       (ap (λ zs. weave (zs ∷ map pairs_of ds) qs) (sym q ∙ ap pairs_of next_is)
       ∙ ap (λ zs. weave (map pairs_of zs) qs) (sym (drop_item (children_of old) (suc i) old (omega arith))))
 
-module _ {K V : Type 0} where
-  pub empty_leaf : (root : Node K V) → IsLeaf root → length (own_pairs root) ≡ 0 → pairs_of root ≡ []
+module _ {K V Z : Type 0} where
+  pub empty_leaf : (root : Node K V Z) → IsLeaf root → length (own_pairs root) ≡ 0 → pairs_of root ≡ []
   empty_leaf root l e = leaf_pairs root l ∙ no_pairs (own_pairs root) e
 
   -- the only child of a root without pairs
-  pub only_child : (root : Node K V) (cs : List (Node K V)) (c : Node K V) → (out-Node K V root).children ≡ Some cs → IsInner root
+  pub only_child : (root : Node K V Z) (cs : List (Node K V Z)) (c : Node K V Z) → (out-Node K V Z root).children ≡ Some cs → IsInner root
       → length (own_pairs root) ≡ 0 → c ≡ get_or cs 0 c → children_of root ≡ c ∷ []
   only_child root cs c e inner h f = children_in root cs e ∙ single cs c (inner_length root cs e inner ∙ ap (λ k. k + 1) h) f
     where
-      single : (cs : List (Node K V)) (c : Node K V) → length cs ≡ 1 → c ≡ get_or cs 0 c → cs ≡ c ∷ []
+      single : (cs : List (Node K V Z)) (c : Node K V Z) → length cs ≡ 1 → c ≡ get_or cs 0 c → cs ≡ c ∷ []
       single [] c e f = absurd (omega arith)
       single (d ∷ []) c e f = ap (λ x. x ∷ []) (sym f)
       single (d ∷ x ∷ cs) c e f = absurd (omega arith)
 
-  pub only_pairs : (root c : Node K V) → length (own_pairs root) ≡ 0 → children_of root ≡ c ∷ [] → pairs_of c ≡ pairs_of root
+  pub only_pairs : (root c : Node K V Z) → length (own_pairs root) ≡ 0 → children_of root ≡ c ∷ [] → pairs_of c ≡ pairs_of root
   only_pairs root c h e =
       sym (pairs_is root ∙ ap (λ ps. weave (map pairs_of (children_of root)) ps) (no_pairs (own_pairs root) h) ∙ ap (λ cs. weave (map pairs_of cs) []) e
       ∙ append-nil (pairs_of c))
 
-  pub one_lower : (h : ℕ) (root c : Node K V) (cs : List (Node K V)) → (out-Node K V root).children ≡ Some cs → children_of root ≡ c ∷ []
+  pub one_lower : (h : ℕ) (root c : Node K V Z) (cs : List (Node K V Z)) → (out-Node K V Z root).children ≡ Some cs → children_of root ≡ c ∷ []
       → IsLevelled h root → IsSoundRoot h c ⊎ ((0 < h) × IsSoundRoot (h - 1) c)
   one_lower zero root c cs e f l = absurd (let q = sym e ∙ l.1 in cc)
   one_lower (suc h) root c cs e f l =
@@ -296,7 +296,7 @@ module _ {K V : Type 0} where
       inr (omega arith, subst (λ m. IsSoundRoot m c) k (omega arith, a.1))
 
 -- a place of two or more steps, as its first step and the rest
-pub record IsPlaceStep {K V : Type 0} (p : List ℕ) (n : Node K V) : Type 0 where
+pub record IsPlaceStep {K V Z : Type 0} (p : List ℕ) (n : Node K V Z) : Type 0 where
   pub child : get_or p 0 0 < length (children_of n)
   pub onward : IsPlace (slice_range p 1 (length p)) (child_at n (get_or p 0 0))
   pub pair : place_pair p n ≡ place_pair (slice_range p 1 (length p)) (child_at n (get_or p 0 0))
@@ -309,7 +309,7 @@ take_all [] (suc n) e = refl
 take_all (i ∷ p) zero e = absurd (omega arith)
 take_all (i ∷ p) (suc n) e = ap (λ q. i ∷ q) (take_all p n (omega arith))
 
-pub place_step : {K V : Type 0} (p : List ℕ) (n : Node K V) → (length p ≡ 1 → ⊥) → IsPlace p n → IsPlaceStep p n
+pub place_step : {K V Z : Type 0} (p : List ℕ) (n : Node K V Z) → (length p ≡ 1 → ⊥) → IsPlace p n → IsPlaceStep p n
 place_step [] n h w = absurd w
 place_step (i ∷ []) n h w = absurd (h refl)
 place_step (i ∷ j ∷ p) n h w =
@@ -322,9 +322,10 @@ place_step (i ∷ j ∷ p) n h w =
       after = ap (λ q. after_pair q (child_at n i) ++ after_child n i) e;
     }
 
-module _ {K V : Type 0} where
+module _ {K V Z : Type 0} where
   -- the child on the way to a pair
-  pub lent_onward : (h : ℕ) (p : List ℕ) (n child : Node K V) (cs : List (Node K V)) → IsPlaceStep p n → (out-Node K V n).children ≡ Some cs → IsLevelled h n
+  pub lent_onward : (h : ℕ) (p : List ℕ) (n child : Node K V Z) (cs : List (Node K V Z)) → IsPlaceStep p n → (out-Node K V Z n).children ≡ Some cs
+      → IsLevelled h n
       → child ≡ get_or cs (get_or p 0 0) child → IsLent h n child (get_or p 0 0)
   lent_onward h p n child cs s e l q =
       let k : length (children_of n) ≡ length (own_pairs n) + 1 = (some_above h n cs e l).inner in
@@ -332,7 +333,7 @@ module _ {K V : Type 0} where
       lent h n child cs _ e l (omega arith) q
 
   -- a pair was removed below a child
-  pub below_removed : (p : List ℕ) (old mid child c : Node K V) → IsPlaceStep p old → IsInner old → IsChildSet old mid (get_or p 0 0) c
+  pub below_removed : (p : List ℕ) (old mid child c : Node K V Z) → IsPlaceStep p old → IsInner old → IsChildSet old mid (get_or p 0 0) c
       → child ≡ child_at old (get_or p 0 0)
       → pairs_of c ≡ before_pair (slice_range p 1 (length p)) child ++ after_pair (slice_range p 1 (length p)) child
       → pairs_of mid ≡ before_pair p old ++ after_pair p old

@@ -14,12 +14,12 @@ least_mending = min_len + 1
 abbrev pub fewest_moves : ℕ → ℕ
 fewest_moves h = 1 + least_mending * h
 
-module _ {K V : Type 0} where
+module _ {K V Z : Type 0} where
   -- How many pairs the root holds itself, if there is one.
-  abbrev pub root_len : Map K V → ℕ
+  abbrev pub root_len : Map K V Z → ℕ
   root_len None = 0
   root_len (Some root) = length (own_pairs root)
 
   -- Where the root holds another number of pairs after a removal, or gave way to its only child, a node of each level below it was mended.
-  abbrev pub HasFewestMoves : Map K V → Map K V → Count → Count → Type 0
+  abbrev pub HasFewestMoves : Map K V Z → Map K V Z → Count → Count → Type 0
   HasFewestMoves before after old new = (h : ℕ) → IsSoundTree h before → ¬ (root_len after ≡ root_len before) → old.moves + fewest_moves h ≤ new.moves

@@ -4,12 +4,12 @@ use Rattle.fc_tree_node.specs.declared.node.Node.{Node}
 use Rattle.fc_tree_node.specs.Node.{IsSoundRoot}
 use Rattle.fc_tree_node.specs.Tree.{Map}
 
-module _ {K V : Type 0} where
+module _ {K V Z : Type 0} where
   -- The tree is there, and sound at this height.
-  abbrev pub IsSoundTree : ℕ → Map K V → Type 0
+  abbrev pub IsSoundTree : ℕ → Map K V Z → Type 0
   IsSoundTree h None = ⊥
   IsSoundTree h (Some root) = IsSoundRoot h root
 
   -- What a removal leaves of a tree of this height: a sound tree as high or one level lower, or none where a leaf was the whole tree.
-  abbrev pub IsTreeLeft : ℕ → Option (Node K V) → Type 0
+  abbrev pub IsTreeLeft : ℕ → Option (Node K V Z) → Type 0
   IsTreeLeft h tree = MatchOption tree (h ≡ 0) (λ root. IsSoundRoot h root ⊎ ((0 < h) × IsSoundRoot (h - 1) root))

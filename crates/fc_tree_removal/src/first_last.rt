@@ -8,11 +8,14 @@ ghost use Rattle.fc_tree_removal.specs.Removal.{IsSoundTree, IsTreeLeft};
 ghost use Rattle.fc_tree_node.specs.Shrunk.{IsShrunk};
 
 use crate::removal::{mend_child, remove_first, take_empty_root};
-use fc_base::Count;
+use fc_base::{Count, Handle};
 use fc_tree_node::node::Node;
 
 /// Takes the first pair out of the tree, of which nothing is left where that was the only pair. It compares nothing and takes no memory.
-pub fn take_first<K: Drop, V: Drop>(tree: &mut Option<Node<K, V>>, count: &mut Count) -> (K, V)
+pub fn take_first<K: Drop, V: Drop, A: Handle>(
+    tree: &mut Option<Node<K, V, A>>,
+    count: &mut Count,
+) -> (K, V)
     requires { (h : ℕ) × IsSoundTree h tree.old }
     ensures pairs { entries tree.old ≡ result ∷ entries tree.new }
 
@@ -24,7 +27,7 @@ pub fn take_first<K: Drop, V: Drop>(tree: &mut Option<Node<K, V>>, count: &mut C
     ensures comparisons { count.new.comparisons ≡ count.old.comparisons }
 {
     let Some(root) = tree else { unreachable!() };
-    let node: &mut Node<K, V> = root;
+    let node: &mut Node<K, V, A> = root;
     let pair = remove_first(node, count);
     if node.len() > 0 {
         return pair;
@@ -34,7 +37,10 @@ pub fn take_first<K: Drop, V: Drop>(tree: &mut Option<Node<K, V>>, count: &mut C
 }
 
 /// Takes the last pair out of the tree, of which nothing is left where that was the only pair. It compares nothing and takes no memory.
-pub fn take_last<K: Drop, V: Drop>(tree: &mut Option<Node<K, V>>, count: &mut Count) -> (K, V)
+pub fn take_last<K: Drop, V: Drop, A: Handle>(
+    tree: &mut Option<Node<K, V, A>>,
+    count: &mut Count,
+) -> (K, V)
     requires { (h : ℕ) × IsSoundTree h tree.old }
     ensures pairs { entries tree.old ≡ entries tree.new ++ result ∷ [] }
 
@@ -46,7 +52,7 @@ pub fn take_last<K: Drop, V: Drop>(tree: &mut Option<Node<K, V>>, count: &mut Co
     ensures comparisons { count.new.comparisons ≡ count.old.comparisons }
 {
     let Some(root) = tree else { unreachable!() };
-    let node: &mut Node<K, V> = root;
+    let node: &mut Node<K, V, A> = root;
     let pair = remove_last(node, count);
     if node.len() > 0 {
         return pair;
@@ -56,7 +62,10 @@ pub fn take_last<K: Drop, V: Drop>(tree: &mut Option<Node<K, V>>, count: &mut Co
 }
 
 /// Takes the last pair in the node or below it out. The levels below the node stay, and the node itself may lose a pair.
-pub fn remove_last<K: Drop, V: Drop>(node: &mut Node<K, V>, count: &mut Count) -> (K, V)
+pub fn remove_last<K: Drop, V: Drop, A: Handle>(
+    node: &mut Node<K, V, A>,
+    count: &mut Count,
+) -> (K, V)
     requires sound { (h : ℕ) × IsSoundRoot h node.old }
     ensures pairs { pairs_of node.old ≡ pairs_of node.new ++ result ∷ [] }
     ensures levels { (h : ℕ) → IsSoundRoot h node.old → IsShrunk h node.old node.new }
@@ -69,7 +78,7 @@ pub fn remove_last<K: Drop, V: Drop>(node: &mut Node<K, V>, count: &mut Count) -
     let pair = match &mut node.children {
         None => return node.remove_leaf(end - 1, count),
         Some(children) => {
-            let child: &mut Node<K, V> = children.get_mut(end);
+            let child: &mut Node<K, V, A> = children.get_mut(end);
             remove_last(child, count)
         }
     };

@@ -11,13 +11,13 @@ ghost use Rattle.fc_tree_removal.specs.Mending.{together, IsShortAt};
 ghost use Rattle.fc_tree_removal.specs.Removal.{IsSoundTree, IsTreeLeft};
 ghost use Rattle.fc_tree_node.specs.Shrunk.{IsShrunk};
 
-use fc_base::Count;
+use fc_base::{Count, Handle};
 use fc_tree_node::node::{CAPACITY, MIN_LEN, Node};
 
 /// Takes the pair at the place out of the tree, of which nothing is left where that was the only pair. It compares nothing and takes
 /// no memory.
-pub fn remove<K: Drop, V: Drop>(
-    tree: &mut Option<Node<K, V>>,
+pub fn remove<K: Drop, V: Drop, A: Handle>(
+    tree: &mut Option<Node<K, V, A>>,
     path: &[u8],
     count: &mut Count,
 ) -> (K, V)
@@ -34,7 +34,7 @@ pub fn remove<K: Drop, V: Drop>(
     ensures comparisons { count.new.comparisons ≡ count.old.comparisons }
 {
     let Some(root) = tree else { unreachable!() };
-    let node: &mut Node<K, V> = root;
+    let node: &mut Node<K, V, A> = root;
     let pair = remove_at(node, path, count);
     if node.len() > 0 {
         return pair;
@@ -45,10 +45,10 @@ pub fn remove<K: Drop, V: Drop>(
 
 // Takes a root without pairs out of the tree. It is not inlined, since few removals come to it.
 #[inline(never)]
-pub(crate) fn take_empty_root<K: Drop, V: Drop>(tree: &mut Option<Node<K, V>>)
-    requires { (root : Node K V) × (tree.old ≡ Some root) × (h : ℕ) × IsLevelled h root }
+pub(crate) fn take_empty_root<K: Drop, V: Drop, A: Handle>(tree: &mut Option<Node<K, V, A>>)
+    requires { (root : Node K V A) × (tree.old ≡ Some root) × (h : ℕ) × IsLevelled h root }
     ensures pairs { entries tree.new ≡ entries tree.old }
-    ensures levels { (root : Node K V) → tree.old ≡ Some root → (h : ℕ) → IsLevelled h root → IsTreeLeft h tree.new }
+    ensures levels { (root : Node K V A) → tree.old ≡ Some root → (h : ℕ) → IsLevelled h root → IsTreeLeft h tree.new }
 {
     let Some(root) = tree.take() else {
         unreachable!()
@@ -57,7 +57,7 @@ pub(crate) fn take_empty_root<K: Drop, V: Drop>(tree: &mut Option<Node<K, V>>)
 }
 
 // A root without pairs gives way to its only child.
-fn without_empty_root<K: Drop, V: Drop>(root: Node<K, V>) -> Option<Node<K, V>>
+fn without_empty_root<K: Drop, V: Drop, A: Handle>(root: Node<K, V, A>) -> Option<Node<K, V, A>>
     requires { (h : ℕ) × IsLevelled h root }
     ensures pairs { entries result ≡ pairs_of root }
     ensures levels { (h : ℕ) → IsLevelled h root → IsTreeLeft h result }
@@ -73,7 +73,11 @@ fn without_empty_root<K: Drop, V: Drop>(root: Node<K, V>) -> Option<Node<K, V>>
 }
 
 // Takes the pair at the place out, and mends the nodes below `node`.
-fn remove_at<K: Drop, V: Drop>(node: &mut Node<K, V>, path: &[u8], count: &mut Count) -> (K, V)
+fn remove_at<K: Drop, V: Drop, A: Handle>(
+    node: &mut Node<K, V, A>,
+    path: &[u8],
+    count: &mut Count,
+) -> (K, V)
     requires sound { (h : ℕ) × IsSoundRoot h node.old }
     requires place { IsPlace path.now node.old }
     ensures pair { place_pair path.now node.old ≡ Some result }
@@ -92,7 +96,7 @@ fn remove_at<K: Drop, V: Drop>(node: &mut Node<K, V>, path: &[u8], count: &mut C
     let pair = match &mut node.children {
         None => unreachable!(),
         Some(children) => {
-            let child: &mut Node<K, V> = children.get_mut(i);
+            let child: &mut Node<K, V, A> = children.get_mut(i);
             remove_at(child, rest, count)
         }
     };
@@ -101,7 +105,11 @@ fn remove_at<K: Drop, V: Drop>(node: &mut Node<K, V>, path: &[u8], count: &mut C
 }
 
 // Takes the node's own pair at `index` out. In an inner node the first pair of the subtree on its right takes its place.
-fn remove_own<K: Drop, V: Drop>(node: &mut Node<K, V>, index: usize, count: &mut Count) -> (K, V)
+fn remove_own<K: Drop, V: Drop, A: Handle>(
+    node: &mut Node<K, V, A>,
+    index: usize,
+    count: &mut Count,
+) -> (K, V)
     requires sound { (h : ℕ) × IsSoundRoot h node.old }
     requires place { IsPlace (index ∷ []) node.old }
     ensures pair { place_pair (index ∷ []) node.old ≡ Some result }
@@ -115,7 +123,7 @@ fn remove_own<K: Drop, V: Drop>(node: &mut Node<K, V>, index: usize, count: &mut
     let next = match &mut node.children {
         None => return node.remove_leaf(index, count),
         Some(children) => {
-            let child: &mut Node<K, V> = children.get_mut(index + 1);
+            let child: &mut Node<K, V, A> = children.get_mut(index + 1);
             remove_first(child, count)
         }
     };
@@ -125,7 +133,10 @@ fn remove_own<K: Drop, V: Drop>(node: &mut Node<K, V>, index: usize, count: &mut
 }
 
 /// Takes the first pair in the node or below it out. The levels below the node stay, and the node itself may lose a pair.
-pub fn remove_first<K: Drop, V: Drop>(node: &mut Node<K, V>, count: &mut Count) -> (K, V)
+pub fn remove_first<K: Drop, V: Drop, A: Handle>(
+    node: &mut Node<K, V, A>,
+    count: &mut Count,
+) -> (K, V)
     requires sound { (h : ℕ) × IsSoundRoot h node.old }
     ensures pairs { pairs_of node.old ≡ result ∷ pairs_of node.new }
     ensures levels { (h : ℕ) → IsSoundRoot h node.old → IsShrunk h node.old node.new }
@@ -137,7 +148,7 @@ pub fn remove_first<K: Drop, V: Drop>(node: &mut Node<K, V>, count: &mut Count) 
     let pair = match &mut node.children {
         None => return node.remove_leaf(0, count),
         Some(children) => {
-            let child: &mut Node<K, V> = children.get_mut(0);
+            let child: &mut Node<K, V, A> = children.get_mut(0);
             remove_first(child, count)
         }
     };
@@ -147,7 +158,11 @@ pub fn remove_first<K: Drop, V: Drop>(node: &mut Node<K, V>, count: &mut Count) 
 
 // Mends the child at `index` where it has fewer than `MIN_LEN` pairs.
 #[inline]
-pub(crate) fn mend_child<K: Drop, V: Drop>(node: &mut Node<K, V>, index: usize, count: &mut Count)
+pub(crate) fn mend_child<K: Drop, V: Drop, A: Handle>(
+    node: &mut Node<K, V, A>,
+    index: usize,
+    count: &mut Count,
+)
     requires { (h : ℕ) × IsShortAt h node.old index }
 
     // A child that has `MIN_LEN` pairs stays.
@@ -171,7 +186,11 @@ pub(crate) fn mend_child<K: Drop, V: Drop>(node: &mut Node<K, V>, index: usize, 
 // Mends the child at `index`, which has one fewer: with the child on its left where there is one, else with the one on its right.
 // Where both and the pair between them fit in one node, they are merged, and else one pair is stolen.
 #[inline(never)]
-fn mend_short<K: Drop, V: Drop>(node: &mut Node<K, V>, index: usize, count: &mut Count)
+fn mend_short<K: Drop, V: Drop, A: Handle>(
+    node: &mut Node<K, V, A>,
+    index: usize,
+    count: &mut Count,
+)
     requires at { (h : ℕ) × IsShortAt h node.old index }
     requires short { length (own_pairs (child_at node.old index)) < min_len }
     ensures merged { together node.old (index - 1) ≤ capacity → IsMerged (index - 1) node.old node.new }

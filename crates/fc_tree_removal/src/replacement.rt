@@ -5,14 +5,14 @@ ghost use Rattle.fc_tree_node.specs.Node.{own_pairs, pairs_of, IsLevelled};
 ghost use Rattle.fc_tree_node.specs.Place.{IsPlace, place_pair, before_pair, after_pair};
 ghost use Rattle.fc_tree_node.specs.Tree.{IsSoundMap};
 
-use fc_base::Count;
+use fc_base::{Count, Handle};
 use fc_tree_node::node::Node;
 use fc_tree_node::path::Path;
 
 /// Puts `pair` in the place of the one that the path leads to in a sound tree, which is handed out. It compares nothing and takes
 /// no memory.
-pub fn exchange<K: Drop, V: Drop>(
-    root: &mut Node<K, V>,
+pub fn exchange<K: Drop, V: Drop, A: Handle>(
+    root: &mut Node<K, V, A>,
     path: &Path,
     pair: (K, V),
     count: &mut Count,
@@ -34,8 +34,8 @@ pub fn exchange<K: Drop, V: Drop>(
 }
 
 /// Puts `pair` in the place of the one that the path leads to, which is handed out. It compares nothing and takes no memory.
-pub fn replace<K: Drop, V: Drop>(
-    node: &mut Node<K, V>,
+pub fn replace<K: Drop, V: Drop, A: Handle>(
+    node: &mut Node<K, V, A>,
     path: &[u8],
     pair: (K, V),
     count: &mut Count,
@@ -60,15 +60,15 @@ pub fn replace<K: Drop, V: Drop>(
     match &mut node.children {
         None => unreachable!(),
         Some(children) => {
-            let child: &mut Node<K, V> = children.get_mut(i);
+            let child: &mut Node<K, V, A> = children.get_mut(i);
             replace(child, &path[1..], pair, count)
         }
     }
 }
 
 // Puts `pair` in the place of the node's own pair at `index`.
-fn replace_own<K: Drop, V: Drop>(
-    node: &mut Node<K, V>,
+fn replace_own<K: Drop, V: Drop, A: Handle>(
+    node: &mut Node<K, V, A>,
     index: usize,
     pair: (K, V),
     count: &mut Count,

@@ -14,78 +14,79 @@ use Rattle.fc_tree_border.proofs.Heights.{above_first, height_of, height_is, no_
 use Rattle.fc_tree_retain.specs.Loose.{IsLoose}
 use Rattle.fc_tree_retain.specs.Mending.{IsThin, IsSeam}
 
-module _ {K V : Type 0} where
-  each : (P Q : Node K V → Type 0) → ((c : Node K V) → P c → Q c) → (cs : List (Node K V)) → AllByRecursion P cs → AllByRecursion Q cs
+module _ {K V Z : Type 0} where
+  each : (P Q : Node K V Z → Type 0) → ((c : Node K V Z) → P c → Q c) → (cs : List (Node K V Z)) → AllByRecursion P cs → AllByRecursion Q cs
   each P Q f [] a = tt
   each P Q f (c ∷ cs) a = (f c a.0, each P Q f cs a.1)
 
-  pub levelled_loose : (h : ℕ) (n : Node K V) → IsLevelled h n → IsLoose h n
+  pub levelled_loose : (h : ℕ) (n : Node K V Z) → IsLevelled h n → IsLoose h n
   levelled_loose zero n l = l
   levelled_loose (suc h) n l = (l.0, l.1, each (IsSound h) (IsLoose h) (λ c s. levelled_loose h c s.1) (children_of n) l.2)
 
-  pub levelled_thin : (h : ℕ) (n : Node K V) → IsLevelled h n → IsThin h n
+  pub levelled_thin : (h : ℕ) (n : Node K V Z) → IsLevelled h n → IsThin h n
   levelled_thin zero n l = l
   levelled_thin (suc h) n l = (l.0, l.1, inl l.2)
 
-  pub thin_sound : (h : ℕ) (n : Node K V) → min_len ≤ length (own_pairs n) → IsThin h n → IsSound h n
+  pub thin_sound : (h : ℕ) (n : Node K V Z) → min_len ≤ length (own_pairs n) → IsThin h n → IsSound h n
   thin_sound zero n m t = (m, t)
   thin_sound (suc h) n m (f, i, inl a) = (m, (f, i, a))
   thin_sound (suc h) n m (f, i, inr z) = let e = z.0 in absurd (omega arith)
 
-  pub thin_fits : (h : ℕ) (n : Node K V) → IsThin h n → length (own_pairs n) ≤ capacity
+  pub thin_fits : (h : ℕ) (n : Node K V Z) → IsThin h n → length (own_pairs n) ≤ capacity
   thin_fits zero n t = t.0
   thin_fits (suc h) n t = t.0
 
-  pub thin_formed : (h : ℕ) (n : Node K V) → IsThin h n → IsFormed n
+  pub thin_formed : (h : ℕ) (n : Node K V Z) → IsThin h n → IsFormed n
   thin_formed zero n t = inl t.1
   thin_formed (suc h) n t = inr t.1
 
-  pub thin_alike : (h : ℕ) (n m : Node K V) → IsThin h n → IsThin h m → AreAlike n m
+  pub thin_alike : (h : ℕ) (n m : Node K V Z) → IsThin h n → IsThin h m → AreAlike n m
   thin_alike zero n m t u = inl (t.1, u.1)
   thin_alike (suc h) n m t u = inr (t.1, u.1)
 
   -- a node that is no leaf lies above some
-  pub record IsAbove (h : ℕ) (n : Node K V) : Type 0 where
+  pub record IsAbove (h : ℕ) (n : Node K V Z) : Type 0 where
     pub below : ℕ
     pub height : h ≡ suc below
     pub levels : IsLoose (suc below) n
 
-  pub loose_above : (h : ℕ) (n : Node K V) → (IsLeaf n → ⊥) → IsLoose h n → IsAbove h n
+  pub loose_above : (h : ℕ) (n : Node K V Z) → (IsLeaf n → ⊥) → IsLoose h n → IsAbove h n
   loose_above zero n f l = absurd (f l.1)
   loose_above (suc h) n f l = record { below = h; height = refl; levels = l }
 
-  pub loose_child : (h : ℕ) (n : Node K V) (i : ℕ) → IsLoose (suc h) n → i ≤ length (own_pairs n) → IsLoose h (child_at n i)
+  pub loose_child : (h : ℕ) (n : Node K V Z) (i : ℕ) → IsLoose (suc h) n → i ≤ length (own_pairs n) → IsLoose h (child_at n i)
   loose_child h n i l le = let k : length (children_of n) ≡ length (own_pairs n) + 1 = l.1 in all_at (IsLoose h) (children_of n) i n (omega arith) l.2
 
-  pub loose_height : (h : ℕ) (n : Node K V) → IsLoose h n → height_of n ≡ h
+  pub loose_height : (h : ℕ) (n : Node K V Z) → IsLoose h n → height_of n ≡ h
   loose_height zero n l = no_children n (leaf_children n l.1)
   loose_height (suc h) n l = height_is n ∙ first_all h (IsLoose h) (loose_height h) (children_of n)
       (let e : length (children_of n) ≡ length (own_pairs n) + 1 = l.1 in omega arith) l.2
 
-  first_height : (cs : List (Node K V)) (d : Node K V) → 0 < length cs → above_first (map height_of cs) ≡ suc (height_of (get_or cs 0 d))
+  first_height : (cs : List (Node K V Z)) (d : Node K V Z) → 0 < length cs → above_first (map height_of cs) ≡ suc (height_of (get_or cs 0 d))
   first_height [] d h = absurd (omega arith)
   first_height (c ∷ cs) d h = refl
 
-  inner_height : (n : Node K V) → IsInner n → height_of n ≡ suc (height_of (child_at n 0))
+  inner_height : (n : Node K V Z) → IsInner n → height_of n ≡ suc (height_of (child_at n 0))
   inner_height n i = height_is n ∙ first_height (children_of n) n (let e : length (children_of n) ≡ length (own_pairs n) + 1 = i in omega arith)
 
-  pub thin_height : (h : ℕ) (n : Node K V) → IsThin h n → height_of n ≡ h
+  pub thin_height : (h : ℕ) (n : Node K V Z) → IsThin h n → height_of n ≡ h
   thin_height zero n t = no_children n (leaf_children n t.1)
   thin_height (suc h) n (f, i, inl a) = height_is n ∙ first_all h (IsSound h) (λ c s. levelled_height h c s.1) (children_of n)
       (let e : length (children_of n) ≡ length (own_pairs n) + 1 = i in omega arith) a
   thin_height (suc h) n (f, i, inr z) = inner_height n i ∙ ap suc (thin_height h (child_at n 0) z.1)
 
-  first_of : (h : ℕ) (cs : List (Node K V)) (d : Node K V) (i : ℕ) → 0 < length cs → AllByRecursion (IsSound h) (take (suc i) cs) → IsSound h (get_or cs 0 d)
+  first_of : (h : ℕ) (cs : List (Node K V Z)) (d : Node K V Z) (i : ℕ) → 0 < length cs → AllByRecursion (IsSound h) (take (suc i) cs)
+      → IsSound h (get_or cs 0 d)
   first_of h [] d i k a = absurd (omega arith)
   first_of h (c ∷ cs) d i k a = a.0
 
-  pub seam_height : (h : ℕ) (n : Node K V) (i : ℕ) → IsSeam h n i → height_of n ≡ suc h
+  pub seam_height : (h : ℕ) (n : Node K V Z) (i : ℕ) → IsSeam h n i → height_of n ≡ suc h
   seam_height h n zero s = inner_height n s.inner ∙ ap suc (thin_height h (child_at n 0) s.left)
   seam_height h n (suc i) s =
       let f = first_of h (children_of n) n i (let e : length (children_of n) ≡ length (own_pairs n) + 1 = s.inner in omega arith) s.before in
       inner_height n s.inner ∙ ap suc (levelled_height h (child_at n 0) f.1)
 
-  pub leaf_fewer : (h : ℕ) (old new : Node K V) (i : ℕ) → i < length (own_pairs old) → IsLeaf new → IsLeaf old → own_pairs new ≡ remove (own_pairs old) i
+  pub leaf_fewer : (h : ℕ) (old new : Node K V Z) (i : ℕ) → i < length (own_pairs old) → IsLeaf new → IsLeaf old → own_pairs new ≡ remove (own_pairs old) i
       → IsLoose h old → IsLoose h new
   leaf_fewer zero old new i lt e f q l =
       let m : length (own_pairs new) ≡ length (remove (own_pairs old) i) = ap length q in
@@ -95,7 +96,7 @@ module _ {K V : Type 0} where
   leaf_fewer (suc h) old new i lt e f q l = absurd (leaf_or_inner old f l.1)
 
   -- a child that is lent
-  pub record IsLent (h : ℕ) (n d : Node K V) (i : ℕ) : Type 0 where
+  pub record IsLent (h : ℕ) (n d : Node K V Z) (i : ℕ) : Type 0 where
     pub below : ℕ
     pub height : h ≡ suc below
     pub levels : IsLoose (suc below) n
@@ -103,7 +104,7 @@ module _ {K V : Type 0} where
     pub loose : IsLoose below d
     pub falls : height_of d < h
 
-  pub lent : (h : ℕ) (n : Node K V) (cs : List (Node K V)) (i : ℕ) (d : Node K V) → (out-Node K V n).children ≡ Some cs → IsInner n
+  pub lent : (h : ℕ) (n : Node K V Z) (cs : List (Node K V Z)) (i : ℕ) (d : Node K V Z) → (out-Node K V Z n).children ≡ Some cs → IsInner n
       → IsLoose h n → i ≤ length (own_pairs n) → d ≡ get_or cs i d → IsLent h n d i
   lent zero n cs i d e inner l le q = absurd (leaf_or_inner n l.1 inner)
   lent (suc h) n cs i d e inner l le q =
@@ -112,22 +113,22 @@ module _ {K V : Type 0} where
       let x = loose_height h d lo in
       record { below = h; height = refl; levels = l; is = is; loose = lo; falls = omega arith }
 
-  pub inner_above : (h : ℕ) (n : Node K V) → IsInner n → IsLoose h n → IsAbove h n
+  pub inner_above : (h : ℕ) (n : Node K V Z) → IsInner n → IsLoose h n → IsAbove h n
   inner_above zero n i l = absurd (leaf_or_inner n l.1 i)
   inner_above (suc h) n i l = record { below = h; height = refl; levels = l }
 
-  pub thin_levelled : (h : ℕ) (n : Node K V) → 1 ≤ length (own_pairs n) → IsThin h n → IsLevelled h n
+  pub thin_levelled : (h : ℕ) (n : Node K V Z) → 1 ≤ length (own_pairs n) → IsThin h n → IsLevelled h n
   thin_levelled zero n some t = t
   thin_levelled (suc h) n some (f, i, inl a) = (f, i, a)
   thin_levelled (suc h) n some (f, i, inr z) = let e = z.0 in absurd (omega arith)
 
   -- the only child of such a root without pairs
-  pub record IsThinHeir (h : ℕ) (c : Node K V) : Type 0 where
+  pub record IsThinHeir (h : ℕ) (c : Node K V Z) : Type 0 where
     pub below : ℕ
     pub height : h ≡ suc below
     pub thin : IsThin below c
 
-  pub thin_heir : (h : ℕ) (n c : Node K V) → children_of n ≡ c ∷ [] → length (own_pairs n) ≡ 0 → IsThin h n → IsThinHeir h c
+  pub thin_heir : (h : ℕ) (n c : Node K V Z) → children_of n ≡ c ∷ [] → length (own_pairs n) ≡ 0 → IsThin h n → IsThinHeir h c
   thin_heir zero n c e z t = absurd (let x : length (children_of n) ≡ 0 = ap length (leaf_children n t.1) in let y = ap length e in omega arith)
   thin_heir (suc h) n c e z (f, i, inl a) = record { below = h; height = refl; thin = levelled_thin h c (subst (AllByRecursion (IsSound h)) e a).0.1 }
   thin_heir (suc h) n c e z (f, i, inr t) = record { below = h; height = refl; thin = subst (IsThin h) (ap (λ cs. get_or cs 0 n) e) t.1 }

@@ -17,18 +17,18 @@ use Rattle.fc_tree_retain.specs.Mending.{IsThin, IsSeam, IsMet, IsOneMet, AreTwo
 use Rattle.fc_tree_retain.proofs.Lists.{at_place, take_place, drop_place, longer}
 use Rattle.fc_tree_retain.proofs.Levels.{levelled_thin}
 
-module _ {K V : Type 0} where
+module _ {K V Z : Type 0} where
   -- the children before the last one, and the last one
-  record IsEnding (h : ℕ) (n : Node K V) : Type 0 where
-    pub before : List (Node K V)
-    pub last : Node K V
+  record IsEnding (h : ℕ) (n : Node K V Z) : Type 0 where
+    pub before : List (Node K V Z)
+    pub last : Node K V Z
     pub children : children_of n ≡ before ++ last ∷ []
     pub size : length before ≡ length (own_pairs n)
     pub all : AllByRecursion (IsSound h) before
     pub thin : IsThin h last
     pub sound : 1 ≤ length (own_pairs n) → IsSound h last
 
-  ending : (h : ℕ) (n : Node K V) → IsThin (suc h) n → IsEnding h n
+  ending : (h : ℕ) (n : Node K V Z) → IsThin (suc h) n → IsEnding h n
   ending h n (f, i, inl a) =
       let k : length (children_of n) ≡ length (own_pairs n) + 1 = i in
       let o = length (own_pairs n) in
@@ -58,16 +58,16 @@ module _ {K V : Type 0} where
       }
 
   -- the first child, and those after it
-  record IsBeginning (h : ℕ) (n : Node K V) : Type 0 where
-    pub first : Node K V
-    pub after : List (Node K V)
+  record IsBeginning (h : ℕ) (n : Node K V Z) : Type 0 where
+    pub first : Node K V Z
+    pub after : List (Node K V Z)
     pub children : children_of n ≡ first ∷ after
     pub size : length after ≡ length (own_pairs n)
     pub all : AllByRecursion (IsSound h) after
     pub thin : IsThin h first
     pub sound : 1 ≤ length (own_pairs n) → IsSound h first
 
-  beginning : (h : ℕ) (n : Node K V) → IsThin (suc h) n → IsBeginning h n
+  beginning : (h : ℕ) (n : Node K V Z) → IsThin (suc h) n → IsBeginning h n
   beginning h n (f, i, inl a) =
       let k : length (children_of n) ≡ length (own_pairs n) + 1 = i in
       let e : children_of n ≡ child_at n 0 ∷ drop 1 (children_of n) = one_at (children_of n) 0 n (omega arith) in
@@ -96,7 +96,7 @@ module _ {K V : Type 0} where
         sound = λ some. absurd (omega arith);
       }
 
-  met_of : (g : ℕ) (n : Node K V) (i : ℕ) (A : List (Node K V)) (a b : Node K V) (B : List (Node K V)) → children_of n ≡ A ++ a ∷ b ∷ B → length A ≡ i
+  met_of : (g : ℕ) (n : Node K V Z) (i : ℕ) (A : List (Node K V Z)) (a b : Node K V Z) (B : List (Node K V Z)) → children_of n ≡ A ++ a ∷ b ∷ B → length A ≡ i
       → length (own_pairs n) ≤ capacity → IsInner n
       → AllByRecursion (IsSound g) A → IsThin g a → IsThin g b → AllByRecursion (IsSound g) B → (2 ≤ length (own_pairs n) → IsSound g a ⊎ IsSound g b)
       → IsMet (suc g) i n
@@ -121,7 +121,7 @@ module _ {K V : Type 0} where
       )
 
   -- of two children of which one has a pair, the two that meet are not both short
-  one_sound : (g : ℕ) (l r : Node K V) (e : IsEnding g l) (b : IsBeginning g r) → 2 ≤ length (own_pairs l) + 1 + length (own_pairs r)
+  one_sound : (g : ℕ) (l r : Node K V Z) (e : IsEnding g l) (b : IsBeginning g r) → 2 ≤ length (own_pairs l) + 1 + length (own_pairs r)
       → IsSound g e.last ⊎ IsSound g b.first
   one_sound g l r e b two = go (length (own_pairs l)) refl
     where
@@ -129,7 +129,7 @@ module _ {K V : Type 0} where
       go zero z = inr (b.sound (omega arith))
       go (suc k) z = inl (e.sound (omega arith))
 
-  pub one_met : (h i : ℕ) (old new : Node K V) → IsSeam h old i → together old i ≤ capacity → IsMerged i old new → IsInner new
+  pub one_met : (h i : ℕ) (old new : Node K V Z) → IsSeam h old i → together old i ≤ capacity → IsMerged i old new → IsInner new
       → IsOneMet h i (length (own_pairs (child_at old i))) old new
   one_met h i old new s room m inner =
       let k : length (children_of old) ≡ length (own_pairs old) + 1 = s.inner in
@@ -161,12 +161,12 @@ module _ {K V : Type 0} where
           (λ two. one_sound g (child_at old i) (child_at old (i + 1)) e b (omega arith))
 
   -- the children of both, whichever has how many
-  parted : (g : ℕ) (L R l r : Node K V) (e : IsEnding g L) (b : IsBeginning g R) → children_of l ++ children_of r ≡ children_of L ++ children_of R
+  parted : (g : ℕ) (L R l r : Node K V Z) (e : IsEnding g L) (b : IsBeginning g R) → children_of l ++ children_of r ≡ children_of L ++ children_of R
       → children_of l ++ children_of r ≡ e.before ++ e.last ∷ b.first ∷ b.after
   parted g L R l r e b q = q ∙ ap (λ xs. xs ++ children_of R) e.children ∙ ap (λ ys. (e.before ++ e.last ∷ []) ++ ys) b.children
       ∙ append_assoc e.before (e.last ∷ []) (b.first ∷ b.after)
 
-  sizes : (i k : ℕ) (old new : Node K V) (m : IsShared i k old new) → k + length (own_pairs m.right)
+  sizes : (i k : ℕ) (old new : Node K V Z) (m : IsShared i k old new) → k + length (own_pairs m.right)
       ≡ length (own_pairs (child_at old i)) + length (own_pairs (child_at old (i + 1)))
   sizes i k old new m =
       let a = length-append (own_pairs m.left) (m.between ∷ own_pairs m.right) in
@@ -176,8 +176,9 @@ module _ {K V : Type 0} where
       omega arith
 
   -- the left one took
-  pub left_met : (h i k : ℕ) (old new : Node K V) → IsSeam h old i → capacity ≤ length (own_pairs (child_at old i)) + length (own_pairs (child_at old (i + 1)))
-      → length (own_pairs (child_at old i)) < min_len → length (own_pairs (child_at old (i + 1))) ≤ capacity
+  pub left_met : (h i k : ℕ) (old new : Node K V Z) → IsSeam h old i
+      → capacity ≤ length (own_pairs (child_at old i)) + length (own_pairs (child_at old (i + 1))) → length (own_pairs (child_at old i)) < min_len
+      → length (own_pairs (child_at old (i + 1))) ≤ capacity
       → k ≡ min_len + 1 → IsShared i k old new → IsInner new → AreTwoMet h i i (length (own_pairs (child_at old i))) old new
   left_met h i k old new s many few fits q m inner =
       let c : length (children_of old) ≡ length (own_pairs old) + 1 = s.inner in
@@ -223,7 +224,7 @@ module _ {K V : Type 0} where
           )
 
   -- the right one took
-  pub right_met : (h i k j : ℕ) (old new : Node K V) → IsSeam h old i → capacity ≤ length (own_pairs (child_at old i)) + length
+  pub right_met : (h i k j : ℕ) (old new : Node K V Z) → IsSeam h old i → capacity ≤ length (own_pairs (child_at old i)) + length
       (own_pairs (child_at old (i + 1))) → length (own_pairs (child_at old (i + 1))) < min_len → length (own_pairs (child_at old i)) ≤ capacity
       → k + (min_len + 1) ≡ length (own_pairs (child_at old i)) + length (own_pairs (child_at old (i + 1)))
       → j + length (own_pairs (child_at old (i + 1))) ≡ min_len → IsShared i k old new → IsInner new → AreTwoMet h i (i + 1) j old new

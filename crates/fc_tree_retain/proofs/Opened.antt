@@ -18,14 +18,14 @@ module _ {X : Type 0} where
   before_more (d ∷ cs) c [] p e = absurd (omega arith)
   before_more (d ∷ cs) c (q ∷ ps) p e = ap (λ zs. d ++ q ∷ zs) (before_more cs c ps p (omega arith)) ∙ sym (append_assoc d (q ∷ before_list cs ps) _)
 
-module _ {K V : Type 0} where
-  pub record IsOpenAt (n : Node K V) (i : ℕ) (A : List (Node K V)) (c : Node K V) (D : List (Node K V)) (P Q : List (K × V)) : Type 0 where
+module _ {K V Z : Type 0} where
+  pub record IsOpenAt (n : Node K V Z) (i : ℕ) (A : List (Node K V Z)) (c : Node K V Z) (D : List (Node K V Z)) (P Q : List (K × V)) : Type 0 where
     pub children : children_of n ≡ A ++ c ∷ D
     pub own : own_pairs n ≡ P ++ Q
     pub before : length A ≡ i
     pub own_before : length P ≡ i
 
-  module _ (n : Node K V) (i : ℕ) (A : List (Node K V)) (c : Node K V) (D : List (Node K V)) (P Q : List (K × V)) (o : IsOpenAt n i A c D P Q) where
+  module _ (n : Node K V Z) (i : ℕ) (A : List (Node K V Z)) (c : Node K V Z) (D : List (Node K V Z)) (P Q : List (K × V)) (o : IsOpenAt n i A c D P Q) where
     pub open_before : before_child n i ≡ before_list (map pairs_of A) P
     open_before =
         ap (λ cs. before_list (map pairs_of cs) (take i (own_pairs n))) (ap (take i) o.children ∙ take_place A (c ∷ D) i o.before)
@@ -49,7 +49,7 @@ module _ {K V : Type 0} where
         omega arith
 
     -- the next child
-    pub open_next : (q : K × V) (Q' : List (K × V)) (d : Node K V) (D' : List (Node K V)) → Q ≡ q ∷ Q' → D ≡ d ∷ D'
+    pub open_next : (q : K × V) (Q' : List (K × V)) (d : Node K V Z) (D' : List (Node K V Z)) → Q ≡ q ∷ Q' → D ≡ d ∷ D'
         → IsOpenAt n (i + 1) (A ++ c ∷ []) d D' (P ++ q ∷ []) Q'
     open_next q Q' d D' e f = record {
       children = o.children ∙ ap (λ ds. A ++ c ∷ ds) f ∙ sym (append_assoc A (c ∷ []) (d ∷ D'));
@@ -58,13 +58,13 @@ module _ {K V : Type 0} where
       own_before = length-append P (q ∷ []) ∙ ap (λ k. k + 1) o.own_before;
     }
 
-  pub before_next : (A : List (Node K V)) (c : Node K V) (P : List (K × V)) (q : K × V) → length A ≡ length P
+  pub before_next : (A : List (Node K V Z)) (c : Node K V Z) (P : List (K × V)) (q : K × V) → length A ≡ length P
       → before_list (map pairs_of (A ++ c ∷ [])) (P ++ q ∷ []) ≡ before_list (map pairs_of A) P ++ (pairs_of c ++ q ∷ [])
   before_next A c P q e = ap (λ cs. before_list cs (P ++ q ∷ [])) (map-append pairs_of A (c ∷ []))
       ∙ before_more (map pairs_of A) (pairs_of c) P q (length-map A pairs_of ∙ e)
 
   -- at a child with a pair behind it
-  pub opened_two : (n : Node K V) (i : ℕ) (e : K × V) → IsInner n → i < length (own_pairs n) → e ≡ get_or (own_pairs n) i e
+  pub opened_two : (n : Node K V Z) (i : ℕ) (e : K × V) → IsInner n → i < length (own_pairs n) → e ≡ get_or (own_pairs n) i e
       → IsOpenAt n i (take i (children_of n)) (child_at n i) (child_at n (i + 1) ∷ drop (suc (suc i)) (children_of n)) (take i (own_pairs n))
       (e ∷ drop (suc i) (own_pairs n))
   opened_two n i e inner lt q =

@@ -39,20 +39,25 @@ module _ {K V : Type 0} where
   value_at (x ∷ xs) zero w e d h q = ap (λ y. (y.0, w)) (sym q)
   value_at (x ∷ xs) (suc i) w e d h q = value_at xs i w e d (omega arith) q
 
-  get_any : (xs : List (Node K V)) (i : ℕ) (d e : Node K V) → i < length xs → get_or xs i d ≡ get_or xs i e
+  empty_list : (xs : List (K × V)) → length xs ≡ 0 → xs ≡ []
+  empty_list [] e = refl
+  empty_list (x ∷ xs) e = absurd (omega arith)
+
+module _ {K V Z : Type 0} where
+  get_any : (xs : List (Node K V Z)) (i : ℕ) (d e : Node K V Z) → i < length xs → get_or xs i d ≡ get_or xs i e
   get_any [] i d e h = absurd (omega arith)
   get_any (x ∷ xs) zero d e h = refl
   get_any (x ∷ xs) (suc i) d e h = get_any xs i d e (omega arith)
 
   -- a node with another value
-  pub record IsWritten (old mid : Node K V) (i : ℕ) (w : V) : Type 0 where
+  pub record IsWritten (old mid : Node K V Z) (i : ℕ) (w : V) : Type 0 where
     pub own : own_pairs mid ≡ set_value (own_pairs old) i w
     pub size : length (own_pairs mid) ≡ length (own_pairs old)
     pub children : children_of mid ≡ children_of old
     pub inner : IsInner old → IsInner mid
     pub child : IsInner old → i ≤ length (own_pairs old) → child_at mid i ≡ child_at old i
 
-  pub is_written : (old mid : Node K V) (i : ℕ) (w : V) → mid ≡ with_value old i w → IsWritten old mid i w
+  pub is_written : (old mid : Node K V Z) (i : ℕ) (w : V) → mid ≡ with_value old i w → IsWritten old mid i w
   is_written old mid i w n =
       let o : own_pairs mid ≡ set_value (own_pairs old) i w = ap own_pairs n ∙ value_own old i w in
       let z : length (own_pairs mid) ≡ length (own_pairs old) = ap length o ∙ length_value (own_pairs old) i w in
@@ -67,17 +72,13 @@ module _ {K V : Type 0} where
             ∙ get_any (children_of old) i mid old (omega arith);
       }
 
-  pub written_leaf : (old mid : Node K V) (i : ℕ) (w : V) → IsLoose 0 old → mid ≡ with_value old i w → IsLoose 0 mid
+  pub written_leaf : (old mid : Node K V Z) (i : ℕ) (w : V) → IsLoose 0 old → mid ≡ with_value old i w → IsLoose 0 mid
   written_leaf old mid i w l n =
       let z = (is_written old mid i w n).size in
-      let fits = l.0 in (omega arith, ap (λ m. (out-Node K V m).children) n ∙ field_made _ ∙ l.1)
-
-  empty_list : (xs : List (K × V)) → length xs ≡ 0 → xs ≡ []
-  empty_list [] e = refl
-  empty_list (x ∷ xs) e = absurd (omega arith)
+      let fits = l.0 in (omega arith, ap (λ m. (out-Node K V Z m).children) n ∙ field_made _ ∙ l.1)
 
   -- a node whose child at a place became another
-  pub record IsChildLeft (old mid c : Node K V) (i : ℕ) : Type 0 where
+  pub record IsChildLeft (old mid c : Node K V Z) (i : ℕ) : Type 0 where
     pub before : before_child mid i ≡ before_child old i
     pub child : child_at mid i ≡ c
     pub after : after_child mid i ≡ after_child old i
@@ -85,7 +86,7 @@ module _ {K V : Type 0} where
     pub inner : IsInner mid
     pub levels : (h : ℕ) → IsLoose (suc h) old → IsLoose h c → IsLoose (suc h) mid
 
-  pub child_left : (old mid c : Node K V) (i : ℕ) → IsInner old → i ≤ length (own_pairs old) → IsChildSet old mid i c → IsChildLeft old mid c i
+  pub child_left : (old mid c : Node K V Z) (i : ℕ) → IsInner old → i ≤ length (own_pairs old) → IsChildSet old mid i c → IsChildLeft old mid c i
   child_left old mid c i inner le m =
       let k : length (children_of old) ≡ length (own_pairs old) + 1 = inner in
       let n : length (children_of mid) ≡ length (children_of old) = ap length m.child ∙ length_set (children_of old) i c in
@@ -107,13 +108,13 @@ module _ {K V : Type 0} where
       }
 
   -- a node with another value, and another child before it
-  pub record IsTurned (old mid : Node K V) (i : ℕ) (w : V) (c : Node K V) : Type 0 where
+  pub record IsTurned (old mid : Node K V Z) (i : ℕ) (w : V) (c : Node K V Z) : Type 0 where
     pub own : own_pairs mid ≡ set_value (own_pairs old) i w
     pub size : length (own_pairs mid) ≡ length (own_pairs old)
     pub children : children_of mid ≡ slice_set (children_of old) i c
     pub inner : IsInner mid
 
-  pub turned : (old new mid : Node K V) (i : ℕ) (w : V) (c : Node K V) → IsInner old → i < length (own_pairs old) → IsWritten old new i w
+  pub turned : (old new mid : Node K V Z) (i : ℕ) (w : V) (c : Node K V Z) → IsInner old → i < length (own_pairs old) → IsWritten old new i w
       → IsChildSet new mid i c → IsTurned old mid i w c
   turned old new mid i w c inner lt n m =
       let z = n.size in
@@ -124,30 +125,30 @@ module _ {K V : Type 0} where
         inner = (child_left new mid c i (n.inner inner) (omega arith) m).inner;
       }
 
-  pub child_loose : (h : ℕ) (old mid d c : Node K V) (i : ℕ) → IsInner old → i ≤ length (own_pairs old) → d ≡ child_at old i → IsChildSet old mid i c
+  pub child_loose : (h : ℕ) (old mid d c : Node K V Z) (i : ℕ) → IsInner old → i ≤ length (own_pairs old) → d ≡ child_at old i → IsChildSet old mid i c
       → ((g : ℕ) → IsLoose g d → IsLoose g c) → IsLoose h old → IsLoose h mid
   child_loose zero old mid d c i inner le is m lo l = absurd (leaf_or_inner old l.1 inner)
   child_loose (suc h) old mid d c i inner le is m lo l = (child_left old mid c i inner le m).levels h l
       (lo h (subst (IsLoose h) (sym is) (loose_child h old i l le)))
 
   -- a node's pairs around a child
-  last_pairs : (n : Node K V) (i : ℕ) → IsInner n → i ≡ length (own_pairs n) → pairs_of n ≡ before_child n i ++ pairs_of (child_at n i)
+  last_pairs : (n : Node K V Z) (i : ℕ) → IsInner n → i ≡ length (own_pairs n) → pairs_of n ≡ before_child n i ++ pairs_of (child_at n i)
   last_pairs n i inner e =
       inner_gap n i inner (omega arith) ∙ ap (λ zs. before_child n i ++ (pairs_of (child_at n i) ++ zs)) (after_none n i (omega arith))
       ∙ ap (λ zs. before_child n i ++ zs) (append-nil (pairs_of (child_at n i)))
 
   -- a node whose last child became another
-  pub record IsLastLent (old mid d c : Node K V) (i : ℕ) : Type 0 where
+  pub record IsLastLent (old mid d c : Node K V Z) (i : ℕ) : Type 0 where
     pub inner : IsInner old
     pub last : i ≡ length (own_pairs old)
     pub is : d ≡ child_at old i
     pub set : IsChildSet old mid i c
 
-  pub last_left : (old mid d c : Node K V) (i : ℕ) → IsLastLent old mid d c i → IsChildLeft old mid c i
+  pub last_left : (old mid d c : Node K V Z) (i : ℕ) → IsLastLent old mid d c i → IsChildLeft old mid c i
   last_left old mid d c i l = let e = l.last in child_left old mid c i l.inner (omega arith) l.set
 
   -- the node's last pair taken out of its last child
-  pub last_below : (old mid d c : Node K V) (i : ℕ) (r : Option (K × V)) → IsLastLent old mid d c i → pairs_of d ≡ pairs_of c ++ option_to_list r
+  pub last_below : (old mid d c : Node K V Z) (i : ℕ) (r : Option (K × V)) → IsLastLent old mid d c i → pairs_of d ≡ pairs_of c ++ option_to_list r
       → pairs_of old ≡ pairs_of mid ++ option_to_list r
   last_below old mid d c i r l p =
       let e = l.last in
@@ -158,7 +159,7 @@ module _ {K V : Type 0} where
       ∙ ap (λ n. (before_child mid i ++ pairs_of n) ++ option_to_list r) (sym m.child)
       ∙ ap (λ zs. zs ++ option_to_list r) (sym (last_pairs mid i m.inner (omega arith)))
 
-  pub none_below : (old mid d c : Node K V) (i : ℕ) → IsLastLent old mid d c i → i ≡ 0 → pairs_of c ≡ [] → pairs_of mid ≡ []
+  pub none_below : (old mid d c : Node K V Z) (i : ℕ) → IsLastLent old mid d c i → i ≡ 0 → pairs_of c ≡ [] → pairs_of mid ≡ []
   none_below old mid d c i l z p =
       let e = l.last in
       let m = last_left old mid d c i l in
@@ -166,20 +167,20 @@ module _ {K V : Type 0} where
       last_pairs mid i m.inner (omega arith) ∙ ap (λ n. before_child mid i ++ pairs_of n) m.child ∙ ap (λ zs. before_child mid i ++ zs) p
       ∙ append-nil (before_child mid i) ∙ ap (before_child mid) z
 
-  pub empty_last : (old mid d c : Node K V) (i : ℕ) → IsLastLent old mid d c i → pairs_of c ≡ [] → pairs_of (child_at mid (length (own_pairs mid))) ≡ []
+  pub empty_last : (old mid d c : Node K V Z) (i : ℕ) → IsLastLent old mid d c i → pairs_of c ≡ [] → pairs_of (child_at mid (length (own_pairs mid))) ≡ []
   empty_last old mid d c i l p =
       let m = last_left old mid d c i l in
       ap (λ j. pairs_of (child_at mid j)) (ap length m.own ∙ sym l.last) ∙ ap pairs_of m.child ∙ p
 
-  pub last_loose : (h : ℕ) (old mid d c : Node K V) (i : ℕ) → IsLastLent old mid d c i → ((g : ℕ) → IsLoose g d → IsLoose g c) → IsLoose h old → IsLoose h mid
+  pub last_loose : (h : ℕ) (old mid d c : Node K V Z) (i : ℕ) → IsLastLent old mid d c i → ((g : ℕ) → IsLoose g d → IsLoose g c) → IsLoose h old → IsLoose h mid
   last_loose h old mid d c i l lo b = let e = l.last in child_loose h old mid d c i l.inner (omega arith) l.is l.set lo b
 
   -- the own last pair, and an empty child behind it
-  pub record IsEndOff (old new : Node K V) (x : K × V) : Type 0 where
+  pub record IsEndOff (old new : Node K V Z) (x : K × V) : Type 0 where
     pub pairs : pairs_of old ≡ pairs_of new ++ x ∷ []
     pub levels : (h : ℕ) → IsLoose h old → IsLoose h new
 
-  pub end_off : (old new c : Node K V) (x : K × V) → IsInner old → pairs_of (child_at old (length (own_pairs old))) ≡ []
+  pub end_off : (old new c : Node K V Z) (x : K × V) → IsInner old → pairs_of (child_at old (length (own_pairs old))) ≡ []
       → own_pairs old ≡ own_pairs new ++ x ∷ [] → children_of old ≡ children_of new ++ c ∷ [] → IsEndOff old new x
   end_off old new c x inner none e f =
       let k : length (children_of old) ≡ length (own_pairs old) + 1 = inner in
@@ -284,12 +285,14 @@ module _ {S K V : Type 0} (R : S → K × V → S → V → Bool → Type 0) whe
   leaf_passed s t u old now new at left left' j l k (e, w, false, r, q, p) =
       subst (λ i. IsLeafSifted s u old new i left') (sym p.0) (leaf_gone s t u old now new at left left' e w l k r q p.1)
 
+module _ {S K V Z : Type 0} (R : S → K × V → S → V → Bool → Type 0) where
   -- the pair behind a child was asked: what the node then is
-  module _ (s t : S) (i : ℕ) (old new : Node K V) (e : K × V) (inner : IsInner old) (lt : i < length (own_pairs old)) (q : e ≡ get_or (own_pairs old) i e) where
-    abbrev A : List (Node K V)
+  module _ (s t : S) (i : ℕ) (old new : Node K V Z) (e : K × V) (inner : IsInner old) (lt : i < length (own_pairs old))
+      (q : e ≡ get_or (own_pairs old) i e) where
+    abbrev A : List (Node K V Z)
     A = take i (children_of old)
 
-    abbrev D : List (Node K V)
+    abbrev D : List (Node K V Z)
     D = drop (suc (suc i)) (children_of old)
 
     abbrev P : List (K × V)
@@ -298,10 +301,10 @@ module _ {S K V : Type 0} (R : S → K × V → S → V → Bool → Type 0) whe
     abbrev Q : List (K × V)
     Q = drop (suc i) (own_pairs old)
 
-    abbrev c : Node K V
+    abbrev c : Node K V Z
     c = child_at old i
 
-    abbrev d : Node K V
+    abbrev d : Node K V Z
     d = child_at old (i + 1)
 
     there : IsOpenAt old i A c (d ∷ D) P (e ∷ Q)
@@ -319,7 +322,7 @@ module _ {S K V : Type 0} (R : S → K × V → S → V → Bool → Type 0) whe
         let y = there.own_before in
         omega arith
 
-    passed : (j : ℕ) (A' : List (Node K V)) (P' stay : List (K × V)) → IsOpenAt new j A' d D P' Q → RetainsInTurn R s (e ∷ []) t stay
+    passed : (j : ℕ) (A' : List (Node K V Z)) (P' stay : List (K × V)) → IsOpenAt new j A' d D P' Q → RetainsInTurn R s (e ∷ []) t stay
         → before_list (map pairs_of A') P' ≡ before_list (map pairs_of A) P ++ (pairs_of c ++ stay)
         → j ≤ i + 1 → ((h : ℕ) → IsLoose h c → AllByRecursion (IsLoose h) A → AllByRecursion (IsLoose h) A') → IsPassed R s t i j old new
     passed j A' P' stay o r b le al =
@@ -369,7 +372,7 @@ module _ {S K V : Type 0} (R : S → K × V → S → V → Bool → Type 0) whe
         (λ h x a. all_both (IsLoose h) A (c ∷ []) a (x, tt))
 
     -- another pair takes its place
-    pub passed_moved : (w : V) (mid c' : Node K V) (p : K × V) → R s e t w false → IsTurned old mid i w c'
+    pub passed_moved : (w : V) (mid c' : Node K V Z) (p : K × V) → R s e t w false → IsTurned old mid i w c'
         → own_pairs new ≡ slice_set (own_pairs mid) i p → children_of new ≡ children_of mid → pairs_of c ≡ pairs_of c' ++ p ∷ []
         → ((h : ℕ) → IsLoose h c → IsLoose h c') → IsPassed R s t i (i + 1) old new
     passed_moved w mid c' p r m so sc pe lo =
@@ -382,7 +385,7 @@ module _ {S K V : Type 0} (R : S → K × V → S → V → Bool → Type 0) whe
         (λ h x a. all_both (IsLoose h) A (c' ∷ []) a (lo h x, tt))
 
     -- a child without pairs goes with it
-    pub passed_gone : (w : V) (mid c' : Node K V) → R s e t w false → IsTurned old mid i w c'
+    pub passed_gone : (w : V) (mid c' : Node K V Z) → R s e t w false → IsTurned old mid i w c'
         → own_pairs new ≡ remove (own_pairs mid) i → children_of new ≡ remove (children_of mid) i → pairs_of c ≡ [] → IsPassed R s t i i old new
     passed_gone w mid c' r m so sc pe =
         let v = m.own ∙ ap (λ xs. set_value xs i w) there.own ∙ value_place P Q e w i there.own_before in
@@ -394,7 +397,7 @@ module _ {S K V : Type 0} (R : S → K × V → S → V → Bool → Type 0) whe
         ∙ ap (λ zs. before_list (map pairs_of A) P ++ zs) (sym (ap (λ zs. zs ++ []) pe))) (omega arith) (λ h x a. a)
 
   -- the pairs before a child were asked
-  pub record IsSifting (s t : S) (old now : Node K V) (at left : ℕ) : Type 0 where
+  pub record IsSifting (s t : S) (old now : Node K V Z) (at left : ℕ) : Type 0 where
     pub seen : List (K × V)
     pub old_is : pairs_of old ≡ seen ++ (pairs_of (child_at now at) ++ after_child now at)
     pub sifts : RetainsInTurn R s seen t (before_child now at)
@@ -402,7 +405,7 @@ module _ {S K V : Type 0} (R : S → K × V → S → V → Bool → Type 0) whe
     pub inner : IsInner now
     pub levels : (h : ℕ) → IsLoose h old → IsLoose h now
 
-  pub sifting_start : (s : S) (n : Node K V) (left : ℕ) → IsInner n → length (own_pairs n) ≡ left → IsSifting s s n n 0 left
+  pub sifting_start : (s : S) (n : Node K V Z) (left : ℕ) → IsInner n → length (own_pairs n) ≡ left → IsSifting s s n n 0 left
   sifting_start s n left inner e = record {
     seen = [];
     old_is = inner_gap n 0 inner (omega arith);
@@ -413,7 +416,7 @@ module _ {S K V : Type 0} (R : S → K × V → S → V → Bool → Type 0) whe
   }
 
   -- a child, and the pair behind it
-  pub sifting_more : (s t u v : S) (old now mid new dold dnew : Node K V) (at left left' j : ℕ) → IsSifting s t old now at left → left ≡ left' + 1
+  pub sifting_more : (s t u v : S) (old now mid new dold dnew : Node K V Z) (at left left' j : ℕ) → IsSifting s t old now at left → left ≡ left' + 1
       → dold ≡ child_at now at → IsChildSet now mid at dnew → RetainsInTurn R t (pairs_of dold) u (pairs_of dnew) → ((h : ℕ) → IsLoose h dold → IsLoose h dnew)
       → IsPassed R u v at j mid new → IsSifting s v old new j left'
   sifting_more s t u v old now mid new dold dnew at left left' j g k is m r lo p =
@@ -442,12 +445,12 @@ module _ {S K V : Type 0} (R : S → K × V → S → V → Bool → Type 0) whe
       go : (h : ℕ) → IsLoose h old → IsLoose h new
       go h l = let li = g.left_is in p.levels h (child_loose h now mid dold dnew at g.inner (omega arith) is m lo (g.levels h l))
 
-  pub record IsAllSifted (s t : S) (old new : Node K V) : Type 0 where
+  pub record IsAllSifted (s t : S) (old new : Node K V Z) : Type 0 where
     pub sifts : RetainsInTurn R s (pairs_of old) t (pairs_of new)
     pub levels : (h : ℕ) → IsLoose h old → IsLoose h new
 
   -- the last child
-  pub sifting_end : (s t u : S) (old now new dold dnew : Node K V) (at : ℕ) → IsSifting s t old now at 0 → dold ≡ child_at now at → IsChildSet now new at dnew
+  pub sifting_end : (s t u : S) (old now new dold dnew : Node K V Z) (at : ℕ) → IsSifting s t old now at 0 → dold ≡ child_at now at → IsChildSet now new at dnew
       → RetainsInTurn R t (pairs_of dold) u (pairs_of dnew) → ((h : ℕ) → IsLoose h dold → IsLoose h dnew) → IsAllSifted s u old new
   sifting_end s t u old now new dold dnew at g is m r lo =
       let li = g.left_is in

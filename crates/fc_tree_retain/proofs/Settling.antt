@@ -18,10 +18,10 @@ use Rattle.fc_tree_retain.specs.Mending.{IsThin, IsSeam, IsMet, IsSettled, IsJoi
 use Rattle.fc_tree_retain.proofs.Lists.{at_place, take_place, drop_place, set_place}
 use Rattle.fc_tree_retain.proofs.Levels.{thin_sound, levelled_thin, loose_child}
 
-module _ {K V : Type 0} where
+module _ {K V Z : Type 0} where
   -- neither of the two was short
-  pub whole_settled : (h i : ℕ) (n : Node K V) → IsSeam h n i → min_len ≤ length (own_pairs (child_at n i)) → min_len ≤ length (own_pairs (child_at n (i + 1)))
-      → IsSettled h i (i + 1) n n
+  pub whole_settled : (h i : ℕ) (n : Node K V Z) → IsSeam h n i → min_len ≤ length (own_pairs (child_at n i))
+      → min_len ≤ length (own_pairs (child_at n (i + 1))) → IsSettled h i (i + 1) n n
   whole_settled h i n s l r =
       let k : length (children_of n) ≡ length (own_pairs n) + 1 = s.inner in
       let lt = s.in_bounds in
@@ -37,16 +37,16 @@ module _ {K V : Type 0} where
         },
       )
 
-  around : (cs : List (Node K V)) (i : ℕ) → i + 1 < length cs → (length (take i cs) ≡ i) × (length (drop (suc (suc i)) cs) + (i + 2) ≡ length cs)
+  around : (cs : List (Node K V Z)) (i : ℕ) → i + 1 < length cs → (length (take i cs) ≡ i) × (length (drop (suc (suc i)) cs) + (i + 2) ≡ length cs)
   around cs i lt = let d = length-drop (suc (suc i)) cs in (length_take i cs (omega arith), omega arith)
 
   -- the child where the children of two meet
-  record IsMetChild (h place seam : ℕ) (mid : Node K V) : Type 0 where
+  record IsMetChild (h place seam : ℕ) (mid : Node K V Z) : Type 0 where
     pub bounds : place < length (children_of mid)
     pub inner : IsInner mid
     pub met : IsMet h seam (child_at mid place)
 
-  met_child : (h i place seam last : ℕ) (old mid : Node K V) → IsSeam h old i → IsJoined h i place seam last old mid → IsMetChild h place seam mid
+  met_child : (h i place seam last : ℕ) (old mid : Node K V Z) → IsSeam h old i → IsJoined h i place seam last old mid → IsMetChild h place seam mid
   met_child h i place seam last old mid s (inl (p, q, m)) =
       let k : length (children_of old) ≡ length (own_pairs old) + 1 = s.inner in
       let lt = s.in_bounds in
@@ -66,7 +66,7 @@ module _ {K V : Type 0} where
       a : (length (take i (children_of old)) ≡ i) × (length (drop (suc (suc i)) (children_of old)) + (i + 2) ≡ length (children_of old))
       a = around (children_of old) i (let k' = k in let lt' = lt in omega arith)
 
-      D : List (Node K V)
+      D : List (Node K V Z)
       D = drop (suc (suc i)) (children_of old)
 
       go : ((place ≡ i) × (children_of mid ≡ take i (children_of old) ++ m.grown ∷ m.other ∷ D))
@@ -88,17 +88,17 @@ module _ {K V : Type 0} where
           subst (λ j. IsMetChild h j seam mid) (sym p) (record { bounds = omega arith; inner = m.inner; met = subst (IsMet h seam) (sym is) m.met })
 
   -- a child that is no leaf
-  record IsMetAbove (h seam : ℕ) (c : Node K V) : Type 0 where
+  record IsMetAbove (h seam : ℕ) (c : Node K V Z) : Type 0 where
     pub below : ℕ
     pub height : h ≡ suc below
     pub met : IsMet (suc below) seam c
 
-  met_above : (h seam : ℕ) (c : Node K V) → (IsLeaf c → ⊥) → IsMet h seam c → IsMetAbove h seam c
+  met_above : (h seam : ℕ) (c : Node K V Z) → (IsLeaf c → ⊥) → IsMet h seam c → IsMetAbove h seam c
   met_above zero seam c f m = absurd (f m.1)
   met_above (suc h) seam c f m = record { below = h; height = refl; met = m }
 
   -- the child where they meet, lent out
-  pub record IsMetLent (h place seam : ℕ) (mid d : Node K V) : Type 0 where
+  pub record IsMetLent (h place seam : ℕ) (mid d : Node K V Z) : Type 0 where
     pub bounds : place < length (children_of mid)
     pub inner : IsInner mid
     pub is : d ≡ child_at mid place
@@ -106,8 +106,8 @@ module _ {K V : Type 0} where
     pub height : h ≡ suc below
     pub met : IsMet (suc below) seam d
 
-  pub met_lent : (h i place seam last : ℕ) (old mid d : Node K V) (cs : List (Node K V)) → IsSeam h old i → IsJoined h i place seam last old mid
-      → (IsLeaf (child_at mid place) → ⊥) → (out-Node K V mid).children ≡ Some cs → d ≡ get_or cs place d → IsMetLent h place seam mid d
+  pub met_lent : (h i place seam last : ℕ) (old mid d : Node K V Z) (cs : List (Node K V Z)) → IsSeam h old i → IsJoined h i place seam last old mid
+      → (IsLeaf (child_at mid place) → ⊥) → (out-Node K V Z mid).children ≡ Some cs → d ≡ get_or cs place d → IsMetLent h place seam mid d
   met_lent h i place seam last old mid d cs s j up e q =
       let x = met_child h i place seam last old mid s j in
       let k : length (children_of mid) ≡ length (own_pairs mid) + 1 = x.inner in
@@ -117,11 +117,11 @@ module _ {K V : Type 0} where
       record { bounds = lt; inner = x.inner; is = is; below = a.below; height = a.height; met = subst (IsMet (suc a.below) seam) (sym is) a.met }
 
   -- once those that meet are settled, the child is whole but for how many pairs it has
-  pub record IsMetLeft (h : ℕ) (c c' : Node K V) : Type 0 where
+  pub record IsMetLeft (h : ℕ) (c c' : Node K V Z) : Type 0 where
     pub thin : IsThin h c'
     pub kept : length (own_pairs c) ≤ length (own_pairs c') + 1
 
-  pub met_left : (g seam j : ℕ) (c c' : Node K V) → IsMet (suc g) seam c → IsSettled g seam j c c' → IsMetLeft (suc g) c c'
+  pub met_left : (g seam j : ℕ) (c c' : Node K V Z) → IsMet (suc g) seam c → IsSettled g seam j c c' → IsMetLeft (suc g) c c'
   met_left g seam j c c' (s, after, one) (inl (q, o)) = go (length (own_pairs c')) refl
     where
       go : (k : ℕ) → length (own_pairs c') ≡ k → IsMetLeft (suc g) c c'
@@ -174,7 +174,7 @@ module _ {K V : Type 0} where
       }
 
   -- so the two are settled
-  pub joined_settled : (h i place seam last : ℕ) (old mid new c' : Node K V) → IsSeam h old i → IsJoined h i place seam last old mid
+  pub joined_settled : (h i place seam last : ℕ) (old mid new c' : Node K V Z) → IsSeam h old i → IsJoined h i place seam last old mid
       → children_of new ≡ slice_set (children_of mid) place c' → length (own_pairs new) ≡ length (own_pairs mid) → IsMetLeft h (child_at mid place) c'
       → IsSettled h i last old new
   joined_settled h i place seam last old mid new c' s (inl (p, q, m)) e o l =
@@ -206,7 +206,7 @@ module _ {K V : Type 0} where
       enough (inr a) t = let b = a.0 in omega arith
   joined_settled h i place seam last old mid new c' s (inr (q, m)) e o l = go m.children
     where
-      D : List (Node K V)
+      D : List (Node K V Z)
       D = drop (suc (suc i)) (children_of old)
 
       front : length (take i (children_of old)) ≡ i
@@ -255,25 +255,25 @@ module _ {K V : Type 0} where
           )
 
   -- the children before a place are sound, the one there may hold few pairs where it is the first, and those after it are as they were
-  pub record IsMendedTo (h at : ℕ) (n : Node K V) : Type 0 where
+  pub record IsMendedTo (h at : ℕ) (n : Node K V Z) : Type 0 where
     pub fits : length (own_pairs n) ≤ capacity
     pub before : AllByRecursion (IsSound h) (take at (children_of n))
     pub thin : IsThin h (child_at n at)
     pub sound : 0 < at → IsSound h (child_at n at)
     pub after : AllByRecursion (IsLoose h) (drop (suc at) (children_of n))
 
-  pub record IsMending (old now : Node K V) (at left : ℕ) : Type 0 where
+  pub record IsMending (old now : Node K V Z) (at left : ℕ) : Type 0 where
     pub pairs : pairs_of now ≡ pairs_of old
     pub left_is : length (own_pairs now) ≡ at + left
     pub inner : IsInner now
     pub levels : (h : ℕ) → IsLoose (suc h) old → IsMendedTo h at now
 
-  all_from : (P : Node K V → Type 0) (cs : List (Node K V)) (i : ℕ) → AllByRecursion P cs → AllByRecursion P (drop i cs)
+  all_from : (P : Node K V Z → Type 0) (cs : List (Node K V Z)) (i : ℕ) → AllByRecursion P cs → AllByRecursion P (drop i cs)
   all_from P cs zero a = a
   all_from P [] (suc i) a = tt
   all_from P (c ∷ cs) (suc i) a = all_from P cs i a.1
 
-  pub mending_start : (old now d c : Node K V) (left : ℕ) → IsInner old → IsChildSet old now 0 c → d ≡ child_at old 0 → pairs_of c ≡ pairs_of d
+  pub mending_start : (old now d c : Node K V Z) (left : ℕ) → IsInner old → IsChildSet old now 0 c → d ≡ child_at old 0 → pairs_of c ≡ pairs_of d
       → ((h : ℕ) → IsLoose h d → IsThin h c) → length (own_pairs now) ≡ left → IsMending old now 0 left
   mending_start old now d c left inner m is p th e =
       let k : length (children_of old) ≡ length (own_pairs old) + 1 = inner in
@@ -295,40 +295,40 @@ module _ {K V : Type 0} where
       }
 
   -- the next child mended
-  pub record IsNextMended (h at : ℕ) (mid : Node K V) : Type 0 where
+  pub record IsNextMended (h at : ℕ) (mid : Node K V Z) : Type 0 where
     pub seam : IsSeam h mid at
     pub sound : 0 < at → IsSound h (child_at mid at)
     pub after : AllByRecursion (IsLoose h) (drop (suc (suc at)) (children_of mid))
 
-  take_next : (xs : List (Node K V)) (i : ℕ) (x : Node K V) → take i (slice_set xs (suc i) x) ≡ take i xs
+  take_next : (xs : List (Node K V Z)) (i : ℕ) (x : Node K V Z) → take i (slice_set xs (suc i) x) ≡ take i xs
   take_next [] i x = refl
   take_next (y ∷ xs) zero x = refl
   take_next (y ∷ xs) (suc i) x = ap (λ zs. y ∷ zs) (take_next xs i x)
 
-  get_next : (xs : List (Node K V)) (i : ℕ) (x d e : Node K V) → i < length xs → get_or (slice_set xs (suc i) x) i d ≡ get_or xs i e
+  get_next : (xs : List (Node K V Z)) (i : ℕ) (x d e : Node K V Z) → i < length xs → get_or (slice_set xs (suc i) x) i d ≡ get_or xs i e
   get_next [] i x d e h = absurd (omega arith)
   get_next (y ∷ xs) zero x d e h = refl
   get_next (y ∷ xs) (suc i) x d e h = get_next xs i x d e (omega arith)
 
-  head_of : (h : ℕ) (cs : List (Node K V)) (d : Node K V) → 0 < length cs → AllByRecursion (IsLoose h) cs → IsLoose h (get_or cs 0 d)
+  head_of : (h : ℕ) (cs : List (Node K V Z)) (d : Node K V Z) → 0 < length cs → AllByRecursion (IsLoose h) cs → IsLoose h (get_or cs 0 d)
   head_of h [] d lt a = absurd (omega arith)
   head_of h (c ∷ cs) d lt a = a.0
 
-  pub next_loose : (h at : ℕ) (now : Node K V) → IsInner now → at < length (own_pairs now) → IsMendedTo h at now → IsLoose h (child_at now (at + 1))
+  pub next_loose : (h at : ℕ) (now : Node K V Z) → IsInner now → at < length (own_pairs now) → IsMendedTo h at now → IsLoose h (child_at now (at + 1))
   next_loose h at now inner lt g = go (children_of now) at (let k : length (children_of now) ≡ length (own_pairs now) + 1 = inner in omega arith) g.after
     where
-      go : (cs : List (Node K V)) (i : ℕ) → i + 1 < length cs → AllByRecursion (IsLoose h) (drop (suc i) cs) → IsLoose h (get_or cs (i + 1) now)
+      go : (cs : List (Node K V Z)) (i : ℕ) → i + 1 < length cs → AllByRecursion (IsLoose h) (drop (suc i) cs) → IsLoose h (get_or cs (i + 1) now)
       go [] i lt a = absurd (omega arith)
       go (c ∷ cs) zero lt a = head_of h cs now (omega arith) a
       go (c ∷ cs) (suc i) lt a = let e : suc i + 1 ≡ suc (i + 1) = omega arith in
           subst (λ j. IsLoose h (get_or (c ∷ cs) j now)) (sym e) (go cs i (omega arith) a)
 
-  drop_one : (i : ℕ) (xs : List (Node K V)) → drop (suc (suc i)) xs ≡ drop 1 (drop (suc i) xs)
+  drop_one : (i : ℕ) (xs : List (Node K V Z)) → drop (suc (suc i)) xs ≡ drop 1 (drop (suc i) xs)
   drop_one i [] = refl
   drop_one zero (x ∷ xs) = refl
   drop_one (suc i) (x ∷ xs) = drop_one i xs
 
-  pub next_mended : (h at : ℕ) (now mid d c : Node K V) → IsInner now → at < length (own_pairs now) → IsMendedTo h at now → d ≡ child_at now (at + 1)
+  pub next_mended : (h at : ℕ) (now mid d c : Node K V Z) → IsInner now → at < length (own_pairs now) → IsMendedTo h at now → d ≡ child_at now (at + 1)
       → IsChildSet now mid (at + 1) c → ((g : ℕ) → IsLoose g d → IsThin g c) → IsNextMended h at mid
   next_mended h at now mid d c inner lt g is m th =
       let k : length (children_of now) ≡ length (own_pairs now) + 1 = inner in
@@ -355,7 +355,7 @@ module _ {K V : Type 0} where
       }
 
   -- and the two settled
-  settled_to : (h at j : ℕ) (mid new : Node K V) → IsNextMended h at mid → IsSettled h at j mid new → IsMendedTo h j new
+  settled_to : (h at j : ℕ) (mid new : Node K V Z) → IsNextMended h at mid → IsSettled h at j mid new → IsMendedTo h j new
   settled_to h at j mid new x (inl (q, o)) =
       let s = x.seam in
       let k : length (children_of mid) ≡ length (own_pairs mid) + 1 = s.inner in
@@ -398,7 +398,7 @@ module _ {K V : Type 0} where
             x.after;
       })
 
-  settled_sizes : (h at j : ℕ) (mid new : Node K V) → IsSeam h mid at → IsSettled h at j mid new
+  settled_sizes : (h at j : ℕ) (mid new : Node K V Z) → IsSeam h mid at → IsSettled h at j mid new
       → (length (own_pairs new) + (at + 1) ≡ length (own_pairs mid) + j) × IsInner new
   settled_sizes h at j mid new s (inl (q, o)) =
       let k : length (children_of mid) ≡ length (own_pairs mid) + 1 = s.inner in
@@ -419,7 +419,7 @@ module _ {K V : Type 0} where
       let n = ap length o.children ∙ length-append (take at (children_of mid)) (o.left ∷ o.right ∷ drop (suc (suc at)) (children_of mid)) in
       (omega arith, omega arith)
 
-  pub mending_more : (old now mid new d c : Node K V) (at left left' j g : ℕ) → IsMending old now at left → left ≡ left' + 1 → IsLoose (suc g) old
+  pub mending_more : (old now mid new d c : Node K V Z) (at left left' j g : ℕ) → IsMending old now at left → left ≡ left' + 1 → IsLoose (suc g) old
       → d ≡ child_at now (at + 1) → IsChildSet now mid (at + 1) c → pairs_of c ≡ pairs_of d → ((h : ℕ) → IsLoose h d → IsThin h c)
       → pairs_of new ≡ pairs_of mid → ((h : ℕ) → IsSeam h mid at → IsSettled h at j mid new) → IsMending old new j left'
   mending_more old now mid new d c at left left' j g x e l is m p th np st =
@@ -437,7 +437,7 @@ module _ {K V : Type 0} where
       }
 
   -- all are mended
-  pub mending_end : (old now : Node K V) (at : ℕ) → IsMending old now at 0 → (h : ℕ) → IsLoose (suc h) old → IsThin (suc h) now
+  pub mending_end : (old now : Node K V Z) (at : ℕ) → IsMending old now at 0 → (h : ℕ) → IsLoose (suc h) old → IsThin (suc h) now
   mending_end old now at x h l =
       let li = x.left_is in
       let k : length (children_of now) ≡ length (own_pairs now) + 1 = x.inner in

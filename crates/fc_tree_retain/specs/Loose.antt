@@ -6,6 +6,6 @@ use Rattle.fc_tree_node.specs.declared.node.Node.{Node}
 use Rattle.fc_tree_node.specs.Node.{own_pairs, children_of, IsLeaf, IsInner}
 
 -- Each node has at most the most pairs, and the leaves lie this many levels below the first.
-abbrev pub IsLoose : {K V : Type 0} → ℕ → Node K V → Type 0
+abbrev pub IsLoose : {K V Z : Type 0} → ℕ → Node K V Z → Type 0
 IsLoose zero n = (length (own_pairs n) ≤ capacity) × IsLeaf n
 IsLoose (suc h) n = (length (own_pairs n) ≤ capacity) × IsInner n × AllByRecursion (IsLoose h) (children_of n)

@@ -12,17 +12,19 @@ use Rattle.fc_tree_retain.specs.Retained.{RetainsInTurn}
 abbrev pub SiftsPair : {S K V : Type 0} → (S → K × V → S → V → Bool → Type 0) → (S → K × V → S → Type 0) → S → K × V → S → V → Bool → Type 0
 SiftsPair {S} asked given s e t w b = (u : S) × asked s e u w b × MatchBool b (t ≡ u) (given u (e.0, w) t)
 
-module _ {S K V : Type 0} where
+module _ {S K V Z : Type 0} where
   -- The node's own pair at the place was asked, and has the value that this left.
-  abbrev pub IsAsked : (S → K × V → S → V → Bool → Type 0) → S → S → ℕ → Node K V → Node K V → Bool → Type 0
+  abbrev pub IsAsked : (S → K × V → S → V → Bool → Type 0) → S → S → ℕ → Node K V Z → Node K V Z → Bool → Type 0
   IsAsked asked s t i old new b = (e : K × V) × (w : V) × asked s e t w b × (e ≡ slice_index_or (own_pairs old) i e) × (new ≡ with_value old i w)
 
+module _ {S K V : Type 0} where
   -- The pair at i of a leaf was sifted, and j is the place of the next one.
   abbrev pub IsOwnPassed : (S → K × V → S → V → Bool → Type 0) → S → S → ℕ → ℕ → List (K × V) → List (K × V) → Type 0
   IsOwnPassed R s t i j old new = (e : K × V) × (w : V) × (b : Bool) × R s e t w b × (e ≡ slice_index_or old i e) × MatchBool b ((j ≡ i + 1) × (new ≡ set_value old i w)) ((j ≡ i) × (new ≡ remove (set_value old i w) i))
 
+module _ {S K V Z : Type 0} where
   -- The pair behind the child at i was sifted: what is left of the child and of the pair is before the child at j, which was the next one.
-  pub record IsPassed (R : S → K × V → S → V → Bool → Type 0) (s t : S) (i j : ℕ) (old new : Node K V) : Type 0 where
+  pub record IsPassed (R : S → K × V → S → V → Bool → Type 0) (s t : S) (i j : ℕ) (old new : Node K V Z) : Type 0 where
     pub asked : K × V
     pub stay : List (K × V)
     pub sifted : RetainsInTurn R s (asked ∷ []) t stay

@@ -7,12 +7,12 @@ ghost use Rattle.fc_tree_node.specs.Tree.{entries, IsSoundWithin};
 ghost use Rattle.fc_tree_retain.specs.Loose.{IsLoose};
 ghost use Rattle.fc_tree_retain.specs.Mending.{IsThin, IsSeam, IsSettled, IsJoined};
 
-use fc_base::Count;
+use fc_base::{Count, Handle};
 use fc_tree_node::node::{CAPACITY, MIN_LEN, Node};
 use fc_tree_search::lend::content;
 
 // Mends all below the node from the leaves up. The node itself may hold few pairs, none too.
-pub(crate) fn mend<K: Drop, V: Drop>(node: &mut Node<K, V>)
+pub(crate) fn mend<K: Drop, V: Drop, A: Handle>(node: &mut Node<K, V, A>)
     requires loose { (h : ℕ) × IsLoose h node.old }
     ensures pairs { pairs_of node.new ≡ pairs_of node.old }
     ensures levels { (h : ℕ) → IsLoose h node.old → IsThin h node.new }
@@ -30,7 +30,7 @@ pub(crate) fn mend<K: Drop, V: Drop>(node: &mut Node<K, V>)
 
 // Sees to it that neither of the two children beside the pair at `index` has too few pairs: where one has, they become one node if they fit,
 // and else one takes from the other. Answers the place of the last of them.
-fn settle<K: Drop, V: Drop>(node: &mut Node<K, V>, index: usize) -> usize
+fn settle<K: Drop, V: Drop, A: Handle>(node: &mut Node<K, V, A>, index: usize) -> usize
     requires { (h : ℕ) × IsSeam h node.old index }
     ensures pairs { pairs_of node.new ≡ pairs_of node.old }
     ensures settled { (h : ℕ) → IsSeam h node.old index → IsSettled h index result node.old node.new }
@@ -49,8 +49,8 @@ fn settle<K: Drop, V: Drop>(node: &mut Node<K, V>, index: usize) -> usize
 
 // Makes one node of the two children beside the pair at `index`, or lets the one that is short take from the other. Answers the place
 // of the child where the children of both meet, where in it they do, and the place of the last of the two.
-fn join<K: Drop, V: Drop>(
-    node: &mut Node<K, V>,
+fn join<K: Drop, V: Drop, A: Handle>(
+    node: &mut Node<K, V, A>,
     index: usize,
     left: usize,
     right: usize,
@@ -77,7 +77,9 @@ fn join<K: Drop, V: Drop>(
 }
 
 // A root without pairs gives way to its only child, and that too.
-pub(crate) fn without_thin_roots<K: Drop, V: Drop>(root: Node<K, V>) -> Option<Node<K, V>>
+pub(crate) fn without_thin_roots<K: Drop, V: Drop, A: Handle>(
+    root: Node<K, V, A>,
+) -> Option<Node<K, V, A>>
     requires { (h : ℕ) × IsThin h root }
     ensures pairs { entries result ≡ pairs_of root }
     ensures levels { (h : ℕ) → IsThin h root → IsSoundWithin h result }
@@ -92,7 +94,7 @@ pub(crate) fn without_thin_roots<K: Drop, V: Drop>(root: Node<K, V>) -> Option<N
 }
 
 // What takes the place of a root without pairs: its only child, or nothing where it is a leaf.
-fn only_child<K: Drop, V: Drop>(root: Node<K, V>) -> Option<Node<K, V>>
+fn only_child<K: Drop, V: Drop, A: Handle>(root: Node<K, V, A>) -> Option<Node<K, V, A>>
     requires none { length (own_pairs root) ≡ 0 }
     requires formed { IsFormed root }
     ensures { MatchOption result (IsLeaf root) (λ c. children_of root ≡ c ∷ []) }

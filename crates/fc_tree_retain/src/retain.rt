@@ -9,13 +9,14 @@ ghost use Rattle.fc_tree_retain.specs.Sifted.{SiftsPair};
 use crate::mending::{mend, without_thin_roots};
 use crate::sieve::{Extracting, ExtractingKeys, Retaining, RetainingKeys, Sieve};
 use crate::sifting::sift;
+use fc_base::Handle;
 use fc_tree_border::counting::count_in;
 use fc_tree_node::node::Node;
 
 /// Calls the closure at each pair of the tree, in order, with its value lent for writing, and drops those pairs at which it answers
 /// false. It answers how many stay. No memory is taken, and nothing is compared.
-pub fn retain<K: Drop, V: Drop, F: FnMut(&K, &mut V) -> bool>(
-    tree: &mut Option<Node<K, V>>,
+pub fn retain<K: Drop, V: Drop, F: FnMut(&K, &mut V) -> bool, A: Handle>(
+    tree: &mut Option<Node<K, V, A>>,
     f: F,
 ) -> usize
     requires sound { IsSoundMap tree.old }
@@ -31,8 +32,8 @@ pub fn retain<K: Drop, V: Drop, F: FnMut(&K, &mut V) -> bool>(
 
 /// Calls `pick` at each pair of the tree, in order, with its value lent for writing, takes those pairs out at which it answers true,
 /// and calls `each` with each of these at once. It answers how many stay. No memory is taken, and nothing is compared.
-pub fn extract_if<K: Drop, V: Drop, F: FnMut(&K, &mut V) -> bool, E: FnMut(K, V)>(
-    tree: &mut Option<Node<K, V>>,
+pub fn extract_if<K: Drop, V: Drop, F: FnMut(&K, &mut V) -> bool, E: FnMut(K, V), A: Handle>(
+    tree: &mut Option<Node<K, V, A>>,
     pick: F,
     each: E,
 ) -> usize
@@ -48,8 +49,8 @@ pub fn extract_if<K: Drop, V: Drop, F: FnMut(&K, &mut V) -> bool, E: FnMut(K, V)
 }
 
 /// `retain` by the key alone. The values stay as they are.
-pub fn retain_keys<K: Drop, V: Drop, F: FnMut(&K) -> bool>(
-    tree: &mut Option<Node<K, V>>,
+pub fn retain_keys<K: Drop, V: Drop, F: FnMut(&K) -> bool, A: Handle>(
+    tree: &mut Option<Node<K, V, A>>,
     f: F,
 ) -> usize
     requires sound { IsSoundMap tree.old }
@@ -64,8 +65,8 @@ pub fn retain_keys<K: Drop, V: Drop, F: FnMut(&K) -> bool>(
 }
 
 /// `extract_if` by the key alone: `each` is called with the keys, and the values are dropped.
-pub fn extract_keys_if<K: Drop, V: Drop, F: FnMut(&K) -> bool, E: FnMut(K)>(
-    tree: &mut Option<Node<K, V>>,
+pub fn extract_keys_if<K: Drop, V: Drop, F: FnMut(&K) -> bool, E: FnMut(K), A: Handle>(
+    tree: &mut Option<Node<K, V, A>>,
     pick: F,
     each: E,
 ) -> usize
@@ -81,8 +82,8 @@ pub fn extract_keys_if<K: Drop, V: Drop, F: FnMut(&K) -> bool, E: FnMut(K)>(
 }
 
 // Asks of each pair of the tree, which is mended after, and answers how many stay.
-fn sift_tree<K: Drop, V: Drop, S: Sieve<K, V>>(
-    tree: &mut Option<Node<K, V>>,
+fn sift_tree<K: Drop, V: Drop, S: Sieve<K, V>, A: Handle>(
+    tree: &mut Option<Node<K, V, A>>,
     sieve: &mut S,
 ) -> usize
     requires sound { IsSoundMap tree.old }
@@ -98,14 +99,17 @@ fn sift_tree<K: Drop, V: Drop, S: Sieve<K, V>>(
 }
 
 // Asks of each pair of the tree, which is mended after.
-fn sift_root<K: Drop, V: Drop, S: Sieve<K, V>>(tree: &mut Option<Node<K, V>>, sieve: &mut S)
+fn sift_root<K: Drop, V: Drop, S: Sieve<K, V>, A: Handle>(
+    tree: &mut Option<Node<K, V, A>>,
+    sieve: &mut S,
+)
     requires sound { IsSoundMap tree.old }
     requires callable { S.callable sieve.old }
     ensures sound { IsSoundMap tree.new }
     ensures sifted { RetainsInTurn (SiftsPair S.asked S.given) sieve.old (entries tree.old) sieve.new (entries tree.new) }
 {
     if let Some(mut root) = tree.take() {
-        let node: &mut Node<K, V> = &mut root;
+        let node: &mut Node<K, V, A> = &mut root;
         sift(node, sieve);
         mend(node);
         *tree = without_thin_roots(root);

@@ -9,13 +9,16 @@ ghost use Rattle.fc_tree_retain.specs.Retained.{RetainsInTurn};
 ghost use Rattle.fc_tree_retain.specs.Sifted.{SiftsPair, IsOwnPassed, IsPassed, IsAsked};
 
 use crate::sieve::Sieve;
-use fc_base::Count;
+use fc_base::{Count, Handle};
 use fc_tree_node::node::Node;
 use fc_tree_search::lend::content;
 
 // Asks of each pair below the node, in order, and takes those out that are not to stay. No node is merged: one may be left with few
 // pairs, none too.
-pub(crate) fn sift<K: Drop, V: Drop, S: Sieve<K, V>>(node: &mut Node<K, V>, sieve: &mut S)
+pub(crate) fn sift<K: Drop, V: Drop, S: Sieve<K, V>, A: Handle>(
+    node: &mut Node<K, V, A>,
+    sieve: &mut S,
+)
     requires loose { (h : ℕ) × IsLoose h node.old }
     requires callable { S.callable sieve.old }
     ensures callable { S.callable sieve.new }
@@ -35,7 +38,7 @@ pub(crate) fn sift<K: Drop, V: Drop, S: Sieve<K, V>>(node: &mut Node<K, V>, siev
 }
 
 // Asks of each pair of a leaf.
-fn sift_leaf<K: Drop, V: Drop, S: Sieve<K, V>>(node: &mut Node<K, V>, sieve: &mut S)
+fn sift_leaf<K: Drop, V: Drop, S: Sieve<K, V>, A: Handle>(node: &mut Node<K, V, A>, sieve: &mut S)
     requires leaf { IsLoose 0 node.old }
     requires callable { S.callable sieve.old }
     ensures callable { S.callable sieve.new }
@@ -49,8 +52,8 @@ fn sift_leaf<K: Drop, V: Drop, S: Sieve<K, V>>(node: &mut Node<K, V>, sieve: &mu
 }
 
 // Asks of a leaf's pair at `at`, and answers the place of the next one.
-fn sift_own<K: Drop, V: Drop, S: Sieve<K, V>>(
-    node: &mut Node<K, V>,
+fn sift_own<K: Drop, V: Drop, S: Sieve<K, V>, A: Handle>(
+    node: &mut Node<K, V, A>,
     at: usize,
     sieve: &mut S,
 ) -> usize
@@ -69,7 +72,11 @@ fn sift_own<K: Drop, V: Drop, S: Sieve<K, V>>(
 }
 
 // Whether the node's own pair at `index` is to stay.
-fn stays<K, V, S: Sieve<K, V>>(node: &mut Node<K, V>, index: usize, sieve: &mut S) -> bool
+fn stays<K, V, S: Sieve<K, V>, A: Handle>(
+    node: &mut Node<K, V, A>,
+    index: usize,
+    sieve: &mut S,
+) -> bool
     requires inside { index < length (own_pairs node.old) }
     requires callable { S.callable sieve.old }
     ensures callable { S.callable sieve.new }
@@ -81,8 +88,8 @@ fn stays<K, V, S: Sieve<K, V>>(node: &mut Node<K, V>, index: usize, sieve: &mut 
 
 // Asks of the pair behind a child that is done, and answers which child is next. Where the pair is not to stay, the last one below the
 // child takes its place; a child without pairs goes with it.
-fn sift_between<K: Drop, V: Drop, S: Sieve<K, V>>(
-    node: &mut Node<K, V>,
+fn sift_between<K: Drop, V: Drop, S: Sieve<K, V>, A: Handle>(
+    node: &mut Node<K, V, A>,
     at: usize,
     sieve: &mut S,
 ) -> usize
@@ -109,7 +116,7 @@ fn sift_between<K: Drop, V: Drop, S: Sieve<K, V>>(
 }
 
 // Takes the child at `index` out, and the pair behind it.
-fn remove_behind<K: Drop, V: Drop>(node: &mut Node<K, V>, index: usize) -> (K, V)
+fn remove_behind<K: Drop, V: Drop, A: Handle>(node: &mut Node<K, V, A>, index: usize) -> (K, V)
     requires inside { index < length (own_pairs node.old) }
     requires inner { IsInner node.old }
     ensures value { result ≡ slice_index_or (own_pairs node.old) index result }
@@ -125,7 +132,7 @@ fn remove_behind<K: Drop, V: Drop>(node: &mut Node<K, V>, index: usize) -> (K, V
 }
 
 // Takes the last pair below the node out, if there is one.
-fn take_last<K: Drop, V: Drop>(node: &mut Node<K, V>) -> Option<(K, V)>
+fn take_last<K: Drop, V: Drop, A: Handle>(node: &mut Node<K, V, A>) -> Option<(K, V)>
     requires loose { (h : ℕ) × IsLoose h node.old }
     ensures loose { (h : ℕ) → IsLoose h node.old → IsLoose h node.new }
     ensures pairs { pairs_of node.old ≡ pairs_of node.new ++ option_to_list result }
@@ -148,7 +155,7 @@ fn take_last<K: Drop, V: Drop>(node: &mut Node<K, V>) -> Option<(K, V)>
 }
 
 // Takes the own last pair of a node with children out, and the child behind it, which has no pairs.
-fn take_own_last<K: Drop, V: Drop>(node: &mut Node<K, V>) -> (K, V)
+fn take_own_last<K: Drop, V: Drop, A: Handle>(node: &mut Node<K, V, A>) -> (K, V)
     requires inner { IsInner node.old }
     requires some { 0 < length (own_pairs node.old) }
     requires empty { pairs_of (child_at node.old (length (own_pairs node.old))) ≡ [] }

@@ -23,29 +23,29 @@ module _ {X : Type 0} where
       past (y ∷ lead) zero f = absurd (omega arith)
       past (y ∷ lead) (suc n) f = past lead n (omega arith)
 
-module _ {K V : Type 0} where
+module _ {K V Z : Type 0} where
   -- a way down has come to the node, with all its pairs before others
-  pub record IsFirst (root node : Node K V) : Type 0 where
+  pub record IsFirst (root node : Node K V Z) : Type 0 where
     pub height : ℕ
     pub sound : IsSoundRoot height node
     pub rest : List (K × V)
     pub pairs : pairs_of root ≡ pairs_of node ++ rest
 
   -- a way down has come to the node, with all its pairs after others
-  pub record IsLast (root node : Node K V) : Type 0 where
+  pub record IsLast (root node : Node K V Z) : Type 0 where
     pub height : ℕ
     pub sound : IsSoundRoot height node
     pub lead : List (K × V)
     pub pairs : pairs_of root ≡ lead ++ pairs_of node
 
   -- a sound node that is no leaf has a child at each place, which is sound one level further down
-  pub record IsChild (n : Node K V) (i : ℕ) : Type 0 where
+  pub record IsChild (n : Node K V Z) (i : ℕ) : Type 0 where
     pub height : ℕ
     pub inner : IsInner n
     pub there : i < length (children_of n)
     pub sound : IsSoundRoot height (child_at n i)
 
-  pub child_of : (h : ℕ) (n : Node K V) (i : ℕ) → IsSoundRoot h n → (IsLeaf n → IsTrue false) → i ≤ length (own_pairs n) → IsChild n i
+  pub child_of : (h : ℕ) (n : Node K V Z) (i : ℕ) → IsSoundRoot h n → (IsLeaf n → IsTrue false) → i ≤ length (own_pairs n) → IsChild n i
   child_of zero n i s inner le = let no : false ≡ true = inner s.1.1 in absurd cc
   child_of (suc h) n i s inner le =
       let b = child_below h n i s.1 le in
@@ -53,10 +53,10 @@ module _ {K V : Type 0} where
       let count : length (children_of n) ≡ length (own_pairs n) + 1 = s.1.1 in
       record { height = h; inner = s.1.1; there = omega arith; sound = (omega arith, b.1) }
 
-  pub first_start : (h : ℕ) (root : Node K V) → IsSoundRoot h root → IsFirst root root
+  pub first_start : (h : ℕ) (root : Node K V Z) → IsSoundRoot h root → IsFirst root root
   first_start h root s = record { height = h; sound = s; rest = []; pairs = sym (append-nil (pairs_of root)) }
 
-  pub first_down : (root node child : Node K V) → IsFirst root node → IsChild node 0 → child ≡ child_at node 0 → IsFirst root child
+  pub first_down : (root node child : Node K V Z) → IsFirst root node → IsChild node 0 → child ≡ child_at node 0 → IsFirst root child
   first_down root node child w c e = record {
     height = c.height;
     sound = subst (IsSoundRoot c.height) (sym e) c.sound;
@@ -65,16 +65,16 @@ module _ {K V : Type 0} where
         ∙ append_assoc (pairs_of child) (after_child node 0) w.rest;
   }
 
-  pub first_found : (root node : Node K V) (p : K × V) → IsFirst root node → IsLeaf node → p ≡ get_or (own_pairs node) 0 p
+  pub first_found : (root node : Node K V Z) (p : K × V) → IsFirst root node → IsLeaf node → p ≡ get_or (own_pairs node) 0 p
       → slice_get (pairs_of root) 0 ≡ Some p
   first_found root node p w l e =
       let some = w.sound.0 in
       ap (λ s. slice_get s 0) (w.pairs ∙ ap (λ s. s ++ w.rest) (leaf_pairs node l)) ∙ first_there (own_pairs node) w.rest p (omega arith) e
 
-  pub last_start : (h : ℕ) (root : Node K V) → IsSoundRoot h root → IsLast root root
+  pub last_start : (h : ℕ) (root : Node K V Z) → IsSoundRoot h root → IsLast root root
   last_start h root s = record { height = h; sound = s; lead = []; pairs = refl }
 
-  pub last_down : (root node child : Node K V) (i : ℕ) → IsLast root node → IsChild node i → i ≡ length (own_pairs node) → child ≡ child_at node i
+  pub last_down : (root node child : Node K V Z) (i : ℕ) → IsLast root node → IsChild node i → i ≡ length (own_pairs node) → child ≡ child_at node i
       → IsLast root child
   last_down root node child i w c end e = record {
     height = c.height;
@@ -86,7 +86,7 @@ module _ {K V : Type 0} where
         ∙ sym (append_assoc w.lead (before_child node i) (pairs_of child));
   }
 
-  pub last_found : (root node : Node K V) (i : ℕ) (p : K × V) → IsLast root node → IsLeaf node → i + 1 ≡ length (own_pairs node)
+  pub last_found : (root node : Node K V Z) (i : ℕ) (p : K × V) → IsLast root node → IsLeaf node → i + 1 ≡ length (own_pairs node)
       → p ≡ get_or (own_pairs node) i p → slice_get (pairs_of root) (length (pairs_of root) - 1) ≡ Some p
   last_found root node i p w l end e =
       ap (λ s. slice_get s (length s - 1)) (w.pairs ∙ ap (λ s. w.lead ++ s) (leaf_pairs node l)) ∙ last_there w.lead (own_pairs node) i p end e

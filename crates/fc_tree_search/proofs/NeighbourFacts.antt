@@ -45,35 +45,36 @@ module _ {X : Type 0} where
       let n : length (lead ++ y ∷ xs) - 1 ≡ length lead + (length (y ∷ xs) - 1) = let l = length-append lead (y ∷ xs) in omega arith in
       last_at lead (y ∷ xs) (length (y ∷ xs) - 1) (length (lead ++ y ∷ xs) - 1) n ∙ e
 
-module _ {K V : Type 0} where
+module _ {K V Z : Type 0} where
   -- what is before a child ends with the own pair there
-  pub before_last : (h : ℕ) (n : Node K V) (i j : ℕ) (p : K × V) (lead : List (K × V)) → IsLevelled h n → i < length (own_pairs n) → j ≡ suc i
+  pub before_last : (h : ℕ) (n : Node K V Z) (i j : ℕ) (p : K × V) (lead : List (K × V)) → IsLevelled h n → i < length (own_pairs n) → j ≡ suc i
       → p ≡ get_or (own_pairs n) i p → Some p ≡ last_item (lead ++ before_child n j)
   before_last h n i j p lead l lt s e =
       sym (ap (λ s. last_item (lead ++ s)) (ap (before_child n) s ∙ before_child_pair h n i p l lt ∙ ap (λ x. before_own n i ++ x ∷ []) (sym e))
       ∙ last_kept lead (before_own n i ++ p ∷ []) p (last_is (before_own n i) p))
 
   -- in a leaf, what is after a pair is what is after the next gap, and what is before it what is before its gap
-  pub leaf_after_own : (n : Node K V) (i : ℕ) (p : K × V) (h : ℕ) → IsLevelled h n → IsLeaf n → i < length (own_pairs n) → after_own n i ≡ after_child n (suc i)
+  pub leaf_after_own : (n : Node K V Z) (i : ℕ) (p : K × V) (h : ℕ) → IsLevelled h n → IsLeaf n → i < length (own_pairs n)
+      → after_own n i ≡ after_child n (suc i)
   leaf_after_own n i p h l leaf lt =
       append_cancel_left (before_child n (suc i)) (after_own n i) (after_child n (suc i))
       (ap (λ s. s ++ after_own n i) (before_child_pair h n i p l lt) ∙ append_assoc (before_own n i) (get_or (own_pairs n) i p ∷ []) (after_own n i)
       ∙ sym (own_pair h n i p l lt) ∙ leaf_gap n (suc i) leaf)
 
-  pub leaf_before_own : (n : Node K V) (i : ℕ) (p : K × V) (h : ℕ) → IsLevelled h n → IsLeaf n → i < length (own_pairs n) → before_own n i ≡ before_child n i
+  pub leaf_before_own : (n : Node K V Z) (i : ℕ) (p : K × V) (h : ℕ) → IsLevelled h n → IsLeaf n → i < length (own_pairs n) → before_own n i ≡ before_child n i
   leaf_before_own n i p h l leaf lt =
       append_cancel_right (before_own n i) (before_child n i) (after_child n i)
       (ap (λ s. before_own n i ++ s) (after_child_pair n i p lt) ∙ sym (own_pair h n i p l lt) ∙ leaf_gap n i leaf)
 
   -- in an inner node, what is after a pair begins with the next child's, and what is before it ends with its child's
-  pub inner_after : (n : Node K V) (i : ℕ) (p : K × V) (h : ℕ) → IsLevelled h n → IsInner n → i < length (own_pairs n)
+  pub inner_after : (n : Node K V Z) (i : ℕ) (p : K × V) (h : ℕ) → IsLevelled h n → IsInner n → i < length (own_pairs n)
       → after_own n i ≡ pairs_of (child_at n (suc i)) ++ after_child n (suc i)
   inner_after n i p h l inner lt =
       append_cancel_left (before_child n (suc i)) (after_own n i) (pairs_of (child_at n (suc i)) ++ after_child n (suc i))
       (ap (λ s. s ++ after_own n i) (before_child_pair h n i p l lt) ∙ append_assoc (before_own n i) (get_or (own_pairs n) i p ∷ []) (after_own n i)
       ∙ sym (own_pair h n i p l lt) ∙ inner_gap n (suc i) inner (omega arith))
 
-  pub inner_before : (n : Node K V) (i : ℕ) (p : K × V) (h : ℕ) → IsLevelled h n → IsInner n → i < length (own_pairs n)
+  pub inner_before : (n : Node K V Z) (i : ℕ) (p : K × V) (h : ℕ) → IsLevelled h n → IsInner n → i < length (own_pairs n)
       → before_own n i ≡ before_child n i ++ pairs_of (child_at n i)
   inner_before n i p h l inner lt =
       append_cancel_right (before_own n i) (before_child n i ++ pairs_of (child_at n i)) (after_child n i)
@@ -81,19 +82,19 @@ module _ {K V : Type 0} where
       ∙ sym (append_assoc (before_child n i) (pairs_of (child_at n i)) (after_child n i)))
 
   -- the first after a node's own pair, and the last before it: in a leaf as at a gap, in an inner node those of a child
-  pub own_after_leaf : (h : ℕ) (n : Node K V) (i : ℕ) (rest : List (K × V)) → IsLevelled h n → IsLeaf n → i < length (own_pairs n)
+  pub own_after_leaf : (h : ℕ) (n : Node K V Z) (i : ℕ) (rest : List (K × V)) → IsLevelled h n → IsLeaf n → i < length (own_pairs n)
       → first_item (after_child n (i + 1) ++ rest) ≡ first_item (after_own n i ++ rest)
   own_after_leaf h n i rest l leaf lt =
       let p = (item_there (own_pairs n) i lt).0 in
       ap (λ j. first_item (after_child n j ++ rest)) (add-one i) ∙ ap (λ s. first_item (s ++ rest)) (sym (leaf_after_own n i p h l leaf lt))
 
-  pub own_before_leaf : (h : ℕ) (n : Node K V) (i : ℕ) (lead : List (K × V)) → IsLevelled h n → IsLeaf n → i < length (own_pairs n)
+  pub own_before_leaf : (h : ℕ) (n : Node K V Z) (i : ℕ) (lead : List (K × V)) → IsLevelled h n → IsLeaf n → i < length (own_pairs n)
       → last_item (lead ++ before_child n i) ≡ last_item (lead ++ before_own n i)
   own_before_leaf h n i lead l leaf lt =
       let p = (item_there (own_pairs n) i lt).0 in
       ap (λ s. last_item (lead ++ s)) (sym (leaf_before_own n i p h l leaf lt))
 
-  pub own_after_inner : (h : ℕ) (n child : Node K V) (i : ℕ) (r : K × V) (rest : List (K × V)) → IsLevelled h n → IsInner n → i < length (own_pairs n)
+  pub own_after_inner : (h : ℕ) (n child : Node K V Z) (i : ℕ) (r : K × V) (rest : List (K × V)) → IsLevelled h n → IsInner n → i < length (own_pairs n)
       → child ≡ child_at n (i + 1) → first_item (pairs_of child) ≡ Some r → Some r ≡ first_item (after_own n i ++ rest)
   own_after_inner h n child i r rest l inner lt e f =
       let p = (item_there (own_pairs n) i lt).0 in
@@ -101,7 +102,7 @@ module _ {K V : Type 0} where
       sym (ap (λ s. first_item (s ++ rest)) (inner_after n i p h l inner lt ∙ ap (λ s. s ++ after_child n (suc i)) s)
       ∙ first_kept (pairs_of child ++ after_child n (suc i)) rest r (first_kept (pairs_of child) (after_child n (suc i)) r f))
 
-  pub own_before_inner : (h : ℕ) (n child : Node K V) (i : ℕ) (r : K × V) (lead : List (K × V)) → IsLevelled h n → IsInner n → i < length (own_pairs n)
+  pub own_before_inner : (h : ℕ) (n child : Node K V Z) (i : ℕ) (r : K × V) (lead : List (K × V)) → IsLevelled h n → IsInner n → i < length (own_pairs n)
       → child ≡ child_at n i → last_item (pairs_of child) ≡ Some r → Some r ≡ last_item (lead ++ before_own n i)
   own_before_inner h n child i r lead l inner lt e f =
       let p = (item_there (own_pairs n) i lt).0 in
@@ -137,7 +138,7 @@ module _ {K Q V : Type 0} (cmp : K → Q → Ordering) (k : Q) where
       )
 
 -- what is after and before a gap of the node that a way down has come to
-module _ {K Q V : Type 0} (cmp : K → Q → Ordering) (k : Q) {root node : Node K V} {path : List ℕ} (w : IsOnWay cmp k root node path) (i : ℕ) where
+module _ {K Q V Z : Type 0} (cmp : K → Q → Ordering) (k : Q) {root node : Node K V Z} {path : List ℕ} (w : IsOnWay cmp k root node path) (i : ℕ) where
   pub way_after : after_child node i ++ after_gap path root ≡ after_gap (path ++ i ∷ []) root
   way_after = sym (after_more path i root ∙ ap (λ n. after_child n i ++ after_gap path root) (sym w.here))
 
@@ -145,7 +146,7 @@ module _ {K Q V : Type 0} (cmp : K → Q → Ordering) (k : Q) {root node : Node
   way_before = sym (before_more path i root ∙ ap (λ n. before_gap path root ++ before_child n i) (sym w.here))
 
 -- where a way down ends
-module _ {K Q V : Type 0} {own : K → K → Ordering} {cmp : K → Q → Ordering} {k : Q} {root node : Node K V} {path : List ℕ}
+module _ {K Q V Z : Type 0} {own : K → K → Ordering} {cmp : K → Q → Ordering} {k : Q} {root node : Node K V Z} {path : List ℕ}
     (on : IsSearch own cmp k root node path) where
   -- in a gap of a leaf
   module _ (i : ℕ) (f : IsGapAt cmp k (own_pairs node) i) (leaf : IsLeaf node) where

@@ -44,61 +44,61 @@ pub one_longer : (path more : List ℕ) (i : ℕ) → more ≡ path ++ i ∷ [] 
 one_longer path more i e = ap length e ∙ length-append path (i ∷ [])
 
 -- a path ends in the node that all its steps but the last lead to
-leaf_more : {K V : Type 0} (path : List ℕ) (i : ℕ) (n : Node K V) → leaf_at (path ++ i ∷ []) n ≡ node_at path n
+leaf_more : {K V Z : Type 0} (path : List ℕ) (i : ℕ) (n : Node K V Z) → leaf_at (path ++ i ∷ []) n ≡ node_at path n
 leaf_more [] i n = refl
 leaf_more (j ∷ []) i n = refl
 leaf_more (j ∷ k ∷ path) i n = leaf_more (k ∷ path) i (child_at n j)
 
 -- a levelled node that is no leaf has a child at each gap
-pub child_there : {K V : Type 0} (h : ℕ) (n : Node K V) (i : ℕ) → IsLevelled h n → (IsLeaf n → IsTrue false) → i ≤ length (own_pairs n)
+pub child_there : {K V Z : Type 0} (h : ℕ) (n : Node K V Z) (i : ℕ) → IsLevelled h n → (IsLeaf n → IsTrue false) → i ≤ length (own_pairs n)
     → i < length (children_of n)
 child_there zero n i l not_leaf le = let no : false ≡ true = not_leaf l.1 in absurd cc
 child_there (suc h) n i l not_leaf le = let e : length (children_of n) ≡ length (own_pairs n) + 1 = l.1 in omega arith
 
 -- a descent has come to the node, with smaller keys before it and greater keys after it
-pub record IsOnWay {K Q V : Type 0} (cmp : K → Q → Ordering) (k : Q) (root node : Node K V) (path : List ℕ) : Type 0 where
+pub record IsOnWay {K Q V Z : Type 0} (cmp : K → Q → Ordering) (k : Q) (root node : Node K V Z) (path : List ℕ) : Type 0 where
   pub descent : IsDescent path root
   pub here : node ≡ node_at path root
   pub front : AllBelow cmp k (before_gap path root)
   pub back : AllAbove cmp k (after_gap path root)
 
 -- a search for the key, down an ascending tree, has come to the node
-pub record IsSearch {K Q V : Type 0} (own : K → K → Ordering) (cmp : K → Q → Ordering) (k : Q) (root node : Node K V) (path : List ℕ) : Type 0 where
+pub record IsSearch {K Q V Z : Type 0} (own : K → K → Ordering) (cmp : K → Q → Ordering) (k : Q) (root node : Node K V Z) (path : List ℕ) : Type 0 where
   pub fits : IsQueryOrder own cmp
   pub levels : IsTree root
   pub order : IsAscending own (pairs_of root)
   pub way : IsOnWay cmp k root node path
 
-module _ {K Q V : Type 0} (cmp : K → Q → Ordering) (k : Q) where
+module _ {K Q V Z : Type 0} (cmp : K → Q → Ordering) (k : Q) where
   -- the levels of the node that a search has come to
-  pub way_levels : {root node : Node K V} {path : List ℕ} (t : IsTree root) → IsOnWay cmp k root node path
+  pub way_levels : {root node : Node K V Z} {path : List ℕ} (t : IsTree root) → IsOnWay cmp k root node path
       → (g : ℕ) × (length path + g ≡ t.0) × IsLevelled g node
   way_levels {root} {node} {path} t w = let d = descent_levels path t.0 root t.2 w.descent in (d.0, d.1, subst (IsLevelled d.0) (sym w.here) d.2)
 
   -- the path with one more step ends in it
-  pub way_leaf : {root node : Node K V} {path : List ℕ} (i : ℕ) (more : List ℕ) → more ≡ path ++ i ∷ [] → IsOnWay cmp k root node path
+  pub way_leaf : {root node : Node K V Z} {path : List ℕ} (i : ℕ) (more : List ℕ) → more ≡ path ++ i ∷ [] → IsOnWay cmp k root node path
       → leaf_at more root ≡ node
   way_leaf {root} {node} {path} i more e w = ap (λ p. leaf_at p root) e ∙ leaf_more path i root ∙ sym w.here
 
   -- a path has room for its steps
-  pub way_room : {root node : Node K V} {path : List ℕ} → IsTree root → IsOnWay cmp k root node path → length path < most_levels
+  pub way_room : {root node : Node K V Z} {path : List ℕ} → IsTree root → IsOnWay cmp k root node path → length path < most_levels
   way_room t w = let d = way_levels t w in omega (arith, d.1, t.1)
 
   -- a place in it fits a byte
-  pub way_small : {root node : Node K V} {path : List ℕ} (i : ℕ) → IsTree root → IsOnWay cmp k root node path → i ≤ length (own_pairs node) → i < 256
+  pub way_small : {root node : Node K V Z} {path : List ℕ} (i : ℕ) → IsTree root → IsOnWay cmp k root node path → i ≤ length (own_pairs node) → i < 256
   way_small i t w le = let d = way_levels t w in let fits = level_size d.0 _ d.2 in omega arith
 
   -- its pairs are ascending
-  pub way_ascending : (own : K → K → Ordering) {root node : Node K V} {path : List ℕ} → IsTree root → IsAscending own (pairs_of root)
+  pub way_ascending : (own : K → K → Ordering) {root node : Node K V Z} {path : List ℕ} → IsTree root → IsAscending own (pairs_of root)
       → IsOnWay cmp k root node path → IsAscending own (pairs_of node)
   way_ascending own {root} {node} {path} t a w =
       let b = subst (IsAscending own) (descent_pairs path t.0 root t.2 w.descent) a in
       subst (λ n. IsAscending own (pairs_of n)) (sym w.here) (ascending_middle own (before_gap path root) (pairs_of (node_at path root)) (after_gap path root)
       b)
 
-module _ {K Q V : Type 0} {own : K → K → Ordering} {cmp : K → Q → Ordering} (o : IsQueryOrder own cmp) (k : Q) where
+module _ {K Q V Z : Type 0} {own : K → K → Ordering} {cmp : K → Q → Ordering} (o : IsQueryOrder own cmp) (k : Q) where
   -- what leads to a gap between a node's own pairs is below the key
-  before_below : (h : ℕ) (n : Node K V) (i : ℕ) → IsLevelled h n → IsAscending own (pairs_of n) → IsGapAt cmp k (own_pairs n) i
+  before_below : (h : ℕ) (n : Node K V Z) (i : ℕ) → IsLevelled h n → IsAscending own (pairs_of n) → IsGapAt cmp k (own_pairs n) i
       → AllBelow cmp k (before_child n i)
   before_below h n zero l a f = tt
   before_below h n (suc i) l a f =
@@ -112,7 +112,7 @@ module _ {K Q V : Type 0} {own : K → K → Ordering} {cmp : K → Q → Orderi
       subst (AllBelow cmp k) (sym (before_child_pair h n i p l lt)) (side_lower o k (before_own n i) (after_own n i) (get_or s i p) b lower)
 
   -- and what is after it is above the key
-  rest_above : (h : ℕ) (n : Node K V) (i : ℕ) → IsLevelled h n → IsAscending own (pairs_of n) → IsGapAt cmp k (own_pairs n) i
+  rest_above : (h : ℕ) (n : Node K V Z) (i : ℕ) → IsLevelled h n → IsAscending own (pairs_of n) → IsGapAt cmp k (own_pairs n) i
       → (i < length (own_pairs n)) ⊎ (length (own_pairs n) ≤ i) → AllAbove cmp k (after_child n i)
   rest_above h n i l a f (inr le) = subst (AllAbove cmp k) (sym (after_none n i le)) tt
   rest_above h n i l a f (inl lt) =
@@ -121,7 +121,7 @@ module _ {K Q V : Type 0} {own : K → K → Ordering} {cmp : K → Q → Orderi
       let b = subst (IsAscending own) (own_pair h n i t.0 l lt) a in
       subst (AllAbove cmp k) (sym (after_child_pair n i t.0 lt)) (side_upper o k (before_own n i) (after_own n i) p b (f.2 t.0 lt))
 
-module _ {K Q V : Type 0} {own : K → K → Ordering} {cmp : K → Q → Ordering} {k : Q} {root node : Node K V} {path : List ℕ}
+module _ {K Q V Z : Type 0} {own : K → K → Ordering} {cmp : K → Q → Ordering} {k : Q} {root node : Node K V Z} {path : List ℕ}
     (on : IsSearch own cmp k root node path) where
   -- the path, with a gap of the node as its last step
   way_front : (i : ℕ) → IsGapAt cmp k (own_pairs node) i → AllBelow cmp k (before_gap (path ++ i ∷ []) root)
@@ -139,7 +139,7 @@ module _ {K Q V : Type 0} {own : K → K → Ordering} {cmp : K → Q → Orderi
       (all_both (λ x. cmp x.0 k ≡ Greater) (after_child node i) (after_gap path root) b on.way.back)
 
   -- the search goes on in a child
-  pub way_more : (i : ℕ) (child : Node K V) (more : List ℕ) → more ≡ path ++ i ∷ [] → IsGapAt cmp k (own_pairs node) i → i < length (children_of node)
+  pub way_more : (i : ℕ) (child : Node K V Z) (more : List ℕ) → more ≡ path ++ i ∷ [] → IsGapAt cmp k (own_pairs node) i → i < length (children_of node)
       → child ≡ child_at node i → IsOnWay cmp k root child more
   way_more i child more is f lt e = subst (IsOnWay cmp k root child) (sym is) record {
     descent = descent_more path i root on.way.descent (subst (λ n. i < length (children_of n)) on.way.here lt);
@@ -191,9 +191,9 @@ module _ {K Q V : Type 0} {own : K → K → Ordering} {cmp : K → Q → Orderi
       regroup : (x y z u : List (K × V)) (p : K × V) → x ++ ((y ++ p ∷ z) ++ u) ≡ (x ++ y) ++ p ∷ (z ++ u)
       regroup x y z u p = simp append_assoc
 
-module _ {K Q V : Type 0} (cmp : K → Q → Ordering) (k : Q) where
+module _ {K Q V Z : Type 0} (cmp : K → Q → Ordering) (k : Q) where
   -- what a path to a found pair says of the tree's list
-  pub found_at : (path : List ℕ) (h : ℕ) (root : Node K V) → IsLevelled h root → IsFound cmp k root path
+  pub found_at : (path : List ℕ) (h : ℕ) (root : Node K V Z) → IsLevelled h root → IsFound cmp k root path
       → IsAround cmp k (pairs_of root) (before_pair path root) (after_pair path root) (place_pair path root)
   found_at path h root l f =
       let c = place_pairs path h root l f.place in
@@ -206,7 +206,7 @@ module _ {K Q V : Type 0} (cmp : K → Q → Ordering) (k : Q) where
       }
 
   -- what a path to a gap says of the tree's list
-  pub gap_at : (path : List ℕ) (h : ℕ) (root : Node K V) → IsLevelled h root → IsGap cmp k root path
+  pub gap_at : (path : List ℕ) (h : ℕ) (root : Node K V Z) → IsLevelled h root → IsGap cmp k root path
       → IsAround cmp k (pairs_of root) (before_gap path root) (after_gap path root) None
   gap_at path h root l f =
       let e = gap_pairs path h root l (f.levels h l) f.way in
@@ -218,14 +218,14 @@ module _ {K Q V : Type 0} (cmp : K → Q → Ordering) (k : Q) where
       }
 
   -- the list without the pair at a key, where there is one
-  pub found_cut : (path : List ℕ) (h : ℕ) (root : Node K V) → IsLevelled h root → IsFound cmp k root path
+  pub found_cut : (path : List ℕ) (h : ℕ) (root : Node K V Z) → IsLevelled h root → IsFound cmp k root path
       → cut cmp (pairs_of root) k ≡ before_pair path root ++ after_pair path root
   found_cut path h root l f = let a = found_at path h root l f in ap (λ s. s ++ above cmp (pairs_of root) k) a.lower
       ∙ ap (λ s. before_pair path root ++ s) a.upper
 
-module _ {K V : Type 0} (cmp : K → K → Ordering) (k : K) where
+module _ {K V Z : Type 0} (cmp : K → K → Ordering) (k : K) where
   -- the list with a value at a key that is not there
-  pub gap_put : (path : List ℕ) (h : ℕ) (root : Node K V) (v : V) → IsLevelled h root → IsGap cmp k root path
+  pub gap_put : (path : List ℕ) (h : ℕ) (root : Node K V Z) (v : V) → IsLevelled h root → IsGap cmp k root path
       → put cmp (pairs_of root) k v ≡ before_gap path root ++ (k, v) ∷ after_gap path root
   gap_put path h root v l f =
       let a = gap_at cmp k path h root l f in
@@ -233,7 +233,7 @@ module _ {K V : Type 0} (cmp : K → K → Ordering) (k : K) where
       ∙ ap (λ x. before_gap path root ++ (unwrap_or (option_map (λ e. e.0) x) k, v) ∷ above cmp (pairs_of root) k) a.here
       ∙ ap (λ s. before_gap path root ++ (k, v) ∷ s) a.upper
 
-module _ {K Q V : Type 0} {own : K → K → Ordering} {cmp : K → Q → Ordering} {k : Q} {root node : Node K V} {path : List ℕ}
+module _ {K Q V Z : Type 0} {own : K → K → Ordering} {cmp : K → Q → Ordering} {k : Q} {root node : Node K V Z} {path : List ℕ}
     (on : IsSearch own cmp k root node path) where
   -- what the look-up of the key gives, where the search ends at a pair
   pub value_found : (i : ℕ) (p : K × V) → IsFoundAt cmp k (own_pairs node) i → p ≡ get_or (own_pairs node) i p → Some p ≡ at cmp (pairs_of root) k

@@ -12,12 +12,13 @@ use Rattle.fc_tree_search.proofs.PassedFacts.{passed_found, passed_down, passed_
 use Rattle.fc_tree_search.proofs.Nodes.{nodes_of, fewer_nodes}
 
 -- a search goes on from a gap of the node in the child there
-pub record GoesOn {K Q V : Type 0} (own : K → K → Ordering) (cmp : K → Q → Ordering) (k : Q) (root node child : Node K V) (path : List ℕ) (i : ℕ) : Type 0 where
+pub record GoesOn {K Q V Z : Type 0} (own : K → K → Ordering) (cmp : K → Q → Ordering) (k : Q) (root node child : Node K V Z) (path : List ℕ)
+    (i : ℕ) : Type 0 where
   pub search : IsSearch own cmp k root child (path ++ i ∷ [])
   pub passes : passed cmp k node ≡ min (i + 1) (length (own_pairs node)) + passed cmp k child
   pub fewer : nodes_of child < nodes_of node
 
-module _ {K Q V : Type 0} {own : K → K → Ordering} {cmp : K → Q → Ordering} {k : Q} {root node : Node K V} {path : List ℕ}
+module _ {K Q V Z : Type 0} {own : K → K → Ordering} {cmp : K → Q → Ordering} {k : Q} {root node : Node K V Z} {path : List ℕ}
     (on : IsSearch own cmp k root node path) where
   ascending : IsAscending own (pairs_of node)
   ascending = way_ascending cmp k own on.levels on.order on.way
@@ -35,7 +36,7 @@ module _ {K Q V : Type 0} {own : K → K → Ordering} {cmp : K → Q → Orderi
   has_child i f inner = let d = way_levels cmp k on.levels on.way in child_there d.0 node i d.2 inner f.0
 
   -- and the search goes on in that child
-  pub goes_on : (i : ℕ) (child : Node K V) → IsGapAt cmp k (own_pairs node) i → (IsLeaf node → IsTrue false) → child ≡ child_at node i
+  pub goes_on : (i : ℕ) (child : Node K V Z) → IsGapAt cmp k (own_pairs node) i → (IsLeaf node → IsTrue false) → child ≡ child_at node i
       → GoesOn own cmp k root node child path i
   goes_on i child f inner e =
       let there = has_child i f inner in

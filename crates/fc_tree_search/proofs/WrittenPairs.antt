@@ -63,127 +63,130 @@ module _ {K V : Type 0} where
   length_value (e ∷ s) zero w = refl
   length_value (e ∷ s) (suc i) w = ap suc (length_value s i w)
 
-  -- the parts of the changed nodes
-  pub value_own : (n : Node K V) (i : ℕ) (w : V) → own_pairs (with_value n i w) ≡ set_value (own_pairs n) i w
-  value_own n i w = own_made _
+  module _ {Z : Type 0} where
+    -- the parts of the changed nodes
+    pub value_own : (n : Node K V Z) (i : ℕ) (w : V) → own_pairs (with_value n i w) ≡ set_value (own_pairs n) i w
+    value_own n i w = own_made _
 
-  pub value_children : (n : Node K V) (i : ℕ) (w : V) → children_of (with_value n i w) ≡ children_of n
-  value_children n i w = children_made _
+    pub value_children : (n : Node K V Z) (i : ℕ) (w : V) → children_of (with_value n i w) ≡ children_of n
+    value_children n i w = children_made _
 
-  pub child_own : (n : Node K V) (i : ℕ) (c : Node K V) → own_pairs (with_child n i c) ≡ own_pairs n
-  child_own n i c = own_made _
+    pub child_own : (n : Node K V Z) (i : ℕ) (c : Node K V Z) → own_pairs (with_child n i c) ≡ own_pairs n
+    child_own n i c = own_made _
 
-  with_in : (o : Option (List (Node K V))) (i : ℕ) (c : Node K V) → items_or_none (option_map (λ cs. slice_set cs i c) o) ≡ slice_set (items_or_none o) i c
-  with_in None i c = refl
-  with_in (Some cs) i c = refl
+    with_in : (o : Option (List (Node K V Z))) (i : ℕ) (c : Node K V Z)
+        → items_or_none (option_map (λ cs. slice_set cs i c) o) ≡ slice_set (items_or_none o) i c
+    with_in None i c = refl
+    with_in (Some cs) i c = refl
 
-  pub child_children : (n : Node K V) (i : ℕ) (c : Node K V) → children_of (with_child n i c) ≡ slice_set (children_of n) i c
-  child_children n i c = children_made _ ∙ with_in (out-Node K V n).children i c
+    pub child_children : (n : Node K V Z) (i : ℕ) (c : Node K V Z) → children_of (with_child n i c) ≡ slice_set (children_of n) i c
+    child_children n i c = children_made _ ∙ with_in (out-Node K V Z n).children i c
 
-  -- the levels stay
-  value_levels : (h : ℕ) (n : Node K V) (i : ℕ) (w : V) → IsLevelled h n → IsLevelled h (with_value n i w)
-  value_levels zero n i w l =
-      let e : length (own_pairs (with_value n i w)) ≡ length (own_pairs n) = ap length (value_own n i w) ∙ length_value (own_pairs n) i w in
-      (omega (arith, l.0), field_made _ ∙ l.1)
-  value_levels (suc h) n i w l =
-      let e : length (own_pairs (with_value n i w)) ≡ length (own_pairs n) = ap length (value_own n i w) ∙ length_value (own_pairs n) i w in
-      let f : length (children_of (with_value n i w)) ≡ length (children_of n) = ap length (value_children n i w) in
-      let g : length (children_of n) ≡ length (own_pairs n) + 1 = l.1 in
-      (omega (arith, l.0), omega arith, subst (AllByRecursion (IsBelow h)) (sym (value_children n i w)) l.2)
+    -- the levels stay
+    value_levels : (h : ℕ) (n : Node K V Z) (i : ℕ) (w : V) → IsLevelled h n → IsLevelled h (with_value n i w)
+    value_levels zero n i w l =
+        let e : length (own_pairs (with_value n i w)) ≡ length (own_pairs n) = ap length (value_own n i w) ∙ length_value (own_pairs n) i w in
+        (omega (arith, l.0), field_made _ ∙ l.1)
+    value_levels (suc h) n i w l =
+        let e : length (own_pairs (with_value n i w)) ≡ length (own_pairs n) = ap length (value_own n i w) ∙ length_value (own_pairs n) i w in
+        let f : length (children_of (with_value n i w)) ≡ length (children_of n) = ap length (value_children n i w) in
+        let g : length (children_of n) ≡ length (own_pairs n) + 1 = l.1 in
+        (omega (arith, l.0), omega arith, subst (AllByRecursion (IsBelow h)) (sym (value_children n i w)) l.2)
 
-  child_levels : (h : ℕ) (n : Node K V) (i : ℕ) (c : Node K V) → IsLevelled (suc h) n → IsBelow h c → IsLevelled (suc h) (with_child n i c)
-  child_levels h n i c l b =
-      let e : length (own_pairs (with_child n i c)) ≡ length (own_pairs n) = ap length (child_own n i c) in
-      let f : length (children_of (with_child n i c)) ≡ length (children_of n) = ap length (child_children n i c) ∙ length_set (children_of n) i c in
-      let g : length (children_of n) ≡ length (own_pairs n) + 1 = l.1 in
-      (omega (arith, l.0), omega arith, subst (AllByRecursion (IsBelow h)) (sym (child_children n i c)) (all_set (IsBelow h) (children_of n) i c l.2 b))
+    child_levels : (h : ℕ) (n : Node K V Z) (i : ℕ) (c : Node K V Z) → IsLevelled (suc h) n → IsBelow h c → IsLevelled (suc h) (with_child n i c)
+    child_levels h n i c l b =
+        let e : length (own_pairs (with_child n i c)) ≡ length (own_pairs n) = ap length (child_own n i c) in
+        let f : length (children_of (with_child n i c)) ≡ length (children_of n) = ap length (child_children n i c) ∙ length_set (children_of n) i c in
+        let g : length (children_of n) ≡ length (own_pairs n) + 1 = l.1 in
+        (omega (arith, l.0), omega arith, subst (AllByRecursion (IsBelow h)) (sym (child_children n i c)) (all_set (IsBelow h) (children_of n) i c l.2 b))
 
-  -- the levels of the tree in which a value is written
-  pub written_levels : (path : List ℕ) (h : ℕ) (n : Node K V) (w : V) → IsLevelled h n → IsPlace path n
-      → IsLevelled h (written n path w) × (length (own_pairs (written n path w)) ≡ length (own_pairs n))
-  unfolding written
-  written_levels [] h n w l q = absurd q
-  written_levels (i ∷ []) h n w l q = (value_levels h n i w l, ap length (value_own n i w) ∙ length_value (own_pairs n) i w)
-  written_levels (i ∷ j ∷ path) zero n w l q = absurd (let s = step_levels zero n i l q.0 in let f = s.1 in cc)
-  written_levels (i ∷ j ∷ path) (suc h) n w l q =
-      let k : length (children_of n) ≡ length (own_pairs n) + 1 = l.1 in
-      let le : i ≤ length (own_pairs n) = let f = q.0 in omega arith in
-      let b = child_below h n i l le in
-      let c = written (child_at n i) (j ∷ path) w in
-      let r = written_levels (j ∷ path) h (child_at n i) w b.1 q.1 in
-      (child_levels h n i c l (let f = b.0 in let g = r.1 in omega arith, r.0), ap length (child_own n i c))
+    -- the levels of the tree in which a value is written
+    pub written_levels : (path : List ℕ) (h : ℕ) (n : Node K V Z) (w : V) → IsLevelled h n → IsPlace path n
+        → IsLevelled h (written n path w) × (length (own_pairs (written n path w)) ≡ length (own_pairs n))
+    unfolding written
+    written_levels [] h n w l q = absurd q
+    written_levels (i ∷ []) h n w l q = (value_levels h n i w l, ap length (value_own n i w) ∙ length_value (own_pairs n) i w)
+    written_levels (i ∷ j ∷ path) zero n w l q = absurd (let s = step_levels zero n i l q.0 in let f = s.1 in cc)
+    written_levels (i ∷ j ∷ path) (suc h) n w l q =
+        let k : length (children_of n) ≡ length (own_pairs n) + 1 = l.1 in
+        let le : i ≤ length (own_pairs n) = let f = q.0 in omega arith in
+        let b = child_below h n i l le in
+        let c = written (child_at n i) (j ∷ path) w in
+        let r = written_levels (j ∷ path) h (child_at n i) w b.1 q.1 in
+        (child_levels h n i c l (let f = b.0 in let g = r.1 in omega arith, r.0), ap length (child_own n i c))
 
-  -- the place stays, with the value in its pair
-  pub record IsWrittenAt (path : List ℕ) (n m : Node K V) (p : K × V) (w : V) : Type 0 where
-    pub place : IsPlace path m
-    pub pair : place_pair path m ≡ Some (p.0, w)
-    pub before : before_pair path m ≡ before_pair path n
-    pub after : after_pair path m ≡ after_pair path n
+    -- the place stays, with the value in its pair
+    pub record IsWrittenAt (path : List ℕ) (n m : Node K V Z) (p : K × V) (w : V) : Type 0 where
+      pub place : IsPlace path m
+      pub pair : place_pair path m ≡ Some (p.0, w)
+      pub before : before_pair path m ≡ before_pair path n
+      pub after : after_pair path m ≡ after_pair path n
 
-  own_at : (n : Node K V) (i : ℕ) (p : K × V) (w : V) → i < length (own_pairs n) → slice_get (own_pairs n) i ≡ Some p
-      → IsWrittenAt (i ∷ []) n (with_value n i w) p w
-  own_at n i p w lt e =
-      let m = with_value n i w in
-      let s = own_pairs n in
-      let f : length (own_pairs m) ≡ length s = ap length (value_own n i w) ∙ length_value s i w in
-      let part : List (Node K V) → List (K × V) → List (K × V) = λ cs ps. weave (map pairs_of cs) ps in
-      record {
-        place = omega arith;
-        pair = ap (λ ps. slice_get ps i) (value_own n i w) ∙ get_value s i w p e;
-        before = ap (λ cs. part (take (suc i) cs) (take i (own_pairs m))) (value_children n i w)
-            ∙ ap (part (take (suc i) (children_of n))) (ap (take i) (value_own n i w) ∙ take_value s i w);
-        after = ap (λ cs. part (drop (suc i) cs) (drop (suc i) (own_pairs m))) (value_children n i w)
-            ∙ ap (part (drop (suc i) (children_of n))) (ap (drop (suc i)) (value_own n i w) ∙ drop_value s i w);
-      }
+    own_at : (n : Node K V Z) (i : ℕ) (p : K × V) (w : V) → i < length (own_pairs n) → slice_get (own_pairs n) i ≡ Some p
+        → IsWrittenAt (i ∷ []) n (with_value n i w) p w
+    own_at n i p w lt e =
+        let m = with_value n i w in
+        let s = own_pairs n in
+        let f : length (own_pairs m) ≡ length s = ap length (value_own n i w) ∙ length_value s i w in
+        let part : List (Node K V Z) → List (K × V) → List (K × V) = λ cs ps. weave (map pairs_of cs) ps in
+        record {
+          place = omega arith;
+          pair = ap (λ ps. slice_get ps i) (value_own n i w) ∙ get_value s i w p e;
+          before = ap (λ cs. part (take (suc i) cs) (take i (own_pairs m))) (value_children n i w)
+              ∙ ap (part (take (suc i) (children_of n))) (ap (take i) (value_own n i w) ∙ take_value s i w);
+          after = ap (λ cs. part (drop (suc i) cs) (drop (suc i) (own_pairs m))) (value_children n i w)
+              ∙ ap (part (drop (suc i) (children_of n))) (ap (drop (suc i)) (value_own n i w) ∙ drop_value s i w);
+        }
 
-  pub written_at : (path : List ℕ) (n : Node K V) (p : K × V) (w : V) → IsPlace path n → place_pair path n ≡ Some p → IsWrittenAt path n (written n path w) p w
-  unfolding written
-  written_at [] n p w q e = absurd q
-  written_at (i ∷ []) n p w q e = own_at n i p w q e
-  written_at (i ∷ j ∷ path) n p w q e =
-      let cs = children_of n in
-      let c = written (child_at n i) (j ∷ path) w in
-      let m = with_child n i c in
-      let r = written_at (j ∷ path) (child_at n i) p w q.1 e in
-      let all = child_children n i c in
-      let same : child_at m i ≡ c = ap (λ ds. get_or ds i m) all ∙ get_set cs i c m q.0 in
-      let lt : i < length (children_of m) = let f = q.0 in let g = length_set cs i c in
-      let k : length (children_of m) ≡ length (slice_set cs i c) = ap length all in omega arith in
-      let lead : before_child m i ≡ before_child n i = ap (λ ds. before_list (map pairs_of ds) (take i (own_pairs m))) (ap (take i) all ∙ take_set cs i c)
-      ∙ ap (λ ps. before_list (map pairs_of (take i cs)) (take i ps)) (child_own n i c) in
-      let rest : after_child m i ≡ after_child n i = ap (λ ds. after_list (drop i (own_pairs m)) (map pairs_of ds)) (ap (drop (suc i)) all ∙ drop_set cs i c)
-      ∙ ap (λ ps. after_list (drop i ps) (map pairs_of (drop (suc i) cs))) (child_own n i c) in
-      record {
-        place = (lt, subst (IsPlace (j ∷ path)) (sym same) r.place);
-        pair = ap (place_pair (j ∷ path)) same ∙ r.pair;
-        before = ap (λ d. before_child m i ++ before_pair (j ∷ path) d) same ∙ ap (λ zs. zs ++ before_pair (j ∷ path) c) lead
-            ∙ ap (λ zs. before_child n i ++ zs) r.before;
-        after = ap (λ d. after_pair (j ∷ path) d ++ after_child m i) same ∙ ap (λ zs. after_pair (j ∷ path) c ++ zs) rest
-            ∙ ap (λ zs. zs ++ after_child n i) r.after;
-      }
+    pub written_at : (path : List ℕ) (n : Node K V Z) (p : K × V) (w : V) → IsPlace path n → place_pair path n ≡ Some p
+        → IsWrittenAt path n (written n path w) p w
+    unfolding written
+    written_at [] n p w q e = absurd q
+    written_at (i ∷ []) n p w q e = own_at n i p w q e
+    written_at (i ∷ j ∷ path) n p w q e =
+        let cs = children_of n in
+        let c = written (child_at n i) (j ∷ path) w in
+        let m = with_child n i c in
+        let r = written_at (j ∷ path) (child_at n i) p w q.1 e in
+        let all = child_children n i c in
+        let same : child_at m i ≡ c = ap (λ ds. get_or ds i m) all ∙ get_set cs i c m q.0 in
+        let lt : i < length (children_of m) = let f = q.0 in let g = length_set cs i c in
+        let k : length (children_of m) ≡ length (slice_set cs i c) = ap length all in omega arith in
+        let lead : before_child m i ≡ before_child n i = ap (λ ds. before_list (map pairs_of ds) (take i (own_pairs m))) (ap (take i) all ∙ take_set cs i c)
+        ∙ ap (λ ps. before_list (map pairs_of (take i cs)) (take i ps)) (child_own n i c) in
+        let rest : after_child m i ≡ after_child n i = ap (λ ds. after_list (drop i (own_pairs m)) (map pairs_of ds)) (ap (drop (suc i)) all ∙ drop_set cs i c)
+        ∙ ap (λ ps. after_list (drop i ps) (map pairs_of (drop (suc i) cs))) (child_own n i c) in
+        record {
+          place = (lt, subst (IsPlace (j ∷ path)) (sym same) r.place);
+          pair = ap (place_pair (j ∷ path)) same ∙ r.pair;
+          before = ap (λ d. before_child m i ++ before_pair (j ∷ path) d) same ∙ ap (λ zs. zs ++ before_pair (j ∷ path) c) lead
+              ∙ ap (λ zs. before_child n i ++ zs) r.before;
+          after = ap (λ d. after_pair (j ∷ path) d ++ after_child m i) same ∙ ap (λ zs. after_pair (j ∷ path) c ++ zs) rest
+              ∙ ap (λ zs. zs ++ after_child n i) r.after;
+        }
 
-  pair_there : (path : List ℕ) (n : Node K V) → IsPlace path n → (p : K × V) × (place_pair path n ≡ Some p)
-  pair_there [] n q = absurd q
-  pair_there (i ∷ []) n q = let x = item_there (own_pairs n) i q in (x.0, x.2)
-  pair_there (i ∷ j ∷ path) n q = pair_there (j ∷ path) (child_at n i) q.1
+    pair_there : (path : List ℕ) (n : Node K V Z) → IsPlace path n → (p : K × V) × (place_pair path n ≡ Some p)
+    pair_there [] n q = absurd q
+    pair_there (i ∷ []) n q = let x = item_there (own_pairs n) i q in (x.0, x.2)
+    pair_there (i ∷ j ∷ path) n q = pair_there (j ∷ path) (child_at n i) q.1
 
-  pub written_place : (path : List ℕ) (n : Node K V) (w : V) → IsPlace path n → IsPlace path (written n path w)
-  written_place path n w q = let x = pair_there path n q in (written_at path n x.0 w q x.1).place
+    pub written_place : (path : List ℕ) (n : Node K V Z) (w : V) → IsPlace path n → IsPlace path (written n path w)
+    written_place path n w q = let x = pair_there path n q in (written_at path n x.0 w q x.1).place
 
-  pub written_tree : (path : List ℕ) (n : Node K V) (w : V) → IsTree n → IsPlace path n → IsTree (written n path w)
-  written_tree path n w t q = (t.0, t.1, (written_levels path t.0 n w t.2 q).0)
+    pub written_tree : (path : List ℕ) (n : Node K V Z) (w : V) → IsTree n → IsPlace path n → IsTree (written n path w)
+    written_tree path n w t q = (t.0, t.1, (written_levels path t.0 n w t.2 q).0)
 
-  -- the pairs are the same but for the value
-  pub written_pairs : (path : List ℕ) (h : ℕ) (n : Node K V) (p : K × V) (w : V) → IsLevelled h n → IsPlace path n → place_pair path n ≡ Some p
-      → pairs_of (written n path w) ≡ before_pair path n ++ (p.0, w) ∷ after_pair path n
-  written_pairs path h n p w l q e =
-      let m = written n path w in
-      let r = written_at path n p w q e in
-      let c = place_pairs path h m (written_levels path h n w l q).0 r.place in
-      let both : Some c.pair ≡ Some (p.0, w) = sym c.is ∙ r.pair in
-      let x : c.pair ≡ (p.0, w) = cc in
-      c.parts ∙ ap (λ zs. zs ++ c.pair ∷ after_pair path m) r.before ∙ ap (λ y. before_pair path n ++ y ∷ after_pair path m) x
-      ∙ ap (λ zs. before_pair path n ++ (p.0, w) ∷ zs) r.after
+    -- the pairs are the same but for the value
+    pub written_pairs : (path : List ℕ) (h : ℕ) (n : Node K V Z) (p : K × V) (w : V) → IsLevelled h n → IsPlace path n → place_pair path n ≡ Some p
+        → pairs_of (written n path w) ≡ before_pair path n ++ (p.0, w) ∷ after_pair path n
+    written_pairs path h n p w l q e =
+        let m = written n path w in
+        let r = written_at path n p w q e in
+        let c = place_pairs path h m (written_levels path h n w l q).0 r.place in
+        let both : Some c.pair ≡ Some (p.0, w) = sym c.is ∙ r.pair in
+        let x : c.pair ≡ (p.0, w) = cc in
+        c.parts ∙ ap (λ zs. zs ++ c.pair ∷ after_pair path m) r.before ∙ ap (λ y. before_pair path n ++ y ∷ after_pair path m) x
+        ∙ ap (λ zs. before_pair path n ++ (p.0, w) ∷ zs) r.after
 
 -- the pairs stay in order
 module _ {K V : Type 0} (cmp : K → K → Ordering) where
@@ -196,12 +199,13 @@ module _ {K V : Type 0} (cmp : K → K → Ordering) where
   ascending_value [] R p w a = a
   ascending_value (x ∷ L) R p w a = (same_keys (λ k. cmp x.0 k ≡ Less) L R p w a.0, ascending_value L R p w a.1)
 
-  pub written_ascending : (path : List ℕ) (h : ℕ) (n : Node K V) (w : V) → IsLevelled h n → IsPlace path n → IsAscending cmp (pairs_of n)
-      → IsAscending cmp (pairs_of (written n path w))
-  written_ascending path h n w l q a =
-      let c = place_pairs path h n l q in
-      subst (IsAscending cmp) (sym (written_pairs path h n c.pair w l q c.is))
-      (ascending_value (before_pair path n) (after_pair path n) c.pair w (subst (IsAscending cmp) c.parts a))
+  module _ {Z : Type 0} where
+    pub written_ascending : (path : List ℕ) (h : ℕ) (n : Node K V Z) (w : V) → IsLevelled h n → IsPlace path n → IsAscending cmp (pairs_of n)
+        → IsAscending cmp (pairs_of (written n path w))
+    written_ascending path h n w l q a =
+        let c = place_pairs path h n l q in
+        subst (IsAscending cmp) (sym (written_pairs path h n c.pair w l q c.is))
+        (ascending_value (before_pair path n) (after_pair path n) c.pair w (subst (IsAscending cmp) c.parts a))
 
 -- what a search passes stays
 module _ {K Q V : Type 0} (cmp : K → Q → Ordering) (k : Q) where
@@ -232,32 +236,33 @@ module _ {K Q V : Type 0} (cmp : K → Q → Ordering) (k : Q) where
       ∙ ap (λ j. cond (list_any (λ e. is_eq (cmp e.0 k)) s) 0 (slice_index ns j)) l in
       omega arith
 
-  counts_set : (cs : List (Node K V)) (i : ℕ) (c d : Node K V) → passed cmp k c ≡ passed cmp k (get_or cs i d)
-      → map (passed cmp k) (slice_set cs i c) ≡ map (passed cmp k) cs
-  counts_set [] i c d e = refl
-  counts_set (x ∷ cs) zero c d e = ap (λ m. m ∷ map (passed cmp k) cs) e
-  counts_set (x ∷ cs) (suc i) c d e = ap (λ ms. passed cmp k x ∷ ms) (counts_set cs i c d e)
+  module _ {Z : Type 0} where
+    counts_set : (cs : List (Node K V Z)) (i : ℕ) (c d : Node K V Z) → passed cmp k c ≡ passed cmp k (get_or cs i d)
+        → map (passed cmp k) (slice_set cs i c) ≡ map (passed cmp k) cs
+    counts_set [] i c d e = refl
+    counts_set (x ∷ cs) zero c d e = ap (λ m. m ∷ map (passed cmp k) cs) e
+    counts_set (x ∷ cs) (suc i) c d e = ap (λ ms. passed cmp k x ∷ ms) (counts_set cs i c d e)
 
-  pub written_passed : (path : List ℕ) (n : Node K V) (w : V) → passed cmp k (written n path w) ≡ passed cmp k n
-  unfolding written
-  written_passed [] n w = refl
-  written_passed (i ∷ []) n w =
-      passed_is cmp k (with_value n i w) ∙ ap (λ cs. passed_in cmp k (own_pairs (with_value n i w)) (map (passed cmp k) cs)) (value_children n i w)
-      ∙ ap (λ s. passed_in cmp k s (map (passed cmp k) (children_of n))) (value_own n i w)
-      ∙ value_passed (own_pairs n) (map (passed cmp k) (children_of n)) i w ∙ sym (passed_is cmp k n)
-  written_passed (i ∷ j ∷ path) n w =
-      let c = written (child_at n i) (j ∷ path) w in
-      passed_is cmp k (with_child n i c) ∙ ap (λ cs. passed_in cmp k (own_pairs (with_child n i c)) (map (passed cmp k) cs)) (child_children n i c)
-      ∙ ap (λ ns. passed_in cmp k (own_pairs (with_child n i c)) ns) (counts_set (children_of n) i c n (written_passed (j ∷ path) (child_at n i) w))
-      ∙ ap (λ s. passed_in cmp k s (map (passed cmp k) (children_of n))) (child_own n i c) ∙ sym (passed_is cmp k n)
+    pub written_passed : (path : List ℕ) (n : Node K V Z) (w : V) → passed cmp k (written n path w) ≡ passed cmp k n
+    unfolding written
+    written_passed [] n w = refl
+    written_passed (i ∷ []) n w =
+        passed_is cmp k (with_value n i w) ∙ ap (λ cs. passed_in cmp k (own_pairs (with_value n i w)) (map (passed cmp k) cs)) (value_children n i w)
+        ∙ ap (λ s. passed_in cmp k s (map (passed cmp k) (children_of n))) (value_own n i w)
+        ∙ value_passed (own_pairs n) (map (passed cmp k) (children_of n)) i w ∙ sym (passed_is cmp k n)
+    written_passed (i ∷ j ∷ path) n w =
+        let c = written (child_at n i) (j ∷ path) w in
+        passed_is cmp k (with_child n i c) ∙ ap (λ cs. passed_in cmp k (own_pairs (with_child n i c)) (map (passed cmp k) cs)) (child_children n i c)
+        ∙ ap (λ ns. passed_in cmp k (own_pairs (with_child n i c)) ns) (counts_set (children_of n) i c n (written_passed (j ∷ path) (child_at n i) w))
+        ∙ ap (λ s. passed_in cmp k s (map (passed cmp k) (children_of n))) (child_own n i c) ∙ sym (passed_is cmp k n)
 
-  -- a value written at the place of a key's pair is the value put at the key
-  pub written_put : (path : List ℕ) (h : ℕ) (n : Node K V) (j : K) (w : V) → IsLevelled h n → IsFound cmp k n path
-      → pairs_of (written n path w) ≡ put_by cmp (pairs_of n) k j w
-  written_put path h n j w l f =
-      let c = place_pairs path h n l f.place in
-      let a = found_at cmp k path h n l f in
-      written_pairs path h n c.pair w l f.place c.is
-      ∙ ap (λ zs. zs ++ (c.pair.0, w) ∷ after_pair path n) (sym a.lower)
-      ∙ ap (λ o. below cmp (pairs_of n) k ++ (unwrap_or (option_map (λ e. e.0) o) j, w) ∷ after_pair path n) (sym (a.here ∙ c.is))
-      ∙ ap (λ zs. below cmp (pairs_of n) k ++ (unwrap_or (option_map (λ e. e.0) (at cmp (pairs_of n) k)) j, w) ∷ zs) (sym a.upper)
+    -- a value written at the place of a key's pair is the value put at the key
+    pub written_put : (path : List ℕ) (h : ℕ) (n : Node K V Z) (j : K) (w : V) → IsLevelled h n → IsFound cmp k n path
+        → pairs_of (written n path w) ≡ put_by cmp (pairs_of n) k j w
+    written_put path h n j w l f =
+        let c = place_pairs path h n l f.place in
+        let a = found_at cmp k path h n l f in
+        written_pairs path h n c.pair w l f.place c.is
+        ∙ ap (λ zs. zs ++ (c.pair.0, w) ∷ after_pair path n) (sym a.lower)
+        ∙ ap (λ o. below cmp (pairs_of n) k ++ (unwrap_or (option_map (λ e. e.0) o) j, w) ∷ after_pair path n) (sym (a.here ∙ c.is))
+        ∙ ap (λ zs. below cmp (pairs_of n) k ++ (unwrap_or (option_map (λ e. e.0) (at cmp (pairs_of n) k)) j, w) ∷ zs) (sym a.upper)

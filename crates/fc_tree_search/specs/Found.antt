@@ -25,19 +25,20 @@ module _ {K Q V : Type 0} (cmp : K → Q → Ordering) (k : Q) where
   abbrev pub IsGapAt : List (K × V) → ℕ → Type 0
   IsGapAt s i = (i ≤ length s) × AllBelow (take i s) × ((d : K × V) → i < length s → cmp (slice_index_or s i d).0 k ≡ Greater)
 
-  -- The path leads to a pair whose key is equal to k, between keys below k and keys above k.
-  pub record IsFound (root : Node K V) (path : List ℕ) : Type 0 where
-    pub place : IsPlace path root
-    pub equal : IfSome (place_pair path root) (λ e. cmp e.0 k ≡ Equal)
-    pub before : AllBelow (before_pair path root)
-    pub after : AllAbove (after_pair path root)
+  module _ {Z : Type 0} where
+    -- The path leads to a pair whose key is equal to k, between keys below k and keys above k.
+    pub record IsFound (root : Node K V Z) (path : List ℕ) : Type 0 where
+      pub place : IsPlace path root
+      pub equal : IfSome (place_pair path root) (λ e. cmp e.0 k ≡ Equal)
+      pub before : AllBelow (before_pair path root)
+      pub after : AllAbove (after_pair path root)
 
-  -- The path leads down to a gap between the pairs of a leaf, with the keys below k before it and those above k after it.
-  pub record IsGap (root : Node K V) (path : List ℕ) : Type 0 where
-    pub way : IsPath path root
-    pub levels : (h : ℕ) → IsLevelled h root → length path ≡ h + 1
-    pub front : AllBelow (before_gap path root)
-    pub back : AllAbove (after_gap path root)
+    -- The path leads down to a gap between the pairs of a leaf, with the keys below k before it and those above k after it.
+    pub record IsGap (root : Node K V Z) (path : List ℕ) : Type 0 where
+      pub way : IsPath path root
+      pub levels : (h : ℕ) → IsLevelled h root → length path ≡ h + 1
+      pub front : AllBelow (before_gap path root)
+      pub back : AllAbove (after_gap path root)
 
 -- How many of a node's n keys a search from the left compares.
 abbrev pub seen : Result ℕ ℕ → ℕ → ℕ

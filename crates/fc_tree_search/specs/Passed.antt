@@ -20,10 +20,11 @@ module _ {K Q V : Type 0} (cmp : K → Q → Ordering) (k : Q) where
   abbrev pub down_count : List (K × V) → List ℕ → ℕ
   down_count s counts = if list_any (λ e. is_eq (cmp e.0 k)) s then 0 else slice_index counts (lower_count s)
 
-  -- The keys below k, one more where there is a key not below k, and what is passed further down.
-  abbrev pub passed_step : Node-F K V ℕ → ℕ
-  passed_step f = lower_count f.pairs + stop_count f.pairs + down_count f.pairs (items_or_none f.children)
+  module _ {Z : Type 0} where
+    -- The keys below k, one more where there is a key not below k, and what is passed further down.
+    abbrev pub passed_step : Node-F K V Z ℕ → ℕ
+    passed_step f = lower_count f.pairs + stop_count f.pairs + down_count f.pairs (items_or_none f.children)
 
-  -- How many keys a search for k passes in the node and below it.
-  abbrev pub passed : Node K V → ℕ
-  passed = fold-Node K V ℕ passed_step
+    -- How many keys a search for k passes in the node and below it.
+    abbrev pub passed : Node K V Z → ℕ
+    passed = fold-Node K V Z ℕ passed_step

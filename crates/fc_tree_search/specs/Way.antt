@@ -12,10 +12,11 @@ module _ {K Q V : Type 0} (cmp : K → Q → Ordering) (k : Q) where
   abbrev pub onward : List (K × V) → List (List ℕ) → List ℕ
   onward s paths = if list_any (λ e. is_eq (cmp e.0 k)) s then [] else slice_index_or paths (lower_count cmp k s) []
 
-  -- The number of keys below k, and then the path further down.
-  abbrev pub way_step : Node-F K V (List ℕ) → List ℕ
-  way_step f = lower_count cmp k f.pairs ∷ onward f.pairs (items_or_none f.children)
+  module _ {Z : Type 0} where
+    -- The number of keys below k, and then the path further down.
+    abbrev pub way_step : Node-F K V Z (List ℕ) → List ℕ
+    way_step f = lower_count cmp k f.pairs ∷ onward f.pairs (items_or_none f.children)
 
-  -- The path from the node to the pair with a key equal to k, or else to the gap between the pairs of a leaf where k would go.
-  abbrev pub path_to : Node K V → List ℕ
-  path_to = fold-Node K V (List ℕ) way_step
+    -- The path from the node to the pair with a key equal to k, or else to the gap between the pairs of a leaf where k would go.
+    abbrev pub path_to : Node K V Z → List ℕ
+    path_to = fold-Node K V Z (List ℕ) way_step

@@ -3,6 +3,7 @@ use Rattle.std.specs.Prelude.{ℕ, zero, suc, List, [], ◌∷◌, slice_set, Op
 use Rattle.std.specs.Option.{option_map}
 use Rattle.std.specs.Borrow.{Fml, RattleType, MutBor, Lends}
 use Rattle.std.specs.contracts.option.Option as option
+use Rattle.core.specs.declared.alloc.Allocator.{Ghosts}
 use Rattle.fc_tree_node.specs.declared.node.Node.{Node, out-Node, roll-Node}
 use Rattle.fc_tree_node.specs.Node.{child_at}
 use Rattle.fc_tree_node.specs.contracts.node.Node.{the_row}
@@ -13,17 +14,17 @@ set_value [] i w = []
 set_value (e ∷ es) zero w = (e.0, w) ∷ es
 set_value (e ∷ es) (suc i) w = e ∷ set_value es i w
 
-module _ {K V : Type 0} where
+module _ {K V Z : Type 0} where
   -- The node with this value in its own pair at the place.
-  abbrev pub with_value : Node K V → ℕ → V → Node K V
-  with_value n i w = roll-Node K V (record { pairs = set_value (out-Node K V n).pairs i w; children = (out-Node K V n).children })
+  abbrev pub with_value : Node K V Z → ℕ → V → Node K V Z
+  with_value n i w = roll-Node K V Z (record { pairs = set_value (out-Node K V Z n).pairs i w; children = (out-Node K V Z n).children })
 
   -- The node with this child at the place.
-  abbrev pub with_child : Node K V → ℕ → Node K V → Node K V
-  with_child n i c = roll-Node K V (record { pairs = (out-Node K V n).pairs; children = option_map (λ cs. slice_set cs i c) (out-Node K V n).children })
+  abbrev pub with_child : Node K V Z → ℕ → Node K V Z → Node K V Z
+  with_child n i c = roll-Node K V Z (record { pairs = (out-Node K V Z n).pairs; children = option_map (λ cs. slice_set cs i c) (out-Node K V Z n).children })
 
   -- The tree with this value at the place that the path leads to.
-  unfoldable pub written : Node K V → List ℕ → V → Node K V
+  unfoldable pub written : Node K V Z → List ℕ → V → Node K V Z
   written n [] w = n
   written n (i ∷ []) w = with_value n i w
   written n (i ∷ j ∷ path) w = with_child n i (written (child_at n i) (j ∷ path) w)
@@ -32,11 +33,11 @@ module _ {K V : Type 0} where
 abbrev pub lends_content : (T : RattleType) → MutBor (Option T.Denot) → MutBor T.Denot → Fml
 lends_content T o r = Lends (option.the_row T) T o r Some
 
-module _ (K V : RattleType) where
+module _ (K V Z : RattleType) (heap : Ghosts Z.Denot) where
   -- Once the borrow r of the own value at the place ends, the node has there what was written through r.
-  abbrev pub lends_value : MutBor (Node K.Denot V.Denot) → ℕ → MutBor V.Denot → Fml
-  lends_value n i r = Lends (the_row K V) V n r (with_value n.now i)
+  abbrev pub lends_value : MutBor (Node K.Denot V.Denot Z.Denot) → ℕ → MutBor V.Denot → Fml
+  lends_value n i r = Lends (the_row K V Z heap) V n r (with_value n.now i)
 
   -- Once the borrow r of the value at the place ends, the tree has there what was written through r.
-  abbrev pub lends_at : MutBor (Node K.Denot V.Denot) → List ℕ → MutBor V.Denot → Fml
-  lends_at n path r = Lends (the_row K V) V n r (written n.now path)
+  abbrev pub lends_at : MutBor (Node K.Denot V.Denot Z.Denot) → List ℕ → MutBor V.Denot → Fml
+  lends_at n path r = Lends (the_row K V Z heap) V n r (written n.now path)

@@ -2,10 +2,11 @@
 ghost use Rattle.std.specs.Prelude.{◌≡◌, ℕ, ◌-◌, length, slice_get, Some};
 ghost use Rattle.fc_tree_node.specs.Node.{pairs_of, IsSoundRoot};
 
+use fc_base::Handle;
 use fc_tree_node::node::Node;
 
 /// The first pair of the tree at `root`. It compares nothing.
-pub fn first_pair<'a, K, V>(root: &'a Node<K, V>) -> &'a (K, V)
+pub fn first_pair<'a, K, V, A: Handle>(root: &'a Node<K, V, A>) -> &'a (K, V)
     requires { (h : ℕ) × IsSoundRoot h root.now }
     ensures { slice_get (pairs_of root.now) 0 ≡ Some result.now }
 {
@@ -17,7 +18,7 @@ pub fn first_pair<'a, K, V>(root: &'a Node<K, V>) -> &'a (K, V)
 }
 
 /// The last pair of the tree at `root`. It compares nothing.
-pub fn last_pair<'a, K, V>(root: &'a Node<K, V>) -> &'a (K, V)
+pub fn last_pair<'a, K, V, A: Handle>(root: &'a Node<K, V, A>) -> &'a (K, V)
     requires { (h : ℕ) × IsSoundRoot h root.now }
     ensures { slice_get (pairs_of root.now) (length (pairs_of root.now) - 1) ≡ Some result.now }
 {

@@ -7,12 +7,14 @@ ghost use Rattle.fc_tree_node.specs.Node.{own_pairs};
 ghost use Rattle.fc_tree_node.specs.Place.{IsPlace, place_pair};
 ghost use Rattle.fc_tree_search.specs.Written.{lends_content, lends_value, lends_at, written};
 
+use fc_base::Handle;
 use fc_tree_node::node::Node;
 use fc_tree_node::path::Path;
+use std::alloc::Allocator;
 use std::marker::PhantomData;
 
 /// The pair at the end of the path.
-pub fn pair_at<'a, K, V>(root: &'a Node<K, V>, path: &Path) -> &'a (K, V)
+pub fn pair_at<'a, K, V, A: Handle>(root: &'a Node<K, V, A>, path: &Path) -> &'a (K, V)
     requires { IsPlace path.now root.now }
     ensures { place_pair path.now root.now ≡ Some result.now }
 {
@@ -37,9 +39,9 @@ pub fn content<T>(holder: &mut Option<T>) -> &mut T
 }
 
 // The value of the node's own pair at `index`.
-fn own_value<K, V>(node: &mut Node<K, V>, index: usize) -> &mut V
+fn own_value<K, V, A: Handle>(node: &mut Node<K, V, A>, index: usize) -> &mut V
     requires { index < length (own_pairs node.old) }
-    ensures* writes_back { sem 𝓛 (lends_value K.row V.row node.entry index result) }
+    ensures* writes_back { sem 𝓛 (lends_value K.row V.row A.row A.Allocator node.entry index result) }
     ensures value { option_map (λ e. e.1) (slice_get (own_pairs node.old) index) ≡ Some result.now }
 {
     &mut node.pairs.get_mut(index).1
@@ -50,10 +52,14 @@ trait Descend {
     ghost steps: { ℕ };
 
     // The value of the pair at the place in the node that the way leads to.
-    fn value_at<'a, K, V>(node: &'a mut Node<K, V>, way: &[u8], place: usize) -> &'a mut V
+    fn value_at<'a, K, V, A: Handle>(
+        node: &'a mut Node<K, V, A>,
+        way: &[u8],
+        place: usize,
+    ) -> &'a mut V
         requires place { IsPlace (way.now ++ place ∷ []) node.old }
         requires bounded { length way.now ≤ steps }
-        ensures* writes_back { sem 𝓛 (lends_at K.row V.row node.entry (way.now ++ place ∷ []) result) }
+        ensures* writes_back { sem 𝓛 (lends_at K.row V.row A.row A.Allocator node.entry (way.now ++ place ∷ []) result) }
         ensures value { option_map (λ e. e.1) (place_pair (way.now ++ place ∷ []) node.old) ≡ Some result.now };
 }
 
@@ -63,7 +69,11 @@ struct Here;
 impl Descend for Here {
     ghost steps = { 0 };
 
-    fn value_at<'a, K, V>(node: &'a mut Node<K, V>, way: &[u8], place: usize) -> &'a mut V {
+    fn value_at<'a, K, V, A: Handle>(
+        node: &'a mut Node<K, V, A>,
+        way: &[u8],
+        place: usize,
+    ) -> &'a mut V {
         own_value(node, place)
     }
 }
@@ -76,7 +86,11 @@ struct Below<D: Descend> {
 impl<D: Descend> Descend for Below<D> {
     ghost steps = { suc D.steps };
 
-    fn value_at<'a, K, V>(node: &'a mut Node<K, V>, way: &[u8], place: usize) -> &'a mut V {
+    fn value_at<'a, K, V, A: Handle>(
+        node: &'a mut Node<K, V, A>,
+        way: &[u8],
+        place: usize,
+    ) -> &'a mut V {
         if way.len() == 0 {
             own_value(node, place)
         } else {
@@ -94,19 +108,23 @@ type Down = SevenBelow<SevenBelow<SevenBelow<Here>>>;
 
 /// The value of the pair at the place in the node that the way leads to, lent for writing: the tree ends with what is written in
 /// its place.
-pub fn value_at<'a, K, V>(root: &'a mut Node<K, V>, way: &[u8], place: usize) -> &'a mut V
+pub fn value_at<'a, K, V, A: Handle>(
+    root: &'a mut Node<K, V, A>,
+    way: &[u8],
+    place: usize,
+) -> &'a mut V
     requires place { IsPlace (way.now ++ place ∷ []) root.old }
     requires bounded { length way.now < most_levels }
-    ensures* writes_back { sem 𝓛 (lends_at K.row V.row root.entry (way.now ++ place ∷ []) result) }
+    ensures* writes_back { sem 𝓛 (lends_at K.row V.row A.row A.Allocator root.entry (way.now ++ place ∷ []) result) }
     ensures value { option_map (λ e. e.1) (place_pair (way.now ++ place ∷ []) root.old) ≡ Some result.now }
 {
     Down::value_at(root, way, place)
 }
 
 /// The value of the pair at the end of the path, lent for writing: the tree ends with what is written in its place.
-pub fn value_mut<'a, K, V>(root: &'a mut Node<K, V>, path: &Path) -> &'a mut V
+pub fn value_mut<'a, K, V, A: Handle>(root: &'a mut Node<K, V, A>, path: &Path) -> &'a mut V
     requires { IsPlace path.now root.old }
-    ensures* writes_back { sem 𝓛 (lends_at K.row V.row root.entry path.now result) }
+    ensures* writes_back { sem 𝓛 (lends_at K.row V.row A.row A.Allocator root.entry path.now result) }
     ensures value { option_map (λ e. e.1) (place_pair path.now root.old) ≡ Some result.now }
 {
     let steps = path.as_slice();

@@ -11,12 +11,12 @@ ghost use Rattle.fc_tree_search.specs.Passed.{passed};
 
 use crate::first_last::{first_pair, last_pair};
 use crate::search::search_node;
-use fc_base::{Count, Query};
+use fc_base::{Count, Handle, Query};
 use fc_tree_node::node::Node;
 
 // The first of the node's pairs after its child at the place, or else the next one after the node.
-fn next_after_child<'a, K, V>(
-    node: &'a Node<K, V>,
+fn next_after_child<'a, K, V, A: Handle>(
+    node: &'a Node<K, V, A>,
     place: usize,
     next: Option<&'a (K, V)>,
 ) -> Option<&'a (K, V)>
@@ -30,8 +30,8 @@ fn next_after_child<'a, K, V>(
 }
 
 // The last of the node's pairs before its child at the place, or else the last one before the node.
-fn last_before_child<'a, K, V>(
-    node: &'a Node<K, V>,
+fn last_before_child<'a, K, V, A: Handle>(
+    node: &'a Node<K, V, A>,
     place: usize,
     last: Option<&'a (K, V)>,
 ) -> Option<&'a (K, V)>
@@ -47,8 +47,8 @@ fn last_before_child<'a, K, V>(
 }
 
 // The first of the node's pairs after its own pair at the place, or else the next one after the node.
-fn next_after_own<'a, K, V>(
-    node: &'a Node<K, V>,
+fn next_after_own<'a, K, V, A: Handle>(
+    node: &'a Node<K, V, A>,
     place: usize,
     next: Option<&'a (K, V)>,
 ) -> Option<&'a (K, V)>
@@ -64,8 +64,8 @@ fn next_after_own<'a, K, V>(
 }
 
 // The last of the node's pairs before its own pair at the place, or else the last one before the node.
-fn last_before_own<'a, K, V>(
-    node: &'a Node<K, V>,
+fn last_before_own<'a, K, V, A: Handle>(
+    node: &'a Node<K, V, A>,
     place: usize,
     last: Option<&'a (K, V)>,
 ) -> Option<&'a (K, V)>
@@ -82,8 +82,8 @@ fn last_before_own<'a, K, V>(
 
 /// The first pair of the tree at `root` whose key is not below `key`. It compares each key that a search
 /// passes once, and moves no pair.
-pub fn first_from<'a, K: Ord, V, Q: Query<K>>(
-    root: &'a Node<K, V>,
+pub fn first_from<'a, K: Ord, V, Q: Query<K>, A: Handle>(
+    root: &'a Node<K, V, A>,
     key: Q,
     count: &mut Count,
 ) -> Option<&'a (K, V)>
@@ -112,8 +112,8 @@ pub fn first_from<'a, K: Ord, V, Q: Query<K>>(
 
 /// The first pair of the tree at `root` whose key is above `key`. It compares each key that a search
 /// passes once, and moves no pair.
-pub fn first_after<'a, K: Ord, V, Q: Query<K>>(
-    root: &'a Node<K, V>,
+pub fn first_after<'a, K: Ord, V, Q: Query<K>, A: Handle>(
+    root: &'a Node<K, V, A>,
     key: Q,
     count: &mut Count,
 ) -> Option<&'a (K, V)>
@@ -142,8 +142,8 @@ pub fn first_after<'a, K: Ord, V, Q: Query<K>>(
 
 /// The last pair of the tree at `root` whose key is not above `key`. It compares each key that a search
 /// passes once, and moves no pair.
-pub fn last_to<'a, K: Ord, V, Q: Query<K>>(
-    root: &'a Node<K, V>,
+pub fn last_to<'a, K: Ord, V, Q: Query<K>, A: Handle>(
+    root: &'a Node<K, V, A>,
     key: Q,
     count: &mut Count,
 ) -> Option<&'a (K, V)>
@@ -172,8 +172,8 @@ pub fn last_to<'a, K: Ord, V, Q: Query<K>>(
 
 /// The last pair of the tree at `root` whose key is below `key`. It compares each key that a search
 /// passes once, and moves no pair.
-pub fn last_before<'a, K: Ord, V, Q: Query<K>>(
-    root: &'a Node<K, V>,
+pub fn last_before<'a, K: Ord, V, Q: Query<K>, A: Handle>(
+    root: &'a Node<K, V, A>,
     key: Q,
     count: &mut Count,
 ) -> Option<&'a (K, V)>

@@ -9,14 +9,14 @@ ghost use Rattle.fc_tree_search.specs.Found.{IsFoundAt, IsGapAt, IsFound, IsGap,
 ghost use Rattle.fc_tree_search.specs.Passed.{passed};
 ghost use Rattle.fc_tree_search.specs.Way.{path_to};
 
-use fc_base::{Count, Query, compare};
+use fc_base::{Count, Handle, Query, compare};
 use fc_tree_node::node::{CAPACITY, Node};
 use fc_tree_node::path::Path;
 
 // Where the key stands among the node's own, or else the gap where it would go. From the left each key is compared, until
 // one is not below it.
-pub(crate) fn search_node<K: Ord, V, Q: Query<K>>(
-    node: &Node<K, V>,
+pub(crate) fn search_node<K: Ord, V, Q: Query<K>, A: Handle>(
+    node: &Node<K, V, A>,
     key: Q,
     count: &mut Count,
 ) -> Result<usize, usize>
@@ -46,12 +46,12 @@ pub struct NotFound {
 /// Fills `path`, which has no step yet, with the way down the tree at `root` to where the key stands: `Ok` where it leads to the
 /// pair that has an equal key, or `Err` where it leads to the gap between the pairs of a leaf where the key would go; with the node
 /// of that pair or gap. It compares each key that it passes once, and moves no pair.
-pub fn descend<'a, K: Ord, V, Q: Query<K>>(
-    root: &'a Node<K, V>,
+pub fn descend<'a, K: Ord, V, Q: Query<K>, A: Handle>(
+    root: &'a Node<K, V, A>,
     key: Q,
     path: &mut Path,
     count: &mut Count,
-) -> Result<&'a Node<K, V>, &'a Node<K, V>>
+) -> Result<&'a Node<K, V, A>, &'a Node<K, V, A>>
     requires levels { IsTree root.now }
     requires order { IsAscending K.cmp (pairs_of root.now) }
     requires start { path.old ≡ [] }
@@ -83,8 +83,8 @@ pub fn descend<'a, K: Ord, V, Q: Query<K>>(
 }
 
 /// The same, of which the gap's leaf tells only what an insertion has to know.
-pub fn search<K: Ord, V, Q: Query<K>>(
-    root: &Node<K, V>,
+pub fn search<K: Ord, V, Q: Query<K>, A: Handle>(
+    root: &Node<K, V, A>,
     key: Q,
     path: &mut Path,
     count: &mut Count,
@@ -111,8 +111,8 @@ pub fn search<K: Ord, V, Q: Query<K>>(
 
 /// The pair in the tree at `root` whose key is equal to `key`, if there is one. It compares each key that it passes once, and
 /// moves no pair.
-pub fn get<'a, K: Ord, V, Q: Query<K>>(
-    root: &'a Node<K, V>,
+pub fn get<'a, K: Ord, V, Q: Query<K>, A: Handle>(
+    root: &'a Node<K, V, A>,
     key: Q,
     count: &mut Count,
 ) -> Option<&'a (K, V)>

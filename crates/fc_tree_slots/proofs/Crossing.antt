@@ -4,10 +4,10 @@ use Rattle.std.specs.Mem.{type_size}
 use base.Fraction.{full_share}
 use base.Fml.{Fml}
 use base.Shift.{Keyless}
+use mir.Syntax.{Ty}
 use denote.RattleType.{RattleType}
 use denote.RawPtr.{Ptr, block_ptr, null_ptr}
 use denote.Param.Send.{IsSend, IsSync, Common, part_keyless}
-use Rattle.std.proofs.Crossing.{frees}
 use Rattle.fc_tree_slots.specs.Ownership.{places, places_lent, row_owned, row_lent, if_sized}
 
 if_crosses : (n : ℕ) (owned : Fml) → Keyless owned → Keyless (if_sized n owned)
@@ -20,9 +20,10 @@ module _ (R : RattleType) where
   places_cross sent b o (None ∷ cs) = (tt, places_cross sent b (o + type_size R) cs)
   places_cross sent b o (Some x ∷ cs) = (part_keyless R sent full_share x b o, places_cross sent b (o + type_size R) cs)
 
-  pub row_crosses : IsSend R → (p : Ptr) (cs : List (Option R.Denot)) → Keyless (row_owned R p cs)
-  row_crosses sent null_ptr cs = tt
-  row_crosses sent (block_ptr b o) cs = ((tt, if_crosses (type_size R) _ (frees.frees _ _ (block_ptr b o))), places_cross sent b o cs)
+  pub row_crosses : (token : Ty → Ptr → Fml) → ((τ : Ty) (p : Ptr) → Keyless (token τ p)) → IsSend R → (p : Ptr) (cs : List (Option R.Denot))
+      → Keyless (row_owned R token p cs)
+  row_crosses token frees sent null_ptr cs = tt
+  row_crosses token frees sent (block_ptr b o) cs = ((tt, if_crosses (type_size R) _ (frees _ (block_ptr b o))), places_cross sent b o cs)
 
   lent_cross : IsSync R → (b o : ℕ) (cs : List (Option R.Denot)) → Common (places_lent R b o cs)
   lent_cross shared b o [] κ = tt

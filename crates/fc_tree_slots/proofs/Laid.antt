@@ -13,7 +13,7 @@ module _ {X : Type 0} where
     pub long : length xs ≡ k
     pub fits : k ≤ n
 
-  pub opened : {n : ℕ} (u : Inside X n) (xs : List X) → IsPacked u.cells u.len n → present u.cells ≡ xs → IsLaid u.cells xs u.len n
+  pub opened : {n : ℕ} {Z : Type 0} (u : Inside X n Z) (xs : List X) → IsPacked u.cells u.len n → present u.cells ≡ xs → IsLaid u.cells xs u.len n
   opened {n = n} u xs h e = let p = unpacks u.cells u.len n h in record {
     is = p.0 ∙ (λ i. row (e i) 0 [] (n - u.len));
     long = ap length (sym e) ∙ p.1;
@@ -68,7 +68,7 @@ module _ {X : Type 0} where
       ∙ (λ j. row (take i xs) 1 (drop-drop 1 i xs j) m) ∙ (λ j. row (take i xs) 1 (drop (next j) xs) m)
 
   -- the list has room for one more
-  pub laid_up : {n : ℕ} (u : Inside X n) (xs : List X) → IsPacked u.cells u.len n → present u.cells ≡ xs → length xs < n
+  pub laid_up : {n : ℕ} {Z : Type 0} (u : Inside X n Z) (xs : List X) → IsPacked u.cells u.len n → present u.cells ≡ xs → length xs < n
       → (u.cells ≡ row xs 1 [] (n - (u.len + 1))) × (length xs ≡ u.len + 1 - 1)
   laid_up {n = n} u xs h e room = let o = opened u xs h e in (o.is ∙ open_up xs 1 n u.len (omega (arith, o.long)), omega (arith, o.long))
 

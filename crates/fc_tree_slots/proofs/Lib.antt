@@ -1,5 +1,4 @@
 mod Crossing
-mod Heap
 mod Laid
 mod Memory
 mod Opening

@@ -15,7 +15,7 @@ use denote.Slice.{elements_shared}
 use base.Logic.{wand}
 use prog.Align.{dv_self}
 use prog.Memory.{align}
-use mir.Syntax.{ty_array}
+use mir.Syntax.{Ty, ty_array}
 use native.Mathlib.Nat.{zero-mul, suc-mul}
 use borrow.Table.OneValue.{part_in, part_out}
 use Rattle.core.proofs.mem.Param.{Good}
@@ -39,8 +39,8 @@ module _ (R : RattleType) where
   others b o (c ∷ cs) zero = places R b (o + s) cs
   others b o (c ∷ cs) (suc i) = fsep (place R b o c) (others b (o + s) cs i)
 
-  abbrev pub Rest : ℕ → ℕ → List (Option R.Denot) → ℕ → Fml
-  Rest b o cs i = fsep (block R (block_ptr b o) (length cs)) (others b o cs i)
+  abbrev pub Rest : (Ty → Ptr → Fml) → ℕ → ℕ → List (Option R.Denot) → ℕ → Fml
+  Rest token b o cs i = fsep (block R token (block_ptr b o) (length cs)) (others b o cs i)
 
   next : (o i : ℕ) → i * s + (o + s) ≡ suc i * s + o
   next o i = omega (arith, suc-mul i s)
@@ -69,17 +69,20 @@ module _ (R : RattleType) where
         (2 ∷ 1 ∷ []) $
         into t b (o + s) cs i (omega arith) c $ move t (1 ∷ 0 ∷ []) $ fjoin t $ k)
 
-    pub reach : K → (p : Ptr) (cs : List (Option R.Denot)) (i : ℕ) → i < length cs → {Γ : List (Item 𝓤)}
-        → ((b o : ℕ) → p ≡ block_ptr b o → (s < 2 ^ 64) × (i * s < 2 ^ 64) → Seq K 𝓛 (‵ (place R b (i * s + o) (get_or cs i None)) ∷ ‵ (Rest b o cs i) ∷ Γ) G)
-        → Seq K 𝓛 (‵ (row_owned R p cs) ∷ Γ) G
-    reach t p cs i lt k = in_a_block t p (λ r. row_owned R r cs) (id⊢ 𝓤 (never 𝓤))
+    pub reach : K → (token : Ty → Ptr → Fml) (p : Ptr) (cs : List (Option R.Denot)) (i : ℕ) → i < length cs → {Γ : List (Item 𝓤)}
+        → ((b o : ℕ) → p ≡ block_ptr b o → (s < 2 ^ 64) × (i * s < 2 ^ 64)
+        → Seq K 𝓛 (‵ (place R b (i * s + o) (get_or cs i None)) ∷ ‵ (Rest token b o cs i) ∷ Γ) G)
+        → Seq K 𝓛 (‵ (row_owned R token p cs) ∷ Γ) G
+    reach t token p cs i lt k = in_a_block t p (λ r. row_owned R token r cs) (id⊢ 𝓤 (never 𝓤))
         (λ b o e. fsplit t $ fsplit t $ flt_l t (λ small. flt_i t (length cs * s) (2 ^ 63) small $ fjoin t $
         move t (1 ∷ []) $ out t b o cs i lt $ move t (2 ∷ 1 ∷ []) $ fjoin t $ move t (1 ∷ []) $ k b o e (small_step (length cs) i lt small)))
 
-    pub rejoin : K → (p : Ptr) (b o : ℕ) → p ≡ block_ptr b o → (cs : List (Option R.Denot)) (i : ℕ) → i < length cs → (c : Option R.Denot)
-        → {Γ : List (Item 𝓤)} → Step K 𝓛 (‵ (row_owned R p (set cs i c)) ∷ Γ) G (‵ (place R b (i * s + o) c) ∷ ‵ (Rest b o cs i) ∷ Γ) G
-    rejoin t p b o e cs i lt c = step (λ k. move t (1 ∷ []) $ fsplit t $ rewrite t 0 (λ n. ‵ (block R (block_ptr b o) n)) (sym (length-set cs i c)) refl $
-        move t (2 ∷ 1 ∷ []) $ into t b o cs i lt c $ move t (1 ∷ 0 ∷ []) $ fjoin t $ rewrite t 0 (λ r. ‵ (row_owned R r (set cs i c))) (sym e) refl $ k)
+    pub rejoin : K → (token : Ty → Ptr → Fml) (p : Ptr) (b o : ℕ) → p ≡ block_ptr b o → (cs : List (Option R.Denot)) (i : ℕ) → i < length cs
+        → (c : Option R.Denot)
+        → {Γ : List (Item 𝓤)} → Step K 𝓛 (‵ (row_owned R token p (set cs i c)) ∷ Γ) G (‵ (place R b (i * s + o) c) ∷ ‵ (Rest token b o cs i) ∷ Γ) G
+    rejoin t token p b o e cs i lt c = step (λ k. move t (1 ∷ []) $ fsplit t $
+        rewrite t 0 (λ n. ‵ (block R token (block_ptr b o) n)) (sym (length-set cs i c)) refl $
+        move t (2 ∷ 1 ∷ []) $ into t b o cs i lt c $ move t (1 ∷ 0 ∷ []) $ fjoin t $ rewrite t 0 (λ r. ‵ (row_owned R token r (set cs i c))) (sym e) refl $ k)
 
     seen : K → (κ : Lft) (b o : ℕ) (cs : List (Option R.Denot)) (i : ℕ) → i < length cs → {Γ : List (Item 𝓤)}
         → Step K 𝓛 (‵ (place_lent R b (i * s + o) (get_or cs i None) κ) ∷ Γ) G (‵ (places_lent R b o cs κ) ∷ Γ) G

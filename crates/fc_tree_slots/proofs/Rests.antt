@@ -56,7 +56,8 @@ module _ {X : Type 0} where
       let on = after_gap cs a k m rest in (ap (λ l. None ∷ l) on.0, on.1)
   after_gap (Some x ∷ cs) (suc a) k m e = cc
 
-  pub rest_of : {n : ℕ} (u : Inside X n) (xs : List X) → IsPackedFrom u.cells u.start u.end n → present u.cells ≡ xs → IsRest u.cells xs u.start u.end n
+  pub rest_of : {n : ℕ} {Z : Type 0} (u : Inside X n Z) (xs : List X) → IsPackedFrom u.cells u.start u.end n → present u.cells ≡ xs
+      → IsRest u.cells xs u.start u.end n
   rest_of {n = n} u xs h e =
       let p = after_gap u.cells u.start (u.end - u.start) (n - u.end) h.2 in
       record { is = p.0 ∙ (λ i. row [] u.start (e i) (n - u.end)); long = omega (arith, ap length (sym e), p.1, h.0); fits = h.1 }

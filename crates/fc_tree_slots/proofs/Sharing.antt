@@ -3,7 +3,8 @@ use Prim.Native.Nat.{ℕ, ◌+◌}
 use Rattle.std.specs.Prelude.{List, [], ◌∷◌, length, Option, Some, None}
 use Rattle.std.specs.Mem.{type_size}
 use seplogic.Ra.Ura.{Ura}
-use base.Fml.{Lft, Incl, ftrue, ffalse}
+use mir.Syntax.{Ty}
+use base.Fml.{Lft, Fml, Incl, ftrue, ffalse}
 use types.Logic.{Logic}
 use denote.RattleType.{RattleType, RowLaws}
 use denote.Param.Laws.{Laws}
@@ -34,8 +35,8 @@ module _ {M : Type 1} {𝓤 : Ura M} (𝓛 : Logic 𝓤) (l : Lft) (R : RattleTy
   Lends-places b o (c ∷ cs) = let next : ℕ = o + type_size R in
       Lends-both 𝓛 (place R b o c) (places R b next cs) (place_lent R b o c) (places_lent R b next cs) l (Lends-place b o c) (Lends-places b next cs)
 
-  pub Lends-row : (p : Ptr) (cs : List (Option R.Denot)) → Lends 𝓛 (row_owned R p cs) (row_lent R p cs) l
-  Lends-row null_ptr cs = Lends-false 𝓛 (said ffalse) l
-  Lends-row (block_ptr b o) cs = let n = length cs in let full = block R (block_ptr b o) n in let seen = said (bounded R n) in
+  pub Lends-row : (token : Ty → Ptr → Fml) (p : Ptr) (cs : List (Option R.Denot)) → Lends 𝓛 (row_owned R token p cs) (row_lent R p cs) l
+  Lends-row token null_ptr cs = Lends-false 𝓛 (said ffalse) l
+  Lends-row token (block_ptr b o) cs = let n = length cs in let full = block R token (block_ptr b o) n in let seen = said (bounded R n) in
       Lends-both 𝓛 full (places R b o cs) seen (places_lent R b o cs) l (Lends-first 𝓛 (bounded R n) _ seen l (Lends-said 𝓛 (bounded R n) tt l))
       (Lends-places b o cs)

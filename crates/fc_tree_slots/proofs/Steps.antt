@@ -32,7 +32,9 @@ pub use denote.Triple.Walked.{Stays, stay_dropped, stay_ref, walk_of, Goes-dropp
 pub use Rattle.std.proofs.raw_atomic.Walks.{proved_at, leaves}
 pub use Rattle.std_alloc.proofs.RcSteps.{word, word-Good}
 pub use Rattle.core.proofs.alloc.Shapes.{after}
-pub use Rattle.core.proofs.mem.Param.{El, R, args, elτ}
+pub use Rattle.core.proofs.mem.Param.{El, R, elτ}
+pub use Rattle.core.proofs.alloc.Calls.{Al, token}
+pub use Rattle.core.proofs.slots.Leases.{args, P}
 use denote.Builtin.{unit}
 
 -- the n-th parameter

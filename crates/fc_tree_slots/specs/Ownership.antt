@@ -1,4 +1,5 @@
--- What a row of places owns and lends, and the right to its room, at items of the row R.
+-- What a row of places owns and lends, and the right to its room, at items of the row R: token is the allocator's, the right to free
+-- the block at a pointer, which is for a value of a type.
 use Rattle.std.specs.Prelude.{ℕ, zero, suc, ◌+◌, ◌*◌, ◌^◌, List, [], ◌∷◌, length, Option, Some, None}
 use Rattle.std.specs.Mem.{type_size}
 use base.Fraction.{full_share}
@@ -9,11 +10,6 @@ use denote.RattleType.{RattleType}
 use denote.Memory.{lone, part_at, shared_of}
 use denote.Sharing.{nothing, said, beside}
 use denote.RawPtr.{Ptr, block_ptr, null_ptr}
-use Rattle.std.specs.contracts.impls.GlobalAllocator.TheImpl.{ghosts}
-
--- the allocator's token: the right to free the block at a pointer, which is for a value of a type
-abbrev pub token : Ty → Ptr → Fml
-token = ghosts.dealloc_token (record { memory = record { seal = tt } })
 
 -- no room is asked for where an item has no size
 abbrev pub if_sized : ℕ → Fml → Fml
@@ -44,12 +40,12 @@ module _ (R : RattleType) where
   bounded n = flt (n * type_size R) (2 ^ 63)
 
   -- a block of n places, and the token that gives it back
-  abbrev pub block : Ptr → ℕ → Fml
-  block p n = fsep (bounded n) (if_sized (type_size R) (token (raw (ty_array (lone R.mir) n)) p))
+  abbrev pub block : (Ty → Ptr → Fml) → Ptr → ℕ → Fml
+  block token p n = fsep (bounded n) (if_sized (type_size R) (token (raw (ty_array (lone R.mir) n)) p))
 
-  abbrev pub row_owned : Ptr → List (Option R.Denot) → Fml
-  row_owned null_ptr cs = ffalse
-  row_owned (block_ptr b o) cs = fsep (block (block_ptr b o) (length cs)) (places b o cs)
+  abbrev pub row_owned : (Ty → Ptr → Fml) → Ptr → List (Option R.Denot) → Fml
+  row_owned token null_ptr cs = ffalse
+  row_owned token (block_ptr b o) cs = fsep (block token (block_ptr b o) (length cs)) (places b o cs)
 
   abbrev pub row_lent : Ptr → List (Option R.Denot) → Lft → Fml
   row_lent null_ptr cs = said ffalse

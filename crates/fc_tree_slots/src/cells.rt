@@ -5,20 +5,20 @@ ghost use Rattle.std.specs.Borrow.{sem};
 use crate::raw::Row;
 use fc_base::Count;
 use fc_base::count::add_moves;
-use std::alloc::{AllocError, Global};
+use std::alloc::{AllocError, Allocator, Global};
 use std::marker::Model;
 use std_alloc::room::may_hold;
 
 mod moves;
 
 /// A row of cells in a block of memory of their own.
-pub struct Cells<T> {
-    row: Row<T>,
-    alloc: Global,
+pub struct Cells<T, A: Allocator = Global> {
+    row: Row<T, A>,
+    alloc: A,
 }
 
-impl<T> Model for Cells<T> {
-    ghost use Rattle.std.specs.Prelude.{List, Option};
+impl<T, A: Allocator> Model for Cells<T, A> {
+    ghost use Rattle.std.specs.Prelude.{◌≡◌, List, Option};
     ghost use Rattle.std.specs.Coded.{coded_list, coded_option};
 
     ghost Value = { List (Option T) };
@@ -26,14 +26,16 @@ impl<T> Model for Cells<T> {
     ghost coded = { coded_list (coded_option T.code) };
 
     ghost view = { λ c. c.row.held };
+
+    ghost invariant = { λ c. c.row.alloc ≡ c.alloc };
 }
 
-impl<T> Cells<T> {
+impl<T, A: Allocator> Cells<T, A> {
     ghost use Rattle.fc_tree_slots.specs.Cells.{IsPresent, ArePresent};
     ghost use Rattle.fc_tree_slots.specs.Lends.{lends_cell};
 
     /// A row of `len` empty cells, taken in one request, or in none where items have no size.
-    pub(crate) fn try_new(alloc: Global, len: usize) -> Result<Self, AllocError>
+    pub(crate) fn try_new(alloc: A, len: usize) -> Result<Self, AllocError>
         ensures { IfOk result (λ c. c ≡ replicate len None) }
     {
         if !may_hold::<T>(len) {
@@ -62,7 +64,7 @@ impl<T> Cells<T> {
     /// The item in the cell at `index`, lent for writing.
     pub(crate) fn get_mut(&mut self, index: usize) -> &mut T
         requires { IsPresent self.old index }
-        ensures* writes_back { sem 𝓛 (lends_cell T.row self.entry index result) }
+        ensures* writes_back { sem 𝓛 (lends_cell T.row A.row A.Allocator self.entry index result) }
         ensures value { get_or self.old index None ≡ Some result.now }
     {
         self.row.get_mut(index)

@@ -7,7 +7,7 @@ ghost use Rattle.fc_base.specs.Sizes.{most_children};
 ghost use Rattle.fc_tree_slots.specs.Lends.{lends_child};
 
 use crate::slots::Slots;
-use fc_base::Count;
+use fc_base::{Count, Handle};
 use std::alloc::{AllocError, Global};
 use std::marker::Model;
 
@@ -18,11 +18,11 @@ pub const MAX_CHILDREN: usize = 16;
 
 /// At most as many items as a node has children, in order.
 #[derive(Drop)]
-pub struct Children<T> {
-    slots: Slots<T, MAX_CHILDREN>,
+pub struct Children<T, A: Handle = Global> {
+    slots: Slots<T, MAX_CHILDREN, A>,
 }
 
-impl<T> Model for Children<T> {
+impl<T, A: Handle> Model for Children<T, A> {
     ghost use Rattle.std.specs.Prelude.{List};
     ghost use Rattle.std.specs.Coded.{coded_list};
 
@@ -33,12 +33,12 @@ impl<T> Model for Children<T> {
     ghost view = { λ c. c.slots };
 }
 
-impl<T> Children<T> {
+impl<T, A: Handle> Children<T, A> {
     /// An empty list, with the room for them taken in one request.
     ///
     /// # Errors
     /// `AllocError` if the room is refused.
-    pub fn try_new(alloc: Global) -> Result<Self, AllocError>
+    pub fn try_new(alloc: A) -> Result<Self, AllocError>
         ensures { IfOk result (λ c. c ≡ []) }
     {
         Ok(Children {
@@ -65,7 +65,7 @@ impl<T> Children<T> {
     /// The item at `index`, lent for writing: the list ends with what is written in its place.
     pub fn get_mut(&mut self, index: usize) -> &mut T
         requires { index < length self.old }
-        ensures* writes_back { sem 𝓛 (lends_child T.row self.entry index result) }
+        ensures* writes_back { sem 𝓛 (lends_child T.row A.row A.Allocator self.entry index result) }
         ensures value { result.now ≡ slice_index_or self.old index result.now }
         ensures fits { length self.old ≤ most_children }
     {
@@ -91,7 +91,7 @@ impl<T> Children<T> {
     }
 }
 
-impl<T: Drop> Children<T> {
+impl<T: Drop, A: Handle> Children<T, A> {
     /// Puts `item` at `index`, and moves those from there on up.
     pub fn insert(&mut self, index: usize, item: T)
         requires in_bounds { index ≤ length self.old }

@@ -3,18 +3,19 @@ ghost use Rattle.std.specs.Prelude.{◌≡◌, ◌<◌, [], ◌∷◌, ◌++◌,
 ghost use Rattle.fc_tree_slots.specs.Cells.{present, IsPacked};
 
 use crate::cells::Cells;
+use std::alloc::{Allocator, Global};
 use std::marker::Model;
 
 /// At most `N` items, in order, in the room of the [`Slots`](crate::slots::Slots) that they were in.
 ///
 /// No call takes memory, and none counts a move.
-pub struct Rest<T, const N: usize> {
-    cells: Cells<T>,
+pub struct Rest<T, const N: usize, A: Allocator = Global> {
+    cells: Cells<T, A>,
     start: usize,
     end: usize,
 }
 
-impl<T, const N: usize> Model for Rest<T, N> {
+impl<T, const N: usize, A: Allocator> Model for Rest<T, N, A> {
     ghost use Rattle.std.specs.Prelude.{List};
     ghost use Rattle.fc_tree_slots.specs.Cells.{present};
     ghost use Rattle.fc_tree_slots.specs.Rest.{IsPackedFrom};
@@ -26,7 +27,7 @@ impl<T, const N: usize> Model for Rest<T, N> {
     ghost invariant = { λ r. IsPackedFrom r.cells r.start r.end N };
 }
 
-impl<T: Drop, const N: usize> Drop for Rest<T, N> {
+impl<T: Drop, const N: usize, A: Allocator> Drop for Rest<T, N, A> {
     fn drop(self) {
         let Rest {
             mut cells,
@@ -40,9 +41,9 @@ impl<T: Drop, const N: usize> Drop for Rest<T, N> {
     }
 }
 
-impl<T, const N: usize> Rest<T, N> {
+impl<T, const N: usize, A: Allocator> Rest<T, N, A> {
     /// The items in the first `len` cells, where no other holds one.
-    pub(crate) fn over(cells: Cells<T>, len: usize) -> Self
+    pub(crate) fn over(cells: Cells<T, A>, len: usize) -> Self
         requires { IsPacked cells len N }
         ensures { result ≡ present cells }
     {

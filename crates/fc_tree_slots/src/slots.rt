@@ -10,7 +10,7 @@ ghost use Rattle.fc_tree_slots.specs.Cells.{row, HasRow};
 use crate::cells::Cells;
 use fc_base::Count;
 use fc_base::count::add_moves;
-use std::alloc::{AllocError, Global};
+use std::alloc::{AllocError, Allocator, Global};
 use std::marker::Model;
 
 mod into_rest;
@@ -19,12 +19,12 @@ mod push;
 /// At most `N` items, in order. Only `try_new` takes memory.
 ///
 /// Each call that moves items adds its moves to a count: a move is an item written into a place, or handed out.
-pub struct Slots<T, const N: usize> {
-    cells: Cells<T>,
+pub struct Slots<T, const N: usize, A: Allocator = Global> {
+    cells: Cells<T, A>,
     len: usize,
 }
 
-impl<T, const N: usize> Model for Slots<T, N> {
+impl<T, const N: usize, A: Allocator> Model for Slots<T, N, A> {
     ghost use Rattle.std.specs.Prelude.{List};
     ghost use Rattle.std.specs.Coded.{coded_list};
     ghost use Rattle.fc_tree_slots.specs.Cells.{present, IsPacked};
@@ -38,7 +38,7 @@ impl<T, const N: usize> Model for Slots<T, N> {
     ghost invariant = { λ s. IsPacked s.cells s.len N };
 }
 
-impl<T: Drop, const N: usize> Drop for Slots<T, N> {
+impl<T: Drop, const N: usize, A: Allocator> Drop for Slots<T, N, A> {
     fn drop(self) {
         let Slots { mut cells, len } = self;
         for i in 0..len {
@@ -48,12 +48,12 @@ impl<T: Drop, const N: usize> Drop for Slots<T, N> {
     }
 }
 
-impl<T, const N: usize> Slots<T, N> {
+impl<T, const N: usize, A: Allocator> Slots<T, N, A> {
     /// An empty list, with the room for `N` items taken in one request.
     ///
     /// # Errors
     /// `AllocError` if the room is refused.
-    pub fn try_new(alloc: Global) -> Result<Self, AllocError>
+    pub fn try_new(alloc: A) -> Result<Self, AllocError>
         ensures { IfOk result (λ s. s ≡ []) }
     {
         Ok(Slots {
@@ -88,7 +88,7 @@ impl<T, const N: usize> Slots<T, N> {
     /// The item at `index`, lent for writing: the list ends with what is written in its place.
     pub fn get_mut(&mut self, index: usize) -> &mut T
         requires { index < length self.old }
-        ensures* writes_back { sem 𝓛 (lends_slot T.row N.row self.entry index result) }
+        ensures* writes_back { sem 𝓛 (lends_slot T.row A.row A.Allocator N.row self.entry index result) }
         ensures value { result.now ≡ slice_index_or self.old index result.now }
         ensures fits { length self.old ≤ N }
     {
@@ -125,7 +125,7 @@ impl<T, const N: usize> Slots<T, N> {
     }
 }
 
-impl<T: Drop, const N: usize> Slots<T, N> {
+impl<T: Drop, const N: usize, A: Allocator> Slots<T, N, A> {
     /// Puts `item` at `index`, and moves those from there on up.
     pub fn insert(&mut self, index: usize, item: T, count: &mut Count)
         requires in_bounds { index ≤ length self.old }
@@ -197,7 +197,13 @@ impl<T: Drop, const N: usize> Slots<T, N> {
 }
 
 // Moves the items from `from` to `end` down by `by` cells, which are empty.
-fn shift_down<T>(cells: &mut Cells<T>, from: usize, by: usize, end: usize, count: &mut Count)
+fn shift_down<T, A: Allocator>(
+    cells: &mut Cells<T, A>,
+    from: usize,
+    by: usize,
+    end: usize,
+    count: &mut Count,
+)
     requires in_order { (by ≤ from) × (from ≤ end) }
     requires laid { HasRow cells.old (from - by) by (end - from) }
     ensures items { (xs ys : List T) (m : ℕ) → cells.old ≡ row xs by ys m → length xs ≡ from - by → end - from ≤ length ys → cells.new ≡ row (xs ++ take (end - from) ys) by (drop (end - from) ys) m }
@@ -208,7 +214,13 @@ fn shift_down<T>(cells: &mut Cells<T>, from: usize, by: usize, end: usize, count
 }
 
 // Moves the items from `from` on up by `by` cells, which are empty, so that they reach up to `end`.
-fn shift_up<T>(cells: &mut Cells<T>, from: usize, by: usize, end: usize, count: &mut Count)
+fn shift_up<T, A: Allocator>(
+    cells: &mut Cells<T, A>,
+    from: usize,
+    by: usize,
+    end: usize,
+    count: &mut Count,
+)
     requires in_order { from + by ≤ end }
     requires laid { (zs : List T) × (m : ℕ) × (cells.old ≡ row zs by [] m) × (length zs ≡ end - by) }
     ensures items { (zs : List T) (m : ℕ) → cells.old ≡ row zs by [] m → length zs ≡ end - by → cells.new ≡ row (take from zs) by (drop from zs) m }
@@ -219,10 +231,10 @@ fn shift_up<T>(cells: &mut Cells<T>, from: usize, by: usize, end: usize, count: 
 }
 
 // Moves the items from `from` on into the empty cells of another row from `to` to `end`.
-fn carry<T>(
-    source: &mut Cells<T>,
+fn carry<T, A: Allocator>(
+    source: &mut Cells<T, A>,
     from: usize,
-    target: &mut Cells<T>,
+    target: &mut Cells<T, A>,
     to: usize,
     end: usize,
     count: &mut Count,

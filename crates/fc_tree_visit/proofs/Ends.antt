@@ -10,7 +10,7 @@ use Rattle.fc_tree_visit.specs.Shape.{IsSameAlong}
 use Rattle.fc_tree_visit.proofs.Shapes.{same_path, same_before}
 use Rattle.fc_tree_visit.proofs.Steps.{one_height}
 
-pub gaps_stay : {K V : Type 0} (m : Option (Node K V)) (n n' : Node K V) → m ≡ Some n → IsSoundMap m → ((h : ℕ) → IsLevelled h n → IsLevelled h n')
+pub gaps_stay : {K V Z : Type 0} (m : Option (Node K V Z)) (n n' : Node K V Z) → m ≡ Some n → IsSoundMap m → ((h : ℕ) → IsLevelled h n → IsLevelled h n')
     → ((path : List ℕ) → IsSameAlong path n n')
     → (path : List ℕ) → IsGapIn m path → IsGapIn (Some n') path × (length (before_gap path n') ≡ length (before_gap_in m path))
 gaps_stay m n n' is sound levels shape path gap =

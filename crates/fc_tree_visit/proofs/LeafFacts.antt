@@ -70,38 +70,38 @@ set_back (i ∷ j ∷ []) (suc (suc last)) e k = absurd (omega arith)
 set_back (i ∷ j ∷ l ∷ gap) (suc zero) e k = absurd (omega arith)
 set_back (i ∷ j ∷ l ∷ gap) (suc (suc last)) e k = ap (λ p. i ∷ p) (set_back (j ∷ l ∷ gap) (suc last) (omega arith) k)
 
-module _ {K V : Type 0} where
+module _ {K V Z : Type 0} where
   -- so many pairs of the leaf lie after a gap
-  pub record AreAllBehind (gap : List ℕ) (n : Node K V) (run : ℕ) : Type 0 where
+  pub record AreAllBehind (gap : List ℕ) (n : Node K V Z) (run : ℕ) : Type 0 where
     pub there : IsPath (gone_on gap run) n
     pub all : (k : ℕ) → IsPath (gone_on gap k) n → k ≤ run
 
-  after_at_leaf : (i : ℕ) (n : Node K V) → i ≤ length (own_pairs n) → AreAllBehind (i ∷ []) n (length (own_pairs n) - i)
+  after_at_leaf : (i : ℕ) (n : Node K V Z) → i ≤ length (own_pairs n) → AreAllBehind (i ∷ []) n (length (own_pairs n) - i)
   after_at_leaf i n le = record { there = (omega arith, tt); all = λ k w. let u = w.0 in omega arith }
 
-  after_below : (i : ℕ) (rest : List ℕ) (n : Node K V) (run : ℕ) → 0 < length rest → i ≤ length (own_pairs n) → AreAllBehind rest (child_at n i) run
+  after_below : (i : ℕ) (rest : List ℕ) (n : Node K V Z) (run : ℕ) → 0 < length rest → i ≤ length (own_pairs n) → AreAllBehind rest (child_at n i) run
       → AreAllBehind (i ∷ rest) n run
   after_below i [] n run some le x = absurd (omega arith)
   after_below i (j ∷ rest) n run some le x = record { there = (le, x.there); all = λ k w. x.all k w.1 }
 
   -- the same by the steps of a path
-  pub after_leaf : (gap : List ℕ) (n : Node K V) → gap ≡ get_or gap 0 0 ∷ [] → IsPath gap n → AreAllBehind gap n (length (own_pairs n) - get_or gap 0 0)
+  pub after_leaf : (gap : List ℕ) (n : Node K V Z) → gap ≡ get_or gap 0 0 ∷ [] → IsPath gap n → AreAllBehind gap n (length (own_pairs n) - get_or gap 0 0)
   after_leaf gap n e w = subst (λ g. AreAllBehind g n (length (own_pairs n) - get_or gap 0 0)) (sym e)
       (after_at_leaf (get_or gap 0 0) n (subst (λ g. IsPath g n) e w).0)
 
-  pub after_own_child : (gap : List ℕ) (n : Node K V) (run : ℕ) → 2 ≤ length gap → (s : IsStep gap n)
+  pub after_own_child : (gap : List ℕ) (n : Node K V Z) (run : ℕ) → 2 ≤ length gap → (s : IsStep gap n)
       → AreAllBehind (slice_range gap 1 (length gap)) (child_at n (get_or gap 0 0)) run → AreAllBehind gap n run
   after_own_child gap n run more s x = let e = s.long in subst (λ g. AreAllBehind g n run) (sym s.path_is) (after_below _ _ n run (omega arith) s.le x)
 
   -- a gap of a leaf with a pair of the leaf after it, and the gap after that pair
-  pub record IsNear (m : Map K V) (gap next : List ℕ) : Type 0 where
+  pub record IsNear (m : Map K V Z) (gap next : List ℕ) : Type 0 where
     pub start : IsGapIn m gap
     pub place : IsPlaceIn m gap
     pub before : length (before_pair_in m gap) ≡ length (before_gap_in m gap)
     pub slot : IsGapIn m next
     pub count : length (before_gap_in m next) ≡ length (before_gap_in m gap) + 1
 
-  near : (h : ℕ) (n : Node K V) (gap : List ℕ) (k : ℕ) → IsLevelled h n → length gap ≡ h + 1 → IsPath (gone_on gap (suc k)) n
+  near : (h : ℕ) (n : Node K V Z) (gap : List ℕ) (k : ℕ) → IsLevelled h n → length gap ≡ h + 1 → IsPath (gone_on gap (suc k)) n
       → IsPath gap n × IsPlace gap n × (length (before_pair gap n) ≡ length (before_gap gap n)) × IsPath (gone_on gap 1) n
       × (length (before_gap (gone_on gap 1) n) ≡ length (before_gap gap n) + 1)
   near h n [] k l e w = absurd (omega arith)
@@ -125,7 +125,7 @@ module _ {K V : Type 0} where
       let q = r.4 in
       ((w.0, r.0), (omega arith, r.1), omega arith, (w.0, r.3), omega arith)
 
-  pub gap_near : (m : Map K V) (gap : List ℕ) (k : ℕ) → IsSoundMap m → 0 < length gap → IsGapIn m (gone_on gap (suc k)) → IsNear m gap (gone_on gap 1)
+  pub gap_near : (m : Map K V Z) (gap : List ℕ) (k : ℕ) → IsSoundMap m → 0 < length gap → IsGapIn m (gone_on gap (suc k)) → IsNear m gap (gone_on gap 1)
   gap_near None gap k sound some w = absurd (let e = ap length w in let d = on_length gap (suc k) in omega arith)
   gap_near (Some root) gap k sound some w =
       let h = sound.0 in
@@ -136,7 +136,7 @@ module _ {K V : Type 0} where
       record { start = (r.0, λ j o. sym long ∙ w.1 j o); place = r.1; before = r.2; slot = (r.3, λ j o. on_length gap 1 ∙ sym long ∙ w.1 j o); count = r.4 }
 
   -- the node of the pair after a gap
-  holds_here : (gap : List ℕ) (n : Node K V) (level : ℕ) (other found : Bor (Node K V) × ℕ) → IsNext gap n 1 → other.0.now ≡ n → other.1 ≡ level
+  holds_here : (gap : List ℕ) (n : Node K V Z) (level : ℕ) (other found : Bor (Node K V Z) × ℕ) → IsNext gap n 1 → other.0.now ≡ n → other.1 ≡ level
       → found ≡ other → get_or gap 0 0 < length (own_pairs n) → IsLevelled (length gap - 1) n
       → (way : ℕ) × (found.1 ≡ level + way) × IsHolder gap n way found.0.now
   holds_here gap n level other found x node at is there l =
@@ -154,7 +154,7 @@ module _ {K V : Type 0} where
         ),
       )
 
-  lowest_here : (gap : List ℕ) (n : Node K V) (level own : ℕ) (best other found : Bor (Node K V) × ℕ) → own ≡ length (own_pairs n) - get_or gap 0 0
+  lowest_here : (gap : List ℕ) (n : Node K V Z) (level own : ℕ) (best other found : Bor (Node K V Z) × ℕ) → own ≡ length (own_pairs n) - get_or gap 0 0
       → other.0.now ≡ n → other.1 ≡ level → (0 < own → found ≡ other) → (own ≡ 0 → found ≡ best) → IsLevelled (length gap - 1) n
       → ((c : ℕ) → (c ≡ 0 → length (own_pairs n) ≤ get_or gap 0 0) → (0 < c → (c ≡ 1) × (get_or gap 0 0 < length (own_pairs n))) → IsNext gap n c)
       → IsLowest gap n level best found
@@ -163,7 +163,7 @@ module _ {K V : Type 0} where
       let there : get_or gap 0 0 < length (own_pairs n) = omega (arith, o) in
       inr (holds_here gap n level other found (x 1 (λ k. absurd (omega arith)) (λ _. (refl, there))) node at (has (omega arith)) there l)
 
-  pub lowest_leaf : (gap : List ℕ) (n : Node K V) (level own : ℕ) (best other found : Bor (Node K V) × ℕ) → gap ≡ get_or gap 0 0 ∷ [] → IsPath gap n
+  pub lowest_leaf : (gap : List ℕ) (n : Node K V Z) (level own : ℕ) (best other found : Bor (Node K V Z) × ℕ) → gap ≡ get_or gap 0 0 ∷ [] → IsPath gap n
       → IsLevelled (length gap - 1) n
       → own ≡ length (own_pairs n) - get_or gap 0 0 → other.0.now ≡ n → other.1 ≡ level → (0 < own → found ≡ other) → (own ≡ 0 → found ≡ best)
       → IsLowest gap n level best found
@@ -173,7 +173,7 @@ module _ {K V : Type 0} where
       lowest_here gap n level own best other found o node at has lacks l (λ c. next_leaf gap n c e p (subst (λ k. IsLevelled k n) h l))
 
   -- the same above a child
-  pub lowest_above : (gap : List ℕ) (n : Node K V) (level own : ℕ) (best other mid found : Bor (Node K V) × ℕ) (s : IsStep gap n)
+  pub lowest_above : (gap : List ℕ) (n : Node K V Z) (level own : ℕ) (best other mid found : Bor (Node K V Z) × ℕ) (s : IsStep gap n)
       → IsLevelled (length gap - 1) n
       → own ≡ length (own_pairs n) - get_or gap 0 0 → other.0.now ≡ n → other.1 ≡ level → (0 < own → mid ≡ other) → (own ≡ 0 → mid ≡ best)
       → IsLowest (slice_range gap 1 (length gap)) (child_at n (get_or gap 0 0)) (level + 1) mid found → IsLowest gap n level best found
@@ -203,21 +203,21 @@ module _ {K V : Type 0} where
         ),
       )
 
-  pub lowest_is : (gap : List ℕ) (n : Node K V) (best found : Bor (Node K V) × ℕ) → IsLowest gap n 0 best found
+  pub lowest_is : (gap : List ℕ) (n : Node K V Z) (best found : Bor (Node K V Z) × ℕ) → IsLowest gap n 0 best found
       → length (before_gap gap n) < length (pairs_of n) → IsHolder gap n found.1 found.0.now
   lowest_is gap n best found (inl (e, is)) k = absurd (omega (arith, e, k))
   lowest_is gap n best found (inr (w, a, h)) k = let same : w ≡ found.1 = omega (arith, a) in subst (λ i. IsHolder gap n i found.0.now) same h
 
-  pub own_small : (gap : List ℕ) (root : Node K V) (way : ℕ) (n : Node K V) → IsHolder gap root way n → get_or gap way 0 < capacity
+  pub own_small : (gap : List ℕ) (root : Node K V Z) (way : ℕ) (n : Node K V Z) → IsHolder gap root way n → get_or gap way 0 < capacity
   own_small gap root way n x = let k = x.4 in let f = level_size (length gap - suc way) n x.5 in omega (arith, k, f)
 
   -- down by first children
-  pub record IsDown (gap new : List ℕ) (n : Node K V) (level run : ℕ) : Type 0 where
+  pub record IsDown (gap new : List ℕ) (n : Node K V Z) (level run : ℕ) : Type 0 where
     pub gap_is : new ≡ take (suc level) gap ++ zeros (length gap - suc level)
     pub run_is : IsPath (gone_on (get_or gap level 0 ∷ zeros (length gap - suc level)) run) n
     pub run_all : (k : ℕ) → IsPath (gone_on (get_or gap level 0 ∷ zeros (length gap - suc level)) k) n → k ≤ run
 
-  pub down_leaf : (gap : List ℕ) (n : Node K V) (level : ℕ) → suc level ≡ length gap → get_or gap level 0 ≤ length (own_pairs n)
+  pub down_leaf : (gap : List ℕ) (n : Node K V Z) (level : ℕ) → suc level ≡ length gap → get_or gap level 0 ≤ length (own_pairs n)
       → IsDown gap gap n level (length (own_pairs n) - get_or gap level 0)
   down_leaf gap n level e le =
       let none : 0 ≡ length gap - suc level = omega (arith, e) in
@@ -230,7 +230,7 @@ module _ {K V : Type 0} where
         run_all = λ k w. let u = (subst (λ j. IsPath (gone_on (s ∷ zeros j) k) n) (sym none) w).0 in omega (arith, u);
       }
 
-  down_next : (gap mid new : List ℕ) (n : Node K V) (level run : ℕ) → suc level < length gap → get_or gap level 0 ≤ length (own_pairs n)
+  down_next : (gap mid new : List ℕ) (n : Node K V Z) (level run : ℕ) → suc level < length gap → get_or gap level 0 ≤ length (own_pairs n)
       → mid ≡ slice_set gap (suc level) 0 → IsDown mid new (child_at n (get_or gap level 0)) (suc level) run → IsDown gap new n level run
   down_next gap mid new n level run k le is d =
       let long = ap length is ∙ length_set gap (suc level) 0 in
@@ -248,7 +248,7 @@ module _ {K V : Type 0} where
             (subst (λ j. IsPath (gone_on (get_or gap level 0 ∷ zeros j) k) n) (sym more) w).1);
       }
 
-  pub down_child : (gap mid new : List ℕ) (n c : Node K V) (level next run : ℕ) → next ≡ suc level → next < length gap
+  pub down_child : (gap mid new : List ℕ) (n c : Node K V Z) (level next run : ℕ) → next ≡ suc level → next < length gap
       → get_or gap level 0 ≤ length (own_pairs n) → mid ≡ slice_set gap next 0 → c ≡ child_at n (get_or gap level 0) → IsDown mid new c next run
       → IsDown gap new n level run
   down_child gap mid new n c level next run e k le is same d =
@@ -256,7 +256,7 @@ module _ {K V : Type 0} where
       (subst (λ j. IsDown mid new (child_at n (get_or gap level 0)) j run) e (subst (λ c. IsDown mid new c next run) same d))
 
   -- a path's run below a node on its way
-  run_below : (way : ℕ) (gap : List ℕ) (i : ℕ) (rest : List ℕ) (n : Node K V) (run : ℕ) → IsPath gap n → way < length gap
+  run_below : (way : ℕ) (gap : List ℕ) (i : ℕ) (rest : List ℕ) (n : Node K V Z) (run : ℕ) → IsPath gap n → way < length gap
       → IsPath (gone_on (i ∷ rest) run) (node_at (take way gap) n) → IsPath (gone_on (take way gap ++ i ∷ rest) run) n
   run_below zero gap i rest n run p k w = w
   run_below (suc way) [] i rest n run p k w = absurd (omega arith)
@@ -264,7 +264,7 @@ module _ {K V : Type 0} where
   run_below (suc (suc way)) (j ∷ []) i rest n run p k w = absurd (omega arith)
   run_below (suc (suc way)) (j ∷ l ∷ gap) i rest n run p k w = (p.0, run_below (suc way) (l ∷ gap) i rest (child_at n j) run p.1 (omega (arith, k)) w)
 
-  run_above : (way : ℕ) (gap : List ℕ) (i : ℕ) (rest : List ℕ) (n : Node K V) (k : ℕ) → way < length gap
+  run_above : (way : ℕ) (gap : List ℕ) (i : ℕ) (rest : List ℕ) (n : Node K V Z) (k : ℕ) → way < length gap
       → IsPath (gone_on (take way gap ++ i ∷ rest) k) n → IsPath (gone_on (i ∷ rest) k) (node_at (take way gap) n)
   run_above zero gap i rest n k h w = w
   run_above (suc way) [] i rest n k h w = absurd (omega arith)
@@ -273,14 +273,14 @@ module _ {K V : Type 0} where
   run_above (suc (suc way)) (j ∷ l ∷ gap) i rest n k h w = run_above (suc way) (l ∷ gap) i rest (child_at n j) k (omega (arith, h)) w.1
 
   -- past a pair of a node on the way
-  pub record IsPast (gap new : List ℕ) (root : Node K V) (way place run : ℕ) : Type 0 where
+  pub record IsPast (gap new : List ℕ) (root : Node K V Z) (way place run : ℕ) : Type 0 where
     pub place_is : IsPlace (take way gap ++ place ∷ []) root
     pub before : length (before_pair (take way gap ++ place ∷ []) root) ≡ length (before_gap gap root)
     pub gap_is : new ≡ take way gap ++ (place + 1) ∷ zeros (length gap - suc way)
     pub run_is : IsPath (gone_on new run) root
     pub run_all : (k : ℕ) → IsPath (gone_on new k) root → k ≤ run
 
-  pub past : (gap mid new : List ℕ) (root n : Node K V) (way place run : ℕ) → IsPath gap root → IsHolder gap root way n → place ≡ get_or gap way 0
+  pub past : (gap mid new : List ℕ) (root n : Node K V Z) (way place run : ℕ) → IsPath gap root → IsHolder gap root way n → place ≡ get_or gap way 0
       → mid ≡ slice_set gap way (place + 1) → IsDown mid new n way run → IsPast gap new root way place run
   past gap mid new root n way place run p h own is d =
       let long = ap length is ∙ length_set gap way (place + 1) in

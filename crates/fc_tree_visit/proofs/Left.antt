@@ -25,6 +25,9 @@ module _ {X : Type 0} where
   drop_front (x ∷ xs) ys = drop_front xs ys
 
 module _ {K V : Type 0} where
+  abbrev none : List (K × V)
+  none = []
+
   abbrev keys : List (K × V) → List K
   keys = map (λ e. e.0)
 
@@ -60,11 +63,9 @@ module _ {F K V : Type 0} (R : F → K × V → F → V → Type 0) where
   pub visited_length : (f g : F) (front back old new : List (K × V)) → IsVisited R f g front back old new → length new ≡ length old
   visited_length f g front back old new v = sym (length-map new _) ∙ sym (ap length (visited_keys f g front back old new v)) ∙ length-map old _
 
-  abbrev none : List (K × V)
-  none = []
-
+module _ {F K V Z : Type 0} (R : F → K × V → F → V → Type 0) where
   -- nothing was visited where there is no root
-  pub visited_none : (f : F) (m : Option (Node K V)) (i j : ℕ) → m ≡ None → IsVisited R f f (take i (entries m)) (drop j (entries m)) (entries m) (entries m)
+  pub visited_none : (f : F) (m : Option (Node K V Z)) (i j : ℕ) → m ≡ None → IsVisited R f f (take i (entries m)) (drop j (entries m)) (entries m) (entries m)
   visited_none f m i j e =
       subst (λ o. IsVisited R f f (take i (entries o)) (drop j (entries o)) (entries o) (entries o)) (sym e)
       (record {
@@ -77,7 +78,7 @@ module _ {F K V : Type 0} (R : F → K × V → F → V → Type 0) where
       })
 
   -- the ends of a map as numbers
-  pub visited_cut : (m : Option (Node K V)) (n n' : Node K V) (front back p q : List ℕ) (f g : F) → m ≡ Some n → p ≡ front → q ≡ back → IsSoundMap m
+  pub visited_cut : (m : Option (Node K V Z)) (n n' : Node K V Z) (front back p q : List ℕ) (f g : F) → m ≡ Some n → p ≡ front → q ≡ back → IsSoundMap m
       → AreEndsIn m front back → IsVisited R f g (before_gap p n) (after_gap q n) (pairs_of n) (pairs_of n')
       → IsVisited R f g (take (length (before_gap_in m front)) (entries m)) (drop (length (before_gap_in m back)) (entries m)) (entries m) (pairs_of n')
   visited_cut m n n' front back p q f g is i j sound ends w =
@@ -95,7 +96,7 @@ module _ {F K V : Type 0} (R : F → K × V → F → V → Type 0) where
       (pairs_of n')) (sym is) (subst (λ x. Left x (drop (length (before_gap back n)) (pairs_of n))) (sym tf) (subst (Left (before_gap front n)) (sym db) u))
 
 -- the ends of a map, in order in its root
-pub ends_order : {K V : Type 0} (m : Option (Node K V)) (n : Node K V) (front back p q : List ℕ) → m ≡ Some n → p ≡ front → q ≡ back → IsSoundMap m
+pub ends_order : {K V Z : Type 0} (m : Option (Node K V Z)) (n : Node K V Z) (front back p q : List ℕ) → m ≡ Some n → p ≡ front → q ≡ back → IsSoundMap m
     → AreEndsIn m front back → length (before_gap p n) + length (after_gap q n) ≤ length (pairs_of n)
 ends_order m n front back p q is i j sound ends =
     let s = subst IsSoundMap is sound in

@@ -57,8 +57,9 @@ module _ {K V : Type 0} where
   get_value (x ∷ s) zero w e d h p = ap (λ y. (y.0, w)) (sym p)
   get_value (x ∷ s) (suc i) w e d h p = get_value s i w e d (omega arith) p
 
+module _ {K V Z : Type 0} where
   -- what is before a pair ends with the child before it, or is what leads there
-  pub before_own_child : (h : ℕ) (n : Node K V) (i : ℕ) → IsLevelled (suc h) n → i < length (own_pairs n)
+  pub before_own_child : (h : ℕ) (n : Node K V Z) (i : ℕ) → IsLevelled (suc h) n → i < length (own_pairs n)
       → before_own n i ≡ before_child n i ++ pairs_of (child_at n i)
   before_own_child h n i l lt =
       let p = (item_there (own_pairs n) i lt).0 in
@@ -68,21 +69,21 @@ module _ {K V : Type 0} where
       append_cancel_right (before_own n i) (before_child n i ++ pairs_of (child_at n i)) (after_child n i)
       (ap (λ zs. before_own n i ++ zs) r ∙ sym a ∙ b ∙ sym (append_assoc (before_child n i) (pairs_of (child_at n i)) (after_child n i)))
 
-  pub before_leaf : (n : Node K V) (i : ℕ) → IsLevelled 0 n → i < length (own_pairs n) → before_own n i ≡ before_child n i
+  pub before_leaf : (n : Node K V Z) (i : ℕ) → IsLevelled 0 n → i < length (own_pairs n) → before_own n i ≡ before_child n i
   before_leaf n i l lt =
       let p = (item_there (own_pairs n) i lt).0 in
       let a = own_pair 0 n i p l lt in
       let r = after_child_pair n i p lt in
       append_cancel_right (before_own n i) (before_child n i) (after_child n i) (ap (λ zs. before_own n i ++ zs) r ∙ sym a ∙ leaf_gap n i l.1)
 
-  before_short : (h : ℕ) (n : Node K V) (i : ℕ) → IsLevelled h n → i < length (own_pairs n) → length (before_child n i) ≤ length (before_own n i)
+  before_short : (h : ℕ) (n : Node K V Z) (i : ℕ) → IsLevelled h n → i < length (own_pairs n) → length (before_child n i) ≤ length (before_own n i)
   before_short zero n i l lt = let e = ap length (before_leaf n i l lt) in omega arith
   before_short (suc h) n i l lt =
       let e = ap length (before_own_child h n i l lt) in
       let f = length-append (before_child n i) (pairs_of (child_at n i)) in
       omega arith
 
-  before_less : (h : ℕ) (n : Node K V) (j i : ℕ) → IsLevelled h n → j < i → i ≤ length (own_pairs n) → length (before_own n j) < length (before_child n i)
+  before_less : (h : ℕ) (n : Node K V Z) (j i : ℕ) → IsLevelled h n → j < i → i ≤ length (own_pairs n) → length (before_own n j) < length (before_child n i)
   before_less h n j zero l lt le = absurd (omega arith)
   before_less h n j (suc i) l lt le = go (order i j) (λ q. before_less h n j i l q (omega arith))
     where
@@ -103,7 +104,7 @@ module _ {K V : Type 0} where
           omega arith
 
   -- a gap before another is not after it
-  pub in_order : (h : ℕ) (n : Node K V) (i j : ℕ) → IsLevelled h n → i ≤ length (own_pairs n)
+  pub in_order : (h : ℕ) (n : Node K V Z) (i j : ℕ) → IsLevelled h n → i ≤ length (own_pairs n)
       → length (before_child n i) + length (after_child n j) ≤ length (pairs_of n) → i ≤ j
   in_order h n i j l le o = go (order i j)
     where
@@ -118,8 +119,8 @@ module _ {K V : Type 0} where
           omega arith
 
   -- the node with another child
-  module _ (n : Node K V) (i : ℕ) (c : Node K V) where
-    abbrev m : Node K V
+  module _ (n : Node K V Z) (i : ℕ) (c : Node K V Z) where
+    abbrev m : Node K V Z
     m = with_child n i c
 
     pub child_before : before_child m i ≡ before_child n i
@@ -147,16 +148,16 @@ module _ {K V : Type 0} where
         (omega (arith, l.0), omega arith, subst (AllByRecursion (IsBelow h)) (sym (child_children n i c)) (all_set (IsBelow h) (children_of n) i c l.2 b))
 
   -- a child that was lent, and came back as d
-  module _ (n : Node K V) (cs : List (Node K V)) (i : ℕ) (is : (out-Node K V n).children ≡ Some cs) where
-    pub child_lent : (c : Node K V) → c ≡ get_or cs i c → i < length (children_of n) → c ≡ child_at n i
+  module _ (n : Node K V Z) (cs : List (Node K V Z)) (i : ℕ) (is : (out-Node K V Z n).children ≡ Some cs) where
+    pub child_lent : (c : Node K V Z) → c ≡ get_or cs i c → i < length (children_of n) → c ≡ child_at n i
     child_lent c at h = listed_child n i cs is i c (subst (λ ds. i < length ds) (children_in n cs is) h) at
 
-    pub child_back : (d : Node K V) → roll-Node K V (record { pairs = own_pairs n; children = Some (slice_set cs i d) }) ≡ with_child n i d
-    child_back d = ap (λ o. roll-Node K V (record { pairs = own_pairs n; children = option_map (λ ds. slice_set ds i d) o })) (sym is)
+    pub child_back : (d : Node K V Z) → roll-Node K V Z (record { pairs = own_pairs n; children = Some (slice_set cs i d) }) ≡ with_child n i d
+    child_back d = ap (λ o. roll-Node K V Z (record { pairs = own_pairs n; children = option_map (λ ds. slice_set ds i d) o })) (sym is)
 
   -- the node with another value
-  module _ (n : Node K V) (i : ℕ) (w : V) where
-    abbrev v : Node K V
+  module _ (n : Node K V Z) (i : ℕ) (w : V) where
+    abbrev v : Node K V Z
     v = with_value n i w
 
     pub value_before : before_own v i ≡ before_own n i

@@ -49,23 +49,23 @@ module _ {X : Type 0} where
   set_case (x ∷ xs) (suc i) zero c d e h = inr (inl refl)
   set_case (x ∷ xs) (suc i) (suc j) c d e h = set_case xs i j c d e (omega arith)
 
-module _ {K V : Type 0} where
-  pub same_refl : (path : List ℕ) (n : Node K V) → IsSameAlong path n n
+module _ {K V Z : Type 0} where
+  pub same_refl : (path : List ℕ) (n : Node K V Z) → IsSameAlong path n n
   same_refl [] n = tt
   same_refl (i ∷ path) n = (refl, refl, same_refl path (child_at n i))
 
-  pub same_trans : (path : List ℕ) (a b c : Node K V) → IsSameAlong path a b → IsSameAlong path b c → IsSameAlong path a c
+  pub same_trans : (path : List ℕ) (a b c : Node K V Z) → IsSameAlong path a b → IsSameAlong path b c → IsSameAlong path a c
   same_trans [] a b c p q = tt
   same_trans (i ∷ path) a b c p q = (p.0 ∙ q.0, p.1 ∙ q.1, same_trans path (child_at a i) (child_at b i) (child_at c i) p.2 q.2)
 
-  lengths_set : (cs : List (Node K V)) (i j : ℕ) (c d : Node K V) → length (pairs_of (get_or cs i d)) ≡ length (pairs_of c)
+  lengths_set : (cs : List (Node K V Z)) (i j : ℕ) (c d : Node K V Z) → length (pairs_of (get_or cs i d)) ≡ length (pairs_of c)
       → map length (map pairs_of (take j cs)) ≡ map length (map pairs_of (take j (slice_set cs i c)))
   lengths_set [] i j c d e = refl
   lengths_set (x ∷ cs) i zero c d e = refl
   lengths_set (x ∷ cs) zero (suc j) c d e = ap (λ k. k ∷ map length (map pairs_of (take j cs))) e
   lengths_set (x ∷ cs) (suc i) (suc j) c d e = ap (λ ks. length (pairs_of x) ∷ ks) (lengths_set cs i j c d e)
 
-  pub value_same : (path : List ℕ) (n : Node K V) (i : ℕ) (w : V) → IsSameAlong path n (with_value n i w)
+  pub value_same : (path : List ℕ) (n : Node K V Z) (i : ℕ) (w : V) → IsSameAlong path n (with_value n i w)
   value_same [] n i w = tt
   value_same (j ∷ path) n i w =
       let v = with_value n i w in
@@ -83,8 +83,8 @@ module _ {K V : Type 0} where
       go (inl q) on = subst (IsSameAlong path (child_at n j)) q (same_refl path (child_at n j))
       go (inr q) on = subst (λ x. IsSameAlong path x (get_or (children_of n) j (with_value n i w))) (sym q.0) (subst (IsSameAlong path n) (sym q.1) on)
 
-  pub child_same : (path : List ℕ) (n : Node K V) (i : ℕ) (c : Node K V) → i < length (children_of n) → length (pairs_of (child_at n i)) ≡ length (pairs_of c)
-      → ((p : List ℕ) → IsSameAlong p (child_at n i) c) → IsSameAlong path n (with_child n i c)
+  pub child_same : (path : List ℕ) (n : Node K V Z) (i : ℕ) (c : Node K V Z) → i < length (children_of n)
+      → length (pairs_of (child_at n i)) ≡ length (pairs_of c) → ((p : List ℕ) → IsSameAlong p (child_at n i) c) → IsSameAlong path n (with_child n i c)
   child_same [] n i c lt e s = tt
   child_same (j ∷ path) n i c lt e s =
       let m = with_child n i c in
@@ -108,11 +108,11 @@ module _ {K V : Type 0} where
           (subst (IsSameAlong path n) (sym q.1) on)
 
   -- a path stays one, and as many pairs are before its end
-  pub same_path : (path : List ℕ) (n m : Node K V) → IsSameAlong path n m → IsPath path n → IsPath path m
+  pub same_path : (path : List ℕ) (n m : Node K V Z) → IsSameAlong path n m → IsPath path n → IsPath path m
   same_path [] n m s p = tt
   same_path (i ∷ path) n m s p = ((let a = s.0 in let b = p.0 in omega arith), same_path path (child_at n i) (child_at m i) s.2 p.1)
 
-  pub same_before : (path : List ℕ) (n m : Node K V) → IsSameAlong path n m → length (before_gap path m) ≡ length (before_gap path n)
+  pub same_before : (path : List ℕ) (n m : Node K V Z) → IsSameAlong path n m → length (before_gap path m) ≡ length (before_gap path n)
   same_before [] n m s = refl
   same_before (i ∷ path) n m s =
       let a = s.1 in

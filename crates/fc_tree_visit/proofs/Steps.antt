@@ -20,34 +20,34 @@ use Rattle.fc_tree_visit.proofs.Shapes.{same_refl, same_trans, value_same, child
 use Rattle.fc_tree_visit.proofs.Parts.{drop_next, drop_get, before_own_child, child_before, child_after_child, child_there, child_after, child_levels}
 use Rattle.fc_tree_visit.proofs.Parts.{value_before, value_there, value_length, value_after, value_levels}
 
-module _ {K V : Type 0} where
+module _ {K V Z : Type 0} where
   -- the first step of an end, or the one that stands for none
-  pub record IsFirstStep (h : ℕ) (n : Node K V) (i : ℕ) (rest : List ℕ) : Type 0 where
+  pub record IsFirstStep (h : ℕ) (n : Node K V Z) (i : ℕ) (rest : List ℕ) : Type 0 where
     pub le : i ≤ length (own_pairs n)
     pub path : IsPath rest (child_at n i)
     pub long : 0 < length rest → length rest ≡ h
 
-  pub from_step : (h : ℕ) (n : Node K V) (path : List ℕ) → IsEnd h path n
+  pub from_step : (h : ℕ) (n : Node K V Z) (path : List ℕ) → IsEnd h path n
       → IsFirstStep h n (get_or path 0 0) (drop 1 path) × (before_gap path n ≡ before_child n (get_or path 0 0)
       ++ before_gap (drop 1 path) (child_at n (get_or path 0 0)))
   from_step h n [] e = (record { le = omega arith; path = tt; long = λ q. absurd (omega arith) }, refl)
   from_step h n (i ∷ path) e = let f = e.1 (omega arith) in (record { le = e.0.0; path = e.0.1; long = λ q. omega arith }, refl)
 
-  pub to_step : (h : ℕ) (n : Node K V) (path : List ℕ) → IsEnd h path n
+  pub to_step : (h : ℕ) (n : Node K V Z) (path : List ℕ) → IsEnd h path n
       → IsFirstStep h n (get_or path 0 (length (own_pairs n))) (drop 1 path)
       × (after_gap path n ≡ after_gap (drop 1 path) (child_at n (get_or path 0 (length (own_pairs n)))) ++ after_child n (get_or path 0 (length (own_pairs n))))
   to_step h n [] e = (record { le = omega arith; path = tt; long = λ q. absurd (omega arith) }, sym (after_none n (length (own_pairs n)) (omega arith)))
   to_step h n (i ∷ path) e = let f = e.1 (omega arith) in (record { le = e.0.0; path = e.0.1; long = λ q. omega arith }, refl)
 
   -- what an end has on one side is part of the pairs
-  pub before_within : (h : ℕ) (n : Node K V) (path : List ℕ) → IsLevelled h n → IsEnd h path n → length (before_gap path n) ≤ length (pairs_of n)
+  pub before_within : (h : ℕ) (n : Node K V Z) (path : List ℕ) → IsLevelled h n → IsEnd h path n → length (before_gap path n) ≤ length (pairs_of n)
   before_within h n [] l e = omega arith
   before_within h n (i ∷ path) l e =
       let p = ap length (gap_pairs (i ∷ path) h n l (e.1 (omega arith)) e.0) in
       let q = length-append (before_gap (i ∷ path) n) (after_gap (i ∷ path) n) in
       omega arith
 
-  pub after_within : (h : ℕ) (n : Node K V) (path : List ℕ) → IsLevelled h n → IsEnd h path n → length (after_gap path n) ≤ length (pairs_of n)
+  pub after_within : (h : ℕ) (n : Node K V Z) (path : List ℕ) → IsLevelled h n → IsEnd h path n → length (after_gap path n) ≤ length (pairs_of n)
   after_within h n [] l e = omega arith
   after_within h n (i ∷ path) l e =
       let p = ap length (gap_pairs (i ∷ path) h n l (e.1 (omega arith)) e.0) in
@@ -55,18 +55,18 @@ module _ {K V : Type 0} where
       omega arith
 
   -- a node whose own pairs are as they were from one place on, and whose children are from another
-  pub record IsKept (old now : Node K V) (i j : ℕ) : Type 0 where
+  pub record IsKept (old now : Node K V Z) (i j : ℕ) : Type 0 where
     pub same : length (own_pairs now) ≡ length (own_pairs old)
     pub own : drop i (own_pairs now) ≡ drop i (own_pairs old)
     pub below : drop j (children_of now) ≡ drop j (children_of old)
     pub levels : (h : ℕ) → IsLevelled h old → IsLevelled h now
     pub shape : (path : List ℕ) → IsSameAlong path old now
 
-  pub kept_all : (n : Node K V) (i j : ℕ) → IsKept n n i j
+  pub kept_all : (n : Node K V Z) (i j : ℕ) → IsKept n n i j
   kept_all n i j = record { same = refl; own = refl; below = refl; levels = λ h l. l; shape = λ p. same_refl p n }
 
   -- the next child is as it was
-  pub kept_child : (h : ℕ) (old now : Node K V) (i : ℕ) → IsLevelled (suc h) old → IsKept old now i i → i ≤ length (own_pairs old)
+  pub kept_child : (h : ℕ) (old now : Node K V Z) (i : ℕ) → IsLevelled (suc h) old → IsKept old now i i → i ≤ length (own_pairs old)
       → child_at now i ≡ child_at old i
   kept_child h old now i l k le =
       let m = k.levels (suc h) l in
@@ -75,21 +75,21 @@ module _ {K V : Type 0} where
       let b : length (children_of old) ≡ length (own_pairs old) + 1 = l.1 in
       drop_get (children_of now) (children_of old) i now old k.below (omega arith) (omega arith)
 
-  pub kept_rest : (old now : Node K V) (i : ℕ) → IsKept old now i i → after_child now i ≡ after_child old i
+  pub kept_rest : (old now : Node K V Z) (i : ℕ) → IsKept old now i i → after_child now i ≡ after_child old i
   kept_rest old now i k =
       ap (λ ps. after_list ps (map pairs_of (drop (suc i) (children_of now)))) k.own
       ∙ ap (λ cs. after_list (drop i (own_pairs old)) (map pairs_of cs)) (drop_next i (children_of now) (children_of old) k.below)
 
   -- the leaves of a tree lie on one level
-  pub one_height : (h j : ℕ) (n : Node K V) → IsLevelled h n → IsLevelled j n → h ≡ j
+  pub one_height : (h j : ℕ) (n : Node K V Z) → IsLevelled h n → IsLevelled j n → h ≡ j
   one_height zero zero n l q = refl
   one_height zero (suc j) n l q = absurd (leaf_or_inner n l.1 q.1)
   one_height (suc h) zero n l q = absurd (leaf_or_inner n q.1 l.1)
   one_height (suc h) (suc j) n l q = ap suc (one_height h j (child_at n 0) (child_below h n 0 l (omega arith)).1 (child_below j n 0 q (omega arith)).1)
 
-module _ {F K V : Type 0} (R : F → K × V → F → V → Type 0) where
+module _ {F K V Z : Type 0} (R : F → K × V → F → V → Type 0) where
   -- after the pair at a place
-  pub own_step : (h : ℕ) (old n : Node K V) (i : ℕ) (e : K × V) (w : V) (first f g : F) (front : List (K × V)) → IsLevelled h old → IsKept old n i (suc i)
+  pub own_step : (h : ℕ) (old n : Node K V Z) (i : ℕ) (e : K × V) (w : V) (first f g : F) (front : List (K × V)) → IsLevelled h old → IsKept old n i (suc i)
       → i < length (own_pairs old) → Grown R first f front (before_own old i) (before_own n i) → R f e g w → e ≡ get_or (own_pairs n) i e
       → IsKept old (with_value n i w) (suc i) (suc i) × Grown R first g front (before_child old (suc i)) (before_child (with_value n i w) (suc i))
   own_step h old n i e w first f g front l k lt grown r p =
@@ -112,7 +112,7 @@ module _ {F K V : Type 0} (R : F → K × V → F → V → Type 0) where
       )
 
   -- the shape stays
-  pub child_shape : (h : ℕ) (old n c c' : Node K V) (i : ℕ) (rest to : List ℕ) (f g : F) → IsLevelled (suc h) old → IsKept old n i i
+  pub child_shape : (h : ℕ) (old n c c' : Node K V Z) (i : ℕ) (rest to : List ℕ) (f g : F) → IsLevelled (suc h) old → IsKept old n i i
       → i ≤ length (own_pairs old) → c ≡ child_at n i → IsVisited R f g (before_gap rest c) (after_gap to c) (pairs_of c) (pairs_of c')
       → ((p : List ℕ) → IsSameAlong p c c') → (path : List ℕ) → IsSameAlong path old (with_child n i c')
   child_shape h old n c c' i rest to f g l k le is v s path =
@@ -124,7 +124,7 @@ module _ {F K V : Type 0} (R : F → K × V → F → V → Type 0) where
       same_trans path old n (with_child n i c') (k.shape path) (child_same path n i c' (omega arith) e (λ p. subst (λ x. IsSameAlong p x c') is (s p)))
 
   -- after the child at a place, all of which after an end was visited
-  pub child_step : (h : ℕ) (old n c c' : Node K V) (i : ℕ) (rest : List ℕ) (first f g : F) (front : List (K × V)) → IsLevelled (suc h) old → IsKept old n i i
+  pub child_step : (h : ℕ) (old n c c' : Node K V Z) (i : ℕ) (rest : List ℕ) (first f g : F) (front : List (K × V)) → IsLevelled (suc h) old → IsKept old n i i
       → i < length (own_pairs old) → Grown R first f front (before_child old i ++ before_gap rest (child_at old i))
       (before_child n i ++ before_gap rest (child_at old i))
       → c ≡ child_at n i → IsVisited R f g (before_gap rest c) [] (pairs_of c) (pairs_of c') → IsBelow h c' → ((p : List ℕ) → IsSameAlong p c c')
@@ -160,8 +160,8 @@ module _ {F K V : Type 0} (R : F → K × V → F → V → Type 0) where
       kept_levels j q = subst (λ x. IsLevelled x (with_child n i c')) (one_height (suc h) j old l q) (child_levels n i c' h (k.levels (suc h) l) b)
 
   -- after the last child, which was visited between two ends
-  pub child_end : (h : ℕ) (old n c c' : Node K V) (i : ℕ) (rest to : List ℕ) (first f g : F) (front : List (K × V)) → IsLevelled (suc h) old → IsKept old n i i
-      → i ≤ length (own_pairs old) → Grown R first f front (before_child old i ++ before_gap rest (child_at old i))
+  pub child_end : (h : ℕ) (old n c c' : Node K V Z) (i : ℕ) (rest to : List ℕ) (first f g : F) (front : List (K × V)) → IsLevelled (suc h) old
+      → IsKept old n i i → i ≤ length (own_pairs old) → Grown R first f front (before_child old i ++ before_gap rest (child_at old i))
       (before_child n i ++ before_gap rest (child_at old i))
       → c ≡ child_at n i → IsVisited R f g (before_gap rest c) (after_gap to c) (pairs_of c) (pairs_of c') → IsBelow h c'
       → IsVisited R first g front (after_gap to (child_at old i) ++ after_child old i) (pairs_of old) (pairs_of (with_child n i c'))

@@ -19,9 +19,13 @@ use Rattle.fc_tree_visit.proofs.Parts.{in_order, drop_next, before_leaf, child_l
 use Rattle.fc_tree_visit.proofs.Steps.{IsFirstStep, from_step, to_step, after_within, before_within, IsKept, kept_all, kept_child, kept_rest, one_height}
 use Rattle.fc_tree_visit.proofs.Steps.{own_step, child_step, child_shape, child_end}
 
-module _ {F K V : Type 0} (R : F → K × V → F → V → Type 0) where
+none : (p : List ℕ) → (0 < length p → length p ≡ 0) → p ≡ []
+none [] h = refl
+none (x ∷ p) h = let e = h (omega arith) in absurd (omega arith)
+
+module _ {F K V Z : Type 0} (R : F → K × V → F → V → Type 0) where
   -- before the child at i, from an end below it on
-  pub record IsAt (old now : Node K V) (first f : F) (from : List ℕ) (i end : ℕ) (rest to : List ℕ) : Type 0 where
+  pub record IsAt (old now : Node K V Z) (first f : F) (from : List ℕ) (i end : ℕ) (rest to : List ℕ) : Type 0 where
     pub le : i ≤ end
     pub kept : IsKept old now i i
     pub step : (h : ℕ) → IsLevelled h old → IsFirstStep h old i rest
@@ -30,14 +34,14 @@ module _ {F K V : Type 0} (R : F → K × V → F → V → Type 0) where
         (before_child now i ++ before_gap rest (child_at old i))
 
   -- the ends of a walk in a node
-  pub record AreSteps (h : ℕ) (n : Node K V) (from to : List ℕ) (start end : ℕ) (rest back : List ℕ) : Type 0 where
+  pub record AreSteps (h : ℕ) (n : Node K V Z) (from to : List ℕ) (start end : ℕ) (rest back : List ℕ) : Type 0 where
     pub first : IsFirstStep h n start rest
     pub last : IsFirstStep h n end back
     pub lead : before_gap from n ≡ before_child n start ++ before_gap rest (child_at n start)
     pub tail : after_gap to n ≡ after_gap back (child_at n end) ++ after_child n end
     pub le : start ≤ end
 
-  steps_of : (h : ℕ) (n : Node K V) (from to : List ℕ) (start end len : ℕ) (rest back : List ℕ) → IsLevelled h n → IsEnd h from n → IsEnd h to n
+  steps_of : (h : ℕ) (n : Node K V Z) (from to : List ℕ) (start end len : ℕ) (rest back : List ℕ) → IsLevelled h n → IsEnd h from n → IsEnd h to n
       → length (before_gap from n) + length (after_gap to n) ≤ length (pairs_of n) → start ≡ get_or from 0 0 → rest ≡ drop 1 from → end ≡ get_or to 0 len
       → back ≡ drop 1 to → len ≡ length (own_pairs n) → AreSteps h n from to start end rest back
   steps_of h n from to start end len rest back l a b o s r e k m =
@@ -58,46 +62,42 @@ module _ {F K V : Type 0} (R : F → K × V → F → V → Type 0) where
       record { first = first; last = last; lead = lead; tail = tail; le = in_order h n start end l first.le (omega arith) }
 
   -- of a leaf, and of an inner node
-  abbrev pub AreEnds : Node K V → List ℕ → List ℕ → Type 0
+  abbrev pub AreEnds : Node K V Z → List ℕ → List ℕ → Type 0
   AreEnds n from to = (h : ℕ) × IsLevelled h n × IsEnd h from n × IsEnd h to n
 
-  pub leaf_steps : (n : Node K V) (from to : List ℕ) (start end len : ℕ) (rest back : List ℕ) → AreEnds n from to → IsLeaf n
+  pub leaf_steps : (n : Node K V Z) (from to : List ℕ) (start end len : ℕ) (rest back : List ℕ) → AreEnds n from to → IsLeaf n
       → length (before_gap from n) + length (after_gap to n) ≤ length (pairs_of n) → start ≡ get_or from 0 0 → rest ≡ drop 1 from → end ≡ get_or to 0 len
       → back ≡ drop 1 to → len ≡ length (own_pairs n) → AreSteps 0 n from to start end rest back
   leaf_steps n from to start end len rest back (zero, l, a, b) leaf o s r e k m = steps_of 0 n from to start end len rest back l a b o s r e k m
   leaf_steps n from to start end len rest back (suc h, l, a, b) leaf o s r e k m = absurd (leaf_or_inner n leaf l.1)
 
-  pub record AreInner (n : Node K V) (from to : List ℕ) (start end : ℕ) (rest back : List ℕ) : Type 0 where
+  pub record AreInner (n : Node K V Z) (from to : List ℕ) (start end : ℕ) (rest back : List ℕ) : Type 0 where
     pub h : ℕ
     pub levels : IsLevelled (suc h) n
     pub steps : AreSteps (suc h) n from to start end rest back
 
-  pub inner_steps : (n : Node K V) (from to : List ℕ) (start end len : ℕ) (rest back : List ℕ) → AreEnds n from to → (IsLeaf n → ⊥)
+  pub inner_steps : (n : Node K V Z) (from to : List ℕ) (start end len : ℕ) (rest back : List ℕ) → AreEnds n from to → (IsLeaf n → ⊥)
       → length (before_gap from n) + length (after_gap to n) ≤ length (pairs_of n) → start ≡ get_or from 0 0 → rest ≡ drop 1 from → end ≡ get_or to 0 len
       → back ≡ drop 1 to → len ≡ length (own_pairs n) → AreInner n from to start end rest back
   inner_steps n from to start end len rest back (zero, l, a, b) leaf o s r e k m = absurd (leaf l.1)
   inner_steps n from to start end len rest back (suc h, l, a, b) leaf o s r e k m =
       record { h = h; levels = l; steps = steps_of (suc h) n from to start end len rest back l a b o s r e k m }
 
-  none : (p : List ℕ) → (0 < length p → length p ≡ 0) → p ≡ []
-  none [] h = refl
-  none (x ∷ p) h = let e = h (omega arith) in absurd (omega arith)
-
   -- a leaf's ends have one step
-  pub leaf_front : (n : Node K V) (from to : List ℕ) (start end : ℕ) (rest back : List ℕ) → AreSteps 0 n from to start end rest back
+  pub leaf_front : (n : Node K V Z) (from to : List ℕ) (start end : ℕ) (rest back : List ℕ) → AreSteps 0 n from to start end rest back
       → before_gap from n ≡ before_child n start
   leaf_front n from to start end rest back s = s.lead ∙ ap (λ p. before_child n start ++ before_gap p (child_at n start)) (none rest s.first.long)
       ∙ append-nil (before_child n start)
 
-  pub leaf_back : (n : Node K V) (from to : List ℕ) (start end : ℕ) (rest back : List ℕ) → AreSteps 0 n from to start end rest back
+  pub leaf_back : (n : Node K V Z) (from to : List ℕ) (start end : ℕ) (rest back : List ℕ) → AreSteps 0 n from to start end rest back
       → after_gap to n ≡ after_child n end
   leaf_back n from to start end rest back s = s.tail ∙ ap (λ p. after_gap p (child_at n end) ++ after_child n end) (none back s.last.long)
 
   -- an end below a child
-  pub end_below : (h : ℕ) (n : Node K V) (i : ℕ) (rest : List ℕ) → IsFirstStep (suc h) n i rest → IsEnd h rest (child_at n i)
+  pub end_below : (h : ℕ) (n : Node K V Z) (i : ℕ) (rest : List ℕ) → IsFirstStep (suc h) n i rest → IsEnd h rest (child_at n i)
   end_below h n i rest s = (s.path, λ q. let e = s.long q in omega arith)
 
-  pub at_start : (h : ℕ) (n : Node K V) (f : F) (from to : List ℕ) (start end : ℕ) (rest back : List ℕ) → IsLevelled (suc h) n
+  pub at_start : (h : ℕ) (n : Node K V Z) (f : F) (from to : List ℕ) (start end : ℕ) (rest back : List ℕ) → IsLevelled (suc h) n
       → length (before_gap from n) + length (after_gap to n) ≤ length (pairs_of n) → AreSteps (suc h) n from to start end rest back
       → IsAt n n f f from start end rest back
   at_start h n f from to start end rest back l o s = record {
@@ -121,14 +121,14 @@ module _ {F K V : Type 0} (R : F → K × V → F → V → Type 0) where
   }
 
   -- the child, which is as it was
-  pub record IsReached (h : ℕ) (old c : Node K V) (i : ℕ) (rest : List ℕ) : Type 0 where
+  pub record IsReached (h : ℕ) (old c : Node K V Z) (i : ℕ) (rest : List ℕ) : Type 0 where
     pub is : c ≡ child_at old i
     pub levels : IsLevelled h c
     pub some : min_len ≤ length (own_pairs c)
     pub from : IsEnd h rest c
     pub within : length (before_gap rest c) ≤ length (pairs_of c)
 
-  pub reached : (h : ℕ) (old now c : Node K V) (first f : F) (from : List ℕ) (i end : ℕ) (rest to : List ℕ) → IsLevelled (suc h) old
+  pub reached : (h : ℕ) (old now c : Node K V Z) (first f : F) (from : List ℕ) (i end : ℕ) (rest to : List ℕ) → IsLevelled (suc h) old
       → end ≤ length (own_pairs old) → IsAt old now first f from i end rest to → c ≡ child_at now i → IsReached h old c i rest
   reached h old now c first f from i end rest to l le at e =
       let step = at.step (suc h) l in
@@ -145,7 +145,7 @@ module _ {F K V : Type 0} (R : F → K × V → F → V → Type 0) where
       })
 
   -- the node of a walk has a child at the place
-  pub child_room : {old now : Node K V} {first f : F} {from to front back rest : List ℕ} {start i end : ℕ} (s : AreInner old from to start end front back)
+  pub child_room : {old now : Node K V Z} {first f : F} {from to front back rest : List ℕ} {start i end : ℕ} (s : AreInner old from to start end front back)
       → IsAt old now first f from i end rest back → i < length (children_of now)
   child_room {now = now} s at =
       let many : length (children_of now) ≡ length (own_pairs now) + 1 = (at.kept.levels (suc s.h) s.levels).1 in
@@ -155,13 +155,13 @@ module _ {F K V : Type 0} (R : F → K × V → F → V → Type 0) where
       omega arith
 
   -- the child at the place of a walk, lent out of the node's list
-  pub record IsLent (h : ℕ) (old now c : Node K V) (i : ℕ) (rest : List ℕ) : Type 0 where
+  pub record IsLent (h : ℕ) (old now c : Node K V Z) (i : ℕ) (rest : List ℕ) : Type 0 where
     pub is : c ≡ child_at now i
     pub child : IsReached h old c i rest
     pub fewer : nodes_of c < nodes_of old
 
-  pub lent : {old now c : Node K V} {first f : F} {from to front back rest : List ℕ} {start i end : ℕ} (s : AreInner old from to start end front back)
-      → IsAt old now first f from i end rest back → (cs : List (Node K V)) → (out-Node K V now).children ≡ Some cs → c ≡ get_or cs i c
+  pub lent : {old now c : Node K V Z} {first f : F} {from to front back rest : List ℕ} {start i end : ℕ} (s : AreInner old from to start end front back)
+      → IsAt old now first f from i end rest back → (cs : List (Node K V Z)) → (out-Node K V Z now).children ≡ Some cs → c ≡ get_or cs i c
       → IsLent s.h old now c i rest
   lent {old = old} {now = now} {c = c} {first = first} {f = f} {from = from} {back = back} {rest = rest} {i = i} {end = end} s at cs e p =
       let is = child_lent now cs i e c p (child_room s at) in
@@ -172,12 +172,12 @@ module _ {F K V : Type 0} (R : F → K × V → F → V → Type 0) where
       record { is = is; child = r; fewer = fewer_nodes old c i (omega arith) r.is }
 
   -- it comes back as sound as it was
-  pub below_back : {h : ℕ} {old now c c' : Node K V} {i : ℕ} {rest : List ℕ} → IsLent h old now c i rest → length (own_pairs c') ≡ length (own_pairs c)
+  pub below_back : {h : ℕ} {old now c c' : Node K V Z} {i : ℕ} {rest : List ℕ} → IsLent h old now c i rest → length (own_pairs c') ≡ length (own_pairs c)
       → ((j : ℕ) → IsLevelled j c → IsLevelled j c') → IsBelow h c'
   below_back {h = h} l size levels = let some = l.child.some in (omega arith, levels h l.child.levels)
 
   -- at the last child
-  pub at_last : {old now : Node K V} {first f : F} {from to rest : List ℕ} {i end : ℕ} → IsAt old now first f from i end rest to → end ≤ i
+  pub at_last : {old now : Node K V Z} {first f : F} {from to rest : List ℕ} {i end : ℕ} → IsAt old now first f from i end rest to → end ≤ i
       → IsAt old now first f from end end rest to
   at_last {old = old} {now = now} {first = first} {f = f} {from = from} {to = to} {rest = rest} {i = i} {end = end} at ge =
       let le = at.le in
@@ -185,8 +185,8 @@ module _ {F K V : Type 0} (R : F → K × V → F → V → Type 0) where
       subst (λ j. IsAt old now first f from j end rest to) e at
 
   -- past the child and the pair after it
-  pub at_next : (h : ℕ) (old now c c' : Node K V) (first f g k : F) (from : List ℕ) (i end : ℕ) (rest to : List ℕ) (e : K × V) (w : V) → IsLevelled (suc h) old
-      → end ≤ length (own_pairs old) → IsFirstStep (suc h) old end to → IsAt old now first f from i end rest to → i < end
+  pub at_next : (h : ℕ) (old now c c' : Node K V Z) (first f g k : F) (from : List ℕ) (i end : ℕ) (rest to : List ℕ) (e : K × V) (w : V)
+      → IsLevelled (suc h) old → end ≤ length (own_pairs old) → IsFirstStep (suc h) old end to → IsAt old now first f from i end rest to → i < end
       → c ≡ child_at now i → IsVisited R f g (before_gap rest c) [] (pairs_of c) (pairs_of c') → IsBelow h c' → ((p : List ℕ) → IsSameAlong p c c') → R g e k w
       → e ≡ get_or (own_pairs (with_child now i c')) i e → IsAt old (with_value (with_child now i c') i w) first k from (suc i) end [] to
   at_next h old now c c' first f g k from i end rest to e w l le last at lt is v b shape r p =
@@ -210,7 +210,7 @@ module _ {F K V : Type 0} (R : F → K × V → F → V → Type 0) where
       }
 
   -- past the last child
-  pub at_end : (h : ℕ) (old now c c' : Node K V) (first f g : F) (from to : List ℕ) (start i end : ℕ) (front rest back : List ℕ) → IsLevelled (suc h) old
+  pub at_end : (h : ℕ) (old now c c' : Node K V Z) (first f g : F) (from to : List ℕ) (start i end : ℕ) (front rest back : List ℕ) → IsLevelled (suc h) old
       → AreSteps (suc h) old from to start end front back → IsAt old now first f from i end rest back → i ≡ end
       → c ≡ child_at now i → IsVisited R f g (before_gap rest c) (after_gap back c) (pairs_of c) (pairs_of c') → IsBelow h c'
       → IsVisited R first g (before_gap from old) (after_gap to old) (pairs_of old) (pairs_of (with_child now i c'))
@@ -220,16 +220,16 @@ module _ {F K V : Type 0} (R : F → K × V → F → V → Type 0) where
       (subst (λ j. after_gap back (child_at old j) ++ after_child old j ≡ after_gap to old) (sym e) (sym s.tail)) t
 
   -- the walk is over once the last child is back, as c'
-  pub record IsOver (old new : Node K V) (first g : F) (from to : List ℕ) : Type 0 where
+  pub record IsOver (old new : Node K V Z) (first g : F) (from to : List ℕ) : Type 0 where
     pub levels : (h : ℕ) → IsLevelled h old → IsLevelled h new
     pub shape : (path : List ℕ) → IsSameAlong path old new
     pub visited : IsVisited R first g (before_gap from old) (after_gap to old) (pairs_of old) (pairs_of new)
 
-  pub over : {old now c c' : Node K V} {first f g : F} {from to front back rest : List ℕ} {start end : ℕ} (s : AreInner old from to start end front back)
-      → IsAt old now first f from end end rest back → (cs : List (Node K V)) → (out-Node K V now).children ≡ Some cs → c ≡ get_or cs end c
+  pub over : {old now c c' : Node K V Z} {first f g : F} {from to front back rest : List ℕ} {start end : ℕ} (s : AreInner old from to start end front back)
+      → IsAt old now first f from end end rest back → (cs : List (Node K V Z)) → (out-Node K V Z now).children ≡ Some cs → c ≡ get_or cs end c
       → IsVisited R f g (before_gap rest c) (after_gap back c) (pairs_of c) (pairs_of c') → length (own_pairs c') ≡ length (own_pairs c)
       → ((j : ℕ) → IsLevelled j c → IsLevelled j c') → ((p : List ℕ) → IsSameAlong p c c')
-      → IsOver old (roll-Node K V (record { pairs = own_pairs now; children = Some (slice_set cs end c') })) first g from to
+      → IsOver old (roll-Node K V Z (record { pairs = own_pairs now; children = Some (slice_set cs end c') })) first g from to
   over {old = old} {now = now} {c = c} {c' = c'} {first = first} {f = f} {g = g} {from = from} {to = to} {front = front} {back = back} {rest = rest}
       {start = start} {end = end} s at cs e p v size levels shape =
       let x = lent s at cs e p in
@@ -242,7 +242,7 @@ module _ {F K V : Type 0} (R : F → K × V → F → V → Type 0) where
       })
 
   -- a leaf's pair
-  pub leaf_step : (old n n' : Node K V) (i : ℕ) (e : K × V) (w : V) (first f g : F) (front : List (K × V)) → IsLevelled 0 old → IsKept old n i i
+  pub leaf_step : (old n n' : Node K V Z) (i : ℕ) (e : K × V) (w : V) (first f g : F) (front : List (K × V)) → IsLevelled 0 old → IsKept old n i i
       → i < length (own_pairs old) → Grown R first f front (before_child old i) (before_child n i) → R f e g w → e ≡ get_or (own_pairs n) i e
       → n' ≡ with_value n i w
       → IsKept old n' (suc i) (suc i) × Grown R first g front (before_child old (suc i)) (before_child n' (suc i))
@@ -260,7 +260,7 @@ module _ {F K V : Type 0} (R : F → K × V → F → V → Type 0) where
       (own_step R 0 old n i e w first f g front l more lt (subst (λ zs. Grown R first f front zs (before_own n i)) (sym (before_leaf old i l lt))
       (subst (λ zs. Grown R first f front (before_child old i) zs) (sym (before_leaf n i (k.levels 0 l) (omega arith))) grown)) r p)
 
-  pub leaf_end : (old n : Node K V) (i end : ℕ) (first f : F) (front : List (K × V)) → IsLevelled 0 old → IsKept old n i i → i ≡ end
+  pub leaf_end : (old n : Node K V Z) (i end : ℕ) (first f : F) (front : List (K × V)) → IsLevelled 0 old → IsKept old n i i → i ≡ end
       → Grown R first f front (before_child old i) (before_child n i) → IsVisited R first f front (after_child old end) (pairs_of old) (pairs_of n)
   leaf_end old n i end first f front l k e grown =
       subst (λ j. IsVisited R first f front (after_child old j) (pairs_of old) (pairs_of n)) e

@@ -28,5 +28,5 @@ pub record IsVisited {F K V : Type 0} (R : F → K × V → F → V → Type 0) 
   pub visits : VisitsInTurn R f within f' left
 
 -- The path leads to a gap of a leaf so many levels down, or it has no step and stands for the end of the tree on its side.
-abbrev pub IsEnd : {K V : Type 0} → ℕ → List ℕ → Node K V → Type 0
+abbrev pub IsEnd : {K V Z : Type 0} → ℕ → List ℕ → Node K V Z → Type 0
 IsEnd h path n = IsPath path n × (0 < length path → length path ≡ h + 1)

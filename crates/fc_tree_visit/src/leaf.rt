@@ -9,11 +9,12 @@ ghost use Rattle.fc_tree_node.specs.Place.{IsPlace, before_pair};
 ghost use Rattle.fc_tree_walk.specs.Gap.{zeros};
 ghost use Rattle.fc_tree_visit.specs.Leaf.{gone_on, IsLowest};
 
+use fc_base::Handle;
 use fc_tree_node::node::Node;
 use fc_tree_node::path::Path;
 
 /// How many pairs of its leaf lie after a gap.
-pub fn pairs_after<K, V>(node: &Node<K, V>, gap: &[u8]) -> usize
+pub fn pairs_after<K, V, A: Handle>(node: &Node<K, V, A>, gap: &[u8]) -> usize
     requires some { 0 < length gap.now }
     requires path { IsPath gap.now node.now }
     requires levels { IsLevelled (length gap.now - 1) node.now }
@@ -42,11 +43,11 @@ pub fn go_on(gap: &mut Path, count: usize)
 }
 
 // The one node and its level, or the other where it has a pair.
-fn lower<'a, K, V>(
-    best: (&'a Node<K, V>, usize),
-    other: (&'a Node<K, V>, usize),
+fn lower<'a, K, V, A: Handle>(
+    best: (&'a Node<K, V, A>, usize),
+    other: (&'a Node<K, V, A>, usize),
     pairs: usize,
-) -> (&'a Node<K, V>, usize)
+) -> (&'a Node<K, V, A>, usize)
     ensures other { 0 < pairs → result ≡ other.entry }
     ensures best { pairs ≡ 0 → result ≡ best.entry }
 {
@@ -54,12 +55,12 @@ fn lower<'a, K, V>(
 }
 
 // The lowest node on the way to a gap that has a pair after it, and its level; the best so far where there is none.
-fn lowest_after<'a, K, V>(
-    node: &'a Node<K, V>,
+fn lowest_after<'a, K, V, A: Handle>(
+    node: &'a Node<K, V, A>,
     gap: &[u8],
     level: usize,
-    best: (&'a Node<K, V>, usize),
-) -> (&'a Node<K, V>, usize)
+    best: (&'a Node<K, V, A>, usize),
+) -> (&'a Node<K, V, A>, usize)
     requires some { 0 < length gap.now }
     requires path { IsPath gap.now node.now }
     requires levels { IsLevelled (length gap.now - 1) node.now }
@@ -76,7 +77,7 @@ fn lowest_after<'a, K, V>(
 
 // Goes down from a node at a level of a path, by the path's step there and then by first children, and answers how many pairs of the
 // leaf lie after.
-fn go_down<K, V>(node: &Node<K, V>, gap: &mut Path, level: usize) -> usize
+fn go_down<K, V, A: Handle>(node: &Node<K, V, A>, gap: &mut Path, level: usize) -> usize
     requires level { level < length gap.old }
     requires step { slice_index gap.old level ≤ length (own_pairs node.now) }
     requires levels { IsLevelled (length gap.old - suc level) node.now }
@@ -96,7 +97,7 @@ fn go_down<K, V>(node: &Node<K, V>, gap: &mut Path, level: usize) -> usize
 /// Goes on past the pair after a gap, and answers how many steps of the path lead to its node, its place there, and how many pairs of
 /// the leaf lie after the gap where the path then leads.
 #[inline]
-pub fn pass_next<K, V>(root: &Node<K, V>, gap: &mut Path) -> (usize, usize, usize)
+pub fn pass_next<K, V, A: Handle>(root: &Node<K, V, A>, gap: &mut Path) -> (usize, usize, usize)
     requires some { 0 < length gap.old }
     requires path { IsPath gap.old root.now }
     requires levels { IsLevelled (length gap.old - 1) root.now }

@@ -8,13 +8,14 @@ ghost use Rattle.fc_tree_walk.specs.Gap.{AreEndsIn, IsGapIn};
 ghost use Rattle.fc_tree_visit.specs.Visits.{CalledAtPair, IsVisited};
 
 use crate::visit::visit;
+use fc_base::Handle;
 use fc_tree_node::node::Node;
 use fc_tree_node::path::Path;
 
 /// Calls the closure at each pair of the tree between two gaps, in order, with its value lent for writing. No memory is taken, and
 /// no node on the other side of a gap is entered.
-pub fn visit_tree<K, V, F: FnMut(&K, &mut V)>(
-    root: &mut Option<Node<K, V>>,
+pub fn visit_tree<K, V, F: FnMut(&K, &mut V), A: Handle>(
+    root: &mut Option<Node<K, V, A>>,
     front: &Path,
     back: &Path,
     mut f: F,

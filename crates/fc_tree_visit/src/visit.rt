@@ -8,13 +8,19 @@ ghost use Rattle.fc_tree_search.specs.Written.{with_value};
 ghost use Rattle.fc_tree_visit.specs.Shape.{IsSameAlong};
 ghost use Rattle.fc_tree_visit.specs.Visits.{CalledAtPair, IsVisited, IsEnd};
 
+use fc_base::Handle;
 use fc_tree_node::node::Node;
 use fc_tree_search::lend::content;
 
 /// Calls the closure at each pair below the node between two gaps, in order, with its value lent for writing. A path leads to each
 /// gap; one without steps stands for the end of the tree on its side. No memory is taken, and no node on the other side of a gap is
 /// entered.
-pub fn visit<K, V, F: FnMut(&K, &mut V)>(node: &mut Node<K, V>, from: &[u8], to: &[u8], f: &mut F)
+pub fn visit<K, V, F: FnMut(&K, &mut V), A: Handle>(
+    node: &mut Node<K, V, A>,
+    from: &[u8],
+    to: &[u8],
+    f: &mut F,
+)
     requires ends { (h : ℕ) × IsLevelled h node.old × IsEnd h from.now node.old × IsEnd h to.now node.old }
     requires order { length (before_gap from.now node.old) + length (after_gap to.now node.old) ≤ length (pairs_of node.old) }
     requires callable { F.IsAlwaysCallable f.old }
@@ -51,8 +57,8 @@ fn split(path: &[u8], end: usize) -> (usize, &[u8])
 }
 
 // Calls the closure at the pairs of a leaf from one place to another.
-fn visit_leaf<K, V, F: FnMut(&K, &mut V)>(
-    node: &mut Node<K, V>,
+fn visit_leaf<K, V, F: FnMut(&K, &mut V), A: Handle>(
+    node: &mut Node<K, V, A>,
     start: usize,
     end: usize,
     f: &mut F,
@@ -72,7 +78,11 @@ fn visit_leaf<K, V, F: FnMut(&K, &mut V)>(
 }
 
 // Calls the closure at the node's own pair at `index`.
-fn visit_own<K, V, F: FnMut(&K, &mut V)>(node: &mut Node<K, V>, index: usize, f: &mut F)
+fn visit_own<K, V, F: FnMut(&K, &mut V), A: Handle>(
+    node: &mut Node<K, V, A>,
+    index: usize,
+    f: &mut F,
+)
     requires inside { index < length (own_pairs node.old) }
     requires callable { F.IsAlwaysCallable f.old }
     ensures callable { F.IsAlwaysCallable f.new }

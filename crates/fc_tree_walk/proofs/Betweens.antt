@@ -10,7 +10,7 @@ use Rattle.fc_tree_walk.specs.Span.{between}
 use Rattle.fc_tree_walk.proofs.Bounds.{gap_entries}
 use Rattle.fc_tree_walk.proofs.Slices.{slice_split, slice_one}
 
-module _ {K V : Type 0} (m : Map K V) (sound : IsSoundMap m) where
+module _ {K V Z : Type 0} (m : Map K V Z) (sound : IsSoundMap m) where
   -- No more pairs are before a gap than there are.
   pub gap_fits : (gap : List ℕ) → IsGapIn m gap → length (before_gap_in m gap) ≤ length (entries m)
   gap_fits gap g = let e = ap length (gap_entries m gap sound g) ∙ length-append (before_gap_in m gap) (after_gap_in m gap) in omega arith

@@ -19,14 +19,14 @@ same_cut (x ∷ a) b (y ∷ c) d e h =
     let r = same_cut a b c d f (omega arith) in
     (ap (λ z. z ∷ a) g ∙ ap (λ zs. y ∷ zs) r.0, r.1)
 
-module _ {K V : Type 0} where
+module _ {K V Z : Type 0} where
   -- A path that went on from nothing.
-  pub from_nothing : (old new : List ℕ) (n : Node K V) (count : ℕ) → old ≡ [] → GoesOn old new n count → IsLeafGap new n × (length (before_gap new n) ≡ count)
+  pub from_nothing : (old new : List ℕ) (n : Node K V Z) (count : ℕ) → old ≡ [] → GoesOn old new n count → IsLeafGap new n × (length (before_gap new n) ≡ count)
   from_nothing old new n count e g =
       let s : new ≡ g.0 = g.1 ∙ ap (λ o. o ++ g.0) e in
       (subst (λ p. IsLeafGap p n) (sym s) g.2, ap (λ p. length (before_gap p n)) s ∙ g.3)
 
   -- A map's pairs are those before a gap, and those after it.
-  pub gap_entries : (m : Map K V) (gap : List ℕ) → IsSoundMap m → IsGapIn m gap → entries m ≡ before_gap_in m gap ++ after_gap_in m gap
+  pub gap_entries : (m : Map K V Z) (gap : List ℕ) → IsSoundMap m → IsGapIn m gap → entries m ≡ before_gap_in m gap ++ after_gap_in m gap
   gap_entries None gap o g = refl
   gap_entries (Some root) gap o g = gap_pairs gap o.0 root o.2.1 (g.1 o.0 o.2.1) g.0

@@ -29,53 +29,53 @@ back_is (i ∷ gap) zero k = refl
 back_is (i ∷ []) (suc last) k = absurd (omega arith)
 back_is (i ∷ j ∷ gap) (suc last) k = ap (λ p. i ∷ p) (back_is (j ∷ gap) last (omega arith))
 
-module _ {K V : Type 0} where
+module _ {K V Z : Type 0} where
   -- a node's pairs around a child, or around a gap of a leaf
-  abbrev pub IsAround : Node K V → ℕ → List (K × V) → Type 0
+  abbrev pub IsAround : Node K V Z → ℕ → List (K × V) → Type 0
   IsAround n i c = pairs_of n ≡ before_child n i ++ (c ++ after_child n i)
 
-  pub around_gap : (h : ℕ) (n : Node K V) (i : ℕ) → IsLevelled h n → length (children_of n) ≤ i → i ≤ length (own_pairs n) → IsAround n i []
+  pub around_gap : (h : ℕ) (n : Node K V Z) (i : ℕ) → IsLevelled h n → length (children_of n) ≤ i → i ≤ length (own_pairs n) → IsAround n i []
   around_gap zero n i l c le = leaf_gap n i l.1
   around_gap (suc h) n i l c le = absurd (let e : length (children_of n) ≡ length (own_pairs n) + 1 = l.1 in omega arith)
 
-  pub around_child : (h : ℕ) (n c : Node K V) (i : ℕ) → IsLevelled h n → i < length (children_of n) → c ≡ child_at n i → IsAround n i (pairs_of c)
+  pub around_child : (h : ℕ) (n c : Node K V Z) (i : ℕ) → IsLevelled h n → i < length (children_of n) → c ≡ child_at n i → IsAround n i (pairs_of c)
   around_child h n c i l k is = let s = step_levels h n i l k in subst (λ d. IsAround n i (pairs_of d)) (sym is) (inner_gap n i s.4 s.3)
 
-  pub around_length : (n : Node K V) (i : ℕ) (c : List (K × V)) → IsAround n i c
+  pub around_length : (n : Node K V Z) (i : ℕ) (c : List (K × V)) → IsAround n i c
       → length (pairs_of n) ≡ length (before_child n i) + (length c + length (after_child n i))
   around_length n i c is = ap length is ∙ length-append (before_child n i) _ ∙ ap (λ m. length (before_child n i) + m) (length-append c (after_child n i))
 
   -- how many pairs are before a node's own pair: those that lead to the child before it, and that child's
-  pub own_count : (h : ℕ) (n : Node K V) (i : ℕ) (c : List (K × V)) → IsLevelled h n → i < length (own_pairs n) → IsAround n i c
+  pub own_count : (h : ℕ) (n : Node K V Z) (i : ℕ) (c : List (K × V)) → IsLevelled h n → i < length (own_pairs n) → IsAround n i c
       → length (before_own n i) ≡ length (before_child n i) + length c
   own_count h n i c l k is =
       let x = (item_there (own_pairs n) i k).0 in
       omega (arith, ap length (own_pair h n i x l k) ∙ length-append (before_own n i) _, around_length n i c is, ap length (after_child_pair n i x k))
 
   -- and all pairs of the node are those before its end, and the last child's
-  pub end_count : (n : Node K V) (i : ℕ) (c : List (K × V)) → length (own_pairs n) ≤ i → IsAround n i c
+  pub end_count : (n : Node K V Z) (i : ℕ) (c : List (K × V)) → length (own_pairs n) ≤ i → IsAround n i c
       → length (pairs_of n) ≡ length (before_child n i) + length c
   end_count n i c h is = omega (arith, around_length n i c is, ap length (after_none n i h))
 
-  pub leaf_before_own : (n : Node K V) (i : ℕ) → IsLevelled 0 n → i < length (own_pairs n) → length (before_own n i) ≡ length (before_child n i)
+  pub leaf_before_own : (n : Node K V Z) (i : ℕ) → IsLevelled 0 n → i < length (own_pairs n) → length (before_own n i) ≡ length (before_child n i)
   leaf_before_own n i l k = omega (arith, own_count 0 n i [] l k (leaf_gap n i l.1))
 
-  pub inner_length : (h : ℕ) (n : Node K V) (i : ℕ) → IsLevelled (suc h) n → i ≤ length (own_pairs n)
+  pub inner_length : (h : ℕ) (n : Node K V Z) (i : ℕ) → IsLevelled (suc h) n → i ≤ length (own_pairs n)
       → length (pairs_of n) ≡ length (before_child n i) + (length (pairs_of (child_at n i)) + length (after_child n i))
   inner_length h n i l le = around_length n i (pairs_of (child_at n i)) (inner_gap n i l.1 le)
 
-  pub inner_before : (h : ℕ) (n : Node K V) (i : ℕ) → IsLevelled (suc h) n → i < length (own_pairs n)
+  pub inner_before : (h : ℕ) (n : Node K V Z) (i : ℕ) → IsLevelled (suc h) n → i < length (own_pairs n)
       → length (before_own n i) ≡ length (before_child n i) + length (pairs_of (child_at n i))
   inner_before h n i l k = own_count (suc h) n i (pairs_of (child_at n i)) l k (inner_gap n i l.1 (omega arith))
 
   -- the pair after a gap
-  pub record IsNext (gap : List ℕ) (n : Node K V) (steps : ℕ) : Type 0 where
+  pub record IsNext (gap : List ℕ) (n : Node K V Z) (steps : ℕ) : Type 0 where
     pub within : steps ≤ length gap
     pub none : steps ≡ 0 → length (before_gap gap n) ≡ length (pairs_of n)
     pub place : 0 < steps → IsPlace (take steps gap) n
     pub before : 0 < steps → length (before_pair (take steps gap) n) ≡ length (before_gap gap n)
 
-  next_at_leaf : (i : ℕ) (n : Node K V) (own : ℕ) → i ≤ length (own_pairs n) → IsLevelled 0 n → (own ≡ 0 → length (own_pairs n) ≤ i)
+  next_at_leaf : (i : ℕ) (n : Node K V Z) (own : ℕ) → i ≤ length (own_pairs n) → IsLevelled 0 n → (own ≡ 0 → length (own_pairs n) ≤ i)
       → (0 < own → (own ≡ 1) × (i < length (own_pairs n))) → IsNext (i ∷ []) n own
   next_at_leaf i n zero le l z s =
       record {
@@ -98,7 +98,7 @@ module _ {K V : Type 0} where
       }
   next_at_leaf i n (suc (suc own)) le l z s = absurd (let e = (s (omega arith)).0 in omega arith)
 
-  next_above : (i : ℕ) (rest : List ℕ) (h : ℕ) (n : Node K V) (own : ℕ) → i ≤ length (own_pairs n) → IsLevelled (suc h) n
+  next_above : (i : ℕ) (rest : List ℕ) (h : ℕ) (n : Node K V Z) (own : ℕ) → i ≤ length (own_pairs n) → IsLevelled (suc h) n
       → length (before_gap rest (child_at n i)) ≡ length (pairs_of (child_at n i))
       → (own ≡ 0 → length (own_pairs n) ≤ i) → (0 < own → (own ≡ 1) × (i < length (own_pairs n))) → IsNext (i ∷ rest) n own
   next_above i rest h n zero le l e z s =
@@ -122,7 +122,7 @@ module _ {K V : Type 0} where
       }
   next_above i rest h n (suc (suc own)) le l e z s = absurd (let e = (s (omega arith)).0 in omega arith)
 
-  next_below : (i : ℕ) (rest : List ℕ) (h : ℕ) (n : Node K V) (steps : ℕ) → i ≤ length (own_pairs n) → IsLevelled (suc h) n → IsNext rest (child_at n i) steps
+  next_below : (i : ℕ) (rest : List ℕ) (h : ℕ) (n : Node K V Z) (steps : ℕ) → i ≤ length (own_pairs n) → IsLevelled (suc h) n → IsNext rest (child_at n i) steps
       → 0 < steps → IsNext (i ∷ rest) n (suc steps)
   next_below i rest h n zero le l x k = absurd (omega arith)
   next_below i [] h n (suc steps) le l x k = absurd (let w : suc steps ≤ 0 = x.within in omega arith)
@@ -136,28 +136,29 @@ module _ {K V : Type 0} where
       }
 
   -- the same by the steps of a path
-  pub next_leaf : (gap : List ℕ) (n : Node K V) (own : ℕ) → gap ≡ get_or gap 0 0 ∷ [] → IsPath gap n → IsLevelled 0 n
+  pub next_leaf : (gap : List ℕ) (n : Node K V Z) (own : ℕ) → gap ≡ get_or gap 0 0 ∷ [] → IsPath gap n → IsLevelled 0 n
       → (own ≡ 0 → length (own_pairs n) ≤ get_or gap 0 0) → (0 < own → (own ≡ 1) × (get_or gap 0 0 < length (own_pairs n))) → IsNext gap n own
   next_leaf gap n own e p l z s = subst (λ g. IsNext g n own) (sym e) (next_at_leaf (get_or gap 0 0) n own (subst (λ g. IsPath g n) e p).0 l z s)
 
-  pub next_own : (gap : List ℕ) (n : Node K V) (own : ℕ) (s : IsStep gap n)
+  pub next_own : (gap : List ℕ) (n : Node K V Z) (own : ℕ) (s : IsStep gap n)
       → length (before_gap (slice_range gap 1 (length gap)) (child_at n (get_or gap 0 0))) ≡ length (pairs_of (child_at n (get_or gap 0 0)))
       → (own ≡ 0 → length (own_pairs n) ≤ get_or gap 0 0) → (0 < own → (own ≡ 1) × (get_or gap 0 0 < length (own_pairs n))) → IsNext gap n own
   next_own gap n own s e z o = subst (λ g. IsNext g n own) (sym s.path_is) (next_above _ _ _ n own s.le s.levels e z o)
 
-  pub next_child : (gap : List ℕ) (n : Node K V) (steps : ℕ) (s : IsStep gap n) → IsNext (slice_range gap 1 (length gap)) (child_at n (get_or gap 0 0)) steps
+  pub next_child : (gap : List ℕ) (n : Node K V Z) (steps : ℕ) (s : IsStep gap n) → IsNext (slice_range gap 1 (length gap)) (child_at n (get_or gap 0 0)) steps
       → 0 < steps → IsNext gap n (steps + 1)
   next_child gap n steps s x k = subst (λ g. IsNext g n (steps + 1)) (sym s.path_is) (rw (add-one steps) (next_below _ _ _ n steps s.le s.levels x k))
 
   -- the pair before a gap
-  pub record IsLast (gap : List ℕ) (n : Node K V) (steps : ℕ) : Type 0 where
+  pub record IsLast (gap : List ℕ) (n : Node K V Z) (steps : ℕ) : Type 0 where
     pub within : steps ≤ length gap
     pub none : steps ≡ 0 → length (before_gap gap n) ≡ 0
     pub place : 0 < steps → IsPlace (one_back (take steps gap)) n
     pub before : 0 < steps → length (before_pair (one_back (take steps gap)) n) + 1 ≡ length (before_gap gap n)
     pub step : (last : ℕ) → last + 1 ≡ steps → 0 < get_or gap last 0
 
-  last_own : (i : ℕ) (rest : List ℕ) (h : ℕ) (n : Node K V) (own : ℕ) → i ≤ length (own_pairs n) → IsLevelled h n → length (before_gap rest (child_at n i)) ≡ 0
+  last_own : (i : ℕ) (rest : List ℕ) (h : ℕ) (n : Node K V Z) (own : ℕ) → i ≤ length (own_pairs n) → IsLevelled h n
+      → length (before_gap rest (child_at n i)) ≡ 0
       → (own ≡ 0 → i ≡ 0) → (0 < own → (own ≡ 1) × (0 < i)) → IsLast (i ∷ rest) n own
   last_own zero rest h n zero le l e z s =
       record {
@@ -189,7 +190,7 @@ module _ {K V : Type 0} where
       here (suc last) e = absurd (omega arith)
   last_own (suc i) rest h n (suc (suc own)) le l e z s = absurd (let e = (s (omega arith)).0 in omega arith)
 
-  last_below : (i : ℕ) (rest : List ℕ) (h : ℕ) (n : Node K V) (steps : ℕ) → i ≤ length (own_pairs n) → IsLevelled (suc h) n → IsLast rest (child_at n i) steps
+  last_below : (i : ℕ) (rest : List ℕ) (h : ℕ) (n : Node K V Z) (steps : ℕ) → i ≤ length (own_pairs n) → IsLevelled (suc h) n → IsLast rest (child_at n i) steps
       → 0 < steps → IsLast (i ∷ rest) n (suc steps)
   last_below i rest h n zero le l x k = absurd (omega arith)
   last_below i [] h n (suc steps) le l x k = absurd (let w : suc steps ≤ 0 = x.within in omega arith)
@@ -218,26 +219,26 @@ module _ {K V : Type 0} where
       below_one (m ∷ path) p = ((λ k. (k, p)), refl)
 
   -- the same by the steps of a path
-  pub last_leaf : (gap : List ℕ) (n : Node K V) (own : ℕ) → gap ≡ get_or gap 0 0 ∷ [] → IsPath gap n → IsLevelled 0 n → (own ≡ 0 → get_or gap 0 0 ≡ 0)
+  pub last_leaf : (gap : List ℕ) (n : Node K V Z) (own : ℕ) → gap ≡ get_or gap 0 0 ∷ [] → IsPath gap n → IsLevelled 0 n → (own ≡ 0 → get_or gap 0 0 ≡ 0)
       → (0 < own → (own ≡ 1) × (0 < get_or gap 0 0)) → IsLast gap n own
   last_leaf gap n own e p l z s = subst (λ g. IsLast g n own) (sym e) (last_own (get_or gap 0 0) [] 0 n own (subst (λ g. IsPath g n) e p).0 l refl z s)
 
-  pub last_above : (gap : List ℕ) (n : Node K V) (own : ℕ) (s : IsStep gap n)
+  pub last_above : (gap : List ℕ) (n : Node K V Z) (own : ℕ) (s : IsStep gap n)
       → length (before_gap (slice_range gap 1 (length gap)) (child_at n (get_or gap 0 0))) ≡ 0 → (own ≡ 0 → get_or gap 0 0 ≡ 0)
       → (0 < own → (own ≡ 1) × (0 < get_or gap 0 0)) → IsLast gap n own
   last_above gap n own s e z o = subst (λ g. IsLast g n own) (sym s.path_is)
       (last_own _ _ (suc (length (slice_range gap 1 (length gap)) - 1)) n own s.le s.levels e z o)
 
-  pub last_child : (gap : List ℕ) (n : Node K V) (steps : ℕ) (s : IsStep gap n) → IsLast (slice_range gap 1 (length gap)) (child_at n (get_or gap 0 0)) steps
+  pub last_child : (gap : List ℕ) (n : Node K V Z) (steps : ℕ) (s : IsStep gap n) → IsLast (slice_range gap 1 (length gap)) (child_at n (get_or gap 0 0)) steps
       → 0 < steps → IsLast gap n (steps + 1)
   last_child gap n steps s x k = subst (λ g. IsLast g n (steps + 1)) (sym s.path_is) (rw (add-one steps) (last_below _ _ _ n steps s.le s.levels x k))
 
   -- all pairs of a leaf are before the end of it
-  pub end_leaf : (n : Node K V) (i : ℕ) → IsLevelled 0 n → length (own_pairs n) ≤ i → length (before_child n i) ≡ length (pairs_of n)
+  pub end_leaf : (n : Node K V Z) (i : ℕ) → IsLevelled 0 n → length (own_pairs n) ≤ i → length (before_child n i) ≡ length (pairs_of n)
   end_leaf n i l h = omega (arith, end_count n i [] h (leaf_gap n i l.1))
 
   -- a path that goes on by one step, to the gap of a leaf
-  pub goes_leaf : (old : List ℕ) (i h : ℕ) (n : Node K V) → IsLevelled h n → length (children_of n) ≤ i → i ≤ length (own_pairs n)
+  pub goes_leaf : (old : List ℕ) (i h : ℕ) (n : Node K V Z) → IsLevelled h n → length (children_of n) ≤ i → i ≤ length (own_pairs n)
       → GoesOn old (old ++ i ∷ []) n (length (before_child n i))
   goes_leaf old i zero n l c le = (i ∷ [], refl, ((le, tt), λ h m. one h m), ap length (append-nil (before_child n i)))
     where
@@ -247,7 +248,7 @@ module _ {K V : Type 0} where
   goes_leaf old i (suc h) n l c le = absurd (let e : length (children_of n) ≡ length (own_pairs n) + 1 = l.1 in omega arith)
 
   -- and one that goes on below a child
-  pub goes_child : (old new : List ℕ) (i h : ℕ) (n : Node K V) (count : ℕ) → IsLevelled (suc h) n → i ≤ length (own_pairs n)
+  pub goes_child : (old new : List ℕ) (i h : ℕ) (n : Node K V Z) (count : ℕ) → IsLevelled (suc h) n → i ≤ length (own_pairs n)
       → GoesOn (old ++ i ∷ []) new (child_at n i) count → GoesOn old new n (length (before_child n i) + count)
   goes_child old new i h n count l le g = (
     i ∷ g.0,
@@ -265,11 +266,11 @@ module _ {K V : Type 0} where
       deep (suc k) m = let d = g.2.1 k (child_below k n i m le).1 in omega arith
 
   -- the same, with the pairs before the gap counted
-  pub goes_here : (old new : List ℕ) (i h : ℕ) (n : Node K V) (count more : ℕ) → IsLevelled h n → length (children_of n) ≤ i → i ≤ length (own_pairs n)
+  pub goes_here : (old new : List ℕ) (i h : ℕ) (n : Node K V Z) (count more : ℕ) → IsLevelled h n → length (children_of n) ≤ i → i ≤ length (own_pairs n)
       → new ≡ old ++ i ∷ [] → count ≡ length (before_child n i) + more → more ≡ 0 → GoesOn old new n count
   goes_here old new i h n count more l c le is e z = let g = goes_leaf old i h n l c le in (g.0, is ∙ g.1, g.2, omega (arith, g.3, e, z))
 
-  pub goes_below : (old mid new : List ℕ) (i h : ℕ) (n c : Node K V) (below count : ℕ) → IsLevelled h n → i < length (children_of n) → mid ≡ old ++ i ∷ []
+  pub goes_below : (old mid new : List ℕ) (i h : ℕ) (n c : Node K V Z) (below count : ℕ) → IsLevelled h n → i < length (children_of n) → mid ≡ old ++ i ∷ []
       → c ≡ child_at n i → GoesOn mid new c below → count ≡ length (before_child n i) + below → GoesOn old new n count
   goes_below old mid new i h n c below count l k m is g e =
       let s = step_levels h n i l k in
@@ -278,14 +279,14 @@ module _ {K V : Type 0} where
       (r.0, r.1, r.2, r.3 ∙ sym e)
 
   -- the leaf that a path goes on to
-  pub leaf_more : (i : ℕ) (path : List ℕ) (n : Node K V) → 0 < length path → leaf_at (i ∷ path) n ≡ leaf_at path (child_at n i)
+  pub leaf_more : (i : ℕ) (path : List ℕ) (n : Node K V Z) → 0 < length path → leaf_at (i ∷ path) n ≡ leaf_at path (child_at n i)
   leaf_more i [] n k = absurd (omega arith)
   leaf_more i (j ∷ path) n k = refl
 
-  pub ends_here : (old new : List ℕ) (i : ℕ) (n : Node K V) → new ≡ old ++ i ∷ [] → EndsIn old new n n
+  pub ends_here : (old new : List ℕ) (i : ℕ) (n : Node K V Z) → new ≡ old ++ i ∷ [] → EndsIn old new n n
   ends_here old new i n e path f = ap (λ p. leaf_at p n) (same_cut old (i ∷ []) old path (sym e ∙ f) refl).1
 
-  pub ends_below : (old mid new : List ℕ) (i count : ℕ) (n c leaf : Node K V) → mid ≡ old ++ i ∷ [] → c ≡ child_at n i → (h : ℕ) → IsLevelled h n
+  pub ends_below : (old mid new : List ℕ) (i count : ℕ) (n c leaf : Node K V Z) → mid ≡ old ++ i ∷ [] → c ≡ child_at n i → (h : ℕ) → IsLevelled h n
       → i < length (children_of n) → GoesOn mid new c count → EndsIn mid new c leaf → EndsIn old new n leaf
   ends_below old mid new i count n c leaf m is h l k g e path f =
       let q = g.0 in
@@ -295,7 +296,7 @@ module _ {K V : Type 0} where
       e q g.1 ∙ ap (leaf_at q) is ∙ sym (leaf_more i q n some) ∙ ap (λ p. leaf_at p n) (same_cut old (i ∷ q) old path (sym there ∙ f) refl).1
 
   -- a step down to a child: the path is one longer, and the child's levels one fewer
-  pub step_down : (old mid : List ℕ) (i : ℕ) (n c : Node K V) (l : (h : ℕ) × IsLevelled h n × (length old + h < most_levels))
+  pub step_down : (old mid : List ℕ) (i : ℕ) (n c : Node K V Z) (l : (h : ℕ) × IsLevelled h n × (length old + h < most_levels))
       → i < length (children_of n) → mid ≡ old ++ i ∷ [] → c ≡ child_at n i
       → ((h : ℕ) × IsLevelled h c × (length mid + h < most_levels)) × (length mid ≡ length old + 1) × (length mid < most_levels)
   step_down old mid i n c l k m is =
@@ -306,20 +307,20 @@ module _ {K V : Type 0} where
       ((s.0, subst (IsLevelled s.0) (sym is) s.2, omega arith), p, omega arith)
 
   -- the gap after a pair, on the way down to it
-  pub next_before : (h : ℕ) (n : Node K V) (i : ℕ) → IsLevelled h n → i < length (own_pairs n) → length (before_child n (i + 1)) ≡ length (before_own n i) + 1
+  pub next_before : (h : ℕ) (n : Node K V Z) (i : ℕ) → IsLevelled h n → i < length (own_pairs n) → length (before_child n (i + 1)) ≡ length (before_own n i) + 1
   next_before h n i l k = let x = (item_there (own_pairs n) i k).0 in ap (λ j. length (before_child n j)) (add-one i)
       ∙ ap length (before_child_pair h n i x l k) ∙ length-append (before_own n i) _
 
   -- the gap after a pair
-  zeros_gap : (h : ℕ) (n : Node K V) → IsLevelled h n → IsPath (zeros (suc h)) n × (before_gap (zeros (suc h)) n ≡ [])
+  zeros_gap : (h : ℕ) (n : Node K V Z) → IsLevelled h n → IsPath (zeros (suc h)) n × (before_gap (zeros (suc h)) n ≡ [])
   zeros_gap zero n l = ((omega arith, tt), refl)
   zeros_gap (suc h) n l = let r = zeros_gap h (child_at n 0) (child_below h n 0 l (omega arith)).1 in ((omega arith, r.0), r.1)
 
-  pub record IsBehind (place path : List ℕ) (n : Node K V) : Type 0 where
+  pub record IsBehind (place path : List ℕ) (n : Node K V Z) : Type 0 where
     pub way : IsPath path n
     pub count : length (before_gap path n) ≡ length (before_pair place n) + 1
 
-  zeros_after : (k h i : ℕ) (n : Node K V) → IsLevelled h n → k ≡ h → i < length (own_pairs n) → IsBehind (i ∷ []) (suc i ∷ zeros k) n
+  zeros_after : (k h i : ℕ) (n : Node K V Z) → IsLevelled h n → k ≡ h → i < length (own_pairs n) → IsBehind (i ∷ []) (suc i ∷ zeros k) n
   zeros_after zero h i n l e p =
       let x = (item_there (own_pairs n) i p).0 in
       let a = ap length (before_child_pair h n i x l p) ∙ length-append (before_own n i) _ in
@@ -335,7 +336,7 @@ module _ {K V : Type 0} where
       let d = ap length z.1 in
       record { way = (omega arith, z.0); count = omega (arith, a, b, d) }
 
-  pub pair_after_gap : (gap : List ℕ) (last k h : ℕ) (n : Node K V) → IsLevelled h n → length gap ≡ h + 1 → IsPath gap n → k + last + 1 ≡ length gap
+  pub pair_after_gap : (gap : List ℕ) (last k h : ℕ) (n : Node K V Z) → IsLevelled h n → length gap ≡ h + 1 → IsPath gap n → k + last + 1 ≡ length gap
       → IsPlace (take (suc last) gap) n → IsBehind (take (suc last) gap) (take last gap ++ (get_or gap last 0 + 1) ∷ zeros k) n
   pair_after_gap [] last k h n l e w c p = absurd (omega arith)
   pair_after_gap (i ∷ rest) zero k h n l e w c p = rw (add-one i) (zeros_after k h i n l (omega arith) p)
@@ -350,7 +351,7 @@ module _ {K V : Type 0} where
       }
 
   -- a step of a path is at most what a node holds
-  pub step_small : (gap : List ℕ) (i h : ℕ) (n : Node K V) → IsLevelled h n → length gap ≡ h + 1 → IsPath gap n → i < length gap → get_or gap i 0 ≤ capacity
+  pub step_small : (gap : List ℕ) (i h : ℕ) (n : Node K V Z) → IsLevelled h n → length gap ≡ h + 1 → IsPath gap n → i < length gap → get_or gap i 0 ≤ capacity
   step_small [] i h n l e w k = absurd (omega arith)
   step_small (j ∷ gap) zero zero n l e w k = omega (arith, l.0, w.0)
   step_small (j ∷ gap) zero (suc h) n l e w k = omega (arith, l.0, w.0)
@@ -358,7 +359,7 @@ module _ {K V : Type 0} where
   step_small (j ∷ gap) (suc i) (suc h) n l e w k = step_small gap i h (child_at n j) (child_below h n j l w.0).1 (omega arith) w.1 (omega arith)
 
   -- the levels of a tree are of one height
-  pub one_height : (h k : ℕ) (n : Node K V) → IsLevelled h n → IsLevelled k n → h ≡ k
+  pub one_height : (h k : ℕ) (n : Node K V Z) → IsLevelled h n → IsLevelled k n → h ≡ k
   one_height zero zero n l m = refl
   one_height zero (suc k) n l m =
       let e : length (children_of n) ≡ 0 = ap length (leaf_children n l.1) in
@@ -371,17 +372,17 @@ module _ {K V : Type 0} where
   one_height (suc h) (suc k) n l m = ap suc (one_height h k (child_at n 0) (child_below h n 0 l (omega arith)).1 (child_below k n 0 m (omega arith)).1)
 
   -- the one step of a short path to a pair
-  pub end_step : (place : List ℕ) (n : Node K V) → IsPlace place n → length place ≤ 1 → place ≡ get_or place 0 0 ∷ []
+  pub end_step : (place : List ℕ) (n : Node K V Z) → IsPlace place n → length place ≤ 1 → place ≡ get_or place 0 0 ∷ []
   end_step [] n p h = absurd p
   end_step (i ∷ []) n p h = refl
   end_step (i ∷ j ∷ place) n p h = absurd (omega arith)
 
   -- the gap after the pair that is after a gap
-  pub record IsStepped (m : Map K V) (gap next : List ℕ) : Type 0 where
+  pub record IsStepped (m : Map K V Z) (gap next : List ℕ) : Type 0 where
     pub slot : IsGapIn m next
     pub count : length (before_gap_in m next) ≡ length (before_gap_in m gap) + 1
 
-  next_slot : (h : ℕ) (n : Node K V) (gap next : List ℕ) (last steps : ℕ) → IsLevelled h n → IsLeafGap gap n → IsNext gap n steps → last + 1 ≡ steps
+  next_slot : (h : ℕ) (n : Node K V Z) (gap next : List ℕ) (last steps : ℕ) → IsLevelled h n → IsLeafGap gap n → IsNext gap n steps → last + 1 ≡ steps
       → next ≡ take last gap ++ (get_or gap last 0 + 1) ∷ zeros (length gap - length (take last gap) - 1) → IsStepped (Some n) gap next
   next_slot h n gap next last steps l g x e is =
       let s : steps ≡ suc last = sym e ∙ add-one last in
@@ -398,7 +399,7 @@ module _ {K V : Type 0} where
         count = ap (λ p. length (before_gap p n)) same ∙ r.count ∙ ap (λ k. k + 1) (y.before (omega arith));
       }
 
-  pub stepped_after : (m : Map K V) (n : Node K V) (gap next : List ℕ) (last steps : ℕ) → m ≡ Some n → IsSoundMap m → IsGapIn m gap → IsNext gap n steps
+  pub stepped_after : (m : Map K V Z) (n : Node K V Z) (gap next : List ℕ) (last steps : ℕ) → m ≡ Some n → IsSoundMap m → IsGapIn m gap → IsNext gap n steps
       → last + 1 ≡ steps
       → next ≡ take last gap ++ (get_or gap last 0 + 1) ∷ zeros (length gap - length (take last gap) - 1) → IsStepped m gap next
   stepped_after None n gap next last steps is sound g x e f = absurd cc
@@ -407,12 +408,12 @@ module _ {K V : Type 0} where
       next_slot sound.0 root gap next last steps sound.2.1 g (subst (λ d. IsNext gap d steps) same x) e f
 
   -- a step of a gap's path is small
-  pub gap_small : (m : Map K V) (gap : List ℕ) (i : ℕ) → IsSoundMap m → IsGapIn m gap → i < length gap → get_or gap i 0 ≤ capacity
+  pub gap_small : (m : Map K V Z) (gap : List ℕ) (i : ℕ) → IsSoundMap m → IsGapIn m gap → i < length gap → get_or gap i 0 ≤ capacity
   gap_small None gap i sound g k = absurd (let e = ap length g in omega arith)
   gap_small (Some root) gap i sound g k = step_small gap i sound.0 root sound.2.1 (g.1 sound.0 sound.2.1) g.0 k
 
   -- the pair before a gap, and the gap before it
-  pub place_back : (n : Node K V) (gap place : List ℕ) (last steps : ℕ) → IsLast gap n steps → last + 1 ≡ steps
+  pub place_back : (n : Node K V Z) (gap place : List ℕ) (last steps : ℕ) → IsLast gap n steps → last + 1 ≡ steps
       → place ≡ take last gap ++ (get_or gap last 0 - 1) ∷ [] → IsPlace place n × (length (before_pair place n) + 1 ≡ length (before_gap gap n))
   place_back n gap place last steps x e is =
       let s : steps ≡ suc last = sym e ∙ add-one last in
@@ -424,21 +425,21 @@ module _ {K V : Type 0} where
             (y.before (omega arith)),
       )
 
-  pub record IsBacked (m : Map K V) (gap path next : List ℕ) : Type 0 where
+  pub record IsBacked (m : Map K V Z) (gap path next : List ℕ) : Type 0 where
     pub place : IsPlaceIn m path
     pub before : length (before_pair_in m path) + 1 ≡ length (before_gap_in m gap)
     pub slot : IsGapIn m next
     pub count : length (before_gap_in m next) + 1 ≡ length (before_gap_in m gap)
 
-  some_before : (gap : List ℕ) (n : Node K V) (steps : ℕ) → IsLast gap n steps → 0 < length (before_gap gap n) → 0 < steps
+  some_before : (gap : List ℕ) (n : Node K V Z) (steps : ℕ) → IsLast gap n steps → 0 < length (before_gap gap n) → 0 < steps
   some_before gap n zero x k = absurd (let e = x.none refl in omega arith)
   some_before gap n (suc steps) x k = omega arith
 
-  pub some_last : (m : Map K V) (n : Node K V) (gap : List ℕ) (steps : ℕ) → m ≡ Some n → IsLast gap n steps → 0 < length (before_gap_in m gap) → 0 < steps
+  pub some_last : (m : Map K V Z) (n : Node K V Z) (gap : List ℕ) (steps : ℕ) → m ≡ Some n → IsLast gap n steps → 0 < length (before_gap_in m gap) → 0 < steps
   some_last None n gap steps is x k = absurd cc
   some_last (Some root) n gap steps is x k = let same : n ≡ root = cc in some_before gap root steps (subst (λ d. IsLast gap d steps) same x) k
 
-  pub stepped_before : (m : Map K V) (n : Node K V) (gap place next : List ℕ) (last steps : ℕ) → m ≡ Some n → IsLast gap n steps → last + 1 ≡ steps
+  pub stepped_before : (m : Map K V Z) (n : Node K V Z) (gap place next : List ℕ) (last steps : ℕ) → m ≡ Some n → IsLast gap n steps → last + 1 ≡ steps
       → place ≡ take last gap ++ (get_or gap last 0 - 1) ∷ [] → GoesOn [] next n (length (before_pair place n)) → IsBacked m gap place next
   stepped_before None n gap place next last steps is x e p g = absurd cc
   stepped_before (Some root) n gap place next last steps is x e p g =

@@ -50,9 +50,9 @@ last_set g h j e =
     let last : length (slice_set g h j) - 1 ≡ h = omega arith in
     ap (λ k. get_or (slice_set g h j) k 0) last ∙ get_or-set_same g h j 0 (omega arith)
 
-module _ {K V : Type 0} where
+module _ {K V Z : Type 0} where
   -- Another last step leads to the same leaf.
-  same_leaf : (g : List ℕ) (h j : ℕ) (n : Node K V) → length g ≡ h + 1 → leaf_at (slice_set g h j) n ≡ leaf_at g n
+  same_leaf : (g : List ℕ) (h j : ℕ) (n : Node K V Z) → length g ≡ h + 1 → leaf_at (slice_set g h j) n ≡ leaf_at g n
   same_leaf [] h j n e = refl
   same_leaf (i ∷ []) zero j n e = refl
   same_leaf (i ∷ []) (suc h) j n e = absurd (omega arith)
@@ -63,7 +63,7 @@ module _ {K V : Type 0} where
   same_leaf (i ∷ k ∷ l ∷ g) (suc (suc h)) j n e = same_leaf (k ∷ l ∷ g) (suc h) j (child_at n i) (omega arith)
 
   -- A gap whose last step is set to the end of its leaf, or to the start.
-  pub end_set : (m : Map K V) (n leaf : Node K V) (g to : List ℕ) (h j : ℕ) → m ≡ Some n → IsSoundMap m → IsGapIn m g → leaf ≡ leaf_at g n
+  pub end_set : (m : Map K V Z) (n leaf : Node K V Z) (g to : List ℕ) (h j : ℕ) → m ≡ Some n → IsSoundMap m → IsGapIn m g → leaf ≡ leaf_at g n
       → h ≡ length g - 1 → to ≡ slice_set g h j → j ≡ length (own_pairs leaf) → IsLeafEnd m to
   end_set None n leaf g to h j is sound gap at la set end = absurd cc
   end_set (Some root) n leaf g to h j is sound gap at la set end =
@@ -73,7 +73,7 @@ module _ {K V : Type 0} where
       let there = at ∙ ap (leaf_at g) same ∙ sym (same_leaf g h j root long) in
       subst (IsLeafEnd (Some root)) (sym set) (last_set g h j long ∙ end ∙ ap (λ l. length (own_pairs l)) there)
 
-  pub start_set : (m : Map K V) (n : Node K V) (g to : List ℕ) (h j : ℕ) → m ≡ Some n → IsSoundMap m → IsGapIn m g → h ≡ length g - 1
+  pub start_set : (m : Map K V Z) (n : Node K V Z) (g to : List ℕ) (h j : ℕ) → m ≡ Some n → IsSoundMap m → IsGapIn m g → h ≡ length g - 1
       → to ≡ slice_set g h j → j ≡ 0 → IsLeafStart m to
   start_set None n g to h j is sound gap la set start = absurd cc
   start_set (Some root) n g to h j is sound gap la set start =
@@ -82,12 +82,12 @@ module _ {K V : Type 0} where
       subst (IsLeafStart (Some root)) (sym set) (last_set g h j long ∙ start)
 
   -- A leaf has its own pairs alone on either side of a gap.
-  pub leaf_before_child : (n : Node K V) (i : ℕ) → IsLeaf n → before_child n i ≡ take i (own_pairs n)
+  pub leaf_before_child : (n : Node K V Z) (i : ℕ) → IsLeaf n → before_child n i ≡ take i (own_pairs n)
   leaf_before_child n i l = ap (λ cs. before_list (map pairs_of (take i cs)) (take i (own_pairs n))) (leaf_children n l)
       ∙ ap (λ cs. before_list (map pairs_of cs) (take i (own_pairs n))) (take_nil i)
 
   -- A gap of another leaf that is not before a leaf's gap k is after its gap e too.
-  pub apart_leaf : (f : List ℕ) (h : ℕ) (n : Node K V) (k e : ℕ) (q : List ℕ) → IsLevelled h n → IsPath (f ++ k ∷ []) n → IsPath (f ++ e ∷ []) n → IsPath q n
+  pub apart_leaf : (f : List ℕ) (h : ℕ) (n : Node K V Z) (k e : ℕ) (q : List ℕ) → IsLevelled h n → IsPath (f ++ k ∷ []) n → IsPath (f ++ e ∷ []) n → IsPath q n
       → length f ≡ h → length q ≡ h + 1
       → (take h q ≡ f → ⊥) → length (before_gap (f ++ k ∷ []) n) ≤ length (before_gap q n) → length (before_gap (f ++ e ∷ []) n) < length (before_gap q n)
   apart_leaf [] zero n k e q l v w x a b other le = absurd (other refl)
@@ -117,13 +117,13 @@ module _ {K V : Type 0} where
       order below (inr ge) (inr leq) = same below (omega arith)
 
   -- The leaf of a path of one step.
-  pub leaf_here : (g : List ℕ) (n : Node K V) → length g ≡ 1 → n ≡ leaf_at g n
+  pub leaf_here : (g : List ℕ) (n : Node K V Z) → length g ≡ 1 → n ≡ leaf_at g n
   leaf_here [] n e = refl
   leaf_here (i ∷ []) n e = refl
   leaf_here (i ∷ j ∷ g) n e = absurd (omega arith)
 
   -- A tree's pairs, cut at the leaf of a gap.
-  record IsLeafCut (g : List ℕ) (h : ℕ) (n : Node K V) : Type 0 where
+  record IsLeafCut (g : List ℕ) (h : ℕ) (n : Node K V Z) : Type 0 where
     pub low : List (K × V)
     pub high : List (K × V)
     pub parts : pairs_of n ≡ low ++ (own_pairs (leaf_at g n) ++ high)
@@ -132,7 +132,7 @@ module _ {K V : Type 0} where
     pub count : (j : ℕ) → j ≤ length (own_pairs (leaf_at g n)) → length (before_gap (slice_set g h j) n) ≡ length low + j
     pub leaf : (j : ℕ) → leaf_at (slice_set g h j) n ≡ leaf_at g n
 
-  leaf_cut : (g : List ℕ) (h : ℕ) (n : Node K V) → IsLevelled h n → length g ≡ h + 1 → IsPath g n → IsLeafCut g h n
+  leaf_cut : (g : List ℕ) (h : ℕ) (n : Node K V Z) → IsLevelled h n → length g ≡ h + 1 → IsPath g n → IsLeafCut g h n
   leaf_cut [] h n l e p = absurd (omega arith)
   leaf_cut (i ∷ []) zero n l e p =
       record {
@@ -175,20 +175,20 @@ module _ {K V : Type 0} where
       below (suc h) j = refl
 
   -- The front goes on to another gap of its leaf, not beyond the back.
-  pub record FrontTaken (m : Map K V) (front back : List ℕ) (leaf : Node K V) (last end : ℕ) : Type 0 where
+  pub record FrontTaken (m : Map K V Z) (front back : List ℕ) (leaf : Node K V Z) (last end : ℕ) : Type 0 where
     pub order : get_or front last 0 ≤ end
     pub fits : end ≤ length (own_pairs leaf)
     pub ends : AreEndsIn m (slice_set front last end) back
     pub run : between m front back ≡ slice_range (own_pairs leaf) (get_or front last 0) end ++ between m (slice_set front last end) back
 
   -- The back goes back to another gap of its leaf, not beyond the front.
-  pub record BackTaken (m : Map K V) (front back : List ℕ) (leaf : Node K V) (last start : ℕ) : Type 0 where
+  pub record BackTaken (m : Map K V Z) (front back : List ℕ) (leaf : Node K V Z) (last start : ℕ) : Type 0 where
     pub order : start ≤ get_or back last 0
     pub fits : get_or back last 0 ≤ length (own_pairs leaf)
     pub ends : AreEndsIn m front (slice_set back last start)
     pub run : between m front back ≡ between m front (slice_set back last start) ++ slice_range (own_pairs leaf) start (get_or back last 0)
 
-  module _ (n : Node K V) (h : ℕ) (l : IsLevelled h n) where
+  module _ (n : Node K V Z) (h : ℕ) (l : IsLevelled h n) where
     deep : (g : List ℕ) → IsLeafGap g n → length g ≡ h + 1
     deep g w = w.1 h l
 
@@ -339,7 +339,7 @@ module _ {K V : Type 0} where
         )
 
   -- ---- The same in a map, as far as an end reaches.
-  pub front_takes : (m : Map K V) (n leaf : Node K V) (front back : List ℕ) (last end : ℕ) (met : Bool) → m ≡ Some n → IsSoundMap m → AreEndsIn m front back
+  pub front_takes : (m : Map K V Z) (n leaf : Node K V Z) (front back : List ℕ) (last end : ℕ) (met : Bool) → m ≡ Some n → IsSoundMap m → AreEndsIn m front back
       → leaf ≡ leaf_at front n → last ≡ length front - 1
       → (IsTrue met ↔ (take (length front - 1) front ≡ take (length front - 1) back))
       → end ≡ (if met then get_or back (length front - 1) 0 else length (own_pairs leaf))
@@ -367,7 +367,8 @@ module _ {K V : Type 0} where
           let r = front_leaves root (length front - 1) l front back ends (λ s. absurd (let no : false ≡ true = e.1 s in cc)) in
           rw f (r.0, ((λ t. absurd (let no : false ≡ true = t in cc)), (λ s. absurd (r.1 s))))
 
-  pub back_takes : (m : Map K V) (n leaf : Node K V) (front back : List ℕ) (last start : ℕ) (met : Bool) → m ≡ Some n → IsSoundMap m → AreEndsIn m front back
+  pub back_takes : (m : Map K V Z) (n leaf : Node K V Z) (front back : List ℕ) (last start : ℕ) (met : Bool) → m ≡ Some n → IsSoundMap m
+      → AreEndsIn m front back
       → leaf ≡ leaf_at back n → last ≡ length back - 1
       → (IsTrue met ↔ (take (length back - 1) back ≡ take (length back - 1) front)) → start ≡ (if met then get_or front (length back - 1) 0 else 0)
       → BackTaken m front back leaf last start × (IsTrue met ↔ (between m front (slice_set back last start) ≡ []))

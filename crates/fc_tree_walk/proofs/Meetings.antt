@@ -9,14 +9,14 @@ use Rattle.fc_tree_node.specs.Place.{before_child, before_own}
 use Rattle.fc_tree_node.proofs.Gaps.{item_there, own_pair, before_child_pair, after_child_pair, leaf_gap, inner_gap, gap_pairs}
 use Rattle.fc_tree_node.proofs.Pairs.{child_below}
 
-module _ {K V : Type 0} where
+module _ {K V Z : Type 0} where
   -- How many pairs stand in the child at a place.
-  inside : ℕ → Node K V → ℕ → ℕ
+  inside : ℕ → Node K V Z → ℕ → ℕ
   inside zero n i = 0
   inside (suc h) n i = length (pairs_of (child_at n i))
 
   -- From one place to the next come the child's pairs and the pair between.
-  next_before : (h : ℕ) (n : Node K V) (i : ℕ) → IsLevelled h n → i < length (own_pairs n)
+  next_before : (h : ℕ) (n : Node K V Z) (i : ℕ) → IsLevelled h n → i < length (own_pairs n)
       → length (before_child n (suc i)) ≡ length (before_child n i) + inside h n i + 1
   unfolding inside
   next_before zero n i l k =
@@ -37,7 +37,7 @@ module _ {K V : Type 0} where
       omega (arith, a, b, c, d, e)
 
   -- At a later place the child's pairs and more lead.
-  later_before : (h : ℕ) (n : Node K V) (i d : ℕ) → IsLevelled h n → i + suc d ≤ length (own_pairs n)
+  later_before : (h : ℕ) (n : Node K V Z) (i d : ℕ) → IsLevelled h n → i + suc d ≤ length (own_pairs n)
       → length (before_child n i) + inside h n i < length (before_child n (i + suc d))
   later_before h n i zero l k =
       let e : i + 1 ≡ suc i = omega arith in
@@ -47,7 +47,7 @@ module _ {K V : Type 0} where
       rw e (omega (arith, later_before h n i d l (omega arith), next_before h n (i + suc d) l (omega arith)))
 
   -- What is before a gap below the child at a place are pairs of the child.
-  before_inside : (path : List ℕ) (h : ℕ) (n : Node K V) (i : ℕ) → IsLevelled h n → i ≤ length (own_pairs n) → IsPath path (child_at n i) → length path ≡ h
+  before_inside : (path : List ℕ) (h : ℕ) (n : Node K V Z) (i : ℕ) → IsLevelled h n → i ≤ length (own_pairs n) → IsPath path (child_at n i) → length path ≡ h
       → length (before_gap path (child_at n i)) ≤ inside h n i
   unfolding inside
   before_inside [] h n i l k p e = omega arith
@@ -58,7 +58,7 @@ module _ {K V : Type 0} where
       omega (arith, r)
 
   -- A path with an earlier first step has fewer pairs ahead.
-  pub earlier : (h : ℕ) (n : Node K V) (i j : ℕ) (p q : List ℕ) → IsLevelled h n → i < j → j ≤ length (own_pairs n) → IsPath p (child_at n i) → length p ≡ h
+  pub earlier : (h : ℕ) (n : Node K V Z) (i j : ℕ) (p q : List ℕ) → IsLevelled h n → i < j → j ≤ length (own_pairs n) → IsPath p (child_at n i) → length p ≡ h
       → length (before_gap (i ∷ p) n) < length (before_gap (j ∷ q) n)
   earlier h n i j p q l lt le w e =
       let d = later_before h n i (j - suc i) l (omega arith) in
@@ -68,7 +68,7 @@ module _ {K V : Type 0} where
       omega (arith, g, b, length-append (before_child n i) (before_gap p (child_at n i)), length-append (before_child n j) (before_gap q (child_at n j)))
 
   -- So with as many pairs ahead the first steps are the same.
-  first_step : (h : ℕ) (n : Node K V) (i j : ℕ) (p q : List ℕ) → IsLevelled h n → IsPath (i ∷ p) n → IsPath (j ∷ q) n → length p ≡ h → length q ≡ h
+  first_step : (h : ℕ) (n : Node K V Z) (i j : ℕ) (p q : List ℕ) → IsLevelled h n → IsPath (i ∷ p) n → IsPath (j ∷ q) n → length p ≡ h → length q ≡ h
       → length (before_gap (i ∷ p) n) ≡ length (before_gap (j ∷ q) n) → i ≡ j
   first_step h n i j p q l v w e f g = order (cases_lt i j) (cases_lt j i)
     where
@@ -78,7 +78,7 @@ module _ {K V : Type 0} where
       order (inr a) (inr b) = omega arith
 
   -- And so are all others.
-  pub same_path : (h : ℕ) (n : Node K V) (p q : List ℕ) → IsLevelled h n → IsPath p n → IsPath q n → length p ≡ h + 1 → length q ≡ h + 1
+  pub same_path : (h : ℕ) (n : Node K V Z) (p q : List ℕ) → IsLevelled h n → IsPath p n → IsPath q n → length p ≡ h + 1 → length q ≡ h + 1
       → length (before_gap p n) ≡ length (before_gap q n) → p ≡ q
   same_path h n [] q l v w e f g = absurd (omega arith)
   same_path h n (i ∷ p) [] l v w e f g = absurd (omega arith)

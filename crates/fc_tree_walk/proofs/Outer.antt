@@ -9,7 +9,7 @@ use Rattle.fc_tree_node.proofs.Gaps.{item_there, before_child_pair, after_child_
 use Rattle.fc_tree_node.proofs.Lists.{length_take}
 use Rattle.fc_tree_walk.proofs.Leaves.{leaf_before_child}
 
-module _ {K V : Type 0} (n : Node K V) where
+module _ {K V Z : Type 0} (n : Node K V Z) where
   -- No pair of the node is before its first child, nor after its last.
   pub none_ahead : (h i : ℕ) → IsLevelled h n → i ≤ length (own_pairs n) → (i ≡ 0) ↔ (length (before_child n i) ≡ 0)
   none_ahead h zero l le = ((λ e. omega arith), (λ e. omega arith))

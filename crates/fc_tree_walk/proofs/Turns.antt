@@ -171,34 +171,35 @@ module _ {K V : Type 0} (cmp : K → K → Ordering) where
                 ∙ ap (λ zs. take (length (cond (u x) (x ∷ zs) zs)) (x ∷ s)) (alike s (fails_behind t down [] s x o e)) ∙ first_held u under (x ∷ s) o
                 ∙ ap (λ zs. cond (u x) (x ∷ zs) zs) (sym (alike s (fails_behind t down [] s x o e)))
 
-  -- What stands before and after a child of a node, of the pairs that a test holds at as far as the child's place.
-  module _ (t : K × V → Bool) (down : HoldsBelow t) (h : ℕ) (n : Node K V) (l : IsLevelled h n) (o : IsAscending cmp (pairs_of n)) where
-    pub holds_before : (i : ℕ) → TurnsAt t (own_pairs n) i → AllByRecursion (λ y. t y ≡ true) (before_child n i)
-    holds_before zero r = tt
-    holds_before (suc j) r =
-        let k : j < length (own_pairs n) = (let le = r.within in omega arith) in
-        let x = (item_there (own_pairs n) j k).0 in
-        let p = get_or (own_pairs n) j x in
-        let e : t p ≡ true = r.holds j x (omega arith) (omega arith) in
-        subst (AllByRecursion (λ y. t y ≡ true)) (sym (before_child_pair h n j x l k))
-        (all_both _ (before_own n j) (p ∷ []) (holds_ahead t down (before_own n j) (after_own n j) p (subst (IsAscending cmp) (own_pair h n j x l k) o) e)
-        (e, tt))
+  module _ {Z : Type 0} where
+    -- What stands before and after a child of a node, of the pairs that a test holds at as far as the child's place.
+    module _ (t : K × V → Bool) (down : HoldsBelow t) (h : ℕ) (n : Node K V Z) (l : IsLevelled h n) (o : IsAscending cmp (pairs_of n)) where
+      pub holds_before : (i : ℕ) → TurnsAt t (own_pairs n) i → AllByRecursion (λ y. t y ≡ true) (before_child n i)
+      holds_before zero r = tt
+      holds_before (suc j) r =
+          let k : j < length (own_pairs n) = (let le = r.within in omega arith) in
+          let x = (item_there (own_pairs n) j k).0 in
+          let p = get_or (own_pairs n) j x in
+          let e : t p ≡ true = r.holds j x (omega arith) (omega arith) in
+          subst (AllByRecursion (λ y. t y ≡ true)) (sym (before_child_pair h n j x l k))
+          (all_both _ (before_own n j) (p ∷ []) (holds_ahead t down (before_own n j) (after_own n j) p (subst (IsAscending cmp) (own_pair h n j x l k) o) e)
+          (e, tt))
 
-    pub fails_after : (i : ℕ) → FailsAt t (own_pairs n) i → AllByRecursion (λ y. t y ≡ false) (after_child n i)
-    fails_after i r = order (cases_lt i (length (own_pairs n)))
-      where
-        order : (i < length (own_pairs n)) ⊎ (length (own_pairs n) ≤ i) → AllByRecursion (λ y. t y ≡ false) (after_child n i)
-        order (inr ge) = subst (AllByRecursion (λ y. t y ≡ false)) (sym (after_none n i ge)) tt
-        order (inl k) =
-            let x = (item_there (own_pairs n) i k).0 in
-            let p = get_or (own_pairs n) i x in
-            let e : t p ≡ false = r x k in
-            subst (AllByRecursion (λ y. t y ≡ false)) (sym (after_child_pair n i x k))
-            (e, fails_behind t down (before_own n i) (after_own n i) p (subst (IsAscending cmp) (own_pair h n i x l k) o) e)
+      pub fails_after : (i : ℕ) → FailsAt t (own_pairs n) i → AllByRecursion (λ y. t y ≡ false) (after_child n i)
+      fails_after i r = order (cases_lt i (length (own_pairs n)))
+        where
+          order : (i < length (own_pairs n)) ⊎ (length (own_pairs n) ≤ i) → AllByRecursion (λ y. t y ≡ false) (after_child n i)
+          order (inr ge) = subst (AllByRecursion (λ y. t y ≡ false)) (sym (after_none n i ge)) tt
+          order (inl k) =
+              let x = (item_there (own_pairs n) i k).0 in
+              let p = get_or (own_pairs n) i x in
+              let e : t p ≡ false = r x k in
+              subst (AllByRecursion (λ y. t y ≡ false)) (sym (after_child_pair n i x k))
+              (e, fails_behind t down (before_own n i) (after_own n i) p (subst (IsAscending cmp) (own_pair h n i x l k) o) e)
 
-module _ {K V : Type 0} where
+module _ {K V Z : Type 0} where
   -- The child's pairs ascend with the node's.
-  pub child_ascends : (cmp : K → K → Ordering) (h : ℕ) (n c : Node K V) (i : ℕ) → IsLevelled h n → i < length (children_of n) → c ≡ child_at n i
+  pub child_ascends : (cmp : K → K → Ordering) (h : ℕ) (n c : Node K V Z) (i : ℕ) → IsLevelled h n → i < length (children_of n) → c ≡ child_at n i
       → IsAscending cmp (pairs_of n) → IsAscending cmp (pairs_of c)
   child_ascends cmp h n c i l k is o = ascending_middle cmp (before_child n i) (pairs_of c) (after_child n i)
       (subst (IsAscending cmp) (around_child h n c i l k is) o)
@@ -220,7 +221,8 @@ module _ {K Q S : Type 0} {cmp : K → K → Ordering} {order : K → S → Orde
       go Equal h e = ap is_le (fits.same (sought q) y.0 x.0 h ∙ l)
       go Greater h e = absurd cc
 
-  module _ {V : Type 0} (h : ℕ) (n : Node K V) (l : IsLevelled h n) (o : IsAscending cmp (pairs_of n)) (i : ℕ) (c : List (K × V)) (is : IsAround n i c) where
+  module _ {V Z : Type 0} (h : ℕ) (n : Node K V Z) (l : IsLevelled h n) (o : IsAscending cmp (pairs_of n)) (i : ℕ) (c : List (K × V))
+      (is : IsAround n i c) where
     -- In front of a cut are the pairs before the child at its place, and those of the child.
     pub ahead_at : (cut : Cut Q) → TurnsAt (λ e. leads order sought cut e.0) (own_pairs n) i
         → ahead order sought cut (pairs_of n) ≡ length (before_child n i) + ahead order sought cut c
@@ -255,7 +257,7 @@ module _ {K Q S : Type 0} {cmp : K → K → Ordering} {order : K → S → Orde
         omega (arith, a, b)
 
   -- The two cuts part at a pair of the node.
-  pub amid_parted : {V : Type 0} (h : ℕ) (n : Node K V) → IsLevelled h n → IsAscending cmp (pairs_of n) → (lo hi : Cut Q) (start stop : ℕ) → start < stop
+  pub amid_parted : {V Z : Type 0} (h : ℕ) (n : Node K V Z) → IsLevelled h n → IsAscending cmp (pairs_of n) → (lo hi : Cut Q) (start stop : ℕ) → start < stop
       → TurnsAt (λ e. leads order sought lo e.0) (own_pairs n) start → IsTurn (λ e. leads order sought hi e.0) (own_pairs n) start stop
       → ahead order sought hi (pairs_of n) ≡ ahead order sought lo (pairs_of n) + amid order sought lo hi (pairs_of n)
   amid_parted h n l o lo hi start stop lt r v =
@@ -329,8 +331,8 @@ module _ {K Q S : Type 0} {cmp : K → K → Ordering} {order : K → S → Orde
         (leads_below (stop_cut hi)) s o ∙ within_is
 
   -- Where a range has but one bound, they are all pairs of a map on that side of its cut.
-  module _ {V : Type 0} (lo hi : Bound Q) (m : Map K V) (n : Node K V) (is : m ≡ Some n) (o : IsAscending cmp (entries m)) where
-    abbrev In : Map K V → List (K × V)
+  module _ {V Z : Type 0} (lo hi : Bound Q) (m : Map K V Z) (n : Node K V Z) (is : m ≡ Some n) (o : IsAscending cmp (entries m)) where
+    abbrev In : Map K V Z → List (K × V)
     In d = within order (bound_by sought lo) (bound_by sought hi) (entries d)
 
     one_bound : (a b : Cut Q) → a ≡ start_cut lo → b ≡ stop_cut hi → ((a ≡ First) ⊎ (b ≡ Last))
@@ -352,7 +354,7 @@ module _ {K Q S : Type 0} {cmp : K → K → Ordering} {order : K → S → Orde
         ∙ one_bound First cut (sym (ap start_cut f)) e (inl refl)
 
   -- In a map they lie between the gaps of a range's ends.
-  pub range_in : {V : Type 0} (lo hi : Bound Q) (m : Map K V) (n : Node K V) (front back : List ℕ) → m ≡ Some n → IsAscending cmp (entries m)
+  pub range_in : {V Z : Type 0} (lo hi : Bound Q) (m : Map K V Z) (n : Node K V Z) (front back : List ℕ) → m ≡ Some n → IsAscending cmp (entries m)
       → IsLeafGap front n × IsLeafGap back n → length (before_gap front n) + length (filter (λ e. starts order (bound_by sought lo) e.0) (pairs_of n))
       ≡ length (pairs_of n)
       → length (before_gap back n) ≡ length (before_gap front n) + length (within order (bound_by sought lo) (bound_by sought hi) (pairs_of n))

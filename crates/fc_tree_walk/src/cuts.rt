@@ -4,7 +4,7 @@ ghost use Rattle.std.specs.Ordering.{is_lt, is_le};
 ghost use Rattle.fc_tree_node.specs.Node.{own_pairs};
 ghost use Rattle.fc_tree_walk.specs.Cut.{start_cut, stop_cut, leads, IsTurn};
 
-use fc_base::Query;
+use fc_base::{Handle, Query};
 use fc_tree_node::node::Node;
 use std::ops::Bound;
 
@@ -54,8 +54,8 @@ pub(crate) fn is_open<Q: Copy>(start: &Cut<Q>, stop: &Cut<Q>) -> bool
 }
 
 /// The first of the node's own pairs from a place on that is not in front of the cut, or their end.
-pub(crate) fn place_in<K: Ord, V, Q: Query<K>>(
-    node: &Node<K, V>,
+pub(crate) fn place_in<K: Ord, V, Q: Query<K>, A: Handle>(
+    node: &Node<K, V, A>,
     cut: &Cut<Q>,
     from: usize,
 ) -> usize
@@ -72,7 +72,11 @@ pub(crate) fn place_in<K: Ord, V, Q: Query<K>>(
 
 // The first of the node's own pairs from a place on whose key is not below what is sought, or their end.
 #[tactic(auto, using(crate::proofs::Turns::held_on, crate::proofs::Turns::not_there))]
-fn first_not_below<K: Ord, V, Q: Query<K>>(node: &Node<K, V>, key: Q, from: usize) -> usize
+fn first_not_below<K: Ord, V, Q: Query<K>, A: Handle>(
+    node: &Node<K, V, A>,
+    key: Q,
+    from: usize,
+) -> usize
     requires { from ≤ length (own_pairs node.now) }
     ensures { IsTurn (λ e. is_lt (Q.order e.0 (Q.sought key))) (own_pairs node.now) from result }
 {
@@ -87,7 +91,11 @@ fn first_not_below<K: Ord, V, Q: Query<K>>(node: &Node<K, V>, key: Q, from: usiz
 
 // The first of the node's own pairs from a place on whose key is above what is sought, or their end.
 #[tactic(auto, using(crate::proofs::Turns::held_on, crate::proofs::Turns::not_there))]
-fn first_above<K: Ord, V, Q: Query<K>>(node: &Node<K, V>, key: Q, from: usize) -> usize
+fn first_above<K: Ord, V, Q: Query<K>, A: Handle>(
+    node: &Node<K, V, A>,
+    key: Q,
+    from: usize,
+) -> usize
     requires { from ≤ length (own_pairs node.now) }
     ensures { IsTurn (λ e. is_le (Q.order e.0 (Q.sought key))) (own_pairs node.now) from result }
 {

@@ -18,13 +18,13 @@ ghost use Rattle.fc_tree_walk.specs.Span.{IsPart};
 
 use crate::cuts::{Cut, is_open, place_in, start_of, stop_of};
 use crate::gaps::{push_first, push_last};
-use fc_base::Query;
+use fc_base::{Handle, Query};
 use fc_tree_node::node::Node;
 use fc_tree_node::path::Path;
 use std::ops::Bound;
 
 /// The gap before all pairs: no step where there is no root.
-pub fn first_gap_in<K, V>(root: &Option<Node<K, V>>) -> Path
+pub fn first_gap_in<K, V, A: Handle>(root: &Option<Node<K, V, A>>) -> Path
     requires { IsSoundMap root.now }
     ensures gap { IsGapIn root.now result }
     ensures front { length (before_gap_in root.now result) ≡ 0 }
@@ -37,7 +37,7 @@ pub fn first_gap_in<K, V>(root: &Option<Node<K, V>>) -> Path
 }
 
 /// The gap after all pairs: no step where there is no root.
-pub fn last_gap_in<K, V>(root: &Option<Node<K, V>>) -> Path
+pub fn last_gap_in<K, V, A: Handle>(root: &Option<Node<K, V, A>>) -> Path
     requires { IsSoundMap root.now }
     ensures gap { IsGapIn root.now result }
     ensures back { length (before_gap_in root.now result) ≡ length (entries root.now) }
@@ -50,8 +50,8 @@ pub fn last_gap_in<K, V>(root: &Option<Node<K, V>>) -> Path
 }
 
 /// The gaps between which the pairs lie whose keys are within two bounds. Where no key can lie within them, both are one gap.
-pub fn range_gaps_in<K: Ord, V, Q: Query<K>>(
-    root: &Option<Node<K, V>>,
+pub fn range_gaps_in<K: Ord, V, Q: Query<K>, A: Handle>(
+    root: &Option<Node<K, V, A>>,
     lo: &Bound<Q>,
     hi: &Bound<Q>,
 ) -> (Path, Path)
@@ -72,13 +72,13 @@ pub fn range_gaps_in<K: Ord, V, Q: Query<K>>(
 
 /// Fills two paths of no step with the ways to the gaps between which the pairs of a range lie, and answers their leaves.
 #[tactic(auto, using(crate::proofs::Turns::turn_first))]
-pub(crate) fn push_ends<'a, K: Ord, V, Q: Query<K>>(
-    root: &'a Node<K, V>,
+pub(crate) fn push_ends<'a, K: Ord, V, Q: Query<K>, A: Handle>(
+    root: &'a Node<K, V, A>,
     lo: &Bound<Q>,
     hi: &Bound<Q>,
     front: &mut Path,
     back: &mut Path,
-) -> (&'a Node<K, V>, &'a Node<K, V>)
+) -> (&'a Node<K, V, A>, &'a Node<K, V, A>)
     requires levels { IsTree root.now }
     requires order { IsAscending K.cmp (pairs_of root.now) }
     requires start { (front.old ≡ []) × (back.old ≡ []) }
@@ -99,13 +99,13 @@ pub(crate) fn push_ends<'a, K: Ord, V, Q: Query<K>>(
 
 // Goes on to the gaps at two cuts below the node, the second not in front of the first, and answers their leaves.
 #[tactic(auto, using(crate::proofs::Turns::turn_first, crate::proofs::Turns::turn_later))]
-fn push_both<'a, K: Ord, V, Q: Query<K>>(
-    node: &'a Node<K, V>,
+fn push_both<'a, K: Ord, V, Q: Query<K>, A: Handle>(
+    node: &'a Node<K, V, A>,
     lo: &Cut<Q>,
     hi: &Cut<Q>,
     front: &mut Path,
     back: &mut Path,
-) -> (&'a Node<K, V>, &'a Node<K, V>)
+) -> (&'a Node<K, V, A>, &'a Node<K, V, A>)
     requires levels { (h : ℕ) × IsLevelled h node.now × (length front.old + h < most_levels) × (length back.old + h < most_levels) }
     requires order { IsAscending K.cmp (pairs_of node.now) }
     ensures front { GoesOn front.old front.new node.now (ahead Q.order Q.sought lo.now (pairs_of node.now)) }
@@ -130,12 +130,12 @@ fn push_both<'a, K: Ord, V, Q: Query<K>>(
 }
 
 // Goes on to the gap at a cut below the node, whose own pairs are cut at the place, and answers its leaf.
-fn push_cut<'a, K: Ord, V, Q: Query<K>>(
-    node: &'a Node<K, V>,
+fn push_cut<'a, K: Ord, V, Q: Query<K>, A: Handle>(
+    node: &'a Node<K, V, A>,
     place: usize,
     cut: &Cut<Q>,
     gap: &mut Path,
-) -> &'a Node<K, V>
+) -> &'a Node<K, V, A>
     requires levels { (h : ℕ) × IsLevelled h node.now × (length gap.old + h < most_levels) }
     requires order { IsAscending K.cmp (pairs_of node.now) }
     requires place { TurnsAt (λ e. leads Q.order Q.sought cut.now e.0) (own_pairs node.now) place }
@@ -161,8 +161,8 @@ fn is_outer(is_node_outer: bool, place: usize, edge: usize) -> bool
 /// node is the last of its level, and then whether the leaf is, so that no pair is behind what is taken.
 ///
 /// Run and flag are written where they belong, and not answered: of calls that answer nothing a compiler makes a loop.
-pub(crate) fn push_start<'a, K: Ord, V, Q: Query<K>>(
-    node: &'a Node<K, V>,
+pub(crate) fn push_start<'a, K: Ord, V, Q: Query<K>, A: Handle>(
+    node: &'a Node<K, V, A>,
     cut: &Cut<Q>,
     gap: &mut Path,
     run: &mut &'a [(K, V)],
@@ -188,8 +188,8 @@ pub(crate) fn push_start<'a, K: Ord, V, Q: Query<K>>(
 
 /// Goes on below the node to the start of the leaf where the cut is, and takes the leaf's pairs in front of the cut. The flag says
 /// whether the node is the first of its level, and then whether the leaf is.
-pub(crate) fn push_stop<'a, K: Ord, V, Q: Query<K>>(
-    node: &'a Node<K, V>,
+pub(crate) fn push_stop<'a, K: Ord, V, Q: Query<K>, A: Handle>(
+    node: &'a Node<K, V, A>,
     cut: &Cut<Q>,
     gap: &mut Path,
     run: &mut &'a [(K, V)],

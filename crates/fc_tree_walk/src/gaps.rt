@@ -8,6 +8,7 @@ ghost use Rattle.fc_tree_node.specs.Path.{IsPath, before_gap};
 ghost use Rattle.fc_tree_node.specs.Place.{IsPlace, before_pair};
 ghost use Rattle.fc_tree_walk.specs.Gap.{one_back, GoesOn, EndsIn};
 
+use fc_base::Handle;
 use fc_tree_node::node::Node;
 use fc_tree_node::path::Path;
 
@@ -20,7 +21,7 @@ fn one_of(count: usize) -> usize
 }
 
 /// How many steps of the path to a gap lead past the pair before it: 0 where there is none.
-pub fn steps_to_previous<K, V>(node: &Node<K, V>, gap: &[u8]) -> usize
+pub fn steps_to_previous<K, V, A: Handle>(node: &Node<K, V, A>, gap: &[u8]) -> usize
     requires some { 0 < length gap.now }
     requires path { IsPath gap.now node.now }
     requires levels { IsLevelled (length gap.now - 1) node.now }
@@ -39,7 +40,7 @@ pub fn steps_to_previous<K, V>(node: &Node<K, V>, gap: &[u8]) -> usize
 }
 
 /// Goes on to the last gap below the node, and answers its leaf.
-pub fn push_last<'a, K, V>(node: &'a Node<K, V>, gap: &mut Path) -> &'a Node<K, V>
+pub fn push_last<'a, K, V, A: Handle>(node: &'a Node<K, V, A>, gap: &mut Path) -> &'a Node<K, V, A>
     requires levels { (h : ℕ) × IsLevelled h node.now × (length gap.old + h < most_levels) }
     ensures gap { GoesOn gap.old gap.new node.now (length (pairs_of node.now)) }
     ensures leaf { EndsIn gap.old gap.new node.now result.now }
@@ -53,7 +54,7 @@ pub fn push_last<'a, K, V>(node: &'a Node<K, V>, gap: &mut Path) -> &'a Node<K, 
 }
 
 /// Goes on to the first gap below the node, and answers its leaf.
-pub fn push_first<'a, K, V>(node: &'a Node<K, V>, gap: &mut Path) -> &'a Node<K, V>
+pub fn push_first<'a, K, V, A: Handle>(node: &'a Node<K, V, A>, gap: &mut Path) -> &'a Node<K, V, A>
     requires levels { (h : ℕ) × IsLevelled h node.now × (length gap.old + h < most_levels) }
     ensures gap { GoesOn gap.old gap.new node.now 0 }
     ensures leaf { EndsIn gap.old gap.new node.now result.now }
@@ -66,7 +67,7 @@ pub fn push_first<'a, K, V>(node: &'a Node<K, V>, gap: &mut Path) -> &'a Node<K,
 }
 
 /// Goes on to the gap before the pair that the path leads to.
-pub fn push_gap_before<K, V>(node: &Node<K, V>, place: &[u8], gap: &mut Path)
+pub fn push_gap_before<K, V, A: Handle>(node: &Node<K, V, A>, place: &[u8], gap: &mut Path)
     requires place { IsPlace place.now node.now }
     requires levels { (h : ℕ) × IsLevelled h node.now × (length gap.old + h < most_levels) }
     ensures { GoesOn gap.old gap.new node.now (length (before_pair place.now node.now)) }

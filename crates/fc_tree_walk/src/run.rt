@@ -10,12 +10,16 @@ ghost use Rattle.fc_tree_node.specs.TreePlace.{before_gap_in};
 ghost use Rattle.fc_tree_walk.specs.Gap.{IsGapIn, AreEndsIn, IsLeafEnd, IsLeafStart, GoesOn, LeadsTo, IsBeside, IsAboveAt, IsAbove};
 ghost use Rattle.fc_tree_walk.specs.Span.{between};
 
+use fc_base::Handle;
 use fc_tree_node::node::Node;
 use fc_tree_node::path::Path;
 
 // The leaf of a gap, and the node above it, if there is one.
 #[tactic(auto, using(crate::proofs::Ways::leaf_node))]
-fn leaf_of<'a, K, V>(root: &'a Node<K, V>, gap: &Path) -> (Option<&'a Node<K, V>>, &'a Node<K, V>)
+fn leaf_of<'a, K, V, A: Handle>(
+    root: &'a Node<K, V, A>,
+    gap: &Path,
+) -> (Option<&'a Node<K, V, A>>, &'a Node<K, V, A>)
     requires levels { IsTree root.now }
     requires gap { IsLeafGap gap.now root.now }
     ensures above { IsAboveAt gap.now root.now (length gap.now - 1) (option_copied result.0) }
@@ -32,7 +36,7 @@ fn leaf_of<'a, K, V>(root: &'a Node<K, V>, gap: &Path) -> (Option<&'a Node<K, V>
 }
 
 // The pairs of a leaf between two places.
-fn part<'a, K, V>(leaf: &'a Node<K, V>, start: usize, end: usize) -> &'a [(K, V)]
+fn part<'a, K, V, A: Handle>(leaf: &'a Node<K, V, A>, start: usize, end: usize) -> &'a [(K, V)]
     requires order { start ≤ end }
     requires fits { end ≤ length (own_pairs leaf.now) }
     ensures { result.now ≡ slice_range (own_pairs leaf.now) start end }
@@ -69,15 +73,15 @@ fn reach(end: &Path, other: &Path, leaf_end: usize) -> (usize, bool)
 
 /// Takes the pairs of the front's leaf from its gap on, as far as the back, and goes on after them. It answers them, and whether
 /// the front has then met the back.
-pub fn take_first_of<'a, K, V>(
-    root: &'a Option<Node<K, V>>,
-    leaf: &'a Node<K, V>,
+pub fn take_first_of<'a, K, V, A: Handle>(
+    root: &'a Option<Node<K, V, A>>,
+    leaf: &'a Node<K, V, A>,
     front: &mut Path,
     back: &Path,
 ) -> (&'a [(K, V)], bool)
     requires sound { IsSoundMap root.now }
     requires ends { AreEndsIn root.now front.old back.now }
-    requires leaf { (n : Node K V) → root.now ≡ Some n → leaf.now ≡ leaf_at front.old n }
+    requires leaf { (n : Node K V A) → root.now ≡ Some n → leaf.now ≡ leaf_at front.old n }
     ensures ends { AreEndsIn root.now front.new back.now }
     ensures leaf { IsBeside front.old front.new }
     ensures run { between root.now front.old back.now ≡ result.0.now ++ between root.now front.new back.now }
@@ -96,15 +100,15 @@ pub fn take_first_of<'a, K, V>(
 
 /// Takes the pairs of the back's leaf before its gap, as far as the front, and goes back before them. It answers them, and
 /// whether the back has then met the front.
-pub fn take_last_of<'a, K, V>(
-    root: &'a Option<Node<K, V>>,
-    leaf: &'a Node<K, V>,
+pub fn take_last_of<'a, K, V, A: Handle>(
+    root: &'a Option<Node<K, V, A>>,
+    leaf: &'a Node<K, V, A>,
     front: &Path,
     back: &mut Path,
 ) -> (&'a [(K, V)], bool)
     requires sound { IsSoundMap root.now }
     requires ends { AreEndsIn root.now front.now back.old }
-    requires leaf { (n : Node K V) → root.now ≡ Some n → leaf.now ≡ leaf_at back.old n }
+    requires leaf { (n : Node K V A) → root.now ≡ Some n → leaf.now ≡ leaf_at back.old n }
     ensures ends { AreEndsIn root.now front.now back.new }
     ensures leaf { IsBeside back.old back.new }
     ensures run { between root.now front.now back.old ≡ between root.now front.now back.new ++ result.0.now }
@@ -122,11 +126,11 @@ pub fn take_last_of<'a, K, V>(
 }
 
 // The one node and its level, or the other where it has a pair.
-fn lower<'a, K, V>(
-    best: (&'a Node<K, V>, usize),
-    other: (&'a Node<K, V>, usize),
+fn lower<'a, K, V, A: Handle>(
+    best: (&'a Node<K, V, A>, usize),
+    other: (&'a Node<K, V, A>, usize),
     pairs: usize,
-) -> (&'a Node<K, V>, usize)
+) -> (&'a Node<K, V, A>, usize)
     ensures other { 0 < pairs → result ≡ other.entry }
     ensures best { pairs ≡ 0 → result ≡ best.entry }
 {
@@ -134,7 +138,10 @@ fn lower<'a, K, V>(
 }
 
 // The lowest node on the way to a gap that has a pair after it, and its level.
-fn place_after<'a, K, V>(root: &'a Node<K, V>, gap: &Path) -> (&'a Node<K, V>, usize)
+fn place_after<'a, K, V, A: Handle>(
+    root: &'a Node<K, V, A>,
+    gap: &Path,
+) -> (&'a Node<K, V, A>, usize)
     requires levels { IsTree root.now }
     requires gap { IsLeafGap gap.now root.now }
     requires some { length (before_gap gap.now root.now) < length (pairs_of root.now) }
@@ -155,7 +162,10 @@ fn place_after<'a, K, V>(root: &'a Node<K, V>, gap: &Path) -> (&'a Node<K, V>, u
 }
 
 // The lowest node on the way to a gap that has a pair before it, and its level.
-fn place_before<'a, K, V>(root: &'a Node<K, V>, gap: &Path) -> (&'a Node<K, V>, usize)
+fn place_before<'a, K, V, A: Handle>(
+    root: &'a Node<K, V, A>,
+    gap: &Path,
+) -> (&'a Node<K, V, A>, usize)
     requires levels { IsTree root.now }
     requires gap { IsLeafGap gap.now root.now }
     requires some { 0 < length (before_gap gap.now root.now) }
@@ -176,7 +186,7 @@ fn place_before<'a, K, V>(root: &'a Node<K, V>, gap: &Path) -> (&'a Node<K, V>, 
 }
 
 // Goes on to the first gap below a node at a level.
-fn set_first<K, V>(node: &Node<K, V>, gap: &mut Path, level: usize)
+fn set_first<K, V, A: Handle>(node: &Node<K, V, A>, gap: &mut Path, level: usize)
     requires level { level < length gap.old }
     requires levels { IsLevelled (length gap.old - level - 1) node.now }
     ensures { GoesOn (take level gap.old) gap.new node.now 0 }
@@ -189,7 +199,7 @@ fn set_first<K, V>(node: &Node<K, V>, gap: &mut Path, level: usize)
 }
 
 // Goes on to the last gap below a node at a level.
-fn set_last<K, V>(node: &Node<K, V>, gap: &mut Path, level: usize)
+fn set_last<K, V, A: Handle>(node: &Node<K, V, A>, gap: &mut Path, level: usize)
     requires level { level < length gap.old }
     requires levels { IsLevelled (length gap.old - level - 1) node.now }
     ensures { GoesOn (take level gap.old) gap.new node.now (length (pairs_of node.now)) }
@@ -203,7 +213,7 @@ fn set_last<K, V>(node: &Node<K, V>, gap: &mut Path, level: usize)
 }
 
 // Goes on to the gap after the node's own pair that the gap's way leads to.
-fn set_after<K, V>(node: &Node<K, V>, gap: &mut Path, level: usize)
+fn set_after<K, V, A: Handle>(node: &Node<K, V, A>, gap: &mut Path, level: usize)
     requires level { level < length gap.old }
     requires levels { IsLevelled (length gap.old - level - 1) node.now }
     requires own { slice_index gap.old level < length (own_pairs node.now) }
@@ -218,7 +228,7 @@ fn set_after<K, V>(node: &Node<K, V>, gap: &mut Path, level: usize)
 }
 
 // Goes back to the gap before the node's own pair ahead of where the gap's way leads.
-fn set_before<K, V>(node: &Node<K, V>, gap: &mut Path, level: usize)
+fn set_before<K, V, A: Handle>(node: &Node<K, V, A>, gap: &mut Path, level: usize)
     requires level { level < length gap.old }
     requires levels { IsLevelled (length gap.old - level - 1) node.now }
     requires own { (0 < slice_index gap.old level) × (slice_index gap.old level ≤ length (own_pairs node.now)) }
@@ -234,11 +244,11 @@ fn set_before<K, V>(node: &Node<K, V>, gap: &mut Path, level: usize)
 
 // Goes on past the pair after a gap, and answers that pair, and the leaf of the gap after it. Where the node above the gap's leaf
 // is known and has the pair, it has that leaf too; else the way is taken from the root, and the node above is known from then on.
-fn pass_next<'a, K, V>(
-    root: &'a Option<Node<K, V>>,
-    above: &mut Option<&'a Node<K, V>>,
+fn pass_next<'a, K, V, A: Handle>(
+    root: &'a Option<Node<K, V, A>>,
+    above: &mut Option<&'a Node<K, V, A>>,
     gap: &mut Path,
-) -> (&'a (K, V), &'a Node<K, V>)
+) -> (&'a (K, V), &'a Node<K, V, A>)
     requires sound { IsSoundMap root.now }
     requires gap { IsGapIn root.now gap.old }
     requires above { IsAbove root.now gap.old (option_copied above.old) }
@@ -247,7 +257,7 @@ fn pass_next<'a, K, V>(
     ensures above { IsAbove root.now gap.new (option_copied above.new) }
     ensures step { length (before_gap_in root.now gap.new) ≡ length (before_gap_in root.now gap.old) + 1 }
     ensures pair { slice_get (entries root.now) (length (before_gap_in root.now gap.old)) ≡ Some result.0.now }
-    ensures leaf { (n : Node K V) → root.now ≡ Some n → result.1.now ≡ leaf_at gap.new n }
+    ensures leaf { (n : Node K V A) → root.now ≡ Some n → result.1.now ≡ leaf_at gap.new n }
 {
     if let Some(node) = *above {
         let last = gap.len() - 1;
@@ -264,11 +274,11 @@ fn pass_next<'a, K, V>(
 // The same on the way from the root.
 #[inline(never)]
 #[tactic(auto, using(crate::proofs::Ways::levels_in, crate::proofs::Ways::same_root))]
-fn pass_next_from_root<'a, K, V>(
-    root: &'a Option<Node<K, V>>,
-    above: &mut Option<&'a Node<K, V>>,
+fn pass_next_from_root<'a, K, V, A: Handle>(
+    root: &'a Option<Node<K, V, A>>,
+    above: &mut Option<&'a Node<K, V, A>>,
     gap: &mut Path,
-) -> (&'a (K, V), &'a Node<K, V>)
+) -> (&'a (K, V), &'a Node<K, V, A>)
     requires sound { IsSoundMap root.now }
     requires gap { IsGapIn root.now gap.old }
     requires some { length (before_gap_in root.now gap.old) < length (entries root.now) }
@@ -276,10 +286,10 @@ fn pass_next_from_root<'a, K, V>(
     ensures above { IsAbove root.now gap.new (option_copied above.new) }
     ensures step { length (before_gap_in root.now gap.new) ≡ length (before_gap_in root.now gap.old) + 1 }
     ensures pair { slice_get (entries root.now) (length (before_gap_in root.now gap.old)) ≡ Some result.0.now }
-    ensures leaf { (n : Node K V) → root.now ≡ Some n → result.1.now ≡ leaf_at gap.new n }
+    ensures leaf { (n : Node K V A) → root.now ≡ Some n → result.1.now ≡ leaf_at gap.new n }
 {
     let Some(node) = root else { unreachable!() };
-    let node: &Node<K, V> = node;
+    let node: &Node<K, V, A> = node;
     let (holder, level) = place_after(node, gap);
     let pair = holder.pair(gap.step(level));
     set_after(holder, gap, level);
@@ -290,11 +300,11 @@ fn pass_next_from_root<'a, K, V>(
 
 // Goes back past the pair before a gap, and answers that pair, and the leaf of the gap before it. Where the node above the gap's leaf
 // is known and has the pair, it has that leaf too; else the way is taken from the root, and the node above is known from then on.
-fn pass_previous<'a, K, V>(
-    root: &'a Option<Node<K, V>>,
-    above: &mut Option<&'a Node<K, V>>,
+fn pass_previous<'a, K, V, A: Handle>(
+    root: &'a Option<Node<K, V, A>>,
+    above: &mut Option<&'a Node<K, V, A>>,
     gap: &mut Path,
-) -> (&'a (K, V), &'a Node<K, V>)
+) -> (&'a (K, V), &'a Node<K, V, A>)
     requires sound { IsSoundMap root.now }
     requires gap { IsGapIn root.now gap.old }
     requires above { IsAbove root.now gap.old (option_copied above.old) }
@@ -303,7 +313,7 @@ fn pass_previous<'a, K, V>(
     ensures above { IsAbove root.now gap.new (option_copied above.new) }
     ensures step { length (before_gap_in root.now gap.new) + 1 ≡ length (before_gap_in root.now gap.old) }
     ensures pair { slice_get (entries root.now) (length (before_gap_in root.now gap.new)) ≡ Some result.0.now }
-    ensures leaf { (n : Node K V) → root.now ≡ Some n → result.1.now ≡ leaf_at gap.new n }
+    ensures leaf { (n : Node K V A) → root.now ≡ Some n → result.1.now ≡ leaf_at gap.new n }
 {
     if let Some(node) = *above {
         let last = gap.len() - 1;
@@ -321,11 +331,11 @@ fn pass_previous<'a, K, V>(
 // The same on the way from the root.
 #[inline(never)]
 #[tactic(auto, using(crate::proofs::Ways::levels_in, crate::proofs::Ways::same_root))]
-fn pass_previous_from_root<'a, K, V>(
-    root: &'a Option<Node<K, V>>,
-    above: &mut Option<&'a Node<K, V>>,
+fn pass_previous_from_root<'a, K, V, A: Handle>(
+    root: &'a Option<Node<K, V, A>>,
+    above: &mut Option<&'a Node<K, V, A>>,
     gap: &mut Path,
-) -> (&'a (K, V), &'a Node<K, V>)
+) -> (&'a (K, V), &'a Node<K, V, A>)
     requires sound { IsSoundMap root.now }
     requires gap { IsGapIn root.now gap.old }
     requires some { 0 < length (before_gap_in root.now gap.old) }
@@ -333,10 +343,10 @@ fn pass_previous_from_root<'a, K, V>(
     ensures above { IsAbove root.now gap.new (option_copied above.new) }
     ensures step { length (before_gap_in root.now gap.new) + 1 ≡ length (before_gap_in root.now gap.old) }
     ensures pair { slice_get (entries root.now) (length (before_gap_in root.now gap.new)) ≡ Some result.0.now }
-    ensures leaf { (n : Node K V) → root.now ≡ Some n → result.1.now ≡ leaf_at gap.new n }
+    ensures leaf { (n : Node K V A) → root.now ≡ Some n → result.1.now ≡ leaf_at gap.new n }
 {
     let Some(node) = root else { unreachable!() };
-    let node: &Node<K, V> = node;
+    let node: &Node<K, V, A> = node;
     let (holder, level) = place_before(node, gap);
     let pair = holder.pair(gap.step(level) - 1);
     set_before(holder, gap, level);
@@ -358,9 +368,9 @@ pub struct Step<'a, K, V> {
 
 /// Goes on over a pair, and takes the run after it.
 #[tactic(auto, using(crate::proofs::Betweens::gap_fits, crate::proofs::Betweens::some_between, crate::proofs::Betweens::next_between, crate::proofs::Ways::above_beside))]
-pub fn step_first_run<'a, K, V>(
-    root: &'a Option<Node<K, V>>,
-    above: &mut Option<&'a Node<K, V>>,
+pub fn step_first_run<'a, K, V, A: Handle>(
+    root: &'a Option<Node<K, V, A>>,
+    above: &mut Option<&'a Node<K, V, A>>,
     front: &mut Path,
     back: &Path,
 ) -> Step<'a, K, V>
@@ -381,9 +391,9 @@ pub fn step_first_run<'a, K, V>(
 
 /// Goes back over a pair, and takes the run before it.
 #[tactic(auto, using(crate::proofs::Betweens::some_between, crate::proofs::Betweens::previous_between, crate::proofs::Ways::above_beside))]
-pub fn step_last_run<'a, K, V>(
-    root: &'a Option<Node<K, V>>,
-    above: &mut Option<&'a Node<K, V>>,
+pub fn step_last_run<'a, K, V, A: Handle>(
+    root: &'a Option<Node<K, V, A>>,
+    above: &mut Option<&'a Node<K, V, A>>,
     front: &Path,
     back: &mut Path,
 ) -> Step<'a, K, V>

@@ -15,27 +15,28 @@ use crate::cuts::{start_of, stop_of};
 use crate::ends::{first_gap_in, last_gap_in, push_ends, push_start, push_stop};
 use crate::gaps::{push_first, push_last};
 use crate::run::{step_first_run, step_last_run, take_first_of};
-use fc_base::Query;
+use fc_base::{Handle, Query};
 use fc_tree_node::node::Node;
 use fc_tree_node::path::Path;
+use std::alloc::Global;
 use std::marker::Model;
 use std::ops::Bound;
 
 /// The pairs that the front has taken, those between two gaps of a tree, and those that the back has taken. The path to a gap at an end
 /// of the tree itself has no step, until a walk needs it.
 #[derive(Drop)]
-pub struct Span<'a, K, V> {
-    root: &'a Option<Node<K, V>>,
+pub struct Span<'a, K, V, A: Handle = Global> {
+    root: &'a Option<Node<K, V, A>>,
     head: &'a [(K, V)],
     tail: &'a [(K, V)],
     front: Path,
     back: Path,
-    above_front: Option<&'a Node<K, V>>,
-    above_back: Option<&'a Node<K, V>>,
+    above_front: Option<&'a Node<K, V, A>>,
+    above_back: Option<&'a Node<K, V, A>>,
     has_met: bool,
 }
 
-impl<'a, K, V> Model for Span<'a, K, V> {
+impl<'a, K, V, A: Handle> Model for Span<'a, K, V, A> {
     ghost use Rattle.std.specs.Prelude.{◌≡◌, ◌↔◌, [], ◌++◌, List, IsTrue, option_copied};
     ghost use Rattle.fc_tree_node.specs.Tree.{IsSoundMap};
     ghost use Rattle.fc_tree_walk.specs.Span.{left_between, AreKnownIn};
@@ -47,9 +48,9 @@ impl<'a, K, V> Model for Span<'a, K, V> {
     ghost invariant = { λ s. IsSoundMap s.root.now × AreKnownIn s.root.now s.front s.back (option_copied s.above_front) (option_copied s.above_back) × (IsTrue s.has_met ↔ (left_between s.root.now s.front s.back ≡ [])) };
 }
 
-impl<'a, K, V> Span<'a, K, V> {
+impl<'a, K, V, A: Handle> Span<'a, K, V, A> {
     /// All pairs below a root.
-    pub fn whole(root: &'a Option<Node<K, V>>) -> Span<'a, K, V>
+    pub fn whole(root: &'a Option<Node<K, V, A>>) -> Span<'a, K, V, A>
         requires { IsSoundMap root.now }
         ensures { result ≡ entries root.now }
     {
@@ -64,7 +65,7 @@ impl<'a, K, V> Span<'a, K, V> {
     }
 
     // No pair, where there is no root.
-    fn none(root: &'a Option<Node<K, V>>) -> Span<'a, K, V>
+    fn none(root: &'a Option<Node<K, V, A>>) -> Span<'a, K, V, A>
         requires { root.now ≡ None }
         ensures { result ≡ [] }
     {
@@ -82,14 +83,14 @@ impl<'a, K, V> Span<'a, K, V> {
 
     // The pairs between two gaps, of which the front takes those of its leaf.
     fn from_front(
-        root: &'a Option<Node<K, V>>,
-        first: &'a Node<K, V>,
+        root: &'a Option<Node<K, V, A>>,
+        first: &'a Node<K, V, A>,
         front: Path,
         back: Path,
-    ) -> Span<'a, K, V>
+    ) -> Span<'a, K, V, A>
         requires sound { IsSoundMap root.now }
         requires ends { AreEndsIn root.now front back }
-        requires first { (n : Node K V) → root.now ≡ Some n → first.now ≡ leaf_at front n }
+        requires first { (n : Node K V A) → root.now ≡ Some n → first.now ≡ leaf_at front n }
         ensures { result ≡ between root.now front back }
     {
         let mut front = front;
@@ -212,7 +213,7 @@ impl<'a, K, V> Span<'a, K, V> {
     }
 
     /// The same pairs once more.
-    pub fn copied(&self) -> Span<'a, K, V>
+    pub fn copied(&self) -> Span<'a, K, V, A>
         ensures { result ≡ self.now }
     {
         Span {
@@ -228,13 +229,13 @@ impl<'a, K, V> Span<'a, K, V> {
     }
 }
 
-impl<'a, K: Ord, V> Span<'a, K, V> {
+impl<'a, K: Ord, V, A: Handle> Span<'a, K, V, A> {
     /// The pairs below a root whose keys lie within two bounds. The run of one end is taken at once: the back's where only it is bounded.
     pub fn within<Q: Query<K>>(
-        root: &'a Option<Node<K, V>>,
+        root: &'a Option<Node<K, V, A>>,
         lo: &Bound<Q>,
         hi: &Bound<Q>,
-    ) -> Span<'a, K, V>
+    ) -> Span<'a, K, V, A>
         requires sound { IsSoundMap root.now }
         requires order { IsAscending K.cmp (entries root.now) }
         ensures { result ≡ within Q.order (bound_by Q.sought lo.now) (bound_by Q.sought hi.now) (entries root.now) }
@@ -266,8 +267,8 @@ struct Runs<'a, K, V> {
 // Fills the paths with the gaps at the bounds of a range, and takes the run of one end: the back's where only it is bounded. The span is
 // made once, behind this call, since a struct of its size is copied wherever two of it could be the answer.
 #[tactic(auto, using(crate::proofs::Sought::ends_found, crate::proofs::Sought::met_found, crate::proofs::Sought::back_of_gap, crate::proofs::Bounds::from_nothing, crate::proofs::Turns::range_in))]
-fn start_within<'a, K: Ord, V, Q: Query<K>>(
-    root: &'a Option<Node<K, V>>,
+fn start_within<'a, K: Ord, V, Q: Query<K>, A: Handle>(
+    root: &'a Option<Node<K, V, A>>,
     lo: &Bound<Q>,
     hi: &Bound<Q>,
     front: &mut Path,
@@ -327,7 +328,12 @@ fn is_bounded<Q: Copy>(bound: &Bound<Q>) -> bool
 // Finds the ends that were not looked for yet, unless both are known to be found. A step looks at the node above its leaf in any case,
 // so that it costs nothing to ask by it.
 #[tactic(auto, using(crate::proofs::Sought::left_found))]
-fn settle<K, V>(root: &Option<Node<K, V>>, are_found: bool, front: &mut Path, back: &mut Path)
+fn settle<K, V, A: Handle>(
+    root: &Option<Node<K, V, A>>,
+    are_found: bool,
+    front: &mut Path,
+    back: &mut Path,
+)
     requires sound { IsSoundMap root.now }
     requires ends { AreEndsSoughtIn root.now front.old back.old }
     requires found { IsTrue are_found → AreEndsIn root.now front.old back.old }
@@ -345,7 +351,7 @@ fn settle<K, V>(root: &Option<Node<K, V>>, are_found: bool, front: &mut Path, ba
 // Goes to the first gap, where the front was not looked for yet. Apart from the steps, which need it once at most.
 #[inline(never)]
 #[tactic(auto, using(crate::proofs::Sought::not_sought))]
-fn find_front<K, V>(root: &Option<Node<K, V>>, front: &mut Path)
+fn find_front<K, V, A: Handle>(root: &Option<Node<K, V, A>>, front: &mut Path)
     requires sound { IsSoundMap root.now }
     requires end { IsEndIn root.now front.old }
     ensures gap { IsGapIn root.now front.new }
@@ -360,7 +366,7 @@ fn find_front<K, V>(root: &Option<Node<K, V>>, front: &mut Path)
 // Goes to the last gap, where the back was not looked for yet. Apart as `find_front`.
 #[inline(never)]
 #[tactic(auto, using(crate::proofs::Sought::not_sought))]
-fn find_back<K, V>(root: &Option<Node<K, V>>, back: &mut Path)
+fn find_back<K, V, A: Handle>(root: &Option<Node<K, V, A>>, back: &mut Path)
     requires sound { IsSoundMap root.now }
     requires end { IsEndIn root.now back.old }
     ensures gap { IsGapIn root.now back.new }

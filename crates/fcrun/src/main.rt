@@ -1,14 +1,12 @@
 //! Runs lines of commands from standard input to standard output.
 #![tactic(auto)]
 
-mod stdio;
-
 use fallible_collections::TryReserveError;
 use fallible_collections::command::{ServeEnd, ServeError, ending, serve};
 use std::cell::RefCell;
 use std::io::{self, BufWriter, Write};
 use std::process::ExitCode;
-use stdio::{Replies, Waiting};
+use turns::{Replies, Waiting};
 
 // How many bytes of replies are kept before they go out.
 const ROOM: usize = 8192;

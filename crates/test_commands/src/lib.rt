@@ -4,6 +4,8 @@
 #![tactic(auto)]
 
 #[cfg(test)]
+mod budgets;
+#[cfg(test)]
 mod copies;
 #[cfg(test)]
 mod lists;

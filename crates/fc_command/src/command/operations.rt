@@ -7,18 +7,18 @@ ghost use Rattle.fc_set.specs.Copied.{Lends, MayCopyRefuse};
 ghost use Rattle.fc_command.specs.SetStep.{StepOnSets, combined};
 
 use crate::command::kinds::SetCommand;
-use fc_base::{TryClone, TryReserveError};
+use fc_base::{Handle, TryClone, TryReserveError};
 use fc_lines::command::{Reply, SetOp};
 use fc_lines::items::Items;
 use fc_set::set::BTreeSet;
 use std::alloc::Global;
 
 /// Answers copies of what the operation on both sets gives.
-pub fn list<K: Ord + TryClone, V: TryClone>(
+pub fn list<K: Ord + TryClone, V: TryClone, A: Handle>(
     alloc: Global,
     op: SetOp,
-    set: &BTreeSet<K>,
-    other: &BTreeSet<K>,
+    set: &BTreeSet<K, A>,
+    other: &BTreeSet<K, A>,
 ) -> Reply<K, V>
     requires copied { K.can_clone }
     requires same { IsExact K.same }
@@ -31,11 +31,11 @@ pub fn list<K: Ord + TryClone, V: TryClone>(
 }
 
 // Copies of what the operation on both sets gives.
-fn listed<K: Ord + TryClone>(
+fn listed<K: Ord + TryClone, A: Handle>(
     alloc: Global,
     op: SetOp,
-    set: &BTreeSet<K>,
-    other: &BTreeSet<K>,
+    set: &BTreeSet<K, A>,
+    other: &BTreeSet<K, A>,
 ) -> Result<Vec<Option<K>>, TryReserveError>
     requires copied { K.can_clone }
     requires same { IsExact K.same }
@@ -70,10 +70,10 @@ fn copies_of<'a, K: Ord + TryClone + 'a, I: Iterator<Item = &'a K> + Drop>(
 }
 
 /// Makes the set that of the operation on both sets.
-pub fn keep<K: Ord + TryClone, V: TryClone>(
+pub fn keep<K: Ord + TryClone, V: TryClone, A: Handle>(
     op: SetOp,
-    set: &mut BTreeSet<K>,
-    other: &BTreeSet<K>,
+    set: &mut BTreeSet<K, A>,
+    other: &BTreeSet<K, A>,
 ) -> Reply<K, V>
     requires copied { K.can_clone }
     requires same { IsExact K.same }
@@ -89,11 +89,11 @@ pub fn keep<K: Ord + TryClone, V: TryClone>(
 }
 
 // The set of what the operation on both sets gives.
-fn kept<K: Ord + TryClone>(
+fn kept<K: Ord + TryClone, A: Handle>(
     op: SetOp,
-    set: &BTreeSet<K>,
-    other: &BTreeSet<K>,
-) -> Result<BTreeSet<K>, TryReserveError>
+    set: &BTreeSet<K, A>,
+    other: &BTreeSet<K, A>,
+) -> Result<BTreeSet<K, A>, TryReserveError>
     requires copied { K.can_clone }
     requires same { IsExact K.same }
     ensures made { IfOk result (λ made. items made ≡ combined K.cmp op (items set.now) (items other.now)) }

@@ -7,7 +7,7 @@ ghost use Rattle.fc_command.specs.Spoken.{Served, SpokenTo, ending_of};
 ghost use Rattle.fc_command.specs.Session.{Written, LineRun, IsAfter, HasRoom, PieceRun, FaultTold, Ended};
 
 use crate::command::world::World;
-use fc_base::TryReserveError;
+use fc_base::{Handle, TryReserveError};
 use fc_lines::lines::{MAX_LINE, command_in};
 use fc_lines::replies::{MAX_REPLY, write_fault, write_reply};
 use std::alloc::Global;
@@ -39,9 +39,9 @@ pub const PIECE: usize = 8192;
 // What is kept between two reads: the world, the line so far, how many lines were whole, and the text of the last reply. The lists
 // of commands are taken from `alloc`.
 #[derive(Drop)]
-struct Session {
+struct Session<A: Handle> {
     alloc: Global,
-    world: World<u64, u64>,
+    world: World<u64, u64, A>,
     line: Vec<u8>,
     number: u64,
     text: Vec<u8>,
@@ -67,7 +67,23 @@ pub fn serve<R: Read, W: Write>(
     ensures { (text : List ℕ) × Appends (W.contents out.old) (W.contents out.new) text
         × Served (R.remaining src.old) (R.remaining src.new) text result }
 {
-    let world = World::new(alloc);
+    serve_within(alloc, alloc, src, out)
+}
+
+/// `serve`, on a world whose maps and sets take their memory of `memory`. Lines and replies take theirs of `alloc`.
+///
+/// # Errors
+/// As `serve`.
+pub fn serve_within<R: Read, W: Write, A: Handle>(
+    alloc: Global,
+    memory: A,
+    src: &mut R,
+    out: &mut W,
+) -> Result<ServeEnd, ServeError>
+    ensures { (text : List ℕ) × Appends (W.contents out.old) (W.contents out.new) text
+        × Served (R.remaining src.old) (R.remaining src.new) text result }
+{
+    let world = World::within(alloc, memory);
     let line = match Vec::with_capacity(alloc, MAX_LINE) {
         Ok(line) => line,
         Err(_) => return Err(ServeError::Memory(TryReserveError::AllocError)),
@@ -86,7 +102,7 @@ pub fn serve<R: Read, W: Write>(
     session.run_all(src, out)
 }
 
-impl Session {
+impl<A: Handle> Session<A> {
     // Runs the lines of the whole source, of which none was read yet.
     fn run_all<R: Read, W: Write>(
         &mut self,

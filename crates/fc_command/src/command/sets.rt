@@ -7,7 +7,7 @@ ghost use Rattle.fc_command.specs.Walks.{given, left, walked, MayRefuseFound};
 
 use crate::command::kinds::SetCommand;
 use crate::command::operations::{keep, list};
-use fc_base::{TryClone, TryReserveError};
+use fc_base::{Handle, TryClone, TryReserveError};
 use fc_lines::command::{End, Reply};
 use fc_lines::items::Items;
 use fc_map::map::is_range;
@@ -16,10 +16,10 @@ use std::alloc::Global;
 use std::ops::Bound;
 
 /// Runs a command on a set and on the other one.
-pub fn step_set<K: Ord + TryClone, V: TryClone>(
+pub fn step_set<K: Ord + TryClone, V: TryClone, A: Handle>(
     alloc: Global,
-    set: &mut BTreeSet<K>,
-    other: &mut BTreeSet<K>,
+    set: &mut BTreeSet<K, A>,
+    other: &mut BTreeSet<K, A>,
     command: SetCommand<K>,
 ) -> Reply<K, V>
     requires copied { K.can_clone }
@@ -50,8 +50,8 @@ pub fn step_set<K: Ord + TryClone, V: TryClone>(
 }
 
 // Puts the item in where no equal one is.
-fn add<K: Ord + TryClone, V: TryClone>(set: &mut BTreeSet<K>, item: K) -> Reply<K, V>
-    ensures { (o : Map K ⊤) → StepOnSets K.cmp K.may_refuse (SetCommand.AddItem item) set.old o result set.new o }
+fn add<K: Ord + TryClone, V: TryClone, A: Handle>(set: &mut BTreeSet<K, A>, item: K) -> Reply<K, V>
+    ensures { (o : Map K ⊤ A) → StepOnSets K.cmp K.may_refuse (SetCommand.AddItem item) set.old o result set.new o }
 {
     match set.try_insert(item) {
         Ok(new) => Reply::Flag(new),
@@ -60,8 +60,11 @@ fn add<K: Ord + TryClone, V: TryClone>(set: &mut BTreeSet<K>, item: K) -> Reply<
 }
 
 // Puts the item in the place of an equal one, or where it belongs.
-fn replace<K: Ord + TryClone, V: TryClone>(set: &mut BTreeSet<K>, item: K) -> Reply<K, V>
-    ensures { (o : Map K ⊤) → StepOnSets K.cmp K.may_refuse (SetCommand.ReplaceItem item) set.old o result set.new o }
+fn replace<K: Ord + TryClone, V: TryClone, A: Handle>(
+    set: &mut BTreeSet<K, A>,
+    item: K,
+) -> Reply<K, V>
+    ensures { (o : Map K ⊤ A) → StepOnSets K.cmp K.may_refuse (SetCommand.ReplaceItem item) set.old o result set.new o }
 {
     match set.replace(item) {
         Ok(old) => Reply::Key(old),
@@ -70,18 +73,18 @@ fn replace<K: Ord + TryClone, V: TryClone>(set: &mut BTreeSet<K>, item: K) -> Re
 }
 
 // Drops all items.
-fn clear<K: Ord + TryClone, V: TryClone>(set: &mut BTreeSet<K>) -> Reply<K, V>
-    ensures { (o : Map K ⊤) → StepOnSets K.cmp K.may_refuse SetCommand.SetClear set.old o result set.new o }
+fn clear<K: Ord + TryClone, V: TryClone, A: Handle>(set: &mut BTreeSet<K, A>) -> Reply<K, V>
+    ensures { (o : Map K ⊤ A) → StepOnSets K.cmp K.may_refuse SetCommand.SetClear set.old o result set.new o }
 {
     set.clear();
     Reply::Done
 }
 
 // A copy of the item that is equal.
-fn find<K: Ord + TryClone, V: TryClone>(set: &BTreeSet<K>, item: &K) -> Reply<K, V>
+fn find<K: Ord + TryClone, V: TryClone, A: Handle>(set: &BTreeSet<K, A>, item: &K) -> Reply<K, V>
     requires copied { K.can_clone }
     requires same { IsExact K.same }
-    ensures { (o : Map K ⊤) → StepOnSets K.cmp K.may_refuse (SetCommand.GetItem item.now) set.now o result set.now o }
+    ensures { (o : Map K ⊤ A) → StepOnSets K.cmp K.may_refuse (SetCommand.GetItem item.now) set.now o result set.now o }
 {
     match set.get(item) {
         Some(held) => match held.try_clone() {
@@ -93,9 +96,9 @@ fn find<K: Ord + TryClone, V: TryClone>(set: &BTreeSet<K>, item: &K) -> Reply<K,
 }
 
 // Takes the items of the other set.
-fn append<K: Ord + TryClone, V: TryClone>(
-    set: &mut BTreeSet<K>,
-    other: &mut BTreeSet<K>,
+fn append<K: Ord + TryClone, V: TryClone, A: Handle>(
+    set: &mut BTreeSet<K, A>,
+    other: &mut BTreeSet<K, A>,
 ) -> Reply<K, V>
     ensures { StepOnSets K.cmp K.may_refuse SetCommand.SetAppend set.old other.old result set.new other.new }
 {
@@ -106,9 +109,9 @@ fn append<K: Ord + TryClone, V: TryClone>(
 }
 
 // Splits the set at the item, and leaves the part from there on in the other set.
-fn split_off<K: Ord + TryClone, V: TryClone>(
-    set: &mut BTreeSet<K>,
-    other: &mut BTreeSet<K>,
+fn split_off<K: Ord + TryClone, V: TryClone, A: Handle>(
+    set: &mut BTreeSet<K, A>,
+    other: &mut BTreeSet<K, A>,
     item: K,
 ) -> Reply<K, V>
     ensures { StepOnSets K.cmp K.may_refuse (SetCommand.SetSplitOff item) set.old other.old result set.new other.new }
@@ -123,8 +126,11 @@ fn split_off<K: Ord + TryClone, V: TryClone>(
 }
 
 // Puts the items in, in turn, up to the one that is refused.
-fn extend<K: Ord + TryClone, V: TryClone>(set: &mut BTreeSet<K>, more: Items<K>) -> Reply<K, V>
-    ensures { (o : Map K ⊤) → StepOnSets K.cmp K.may_refuse (SetCommand.SetExtend more) set.old o result set.new o }
+fn extend<K: Ord + TryClone, V: TryClone, A: Handle>(
+    set: &mut BTreeSet<K, A>,
+    more: Items<K>,
+) -> Reply<K, V>
+    ensures { (o : Map K ⊤ A) → StepOnSets K.cmp K.may_refuse (SetCommand.SetExtend more) set.old o result set.new o }
 {
     match set.try_extend(more.into_vec()) {
         Ok(()) => {
@@ -137,16 +143,16 @@ fn extend<K: Ord + TryClone, V: TryClone>(set: &mut BTreeSet<K>, more: Items<K>)
 }
 
 // Copies of what the range between the bounds gives, one for each end.
-fn walk<K: Ord + TryClone, V: TryClone>(
+fn walk<K: Ord + TryClone, V: TryClone, A: Handle>(
     alloc: Global,
-    set: &BTreeSet<K>,
+    set: &BTreeSet<K, A>,
     lo: Bound<K>,
     hi: Bound<K>,
     ends: Items<End>,
 ) -> Reply<K, V>
     requires copied { K.can_clone }
     requires same { IsExact K.same }
-    ensures { (o : Map K ⊤) → StepOnSets K.cmp K.may_refuse (SetCommand.SetWalk lo hi ends) set.now o result set.now o }
+    ensures { (o : Map K ⊤ A) → StepOnSets K.cmp K.may_refuse (SetCommand.SetWalk lo hi ends) set.now o result set.now o }
 {
     let bounds = (lo.as_ref(), hi.as_ref());
     if !is_range(&bounds.0, &bounds.1) {
@@ -159,9 +165,9 @@ fn walk<K: Ord + TryClone, V: TryClone>(
 }
 
 // A copy of the item at each end in turn.
-fn copies<K: Ord + TryClone>(
+fn copies<K: Ord + TryClone, A: Handle>(
     alloc: Global,
-    walk: Range<'_, K>,
+    walk: Range<'_, K, A>,
     ends: &[End],
 ) -> Result<Vec<Option<K>>, TryReserveError>
     requires copied { K.can_clone }
@@ -179,7 +185,7 @@ fn copies<K: Ord + TryClone>(
 }
 
 // The item at the end, which is then given.
-fn step_at<'a, K: Ord>(walk: &mut Range<'a, K>, end: End) -> Option<&'a K>
+fn step_at<'a, K: Ord, A: Handle>(walk: &mut Range<'a, K, A>, end: End) -> Option<&'a K>
     ensures gives { now_value result ≡ given end walk.old }
     ensures leaves { walk.new ≡ left end walk.old }
 {
@@ -202,14 +208,20 @@ fn copy_step<K: TryClone>(item: Option<&K>) -> Result<Option<K>, TryReserveError
 }
 
 // How the set stands to the other.
-fn compare<K: Ord + TryClone, V: TryClone>(set: &BTreeSet<K>, other: &BTreeSet<K>) -> Reply<K, V>
+fn compare<K: Ord + TryClone, V: TryClone, A: Handle>(
+    set: &BTreeSet<K, A>,
+    other: &BTreeSet<K, A>,
+) -> Reply<K, V>
     ensures { StepOnSets K.cmp K.may_refuse SetCommand.SetCmp set.now other.now result set.now other.now }
 {
     Reply::Order(set.cmp(other))
 }
 
 // Makes the other set a copy of the set.
-fn copy<K: Ord + TryClone, V: TryClone>(set: &BTreeSet<K>, other: &mut BTreeSet<K>) -> Reply<K, V>
+fn copy<K: Ord + TryClone, V: TryClone, A: Handle>(
+    set: &BTreeSet<K, A>,
+    other: &mut BTreeSet<K, A>,
+) -> Reply<K, V>
     requires copied { K.can_clone }
     requires same { IsExact K.same }
     ensures { StepOnSets K.cmp K.may_refuse SetCommand.SetClone set.now other.old result set.now other.new }

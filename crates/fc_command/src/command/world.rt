@@ -13,7 +13,7 @@ ghost use Rattle.fc_command.specs.Step.{IsNew, Step, StepOn, Runs};
 
 use crate::command::kinds::{Kind, MapCommand};
 use crate::command::sets::step_set;
-use fc_base::{TryClone, TryReserveError};
+use fc_base::{Handle, TryClone, TryReserveError};
 use fc_lines::command::{Command, End, Reply, Side};
 use fc_lines::items::Items;
 use fc_map::map::{BTreeMap, Entry, Range, RangeMut, insert_both, is_range};
@@ -24,15 +24,15 @@ use std::ops::Bound;
 
 /// Two maps, `a` and `b`, and two sets, `s` and `t`, that commands work on.
 #[derive(Drop)]
-pub struct World<K: Ord, V> {
+pub struct World<K: Ord, V, A: Handle = Global> {
     /// The map that `Side::First` names.
-    pub a: BTreeMap<K, V>,
+    pub a: BTreeMap<K, V, A>,
     /// The map that `Side::Second` names.
-    pub b: BTreeMap<K, V>,
+    pub b: BTreeMap<K, V, A>,
     /// The set that `Side::First` names.
-    pub s: BTreeSet<K>,
+    pub s: BTreeSet<K, A>,
     /// The set that `Side::Second` names.
-    pub t: BTreeSet<K>,
+    pub t: BTreeSet<K, A>,
     alloc: Global,
 }
 
@@ -41,11 +41,20 @@ impl<K: Ord + TryClone, V: TryClone> World<K, V> {
     pub fn new(alloc: Global) -> World<K, V>
         ensures { IsNew result }
     {
+        World::within(alloc, alloc)
+    }
+}
+
+impl<K: Ord + TryClone, V: TryClone, A: Handle> World<K, V, A> {
+    /// A world of empty maps and sets, which takes no memory. Later requests of the maps and sets go to `memory`, those of replies to `alloc`.
+    pub fn within(alloc: Global, memory: A) -> World<K, V, A>
+        ensures { IsNew result }
+    {
         World {
-            a: BTreeMap::new(alloc),
-            b: BTreeMap::new(alloc),
-            s: BTreeSet::new(alloc),
-            t: BTreeSet::new(alloc),
+            a: BTreeMap::new(memory),
+            b: BTreeMap::new(memory),
+            s: BTreeSet::new(memory),
+            t: BTreeSet::new(memory),
             alloc,
         }
     }
@@ -99,10 +108,10 @@ impl<K: Ord + TryClone, V: TryClone> World<K, V> {
 }
 
 // Runs a command on a map and on the other one.
-fn step_on<K: Ord + TryClone, V: TryClone>(
+fn step_on<K: Ord + TryClone, V: TryClone, A: Handle>(
     alloc: Global,
-    map: &mut BTreeMap<K, V>,
-    other: &mut BTreeMap<K, V>,
+    map: &mut BTreeMap<K, V, A>,
+    other: &mut BTreeMap<K, V, A>,
     command: MapCommand<K, V>,
 ) -> Reply<K, V>
     requires copied { K.can_clone × V.can_clone }
@@ -137,9 +146,9 @@ fn step_on<K: Ord + TryClone, V: TryClone>(
 }
 
 // Takes the pairs of the other map.
-fn append<K: Ord + TryClone, V: TryClone>(
-    map: &mut BTreeMap<K, V>,
-    other: &mut BTreeMap<K, V>,
+fn append<K: Ord + TryClone, V: TryClone, A: Handle>(
+    map: &mut BTreeMap<K, V, A>,
+    other: &mut BTreeMap<K, V, A>,
 ) -> Reply<K, V>
     ensures { StepOn K.cmp K.may_refuse V.may_refuse MapCommand.Append map.old other.old result map.new other.new }
 {
@@ -150,9 +159,9 @@ fn append<K: Ord + TryClone, V: TryClone>(
 }
 
 // Splits the map at the key, and leaves the part from there on in the other map.
-fn split_off<K: Ord + TryClone, V: TryClone>(
-    map: &mut BTreeMap<K, V>,
-    other: &mut BTreeMap<K, V>,
+fn split_off<K: Ord + TryClone, V: TryClone, A: Handle>(
+    map: &mut BTreeMap<K, V, A>,
+    other: &mut BTreeMap<K, V, A>,
     key: K,
 ) -> Reply<K, V>
     ensures { StepOn K.cmp K.may_refuse V.may_refuse (MapCommand.SplitOff key) map.old other.old result map.new other.new }
@@ -167,16 +176,16 @@ fn split_off<K: Ord + TryClone, V: TryClone>(
 }
 
 // Copies of what the range between the bounds gives, one for each end.
-fn walk<K: Ord + TryClone, V: TryClone>(
+fn walk<K: Ord + TryClone, V: TryClone, A: Handle>(
     alloc: Global,
-    map: &BTreeMap<K, V>,
+    map: &BTreeMap<K, V, A>,
     lo: Bound<K>,
     hi: Bound<K>,
     ends: Items<End>,
 ) -> Reply<K, V>
     requires copied { K.can_clone × V.can_clone }
     requires same { IsExact K.same × IsExact V.same }
-    ensures { (o : Map K V) → StepOn K.cmp K.may_refuse V.may_refuse (MapCommand.Walk lo hi ends) map.now o result map.now o }
+    ensures { (o : Map K V A) → StepOn K.cmp K.may_refuse V.may_refuse (MapCommand.Walk lo hi ends) map.now o result map.now o }
 {
     let bounds = (lo.as_ref(), hi.as_ref());
     if !is_range(&bounds.0, &bounds.1) {
@@ -189,9 +198,9 @@ fn walk<K: Ord + TryClone, V: TryClone>(
 }
 
 // A copy of the pair at each end in turn.
-fn copies<K: Ord + TryClone, V: TryClone>(
+fn copies<K: Ord + TryClone, V: TryClone, A: Handle>(
     alloc: Global,
-    pairs: Range<'_, K, V>,
+    pairs: Range<'_, K, V, A>,
     ends: &[End],
 ) -> Result<Vec<Option<(K, V)>>, TryReserveError>
     requires copied { K.can_clone × V.can_clone }
@@ -209,7 +218,10 @@ fn copies<K: Ord + TryClone, V: TryClone>(
 }
 
 // The pair at the end, which is then given.
-fn step_at<'a, K: Ord, V>(pairs: &mut Range<'a, K, V>, end: End) -> Option<(&'a K, &'a V)>
+fn step_at<'a, K: Ord, V, A: Handle>(
+    pairs: &mut Range<'a, K, V, A>,
+    end: End,
+) -> Option<(&'a K, &'a V)>
     ensures gives { now_pair result ≡ given end pairs.old }
     ensures leaves { pairs.new ≡ left end pairs.old }
 {
@@ -234,13 +246,13 @@ fn copy_step<K: TryClone, V: TryClone>(
 }
 
 // Writes each value at the pair that its end lends, between the bounds.
-fn write<K: Ord + TryClone, V: TryClone>(
-    map: &mut BTreeMap<K, V>,
+fn write<K: Ord + TryClone, V: TryClone, A: Handle>(
+    map: &mut BTreeMap<K, V, A>,
     lo: Bound<K>,
     hi: Bound<K>,
     writes: Items<(End, V)>,
 ) -> Reply<K, V>
-    ensures { (o : Map K V) → StepOn K.cmp K.may_refuse V.may_refuse (MapCommand.Write lo hi writes) map.old o result map.new o }
+    ensures { (o : Map K V A) → StepOn K.cmp K.may_refuse V.may_refuse (MapCommand.Write lo hi writes) map.old o result map.new o }
 {
     let bounds = (lo.as_ref(), hi.as_ref());
     if is_range(&bounds.0, &bounds.1) {
@@ -251,8 +263,8 @@ fn write<K: Ord + TryClone, V: TryClone>(
 }
 
 // Answers how many values were written.
-fn write_all<K: Ord, V: Drop>(
-    map: &mut BTreeMap<K, V>,
+fn write_all<K: Ord, V: Drop, A: Handle>(
+    map: &mut BTreeMap<K, V, A>,
     bounds: (Bound<&K>, Bound<&K>),
     writes: Vec<(End, V)>,
 ) -> usize
@@ -269,7 +281,11 @@ fn write_all<K: Ord, V: Drop>(
 }
 
 // Writes the value at the pair that the end lends, if there is one.
-fn write_at<K: Ord, V: Drop>(walk: &mut RangeMut<'_, K, V>, end: End, value: V) -> bool
+fn write_at<K: Ord, V: Drop, A: Handle>(
+    walk: &mut RangeMut<'_, K, V, A>,
+    end: End,
+    value: V,
+) -> bool
     ensures lent { IsTrue result ↔ ((stretch walk.old).front < (stretch walk.old).back) }
     ensures written { stretch walk.new ≡ wrote (stretch walk.old) (flagged (end, value)) }
     ensures same_map { (range_map_ref walk.new).ghost_name ≡ (range_map_ref walk.old).ghost_name }
@@ -293,9 +309,9 @@ fn write_at<K: Ord, V: Drop>(walk: &mut RangeMut<'_, K, V>, end: End, value: V) 
 }
 
 // Makes the other map a copy of the map.
-fn copy<K: Ord + TryClone, V: TryClone>(
-    map: &BTreeMap<K, V>,
-    other: &mut BTreeMap<K, V>,
+fn copy<K: Ord + TryClone, V: TryClone, A: Handle>(
+    map: &BTreeMap<K, V, A>,
+    other: &mut BTreeMap<K, V, A>,
 ) -> Reply<K, V>
     requires copied { K.can_clone × V.can_clone }
     requires same { IsExact K.same × IsExact V.same }
@@ -311,11 +327,11 @@ fn copy<K: Ord + TryClone, V: TryClone>(
 }
 
 // Puts the pairs in, in turn, up to the one that is refused.
-fn extend<K: Ord + TryClone, V: TryClone>(
-    map: &mut BTreeMap<K, V>,
+fn extend<K: Ord + TryClone, V: TryClone, A: Handle>(
+    map: &mut BTreeMap<K, V, A>,
     pairs: Items<(K, V)>,
 ) -> Reply<K, V>
-    ensures { (o : Map K V) → StepOn K.cmp K.may_refuse V.may_refuse (MapCommand.Extend pairs) map.old o result map.new o }
+    ensures { (o : Map K V A) → StepOn K.cmp K.may_refuse V.may_refuse (MapCommand.Extend pairs) map.old o result map.new o }
 {
     match map.try_extend(pairs.into_vec()) {
         Ok(()) => {
@@ -328,9 +344,9 @@ fn extend<K: Ord + TryClone, V: TryClone>(
 }
 
 // Puts a pair into each of the two maps, or into neither.
-fn put_both<K: Ord + TryClone, V: TryClone>(
-    map: &mut BTreeMap<K, V>,
-    other: &mut BTreeMap<K, V>,
+fn put_both<K: Ord + TryClone, V: TryClone, A: Handle>(
+    map: &mut BTreeMap<K, V, A>,
+    other: &mut BTreeMap<K, V, A>,
     k: K,
     v: V,
     l: K,
@@ -345,8 +361,12 @@ fn put_both<K: Ord + TryClone, V: TryClone>(
 }
 
 // Writes the value where the key is there, and answers the old one.
-fn set<K: Ord + TryClone, V: TryClone>(map: &mut BTreeMap<K, V>, key: K, value: V) -> Reply<K, V>
-    ensures { (o : Map K V) → StepOn K.cmp K.may_refuse V.may_refuse (MapCommand.Set key value) map.old o result map.new o }
+fn set<K: Ord + TryClone, V: TryClone, A: Handle>(
+    map: &mut BTreeMap<K, V, A>,
+    key: K,
+    value: V,
+) -> Reply<K, V>
+    ensures { (o : Map K V A) → StepOn K.cmp K.may_refuse V.may_refuse (MapCommand.Set key value) map.old o result map.new o }
 {
     match map.get_mut(&key) {
         Some(held) => Reply::Value(Some(mem::replace(held, value))),
@@ -355,13 +375,13 @@ fn set<K: Ord + TryClone, V: TryClone>(map: &mut BTreeMap<K, V>, key: K, value: 
 }
 
 // Puts `there` at the key where it is there, and else `new`.
-fn entry<K: Ord + TryClone, V: TryClone>(
-    map: &mut BTreeMap<K, V>,
+fn entry<K: Ord + TryClone, V: TryClone, A: Handle>(
+    map: &mut BTreeMap<K, V, A>,
     key: K,
     there: V,
     new: V,
 ) -> Reply<K, V>
-    ensures { (o : Map K V) → StepOn K.cmp K.may_refuse V.may_refuse (MapCommand.Entry key there new) map.old o result map.new o }
+    ensures { (o : Map K V A) → StepOn K.cmp K.may_refuse V.may_refuse (MapCommand.Entry key there new) map.old o result map.new o }
 {
     let held = match map.try_entry(key) {
         Ok(held) => held,
@@ -376,7 +396,10 @@ fn entry<K: Ord + TryClone, V: TryClone>(
 }
 
 // Takes out the pair at the key, if it is there.
-fn evict<K: Ord + TryClone, V: TryClone>(map: &mut BTreeMap<K, V>, key: K) -> Option<(K, V)>
+fn evict<K: Ord + TryClone, V: TryClone, A: Handle>(
+    map: &mut BTreeMap<K, V, A>,
+    key: K,
+) -> Option<(K, V)>
     ensures pair { result ≡ at K.cmp (entries map.old) key }
     ensures taken { entries map.new ≡ cut K.cmp (entries map.old) key }
 {
@@ -388,10 +411,10 @@ fn evict<K: Ord + TryClone, V: TryClone>(map: &mut BTreeMap<K, V>, key: K) -> Op
 }
 
 // A copy of the value at the key.
-fn get<K: Ord + TryClone, V: TryClone>(map: &BTreeMap<K, V>, key: &K) -> Reply<K, V>
+fn get<K: Ord + TryClone, V: TryClone, A: Handle>(map: &BTreeMap<K, V, A>, key: &K) -> Reply<K, V>
     requires copied { V.can_clone }
     requires same { IsExact V.same }
-    ensures { (o : Map K V) → StepOn K.cmp K.may_refuse V.may_refuse (MapCommand.Get key.now) map.now o result map.now o }
+    ensures { (o : Map K V A) → StepOn K.cmp K.may_refuse V.may_refuse (MapCommand.Get key.now) map.now o result map.now o }
 {
     match map.get(key) {
         Some(value) => match value.try_clone() {
@@ -403,10 +426,13 @@ fn get<K: Ord + TryClone, V: TryClone>(map: &BTreeMap<K, V>, key: &K) -> Reply<K
 }
 
 // A copy of the pair at the key.
-fn get_key_value<K: Ord + TryClone, V: TryClone>(map: &BTreeMap<K, V>, key: &K) -> Reply<K, V>
+fn get_key_value<K: Ord + TryClone, V: TryClone, A: Handle>(
+    map: &BTreeMap<K, V, A>,
+    key: &K,
+) -> Reply<K, V>
     requires copied { K.can_clone × V.can_clone }
     requires same { IsExact K.same × IsExact V.same }
-    ensures { (o : Map K V) → StepOn K.cmp K.may_refuse V.may_refuse (MapCommand.GetKeyValue key.now) map.now o result map.now o }
+    ensures { (o : Map K V A) → StepOn K.cmp K.may_refuse V.may_refuse (MapCommand.GetKeyValue key.now) map.now o result map.now o }
 {
     match map.get_key_value(key) {
         Some((held, value)) => match copy_pair(held, value) {

@@ -4,18 +4,19 @@ ghost use Rattle.fc_iter.specs.Walks.{keys_of};
 ghost use Rattle.std.specs.Iterator.{YieldsFirstRef, YieldsLastRef, UpTo, at_most, item_count};
 
 use super::Iter;
-use std::alloc::AllocError;
+use fc_base::Handle;
+use std::alloc::{AllocError, Global};
 use std::iter::FusedIterator;
 use std::marker::Model;
 
 /// The keys that are still to come, in ascending order. `next` gives the first of them and `next_back` the last; once there is
 /// none, both answer `None` ever after. No call compares keys or takes memory. Upstream: `btree_map::Keys`.
 #[derive(Drop)]
-pub struct Keys<'a, K, V> {
-    pairs: Iter<'a, K, V>,
+pub struct Keys<'a, K, V, A: Handle = Global> {
+    pairs: Iter<'a, K, V, A>,
 }
 
-impl<'a, K, V> Model for Keys<'a, K, V> {
+impl<'a, K, V, A: Handle> Model for Keys<'a, K, V, A> {
     ghost use Rattle.std.specs.Prelude.{List};
     ghost use Rattle.fc_iter.specs.Walks.{keys_of};
 
@@ -24,9 +25,9 @@ impl<'a, K, V> Model for Keys<'a, K, V> {
     ghost view = { λ w. keys_of w.pairs };
 }
 
-impl<'a, K, V> Keys<'a, K, V> {
+impl<'a, K, V, A: Handle> Keys<'a, K, V, A> {
     /// The keys of the pairs still to come.
-    pub fn of(pairs: Iter<'a, K, V>) -> Keys<'a, K, V>
+    pub fn of(pairs: Iter<'a, K, V, A>) -> Keys<'a, K, V, A>
         ensures { result ≡ keys_of pairs.entry }
     {
         Keys { pairs }
@@ -40,20 +41,20 @@ impl<'a, K, V> Keys<'a, K, V> {
     }
 }
 
-impl<'a, K, V> Clone for Keys<'a, K, V> {
+impl<'a, K, V, A: Handle> Clone for Keys<'a, K, V, A> {
     ghost is_clone = { λ s r. r ≡ s };
 
     ghost is_infallible = { λ _. ⊤ };
 
     /// A second walk over the keys still to come, which takes no memory.
-    fn clone(&self) -> Result<Keys<'a, K, V>, AllocError> {
+    fn clone(&self) -> Result<Keys<'a, K, V, A>, AllocError> {
         Ok(Keys {
             pairs: self.pairs.clone()?,
         })
     }
 }
 
-impl<'a, K, V> Iterator for Keys<'a, K, V> {
+impl<'a, K, V, A: Handle> Iterator for Keys<'a, K, V, A> {
     type Item = &'a K;
 
     ghost next_gives = { YieldsFirstRef (λ s. s) };
@@ -75,7 +76,7 @@ impl<'a, K, V> Iterator for Keys<'a, K, V> {
     }
 }
 
-impl<'a, K, V> DoubleEndedIterator for Keys<'a, K, V> {
+impl<'a, K, V, A: Handle> DoubleEndedIterator for Keys<'a, K, V, A> {
     ghost next_back_gives = { YieldsLastRef (λ s. s) };
 
     fn next_back(&mut self) -> Option<&'a K> {
@@ -84,10 +85,10 @@ impl<'a, K, V> DoubleEndedIterator for Keys<'a, K, V> {
     }
 }
 
-impl<'a, K, V> ExactSizeIterator for Keys<'a, K, V> {
+impl<'a, K, V, A: Handle> ExactSizeIterator for Keys<'a, K, V, A> {
     fn len(&self) -> usize {
         self.pairs.len()
     }
 }
 
-impl<'a, K, V> FusedIterator for Keys<'a, K, V> {}
+impl<'a, K, V, A: Handle> FusedIterator for Keys<'a, K, V, A> {}

@@ -4,18 +4,19 @@ ghost use Rattle.fc_iter.specs.Walks.{values_of};
 ghost use Rattle.std.specs.Iterator.{YieldsFirstRef, YieldsLastRef, UpTo, at_most, item_count};
 
 use super::Iter;
-use std::alloc::AllocError;
+use fc_base::Handle;
+use std::alloc::{AllocError, Global};
 use std::iter::FusedIterator;
 use std::marker::Model;
 
 /// The values that are still to come, in ascending order of their keys. `next` gives the first of them and `next_back` the last;
 /// once there is none, both answer `None` ever after. No call compares keys or takes memory. Upstream: `btree_map::Values`.
 #[derive(Drop)]
-pub struct Values<'a, K, V> {
-    pairs: Iter<'a, K, V>,
+pub struct Values<'a, K, V, A: Handle = Global> {
+    pairs: Iter<'a, K, V, A>,
 }
 
-impl<'a, K, V> Model for Values<'a, K, V> {
+impl<'a, K, V, A: Handle> Model for Values<'a, K, V, A> {
     ghost use Rattle.std.specs.Prelude.{List};
     ghost use Rattle.fc_iter.specs.Walks.{values_of};
 
@@ -24,9 +25,9 @@ impl<'a, K, V> Model for Values<'a, K, V> {
     ghost view = { λ w. values_of w.pairs };
 }
 
-impl<'a, K, V> Values<'a, K, V> {
+impl<'a, K, V, A: Handle> Values<'a, K, V, A> {
     /// The values of the pairs still to come.
-    pub fn of(pairs: Iter<'a, K, V>) -> Values<'a, K, V>
+    pub fn of(pairs: Iter<'a, K, V, A>) -> Values<'a, K, V, A>
         ensures { result ≡ values_of pairs.entry }
     {
         Values { pairs }
@@ -40,20 +41,20 @@ impl<'a, K, V> Values<'a, K, V> {
     }
 }
 
-impl<'a, K, V> Clone for Values<'a, K, V> {
+impl<'a, K, V, A: Handle> Clone for Values<'a, K, V, A> {
     ghost is_clone = { λ s r. r ≡ s };
 
     ghost is_infallible = { λ _. ⊤ };
 
     /// A second walk over the values still to come, which takes no memory.
-    fn clone(&self) -> Result<Values<'a, K, V>, AllocError> {
+    fn clone(&self) -> Result<Values<'a, K, V, A>, AllocError> {
         Ok(Values {
             pairs: self.pairs.clone()?,
         })
     }
 }
 
-impl<'a, K, V> Iterator for Values<'a, K, V> {
+impl<'a, K, V, A: Handle> Iterator for Values<'a, K, V, A> {
     type Item = &'a V;
 
     ghost next_gives = { YieldsFirstRef (λ s. s) };
@@ -75,7 +76,7 @@ impl<'a, K, V> Iterator for Values<'a, K, V> {
     }
 }
 
-impl<'a, K, V> DoubleEndedIterator for Values<'a, K, V> {
+impl<'a, K, V, A: Handle> DoubleEndedIterator for Values<'a, K, V, A> {
     ghost next_back_gives = { YieldsLastRef (λ s. s) };
 
     fn next_back(&mut self) -> Option<&'a V> {
@@ -84,10 +85,10 @@ impl<'a, K, V> DoubleEndedIterator for Values<'a, K, V> {
     }
 }
 
-impl<'a, K, V> ExactSizeIterator for Values<'a, K, V> {
+impl<'a, K, V, A: Handle> ExactSizeIterator for Values<'a, K, V, A> {
     fn len(&self) -> usize {
         self.pairs.len()
     }
 }
 
-impl<'a, K, V> FusedIterator for Values<'a, K, V> {}
+impl<'a, K, V, A: Handle> FusedIterator for Values<'a, K, V, A> {}

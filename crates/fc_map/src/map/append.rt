@@ -6,10 +6,10 @@ ghost use Rattle.fc_base.specs.Joined.{joined};
 ghost use Rattle.fc_map.specs.Entries.{entries, IsSoundMap};
 
 use super::BTreeMap;
-use fc_base::{Count, TryReserveError};
+use fc_base::{Count, Handle, TryReserveError};
 use fc_tree_append::append::try_append;
 
-impl<K: Ord + Drop, V: Drop> BTreeMap<K, V> {
+impl<K: Ord + Drop, V: Drop, A: Handle> BTreeMap<K, V, A> {
     /// Takes all pairs of `other`, which is then empty. Where both maps hold an equal key, key and value are `other`'s, and ours are
     /// dropped. Where one of the two is empty nothing is asked for and nothing compared. Upstream: `BTreeMap::append`, which answers
     /// nothing.

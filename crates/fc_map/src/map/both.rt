@@ -9,7 +9,7 @@ ghost use Rattle.fc_map.specs.Full.{TakesNode};
 ghost use Rattle.fc_map.specs.Ready.{IsPrepared};
 
 use super::BTreeMap;
-use fc_base::{Count, TryReserveError};
+use fc_base::{Count, Handle, TryReserveError};
 use fc_tree_insertion::new_nodes::NewNodes;
 use fc_tree_node::path::Path;
 
@@ -20,9 +20,9 @@ use fc_tree_node::path::Path;
 /// Where one of the two insertions may be refused, which takes a new key, and by its error: `CapacityOverflow` where its map holds
 /// `usize::MAX` pairs, and then always; else `AllocError`, where a request for memory was refused, which takes an empty map or a full
 /// leaf. Both maps are then as they were, trees and all, and all four values come back.
-pub fn insert_both<K: Ord + Drop, V: Drop, L: Ord + Drop, W: Drop>(
-    a: &mut BTreeMap<K, V>,
-    b: &mut BTreeMap<L, W>,
+pub fn insert_both<K: Ord + Drop, V: Drop, L: Ord + Drop, W: Drop, A: Handle>(
+    a: &mut BTreeMap<K, V, A>,
+    b: &mut BTreeMap<L, W, A>,
     k: K,
     v: V,
     l: L,
@@ -60,7 +60,7 @@ pub fn insert_both<K: Ord + Drop, V: Drop, L: Ord + Drop, W: Drop>(
     Ok((old_first, old_second))
 }
 
-impl<K: Ord + Drop, V: Drop> BTreeMap<K, V> {
+impl<K: Ord + Drop, V: Drop, A: Handle> BTreeMap<K, V, A> {
     // Fills `path` with the way to the key or to its gap, and makes the nodes that an insertion into the gap takes; `None` where an equal
     // key is there, which takes none.
     fn prepare(
@@ -68,7 +68,7 @@ impl<K: Ord + Drop, V: Drop> BTreeMap<K, V> {
         key: &K,
         path: &mut Path,
         count: &mut Count,
-    ) -> Result<Option<NewNodes<K, V>>, TryReserveError>
+    ) -> Result<Option<NewNodes<K, V, A>>, TryReserveError>
         requires start { path.old ≡ [] }
         ensures ok { IfOk result (λ made. IsPrepared K.cmp key.now self.now path.new made) }
         ensures absent { OnErr result (at K.cmp (entries self.now) key.now ≡ None) }
@@ -93,7 +93,7 @@ impl<K: Ord + Drop, V: Drop> BTreeMap<K, V> {
         path: &mut Path,
         key: K,
         value: V,
-        prepared: Option<NewNodes<K, V>>,
+        prepared: Option<NewNodes<K, V, A>>,
         count: &mut Count,
     ) -> Option<V>
         requires prepared { IsPrepared K.cmp key self.old path.old prepared }

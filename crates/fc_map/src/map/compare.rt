@@ -8,39 +8,40 @@ ghost use Rattle.fc_map.specs.CompareLaws.{pairs_per, pairs_equiv, pairs_po, pai
 ghost use Rattle.fc_map.specs.Entries.{entries};
 
 use super::BTreeMap;
+use fc_base::Handle;
 use fc_iter::compare::{are_equal, order, partial_order};
 use std::cmp::Ordering;
 use std::hash::{Hash, Hasher};
 
 /// Equal are maps of as many pairs, with equal keys and equal values in order.
-impl<K: Ord, V: PartialEq> PartialEq for BTreeMap<K, V> {
+impl<K: Ord, V: PartialEq, A: Handle> PartialEq for BTreeMap<K, V, A> {
     ghost eq = { λ m n. pointwise (pair_eq K.eq V.eq) (entries m) (entries n) };
 
     ghost laws = { on_per entries (pairs_per K.PartialEq.laws V.laws) };
 
-    fn eq(&self, other: &BTreeMap<K, V>) -> bool {
+    fn eq(&self, other: &BTreeMap<K, V, A>) -> bool {
         are_equal(self.iter(), other.iter())
     }
 }
 
-impl<K: Ord, V: Eq> Eq for BTreeMap<K, V> {
+impl<K: Ord, V: Eq, A: Handle> Eq for BTreeMap<K, V, A> {
     ghost laws = { on_equiv entries (pairs_equiv K.Eq.laws V.Eq.laws) };
 }
 
 /// The first pairs that are not equal decide, by their keys and then by their values; where there are none, the map of fewer pairs
 /// comes first.
-impl<K: Ord, V: PartialOrd> PartialOrd for BTreeMap<K, V> {
+impl<K: Ord, V: PartialOrd, A: Handle> PartialOrd for BTreeMap<K, V, A> {
     ghost partial_cmp = { λ m n. slice_partial_cmp (pair_partial_cmp K.partial_cmp V.partial_cmp) (entries m) (entries n) };
 
     ghost laws = { on_po entries (pairs_po K.PartialOrd.laws V.PartialOrd.laws) };
 
-    fn partial_cmp(&self, other: &BTreeMap<K, V>) -> Option<Ordering> {
+    fn partial_cmp(&self, other: &BTreeMap<K, V, A>) -> Option<Ordering> {
         partial_order(self.iter(), other.iter())
     }
 }
 
 /// As `PartialOrd`.
-impl<K: Ord, V: Ord> Ord for BTreeMap<K, V> {
+impl<K: Ord, V: Ord, A: Handle> Ord for BTreeMap<K, V, A> {
     ghost cmp = { λ m n. slice_cmp (pair_cmp K.cmp V.cmp) (entries m) (entries n) };
 
     ghost total = { on_total entries (pairs_total K.total V.total) };
@@ -49,13 +50,13 @@ impl<K: Ord, V: Ord> Ord for BTreeMap<K, V> {
 
     ghost matches_eq = { λ m n. pairs_tie K.cmp V.cmp K.matches_eq V.matches_eq (entries m) (entries n) };
 
-    fn cmp(&self, other: &BTreeMap<K, V>) -> Ordering {
+    fn cmp(&self, other: &BTreeMap<K, V, A>) -> Ordering {
         order(self.iter(), other.iter())
     }
 }
 
 /// Feeds each key and its value in order, and nothing else.
-impl<K: Ord + Hash, V: Hash> Hash for BTreeMap<K, V> {
+impl<K: Ord + Hash, V: Hash, A: Handle> Hash for BTreeMap<K, V, A> {
     ghost hash_input = { λ m. flat_map (pair_input K.hash_input V.hash_input) (entries m) };
 
     ghost respects_eq = { (on_Alike entries (pairs_Alike (record { fed = K.respects_eq }) (record { fed = V.respects_eq }))).fed };

@@ -8,11 +8,11 @@ ghost use Rattle.fc_map.specs.Entries.{entries, IsSoundMap};
 
 use super::BTreeMap;
 use super::extension::Extension;
-use fc_base::TryReserveError;
+use fc_base::{Handle, TryReserveError};
 use fc_vec::TryFromIterator;
 use std::alloc::Global;
 
-impl<K: Ord + Drop, V: Drop> BTreeMap<K, V> {
+impl<K: Ord + Drop, V: Drop, A: Handle> BTreeMap<K, V, A> {
     /// Puts all items that the iterator gives into the map, in turn, each as `try_insert` does: where an equal key is there, that
     /// key stays and the new value takes the place of the old one, which is dropped. An item behind all before it, those of the map too,
     /// takes one comparison, as long as each before it did. Upstream: `BTreeMap::extend`, which panics where this call answers an error.

@@ -10,21 +10,22 @@ ghost use Rattle.fc_map.specs.Entries.{entries, IsSoundMap};
 ghost use Rattle.fc_map.specs.Extension.{IsExtension};
 
 use super::{BTreeMap, for_sets};
-use fc_base::{Count, TryReserveError};
+use fc_base::{Count, Handle, TryReserveError};
 use fc_tree_build::growing::Growing;
 use fc_tree_node::node::CAPACITY;
+use std::alloc::Global;
 use std::marker::Model;
 use std::mem;
 
 /// A map while it is extended, seen as the list of its pairs: they stand in a tree that is open at its right edge, until an item comes that
 /// doesn't lie behind the last one; then they stand in the map, and from there on each item is inserted from the root.
 #[derive(Drop)]
-pub struct Extension<K: Ord, V> {
-    tree: Growing<K, V>,
-    map: BTreeMap<K, V>,
+pub struct Extension<K: Ord, V, A: Handle = Global> {
+    tree: Growing<K, V, A>,
+    map: BTreeMap<K, V, A>,
 }
 
-impl<K: Ord, V> Model for Extension<K, V> {
+impl<K: Ord, V, A: Handle> Model for Extension<K, V, A> {
     ghost use Rattle.std.specs.Prelude.{◌++◌, List};
     ghost use Rattle.fc_map.specs.Entries.{entries};
     ghost use Rattle.fc_map.specs.Extension.{IsExtension};
@@ -36,9 +37,9 @@ impl<K: Ord, V> Model for Extension<K, V> {
     ghost invariant = { λ e. IsExtension K.cmp e.tree.pairs (entries e.map) };
 }
 
-impl<K: Ord + Drop, V: Drop> Extension<K, V> {
+impl<K: Ord + Drop, V: Drop, A: Handle> Extension<K, V, A> {
     /// The map's pairs, which are taken out of it. It takes no memory and compares nothing.
-    pub fn over(map: &mut BTreeMap<K, V>) -> Extension<K, V>
+    pub fn over(map: &mut BTreeMap<K, V, A>) -> Extension<K, V, A>
         ensures { result ≡ entries map.old }
     {
         let alloc = map.alloc;
@@ -80,7 +81,7 @@ impl<K: Ord + Drop, V: Drop> Extension<K, V> {
     }
 
     /// The map of all pairs.
-    pub fn finish(self) -> BTreeMap<K, V>
+    pub fn finish(self) -> BTreeMap<K, V, A>
         ensures pairs { entries result ≡ self }
         ensures ascending { IsAscending K.cmp (entries result) }
         ensures sound { IsSoundMap result }
@@ -94,7 +95,11 @@ impl<K: Ord + Drop, V: Drop> Extension<K, V> {
 }
 
 // Whether the map has no pair, and the key lies behind all keys of the tree: it is compared with the last one.
-fn is_behind<K: Ord, V>(tree: &Growing<K, V>, map: &BTreeMap<K, V>, key: &K) -> bool
+fn is_behind<K: Ord, V, A: Handle>(
+    tree: &Growing<K, V, A>,
+    map: &BTreeMap<K, V, A>,
+    key: &K,
+) -> bool
     requires { IsExtension K.cmp tree.now.pairs (entries map.now) }
     ensures behind { IsTrue result → AllByRecursion (λ e. K.cmp e.0 key.now ≡ Less) tree.now.pairs }
     ensures open { IsTrue result → entries map.now ≡ [] }
@@ -107,8 +112,8 @@ fn is_behind<K: Ord, V>(tree: &Growing<K, V>, map: &BTreeMap<K, V>, key: &K) -> 
 
 // Puts a pair behind all others. It is not inlined, since the pairs that a leaf has room for would then pay for its locals.
 #[inline(never)]
-fn push_behind<K: Ord + Drop, V: Drop>(
-    tree: &mut Growing<K, V>,
+fn push_behind<K: Ord + Drop, V: Drop, A: Handle>(
+    tree: &mut Growing<K, V, A>,
     key: K,
     value: V,
 ) -> Result<(), TryReserveError>
@@ -131,7 +136,10 @@ fn push_behind<K: Ord + Drop, V: Drop>(
 
 // Moves the tree's pairs into the map, which has none.
 #[cold]
-fn close<K: Ord + Drop, V: Drop>(tree: &mut Growing<K, V>, map: &mut BTreeMap<K, V>)
+fn close<K: Ord + Drop, V: Drop, A: Handle>(
+    tree: &mut Growing<K, V, A>,
+    map: &mut BTreeMap<K, V, A>,
+)
     requires { IsAscending K.cmp tree.old.pairs }
     ensures pairs { entries map.new ≡ tree.old.pairs }
     ensures closed { tree.new.pairs ≡ [] }

@@ -8,11 +8,11 @@ ghost use Rattle.fc_map.specs.LendsKey.{path_in};
 ghost use Rattle.fc_map.specs.Place.{IsHeldAt, IsOpenAt, TellsRoom};
 
 use super::BTreeMap;
-use fc_base::{Count, Query};
+use fc_base::{Count, Handle, Query};
 use fc_tree_node::path::Path;
 use fc_tree_search::search::{self, NotFound};
 
-impl<K: Ord, V> BTreeMap<K, V> {
+impl<K: Ord, V, A: Handle> BTreeMap<K, V, A> {
     /// The value at an equal key, or `None` where there is none. `key` is a `Query`: `get(&key)`, or `get("word")` where the keys are
     /// `String`s. Upstream: `BTreeMap::get`.
     pub fn get<Q: Query<K>>(&self, key: Q) -> Option<&V>

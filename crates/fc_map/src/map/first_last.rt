@@ -6,11 +6,11 @@ ghost use Rattle.fc_map.specs.Entries.{entries, now_pair, IsSoundMap};
 ghost use Rattle.fc_map.specs.Fewest.{HasFewestMoves};
 
 use super::BTreeMap;
-use fc_base::Count;
+use fc_base::{Count, Handle};
 use fc_tree_removal::first_last::{take_first, take_last};
 use fc_tree_search::first_last::{first_pair, last_pair};
 
-impl<K: Ord, V> BTreeMap<K, V> {
+impl<K: Ord, V, A: Handle> BTreeMap<K, V, A> {
     /// The pair with the smallest key, or `None` where the map is empty. It compares nothing. Not in upstream:
     /// it is that of std's map.
     pub fn first_key_value(&self) -> Option<(&K, &V)>
@@ -42,7 +42,7 @@ impl<K: Ord, V> BTreeMap<K, V> {
     }
 }
 
-impl<K: Ord + Drop, V: Drop> BTreeMap<K, V> {
+impl<K: Ord + Drop, V: Drop, A: Handle> BTreeMap<K, V, A> {
     /// Takes the pair with the smallest key out and answers it. `None` where the map is empty, and it is as it was. It takes no memory.
     /// Not in upstream: it is that of std's map.
     pub fn pop_first(&mut self) -> Option<(K, V)>

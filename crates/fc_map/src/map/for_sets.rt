@@ -15,18 +15,17 @@ ghost use Rattle.fc_map.specs.Fewest.{HasFewestMoves};
 ghost use Rattle.fc_tree_retain.specs.Retained.{AskedAtKey, ExtractsBy, GivenKey, RetainsInTurn};
 
 use super::BTreeMap;
-use fc_base::{Count, Query, TryReserveError};
+use fc_base::{Count, Handle, Query, TryReserveError};
 use fc_tree_build::growing::Growing;
 use fc_tree_node::path::Path;
 use fc_tree_removal::replacement::exchange;
 use fc_tree_retain::retain;
-use std::alloc::Global;
 
 /// Takes the pair with an equal key out and answers it. `None` where there is none, and the map is as it was. It takes no memory. To
 /// the count it adds exactly the comparisons of the keys that a search from the left passes, and where there is an equal key the
 /// moves of its removal.
-pub fn take<K: Ord + Drop, V: Drop, Q: Query<K>>(
-    map: &mut BTreeMap<K, V>,
+pub fn take<K: Ord + Drop, V: Drop, Q: Query<K>, A: Handle>(
+    map: &mut BTreeMap<K, V, A>,
     key: Q,
     count: &mut Count,
 ) -> Option<(K, V)>
@@ -54,8 +53,8 @@ pub fn take<K: Ord + Drop, V: Drop, Q: Query<K>>(
 ///
 /// # Errors
 /// As `BTreeMap::try_insert`, only at a new key.
-pub fn replace<K: Ord + Drop, V: Drop>(
-    map: &mut BTreeMap<K, V>,
+pub fn replace<K: Ord + Drop, V: Drop, A: Handle>(
+    map: &mut BTreeMap<K, V, A>,
     key: K,
     value: V,
     count: &mut Count,
@@ -87,12 +86,15 @@ pub fn replace<K: Ord + Drop, V: Drop>(
 }
 
 /// Where the map takes its memory.
-pub fn allocator<K: Ord, V>(map: &BTreeMap<K, V>) -> Global {
+pub fn allocator<K: Ord, V, A: Handle>(map: &BTreeMap<K, V, A>) -> A {
     map.alloc
 }
 
 /// A map of the pairs of the tree, which ascend. It takes no memory, compares nothing and moves no pair.
-pub fn from_grown<K: Ord + Drop, V: Drop>(alloc: Global, tree: Growing<K, V>) -> BTreeMap<K, V>
+pub fn from_grown<K: Ord + Drop, V: Drop, A: Handle>(
+    alloc: A,
+    tree: Growing<K, V, A>,
+) -> BTreeMap<K, V, A>
     requires { IsAscending K.cmp tree.pairs }
     ensures pairs { entries result ≡ tree.pairs }
     ensures sound { IsSoundMap result }
@@ -105,7 +107,7 @@ pub fn from_grown<K: Ord + Drop, V: Drop>(alloc: Global, tree: Growing<K, V>) ->
     }
 }
 
-impl<K: Ord + Drop, V: Drop> BTreeMap<K, V> {
+impl<K: Ord + Drop, V: Drop, A: Handle> BTreeMap<K, V, A> {
     // Puts the pair in the place of the one with an equal key, to which the path leads, and answers that one.
     fn exchange_at(&mut self, path: &Path, pair: (K, V), count: &mut Count) -> (K, V)
         requires held { IsHeldAt K.cmp pair.0 self.old path.now }
@@ -129,7 +131,10 @@ impl<K: Ord + Drop, V: Drop> BTreeMap<K, V> {
 
 /// Calls the closure once at each key, in ascending order, and drops those keys at which it answers false, with their values. No
 /// key is compared, and no memory is taken.
-pub fn retain_keys<K: Ord + Drop, V: Drop, F: FnMut(&K) -> bool>(map: &mut BTreeMap<K, V>, f: F)
+pub fn retain_keys<K: Ord + Drop, V: Drop, F: FnMut(&K) -> bool, A: Handle>(
+    map: &mut BTreeMap<K, V, A>,
+    f: F,
+)
     requires { F.IsAlwaysCallable f }
     ensures retained { (last : F) × RetainsInTurn (AskedAtKey F.FnMut) f (entries map.old) last (entries map.new) }
     ensures ascending { IsAscending K.cmp (entries map.new) }
@@ -140,8 +145,8 @@ pub fn retain_keys<K: Ord + Drop, V: Drop, F: FnMut(&K) -> bool>(map: &mut BTree
 
 /// Calls `pick` once at each key, in ascending order, takes those keys out at which it answers true, and calls `each` with each of
 /// these at once. Their values are dropped. No key is compared, and no memory is taken.
-pub fn extract_keys_if<K: Ord + Drop, V: Drop, F: FnMut(&K) -> bool, E: FnMut(K)>(
-    map: &mut BTreeMap<K, V>,
+pub fn extract_keys_if<K: Ord + Drop, V: Drop, F: FnMut(&K) -> bool, E: FnMut(K), A: Handle>(
+    map: &mut BTreeMap<K, V, A>,
     pick: F,
     each: E,
 )

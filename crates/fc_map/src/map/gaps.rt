@@ -13,7 +13,7 @@ ghost use Rattle.fc_map.specs.Lends.{branch};
 ghost use Rattle.fc_map.specs.Writing.{starting};
 
 use super::BTreeMap;
-use fc_base::Query;
+use fc_base::{Handle, Query};
 use fc_tree_node::node::Node;
 use fc_tree_node::path::Path;
 use fc_tree_visit::leaf::{go_on, go_to_previous, pairs_after, pass_next};
@@ -22,7 +22,7 @@ use fc_tree_walk::ends::{first_gap_in, last_gap_in, range_gaps_in};
 use fc_tree_walk::gaps::{push_gap_before, steps_to_previous};
 use std::ops::Bound;
 
-impl<K: Ord, V> BTreeMap<K, V> {
+impl<K: Ord, V, A: Handle> BTreeMap<K, V, A> {
     // The gaps before all pairs and after them.
     pub(crate) fn whole_ends(&self) -> (Path, Path)
         ensures ends { AreEndsIn self.now result.0 result.1 }
@@ -159,7 +159,7 @@ impl<K: Ord, V> BTreeMap<K, V> {
         let Some(root) = &self.root else {
             unreachable!()
         };
-        let root: &Node<K, V> = root;
+        let root: &Node<K, V, A> = root;
         go_on(path, *gone);
         let (last, place, run) = pass_next(root, path);
         *gone = 0;
@@ -203,7 +203,7 @@ impl<K: Ord, V> BTreeMap<K, V> {
         let Some(root) = &self.root else {
             unreachable!()
         };
-        let root: &Node<K, V> = root;
+        let root: &Node<K, V, A> = root;
         let gap = gap.as_slice();
         let last = steps_to_previous(root, gap) - 1;
         let mut place = Path::of(&gap[..last]);

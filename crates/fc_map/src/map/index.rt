@@ -2,10 +2,10 @@
 ghost use Rattle.std.specs.Prelude.{◌≡◌, IsSome, Some};
 
 use super::BTreeMap;
-use fc_base::Query;
+use fc_base::{Handle, Query};
 use std::ops::Index;
 
-impl<K: Ord, V, Q: Query<K>> Index<Q> for BTreeMap<K, V> {
+impl<K: Ord, V, Q: Query<K>, A: Handle> Index<Q> for BTreeMap<K, V, A> {
     ghost use Rattle.fc_base.specs.Parts.{at, value_at};
     ghost use Rattle.fc_map.specs.Entries.{entries};
 

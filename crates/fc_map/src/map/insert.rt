@@ -12,13 +12,13 @@ ghost use Rattle.fc_tree_node.specs.Depth.{HasFewMoves};
 ghost use Rattle.fc_tree_node.specs.TreePlace.{before_gap_in, after_gap_in};
 
 use super::BTreeMap;
-use fc_base::{Count, TryReserveError};
+use fc_base::{Count, Handle, TryReserveError};
 use fc_tree_insertion::insertion::{first_leaf, try_insert};
 use fc_tree_insertion::leaf::insert_in_leaf;
 use fc_tree_node::path::Path;
 use std::mem;
 
-impl<K: Ord + Drop, V: Drop> BTreeMap<K, V> {
+impl<K: Ord + Drop, V: Drop, A: Handle> BTreeMap<K, V, A> {
     /// Puts the value at the key. Where an equal key is there, that key stays, its value is replaced and answered, and no memory
     /// is asked for; else the pair is new, and the answer is `Ok(None)`. Upstream: `BTreeMap::try_insert`.
     ///

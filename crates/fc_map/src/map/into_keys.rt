@@ -6,17 +6,18 @@ ghost use Rattle.fc_map.specs.Entries.{entries};
 ghost use Rattle.fc_map.specs.Walks.{keys_of};
 
 use super::{BTreeMap, IntoIter};
+use fc_base::Handle;
+use std::alloc::Global;
 use std::iter::FusedIterator;
 use std::marker::Model;
 
 /// The keys of a map by value, in ascending order, seen as the list of those that are left. A key's value is dropped as the key is given out.
 /// It compares nothing, takes no memory, and drops what is left. Not in upstream: it is that of std's map.
-#[derive(Drop)]
-pub struct IntoKeys<K, V> {
-    pairs: IntoIter<K, V>,
+pub struct IntoKeys<K, V, A: Handle = Global> {
+    pairs: IntoIter<K, V, A>,
 }
 
-impl<K, V> Model for IntoKeys<K, V> {
+impl<K, V, A: Handle> Model for IntoKeys<K, V, A> {
     ghost use Rattle.std.specs.Prelude.{List};
     ghost use Rattle.fc_map.specs.Walks.{keys_of};
 
@@ -25,7 +26,15 @@ impl<K, V> Model for IntoKeys<K, V> {
     ghost view = { λ w. keys_of w.pairs };
 }
 
-impl<K, V> IntoKeys<K, V> {
+// By hand, as `IntoIter`'s.
+impl<K: Drop, V: Drop, A: Handle> Drop for IntoKeys<K, V, A> {
+    fn drop(self) {
+        let IntoKeys { pairs } = self;
+        drop(pairs);
+    }
+}
+
+impl<K, V, A: Handle> IntoKeys<K, V, A> {
     /// The number of keys that are left.
     pub fn len(&self) -> usize
         ensures { result ≡ length self.now }
@@ -34,9 +43,9 @@ impl<K, V> IntoKeys<K, V> {
     }
 }
 
-impl<K: Ord + Drop, V: Drop> BTreeMap<K, V> {
+impl<K: Ord + Drop, V: Drop, A: Handle> BTreeMap<K, V, A> {
     /// The keys, in ascending order, with the map taken apart. The walk takes no memory. Not in upstream: it is that of std's map.
-    pub fn into_keys(self) -> IntoKeys<K, V>
+    pub fn into_keys(self) -> IntoKeys<K, V, A>
         ensures keys { result ≡ keys_of (entries self) }
         ensures ascending { IsAscending K.cmp (entries self) }
     {
@@ -46,7 +55,7 @@ impl<K: Ord + Drop, V: Drop> BTreeMap<K, V> {
     }
 }
 
-impl<K: Drop, V: Drop> Iterator for IntoKeys<K, V> {
+impl<K: Drop, V: Drop, A: Handle> Iterator for IntoKeys<K, V, A> {
     type Item = K;
 
     ghost next_gives = { YieldsFirst (λ s. s) };
@@ -68,7 +77,7 @@ impl<K: Drop, V: Drop> Iterator for IntoKeys<K, V> {
     }
 }
 
-impl<K: Drop, V: Drop> DoubleEndedIterator for IntoKeys<K, V> {
+impl<K: Drop, V: Drop, A: Handle> DoubleEndedIterator for IntoKeys<K, V, A> {
     ghost next_back_gives = { YieldsLast (λ s. s) };
 
     fn next_back(&mut self) -> Option<K> {
@@ -77,10 +86,10 @@ impl<K: Drop, V: Drop> DoubleEndedIterator for IntoKeys<K, V> {
     }
 }
 
-impl<K: Drop, V: Drop> ExactSizeIterator for IntoKeys<K, V> {
+impl<K: Drop, V: Drop, A: Handle> ExactSizeIterator for IntoKeys<K, V, A> {
     fn len(&self) -> usize {
         self.pairs.len()
     }
 }
 
-impl<K: Drop, V: Drop> FusedIterator for IntoKeys<K, V> {}
+impl<K: Drop, V: Drop, A: Handle> FusedIterator for IntoKeys<K, V, A> {}

@@ -6,17 +6,18 @@ ghost use Rattle.fc_map.specs.Entries.{entries};
 ghost use Rattle.fc_map.specs.Walks.{values_of};
 
 use super::{BTreeMap, IntoIter};
+use fc_base::Handle;
+use std::alloc::Global;
 use std::iter::FusedIterator;
 use std::marker::Model;
 
 /// The values of a map by value, in ascending order of their keys, seen as the list of those that are left. A value's key is dropped as the value is given out.
 /// It compares nothing, takes no memory, and drops what is left. Not in upstream: it is that of std's map.
-#[derive(Drop)]
-pub struct IntoValues<K, V> {
-    pairs: IntoIter<K, V>,
+pub struct IntoValues<K, V, A: Handle = Global> {
+    pairs: IntoIter<K, V, A>,
 }
 
-impl<K, V> Model for IntoValues<K, V> {
+impl<K, V, A: Handle> Model for IntoValues<K, V, A> {
     ghost use Rattle.std.specs.Prelude.{List};
     ghost use Rattle.fc_map.specs.Walks.{values_of};
 
@@ -25,7 +26,15 @@ impl<K, V> Model for IntoValues<K, V> {
     ghost view = { λ w. values_of w.pairs };
 }
 
-impl<K, V> IntoValues<K, V> {
+// By hand, as `IntoIter`'s.
+impl<K: Drop, V: Drop, A: Handle> Drop for IntoValues<K, V, A> {
+    fn drop(self) {
+        let IntoValues { pairs } = self;
+        drop(pairs);
+    }
+}
+
+impl<K, V, A: Handle> IntoValues<K, V, A> {
     /// The number of values that are left.
     pub fn len(&self) -> usize
         ensures { result ≡ length self.now }
@@ -34,9 +43,9 @@ impl<K, V> IntoValues<K, V> {
     }
 }
 
-impl<K: Ord + Drop, V: Drop> BTreeMap<K, V> {
+impl<K: Ord + Drop, V: Drop, A: Handle> BTreeMap<K, V, A> {
     /// The values, in ascending order of their keys, with the map taken apart. The walk takes no memory. Not in upstream: it is that of std's map.
-    pub fn into_values(self) -> IntoValues<K, V>
+    pub fn into_values(self) -> IntoValues<K, V, A>
         ensures values { result ≡ values_of (entries self) }
         ensures ascending { IsAscending K.cmp (entries self) }
     {
@@ -46,7 +55,7 @@ impl<K: Ord + Drop, V: Drop> BTreeMap<K, V> {
     }
 }
 
-impl<K: Drop, V: Drop> Iterator for IntoValues<K, V> {
+impl<K: Drop, V: Drop, A: Handle> Iterator for IntoValues<K, V, A> {
     type Item = V;
 
     ghost next_gives = { YieldsFirst (λ s. s) };
@@ -68,7 +77,7 @@ impl<K: Drop, V: Drop> Iterator for IntoValues<K, V> {
     }
 }
 
-impl<K: Drop, V: Drop> DoubleEndedIterator for IntoValues<K, V> {
+impl<K: Drop, V: Drop, A: Handle> DoubleEndedIterator for IntoValues<K, V, A> {
     ghost next_back_gives = { YieldsLast (λ s. s) };
 
     fn next_back(&mut self) -> Option<V> {
@@ -77,10 +86,10 @@ impl<K: Drop, V: Drop> DoubleEndedIterator for IntoValues<K, V> {
     }
 }
 
-impl<K: Drop, V: Drop> ExactSizeIterator for IntoValues<K, V> {
+impl<K: Drop, V: Drop, A: Handle> ExactSizeIterator for IntoValues<K, V, A> {
     fn len(&self) -> usize {
         self.pairs.len()
     }
 }
 
-impl<K: Drop, V: Drop> FusedIterator for IntoValues<K, V> {}
+impl<K: Drop, V: Drop, A: Handle> FusedIterator for IntoValues<K, V, A> {}

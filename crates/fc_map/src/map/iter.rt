@@ -5,11 +5,12 @@ ghost use Rattle.fc_map.specs.Entries.{entries};
 ghost use Rattle.fc_map.specs.Walks.{keys_of, values_of};
 
 use super::BTreeMap;
+use fc_base::Handle;
 pub use fc_iter::iter::{Iter, Keys, Values};
 
-impl<K: Ord, V> BTreeMap<K, V> {
+impl<K: Ord, V, A: Handle> BTreeMap<K, V, A> {
     /// A walk over all pairs, in ascending order of their keys. Upstream: `BTreeMap::iter`.
-    pub fn iter(&self) -> Iter<'_, K, V>
+    pub fn iter(&self) -> Iter<'_, K, V, A>
         ensures pairs { result ≡ entries self.now }
         ensures ascending { IsAscending K.cmp result }
     {
@@ -17,7 +18,7 @@ impl<K: Ord, V> BTreeMap<K, V> {
     }
 
     /// A walk over all keys, in ascending order. Upstream: `BTreeMap::keys`.
-    pub fn keys(&self) -> Keys<'_, K, V>
+    pub fn keys(&self) -> Keys<'_, K, V, A>
         ensures keys { result ≡ keys_of (entries self.now) }
         ensures ascending { IsAscending K.cmp (entries self.now) }
     {
@@ -25,7 +26,7 @@ impl<K: Ord, V> BTreeMap<K, V> {
     }
 
     /// A walk over all values, in ascending order of their keys. Upstream: `BTreeMap::values`.
-    pub fn values(&self) -> Values<'_, K, V>
+    pub fn values(&self) -> Values<'_, K, V, A>
         ensures values { result ≡ values_of (entries self.now) }
         ensures ascending { IsAscending K.cmp (entries self.now) }
     {
@@ -33,14 +34,14 @@ impl<K: Ord, V> BTreeMap<K, V> {
     }
 }
 
-impl<'a, K: Ord, V> IntoIterator for &'a BTreeMap<K, V> {
+impl<'a, K: Ord, V, A: Handle> IntoIterator for &'a BTreeMap<K, V, A> {
     type Item = (&'a K, &'a V);
 
-    type IntoIter = Iter<'a, K, V>;
+    type IntoIter = Iter<'a, K, V, A>;
 
     ghost into_iter_gives = { λ map walk. walk ≡ entries map.now };
 
-    fn into_iter(self) -> Iter<'a, K, V> {
+    fn into_iter(self) -> Iter<'a, K, V, A> {
         self.iter()
     }
 }

@@ -8,13 +8,15 @@ ghost use Rattle.fc_map.specs.Unique.{ends-prop, gap-prop};
 mod calls;
 
 use super::BTreeMap;
+use fc_base::Handle;
 use fc_tree_node::path::Path;
+use std::alloc::Global;
 
 /// The values that are still to be lent for writing, in ascending order of their keys. `next` lends the first of them and
 /// `next_back` the last, each once; once there is none, both answer `None` ever after. No call compares keys or takes memory.
 /// Upstream: `btree_map::IterMut`.
-pub struct IterMut<'a, K: Ord, V> {
-    pub(crate) map: &'a mut BTreeMap<K, V>,
+pub struct IterMut<'a, K: Ord, V, A: Handle = Global> {
+    pub(crate) map: &'a mut BTreeMap<K, V, A>,
     // The front lies `gone` pairs of its leaf behind where its path leads, and `base` pairs of the map lie before there. As far as
     // `full` the leaf has pairs, and the walk has not come to its end, before which `end` pairs lie: within a leaf `gone` alone changes.
     pub(crate) front: Path,
@@ -31,10 +33,10 @@ pub struct IterMut<'a, K: Ord, V> {
 }
 
 /// A walk that lends all values for writing: `IterMut` lends no key, so it is that walk. Upstream: `btree_map::ValuesMut`.
-pub type ValuesMut<'a, K, V> = IterMut<'a, K, V>;
+pub type ValuesMut<'a, K, V, A: Handle = Global> = IterMut<'a, K, V, A>;
 
 // Dropped, a walk leaves the map with what was written: a derived `drop` would not say so.
-impl<K: Ord, V> Drop for IterMut<'_, K, V> {
+impl<K: Ord, V, A: Handle> Drop for IterMut<'_, K, V, A> {
     fn drop(self)
         ensures { self.exit.0.now ≡ self.entry.map.now }
     {

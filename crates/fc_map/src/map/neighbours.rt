@@ -8,10 +8,10 @@ ghost use Rattle.fc_map.specs.Entries.{entries, now_pair, passed_in};
 ghost use Rattle.fc_tree_search.specs.Neighbours.{first_item, last_item, not_above};
 
 use super::BTreeMap;
-use fc_base::{Count, Query};
+use fc_base::{Count, Handle, Query};
 use fc_tree_search::neighbours::{first_after, first_from, last_before, last_to};
 
-impl<K: Ord, V> BTreeMap<K, V> {
+impl<K: Ord, V, A: Handle> BTreeMap<K, V, A> {
     /// The first pair whose key is not below `key`, or `None` where there is none: what Java's maps call `ceiling`. `key` is a `Query`, as in `get`. One way
     /// down the tree finds it, without a walk and with the comparisons of a look-up; nothing is taken. Its value is written by `get_mut` at the key
     /// that was found. Not in upstream: std's map has it as `range(key..).next()`, and its unstable cursors as

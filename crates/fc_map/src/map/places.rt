@@ -5,11 +5,12 @@ ghost use Rattle.fc_map.specs.Place.{IsOpenAt, TellsRoom};
 ghost use Rattle.fc_tree_node.specs.TreePlace.{IsPlaceIn, pair_in};
 
 use super::BTreeMap;
+use fc_base::Handle;
 use fc_tree_insertion::leaf::has_room;
 use fc_tree_node::path::Path;
 use fc_tree_search::lend;
 
-impl<K: Ord, V> BTreeMap<K, V> {
+impl<K: Ord, V, A: Handle> BTreeMap<K, V, A> {
     // The pair that the path leads to.
     pub(crate) fn pair_of(&self, path: &Path) -> &(K, V)
         requires { IsPlaceIn self.now path.now }

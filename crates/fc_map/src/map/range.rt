@@ -2,11 +2,11 @@
 ghost use Rattle.std.specs.Prelude.{◌≡◌, ◌≤◌, length};
 
 use super::BTreeMap;
-use fc_base::Query;
+use fc_base::{Handle, Query};
 pub use fc_iter::range::Range;
 use std::ops::Bound;
 
-impl<K: Ord, V> BTreeMap<K, V> {
+impl<K: Ord, V, A: Handle> BTreeMap<K, V, A> {
     ghost use Rattle.fc_base.specs.Ascending.{IsAscending};
     ghost use Rattle.fc_base.specs.Ranges.{bound_by, within};
     ghost use Rattle.fc_map.specs.Entries.{entries};
@@ -16,7 +16,7 @@ impl<K: Ord, V> BTreeMap<K, V> {
     /// A bound is found in one way down the tree, two in the same one until they part; an end without a bound when the walk first needs it.
     /// The steps of the walk compare no key. Bounds that are no range, within which no key can lie, make a walk that is empty: upstream
     /// panics. `is_range` is the test of them. Upstream: `BTreeMap::range`.
-    pub fn range<Q: Query<K>>(&self, bounds: (Bound<Q>, Bound<Q>)) -> Range<'_, K, V>
+    pub fn range<Q: Query<K>>(&self, bounds: (Bound<Q>, Bound<Q>)) -> Range<'_, K, V, A>
         ensures pairs { result ≡ within Q.order (bound_by Q.sought bounds.0) (bound_by Q.sought bounds.1) (entries self.now) }
         ensures fits { length result ≤ usize.MAX }
         ensures ascending { IsAscending K.cmp (entries self.now) }

@@ -7,13 +7,15 @@ ghost use Rattle.fc_map.specs.Unique.{ends-prop, gap-prop};
 mod calls;
 
 use super::BTreeMap;
+use fc_base::Handle;
 use fc_tree_node::path::Path;
+use std::alloc::Global;
 
 /// The values of a range that are still to be lent for writing, in ascending order of their keys. `next` lends the first of them
 /// and `next_back` the last, each once; once there is none, both answer `None` ever after. No call compares keys or takes memory.
 /// Upstream: `btree_map::RangeMut`.
-pub struct RangeMut<'a, K: Ord, V> {
-    pub(crate) map: &'a mut BTreeMap<K, V>,
+pub struct RangeMut<'a, K: Ord, V, A: Handle = Global> {
+    pub(crate) map: &'a mut BTreeMap<K, V, A>,
     // The front lies so many pairs of its leaf behind where its path leads, and the leaf has pairs as far as the other number.
     pub(crate) front: Path,
     pub(crate) gone: usize,
@@ -24,7 +26,7 @@ pub struct RangeMut<'a, K: Ord, V> {
 }
 
 // Dropped, a walk leaves the map with what was written: a derived `drop` would not say so.
-impl<K: Ord, V> Drop for RangeMut<'_, K, V> {
+impl<K: Ord, V, A: Handle> Drop for RangeMut<'_, K, V, A> {
     fn drop(self)
         ensures { self.exit.0.now ≡ self.entry.map.now }
     {

@@ -11,14 +11,14 @@ ghost use Rattle.fc_tree_node.specs.Depth.{HasFewMoves};
 ghost use Rattle.fc_tree_node.specs.TreePlace.{before_gap_in, after_gap_in};
 
 use super::BTreeMap;
-use fc_base::{Count, TryReserveError};
+use fc_base::{Count, Handle, TryReserveError};
 use fc_tree_insertion::new_nodes::NewNodes;
 use fc_tree_insertion::ready::{first_root, insert_ready, try_first_node, try_nodes_at};
 use fc_tree_node::path::Path;
 
-impl<K: Ord + Drop, V: Drop> BTreeMap<K, V> {
+impl<K: Ord + Drop, V: Drop, A: Handle> BTreeMap<K, V, A> {
     // Makes the nodes that an insertion into the gap takes to which the path leads. The map is only read.
-    pub(crate) fn try_nodes_at(&self, path: &Path) -> Result<NewNodes<K, V>, TryReserveError>
+    pub(crate) fn try_nodes_at(&self, path: &Path) -> Result<NewNodes<K, V, A>, TryReserveError>
         requires { (key : K) × IsOpenAt K.cmp key self.now path.now }
         ensures ok { IfOk result (λ made. AreNodesFor self.now path.now made) }
         ensures error { IfErr result (MayGrowRefuse (length (entries self.now))) }
@@ -39,7 +39,7 @@ impl<K: Ord + Drop, V: Drop> BTreeMap<K, V> {
         &mut self,
         path: &mut Path,
         pair: (K, V),
-        new_nodes: NewNodes<K, V>,
+        new_nodes: NewNodes<K, V, A>,
         count: &mut Count,
     )
         requires { IsReadyAt K.cmp pair.0 self.old path.old new_nodes }
@@ -63,7 +63,13 @@ impl<K: Ord + Drop, V: Drop> BTreeMap<K, V> {
     }
 
     // Puts the first pair into an empty map. The path, which has no step, then leads to it.
-    fn start(&mut self, path: &mut Path, pair: (K, V), new_nodes: NewNodes<K, V>, count: &mut Count)
+    fn start(
+        &mut self,
+        path: &mut Path,
+        pair: (K, V),
+        new_nodes: NewNodes<K, V, A>,
+        count: &mut Count,
+    )
         requires empty { self.old ≡ None }
         requires start { path.old ≡ [] }
         requires new_nodes { new_nodes ≡ 1 }

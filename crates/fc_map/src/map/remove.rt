@@ -11,11 +11,11 @@ ghost use Rattle.fc_map.specs.Fewest.{HasFewestMoves};
 ghost use Rattle.fc_tree_node.specs.TreePlace.{IsPlaceIn, pair_in, before_pair_in, after_pair_in};
 
 use super::BTreeMap;
-use fc_base::{Count, Query};
+use fc_base::{Count, Handle, Query};
 use fc_tree_node::path::Path;
 use fc_tree_removal::removal::remove;
 
-impl<K: Ord + Drop, V: Drop> BTreeMap<K, V> {
+impl<K: Ord + Drop, V: Drop, A: Handle> BTreeMap<K, V, A> {
     /// Takes the pair with an equal key out and answers its value; the key is dropped. `None` where there is none, and the map is
     /// as it was. It takes no memory. Upstream: `BTreeMap::remove`.
     pub fn remove<Q: Query<K>>(&mut self, key: Q) -> Option<V>

@@ -4,9 +4,10 @@ ghost use Rattle.fc_map.specs.Entries.{entries, IsSoundMap};
 ghost use Rattle.fc_tree_retain.specs.Retained.{AskedAtPair, ExtractsBy, GivenPair, RetainsInTurn};
 
 use super::BTreeMap;
+use fc_base::Handle;
 use fc_tree_retain::retain::{extract_if, retain};
 
-impl<K: Ord + Drop, V: Drop> BTreeMap<K, V> {
+impl<K: Ord + Drop, V: Drop, A: Handle> BTreeMap<K, V, A> {
     /// Calls the closure once at each pair, in ascending order of the keys, with the value lent for writing. The pairs stay at which
     /// it answers true, with the values that it left; the others are dropped. The tree is gone through once; no key is compared, and
     /// no memory is taken. Not in upstream: it is that of std's map.

@@ -10,19 +10,19 @@ ghost use Rattle.fc_map.specs.Ready.{AreNodesFor};
 ghost use Rattle.fc_map.specs.Room.{room_error};
 
 use super::BTreeMap;
-use fc_base::{Count, TryReserveError};
+use fc_base::{Count, Handle, TryReserveError};
 use fc_tree_insertion::new_nodes::NewNodes;
 pub use fc_tree_insertion::room::Room;
 use fc_tree_node::path::Path;
 
-impl<K: Ord + Drop, V: Drop> BTreeMap<K, V> {
+impl<K: Ord + Drop, V: Drop, A: Handle> BTreeMap<K, V, A> {
     /// Takes nodes enough for so many insertions of new keys, whatever the keys, so that `insert_with` can't be refused: what `reserve` is for
     /// a vector. Room of none takes no memory, and is Ok. The map is only read; the room serves any map of fewer pairs than `Room::pairs`, so this one until so many keys are put in.
     ///
     /// # Errors
     /// `CapacityOverflow` where the map's pairs and the insertions together pass `usize::MAX`, or a node for each insertion at each level of the
     /// highest tree does, and then always; else `AllocError`, where a request for memory was refused. What was taken is then given back.
-    pub fn try_room_for(&self, insertions: usize) -> Result<Room<K, V>, TryReserveError>
+    pub fn try_room_for(&self, insertions: usize) -> Result<Room<K, V, A>, TryReserveError>
         ensures places { IfOk result (λ room. room.places ≡ insertions) }
         ensures pairs { IfOk result (λ room. room.pairs ≡ length (entries self.now) + insertions) }
         ensures none { insertions ≡ 0 → IsOk result }
@@ -36,7 +36,7 @@ impl<K: Ord + Drop, V: Drop> BTreeMap<K, V> {
     /// place left (`Room::places`), and that the map has fewer pairs than it serves (`Room::pairs`). A new key uses a place up, and the answer
     /// is `None`; where an equal key is there, that key stays, no place is used, and the old value is answered. So the pairs of the map and the
     /// places that are left are together as many as before.
-    pub fn insert_with(&mut self, room: &mut Room<K, V>, key: K, value: V) -> Option<V>
+    pub fn insert_with(&mut self, room: &mut Room<K, V, A>, key: K, value: V) -> Option<V>
         requires place { 0 < room.old.places }
         requires fits { length (entries self.old) < room.old.pairs }
         ensures old { result ≡ value_at K.cmp (entries self.old) key }
@@ -54,7 +54,7 @@ impl<K: Ord + Drop, V: Drop> BTreeMap<K, V> {
     /// left passes, and for a new pair the moves of its insertion; a value replaced moves no pair.
     pub fn insert_with_counted(
         &mut self,
-        room: &mut Room<K, V>,
+        room: &mut Room<K, V, A>,
         key: K,
         value: V,
         count: &mut Count,
@@ -85,7 +85,7 @@ impl<K: Ord + Drop, V: Drop> BTreeMap<K, V> {
     }
 
     // Takes out of the room what an insertion takes at the gap that the path leads to. The map is only read.
-    fn take_nodes(&self, room: &mut Room<K, V>, path: &Path) -> NewNodes<K, V>
+    fn take_nodes(&self, room: &mut Room<K, V, A>, path: &Path) -> NewNodes<K, V, A>
         requires place { 0 < room.old.places }
         requires fits { length (entries self.now) < room.old.pairs }
         requires gap { (key : K) × IsOpenAt K.cmp key self.now path.now }

@@ -7,11 +7,11 @@ ghost use Rattle.fc_tree_border.specs.Cut.{IsCutPathIn, IsCutInTwo};
 ghost use Rattle.fc_map.specs.Entries.{entries, IsSoundMap};
 
 use super::BTreeMap;
-use fc_base::{Count, Query, TryReserveError};
+use fc_base::{Count, Handle, Query, TryReserveError};
 use fc_tree_border::cutting::try_split_counted;
 use fc_tree_node::path::Path;
 
-impl<K: Ord + Drop, V: Drop> BTreeMap<K, V> {
+impl<K: Ord + Drop, V: Drop, A: Handle> BTreeMap<K, V, A> {
     /// Takes the pairs whose keys are not smaller than the key, which is a `Query`, out into a map of their own. The pairs with
     /// smaller keys stay. An empty map asks for nothing. Upstream: `BTreeMap::split_off`, which answers the map alone.
     ///

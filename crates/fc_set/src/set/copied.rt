@@ -7,18 +7,18 @@ ghost use Rattle.fc_set.specs.Copied.{Lends, MayCopyRefuse};
 ghost use Rattle.fc_set.specs.Items.{items, AreAscending};
 
 use super::BTreeSet;
-use fc_base::{TryClone, TryReserveError};
+use fc_base::{Handle, TryClone, TryReserveError};
 use fc_map::map::for_sets;
 use fc_tree_build::growing::Growing;
-use std::alloc::Global;
 
 // A set of copies of the items that the walk lends, which ascend, and the call is told whether they are known to be at most `usize::MAX`.
 // Where they are not, a second walk counts them first.
-pub(super) fn try_copied<'a, T: Ord + TryClone + 'a, I: Iterator<Item = &'a T> + Clone + Drop>(
-    alloc: Global,
-    few: bool,
-    walk: I,
-) -> Result<BTreeSet<T>, TryReserveError>
+pub(super) fn try_copied<
+    'a,
+    T: Ord + TryClone + 'a,
+    I: Iterator<Item = &'a T> + Clone + Drop,
+    A: Handle,
+>(alloc: A, few: bool, walk: I) -> Result<BTreeSet<T, A>, TryReserveError>
     requires copies { T.can_clone }
     requires equal { (a b : T) → T.same a b → T.eq a b ≡ true }
     requires ends { I.can_next walk × IsFinite (I.remaining walk) }
@@ -54,10 +54,10 @@ fn try_count<'a, T: 'a, I: Iterator<Item = &'a T> + Drop>(walk: I) -> Result<usi
 }
 
 // A set of copies of the items that the walk lends, which ascend.
-fn try_filled<'a, T: Ord + TryClone + 'a, I: Iterator<Item = &'a T> + Drop>(
-    alloc: Global,
+fn try_filled<'a, T: Ord + TryClone + 'a, I: Iterator<Item = &'a T> + Drop, A: Handle>(
+    alloc: A,
     walk: I,
-) -> Result<BTreeSet<T>, TryReserveError>
+) -> Result<BTreeSet<T, A>, TryReserveError>
     requires copies { T.can_clone }
     requires equal { (a b : T) → T.same a b → T.eq a b ≡ true }
     requires ends { I.can_next walk × IsFinite (I.remaining walk) }

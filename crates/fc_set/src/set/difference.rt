@@ -8,7 +8,8 @@ ghost use Rattle.fc_set.specs.Sides.{Sifting, begin_sifting, sifted_past, GivesA
 
 use super::peeked::Peeked;
 use super::{BTreeSet, Iter, order_of};
-use std::alloc::AllocError;
+use fc_base::Handle;
+use std::alloc::{AllocError, Global};
 use std::iter::FusedIterator;
 use std::marker::Model;
 
@@ -16,14 +17,14 @@ use std::marker::Model;
 /// times as long it looks each item up, else it walks both. No call takes memory; once `next` answered `None`, it does so ever after.
 /// Upstream: `btree_set::Difference`.
 #[derive(Drop)]
-pub struct Difference<'a, T: Ord> {
-    ours: Iter<'a, T>,
-    other: &'a BTreeSet<T>,
+pub struct Difference<'a, T: Ord, A: Handle = Global> {
+    ours: Iter<'a, T, A>,
+    other: &'a BTreeSet<T, A>,
     // The walk over the other set. Where there is none, items are looked up in it.
-    theirs: Option<Peeked<'a, T>>,
+    theirs: Option<Peeked<'a, T, A>>,
 }
 
-impl<'a, T: Ord> Model for Difference<'a, T> {
+impl<'a, T: Ord, A: Handle> Model for Difference<'a, T, A> {
     ghost use Rattle.std.specs.Prelude.{is_none, unwrap_or};
     ghost use Rattle.fc_set.specs.Items.{items, AreAscending};
     ghost use Rattle.fc_set.specs.Sides.{Sifting};
@@ -35,13 +36,13 @@ impl<'a, T: Ord> Model for Difference<'a, T> {
     ghost invariant = { λ w. AreAscending T.cmp w.ours × AreAscending T.cmp (unwrap_or w.theirs (items w.other.now)) };
 }
 
-impl<'a, T: Ord> Clone for Difference<'a, T> {
+impl<'a, T: Ord, A: Handle> Clone for Difference<'a, T, A> {
     ghost is_clone = { λ s r. r ≡ s };
 
     ghost is_infallible = { λ _. ⊤ };
 
     /// A second walk over the items still to come, which takes no memory.
-    fn clone(&self) -> Result<Difference<'a, T>, AllocError> {
+    fn clone(&self) -> Result<Difference<'a, T, A>, AllocError> {
         let theirs = match &self.theirs {
             Some(walk) => Some(walk.clone()?),
             None => None,
@@ -54,7 +55,7 @@ impl<'a, T: Ord> Clone for Difference<'a, T> {
     }
 }
 
-impl<'a, T: Ord> Difference<'a, T> {
+impl<'a, T: Ord, A: Handle> Difference<'a, T, A> {
     /// The next item, or `None` where none is left. The trait's `next`, by which a `for` walks, is this call; here stands also what it leaves
     /// of both sides. Upstream: `Difference::next`.
     pub fn next(&mut self) -> Option<&'a T>
@@ -68,7 +69,7 @@ impl<'a, T: Ord> Difference<'a, T> {
     }
 }
 
-impl<'a, T: Ord> Iterator for Difference<'a, T> {
+impl<'a, T: Ord, A: Handle> Iterator for Difference<'a, T, A> {
     type Item = &'a T;
 
     ghost next_gives = { YieldsFirstRef (λ w. difference T.cmp w.left w.right) };
@@ -92,9 +93,9 @@ impl<'a, T: Ord> Iterator for Difference<'a, T> {
     }
 }
 
-impl<'a, T: Ord> FusedIterator for Difference<'a, T> {}
+impl<'a, T: Ord, A: Handle> FusedIterator for Difference<'a, T, A> {}
 
-impl<'a, T: Ord> Difference<'a, T> {
+impl<'a, T: Ord, A: Handle> Difference<'a, T, A> {
     // How many items the other side has: all, where items are looked up in it.
     fn len_of_other(&self) -> usize
         ensures { result ≡ length self.now.right }
@@ -107,7 +108,10 @@ impl<'a, T: Ord> Difference<'a, T> {
 }
 
 // The next item that has no equal in the walk over the other set.
-fn next_apart<'a, T: Ord>(ours: &mut Iter<'a, T>, theirs: &mut Peeked<'a, T>) -> Option<&'a T>
+fn next_apart<'a, T: Ord, A: Handle>(
+    ours: &mut Iter<'a, T, A>,
+    theirs: &mut Peeked<'a, T, A>,
+) -> Option<&'a T>
     requires ascending { AreAscending T.cmp ours.old × AreAscending T.cmp theirs.old }
     ensures gives { GivesApart T.cmp ours.old theirs.old result ours.new theirs.new }
     ensures ascending { AreAscending T.cmp ours.new × AreAscending T.cmp theirs.new }
@@ -129,7 +133,10 @@ fn next_apart<'a, T: Ord>(ours: &mut Iter<'a, T>, theirs: &mut Peeked<'a, T>) ->
 }
 
 // The next item that is not found in the other set.
-fn next_absent<'a, T: Ord>(ours: &mut Iter<'a, T>, other: &BTreeSet<T>) -> Option<&'a T>
+fn next_absent<'a, T: Ord, A: Handle>(
+    ours: &mut Iter<'a, T, A>,
+    other: &BTreeSet<T, A>,
+) -> Option<&'a T>
     requires { AreAscending T.cmp ours.old }
     ensures gives { GivesLookedUp T.cmp (difference T.cmp) ours.old (items other.now) result ours.new }
     ensures ascending { AreAscending T.cmp ours.new }
@@ -142,9 +149,9 @@ fn next_absent<'a, T: Ord>(ours: &mut Iter<'a, T>, other: &BTreeSet<T>) -> Optio
     None
 }
 
-impl<T: Ord> BTreeSet<T> {
+impl<T: Ord, A: Handle> BTreeSet<T, A> {
     /// A walk over the items of this set that have no equal in the other, in ascending order. Upstream: `BTreeSet::difference`.
-    pub fn difference<'a>(&'a self, other: &'a Self) -> Difference<'a, T>
+    pub fn difference<'a>(&'a self, other: &'a Self) -> Difference<'a, T, A>
         ensures sides { result ≡ begin_sifting (items self.now) (items other.now) }
         ensures ascending { AreAscending T.cmp (items self.now) × AreAscending T.cmp (items other.now) }
     {

@@ -6,9 +6,9 @@ ghost use Rattle.fc_map.specs.Entries.{IsSoundMap, now_value};
 ghost use Rattle.fc_set.specs.Items.{items, AreAscending};
 
 use super::{BTreeSet, lent_item};
-use fc_base::Count;
+use fc_base::{Count, Handle};
 
-impl<T: Ord> BTreeSet<T> {
+impl<T: Ord, A: Handle> BTreeSet<T, A> {
     /// The smallest item, or `None` where the set is empty. It compares nothing. Not in upstream: it is that of std's set.
     pub fn first(&self) -> Option<&T>
         ensures item { now_value result ≡ slice_get (items self.now) 0 }
@@ -26,7 +26,7 @@ impl<T: Ord> BTreeSet<T> {
     }
 }
 
-impl<T: Ord + Drop> BTreeSet<T> {
+impl<T: Ord + Drop, A: Handle> BTreeSet<T, A> {
     /// Takes the smallest item out and answers it. `None` where the set is empty, and it is as it was. It takes no memory. Not in
     /// upstream: it is that of std's set.
     pub fn pop_first(&mut self) -> Option<T>

@@ -7,7 +7,8 @@ ghost use Rattle.fc_set.specs.Operations.{common, intersection};
 ghost use Rattle.fc_set.specs.Sides.{Sifting, begin_sifting, begin_with_shorter, untaken, sifted_past, GivesCommon, GivesLookedUp};
 
 use super::{BTreeSet, Iter, order_of};
-use std::alloc::AllocError;
+use fc_base::Handle;
+use std::alloc::{AllocError, Global};
 use std::iter::FusedIterator;
 use std::marker::Model;
 
@@ -15,14 +16,14 @@ use std::marker::Model;
 /// at least sixteen times as long it looks each item up, else it walks both. No call takes memory; once `next` answered `None`, it does
 /// so ever after. Upstream: `btree_set::Intersection`.
 #[derive(Drop)]
-pub struct Intersection<'a, T: Ord> {
-    ours: Iter<'a, T>,
-    other: &'a BTreeSet<T>,
+pub struct Intersection<'a, T: Ord, A: Handle = Global> {
+    ours: Iter<'a, T, A>,
+    other: &'a BTreeSet<T, A>,
     // The walk over the other set. Where there is none, items are looked up in it.
-    theirs: Option<Iter<'a, T>>,
+    theirs: Option<Iter<'a, T, A>>,
 }
 
-impl<'a, T: Ord> Model for Intersection<'a, T> {
+impl<'a, T: Ord, A: Handle> Model for Intersection<'a, T, A> {
     ghost use Rattle.std.specs.Prelude.{is_none, unwrap_or};
     ghost use Rattle.fc_set.specs.Items.{items, AreAscending};
     ghost use Rattle.fc_set.specs.Sides.{Sifting};
@@ -34,13 +35,13 @@ impl<'a, T: Ord> Model for Intersection<'a, T> {
     ghost invariant = { λ w. AreAscending T.cmp w.ours × AreAscending T.cmp (unwrap_or w.theirs (items w.other.now)) };
 }
 
-impl<'a, T: Ord> Clone for Intersection<'a, T> {
+impl<'a, T: Ord, A: Handle> Clone for Intersection<'a, T, A> {
     ghost is_clone = { λ s r. r ≡ s };
 
     ghost is_infallible = { λ _. ⊤ };
 
     /// A second walk over the items still to come, which takes no memory.
-    fn clone(&self) -> Result<Intersection<'a, T>, AllocError> {
+    fn clone(&self) -> Result<Intersection<'a, T, A>, AllocError> {
         let theirs = match &self.theirs {
             Some(walk) => Some(walk.clone()?),
             None => None,
@@ -53,7 +54,7 @@ impl<'a, T: Ord> Clone for Intersection<'a, T> {
     }
 }
 
-impl<'a, T: Ord> Intersection<'a, T> {
+impl<'a, T: Ord, A: Handle> Intersection<'a, T, A> {
     /// The next item, or `None` where none is left. The trait's `next`, by which a `for` walks, is this call; here stands also what it leaves
     /// of both sides. Upstream: `Intersection::next`.
     pub fn next(&mut self) -> Option<&'a T>
@@ -68,7 +69,7 @@ impl<'a, T: Ord> Intersection<'a, T> {
     }
 }
 
-impl<'a, T: Ord> Iterator for Intersection<'a, T> {
+impl<'a, T: Ord, A: Handle> Iterator for Intersection<'a, T, A> {
     type Item = &'a T;
 
     ghost next_gives = { YieldsFirstRef (λ w. common T.cmp w.left w.right) };
@@ -89,10 +90,13 @@ impl<'a, T: Ord> Iterator for Intersection<'a, T> {
     }
 }
 
-impl<'a, T: Ord> FusedIterator for Intersection<'a, T> {}
+impl<'a, T: Ord, A: Handle> FusedIterator for Intersection<'a, T, A> {}
 
 // The next item that has an equal in the walk over the other set.
-fn next_common<'a, T: Ord>(ours: &mut Iter<'a, T>, theirs: &mut Iter<'a, T>) -> Option<&'a T>
+fn next_common<'a, T: Ord, A: Handle>(
+    ours: &mut Iter<'a, T, A>,
+    theirs: &mut Iter<'a, T, A>,
+) -> Option<&'a T>
     requires ascending { AreAscending T.cmp ours.old × AreAscending T.cmp theirs.old }
     ensures gives { GivesCommon T.cmp ours.old theirs.old result ours.new theirs.new }
     ensures ascending { AreAscending T.cmp ours.new × AreAscending T.cmp theirs.new }
@@ -113,7 +117,10 @@ fn next_common<'a, T: Ord>(ours: &mut Iter<'a, T>, theirs: &mut Iter<'a, T>) -> 
 }
 
 // The next item that is found in the other set.
-fn next_found<'a, T: Ord>(ours: &mut Iter<'a, T>, other: &BTreeSet<T>) -> Option<&'a T>
+fn next_found<'a, T: Ord, A: Handle>(
+    ours: &mut Iter<'a, T, A>,
+    other: &BTreeSet<T, A>,
+) -> Option<&'a T>
     requires { AreAscending T.cmp ours.old }
     ensures gives { GivesLookedUp T.cmp (common T.cmp) ours.old (items other.now) result ours.new }
     ensures ascending { AreAscending T.cmp ours.new }
@@ -126,10 +133,10 @@ fn next_found<'a, T: Ord>(ours: &mut Iter<'a, T>, other: &BTreeSet<T>) -> Option
     None
 }
 
-impl<T: Ord> BTreeSet<T> {
+impl<T: Ord, A: Handle> BTreeSet<T, A> {
     /// A walk over the items that both sets have, in ascending order: those of the shorter set, and of this one where both are as
     /// long. Upstream: `BTreeSet::intersection`.
-    pub fn intersection<'a>(&'a self, other: &'a Self) -> Intersection<'a, T>
+    pub fn intersection<'a>(&'a self, other: &'a Self) -> Intersection<'a, T, A>
         ensures sides { result ≡ begin_with_shorter (items self.now) (items other.now) }
         ensures all { common T.cmp result.left result.right ≡ intersection T.cmp (items self.now) (items other.now) }
         ensures ascending { AreAscending T.cmp (items self.now) × AreAscending T.cmp (items other.now) }
@@ -143,7 +150,10 @@ impl<T: Ord> BTreeSet<T> {
 }
 
 // The items of the first set that have an equal in the second, which is no shorter.
-fn in_longer<'a, T: Ord>(shorter: &'a BTreeSet<T>, longer: &'a BTreeSet<T>) -> Intersection<'a, T>
+fn in_longer<'a, T: Ord, A: Handle>(
+    shorter: &'a BTreeSet<T, A>,
+    longer: &'a BTreeSet<T, A>,
+) -> Intersection<'a, T, A>
     ensures { result ≡ begin_sifting (items shorter.now) (items longer.now) }
 {
     // A sixteenth, by number: it is no size of a node.

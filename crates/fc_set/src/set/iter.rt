@@ -9,9 +9,9 @@ ghost use Rattle.fc_set.specs.Items.{items, AreAscending, items_within};
 mod debug;
 
 use super::BTreeSet;
-use fc_base::Query;
+use fc_base::{Handle, Query};
 use fc_map::map;
-use std::alloc::AllocError;
+use std::alloc::{AllocError, Global};
 use std::iter::FusedIterator;
 use std::marker::Model;
 use std::ops::Bound;
@@ -19,11 +19,11 @@ use std::ops::Bound;
 /// The items that are still to come, in ascending order. `next` gives the first of them and `next_back` the last; once there is none,
 /// both answer `None` ever after. No call compares items or takes memory. Upstream: `btree_set::Iter`.
 #[derive(Drop)]
-pub struct Iter<'a, T> {
-    keys: map::Keys<'a, T, ()>,
+pub struct Iter<'a, T, A: Handle = Global> {
+    keys: map::Keys<'a, T, (), A>,
 }
 
-impl<'a, T> Model for Iter<'a, T> {
+impl<'a, T, A: Handle> Model for Iter<'a, T, A> {
     ghost use Rattle.std.specs.Prelude.{List};
 
     ghost Value = { List T };
@@ -31,7 +31,7 @@ impl<'a, T> Model for Iter<'a, T> {
     ghost view = { λ w. w.keys };
 }
 
-impl<'a, T> Iter<'a, T> {
+impl<'a, T, A: Handle> Iter<'a, T, A> {
     /// The number of items still to come. Upstream: `Iter::len`.
     pub fn len(&self) -> usize
         ensures { result ≡ length self.now }
@@ -40,20 +40,20 @@ impl<'a, T> Iter<'a, T> {
     }
 }
 
-impl<'a, T> Clone for Iter<'a, T> {
+impl<'a, T, A: Handle> Clone for Iter<'a, T, A> {
     ghost is_clone = { λ s r. r ≡ s };
 
     ghost is_infallible = { λ _. ⊤ };
 
     /// A second walk over the items still to come, which takes no memory.
-    fn clone(&self) -> Result<Iter<'a, T>, AllocError> {
+    fn clone(&self) -> Result<Iter<'a, T, A>, AllocError> {
         Ok(Iter {
             keys: self.keys.clone()?,
         })
     }
 }
 
-impl<'a, T> Iterator for Iter<'a, T> {
+impl<'a, T, A: Handle> Iterator for Iter<'a, T, A> {
     type Item = &'a T;
 
     ghost next_gives = { YieldsFirstRef (λ s. s) };
@@ -74,7 +74,7 @@ impl<'a, T> Iterator for Iter<'a, T> {
     }
 }
 
-impl<'a, T> DoubleEndedIterator for Iter<'a, T> {
+impl<'a, T, A: Handle> DoubleEndedIterator for Iter<'a, T, A> {
     ghost next_back_gives = { YieldsLastRef (λ s. s) };
 
     fn next_back(&mut self) -> Option<&'a T> {
@@ -82,22 +82,21 @@ impl<'a, T> DoubleEndedIterator for Iter<'a, T> {
     }
 }
 
-impl<'a, T> ExactSizeIterator for Iter<'a, T> {
+impl<'a, T, A: Handle> ExactSizeIterator for Iter<'a, T, A> {
     fn len(&self) -> usize {
         self.keys.len()
     }
 }
 
-impl<'a, T> FusedIterator for Iter<'a, T> {}
+impl<'a, T, A: Handle> FusedIterator for Iter<'a, T, A> {}
 
 /// The items of a set by value, seen as the list of those that are left. It compares nothing, takes no memory, and drops what is left.
 /// Upstream: `btree_set::IntoIter`.
-#[derive(Drop)]
-pub struct IntoIter<T> {
-    pairs: map::IntoIter<T, ()>,
+pub struct IntoIter<T, A: Handle = Global> {
+    pairs: map::IntoIter<T, (), A>,
 }
 
-impl<T> Model for IntoIter<T> {
+impl<T, A: Handle> Model for IntoIter<T, A> {
     ghost use Rattle.std.specs.Prelude.{List, map};
 
     ghost Value = { List T };
@@ -105,7 +104,15 @@ impl<T> Model for IntoIter<T> {
     ghost view = { λ w. map (λ e. e.0) w.pairs };
 }
 
-impl<T> IntoIter<T> {
+// By hand, as that of a map's walk.
+impl<T: Drop, A: Handle> Drop for IntoIter<T, A> {
+    fn drop(self) {
+        let IntoIter { pairs } = self;
+        drop(pairs);
+    }
+}
+
+impl<T, A: Handle> IntoIter<T, A> {
     /// The number of items that are left. Upstream: `IntoIter::len`.
     pub fn len(&self) -> usize
         ensures { result ≡ length self.now }
@@ -114,7 +121,7 @@ impl<T> IntoIter<T> {
     }
 }
 
-impl<T: Drop> Iterator for IntoIter<T> {
+impl<T: Drop, A: Handle> Iterator for IntoIter<T, A> {
     type Item = T;
 
     ghost next_gives = { YieldsFirst (λ s. s) };
@@ -135,7 +142,7 @@ impl<T: Drop> Iterator for IntoIter<T> {
     }
 }
 
-impl<T: Drop> DoubleEndedIterator for IntoIter<T> {
+impl<T: Drop, A: Handle> DoubleEndedIterator for IntoIter<T, A> {
     ghost next_back_gives = { YieldsLast (λ s. s) };
 
     fn next_back(&mut self) -> Option<T> {
@@ -144,22 +151,22 @@ impl<T: Drop> DoubleEndedIterator for IntoIter<T> {
     }
 }
 
-impl<T: Drop> ExactSizeIterator for IntoIter<T> {
+impl<T: Drop, A: Handle> ExactSizeIterator for IntoIter<T, A> {
     fn len(&self) -> usize {
         self.pairs.len()
     }
 }
 
-impl<T: Drop> FusedIterator for IntoIter<T> {}
+impl<T: Drop, A: Handle> FusedIterator for IntoIter<T, A> {}
 
 /// The items of a range that are still to come, in ascending order. `next` gives the first of them and `next_back` the last; once
 /// there is none, both answer `None` ever after. No call compares items or takes memory. Upstream: `btree_set::Range`.
 #[derive(Drop)]
-pub struct Range<'a, T> {
-    pairs: map::Range<'a, T, ()>,
+pub struct Range<'a, T, A: Handle = Global> {
+    pairs: map::Range<'a, T, (), A>,
 }
 
-impl<'a, T> Model for Range<'a, T> {
+impl<'a, T, A: Handle> Model for Range<'a, T, A> {
     ghost use Rattle.std.specs.Prelude.{List, map};
 
     ghost Value = { List T };
@@ -167,20 +174,20 @@ impl<'a, T> Model for Range<'a, T> {
     ghost view = { λ w. map (λ e. e.0) w.pairs };
 }
 
-impl<'a, T> Clone for Range<'a, T> {
+impl<'a, T, A: Handle> Clone for Range<'a, T, A> {
     ghost is_clone = { λ s r. r ≡ s };
 
     ghost is_infallible = { λ _. ⊤ };
 
     /// A second walk over the items still to come, which takes no memory.
-    fn clone(&self) -> Result<Range<'a, T>, AllocError> {
+    fn clone(&self) -> Result<Range<'a, T, A>, AllocError> {
         Ok(Range {
             pairs: self.pairs.clone()?,
         })
     }
 }
 
-impl<'a, T> Iterator for Range<'a, T> {
+impl<'a, T, A: Handle> Iterator for Range<'a, T, A> {
     type Item = &'a T;
 
     ghost next_gives = { YieldsFirstRef (λ s. s) };
@@ -202,7 +209,7 @@ impl<'a, T> Iterator for Range<'a, T> {
     }
 }
 
-impl<'a, T> DoubleEndedIterator for Range<'a, T> {
+impl<'a, T, A: Handle> DoubleEndedIterator for Range<'a, T, A> {
     ghost next_back_gives = { YieldsLastRef (λ s. s) };
 
     fn next_back(&mut self) -> Option<&'a T> {
@@ -211,11 +218,11 @@ impl<'a, T> DoubleEndedIterator for Range<'a, T> {
     }
 }
 
-impl<'a, T> FusedIterator for Range<'a, T> {}
+impl<'a, T, A: Handle> FusedIterator for Range<'a, T, A> {}
 
-impl<T: Ord> BTreeSet<T> {
+impl<T: Ord, A: Handle> BTreeSet<T, A> {
     /// A walk over all items, in ascending order. Upstream: `BTreeSet::iter`.
-    pub fn iter(&self) -> Iter<'_, T>
+    pub fn iter(&self) -> Iter<'_, T, A>
         ensures items { result ≡ items self.now }
         ensures ascending { AreAscending T.cmp result }
     {
@@ -228,7 +235,7 @@ impl<T: Ord> BTreeSet<T> {
     /// one way down the tree, two in the same one until they part; an end without a bound when the walk first needs it. The steps of the
     /// walk compare no item. Bounds that are no range, within which no item can lie, make a walk that is empty: upstream panics. `is_range`
     /// is the test of them. Upstream: `BTreeSet::range`.
-    pub fn range<Q: Query<T>>(&self, bounds: (Bound<Q>, Bound<Q>)) -> Range<'_, T>
+    pub fn range<Q: Query<T>>(&self, bounds: (Bound<Q>, Bound<Q>)) -> Range<'_, T, A>
         ensures items { result ≡ items_within Q.order (bound_by Q.sought bounds.0) (bound_by Q.sought bounds.1) (items self.now) }
         ensures fits { length result ≤ usize.MAX }
         ensures ascending { AreAscending T.cmp (items self.now) }
@@ -239,29 +246,29 @@ impl<T: Ord> BTreeSet<T> {
     }
 }
 
-impl<'a, T: Ord> IntoIterator for &'a BTreeSet<T> {
+impl<'a, T: Ord, A: Handle> IntoIterator for &'a BTreeSet<T, A> {
     type Item = &'a T;
 
-    type IntoIter = Iter<'a, T>;
+    type IntoIter = Iter<'a, T, A>;
 
     ghost into_iter_gives = { λ set walk. walk ≡ items set.now };
 
-    fn into_iter(self) -> Iter<'a, T> {
+    fn into_iter(self) -> Iter<'a, T, A> {
         self.iter()
     }
 }
 
 /// The items in ascending order. The walk takes no memory. Upstream: `BTreeSet::into_iter`.
-impl<T: Ord + Drop> IntoIterator for BTreeSet<T> {
+impl<T: Ord + Drop, A: Handle> IntoIterator for BTreeSet<T, A> {
     type Item = T;
 
-    type IntoIter = IntoIter<T>;
+    type IntoIter = IntoIter<T, A>;
 
     ghost into_iter_gives = { λ set walk. (walk ≡ items set) × (length walk < 2 ^ 64) × AreAscending T.cmp walk
         × YieldsInOrder (YieldsFirst {A = T} (λ s. s)) (λ s. s)
         × YieldsInReverse (YieldsLast {A = T} (λ s. s)) (λ s. s) };
 
-    fn into_iter(self) -> IntoIter<T> {
+    fn into_iter(self) -> IntoIter<T, A> {
         let BTreeSet { map } = self;
         IntoIter {
             pairs: map.into_iter(),

@@ -5,16 +5,17 @@ ghost use Rattle.fc_set.specs.Sides.{AreFirsts};
 
 use super::peeked::Peeked;
 use super::{Iter, order_of};
-use std::alloc::AllocError;
+use fc_base::Handle;
+use std::alloc::{AllocError, Global};
 use std::marker::Model;
 
 #[derive(Drop)]
-pub(crate) struct Merge<'a, T: Ord> {
-    ours: Peeked<'a, T>,
-    theirs: Peeked<'a, T>,
+pub(crate) struct Merge<'a, T: Ord, A: Handle = Global> {
+    ours: Peeked<'a, T, A>,
+    theirs: Peeked<'a, T, A>,
 }
 
-impl<'a, T: Ord> Model for Merge<'a, T> {
+impl<'a, T: Ord, A: Handle> Model for Merge<'a, T, A> {
     ghost use Rattle.fc_set.specs.Items.{AreAscending};
     ghost use Rattle.fc_set.specs.Sides.{Sides};
 
@@ -25,8 +26,8 @@ impl<'a, T: Ord> Model for Merge<'a, T> {
     ghost invariant = { λ w. AreAscending T.cmp w.ours × AreAscending T.cmp w.theirs };
 }
 
-impl<'a, T: Ord> Merge<'a, T> {
-    pub(crate) fn of(ours: Iter<'a, T>, theirs: Iter<'a, T>) -> Merge<'a, T>
+impl<'a, T: Ord, A: Handle> Merge<'a, T, A> {
+    pub(crate) fn of(ours: Iter<'a, T, A>, theirs: Iter<'a, T, A>) -> Merge<'a, T, A>
         requires { AreAscending T.cmp ours × AreAscending T.cmp theirs }
         ensures { result ≡ record { left = ours.entry; right = theirs.entry } }
     {
@@ -76,12 +77,12 @@ impl<'a, T: Ord> Merge<'a, T> {
     }
 }
 
-impl<'a, T: Ord> Clone for Merge<'a, T> {
+impl<'a, T: Ord, A: Handle> Clone for Merge<'a, T, A> {
     ghost is_clone = { λ s r. r ≡ s };
 
     ghost is_infallible = { λ _. ⊤ };
 
-    fn clone(&self) -> Result<Merge<'a, T>, AllocError> {
+    fn clone(&self) -> Result<Merge<'a, T, A>, AllocError> {
         Ok(Merge {
             ours: self.ours.clone()?,
             theirs: self.theirs.clone()?,

@@ -7,9 +7,9 @@ ghost use Rattle.fc_set.specs.Items.{items, smaller, greater, not_smaller, AreAs
 ghost use Rattle.fc_set.specs.Neighbours.{not_greater};
 
 use super::{BTreeSet, lent_item};
-use fc_base::{Count, Query};
+use fc_base::{Count, Handle, Query};
 
-impl<T: Ord> BTreeSet<T> {
+impl<T: Ord, A: Handle> BTreeSet<T, A> {
     /// The first item that is not smaller than this one, or `None` where there is none: what Java's sets call `ceiling`. `item` is a `Query`, as in `get`. One
     /// way down the tree finds it, without a walk and with the comparisons of a look-up; nothing is taken. Not in upstream: std's set has it as
     /// `range(item..).next()`, and its unstable cursors as `lower_bound(Bound::Included(&item)).peek_next()`.

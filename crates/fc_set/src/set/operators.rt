@@ -8,19 +8,19 @@ ghost use Rattle.fc_set.specs.Operations.{difference, symmetric_difference, inte
 
 use super::BTreeSet;
 use super::copied::try_copied;
-use fc_base::{TryClone, TryReserveError};
+use fc_base::{Handle, TryClone, TryReserveError};
 use fc_map::map::for_sets;
 
 // The copies are made by the items' own `try_clone` and have to be equal to them, so that they ascend as the items do. The new set takes
 // its memory where this one does.
-impl<T: Ord + TryClone> BTreeSet<T> {
+impl<T: Ord + TryClone, A: Handle> BTreeSet<T, A> {
     /// A set of copies of the items of this set that have no equal in the other. Both sets stay as they are. Upstream: the operator `-`,
     /// which answers the set alone.
     ///
     /// # Errors
     /// Only where there is such an item: `AllocError` where a request for memory was refused, or the error of an item's own copy. What was
     /// made by then is dropped.
-    pub fn sub(&self, other: &Self) -> Result<BTreeSet<T>, TryReserveError>
+    pub fn sub(&self, other: &Self) -> Result<BTreeSet<T, A>, TryReserveError>
         requires copies { T.can_clone }
         requires equal { (a b : T) → T.same a b → T.eq a b ≡ true }
         ensures copied { IfOk result (λ made. AllZip T.same (difference T.cmp (items self.now) (items other.now)) (items made)) }
@@ -39,7 +39,7 @@ impl<T: Ord + TryClone> BTreeSet<T> {
     /// # Errors
     /// Only where there is such an item: `CapacityOverflow` where they are more than `usize::MAX`, and then always; else `AllocError`, where
     /// a request for memory was refused, or the error of an item's own copy. What was made by then is dropped.
-    pub fn bitxor(&self, other: &Self) -> Result<BTreeSet<T>, TryReserveError>
+    pub fn bitxor(&self, other: &Self) -> Result<BTreeSet<T, A>, TryReserveError>
         requires copies { T.can_clone }
         requires equal { (a b : T) → T.same a b → T.eq a b ≡ true }
         ensures copied { IfOk result (λ made. AllZip T.same (symmetric_difference T.cmp (items self.now) (items other.now)) (items made)) }
@@ -60,7 +60,7 @@ impl<T: Ord + TryClone> BTreeSet<T> {
     ///
     /// # Errors
     /// As `sub`.
-    pub fn bitand(&self, other: &Self) -> Result<BTreeSet<T>, TryReserveError>
+    pub fn bitand(&self, other: &Self) -> Result<BTreeSet<T, A>, TryReserveError>
         requires copies { T.can_clone }
         requires equal { (a b : T) → T.same a b → T.eq a b ≡ true }
         ensures copied { IfOk result (λ made. AllZip T.same (intersection T.cmp (items self.now) (items other.now)) (items made)) }
@@ -82,7 +82,7 @@ impl<T: Ord + TryClone> BTreeSet<T> {
     ///
     /// # Errors
     /// As `bitxor`.
-    pub fn bitor(&self, other: &Self) -> Result<BTreeSet<T>, TryReserveError>
+    pub fn bitor(&self, other: &Self) -> Result<BTreeSet<T, A>, TryReserveError>
         requires copies { T.can_clone }
         requires equal { (a b : T) → T.same a b → T.eq a b ≡ true }
         ensures copied { IfOk result (λ made. AllZip T.same (union T.cmp (items self.now) (items other.now)) (items made)) }
@@ -100,7 +100,7 @@ impl<T: Ord + TryClone> BTreeSet<T> {
 }
 
 // Whether both sets together have at most `usize::MAX` items.
-fn fit_together<T: Ord>(one: &BTreeSet<T>, other: &BTreeSet<T>) -> bool
+fn fit_together<T: Ord, A: Handle>(one: &BTreeSet<T, A>, other: &BTreeSet<T, A>) -> bool
     ensures { result ≡ true ↔ (length (items one.now) + length (items other.now) ≤ usize.MAX) }
 {
     one.len().checked_add(other.len()).is_some()

@@ -2,17 +2,18 @@
 ghost use Rattle.std.specs.Prelude.{◌≡◌, ⊤, ◌∷◌, [], drop, length, MatchOption};
 
 use super::Iter;
-use std::alloc::AllocError;
+use fc_base::Handle;
+use std::alloc::{AllocError, Global};
 use std::marker::Model;
 
 // The items still to come of a walk, of which the first was taken from it and not yet given.
 #[derive(Drop)]
-pub(crate) struct Peeked<'a, T> {
+pub(crate) struct Peeked<'a, T, A: Handle = Global> {
     first: Option<&'a T>,
-    rest: Iter<'a, T>,
+    rest: Iter<'a, T, A>,
 }
 
-impl<'a, T> Model for Peeked<'a, T> {
+impl<'a, T, A: Handle> Model for Peeked<'a, T, A> {
     ghost use Rattle.std.specs.Prelude.{◌≡◌, ◌<◌, ◌+◌, ◌^◌, ◌++◌, List, [], IfNone, length, option_copied, option_to_list};
 
     ghost Value = { List T };
@@ -22,8 +23,8 @@ impl<'a, T> Model for Peeked<'a, T> {
     ghost invariant = { λ w. IfNone w.first (w.rest ≡ []) × (length w.rest + 1 < 2 ^ 64) };
 }
 
-impl<'a, T> Peeked<'a, T> {
-    pub(crate) fn of(walk: Iter<'a, T>) -> Peeked<'a, T>
+impl<'a, T, A: Handle> Peeked<'a, T, A> {
+    pub(crate) fn of(walk: Iter<'a, T, A>) -> Peeked<'a, T, A>
         ensures { result ≡ walk.entry }
     {
         let mut rest = walk;
@@ -57,12 +58,12 @@ impl<'a, T> Peeked<'a, T> {
     }
 }
 
-impl<'a, T> Clone for Peeked<'a, T> {
+impl<'a, T, A: Handle> Clone for Peeked<'a, T, A> {
     ghost is_clone = { λ s r. r ≡ s };
 
     ghost is_infallible = { λ _. ⊤ };
 
-    fn clone(&self) -> Result<Peeked<'a, T>, AllocError> {
+    fn clone(&self) -> Result<Peeked<'a, T, A>, AllocError> {
         Ok(Peeked {
             first: self.first,
             rest: self.rest.clone()?,

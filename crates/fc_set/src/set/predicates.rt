@@ -4,8 +4,9 @@ ghost use Rattle.fc_set.specs.Items.{items};
 ghost use Rattle.fc_set.specs.Operations.{difference, intersection};
 
 use super::BTreeSet;
+use fc_base::Handle;
 
-impl<T: Ord> BTreeSet<T> {
+impl<T: Ord, A: Handle> BTreeSet<T, A> {
     /// Whether no item of this set has an equal in the other: exactly where `intersection` gives nothing. Upstream:
     /// `BTreeSet::is_disjoint`.
     pub fn is_disjoint(&self, other: &Self) -> bool

@@ -5,9 +5,10 @@ ghost use Rattle.fc_set.specs.Items.{items, AreAscending};
 ghost use Rattle.fc_set.specs.Retained.{ExtractsItem, GivenItem, RetainsItems};
 
 use super::BTreeSet;
+use fc_base::Handle;
 use fc_map::map::for_sets;
 
-impl<T: Ord + Drop> BTreeSet<T> {
+impl<T: Ord + Drop, A: Handle> BTreeSet<T, A> {
     /// Calls the closure once at each item, in ascending order, and drops those at which it answers false. The tree is gone through
     /// once; nothing is compared, and no memory is taken. Not in upstream: it is that of std's set.
     pub fn retain<F: FnMut(&T) -> bool>(&mut self, f: F)

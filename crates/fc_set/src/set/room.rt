@@ -6,16 +6,16 @@ ghost use Rattle.fc_map.specs.Room.{room_error};
 ghost use Rattle.fc_set.specs.Items.{items, item_at, AreAscending, with_item};
 
 use super::BTreeSet;
-use fc_base::{Count, TryReserveError};
+use fc_base::{Count, Handle, TryReserveError};
 use fc_map::map::Room;
 
-impl<T: Ord + Drop> BTreeSet<T> {
+impl<T: Ord + Drop, A: Handle> BTreeSet<T, A> {
     /// Takes the nodes that so many insertions of new items can need, whatever the items, so that `insert_with` can't be refused: what
     /// `reserve` is for a vector. Room of none takes no memory, and is Ok. The set is only read, and need not be the one that the room is used for.
     ///
     /// # Errors
     /// As `BTreeMap::try_room_for`. What was taken is then given back.
-    pub fn try_room_for(&self, insertions: usize) -> Result<Room<T, ()>, TryReserveError>
+    pub fn try_room_for(&self, insertions: usize) -> Result<Room<T, (), A>, TryReserveError>
         ensures places { IfOk result (λ room. room.places ≡ insertions) }
         ensures pairs { IfOk result (λ room. room.pairs ≡ length (items self.now) + insertions) }
         ensures none { insertions ≡ 0 → IsOk result }
@@ -27,7 +27,7 @@ impl<T: Ord + Drop> BTreeSet<T> {
 
     /// Puts the item into the set, as `try_insert`, with no memory but the room's, and so without a refusal: true where it is new, which uses
     /// one place up. It asks for a place in the room (`Room::places`) and for fewer items than the pairs that the room serves (`Room::pairs`).
-    pub fn insert_with(&mut self, room: &mut Room<T, ()>, item: T) -> bool
+    pub fn insert_with(&mut self, room: &mut Room<T, (), A>, item: T) -> bool
         requires place { 0 < room.old.places }
         requires fits { length (items self.old) < room.old.pairs }
         ensures new { IsTrue result ↔ (item_at T.cmp (items self.old) item ≡ None) }
@@ -44,7 +44,7 @@ impl<T: Ord + Drop> BTreeSet<T> {
     /// `insert_with`, with its comparisons and moves added to the count, as those of `try_insert_counted`.
     pub fn insert_with_counted(
         &mut self,
-        room: &mut Room<T, ()>,
+        room: &mut Room<T, (), A>,
         item: T,
         count: &mut Count,
     ) -> bool

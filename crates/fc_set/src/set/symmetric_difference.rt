@@ -8,7 +8,8 @@ ghost use Rattle.fc_set.specs.Sides.{Sides, past_item, sum_of_lengths};
 
 use super::BTreeSet;
 use super::merge::Merge;
-use std::alloc::AllocError;
+use fc_base::Handle;
+use std::alloc::{AllocError, Global};
 use std::iter::FusedIterator;
 use std::marker::Model;
 
@@ -16,11 +17,11 @@ use std::marker::Model;
 /// of equal items that it passes, and at most one more. No call takes memory; once `next` answered `None`, it does so ever after.
 /// Upstream: `btree_set::SymmetricDifference`.
 #[derive(Drop)]
-pub struct SymmetricDifference<'a, T: Ord> {
-    sides: Merge<'a, T>,
+pub struct SymmetricDifference<'a, T: Ord, A: Handle = Global> {
+    sides: Merge<'a, T, A>,
 }
 
-impl<'a, T: Ord> Model for SymmetricDifference<'a, T> {
+impl<'a, T: Ord, A: Handle> Model for SymmetricDifference<'a, T, A> {
     ghost use Rattle.fc_set.specs.Sides.{Sides};
 
     ghost Value = { Sides T };
@@ -28,20 +29,20 @@ impl<'a, T: Ord> Model for SymmetricDifference<'a, T> {
     ghost view = { λ w. w.sides };
 }
 
-impl<'a, T: Ord> Clone for SymmetricDifference<'a, T> {
+impl<'a, T: Ord, A: Handle> Clone for SymmetricDifference<'a, T, A> {
     ghost is_clone = { λ s r. r ≡ s };
 
     ghost is_infallible = { λ _. ⊤ };
 
     /// A second walk over the items still to come, which takes no memory.
-    fn clone(&self) -> Result<SymmetricDifference<'a, T>, AllocError> {
+    fn clone(&self) -> Result<SymmetricDifference<'a, T, A>, AllocError> {
         Ok(SymmetricDifference {
             sides: self.sides.clone()?,
         })
     }
 }
 
-impl<'a, T: Ord> SymmetricDifference<'a, T> {
+impl<'a, T: Ord, A: Handle> SymmetricDifference<'a, T, A> {
     /// The next item, or `None` where none is left. The trait's `next`, by which a `for` walks, is this call; here stands also what it leaves
     /// of both sides. Upstream: `SymmetricDifference::next`.
     pub fn next(&mut self) -> Option<&'a T>
@@ -60,7 +61,7 @@ impl<'a, T: Ord> SymmetricDifference<'a, T> {
     }
 }
 
-impl<'a, T: Ord> Iterator for SymmetricDifference<'a, T> {
+impl<'a, T: Ord, A: Handle> Iterator for SymmetricDifference<'a, T, A> {
     type Item = &'a T;
 
     ghost next_gives = { YieldsFirstRef (λ w. symmetric_difference T.cmp w.left w.right) };
@@ -82,12 +83,12 @@ impl<'a, T: Ord> Iterator for SymmetricDifference<'a, T> {
     }
 }
 
-impl<'a, T: Ord> FusedIterator for SymmetricDifference<'a, T> {}
+impl<'a, T: Ord, A: Handle> FusedIterator for SymmetricDifference<'a, T, A> {}
 
-impl<T: Ord> BTreeSet<T> {
+impl<T: Ord, A: Handle> BTreeSet<T, A> {
     /// A walk over the items that are in just one of both sets, in ascending order. Upstream:
     /// `BTreeSet::symmetric_difference`.
-    pub fn symmetric_difference<'a>(&'a self, other: &'a Self) -> SymmetricDifference<'a, T>
+    pub fn symmetric_difference<'a>(&'a self, other: &'a Self) -> SymmetricDifference<'a, T, A>
         ensures sides { result ≡ record { left = items self.now; right = items other.now } }
         ensures ascending { AreAscending T.cmp (items self.now) × AreAscending T.cmp (items other.now) }
     {

@@ -8,7 +8,8 @@ ghost use Rattle.fc_set.specs.Sides.{Sides, past_item, sum_of_lengths};
 
 use super::BTreeSet;
 use super::merge::Merge;
-use std::alloc::AllocError;
+use fc_base::Handle;
+use std::alloc::{AllocError, Global};
 use std::iter::FusedIterator;
 use std::marker::Model;
 
@@ -16,11 +17,11 @@ use std::marker::Model;
 /// makes at most one comparison, and no call takes memory; once `next` answered `None`, it does so ever after. Upstream:
 /// `btree_set::Union`.
 #[derive(Drop)]
-pub struct Union<'a, T: Ord> {
-    sides: Merge<'a, T>,
+pub struct Union<'a, T: Ord, A: Handle = Global> {
+    sides: Merge<'a, T, A>,
 }
 
-impl<'a, T: Ord> Model for Union<'a, T> {
+impl<'a, T: Ord, A: Handle> Model for Union<'a, T, A> {
     ghost use Rattle.fc_set.specs.Sides.{Sides};
 
     ghost Value = { Sides T };
@@ -28,20 +29,20 @@ impl<'a, T: Ord> Model for Union<'a, T> {
     ghost view = { λ w. w.sides };
 }
 
-impl<'a, T: Ord> Clone for Union<'a, T> {
+impl<'a, T: Ord, A: Handle> Clone for Union<'a, T, A> {
     ghost is_clone = { λ s r. r ≡ s };
 
     ghost is_infallible = { λ _. ⊤ };
 
     /// A second walk over the items still to come, which takes no memory.
-    fn clone(&self) -> Result<Union<'a, T>, AllocError> {
+    fn clone(&self) -> Result<Union<'a, T, A>, AllocError> {
         Ok(Union {
             sides: self.sides.clone()?,
         })
     }
 }
 
-impl<'a, T: Ord> Union<'a, T> {
+impl<'a, T: Ord, A: Handle> Union<'a, T, A> {
     /// The next item, or `None` where none is left. The trait's `next`, by which a `for` walks, is this call; here stands also what it leaves
     /// of both sides. Upstream: `Union::next`.
     pub fn next(&mut self) -> Option<&'a T>
@@ -53,7 +54,7 @@ impl<'a, T: Ord> Union<'a, T> {
     }
 }
 
-impl<'a, T: Ord> Iterator for Union<'a, T> {
+impl<'a, T: Ord, A: Handle> Iterator for Union<'a, T, A> {
     type Item = &'a T;
 
     ghost next_gives = { YieldsFirstRef (λ w. union T.cmp w.left w.right) };
@@ -75,12 +76,12 @@ impl<'a, T: Ord> Iterator for Union<'a, T> {
     }
 }
 
-impl<'a, T: Ord> FusedIterator for Union<'a, T> {}
+impl<'a, T: Ord, A: Handle> FusedIterator for Union<'a, T, A> {}
 
-impl<T: Ord> BTreeSet<T> {
+impl<T: Ord, A: Handle> BTreeSet<T, A> {
     /// A walk over the items that are in either set, in ascending order. Of equal items it gives those of this set. Upstream:
     /// `BTreeSet::union`.
-    pub fn union<'a>(&'a self, other: &'a Self) -> Union<'a, T>
+    pub fn union<'a>(&'a self, other: &'a Self) -> Union<'a, T, A>
         ensures sides { result ≡ record { left = items self.now; right = items other.now } }
         ensures ascending { AreAscending T.cmp (items self.now) × AreAscending T.cmp (items other.now) }
     {

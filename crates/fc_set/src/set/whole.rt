@@ -9,12 +9,12 @@ ghost use Rattle.fc_vec.specs.Items.{GivesAll, GivesFirst};
 ghost use Rattle.fc_set.specs.Items.{items, smaller, not_smaller, AreAscending, joined_items, extended_items, AreExtendedUpTo};
 
 use super::BTreeSet;
-use fc_base::{Count, Query, TryClone, TryReserveError};
+use fc_base::{Count, Handle, Query, TryClone, TryReserveError};
 use fc_map::map::extension::Extension;
 use fc_vec::TryFromIterator;
 use std::alloc::Global;
 
-impl<T: Ord + Drop> BTreeSet<T> {
+impl<T: Ord + Drop, A: Handle> BTreeSet<T, A> {
     /// Takes all items of `other`, which is then empty. Where both sets hold an equal item, `other`'s stays, and ours is dropped. Where
     /// one of the two is empty nothing is asked for and nothing compared. Upstream: `BTreeSet::append`, which answers nothing.
     ///
@@ -113,14 +113,14 @@ impl<T: Ord + Drop> BTreeSet<T> {
 /// # Errors
 /// `AllocError` where a node was refused, or an item's own error where its copy was; never where the set is empty. What was made by then
 /// is dropped.
-impl<T: Ord + TryClone> TryClone for BTreeSet<T> {
+impl<T: Ord + TryClone, A: Handle> TryClone for BTreeSet<T, A> {
     ghost same = { λ source copy. AllZip T.same (items source) (items copy) };
 
     ghost can_clone = { T.can_clone × ((a b : T) → T.same a b → T.eq a b ≡ true) };
 
     ghost may_refuse = { λ source. MayRefuseCopies T.may_refuse (items source) };
 
-    fn try_clone(&self) -> Result<BTreeSet<T>, TryReserveError>
+    fn try_clone(&self) -> Result<BTreeSet<T, A>, TryReserveError>
         requires { T.can_clone × ((a b : T) → T.same a b → T.eq a b ≡ true) }
         ensures copied { MatchResult result (λ copy. AllZip T.same (items self.now) (items copy)) (MayRefuseCopies T.may_refuse (items self.now)) }
         ensures ascending { IfOk result (λ copy. AreAscending T.cmp (items copy)) }

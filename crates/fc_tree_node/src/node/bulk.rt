@@ -6,13 +6,13 @@ ghost use Rattle.fc_tree_node.specs.Path.{after_gap};
 ghost use Rattle.fc_tree_node.specs.Siblings.{AreAlike, IsShared};
 
 use super::{CAPACITY, Node};
-use fc_base::Count;
+use fc_base::{Count, Handle};
 use fc_tree_slots::slots::Slots;
 
-impl<K: Drop, V: Drop> Node<K, V> {
+impl<K: Drop, V: Drop, A: Handle> Node<K, V, A> {
     /// Moves what stands after the place `at` to the end of another node: the pairs from `at` on, in an inner node each
     /// with the child on its right.
-    pub fn move_suffix(&mut self, at: usize, other: &mut Node<K, V>, count: &mut Count)
+    pub fn move_suffix(&mut self, at: usize, other: &mut Node<K, V, A>, count: &mut Count)
         requires in_bounds { at ≤ length (own_pairs self.old) }
         requires alike { AreAlike self.old other.old }
         requires room { length (own_pairs other.old) + (length (own_pairs self.old) - at) ≤ capacity }
@@ -63,7 +63,7 @@ impl<K: Drop, V: Drop> Node<K, V> {
         };
         prove!(index < pairs.len());
         let mut right = children.remove(index + 1);
-        let left: &mut Node<K, V> = children.get_mut(index);
+        let left: &mut Node<K, V, A> = children.get_mut(index);
         left.send_right(pairs, index, &mut right, n, count);
         children.insert(index + 1, right);
     }
@@ -71,9 +71,9 @@ impl<K: Drop, V: Drop> Node<K, V> {
     // The last `n` pairs go to the node on the right through the pair at `index` of their parent.
     fn send_right(
         &mut self,
-        parent: &mut Slots<(K, V), CAPACITY>,
+        parent: &mut Slots<(K, V), CAPACITY, A>,
         index: usize,
-        right: &mut Node<K, V>,
+        right: &mut Node<K, V, A>,
         n: usize,
         count: &mut Count,
     )
@@ -123,7 +123,7 @@ impl<K: Drop, V: Drop> Node<K, V> {
         };
         prove!(index < pairs.len());
         let mut right = children.remove(index + 1);
-        let left: &mut Node<K, V> = children.get_mut(index);
+        let left: &mut Node<K, V, A> = children.get_mut(index);
         right.send_left(pairs, index, left, n, count);
         children.insert(index + 1, right);
     }
@@ -131,9 +131,9 @@ impl<K: Drop, V: Drop> Node<K, V> {
     // The first `n` pairs go to the node on the left through the pair at `index` of their parent.
     fn send_left(
         &mut self,
-        parent: &mut Slots<(K, V), CAPACITY>,
+        parent: &mut Slots<(K, V), CAPACITY, A>,
         index: usize,
-        left: &mut Node<K, V>,
+        left: &mut Node<K, V, A>,
         n: usize,
         count: &mut Count,
     )
@@ -165,11 +165,11 @@ impl<K: Drop, V: Drop> Node<K, V> {
 
 // The last `n` items of the left list go to the right one through the item at `index` of their parent's list: the first
 // of them goes up, and the parent's comes down in front of those that were in the right list.
-fn share_back<T: Drop>(
-    left: &mut Slots<T, CAPACITY>,
-    parent: &mut Slots<T, CAPACITY>,
+fn share_back<T: Drop, A: Handle>(
+    left: &mut Slots<T, CAPACITY, A>,
+    parent: &mut Slots<T, CAPACITY, A>,
     index: usize,
-    right: &mut Slots<T, CAPACITY>,
+    right: &mut Slots<T, CAPACITY, A>,
     n: usize,
     count: &mut Count,
 )
@@ -192,11 +192,11 @@ fn share_back<T: Drop>(
 
 // The first `n` items of the right list go to the left one through the item at `index` of their parent's list: the last
 // of them goes up, and the parent's comes down after those that were in the left list.
-fn share_front<T: Drop>(
-    left: &mut Slots<T, CAPACITY>,
-    parent: &mut Slots<T, CAPACITY>,
+fn share_front<T: Drop, A: Handle>(
+    left: &mut Slots<T, CAPACITY, A>,
+    parent: &mut Slots<T, CAPACITY, A>,
     index: usize,
-    right: &mut Slots<T, CAPACITY>,
+    right: &mut Slots<T, CAPACITY, A>,
     n: usize,
     count: &mut Count,
 )

@@ -6,11 +6,11 @@ ghost use Rattle.fc_tree_node.specs.Node.{own_pairs, children_of, child_at, pair
 ghost use Rattle.fc_tree_node.specs.Siblings.{IsFormed, AreAlike, IsMerged, IsShared};
 
 use super::Node;
-use fc_base::Count;
+use fc_base::{Count, Handle};
 
-impl<K: Drop, V: Drop> Node<K, V> {
+impl<K: Drop, V: Drop, A: Handle> Node<K, V, A> {
     // Takes the last pair out, in an inner node with the last child.
-    pub(super) fn take_last(&mut self, count: &mut Count) -> ((K, V), Option<Node<K, V>>)
+    pub(super) fn take_last(&mut self, count: &mut Count) -> ((K, V), Option<Node<K, V, A>>)
         requires some { 0 < length (own_pairs self.old) }
         requires formed { IsFormed self.old }
         ensures pairs { own_pairs self.old ≡ own_pairs self.new ++ result.0 ∷ [] }
@@ -34,7 +34,7 @@ impl<K: Drop, V: Drop> Node<K, V> {
     }
 
     // Takes the first pair out, in an inner node with the first child.
-    pub(super) fn take_first(&mut self, count: &mut Count) -> ((K, V), Option<Node<K, V>>)
+    pub(super) fn take_first(&mut self, count: &mut Count) -> ((K, V), Option<Node<K, V, A>>)
         requires some { 0 < length (own_pairs self.old) }
         requires formed { IsFormed self.old }
         ensures pairs { own_pairs self.old ≡ result.0 ∷ own_pairs self.new }
@@ -56,7 +56,12 @@ impl<K: Drop, V: Drop> Node<K, V> {
     }
 
     // Puts a pair at the front, in an inner node with a child before it.
-    pub(super) fn put_first(&mut self, pair: (K, V), child: Option<Node<K, V>>, count: &mut Count)
+    pub(super) fn put_first(
+        &mut self,
+        pair: (K, V),
+        child: Option<Node<K, V, A>>,
+        count: &mut Count,
+    )
         requires room { length (own_pairs self.old) < capacity }
         requires kind { MatchOption child (IsLeaf self.old) (λ _. IsInner self.old) }
         ensures pairs { own_pairs self.new ≡ pair ∷ own_pairs self.old }
@@ -75,7 +80,7 @@ impl<K: Drop, V: Drop> Node<K, V> {
     }
 
     // Puts a pair at the end, in an inner node with a child after it.
-    pub(super) fn put_last(&mut self, pair: (K, V), child: Option<Node<K, V>>, count: &mut Count)
+    pub(super) fn put_last(&mut self, pair: (K, V), child: Option<Node<K, V, A>>, count: &mut Count)
         requires room { length (own_pairs self.old) < capacity }
         requires kind { MatchOption child (IsLeaf self.old) (λ _. IsInner self.old) }
         ensures pairs { own_pairs self.new ≡ own_pairs self.old ++ pair ∷ [] }
@@ -141,10 +146,10 @@ impl<K: Drop, V: Drop> Node<K, V> {
         let Some(children) = children else {
             unreachable!()
         };
-        let left: &mut Node<K, V> = children.get_mut(index);
+        let left: &mut Node<K, V, A> = children.get_mut(index);
         let (up, child) = left.take_last(count);
         let down = pairs.replace(index, up, count);
-        let right: &mut Node<K, V> = children.get_mut(index + 1);
+        let right: &mut Node<K, V, A> = children.get_mut(index + 1);
         right.put_first(down, child, count);
     }
 
@@ -167,15 +172,15 @@ impl<K: Drop, V: Drop> Node<K, V> {
             unreachable!()
         };
         prove!(index < pairs.len());
-        let right: &mut Node<K, V> = children.get_mut(index + 1);
+        let right: &mut Node<K, V, A> = children.get_mut(index + 1);
         let (up, child) = right.take_first(count);
         let down = pairs.replace(index, up, count);
-        let left: &mut Node<K, V> = children.get_mut(index);
+        let left: &mut Node<K, V, A> = children.get_mut(index);
         left.put_last(down, child, count);
     }
 
     // Puts a pair and then all that the right node holds at the end. The right node is given back to memory.
-    pub(super) fn join(&mut self, pair: (K, V), right: Node<K, V>, count: &mut Count)
+    pub(super) fn join(&mut self, pair: (K, V), right: Node<K, V, A>, count: &mut Count)
         requires alike { AreAlike self.old right }
         requires room { length (own_pairs self.old) + length (own_pairs right) + 1 ≤ capacity }
         ensures pairs { own_pairs self.new ≡ own_pairs self.old ++ pair ∷ own_pairs right }
@@ -224,7 +229,7 @@ impl<K: Drop, V: Drop> Node<K, V> {
         prove!(index < pairs.len());
         let pair = pairs.remove(index, count);
         let right = children.remove(index + 1);
-        let left: &mut Node<K, V> = children.get_mut(index);
+        let left: &mut Node<K, V, A> = children.get_mut(index);
         left.join(pair, right, count);
     }
 }

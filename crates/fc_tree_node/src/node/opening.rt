@@ -3,9 +3,9 @@ ghost use Rattle.std.specs.Prelude.{◌≡◌, ◌<◌, [], ◌∷◌, ◌++◌,
 ghost use Rattle.fc_tree_node.specs.Node.{own_pairs, children_of};
 
 use super::Node;
-use fc_base::Count;
+use fc_base::{Count, Handle};
 
-impl<K, V> Node<K, V> {
+impl<K, V, A: Handle> Node<K, V, A> {
     /// Takes the node's own first pair out. Its children stay.
     pub fn take_first_pair(&mut self) -> (K, V)
         requires { 0 < length (own_pairs self.old) }
@@ -26,7 +26,7 @@ impl<K, V> Node<K, V> {
     }
 
     /// Takes the first child out. The node's own pairs stay.
-    pub fn take_first_child(&mut self) -> Node<K, V>
+    pub fn take_first_child(&mut self) -> Node<K, V, A>
         requires { 0 < length (children_of self.old) }
         ensures children { children_of self.old ≡ result ∷ children_of self.new }
         ensures pairs { own_pairs self.new ≡ own_pairs self.old }
@@ -38,7 +38,7 @@ impl<K, V> Node<K, V> {
     }
 
     /// Takes the last child out. The node's own pairs stay.
-    pub fn take_last_child(&mut self) -> Node<K, V>
+    pub fn take_last_child(&mut self) -> Node<K, V, A>
         requires { 0 < length (children_of self.old) }
         ensures children { children_of self.old ≡ children_of self.new ++ result ∷ [] }
         ensures pairs { own_pairs self.new ≡ own_pairs self.old }

@@ -6,11 +6,11 @@ ghost use Rattle.fc_tree_node.specs.Path.{before_gap, after_gap};
 ghost use Rattle.fc_tree_node.specs.Split.{middle_place, left_length, split_moves};
 
 use super::{CAPACITY, MIN_LEN, Node};
-use fc_base::Count;
+use fc_base::{Count, Handle};
 use fc_tree_slots::children::Children;
 use fc_tree_slots::slots::Slots;
 
-impl<K: Drop, V: Drop> Node<K, V> {
+impl<K: Drop, V: Drop, A: Handle> Node<K, V, A> {
     /// Puts `pair` at `index` of a leaf that has room. It takes no memory.
     pub fn insert_leaf(&mut self, index: usize, pair: (K, V), count: &mut Count)
         requires in_bounds { index ≤ length (own_pairs self.old) }
@@ -26,7 +26,7 @@ impl<K: Drop, V: Drop> Node<K, V> {
     }
 
     /// Puts the first child into an inner node that holds nothing yet. It takes no memory.
-    pub fn adopt(&mut self, child: Node<K, V>)
+    pub fn adopt(&mut self, child: Node<K, V, A>)
         requires blank { IsBlankInner self.old }
         ensures pairs { own_pairs self.new ≡ [] }
         ensures children { children_of self.new ≡ child ∷ [] }
@@ -40,7 +40,13 @@ impl<K: Drop, V: Drop> Node<K, V> {
     }
 
     /// Puts `pair` at `index` of an inner node that has room, and `child` on the pair's right. It takes no memory.
-    pub fn insert_inner(&mut self, index: usize, pair: (K, V), child: Node<K, V>, count: &mut Count)
+    pub fn insert_inner(
+        &mut self,
+        index: usize,
+        pair: (K, V),
+        child: Node<K, V, A>,
+        count: &mut Count,
+    )
         requires in_bounds { index ≤ length (own_pairs self.old) }
         requires room { length (own_pairs self.old) < capacity }
         requires inner { IsInner self.old }
@@ -65,9 +71,9 @@ impl<K: Drop, V: Drop> Node<K, V> {
         &mut self,
         index: usize,
         pair: (K, V),
-        right: Node<K, V>,
+        right: Node<K, V, A>,
         count: &mut Count,
-    ) -> ((K, V), Node<K, V>)
+    ) -> ((K, V), Node<K, V, A>)
         requires full { length (own_pairs self.old) ≡ capacity }
         requires in_bounds { index ≤ capacity }
         requires leaf { IsLeaf self.old }
@@ -81,7 +87,7 @@ impl<K: Drop, V: Drop> Node<K, V> {
         ensures comparisons { count.new.comparisons ≡ count.old.comparisons }
     {
         let mut right = right;
-        let other: &mut Node<K, V> = &mut right;
+        let other: &mut Node<K, V, A> = &mut right;
         let up = split_pairs(&mut self.pairs, &mut other.pairs, index, pair, count);
         (up, right)
     }
@@ -92,10 +98,10 @@ impl<K: Drop, V: Drop> Node<K, V> {
         &mut self,
         index: usize,
         pair: (K, V),
-        child: Node<K, V>,
-        right: Node<K, V>,
+        child: Node<K, V, A>,
+        right: Node<K, V, A>,
         count: &mut Count,
-    ) -> ((K, V), Node<K, V>)
+    ) -> ((K, V), Node<K, V, A>)
         requires full { length (own_pairs self.old) ≡ capacity }
         requires in_bounds { index ≤ capacity }
         requires inner { IsInner self.old }
@@ -129,9 +135,9 @@ impl<K: Drop, V: Drop> Node<K, V> {
 }
 
 // Puts `child` at `index` of a full list, and moves all but the first `keep` to the list on the right.
-fn split_children<T: Drop>(
-    left: &mut Children<T>,
-    right: &mut Children<T>,
+fn split_children<T: Drop, A: Handle>(
+    left: &mut Children<T, A>,
+    right: &mut Children<T, A>,
     index: usize,
     child: T,
     keep: usize,
@@ -154,9 +160,9 @@ fn split_children<T: Drop>(
 }
 
 // Puts `item` at `index` of a full list, and splits it: `right` takes the end, and the item in the middle is handed out.
-fn split_pairs<T: Drop>(
-    left: &mut Slots<T, CAPACITY>,
-    right: &mut Slots<T, CAPACITY>,
+fn split_pairs<T: Drop, A: Handle>(
+    left: &mut Slots<T, CAPACITY, A>,
+    right: &mut Slots<T, CAPACITY, A>,
     index: usize,
     item: T,
     count: &mut Count,

@@ -5,9 +5,9 @@ use mathlib.Core.Path.{refl, ◌∙◌}
 use mathlib.Core.Former.{this}
 use lib.ListN.{length-map}
 use base.Fraction.{full_share}
-use base.Fml.{fsep, flt, froom}
+use base.Fml.{Fml, fsep, flt, froom}
 use mir.Raw.{raw}
-use mir.Syntax.{ty_array}
+use mir.Syntax.{Ty, ty_array}
 use prog.Memory.{size}
 use denote.RattleType.{RattleType}
 use denote.HoleLaws.{Alike}
@@ -15,7 +15,7 @@ use denote.Memory.{lone, part_of, raw_all}
 use denote.RawPtr.{Ptr, block_ptr, null_ptr}
 use denote.Sharing.{said, beside}
 use Rattle.fc_tree_slots.specs.formers.Maybe.{maybe}
-use Rattle.fc_tree_slots.specs.Ownership.{token, if_sized, place, places, place_lent, places_lent, bounded, block, row_owned, row_lent}
+use Rattle.fc_tree_slots.specs.Ownership.{if_sized, place, places, place_lent, places_lent, bounded, block, row_owned, row_lent}
 
 module _ (R S : RattleType) (h : R.Denot → S.Denot) (a : Alike R S h) where
   abbrev on : Option R.Denot → Option S.Denot
@@ -38,12 +38,12 @@ module _ (R S : RattleType) (h : R.Denot → S.Denot) (a : Alike R S h) where
   bounded_placed : (cs : List (Option R.Denot)) → bounded S (length (map on cs)) ≡ bounded R (length cs)
   bounded_placed cs = λ i. flt (length-map cs on i * width i) (2 ^ 63)
 
-  block_placed : (p : Ptr) (cs : List (Option R.Denot)) → block S p (length (map on cs)) ≡ block R p (length cs)
-  block_placed p cs = λ i. fsep (bounded_placed cs i) (if_sized (width i) (token (raw (ty_array (lone (a.mir_same i)) (length-map cs on i))) p))
+  block_placed : (token : Ty → Ptr → Fml) (p : Ptr) (cs : List (Option R.Denot)) → block S token p (length (map on cs)) ≡ block R token p (length cs)
+  block_placed token p cs = λ i. fsep (bounded_placed cs i) (if_sized (width i) (token (raw (ty_array (lone (a.mir_same i)) (length-map cs on i))) p))
 
-  pub own_placed : (p : Ptr) (cs : List (Option R.Denot)) → row_owned S p (map on cs) ≡ row_owned R p cs
-  own_placed (block_ptr b o) cs = λ i. fsep (block_placed (block_ptr b o) cs i) (places_placed b o cs i)
-  own_placed null_ptr cs = refl
+  pub own_placed : (token : Ty → Ptr → Fml) (p : Ptr) (cs : List (Option R.Denot)) → row_owned S token p (map on cs) ≡ row_owned R token p cs
+  own_placed token (block_ptr b o) cs = λ i. fsep (block_placed token (block_ptr b o) cs i) (places_placed b o cs i)
+  own_placed token null_ptr cs = refl
 
   place_lent_placed : (b o : ℕ) (c : Option R.Denot) → place_lent S b o (on c) ≡ place_lent R b o c
   place_lent_placed b o (Some x) = λ i. a.shr_same x i b o

@@ -5,8 +5,9 @@ ghost use Rattle.fc_tree_slots.specs.Cells.{row, HasRow};
 use super::Cells;
 use fc_base::Count;
 use fc_base::count::add_moves;
+use std::alloc::Allocator;
 
-impl<T> Cells<T> {
+impl<T, A: Allocator> Cells<T, A> {
     /// Moves the items from `from` to `end` down by `by` cells, which are empty.
     pub(crate) fn shift_down(&mut self, from: usize, by: usize, end: usize, count: &mut Count)
         requires in_order { (by ≤ from) × (from ≤ end) }
@@ -45,7 +46,7 @@ impl<T> Cells<T> {
     pub(crate) fn carry(
         &mut self,
         from: usize,
-        target: &mut Cells<T>,
+        target: &mut Cells<T, A>,
         to: usize,
         end: usize,
         count: &mut Count,

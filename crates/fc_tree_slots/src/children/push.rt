@@ -3,9 +3,9 @@ ghost use Rattle.std.specs.Prelude.{◌≡◌, ◌<◌, [], ◌∷◌, ◌++◌,
 ghost use Rattle.fc_base.specs.Sizes.{most_children};
 
 use super::Children;
-use fc_base::Count;
+use fc_base::{Count, Handle};
 
-impl<T> Children<T> {
+impl<T, A: Handle> Children<T, A> {
     /// Puts `item` after those that are there.
     pub fn push(&mut self, item: T)
         requires { length self.old < most_children }

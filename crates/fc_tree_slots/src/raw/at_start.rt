@@ -3,20 +3,21 @@ ghost use Rattle.std.specs.Prelude.{◌≡◌, ◌<◌, Some, None, length, get_
 ghost use Rattle.fc_tree_slots.specs.Cells.{IsPresent};
 
 use super::Row;
+use std::alloc::Allocator;
 
-impl<T> Row<T> {
+impl<T, A: Allocator> Row<T, A> {
     /// Where the row begins. A loop that writes keeps that at hand: the row is behind a `&mut`, and the compiler has to think that what is
     /// written may change it.
     pub(crate) fn start(&self) -> *mut T
         ensures { result ≡ self.now.start }
     {
-        self.start
+        self.start as *mut T
     }
 
     /// Moves the item at `index` out.
     pub(crate) fn take_from(&mut self, start: *mut T, index: usize) -> T
         requires { (start ≡ self.old.start) × IsPresent self.old.held index }
-        ensures { (get_or self.old.held index None ≡ Some result) × (self.new.held ≡ slice_set self.old.held index None) × (self.new.start ≡ self.old.start) }
+        ensures { (get_or self.old.held index None ≡ Some result) × (self.new.held ≡ slice_set self.old.held index None) × (self.new.start ≡ self.old.start) × (self.new.alloc ≡ self.old.alloc) }
     {
         unsafe { start.add(index).read() }
     }
@@ -24,7 +25,7 @@ impl<T> Row<T> {
     /// Moves `item` into the place at `index`, which is empty.
     pub(crate) fn set_from(&mut self, start: *mut T, index: usize, item: T)
         requires { (start ≡ self.old.start) × (index < length self.old.held) × (get_or self.old.held index None ≡ None) }
-        ensures { (self.new.held ≡ slice_set self.old.held index (Some item)) × (self.new.start ≡ self.old.start) }
+        ensures { (self.new.held ≡ slice_set self.old.held index (Some item)) × (self.new.start ≡ self.old.start) × (self.new.alloc ≡ self.old.alloc) }
     {
         unsafe { start.add(index).write(item) }
     }

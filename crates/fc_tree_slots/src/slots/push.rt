@@ -3,8 +3,9 @@ ghost use Rattle.std.specs.Prelude.{◌≡◌, ◌+◌, ◌<◌, [], ◌∷◌, 
 
 use super::Slots;
 use fc_base::Count;
+use std::alloc::Allocator;
 
-impl<T, const N: usize> Slots<T, N> {
+impl<T, const N: usize, A: Allocator> Slots<T, N, A> {
     /// Puts `item` after those that are there.
     pub fn push(&mut self, item: T, count: &mut Count)
         requires { length self.old < N }

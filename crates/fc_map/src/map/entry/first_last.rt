@@ -7,13 +7,14 @@ ghost use Rattle.fc_map.specs.Entry.{Occupied, entry_map, entry_map_ref, rests_i
 
 use super::super::BTreeMap;
 use super::OccupiedEntry;
+use fc_base::Handle;
 use fc_tree_walk::ends::{first_gap_in, last_gap_in};
 
-impl<K: Ord, V> BTreeMap<K, V> {
+impl<K: Ord, V, A: Handle> BTreeMap<K, V, A> {
     /// The pair with the smallest key, to be looked at and then taken or written without another search, or `None` where the map is
     /// empty. It compares nothing and takes no memory. Not in upstream: it is that of std's map.
-    pub fn first_entry(&mut self) -> Option<OccupiedEntry<'_, K, V>>
-        ensures* writes_back { sem 𝓛 (rests_if_none K.row V.row self.entry result) }
+    pub fn first_entry(&mut self) -> Option<OccupiedEntry<'_, K, V, A>>
+        ensures* writes_back { sem 𝓛 (rests_if_none K.row V.row A.row A.Allocator self.entry result) }
         ensures pair { MatchOption result (entries self.old ≡ []) (λ e. IsFirstOf e (entries self.old)) }
         ensures same_map { IfSome result (λ e. (entry_map_ref (Occupied e)).ghost_name ≡ self.entry.ghost_name) }
         ensures map { IfSome result (λ e. entry_map (Occupied e) ≡ self.old) }
@@ -28,8 +29,8 @@ impl<K: Ord, V> BTreeMap<K, V> {
 
     /// The pair with the greatest key, to be looked at and then taken or written without another search, or `None` where the map is
     /// empty. It compares nothing and takes no memory. Not in upstream: it is that of std's map.
-    pub fn last_entry(&mut self) -> Option<OccupiedEntry<'_, K, V>>
-        ensures* writes_back { sem 𝓛 (rests_if_none K.row V.row self.entry result) }
+    pub fn last_entry(&mut self) -> Option<OccupiedEntry<'_, K, V, A>>
+        ensures* writes_back { sem 𝓛 (rests_if_none K.row V.row A.row A.Allocator self.entry result) }
         ensures pair { MatchOption result (entries self.old ≡ []) (λ e. IsLastOf e (entries self.old)) }
         ensures same_map { IfSome result (λ e. (entry_map_ref (Occupied e)).ghost_name ≡ self.entry.ghost_name) }
         ensures map { IfSome result (λ e. entry_map (Occupied e) ≡ self.old) }

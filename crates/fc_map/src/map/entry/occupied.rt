@@ -8,10 +8,10 @@ ghost use Rattle.fc_map.specs.Fewest.{HasFewestMoves};
 ghost use Rattle.fc_map.specs.Entry.{Occupied, entry_key, entry_map, entry_pair, entry_value, list_without, map_written, occupied_lends, occupied_lends_whole, IsWritten};
 
 use super::OccupiedEntry;
-use fc_base::Count;
+use fc_base::{Count, Handle};
 use std::mem;
 
-impl<'a, K: Ord, V> OccupiedEntry<'a, K, V> {
+impl<'a, K: Ord, V, A: Handle> OccupiedEntry<'a, K, V, A> {
     /// The key of the pair. Upstream: `OccupiedEntry::key`.
     pub fn key(&self) -> &K
         ensures { entry_key (Occupied self.now) ≡ Some result.now }
@@ -28,7 +28,7 @@ impl<'a, K: Ord, V> OccupiedEntry<'a, K, V> {
 
     /// The value of the pair, lent for writing; the entry stays in use. Upstream: `OccupiedEntry::get_mut`.
     pub fn get_mut(&mut self) -> &mut V
-        ensures* writes_back { sem 𝓛 (occupied_lends K.row V.row self.entry result) }
+        ensures* writes_back { sem 𝓛 (occupied_lends K.row V.row A.row A.Allocator self.entry result) }
         ensures value { entry_value (Occupied self.old) ≡ Some result.now }
         ensures sound { IsSoundMap (entry_map (Occupied self.old)) }
     {
@@ -39,7 +39,7 @@ impl<'a, K: Ord, V> OccupiedEntry<'a, K, V> {
     /// The value of the pair, lent for writing for as long as the map was. The tree keeps its shape. Upstream:
     /// `OccupiedEntry::into_mut`.
     pub fn into_mut(self) -> &'a mut V
-        ensures* writes_back { sem 𝓛 (occupied_lends_whole K.row V.row self.entry result) }
+        ensures* writes_back { sem 𝓛 (occupied_lends_whole K.row V.row A.row A.Allocator self.entry result) }
         ensures value { entry_value (Occupied self.entry) ≡ Some result.now }
         ensures sound { (w : V) → IsSoundMap (map_written self.entry w) }
     {
@@ -56,7 +56,7 @@ impl<'a, K: Ord, V> OccupiedEntry<'a, K, V> {
     }
 }
 
-impl<'a, K: Ord + Drop, V: Drop> OccupiedEntry<'a, K, V> {
+impl<'a, K: Ord + Drop, V: Drop, A: Handle> OccupiedEntry<'a, K, V, A> {
     /// Takes the pair out and answers its value; the key is dropped. It takes no memory. Upstream: `OccupiedEntry::remove`.
     pub fn remove(self) -> V
         ensures value { entry_value (Occupied self.entry) ≡ Some result }

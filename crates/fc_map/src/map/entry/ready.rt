@@ -6,13 +6,15 @@ mod calls;
 mod try_ready;
 
 use super::super::BTreeMap;
+use fc_base::Handle;
 use fc_tree_insertion::new_nodes::NewNodes;
 use fc_tree_node::path::Path;
+use std::alloc::Global;
 
 /// The gap of a key that the map does not have, with every node that an insertion there takes, so that nothing can refuse it. Dropped, it
 /// leaves the map as it was.
-pub struct ReadyEntry<'a, K: Ord, V, N: Nodes = NewNodes<K, V>> {
-    pub(crate) map: &'a mut BTreeMap<K, V>,
+pub struct ReadyEntry<'a, K: Ord, V, A: Handle = Global, N: Nodes = NewNodes<K, V, A>> {
+    pub(crate) map: &'a mut BTreeMap<K, V, A>,
     pub(crate) key: K,
     pub(crate) path: Path,
     pub(crate) new_nodes: N,
@@ -24,12 +26,12 @@ pub trait Nodes {
     ghost count: { Self → ℕ };
 }
 
-impl<K, V> Nodes for NewNodes<K, V> {
+impl<K, V, A: Handle> Nodes for NewNodes<K, V, A> {
     ghost count = { λ n. n };
 }
 
 // Dropped, it gives the nodes back and leaves the map as it was: a derived `drop` would not say so.
-impl<K: Ord + Drop, V, N: Nodes + Drop> Drop for ReadyEntry<'_, K, V, N> {
+impl<K: Ord + Drop, V, N: Nodes + Drop, A: Handle> Drop for ReadyEntry<'_, K, V, A, N> {
     fn drop(self)
         ensures { self.exit.0.now ≡ self.entry.map.now }
     {

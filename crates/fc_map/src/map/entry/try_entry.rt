@@ -12,17 +12,17 @@ ghost use Rattle.fc_map.specs.Entry.{entry_map, entry_map_ref, entry_path, entry
 
 use super::super::BTreeMap;
 use super::{Entry, OccupiedEntry, VacantEntry};
-use fc_base::{Count, TryReserveError};
+use fc_base::{Count, Handle, TryReserveError};
 use fc_tree_node::path::Path;
 
-impl<K: Ord + Drop, V: Drop> BTreeMap<K, V> {
+impl<K: Ord + Drop, V: Drop, A: Handle> BTreeMap<K, V, A> {
     /// The place of the key, found by one search: `Occupied` where an equal key is there, and the given key is then dropped; else
     /// `Vacant`. It takes no memory. Upstream: `BTreeMap::try_entry`.
     ///
     /// # Errors
     /// None.
-    pub fn try_entry(&mut self, key: K) -> Result<Entry<'_, K, V>, TryReserveError>
-        ensures* writes_back { sem 𝓛 (rests_if_refused K.row V.row self.entry result) }
+    pub fn try_entry(&mut self, key: K) -> Result<Entry<'_, K, V, A>, TryReserveError>
+        ensures* writes_back { sem 𝓛 (rests_if_refused K.row V.row A.row A.Allocator self.entry result) }
         ensures ok { IsOk result }
         ensures same_map { IfOk result (λ e. (entry_map_ref e).ghost_name ≡ self.entry.ghost_name) }
         ensures map { IfOk result (λ e. entry_map e ≡ self.old) }
@@ -45,8 +45,8 @@ impl<K: Ord + Drop, V: Drop> BTreeMap<K, V> {
         &mut self,
         key: K,
         count: &mut Count,
-    ) -> Result<Entry<'_, K, V>, TryReserveError>
-        ensures* writes_back { sem 𝓛 (rests_if_refused K.row V.row self.entry result) }
+    ) -> Result<Entry<'_, K, V, A>, TryReserveError>
+        ensures* writes_back { sem 𝓛 (rests_if_refused K.row V.row A.row A.Allocator self.entry result) }
         ensures ok { IsOk result }
         ensures same_map { IfOk result (λ e. (entry_map_ref e).ghost_name ≡ self.entry.ghost_name) }
         ensures map { IfOk result (λ e. entry_map e ≡ self.old) }

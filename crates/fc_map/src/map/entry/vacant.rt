@@ -8,9 +8,9 @@ ghost use Rattle.fc_map.specs.Full.{IsFullAt};
 ghost use Rattle.fc_map.specs.Entry.{Vacant, entry_key, entry_lends_ok, entry_map, entry_path};
 
 use super::VacantEntry;
-use fc_base::{Count, TryReserveError};
+use fc_base::{Count, Handle, TryReserveError};
 
-impl<'a, K: Ord, V> VacantEntry<'a, K, V> {
+impl<'a, K: Ord, V, A: Handle> VacantEntry<'a, K, V, A> {
     /// The key that was searched for. Upstream: `VacantEntry::key`.
     pub fn key(&self) -> &K
         ensures { entry_key (Vacant self.now) ≡ Some result.now }
@@ -32,7 +32,7 @@ impl<'a, K: Ord, V> VacantEntry<'a, K, V> {
     }
 }
 
-impl<'a, K: Ord + Drop, V: Drop> VacantEntry<'a, K, V> {
+impl<'a, K: Ord + Drop, V: Drop, A: Handle> VacantEntry<'a, K, V, A> {
     /// Puts the key with the value into the gap, and lends the value for writing for as long as the map was. Upstream:
     /// `VacantEntry::try_insert`.
     ///
@@ -41,7 +41,7 @@ impl<'a, K: Ord + Drop, V: Drop> VacantEntry<'a, K, V> {
     /// was refused, which takes an empty map or a full leaf. The map is then as it was, tree and all, and key and value come
     /// back.
     pub fn try_insert(self, value: V) -> Result<&'a mut V, (K, V, TryReserveError)>
-        ensures* writes_back { sem 𝓛 (entry_lends_ok K.row V.row (Vacant self.entry) result) }
+        ensures* writes_back { sem 𝓛 (entry_lends_ok K.row V.row A.row A.Allocator (Vacant self.entry) result) }
         ensures value { IfOk result (λ v. v.now ≡ value) }
         ensures back { IfErr result (λ e. (entry_key (Vacant self.entry) ≡ Some e.0) × (e.1 ≡ value)) }
         ensures error { IfErr result (λ e. MayGrowRefuse (length (entries (entry_map (Vacant self.entry)))) e.2) }
@@ -60,7 +60,7 @@ impl<'a, K: Ord + Drop, V: Drop> VacantEntry<'a, K, V> {
         value: V,
         count: &mut Count,
     ) -> Result<&'a mut V, (K, V, TryReserveError)>
-        ensures* writes_back { sem 𝓛 (entry_lends_ok K.row V.row (Vacant self.entry) result) }
+        ensures* writes_back { sem 𝓛 (entry_lends_ok K.row V.row A.row A.Allocator (Vacant self.entry) result) }
         ensures value { IfOk result (λ v. v.now ≡ value) }
         ensures back { IfErr result (λ e. (entry_key (Vacant self.entry) ≡ Some e.0) × (e.1 ≡ value)) }
         ensures error { IfErr result (λ e. MayGrowRefuse (length (entries (entry_map (Vacant self.entry)))) e.2) }

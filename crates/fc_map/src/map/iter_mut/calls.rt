@@ -9,6 +9,7 @@ ghost use Rattle.fc_map.specs.Writing.{whole};
 
 use super::super::BTreeMap;
 use super::{IterMut, ValuesMut};
+use fc_base::Handle;
 use fc_tree_node::path::Path;
 
 // The number, and no more than the other one.
@@ -19,10 +20,10 @@ fn no_more_than(most: usize, count: usize) -> usize
     if most < count { most } else { count }
 }
 
-impl<K: Ord, V> BTreeMap<K, V> {
+impl<K: Ord, V, A: Handle> BTreeMap<K, V, A> {
     /// A writing walk over all pairs. To write all values use its `for_each`, which goes through the tree once: `next` comes down
     /// from the root to each value that it lends. Upstream: `BTreeMap::iter_mut`.
-    pub fn iter_mut(&mut self) -> IterMut<'_, K, V>
+    pub fn iter_mut(&mut self) -> IterMut<'_, K, V, A>
         ensures same_map { (iter_map_ref result).ghost_name ≡ self.entry.ghost_name }
         ensures start { iter_stretch result ≡ whole (entries self.old) }
     {
@@ -42,7 +43,7 @@ impl<K: Ord, V> BTreeMap<K, V> {
 
     /// A writing walk over all values. To write all of them use its `for_each`, which goes through the tree once: `next` comes down
     /// from the root to each value that it lends. Upstream: `BTreeMap::values_mut`.
-    pub fn values_mut(&mut self) -> ValuesMut<'_, K, V>
+    pub fn values_mut(&mut self) -> ValuesMut<'_, K, V, A>
         ensures same_map { (iter_map_ref result).ghost_name ≡ self.entry.ghost_name }
         ensures start { iter_stretch result ≡ whole (entries self.old) }
     {
@@ -50,7 +51,7 @@ impl<K: Ord, V> BTreeMap<K, V> {
     }
 }
 
-impl<'a, K: Ord, V> IterMut<'a, K, V> {
+impl<'a, K: Ord, V, A: Handle> IterMut<'a, K, V, A> {
     /// How many values are still to be lent. Upstream: `IterMut::len`.
     pub fn len(&self) -> usize
         ensures { result ≡ (iter_stretch self.now).back - (iter_stretch self.now).front }
@@ -68,7 +69,7 @@ impl<'a, K: Ord, V> IterMut<'a, K, V> {
     /// The first value that is still to be lent, lent for writing. Upstream: `IterMut::next`, which lends the key beside it:
     /// `peek` shows that.
     pub fn next(&mut self) -> Option<&mut V>
-        ensures* writes_back { sem 𝓛 (iter_lends_first K.row V.row self.entry result) }
+        ensures* writes_back { sem 𝓛 (iter_lends_first K.row V.row A.row A.Allocator self.entry result) }
         ensures value { IsFirstValue (iter_stretch self.old) result }
     {
         match self.step() {
@@ -83,7 +84,7 @@ impl<'a, K: Ord, V> IterMut<'a, K, V> {
     /// The last value that is still to be lent, lent for writing. Upstream: `IterMut::next_back`, which lends the key beside it:
     /// `peek_back` shows that.
     pub fn next_back(&mut self) -> Option<&mut V>
-        ensures* writes_back { sem 𝓛 (iter_lends_last K.row V.row self.entry result) }
+        ensures* writes_back { sem 𝓛 (iter_lends_last K.row V.row A.row A.Allocator self.entry result) }
         ensures value { IsLastValue (iter_stretch self.old) result }
     {
         match self.step_back() {

@@ -10,15 +10,15 @@ ghost use Rattle.fc_map.specs.Writing.{starting};
 
 use super::super::BTreeMap;
 use super::RangeMut;
-use fc_base::Query;
+use fc_base::{Handle, Query};
 use fc_tree_node::path::Path;
 use std::ops::Bound;
 
-impl<K: Ord, V> BTreeMap<K, V> {
+impl<K: Ord, V, A: Handle> BTreeMap<K, V, A> {
     /// A writing walk over the pairs whose keys lie within both bounds, which are by a `Query`, as in `range`. Both ends are found in one
     /// way down the tree, until they part; the steps of the walk compare no key. Bounds that are no range, within which no key can lie,
     /// make a walk that lends nothing: upstream panics. Upstream: `BTreeMap::range_mut`.
-    pub fn range_mut<Q: Query<K>>(&mut self, bounds: (Bound<Q>, Bound<Q>)) -> RangeMut<'_, K, V>
+    pub fn range_mut<Q: Query<K>>(&mut self, bounds: (Bound<Q>, Bound<Q>)) -> RangeMut<'_, K, V, A>
         ensures same_map { (range_map_ref result).ghost_name ≡ self.entry.ghost_name }
         ensures start { stretch result ≡ starting Q.order (bound_by Q.sought bounds.0) (bound_by Q.sought bounds.1) (entries self.old) }
     {
@@ -34,7 +34,7 @@ impl<K: Ord, V> BTreeMap<K, V> {
     }
 }
 
-impl<'a, K: Ord, V> RangeMut<'a, K, V> {
+impl<'a, K: Ord, V, A: Handle> RangeMut<'a, K, V, A> {
     /// Whether all values were lent.
     pub fn is_done(&self) -> bool
         ensures { IsTrue result ↔ ((stretch self.now).back ≤ (stretch self.now).front) }
@@ -45,7 +45,7 @@ impl<'a, K: Ord, V> RangeMut<'a, K, V> {
     /// The first value that is still to be lent, lent for writing. Upstream: `RangeMut::next`, which lends the key beside it:
     /// `peek` shows that.
     pub fn next(&mut self) -> Option<&mut V>
-        ensures* writes_back { sem 𝓛 (range_lends_first K.row V.row self.entry result) }
+        ensures* writes_back { sem 𝓛 (range_lends_first K.row V.row A.row A.Allocator self.entry result) }
         ensures value { IsFirstValue (stretch self.old) result }
     {
         match self.step() {
@@ -60,7 +60,7 @@ impl<'a, K: Ord, V> RangeMut<'a, K, V> {
     /// The last value that is still to be lent, lent for writing. Upstream: `RangeMut::next_back`, which lends the key beside it:
     /// `peek_back` shows that.
     pub fn next_back(&mut self) -> Option<&mut V>
-        ensures* writes_back { sem 𝓛 (range_lends_last K.row V.row self.entry result) }
+        ensures* writes_back { sem 𝓛 (range_lends_last K.row V.row A.row A.Allocator self.entry result) }
         ensures value { IsLastValue (stretch self.old) result }
     {
         match self.step_back() {

@@ -1,8 +1,11 @@
 use Rattle.std.proofs.Common.{length, rules, sym, ap, subst, ◌∙◌, arith, length-append}
+use denote.Param.{param}
+use Rattle.fc_base.specs.Ascending.{IsAscending}
 use Rattle.fc_base.specs.Joined.{joined}
 use Rattle.fc_tree_node.specs.Tree.{entries, IsSoundMap}
 use Rattle.fc_tree_drain.proofs.Opening.{no_item}
 use Rattle.fc_base.proofs.JoinedLaws.{joined_behind}
+use Rattle.fc_tree_build.proofs.StackSizes.{builder_fits}
 use Rattle.fc_tree_append.proofs.JoinFacts.{joined_none}
 use Rattle.fc_tree_append.proofs.append.try_append.Goals as goal
 
@@ -31,3 +34,50 @@ returns-then-is_beyond-clause-emptied g c = ap (λ o. entries o) c.in_ok-try_joi
 
 pub returns-then-is_beyond-clause-sound : goal.returns-then-is_beyond-clause-sound
 returns-then-is_beyond-clause-sound g c = (c.in_ok-try_join.ensures.sound, subst (λ o. IsSoundMap o) (sym c.in_ok-try_join.ensures.emptied) tt)
+
+pub try_new-requires : goal.try_new-requires
+try_new-requires g c = builder_fits (param 0 g.row.K) (param 1 g.row.V) g.row.A g.A.Allocator g.met.A.Handle.small
+
+pub merge-root-requires : goal.merge-root-requires
+merge-root-requires g c =
+    let x = c.take.ensures.value in
+    let y = c.take-2.ensures.value in
+    let ours = ap (λ o. length (entries o)) x in
+    let theirs = ap (λ o. length (entries o)) y in
+    let a = c.requires.lens.0 in
+    let b = c.requires.lens.1 in
+    let v = c.if-our_len-eq0.false in
+    let w = c.if-their_len-eq0.false in
+    let n = c.in-Some.ensures in
+    let r = c.in_ok-builder.ensures.ok.1 in
+    let first = subst (λ o. IsAscending g.K.Ord.cmp (entries o)) (sym x) c.requires.order.0 in
+    let second = subst (λ o. IsAscending g.K.Ord.cmp (entries o)) (sym y) c.requires.order.1 in (
+      builder_fits (param 0 g.row.K) (param 1 g.row.V) g.row.A g.A.Allocator g.met.A.Handle.small,
+      (
+        (omega arith, omega arith),
+        (
+          (subst (λ o. IsSoundMap o) (sym x) c.requires.sound.0, subst (λ o. IsSoundMap o) (sym y) c.requires.sound.1),
+          ((first, second), (c.in_ok-builder.ensures.ok.0, omega arith)),
+        ),
+      ),
+    )
+
+pub returns-clause-comparisons : goal.returns-clause-comparisons
+returns-clause-comparisons g c =
+    let ours = ap (λ o. length (entries o)) c.take.ensures.value in
+    let theirs = ap (λ o. length (entries o)) c.take-2.ensures.value in
+    let a = c.requires.lens.0 in
+    let b = c.requires.lens.1 in
+    let one = c.is_beyond.ensures.comparisons in
+    let all = c.merge-root.ensures.comparisons in
+    omega arith
+
+pub returns-clause-merged : goal.returns-clause-merged
+returns-clause-merged g c behind =
+    let ours = ap (λ o. length (entries o)) c.take.ensures.value in
+    let theirs = ap (λ o. length (entries o)) c.take-2.ensures.value in
+    let a = c.requires.lens.0 in
+    let b = c.requires.lens.1 in
+    let one = c.is_beyond.ensures.comparisons in
+    let all = c.merge-root.ensures.least in
+    omega arith

@@ -63,7 +63,7 @@ hang_below-below-requires g t c κs within =
     let spares = c.requires.spares in
     let falls : c.args.depth - 1 < c.args.depth = omega arith in
     let some = subst (λ k. min_len ≤ length (own_pairs k)) ci o.child.0 in
-    (search rules, (search rules, (search rules, ((l.0, subst (IsLevelled _) ci o.child.1, l.2), ((λ _. some), omega arith)))))
+    (search rules, (search rules, (search rules, (search rules, ((l.0, subst (IsLevelled _) ci o.child.1, l.2), ((λ _. some), omega arith))))))
 
 pub put_inner-requires : goal.put_inner-requires
 put_inner-requires g t c =

@@ -16,7 +16,7 @@ height-requires g t c κs within =
     let height = r.height in
     let fits = c.requires.1 in
     let falls : height_of c.child.result.now < height_of c.args.node.now = omega arith in
-    (search rules, (search rules, (search rules, (r.below, omega arith, subst (IsLevelled r.below) (sym c.child.ensures) r.levels))))
+    (search rules, (search rules, (search rules, (search rules, (r.below, omega arith, subst (IsLevelled r.below) (sym c.child.ensures) r.levels)))))
 
 pub overflow_add-result : goal.overflow_add-result
 overflow_add-result g t c =

@@ -1,8 +1,12 @@
-use Rattle.std.proofs.Common.{◌≡◌, ◌⊎◌, inl, inr, [], ◌++◌, length, ap, ◌∙◌, arith}
+use Rattle.std.proofs.Common.{◌≡◌, ◌⊎◌, inl, inr, [], ◌++◌, length, refl, sym, ap, subst, ◌∙◌, arith, length-append}
+use denote.Param.{param}
+use Rattle.fc_base.specs.Ascending.{IsAscending}
 use Rattle.fc_base.specs.Joined.{joined}
 use Rattle.fc_tree_node.specs.Tree.{entries}
 use Rattle.fc_tree_drain.proofs.Opening.{no_item}
-use Rattle.fc_tree_append.proofs.JoinFacts.{drained}
+use Rattle.fc_tree_drain.proofs.Sizes.{front_fits}
+use Rattle.fc_tree_build.proofs.StackSizes.{items_fit, builder_fits}
+use Rattle.fc_tree_append.proofs.JoinFacts.{drained, some_left}
 use Rattle.fc_tree_append.proofs.merge.merge.Goals as goal
 use Rattle.fc_tree_append.proofs.merge.merge.Goals.{then-loop-their_pairs-test+else-not-is_empty, else-loop-their_pairs-test}
 
@@ -31,3 +35,92 @@ returns-clause-least g c =
       | then-loop-their_pairs-test+else-not-is_empty w ↦ (let none = w.is_empty-in-loop-their_pairs.ensures.0 w.if-not-is_empty.false in omega arith)
       | else-loop-their_pairs-test w ↦ (let none = c.is_empty.ensures.0 w.loop-their_pairs-test.false in omega arith)
     ]
+
+pub over-our_pairs-requires : goal.over-our_pairs-requires
+over-our_pairs-requires g c = (front_fits (param 0 g.row.K) (param 1 g.row.V) g.row.A g.A.Allocator g.met.A.Handle.small, c.requires.sound.0)
+
+pub over-their_pairs-requires : goal.over-their_pairs-requires
+over-their_pairs-requires g c = (front_fits (param 0 g.row.K) (param 1 g.row.V) g.row.A g.A.Allocator g.met.A.Handle.small, c.requires.sound.1)
+
+pub loop-their_pairs-init : goal.loop-their_pairs-init
+loop-their_pairs-init g c =
+    let first = subst (λ xs. IsAscending g.K.Ord.cmp xs) (sym c.over-our_pairs.ensures) c.requires.order.0 in
+    let second = subst (λ xs. IsAscending g.K.Ord.cmp xs) (sym c.over-their_pairs.ensures) c.requires.order.1 in
+    let ours = ap length c.over-our_pairs.ensures in
+    let theirs = ap length c.over-their_pairs.ensures in
+    let some = c.requires.some.0 in
+    let room = c.requires.room in
+    ((first, second), omega arith, refl, refl, omega arith, omega arith, omega arith, omega arith, refl)
+
+pub is_empty-requires : goal.is_empty-requires
+is_empty-requires g c = front_fits (param 0 g.row.K) (param 1 g.row.V) g.row.A g.A.Allocator g.met.A.Handle.small
+
+pub is_empty-requires-in-loop-their_pairs : goal.is_empty-requires-in-loop-their_pairs
+is_empty-requires-in-loop-their_pairs g c = front_fits (param 0 g.row.K) (param 1 g.row.V) g.row.A g.A.Allocator g.met.A.Handle.small
+
+pub step-requires : goal.step-requires
+step-requires g c =
+    let l = c.loop-their_pairs in
+    let ours = some_left _ l.our_pairs c.is_empty.ensures c.loop-their_pairs-test.true in
+    let theirs = some_left _ l.their_pairs c.is_empty-in-loop-their_pairs.ensures c.if-not-is_empty.true in (
+      front_fits (param 0 g.row.K) (param 1 g.row.V) g.row.A g.A.Allocator g.met.A.Handle.small,
+      (builder_fits (param 0 g.row.K) (param 1 g.row.V) g.row.A g.A.Allocator g.met.A.Handle.small, ((ours, theirs), (l.invariant.0, l.invariant.1))),
+    )
+
+pub loop-their_pairs-preserved : goal.loop-their_pairs-preserved
+loop-their_pairs-preserved g c =
+    let l = c.loop-their_pairs in
+    let i = l.invariant in
+    let ours = some_left _ l.our_pairs c.is_empty.ensures c.loop-their_pairs-test.true in
+    let theirs = some_left _ l.their_pairs c.is_empty-in-loop-their_pairs.ensures c.if-not-is_empty.true in
+    let s = c.step.ensures in
+    let one = s.comparisons in
+    let fewer = s.fewer in
+    let a = s.taken.0 in
+    let b = s.taken.1 in
+    let all = i.5 in
+    let first = i.6 in
+    let second = i.7 in
+    (s.order, s.room, s.pairs ∙ i.2, s.filled ∙ i.3, omega arith, omega arith, omega arith, omega arith, s.moves ∙ i.8)
+
+pub push_all-requires : goal.push_all-requires
+push_all-requires g c =
+    let room = c.loop-their_pairs.invariant.1 in (
+      front_fits (param 0 g.row.K) (param 1 g.row.V) g.row.A g.A.Allocator g.met.A.Handle.small,
+      (builder_fits (param 0 g.row.K) (param 1 g.row.V) g.row.A g.A.Allocator g.met.A.Handle.small, omega arith),
+    )
+
+pub push_all-requires-2 : goal.push_all-requires-2
+push_all-requires-2 g c =
+    let l = c.loop-their_pairs in
+    let small = g.met.A.Handle.small in
+    let room = l.invariant.1 in
+    let e = ap length c.push_all.ensures.pairs ∙ length-append l.builder.pairs l.our_pairs in
+    let filled = c.push_all.ensures.filled in (
+      front_fits (param 0 g.row.K) (param 1 g.row.V) g.row.A g.A.Allocator small,
+      (builder_fits (param 0 g.row.K) (param 1 g.row.V) g.row.A g.A.Allocator small, omega arith),
+    )
+
+pub array_drop-their_pairs-inside-requires : goal.array_drop-their_pairs-inside-requires
+array_drop-their_pairs-inside-requires g c = items_fit (param 0 g.row.K) (param 1 g.row.V) g.row.A g.A.Allocator g.met.A.Handle.small
+
+pub array_drop-our_pairs-inside-requires : goal.array_drop-our_pairs-inside-requires
+array_drop-our_pairs-inside-requires g c = items_fit (param 0 g.row.K) (param 1 g.row.V) g.row.A g.A.Allocator g.met.A.Handle.small
+
+pub returns-clause-len : goal.returns-clause-len
+returns-clause-len g c =
+    let room = c.room-room.ensures in
+    let left = c.room.ensures in
+    let all = ap length c.finish.ensures.pairs in
+    let blank = ap length c.requires.blank in
+    let i = c.loop-their_pairs.invariant.3 in
+    let ours = c.push_all.ensures.filled in
+    let theirs = c.push_all-2.ensures.filled in
+    omega arith
+
+pub returns-clause-comparisons : goal.returns-clause-comparisons
+returns-clause-comparisons g c =
+    let ours = ap length c.over-our_pairs.ensures in
+    let theirs = ap length c.over-their_pairs.ensures in
+    let few = c.loop-their_pairs.invariant.4 in
+    omega arith

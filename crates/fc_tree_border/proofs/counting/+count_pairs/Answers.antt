@@ -23,7 +23,7 @@ count_pairs-total-requires g t c κs within =
     let q = ap height_of c.child.ensures in
     let lower = r.lower in
     let falls : height_of c.child.result.now < height_of n = omega arith in
-    (search rules, (search rules, (search rules, ((r.below, subst (IsLevelled r.below) (sym c.child.ensures) r.levels), omega arith))))
+    (search rules, (search rules, (search rules, (search rules, ((r.below, subst (IsLevelled r.below) (sym c.child.ensures) r.levels), omega arith)))))
 
 pub overflow_add-total : goal.overflow_add-total
 overflow_add-total g t c =

@@ -64,8 +64,19 @@ cut_into-requires g t c κs within =
     let on = f.onward in
     let some = on.some in
     let long = ap length (more_steps c.args.path.now c.requires.some) in
-    let falls : length (slice_range c.args.path.now 1 (length c.args.path.now)) < length c.args.path.now = omega arith in
-    (search rules, (search rules, (search rules, (on.some, (subst (IsPath _) (sym (d.is ∙ f.left_child)) on.path, (f.below, on.short, d.levels, d.blank))))))
+    let falls : length (slice_range c.args.path.now 1 (length c.args.path.now)) < length c.args.path.now = omega arith in (
+      search rules,
+      (
+        search rules,
+        (
+          search rules,
+          (
+            search rules,
+            (on.some, (subst (IsPath _) (sym (d.is ∙ f.left_child)) on.path, (f.below, on.short, d.levels, d.blank))),
+          ),
+        ),
+      ),
+    )
 
 pub returns-clause-front : goal.returns-clause-front
 returns-clause-front g t c =

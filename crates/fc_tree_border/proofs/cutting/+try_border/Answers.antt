@@ -14,7 +14,7 @@ try_border-requires g t c κs within =
     let q = ap height_of c.child.ensures in
     let lower = r.lower in
     let falls : height_of c.child.result.now < height_of c.args.node.now = omega arith in
-    (search rules, (search rules, (search rules, (r.below, subst (IsLevelled r.below) (sym c.child.ensures) r.levels))))
+    (search rules, (search rules, (search rules, (search rules, (r.below, subst (IsLevelled r.below) (sym c.child.ensures) r.levels)))))
 
 pub returns-clause-ok : goal.returns-clause-ok
 returns-clause-ok g t c h l =

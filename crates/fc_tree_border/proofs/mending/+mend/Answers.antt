@@ -13,7 +13,7 @@ mend-requires g t c κs within =
     let x = bordered_height c.args.side _ c.args.root c.requires.1 in
     let y = bordered_height c.args.side _ c.in-Some.child r.bordered in
     let falls : height_of c.in-Some.child < height_of c.args.root = omega arith in
-    (search rules, (search rules, (search rules, (r.below, r.bordered))))
+    (search rules, (search rules, (search rules, (search rules, (r.below, r.bordered)))))
 
 pub returns-in-Some-clause-pairs : goal.returns-in-Some-clause-pairs
 returns-in-Some-clause-pairs g t c =

@@ -37,7 +37,7 @@ mend_below-requires g t c κs within =
     let x = bordered_height c.args.side _ c.args.node.now c.requires.bordered.1 in
     let y = bordered_height c.args.side _ c.get_mut-child.result.now l.bordered in
     let falls : height_of c.get_mut-child.result.now < height_of c.args.node.now = omega arith in
-    (search rules, (search rules, (search rules, (omega arith, (l.below, l.bordered)))))
+    (search rules, (search rules, (search rules, (search rules, (omega arith, (l.below, l.bordered))))))
 
 pub returns-clause-pairs : goal.returns-clause-pairs
 returns-clause-pairs g t c =

@@ -1,5 +1,7 @@
-use Rattle.std.proofs.Common.{rules, arith}
+use Rattle.std.proofs.Common.{rules, ◌++◌, ◌∷◌, [], ap, ◌∙◌, arith}
 use Rattle.fc_base.specs.Sizes.{most_height}
+use Rattle.fc_tree_node.specs.Node.{pairs_of}
+use Rattle.fc_tree_drain.specs.Opened.{before_back}
 use Rattle.fc_tree_build.proofs.growing.hang_above.Goals as goal
 
 pub attach-requires : goal.attach-requires
@@ -23,3 +25,7 @@ returns-in-Ok-clause-levels g c =
       c.attach.ensures.short most_height c.requires.low
           (omega arith),
     )
+
+pub returns-in-Ok-clause-pairs : goal.returns-in-Ok-clause-pairs
+returns-in-Ok-clause-pairs g c =
+    c.attach.ensures.pairs ∙ ap (λ n. before_back c.args.spine.now ++ (pairs_of n ++ c.args.pair ∷ [])) c.replace-leaf.ensures.value

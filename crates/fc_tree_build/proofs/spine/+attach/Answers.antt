@@ -1,5 +1,5 @@
 use Rattle.std.proofs.Common.{rules, ◌≡◌, ℕ, suc, ◌+◌, ◌-◌, ◌<◌, ◌≤◌, [], ◌∷◌, length, ap, ◌∙◌, arith, length-append}
-use Rattle.fc_base.specs.Sizes.{capacity}
+use Rattle.fc_base.specs.Sizes.{capacity, most_levels}
 use Rattle.fc_tree_node.specs.Node.{own_pairs, IsBlankInner}
 use Rattle.fc_tree_build.specs.Spine.{IsOpenEnd}
 use Rattle.fc_tree_build.specs.Spares.{needed}
@@ -108,7 +108,9 @@ attach-requires g t c κs within =
     let long = c.requires.low.2 in
     let few = c.requires.low.3 in
     let falls : length c.open_end-node.new.spine < length c.args.spine.now = omega arith in
-    (search rules, (search rules, (search rules, (search rules, ((suc h, o.1, closed), (blank, (omega arith, (d, omega arith, omega arith, omega arith))))))))
+    let s = c.open_end-node.new.spine in
+    let short : (e : ℕ) × (e ≤ most_levels) × (length s ≤ e) × (needed s ≤ e) = (d, omega arith, omega arith, omega arith) in
+    (search rules, (search rules, (search rules, (search rules, (search rules, ((suc h, o.1, closed), (blank, (omega arith, short))))))))
 
 pub take_spare-requires : goal.take_spare-requires
 take_spare-requires g t c =

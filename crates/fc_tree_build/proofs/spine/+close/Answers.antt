@@ -24,7 +24,7 @@ close-requires g t c κs within =
     let falls : length c.pop-node.new.self < length c.args.spine.now = omega arith in
     let h = c.requires.levels.0 in
     let closed = closed_bordered h _ _ _ p.0 c.put_child.ensures.pairs c.put_child.ensures.children c.requires.levels.2 in
-    (search rules, (search rules, (search rules, (search rules, (suc h, p.1, closed)))))
+    (search rules, (search rules, (search rules, (search rules, (search rules, (suc h, p.1, closed))))))
 
 pub returns-clause-pairs : goal.returns-clause-pairs
 returns-clause-pairs g t c =

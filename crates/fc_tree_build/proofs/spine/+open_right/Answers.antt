@@ -48,7 +48,7 @@ open_right-requires g t c κs within =
     let above = o.above in
     let falls : most_levels - length c.push.new.self < most_levels - length c.args.spine.now = omega arith in
     let spine = spine_pushed o.level _ _ _ c.push.ensures (subst (λ h. IsSpine h c.args.spine.now) o.above c.requires.levels.2) o.opened in
-    (search rules, (search rules, (search rules, (search rules, (o.level, o.child, spine, omega arith)))))
+    (search rules, (search rules, (search rules, (search rules, (search rules, (o.level, o.child, spine, omega arith))))))
 
 pub returns-clause-pairs : goal.returns-clause-pairs
 returns-clause-pairs g t c =

@@ -1,4 +1,5 @@
 use Rattle.std.proofs.Common.{◌-◌, arith}
+use Rattle.std.proofs.lemmas.Bool.{ltb-true}
 use Rattle.fc_tree_build.proofs.SpineFacts.{needed_room}
 use Rattle.fc_tree_build.proofs.Ends.{last_taken}
 use Rattle.fc_tree_build.proofs.spine.has_room.Goals as goal
@@ -8,4 +9,5 @@ returns-then-len-gt0 g c room =
     let some = c.if-len-gt0.true in
     let n = c.len-len.ensures.value in
     let v = c.len.ensures.value in
-    needed_room _ _ _ (last_taken c.args.spine.now (c.len-len.result - 1) c.get.result.now (omega arith) c.get.ensures) (grind (arith))
+    let less = ltb-true _ _ room in
+    needed_room _ _ _ (last_taken c.args.spine.now (c.len-len.result - 1) c.get.result.now (omega arith) c.get.ensures) (omega arith)

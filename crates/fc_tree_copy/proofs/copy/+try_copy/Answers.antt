@@ -9,7 +9,7 @@ use Rattle.fc_tree_copy.proofs.copy.+try_copy.Goals as goal
 pub try_copy-requires : goal.try_copy-requires
 try_copy-requires g t c κs within =
     let fewer = fewer_nodes c.args.node.now c.child.result.now c.loop-i.i (omega (arith, c.loop-i.invariant.0)) c.child.ensures in
-    (omega (arith, fewer, c.decreases), (search rules, (search rules, (search rules, search rules))))
+    (omega (arith, fewer, c.decreases), (search rules, (search rules, (search rules, (search rules, search rules)))))
 
 pub push_child-requires-clause-room : goal.push_child-requires-clause-room
 push_child-requires-clause-room g t c =

@@ -25,7 +25,7 @@ open_first-requires g t c κs within =
     let e = ap length c.push.ensures ∙ length-append c.args.stack.now _ in
     let falls : most_levels - length c.push.new.self < most_levels - length c.args.stack.now = omega arith in
     let u = under_first c.args.node _ _ _ _ c.requires c.take_first_child-child.ensures.children c.take_first_child-child.ensures.pairs c.push.ensures in
-    (search rules, (search rules, (search rules, (search rules, u))))
+    (search rules, (search rules, (search rules, (search rules, (search rules, u)))))
 
 pub returns-clause-pairs : goal.returns-clause-pairs
 returns-clause-pairs g t c =

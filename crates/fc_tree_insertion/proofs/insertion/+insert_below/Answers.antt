@@ -52,7 +52,7 @@ insert_below-below-requires g t c κs within =
     let more = k.more in
     let path = subst (IsPath _) (sym k.is) s.onward in
     let levels = subst (IsLevelled _) (sym k.is) b.1 in
-    (search rules, (search rules, (search rules, (omega arith, (path, (levels, (leaf_passed _ k c.requires.leaf, omega arith)))))))
+    (search rules, (search rules, (search rules, (search rules, (omega arith, (path, (levels, (leaf_passed _ k c.requires.leaf, omega arith))))))))
 
 pub put_inner-requires : goal.put_inner-requires
 put_inner-requires g t c =

@@ -48,8 +48,19 @@ insert_in_leaf-requires g t c κs within =
     let b = child_below _ c.args.node.now _ s.levels s.le in
     let e = ap (λ n. length (own_pairs n)) (leaf_below c.args.path.now _ _ (omega arith) s d.1) in
     let long = s.long in
-    let height = s.height in
-    (search rules, (search rules, (search rules, (omega arith, (subst (IsPath _) (sym d.1) s.onward, (subst (IsLevelled _) (sym d.1) b.1, omega arith))))))
+    let height = s.height in (
+      search rules,
+      (
+        search rules,
+        (
+          search rules,
+          (
+            search rules,
+            (omega arith, (subst (IsPath _) (sym d.1) s.onward, (subst (IsLevelled _) (sym d.1) b.1, omega arith))),
+          ),
+        ),
+      ),
+    )
 
 pub returns-clause-pairs : goal.returns-clause-pairs
 returns-clause-pairs g t c =

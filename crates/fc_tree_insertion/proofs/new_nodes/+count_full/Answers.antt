@@ -26,7 +26,7 @@ count_full-below-requires g t c κs within =
     let height = s.height in
     let b = child_below _ c.args.node.now _ s.levels s.le in
     let path = subst (IsPath _) (sym c.child.ensures) s.onward in
-    (search rules, (search rules, (search rules, (omega arith, (path, subst (IsLevelled _) (sym c.child.ensures) b.1)))))
+    (search rules, (search rules, (search rules, (search rules, (omega arith, (path, subst (IsLevelled _) (sym c.child.ensures) b.1))))))
 
 pub returns-then-len-eq-CAPACITY-2 : goal.returns-then-len-eq-CAPACITY-2
 returns-then-len-eq-CAPACITY-2 g t c =

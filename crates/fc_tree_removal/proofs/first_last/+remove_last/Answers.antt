@@ -33,7 +33,7 @@ remove_last-pair-requires g t c κs within =
     let l = child g t (goal.at.remove_last-pair-requires g t c).After-get_mut-child _ c.requires.sound.1.1 in
     let falls : length (pairs_of c.get_mut-child.result.now) < length (pairs_of c.args.node.now) =
     fewer_last l.below _ _ c.len-end.result l.levels c.requires.sound.1.0 c.len-end.ensures.value l.is in
-    (search rules, (search rules, (search rules, (l.below, l.sound))))
+    (search rules, (search rules, (search rules, (search rules, (l.below, l.sound)))))
 
 pub mend_child-requires : goal.mend_child-requires
 mend_child-requires g t c =

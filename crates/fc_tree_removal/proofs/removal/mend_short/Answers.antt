@@ -13,7 +13,7 @@ siblings : (g : given.Over) (c : After-saturating_sub-place g) (h : ℕ) → IsS
     → IsPairAt h c.args.node.now c.saturating_sub-place.result
 siblings g c h s = pair_short h c.args.node.now c.args.index _ c.saturating_sub-place.ensures s
 
-abbrev pairs : {K V : Type 0} → Node K V → ℕ
+abbrev pairs : {K V Z : Type 0} → Node K V Z → ℕ
 pairs n = length (own_pairs n)
 
 -- how many pairs the two children hold themselves

@@ -54,7 +54,7 @@ mend-requires-in-loop g t c κs within =
     let x = loose_height (suc a.below) n a.levels in
     let y = loose_height a.below c.get_mut-in-loop.result.now b in
     let falls : height_of c.get_mut-in-loop.result.now < height_of n = omega arith in
-    (omega (arith, falls, c.decreases), (search rules, (search rules, (a.below, b))))
+    (omega (arith, falls, c.decreases), (search rules, (search rules, (search rules, (a.below, b)))))
 
 pub settle-at-requires : goal.settle-at-requires
 settle-at-requires g t c =

@@ -37,7 +37,7 @@ settle-requires g t c κs within =
     let q = seam_height l.below c.get_mut.result.now c.join-place.result.1 l.met.0 in
     let e = l.height in
     let falls : height_of c.get_mut.result.now < height_of n = omega arith in
-    (search rules, (search rules, (search rules, (l.below, l.met.0))))
+    (search rules, (search rules, (search rules, (search rules, (l.below, l.met.0)))))
 
 pub returns-then-not-is_leaf-clause-pairs : goal.returns-then-not-is_leaf-clause-pairs
 returns-then-not-is_leaf-clause-pairs g t c =

@@ -23,7 +23,7 @@ without_thin_roots-requires g t c κs within =
     let x = thin_height c.requires.0 c.args.root c.requires.1 in
     let y = thin_height r.below c.in-Some.child r.thin in
     let falls : height_of c.in-Some.child < height_of c.args.root = omega arith in
-    (search rules, (search rules, (search rules, (r.below, r.thin))))
+    (search rules, (search rules, (search rules, (search rules, (r.below, r.thin)))))
 
 pub returns-in-None-clause-pairs : goal.returns-in-None-clause-pairs
 returns-in-None-clause-pairs g t c =

@@ -36,7 +36,7 @@ sift-requires g t c κs within =
     let x = loose_height c.requires.loose.0 c.args.node.now c.requires.loose.1 in
     let y : height_of c.get_mut.result.now < c.requires.loose.0 = l.falls in
     let falls : height_of c.get_mut.result.now < height_of c.args.node.now = omega arith in
-    (omega (arith, falls, c.decreases), (search rules, (search rules, (search rules, ((l.below, l.loose), c.loop.invariant.callable)))))
+    (omega (arith, falls, c.decreases), (search rules, (search rules, (search rules, (search rules, ((l.below, l.loose), c.loop.invariant.callable))))))
 
 pub sift_between-at-requires-clause-loose : goal.sift_between-at-requires-clause-loose
 sift_between-at-requires-clause-loose g t c =
@@ -73,10 +73,10 @@ sift-requires-2 g t c κs within =
     let x = loose_height c.requires.loose.0 c.args.node.now c.requires.loose.1 in
     let y : height_of c.get_mut-2.result.now < c.requires.loose.0 = l.falls in
     let falls : height_of c.get_mut-2.result.now < height_of c.args.node.now = omega arith in
-    (omega (arith, falls, c.decreases), (search rules, (search rules, (search rules, ((l.below, l.loose), c.loop.invariant.callable)))))
+    (omega (arith, falls, c.decreases), (search rules, (search rules, (search rules, (search rules, ((l.below, l.loose), c.loop.invariant.callable))))))
 
 ended : (g : given.Over) (t : ℕ) (c : After-sift-2 g t) (l : IsLent c.requires.loose.0 c.loop.node c.get_mut-2.result.now c.loop.at)
-    (new : Node g.row.K.Denot g.row.V.Denot) → IsChildSet c.loop.node new c.loop.at c.sift-2.new.node
+    (new : Node g.row.K.Denot g.row.V.Denot g.row.A.Denot) → IsChildSet c.loop.node new c.loop.at c.sift-2.new.node
     → IsAllSifted (SiftsPair g.S.Sieve.asked g.S.Sieve.given) c.args.sieve.now c.sift-2.new.sieve c.args.node.now new
 ended g t c l new m =
     let R = SiftsPair g.S.Sieve.asked g.S.Sieve.given in

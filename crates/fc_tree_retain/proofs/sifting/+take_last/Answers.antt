@@ -13,9 +13,9 @@ use Rattle.fc_tree_retain.proofs.sifting.+take_last.Goals as goal
 use Rattle.fc_tree_retain.proofs.sifting.+take_last.Goals.{After-take_last}
 
 -- the node, whose last child came back
-abbrev left : (g : given.Over) (t : ℕ) → After-take_last g t → Node g.row.K.Denot g.row.V.Denot
+abbrev left : (g : given.Over) (t : ℕ) → After-take_last g t → Node g.row.K.Denot g.row.V.Denot g.row.A.Denot
 left g t c =
-    roll-Node _ _ (record { pairs = own_pairs c.args.node.now; children = Some (slice_set c.content.result.now c.len-end.result c.take_last.new.node) })
+    roll-Node _ _ _ (record { pairs = own_pairs c.args.node.now; children = Some (slice_set c.content.result.now c.len-end.result c.take_last.new.node) })
 
 last : (g : given.Over) (t : ℕ) (c : After-take_last g t)
     → IsLastLent c.args.node.now (left g t c) c.get_mut.result.now c.take_last.new.node c.len-end.result
@@ -53,7 +53,7 @@ take_last-requires g t c κs within =
     let x = loose_height (suc a.below) n a.levels in
     let y : height_of c.get_mut.result.now < suc a.below = l.falls in
     let falls : height_of c.get_mut.result.now < height_of n = omega arith in
-    (search rules, (search rules, (search rules, (l.below, l.loose))))
+    (search rules, (search rules, (search rules, (search rules, (l.below, l.loose)))))
 
 pub returns-in-Some-clause-loose : goal.returns-in-Some-clause-loose
 returns-in-Some-clause-loose g t c h b =

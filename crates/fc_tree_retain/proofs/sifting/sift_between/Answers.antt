@@ -30,9 +30,9 @@ lent g c w =
     ∙ w.child c.requires.inner (omega arith)
 
 -- the node, whose child came back
-abbrev left : (g : given.Over) → After-take_last g → Node g.row.K.Denot g.row.V.Denot
+abbrev left : (g : given.Over) → After-take_last g → Node g.row.K.Denot g.row.V.Denot g.row.A.Denot
 left g c =
-    roll-Node _ _ (record { pairs = own_pairs c.stays.new.node; children = Some (slice_set c.content.result.now c.args.at c.take_last.new.node) })
+    roll-Node _ _ _ (record { pairs = own_pairs c.stays.new.node; children = Some (slice_set c.content.result.now c.args.at c.take_last.new.node) })
 
 taken : (g : given.Over) (c : After-take_last g) → IsWritten c.args.node.now c.stays.new.node c.args.at c.if-stays.ensures.asked.1
     → IsTurned c.args.node.now (left g c) c.args.at c.if-stays.ensures.asked.1 c.take_last.new.node

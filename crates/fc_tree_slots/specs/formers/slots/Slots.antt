@@ -12,6 +12,7 @@ use denote.Param.Weighed.{Weighed, w_list}
 use denote.Model.Placed.{held, view_places}
 use denote.Param.{value_of}
 use denote.Struct.Props.{props}
+use Rattle.core.specs.declared.alloc.Allocator.{Ghosts}
 use Rattle.fc_tree_slots.specs.formers.Maybe.{maybe}
 use Rattle.fc_tree_slots.specs.Cells.{present, holds}
 use Rattle.fc_tree_slots.specs.formers.cells.Cells as cells
@@ -20,20 +21,20 @@ use Rattle.fc_tree_slots.specs.declared.slots.Slots.TheView.{view, invariant}
 use Rattle.fc_tree_slots.specs.contracts.slots.Slots as C
 use Rattle.fc_tree_slots.specs.contracts.slots.Slots.TheInside as I
 
-abbrev pub the_former : Former {0} → ℕ → Former {0}
-the_former g N = list g
+abbrev pub the_former : Former {0} → ℕ → Type 0 → Former {0}
+the_former g N Z = list g
 
-abbrev pub the_weighed : {g : Former {0}} → Weighed g → (N : ℕ) → Weighed (the_former g N)
-the_weighed w N = w_list w
+abbrev pub the_weighed : {g : Former {0}} → Weighed g → (N : ℕ) (Z : Type 0) → Weighed (the_former g N Z)
+the_weighed w N Z = w_list w
 
-abbrev pub the_items : (N : ℕ) (X : Type 0) → List X → List X
-the_items N X d = d
+abbrev pub the_items : (N : ℕ) (Z X : Type 0) → List X → List X
+the_items N Z X d = d
 
-pub the_items_listed : (N : ℕ) (X : Type 0) (d : List X) → listed _ (children (the_former this N) X d) ≡ the_items N X d
-the_items_listed N X d = list-listed X d
+pub the_items_listed : (N : ℕ) (Z X : Type 0) (d : List X) → listed _ (children (the_former this N Z) X d) ≡ the_items N Z X d
+the_items_listed N Z X d = list-listed X d
 
-abbrev fields : ℕ → Former {0}
-fields N = via (pair (cells.the_former this) (const ℕ)) (λ X. Inside X N) (λ X a. (a.cells, a.len)) (λ X v. record { cells = v.0; len = v.1 }) (λ X a. refl) (λ X v. refl)
+abbrev fields : ℕ → Type 0 → Former {0}
+fields N Z = via (pair (cells.the_former this Z) (const ℕ)) (λ X. Inside X N Z) (λ X a. (a.cells, a.len)) (λ X v. record { cells = v.0; len = v.1 }) (λ X a. refl) (λ X v. refl)
 
 module _ (X Y : Type 0) (h : X → Y) where
   abbrev on : Option X → Option Y
@@ -54,17 +55,21 @@ holds-on X Y h [] = refl
 holds-on X Y h (None ∷ cs) = ap (λ l. false ∷ l) (holds-on X Y h cs)
 holds-on X Y h (Some x ∷ cs) = ap (λ l. true ∷ l) (holds-on X Y h cs)
 
-module _ (N : RattleType) (R S : RattleType) (h : R.Denot → S.Denot) where
+module _ (N Z : RattleType) (G : Ghosts Z.Denot) (R S : RattleType) (h : R.Denot → S.Denot) where
   abbrev n : ℕ
   n = value_of N
 
-  pub the_places : Alike R S h → Alike (C.the_row R N) (C.the_row S N) ((the_former this n).map R.Denot S.Denot h)
-  the_places a = view_places (fields n) (list this) (λ X. view X n) (λ X Y k u. present-map X Y k u.cells) (λ X u. present-held X u.cells) R.Denot S.Denot h (C.the_row R N).coded (C.the_row S N).coded
-      (invariant R.Denot n) (invariant S.Denot n) (λ u. hlevel props) (λ u. hlevel props)
-      (λ u e. (e.0, holds-on R.Denot S.Denot h u.cells ∙ e.1)) (λ u e. (e.0, sym (holds-on R.Denot S.Denot h u.cells) ∙ e.1))
-      (over (I.the_row R N)) (over (I.the_row S N))
-      (struct_places (I.the_type R N) (I.the_type S N) ((cells.the_former this).map R.Denot S.Denot h, (λ k. k, tt)) _ (λ d. refl) refl
-      (laid _ _ _ (cells.the_places R S h a), ((refl, (λ k. refl, λ k. refl)), tt)))
+  abbrev z : Type 0
+  z = Z.Denot
 
-  pub the_codes_placed : Recodes R S h → Recodes (C.the_row R N) (C.the_row S N) ((the_former this n).map R.Denot S.Denot h)
+  pub the_places : Alike R S h → Alike (C.the_row R N Z G) (C.the_row S N Z G) ((the_former this n z).map R.Denot S.Denot h)
+  the_places a = view_places (fields n z) (list this) (λ X. view X n z G) (λ X Y k u. present-map X Y k u.cells) (λ X u. present-held X u.cells) R.Denot S.Denot h
+      (C.the_row R N Z G).coded (C.the_row S N Z G).coded
+      (invariant R.Denot n z G) (invariant S.Denot n z G) (λ u. hlevel props) (λ u. hlevel props)
+      (λ u e. (e.0, holds-on R.Denot S.Denot h u.cells ∙ e.1)) (λ u e. (e.0, sym (holds-on R.Denot S.Denot h u.cells) ∙ e.1))
+      (over (I.the_row R N Z G)) (over (I.the_row S N Z G))
+      (struct_places (I.the_type R N Z G) (I.the_type S N Z G) ((cells.the_former this z).map R.Denot S.Denot h, (λ k. k, tt)) _ (λ d. refl) refl
+      (laid _ _ _ (cells.the_places Z G R S h a), ((refl, (λ k. refl, λ k. refl)), tt)))
+
+  pub the_codes_placed : Recodes R S h → Recodes (C.the_row R N Z G) (C.the_row S N Z G) ((the_former this n z).map R.Denot S.Denot h)
   the_codes_placed e d = sym (code_map R.coded.code S.coded.code h (λ x. sym (e x)) d)

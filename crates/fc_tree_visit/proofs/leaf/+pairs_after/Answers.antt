@@ -18,10 +18,13 @@ pairs_after-requires g t c κs within =
         (
           search rules,
           (
-            omega arith,
+            search rules,
             (
-              subst (IsPath _) (sym c.child.ensures) s.onward,
-              subst (IsLevelled _) (sym c.child.ensures) b.1,
+              omega arith,
+              (
+                subst (IsPath _) (sym c.child.ensures) s.onward,
+                subst (IsLevelled _) (sym c.child.ensures) b.1,
+              ),
             ),
           ),
         ),

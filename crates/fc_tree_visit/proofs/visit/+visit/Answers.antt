@@ -72,7 +72,7 @@ visit-requires g t c κs within =
           search rules,
           (
             search rules,
-            ((s.h, r.levels, r.from, (tt, λ q. absurd (omega arith))), (omega arith, c.loop-i.invariant.callable)),
+            (search rules, ((s.h, r.levels, r.from, (tt, λ q. absurd (omega arith))), (omega arith, c.loop-i.invariant.callable))),
           ),
         ),
       ),
@@ -124,7 +124,7 @@ visit-requires-2 g t c κs within =
           search rules,
           (
             search rules,
-            ((s.h, r.levels, r.from, ends), (order, c.loop-i.invariant.callable)),
+            (search rules, ((s.h, r.levels, r.from, ends), (order, c.loop-i.invariant.callable))),
           ),
         ),
       ),
@@ -133,7 +133,7 @@ visit-requires-2 g t c κs within =
 ended : (g : given.Over) (t : ℕ) (c : After-visit-2 g t)
     → AreInner (CalledAtPair g.F.FnMut) c.args.node.now c.args.from.now c.args.to.now c.split-start.result.0 c.split-end.result.0
     c.split-start.result.1.now c.split-end.result.1.now
-    → IsOver (CalledAtPair g.F.FnMut) c.args.node.now (roll-Node _ _ (record {
+    → IsOver (CalledAtPair g.F.FnMut) c.args.node.now (roll-Node _ _ _ (record {
       pairs = own_pairs c.loop-i.node;
       children = Some (slice_set c.content-2.result.now c.split-end.result.0 c.visit-2.new.node);
     })) c.args.f.now c.visit-2.new.f c.args.from.now c.args.to.now

@@ -36,7 +36,7 @@ push_both-requires g t c κs within =
     let q = ap length c.push-2.ensures ∙ length-append c.args.back.now _ in
     let ordered = child_ascends g.K.Ord.cmp l.0 _ _ _ l.1 k c.child.ensures c.requires.order in
     let levels = subst (IsLevelled s.0) (sym c.child.ensures) s.2 in
-    (omega arith, (search rules, (search rules, (search rules, ((s.0, levels, omega arith, omega arith), ordered)))))
+    (omega arith, (search rules, (search rules, (search rules, (search rules, ((s.0, levels, omega arith, omega arith), ordered))))))
 
 pub returns-clause-front : goal.returns-clause-front
 returns-clause-front g t c =

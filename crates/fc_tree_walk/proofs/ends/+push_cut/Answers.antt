@@ -26,7 +26,7 @@ push_cut-requires g t c κs within =
     let long = d.1 in
     let room = d.2 in
     let ordered = child_ascends g.K.Ord.cmp l.0 _ _ _ l.1 k c.child-child.ensures c.requires.order in
-    (omega arith, (search rules, (search rules, (search rules, (d.0, (ordered, turn_first c.place_in.ensures))))))
+    (omega arith, (search rules, (search rules, (search rules, (search rules, (d.0, (ordered, turn_first c.place_in.ensures)))))))
 
 pub returns-clause-gap : goal.returns-clause-gap
 returns-clause-gap g t c =

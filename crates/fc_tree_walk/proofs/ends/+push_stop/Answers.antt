@@ -37,8 +37,19 @@ push_stop-requires g t c κs within =
     let k = child_there l.0 c.args.node.now c.place_in-place.result l.1 c.if-is_leaf.ensures.1 c.place_in-place.ensures.within in
     let d = step_down c.args.gap.now _ _ c.args.node.now _ l k c.push-2.ensures c.child.ensures in
     let long = d.1 in
-    let room = d.2 in
-    (omega arith, (search rules, (search rules, (search rules, (d.0, child_ascends g.K.Ord.cmp l.0 _ _ _ l.1 k c.child.ensures c.requires.order)))))
+    let room = d.2 in (
+      omega arith,
+      (
+        search rules,
+        (
+          search rules,
+          (
+            search rules,
+            (search rules, (d.0, child_ascends g.K.Ord.cmp l.0 _ _ _ l.1 k c.child.ensures c.requires.order)),
+          ),
+        ),
+      ),
+    )
 
 pub returns : goal.returns
 returns g t c =

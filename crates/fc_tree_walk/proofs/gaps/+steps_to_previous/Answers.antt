@@ -12,7 +12,7 @@ use Rattle.fc_tree_walk.proofs.gaps.+steps_to_previous.Goals as goal
 use Rattle.fc_tree_walk.proofs.gaps.+steps_to_previous.Goals.{After-child}
 
 -- what is to be shown of the steps
-told : {K V : Type 0} (gap : List ℕ) (n : Node K V) (steps : ℕ) → IsLast gap n steps → record {
+told : {K V Z : Type 0} (gap : List ℕ) (n : Node K V Z) (steps : ℕ) → IsLast gap n steps → record {
   within : steps ≤ length gap;
   none : steps ≡ 0 → length (before_gap gap n) ≡ 0;
   place : 0 < steps → IsPlace (one_back (take steps gap)) n;
@@ -41,7 +41,7 @@ steps_to_previous-below-requires g t c κs within =
     let height = s.height in
     let b = child_below _ c.args.node.now _ s.levels s.le in
     let path = subst (IsPath _) (sym c.child.ensures) s.onward in
-    (omega arith, (search rules, (search rules, (omega arith, (path, subst (IsLevelled _) (sym c.child.ensures) b.1)))))
+    (omega arith, (search rules, (search rules, (search rules, (omega arith, (path, subst (IsLevelled _) (sym c.child.ensures) b.1))))))
 
 pub returns-then-below-eq0 : goal.returns-then-below-eq0
 returns-then-below-eq0 g t c =

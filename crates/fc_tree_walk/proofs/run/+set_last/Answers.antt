@@ -12,7 +12,7 @@ set_last-requires g t c κs within =
     c.requires.levels (omega arith) c.child.ensures in
     let long = set_length c.args.gap.now c.set.new.self c.args.level _ c.set.ensures in
     let k = c.requires.level in
-    (omega arith, (search rules, (search rules, b)))
+    (omega arith, (search rules, (search rules, (search rules, b))))
 
 pub returns-then-level-len : goal.returns-then-level-len
 returns-then-level-len g t c =

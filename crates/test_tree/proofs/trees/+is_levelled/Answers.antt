@@ -5,7 +5,8 @@ use Rattle.fc_tree_node.specs.Node.{IsLevelled, IsLeaf, own_pairs}
 use Rattle.fc_tree_node.specs.declared.node.Node.{Node}
 use Rattle.test_tree.proofs.trees.+is_levelled.Goals as goal
 
-leaf_levelled : {K V : Type 0} (b : Bool) (h : ℕ) (n : Node K V) → (IsTrue b ↔ IsLeaf n) → h ≡ 0 → length (own_pairs n) ≤ capacity → OnTrue b (IsLevelled h n)
+leaf_levelled : {K V Z : Type 0} (b : Bool) (h : ℕ) (n : Node K V Z) → (IsTrue b ↔ IsLeaf n) → h ≡ 0 → length (own_pairs n) ≤ capacity
+    → OnTrue b (IsLevelled h n)
 leaf_levelled false h n t e f = tt
 leaf_levelled true h n t e f = rw e (f, t.0 refl)
 

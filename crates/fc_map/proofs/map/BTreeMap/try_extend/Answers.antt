@@ -1,8 +1,10 @@
 use Rattle.std.proofs.Common.{◌∷◌, ◌++◌, [], rules, sym, subst, ◌∙◌}
+use denote.Param.{param}
 use Rattle.fc_base.specs.Extended.{IsExtendedUpTo}
 use Rattle.fc_map.specs.Entries.{entries}
 use Rattle.fc_vec.proofs.ItemFacts.{yields_more}
 use Rattle.fc_map.proofs.ExtendFacts.{extended_more, up_to}
+use Rattle.fc_map.proofs.ExtensionSizes.{extension_fits}
 use Rattle.fc_map.proofs.map.BTreeMap.try_extend.Goals as goal
 
 pub loop-key-preserved : goal.loop-key-preserved
@@ -26,3 +28,15 @@ returns-in-Err-clause-error g c =
       λ rest. subst (λ s. IsExtendedUpTo g.K.Ord.cmp (entries c.args.self.now) ((c.loop-key.yielded ++ item ∷ []) ++ rest) s c.in-Err.error)
           (sym (c.finish.ensures.pairs ∙ refusal.unchanged)) (upto rest),
     )
+
+pub over-extension-requires : goal.over-extension-requires
+over-extension-requires g c = extension_fits (param 0 g.row.K) (param 1 g.row.V) g.row.A g.K.Ord g.K.PartialEq g.K.PartialOrd g.A.Allocator g.met.A.Handle.small
+
+pub try_put-requires : goal.try_put-requires
+try_put-requires g c = extension_fits (param 0 g.row.K) (param 1 g.row.V) g.row.A g.K.Ord g.K.PartialEq g.K.PartialOrd g.A.Allocator g.met.A.Handle.small
+
+pub finish-requires : goal.finish-requires
+finish-requires g c = extension_fits (param 0 g.row.K) (param 1 g.row.V) g.row.A g.K.Ord g.K.PartialEq g.K.PartialOrd g.A.Allocator g.met.A.Handle.small
+
+pub finish-requires-2 : goal.finish-requires-2
+finish-requires-2 g c = extension_fits (param 0 g.row.K) (param 1 g.row.V) g.row.A g.K.Ord g.K.PartialEq g.K.PartialOrd g.A.Allocator g.met.A.Handle.small

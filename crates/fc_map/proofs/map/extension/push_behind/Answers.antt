@@ -1,5 +1,5 @@
 use Rattle.std.proofs.Common.{sym, ◌∙◌}
-use Rattle.fc_map.proofs.ExtendFacts.{put_behind, ascending_behind}
+use Rattle.fc_map.proofs.ExtendFacts.{put_behind, ascending_behind, push_refusal}
 use Rattle.fc_map.proofs.map.extension.push_behind.Goals as goal
 
 pub returns-then-len-eq18446744073709551615-clause-new_key : goal.returns-then-len-eq18446744073709551615-clause-new_key
@@ -14,3 +14,8 @@ returns-in-Ok-clause-ascending g c = ascending_behind g.K.Ord.cmp c.args.tree.no
 
 pub returns-in-Err-clause-new_key : goal.returns-in-Err-clause-new_key
 returns-in-Err-clause-new_key g c = (put_behind g.K.Ord.cmp c.args.tree.now.pairs c.args.key c.args.value c.requires.behind).1
+
+pub returns-in-Err-clause-error : goal.returns-in-Err-clause-error
+returns-in-Err-clause-error g c =
+    push_refusal c.args.tree.now.pairs c.len.result c.in-Err.error c.len.ensures c.if-len-eq18446744073709551615.false c.in-Err.ensures.error
+    c.in-Err.ensures.full

@@ -8,10 +8,10 @@ ghost use Rattle.fc_map.specs.ReadyEntry.{ready_map, ready_map_ref, ready_key, r
 
 use super::super::OccupiedEntry;
 use super::{Nodes, ReadyEntry};
-use fc_base::Count;
+use fc_base::{Count, Handle};
 use std::convert::Infallible;
 
-impl<'a, K: Ord, V, N: Nodes> ReadyEntry<'a, K, V, N> {
+impl<'a, K: Ord, V, N: Nodes, A: Handle> ReadyEntry<'a, K, V, A, N> {
     /// The key that is to be put in.
     pub fn key(&self) -> &K
         ensures { result.now ≡ ready_key self.now }
@@ -20,7 +20,7 @@ impl<'a, K: Ord, V, N: Nodes> ReadyEntry<'a, K, V, N> {
     }
 }
 
-impl<'a, K: Ord, V, N: Nodes + Drop> ReadyEntry<'a, K, V, N> {
+impl<'a, K: Ord, V, N: Nodes + Drop, A: Handle> ReadyEntry<'a, K, V, A, N> {
     /// The key that was to be put in, given back. The map stays as it was, and the nodes are given back.
     pub fn into_key(self) -> K
         ensures key { result ≡ ready_key self.entry }
@@ -37,13 +37,13 @@ impl<'a, K: Ord, V, N: Nodes + Drop> ReadyEntry<'a, K, V, N> {
     }
 }
 
-impl<'a, K: Ord + Drop, V: Drop> ReadyEntry<'a, K, V> {
+impl<'a, K: Ord + Drop, V: Drop, A: Handle> ReadyEntry<'a, K, V, A> {
     /// Puts the key with the value into the gap, and lends the value for writing for as long as the map was. It takes no memory.
     ///
     /// # Errors
     /// None: there is no `Infallible`, so `let Ok(value) = ready.insert(value);` takes the value out.
     pub fn insert(self, value: V) -> Result<&'a mut V, Infallible>
-        ensures* writes_back { sem 𝓛 (ready_lends K.row V.row self.entry result) }
+        ensures* writes_back { sem 𝓛 (ready_lends K.row V.row A.row A.Allocator self.entry result) }
         ensures value { IfOk result (λ v. v.now ≡ value) }
     {
         self.insert_counted(value, &mut Count::new())
@@ -54,7 +54,7 @@ impl<'a, K: Ord + Drop, V: Drop> ReadyEntry<'a, K, V> {
     /// # Errors
     /// As `insert`.
     pub fn insert_counted(self, value: V, count: &mut Count) -> Result<&'a mut V, Infallible>
-        ensures* writes_back { sem 𝓛 (ready_lends K.row V.row self.entry result) }
+        ensures* writes_back { sem 𝓛 (ready_lends K.row V.row A.row A.Allocator self.entry result) }
         ensures value { IfOk result (λ v. v.now ≡ value) }
         ensures comparisons { count.new.comparisons ≡ count.old.comparisons }
         ensures moved { count.old.moves < count.new.moves }
@@ -72,7 +72,7 @@ impl<'a, K: Ord + Drop, V: Drop> ReadyEntry<'a, K, V> {
 
     /// Puts the key with the value into the gap, and answers the entry of the pair. It takes no memory. Upstream:
     /// `VacantEntry::insert_entry`.
-    pub fn insert_entry(self, value: V) -> OccupiedEntry<'a, K, V>
+    pub fn insert_entry(self, value: V) -> OccupiedEntry<'a, K, V, A>
         ensures same_map { (entry_map_ref (Occupied result)).ghost_name ≡ (ready_map_ref self.entry).ghost_name }
         ensures put { entries (entry_map (Occupied result)) ≡ ready_list_with self.entry value }
         ensures pair { entry_pair (Occupied result) ≡ Some (ready_key self.entry, value) }

@@ -9,16 +9,16 @@ ghost use Rattle.fc_map.specs.ReadyEntry.{ready_map, ready_map_ref, ready_key, r
 
 use super::super::VacantEntry;
 use super::ReadyEntry;
-use fc_base::TryReserveError;
+use fc_base::{Handle, TryReserveError};
 
-impl<'a, K: Ord + Drop, V: Drop> VacantEntry<'a, K, V> {
+impl<'a, K: Ord + Drop, V: Drop, A: Handle> VacantEntry<'a, K, V, A> {
     /// Takes every node that the insertion into the gap needs, so that the insertion itself can't be refused. It moves no pair.
     ///
     /// # Errors
     /// As `try_insert`: `CapacityOverflow` where the map holds `usize::MAX` pairs, and then always; else `AllocError`, where a request
     /// for memory was refused, which takes an empty map or a full leaf. The map is then as it was, tree and all, and the key comes back.
-    pub fn try_ready(self) -> Result<ReadyEntry<'a, K, V>, (K, TryReserveError)>
-        ensures* rests { sem 𝓛 (rests_if_not_ready K.row V.row self.entry result) }
+    pub fn try_ready(self) -> Result<ReadyEntry<'a, K, V, A>, (K, TryReserveError)>
+        ensures* rests { sem 𝓛 (rests_if_not_ready K.row V.row A.row A.Allocator self.entry result) }
         ensures same_map { IfOk result (λ e. (ready_map_ref e).ghost_name ≡ (entry_map_ref (Vacant self.entry)).ghost_name) }
         ensures map { IfOk result (λ e. ready_map e ≡ entry_map (Vacant self.entry)) }
         ensures key { IfOk result (λ e. entry_key (Vacant self.entry) ≡ Some (ready_key e)) }

@@ -1,6 +1,9 @@
 use Rattle.std.proofs.Common.{◌∷◌, ◌++◌, [], rules, sym, ap, ◌∙◌, subst}
+use denote.Builtin.{unit}
+use denote.Param.{param}
 use Rattle.fc_base.specs.Growth.{MayGrowRefuse}
 use Rattle.fc_vec.proofs.ItemFacts.{yields_more}
+use Rattle.fc_map.proofs.ExtensionSizes.{extension_fits}
 use Rattle.fc_set.specs.Items.{items, AreExtendedUpTo}
 use Rattle.fc_set.proofs.ItemFacts.{keys, keys_length, with_item_keys, ascending_keys, keys_none}
 use Rattle.fc_set.proofs.ExtendFacts.{extended_more, up_to}
@@ -51,3 +54,15 @@ returns-clause-all g c = (
   ap keys c.finish-2.ensures.pairs
       ∙ c.loop-item.invariant.2,
 )
+
+pub over-extension-requires : goal.over-extension-requires
+over-extension-requires g c = extension_fits (param 0 g.row.T) unit g.row.A g.T.Ord g.T.PartialEq g.T.PartialOrd g.A.Allocator g.met.A.Handle.small
+
+pub try_put-requires : goal.try_put-requires
+try_put-requires g c = extension_fits (param 0 g.row.T) unit g.row.A g.T.Ord g.T.PartialEq g.T.PartialOrd g.A.Allocator g.met.A.Handle.small
+
+pub finish-requires : goal.finish-requires
+finish-requires g c = extension_fits (param 0 g.row.T) unit g.row.A g.T.Ord g.T.PartialEq g.T.PartialOrd g.A.Allocator g.met.A.Handle.small
+
+pub finish-requires-2 : goal.finish-requires-2
+finish-requires-2 g c = extension_fits (param 0 g.row.T) unit g.row.A g.T.Ord g.T.PartialEq g.T.PartialOrd g.A.Allocator g.met.A.Handle.small

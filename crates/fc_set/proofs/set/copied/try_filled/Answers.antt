@@ -3,10 +3,13 @@ use Rattle.std.specs.Iterator.{IsFinite}
 use Rattle.std.specs.List.{AllZip}
 use Rattle.std.proofs.lemmas.List.Elements.{length_all_zip}
 use Rattle.std.proofs.lemmas.Result.{err_from_is_err_and}
+use denote.Builtin.{unit}
+use denote.Param.{param}
+use Rattle.fc_tree_build.proofs.StackSizes.{growing_fits}
 use Rattle.fc_set.specs.Copied.{Lends}
 use Rattle.fc_set.specs.Items.{AreAscending}
 use Rattle.fc_set.proofs.ItemFacts.{ascending_keys}
-use Rattle.fc_set.proofs.CopiedFacts.{filled_start, filled_more, filled_all, any_next, equal_copy, ascending_copies}
+use Rattle.fc_set.proofs.CopiedFacts.{filled_start, filled_more, filled_all, any_next, some_there, equal_copy, ascending_copies}
 use Rattle.fc_set.proofs.set.copied.try_filled.Goals as goal
 
 pub loop-item-init : goal.loop-item-init
@@ -27,6 +30,17 @@ loop-item-preserved g c = (
       c.in_ok-copy.ensures c.in-Ok.ensures.pairs,
 )
 
+pub new-builder-requires : goal.new-builder-requires
+new-builder-requires g c = growing_fits (param 0 g.row.T) unit g.row.A g.A.Allocator g.met.A.Handle.small
+
+pub push-requires : goal.push-requires
+push-requires g c = growing_fits (param 0 g.row.T) unit g.row.A g.A.Allocator g.met.A.Handle.small
+
+pub returns-in_err-copy-clause-some : goal.returns-in_err-copy-clause-some
+returns-in_err-copy-clause-some g c = λ refused all lends.
+    some_there g.I.Iterator.next_gives all g.T.TryClone.same c.loop-item.builder.pairs c.loop-item.item-iterator c.next.new.self c.in-Some.item
+    (c.loop-item.invariant.2 all lends) c.in-Some.ensures.steps
+
 pub from_grown-requires : goal.from_grown-requires
 from_grown-requires g c =
     let gives = c.requires.gives in
@@ -34,8 +48,10 @@ from_grown-requires g c =
     let copied = filled_all g.I.Iterator.next_gives gives.0 g.T.TryClone.same c.loop-item.builder.pairs c.loop-item.item-iterator c.next.new.self
     (c.loop-item.invariant.2 gives.0 gives.1) c.in-None.ensures.steps in
     let equal = λ (a : g.row.T.Denot) (b : g.row.T.Denot) (s : g.T.TryClone.same a b). equal_copy (g.T.Ord.cmp a b)
-    (sym (g.met.T.Ord.matches_eq a b) ∙ c.requires.equal a b s) in
-    (search rules, ascending_copies g.T.Ord.cmp g.met.T.Ord.total g.T.TryClone.same equal gives.0 pairs copied gives.2)
+    (sym (g.met.T.Ord.matches_eq a b) ∙ c.requires.equal a b s) in (
+      growing_fits (param 0 g.row.T) unit g.row.A g.A.Allocator g.met.A.Handle.small,
+      ascending_copies g.T.Ord.cmp g.met.T.Ord.total g.T.TryClone.same equal gives.0 pairs copied gives.2,
+    )
 
 pub returns-in_err-copy-clause-error : goal.returns-in_err-copy-clause-error
 returns-in_err-copy-clause-error g c =

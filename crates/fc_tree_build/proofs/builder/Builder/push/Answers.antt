@@ -1,8 +1,11 @@
-use Rattle.std.proofs.Common.{rules, length, Some, ap, arith}
-use Rattle.fc_base.specs.Sizes.{most_height}
+use Rattle.std.proofs.Common.{◌<◌, length, Some, sym, ap, subst, arith}
+use denote.Param.{param}
+use Rattle.fc_base.specs.Sizes.{capacity, most_height}
+use Rattle.fc_tree_drain.proofs.Sizes.{nodes_fit}
 use Rattle.fc_tree_build.specs.Built.{IsLast}
 use Rattle.fc_tree_build.proofs.SpineFacts.{length_pushed, enough_needed, enough_left}
-use Rattle.fc_tree_build.proofs.Builders.{leaf_taken, last_is, leaf_sound, push_pairs}
+use Rattle.fc_tree_build.proofs.Builders.{leaf_taken, last_is, leaf_sound, push_pairs, all_built, put_last, one_less}
+use Rattle.fc_tree_build.proofs.GrownFacts.{put_pairs}
 use Rattle.fc_tree_build.proofs.builder.Builder.push.Given as given
 use Rattle.fc_tree_build.proofs.builder.Builder.push.Goals as goal
 use Rattle.fc_tree_build.proofs.builder.Builder.push.Goals.{In-Some}
@@ -23,7 +26,8 @@ attach-requires g c =
     let same = ap (λ b. b.room) c.self.view_is in
     let n = enough_needed 0 _ (length c.self.inside.leaves.items) _ i.1 (omega arith) i.4 in
     let low = i.4.0 in
-    rw c.replace-full.ensures.value (search rules, ((0, i.1, leaf_sound _ few l.1 (omega arith)), (i.3, (n.0, (most_height, omega arith, low, n.1)))))
+    let fits = nodes_fit (param 0 g.row.K) (param 1 g.row.V) g.row.A g.A.Allocator g.met.A.Handle.small in
+    rw c.replace-full.ensures.value (fits, ((0, i.1, leaf_sound _ few l.1 (omega arith)), (i.3, (n.0, (most_height, omega arith, low, n.1)))))
 
 pub invariant_of-self-2 : goal.invariant_of-self-2
 invariant_of-self-2 g c =
@@ -50,3 +54,22 @@ returns-clause-pairs g c =
     let same = ap (λ b. b.pairs) c.self.view_is in
     let more = rw c.replace-full.ensures.value at c.attach.ensures.pairs in
     rw c.replace-full.ensures.after (push_pairs c.self.inside.spine _ _ _ c.in-Some.last c.args.pair _ c.in-Some.is l.1 blank same more)
+
+pub invariant_of-self : goal.invariant_of-self
+invariant_of-self g c =
+    let i = c.self.invariant in
+    let l = last g (goal.at.invariant_of-self g c).In-Some in
+    let few = subst (λ n. n < capacity) c.len.ensures.value c.if-len-lt-CAPACITY.true in
+    let some = subst (λ n. 0 < n) (sym (ap (λ b. b.room) c.self.view_is)) c.requires in (
+      put_last c.in-Some.last c.put_pair.new.node c.args.pair _ _ _ c.self.inside.spine l few c.put_pair.ensures.pairs c.put_pair.ensures.leaf
+          (one_less _ some),
+      i.1,
+      i.2,
+      i.3,
+      i.4,
+    )
+
+pub returns-then-len-lt-CAPACITY-clause-pairs : goal.returns-then-len-lt-CAPACITY-clause-pairs
+returns-then-len-lt-CAPACITY-clause-pairs g c =
+    put_pairs c.self.inside.spine c.in-Some.last c.put_pair.new.node c.args.pair c.args.self.now.pairs c.put_pair.ensures.pairs
+    (all_built c.self.inside.last c.in-Some.last c.self.inside.spine c.self.inside.room _ c.in-Some.is c.self.view_is)

@@ -1,4 +1,6 @@
 use Rattle.std.proofs.Common.{◌≡◌, length, None, Some, MatchOption, refl, sym, ◌∙◌, subst, arith, Option}
+use denote.Param.{param}
+use Rattle.fc_tree_drain.proofs.Sizes.{nodes_fit}
 use Rattle.fc_tree_build.specs.Spine.{IsSpine}
 use Rattle.fc_tree_build.proofs.Builders.{spare_leaves, first_last, first_leaves, first_enough, first_pairs}
 use Rattle.fc_tree_build.proofs.builder.Builder.try_new.Goals as goal
@@ -21,3 +23,6 @@ invariant_of-result g c =
 
 pub returns-clause-ok : goal.returns-clause-ok
 returns-clause-ok g c = (first_pairs _ _ _ _ c.new.ensures c.pop-last.ensures.items c.in_ok-leaves.ensures.ok.1, refl)
+
+pub new-requires : goal.new-requires
+new-requires g c = nodes_fit (param 0 g.row.K) (param 1 g.row.V) g.row.A g.A.Allocator g.met.A.Handle.small

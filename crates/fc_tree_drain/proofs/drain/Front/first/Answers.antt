@@ -1,9 +1,18 @@
-use Rattle.std.proofs.Common.{◌-◌, ◌++◌, sym, ap, ◌∙◌, arith}
+use Rattle.std.proofs.Common.{rules, ◌-◌, ◌++◌, sym, ap, ◌∙◌, arith}
 use Rattle.fc_tree_node.specs.Node.{items_or_none}
 use Rattle.fc_tree_drain.specs.Opened.{after_front}
 use Rattle.fc_tree_drain.proofs.Opening.{no_item}
 use Rattle.fc_tree_drain.proofs.Ends.{nodes_there, top_has, top_first}
 use Rattle.fc_tree_drain.proofs.drain.Front.first.Goals as goal
+
+pub get-requires : goal.get-requires
+get-requires g c =
+    let s = c.self.inside in
+    let r = c.run_len.ensures in
+    let f = c.if-run_len-gt0.false in
+    let v = c.len.ensures.value in
+    let k = nodes_there _ s.nodes _ c.self.view_is c.requires (omega arith) in
+    (search rules, omega arith)
 
 pub pair-requires : goal.pair-requires
 pair-requires g c =

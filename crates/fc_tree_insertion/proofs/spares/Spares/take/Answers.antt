@@ -7,8 +7,8 @@ use Rattle.fc_tree_insertion.proofs.spares.Spares.take.Goals as goal
 use Rattle.fc_tree_insertion.proofs.spares.Spares.take.Goals.{In-Some}
 
 -- what the first of so many nodes lies above
-below : {K V : Type 0} (n : ℕ) (o : Option (Node K V)) (b : Node K V) → AreSpares n o → o ≡ Some b
-    → (x : Option (Node K V)) × IsAbove b x × AreSpares (n - 1) x
+below : {K V Z : Type 0} (n : ℕ) (o : Option (Node K V Z)) (b : Node K V Z) → AreSpares n o → o ≡ Some b
+    → (x : Option (Node K V Z)) × IsAbove b x × AreSpares (n - 1) x
 below zero o b s e = absurd (cc)
 below (suc n) None b s e = absurd s
 below (suc n) (Some d) b s e = search rules
@@ -19,7 +19,8 @@ same_items None (Some b) e = absurd (cc)
 same_items (Some a) None e = absurd (cc)
 same_items (Some a) (Some b) e = cc
 
-lower : (g : given.Over) (c : In-Some g) → (x : Option (Node g.row.K.Denot g.row.V.Denot)) × IsAbove c.in-Some.node x × AreSpares (c.self.inside.len - 1) x
+lower : (g : given.Over) (c : In-Some g) → (x : Option (Node g.row.K.Denot g.row.V.Denot g.row.A.Denot)) × IsAbove c.in-Some.node x
+    × AreSpares (c.self.inside.len - 1) x
 lower g c = below _ _ _ c.self.invariant.1 (sym c.take.ensures.value ∙ c.in-Some.is)
 
 pub take_below-requires : goal.take_below-requires

@@ -21,7 +21,7 @@ pub returns-clause-shared : goal.returns-clause-shared
 returns-clause-shared g c =
     let n = inner_length c.args.self.now _ c.in-Some.is c.requires.inner in
     let e = siblings g (goal.at.returns-clause-shared g c).After-get_mut-left in
-    let P : Node g.row.K.Denot g.row.V.Denot → Node g.row.K.Denot g.row.V.Denot → Type 0 =
+    let P : Node g.row.K.Denot g.row.V.Denot g.row.A.Denot → Node g.row.K.Denot g.row.V.Denot g.row.A.Denot → Type 0 =
     λ x y. IsBulkTrade (length (own_pairs x) - c.args.n) x y c.send_right.new.self c.send_right.new.right (get_or (own_pairs c.args.self.now) c.args.index)
     (get_or (own_pairs c.get_mut-left.result.now) (length (own_pairs c.get_mut-left.result.now) - c.args.n)) in
     let z = c.send_right.ensures.size in

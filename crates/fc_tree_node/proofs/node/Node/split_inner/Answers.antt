@@ -1,6 +1,6 @@
-use Rattle.std.proofs.Common.{◌+◌, inr, sym, ap, ◌∙◌, arith}
+use Rattle.std.proofs.Common.{◌+◌, length, inr, sym, ap, ◌∙◌, arith}
 use Rattle.std.specs.List.{insert}
-use Rattle.fc_tree_node.proofs.Made.{halves_made, inner_made, children_joined, children_in}
+use Rattle.fc_tree_node.proofs.Made.{own_made, halves_made, inner_made, children_joined, children_in}
 use Rattle.fc_tree_node.proofs.Places.{halves_pairs}
 use Rattle.fc_tree_node.proofs.node.Node.split_inner.Goals as goal
 
@@ -16,3 +16,9 @@ pub returns-clause-all_pairs : goal.returns-clause-all_pairs
 returns-clause-all_pairs g c =
     halves_pairs c.args.self.now c.args.index c.requires.inner (omega arith) _ _ c.args.child c.split_pairs-up.result c.args.pair
     (inr (returns-clause-inner g c)) (halves_made _ _ _ _ c.split_pairs-up.ensures.items) (returns-clause-children g c)
+
+pub returns-clause-left : goal.returns-clause-left
+returns-clause-left g c = ap length (own_made _) ∙ c.split_pairs-up.ensures.left
+
+pub returns-clause-right : goal.returns-clause-right
+returns-clause-right g c = ap length (own_made _) ∙ c.split_pairs-up.ensures.right

@@ -11,7 +11,7 @@ returns-clause-shared g c =
     let n = inner_length c.args.self.now _ c.in-Some.is c.requires.inner in
     let l = listed_child c.args.self.now c.args.index _ c.in-Some.is c.args.index c.get_mut-left.result.now (omega arith) c.get_mut-left.ensures.value in
     let r = next_child c.args.self.now c.args.index _ c.in-Some.is _ c.get_mut-right.result.now (omega arith) c.get_mut-right.ensures.value in
-    let P : Node g.row.K.Denot g.row.V.Denot → Node g.row.K.Denot g.row.V.Denot → Type 0 =
+    let P : Node g.row.K.Denot g.row.V.Denot g.row.A.Denot → Node g.row.K.Denot g.row.V.Denot g.row.A.Denot → Type 0 =
     λ x y. IsTrade (length (own_pairs x) - 1) x y c.take_last-up.new.self c.put_first.new.self c.replace-down.result c.take_last-up.result.0 in
     share_made c.args.self.now c.args.index _ c.in-Some.is _ _ _ _ c.replace-down.result _ c.requires.in_bounds c.replace-down.ensures.items
     c.replace-down.ensures.value

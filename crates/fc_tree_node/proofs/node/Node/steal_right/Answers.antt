@@ -12,7 +12,7 @@ returns-clause-shared g c =
     let r = listed_child c.args.self.now c.args.index _ c.in-Some.is (c.args.index + 1) c.get_mut-right.result.now (omega arith)
     c.get_mut-right.ensures.value in
     let l = last_child c.args.self.now c.args.index _ c.in-Some.is _ c.get_mut-left.result.now (omega arith) c.get_mut-left.ensures.value in
-    let P : Node g.row.K.Denot g.row.V.Denot → Node g.row.K.Denot g.row.V.Denot → Type 0 =
+    let P : Node g.row.K.Denot g.row.V.Denot g.row.A.Denot → Node g.row.K.Denot g.row.V.Denot g.row.A.Denot → Type 0 =
     λ x y. IsTrade (length (own_pairs x) + 1) x y c.put_last.new.self c.take_first-up.new.self c.replace-down.result c.take_first-up.result.0 in
     share_made_back c.args.self.now c.args.index _ c.in-Some.is _ _ _ _ c.replace-down.result _ c.requires.in_bounds c.replace-down.ensures.items
     c.replace-down.ensures.value

@@ -41,6 +41,8 @@ loop-i-preserved g c =
       c.add_moves.ensures.comparisons ∙ v.3,
       v.4 ∙ sym c.take_from-item.ensures.2,
       v.5 ∙ sym c.set_from.ensures.1,
+      c.take_from-item.ensures.3 ∙ v.6,
+      c.set_from.ensures.2 ∙ v.7,
     )
 
 pub returns-clause-target : goal.returns-clause-target
@@ -49,3 +51,9 @@ returns-clause-target g c =
     let none : c.args.end - c.loop-i.i ≡ 0 = omega arith in
     λ xs ys us vs m w e long fits f wide. c.loop-i.invariant.1 xs ys us vs m w (c.self.view_is ∙ e) long fits (c.target.view_is ∙ f) wide
     ∙ (λ d. row (us ++ take (same d - c.args.to) ys) (none d) vs w)
+
+pub invariant_of-self : goal.invariant_of-self
+invariant_of-self g c = c.loop-i.invariant.6 ∙ c.self.invariant
+
+pub invariant_of-target : goal.invariant_of-target
+invariant_of-target g c = c.loop-i.invariant.7 ∙ c.target.invariant

@@ -10,4 +10,4 @@ invariant-loop-i g l =
     → l.initial.targets.held ≡ row us (l.end - l.to) vs w → length us ≡ l.to
     → l.targets.held ≡ row (us ++ take (l.i - l.to) ys) (l.end - l.i) vs w)
     × (l.count.moves ≡ l.initial.count.moves + (l.i - l.to)) × (l.count.comparisons ≡ l.initial.count.comparisons) × (l.first ≡ l.sources.start)
-    × (l.first_target ≡ l.targets.start)
+    × (l.first_target ≡ l.targets.start) × (l.sources.alloc ≡ l.initial.sources.alloc) × (l.targets.alloc ≡ l.initial.targets.alloc)

@@ -33,4 +33,8 @@ loop-i-preserved g c =
       omega (arith, v.1, c.add_moves.ensures.moves),
       c.add_moves.ensures.comparisons ∙ v.2,
       v.3 ∙ sym c.take_from-item.ensures.2 ∙ sym c.set_from.ensures.1,
+      c.set_from.ensures.2 ∙ c.take_from-item.ensures.3 ∙ v.4,
     )
+
+pub invariant_of-self : goal.invariant_of-self
+invariant_of-self g c = c.loop-i.invariant.4 ∙ c.self.invariant

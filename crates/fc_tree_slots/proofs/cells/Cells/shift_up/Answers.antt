@@ -31,4 +31,8 @@ loop-i-preserved g c =
       omega arith,
       c.add_moves.ensures.comparisons ∙ v.3,
       v.4 ∙ sym c.take_from-item.ensures.2 ∙ sym c.set_from.ensures.1,
+      c.set_from.ensures.2 ∙ c.take_from-item.ensures.3 ∙ v.5,
     )
+
+pub invariant_of-self : goal.invariant_of-self
+invariant_of-self g c = c.loop-i.invariant.5 ∙ c.self.invariant

@@ -7,4 +7,4 @@ invariant-loop-i g l =
     ((zs : List g.row.T.Denot) (m : ℕ) → l.initial.places.held ≡ row zs l.by [] m → length zs ≡ l.end - l.by
     → l.places.held ≡ row (take l.i zs) l.by (drop l.i zs) m)
     × (l.count.moves + l.i ≡ l.initial.count.moves + (l.end - l.by)) × (l.from ≤ l.i) × (l.count.comparisons ≡ l.initial.count.comparisons)
-    × (l.start ≡ l.places.start)
+    × (l.start ≡ l.places.start) × (l.places.alloc ≡ l.initial.places.alloc)

@@ -1,5 +1,6 @@
 -- `get` follows the pointer to an item that the row lends.
-use Rattle.fc_tree_slots.proofs.Steps.{◌≡◌, ◌+◌, ◌*◌, [], ◌∷◌, ◌++◌, get_or, Some, None, refl, vptr, inst_fn, emp, ftrue, flft, ◌⊑◌, fact, fact_i, tables, WpFn}
+use Rattle.fc_tree_slots.proofs.Steps.{Al, ◌≡◌, ◌+◌, ◌*◌, [], ◌∷◌, ◌++◌, get_or, Some, None}
+use Rattle.fc_tree_slots.proofs.Steps.{refl, vptr, inst_fn, emp, ftrue, flft, ◌⊑◌, fact, fact_i, tables, WpFn}
 use Rattle.fc_tree_slots.proofs.Steps.{‵, raw, ◌⊛◌, prop, at_ret, ◌$◌, ◌∵◌, !, qed, by, move, drop, use0, split, join, rewrite, regoal, fsplit, fjoin, feq_i}
 use Rattle.fc_tree_slots.proofs.Steps.{enter, stop, fld, of_opd, bin, size_lit, first, blocks, exec, returns, alloc_all, pass_all, free_all, look_at, get}
 use Rattle.fc_tree_slots.proofs.Steps.{through, sets, sets_last, env, owns, types_at, nothing, heard, Stays, stay_dropped, walk_of, Goes-dropped, param_at}
@@ -16,25 +17,28 @@ use Rattle.fc_tree_slots.proofs.raw.Row.get.Statement.{statement}
 use Rattle.fc_tree_slots.proofs.raw.Row.get.Code as code
 
 pub get_spec : {M : Type 1} → statement M
-get_spec 𝓤 𝓛 𝓜 𝓡 wired T L =
-    let E : El = record { row = T; laws = L } in let fn = inst_fn (args E) code.function in
-    let En = f.ended T in let ps = En.signature.params in let c = f.clauses T 𝓛 𝓜.mem 𝓡.returns in let 𝓣 = tables 𝓤 𝓛.H 𝓜 𝓡 𝓡.env in
+get_spec 𝓤 𝓛 𝓜 𝓡 wired T Y L LY g dict drops met gone =
+    let E : El = record { row = T; laws = L } in let Z : Al = record { row = Y; laws = LY; g = g; d = dict; drops = drops } in
+    let fn = inst_fn (args E Z) code.function in
+    let En = f.ended T Y g dict drops in let ps = En.signature.params in let c = f.clauses T Y g dict drops 𝓛 𝓜.mem 𝓡.returns in let 𝓣 =
+    tables 𝓤 𝓛.H 𝓜 𝓡 𝓡.env in
     let hs : Stays ps En.kept = (stay_dropped _ _, (stay_dropped _ _, tt)) in
-    proved_at 𝓛 En hs c 𝓜 𝓡 (Goes-dropped 𝓛 2 (param_at 0 ps) En.kept.0 (λ κs x f. refl), (Goes-dropped 𝓛 2 (param_at 1 ps) En.kept.1.0 (λ κs x f. refl), tt))
-    (f.Key.name (args E)) fn (code.unfolded 𝓤 𝓛.H 𝓜 𝓡 wired (T, tt)) (λ z are.
+    proved_at 𝓛 En hs c 𝓜 𝓡 (Goes-dropped 𝓛 3 (param_at 0 ps) En.kept.0 (λ κs x f. refl), (Goes-dropped 𝓛 3 (param_at 1 ps) En.kept.1.0 (λ κs x f. refl), tt))
+    (f.Key.name (args E Z)) fn (code.unfolded 𝓤 𝓛.H 𝓜 𝓡 wired (T, (Y, tt)) dict drops) (λ z are.
     let κ = z.0.0.0 in let r = z.0.3.0 in let rb = r.ref_ptr.0 in let ro = r.ref_ptr.1 in let d = r.now in let i = z.0.3.1.0 in
     let Post = (walk_of 𝓛 En hs c).post z in
     let Asks = IsPresent d.held i in
-    qed 𝓛 (((‵ (flft κ z.0.1.0) ⊛ ‵ (flft z.0.0.1.0 z.0.1.1.0) ⊛ ‵ ftrue) ⊛ ‵ (owns (types_at ps z.0.0) z.0.3 z.0.4))
-    ∷ (raw (fact 𝓤 (z.0.0.1.0 ⊑ T.lives)) ⊛ raw (fact 𝓤 Asks)) ∷ []) ∵
-    move ! (1 ∷ []) $ split ! $ drop ! $ heard ! Asks (λ asked. split ! $ split ! $ move ! (2 ∷ []) $ fsplit ! $ fsplit ! $ drop ! $ look_row E κ rb ro ! d $
+    qed 𝓛 (((‵ (flft κ z.0.1.0) ⊛ ‵ (flft z.0.0.1.0 z.0.1.1.0) ⊛ ‵ (flft z.0.0.1.1.0 z.0.1.1.1.0) ⊛ ‵ ftrue) ⊛ ‵ (owns (types_at ps z.0.0) z.0.3 z.0.4))
+    ∷ (raw (fact 𝓤 (z.0.0.1.0 ⊑ T.lives)) ⊛ raw (fact 𝓤 (z.0.0.1.1.0 ⊑ Y.lives)) ⊛ raw (fact 𝓤 Asks)) ∷ []) ∵
+    move ! (1 ∷ []) $ split ! $ drop ! $ split ! $ drop ! $ heard ! Asks (λ asked. split ! $ split ! $ move ! (2 ∷ []) $ fsplit ! $ fsplit ! $ drop ! $
+    look_row E Z κ rb ro ! d $
     reach_lent (R E) ! κ d.start d.held i (inside d.held i asked.0 asked.1) (λ b o e fits. let at = i * type_size (R E) + o in keep ! (0 ∷ 1 ∷ 3 ∷ 4 ∷ []) $
     rewrite ! 0 (λ x. ‵ (place_lent (R E) b at x κ)) asked.1 refl $ hide ! $
     regoal ! (λ us. prop (WpFn 𝓤 𝓛.H 𝓣.C 𝓣.Λ fn us Post)) (λ j. are.0.0 j ++ (are.1.0.0 j ++ [])) refl $
     enter ! _ _ _ _ _ $ alloc_all ! (λ l. pass_all ! refl ((tt, tt), ((tt, record { fits = are.1.0.1 }), tt)) $ move ! (1 ∷ 2 ∷ []) $
-    look_start E κ rb ro ! tt d.start b o e (λ q'.
+    look_start E Z κ rb ro ! tt d.start b o e (λ q'.
     first ! $ blocks ! $ sets ! (of_opd ! (load ! (through ! refl (fld ! refl (stop !))) (look ! 1 refl))) refl (tt, tt) $
-    pointer_out ! tt (block_ptr b o) tt rb (ro + 0) $
+    pointer_out ! tt (block_ptr b o) tt rb (ro + 0) $ sets ! (of_opd ! (get ! refl)) refl (tt, tt) $
     sets ! (bin ! (get ! refl) (size_lit ! (record { fits = fits.0 })) (record { fits = fits.1 })) refl (tt, record { fits = fits.1 }) $
     sets ! (bin ! (get ! refl) (get ! refl) tt) refl (tt, tt) $
     sets_last ! (addr ! (through ! refl (stop !))) refl (tt, tt) $ exec ! 𝓣.C 𝓣.Λ (env fn.locals l) (after 1 fn.body) (at_ret _ Post) $

@@ -1,5 +1,6 @@
 -- `set` writes the item into the room of its place.
-use Rattle.fc_tree_slots.proofs.Steps.{◌∙◌, fat, full_share, ◌≡◌, ◌+◌, ◌*◌, ◌<◌, [], ◌∷◌, ◌++◌, get_or, Some, None, refl, vptr, inst_fn, emp, ftrue, flft, ◌⊑◌}
+use Rattle.fc_tree_slots.proofs.Steps.{Al, ◌∙◌, fat, full_share, ◌≡◌, ◌+◌, ◌*◌, ◌<◌, [], ◌∷◌}
+use Rattle.fc_tree_slots.proofs.Steps.{◌++◌, get_or, Some, None, refl, vptr, inst_fn, emp, ftrue, flft, ◌⊑◌}
 use Rattle.fc_tree_slots.proofs.Steps.{fact, fact_i, tables, WpFn, ‵, raw, ◌⊛◌, prop, at_ret, ◌$◌, ◌∵◌, !, qed, by, move, drop, use0, split, join, rewrite}
 use Rattle.fc_tree_slots.proofs.Steps.{regoal, fsplit, fjoin, feq_i, enter, stop, of_opd, bin, size_lit, first, blocks, exec, returns, alloc_all, pass_all}
 use Rattle.fc_tree_slots.proofs.Steps.{free_all, look_at, get, through, sets, env, owns, types_at, nothing, heard, Stays, stay_dropped, walk_of, Goes-dropped}
@@ -19,30 +20,33 @@ use Rattle.fc_tree_slots.proofs.raw.Row.set_from.Statement.{statement}
 use Rattle.fc_tree_slots.proofs.raw.Row.set_from.Code as code
 
 pub set_from_spec : {M : Type 1} → statement M
-set_from_spec 𝓤 𝓛 𝓜 𝓡 wired T L =
-    let E : El = record { row = T; laws = L } in let fn = inst_fn (args E) code.function in
-    let En = f.ended T in let ps = En.signature.params in let c = f.clauses T 𝓛 𝓜.mem 𝓡.returns in let 𝓣 = tables 𝓤 𝓛.H 𝓜 𝓡 𝓡.env in
-    let hs : Stays ps En.kept = (stay_ref (0 ∷ []) tt (plain (λ _. Pr E)), (stay_dropped _ _, (stay_dropped _ _, (stay_dropped _ _, tt)))) in
+set_from_spec 𝓤 𝓛 𝓜 𝓡 wired T Y L LY g dict drops met gone =
+    let E : El = record { row = T; laws = L } in let Z : Al = record { row = Y; laws = LY; g = g; d = dict; drops = drops } in
+    let fn = inst_fn (args E Z) code.function in
+    let En = f.ended T Y g dict drops in let ps = En.signature.params in let c = f.clauses T Y g dict drops 𝓛 𝓜.mem 𝓡.returns in let 𝓣 =
+    tables 𝓤 𝓛.H 𝓜 𝓡 𝓡.env in
+    let hs : Stays ps En.kept = (stay_ref (0 ∷ []) tt (plain (λ _. Pr E Z)), (stay_dropped _ _, (stay_dropped _ _, (stay_dropped _ _, tt)))) in
     proved_at 𝓛 En hs c 𝓜 𝓡 (
-      Goes-ref 𝓛 2 0 tt (plain (λ _. Pr E)),
+      Goes-ref 𝓛 3 0 tt (plain (λ _. Pr E Z)),
       (
-        Goes-dropped 𝓛 2 (param_at 1 ps) En.kept.1.0 (λ κs x f. refl),
-        (Goes-dropped 𝓛 2 (param_at 2 ps) En.kept.1.1.0 (λ κs x f. refl), (Goes-dropped 𝓛 2 (param_at 3 ps) En.kept.1.1.1.0 (λ κs x f. refl), tt)),
+        Goes-dropped 𝓛 3 (param_at 1 ps) En.kept.1.0 (λ κs x f. refl),
+        (Goes-dropped 𝓛 3 (param_at 2 ps) En.kept.1.1.0 (λ κs x f. refl), (Goes-dropped 𝓛 3 (param_at 3 ps) En.kept.1.1.1.0 (λ κs x f. refl), tt)),
       ),
     )
-    (f.Key.name (args E)) fn (code.unfolded 𝓤 𝓛.H 𝓜 𝓡 wired (T, tt)) (λ z are.
+    (f.Key.name (args E Z)) fn (code.unfolded 𝓤 𝓛.H 𝓜 𝓡 wired (T, (Y, tt)) dict drops) (λ z are.
     let κ = z.0.0.0 in let r = z.0.3.0 in let rb = r.ref_ptr.0 in let ro = r.ref_ptr.1 in let d = r.now in let p = z.0.3.1.0 in
     let i = z.0.3.1.1.0 in let item = z.0.3.1.1.1.0 in let Post = (walk_of 𝓛 En hs c).post z in
     let got = one E z.0.4.1.1.1.0 ((lawful E 𝓛).typed item z.0.4.1.1.1.0 are.1.1.1.0) in let v = got.0 in let ok = got.2 in
     let Asks = (p ≡ d.start) × (i < length d.held) × (get_or d.held i None ≡ None) in
-    qed 𝓛 (((‵ (flft κ z.0.1.0) ⊛ ‵ (flft z.0.0.1.0 z.0.1.1.0) ⊛ ‵ ftrue) ⊛ ‵ (owns (types_at ps z.0.0) z.0.3 z.0.4))
-    ∷ (raw (fact 𝓤 (z.0.0.1.0 ⊑ T.lives)) ⊛ raw (fact 𝓤 Asks)) ∷ []) ∵
-    move ! (1 ∷ []) $ split ! $ drop ! $ heard ! Asks (λ asked. split ! $ split ! $ move ! (2 ∷ []) $ fsplit ! $ fsplit3 ! $ move ! (3 ∷ []) $ fsplit ! $ drop
+    qed 𝓛 (((‵ (flft κ z.0.1.0) ⊛ ‵ (flft z.0.0.1.0 z.0.1.1.0) ⊛ ‵ (flft z.0.0.1.1.0 z.0.1.1.1.0) ⊛ ‵ ftrue) ⊛ ‵ (owns (types_at ps z.0.0) z.0.3 z.0.4))
+    ∷ (raw (fact 𝓤 (z.0.0.1.0 ⊑ T.lives)) ⊛ raw (fact 𝓤 (z.0.0.1.1.0 ⊑ Y.lives)) ⊛ raw (fact 𝓤 Asks)) ∷ []) ∵
+    move ! (1 ∷ []) $ split ! $ drop ! $ split ! $ drop ! $ heard ! Asks (λ asked. split ! $ split ! $ move ! (2 ∷ []) $ fsplit ! $ fsplit3 ! $
+    move ! (3 ∷ []) $ fsplit ! $ drop
     ! $ fsplit ! $ drop ! $ fsplit ! $
     rewrite ! 0 (λ us. ‵ (E.row.own_val item us)) got.1 refl $ keep ! (3 ∷ 4 ∷ 5 ∷ 6 ∷ 0 ∷ []) $
     regoal ! (λ us. prop (WpFn 𝓤 𝓛.H 𝓣.C 𝓣.Λ fn us Post)) (λ j. are.0.0 j ++ (are.1.0 j ++ (are.1.1.0.0 j ++ (got.1 j ++ [])))) refl $
     enter ! _ _ _ _ _ $ alloc_all ! (λ l. pass_all ! refl ((tt, tt), (pointer_typed p, ((tt, record { fits = are.1.1.0.1 }), (ok, tt)))) $
-    open_row E d i rb ro ! tt asked.1 (λ b o e fits. let at = i * type_size (R E) + o in
+    open_row E Z d i rb ro ! tt asked.1 (λ b o e fits. let at = i * type_size (R E) + o in
     rewrite ! 18 (λ y. ‵ (fat full_share ty_ptr (l 2) 0 (ptr_val y))) (asked.0 ∙ e) refl $
     rewrite ! 0 (λ y. ‵ (place (R E) b at y)) asked.2 refl $ as_written ! (elτ E) b at $ first ! $ blocks ! $
     sets ! (bin ! (get ! refl) (size_lit ! (record { fits = fits.0 })) (record { fits = fits.1 })) refl (tt, record { fits = fits.1 }) $
@@ -50,10 +54,10 @@ set_from_spec 𝓤 𝓛 𝓜 𝓡 wired T L =
     (through ! refl (stop !)) (init ! 0 refl ok) $ exec ! 𝓣.C 𝓣.Λ (env fn.locals l) (after 1 fn.body) (at_ret _ Post) $ sets ! (of_opd ! (unit_lit !)) refl
     (tt, tt) $
     -- [the item's bytes; the row, in five entries; the other token; what the item owns]
-    move ! (0 ∷ 7 ∷ []) $ value_in E ! item b at v $ shut_row E d i rb ro ! tt b o e asked.1 (Some item) $
+    move ! (0 ∷ 7 ∷ []) $ value_in E ! item b at v $ shut_row E Z d i rb ro ! tt b o e asked.1 (Some item) $
     returns ! (look_at ! 0 refl) $ free_all ! refl $ feq_i ! (List Val) z.0.4.0 (vptr rb ro ∷ []) are.0.0 $ fjoin3 ! $
     nothing ! $ nothing ! $ fjoin ! $ nothing ! $ fjoin ! $ nothing ! $ fjoin ! $ move ! (1 ∷ 0 ∷ []) $ fjoin ! $ move ! (1 ∷ 2 ∷ []) $ join ! $
     feq_i ! (List Val) (vunit ∷ []) (vunit ∷ []) refl $
-    let new = with_place d i (Some item) in let gives = (new.held ≡ set d.held i (Some item)) × (new.start ≡ d.start) in
-    use0 𝓛 (raw (fact 𝓤 gives)) (fact_i 𝓤 gives (emp 𝓤) (refl, refl)) $ move ! (2 ∷ 3 ∷ 1 ∷ 0 ∷ []) $
+    let new = with_place d i (Some item) in let gives = (new.held ≡ set d.held i (Some item)) × (new.start ≡ d.start) × (new.alloc ≡ d.alloc) in
+    use0 𝓛 (raw (fact 𝓤 gives)) (fact_i 𝓤 gives (emp 𝓤) (refl, refl, refl)) $ move ! (2 ∷ 3 ∷ 1 ∷ 0 ∷ []) $
     by ! (leaves 𝓛 En hs c z vunit tt (new, (tt, (tt, (tt, tt)))) (tt, (tt, (tt, (tt, tt)))))))))

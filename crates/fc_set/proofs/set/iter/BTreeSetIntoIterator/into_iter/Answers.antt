@@ -2,7 +2,13 @@ use Rattle.std.proofs.Common.{◌<◌, ◌^◌, sym, ap, subst, ◌∙◌}
 use Rattle.fc_map.specs.Entries.{entries}
 use Rattle.arrayvec.proofs.IterLemmas.{rest_runs, rest_runs_back}
 use Rattle.fc_set.proofs.ItemFacts.{keys, keys_length, ascending_keys}
+use denote.Builtin.{unit}
+use denote.Param.{param}
+use Rattle.fc_map.proofs.WalkSizes.{walk_fits}
 use Rattle.fc_set.proofs.set.iter.BTreeSetIntoIterator.into_iter.Goals as goal
+
+pub into_iter-requires : goal.into_iter-requires
+into_iter-requires g c = walk_fits (param 0 g.row.T) unit g.row.A g.A.Allocator g.met.A.Handle.small
 
 pub returns : goal.returns
 returns g c =

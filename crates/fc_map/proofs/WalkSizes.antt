@@ -1,0 +1,18 @@
+-- The owned walk over a map fits in memory, whatever its allocator.
+use Rattle.std.proofs.Common.{◌^◌, ◌<◌, ◌≤◌, arith}
+use lib.Dec.{lit<}
+use denote.RattleType.{RattleType}
+use denote.Param.{layout, copied}
+use prog.Memory.{size}
+use Rattle.std.specs.declared.alloc.Allocator.{Ghosts}
+use Rattle.std.specs.Mem.{type_size}
+use Rattle.fc_iter.specs.contracts.into_iter.IntoIter as walk
+use Rattle.fc_tree_drain.proofs.Sizes.{Shape, whole, part, front_shape, back_shape, bound_holds, below}
+
+abbrev pub walk_shape : Shape
+walk_shape = part (part front_shape (part back_shape whole)) whole
+
+pub walk_fits : (K V A : RattleType) (heap : Ghosts A.Denot) → type_size A < 65536 → size (layout (walk.the_row K V (copied 2 A) heap)) < 2 ^ 63
+walk_fits K V A heap h =
+    let low : type_size A ≤ 65536 = omega arith in
+    below (bound_holds walk_shape (layout (walk.the_row K V (copied 2 A) heap)) (search (low, tt) depth 40)) (lit< tt)

@@ -1,0 +1,12 @@
+use Rattle.std.proofs.Common.{◌∙◌}
+use denote.Builtin.{unit}
+use denote.Param.{param}
+use Rattle.fc_map.proofs.WalkSizes.{walk_fits}
+use Rattle.fc_map.proofs.OwnedFacts.{many}
+use Rattle.fc_set.proofs.set.iter.IntoIterExactSizeIterator.len.Goals as goal
+
+pub len-requires : goal.len-requires
+len-requires g c = walk_fits (param 0 g.row.T) unit g.row.A g.A.Allocator g.met.A.Handle.small
+
+pub returns-clause-value : goal.returns-clause-value
+returns-clause-value g c = c.len.ensures ∙ many (λ e. e.0) c.self.inside.pairs c.args.self.now c.self.view_is

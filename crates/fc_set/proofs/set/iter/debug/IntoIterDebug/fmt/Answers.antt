@@ -1,0 +1,7 @@
+use denote.Builtin.{unit}
+use denote.Param.{param}
+use Rattle.fc_map.proofs.WalkSizes.{walk_fits}
+use Rattle.fc_set.proofs.set.iter.debug.IntoIterDebug.fmt.Goals as goal
+
+pub field-requires-room-T-Debug : goal.field-requires-room-T-Debug
+field-requires-room-T-Debug g c = λ κs within. walk_fits (param 0 g.row.T) unit g.row.A g.A.Allocator g.met.A.Handle.small

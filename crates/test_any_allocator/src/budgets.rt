@@ -1,0 +1,101 @@
+//! What fits into one budget, and into a budget over another.
+use crate::heaps::filled;
+use crate::items::{Items, items};
+use crate::numbers::{Numbers, numbers};
+use crate::sizes::{AMPLE, CAPACITY, INNER, LEAF, SET_LEAF};
+use fc_budget::Budget;
+use std::alloc::Global;
+use std::test::Fail;
+
+// Of numbers in order the first takes a leaf, the 16th a second one and a root, and each ninth behind it, the 25th, 34th and so on, one
+// more. So 4,096 bytes have room for the twelve leaves and the root of up to 114, of 4,016 bytes, and the 115th is refused.
+#[test]
+fn a_budget_of_4096_bytes_has_room_for_114_pairs(rt: HostRuntime) {
+    let budget = Budget::new(rt.alloc(), 4096);
+    let seen = filled(&budget);
+    assert_eq!(rt; (seen, budget.used()), ((114, 114), 0));
+}
+
+#[test]
+fn a_budget_is_used_up_to_the_byte(rt: HostRuntime) {
+    let mut seen = [0; 8];
+    for i in 0..8 {
+        let two = 2 * LEAF + INNER;
+        let caps = [
+            0,
+            LEAF - 1,
+            LEAF,
+            two - 1,
+            two,
+            two + LEAF - 1,
+            two + LEAF,
+            0,
+        ];
+        let budget = Budget::new(rt.alloc(), caps[i]);
+        seen[i] = filled(&budget).0;
+    }
+    assert_eq!(rt; seen, [0, 0, 15, 15, 24, 24, 33, 0]);
+}
+
+fn goes_in(map: &mut Numbers<'_>, number: u64) -> bool {
+    map.try_insert(number, number).is_ok()
+}
+
+fn goes_into_set(set: &mut Items<'_>, number: u64) -> bool {
+    set.try_insert(number).is_ok()
+}
+
+// A leaf for each of two maps and a set is all that the budget has. Once one of them is dropped, another map has the bytes of its leaf.
+#[test]
+fn two_maps_and_a_set_share_a_budget(rt: HostRuntime) -> Result<(), Fail> {
+    let budget = Budget::new(rt.alloc(), 2 * LEAF + SET_LEAF);
+    let mut a = numbers(&budget, 0, CAPACITY, 1)?;
+    let mut b = numbers(&budget, 0, CAPACITY, 2)?;
+    let mut s = items(&budget, 0, CAPACITY, 3)?;
+    let is_full = budget.left() == 0;
+    let first = (
+        goes_in(&mut a, 100),
+        goes_in(&mut b, 100),
+        goes_into_set(&mut s, 100),
+    );
+    a.remove(&0);
+    let second = (
+        goes_in(&mut a, 100),
+        goes_in(&mut b, 100),
+        goes_into_set(&mut s, 100),
+    );
+    drop(b);
+    let left = budget.left();
+    let third = numbers(&budget, 0, CAPACITY, 1).is_ok();
+    drop(a);
+    drop(s);
+    assert!(rt; is_full && third && left == LEAF);
+    assert_eq!(rt;
+        (first, second),
+        ((false, false, false), (true, false, false))
+    );
+    assert_eq!(rt; budget.used(), 0);
+    Ok(())
+}
+
+// How many pairs go into a budget of 4,096 bytes over another, which holds two of them, and how many bytes of that one are then out.
+fn filled_below(outer: &Budget<Global>) -> (usize, usize) {
+    let inner = Budget::new(outer, 4096);
+    let (count, _back) = filled(&inner);
+    (count, outer.used())
+}
+
+#[test]
+fn a_map_over_a_budget_over_a_budget_takes_of_both(rt: HostRuntime) -> Result<(), Fail> {
+    let outer = Budget::new(rt.alloc(), AMPLE);
+    let wide = filled_below(&outer);
+    let narrow_outer = Budget::new(rt.alloc(), LEAF);
+    let narrow = filled_below(&narrow_outer);
+    assert_eq!(rt; (wide, narrow), ((114, 0), (15, 0)));
+    let inner = Budget::new(&outer, LEAF);
+    let map = numbers(&inner, 0, CAPACITY, 1)?;
+    let out = outer.used();
+    drop(map);
+    assert_eq!(rt; (out, outer.used()), (LEAF, 0));
+    Ok(())
+}

@@ -1,0 +1,83 @@
+//! Maps and sets in heaps of the toolchain's crates.
+use crate::items::{has_items, items};
+use crate::numbers::{holds, numbers};
+use crate::sizes::AMPLE;
+use bumpalo::Bump;
+use fc_base::{Handle, TryReserveError};
+use fc_budget::Budget;
+use fc_map::map::BTreeMap;
+use linked_list_allocator::LocalHeap;
+use std::alloc::Global;
+use std::test::Fail;
+
+// More pairs than the tests' heaps have room for.
+const MANY: u64 = 1000;
+
+/// How many numbers in order go into a map, and the one that came back with its value, or none of them.
+pub(crate) fn filled<A: Handle>(alloc: A) -> (usize, u64) {
+    let mut map = BTreeMap::new(alloc);
+    for number in 0..MANY {
+        if let Err((key, value, _refused)) = map.try_insert(number, number) {
+            let is_right = key == value && holds(&map, 0, number, 1);
+            return (map.len(), if is_right { key } else { MANY });
+        }
+    }
+    (map.len(), MANY)
+}
+
+// Its blocks are those that are asked for: each of them is a multiple of 16 bytes.
+#[test]
+fn a_heap_of_4096_bytes_has_room_for_114_pairs(rt: HostRuntime) -> Result<(), Fail> {
+    let heap = LocalHeap::new(rt.alloc(), 4096)?;
+    let seen = [filled(&heap), filled(&heap)];
+    assert_eq!(rt; (seen, heap.used()), ([(114, 114), (114, 114)], 0));
+    Ok(())
+}
+
+// Whether a map, its copy, a set, and what is left of it are right in that memory.
+fn are_right<A: Handle>(alloc: A) -> Result<bool, TryReserveError> {
+    let mut map = numbers(alloc, 0, 300, 2)?;
+    let mut other = numbers(alloc, 1, 300, 2)?;
+    let mut set = items(alloc, 0, 300, 1)?;
+    map.append(&mut other)?;
+    let rest = set.try_split_off(&100)?;
+    let both = set.bitor(&rest)?;
+    Ok(holds(&map, 0, 600, 1) && has_items(&set, 0, 100, 1) && has_items(&both, 0, 300, 1))
+}
+
+#[test]
+fn maps_and_sets_stand_in_a_heap(rt: HostRuntime) -> Result<(), Fail> {
+    let heap = LocalHeap::new(rt.alloc(), AMPLE)?;
+    assert!(rt; are_right(&heap)?);
+    assert_eq!(rt; heap.used(), 0);
+    Ok(())
+}
+
+// What an arena has taken goes back with the arena, however often maps in it are dropped.
+fn stand_in_an_arena(budget: &Budget<Global>) -> Result<(bool, bool), TryReserveError> {
+    let arena = Bump::new(budget);
+    let are_all = are_right(&arena)? && are_right(&arena)?;
+    Ok((are_all, budget.used() > 0))
+}
+
+#[test]
+fn maps_and_sets_stand_in_an_arena(rt: HostRuntime) -> Result<(), Fail> {
+    let budget = Budget::new(rt.alloc(), AMPLE);
+    assert_eq!(rt; stand_in_an_arena(&budget)?, (true, true));
+    assert_eq!(rt; budget.used(), 0);
+    Ok(())
+}
+
+// How many pairs go into an arena over a budget, and what came back.
+fn filled_in_an_arena(budget: &Budget<Global>) -> (usize, u64) {
+    let arena = Bump::new(budget);
+    filled(&arena)
+}
+
+#[test]
+fn an_arena_over_a_budget_is_refused_as_the_budget_is(rt: HostRuntime) {
+    let budget = Budget::new(rt.alloc(), 4096);
+    let (count, back) = filled_in_an_arena(&budget);
+    assert!(rt; 15 <= count && count <= 114 && back == count as u64);
+    assert_eq!(rt; budget.used(), 0);
+}
