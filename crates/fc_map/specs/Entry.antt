@@ -4,6 +4,9 @@ use Rattle.std.specs.Prelude.{◌≡◌, ℕ, List, [], ◌∷◌, ◌++◌, Opt
 use Rattle.std.specs.Option.{option_map}
 use Rattle.std.specs.Borrow.{Fml, RattleType, MutBor, follows, LendsSoOk, RestsIfErr, RestsIfNone}
 use Rattle.core.specs.declared.alloc.Allocator.{Ghosts}
+use Rattle.std.specs.declared.alloc.Global.{Global}
+use Rattle.std.specs.contracts.alloc.Global as global
+use Rattle.std.specs.contracts.impls.GlobalAllocator.TheImpl.{ghosts}
 use Rattle.std.specs.declared.cmp.Ord as ord
 use Rattle.std.specs.declared.cmp.PartialEq as eq
 use Rattle.std.specs.declared.cmp.PartialOrd as partial
@@ -89,22 +92,39 @@ module _ {K V Z : Type 0} {g : ord.Ghosts K} {g' : eq.Ghosts K} {g'' : partial.G
 
 module _ (K V Z : RattleType) {g : ord.Ghosts K.Denot} {g' : eq.Ghosts K.Denot} {g'' : partial.Ghosts K.Denot} (heap : Ghosts Z.Denot) where
   -- Once the borrow r ends, the map has the last value written through r in the entry's pair.
-  abbrev pub occupied_lends_whole : OccupiedEntry K.Denot V.Denot Z.Denot g g' g'' → MutBor V.Denot → Fml
-  occupied_lends_whole o r = follows (the_row K V Z g g' g'' heap) V o.map.ghost_name r.ghost_name (map_written o)
+  abbrev pub occupied_lends_whole_in : OccupiedEntry K.Denot V.Denot Z.Denot g g' g'' → MutBor V.Denot → Fml
+  occupied_lends_whole_in o r = follows (the_row K V Z g g' g'' heap) V o.map.ghost_name r.ghost_name (map_written o)
 
   -- Once the borrow r ends, the entry after o has the last value written through r. Its lifetime is the second of the signature.
-  abbrev pub occupied_lends : MutBor (OccupiedEntry K.Denot V.Denot Z.Denot g g' g'') → MutBor V.Denot → Fml
-  occupied_lends o r = follows (occupied.the_row (record { mir = named 1; lft = [] }) K V Z g g' g'' heap) V o.ghost_name r.ghost_name (with_entry_value o.now)
+  abbrev pub occupied_lends_in : MutBor (OccupiedEntry K.Denot V.Denot Z.Denot g g' g'') → MutBor V.Denot → Fml
+  occupied_lends_in o r = follows (occupied.the_row (record { mir = named 1; lft = [] }) K V Z g g' g'' heap) V o.ghost_name r.ghost_name (with_entry_value o.now)
 
   -- Once the borrow r ends, the map's pairs are those with the last value written through r at the entry's key; where there is
   -- none, the map stays as it is.
-  abbrev pub entry_lends_ok : {E : Type 0} → Entry K.Denot V.Denot Z.Denot g g' g'' → Result (MutBor V.Denot) E → Fml
-  entry_lends_ok e r = LendsSoOk (the_row K V Z g g' g'' heap) V (entry_map_ref e) r (λ n w. (entries n ≡ list_with e w) × IsSoundMap n) (λ n. n ≡ entry_map e)
+  abbrev pub entry_lends_ok_in : {E : Type 0} → Entry K.Denot V.Denot Z.Denot g g' g'' → Result (MutBor V.Denot) E → Fml
+  entry_lends_ok_in e r = LendsSoOk (the_row K V Z g g' g'' heap) V (entry_map_ref e) r (λ n w. (entries n ≡ list_with e w) × IsSoundMap n) (λ n. n ≡ entry_map e)
 
   -- Where r has no entry, the map after m stays as it is.
-  abbrev pub rests_if_refused : {E : Type 0} → MutBor (Map K.Denot V.Denot Z.Denot) → Result (Entry K.Denot V.Denot Z.Denot g g' g'') E → Fml
-  rests_if_refused m r = RestsIfErr (the_row K V Z g g' g'' heap) m (λ e. (entry_map_ref e).ghost_name) r (λ n. n ≡ m.now)
+  abbrev pub rests_if_refused_in : {E : Type 0} → MutBor (Map K.Denot V.Denot Z.Denot) → Result (Entry K.Denot V.Denot Z.Denot g g' g'') E → Fml
+  rests_if_refused_in m r = RestsIfErr (the_row K V Z g g' g'' heap) m (λ e. (entry_map_ref e).ghost_name) r (λ n. n ≡ m.now)
 
   -- Where r has no entry, the map after m stays as it is.
-  abbrev pub rests_if_none : MutBor (Map K.Denot V.Denot Z.Denot) → Option (OccupiedEntry K.Denot V.Denot Z.Denot g g' g'') → Fml
-  rests_if_none m r = RestsIfNone (the_row K V Z g g' g'' heap) m (λ o. o.map.ghost_name) r (λ n. n ≡ m.now)
+  abbrev pub rests_if_none_in : MutBor (Map K.Denot V.Denot Z.Denot) → Option (OccupiedEntry K.Denot V.Denot Z.Denot g g' g'') → Fml
+  rests_if_none_in m r = RestsIfNone (the_row K V Z g g' g'' heap) m (λ o. o.map.ghost_name) r (λ n. n ≡ m.now)
+
+-- The same of entries of a map that takes its memory from `Global`.
+module _ (K V : RattleType) {g : ord.Ghosts K.Denot} {g' : eq.Ghosts K.Denot} {g'' : partial.Ghosts K.Denot} where
+  abbrev pub occupied_lends_whole : OccupiedEntry K.Denot V.Denot Global g g' g'' → MutBor V.Denot → Fml
+  occupied_lends_whole o r = occupied_lends_whole_in K V global.the_row ghosts o r
+
+  abbrev pub occupied_lends : MutBor (OccupiedEntry K.Denot V.Denot Global g g' g'') → MutBor V.Denot → Fml
+  occupied_lends o r = occupied_lends_in K V global.the_row ghosts o r
+
+  abbrev pub entry_lends_ok : {E : Type 0} → Entry K.Denot V.Denot Global g g' g'' → Result (MutBor V.Denot) E → Fml
+  entry_lends_ok e r = entry_lends_ok_in K V global.the_row ghosts e r
+
+  abbrev pub rests_if_refused : {E : Type 0} → MutBor (Map K.Denot V.Denot Global) → Result (Entry K.Denot V.Denot Global g g' g'') E → Fml
+  rests_if_refused m r = rests_if_refused_in K V global.the_row ghosts m r
+
+  abbrev pub rests_if_none : MutBor (Map K.Denot V.Denot Global) → Option (OccupiedEntry K.Denot V.Denot Global g g' g'') → Fml
+  rests_if_none m r = rests_if_none_in K V global.the_row ghosts m r

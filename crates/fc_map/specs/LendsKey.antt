@@ -3,6 +3,9 @@ use Rattle.std.specs.Prelude.{ℕ, List, [], Option, Some, None}
 use Rattle.std.specs.Option.{option_map}
 use Rattle.std.specs.Borrow.{Fml, RattleType, MutBor, LendsIf}
 use Rattle.core.specs.declared.alloc.Allocator.{Ghosts}
+use Rattle.std.specs.declared.alloc.Global.{Global}
+use Rattle.std.specs.contracts.alloc.Global as global
+use Rattle.std.specs.contracts.impls.GlobalAllocator.TheImpl.{ghosts}
 use Rattle.std.specs.declared.cmp.Ordering.{Ordering}
 use Rattle.fc_tree_search.specs.Way.{path_to}
 use Rattle.fc_map.specs.Entries.{Map}
@@ -24,5 +27,9 @@ lent_value o = option_map (λ r. r.now) o
 
 -- Once the borrow r of the value at a key equal to k ends, the map has there what was written through r; where there is none,
 -- the map stays as it is.
-abbrev pub lends_get : {Q : Type 0} (K V A : RattleType) → OrdMembers K.Denot → Ghosts A.Denot → (K.Denot → Q → Ordering) → MutBor (Map K.Denot V.Denot A.Denot) → Q → Option (MutBor V.Denot) → Fml
-lends_get K V A g heap cmp m k r = LendsIf (map_row K V A g heap) V m r (written_at cmp k m.now) m.now
+abbrev pub lends_get_in : {Q : Type 0} (K V A : RattleType) → OrdMembers K.Denot → Ghosts A.Denot → (K.Denot → Q → Ordering) → MutBor (Map K.Denot V.Denot A.Denot) → Q → Option (MutBor V.Denot) → Fml
+lends_get_in K V A g heap cmp m k r = LendsIf (map_row K V A g heap) V m r (written_at cmp k m.now) m.now
+
+-- The same of a map that takes its memory from `Global`.
+abbrev pub lends_get : {Q : Type 0} (K V : RattleType) → OrdMembers K.Denot → (K.Denot → Q → Ordering) → MutBor (Map K.Denot V.Denot Global) → Q → Option (MutBor V.Denot) → Fml
+lends_get K V g cmp m k r = lends_get_in K V global.the_row g ghosts cmp m k r

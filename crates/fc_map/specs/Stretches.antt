@@ -3,6 +3,9 @@ use Rattle.std.specs.Prelude.{◌≡◌, ◌-◌, ◌<◌, ◌≤◌, List, [], 
 use Rattle.std.specs.Borrow.{Fml, RattleType, Bor, MutBor, follows_so}
 use Rattle.std.specs.Option.{OnSome, IfNone, ghost_name_of, option_map}
 use Rattle.core.specs.declared.alloc.Allocator.{Ghosts}
+use Rattle.std.specs.declared.alloc.Global.{Global}
+use Rattle.std.specs.contracts.alloc.Global as global
+use Rattle.std.specs.contracts.impls.GlobalAllocator.TheImpl.{ghosts}
 use Rattle.std.specs.declared.cmp.Ord as ord
 use Rattle.std.specs.declared.cmp.PartialEq as eq
 use Rattle.std.specs.declared.cmp.PartialOrd as partial
@@ -57,25 +60,39 @@ module _ {K V Z : Type 0} {g : ord.Ghosts K} {g' : eq.Ghosts K} {g'' : partial.G
 module _ (K V Z : RattleType) {g : ord.Ghosts K.Denot} {g' : eq.Ghosts K.Denot} {g'' : partial.Ghosts K.Denot} (heap : Ghosts Z.Denot) where
   -- Once the borrow r ends, the first place has the last value written through r, and is lent; at `None` nothing changes. The
   -- walk's lifetime is the second of the signature.
-  abbrev pub range_lends_first : MutBor (RangeMut K.Denot V.Denot Z.Denot g g' g'') → Option (MutBor V.Denot) → Fml
-  range_lends_first s r = follows_so (range.the_row (record { mir = named 1; lft = [] }) K V Z g g' g'' heap) V s.ghost_name (ghost_name_of r)
+  abbrev pub range_lends_first_in : MutBor (RangeMut K.Denot V.Denot Z.Denot g g' g'') → Option (MutBor V.Denot) → Fml
+  range_lends_first_in s r = follows_so (range.the_row (record { mir = named 1; lft = [] }) K V Z g g' g'' heap) V s.ghost_name (ghost_name_of r)
       (λ w n. OnSome r (((range_map_ref n).ghost_name ≡ (range_map_ref s.now).ghost_name) × (stretch n ≡ wrote_first (stretch s.now) w)))
       (λ n. IfNone r (n ≡ s.now))
 
   -- The same at the last place.
-  abbrev pub range_lends_last : MutBor (RangeMut K.Denot V.Denot Z.Denot g g' g'') → Option (MutBor V.Denot) → Fml
-  range_lends_last s r = follows_so (range.the_row (record { mir = named 1; lft = [] }) K V Z g g' g'' heap) V s.ghost_name (ghost_name_of r)
+  abbrev pub range_lends_last_in : MutBor (RangeMut K.Denot V.Denot Z.Denot g g' g'') → Option (MutBor V.Denot) → Fml
+  range_lends_last_in s r = follows_so (range.the_row (record { mir = named 1; lft = [] }) K V Z g g' g'' heap) V s.ghost_name (ghost_name_of r)
       (λ w n. OnSome r (((range_map_ref n).ghost_name ≡ (range_map_ref s.now).ghost_name) × (stretch n ≡ wrote_last (stretch s.now) w)))
       (λ n. IfNone r (n ≡ s.now))
 
   -- The same of the walk over all pairs, at its first place.
-  abbrev pub iter_lends_first : MutBor (IterMut K.Denot V.Denot Z.Denot g g' g'') → Option (MutBor V.Denot) → Fml
-  iter_lends_first s r = follows_so (iter.the_row (record { mir = named 1; lft = [] }) K V Z g g' g'' heap) V s.ghost_name (ghost_name_of r)
+  abbrev pub iter_lends_first_in : MutBor (IterMut K.Denot V.Denot Z.Denot g g' g'') → Option (MutBor V.Denot) → Fml
+  iter_lends_first_in s r = follows_so (iter.the_row (record { mir = named 1; lft = [] }) K V Z g g' g'' heap) V s.ghost_name (ghost_name_of r)
       (λ w n. OnSome r (((iter_map_ref n).ghost_name ≡ (iter_map_ref s.now).ghost_name) × (iter_stretch n ≡ wrote_first (iter_stretch s.now) w)))
       (λ n. IfNone r (n ≡ s.now))
 
   -- And at its last place.
-  abbrev pub iter_lends_last : MutBor (IterMut K.Denot V.Denot Z.Denot g g' g'') → Option (MutBor V.Denot) → Fml
-  iter_lends_last s r = follows_so (iter.the_row (record { mir = named 1; lft = [] }) K V Z g g' g'' heap) V s.ghost_name (ghost_name_of r)
+  abbrev pub iter_lends_last_in : MutBor (IterMut K.Denot V.Denot Z.Denot g g' g'') → Option (MutBor V.Denot) → Fml
+  iter_lends_last_in s r = follows_so (iter.the_row (record { mir = named 1; lft = [] }) K V Z g g' g'' heap) V s.ghost_name (ghost_name_of r)
       (λ w n. OnSome r (((iter_map_ref n).ghost_name ≡ (iter_map_ref s.now).ghost_name) × (iter_stretch n ≡ wrote_last (iter_stretch s.now) w)))
       (λ n. IfNone r (n ≡ s.now))
+
+-- The same of walks over a map that takes its memory from `Global`.
+module _ (K V : RattleType) {g : ord.Ghosts K.Denot} {g' : eq.Ghosts K.Denot} {g'' : partial.Ghosts K.Denot} where
+  abbrev pub range_lends_first : MutBor (RangeMut K.Denot V.Denot Global g g' g'') → Option (MutBor V.Denot) → Fml
+  range_lends_first s r = range_lends_first_in K V global.the_row ghosts s r
+
+  abbrev pub range_lends_last : MutBor (RangeMut K.Denot V.Denot Global g g' g'') → Option (MutBor V.Denot) → Fml
+  range_lends_last s r = range_lends_last_in K V global.the_row ghosts s r
+
+  abbrev pub iter_lends_first : MutBor (IterMut K.Denot V.Denot Global g g' g'') → Option (MutBor V.Denot) → Fml
+  iter_lends_first s r = iter_lends_first_in K V global.the_row ghosts s r
+
+  abbrev pub iter_lends_last : MutBor (IterMut K.Denot V.Denot Global g g' g'') → Option (MutBor V.Denot) → Fml
+  iter_lends_last s r = iter_lends_last_in K V global.the_row ghosts s r

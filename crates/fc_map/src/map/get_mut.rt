@@ -12,12 +12,12 @@ use fc_base::{Count, Handle, Query};
 use fc_tree_node::path::Path;
 
 impl<K: Ord, V, A: Handle> BTreeMap<K, V, A> {
-    ghost use Rattle.fc_map.specs.LendsKey.{lends_get, lent_value, written_at};
+    ghost use Rattle.fc_map.specs.LendsKey.{lends_get_in, lent_value, written_at};
 
     /// The value at an equal key, lent for writing, or `None` where there is none. The map ends with what the caller leaves in
     /// the value's place, and the tree's shape stays. Upstream: `BTreeMap::get_mut`.
     pub fn get_mut<Q: Query<K>>(&mut self, key: Q) -> Option<&mut V>
-        ensures* writes_back { sem 𝓛 (lends_get K.row V.row A.row K.Ord A.Allocator Q.order self.entry (Q.sought key) result) }
+        ensures* writes_back { sem 𝓛 (lends_get_in K.row V.row A.row K.Ord A.Allocator Q.order self.entry (Q.sought key) result) }
         ensures value { lent_value result ≡ value_at Q.order (entries self.old) (Q.sought key) }
         ensures put { OnSome result ((k : K) (w : V) → entries (written_at Q.order (Q.sought key) self.old w) ≡ put_by Q.order (entries self.old) (Q.sought key) k w) }
         ensures sound { OnSome result ((w : V) → IsSoundMap (written_at Q.order (Q.sought key) self.old w)) }
@@ -29,7 +29,7 @@ impl<K: Ord, V, A: Handle> BTreeMap<K, V, A> {
     /// `get_mut`, with its comparisons added to the count: exactly those keys that a search from the left passes. It moves no
     /// pair.
     pub fn get_mut_counted<Q: Query<K>>(&mut self, key: Q, count: &mut Count) -> Option<&mut V>
-        ensures* writes_back { sem 𝓛 (lends_get K.row V.row A.row K.Ord A.Allocator Q.order self.entry (Q.sought key) result) }
+        ensures* writes_back { sem 𝓛 (lends_get_in K.row V.row A.row K.Ord A.Allocator Q.order self.entry (Q.sought key) result) }
         ensures value { lent_value result ≡ value_at Q.order (entries self.old) (Q.sought key) }
         ensures put { OnSome result ((k : K) (w : V) → entries (written_at Q.order (Q.sought key) self.old w) ≡ put_by Q.order (entries self.old) (Q.sought key) k w) }
         ensures sound { OnSome result ((w : V) → IsSoundMap (written_at Q.order (Q.sought key) self.old w)) }

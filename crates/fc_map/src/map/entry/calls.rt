@@ -7,7 +7,7 @@ ghost use Rattle.std.specs.Option.{UnwrapsOrElse};
 ghost use Rattle.fc_base.specs.Growth.{MayGrowRefuse};
 ghost use Rattle.fc_map.specs.Entries.{entries};
 ghost use Rattle.fc_map.specs.Full.{IsFullAt};
-ghost use Rattle.fc_map.specs.Entry.{entry_key, entry_lends_ok, entry_map, entry_map_ref, entry_path, entry_pair, entry_value, list_with, list_without};
+ghost use Rattle.fc_map.specs.Entry.{entry_key, entry_lends_ok_in, entry_map, entry_map_ref, entry_path, entry_pair, entry_value, list_with, list_without};
 
 use super::Entry;
 use fc_base::{Handle, TryReserveError};
@@ -52,7 +52,7 @@ impl<'a, K: Ord + Drop, V: Drop, A: Handle> Entry<'a, K, V, A> {
     /// # Errors
     /// As `VacantEntry::try_insert`, where no value is there.
     pub fn or_try_insert(self, value: V) -> Result<&'a mut V, (K, V, TryReserveError)>
-        ensures* writes_back { sem 𝓛 (entry_lends_ok K.row V.row A.row A.Allocator self.entry result) }
+        ensures* writes_back { sem 𝓛 (entry_lends_ok_in K.row V.row A.row A.Allocator self.entry result) }
         ensures value { IfOk result (λ v. v.now ≡ unwrap_or (entry_value self.entry) value) }
         ensures back { IfErr result (λ e. (entry_key self.entry ≡ Some e.0) × (e.1 ≡ value)) }
         ensures absent { OnErr result (entry_value self.entry ≡ None) }
@@ -76,7 +76,7 @@ impl<'a, K: Ord + Drop, V: Drop, A: Handle> Entry<'a, K, V, A> {
         make: F,
     ) -> Result<&'a mut V, (K, V, TryReserveError)>
         requires { entry_value self ≡ None → F.pre make }
-        ensures* writes_back { sem 𝓛 (entry_lends_ok K.row V.row A.row A.Allocator self.entry result) }
+        ensures* writes_back { sem 𝓛 (entry_lends_ok_in K.row V.row A.row A.Allocator self.entry result) }
         ensures value { IfOk result (λ v. UnwrapsOrElse (entry_value self.entry) (F.post make) v.now) }
         ensures absent { OnErr result (entry_value self.entry ≡ None) }
         ensures back { IfErr result (λ e. (entry_key self.entry ≡ Some e.0) × F.post make e.1) }
@@ -101,7 +101,7 @@ impl<'a, K: Ord + Drop, V: Drop, A: Handle> Entry<'a, K, V, A> {
         make: F,
     ) -> Result<&'a mut V, (K, V, TryReserveError)>
         requires { entry_value self ≡ None → (k : Bor K) → entry_key self ≡ Some k.now → F.pre make k }
-        ensures* writes_back { sem 𝓛 (entry_lends_ok K.row V.row A.row A.Allocator self.entry result) }
+        ensures* writes_back { sem 𝓛 (entry_lends_ok_in K.row V.row A.row A.Allocator self.entry result) }
         ensures value { IfOk result (λ v. UnwrapsOrElse (entry_value self.entry) (λ w. MatchOption (entry_key self.entry) ⊥ (λ k. FnOnceReturnsAt F.FnOnce make k w)) v.now) }
         ensures absent { OnErr result (entry_value self.entry ≡ None) }
         ensures back { IfErr result (λ e. (entry_key self.entry ≡ Some e.0) × FnOnceReturnsAt F.FnOnce make e.0 e.1) }
@@ -126,7 +126,7 @@ impl<'a, K: Ord + Drop, V: Drop, A: Handle> Entry<'a, K, V, A> {
     pub fn or_default(self) -> Result<&'a mut V, (K, V, TryReserveError)>
     where
         V: Default,
-        ensures* writes_back { sem 𝓛 (entry_lends_ok K.row V.row A.row A.Allocator self.entry result) }
+        ensures* writes_back { sem 𝓛 (entry_lends_ok_in K.row V.row A.row A.Allocator self.entry result) }
         ensures value { IfOk result (λ v. UnwrapsOrElse (entry_value self.entry) V.is_default v.now) }
         ensures back { IfErr result (λ e. (entry_key self.entry ≡ Some e.0) × V.is_default e.1) }
         ensures absent { OnErr result (entry_value self.entry ≡ None) }

@@ -3,7 +3,7 @@ ghost use Rattle.std.specs.Prelude.{◌≡◌, [], IfSome, MatchOption};
 ghost use Rattle.std.specs.Borrow.{sem};
 ghost use Rattle.fc_base.specs.Ascending.{IsAscending};
 ghost use Rattle.fc_map.specs.Entries.{entries};
-ghost use Rattle.fc_map.specs.Entry.{Occupied, entry_map, entry_map_ref, rests_if_none, IsFirstOf, IsLastOf};
+ghost use Rattle.fc_map.specs.Entry.{Occupied, entry_map, entry_map_ref, rests_if_none_in, IsFirstOf, IsLastOf};
 
 use super::super::BTreeMap;
 use super::OccupiedEntry;
@@ -14,7 +14,7 @@ impl<K: Ord, V, A: Handle> BTreeMap<K, V, A> {
     /// The pair with the smallest key, to be looked at and then taken or written without another search, or `None` where the map is
     /// empty. It compares nothing and takes no memory. Not in upstream: it is that of std's map.
     pub fn first_entry(&mut self) -> Option<OccupiedEntry<'_, K, V, A>>
-        ensures* writes_back { sem 𝓛 (rests_if_none K.row V.row A.row A.Allocator self.entry result) }
+        ensures* writes_back { sem 𝓛 (rests_if_none_in K.row V.row A.row A.Allocator self.entry result) }
         ensures pair { MatchOption result (entries self.old ≡ []) (λ e. IsFirstOf e (entries self.old)) }
         ensures same_map { IfSome result (λ e. (entry_map_ref (Occupied e)).ghost_name ≡ self.entry.ghost_name) }
         ensures map { IfSome result (λ e. entry_map (Occupied e) ≡ self.old) }
@@ -30,7 +30,7 @@ impl<K: Ord, V, A: Handle> BTreeMap<K, V, A> {
     /// The pair with the greatest key, to be looked at and then taken or written without another search, or `None` where the map is
     /// empty. It compares nothing and takes no memory. Not in upstream: it is that of std's map.
     pub fn last_entry(&mut self) -> Option<OccupiedEntry<'_, K, V, A>>
-        ensures* writes_back { sem 𝓛 (rests_if_none K.row V.row A.row A.Allocator self.entry result) }
+        ensures* writes_back { sem 𝓛 (rests_if_none_in K.row V.row A.row A.Allocator self.entry result) }
         ensures pair { MatchOption result (entries self.old ≡ []) (λ e. IsLastOf e (entries self.old)) }
         ensures same_map { IfSome result (λ e. (entry_map_ref (Occupied e)).ghost_name ≡ self.entry.ghost_name) }
         ensures map { IfSome result (λ e. entry_map (Occupied e) ≡ self.old) }

@@ -5,7 +5,7 @@ ghost use Rattle.std.specs.Borrow.{sem};
 ghost use Rattle.fc_map.specs.Counts.{IsBounded};
 ghost use Rattle.fc_map.specs.Entries.{entries, IsSoundMap};
 ghost use Rattle.fc_map.specs.Fewest.{HasFewestMoves};
-ghost use Rattle.fc_map.specs.Entry.{Occupied, entry_key, entry_map, entry_pair, entry_value, list_without, map_written, occupied_lends, occupied_lends_whole, IsWritten};
+ghost use Rattle.fc_map.specs.Entry.{Occupied, entry_key, entry_map, entry_pair, entry_value, list_without, map_written, occupied_lends_in, occupied_lends_whole_in, IsWritten};
 
 use super::OccupiedEntry;
 use fc_base::{Count, Handle};
@@ -28,7 +28,7 @@ impl<'a, K: Ord, V, A: Handle> OccupiedEntry<'a, K, V, A> {
 
     /// The value of the pair, lent for writing; the entry stays in use. Upstream: `OccupiedEntry::get_mut`.
     pub fn get_mut(&mut self) -> &mut V
-        ensures* writes_back { sem 𝓛 (occupied_lends K.row V.row A.row A.Allocator self.entry result) }
+        ensures* writes_back { sem 𝓛 (occupied_lends_in K.row V.row A.row A.Allocator self.entry result) }
         ensures value { entry_value (Occupied self.old) ≡ Some result.now }
         ensures sound { IsSoundMap (entry_map (Occupied self.old)) }
     {
@@ -39,7 +39,7 @@ impl<'a, K: Ord, V, A: Handle> OccupiedEntry<'a, K, V, A> {
     /// The value of the pair, lent for writing for as long as the map was. The tree keeps its shape. Upstream:
     /// `OccupiedEntry::into_mut`.
     pub fn into_mut(self) -> &'a mut V
-        ensures* writes_back { sem 𝓛 (occupied_lends_whole K.row V.row A.row A.Allocator self.entry result) }
+        ensures* writes_back { sem 𝓛 (occupied_lends_whole_in K.row V.row A.row A.Allocator self.entry result) }
         ensures value { entry_value (Occupied self.entry) ≡ Some result.now }
         ensures sound { (w : V) → IsSoundMap (map_written self.entry w) }
     {

@@ -8,7 +8,7 @@ ghost use Rattle.fc_base.specs.Parts.{at};
 ghost use Rattle.fc_map.specs.Counts.{IsBounded};
 ghost use Rattle.fc_map.specs.Entries.{entries, passed_in};
 ghost use Rattle.fc_map.specs.LendsKey.{path_in};
-ghost use Rattle.fc_map.specs.Entry.{entry_map, entry_map_ref, entry_path, entry_key, entry_pair, list_with, list_without, rests_if_refused};
+ghost use Rattle.fc_map.specs.Entry.{entry_map, entry_map_ref, entry_path, entry_key, entry_pair, list_with, list_without, rests_if_refused_in};
 
 use super::super::BTreeMap;
 use super::{Entry, OccupiedEntry, VacantEntry};
@@ -22,7 +22,7 @@ impl<K: Ord + Drop, V: Drop, A: Handle> BTreeMap<K, V, A> {
     /// # Errors
     /// None.
     pub fn try_entry(&mut self, key: K) -> Result<Entry<'_, K, V, A>, TryReserveError>
-        ensures* writes_back { sem 𝓛 (rests_if_refused K.row V.row A.row A.Allocator self.entry result) }
+        ensures* writes_back { sem 𝓛 (rests_if_refused_in K.row V.row A.row A.Allocator self.entry result) }
         ensures ok { IsOk result }
         ensures same_map { IfOk result (λ e. (entry_map_ref e).ghost_name ≡ self.entry.ghost_name) }
         ensures map { IfOk result (λ e. entry_map e ≡ self.old) }
@@ -46,7 +46,7 @@ impl<K: Ord + Drop, V: Drop, A: Handle> BTreeMap<K, V, A> {
         key: K,
         count: &mut Count,
     ) -> Result<Entry<'_, K, V, A>, TryReserveError>
-        ensures* writes_back { sem 𝓛 (rests_if_refused K.row V.row A.row A.Allocator self.entry result) }
+        ensures* writes_back { sem 𝓛 (rests_if_refused_in K.row V.row A.row A.Allocator self.entry result) }
         ensures ok { IsOk result }
         ensures same_map { IfOk result (λ e. (entry_map_ref e).ghost_name ≡ self.entry.ghost_name) }
         ensures map { IfOk result (λ e. entry_map e ≡ self.old) }

@@ -5,7 +5,7 @@ ghost use Rattle.fc_base.specs.Growth.{MayGrowRefuse};
 ghost use Rattle.fc_map.specs.Counts.{IsBounded};
 ghost use Rattle.fc_map.specs.Entries.{entries};
 ghost use Rattle.fc_map.specs.Full.{IsFullAt};
-ghost use Rattle.fc_map.specs.Entry.{Vacant, entry_key, entry_lends_ok, entry_map, entry_path};
+ghost use Rattle.fc_map.specs.Entry.{Vacant, entry_key, entry_lends_ok_in, entry_map, entry_path};
 
 use super::VacantEntry;
 use fc_base::{Count, Handle, TryReserveError};
@@ -41,7 +41,7 @@ impl<'a, K: Ord + Drop, V: Drop, A: Handle> VacantEntry<'a, K, V, A> {
     /// was refused, which takes an empty map or a full leaf. The map is then as it was, tree and all, and key and value come
     /// back.
     pub fn try_insert(self, value: V) -> Result<&'a mut V, (K, V, TryReserveError)>
-        ensures* writes_back { sem 𝓛 (entry_lends_ok K.row V.row A.row A.Allocator (Vacant self.entry) result) }
+        ensures* writes_back { sem 𝓛 (entry_lends_ok_in K.row V.row A.row A.Allocator (Vacant self.entry) result) }
         ensures value { IfOk result (λ v. v.now ≡ value) }
         ensures back { IfErr result (λ e. (entry_key (Vacant self.entry) ≡ Some e.0) × (e.1 ≡ value)) }
         ensures error { IfErr result (λ e. MayGrowRefuse (length (entries (entry_map (Vacant self.entry)))) e.2) }
@@ -60,7 +60,7 @@ impl<'a, K: Ord + Drop, V: Drop, A: Handle> VacantEntry<'a, K, V, A> {
         value: V,
         count: &mut Count,
     ) -> Result<&'a mut V, (K, V, TryReserveError)>
-        ensures* writes_back { sem 𝓛 (entry_lends_ok K.row V.row A.row A.Allocator (Vacant self.entry) result) }
+        ensures* writes_back { sem 𝓛 (entry_lends_ok_in K.row V.row A.row A.Allocator (Vacant self.entry) result) }
         ensures value { IfOk result (λ v. v.now ≡ value) }
         ensures back { IfErr result (λ e. (entry_key (Vacant self.entry) ≡ Some e.0) × (e.1 ≡ value)) }
         ensures error { IfErr result (λ e. MayGrowRefuse (length (entries (entry_map (Vacant self.entry)))) e.2) }

@@ -3,7 +3,7 @@ ghost use Rattle.std.specs.Prelude.{◌≡◌, ◌+◌, ◌-◌, ◌<◌, ◌≤
 ghost use Rattle.std.specs.Borrow.{sem};
 ghost use Rattle.fc_map.specs.Entries.{entries};
 ghost use Rattle.fc_tree_node.specs.TreePlace.{IsPlaceIn, before_pair_in};
-ghost use Rattle.fc_map.specs.Stretches.{CalledAtPair, IsVisitedIn, iter_stretch, iter_map_ref, iter_lends_first, iter_lends_last, IsFirstPair, IsFirstValue, IsLastPair, IsLastValue};
+ghost use Rattle.fc_map.specs.Stretches.{CalledAtPair, IsVisitedIn, iter_stretch, iter_map_ref, iter_lends_first_in, iter_lends_last_in, IsFirstPair, IsFirstValue, IsLastPair, IsLastValue};
 ghost use Rattle.fc_map.specs.Lends.{branch};
 ghost use Rattle.fc_map.specs.Writing.{whole};
 
@@ -69,7 +69,7 @@ impl<'a, K: Ord, V, A: Handle> IterMut<'a, K, V, A> {
     /// The first value that is still to be lent, lent for writing. Upstream: `IterMut::next`, which lends the key beside it:
     /// `peek` shows that.
     pub fn next(&mut self) -> Option<&mut V>
-        ensures* writes_back { sem 𝓛 (iter_lends_first K.row V.row A.row A.Allocator self.entry result) }
+        ensures* writes_back { sem 𝓛 (iter_lends_first_in K.row V.row A.row A.Allocator self.entry result) }
         ensures value { IsFirstValue (iter_stretch self.old) result }
     {
         match self.step() {
@@ -84,7 +84,7 @@ impl<'a, K: Ord, V, A: Handle> IterMut<'a, K, V, A> {
     /// The last value that is still to be lent, lent for writing. Upstream: `IterMut::next_back`, which lends the key beside it:
     /// `peek_back` shows that.
     pub fn next_back(&mut self) -> Option<&mut V>
-        ensures* writes_back { sem 𝓛 (iter_lends_last K.row V.row A.row A.Allocator self.entry result) }
+        ensures* writes_back { sem 𝓛 (iter_lends_last_in K.row V.row A.row A.Allocator self.entry result) }
         ensures value { IsLastValue (iter_stretch self.old) result }
     {
         match self.step_back() {

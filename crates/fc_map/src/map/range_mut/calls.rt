@@ -4,7 +4,7 @@ ghost use Rattle.std.specs.Borrow.{sem};
 ghost use Rattle.fc_base.specs.Ranges.{bound_by};
 ghost use Rattle.fc_map.specs.Entries.{entries};
 ghost use Rattle.fc_tree_node.specs.TreePlace.{IsPlaceIn, before_pair_in};
-ghost use Rattle.fc_map.specs.Stretches.{CalledAtPair, IsVisitedIn, stretch, range_map_ref, range_lends_first, range_lends_last, IsFirstPair, IsFirstValue, IsLastPair, IsLastValue};
+ghost use Rattle.fc_map.specs.Stretches.{CalledAtPair, IsVisitedIn, stretch, range_map_ref, range_lends_first_in, range_lends_last_in, IsFirstPair, IsFirstValue, IsLastPair, IsLastValue};
 ghost use Rattle.fc_map.specs.Lends.{branch};
 ghost use Rattle.fc_map.specs.Writing.{starting};
 
@@ -45,7 +45,7 @@ impl<'a, K: Ord, V, A: Handle> RangeMut<'a, K, V, A> {
     /// The first value that is still to be lent, lent for writing. Upstream: `RangeMut::next`, which lends the key beside it:
     /// `peek` shows that.
     pub fn next(&mut self) -> Option<&mut V>
-        ensures* writes_back { sem 𝓛 (range_lends_first K.row V.row A.row A.Allocator self.entry result) }
+        ensures* writes_back { sem 𝓛 (range_lends_first_in K.row V.row A.row A.Allocator self.entry result) }
         ensures value { IsFirstValue (stretch self.old) result }
     {
         match self.step() {
@@ -60,7 +60,7 @@ impl<'a, K: Ord, V, A: Handle> RangeMut<'a, K, V, A> {
     /// The last value that is still to be lent, lent for writing. Upstream: `RangeMut::next_back`, which lends the key beside it:
     /// `peek_back` shows that.
     pub fn next_back(&mut self) -> Option<&mut V>
-        ensures* writes_back { sem 𝓛 (range_lends_last K.row V.row A.row A.Allocator self.entry result) }
+        ensures* writes_back { sem 𝓛 (range_lends_last_in K.row V.row A.row A.Allocator self.entry result) }
         ensures value { IsLastValue (stretch self.old) result }
     {
         match self.step_back() {

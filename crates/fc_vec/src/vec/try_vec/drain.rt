@@ -5,7 +5,7 @@ ghost use Rattle.std.specs.Iterator.Runs.{YieldsInOrder, YieldsInReverse};
 ghost use Rattle.std.specs.List.{remove_range};
 ghost use Rattle.std.specs.Range.Bound.{start_index, end_index};
 ghost use Rattle.std.specs.Vec.Iter.{drain_steps, drain_steps_back, drain_items, drain_kept, drain_capacity, DrainKeepsAlong};
-ghost use Rattle.fc_vec.specs.Lends.{lends_drain};
+ghost use Rattle.fc_vec.specs.Lends.{lends_drain_in};
 
 use super::TryVec;
 use fc_base::Handle;
@@ -20,7 +20,7 @@ impl<T: Drop, A: Handle> TryVec<T, A> {
         requires start_le_end { start_index (R.start_bound range) ≤ end_index (R.end_bound range) (length self.old.items) }
         requires in_bounds { end_index (R.end_bound range) (length self.old.items) ≤ length self.old.items }
         requires has_bounds { R.has_bounds range }
-        ensures* writes_back { sem 𝓛 (lends_drain T.row A.row A.Allocator self.entry result) }
+        ensures* writes_back { sem 𝓛 (lends_drain_in T.row A.row A.Allocator self.entry result) }
         ensures items { drain_items result ≡ slice_range self.old.items (start_index (R.start_bound range)) (end_index (R.end_bound range) (length self.old.items)) }
         ensures runs { YieldsInOrder (drain_steps {X = T} {Z = A}) drain_items }
         ensures runs_back { YieldsInReverse (drain_steps_back {X = T} {Z = A}) drain_items }

@@ -5,7 +5,7 @@ ghost use Rattle.std.specs.Option.{option_copied_mut};
 ghost use Rattle.std.specs.List.{ItemMut, IsItemAtMut};
 ghost use Rattle.std.specs.Iterator.Runs.{EveryRun, ItemsMapTo};
 ghost use Rattle.std.specs.Slice.Iter.{iter_mut_rest, iter_mut_steps};
-ghost use Rattle.fc_vec.specs.Lends.{lends_slice, lends_walk, lends_item, lends_item_if};
+ghost use Rattle.fc_vec.specs.Lends.{lends_slice_in, lends_walk_in, lends_item_in, lends_item_if_in};
 
 use super::TryVec;
 use fc_base::Handle;
@@ -15,7 +15,7 @@ use std::slice;
 impl<T, A: Handle> TryVec<T, A> {
     /// The items, for writing. Upstream: `TryVec::as_mut_slice`.
     pub fn as_mut_slice(&mut self) -> &mut [T]
-        ensures* writes_back { sem 𝓛 (lends_slice T.row A.row A.Allocator self.entry result) }
+        ensures* writes_back { sem 𝓛 (lends_slice_in T.row A.row A.Allocator self.entry result) }
         ensures value { result.now ≡ self.old.items }
     {
         self.inner.as_mut_slice()
@@ -23,7 +23,7 @@ impl<T, A: Handle> TryVec<T, A> {
 
     /// A walk that lends each item for writing, in order: std's walk over a slice. Upstream: `TryVec::iter_mut`.
     pub fn iter_mut(&mut self) -> slice::IterMut<'_, T>
-        ensures* writes_back { sem 𝓛 (lends_walk T.row A.row A.Allocator self.entry result) }
+        ensures* writes_back { sem 𝓛 (lends_walk_in T.row A.row A.Allocator self.entry result) }
         ensures items { iter_mut_rest result ≡ self.old.items }
         ensures runs { EveryRun (iter_mut_steps {A = T}) (λ p. ItemsMapTo p (λ x. x.now) (iter_mut_rest p.from)) }
     {
@@ -32,7 +32,7 @@ impl<T, A: Handle> TryVec<T, A> {
 
     /// The item at `index`, for writing; `None` from the length on. Upstream: `get_mut` of the slice.
     pub fn get_mut(&mut self, index: usize) -> Option<&mut T>
-        ensures* writes_back { sem 𝓛 (lends_item_if T.row A.row A.Allocator self.entry index result) }
+        ensures* writes_back { sem 𝓛 (lends_item_if_in T.row A.row A.Allocator self.entry index result) }
         ensures value { option_copied_mut result ≡ slice_get self.old.items index }
         ensures item { IsItemAtMut self.old.items index result }
     {
@@ -41,7 +41,7 @@ impl<T, A: Handle> TryVec<T, A> {
 
     /// The first item, for writing; `None` where there is none. Upstream: `first_mut` of the slice.
     pub fn first_mut(&mut self) -> Option<&mut T>
-        ensures* writes_back { sem 𝓛 (lends_item_if T.row A.row A.Allocator self.entry 0 result) }
+        ensures* writes_back { sem 𝓛 (lends_item_if_in T.row A.row A.Allocator self.entry 0 result) }
         ensures value { option_copied_mut result ≡ slice_get self.old.items 0 }
         ensures item { IsItemAtMut self.old.items 0 result }
     {
@@ -50,7 +50,7 @@ impl<T, A: Handle> TryVec<T, A> {
 
     /// The last item, for writing; `None` where there is none. Upstream: `last_mut` of the slice.
     pub fn last_mut(&mut self) -> Option<&mut T>
-        ensures* writes_back { sem 𝓛 (lends_item_if T.row A.row A.Allocator self.entry (length self.old.items - 1) result) }
+        ensures* writes_back { sem 𝓛 (lends_item_if_in T.row A.row A.Allocator self.entry (length self.old.items - 1) result) }
         ensures value { option_copied_mut result ≡ slice_get self.old.items (length self.old.items - 1) }
         ensures item { ItemMut self.old.items 0 (length self.old.items - 1) result }
     {
@@ -62,7 +62,7 @@ impl<T, A: Handle> TryVec<T, A> {
 impl<T, A: Handle> IndexMut<usize> for TryVec<T, A> {
     fn index_mut(&mut self, index: usize) -> &mut T
         requires { index < length self.old.items }
-        ensures* writes_back { sem 𝓛 (lends_item T.row A.row A.Allocator self.entry index result) }
+        ensures* writes_back { sem 𝓛 (lends_item_in T.row A.row A.Allocator self.entry index result) }
         ensures value { result.now ≡ slice_index_or self.old.items index result.now }
     {
         &mut self.inner[index]

@@ -4,7 +4,7 @@ ghost use Rattle.std.specs.Borrow.{sem};
 ghost use Rattle.fc_map.specs.Counts.{IsBounded};
 ghost use Rattle.fc_map.specs.Entries.{entries, IsSoundMap};
 ghost use Rattle.fc_map.specs.Entry.{Occupied, entry_map, entry_map_ref, entry_pair, list_with};
-ghost use Rattle.fc_map.specs.ReadyEntry.{ready_map, ready_map_ref, ready_key, ready_list_with, ready_lends};
+ghost use Rattle.fc_map.specs.ReadyEntry.{ready_map, ready_map_ref, ready_key, ready_list_with, ready_lends_in};
 
 use super::super::OccupiedEntry;
 use super::{Nodes, ReadyEntry};
@@ -43,7 +43,7 @@ impl<'a, K: Ord + Drop, V: Drop, A: Handle> ReadyEntry<'a, K, V, A> {
     /// # Errors
     /// None: there is no `Infallible`, so `let Ok(value) = ready.insert(value);` takes the value out.
     pub fn insert(self, value: V) -> Result<&'a mut V, Infallible>
-        ensures* writes_back { sem 𝓛 (ready_lends K.row V.row A.row A.Allocator self.entry result) }
+        ensures* writes_back { sem 𝓛 (ready_lends_in K.row V.row A.row A.Allocator self.entry result) }
         ensures value { IfOk result (λ v. v.now ≡ value) }
     {
         self.insert_counted(value, &mut Count::new())
@@ -54,7 +54,7 @@ impl<'a, K: Ord + Drop, V: Drop, A: Handle> ReadyEntry<'a, K, V, A> {
     /// # Errors
     /// As `insert`.
     pub fn insert_counted(self, value: V, count: &mut Count) -> Result<&'a mut V, Infallible>
-        ensures* writes_back { sem 𝓛 (ready_lends K.row V.row A.row A.Allocator self.entry result) }
+        ensures* writes_back { sem 𝓛 (ready_lends_in K.row V.row A.row A.Allocator self.entry result) }
         ensures value { IfOk result (λ v. v.now ≡ value) }
         ensures comparisons { count.new.comparisons ≡ count.old.comparisons }
         ensures moved { count.old.moves < count.new.moves }

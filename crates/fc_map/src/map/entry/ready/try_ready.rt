@@ -5,7 +5,7 @@ ghost use Rattle.fc_base.specs.Growth.{MayGrowRefuse};
 ghost use Rattle.fc_map.specs.Entries.{entries};
 ghost use Rattle.fc_map.specs.Full.{IsFullAt};
 ghost use Rattle.fc_map.specs.Entry.{Vacant, entry_key, entry_map, entry_map_ref, entry_path, list_with};
-ghost use Rattle.fc_map.specs.ReadyEntry.{ready_map, ready_map_ref, ready_key, ready_list_with, rests_if_not_ready};
+ghost use Rattle.fc_map.specs.ReadyEntry.{ready_map, ready_map_ref, ready_key, ready_list_with, rests_if_not_ready_in};
 
 use super::super::VacantEntry;
 use super::ReadyEntry;
@@ -18,7 +18,7 @@ impl<'a, K: Ord + Drop, V: Drop, A: Handle> VacantEntry<'a, K, V, A> {
     /// As `try_insert`: `CapacityOverflow` where the map holds `usize::MAX` pairs, and then always; else `AllocError`, where a request
     /// for memory was refused, which takes an empty map or a full leaf. The map is then as it was, tree and all, and the key comes back.
     pub fn try_ready(self) -> Result<ReadyEntry<'a, K, V, A>, (K, TryReserveError)>
-        ensures* rests { sem 𝓛 (rests_if_not_ready K.row V.row A.row A.Allocator self.entry result) }
+        ensures* rests { sem 𝓛 (rests_if_not_ready_in K.row V.row A.row A.Allocator self.entry result) }
         ensures same_map { IfOk result (λ e. (ready_map_ref e).ghost_name ≡ (entry_map_ref (Vacant self.entry)).ghost_name) }
         ensures map { IfOk result (λ e. ready_map e ≡ entry_map (Vacant self.entry)) }
         ensures key { IfOk result (λ e. entry_key (Vacant self.entry) ≡ Some (ready_key e)) }
