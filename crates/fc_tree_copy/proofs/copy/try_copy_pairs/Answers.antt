@@ -16,7 +16,7 @@ pub push-requires : goal.push-requires
 push-requires g c =
     let i = c.loop-i.invariant in
     let many = many_copied (AreSame g.K.TryClone.same g.V.TryClone.same) c.loop-i.i c.args.pairs.now c.loop-i.copies (omega (arith, i.0)) i.1 in
-    (search (rules, g.met.A.Handle.small), search (rules, many, i.0))
+    (search (rules, g.met.A.Handle.small, g.met.A.Handle.plain), search (rules, many, i.0))
 
 pub loop-i-preserved : goal.loop-i-preserved
 loop-i-preserved g c =
