@@ -13,6 +13,8 @@ mod entries;
 #[cfg(test)]
 mod extensions;
 #[cfg(test)]
+mod filled;
+#[cfg(test)]
 mod heaps;
 #[cfg(test)]
 mod insertions;
