@@ -7,6 +7,8 @@
 #![tactic(auto)]
 
 #[cfg(test)]
+mod between;
+#[cfg(test)]
 mod budgets;
 #[cfg(test)]
 mod entries;
