@@ -5,8 +5,8 @@ use fallible_collections::TryReserveError;
 use fallible_collections::command::{ServeEnd, ServeError, ending, serve_within};
 use fc_budget::Budget;
 use std::cell::RefCell;
-use std::env::{self, Env};
-use std::io::{self, BufWriter, Write};
+use std::env::{self, Args, Env};
+use std::io::{self, BufWriter, ErrorKind, Write};
 use std::process::ExitCode;
 use turns::{Replies, Waiting};
 
@@ -14,13 +14,16 @@ use turns::{Replies, Waiting};
 const ROOM: usize = 8192;
 
 fn main(rt: HostRuntime) -> ExitCode {
-    let Some(bytes) = bytes_told(&rt) else {
-        let _ = eprintln!(rt;
-            "one argument is wanted: the bytes that all maps and sets together may take"
-        );
-        return ExitCode::from(2);
+    let end = match bytes_told(&rt) {
+        Ok(Some(bytes)) => run(&rt, bytes),
+        Ok(None) => {
+            let _ = eprintln!(rt;
+                "one argument is wanted: the bytes that all maps and sets together may take"
+            );
+            return ExitCode::from(2);
+        }
+        Err(refused) => Err(ServeError::Memory(refused)),
     };
-    let end = run(&rt, bytes);
     let (status, line) = ending(&end);
     if !line.is_empty() {
         let _ = eprintln!(rt; "{line}");
@@ -28,9 +31,18 @@ fn main(rt: HostRuntime) -> ExitCode {
     ExitCode::from(status)
 }
 
-// The number that is the one argument behind the program's name.
-fn bytes_told(rt: &(impl Env + AllocGlobal)) -> Option<usize> {
-    let mut args = env::args(rt).ok()?;
+// The number that is the one argument behind the program's name, if that is what stands there; or no memory for the arguments.
+fn bytes_told(rt: &(impl Env + AllocGlobal)) -> Result<Option<usize>, TryReserveError> {
+    match env::args(rt) {
+        Ok(args) => Ok(number_in(args)),
+        Err(e) if e.kind() == ErrorKind::OutOfMemory => Err(TryReserveError::AllocError),
+        Err(_) => Ok(None),
+    }
+}
+
+// The number that stands alone behind the first argument.
+fn number_in(args: Args) -> Option<usize> {
+    let mut args = args;
     let _program = args.next()?;
     let word = args.next()?;
     if args.next().is_some() || !word.as_bytes().first()?.is_ascii_digit() {
