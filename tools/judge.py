@@ -1,8 +1,9 @@
 """What the program is to do, by sorted lists: what each line makes of two maps and two sets, what may be refused, and what is wrong with a run.
 
-tools/fuzz and tools/refusals judge by it. It follows docs/COMMANDS.md, and shares no code with the program. It also says how many requests a copy of a sound
-tree makes, which tells from outside whether a tree is sound."""
+tools/fuzz and tools/refusals judge by it. It follows docs/COMMANDS.md, and shares no code with the program. It also says how many nodes a sound tree has: by the
+requests of a copy they tell from outside whether a tree is sound, and by their bytes what a budget has to refuse and what it may."""
 import bisect
+import functools
 import os
 import pathlib
 import subprocess
@@ -14,6 +15,8 @@ LONGEST = 4096  # the most bytes of a line
 CAPACITY = 15  # the most pairs of a node: with as many, a map may need a node for a new key
 LEAST = 7  # the fewest pairs of a node that is not the root
 STARTS = 3  # how many requests for memory the program makes at its start
+ARGUMENTS = 4  # how many more, ahead of these, where it reads its one argument, the bytes of its budget
+ITEM, PAIR, CHILD = 8, 16, 40  # the bytes of an item of a set, of a pair of a map, and of a child in a list of a node
 SHORT = 100  # the bytes of the longest reply that is no list, without its line feed
 PATIENCE = 20  # the most seconds of a run
 FOLLOWED = 2000  # the most states that are followed at once, since each refused extension may have stopped at several pairs
@@ -331,6 +334,90 @@ def stops(m, more):
         new.lay(key, value)
 
 
+# What maps and sets take of a budget, by how many pairs they have: each is a sound tree.
+
+
+@functools.cache
+def nodes_of(n):
+    """How many leaves and how many nodes above them a sound tree of n pairs has, at the least and at the most, and on how many levels then.
+
+    Between two neighbouring leaves stands one pair of a node above. So where there are several leaves, each with its 7 to 15 pairs takes 8 to 16 of n + 1.
+    A node above has a child more than pairs, so 8 to 16 of the level below, but the root 2 at least. A level has the fewest nodes, or the most, where the one
+    below it has: as few as hold all, or as many as find 8 each, or one, the root."""
+    if n == 0:
+        return (0, 0, 0), (0, 0, 0)
+    trees = []
+    for above in (lambda places: -(-places // (CAPACITY + 1)), lambda places: max(1, places // (LEAST + 1))):
+        levels = [above(n + 1)]
+        while levels[-1] > 1:
+            levels.append(above(levels[-1]))
+        trees.append((levels[0], sum(levels[1:]), len(levels)))
+    return tuple(trees)
+
+
+def bytes_of(name, leaves, above):
+    """What so many leaves, and so many nodes above leaves, of the map or set of that place in the world take: each has a list of its pairs, and those above have
+    one of their children."""
+    pairs = CAPACITY * (ITEM if name > 1 else PAIR)
+    return leaves * pairs + above * (pairs + (CAPACITY + 1) * CHILD)
+
+
+def least_of(name, n):
+    leaves, above, _ = nodes_of(n)[0]
+    return bytes_of(name, leaves, above)
+
+
+def most_of(name, n):
+    leaves, above, _ = nodes_of(n)[1]
+    return bytes_of(name, leaves, above)
+
+
+def way_of(name, n):
+    """The most that a pair at a new key takes, in a map or set of n pairs: a node on each level, and a root."""
+    return bytes_of(name, 1, nodes_of(n)[1][2])
+
+
+def least_held(world):
+    return sum(least_of(name, len(pairs)) for name, pairs in enumerate(world))
+
+
+def most_held(world):
+    return sum(most_of(name, len(pairs)) for name, pairs in enumerate(world))
+
+
+# The most that a command takes beside what stands before it, by the place of what it names and how many pairs that and the other have. All others take no memory
+# of maps and sets: lines and replies have theirs elsewhere. Where nodes are made for many pairs at once there may be one short one more on each level.
+TAKES = {
+    "insert": lambda name, m, o, k, v: way_of(name, m),
+    "entry": lambda name, m, o, k, v, w: way_of(name, m),
+    "both": lambda name, m, o, k, v, j, w: way_of(name, m) + way_of(name, o),
+    "add": lambda name, m, o, k: way_of(name, m),
+    "replace": lambda name, m, o, k: way_of(name, m),
+    "extend": lambda name, m, o, more: most_of(name, m + len(more)) - most_of(name, m) + 2 * way_of(name, m + len(more)),
+    "append": lambda name, m, o: most_of(name, m + o) + way_of(name, m + o),
+    "split": lambda name, m, o, k: way_of(name, m),
+    "copy": lambda name, m, o: most_of(name, m),
+    **{"keep " + word: lambda name, m, o: most_of(name, m + o) + way_of(name, m + o) for word in OPERATIONS},
+}
+
+
+def most_taken(world, command):
+    """What stands before the command and what it takes, together at the most."""
+    lengths = [len(world[i]) for i in command.names]
+    return most_held(world) + (TAKES[command.word](command.names[0], *lengths, *command.said) if command.word in TAKES else 0)
+
+
+def room_for(lines):
+    """The bytes of a budget in which none of the lines is refused."""
+    world, room = [Pairs()] * 4, 0
+    for command in map(command_of, lines):
+        if command is None:
+            break
+        room = max(room, most_taken(world, command))
+        _, world = answered(world, command)
+    return room
+
+
 def after(world, command, m, o):
     """The world with these in the place of what the command names."""
     named, other = command.names
@@ -351,27 +438,22 @@ def refused(world, command):
     return [world] if command.word in MAY_REFUSE and MAY_REFUSE[command.word](m, o, *command.said) else []
 
 
+def refused_within(world, command, budget):
+    """The same, where only a budget of so many bytes refuses: it does where what stands and what the command takes may pass it. An extension is refused at a pair,
+    so by what stands then and the nodes for that pair."""
+    if command.word != "extend":
+        return refused(world, command) if most_taken(world, command) > budget else []
+    name = command.names[0]
+    return [left for left in refused(world, command) if most_held(left) + 2 * way_of(name, len(left[name])) > budget]
+
+
 # How a tree looks from outside.
 
 
 def requests_of_copy(n):
-    """How many requests the copy of a sound tree of n pairs makes, at the least and at the most: it has the same nodes, of which a leaf asks once and an inner node
-    twice.
-
-    Between two neighbouring leaves stands one pair of a node above. So where there are several leaves, each with its 7 to 15 pairs takes 8 to 16 of n + 1.
-    A node above has a child more than pairs, so 8 to 16 of the level below, but the root 2 at least. A level has the fewest nodes, or the most, where the one
-    below it has: as few as hold all, or as many as find 8 each, or one, the root."""
-    if n == 0:
-        return 0, 0
-    fewest, most = -(-(n + 1) // (CAPACITY + 1)), max(1, (n + 1) // (LEAST + 1))
-    least_asked, most_asked = fewest, most
-    while fewest > 1:
-        fewest = -(-fewest // (CAPACITY + 1))
-        least_asked += 2 * fewest
-    while most > 1:
-        most = max(1, most // (LEAST + 1))
-        most_asked += 2 * most
-    return least_asked, most_asked
+    """How many requests the copy of a sound tree of n pairs makes, at the least and at the most: it has the same nodes, of which a leaf asks once and one above
+    twice."""
+    return [leaves + 2 * above for leaves, above, _ in nodes_of(n)]
 
 
 # A run, and what is wrong with it.
@@ -382,6 +464,7 @@ class Case(NamedTuple):
     ended: bool = True  # whether the last line ends with a line feed
     requests: tuple = ()  # the numbers of the requests for memory that are refused
     onward: int = 0  # the number of the request from which on each is refused, or 0
+    budget: object = None  # the bytes that maps and sets may take together, which a program with a budget is told, or None
 
     def text(self):
         return b"\n".join(self.lines) + (b"\n" if self.lines and (self.ended or not self.lines[-1]) else b"")
@@ -421,7 +504,8 @@ class Program:
         environment = {**os.environ, "LD_PRELOAD": self.refuse, "REFUSE_LOG": str(log)}
         environment |= {"REFUSE": ",".join(map(str, case.requests)), "REFUSE_FROM": str(case.onward)}
         try:
-            ended = subprocess.run([self.path], input=case.text(), capture_output=True, env=environment, timeout=PATIENCE, check=False)
+            words = [] if case.budget is None else [str(case.budget)]
+            ended = subprocess.run([self.path, *words], input=case.text(), capture_output=True, env=environment, timeout=PATIENCE, check=False)
             status = ended.returncode
         except subprocess.TimeoutExpired as late:
             ended, status = late, f"none within {PATIENCE} seconds"
@@ -441,9 +525,10 @@ def may_give_up(case, at, replies, longest):
     """Whether there may be no room at this line: at the first, where a request of the start is refused, for the list that it names, or for a reply that
     is a list, longer than each before and than the room of the start."""
     refused_first = case.requests[0] if case.requests else case.onward
+    starts = STARTS if case.budget is None else ARGUMENTS + STARTS
     names_list = case.lines[at].split(b" ")[0] in (b"extend", b"walk", b"write")
     lists = [len(reply) for reply in replies if reply.startswith("list")]
-    return at == 0 and refused_first <= STARTS or names_list or max(lists, default=0) > max(longest, SHORT)
+    return at == 0 and refused_first <= starts or names_list or max(lists, default=0) > max(longest, SHORT)
 
 
 def ending(status, error):
@@ -451,14 +536,26 @@ def ending(status, error):
 
 
 def fault_of_end(case, ran, lines, refusals, status):
-    """What is wrong with the end after so many lines, where it has to have this status, or None."""
+    """What is wrong with the end after so many lines, where it has to have this status, or None. A budget refuses besides, and each refused request is told."""
     error = "no memory\n" if status == 2 else ""
     at = max(0, lines - 1)
     if (len(ran.replies), ran.status, ran.error) != (lines, status, error):
         return Fault(at, f"{ending(status, error)} behind reply {lines}", f"{ending(ran.status, ran.error)} behind reply {len(ran.replies)}")
-    if refusals > ran.refusals or refusals < ran.refusals and status != 2:
+    if refusals > ran.refusals and case.budget is None or refusals < ran.refusals and status != 2:
         return Fault(at, f"as many refusals as requests were refused, {ran.refusals}", f"{refusals}")
     return None if ran.kept == "0" else Fault(at, "each block given back", f"{ran.kept} not given back")
+
+
+def fits(world, budget):
+    """Whether so much can stand in the budget."""
+    return budget is None or least_held(world) <= budget
+
+
+def told_refused(case, ran, world, command):
+    """The worlds that the command may leave where its refusal is told: by a refused request, or else by the budget."""
+    if ran.refusals:
+        return [left for left in refused(world, command) if fits(left, case.budget)]
+    return [] if case.budget is None else [left for left in refused_within(world, command, case.budget) if fits(left, case.budget)]
 
 
 def fault_of(case, ran, see=None):
@@ -469,14 +566,15 @@ def fault_of(case, ran, see=None):
         command = command_of(line)
         outcomes = [answered(world, command) for world in worlds] if command else [(f"line {at + 1}: not a command", worlds[0])]
         replies = {reply for reply, _ in outcomes}
-        left = [world for reply, world in outcomes if reply == told]
+        left = [world for reply, world in outcomes if reply == told and fits(world, case.budget)]
         if told is None and ran.refusals and ran.status == 2 and may_give_up(case, at, replies, longest):
             return fault_of_end(case, ran, at, refusals + 1, 2)
-        if command and ran.refusals and told == refusal(command):
+        if command and told == refusal(command):
             refusals += 1
-            left = [world for before in worlds for world in refused(before, command)]
+            left = [world for before in worlds for world in told_refused(case, ran, before, command)]
         if not left:
-            return Fault(at, " or ".join(sorted(replies)), ending(ran.status, ran.error) if told is None else told)
+            passed = " or a refusal, for want of bytes" if told in replies else ""
+            return Fault(at, " or ".join(sorted(replies)) + passed, ending(ran.status, ran.error) if told is None else told)
         if command is None:
             return fault_of_end(case, ran, at + 1, refusals, 1)
         if see:
