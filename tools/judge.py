@@ -16,7 +16,7 @@ CAPACITY = 15  # the most pairs of a node: with as many, a map may need a node f
 LEAST = 7  # the fewest pairs of a node that is not the root
 STARTS = 3  # how many requests for memory the program makes at its start
 ARGUMENTS = 4  # how many more, ahead of these, where it reads its one argument, the bytes of its budget
-ITEM, PAIR, CHILD = 8, 16, 40  # the bytes of an item of a set, of a pair of a map, and of a child in a list of a node
+ITEM, PAIR, NODE = 8, 16, 56  # the bytes of an item of a set, of a pair of a map, and of a node in a list, with the two handles on the budget that it keeps
 SHORT = 100  # the bytes of the longest reply that is no list, without its line feed
 PATIENCE = 20  # the most seconds of a run
 FOLLOWED = 2000  # the most states that are followed at once, since each refused extension may have stopped at several pairs
@@ -359,7 +359,7 @@ def bytes_of(name, leaves, above):
     """What so many leaves, and so many nodes above leaves, of the map or set of that place in the world take: each has a list of its pairs, and those above have
     one of their children."""
     pairs = CAPACITY * (ITEM if name > 1 else PAIR)
-    return leaves * pairs + above * (pairs + (CAPACITY + 1) * CHILD)
+    return leaves * pairs + above * (pairs + (CAPACITY + 1) * NODE)
 
 
 def least_of(name, n):
@@ -377,6 +377,17 @@ def way_of(name, n):
     return bytes_of(name, 1, nodes_of(n)[1][2])
 
 
+def one_more(name, n):
+    """The most that one node more on each level takes, beside a tree of n pairs that may have one more there already, with the list in which the nodes lie first."""
+    return 2 * way_of(name, n) + (nodes_of(n)[1][2] + 1) * NODE
+
+
+def made_of(name, n):
+    """The most that nodes for n pairs take where they are made at once: they may be one more on each level, and lie in a list until they are needed."""
+    leaves, above, levels = nodes_of(n)[1]
+    return most_of(name, n) + way_of(name, n) + (leaves + above + levels + 1) * NODE
+
+
 def least_held(world):
     return sum(least_of(name, len(pairs)) for name, pairs in enumerate(world))
 
@@ -386,18 +397,18 @@ def most_held(world):
 
 
 # The most that a command takes beside what stands before it, by the place of what it names and how many pairs that and the other have. All others take no memory
-# of maps and sets: lines and replies have theirs elsewhere. Where nodes are made for many pairs at once there may be one short one more on each level.
+# of maps and sets: lines and replies have theirs elsewhere.
 TAKES = {
     "insert": lambda name, m, o, k, v: way_of(name, m),
     "entry": lambda name, m, o, k, v, w: way_of(name, m),
     "both": lambda name, m, o, k, v, j, w: way_of(name, m) + way_of(name, o),
     "add": lambda name, m, o, k: way_of(name, m),
     "replace": lambda name, m, o, k: way_of(name, m),
-    "extend": lambda name, m, o, more: most_of(name, m + len(more)) - most_of(name, m) + 2 * way_of(name, m + len(more)),
-    "append": lambda name, m, o: most_of(name, m + o) + way_of(name, m + o),
-    "split": lambda name, m, o, k: way_of(name, m),
-    "copy": lambda name, m, o: most_of(name, m),
-    **{"keep " + word: lambda name, m, o: most_of(name, m + o) + way_of(name, m + o) for word in OPERATIONS},
+    "extend": lambda name, m, o, more: most_of(name, m + len(more)) - most_of(name, m) + one_more(name, m + len(more)),
+    "append": lambda name, m, o: made_of(name, m + o),
+    "split": lambda name, m, o, k: one_more(name, m),
+    "copy": lambda name, m, o: made_of(name, m),
+    **{"keep " + word: lambda name, m, o: made_of(name, m + o) for word in OPERATIONS},
 }
 
 
@@ -444,7 +455,7 @@ def refused_within(world, command, budget):
     if command.word != "extend":
         return refused(world, command) if most_taken(world, command) > budget else []
     name = command.names[0]
-    return [left for left in refused(world, command) if most_held(left) + 2 * way_of(name, len(left[name])) > budget]
+    return [left for left in refused(world, command) if most_held(left) + one_more(name, len(left[name])) > budget]
 
 
 # How a tree looks from outside.
