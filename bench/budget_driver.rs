@@ -134,7 +134,7 @@ fn print_bytes() {
             way: LET_GO,
         };
         let [budget, global] = RUNS.map(|run| {
-            let weigh = || weights(|| drop(run(&job)))[0];
+            let weigh = || weights(|| _ = run(&job))[0];
             weigh();
             weigh() as f64 / pairs as f64
         });
