@@ -11,6 +11,8 @@ pub enum Request {
     Seen(u64),
     /// The session of this token ends.
     Close(u64),
+    /// The sessions that were last used before this time end.
+    Expire(u64),
     /// How many sessions are open, and the bytes that they take.
     Count,
 }
@@ -24,6 +26,7 @@ pub fn request_in(line: &str) -> Option<(usize, Request)> {
         "open" => Request::Open(number(words.next()?)?, number(words.next()?)?),
         "seen" => Request::Seen(number(words.next()?)?),
         "close" => Request::Close(number(words.next()?)?),
+        "expire" => Request::Expire(number(words.next()?)?),
         "count" => Request::Count,
         _ => return None,
     };

@@ -64,6 +64,10 @@ fn answer(rt: &impl Print, sessions: &mut Sessions<'_>, line: &Line<LONGEST>) ->
             Some(then) => println!(rt; "closed, last seen at {then}"),
             None => println!(rt; "not open"),
         },
+        Request::Expire(time) => {
+            sessions.expire(user, time);
+            count(rt, sessions, user)
+        }
         Request::Count => count(rt, sessions, user),
     }
 }

@@ -1,5 +1,5 @@
 //! Open sessions of many users: when each was last seen, by user and token.
-ghost use Rattle.std.specs.Prelude.{◌≡◌, ◌<◌, [], None, length, replicate, slice_set, IfOk, IfNone, OnOk, OnErr};
+ghost use Rattle.std.specs.Prelude.{◌≡◌, ◌<◌, [], None, length, replicate, slice_set, filter, nat_le, IfOk, IfNone, OnOk, OnErr};
 ghost use Rattle.std.specs.Ordering.{nat_cmp};
 ghost use Rattle.fallible_collections.specs.Words.{value_at, put, cut};
 ghost use Rattle.example_sessions.specs.Users.{of_user};
@@ -107,6 +107,14 @@ impl<'a> Sessions<'a> {
         ensures unchanged { IfNone result (self.new ≡ self.old) }
     {
         self.users[user].seen.remove(&token)
+    }
+
+    /// Closes the sessions of a user that were last seen before this time. It takes no memory.
+    pub fn expire(&mut self, user: usize, time: u64)
+        requires { user < length self.old }
+        ensures { self.new ≡ slice_set self.old user (filter (λ session. nat_le time session.1) (of_user self.old user)) }
+    {
+        self.users[user].seen.retain(|_token, then| *then >= time);
     }
 
     /// How many sessions of a user are open.
