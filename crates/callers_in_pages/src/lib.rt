@@ -1,4 +1,4 @@
-//! The README's examples, in a crate that names `fallible_collections` and `fc_budget` alone.
+//! The README's examples, in a crate that names `fallible_collections`, `fc_budget` and allocators of the kit alone.
 #![tactic(auto)]
 
 ghost use Rattle.std.specs.Prelude.{◌≡◌, List, [], None, OnOk, IfOk, IfSome, IsOk, IsSome, OnErr, Some, string_bytes, decimal, unwrap_or, ◌+◌, ◌<◌};

@@ -7,11 +7,15 @@
 #![tactic(auto)]
 
 #[cfg(test)]
+mod between;
+#[cfg(test)]
 mod budgets;
 #[cfg(test)]
 mod entries;
 #[cfg(test)]
 mod extensions;
+#[cfg(test)]
+mod filled;
 #[cfg(test)]
 mod heaps;
 #[cfg(test)]

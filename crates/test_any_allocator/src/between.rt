@@ -1,0 +1,157 @@
+//! Calls on two collections, each in a budget of its own.
+use crate::items::{Items, has_items, items};
+use crate::numbers::{Numbers, holds, numbers};
+use crate::sizes::{AMPLE, CAPACITY, INNER, LEAF, SET_INNER, SET_LEAF};
+use fc_base::TryReserveError;
+use fc_budget::Budget;
+use fc_map::map::insert_both;
+use std::alloc::Global;
+use std::test::Fail;
+
+// How many bytes are out of each of two budgets.
+type Out = (usize, usize);
+
+fn out(a: &Budget<Global>, b: &Budget<Global>) -> Out {
+    (a.used(), b.used())
+}
+
+// What is out where a map in `a` has so many numbers, and takes over a full leaf of them from a map in `b`.
+fn out_of_append(
+    a: &Budget<Global>,
+    b: &Budget<Global>,
+    count: u64,
+    first: u64,
+    step: u64,
+) -> Result<(bool, Out), TryReserveError> {
+    let mut map = numbers(a, 0, count, step)?;
+    let mut other = numbers(b, first, CAPACITY, step)?;
+    map.append(&mut other)?;
+    let is_whole = holds(&map, 0, count.wrapping_add(CAPACITY), 1) && other.is_empty();
+    Ok((is_whole, out(a, b)))
+}
+
+// The other's budget has no byte left. To an empty map the other's leaf goes as it is, and is still out of its budget; where all keys lie
+// beyond, it is hung below a root; and where they take turns, all pairs go into nodes of the map's own budget.
+#[test]
+fn an_append_asks_the_maps_own_budget(rt: HostRuntime) -> Result<(), Fail> {
+    let a = Budget::new(rt.alloc(), AMPLE);
+    let b = Budget::new(rt.alloc(), LEAF);
+    let seen = [
+        out_of_append(&a, &b, 0, 0, 1)?,
+        out_of_append(&a, &b, CAPACITY, CAPACITY, 1)?,
+        out_of_append(&a, &b, CAPACITY, 1, 2)?,
+    ];
+    assert_eq!(rt;
+        seen,
+        [
+            (true, (0, LEAF)),
+            (true, (LEAF + INNER, LEAF)),
+            (true, (2 * LEAF + INNER, 0))
+        ]
+    );
+    assert_eq!(rt; out(&a, &b), (0, 0));
+    Ok(())
+}
+
+// What is out where an empty map in `a` took over a full leaf from a map in `b`, and one more number went in.
+fn out_behind_append(a: &Budget<Global>, b: &Budget<Global>) -> Result<Out, TryReserveError> {
+    let mut map: Numbers<'_> = numbers(a, 0, 0, 1)?;
+    map.append(&mut numbers(b, 0, CAPACITY, 1)?)?;
+    map.try_insert(CAPACITY, CAPACITY)?;
+    Ok(out(a, b))
+}
+
+fn out_behind_append_of_sets(
+    a: &Budget<Global>,
+    b: &Budget<Global>,
+) -> Result<Out, TryReserveError> {
+    let mut set: Items<'_> = items(a, 0, 0, 1)?;
+    set.append(&mut items(b, 0, CAPACITY, 1)?)?;
+    set.try_insert(CAPACITY)?;
+    Ok(out(a, b))
+}
+
+#[test]
+fn what_came_from_another_budget_grows_in_its_own(rt: HostRuntime) -> Result<(), Fail> {
+    let a = Budget::new(rt.alloc(), AMPLE);
+    let b = Budget::new(rt.alloc(), LEAF);
+    let seen = (
+        out_behind_append(&a, &b)?,
+        out_behind_append_of_sets(&a, &b)?,
+    );
+    assert_eq!(rt;
+        seen,
+        ((LEAF + INNER, LEAF), (SET_LEAF + SET_INNER, SET_LEAF))
+    );
+    assert_eq!(rt; out(&a, &b), (0, 0));
+    Ok(())
+}
+
+// Takes all items of a set in `b` over into one in `a`, by turns.
+fn out_of_set_append(
+    a: &Budget<Global>,
+    b: &Budget<Global>,
+) -> Result<(bool, Out), TryReserveError> {
+    let mut set = items(a, 0, CAPACITY, 2)?;
+    let mut other = items(b, 1, CAPACITY, 2)?;
+    set.append(&mut other)?;
+    let is_whole = has_items(&set, 0, CAPACITY.wrapping_mul(2), 1) && other.is_empty();
+    Ok((is_whole, out(a, b)))
+}
+
+// What is out of both beside a set of one leaf that an operation made of one of a leaf in `a` and one of a leaf in `b`.
+fn out_of_operators(a: &Budget<Global>, b: &Budget<Global>) -> Result<[Out; 4], TryReserveError> {
+    let set: Items<'_> = items(a, 0, 10, 1)?;
+    let other: Items<'_> = items(b, 5, 10, 1)?;
+    let mut seen = [(0, 0); 4];
+    let made = set.sub(&other)?;
+    seen[0] = out(a, b);
+    drop(made);
+    let made = set.bitand(&other)?;
+    seen[1] = out(a, b);
+    drop(made);
+    let made = set.bitxor(&other)?;
+    seen[2] = out(a, b);
+    drop(made);
+    let made = set.bitor(&other)?;
+    seen[3] = out(a, b);
+    drop(made);
+    Ok(seen)
+}
+
+// The right side's budget has no byte left, and needs none.
+#[test]
+fn operations_ask_the_budget_of_their_left_side(rt: HostRuntime) -> Result<(), Fail> {
+    let a = Budget::new(rt.alloc(), AMPLE);
+    let b = Budget::new(rt.alloc(), SET_LEAF);
+    let (is_whole, joined) = out_of_set_append(&a, &b)?;
+    let seen = out_of_operators(&a, &b)?;
+    assert!(rt; is_whole && joined == (2 * SET_LEAF + SET_INNER, 0));
+    assert_eq!(rt; seen, [(2 * SET_LEAF, SET_LEAF); 4]);
+    assert_eq!(rt; out(&a, &b), (0, 0));
+    Ok(())
+}
+
+// What is out where a number went into an empty map of each, if it did.
+fn out_of_both(a: &Budget<Global>, b: &Budget<Global>) -> (bool, Out) {
+    let mut map = Numbers::new(a);
+    let mut other = Numbers::new(b);
+    let is_done = insert_both(&mut map, &mut other, 1, 2, 3, 4).is_ok();
+    (is_done, out(a, b))
+}
+
+#[test]
+fn each_of_two_insertions_asks_its_maps_own_budget(rt: HostRuntime) {
+    let a = Budget::new(rt.alloc(), LEAF);
+    let b = Budget::new(rt.alloc(), LEAF);
+    let none = Budget::new(rt.alloc(), 0);
+    let seen = [
+        out_of_both(&a, &b),
+        out_of_both(&a, &none),
+        out_of_both(&none, &b),
+    ];
+    assert_eq!(rt;
+        seen,
+        [(true, (LEAF, LEAF)), (false, (0, 0)), (false, (0, 0))]
+    );
+}
