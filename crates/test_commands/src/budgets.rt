@@ -71,7 +71,8 @@ fn items_within(alloc: Global, bytes: usize) -> usize {
     let mut world = World::within(alloc, &budget);
     let mut count: usize = 0;
     for item in 1..=16u64 {
-        count += usize::from(goes_into_set(&mut world, Side::Second, item));
+        let fits = goes_into_set(&mut world, Side::Second, item);
+        count = count.wrapping_add(usize::from(fits));
     }
     count
 }
@@ -257,7 +258,7 @@ fn refusals_within(alloc: Global, bytes: usize) -> Result<Option<usize>, AllocEr
     for turn in 0..TURNS {
         match step_both(alloc, &budget, &mut narrow, &mut ample, turn)? {
             Beside::Answered => (),
-            Beside::Refused => refusals += 1,
+            Beside::Refused => refusals = refusals.wrapping_add(1),
             Beside::Wrong => return Ok(None),
         }
     }
@@ -358,7 +359,7 @@ fn replies_within(alloc: Global, bytes: usize) -> Option<Vec<u8>> {
 fn lines_in(text: &[u8]) -> usize {
     let mut count: usize = 0;
     for byte in text {
-        count += usize::from(*byte == b'\n');
+        count = count.wrapping_add(usize::from(*byte == b'\n'));
     }
     count
 }
