@@ -1,7 +1,13 @@
 """What the program is to do, by sorted lists: what each line makes of two maps and two sets, what may be refused, and what is wrong with a run.
 
-tools/fuzz and tools/refusals judge by it. It follows docs/COMMANDS.md, and shares no code with the program. It also says how many nodes a sound tree has: by the
-requests of a copy they tell from outside whether a tree is sound, and by their bytes what a budget has to refuse and what it may."""
+tools/fuzz and tools/refusals judge by it. It follows docs/COMMANDS.md, and shares no code with the program.
+
+A refusal that is told is followed so: the command is one that may be refused there, the reply hands back what it was given, and what stood before it stands behind it.
+A refused extension alone leaves the pairs before one of those at which it may be refused; which one is told by the lines that follow.
+
+It also says how many nodes a sound tree has, at the least and at the most. By the requests of a copy they tell from outside whether a tree is sound. By their bytes, a
+budget refuses only where the most that stands and the most that the command takes pass it, so none of them where it has room for these; and where the least that a
+command would leave passes it, the command is refused."""
 import bisect
 import functools
 import os
