@@ -52,6 +52,6 @@ pub use Rattle.fc_set.specs.Sides.{GivesCommon, begin_sifting, begin_with_shorte
 pub use Rattle.fc_set.specs.Operations.{difference, common, symmetric_difference, intersection, union}
 -- commands
 pub use Rattle.fc_command.specs.Step.{IsNew, Step, Runs}
-pub use Rattle.fc_command.specs.Spoken.{Served, Spoken, HasList, ending_of}
+pub use Rattle.fc_command.specs.Spoken.{Served, Spoken, HasList, ending_of, ServedIn, SpokenIn}
 pub use Rattle.fc_lines.specs.Grammar.{command_of}
 pub use Rattle.fc_lines.specs.Texts.{text_of}

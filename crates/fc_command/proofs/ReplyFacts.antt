@@ -1,7 +1,6 @@
 -- Which commands are answered by a list.
 use Rattle.std.proofs.Common.{ℕ, Bool, true, false, if◌then◌else◌}
 use Rattle.std.specs.Prelude.{⊤}
-use Rattle.std.specs.declared.alloc.Global.{Global}
 use Rattle.std.specs.declared.cmp.Ordering.{Ordering}
 use Rattle.fc_base.specs.declared.try_reserve_error.TryReserveError.{TryReserveError}
 use Rattle.fc_base.specs.Ranges.{is_range}
@@ -27,21 +26,21 @@ either : (K V : Type 0) (b : Bool) (n : ℕ) → IsNoList {K = K} {V = V} (if b 
 either K V true n = tt
 either K V false n = tt
 
-module _ {K V : Type 0} (cmp : K → K → Ordering) (refuses_key : K → TryReserveError → Type 0) (refuses_value : V → TryReserveError → Type 0) where
-  on_maps : (c : MapCommand K V) (m o : Map K V Global) (r : Reply K V) (m' o' : Map K V Global) → StepOn cmp refuses_key refuses_value c m o r m' o'
+module _ {K V Z : Type 0} (cmp : K → K → Ordering) (refuses_key : K → TryReserveError → Type 0) (refuses_value : V → TryReserveError → Type 0) where
+  on_maps : (c : MapCommand K V) (m o : Map K V Z) (r : Reply K V) (m' o' : Map K V Z) → StepOn cmp refuses_key refuses_value c m o r m' o'
       → ((e : TryReserveError) → IsNoList (refusal c e)) → IsNoList (answer cmp c (entries m) (entries o)).reply → IsNoList r
   on_maps c m o r m' o' (answered must h) refuses answers = rw h.0 answers
   on_maps c m o r m' o' (refused e may h) refuses answers = rw h.0 (refuses e)
   on_maps c m o r m' o' (stopped e may h) refuses answers = rw h.0 tt
 
-  on_sets : (c : SetCommand K) (m o : Map K ⊤ Global) (r : Reply K V) (m' o' : Map K ⊤ Global) → StepOnSets cmp refuses_key c m o r m' o'
+  on_sets : (c : SetCommand K) (m o : Map K ⊤ Z) (r : Reply K V) (m' o' : Map K ⊤ Z) → StepOnSets cmp refuses_key c m o r m' o'
       → ((e : TryReserveError) → IsNoList (item_refusal {V = V} c e)) → IsNoList (answer_on_sets {V = V} cmp c (items m) (items o)).reply → IsNoList r
   on_sets c m o r m' o' (answered_on_sets must h) refuses answers = rw h.0 answers
   on_sets c m o r m' o' (refused_on_sets e may h) refuses answers = rw h.0 (refuses e)
   on_sets c m o r m' o' (stopped_on_sets e may h) refuses answers = rw h.0 tt
 
   -- a command whose reply is a list asks for one
-  pub asks : (before : World K V) (c : Command K V) (r : Reply K V) (after : World K V) → Step cmp refuses_key refuses_value before c r after
+  pub asks : (before : World K V Z) (c : Command K V) (r : Reply K V) (after : World K V Z) → Step cmp refuses_key refuses_value before c r after
       → (IsNoList r → ⊥) → AsksForList c
   asks before (Insert side k v) r after s list = absurd (list (on_maps _ _ _ r _ _ s.0 (λ e. tt) tt))
   asks before (Get side k) r after s list = absurd (list (on_maps _ _ _ r _ _ s.0 (λ e. tt) tt))

@@ -7,9 +7,9 @@ use Rattle.fc_lines.specs.declared.command.Command.{Command}
 use Rattle.fc_lines.specs.declared.command.Reply.{Reply}
 use Rattle.fc_command.specs.Step.{Step, Runs}
 
-module _ {K V : Type 0} (cmp : K → K → Ordering) (refuses_key : K → TryReserveError → Type 0) (refuses_value : V → TryReserveError → Type 0) where
+module _ {K V Z : Type 0} (cmp : K → K → Ordering) (refuses_key : K → TryReserveError → Type 0) (refuses_value : V → TryReserveError → Type 0) where
   -- a run, and one step more
-  pub runs_more : (w mid w' : World K V) (cs : List (Command K V)) (rs : List (Reply K V)) (c : Command K V) (r : Reply K V)
+  pub runs_more : (w mid w' : World K V Z) (cs : List (Command K V)) (rs : List (Reply K V)) (c : Command K V) (r : Reply K V)
       → Runs cmp refuses_key refuses_value w cs rs mid → Step cmp refuses_key refuses_value mid c r w'
       → Runs cmp refuses_key refuses_value w (cs ++ c ∷ []) (rs ++ r ∷ []) w'
   runs_more w mid w' [] [] c r e step = (w', rw e at step, refl)

@@ -16,14 +16,14 @@ use Rattle.fc_command.specs.Step.{Step, IsNew}
 use Rattle.fc_lines.specs.Lines.{lines_of}
 use Rattle.fc_lines.specs.Grammar.{command_of}
 use Rattle.fc_lines.specs.Texts.{text_of, fault_text}
-use Rattle.fc_command.specs.Spoken.{SpokenTo, Spoken, Faulted, Cut, StopsAtList, Served}
+use Rattle.fc_command.specs.Spoken.{SpokenTo, SpokenIn, Faulted, Cut, StopsAtList, ServedIn}
 use Rattle.fc_command.specs.Session.{Written, FaultTold, LineRun, Cuts, IsAfter, Failed, PieceRun, Ended}
 use Rattle.fc_command.proofs.CutFacts.{Open, cuts_none, cuts_part, cuts_feed, cuts_whole, lines_feed, lines_open, lines_begin_any, open_append, too_long}
 use Rattle.fc_command.proofs.SpokenFacts.{spoken_none, spoken_more}
 
 -- the line is not a command
-pub line_refused : (old new : Session) (front : List (List ℕ)) (said more : List ℕ) (r : Result (Option ℕ) ServeError) → command_of old.line.items ≡ None
-    → FaultTold (min (old.number + 1) (2 ^ 64 - 1)) more r → LineRun old new front said more r
+pub line_refused : {Z : Type 0} (old new : Session Z) (front : List (List ℕ)) (said more : List ℕ) (r : Result (Option ℕ) ServeError)
+    → command_of old.line.items ≡ None → FaultTold (min (old.number + 1) (2 ^ 64 - 1)) more r → LineRun old new front said more r
 line_refused old new front said more (Ok None) bad told = absurd told
 line_refused old new front said more (Ok (Some n)) bad told = (bad, told.0, told.1)
 line_refused old new front said more (Err (Memory e)) bad told = absurd told
@@ -31,7 +31,8 @@ line_refused old new front said more (Err Read) bad told = told
 line_refused old new front said more (Err Write) bad told = (told.0, inr (bad, told.1))
 
 -- the line was run, and its reply was not written whole
-pub reply_failed : (old new : Session) (front : List (List ℕ)) (said more text : List ℕ) (c : Command ℕ ℕ) (r : Reply ℕ ℕ) (w' : World ℕ ℕ) (e : ServeError)
+pub reply_failed : {Z : Type 0} (old new : Session Z) (front : List (List ℕ)) (said more text : List ℕ) (c : Command ℕ ℕ) (r : Reply ℕ ℕ) (w' : World ℕ ℕ Z)
+    (e : ServeError)
     → SpokenTo front said old.world
     → command_of old.line.items ≡ Some c → Step nat_cmp (λ _ _. ⊥) (λ _ _. ⊥) old.world c r w' → text ≡ text_of r → Written text more (Err e)
     → LineRun old new front said more (Err e)
@@ -50,9 +51,9 @@ next_number : (number n len : ℕ) → number ≡ min len (2 ^ 64 - 1) → n ≡
 next_number number n len a b = omega arith
 
 -- one of these lines is no command
-pub faulted_here : (lines : List (List ℕ)) (front after : List (List ℕ)) (line said more : List ℕ) (w : World ℕ ℕ) (number n : ℕ)
+pub faulted_here : {Z : Type 0} (lines : List (List ℕ)) (front after : List (List ℕ)) (line said more : List ℕ) (w : World ℕ ℕ Z) (number n : ℕ)
     → lines ≡ front ++ line ∷ after → SpokenTo front said w → number ≡ min (length front) (2 ^ 64 - 1)
-    → command_of line ≡ None → n ≡ min (number + 1) (2 ^ 64 - 1) → more ≡ fault_text n → Faulted lines (said ++ more) n
+    → command_of line ≡ None → n ≡ min (number + 1) (2 ^ 64 - 1) → more ≡ fault_text n → Faulted Z lines (said ++ more) n
 faulted_here lines front after line said more w number n place s num bad is told = record {
   front = front;
   line = line;
@@ -66,9 +67,9 @@ faulted_here lines front after line said more w number n place s num bad is told
 }
 
 -- the run of a line failed
-pub line_failed : (lines : List (List ℕ)) (old new : Session) (front after : List (List ℕ)) (said more : List ℕ) (e : ServeError)
+pub line_failed : {Z : Type 0} (lines : List (List ℕ)) (old new : Session Z) (front after : List (List ℕ)) (said more : List ℕ) (e : ServeError)
     → lines ≡ front ++ old.line.items ∷ after → SpokenTo front said old.world → old.number ≡ min (length front) (2 ^ 64 - 1)
-    → LineRun old new front said more (Err e) → Failed lines (said ++ more) e
+    → LineRun old new front said more (Err e) → Failed Z lines (said ++ more) e
 line_failed lines old new front after said more (Memory e) place s num h =
     (h.0, (front, after, old.line.items, place, h.2, (old.world, rw (h.1, append-nil said) s)))
 line_failed lines old new front after said more Read place s num h = absurd h
@@ -91,10 +92,10 @@ line_failed lines old new front after said more Write place s num h = (
 )
 
 -- the refusal of a line failed, or was written
-pub refused_line : (lines : List (List ℕ)) (front after : List (List ℕ)) (line said more : List ℕ) (w : World ℕ ℕ) (number : ℕ)
+pub refused_line : {Z : Type 0} (lines : List (List ℕ)) (front after : List (List ℕ)) (line said more : List ℕ) (w : World ℕ ℕ Z) (number : ℕ)
     (r : Result (Option ℕ) ServeError) → lines ≡ front ++ line ∷ after → SpokenTo front said w → number ≡ min (length front) (2 ^ 64 - 1)
     → command_of line ≡ None → FaultTold (min (number + 1) (2 ^ 64 - 1)) more r
-    → MatchResult r (λ o. (n : ℕ) × (o ≡ Some n) × Faulted lines (said ++ more) n) (λ e. Failed lines (said ++ more) e)
+    → MatchResult r (λ o. (n : ℕ) × (o ≡ Some n) × Faulted Z lines (said ++ more) n) (λ e. Failed Z lines (said ++ more) e)
 refused_line lines front after line said more w number (Ok None) place s num bad h = absurd h
 refused_line lines front after line said more w number (Ok (Some n)) place s num bad h =
     (n, refl, faulted_here lines front after line said more w number n place s num bad h.0 h.1)
@@ -123,21 +124,22 @@ place_end seen front (x ∷ line) cuts h = ap lines_of (sym (append-nil seen)) �
 pub place_none : (seen : List ℕ) (front : List (List ℕ)) (line : List ℕ) → Cuts seen front line → line ≡ [] → lines_of seen ≡ front
 place_none seen front line cuts e = ap lines_of (sym (append-nil seen)) ∙ cuts.lines [] ∙ ap (λ l. front ++ lines_of (l ++ [])) e ∙ append-nil front
 
--- a flush, and the end
-pub ended_flushed : (source text : List ℕ) (end : ServeEnd) (r : Result ServeEnd ServeError) → MatchResult r (λ x. x ≡ end) (λ e. e ≡ Write)
-    → Ended source text (Ok end) → Cut (lines_of source) text → Ended source text r
-ended_flushed source text end (Ok x) e told cut = rw e told
-ended_flushed source text end (Err x) e told cut = rw e cut
+module _ (Z : Type 0) where
+  -- a flush, and the end
+  pub ended_flushed : (source text : List ℕ) (end : ServeEnd) (r : Result ServeEnd ServeError) → MatchResult r (λ x. x ≡ end) (λ e. e ≡ Write)
+      → Ended Z source text (Ok end) → Cut Z (lines_of source) text → Ended Z source text r
+  ended_flushed source text end (Ok x) e told cut = rw e told
+  ended_flushed source text end (Err x) e told cut = rw e cut
 
-pub cut_spoken : (lines : List (List ℕ)) (text : List ℕ) → Spoken lines text → Cut lines text
-cut_spoken lines text s = ([], inl (lines, [], sym (append-nil lines), rw (append-nil text) s))
+  pub cut_spoken : (lines : List (List ℕ)) (text : List ℕ) → SpokenIn Z lines text → Cut Z lines text
+  cut_spoken lines text s = ([], inl (lines, [], sym (append-nil lines), rw (append-nil text) s))
 
-pub cut_faulted : (lines : List (List ℕ)) (text : List ℕ) (n : ℕ) → Faulted lines text n → Cut lines text
-cut_faulted lines text n s = ([], inr (n, rw (append-nil text) s))
+  pub cut_faulted : (lines : List (List ℕ)) (text : List ℕ) (n : ℕ) → Faulted Z lines text n → Cut Z lines text
+  cut_faulted lines text n s = ([], inr (n, rw (append-nil text) s))
 
 -- bytes without a line feed were put behind the line, or are too many for it
-module _ (seen said : List ℕ) (s : Session) (a : IsAfter s seen said) (part : List ℕ) (open_part : Open part) where
-  pub part_on : (new : Session) → new.world ≡ s.world → new.number ≡ s.number → new.line.items ≡ s.line.items ++ part → IsAfter new (seen ++ part) said
+module _ {Z : Type 0} (seen said : List ℕ) (s : Session Z) (a : IsAfter s seen said) (part : List ℕ) (open_part : Open part) where
+  pub part_on : (new : Session Z) → new.world ≡ s.world → new.number ≡ s.number → new.line.items ≡ s.line.items ++ part → IsAfter new (seen ++ part) said
   part_on new world number line = record {
     front = a.front;
     cuts = rw line (cuts_part _ a.front s.line.items a.cuts part open_part);
@@ -154,7 +156,7 @@ module _ (seen said : List ℕ) (s : Session) (a : IsAfter s seen said) (part : 
   long_line : 4096 < length (s.line.items ++ part) → (tail : List ℕ) → command_of ((s.line.items ++ part) ++ tail) ≡ None
   long_line long tail = too_long _ (omega (arith, long, length-append (s.line.items ++ part) tail))
 
-  pub part_refused : 4096 < length (s.line.items ++ part) → (new : Session) (more : List ℕ) (r : Result (Option ℕ) ServeError)
+  pub part_refused : 4096 < length (s.line.items ++ part) → (new : Session Z) (more : List ℕ) (r : Result (Option ℕ) ServeError)
       → FaultTold (min (s.number + 1) (2 ^ 64 - 1)) more r → PieceRun new (seen ++ part) (said ++ more) r
   part_refused long new more (Ok None) told = absurd told
   part_refused long new more (Ok (Some n)) told = λ rest.
@@ -165,7 +167,7 @@ module _ (seen said : List ℕ) (s : Session) (a : IsAfter s seen said) (part : 
       refused_line _ a.front p.1 _ said more s.world s.number (Err e) p.2 a.spoken a.number (long_line long p.0) told
 
 -- a line feed came, and the line was run
-module _ (seen said more : List ℕ) (s new : Session) (a : IsAfter s seen said) where
+module _ {Z : Type 0} (seen said more : List ℕ) (s new : Session Z) (a : IsAfter s seen said) where
   feed_place : (rest : List ℕ) → lines_of ((seen ++ 10 ∷ []) ++ rest) ≡ a.front ++ s.line.items ∷ lines_of rest
   feed_place rest = ap lines_of (append_assoc seen (10 ∷ []) rest) ∙ place_feed seen a.front s.line.items rest a.cuts
 
@@ -180,39 +182,41 @@ module _ (seen said more : List ℕ) (s new : Session) (a : IsAfter s seen said)
   fed (Err e) run = λ rest. line_failed _ s new a.front _ said more e (feed_place rest) a.spoken a.number run
 
 -- what ended the session stands however the source goes on
-fault_goes_on : (new : Session) (seen said later : List ℕ) (n : ℕ) → PieceRun new seen said (Ok (Some n)) → PieceRun new (seen ++ later) said (Ok (Some n))
+fault_goes_on : {Z : Type 0} (new : Session Z) (seen said later : List ℕ) (n : ℕ)
+    → PieceRun new seen said (Ok (Some n)) → PieceRun new (seen ++ later) said (Ok (Some n))
 fault_goes_on new seen said later n h rest = rw (append_assoc seen later rest) (h (later ++ rest))
 
-failure_goes_on : (new : Session) (seen said later : List ℕ) (e : ServeError) → PieceRun new seen said (Err e) → PieceRun new (seen ++ later) said (Err e)
+failure_goes_on : {Z : Type 0} (new : Session Z) (seen said later : List ℕ) (e : ServeError)
+    → PieceRun new seen said (Err e) → PieceRun new (seen ++ later) said (Err e)
 failure_goes_on new seen said later e h rest = rw (append_assoc seen later rest) (h (later ++ rest))
 
-refusal_goes_on : (new : Session) (seen said later more : List ℕ) (number : ℕ) (r : Result (Option ℕ) ServeError) → FaultTold number more r
+refusal_goes_on : {Z : Type 0} (new : Session Z) (seen said later more : List ℕ) (number : ℕ) (r : Result (Option ℕ) ServeError) → FaultTold number more r
     → PieceRun new seen said r → PieceRun new (seen ++ later) said r
 refusal_goes_on new seen said later more number (Ok None) told h = absurd told
 refusal_goes_on new seen said later more number (Ok (Some n)) told h = fault_goes_on new seen said later n h
 refusal_goes_on new seen said later more number (Err e) told h = failure_goes_on new seen said later e h
 
 -- of a piece so much was taken, then comes a part without a line feed, and then what is left
-module _ (seen said piece taken rest part left m0 : List ℕ) (e : piece ≡ taken ++ rest) (f : rest ≡ part ++ left) (s : Session)
+module _ {Z : Type 0} (seen said piece taken rest part left m0 : List ℕ) (e : piece ≡ taken ++ rest) (f : rest ≡ part ++ left) (s : Session Z)
     (a : IsAfter s (seen ++ taken) (said ++ m0)) (open_part : Open part) where
   in_parts : seen ++ piece ≡ ((seen ++ taken) ++ part) ++ left
   in_parts = ap (λ l. seen ++ l) (e ∙ ap (λ l. taken ++ l) f) ∙ sym (append_assoc seen taken (part ++ left)) ∙ sym (append_assoc (seen ++ taken) part left)
 
-  pub piece_refused : 4096 < length (s.line.items ++ part) → (new : Session) (more : List ℕ) (r : Result (Option ℕ) ServeError)
+  pub piece_refused : 4096 < length (s.line.items ++ part) → (new : Session Z) (more : List ℕ) (r : Result (Option ℕ) ServeError)
       → FaultTold (min (s.number + 1) (2 ^ 64 - 1)) more r → PieceRun new (seen ++ piece) (said ++ (m0 ++ more)) r
   piece_refused long new more r told =
       let here = part_refused (seen ++ taken) (said ++ m0) s a part open_part long new more r told in
       let on = refusal_goes_on new ((seen ++ taken) ++ part) ((said ++ m0) ++ more) left more _ r told here in
       subst (λ t. PieceRun new (seen ++ piece) t r) (append_assoc said m0 more) (subst (λ l. PieceRun new l ((said ++ m0) ++ more) r) (sym in_parts) on)
 
-  pub piece_open : left ≡ [] → (new : Session) → new.world ≡ s.world → new.number ≡ s.number → new.line.items ≡ s.line.items ++ part
+  pub piece_open : left ≡ [] → (new : Session Z) → new.world ≡ s.world → new.number ≡ s.number → new.line.items ≡ s.line.items ++ part
       → IsAfter new (seen ++ piece) (said ++ m0)
   piece_open none new world number line =
       let all = in_parts ∙ ap (λ l. ((seen ++ taken) ++ part) ++ l) none ∙ append-nil ((seen ++ taken) ++ part) in
       subst (λ l. IsAfter new l (said ++ m0)) (sym all) (part_on (seen ++ taken) (said ++ m0) s a part open_part new world number line)
 
   -- what is left begins with a line feed, at which the line is run
-  module _ (after more : List ℕ) (feed : left ≡ 10 ∷ after) (t new : Session) (world : t.world ≡ s.world) (number : t.number ≡ s.number)
+  module _ (after more : List ℕ) (feed : left ≡ 10 ∷ after) (t new : Session Z) (world : t.world ≡ s.world) (number : t.number ≡ s.number)
       (line : t.line.items ≡ s.line.items ++ part) where
     in_lines : seen ++ piece ≡ (((seen ++ taken) ++ part) ++ 10 ∷ []) ++ after
     in_lines = in_parts ∙ ap (λ l. ((seen ++ taken) ++ part) ++ l) feed ∙ sym (append_assoc ((seen ++ taken) ++ part) (10 ∷ []) after)
@@ -248,27 +252,27 @@ in_full None b seen P took end h = tt
 in_full (Some x) None seen P took end h = absurd took
 in_full (Some x) (Some y) seen P took end h = subst P (sym (took ∙ ap (λ l. seen ++ l) end ∙ append-nil seen)) h
 
-pub served_failed : (a b : Option (List ℕ)) (seen text : List ℕ) (e : ServeError) → Consumes a b seen
-    → ((rest : List ℕ) → Failed (lines_of (seen ++ rest)) text e) → Served a b text (Err e)
-served_failed a b seen text (Memory e) took h = ((h []).0, inr (however a b seen (λ source. StopsAtList (lines_of source) text) took (λ rest. (h rest).1)))
-served_failed a b seen text Read took h = absurd (h [])
-served_failed a b seen text Write took h = however a b seen (λ source. Cut (lines_of source) text) took h
+module _ (Z : Type 0) (a b : Option (List ℕ)) (seen text : List ℕ) where
+  pub served_failed : (e : ServeError) → Consumes a b seen → ((rest : List ℕ) → Failed Z (lines_of (seen ++ rest)) text e) → ServedIn Z a b text (Err e)
+  served_failed (Memory e) took h =
+      ((h []).0, inr (however a b seen (λ source. StopsAtList Z (lines_of source) text) took (λ rest. (h rest).1)))
+  served_failed Read took h = absurd (h [])
+  served_failed Write took h = however a b seen (λ source. Cut Z (lines_of source) text) took h
 
-pub served_end : (a b : Option (List ℕ)) (seen text : List ℕ) (r : Result ServeEnd ServeError) → Consumes a b seen → IsAtEnd b → Ended seen text r
-    → Served a b text r
-served_end a b seen text (Ok Finished) took end h = (end, in_full a b seen (λ source. Spoken (lines_of source) text) took end h)
-served_end a b seen text (Ok (NotACommand n)) took end h = in_full a b seen (λ source. Faulted (lines_of source) text n) took end h
-served_end a b seen text (Err (Memory e)) took end h = (h.0, inr (in_full a b seen (λ source. StopsAtList (lines_of source) text) took end h.1))
-served_end a b seen text (Err Read) took end h = absurd h
-served_end a b seen text (Err Write) took end h = in_full a b seen (λ source. Cut (lines_of source) text) took end h
+  pub served_end : (r : Result ServeEnd ServeError) → Consumes a b seen → IsAtEnd b → Ended Z seen text r → ServedIn Z a b text r
+  served_end (Ok Finished) took end h = (end, in_full a b seen (λ source. SpokenIn Z (lines_of source) text) took end h)
+  served_end (Ok (NotACommand n)) took end h = in_full a b seen (λ source. Faulted Z (lines_of source) text n) took end h
+  served_end (Err (Memory e)) took end h = (h.0, inr (in_full a b seen (λ source. StopsAtList Z (lines_of source) text) took end h.1))
+  served_end (Err Read) took end h = absurd h
+  served_end (Err Write) took end h = in_full a b seen (λ source. Cut Z (lines_of source) text) took end h
 
-pub served_fault : (a b : Option (List ℕ)) (seen text : List ℕ) (n : ℕ) (r : Result ServeEnd ServeError) → Consumes a b seen
-    → ((rest : List ℕ) → Faulted (lines_of (seen ++ rest)) text n) → MatchResult r (λ x. x ≡ NotACommand n) (λ e. e ≡ Write) → Served a b text r
-served_fault a b seen text n (Ok x) took h e = rw e (however a b seen (λ source. Faulted (lines_of source) text n) took h)
-served_fault a b seen text n (Err x) took h e = rw e (however a b seen (λ source. Cut (lines_of source) text) took (λ rest. cut_faulted _ text n (h rest)))
+  pub served_fault : (n : ℕ) (r : Result ServeEnd ServeError) → Consumes a b seen → ((rest : List ℕ) → Faulted Z (lines_of (seen ++ rest)) text n)
+      → MatchResult r (λ x. x ≡ NotACommand n) (λ e. e ≡ Write) → ServedIn Z a b text r
+  served_fault n (Ok x) took h e = rw e (however a b seen (λ source. Faulted Z (lines_of source) text n) took h)
+  served_fault n (Err x) took h e = rw e (however a b seen (λ source. Cut Z (lines_of source) text) took (λ rest. cut_faulted Z _ text n (h rest)))
 
-pub served_read : (a b : Option (List ℕ)) (seen text : List ℕ) (s : Session) → Consumes a b seen → IsAfter s seen text → Served a b text (Err Read)
-served_read a b seen text s took h = (seen, took, (s.world, rw (cuts_whole seen h.front s.line.items h.cuts) h.spoken))
+  pub served_read : (s : Session Z) → Consumes a b seen → IsAfter s seen text → ServedIn Z a b text (Err Read)
+  served_read s took h = (seen, took, (s.world, rw (cuts_whole seen h.front s.line.items h.cuts) h.spoken))
 
-pub after_nothing : (s : Session) → IsNew s.world → s.line.items ≡ [] → s.number ≡ 0 → IsAfter s [] []
+pub after_nothing : {Z : Type 0} (s : Session Z) → IsNew s.world → s.line.items ≡ [] → s.number ≡ 0 → IsAfter s [] []
 after_nothing s new line number = record { front = []; cuts = rw line cuts_none; spoken = spoken_none s.world new; number = number }

@@ -12,7 +12,7 @@ use Rattle.fc_lines.specs.Texts.{text_of}
 use Rattle.fc_command.specs.Spoken.{SpokenTo}
 use Rattle.fc_command.proofs.RunFacts.{runs_more}
 
-pub spoken_none : (w : World ℕ ℕ) → IsNew w → SpokenTo [] [] w
+pub spoken_none : {Z : Type 0} (w : World ℕ ℕ Z) → IsNew w → SpokenTo [] [] w
 spoken_none w new = record { start = w; new = new; commands = []; replies = []; each = refl; run = refl; says = refl }
 
 texts_push : (rs : List (Reply ℕ ℕ)) (r : Reply ℕ ℕ) → flat_map text_of (rs ++ r ∷ []) ≡ flat_map text_of rs ++ text_of r
@@ -20,8 +20,8 @@ texts_push [] r = append-nil (text_of r)
 texts_push (r0 ∷ rs) r = ap (λ l. text_of r0 ++ l) (texts_push rs r) ∙ sym (append_assoc (text_of r0) (flat_map text_of rs) (text_of r))
 
 -- one line more
-pub spoken_more : (front : List (List ℕ)) (said : List ℕ) (w w' : World ℕ ℕ) (line : List ℕ) (c : Command ℕ ℕ) (r : Reply ℕ ℕ) → SpokenTo front said w
-    → command_of line ≡ Some c → Step nat_cmp (λ _ _. ⊥) (λ _ _. ⊥) w c r w'
+pub spoken_more : {Z : Type 0} (front : List (List ℕ)) (said : List ℕ) (w w' : World ℕ ℕ Z) (line : List ℕ) (c : Command ℕ ℕ) (r : Reply ℕ ℕ)
+    → SpokenTo front said w → command_of line ≡ Some c → Step nat_cmp (λ _ _. ⊥) (λ _ _. ⊥) w c r w'
     → SpokenTo (front ++ line ∷ []) (said ++ text_of r) w'
 spoken_more front said w w' line c r s is step = record {
   start = s.start;

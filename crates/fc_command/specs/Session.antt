@@ -10,7 +10,7 @@ use Rattle.fc_command.specs.declared.command.session.ServeError.TheVariants.{Mem
 use Rattle.fc_lines.specs.Lines.{lines_of, whole_lines_of}
 use Rattle.fc_lines.specs.Grammar.{command_of}
 use Rattle.fc_lines.specs.Texts.{fault_text}
-use Rattle.fc_command.specs.Spoken.{SpokenTo, Spoken, Faulted, Cut, HasList, StopsAtList}
+use Rattle.fc_command.specs.Spoken.{SpokenTo, SpokenIn, Faulted, Cut, HasList, StopsAtList}
 
 -- All of the text was written, or a beginning of it.
 abbrev pub Written : List ℕ → List ℕ → Result (Unit {0}) ServeError → Type 0
@@ -27,47 +27,50 @@ FaultTold number more (Err Write) = (tail : List ℕ) × (more ++ tail ≡ fault
 FaultTold number more (Err (Memory e)) = ⊥
 FaultTold number more (Err Read) = ⊥
 
--- After the lines of front, for which said was written, one line more was run, and more was written; or memory was refused for its list.
-abbrev pub LineRun : Session → Session → List (List ℕ) → List ℕ → List ℕ → Result (Option ℕ) ServeError → Type 0
-LineRun old new front said more (Ok None) = SpokenTo (front ++ old.line.items ∷ []) (said ++ more) new.world
-    × (new.line.items ≡ []) × (new.number ≡ min (old.number + 1) (2 ^ 64 - 1)) × (vec_capacity new.line ≡ vec_capacity old.line)
-LineRun old new front said more (Ok (Some n)) = (command_of old.line.items ≡ None) × (n ≡ min (old.number + 1) (2 ^ 64 - 1)) × (more ≡ fault_text n)
-LineRun old new front said more (Err (Memory e)) = (e ≡ AllocError) × (more ≡ []) × HasList old.line.items
-LineRun old new front said more (Err Read) = ⊥
-LineRun old new front said more (Err Write) = (tail : List ℕ) × (Spoken (front ++ old.line.items ∷ []) (said ++ (more ++ tail))
-    ⊎ ((command_of old.line.items ≡ None) × (more ++ tail ≡ fault_text (min (old.number + 1) (2 ^ 64 - 1)))))
-
 -- The bytes seen are the lines of front, and then those of a line that has not ended, however the source goes on.
 pub record Cuts (seen : List ℕ) (front : List (List ℕ)) (line : List ℕ) : Type 0 where
   pub lines : (rest : List ℕ) → lines_of (seen ++ rest) ≡ front ++ lines_of (line ++ rest)
   pub whole : (rest : List ℕ) → whole_lines_of (seen ++ rest) ≡ front ++ whole_lines_of (line ++ rest)
   pub open_line : AllByRecursion (λ x. x ≢ 10) line
 
--- The session has seen these bytes, and said was written for them.
-pub record IsAfter (s : Session) (seen said : List ℕ) : Type 0 where
-  pub front : List (List ℕ)
-  pub cuts : Cuts seen front s.line.items
-  pub spoken : SpokenTo front said s.world
-  pub number : s.number ≡ min (length front) (2 ^ 64 - 1)
+-- What is written where the maps and sets take their memory from a handle of type Z.
+module _ (Z : Type 0) where
+  -- How a session fails, with this text written for some of the lines.
+  abbrev pub Failed : List (List ℕ) → List ℕ → ServeError → Type 0
+  Failed lines text (Memory e) = (e ≡ AllocError) × StopsAtList Z lines text
+  Failed lines text Read = ⊥
+  Failed lines text Write = Cut Z lines text
 
--- The line fits, and there is room for the longest line and for the longest reply that is no list.
-abbrev pub HasRoom : Session → Type 0
-HasRoom s = (length s.line.items ≤ 4096) × (4096 ≤ vec_capacity s.line) × (101 ≤ vec_capacity s.text)
+  -- What was written for a source that was read whole.
+  abbrev pub Ended : List ℕ → List ℕ → Result ServeEnd ServeError → Type 0
+  Ended source text (Ok Finished) = SpokenIn Z (lines_of source) text
+  Ended source text (Ok (NotACommand n)) = Faulted Z (lines_of source) text n
+  Ended source text (Err e) = Failed (lines_of source) text e
 
--- How a session fails, with this text written for some of the lines.
-abbrev pub Failed : List (List ℕ) → List ℕ → ServeError → Type 0
-Failed lines text (Memory e) = (e ≡ AllocError) × StopsAtList lines text
-Failed lines text Read = ⊥
-Failed lines text Write = Cut lines text
+module _ {Z : Type 0} where
+  -- After the lines of front, for which said was written, one line more was run, and more was written; or memory was refused for its list.
+  abbrev pub LineRun : Session Z → Session Z → List (List ℕ) → List ℕ → List ℕ → Result (Option ℕ) ServeError → Type 0
+  LineRun old new front said more (Ok None) = SpokenTo (front ++ old.line.items ∷ []) (said ++ more) new.world
+      × (new.line.items ≡ []) × (new.number ≡ min (old.number + 1) (2 ^ 64 - 1)) × (vec_capacity new.line ≡ vec_capacity old.line)
+  LineRun old new front said more (Ok (Some n)) = (command_of old.line.items ≡ None) × (n ≡ min (old.number + 1) (2 ^ 64 - 1)) × (more ≡ fault_text n)
+  LineRun old new front said more (Err (Memory e)) = (e ≡ AllocError) × (more ≡ []) × HasList old.line.items
+  LineRun old new front said more (Err Read) = ⊥
+  LineRun old new front said more (Err Write) = (tail : List ℕ) × (SpokenIn Z (front ++ old.line.items ∷ []) (said ++ (more ++ tail))
+      ⊎ ((command_of old.line.items ≡ None) × (more ++ tail ≡ fault_text (min (old.number + 1) (2 ^ 64 - 1)))))
 
--- The session took bytes up to those that it has seen, and said was written for them, whatever follows.
-abbrev pub PieceRun : Session → List ℕ → List ℕ → Result (Option ℕ) ServeError → Type 0
-PieceRun new seen said (Ok None) = IsAfter new seen said
-PieceRun new seen said (Ok (Some n)) = (rest : List ℕ) → Faulted (lines_of (seen ++ rest)) said n
-PieceRun new seen said (Err e) = (rest : List ℕ) → Failed (lines_of (seen ++ rest)) said e
+  -- The session has seen these bytes, and said was written for them.
+  pub record IsAfter (s : Session Z) (seen said : List ℕ) : Type 0 where
+    pub front : List (List ℕ)
+    pub cuts : Cuts seen front s.line.items
+    pub spoken : SpokenTo front said s.world
+    pub number : s.number ≡ min (length front) (2 ^ 64 - 1)
 
--- What was written for a source that was read whole.
-abbrev pub Ended : List ℕ → List ℕ → Result ServeEnd ServeError → Type 0
-Ended source text (Ok Finished) = Spoken (lines_of source) text
-Ended source text (Ok (NotACommand n)) = Faulted (lines_of source) text n
-Ended source text (Err e) = Failed (lines_of source) text e
+  -- The line fits, and there is room for the longest line and for the longest reply that is no list.
+  abbrev pub HasRoom : Session Z → Type 0
+  HasRoom s = (length s.line.items ≤ 4096) × (4096 ≤ vec_capacity s.line) × (101 ≤ vec_capacity s.text)
+
+  -- The session took bytes up to those that it has seen, and said was written for them, whatever follows.
+  abbrev pub PieceRun : Session Z → List ℕ → List ℕ → Result (Option ℕ) ServeError → Type 0
+  PieceRun new seen said (Ok None) = IsAfter new seen said
+  PieceRun new seen said (Ok (Some n)) = (rest : List ℕ) → Faulted Z (lines_of (seen ++ rest)) said n
+  PieceRun new seen said (Err e) = (rest : List ℕ) → Failed Z (lines_of (seen ++ rest)) said e

@@ -1,7 +1,6 @@
 -- What a command on sets does to two sets, and what it answers.
 use Rattle.std.specs.Prelude.{◌≡◌, ◌+◌, ◌-◌, ◌^◌, ◌<◌, ⊤, Bool, true, false, List, [], ◌∷◌, length, map, Some, None, is_some, is_none, IsTrue, if◌then◌else◌}
 use Rattle.std.specs.Cmp.Lexicographic.{slice_cmp}
-use Rattle.std.specs.declared.alloc.Global.{Global}
 use Rattle.std.specs.declared.cmp.Ordering.{Ordering}
 use Rattle.fc_base.specs.declared.try_reserve_error.TryReserveError.{TryReserveError}
 use Rattle.fc_base.specs.declared.try_reserve_error.TryReserveError.TheVariants.{AllocError}
@@ -100,10 +99,10 @@ module _ {K : Type 0} (cmp : K → K → Ordering) (may_refuse : K → TryReserv
   MayRefuseOnSets (Keep op) m o e = MayCopyRefuse may_refuse (combined cmp op m o) e
   MayRefuseOnSets c m o e = ⊥
 
-module _ {K V : Type 0} (cmp : K → K → Ordering) (may_refuse : K → TryReserveError → Type 0) where
+module _ {K V Z : Type 0} (cmp : K → K → Ordering) (may_refuse : K → TryReserveError → Type 0) where
   -- A command on the named set m and the other set o is answered by the table, or it is refused and changes nothing, or it is refused
   -- when a part of it is done.
-  pub data StepOnSets (c : SetCommand K) (m o : Map K ⊤ Global) (r : Reply K V) (m' o' : Map K ⊤ Global) : Type 0 where
+  pub data StepOnSets (c : SetCommand K) (m o : Map K ⊤ Z) (r : Reply K V) (m' o' : Map K ⊤ Z) : Type 0 where
     answered : (MustRefuseOnSets cmp c (items m) (items o) → ⊥) → (let out = answer_on_sets {V = V} cmp c (items m) (items o) in (r ≡ out.reply) × (items m' ≡ out.m) × (items o' ≡ out.o)) → StepOnSets c m o r m' o'
     refused : (e : TryReserveError) → MayRefuseOnSets cmp may_refuse c (items m) (items o) e → (r ≡ item_refusal c e) × (m' ≡ m) × (o' ≡ o) → StepOnSets c m o r m' o'
     stopped : (e : TryReserveError) → MayStopOnSets cmp c (items m) (items m') e → (r ≡ Refused e) × (o' ≡ o) → StepOnSets c m o r m' o'

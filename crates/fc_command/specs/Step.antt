@@ -1,6 +1,5 @@
 -- What a command does to a world, and what it answers. `SetStep` has the table of commands on sets.
 use Rattle.std.specs.Prelude.{◌≡◌, ◌+◌, ◌-◌, ◌^◌, ◌<◌, min, ◌⊎◌, ⊤, List, [], ◌∷◌, length, None, is_some, IsTrue, if◌then◌else◌}
-use Rattle.std.specs.declared.alloc.Global.{Global}
 use Rattle.std.specs.declared.cmp.Ordering.{Ordering}
 use Rattle.fc_base.specs.declared.try_reserve_error.TryReserveError.{TryReserveError}
 use Rattle.fc_base.specs.declared.try_reserve_error.TryReserveError.TheVariants.{AllocError}
@@ -30,26 +29,26 @@ use Rattle.fc_command.specs.Walks.{walked, MayRefuseFound}
 use Rattle.fc_command.specs.Writing.{rewritten}
 
 -- A new world has no pairs and no items.
-abbrev pub IsNew : {K V : Type 0} → World K V → Type 0
+abbrev pub IsNew : {K V Z : Type 0} → World K V Z → Type 0
 IsNew w = (entries w.a ≡ []) × (entries w.b ≡ []) × (items w.s ≡ []) × (items w.t ≡ [])
 
 -- The map that a side names.
-abbrev pub named : {K V : Type 0} → Side → World K V → Map K V Global
+abbrev pub named : {K V Z : Type 0} → Side → World K V Z → Map K V Z
 named First w = w.a
 named Second w = w.b
 
 -- The other map.
-abbrev pub other : {K V : Type 0} → Side → World K V → Map K V Global
+abbrev pub other : {K V Z : Type 0} → Side → World K V Z → Map K V Z
 other First w = w.b
 other Second w = w.a
 
 -- The set that a side names.
-abbrev pub named_set : {K V : Type 0} → Side → World K V → Map K ⊤ Global
+abbrev pub named_set : {K V Z : Type 0} → Side → World K V Z → Map K ⊤ Z
 named_set First w = w.s
 named_set Second w = w.t
 
 -- The other set.
-abbrev pub other_set : {K V : Type 0} → Side → World K V → Map K ⊤ Global
+abbrev pub other_set : {K V Z : Type 0} → Side → World K V Z → Map K ⊤ Z
 other_set First w = w.t
 other_set Second w = w.s
 
@@ -123,26 +122,27 @@ module _ {K V : Type 0} (cmp : K → K → Ordering) (refuses_key : K → TryRes
   MayRefuseCommand (InsertBoth k v l w) m o e = ((at cmp m k ≡ None) × MayGrowRefuse (length m) e) ⊎ ((at cmp o l ≡ None) × MayGrowRefuse (length o) e)
   MayRefuseCommand c m o e = ⊥
 
+module _ {K V Z : Type 0} (cmp : K → K → Ordering) (refuses_key : K → TryReserveError → Type 0) (refuses_value : V → TryReserveError → Type 0) where
   -- A command on the named map m and the other map o is answered by the table, or it is refused and changes nothing, or it is refused
   -- when a part of it is done.
-  pub data StepOn (c : MapCommand K V) (m o : Map K V Global) (r : Reply K V) (m' o' : Map K V Global) : Type 0 where
+  pub data StepOn (c : MapCommand K V) (m o : Map K V Z) (r : Reply K V) (m' o' : Map K V Z) : Type 0 where
     answered : (MustRefuse cmp c (entries m) (entries o) → ⊥) → (let out = answer cmp c (entries m) (entries o) in (r ≡ out.reply) × (entries m' ≡ out.m) × (entries o' ≡ out.o)) → StepOn c m o r m' o'
-    refused : (e : TryReserveError) → MayRefuseCommand c (entries m) (entries o) e → (r ≡ refusal c e) × (m' ≡ m) × (o' ≡ o) → StepOn c m o r m' o'
+    refused : (e : TryReserveError) → MayRefuseCommand cmp refuses_key refuses_value c (entries m) (entries o) e → (r ≡ refusal c e) × (m' ≡ m) × (o' ≡ o) → StepOn c m o r m' o'
     stopped : (e : TryReserveError) → MayStop cmp c (entries m) (entries m') e → (r ≡ Refused e) × (o' ≡ o) → StepOn c m o r m' o'
 
   -- The same of what a side names in a world, and of the other one. The sets or the maps are as before.
-  abbrev pub StepKind : World K V → Kind K V → Reply K V → World K V → Type 0
+  abbrev pub StepKind : World K V Z → Kind K V → Reply K V → World K V Z → Type 0
   StepKind w (OnMaps side c) r w' = StepOn c (named side w) (other side w) r (named side w') (other side w') × (w'.s ≡ w.s) × (w'.t ≡ w.t)
   StepKind w (OnSets side c) r w' = StepOnSets cmp refuses_key c (named_set side w) (other_set side w) r (named_set side w') (other_set side w')
       × (w'.a ≡ w.a) × (w'.b ≡ w.b)
 
   -- A command may lead from one world to another with this reply.
-  abbrev pub Step : World K V → Command K V → Reply K V → World K V → Type 0
+  abbrev pub Step : World K V Z → Command K V → Reply K V → World K V Z → Type 0
   Step w c r w' = StepKind w (kind_of c) r w'
 
   -- The commands may lead from one world to another, with a reply to each.
-  abbrev pub Runs : World K V → List (Command K V) → List (Reply K V) → World K V → Type 0
+  abbrev pub Runs : World K V Z → List (Command K V) → List (Reply K V) → World K V Z → Type 0
   Runs w [] [] w' = w' ≡ w
-  Runs w (c ∷ cs) (r ∷ rs) w' = (mid : World K V) × Step w c r mid × Runs mid cs rs w'
+  Runs w (c ∷ cs) (r ∷ rs) w' = (mid : World K V Z) × Step w c r mid × Runs mid cs rs w'
   Runs w [] (r ∷ rs) w' = ⊥
   Runs w (c ∷ cs) [] w' = ⊥

@@ -3,7 +3,7 @@ ghost use Rattle.std.specs.Prelude.{◌≡◌, ◌+◌, ◌-◌, ◌^◌, ◌≤
 ghost use Rattle.std.specs.Io.KnownBytes.{Appends, Keeps};
 ghost use Rattle.std.specs.List.{AllByRecursion};
 ghost use Rattle.fc_command.specs.declared.command.session.ServeError.TheVariants as ServeError;
-ghost use Rattle.fc_command.specs.Spoken.{Served, SpokenTo, ending_of};
+ghost use Rattle.fc_command.specs.Spoken.{Served, ServedIn, SpokenTo, ending_of};
 ghost use Rattle.fc_command.specs.Session.{Written, LineRun, IsAfter, HasRoom, PieceRun, FaultTold, Ended};
 
 use crate::command::world::World;
@@ -81,7 +81,7 @@ pub fn serve_within<R: Read, W: Write, A: Handle>(
     out: &mut W,
 ) -> Result<ServeEnd, ServeError>
     ensures { (text : List ℕ) × Appends (W.contents out.old) (W.contents out.new) text
-        × Served (R.remaining src.old) (R.remaining src.new) text result }
+        × ServedIn A (R.remaining src.old) (R.remaining src.new) text result }
 {
     let world = World::within(alloc, memory);
     let line = match Vec::with_capacity(alloc, MAX_LINE) {
@@ -112,7 +112,7 @@ impl<A: Handle> Session<A> {
         requires room { HasRoom self.old }
         requires new { IsAfter self.old [] [] }
         ensures { (text : List ℕ) × Appends (W.contents out.old) (W.contents out.new) text
-            × Served (R.remaining src.old) (R.remaining src.new) text result }
+            × ServedIn A (R.remaining src.old) (R.remaining src.new) text result }
     {
         let mut piece = [0u8; PIECE];
         for _ in 0..u64::MAX {
@@ -136,7 +136,7 @@ impl<A: Handle> Session<A> {
         requires { HasRoom self.old }
         ensures { (seen said : List ℕ) → IsAfter self.old seen said → (more : List ℕ)
             × Appends (W.contents out.old) (W.contents out.new) more
-            × Ended seen (said ++ more) result }
+            × Ended A seen (said ++ more) result }
     {
         if !self.line.is_empty() {
             match self.run_line(out)? {

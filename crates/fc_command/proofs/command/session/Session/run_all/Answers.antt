@@ -13,7 +13,7 @@ loop-init g c = record {
 pub returns-in-Err : goal.returns-in-Err
 returns-in-Err g c =
     let m = c.loop.invariant.ran in
-    (m.1, m.3, served_read _ _ m.0 m.1 c.loop.self (Consumes-kept _ _ _ m.0 m.2 c.in-Err.ensures.bytes) m.4)
+    (m.1, m.3, served_read g.row.A.Denot _ _ m.0 m.1 c.loop.self (Consumes-kept _ _ _ m.0 m.2 c.in-Err.ensures.bytes) m.4)
 
 pub returns-then-n-eq0 : goal.returns-then-n-eq0
 returns-then-n-eq0 g c =
@@ -22,7 +22,8 @@ returns-then-n-eq0 g c =
     let bytes = c.in-Ok.ensures.bytes in
     let e : m.0 ++ take c.in-Ok.n c.read.new.buf ≡ m.0 = ap (λ k. m.0 ++ take k c.read.new.buf) c.if-n-eq0.true ∙ append-nil m.0 in
     let took = rw e at (Consumes-trans _ _ _ m.0 (take c.in-Ok.n c.read.new.buf) m.2 bytes.0) in
-    (m.1 ++ f.0, Appends-trans _ _ _ m.1 f.0 m.3 f.1, served_end _ _ m.0 (m.1 ++ f.0) c.finish.result took (bytes.1 c.if-n-eq0.true (omega arith)) f.2)
+    let end = bytes.1 c.if-n-eq0.true (omega arith) in
+    (m.1 ++ f.0, Appends-trans _ _ _ m.1 f.0 m.3 f.1, served_end g.row.A.Denot _ _ m.0 (m.1 ++ f.0) c.finish.result took end f.2)
 
 pub returns-in_err-n : goal.returns-in_err-n
 returns-in_err-n g c =
@@ -31,7 +32,7 @@ returns-in_err-n g c =
     let p = err_from_is_err_and c.from_residual.result c.from_residual.ensures.1 in (
       m.1 ++ f.0,
       Appends-trans _ _ _ m.1 f.0 m.3 f.1,
-      rw (p.1, p.2) (served_failed _ _ _ (m.1 ++ f.0) c.in_err-n.field-0.0
+      rw (p.1, p.2) (served_failed g.row.A.Denot _ _ _ (m.1 ++ f.0) c.in_err-n.field-0.0
           (Consumes-trans _ _ _ m.0 _ m.2 c.in-Ok.ensures.bytes.0) f.2),
     )
 
@@ -41,7 +42,8 @@ returns-in-Some g c =
     let f = rw c.in-Some.is at (c.in_ok-n.ensures.ran m.0 m.1 m.4) in (
       m.1 ++ f.0,
       Appends-kept _ _ _ (m.1 ++ f.0) (Appends-trans _ _ _ m.1 f.0 m.3 f.1) c.flushed.ensures.0,
-      served_fault _ _ _ (m.1 ++ f.0) c.in-Some.n c.flushed.result (Consumes-trans _ _ _ m.0 _ m.2 c.in-Ok.ensures.bytes.0) f.2 c.flushed.ensures.1,
+      served_fault g.row.A.Denot _ _ _ (m.1 ++ f.0) c.in-Some.n c.flushed.result
+          (Consumes-trans _ _ _ m.0 _ m.2 c.in-Ok.ensures.bytes.0) f.2 c.flushed.ensures.1,
     )
 
 pub loop-preserved : goal.loop-preserved
@@ -62,4 +64,4 @@ loop-preserved g c =
 pub returns : goal.returns
 returns g c =
     let m = c.loop.invariant.ran in
-    (m.1, m.3, served_read _ _ m.0 m.1 c.loop.self m.2 m.4)
+    (m.1, m.3, served_read g.row.A.Denot _ _ m.0 m.1 c.loop.self m.2 m.4)
