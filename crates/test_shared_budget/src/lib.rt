@@ -1,0 +1,5 @@
+//! Tests of shared budgets.
+#![tactic(auto)]
+
+#[cfg(test)]
+mod threads;
