@@ -5,14 +5,17 @@ ghost use Rattle.fc_shared_budget.specs.Budgets.{budget_cap, budget_inner};
 use crate::meter::Meter;
 use std::alloc::{AllocError, Allocator};
 
-/// An allocator over `inner` with a cap on the bytes that are out at once.
+/// An allocator over `inner` with a cap on the bytes that are out at once, which threads may share where they may share `inner`. Pass `&budget` where an
+/// allocator is taken: all that is made over it, in any thread, counts against the one cap, and no more once it is given back. A request is counted before it
+/// is looked at, and given back where it is refused. So a request for more than the cap is refused by itself, and beside one that is just being refused in
+/// another thread one may be refused that would fit alone. No call waits for another thread.
 pub struct SharedBudget<B: Allocator> {
     inner: B,
     meter: Meter,
 }
 
 impl<B: Allocator> SharedBudget<B> {
-    /// A budget of which at most `bytes` bytes can be out at once.
+    /// A budget of which at most `bytes` bytes can be out at once, with nothing out.
     pub fn new(inner: B, bytes: usize) -> SharedBudget<B>
         ensures cap { budget_cap result ≡ bytes }
         ensures inner { budget_inner result ≡ inner }
@@ -30,14 +33,14 @@ impl<B: Allocator> SharedBudget<B> {
         self.meter.cap()
     }
 
-    /// How many bytes are out.
+    /// How many bytes are out at a moment of the call, with those of requests that are just being answered; the cap if these are more.
     pub fn used(&self) -> usize
         ensures { result ≤ budget_cap self.now }
     {
         self.meter.used()
     }
 
-    /// How many more bytes can go out.
+    /// How many more bytes could go out at that moment. Another thread may have taken them by the time that the caller asks for them.
     pub fn left(&self) -> usize
         ensures { result ≤ budget_cap self.now }
     {

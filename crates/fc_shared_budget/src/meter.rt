@@ -26,14 +26,15 @@ impl Meter {
         self.cap
     }
 
-    // How many bytes are out, or all if requests that are just being refused are counted beside them.
+    // Requests that are just being refused may be counted beside what is out, past the cap.
     pub(crate) fn used(&self) -> usize
         ensures { result ≤ self.now.cap }
     {
         self.used.load(Ordering::SeqCst).min(self.cap)
     }
 
-    // Counts so many bytes as out, if as many are left. They are counted first and looked at then, so that no other thread comes between.
+    // Counts so many bytes as out, if as many are left. They are counted first and looked at then, so that no thread comes between, and none tries again.
+    // What is more than the cap is not counted at all: so the count stays below what a number can say while that is more than the cap for each thread.
     pub(crate) fn charge(&self, bytes: usize) -> bool {
         if bytes > self.cap {
             return false;
