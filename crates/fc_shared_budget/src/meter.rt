@@ -33,8 +33,8 @@ impl Meter {
         self.used.load(Ordering::SeqCst).min(self.cap)
     }
 
-    // Counts so many bytes as out, if as many are left. They are counted first and looked at then, so that no thread comes between, and none tries again.
-    // What is more than the cap is not counted at all: so the count stays below what a number can say while that is more than the cap for each thread.
+    // Counts so many bytes as out, if as many are left. They are counted first and looked at then, in one step, so that no thread comes between and none
+    // tries again. What is more than the cap is not counted at all: so the count fits a number where the cap does as many times as there are threads, and one.
     pub(crate) fn charge(&self, bytes: usize) -> bool {
         if bytes > self.cap {
             return false;
