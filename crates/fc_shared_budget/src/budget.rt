@@ -6,9 +6,9 @@ use crate::meter::Meter;
 use std::alloc::{AllocError, Allocator};
 
 /// An allocator over `inner` with a cap on the bytes that are out at once, which threads may share where they may share `inner`. Pass `&budget` where an
-/// allocator is taken: all that is made over it, in any thread, counts against the one cap, and no more once it is given back. A request is counted before it
-/// is looked at, and given back where it is refused. So a request for more than the cap is refused by itself, and beside one that is just being refused in
-/// another thread one may be refused that would fit alone. No call waits for another thread.
+/// allocator is taken: all that is made over it, in any thread, counts against the one cap, and no more once it is given back. A request is refused just
+/// where its bytes pass the cap beside those that are out, with those that other threads are just asking the inner allocator for, or giving back to it.
+/// No call waits for another thread; one tries again where another thread's count went through in between.
 pub struct SharedBudget<B: Allocator> {
     inner: B,
     meter: Meter,
@@ -33,7 +33,7 @@ impl<B: Allocator> SharedBudget<B> {
         self.meter.cap()
     }
 
-    /// How many bytes are out at a moment of the call, with those of requests that are just being answered; the cap if these are more.
+    /// How many bytes are out at a moment of the call, with those of requests that are just being answered.
     pub fn used(&self) -> usize
         ensures { result ≤ budget_cap self.now }
     {

@@ -26,25 +26,25 @@ impl Meter {
         self.cap
     }
 
-    // Requests that are just being refused may be counted beside what is out, past the cap.
     pub(crate) fn used(&self) -> usize
         ensures { result ≤ self.now.cap }
     {
         self.used.load(Ordering::SeqCst).min(self.cap)
     }
 
-    // Counts so many bytes as out, if as many are left. They are counted first and looked at then, in one step, so that no thread comes between and none
-    // tries again. What is more than the cap is not counted at all: so the count fits a number where the cap does as many times as there are threads, and one.
+    // Counts so many bytes as out, if as many are left. It tries again only where another thread's count went through in between, and not for ever: after
+    // 2^64 tries it refuses.
     pub(crate) fn charge(&self, bytes: usize) -> bool {
-        if bytes > self.cap {
-            return false;
-        }
-        let before = self.used.fetch_add(bytes, Ordering::SeqCst);
-        if before <= self.cap - bytes {
-            return true;
-        }
-        self.refund(bytes);
-        false
+        let cap = self.cap;
+        self.used
+            .fetch_update(Ordering::SeqCst, Ordering::SeqCst, |used| {
+                if used <= cap && bytes <= cap - used {
+                    Some(used + bytes)
+                } else {
+                    None
+                }
+            })
+            .is_ok()
     }
 
     // Counts so many bytes as back.
