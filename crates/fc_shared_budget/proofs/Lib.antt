@@ -1,0 +1,2 @@
+mod Meters
+mod Shares
