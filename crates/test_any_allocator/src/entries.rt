@@ -114,15 +114,18 @@ fn puts_in_ready(
     number: u64,
 ) -> Result<(usize, bool), TryReserveError> {
     let before = budget.used();
-    match map.try_entry(number)? {
-        Entry::Vacant(entry) => {
-            let ready = entry.try_ready()?;
-            let taken = budget.used().wrapping_sub(before);
-            let _rest = all_but(budget, 0)?;
-            let Ok(value) = ready.insert(number);
-            Ok((taken, *value == number))
-        }
-        Entry::Occupied(_) => Ok((0, false)),
+    match map.try_entry(number) {
+        Ok(Entry::Vacant(entry)) => match entry.try_ready() {
+            Ok(ready) => {
+                let taken = budget.used().wrapping_sub(before);
+                let _rest = all_but(budget, 0)?;
+                let Ok(value) = ready.insert(number);
+                Ok((taken, *value == number))
+            }
+            Err((_key, error)) => Err(error),
+        },
+        Ok(Entry::Occupied(_)) => Ok((0, false)),
+        Err(error) => Err(error),
     }
 }
 
@@ -143,9 +146,13 @@ fn an_entry_that_was_made_ready_takes_nothing_more(rt: HostRuntime) -> Result<()
 
 // Makes the insertion ready, and gives the key back.
 fn is_given_back(map: &mut Numbers<'_>, number: u64) -> Result<bool, TryReserveError> {
-    match map.try_entry(number)? {
-        Entry::Vacant(entry) => Ok(entry.try_ready()?.into_key() == number),
-        Entry::Occupied(_) => Ok(false),
+    match map.try_entry(number) {
+        Ok(Entry::Vacant(entry)) => match entry.try_ready() {
+            Ok(ready) => Ok(ready.into_key() == number),
+            Err((_key, error)) => Err(error),
+        },
+        Ok(Entry::Occupied(_)) => Ok(false),
+        Err(error) => Err(error),
     }
 }
 
