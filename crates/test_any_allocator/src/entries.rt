@@ -3,9 +3,9 @@ use crate::insertions::{LENGTHS, OF_PAIRS};
 use crate::least::{Call, Fate, all_but, done, least, refused};
 use crate::numbers::{Numbers, holds, numbers};
 use crate::sizes::{AMPLE, INNER, LEAF, TWO_LEVELS};
-use fc_base::TryReserveError;
+use fc_base::{Handle, TryReserveError};
 use fc_budget::Budget;
-use fc_map::map::Entry;
+use fc_map::map::{BTreeMap, Entry};
 use std::alloc::Global;
 use std::test::Fail;
 
@@ -118,9 +118,10 @@ fn puts_in_ready(
         Ok(Entry::Vacant(entry)) => match entry.try_ready() {
             Ok(ready) => {
                 let taken = budget.used().wrapping_sub(before);
-                let _rest = all_but(budget, 0)?;
+                let rest = all_but(budget, 0);
                 let Ok(value) = ready.insert(number);
-                Ok((taken, *value == number))
+                let is_put = rest.is_ok() && *value == number;
+                Ok((taken, is_put))
             }
             Err((_key, error)) => Err(error),
         },
@@ -145,7 +146,10 @@ fn an_entry_that_was_made_ready_takes_nothing_more(rt: HostRuntime) -> Result<()
 }
 
 // Makes the insertion ready, and gives the key back.
-fn is_given_back(map: &mut Numbers<'_>, number: u64) -> Result<bool, TryReserveError> {
+fn is_given_back<A: Handle>(
+    map: &mut BTreeMap<u64, u64, A>,
+    number: u64,
+) -> Result<bool, TryReserveError> {
     match map.try_entry(number) {
         Ok(Entry::Vacant(entry)) => match entry.try_ready() {
             Ok(ready) => Ok(ready.into_key() == number),
