@@ -8,6 +8,8 @@ ghost use Rattle.fallible_collections.specs.Words.{at, entries, extended, front,
 pub mod both;
 pub mod boxes;
 pub mod budgets;
+pub mod errors;
+pub mod idioms;
 pub mod joins;
 pub mod neighbours;
 pub mod orders;

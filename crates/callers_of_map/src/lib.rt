@@ -1,6 +1,7 @@
 //! Callers of the ordered map whose contracts are proved from the map's public clauses alone: forms to start from.
 #![tactic(auto)]
 
+pub mod beside;
 pub mod boxes;
 pub mod compare;
 pub mod entry;

@@ -21,18 +21,23 @@ pub use Rattle.fc_vec.specs.Vectors.{Vector, MayRefuse, resized, IsExtended, IsF
 pub use Rattle.fc_vec.specs.Joined.{joined as joined_parts}
 pub use Rattle.fc_vec.specs.Lends.{with_items, item_written, lends_slice, lends_walk, lends_item, lends_item_if, lends_drain, lends_slice_in, lends_walk_in, lends_item_in, lends_item_if_in, lends_drain_in}
 pub use Rattle.fc_read.specs.Reading.{front, IsMoved, IsWhole}
--- hashed maps
+-- hashed maps and sets
 pub use Rattle.fc_hash.specs.Pairs.{Hashed, IsMap, value_at as hashed_value_at, IsPut, IsTaken, AreCopies, agree_at, are_equal}
 pub use Rattle.fc_hash.specs.Lends.{with_value, lends_value, lends_value_in}
 pub use Rattle.fc_hash.specs.Extended.{ArePut, IsPutAll, IsPutUpTo}
 pub use Rattle.fc_hash.specs.EqualMaps.{equal_maps_per}
+pub use Rattle.fc_hash.specs.StdMap.{seen, lends_std, hasher_row}
+pub use Rattle.fc_hash.specs.Items.{HashedSet, IsSet, item_at as hashed_item_at, IsReplaced}
+pub use Rattle.fc_hash.specs.ItemsPut.{IsPutIn, ArePutIn, ArePutInUpTo, AreItemCopies}
+pub use Rattle.fc_hash.specs.SetLaws.{IsSubsetOf, IsDisjointFrom, are_same, same_items_per}
+pub use Rattle.fc_hash.specs.StdSet.{seen_set, lends_std_set}
 -- maps, their entries and walks
 pub use Rattle.fc_map.specs.Entries.{Map, entries, IsSoundMap, passed_in, now_value, now_pair}
 pub use Rattle.fc_map.specs.Counts.{IsBounded}
 pub use Rattle.fc_map.specs.LendsKey.{path_in, lends_get, lent_value, written_at, lends_get_in}
 pub use Rattle.fc_map.specs.Full.{IsFullAt, TakesNode}
 pub use Rattle.fc_map.specs.Fewest.{fewest_moves, root_len, HasFewestMoves}
-pub use Rattle.fc_map.specs.Entry.{entry_map, entry_map_ref, entry_path, entry_key, entry_pair, entry_value, list_with, list_without, IsWritten, IsFirstOf, IsLastOf, map_written, entry_lends_ok, occupied_lends, occupied_lends_whole, rests_if_none, rests_if_refused, entry_lends_ok_in, occupied_lends_in, occupied_lends_whole_in, rests_if_none_in, rests_if_refused_in}
+pub use Rattle.fc_map.specs.Entry.{entry_map, entry_map_ref, entry_path, entry_key, entry_pair, entry_value, list_with, list_without, IsWritten, IsFirstOf, IsLastOf, IsFirstBehind, IsLastAhead, map_written, entry_lends_ok, occupied_lends, occupied_lends_whole, rests_if_none, rests_if_refused, entry_lends_ok_in, occupied_lends_in, occupied_lends_whole_in, rests_if_none_in, rests_if_refused_in}
 pub use Rattle.fc_map.specs.ReadyEntry.{ready_map_ref, ready_map, ready_key, ready_list_with, ready_lends, rests_if_not_ready, ready_lends_in, rests_if_not_ready_in}
 pub use Rattle.fc_map.specs.Room.{Places, room_error}
 pub use Rattle.fc_map.specs.Walks.{deref_pair, keys_of, values_of}
@@ -40,10 +45,12 @@ pub use Rattle.fc_map.specs.Writing.{Stretch, whole, starting, wrote_first, wrot
 pub use Rattle.fc_map.specs.Stretches.{range_map_ref, stretch, iter_map_ref, iter_stretch, IsFirstValue, IsLastValue, IsFirstPair, IsLastPair, CalledAtPair, IsVisitedIn, range_lends_first, range_lends_last, iter_lends_first, iter_lends_last, range_lends_first_in, range_lends_last_in, iter_lends_first_in, iter_lends_last_in}
 pub use Rattle.fc_tree_visit.specs.Visits.{VisitsInTurn}
 pub use Rattle.fc_tree_retain.specs.Retained.{RetainsInTurn, AskedAtPair, GivenPair, ExtractsBy}
+pub use Rattle.fc_map.specs.PopIf.{AskedOnceAtPair, IsFirstNotPicked, IsLastNotPicked}
+pub use Rattle.fc_map.specs.Ranged.{outside}
 pub use Rattle.fc_map.specs.Compare.{pair_eq, pair_cmp, pair_partial_cmp, pair_input}
 pub use Rattle.fc_map.specs.CompareLaws.{pairs_Alike, pairs_agree, pairs_equiv, pairs_per, pairs_po, pairs_tie, pairs_total}
 -- sets
-pub use Rattle.fc_set.specs.Items.{items, item_at, smaller, greater, not_smaller, without, AreAscending, with_item, with_replaced, items_within, joined_items, extended_items, AreExtendedUpTo}
+pub use Rattle.fc_set.specs.Items.{items, item_at, smaller, greater, not_smaller, without, AreAscending, with_item, with_replaced, items_within, items_outside, joined_items, extended_items, AreExtendedUpTo}
 pub use Rattle.fc_set.specs.Neighbours.{not_greater}
 pub use Rattle.fc_set.specs.Retained.{RetainsItems, GivenItem, ExtractsItem}
 pub use Rattle.fc_set.specs.Copied.{MayCopyRefuse}

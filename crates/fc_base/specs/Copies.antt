@@ -1,5 +1,7 @@
 -- Copies of values.
 use Rattle.std.specs.Prelude.{◌≡◌, ◌<◌, ◌⊎◌, List, length, Any, Option, Some, None, ⊤}
+use Rattle.std.specs.declared.ops.Bound.{Bound}
+use Rattle.std.specs.declared.ops.Bound.TheVariants.{Included, Excluded, Unbounded}
 use Rattle.fc_base.specs.declared.try_reserve_error.TryReserveError.{TryReserveError}
 use Rattle.fc_base.specs.declared.try_reserve_error.TryReserveError.TheVariants.{AllocError}
 
@@ -22,3 +24,16 @@ MayRefuseCopies may_refuse xs e = (0 < length xs) × ((e ≡ AllocError) ⊎ Any
 -- By which error a copy of a pair may be refused: one of the key's own, or of the value's.
 abbrev pub MayRefusePair : {K V : Type 0} → (K → TryReserveError → Type 0) → (V → TryReserveError → Type 0) → K × V → TryReserveError → Type 0
 MayRefusePair refuses_key refuses_value p e = refuses_key p.0 e ⊎ refuses_value p.1 e
+
+-- Both bounds are of one kind, and same holds of their keys.
+abbrev pub SameBound : {A : Type 0} → (A → A → Type 0) → Bound A → Bound A → Type 0
+SameBound same (Included a) (Included b) = same a b
+SameBound same (Excluded a) (Excluded b) = same a b
+SameBound same Unbounded Unbounded = ⊤
+SameBound same _ _ = ⊥
+
+-- By which error a copy of a bound may be refused: one of its key's own.
+abbrev pub MayRefuseBound : {A : Type 0} → (A → TryReserveError → Type 0) → Bound A → TryReserveError → Type 0
+MayRefuseBound may_refuse (Included a) e = may_refuse a e
+MayRefuseBound may_refuse (Excluded a) e = may_refuse a e
+MayRefuseBound may_refuse Unbounded e = ⊥

@@ -17,5 +17,5 @@ pub use count::{Count, compare};
 pub use handle::Handle;
 pub use query::Query;
 pub use rc::FallibleRc;
-pub use try_clone::TryClone;
+pub use try_clone::{ByClone, TryClone};
 pub use try_reserve_error::TryReserveError;

@@ -6,9 +6,12 @@ ghost use Rattle.fc_base.specs.CopiedLists.{IsExtended, IsCopiedUpTo};
 use crate::handle::Handle;
 use crate::try_reserve_error::TryReserveError;
 use at_once::copy_all;
+pub use by_clone::ByClone;
 
 mod at_once;
+mod by_clone;
 mod contents;
+mod groups;
 
 /// A type whose values can be copied, where a copy may need memory.
 pub trait TryClone: Drop {
@@ -116,6 +119,23 @@ impl TryClone for u64 {
     }
 }
 
+impl TryClone for u128 {
+    ghost same = { λ source copy. copy ≡ source };
+
+    ghost may_refuse = { λ _ _. ⊥ };
+
+    fn try_clone(&self) -> Result<u128, TryReserveError> {
+        Ok(*self)
+    }
+
+    fn try_clone_all<A: Handle>(
+        sources: &[u128],
+        copies: &mut Vec<u128, A>,
+    ) -> Result<(), TryReserveError> {
+        copy_all(sources, copies)
+    }
+}
+
 impl TryClone for usize {
     ghost same = { λ source copy. copy ≡ source };
 
@@ -201,6 +221,23 @@ impl TryClone for i64 {
     }
 }
 
+impl TryClone for i128 {
+    ghost same = { λ source copy. copy ≡ source };
+
+    ghost may_refuse = { λ _ _. ⊥ };
+
+    fn try_clone(&self) -> Result<i128, TryReserveError> {
+        Ok(*self)
+    }
+
+    fn try_clone_all<A: Handle>(
+        sources: &[i128],
+        copies: &mut Vec<i128, A>,
+    ) -> Result<(), TryReserveError> {
+        copy_all(sources, copies)
+    }
+}
+
 impl TryClone for isize {
     ghost same = { λ source copy. copy ≡ source };
 
@@ -247,6 +284,23 @@ impl TryClone for bool {
     fn try_clone_all<A: Handle>(
         sources: &[bool],
         copies: &mut Vec<bool, A>,
+    ) -> Result<(), TryReserveError> {
+        copy_all(sources, copies)
+    }
+}
+
+impl TryClone for char {
+    ghost same = { λ source copy. copy ≡ source };
+
+    ghost may_refuse = { λ _ _. ⊥ };
+
+    fn try_clone(&self) -> Result<char, TryReserveError> {
+        Ok(*self)
+    }
+
+    fn try_clone_all<A: Handle>(
+        sources: &[char],
+        copies: &mut Vec<char, A>,
     ) -> Result<(), TryReserveError> {
         copy_all(sources, copies)
     }

@@ -1,5 +1,6 @@
 //! Commands over a world of ordered maps and sets, their lines and the text of their replies.
 
+mod failed;
 mod kinds;
 mod operations;
 mod session;

@@ -1,4 +1,5 @@
 mod CopyFacts
 mod EqualFacts
 mod ExtendFacts
+mod ItemFacts
 mod PairFacts

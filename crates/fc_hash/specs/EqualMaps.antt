@@ -1,9 +1,9 @@
--- Equality of maps is symmetric and transitive: equal maps agree at every key.
+-- Equality of maps is symmetric and transitive, and reflexive where that of values is: equal maps agree at every key.
 use Rattle.std.proofs.Common.{◌≡◌, Bool, true, false, cond, ◌&&◌, List, [], ◌∷◌, Option, None, Some, refl, sym, ◌∙◌, inl, inr, true≢false}
 use Rattle.std.proofs.Math.Bool.{and_comm}
 use Rattle.std.proofs.lemmas.List.Sums.{list_all-from_AllPass}
 use Rattle.std.specs.Prelude.{◌⊎◌, slice_index_or}
-use Rattle.std.specs.Cmp.{IsPartialEquivalence, IsEquivalence, first_so, second_so}
+use Rattle.std.specs.Cmp.{IsPartialEquivalence, IsEquivalence, equiv, partial_equiv_from_equiv, first_so, second_so}
 use Rattle.std.specs.List.{list_all}
 use Rattle.std.specs.Map.{keys_of}
 use Rattle.std.specs.Option.{option_eq}
@@ -22,6 +22,10 @@ module _ {V : Type 0} (same : V → V → Bool) (laws : IsPartialEquivalence sam
   values_trans (Some x) None c p q = absurd (true≢false (sym p))
   values_trans (Some x) (Some y) None p q = absurd (true≢false (sym q))
   values_trans (Some x) (Some y) (Some z) p q = laws.trans x y z p q
+
+values_refl : {V : Type 0} (same : V → V → Bool) → ((x : V) → same x x ≡ true) → (a : Option V) → option_eq same a a ≡ true
+values_refl same each None = refl
+values_refl same each (Some x) = each x
 
 module _ {K V : Type 0} {eq : K → K → Bool} (keys : IsEquivalence eq) where
   -- Equal keys find the same value.
@@ -72,3 +76,7 @@ module _ {K V : Type 0} {eq : K → K → Bool} (keys : IsEquivalence eq) where
             ∙ (λ i. list_all (λ k. turned k i) (keys_of n.pairs) && list_all (λ k. turned k i) (keys_of m.pairs));
         trans = λ l m n e f. equal_where_all_agree same l.pairs n.pairs (λ q. values_trans same laws (value_at eq q l.pairs) (value_at eq q m.pairs) (value_at eq q n.pairs) (agree_everywhere same l.pairs m.pairs e q) (agree_everywhere same m.pairs n.pairs f q));
       }
+
+  pub equal_maps_equiv : {same : V → V → Bool} → IsEquivalence same → IsEquivalence (λ (m n : Hashed K V). are_equal eq same m.pairs n.pairs)
+  equal_maps_equiv {same} laws =
+      equiv (equal_maps_per (partial_equiv_from_equiv laws)) (λ m. equal_where_all_agree same m.pairs m.pairs (λ q. values_refl same laws.refl (value_at eq q m.pairs)))

@@ -8,8 +8,11 @@ mod compare;
 mod copy;
 mod debug;
 mod extend;
+mod into_keys;
 mod iter;
 mod lend;
+mod std_clone;
+mod std_map;
 mod whole;
 
 use fc_base::{Handle, TryReserveError};
@@ -39,6 +42,13 @@ impl<K: Eq + Hash, V, A: Handle> Model for TryHashMap<K, V, A> {
 }
 
 impl<K: Eq + Hash, V, A: Handle> TryHashMap<K, V, A> {
+    /// An empty map, as `default` makes it. Not in upstream: it is that of std's map.
+    pub fn new(alloc: A) -> TryHashMap<K, V, A>
+        ensures { result.pairs ≡ [] }
+    {
+        TryHashMap::default(alloc)
+    }
+
     /// An empty map, which takes no memory. Later requests go to `alloc`. Upstream: `TryHashMap::default`.
     pub fn default(alloc: A) -> TryHashMap<K, V, A>
         ensures { result.pairs ≡ [] }

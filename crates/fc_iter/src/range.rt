@@ -1,17 +1,17 @@
 //! Reading walks over the pairs of a map within two bounds, from both ends.
 ghost use Rattle.std.specs.Prelude.{◌≡◌, ◌≤◌, ⊤, length, IfSome, None};
 ghost use Rattle.fc_base.specs.Ascending.{IsAscending};
-ghost use Rattle.fc_base.specs.Ranges.{bound_by, within};
+ghost use Rattle.fc_base.specs.Ranges.{within};
 ghost use Rattle.fc_tree_node.specs.Tree.{entries, IsSoundMap};
 ghost use Rattle.std.specs.Iterator.{YieldsFirstBy, YieldsLastBy, item_count, UpTo, at_most};
 
-use fc_base::{Handle, Query};
+use fc_base::Handle;
 use fc_tree_node::node::Node;
+use fc_tree_walk::key_range::KeyRange;
 use fc_tree_walk::span::Span;
 use std::alloc::{AllocError, Global};
 use std::iter::FusedIterator;
 use std::marker::Model;
-use std::ops::Bound;
 
 /// The pairs of a range that are still to come, in ascending order of their keys. `next` gives the first of them and `next_back`
 /// the last; once there is none, both answer `None` ever after. No call compares keys or takes memory. Upstream:
@@ -30,18 +30,14 @@ impl<'a, K, V, A: Handle> Model for Range<'a, K, V, A> {
 }
 
 impl<'a, K: Ord, V, A: Handle> Range<'a, K, V, A> {
-    /// A walk over the pairs of a tree whose keys lie within both bounds.
-    pub fn within<Q: Query<K>>(
-        root: &'a Option<Node<K, V, A>>,
-        lo: &Bound<Q>,
-        hi: &Bound<Q>,
-    ) -> Range<'a, K, V, A>
+    /// A walk over the pairs of a tree whose keys lie within a range.
+    pub fn within<R: KeyRange<K>>(root: &'a Option<Node<K, V, A>>, range: &R) -> Range<'a, K, V, A>
         requires sound { IsSoundMap root.now }
         requires ascending { IsAscending K.cmp (entries root.now) }
-        ensures { result ≡ within Q.order (bound_by Q.sought lo.now) (bound_by Q.sought hi.now) (entries root.now) }
+        ensures { result ≡ within R.order (R.start range.now) (R.end range.now) (entries root.now) }
     {
         Range {
-            span: Span::within(root, lo, hi),
+            span: range.span_in(root),
         }
     }
 }

@@ -11,10 +11,15 @@ pub mod VisitLaws
 pub mod ExtendFacts
 pub mod PopFacts
 pub mod SplitFacts
+pub mod CloneFacts
 pub mod CopyFacts
 pub mod ExchangeFacts
 pub mod ReadyFacts
 pub mod EndPairFacts
+pub mod BesideFacts
 pub mod WalkSizes
 pub mod OwnedFacts
 pub mod ExtensionSizes
+pub mod RangeParts
+pub mod RemovedFacts
+pub mod PopIfFacts

@@ -1,7 +1,7 @@
 -- What the owned walks over keys and values give, by what the walk over pairs gives.
-use Rattle.std.proofs.Common.{◌≡◌, ℕ, ◌+◌, ◌<◌, List, [], ◌∷◌, ◌++◌, length, Option, Some, None, sym, ap, ◌∙◌, arith, length-append}
-use Rattle.std.specs.Prelude.{map, IfSome}
-use Rattle.std.specs.Iterator.{MakesProgress, item_count, UpTo, at_most}
+use Rattle.std.proofs.Common.{◌≡◌, ◌<◌, List, [], ◌∷◌, ◌++◌, length, Option, Some, None, sym, ap, ◌∙◌, arith, length-append}
+use Rattle.std.specs.Prelude.{map}
+use Rattle.std.specs.Iterator.{MakesProgress, item_count}
 use Rattle.std.proofs.lemmas.List.{length-map, map-append}
 
 module _ {X : Type 0} (can : List X → Type 0) where

@@ -90,6 +90,16 @@ module _ {K V Z : Type 0} {g : ord.Ghosts K} {g' : eq.Ghosts K} {g'' : partial.G
   abbrev pub IsLastOf : OccupiedEntry K V Z g g' g'' → List (K × V) → Type 0
   IsLastOf o s = (p : K × V) × (entry_pair (Occupied o) ≡ Some p) × (s ≡ list_without (Occupied o) ++ p ∷ []) × ((v : V) → list_with (Occupied o) v ≡ list_without (Occupied o) ++ (p.0, v) ∷ [])
 
+  -- The entry is the first pair behind those ahead: what is left without it, and what stands there with v in it.
+  abbrev pub IsFirstBehind : OccupiedEntry K V Z g g' g'' → List (K × V) → List (K × V) → Type 0
+  IsFirstBehind o ahead behind = (p : K × V) × (rest : List (K × V)) × (entry_pair (Occupied o) ≡ Some p) × (behind ≡ p ∷ rest)
+      × (list_without (Occupied o) ≡ ahead ++ rest) × ((v : V) → list_with (Occupied o) v ≡ ahead ++ (p.0, v) ∷ rest)
+
+  -- The entry is the last pair ahead of those behind.
+  abbrev pub IsLastAhead : OccupiedEntry K V Z g g' g'' → List (K × V) → List (K × V) → Type 0
+  IsLastAhead o ahead behind = (p : K × V) × (lead : List (K × V)) × (entry_pair (Occupied o) ≡ Some p) × (ahead ≡ lead ++ p ∷ [])
+      × (list_without (Occupied o) ≡ lead ++ behind) × ((v : V) → list_with (Occupied o) v ≡ lead ++ (p.0, v) ∷ behind)
+
 module _ (K V Z : RattleType) {g : ord.Ghosts K.Denot} {g' : eq.Ghosts K.Denot} {g'' : partial.Ghosts K.Denot} (heap : Ghosts Z.Denot) where
   -- Once the borrow r ends, the map has the last value written through r in the entry's pair.
   abbrev pub occupied_lends_whole_in : OccupiedEntry K.Denot V.Denot Z.Denot g g' g'' → MutBor V.Denot → Fml

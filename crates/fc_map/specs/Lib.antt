@@ -17,3 +17,6 @@ pub mod Stretches
 pub mod Compare
 pub mod CompareLaws
 pub mod Extension
+pub mod PopIf
+pub mod Ranged
+pub mod Removed

@@ -16,7 +16,9 @@ use Rattle.fc_base.specs.Joined.{placed, joined}
 use Rattle.fc_base.specs.OneKey.{put, cut}
 use Rattle.fc_base.specs.Parts.{below, above, at, value_at}
 use Rattle.fc_base.specs.Ranges.{within}
-use Rattle.fc_set.specs.Items.{item_at, smaller, greater, not_smaller, without, AreAscending, with_item, with_replaced, items_within, joined_items}
+use Rattle.fc_map.specs.Ranged.{outside}
+use Rattle.fc_set.specs.Items.{item_at, smaller, greater, not_smaller, without, AreAscending, with_item, with_replaced, joined_items}
+use Rattle.fc_set.specs.Items.{items_within, items_outside}
 
 -- What holds of some item of a list holds of some item behind another one too.
 pub any_later : {T : Type 0} (P : T → Type 0) (x : T) (s : List T) → Any P s → Any P (x ∷ s)
@@ -63,6 +65,10 @@ module _ {T V : Type 0} where
   pub items_within_keys : {Q : Type 0} (cmp : T → Q → Ordering) (lo hi : Bound Q) (s : List (T × V))
       → items_within cmp lo hi (keys s) ≡ keys (within cmp lo hi s)
   items_within_keys cmp lo hi s = filter_keys _ s
+
+  pub items_outside_keys : {Q : Type 0} (cmp : T → Q → Ordering) (lo hi : Bound Q) (s : List (T × V))
+      → items_outside cmp lo hi (keys s) ≡ keys (outside cmp lo hi s)
+  items_outside_keys cmp lo hi s = filter_keys _ s
 
   module _ (cmp : T → T → Ordering) where
     around : (s : List (T × V)) (x : T) (e : T × V) → smaller cmp (keys s) x ++ e.0 ∷ greater cmp (keys s) x ≡ keys (below cmp s x ++ e ∷ above cmp s x)

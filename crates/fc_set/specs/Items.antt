@@ -1,5 +1,5 @@
 -- A set as contracts see it: the tree of a map whose keys are the set's items, and what the calls make of the list of these.
-use Rattle.std.specs.Prelude.{◌≡◌, ◌&&◌, List, [], ◌∷◌, ◌++◌, Option, None, map, filter, find, length, unwrap_or}
+use Rattle.std.specs.Prelude.{◌≡◌, not, ◌&&◌, List, [], ◌∷◌, ◌++◌, Option, None, map, filter, find, length, unwrap_or}
 use Rattle.std.specs.List.{AllByRecursion}
 use Rattle.std.specs.Ordering.{is_lt, is_eq, is_gt, is_ge}
 use Rattle.std.specs.declared.cmp.Ordering.{Ordering}
@@ -35,6 +35,10 @@ module _ {T Q : Type 0} (cmp : T → Q → Ordering) where
   -- The items within two bounds, which are by queries, in order.
   abbrev pub items_within : Bound Q → Bound Q → List T → List T
   items_within lo hi s = filter (λ x. starts cmp lo x && stops cmp hi x) s
+
+  -- The items that do not lie within two bounds, in order.
+  abbrev pub items_outside : Bound Q → Bound Q → List T → List T
+  items_outside lo hi s = filter (λ x. not (starts cmp lo x && stops cmp hi x)) s
 
   -- The list without the item that is equal to the query.
   abbrev pub without : List T → Q → List T

@@ -8,6 +8,7 @@ ghost use Rattle.fc_map.specs.Fewest.{HasFewestMoves};
 ghost use Rattle.fc_map.specs.Entries.{IsSoundMap, now_pair, now_value, passed_in};
 ghost use Rattle.fc_set.specs.Items.{items, item_at, without, AreAscending, with_item, with_replaced};
 
+mod clones;
 mod compare;
 mod copied;
 mod difference;
@@ -19,8 +20,10 @@ mod neighbours;
 mod operators;
 mod peeked;
 mod predicates;
+mod remove_range;
 mod retain;
 mod room;
+mod shown;
 mod symmetric_difference;
 mod union;
 mod whole;

@@ -1,3 +1,4 @@
+pub mod KeyRanges
 pub mod GapFacts
 pub mod Bounds
 pub mod Turns

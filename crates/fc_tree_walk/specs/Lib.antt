@@ -1,3 +1,4 @@
+pub mod KeyRanges
 pub mod Span
 pub mod Gap
 pub mod Cut

@@ -4,5 +4,6 @@
 pub mod cuts;
 pub mod ends;
 pub mod gaps;
+pub mod key_range;
 mod run;
 pub mod span;

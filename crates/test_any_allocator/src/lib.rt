@@ -11,6 +11,8 @@ mod between;
 #[cfg(test)]
 mod budgets;
 #[cfg(test)]
+mod clones;
+#[cfg(test)]
 mod entries;
 #[cfg(test)]
 mod extensions;

@@ -1,6 +1,8 @@
 //! Copies of options, boxes and vectors, made or refused.
-use fc_base::{TryClone, TryReserveError};
+use fc_base::{ByClone, TryClone, TryReserveError};
 use std::alloc::Global;
+use std::ops::Bound;
+use std::rc::Rc;
 use std::test::Fail;
 use test_values::{Tally, Token};
 
@@ -109,4 +111,42 @@ fn an_options_own_refusal_is_passed_on(rt: HostRuntime) {
     }
     assert!(rt; matches!(source.try_clone(), Err(TryReserveError::CapacityOverflow)));
     assert!(rt; tally.living() == 1);
+}
+
+// Whether a copy of the value is equal to it.
+fn is_copied<T: TryClone + PartialEq>(value: T) -> Result<bool, TryReserveError>
+    requires { T.can_clone }
+{
+    Ok(value.try_clone()? == value)
+}
+
+#[test]
+fn groups_and_texts_are_copied(rt: HostRuntime) -> Result<(), Fail> {
+    assert!(rt; is_copied(u128::MAX)? && is_copied(i128::MIN)? && is_copied('ß')?);
+    assert!(rt; is_copied((1u64, 'a'))? && is_copied((1u8, 2u16, 3u32))?);
+    assert!(rt; is_copied([1u8, 2, 3])? && is_copied("a text")?);
+    assert!(rt; is_copied(Some((1u64, 2u64)))?);
+    let text = String::from_str(rt.alloc(), "a text")?;
+    assert!(rt; is_copied((text.try_clone()?, 1u64))?);
+    assert!(rt; is_copied(text)?);
+    Ok(())
+}
+
+#[test]
+fn bounds_are_copied(rt: HostRuntime) -> Result<(), Fail> {
+    let open: Bound<u64> = Bound::Unbounded;
+    assert!(rt; is_copied(Bound::Included(3u64))? && is_copied(Bound::Excluded(3u64))?);
+    assert!(rt; is_copied(open)?);
+    Ok(())
+}
+
+// An owner's copy is one more owner of the same value; what a type's own `clone` copies is copied as it does.
+#[test]
+fn shared_values_and_clones_are_copied(rt: HostRuntime) -> Result<(), Fail> {
+    let first = Rc::new(rt.alloc(), 5u64)?;
+    let second = first.try_clone()?;
+    drop(first);
+    assert!(rt; *second == 5);
+    assert!(rt; matches!(ByClone(7u64).try_clone(), Ok(ByClone(7))));
+    Ok(())
 }

@@ -4,6 +4,10 @@
 #[cfg(test)]
 mod budgets;
 #[cfg(test)]
+mod errors;
+#[cfg(test)]
+mod idioms;
+#[cfg(test)]
 mod refusals;
 #[cfg(test)]
 mod set_room;

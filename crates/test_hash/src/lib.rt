@@ -4,6 +4,8 @@
 #[cfg(test)]
 mod budgets;
 #[cfg(test)]
+mod entries;
+#[cfg(test)]
 mod errors;
 #[cfg(test)]
 mod large;
@@ -13,6 +15,8 @@ mod map;
 mod owned;
 #[cfg(test)]
 mod printing;
+#[cfg(test)]
+mod sets;
 #[cfg(test)]
 mod tokens;
 #[cfg(test)]

@@ -5,6 +5,8 @@
 #![tactic(auto)]
 
 #[cfg(test)]
+mod clones;
+#[cfg(test)]
 mod collected;
 #[cfg(test)]
 mod first_uses;
@@ -18,6 +20,8 @@ mod operators;
 mod owned;
 #[cfg(test)]
 mod prefixes;
+#[cfg(test)]
+mod printing;
 #[cfg(test)]
 mod retain;
 #[cfg(test)]

@@ -25,11 +25,17 @@ mod outwards;
 #[cfg(test)]
 mod owned;
 #[cfg(test)]
+mod pop_if;
+#[cfg(test)]
+mod printing;
+#[cfg(test)]
 mod queries;
 #[cfg(test)]
 mod ready;
 #[cfg(test)]
 mod refusals;
+#[cfg(test)]
+mod remove_range;
 #[cfg(test)]
 mod requests;
 #[cfg(test)]

@@ -55,7 +55,10 @@ fn grow(v: &mut Ours<'_>, way: u64) -> Result<(), TryReserveError> {
             Err((_given_back, refused)) => Err(refused),
         },
         3 => v.resize_with(6, || 7),
-        _ => v.extend_from_slice(&FIVE),
+        4 => v.extend_from_slice(&FIVE),
+        5 => v.reserve_exact(5),
+        6 => v.resize(6, 7),
+        _ => v.extend(7..9),
     }
 }
 
@@ -70,7 +73,7 @@ fn is_refused_ours(budget: &Budget<Global>, way: u64) -> bool {
 
 #[test]
 fn a_refused_growth_leaves_the_vector(rt: HostRuntime) {
-    for way in 0..5u64 {
+    for way in 0..8u64 {
         let budget = Budget::new(rt.alloc(), 79);
         assert!(rt; is_refused_ours(&budget, way));
         assert!(rt; budget.used() == 0);
@@ -234,4 +237,65 @@ fn refused_bytes_leave_those_before(rt: HostRuntime) {
     let budget = Budget::new(rt.alloc(), 19);
     assert!(rt; are_bytes_refused(&budget));
     assert!(rt; budget.used() == 0);
+}
+
+// Three in room for five, behind which two of four go.
+fn is_extended_up_to_its_room(budget: &Budget<Global>) -> bool {
+    let Ok(mut v) = made(budget, 0) else {
+        return false;
+    };
+    let is_ready = v.extend_from_slice(&FIVE[..3]).is_ok();
+    let answer = v.extend(6..10);
+    is_ready && is_refused(&answer) && v.as_slice() == [1, 4, 5, 6, 7].as_slice()
+}
+
+// The two behind the first three take 16 bytes.
+fn parted(budget: &Budget<Global>) -> (bool, usize, usize) {
+    let Ok(mut v) = made(budget, 1) else {
+        return (false, 0, 0);
+    };
+    let rest = v.split_off(v.len().min(3));
+    (rest.is_ok(), v.len(), budget.used())
+}
+
+fn is_std_clone_refused(budget: &Budget<Global>) -> bool {
+    let Ok(v) = made(budget, 1) else {
+        return false;
+    };
+    let clone: Result<_, _> = v.clone();
+    clone.is_err() && v.as_slice() == FIVE.as_slice() && budget.used() == 40
+}
+
+// 24 numbers in no order, 192 bytes, by each of the calls that sort and may take memory.
+fn is_sort_refused(budget: &Budget<Global>, way: u64) -> bool {
+    let Ok(mut v) = TryVec::with_capacity(budget, 24) else {
+        return false;
+    };
+    for place in 0..24u64 {
+        if v.push(place.wrapping_mul(7) % 24).is_err() {
+            return false;
+        }
+    }
+    let answer = match way {
+        0 => v.sort(),
+        1 => v.sort_by(|first, second| second.cmp(first)),
+        _ => v.sort_by_key(|item| *item / 2),
+    };
+    is_refused(&answer) && v.len() == 24 && v[1] == 7 && v[23] == 17 && budget.used() == 192
+}
+
+#[test]
+fn refused_parts_clones_and_sorts_leave_the_vector(rt: HostRuntime) {
+    let short = Budget::new(rt.alloc(), 55);
+    let exact = Budget::new(rt.alloc(), 56);
+    assert_eq!(rt;
+        (parted(&short), parted(&exact)),
+        ((false, 5, 40), (true, 3, 56))
+    );
+    assert!(rt; is_extended_up_to_its_room(&short) && is_std_clone_refused(&short));
+    let full = Budget::new(rt.alloc(), 192);
+    for way in 0..3u64 {
+        assert!(rt; is_sort_refused(&full, way));
+    }
+    assert_eq!(rt; (short.used(), exact.used(), full.used()), (0, 0, 0));
 }

@@ -5,6 +5,8 @@
 #![tactic(auto)]
 
 #[cfg(test)]
+mod as_in_std;
+#[cfg(test)]
 mod budgets;
 #[cfg(test)]
 mod calls;
@@ -16,6 +18,8 @@ mod drops;
 mod items;
 #[cfg(test)]
 mod large;
+#[cfg(test)]
+mod ordered;
 #[cfg(test)]
 mod owned;
 #[cfg(test)]

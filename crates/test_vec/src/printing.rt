@@ -2,6 +2,7 @@
 use fc_base::TryReserveError;
 use fc_vec::{TryCollect, TryVec};
 use std::alloc::{AllocError, Global};
+use std::test::Fail;
 
 const BELOW_100: &str =
     "[0, 1, 2, 3, 4, 5, 6, 7, 8, 9, 10, 11, 12, 13, 14, 15, 16, 17, 18, 19, 20, 21, 22, 23, 24, \
@@ -32,4 +33,26 @@ fn prints(alloc: Global, start: u64, end: u64, wanted: &str) -> bool {
 fn a_vector_prints_its_items_in_order(rt: HostRuntime) {
     assert!(rt; prints(rt.alloc(), 0, 0, "[]") && prints(rt.alloc(), 0, 1, "[0]"));
     assert!(rt; prints(rt.alloc(), 1, 3, "[1, 2]") && prints(rt.alloc(), 0, 100, BELOW_100));
+}
+
+fn printed_rest(alloc: Global, v: &TryVec<u64>, given: usize) -> Result<String, AllocError> {
+    let mut walk = v.iter();
+    for _ in 0..given {
+        walk.next();
+    }
+    format!(in alloc; "{walk:?}")
+}
+
+#[test]
+fn a_walk_prints_what_is_still_to_come(rt: HostRuntime) -> Result<(), Fail> {
+    let v = TryVec::from(numbers(rt.alloc(), 7, 9)?);
+    let whole = printed_rest(rt.alloc(), &v, 0)?;
+    let one = printed_rest(rt.alloc(), &v, 1)?;
+    let none = printed_rest(rt.alloc(), &v, 3)?;
+    assert!(rt;
+        whole.as_str() == "Iter([7, 8])"
+            && one.as_str() == "Iter([8])"
+            && none.as_str() == "Iter([])"
+    );
+    Ok(())
 }

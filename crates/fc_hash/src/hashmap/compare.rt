@@ -1,5 +1,5 @@
 //! Equality of hashed maps: that of their pairs, in whatever order.
-ghost use Rattle.fc_hash.specs.EqualMaps.{equal_maps_per};
+ghost use Rattle.fc_hash.specs.EqualMaps.{equal_maps_equiv, equal_maps_per};
 ghost use Rattle.fc_hash.specs.Pairs.{are_equal};
 
 use super::TryHashMap;
@@ -16,4 +16,8 @@ impl<K: Eq + Hash, V: PartialEq, A: Handle> PartialEq for TryHashMap<K, V, A> {
     fn eq(&self, other: &TryHashMap<K, V, A>) -> bool {
         self.inner == other.inner
     }
+}
+
+impl<K: Eq + Hash, V: Eq, A: Handle> Eq for TryHashMap<K, V, A> {
+    ghost laws = { equal_maps_equiv K.Eq.laws V.Eq.laws };
 }

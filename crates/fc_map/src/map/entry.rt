@@ -4,6 +4,7 @@ ghost use Rattle.fc_tree_node.specs.TreePlace.{IsPlaceIn};
 ghost use Rattle.fc_map.specs.Place.{IsOpenAt};
 ghost use Rattle.fc_map.specs.Unique.{open-prop, place-prop};
 
+mod beside;
 mod calls;
 mod first_last;
 mod occupied;

@@ -3,7 +3,6 @@
 //! A gap stays one where values are written, so a writing walk keeps its ends as such paths. Beside the one at its front it counts the
 //! pairs of the leaf that it went past: within a leaf a step on changes that number alone, and only at a leaf's end it looks at the tree.
 ghost use Rattle.std.specs.Prelude.{◌≡◌, ◌+◌, ◌<◌, ◌≤◌, ◌↔◌, List, ℕ, length, take, drop, IsTrue};
-ghost use Rattle.fc_base.specs.Ranges.{bound_by};
 ghost use Rattle.fc_tree_node.specs.TreePlace.{before_pair_in, before_gap_in, IsPlaceIn};
 ghost use Rattle.fc_tree_visit.specs.Leaf.{gone_on};
 ghost use Rattle.fc_tree_visit.specs.Visits.{CalledAtPair, IsVisited};
@@ -13,14 +12,14 @@ ghost use Rattle.fc_map.specs.Lends.{branch};
 ghost use Rattle.fc_map.specs.Writing.{starting};
 
 use super::BTreeMap;
-use fc_base::{Handle, Query};
+use fc_base::Handle;
 use fc_tree_node::node::Node;
 use fc_tree_node::path::Path;
 use fc_tree_visit::leaf::{go_on, go_to_previous, pairs_after, pass_next};
 use fc_tree_visit::tree::visit_tree;
-use fc_tree_walk::ends::{first_gap_in, last_gap_in, range_gaps_in};
+use fc_tree_walk::ends::{first_gap_in, last_gap_in};
 use fc_tree_walk::gaps::{push_gap_before, steps_to_previous};
-use std::ops::Bound;
+use fc_tree_walk::key_range::KeyRange;
 
 impl<K: Ord, V, A: Handle> BTreeMap<K, V, A> {
     // The gaps before all pairs and after them.
@@ -33,12 +32,12 @@ impl<K: Ord, V, A: Handle> BTreeMap<K, V, A> {
     }
 
     // The gaps at which a range starts and ends.
-    pub(crate) fn range_ends<Q: Query<K>>(&self, lo: &Bound<Q>, hi: &Bound<Q>) -> (Path, Path)
+    pub(crate) fn range_ends<R: KeyRange<K>>(&self, range: &R) -> (Path, Path)
         ensures ends { AreEndsIn self.now result.0 result.1 }
-        ensures front { length (before_gap_in self.now result.0) ≡ (starting Q.order (bound_by Q.sought lo.now) (bound_by Q.sought hi.now) (entries self.now)).front }
-        ensures back { length (before_gap_in self.now result.1) ≡ (starting Q.order (bound_by Q.sought lo.now) (bound_by Q.sought hi.now) (entries self.now)).back }
+        ensures front { length (before_gap_in self.now result.0) ≡ (starting R.order (R.start range.now) (R.end range.now) (entries self.now)).front }
+        ensures back { length (before_gap_in self.now result.1) ≡ (starting R.order (R.start range.now) (R.end range.now) (entries self.now)).back }
     {
-        range_gaps_in(&self.root, lo, hi)
+        range.gaps_in(&self.root)
     }
 
     // Whether two gaps are the same, of which the first lies so many pairs of its leaf behind where its path leads.

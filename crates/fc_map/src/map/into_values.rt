@@ -5,6 +5,8 @@ ghost use Rattle.fc_base.specs.Ascending.{IsAscending};
 ghost use Rattle.fc_map.specs.Entries.{entries};
 ghost use Rattle.fc_map.specs.Walks.{values_of};
 
+mod debug;
+
 use super::{BTreeMap, IntoIter};
 use fc_base::Handle;
 use std::alloc::Global;

@@ -6,6 +6,7 @@ ghost use Rattle.fc_tree_node.specs.TreePlace.{before_gap_in};
 ghost use Rattle.fc_map.specs.Unique.{ends-prop, gap-prop};
 
 mod calls;
+mod debug;
 
 use super::BTreeMap;
 use fc_base::Handle;

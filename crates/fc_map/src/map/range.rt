@@ -2,27 +2,28 @@
 ghost use Rattle.std.specs.Prelude.{◌≡◌, ◌≤◌, length};
 
 use super::BTreeMap;
-use fc_base::{Handle, Query};
+use fc_base::Handle;
 pub use fc_iter::range::Range;
-use std::ops::Bound;
+use fc_tree_walk::key_range::KeyRange;
 
 impl<K: Ord, V, A: Handle> BTreeMap<K, V, A> {
     ghost use Rattle.fc_base.specs.Ascending.{IsAscending};
-    ghost use Rattle.fc_base.specs.Ranges.{bound_by, within};
+    ghost use Rattle.fc_base.specs.Ranges.{within};
     ghost use Rattle.fc_map.specs.Entries.{entries};
 
-    /// A walk over the pairs whose keys lie within both bounds, in ascending order of their keys. The bounds are by a `Query`, as in `get`:
-    /// by references to keys, or by a borrowed form of them, so that pairs of a `String` and what it begins with are had by two `&str`.
+    /// A walk over the pairs whose keys lie within the range, in ascending order of their keys: one of Rust's own ranges of keys, as
+    /// `3..7` or `..=7`, or a pair of bounds by a `Query`, as in `get`: by references to keys, or by a borrowed form of them, so that pairs
+    /// of a `String` and what it begins with are had by two `&str`.
     /// A bound is found in one way down the tree, two in the same one until they part; an end without a bound when the walk first needs it.
     /// The steps of the walk compare no key. Bounds that are no range, within which no key can lie, make a walk that is empty: upstream
     /// panics. `is_range` is the test of them. Upstream: `BTreeMap::range`.
-    pub fn range<Q: Query<K>>(&self, bounds: (Bound<Q>, Bound<Q>)) -> Range<'_, K, V, A>
-        ensures pairs { result ≡ within Q.order (bound_by Q.sought bounds.0) (bound_by Q.sought bounds.1) (entries self.now) }
+    pub fn range<R: KeyRange<K>>(&self, bounds: R) -> Range<'_, K, V, A>
+        ensures pairs { result ≡ within R.order (R.start bounds) (R.end bounds) (entries self.now) }
         ensures fits { length result ≤ usize.MAX }
         ensures ascending { IsAscending K.cmp (entries self.now) }
     {
         // As many pairs as the map has can be counted, and so can those of a range.
         prove!(self.len <= usize::MAX);
-        Range::within(&self.root, &bounds.0, &bounds.1)
+        Range::within(&self.root, &bounds)
     }
 }

@@ -5,6 +5,7 @@ ghost use Rattle.fc_tree_walk.specs.Gap.{AreEndsIn, IsGapIn};
 ghost use Rattle.fc_map.specs.Unique.{ends-prop, gap-prop};
 
 mod calls;
+mod debug;
 
 use super::BTreeMap;
 use fc_base::Handle;

@@ -3,18 +3,17 @@ ghost use Rattle.std.specs.Prelude.{◌≡◌, ◌≤◌, ◌^◌, ◌<◌, ⊤,
 ghost use Rattle.std.specs.Iterator.{YieldsFirst, YieldsLast, YieldsFirstRef, YieldsLastRef, UpTo, at_most, item_count};
 ghost use Rattle.std.specs.Iterator.Runs.{YieldsInOrder, YieldsInReverse};
 ghost use Rattle.std.specs.Iterator.SizeHint.{IsWithinCount};
-ghost use Rattle.fc_base.specs.Ranges.{bound_by};
 ghost use Rattle.fc_set.specs.Items.{items, AreAscending, items_within};
 
 mod debug;
 
 use super::BTreeSet;
-use fc_base::{Handle, Query};
+use fc_base::Handle;
 use fc_map::map;
+use fc_map::map::KeyRange;
 use std::alloc::{AllocError, Global};
 use std::iter::FusedIterator;
 use std::marker::Model;
-use std::ops::Bound;
 
 /// The items that are still to come, in ascending order. `next` gives the first of them and `next_back` the last; once there is none,
 /// both answer `None` ever after. No call compares items or takes memory. Upstream: `btree_set::Iter`.
@@ -231,12 +230,13 @@ impl<T: Ord, A: Handle> BTreeSet<T, A> {
         }
     }
 
-    /// A walk over the items that lie within both bounds, in ascending order. The bounds are by a `Query`, as in `get`. A bound is found in
+    /// A walk over the items that lie within the range, in ascending order: one of Rust's own ranges of items, as `3..7` or `..=7`, or a
+    /// pair of bounds by a `Query`, as in `get`. A bound is found in
     /// one way down the tree, two in the same one until they part; an end without a bound when the walk first needs it. The steps of the
     /// walk compare no item. Bounds that are no range, within which no item can lie, make a walk that is empty: upstream panics. `is_range`
     /// is the test of them. Upstream: `BTreeSet::range`.
-    pub fn range<Q: Query<T>>(&self, bounds: (Bound<Q>, Bound<Q>)) -> Range<'_, T, A>
-        ensures items { result ≡ items_within Q.order (bound_by Q.sought bounds.0) (bound_by Q.sought bounds.1) (items self.now) }
+    pub fn range<R: KeyRange<T>>(&self, bounds: R) -> Range<'_, T, A>
+        ensures items { result ≡ items_within R.order (R.start bounds) (R.end bounds) (items self.now) }
         ensures fits { length result ≤ usize.MAX }
         ensures ascending { AreAscending T.cmp (items self.now) }
     {

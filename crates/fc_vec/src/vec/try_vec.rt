@@ -4,16 +4,23 @@ ghost use Rattle.std.specs.List.{AppendsResults, insert};
 ghost use Rattle.std.specs.Option.{option_to_list};
 ghost use Rattle.fc_vec.specs.Vectors.{MayRefuse, IsExtended, IsCopiedUpTo};
 
+mod clone;
 mod compare;
 mod copy;
 mod debug;
+mod deref;
 mod drain;
+mod extend;
 mod iter;
 mod lend;
+mod moves;
 mod order;
 mod places;
 mod removal;
+mod room;
+mod search;
 mod std_io;
+mod visits;
 
 use super::fallible_vec::FallibleVec;
 use fc_base::{Handle, TryClone, TryReserveError};
@@ -230,5 +237,14 @@ impl<T, A: Handle> From<Vec<T, A>> for TryVec<T, A> {
 
     fn from(value: Vec<T, A>) -> TryVec<T, A> {
         TryVec { inner: value }
+    }
+}
+
+/// The vector's items and room, handed out as they are. Not in upstream, where they stay inside.
+impl<T, A: Handle> From<TryVec<T, A>> for Vec<T, A> {
+    ghost from_gives = { λ v made. (made.items ≡ v.items) × (vec_capacity made ≡ v.room) };
+
+    fn from(value: TryVec<T, A>) -> Vec<T, A> {
+        value.into_vec()
     }
 }

@@ -11,6 +11,7 @@ ghost use Rattle.fc_map.specs.Entry.{entry_key, entry_lends_ok_in, entry_map, en
 
 use super::Entry;
 use fc_base::{Handle, TryReserveError};
+use std::default::MadeWith;
 
 impl<'a, K: Ord, V, A: Handle> Entry<'a, K, V, A> {
     /// The key that is there, or else the one that was searched for. Upstream: `Entry::key`.
@@ -118,17 +119,18 @@ impl<'a, K: Ord + Drop, V: Drop, A: Handle> Entry<'a, K, V, A> {
         }
     }
 
-    /// The value that is there, or else the default put there, lent for writing for as long as the map was. Upstream:
-    /// `Entry::or_default`.
+    /// The value that is there, or else the default put there, lent for writing for as long as the map was: of a vector, a text or a
+    /// collection an empty one, which takes its memory where the map does, so that `map.try_entry(key)?.or_default()?.push(item)?` groups
+    /// items by a key. Upstream: `Entry::or_default`.
     ///
     /// # Errors
     /// As `VacantEntry::try_insert`, where no value is there.
     pub fn or_default(self) -> Result<&'a mut V, (K, V, TryReserveError)>
     where
-        V: Default,
+        V: MadeWith<A>,
         ensures* writes_back { sem 𝓛 (entry_lends_ok_in K.row V.row A.row A.Allocator self.entry result) }
-        ensures value { IfOk result (λ v. UnwrapsOrElse (entry_value self.entry) V.is_default v.now) }
-        ensures back { IfErr result (λ e. (entry_key self.entry ≡ Some e.0) × V.is_default e.1) }
+        ensures value { IfOk result (λ v. UnwrapsOrElse (entry_value self.entry) V.is_made_with v.now) }
+        ensures back { IfErr result (λ e. (entry_key self.entry ≡ Some e.0) × V.is_made_with e.1) }
         ensures absent { OnErr result (entry_value self.entry ≡ None) }
         ensures error { IfErr result (λ e. MayGrowRefuse (length (entries (entry_map self.entry))) e.2) }
         ensures only_full { OnErr result (length (entries (entry_map self.entry)) < usize.MAX → IsFullAt (entry_map self.entry) (entry_path self.entry)) }
@@ -136,7 +138,10 @@ impl<'a, K: Ord + Drop, V: Drop, A: Handle> Entry<'a, K, V, A> {
     {
         match self {
             Entry::Occupied(held) => Ok(held.into_mut()),
-            Entry::Vacant(entry) => entry.try_insert(V::default()),
+            Entry::Vacant(entry) => {
+                let value = V::made_with(entry.allocator());
+                entry.try_insert(value)
+            }
         }
     }
 }

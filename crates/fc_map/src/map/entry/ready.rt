@@ -3,6 +3,7 @@ ghost use Rattle.std.specs.Prelude.{◌≡◌, ℕ};
 ghost use Rattle.fc_map.specs.Ready.{IsReadyAt, ready-prop};
 
 mod calls;
+mod debug;
 mod try_ready;
 
 use super::super::BTreeMap;

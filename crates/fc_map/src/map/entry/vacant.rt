@@ -7,6 +7,7 @@ ghost use Rattle.fc_map.specs.Entries.{entries};
 ghost use Rattle.fc_map.specs.Full.{IsFullAt};
 ghost use Rattle.fc_map.specs.Entry.{Vacant, entry_key, entry_lends_ok_in, entry_map, entry_path};
 
+use super::super::for_sets;
 use super::VacantEntry;
 use fc_base::{Count, Handle, TryReserveError};
 
@@ -29,6 +30,11 @@ impl<'a, K: Ord, V, A: Handle> VacantEntry<'a, K, V, A> {
             path: _,
         } = self;
         key
+    }
+
+    // Where the map takes its memory.
+    pub(super) fn allocator(&self) -> A {
+        for_sets::allocator(self.map)
     }
 }
 

@@ -1,7 +1,6 @@
 //! The calls of writing walks over a range.
 ghost use Rattle.std.specs.Prelude.{◌≡◌, ◌+◌, ◌<◌, ◌≤◌, ◌↔◌, length, IsTrue, MatchOption, None};
 ghost use Rattle.std.specs.Borrow.{sem};
-ghost use Rattle.fc_base.specs.Ranges.{bound_by};
 ghost use Rattle.fc_map.specs.Entries.{entries};
 ghost use Rattle.fc_tree_node.specs.TreePlace.{IsPlaceIn, before_pair_in};
 ghost use Rattle.fc_map.specs.Stretches.{CalledAtPair, IsVisitedIn, stretch, range_map_ref, range_lends_first_in, range_lends_last_in, IsFirstPair, IsFirstValue, IsLastPair, IsLastValue};
@@ -10,19 +9,19 @@ ghost use Rattle.fc_map.specs.Writing.{starting};
 
 use super::super::BTreeMap;
 use super::RangeMut;
-use fc_base::{Handle, Query};
+use fc_base::Handle;
 use fc_tree_node::path::Path;
-use std::ops::Bound;
+use fc_tree_walk::key_range::KeyRange;
 
 impl<K: Ord, V, A: Handle> BTreeMap<K, V, A> {
-    /// A writing walk over the pairs whose keys lie within both bounds, which are by a `Query`, as in `range`. Both ends are found in one
+    /// A writing walk over the pairs whose keys lie within the range, which is given as in `range`. Both ends are found in one
     /// way down the tree, until they part; the steps of the walk compare no key. Bounds that are no range, within which no key can lie,
     /// make a walk that lends nothing: upstream panics. Upstream: `BTreeMap::range_mut`.
-    pub fn range_mut<Q: Query<K>>(&mut self, bounds: (Bound<Q>, Bound<Q>)) -> RangeMut<'_, K, V, A>
+    pub fn range_mut<R: KeyRange<K>>(&mut self, bounds: R) -> RangeMut<'_, K, V, A>
         ensures same_map { (range_map_ref result).ghost_name ≡ self.entry.ghost_name }
-        ensures start { stretch result ≡ starting Q.order (bound_by Q.sought bounds.0) (bound_by Q.sought bounds.1) (entries self.old) }
+        ensures start { stretch result ≡ starting R.order (R.start bounds) (R.end bounds) (entries self.old) }
     {
-        let (front, back) = self.range_ends(&bounds.0, &bounds.1);
+        let (front, back) = self.range_ends(&bounds);
         let full = self.run_after(&front);
         RangeMut {
             map: self,

@@ -1,9 +1,9 @@
 //! Vectors made of copies.
-ghost use Rattle.std.specs.Prelude.{◌≡◌, ◌+◌, ◌^◌, ◌<◌, ◌≤◌, ◌⊎◌, [], length, take, IfOk, IfErr, OnOk, IsOk, MatchOption, vec_len, vec_capacity};
+ghost use Rattle.std.specs.Prelude.{◌≡◌, ◌+◌, ◌-◌, ◌^◌, ◌<◌, ◌≤◌, ◌⊎◌, [], length, take, replicate, IfOk, IfErr, OnOk, IsOk, MatchOption, vec_len, vec_capacity};
 ghost use Rattle.std.specs.List.{AllZip, Any};
 ghost use Rattle.fc_base.specs.Copies.{MayRefuseCopies};
 ghost use Rattle.fc_vec.specs.Joined.{joined};
-ghost use Rattle.fc_vec.specs.Vectors.{MayRefuse, IsExtended, IsCopiedUpTo};
+ghost use Rattle.fc_vec.specs.Vectors.{MayRefuse, IsExtended, IsFilled, IsCopiedUpTo};
 
 use super::super::fallible_vec::FallibleVec;
 use super::TryVec;
@@ -22,6 +22,23 @@ impl<T: TryClone, A: Handle> TryVec<T, A> {
         let mut made = TryVec::new(alloc);
         made.extend_from_slice(items)?;
         Ok(made)
+    }
+
+    /// Cuts the vector to `new_len` items, or fills it up with copies of `value`, by `try_clone`, of which the last is `value` itself. Not in upstream: it is
+    /// that of std's vector, and `FallibleVec::try_resize_no_copy` for `Vec`.
+    ///
+    /// # Errors
+    /// Only where `new_len` is greater than the length: `AllocError` where the room was refused, and the vector is as before; or the error of a refused
+    /// copy, and the vector keeps the copies made before it. `value` is dropped.
+    pub fn resize(&mut self, new_len: usize, value: T) -> Result<(), TryReserveError>
+        requires { T.can_clone }
+        ensures cut { new_len ≤ length self.old.items → IsOk result × (self.new.items ≡ take new_len self.old.items) × (self.new.room ≡ self.old.room) }
+        ensures filled { length self.old.items < new_len → OnOk result (IsFilled T.same self.old.items new_len value self.new.items) }
+        ensures kept { self.old.room ≤ self.new.room }
+        ensures room { new_len ≤ self.old.room → self.new.room ≡ self.old.room }
+        ensures error { IfErr result (λ e. ((self.old.room < new_len) × (e ≡ TryReserveError.AllocError) × (self.new ≡ self.old)) ⊎ IsCopiedUpTo T.same T.may_refuse e self.old.items (replicate (new_len - length self.old.items - 1) value) self.new.items) }
+    {
+        self.inner.try_resize_no_copy(new_len, value)
     }
 }
 

@@ -6,6 +6,8 @@ ghost use Rattle.std.specs.Iterator.SizeHint.{IsWithinCount};
 ghost use Rattle.std.specs.Vec.Iter.{into_iter_items, into_iter_len, into_iter_steps};
 ghost use Rattle.std.specs.Slice.Iter.{iter_rest, iter_steps};
 
+mod shown;
+
 use super::TryVec;
 use fc_base::Handle;
 use std::iter::FusedIterator;

@@ -68,3 +68,20 @@ impl<T, A: Handle> IndexMut<usize> for TryVec<T, A> {
         &mut self.inner[index]
     }
 }
+
+/// A walk that lends each item for writing, in order: std's walk over a slice.
+impl<'a, T, A: Handle> IntoIterator for &'a mut TryVec<T, A> {
+    type Item = &'a mut T;
+
+    type IntoIter = slice::IterMut<'a, T>;
+
+    ghost into_iter_gives = { λ v r. (iter_mut_rest r ≡ v.now.items) × (length (iter_mut_rest r) < 2 ^ 64) × EveryRun (iter_mut_steps {A = T}) (λ p. ItemsMapTo p (λ x. x.now) (iter_mut_rest p.from)) };
+
+    fn into_iter(self) -> slice::IterMut<'a, T>
+        ensures* writes_back { sem 𝓛 (lends_walk_in T.row A.row A.Allocator self.entry result) }
+        ensures into_iter_gives { (iter_mut_rest result ≡ self.old.items) × (length (iter_mut_rest result) < 2 ^ 64) × EveryRun (iter_mut_steps {A = T}) (λ p. ItemsMapTo p (λ x. x.now) (iter_mut_rest p.from)) }
+    {
+        let items = self.as_mut_slice();
+        items.iter_mut()
+    }
+}

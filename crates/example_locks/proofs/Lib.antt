@@ -1,0 +1,5 @@
+pub mod Holders
+pub mod Lasts
+pub mod Releasing
+pub mod Rewriting
+pub mod Steps
