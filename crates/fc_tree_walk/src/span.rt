@@ -265,8 +265,10 @@ struct Runs<'a, K, V> {
 }
 
 // Fills the paths with the gaps at the bounds of a range, and takes the run of one end: the back's where only it is bounded. The span is
-// made once, behind this call, since a struct of its size is copied wherever two of it could be the answer.
+// made once, behind this call, since a struct of its size is copied wherever two of it could be the answer. For the same reason it is
+// not inlined: the paths are then filled where the span is to be.
 #[tactic(auto, using(crate::proofs::Sought::ends_found, crate::proofs::Sought::met_found, crate::proofs::Sought::back_of_gap, crate::proofs::Bounds::from_nothing, crate::proofs::Turns::range_in))]
+#[inline(never)]
 fn start_within<'a, K: Ord, V, Q: Query<K>, A: Handle>(
     root: &'a Option<Node<K, V, A>>,
     lo: &Bound<Q>,
