@@ -25,7 +25,7 @@ pub use Rattle.fc_laws.proofs.OrderLaws.{tuple_less, tuple_equal, tuple_greater,
 pub use Rattle.fc_laws.proofs.OrderLaws.{number_total, number_less, number_equal, number_greater, number_at_most}
 pub use Rattle.fc_laws.proofs.OrderLaws.{number_at_least, number_tuple_less, number_tuple_equal}
 pub use Rattle.fc_laws.proofs.OrderLaws.{number_tuple_greater, number_tuple_at_most, number_tuple_at_least, number_tuple_total}
-pub use Rattle.fc_laws.proofs.RetainedLaws.{retained_is}
+pub use Rattle.fc_laws.proofs.RetainedLaws.{retained_is, staying_are}
 pub use Rattle.fallible_collections.proofs.SetLaws.{item_at_joined, item_at_joined_query, ascending_joined_items, same_items, joined_items_is, item_at_union}
 pub use Rattle.fallible_collections.proofs.SetLaws.{item_at_difference, item_at_symmetric}
 pub use Rattle.fallible_collections.proofs.ItemLaws.{item_at_with, item_at_with_other, item_at_without, item_at_without_other, ascending_with}

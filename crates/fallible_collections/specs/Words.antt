@@ -46,11 +46,11 @@ pub use Rattle.fc_map.specs.Stretches.{range_map_ref, stretch, iter_map_ref, ite
 pub use Rattle.fc_tree_visit.specs.Visits.{VisitsInTurn}
 pub use Rattle.fc_tree_retain.specs.Retained.{RetainsInTurn, AskedAtPair, GivenPair, ExtractsBy}
 pub use Rattle.fc_map.specs.PopIf.{AskedOnceAtPair, IsFirstNotPicked, IsLastNotPicked}
-pub use Rattle.fc_map.specs.Ranged.{outside}
+pub use Rattle.fc_map.specs.Ranged.{in_front, behind, outside, replacing}
 pub use Rattle.fc_map.specs.Compare.{pair_eq, pair_cmp, pair_partial_cmp, pair_input}
 pub use Rattle.fc_map.specs.CompareLaws.{pairs_Alike, pairs_agree, pairs_equiv, pairs_per, pairs_po, pairs_tie, pairs_total}
 -- sets
-pub use Rattle.fc_set.specs.Items.{items, item_at, smaller, greater, not_smaller, without, AreAscending, with_item, with_replaced, items_within, items_outside, joined_items, extended_items, AreExtendedUpTo}
+pub use Rattle.fc_set.specs.Items.{items, item_at, smaller, greater, not_smaller, without, AreAscending, with_item, with_replaced, items_within, items_outside, items_replacing, joined_items, extended_items, AreExtendedUpTo}
 pub use Rattle.fc_set.specs.Neighbours.{not_greater}
 pub use Rattle.fc_set.specs.Retained.{RetainsItems, GivenItem, ExtractsItem}
 pub use Rattle.fc_set.specs.Copied.{MayCopyRefuse}

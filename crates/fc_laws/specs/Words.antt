@@ -35,6 +35,6 @@ pub use Rattle.fc_map.specs.Stretches.{range_map_ref, stretch, iter_map_ref, ite
 pub use Rattle.fc_tree_visit.specs.Visits.{VisitsInTurn}
 pub use Rattle.fc_tree_retain.specs.Retained.{RetainsInTurn, AskedAtPair, GivenPair, ExtractsBy}
 pub use Rattle.fc_map.specs.PopIf.{AskedOnceAtPair, IsFirstNotPicked, IsLastNotPicked}
-pub use Rattle.fc_map.specs.Ranged.{outside}
+pub use Rattle.fc_map.specs.Ranged.{in_front, behind, outside, replacing}
 pub use Rattle.fc_map.specs.Compare.{pair_eq, pair_cmp, pair_partial_cmp, pair_input}
 pub use Rattle.fc_map.specs.CompareLaws.{pairs_Alike, pairs_agree, pairs_equiv, pairs_per, pairs_po, pairs_tie, pairs_total}

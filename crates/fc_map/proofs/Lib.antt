@@ -21,5 +21,5 @@ pub mod WalkSizes
 pub mod OwnedFacts
 pub mod ExtensionSizes
 pub mod RangeParts
-pub mod RemovedFacts
+pub mod RangedFacts
 pub mod PopIfFacts

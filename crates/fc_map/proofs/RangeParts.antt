@@ -12,7 +12,7 @@ use Rattle.fc_base.specs.Query.{IsQueryOrder}
 use Rattle.fc_base.specs.Ranges.{starts, stops, within}
 use Rattle.fc_base.proofs.AscendingFacts.{all_map}
 use Rattle.fc_base.proofs.JoinedLaws.{left_out}
-use Rattle.fc_map.specs.Ranged.{in_front, behind}
+use Rattle.fc_map.specs.Ranged.{in_front, behind, outside}
 
 module _ {K V : Type 0} (cmp : K → K → Ordering) (p u : K × V → Bool) (up : (x y : K × V) → cmp x.0 y.0 ≡ Less → p x ≡ true → p y ≡ true)
     (down : (x y : K × V) → cmp x.0 y.0 ≡ Less → u x ≡ false → u y ≡ false) where
@@ -48,6 +48,29 @@ module _ {K V : Type 0} (cmp : K → K → Ordering) (p u : K × V → Bool) (up
           let w = over e f in
           ap (λ zs. x ∷ zs) i ∙ ap (λ zs. x ∷ (zs ++ (W ++ B))) n ∙ ap (λ zs. x ∷ (zs ++ B)) w ∙ ap (λ zs. zs ++ x ∷ B) (sym w)
           ∙ ap (λ zs. zs ++ (W ++ x ∷ B)) (sym n)
+
+  -- the first and the last are those where one of them fails
+  two_parts : (s : List (K × V)) → IsAscending cmp s
+      → filter (λ e. not (p e)) s ++ filter (λ e. p e && not (u e)) s ≡ filter (λ e. not (p e && u e)) s
+  two_parts [] a = refl
+  two_parts (x ∷ s) a = go (p x) (u x) refl (two_parts s a.1)
+    where
+      N : List (K × V)
+      N = filter (λ e. not (p e)) s
+
+      B : List (K × V)
+      B = filter (λ e. p e && not (u e)) s
+
+      O : List (K × V)
+      O = filter (λ e. not (p e && u e)) s
+
+      none : p x ≡ true → N ≡ []
+      none e = left_out (λ y. not (p y)) s (all_map (λ y. cmp x.0 y.0 ≡ Less) _ (λ y l. ap not (up x y l e)) s a.0)
+
+      go : (b c : Bool) → p x ≡ b → N ++ B ≡ O → cond (not b) (x ∷ N) N ++ cond (b && not c) (x ∷ B) B ≡ cond (not (b && c)) (x ∷ O) O
+      go false c e i = ap (λ zs. x ∷ zs) i
+      go true true e i = i
+      go true false e i = let n = none e in ap (λ zs. zs ++ x ∷ B) n ∙ ap (λ zs. x ∷ (zs ++ B)) (sym n) ∙ ap (λ zs. x ∷ zs) i
 
 module _ {K Q : Type 0} {cmp : K → K → Ordering} {order : K → Q → Ordering} (fits : IsQueryOrder cmp order) where
   starts_up : (lo : Bound Q) (x y : K) → cmp x y ≡ Less → starts order lo x ≡ true → starts order lo y ≡ true
@@ -85,3 +108,9 @@ module _ {K Q : Type 0} {cmp : K → K → Ordering} {order : K → Q → Orderi
       → s ≡ in_front order lo s ++ (within order lo hi s ++ behind order lo hi s)
   range_parts lo hi s a =
       three_parts cmp (λ e. starts order lo e.0) (λ e. stops order hi e.0) (λ x y. starts_up lo x.0 y.0) (λ x y. stops_down hi x.0 y.0) s a
+
+  -- those in front of it and behind it are those outside
+  pub range_outside : {V : Type 0} (lo hi : Bound Q) (s : List (K × V)) → IsAscending cmp s
+      → in_front order lo s ++ behind order lo hi s ≡ outside order lo hi s
+  range_outside lo hi s a =
+      two_parts cmp (λ e. starts order lo e.0) (λ e. stops order hi e.0) (λ x y. starts_up lo x.0 y.0) (λ x y. stops_down hi x.0 y.0) s a

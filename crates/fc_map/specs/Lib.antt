@@ -19,4 +19,3 @@ pub mod CompareLaws
 pub mod Extension
 pub mod PopIf
 pub mod Ranged
-pub mod Removed

@@ -38,8 +38,8 @@ mod range;
 mod range_mut;
 mod ready;
 mod remove;
-mod remove_range;
 mod retain;
+mod retain_range;
 mod room;
 mod split_off;
 

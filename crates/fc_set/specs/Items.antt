@@ -40,6 +40,10 @@ module _ {T Q : Type 0} (cmp : T → Q → Ordering) where
   abbrev pub items_outside : Bound Q → Bound Q → List T → List T
   items_outside lo hi s = filter (λ x. not (starts cmp lo x && stops cmp hi x)) s
 
+  -- The list with others in the place of the items within two bounds.
+  abbrev pub items_replacing : Bound Q → Bound Q → List T → List T → List T
+  items_replacing lo hi others s = filter (λ x. not (starts cmp lo x)) s ++ (others ++ filter (λ x. starts cmp lo x && not (stops cmp hi x)) s)
+
   -- The list without the item that is equal to the query.
   abbrev pub without : List T → Q → List T
   without s q = smaller s q ++ greater s q

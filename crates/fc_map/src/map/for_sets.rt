@@ -1,15 +1,17 @@
 //! What a set, which is a map of its items, rests on: a key with its pair taken out and replaced, a map made of pairs in order, and keys
 //! asked in turn.
-ghost use Rattle.std.specs.Prelude.{◌≡◌, ◌+◌, ◌<◌, length, IsSome, IsErr, IfOk, IfErr, OnOk, OnErr, Some, None};
+ghost use Rattle.std.specs.Prelude.{◌≡◌, ◌+◌, ◌<◌, List, length, IsSome, IsErr, IfOk, IfErr, OnOk, OnErr, Some, None};
 ghost use Rattle.fc_base.specs.Ascending.{IsAscending};
 ghost use Rattle.fc_base.specs.Growth.{MayGrowRefuse};
 ghost use Rattle.fc_base.specs.Joined.{placed};
 ghost use Rattle.fc_base.specs.OneKey.{cut};
 ghost use Rattle.fc_base.specs.Parts.{at};
+ghost use Rattle.fc_base.specs.Ranges.{within};
 ghost use Rattle.fc_map.specs.Counts.{IsBounded};
 ghost use Rattle.fc_map.specs.Entries.{entries, IsSoundMap, passed_in};
 ghost use Rattle.fc_map.specs.Full.{TakesNode};
 ghost use Rattle.fc_map.specs.Place.{IsHeldAt};
+ghost use Rattle.fc_map.specs.Ranged.{replacing};
 ghost use Rattle.fc_tree_node.specs.Depth.{HasFewMoves};
 ghost use Rattle.fc_map.specs.Fewest.{HasFewestMoves};
 ghost use Rattle.fc_tree_retain.specs.Retained.{AskedAtKey, ExtractsBy, GivenKey, RetainsInTurn};
@@ -19,7 +21,8 @@ use fc_base::{Count, Handle, Query, TryReserveError};
 use fc_tree_build::growing::Growing;
 use fc_tree_node::path::Path;
 use fc_tree_removal::replacement::exchange;
-use fc_tree_retain::retain;
+use fc_tree_retain::{retain, stretch};
+use fc_tree_walk::key_range::KeyRange;
 
 /// Takes the pair with an equal key out and answers it. `None` where there is none, and the map is as it was. It takes no memory. To
 /// the count it adds exactly the comparisons of the keys that a search from the left passes, and where there is an equal key the
@@ -156,4 +159,44 @@ pub fn extract_keys_if<K: Ord + Drop, V: Drop, F: FnMut(&K) -> bool, E: FnMut(K)
     ensures sound { IsSoundMap map.new }
 {
     map.len = retain::extract_keys_if(&mut map.root, pick, each);
+}
+
+/// As `retain_keys`, at the keys within the range alone; the others stay.
+pub fn retain_keys_range<K: Ord + Drop, V: Drop, R: KeyRange<K>, F: FnMut(&K) -> bool, A: Handle>(
+    map: &mut BTreeMap<K, V, A>,
+    bounds: R,
+    f: F,
+)
+    requires { F.IsAlwaysCallable f }
+    ensures retained { (last : F) × (stay : List (K × V)) × RetainsInTurn (AskedAtKey F.FnMut) f (within R.order (R.start bounds) (R.end bounds) (entries map.old)) last stay × (entries map.new ≡ replacing R.order (R.start bounds) (R.end bounds) stay (entries map.old)) }
+    ensures ascending { IsAscending K.cmp (entries map.new) }
+    ensures sound { IsSoundMap map.new }
+{
+    let (front, back) = map.range_ends(&bounds);
+    let gone = stretch::retain_keys_between(&mut map.root, &front, &back, f);
+    map.len -= gone;
+}
+
+/// As `extract_keys_if`, at the keys within the range alone; the others stay.
+pub fn extract_keys_range_if<
+    K: Ord + Drop,
+    V: Drop,
+    R: KeyRange<K>,
+    F: FnMut(&K) -> bool,
+    E: FnMut(K),
+    A: Handle,
+>(
+    map: &mut BTreeMap<K, V, A>,
+    bounds: R,
+    pick: F,
+    each: E,
+)
+    requires { F.IsAlwaysCallable pick × E.IsAlwaysCallable each }
+    ensures extracted { (last : F × E) × (stay : List (K × V)) × RetainsInTurn (ExtractsBy (AskedAtKey F.FnMut) (GivenKey E.FnMut)) (pick, each) (within R.order (R.start bounds) (R.end bounds) (entries map.old)) last stay × (entries map.new ≡ replacing R.order (R.start bounds) (R.end bounds) stay (entries map.old)) }
+    ensures ascending { IsAscending K.cmp (entries map.new) }
+    ensures sound { IsSoundMap map.new }
+{
+    let (front, back) = map.range_ends(&bounds);
+    let gone = stretch::extract_keys_between(&mut map.root, &front, &back, pick, each);
+    map.len -= gone;
 }

@@ -1,8 +1,8 @@
 use Rattle.std.proofs.Common.{rules, ◌≡◌, ◌∙◌, ℕ, ap, sym, length, filter, nat_le, slice_set}
 use Rattle.std.proofs.lemmas.List.{get_or_read_under}
 use Rattle.fallible_collections.specs.Words.{entries}
+use Rattle.fallible_collections.proofs.Laws.{staying_are}
 use Rattle.example_sessions.specs.Users.{of_user}
-use Rattle.example_sessions.proofs.StayingFacts.{staying_are}
 use Rattle.example_sessions.proofs.sessions.Sessions.expire.Goals as goal
 
 pub returns : goal.returns
