@@ -60,23 +60,26 @@ module _ {K Q V Z : Type 0} {cmp : K → K → Ordering} {order : K → Q → Or
       let more : j ≡ length (N ++ W) = (let l = length-append N W in omega (arith, two, f, l)) in
       let first = same_cut (before_gap_in m front) (after_gap_in m front) N (W ++ B) (sym (gap_entries m front r.sound r.ends.0) ∙ parts) n in
       let last = same_cut (before_gap_in m back) (after_gap_in m back) (N ++ W) B
-          (sym (gap_entries m back r.sound r.ends.1) ∙ parts ∙ sym (append_assoc N W B)) more in
+      (sym (gap_entries m back r.sound r.ends.1) ∙ parts ∙ sym (append_assoc N W B)) more in
       record {
         ahead = first.0;
-        amid = ap (take (j - i)) (ap (drop i) parts ∙ drop_place N (W ++ B) i (sym n)) ∙ take_place W B (j - i) (let l = length-append N W in omega (arith, more, n, l));
+        amid = ap (take (j - i)) (ap (drop i) parts ∙ drop_place N (W ++ B) i (sym n))
+            ∙ take_place W B (j - i) (let l = length-append N W in omega (arith, more, n, l));
         after = last.1;
       }
 
   -- what stays between them, in the place of the pairs of the range
-  pub replaced : {F : Type 0} (R : List (K × V) → List (K × V) → Type 0) (new : Map K V Z) (stay : List (K × V)) → AreOfRange
+  pub replaced : (R : List (K × V) → List (K × V) → Type 0) (new : Map K V Z) (stay : List (K × V)) → AreOfRange
       → R (between m front back) stay → entries new ≡ before_gap_in m front ++ (stay ++ after_gap_in m back)
       → R (within order lo hi (entries m)) stay × (entries new ≡ replacing order lo hi stay (entries m))
   replaced R new stay r a e =
       let c = cut_in r in
-      (subst (λ x. R x stay) c.amid a, e ∙ ap (λ z. z ++ (stay ++ after_gap_in m back)) c.ahead ∙ ap (λ z. in_front order lo (entries m) ++ (stay ++ z)) c.after)
+      let is = e ∙ ap (λ z. z ++ (stay ++ after_gap_in m back)) c.ahead ∙ ap (λ z. in_front order lo (entries m) ++ (stay ++ z)) c.after in
+      (subst (λ x. R x stay) c.amid a, is)
 
   -- and where none stays
-  pub removed : (new : Map K V Z) (gone : ℕ) → AreOfRange → entries new ≡ before_gap_in m front ++ after_gap_in m back → gone + length (entries new) ≡ length (entries m)
+  pub removed : (new : Map K V Z) (gone : ℕ) → AreOfRange → entries new ≡ before_gap_in m front ++ after_gap_in m back
+      → gone + length (entries new) ≡ length (entries m)
       → (entries new ≡ outside order lo hi (entries m)) × (gone ≡ length (within order lo hi (entries m)))
   removed new gone r e l =
       let c = cut_in r in

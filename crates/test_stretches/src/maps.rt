@@ -100,10 +100,12 @@ fn extracts(alloc: Global, rule: Rule, end: u64) -> Result<bool, TryReserveError
     );
     let was_asked = is_right && asked == count_within(rule, end);
     let was_given = given == count_gone(rule, end);
-    Ok(was_asked
-        && was_given
-        && has_what_is_left(&map, rule, end)
-        && takes_all_again(&mut map, end)?)
+    Ok(
+        was_asked
+            && was_given
+            && has_what_is_left(&map, rule, end)
+            && takes_all_again(&mut map, end)?,
+    )
 }
 
 // Both calls, by each kind.

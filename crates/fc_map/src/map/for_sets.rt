@@ -185,12 +185,7 @@ pub fn extract_keys_range_if<
     F: FnMut(&K) -> bool,
     E: FnMut(K),
     A: Handle,
->(
-    map: &mut BTreeMap<K, V, A>,
-    bounds: R,
-    pick: F,
-    each: E,
-)
+>(map: &mut BTreeMap<K, V, A>, bounds: R, pick: F, each: E)
     requires { F.IsAlwaysCallable pick × E.IsAlwaysCallable each }
     ensures extracted { (last : F × E) × (stay : List (K × V)) × RetainsInTurn (ExtractsBy (AskedAtKey F.FnMut) (GivenKey E.FnMut)) (pick, each) (within R.order (R.start bounds) (R.end bounds) (entries map.old)) last stay × (entries map.new ≡ replacing R.order (R.start bounds) (R.end bounds) stay (entries map.old)) }
     ensures ascending { IsAscending K.cmp (entries map.new) }
