@@ -10,7 +10,6 @@ use Rattle.fc_base.specs.Query.{IsQueryOrder}
 use Rattle.fc_base.specs.Ranges.{starts, within}
 use Rattle.fc_tree_node.specs.TreePlace.{before_gap_in, after_gap_in}
 use Rattle.fc_tree_retain.proofs.Lists.{drop_place, take_place}
-use Rattle.fc_tree_retain.specs.Retained.{RetainsInTurn}
 use Rattle.fc_tree_walk.proofs.Bounds.{same_cut, gap_entries}
 use Rattle.fc_tree_walk.specs.Gap.{AreEndsIn}
 use Rattle.fc_tree_walk.specs.Span.{between}
@@ -35,8 +34,8 @@ module _ {K Q V Z : Type 0} {cmp : K → K → Ordering} {order : K → Q → Or
     pub sound : IsSoundMap m
     pub ascending : IsAscending cmp (entries m)
     pub ends : AreEndsIn m front back
-    pub front : length (before_gap_in m front) ≡ (starting order lo hi (entries m)).front
-    pub back : length (before_gap_in m back) ≡ (starting order lo hi (entries m)).back
+    pub from : length (before_gap_in m front) ≡ (starting order lo hi (entries m)).front
+    pub upto : length (before_gap_in m back) ≡ (starting order lo hi (entries m)).back
 
   -- what they cut the map into
   pub record IsCutIn : Type 0 where
@@ -54,8 +53,8 @@ module _ {K Q V Z : Type 0} {cmp : K → K → Ordering} {order : K → Q → Or
       let j = length (before_gap_in m back) in
       let parts = range_parts fits lo hi s r.ascending in
       let two = both (λ e. starts order lo e.0) s in
-      let e = r.front in
-      let f = r.back in
+      let e = r.from in
+      let f = r.upto in
       let n : i ≡ length N = omega (arith, two, e) in
       let more : j ≡ length (N ++ W) = (let l = length-append N W in omega (arith, two, f, l)) in
       let first = same_cut (before_gap_in m front) (after_gap_in m front) N (W ++ B) (sym (gap_entries m front r.sound r.ends.0) ∙ parts) n in

@@ -1,7 +1,7 @@
 -- Each word on lists of items, at the keys of a list of pairs, is the word on pairs.
 use Rattle.std.proofs.Common.{◌≡◌, Bool, true, false, cond, List, [], ◌∷◌, ◌++◌, map, filter, find, length, slice_get, ℕ, zero, suc, Any, Option, Some, None}
 use Rattle.std.proofs.Common.{is_some, IsSome, IsTrue, IfOk, Result, Ok, Err, not, ◌↔◌, ◌⊎◌, inl, inr, refl, sym, ap, ◌∙◌, subst, arith}
-use Rattle.std.specs.Prelude.{unwrap_or}
+use Rattle.std.specs.Prelude.{unwrap_or, ◌&&◌}
 use Rattle.std.specs.List.{AllByRecursion, AllZip}
 use Rattle.std.specs.Option.{option_map}
 use Rattle.std.specs.declared.cmp.Ordering.{Ordering}
@@ -15,10 +15,10 @@ use Rattle.fc_base.specs.Halves.{not_below}
 use Rattle.fc_base.specs.Joined.{placed, joined}
 use Rattle.fc_base.specs.OneKey.{put, cut}
 use Rattle.fc_base.specs.Parts.{below, above, at, value_at}
-use Rattle.fc_base.specs.Ranges.{within}
-use Rattle.fc_map.specs.Ranged.{outside}
+use Rattle.fc_base.specs.Ranges.{starts, stops, within}
+use Rattle.fc_map.specs.Ranged.{in_front, behind, outside, replacing}
 use Rattle.fc_set.specs.Items.{item_at, smaller, greater, not_smaller, without, AreAscending, with_item, with_replaced, joined_items}
-use Rattle.fc_set.specs.Items.{items_within, items_outside}
+use Rattle.fc_set.specs.Items.{items_within, items_outside, items_replacing}
 
 -- What holds of some item of a list holds of some item behind another one too.
 pub any_later : {T : Type 0} (P : T → Type 0) (x : T) (s : List T) → Any P s → Any P (x ∷ s)
@@ -69,6 +69,16 @@ module _ {T V : Type 0} where
   pub items_outside_keys : {Q : Type 0} (cmp : T → Q → Ordering) (lo hi : Bound Q) (s : List (T × V))
       → items_outside cmp lo hi (keys s) ≡ keys (outside cmp lo hi s)
   items_outside_keys cmp lo hi s = filter_keys _ s
+
+  pub items_replacing_keys : {Q : Type 0} (cmp : T → Q → Ordering) (lo hi : Bound Q) (stay s : List (T × V))
+      → items_replacing cmp lo hi (keys stay) (keys s) ≡ keys (replacing cmp lo hi stay s)
+  items_replacing_keys cmp lo hi stay s =
+      ap (λ l. l ++ (keys stay ++ keys_behind)) (filter_keys _ s) ∙ ap (λ l. keys (in_front cmp lo s) ++ (keys stay ++ l)) (filter_keys _ s)
+      ∙ ap (λ l. keys (in_front cmp lo s) ++ l) (sym (map-append (λ e. e.0) stay (behind cmp lo hi s)))
+      ∙ sym (map-append (λ e. e.0) (in_front cmp lo s) (stay ++ behind cmp lo hi s))
+    where
+      keys_behind : List T
+      keys_behind = filter (λ x. starts cmp lo x && not (stops cmp hi x)) (keys s)
 
   module _ (cmp : T → T → Ordering) where
     around : (s : List (T × V)) (x : T) (e : T × V) → smaller cmp (keys s) x ++ e.0 ∷ greater cmp (keys s) x ≡ keys (below cmp s x ++ e ∷ above cmp s x)

@@ -19,6 +19,19 @@ fn maps_cross_threads(rt: HostRuntime) {
 }
 
 #[test]
+fn walks_of_maps_cross_threads(rt: HostRuntime) {
+    let read = crosses::<Iter<'static, u64, u64>>() && crosses::<Range<'static, u64, u64>>();
+    let parts = crosses::<Keys<'static, u64, u64>>() && crosses::<Values<'static, u64, u64>>();
+    let written = crosses::<IterMut<'static, u64, u64>>()
+        && crosses::<ValuesMut<'static, u64, u64>>()
+        && crosses::<RangeMut<'static, u64, u64>>();
+    let owned = crosses::<IntoIter<u64, u64>>()
+        && crosses::<IntoKeys<u64, u64>>()
+        && crosses::<IntoValues<u64, u64>>();
+    assert!(rt; read && parts && written && owned);
+}
+
+#[test]
 fn entries_cross_threads(rt: HostRuntime) {
     let found = crosses::<Entry<'static, u64, u64>>()
         && crosses::<OccupiedEntry<'static, u64, u64>>();
