@@ -41,15 +41,14 @@ fn an_append_asks_the_maps_own_budget(rt: HostRuntime) -> Result<(), Fail> {
         out_of_append(&a, &b, CAPACITY, CAPACITY, 1)?,
         out_of_append(&a, &b, CAPACITY, 1, 2)?,
     ];
-    assert_eq!(rt;
-        seen,
-        [
+    assert!(rt;
+        seen == [
             (true, (0, LEAF)),
             (true, (LEAF + INNER, LEAF)),
             (true, (2 * LEAF + INNER, 0))
         ]
     );
-    assert_eq!(rt; out(&a, &b), (0, 0));
+    assert!(rt; out(&a, &b) == (0, 0));
     Ok(())
 }
 
@@ -79,11 +78,8 @@ fn what_came_from_another_budget_grows_in_its_own(rt: HostRuntime) -> Result<(),
         out_behind_append(&a, &b)?,
         out_behind_append_of_sets(&a, &b)?,
     );
-    assert_eq!(rt;
-        seen,
-        ((LEAF + INNER, LEAF), (SET_LEAF + SET_INNER, SET_LEAF))
-    );
-    assert_eq!(rt; out(&a, &b), (0, 0));
+    assert!(rt; seen == ((LEAF + INNER, LEAF), (SET_LEAF + SET_INNER, SET_LEAF)));
+    assert!(rt; out(&a, &b) == (0, 0));
     Ok(())
 }
 
@@ -127,8 +123,8 @@ fn operations_ask_the_budget_of_their_left_side(rt: HostRuntime) -> Result<(), F
     let (is_whole, joined) = out_of_set_append(&a, &b)?;
     let seen = out_of_operators(&a, &b)?;
     assert!(rt; is_whole && joined == (2 * SET_LEAF + SET_INNER, 0));
-    assert_eq!(rt; seen, [(2 * SET_LEAF, SET_LEAF); 4]);
-    assert_eq!(rt; out(&a, &b), (0, 0));
+    assert!(rt; seen == [(2 * SET_LEAF, SET_LEAF); 4]);
+    assert!(rt; out(&a, &b) == (0, 0));
     Ok(())
 }
 
@@ -150,8 +146,5 @@ fn each_of_two_insertions_asks_its_maps_own_budget(rt: HostRuntime) {
         out_of_both(&a, &none),
         out_of_both(&none, &b),
     ];
-    assert_eq!(rt;
-        seen,
-        [(true, (LEAF, LEAF)), (false, (0, 0)), (false, (0, 0))]
-    );
+    assert!(rt; seen == [(true, (LEAF, LEAF)), (false, (0, 0)), (false, (0, 0))]);
 }

@@ -13,7 +13,7 @@ use std::test::Fail;
 fn a_budget_of_4096_bytes_has_room_for_114_pairs(rt: HostRuntime) {
     let budget = Budget::new(rt.alloc(), 4096);
     let seen = filled(&budget);
-    assert_eq!(rt; (seen, budget.used()), ((114, 114), 0));
+    assert!(rt; (seen, budget.used()) == ((114, 114), 0));
 }
 
 #[test]
@@ -34,7 +34,7 @@ fn a_budget_is_used_up_to_the_byte(rt: HostRuntime) {
         let budget = Budget::new(rt.alloc(), caps[i]);
         seen[i] = filled(&budget).0;
     }
-    assert_eq!(rt; seen, [0, 0, 15, 15, 24, 24, 33, 0]);
+    assert!(rt; seen == [0, 0, 15, 15, 24, 24, 33, 0]);
 }
 
 fn goes_in(map: &mut Numbers<'_>, number: u64) -> bool {
@@ -70,11 +70,8 @@ fn two_maps_and_a_set_share_a_budget(rt: HostRuntime) -> Result<(), Fail> {
     drop(a);
     drop(s);
     assert!(rt; is_full && third && left == LEAF);
-    assert_eq!(rt;
-        (first, second),
-        ((false, false, false), (true, false, false))
-    );
-    assert_eq!(rt; budget.used(), 0);
+    assert!(rt; (first, second) == ((false, false, false), (true, false, false)));
+    assert!(rt; budget.used() == 0);
     Ok(())
 }
 
@@ -91,11 +88,11 @@ fn a_map_over_a_budget_over_a_budget_takes_of_both(rt: HostRuntime) -> Result<()
     let wide = filled_below(&outer);
     let narrow_outer = Budget::new(rt.alloc(), LEAF);
     let narrow = filled_below(&narrow_outer);
-    assert_eq!(rt; (wide, narrow), ((114, 0), (15, 0)));
+    assert!(rt; (wide, narrow) == ((114, 0), (15, 0)));
     let inner = Budget::new(&outer, LEAF);
     let map = numbers(&inner, 0, CAPACITY, 1)?;
     let out = outer.used();
     drop(map);
-    assert_eq!(rt; (out, outer.used()), (LEAF, 0));
+    assert!(rt; (out, outer.used()) == (LEAF, 0));
     Ok(())
 }

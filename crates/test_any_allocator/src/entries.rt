@@ -99,11 +99,11 @@ fn least_of_each(budget: &Budget<Global>, way: Way) -> Result<[usize; 5], TryRes
 #[test]
 fn a_refused_entry_leaves_the_map(rt: HostRuntime) -> Result<(), Fail> {
     let budget = Budget::new(rt.alloc(), AMPLE);
-    assert_eq!(rt; least_of_each(&budget, Way::Vacant)?, OF_PAIRS);
-    assert_eq!(rt; least_of_each(&budget, Way::OrInsert)?, OF_PAIRS);
-    assert_eq!(rt; least_of_each(&budget, Way::OrInsertWith)?, OF_PAIRS);
-    assert_eq!(rt; least_of_each(&budget, Way::Ready)?, OF_PAIRS);
-    assert_eq!(rt; budget.used(), 0);
+    assert!(rt; least_of_each(&budget, Way::Vacant)? == OF_PAIRS);
+    assert!(rt; least_of_each(&budget, Way::OrInsert)? == OF_PAIRS);
+    assert!(rt; least_of_each(&budget, Way::OrInsertWith)? == OF_PAIRS);
+    assert!(rt; least_of_each(&budget, Way::Ready)? == OF_PAIRS);
+    assert!(rt; budget.used() == 0);
     Ok(())
 }
 
@@ -140,8 +140,8 @@ fn an_entry_that_was_made_ready_takes_nothing_more(rt: HostRuntime) -> Result<()
     let out = budget.used().wrapping_sub(before);
     drop(map);
     assert!(rt; is_right);
-    assert_eq!(rt; (taken, out), (LEAF + 2 * INNER, LEAF + 2 * INNER));
-    assert_eq!(rt; budget.used(), 0);
+    assert!(rt; (taken, out) == (LEAF + 2 * INNER, LEAF + 2 * INNER));
+    assert!(rt; budget.used() == 0);
     Ok(())
 }
 
@@ -170,6 +170,6 @@ fn nodes_that_are_not_used_go_back_to_the_budget(rt: HostRuntime) -> Result<(), 
     let is_right = is_back && holds(&map, 0, TWO_LEVELS, 1);
     drop(map);
     assert!(rt; is_right);
-    assert_eq!(rt; (after, budget.used()), (before, 0));
+    assert!(rt; (after, budget.used()) == (before, 0));
     Ok(())
 }

@@ -107,12 +107,12 @@ fn least_of_each(budget: &Budget<Global>, way: Way) -> Result<[usize; 4], TryRes
 #[test]
 fn a_refused_call_leaves_the_vector(rt: HostRuntime) -> Result<(), Fail> {
     let budget = Budget::new(rt.alloc(), AMPLE);
-    assert_eq!(rt; least_of_each(&budget, Way::Push)?, [32, 64, 0, 128]);
-    assert_eq!(rt; least_of_each(&budget, Way::Insert)?, [32, 64, 0, 128]);
-    assert_eq!(rt; least_of_each(&budget, Way::Append)?, [32, 64, 0, 128]);
-    assert_eq!(rt; least_of_each(&budget, Way::Extend)?, [32, 64, 0, 128]);
-    assert_eq!(rt; least_of_each(&budget, Way::Copy)?, [0, 32, 40, 64]);
-    assert_eq!(rt; budget.used(), 0);
+    assert!(rt; least_of_each(&budget, Way::Push)? == [32, 64, 0, 128]);
+    assert!(rt; least_of_each(&budget, Way::Insert)? == [32, 64, 0, 128]);
+    assert!(rt; least_of_each(&budget, Way::Append)? == [32, 64, 0, 128]);
+    assert!(rt; least_of_each(&budget, Way::Extend)? == [32, 64, 0, 128]);
+    assert!(rt; least_of_each(&budget, Way::Copy)? == [0, 32, 40, 64]);
+    assert!(rt; budget.used() == 0);
     Ok(())
 }
 
@@ -127,7 +127,7 @@ fn a_vector_is_made_where_its_bytes_fit(rt: HostRuntime) {
     let numbers = [1, 2, 3, 4, 5, 6, 7, 8, 9, 10];
     let narrow = Budget::new(rt.alloc(), 79);
     let wide = Budget::new(rt.alloc(), 80);
-    assert_eq!(rt; are_made(&narrow, &numbers), (false, false));
-    assert_eq!(rt; are_made(&wide, &numbers), (true, true));
-    assert_eq!(rt; (narrow.used(), wide.used()), (0, 0));
+    assert!(rt; are_made(&narrow, &numbers) == (false, false));
+    assert!(rt; are_made(&wide, &numbers) == (true, true));
+    assert!(rt; (narrow.used(), wide.used()) == (0, 0));
 }

@@ -46,8 +46,8 @@ fn a_refused_append_leaves_both_maps(rt: HostRuntime) -> Result<(), Fail> {
         least_of_joining(&budget, 5)?,
         least_of_joining(&budget, 85)?,
     ];
-    assert_eq!(rt; seen, [0, NODE + LEAF, 12 * NODE + 11 * LEAF + INNER]);
-    assert_eq!(rt; budget.used(), 0);
+    assert!(rt; seen == [0, NODE + LEAF, 12 * NODE + 11 * LEAF + INNER]);
+    assert!(rt; budget.used() == 0);
     Ok(())
 }
 
@@ -88,11 +88,8 @@ fn a_refused_append_leaves_both_sets(rt: HostRuntime) -> Result<(), Fail> {
         least_of_set_joining(&budget, 5)?,
         least_of_set_joining(&budget, 85)?,
     ];
-    assert_eq!(rt;
-        seen,
-        [0, NODE + SET_LEAF, 12 * NODE + 11 * SET_LEAF + SET_INNER]
-    );
-    assert_eq!(rt; budget.used(), 0);
+    assert!(rt; seen == [0, NODE + SET_LEAF, 12 * NODE + 11 * SET_LEAF + SET_INNER]);
+    assert!(rt; budget.used() == 0);
     Ok(())
 }
 
@@ -126,8 +123,8 @@ fn a_refused_split_leaves_the_map(rt: HostRuntime) -> Result<(), Fail> {
     for i in 0..4 {
         seen[i] = least_of_cutting(&budget, [0, 5, 20, 80][i])?;
     }
-    assert_eq!(rt; seen, [0, LEAF, LEAF + INNER, LEAF + 2 * INNER]);
-    assert_eq!(rt; budget.used(), 0);
+    assert!(rt; seen == [0, LEAF, LEAF + INNER, LEAF + 2 * INNER]);
+    assert!(rt; budget.used() == 0);
     Ok(())
 }
 
@@ -159,11 +156,8 @@ fn a_refused_split_leaves_the_set(rt: HostRuntime) -> Result<(), Fail> {
     for i in 0..4 {
         seen[i] = least_of_set_cutting(&budget, [0, 5, 20, 80][i])?;
     }
-    assert_eq!(rt;
-        seen,
-        [0, SET_LEAF, SET_LEAF + SET_INNER, SET_LEAF + 2 * SET_INNER]
-    );
-    assert_eq!(rt; budget.used(), 0);
+    assert!(rt; seen == [0, SET_LEAF, SET_LEAF + SET_INNER, SET_LEAF + 2 * SET_INNER]);
+    assert!(rt; budget.used() == 0);
     Ok(())
 }
 
@@ -198,8 +192,8 @@ fn a_refused_copy_of_a_map_is_given_back(rt: HostRuntime) -> Result<(), Fail> {
         least_of_copying(&budget, CAPACITY)?,
         least_of_copying(&budget, 100)?,
     ];
-    assert_eq!(rt; seen, [0, LEAF, 11 * LEAF + INNER]);
-    assert_eq!(rt; budget.used(), 0);
+    assert!(rt; seen == [0, LEAF, 11 * LEAF + INNER]);
+    assert!(rt; budget.used() == 0);
     Ok(())
 }
 
@@ -232,7 +226,7 @@ fn a_refused_copy_of_a_set_is_given_back(rt: HostRuntime) -> Result<(), Fail> {
         least_of_set_copying(&budget, CAPACITY)?,
         least_of_set_copying(&budget, 100)?,
     ];
-    assert_eq!(rt; seen, [0, SET_LEAF, 11 * SET_LEAF + SET_INNER]);
-    assert_eq!(rt; budget.used(), 0);
+    assert!(rt; seen == [0, SET_LEAF, 11 * SET_LEAF + SET_INNER]);
+    assert!(rt; budget.used() == 0);
     Ok(())
 }
