@@ -6,3 +6,4 @@ pub mod Opened
 pub mod Passing
 pub mod Meeting
 pub mod Settling
+pub mod Bordering

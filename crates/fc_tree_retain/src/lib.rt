@@ -5,3 +5,4 @@ mod mending;
 pub mod retain;
 mod sieve;
 mod sifting;
+mod within;
