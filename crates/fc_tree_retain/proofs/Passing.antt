@@ -1,7 +1,7 @@
 -- A walk over the pairs of a node, of which some do not stay.
 use Rattle.std.proofs.Common.{◌≡◌, ℕ, suc, zero, ◌+◌, ◌<◌, ◌≤◌, List, [], ◌∷◌, ◌++◌, length, get_or, map, take, drop, refl, sym, ap, subst, ◌∙◌, arith}
-use Rattle.std.proofs.Common.{append_assoc, append-nil, Option}
-use Rattle.std.specs.Prelude.{Bool, true, false, slice_set}
+use Rattle.std.proofs.Common.{append_assoc, append-nil, Option, Some, None, MatchOption, inr}
+use Rattle.std.specs.Prelude.{Bool, true, false, slice_set, ⊤}
 use Rattle.std.specs.List.{AllByRecursion, remove}
 use Rattle.std.specs.Option.{option_to_list}
 use Rattle.std.proofs.lemmas.List.{length-map, map-append, length-append}
@@ -19,10 +19,11 @@ use Rattle.fc_tree_search.specs.Written.{set_value, with_value}
 use Rattle.fc_tree_search.proofs.WrittenPairs.{value_own, value_children, length_value}
 use Rattle.fc_tree_removal.proofs.Removed.{take_set, drop_set, at_set}
 use Rattle.fc_tree_retain.specs.Loose.{IsLoose}
+use Rattle.fc_tree_retain.specs.Mending.{IsThin}
 use Rattle.fc_tree_retain.specs.Retained.{RetainsInTurn}
 use Rattle.fc_tree_retain.specs.Sifted.{IsPassed, IsOwnPassed}
 use Rattle.fc_tree_retain.specs.Stretch.{IsPartSifted}
-use Rattle.fc_tree_retain.proofs.Levels.{loose_child}
+use Rattle.fc_tree_retain.proofs.Levels.{loose_child, only_thin}
 use Rattle.fc_tree_retain.proofs.Lists.{at_place, drop_place, set_place, remove_place}
 use Rattle.fc_tree_retain.proofs.Turns.{retains_join, retains_one, retains_none}
 use Rattle.fc_tree_retain.proofs.Opened.{IsOpenAt, open_before, open_child, open_after, open_inner, open_next, before_next, opened_two}
@@ -43,6 +44,11 @@ module _ {K V : Type 0} where
   empty_list : (xs : List (K × V)) → length xs ≡ 0 → xs ≡ []
   empty_list [] e = refl
   empty_list (x ∷ xs) e = absurd (omega arith)
+
+-- what holds where there is nothing
+pub if_none : {X P Q : Type 0} (r : Option X) → (P → Q) → MatchOption r P (λ _. ⊤) → MatchOption r Q (λ _. ⊤)
+if_none None f p = f p
+if_none (Some x) f p = p
 
 module _ {K V Z : Type 0} where
   get_any : (xs : List (Node K V Z)) (i : ℕ) (d e : Node K V Z) → i < length xs → get_or xs i d ≡ get_or xs i e
@@ -176,6 +182,15 @@ module _ {K V Z : Type 0} where
   pub last_loose : (h : ℕ) (old mid d c : Node K V Z) (i : ℕ) → IsLastLent old mid d c i → ((g : ℕ) → IsLoose g d → IsLoose g c) → IsLoose h old → IsLoose h mid
   last_loose h old mid d c i l lo b = let e = l.last in child_loose h old mid d c i l.inner (omega arith) l.is l.set lo b
 
+  pub last_thin : (h : ℕ) (old mid d c : Node K V Z) → IsLastLent old mid d c 0 → ((g : ℕ) → IsThin g d → IsThin g c) → IsThin h old → IsThin h mid
+  last_thin zero old mid d c l lo t = absurd (leaf_or_inner old t.1 l.inner)
+  last_thin (suc h) old mid d c l lo t =
+      let m = last_left old mid d c 0 l in
+      let none = l.last in
+      let o : length (own_pairs mid) ≡ length (own_pairs old) = ap length m.own in
+      let f = t.0 in
+      (omega arith, m.inner, inr (omega arith, subst (IsThin h) (sym m.child) (lo h (subst (IsThin h) (sym l.is) (only_thin h old t)))))
+
   -- the own last pair, and an empty child behind it
   pub record IsEndOff (old new : Node K V Z) (x : K × V) : Type 0 where
     pub pairs : pairs_of old ≡ pairs_of new ++ x ∷ []
@@ -221,14 +236,14 @@ module _ {S K V : Type 0} (R : S → K × V → S → V → Bool → Type 0) whe
     pub left_is : length rest ≡ last + left
     pub sifts : RetainsInTurn R s seen t stay
 
-  pub leaf_start : (s : S) (first rest : List (K × V)) (at last left : ℕ) → length first ≡ at → length rest ≡ last + left
-      → IsLeafSifted first last s s (first ++ rest) (first ++ rest) at left
-  leaf_start s first rest at last left p e = record {
+  pub leaf_start : (s : S) (xs first rest : List (K × V)) (at last left : ℕ) → xs ≡ first ++ rest → length first ≡ at → length rest ≡ last + left
+      → IsLeafSifted first last s s xs xs at left
+  leaf_start s xs first rest at last left is p e = record {
     seen = [];
     stay = [];
     rest = rest;
-    old_is = refl;
-    now_is = ap (λ xs. xs ++ rest) (sym (append-nil first));
+    old_is = is;
+    now_is = is ∙ ap (λ zs. zs ++ rest) (sym (append-nil first));
     place = ap length (append-nil first) ∙ p;
     left_is = e;
     sifts = retains_none R s;
@@ -440,12 +455,12 @@ module _ {S K V Z : Type 0} (R : S → K × V → S → V → Bool → Type 0) w
       let few = p.few in
       let fits = l.0 in
       let cs = children_of old in
-      let parts = λ k. subst (AllByRecursion (IsLoose h)) (sym (take_drop k cs)) l.2 in (
+      let front = all_front (IsLoose h) (take i cs) (drop i cs) (subst (AllByRecursion (IsLoose h)) (sym (take_drop i cs)) l.2) in
+      let back = all_back (IsLoose h) (take (suc i) cs) (drop (suc i) cs) (subst (AllByRecursion (IsLoose h)) (sym (take_drop (suc i) cs)) l.2) in (
         omega arith,
         p.inner,
-        subst (AllByRecursion (IsLoose h)) (sym p.children) (all_both (IsLoose h) (take i cs) _ (all_front (IsLoose h) (take i cs) (drop i cs) (parts i))
-            (all_both (IsLoose h) p.kept _ (p.levels h (loose_child h old i l (omega arith))) (all_back (IsLoose h) (take (suc i) cs) (drop (suc i) cs)
-            (parts (suc i))))),
+        subst (AllByRecursion (IsLoose h)) (sym p.children) (all_both (IsLoose h) (take i cs) _ front (all_both (IsLoose h) p.kept _
+            (p.levels h (loose_child h old i l (omega arith))) back)),
       )
 
   -- the pairs before a child were asked

@@ -1,6 +1,7 @@
 //! The pairs between two gaps that are not to stay taken out of a tree, of which only the nodes between these are seen, and mended.
 ghost use Rattle.std.specs.Prelude.{◌≡◌, ℕ, ◌+◌, ◌<◌, ◌≤◌, [], ◌++◌, length, drop, slice_index_or, MatchOption, ⊤};
 ghost use Rattle.std.specs.Option.{option_to_list};
+ghost use Rattle.fc_base.specs.Sizes.{capacity};
 ghost use Rattle.fc_tree_node.specs.Node.{own_pairs, child_at, pairs_of, IsInner, IsLevelled};
 ghost use Rattle.fc_tree_retain.specs.Loose.{IsLoose};
 ghost use Rattle.fc_tree_retain.specs.Mending.{IsThin};
@@ -96,6 +97,7 @@ fn sift_behind<K: Drop, V: Drop, S: Sieve<K, V>, A: Handle>(
     sieve: &mut S,
 ) -> usize
     requires thin { (h : ℕ) × IsThin h (child_at node.old at) }
+    requires fits { length (own_pairs node.old) ≤ capacity }
     requires inside { at < length (own_pairs node.old) }
     requires inner { IsInner node.old }
     requires callable { S.callable sieve.old }

@@ -11,7 +11,8 @@ loop-init g c =
       callable = c.requires.callable;
       loose = c.requires.leaf;
       at =
-          leaf_start (SiftsPair g.S.Sieve.asked g.S.Sieve.given) c.args.sieve.now [] (own_pairs c.args.node.now) 0 0 (c.len-end.result - 0) refl (omega arith);
+          leaf_start (SiftsPair g.S.Sieve.asked g.S.Sieve.given) c.args.sieve.now (own_pairs c.args.node.now) [] (own_pairs c.args.node.now) 0 0
+          (c.len-end.result - 0) refl refl (omega arith);
     }
 
 pub sift_own-at-requires-clause-inside : goal.sift_own-at-requires-clause-inside
