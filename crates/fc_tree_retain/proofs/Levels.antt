@@ -16,7 +16,7 @@ use Rattle.fc_tree_retain.specs.Loose.{IsLoose}
 use Rattle.fc_tree_retain.specs.Mending.{IsThin, IsSeam}
 
 module _ {K V Z : Type 0} where
-  each : (P Q : Node K V Z → Type 0) → ((c : Node K V Z) → P c → Q c) → (cs : List (Node K V Z)) → AllByRecursion P cs → AllByRecursion Q cs
+  pub each : (P Q : Node K V Z → Type 0) → ((c : Node K V Z) → P c → Q c) → (cs : List (Node K V Z)) → AllByRecursion P cs → AllByRecursion Q cs
   each P Q f [] a = tt
   each P Q f (c ∷ cs) a = (f c a.0, each P Q f cs a.1)
 

@@ -7,3 +7,4 @@ pub mod Passing
 pub mod Meeting
 pub mod Settling
 pub mod Bordering
+pub mod Stretching
