@@ -14,7 +14,7 @@ use Rattle.fc_tree_node.proofs.Lists.{take_nil, drop_nil, length_take, take_drop
 use Rattle.fc_tree_node.proofs.Pairs.{leaf_children, leaf_pairs, child_below}
 use Rattle.fc_tree_node.proofs.Made.{IsChildSet}
 use Rattle.fc_tree_node.proofs.Gaps.{drop_item, drop_all, inner_gap, after_none}
-use Rattle.fc_tree_removal.proofs.Removed.{take_set, drop_set, none_leaf, opened_child}
+use Rattle.fc_tree_removal.proofs.Removed.{IsAbove, take_set, drop_set, none_leaf}
 use Rattle.fc_tree_retain.specs.Mending.{IsThin}
 use Rattle.fc_tree_retain.specs.Retained.{RetainsInTurn}
 use Rattle.fc_tree_retain.specs.Sifted.{IsPassed}
@@ -86,7 +86,48 @@ module _ {K V Z : Type 0} where
       ∙ ap (λ cs. after_list (drop j (own_pairs n)) (map pairs_of cs)) (ap (drop (suc j)) (leaf_children n l) ∙ drop_nil (suc j))
       ∙ after_nothing (drop j (own_pairs n))
 
+module _ {K V Z : Type 0} where
+  pub level_above : (h : ℕ) (n : Node K V Z) → (IsLeaf n → ⊥) → IsLevelled h n → IsAbove h n
+  level_above zero n f l = absurd (f l.1)
+  level_above (suc h) n f l = record { below = h; height = refl; levels = l; inner = l.1 }
+
+  -- two ends in a node with children, and the places where they begin
+  pub record AreEnds (h : ℕ) (front back : List ℕ) (n : Node K V Z) (i j : ℕ) : Type 0 where
+    pub below : ℕ
+    pub height : h ≡ suc below
+    pub levels : IsLevelled (suc below) n
+    pub front_end : IsEnd (suc below) front n
+    pub back_end : IsEnd (suc below) back n
+    pub first : i ≡ get_or front 0 0
+    pub last : j ≡ get_or back 0 (length (own_pairs n))
+    pub order : i ≤ j
+    pub inside : j ≤ length (own_pairs n)
+
+  pub ends_above : (h : ℕ) (front back : List ℕ) (n : Node K V Z) (i j m : ℕ) → (IsLeaf n → ⊥) → IsLevelled h n → IsEnd h front n → IsEnd h back n
+      → AreInOrder front back → i ≡ get_or front 0 0 → j ≡ get_or back 0 m → m ≡ length (own_pairs n) → AreEnds h front back n i j
+  ends_above h front back n i j m up l ef eb o ei ej em =
+      let a = level_above h n up l in
+      let last : j ≡ get_or back 0 (length (own_pairs n)) = ej ∙ ap (get_or back 0) em in
+      let le = ends_order h front back n ef o in
+      let inside = end_inside h back n (length (own_pairs n)) eb (omega arith) in
+      record {
+        below = a.below;
+        height = a.height;
+        levels = a.levels;
+        front_end = subst (λ k. IsEnd k front n) a.height ef;
+        back_end = subst (λ k. IsEnd k back n) a.height eb;
+        first = ei;
+        last = last;
+        order = omega arith;
+        inside = omega arith;
+      }
+
 module _ {S K V Z : Type 0} (R : S → K × V → S → V → Bool → Type 0) where
+  pub settled_stretch : (s t : S) (front back : List ℕ) (old mid new : Node K V Z) → IsStretchSifted R s t front back old mid → pairs_of new ≡ pairs_of mid
+      → IsStretchSifted R s t front back old new
+  settled_stretch s t front back old mid new e q =
+      record { asked = e.asked; stay = e.stay; sifted = e.sifted; before = e.before; after = q ∙ e.after }
+
   pub leaf_stretch : (h : ℕ) (s t : S) (front back : List ℕ) (i j : ℕ) (old new : Node K V Z) → IsLeaf old → IsLeaf new → IsLevelled h old → IsEnd h front old
       → IsEnd h back old → i ≡ get_or front 0 0 → j ≡ get_or back 0 (length (own_pairs old)) → IsPartSifted R s t i j (own_pairs old) (own_pairs new)
       → IsStretchSifted R s t front back old new
@@ -201,7 +242,7 @@ module _ {S K V Z : Type 0} (R : S → K × V → S → V → Bool → Type 0) w
         }
 
     -- what is below the child goes on from there
-    pub stretching_end_below : (h m : ℕ) → IsEnd (suc h) front old → first ≡ get_or front 0 m → IsEnd h ahead c
+    stretching_end_below : (h m : ℕ) → IsEnd (suc h) front old → first ≡ get_or front 0 m → IsEnd h ahead c
     stretching_end_below h m e f = go x.onward
       where
         go : (ahead ≡ []) ⊎ ((counter ≡ first) × (ahead ≡ drop 1 front)) → IsEnd h ahead c
@@ -215,6 +256,19 @@ module _ {S K V Z : Type 0} (R : S → K × V → S → V → Bool → Type 0) w
         go : (ahead ≡ []) ⊎ ((counter ≡ first) × (ahead ≡ drop 1 front)) → AreInOrder ahead (drop 1 back)
         go (inl n) = subst (λ p. AreInOrder p (drop 1 back)) (sym n) tt
         go (inr (q, n)) = subst (λ p. AreInOrder p (drop 1 back)) (sym n) (order_onward front back m o (sym f ∙ sym q ∙ g))
+
+    pub stretching_onward : (h : ℕ) (d : Node K V Z) → IsLevelled (suc h) old → IsEnd (suc h) front old → first ≡ get_or front 0 0 → d ≡ child_at now at
+        → IsLevelled h d × IsEnd h ahead d
+    stretching_onward h d l e f q =
+        let is : d ≡ c = q ∙ stretching_lent.is in (
+          subst (IsLevelled h) (sym is) (child_below h old counter l x.inside).1,
+          subst (IsEnd h ahead) (sym is) (stretching_end_below h 0 e f),
+        )
+
+    pub stretching_back : (h m : ℕ) (d : Node K V Z) (back : List ℕ) → IsEnd (suc h) back old → counter ≡ get_or back 0 m → d ≡ child_at now at
+        → IsEnd h (drop 1 back) d
+    stretching_back h m d back e f q = subst (IsEnd h (drop 1 back)) (sym (q ∙ stretching_lent.is))
+        (subst (λ i. IsEnd h (drop 1 back) (child_at old i)) (sym f) (end_below h back old m e))
 
     -- the child came back
     module _ (u : S) (mid dold dnew : Node K V Z) (is : dold ≡ child_at now at) (m : IsChildSet now mid at dnew)
