@@ -8,3 +8,4 @@ pub mod Meeting
 pub mod Settling
 pub mod Bordering
 pub mod Stretching
+pub mod Between

@@ -25,7 +25,7 @@ use Rattle.fc_tree_retain.proofs.Opened.{IsOpenAt, open_child, open_after, open_
 use Rattle.fc_tree_retain.proofs.Passing.{IsChildLeft, child_left}
 use Rattle.fc_tree_retain.proofs.Turns.{retains_join, retains_none}
 
-no_steps : (path : List ℕ) → length path ≡ 0 → path ≡ []
+pub no_steps : (path : List ℕ) → length path ≡ 0 → path ≡ []
 no_steps [] e = refl
 no_steps (i ∷ path) e = absurd (omega arith)
 
@@ -209,7 +209,7 @@ module _ {S K V Z : Type 0} (R : S → K × V → S → V → Bool → Type 0) w
     abbrev D : List (Node K V Z)
     D = drop (suc counter) (children_of old)
 
-    pub stretching_open : IsOpenAt now at A c D x.own_done (drop counter (own_pairs old))
+    stretching_open : IsOpenAt now at A c D x.own_done (drop counter (own_pairs old))
     stretching_open =
         let k : length (children_of old) ≡ length (own_pairs old) + 1 = x.inner in
         let le = x.inside in

@@ -116,7 +116,10 @@ fn sift_between<K: Drop, V: Drop, S: Sieve<K, V>, A: Handle>(
 }
 
 // Takes the child at `index` out, and the pair behind it.
-pub(crate) fn remove_behind<K: Drop, V: Drop, A: Handle>(node: &mut Node<K, V, A>, index: usize) -> (K, V)
+pub(crate) fn remove_behind<K: Drop, V: Drop, A: Handle>(
+    node: &mut Node<K, V, A>,
+    index: usize,
+) -> (K, V)
     requires inside { index < length (own_pairs node.old) }
     requires inner { IsInner node.old }
     ensures value { result ≡ slice_index_or (own_pairs node.old) index result }

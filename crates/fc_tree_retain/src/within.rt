@@ -44,7 +44,12 @@ pub(crate) fn sift_within<K: Drop, V: Drop, S: Sieve<K, V>, A: Handle>(
         at = sift_behind(node, at, sieve);
         ahead = &[];
     }
-    sift_within(content(&mut node.children).get_mut(at), ahead, rest_of(back), sieve);
+    sift_within(
+        content(&mut node.children).get_mut(at),
+        ahead,
+        rest_of(back),
+        sieve,
+    );
     settle_between(node, start, at);
 }
 

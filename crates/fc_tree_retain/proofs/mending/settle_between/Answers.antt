@@ -11,9 +11,11 @@ loop-init g c =
 
 pub settle-at-requires : goal.settle-at-requires
 settle-at-requires g c =
-    let test = c.loop-test.true in
-    (c.requires.0, (bordering_seam c.args.node.now c.loop.node c.args.first c.args.last c.loop.at _ (c.args.last - (c.loop.counter + 1)) c.loop.invariant
-    (omega arith) c.requires.0 c.requires.1).seam)
+    let test = c.loop-test.true in (
+      c.requires.0,
+      (bordering_seam c.args.node.now c.loop.node c.args.first c.args.last c.loop.at _ (c.args.last - (c.loop.counter + 1)) c.loop.invariant
+          (omega arith) c.requires.0 c.requires.1).seam,
+    )
 
 pub loop-preserved : goal.loop-preserved
 loop-preserved g c =
@@ -30,9 +32,11 @@ done g c =
 pub settle-requires : goal.settle-requires
 settle-requires g c =
     let v = c.len.ensures.value in
-    let lt = c.if-at-len.true in
-    (c.requires.0, (bordering_last c.args.node.now c.loop.node c.args.first c.args.last c.loop.at
-    (done g (goal.at.settle-requires g c).After-loop) (omega arith) c.requires.0 c.requires.1).0.seam)
+    let lt = c.if-at-len.true in (
+      c.requires.0,
+      (bordering_last c.args.node.now c.loop.node c.args.first c.args.last c.loop.at
+          (done g (goal.at.settle-requires g c).After-loop) (omega arith) c.requires.0 c.requires.1).0.seam,
+    )
 
 pub returns-then-at-len-clause-thin : goal.returns-then-at-len-clause-thin
 returns-then-at-len-clause-thin g c h t =

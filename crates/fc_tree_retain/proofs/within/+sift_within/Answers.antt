@@ -67,9 +67,11 @@ pub sift_behind-at-requires-clause-thin : goal.sift_behind-at-requires-clause-th
 sift_behind-at-requires-clause-thin g t c =
     let w = goal.at.sift_behind-at-requires-clause-thin g t c in
     let e = ends g t w.Else-is_leaf in
-    let m = child_set c.loop.node _ c.loop.at c.sift_within.new.node c.content.ensures.value in
-    (e.below, back_thin (SiftsPair g.S.Sieve.asked g.S.Sieve.given) _ _ _ _ _ _ _ _ _ c.loop.invariant.at c.sift_within.new.sieve _ _ _
-    (lent g t w.After-get_mut) m c.sift_within.ensures.thin e.below e.levels)
+    let m = child_set c.loop.node _ c.loop.at c.sift_within.new.node c.content.ensures.value in (
+      e.below,
+      back_thin (SiftsPair g.S.Sieve.asked g.S.Sieve.given) _ _ _ _ _ _ _ _ _ c.loop.invariant.at c.sift_within.new.sieve _ _ _
+          (lent g t w.After-get_mut) m c.sift_within.ensures.thin e.below e.levels,
+    )
 
 pub sift_behind-at-requires-clause-fits : goal.sift_behind-at-requires-clause-fits
 sift_behind-at-requires-clause-fits g t c =
@@ -137,9 +139,11 @@ pub settle_between-requires : goal.settle_between-requires
 settle_between-requires g t c =
     let w = goal.at.settle_between-requires g t c in
     let e = ends g t w.Else-is_leaf in
-    let m = child_set c.loop.node _ c.loop.at c.sift_within-2.new.node c.content-2.ensures.value in
-    (e.below, stretching_thin (SiftsPair g.S.Sieve.asked g.S.Sieve.given) _ _ _ _ _ _ _ _ _ c.loop.invariant.at c.sift_within-2.new.sieve _ _ _
-    (lent_last g t w.After-get_mut-2) m c.sift_within-2.ensures.thin e.below e.levels)
+    let m = child_set c.loop.node _ c.loop.at c.sift_within-2.new.node c.content-2.ensures.value in (
+      e.below,
+      stretching_thin (SiftsPair g.S.Sieve.asked g.S.Sieve.given) _ _ _ _ _ _ _ _ _ c.loop.invariant.at c.sift_within-2.new.sieve _ _ _
+          (lent_last g t w.After-get_mut-2) m c.sift_within-2.ensures.thin e.below e.levels,
+    )
 
 pub returns-then-is_leaf-clause-thin : goal.returns-then-is_leaf-clause-thin
 returns-then-is_leaf-clause-thin g t c h l =
