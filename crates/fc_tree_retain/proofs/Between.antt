@@ -1,7 +1,7 @@
 -- The pairs of a tree between two gaps, some of which do not stay.
 use Rattle.std.proofs.Common.{◌≡◌, ℕ, suc, zero, ◌+◌, ◌-◌, ◌^◌, ◌<◌, ◌≤◌, List, [], ◌∷◌, ◌++◌, length, take, drop, refl, sym, ap, subst, ◌∙◌, arith, cond}
-use Rattle.std.proofs.Common.{append_assoc, append-nil, inl, inr, ◌⊎◌, Some, None}
-use Rattle.std.specs.Prelude.{Bool, true, false, slice_range, ⊤}
+use Rattle.std.proofs.Common.{append_assoc, inl, inr, ◌⊎◌, Some, None}
+use Rattle.std.specs.Prelude.{Bool, true, false, ⊤}
 use Rattle.std.specs.Bool.{MatchBool}
 use Rattle.std.specs.declared.cmp.Ordering.{Ordering}
 use Rattle.std.proofs.lemmas.Bool.{cases_lt}
@@ -9,15 +9,15 @@ use Rattle.std.proofs.lemmas.List.{length-append}
 use Rattle.fc_base.specs.Ascending.{IsAscending}
 use Rattle.fc_tree_node.specs.declared.node.Node.{Node}
 use Rattle.fc_tree_node.specs.LeafGap.{IsLeafGap}
-use Rattle.fc_tree_node.specs.Node.{own_pairs, child_at, pairs_of, IsLevelled}
-use Rattle.fc_tree_node.specs.Path.{IsPath, before_gap, after_gap}
+use Rattle.fc_tree_node.specs.Node.{child_at, pairs_of, IsLevelled}
+use Rattle.fc_tree_node.specs.Path.{IsPath, before_gap}
 use Rattle.fc_tree_node.specs.Place.{before_child}
 use Rattle.fc_tree_node.specs.Tree.{Map, entries, IsSoundMap}
 use Rattle.fc_tree_node.specs.TreePlace.{before_gap_in, after_gap_in}
 use Rattle.fc_tree_node.proofs.Pairs.{child_below}
 use Rattle.fc_tree_walk.specs.Gap.{AreEndsIn}
 use Rattle.fc_tree_walk.specs.Span.{between}
-use Rattle.fc_tree_walk.proofs.Bounds.{same_cut, gap_entries}
+use Rattle.fc_tree_walk.proofs.Bounds.{gap_entries}
 use Rattle.fc_tree_walk.proofs.Meetings.{earlier}
 use Rattle.fc_tree_retain.specs.Retained.{RetainsInTurn}
 use Rattle.fc_tree_retain.specs.Sifted.{SiftsPair}

@@ -1,4 +1,4 @@
-use Rattle.std.proofs.Common.{◌≡◌, ◌+◌, ◌-◌, suc, arith, subst, refl}
+use Rattle.std.proofs.Common.{◌≡◌, ◌+◌, ◌-◌, arith, subst}
 use Rattle.fc_tree_retain.proofs.Bordering.{IsBordering, bordering_start, bordering_seam, bordering_more, bordering_last, bordering_settled, bordering_end}
 use Rattle.fc_tree_retain.proofs.mending.settle_between.Given as given
 use Rattle.fc_tree_retain.proofs.mending.settle_between.Goals as goal

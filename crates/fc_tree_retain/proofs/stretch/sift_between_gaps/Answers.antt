@@ -1,4 +1,4 @@
-use Rattle.std.proofs.Common.{ℕ, ◌≤◌, Some, None, refl, sym, ap, subst, ◌∙◌}
+use Rattle.std.proofs.Common.{ℕ, ◌≤◌, Some, sym, subst, ◌∙◌}
 use Rattle.fc_base.specs.Sizes.{most_height}
 use Rattle.fc_tree_node.specs.Node.{IsLevelled}
 use Rattle.fc_tree_node.specs.Tree.{IsSoundMap}

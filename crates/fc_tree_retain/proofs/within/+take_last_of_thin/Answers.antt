@@ -1,4 +1,4 @@
-use Rattle.std.proofs.Common.{ℕ, suc, ◌<◌, Some, refl, rules, arith, sym, subst}
+use Rattle.std.proofs.Common.{ℕ, ◌<◌, Some, refl, rules, arith, sym, subst}
 use Rattle.std.specs.Prelude.{slice_set}
 use Rattle.std.proofs.lemmas.Bool.{false≢true}
 use Rattle.fc_tree_node.specs.declared.node.Node.{Node, roll-Node}
