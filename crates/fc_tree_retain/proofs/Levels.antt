@@ -4,7 +4,8 @@ use Rattle.std.specs.List.{AllByRecursion, remove}
 use Rattle.std.proofs.lemmas.List.Edits.{length-remove}
 use Rattle.fc_base.specs.Sizes.{capacity, min_len}
 use Rattle.fc_tree_node.specs.declared.node.Node.{Node, out-Node}
-use Rattle.fc_tree_node.specs.Node.{own_pairs, children_of, child_at, IsLeaf, IsInner, IsLevelled, IsSound}
+use Rattle.fc_tree_node.specs.Node.{own_pairs, children_of, child_at, IsLeaf, IsInner, IsLevelled, IsSound, IsSoundRoot}
+use Rattle.fc_tree_node.specs.Shrunk.{IsShrunk}
 use Rattle.fc_tree_node.specs.Siblings.{AreAlike, IsFormed}
 use Rattle.fc_tree_node.proofs.Formed.{leaf_or_inner}
 use Rattle.fc_tree_node.proofs.Pairs.{leaf_children}
@@ -15,7 +16,7 @@ use Rattle.fc_tree_retain.specs.Loose.{IsLoose}
 use Rattle.fc_tree_retain.specs.Mending.{IsThin, IsSeam}
 
 module _ {K V Z : Type 0} where
-  each : (P Q : Node K V Z → Type 0) → ((c : Node K V Z) → P c → Q c) → (cs : List (Node K V Z)) → AllByRecursion P cs → AllByRecursion Q cs
+  pub each : (P Q : Node K V Z → Type 0) → ((c : Node K V Z) → P c → Q c) → (cs : List (Node K V Z)) → AllByRecursion P cs → AllByRecursion Q cs
   each P Q f [] a = tt
   each P Q f (c ∷ cs) a = (f c a.0, each P Q f cs a.1)
 
@@ -132,3 +133,17 @@ module _ {K V Z : Type 0} where
   thin_heir zero n c e z t = absurd (let x : length (children_of n) ≡ 0 = ap length (leaf_children n t.1) in let y = ap length e in omega arith)
   thin_heir (suc h) n c e z (f, i, inl a) = record { below = h; height = refl; thin = levelled_thin h c (subst (AllByRecursion (IsSound h)) e a).0.1 }
   thin_heir (suc h) n c e z (f, i, inr t) = record { below = h; height = refl; thin = subst (IsThin h) (ap (λ cs. get_or cs 0 n) e) t.1 }
+
+  -- the first child of a node without pairs, which is no leaf
+  pub only_thin : (h : ℕ) (n : Node K V Z) → IsThin (suc h) n → IsThin h (child_at n 0)
+  only_thin h n (f, i, inl a) = levelled_thin h _ (all_at (IsSound h) (children_of n) 0 n
+      (let e : length (children_of n) ≡ length (own_pairs n) + 1 = i in omega arith) a).1
+  only_thin h n (f, i, inr t) = t.1
+
+  pub thin_first : (h : ℕ) (n : Node K V Z) → (IsLeaf n → ⊥) → IsThin h n → IsInner n × IsThinHeir h (child_at n 0)
+  thin_first zero n up t = absurd (up t.1)
+  thin_first (suc h) n up t = (t.1, record { below = h; height = refl; thin = only_thin h n t })
+
+  -- a pair was taken out of it
+  pub thin_shrunk : (h : ℕ) (old new : Node K V Z) → 1 ≤ length (own_pairs old) → ((g : ℕ) → IsSoundRoot g old → IsShrunk g old new) → IsThin h old → IsThin h new
+  thin_shrunk h old new some f t = levelled_thin h new (f h (some, thin_levelled h old some t)).0

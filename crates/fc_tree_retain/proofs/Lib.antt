@@ -6,3 +6,6 @@ pub mod Opened
 pub mod Passing
 pub mod Meeting
 pub mod Settling
+pub mod Bordering
+pub mod Stretching
+pub mod Between

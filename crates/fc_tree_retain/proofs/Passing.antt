@@ -1,7 +1,7 @@
 -- A walk over the pairs of a node, of which some do not stay.
 use Rattle.std.proofs.Common.{◌≡◌, ℕ, suc, zero, ◌+◌, ◌<◌, ◌≤◌, List, [], ◌∷◌, ◌++◌, length, get_or, map, take, drop, refl, sym, ap, subst, ◌∙◌, arith}
-use Rattle.std.proofs.Common.{append_assoc, append-nil, Option}
-use Rattle.std.specs.Prelude.{Bool, true, false, slice_set}
+use Rattle.std.proofs.Common.{append_assoc, append-nil, Option, Some, None, MatchOption, inr}
+use Rattle.std.specs.Prelude.{Bool, true, false, slice_set, ⊤}
 use Rattle.std.specs.List.{AllByRecursion, remove}
 use Rattle.std.specs.Option.{option_to_list}
 use Rattle.std.proofs.lemmas.List.{length-map, map-append, length-append}
@@ -9,7 +9,7 @@ use Rattle.fc_tree_node.specs.Weave.{weave, before_list, after_list}
 use Rattle.fc_tree_node.specs.declared.node.Node.{Node, out-Node}
 use Rattle.fc_tree_node.specs.Node.{own_pairs, children_of, child_at, pairs_of, IsInner}
 use Rattle.fc_tree_node.specs.Place.{before_child, after_child}
-use Rattle.fc_tree_node.proofs.Lists.{length_set, all_both, all_front, all_back, all_set}
+use Rattle.fc_tree_node.proofs.Lists.{take_drop, length_set, all_both, all_front, all_back, all_set}
 use Rattle.fc_tree_node.proofs.Weaves.{weave_parts}
 use Rattle.fc_tree_node.proofs.Pairs.{pairs_is}
 use Rattle.fc_tree_node.proofs.Made.{IsChildSet, field_made}
@@ -19,10 +19,12 @@ use Rattle.fc_tree_search.specs.Written.{set_value, with_value}
 use Rattle.fc_tree_search.proofs.WrittenPairs.{value_own, value_children, length_value}
 use Rattle.fc_tree_removal.proofs.Removed.{take_set, drop_set, at_set}
 use Rattle.fc_tree_retain.specs.Loose.{IsLoose}
+use Rattle.fc_tree_retain.specs.Mending.{IsThin}
 use Rattle.fc_tree_retain.specs.Retained.{RetainsInTurn}
 use Rattle.fc_tree_retain.specs.Sifted.{IsPassed, IsOwnPassed}
-use Rattle.fc_tree_retain.proofs.Levels.{loose_child}
-use Rattle.fc_tree_retain.proofs.Lists.{at_place, set_place, remove_place}
+use Rattle.fc_tree_retain.specs.Stretch.{IsPartSifted}
+use Rattle.fc_tree_retain.proofs.Levels.{loose_child, only_thin}
+use Rattle.fc_tree_retain.proofs.Lists.{at_place, drop_place, set_place, remove_place}
 use Rattle.fc_tree_retain.proofs.Turns.{retains_join, retains_one, retains_none}
 use Rattle.fc_tree_retain.proofs.Opened.{IsOpenAt, open_before, open_child, open_after, open_inner, open_next, before_next, opened_two}
 
@@ -42,6 +44,11 @@ module _ {K V : Type 0} where
   empty_list : (xs : List (K × V)) → length xs ≡ 0 → xs ≡ []
   empty_list [] e = refl
   empty_list (x ∷ xs) e = absurd (omega arith)
+
+-- what holds where there is nothing
+pub if_none : {X P Q : Type 0} (r : Option X) → (P → Q) → MatchOption r P (λ _. ⊤) → MatchOption r Q (λ _. ⊤)
+if_none None f p = f p
+if_none (Some x) f p = p
 
 module _ {K V Z : Type 0} where
   get_any : (xs : List (Node K V Z)) (i : ℕ) (d e : Node K V Z) → i < length xs → get_or xs i d ≡ get_or xs i e
@@ -175,6 +182,15 @@ module _ {K V Z : Type 0} where
   pub last_loose : (h : ℕ) (old mid d c : Node K V Z) (i : ℕ) → IsLastLent old mid d c i → ((g : ℕ) → IsLoose g d → IsLoose g c) → IsLoose h old → IsLoose h mid
   last_loose h old mid d c i l lo b = let e = l.last in child_loose h old mid d c i l.inner (omega arith) l.is l.set lo b
 
+  pub last_thin : (h : ℕ) (old mid d c : Node K V Z) → IsLastLent old mid d c 0 → ((g : ℕ) → IsThin g d → IsThin g c) → IsThin h old → IsThin h mid
+  last_thin zero old mid d c l lo t = absurd (leaf_or_inner old t.1 l.inner)
+  last_thin (suc h) old mid d c l lo t =
+      let m = last_left old mid d c 0 l in
+      let none = l.last in
+      let o : length (own_pairs mid) ≡ length (own_pairs old) = ap length m.own in
+      let f = t.0 in
+      (omega arith, m.inner, inr (omega arith, subst (IsThin h) (sym m.child) (lo h (subst (IsThin h) (sym l.is) (only_thin h old t)))))
+
   -- the own last pair, and an empty child behind it
   pub record IsEndOff (old new : Node K V Z) (x : K × V) : Type 0 where
     pub pairs : pairs_of old ≡ pairs_of new ++ x ∷ []
@@ -209,85 +225,117 @@ module _ {K V Z : Type 0} where
           (omega arith, omega arith, all_front (IsLoose h) (children_of new) (c ∷ []) (subst (AllByRecursion (IsLoose h)) f l.2))
 
 module _ {S K V : Type 0} (R : S → K × V → S → V → Bool → Type 0) where
-  -- the pairs of a leaf before a place were asked
-  pub record IsLeafSifted (s t : S) (old now : List (K × V)) (at left : ℕ) : Type 0 where
+  -- the pairs of a leaf before a place were asked, but for some first ones; so many last ones are not asked
+  pub record IsLeafSifted (first : List (K × V)) (last : ℕ) (s t : S) (old now : List (K × V)) (at left : ℕ) : Type 0 where
     pub seen : List (K × V)
     pub stay : List (K × V)
     pub rest : List (K × V)
-    pub old_is : old ≡ seen ++ rest
-    pub now_is : now ≡ stay ++ rest
-    pub place : length stay ≡ at
-    pub left_is : length rest ≡ left
+    pub old_is : old ≡ first ++ (seen ++ rest)
+    pub now_is : now ≡ (first ++ stay) ++ rest
+    pub place : length (first ++ stay) ≡ at
+    pub left_is : length rest ≡ last + left
     pub sifts : RetainsInTurn R s seen t stay
 
-  pub leaf_start : (s : S) (xs : List (K × V)) (left : ℕ) → length xs ≡ left → IsLeafSifted s s xs xs 0 left
-  leaf_start s xs left e = record { seen = []; stay = []; rest = xs; old_is = refl; now_is = refl; place = refl; left_is = e; sifts = retains_none R s }
+  pub leaf_start : (s : S) (xs first rest : List (K × V)) (at last left : ℕ) → xs ≡ first ++ rest → length first ≡ at → length rest ≡ last + left
+      → IsLeafSifted first last s s xs xs at left
+  leaf_start s xs first rest at last left is p e = record {
+    seen = [];
+    stay = [];
+    rest = rest;
+    old_is = is;
+    now_is = is ∙ ap (λ zs. zs ++ rest) (sym (append-nil first));
+    place = ap length (append-nil first) ∙ p;
+    left_is = e;
+    sifts = retains_none R s;
+  }
 
-  pub leaf_room : (s t : S) (old now : List (K × V)) (at left : ℕ) → IsLeafSifted s t old now at left → 0 < left → at < length now
-  leaf_room s t old now at left l some =
-      let e = ap length l.now_is ∙ length-append l.stay l.rest in
-      let p = l.place in
-      let q = l.left_is in
-      omega arith
+  module _ (first : List (K × V)) (last : ℕ) where
+    pub leaf_room : (s t : S) (old now : List (K × V)) (at left : ℕ) → IsLeafSifted first last s t old now at left → 0 < left → at < length now
+    leaf_room s t old now at left l some =
+        let e = ap length l.now_is ∙ length-append (first ++ l.stay) l.rest in
+        let p = l.place in
+        let q = l.left_is in
+        omega arith
 
-  pub leaf_end : (s t : S) (old now : List (K × V)) (at : ℕ) → IsLeafSifted s t old now at 0 → RetainsInTurn R s old t now
+    pub leaf_kept : (s t u : S) (old now new : List (K × V)) (at left left' : ℕ) (e : K × V) (w : V) → IsLeafSifted first last s t old now at left
+        → left ≡ left' + 1 → R t e u w true → e ≡ get_or now at e → new ≡ set_value now at w → IsLeafSifted first last s u old new (at + 1) left'
+    leaf_kept s t u old now new at left left' e w l k r q v = go l.rest l.left_is l.old_is l.now_is
+      where
+        go : (rest : List (K × V)) → length rest ≡ last + left → old ≡ first ++ (l.seen ++ rest) → now ≡ (first ++ l.stay) ++ rest
+            → IsLeafSifted first last s u old new (at + 1) left'
+        go [] z o n = absurd (omega arith)
+        go (x ∷ rest) z o n =
+            let is : e ≡ x = q ∙ ap (λ xs. get_or xs at e) n ∙ at_place (first ++ l.stay) rest x e at l.place in
+            let more = append_assoc first l.stay ((e.0, w) ∷ []) in
+            record {
+              seen = l.seen ++ e ∷ [];
+              stay = l.stay ++ (e.0, w) ∷ [];
+              rest = rest;
+              old_is = o ∙ ap (λ y. first ++ (l.seen ++ y ∷ rest)) (sym is) ∙ ap (λ ys. first ++ ys) (sym (append_assoc l.seen (e ∷ []) rest));
+              now_is = v ∙ ap (λ xs. set_value xs at w) (n ∙ ap (λ y. (first ++ l.stay) ++ y ∷ rest) (sym is))
+                  ∙ value_place (first ++ l.stay) rest e w at l.place ∙ sym (append_assoc (first ++ l.stay) ((e.0, w) ∷ []) rest)
+                  ∙ ap (λ xs. xs ++ rest) more;
+              place = ap length (sym more) ∙ length-append (first ++ l.stay) ((e.0, w) ∷ []) ∙ ap (λ k. k + 1) l.place;
+              left_is = omega arith;
+              sifts = retains_join R l.seen (e ∷ []) l.stay ((e.0, w) ∷ []) s t u l.sifts (retains_one R e t u w true r);
+            }
+
+    pub leaf_gone : (s t u : S) (old now new : List (K × V)) (at left left' : ℕ) (e : K × V) (w : V) → IsLeafSifted first last s t old now at left
+        → left ≡ left' + 1 → R t e u w false → e ≡ get_or now at e → new ≡ remove (set_value now at w) at → IsLeafSifted first last s u old new at left'
+    leaf_gone s t u old now new at left left' e w l k r q v = go l.rest l.left_is l.old_is l.now_is
+      where
+        go : (rest : List (K × V)) → length rest ≡ last + left → old ≡ first ++ (l.seen ++ rest) → now ≡ (first ++ l.stay) ++ rest
+            → IsLeafSifted first last s u old new at left'
+        go [] z o n = absurd (omega arith)
+        go (x ∷ rest) z o n =
+            let is : e ≡ x = q ∙ ap (λ xs. get_or xs at e) n ∙ at_place (first ++ l.stay) rest x e at l.place in
+            record {
+              seen = l.seen ++ e ∷ [];
+              stay = l.stay;
+              rest = rest;
+              old_is = o ∙ ap (λ y. first ++ (l.seen ++ y ∷ rest)) (sym is) ∙ ap (λ ys. first ++ ys) (sym (append_assoc l.seen (e ∷ []) rest));
+              now_is = v ∙ ap (λ xs. remove (set_value xs at w) at) (n ∙ ap (λ y. (first ++ l.stay) ++ y ∷ rest) (sym is))
+                  ∙ ap (λ xs. remove xs at) (value_place (first ++ l.stay) rest e w at l.place) ∙ remove_place (first ++ l.stay) rest (e.0, w) at l.place;
+              place = l.place;
+              left_is = omega arith;
+              sifts = subst (λ zs. RetainsInTurn R s (l.seen ++ e ∷ []) u zs) (append-nil l.stay)
+                  (retains_join R l.seen (e ∷ []) l.stay [] s t u l.sifts (retains_one R e t u w false r));
+            }
+
+    pub leaf_passed : (s t u : S) (old now new : List (K × V)) (at left left' j : ℕ) → IsLeafSifted first last s t old now at left → left ≡ left' + 1
+        → IsOwnPassed R t u at j now new → IsLeafSifted first last s u old new j left'
+    leaf_passed s t u old now new at left left' j l k (e, w, true, r, q, p) =
+        subst (λ i. IsLeafSifted first last s u old new i left') (sym p.0) (leaf_kept s t u old now new at left left' e w l k r q p.1)
+    leaf_passed s t u old now new at left left' j l k (e, w, false, r, q, p) =
+        subst (λ i. IsLeafSifted first last s u old new i left') (sym p.0) (leaf_gone s t u old now new at left left' e w l k r q p.1)
+
+  -- all of them were
+  pub leaf_end : (s t : S) (old now : List (K × V)) (at : ℕ) → IsLeafSifted [] 0 s t old now at 0 → RetainsInTurn R s old t now
   leaf_end s t old now at l =
       let z = empty_list l.rest l.left_is in
       let o : old ≡ l.seen = l.old_is ∙ ap (λ r. l.seen ++ r) z ∙ append-nil l.seen in
       let n : now ≡ l.stay = l.now_is ∙ ap (λ r. l.stay ++ r) z ∙ append-nil l.stay in
       subst (λ x. RetainsInTurn R s x t now) (sym o) (subst (λ x. RetainsInTurn R s l.seen t x) (sym n) l.sifts)
 
-  pub leaf_kept : (s t u : S) (old now new : List (K × V)) (at left left' : ℕ) (e : K × V) (w : V) → IsLeafSifted s t old now at left → left ≡ left' + 1
-      → R t e u w true → e ≡ get_or now at e → new ≡ set_value now at w → IsLeafSifted s u old new (at + 1) left'
-  leaf_kept s t u old now new at left left' e w l k r q v = go l.rest l.left_is l.old_is l.now_is
-    where
-      go : (rest : List (K × V)) → length rest ≡ left → old ≡ l.seen ++ rest → now ≡ l.stay ++ rest → IsLeafSifted s u old new (at + 1) left'
-      go [] z o n = absurd (omega arith)
-      go (x ∷ rest) z o n =
-          let is : e ≡ x = q ∙ ap (λ xs. get_or xs at e) n ∙ at_place l.stay rest x e at l.place in
-          record {
-            seen = l.seen ++ e ∷ [];
-            stay = l.stay ++ (e.0, w) ∷ [];
-            rest = rest;
-            old_is = o ∙ ap (λ y. l.seen ++ y ∷ rest) (sym is) ∙ sym (append_assoc l.seen (e ∷ []) rest);
-            now_is = v ∙ ap (λ xs. set_value xs at w) (n ∙ ap (λ y. l.stay ++ y ∷ rest) (sym is)) ∙ value_place l.stay rest e w at l.place
-                ∙ sym (append_assoc l.stay ((e.0, w) ∷ []) rest);
-            place = length-append l.stay ((e.0, w) ∷ []) ∙ ap (λ k. k + 1) l.place;
-            left_is = omega arith;
-            sifts = retains_join R l.seen (e ∷ []) l.stay ((e.0, w) ∷ []) s t u l.sifts (retains_one R e t u w true r);
-          }
-
-  pub leaf_gone : (s t u : S) (old now new : List (K × V)) (at left left' : ℕ) (e : K × V) (w : V) → IsLeafSifted s t old now at left → left ≡ left' + 1
-      → R t e u w false → e ≡ get_or now at e → new ≡ remove (set_value now at w) at → IsLeafSifted s u old new at left'
-  leaf_gone s t u old now new at left left' e w l k r q v = go l.rest l.left_is l.old_is l.now_is
-    where
-      go : (rest : List (K × V)) → length rest ≡ left → old ≡ l.seen ++ rest → now ≡ l.stay ++ rest → IsLeafSifted s u old new at left'
-      go [] z o n = absurd (omega arith)
-      go (x ∷ rest) z o n =
-          let is : e ≡ x = q ∙ ap (λ xs. get_or xs at e) n ∙ at_place l.stay rest x e at l.place in
-          record {
-            seen = l.seen ++ e ∷ [];
-            stay = l.stay;
-            rest = rest;
-            old_is = o ∙ ap (λ y. l.seen ++ y ∷ rest) (sym is) ∙ sym (append_assoc l.seen (e ∷ []) rest);
-            now_is = v ∙ ap (λ xs. remove (set_value xs at w) at) (n ∙ ap (λ y. l.stay ++ y ∷ rest) (sym is))
-                ∙ ap (λ xs. remove xs at) (value_place l.stay rest e w at l.place) ∙ remove_place l.stay rest (e.0, w) at l.place;
-            place = l.place;
-            left_is = omega arith;
-            sifts = subst (λ zs. RetainsInTurn R s (l.seen ++ e ∷ []) u zs) (append-nil l.stay)
-                (retains_join R l.seen (e ∷ []) l.stay [] s t u l.sifts (retains_one R e t u w false r));
-          }
-
-  pub leaf_passed : (s t u : S) (old now new : List (K × V)) (at left left' j : ℕ) → IsLeafSifted s t old now at left → left ≡ left' + 1
-      → IsOwnPassed R t u at j now new → IsLeafSifted s u old new j left'
-  leaf_passed s t u old now new at left left' j l k (e, w, true, r, q, p) =
-      subst (λ i. IsLeafSifted s u old new i left') (sym p.0) (leaf_kept s t u old now new at left left' e w l k r q p.1)
-  leaf_passed s t u old now new at left left' j l k (e, w, false, r, q, p) =
-      subst (λ i. IsLeafSifted s u old new i left') (sym p.0) (leaf_gone s t u old now new at left left' e w l k r q p.1)
+  -- those of a part were
+  pub part_end : (i j last : ℕ) (s t : S) (old now : List (K × V)) (at : ℕ) → i ≤ length old → last + j ≡ length old → IsLeafSifted (take i old) last s t old now at 0
+      → IsPartSifted R s t i j old now
+  part_end i j last s t old now at le e l =
+      let whole : old ≡ (take i old ++ l.seen) ++ l.rest = l.old_is ∙ sym (append_assoc (take i old) l.seen l.rest) in
+      let sizes = ap length whole ∙ length-append (take i old ++ l.seen) l.rest in
+      let left = l.left_is in
+      let rest : drop j old ≡ l.rest = ap (drop j) whole ∙ drop_place (take i old ++ l.seen) l.rest j (omega arith) in
+      record {
+        asked = l.seen;
+        stay = l.stay;
+        sifted = l.sifts;
+        before = l.old_is ∙ ap (λ r. take i old ++ (l.seen ++ r)) (sym rest);
+        after = l.now_is ∙ append_assoc (take i old) l.stay l.rest ∙ ap (λ r. take i old ++ (l.stay ++ r)) (sym rest);
+      }
 
 module _ {S K V Z : Type 0} (R : S → K × V → S → V → Bool → Type 0) where
   -- the pair behind a child was asked: what the node then is
-  module _ (s t : S) (i : ℕ) (old new : Node K V Z) (e : K × V) (inner : IsInner old) (lt : i < length (own_pairs old))
+  module _ (L : ℕ → Node K V Z → Type 0) (s t : S) (i : ℕ) (old new : Node K V Z) (e : K × V) (inner : IsInner old) (lt : i < length (own_pairs old))
       (q : e ≡ get_or (own_pairs old) i e) where
     abbrev A : List (Node K V Z)
     A = take i (children_of old)
@@ -322,79 +370,98 @@ module _ {S K V Z : Type 0} (R : S → K × V → S → V → Bool → Type 0) w
         let y = there.own_before in
         omega arith
 
-    passed : (j : ℕ) (A' : List (Node K V Z)) (P' stay : List (K × V)) → IsOpenAt new j A' d D P' Q → RetainsInTurn R s (e ∷ []) t stay
-        → before_list (map pairs_of A') P' ≡ before_list (map pairs_of A) P ++ (pairs_of c ++ stay)
-        → j ≤ i + 1 → ((h : ℕ) → IsLoose h c → AllByRecursion (IsLoose h) A → AllByRecursion (IsLoose h) A') → IsPassed R s t i j old new
-    passed j A' P' stay o r b le al =
-        let now_inner = open_inner new j A' d D P' Q o even in
+    passed : (j : ℕ) (kept : List (Node K V Z)) (P' stay : List (K × V)) → IsOpenAt new j (A ++ kept) d D P' Q → RetainsInTurn R s (e ∷ []) t stay
+        → before_list (map pairs_of (A ++ kept)) P' ≡ before_list (map pairs_of A) P ++ (pairs_of c ++ stay)
+        → j ≤ i + 1 → ((h : ℕ) → L h c → AllByRecursion (L h) kept) → IsPassed L R s t i j old new
+    passed j kept P' stay o r b le lo =
         let a = ap length there.own ∙ length-append P (e ∷ Q) in
         let a' = ap length o.own ∙ length-append P' Q in
         let y = there.own_before in
         let y' = o.own_before in
+        let x = there.before in
+        let x' = o.before in
+        let k = length-append A kept in
+        let rest : drop (suc i) (children_of old) ≡ d ∷ D = ap (drop (suc i)) (there.children ∙ sym (append_assoc A (c ∷ []) (d ∷ D)))
+        ∙ drop_place (A ++ c ∷ []) (d ∷ D) (suc i) (length-append A (c ∷ []) ∙ omega arith) in
         record {
           asked = e;
           stay = stay;
           sifted = r;
-          before = open_before new j A' d D P' Q o ∙ b ∙ ap (λ zs. zs ++ (pairs_of c ++ stay)) (sym (open_before old i A c (d ∷ D) P (e ∷ Q) there));
-          child = open_child new j A' d D P' Q o;
+          before = open_before new j (A ++ kept) d D P' Q o ∙ b
+              ∙ ap (λ zs. zs ++ (pairs_of c ++ stay)) (sym (open_before old i A c (d ∷ D) P (e ∷ Q) there));
+          child = open_child new j (A ++ kept) d D P' Q o;
           here = open_after old i A c (d ∷ D) P (e ∷ Q) there ∙ ap (λ zs. e ∷ (pairs_of d ++ zs))
               (sym (open_after old (i + 1) (A ++ c ∷ []) d D (P ++ e ∷ []) Q next));
-          after = open_after new j A' d D P' Q o ∙ sym (open_after old (i + 1) (A ++ c ∷ []) d D (P ++ e ∷ []) Q next);
+          after = open_after new j (A ++ kept) d D P' Q o ∙ sym (open_after old (i + 1) (A ++ c ∷ []) d D (P ++ e ∷ []) Q next);
           left = omega arith;
-          inner = now_inner;
-          levels = go now_inner (omega arith);
+          inner = open_inner new j (A ++ kept) d D P' Q o even;
+          few = le;
+          kept = kept;
+          place = omega arith;
+          children = o.children ∙ append_assoc A kept (d ∷ D) ∙ ap (λ zs. A ++ (kept ++ zs)) (sym rest);
+          levels = lo;
+          own_kept = P';
+          own_place = y';
+          own = o.own;
         }
-      where
-        go : IsInner new → length (own_pairs new) ≤ length (own_pairs old) → (h : ℕ) → IsLoose h old → IsLoose h new
-        go n f zero l = absurd (leaf_or_inner old l.1 inner)
-        go n f (suc h) l =
-            let all = subst (AllByRecursion (IsLoose h)) there.children l.2 in
-            let back = all_back (IsLoose h) A (c ∷ d ∷ D) all in
-            let fits = l.0 in (
-              omega arith,
-              n,
-              subst (AllByRecursion (IsLoose h)) (sym o.children)
-                  (all_both (IsLoose h) A' (d ∷ D) (al h back.0 (all_front (IsLoose h) A (c ∷ d ∷ D) all)) back.1),
-            )
 
     same_length : length A ≡ length P
     same_length = there.before ∙ sym there.own_before
 
     -- it stays
-    pub passed_kept : (w : V) → R s e t w true → new ≡ with_value old i w → IsPassed R s t i (i + 1) old new
+    pub passed_kept : (w : V) → R s e t w true → new ≡ with_value old i w → IsPassed L R s t i (i + 1) old new
     passed_kept w r n =
         let f : own_pairs new ≡ P ++ (e.0, w) ∷ Q = ap own_pairs n ∙ value_own old i w ∙ ap (λ xs. set_value xs i w) there.own
         ∙ value_place P Q e w i there.own_before in
         let g : children_of new ≡ A ++ c ∷ d ∷ D = ap children_of n ∙ value_children old i w ∙ there.children in
         let o : IsOpenAt new i A c (d ∷ D) P ((e.0, w) ∷ Q) = record { children = g; own = f; before = there.before; own_before = there.own_before } in
-        passed (i + 1) (A ++ c ∷ []) (P ++ (e.0, w) ∷ []) ((e.0, w) ∷ []) (open_next new i A c (d ∷ D) P ((e.0, w) ∷ Q) o (e.0, w) Q d D refl refl)
+        passed (i + 1) (c ∷ []) (P ++ (e.0, w) ∷ []) ((e.0, w) ∷ []) (open_next new i A c (d ∷ D) P ((e.0, w) ∷ Q) o (e.0, w) Q d D refl refl)
         (retains_one R e s t w true r) (before_next A c P (e.0, w) same_length) (omega arith)
-        (λ h x a. all_both (IsLoose h) A (c ∷ []) a (x, tt))
+        (λ h x. (x, tt))
 
     -- another pair takes its place
     pub passed_moved : (w : V) (mid c' : Node K V Z) (p : K × V) → R s e t w false → IsTurned old mid i w c'
         → own_pairs new ≡ slice_set (own_pairs mid) i p → children_of new ≡ children_of mid → pairs_of c ≡ pairs_of c' ++ p ∷ []
-        → ((h : ℕ) → IsLoose h c → IsLoose h c') → IsPassed R s t i (i + 1) old new
+        → ((h : ℕ) → L h c → L h c') → IsPassed L R s t i (i + 1) old new
     passed_moved w mid c' p r m so sc pe lo =
         let v = m.own ∙ ap (λ xs. set_value xs i w) there.own ∙ value_place P Q e w i there.own_before in
         let f : own_pairs new ≡ P ++ p ∷ Q = so ∙ ap (λ xs. slice_set xs i p) v ∙ set_place P Q (e.0, w) p i there.own_before in
         let g : children_of new ≡ A ++ c' ∷ d ∷ D = sc ∙ m.children ∙ ap (λ xs. slice_set xs i c') there.children ∙ set_place A (d ∷ D) c c' i there.before in
         let o : IsOpenAt new i A c' (d ∷ D) P (p ∷ Q) = record { children = g; own = f; before = there.before; own_before = there.own_before } in
-        passed (i + 1) (A ++ c' ∷ []) (P ++ p ∷ []) [] (open_next new i A c' (d ∷ D) P (p ∷ Q) o p Q d D refl refl) (retains_one R e s t w false r)
+        passed (i + 1) (c' ∷ []) (P ++ p ∷ []) [] (open_next new i A c' (d ∷ D) P (p ∷ Q) o p Q d D refl refl) (retains_one R e s t w false r)
         (before_next A c' P p same_length ∙ ap (λ zs. before_list (map pairs_of A) P ++ zs) (sym pe ∙ sym (append-nil (pairs_of c)))) (omega arith)
-        (λ h x a. all_both (IsLoose h) A (c' ∷ []) a (lo h x, tt))
+        (λ h x. (lo h x, tt))
 
     -- a child without pairs goes with it
     pub passed_gone : (w : V) (mid c' : Node K V Z) → R s e t w false → IsTurned old mid i w c'
-        → own_pairs new ≡ remove (own_pairs mid) i → children_of new ≡ remove (children_of mid) i → pairs_of c ≡ [] → IsPassed R s t i i old new
+        → own_pairs new ≡ remove (own_pairs mid) i → children_of new ≡ remove (children_of mid) i → pairs_of c ≡ [] → IsPassed L R s t i i old new
     passed_gone w mid c' r m so sc pe =
         let v = m.own ∙ ap (λ xs. set_value xs i w) there.own ∙ value_place P Q e w i there.own_before in
         let f : own_pairs new ≡ P ++ Q = so ∙ ap (λ xs. remove xs i) v ∙ remove_place P Q (e.0, w) i there.own_before in
         let l = m.children ∙ ap (λ xs. slice_set xs i c') there.children ∙ set_place A (d ∷ D) c c' i there.before in
         let g : children_of new ≡ A ++ d ∷ D = sc ∙ ap (λ xs. remove xs i) l ∙ remove_place A (d ∷ D) c' i there.before in
         let o : IsOpenAt new i A d D P Q = record { children = g; own = f; before = there.before; own_before = there.own_before } in
-        passed i A P [] o (retains_one R e s t w false r) (sym (append-nil (before_list (map pairs_of A) P))
-        ∙ ap (λ zs. before_list (map pairs_of A) P ++ zs) (sym (ap (λ zs. zs ++ []) pe))) (omega arith) (λ h x a. a)
+        let none = append-nil A in
+        passed i [] P [] (subst (λ B. IsOpenAt new i B d D P Q) (sym none) o) (retains_one R e s t w false r)
+        (ap (λ B. before_list (map pairs_of B) P) none ∙ sym (append-nil (before_list (map pairs_of A) P))
+        ∙ ap (λ zs. before_list (map pairs_of A) P ++ zs) (sym (ap (λ zs. zs ++ []) pe))) (omega arith) (λ h x. tt)
+
+  -- so the node is as loose as it was
+  passed_loose : (s t : S) (i j : ℕ) (old new : Node K V Z) → IsInner old → i < length (own_pairs old) → IsPassed IsLoose R s t i j old new → (h : ℕ)
+      → IsLoose h old → IsLoose h new
+  passed_loose s t i j old new inner lt p zero l = absurd (leaf_or_inner old l.1 inner)
+  passed_loose s t i j old new inner lt p (suc h) l =
+      let sizes = p.left in
+      let few = p.few in
+      let fits = l.0 in
+      let cs = children_of old in
+      let front = all_front (IsLoose h) (take i cs) (drop i cs) (subst (AllByRecursion (IsLoose h)) (sym (take_drop i cs)) l.2) in
+      let back = all_back (IsLoose h) (take (suc i) cs) (drop (suc i) cs) (subst (AllByRecursion (IsLoose h)) (sym (take_drop (suc i) cs)) l.2) in (
+        omega arith,
+        p.inner,
+        subst (AllByRecursion (IsLoose h)) (sym p.children) (all_both (IsLoose h) (take i cs) _ front (all_both (IsLoose h) p.kept _
+            (p.levels h (loose_child h old i l (omega arith))) back)),
+      )
 
   -- the pairs before a child were asked
   pub record IsSifting (s t : S) (old now : Node K V Z) (at left : ℕ) : Type 0 where
@@ -418,7 +485,7 @@ module _ {S K V Z : Type 0} (R : S → K × V → S → V → Bool → Type 0) w
   -- a child, and the pair behind it
   pub sifting_more : (s t u v : S) (old now mid new dold dnew : Node K V Z) (at left left' j : ℕ) → IsSifting s t old now at left → left ≡ left' + 1
       → dold ≡ child_at now at → IsChildSet now mid at dnew → RetainsInTurn R t (pairs_of dold) u (pairs_of dnew) → ((h : ℕ) → IsLoose h dold → IsLoose h dnew)
-      → IsPassed R u v at j mid new → IsSifting s v old new j left'
+      → IsPassed IsLoose R u v at j mid new → IsSifting s v old new j left'
   sifting_more s t u v old now mid new dold dnew at left left' j g k is m r lo p =
       let li = g.left_is in
       let c = child_left now mid dnew at g.inner (omega arith) m in
@@ -443,7 +510,11 @@ module _ {S K V Z : Type 0} (R : S → K × V → S → V → Bool → Type 0) w
       }
     where
       go : (h : ℕ) → IsLoose h old → IsLoose h new
-      go h l = let li = g.left_is in p.levels h (child_loose h now mid dold dnew at g.inner (omega arith) is m lo (g.levels h l))
+      go h l =
+          let li = g.left_is in
+          let c = child_left now mid dnew at g.inner (omega arith) m in
+          let o : length (own_pairs mid) ≡ length (own_pairs now) = ap length m.same in
+          passed_loose u v at j mid new c.inner (omega arith) p h (child_loose h now mid dold dnew at g.inner (omega arith) is m lo (g.levels h l))
 
   pub record IsAllSifted (s t : S) (old new : Node K V Z) : Type 0 where
     pub sifts : RetainsInTurn R s (pairs_of old) t (pairs_of new)

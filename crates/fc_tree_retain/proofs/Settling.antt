@@ -254,21 +254,21 @@ module _ {K V Z : Type 0} where
             },
           )
 
-  -- the children before a place are sound, the one there may hold few pairs where it is the first, and those after it are as they were
-  pub record IsMendedTo (h at : ℕ) (n : Node K V Z) : Type 0 where
+  -- the children before a place are sound, the one there may hold few pairs where it is the first, and those after it are as Q says
+  pub record IsMendedTo (Q : List (Node K V Z) → Type 0) (h at : ℕ) (n : Node K V Z) : Type 0 where
     pub fits : length (own_pairs n) ≤ capacity
     pub before : AllByRecursion (IsSound h) (take at (children_of n))
     pub thin : IsThin h (child_at n at)
     pub sound : 0 < at → IsSound h (child_at n at)
-    pub after : AllByRecursion (IsLoose h) (drop (suc at) (children_of n))
+    pub after : Q (drop (suc at) (children_of n))
 
   pub record IsMending (old now : Node K V Z) (at left : ℕ) : Type 0 where
     pub pairs : pairs_of now ≡ pairs_of old
     pub left_is : length (own_pairs now) ≡ at + left
     pub inner : IsInner now
-    pub levels : (h : ℕ) → IsLoose (suc h) old → IsMendedTo h at now
+    pub levels : (h : ℕ) → IsLoose (suc h) old → IsMendedTo (AllByRecursion (IsLoose h)) h at now
 
-  all_from : (P : Node K V Z → Type 0) (cs : List (Node K V Z)) (i : ℕ) → AllByRecursion P cs → AllByRecursion P (drop i cs)
+  pub all_from : (P : Node K V Z → Type 0) (cs : List (Node K V Z)) (i : ℕ) → AllByRecursion P cs → AllByRecursion P (drop i cs)
   all_from P cs zero a = a
   all_from P [] (suc i) a = tt
   all_from P (c ∷ cs) (suc i) a = all_from P cs i a.1
@@ -295,10 +295,10 @@ module _ {K V Z : Type 0} where
       }
 
   -- the next child mended
-  pub record IsNextMended (h at : ℕ) (mid : Node K V Z) : Type 0 where
+  pub record IsNextMended (Q : List (Node K V Z) → Type 0) (h at : ℕ) (mid : Node K V Z) : Type 0 where
     pub seam : IsSeam h mid at
     pub sound : 0 < at → IsSound h (child_at mid at)
-    pub after : AllByRecursion (IsLoose h) (drop (suc (suc at)) (children_of mid))
+    pub after : Q (drop (suc (suc at)) (children_of mid))
 
   take_next : (xs : List (Node K V Z)) (i : ℕ) (x : Node K V Z) → take i (slice_set xs (suc i) x) ≡ take i xs
   take_next [] i x = refl
@@ -314,7 +314,8 @@ module _ {K V Z : Type 0} where
   head_of h [] d lt a = absurd (omega arith)
   head_of h (c ∷ cs) d lt a = a.0
 
-  pub next_loose : (h at : ℕ) (now : Node K V Z) → IsInner now → at < length (own_pairs now) → IsMendedTo h at now → IsLoose h (child_at now (at + 1))
+  pub next_loose : (h at : ℕ) (now : Node K V Z) → IsInner now → at < length (own_pairs now) → IsMendedTo (AllByRecursion (IsLoose h)) h at now
+      → IsLoose h (child_at now (at + 1))
   next_loose h at now inner lt g = go (children_of now) at (let k : length (children_of now) ≡ length (own_pairs now) + 1 = inner in omega arith) g.after
     where
       go : (cs : List (Node K V Z)) (i : ℕ) → i + 1 < length cs → AllByRecursion (IsLoose h) (drop (suc i) cs) → IsLoose h (get_or cs (i + 1) now)
@@ -328,8 +329,9 @@ module _ {K V Z : Type 0} where
   drop_one zero (x ∷ xs) = refl
   drop_one (suc i) (x ∷ xs) = drop_one i xs
 
-  pub next_mended : (h at : ℕ) (now mid d c : Node K V Z) → IsInner now → at < length (own_pairs now) → IsMendedTo h at now → d ≡ child_at now (at + 1)
-      → IsChildSet now mid (at + 1) c → ((g : ℕ) → IsLoose g d → IsThin g c) → IsNextMended h at mid
+  pub next_mended : (h at : ℕ) (now mid d c : Node K V Z) → IsInner now → at < length (own_pairs now)
+      → IsMendedTo (AllByRecursion (IsLoose h)) h at now → d ≡ child_at now (at + 1)
+      → IsChildSet now mid (at + 1) c → ((g : ℕ) → IsLoose g d → IsThin g c) → IsNextMended (AllByRecursion (IsLoose h)) h at mid
   next_mended h at now mid d c inner lt g is m th =
       let k : length (children_of now) ≡ length (own_pairs now) + 1 = inner in
       let one : at + 1 ≡ suc at = omega arith in
@@ -355,8 +357,9 @@ module _ {K V Z : Type 0} where
       }
 
   -- and the two settled
-  settled_to : (h at j : ℕ) (mid new : Node K V Z) → IsNextMended h at mid → IsSettled h at j mid new → IsMendedTo h j new
-  settled_to h at j mid new x (inl (q, o)) =
+  pub settled_to : (Q : List (Node K V Z) → Type 0) (h at j : ℕ) (mid new : Node K V Z) → IsNextMended Q h at mid → IsSettled h at j mid new
+      → IsMendedTo Q h j new
+  settled_to Q h at j mid new x (inl (q, o)) =
       let s = x.seam in
       let k : length (children_of mid) ≡ length (own_pairs mid) + 1 = s.inner in
       let lt = s.in_bounds in
@@ -366,15 +369,15 @@ module _ {K V Z : Type 0} where
       let A = take at (children_of mid) in
       let D = drop (suc (suc at)) (children_of mid) in
       let is : child_at new at ≡ o.whole = ap (λ cs. get_or cs at new) o.children ∙ at_place A D o.whole new at a.0 in
-      subst (λ i. IsMendedTo h i new) (sym q) (record {
+      subst (λ i. IsMendedTo Q h i new) (sym q) (record {
         fits = omega arith;
         before = subst (AllByRecursion (IsSound h)) (sym (ap (take at) o.children ∙ take_place A (o.whole ∷ D) at a.0)) s.before;
         thin = subst (IsThin h) (sym is) o.thin;
         sound = λ z. subst (IsSound h) (sym is) (o.sound (inl (x.sound z)));
-        after = subst (AllByRecursion (IsLoose h)) (sym (ap (drop (suc at)) (o.children ∙ sym (append_assoc A (o.whole ∷ []) D))
+        after = subst Q (sym (ap (drop (suc at)) (o.children ∙ sym (append_assoc A (o.whole ∷ []) D))
             ∙ drop_place (A ++ o.whole ∷ []) D (suc at) (let t = length-append A (o.whole ∷ []) in let t₀ = a.0 in omega arith))) x.after;
       })
-  settled_to h at j mid new x (inr (q, o)) =
+  settled_to Q h at j mid new x (inr (q, o)) =
       let s = x.seam in
       let k : length (children_of mid) ≡ length (own_pairs mid) + 1 = s.inner in
       let lt = s.in_bounds in
@@ -387,18 +390,18 @@ module _ {K V Z : Type 0} where
       let e : children_of new ≡ (A ++ o.left ∷ []) ++ o.right ∷ D = o.children ∙ sym (append_assoc A (o.left ∷ []) (o.right ∷ D)) in
       let z : length (A ++ o.left ∷ []) ≡ at + 1 = length-append A (o.left ∷ []) ∙ ap (λ i. i + 1) t₀ in
       let is : child_at new (at + 1) ≡ o.right = ap (λ cs. get_or cs (at + 1) new) e ∙ at_place (A ++ o.left ∷ []) D o.right new (at + 1) z in
-      subst (λ i. IsMendedTo h i new) (sym q) (record {
+      subst (λ i. IsMendedTo Q h i new) (sym q) (record {
         fits = omega arith;
         before = subst (AllByRecursion (IsSound h)) (sym (ap (take (at + 1)) e ∙ take_place (A ++ o.left ∷ []) (o.right ∷ D) (at + 1) z))
             (all_both (IsSound h) A (o.left ∷ []) s.before (o.sound.0, tt));
         thin = subst (IsThin h) (sym is) (levelled_thin h o.right o.sound.1.1);
         sound = λ _. subst (IsSound h) (sym is) o.sound.1;
-        after = subst (AllByRecursion (IsLoose h)) (sym (ap (drop (suc (at + 1))) (e ∙ sym (append_assoc (A ++ o.left ∷ []) (o.right ∷ []) D))
+        after = subst Q (sym (ap (drop (suc (at + 1))) (e ∙ sym (append_assoc (A ++ o.left ∷ []) (o.right ∷ []) D))
             ∙ drop_place ((A ++ o.left ∷ []) ++ o.right ∷ []) D (suc (at + 1)) (let t = length-append (A ++ o.left ∷ []) (o.right ∷ []) in omega arith)))
             x.after;
       })
 
-  settled_sizes : (h at j : ℕ) (mid new : Node K V Z) → IsSeam h mid at → IsSettled h at j mid new
+  pub settled_sizes : (h at j : ℕ) (mid new : Node K V Z) → IsSeam h mid at → IsSettled h at j mid new
       → (length (own_pairs new) + (at + 1) ≡ length (own_pairs mid) + j) × IsInner new
   settled_sizes h at j mid new s (inl (q, o)) =
       let k : length (children_of mid) ≡ length (own_pairs mid) + 1 = s.inner in
@@ -433,22 +436,27 @@ module _ {K V Z : Type 0} where
         pairs = np ∙ mended_pairs now mid d c (at + 1) x.inner (omega arith) m is p ∙ x.pairs;
         left_is = omega arith;
         inner = z.1;
-        levels = λ h b. let y = next_mended h at now mid d c x.inner (omega arith) (x.levels h b) is m th in settled_to h at j mid new y (st h y.seam);
+        levels = λ h b. let y = next_mended h at now mid d c x.inner (omega arith) (x.levels h b) is m th in
+            settled_to (AllByRecursion (IsLoose h)) h at j mid new y (st h y.seam);
       }
 
   -- all are mended
-  pub mending_end : (old now : Node K V Z) (at : ℕ) → IsMending old now at 0 → (h : ℕ) → IsLoose (suc h) old → IsThin (suc h) now
-  mending_end old now at x h l =
-      let li = x.left_is in
-      let k : length (children_of now) ≡ length (own_pairs now) + 1 = x.inner in
-      let g = x.levels h l in
-      (g.fits, x.inner, go at (omega arith) g)
+  pub mended_all : (Q : List (Node K V Z) → Type 0) (h at : ℕ) (now : Node K V Z) → IsInner now → length (own_pairs now) ≡ at → IsMendedTo Q h at now
+      → IsThin (suc h) now
+  mended_all Q h at now inner li g =
+      let k : length (children_of now) ≡ length (own_pairs now) + 1 = inner in
+      (g.fits, inner, go at (omega arith) g)
     where
-      go : (at : ℕ) → length (children_of now) ≡ at + 1 → IsMendedTo h at now
+      go : (at : ℕ) → length (children_of now) ≡ at + 1 → IsMendedTo Q h at now
           → AllByRecursion (IsSound h) (children_of now) ⊎ ((length (own_pairs now) ≡ 0) × IsThin h (child_at now 0))
-      go zero n g = let k : length (children_of now) ≡ length (own_pairs now) + 1 = x.inner in inr (omega arith, g.thin)
+      go zero n g = let k : length (children_of now) ≡ length (own_pairs now) + 1 = inner in inr (omega arith, g.thin)
       go (suc at) n g =
           let e : children_of now ≡ take (suc at) (children_of now) ++ child_at now (suc at) ∷ [] = one_at (children_of now) (suc at) now (omega arith)
           ∙ ap (λ ds. take (suc at) (children_of now) ++ child_at now (suc at) ∷ ds) (drop_all (children_of now) (suc (suc at)) (omega arith)) in
           inl (subst (AllByRecursion (IsSound h)) (sym e) (all_both (IsSound h) (take (suc at) (children_of now)) (child_at now (suc at) ∷ []) g.before
           (g.sound (omega arith), tt)))
+
+  pub mending_end : (old now : Node K V Z) (at : ℕ) → IsMending old now at 0 → (h : ℕ) → IsLoose (suc h) old → IsThin (suc h) now
+  mending_end old now at x h l =
+      let li = x.left_is in
+      mended_all (AllByRecursion (IsLoose h)) h at now x.inner (omega arith) (x.levels h l)

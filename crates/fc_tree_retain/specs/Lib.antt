@@ -2,3 +2,4 @@ pub mod Retained
 pub mod Loose
 pub mod Sifted
 pub mod Mending
+pub mod Stretch

@@ -1,11 +1,11 @@
 -- A node of which some pairs were asked.
-use Rattle.std.specs.Prelude.{◌≡◌, ℕ, ◌+◌, Bool, List, [], ◌∷◌, ◌++◌, length, slice_index_or, remove}
+use Rattle.std.specs.Prelude.{◌≡◌, ℕ, suc, ◌+◌, ◌≤◌, Bool, List, [], ◌∷◌, ◌++◌, length, take, drop, slice_index_or, remove}
 use Rattle.std.specs.Bool.{MatchBool}
+use Rattle.std.specs.List.{AllByRecursion}
 use Rattle.fc_tree_node.specs.declared.node.Node.{Node}
-use Rattle.fc_tree_node.specs.Node.{own_pairs, child_at, pairs_of, IsInner}
+use Rattle.fc_tree_node.specs.Node.{own_pairs, children_of, child_at, pairs_of, IsInner}
 use Rattle.fc_tree_node.specs.Place.{before_child, after_child}
 use Rattle.fc_tree_search.specs.Written.{set_value, with_value}
-use Rattle.fc_tree_retain.specs.Loose.{IsLoose}
 use Rattle.fc_tree_retain.specs.Retained.{RetainsInTurn}
 
 -- Asked at a pair, and given it with the value that was left where it is not to stay.
@@ -24,7 +24,8 @@ module _ {S K V : Type 0} where
 
 module _ {S K V Z : Type 0} where
   -- The pair behind the child at i was sifted: what is left of the child and of the pair is before the child at j, which was the next one.
-  pub record IsPassed (R : S → K × V → S → V → Bool → Type 0) (s t : S) (i j : ℕ) (old new : Node K V Z) : Type 0 where
+  -- What holds of the child holds of what is left of it.
+  pub record IsPassed (L : ℕ → Node K V Z → Type 0) (R : S → K × V → S → V → Bool → Type 0) (s t : S) (i j : ℕ) (old new : Node K V Z) : Type 0 where
     pub asked : K × V
     pub stay : List (K × V)
     pub sifted : RetainsInTurn R s (asked ∷ []) t stay
@@ -34,4 +35,11 @@ module _ {S K V Z : Type 0} where
     pub after : after_child new j ≡ after_child old (i + 1)
     pub left : length (own_pairs new) + (i + 1) ≡ length (own_pairs old) + j
     pub inner : IsInner new
-    pub levels : (h : ℕ) → IsLoose h old → IsLoose h new
+    pub few : j ≤ i + 1
+    pub kept : List (Node K V Z)
+    pub place : i + length kept ≡ j
+    pub children : children_of new ≡ take i (children_of old) ++ (kept ++ drop (suc i) (children_of old))
+    pub levels : (h : ℕ) → L h (child_at old i) → AllByRecursion (L h) kept
+    pub own_kept : List (K × V)
+    pub own_place : length own_kept ≡ j
+    pub own : own_pairs new ≡ own_kept ++ drop (suc i) (own_pairs old)

@@ -5,3 +5,5 @@ mod mending;
 pub mod retain;
 mod sieve;
 mod sifting;
+pub mod stretch;
+mod within;

@@ -1,11 +1,12 @@
 //! Mending of a tree whose nodes may all hold too few pairs.
-ghost use Rattle.std.specs.Prelude.{◌≡◌, ℕ, ◌+◌, ◌<◌, ◌≤◌, length, MatchOption, ◌∷◌, [], ◌⊎◌};
+ghost use Rattle.std.specs.Prelude.{◌≡◌, ℕ, suc, ◌+◌, ◌<◌, ◌≤◌, length, MatchOption, ◌∷◌, [], ◌⊎◌};
 ghost use Rattle.fc_base.specs.Sizes.{capacity, min_len};
 ghost use Rattle.fc_tree_node.specs.Node.{own_pairs, children_of, child_at, pairs_of, IsLeaf};
 ghost use Rattle.fc_tree_node.specs.Siblings.{IsFormed};
 ghost use Rattle.fc_tree_node.specs.Tree.{entries, IsSoundWithin};
 ghost use Rattle.fc_tree_retain.specs.Loose.{IsLoose};
 ghost use Rattle.fc_tree_retain.specs.Mending.{IsThin, IsSeam, IsSettled, IsJoined};
+ghost use Rattle.fc_tree_retain.specs.Stretch.{IsThinWithin};
 
 use fc_base::{Count, Handle};
 use fc_tree_node::node::{CAPACITY, MIN_LEN, Node};
@@ -45,6 +46,27 @@ fn settle<K: Drop, V: Drop, A: Handle>(node: &mut Node<K, V, A>, index: usize) -
         settle(content(&mut node.children).get_mut(place), seam);
     }
     last
+}
+
+// Sees to it that no child has too few pairs, where those from the first of these places to the second may have few, and all others are
+// sound.
+pub(crate) fn settle_between<K: Drop, V: Drop, A: Handle>(
+    node: &mut Node<K, V, A>,
+    first: usize,
+    last: usize,
+)
+    requires { (h : ℕ) × IsThinWithin h node.old first last }
+    ensures pairs { pairs_of node.new ≡ pairs_of node.old }
+    ensures thin { (h : ℕ) → IsThinWithin h node.old first last → IsThin (suc h) node.new }
+{
+    let start = first.saturating_sub(1);
+    let mut at = start;
+    for _ in start..last {
+        at = settle(node, at);
+    }
+    if at < node.len() {
+        settle(node, at);
+    }
 }
 
 // Makes one node of the two children beside the pair at `index`, or lets the one that is short take from the other. Answers the place

@@ -1,5 +1,5 @@
 //! What is asked of each pair, and what becomes of those that do not stay.
-ghost use Rattle.std.specs.Prelude.{◌≡◌, Bool, not};
+ghost use Rattle.std.specs.Prelude.{◌≡◌, ◌+◌, ◌^◌, ◌<◌, Bool, false, not, ⊤};
 ghost use Rattle.fc_tree_retain.specs.Retained.{AskedAtKey, AskedAtPair, GivenKey, GivenPair};
 
 // Asked of one pair after another.
@@ -131,5 +131,56 @@ impl<K, V: Drop, F: FnMut(&K) -> bool, E: FnMut(K)> Sieve<K, V> for ExtractingKe
     {
         let (key, _value) = pair;
         (self.each)(key);
+    }
+}
+
+// Drops all.
+#[derive(Drop)]
+pub(crate) struct Dropping {}
+
+impl<K: Drop, V: Drop> Sieve<K, V> for Dropping {
+    ghost callable = { λ _. ⊤ };
+
+    ghost asked = { λ _ _ _ _ b. b ≡ false };
+
+    ghost given = { λ _ _ _. ⊤ };
+
+    fn stays(&mut self, _key: &K, _value: &mut V) -> bool {
+        false
+    }
+
+    fn take(&mut self, pair: (K, V))
+        ensures callable { ⊤ }
+        ensures given { ⊤ }
+    {
+        drop(pair);
+    }
+}
+
+// Counts those that do not stay.
+#[derive(Drop)]
+pub(crate) struct Counted<S> {
+    pub(crate) sieve: S,
+    pub(crate) gone: usize,
+}
+
+impl<K, V, S: Sieve<K, V>> Sieve<K, V> for Counted<S> {
+    ghost callable = { λ s. S.callable s.sieve };
+
+    ghost asked = { λ s e t w b. S.asked s.sieve e t.sieve w b × (t.gone ≡ s.gone) };
+
+    ghost given = { λ s e t. S.given s.sieve e t.sieve × (s.gone + 1 < 2 ^ 64 → t.gone ≡ s.gone + 1) };
+
+    fn stays(&mut self, key: &K, value: &mut V) -> bool {
+        self.sieve.stays(key, value)
+    }
+
+    fn take(&mut self, pair: (K, V))
+        requires { S.callable self.old.sieve }
+        ensures callable { S.callable self.new.sieve }
+        ensures given { S.given self.old.sieve pair self.new.sieve × (self.old.gone + 1 < 2 ^ 64 → self.new.gone ≡ self.old.gone + 1) }
+    {
+        self.sieve.take(pair);
+        self.gone = self.gone.saturating_add(1);
     }
 }

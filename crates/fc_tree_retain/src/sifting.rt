@@ -52,7 +52,7 @@ fn sift_leaf<K: Drop, V: Drop, S: Sieve<K, V>, A: Handle>(node: &mut Node<K, V, 
 }
 
 // Asks of a leaf's pair at `at`, and answers the place of the next one.
-fn sift_own<K: Drop, V: Drop, S: Sieve<K, V>, A: Handle>(
+pub(crate) fn sift_own<K: Drop, V: Drop, S: Sieve<K, V>, A: Handle>(
     node: &mut Node<K, V, A>,
     at: usize,
     sieve: &mut S,
@@ -72,7 +72,7 @@ fn sift_own<K: Drop, V: Drop, S: Sieve<K, V>, A: Handle>(
 }
 
 // Whether the node's own pair at `index` is to stay.
-fn stays<K, V, S: Sieve<K, V>, A: Handle>(
+pub(crate) fn stays<K, V, S: Sieve<K, V>, A: Handle>(
     node: &mut Node<K, V, A>,
     index: usize,
     sieve: &mut S,
@@ -98,7 +98,7 @@ fn sift_between<K: Drop, V: Drop, S: Sieve<K, V>, A: Handle>(
     requires inner { IsInner node.old }
     requires callable { S.callable sieve.old }
     ensures callable { S.callable sieve.new }
-    ensures passed { IsPassed (SiftsPair S.asked S.given) sieve.old sieve.new at result node.old node.new }
+    ensures passed { IsPassed IsLoose (SiftsPair S.asked S.given) sieve.old sieve.new at result node.old node.new }
 {
     if stays(node, at, sieve) {
         return at + 1;
@@ -116,7 +116,10 @@ fn sift_between<K: Drop, V: Drop, S: Sieve<K, V>, A: Handle>(
 }
 
 // Takes the child at `index` out, and the pair behind it.
-fn remove_behind<K: Drop, V: Drop, A: Handle>(node: &mut Node<K, V, A>, index: usize) -> (K, V)
+pub(crate) fn remove_behind<K: Drop, V: Drop, A: Handle>(
+    node: &mut Node<K, V, A>,
+    index: usize,
+) -> (K, V)
     requires inside { index < length (own_pairs node.old) }
     requires inner { IsInner node.old }
     ensures value { result ≡ slice_index_or (own_pairs node.old) index result }

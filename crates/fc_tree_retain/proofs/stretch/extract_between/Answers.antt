@@ -1,0 +1,13 @@
+use Rattle.fc_tree_retain.specs.Retained.{AskedAtPair, GivenPair}
+use Rattle.fc_tree_retain.proofs.Kept.{as_extracted}
+use Rattle.fc_tree_retain.proofs.stretch.extract_between.Goals as goal
+
+pub returns-clause-extracted : goal.returns-clause-extracted
+returns-clause-extracted g c =
+    let e = c.sift_stretch.ensures.sifted in (
+      (e.0.pick, e.0.each),
+      e.1,
+      as_extracted _ _ (AskedAtPair g.F.FnMut) (GivenPair g.E.FnMut) (λ s. s.pick) (λ s. s.each)
+          (λ s t e w b a. a) (λ s t e q. q) _ _ _ _ e.2,
+      e.3,
+    )

@@ -1,0 +1,201 @@
+use Rattle.std.proofs.Common.{◌≡◌, ℕ, suc, ◌<◌, length, get_or, rules, arith, sym, ap, subst, ◌∙◌}
+use Rattle.std.proofs.lemmas.Bool.{false≢true}
+use Rattle.fc_tree_node.specs.Node.{own_pairs, child_at, IsLeaf, IsLevelled}
+use Rattle.fc_tree_node.proofs.Made.{child_set}
+use Rattle.fc_tree_removal.proofs.Removed.{none_leaf, opened_child}
+use Rattle.fc_tree_border.proofs.Heights.{height_of, levelled_height}
+use Rattle.fc_tree_retain.specs.Mending.{IsThin}
+use Rattle.fc_tree_retain.specs.Sifted.{SiftsPair}
+use Rattle.fc_tree_retain.specs.Stretch.{AreInOrder, IsEnd, IsStretchSifted}
+use Rattle.fc_tree_retain.proofs.Stretching.{AreEnds, ends_above, ends_order, end_inside, order_open, level_above, leaf_stretch, settled_stretch, IsStretching}
+use Rattle.fc_tree_retain.proofs.Stretching.{stretching_start, stretching_lent, stretching_onward, stretching_back, stretching_order, back_thin, back_sizes}
+use Rattle.fc_tree_retain.proofs.Stretching.{stretching_more, stretching_sifted, stretching_thin}
+use Rattle.fc_tree_retain.proofs.within.+sift_within.Given as given
+use Rattle.fc_tree_retain.proofs.within.+sift_within.Goals as goal
+use Rattle.fc_tree_retain.proofs.within.+sift_within.Goals.{Then-is_leaf, Else-is_leaf, After-get_mut, After-get_mut-2, After-loop}
+
+ends : (g : given.Over) (t : ℕ) (c : Else-is_leaf g t)
+    → AreEnds c.requires.ends.0 c.args.front.now c.args.back.now c.args.node.now c.first_step-start.result c.first_step-end.result
+ends g t c = ends_above c.requires.ends.0 c.args.front.now c.args.back.now c.args.node.now _ _ _ (λ l. false≢true (c.if-is_leaf.ensures.1 l))
+    c.requires.ends.1 c.requires.ends.2 c.requires.ends.3 c.requires.order c.first_step-start.ensures c.first_step-end.ensures c.len.ensures.value
+
+lent : (g : given.Over) (t : ℕ) (c : After-get_mut g t) → c.get_mut.result.now ≡ child_at c.loop.node c.loop.at
+lent g t c =
+    let l = stretching_lent (SiftsPair g.S.Sieve.asked g.S.Sieve.given) _ _ _ _ _ _ _ _ _ c.loop.invariant.at in
+    opened_child c.loop.node _ c.loop.at _ c.content.ensures.value l.inner l.bounds c.get_mut.ensures.value
+
+lent_last : (g : given.Over) (t : ℕ) (c : After-get_mut-2 g t) → c.get_mut-2.result.now ≡ child_at c.loop.node c.loop.at
+lent_last g t c =
+    let l = stretching_lent (SiftsPair g.S.Sieve.asked g.S.Sieve.given) _ _ _ _ _ _ _ _ _ c.loop.invariant.at in
+    opened_child c.loop.node _ c.loop.at _ c.content-2.ensures.value l.inner l.bounds c.get_mut-2.ensures.value
+
+at_end : (g : given.Over) (t : ℕ) (c : After-loop g t) → c.loop.counter ≡ c.first_step-end.result
+at_end g t c =
+    let test = c.loop-test.false in
+    let le = c.loop.invariant.end in
+    omega arith
+
+pub loop-init : goal.loop-init
+loop-init g t c =
+    let R = SiftsPair g.S.Sieve.asked g.S.Sieve.given in
+    let n = c.args.node.now in
+    let i = c.first_step-start.result in
+    let e = ends g t (goal.at.loop-init g t c).Else-is_leaf in
+    let order = e.order in
+    let inside = e.inside in
+    record {
+      callable = c.requires.callable;
+      end = e.order;
+      at = subst (λ p. IsStretching R c.args.sieve.now c.args.sieve.now c.args.front.now n n p i i i) (sym c.rest_of-ahead.ensures)
+          (stretching_start R c.args.sieve.now c.args.front.now n i e.levels.1 (omega arith) e.first);
+    }
+
+pub sift_within-requires : goal.sift_within-requires
+sift_within-requires g t c κs within =
+    let w = goal.at.sift_within-requires g t c in
+    let e = ends g t w.Else-is_leaf in
+    let o = stretching_onward (SiftsPair g.S.Sieve.asked g.S.Sieve.given) _ _ _ _ _ _ _ _ _ c.loop.invariant.at e.below c.get_mut.result.now e.levels
+    e.front_end e.first (lent g t w.After-get_mut) in
+    let x = levelled_height (suc e.below) c.args.node.now e.levels in
+    let y = levelled_height e.below c.get_mut.result.now o.0 in
+    let falls : height_of c.get_mut.result.now < height_of c.args.node.now = omega arith in (
+      omega (arith, falls, c.decreases),
+      (search rules, (search rules, (search rules, (search rules, ((e.below, o.0, o.1, tt), (order_open _, c.loop.invariant.callable)))))),
+    )
+
+pub sift_behind-at-requires-clause-thin : goal.sift_behind-at-requires-clause-thin
+sift_behind-at-requires-clause-thin g t c =
+    let w = goal.at.sift_behind-at-requires-clause-thin g t c in
+    let e = ends g t w.Else-is_leaf in
+    let m = child_set c.loop.node _ c.loop.at c.sift_within.new.node c.content.ensures.value in (
+      e.below,
+      back_thin (SiftsPair g.S.Sieve.asked g.S.Sieve.given) _ _ _ _ _ _ _ _ _ c.loop.invariant.at c.sift_within.new.sieve _ _ _
+          (lent g t w.After-get_mut) m c.sift_within.ensures.thin e.below e.levels,
+    )
+
+pub sift_behind-at-requires-clause-fits : goal.sift_behind-at-requires-clause-fits
+sift_behind-at-requires-clause-fits g t c =
+    let w = goal.at.sift_behind-at-requires-clause-fits g t c in
+    let fits = (ends g t w.Else-is_leaf).levels.0 in
+    let few = c.loop.invariant.at.few in
+    let m = child_set c.loop.node _ c.loop.at c.sift_within.new.node c.content.ensures.value in
+    let z = (back_sizes (SiftsPair g.S.Sieve.asked g.S.Sieve.given) _ _ _ _ _ _ _ _ _ c.loop.invariant.at c.sift_within.new.sieve _ _ _
+    (lent g t w.After-get_mut) m c.sift_within.ensures.thin).2 in
+    omega arith
+
+pub sift_behind-at-requires-clause-inside : goal.sift_behind-at-requires-clause-inside
+sift_behind-at-requires-clause-inside g t c =
+    let w = goal.at.sift_behind-at-requires-clause-inside g t c in
+    let inside = (ends g t w.Else-is_leaf).inside in
+    let test = c.loop-test.true in
+    let m = child_set c.loop.node _ c.loop.at c.sift_within.new.node c.content.ensures.value in
+    let z = (back_sizes (SiftsPair g.S.Sieve.asked g.S.Sieve.given) _ _ _ _ _ _ _ _ _ c.loop.invariant.at c.sift_within.new.sieve _ _ _
+    (lent g t w.After-get_mut) m c.sift_within.ensures.thin).2 in
+    omega arith
+
+pub sift_behind-at-requires-clause-inner : goal.sift_behind-at-requires-clause-inner
+sift_behind-at-requires-clause-inner g t c =
+    let w = goal.at.sift_behind-at-requires-clause-inner g t c in
+    let m = child_set c.loop.node _ c.loop.at c.sift_within.new.node c.content.ensures.value in
+    (back_sizes (SiftsPair g.S.Sieve.asked g.S.Sieve.given) _ _ _ _ _ _ _ _ _ c.loop.invariant.at c.sift_within.new.sieve _ _ _
+    (lent g t w.After-get_mut) m c.sift_within.ensures.thin).0
+
+pub loop-preserved : goal.loop-preserved
+loop-preserved g t c =
+    let w = goal.at.loop-preserved g t c in
+    let inside = (ends g t w.Else-is_leaf).inside in
+    let test = c.loop-test.true in
+    let m = child_set c.loop.node _ c.loop.at c.sift_within.new.node c.content.ensures.value in
+    record {
+      callable = c.sift_behind-at.ensures.callable;
+      end = omega arith;
+      at = stretching_more (SiftsPair g.S.Sieve.asked g.S.Sieve.given) _ _ _ _ _ _ _ _ _ c.loop.invariant.at c.sift_within.new.sieve _ _ _
+          (lent g t w.After-get_mut) m c.sift_within.ensures.thin c.sift_behind-at.new.sieve c.sift_behind-at.new.node c.sift_behind-at.result (omega arith)
+          c.sift_within.ensures.sifted c.sift_behind-at.ensures.passed;
+    }
+
+pub sift_within-requires-2 : goal.sift_within-requires-2
+sift_within-requires-2 g t c κs within =
+    let R = SiftsPair g.S.Sieve.asked g.S.Sieve.given in
+    let w = goal.at.sift_within-requires-2 g t c in
+    let d = c.get_mut-2.result.now in
+    let back = c.args.back.now in
+    let e = ends g t w.Else-is_leaf in
+    let l = lent_last g t w.After-get_mut-2 in
+    let m = at_end g t w.After-loop ∙ e.last in
+    let o = stretching_onward R _ _ _ _ _ _ _ _ _ c.loop.invariant.at e.below d e.levels e.front_end e.first l in
+    let b = stretching_back R _ _ _ _ _ _ _ _ _ c.loop.invariant.at e.below _ d back e.back_end m l in
+    let order = stretching_order R _ _ _ _ _ _ _ _ _ c.loop.invariant.at back _ c.requires.order e.first m in
+    let x = levelled_height (suc e.below) c.args.node.now e.levels in
+    let y = levelled_height e.below d o.0 in
+    let falls : height_of d < height_of c.args.node.now = omega arith in
+    let b' = subst (λ p. IsEnd e.below p d) (sym c.rest_of.ensures) b in
+    let order' = subst (AreInOrder c.loop.ahead.now) (sym c.rest_of.ensures) order in (
+      omega (arith, falls, c.decreases),
+      (search rules, (search rules, (search rules, (search rules, ((e.below, o.0, o.1, b'), (order', c.loop.invariant.callable)))))),
+    )
+
+pub settle_between-requires : goal.settle_between-requires
+settle_between-requires g t c =
+    let w = goal.at.settle_between-requires g t c in
+    let e = ends g t w.Else-is_leaf in
+    let m = child_set c.loop.node _ c.loop.at c.sift_within-2.new.node c.content-2.ensures.value in (
+      e.below,
+      stretching_thin (SiftsPair g.S.Sieve.asked g.S.Sieve.given) _ _ _ _ _ _ _ _ _ c.loop.invariant.at c.sift_within-2.new.sieve _ _ _
+          (lent_last g t w.After-get_mut-2) m c.sift_within-2.ensures.thin e.below e.levels,
+    )
+
+pub returns-then-is_leaf-clause-thin : goal.returns-then-is_leaf-clause-thin
+returns-then-is_leaf-clause-thin g t c h l =
+    let z = none_leaf h c.args.node.now (c.if-is_leaf.ensures.0 (search rules)) l in
+    subst (λ k. IsThin k c.sift_part.new.node) (sym z) c.sift_part.ensures.loose
+
+pub returns-then-is_leaf-clause-sifted : goal.returns-then-is_leaf-clause-sifted
+returns-then-is_leaf-clause-sifted g t c =
+    leaf_stretch (SiftsPair g.S.Sieve.asked g.S.Sieve.given) c.requires.ends.0 _ _ c.args.front.now c.args.back.now _ _ c.args.node.now _
+    (c.if-is_leaf.ensures.0 (search rules)) c.sift_part.ensures.loose.1 c.requires.ends.1 c.requires.ends.2 c.requires.ends.3 c.first_step-start.ensures
+    (c.first_step-end.ensures ∙ ap (get_or c.args.back.now 0) c.len.ensures.value) c.sift_part.ensures.sifted
+
+pub sift_part-requires-clause-leaf : goal.sift_part-requires-clause-leaf
+sift_part-requires-clause-leaf g t c =
+    let n = c.args.node.now in
+    let z = none_leaf c.requires.ends.0 n (c.if-is_leaf.ensures.0 (search rules)) c.requires.ends.1 in
+    subst (λ k. IsLevelled k n) z c.requires.ends.1
+
+pub sift_part-requires-clause-order : goal.sift_part-requires-clause-order
+sift_part-requires-clause-order g t c =
+    let n = c.args.node.now in
+    let le = ends_order c.requires.ends.0 c.args.front.now c.args.back.now n c.requires.ends.2 c.requires.order in
+    let first = c.first_step-start.ensures in
+    let last = c.first_step-end.ensures ∙ ap (get_or c.args.back.now 0) c.len.ensures.value in
+    omega arith
+
+pub sift_part-requires-clause-inside : goal.sift_part-requires-clause-inside
+sift_part-requires-clause-inside g t c =
+    let n = c.args.node.now in
+    let le = end_inside c.requires.ends.0 c.args.back.now n (length (own_pairs n)) c.requires.ends.3 (omega arith) in
+    let last = c.first_step-end.ensures ∙ ap (get_or c.args.back.now 0) c.len.ensures.value in
+    omega arith
+
+pub returns-clause-thin : goal.returns-clause-thin
+returns-clause-thin g t c h l =
+    let w = goal.at.returns-clause-thin g t c in
+    let up : IsLeaf c.args.node.now → ⊥ = λ b. false≢true (c.if-is_leaf.ensures.1 b) in
+    let a = level_above h c.args.node.now up l in
+    let m = child_set c.loop.node _ c.loop.at c.sift_within-2.new.node c.content-2.ensures.value in
+    let within = stretching_thin (SiftsPair g.S.Sieve.asked g.S.Sieve.given) _ _ _ _ _ _ _ _ _ c.loop.invariant.at c.sift_within-2.new.sieve _ _ _
+    (lent_last g t w.After-get_mut-2) m c.sift_within-2.ensures.thin a.below a.levels in
+    subst (λ k. IsThin k c.settle_between.new.node) (sym a.height) (c.settle_between.ensures.thin a.below within)
+
+pub returns-clause-sifted : goal.returns-clause-sifted
+returns-clause-sifted g t c =
+    let R = SiftsPair g.S.Sieve.asked g.S.Sieve.given in
+    let w = goal.at.returns-clause-sifted g t c in
+    let back = c.args.back.now in
+    let e = ends g t w.Else-is_leaf in
+    let m = child_set c.loop.node _ c.loop.at c.sift_within-2.new.node c.content-2.ensures.value in
+    let sifted = subst (λ p. IsStretchSifted R c.loop.sieve c.sift_within-2.new.sieve c.loop.ahead.now p c.get_mut-2.result.now c.sift_within-2.new.node)
+    c.rest_of.ensures c.sift_within-2.ensures.sifted in
+    settled_stretch R c.args.sieve.now c.sift_within-2.new.sieve c.args.front.now back c.args.node.now _ c.settle_between.new.node
+    (stretching_sifted R _ _ _ _ _ _ _ _ _ c.loop.invariant.at c.sift_within-2.new.sieve _ _ _ (lent_last g t w.After-get_mut-2) m
+    c.sift_within-2.ensures.thin back (at_end g t w.After-loop ∙ e.last) sifted) c.settle_between.ensures.pairs

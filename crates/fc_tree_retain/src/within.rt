@@ -1,0 +1,141 @@
+//! The pairs between two gaps that are not to stay taken out of a tree, of which only the nodes between these are seen, and mended.
+ghost use Rattle.std.specs.Prelude.{◌≡◌, ℕ, ◌+◌, ◌<◌, ◌≤◌, [], ◌++◌, length, drop, slice_index_or, MatchOption, ⊤};
+ghost use Rattle.std.specs.Option.{option_to_list};
+ghost use Rattle.fc_base.specs.Sizes.{capacity};
+ghost use Rattle.fc_tree_node.specs.Node.{own_pairs, child_at, pairs_of, IsInner, IsLevelled};
+ghost use Rattle.fc_tree_retain.specs.Loose.{IsLoose};
+ghost use Rattle.fc_tree_retain.specs.Mending.{IsThin};
+ghost use Rattle.fc_tree_retain.specs.Sifted.{SiftsPair, IsPassed};
+ghost use Rattle.fc_tree_retain.specs.Stretch.{AreInOrder, IsEnd, IsPartSifted, IsStretchSifted};
+
+use crate::mending::settle_between;
+use crate::sieve::Sieve;
+use crate::sifting::{remove_behind, sift_own, stays};
+use fc_base::{Count, Handle};
+use fc_tree_node::node::Node;
+use fc_tree_removal::first_last::remove_last;
+use fc_tree_search::lend::content;
+
+// Asks of each pair below the node between two gaps, in order, takes those out that are not to stay, and mends what is below the node.
+// A path of no step stands for the end of the node on its side.
+pub(crate) fn sift_within<K: Drop, V: Drop, S: Sieve<K, V>, A: Handle>(
+    node: &mut Node<K, V, A>,
+    front: &[u8],
+    back: &[u8],
+    sieve: &mut S,
+)
+    requires ends { (h : ℕ) × IsLevelled h node.old × IsEnd h front.now node.old × IsEnd h back.now node.old }
+    requires order { AreInOrder front.now back.now }
+    requires callable { S.callable sieve.old }
+    ensures callable { S.callable sieve.new }
+    ensures thin { (h : ℕ) → IsLevelled h node.old → IsThin h node.new }
+    ensures sifted { IsStretchSifted (SiftsPair S.asked S.given) sieve.old sieve.new front.now back.now node.old node.new }
+{
+    let start = first_step(front, 0);
+    let end = first_step(back, node.len());
+    if node.is_leaf() {
+        sift_part(node, start, end, sieve);
+        return;
+    }
+    let mut ahead = rest_of(front);
+    let mut at = start;
+    for _ in start..end {
+        sift_within(content(&mut node.children).get_mut(at), ahead, &[], sieve);
+        at = sift_behind(node, at, sieve);
+        ahead = &[];
+    }
+    sift_within(
+        content(&mut node.children).get_mut(at),
+        ahead,
+        rest_of(back),
+        sieve,
+    );
+    settle_between(node, start, at);
+}
+
+// The first step of a path, or what stands for it where the path has none.
+fn first_step(path: &[u8], otherwise: usize) -> usize
+    ensures { result ≡ slice_index_or path.now 0 otherwise }
+{
+    if path.is_empty() {
+        return otherwise;
+    }
+    path[0] as usize
+}
+
+// The steps behind the first.
+fn rest_of(path: &[u8]) -> &[u8]
+    ensures { result.now ≡ drop 1 path.now }
+{
+    if path.is_empty() {
+        return path;
+    }
+    &path[1..]
+}
+
+// Asks of the pairs of a leaf from one place up to another.
+fn sift_part<K: Drop, V: Drop, S: Sieve<K, V>, A: Handle>(
+    node: &mut Node<K, V, A>,
+    start: usize,
+    end: usize,
+    sieve: &mut S,
+)
+    requires leaf { IsLoose 0 node.old }
+    requires order { start ≤ end }
+    requires inside { end ≤ length (own_pairs node.old) }
+    requires callable { S.callable sieve.old }
+    ensures callable { S.callable sieve.new }
+    ensures loose { IsLoose 0 node.new }
+    ensures sifted { IsPartSifted (SiftsPair S.asked S.given) sieve.old sieve.new start end (own_pairs node.old) (own_pairs node.new) }
+{
+    let mut at = start;
+    for _ in start..end {
+        at = sift_own(node, at, sieve);
+    }
+}
+
+// Asks of the pair behind a child that is done, and answers which child is next. Where the pair is not to stay, the last one below the
+// child takes its place, and the child is mended; a child without pairs goes with it.
+fn sift_behind<K: Drop, V: Drop, S: Sieve<K, V>, A: Handle>(
+    node: &mut Node<K, V, A>,
+    at: usize,
+    sieve: &mut S,
+) -> usize
+    requires thin { (h : ℕ) × IsThin h (child_at node.old at) }
+    requires fits { length (own_pairs node.old) ≤ capacity }
+    requires inside { at < length (own_pairs node.old) }
+    requires inner { IsInner node.old }
+    requires callable { S.callable sieve.old }
+    ensures callable { S.callable sieve.new }
+    ensures passed { IsPassed IsThin (SiftsPair S.asked S.given) sieve.old sieve.new at result node.old node.new }
+{
+    if stays(node, at, sieve) {
+        return at + 1;
+    }
+    match take_last_of_thin(content(&mut node.children).get_mut(at)) {
+        None => {
+            sieve.take(remove_behind(node, at));
+            at
+        }
+        Some(pair) => {
+            sieve.take(node.replace_pair(at, pair, &mut Count::new()));
+            at + 1
+        }
+    }
+}
+
+// Takes the last pair below a node that may hold none itself out, if there is one, and mends what is below the node.
+fn take_last_of_thin<K: Drop, V: Drop, A: Handle>(node: &mut Node<K, V, A>) -> Option<(K, V)>
+    requires thin { (h : ℕ) × IsThin h node.old }
+    ensures thin { (h : ℕ) → IsThin h node.old → IsThin h node.new }
+    ensures pairs { pairs_of node.old ≡ pairs_of node.new ++ option_to_list result }
+    ensures none { MatchOption result (pairs_of node.new ≡ []) (λ _. ⊤) }
+{
+    if node.len() > 0 {
+        return Some(remove_last(node, &mut Count::new()));
+    }
+    if node.is_leaf() {
+        return None;
+    }
+    take_last_of_thin(content(&mut node.children).get_mut(0))
+}
