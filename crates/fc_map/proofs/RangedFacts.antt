@@ -27,6 +27,10 @@ both p (x ∷ s) = go (p x) (both p s)
     go true e = omega (arith, e)
     go false e = omega (arith, e)
 
+-- how many are left, where that many went
+pub left_over : (gone new old len : ℕ) → gone + new ≡ old → len ≡ old → len - gone ≡ new
+left_over gone new old len e f = omega (arith, e, f)
+
 module _ {K Q V Z : Type 0} {cmp : K → K → Ordering} {order : K → Q → Ordering} (fits : IsQueryOrder cmp order) (lo hi : Bound Q)
     (m : Map K V Z) (front back : List ℕ) where
   -- Two gaps at which a range of a sound map starts and ends.
