@@ -145,5 +145,6 @@ module _ {K V Z : Type 0} where
   thin_first (suc h) n up t = (t.1, record { below = h; height = refl; thin = only_thin h n t })
 
   -- a pair was taken out of it
-  pub thin_shrunk : (h : ℕ) (old new : Node K V Z) → 1 ≤ length (own_pairs old) → ((g : ℕ) → IsSoundRoot g old → IsShrunk g old new) → IsThin h old → IsThin h new
+  pub thin_shrunk : (h : ℕ) (old new : Node K V Z) → 1 ≤ length (own_pairs old) → ((g : ℕ) → IsSoundRoot g old → IsShrunk g old new) → IsThin h old
+      → IsThin h new
   thin_shrunk h old new some f t = levelled_thin h new (f h (some, thin_levelled h old some t)).0

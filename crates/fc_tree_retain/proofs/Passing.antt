@@ -318,8 +318,8 @@ module _ {S K V : Type 0} (R : S → K × V → S → V → Bool → Type 0) whe
       subst (λ x. RetainsInTurn R s x t now) (sym o) (subst (λ x. RetainsInTurn R s l.seen t x) (sym n) l.sifts)
 
   -- those of a part were
-  pub part_end : (i j last : ℕ) (s t : S) (old now : List (K × V)) (at : ℕ) → i ≤ length old → last + j ≡ length old → IsLeafSifted (take i old) last s t old now at 0
-      → IsPartSifted R s t i j old now
+  pub part_end : (i j last : ℕ) (s t : S) (old now : List (K × V)) (at : ℕ) → i ≤ length old → last + j ≡ length old
+      → IsLeafSifted (take i old) last s t old now at 0 → IsPartSifted R s t i j old now
   part_end i j last s t old now at le e l =
       let whole : old ≡ (take i old ++ l.seen) ++ l.rest = l.old_is ∙ sym (append_assoc (take i old) l.seen l.rest) in
       let sizes = ap length whole ∙ length-append (take i old ++ l.seen) l.rest in

@@ -12,7 +12,7 @@ use Rattle.fc_tree_node.specs.Place.{before_child, after_child}
 use Rattle.fc_tree_node.proofs.Lists.{take_nil, drop_nil, length_take, take_drop, all_both, all_front, all_back}
 use Rattle.fc_tree_node.proofs.Pairs.{leaf_children, leaf_pairs, child_below}
 use Rattle.fc_tree_node.proofs.Made.{IsChildSet}
-use Rattle.fc_tree_node.proofs.Gaps.{drop_item, drop_all, inner_gap, after_none}
+use Rattle.fc_tree_node.proofs.Gaps.{drop_item, cut_item, drop_all, inner_gap, after_none}
 use Rattle.fc_tree_removal.proofs.Removed.{IsAbove, take_set, drop_set, none_leaf}
 use Rattle.fc_tree_retain.specs.Mending.{IsThin}
 use Rattle.fc_tree_retain.specs.Retained.{RetainsInTurn}
@@ -270,7 +270,7 @@ module _ {S K V Z : Type 0} (R : S → K × V → S → V → Bool → Type 0) w
         (subst (λ i. IsEnd h (drop 1 back) (child_at old i)) (sym f) (end_below h back old m e))
 
     -- the child came back
-    module _ (u : S) (mid dold dnew : Node K V Z) (is : dold ≡ child_at now at) (m : IsChildSet now mid at dnew)
+    module _ (mid dold dnew : Node K V Z) (is : dold ≡ child_at now at) (m : IsChildSet now mid at dnew)
         (thin : (h : ℕ) → IsLevelled h dold → IsThin h dnew) where
       here : dold ≡ c
       here = is ∙ stretching_lent.is
@@ -300,9 +300,9 @@ module _ {S K V Z : Type 0} (R : S → K × V → S → V → Bool → Type 0) w
           (left.inner, omega arith, omega arith)
 
       -- and the pair behind it was asked
-      pub stretching_more : (v : S) (new : Node K V Z) (j : ℕ) → counter < length (own_pairs old) → IsStretchSifted R t u ahead [] dold dnew
+      pub stretching_more : (u v : S) (new : Node K V Z) (j : ℕ) → counter < length (own_pairs old) → IsStretchSifted R t u ahead [] dold dnew
           → IsPassed IsThin R u v at j mid new → IsStretching s v front old new [] first (counter + 1) j
-      stretching_more v new j lt e p =
+      stretching_more u v new j lt e p =
           let one : counter + 1 ≡ suc counter = omega arith in
           let next : at + 1 ≡ suc at = omega arith in
           let before = x.later in
@@ -319,8 +319,8 @@ module _ {S K V Z : Type 0} (R : S → K × V → S → V → Bool → Type 0) w
           ∙ ap (λ qs. p.own_kept ++ qs) (sym (drop-drop 1 at (x.own_done ++ drop counter ps)))
           ∙ ap (λ qs. p.own_kept ++ drop 1 qs) (drop_place x.own_done (drop counter ps) at x.own_place)
           ∙ ap (λ qs. p.own_kept ++ qs) (drop-drop 1 counter ps) in
-          let size : length (take first (children_of old) ++ (x.done ++ p.kept)) ≡ j = ap length (sym (append_assoc (take first (children_of old)) x.done p.kept))
-          ∙ length-append A p.kept ∙ omega arith in
+          let size : length (take first (children_of old) ++ (x.done ++ p.kept)) ≡ j =
+          ap length (sym (append_assoc (take first (children_of old)) x.done p.kept)) ∙ length-append A p.kept ∙ omega arith in
           let k : length (children_of old) ≡ length (own_pairs old) + 1 = x.inner in
           let o : IsOpenAt new j (take first (children_of old) ++ (x.done ++ p.kept)) (child_at old (counter + 1)) (drop (suc (counter + 1)) (children_of old))
           p.own_kept (drop (counter + 1) ps) = record {
@@ -373,9 +373,9 @@ module _ {S K V Z : Type 0} (R : S → K × V → S → V → Bool → Type 0) w
           regroup_front b g a z = simp append_assoc
 
       -- the last child
-      pub stretching_sifted : (back : List ℕ) → counter ≡ get_or back 0 (length (own_pairs old)) → IsStretchSifted R t u ahead (drop 1 back) dold dnew
+      pub stretching_sifted : (u : S) (back : List ℕ) → counter ≡ get_or back 0 (length (own_pairs old)) → IsStretchSifted R t u ahead (drop 1 back) dold dnew
           → IsStretchSifted R s u front back old mid
-      stretching_sifted back g e =
+      stretching_sifted u back g e =
           let b = back_parts back old counter g in
           let rest = after_gap (drop 1 back) c in
           let asked : pairs_of c ≡ before_gap ahead c ++ (e.asked ++ rest) = ap pairs_of (sym here) ∙ e.before
@@ -420,9 +420,9 @@ module _ {S K V Z : Type 0} (R : S → K × V → S → V → Bool → Type 0) w
           let sound = subst (AllByRecursion (IsSound h)) (sym (take_drop first cs)) l.2 in
           let front_sound = all_front (IsSound h) (take first cs) (drop first cs) sound in
           let back_sound = all_back (IsSound h) (take (suc counter) cs) D (subst (AllByRecursion (IsSound h)) (sym (take_drop (suc counter) cs)) l.2) in
-          let whole : children_of mid ≡ take first cs ++ (x.done ++ child_at mid at ∷ D) = sym (take_drop at (children_of mid))
-          ∙ ap (λ ds. take at (children_of mid) ++ ds) (drop_item (children_of mid) at mid (let i : length (children_of mid) ≡ length (own_pairs mid) + 1 = left.inner in
-          let b = back_sizes.1 in omega arith))
+          let n : length (children_of mid) ≡ length (own_pairs mid) + 1 = left.inner in
+          let last = back_sizes.1 in
+          let whole : children_of mid ≡ take first cs ++ (x.done ++ child_at mid at ∷ D) = cut_item (children_of mid) at mid (omega arith)
           ∙ ap (λ zs. zs ++ child_at mid at ∷ drop (suc at) (children_of mid)) taken ∙ ap (λ ds. A ++ child_at mid at ∷ ds) dropped
           ∙ append_assoc (take first cs) x.done (child_at mid at ∷ D) in
           let one : at + 1 ≡ suc at = omega arith in
@@ -431,7 +431,7 @@ module _ {S K V Z : Type 0} (R : S → K × V → S → V → Bool → Type 0) w
             fits = omega arith;
             inner = left.inner;
             order = order;
-            last = back_sizes.1;
+            last = last;
             before = subst (AllByRecursion (IsSound h)) (sym (ap (take first) whole
                 ∙ take_place (take first cs) (x.done ++ child_at mid at ∷ D) first (length_take first cs (omega arith)))) front_sound;
             thin = subst (AllByRecursion (IsThin h)) (sym whole) (all_both (IsThin h) (take first cs) _ (each (IsSound h) (IsThin h) of_sound _ front_sound)

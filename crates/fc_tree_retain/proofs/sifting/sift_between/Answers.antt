@@ -91,8 +91,8 @@ returns-in-None-clause-passed g c =
     let gone = subst (λ y. g.S.Sieve.given c.stays.new.sieve y c.take.new.self) same c.take.ensures.given in
     let empty : pairs_of (child_at n i) ≡ [] =
     ap pairs_of (sym is) ∙ c.in-None.ensures.pairs ∙ append-nil (pairs_of c.take_last.new.node) ∙ c.in-None.ensures.none in
-    passed_gone (SiftsPair g.S.Sieve.asked g.S.Sieve.given) IsLoose c.args.sieve.now c.take.new.self i n c.remove_behind.new.node a.0 c.requires.inner lt a.3 a.1 _
-    c.take_last.new.node (c.stays.new.sieve, a.2, gone) m r.pairs r.children empty
+    passed_gone (SiftsPair g.S.Sieve.asked g.S.Sieve.given) IsLoose c.args.sieve.now c.take.new.self i n c.remove_behind.new.node a.0 c.requires.inner lt a.3
+    a.1 _ c.take_last.new.node (c.stays.new.sieve, a.2, gone) m r.pairs r.children empty
 
 pub returns-in-Some-clause-passed : goal.returns-in-Some-clause-passed
 returns-in-Some-clause-passed g c =
@@ -107,6 +107,6 @@ returns-in-Some-clause-passed g c =
     let x = c.replace_pair.result in
     let same : x ≡ (a.0.0, a.1) = r.value ∙ ap (λ ps. get_or ps i x) m.own ∙ value_at (own_pairs n) i a.1 a.0 x lt a.3 in
     let gone = subst (λ y. g.S.Sieve.given c.stays.new.sieve y c.take-in-Some.new.self) same c.take-in-Some.ensures.given in
-    passed_moved (SiftsPair g.S.Sieve.asked g.S.Sieve.given) IsLoose c.args.sieve.now c.take-in-Some.new.self i n c.replace_pair.new.self a.0 c.requires.inner lt
-    a.3 a.1 _ c.take_last.new.node c.in-Some.pair (c.stays.new.sieve, a.2, gone) m r.pairs r.children (ap pairs_of (sym is) ∙ c.in-Some.ensures.pairs)
+    passed_moved (SiftsPair g.S.Sieve.asked g.S.Sieve.given) IsLoose c.args.sieve.now c.take-in-Some.new.self i n c.replace_pair.new.self a.0 c.requires.inner
+    lt a.3 a.1 _ c.take_last.new.node c.in-Some.pair (c.stays.new.sieve, a.2, gone) m r.pairs r.children (ap pairs_of (sym is) ∙ c.in-Some.ensures.pairs)
     (λ h l. c.take_last.ensures.loose h (subst (IsLoose h) (sym is) l))

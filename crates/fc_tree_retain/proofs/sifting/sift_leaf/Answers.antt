@@ -18,8 +18,8 @@ loop-init g c =
 pub sift_own-at-requires-clause-inside : goal.sift_own-at-requires-clause-inside
 sift_own-at-requires-clause-inside g c =
     let test = c.loop-test.true in
-    leaf_room (SiftsPair g.S.Sieve.asked g.S.Sieve.given) [] 0 c.args.sieve.now c.loop.sieve _ _ c.loop.at (c.len-end.result - c.loop.counter) c.loop.invariant.at
-    (omega arith)
+    leaf_room (SiftsPair g.S.Sieve.asked g.S.Sieve.given) [] 0 c.args.sieve.now c.loop.sieve _ _ c.loop.at (c.len-end.result - c.loop.counter)
+    c.loop.invariant.at (omega arith)
 
 pub loop-preserved : goal.loop-preserved
 loop-preserved g c =

@@ -9,5 +9,6 @@ abbrev pub invariant-loop : goal.invariant-loop
 invariant-loop g l = record {
   callable : g.S.Sieve.callable l.sieve;
   loose : IsLoose 0 l.node;
-  at : IsLeafSifted (SiftsPair g.S.Sieve.asked g.S.Sieve.given) [] 0 l.initial.sieve l.sieve (own_pairs l.initial.node) (own_pairs l.node) l.at (l.end - l.counter);
+  at : IsLeafSifted (SiftsPair g.S.Sieve.asked g.S.Sieve.given) [] 0 l.initial.sieve l.sieve (own_pairs l.initial.node) (own_pairs l.node) l.at
+      (l.end - l.counter);
 }

@@ -1,7 +1,9 @@
-use Rattle.std.proofs.Common.{◌≡◌, ℕ, suc, ◌<◌, length, get_or, rules, arith, sym, ap, subst, ◌∙◌}
+use Rattle.std.proofs.Common.{◌≡◌, ℕ, suc, ◌+◌, ◌<◌, ◌≤◌, Some, length, get_or, rules, arith, sym, ap, subst, ◌∙◌}
+use Rattle.std.specs.Prelude.{slice_set}
 use Rattle.std.proofs.lemmas.Bool.{false≢true}
-use Rattle.fc_tree_node.specs.Node.{own_pairs, child_at, IsLeaf, IsLevelled}
-use Rattle.fc_tree_node.proofs.Made.{child_set}
+use Rattle.fc_tree_node.specs.declared.node.Node.{Node, roll-Node}
+use Rattle.fc_tree_node.specs.Node.{own_pairs, child_at, IsInner, IsLeaf, IsLevelled}
+use Rattle.fc_tree_node.proofs.Made.{IsChildSet, child_set}
 use Rattle.fc_tree_removal.proofs.Removed.{none_leaf, opened_child}
 use Rattle.fc_tree_border.proofs.Heights.{height_of, levelled_height}
 use Rattle.fc_tree_retain.specs.Mending.{IsThin}
@@ -12,7 +14,7 @@ use Rattle.fc_tree_retain.proofs.Stretching.{stretching_start, stretching_lent, 
 use Rattle.fc_tree_retain.proofs.Stretching.{stretching_more, stretching_sifted, stretching_thin}
 use Rattle.fc_tree_retain.proofs.within.+sift_within.Given as given
 use Rattle.fc_tree_retain.proofs.within.+sift_within.Goals as goal
-use Rattle.fc_tree_retain.proofs.within.+sift_within.Goals.{Then-is_leaf, Else-is_leaf, After-get_mut, After-get_mut-2, After-loop}
+use Rattle.fc_tree_retain.proofs.within.+sift_within.Goals.{Else-is_leaf, After-get_mut, After-sift_within, After-get_mut-2, After-sift_within-2, After-loop}
 
 ends : (g : given.Over) (t : ℕ) (c : Else-is_leaf g t)
     → AreEnds c.requires.ends.0 c.args.front.now c.args.back.now c.args.node.now c.first_step-start.result c.first_step-end.result
@@ -28,6 +30,25 @@ lent_last : (g : given.Over) (t : ℕ) (c : After-get_mut-2 g t) → c.get_mut-2
 lent_last g t c =
     let l = stretching_lent (SiftsPair g.S.Sieve.asked g.S.Sieve.given) _ _ _ _ _ _ _ _ _ c.loop.invariant.at in
     opened_child c.loop.node _ c.loop.at _ c.content-2.ensures.value l.inner l.bounds c.get_mut-2.ensures.value
+
+-- the node, whose child came back
+abbrev left : (g : given.Over) (t : ℕ) → After-sift_within g t → Node g.row.K.Denot g.row.V.Denot g.row.A.Denot
+left g t c = roll-Node _ _ _ (record { pairs = own_pairs c.loop.node; children = Some (slice_set c.content.result.now c.loop.at c.sift_within.new.node) })
+
+came : (g : given.Over) (t : ℕ) (c : After-sift_within g t) → IsChildSet c.loop.node (left g t c) c.loop.at c.sift_within.new.node
+came g t c = child_set c.loop.node _ c.loop.at c.sift_within.new.node c.content.ensures.value
+
+abbrev left_last : (g : given.Over) (t : ℕ) → After-sift_within-2 g t → Node g.row.K.Denot g.row.V.Denot g.row.A.Denot
+left_last g t c =
+    roll-Node _ _ _ (record { pairs = own_pairs c.loop.node; children = Some (slice_set c.content-2.result.now c.loop.at c.sift_within-2.new.node) })
+
+came_last : (g : given.Over) (t : ℕ) (c : After-sift_within-2 g t) → IsChildSet c.loop.node (left_last g t c) c.loop.at c.sift_within-2.new.node
+came_last g t c = child_set c.loop.node _ c.loop.at c.sift_within-2.new.node c.content-2.ensures.value
+
+sizes : (g : given.Over) (t : ℕ) (c : After-sift_within g t) → c.get_mut.result.now ≡ child_at c.loop.node c.loop.at → IsInner (left g t c)
+    × (c.loop.at ≤ length (own_pairs (left g t c))) × (length (own_pairs (left g t c)) + c.loop.counter ≡ length (own_pairs c.args.node.now) + c.loop.at)
+sizes g t c l =
+    back_sizes (SiftsPair g.S.Sieve.asked g.S.Sieve.given) _ _ _ _ _ _ _ _ _ c.loop.invariant.at _ _ _ l (came g t c) c.sift_within.ensures.thin
 
 at_end : (g : given.Over) (t : ℕ) (c : After-loop g t) → c.loop.counter ≡ c.first_step-end.result
 at_end g t c =
@@ -67,20 +88,16 @@ pub sift_behind-at-requires-clause-thin : goal.sift_behind-at-requires-clause-th
 sift_behind-at-requires-clause-thin g t c =
     let w = goal.at.sift_behind-at-requires-clause-thin g t c in
     let e = ends g t w.Else-is_leaf in
-    let m = child_set c.loop.node _ c.loop.at c.sift_within.new.node c.content.ensures.value in (
-      e.below,
-      back_thin (SiftsPair g.S.Sieve.asked g.S.Sieve.given) _ _ _ _ _ _ _ _ _ c.loop.invariant.at c.sift_within.new.sieve _ _ _
-          (lent g t w.After-get_mut) m c.sift_within.ensures.thin e.below e.levels,
-    )
+    let R = SiftsPair g.S.Sieve.asked g.S.Sieve.given in
+    let l = lent g t w.After-get_mut in
+    (e.below, back_thin R _ _ _ _ _ _ _ _ _ c.loop.invariant.at _ _ _ l (came g t w.After-sift_within) c.sift_within.ensures.thin e.below e.levels)
 
 pub sift_behind-at-requires-clause-fits : goal.sift_behind-at-requires-clause-fits
 sift_behind-at-requires-clause-fits g t c =
     let w = goal.at.sift_behind-at-requires-clause-fits g t c in
     let fits = (ends g t w.Else-is_leaf).levels.0 in
     let few = c.loop.invariant.at.few in
-    let m = child_set c.loop.node _ c.loop.at c.sift_within.new.node c.content.ensures.value in
-    let z = (back_sizes (SiftsPair g.S.Sieve.asked g.S.Sieve.given) _ _ _ _ _ _ _ _ _ c.loop.invariant.at c.sift_within.new.sieve _ _ _
-    (lent g t w.After-get_mut) m c.sift_within.ensures.thin).2 in
+    let z = (sizes g t w.After-sift_within (lent g t w.After-get_mut)).2 in
     omega arith
 
 pub sift_behind-at-requires-clause-inside : goal.sift_behind-at-requires-clause-inside
@@ -88,30 +105,25 @@ sift_behind-at-requires-clause-inside g t c =
     let w = goal.at.sift_behind-at-requires-clause-inside g t c in
     let inside = (ends g t w.Else-is_leaf).inside in
     let test = c.loop-test.true in
-    let m = child_set c.loop.node _ c.loop.at c.sift_within.new.node c.content.ensures.value in
-    let z = (back_sizes (SiftsPair g.S.Sieve.asked g.S.Sieve.given) _ _ _ _ _ _ _ _ _ c.loop.invariant.at c.sift_within.new.sieve _ _ _
-    (lent g t w.After-get_mut) m c.sift_within.ensures.thin).2 in
+    let z = (sizes g t w.After-sift_within (lent g t w.After-get_mut)).2 in
     omega arith
 
 pub sift_behind-at-requires-clause-inner : goal.sift_behind-at-requires-clause-inner
 sift_behind-at-requires-clause-inner g t c =
     let w = goal.at.sift_behind-at-requires-clause-inner g t c in
-    let m = child_set c.loop.node _ c.loop.at c.sift_within.new.node c.content.ensures.value in
-    (back_sizes (SiftsPair g.S.Sieve.asked g.S.Sieve.given) _ _ _ _ _ _ _ _ _ c.loop.invariant.at c.sift_within.new.sieve _ _ _
-    (lent g t w.After-get_mut) m c.sift_within.ensures.thin).0
+    (sizes g t w.After-sift_within (lent g t w.After-get_mut)).0
 
 pub loop-preserved : goal.loop-preserved
 loop-preserved g t c =
     let w = goal.at.loop-preserved g t c in
     let inside = (ends g t w.Else-is_leaf).inside in
     let test = c.loop-test.true in
-    let m = child_set c.loop.node _ c.loop.at c.sift_within.new.node c.content.ensures.value in
     record {
       callable = c.sift_behind-at.ensures.callable;
       end = omega arith;
-      at = stretching_more (SiftsPair g.S.Sieve.asked g.S.Sieve.given) _ _ _ _ _ _ _ _ _ c.loop.invariant.at c.sift_within.new.sieve _ _ _
-          (lent g t w.After-get_mut) m c.sift_within.ensures.thin c.sift_behind-at.new.sieve c.sift_behind-at.new.node c.sift_behind-at.result (omega arith)
-          c.sift_within.ensures.sifted c.sift_behind-at.ensures.passed;
+      at = stretching_more (SiftsPair g.S.Sieve.asked g.S.Sieve.given) _ _ _ _ _ _ _ _ _ c.loop.invariant.at _ _ _ (lent g t w.After-get_mut)
+          (came g t w.After-sift_within) c.sift_within.ensures.thin c.sift_within.new.sieve c.sift_behind-at.new.sieve c.sift_behind-at.new.node
+          c.sift_behind-at.result (omega arith) c.sift_within.ensures.sifted c.sift_behind-at.ensures.passed;
     }
 
 pub sift_within-requires-2 : goal.sift_within-requires-2
@@ -138,11 +150,10 @@ sift_within-requires-2 g t c κs within =
 pub settle_between-requires : goal.settle_between-requires
 settle_between-requires g t c =
     let w = goal.at.settle_between-requires g t c in
-    let e = ends g t w.Else-is_leaf in
-    let m = child_set c.loop.node _ c.loop.at c.sift_within-2.new.node c.content-2.ensures.value in (
+    let e = ends g t w.Else-is_leaf in (
       e.below,
-      stretching_thin (SiftsPair g.S.Sieve.asked g.S.Sieve.given) _ _ _ _ _ _ _ _ _ c.loop.invariant.at c.sift_within-2.new.sieve _ _ _
-          (lent_last g t w.After-get_mut-2) m c.sift_within-2.ensures.thin e.below e.levels,
+      stretching_thin (SiftsPair g.S.Sieve.asked g.S.Sieve.given) _ _ _ _ _ _ _ _ _ c.loop.invariant.at _ _ _
+          (lent_last g t w.After-get_mut-2) (came_last g t w.After-sift_within-2) c.sift_within-2.ensures.thin e.below e.levels,
     )
 
 pub returns-then-is_leaf-clause-thin : goal.returns-then-is_leaf-clause-thin
@@ -182,9 +193,8 @@ returns-clause-thin g t c h l =
     let w = goal.at.returns-clause-thin g t c in
     let up : IsLeaf c.args.node.now → ⊥ = λ b. false≢true (c.if-is_leaf.ensures.1 b) in
     let a = level_above h c.args.node.now up l in
-    let m = child_set c.loop.node _ c.loop.at c.sift_within-2.new.node c.content-2.ensures.value in
-    let within = stretching_thin (SiftsPair g.S.Sieve.asked g.S.Sieve.given) _ _ _ _ _ _ _ _ _ c.loop.invariant.at c.sift_within-2.new.sieve _ _ _
-    (lent_last g t w.After-get_mut-2) m c.sift_within-2.ensures.thin a.below a.levels in
+    let within = stretching_thin (SiftsPair g.S.Sieve.asked g.S.Sieve.given) _ _ _ _ _ _ _ _ _ c.loop.invariant.at _ _ _
+    (lent_last g t w.After-get_mut-2) (came_last g t w.After-sift_within-2) c.sift_within-2.ensures.thin a.below a.levels in
     subst (λ k. IsThin k c.settle_between.new.node) (sym a.height) (c.settle_between.ensures.thin a.below within)
 
 pub returns-clause-sifted : goal.returns-clause-sifted
@@ -193,9 +203,10 @@ returns-clause-sifted g t c =
     let w = goal.at.returns-clause-sifted g t c in
     let back = c.args.back.now in
     let e = ends g t w.Else-is_leaf in
-    let m = child_set c.loop.node _ c.loop.at c.sift_within-2.new.node c.content-2.ensures.value in
-    let sifted = subst (λ p. IsStretchSifted R c.loop.sieve c.sift_within-2.new.sieve c.loop.ahead.now p c.get_mut-2.result.now c.sift_within-2.new.node)
-    c.rest_of.ensures c.sift_within-2.ensures.sifted in
-    settled_stretch R c.args.sieve.now c.sift_within-2.new.sieve c.args.front.now back c.args.node.now _ c.settle_between.new.node
-    (stretching_sifted R _ _ _ _ _ _ _ _ _ c.loop.invariant.at c.sift_within-2.new.sieve _ _ _ (lent_last g t w.After-get_mut-2) m
-    c.sift_within-2.ensures.thin back (at_end g t w.After-loop ∙ e.last) sifted) c.settle_between.ensures.pairs
+    let u = c.sift_within-2.new.sieve in
+    let sifted = subst (λ p. IsStretchSifted R c.loop.sieve u c.loop.ahead.now p c.get_mut-2.result.now c.sift_within-2.new.node) c.rest_of.ensures
+    c.sift_within-2.ensures.sifted in
+    let m = came_last g t w.After-sift_within-2 in
+    settled_stretch R c.args.sieve.now u c.args.front.now back c.args.node.now _ c.settle_between.new.node
+    (stretching_sifted R _ _ _ _ _ _ _ _ _ c.loop.invariant.at _ _ _ (lent_last g t w.After-get_mut-2) m c.sift_within-2.ensures.thin u back
+    (at_end g t w.After-loop ∙ e.last) sifted) c.settle_between.ensures.pairs

@@ -87,8 +87,8 @@ returns-in-None-clause-passed g c =
     let gone = subst (λ y. g.S.Sieve.given c.stays.new.sieve y c.take.new.self) same c.take.ensures.given in
     let empty : pairs_of (child_at n i) ≡ [] =
     ap pairs_of (sym is) ∙ c.in-None.ensures.pairs ∙ append-nil (pairs_of c.take_last_of_thin.new.node) ∙ c.in-None.ensures.none in
-    passed_gone (SiftsPair g.S.Sieve.asked g.S.Sieve.given) IsThin c.args.sieve.now c.take.new.self i n c.remove_behind.new.node a.0 c.requires.inner lt a.3 a.1 _
-    c.take_last_of_thin.new.node (c.stays.new.sieve, a.2, gone) m r.pairs r.children empty
+    passed_gone (SiftsPair g.S.Sieve.asked g.S.Sieve.given) IsThin c.args.sieve.now c.take.new.self i n c.remove_behind.new.node a.0 c.requires.inner lt a.3
+    a.1 _ c.take_last_of_thin.new.node (c.stays.new.sieve, a.2, gone) m r.pairs r.children empty
 
 pub returns-in-Some-clause-passed : goal.returns-in-Some-clause-passed
 returns-in-Some-clause-passed g c =
