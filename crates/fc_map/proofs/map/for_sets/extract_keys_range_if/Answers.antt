@@ -17,7 +17,8 @@ returns-clause-extracted g c =
       from = c.range_ends-front.ensures.front;
       upto = c.range_ends-front.ensures.back;
     } in
-    let kept = replaced g.met.R.KeyRange.fits _ _ _ _ _ (λ x y. RetainsInTurn (ExtractsBy (AskedAtKey g.F.FnMut) (GivenKey g.E.FnMut)) (c.args.pick, c.args.each) x v.0 y) _ v.1 r v.2 v.3 in
+    let kept = replaced g.met.R.KeyRange.fits _ _ _ _ _
+    (λ x y. RetainsInTurn (ExtractsBy (AskedAtKey g.F.FnMut) (GivenKey g.E.FnMut)) (c.args.pick, c.args.each) x v.0 y) _ v.1 r v.2 v.3 in
     (v.0, v.1, kept.0, kept.1)
 
 pub returns-clause-ascending : goal.returns-clause-ascending
