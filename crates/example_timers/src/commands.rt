@@ -9,10 +9,8 @@ pub enum Command {
     Add(u64, u64),
     /// Take out the timer of this id.
     Cancel(u64),
-    /// Take out all timers that are due at this time, and show each.
+    /// Take out all timers that are due at this time.
     Due(u64),
-    /// Drop all timers that are due at this time.
-    Expire(u64),
     /// Show all timers.
     List,
 }
@@ -27,8 +25,6 @@ pub fn command_in(line: &str) -> Option<Command> {
         Command::Cancel(number(words.next()?)?)
     } else if name == "due" {
         Command::Due(number(words.next()?)?)
-    } else if name == "expire" {
-        Command::Expire(number(words.next()?)?)
     } else if name == "list" {
         Command::List
     } else {

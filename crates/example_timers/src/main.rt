@@ -41,7 +41,6 @@ fn answer(rt: &impl Print, timers: &mut Timers, line: &Line<LONGEST>) -> io::Res
             None => println!(rt; "error: there is no timer {id}"),
         },
         Some(Command::Due(now)) => pop_all(rt, timers, now),
-        Some(Command::Expire(now)) => println!(rt; "{} expired", timers.expire(now)),
         Some(Command::List) => list(rt, timers),
         None => println!(rt; "error: not a command"),
     }

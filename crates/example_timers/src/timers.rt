@@ -114,21 +114,4 @@ impl Timers {
         self.times.remove(&timer.1);
         Some(timer)
     }
-
-    /// Drops the timers that are due by now, and answers how many these were. It looks at these alone, and takes no memory.
-    pub fn expire(&mut self, now: u64) -> usize
-        ensures rest { self.new ≡ filter (λ t. nat_lt now t.0) self.old }
-        ensures count { result + length self.new ≡ length self.old }
-    {
-        let set = self.queue.len();
-        let times = &mut self.times;
-        self.queue.extract_range_if(
-            ..=(now, u64::MAX),
-            |_timer| true,
-            |(_due, id)| {
-                times.remove(&id);
-            },
-        );
-        set - self.queue.len()
-    }
 }
