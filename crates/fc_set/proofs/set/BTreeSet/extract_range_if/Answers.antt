@@ -13,7 +13,7 @@ returns-clause-extracted g c =
     let v = c.extract_keys_range_if.ensures.extracted in
     let kept = items_extracted g.F.FnMut g.E.FnMut _ _ _ _ v.2 in
     let R = RetainsItems (ExtractsItem (CalledAt g.F.FnMut) (GivenItem g.E.FnMut)) in
-    let asked = subst (λ x. R _ x v.0 (keys v.1)) (sym (items_within_keys order _ _ s)) kept in
+    let asked = subst (λ x. R (c.args.pick, c.args.each) x v.0 (keys v.1)) (sym (items_within_keys order _ _ s)) kept in
     rw (← c.self.view_is) (v.0, keys v.1, asked, ap keys v.3 ∙ sym (items_replacing_keys order _ _ v.1 s))
 
 pub returns-clause-ascending : goal.returns-clause-ascending

@@ -12,7 +12,7 @@ returns-clause-retained g c =
     let order = g.R.KeyRange.order in
     let v = c.retain_keys_range.ensures.retained in
     let kept = items_retained g.F.FnMut _ _ _ _ v.2 in
-    let asked = subst (λ x. RetainsItems (CalledAt g.F.FnMut) _ x v.0 (keys v.1)) (sym (items_within_keys order _ _ s)) kept in
+    let asked = subst (λ x. RetainsItems (CalledAt g.F.FnMut) c.args.f x v.0 (keys v.1)) (sym (items_within_keys order _ _ s)) kept in
     rw (← c.self.view_is) (v.0, keys v.1, asked, ap keys v.3 ∙ sym (items_replacing_keys order _ _ v.1 s))
 
 pub returns-clause-ascending : goal.returns-clause-ascending
