@@ -1,0 +1,4 @@
+mod Cuts
+mod Pairs
+mod Places
+mod Rows
