@@ -1,4 +1,5 @@
 mod Cuts
+mod Fields
 mod Pairs
 mod Places
 mod Rows
