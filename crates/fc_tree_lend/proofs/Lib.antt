@@ -1,5 +1,6 @@
 mod Cuts
 mod Fields
+mod Packs
 mod Pairs
 mod Places
 mod Rows
