@@ -1,5 +1,6 @@
 mod Cuts
 mod Fields
+mod Lists
 mod Packs
 mod Pairs
 mod Places

@@ -27,23 +27,23 @@ module _ {X Y : Type 0} (f : X → Y) where
   on_some (Some x) = Some (f x)
 
 module _ {X : Type 0} where
-  abbrev IsSome : Option X → Type 0
+  abbrev pub IsSome : Option X → Type 0
   IsSome None = ⊥
   IsSome (Some x) = Unit {0}
 
-  abbrev some_or : X → Option X → X
+  abbrev pub some_or : X → Option X → X
   some_or x None = x
   some_or x (Some y) = y
 
-  abbrev IsCons : List X → Type 0
+  abbrev pub IsCons : List X → Type 0
   IsCons [] = ⊥
   IsCons (x ∷ xs) = Unit {0}
 
-  abbrev head_or : X → List X → X
+  abbrev pub head_or : X → List X → X
   head_or x [] = x
   head_or x (y ∷ ys) = y
 
-  abbrev rest_of : List X → List X
+  abbrev pub rest_of : List X → List X
   rest_of [] = []
   rest_of (x ∷ xs) = xs
 
