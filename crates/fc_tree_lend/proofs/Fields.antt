@@ -23,6 +23,11 @@ use Rattle.fc_tree_lend.proofs.Cuts.{stars, stars_cut, stars_join, Form, pair, G
 abbrev pub field : RattleType → Ty → Member
 field R τ = record { row = R; ty = τ }
 
+-- what a place has beside the places of its fields
+pub Lends-rest : {M : Type 1} {𝓤 : Ura M} (𝓛 : Logic 𝓤) (ω : Ty) (τs : Tys) (b o : ℕ) (l : Lft) → Lends 𝓛 (fleft full_share ω τs b o) (one (λ q. fleft q ω τs b o)) l
+Lends-rest {𝓤 = 𝓤} 𝓛 ω τs b o l κ ts inc sp = qed 𝓛 (‵ (fbor κ (fleft full_share ω τs b o)) ∷ raw (lfts 𝓛 ts) ∷ []) {P = 𝓛.H.⇛ (sep 𝓤 (sem 𝓛 (one (λ q. fleft q ω τs b o) κ)) (lfts 𝓛 ts))} (
+    updating ! $ bor_fracture ! tt (λ q. fleft q ω τs b o) full_share $ now ! $ done !)
+
 module _ {M : Type 1} {𝓤 : Ura M} (𝓛 : Logic 𝓤) (τs : Tys) (b o : ℕ) where
   abbrev pub left : Fml
   left = fleft full_share (ty_struct [] τs) τs b o
@@ -31,8 +36,7 @@ module _ {M : Type 1} {𝓤 : Ura M} (𝓛 : Logic 𝓤) (τs : Tys) (b o : ℕ)
   left_seen = one (λ q. fleft q (ty_struct [] τs) τs b o)
 
   pub Lends-left : (l : Lft) → Lends 𝓛 left left_seen l
-  Lends-left l κ ts inc sp = qed 𝓛 (‵ (fbor κ left) ∷ raw (lfts 𝓛 ts) ∷ []) {P = 𝓛.H.⇛ (sep 𝓤 (sem 𝓛 (left_seen κ)) (lfts 𝓛 ts))} (
-      updating ! $ bor_fracture ! tt (λ q. fleft q (ty_struct [] τs) τs b o) full_share $ now ! $ done !)
+  Lends-left = Lends-rest 𝓛 (ty_struct [] τs) τs b o
 
 module _ (W : RattleType) {M : Type 1} {𝓤 : Ura M} (𝓛 : Logic 𝓤) (l : Lft) (A A' : RattleType) (τ : Ty) (F : Form W A.Denot A'.Denot) (b o : ℕ) where
   abbrev only : List Member

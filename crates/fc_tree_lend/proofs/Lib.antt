@@ -1,6 +1,7 @@
 mod Cuts
 mod Fields
 mod Lists
+mod Maybes
 mod Packs
 mod Pairs
 mod Places

@@ -80,21 +80,21 @@ module _ (W : RattleType) {M : Type 1} {𝓤 : Ura M} (𝓛 : Logic 𝓤) (l : L
   none_again o (Some z) e = absurd (some_is (F.bare z) (sym e))
 
   some_back : (o : ℕ) (y : S.Denot) (z : Option S.Denot) → Some (F.bare y) ≡ on_some F.bare z
-      → (u : S.Denot) × (F.bare y ≡ F.bare u) × (maybe_cells W F z ≡ F.cells u) × ent 𝓤 (sem 𝓛 (part_at R full_share (F.erase u) b o)) (sem 𝓛 (place R b o (on_some F.erase z)))
+      → (u : S.Denot) × (F.bare y ≡ F.bare u) × ent 𝓤 (sem 𝓛 (stars W (maybe_cells W F z))) (sem 𝓛 (stars W (F.cells u))) × ent 𝓤 (sem 𝓛 (part_at R full_share (F.erase u) b o)) (sem 𝓛 (place R b o (on_some F.erase z)))
   some_back o y None e = absurd (some_is (F.bare y) e)
-  some_back o y (Some z) e = (z, ap (some_or (F.bare y)) e, refl, id⊢ 𝓤 _)
+  some_back o y (Some z) e = (z, ap (some_or (F.bare y)) e, id⊢ 𝓤 _, id⊢ 𝓤 _)
 
   place_cuts : (c : Option R.Denot) → Item_cuts c → (o : ℕ) → Cuts W 𝓛 l (maybe_form W F) (place R b o) (place_lent S b o) c
   place_cuts None each o = λ K G Γ t k. bare t $ move t (1 ∷ 0 ∷ []) $ k None (place R b o None) (record { is = refl; again = none_again o; lends = Lends-nothing 𝓛 (place R b o None) l })
   place_cuts (Some x) each o = along W 𝓛 l F (maybe_form W F) (λ z. part_at R full_share z b o) (place R b o) (λ y. shared_of S y b o) (place_lent S b o)
-      {x = x} {x' = Some x} {turn = Some} (record { out = id⊢ 𝓤 _; is = λ y e. ap Some e; same = λ y. refl; back = λ y e z. some_back o y z; shows = λ y e κ. id⊢ 𝓤 _ }) (each o)
+      {x = x} {x' = Some x} {turn = Some} (record { out = id⊢ 𝓤 _; is = λ y e. ap Some e; same = λ y e. id⊢ 𝓤 _; back = λ y e z. some_back o y z; shows = λ y e κ. id⊢ 𝓤 _ }) (each o)
 
   cons_back : (o : ℕ) (y : Option S.Denot) (ys z : List (Option S.Denot)) → on_some F.bare y ∷ map (on_some F.bare) ys ≡ map (on_some F.bare) z
       → (u : Option S.Denot × List (Option S.Denot)) × (◌≡◌ {A = Option F.Bare × List (Option F.Bare)} (on_some F.bare y, map (on_some F.bare) ys) (on_some F.bare u.0, map (on_some F.bare) u.1))
-        × (list_cells W F z ≡ maybe_cells W F u.0 ++ list_cells W F u.1)
+        × ent 𝓤 (sem 𝓛 (stars W (list_cells W F z))) (sem 𝓛 (stars W (maybe_cells W F u.0 ++ list_cells W F u.1)))
         × ent 𝓤 (sem 𝓛 (fsep (place R b o (on_some F.erase u.0)) (places R b (o + type_size R) (map (on_some F.erase) u.1)))) (sem 𝓛 (places R b o (map (on_some F.erase) z)))
   cons_back o y ys [] e = absurd (subst IsCons e tt)
-  cons_back o y ys (z ∷ zs) e = ((z, zs), (λ i. (head_or (on_some F.bare y) (e i), rest_of (e i))), refl, id⊢ 𝓤 _)
+  cons_back o y ys (z ∷ zs) e = ((z, zs), (λ i. (head_or (on_some F.bare y) (e i), rest_of (e i))), id⊢ 𝓤 _, id⊢ 𝓤 _)
 
   pub places_cuts : (cs : List (Option R.Denot)) → Each_cuts cs → (o : ℕ) → Cuts W 𝓛 l (list_form W F) (places R b o) (places_lent S b o) cs
   places_cuts [] each o = λ K G Γ t k. bare t $ move t (1 ∷ 0 ∷ []) $ k [] ftrue (record { is = refl; again = nil_again o; lends = Lends-nothing 𝓛 ftrue l })
@@ -108,7 +108,7 @@ module _ (W : RattleType) {M : Type 1} {𝓤 : Ura M} (𝓛 : Logic 𝓤) (l : L
       along W 𝓛 l (pair W F₀ F₁) F₁ (owns_both W 𝓛 l F₀ F₁ (place R b o) (places R b next) (place_lent S b o) (places_lent S b next)) (places R b o)
       (seen_both W 𝓛 l F₀ F₁ (place R b o) (places R b next) (place_lent S b o) (places_lent S b next)) (places_lent S b o)
       {x = (c, cs)} {x' = c ∷ cs} {turn = λ y. y.0 ∷ y.1}
-      (record { out = id⊢ 𝓤 _; is = λ y e i. (e i).0 ∷ (e i).1; same = λ y. refl; back = λ y e z. cons_back o y.0 y.1 z;
+      (record { out = id⊢ 𝓤 _; is = λ y e i. (e i).0 ∷ (e i).1; same = λ y e. id⊢ 𝓤 _; back = λ y e z. cons_back o y.0 y.1 z;
         shows = λ y e κ. subst (λ n. ent 𝓤 (sem 𝓛 (beside (place_lent S b o y.0) (places_lent S b next y.1) κ)) (sem 𝓛 (beside (place_lent S b o y.0) (places_lent S b (o + n) y.1) κ))) (sym same) (id⊢ 𝓤 _) })
       (both W 𝓛 l F₀ F₁ (place R b o) (places R b next) (place_lent S b o) (places_lent S b next) c cs (place_cuts c each.0 o) (places_cuts cs each.1 next))
 
