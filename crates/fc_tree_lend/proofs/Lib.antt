@@ -1,3 +1,4 @@
+mod Broods
 mod Cuts
 mod Fields
 mod Lists
