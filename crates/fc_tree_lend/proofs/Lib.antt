@@ -3,7 +3,10 @@ mod Cuts
 mod Fields
 mod Lists
 mod Maybes
+mod Nodes
 mod Packs
 mod Pairs
 mod Places
 mod Rows
+mod Shapes
+mod Woven
