@@ -1,6 +1,7 @@
 mod Broods
 mod Cuts
 mod Fields
+mod Levels
 mod Lists
 mod Maybes
 mod Nodes

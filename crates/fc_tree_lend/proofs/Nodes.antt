@@ -38,10 +38,10 @@ use Rattle.fc_tree_lend.proofs.Shapes.{each_value, mapped, map_is, map_roll, map
 use Rattle.fc_tree_lend.proofs.Woven.{own_cells, node_cells, nodes_cells, Fits, apart, in_order, weave_join, weave_cut}
 
 module _ (E : Kinds) (Y : Handles) where
-  abbrev W : RattleType
+  abbrev pub W : RattleType
   W = WR E
 
-  abbrev Z : RattleType
+  abbrev pub Z : RattleType
   Z = ZR Y
 
   abbrev KD : Type 0
@@ -60,10 +60,10 @@ module _ (E : Kinds) (Y : Handles) where
   abbrev pub MR : RattleType
   MR = node.the_row (KR E) (HR E) Z Y.g
 
-  abbrev child : RattleType
+  abbrev pub child : RattleType
   child = node.the_hole (KR E) W Z Y.g
 
-  abbrev holed_child : RattleType
+  abbrev pub holed_child : RattleType
   holed_child = node.the_hole (KR E) (HR E) Z Y.g
 
   abbrev with_place : Ptr × VD → Ptr
@@ -75,13 +75,13 @@ module _ (E : Kinds) (Y : Handles) where
   abbrev pub node_form : Form W (Node KD VD ZD) (Node KD (Ptr × VD) ZD)
   node_form = record { Bare = Node KD Ptr ZD; erase = map_values with_value; bare = map_values with_place; cells = node_cells W KD ZD }
 
-  abbrev PF : Form W (List (KD × VD)) (List (KD × (Ptr × VD)))
+  abbrev pub PF : Form W (List (KD × VD)) (List (KD × (Ptr × VD)))
   PF = items_form W (pair_form E)
 
-  abbrev BF : Form W (List (Node KD VD ZD)) (List (Node KD (Ptr × VD) ZD))
+  abbrev pub BF : Form W (List (Node KD VD ZD)) (List (Node KD (Ptr × VD) ZD))
   BF = items_form W node_form
 
-  abbrev OF : Form W (Option (List (Node KD VD ZD))) (Option (List (Node KD (Ptr × VD) ZD)))
+  abbrev pub OF : Form W (Option (List (Node KD VD ZD))) (Option (List (Node KD (Ptr × VD) ZD)))
   OF = maybe_form W BF
 
   unmapped : {P Q N O : Type 0} (f : P → Q) (g : N → O) (ps : List P) (o : Option (List N)) → Fits (map f ps) (on_some (map g) o) → Fits ps o
@@ -104,37 +104,37 @@ module _ (E : Kinds) (Y : Handles) where
   parts_same ps None = ap (λ cs. cs ++ []) (own_same ps)
   parts_same ps (Some ns) = λ i. own_same ps i ++ nodes_same ns i
 
-  abbrev A : RattleType
+  abbrev pub A : RattleType
   A = slots.the_row (PR E) (number 15) Z Y.g
 
-  abbrev A' : RattleType
+  abbrev pub A' : RattleType
   A' = slots.the_row (QR E) (number 15) Z Y.g
 
-  abbrev C : RattleType
+  abbrev pub C : RattleType
   C = children.the_row child Z Y.g
 
-  abbrev C' : RattleType
+  abbrev pub C' : RattleType
   C' = children.the_row holed_child Z Y.g
 
-  abbrev B : RattleType
+  abbrev pub B : RattleType
   B = option.the_row C
 
-  abbrev B' : RattleType
+  abbrev pub B' : RattleType
   B' = option.the_row C'
 
-  abbrev τ : Ty
+  abbrev pub τ : Ty
   τ = lone A.mir
 
-  abbrev υ : Ty
+  abbrev pub υ : Ty
   υ = lone B.mir
 
-  abbrev Parts : Type 0
+  abbrev pub Parts : Type 0
   Parts = List (KD × VD) × Option (List (Node KD VD ZD))
 
   abbrev Parts' : Type 0
   Parts' = List (KD × (Ptr × VD)) × Option (List (Node KD (Ptr × VD) ZD))
 
-  abbrev parts : Node KD VD ZD → Parts
+  abbrev pub parts : Node KD VD ZD → Parts
   parts n = ((out-Node KD VD ZD n).pairs, (out-Node KD VD ZD n).children)
 
   abbrev parts' : Node KD (Ptr × VD) ZD → Parts'
@@ -147,10 +147,10 @@ module _ (E : Kinds) (Y : Handles) where
   parts_made y = λ i. let f = out-roll-Node KD (Ptr × VD) ZD (record { pairs = y.0; children = y.1 }) i in (f.pairs, f.children)
 
   module _ {M : Type 1} {𝓤 : Ura M} (𝓛 : Logic 𝓤) (l : Lft) (keys : Incl l E.key.lives) (handles : Incl l Y.row.lives) (b o : ℕ) where
-    abbrev two_at : Parts → Fml
+    abbrev pub two_at : Parts → Fml
     two_at = Two W 𝓛 l A A' B B' τ υ PF OF b o
 
-    abbrev two_seen : Parts' → Lft → Fml
+    abbrev pub two_seen : Parts' → Lft → Fml
     two_seen = Two_seen W 𝓛 l A A' B B' τ υ PF OF b o
 
     abbrev pub Node_at : Node KD VD ZD → Fml
@@ -167,7 +167,7 @@ module _ (E : Kinds) (Y : Handles) where
     unfolding part_of
     node_in n = id⊢ 𝓤 _
 
-    lone_fields : Lones (rows_of (fields W 𝓛 l A A' B B' τ υ PF OF b o))
+    pub lone_fields : Lones (rows_of (fields W 𝓛 l A A' B B' τ υ PF OF b o))
     lone_fields = ((λ x vs p. subst Lone (sym p.1.0.1.0) tt), ((λ x vs p. subst Lone (sym p.1.0) tt), tt))
 
     node_show : (n : Node KD (Ptr × VD) ZD) (κ : Lft) → ent 𝓤 (sem 𝓛 (two_seen (parts' n) κ)) (sem 𝓛 (Node_seen n κ))
@@ -213,7 +213,7 @@ module _ (E : Kinds) (Y : Handles) where
               (subst (λ cs. ent 𝓤 (sem 𝓛 (stars W (in_order W KD ZD u.0 u.1))) (sem 𝓛 (stars W cs))) (sym (parts_same u.0 u.1)) (weave_cut W KD ZD 𝓛 u.0 u.1 fits')),
             subst (λ p. ent 𝓤 (sem 𝓛 (two_at p)) (sem 𝓛 (Node_at (map_values with_value z)))) of (node_in (map_values with_value z)))
 
-      of_parts : Cuts W 𝓛 l (pair W PF OF) two_at two_seen (parts x) → Cuts W 𝓛 l node_form Node_at Node_seen x
+      pub of_parts : Cuts W 𝓛 l (pair W PF OF) two_at two_seen (parts x) → Cuts W 𝓛 l node_form Node_at Node_seen x
       of_parts = along W 𝓛 l (pair W PF OF) node_form two_at Node_at two_seen Node_seen {x = parts x} {x' = x} {turn = made}
           (record { out = node_out x; is = is; same = same; back = back;
             shows = λ y e κ. subst (λ p. ent 𝓤 (sem 𝓛 (two_seen p κ)) (sem 𝓛 (Node_seen (made y) κ))) (parts_made y) (node_show (made y) κ) })
