@@ -8,6 +8,7 @@ mod Nodes
 mod Packs
 mod Pairs
 mod Places
+mod Relabels
 mod Rows
 mod Shapes
 mod Woven
