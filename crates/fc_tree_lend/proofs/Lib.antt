@@ -1,6 +1,7 @@
 mod Broods
 mod Cuts
 mod Fields
+mod Lends
 mod Levels
 mod Lists
 mod Maybes
@@ -11,4 +12,5 @@ mod Places
 mod Relabels
 mod Rows
 mod Shapes
+mod Trees
 mod Woven

@@ -33,7 +33,8 @@ use Rattle.fc_tree_slots.specs.contracts.slots.Slots.TheInside as inside
 use Rattle.fc_tree_lend.proofs.Cuts.{Cell, stars, Form, pair, whole, Good, Cuts, kept, Lends-then}
 use Rattle.fc_tree_lend.proofs.Fields.{field, fields, Two, Two_seen, two_cuts}
 use Rattle.fc_tree_lend.proofs.Packs.{Handles, ZR, Cells_at, Cells_seen, cells_cuts}
-use Rattle.fc_tree_lend.proofs.Places.{IsCons, head_or, rest_of, on_some, maybe_cells, list_cells, list_form, Each_cuts, Item_cuts}
+use Rattle.fc_tree_lend.specs.Holed.{on_some}
+use Rattle.fc_tree_lend.proofs.Places.{IsCons, head_or, rest_of, maybe_cells, list_cells, list_form, Each_cuts, Item_cuts}
 
 module _ {X Y : Type 0} where
   abbrev pub fill : List (Option X) → List Y → List (Option Y)

@@ -28,7 +28,8 @@ use denote.Struct.Members.{Member, row_of, rows_of, raw_tys, parts_at, Lones}
 use Rattle.std.specs.contracts.option.Option as option
 use Rattle.fc_tree_lend.proofs.Cuts.{stars, Form, Good, Cuts}
 use Rattle.fc_tree_lend.proofs.Fields.{field, Lends-rest}
-use Rattle.fc_tree_lend.proofs.Places.{some_is, some_or, on_some, maybe_cells, maybe_form}
+use Rattle.fc_tree_lend.specs.Holed.{on_some}
+use Rattle.fc_tree_lend.proofs.Places.{some_is, some_or, maybe_cells, maybe_form}
 
 module _ (W R S : RattleType) (τ : Ty) (F : Form W R.Denot S.Denot) {M : Type 1} {𝓤 : Ura M} (𝓛 : Logic 𝓤) (l : Lft) (b o : ℕ) where
   -- the two rows, each of one MIR type

@@ -25,7 +25,7 @@ use Rattle.fc_tree_node.specs.declared.node.Node.{Node, Node-F, out-Node, roll-N
 use Rattle.fc_tree_node.specs.contracts.node.Node as node
 use Rattle.fc_tree_node.specs.Node.{own_pairs, children_of, items_or_none, pairs_of, IsLevelled}
 use Rattle.fc_tree_node.proofs.Pairs.{pairs_is}
-use Rattle.fc_tree_lend.specs.Holed.{on_value, map_values}
+use Rattle.fc_tree_lend.specs.Holed.{on_some, on_value, map_values}
 use Rattle.fc_tree_lend.proofs.Broods.{Children_at, Children_seen, children_cuts}
 use Rattle.fc_tree_lend.proofs.Cuts.{Cell, stars, Form, pair, Good, Cuts, Turns, along}
 use Rattle.fc_tree_lend.proofs.Fields.{field, fields, Two, Two_seen, two_cuts}
@@ -33,7 +33,7 @@ use Rattle.fc_tree_lend.proofs.Lists.{items_cells, items_form, All_cuts, slots_c
 use Rattle.fc_tree_lend.proofs.Maybes.{Maybe_at, Maybe_seen, value_at, maybe_cuts}
 use Rattle.fc_tree_lend.proofs.Packs.{Handles, ZR}
 use Rattle.fc_tree_lend.proofs.Pairs.{Kinds, KR, WR, HR, PR, QR, pair_form, pair_cuts}
-use Rattle.fc_tree_lend.proofs.Places.{on_some, maybe_cells, maybe_form}
+use Rattle.fc_tree_lend.proofs.Places.{maybe_cells, maybe_form}
 use Rattle.fc_tree_lend.proofs.Shapes.{each_value, mapped, map_is, map_roll, map_out}
 use Rattle.fc_tree_lend.proofs.Woven.{own_cells, node_cells, nodes_cells, Fits, apart, in_order, weave_join, weave_cut}
 

@@ -28,7 +28,8 @@ use Rattle.fc_tree_slots.specs.contracts.cells.Cells as cells
 use Rattle.fc_tree_slots.specs.contracts.cells.Cells.TheInside as inside
 use Rattle.fc_tree_lend.proofs.Cuts.{stars, Form, pair, whole, Good, Cuts, kept, Lends-then}
 use Rattle.fc_tree_lend.proofs.Fields.{field, fields, Two, Two_seen, two_cuts}
-use Rattle.fc_tree_lend.proofs.Places.{on_some, list_cells, list_form, Each_cuts}
+use Rattle.fc_tree_lend.specs.Holed.{on_some}
+use Rattle.fc_tree_lend.proofs.Places.{list_cells, list_form, Each_cuts}
 use Rattle.fc_tree_lend.proofs.Rows.{row_form, row_cuts}
 
 -- the type of an allocator's handle

@@ -19,12 +19,8 @@ use denote.Sharing.{nothing, said, beside}
 use denote.Steps.{nothing as bare}
 use denote.Struct.Lending.{Lends, Lends-both, Lends-first, Lends-nothing, Lends-said}
 use Rattle.fc_tree_slots.specs.Ownership.{place, places, place_lent, places_lent, bounded, block, row_owned, row_lent}
+use Rattle.fc_tree_lend.specs.Holed.{on_some}
 use Rattle.fc_tree_lend.proofs.Cuts.{Cell, stars, Form, pair, Good, Cuts, both, owns_both, seen_both, Turns, along}
-
-module _ {X Y : Type 0} (f : X → Y) where
-  abbrev pub on_some : Option X → Option Y
-  on_some None = None
-  on_some (Some x) = Some (f x)
 
 module _ {X : Type 0} where
   abbrev pub IsSome : Option X → Type 0

@@ -11,8 +11,8 @@ use Rattle.fc_tree_node.specs.Weave.{after_list, weave}
 use Rattle.fc_tree_node.specs.declared.node.Node.{Node, Node-F, out-Node, roll-Node, out-roll-Node}
 use Rattle.fc_tree_node.specs.Node.{own_pairs, children_of, items_or_none, pairs_of, IsLeaf, IsInner, IsLevelled}
 use Rattle.fc_tree_node.proofs.Pairs.{pairs_is}
-use Rattle.fc_tree_lend.specs.Holed.{on_value, map_values}
-use Rattle.fc_tree_lend.proofs.Places.{IsSome, some_is, on_some}
+use Rattle.fc_tree_lend.specs.Holed.{on_some, on_value, map_values}
+use Rattle.fc_tree_lend.proofs.Places.{IsSome, some_is}
 use Rattle.fc_tree_lend.proofs.Shapes.{each_value, mapped, map_is, map_roll, map_out}
 
 module _ {K X Y Z : Type 0} (f : X → Y) where
@@ -32,7 +32,7 @@ module _ {K X Y Z : Type 0} (f : X → Y) where
   children_map : (n : Node K X Z) → children_of (map_values f n) ≡ map (map_values f) (children_of n)
   children_map n = ap items_or_none (children_field n) ∙ items_of (out-Node K X Z n).children
 
-  own_long : (n : Node K X Z) → length (own_pairs (map_values f n)) ≡ length (own_pairs n)
+  pub own_long : (n : Node K X Z) → length (own_pairs (map_values f n)) ≡ length (own_pairs n)
   own_long n = ap length (own_of n) ∙ length-map (own_pairs n) (on_value f)
 
   none_back : (o : Option (List (Node K X Z))) → on_some (map each_of) o ≡ None → o ≡ None
@@ -54,6 +54,23 @@ module _ {K X Y Z : Type 0} (f : X → Y) where
   levelled_back (suc h) n l = (subst (λ k. k ≤ capacity) (own_long n) l.0,
       sym (ap length (children_map n) ∙ length-map (children_of n) (map_values f)) ∙ l.1 ∙ ap (λ k. k + 1) (own_long n),
       all_back h (levelled_back h) (children_of n) (subst (AllByRecursion (Below' h)) (children_map n) l.2))
+
+module _ {K X Y Z : Type 0} (f : X → Y) where
+  abbrev On : Node K X Z → Node K Y Z
+  On = map_values f
+
+  none_on : (o : Option (List (Node K X Z))) → o ≡ None → on_some (map On) o ≡ None
+  none_on o e = ap (on_some (map On)) e
+
+  all_on : (h : ℕ) → ((n : Node K X Z) → IsLevelled h n → IsLevelled h (On n)) → (ns : List (Node K X Z)) → AllByRecursion (Below f h) ns → AllByRecursion (Below' f h) (map On ns)
+  all_on h on [] all = tt
+  all_on h on (n ∷ ns) all = ((subst (λ k. min_len ≤ k) (sym (own_long f n)) all.0.0, on n all.0.1), all_on h on ns all.1)
+
+  pub levelled_on : (h : ℕ) (n : Node K X Z) → IsLevelled h n → IsLevelled h (On n)
+  levelled_on zero n l = (subst (λ k. k ≤ capacity) (sym (own_long f n)) l.0, children_field f n ∙ none_on (out-Node K X Z n).children l.1)
+  levelled_on (suc h) n l = (subst (λ k. k ≤ capacity) (sym (own_long f n)) l.0,
+      ap length (children_map f n) ∙ length-map (children_of n) (map_values f) ∙ l.1 ∙ ap (λ k. k + 1) (sym (own_long f n)),
+      subst (AllByRecursion (Below' f h)) (sym (children_map f n)) (all_on h (levelled_on h) (children_of n) l.2))
 
 module _ {P V : Type 0} where
   abbrev pub rezip : List (P × V) → List V → List (P × V)

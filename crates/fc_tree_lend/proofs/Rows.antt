@@ -27,7 +27,8 @@ use Rattle.fc_tree_slots.specs.Ownership.{row_owned, row_lent}
 use Rattle.fc_tree_slots.specs.declared.raw.Row.{Row}
 use Rattle.fc_tree_slots.specs.contracts.raw.Row as row
 use Rattle.fc_tree_lend.proofs.Cuts.{stars, Form, Good, Cuts}
-use Rattle.fc_tree_lend.proofs.Places.{on_some, list_cells, list_form, Each_cuts, room_cuts}
+use Rattle.fc_tree_lend.specs.Holed.{on_some}
+use Rattle.fc_tree_lend.proofs.Places.{list_cells, list_form, Each_cuts, room_cuts}
 
 module _ (W R S Z : RattleType) (g : Ghosts Z.Denot) (F : Form W R.Denot S.Denot) where
   abbrev held_as : {X Y : Type 0} → (X → Y) → Row X Z.Denot → Row Y Z.Denot
