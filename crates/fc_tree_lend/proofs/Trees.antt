@@ -8,6 +8,7 @@ use Rattle.fc_tree_node.specs.Node.{pairs_of, IsLevelled}
 use Rattle.fc_tree_node.specs.Tree.{Map, entries, IsSoundMap}
 use Rattle.fc_tree_lend.specs.Holed.{on_value, map_values, map_tree, filled, run_of, keys_and_shape, values, replaced, IsRefilled}
 use Rattle.fc_tree_lend.proofs.Shapes.{map_map, pairs_map}
+use Rattle.fc_tree_lend.proofs.Places.{IsSome, IsCons, head_or, rest_of}
 use Rattle.fc_tree_lend.proofs.Relabels.{own_long, levelled_back, levelled_on, rezip, Relabelled, relabel}
 
 module _ {K X Y Z : Type 0} (f : X → Y) where
@@ -43,6 +44,15 @@ module _ (K V Z : Type 0) where
   abbrev shaped : Node K (Ptr × V) Z → Node K (Unit {0}) Z
   shaped = map_values (λ h. tt)
 
+  places_are : (h : ℕ) (n : Node K (Ptr × V) Z) → IsLevelled h n → map (λ p. p.1) (pairs_of (map_values place_of n)) ≡ map place_of (run_of (Some n))
+  places_are h n l = ap (map (λ p. p.1)) (pairs_map place_of h n l) ∙ seconds place_of (pairs_of n)
+
+  both_same : (cs ds : List (Ptr × V)) → map place_of cs ≡ map place_of ds → map value_of cs ≡ map value_of ds → cs ≡ ds
+  both_same [] [] e f = refl
+  both_same [] (d ∷ ds) e f = absurd (subst IsCons (sym e) tt)
+  both_same (c ∷ cs) [] e f = absurd (subst IsCons e tt)
+  both_same (c ∷ cs) (d ∷ ds) e f = λ i. (head_or c.0 (e i), head_or c.1 (f i)) ∷ both_same cs ds (ap rest_of e) (ap rest_of f) i
+
   shape_of : (h : ℕ) (n : Node K (Ptr × V) Z) → IsLevelled h n → map_values (λ v. tt) (map_values value_of n) ≡ shaped n
   shape_of h n l = map_map value_of (λ v. tt) h n l
 
@@ -61,3 +71,19 @@ module _ (K V Z : Type 0) where
       let shape : map_values (λ v. tt) (map_values value_of r.0) ≡ map_values (λ v. tt) (map_values value_of n) =
             shape_of s.0 r.0 l ∙ sym (shape_bare s.0 r.0 l) ∙ ap (map_values (λ p. tt)) (sym r.1) ∙ shape_bare s.0 n s.2.1 ∙ sym (shape_of s.0 n s.2.1) in
       (ap Some shape, values_are s.0 r.0 l ∙ ap (map value_of) r.2 ∙ replaced_values (run_of (Some n)) ws ∙ ap (λ vs. replaced vs ws) (sym (values_are s.0 n s.2.1)))
+
+  node_run : (h : ℕ) (z y : Node K (Ptr × V) Z) → IsLevelled h y → map_values place_of z ≡ map_values place_of y → map_values value_of z ≡ map_values value_of y → run_of (Some z) ≡ run_of (Some y)
+  node_run h z y l e f = let m = levelled_back place_of h z (subst (IsLevelled h) (sym e) (levelled_on place_of h y l)) in
+      both_same (run_of (Some z)) (run_of (Some y)) (sym (places_are h z m) ∙ ap (λ n. map (λ p. p.1) (pairs_of n)) e ∙ places_are h y l)
+      (sym (values_are h z m) ∙ ap (λ n. values (Some n)) f ∙ values_are h y l)
+
+  abbrev node_or : {X : Type 0} → X → Option X → X
+  node_or x None = x
+  node_or x (Some n) = n
+
+  -- the places and the values of a tree of holes tell its run
+  pub one_run : (z y : Map K (Ptr × V) Z) → IsSoundMap y → map_tree place_of z ≡ map_tree place_of y → filled z ≡ filled y → run_of z ≡ run_of y
+  one_run None None s e f = refl
+  one_run None (Some y) s e f = absurd (subst IsSome (sym e) tt)
+  one_run (Some z) None s e f = absurd (subst IsSome e tt)
+  one_run (Some z) (Some y) s e f = node_run s.0 z y s.2.1 (ap (node_or (map_values place_of z)) e) (ap (node_or (map_values value_of z)) f)

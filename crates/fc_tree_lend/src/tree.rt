@@ -16,7 +16,7 @@ pub fn lend<'a, K, V, A: Handle>(
     root: &'a mut Option<Node<K, Held<V>, A>>,
 ) -> (&'a Option<Node<K, Hole<V>, A>>, Lent<'a, V>)
     requires { IsSoundMap root.old }
-    ensures* writes_back { sem 𝓛 (lends_values K.row V.row A.row A.Allocator root.entry result.1.name) }
+    ensures* writes_back { sem 𝓛 (lends_values K.row V.row A.row A.Allocator root.entry result.1.tie) }
     ensures holed { (filled result.0.now ≡ root.old) × IsSoundMap result.0.now × (result.1.run ≡ run_of result.0.now) }
 {
     let holed = root as *mut Option<Node<K, Held<V>, A>> as *const Option<Node<K, Hole<V>, A>>;
