@@ -1,6 +1,7 @@
 mod Broods
 mod Cuts
 mod Fields
+mod Kept
 mod Lends
 mod Levels
 mod Lists

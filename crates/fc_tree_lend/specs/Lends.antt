@@ -1,13 +1,12 @@
 -- What a tree ends as, where its values are lent.
-use Rattle.std.specs.Prelude.{◌≡◌}
-use mathlib.Core.HLevel.{Σ_prop_path}
+use Rattle.std.specs.Prelude.{◌≡◌, Bool, true, false, cond}
+use lib.Dec.{eqb}
 use base.Fml.{Fml, GName}
-use base.Stored.{Coded-set}
+use base.Stored.{Gv, gnil, gnum, gcons}
 use denote.Builtin.{unit}
 use denote.Follow.{follows}
 use denote.RattleType.{RattleType}
 use denote.Ref.{MutBor}
-use denote.Struct.Recorded.{Recorded}
 use Rattle.core.specs.declared.alloc.Allocator.{Ghosts}
 use Rattle.std.specs.contracts.option.Option as option
 use Rattle.fc_tree_node.specs.contracts.node.Node as node
@@ -15,20 +14,29 @@ use Rattle.fc_tree_node.specs.Tree.{Map}
 use Rattle.fc_tree_lend.specs.contracts.hole.Held as held
 use Rattle.fc_tree_lend.specs.Holed.{keys_and_shape}
 
+-- Whether two codes are the same.
+abbrev pub is_same : Gv → Gv → Bool
+is_same gnil gnil = true
+is_same gnil (gnum n) = false
+is_same gnil (gcons a b) = false
+is_same (gnum m) gnil = false
+is_same (gnum m) (gnum n) = eqb m n
+is_same (gnum m) (gcons a b) = false
+is_same (gcons a b) gnil = false
+is_same (gcons a b) (gnum n) = false
+is_same (gcons a b) (gcons c d) = cond (is_same a c) (is_same b d) false
+
 module _ (K V A : RattleType) (heap : Ghosts A.Denot) where
   abbrev pub tree_row : RattleType
   tree_row = option.the_row (node.the_row K (held.the_row V) A heap)
 
-  -- The trees with the keys of t, in their order, and its shape, whatever their values.
-  abbrev pub Kept : Map K.Denot V.Denot A.Denot → Type 0
-  Kept t = (u : Map K.Denot V.Denot A.Denot) × (keys_and_shape u ≡ keys_and_shape t)
+  abbrev shape_code : Map K.Denot V.Denot A.Denot → Gv
+  shape_code t = (option.the_row (node.the_row K unit A heap)).coded.code (keys_and_shape t)
 
-  pub one_tree : (t : Map K.Denot V.Denot A.Denot) (u w : Kept t) → u.0 ≡ w.0 → u ≡ w
-  one_tree t u w e = Σ_prop_path (λ s. Coded-set (option.the_row (node.the_row K unit A heap)).coded (keys_and_shape s) (keys_and_shape t)) e
+  -- The tree u, if it has the keys of t in their order and its shape, and else t.
+  abbrev pub kept : Map K.Denot V.Denot A.Denot → Map K.Denot V.Denot A.Denot → Map K.Denot V.Denot A.Denot
+  kept t u = cond (is_same (shape_code u) (shape_code t)) u t
 
-  abbrev pub kept_row : Map K.Denot V.Denot A.Denot → RattleType
-  kept_row t = Recorded tree_row (Kept t) (λ u. u.0) (one_tree t)
-
-  -- The tree behind t ends as one with its keys and its shape, and with the values that the loan named r ends at.
+  -- The tree behind t ends with its keys and its shape, and with the values that the loan named r ends at.
   abbrev pub lends_values : MutBor (Map K.Denot V.Denot A.Denot) → GName → Fml
-  lends_values t r = follows tree_row (kept_row t.now) t.ghost_name r (λ u. u.0)
+  lends_values t r = follows tree_row tree_row t.ghost_name r (kept t.now)
