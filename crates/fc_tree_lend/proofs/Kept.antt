@@ -1,6 +1,7 @@
 -- A tree with the keys and the shape of another is kept, and what is kept has them.
 use Rattle.std.proofs.Common.{◌≡◌, ℕ, Bool, true, false, cond, refl, sym, ap, ◌∙◌, subst}
 use lib.Dec.{T, eqb, eqb→eq}
+use Rattle.std.proofs.Math.Dec.{eqb_refl}
 use base.Stored.{Gv, gnil, gnum, gcons}
 use denote.Builtin.{unit}
 use denote.RattleType.{RattleType}
@@ -11,8 +12,12 @@ use Rattle.fc_tree_node.specs.Tree.{Map}
 use Rattle.fc_tree_lend.specs.Holed.{keys_and_shape}
 use Rattle.fc_tree_lend.specs.Lends.{is_same, kept}
 
+is_true : (y : Bool) → T y → y ≡ true
+is_true true t = refl
+is_true false t = absurd t
+
 eqb_self : (n : ℕ) → eqb n n ≡ true
-eqb_self n = ?
+eqb_self n = is_true (eqb n n) (eqb_refl n)
 
 is_same_self : (a : Gv) → is_same a a ≡ true
 is_same_self gnil = refl

@@ -5,6 +5,7 @@ mod Kept
 mod Lends
 mod Levels
 mod Lists
+mod Marks
 mod Maybes
 mod Nodes
 mod Packs
