@@ -6,7 +6,7 @@ use denote.RawPtr.{Ptr}
 use Rattle.fc_tree_node.specs.declared.node.Node.{Node}
 use Rattle.fc_tree_node.specs.Node.{pairs_of, IsLevelled}
 use Rattle.fc_tree_node.specs.Tree.{Map, entries, IsSoundMap}
-use Rattle.fc_tree_lend.specs.Holed.{on_value, map_values, map_tree, filled, run_of, keys_and_shape, values, replaced, IsRefilled}
+use Rattle.fc_tree_lend.specs.Holed.{on_value, filled_pairs, map_values, map_tree, filled, run_of, keys_and_shape, values, replaced, IsRefilled}
 use Rattle.fc_tree_lend.proofs.Shapes.{map_map, pairs_map}
 use Rattle.fc_tree_lend.proofs.Places.{IsSome, IsCons, head_or, rest_of}
 use Rattle.fc_tree_lend.proofs.Relabels.{own_long, levelled_back, levelled_on, rezip, Relabelled, relabel}
@@ -87,3 +87,9 @@ module _ (K V Z : Type 0) where
   one_run None (Some y) s e f = absurd (subst IsSome (sym e) tt)
   one_run (Some z) None s e f = absurd (subst IsSome e tt)
   one_run (Some z) (Some y) s e f = node_run s.0 z y s.2.1 (ap (node_or (map_values place_of z)) e) (ap (node_or (map_values value_of z)) f)
+
+module _ {K V Z : Type 0} where
+  -- the pairs of a sound tree of holes, with the values that they stand for
+  pub filled_entries : (y : Map K (Ptr × V) Z) → IsSoundMap y → entries (filled y) ≡ filled_pairs (entries y)
+  filled_entries None s = refl
+  filled_entries (Some n) s = pairs_map (λ h. h.1) s.0 n s.2.1

@@ -24,6 +24,14 @@ module _ {K X Y : Type 0} (f : X → Y) where
     abbrev pub map_tree : Map K X Z → Map K Y Z
     map_tree = on_some map_values
 
+module _ {K V : Type 0} where
+  -- The holes of pairs, and the pairs whose values they stand for.
+  abbrev pub holes : List (K × (Ptr × V)) → List (Ptr × V)
+  holes = map (λ p. p.1)
+
+  abbrev pub filled_pairs : List (K × (Ptr × V)) → List (K × V)
+  filled_pairs = map (on_value (λ h. h.1))
+
 module _ {K V Z : Type 0} where
   -- The tree whose values the holes stand for.
   abbrev pub filled : Map K (Ptr × V) Z → Map K V Z
@@ -31,7 +39,7 @@ module _ {K V Z : Type 0} where
 
   -- Where the values lie and what they were, in the order of their keys.
   abbrev pub run_of : Map K (Ptr × V) Z → List (Ptr × V)
-  run_of t = map (λ p. p.1) (entries t)
+  run_of t = holes (entries t)
 
   -- A tree's keys, in their order, and its shape.
   abbrev pub keys_and_shape : Map K V Z → Map K (Unit {0}) Z

@@ -1,6 +1,7 @@
 -- What a tree ends as, where its values are lent.
 use Rattle.std.specs.Prelude.{◌≡◌, Bool, true, false, cond}
 use lib.Dec.{eqb}
+use Rattle.std.specs.Borrow.{Lends}
 use base.Fml.{Fml, GName}
 use base.Stored.{Gv, gnil, gnum, gcons}
 use denote.Builtin.{unit}
@@ -40,3 +41,7 @@ module _ (K V A : RattleType) (heap : Ghosts A.Denot) where
   -- The tree behind t ends with its keys and its shape, and with the values that the loan named r ends at.
   abbrev pub lends_values : MutBor (Map K.Denot V.Denot A.Denot) → GName → Fml
   lends_values t r = follows tree_row tree_row t.ghost_name r (kept t.now)
+
+-- What is held ends as what is written last through r.
+abbrev pub lends_value : (V : RattleType) → MutBor V.Denot → MutBor V.Denot → Fml
+lends_value V w r = Lends (held.the_row V) V w r (λ x. x)

@@ -2,5 +2,6 @@
 #![tactic(auto)]
 
 pub mod hole;
+pub mod iter_mut;
 pub mod lent;
 pub mod tree;
