@@ -1,7 +1,7 @@
 //! A writing walk over all pairs of a tree, from both ends.
-ghost use Rattle.std.specs.Prelude.{◌≡◌, length};
+ghost use Rattle.std.specs.Prelude.{◌≡◌, ◌≤◌, length, Some, IfSome};
 ghost use Rattle.std.specs.Borrow.{sem};
-ghost use Rattle.std.specs.Iterator.{at_most};
+ghost use Rattle.std.specs.Iterator.{at_most, UpTo};
 ghost use Rattle.std_collections.specs.Map.Iter.{TakesFirst, TakesLast, deref_pair_mut};
 ghost use Rattle.fc_tree_node.specs.Tree.{entries, IsSoundMap};
 ghost use Rattle.fc_tree_lend.specs.Lends.{lends_values};
@@ -13,6 +13,7 @@ use fc_base::Handle;
 use fc_iter::iter::Iter;
 use fc_tree_node::node::Node;
 use std::alloc::Global;
+use std::iter::FusedIterator;
 use std::marker::Model;
 
 /// The pairs that are still to come, in ascending order of their keys, with their values to write. Upstream: `btree_map::IterMut`.
@@ -48,6 +49,13 @@ impl<'a, K, V, A: Handle> IterMut<'a, K, V, A> {
             lent,
         }
     }
+
+    /// The number of pairs still to come. Upstream: `IterMut::len`.
+    pub fn len(&self) -> usize
+        ensures { result ≡ length self.now.0 }
+    {
+        self.walk.len()
+    }
 }
 
 impl<'a, K, V, A: Handle> Iterator for IterMut<'a, K, V, A> {
@@ -63,6 +71,15 @@ impl<'a, K, V, A: Handle> Iterator for IterMut<'a, K, V, A> {
             None => None,
         }
     }
+
+    /// The number of pairs still to come, twice.
+    fn size_hint(&self) -> (usize, Option<usize>)
+        ensures lower { result.0 ≤ length self.now.0 }
+        ensures upper { IfSome result.1 (UpTo (at_most (length self.now.0))) }
+        ensures exact { result ≡ (length self.now.0, Some (length self.now.0)) }
+    {
+        (self.len(), Some(self.len()))
+    }
 }
 
 impl<'a, K, V, A: Handle> DoubleEndedIterator for IterMut<'a, K, V, A> {
@@ -75,3 +92,11 @@ impl<'a, K, V, A: Handle> DoubleEndedIterator for IterMut<'a, K, V, A> {
         }
     }
 }
+
+impl<'a, K, V, A: Handle> ExactSizeIterator for IterMut<'a, K, V, A> {
+    fn len(&self) -> usize {
+        self.walk.len()
+    }
+}
+
+impl<'a, K, V, A: Handle> FusedIterator for IterMut<'a, K, V, A> {}
