@@ -48,6 +48,7 @@ module _ (K V A : RattleType) (heap : Ghosts A.Denot) where
   code t = (option.the_row (node.the_row K unit A heap)).coded.code (keys_and_shape t)
 
   pub kept_is : (t u : Tree) → keys_and_shape u ≡ keys_and_shape t → kept K V A heap t u ≡ u
+  unfolding kept
   kept_is t u e = ap (λ y. cond y u t) (ap (λ s. is_same ((option.the_row (node.the_row K unit A heap)).coded.code s) (code t)) e ∙ is_same_self (code t))
 
   shape_kept : (t u : Tree) (y : Bool) → (y ≡ true → keys_and_shape u ≡ keys_and_shape t) → keys_and_shape (cond y u t) ≡ keys_and_shape t
@@ -56,5 +57,6 @@ module _ (K V A : RattleType) (heap : Ghosts A.Denot) where
 
   -- what is kept has the keys and the shape
   pub kept_shape : (t u : Tree) → keys_and_shape (kept K V A heap t u) ≡ keys_and_shape t
+  unfolding kept
   kept_shape t u = shape_kept t u (is_same (code u) (code t))
       (λ e. (option.the_row (node.the_row K unit A heap)).coded.inj (keys_and_shape u) (keys_and_shape t) (same_is (code u) (code t) e))

@@ -1,7 +1,7 @@
 mod Broods
 mod Cuts
 mod Fields
-mod Kept
+pub mod Kept
 mod Lends
 mod Levels
 mod Lists
@@ -14,5 +14,5 @@ mod Places
 mod Relabels
 mod Rows
 mod Shapes
-mod Trees
+pub mod Trees
 mod Woven

@@ -14,7 +14,7 @@ use types.Kit.{Goal, Item, Seq, ‵, some, ◌⊛◌, ◌$◌, ◌∵◌, !, qed
 use denote.RattleType.{RattleType}
 use denote.Memory.{part_at, part_of, shared_of, lone}
 use denote.Model.Fields.{view_owns, view_shares, view-Hides, view_made, plain_out, Plain-in}
-use denote.Param.{param}
+use denote.Param.{copied}
 use denote.Param.Laws.{Laws, param_laws}
 use denote.Shares.{Shares-less}
 use denote.Struct.Lending.{Lends}
@@ -39,7 +39,7 @@ pub record Handles : Type 2 where
   pub g : Ghosts row.Denot
 
 abbrev pub ZR : Handles → RattleType
-ZR Y = param 2 Y.row
+ZR Y = copied 2 Y.row
 
 module _ (Y : Handles) (W R S : RattleType) (F : Form W R.Denot S.Denot) {M : Type 1} {𝓤 : Ura M} (𝓛 : Logic 𝓤) (l : Lft) (within : Incl l Y.row.lives) (same : type_size S ≡ type_size R) (rb ro : ℕ) where
   abbrev Z : RattleType

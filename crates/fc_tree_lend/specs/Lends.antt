@@ -35,7 +35,7 @@ module _ (K V A : RattleType) (heap : Ghosts A.Denot) where
   shape_code t = (option.the_row (node.the_row K unit A heap)).coded.code (keys_and_shape t)
 
   -- The tree u, if it has the keys of t in their order and its shape, and else t.
-  abbrev pub kept : Map K.Denot V.Denot A.Denot → Map K.Denot V.Denot A.Denot → Map K.Denot V.Denot A.Denot
+  unfoldable pub kept : Map K.Denot V.Denot A.Denot → Map K.Denot V.Denot A.Denot → Map K.Denot V.Denot A.Denot
   kept t u = cond (is_same (shape_code u) (shape_code t)) u t
 
   -- The tree behind t ends with its keys and its shape, and with the values that the loan named r ends at.
