@@ -26,7 +26,8 @@ use Rattle.fc_tree_lend.proofs.Fields.{field, One, One_seen, one_cuts}
 use Rattle.fc_tree_lend.proofs.Lists.{items_form, All_cuts, slots_cuts}
 use Rattle.fc_tree_lend.proofs.Packs.{Handles, ZR}
 
-module _ (Y : Handles) (W R S : RattleType) (F : Form W R.Denot S.Denot) {M : Type 1} {𝓤 : Ura M} (𝓛 : Logic 𝓤) (l : Lft) (within : Incl l Y.row.lives) (same : type_size S ≡ type_size R) (rb ro : ℕ) where
+module _ (Y : Handles) (W R S : RattleType) (F : Form W R.Denot S.Denot) {M : Type 1} {𝓤 : Ura M} (𝓛 : Logic 𝓤) (l : Lft) (within : Incl l Y.row.lives)
+    (same : type_size S ≡ type_size R) (rb ro : ℕ) where
   abbrev Z : RattleType
   Z = ZR Y
 
@@ -86,5 +87,7 @@ module _ (Y : Handles) (W R S : RattleType) (F : Form W R.Denot S.Denot) {M : Ty
 
   pub children_cuts : (d : List R.Denot) → All_cuts most_children Y W R S F 𝓛 l within same rb ro d → Cuts W 𝓛 l LF Children_at Children_seen d
   children_cuts d all = along W 𝓛 l LF LF one_at Children_at one_seen Children_seen {x = d} {x' = d} {turn = λ y. y}
-      (record { out = children_out d; is = λ y e. e; same = λ y e. id⊢ 𝓤 _; back = λ y i z e. (z, e, id⊢ 𝓤 _, children_in (map F.erase z)); shows = λ y e κ. children_show y κ })
-      (one_cuts W 𝓛 l owner sharer τ LF rb ro ((λ x vs p. subst Lone (sym p.1.0.1.0) tt), tt) d (slots_cuts most_children Y W R S F 𝓛 l within same rb (ro + up (align τ) 0) d all))
+      (record { out = children_out d; is = λ y e. e; same = λ y e. id⊢ 𝓤 _; back = λ y i z e. (z, e, id⊢ 𝓤 _, children_in (map F.erase z));
+      shows = λ y e κ. children_show y κ })
+      (one_cuts W 𝓛 l owner sharer τ LF rb ro ((λ x vs p. subst Lone (sym p.1.0.1.0) tt), tt) d
+      (slots_cuts most_children Y W R S F 𝓛 l within same rb (ro + up (align τ) 0) d all))

@@ -10,7 +10,8 @@ use base.Fraction.{full_share}
 use base.Logic.{SProp, ent, sep, emp, id⊢, via}
 use base.Fml.{Lft, Fml, Incl, ftrue, fsep, fbor}
 use types.Logic.{Logic, sem, lfts}
-use types.Kit.{Goal, Item, Seq, Step, step, ‵, ◌⊛◌, ◌$◌, ◌∵◌, !, qed, done, by, move, keep, drop, use1, use2, split, rewrite, fsplit, fjoin, raw, later, await, updating, now}
+use types.Kit.{Goal, Item, Seq, Step, step, ‵, ◌⊛◌, ◌$◌, ◌∵◌, !, qed, done, by, move, keep, drop, use1, use2, split, rewrite, fsplit, fjoin, raw, later}
+use types.Kit.{await, updating, now}
 use denote.RattleType.{RattleType}
 use denote.RawPtr.{Ptr, lies_at}
 use denote.Sharing.{nothing, beside}
@@ -63,7 +64,8 @@ module _ (W : RattleType) {M : Type 1} {𝓤 : Ura M} (𝓛 : Logic 𝓤) (l : L
       pub lends : Lends 𝓛 B (seen y) l
 
     abbrev pub Cuts : D → Type 2
-    Cuts x = (K : Type 0) (G : Goal 𝓤 𝓛.H) (Γ : List (Item 𝓤)) → K → ((y : E) (B : Fml) → Good x y B → Seq K 𝓛 (‵ B ∷ ‵ (stars W (F.cells y)) ∷ Γ) G) → Seq K 𝓛 (‵ (own x) ∷ Γ) G
+    Cuts x = (K : Type 0) (G : Goal 𝓤 𝓛.H) (Γ : List (Item 𝓤)) → K → ((y : E) (B : Fml) → Good x y B → Seq K 𝓛 (‵ B ∷ ‵ (stars W (F.cells y)) ∷ Γ) G)
+        → Seq K 𝓛 (‵ (own x) ∷ Γ) G
 
   module _ {D : Type 0} (own : D → Fml) (seen : D → Lft → Fml) where
     kept_again : (x z : D) → x ≡ z → ent 𝓤 (sep 𝓤 (sem 𝓛 (own x)) (sem 𝓛 ftrue)) (sem 𝓛 (own z))
@@ -105,16 +107,19 @@ module _ (W : RattleType) {M : Type 1} {𝓤 : Ura M} (𝓛 : Logic 𝓤) (l : L
       pub is : (y : E) → F.erase y ≡ x → F'.erase (turn y) ≡ x'
       pub same : (y : E) → F.erase y ≡ x → ent 𝓤 (sem 𝓛 (stars W (F.cells y))) (sem 𝓛 (stars W (F'.cells (turn y))))
       pub back : (y : E) → F.erase y ≡ x → (z : E') → F'.bare (turn y) ≡ F'.bare z
-          → (u : E) × (F.bare y ≡ F.bare u) × ent 𝓤 (sem 𝓛 (stars W (F'.cells z))) (sem 𝓛 (stars W (F.cells u))) × ent 𝓤 (sem 𝓛 (own (F.erase u))) (sem 𝓛 (own' (F'.erase z)))
+          → (u : E) × (F.bare y ≡ F.bare u) × ent 𝓤 (sem 𝓛 (stars W (F'.cells z))) (sem 𝓛 (stars W (F.cells u)))
+          × ent 𝓤 (sem 𝓛 (own (F.erase u))) (sem 𝓛 (own' (F'.erase z)))
       pub shows : (y : E) → F.erase y ≡ x → (κ : Lft) → ent 𝓤 (sem 𝓛 (seen y κ)) (sem 𝓛 (seen' (turn y) κ))
 
     module _ {x : D} {x' : D'} {turn : E → E'} (T : Turns x x' turn) where
-      turned_again : (y : E) (B : Fml) → Good F own seen x y B → (z : E') → F'.bare (turn y) ≡ F'.bare z → ent 𝓤 (sep 𝓤 (sem 𝓛 B) (sem 𝓛 (stars W (F'.cells z)))) (sem 𝓛 (own' (F'.erase z)))
+      turned_again : (y : E) (B : Fml) → Good F own seen x y B → (z : E') → F'.bare (turn y) ≡ F'.bare z
+          → ent 𝓤 (sep 𝓤 (sem 𝓛 B) (sem 𝓛 (stars W (F'.cells z)))) (sem 𝓛 (own' (F'.erase z)))
       turned_again y B g z e = let u = T.back y g.is z e in qed 𝓛 (‵ B ∷ ‵ (stars W (F'.cells z)) ∷ []) ∵
           move ! (1 ∷ []) $ use1 𝓛 (‵ (stars W (F.cells u.0))) u.2 $ move ! (1 ∷ 0 ∷ []) $ use2 𝓛 (‵ (own (F.erase u.0))) (g.again u.0 u.1) $ by ! u.3
 
       pub along : Cuts F own seen x → Cuts F' own' seen' x'
-      along c K G Γ t k = use1 𝓛 (‵ (own x)) T.out $ c _ _ _ t (λ y B g. move t (1 ∷ []) $ use1 𝓛 (‵ (stars W (F'.cells (turn y)))) (T.same y g.is) $ move t (1 ∷ 0 ∷ []) $ k (turn y) B (record {
+      along c K G Γ t k = use1 𝓛 (‵ (own x)) T.out $ c _ _ _ t (λ y B g. move t (1 ∷ []) $ use1 𝓛 (‵ (stars W (F'.cells (turn y)))) (T.same y g.is) $
+          move t (1 ∷ 0 ∷ []) $ k (turn y) B (record {
         is = T.is y g.is;
         again = turned_again y B g;
         lends = Lends-then B (seen y) (seen' (turn y)) (T.shows y g.is) g.lends;

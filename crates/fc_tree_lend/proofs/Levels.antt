@@ -25,7 +25,8 @@ use Rattle.fc_tree_lend.proofs.Cuts.{Form, pair, Cuts}
 use Rattle.fc_tree_lend.proofs.Fields.{two_cuts}
 use Rattle.fc_tree_lend.proofs.Lists.{Slots_at, Slots_seen, All_cuts, slots_cuts}
 use Rattle.fc_tree_lend.proofs.Maybes.{Maybe_at, Maybe_seen, value_at, maybe_cuts}
-use Rattle.fc_tree_lend.proofs.Nodes.{NR, MR, A, A', B, B', C, C', W, Z, τ, υ, PF, BF, OF, child, holed_child, node_form, parts, two_at, two_seen, lone_fields, of_parts, Node_at, Node_seen}
+use Rattle.fc_tree_lend.proofs.Nodes.{NR, MR, A, A', B, B', C, C', W, Z, τ, υ, PF, BF, OF, child, holed_child, node_form, parts, two_at, two_seen}
+use Rattle.fc_tree_lend.proofs.Nodes.{lone_fields, of_parts, Node_at, Node_seen}
 use Rattle.fc_tree_lend.proofs.Packs.{Handles, ZR}
 use Rattle.fc_tree_lend.proofs.Pairs.{Kinds, KR, WR, HR, PR, QR, pair_form, pair_cuts}
 use Rattle.fc_tree_lend.proofs.Places.{maybe_form}
@@ -53,7 +54,8 @@ module _ (E : Kinds) (Y : Handles) {M : Type 1} {𝓤 : Ura M} (𝓛 : Logic �
   child_shows b o = λ i y. sym (node.shr_is (KR E) (HR E) (Z E Y) Y.g y) i b o
 
   as_child : (n : Tree) → Node_cuts n → Child_cuts n
-  as_child n cuts b o = subst (λ (p : (Tree → Fml) × (Holed → Lft → Fml)). Cuts (W E Y) 𝓛 l (node_form E Y) p.0 p.1 n) (λ i. (child_owns b o i, child_shows b o i)) (cuts b o)
+  as_child n cuts b o = subst (λ (p : (Tree → Fml) × (Holed → Lft → Fml)). Cuts (W E Y) 𝓛 l (node_form E Y) p.0 p.1 n)
+      (λ i. (child_owns b o i, child_shows b o i)) (cuts b o)
 
   module _ (b o : ℕ) where
     abbrev each_pair : List (E.key.Denot × E.val.Denot) → Type 2
@@ -66,7 +68,8 @@ module _ (E : Kinds) (Y : Handles) {M : Type 1} {𝓤 : Ura M} (𝓛 : Logic �
     abbrev each_child : List Tree → Type 2
     each_child = All_cuts most_children Y (W E Y) (child E Y) (holed_child E Y) (node_form E Y) 𝓛 l handles refl b o
 
-    all_children : (h : ℕ) → ((n : Tree) → IsLevelled h n → Node_cuts n) → (ns : List Tree) → AllByRecursion (λ c. (min_len ≤ length (own_pairs c)) × IsLevelled h c) ns → each_child ns
+    all_children : (h : ℕ) → ((n : Tree) → IsLevelled h n → Node_cuts n) → (ns : List Tree)
+        → AllByRecursion (λ c. (min_len ≤ length (own_pairs c)) × IsLevelled h c) ns → each_child ns
     all_children h cuts [] all = tt
     all_children h cuts (n ∷ ns) all = (as_child n (cuts n all.0.1), all_children h cuts ns all.1)
 
@@ -74,7 +77,8 @@ module _ (E : Kinds) (Y : Handles) {M : Type 1} {𝓤 : Ura M} (𝓛 : Logic �
   inner_fits ps None e = tt
   inner_fits ps (Some ns) e = e
 
-  module _ (n : Tree) (fits : Fits (parts E Y n).0 (parts E Y n).1) (below : (ns : List Tree) → (parts E Y n).1 ≡ Some ns → (b o : ℕ) → each_child b o ns) (b o : ℕ) where
+  module _ (n : Tree) (fits : Fits (parts E Y n).0 (parts E Y n).1) (below : (ns : List Tree) → (parts E Y n).1 ≡ Some ns → (b o : ℕ) → each_child b o ns)
+      (b o : ℕ) where
     abbrev first : ℕ
     first = o + up (align (τ E Y)) 0
 
@@ -87,22 +91,26 @@ module _ (E : Kinds) (Y : Handles) {M : Type 1} {𝓤 : Ura M} (𝓛 : Logic �
     abbrev brood_at : ℕ
     brood_at = value_at (W E Y) (C E Y) (C' E Y) ρ (BF E Y) 𝓛 l b second
 
-    of_children : Cuts (W E Y) 𝓛 l (OF E Y) (Maybe_at (W E Y) (C E Y) (C' E Y) ρ (BF E Y) 𝓛 l b second) (Maybe_seen (W E Y) (C E Y) (C' E Y) ρ (BF E Y) 𝓛 l b second) (parts E Y n).1
+    of_children : Cuts (W E Y) 𝓛 l (OF E Y) (Maybe_at (W E Y) (C E Y) (C' E Y) ρ (BF E Y) 𝓛 l b second)
+        (Maybe_seen (W E Y) (C E Y) (C' E Y) ρ (BF E Y) 𝓛 l b second) (parts E Y n).1
     of_children = maybe_cuts (W E Y) (C E Y) (C' E Y) ρ (BF E Y) 𝓛 l b second ((λ x vs p. subst Lone (sym p.1.0.1.0) tt), tt) (parts E Y n).1
         (λ ns e. children_cuts Y (W E Y) (child E Y) (holed_child E Y) (node_form E Y) 𝓛 l handles refl b brood_at ns (below ns e b brood_at))
 
-    of_pairs : Cuts (W E Y) 𝓛 l (PF E Y) (Slots_at 15 Y (W E Y) (PR E) (QR E) (pair_form E) 𝓛 l handles refl b first) (Slots_seen 15 Y (W E Y) (PR E) (QR E) (pair_form E) 𝓛 l handles refl b first)
+    of_pairs : Cuts (W E Y) 𝓛 l (PF E Y) (Slots_at 15 Y (W E Y) (PR E) (QR E) (pair_form E) 𝓛 l handles refl b first)
+        (Slots_seen 15 Y (W E Y) (PR E) (QR E) (pair_form E) 𝓛 l handles refl b first)
         (parts E Y n).0
     of_pairs = slots_cuts 15 Y (W E Y) (PR E) (QR E) (pair_form E) 𝓛 l handles refl b first (parts E Y n).0 (all_pairs b first (parts E Y n).0)
 
     at_place : Cuts (W E Y) 𝓛 l (node_form E Y) (Node_at E Y 𝓛 l keys handles b o) (Node_seen E Y 𝓛 l keys handles b o) n
     at_place = of_parts E Y 𝓛 l keys handles b o n fits
-        (two_cuts (W E Y) 𝓛 l (A E Y) (A' E Y) (B E Y) (B' E Y) (τ E Y) (υ E Y) (PF E Y) (OF E Y) b o (lone_fields E Y 𝓛 l keys handles b o) (parts E Y n) of_pairs of_children)
+        (two_cuts (W E Y) 𝓛 l (A E Y) (A' E Y) (B E Y) (B' E Y) (τ E Y) (υ E Y) (PF E Y) (OF E Y) b o (lone_fields E Y 𝓛 l keys handles b o)
+        (parts E Y n) of_pairs of_children)
 
   pub node_cuts : (h : ℕ) (n : Tree) → IsLevelled h n → Node_cuts n
   node_cuts zero n levelled = at_place n (subst (Fits (parts E Y n).0) (sym levelled.1) tt) (λ ns e. absurd (cc (e, levelled.1)))
   node_cuts (suc h) n levelled = at_place n (inner_fits (parts E Y n).0 (parts E Y n).1 levelled.1)
-      (λ ns e b o. all_children b o h (node_cuts h) ns (subst (AllByRecursion (λ c. (min_len ≤ length (own_pairs c)) × IsLevelled h c)) (ap items_or_none e) levelled.2))
+      (λ ns e b o. all_children b o h (node_cuts h) ns (subst (AllByRecursion (λ c. (min_len ≤ length (own_pairs c)) × IsLevelled h c))
+      (ap items_or_none e) levelled.2))
 
   -- a sound tree
   abbrev pub tree_form : Form (W E Y) (Option Tree) (Option Holed)

@@ -56,7 +56,8 @@ module _ {X Y : Type 0} (f : X → Y) where
 
 module _ {X B : Type 0} (f : X → B) where
   -- items that are like those there
-  filled : (cs : List (Option X)) (zs : List X) → map f (present cs) ≡ map f zs → (map (on_some f) cs ≡ map (on_some f) (fill cs zs)) × (present (fill cs zs) ≡ zs)
+  filled : (cs : List (Option X)) (zs : List X) → map f (present cs) ≡ map f zs → (map (on_some f) cs ≡ map (on_some f) (fill cs zs))
+      × (present (fill cs zs) ≡ zs)
   filled [] [] e = (refl, refl)
   filled [] (z ∷ zs) e = absurd (subst IsCons (sym e) tt)
   filled (None ∷ cs) zs e = let r = filled cs zs e in (ap (λ l. None ∷ l) r.0, r.1)
@@ -76,7 +77,8 @@ module _ (W : RattleType) {D E : Type 0} (F : Form W D E) where
   present_cells (None ∷ cs) = present_cells cs
   present_cells (Some y ∷ cs) = ap (λ l. F.cells y ++ l) (present_cells cs)
 
-module _ (N : ℕ) (Y : Handles) (W R S : RattleType) (F : Form W R.Denot S.Denot) {M : Type 1} {𝓤 : Ura M} (𝓛 : Logic 𝓤) (l : Lft) (within : Incl l Y.row.lives) (same : type_size S ≡ type_size R) where
+module _ (N : ℕ) (Y : Handles) (W R S : RattleType) (F : Form W R.Denot S.Denot) {M : Type 1} {𝓤 : Ura M} (𝓛 : Logic 𝓤) (l : Lft)
+    (within : Incl l Y.row.lives) (same : type_size S ≡ type_size R) where
   abbrev Z : RattleType
   Z = ZR Y
 
@@ -143,16 +145,19 @@ module _ (N : ℕ) (Y : Handles) (W R S : RattleType) (F : Form W R.Denot S.Deno
         (Plain-in T I (view_owns I (List R.Denot) T.coded (view R.Denot N ZD Y.g) (invariant R.Denot N ZD Y.g)) 𝓛 full_share d a
           (view_made I (List R.Denot) T.coded (view R.Denot N ZD Y.g) (invariant R.Denot N ZD Y.g) 𝓛 d a k) rb ro)
 
-    module _ (a : Inside R.Denot N ZD) (known : invariant R.Denot N ZD Y.g a) (y : List (Option S.Denot) × U.Denot) (B : Fml) (cut : Good W 𝓛 l (pair W CF UF) both_at both_seen (a.cells, a.len) y B) where
+    module _ (a : Inside R.Denot N ZD) (known : invariant R.Denot N ZD Y.g a) (y : List (Option S.Denot) × U.Denot) (B : Fml)
+        (cut : Good W 𝓛 l (pair W CF UF) both_at both_seen (a.cells, a.len) y B) where
       packed : IsPacked y.0 y.1 N
       packed = let e : map holds a.cells ≡ map holds y.0 = sym (ap (map holds) (λ i. (cut.is i).0)) ∙ holds-map F.erase y.0 in
           subst (λ n. IsPacked y.0 n N) (λ i. (sym cut.is i).1) (known.0, sym e ∙ known.1)
 
-      slots_again : (z : List S.Denot) → map F.bare (present y.0) ≡ map F.bare z → ent 𝓤 (sep 𝓤 (sem 𝓛 B) (sem 𝓛 (stars W (items_cells W F z)))) (sem 𝓛 (Slots_at (map F.erase z)))
+      slots_again : (z : List S.Denot) → map F.bare (present y.0) ≡ map F.bare z → ent 𝓤 (sep 𝓤 (sem 𝓛 B) (sem 𝓛 (stars W (items_cells W F z))))
+          (sem 𝓛 (Slots_at (map F.erase z)))
       slots_again z e = let f = filled F.bare y.0 z e in let cs : List (Option S.Denot) = fill y.0 z in
           let v : Inside R.Denot N ZD = record { cells = map (on_some F.erase) cs; len = y.1 } in
           let is : view R.Denot N ZD Y.g v ≡ map F.erase z = present-map F.erase cs ∙ ap (map F.erase) f.1 in
-          let like : map holds (map (on_some F.erase) cs) ≡ map holds y.0 = holds-map F.erase cs ∙ sym (holds-map F.bare cs) ∙ ap (map holds) (sym f.0) ∙ holds-map F.bare y.0 in
+          let like : map holds (map (on_some F.erase) cs) ≡ map holds y.0 = holds-map F.erase cs ∙ sym (holds-map F.bare cs) ∙ ap (map holds) (sym f.0)
+          ∙ holds-map F.bare y.0 in
           qed 𝓛 (‵ B ∷ ‵ (stars W (items_cells W F z)) ∷ []) ∵
           rewrite ! 1 (λ ds. ‵ (stars W ds)) (sym (append-nil (list_cells W F cs) ∙ present_cells W F cs ∙ ap (items_cells W F) f.1)) refl $
           use2 𝓛 (‵ (both_at (v.cells, v.len))) (cut.again (cs, y.1) (λ i. (f.0 i, y.1))) $
@@ -160,7 +165,8 @@ module _ (N : ℕ) (Y : Handles) (W R S : RattleType) (F : Form W R.Denot S.Deno
 
       slots_lend : Lends 𝓛 B (Slots_seen (present y.0)) l
       slots_lend = let T = slots.the_row S Nr Z Y.g in let I = inside.the_row S Nr Z Y.g in
-          Lends-then W 𝓛 l B (both_seen y) (Slots_seen (present y.0)) (λ κ. view-Hides I (List S.Denot) T.coded (view S.Denot N ZD Y.g) (invariant S.Denot N ZD Y.g)
+          Lends-then W 𝓛 l B (both_seen y) (Slots_seen (present y.0)) (λ κ. view-Hides I (List S.Denot) T.coded (view S.Denot N ZD Y.g)
+          (invariant S.Denot N ZD Y.g)
           M 𝓤 𝓛 (present y.0) (record { cells = y.0; len = y.1 }) (refl, packed) rb ro κ) cut.lends
 
     -- each item is cut wherever it lies

@@ -15,6 +15,8 @@ use Rattle.fc_tree_lend.specs.contracts.lent.Lent as lent
 abbrev pub mark : Val
 mark = vstruct (vcons (vstruct vnil) vnil)
 
-pub mark_made : (a : NamedLft) (V : RattleType) {M : Type 1} {𝓤 : Ura M} (𝓛 : Logic 𝓤) → ent 𝓤 (emp 𝓤) (sem 𝓛 ((Struct (shape (lent.the_type a V))).own_val (tt, tt) (mark ∷ [])))
+pub mark_made : (a : NamedLft) (V : RattleType) {M : Type 1} {𝓤 : Ura M} (𝓛 : Logic 𝓤)
+    → ent 𝓤 (emp 𝓤) (sem 𝓛 ((Struct (shape (lent.the_type a V))).own_val (tt, tt) (mark ∷ [])))
 mark_made a V 𝓛 =
-    makes_shadow 𝓛 ((Struct (shape (lent.the_type a V))).own_val (tt, tt) (mark ∷ [])) (λ vss. (tt, ((λ uss. (tt, tt)), tt))) ((vstruct vnil ∷ [], tt), (refl, ((tt, (refl, tt)), tt)))
+    makes_shadow 𝓛 ((Struct (shape (lent.the_type a V))).own_val (tt, tt) (mark ∷ [])) (λ vss. (tt, ((λ uss. (tt, tt)), tt)))
+    ((vstruct vnil ∷ [], tt), (refl, ((tt, (refl, tt)), tt)))

@@ -181,24 +181,29 @@ module _ (E : Kinds) (Y : Handles) where
       fit y e = unmapped (on_value with_value) (map_values with_value) y.0 y.1 (subst (λ (p : Parts). Fits p.0 p.1) (sym e) fits)
 
       is : (y : Parts') → Erased y → map_values with_value (made y) ≡ x
-      is y e = map_roll with_value (record { pairs = y.0; children = y.1 }) ∙ (λ i. roll-Node KD VD ZD (record { pairs = (e i).0; children = (e i).1 })) ∙ roll-out-Node KD VD ZD x
+      is y e = map_roll with_value (record { pairs = y.0; children = y.1 }) ∙ (λ i. roll-Node KD VD ZD (record { pairs = (e i).0; children = (e i).1 }))
+          ∙ roll-out-Node KD VD ZD x
 
       cells_are : (n : Node KD (Ptr × VD) ZD) → node_cells W KD ZD n ≡ in_order W KD ZD (parts' n).0 (parts' n).1
       cells_are n = ap (own_cells W KD ZD) (pairs_is n)
 
       same : (y : Parts') → Erased y → ent 𝓤 (sem 𝓛 (stars W ((pair W PF OF).cells y))) (sem 𝓛 (stars W (node_cells W KD ZD (made y))))
-      same y e = let to : in_order W KD ZD y.0 y.1 ≡ node_cells W KD ZD (made y) = sym (cells_are (made y) ∙ ap (λ (p : Parts'). in_order W KD ZD p.0 p.1) (parts_made y)) in
+      same y e = let to : in_order W KD ZD y.0 y.1 ≡ node_cells W KD ZD (made y) = sym
+          (cells_are (made y) ∙ ap (λ (p : Parts'). in_order W KD ZD p.0 p.1) (parts_made y)) in
           subst (λ cs. ent 𝓤 (sem 𝓛 (stars W cs)) (sem 𝓛 (stars W (node_cells W KD ZD (made y))))) (sym (parts_same y.0 y.1))
           (subst (λ cs. ent 𝓤 (sem 𝓛 (stars W (apart W KD ZD y.0 y.1))) (sem 𝓛 (stars W cs))) to (weave_join W KD ZD 𝓛 y.0 y.1 (fit y e)))
 
-      bared : (y : Parts') (z : Node KD (Ptr × VD) ZD) → map_values with_place (made y) ≡ map_values with_place z → (pair W PF OF).bare y ≡ (pair W PF OF).bare (parts' z)
+      bared : (y : Parts') (z : Node KD (Ptr × VD) ZD) → map_values with_place (made y) ≡ map_values with_place z
+          → (pair W PF OF).bare y ≡ (pair W PF OF).bare (parts' z)
       bared y z e =
           let f : mapped with_place (record { pairs = y.0; children = y.1 }) ≡ mapped with_place (out-Node KD (Ptr × VD) ZD z) =
-                ap (mapped with_place) (sym (out-roll-Node KD (Ptr × VD) ZD (record { pairs = y.0; children = y.1 }))) ∙ sym (map_out with_place (made y)) ∙ ap (out-Node KD Ptr ZD) e ∙ map_out with_place z in
+                ap (mapped with_place) (sym (out-roll-Node KD (Ptr × VD) ZD (record { pairs = y.0; children = y.1 }))) ∙ sym (map_out with_place (made y))
+                    ∙ ap (out-Node KD Ptr ZD) e ∙ map_out with_place z in
           λ i. ((f i).pairs, (f i).children)
 
       abbrev Back : Parts' → Node KD (Ptr × VD) ZD → Type 1
-      Back y z = (u : Parts') × ((pair W PF OF).bare y ≡ (pair W PF OF).bare u) × ent 𝓤 (sem 𝓛 (stars W (node_cells W KD ZD z))) (sem 𝓛 (stars W ((pair W PF OF).cells u)))
+      Back y z = (u : Parts') × ((pair W PF OF).bare y ≡ (pair W PF OF).bare u)
+          × ent 𝓤 (sem 𝓛 (stars W (node_cells W KD ZD z))) (sem 𝓛 (stars W ((pair W PF OF).cells u)))
           × ent 𝓤 (sem 𝓛 (two_at ((pair W PF OF).erase u))) (sem 𝓛 (Node_at (map_values with_value z)))
 
       back : (y : Parts') → Erased y → (z : Node KD (Ptr × VD) ZD) → map_values with_place (made y) ≡ map_values with_place z → Back y z
@@ -206,11 +211,13 @@ module _ (E : Kinds) (Y : Handles) where
           let u : Parts' = parts' z in
           let b = bared y z bare in
           let fits' : Fits u.0 u.1 = unmapped (on_value with_place) (map_values with_place) u.0 u.1
-                (subst (λ (p : List (KD × Ptr) × Option (List (Node KD Ptr ZD))). Fits p.0 p.1) b (remapped (on_value with_place) (map_values with_place) y.0 y.1 (fit y e))) in
+                (subst (λ (p : List (KD × Ptr) × Option (List (Node KD Ptr ZD))). Fits p.0 p.1) b
+                (remapped (on_value with_place) (map_values with_place) y.0 y.1 (fit y e))) in
           let of : parts (map_values with_value z) ≡ (pair W PF OF).erase u = λ i. ((map_out with_value z i).pairs, (map_out with_value z i).children) in
           (u, b,
             subst (λ cs. ent 𝓤 (sem 𝓛 (stars W cs)) (sem 𝓛 (stars W ((pair W PF OF).cells u)))) (sym (cells_are z))
-              (subst (λ cs. ent 𝓤 (sem 𝓛 (stars W (in_order W KD ZD u.0 u.1))) (sem 𝓛 (stars W cs))) (sym (parts_same u.0 u.1)) (weave_cut W KD ZD 𝓛 u.0 u.1 fits')),
+              (subst (λ cs. ent 𝓤 (sem 𝓛 (stars W (in_order W KD ZD u.0 u.1))) (sem 𝓛 (stars W cs))) (sym (parts_same u.0 u.1))
+              (weave_cut W KD ZD 𝓛 u.0 u.1 fits')),
             subst (λ p. ent 𝓤 (sem 𝓛 (two_at p)) (sem 𝓛 (Node_at (map_values with_value z)))) of (node_in (map_values with_value z)))
 
       pub of_parts : Cuts W 𝓛 l (pair W PF OF) two_at two_seen (parts x) → Cuts W 𝓛 l node_form Node_at Node_seen x

@@ -41,7 +41,8 @@ pub record Handles : Type 2 where
 abbrev pub ZR : Handles → RattleType
 ZR Y = copied 2 Y.row
 
-module _ (Y : Handles) (W R S : RattleType) (F : Form W R.Denot S.Denot) {M : Type 1} {𝓤 : Ura M} (𝓛 : Logic 𝓤) (l : Lft) (within : Incl l Y.row.lives) (same : type_size S ≡ type_size R) (rb ro : ℕ) where
+module _ (Y : Handles) (W R S : RattleType) (F : Form W R.Denot S.Denot) {M : Type 1} {𝓤 : Ura M} (𝓛 : Logic 𝓤) (l : Lft) (within : Incl l Y.row.lives)
+    (same : type_size S ≡ type_size R) (rb ro : ℕ) where
   abbrev Z : RattleType
   Z = ZR Y
 
@@ -98,10 +99,12 @@ module _ (Y : Handles) (W R S : RattleType) (F : Form W R.Denot S.Denot) {M : Ty
   cells_in : (a : Inside R.Denot ZD) (d : List (Option R.Denot)) → Known d a → ent 𝓤 (sem 𝓛 (both_at (a.row, a.alloc))) (sem 𝓛 (Cells_at d))
   cells_in a d k = let D = List (Option R.Denot) in let c = (cells.the_row R Z Y.g).coded in
       via 𝓤 (sem 𝓛 (part_at (inside.the_row R Z Y.g) full_share a rb ro)) (inside_in a)
-      (Plain-in (cells.the_row R Z Y.g) (inside.the_row R Z Y.g) (view_owns (inside.the_row R Z Y.g) D c (view R.Denot ZD Y.g) (invariant R.Denot ZD Y.g)) 𝓛 full_share d a
+      (Plain-in (cells.the_row R Z Y.g) (inside.the_row R Z Y.g) (view_owns (inside.the_row R Z Y.g) D c (view R.Denot ZD Y.g) (invariant R.Denot ZD Y.g)) 𝓛
+      full_share d a
         (view_made (inside.the_row R Z Y.g) D c (view R.Denot ZD Y.g) (invariant R.Denot ZD Y.g) 𝓛 d a k) rb ro)
 
-  module _ (a : Inside R.Denot ZD) (known : invariant R.Denot ZD Y.g a) (y : Row S.Denot ZD × ZD) (B : Fml) (cut : Good W 𝓛 l (pair W RF ZF) both_at both_seen (a.row, a.alloc) y B) where
+  module _ (a : Inside R.Denot ZD) (known : invariant R.Denot ZD Y.g a) (y : Row S.Denot ZD × ZD) (B : Fml)
+      (cut : Good W 𝓛 l (pair W RF ZF) both_at both_seen (a.row, a.alloc) y B) where
     handles : y.0.alloc ≡ y.1
     handles = (λ i. (cut.is i).0.alloc) ∙ known ∙ (λ i. (sym cut.is i).1)
 
@@ -114,12 +117,14 @@ module _ (Y : Handles) (W R S : RattleType) (F : Form W R.Denot S.Denot) {M : Ty
         use1 𝓛 (‵ (Cells_at (map (on_some F.erase) z))) (cells_in v (map (on_some F.erase) z) (refl, handles)) $ done !
 
     cells_lend : Lends 𝓛 B (Cells_seen y.0.held) l
-    cells_lend = Lends-then W 𝓛 l B (both_seen y) (Cells_seen y.0.held) (λ κ. view-Hides (inside.the_row S Z Y.g) (List (Option S.Denot)) (cells.the_row S Z Y.g).coded (view S.Denot ZD Y.g) (invariant S.Denot ZD Y.g)
+    cells_lend = Lends-then W 𝓛 l B (both_seen y) (Cells_seen y.0.held)
+        (λ κ. view-Hides (inside.the_row S Z Y.g) (List (Option S.Denot)) (cells.the_row S Z Y.g).coded (view S.Denot ZD Y.g) (invariant S.Denot ZD Y.g)
         M 𝓤 𝓛 y.0.held (record { row = y.0; alloc = y.1 }) (refl, handles) rb ro κ) cut.lends
 
   pub cells_cuts : (d : List (Option R.Denot)) → ((b : ℕ) → Each_cuts W 𝓛 l R S same F b d) → Cuts W 𝓛 l (list_form W F) Cells_at Cells_seen d
   cells_cuts d each K G Γ t k = use1 𝓛 (some (λ (a : (a : Inside R.Denot ZD) × Known d a). ‵ (part_at (inside.the_row R Z Y.g) full_share a.0 rb ro)))
-      (plain_out (cells.the_row R Z Y.g) (inside.the_row R Z Y.g) (view_owns (inside.the_row R Z Y.g) (List (Option R.Denot)) (cells.the_row R Z Y.g).coded (view R.Denot ZD Y.g) (invariant R.Denot ZD Y.g)) 𝓛 full_share d rb ro) $
+      (plain_out (cells.the_row R Z Y.g) (inside.the_row R Z Y.g) (view_owns (inside.the_row R Z Y.g) (List (Option R.Denot)) (cells.the_row R Z Y.g).coded
+      (view R.Denot ZD Y.g) (invariant R.Denot ZD Y.g)) 𝓛 full_share d rb ro) $
       pick t (λ a. use1 𝓛 (‵ (both_at (a.0.row, a.0.alloc))) (inside_out a.0) $
       two_cuts W 𝓛 l owner sharer Z Z τ υ RF ZF rb ro lone_fields (a.0.row, a.0.alloc)
         (row_cuts W R S Z Y.g F 𝓛 l same rb (ro + up (align τ) 0) a.0.row (subst (λ cs. (b : ℕ) → Each_cuts W 𝓛 l R S same F b cs) (sym a.1.0) each))

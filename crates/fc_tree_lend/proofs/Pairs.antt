@@ -8,7 +8,8 @@ use base.Logic.{ent, sep}
 use base.Fml.{Lft, Fml, Incl, ftrue, fsep, feq, fleft, fbor}
 use mir.Syntax.{Ty, Tys, ty_struct}
 use types.Logic.{Logic, sem, lfts}
-use types.Kit.{Goal, Item, Seq, ‵, raw, later, ◌⊛◌, ◌$◌, ◌∵◌, !, qed, done, by, move, keep, drop, use1, use2, split, rewrite, fsplit, fjoin, feq_i, await, updating, now}
+use types.Kit.{Goal, Item, Seq, ‵, raw, later, ◌⊛◌, ◌$◌, ◌∵◌, !, qed, done, by, move, keep, drop, use1, use2, split, rewrite, fsplit, fjoin, feq_i, await}
+use types.Kit.{updating, now}
 use types.Tokens.{bor_fracture}
 use denote.RattleType.{RattleType}
 use denote.Laws.{Lawfuls}
@@ -81,11 +82,13 @@ module _ (E : Kinds) where
     lawfuls : Lawfuls 𝓛 (rows_of fields)
     lawfuls = ((param_laws 0 E.key E.key_laws).lawful 𝓛, ((held-laws.the_row_laws VR (param_laws 1 E.val E.val_laws)).lawful 𝓛, tt))
 
-    pair_out : (x : PR.Denot) (b o : ℕ) → ent 𝓤 (sem 𝓛 (part_at PR full_share x b o)) (sep 𝓤 (sem 𝓛 (parts_at full_share fields 0 (x.0, (x.1, tt)) b o)) (sem 𝓛 (left b o)))
+    pair_out : (x : PR.Denot) (b o : ℕ) → ent 𝓤 (sem 𝓛 (part_at PR full_share x b o))
+        (sep 𝓤 (sem 𝓛 (parts_at full_share fields 0 (x.0, (x.1, tt)) b o)) (sem 𝓛 (left b o)))
     unfolding part_of
     pair_out x b o = Struct-left 𝓛 full_share [] fields (lawful_Lones 𝓛 fields lawfuls) (x.0, (x.1, tt)) b o
 
-    pair_in : (x : PR.Denot) (b o : ℕ) → ent 𝓤 (sep 𝓤 (sem 𝓛 (parts_at full_share fields 0 (x.0, (x.1, tt)) b o)) (sem 𝓛 (left b o))) (sem 𝓛 (part_at PR full_share x b o))
+    pair_in : (x : PR.Denot) (b o : ℕ) → ent 𝓤 (sep 𝓤 (sem 𝓛 (parts_at full_share fields 0 (x.0, (x.1, tt)) b o)) (sem 𝓛 (left b o)))
+        (sem 𝓛 (part_at PR full_share x b o))
     unfolding part_of
     pair_in x b o = left_Struct 𝓛 full_share [] fields (x.0, (x.1, tt)) b o
 
@@ -100,15 +103,18 @@ module _ (E : Kinds) where
     Lends-left l b o κ ts inc sp = qed 𝓛 (‵ (fbor κ (left b o)) ∷ raw (lfts 𝓛 ts) ∷ []) {P = 𝓛.H.⇛ (sep 𝓤 (sem 𝓛 (left_seen b o κ)) (lfts 𝓛 ts))} (
         updating ! $ bor_fracture ! tt (λ q. fleft q (ty_struct [] (raw_tys fields)) (raw_tys fields) b o) full_share $ now ! $ done !)
 
-    Lends-bones : (l : Lft) → Incl l E.key.lives → (k : E.key.Denot) (w : E.val.Denot) (b o : ℕ) → Lends 𝓛 (bones k b o) (shared_of QR (k, (block_ptr b (value_at o), w)) b o) l
+    Lends-bones : (l : Lft) → Incl l E.key.lives → (k : E.key.Denot) (w : E.val.Denot) (b o : ℕ)
+        → Lends 𝓛 (bones k b o) (shared_of QR (k, (block_ptr b (value_at o), w)) b o) l
     Lends-bones l within k w b o = let hole = feq Ptr (block_ptr b (value_at o)) (block_ptr b (value_at o)) in
-        Lends-both 𝓛 (fsep (part_at KR full_share k b (key_at o)) (fsep hole ftrue)) (left b o) (beside (shared_of KR k b (key_at o)) (beside (said hole) nothing)) (left_seen b o) l
+        Lends-both 𝓛 (fsep (part_at KR full_share k b (key_at o)) (fsep hole ftrue)) (left b o)
+        (beside (shared_of KR k b (key_at o)) (beside (said hole) nothing)) (left_seen b o) l
         (Lends-both 𝓛 (part_at KR full_share k b (key_at o)) (fsep hole ftrue) (shared_of KR k b (key_at o)) (beside (said hole) nothing) l
           (λ κ ts. Shares-less 𝓛 KR KR.lives l within ((param_laws 0 E.key E.key_laws).shares 𝓛) k κ ts b (key_at o))
           (Lends-both 𝓛 hole ftrue (said hole) nothing l (Lends-said 𝓛 hole tt l) (Lends-nothing 𝓛 ftrue l)))
         (Lends-left l b o)
 
-    pub pair_cuts : (l : Lft) → Incl l E.key.lives → (x : PR.Denot) (b o : ℕ) → Cuts WR 𝓛 l pair_form (λ z. part_at PR full_share z b o) (λ y. shared_of QR y b o) x
+    pub pair_cuts : (l : Lft) → Incl l E.key.lives → (x : PR.Denot) (b o : ℕ)
+        → Cuts WR 𝓛 l pair_form (λ z. part_at PR full_share z b o) (λ y. shared_of QR y b o) x
     pair_cuts l within x b o K G Γ t k = let at = block_ptr b (value_at o) in
         use1 𝓛 (‵ (parts_at full_share fields 0 (x.0, (x.1, tt)) b o) ⊛ ‵ (left b o)) (pair_out x b o) $ split t $ fsplit t $ move t (1 ∷ []) $
         -- [the value; the key; the rest of the place]

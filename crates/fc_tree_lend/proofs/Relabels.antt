@@ -45,7 +45,8 @@ module _ {K X Y Z : Type 0} (f : X → Y) where
   abbrev Below' : ℕ → Node K Y Z → Type 0
   Below' h c = (min_len ≤ length (own_pairs c)) × IsLevelled h c
 
-  all_back : (h : ℕ) → ((n : Node K X Z) → IsLevelled h (map_values f n) → IsLevelled h n) → (ns : List (Node K X Z)) → AllByRecursion (Below' h) (map (map_values f) ns) → AllByRecursion (Below h) ns
+  all_back : (h : ℕ) → ((n : Node K X Z) → IsLevelled h (map_values f n) → IsLevelled h n) → (ns : List (Node K X Z))
+      → AllByRecursion (Below' h) (map (map_values f) ns) → AllByRecursion (Below h) ns
   all_back h back [] all = tt
   all_back h back (n ∷ ns) all = ((subst (λ k. min_len ≤ k) (own_long n) all.0.0, back n all.0.1), all_back h back ns all.1)
 
@@ -62,7 +63,8 @@ module _ {K X Y Z : Type 0} (f : X → Y) where
   none_on : (o : Option (List (Node K X Z))) → o ≡ None → on_some (map On) o ≡ None
   none_on o e = ap (on_some (map On)) e
 
-  all_on : (h : ℕ) → ((n : Node K X Z) → IsLevelled h n → IsLevelled h (On n)) → (ns : List (Node K X Z)) → AllByRecursion (Below f h) ns → AllByRecursion (Below' f h) (map On ns)
+  all_on : (h : ℕ) → ((n : Node K X Z) → IsLevelled h n → IsLevelled h (On n)) → (ns : List (Node K X Z)) → AllByRecursion (Below f h) ns
+      → AllByRecursion (Below' f h) (map On ns)
   all_on h on [] all = tt
   all_on h on (n ∷ ns) all = ((subst (λ k. min_len ≤ k) (sym (own_long f n)) all.0.0, on n all.0.1), all_on h on ns all.1)
 
@@ -113,7 +115,8 @@ module _ (K V Z : Type 0) where
   Relabelled n ws = (z : Node K (Ptr × V) Z) × (bare n ≡ bare z) × (run z ≡ rezip (run n) ws)
 
   -- pairs alone
-  pairs_with : (ps : List Pair) (ws : List V) → (qs : List Pair) × (map (on_value place_of) ps ≡ map (on_value place_of) qs) × (run_of qs ≡ rezip (run_of ps) ws)
+  pairs_with : (ps : List Pair) (ws : List V) → (qs : List Pair) × (map (on_value place_of) ps ≡ map (on_value place_of) qs)
+      × (run_of qs ≡ rezip (run_of ps) ws)
   pairs_with [] ws = ([], refl, refl)
   pairs_with (p ∷ ps) [] = (p ∷ ps, refl, refl)
   pairs_with (p ∷ ps) (w ∷ ws) = let r = pairs_with ps ws in ((p.0, (p.1.0, w)) ∷ r.0, ap (λ l. (p.0, p.1.0) ∷ l) r.1, ap (λ l. (p.1.0, w) ∷ l) r.2)
@@ -129,11 +132,14 @@ module _ (K V Z : Type 0) where
   Can n = (ws : List V) → Relabelled n ws
 
   abbrev After : List Pair → List (Node K (Ptr × V) Z) → List V → Type 0
-  After ps ns ws = (r : List Pair × List (Node K (Ptr × V) Z)) × (map (on_value place_of) ps ≡ map (on_value place_of) r.0) × (map bare ns ≡ map bare r.1) × (woven r.0 r.1 ≡ rezip (woven ps ns) ws)
+  After ps ns ws = (r : List Pair × List (Node K (Ptr × V) Z)) × (map (on_value place_of) ps ≡ map (on_value place_of) r.0) × (map bare ns ≡ map bare r.1)
+      × (woven r.0 r.1 ≡ rezip (woven ps ns) ws)
 
-  joined : (n : Node K (Ptr × V) Z) (ps : List Pair) (ns : List (Node K (Ptr × V) Z)) (ws : List V) (z : Relabelled n (take (length (run n)) ws)) (r : After ps ns (drop (length (run n)) ws))
+  joined : (n : Node K (Ptr × V) Z) (ps : List Pair) (ns : List (Node K (Ptr × V) Z)) (ws : List V) (z : Relabelled n (take (length (run n)) ws))
+      (r : After ps ns (drop (length (run n)) ws))
       → run_of (pairs_of z.0 ++ after_list r.0.0 (map pairs_of r.0.1)) ≡ rezip (run_of (pairs_of n ++ after_list ps (map pairs_of ns))) ws
-  joined n ps ns ws z r = map-append (λ p. p.1) (pairs_of z.0) (after_list r.0.0 (map pairs_of r.0.1)) ∙ (λ i. z.2 i ++ r.3 i) ∙ sym (rezip-append (run n) (woven ps ns) ws)
+  joined n ps ns ws z r = map-append (λ p. p.1) (pairs_of z.0) (after_list r.0.0 (map pairs_of r.0.1)) ∙ (λ i. z.2 i ++ r.3 i)
+      ∙ sym (rezip-append (run n) (woven ps ns) ws)
       ∙ ap (λ l. rezip l ws) (sym (map-append (λ p. p.1) (pairs_of n) (after_list ps (map pairs_of ns))))
 
   after_with : (ps : List Pair) (ns : List (Node K (Ptr × V) Z)) → Each Can ns → (ws : List V) → After ps ns ws
@@ -150,7 +156,8 @@ module _ (K V Z : Type 0) where
       (((p.0, (p.1.0, w)) ∷ r.0.0, z.0 ∷ r.0.1), ap (λ l. (p.0, p.1.0) ∷ l) r.1, (λ i. z.1 i ∷ r.2 i), ap (λ l. (p.1.0, w) ∷ l) (joined n ps ns ws z r))
 
   abbrev Parts : List Pair → Option (List (Node K (Ptr × V) Z)) → List V → Type 0
-  Parts ps o ws = (r : List Pair × Option (List (Node K (Ptr × V) Z))) × (map (on_value place_of) ps ≡ map (on_value place_of) r.0) × (on_some (map bare) o ≡ on_some (map bare) r.1)
+  Parts ps o ws = (r : List Pair × Option (List (Node K (Ptr × V) Z))) × (map (on_value place_of) ps ≡ map (on_value place_of) r.0)
+      × (on_some (map bare) o ≡ on_some (map bare) r.1)
       × (run_of (weave (map pairs_of (items_or_none r.1)) r.0) ≡ rezip (run_of (weave (map pairs_of (items_or_none o)) ps)) ws)
 
   parts_with : (ps : List Pair) (o : Option (List (Node K (Ptr × V) Z))) → Each Can (items_or_none o) → (ws : List V) → Parts ps o ws
@@ -168,9 +175,11 @@ module _ (K V Z : Type 0) where
       let z : Node K (Ptr × V) Z = roll-Node K Hole Z s in
       (z,
         map_is place_of n ∙ (λ i. roll-Node K Ptr Z (record { pairs = r.1 i; children = r.2 i })) ∙ sym (map_roll place_of s),
-        ap run_of (pairs_is z ∙ (λ i. let t = out-roll-Node K Hole Z s i in weave (map pairs_of (items_or_none t.children)) t.pairs)) ∙ r.3 ∙ ap (λ l. rezip (run_of l) ws) (sym (pairs_is n)))
+        ap run_of (pairs_is z ∙ (λ i. let t = out-roll-Node K Hole Z s i in weave (map pairs_of (items_or_none t.children)) t.pairs)) ∙ r.3
+            ∙ ap (λ l. rezip (run_of l) ws) (sym (pairs_is n)))
 
-  all_can : (h : ℕ) → ((n : Node K (Ptr × V) Z) → IsLevelled h n → Can n) → (ns : List (Node K (Ptr × V) Z)) → AllByRecursion (λ c. (min_len ≤ length (own_pairs c)) × IsLevelled h c) ns → Each Can ns
+  all_can : (h : ℕ) → ((n : Node K (Ptr × V) Z) → IsLevelled h n → Can n) → (ns : List (Node K (Ptr × V) Z))
+      → AllByRecursion (λ c. (min_len ≤ length (own_pairs c)) × IsLevelled h c) ns → Each Can ns
   all_can h can [] all = tt
   all_can h can (n ∷ ns) all = (can n all.0.1, all_can h can ns all.1)
 

@@ -56,7 +56,8 @@ module _ (W R S Z : RattleType) (g : Ghosts Z.Denot) (F : Form W R.Denot S.Denot
     row_again : (r : Row R.Denot Z.Denot) (b o : ℕ) → r.start ≡ block_ptr b o → (y : List (Option S.Denot)) (B : Fml)
         → Good W 𝓛 l (list_form W F) (items (block_ptr b o) r.alloc) (row_lent S (block_ptr b o)) r.held y B
         → (z : Row S.Denot Z.Denot) → held_as F.bare (record { start = r.start; held = y; alloc = r.alloc }) ≡ held_as F.bare z
-        → ent 𝓤 (sep 𝓤 (sem 𝓛 (fsep (word_at r.start) B)) (sem 𝓛 (stars W (list_cells W F z.held)))) (sem 𝓛 (part_at owner full_share (held_as F.erase z) rb ro))
+        → ent 𝓤 (sep 𝓤 (sem 𝓛 (fsep (word_at r.start) B)) (sem 𝓛 (stars W (list_cells W F z.held))))
+        (sem 𝓛 (part_at owner full_share (held_as F.erase z) rb ro))
     row_again r b o at y B cut z e = qed 𝓛 (‵ (fsep (word_at r.start) B) ∷ ‵ (stars W (list_cells W F z.held)) ∷ []) ∵ fsplit ! $
         rewrite ! 0 (λ p. ‵ (word_at p)) (λ i. (e i).start) refl $ move ! (1 ∷ 2 ∷ []) $
         use2 𝓛 (‵ (items (block_ptr b o) r.alloc (map (on_some F.erase) z.held))) (cut.again z.held (λ i. (e i).held)) $
@@ -67,12 +68,16 @@ module _ (W R S Z : RattleType) (g : Ghosts Z.Denot) (F : Form W R.Denot S.Denot
     Lends-word : (p : Ptr) → Lends 𝓛 (word_at p) (shared_of (Struct (shape (row.the_type S Z g))) (p, tt) rb ro) l
     Lends-word p κ ts inc sp = parts_share 𝓛 (RawPtr-field ∷ []) [] [] [] (copy_shared RawPtr-field RawPtr-copy, tt) (p, tt) κ ts rb ro (⊑_static (span ts)) sp
 
-    pub row_cuts : (r : Row R.Denot Z.Denot) → ((b : ℕ) → Each_cuts W 𝓛 l R S same F b r.held) → Cuts W 𝓛 l row_form (λ z. part_at owner full_share z rb ro) (λ y. shared_of sharer y rb ro) r
-    row_cuts r each K G Γ t k = use1 𝓛 (‵ (word_at r.start) ⊛ ‵ (items r.start r.alloc r.held)) (part_out 𝓛 (row.the_type R Z g) full_share r rb ro) $ split t $ move t (1 ∷ []) $
-        in_a_block t r.start (λ p. items p r.alloc r.held) (id⊢ 𝓤 _) (λ b o at. room_cuts W 𝓛 l R S same F b (g.dealloc_token r.alloc) o r.held (each b) _ _ _ t (λ y B cut.
+    pub row_cuts : (r : Row R.Denot Z.Denot) → ((b : ℕ) → Each_cuts W 𝓛 l R S same F b r.held) → Cuts W 𝓛 l row_form (λ z. part_at owner full_share z rb ro)
+        (λ y. shared_of sharer y rb ro) r
+    row_cuts r each K G Γ t k = use1 𝓛 (‵ (word_at r.start) ⊛ ‵ (items r.start r.alloc r.held)) (part_out 𝓛 (row.the_type R Z g) full_share r rb ro) $
+        split t $ move t (1 ∷ []) $
+        in_a_block t r.start (λ p. items p r.alloc r.held) (id⊢ 𝓤 _) (λ b o at. room_cuts W 𝓛 l R S same F b (g.dealloc_token r.alloc) o r.held
+        (each b) _ _ _ t (λ y B cut.
         move t (2 ∷ 0 ∷ []) $ fjoin t $ k (record { start = r.start; held = y; alloc = r.alloc }) (fsep (word_at r.start) B) (record {
           is = λ i. record { start = r.start; held = cut.is i; alloc = r.alloc };
           again = row_again r b o at y B cut;
-          lends = Lends-both 𝓛 (word_at r.start) B (shared_of (Struct (shape (row.the_type S Z g))) (r.start, tt) rb ro) (row_lent S r.start y) l (Lends-word r.start)
+          lends = Lends-both 𝓛 (word_at r.start) B (shared_of (Struct (shape (row.the_type S Z g))) (r.start, tt) rb ro) (row_lent S r.start y) l
+          (Lends-word r.start)
             (subst (λ p. Lends 𝓛 B (row_lent S p y) l) (sym at) cut.lends);
         })))

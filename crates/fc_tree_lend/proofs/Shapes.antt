@@ -18,7 +18,8 @@ module _ {K X Y Z : Type 0} (f : X → Y) where
   mapped s = record { pairs = map (on_value f) s.pairs; children = on_some (map each_value) s.children }
 
   step_is : (ps : List (K × X)) (o : Option (List (Node K X Z)))
-      → values_step f (map-Node K X Z (Node K X Z) (Node K Y Z) each_value (record { pairs = ps; children = o })) ≡ roll-Node K Y Z (mapped (record { pairs = ps; children = o }))
+      → values_step f (map-Node K X Z (Node K X Z) (Node K Y Z) each_value (record { pairs = ps; children = o })) ≡ roll-Node K Y Z
+          (mapped (record { pairs = ps; children = o }))
   step_is ps None = refl
   step_is ps (Some ns) = refl
 
@@ -40,7 +41,8 @@ module _ {K X Y U Z : Type 0} (f : X → Y) (g : Y → U) where
   abbrev Same : Node K X Z → Type 0
   Same n = map_values g (map_values f n) ≡ map_values (λ x. g (f x)) n
 
-  all_same : (h : ℕ) → ((n : Node K X Z) → IsLevelled h n → Same n) → (ns : List (Node K X Z)) → AllByRecursion (λ c. (min_len ≤ length (own_pairs c)) × IsLevelled h c) ns
+  all_same : (h : ℕ) → ((n : Node K X Z) → IsLevelled h n → Same n) → (ns : List (Node K X Z))
+      → AllByRecursion (λ c. (min_len ≤ length (own_pairs c)) × IsLevelled h c) ns
       → map (map_values g) (map (each_value f) ns) ≡ map (map_values (λ x. g (f x))) ns
   all_same h same [] all = refl
   all_same h same (n ∷ ns) all = λ i. same n all.0.1 i ∷ all_same h same ns all.1 i
@@ -52,10 +54,12 @@ module _ {K X Y U Z : Type 0} (f : X → Y) (g : Y → U) where
 
   same_from : (n : Node K X Z) → map (map_values g) (map (each_value f) (children_of n)) ≡ map (map_values (λ x. g (f x))) (children_of n) → Same n
   same_from n e = let s = out-Node K X Z n in
-      ap (map_values g) (map_is f n) ∙ map_roll g (mapped f s) ∙ (λ i. roll-Node K U Z (record { pairs = twice f g s.pairs i; children = some_same s.children e i })) ∙ sym (map_is (λ x. g (f x)) n)
+      ap (map_values g) (map_is f n) ∙ map_roll g (mapped f s) ∙ (λ i. roll-Node K U Z
+          (record { pairs = twice f g s.pairs i; children = some_same s.children e i })) ∙ sym (map_is (λ x. g (f x)) n)
 
   pub map_map : (h : ℕ) (n : Node K X Z) → IsLevelled h n → Same n
-  map_map zero n l = same_from n (subst (λ o. map (map_values g) (map (each_value f) (items_or_none o)) ≡ map (map_values (λ x. g (f x))) (items_or_none o)) (sym l.1) refl)
+  map_map zero n l = same_from n (subst (λ o. map (map_values g) (map (each_value f) (items_or_none o)) ≡ map (map_values (λ x. g (f x))) (items_or_none o))
+      (sym l.1) refl)
   map_map (suc h) n l = same_from n (all_same h (map_map h) (children_of n) l.2)
 
 module _ {A B : Type 0} (f : A → B) where
@@ -72,7 +76,8 @@ module _ {K X Y Z : Type 0} (f : X → Y) where
   abbrev Paired : Node K X Z → Type 0
   Paired n = pairs_of (map_values f n) ≡ map (on_value f) (pairs_of n)
 
-  all_paired : (h : ℕ) → ((n : Node K X Z) → IsLevelled h n → Paired n) → (ns : List (Node K X Z)) → AllByRecursion (λ c. (min_len ≤ length (own_pairs c)) × IsLevelled h c) ns
+  all_paired : (h : ℕ) → ((n : Node K X Z) → IsLevelled h n → Paired n) → (ns : List (Node K X Z))
+      → AllByRecursion (λ c. (min_len ≤ length (own_pairs c)) × IsLevelled h c) ns
       → map pairs_of (map (each_value f) ns) ≡ map (map (on_value f)) (map pairs_of ns)
   all_paired h paired [] all = refl
   all_paired h paired (n ∷ ns) all = λ i. paired n all.0.1 i ∷ all_paired h paired ns all.1 i
@@ -84,9 +89,11 @@ module _ {K X Y Z : Type 0} (f : X → Y) where
 
   paired_from : (n : Node K X Z) → map pairs_of (map (each_value f) (children_of n)) ≡ map (map (on_value f)) (map pairs_of (children_of n)) → Paired n
   paired_from n e = let s = out-Node K X Z n in
-      pairs_is (map_values f n) ∙ (λ i. let t = map_out f n i in weave (map pairs_of (items_or_none t.children)) t.pairs) ∙ ap (λ cs. weave cs (map (on_value f) s.pairs)) (some_paired s.children e)
+      pairs_is (map_values f n) ∙ (λ i. let t = map_out f n i in weave (map pairs_of (items_or_none t.children)) t.pairs)
+          ∙ ap (λ cs. weave cs (map (on_value f) s.pairs)) (some_paired s.children e)
       ∙ sym (map-weave (on_value f) (map pairs_of (children_of n)) s.pairs) ∙ ap (map (on_value f)) (sym (pairs_is n))
 
   pub pairs_map : (h : ℕ) (n : Node K X Z) → IsLevelled h n → Paired n
-  pairs_map zero n l = paired_from n (subst (λ o. map pairs_of (map (each_value f) (items_or_none o)) ≡ map (map (on_value f)) (map pairs_of (items_or_none o))) (sym l.1) refl)
+  pairs_map zero n l = paired_from n (subst (λ o. map pairs_of (map (each_value f) (items_or_none o)) ≡ map (map (on_value f))
+      (map pairs_of (items_or_none o))) (sym l.1) refl)
   pairs_map (suc h) n l = paired_from n (all_paired h (pairs_map h) (children_of n) l.2)

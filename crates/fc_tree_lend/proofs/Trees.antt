@@ -70,9 +70,11 @@ module _ (K V Z : Type 0) where
       let l = levelled_back place_of s.0 r.0 (subst (IsLevelled s.0) r.1 (levelled_on place_of s.0 n s.2.1)) in
       let shape : map_values (λ v. tt) (map_values value_of r.0) ≡ map_values (λ v. tt) (map_values value_of n) =
             shape_of s.0 r.0 l ∙ sym (shape_bare s.0 r.0 l) ∙ ap (map_values (λ p. tt)) (sym r.1) ∙ shape_bare s.0 n s.2.1 ∙ sym (shape_of s.0 n s.2.1) in
-      (ap Some shape, values_are s.0 r.0 l ∙ ap (map value_of) r.2 ∙ replaced_values (run_of (Some n)) ws ∙ ap (λ vs. replaced vs ws) (sym (values_are s.0 n s.2.1)))
+      (ap Some shape, values_are s.0 r.0 l ∙ ap (map value_of) r.2 ∙ replaced_values (run_of (Some n)) ws
+      ∙ ap (λ vs. replaced vs ws) (sym (values_are s.0 n s.2.1)))
 
-  node_run : (h : ℕ) (z y : Node K (Ptr × V) Z) → IsLevelled h y → map_values place_of z ≡ map_values place_of y → map_values value_of z ≡ map_values value_of y → run_of (Some z) ≡ run_of (Some y)
+  node_run : (h : ℕ) (z y : Node K (Ptr × V) Z) → IsLevelled h y → map_values place_of z ≡ map_values place_of y
+      → map_values value_of z ≡ map_values value_of y → run_of (Some z) ≡ run_of (Some y)
   node_run h z y l e f = let m = levelled_back place_of h z (subst (IsLevelled h) (sym e) (levelled_on place_of h y l)) in
       both_same (run_of (Some z)) (run_of (Some y)) (sym (places_are h z m) ∙ ap (λ n. map (λ p. p.1) (pairs_of n)) e ∙ places_are h y l)
       (sym (values_are h z m) ∙ ap (λ n. values (Some n)) f ∙ values_are h y l)

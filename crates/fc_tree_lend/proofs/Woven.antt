@@ -70,18 +70,21 @@ module _ (W : RattleType) (K Z : Type 0) where
         use1 𝓛 (‵ (stars W (own_cells ps)) ⊛ ‵ (stars W (nodes_cells ns))) (after_cut ps ns (omega arith)) $ split ! $ move ! (2 ∷ 1 ∷ []) $
         use2 𝓛 (‵ (stars W (nodes_cells (n ∷ ns)))) (stars_join W 𝓛 (node_cells n) (nodes_cells ns)) $ move ! (2 ∷ 1 ∷ []) $ fjoin ! $ done !
 
-    pub weave_join : (ps : List Pair) (o : Option (List (Node K (Cell W) Z))) → Fits ps o → ent 𝓤 (sem 𝓛 (stars W (apart ps o))) (sem 𝓛 (stars W (in_order ps o)))
+    pub weave_join : (ps : List Pair) (o : Option (List (Node K (Cell W) Z))) → Fits ps o
+        → ent 𝓤 (sem 𝓛 (stars W (apart ps o))) (sem 𝓛 (stars W (in_order ps o)))
     weave_join ps None e = subst (λ cs. ent 𝓤 (sem 𝓛 (stars W (own_cells ps ++ []))) (sem 𝓛 (stars W cs))) (append-nil (own_cells ps)) (id⊢ 𝓤 _)
     weave_join ps (Some []) e = absurd (omega arith)
     weave_join ps (Some (n ∷ ns)) e = let tail = after_list ps (map pairs_of ns) in
         qed 𝓛 (‵ (stars W (own_cells ps ++ nodes_cells (n ∷ ns))) ∷ []) ∵
-        use1 𝓛 (‵ (stars W (own_cells ps)) ⊛ ‵ (stars W (nodes_cells (n ∷ ns)))) (stars_cut W 𝓛 (own_cells ps) (nodes_cells (n ∷ ns))) $ split ! $ move ! (1 ∷ []) $
+        use1 𝓛 (‵ (stars W (own_cells ps)) ⊛ ‵ (stars W (nodes_cells (n ∷ ns)))) (stars_cut W 𝓛 (own_cells ps) (nodes_cells (n ∷ ns))) $ split ! $
+        move ! (1 ∷ []) $
         use1 𝓛 (‵ (stars W (node_cells n)) ⊛ ‵ (stars W (nodes_cells ns))) (stars_cut W 𝓛 (node_cells n) (nodes_cells ns)) $ split ! $ move ! (2 ∷ 1 ∷ []) $
         use2 𝓛 (‵ (stars W (own_cells tail))) (after_join ps ns (omega arith)) $ move ! (1 ∷ 0 ∷ []) $
         use2 𝓛 (‵ (stars W (node_cells n ++ own_cells tail))) (stars_join W 𝓛 (node_cells n) (own_cells tail)) $
         rewrite ! 0 (λ cs. ‵ (stars W cs)) (sym (map-append cell (pairs_of n) tail)) refl $ done !
 
-    pub weave_cut : (ps : List Pair) (o : Option (List (Node K (Cell W) Z))) → Fits ps o → ent 𝓤 (sem 𝓛 (stars W (in_order ps o))) (sem 𝓛 (stars W (apart ps o)))
+    pub weave_cut : (ps : List Pair) (o : Option (List (Node K (Cell W) Z))) → Fits ps o
+        → ent 𝓤 (sem 𝓛 (stars W (in_order ps o))) (sem 𝓛 (stars W (apart ps o)))
     weave_cut ps None e = subst (λ cs. ent 𝓤 (sem 𝓛 (stars W (own_cells ps))) (sem 𝓛 (stars W cs))) (sym (append-nil (own_cells ps))) (id⊢ 𝓤 _)
     weave_cut ps (Some []) e = absurd (omega arith)
     weave_cut ps (Some (n ∷ ns)) e = let tail = after_list ps (map pairs_of ns) in
