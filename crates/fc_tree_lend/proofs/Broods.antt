@@ -1,28 +1,28 @@
 -- A node's children, in memory, are cut child by child. Assumes `Logic`.
-use Rattle.std.specs.Prelude.{◌≡◌, ℕ, ◌+◌, List, [], ◌∷◌, ◌++◌, map}
+use Rattle.std.specs.Prelude.{◌≡◌, ℕ, ◌+◌, List, [], ◌∷◌, map}
 use Rattle.std.specs.Mem.{type_size}
-use mathlib.Core.Path.{refl, sym, subst, ◌∙◌}
-use prog.Memory.{size, align, up}
+use mathlib.Core.Path.{refl, sym, subst}
+use prog.Memory.{align, up}
 use seplogic.Ra.Ura.{Ura}
 use base.Fraction.{full_share}
-use base.Logic.{ent, sep, id⊢, via}
+use base.Logic.{ent, id⊢, via}
 use base.Fml.{Lft, Fml, Incl}
 use mir.Syntax.{Ty}
 use types.Logic.{Logic, sem}
-use types.Kit.{Goal, Item, Seq, ‵, some, ◌⊛◌, ◌$◌, ◌∵◌, !, qed, done, by, move, use1, use2, pick}
+use types.Kit.{‵, some, ◌$◌, ◌∵◌, !, qed, by, use1, pick}
 use denote.RattleType.{RattleType}
 use denote.Memory.{part_at, part_of, shared_of, lone}
-use denote.Model.Fields.{view_owns, view_shares, view-Hides, view_made, plain_out, Plain-in}
+use denote.Model.Fields.{view_owns, view-Hides, view_made, plain_out, Plain-in}
 use denote.Param.{number}
-use denote.Struct.Members.{rows_of, Lone, Lones}
+use denote.Struct.Members.{Lone}
 use Rattle.fc_base.specs.Sizes.{most_children}
 use Rattle.fc_tree_slots.specs.declared.children.Children.TheInside.{Inside}
 use Rattle.fc_tree_slots.specs.declared.children.Children.TheView.{view, invariant}
 use Rattle.fc_tree_slots.specs.contracts.slots.Slots as slots
 use Rattle.fc_tree_slots.specs.contracts.children.Children as children
 use Rattle.fc_tree_slots.specs.contracts.children.Children.TheInside as inside
-use Rattle.fc_tree_lend.proofs.Cuts.{stars, Form, Cuts, Turns, along}
-use Rattle.fc_tree_lend.proofs.Fields.{field, One, One_seen, one_cuts}
+use Rattle.fc_tree_lend.proofs.Cuts.{Form, Cuts, along}
+use Rattle.fc_tree_lend.proofs.Fields.{One, One_seen, one_cuts}
 use Rattle.fc_tree_lend.proofs.Lists.{items_form, All_cuts, slots_cuts}
 use Rattle.fc_tree_lend.proofs.Packs.{Handles, ZR}
 
@@ -79,7 +79,7 @@ module _ (Y : Handles) (W R S : RattleType) (F : Form W R.Denot S.Denot) {M : Ty
   children_in d = let T = children.the_row R Z Y.g in let I = inside.the_row R Z Y.g in let a : Inside R.Denot ZD = record { slots = d } in
       via 𝓤 (sem 𝓛 (part_at I full_share a rb ro)) (inside_in a)
       (Plain-in T I (view_owns I (List R.Denot) T.coded (view R.Denot ZD Y.g) (invariant R.Denot ZD Y.g)) 𝓛 full_share d a
-        (view_made I (List R.Denot) T.coded (view R.Denot ZD Y.g) (invariant R.Denot ZD Y.g) 𝓛 d a (refl, tt)) rb ro)
+      (view_made I (List R.Denot) T.coded (view R.Denot ZD Y.g) (invariant R.Denot ZD Y.g) 𝓛 d a (refl, tt)) rb ro)
 
   children_show : (d : List S.Denot) (κ : Lft) → ent 𝓤 (sem 𝓛 (one_seen d κ)) (sem 𝓛 (Children_seen d κ))
   children_show d κ = let T = children.the_row S Z Y.g in let I = inside.the_row S Z Y.g in
@@ -87,7 +87,12 @@ module _ (Y : Handles) (W R S : RattleType) (F : Form W R.Denot S.Denot) {M : Ty
 
   pub children_cuts : (d : List R.Denot) → All_cuts most_children Y W R S F 𝓛 l within same rb ro d → Cuts W 𝓛 l LF Children_at Children_seen d
   children_cuts d all = along W 𝓛 l LF LF one_at Children_at one_seen Children_seen {x = d} {x' = d} {turn = λ y. y}
-      (record { out = children_out d; is = λ y e. e; same = λ y e. id⊢ 𝓤 _; back = λ y i z e. (z, e, id⊢ 𝓤 _, children_in (map F.erase z));
-      shows = λ y e κ. children_show y κ })
+      (record {
+        out = children_out d;
+        is = λ y e. e;
+        same = λ y e. id⊢ 𝓤 _;
+        back = λ y i z e. (z, e, id⊢ 𝓤 _, children_in (map F.erase z));
+        shows = λ y e κ. children_show y κ;
+      })
       (one_cuts W 𝓛 l owner sharer τ LF rb ro ((λ x vs p. subst Lone (sym p.1.0.1.0) tt), tt) d
       (slots_cuts most_children Y W R S F 𝓛 l within same rb (ro + up (align τ) 0) d all))

@@ -1,7 +1,6 @@
 -- A struct in memory is cut field by field. Assumes `Logic`.
 --     One, Two          a struct of one field, and of two: in memory, and behind a `&`.        one_cuts, two_cuts      cut where its fields are
-use Rattle.std.specs.Prelude.{◌≡◌, ℕ, ◌+◌, List, [], ◌∷◌, ◌++◌}
-use mathlib.Core.Path.{refl}
+use Rattle.std.specs.Prelude.{ℕ, ◌+◌, List, [], ◌∷◌, ◌++◌}
 use prog.Memory.{size, align, up}
 use seplogic.Ra.Ura.{Ura}
 use base.Fraction.{full_share}
@@ -9,7 +8,7 @@ use base.Logic.{ent, sep}
 use base.Fml.{Lft, Fml, ftrue, fsep, fleft, fbor}
 use mir.Syntax.{Ty, Tys, ty_struct}
 use types.Logic.{Logic, sem, lfts}
-use types.Kit.{Goal, Item, Seq, ‵, raw, ◌⊛◌, ◌$◌, ◌∵◌, !, qed, done, move, use1, use2, split, fsplit, fjoin, updating, now}
+use types.Kit.{‵, raw, ◌⊛◌, ◌$◌, ◌∵◌, !, qed, done, move, use1, use2, split, fsplit, fjoin, updating, now}
 use types.Tokens.{bor_fracture}
 use denote.RattleType.{RattleType}
 use denote.Memory.{part_at, shared_of}
@@ -18,7 +17,7 @@ use denote.Struct.Lending.{Lends, Lends-both, Lends-nothing}
 use denote.Struct.Members.{Member, row_of, rows_of, raw_tys, parts_at, Lones}
 use denote.Struct.Parts.{shape_of, Struct-left, left_Struct}
 use denote.Struct.Struct.{Struct}
-use Rattle.fc_tree_lend.proofs.Cuts.{stars, stars_cut, stars_join, Form, pair, Good, Cuts}
+use Rattle.fc_tree_lend.proofs.Cuts.{stars, stars_cut, stars_join, Form, pair, Cuts}
 
 abbrev pub field : RattleType → Ty → Member
 field R τ = record { row = R; ty = τ }
@@ -68,7 +67,7 @@ module _ (W : RattleType) {M : Type 1} {𝓤 : Ura M} (𝓛 : Logic 𝓤) (l : L
         is = cut.is;
         again = λ z e. one_again B z (cut.again z e);
         lends = Lends-both 𝓛 (fsep B ftrue) (left 𝓛 (raw_tys only) b o) (beside (shared_of A' y b only_at) nothing) (left_seen 𝓛 (raw_tys only) b o) l
-          (Lends-both 𝓛 B ftrue (shared_of A' y b only_at) nothing l cut.lends (Lends-nothing 𝓛 ftrue l)) (Lends-left 𝓛 (raw_tys only) b o l);
+            (Lends-both 𝓛 B ftrue (shared_of A' y b only_at) nothing l cut.lends (Lends-nothing 𝓛 ftrue l)) (Lends-left 𝓛 (raw_tys only) b o l);
       }))
 
 module _ (W : RattleType) {M : Type 1} {𝓤 : Ura M} (𝓛 : Logic 𝓤) (l : Lft) (A A' B B' : RattleType) (τ υ : Ty) (F : Form W A.Denot A'.Denot)
@@ -121,7 +120,7 @@ module _ (W : RattleType) {M : Type 1} {𝓤 : Ura M} (𝓛 : Logic 𝓤) (l : L
         is = λ i. (p.is i, q.is i);
         again = λ u e. two_again P Q u (p.again u.0 (λ i. (e i).0)) (q.again u.1 (λ i. (e i).1));
         lends = let s = shared_of A' y b first in let r = shared_of B' z b second in
-          Lends-both 𝓛 (fsep P (fsep Q ftrue)) rest (beside s (beside r nothing)) (left_seen 𝓛 (raw_tys fields) b o) l
-          (Lends-both 𝓛 P (fsep Q ftrue) s (beside r nothing) l p.lends (Lends-both 𝓛 Q ftrue r nothing l q.lends (Lends-nothing 𝓛 ftrue l)))
-          (Lends-left 𝓛 (raw_tys fields) b o l);
+            Lends-both 𝓛 (fsep P (fsep Q ftrue)) rest (beside s (beside r nothing)) (left_seen 𝓛 (raw_tys fields) b o) l
+            (Lends-both 𝓛 P (fsep Q ftrue) s (beside r nothing) l p.lends (Lends-both 𝓛 Q ftrue r nothing l q.lends (Lends-nothing 𝓛 ftrue l)))
+            (Lends-left 𝓛 (raw_tys fields) b o l);
       })))

@@ -1,25 +1,24 @@
 -- The borrow of a sound tree is cut into a `&` to the tree of holes and a borrow of the values, in order. Assumes `Logic`.
-use Rattle.std.specs.Prelude.{◌≡◌, ℕ, List, [], ◌∷◌, map, Option, Some, None}
+use Rattle.std.specs.Prelude.{◌≡◌, ℕ, List, [], ◌∷◌, map, Some, None}
 use mathlib.Core.Path.{refl, sym, ap, subst, ◌∙◌}
 use seplogic.Ra.Ura.{Ura}
 use base.Fraction.{full_share}
-use base.Logic.{SProp, ent, sep, emp, id⊢, never_e}
-use base.Fml.{Lft, GName, Share, Fml, Incl, Incl-refl, ftrue, ffalse, fsep, fseps, fex, fbor, fobor, fobs, fauth, flft}
+use base.Logic.{ent, sep, emp, id⊢, never_e}
+use base.Fml.{Lft, GName, Share, Fml, Incl, Incl-refl, ftrue, fsep, fseps, fex, fbor, fobor, fobs, fauth, flft}
 use base.Stored.{Gv}
 use types.Follow.{after, takes_beside, takes_part}
 use types.Logic.{Logic, sem}
 use types.Mut.{open_ref}
 use types.SemTy.{SemTy, Body}
-use types.Kit.{Item, ‵, raw, ◌⊛◌, some, later, given, ◌$◌, ◌∵◌, !, qed, done, by, move, keep, drop, use0, use1, use2, split, split3, pick, rewrite, fsplit}
+use types.Kit.{Item, ‵, raw, ◌⊛◌, some, later, given, ◌$◌, ◌∵◌, !, qed, done, move, keep, use1, use2, split, split3, pick, rewrite, fsplit}
 use types.Kit.{fjoin, fpick, fpack, show, check, updating, now, await, group, mean}
 use denote.Follow.{follows}
 use denote.RattleType.{RattleType}
-use denote.Memory.{mem, part_at, hidden_shr}
+use denote.Memory.{mem, hidden_shr}
 use denote.Opens.{hide}
 use denote.RawPtr.{Ptr, lies_at}
 use denote.Steps.{nothing}
 use Rattle.std_collections.specs.Btree.Lent.{spread, Spread, borrowed}
-use Rattle.fc_tree_node.specs.declared.node.Node.{Node}
 use Rattle.fc_tree_node.specs.Tree.{Map, IsSoundMap}
 use Rattle.std.specs.contracts.option.Option as option
 use Rattle.fc_tree_lend.specs.Holed.{map_tree, filled, run_of, keys_and_shape}
@@ -30,7 +29,6 @@ use Rattle.fc_tree_lend.proofs.Levels.{tree_form, Tree_at, Tree_seen, tree_cuts}
 use Rattle.fc_tree_lend.proofs.Nodes.{MR}
 use Rattle.fc_tree_lend.proofs.Packs.{Handles, ZR}
 use Rattle.fc_tree_lend.proofs.Pairs.{Kinds, KR, VR, WR}
-use Rattle.fc_tree_lend.proofs.Places.{maybe_cells}
 use Rattle.fc_tree_lend.proofs.Relabels.{rezip}
 use Rattle.fc_tree_lend.proofs.Trees.{sound_back, tree_with, refilled, one_run}
 
@@ -143,7 +141,7 @@ module _ (E : Kinds) (Y : Handles) {M : Type 1} {𝓤 : Ura M} (𝓛 : Logic �
     unfolding fseps
     lends_tree u v = qed 𝓛 (‵ (fobor κ q (Body (mem R) b o γ)) ∷ ‵ (fobs γ u) ∷ ‵ (fauth γ v) ∷ ‵ (owned_tree t) ∷ []) ∵ updating ! $ move ! (3 ∷ []) $
         tree_cuts E Y 𝓛 κ keys handles b o t sound _ _ _ ! (λ y B cut. let S = Trees y B cut in let C = Cells y B cut in let ws = values_of W (run_of y) in
-            let code = R.coded.code t in
+        let code = R.coded.code t in
         move ! (1 ∷ []) $ rewrite ! 0 (λ cs. ‵ (stars W cs)) (cells_run y B cut y) refl $
         fpack ! (Like y B cut t) (λ z. stars W (run_of z.0)) (y, refl, was y B cut) $
         -- [the values; what is left of the tree; the borrow, in three entries]

@@ -1,34 +1,31 @@
 -- A levelled node, and a sound tree, are cut into keys and shape, which can be shared, and the values, in order. Assumes `Logic`.
 use Rattle.std.specs.Prelude.{◌≡◌, ℕ, zero, suc, ◌+◌, ◌≤◌, List, [], ◌∷◌, length, Option, Some, None}
 use Rattle.std.specs.List.{AllByRecursion}
-use Rattle.std.specs.Mem.{type_size}
-use mathlib.Core.Path.{refl, sym, ap, subst, ◌∙◌}
+use mathlib.Core.Path.{refl, sym, ap, subst}
 use prog.Memory.{size, align, up}
 use seplogic.Ra.Ura.{Ura}
 use base.Fraction.{full_share}
 use base.Fml.{Lft, Fml, Incl}
 use mir.Syntax.{Ty}
 use types.Logic.{Logic}
-use denote.RattleType.{RattleType}
 use denote.Memory.{part_at, part_of, shared_of, lone, raw_all}
 use denote.RawPtr.{Ptr}
-use denote.Struct.Members.{rows_of, Lone}
+use denote.Struct.Members.{Lone}
 use Rattle.fc_base.specs.Sizes.{most_children, min_len}
 use Rattle.std.specs.contracts.option.Option as option
-use Rattle.fc_tree_node.specs.declared.node.Node.{Node, out-Node}
+use Rattle.fc_tree_node.specs.declared.node.Node.{Node}
 use Rattle.fc_tree_node.specs.contracts.node.Node as node
-use Rattle.fc_tree_node.specs.Node.{own_pairs, children_of, items_or_none, IsLevelled}
+use Rattle.fc_tree_node.specs.Node.{own_pairs, items_or_none, IsLevelled}
 use Rattle.fc_tree_node.specs.Tree.{IsSoundMap}
-use Rattle.fc_tree_lend.specs.Holed.{map_values}
 use Rattle.fc_tree_lend.proofs.Broods.{children_cuts}
-use Rattle.fc_tree_lend.proofs.Cuts.{Form, pair, Cuts}
+use Rattle.fc_tree_lend.proofs.Cuts.{Form, Cuts}
 use Rattle.fc_tree_lend.proofs.Fields.{two_cuts}
 use Rattle.fc_tree_lend.proofs.Lists.{Slots_at, Slots_seen, All_cuts, slots_cuts}
 use Rattle.fc_tree_lend.proofs.Maybes.{Maybe_at, Maybe_seen, value_at, maybe_cuts}
-use Rattle.fc_tree_lend.proofs.Nodes.{NR, MR, A, A', B, B', C, C', W, Z, τ, υ, PF, BF, OF, child, holed_child, node_form, parts, two_at, two_seen}
+use Rattle.fc_tree_lend.proofs.Nodes.{NR, MR, A, A', B, B', C, C', W, Z, τ, υ, PF, BF, OF, child, holed_child, node_form, parts}
 use Rattle.fc_tree_lend.proofs.Nodes.{lone_fields, of_parts, Node_at, Node_seen}
-use Rattle.fc_tree_lend.proofs.Packs.{Handles, ZR}
-use Rattle.fc_tree_lend.proofs.Pairs.{Kinds, KR, WR, HR, PR, QR, pair_form, pair_cuts}
+use Rattle.fc_tree_lend.proofs.Packs.{Handles}
+use Rattle.fc_tree_lend.proofs.Pairs.{Kinds, KR, HR, PR, QR, pair_form, pair_cuts}
 use Rattle.fc_tree_lend.proofs.Places.{maybe_form}
 use Rattle.fc_tree_lend.proofs.Woven.{Fits}
 

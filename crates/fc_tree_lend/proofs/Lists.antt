@@ -1,7 +1,7 @@
 -- A list of a fixed room is cut item by item, and a node's children as their list is. Assumes `Logic`.
 --     items_form        of an item's form, that of a list.        fill      other items in the places of those that are there
 --     slots_cuts, children_cuts
-use Rattle.std.specs.Prelude.{◌≡◌, ℕ, ◌+◌, ◌-◌, ◌≤◌, true, false, List, [], ◌∷◌, ◌++◌, map, length, replicate, Option, Some, None}
+use Rattle.std.specs.Prelude.{◌≡◌, ℕ, ◌+◌, true, false, List, [], ◌∷◌, ◌++◌, map, Option, Some, None}
 use Rattle.std.specs.Mem.{type_size}
 use Rattle.std.proofs.Common.{append-nil}
 use mathlib.Core.Path.{refl, sym, ap, subst, ◌∙◌}
@@ -9,14 +9,14 @@ use prog.Memory.{size, align, up}
 use seplogic.Ra.Ura.{Ura}
 use base.Fraction.{full_share}
 use base.Logic.{ent, sep, id⊢, via}
-use base.Fml.{Lft, Fml, Incl, fsep}
+use base.Fml.{Lft, Fml, Incl}
 use contract.BorrowLft.{⊑_static}
 use mir.Syntax.{Ty}
 use types.Logic.{Logic, sem}
-use types.Kit.{Goal, Item, Seq, ‵, some, ◌⊛◌, ◌$◌, ◌∵◌, !, qed, done, by, move, use1, use2, split, rewrite, fsplit, fjoin, pick}
+use types.Kit.{‵, some, ◌$◌, ◌∵◌, !, qed, done, use1, use2, rewrite, pick}
 use denote.RattleType.{RattleType}
 use denote.Memory.{part_at, part_of, shared_of, lone}
-use denote.Model.Fields.{view_owns, view_shares, view-Hides, view_made, plain_out, Plain-in}
+use denote.Model.Fields.{view_owns, view-Hides, view_made, plain_out, Plain-in}
 use denote.Param.{number}
 use denote.Param.Shared.{copy_shared}
 use denote.Shares.{Shares-less}
@@ -32,9 +32,9 @@ use Rattle.fc_tree_slots.specs.contracts.slots.Slots as slots
 use Rattle.fc_tree_slots.specs.contracts.slots.Slots.TheInside as inside
 use Rattle.fc_tree_lend.proofs.Cuts.{Cell, stars, Form, pair, whole, Good, Cuts, kept, Lends-then}
 use Rattle.fc_tree_lend.proofs.Fields.{field, fields, Two, Two_seen, two_cuts}
-use Rattle.fc_tree_lend.proofs.Packs.{Handles, ZR, Cells_at, Cells_seen, cells_cuts}
+use Rattle.fc_tree_lend.proofs.Packs.{Handles, ZR, cells_cuts}
 use Rattle.fc_tree_lend.specs.Holed.{on_some}
-use Rattle.fc_tree_lend.proofs.Places.{IsCons, head_or, rest_of, maybe_cells, list_cells, list_form, Each_cuts, Item_cuts}
+use Rattle.fc_tree_lend.proofs.Places.{IsCons, head_or, rest_of, list_cells, list_form, Each_cuts}
 
 module _ {X Y : Type 0} where
   abbrev pub fill : List (Option X) → List Y → List (Option Y)
@@ -143,7 +143,7 @@ module _ (N : ℕ) (Y : Handles) (W R S : RattleType) (F : Form W R.Denot S.Deno
     slots_in a d k = let T = slots.the_row R Nr Z Y.g in let I = inside.the_row R Nr Z Y.g in
         via 𝓤 (sem 𝓛 (part_at I full_share a rb ro)) (inside_in a)
         (Plain-in T I (view_owns I (List R.Denot) T.coded (view R.Denot N ZD Y.g) (invariant R.Denot N ZD Y.g)) 𝓛 full_share d a
-          (view_made I (List R.Denot) T.coded (view R.Denot N ZD Y.g) (invariant R.Denot N ZD Y.g) 𝓛 d a k) rb ro)
+        (view_made I (List R.Denot) T.coded (view R.Denot N ZD Y.g) (invariant R.Denot N ZD Y.g) 𝓛 d a k) rb ro)
 
     module _ (a : Inside R.Denot N ZD) (known : invariant R.Denot N ZD Y.g a) (y : List (Option S.Denot) × U.Denot) (B : Fml)
         (cut : Good W 𝓛 l (pair W CF UF) both_at both_seen (a.cells, a.len) y B) where
@@ -185,11 +185,11 @@ module _ (N : ℕ) (Y : Handles) (W R S : RattleType) (F : Form W R.Denot S.Deno
         (plain_out T I (view_owns I (List R.Denot) T.coded (view R.Denot N ZD Y.g) (invariant R.Denot N ZD Y.g)) 𝓛 full_share d rb ro) $
         pick t (λ a. use1 𝓛 (‵ (both_at (a.0.cells, a.0.len))) (inside_out a.0) $
         two_cuts W 𝓛 l owner sharer U U τ υ CF UF rb ro lone_fields (a.0.cells, a.0.len)
-          (cells_cuts Y W R S F 𝓛 l within same rb (ro + up (align τ) 0) a.0.cells (each_cell a.0.cells (subst All_cuts (sym a.1.0) all)))
-          (kept W 𝓛 l (λ z. part_at (row_of (field U υ)) full_share z rb second) (λ z. shared_of U z rb second) a.0.len
-            (λ κ ts. Shares-less 𝓛 U [] l (⊑_static l) ((copy_shared usize-field usize-copy).shares M 𝓤 𝓛) a.0.len κ ts rb second))
-          _ _ _ t (λ y B cut. rewrite t 1 (λ cs. ‵ (stars W cs)) (append-nil (list_cells W F y.0) ∙ present_cells W F y.0) refl $ k (present y.0) B (record {
-            is = sym (present-map F.erase y.0) ∙ ap present (λ i. (cut.is i).0) ∙ a.1.0;
-            again = slots_again a.0 a.1.1 y B cut;
-            lends = slots_lend a.0 a.1.1 y B cut;
-          })))
+        (cells_cuts Y W R S F 𝓛 l within same rb (ro + up (align τ) 0) a.0.cells (each_cell a.0.cells (subst All_cuts (sym a.1.0) all)))
+        (kept W 𝓛 l (λ z. part_at (row_of (field U υ)) full_share z rb second) (λ z. shared_of U z rb second) a.0.len
+        (λ κ ts. Shares-less 𝓛 U [] l (⊑_static l) ((copy_shared usize-field usize-copy).shares M 𝓤 𝓛) a.0.len κ ts rb second))
+        _ _ _ t (λ y B cut. rewrite t 1 (λ cs. ‵ (stars W cs)) (append-nil (list_cells W F y.0) ∙ present_cells W F y.0) refl $ k (present y.0) B (record {
+          is = sym (present-map F.erase y.0) ∙ ap present (λ i. (cut.is i).0) ∙ a.1.0;
+          again = slots_again a.0 a.1.1 y B cut;
+          lends = slots_lend a.0 a.1.1 y B cut;
+        })))

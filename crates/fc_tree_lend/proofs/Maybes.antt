@@ -1,18 +1,16 @@
 -- An optional value, in memory, is cut where the value is. Assumes `Logic`.
-use Rattle.std.specs.Prelude.{◌≡◌, ℕ, ◌+◌, List, [], ◌∷◌, ◌++◌, Option, Some, None}
+use Rattle.std.specs.Prelude.{◌≡◌, ℕ, ◌+◌, List, [], ◌∷◌, Option, Some, None}
 use mathlib.Core.Path.{refl, sym, ap}
-use mathlib.Core.Option.{some as just}
-use mathlib.Core.Logic.{inl, inr}
-use prog.Memory.{size, align, up, variant_at}
+use prog.Memory.{size, align, up}
 use seplogic.Ra.Ura.{Ura}
 use base.Fraction.{full_share}
-use base.Logic.{ent, sep, id⊢}
+use base.Logic.{ent, sep}
 use base.Fml.{Lft, Fml, ftrue, fsep, fleft}
 use contract.BorrowLft.{⊑_static}
 use mir.Raw.{raw}
 use mir.Syntax.{Ty, Tys, Tyss, tnil, tcons, ttnil, ttcons, ty_enum, ty_int, w8}
 use types.Logic.{Logic, sem}
-use types.Kit.{Goal, Item, Seq, ‵, ◌⊛◌, ◌$◌, ◌∵◌, !, qed, done, by, move, keep, use1, use2, split, rewrite, fsplit, fjoin}
+use types.Kit.{‵, ◌⊛◌, ◌$◌, ◌∵◌, !, qed, done, move, keep, use1, use2, split, fsplit, fjoin}
 use denote.RattleType.{RattleType}
 use denote.Copied.{Live-out, live_in}
 use denote.Memory.{part_at, part_of, shared_of, lone}
@@ -23,8 +21,8 @@ use denote.Sharing.{nothing, one, beside}
 use denote.Steps.{nothing as bare}
 use denote.Struct.Field.{u8-field}
 use denote.Struct.Laws.{u8-copy}
-use denote.Struct.Lending.{Lends, Lends-both, Lends-nothing, Lends-first}
-use denote.Struct.Members.{Member, row_of, rows_of, raw_tys, parts_at, Lones}
+use denote.Struct.Lending.{Lends, Lends-both, Lends-nothing}
+use denote.Struct.Members.{Member, row_of, rows_of, parts_at, Lones}
 use Rattle.std.specs.contracts.option.Option as option
 use Rattle.fc_tree_lend.proofs.Cuts.{stars, Form, Good, Cuts}
 use Rattle.fc_tree_lend.proofs.Fields.{field, Lends-rest}
@@ -120,11 +118,11 @@ module _ (W R S : RattleType) (τ : Ty) (F : Form W R.Denot S.Denot) {M : Type 1
       → Cuts W 𝓛 l (maybe_form W F) Maybe_at Maybe_seen x
   maybe_cuts lone None c = λ K G Γ t k. use1 𝓛 (‵ (fsep (tag_part 0) ftrue) ⊛ ‵ rest_none) none_out $ split t $ fjoin t $ bare t $ move t (1 ∷ 0 ∷ []) $
       k None none_bones (record {
-    is = refl;
-    again = none_again;
-    lends = Lends-both 𝓛 (fsep (tag_part 0) ftrue) rest_none (beside (tag_seen 0) nothing) (one (λ q. fleft q (ty_enum [] variants) none_tys b o)) l
-      (Lends-both 𝓛 (tag_part 0) ftrue (tag_seen 0) nothing l (Lends-tag 0) (Lends-nothing 𝓛 ftrue l)) (Lends-rest 𝓛 (ty_enum [] variants) none_tys b o l);
-  })
+        is = refl;
+        again = none_again;
+        lends = Lends-both 𝓛 (fsep (tag_part 0) ftrue) rest_none (beside (tag_seen 0) nothing) (one (λ q. fleft q (ty_enum [] variants) none_tys b o)) l
+            (Lends-both 𝓛 (tag_part 0) ftrue (tag_seen 0) nothing l (Lends-tag 0) (Lends-nothing 𝓛 ftrue l)) (Lends-rest 𝓛 (ty_enum [] variants) none_tys b o l);
+      })
   maybe_cuts lone (Some x) c = λ K G Γ t k. use1 𝓛 (‵ (parts_at full_share tagged 0 (1, (x, tt)) b o) ⊛ ‵ rest) (some_out lone x) $ split t $ fsplit t $
       move t (1 ∷ []) $ fsplit t $
       c x refl _ _ _ t (λ y B cut. move t (0 ∷ 2 ∷ []) $ fjoin t $ move t (2 ∷ 0 ∷ []) $ fjoin t $ move t (0 ∷ 2 ∷ []) $ fjoin t $
@@ -132,9 +130,9 @@ module _ (W R S : RattleType) (τ : Ty) (F : Form W R.Denot S.Denot) {M : Type 1
         is = ap Some cut.is;
         again = some_again x y B cut;
         lends = let s = shared_of S y b value_at in
-          Lends-both 𝓛 (fsep (tag_part 1) (fsep B ftrue)) rest (beside (tag_seen 1) (beside s nothing))
-          (one (λ q. fleft q (ty_enum [] variants) some_tys b o)) l
-          (Lends-both 𝓛 (tag_part 1) (fsep B ftrue) (tag_seen 1) (beside s nothing) l (Lends-tag 1)
-          (Lends-both 𝓛 B ftrue s nothing l cut.lends (Lends-nothing 𝓛 ftrue l)))
-          (Lends-rest 𝓛 (ty_enum [] variants) some_tys b o l);
+            Lends-both 𝓛 (fsep (tag_part 1) (fsep B ftrue)) rest (beside (tag_seen 1) (beside s nothing))
+            (one (λ q. fleft q (ty_enum [] variants) some_tys b o)) l
+            (Lends-both 𝓛 (tag_part 1) (fsep B ftrue) (tag_seen 1) (beside s nothing) l (Lends-tag 1)
+            (Lends-both 𝓛 B ftrue s nothing l cut.lends (Lends-nothing 𝓛 ftrue l)))
+            (Lends-rest 𝓛 (ty_enum [] variants) some_tys b o l);
       }))

@@ -1,40 +1,32 @@
 -- A levelled node, in memory, is cut into keys and shape, which can be shared, and its values, in order. Assumes `Logic`.
-use Rattle.std.specs.Prelude.{◌≡◌, ℕ, zero, suc, ◌+◌, List, [], ◌∷◌, ◌++◌, map, length, Option, Some, None}
-use Rattle.std.specs.List.{AllByRecursion}
-use Rattle.std.specs.Mem.{type_size}
+use Rattle.std.specs.Prelude.{◌≡◌, ℕ, ◌+◌, List, [], ◌∷◌, ◌++◌, map, Option, Some, None}
 use mathlib.Core.Path.{refl, sym, ap, subst, ◌∙◌}
 use lib.ListN.{length-map}
-use prog.Memory.{size, align, up}
 use seplogic.Ra.Ura.{Ura}
 use base.Fraction.{full_share}
-use base.Logic.{ent, sep, id⊢, via}
+use base.Logic.{ent, id⊢}
 use base.Fml.{Lft, Fml, Incl}
 use mir.Syntax.{Ty}
 use types.Logic.{Logic, sem}
-use types.Kit.{Goal, Item, Seq, ‵, ◌⊛◌, ◌$◌, ◌∵◌, !, qed, done, by, use1}
 use denote.RattleType.{RattleType}
-use denote.Memory.{part_at, part_of, shared_of, lone, raw_all}
+use denote.Memory.{part_at, part_of, shared_of, lone}
 use denote.Param.{number}
 use denote.RawPtr.{Ptr}
-use denote.Struct.Members.{rows_of, row_of, Lone, Lones}
-use Rattle.fc_base.specs.Sizes.{capacity}
+use denote.Struct.Members.{rows_of, Lone, Lones}
 use Rattle.fc_tree_slots.specs.contracts.slots.Slots as slots
 use Rattle.fc_tree_slots.specs.contracts.children.Children as children
 use Rattle.std.specs.contracts.option.Option as option
-use Rattle.fc_tree_node.specs.declared.node.Node.{Node, Node-F, out-Node, roll-Node, out-roll-Node, roll-out-Node}
+use Rattle.fc_tree_node.specs.declared.node.Node.{Node, out-Node, roll-Node, out-roll-Node, roll-out-Node}
 use Rattle.fc_tree_node.specs.contracts.node.Node as node
-use Rattle.fc_tree_node.specs.Node.{own_pairs, children_of, items_or_none, pairs_of, IsLevelled}
 use Rattle.fc_tree_node.proofs.Pairs.{pairs_is}
 use Rattle.fc_tree_lend.specs.Holed.{on_some, on_value, map_values}
-use Rattle.fc_tree_lend.proofs.Broods.{Children_at, Children_seen, children_cuts}
-use Rattle.fc_tree_lend.proofs.Cuts.{Cell, stars, Form, pair, Good, Cuts, Turns, along}
-use Rattle.fc_tree_lend.proofs.Fields.{field, fields, Two, Two_seen, two_cuts}
-use Rattle.fc_tree_lend.proofs.Lists.{items_cells, items_form, All_cuts, slots_cuts}
-use Rattle.fc_tree_lend.proofs.Maybes.{Maybe_at, Maybe_seen, value_at, maybe_cuts}
+use Rattle.fc_tree_lend.proofs.Cuts.{stars, Form, pair, Cuts, along}
+use Rattle.fc_tree_lend.proofs.Fields.{fields, Two, Two_seen}
+use Rattle.fc_tree_lend.proofs.Lists.{items_cells, items_form}
 use Rattle.fc_tree_lend.proofs.Packs.{Handles, ZR}
-use Rattle.fc_tree_lend.proofs.Pairs.{Kinds, KR, WR, HR, PR, QR, pair_form, pair_cuts}
-use Rattle.fc_tree_lend.proofs.Places.{maybe_cells, maybe_form}
-use Rattle.fc_tree_lend.proofs.Shapes.{each_value, mapped, map_is, map_roll, map_out}
+use Rattle.fc_tree_lend.proofs.Pairs.{Kinds, KR, WR, HR, PR, QR, pair_form}
+use Rattle.fc_tree_lend.proofs.Places.{maybe_form}
+use Rattle.fc_tree_lend.proofs.Shapes.{mapped, map_roll, map_out}
 use Rattle.fc_tree_lend.proofs.Woven.{own_cells, node_cells, nodes_cells, Fits, apart, in_order, weave_join, weave_cut}
 
 module _ (E : Kinds) (Y : Handles) where
@@ -197,8 +189,8 @@ module _ (E : Kinds) (Y : Handles) where
           → (pair W PF OF).bare y ≡ (pair W PF OF).bare (parts' z)
       bared y z e =
           let f : mapped with_place (record { pairs = y.0; children = y.1 }) ≡ mapped with_place (out-Node KD (Ptr × VD) ZD z) =
-                ap (mapped with_place) (sym (out-roll-Node KD (Ptr × VD) ZD (record { pairs = y.0; children = y.1 }))) ∙ sym (map_out with_place (made y))
-                    ∙ ap (out-Node KD Ptr ZD) e ∙ map_out with_place z in
+          ap (mapped with_place) (sym (out-roll-Node KD (Ptr × VD) ZD (record { pairs = y.0; children = y.1 }))) ∙ sym (map_out with_place (made y))
+          ∙ ap (out-Node KD Ptr ZD) e ∙ map_out with_place z in
           λ i. ((f i).pairs, (f i).children)
 
       abbrev Back : Parts' → Node KD (Ptr × VD) ZD → Type 1
@@ -211,16 +203,23 @@ module _ (E : Kinds) (Y : Handles) where
           let u : Parts' = parts' z in
           let b = bared y z bare in
           let fits' : Fits u.0 u.1 = unmapped (on_value with_place) (map_values with_place) u.0 u.1
-                (subst (λ (p : List (KD × Ptr) × Option (List (Node KD Ptr ZD))). Fits p.0 p.1) b
-                (remapped (on_value with_place) (map_values with_place) y.0 y.1 (fit y e))) in
-          let of : parts (map_values with_value z) ≡ (pair W PF OF).erase u = λ i. ((map_out with_value z i).pairs, (map_out with_value z i).children) in
-          (u, b,
+          (subst (λ (p : List (KD × Ptr) × Option (List (Node KD Ptr ZD))). Fits p.0 p.1) b
+          (remapped (on_value with_place) (map_values with_place) y.0 y.1 (fit y e))) in
+          let of : parts (map_values with_value z) ≡ (pair W PF OF).erase u = λ i. ((map_out with_value z i).pairs, (map_out with_value z i).children) in (
+            u,
+            b,
             subst (λ cs. ent 𝓤 (sem 𝓛 (stars W cs)) (sem 𝓛 (stars W ((pair W PF OF).cells u)))) (sym (cells_are z))
-              (subst (λ cs. ent 𝓤 (sem 𝓛 (stars W (in_order W KD ZD u.0 u.1))) (sem 𝓛 (stars W cs))) (sym (parts_same u.0 u.1))
-              (weave_cut W KD ZD 𝓛 u.0 u.1 fits')),
-            subst (λ p. ent 𝓤 (sem 𝓛 (two_at p)) (sem 𝓛 (Node_at (map_values with_value z)))) of (node_in (map_values with_value z)))
+                (subst (λ cs. ent 𝓤 (sem 𝓛 (stars W (in_order W KD ZD u.0 u.1))) (sem 𝓛 (stars W cs))) (sym (parts_same u.0 u.1))
+                (weave_cut W KD ZD 𝓛 u.0 u.1 fits')),
+            subst (λ p. ent 𝓤 (sem 𝓛 (two_at p)) (sem 𝓛 (Node_at (map_values with_value z)))) of (node_in (map_values with_value z)),
+          )
 
       pub of_parts : Cuts W 𝓛 l (pair W PF OF) two_at two_seen (parts x) → Cuts W 𝓛 l node_form Node_at Node_seen x
       of_parts = along W 𝓛 l (pair W PF OF) node_form two_at Node_at two_seen Node_seen {x = parts x} {x' = x} {turn = made}
-          (record { out = node_out x; is = is; same = same; back = back;
-            shows = λ y e κ. subst (λ p. ent 𝓤 (sem 𝓛 (two_seen p κ)) (sem 𝓛 (Node_seen (made y) κ))) (parts_made y) (node_show (made y) κ) })
+          (record {
+            out = node_out x;
+            is = is;
+            same = same;
+            back = back;
+            shows = λ y e κ. subst (λ p. ent 𝓤 (sem 𝓛 (two_seen p κ)) (sem 𝓛 (Node_seen (made y) κ))) (parts_made y) (node_show (made y) κ);
+          })

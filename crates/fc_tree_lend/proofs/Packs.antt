@@ -1,19 +1,19 @@
 -- Cells, in memory, are cut as their row is. Assumes `Logic`.
-use Rattle.std.specs.Prelude.{◌≡◌, ℕ, ◌+◌, List, [], ◌∷◌, ◌++◌, map, Option}
+use Rattle.std.specs.Prelude.{◌≡◌, ℕ, ◌+◌, List, [], ◌∷◌, map, Option}
 use Rattle.std.specs.Mem.{type_size}
 use Rattle.std.proofs.Common.{append-nil}
-use mathlib.Core.Path.{refl, sym, ap, subst, ◌∙◌}
+use mathlib.Core.Path.{refl, sym, subst, ◌∙◌}
 use prog.Memory.{size, align, up}
 use seplogic.Ra.Ura.{Ura}
 use base.Fraction.{full_share}
 use base.Logic.{ent, sep, id⊢, via}
-use base.Fml.{Lft, Fml, Incl, fsep}
+use base.Fml.{Lft, Fml, Incl}
 use mir.Syntax.{Ty}
 use types.Logic.{Logic, sem}
-use types.Kit.{Goal, Item, Seq, ‵, some, ◌⊛◌, ◌$◌, ◌∵◌, !, qed, done, by, move, use1, use2, split, rewrite, fsplit, fjoin, pick}
+use types.Kit.{‵, some, ◌$◌, ◌∵◌, !, qed, done, use1, use2, rewrite, pick}
 use denote.RattleType.{RattleType}
 use denote.Memory.{part_at, part_of, shared_of, lone}
-use denote.Model.Fields.{view_owns, view_shares, view-Hides, view_made, plain_out, Plain-in}
+use denote.Model.Fields.{view_owns, view-Hides, view_made, plain_out, Plain-in}
 use denote.Param.{copied}
 use denote.Param.Laws.{Laws, param_laws}
 use denote.Shares.{Shares-less}
@@ -101,7 +101,7 @@ module _ (Y : Handles) (W R S : RattleType) (F : Form W R.Denot S.Denot) {M : Ty
       via 𝓤 (sem 𝓛 (part_at (inside.the_row R Z Y.g) full_share a rb ro)) (inside_in a)
       (Plain-in (cells.the_row R Z Y.g) (inside.the_row R Z Y.g) (view_owns (inside.the_row R Z Y.g) D c (view R.Denot ZD Y.g) (invariant R.Denot ZD Y.g)) 𝓛
       full_share d a
-        (view_made (inside.the_row R Z Y.g) D c (view R.Denot ZD Y.g) (invariant R.Denot ZD Y.g) 𝓛 d a k) rb ro)
+      (view_made (inside.the_row R Z Y.g) D c (view R.Denot ZD Y.g) (invariant R.Denot ZD Y.g) 𝓛 d a k) rb ro)
 
   module _ (a : Inside R.Denot ZD) (known : invariant R.Denot ZD Y.g a) (y : Row S.Denot ZD × ZD) (B : Fml)
       (cut : Good W 𝓛 l (pair W RF ZF) both_at both_seen (a.row, a.alloc) y B) where
@@ -127,11 +127,11 @@ module _ (Y : Handles) (W R S : RattleType) (F : Form W R.Denot S.Denot) {M : Ty
       (view R.Denot ZD Y.g) (invariant R.Denot ZD Y.g)) 𝓛 full_share d rb ro) $
       pick t (λ a. use1 𝓛 (‵ (both_at (a.0.row, a.0.alloc))) (inside_out a.0) $
       two_cuts W 𝓛 l owner sharer Z Z τ υ RF ZF rb ro lone_fields (a.0.row, a.0.alloc)
-        (row_cuts W R S Z Y.g F 𝓛 l same rb (ro + up (align τ) 0) a.0.row (subst (λ cs. (b : ℕ) → Each_cuts W 𝓛 l R S same F b cs) (sym a.1.0) each))
-        (kept W 𝓛 l (λ z. part_at (row_of (field Z υ)) full_share z rb second) (λ z. shared_of Z z rb second) a.0.alloc
-          (λ κ ts. Shares-less 𝓛 Z Z.lives l within ((param_laws 2 Y.row Y.laws).shares 𝓛) a.0.alloc κ ts rb second))
-        _ _ _ t (λ y B cut. rewrite t 1 (λ cs. ‵ (stars W cs)) (append-nil (list_cells W F y.0.held)) refl $ k y.0.held B (record {
-          is = (λ i. (cut.is i).0.held) ∙ a.1.0;
-          again = cells_again a.0 a.1.1 y B cut;
-          lends = cells_lend a.0 a.1.1 y B cut;
-        })))
+      (row_cuts W R S Z Y.g F 𝓛 l same rb (ro + up (align τ) 0) a.0.row (subst (λ cs. (b : ℕ) → Each_cuts W 𝓛 l R S same F b cs) (sym a.1.0) each))
+      (kept W 𝓛 l (λ z. part_at (row_of (field Z υ)) full_share z rb second) (λ z. shared_of Z z rb second) a.0.alloc
+      (λ κ ts. Shares-less 𝓛 Z Z.lives l within ((param_laws 2 Y.row Y.laws).shares 𝓛) a.0.alloc κ ts rb second))
+      _ _ _ t (λ y B cut. rewrite t 1 (λ cs. ‵ (stars W cs)) (append-nil (list_cells W F y.0.held)) refl $ k y.0.held B (record {
+        is = (λ i. (cut.is i).0.held) ∙ a.1.0;
+        again = cells_again a.0 a.1.1 y B cut;
+        lends = cells_lend a.0 a.1.1 y B cut;
+      })))

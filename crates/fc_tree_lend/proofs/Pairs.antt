@@ -6,9 +6,9 @@ use seplogic.Ra.Ura.{Ura}
 use base.Fraction.{full_share}
 use base.Logic.{ent, sep}
 use base.Fml.{Lft, Fml, Incl, ftrue, fsep, feq, fleft, fbor}
-use mir.Syntax.{Ty, Tys, ty_struct}
+use mir.Syntax.{ty_struct}
 use types.Logic.{Logic, sem, lfts}
-use types.Kit.{Goal, Item, Seq, ‵, raw, later, ◌⊛◌, ◌$◌, ◌∵◌, !, qed, done, by, move, keep, drop, use1, use2, split, rewrite, fsplit, fjoin, feq_i, await}
+use types.Kit.{‵, raw, ◌⊛◌, ◌$◌, ◌∵◌, !, qed, done, move, drop, use1, use2, split, rewrite, fsplit, fjoin, feq_i}
 use types.Kit.{updating, now}
 use types.Tokens.{bor_fracture}
 use denote.RattleType.{RattleType}
@@ -27,7 +27,7 @@ use denote.Struct.Tuple.{Tuple}
 use Rattle.fc_tree_lend.specs.contracts.hole.Held as held
 use Rattle.fc_tree_lend.specs.contracts.hole.Hole as hole
 use Rattle.fc_tree_lend.proofs.hole.Held.TheLaws as held-laws
-use Rattle.fc_tree_lend.proofs.Cuts.{Cell, stars, Form, Good, Cuts}
+use Rattle.fc_tree_lend.proofs.Cuts.{stars, Form, Cuts}
 
 -- the types of keys and of values
 pub record Kinds : Type 2 where
@@ -109,8 +109,8 @@ module _ (E : Kinds) where
         Lends-both 𝓛 (fsep (part_at KR full_share k b (key_at o)) (fsep hole ftrue)) (left b o)
         (beside (shared_of KR k b (key_at o)) (beside (said hole) nothing)) (left_seen b o) l
         (Lends-both 𝓛 (part_at KR full_share k b (key_at o)) (fsep hole ftrue) (shared_of KR k b (key_at o)) (beside (said hole) nothing) l
-          (λ κ ts. Shares-less 𝓛 KR KR.lives l within ((param_laws 0 E.key E.key_laws).shares 𝓛) k κ ts b (key_at o))
-          (Lends-both 𝓛 hole ftrue (said hole) nothing l (Lends-said 𝓛 hole tt l) (Lends-nothing 𝓛 ftrue l)))
+        (λ κ ts. Shares-less 𝓛 KR KR.lives l within ((param_laws 0 E.key E.key_laws).shares 𝓛) k κ ts b (key_at o))
+        (Lends-both 𝓛 hole ftrue (said hole) nothing l (Lends-said 𝓛 hole tt l) (Lends-nothing 𝓛 ftrue l)))
         (Lends-left l b o)
 
     pub pair_cuts : (l : Lft) → Incl l E.key.lives → (x : PR.Denot) (b o : ℕ)

@@ -11,16 +11,16 @@ use base.Logic.{ent, sep, id⊢}
 use base.Fml.{Lft, Fml, ftrue, fsep, flt}
 use mir.Syntax.{Ty}
 use types.Logic.{Logic, sem}
-use types.Kit.{Goal, Item, Seq, ‵, ◌⊛◌, ◌$◌, ◌∵◌, !, qed, done, by, move, keep, drop, use1, use2, split, rewrite, fsplit, fjoin}
+use types.Kit.{‵, ◌$◌, ◌∵◌, !, qed, done, move, keep, use2, rewrite, fsplit, fjoin}
 use denote.RattleType.{RattleType}
 use denote.Memory.{part_at, shared_of}
 use denote.RawPtr.{Ptr, block_ptr}
-use denote.Sharing.{nothing, said, beside}
+use denote.Sharing.{said, beside}
 use denote.Steps.{nothing as bare}
 use denote.Struct.Lending.{Lends, Lends-both, Lends-first, Lends-nothing, Lends-said}
 use Rattle.fc_tree_slots.specs.Ownership.{place, places, place_lent, places_lent, bounded, block, row_owned, row_lent}
 use Rattle.fc_tree_lend.specs.Holed.{on_some}
-use Rattle.fc_tree_lend.proofs.Cuts.{Cell, stars, Form, pair, Good, Cuts, both, owns_both, seen_both, Turns, along}
+use Rattle.fc_tree_lend.proofs.Cuts.{Cell, stars, Form, pair, Cuts, both, owns_both, seen_both, along}
 
 module _ {X : Type 0} where
   abbrev pub IsSome : Option X → Type 0
@@ -87,15 +87,20 @@ module _ (W : RattleType) {M : Type 1} {𝓤 : Ura M} (𝓛 : Logic 𝓤) (l : L
   place_cuts None each o = λ K G Γ t k. bare t $ move t (1 ∷ 0 ∷ []) $ k None (place R b o None)
       (record { is = refl; again = none_again o; lends = Lends-nothing 𝓛 (place R b o None) l })
   place_cuts (Some x) each o = along W 𝓛 l F (maybe_form W F) (λ z. part_at R full_share z b o) (place R b o) (λ y. shared_of S y b o) (place_lent S b o)
-      {x = x} {x' = Some x} {turn = Some} (record { out = id⊢ 𝓤 _; is = λ y e. ap Some e; same = λ y e. id⊢ 𝓤 _; back = λ y e z. some_back o y z;
-      shows = λ y e κ. id⊢ 𝓤 _ }) (each o)
+      {x = x} {x' = Some x} {turn = Some} (record {
+        out = id⊢ 𝓤 _;
+        is = λ y e. ap Some e;
+        same = λ y e. id⊢ 𝓤 _;
+        back = λ y e z. some_back o y z;
+        shows = λ y e κ. id⊢ 𝓤 _;
+      }) (each o)
 
   cons_back : (o : ℕ) (y : Option S.Denot) (ys z : List (Option S.Denot)) → on_some F.bare y ∷ map (on_some F.bare) ys ≡ map (on_some F.bare) z
       → (u : Option S.Denot × List (Option S.Denot)) × (◌≡◌ {A = Option F.Bare × List (Option F.Bare)} (on_some F.bare y, map (on_some F.bare) ys)
-          (on_some F.bare u.0, map (on_some F.bare) u.1))
-        × ent 𝓤 (sem 𝓛 (stars W (list_cells W F z))) (sem 𝓛 (stars W (maybe_cells W F u.0 ++ list_cells W F u.1)))
-        × ent 𝓤 (sem 𝓛 (fsep (place R b o (on_some F.erase u.0)) (places R b (o + type_size R) (map (on_some F.erase) u.1))))
-        (sem 𝓛 (places R b o (map (on_some F.erase) z)))
+      (on_some F.bare u.0, map (on_some F.bare) u.1))
+      × ent 𝓤 (sem 𝓛 (stars W (list_cells W F z))) (sem 𝓛 (stars W (maybe_cells W F u.0 ++ list_cells W F u.1)))
+      × ent 𝓤 (sem 𝓛 (fsep (place R b o (on_some F.erase u.0)) (places R b (o + type_size R) (map (on_some F.erase) u.1))))
+      (sem 𝓛 (places R b o (map (on_some F.erase) z)))
   cons_back o y ys [] e = absurd (subst IsCons e tt)
   cons_back o y ys (z ∷ zs) e = ((z, zs), (λ i. (head_or (on_some F.bare y) (e i), rest_of (e i))), id⊢ 𝓤 _, id⊢ 𝓤 _)
 
@@ -112,9 +117,14 @@ module _ (W : RattleType) {M : Type 1} {𝓤 : Ura M} (𝓛 : Logic 𝓤) (l : L
       along W 𝓛 l (pair W F₀ F₁) F₁ (owns_both W 𝓛 l F₀ F₁ (place R b o) (places R b next) (place_lent S b o) (places_lent S b next)) (places R b o)
       (seen_both W 𝓛 l F₀ F₁ (place R b o) (places R b next) (place_lent S b o) (places_lent S b next)) (places_lent S b o)
       {x = (c, cs)} {x' = c ∷ cs} {turn = λ y. y.0 ∷ y.1}
-      (record { out = id⊢ 𝓤 _; is = λ y e i. (e i).0 ∷ (e i).1; same = λ y e. id⊢ 𝓤 _; back = λ y e z. cons_back o y.0 y.1 z;
+      (record {
+        out = id⊢ 𝓤 _;
+        is = λ y e i. (e i).0 ∷ (e i).1;
+        same = λ y e. id⊢ 𝓤 _;
+        back = λ y e z. cons_back o y.0 y.1 z;
         shows = λ y e κ. subst (λ n. ent 𝓤 (sem 𝓛 (beside (place_lent S b o y.0) (places_lent S b next y.1) κ))
-        (sem 𝓛 (beside (place_lent S b o y.0) (places_lent S b (o + n) y.1) κ))) (sym same) (id⊢ 𝓤 _) })
+            (sem 𝓛 (beside (place_lent S b o y.0) (places_lent S b (o + n) y.1) κ))) (sym same) (id⊢ 𝓤 _);
+      })
       (both W 𝓛 l F₀ F₁ (place R b o) (places R b next) (place_lent S b o) (places_lent S b next) c cs (place_cuts c each.0 o) (places_cuts cs each.1 next))
 
   lengths : (ys zs : List (Option S.Denot)) → map (on_some F.bare) ys ≡ map (on_some F.bare) zs → length ys ≡ length zs
@@ -138,6 +148,6 @@ module _ (W : RattleType) {M : Type 1} {𝓤 : Ura M} (𝓛 : Logic 𝓤) (l : L
           is = g.is;
           again = λ z e. room_again (length cs) B z (long ∙ lengths y z e) (g.again z e);
           lends = subst (λ p. Lends 𝓛 (fsep (full (length cs)) B) (beside (said (flt p (2 ^ 63))) (places_lent S b o y)) l) (λ i. long i * sym same i)
-            (Lends-both 𝓛 (full (length cs)) B (said (bounded R (length cs))) (places_lent S b o y) l
+              (Lends-both 𝓛 (full (length cs)) B (said (bounded R (length cs))) (places_lent S b o y) l
               (Lends-first 𝓛 (bounded R (length cs)) _ (said (bounded R (length cs))) l (Lends-said 𝓛 (bounded R (length cs)) tt l)) g.lends);
         }))

@@ -1,7 +1,7 @@
 -- A levelled tree of holes with other values, given in order.
 --     levelled_back      a node is levelled if it is with other values.        rezip      other values, as far as they go, in the places that there are
 --     relabel            a node whose places hold other values, with the same keys and shape
-use Rattle.std.proofs.Common.{◌≡◌, ℕ, zero, suc, ◌+◌, ◌≤◌, List, [], ◌∷◌, ◌++◌, map, length, take, drop, refl, sym, ap, ◌∙◌, subst, arith, Option, Some, None}
+use Rattle.std.proofs.Common.{◌≡◌, ℕ, zero, suc, ◌+◌, ◌≤◌, List, [], ◌∷◌, ◌++◌, map, length, take, drop, refl, sym, ap, ◌∙◌, subst, Option, Some, None}
 use Rattle.std.proofs.lemmas.List.{map-append}
 use Rattle.std.specs.List.{AllByRecursion}
 use lib.ListN.{length-map}
@@ -9,11 +9,11 @@ use denote.RawPtr.{Ptr}
 use Rattle.fc_base.specs.Sizes.{capacity, min_len}
 use Rattle.fc_tree_node.specs.Weave.{after_list, weave}
 use Rattle.fc_tree_node.specs.declared.node.Node.{Node, Node-F, out-Node, roll-Node, out-roll-Node}
-use Rattle.fc_tree_node.specs.Node.{own_pairs, children_of, items_or_none, pairs_of, IsLeaf, IsInner, IsLevelled}
+use Rattle.fc_tree_node.specs.Node.{own_pairs, children_of, items_or_none, pairs_of, IsLevelled}
 use Rattle.fc_tree_node.proofs.Pairs.{pairs_is}
 use Rattle.fc_tree_lend.specs.Holed.{on_some, on_value, map_values}
-use Rattle.fc_tree_lend.proofs.Places.{IsSome, some_is}
-use Rattle.fc_tree_lend.proofs.Shapes.{each_value, mapped, map_is, map_roll, map_out}
+use Rattle.fc_tree_lend.proofs.Places.{IsSome}
+use Rattle.fc_tree_lend.proofs.Shapes.{map_is, map_roll, map_out}
 
 module _ {K X Y Z : Type 0} (f : X → Y) where
   abbrev each_of : Node K X Z → Node K Y Z
@@ -52,9 +52,11 @@ module _ {K X Y Z : Type 0} (f : X → Y) where
 
   pub levelled_back : (h : ℕ) (n : Node K X Z) → IsLevelled h (map_values f n) → IsLevelled h n
   levelled_back zero n l = (subst (λ k. k ≤ capacity) (own_long n) l.0, none_back (out-Node K X Z n).children (sym (children_field n) ∙ l.1))
-  levelled_back (suc h) n l = (subst (λ k. k ≤ capacity) (own_long n) l.0,
-      sym (ap length (children_map n) ∙ length-map (children_of n) (map_values f)) ∙ l.1 ∙ ap (λ k. k + 1) (own_long n),
-      all_back h (levelled_back h) (children_of n) (subst (AllByRecursion (Below' h)) (children_map n) l.2))
+  levelled_back (suc h) n l = (
+    subst (λ k. k ≤ capacity) (own_long n) l.0,
+    sym (ap length (children_map n) ∙ length-map (children_of n) (map_values f)) ∙ l.1 ∙ ap (λ k. k + 1) (own_long n),
+    all_back h (levelled_back h) (children_of n) (subst (AllByRecursion (Below' h)) (children_map n) l.2),
+  )
 
 module _ {K X Y Z : Type 0} (f : X → Y) where
   abbrev On : Node K X Z → Node K Y Z
@@ -70,9 +72,11 @@ module _ {K X Y Z : Type 0} (f : X → Y) where
 
   pub levelled_on : (h : ℕ) (n : Node K X Z) → IsLevelled h n → IsLevelled h (On n)
   levelled_on zero n l = (subst (λ k. k ≤ capacity) (sym (own_long f n)) l.0, children_field f n ∙ none_on (out-Node K X Z n).children l.1)
-  levelled_on (suc h) n l = (subst (λ k. k ≤ capacity) (sym (own_long f n)) l.0,
-      ap length (children_map f n) ∙ length-map (children_of n) (map_values f) ∙ l.1 ∙ ap (λ k. k + 1) (sym (own_long f n)),
-      subst (AllByRecursion (Below' f h)) (sym (children_map f n)) (all_on h (levelled_on h) (children_of n) l.2))
+  levelled_on (suc h) n l = (
+    subst (λ k. k ≤ capacity) (sym (own_long f n)) l.0,
+    ap length (children_map f n) ∙ length-map (children_of n) (map_values f) ∙ l.1 ∙ ap (λ k. k + 1) (sym (own_long f n)),
+    subst (AllByRecursion (Below' f h)) (sym (children_map f n)) (all_on h (levelled_on h) (children_of n) l.2),
+  )
 
 module _ {P V : Type 0} where
   abbrev pub rezip : List (P × V) → List V → List (P × V)
@@ -172,11 +176,12 @@ module _ (K V Z : Type 0) where
   node_with n each ws =
       let r = parts_with (own_pairs n) (out-Node K Hole Z n).children each ws in
       let s : Node-F K Hole Z Holed = record { pairs = r.0.0; children = r.0.1 } in
-      let z : Node K (Ptr × V) Z = roll-Node K Hole Z s in
-      (z,
+      let z : Node K (Ptr × V) Z = roll-Node K Hole Z s in (
+        z,
         map_is place_of n ∙ (λ i. roll-Node K Ptr Z (record { pairs = r.1 i; children = r.2 i })) ∙ sym (map_roll place_of s),
         ap run_of (pairs_is z ∙ (λ i. let t = out-roll-Node K Hole Z s i in weave (map pairs_of (items_or_none t.children)) t.pairs)) ∙ r.3
-            ∙ ap (λ l. rezip (run_of l) ws) (sym (pairs_is n)))
+            ∙ ap (λ l. rezip (run_of l) ws) (sym (pairs_is n)),
+      )
 
   all_can : (h : ℕ) → ((n : Node K (Ptr × V) Z) → IsLevelled h n → Can n) → (ns : List (Node K (Ptr × V) Z))
       → AllByRecursion (λ c. (min_len ≤ length (own_pairs c)) × IsLevelled h c) ns → Each Can ns

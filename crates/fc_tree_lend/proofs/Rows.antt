@@ -8,14 +8,12 @@ use base.Logic.{ent, sep, id⊢}
 use base.Fml.{Lft, Fml, fsep}
 use contract.BorrowLft.{⊑_static}
 use ghost.Rules.{span}
-use mir.Syntax.{Ty}
 use types.Logic.{Logic, sem}
-use types.Kit.{Goal, Item, Seq, ‵, ◌⊛◌, ◌$◌, ◌∵◌, !, qed, done, by, move, use1, use2, split, rewrite, fsplit, fjoin}
+use types.Kit.{‵, ◌⊛◌, ◌$◌, ◌∵◌, !, qed, done, move, use1, use2, split, rewrite, fsplit, fjoin}
 use denote.RattleType.{RattleType}
 use denote.Memory.{part_at, shared_of}
 use denote.Param.Shared.{copy_shared, parts_share}
 use denote.RawPtr.{Ptr, block_ptr, in_a_block}
-use denote.Sharing.{beside}
 use denote.Struct.Field.{RawPtr-field}
 use denote.Struct.Laws.{RawPtr-copy}
 use denote.Struct.Lending.{Lends, Lends-both}
@@ -78,6 +76,6 @@ module _ (W R S Z : RattleType) (g : Ghosts Z.Denot) (F : Form W R.Denot S.Denot
           is = λ i. record { start = r.start; held = cut.is i; alloc = r.alloc };
           again = row_again r b o at y B cut;
           lends = Lends-both 𝓛 (word_at r.start) B (shared_of (Struct (shape (row.the_type S Z g))) (r.start, tt) rb ro) (row_lent S r.start y) l
-          (Lends-word r.start)
-            (subst (λ p. Lends 𝓛 B (row_lent S p y) l) (sym at) cut.lends);
+              (Lends-word r.start)
+              (subst (λ p. Lends 𝓛 B (row_lent S p y) l) (sym at) cut.lends);
         })))

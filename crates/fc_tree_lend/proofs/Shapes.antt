@@ -9,7 +9,6 @@ use Rattle.fc_tree_node.proofs.Pairs.{pairs_is}
 use Rattle.fc_tree_node.specs.declared.node.Node.{Node, Node-F, out-Node, roll-Node, out-roll-Node, map-Node, fold_out-Node, fold-roll-Node}
 use Rattle.fc_tree_lend.specs.Holed.{on_some, on_value, values_step, map_values}
 
-
 module _ {K X Y Z : Type 0} (f : X → Y) where
   abbrev pub each_value : Node K X Z → Node K Y Z
   each_value = map_values f
@@ -19,7 +18,7 @@ module _ {K X Y Z : Type 0} (f : X → Y) where
 
   step_is : (ps : List (K × X)) (o : Option (List (Node K X Z)))
       → values_step f (map-Node K X Z (Node K X Z) (Node K Y Z) each_value (record { pairs = ps; children = o })) ≡ roll-Node K Y Z
-          (mapped (record { pairs = ps; children = o }))
+      (mapped (record { pairs = ps; children = o }))
   step_is ps None = refl
   step_is ps (Some ns) = refl
 
@@ -55,7 +54,7 @@ module _ {K X Y U Z : Type 0} (f : X → Y) (g : Y → U) where
   same_from : (n : Node K X Z) → map (map_values g) (map (each_value f) (children_of n)) ≡ map (map_values (λ x. g (f x))) (children_of n) → Same n
   same_from n e = let s = out-Node K X Z n in
       ap (map_values g) (map_is f n) ∙ map_roll g (mapped f s) ∙ (λ i. roll-Node K U Z
-          (record { pairs = twice f g s.pairs i; children = some_same s.children e i })) ∙ sym (map_is (λ x. g (f x)) n)
+      (record { pairs = twice f g s.pairs i; children = some_same s.children e i })) ∙ sym (map_is (λ x. g (f x)) n)
 
   pub map_map : (h : ℕ) (n : Node K X Z) → IsLevelled h n → Same n
   map_map zero n l = same_from n (subst (λ o. map (map_values g) (map (each_value f) (items_or_none o)) ≡ map (map_values (λ x. g (f x))) (items_or_none o))
@@ -90,7 +89,7 @@ module _ {K X Y Z : Type 0} (f : X → Y) where
   paired_from : (n : Node K X Z) → map pairs_of (map (each_value f) (children_of n)) ≡ map (map (on_value f)) (map pairs_of (children_of n)) → Paired n
   paired_from n e = let s = out-Node K X Z n in
       pairs_is (map_values f n) ∙ (λ i. let t = map_out f n i in weave (map pairs_of (items_or_none t.children)) t.pairs)
-          ∙ ap (λ cs. weave cs (map (on_value f) s.pairs)) (some_paired s.children e)
+      ∙ ap (λ cs. weave cs (map (on_value f) s.pairs)) (some_paired s.children e)
       ∙ sym (map-weave (on_value f) (map pairs_of (children_of n)) s.pairs) ∙ ap (map (on_value f)) (sym (pairs_is n))
 
   pub pairs_map : (h : ℕ) (n : Node K X Z) → IsLevelled h n → Paired n

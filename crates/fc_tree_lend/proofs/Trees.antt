@@ -6,10 +6,10 @@ use denote.RawPtr.{Ptr}
 use Rattle.fc_tree_node.specs.declared.node.Node.{Node}
 use Rattle.fc_tree_node.specs.Node.{pairs_of, IsLevelled}
 use Rattle.fc_tree_node.specs.Tree.{Map, entries, IsSoundMap}
-use Rattle.fc_tree_lend.specs.Holed.{on_value, filled_pairs, map_values, map_tree, filled, run_of, keys_and_shape, values, replaced, IsRefilled}
+use Rattle.fc_tree_lend.specs.Holed.{on_value, filled_pairs, map_values, map_tree, filled, run_of, values, replaced, IsRefilled}
 use Rattle.fc_tree_lend.proofs.Shapes.{map_map, pairs_map}
 use Rattle.fc_tree_lend.proofs.Places.{IsSome, IsCons, head_or, rest_of}
-use Rattle.fc_tree_lend.proofs.Relabels.{own_long, levelled_back, levelled_on, rezip, Relabelled, relabel}
+use Rattle.fc_tree_lend.proofs.Relabels.{own_long, levelled_back, levelled_on, rezip, relabel}
 
 module _ {K X Y Z : Type 0} (f : X → Y) where
   pub sound_back : (y : Map K X Z) → IsSoundMap (map_tree f y) → IsSoundMap y
@@ -69,9 +69,11 @@ module _ (K V Z : Type 0) where
       let r = relabel K V Z s.0 n s.2.1 ws in
       let l = levelled_back place_of s.0 r.0 (subst (IsLevelled s.0) r.1 (levelled_on place_of s.0 n s.2.1)) in
       let shape : map_values (λ v. tt) (map_values value_of r.0) ≡ map_values (λ v. tt) (map_values value_of n) =
-            shape_of s.0 r.0 l ∙ sym (shape_bare s.0 r.0 l) ∙ ap (map_values (λ p. tt)) (sym r.1) ∙ shape_bare s.0 n s.2.1 ∙ sym (shape_of s.0 n s.2.1) in
-      (ap Some shape, values_are s.0 r.0 l ∙ ap (map value_of) r.2 ∙ replaced_values (run_of (Some n)) ws
-      ∙ ap (λ vs. replaced vs ws) (sym (values_are s.0 n s.2.1)))
+      shape_of s.0 r.0 l ∙ sym (shape_bare s.0 r.0 l) ∙ ap (map_values (λ p. tt)) (sym r.1) ∙ shape_bare s.0 n s.2.1 ∙ sym (shape_of s.0 n s.2.1) in (
+        ap Some shape,
+        values_are s.0 r.0 l ∙ ap (map value_of) r.2 ∙ replaced_values (run_of (Some n)) ws
+            ∙ ap (λ vs. replaced vs ws) (sym (values_are s.0 n s.2.1)),
+      )
 
   node_run : (h : ℕ) (z y : Node K (Ptr × V) Z) → IsLevelled h y → map_values place_of z ≡ map_values place_of y
       → map_values value_of z ≡ map_values value_of y → run_of (Some z) ≡ run_of (Some y)

@@ -1,14 +1,12 @@
 -- The values of a node's own pairs and those of its children are the values of all its pairs, in order. Assumes `Logic`.
-use Rattle.std.proofs.Common.{◌≡◌, ℕ, zero, suc, ◌+◌, List, [], ◌∷◌, ◌++◌, map, length, refl, sym, ap, ◌∙◌, subst, append-nil, arith, Option, Some, None}
+use Rattle.std.proofs.Common.{◌≡◌, ◌+◌, List, [], ◌∷◌, ◌++◌, map, length, refl, sym, subst, append-nil, arith, Option, Some, None}
 use Rattle.std.proofs.lemmas.List.{map-append}
 use seplogic.Ra.Ura.{Ura}
-use base.Fraction.{full_share}
-use base.Logic.{ent, sep, id⊢, via}
-use base.Fml.{Fml, ftrue, fsep}
+use base.Logic.{ent, sep, id⊢}
+use base.Fml.{ftrue}
 use types.Logic.{Logic, sem}
-use types.Kit.{‵, ◌⊛◌, ◌$◌, ◌∵◌, !, qed, done, by, move, keep, use1, use2, split, rewrite, fsplit, fjoin}
+use types.Kit.{‵, ◌⊛◌, ◌$◌, ◌∵◌, !, qed, done, move, keep, use1, use2, split, rewrite, fsplit, fjoin}
 use denote.RattleType.{RattleType}
-use denote.RawPtr.{Ptr, lies_at}
 use denote.Steps.{nothing as bare}
 use Rattle.fc_tree_node.specs.Weave.{after_list, weave}
 use Rattle.fc_tree_node.specs.declared.node.Node.{Node}

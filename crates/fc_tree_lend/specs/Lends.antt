@@ -1,5 +1,5 @@
 -- What a tree ends as, where its values are lent.
-use Rattle.std.specs.Prelude.{◌≡◌, Bool, true, false, cond}
+use Rattle.std.specs.Prelude.{Bool, true, false, cond}
 use lib.Dec.{eqb}
 use Rattle.std.specs.Borrow.{Lends}
 use base.Fml.{Fml, GName}

@@ -4,22 +4,20 @@ use mir.MapTy.{inst_fn}
 use mir.Syntax.{a_type, named, dcons, dnil}
 use mir.Val.{Val, vptr, vstruct, vnil, vcons}
 use base.Logic.{emp}
-use base.Fml.{ftrue, flft, GName, Incl-trans}
+use base.Fml.{ftrue, flft, Incl-trans}
 use contract.BorrowLft.{◌⊑◌}
 use contract.Monad.{fact, fact_i}
 use contract.Running.{tables}
 use prog.Wp.{WpFn}
-use types.Logic.{Logic, sem}
 use types.Kit.{‵, raw, ◌⊛◌, some, later, prop, at_ret, ◌$◌, ◌∵◌, !, qed, by, move, keep, drop, use0, use1, split, split3, join, pick, learn, await, regoal}
 use types.Kit.{fsplit, fsplit3, fjoin, feq_i, group}
-use types.Run.{enter, stop, of_opd, first, blocks, exec, returns, addr, and_then, no_more, fld}
+use types.Run.{enter, stop, of_opd, first, blocks, exec, returns, addr, and_then, no_more}
 use types.ByLocal.{alloc_all, pass_all, free_all, look_at, get, through, sets, sets_last, env}
 use types.Mut.{open_ref}
 use types.Part.{agg}
 use denote.RattleType.{RattleType, owns}
 use denote.Memory.{mem}
 use denote.Param.{bounded}
-use denote.RawPtr.{Ptr}
 use denote.Ref.{Bor, ShrRef}
 use denote.Signature.{types_at, plain, named_lft}
 use denote.Steps.{nothing, heard}

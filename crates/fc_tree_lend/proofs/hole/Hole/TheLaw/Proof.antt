@@ -1,10 +1,8 @@
 -- No hole is owned, so that a borrow of one gives what a `&` to it says. Assumes `Logic`.
 use base.Fraction.{full_share}
-use base.Logic.{ent, id⊢, never_e}
-use base.Fml.{ffalse, fsep, fex, feq}
+use base.Logic.{never_e}
+use base.Fml.{ffalse, feq}
 use mathlib.Core.List.{[], ◌∷◌}
-use mir.Val.{Val}
-use types.Logic.{sem}
 use types.Kit.{‵, ◌$◌, ◌∵◌, !, qed, fsplit, fpick, keep, by}
 use denote.RattleType.{RattleType}
 use denote.Memory.{part_at, part_of}

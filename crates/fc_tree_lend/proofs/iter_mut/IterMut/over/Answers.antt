@@ -1,4 +1,4 @@
-use Rattle.std.proofs.Common.{◌≡◌, length, refl, sym, ap, ◌∙◌}
+use Rattle.std.proofs.Common.{length, refl, sym, ap, ◌∙◌}
 use lib.ListN.{length-map}
 use Rattle.fc_tree_node.specs.Tree.{entries}
 use Rattle.fc_tree_lend.specs.Holed.{filled_pairs}

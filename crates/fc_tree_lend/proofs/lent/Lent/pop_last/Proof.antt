@@ -9,14 +9,12 @@ use contract.BorrowLft.{◌⊑◌}
 use contract.Monad.{fact, fact_i}
 use contract.Running.{tables}
 use prog.Wp.{WpFn}
-use types.Logic.{Logic, sem}
 use types.Kit.{‵, raw, ◌⊛◌, some, later, prop, at_ret, ◌$◌, ◌∵◌, !, qed, by, move, keep, drop, use0, use2, split, split3, join, pick, await, rewrite, regoal}
 use types.Kit.{fsplit, fsplit3, fjoin, fjoin3, feq_l, feq_i}
 use types.Run.{enter, stop, of_opd, first, blocks, exec, returns, addr}
 use types.ByLocal.{alloc_all, pass_all, free_all, look_at, get, through, sets, sets_last, env}
 use denote.Builtin.{RefOf}
 use denote.RattleType.{RattleType, owns}
-use denote.Memory.{mem}
 use denote.Opens.{unhide}
 use denote.Param.{param, layouts}
 use denote.RawPtr.{Ptr, block_ptr}
@@ -42,8 +40,10 @@ pop_last_spec 𝓤 𝓛 𝓜 𝓡 wired T L =
     let En = f.ended T in let ps = En.signature.params in let c = f.clauses T 𝓛 𝓜.mem 𝓡.returns in let 𝓣 = tables 𝓤 𝓛.H 𝓜 𝓡 𝓡.env in
     let R : RattleType = param 0 T in let W : RattleType = held.the_row R in
     let hs : Stays ps En.kept = (stay_ref (0 ∷ []) tt (plain (λ κs. lent.the_row (named_lft 3 1 tt κs) R)), (stay_dropped _ _, tt)) in
-    proved_at 𝓛 En hs c 𝓜 𝓡 (Goes-ref 𝓛 3 0 tt (plain (λ κs. lent.the_row (named_lft 3 1 tt κs) R)),
-    (Goes-dropped 𝓛 3 (RefOf (1 ∷ []) tt (plain (λ _. hole.the_row R)) (λ _. tt)) En.kept.1.0 (λ κs x f. refl), tt))
+    proved_at 𝓛 En hs c 𝓜 𝓡 (
+      Goes-ref 𝓛 3 0 tt (plain (λ κs. lent.the_row (named_lft 3 1 tt κs) R)),
+      (Goes-dropped 𝓛 3 (RefOf (1 ∷ []) tt (plain (λ _. hole.the_row R)) (λ _. tt)) En.kept.1.0 (λ κs x f. refl), tt),
+    )
     (f.Key.name args) fn (code.unfolded 𝓤 𝓛.H 𝓜 𝓡 wired (T, tt)) (λ z are.
     let κ = z.0.0.0 in let κ' = z.0.0.1.0 in let q = z.0.1.0 in let q' = z.0.1.1.0 in
     let r = z.0.3.0 in let rb = r.ref_ptr.0 in let ro = r.ref_ptr.1 in let d = r.now in let s = z.0.3.1.0 in let b = s.ref_ptr.0 in let o = s.ref_ptr.1 in
