@@ -30,7 +30,7 @@ use Rattle.fc_tree_lend.proofs.Nodes.{MR}
 use Rattle.fc_tree_lend.proofs.Packs.{Handles, ZR}
 use Rattle.fc_tree_lend.proofs.Pairs.{Kinds, KR, VR, WR}
 use Rattle.fc_tree_lend.proofs.Relabels.{rezip}
-use Rattle.fc_tree_lend.proofs.Trees.{sound_back, tree_with, refilled, one_run}
+use Rattle.fc_tree_lend.proofs.Trees.{sound_back, tree_with, shape_with, one_run}
 
 module _ (W : RattleType) where
   abbrev pub places_of : List (Cell W) → List Ptr
@@ -131,7 +131,7 @@ module _ (E : Kinds) (Y : Handles) {M : Type 1} {𝓤 : Ura M} (𝓛 : Logic �
           qed 𝓛 (‵ (spread W (places_of W (run_of y)) ws) ∷ raw (emp 𝓤) ∷ []) ∵ keep ! (0 ∷ []) $
           use1 𝓛 (‵ (stars W (rezip (run_of y) ws))) (spread_back W 𝓛 (run_of y) ws) $
           rewrite ! 0 (λ cs. ‵ (stars W cs)) (sym z.2) refl $ fpack ! (Like w) (λ u. stars W (run_of u.0))
-          (z.0, z.1, sym (ends_at w ((refilled KD VD ZD y good ws).0 ∙ ap keys_and_shape cut.is))) $ done !
+          (z.0, z.1, sym (ends_at w (shape_with KD VD ZD y good ws ∙ ap keys_and_shape cut.is))) $ done !
 
       same_run : (z : Like t) → run_of z.0 ≡ run_of y
       same_run z = one_run KD VD ZD z.0 y good (sym z.1) (z.2 ∙ sym was)

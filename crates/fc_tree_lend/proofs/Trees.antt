@@ -1,12 +1,13 @@
 -- What is said of a tree of holes, and of one with other values.
 --     sound_back        a tree of holes is sound where what it stands for is
---     tree_with, refilled      the tree of holes with other values in its places, and what that stands for
+--     tree_with, shape_with      the tree of holes with other values in its places, and that what it stands for has the same keys and shape
+--     one_run, filled_entries    a tree of holes has one run;  the pairs that it stands for
 use Rattle.std.proofs.Common.{◌≡◌, ◌≤◌, ℕ, List, [], ◌∷◌, map, refl, sym, ap, ◌∙◌, subst, Option, Some, None}
 use denote.RawPtr.{Ptr}
 use Rattle.fc_tree_node.specs.declared.node.Node.{Node}
 use Rattle.fc_tree_node.specs.Node.{pairs_of, IsLevelled}
 use Rattle.fc_tree_node.specs.Tree.{Map, entries, IsSoundMap}
-use Rattle.fc_tree_lend.specs.Holed.{on_value, filled_pairs, map_values, map_tree, filled, run_of, values, replaced, IsRefilled}
+use Rattle.fc_tree_lend.specs.Holed.{on_value, filled_pairs, map_values, map_tree, filled, run_of, keys_and_shape}
 use Rattle.fc_tree_lend.proofs.Shapes.{map_map, pairs_map}
 use Rattle.fc_tree_lend.proofs.Places.{IsSome, IsCons, head_or, rest_of}
 use Rattle.fc_tree_lend.proofs.Relabels.{own_long, levelled_back, levelled_on, rezip, relabel}
@@ -20,12 +21,6 @@ module _ {K X Y : Type 0} (f : X → Y) where
   seconds : (ps : List (K × X)) → map (λ p. p.1) (map (on_value f) ps) ≡ map f (map (λ p. p.1) ps)
   seconds [] = refl
   seconds (p ∷ ps) = ap (λ l. f p.1 ∷ l) (seconds ps)
-
-module _ {P V : Type 0} where
-  replaced_values : (cs : List (P × V)) (ws : List V) → map (λ c. c.1) (rezip cs ws) ≡ replaced (map (λ c. c.1) cs) ws
-  replaced_values [] ws = refl
-  replaced_values (c ∷ cs) [] = refl
-  replaced_values (c ∷ cs) (w ∷ ws) = ap (λ l. w ∷ l) (replaced_values cs ws)
 
 module _ (K V Z : Type 0) where
   abbrev value_of : Ptr × V → V
@@ -59,27 +54,22 @@ module _ (K V Z : Type 0) where
   shape_bare : (h : ℕ) (n : Node K (Ptr × V) Z) → IsLevelled h n → map_values (λ p. tt) (map_values place_of n) ≡ shaped n
   shape_bare h n l = map_map place_of (λ p. tt) h n l
 
-  values_are : (h : ℕ) (n : Node K (Ptr × V) Z) → IsLevelled h n → values (Some (map_values value_of n)) ≡ map value_of (run_of (Some n))
+  values_are : (h : ℕ) (n : Node K (Ptr × V) Z) → IsLevelled h n → map (λ p. p.1) (pairs_of (map_values value_of n)) ≡ map value_of (run_of (Some n))
   values_are h n l = ap (map (λ p. p.1)) (pairs_map value_of h n l) ∙ seconds value_of (pairs_of n)
 
-  pub refilled : (y : Map K (Ptr × V) Z) (s : IsSoundMap y) (ws : List V) → IsRefilled (filled y) ws (filled (tree_with y s ws).0)
+  pub shape_with : (y : Map K (Ptr × V) Z) (s : IsSoundMap y) (ws : List V) → keys_and_shape (filled (tree_with y s ws).0) ≡ keys_and_shape (filled y)
   unfolding tree_with
-  refilled None s ws = (refl, refl)
-  refilled (Some n) s ws =
+  shape_with None s ws = refl
+  shape_with (Some n) s ws =
       let r = relabel K V Z s.0 n s.2.1 ws in
       let l = levelled_back place_of s.0 r.0 (subst (IsLevelled s.0) r.1 (levelled_on place_of s.0 n s.2.1)) in
-      let shape : map_values (λ v. tt) (map_values value_of r.0) ≡ map_values (λ v. tt) (map_values value_of n) =
-      shape_of s.0 r.0 l ∙ sym (shape_bare s.0 r.0 l) ∙ ap (map_values (λ p. tt)) (sym r.1) ∙ shape_bare s.0 n s.2.1 ∙ sym (shape_of s.0 n s.2.1) in (
-        ap Some shape,
-        values_are s.0 r.0 l ∙ ap (map value_of) r.2 ∙ replaced_values (run_of (Some n)) ws
-            ∙ ap (λ vs. replaced vs ws) (sym (values_are s.0 n s.2.1)),
-      )
+      ap Some (shape_of s.0 r.0 l ∙ sym (shape_bare s.0 r.0 l) ∙ ap (map_values (λ p. tt)) (sym r.1) ∙ shape_bare s.0 n s.2.1 ∙ sym (shape_of s.0 n s.2.1))
 
   node_run : (h : ℕ) (z y : Node K (Ptr × V) Z) → IsLevelled h y → map_values place_of z ≡ map_values place_of y
       → map_values value_of z ≡ map_values value_of y → run_of (Some z) ≡ run_of (Some y)
   node_run h z y l e f = let m = levelled_back place_of h z (subst (IsLevelled h) (sym e) (levelled_on place_of h y l)) in
       both_same (run_of (Some z)) (run_of (Some y)) (sym (places_are h z m) ∙ ap (λ n. map (λ p. p.1) (pairs_of n)) e ∙ places_are h y l)
-      (sym (values_are h z m) ∙ ap (λ n. values (Some n)) f ∙ values_are h y l)
+      (sym (values_are h z m) ∙ ap (λ n. map (λ p. p.1) (pairs_of n)) f ∙ values_are h y l)
 
   abbrev node_or : {X : Type 0} → X → Option X → X
   node_or x None = x

@@ -20,7 +20,12 @@ pub fn fill<K, V: Copy, A: Handle>(root: &mut Option<Node<K, Held<V>, A>>, len: 
 }
 
 /// Writes `first` in the place of the first value and `last` in that of the last.
-pub fn write_ends<K, V: Drop, A: Handle>(root: &mut Option<Node<K, Held<V>, A>>, len: usize, first: V, last: V)
+pub fn write_ends<K, V: Drop, A: Handle>(
+    root: &mut Option<Node<K, Held<V>, A>>,
+    len: usize,
+    first: V,
+    last: V,
+)
     requires sound { IsSoundMap root.old }
     requires all { len ≡ length (entries root.old) }
     ensures { keys_and_shape root.new ≡ keys_and_shape root.old }
