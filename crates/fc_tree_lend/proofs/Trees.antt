@@ -1,5 +1,6 @@
 -- What is said of a tree of holes, and of one with other values.
 --     sound_back        a tree of holes is sound where what it stands for is
+--     same_shape_sound, same_shape_keys    a tree with the keys and the shape of a sound one is sound, and has its keys in order
 --     tree_with, shape_with      the tree of holes with other values in its places, and that what it stands for has the same keys and shape
 --     one_run, filled_entries    a tree of holes has one run;  the pairs that it stands for
 use Rattle.std.proofs.Common.{◌≡◌, ◌≤◌, ℕ, List, [], ◌∷◌, map, refl, sym, ap, ◌∙◌, subst, Option, Some, None}
@@ -17,10 +18,29 @@ module _ {K X Y Z : Type 0} (f : X → Y) where
   sound_back None s = tt
   sound_back (Some n) s = (s.0, s.1, (subst (λ k. 1 ≤ k) (own_long f n) s.2.0, levelled_back f s.0 n s.2.1))
 
+  sound_on : (y : Map K X Z) → IsSoundMap y → IsSoundMap (map_tree f y)
+  sound_on None s = tt
+  sound_on (Some n) s = (s.0, s.1, (subst (λ k. 1 ≤ k) (sym (own_long f n)) s.2.0, levelled_on f s.0 n s.2.1))
+
 module _ {K X Y : Type 0} (f : X → Y) where
   seconds : (ps : List (K × X)) → map (λ p. p.1) (map (on_value f) ps) ≡ map f (map (λ p. p.1) ps)
   seconds [] = refl
   seconds (p ∷ ps) = ap (λ l. f p.1 ∷ l) (seconds ps)
+
+  firsts : (ps : List (K × X)) → map (λ p. p.0) (map (on_value f) ps) ≡ map (λ p. p.0) ps
+  firsts [] = refl
+  firsts (p ∷ ps) = ap (λ l. p.0 ∷ l) (firsts ps)
+
+module _ {K V Z : Type 0} where
+  pub same_shape_sound : (t u : Map K V Z) → keys_and_shape u ≡ keys_and_shape t → IsSoundMap t → IsSoundMap u
+  same_shape_sound t u e s = sound_back (λ v. tt {0}) u (subst IsSoundMap (sym e) (sound_on (λ v. tt {0}) t s))
+
+  shape_keys : (t : Map K V Z) → IsSoundMap t → map (λ p. p.0) (entries (keys_and_shape t)) ≡ map (λ p. p.0) (entries t)
+  shape_keys None s = refl
+  shape_keys (Some n) s = ap (map (λ p. p.0)) (pairs_map (λ v. tt {0}) s.0 n s.2.1) ∙ firsts (λ v. tt {0}) (pairs_of n)
+
+  pub same_shape_keys : (t u : Map K V Z) → keys_and_shape u ≡ keys_and_shape t → IsSoundMap t → map (λ p. p.0) (entries u) ≡ map (λ p. p.0) (entries t)
+  same_shape_keys t u e s = sym (shape_keys u (same_shape_sound t u e s)) ∙ ap (λ x. map (λ p. p.0) (entries x)) e ∙ shape_keys t s
 
 module _ (K V Z : Type 0) where
   abbrev value_of : Ptr × V → V

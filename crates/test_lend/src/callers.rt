@@ -1,5 +1,5 @@
 //! Functions that write through a walk, and what a tree keeps then.
-ghost use Rattle.std.specs.Prelude.{◌≡◌, length};
+ghost use Rattle.std.specs.Prelude.{◌≡◌, length, map};
 ghost use Rattle.fc_tree_node.specs.Tree.{entries, IsSoundMap};
 ghost use Rattle.fc_tree_lend.specs.Holed.{keys_and_shape};
 
@@ -12,7 +12,9 @@ use fc_tree_node::node::Node;
 pub fn fill<K, V: Copy, A: Handle>(root: &mut Option<Node<K, Held<V>, A>>, len: usize, value: V)
     requires sound { IsSoundMap root.old }
     requires all { len ≡ length (entries root.old) }
-    ensures { keys_and_shape root.new ≡ keys_and_shape root.old }
+    ensures shape { keys_and_shape root.new ≡ keys_and_shape root.old }
+    ensures sound { IsSoundMap root.new }
+    ensures keys { map (λ p. p.0) (entries root.new) ≡ map (λ p. p.0) (entries root.old) }
 {
     for (_key, place) in IterMut::over(root, len) {
         *place = value;
