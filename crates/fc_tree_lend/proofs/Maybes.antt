@@ -121,7 +121,8 @@ module _ (W R S : RattleType) (τ : Ty) (F : Form W R.Denot S.Denot) {M : Type 1
         is = refl;
         again = none_again;
         lends = Lends-both 𝓛 (fsep (tag_part 0) ftrue) rest_none (beside (tag_seen 0) nothing) (one (λ q. fleft q (ty_enum [] variants) none_tys b o)) l
-            (Lends-both 𝓛 (tag_part 0) ftrue (tag_seen 0) nothing l (Lends-tag 0) (Lends-nothing 𝓛 ftrue l)) (Lends-rest 𝓛 (ty_enum [] variants) none_tys b o l);
+            (Lends-both 𝓛 (tag_part 0) ftrue (tag_seen 0) nothing l (Lends-tag 0) (Lends-nothing 𝓛 ftrue l))
+            (Lends-rest 𝓛 (ty_enum [] variants) none_tys b o l);
       })
   maybe_cuts lone (Some x) c = λ K G Γ t k. use1 𝓛 (‵ (parts_at full_share tagged 0 (1, (x, tt)) b o) ⊛ ‵ rest) (some_out lone x) $ split t $ fsplit t $
       move t (1 ∷ []) $ fsplit t $
