@@ -1,0 +1,4 @@
+//! Callers of a writing walk over a tree.
+#![tactic(auto)]
+
+pub mod callers;
