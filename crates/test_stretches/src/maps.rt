@@ -1,4 +1,6 @@
 //! Pairs of a range of a map: which were asked and in which order, what is left, and that the map takes pairs again.
+ghost use Rattle.std.specs.Prelude.{◌<◌};
+
 use crate::rules::{Rule, count_gone, count_within, goes, lies_within, rule_of};
 use fc_base::TryReserveError;
 use fc_map::map::BTreeMap;
@@ -119,13 +121,15 @@ fn is_right(alloc: Global, first: u64, last: u64, end: u64) -> Result<bool, TryR
     Ok(true)
 }
 
-// From each of the first numbers on, so many at a time.
+// From each of these numbers on, so many of them.
 fn is_right_all_along(
     alloc: Global,
     width: u64,
     step: usize,
     end: u64,
-) -> Result<bool, TryReserveError> {
+) -> Result<bool, TryReserveError>
+    requires { 0 < step }
+{
     for first in (0..end).step_by(step) {
         if !is_right(alloc, first, first.wrapping_add(width), end)? {
             return Ok(false);
