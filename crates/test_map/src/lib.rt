@@ -7,6 +7,8 @@ mod compare;
 #[cfg(test)]
 mod copies;
 #[cfg(test)]
+mod counted;
+#[cfg(test)]
 mod ends;
 #[cfg(test)]
 mod extend;
