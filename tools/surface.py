@@ -14,7 +14,7 @@ NOT_CALLED = {"fc_map/src/map/for_sets.rt"}  # what the set needs of the map, an
 
 
 class Call(typing.NamedTuple):
-    """A public function: what it is called at, its name, its first line, what it promises and the comment above it, line by line."""
+    """A public function: what it is called at, its name, its first line, what it promises and the comment above it, or above its impl of a trait, line by line."""
 
     owner: str
     name: str
@@ -24,8 +24,15 @@ class Call(typing.NamedTuple):
 
     @property
     def said(self):
-        """The first sentence said of it."""
-        return re.split(r"(?<=[.:;])\s", " ".join(self.comment), maxsplit=1)[0].rstrip(".:;")
+        """What is said of it, but for what upstream and std have in its place."""
+        text = " ".join(" ".join(self.comment).partition("# Errors")[0].split())
+        kept = [it for it in re.split(r"(?<=[.]) (?=[A-Z`]|std's)", text) if not re.match(r"Upstream: |Not in upstream\b|std's `[^`]*`\.$", it)]
+        return " ".join(kept).removesuffix(".")
+
+    @property
+    def errors(self):
+        """What is said of its errors."""
+        return " ".join(" ".join(self.comment).partition("# Errors")[2].split()).removesuffix(".")
 
 
 def whole_item(lines, at):
@@ -94,18 +101,19 @@ class Surface:
 
     def calls_in(self, path):
         """The public functions of a file, and in between the ghost members of its traits and impls, as pairs of an owner and a text."""
-        found, owner, is_open, at = [], "", False, 0
+        found, owner, is_open, said, at = [], "", False, [], 0
         lines = self.read(path)
         while at < len(lines):
             line = lines[at].strip()
             if header.match(line) and not lines[at].startswith(" "):
+                said = comment_above(lines, at)
                 owner, at = head_of(lines, at)
                 is_open = not owner.startswith("impl") or " for " in owner
             elif lines[at] == "}":
                 owner, is_open = "", False
             elif (it := function.match(line)) and (line.startswith("pub fn") or is_open and owner):
                 call, at = call_at(lines, at, owner, it[1])
-                found.append(call)
+                found.append(call if call.comment or " for " not in owner else call._replace(comment=said))
             elif is_open and owner and re.match(r"ghost (?!use\b)\w+\s*[=:]", line) and "impl Model" not in owner and " Model for " not in owner:
                 member, at = whole_item(lines, at)
                 found.append((owner, member))
