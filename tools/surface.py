@@ -126,10 +126,10 @@ class Surface:
         found, ahead, names = [], [*self.roots], set()
         there = {it.parent.parent.name for it in self.top.glob("crates/*/src/lib.rt")}
         while ahead:
-            for file in (self.top / f"crates/{ahead.pop()}/src").rglob("*.rt"):
+            for file in sorted((self.top / f"crates/{ahead.pop()}/src").rglob("*.rt")):
                 for path in re.findall(r"(?m)^pub use ([^;]+);", file.read_text()):
                     names |= {*re.findall(r"\w+", path.partition("{")[2] or path.rpartition("::")[2])}
-                    new = {path.partition("::")[0]} & there - {*found}
+                    new = [it for it in [path.partition("::")[0]] if it in there and it not in found]
                     found, ahead = [*found, *new], [*ahead, *new]
         return found, names
 
