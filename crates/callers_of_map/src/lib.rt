@@ -16,3 +16,4 @@ pub mod range;
 pub mod ready;
 pub mod refusals;
 pub mod room;
+pub mod stretches;

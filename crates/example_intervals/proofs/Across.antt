@@ -8,7 +8,7 @@ use Rattle.std.proofs.lemmas.Map.Keys.{le_from_is_le}
 use Rattle.std.proofs.lemmas.Map.Lookups.{exact_unsigned}
 use Rattle.fallible_collections.specs.Words.{above, at, below, first_item, last_item, not_above, value_at, IsAscending}
 use Rattle.fallible_collections.proofs.Laws.{exact_pair, first_there, first_passes, first_least, first_none}
-use Rattle.example_intervals.specs.Spans.{IsIn, AreApart, HasValue, IsAcross}
+use Rattle.example_intervals.specs.Spans.{IsIn, AreApart, AreApartBefore, HasValue, IsAcross}
 use Rattle.example_intervals.specs.declared.spans.Span.{Span}
 use Rattle.example_intervals.proofs.Passing.{IsLast, last_passing, none_passes, is_above, is_above_to, is_below, is_below_to, is_up_to, is_up_to_to}
 
@@ -17,19 +17,22 @@ module _ (spans : List (ℕ × Span)) (p : ℕ) where
       → IsAcross spans p (Some last)
   across_some last asc found e = let l = last_passing (λ k. is_lt (nat_cmp k p)) spans last asc found in (l.held, is_below last.0 p l.passes, e)
 
-  pub across_none : (last : ℕ × Span) → AreApart spans → IsAscending nat_cmp spans → Some last ≡ last_item (below nat_cmp spans p) → last.1.end ≤ p
+  pub apart_before : AreApart spans → AreApartBefore spans p
+  apart_before a = record { whole = λ s x h l. a.whole s x h; apart = λ s t x y h g l m. a.apart s t x y h g l }
+
+  pub across_none : (last : ℕ × Span) → AreApartBefore spans p → IsAscending nat_cmp spans → Some last ≡ last_item (below nat_cmp spans p) → last.1.end ≤ p
       → IsAcross spans p None
   across_none last a asc found e s x h b = let l = last_passing (λ k. is_lt (nat_cmp k p)) spans last asc found in
-      ended s x last p h l.held (l.greatest s x h (is_below_to s p b)) e
+      ended s x last h l.held (l.greatest s x h (is_below_to s p b)) (is_below last.0 p l.passes) e
     where
-      ended : (s : ℕ) (x : Span) (last : ℕ × Span) (p : ℕ) → IsIn spans s x → IsIn spans last.0 last.1 → s ≤ last.0 → last.1.end ≤ p → x.end ≤ p
-      ended s x last p h i b e = go (cases_order s last.0)
+      ended : (s : ℕ) (x : Span) (last : ℕ × Span) → IsIn spans s x → IsIn spans last.0 last.1 → s ≤ last.0 → last.0 < p → last.1.end ≤ p → x.end ≤ p
+      ended s x last h i b m e = go (cases_order s last.0)
         where
           go : (s ≡ last.0) ⊎ ((s < last.0) ⊎ (last.0 < s)) → x.end ≤ p
           go (inl q) =
               let g : Some x ≡ Some last.1 = sym h ∙ ap (λ n. value_at nat_cmp spans n) q ∙ i in
               let j : x ≡ last.1 = cc in subst (λ (z : Span). z.end ≤ p) (sym j) e
-          go (inr (inl q)) = let c = a.apart s last.0 x last.1 h i q in let d = a.whole last.0 last.1 i in omega arith
+          go (inr (inl q)) = let c = a.apart s last.0 x last.1 h i q m in let d = a.whole last.0 last.1 i m in omega arith
           go (inr (inr q)) = absurd (omega arith)
 
   pub across_empty : None ≡ last_item (below nat_cmp spans p) → IsAcross spans p None
@@ -70,32 +73,3 @@ module _ (spans : List (ℕ × Span)) (p : ℕ) where
   pub new_end : (o : Option (ℕ × Span)) → AreApart spans → IsAcross spans p o → IfSome o (λ _. at nat_cmp spans p ≡ None)
   new_end None a c = tt
   new_end (Some e) a c = new_start e a c
-
--- the first interval that starts behind one point, where it starts in front of another, and where it does not
-module _ (spans : List (ℕ × Span)) (lo : ℕ) where
-  there : (o : Option (ℕ × Span)) (e : ℕ × Span) → at nat_cmp spans e.0 ≡ o → o ≡ Some e → IsSome (at nat_cmp spans e.0)
-  there o e q h = rw (q, h) refl
-
-  pub some_between : (hi : ℕ) (first : ℕ × Span) → IsAscending nat_cmp spans → Some first ≡ first_item (above nat_cmp spans lo) → first.0 < hi
-      → (lo < first.0) × (first.0 < hi) × IsSome (at nat_cmp spans first.0)
-  some_between hi first a f l = (
-    is_above first.0 lo (first_passes nat_cmp (λ k. is_gt (nat_cmp k lo)) spans first (sym f)),
-    l,
-    there _ first refl (first_there nat_cmp (λ k. is_gt (nat_cmp k lo)) spans first nat_cmp_total a (sym f)),
-  )
-
-  nothing : (s : ℕ) → ((x : Span) → IsIn spans s x → ⊥) → (o : Option Span) → value_at nat_cmp spans s ≡ o → value_at nat_cmp spans s ≡ None
-  nothing s not None q = q
-  nothing s not (Some x) q = absurd (not x q)
-
-  pub none_behind : None ≡ first_item (above nat_cmp spans lo) → (s : ℕ) → lo < s → value_at nat_cmp spans s ≡ None
-  none_behind f s b = nothing s (λ x h. first_none nat_cmp (λ k. is_gt (nat_cmp k lo)) spans s (s, x) (sym f) (exact_pair nat_cmp spans s x exact_unsigned h)
-      (is_above_to s lo b)) _ refl
-
-  pub none_ahead : (first : ℕ × Span) → IsAscending nat_cmp spans → Some first ≡ first_item (above nat_cmp spans lo) → (s : ℕ) → lo < s → s < first.0
-      → value_at nat_cmp spans s ≡ None
-  none_ahead first a f s b l =
-      let least = λ (x : Span) (h : IsIn spans s x). le_from_is_le first.0 s
-      (first_least nat_cmp (λ k. is_gt (nat_cmp k lo)) spans first s (s, x) nat_cmp_total a (sym f) (exact_pair nat_cmp spans s x exact_unsigned h)
-      (is_above_to s lo b)) in
-      nothing s (λ x h. let m = least x h in absurd (omega arith)) _ refl

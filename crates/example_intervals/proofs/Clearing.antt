@@ -1,23 +1,60 @@
--- What starts between two points is taken out, one after another.
-use Rattle.std.proofs.Common.{◌≡◌, ◌∙◌, ℕ, ◌≤◌, ◌<◌, ◌⊎◌, inl, inr, List, length, arith}
-use Rattle.std.specs.Prelude.{IsSome}
-use Rattle.std.specs.Ordering.{nat_cmp}
-use Rattle.std.proofs.lemmas.Cmp.{nat_cmp_total}
+-- What starts between two points is taken out.
+use Rattle.std.proofs.Common.{◌≡◌, ◌∙◌, ℕ, ◌<◌, ◌≤◌, ◌⊎◌, inl, inr, Bool, true, false, List, [], ◌∷◌, Option, None, Some, refl, sym, ap, arith}
+use Rattle.std.specs.Prelude.{cond, not, filter, ◌&&◌}
+use Rattle.std.specs.Ordering.{nat_cmp, is_eq, is_gt, is_lt}
+use Rattle.std.specs.declared.cmp.Ordering.{Ordering}
+use Rattle.std.specs.declared.cmp.Ordering.TheVariants.{Less, Equal, Greater}
+use Rattle.std.proofs.lemmas.Cmp.{ranked, by_ranked}
 use Rattle.std.proofs.lemmas.Map.Lookups.{exact_unsigned}
-use Rattle.fallible_collections.specs.Words.{at, cut, value_at, IsAscending}
-use Rattle.fallible_collections.proofs.Laws.{value_at_cut_other, length_cut_there}
+use Rattle.fallible_collections.specs.Words.{value_at}
 use Rattle.example_intervals.specs.declared.spans.Span.{Span}
 
--- What starts at neither point or between them is as it was.
-abbrev pub IsKept : List (ℕ × Span) → List (ℕ × Span) → ℕ → ℕ → Type 0
-IsKept old new lo hi = (s : ℕ) → (s ≤ lo) ⊎ (hi ≤ s) → value_at nat_cmp new s ≡ value_at nat_cmp old s
+equal : (o : Ordering) → is_eq o ≡ true → o ≡ Equal
+equal Less h = absurd cc
+equal Equal h = refl
+equal Greater h = absurd cc
 
-pub kept_cut : (old new : List (ℕ × Span)) (lo hi k : ℕ) → lo < k → k < hi → IsKept old new lo hi → IsKept old (cut nat_cmp new k) lo hi
-kept_cut old new lo hi k a b i s o = value_at_cut_other nat_cmp new k s nat_cmp_total (λ e. other o (exact_unsigned s k e)) ∙ i s o
-  where
-    other : (s ≤ lo) ⊎ (hi ≤ s) → s ≡ k → ⊥
-    other (inl l) e = omega arith
-    other (inr l) e = omega arith
+module _ (t : ℕ → Bool) (s : ℕ) where
+  abbrev Filtered : List (ℕ × Span) → Type 0
+  Filtered xs = value_at nat_cmp (filter (λ e. t e.0) xs) s ≡ cond (t s) (value_at nat_cmp xs s) None
 
-pub shorter : (s : List (ℕ × Span)) (k : ℕ) → IsAscending nat_cmp s → IsSome (at nat_cmp s k) → length (cut nat_cmp s k) < length s
-shorter s k a h = let e = length_cut_there nat_cmp s k nat_cmp_total a h in omega arith
+  one : (e : ℕ × Span) (xs : List (ℕ × Span)) (a b c : Bool) → is_eq (nat_cmp e.0 s) ≡ a → t e.0 ≡ b → t s ≡ c → Filtered xs → Filtered (e ∷ xs)
+  one e xs true b c p q r i =
+      let same : t e.0 ≡ t s = ap t (exact_unsigned e.0 s (equal (nat_cmp e.0 s) p)) in
+      there b c q r (sym q ∙ same ∙ r)
+    where
+      there : (b c : Bool) → t e.0 ≡ b → t s ≡ c → b ≡ c → Filtered (e ∷ xs)
+      there true true q r h = rw (q, r, p) refl
+      there true false q r h = absurd cc
+      there false true q r h = absurd cc
+      there false false q r h = rw (q, r) (rw r at i)
+  one e xs false true c p q r i = rw (q, p) i
+  one e xs false false c p q r i = rw (q, p) i
+
+  -- A look-up in what a test of keys leaves.
+  pub value_at_filtered : (xs : List (ℕ × Span)) → Filtered xs
+  value_at_filtered [] = go (t s)
+    where
+      go : (b : Bool) → ◌≡◌ {A = Option Span} None (cond b None None)
+      go true = refl
+      go false = refl
+  value_at_filtered (e ∷ xs) = one e xs (is_eq (nat_cmp e.0 s)) (t e.0) (t s) refl refl refl (value_at_filtered xs)
+
+-- whether a point lies between two others
+module _ (lo hi : ℕ) where
+  abbrev pub spared : ℕ → Bool
+  spared k = not (is_gt (nat_cmp k lo) && is_lt (nat_cmp k hi))
+
+  pub between : (s : ℕ) → lo < s → s < hi → spared s ≡ false
+  between s l h = by_ranked (s < lo) (s ≡ lo) (lo < s) (nat_cmp s lo) (ranked s lo (nat_cmp s lo) refl) (λ e p. absurd (omega arith)) (λ e p. absurd (omega arith))
+      (λ e p. by_ranked (s < hi) (s ≡ hi) (hi < s) (nat_cmp s hi) (ranked s hi (nat_cmp s hi) refl) (λ f q. rw (e, f) refl) (λ f q. absurd (omega arith))
+          (λ f q. absurd (omega arith)))
+
+  pub elsewhere : (s : ℕ) → (s ≤ lo) ⊎ (hi ≤ s) → spared s ≡ true
+  elsewhere s o = by_ranked (s < lo) (s ≡ lo) (lo < s) (nat_cmp s lo) (ranked s lo (nat_cmp s lo) refl) (λ e p. rw e refl) (λ e p. rw e refl)
+      (λ e p. by_ranked (s < hi) (s ≡ hi) (hi < s) (nat_cmp s hi) (ranked s hi (nat_cmp s hi) refl) (λ f q. absurd (no o p q)) (λ f q. rw (e, f) refl)
+          (λ f q. rw (e, f) refl))
+    where
+      no : (s ≤ lo) ⊎ (hi ≤ s) → lo < s → s < hi → ⊥
+      no (inl a) p q = omega arith
+      no (inr a) p q = omega arith

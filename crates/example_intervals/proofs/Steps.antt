@@ -1,7 +1,6 @@
 -- The steps of an insertion: what goes on behind the new interval is put in, the new interval, and what goes on in front of it is
 -- ended there; then what starts within it is taken out.
 use Rattle.std.proofs.Common.{◌≡◌, ◌∙◌, ℕ, ◌≤◌, ◌<◌, ◌⊎◌, ◌≢◌, inl, inr, List, Option, Some, None, refl, sym, ap, subst, arith, min}
-use Rattle.std.specs.Prelude.{IfSome}
 use Rattle.std.specs.Ordering.{nat_cmp}
 use Rattle.std.proofs.lemmas.Bool.{cases_order, cases_lt}
 use Rattle.std.proofs.lemmas.Cmp.{nat_cmp_total}
@@ -9,7 +8,7 @@ use Rattle.std.proofs.lemmas.Map.Lookups.{exact_unsigned}
 use Rattle.fallible_collections.specs.Words.{put}
 use Rattle.fallible_collections.specs.Words.{value_at}
 use Rattle.fallible_collections.proofs.Laws.{value_at_put, value_at_put_other}
-use Rattle.example_intervals.specs.Spans.{IsIn, AreApart, IsAcross, IsCleared, with_back, with_front}
+use Rattle.example_intervals.specs.Spans.{IsIn, AreApart, AreApartBefore, IsAcross, IsCleared, with_back, with_front}
 use Rattle.example_intervals.specs.declared.spans.Span.{Span}
 use Rattle.example_intervals.proofs.Cut.{IsPiece, IsFront, IsBack}
 
@@ -33,9 +32,19 @@ module _ (old : List (ℕ × Span)) (lo hi v : ℕ) (some : lo < hi) (apart : Ar
   at_second : (back : Option (ℕ × Span)) (s : ℕ) → s ≢ lo → s ≢ hi → value_at nat_cmp (second back) s ≡ value_at nat_cmp old s
   at_second back s n m = put_other (with_back old hi back) lo (record { end = hi; value = v }) s n ∙ other_back back s m
 
-  pub front_held : (back o : Option (ℕ × Span)) → IsAcross old lo o → IfSome o (λ e. value_at nat_cmp (second back) e.0 ≡ Some e.1)
-  front_held back None a = tt
-  front_held back (Some e) a = let b = a.1 in at_second back e.0 (λ q. absurd (omega arith)) (λ q. absurd (omega arith)) ∙ a.0
+  before_lo : (back : Option (ℕ × Span)) (s : ℕ) → s < lo → value_at nat_cmp (second back) s ≡ value_at nat_cmp old s
+  before_lo back s l = at_second back s (λ q. absurd (omega arith)) (λ q. absurd (omega arith))
+
+  -- what starts in front of the new interval is what did
+  pub second_apart : (back : Option (ℕ × Span)) → AreApartBefore (second back) lo
+  second_apart back = record {
+    whole = λ s x h l. apart.whole s x (sym (before_lo back s l) ∙ h);
+    apart = λ s t x y h g l m. apart.apart s t x y (sym (before_lo back s (omega arith)) ∙ h) (sym (before_lo back t m) ∙ g) l;
+  }
+
+  pub across_second : (back o : Option (ℕ × Span)) → IsAcross (second back) lo o → IsAcross old lo o
+  across_second back None a = λ s x h l. a s x (before_lo back s l ∙ h) l
+  across_second back (Some e) a = (sym (before_lo back e.0 a.1) ∙ a.0, a.1, a.2)
 
   other_front : (m : List (ℕ × Span)) (o : Option (ℕ × Span)) → IsAcross old lo o → (s : ℕ) → lo ≤ s
       → value_at nat_cmp (with_front m lo o) s ≡ value_at nat_cmp m s

@@ -13,6 +13,11 @@ pub record AreApart (spans : List (ℕ × Span)) : Type 0 where
   pub whole : (s : ℕ) (x : Span) → IsIn spans s x → s < x.end
   pub apart : (s t : ℕ) (x y : Span) → IsIn spans s x → IsIn spans t y → s < t → x.end ≤ t
 
+-- The same of those that start before a point.
+pub record AreApartBefore (spans : List (ℕ × Span)) (p : ℕ) : Type 0 where
+  pub whole : (s : ℕ) (x : Span) → IsIn spans s x → s < p → s < x.end
+  pub apart : (s t : ℕ) (x y : Span) → IsIn spans s x → IsIn spans t y → s < t → t < p → x.end ≤ t
+
 -- The point p lies in an interval of the value v.
 pub record HasValue (spans : List (ℕ × Span)) (p v : ℕ) : Type 0 where
   pub start : ℕ
@@ -36,6 +41,12 @@ with_back spans hi (Some e) = put nat_cmp spans hi e.1
 abbrev pub with_front : List (ℕ × Span) → ℕ → Option (ℕ × Span) → List (ℕ × Span)
 with_front spans lo None = spans
 with_front spans lo (Some e) = put nat_cmp spans e.0 (record { end = lo; value = e.1.value })
+
+-- The interval that starts before a point and goes on behind it, if there is one, ends there, and all else is as it was.
+pub record IsEnded (old new : List (ℕ × Span)) (p : ℕ) : Type 0 where
+  pub front : Option (ℕ × Span)
+  pub is_front : IsAcross old p front
+  pub ends : (s : ℕ) → value_at nat_cmp new s ≡ value_at nat_cmp (with_front old p front) s
 
 -- What is left once all that starts between two points was taken out.
 pub record IsCleared (old new : List (ℕ × Span)) (lo hi : ℕ) : Type 0 where

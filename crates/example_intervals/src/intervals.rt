@@ -44,10 +44,9 @@ impl Intervals {
         ensures outside { OnOk result ((p : ℕ) → (p < start) ⊎ (end ≤ p) → (v : ℕ) → HasValue (entries self.new.spans) p v ↔ HasValue (entries self.old.spans) p v) }
         ensures unchanged { OnErr result (entries self.new.spans ≡ entries self.old.spans) }
     {
-        let front = spans::across(&self.spans, start);
         let back = spans::across(&self.spans, end);
         spans::add(&mut self.spans, start, Span { end, value }, back)?;
-        spans::end_at(&mut self.spans, front, start);
+        spans::end_at(&mut self.spans, start);
         spans::clear_between(&mut self.spans, start, end);
         Ok(())
     }

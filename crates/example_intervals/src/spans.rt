@@ -1,11 +1,12 @@
 //! Half-open intervals by their starts, as a map holds them: the steps of an insertion.
-ghost use Rattle.std.specs.Prelude.{◌≡◌, ℕ, ◌<◌, None, IfSome, IfNone, OnOk, OnErr, IsSome};
+ghost use Rattle.std.specs.Prelude.{◌≡◌, ℕ, None, IfSome, IfNone, OnOk, OnErr};
 ghost use Rattle.std.specs.Ordering.{nat_cmp};
-ghost use Rattle.fallible_collections.specs.Words.{entries, put, at, value_at, IsAscending};
-ghost use Rattle.example_intervals.specs.Spans.{AreApart, HasValue, IsAcross, IsCleared, with_back, with_front};
+ghost use Rattle.fallible_collections.specs.Words.{entries, put, at, IsAscending};
+ghost use Rattle.example_intervals.specs.Spans.{AreApart, AreApartBefore, HasValue, IsAcross, IsCleared, IsEnded, with_back};
 
 use fallible_collections::TryReserveError;
 use fallible_collections::btree::BTreeMap;
+use std::ops::Bound;
 
 /// What an interval has beside its start.
 #[derive(Clone, Copy)]
@@ -71,16 +72,15 @@ pub fn add(
     }
 }
 
-/// Has an interval that goes on behind a point end there.
-pub fn end_at(spans: &mut BTreeMap<u64, Span>, front: Option<(u64, Span)>, point: u64)
-    requires { IfSome front (λ e. value_at nat_cmp (entries spans.old) e.0 ≡ Some e.1) }
-    ensures { entries spans.new ≡ with_front (entries spans.old) point front }
+/// Has the interval that starts before a point and goes on behind it, if there is one, end there.
+pub fn end_at(spans: &mut BTreeMap<u64, Span>, point: u64)
+    requires { AreApartBefore (entries spans.old) point }
+    ensures { IsEnded (entries spans.old) (entries spans.new) point }
 {
-    let Some((start, _)) = front else {
-        return;
-    };
-    if let Some(span) = spans.get_mut(&start) {
-        span.end = point;
+    if let Some(mut entry) = spans.last_entry_before(&point) {
+        if point < entry.get().end {
+            entry.get_mut().end = point;
+        }
     }
 }
 
@@ -88,17 +88,5 @@ pub fn end_at(spans: &mut BTreeMap<u64, Span>, front: Option<(u64, Span)>, point
 pub fn clear_between(spans: &mut BTreeMap<u64, Span>, lo: u64, hi: u64)
     ensures { IsCleared (entries spans.old) (entries spans.new) lo hi }
 {
-    while let Some(start) = first_between(spans, lo, hi) {
-        spans.remove(&start);
-    }
-}
-
-// The first start between two points, if there is one.
-fn first_between(spans: &BTreeMap<u64, Span>, lo: u64, hi: u64) -> Option<u64>
-    ensures ascending { IsAscending nat_cmp (entries spans.now) }
-    ensures some { IfSome result (λ s. (lo < s) × (s < hi) × IsSome (at nat_cmp (entries spans.now) s)) }
-    ensures none { IfNone result ((s : ℕ) → lo < s → s < hi → value_at nat_cmp (entries spans.now) s ≡ None) }
-{
-    let (start, _) = spans.first_after(&lo)?;
-    if *start < hi { Some(*start) } else { None }
+    spans.remove_range((Bound::Excluded(&lo), Bound::Excluded(&hi)));
 }

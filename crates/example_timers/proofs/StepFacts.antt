@@ -27,10 +27,6 @@ both Less b h = absurd cc
 both Equal b h = (refl, h)
 both Greater b h = absurd cc
 
-not_after : (d x : ℕ) (o : Ordering) → ordering_then (nat_cmp d x) o ≡ Less → d ≤ x
-not_after d x o h = by_ranked (d < x) (d ≡ x) (x < d) (nat_cmp d x) (ranked d x (nat_cmp d x) refl) (λ e p. omega arith) (λ e p. omega arith)
-    (λ e p. let no = rw e at h in absurd cc)
-
 -- timers of two ids, and of two times, are apart
 apart_ids : (d i due id : ℕ) → ¬ (nat_cmp i id ≡ Equal) → ¬ (timer_cmp (d, i) (due, id) ≡ Equal)
 apart_ids d i due id h e = h (both (nat_cmp d due) (nat_cmp i id) e).1
@@ -135,20 +131,3 @@ absent (Some x) b h n = absurd (let no : IsTrue false = subst IsTrue n (h.1 refl
 pub rolled_back : (times : List (ℕ × ℕ)) (id due : ℕ) → IsAscending nat_cmp times → at nat_cmp times id ≡ None
     → cut nat_cmp (put nat_cmp times id due) id ≡ times
 rolled_back times id due a h = cut_put_new nat_cmp times id due nat_cmp_total a h
-
--- what is known of the first timer holds of those behind it
-later_due : (x : ℕ × ℕ) (s : List (ℕ × ℕ)) → AllByRecursion (λ y. timer_cmp x y ≡ Less) s → AllByRecursion (λ y. x.0 ≤ y.0) s
-later_due x [] a = tt
-later_due x (y ∷ s) a = (not_after x.0 y.0 _ a.0, later_due x s a.1)
-
-later_than : (now : ℕ) (x : ℕ × ℕ) (s : List (ℕ × ℕ)) → now < x.0 → AllByRecursion (λ y. x.0 ≤ y.0) s → AllByRecursion (λ y. now < y.0) s
-later_than now x [] l a = tt
-later_than now x (y ∷ s) l a = ((let m : x.0 ≤ y.0 = a.0 in omega arith), later_than now x s l a.1)
-
--- Where the first timer is not due, none is.
-pub none_due : (now : ℕ) (q : List (ℕ × ℕ)) (x : ℕ × ℕ) → Some x ≡ slice_get q 0 → AreAscending timer_cmp q → now < x.0 → All (λ y. now < y.0) q
-none_due now [] x e a l = absurd cc
-none_due now (y ∷ q) x e a l =
-    let same : x ≡ y = cc in
-    let m : now < y.0 = subst (λ z. now < z.0) same l in
-    All-from_recursion _ (y ∷ q) (m, later_than now y q m (later_due y q a.0))

@@ -2,6 +2,7 @@
 #![tactic(auto)]
 
 mod commands;
+mod time;
 mod timers;
 
 use bounded_lines::{Line, Pieces};
@@ -40,7 +41,7 @@ fn answer(rt: &impl Print, timers: &mut Timers, line: &Line<LONGEST>) -> io::Res
             Some(due) => println!(rt; "cancelled, was due at {due}"),
             None => println!(rt; "error: there is no timer {id}"),
         },
-        Some(Command::Due(now)) => pop_all(rt, timers, now),
+        Some(Command::Due(now)) => expire(rt, timers, now),
         Some(Command::List) => list(rt, timers),
         None => println!(rt; "error: not a command"),
     }
@@ -56,13 +57,12 @@ fn add(rt: &impl Print, timers: &mut Timers, id: u64, due: u64) -> io::Result<()
     }
 }
 
-// Takes out the timers that are due, one by one, and shows each.
-fn pop_all(rt: &impl Print, timers: &mut Timers, now: u64) -> io::Result<()> {
-    let mut count: u64 = 0;
-    while let Some((due, id)) = timers.pop_due(now) {
+// Shows the timers that are due, and takes them out.
+fn expire(rt: &impl Print, timers: &mut Timers, now: u64) -> io::Result<()> {
+    for (due, id) in timers.due(now) {
         println!(rt; "{id} was due at {due}")?;
-        count = count.saturating_add(1);
     }
+    let count = timers.expire(now);
     println!(rt; "{count} due")
 }
 

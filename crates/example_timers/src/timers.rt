@@ -1,14 +1,17 @@
 //! A queue of timers, each due at a time and known by an id.
-ghost use Rattle.std.specs.Prelude.{◌≡◌, ◌<◌, ◌≤◌, [], ◌∷◌, All, IfSome, IfNone, IfErr, OnOk, OnErr, MatchOption};
+ghost use Rattle.std.specs.Prelude.{◌≡◌, [], length, IfErr, OnOk, OnErr, MatchOption};
+ghost use Rattle.std.specs.declared.ops.Bound.TheVariants.{Included, Unbounded};
 ghost use Rattle.fallible_collections.specs.Words.{with_item, without};
-ghost use Rattle.example_timers.specs.Due.{timer_cmp, IsSet, IsFree};
+ghost use Rattle.example_timers.specs.Due.{timer_cmp, due_after, due_by, IsSet, IsFree};
 ghost use Rattle.example_timers.specs.Refusal.{GivesBack};
 
+use crate::time::Time;
 use fallible_collections::TryReserveError;
-use fallible_collections::btree::set::Iter;
+use fallible_collections::btree::set::{Iter, Range};
 use fallible_collections::btree::{BTreeMap, BTreeSet};
 use std::alloc::Global;
 use std::marker::Model;
+use std::ops::Bound;
 
 /// When a timer is due, and its id.
 pub type Timer = (u64, u64);
@@ -98,20 +101,29 @@ impl Timers {
         Some(due)
     }
 
-    /// Takes out the first timer, if it is due by now, and answers it. `None` where none is due. It takes no memory.
-    pub fn pop_due(&mut self, now: u64) -> Option<Timer>
-        ensures first { IfSome result (λ t. self.old ≡ t ∷ self.new) }
-        ensures due { IfSome result (λ t. t.0 ≤ now) }
-        ensures least { IfSome result (λ t. All (λ later. t.0 ≤ later.0) self.new) }
-        ensures none { IfNone result (All (λ t. now < t.0) self.old) }
-        ensures unchanged { IfNone result (self.new ≡ self.old) }
+    /// A walk over the timers that are due by now, the one that is due first ahead.
+    pub fn due(&self, now: u64) -> Range<'_, Timer>
+        ensures { result ≡ due_by now self.now }
     {
-        let (due, _) = *self.queue.first()?;
-        if now < due {
-            return None;
-        }
-        let timer = self.queue.pop_first()?;
-        self.times.remove(&timer.1);
-        Some(timer)
+        self.queue.range(up_to(now))
     }
+
+    /// Takes out the timers that are due by now, and answers how many these were. It takes no memory, and costs as much as there are
+    /// such timers, however many are due later.
+    pub fn expire(&mut self, now: u64) -> usize
+        ensures later { self.new ≡ due_after now self.old }
+        ensures count { result ≡ length (due_by now self.old) }
+    {
+        for (_, id) in self.queue.range(up_to(now)) {
+            self.times.remove(id);
+        }
+        self.queue.remove_range(up_to(now))
+    }
+}
+
+// All times up to this one.
+fn up_to(now: u64) -> (Bound<Time>, Bound<Time>)
+    ensures { (result.0 ≡ Unbounded) × (result.1 ≡ Included (record { now = now })) }
+{
+    (Bound::Unbounded, Bound::Included(Time { now }))
 }

@@ -12,6 +12,42 @@ fn sets_cross_threads(rt: HostRuntime) {
     assert!(rt; crosses::<Set>() && crosses::<&Set>() && crosses::<&mut Set>());
 }
 
+// One walk a function, since the search for a proof of several in one gives up.
+fn items_cross() -> bool {
+    crosses::<Iter<'static, u64>>()
+}
+
+fn ranges_cross() -> bool {
+    crosses::<Range<'static, u64>>()
+}
+
+fn owned_items_cross() -> bool {
+    crosses::<IntoIter<u64>>()
+}
+
+fn unions_cross() -> bool {
+    crosses::<Union<'static, u64>>()
+}
+
+fn symmetric_differences_cross() -> bool {
+    crosses::<SymmetricDifference<'static, u64>>()
+}
+
+fn intersections_cross() -> bool {
+    crosses::<Intersection<'static, u64>>()
+}
+
+fn differences_cross() -> bool {
+    crosses::<Difference<'static, u64>>()
+}
+
+#[test]
+fn walks_of_sets_cross_threads(rt: HostRuntime) {
+    assert!(rt; items_cross() && ranges_cross() && owned_items_cross());
+    assert!(rt; unions_cross() && symmetric_differences_cross());
+    assert!(rt; intersections_cross() && differences_cross());
+}
+
 #[test]
 fn sets_print_and_compare(rt: HostRuntime) {
     assert!(rt; prints::<Set>() && compares::<Set>());
