@@ -23,6 +23,11 @@ def answer(sign):
     return re.split(r"\n\s*where\b|\bwhere\n", sign)[0].rpartition("->")[2]
 
 
+def in_lines(text):
+    """Code whose lines are broken where they are too long, and go on further in."""
+    return "".join(f'<span class="line">{it}\n</span>' for it in text.split("\n"))
+
+
 class Calls:
     """Writes calls with their signatures, texts, marks and contracts."""
 
@@ -34,7 +39,8 @@ class Calls:
 
     def start(self, public=None):
         """Begins a page, whose addresses are all new."""
-        self.ids, self.page_calls = set(), {}
+        self.ids, self.page_calls, self.side = set(), {}, []
+        self.page = public.page if public else ""
         if public:
             for it, _, _ in self.inherent(public):
                 self.page_calls.setdefault(it.name, it.name)
@@ -109,7 +115,8 @@ class Calls:
         errors = self.errors(call, owner)
         if not errors:
             return '<span class="mark never">never refused</span>'
-        return f'<span class="mark may">may be refused: {", ".join(errors)}</span>'
+        said = "takes memory" if self.site.promise(call, owner) else "may be refused"
+        return f'<span class="mark may">{said}: {", ".join(errors)}</span>'
 
     # Calls.
 
@@ -117,7 +124,7 @@ class Calls:
         """The clauses of a call behind a fold."""
         if not call.clauses:
             return ""
-        clauses = "\n".join(self.linker.clause(it, owner, call, module) for it in call.clauses)
+        clauses = in_lines("\n".join(self.linker.clause(it, owner, call, module) for it in call.clauses))
         count = len(call.clauses)
         return f'<details class="contract"><summary>Contract of <code>{call.name}</code>, {count} clause{"s" * (count > 1)}</summary><pre tabindex="0" class="clauses"><code>{clauses}</code></pre></details>'
 
@@ -131,19 +138,30 @@ class Calls:
         when = ""
         if errors and not refused and not of_std:
             refused = self.site.when_refused(call, owner)
+            self.site.lacking += [f"nothing says when {call.name} of {self.page or module.path} is refused"] * (not refused and "efused" not in " ".join(call.doc))
+        if refused and not errors:
+            said, refused = [*said, "", "**Errors.** " + " ".join(refused).strip()], []
         if refused:
-            when = f'<div class="when"><p class="title">When it is refused, by <code>{", ".join(errors) or "its error"}</code></p>{self.prose(refused)}</div>'
+            when = f'<div class="when"><p class="title">When it is refused, by <code>{", ".join(errors)}</code></p>{self.prose(refused)}</div>'
+        if of_std and not call.doc:
+            said = self.as_trait(call, owner, module)
         sign = f'<pre tabindex="0" class="sign"><code>{self.sign(call.text, module)}</code></pre>'
         return f'<section class="call">{head}{bounds}{sign}{self.prose(said)}{when}{self.contract(call, owner, module, anchor)}</section>'
 
+    def as_trait(self, call, owner, module):
+        """What is said of a call that a trait of the library has: where it is told there."""
+        trait = surfaces.head_of(surfaces.parts_of_impl(owner.text)[0])
+        public = self.surface.public.get(id(self.surface.named(module, trait)[0]))
+        return [f"As [`{public.name}::{call.name}`]({public.page}#{call.name}) says."] if public else []
+
     def summary(self, calls):
-        """The table of calls: each by its name and what its first sentence says."""
+        """The list of calls: each by its name and what its first sentence says."""
         rows = []
         for it, owner, _ in calls:
-            mark = '<span class="dot may" title="may be refused">may be refused</span>' if self.errors(it, owner) else ""
+            mark = ' <span class="dot">may be refused</span>' if self.errors(it, owner) else ""
             said = markdown.Page().inline(first_sentence(it.doc))
-            rows.append(f'<tr><td><a href="#{self.page_calls.get(it.name, it.name)}"><code>{it.name}</code></a></td><td>{said}{mark}</td></tr>')
-        return f'<div class="wide" tabindex="0"><table class="calls"><thead><tr><th scope="col">Call</th><th scope="col">What it does</th></tr></thead><tbody>{"".join(rows)}</tbody></table></div>'
+            rows.append(f'<dt><a href="#{self.page_calls.get(it.name, it.name)}"><code>{it.name}</code></a></dt><dd>{said}{mark}</dd>')
+        return f'<dl class="brief">{"".join(rows)}</dl>'
 
     def calls_of(self, public):
         """The calls of a type or a trait, under the headings that the page of its crate groups files by."""
@@ -176,7 +194,7 @@ class Calls:
         made = []
         for it in owner.of_kind("ghost"):
             said = self.prose(it.remarks) if it.remarks else ""
-            code = f'<pre tabindex="0" class="clauses"><code>{self.linker.clause(it.text.rstrip(";"), owner, None, module)}</code></pre>'
+            code = f'<pre tabindex="0" class="clauses"><code>{in_lines(self.linker.clause(it.text.rstrip(";"), owner, None, module))}</code></pre>'
             anchor = f' id="{self.anchor("ghost." + it.name)}"' if with_anchors else ""
             made.append(f'<div class="ghost"{anchor}>{said}{code}</div>')
         return "".join(made)
@@ -186,6 +204,9 @@ class Calls:
         trait, of = surfaces.parts_of_impl(impl.text)
         name = re.sub(r"\W+", "-", f"impl-{of if of_trait else trait}").strip("-")
         anchor = self.anchor(name)
+        self.side.append((of if of_trait else trait, anchor))
+        if not of_trait:
+            self.site.names += [(it.name, f"{surfaces.head_of(of)} as {surfaces.head_of(trait)}", f"{self.page}#{anchor}.{it.name}", "call") for it in impl.of_kind("fn")]
         calls = "".join(self.call(it, impl, module, 3, f"{anchor}.", of_std=True) for it in impl.of_kind("fn"))
         types = "".join(f'<pre class="sign" tabindex="0"><code>{self.sign(it.text, module)}</code></pre>' for it in impl.of_kind("type"))
         mark = "" if not any(self.errors(it, impl) for it in impl.of_kind("fn")) else ' <span class="mark may">may be refused</span>'
@@ -199,10 +220,14 @@ class Calls:
         of_trait = public.item.kind == "trait"
         pairs = [(it, module) for it, module in public.impls if surfaces.parts_of_impl(it.text)[0] and surfaces.parts_of_impl(it.text)[0] != "Model"]
         derived = re.findall(r"\w+", " ".join(re.findall(r"derive\(([^)]*)\)", public.item.attributes)))
-        if not pairs and not derived:
+        crosses = self.surface.crossing.get(id(public.item), "")
+        if not pairs and not derived and not crosses:
             return ""
         title = "Types that have it" if of_trait else "Traits"
         made = [f'<h2 id="{self.anchor("traits")}">{title}</h2>']
+        self.side = []
         if derived:
             made.append(f'<p>Derived: {", ".join(f"<code>{it}</code>" for it in derived)}.</p>')
+        if crosses:
+            made.append(f"<p>{crosses}, where what it holds is: a test asks it of numbers.</p>")
         return "".join(made) + "".join(self.impl(it, module, of_trait) for it, module in pairs)

@@ -33,11 +33,16 @@ def named_fields(text):
     return {*re.findall(rf"[{{;]\s*({NAME}) =", text)}
 
 
-def parameters_of(sign):
-    """The parameters that a signature, or the head of an impl, has in angle brackets or of its function: names of types, and of values."""
-    types = {*re.findall(r"[<,(]\s*(?:const )?([A-Z]\w*)\s*(?=[:,>=])", sign)}
-    values = {*re.findall(r"[(,]\s*(?:mut )?([a-z_]\w*):(?!:)", sign)}
-    return types, values
+def parameters_of(head, sign):
+    """The names of the types that an impl or a trait and a function take in angle brackets, and of the function's own parameters."""
+    types = set()
+    for text, ahead in ((head, r"(?:unsafe )?impl|pub trait \w+|trait \w+"), (sign, r".*?\bfn \w+")):
+        found = re.match(rf"(?:{ahead})(?=<)", text)
+        if found:
+            rest = text[found.end() :]
+            inside = rest[1 : len(rest) - len(surfaces.past_brackets(rest))]
+            types |= {*re.findall(r"(?:^|, )(?:const )?([A-Z]\w*)(?=[:,>= ]|$)", surfaces.outermost(inside))}
+    return types, {*re.findall(r"[(,]\s*(?:mut )?([a-z_]\w*):(?!:)", sign)}
 
 
 class Linker:
@@ -56,8 +61,7 @@ class Linker:
 
     def clause(self, text, owner, call, module):
         """A clause of a call, or a ghost member, in an impl or a trait."""
-        sign = f"{owner.text if owner else ''} {call.text if call else ''}"
-        types, values = parameters_of(sign)
+        types, values = parameters_of(owner.text if owner else "", call.text if call else "")
         there = dict(self.imports(module))
         if owner:
             there |= imports("\n".join(it.text for it in owner.members if it.kind == "ghost use"))

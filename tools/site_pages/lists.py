@@ -3,8 +3,9 @@ import html
 import itertools
 import re
 
-from . import markdown, surface as surfaces, words
-from .pages import MAIN, escape, short
+from . import markdown, words
+from .calls import in_lines
+from .pages import escape, short
 
 HOW = """A contract stands behind a call's fold: what its caller has to show, and what holds after it. Each word there leads to its definition. So reads
 `ensures old { IfOk result (λ old. old ≡ value_at K.cmp (entries self.old) key) }`, a clause of the map's `try_insert`: where the answer is `Ok`, it is the value
@@ -14,12 +15,13 @@ that stood at the key in the map's list of pairs, as it was before the call."""
 def first_page(site):
     """What the library is, where to start, and its types by module."""
     readme = (site.top / "README.md").read_text()
-    lead, page = site.lead_from("README.md"), None
+    lead = site.lead_from("README.md")
     page = markdown.Page(lead)
-    opening = page.html(readme[: readme.index("<!-- file:")].rpartition("\n\n")[0])
+    opening = page.html(site.titled(readme[: readme.index("\nIts line of")], "README.md"))
     wants = re.search(r"(?ms)^## I want to\n(.*?)(?=^## )", readme)
-    start = markdown.Page(lead).html(wants[1]) if wants else ""
-    body = [opening, f'<p><a class="more" href="{site.guides["README.md"]}">A program, how to try it, and what is proved</a></p>']
+    wishes = [it for it in re.split(r"(?m)^(?=- )", wants[1] if wants else "") if "tools/site" not in it]  # who reads this has it
+    start = markdown.Page(lead).html(site.titled("".join(wishes), "README.md"))
+    body = [opening, f'<p><a class="more" href="{site.guides["README.md"]}">How to try it, and what is proved</a></p>']
     body.append(f'<h2 id="start">I want to</h2>{start}')
     side = ['<p><a href="#start">I want to</a></p><h2>Modules</h2><ul>']
     body.append('<h2 id="types">Types and functions, by module</h2>')
@@ -29,15 +31,8 @@ def first_page(site):
             continue
         anchor = "module." + path.replace("::", ".")
         side.append(f'<li><a href="#{anchor}"><code>{escape(short(path))}</code></a></li>')
-        body.append(f'<h3 id="{anchor}"><a href="{path.replace("::", ".")}.html"><code>{escape(short(path))}</code></a></h3>{rows(site, types, functions)}')
+        body.append(f'<h3 id="{anchor}"><a href="{path.replace("::", ".")}.html"><code>{escape(short(path))}</code></a></h3>{site.rows_of_types(types, functions)}')
     site.add("index.html", "fallible_collections for Rattle", "".join(body), "".join([*side, "</ul>"]))
-
-
-def rows(site, types, functions):
-    """The types and functions of a module, each with its first sentence."""
-    made = "".join(f'<dt><a href="{it.page}"><code>{it.name}</code></a></dt><dd>{site.one_line(it.item.doc)}</dd>' for it in types)
-    made += "".join(f'<dt><a href="{it.page}#{it.name}"><code>{it.name}</code></a> <span class="kind">function</span></dt><dd>{site.one_line(it.item.doc)}</dd>' for it in functions)
-    return f'<dl class="brief">{made}</dl>'
 
 
 def all_names(site):
@@ -58,7 +53,7 @@ def word_pages(site):
     while site.words.ahead:
         it = site.words.ahead.pop()
         linked[it.target] = site.linker.definition(it)
-    used = sorted(site.words.used.values(), key=lambda it: (it.crate, it.module, it.path))
+    used = sorted(site.words.used.values(), key=lambda it: (it.crate, it.place, it.name))
     crates = {crate: list(group) for crate, group in itertools.groupby(used, lambda it: it.crate)}
     for crate, group in crates.items():
         one_crate(site, crate, group, linked)
@@ -86,7 +81,7 @@ def definition(word, code):
     """A word with the comment above it and its definition."""
     given = f'<p class="of">for each <code>{escape(" ".join(word.given))}</code></p>' if word.given else ""
     said = markdown.Page().html(word.said) if word.said else ""
-    return f'<section class="word" id="{html.escape(word.target.anchor)}"><h3><a class="here" href="#{html.escape(word.target.anchor)}"><code>{escape(word.name)}</code></a></h3>{said}{given}<pre class="clauses" tabindex="0"><code>{code}</code></pre><p class="from">{escape(word.path)}</p></section>'
+    return f'<section class="word" id="{html.escape(word.target.anchor)}"><h3><a class="here" href="#{html.escape(word.target.anchor)}"><code>{escape(word.name)}</code></a></h3>{said}{given}<pre class="clauses" tabindex="0"><code>{in_lines(code)}</code></pre><p class="from">{escape(word.path)}</p></section>'
 
 
 def language(site):

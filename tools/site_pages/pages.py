@@ -5,7 +5,7 @@ import json
 import pathlib
 import re
 
-from . import calls, linking, markdown, surface as surfaces, words
+from . import calls, guides, linking, markdown, surface as surfaces, words
 
 here = pathlib.Path(__file__).resolve().parent
 MAIN = surfaces.ROOTS[0]
@@ -40,7 +40,7 @@ FRAME = """<!doctype html>
 </body>
 </html>
 """
-LINKS = [("index.html", "Types"), ("guide.USING.html", "Guide"), ("words.html", "Words"), ("names.html", "All names")]
+LINKS = [("index.html", "Types"), ("guide.html", "Guide"), ("words.html", "Words"), ("names.html", "All names")]
 KINDS = {"struct": "Struct", "enum": "Enum", "trait": "Trait", "type": "Alias"}
 
 
@@ -57,15 +57,15 @@ def meanings(file):
     """What the words of the language and of the toolchain mean, by where they are of and their names."""
     found, of = {}, ""
     for line in file.read_text().splitlines():
-        if line.startswith("== "):
-            of = words.LANGUAGE if line == f"== {words.LANGUAGE}" else ""
+        if line.startswith("[the "):
+            of = words.LANGUAGE if line == f"[{words.LANGUAGE}]" else ""
         elif line and not line.startswith("#"):
             name, _, said = line.partition(" | ")
             found[of, name] = said
     return found
 
 
-class Site:
+class Site(guides.Guides):
     """All pages of the site, by their names."""
 
     def __init__(self, top):
@@ -94,10 +94,17 @@ class Site:
     def never_refused(self):
         return {it for it, (is_refused, _, _) in self.promises.items() if not is_refused}
 
+    def promise(self, call, owner):
+        """The row of a call among those that take memory: under its type, or its trait where that is the library's."""
+        if owner is None:
+            return self.promises.get(call.name)
+        trait, of = surfaces.parts_of_impl(owner.text) if owner.kind == "impl" else ("", owner.name)
+        heads = [surfaces.head_of(of), of, surfaces.head_of(trait)]
+        return next((self.promises[f"{it}::{call.name}"] for it in heads if f"{it}::{call.name}" in self.promises), None)
+
     def when_refused(self, call, owner):
         """What the table of promises says of a call's requests and refusals, as lines of text."""
-        of = "" if owner is None else owner.name if owner.kind == "trait" else surfaces.head_of(surfaces.parts_of_impl(owner.text)[1])
-        row = self.promises.get(f"{of}::{call.name}" if of else call.name)
+        row = self.promise(call, owner)
         return [f"Requests for memory: {row[1]}. After a refusal: {row[2] or 'nothing is changed'}."] if row else []
 
     @functools.cached_property
@@ -126,49 +133,6 @@ class Site:
 
     def page_of_name(self, code):
         return self.type_pages.get(code)
-
-    # Guides.
-
-    def find_guides(self):
-        """The pages of the repository that the site has, by their paths."""
-        found = {"README.md": "guide.README.html"}
-        found |= {str(it.relative_to(self.top)): f"guide.{it.stem}.html" for it in sorted(self.top.glob("docs/*.md"))}
-        for pattern in ("fallible_collections", "fc_*", "example_*", "fcrun*"):
-            for it in sorted(self.top.glob(f"crates/{pattern}/*.md")):
-                found[str(it.relative_to(self.top))] = f"{it.stem.lower() if it.stem != 'README' else 'crate'}.{it.parent.name}.html"
-        return found | {str(it.relative_to(self.top)): f"example.{it.parent.name}.html" for it in sorted(self.top.glob("examples/*/README.md"))}
-
-    def lead_from(self, path):
-        """Makes addresses of the links of a page of the repository: to a page of the site, or to none."""
-        folder = pathlib.PurePosixPath(path).parent
-
-        def lead(to):
-            if re.match(r"\w+:", to):
-                return to
-            named, mark, anchor = to.partition("#")
-            if not named:
-                return to
-            parts = []
-            for it in (folder / named).parts:
-                parts = parts[:-1] if it == ".." else [*parts, it]
-            target = "/".join(parts)
-            if target.startswith("docs/") and target.endswith(".svg"):
-                return pathlib.PurePosixPath(target).name
-            return self.guides[target] + mark + anchor if target in self.guides else None
-
-        return lead
-
-    def guide(self, path, page):
-        text = (self.top / path).read_text()
-        made = markdown.Page(self.lead_from(path))
-        body = made.html(text)
-        title = re.sub(r"<[^>]*>", "", made.headings[0][2]) if made.headings else path
-        others = [it for it in self.guides if it == "README.md" or it.startswith("docs/")]
-        listed = "".join(f'<li><a href="{self.guides[it]}"{" aria-current=page" if it == path else ""}>{pathlib.PurePosixPath(it).stem}</a></li>' for it in others)
-        inside = "".join(f'<li><a href="#{anchor}">{re.sub("</?a[^>]*>", "", said)}</a></li>' for level, anchor, said in made.headings if level == 2)
-        side = f"<h2>On this page</h2><ul>{inside}</ul>" * bool(inside) + f"<h2>Guide</h2><ul>{listed}</ul>"
-        self.add(page, html.unescape(title), f'<p class="from">{escape(path)}</p>{body}', side)
-        self.names.append((html.unescape(title), path, page, "guide"))
 
     # Frames.
 
@@ -208,7 +172,10 @@ class Site:
         for (_, title), group in groups:
             rows = "".join(f'<li><a href="#{it.name}"><code>{it.name}</code></a></li>' for it, _, _ in group)
             made.append(f"<h2>{markdown.Page().inline(title) if len(groups) > 1 else 'Calls'}</h2><ul>{rows}</ul>")
-        return f'<p><a href="#main"><code>{public.name}</code></a></p>' + "".join(made) + '<p><a href="#traits">Traits</a></p>' * has_traits
+        if has_traits:
+            rows = "".join(f'<li><a href="#{anchor}"><code>{escape(name)}</code></a></li>' for name, anchor in self.calls.side)
+            made.append(f'<h2><a href="#traits">{"Types that have it" if public.item.kind == "trait" else "Traits"}</a></h2><ul>{rows}</ul>')
+        return f'<p><a href="#main"><code>{public.name}</code></a></p>' + "".join(made)
 
     def declaration(self, public):
         """The declaration, with what fields are public."""
@@ -266,13 +233,15 @@ class Site:
         found = {it.home.rpartition("::")[0] for it in [*self.surface.types, *self.surface.functions]}
         return sorted(found | {it[: it.rindex("::")] for it in found if "::" in it}, key=lambda it: ((*surfaces.ROOTS, surfaces.BOUNDS).index(it.split("::")[0]), it))
 
-    def rows_of_types(self, types):
-        rows = "".join(f'<tr><td><a href="{it.page}"><code>{it.name}</code></a></td><td>{KINDS[it.item.kind].lower()}</td><td>{self.one_line(it.item.doc)}</td></tr>' for it in types)
-        return f'<div class="wide" tabindex="0"><table class="types"><thead><tr><th scope="col">Name</th><th scope="col">Kind</th><th scope="col">What it is</th></tr></thead><tbody>{rows}</tbody></table></div>'
+    def rows_of_types(self, types, functions=()):
+        """A list of types, and of functions, each with its first sentence."""
+        rows = "".join(f'<dt><a href="{it.page}"><code>{it.name}</code></a> <span class="kind">{KINDS[it.item.kind].lower()}</span></dt><dd>{self.one_line(it.item.doc)}</dd>' for it in types)
+        rows += "".join(f'<dt><a href="{it.page}#{it.name}"><code>{it.name}</code></a> <span class="kind">function</span></dt><dd>{self.one_line(it.item.doc)}</dd>' for it in functions)
+        return f'<dl class="brief">{rows}</dl>'
 
     def rows_of_modules(self, paths):
-        rows = "".join(f'<tr><td><a href="{it.replace("::", ".")}.html"><code>{escape(short(it))}</code></a></td><td>{self.one_line(self.surface.modules[it].doc)}</td></tr>' for it in paths)
-        return f'<div class="wide" tabindex="0"><table class="types"><thead><tr><th scope="col">Module</th><th scope="col">What is in it</th></tr></thead><tbody>{rows}</tbody></table></div>'
+        rows = "".join(f'<dt><a href="{it.replace("::", ".")}.html"><code>{escape(short(it))}</code></a></dt><dd>{self.one_line(self.surface.modules[it].doc)}</dd>' for it in paths)
+        return f'<dl class="brief">{rows}</dl>'
 
     def one_line(self, doc):
         return markdown.Page().inline(calls.first_sentence(doc))

@@ -199,6 +199,20 @@ class Surface:
                         self.public[id(item)].impls.append((it, module))
 
     @functools.cached_property
+    def crossing(self):
+        """Which types may go to another thread, by the tests that ask it."""
+        found = {}
+        for crate in ("test_bounds", "test_shared_budget"):
+            for module in (self.crate(crate), *self.crate(crate).inner.values()):
+                text = (self.top / module.path).read_text()
+                for bound, name in re.findall(r"\b(crosses|sends)::<(\w+)", text):
+                    name = (re.findall(rf"(?m)^type {name} = (\w+)", text) or [name])[0]
+                    item, _ = self.named(module, name)
+                    said = "<code>Send</code> and <code>Sync</code>" if bound == "crosses" else "<code>Send</code>"
+                    found |= {id(item): said} if item is not None else {}
+        return found
+
+    @functools.cached_property
     def types(self):
         return sorted((it for it in self.public.values() if it.item.kind in TYPES), key=lambda it: it.home)
 
@@ -214,6 +228,13 @@ def past_brackets(text):
         depth += (each == "<") - (each == ">" and text[at - 1] != "-")
         if depth == 0:
             return text[at + 1 :].strip() if text.startswith("<") else text
+    return text
+
+
+def outermost(text):
+    """A text without what stands in its angle brackets and parentheses."""
+    while (shorter := re.sub(r"<[^<>]*>|\([^()]*\)", "", text.replace("->", ""))) != text:
+        text = shorter
     return text
 
 

@@ -31,6 +31,7 @@ class Word:
     code: str
     given: list  # the heads of the blocks around it
     path: str
+    place: tuple = (0, 0)  # which file of its crate's Lib.antt it stands in, and where
 
     @property
     def target(self):
@@ -40,8 +41,8 @@ class Word:
 class File:
     """A file of definitions."""
 
-    def __init__(self, crate, name, path, text):
-        self.crate, self.name, self.path = crate, name, path
+    def __init__(self, crate, name, path, text, place=0):
+        self.crate, self.name, self.path, self.place = crate, name, path, place
         self.imports = imports(text)
         self.lines = text.splitlines()
         self.words = {}
@@ -63,7 +64,7 @@ class File:
             elif (start := START.match(line)) and self.is_definition(line, start):
                 end = self.end_of(at, indent, start)
                 code = re.sub(r"(?m)^( *)(?:(?:abbrev|pub|unfoldable) )+", r"\1", "\n".join(it[indent:] for it in self.lines[at:end]))
-                self.words.setdefault(start[3], Word(self.crate, self.name, start[3], " ".join(said), code, [it for _, it in given], self.path))
+                self.words.setdefault(start[3], Word(self.crate, self.name, start[3], " ".join(said), code, [it for _, it in given], self.path, (self.place, at)))
                 at, said = end, []
                 continue
             said = []
@@ -112,8 +113,13 @@ class Words:
 
     @functools.cache
     def file(self, crate, name):
-        file = self.surface.top / "crates" / crate / "specs" / (name.replace(".", "/") + ".antt")
-        return File(crate, name, str(file.relative_to(self.surface.top)), file.read_text()) if file.is_file() else None
+        folder = self.surface.top / "crates" / crate / "specs"
+        file = folder / (name.replace(".", "/") + ".antt")
+        if not file.is_file():
+            return None
+        listed = re.findall(r"(?m)^pub mod (\w+)$", (folder / "Lib.antt").read_text())
+        place = listed.index(name) if name in listed else len(listed)
+        return File(crate, name, str(file.relative_to(self.surface.top)), file.read_text(), place)
 
     def in_module(self, module, name):
         """What a name of a module leads to, or None."""
@@ -165,4 +171,4 @@ class Words:
         said = " ".join(item.doc or item.remarks)
         fields = "\n".join(f"    {it.text}" for it in item.members if not it.text.startswith("ghost use"))
         code = f"{item.text} {{\n{fields}\n}}" if fields else item.text
-        return self.own(Word(module.crate, "type", item.name, said, code, [], module.path))
+        return self.own(Word(module.crate, "type", item.name, said, code, [], module.path, (10**6, 0)))
