@@ -40,7 +40,7 @@ class Calls:
     def start(self, public=None):
         """Begins a page, whose addresses are all new."""
         self.ids, self.page_calls, self.side = set(), {}, []
-        self.page = public.page if public else ""
+        self.page, self.shown_at = (public.page, public.home.partition("::")[2]) if public else ("", "")
         if public:
             for it, _, _ in self.inherent(public):
                 self.page_calls.setdefault(it.name, it.name)
@@ -75,7 +75,8 @@ class Calls:
         """Where a text in code leads that names a call of the page, or a type."""
         if code in self.page_calls:
             return "#" + self.page_calls[code]
-        return self.site.page_of_name(code)
+        page = self.site.type_pages.get(code)
+        return page if page != self.page else None
 
     def parts(self, doc):
         """The parts of a comment: what is ahead of its errors, and these."""
@@ -87,7 +88,7 @@ class Calls:
         """A signature with its types linked."""
         def lead(found):
             item, is_public = self.surface.named(module, found[0])
-            if item is None or not is_public or item.kind not in surfaces.TYPES:
+            if item is None or not is_public or item.kind not in surfaces.TYPES or self.surface.public[id(item)].page == self.page:
                 return escape(found[0])
             return f'<a href="{self.surface.public[id(item)].page}">{escape(found[0])}</a>'
 
@@ -120,7 +121,7 @@ class Calls:
 
     # Calls.
 
-    def contract(self, call, owner, module, anchor):
+    def contract(self, call, owner, module):
         """The clauses of a call behind a fold."""
         if not call.clauses:
             return ""
@@ -146,7 +147,7 @@ class Calls:
         if of_std and not call.doc:
             said = self.as_trait(call, owner, module)
         sign = f'<pre tabindex="0" class="sign"><code>{self.sign(call.text, module)}</code></pre>'
-        return f'<section class="call">{head}{bounds}{sign}{self.prose(said)}{when}{self.contract(call, owner, module, anchor)}</section>'
+        return f'<section class="call">{head}{bounds}{sign}{self.prose(said)}{when}{self.contract(call, owner, module)}</section>'
 
     def as_trait(self, call, owner, module):
         """What is said of a call that a trait of the library has: where it is told there."""
@@ -206,7 +207,7 @@ class Calls:
         anchor = self.anchor(name)
         self.side.append((of if of_trait else trait, anchor))
         if not of_trait:
-            self.site.names += [(it.name, f"{surfaces.head_of(of)} as {surfaces.head_of(trait)}", f"{self.page}#{anchor}.{it.name}", "call") for it in impl.of_kind("fn")]
+            self.site.names += [(it.name, f"{self.shown_at} as {surfaces.head_of(trait)}", f"{self.page}#{anchor}.{it.name}", "call") for it in impl.of_kind("fn")]
         calls = "".join(self.call(it, impl, module, 3, f"{anchor}.", of_std=True) for it in impl.of_kind("fn"))
         types = "".join(f'<pre class="sign" tabindex="0"><code>{self.sign(it.text, module)}</code></pre>' for it in impl.of_kind("type"))
         mark = "" if not any(self.errors(it, impl) for it in impl.of_kind("fn")) else ' <span class="mark may">may be refused</span>'

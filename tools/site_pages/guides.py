@@ -57,7 +57,7 @@ class Guides:
 
     def guide(self, path, page):
         text = self.titled((self.top / path).read_text(), path)
-        made = markdown.Page(self.lead_from(path))
+        made = markdown.Page(self.lead_from(path), lambda code: self.guides.get(code) if code != path else None)
         body = made.html(text)
         title = re.sub(r"<[^>]*>", "", made.headings[0][2]) if made.headings else path
         listed = "".join(f'<li><a href="{self.guides[it]}"{" aria-current=page" if it == path else ""}>{self.title_of(it)}</a></li>' for it in self.guides if "/" not in it or it.startswith("docs/"))

@@ -45,6 +45,14 @@ def parameters_of(head, sign):
     return types, {*re.findall(r"[(,]\s*(?:mut )?([a-z_]\w*):(?!:)", sign)}
 
 
+def bounds_in(sign):
+    """The names of the traits that a signature or the head of an impl asks of each of its types."""
+    found = {}
+    for name, bound in re.findall(r"\b([A-Z]\w*):(?!:) ?((?:[\w:'+ ]|<(?:[^<>]|<[^<>]*>)*>)+)", sign):
+        found.setdefault(name, set()).update(re.findall(r"\w+", surfaces.outermost(bound)))
+    return found
+
+
 class Linker:
     """Leads the words of texts to their definitions, and keeps those that have none."""
 
@@ -67,6 +75,7 @@ class Linker:
             there |= imports("\n".join(it.text for it in owner.members if it.kind == "ghost use"))
         said = re.sub(r"^(?:\w+\*? *\w* *|ghost \w+)(?=[{:=])", "", text)
         names = Names(self, module, there, types | {"Self"}, (values | bound_in(text) | named_fields(text)) - {""}, ghosts_of(owner, self.traits))
+        names.bounds = bounds_in(f"{owner.text if owner else ''} {call.text if call else ''}")
         ahead = text[: len(text) - len(said)].rstrip()
         word, _, label = ahead.partition(" ")
         space = text[len(ahead) : len(text) - len(said)]
@@ -126,6 +135,7 @@ class Names:
 
     def __init__(self, linker, module, there, types, bound, ghosts):
         self.linker, self.module, self.there, self.types, self.bound, self.ghosts = linker, module, there, types, bound, ghosts
+        self.bounds = {}
         self.signs = {it.replace("◌", ""): at for it, at in there.items() if not IS_NAME.fullmatch(it) and "◌then◌" not in it}
         self.signs |= {each: at for it, at in there.items() if "◌then◌" in it for each in it.split("◌") if each}
 
@@ -164,7 +174,8 @@ class Names:
         if head in self.there and not self.there[head][1]:
             return self.linker.words.in_module(self.there[head][0], name)
         if head in self.types and path == head:
-            found = [it for it in self.linker.traits.values() if any(each.name == name for each in it.item.of_kind("ghost"))]
+            traits = [self.linker.traits[it] for it in sorted(self.bounds.get(head, ())) if it in self.linker.traits]
+            found = [it for it in traits if any(each.name == name for each in it.item.of_kind("ghost"))]
             if found:
                 return ghost_target(found[0], name)
             return self.linker.words.toolchains(LANGUAGE, f"T.{name}")

@@ -58,16 +58,18 @@ def word_pages(site):
     for crate, group in crates.items():
         one_crate(site, crate, group, linked)
     site.names += [(it.name, f"{it.crate}.{it.module}", f"{it.target.page}#{it.target.anchor}", "word") for it in used]
-    listed = "".join(f'<tr><td><a href="words.{crate}.html"><code>{crate}</code></a></td><td>{", ".join(sorted({it.module for it in group if it.module != "type"})) or "types"}</td><td>{len(group)}</td></tr>' for crate, group in crates.items())
-    body = f'<h1>Words of contracts</h1>{markdown.Page().html(HOW)}<h2 id="library">The library\'s own</h2>'
-    body += f'<div class="wide" tabindex="0"><table><thead><tr><th scope="col">Crate</th><th scope="col">Files of definitions</th><th scope="col">Words</th></tr></thead><tbody>{listed}</tbody></table></div>'
-    body += language(site) + '<h2 id="toolchain">The toolchain\'s</h2><p>Other words are those of Rattle\'s own std: <a href="words.toolchain.html">a list of them</a>, with what they mean.</p>'
+    body = f'<h1>Words of contracts</h1>{markdown.Page().html(HOW)}<h2 id="library">The library\'s own</h2><dl class="brief">'
+    for crate, group in crates.items():
+        files = dict.fromkeys(it.module if it.module != "type" else "types" for it in group)
+        body += f'<dt><a href="words.{crate}.html"><code>{crate}</code></a> <span class="kind">{len(group)} word{"s" * (len(group) > 1)}</span></dt><dd>{", ".join(files)}</dd>'
+    body += f'</dl><h2 id="toolchain">The toolchain\'s</h2><p>Other words are those of Rattle\'s own std: <a href="words.toolchain.html">what they mean</a>.</p>{language(site)}'
     site.add("words.html", "Words of contracts", body)
     toolchain_page(site)
 
 
 def one_crate(site, crate, group, linked):
-    body, side = [f"<h1>Words of <code>{crate}</code></h1><p>Definitions that contracts cite, and those that these cite. <a href=\"words.html\">How to read a contract</a>.</p>"], []
+    ahead = 'Definitions that contracts cite, and those that these cite. <a href="words.html">How to read a contract</a>.'
+    body, side = [f"<h1>Words of <code>{crate}</code></h1><p>{ahead}</p>"], []
     for module, inside in itertools.groupby(group, lambda it: it.module):
         inside = list(inside)
         title = "Types that definitions name" if module == "type" else module
@@ -81,7 +83,10 @@ def definition(word, code):
     """A word with the comment above it and its definition."""
     given = f'<p class="of">for each <code>{escape(" ".join(word.given))}</code></p>' if word.given else ""
     said = markdown.Page().html(word.said) if word.said else ""
-    return f'<section class="word" id="{html.escape(word.target.anchor)}"><h3><a class="here" href="#{html.escape(word.target.anchor)}"><code>{escape(word.name)}</code></a></h3>{said}{given}<pre class="clauses" tabindex="0"><code>{in_lines(code)}</code></pre><p class="from">{escape(word.path)}</p></section>'
+    anchor = html.escape(word.target.anchor)
+    head = f'<h3><a class="here" href="#{anchor}"><code>{escape(word.name)}</code></a></h3>'
+    shown = f'<pre class="clauses" tabindex="0"><code>{in_lines(code)}</code></pre>'
+    return f'<section class="word" id="{anchor}">{head}{said}{given}{shown}<p class="from">{escape(word.path)}</p></section>'
 
 
 def language(site):
@@ -93,12 +98,14 @@ def language(site):
 
 def toolchain_page(site):
     """The words of the toolchain that contracts and definitions cite, by their modules."""
-    ordered = sorted(site.words.of_toolchain.items(), key=lambda it: (it[0][0] != words.LANGUAGE, it[0]))
-    body, side = ["<h1>Words of the toolchain</h1><p>These are defined by Rattle's std, not here. What they mean in short; <code>rt doc</code> and the toolchain's own files say it in full.</p>"], ["<ul>"]
+    ordered = sorted(site.words.of_toolchain.items(), key=lambda it: (it[0][0] != words.LANGUAGE, not it[0][0].startswith("Rattle.std.specs."), it[0]))
+    ahead = "These are defined by Rattle's std, not here. What they mean in short: the toolchain's own files say it in full."
+    body, side = [f"<h1>Words of the toolchain</h1><p>{ahead}</p>"], ["<ul>"]
     for at, (module, group) in enumerate(itertools.groupby(ordered, lambda it: it[0][0])):
         title = "Members of types" if module == words.LANGUAGE else module
-        made = "".join(f'<dt id="{html.escape(anchor)}"><code>{escape(name)}</code></dt><dd>{markdown.Page().inline(said_of(site, of, name))}</dd>' for (of, name), anchor in group)
-        body.append(f'<h2 id="module-{at}"><code>{escape(title)}</code></h2><dl class="brief">{made}</dl>')
+        said = lambda of, name: markdown.Page().inline(said_of(site, of, name))
+        made = "".join(f'<dt id="{html.escape(anchor)}"><code>{escape(name)}</code></dt><dd>{said(of, name)}</dd>' for (of, name), anchor in group)
+        body.append(f'<h2 id="module-{at}">{title if module == words.LANGUAGE else f"<code>{escape(title)}</code>"}</h2><dl class="brief">{made}</dl>')
         side.append(f'<li><a href="#module-{at}"><code>{escape(title.removeprefix("Rattle.std.specs."))}</code></a></li>')
     site.add("words.toolchain.html", "Words of the toolchain", "".join(body), "".join([*side, "</ul>"]))
 

@@ -1,7 +1,6 @@
 """Writes the pages of the site: types, modules, words, names, guides and the first one."""
 import functools
 import html
-import json
 import pathlib
 import re
 
@@ -130,9 +129,6 @@ class Site(guides.Guides):
         for it in self.surface.types:
             found.setdefault(it.name, []).append(it.page)
         return {name: pages[0] for name, pages in found.items() if len(pages) == 1}
-
-    def page_of_name(self, code):
-        return self.type_pages.get(code)
 
     # Frames.
 

@@ -18,6 +18,7 @@
   function find(sought) {
     const kinds = ["type", "module", "call", "guide", "word"];
     const found = NAMES.map((entry) => [rank(entry, sought), kinds.indexOf(entry[3]), entry]).filter((it) => it[0] >= 0);
+    for (const it of found) it[0] += it[2][3] === "word" ? 3 : 0; // what can be called comes ahead of what contracts say
     found.sort((a, b) => a[0] - b[0] || a[1] - b[1] || a[2][0].length - b[2][0].length || (a[2][1] + a[2][0] < b[2][1] + b[2][0] ? -1 : 1));
     return found.map((it) => it[2]);
   }
