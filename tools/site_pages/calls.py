@@ -57,12 +57,16 @@ class Calls:
     def inherent(self, public):
         """The public calls of a type's own impls, or of a trait: each with its impl and its module."""
         if public.item.kind == "trait":
-            return [(it, public.item, public.module) for it in public.item.of_kind("fn")]
+            return [(it, public.item, public.module) for it in self.shown(public.item, public.module)]
         found = []
         for impl, module in public.impls:
             if not surfaces.parts_of_impl(impl.text)[0]:
-                found += [(it, impl, module) for it in impl.of_kind("fn") if it.is_public and not self.surface.is_hidden(module, it.text)]
+                found += [(it, impl, module) for it in self.shown(impl, module) if it.is_public]
         return found
+
+    def shown(self, owner, module):
+        """The functions of an impl or a trait that a user can call: those that name no type which is the library's own."""
+        return [it for it in owner.of_kind("fn") if not self.surface.is_hidden(module, it.text)]
 
     # Texts.
 
@@ -206,11 +210,12 @@ class Calls:
         name = re.sub(r"\W+", "-", f"impl-{of if of_trait else trait}").strip("-")
         anchor = self.anchor(name)
         self.side.append((of if of_trait else trait, anchor))
+        functions = self.shown(impl, module)
         if not of_trait:
-            self.site.names += [(it.name, f"{self.shown_at} as {surfaces.head_of(trait)}", f"{self.page}#{anchor}.{it.name}", "call") for it in impl.of_kind("fn")]
-        calls = "".join(self.call(it, impl, module, 3, f"{anchor}.", of_std=True) for it in impl.of_kind("fn"))
+            self.site.names += [(it.name, f"{self.shown_at} as {surfaces.head_of(trait)}", f"{self.page}#{anchor}.{it.name}", "call") for it in functions]
+        calls = "".join(self.call(it, impl, module, 3, f"{anchor}.", of_std=True) for it in functions)
         types = "".join(f'<pre class="sign" tabindex="0"><code>{self.sign(it.text, module)}</code></pre>' for it in impl.of_kind("type"))
-        mark = "" if not any(self.errors(it, impl) for it in impl.of_kind("fn")) else ' <span class="mark may">may be refused</span>'
+        mark = "" if not any(self.errors(it, impl) for it in functions) else ' <span class="mark may">may be refused</span>'
         inside = self.prose(impl.doc) + types + self.ghosts(impl, module) + calls
         if not inside:
             return f'<p class="impl bare" id="{anchor}"><code>{self.sign(impl.text, module)}</code></p>'

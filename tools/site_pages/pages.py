@@ -176,11 +176,13 @@ class Site(guides.Guides):
     def declaration(self, public):
         """The declaration, with what fields are public."""
         item = public.item
+        own = [it.name for it, _ in self.surface.hidden(public.module, item.text)]
+        head = re.sub(rf"\b({'|'.join(own)})\b(<[^<>]*>)?", "..", item.text) if own else item.text
         if item.kind == "enum":
-            return f'<pre class="sign" tabindex="0"><code>{self.calls.sign(item.text, public.module)} {{ .. }}</code></pre>'
+            return f'<pre class="sign" tabindex="0"><code>{self.calls.sign(head, public.module)} {{ .. }}</code></pre>'
         fields = [it.text for it in item.of_kind("field", "ghost") if it.text.startswith("pub ")] if item.kind == "struct" else []
         inside = "".join(f"    {it}\n" for it in fields)
-        text = item.text + (" {\n" + inside + "    .. // fields that are its own\n}" if item.kind == "struct" else " { .. }" if item.kind == "trait" else "")
+        text = head + (" {\n" + inside + "    .. // fields that are its own\n}" if item.kind == "struct" else " { .. }" if item.kind == "trait" else "")
         return f'<pre class="sign" tabindex="0"><code>{self.calls.sign(text, public.module)}</code></pre>'
 
     def variants(self, public):
