@@ -1,0 +1,1 @@
+"""What `tools/site` is made of: readers of sources and definitions, and writers of pages."""
