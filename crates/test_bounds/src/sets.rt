@@ -25,27 +25,9 @@ fn owned_items_cross() -> bool {
     crosses::<IntoIter<u64>>()
 }
 
-fn unions_cross() -> bool {
-    crosses::<Union<'static, u64>>()
-}
-
-fn symmetric_differences_cross() -> bool {
-    crosses::<SymmetricDifference<'static, u64>>()
-}
-
-fn intersections_cross() -> bool {
-    crosses::<Intersection<'static, u64>>()
-}
-
-fn differences_cross() -> bool {
-    crosses::<Difference<'static, u64>>()
-}
-
 #[test]
 fn walks_of_sets_cross_threads(rt: HostRuntime) {
     assert!(rt; items_cross() && ranges_cross() && owned_items_cross());
-    assert!(rt; unions_cross() && symmetric_differences_cross());
-    assert!(rt; intersections_cross() && differences_cross());
 }
 
 #[test]
