@@ -1,16 +1,12 @@
 -- The interval across a point, and the value at a point, by the last interval that starts there or before.
 use Rattle.std.proofs.Common.{◌≡◌, ◌∙◌, ℕ, ◌≤◌, ◌<◌, ◌⊎◌, inl, inr, List, Option, Some, None, refl, sym, ap, subst, arith}
-use Rattle.std.specs.Prelude.{IsSome, IfSome}
-use Rattle.std.specs.Ordering.{nat_cmp, is_lt, is_le, is_gt}
+use Rattle.std.specs.Prelude.{IfSome}
+use Rattle.std.specs.Ordering.{nat_cmp, is_lt, is_le}
 use Rattle.std.proofs.lemmas.Bool.{cases_order}
-use Rattle.std.proofs.lemmas.Cmp.{nat_cmp_total}
-use Rattle.std.proofs.lemmas.Map.Keys.{le_from_is_le}
-use Rattle.std.proofs.lemmas.Map.Lookups.{exact_unsigned}
-use Rattle.fallible_collections.specs.Words.{above, at, below, first_item, last_item, not_above, value_at, IsAscending}
-use Rattle.fallible_collections.proofs.Laws.{exact_pair, first_there, first_passes, first_least, first_none}
+use Rattle.fallible_collections.specs.Words.{at, below, last_item, not_above, value_at, IsAscending}
 use Rattle.example_intervals.specs.Spans.{IsIn, AreApart, AreApartBefore, HasValue, IsAcross}
 use Rattle.example_intervals.specs.declared.spans.Span.{Span}
-use Rattle.example_intervals.proofs.Passing.{IsLast, last_passing, none_passes, is_above, is_above_to, is_below, is_below_to, is_up_to, is_up_to_to}
+use Rattle.example_intervals.proofs.Passing.{IsLast, last_passing, none_passes, is_below, is_below_to, is_up_to, is_up_to_to}
 
 module _ (spans : List (ℕ × Span)) (p : ℕ) where
   pub across_some : (last : ℕ × Span) → IsAscending nat_cmp spans → Some last ≡ last_item (below nat_cmp spans p) → p < last.1.end

@@ -1,6 +1,7 @@
 -- What starts between two points is taken out.
-use Rattle.std.proofs.Common.{◌≡◌, ◌∙◌, ℕ, ◌<◌, ◌≤◌, ◌⊎◌, inl, inr, Bool, true, false, List, [], ◌∷◌, Option, None, Some, refl, sym, ap, arith}
+use Rattle.std.proofs.Common.{◌≡◌, ◌∙◌, ℕ, ◌<◌, ◌≤◌, ◌⊎◌, inl, inr, Bool, true, false, List, [], ◌∷◌, Option, None, refl, sym, ap, arith}
 use Rattle.std.specs.Prelude.{cond, not, filter, ◌&&◌}
+use Rattle.std.specs.Cmp.{nat_cmp_is}
 use Rattle.std.specs.Ordering.{nat_cmp, is_eq, is_gt, is_lt}
 use Rattle.std.specs.declared.cmp.Ordering.{Ordering}
 use Rattle.std.specs.declared.cmp.Ordering.TheVariants.{Less, Equal, Greater}
@@ -46,9 +47,7 @@ module _ (lo hi : ℕ) where
   spared k = not (is_gt (nat_cmp k lo) && is_lt (nat_cmp k hi))
 
   pub between : (s : ℕ) → lo < s → s < hi → spared s ≡ false
-  between s l h = by_ranked (s < lo) (s ≡ lo) (lo < s) (nat_cmp s lo) (ranked s lo (nat_cmp s lo) refl) (λ e p. absurd (omega arith)) (λ e p. absurd (omega arith))
-      (λ e p. by_ranked (s < hi) (s ≡ hi) (hi < s) (nat_cmp s hi) (ranked s hi (nat_cmp s hi) refl) (λ f q. rw (e, f) refl) (λ f q. absurd (omega arith))
-          (λ f q. absurd (omega arith)))
+  between s l h = rw (sym (nat_cmp_is s lo Greater l), sym (nat_cmp_is s hi Less h)) refl
 
   pub elsewhere : (s : ℕ) → (s ≤ lo) ⊎ (hi ≤ s) → spared s ≡ true
   elsewhere s o = by_ranked (s < lo) (s ≡ lo) (lo < s) (nat_cmp s lo) (ranked s lo (nat_cmp s lo) refl) (λ e p. rw e refl) (λ e p. rw e refl)

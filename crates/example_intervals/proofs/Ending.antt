@@ -1,5 +1,6 @@
 -- The interval in front of a point is ended there: the value of one pair of a list is another.
-use Rattle.std.proofs.Common.{◌≡◌, ◌≢◌, ◌∙◌, ℕ, suc, ◌-◌, length, ◌<◌, ◌⊎◌, inl, inr, Bool, true, false, List, [], ◌∷◌, ◌++◌, None, Some, refl, sym, ap, subst, arith}
+use Rattle.std.proofs.Common.{◌≡◌, ◌≢◌, ◌∙◌, ℕ, suc, ◌-◌, length, ◌<◌, ◌⊎◌, inl, inr, Bool, true, false, List, [], ◌∷◌, ◌++◌}
+use Rattle.std.proofs.Common.{None, Some, refl, sym, ap, subst, arith}
 use Rattle.std.proofs.lemmas.Bool.{cases_order}
 use Rattle.std.specs.List.{AllByRecursion, slice_get}
 use Rattle.std.proofs.lemmas.List.{length-append}
@@ -77,7 +78,8 @@ module _ (lead behind : List (ℕ × Span)) (k p : ℕ) (x : Span) where
           ∙ sym (put_same old k ended)
 
       elsewhere : (s : ℕ) → s ≢ k → value_at nat_cmp new s ≡ value_at nat_cmp (put nat_cmp old k ended) s
-      elsewhere s n = ap (λ m. value_at nat_cmp m s) is ∙ others k x ended behind lead s n ∙ sym (ap (λ m. value_at nat_cmp m s) was) ∙ sym (put_other old k ended s n)
+      elsewhere s n = ap (λ m. value_at nat_cmp m s) is ∙ others k x ended behind lead s n
+          ∙ sym (put_other old k ended s n ∙ ap (λ m. value_at nat_cmp m s) was)
 
       at : (s : ℕ) → value_at nat_cmp new s ≡ value_at nat_cmp (put nat_cmp old k ended) s
       at s = go (cases_order s k)

@@ -3,8 +3,8 @@ use Rattle.std.proofs.Common.{◌≡◌, ℕ, ◌≤◌, ◌<◌, Bool, true, Li
 use Rattle.std.specs.Prelude.{filter}
 use Rattle.std.specs.Cmp.{nat_cmp_is}
 use Rattle.std.specs.Option.{option_map}
-use Rattle.std.specs.Ordering.{nat_cmp, is_lt, is_le, is_gt}
-use Rattle.std.specs.declared.cmp.Ordering.TheVariants.{Less, Greater}
+use Rattle.std.specs.Ordering.{nat_cmp, is_lt, is_le}
+use Rattle.std.specs.declared.cmp.Ordering.TheVariants.{Less}
 use Rattle.std.proofs.lemmas.Cmp.{nat_cmp_total, by_ranked, ranked}
 use Rattle.std.proofs.lemmas.Map.Keys.{le_from_is_le}
 use Rattle.std.proofs.lemmas.Map.Lookups.{exact_unsigned}
@@ -27,13 +27,6 @@ module _ (a b : ℕ) where
   pub is_up_to_to : a ≤ b → is_le (nat_cmp a b) ≡ true
   is_up_to_to l = by_ranked (a < b) (a ≡ b) (b < a) (nat_cmp a b) (ranked a b (nat_cmp a b) refl) (λ e m. ap is_le e) (λ e m. ap is_le e)
       (λ e m. absurd (omega arith))
-
-  pub is_above : is_gt (nat_cmp a b) ≡ true → b < a
-  is_above h = by_ranked (a < b) (a ≡ b) (b < a) (nat_cmp a b) (ranked a b (nat_cmp a b) refl) (λ e l. let no = rw e at h in absurd cc)
-      (λ e l. let no = rw e at h in absurd cc) (λ e l. l)
-
-  pub is_above_to : b < a → is_gt (nat_cmp a b) ≡ true
-  is_above_to l = ap is_gt (sym (nat_cmp_is a b Greater l))
 
 module _ (p : ℕ → Bool) (spans : List (ℕ × Span)) where
   pub record IsLast (last : ℕ × Span) : Type 0 where

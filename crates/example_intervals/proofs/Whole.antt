@@ -17,7 +17,8 @@ pub record IsInserted (old new : List (ℕ × Span)) (lo hi v : ℕ) : Type 0 wh
   pub is_back : IsAcross old hi back
   pub cleared : IsCleared (with_front (put nat_cmp (with_back old hi back) lo (record { end = hi; value = v })) lo front) new lo hi
 
-moved : (m third new : List (ℕ × Span)) (lo hi : ℕ) → ((s : ℕ) → value_at nat_cmp third s ≡ value_at nat_cmp m s) → IsCleared third new lo hi → IsCleared m new lo hi
+moved : (m third new : List (ℕ × Span)) (lo hi : ℕ) → ((s : ℕ) → value_at nat_cmp third s ≡ value_at nat_cmp m s)
+    → IsCleared third new lo hi → IsCleared m new lo hi
 moved m third new lo hi same c = record { gone = c.gone; kept = λ s o. c.kept s o ∙ same s }
 
 pub inserted : (old new second third : List (ℕ × Span)) (lo hi v : ℕ) (back : Option (ℕ × Span)) → lo < hi → AreApart old → IsAcross old hi back
