@@ -60,7 +60,7 @@ module _ {K V Z : Type 0} where
   many_below (suc h) n m l =
       let s = many_in n (least_children ^ suc h) l.1 (each (IsBelow h) (λ c. least_children ^ suc h ≤ length (pairs_of c) + 1) (λ c p. many_below h c p.0 p.1)
       (children_of n) l.2) in
-      let least : least_children ≤ length (children_of n) = let e : length (children_of n) ≡ length (own_pairs n) + 1 = l.1 in omega arith in
+      let least : least_children ≤ length (children_of n) = omega arith in
       level_more least_children (suc h) _ _ least s
 
   all_below : (h : ℕ) (n : Node K V Z) → IsLevelled (suc h) n → AllByRecursion (λ c. least_children ^ suc h ≤ length (pairs_of c) + 1) (children_of n)
@@ -68,11 +68,11 @@ module _ {K V Z : Type 0} where
 
   -- a sound root
   pub deep_root : (h : ℕ) (n : Node K V Z) → IsSoundRoot h n → IsDeep h (length (pairs_of n))
-  deep_root zero n s = let e : length (pairs_of n) ≡ length (own_pairs n) = ap length (leaf_pairs n s.1.1) in let m = s.0 in omega arith
+  deep_root zero n s = let e : length (pairs_of n) ≡ length (own_pairs n) = ap length (leaf_pairs n s.1.1) in omega arith
   deep_root (suc h) n s =
       let l = s.1 in
       let b = many_in n (least_children ^ suc h) l.1 (all_below h n l) in
-      let two : 2 ≤ length (children_of n) = let e : length (children_of n) ≡ length (own_pairs n) + 1 = l.1 in let m = s.0 in omega arith in
+      let two : 2 ≤ length (children_of n) = omega arith in
       le_trans (mul-le-mul_right (least_children ^ suc h) two) b
 
   -- a full root makes a tree of one level more where it is split
@@ -80,7 +80,7 @@ module _ {K V Z : Type 0} where
   deep_full zero n e l = let m : length (pairs_of n) ≡ length (own_pairs n) = ap length (leaf_pairs n l.1) in omega arith
   deep_full (suc h) n e l =
       let b = many_in n (least_children ^ suc h) l.1 (all_below h n l) in
-      let all : 2 * least_children ≤ length (children_of n) = let m : length (children_of n) ≡ length (own_pairs n) + 1 = l.1 in omega arith in
+      let all : 2 * least_children ≤ length (children_of n) = omega arith in
       two_more least_children (suc h) _ _ all b
 
 -- so that a tree whose pairs are counted in 64 bits is not too high

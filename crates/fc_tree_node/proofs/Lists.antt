@@ -1,5 +1,5 @@
 -- Lists with an item set, put in or left out, and facts of each item.
-use Rattle.std.proofs.Common.{◌≡◌, ℕ, suc, zero, ◌+◌, ◌<◌, ◌≤◌, List, [], ◌∷◌, ◌++◌, length, get_or, take, drop, refl, ap, ◌∙◌, arith, add-one}
+use Rattle.std.proofs.Common.{◌≡◌, ℕ, suc, zero, ◌+◌, ◌<◌, ◌≤◌, List, [], ◌∷◌, ◌++◌, length, get_or, take, drop, refl, sym, ap, subst, ◌∙◌, arith, add-one}
 use Rattle.std.specs.Prelude.{slice_set}
 use Rattle.std.specs.List.{AllByRecursion, insert, remove}
 
@@ -81,6 +81,12 @@ module _ {X : Type 0} (P : X → Type 0) where
   pub all_both : (xs ys : List X) → AllByRecursion P xs → AllByRecursion P ys → AllByRecursion P (xs ++ ys)
   all_both [] ys a b = b
   all_both (x ∷ xs) ys a b = (a.0, all_both xs ys a.1 b)
+
+  pub all_take : (i : ℕ) (xs : List X) → AllByRecursion P xs → AllByRecursion P (take i xs)
+  all_take i xs a = all_front (take i xs) (drop i xs) (subst (AllByRecursion P) (sym (take_drop i xs)) a)
+
+  pub all_drop : (i : ℕ) (xs : List X) → AllByRecursion P xs → AllByRecursion P (drop i xs)
+  all_drop i xs a = all_back (take i xs) (drop i xs) (subst (AllByRecursion P) (sym (take_drop i xs)) a)
 
   pub all_set : (xs : List X) (i : ℕ) (x : X) → AllByRecursion P xs → P x → AllByRecursion P (slice_set xs i x)
   all_set [] i x a p = tt
