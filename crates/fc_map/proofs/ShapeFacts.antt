@@ -10,12 +10,13 @@ use Rattle.fc_tree_node.specs.Place.{before_child, IsPlace, before_pair, after_p
 use Rattle.fc_tree_search.specs.Written.{set_value, with_value, with_child, written}
 use Rattle.fc_tree_node.proofs.Pairs.{leaf_children, child_below}
 use Rattle.fc_tree_node.proofs.Gaps.{item_there, place_pairs}
-use Rattle.fc_tree_search.proofs.WrittenPairs.{value_own, value_children, child_own, child_children, length_value, written_levels, written_pairs}
+use Rattle.fc_tree_node.proofs.Lent.{replaced}
+use Rattle.fc_tree_search.proofs.WrittenPairs.{value_own, value_children, length_value, written_levels, written_pairs}
 use Rattle.fc_map.specs.Entries.{Map, entries, IsSoundMap}
 use Rattle.fc_tree_walk.specs.Gap.{IsGapIn}
 use Rattle.fc_tree_node.specs.TreePlace.{IsPlaceIn, before_gap_in, before_pair_in}
 use Rattle.fc_map.specs.Lends.{written_in}
-use Rattle.fc_tree_walk.proofs.GapFacts.{one_height}
+use Rattle.fc_tree_node.proofs.Formed.{one_height}
 
 module _ {X : Type 0} where
   taken : (i : ℕ) (xs ys : List X) → length xs ≡ length ys → length (take i xs) ≡ length (take i ys)
@@ -36,11 +37,6 @@ module _ {X : Type 0} where
 
   get_same : (xs : List X) (i : ℕ) (d e : X) → i < length xs → get_or xs i d ≡ get_or xs i e
   get_same xs i d e h = let x = item_there xs i h in x.1 d ∙ sym (x.1 e)
-
-  get_set : (xs : List X) (i : ℕ) (x d : X) → i < length xs → get_or (slice_set xs i x) i d ≡ x
-  get_set [] i x d h = absurd (omega arith)
-  get_set (y ∷ xs) zero x d h = refl
-  get_set (y ∷ xs) (suc i) x d h = get_set xs i x d (omega arith)
 
   get_other : (xs : List X) (i j : ℕ) (x d e : X) → (i ≡ j → ⊥) → j < length xs → get_or (slice_set xs i x) j d ≡ get_or xs j e
   get_other [] i j x d e other h = absurd (omega arith)
@@ -115,10 +111,11 @@ module _ {K V : Type 0} where
     kept_child [] h n i c l e p k many inside = absurd (omega arith)
     kept_child (j ∷ gap) h n i c l e p k many inside =
         let m = with_child n i c in
-        let own = ap length (child_own n i c) in
+        let s = replaced n i c in
+        let own = s.size in
         let lead : length (before_child m j) ≡ length (before_child n j) =
-        ap (λ ps. length (before_list (map pairs_of (take j (children_of m))) (take j ps))) (child_own n i c)
-        ∙ ap (λ cs. length (before_list (map pairs_of (take j cs)) (take j (own_pairs n)))) (child_children n i c)
+        ap (λ ps. length (before_list (map pairs_of (take j (children_of m))) (take j ps))) s.same
+        ∙ ap (λ cs. length (before_list (map pairs_of (take j cs)) (take j (own_pairs n)))) s.child
         ∙ before_set (children_of n) i j c n (take j (own_pairs n)) many in
         let r = below (same_or i j) in (
           (omega (arith, own, p.0), r.0),
@@ -128,14 +125,13 @@ module _ {K V : Type 0} where
       where
         below : (i ≡ j) ⊎ (i ≡ j → ⊥) → IsKept gap (child_at (with_child n i c) j) (child_at n j)
         below (inl s) =
-            let same : child_at (with_child n i c) i ≡ c = ap (λ cs. get_or cs i (with_child n i c)) (child_children n i c)
-            ∙ get_set (children_of n) i c (with_child n i c) k in
+            let same = (replaced n i c).here k in
             let x = inside gap (omega arith) (subst (λ j. IsPath gap (child_at n j)) (sym s) p.1) in
             subst (λ j. IsKept gap (child_at (with_child n i c) j) (child_at n j)) s (subst (λ d. IsKept gap d (child_at n i)) (sym same) x)
         below (inr other) =
             let many : length (children_of n) ≡ length (own_pairs n) + 1 = l.1 in
             let le : j ≤ length (own_pairs n) = p.0 in
-            let same : child_at (with_child n i c) j ≡ child_at n j = ap (λ cs. get_or cs j (with_child n i c)) (child_children n i c)
+            let same : child_at (with_child n i c) j ≡ child_at n j = ap (λ cs. get_or cs j (with_child n i c)) (replaced n i c).child
             ∙ get_other (children_of n) i j c (with_child n i c) n other (omega arith) in
             (subst (IsPath gap) (sym same) p.1, ap (λ d. length (before_gap gap d)) same)
 

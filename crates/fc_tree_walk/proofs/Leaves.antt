@@ -302,7 +302,6 @@ module _ {K V Z : Type 0} where
         let now = here front w in
         let s = (cut_of front w).count (get_or back h 0) o.0 in
         let same = o.1 in
-        let le = ends.2 in
         (front_took front back w (get_or back h 0) ends.1 (omega arith) o.0 (omega arith), slice_none (pairs_of n) _ _ (s ∙ sym same))
 
     front_leaves : (front back : List ℕ) → AreEndsIn (Some n) front back → (take h front ≡ take h back → ⊥)
@@ -324,7 +323,6 @@ module _ {K V Z : Type 0} where
         let now = here back w in
         let s = (cut_of back w).count (get_or front h 0) o.0 in
         let same = o.1 in
-        let le = ends.2 in
         (back_took front back w (get_or front h 0) ends.0 (omega arith) (omega arith), slice_none (pairs_of n) _ _ (same ∙ sym s))
 
     back_leaves : (front back : List ℕ) → AreEndsIn (Some n) front back → (take h back ≡ take h front → ⊥)

@@ -177,7 +177,7 @@ module _ {K V : Type 0} (cmp : K → K → Ordering) where
       pub holds_before : (i : ℕ) → TurnsAt t (own_pairs n) i → AllByRecursion (λ y. t y ≡ true) (before_child n i)
       holds_before zero r = tt
       holds_before (suc j) r =
-          let k : j < length (own_pairs n) = (let le = r.within in omega arith) in
+          let k : j < length (own_pairs n) = (omega arith) in
           let x = (item_there (own_pairs n) j k).0 in
           let p = get_or (own_pairs n) j x in
           let e : t p ≡ true = r.holds j x (omega arith) (omega arith) in
@@ -250,7 +250,7 @@ module _ {K Q S : Type 0} {cmp : K → K → Ordering} {order : K → S → Orde
         → ahead order sought lo (pairs_of n) + amid order sought lo hi (pairs_of n)
         ≡ length (before_child n i) + (ahead order sought lo c + amid order sought lo hi c)
     both_at lo hi stop r v le =
-        let same : stop ≡ i = (let ge = v.later in omega arith) in
+        let same : stop ≡ i = (omega arith) in
         let turn = turn_first r in
         let a = ahead_at lo turn in
         let b = amid_at lo hi turn (subst (FailsAt (λ e. leads order sought hi e.0) (own_pairs n)) same v.fails) in
@@ -261,7 +261,7 @@ module _ {K Q S : Type 0} {cmp : K → K → Ordering} {order : K → S → Orde
       → TurnsAt (λ e. leads order sought lo e.0) (own_pairs n) start → IsTurn (λ e. leads order sought hi e.0) (own_pairs n) start stop
       → ahead order sought hi (pairs_of n) ≡ ahead order sought lo (pairs_of n) + amid order sought lo hi (pairs_of n)
   amid_parted h n l o lo hi start stop lt r v =
-      let k : start < length (own_pairs n) = (let le = v.within in omega arith) in
+      let k : start < length (own_pairs n) = (omega arith) in
       let x = (item_there (own_pairs n) start k).0 in
       let p = get_or (own_pairs n) start x in
       let is = own_pair h n start x l k in

@@ -10,8 +10,6 @@ returns-then-len-eq0-clause-pairs g c = blank_back _ _ (spare_taken _ _ _ c.take
 
 pub returns-then-len-eq0-clause-levels : goal.returns-then-len-eq0-clause-levels
 returns-then-len-eq0-clause-levels g c h f =
-    let v = c.len.ensures.value in
-    let z = c.if-len-eq0.true in
     let e = no_item c.args.spine.now (omega arith) in
     (blank_end h _ (spare_taken _ _ _ c.take_spare.ensures c.requires.blank).0, subst (IsSpine (suc h)) (sym e) tt)
 
@@ -20,8 +18,6 @@ returns-then-len-eq0-clause-blank g c = (spare_taken _ _ _ c.take_spare.ensures 
 
 pub returns-then-len-eq0-clause-worth : goal.returns-then-len-eq0-clause-worth
 returns-then-len-eq0-clause-worth g c =
-    let v = c.len.ensures.value in
-    let z = c.if-len-eq0.true in
     let w : worth c.args.spine.now ≡ 0 = ap worth (no_item c.args.spine.now (omega arith)) in
     let a = ap length (spare_taken _ _ _ c.take_spare.ensures c.requires.blank).0.0 in
     omega arith

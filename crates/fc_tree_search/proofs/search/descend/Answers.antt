@@ -14,7 +14,7 @@ searched g c = record { fits = g.met.Q.Query.fits; levels = c.requires.levels; o
 pub push-requires : goal.push-requires
 push-requires g c = record {
   room = way_room _ _ c.requires.levels c.down.invariant.0;
-  small = way_small _ _ c.in-Ok.i c.requires.levels c.down.invariant.0 (let found = c.in-Ok.ensures.found.0 in omega arith);
+  small = way_small _ _ c.in-Ok.i c.requires.levels c.down.invariant.0 (omega arith);
 }
 
 pub push-requires-in-Err : goal.push-requires-in-Err

@@ -5,11 +5,9 @@ use Rattle.fc_iter.proofs.into_iter.IntoIterDoubleEndedIterator.next_back.Goals 
 
 pub next_back-requires : goal.next_back-requires
 next_back-requires g c =
-    let left : c.self.inside.left ≡ length c.self.inside.drain = c.self.invariant in
     (drain_fits (param 0 g.row.K) (param 1 g.row.V) g.row.A g.A.Allocator g.met.A.Handle.small, omega arith)
 
 pub invariant_of-self : goal.invariant_of-self
 invariant_of-self g c =
-    let left : c.self.inside.left ≡ length c.self.inside.drain = c.self.invariant in
     let fewer = ap length c.next_back.ensures ∙ length-append c.next_back.new.self (c.next_back.result ∷ []) in
     omega arith

@@ -5,5 +5,4 @@ use Rattle.fc_iter.proofs.into_iter.IntoIterIterator.next.Goals as goal
 
 pub next-requires : goal.next-requires
 next-requires g c =
-    let left : c.self.inside.left ≡ length c.self.inside.drain = c.self.invariant in
     (drain_fits (param 0 g.row.K) (param 1 g.row.V) g.row.A g.A.Allocator g.met.A.Handle.small, omega arith)

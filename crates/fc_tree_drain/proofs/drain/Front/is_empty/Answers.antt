@@ -10,7 +10,7 @@ pub returns-then-run_len-eq0 : goal.returns-then-run_len-eq0
 returns-then-run_len-eq0 g c =
     let s = c.self.inside in
     let size = ap length (sym c.self.view_is) ∙ length-append (items_or_none s.run) (after_front s.nodes) in
-    let r = c.run_len.ensures in let z = c.if-run_len-eq0.true in let l = c.len.ensures.value in (
+    (
       λ t. let i = eqb-true _ _ t in let n = ap length (ap after_front (no_item s.nodes (omega arith))) in omega arith,
       λ e. eq-eqb _ 0 (let n = (none_front (items_or_none s.run) s.nodes c.self.invariant (ap length c.self.view_is ∙ e)).1 in omega arith),
     )
@@ -19,4 +19,4 @@ pub returns-else-run_len-eq0 : goal.returns-else-run_len-eq0
 returns-else-run_len-eq0 g c =
     let s = c.self.inside in
     let size = ap length (sym c.self.view_is) ∙ length-append (items_or_none s.run) (after_front s.nodes) in
-    let r = c.run_len.ensures in let z = c.if-run_len-eq0.false in (λ t. absurd (z (eqb-true _ _ t)), λ e. absurd (omega arith))
+    let z = c.if-run_len-eq0.false in (λ t. absurd (z (eqb-true _ _ t)), λ e. absurd (omega arith))

@@ -5,7 +5,7 @@ use Rattle.fc_tree_search.specs.Neighbours.{first_item}
 use Rattle.fc_tree_search.specs.Passed.{passed}
 use Rattle.fc_tree_search.proofs.SearchFacts.{IsOnWay}
 use Rattle.fc_tree_search.proofs.Nodes.{nodes_of}
-use Rattle.fc_tree_search.proofs.neighbours.first_from.Given as goal
+use Rattle.fc_tree_search.proofs.neighbours.first_behind.Given as goal
 
 abbrev pub invariant-down : goal.invariant-down
 invariant-down g l = ((path : List ℕ) × IsOnWay g.Q.Query.order (g.Q.Query.sought l.key) l.root l.node path
