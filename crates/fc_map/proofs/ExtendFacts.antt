@@ -25,7 +25,7 @@ use Rattle.fc_base.specs.OneKey.{put}
 use Rattle.fc_base.specs.Parts.{below, above, at}
 use Rattle.fc_tree_build.specs.Built.{Grown, IsBehindLast}
 use Rattle.fc_map.specs.Entries.{Map, entries}
-use Rattle.fc_map.specs.Extension.{IsExtension}
+use Rattle.fc_map.specs.Edge.{IsEdge}
 
 module _ {K V : Type 0} (cmp : K → K → Ordering) where
   more : (s items : List (K × V)) (e : K × V) → put cmp (extended cmp s items) e.0 e.1 ≡ extended cmp s (items ++ e ∷ [])
@@ -84,13 +84,13 @@ module _ {K V : Type 0} (cmp : K → K → Ordering) where
   -- ---- a tree that is open, and a map beside it
 
   -- Where the tree has a pair, it has all.
-  pub none_beside : (t m front : List (K × V)) (last : K × V) → IsExtension cmp t m → t ≡ front ++ last ∷ [] → m ≡ []
+  pub none_beside : (t m front : List (K × V)) (last : K × V) → IsEdge cmp t m → t ≡ front ++ last ∷ [] → m ≡ []
   none_beside t m front last (a, inl none) e = absurd (let n = length-append front (last ∷ []) in let z = ap length (sym none ∙ e) in omega arith)
   none_beside t m front last (a, inr none) e = none
 
   -- A pair whose key is greater than the last one is put behind all.
-  pub put_last : (t m new : List (K × V)) (k : K) (v : V) → IsTotalOrder cmp → IsExtension cmp t m → IsBehindLast cmp t k → new ≡ t ++ (k, v) ∷ []
-      → (new ++ m ≡ put cmp (t ++ m) k v) × IsExtension cmp new m
+  pub put_last : (t m new : List (K × V)) (k : K) (v : V) → IsTotalOrder cmp → IsEdge cmp t m → IsBehindLast cmp t k → new ≡ t ++ (k, v) ∷ []
+      → (new ++ m ≡ put cmp (t ++ m) k v) × IsEdge cmp new m
   put_last t m new k v total x b e =
       let none = none_beside t m b.0 b.1 x b.2 in
       let all = behind t b.0 b.1 k total b.2 x.0 b.3 in (
@@ -99,11 +99,11 @@ module _ {K V : Type 0} (cmp : K → K → Ordering) where
       )
 
   -- All pairs stand in the map once it has one,
-  none_open : (t m : List (K × V)) (b : Bool) → IsExtension cmp t m → b ≡ false → IsTrue b ↔ (m ≡ []) → t ≡ []
+  none_open : (t m : List (K × V)) (b : Bool) → IsEdge cmp t m → b ≡ false → IsTrue b ↔ (m ≡ []) → t ≡ []
   none_open t m b (a, inl none) unset is = none
   none_open t m b (a, inr none) unset is = absurd (iff_false is unset none)
 
-  pub all_in_map : (t m s : List (K × V)) (b : Bool) → IsExtension cmp t m → t ++ m ≡ s → b ≡ false → IsTrue b ↔ (m ≡ []) → (t ≡ []) × (m ≡ s)
+  pub all_in_map : (t m s : List (K × V)) (b : Bool) → IsEdge cmp t m → t ++ m ≡ s → b ≡ false → IsTrue b ↔ (m ≡ []) → (t ≡ []) × (m ≡ s)
   all_in_map t m s b x e unset is = let none = none_open t m b x unset is in (none, sym (ap (λ z. z ++ m) none) ∙ e)
 
 -- and in the tree where the map has none.

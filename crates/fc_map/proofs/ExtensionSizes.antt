@@ -1,6 +1,6 @@
 -- A map that is extended fits in memory, whatever its allocator.
 use Rattle.std.proofs.Common.{◌^◌, ◌<◌, ◌≤◌, arith}
-use lib.Dec.{lit<}
+use lib.Dec.{lit<, lit≤}
 use denote.RattleType.{RattleType}
 use denote.Param.{layout, copied}
 use mir.Syntax.{Ty, tcons, ty_struct}
@@ -12,6 +12,7 @@ use Rattle.std.specs.declared.cmp.PartialOrd as partial
 use Rattle.std.specs.Mem.{type_size}
 use Rattle.fc_tree_node.specs.contracts.node.Node as node
 use Rattle.fc_tree_drain.proofs.Sizes.{Shape, whole, most, part, list_shape, maybe_shape, node_shape, nodes_shape, bound_holds, below}
+use Rattle.fc_map.specs.contracts.map.edge.Edge as edge
 use Rattle.fc_map.specs.contracts.map.extension.Extension as extension
 
 -- The first field of a struct.
@@ -31,11 +32,23 @@ growing_shape = part nodes_shape (part (maybe_shape node_shape) (part whole (par
 abbrev map_shape : Shape
 map_shape = part (maybe_shape node_shape) (part whole (part (most 65536) whole))
 
+abbrev edge_shape : Shape
+edge_shape = part growing_shape (part map_shape whole)
+
+-- A vector's fields: each of them is the allocator's handle, or a word.
+abbrev vector_shape : Shape
+vector_shape = part (most 65536) (part (most 65536) (part (most 65536) (part (most 65536) whole)))
+
 abbrev extension_shape : Shape
-extension_shape = part growing_shape (part map_shape whole)
+extension_shape = part edge_shape (part vector_shape whole)
 
 module _ (K V A : RattleType) (g : ord.Ghosts K.Denot) (g' : eq.Ghosts K.Denot) (g'' : partial.Ghosts K.Denot) (heap : Ghosts A.Denot) where
+  pub edge_fits : type_size A < 65536 → size (layout (edge.the_row K V (copied 2 A) g g' g'' heap)) < 2 ^ 63
+  edge_fits h =
+      let low : type_size A ≤ 65536 = omega arith in
+      below (bound_holds edge_shape (layout (edge.the_row K V (copied 2 A) g g' g'' heap)) (search (low, tt) depth 40)) (lit< tt)
+
   pub extension_fits : type_size A < 65536 → size (layout (extension.the_row K V (copied 2 A) g g' g'' heap)) < 2 ^ 63
   extension_fits h =
       let low : type_size A ≤ 65536 = omega arith in
-      below (bound_holds extension_shape (layout (extension.the_row K V (copied 2 A) g g' g'' heap)) (search (low, tt) depth 40)) (lit< tt)
+      below (bound_holds extension_shape (layout (extension.the_row K V (copied 2 A) g g' g'' heap)) (search (low, tt, lit≤) depth 40)) (lit< tt)

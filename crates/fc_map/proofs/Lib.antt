@@ -23,3 +23,6 @@ pub mod ExtensionSizes
 pub mod RangeParts
 pub mod RangedFacts
 pub mod PopIfFacts
+pub mod StableLaws
+pub mod GatheredFacts
+pub mod TakenFacts

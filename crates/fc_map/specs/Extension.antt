@@ -1,9 +1,44 @@
--- A map while it is extended: its pairs stand in a tree that is open at the right edge, or in the map.
-use Rattle.std.specs.Prelude.{◌≡◌, ◌⊎◌, List, []}
+-- A map while it is extended, and items that came in no order, to be merged with its pairs.
+use Rattle.std.specs.Prelude.{◌≡◌, Bool, true, false, List, [], ◌∷◌, ◌++◌, Option, None, Some}
+use Rattle.std.specs.List.{AllByRecursion}
+use Rattle.std.specs.Ordering.{is_gt}
 use Rattle.std.specs.declared.cmp.Ordering.{Ordering}
-use Rattle.fc_base.specs.Ascending.{IsAscending}
+use Rattle.std.specs.declared.cmp.Ordering.TheVariants.{Less, Equal, Greater}
+use Rattle.fc_base.specs.Extended.{extended}
+
+-- The pairs of a map that is extended, and the items that were gathered since, which are not put in yet.
+pub record Extending (K V : Type 0) : Type 0 where
+  pub placed : List (K × V)
+  pub gathered : List (K × V)
 
 module _ {K V : Type 0} where
-  -- The pairs of the open tree ascend, and those of the map are none unless the tree has none.
-  abbrev pub IsExtension : (K → K → Ordering) → List (K × V) → List (K × V) → Type 0
-  IsExtension cmp tree map = IsAscending cmp tree × ((tree ≡ []) ⊎ (map ≡ []))
+  -- One item more was taken: the first of those gathered and it are put in, and the others are gathered.
+  pub record IsTaken (cmp : K → K → Ordering) (placed gathered : List (K × V)) (item : K × V) (now_placed now_gathered : List (K × V)) : Type 0 where
+    pub front : List (K × V)
+    pub parts : gathered ++ item ∷ [] ≡ front ++ now_gathered
+    pub put_in : now_placed ≡ extended cmp placed front
+
+  -- The list is empty, or its first key is not below this one.
+  abbrev pub IsNotBelow : (K → K → Ordering) → K → List (K × V) → Type 0
+  IsNotBelow cmp key [] = Unit {0}
+  IsNotBelow cmp key (e ∷ s) = is_gt (cmp key e.0) ≡ false
+
+  -- No key is greater than the next.
+  abbrev pub IsRising : (K → K → Ordering) → List (K × V) → Type 0
+  IsRising cmp [] = Unit {0}
+  IsRising cmp (e ∷ s) = IsNotBelow cmp e.0 s × IsRising cmp s
+
+  -- Two lists, with the pair that is held between them, if there is one.
+  abbrev pub with_held : List (K × V) → Option (K × V) → List (K × V) → List (K × V)
+  with_held front None back = front ++ back
+  with_held front (Some held) back = front ++ held ∷ back
+
+  -- The pair that is held, if there is one, has no greater key than this; else there is no pair before.
+  abbrev pub IsHeldBehind : (K → K → Ordering) → List (K × V) → Option (K × V) → K → Type 0
+  IsHeldBehind cmp front None key = front ≡ []
+  IsHeldBehind cmp front (Some held) key = is_gt (cmp held.0 key) ≡ false
+
+  -- The first pair has an equal key, or all have greater ones.
+  abbrev pub IsStoppedAt : (K → K → Ordering) → List (K × V) → K → Bool → Type 0
+  IsStoppedAt cmp s key true = (first : K × V) × (rest : List (K × V)) × (s ≡ first ∷ rest) × (cmp first.0 key ≡ Equal)
+  IsStoppedAt cmp s key false = AllByRecursion (λ e. cmp e.0 key ≡ Greater) s

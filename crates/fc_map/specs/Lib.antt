@@ -16,6 +16,7 @@ pub mod Walks
 pub mod Stretches
 pub mod Compare
 pub mod CompareLaws
+pub mod Edge
 pub mod Extension
 pub mod PopIf
 pub mod Ranged

@@ -35,13 +35,14 @@ impl<K: Ord + Drop, V: Drop, A: Handle> BTreeMap<K, V, A> {
             match extension.try_put(key, value) {
                 Ok(()) => (),
                 Err(error) => {
-                    *self = extension.finish();
+                    *self = extension.stop();
                     return Err(error);
                 }
             }
         }
-        *self = extension.finish();
-        Ok(())
+        let (map, done) = extension.finish();
+        *self = map;
+        done
     }
 }
 

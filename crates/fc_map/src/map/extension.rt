@@ -1,149 +1,199 @@
-//! A map that takes items one after another, each behind the last at the right edge of its tree, as long as they ascend.
-ghost use Rattle.std.specs.Prelude.{◌≡◌, ◌+◌, [], ◌∷◌, ◌++◌, length, IsTrue, IfOk, IfErr, None};
-ghost use Rattle.std.specs.List.{AllByRecursion};
-ghost use Rattle.std.specs.declared.cmp.Ordering.TheVariants.{Less};
+//! A map that takes items one after another, and gathers those that come in no order once they are many.
+ghost use Rattle.std.specs.Prelude.{◌≡◌, List, [], ◌∷◌, ◌++◌, IfErr, OnOk};
 ghost use Rattle.fc_base.specs.Ascending.{IsAscending};
-ghost use Rattle.fc_base.specs.Growth.{MayGrowRefuse};
-ghost use Rattle.fc_base.specs.OneKey.{put};
-ghost use Rattle.fc_base.specs.Parts.{at};
+ghost use Rattle.fc_base.specs.Extended.{extended, IsExtendedUpTo};
 ghost use Rattle.fc_map.specs.Entries.{entries, IsSoundMap};
-ghost use Rattle.fc_map.specs.Extension.{IsExtension};
+ghost use Rattle.fc_map.specs.Extension.{IsTaken};
 
-use super::{BTreeMap, for_sets};
-use fc_base::{Count, Handle, TryReserveError};
-use fc_tree_build::growing::Growing;
-use fc_tree_node::node::CAPACITY;
+use super::BTreeMap;
+use super::edge::Edge;
+use fc_base::{Handle, TryReserveError};
 use std::alloc::Global;
 use std::marker::Model;
 use std::mem;
 
-/// A map while it is extended, seen as the list of its pairs: they stand in a tree that is open at its right edge, until an item comes that
-/// doesn't lie behind the last one; then they stand in the map, and from there on each item is inserted from the root.
+// So many items that come in no order go in one by one, so that few ask for no more memory than insertions do. Those after them are gathered.
+const SINGLE: usize = 256;
+
+// So many items are gathered at least before they are put in, and so many times as many as the map has pairs.
+const FEWEST: usize = 1024;
+
+const TIMES: usize = 8;
+
+/// A map while it is extended, seen as the list of its pairs, and that of the items that are not put in yet.
 #[derive(Drop)]
 pub struct Extension<K: Ord, V, A: Handle = Global> {
-    tree: Growing<K, V, A>,
-    map: BTreeMap<K, V, A>,
+    edge: Edge<K, V, A>,
+    gathered: Vec<(K, V), A>,
+    // How many more items that come in no order go in one by one.
+    single: usize,
 }
 
 impl<K: Ord, V, A: Handle> Model for Extension<K, V, A> {
-    ghost use Rattle.std.specs.Prelude.{◌++◌, List};
-    ghost use Rattle.fc_map.specs.Entries.{entries};
-    ghost use Rattle.fc_map.specs.Extension.{IsExtension};
+    ghost use Rattle.std.specs.Prelude.{◌≡◌, ◌<◌, []};
+    ghost use Rattle.fc_map.specs.Extension.{Extending};
 
-    ghost Value = { List (K × V) };
+    ghost Value = { Extending K V };
 
-    ghost view = { λ e. e.tree.pairs ++ entries e.map };
+    ghost view = { λ e. record { placed = e.edge; gathered = e.gathered.items } };
 
-    ghost invariant = { λ e. IsExtension K.cmp e.tree.pairs (entries e.map) };
+    ghost invariant = { λ e. 0 < e.single → e.gathered.items ≡ [] };
 }
 
 impl<K: Ord + Drop, V: Drop, A: Handle> Extension<K, V, A> {
     /// The map's pairs, which are taken out of it. It takes no memory and compares nothing.
     pub fn over(map: &mut BTreeMap<K, V, A>) -> Extension<K, V, A>
-        ensures { result ≡ entries map.old }
+        ensures placed { result.placed ≡ entries map.old }
+        ensures gathered { result.gathered ≡ [] }
     {
         let alloc = map.alloc;
-        let mut map = mem::replace(map, BTreeMap::new(alloc));
-        if map.len > usize::MAX - CAPACITY {
-            return Extension {
-                tree: Growing::new(alloc),
-                map,
-            };
-        }
-        let len = mem::replace(&mut map.len, 0);
-        let root = map.root.take();
         Extension {
-            tree: Growing::over(alloc, root, len),
-            map,
+            edge: Edge::over(map),
+            gathered: Vec::new(alloc),
+            single: SINGLE,
         }
     }
 
-    /// Puts the item in, as `BTreeMap::try_insert`: by a comparison or two with the last key where all items so far came in ascending order.
+    /// Takes one more item, to be put in as by `BTreeMap::try_insert`: now, or later, with others.
     ///
     /// # Errors
-    /// As `BTreeMap::try_insert`. The item is dropped.
+    /// As `BTreeMap::try_insert`, at it or at one that was gathered. Those before that one are put in.
     pub fn try_put(&mut self, key: K, value: V) -> Result<(), TryReserveError>
-        ensures put { IfOk result (λ _. self.new ≡ put K.cmp self.old key value) }
-        ensures unchanged { IfErr result (λ _. self.new ≡ self.old) }
-        ensures new_key { IfErr result (λ _. at K.cmp self.old key ≡ None) }
-        ensures error { IfErr result (λ e. MayGrowRefuse (length self.old) e) }
+        ensures taken { OnOk result (IsTaken K.cmp self.old.placed self.old.gathered (key, value) self.new.placed self.new.gathered) }
+        ensures error { IfErr result (λ e. (rest : List (K × V)) → IsExtendedUpTo K.cmp self.old.placed ((self.old.gathered ++ (key, value) ∷ []) ++ rest) self.new.placed e) }
     {
-        let Some((key, value)) = self.tree.put_if_behind((key, value)) else {
-            return Ok(());
-        };
-        if is_behind(&self.tree, &self.map, &key) {
-            return push_behind(&mut self.tree, key, value);
+        if self.single > 0 {
+            return match self.edge.try_put(key, value, &mut self.single) {
+                Ok(()) => Ok(()),
+                Err(error) => Err(error),
+            };
         }
-        if self.map.is_empty() {
-            close(&mut self.tree, &mut self.map);
-        }
-        self.map.put(key, value, &mut Count::new())
+        gather(
+            &mut self.edge,
+            &mut self.gathered,
+            &mut self.single,
+            key,
+            value,
+        )
     }
 
-    /// The map of all pairs.
-    pub fn finish(self) -> BTreeMap<K, V, A>
-        ensures pairs { entries result ≡ self }
+    /// The map of all pairs. The items that were gathered are put in.
+    ///
+    /// # Errors
+    /// As `try_put`, at one of them, beside the map with those before it.
+    pub fn finish(self) -> (BTreeMap<K, V, A>, Result<(), TryReserveError>)
+        ensures all { OnOk result.1 (entries result.0 ≡ extended K.cmp self.placed self.gathered) }
+        ensures error { IfErr result.1 (λ e. (rest : List (K × V)) → IsExtendedUpTo K.cmp self.placed (self.gathered ++ rest) (entries result.0) e) }
+        ensures ascending { IsAscending K.cmp (entries result.0) }
+        ensures sound { IsSoundMap result.0 }
+    {
+        let Extension {
+            edge,
+            gathered,
+            single: _,
+        } = self;
+        finish_with(edge, gathered)
+    }
+
+    /// The map of the pairs that are put in. The items that were gathered are dropped.
+    pub fn stop(self) -> BTreeMap<K, V, A>
+        ensures pairs { entries result ≡ self.placed }
         ensures ascending { IsAscending K.cmp (entries result) }
         ensures sound { IsSoundMap result }
     {
-        let Extension { tree, map } = self;
-        if map.is_empty() {
-            return for_sets::from_grown(map.alloc, tree);
-        }
-        map
+        let Extension {
+            edge,
+            gathered: _,
+            single: _,
+        } = self;
+        edge.finish()
     }
 }
 
-// Whether the map has no pair, and the key lies behind all keys of the tree: it is compared with the last one.
-fn is_behind<K: Ord, V, A: Handle>(
-    tree: &Growing<K, V, A>,
-    map: &BTreeMap<K, V, A>,
-    key: &K,
-) -> bool
-    requires { IsExtension K.cmp tree.now.pairs (entries map.now) }
-    ensures behind { IsTrue result → AllByRecursion (λ e. K.cmp e.0 key.now ≡ Less) tree.now.pairs }
-    ensures open { IsTrue result → entries map.now ≡ [] }
-{
-    match tree.last() {
-        None => map.is_empty(),
-        Some(last) => last.0.cmp(key).is_lt(),
-    }
-}
-
-// Puts a pair behind all others. It is not inlined, since the pairs that a leaf has room for would then pay for its locals.
+// Gathers the item, and puts those gathered in where they are many. Where there is no room for it, they are put in, and from then on items go in one by one.
 #[inline(never)]
-fn push_behind<K: Ord + Drop, V: Drop, A: Handle>(
-    tree: &mut Growing<K, V, A>,
+fn gather<K: Ord + Drop, V: Drop, A: Handle>(
+    edge: &mut Edge<K, V, A>,
+    gathered: &mut Vec<(K, V), A>,
+    single: &mut usize,
     key: K,
     value: V,
 ) -> Result<(), TryReserveError>
-    requires ascending { IsAscending K.cmp tree.old.pairs }
-    requires behind { AllByRecursion (λ e. K.cmp e.0 key ≡ Less) tree.old.pairs }
-    ensures put { IfOk result (λ _. tree.new.pairs ≡ put K.cmp tree.old.pairs key value) }
-    ensures ascending { IsAscending K.cmp tree.new.pairs }
-    ensures unchanged { IfErr result (λ _. tree.new ≡ tree.old) }
-    ensures new_key { IfErr result (λ _. at K.cmp tree.old.pairs key ≡ None) }
-    ensures error { IfErr result (λ e. MayGrowRefuse (length tree.old.pairs) e) }
+    requires { single.old ≡ 0 }
+    ensures taken { OnOk result (IsTaken K.cmp edge.old gathered.old.items (key, value) edge.new gathered.new.items) }
+    ensures error { IfErr result (λ e. (rest : List (K × V)) → IsExtendedUpTo K.cmp edge.old ((gathered.old.items ++ (key, value) ∷ []) ++ rest) edge.new e) }
+    ensures single { 0 < single.new → gathered.new.items ≡ [] }
 {
-    if tree.len() == usize::MAX {
-        return Err(TryReserveError::CapacityOverflow);
+    match gathered.reserve(1) {
+        Err(_refused) => {
+            *single = usize::MAX;
+            return put_singly(edge, gathered, single, key, value);
+        }
+        Ok(()) => (),
     }
-    match tree.push((key, value)) {
+    match gathered.push((key, value)) {
+        Err(_back) => unreachable!(),
+        Ok(()) => (),
+    }
+    let len = gathered.len();
+    if len < FEWEST || len / TIMES < edge.closed_len() {
+        return Ok(());
+    }
+    match put_gathered(edge, gathered) {
         Ok(()) => Ok(()),
-        Err((_pair, error)) => Err(error),
+        Err(error) => Err(error),
     }
 }
 
-// Moves the tree's pairs into the map, which has none.
-#[cold]
-fn close<K: Ord + Drop, V: Drop, A: Handle>(
-    tree: &mut Growing<K, V, A>,
-    map: &mut BTreeMap<K, V, A>,
-)
-    requires { IsAscending K.cmp tree.old.pairs }
-    ensures pairs { entries map.new ≡ tree.old.pairs }
-    ensures closed { tree.new.pairs ≡ [] }
+// Puts in what was gathered, and then the item.
+fn put_singly<K: Ord + Drop, V: Drop, A: Handle>(
+    edge: &mut Edge<K, V, A>,
+    gathered: &mut Vec<(K, V), A>,
+    single: &mut usize,
+    key: K,
+    value: V,
+) -> Result<(), TryReserveError>
+    ensures taken { OnOk result (IsTaken K.cmp edge.old gathered.old.items (key, value) edge.new gathered.new.items) }
+    ensures error { IfErr result (λ e. (rest : List (K × V)) → IsExtendedUpTo K.cmp edge.old ((gathered.old.items ++ (key, value) ∷ []) ++ rest) edge.new e) }
+    ensures none { gathered.new.items ≡ [] }
 {
-    let grown = mem::replace(tree, Growing::new(map.alloc));
-    *map = for_sets::from_grown(map.alloc, grown);
+    match put_gathered(edge, gathered) {
+        Ok(()) => match edge.try_put(key, value, single) {
+            Ok(()) => Ok(()),
+            Err(error) => Err(error),
+        },
+        Err(error) => Err(error),
+    }
+}
+
+// Puts in what was gathered.
+fn put_gathered<K: Ord + Drop, V: Drop, A: Handle>(
+    edge: &mut Edge<K, V, A>,
+    gathered: &mut Vec<(K, V), A>,
+) -> Result<(), TryReserveError>
+    ensures all { OnOk result (edge.new ≡ extended K.cmp edge.old gathered.old.items) }
+    ensures error { IfErr result (λ e. (rest : List (K × V)) → IsExtendedUpTo K.cmp edge.old (gathered.old.items ++ rest) edge.new e) }
+    ensures none { gathered.new.items ≡ [] }
+{
+    let alloc = edge.allocator();
+    let items = mem::replace(gathered, Vec::new(alloc));
+    edge.put_all(items)
+}
+
+// The map of the pairs, with the items put in.
+fn finish_with<K: Ord + Drop, V: Drop, A: Handle>(
+    edge: Edge<K, V, A>,
+    items: Vec<(K, V), A>,
+) -> (BTreeMap<K, V, A>, Result<(), TryReserveError>)
+    ensures all { OnOk result.1 (entries result.0 ≡ extended K.cmp edge items.items) }
+    ensures error { IfErr result.1 (λ e. (rest : List (K × V)) → IsExtendedUpTo K.cmp edge (items.items ++ rest) (entries result.0) e) }
+    ensures ascending { IsAscending K.cmp (entries result.0) }
+    ensures sound { IsSoundMap result.0 }
+{
+    let mut edge = edge;
+    if items.len() == 0 {
+        return (edge.finish(), Ok(()));
+    }
+    let done = edge.put_all(items);
+    (edge.finish(), done)
 }

@@ -97,13 +97,14 @@ impl<T: Ord + Drop, A: Handle> BTreeSet<T, A> {
             match extension.try_put(item, ()) {
                 Ok(()) => (),
                 Err(error) => {
-                    self.map = extension.finish();
+                    self.map = extension.stop();
                     return Err(error);
                 }
             }
         }
-        self.map = extension.finish();
-        Ok(())
+        let (map, done) = extension.finish();
+        self.map = map;
+        done
     }
 }
 

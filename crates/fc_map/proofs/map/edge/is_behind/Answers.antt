@@ -2,7 +2,7 @@ use Rattle.std.proofs.Common.{sym, ◌∙◌}
 use Rattle.fc_map.specs.Entries.{entries}
 use Rattle.fc_tree_build.proofs.Ends.{less_if}
 use Rattle.fc_map.proofs.ExtendFacts.{behind, none_beside}
-use Rattle.fc_map.proofs.map.extension.is_behind.Goals as goal
+use Rattle.fc_map.proofs.map.edge.is_behind.Goals as goal
 
 pub returns-in-Some-clause-behind : goal.returns-in-Some-clause-behind
 returns-in-Some-clause-behind g c h =

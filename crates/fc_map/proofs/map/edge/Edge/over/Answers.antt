@@ -3,7 +3,7 @@ use denote.Param.{param}
 use Rattle.fc_tree_build.proofs.StackSizes.{growing_fits}
 use Rattle.fc_map.specs.Entries.{entries, IsSoundMap}
 use Rattle.fc_map.proofs.ExtendFacts.{still_counted}
-use Rattle.fc_map.proofs.map.extension.Extension.over.Goals as goal
+use Rattle.fc_map.proofs.map.edge.Edge.over.Goals as goal
 
 pub new-requires-then-map : goal.new-requires-then-map
 new-requires-then-map g c = growing_fits (param 0 g.row.K) (param 1 g.row.V) g.row.A g.A.Allocator g.met.A.Handle.small

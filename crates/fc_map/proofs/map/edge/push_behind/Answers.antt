@@ -1,6 +1,6 @@
 use Rattle.std.proofs.Common.{sym, ◌∙◌}
 use Rattle.fc_map.proofs.ExtendFacts.{put_behind, ascending_behind, push_refusal}
-use Rattle.fc_map.proofs.map.extension.push_behind.Goals as goal
+use Rattle.fc_map.proofs.map.edge.push_behind.Goals as goal
 
 pub returns-then-len-eq18446744073709551615-clause-new_key : goal.returns-then-len-eq18446744073709551615-clause-new_key
 returns-then-len-eq18446744073709551615-clause-new_key g c = (put_behind g.K.Ord.cmp c.args.tree.now.pairs c.args.key c.args.value c.requires.behind).1

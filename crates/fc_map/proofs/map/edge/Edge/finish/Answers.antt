@@ -4,7 +4,7 @@ use Rattle.fc_tree_build.proofs.StackSizes.{growing_fits, items_fit}
 use Rattle.fc_map.specs.Entries.{entries}
 use Rattle.fc_map.proofs.ExtendFacts.{all_in_map, all_in_tree}
 use Rattle.fc_map.proofs.ExtensionSizes.{list_fits}
-use Rattle.fc_map.proofs.map.extension.Extension.finish.Goals as goal
+use Rattle.fc_map.proofs.map.edge.Edge.finish.Goals as goal
 
 pub from_grown-requires : goal.from_grown-requires
 from_grown-requires g c = (growing_fits (param 0 g.row.K) (param 1 g.row.V) g.row.A g.A.Allocator g.met.A.Handle.small, c.self.invariant.0)

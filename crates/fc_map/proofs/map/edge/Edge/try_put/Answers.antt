@@ -4,12 +4,12 @@ use Rattle.fc_base.specs.OneKey.{put}
 use Rattle.fc_map.specs.Entries.{entries}
 use Rattle.fc_base.specs.Ascending.{IsAscending}
 use Rattle.fc_tree_build.proofs.StackSizes.{growing_fits}
-use Rattle.fc_map.specs.Extension.{IsExtension}
+use Rattle.fc_map.specs.Edge.{IsEdge}
 use Rattle.fc_map.proofs.ExtendFacts.{put_last, all_in_map, all_in_tree}
 use Rattle.fc_map.proofs.ExtendFacts.{put_in_tree, put_in_map, same_in_tree, same_in_map, still_new, same_refusal}
-use Rattle.fc_map.proofs.map.extension.Extension.try_put.Given as given
-use Rattle.fc_map.proofs.map.extension.Extension.try_put.Goals as goal
-use Rattle.fc_map.proofs.map.extension.Extension.try_put.Goals.{then-is_empty, else-is_empty}
+use Rattle.fc_map.proofs.map.edge.Edge.try_put.Given as given
+use Rattle.fc_map.proofs.map.edge.Edge.try_put.Goals as goal
+use Rattle.fc_map.proofs.map.edge.Edge.try_put.Goals.{then-is_empty, else-is_empty}
 
 pub invariant_of-self : goal.invariant_of-self
 invariant_of-self g c =
@@ -29,7 +29,7 @@ put_if_behind-requires g c = growing_fits (param 0 g.row.K) (param 1 g.row.V) g.
 
 pub is_behind-requires : goal.is_behind-requires
 is_behind-requires g c =
-    let kept = subst (λ t. IsExtension g.K.Ord.cmp t.pairs (entries c.self.inside.map)) (sym c.in-Some.ensures.back.1) c.self.invariant in
+    let kept = subst (λ t. IsEdge g.K.Ord.cmp t.pairs (entries c.self.inside.map)) (sym c.in-Some.ensures.back.1) c.self.invariant in
     (growing_fits (param 0 g.row.K) (param 1 g.row.V) g.row.A g.A.Allocator g.met.A.Handle.small, kept)
 
 pub push_behind-requires : goal.push_behind-requires
