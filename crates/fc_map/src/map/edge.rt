@@ -92,7 +92,8 @@ impl<K: Ord + Drop, V: Drop, A: Handle> Edge<K, V, A> {
         ensures all { OnOk result (self.new ≡ extended K.cmp self.old items.items) }
         ensures error { IfErr result (λ e. (rest : List (K × V)) → IsExtendedUpTo K.cmp self.old (items.items ++ rest) self.new e) }
     {
-        if self.map.is_empty() {
+        let is_open = self.map.is_empty();
+        if is_open {
             close(&mut self.tree, &mut self.map);
         }
         put_all(&mut self.map, items)

@@ -8,23 +8,23 @@ use Rattle.fc_map.proofs.ExtendFacts.{all_in_map, all_in_tree}
 use Rattle.fc_map.proofs.TakenFacts.{on_ok, on_err}
 use Rattle.fc_map.proofs.map.edge.Edge.put_all.Given as given
 use Rattle.fc_map.proofs.map.edge.Edge.put_all.Goals as goal
-use Rattle.fc_map.proofs.map.edge.Edge.put_all.Goals.{then-is_empty, else-is_empty}
+use Rattle.fc_map.proofs.map.edge.Edge.put_all.Goals.{then-is_open, else-is_open}
 
 pub close-requires : goal.close-requires
 close-requires g c = (growing_fits (param 0 g.row.K) (param 1 g.row.V) g.row.A g.A.Allocator g.met.A.Handle.small, c.self.invariant.0)
 
 -- all pairs stand in the map
-in_map : (g : given.Over) (c : goal.After-put_all g) → (c.if-is_empty.self-inside.tree.pairs ≡ []) × (entries c.if-is_empty.self-inside.map ≡ c.args.self.now)
+in_map : (g : given.Over) (c : goal.After-put_all g) → (c.if-is_open.self-inside.tree.pairs ≡ []) × (entries c.if-is_open.self-inside.map ≡ c.args.self.now)
 in_map g c =
     let t = c.self.inside.tree.pairs in
     let m = entries c.self.inside.map in
-    elim c.if-is_empty.branch [
-      | then-is_empty w ↦ subst (λ x. (x.tree.pairs ≡ []) × (entries x.map ≡ c.args.self.now)) (sym w.self-inside-is) (
+    elim c.if-is_open.branch [
+      | then-is_open w ↦ subst (λ x. (x.tree.pairs ≡ []) × (entries x.map ≡ c.args.self.now)) (sym w.self-inside-is) (
         w.close.ensures.closed,
-        w.close.ensures.pairs ∙ all_in_tree t m c.args.self.now c.self.view_is (c.is_empty.ensures.0 w.if-is_empty.true),
+        w.close.ensures.pairs ∙ all_in_tree t m c.args.self.now c.self.view_is (c.is_empty-is_open.ensures.0 w.if-is_open.true),
       )
-      | else-is_empty w ↦
-          (let all = all_in_map g.K.Ord.cmp t m c.args.self.now c.is_empty.result c.self.invariant c.self.view_is w.if-is_empty.false c.is_empty.ensures in
+      | else-is_open w ↦
+          (let all = all_in_map g.K.Ord.cmp t m c.args.self.now c.is_empty-is_open.result c.self.invariant c.self.view_is w.if-is_open.false c.is_empty-is_open.ensures in
           subst (λ x. (x.tree.pairs ≡ []) × (entries x.map ≡ c.args.self.now)) (sym w.self-inside-is) (all.0, all.1))
     ]
 
