@@ -1,0 +1,5 @@
+pub mod ByKey
+pub mod Edged
+pub mod Indexed
+pub mod OneKey
+pub mod Steps

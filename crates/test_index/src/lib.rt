@@ -1,0 +1,9 @@
+//! Tables of rows with two second keys, through public calls, beside a plain list of rows.
+#![tactic(auto)]
+
+#[cfg(test)]
+mod plain;
+#[cfg(test)]
+mod refusals;
+#[cfg(test)]
+mod rows;
