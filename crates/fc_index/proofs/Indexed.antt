@@ -10,7 +10,7 @@ use Rattle.std.proofs.lemmas.Cmp.{on_total, then_total}
 use Rattle.fc_base.specs.OneKey.{put, cut}
 use Rattle.fc_base.specs.Parts.{at, value_at}
 use Rattle.fc_base.specs.Query.{IsQueryOrder}
-use Rattle.fc_base.proofs.Laws.{cut_query, at_equal, value_at_equal, at_put, at_put_other, value_at_put_equal, value_at_put_other, at_cut, at_cut_other, value_at_cut_other}
+use Rattle.fc_base.proofs.Laws.{at_query, cut_query, at_equal, value_at_equal, at_put, at_put_other, value_at_put_equal, value_at_put_other, at_cut, at_cut_other, value_at_cut_other}
 use Rattle.fc_laws.proofs.ListFacts.{found_passes}
 use Rattle.fc_index.specs.Rows.{key_then_id, has_key, Lists, without_old}
 
@@ -190,16 +190,13 @@ module _ {K I R : Type 0} (cmp : K → K → Ordering) (ids : I → I → Orderi
     pub lists_over : (r : R) → Lists cmp ids key (without_old cmp ids (put pairs index (key r, i) tt) (key old) (key r) i) (put ids rows i r)
     lists_over r = go (is_eq (cmp (key old) (key r))) refl
       where
-        abbrev new : List ((K × I) × ⊤)
-        new = put pairs index (key r, i) tt
-
-        go : (b : Bool) → is_eq (cmp (key old) (key r)) ≡ b → Lists cmp ids key (cond b new (cut pairs new (key old, i))) (put ids rows i r)
+        go : (b : Bool) → is_eq (cmp (key old) (key r)) ≡ b → Lists cmp ids key (cond b (put pairs index (key r, i) tt) (cut pairs (put pairs index (key r, i) tt) (key old, i))) (put ids rows i r)
         go true e = record {
           exact = λ k j. with_new r k j ∙ at_kept old r held k j (ids j i) (value_at ids rows j) (is_same (cmp (key old) (key r)) e) (same_id j (Some old) held)
               ∙ sym (ap (λ v. has_key cmp key v k) (value_put ids totals rows i j r));
         }
         go false d = record {
-          exact = λ k j. cut_old new k j ∙ ap (λ b. not (is_eq (cmp k (key old)) && is_eq (ids j i)) && b) (with_new r k j)
+          exact = λ k j. cut_old (put pairs index (key r, i) tt) k j ∙ ap (λ b. not (is_eq (cmp k (key old)) && is_eq (ids j i)) && b) (with_new r k j)
               ∙ at_moved old r held k j (ids j i) (value_at ids rows j) d (same_id j (Some old) held)
               ∙ sym (ap (λ v. has_key cmp key v k) (value_put ids totals rows i j r));
         }
@@ -211,12 +208,13 @@ module _ {K I R : Type 0} (cmp : K → K → Ordering) (ids : I → I → Orderi
           ∙ sym (ap (λ v. has_key cmp key v k) (value_cut ids totals rows i j));
     }
 
-    -- A row that was found by a query is cut by it.
-    pub lists_taken : {Q : Type 0} (order : I → Q → Ordering) (q : Q) → IsQueryOrder ids order → at order rows q ≡ Some (i, old)
-        → Lists cmp ids key (cut pairs index (key old, i)) (cut order rows q)
-    lists_taken order q fits found =
-        let e : order i q ≡ Equal = is_same (order i q) (found_passes (λ (y : I × R). is_eq (order y.0 q)) rows (i, old) found) in
-        subst (λ s. Lists cmp ids key (cut pairs index (key old, i)) s) (sym (cut_query ids order rows i q fits e)) lists_cut
+  -- A row that was found by a query is cut by it.
+  pub lists_taken : {Q : Type 0} (order : I → Q → Ordering) (q : Q) (old : R) → IsQueryOrder ids order → at order rows q ≡ Some (i, old)
+      → Lists cmp ids key (cut pairs index (key old, i)) (cut order rows q)
+  lists_taken order q old fits found =
+      let e : order i q ≡ Equal = is_same (order i q) (found_passes (λ (y : I × R). is_eq (order y.0 q)) rows (i, old) found) in
+      let held : value_at ids rows i ≡ Some old = ap (option_map (λ y. y.1)) (sym (at_query ids order rows i q fits e) ∙ found) in
+      subst (λ s. Lists cmp ids key (cut pairs index (key old, i)) s) (sym (cut_query ids order rows i q fits e)) (lists_cut old held)
 
 -- What holds of three lists, each of a map, holds of them where they are put together, and where they stay.
 module _ {X E A B C S T U : Type 0} (P : S → T → U → Type 0) (f : A → S) (g : B → T) (h : C → U) where
