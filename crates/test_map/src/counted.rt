@@ -30,14 +30,27 @@ fn take(map: &mut Numbers, number: u64) -> Option<u64> {
     Some(value)
 }
 
+// Whether the number is taken out by its entry with this value, once.
+fn is_taken_by_entry(map: &mut Numbers, number: u64, value: u64) -> Result<bool, TryReserveError> {
+    let is_there = is_number(take_by_entry(map, number)?, value);
+    Ok(is_there && take_by_entry(map, number)?.is_none())
+}
+
+fn is_taken(map: &mut Numbers, number: u64, value: u64) -> bool {
+    is_number(take(map, number), value) && take(map, number).is_none()
+}
+
+fn is_written(map: &mut Numbers) -> bool {
+    write(map, 7, 70) && has(map, 7, 70) && !write(map, 40, 80)
+}
+
 // The numbers below 40 stand on two levels of nodes.
 #[test]
 fn counted_calls_do_as_those_without_a_count(rt: HostRuntime) -> Result<(), Fail> {
     let mut map = multiples(rt.alloc(), 0, 40, 2)?;
-    assert!(rt; write(&mut map, 7, 70) && has(&map, 7, 70) && !write(&mut map, 40, 80));
-    assert!(rt; is_number(take_by_entry(&mut map, 7)?, 70));
-    assert!(rt; take_by_entry(&mut map, 7)?.is_none());
-    assert!(rt; is_number(take(&mut map, 38), 76) && take(&mut map, 38).is_none());
+    assert!(rt; is_written(&mut map));
+    assert!(rt; is_taken_by_entry(&mut map, 7, 70)?);
+    assert!(rt; is_taken(&mut map, 38, 76));
     assert!(rt; map.len() == 38 && has(&map, 8, 16) && has(&map, 39, 78));
     Ok(())
 }

@@ -65,20 +65,21 @@ fn write_ends(map: &mut Numbers, first: u64, last: u64) -> bool {
 fn is_emptied_from_its_ends(alloc: Global, end: u64) -> Result<bool, TryReserveError> {
     let mut map = multiples(alloc, 0, end, 3)?;
     let last = end.wrapping_sub(1);
-    let middle = end / 2;
-    if !write_ends(&mut map, 0, last.wrapping_mul(3)) {
-        return Ok(false);
-    }
-    let front = taken_up_to(&mut map, middle);
+    let is_written = write_ends(&mut map, 0, last.wrapping_mul(3));
+    let is_emptied = are_taken(&mut map, last, end / 2);
+    Ok(is_written && is_emptied && has_no_ends(&mut map))
+}
+
+// Whether the pairs up to the middle are taken from the front, and then the others from the back.
+fn are_taken(map: &mut Numbers, last: u64, middle: u64) -> bool {
+    let front = taken_up_to(map, middle);
     let is_left = map.len() as u64 == last.wrapping_sub(middle);
-    let back = taken_down_to(&mut map, middle);
-    Ok(
-        is_left
-            && front == middle.wrapping_add(1)
-            && back == last.wrapping_sub(middle)
-            && map.first_entry().is_none()
-            && map.last_entry().is_none(),
-    )
+    let back = taken_down_to(map, middle);
+    is_left && front == middle.wrapping_add(1) && back == last.wrapping_sub(middle)
+}
+
+fn has_no_ends(map: &mut Numbers) -> bool {
+    map.first_entry().is_none() && map.last_entry().is_none()
 }
 
 fn ends_hold_written_values(alloc: Global) -> Result<bool, TryReserveError> {
@@ -95,16 +96,22 @@ fn entries_at_both_ends_are_shown_written_and_taken(rt: HostRuntime) -> Result<(
     Ok(())
 }
 
-// Without any memory the ends of a map are written and taken.
+fn are_written_and_taken(map: &mut Numbers) -> bool {
+    write_ends(map, 0, 897) && taken_up_to(map, 199) == 200 && taken_down_to(map, 200) == 100
+}
+
+// Without any memory the ends of a map are written and taken. A trial gets its memory from elsewhere, would show nothing, and fails.
 #[test]
 fn entries_at_the_ends_take_no_memory(rt: HostRuntime) -> Result<(), Fail> {
     let mut map = multiples(rt.alloc(), 0, 300, 3)?;
     let held = take_all_memory(rt.alloc())?;
-    let is_right = !is_ample(rt.alloc())
-        && write_ends(&mut map, 0, 897)
-        && taken_up_to(&mut map, 199) == 200
-        && taken_down_to(&mut map, 200) == 100;
+    let has_none = !is_ample(rt.alloc());
+    let is_right = are_written_and_taken(&mut map);
     drop(held);
+    assert!(rt;
+        has_none,
+        "all memory is to be refused, as only a proved run can: see the README"
+    );
     assert!(rt; is_right && map.is_empty());
     Ok(())
 }

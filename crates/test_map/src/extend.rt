@@ -58,19 +58,24 @@ fn is_told(done: Result<(), TryReserveError>, len: usize) -> bool {
     }
 }
 
+fn keeps_the_front(map: &mut Numbers, items: Vec<(u64, u64)>) -> bool {
+    let done = extend(map, items);
+    is_told(done, map.len()) && is_extended_by_a_front(map)
+}
+
+fn is_extended(alloc: Global) -> Result<bool, TryReserveError> {
+    let mut map = multiples(alloc, 0, 85, 3)?;
+    let items = pairs(alloc, 170, 37)?;
+    Ok(keeps_the_front(&mut map, items))
+}
+
 // Each request is refused in turn by the sweep. The extension makes a third level.
 #[test]
 fn a_refused_extension_keeps_the_items_before(rt: HostRuntime) {
-    let Ok(mut map) = multiples(rt.alloc(), 0, 85, 3) else {
-        assert!(rt; !is_ample(rt.alloc()));
-        return;
-    };
-    let Ok(items) = pairs(rt.alloc(), 170, 37) else {
-        assert!(rt; !is_ample(rt.alloc()));
-        return;
-    };
-    let done = extend(&mut map, items);
-    assert!(rt; is_told(done, map.len()) && is_extended_by_a_front(&map));
+    match is_extended(rt.alloc()) {
+        Ok(is_right) => assert!(rt; is_right),
+        Err(_refused) => assert!(rt; !is_ample(rt.alloc())),
+    }
 }
 
 // A pair for each that counts drops, of the numbers below 170, 37 apart and round.
@@ -106,24 +111,32 @@ fn extend_tracked<'a>(
     map.try_extend(items)
 }
 
+// Whether a map that is extended by a pair for each has those in front.
+fn extends_by<'a>(
+    alloc: Global,
+    drops: &'a [Drops],
+    sought: &'a Tally,
+) -> Result<bool, TryReserveError> {
+    let items = tracked_pairs(alloc, drops)?;
+    let mut map = BTreeMap::new(alloc);
+    let done = extend_tracked(&mut map, items);
+    Ok(is_told(done, map.len()) && has_the_front(&map, drops, sought))
+}
+
+fn extension_drops_each(alloc: Global) -> Result<bool, TryReserveError> {
+    let sought = Tally::new();
+    let drops = fresh_drops(alloc, 170)?;
+    let is_right = extends_by(alloc, &drops, &sought)?;
+    Ok(is_right && were_all_dropped(&drops, 1))
+}
+
 // Each request is refused in turn by the sweep.
 #[test]
 fn each_item_of_an_extension_is_dropped_once(rt: HostRuntime) {
-    let sought = Tally::new();
-    let Ok(drops) = fresh_drops(rt.alloc(), 170) else {
-        assert!(rt; !is_ample(rt.alloc()));
-        return;
-    };
-    {
-        let Ok(items) = tracked_pairs(rt.alloc(), &drops) else {
-            assert!(rt; !is_ample(rt.alloc()));
-            return;
-        };
-        let mut map = BTreeMap::new(rt.alloc());
-        let done = extend_tracked(&mut map, items);
-        assert!(rt; is_told(done, map.len()) && has_the_front(&map, &drops, &sought));
+    match extension_drops_each(rt.alloc()) {
+        Ok(is_right) => assert!(rt; is_right),
+        Err(_refused) => assert!(rt; !is_ample(rt.alloc())),
     }
-    assert!(rt; were_all_dropped(&drops, 1));
 }
 
 fn tracked_map<'a>(
@@ -145,22 +158,29 @@ fn is_made<'a>(
     }
 }
 
+fn makes_of<'a>(
+    alloc: Global,
+    drops: &'a [Drops],
+    sought: &'a Tally,
+) -> Result<bool, TryReserveError> {
+    let items = tracked_pairs(alloc, drops)?;
+    Ok(is_made(&tracked_map(alloc, items), drops, sought))
+}
+
+fn made_map_drops_each(alloc: Global) -> Result<bool, TryReserveError> {
+    let sought = Tally::new();
+    let drops = fresh_drops(alloc, 170)?;
+    let is_right = makes_of(alloc, &drops, &sought)?;
+    Ok(is_right && were_all_dropped(&drops, 1))
+}
+
 // Each request is refused in turn by the sweep.
 #[test]
 fn each_item_of_a_made_map_is_dropped_once(rt: HostRuntime) {
-    let sought = Tally::new();
-    let Ok(drops) = fresh_drops(rt.alloc(), 170) else {
-        assert!(rt; !is_ample(rt.alloc()));
-        return;
-    };
-    {
-        let Ok(items) = tracked_pairs(rt.alloc(), &drops) else {
-            assert!(rt; !is_ample(rt.alloc()));
-            return;
-        };
-        assert!(rt; is_made(&tracked_map(rt.alloc(), items), &drops, &sought));
+    match made_map_drops_each(rt.alloc()) {
+        Ok(is_right) => assert!(rt; is_right),
+        Err(_refused) => assert!(rt; !is_ample(rt.alloc())),
     }
-    assert!(rt; were_all_dropped(&drops, 1));
 }
 
 // Whether the map has the first numbers that fill a leaf, each with itself, and nothing else.
@@ -174,7 +194,7 @@ fn has_a_full_leaf(map: &Numbers) -> bool {
 }
 
 // There is memory for one leaf alone: that of a map that was dropped. The clause allows an empty map too, where a first item may be
-// refused. A run that gets its memory from elsewhere, as one without proof does, would show nothing, and fails.
+// refused. A trial gets its memory from elsewhere, would show nothing, and fails.
 #[test]
 fn a_refused_extension_of_an_empty_map_keeps_a_leaf(rt: HostRuntime) -> Result<(), Fail> {
     let spare = multiples(rt.alloc(), 0, 1, 1)?;
@@ -185,7 +205,11 @@ fn a_refused_extension_of_an_empty_map_keeps_a_leaf(rt: HostRuntime) -> Result<(
     drop(spare);
     let done = extend(&mut map, items);
     drop(held);
-    assert!(rt; has_none && matches!(done, Err(TryReserveError::AllocError)));
+    assert!(rt;
+        has_none,
+        "all memory is to be refused, as only a proved run can: see the README"
+    );
+    assert!(rt; matches!(done, Err(TryReserveError::AllocError)));
     assert!(rt; has_a_full_leaf(&map));
     Ok(())
 }
@@ -199,8 +223,8 @@ fn three_pairs(alloc: Global) -> Result<Vec<(u64, u64)>, AllocError> {
     Ok(all)
 }
 
-// The leaf has room for one pair, so the first of three goes in and the second, which is the first to take memory, is refused. A run that
-// gets its memory from elsewhere, as one without proof does, would show nothing, and fails.
+// The leaf has room for one pair, so the first of three goes in and the second, which is the first to take memory, is refused. A trial
+// gets its memory from elsewhere, would show nothing, and fails.
 #[test]
 fn a_refused_extension_fills_the_leaf(rt: HostRuntime) -> Result<(), Fail> {
     let mut map = multiples(rt.alloc(), 1, CAPACITY as u64, 1)?;
@@ -209,7 +233,11 @@ fn a_refused_extension_fills_the_leaf(rt: HostRuntime) -> Result<(), Fail> {
     let has_none = !is_ample(rt.alloc());
     let done = extend(&mut map, items);
     drop(held);
-    assert!(rt; has_none && matches!(done, Err(TryReserveError::AllocError)));
+    assert!(rt;
+        has_none,
+        "all memory is to be refused, as only a proved run can: see the README"
+    );
+    assert!(rt; matches!(done, Err(TryReserveError::AllocError)));
     assert!(rt; has_up_to(&map, CAPACITY as u64));
     Ok(())
 }

@@ -88,14 +88,19 @@ fn only_a_full_leaf_refuses(small: &mut Numbers, large: &mut Numbers) -> bool {
         && matches!(insert(large, 0, 0), Ok(None))
 }
 
-// A run that gets its memory from elsewhere, as one without proof does, would show nothing, and fails.
+// A trial gets its memory from elsewhere, would show nothing, and fails.
 #[test]
 fn with_all_memory_refused_only_a_full_leaf_refuses(rt: HostRuntime) -> Result<(), Fail> {
     let mut small = multiples(rt.alloc(), 1, CAPACITY as u64, 1)?;
     let mut large = multiples(rt.alloc(), 1, 151, 1)?;
     let held = take_all_memory(rt.alloc())?;
-    let is_right = !is_ample(rt.alloc()) && only_a_full_leaf_refuses(&mut small, &mut large);
+    let has_none = !is_ample(rt.alloc());
+    let is_right = only_a_full_leaf_refuses(&mut small, &mut large);
     drop(held);
+    assert!(rt;
+        has_none,
+        "all memory is to be refused, as only a proved run can: see the README"
+    );
     assert!(rt; is_right && has_up_to(&small, CAPACITY as u64) && large.len() == 151);
     Ok(())
 }
@@ -233,18 +238,23 @@ fn drops_even_ones<'a>(map: &mut Tracked<'a>, drops: &[Drops], sought: &'a Tally
     true
 }
 
+fn is_thinned_out<'a>(alloc: Global, drops: &'a [Drops], sought: &'a Tally) -> bool {
+    let mut map = BTreeMap::new(alloc);
+    keeps_or_hands_back_each(&mut map, drops) && drops_even_ones(&mut map, drops, sought)
+}
+
+fn each_is_dropped_once(alloc: Global) -> Result<bool, AllocError> {
+    let drops = fresh_drops(alloc, 170)?;
+    let sought = Tally::new();
+    let is_right = is_thinned_out(alloc, &drops, &sought);
+    Ok(is_right && were_all_dropped(&drops, 1))
+}
+
 // Each request is refused in turn by the sweep. Each key and value is in the map, of three levels, or came back, once.
 #[test]
 fn each_key_and_value_is_dropped_once(rt: HostRuntime) {
-    let Ok(drops) = fresh_drops(rt.alloc(), 170) else {
-        assert!(rt; !is_ample(rt.alloc()));
-        return;
-    };
-    let sought = Tally::new();
-    {
-        let mut map = BTreeMap::new(rt.alloc());
-        assert!(rt; keeps_or_hands_back_each(&mut map, &drops));
-        assert!(rt; drops_even_ones(&mut map, &drops, &sought));
+    match each_is_dropped_once(rt.alloc()) {
+        Ok(is_right) => assert!(rt; is_right),
+        Err(_refused) => assert!(rt; !is_ample(rt.alloc())),
     }
-    assert!(rt; were_all_dropped(&drops, 1));
 }

@@ -66,17 +66,27 @@ fn are_all_next(map: &BTreeMap<u64, u64>, n: u64) -> bool {
     are_next(map, u64::MAX / 2, n)
 }
 
+fn are_all_next_in_even(alloc: Global, n: u64) -> Result<bool, TryReserveError> {
+    let map = even(alloc, n)?;
+    Ok(are_all_next(&map, n))
+}
+
+fn are_all_next_from_last(alloc: Global, n: u64) -> Result<bool, TryReserveError> {
+    let map = even_from_last(alloc, n)?;
+    Ok(are_all_next(&map, n))
+}
+
 // Up to 39 ascending pairs have one level or two, 151 have three, and 3000 have four.
 #[test]
 fn neighbours_of_each_key_on_each_level(rt: HostRuntime) -> Result<(), Fail> {
     for n in 0..40 {
-        assert!(rt; are_all_next(&even(rt.alloc(), n)?, n));
+        assert!(rt; are_all_next_in_even(rt.alloc(), n)?);
     }
     for n in 140..160 {
-        assert!(rt; are_all_next(&even(rt.alloc(), n)?, n));
-        assert!(rt; are_all_next(&even_from_last(rt.alloc(), n)?, n));
+        assert!(rt; are_all_next_in_even(rt.alloc(), n)?);
+        assert!(rt; are_all_next_from_last(rt.alloc(), n)?);
     }
-    assert!(rt; are_all_next(&even(rt.alloc(), 3000)?, 3000));
+    assert!(rt; are_all_next_in_even(rt.alloc(), 3000)?);
     Ok(())
 }
 
@@ -99,16 +109,20 @@ pub(crate) fn tagged_below(
     Ok(map)
 }
 
+fn are_keys_of(map: &BTreeMap<Tagged, u64>, number: u64) -> bool {
+    let key = Tagged::new(number, 'b');
+    is_tagged(map.first_at_or_after(&key), number)
+        && is_tagged(map.last_at_or_before(&key), number)
+        && is_tagged(map.first_after(&key), number.wrapping_add(1) % 153)
+        && is_tagged(map.last_before(&key), number.wrapping_sub(1))
+}
+
 // Keys equal to what is sought, but not the same: those of the map are answered, and an equal one is not passed over or taken for one behind.
 #[test]
 fn neighbours_are_the_keys_of_the_map(rt: HostRuntime) -> Result<(), Fail> {
     let map = tagged_below(rt.alloc(), 153)?;
     for number in 1..153 {
-        let key = Tagged::new(number, 'b');
-        assert!(rt; is_tagged(map.first_at_or_after(&key), number));
-        assert!(rt; is_tagged(map.last_at_or_before(&key), number));
-        assert!(rt; is_tagged(map.first_after(&key), number.wrapping_add(1) % 153));
-        assert!(rt; is_tagged(map.last_before(&key), number.wrapping_sub(1)));
+        assert!(rt; are_keys_of(&map, number));
     }
     Ok(())
 }
@@ -147,6 +161,16 @@ fn costs_a_look_up<'a>(map: &BTreeMap<CountingKey<'a>, u64>, key: &CountingKey<'
     is_first && is_second && is_third && made.get() == of_one.wrapping_mul(5)
 }
 
+fn passes_fifteen<'a>(map: &BTreeMap<CountingKey<'a>, u64>, comparisons: &'a Cell<u64>) -> bool {
+    let number = 151;
+    let key = CountingKey {
+        number,
+        comparisons,
+    };
+    comparisons.set(0);
+    map.first_after(&key).is_none() && comparisons.get() == 15
+}
+
 // Of 151 ascending keys, the search for the last passes 15, and one beyond it no less.
 #[test]
 fn neighbours_cost_a_look_up(rt: HostRuntime) -> Result<(), Fail> {
@@ -160,13 +184,7 @@ fn neighbours_cost_a_look_up(rt: HostRuntime) -> Result<(), Fail> {
         };
         assert!(rt; costs_a_look_up(&map, &key));
     }
-    let number = 151;
-    let key = CountingKey {
-        number,
-        comparisons,
-    };
-    comparisons.set(0);
-    assert!(rt; map.first_after(&key).is_none() && comparisons.get() == 15);
+    assert!(rt; passes_fifteen(&map, comparisons));
     Ok(())
 }
 
@@ -209,35 +227,23 @@ fn texts_are_sought_by_slices(rt: HostRuntime) -> Result<(), Fail> {
     Ok(())
 }
 
+fn counted_forms_answer(map: &BTreeMap<u64, u64>, key: u64, count: &mut Count) -> bool {
+    let from = map.first_at_or_after_counted(&key, count);
+    let is_from = is_asked(from, first_even(key, 20));
+    let after = map.first_after_counted(&key, count);
+    let is_after = is_asked(after, first_even(key.wrapping_add(1), 20));
+    let to = map.last_at_or_before_counted(&key, count);
+    let is_to = is_asked(to, last_even(key, 20));
+    let before = map.last_before_counted(&key, count);
+    is_from && is_after && is_to && is_asked(before, last_even(key.saturating_sub(1), 20))
+}
+
 #[test]
 fn counted_forms_answer_the_same(rt: HostRuntime) -> Result<(), Fail> {
     let map = even(rt.alloc(), 20)?;
     let mut count = Count::new();
     for key in 0..44 {
-        assert!(rt;
-            is_asked(
-                map.first_at_or_after_counted(&key, &mut count),
-                first_even(key, 20)
-            )
-        );
-        assert!(rt;
-            is_asked(
-                map.first_after_counted(&key, &mut count),
-                first_even(key.wrapping_add(1), 20)
-            )
-        );
-        assert!(rt;
-            is_asked(
-                map.last_at_or_before_counted(&key, &mut count),
-                last_even(key, 20)
-            )
-        );
-        assert!(rt;
-            is_asked(
-                map.last_before_counted(&key, &mut count),
-                last_even(key.saturating_sub(1), 20)
-            )
-        );
+        assert!(rt; counted_forms_answer(&map, key, &mut count));
     }
     Ok(())
 }

@@ -43,19 +43,17 @@ fn pops_from(map: &mut Numbers, limit: u64, end: u64) -> (u64, u64) {
 }
 
 fn is_right(alloc: Global, end: u64) -> Result<bool, TryReserveError> {
-    let third = end / 3;
     let mut map = multiples(alloc, 0, end, 2)?;
-    let (gone, asked) = pops_below(&mut map, third);
-    if gone != third || (end > 0 && asked != 200) || (end == 0 && asked != 0) {
-        return Ok(false);
-    }
-    let (gone_after, asked_after) = pops_from(&mut map, third.wrapping_mul(2), end);
-    let left = third;
-    Ok(
-        gone_after == end.wrapping_sub(third.wrapping_mul(2))
-            && (end == 0 || left == 0 || asked_after == 200)
-            && map.len() as u64 == left,
-    )
+    Ok(pops_two_thirds(&mut map, end))
+}
+
+fn pops_two_thirds(map: &mut Numbers, end: u64) -> bool {
+    let third = end / 3;
+    let (gone, asked) = pops_below(map, third);
+    let is_front = gone == third && asked == if end > 0 { 200 } else { 0 };
+    let (gone_after, asked_after) = pops_from(map, third.wrapping_mul(2), end);
+    let is_back = gone_after == end.wrapping_sub(third.wrapping_mul(2));
+    is_front && is_back && (third == 0 || asked_after == 200) && map.len() as u64 == third
 }
 
 // Of maps of no pair up to three levels: only those go at which the closure answers true, and it is called once at each call but at an

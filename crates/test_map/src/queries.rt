@@ -79,18 +79,26 @@ fn a_text_is_written_at_and_removed(rt: HostRuntime) -> Result<(), Fail> {
     Ok(())
 }
 
-// A run that gets its memory from elsewhere, as one without proof does, would show nothing, and fails.
+fn finds_writes_and_takes_out(map: &mut BTreeMap<String, u64>) -> bool {
+    finds_each(map)
+        && finds_no_other(map)
+        && write_text(map, "word", 70)
+        && takes_out(map, "word", 70)
+}
+
+// A trial gets its memory from elsewhere, would show nothing, and fails.
 #[test]
 fn with_all_memory_refused_a_text_is_found(rt: HostRuntime) -> Result<(), Fail> {
     let mut map = words(rt.alloc())?;
     let held = take_all_memory(rt.alloc())?;
-    let is_right = !is_ample(rt.alloc())
-        && String::from_str(rt.alloc(), "word").is_err()
-        && finds_each(&map)
-        && finds_no_other(&map)
-        && write_text(&mut map, "word", 70)
-        && takes_out(&mut map, "word", 70);
+    let has_none = !is_ample(rt.alloc());
+    let is_refused = String::from_str(rt.alloc(), "word").is_err();
+    let is_right = finds_writes_and_takes_out(&mut map);
     drop(held);
+    assert!(rt;
+        has_none && is_refused,
+        "all memory is to be refused, as only a proved run can: see the README"
+    );
     assert!(rt; is_right);
     Ok(())
 }

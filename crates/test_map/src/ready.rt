@@ -26,12 +26,19 @@ fn is_only_made_ready(map: &mut Numbers, number: u64) -> Result<bool, TryReserve
     }
 }
 
+// In front of all numbers and behind them.
+fn is_made_ready_at_both_ends(map: &mut Numbers, last: u64) -> Result<bool, TryReserveError> {
+    let is_first = is_only_made_ready(map, 0)?;
+    let is_kept = has_up_to(map, last);
+    let is_last = is_only_made_ready(map, last.wrapping_add(1))?;
+    Ok(is_first && is_kept && is_last && has_up_to(map, last))
+}
+
 #[test]
 fn an_entry_that_was_made_ready_and_dropped_changes_nothing(rt: HostRuntime) -> Result<(), Fail> {
     for last in LENGTHS {
         let mut map = multiples(rt.alloc(), 1, last.wrapping_add(1), 1)?;
-        assert!(rt; is_only_made_ready(&mut map, 0)? && has_up_to(&map, last));
-        assert!(rt; is_only_made_ready(&mut map, last.wrapping_add(1))? && has_up_to(&map, last));
+        assert!(rt; is_made_ready_at_both_ends(&mut map, last)?);
     }
     Ok(())
 }
@@ -70,14 +77,18 @@ fn is_put_in_an_entry(map: &mut Numbers, number: u64) -> Result<bool, TryReserve
     }
 }
 
+fn three_are_put(map: &mut Numbers, last: u64) -> Result<bool, TryReserveError> {
+    let is_first = is_put(map, last.wrapping_add(1))?;
+    let is_second = is_put_counted(map, last.wrapping_add(2))?;
+    let is_third = is_put_in_an_entry(map, last.wrapping_add(3))?;
+    Ok(is_first && is_second && is_third && has_up_to(map, last.wrapping_add(3)))
+}
+
 #[test]
 fn an_entry_that_was_made_ready_is_put_in(rt: HostRuntime) -> Result<(), Fail> {
     for last in LENGTHS {
         let mut map = multiples(rt.alloc(), 1, last.wrapping_add(1), 1)?;
-        assert!(rt; is_put(&mut map, last.wrapping_add(1))?);
-        assert!(rt; is_put_counted(&mut map, last.wrapping_add(2))?);
-        assert!(rt; is_put_in_an_entry(&mut map, last.wrapping_add(3))?);
-        assert!(rt; has_up_to(&map, last.wrapping_add(3)));
+        assert!(rt; three_are_put(&mut map, last)?);
     }
     Ok(())
 }
@@ -108,17 +119,30 @@ fn replaces_first(
     }
 }
 
+// The next numbers of both maps go in; and of the first one again, beside one in front of all in the second.
+fn both_take_pairs(
+    a: &mut Numbers,
+    b: &mut Numbers,
+    first: u64,
+    second: u64,
+) -> Result<bool, TryReserveError> {
+    let are_put = puts_both(a, b, first, second)? && has_up_to(a, first) && has_up_to(b, second);
+    let is_replaced = replaces_first(a, b, first, 0)? && has(a, first, 200) && has(b, 0, 0);
+    let are_long = a.len() as u64 == first && b.len() as u64 == second.wrapping_add(1);
+    Ok(are_put && is_replaced && are_long)
+}
+
+fn take_pairs(alloc: Global, first: u64, second: u64) -> Result<bool, TryReserveError> {
+    let mut a = multiples(alloc, 1, first, 1)?;
+    let mut b = multiples(alloc, 1, second, 1)?;
+    both_take_pairs(&mut a, &mut b, first, second)
+}
+
 #[test]
 fn two_pairs_are_put_into_maps_of_each_length(rt: HostRuntime) -> Result<(), Fail> {
     for first in 0..40u64 {
         for second in 0..40u64 {
-            let mut a = multiples(rt.alloc(), 1, first + 1, 1)?;
-            let mut b = multiples(rt.alloc(), 1, second + 1, 1)?;
-            assert!(rt; puts_both(&mut a, &mut b, first + 1, second + 1)?);
-            assert!(rt; has_up_to(&a, first + 1) && has_up_to(&b, second + 1));
-            assert!(rt; replaces_first(&mut a, &mut b, first + 1, 0)?);
-            assert!(rt; has(&a, first + 1, 200) && has(&b, 0, 0));
-            assert!(rt; a.len() as u64 == first + 1 && b.len() as u64 == second + 2);
+            assert!(rt; take_pairs(rt.alloc(), first + 1, second + 1)?);
         }
     }
     Ok(())
@@ -141,18 +165,19 @@ fn goes_in_or_comes_back(a: &mut Numbers, b: &mut Numbers, number: u64) -> bool 
     }
 }
 
+fn go_in_or_come_back(alloc: Global) -> Result<bool, TryReserveError> {
+    let mut a = multiples(alloc, 1, BEYOND, 1)?;
+    let mut b = multiples(alloc, 1, BEYOND, 1)?;
+    Ok(goes_in_or_comes_back(&mut a, &mut b, BEYOND))
+}
+
 // Each request is refused in turn by the sweep. Where there is no memory for the maps nothing is shown.
 #[test]
 fn a_refused_pair_of_insertions_leaves_both_maps(rt: HostRuntime) {
-    let Ok(mut a) = multiples(rt.alloc(), 1, BEYOND, 1) else {
-        assert!(rt; !is_ample(rt.alloc()));
-        return;
-    };
-    let Ok(mut b) = multiples(rt.alloc(), 1, BEYOND, 1) else {
-        assert!(rt; !is_ample(rt.alloc()));
-        return;
-    };
-    assert!(rt; goes_in_or_comes_back(&mut a, &mut b, BEYOND));
+    match go_in_or_come_back(rt.alloc()) {
+        Ok(is_right) => assert!(rt; is_right),
+        Err(_refused) => assert!(rt; !is_ample(rt.alloc())),
+    }
 }
 
 // Whether the number behind the last was put in, or its entry was not made ready, the number came back, and the map is as it was.
@@ -184,8 +209,8 @@ fn a_refused_ready_entry_leaves_every_pair(rt: HostRuntime) -> Result<(), Fail> 
     Ok(())
 }
 
-// Makes the insertion ready of the number that a full leaf has no room for, takes all memory, and then puts it in. A run that gets its
-// memory from elsewhere, as one without proof does, would show nothing, and fails.
+// Makes the insertion ready of the number that a full leaf has no room for, takes all memory, and then puts it in. Answers whether there
+// was none.
 fn is_put_without_memory(alloc: Global, map: &mut Numbers) -> Result<bool, TryReserveError> {
     match map.try_entry(BEYOND)? {
         Entry::Vacant(entry) => {
@@ -203,7 +228,12 @@ fn is_put_without_memory(alloc: Global, map: &mut Numbers) -> Result<bool, TryRe
 #[test]
 fn an_entry_that_was_made_ready_takes_no_memory(rt: HostRuntime) -> Result<(), Fail> {
     let mut map = multiples(rt.alloc(), 1, BEYOND, 1)?;
-    assert!(rt; is_put_without_memory(rt.alloc(), &mut map)? && has_up_to(&map, BEYOND));
+    let has_none = is_put_without_memory(rt.alloc(), &mut map)?;
+    assert!(rt;
+        has_none,
+        "all memory is to be refused, as only a proved run can: see the README"
+    );
+    assert!(rt; has_up_to(&map, BEYOND));
     Ok(())
 }
 
@@ -228,15 +258,22 @@ fn needs_no_memory(a: &mut Numbers, b: &mut Numbers) -> bool {
     is_put && has_up_to(a, CAPACITY as u64) && has(b, 5, 9) && b.len() == CAPACITY
 }
 
+fn only_the_second_refuses(a: &mut Numbers, b: &mut Numbers) -> bool {
+    comes_back_for_the_second(a, b) && needs_no_memory(a, b)
+}
+
 #[test]
 fn only_a_full_leaf_refuses_two_pairs(rt: HostRuntime) -> Result<(), Fail> {
     let mut a = multiples(rt.alloc(), 1, CAPACITY as u64, 1)?;
     let mut b = multiples(rt.alloc(), 1, BEYOND, 1)?;
     let held = take_all_memory(rt.alloc())?;
-    let is_right = !is_ample(rt.alloc())
-        && comes_back_for_the_second(&mut a, &mut b)
-        && needs_no_memory(&mut a, &mut b);
+    let has_none = !is_ample(rt.alloc());
+    let is_right = only_the_second_refuses(&mut a, &mut b);
     drop(held);
+    assert!(rt;
+        has_none,
+        "all memory is to be refused, as only a proved run can: see the README"
+    );
     assert!(rt; is_right);
     Ok(())
 }

@@ -6,7 +6,7 @@ use crate::map::{
 use crate::numbers::{Numbers, has, insert, multiples};
 use fc_base::TryReserveError;
 use fc_map::map::BTreeMap;
-use std::alloc::Global;
+use std::alloc::{AllocError, Global};
 use std::ops::Bound;
 use std::test::Fail;
 use test_values::{Token, is_ample};
@@ -88,7 +88,8 @@ fn puts_back(map: &mut Numbers, end: u64) -> Result<bool, TryReserveError> {
 fn is_right_at(alloc: Global, end: u64, ends: Ends) -> Result<bool, TryReserveError> {
     let mut map = multiples(alloc, 0, end, 2)?;
     let gone = map.remove_range((lent(&ends.0), lent(&ends.1)));
-    Ok(gone == count_within(end, ends) && has_those(&map, end, ends) && puts_back(&mut map, end)?)
+    let is_left = gone == count_within(end, ends) && has_those(&map, end, ends);
+    Ok(is_left && puts_back(&mut map, end)?)
 }
 
 // Each kind of bound at both ends, also those that are no range.
@@ -141,21 +142,26 @@ fn drops_a_stretch<'a>(
     map.len() == living && living.wrapping_add(gone) == was
 }
 
+fn loses_a_stretch<'a>(alloc: Global, drops: &'a [Drops], sought: &'a Drops) -> bool {
+    let (first, _) = pair(40, sought);
+    let (last, _) = pair(90, sought);
+    let mut map: Tracked<'_> = BTreeMap::new(alloc);
+    let is_filled = keeps_or_hands_back_each(&mut map, drops);
+    is_filled && drops_a_stretch(&mut map, &first, &last, drops)
+}
+
+fn each_is_dropped_once(alloc: Global) -> Result<bool, AllocError> {
+    let drops = fresh_drops(alloc, 170)?;
+    let sought = no_drops();
+    let is_right = loses_a_stretch(alloc, &drops, &sought);
+    Ok(is_right && were_all_dropped(&drops, 1))
+}
+
 // Each request is refused in turn by the sweep.
 #[test]
 fn those_of_a_range_are_dropped_once(rt: HostRuntime) {
-    let Ok(drops) = fresh_drops(rt.alloc(), 170) else {
-        assert!(rt; !is_ample(rt.alloc()));
-        return;
-    };
-    let of_first = no_drops();
-    let of_last = no_drops();
-    {
-        let first = pair(40, &of_first);
-        let last = pair(90, &of_last);
-        let mut map: Tracked<'_> = BTreeMap::new(rt.alloc());
-        assert!(rt; keeps_or_hands_back_each(&mut map, &drops));
-        assert!(rt; drops_a_stretch(&mut map, &first.0, &last.0, &drops));
+    match each_is_dropped_once(rt.alloc()) {
+        Ok(is_right) => assert!(rt; is_right),
+        Err(_refused) => assert!(rt; !is_ample(rt.alloc())),
     }
-    assert!(rt; were_all_dropped(&drops, 1));
 }

@@ -6,7 +6,7 @@ use crate::map::{
 use crate::numbers::{Numbers, insert, multiples};
 use fc_base::TryReserveError;
 use fc_map::map::BTreeMap;
-use std::alloc::Global;
+use std::alloc::{AllocError, Global};
 use std::test::Fail;
 use test_values::is_ample;
 
@@ -76,14 +76,15 @@ fn retains(alloc: Global, end: u64, rule: Rule) -> Result<bool, TryReserveError>
         *value = value.wrapping_add(1);
         stays(rule, *key)
     });
-    let is_left = has_those(&map, end, rule);
-    Ok(
-        in_order
-            && asked == end
-            && is_left
-            && puts_back(&mut map, end, rule)?
-            && has_those(&map, end, ALL),
-    )
+    let is_right = in_order && asked == end;
+    Ok(is_right && is_filled_again(&mut map, end, rule)?)
+}
+
+// Whether those are there that stay, and with the others all.
+fn is_filled_again(map: &mut Numbers, end: u64, rule: Rule) -> Result<bool, TryReserveError> {
+    let is_left = has_those(map, end, rule);
+    let is_back = puts_back(map, end, rule)?;
+    Ok(is_left && is_back && has_those(map, end, ALL))
 }
 
 // The same, where those that do not stay are handed on in order.
@@ -103,17 +104,22 @@ fn extracts(alloc: Global, end: u64, rule: Rule) -> Result<bool, TryReserveError
             values = values.wrapping_add(value);
         },
     );
-    let mut wanted = 0u64;
-    let mut wanted_values = 0u64;
-    let mut all = 0u64;
+    let (all, of_keys, of_values) = wanted(end, rule);
+    let is_seen = left == all && keys == of_keys && values == of_values;
+    Ok(is_seen && has_those(&map, end, rule))
+}
+
+// What is to be seen: the sum of the numbers, and of those that do not stay a digest in their order and the sum of their values.
+fn wanted(end: u64, rule: Rule) -> (u64, u64, u64) {
+    let (mut all, mut keys, mut values) = (0u64, 0u64, 0u64);
     for number in 0..end {
         all = all.wrapping_add(number);
         if !stays(rule, number) {
-            wanted = wanted.wrapping_mul(3).wrapping_add(number);
-            wanted_values = wanted_values.wrapping_add(number.wrapping_mul(2).wrapping_add(1));
+            keys = keys.wrapping_mul(3).wrapping_add(number);
+            values = values.wrapping_add(number.wrapping_mul(2).wrapping_add(1));
         }
     }
-    Ok(left == all && keys == wanted && values == wanted_values && has_those(&map, end, rule))
+    (all, keys, values)
 }
 
 // All stay, none, each second, runs of 512, one in 64, one, and all but one, and what does not stay there.
@@ -160,17 +166,22 @@ fn drops_odd_ones<'a>(map: &mut Tracked<'a>, drops: &[Drops]) -> bool {
     map.len() == living && living <= before
 }
 
+fn is_thinned_out(alloc: Global, drops: &[Drops]) -> bool {
+    let mut map: Tracked<'_> = BTreeMap::new(alloc);
+    keeps_or_hands_back_each(&mut map, drops) && drops_odd_ones(&mut map, drops)
+}
+
+fn each_is_dropped_once(alloc: Global) -> Result<bool, AllocError> {
+    let drops = fresh_drops(alloc, 170)?;
+    let is_right = is_thinned_out(alloc, &drops);
+    Ok(is_right && were_all_dropped(&drops, 1))
+}
+
 // Each request is refused in turn by the sweep.
 #[test]
 fn those_that_do_not_stay_are_dropped_once(rt: HostRuntime) {
-    let Ok(drops) = fresh_drops(rt.alloc(), 170) else {
-        assert!(rt; !is_ample(rt.alloc()));
-        return;
-    };
-    {
-        let mut map: Tracked<'_> = BTreeMap::new(rt.alloc());
-        assert!(rt; keeps_or_hands_back_each(&mut map, &drops));
-        assert!(rt; drops_odd_ones(&mut map, &drops));
+    match each_is_dropped_once(rt.alloc()) {
+        Ok(is_right) => assert!(rt; is_right),
+        Err(_refused) => assert!(rt; !is_ample(rt.alloc())),
     }
-    assert!(rt; were_all_dropped(&drops, 1));
 }

@@ -1,6 +1,6 @@
 //! Insertions with room that was taken before.
 use crate::map::take_all_memory;
-use crate::numbers::{Numbers, has_up_to, multiples};
+use crate::numbers::{Numbers, has, has_up_to, multiples};
 use crate::sizes::MOST_LEVELS;
 use fc_base::TryReserveError;
 use fc_map::map::{BTreeMap, Room};
@@ -42,7 +42,7 @@ fn a_refused_room_leaves_the_map(rt: HostRuntime) -> Result<(), Fail> {
     Ok(())
 }
 
-// A run that gets its memory from elsewhere, as one without proof does, would show nothing, and fails.
+// A trial gets its memory from elsewhere, would show nothing, and fails.
 #[test]
 fn with_all_memory_refused_each_place_is_used(rt: HostRuntime) -> Result<(), Fail> {
     let mut map = multiples(rt.alloc(), 1, 51, 1)?;
@@ -51,7 +51,11 @@ fn with_all_memory_refused_each_place_is_used(rt: HostRuntime) -> Result<(), Fai
     let has_memory = is_ample(rt.alloc());
     let count = put_numbers(&mut map, &mut room, 41, 152);
     drop(held);
-    assert!(rt; !has_memory && count == 100 && room.places() == 0);
+    assert!(rt;
+        !has_memory,
+        "all memory is to be refused, as only a proved run can: see the README"
+    );
+    assert!(rt; count == 100 && room.places() == 0);
     assert!(rt; has_up_to(&map, 150));
     Ok(())
 }
@@ -65,7 +69,7 @@ fn an_equal_key_uses_no_place(rt: HostRuntime) -> Result<(), Fail> {
     assert!(rt;
         put_numbers(&mut map, &mut room, 100, 102) == 1 && room.places() == 0 && room.pairs() == 101
     );
-    assert!(rt; map.get(&100) == Some(&100) && map.get(&3) == Some(&3) && map.get(&101).is_none());
+    assert!(rt; has(&map, 100, 100) && has(&map, 3, 3) && map.get(&101).is_none());
     Ok(())
 }
 

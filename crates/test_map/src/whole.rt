@@ -56,22 +56,29 @@ fn append(map: &mut Letters, other: &mut Letters) -> Result<(), TryReserveError>
 fn joins(alloc: Global) -> Result<bool, TryReserveError> {
     let mut map = letters(alloc, &[1, 2, 3], 'x', "abc")?;
     let mut other = letters(alloc, &[3, 4, 5], 'y', "def")?;
-    append(&mut map, &mut other)?;
-    Ok(reads(&map, &[1, 2, 3, 4, 5], "xxyyy", "abdef") && reads(&other, &[], "", ""))
+    is_joined(&mut map, &mut other)
+}
+
+fn is_joined(map: &mut Letters, other: &mut Letters) -> Result<bool, TryReserveError> {
+    append(map, other)?;
+    Ok(reads(map, &[1, 2, 3, 4, 5], "xxyyy", "abdef") && reads(other, &[], "", ""))
 }
 
 // Whether a split leaves so many of the numbers, and answers the others.
 fn splits(alloc: Global, numbers: &[u64], at: u64, left: usize) -> Result<bool, TryReserveError> {
-    let all = "abcdefghijkl";
-    let mut map = letters(alloc, numbers, 'x', all)?;
+    let mut map = letters(alloc, numbers, 'x', ALL)?;
     let rest = map.split_off(&key(at))?;
+    Ok(are_parts(&map, &rest, numbers, left))
+}
+
+const ALL: &str = "abcdefghijkl";
+
+fn are_parts(map: &Letters, rest: &Letters, numbers: &[u64], left: usize) -> bool {
     if left > numbers.len() || left > 12 {
-        return Ok(false);
+        return false;
     }
-    Ok(
-        reads(&map, &numbers[..left], "xxxxxxxxxxxx", all)
-            && reads(&rest, &numbers[left..], "xxxxxxxxxxxx", after(all, left)),
-    )
+    reads(map, &numbers[..left], "xxxxxxxxxxxx", ALL)
+        && reads(rest, &numbers[left..], "xxxxxxxxxxxx", after(ALL, left))
 }
 
 fn after(text: &str, place: usize) -> &str {
@@ -91,16 +98,16 @@ fn is_refused(done: Result<(), TryReserveError>) -> bool {
     matches!(done, Err(TryReserveError::AllocError))
 }
 
-// Whether two maps that have pairs are not joined and stay, and one of them is joined with an empty one, on either side.
-fn only_two_with_pairs_are_refused(
-    map: &mut Letters,
-    other: &mut Letters,
-    none: &mut Letters,
-) -> bool {
+// Whether two maps that have pairs are not joined and stay.
+fn two_with_pairs_are_refused(map: &mut Letters, other: &mut Letters) -> bool {
     is_refused(append(map, other))
         && reads(map, &[1, 2, 3], "xxx", "abc")
         && reads(other, &[3, 4, 5], "yyy", "def")
-        && append(map, none).is_ok()
+}
+
+// Whether one of them is joined with an empty one, on either side.
+fn one_with_pairs_is_joined(map: &mut Letters, none: &mut Letters) -> bool {
+    append(map, none).is_ok()
         && reads(map, &[1, 2, 3], "xxx", "abc")
         && append(none, map).is_ok()
         && reads(none, &[1, 2, 3], "xxx", "abc")
@@ -120,7 +127,13 @@ fn only_one_with_pairs_is_refused(none: &mut Letters, other: &mut Letters) -> bo
     is_cut && is_refused && reads(other, &[3, 4, 5], "yyy", "def")
 }
 
-// A run that gets its memory from elsewhere, as one without proof does, would show nothing, and fails.
+fn only_pairs_are_refused(map: &mut Letters, other: &mut Letters, none: &mut Letters) -> bool {
+    two_with_pairs_are_refused(map, other)
+        && one_with_pairs_is_joined(map, none)
+        && only_one_with_pairs_is_refused(map, other)
+}
+
+// A trial gets its memory from elsewhere, would show nothing, and fails.
 #[test]
 fn with_all_memory_refused_only_pairs_are_joined_or_cut_in_vain(
     rt: HostRuntime,
@@ -129,10 +142,13 @@ fn with_all_memory_refused_only_pairs_are_joined_or_cut_in_vain(
     let mut other = letters(rt.alloc(), &[3, 4, 5], 'y', "def")?;
     let mut none = letters(rt.alloc(), &[], 'z', "")?;
     let held = take_all_memory(rt.alloc())?;
-    let is_right = !is_ample(rt.alloc())
-        && only_two_with_pairs_are_refused(&mut map, &mut other, &mut none)
-        && only_one_with_pairs_is_refused(&mut map, &mut other);
+    let has_none = !is_ample(rt.alloc());
+    let is_right = only_pairs_are_refused(&mut map, &mut other, &mut none);
     drop(held);
+    assert!(rt;
+        has_none,
+        "all memory is to be refused, as only a proved run can: see the README"
+    );
     assert!(rt; is_right);
     Ok(())
 }

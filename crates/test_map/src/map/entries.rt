@@ -107,29 +107,34 @@ fn look_up<'a>(map: &Counted<'a>, key: &CountingKey<'a>) -> (u64, bool) {
 }
 
 // The search makes the comparisons of a look-up; the insertion or the removal that follows makes none.
+fn compares_in_its_search<'a>(
+    map: &mut Counted<'a>,
+    number: u64,
+    comparisons: &'a Cell<u64>,
+) -> Result<bool, TryReserveError> {
+    let key = CountingKey {
+        number,
+        comparisons,
+    };
+    let (expected, is_there) = look_up(map, &key);
+    let entry = map.try_entry(key)?;
+    let is_found = comparisons.get() == expected;
+    let is_value = match entry {
+        Entry::Vacant(entry) => match entry.try_insert(number) {
+            Ok(value) => !is_there && *value == number,
+            Err((_key, _value, e)) => return Err(e),
+        },
+        Entry::Occupied(entry) => is_there && entry.remove() == number,
+    };
+    Ok(is_found && is_value && comparisons.get() == expected)
+}
+
 #[test]
 fn an_entry_compares_in_its_search_alone(rt: HostRuntime) -> Result<(), Fail> {
     let comparisons = Cell::new(0);
     for number in 0..153u64 {
         let mut map = three_levels(rt.alloc(), &comparisons)?;
-        let key = CountingKey {
-            number,
-            comparisons: &comparisons,
-        };
-        let (expected, is_there) = look_up(&map, &key);
-        let entry = map.try_entry(key)?;
-        assert!(rt; comparisons.get() == expected);
-        match entry {
-            Entry::Vacant(entry) => {
-                let value = *entry.try_insert(number).map_err(|back| back.2)?;
-                assert!(rt; !is_there && value == number);
-            }
-            Entry::Occupied(entry) => {
-                let value = entry.remove();
-                assert!(rt; is_there && value == number);
-            }
-        }
-        assert!(rt; comparisons.get() == expected);
+        assert!(rt; compares_in_its_search(&mut map, number, &comparisons)?);
     }
     Ok(())
 }
@@ -146,6 +151,21 @@ fn take_by_numbers<'a>(map: &mut Counted<'a>) {
     }
 }
 
+fn ready_entry_compares_none<'a>(
+    map: &mut Counted<'a>,
+    comparisons: &'a Cell<u64>,
+) -> Result<bool, TryReserveError> {
+    let key = CountingKey {
+        number: 75,
+        comparisons,
+    };
+    let (expected, is_there) = look_up(map, &key);
+    if let Entry::Vacant(entry) = map.try_entry(key)? {
+        let Ok(_value) = entry.try_ready().map_err(|back| back.1)?.insert(75);
+    }
+    Ok(!is_there && comparisons.get() == expected)
+}
+
 // What searches for no key compares none; nor does an insertion that is made ready, behind the search for its entry.
 #[test]
 fn what_searches_for_no_key_compares_none(rt: HostRuntime) -> Result<(), Fail> {
@@ -154,15 +174,7 @@ fn what_searches_for_no_key_compares_none(rt: HostRuntime) -> Result<(), Fail> {
     comparisons.set(0);
     take_by_numbers(&mut map);
     assert!(rt; comparisons.get() == 0 && map.len() == 79);
-    let key = CountingKey {
-        number: 75,
-        comparisons: &comparisons,
-    };
-    let (expected, is_there) = look_up(&map, &key);
-    if let Entry::Vacant(entry) = map.try_entry(key)? {
-        let Ok(_value) = entry.try_ready().map_err(|back| back.1)?.insert(75);
-    }
-    assert!(rt; !is_there && comparisons.get() == expected);
+    assert!(rt; ready_entry_compares_none(&mut map, &comparisons)?);
     Ok(())
 }
 
@@ -198,7 +210,7 @@ fn tracked_up_to<'a>(alloc: Global, last: usize, kept: &'a Drops) -> Option<Trac
     Some(map)
 }
 
-// A run that gets its memory from elsewhere, as one without proof does, would show nothing, and fails.
+// A trial gets its memory from elsewhere, would show nothing, and fails.
 #[test]
 fn a_refused_entry_calls_its_closure_once_and_hands_its_value_back(
     rt: HostRuntime,
@@ -213,7 +225,11 @@ fn a_refused_entry_calls_its_closure_once_and_hands_its_value_back(
     let has_none = !is_ample(rt.alloc());
     let fate = fill_entry(&mut map, 0, &refused, &calls);
     drop(held);
-    assert!(rt; has_none && matches!(fate, Ok(Fate::HandedBack)) && calls.get() == 1);
+    assert!(rt;
+        has_none,
+        "all memory is to be refused, as only a proved run can: see the README"
+    );
+    assert!(rt; matches!(fate, Ok(Fate::HandedBack)) && calls.get() == 1);
     assert!(rt; map.len() == CAPACITY && were_dropped(&kept, 0, 0));
     Ok(())
 }

@@ -86,21 +86,28 @@ fn entry_hands_the_default_back(map: &mut TaggedMap) -> bool {
     }
 }
 
-// The pairs fill a leaf, so that each new key takes memory. A run that gets its memory from elsewhere, as one without proof does, would
-// show nothing, and fails.
+fn each_call_hands_back(map: &mut TaggedMap) -> bool {
+    insertion_hands_back(map)
+        && counted_insertion_hands_back(map)
+        && vacant_entry_hands_back(map)
+        && counted_vacant_entry_hands_back(map)
+        && entry_hands_back(map)
+        && entry_hands_back_what_its_closure_made(map)
+        && entry_hands_the_default_back(map)
+}
+
+// The pairs fill a leaf, so that each new key takes memory. A trial gets its memory from elsewhere, would show nothing, and fails.
 #[test]
 fn each_refused_call_hands_its_pair_back(rt: HostRuntime) -> Result<(), Fail> {
     let mut map = tagged_below(rt.alloc(), BEYOND)?;
     let held = take_all_memory(rt.alloc())?;
-    let is_right = !is_ample(rt.alloc())
-        && insertion_hands_back(&mut map)
-        && counted_insertion_hands_back(&mut map)
-        && vacant_entry_hands_back(&mut map)
-        && counted_vacant_entry_hands_back(&mut map)
-        && entry_hands_back(&mut map)
-        && entry_hands_back_what_its_closure_made(&mut map)
-        && entry_hands_the_default_back(&mut map);
+    let has_none = !is_ample(rt.alloc());
+    let is_right = each_call_hands_back(&mut map);
     drop(held);
+    assert!(rt;
+        has_none,
+        "all memory is to be refused, as only a proved run can: see the README"
+    );
     assert!(rt; is_right && map.len() == CAPACITY);
     Ok(())
 }
@@ -114,13 +121,18 @@ fn hands_back(map: &mut Numbers, number: u64, given: u64) -> bool {
     }
 }
 
-// A run that gets its memory from elsewhere, as one without proof does, would show nothing, and fails.
+// A trial gets its memory from elsewhere, would show nothing, and fails.
 #[test]
 fn a_refused_pair_goes_in_once_memory_is_there(rt: HostRuntime) -> Result<(), Fail> {
     let mut map = multiples(rt.alloc(), 1, BEYOND, 1)?;
     let held = take_all_memory(rt.alloc())?;
-    let is_back = !is_ample(rt.alloc()) && hands_back(&mut map, BEYOND, 7);
+    let has_none = !is_ample(rt.alloc());
+    let is_back = hands_back(&mut map, BEYOND, 7);
     drop(held);
+    assert!(rt;
+        has_none,
+        "all memory is to be refused, as only a proved run can: see the README"
+    );
     assert!(rt; is_back && has_up_to(&map, CAPACITY as u64));
     assert!(rt; matches!(insert(&mut map, BEYOND, 7), Ok(None)) && has(&map, BEYOND, 7));
     assert!(rt; map.len() == CAPACITY + 1);
