@@ -4,7 +4,7 @@ use Rattle.std.specs.Prelude.{◌&&◌, map}
 use Rattle.std.specs.List.{AllByRecursion, filter, find}
 use Rattle.std.specs.Option.{option_or}
 use Rattle.std.proofs.lemmas.List.Folds.{find-append}
-use Rattle.fc_tree_search.specs.Neighbours.{last_item}
+use Rattle.fc_laws.specs.Words.{last_item}
 
 pub and_false : (b : Bool) → (b && false) ≡ false
 and_false true = refl
@@ -31,10 +31,6 @@ module _ {X : Type 0} where
   pub all_at : (P : X → Type 0) (s t : List X) (x : X) → AllByRecursion P (s ++ x ∷ t) → P x
   all_at P [] t x a = a.0
   all_at P (y ∷ s) t x a = all_at P s t x a.1
-
-  pub all_lead : (P : X → Type 0) (s t : List X) → AllByRecursion P (s ++ t) → AllByRecursion P s
-  all_lead P [] t a = tt
-  all_lead P (x ∷ s) t a = (a.0, all_lead P s t a.1)
 
   pub all_pass : (p : X → Bool) (s : List X) → AllByRecursion (λ x. p x ≡ true) (filter p s)
   all_pass p [] = tt

@@ -10,7 +10,7 @@ use Rattle.std.specs.declared.cmp.Ordering.TheVariants.{Less}
 use Rattle.std.proofs.lemmas.Cmp.{tied_itself}
 use Rattle.fc_base.specs.Ascending.{IsAscending}
 use Rattle.fc_base.proofs.AscendingFacts.{all_map}
-use Rattle.fc_tree_search.specs.Neighbours.{last_item, not_above}
+use Rattle.fc_laws.specs.Words.{last_item, not_above}
 use Rattle.fc_intervals.specs.Steps.{ended}
 use Rattle.fc_intervals.specs.Stretches.{AreApart, lies, stretch_at, value_at_point}
 use Rattle.fc_intervals.specs.declared.stretch.Stretch.{Stretch}

@@ -19,7 +19,7 @@ use Rattle.fc_base.specs.Viewed.{over_one, own_order}
 use Rattle.fc_base.proofs.AscendingFacts.{all_map, all_below}
 use Rattle.fc_base.proofs.JoinedLaws.{halves_joined}
 use Rattle.fc_map.specs.Ranged.{outside}
-use Rattle.fc_tree_search.specs.Neighbours.{last_item}
+use Rattle.fc_laws.specs.Words.{last_item}
 use Rattle.fc_intervals.specs.Steps.{ahead, ended, EndsBy, IsRest, starting}
 use Rattle.fc_intervals.specs.Stretches.{AreApart, IsKept, IsWritten, lies, stretch_at, value_at_point}
 use Rattle.fc_intervals.specs.declared.stretch.Stretch.{Stretch}

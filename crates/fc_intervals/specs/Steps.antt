@@ -4,7 +4,7 @@ use Rattle.std.specs.Ordering.{is_lt}
 use Rattle.std.specs.declared.cmp.Ordering.{Ordering}
 use Rattle.fc_base.specs.Halves.{not_below}
 use Rattle.fc_base.specs.Parts.{below}
-use Rattle.fc_tree_search.specs.Neighbours.{last_item}
+use Rattle.fc_laws.specs.Words.{last_item}
 use Rattle.fc_intervals.specs.declared.stretch.Stretch.{Stretch}
 
 module _ {K V : Type 0} (cmp : K → K → Ordering) where

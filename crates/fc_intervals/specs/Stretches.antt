@@ -3,7 +3,9 @@ use Rattle.std.specs.Prelude.{◌≡◌, ◌⊎◌, ℕ, ◌+◌, ◌≤◌, Boo
 use Rattle.std.specs.List.{AllByRecursion}
 use Rattle.std.specs.Option.{option_map}
 use Rattle.std.specs.Ordering.{is_lt, is_le}
+use Rattle.std.specs.Borrow.{Bor}
 use Rattle.std.specs.declared.cmp.Ordering.{Ordering}
+use Rattle.std.specs.declared.ops.Range.{Range}
 use Rattle.std.specs.declared.cmp.Ordering.TheVariants.{Less}
 use Rattle.fc_base.specs.Copies.{SameContents}
 use Rattle.fc_base.specs.declared.count.Count.{Count}
@@ -39,6 +41,10 @@ module _ {K V : Type 0} (cmp : K → K → Ordering) (same : V → V → Type 0)
     pub inside : (p : K) → lies cmp from to p ≡ true → value_at_point cmp new p ≡ value
     pub ahead : (p : K) → cmp p from ≡ Less → value_at_point cmp new p ≡ value_at_point cmp old p
     pub behind : (p : K) → is_le (cmp to p) ≡ true → IsKept same (value_at_point cmp old p) (value_at_point cmp new p)
+
+-- The stretch that a range and a reference to its value show, where there is one.
+abbrev pub now_stretch : {K V : Type 0} → Option (Range K × Bor V) → Option (K × Stretch K V)
+now_stretch o = option_map (λ r. (r.0.start, record { end = r.0.end; value = r.1.now })) o
 
 -- A look-up among n stretches counts what a look-up of a map of n pairs does, and at most one comparison more.
 abbrev pub IsLookUp : ℕ → Count → Count → Type 0

@@ -1,10 +1,9 @@
 //! The map: stretches of points, by their starts.
 ghost use Rattle.std.specs.Prelude.{◌≡◌, ◌↔◌, ◌-◌, [], length, slice_get, false, IsTrue, IsOk, IfErr, OnOk, OnErr, None, Some};
-ghost use Rattle.std.specs.Option.{option_map};
 ghost use Rattle.std.specs.Ordering.{is_lt};
 ghost use Rattle.std.specs.declared.cmp.Ordering.TheVariants.{Less};
-ghost use Rattle.fc_map.specs.Entries.{now_pair, now_value};
-ghost use Rattle.fc_intervals.specs.Stretches.{AreApart, IsLookUp, IsWritten, stretch_at, value_at_point};
+ghost use Rattle.fc_map.specs.Entries.{now_value};
+ghost use Rattle.fc_intervals.specs.Stretches.{AreApart, IsLookUp, IsWritten, now_stretch, stretch_at, value_at_point};
 
 use crate::steps;
 use crate::stretch::Stretch;
@@ -91,10 +90,32 @@ impl<K: Ord + Copy, V, A: Handle> IntervalMap<K, V, A> {
 
     /// The stretch that covers a point, and its value. `None` where none does.
     pub fn get_key_value(&self, at: K) -> Option<(Range<K>, &V)>
-        ensures range { option_map (λ r. (r.0.start, record { end = r.0.end; value = r.1.now })) result ≡ stretch_at K.cmp self.now at }
+        ensures stretch { now_stretch result ≡ stretch_at K.cmp self.now at }
         ensures apart { AreApart K.cmp self.now }
     {
         match steps::covering(&self.map, &at, &mut Count::new()) {
+            Some((start, stretch)) => Some((*start..stretch.end, &stretch.value)),
+            None => None,
+        }
+    }
+
+    /// The first stretch, and its value. `None` where there is none.
+    pub fn first(&self) -> Option<(Range<K>, &V)>
+        ensures stretch { now_stretch result ≡ slice_get self.now 0 }
+        ensures apart { AreApart K.cmp self.now }
+    {
+        match self.map.first_key_value() {
+            Some((start, stretch)) => Some((*start..stretch.end, &stretch.value)),
+            None => None,
+        }
+    }
+
+    /// The last stretch, and its value. `None` where there is none.
+    pub fn last(&self) -> Option<(Range<K>, &V)>
+        ensures stretch { now_stretch result ≡ slice_get self.now (length self.now - 1) }
+        ensures apart { AreApart K.cmp self.now }
+    {
+        match self.map.last_key_value() {
             Some((start, stretch)) => Some((*start..stretch.end, &stretch.value)),
             None => None,
         }
