@@ -19,6 +19,9 @@ and_right true b h = h
 and_right false b h = absurd cc
 
 module _ {X : Type 0} where
+  pub one_value : (x y : X) → Some x ≡ Some y → x ≡ y
+  one_value x y h = cc
+
   pub all_kept : (P : X → Type 0) (p : X → Bool) (s : List X) → AllByRecursion P s → AllByRecursion P (filter p s)
   all_kept P p [] a = tt
   all_kept P p (x ∷ s) a = elim (p x) as (λ b. AllByRecursion P (cond b (x ∷ filter p s) (filter p s)))

@@ -16,8 +16,8 @@ invariant_of-self g c =
     (put_apart g.K.Ord.cmp g.met.K.Ord.total s c.self.invariant c.args.start c.args.end c.requires.range g.V.TryClone.same
         c.in-Ok.rest c.in-Ok.ensures.rest c.args.value)
 
-pub returns-clause-written : goal.returns-clause-written
-returns-clause-written g c =
+pub returns-in-Ok-clause-written : goal.returns-in-Ok-clause-written
+returns-in-Ok-clause-written g c =
     let s = entries c.self.inside.map in
     let given : Stretch g.row.K.Denot g.row.V.Denot = record { end = c.args.end; value = c.args.value } in
     subst (λ t. IsWritten g.K.Ord.cmp g.V.TryClone.same c.args.start c.args.end (Some c.args.value) t (entries c.insert_with.new.self)) c.self.view_is
