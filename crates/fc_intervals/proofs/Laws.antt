@@ -1,5 +1,5 @@
 -- The laws for callers of a map of stretches.
-use Rattle.std.proofs.Common.{◌≡◌, ◌⊎◌, Option, Some, None, inl, inr, refl, ap}
+use Rattle.std.proofs.Common.{◌≡◌, Option, Some, None, inl, inr, refl, ap}
 use Rattle.fc_laws.specs.Words.{IsExact}
 use Rattle.fc_intervals.specs.Stretches.{IsKept}
 

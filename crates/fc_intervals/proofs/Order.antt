@@ -1,5 +1,5 @@
 -- How the tests of an order chain.
-use Rattle.std.proofs.Common.{◌≡◌, Bool, true, false, refl, sym, ap, ◌∙◌}
+use Rattle.std.proofs.Common.{◌≡◌, true, false, refl, sym, ap, ◌∙◌}
 use Rattle.std.specs.Cmp.{IsTotalOrder}
 use Rattle.std.specs.Ordering.{is_lt, is_le, is_ge, ordering_reverse}
 use Rattle.std.specs.declared.cmp.Ordering.{Ordering}

@@ -15,7 +15,7 @@ use Rattle.fc_intervals.specs.Steps.{ended}
 use Rattle.fc_intervals.specs.Stretches.{AreApart, lies, stretch_at, value_at_point}
 use Rattle.fc_intervals.specs.declared.stretch.Stretch.{Stretch}
 use Rattle.fc_intervals.proofs.Lists.{EndsIn, and_false, and_left, all_kept, all_joined, all_at, all_over, all_pass, found_in, found_behind, no_last, not_found, ends_in}
-use Rattle.fc_intervals.proofs.Order.{is_less, le_from_not_lt, not_lt_from_le, not_le_from_less, less_le, le_less, le_le}
+use Rattle.fc_intervals.proofs.Order.{is_less, le_from_not_lt, not_lt_from_le, not_le_from_less, less_le, le_le}
 
 module _ {K V : Type 0} (cmp : K → K → Ordering) where
   -- all of the stretches end at a point or before

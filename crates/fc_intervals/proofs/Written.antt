@@ -1,6 +1,6 @@
 -- What a call on a range makes of a list of stretches.
 use Rattle.std.proofs.Common.{◌≡◌, ℕ, ◌+◌, ◌≤◌, arith, Bool, true, false, cond, List, [], ◌∷◌, ◌++◌, length, length-append, Option, Some, None, inl, inr, refl, sym, ap, ◌∙◌, subst, append_assoc, append-nil}
-use Rattle.std.specs.Prelude.{◌&&◌, ◌⊎◌, not, map, unwrap_or}
+use Rattle.std.specs.Prelude.{◌&&◌, not, map, unwrap_or}
 use Rattle.std.specs.List.{AllByRecursion, filter}
 use Rattle.std.specs.Option.{option_map, MatchOption}
 use Rattle.std.specs.Cmp.{IsTotalOrder}
@@ -23,7 +23,7 @@ use Rattle.fc_laws.specs.Words.{last_item}
 use Rattle.fc_intervals.specs.Steps.{ahead, ended, EndsBy, IsRest, starting}
 use Rattle.fc_intervals.specs.Stretches.{AreApart, IsKept, IsWritten, lies, stretch_at, value_at_point}
 use Rattle.fc_intervals.specs.declared.stretch.Stretch.{Stretch}
-use Rattle.fc_intervals.proofs.Lists.{EndsIn, and_false, and_left, and_right, all_kept, all_joined, all_at, all_over, all_pass, kept, left_out, not_found, found_in, filters_both, found_behind, found_ahead, no_last, last_is, ends_in}
+use Rattle.fc_intervals.proofs.Lists.{EndsIn, and_false, and_left, and_right, all_joined, all_at, all_over, all_pass, kept, left_out, not_found, found_in, filters_both, found_behind, found_ahead, no_last, last_is, ends_in}
 use Rattle.fc_intervals.proofs.Order.{is_less, le_from_not_lt, not_lt_from_le, le_from_ge, less_le, le_less, le_le}
 use Rattle.fc_intervals.proofs.Points.{EndBy, StartFrom, apart_kept, lead_ends, apart_rest, apart_ascend, apart_joined, past, yet_to_come, end_by_ended, apart_ended, nothing_ended, value_ended}
 
@@ -66,7 +66,7 @@ module _ {K V : Type 0} (cmp : K → K → Ordering) (o : IsTotalOrder cmp) (s :
           let parts : AreApart cmp (split.lead ++ y ∷ []) = subst (AreApart cmp) split.is (apart_kept cmp _ s apart) in
           let less : cmp y.0 b ≡ Less = all_at _ split.lead [] y (subst (AllByRecursion (λ x. cmp x.0 b ≡ Less)) split.is (all_below cmp s b)) in
           subst (EndBy cmp b) (sym split.is) (all_joined _ split.lead (y ∷ [])
-              (all_map _ _ (λ x l. le_le o x.1.end y.0 b l (ap is_le less)) split.lead (lead_ends cmp split.lead [] y parts)) (le_from_not_lt o b y.1.end h, tt))
+          (all_map _ _ (λ x l. le_le o x.1.end y.0 b l (ap is_le less)) split.lead (lead_ends cmp split.lead [] y parts)) (le_from_not_lt o b y.1.end h, tt))
 
   pub start_from : (b : K) → StartFrom cmp b (not_below cmp s b)
   start_from b = all_map _ _ (λ e h. le_from_ge o e.0 b h) _ (all_pass (λ e. is_ge (cmp e.0 b)) s)
@@ -113,8 +113,7 @@ module _ {K V : Type 0} (cmp : K → K → Ordering) (o : IsTotalOrder cmp) (s :
     rest_apart None h = apart_kept cmp _ s apart
     rest_apart (Some r) h =
         let on : cmp b h.0.1.end ≡ Less = is_less _ h.2 in
-        let more = from_last b h.0 h.1 on in
-        (
+        let more = from_last b h.0 h.1 on in (
           subst (λ e. cmp b e ≡ Less) (sym h.3) on,
           subst (λ e. AllByRecursion (λ x. is_le (cmp e x.0) ≡ true) (not_below cmp s b)) (sym h.3) more.1,
           more.2,
@@ -125,7 +124,7 @@ module _ {K V : Type 0} (cmp : K → K → Ordering) (o : IsTotalOrder cmp) (s :
     rest_value None h p l =
         let e : value_at_point cmp s p ≡ value_at_point cmp (not_below cmp s b) p =
         ap (option_map (λ (x : K × Stretch K V). x.1.value)) (ap (λ t. stretch_at cmp t p) (sym (halves b))
-            ∙ found_behind _ (below cmp s b) (not_below cmp s b) (past cmp o b p (below cmp s b) (ends_by b h) l)) in
+        ∙ found_behind _ (below cmp s b) (not_below cmp s b) (past cmp o b p (below cmp s b) (ends_by b h) l)) in
         subst (λ v. IsKept same v (value_at_point cmp (not_below cmp s b) p)) (sym e) (kept_same same (value_at_point cmp (not_below cmp s b) p))
     rest_value (Some r) h p l =
         let others = stretch_at cmp (not_below cmp s b) p in
@@ -176,12 +175,12 @@ module _ {K V : Type 0} (cmp : K → K → Ordering) (o : IsTotalOrder cmp) (s :
           let less : cmp p.0 a ≡ Less = all_at _ lead [] p (subst (AllByRecursion (λ x. cmp x.0 a ≡ Less)) last (all_below cmp s a)) in
           let lead_by : EndBy cmp a lead = all_map _ _ (λ x l. le_le o x.1.end p.0 a l (ap is_le less)) lead (lead_ends cmp lead [] p parts) in
           sym (
-            ap (λ l. map (ended cmp a) l ++ not_below cmp s a) last
-            ∙ ap (λ l. l ++ not_below cmp s a) (map-append (ended cmp a) lead (p ∷ []))
-            ∙ ap (λ l. (l ++ ended cmp a p ∷ []) ++ not_below cmp s a) (nothing_ended cmp o a lead lead_by)
-            ∙ append_assoc lead (ended cmp a p ∷ []) (not_below cmp s a)
-            ∙ ap (λ t. lead ++ (p.0, let x : Stretch K V = record { end = cond t a p.1.end; value = p.1.value } in x) ∷ not_below cmp s a) h
-            )
+          ap (λ l. map (ended cmp a) l ++ not_below cmp s a) last
+          ∙ ap (λ l. l ++ not_below cmp s a) (map-append (ended cmp a) lead (p ∷ []))
+          ∙ ap (λ l. (l ++ ended cmp a p ∷ []) ++ not_below cmp s a) (nothing_ended cmp o a lead lead_by)
+          ∙ append_assoc lead (ended cmp a p ∷ []) (not_below cmp s a)
+          ∙ ap (λ t. lead ++ (p.0, let x : Stretch K V = record { end = cond t a p.1.end; value = p.1.value } in x) ∷ not_below cmp s a) h
+          )
 
     pub front_length : length (ahead cmp s a ++ not_below cmp s a) ≡ length s
     front_length = length-append (ahead cmp s a) (not_below cmp s a) ∙ ap (λ n. n + length (not_below cmp s a)) (length-map (below cmp s a) (ended cmp a))
@@ -193,9 +192,9 @@ module _ {K V : Type 0} (cmp : K → K → Ordering) (o : IsTotalOrder cmp) (s :
           filter-append _ (ahead cmp s a) (not_below cmp s a)
           ∙ ap (λ l. l ++ filter (λ e. not (is_ge (cmp e.0 a) && is_lt (cmp e.0 b))) (not_below cmp s a))
           (kept (λ e. not (is_ge (cmp e.0 a) && is_lt (cmp e.0 b))) (ahead cmp s a)
-              (all_map _ _ (λ e h. ap (λ r. not (is_ge r && is_lt (cmp e.0 b))) h) (ahead cmp s a) front_less))
+          (all_map _ _ (λ e h. ap (λ r. not (is_ge r && is_lt (cmp e.0 b))) h) (ahead cmp s a) front_less))
           ∙ ap (λ l. ahead cmp s a ++ l) (filters_both (λ e. is_ge (cmp e.0 a)) (λ e. not (is_ge (cmp e.0 a) && is_lt (cmp e.0 b))) (λ e. is_ge (cmp e.0 b))
-              (λ e. go e (cmp e.0 a) refl) s)
+          (λ e. go e (cmp e.0 a) refl) s)
         where
           go : (e : K × Stretch K V) (r : Ordering) → cmp e.0 a ≡ r → (is_ge r && not (is_ge r && is_lt (cmp e.0 b))) ≡ is_ge (cmp e.0 b)
           go e Less h = sym (ap is_ge (o.trans e.0 a b h range))

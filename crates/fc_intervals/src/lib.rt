@@ -5,5 +5,6 @@ pub mod map;
 mod steps;
 pub mod stretch;
 
+pub use fc_base::{TryClone, TryReserveError};
 pub use map::IntervalMap;
 pub use stretch::Stretch;

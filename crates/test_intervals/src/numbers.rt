@@ -78,7 +78,11 @@ fn next(state: u64) -> u64 {
 fn change(map: &mut Numbers, row: &mut Row, drawn: u64) -> Result<(), TryReserveError> {
     let start = (drawn >> 33) % 24;
     let end = start.wrapping_add((drawn >> 40) % 8);
-    let (start, end) = if drawn >> 61 == 0 { (end, start) } else { (start, end) };
+    let (start, end) = if drawn >> 61 == 0 {
+        (end, start)
+    } else {
+        (start, end)
+    };
     if drawn >> 50 & 3 == 0 {
         map.cut(start..end)?;
         write(row, start, end, 0);
@@ -120,9 +124,19 @@ fn a_stretch_is_cut_and_split(rt: HostRuntime) -> Result<(), Fail> {
     map.put(20..30, 2)?;
     map.put(30..40, 3)?;
     map.put(15..35, 4)?;
-    assert!(rt; map.len() == 3 && map.get(14) == Some(&1) && map.get(15) == Some(&4) && map.get(35) == Some(&3));
+    assert!(rt;
+        map.len() == 3
+            && map.get(14) == Some(&1)
+            && map.get(15) == Some(&4)
+            && map.get(35) == Some(&3)
+    );
     map.put(20..21, 5)?;
-    assert!(rt; map.len() == 5 && map.get(19) == Some(&4) && map.get(20) == Some(&5) && map.get(21) == Some(&4));
+    assert!(rt;
+        map.len() == 5
+            && map.get(19) == Some(&4)
+            && map.get(20) == Some(&5)
+            && map.get(21) == Some(&4)
+    );
     map.cut(0..100)?;
     assert!(rt; map.is_empty());
     Ok(())

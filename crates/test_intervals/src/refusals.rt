@@ -15,7 +15,10 @@ fn number_at(map: &Boxes, point: u64) -> u64 {
 
 // Whether the map has one stretch, from 10 up to 40, of this number.
 fn is_whole(map: &Boxes, number: u64) -> bool {
-    map.len() == 1 && number_at(map, 10) == number && number_at(map, 39) == number && number_at(map, 40) == 0
+    map.len() == 1
+        && number_at(map, 10) == number
+        && number_at(map, 39) == number
+        && number_at(map, 40) == 0
 }
 
 // The sweep refuses each request in turn: of the values, of the nodes, and of the copy of what is split.
@@ -33,7 +36,12 @@ fn a_refused_put_leaves_the_map(rt: HostRuntime) -> Result<(), Fail> {
         return Ok(());
     };
     match map.put(20..30, second) {
-        Ok(()) => assert!(rt; map.len() == 3 && number_at(&map, 19) == 1 && number_at(&map, 29) == 2 && number_at(&map, 30) == 1),
+        Ok(()) => assert!(rt;
+            map.len() == 3
+                && number_at(&map, 19) == 1
+                && number_at(&map, 29) == 2
+                && number_at(&map, 30) == 1
+        ),
         Err((value, _error)) => assert!(rt; value.number == 2 && is_whole(&map, 1)),
     }
     Ok(())
@@ -52,7 +60,12 @@ fn a_refused_cut_leaves_the_map(rt: HostRuntime) -> Result<(), Fail> {
         assert!(rt; is_whole(&map, 1));
         return Ok(());
     }
-    assert!(rt; map.len() == 2 && number_at(&map, 19) == 1 && number_at(&map, 20) == 0 && number_at(&map, 30) == 1);
+    assert!(rt;
+        map.len() == 2
+            && number_at(&map, 19) == 1
+            && number_at(&map, 20) == 0
+            && number_at(&map, 30) == 1
+    );
     // What ends at the end of its stretch goes on nowhere, and asks for no memory.
     assert!(rt; map.cut(35..40).is_ok() && number_at(&map, 34) == 1 && number_at(&map, 35) == 0);
     Ok(())

@@ -1,4 +1,4 @@
-use Rattle.std.proofs.Common.{◌≡◌, ◌∙◌, sym, ap, Some, None, cond}
+use Rattle.std.proofs.Common.{◌∙◌, sym, ap, Some, None, cond}
 use Rattle.std.specs.Ordering.{is_lt}
 use Rattle.fc_map.specs.Entries.{entries}
 use Rattle.fc_intervals.specs.declared.stretch.Stretch.{Stretch}

@@ -20,8 +20,11 @@ returns-then-is_lt g c =
     let written : Stretch g.row.K.Denot g.row.V.Denot = record { end = c.args.at; value = c.get_mut.result.now.value } in
     record {
       ended = ◌∙◌ {b = entries c.drop-entry.new.self.0} (search rules) (ap entries c.drop-entry.ensures ∙ pair.5 written
-          ∙ ap (λ (x : Stretch g.row.K.Denot g.row.V.Denot). pair.1 ++ (pair.0.0, let w : Stretch g.row.K.Denot g.row.V.Denot =
-              record { end = c.args.at; value = x.value } in w) ∷ not_below g.K.Ord.cmp s c.args.at) lent
+          ∙ ap (λ (x : Stretch g.row.K.Denot g.row.V.Denot). pair.1 ++ (
+            pair.0.0,
+            let w : Stretch g.row.K.Denot g.row.V.Denot =
+                record { end = c.args.at; value = x.value } in w,
+          ) ∷ not_below g.K.Ord.cmp s c.args.at) lent
           ∙ end_written g.K.Ord.cmp g.met.K.Ord.total s c.requires c.args.at pair.1 pair.0 pair.3 test);
     }
 

@@ -5,8 +5,7 @@ use Rattle.fc_intervals.proofs.steps.rest_behind.Goals as goal
 
 pub returns : goal.returns
 returns g c =
-    let last : g.row.K.Denot × Stretch g.row.K.Denot g.row.V.Denot = (c.in-Some.field-0-0.now, c.in-Some.stretch.now) in
-    (
+    let last : g.row.K.Denot × Stretch g.row.K.Denot g.row.V.Denot = (c.in-Some.field-0-0.now, c.in-Some.stretch.now) in (
       last,
       sym c.in-Some.ensures.pair,
       ap is_lt (sym c.cmp.ensures) ∙ sym c.is_lt.ensures ∙ c.if-not-is_lt.false,

@@ -1,4 +1,4 @@
-use Rattle.std.proofs.Common.{◌≡◌, ◌∙◌, Some, None, true, false, sym, ap}
+use Rattle.std.proofs.Common.{◌≡◌, ◌∙◌, Some, true, false, sym, ap}
 use Rattle.std.specs.Ordering.{is_lt}
 use Rattle.fc_intervals.proofs.Order.{is_less}
 use Rattle.fc_intervals.proofs.Written.{empty_written}
