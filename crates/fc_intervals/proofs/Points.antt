@@ -14,7 +14,8 @@ use Rattle.fc_laws.specs.Words.{last_item, not_above}
 use Rattle.fc_intervals.specs.Steps.{ended}
 use Rattle.fc_intervals.specs.Stretches.{AreApart, lies, stretch_at, value_at_point}
 use Rattle.fc_intervals.specs.declared.stretch.Stretch.{Stretch}
-use Rattle.fc_intervals.proofs.Lists.{EndsIn, and_false, and_left, all_kept, all_joined, all_at, all_over, all_pass, found_in, found_behind, no_last, not_found, ends_in}
+use Rattle.fc_intervals.proofs.Lists.{EndsIn, and_false, and_left, all_kept, all_joined, all_at, all_over, all_pass, found_in, found_behind, no_last}
+use Rattle.fc_intervals.proofs.Lists.{not_found, ends_in}
 use Rattle.fc_intervals.proofs.Order.{is_less, le_from_not_lt, not_lt_from_le, not_le_from_less, less_le, le_le}
 
 module _ {K V : Type 0} (cmp : K → K → Ordering) where
@@ -112,7 +113,8 @@ module _ {K V : Type 0} (cmp : K → K → Ordering) where
       pub nothing_ended : (s : List (K × Stretch K V)) → EndBy a s → map (ended cmp a) s ≡ s
       nothing_ended [] h = refl
       nothing_ended (e ∷ s) h =
-          ap (λ t. (e.0, let x : Stretch K V = record { end = cond t a e.1.end; value = e.1.value } in x) ∷ map (ended cmp a) s) (not_lt_from_le o e.1.end a h.0)
+          ap (λ t. (e.0, let x : Stretch K V = record { end = cond t a e.1.end; value = e.1.value } in x) ∷ map (ended cmp a) s)
+          (not_lt_from_le o e.1.end a h.0)
           ∙ ap (λ zs. e ∷ zs) (nothing_ended s h.1)
 
       pick : (b : Bool) (x y : K × Stretch K V) (r q : Option (K × Stretch K V)) → x.1.value ≡ y.1.value

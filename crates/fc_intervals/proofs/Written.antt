@@ -1,5 +1,6 @@
 -- What a call on a range makes of a list of stretches.
-use Rattle.std.proofs.Common.{◌≡◌, ℕ, ◌+◌, ◌≤◌, arith, Bool, true, false, cond, List, [], ◌∷◌, ◌++◌, length, length-append, Option, Some, None, inl, inr, refl, sym, ap, ◌∙◌, subst, append_assoc, append-nil}
+use Rattle.std.proofs.Common.{◌≡◌, ℕ, ◌+◌, ◌≤◌, arith, Bool, true, false, cond, List, [], ◌∷◌, ◌++◌, length, length-append, Option, Some, None, inl, inr}
+use Rattle.std.proofs.Common.{refl, sym, ap, ◌∙◌, subst, append_assoc, append-nil}
 use Rattle.std.specs.Prelude.{◌&&◌, not, map, unwrap_or}
 use Rattle.std.specs.List.{AllByRecursion, filter}
 use Rattle.std.specs.Option.{option_map, MatchOption}
@@ -23,9 +24,11 @@ use Rattle.fc_laws.specs.Words.{last_item}
 use Rattle.fc_intervals.specs.Steps.{ahead, ended, EndsBy, IsRest, starting}
 use Rattle.fc_intervals.specs.Stretches.{AreApart, IsKept, IsWritten, lies, stretch_at, value_at_point}
 use Rattle.fc_intervals.specs.declared.stretch.Stretch.{Stretch}
-use Rattle.fc_intervals.proofs.Lists.{EndsIn, and_false, and_left, and_right, all_joined, all_at, all_over, all_pass, kept, left_out, not_found, found_in, filters_both, found_behind, found_ahead, no_last, last_is, ends_in}
+use Rattle.fc_intervals.proofs.Lists.{EndsIn, and_false, and_left, and_right, all_joined, all_at, all_over, all_pass, kept, left_out, not_found, found_in}
+use Rattle.fc_intervals.proofs.Lists.{filters_both, found_behind, found_ahead, no_last, last_is, ends_in}
 use Rattle.fc_intervals.proofs.Order.{is_less, le_from_not_lt, not_lt_from_le, le_from_ge, less_le, le_less, le_le}
-use Rattle.fc_intervals.proofs.Points.{EndBy, StartFrom, apart_kept, lead_ends, apart_rest, apart_ascend, apart_joined, past, yet_to_come, end_by_ended, apart_ended, nothing_ended, value_ended}
+use Rattle.fc_intervals.proofs.Points.{EndBy, StartFrom, apart_kept, lead_ends, apart_rest, apart_ascend, apart_joined, past, yet_to_come, end_by_ended}
+use Rattle.fc_intervals.proofs.Points.{apart_ended, nothing_ended, value_ended}
 
 -- a pair that is put between those below its key and those above it
 module _ {K V : Type 0} (cmp : K → K → Ordering) (s t : List (K × V)) (k : K) (v : V) (less : AllByRecursion (λ e. cmp e.0 k ≡ Less) s)
@@ -182,9 +185,15 @@ module _ {K V : Type 0} (cmp : K → K → Ordering) (o : IsTotalOrder cmp) (s :
           ∙ ap (λ t. lead ++ (p.0, let x : Stretch K V = record { end = cond t a p.1.end; value = p.1.value } in x) ∷ not_below cmp s a) h
           )
 
-    pub front_length : length (ahead cmp s a ++ not_below cmp s a) ≡ length s
+    front_length : length (ahead cmp s a ++ not_below cmp s a) ≡ length s
     front_length = length-append (ahead cmp s a) (not_below cmp s a) ∙ ap (λ n. n + length (not_below cmp s a)) (length-map (below cmp s a) (ended cmp a))
         ∙ sym (length-append (below cmp s a) (not_below cmp s a)) ∙ ap length (halves a)
+
+    pub cleared_length : (b : K) (t u : List (K × Stretch K V)) → t ≡ ahead cmp s a ++ not_below cmp s a → u ≡ outside cmp (Included a) (Excluded b) t
+        → length u ≤ length s
+    cleared_length b t u e f =
+        let p = λ (x : K × Stretch K V). not (is_ge (cmp x.0 a) && is_lt (cmp x.0 b)) in
+        omega (arith, ap length e, ap length f, front_length, length-filter p t, count_by-le-length p t)
 
     module _ (b : K) (range : cmp a b ≡ Less) where
       pub cleared_is : outside cmp (Included a) (Excluded b) (ahead cmp s a ++ not_below cmp s a) ≡ ahead cmp s a ++ not_below cmp s b
@@ -247,7 +256,8 @@ module _ {K V : Type 0} (cmp : K → K → Ordering) (o : IsTotalOrder cmp) (s :
                 (found_behind _ (ahead cmp s a) (given ∷ back) (past cmp o a p (ahead cmp s a) front_ends (and_left (is_le (cmp a p)) _ h))
                 ∙ ap (λ t. cond t (Some given) (stretch_at cmp back p)) h);
             ahead = λ p l. ap (option_map (λ (x : K × Stretch K V). x.1.value))
-                (found_ahead _ (ahead cmp s a) (given ∷ back) (yet_to_come cmp o a p (given ∷ back) (ap is_le (tied_itself o a), from_start) l)) ∙ value_ahead p l;
+                (found_ahead _ (ahead cmp s a) (given ∷ back) (yet_to_come cmp o a p (given ∷ back) (ap is_le (tied_itself o a), from_start) l))
+                ∙ value_ahead p l;
             behind = λ p l. subst (λ u. IsKept same (value_at_point cmp s p) u) (sym (ap (option_map (λ (x : K × Stretch K V). x.1.value))
                 (found_behind _ (ahead cmp s a) (given ∷ back) (past cmp o a p (ahead cmp s a) front_ends (ap is_le (less_le o a b p range l)))
                 ∙ ap (λ t. cond (is_le (cmp a p) && t) (Some given) (stretch_at cmp back p)) (not_lt_from_le o b p l)
@@ -267,12 +277,6 @@ empty_written cmp o same a b v s empty = record {
   ahead = λ p l. refl;
   behind = λ p l. kept_same same (value_at_point cmp s p);
 }
-
--- no more pairs are outside a range than there are
-pub fewer_outside : {K V : Type 0} (cmp : K → K → Ordering) (a b : K) (s : List (K × V)) → length (outside cmp (Included a) (Excluded b) s) ≤ length s
-fewer_outside {K} {V} cmp a b s =
-    let p = λ (e : K × V). not (is_ge (cmp e.0 a) && is_lt (cmp e.0 b)) in
-    omega (arith, length-filter p s, count_by-le-length p s)
 
 pub places_after : {V : Type 0} (r : Option V) (n m : ℕ) → MatchOption r (n + 1 ≡ m) (λ _. n ≡ m) → m ≤ n + 1
 places_after None n m h = omega arith

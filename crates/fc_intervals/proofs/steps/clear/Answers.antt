@@ -1,4 +1,4 @@
-use Rattle.std.proofs.Common.{◌≡◌, ◌∙◌, ◌++◌, length, sym, ap, subst, arith}
+use Rattle.std.proofs.Common.{◌≡◌, ◌∙◌, ◌++◌, sym, ap, subst, arith}
 use Rattle.std.specs.declared.ops.Bound.TheVariants.{Included, Excluded}
 use Rattle.fc_base.specs.Halves.{not_below}
 use Rattle.fc_base.specs.OneKey.{put}
@@ -6,7 +6,7 @@ use Rattle.fc_map.specs.Entries.{entries}
 use Rattle.fc_map.specs.Ranged.{outside}
 use Rattle.fc_intervals.specs.Steps.{ahead, IsRest, rest_count, starting}
 use Rattle.fc_intervals.proofs.Order.{is_less}
-use Rattle.fc_intervals.proofs.Written.{cleared_is, put_rest, front_length, fewer_outside, places_after}
+use Rattle.fc_intervals.proofs.Written.{cleared_is, cleared_length, put_rest, places_after}
 use Rattle.fc_intervals.proofs.steps.clear.Goals as goal
 
 pub returns-in_default-clause-cleared : goal.returns-in_default-clause-cleared
@@ -21,25 +21,17 @@ returns-in_default-clause-cleared g c =
 
 pub returns-in_default-clause-fits : goal.returns-in_default-clause-fits
 returns-in_default-clause-fits g c =
-    let e = ap length c.remove_range.ensures.rest in
-    let f = fewer_outside g.K.Ord.cmp c.args.from c.args.to (entries c.end_at.new.map) in
-    let h = ap length c.end_at.ensures.ended in
-    let l = front_length g.K.Ord.cmp g.met.K.Ord.total (entries c.args.map.now) c.requires.apart c.args.from in
-    omega (arith, e, f, h, l)
+    omega (arith, cleared_length g.K.Ord.cmp g.met.K.Ord.total (entries c.args.map.now) c.requires.apart c.args.from c.args.to
+        (entries c.end_at.new.map) (entries c.remove_range.new.self) c.end_at.ensures.ended c.remove_range.ensures.rest)
 
 pub insert_with-requires-clause-place : goal.insert_with-requires-clause-place
 insert_with-requires-clause-place g c =
-    let n : rest_count c.args.rest ≡ 1 = ap rest_count c.in-Some.is in
-    omega (arith, n, c.requires.place)
+    omega (arith, ap rest_count c.in-Some.is, c.requires.place)
 
 pub insert_with-requires-clause-fits : goal.insert_with-requires-clause-fits
 insert_with-requires-clause-fits g c =
-    let n : rest_count c.args.rest ≡ 1 = ap rest_count c.in-Some.is in
-    let e = ap length c.remove_range.ensures.rest in
-    let f = fewer_outside g.K.Ord.cmp c.args.from c.args.to (entries c.end_at.new.map) in
-    let h = ap length c.end_at.ensures.ended in
-    let l = front_length g.K.Ord.cmp g.met.K.Ord.total (entries c.args.map.now) c.requires.apart c.args.from in
-    omega (arith, n, e, f, h, l, c.requires.fits)
+    omega (arith, ap rest_count c.in-Some.is, c.requires.fits, cleared_length g.K.Ord.cmp g.met.K.Ord.total (entries c.args.map.now) c.requires.apart
+        c.args.from c.args.to (entries c.end_at.new.map) (entries c.remove_range.new.self) c.end_at.ensures.ended c.remove_range.ensures.rest)
 
 pub returns-clause-cleared : goal.returns-clause-cleared
 returns-clause-cleared g c =
@@ -57,14 +49,10 @@ returns-clause-cleared g c =
 
 pub returns-clause-places : goal.returns-clause-places
 returns-clause-places g c =
-    let n : rest_count c.args.rest ≡ 1 = ap rest_count c.in-Some.is in
     let p = places_after c.insert_with.result c.insert_with.new.room.places c.args.room.now.places c.insert_with.ensures.places in
-    omega (arith, n, p)
+    omega (arith, ap rest_count c.in-Some.is, p)
 
 pub returns-clause-fits : goal.returns-clause-fits
 returns-clause-fits g c =
-    let e = ap length c.remove_range.ensures.rest in
-    let f = fewer_outside g.K.Ord.cmp c.args.from c.args.to (entries c.end_at.new.map) in
-    let h = ap length c.end_at.ensures.ended in
-    let l = front_length g.K.Ord.cmp g.met.K.Ord.total (entries c.args.map.now) c.requires.apart c.args.from in
-    omega (arith, e, f, h, l, c.insert_with.ensures.total)
+    omega (arith, cleared_length g.K.Ord.cmp g.met.K.Ord.total (entries c.args.map.now) c.requires.apart c.args.from c.args.to
+        (entries c.end_at.new.map) (entries c.remove_range.new.self) c.end_at.ensures.ended c.remove_range.ensures.rest, c.insert_with.ensures.total)

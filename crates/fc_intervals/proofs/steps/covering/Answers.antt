@@ -6,8 +6,8 @@ use Rattle.fc_intervals.proofs.Points.{covered_none, covered_by}
 use Rattle.fc_intervals.proofs.steps.covering.Goals as goal
 
 pub returns-in_err-start-clause-pair : goal.returns-in_err-start-clause-pair
-returns-in_err-start-clause-pair g c = rw c.from_residual.ensures (sym (covered_none g.K.Ord.cmp g.met.K.Ord.total c.args.at.now (entries c.args.map.now) c.requires
-    (sym c.in_err-start.ensures.pair)))
+returns-in_err-start-clause-pair g c = rw c.from_residual.ensures (sym (covered_none g.K.Ord.cmp g.met.K.Ord.total c.args.at.now
+    (entries c.args.map.now) c.requires (sym c.in_err-start.ensures.pair)))
 
 pub returns-then-is_lt-clause-pair : goal.returns-then-is_lt-clause-pair
 returns-then-is_lt-clause-pair g c =
