@@ -1,0 +1,5 @@
+pub mod Laws
+pub mod Lists
+pub mod Order
+pub mod Points
+pub mod Written

@@ -1,0 +1,283 @@
+-- What a call on a range makes of a list of stretches.
+use Rattle.std.proofs.Common.{◌≡◌, ℕ, ◌+◌, ◌≤◌, arith, Bool, true, false, cond, List, [], ◌∷◌, ◌++◌, length, length-append, Option, Some, None, inl, inr}
+use Rattle.std.proofs.Common.{refl, sym, ap, ◌∙◌, subst, append_assoc, append-nil}
+use Rattle.std.specs.Prelude.{◌&&◌, not, map, unwrap_or}
+use Rattle.std.specs.List.{AllByRecursion, filter}
+use Rattle.std.specs.Option.{option_map, MatchOption}
+use Rattle.std.specs.Cmp.{IsTotalOrder}
+use Rattle.std.specs.Ordering.{is_lt, is_le, is_eq, is_gt, is_ge}
+use Rattle.std.specs.declared.cmp.Ordering.{Ordering}
+use Rattle.std.specs.declared.cmp.Ordering.TheVariants.{Less, Equal, Greater}
+use Rattle.std.specs.declared.ops.Bound.TheVariants.{Included, Excluded}
+use Rattle.std.proofs.lemmas.Cmp.{tied_itself}
+use Rattle.std.proofs.lemmas.List.{map-append, length-map}
+use Rattle.std.proofs.lemmas.List.Elements.{filter-append}
+use Rattle.std.proofs.lemmas.List.Sums.{length-filter, count_by-le-length}
+use Rattle.fc_base.specs.Halves.{not_below}
+use Rattle.fc_base.specs.OneKey.{put}
+use Rattle.fc_base.specs.Parts.{at, below, above}
+use Rattle.fc_base.specs.Viewed.{over_one, own_order}
+use Rattle.fc_base.proofs.AscendingFacts.{all_map, all_below}
+use Rattle.fc_base.proofs.JoinedLaws.{halves_joined}
+use Rattle.fc_map.specs.Ranged.{outside}
+use Rattle.fc_laws.specs.Words.{last_item}
+use Rattle.fc_intervals.specs.Steps.{ahead, ended, EndsBy, IsRest, starting}
+use Rattle.fc_intervals.specs.Stretches.{AreApart, IsKept, IsWritten, lies, stretch_at, value_at_point}
+use Rattle.fc_intervals.specs.declared.stretch.Stretch.{Stretch}
+use Rattle.fc_intervals.proofs.Lists.{EndsIn, and_false, and_left, and_right, all_joined, all_at, all_over, all_pass, kept, left_out, not_found, found_in}
+use Rattle.fc_intervals.proofs.Lists.{filters_both, found_behind, found_ahead, no_last, last_is, ends_in}
+use Rattle.fc_intervals.proofs.Order.{is_less, le_from_not_lt, not_lt_from_le, le_from_ge, less_le, le_less, le_le}
+use Rattle.fc_intervals.proofs.Points.{EndBy, StartFrom, apart_kept, lead_ends, apart_rest, apart_ascend, apart_joined, past, yet_to_come, end_by_ended}
+use Rattle.fc_intervals.proofs.Points.{apart_ended, nothing_ended, value_ended}
+
+-- a pair that is put between those below its key and those above it
+module _ {K V : Type 0} (cmp : K → K → Ordering) (s t : List (K × V)) (k : K) (v : V) (less : AllByRecursion (λ e. cmp e.0 k ≡ Less) s)
+    (more : AllByRecursion (λ e. cmp e.0 k ≡ Greater) t) where
+  lower : below cmp (s ++ t) k ≡ s
+  lower = filter-append _ s t ∙ ap (λ l. l ++ below cmp t k) (kept _ s (all_map _ _ (λ e h. ap is_lt h) s less))
+      ∙ ap (λ l. s ++ l) (left_out _ t (all_map _ _ (λ e h. ap is_lt h) t more)) ∙ append-nil s
+
+  upper : above cmp (s ++ t) k ≡ t
+  upper = filter-append _ s t ∙ ap (λ l. l ++ above cmp t k) (left_out _ s (all_map _ _ (λ e h. ap is_gt h) s less))
+      ∙ kept _ t (all_map _ _ (λ e h. ap is_gt h) t more)
+
+  none_at : at cmp (s ++ t) k ≡ None
+  none_at = not_found _ (s ++ t) (all_joined _ s t (all_map _ _ (λ e h. ap is_eq h) s less) (all_map _ _ (λ e h. ap is_eq h) t more))
+
+  pub put_between : put cmp (s ++ t) k v ≡ s ++ (k, v) ∷ t
+  put_between =
+      ap (λ (l : List (K × V)). l ++ (unwrap_or (option_map (λ e. e.0) (at cmp (s ++ t) k)) k, v) ∷ above cmp (s ++ t) k) lower
+      ∙ ap (λ (u : List (K × V)). s ++ (unwrap_or (option_map (λ e. e.0) (at cmp (s ++ t) k)) k, v) ∷ u) upper
+      ∙ ap (λ (m : Option (K × V)). s ++ (unwrap_or (option_map (λ e. e.0) m) k, v) ∷ t) none_at
+
+pub kept_same : {V : Type 0} (same : V → V → Type 0) (o : Option V) → IsKept same o o
+kept_same same None = tt
+kept_same same (Some x) = inl refl
+
+module _ {K V : Type 0} (cmp : K → K → Ordering) (o : IsTotalOrder cmp) (s : List (K × Stretch K V)) (apart : AreApart cmp s) where
+  halves : (b : K) → below cmp s b ++ not_below cmp s b ≡ s
+  halves b = halves_joined cmp cmp s b (own_order o) (apart_ascend cmp o s apart)
+
+  -- what starts before a point ends there, where the last of it does
+  ends_by : (b : K) → EndsBy cmp b (last_item (below cmp s b)) → EndBy cmp b (below cmp s b)
+  ends_by b h = go (last_item (below cmp s b)) refl h
+    where
+      go : (l : Option (K × Stretch K V)) → last_item (below cmp s b) ≡ l → EndsBy cmp b l → EndBy cmp b (below cmp s b)
+      go None e h = subst (EndBy cmp b) (sym (no_last _ e)) tt
+      go (Some y) e h =
+          let split : EndsIn (below cmp s b) y = ends_in (below cmp s b) y e in
+          let parts : AreApart cmp (split.lead ++ y ∷ []) = subst (AreApart cmp) split.is (apart_kept cmp _ s apart) in
+          let less : cmp y.0 b ≡ Less = all_at _ split.lead [] y (subst (AllByRecursion (λ x. cmp x.0 b ≡ Less)) split.is (all_below cmp s b)) in
+          subst (EndBy cmp b) (sym split.is) (all_joined _ split.lead (y ∷ [])
+          (all_map _ _ (λ x l. le_le o x.1.end y.0 b l (ap is_le less)) split.lead (lead_ends cmp split.lead [] y parts)) (le_from_not_lt o b y.1.end h, tt))
+
+  pub start_from : (b : K) → StartFrom cmp b (not_below cmp s b)
+  start_from b = all_map _ _ (λ e h. le_from_ge o e.0 b h) _ (all_pass (λ e. is_ge (cmp e.0 b)) s)
+
+  -- the last that starts before a point, where it goes on behind it
+  module _ (b : K) (y : K × Stretch K V) (last : last_item (below cmp s b) ≡ Some y) (on : cmp b y.1.end ≡ Less) where
+    split : EndsIn (below cmp s b) y
+    split = ends_in (below cmp s b) y last
+
+    whole : (split).lead ++ (y ∷ not_below cmp s b) ≡ s
+    whole = sym (append_assoc (split).lead (y ∷ []) (not_below cmp s b)) ∙ ap (λ l. l ++ not_below cmp s b) (sym (split).is) ∙ halves b
+
+    parts : AreApart cmp ((split).lead ++ (y ∷ not_below cmp s b))
+    parts = subst (AreApart cmp) (sym whole) apart
+
+    from_last : AreApart cmp (y ∷ not_below cmp s b)
+    from_last = apart_rest cmp (split).lead (y ∷ not_below cmp s b) parts
+
+    less_last : cmp y.0 b ≡ Less
+    less_last = all_at _ (split).lead [] y (subst (AllByRecursion (λ x. cmp x.0 b ≡ Less)) (split).is (all_below cmp s b))
+
+    pub behind_greater : AllByRecursion (λ e. cmp e.0 b ≡ Greater) (not_below cmp s b)
+    behind_greater = all_map _ _ (λ e l. over_one cmp o b e.0 (less_le o b y.1.end e.0 on l)) (not_below cmp s b) (from_last).1
+
+    pub at_last : (p : K) → is_le (cmp b p) ≡ true → stretch_at cmp s p ≡ cond (is_lt (cmp p y.1.end)) (Some y) (stretch_at cmp (not_below cmp s b) p)
+    at_last p l =
+        let from : is_le (cmp y.0 p) ≡ true = ap is_le (less_le o y.0 b p less_last l) in
+        ap (λ t. stretch_at cmp t p) (sym whole)
+        ∙ found_behind _ (split).lead (y ∷ not_below cmp s b) (past cmp o y.0 p (split).lead (lead_ends cmp (split).lead (not_below cmp s b) y parts) from)
+        ∙ ap (λ t. cond (t && is_lt (cmp p y.1.end)) (Some y) (stretch_at cmp (not_below cmp s b) p)) from
+
+  -- the rest behind a point, and what starts behind it
+  module _ (same : V → V → Type 0) (b : K) where
+    kept_pick : (t : Bool) (x z : K × Stretch K V) (q : Option (K × Stretch K V)) → same x.1.value z.1.value
+        → IsKept same (option_map (λ e. e.1.value) (cond t (Some x) q)) (option_map (λ e. e.1.value) (cond t (Some z) q))
+    kept_pick true x z q h = inr h
+    kept_pick false x z q h = kept_same same (option_map (λ e. e.1.value) q)
+
+    pub rest_from : (rest : Option (Stretch K V)) → StartFrom cmp b (starting b rest ++ not_below cmp s b)
+    rest_from None = start_from b
+    rest_from (Some r) = (ap is_le (tied_itself o b), start_from b)
+
+    pub rest_apart : (rest : Option (Stretch K V)) → IsRest cmp same s b rest → AreApart cmp (starting b rest ++ not_below cmp s b)
+    rest_apart None h = apart_kept cmp _ s apart
+    rest_apart (Some r) h =
+        let on : cmp b h.0.1.end ≡ Less = is_less _ h.2 in
+        let more = from_last b h.0 h.1 on in (
+          subst (λ e. cmp b e ≡ Less) (sym h.3) on,
+          subst (λ e. AllByRecursion (λ x. is_le (cmp e x.0) ≡ true) (not_below cmp s b)) (sym h.3) more.1,
+          more.2,
+        )
+
+    pub rest_value : (rest : Option (Stretch K V)) → IsRest cmp same s b rest → (p : K) → is_le (cmp b p) ≡ true
+        → IsKept same (value_at_point cmp s p) (value_at_point cmp (starting b rest ++ not_below cmp s b) p)
+    rest_value None h p l =
+        let e : value_at_point cmp s p ≡ value_at_point cmp (not_below cmp s b) p =
+        ap (option_map (λ (x : K × Stretch K V). x.1.value)) (ap (λ t. stretch_at cmp t p) (sym (halves b))
+        ∙ found_behind _ (below cmp s b) (not_below cmp s b) (past cmp o b p (below cmp s b) (ends_by b h) l)) in
+        subst (λ v. IsKept same v (value_at_point cmp (not_below cmp s b) p)) (sym e) (kept_same same (value_at_point cmp (not_below cmp s b) p))
+    rest_value (Some r) h p l =
+        let others = stretch_at cmp (not_below cmp s b) p in
+        let test = is_lt (cmp p h.0.1.end) in
+        let e : value_at_point cmp s p ≡ option_map (λ x. x.1.value) (cond test (Some h.0) others) =
+        ap (option_map (λ (x : K × Stretch K V). x.1.value)) (at_last b h.0 h.1 (is_less _ h.2) p l) in
+        let f : value_at_point cmp ((b, r) ∷ not_below cmp s b) p ≡ option_map (λ x. x.1.value) (cond test (Some (b, r)) others) =
+        ap (λ t. option_map (λ (x : K × Stretch K V). x.1.value) (cond (t && is_lt (cmp p r.end)) (Some (b, r)) others)) l
+        ∙ ap (λ (n : K). option_map (λ (x : K × Stretch K V). x.1.value) (cond (is_lt (cmp p n)) (Some (b, r)) others)) h.3 in
+        subst (λ v. IsKept same v (value_at_point cmp ((b, r) ∷ not_below cmp s b) p)) (sym e)
+        (subst (λ v. IsKept same (option_map (λ x. x.1.value) (cond test (Some h.0) others)) v) (sym f) (kept_pick test h.0 (b, r) others h.4))
+
+  not_less : (r : Ordering) → not (is_lt r) ≡ is_ge r
+  not_less Less = refl
+  not_less Equal = refl
+  not_less Greater = refl
+
+  -- what starts before a point, ended there
+  module _ (a : K) where
+    pub front : AreApart cmp (ahead cmp s a)
+    front = apart_ended cmp o a (below cmp s a) (apart_kept cmp _ s apart) (all_below cmp s a)
+
+    pub front_ends : EndBy cmp a (ahead cmp s a)
+    front_ends = end_by_ended cmp o a (below cmp s a)
+
+    front_less : AllByRecursion (λ e. cmp e.0 a ≡ Less) (ahead cmp s a)
+    front_less = all_over (λ e. cmp e.0 a ≡ Less) (ended cmp a) (below cmp s a) (all_below cmp s a)
+
+    value_ahead : (p : K) → cmp p a ≡ Less → value_at_point cmp (ahead cmp s a) p ≡ value_at_point cmp s p
+    value_ahead p l = value_ended cmp o a p (below cmp s a) l ∙ ap (option_map (λ (x : K × Stretch K V). x.1.value))
+        (found_in (λ e. lies cmp e.0 e.1.end p) (λ e. is_lt (cmp e.0 a)) (λ e h. ap is_lt (le_less o e.0 p a (and_left (is_le (cmp e.0 p)) _ h) l)) s)
+
+    -- the three ways in which the last of these is ended
+    ended_all : EndBy cmp a (below cmp s a) → s ≡ ahead cmp s a ++ not_below cmp s a
+    ended_all h = sym (halves a) ∙ ap (λ l. l ++ not_below cmp s a) (sym (nothing_ended cmp o a (below cmp s a) h))
+
+    pub end_none : below cmp s a ≡ [] → s ≡ ahead cmp s a ++ not_below cmp s a
+    end_none e = ended_all (subst (EndBy cmp a) (sym e) tt)
+
+    module _ (lead : List (K × Stretch K V)) (p : K × Stretch K V) (last : below cmp s a ≡ lead ++ p ∷ []) where
+      pub end_kept : is_lt (cmp a p.1.end) ≡ false → s ≡ ahead cmp s a ++ not_below cmp s a
+      end_kept h = ended_all (ends_by a (subst (EndsBy cmp a) (sym (ap last_item last ∙ last_is lead p)) h))
+
+      pub end_written : is_lt (cmp a p.1.end) ≡ true
+          → lead ++ (p.0, let x : Stretch K V = record { end = a; value = p.1.value } in x) ∷ not_below cmp s a ≡ ahead cmp s a ++ not_below cmp s a
+      end_written h =
+          let parts : AreApart cmp (lead ++ p ∷ []) = subst (AreApart cmp) last (apart_kept cmp _ s apart) in
+          let less : cmp p.0 a ≡ Less = all_at _ lead [] p (subst (AllByRecursion (λ x. cmp x.0 a ≡ Less)) last (all_below cmp s a)) in
+          let lead_by : EndBy cmp a lead = all_map _ _ (λ x l. le_le o x.1.end p.0 a l (ap is_le less)) lead (lead_ends cmp lead [] p parts) in
+          sym (
+          ap (λ l. map (ended cmp a) l ++ not_below cmp s a) last
+          ∙ ap (λ l. l ++ not_below cmp s a) (map-append (ended cmp a) lead (p ∷ []))
+          ∙ ap (λ l. (l ++ ended cmp a p ∷ []) ++ not_below cmp s a) (nothing_ended cmp o a lead lead_by)
+          ∙ append_assoc lead (ended cmp a p ∷ []) (not_below cmp s a)
+          ∙ ap (λ t. lead ++ (p.0, let x : Stretch K V = record { end = cond t a p.1.end; value = p.1.value } in x) ∷ not_below cmp s a) h
+          )
+
+    front_length : length (ahead cmp s a ++ not_below cmp s a) ≡ length s
+    front_length = length-append (ahead cmp s a) (not_below cmp s a) ∙ ap (λ n. n + length (not_below cmp s a)) (length-map (below cmp s a) (ended cmp a))
+        ∙ sym (length-append (below cmp s a) (not_below cmp s a)) ∙ ap length (halves a)
+
+    pub cleared_length : (b : K) (t u : List (K × Stretch K V)) → t ≡ ahead cmp s a ++ not_below cmp s a → u ≡ outside cmp (Included a) (Excluded b) t
+        → length u ≤ length s
+    cleared_length b t u e f =
+        let p = λ (x : K × Stretch K V). not (is_ge (cmp x.0 a) && is_lt (cmp x.0 b)) in
+        omega (arith, ap length e, ap length f, front_length, length-filter p t, count_by-le-length p t)
+
+    module _ (b : K) (range : cmp a b ≡ Less) where
+      pub cleared_is : outside cmp (Included a) (Excluded b) (ahead cmp s a ++ not_below cmp s a) ≡ ahead cmp s a ++ not_below cmp s b
+      cleared_is =
+          filter-append _ (ahead cmp s a) (not_below cmp s a)
+          ∙ ap (λ l. l ++ filter (λ e. not (is_ge (cmp e.0 a) && is_lt (cmp e.0 b))) (not_below cmp s a))
+          (kept (λ e. not (is_ge (cmp e.0 a) && is_lt (cmp e.0 b))) (ahead cmp s a)
+          (all_map _ _ (λ e h. ap (λ r. not (is_ge r && is_lt (cmp e.0 b))) h) (ahead cmp s a) front_less))
+          ∙ ap (λ l. ahead cmp s a ++ l) (filters_both (λ e. is_ge (cmp e.0 a)) (λ e. not (is_ge (cmp e.0 a) && is_lt (cmp e.0 b))) (λ e. is_ge (cmp e.0 b))
+          (λ e. go e (cmp e.0 a) refl) s)
+        where
+          go : (e : K × Stretch K V) (r : Ordering) → cmp e.0 a ≡ r → (is_ge r && not (is_ge r && is_lt (cmp e.0 b))) ≡ is_ge (cmp e.0 b)
+          go e Less h = sym (ap is_ge (o.trans e.0 a b h range))
+          go e Equal h = not_less (cmp e.0 b)
+          go e Greater h = not_less (cmp e.0 b)
+
+      -- the rest finds its place
+      pub put_rest : (y : K × Stretch K V) (r : Stretch K V) → last_item (below cmp s b) ≡ Some y → cmp b y.1.end ≡ Less
+          → put cmp (ahead cmp s a ++ not_below cmp s b) b r ≡ ahead cmp s a ++ (b, r) ∷ not_below cmp s b
+      put_rest y r last on = put_between cmp (ahead cmp s a) (not_below cmp s b) b r
+          (all_map _ _ (λ e l. o.trans e.0 a b l range) (ahead cmp s a) front_less) (behind_greater b y last on)
+
+      module _ (same : V → V → Type 0) (rest : Option (Stretch K V)) (is_rest : IsRest cmp same s b rest) where
+        abbrev back : List (K × Stretch K V)
+        back = starting b rest ++ not_below cmp s b
+
+        from_start : StartFrom cmp a back
+        from_start = all_map _ _ (λ e h. le_le o a b e.0 (ap is_le range) h) back (rest_from same b rest)
+
+        pub cut_apart : AreApart cmp (ahead cmp s a ++ back)
+        cut_apart = apart_joined cmp o a (ahead cmp s a) back front front_ends (rest_apart same b rest is_rest) from_start
+
+        pub cut_written : IsWritten cmp same a b None s (ahead cmp s a ++ back)
+        cut_written = record {
+          inside = λ p h. ap (option_map (λ (x : K × Stretch K V). x.1.value))
+              (found_behind _ (ahead cmp s a) back (past cmp o a p (ahead cmp s a) front_ends (and_left (is_le (cmp a p)) _ h))
+              ∙ yet_to_come cmp o b p back (rest_from same b rest) (is_less _ (and_right (is_le (cmp a p)) _ h)));
+          ahead = λ p l. ap (option_map (λ (x : K × Stretch K V). x.1.value))
+              (found_ahead _ (ahead cmp s a) back (yet_to_come cmp o b p back (rest_from same b rest) (o.trans p a b l range))) ∙ value_ahead p l;
+          behind = λ p l. subst (λ v. IsKept same (value_at_point cmp s p) v) (sym (ap (option_map (λ (x : K × Stretch K V). x.1.value))
+              (found_behind _ (ahead cmp s a) back (past cmp o a p (ahead cmp s a) front_ends (ap is_le (less_le o a b p range l))))))
+              (rest_value same b rest is_rest p l);
+        }
+
+        module _ (v : V) where
+          abbrev given : K × Stretch K V
+          given = (a, record { end = b; value = v })
+
+          pub put_given : put cmp (ahead cmp s a ++ back) a given.1 ≡ ahead cmp s a ++ given ∷ back
+          put_given = put_between cmp (ahead cmp s a) back a given.1 front_less
+              (all_map _ _ (λ e h. over_one cmp o a e.0 (less_le o a b e.0 range h)) back (rest_from same b rest))
+
+          pub put_apart : AreApart cmp (ahead cmp s a ++ given ∷ back)
+          put_apart = apart_joined cmp o a (ahead cmp s a) (given ∷ back) front front_ends (range, rest_from same b rest, rest_apart same b rest is_rest)
+              (ap is_le (tied_itself o a), from_start)
+
+          pub put_written : IsWritten cmp same a b (Some v) s (ahead cmp s a ++ given ∷ back)
+          put_written = record {
+            inside = λ p h. ap (option_map (λ (x : K × Stretch K V). x.1.value))
+                (found_behind _ (ahead cmp s a) (given ∷ back) (past cmp o a p (ahead cmp s a) front_ends (and_left (is_le (cmp a p)) _ h))
+                ∙ ap (λ t. cond t (Some given) (stretch_at cmp back p)) h);
+            ahead = λ p l. ap (option_map (λ (x : K × Stretch K V). x.1.value))
+                (found_ahead _ (ahead cmp s a) (given ∷ back) (yet_to_come cmp o a p (given ∷ back) (ap is_le (tied_itself o a), from_start) l))
+                ∙ value_ahead p l;
+            behind = λ p l. subst (λ u. IsKept same (value_at_point cmp s p) u) (sym (ap (option_map (λ (x : K × Stretch K V). x.1.value))
+                (found_behind _ (ahead cmp s a) (given ∷ back) (past cmp o a p (ahead cmp s a) front_ends (ap is_le (less_le o a b p range l)))
+                ∙ ap (λ t. cond (is_le (cmp a p) && t) (Some given) (stretch_at cmp back p)) (not_lt_from_le o b p l)
+                ∙ ap (λ t. cond t (Some given) (stretch_at cmp back p)) (and_false (is_le (cmp a p))))))
+                (rest_value same b rest is_rest p l);
+          }
+
+-- what an empty range leaves as it is
+pub empty_written : {K V : Type 0} (cmp : K → K → Ordering) (o : IsTotalOrder cmp) (same : V → V → Type 0) (a b : K) (v : Option V)
+    (s : List (K × Stretch K V)) → is_lt (cmp a b) ≡ false → IsWritten cmp same a b v s s
+empty_written cmp o same a b v s empty = record {
+  inside = λ p h. absurd (
+      let less : cmp a b ≡ Less = le_less o a p b (and_left (is_le (cmp a p)) _ h) (is_less _ (and_right (is_le (cmp a p)) _ h)) in
+      let no : true ≡ false = sym (ap is_lt less) ∙ empty in
+      cc
+      );
+  ahead = λ p l. refl;
+  behind = λ p l. kept_same same (value_at_point cmp s p);
+}
+
+pub places_after : {V : Type 0} (r : Option V) (n m : ℕ) → MatchOption r (n + 1 ≡ m) (λ _. n ≡ m) → m ≤ n + 1
+places_after None n m h = omega arith
+places_after (Some v) n m h = omega arith

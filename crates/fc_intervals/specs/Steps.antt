@@ -1,0 +1,41 @@
+-- What the steps of a call make of a list of stretches.
+use Rattle.std.specs.Prelude.{◌≡◌, ℕ, true, false, cond, List, [], ◌∷◌, ◌++◌, Option, None, Some, map}
+use Rattle.std.specs.Ordering.{is_lt}
+use Rattle.std.specs.declared.cmp.Ordering.{Ordering}
+use Rattle.fc_base.specs.Halves.{not_below}
+use Rattle.fc_base.specs.Parts.{below}
+use Rattle.fc_laws.specs.Words.{last_item}
+use Rattle.fc_intervals.specs.declared.stretch.Stretch.{Stretch}
+
+module _ {K V : Type 0} (cmp : K → K → Ordering) where
+  -- The stretch, which ends at the point where it went on behind it.
+  abbrev pub ended : K → K × Stretch K V → K × Stretch K V
+  ended a e = (e.0, record { end = cond (is_lt (cmp a e.1.end)) a e.1.end; value = e.1.value })
+
+  -- The stretches that start before a point, and end there at the latest.
+  abbrev pub ahead : List (K × Stretch K V) → K → List (K × Stretch K V)
+  ahead s a = map (ended a) (below cmp s a)
+
+  -- The stretches ahead of a range, and those that start behind it.
+  abbrev pub cleared : List (K × Stretch K V) → K → K → List (K × Stretch K V)
+  cleared s a b = ahead s a ++ not_below cmp s b
+
+  -- The last stretch that starts before a point ends there or before.
+  abbrev pub EndsBy : K → Option (K × Stretch K V) → Type 0
+  EndsBy b None = Unit {0}
+  EndsBy b (Some y) = is_lt (cmp b y.1.end) ≡ false
+
+  -- What goes on behind a point, where the last stretch that starts before it does: its end, and a copy of its value.
+  abbrev pub IsRest : (V → V → Type 0) → List (K × Stretch K V) → K → Option (Stretch K V) → Type 0
+  IsRest same s b None = EndsBy b (last_item (below cmp s b))
+  IsRest same s b (Some r) = (y : K × Stretch K V) × (last_item (below cmp s b) ≡ Some y) × (is_lt (cmp b y.1.end) ≡ true) × (r.end ≡ y.1.end) × same y.1.value r.value
+
+-- The stretch that starts at a point, if there is one.
+abbrev pub starting : {K V : Type 0} → K → Option (Stretch K V) → List (K × Stretch K V)
+starting b None = []
+starting b (Some r) = (b, r) ∷ []
+
+-- How many stretches that makes.
+abbrev pub rest_count : {K V : Type 0} → Option (Stretch K V) → ℕ
+rest_count None = 0
+rest_count (Some r) = 1

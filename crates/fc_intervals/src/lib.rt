@@ -1,0 +1,10 @@
+//! A map from points to values, by half-open stretches that do not overlap.
+#![tactic(auto)]
+
+pub mod map;
+mod steps;
+pub mod stretch;
+
+pub use fc_base::{TryClone, TryReserveError};
+pub use map::IntervalMap;
+pub use stretch::Stretch;

@@ -1,0 +1,197 @@
+//! The map: stretches of points, by their starts.
+ghost use Rattle.std.specs.Prelude.{◌≡◌, ◌↔◌, ◌-◌, [], length, slice_get, false, IsTrue, IsOk, IfErr, OnOk, OnErr, None, Some};
+ghost use Rattle.std.specs.Ordering.{is_lt};
+ghost use Rattle.std.specs.declared.cmp.Ordering.TheVariants.{Less};
+ghost use Rattle.fc_map.specs.Entries.{now_value};
+ghost use Rattle.fc_intervals.specs.Stretches.{AreApart, IsLookUp, IsWritten, now_stretch, stretch_at, value_at_point};
+
+use crate::steps;
+use crate::stretch::Stretch;
+use fc_base::{Count, Handle, TryClone, TryReserveError};
+use fc_map::map::{BTreeMap, Iter};
+use std::alloc::Global;
+use std::marker::Model;
+use std::ops::Range;
+
+/// A map from points to values by half-open stretches: each holds its start and the points behind it up to its end, and not its end.
+/// No stretch is empty, and no two overlap. Only calls that answer a `Result` take memory.
+#[derive(Drop)]
+pub struct IntervalMap<K: Ord, V, A: Handle = Global> {
+    map: BTreeMap<K, Stretch<K, V>, A>,
+}
+
+impl<K: Ord, V, A: Handle> Model for IntervalMap<K, V, A> {
+    ghost use Rattle.std.specs.Prelude.{List};
+    ghost use Rattle.fc_map.specs.Entries.{entries};
+    ghost use Rattle.fc_intervals.specs.Stretches.{AreApart};
+    ghost use Rattle.fc_intervals.specs.declared.stretch.Stretch.{Stretch};
+
+    ghost Value = { List (K × Stretch K V) };
+
+    ghost view = { λ m. entries m.map };
+
+    ghost invariant = { λ m. AreApart K.cmp (entries m.map) };
+}
+
+impl<K: Ord, V, A: Handle> IntervalMap<K, V, A> {
+    /// A map of no stretch, which takes no memory. Later requests go to `alloc`.
+    pub fn new(alloc: A) -> IntervalMap<K, V, A>
+        ensures { result ≡ [] }
+    {
+        IntervalMap {
+            map: BTreeMap::new(alloc),
+        }
+    }
+
+    /// The number of stretches.
+    pub fn len(&self) -> usize
+        ensures value { result ≡ length self.now }
+        ensures apart { AreApart K.cmp self.now }
+    {
+        self.map.len()
+    }
+
+    /// Whether there is no stretch.
+    pub fn is_empty(&self) -> bool
+        ensures { IsTrue result ↔ (self.now ≡ []) }
+    {
+        self.map.is_empty()
+    }
+
+    /// A walk over all stretches from both ends, in ascending order: each as its start, with its end and its value.
+    pub fn iter(&self) -> Iter<'_, K, Stretch<K, V>, A>
+        ensures stretches { result ≡ self.now }
+        ensures apart { AreApart K.cmp result }
+    {
+        self.map.iter()
+    }
+}
+
+impl<K: Ord + Copy, V, A: Handle> IntervalMap<K, V, A> {
+    /// The value at a point: that of the stretch that covers it. `None` where none does.
+    pub fn get(&self, at: K) -> Option<&V>
+        ensures value { now_value result ≡ value_at_point K.cmp self.now at }
+        ensures apart { AreApart K.cmp self.now }
+    {
+        self.get_counted(at, &mut Count::new())
+    }
+
+    /// `get`, with its comparisons added to the count.
+    pub fn get_counted(&self, at: K, count: &mut Count) -> Option<&V>
+        ensures value { now_value result ≡ value_at_point K.cmp self.now at }
+        ensures apart { AreApart K.cmp self.now }
+        ensures look_up { IsLookUp (length self.now) count.old count.new }
+    {
+        match steps::covering(&self.map, &at, count) {
+            Some((_start, stretch)) => Some(&stretch.value),
+            None => None,
+        }
+    }
+
+    /// The stretch that covers a point, and its value. `None` where none does.
+    pub fn get_key_value(&self, at: K) -> Option<(Range<K>, &V)>
+        ensures stretch { now_stretch result ≡ stretch_at K.cmp self.now at }
+        ensures apart { AreApart K.cmp self.now }
+    {
+        match steps::covering(&self.map, &at, &mut Count::new()) {
+            Some((start, stretch)) => Some((*start..stretch.end, &stretch.value)),
+            None => None,
+        }
+    }
+
+    /// The first stretch, and its value. `None` where there is none.
+    pub fn first(&self) -> Option<(Range<K>, &V)>
+        ensures stretch { now_stretch result ≡ slice_get self.now 0 }
+        ensures apart { AreApart K.cmp self.now }
+    {
+        match self.map.first_key_value() {
+            Some((start, stretch)) => Some((*start..stretch.end, &stretch.value)),
+            None => None,
+        }
+    }
+
+    /// The last stretch, and its value. `None` where there is none.
+    pub fn last(&self) -> Option<(Range<K>, &V)>
+        ensures stretch { now_stretch result ≡ slice_get self.now (length self.now - 1) }
+        ensures apart { AreApart K.cmp self.now }
+    {
+        match self.map.last_key_value() {
+            Some((start, stretch)) => Some((*start..stretch.end, &stretch.value)),
+            None => None,
+        }
+    }
+}
+
+impl<K: Ord + Copy + Drop, V: TryClone, A: Handle> IntervalMap<K, V, A> {
+    /// Gives all points of a range, from its start up to, and without, its end, a value. Stretches that lie within the range are
+    /// dropped, those across its ends are cut, and one across both is split. What goes on behind the range has a copy of its value.
+    /// An empty range has no points: nothing changes, no memory is taken, and the value is dropped.
+    ///
+    /// # Errors
+    /// Where memory was refused: for the copy that goes on behind the range, by its own error; else for the nodes that the new stretches may need. All
+    /// of it is taken before the first change, so the map is as it was, and the value comes back.
+    pub fn put(&mut self, range: Range<K>, value: V) -> Result<(), (V, TryReserveError)>
+        requires { V.can_clone }
+        ensures written { OnOk result (IsWritten K.cmp V.same range.start range.end (Some value) self.old self.new) }
+        ensures empty { is_lt (K.cmp range.start range.end) ≡ false → IsOk result × (self.new ≡ self.old) }
+        ensures unchanged { OnErr result (self.new ≡ self.old) }
+        ensures back { IfErr result (λ e. e.0 ≡ value) }
+    {
+        if range.start.cmp(&range.end).is_lt() {
+            self.put_over(range.start, range.end, value)
+        } else {
+            Ok(())
+        }
+    }
+
+    // `put` over a range that is not empty.
+    fn put_over(&mut self, start: K, end: K, value: V) -> Result<(), (V, TryReserveError)>
+        requires can { V.can_clone }
+        requires range { K.cmp start end ≡ Less }
+        ensures written { OnOk result (IsWritten K.cmp V.same start end (Some value) self.old self.new) }
+        ensures unchanged { OnErr result (self.new ≡ self.old) }
+        ensures back { IfErr result (λ e. e.0 ≡ value) }
+    {
+        match steps::prepare(&self.map, end, 1) {
+            Ok((rest, mut room)) => {
+                let stretch = Stretch { end, value };
+                steps::clear(&mut self.map, &mut room, start, end, rest);
+                self.map.insert_with(&mut room, start, stretch);
+                Ok(())
+            }
+            Err(error) => Err((value, error)),
+        }
+    }
+
+    /// Takes the value of all points of a range, from its start up to, and without, its end. Stretches that lie within the range are
+    /// dropped, those across its ends are cut, and one across both is split. What goes on behind the range has a copy of its value.
+    /// It takes memory only where something does. An empty range has no points: nothing changes.
+    ///
+    /// # Errors
+    /// Where memory was refused: for the copy that goes on behind the range, by its own error; else for the nodes that it may need. All
+    /// of it is taken before the first change, so the map is as it was.
+    pub fn cut(&mut self, range: Range<K>) -> Result<(), TryReserveError>
+        requires { V.can_clone }
+        ensures written { OnOk result (IsWritten K.cmp V.same range.start range.end None self.old self.new) }
+        ensures empty { is_lt (K.cmp range.start range.end) ≡ false → IsOk result × (self.new ≡ self.old) }
+        ensures unchanged { OnErr result (self.new ≡ self.old) }
+    {
+        if range.start.cmp(&range.end).is_lt() {
+            self.cut_over(range.start, range.end)
+        } else {
+            Ok(())
+        }
+    }
+
+    // `cut` of a range that is not empty.
+    fn cut_over(&mut self, start: K, end: K) -> Result<(), TryReserveError>
+        requires can { V.can_clone }
+        requires range { K.cmp start end ≡ Less }
+        ensures written { OnOk result (IsWritten K.cmp V.same start end None self.old self.new) }
+        ensures unchanged { OnErr result (self.new ≡ self.old) }
+    {
+        let (rest, mut room) = steps::prepare(&self.map, end, 0)?;
+        steps::clear(&mut self.map, &mut room, start, end, rest);
+        Ok(())
+    }
+}

@@ -1,0 +1,7 @@
+//! Values of points by stretches, beside a plain row of the points, and with each request for memory refused in turn.
+#![tactic(auto)]
+
+#[cfg(test)]
+mod numbers;
+#[cfg(test)]
+mod refusals;

@@ -1,0 +1,72 @@
+//! Calls that are refused: the map is as it was, and the value comes back.
+use fc_intervals::IntervalMap;
+use std::test::Fail;
+use test_values::Owned;
+
+type Boxes = IntervalMap<u64, Owned>;
+
+// The number of the value at a point, and 0 where there is none.
+fn number_at(map: &Boxes, point: u64) -> u64 {
+    match map.get(point) {
+        Some(value) => value.number,
+        None => 0,
+    }
+}
+
+// Whether the map has one stretch, from 10 up to 40, of this number.
+fn is_whole(map: &Boxes, number: u64) -> bool {
+    map.len() == 1
+        && number_at(map, 10) == number
+        && number_at(map, 39) == number
+        && number_at(map, 40) == 0
+}
+
+// The sweep refuses each request in turn: of the values, of the nodes, and of the copy of what is split.
+#[test]
+fn a_refused_put_leaves_the_map(rt: HostRuntime) -> Result<(), Fail> {
+    let mut map: Boxes = IntervalMap::new(rt.alloc());
+    let Ok(first) = Owned::try_new(rt.alloc(), 1) else {
+        return Ok(());
+    };
+    if let Err((value, _error)) = map.put(10..40, first) {
+        assert!(rt; value.number == 1 && map.is_empty());
+        return Ok(());
+    }
+    let Ok(second) = Owned::try_new(rt.alloc(), 2) else {
+        return Ok(());
+    };
+    match map.put(20..30, second) {
+        Ok(()) => assert!(rt;
+            map.len() == 3
+                && number_at(&map, 19) == 1
+                && number_at(&map, 29) == 2
+                && number_at(&map, 30) == 1
+        ),
+        Err((value, _error)) => assert!(rt; value.number == 2 && is_whole(&map, 1)),
+    }
+    Ok(())
+}
+
+#[test]
+fn a_refused_cut_leaves_the_map(rt: HostRuntime) -> Result<(), Fail> {
+    let mut map: Boxes = IntervalMap::new(rt.alloc());
+    let Ok(value) = Owned::try_new(rt.alloc(), 1) else {
+        return Ok(());
+    };
+    if map.put(10..40, value).is_err() {
+        return Ok(());
+    }
+    if map.cut(20..30).is_err() {
+        assert!(rt; is_whole(&map, 1));
+        return Ok(());
+    }
+    assert!(rt;
+        map.len() == 2
+            && number_at(&map, 19) == 1
+            && number_at(&map, 20) == 0
+            && number_at(&map, 30) == 1
+    );
+    // What ends at the end of its stretch goes on nowhere, and asks for no memory.
+    assert!(rt; map.cut(35..40).is_ok() && number_at(&map, 34) == 1 && number_at(&map, 35) == 0);
+    Ok(())
+}
