@@ -52,7 +52,7 @@ module _ (lo hi : ℕ) where
   pub elsewhere : (s : ℕ) → (s ≤ lo) ⊎ (hi ≤ s) → spared s ≡ true
   elsewhere s o = by_ranked (s < lo) (s ≡ lo) (lo < s) (nat_cmp s lo) (ranked s lo (nat_cmp s lo) refl) (λ e p. rw e refl) (λ e p. rw e refl)
       (λ e p. by_ranked (s < hi) (s ≡ hi) (hi < s) (nat_cmp s hi) (ranked s hi (nat_cmp s hi) refl) (λ f q. absurd (no o p q)) (λ f q. rw (e, f) refl)
-          (λ f q. rw (e, f) refl))
+      (λ f q. rw (e, f) refl))
     where
       no : (s ≤ lo) ⊎ (hi ≤ s) → lo < s → s < hi → ⊥
       no (inl a) p q = omega arith

@@ -21,8 +21,11 @@ returns-in_default-clause-cleared g c =
 
 pub returns-in_default-clause-fits : goal.returns-in_default-clause-fits
 returns-in_default-clause-fits g c =
-    omega (arith, cleared_length g.K.Ord.cmp g.met.K.Ord.total (entries c.args.map.now) c.requires.apart c.args.from c.args.to
-        (entries c.end_at.new.map) (entries c.remove_range.new.self) c.end_at.ensures.ended c.remove_range.ensures.rest)
+    omega (
+      arith,
+      cleared_length g.K.Ord.cmp g.met.K.Ord.total (entries c.args.map.now) c.requires.apart c.args.from c.args.to
+          (entries c.end_at.new.map) (entries c.remove_range.new.self) c.end_at.ensures.ended c.remove_range.ensures.rest,
+    )
 
 pub insert_with-requires-clause-place : goal.insert_with-requires-clause-place
 insert_with-requires-clause-place g c =
@@ -30,8 +33,13 @@ insert_with-requires-clause-place g c =
 
 pub insert_with-requires-clause-fits : goal.insert_with-requires-clause-fits
 insert_with-requires-clause-fits g c =
-    omega (arith, ap rest_count c.in-Some.is, c.requires.fits, cleared_length g.K.Ord.cmp g.met.K.Ord.total (entries c.args.map.now) c.requires.apart
-        c.args.from c.args.to (entries c.end_at.new.map) (entries c.remove_range.new.self) c.end_at.ensures.ended c.remove_range.ensures.rest)
+    omega (
+      arith,
+      ap rest_count c.in-Some.is,
+      c.requires.fits,
+      cleared_length g.K.Ord.cmp g.met.K.Ord.total (entries c.args.map.now) c.requires.apart
+          c.args.from c.args.to (entries c.end_at.new.map) (entries c.remove_range.new.self) c.end_at.ensures.ended c.remove_range.ensures.rest,
+    )
 
 pub returns-clause-cleared : goal.returns-clause-cleared
 returns-clause-cleared g c =
@@ -54,5 +62,9 @@ returns-clause-places g c =
 
 pub returns-clause-fits : goal.returns-clause-fits
 returns-clause-fits g c =
-    omega (arith, cleared_length g.K.Ord.cmp g.met.K.Ord.total (entries c.args.map.now) c.requires.apart c.args.from c.args.to
-        (entries c.end_at.new.map) (entries c.remove_range.new.self) c.end_at.ensures.ended c.remove_range.ensures.rest, c.insert_with.ensures.total)
+    omega (
+      arith,
+      cleared_length g.K.Ord.cmp g.met.K.Ord.total (entries c.args.map.now) c.requires.apart c.args.from c.args.to
+          (entries c.end_at.new.map) (entries c.remove_range.new.self) c.end_at.ensures.ended c.remove_range.ensures.rest,
+      c.insert_with.ensures.total,
+    )

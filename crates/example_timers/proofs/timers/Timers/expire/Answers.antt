@@ -22,11 +22,10 @@ loop-id-preserved c =
     let later = due_after c.args.now (items c.self.inside.queue) in
     let all = ap (λ l. l ++ later) c.in-Some.ensures.steps in
     let inv = c.loop-id.invariant in
-    let ascending = subst (AreAscending timer_cmp) all inv.1 in
-    (
+    let ascending = subst (AreAscending timer_cmp) all inv.1 in (
       moved _ _ _ _ refl c.remove.ensures.rest
-      (in_step_popped (c.loop-id.id-iterator ++ later) (entries c.loop-id.self-inside.1.1.0) inv.0 c.in-Some.field-0.now.0 c.in-Some.field-0.now.1
-      (c.next.new.self ++ later) inv.1 all),
+          (in_step_popped (c.loop-id.id-iterator ++ later) (entries c.loop-id.self-inside.1.1.0) inv.0 c.in-Some.field-0.now.0 c.in-Some.field-0.now.1
+          (c.next.new.self ++ later) inv.1 all),
       ascending.1,
     )
 
