@@ -1,19 +1,11 @@
 //! Times the library's hashed map beside std's `HashMap` with the same hasher, on the same random keys, and compares their answers.
 //!
-//! Each time is the best of some runs, the two maps in turn, of the time that the calls took (`phases.rs`).
-mod checksum;
+//! Each time is the best of some runs, the two maps in turn, of the time that the calls took (`harness/phases.rs`).
+mod harness;
 mod jobs;
-#[allow(dead_code)] // Keys stay in.
-mod keys;
-mod phases;
-mod random;
-mod rounds;
 
-use checksum::{mixed, told};
+use harness::{Keys, compare, mark, mixed, print_head};
 use jobs::bench_map_hash;
-use keys::Keys;
-use phases::{machine, mark};
-use rounds::compare;
 use std::collections::HashMap;
 use std::hash::{BuildHasherDefault, Hasher};
 
@@ -48,15 +40,7 @@ impl Hasher for Folded {
 
 #[inline(never)]
 fn run_ours(keys: &Keys) -> u64 {
-    told(|checksum| unsafe {
-        bench_map_hash(
-            keys.inserted.as_ptr(),
-            keys.inserted.len(),
-            keys.sought.as_ptr(),
-            keys.sought.len(),
-            checksum,
-        )
-    })
+    bench_map_hash(&keys.inserted, &keys.sought)
 }
 
 #[inline(never)]
@@ -76,16 +60,14 @@ fn run_std(keys: &Keys) -> u64 {
 }
 
 fn main() {
-    println!("nanoseconds a call, best of so many runs: ours / std's HashMap (ours as a multiple of std's)");
-    println!("{}", machine());
+    print_head("nanoseconds a call, best of so many runs: ours / std's HashMap (ours as a multiple of std's)");
     for (pairs, rounds) in SIZES {
         println!("{pairs} pairs, {rounds} runs");
         let keys = Keys::new(pairs);
         let calls = [keys.inserted.len(), keys.sought.len()];
         let phases = compare(&keys, rounds, [run_ours, run_std]);
         for ((name, phase), calls) in ["insert", "get"].iter().zip(&phases).zip(calls) {
-            let [ours, stds] = phase.least.map(|time| time / calls as f64);
-            println!("  {name:<6} {ours:>7.1} / {stds:<7.1} ({:4.2})", ours / stds);
+            phase.print_least(name, (6, 7, 1), calls);
         }
     }
 }

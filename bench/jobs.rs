@@ -1,5 +1,8 @@
-//! The jobs of the crate `bench_jobs`, of which each driver calls some. False says that memory was refused.
+//! The jobs of the crates `bench_jobs`, `bench_budget` and `bench_own`, of which each driver calls some.
 #![allow(dead_code)]
+
+/// What a job asks for where a phase begins or ends, as `mark` of these crates does.
+pub const MARK: usize = 1 << 62;
 
 /// A call on the map, and what it answered.
 #[repr(C)]
@@ -13,97 +16,46 @@ pub struct Step {
     pub len: usize,
 }
 
-unsafe extern "C" {
-    pub fn bench_map_run(
-        keys: *const u64,
-        key_count: usize,
-        sought: *const u64,
-        sought_count: usize,
-        removed: *const u64,
-        removed_count: usize,
-        way: u64,
-        checksum: *mut u64,
-    ) -> bool;
-    pub fn bench_map_follow(steps: *mut Step, step_count: usize) -> bool;
-    pub fn bench_map_count(
-        keys: *const u64,
-        key_count: usize,
-        by_entry: bool,
-        len: *mut usize,
-    ) -> bool;
-    pub fn bench_map_put(
-        keys: *const u64,
-        key_count: usize,
-        is_made_ready: bool,
-        len: *mut usize,
-    ) -> bool;
-    pub fn bench_map_neighbours(
-        keys: *const u64,
-        key_count: usize,
-        sought: *const u64,
-        sought_count: usize,
-        way: u64,
-        checksum: *mut u64,
-    ) -> bool;
-    pub fn bench_map_walk(
-        keys: *const u64,
-        key_count: usize,
-        starts: *const u64,
-        start_count: usize,
-        way: u64,
-        times: u64,
-        checksum: *mut u64,
-    ) -> bool;
-    pub fn bench_map_whole(
-        keys: *const u64,
-        key_count: usize,
-        others: *const u64,
-        other_count: usize,
-        at: u64,
-        way: u64,
-        checksum: *mut u64,
-    ) -> bool;
-    pub fn bench_map_collect(keys: *const u64, key_count: usize, len: *mut usize) -> bool;
-    pub fn bench_set_run(
-        items: *const u64,
-        item_count: usize,
-        sought: *const u64,
-        sought_count: usize,
-        taken: *const u64,
-        taken_count: usize,
-        removed: *const u64,
-        removed_count: usize,
-        checksum: *mut u64,
-    ) -> bool;
-    pub fn bench_set_walk(
-        items: *const u64,
-        item_count: usize,
-        others: *const u64,
-        other_count: usize,
-        way: u64,
-        times: u64,
-        checksum: *mut u64,
-    ) -> bool;
-    pub fn bench_map_hash(
-        keys: *const u64,
-        key_count: usize,
-        sought: *const u64,
-        sought_count: usize,
-        checksum: *mut u64,
-    ) -> bool;
-    pub fn bench_map_read(
-        bytes: *const u8,
-        count: usize,
-        limit: u64,
-        times: u64,
-        checksum: *mut u64,
-    ) -> bool;
-    pub fn bench_map_copy_bytes(
-        bytes: *const u8,
-        count: usize,
-        way: u64,
-        times: u64,
-        checksum: *mut u64,
-    ) -> bool;
-    pub fn bench_map_push_numbers(count: u64, times: u64, checksum: *mut u64) -> bool;
+// A function for each job, of lists, of what else it takes, and of what it tells. A list goes to the job as its place and its length.
+macro_rules! jobs {
+    ($($name:ident([$($list:ident: $item:ty),*] $(, $more:ident: $kind:ty)*) -> $told:ty;)*) => {$(
+        #[inline(always)]
+        pub fn $name($($list: &[$item],)* $($more: $kind),*) -> $told {
+            unsafe extern "C" {
+                fn $name($($list: *const $item, _: usize,)* $($more: $kind,)* told: *mut $told) -> bool;
+            }
+            let mut told = 0;
+            let done = unsafe { $name($($list.as_ptr(), $list.len(),)* $($more,)* &mut told) };
+            assert!(done, "memory was refused");
+            told
+        }
+    )*};
+}
+
+jobs! {
+    bench_map_run([keys: u64, sought: u64, removed: u64], way: u64) -> u64;
+    bench_map_count([keys: u64], by_entry: bool) -> usize;
+    bench_map_put([keys: u64], is_made_ready: bool) -> usize;
+    bench_map_neighbours([keys: u64, sought: u64], way: u64) -> u64;
+    bench_map_walk([keys: u64, starts: u64], way: u64, times: u64) -> u64;
+    bench_map_whole([keys: u64, others: u64], at: u64, way: u64) -> u64;
+    bench_map_collect([keys: u64]) -> usize;
+    bench_set_run([items: u64, sought: u64, taken: u64, removed: u64]) -> u64;
+    bench_set_walk([items: u64, others: u64], way: u64, times: u64) -> u64;
+    bench_map_hash([keys: u64, sought: u64]) -> u64;
+    bench_map_read([bytes: u8], limit: u64, times: u64) -> u64;
+    bench_map_copy_bytes([bytes: u8], way: u64, times: u64) -> u64;
+    bench_map_push_numbers([], count: u64, times: u64) -> u64;
+    bench_budget_run([keys: u64, sought: u64, removed: u64], way: u64, is_in_budget: bool) -> u64;
+    bench_budget_walk([keys: u64], times: u64, is_in_budget: bool) -> u64;
+    bench_budget_whole([keys: u64, others: u64], way: u64, is_in_budget: bool) -> u64;
+    bench_own_run([keys: u64, sought: u64, removed: u64]) -> u64;
+}
+
+/// Makes the calls of the steps, and notes what they answered.
+pub fn bench_map_follow(steps: &mut [Step]) {
+    unsafe extern "C" {
+        fn bench_map_follow(steps: *mut Step, step_count: usize) -> bool;
+    }
+    assert!(unsafe { bench_map_follow(steps.as_mut_ptr(), steps.len()) }, "memory was refused");
 }

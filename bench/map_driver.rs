@@ -1,25 +1,16 @@
 //! Times the library's ordered map beside std's `BTreeMap` on the same random keys, after following both through a million calls.
 //!
 //! First all answers and lengths of the two are compared, call by call. Then each time is the best of some runs, the two maps in
-//! turn, of the time between two marks of a job (`phases.rs`).
+//! turn, of the time between two marks of a job (`harness/phases.rs`).
 //!
 //! With the word `count` each job runs once at a thousand pairs, and with `misses` the calls on one key over 200,000, for `bench/instructions`.
-mod checksum;
-mod counted;
+mod harness;
 mod jobs;
-mod keys;
-mod one_key;
-mod phases;
-mod random;
-mod rounds;
 
-use counted::tell;
+use harness::one_key::{self, CLEAR, DROPPED, FORM, GET, GIVE_OUT, INSERT, Job, LET_GO, REMOVE, Row, Run, run_std};
+use harness::phases::{phases, weights};
+use harness::{Keys, Random, mark, print_head, print_row, start, tell};
 use jobs::{Step, bench_map_count, bench_map_follow, bench_map_put, bench_map_run};
-use checksum::told;
-use keys::Keys;
-use one_key::{CLEAR, DROPPED, GET, GIVE_OUT, INSERT, Job, LET_GO, REMOVE, Row, Run, run_std};
-use phases::{machine, mark, phases, weights};
-use random::Random;
 use std::collections::BTreeMap;
 use std::hint::black_box;
 
@@ -82,10 +73,7 @@ fn follow_std(steps: &mut [Step]) {
 fn compare_answers() {
     let mut ours = random_steps();
     let mut stds = ours.clone();
-    assert!(
-        unsafe { bench_map_follow(ours.as_mut_ptr(), ours.len()) },
-        "memory was refused"
-    );
+    bench_map_follow(&mut ours);
     follow_std(&mut stds);
     let found = stds.iter().filter(|step| step.found).count();
     let longest = stds.iter().map(|step| step.len).max().unwrap();
@@ -100,18 +88,7 @@ fn compare_answers() {
 
 #[inline(never)]
 fn run_ours(job: &Job) -> u64 {
-    told(|checksum| unsafe {
-        bench_map_run(
-            job.keys.as_ptr(),
-            job.keys.len(),
-            job.sought.as_ptr(),
-            job.sought.len(),
-            job.removed.as_ptr(),
-            job.removed.len(),
-            job.way,
-            checksum,
-        )
-    })
+    bench_map_run(job.keys, job.sought, job.removed, job.way)
 }
 
 const RUNS: [Run; 2] = [run_ours, run_std];
@@ -127,13 +104,6 @@ const ROWS: [Row; 6] = [
 
 // Different keys of a count, and rounds of runs; each key comes ten times or so.
 const COUNTS: [(u64, usize); 3] = [(1_000, 200), (100_000, 10), (1_000_000, 3)];
-
-fn count_ours(keys: &[u64], by_entry: bool) -> usize {
-    let mut len = 0;
-    let done = unsafe { bench_map_count(keys.as_ptr(), keys.len(), by_entry, &mut len) };
-    assert!(done, "memory was refused");
-    len
-}
 
 fn count_std(keys: &[u64]) -> usize {
     let mut map = BTreeMap::new();
@@ -152,8 +122,8 @@ fn count_keys(different: u64) -> Vec<u64> {
 
 fn count(way: usize, keys: &[u64]) -> usize {
     match way {
-        0 => count_ours(keys, true),
-        1 => count_ours(keys, false),
+        0 => bench_map_count(keys, true),
+        1 => bench_map_count(keys, false),
         _ => count_std(keys),
     }
 }
@@ -173,8 +143,7 @@ fn measure_counts(keys: &[u64], rounds: usize) -> [f64; 3] {
 }
 
 fn print_times() {
-    println!("nanoseconds, best of so many runs: ours / std's BTreeMap (ours as a multiple of std's)");
-    println!("{}", machine());
+    print_head("nanoseconds, best of so many runs: ours / std's BTreeMap (ours as a multiple of std's)");
     for (pairs, rounds) in SIZES {
         let keys = Keys::new(pairs);
         println!("{pairs} pairs, {rounds} runs");
@@ -185,7 +154,7 @@ fn print_times() {
             });
             bytes[0] as f64 / pairs as f64
         });
-        println!("  {:<18} {:>7.1} / {:<7.1} ({:4.2})", "bytes, a pair", held[0], held[1], held[0] / held[1]);
+        print_row("bytes, a pair", FORM, held, held[0] / held[1]);
     }
     println!("counting keys, ten times each: by entries, then ours by get and try_insert");
     for (different, rounds) in COUNTS {
@@ -208,10 +177,7 @@ fn put(who: usize, keys: &[u64], is_made_ready: bool) -> usize {
         mark();
         return map.len();
     }
-    let mut len = 0;
-    let done = unsafe { bench_map_put(keys.as_ptr(), keys.len(), is_made_ready, &mut len) };
-    assert!(done, "memory was refused");
-    len
+    bench_map_put(keys, is_made_ready)
 }
 
 // Calls over many pairs, once on each side.
@@ -240,12 +206,8 @@ fn count_all() {
 }
 
 fn main() {
-    match std::env::args().nth(1).as_deref() {
-        Some("count") => count_all(),
-        Some("misses") => count_misses(),
-        _ => {
-            compare_answers();
-            print_times();
-        }
-    }
+    start(&[("count", count_all), ("misses", count_misses)], || {
+        compare_answers();
+        print_times();
+    });
 }

@@ -1,17 +1,11 @@
 //! Asks the library's ordered map and std's `BTreeMap` for the pairs next to random keys, half of which are not there, and compares the
 //! answers. With the word `count` each call is made so at a thousand pairs and at a hundred thousand, for `bench/instructions`.
-mod checksum;
-mod counted;
+mod harness;
 mod jobs;
-#[allow(dead_code)] // Nothing is timed here.
-mod phases;
-mod random;
 
-use checksum::{mixed, told};
-use counted::tell;
+use harness::phases::phases;
+use harness::{Random, mark, mixed, start, tell};
 use jobs::bench_map_neighbours;
-use phases::mark;
-use random::Random;
 use std::collections::BTreeMap;
 use std::hint::black_box;
 use std::ops::Bound::{Excluded, Unbounded};
@@ -32,16 +26,7 @@ const SIZES: [u64; 6] = [0, 1, 7, 90, 1_000, 100_000];
 
 #[inline(never)]
 fn ask_ours(keys: &[u64], sought: &[u64], way: u64) -> u64 {
-    told(|checksum| unsafe {
-        bench_map_neighbours(
-            keys.as_ptr(),
-            keys.len(),
-            sought.as_ptr(),
-            sought.len(),
-            way,
-            checksum,
-        )
-    })
+    bench_map_neighbours(keys, sought, way)
 }
 
 #[inline(never)]
@@ -70,8 +55,7 @@ fn ask_std(keys: &[u64], sought: &[u64], way: u64) -> u64 {
 // The even numbers below twice `pairs`, and random ones among them and between them.
 fn keys(pairs: u64) -> (Vec<u64>, Vec<u64>) {
     let mut random = Random(pairs + 1);
-    let mut keys: Vec<u64> = (0..pairs).map(|number| number * 2).collect();
-    random.shuffle(&mut keys);
+    let keys = random.shuffled((0..pairs).map(|number| number * 2).collect());
     let sought = (0..CALLS).map(|_| random.below(2 * pairs + 1)).collect();
     (keys, sought)
 }
@@ -81,7 +65,7 @@ const ASKS: [fn(&[u64], &[u64], u64) -> u64; 2] = [ask_ours, ask_std];
 // Asks one side, between two marks of its own.
 fn asked(who: usize, keys: &[u64], sought: &[u64], way: usize) -> u64 {
     let mut seen = 0;
-    phases::phases(|| seen = ASKS[who](keys, sought, way as u64));
+    phases(|| seen = ASKS[who](keys, sought, way as u64));
     seen
 }
 
@@ -114,8 +98,5 @@ fn count() {
 }
 
 fn main() {
-    match std::env::args().nth(1).as_deref() {
-        Some("count") => count(),
-        _ => compare_answers(),
-    }
+    start(&[("count", count)], compare_answers);
 }

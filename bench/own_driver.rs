@@ -1,50 +1,22 @@
 //! Times the toolchain's own ordered map beside std's `BTreeMap` on random keys, as `map_driver.rs` does the library's.
 //!
 //! With the word `count` each job runs once at a thousand pairs, for `bench/own`.
-mod checksum;
-mod counted;
-mod keys;
-mod one_key;
-mod phases;
-mod random;
-mod rounds;
+mod harness;
+mod jobs;
 
-use checksum::told;
-use keys::Keys;
-use one_key::{DROPPED, GET, INSERT, Job, REMOVE, Row, Run, run_std};
-use phases::machine;
+use harness::one_key::{self, DROPPED, GET, INSERT, Job, REMOVE, Row, Run, run_std};
+use harness::{Keys, machine, start};
+use jobs::bench_own_run;
 
 // Pairs, and rounds of runs.
 const SIZES: [(usize, usize); 3] = [(1_000, 500), (100_000, 20), (1_000_000, 6)];
 const ROWS: [Row; 4] = [INSERT, GET, REMOVE, DROPPED];
 const RUNS: [Run; 2] = [run_own, run_std];
 
-unsafe extern "C" {
-    fn bench_own_run(
-        keys: *const u64,
-        key_count: usize,
-        sought: *const u64,
-        sought_count: usize,
-        removed: *const u64,
-        removed_count: usize,
-        checksum: *mut u64,
-    ) -> bool;
-}
-
 // Its job drops the map in each case.
 #[inline(never)]
 fn run_own(job: &Job) -> u64 {
-    told(|checksum| unsafe {
-        bench_own_run(
-            job.keys.as_ptr(),
-            job.keys.len(),
-            job.sought.as_ptr(),
-            job.sought.len(),
-            job.removed.as_ptr(),
-            job.removed.len(),
-            checksum,
-        )
-    })
+    bench_own_run(job.keys, job.sought, job.removed)
 }
 
 fn print_times() {
@@ -63,8 +35,5 @@ fn count() {
 }
 
 fn main() {
-    match std::env::args().nth(1).as_deref() {
-        Some("count") => count(),
-        _ => print_times(),
-    }
+    start(&[("count", count)], print_times);
 }

@@ -1,17 +1,12 @@
 //! Times bounded reading into a new vector beside std's, from a source in memory, and compares what both read.
 //!
-//! Each time is the best of some runs, the two in turn, of the time that the calls took (`phases.rs`).
-mod checksum;
-mod heap;
+//! Each time is the best of some runs, the two in turn, of the time that the calls took (`harness/phases.rs`).
+mod harness;
 mod jobs;
-mod phases;
-mod rounds;
 
-use checksum::{mixed, told};
-use heap::keep_all;
+use harness::heap::keep_all;
+use harness::{compare, mark, mixed, print_head};
 use jobs::bench_map_read;
-use phases::{machine, mark};
-use rounds::compare;
 use std::hint::black_box;
 use std::io::Read;
 
@@ -26,8 +21,7 @@ struct Job {
 
 #[inline(never)]
 fn run_ours(job: &Job) -> u64 {
-    let bytes = &job.bytes;
-    told(|checksum| unsafe { bench_map_read(bytes.as_ptr(), bytes.len(), job.limit, job.times, checksum) })
+    bench_map_read(&job.bytes, job.limit, job.times)
 }
 
 #[inline(never)]
@@ -45,8 +39,7 @@ fn run_std(job: &Job) -> u64 {
 
 fn main() {
     keep_all();
-    println!("nanoseconds a call, best of so many runs: ours / std's `read_to_end` of a `Take` (ours as a multiple of std's)");
-    println!("{}", machine());
+    print_head("nanoseconds a call, best of so many runs: ours / std's `read_to_end` of a `Take` (ours as a multiple of std's)");
     for (limit, times, rounds) in SIZES {
         let bytes: Vec<u8> = (0..2 * limit).map(|i| (i * 7 % 251) as u8).collect();
         let job = Job {
@@ -54,10 +47,7 @@ fn main() {
             limit: limit as u64,
             times,
         };
-        let [ours, stds] = compare(&job, rounds, [run_ours, run_std])[0].least.map(|time| time / times as f64);
-        println!(
-            "  {limit:>10} bytes, {rounds} runs of {times} calls: {ours:>11.0} / {stds:<11.0} ({:4.2})",
-            ours / stds
-        );
+        let name = format!("{limit:>10} bytes, {rounds} runs of {times} calls:");
+        compare(&job, rounds, [run_ours, run_std])[0].print_least(&name, (0, 11, 0), times as usize);
     }
 }

@@ -1,27 +1,21 @@
 //! Times the library's ordered set beside std's `BTreeSet` on the same numbers, and compares what both gave: the six calls on one item,
 //! walks over all items, the four lazy operations, and a union that is built.
 //!
-//! A time is the best of some runs, the two sets in turn, of the time of a phase (`phases.rs`); a multiple is the median of those that
-//! each round gave (`rounds.rs`).
+//! A time is the best of some runs, the two sets in turn, of the time of a phase (`harness/phases.rs`); a multiple is the median of those that
+//! each round gave (`harness/rounds.rs`).
 //!
 //! With the word `count` each walk runs once over two sets of a thousand, for `bench/instructions`.
-mod checksum;
-mod counted;
+mod harness;
 mod jobs;
-mod phases;
-mod random;
-mod rounds;
 
-use checksum::{mixed, told};
-use counted::tell;
+use harness::{Form, Random, Runs, compare, count, mark, mixed, print_head, start};
 use jobs::{bench_set_run, bench_set_walk};
-use phases::{machine, mark};
-use random::Random;
-use rounds::{Compared, compare};
 use std::collections::BTreeSet;
 
 // Items, and rounds of runs.
 const SIZES: [(u64, usize); 3] = [(1_000, 300), (100_000, 12), (1_000_000, 5)];
+// How a row is printed.
+const FORM: Form = (22, 8, 2);
 const CALLS: [&str; 6] = ["try_insert", "contains", "get", "replace", "take", "remove"];
 const WAYS: [&str; 9] = [
     "iter of the first",
@@ -49,19 +43,7 @@ struct Calls {
 
 #[inline(never)]
 fn call_ours(job: &Calls) -> u64 {
-    told(|checksum| unsafe {
-        bench_set_run(
-            job.items.as_ptr(),
-            job.items.len(),
-            job.sought.as_ptr(),
-            job.sought.len(),
-            job.taken.as_ptr(),
-            job.taken.len(),
-            job.removed.as_ptr(),
-            job.removed.len(),
-            checksum,
-        )
-    })
+    bench_set_run(&job.items, &job.sought, &job.taken, &job.removed)
 }
 
 #[inline(never)]
@@ -105,17 +87,7 @@ struct Walks {
 
 #[inline(never)]
 fn walk_ours(job: &Walks) -> u64 {
-    told(|checksum| unsafe {
-        bench_set_walk(
-            job.items.as_ptr(),
-            job.items.len(),
-            job.others.as_ptr(),
-            job.others.len(),
-            job.way,
-            job.times,
-            checksum,
-        )
-    })
+    bench_set_walk(&job.items, &job.others, job.way, job.times)
 }
 
 fn mixed_all<'a>(start: u64, items: impl Iterator<Item = &'a u64>) -> u64 {
@@ -154,19 +126,11 @@ fn walk_std(job: &Walks) -> u64 {
     seen
 }
 
-fn line(name: &str, phase: &Compared, count: f64) {
-    let [ours, stds] = phase.least.map(|time| time / count);
-    println!("  {name:<22} {ours:>8.2} / {stds:<8.2} ({:4.2})", phase.median());
-}
-
 fn measure_calls(count: u64, rounds: usize) {
     let mut random = Random(count);
-    let mut items: Vec<u64> = (0..count).map(|i| 2 * i).collect();
-    random.shuffle(&mut items);
-    let mut sought: Vec<u64> = (0..2 * count).collect();
-    random.shuffle(&mut sought);
-    let mut gone = items.clone();
-    random.shuffle(&mut gone);
+    let items = random.shuffled((0..count).map(|i| 2 * i).collect());
+    let sought = random.shuffled((0..2 * count).collect());
+    let mut gone = random.shuffled(items.clone());
     let removed = gone.split_off(gone.len() / 2);
     let counts = [items.len(), sought.len(), sought.len(), items.len(), gone.len(), removed.len()];
     let job = Calls {
@@ -178,11 +142,11 @@ fn measure_calls(count: u64, rounds: usize) {
     println!("{count} items, {rounds} runs: nanoseconds a call");
     let phases = compare(&job, rounds, [call_ours, call_std]);
     for ((name, phase), count) in CALLS.iter().zip(&phases).zip(counts) {
-        line(name, phase, count as f64);
+        phase.print_median(name, FORM, count as f64);
     }
 }
 
-const RUNS: [fn(&Walks) -> u64; 2] = [walk_ours, walk_std];
+const RUNS: Runs<Walks> = [walk_ours, walk_std];
 
 fn measure_walks(title: &str, items: Vec<u64>, others: Vec<u64>, times: u64, rounds: usize) {
     println!("{title}, {times} walks a run, {rounds} runs: microseconds a walk");
@@ -193,14 +157,12 @@ fn measure_walks(title: &str, items: Vec<u64>, others: Vec<u64>, times: u64, rou
             way: way as u64,
             times,
         };
-        let walked = &compare(&job, rounds, RUNS)[0];
-        line(name, walked, times as f64 * 1000.0);
+        compare(&job, rounds, RUNS)[0].print_median(name, FORM, times as f64 * 1000.0);
     }
 }
 
-fn shuffled(mut items: Vec<u64>) -> Vec<u64> {
-    Random(1).shuffle(&mut items);
-    items
+fn shuffled(items: Vec<u64>) -> Vec<u64> {
+    Random(1).shuffled(items)
 }
 
 // The items of two sets of so many: half of each are the other's too, and which these are is random.
@@ -211,8 +173,7 @@ fn halves(count: u64) -> (Vec<u64>, Vec<u64>) {
 }
 
 fn print_times() {
-    println!("time, best of so many runs: ours / std's BTreeSet (the median of ours as a multiple of std's)");
-    println!("{}", machine());
+    print_head("time, best of so many runs: ours / std's BTreeSet (the median of ours as a multiple of std's)");
     for (count, rounds) in SIZES {
         measure_calls(count, rounds);
     }
@@ -226,7 +187,7 @@ fn print_times() {
 }
 
 // Each walk once on each side, over two sets of a thousand with half in common.
-fn count() {
+fn count_all() {
     let (items, others) = halves(1_000);
     let given = [1_000, 500, 1_000, 500, 1_500, 1_500, 500, 1_000, 500];
     for (way, name) in WAYS.iter().enumerate() {
@@ -236,17 +197,10 @@ fn count() {
             way: way as u64,
             times: 20,
         };
-        for (who, run) in RUNS.iter().enumerate() {
-            tell(who, &[(name, 20 * given[way])], || {
-                run(&job);
-            });
-        }
+        count(&[(*name, 20 * given[way])], &job, RUNS);
     }
 }
 
 fn main() {
-    match std::env::args().nth(1).as_deref() {
-        Some("count") => count(),
-        _ => print_times(),
-    }
+    start(&[("count", count_all)], print_times);
 }

@@ -1,17 +1,15 @@
 //! The most stack that calls on the ordered map take, by the kind of call and the number of pairs.
 //!
-//! Before each phase of a job (`phases.rs` tells of them) the stack below is written full of one byte, and after it the lowest byte that
+//! Before each phase of a job (`harness/phases.rs` tells of them) the stack below is written full of one byte, and after it the lowest byte that
 //! is another one is looked for. A depth is counted from the caller of the job, so that the frames of the job and of the allocator count
 //! too: what it tells is too much rather than too little.
 mod jobs;
 
-use jobs::{bench_map_put, bench_map_run, bench_map_walk, bench_map_whole};
+use jobs::{MARK, bench_map_put, bench_map_run, bench_map_walk, bench_map_whole};
 use std::ffi::c_void;
 use std::hint::black_box;
 use std::ptr;
 
-// What a job asks for where a phase begins or ends, as `mark` of the crate `bench_jobs` does.
-const MARK: usize = 1 << 62;
 const PAINTED: usize = 1 << 18;
 const BYTE: u8 = 0xa5;
 // The frames of what paints.
@@ -66,55 +64,33 @@ pub unsafe extern "C" fn __wrap_malloc(size: usize) -> *mut c_void {
 
 // The depth of each phase of a job.
 #[inline(never)]
-fn depths(job: impl FnOnce() -> bool) -> Vec<usize> {
+fn depths<T>(job: impl FnOnce() -> T) -> Vec<usize> {
     unsafe {
         COUNT = 0;
         TOP = here();
     }
-    assert!(job(), "the job was refused");
+    job();
     unsafe { DEPTHS[1..COUNT].to_vec() }
 }
 
 fn run(keys: &[u64], way: u64) -> Vec<usize> {
-    let (at, count, mut sum) = (keys.as_ptr(), keys.len(), 0);
     // What is dropped at the end is the whole map in one job, and nothing in the other.
-    let gone = if way == 9 { count } else { 0 };
-    depths(|| unsafe { bench_map_run(at, count, at, count, at, gone, way, &mut sum) })
+    let gone = if way == 9 { keys } else { &[] };
+    depths(|| bench_map_run(keys, keys, gone, way))
 }
 
 fn put(keys: &[u64], is_ready: bool) -> usize {
-    let mut len = 0;
-    depths(|| unsafe { bench_map_put(keys.as_ptr(), keys.len(), is_ready, &mut len) })[0]
+    depths(|| bench_map_put(keys, is_ready))[0]
 }
 
 fn whole(keys: &[u64], others: &[u64], way: u64) -> usize {
-    let (at, mut sum) = (keys[keys.len() / 2], 0);
-    depths(|| unsafe {
-        bench_map_whole(
-            keys.as_ptr(),
-            keys.len(),
-            others.as_ptr(),
-            others.len(),
-            at,
-            way,
-            &mut sum,
-        )
-    })[0]
+    let at = keys[keys.len() / 2];
+    depths(|| bench_map_whole(keys, others, at, way))[0]
 }
 
 fn walk(keys: &[u64], way: u64) -> usize {
-    let (starts, mut sum) = ([keys[keys.len() / 3]], 0);
-    depths(|| unsafe {
-        bench_map_walk(
-            keys.as_ptr(),
-            keys.len(),
-            starts.as_ptr(),
-            1,
-            way,
-            1,
-            &mut sum,
-        )
-    })[0]
+    let starts = [keys[keys.len() / 3]];
+    depths(|| bench_map_walk(keys, &starts, way, 1))[0]
 }
 
 // The depth of each kind of call on a map of so many pairs, the most of those where they came in ascending order and in another one.

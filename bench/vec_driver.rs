@@ -1,17 +1,12 @@
 //! Times calls that fill vectors beside those of std's `Vec`, and compares what both hold last.
 //!
-//! Each time is the best of some runs, the two vectors in turn, of the time that the calls took (`phases.rs`).
-mod checksum;
-mod heap;
+//! Each time is the best of some runs, the two vectors in turn, of the time that the calls took (`harness/phases.rs`).
+mod harness;
 mod jobs;
-mod phases;
-mod rounds;
 
-use checksum::{mixed, told};
-use heap::keep_all;
+use harness::heap::keep_all;
+use harness::{compare, mark, mixed, print_head};
 use jobs::{bench_map_copy_bytes, bench_map_push_numbers};
-use phases::{machine, mark};
-use rounds::compare;
 use std::hint::black_box;
 
 // Items, calls a run, and rounds of runs.
@@ -40,13 +35,10 @@ const CALLS: [(&str, Call); 5] = [
 
 #[inline(never)]
 fn run_ours(job: &Job) -> u64 {
-    let (bytes, times) = (job.bytes, job.times);
-    told(|checksum| unsafe {
-        match job.call {
-            Call::Copy(way) => bench_map_copy_bytes(bytes.as_ptr(), bytes.len(), way, times, checksum),
-            Call::Push => bench_map_push_numbers(bytes.len() as u64, times, checksum),
-        }
-    })
+    match job.call {
+        Call::Copy(way) => bench_map_copy_bytes(job.bytes, way, job.times),
+        Call::Push => bench_map_push_numbers(job.bytes.len() as u64, job.times),
+    }
 }
 
 fn copied(source: &Vec<u8>, way: u64) -> Vec<u8> {
@@ -93,8 +85,7 @@ const RUNS: [fn(&Job) -> u64; 2] = [run_ours, run_std];
 
 fn main() {
     keep_all();
-    println!("nanoseconds a call, best of so many runs: ours / std's Vec (ours as a multiple of std's)");
-    println!("{}", machine());
+    print_head("nanoseconds a call, best of so many runs: ours / std's Vec (ours as a multiple of std's)");
     for (count, times, rounds) in SIZES {
         println!("{count} items, {rounds} runs of {times} calls");
         let bytes: Vec<u8> = (0..count).map(|i| (i * 7 % 251) as u8).collect();
@@ -104,11 +95,7 @@ fn main() {
                 bytes: &bytes,
                 times,
             };
-            let [ours, stds] = compare(&job, rounds, RUNS)[0].least.map(|time| time / times as f64);
-            println!(
-                "  {name:<33} {ours:>9.0} / {stds:<9.0} ({:4.2})",
-                ours / stds
-            );
+            compare(&job, rounds, RUNS)[0].print_least(name, (33, 9, 0), times as usize);
         }
     }
 }

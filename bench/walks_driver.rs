@@ -1,22 +1,14 @@
 //! Times walks over the library's ordered map beside std's `BTreeMap` on the same random keys, and compares what both saw.
 //!
-//! A time is the best of some runs, the two maps in turn, of the time that the walks of a job took (`phases.rs`); a multiple is the median
-//! of those that each round gave (`rounds.rs`). `into_iter` stands with the other calls that end a map, in `map_driver.rs`.
+//! A time is the best of some runs, the two maps in turn, of the time that the walks of a job took (`harness/phases.rs`); a multiple is the median
+//! of those that each round gave (`harness/rounds.rs`). `into_iter` stands with the other calls that end a map, in `map_driver.rs`.
 //!
 //! With the word `count` each job runs once at a thousand pairs, and with `misses` a walk over 200,000, for `bench/instructions`.
-mod checksum;
-mod counted;
+mod harness;
 mod jobs;
-mod phases;
-mod random;
-mod rounds;
 
-use checksum::{mixed, told};
-use counted::tell;
+use harness::{Random, Runs, compare, count, mark, mixed, print_head, start};
 use jobs::bench_map_walk;
-use phases::{machine, mark};
-use random::Random;
-use rounds::{Compared, compare};
 use std::collections::BTreeMap;
 
 // Pairs, walks over all of them, and rounds of runs.
@@ -42,17 +34,7 @@ struct Job {
 
 #[inline(never)]
 fn run_ours(job: &Job) -> u64 {
-    told(|checksum| unsafe {
-        bench_map_walk(
-            job.keys.as_ptr(),
-            job.keys.len(),
-            job.starts.as_ptr(),
-            job.starts.len(),
-            job.way,
-            job.times,
-            checksum,
-        )
-    })
+    bench_map_walk(&job.keys, &job.starts, job.way, job.times)
 }
 
 #[inline(never)]
@@ -98,13 +80,12 @@ fn run_std(job: &Job) -> u64 {
     seen
 }
 
-const RUNS: [fn(&Job) -> u64; 2] = [run_ours, run_std];
+const RUNS: Runs<Job> = [run_ours, run_std];
 
 impl Job {
     fn new(pairs: u64, times: u64, way: u64) -> Job {
         let mut random = Random(pairs);
-        let mut keys: Vec<u64> = (0..pairs).collect();
-        random.shuffle(&mut keys);
+        let keys = random.shuffled((0..pairs).collect());
         let starts = (0..RANGES).map(|_| random.below(pairs - RANGE)).collect();
         Job {
             keys,
@@ -125,36 +106,31 @@ impl Job {
 }
 
 fn print_times() {
-    println!("nanoseconds a pair, best of so many runs: ours / std's BTreeMap (the median of ours as a multiple of std's)");
-    println!("{}", machine());
+    print_head("nanoseconds a pair, best of so many runs: ours / std's BTreeMap (the median of ours as a multiple of std's)");
     for (pairs, times, rounds) in SIZES {
         println!("{pairs} pairs, {times} walks a run, {rounds} runs");
         for (way, name) in WAYS.iter().enumerate() {
             let job = Job::new(pairs, times, way as u64);
-            let walked: &Compared = &compare(&job, rounds, RUNS)[0];
-            let [ours, stds] = walked.least.map(|time| time / job.given() as f64);
-            println!("  {name:<22} {ours:>7.2} / {stds:<7.2} ({:4.2})", walked.median());
+            compare(&job, rounds, RUNS)[0].print_median(name, (22, 7, 2), job.given() as f64);
         }
     }
 }
 
 // One run of a walk on each side, after the map was filled.
-fn count(name: &str, job: Job) {
-    for (who, run) in RUNS.iter().enumerate() {
-        tell(who, &[(name, job.given())], || {
-            run(&job);
-        });
+fn count_one(name: &str, job: Job) {
+    count(&[(name, job.given())], &job, RUNS);
+}
+
+fn count_all() {
+    for (way, name) in WAYS.iter().enumerate() {
+        count_one(name, Job::new(1_000, 20, way as u64));
     }
 }
 
+fn count_misses() {
+    count_one("iter", Job::new(200_000, 2, 0));
+}
+
 fn main() {
-    match std::env::args().nth(1).as_deref() {
-        Some("count") => {
-            for (way, name) in WAYS.iter().enumerate() {
-                count(name, Job::new(1_000, 20, way as u64));
-            }
-        }
-        Some("misses") => count("iter", Job::new(200_000, 2, 0)),
-        _ => print_times(),
-    }
+    start(&[("count", count_all), ("misses", count_misses)], print_times);
 }

@@ -1,24 +1,15 @@
 //! Times calls on whole maps beside std's `BTreeMap` on the same keys, and compares what both left.
 //!
-//! A time is the best of some runs, the two maps in turn, of the time that the call took (`phases.rs`); a multiple is the median of those
-//! that each round gave (`rounds.rs`).
+//! A time is the best of some runs, the two maps in turn, of the time that the call took (`harness/phases.rs`); a multiple is the median of those
+//! that each round gave (`harness/rounds.rs`).
 //!
 //! With the word `count` each job runs once at a thousand pairs, for `bench/instructions`.
-mod checksum;
-mod counted;
+mod harness;
 mod jobs;
-mod phases;
-mod random;
-mod rounds;
 
-use checksum::{mixed, told};
-use counted::tell;
+use harness::{Random, Runs, compare, mark, mixed, print_head, start, tell_second};
 use jobs::{bench_map_collect, bench_map_whole};
-use phases::{machine, mark};
-use random::Random;
-use rounds::compare;
 use std::collections::BTreeMap;
-use std::hint::black_box;
 use std::mem::forget;
 
 // Pairs, and rounds of runs.
@@ -42,23 +33,10 @@ struct Job {
 
 #[inline(never)]
 fn run_ours(job: &Job) -> u64 {
-    let mut len = 0;
-    let checksum = told(|checksum| unsafe {
-        if job.collects {
-            bench_map_collect(job.keys.as_ptr(), job.keys.len(), &mut len)
-        } else {
-            bench_map_whole(
-                job.keys.as_ptr(),
-                job.keys.len(),
-                job.others.as_ptr(),
-                job.others.len(),
-                job.at,
-                job.way,
-                checksum,
-            )
-        }
-    });
-    checksum ^ len as u64
+    match job.collects {
+        true => bench_map_collect(&job.keys) as u64,
+        false => bench_map_whole(&job.keys, &job.others, job.at, job.way),
+    }
 }
 
 fn insert_all(keys: &[u64]) -> BTreeMap<u64, u64> {
@@ -114,10 +92,7 @@ fn run_std(job: &Job) -> u64 {
 
 fn jobs(pairs: u64) -> Vec<Job> {
     let mut random = Random(pairs);
-    let mut shuffled = |mut keys: Vec<u64>| {
-        random.shuffle(&mut keys);
-        keys
-    };
+    let mut shuffled = |keys| random.shuffled(keys);
     let half = pairs / 2;
     let all = shuffled((0..pairs).collect());
     let made = |name, way| Job {
@@ -166,39 +141,28 @@ fn jobs(pairs: u64) -> Vec<Job> {
     ]
 }
 
-const RUNS: [fn(&Job) -> u64; 2] = [run_ours, run_std];
+const RUNS: Runs<Job> = [run_ours, run_std];
 
-// Each job on each side, at a thousand pairs. It runs once before it is counted, and keeps what it made: so that the allocator has no blocks
-// left over from other jobs, which would serve the one side and not the other.
+// Each job on each side, at a thousand pairs.
 fn count() {
     let pairs = 1_000;
     for job in jobs(pairs) {
         for (who, run) in RUNS.iter().enumerate() {
-            tell(who, &[("", 0), ("", 0), (job.name, pairs as usize)], || {
-                black_box(run(&job));
-                black_box(run(&job));
-            });
+            tell_second(who, job.name, pairs as usize, || run(&job));
         }
     }
 }
 
 fn print_times() {
-    println!("nanoseconds a pair of the whole, best of so many runs: ours / std's BTreeMap (the median of ours as a multiple of std's)");
-    println!("{}", machine());
+    print_head("nanoseconds a pair of the whole, best of so many runs: ours / std's BTreeMap (the median of ours as a multiple of std's)");
     for (pairs, rounds) in SIZES {
         println!("{pairs} pairs, {rounds} runs");
         for job in jobs(pairs) {
-            let call = &compare(&job, rounds, RUNS)[0];
-            let [ours, stds] = call.least.map(|time| time / pairs as f64);
-            let name = job.name;
-            println!("  {name:<30} {ours:>9.3} / {stds:<9.3} ({:4.2})", call.median());
+            compare(&job, rounds, RUNS)[0].print_median(job.name, (30, 9, 3), pairs as f64);
         }
     }
 }
 
 fn main() {
-    match std::env::args().nth(1).as_deref() {
-        Some("count") => count(),
-        _ => print_times(),
-    }
+    start(&[("count", count)], print_times);
 }

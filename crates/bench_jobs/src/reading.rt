@@ -1,6 +1,6 @@
 //! A job that reads.
 use super::{mark, mixed};
-use fc_read::TryRead;
+use fc_vec::read::TryRead;
 use std::alloc::Global;
 use std::io::Read;
 

@@ -1,4 +1,4 @@
-//! Nested boxes of media: each at its depth and its first byte, with the byte behind its last; and how many there are of each kind.
+//! Nested boxes of media: each at its depth and its first byte, with the byte after its last; and how many there are of each kind.
 ghost use Rattle.std.specs.Prelude.{ℕ, ◌≡◌, ◌<◌, ◌≤◌, ◌+◌, ◌⊎◌, ◌↔◌, length, IfSome, OnOk, OnErr, None, Some};
 ghost use Rattle.std.specs.declared.cmp.Ordering.TheVariants.{Less, Equal, Greater};
 ghost use Rattle.fc_laws.specs.Words.{entries, at, value_at, cut};
@@ -17,7 +17,7 @@ pub fn order_of_places<D: Ord, B: Ord>(place: &(D, B), other: &(D, B)) -> Orderi
     place.cmp(other)
 }
 
-/// The box of a depth that holds a byte: the last of that depth that begins at the byte or before it, where it ends behind the byte.
+/// The box of a depth that holds a byte: the last of that depth that begins at the byte or before it, where it ends after the byte.
 pub fn box_holding(
     boxes: &BTreeMap<(u64, u64), u64>,
     depth: u64,
@@ -35,7 +35,7 @@ pub fn box_holding(
     }
 }
 
-/// The first box of a depth that begins behind a byte, if there is one.
+/// The first box of a depth that begins after a byte, if there is one.
 pub fn box_behind(
     boxes: &BTreeMap<(u64, u64), u64>,
     depth: u64,
@@ -69,7 +69,7 @@ pub fn box_before(
     }
 }
 
-/// The first box of a depth that begins at a byte or behind it, if there is one.
+/// The first box of a depth that begins at a byte or after it, if there is one.
 pub fn box_from(
     boxes: &BTreeMap<(u64, u64), u64>,
     depth: u64,

@@ -15,5 +15,5 @@ pub mod queries;
 pub mod range;
 pub mod ready;
 pub mod refusals;
-pub mod room;
+pub mod reservation;
 pub mod stretches;

@@ -1,4 +1,4 @@
-//! A table of locks on ranges of bytes: each at its first byte, with the byte behind its last.
+//! A table of locks on ranges of bytes: each at its first byte, with the byte after its last.
 ghost use Rattle.std.specs.Prelude.{ℕ, ◌≡◌, ◌<◌, ◌≤◌, ◌+◌, ◌↔◌, length, IsTrue, IsSome, IfSome, OnOk, OnErr, None, Some};
 ghost use Rattle.std.specs.List.{Contains};
 ghost use Rattle.std.specs.Ordering.{nat_cmp};
@@ -7,7 +7,7 @@ ghost use Rattle.fc_laws.specs.Words.{entries, put, cut, at, value_at, above, be
 use fc_base::TryReserveError;
 use fc_map::map::BTreeMap;
 
-/// The lock that covers a byte: the last one that begins at it or before it, where it ends behind the byte.
+/// The lock that covers a byte: the last one that begins at it or before it, where it ends after the byte.
 #[tactic(auto, using(fc_laws::proofs::Laws::last_at_or_before_there, fc_laws::proofs::Laws::last_at_or_before_side, fc_laws::proofs::Laws::number_at_most, fc_laws::proofs::Laws::number_total))]
 pub fn lock_covering(locks: &BTreeMap<u64, u64>, byte: u64) -> Option<(u64, u64)>
     ensures there { IfSome result (λ lock. at nat_cmp (entries locks.now) lock.0 ≡ Some lock) }
@@ -33,7 +33,7 @@ pub fn lock_before(locks: &BTreeMap<u64, u64>, byte: u64) -> Option<(u64, u64)>
     Some((*from, *end))
 }
 
-/// The first lock that begins at a byte or behind it.
+/// The first lock that begins at a byte or after it.
 #[tactic(auto, using(fc_laws::proofs::Laws::first_at_or_after_there, fc_laws::proofs::Laws::first_at_or_after_side, fc_laws::proofs::Laws::number_at_least, fc_laws::proofs::Laws::number_total))]
 pub fn lock_from(locks: &BTreeMap<u64, u64>, byte: u64) -> Option<(u64, u64)>
     ensures there { IfSome result (λ lock. at nat_cmp (entries locks.now) lock.0 ≡ Some lock) }
@@ -44,7 +44,7 @@ pub fn lock_from(locks: &BTreeMap<u64, u64>, byte: u64) -> Option<(u64, u64)>
     Some((*from, *end))
 }
 
-/// The first lock that begins behind a byte.
+/// The first lock that begins after a byte.
 #[tactic(auto, using(fc_laws::proofs::Laws::first_after_there, fc_laws::proofs::Laws::first_after_side, fc_laws::proofs::Laws::number_greater, fc_laws::proofs::Laws::number_total))]
 pub fn lock_behind(locks: &BTreeMap<u64, u64>, byte: u64) -> Option<(u64, u64)>
     ensures there { IfSome result (λ lock. at nat_cmp (entries locks.now) lock.0 ≡ Some lock) }

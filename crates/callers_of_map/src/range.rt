@@ -8,7 +8,7 @@ ghost use Rattle.fc_map.specs.Walks.{deref_pair};
 use fc_map::map::{BTreeMap, Range, is_range};
 use std::ops::Bound;
 
-/// The first pair whose key is not below this one, if there is one, and the walk over those behind it.
+/// The first pair whose key is not below this one, if there is one, and the walk over those after it.
 pub fn first_from<'a, K: Ord + Drop, V: Drop>(
     map: &'a BTreeMap<K, V>,
     key: &K,

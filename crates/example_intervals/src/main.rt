@@ -1,35 +1,32 @@
 //! A map from points to values by intervals: reads lines from standard input, and answers each by lines on standard output.
 #![tactic(auto)]
 
-mod command;
-mod intervals;
-mod spans;
+ghost use Rattle.std.specs.Prelude.{◌≡◌, ◌⊎◌, ℕ, ◌<◌, ◌≤◌, OnOk, OnErr, Some};
+ghost use Rattle.std.specs.Ordering.{nat_cmp};
+ghost use Rattle.fc_intervals.specs.Stretches.{value_at_point};
 
-use bounded_lines::{Line, Pieces};
-use command::Command;
-use intervals::Intervals;
+use bounded_lines::{Line, Pieces, number};
+use fc_intervals::{IntervalMap, TryReserveError};
 use std::io::{self, BufWriter, Write};
 
 // The most bytes of a line, and how many bytes of replies are kept.
 const ROOM: usize = 1024;
 
-fn main(rt: HostRuntime) -> io::Result<()> {
-    serve(&rt)
-}
+// Each point's value.
+type Intervals = IntervalMap<u64, u64>;
 
 // Answers line after line. All room for replies is taken before the first.
-fn serve(rt: &(impl Input + Print + AllocGlobal)) -> io::Result<()> {
-    let alloc = rt.alloc();
+fn main(rt: HostRuntime) -> io::Result<()> {
     let mut line = Line::<ROOM>::new();
     let mut source = Pieces::new(rt.reader());
-    let mut out = BufWriter::with_capacity(alloc, ROOM, io::writer(rt))?;
-    let mut intervals = Intervals::new(alloc);
+    let mut out = BufWriter::with_capacity(rt.alloc(), ROOM, io::writer(&rt))?;
+    let mut intervals = IntervalMap::new(rt.alloc());
     for _ in 0..u64::MAX {
         if !line.read(&mut source)? {
             break;
         }
-        match command::parse(&line) {
-            Some(command) => answer(&mut intervals, command, &mut out)?,
+        match line.text() {
+            Some(text) => answer(&mut intervals, text, &mut out)?,
             None if line.is_too_long() => writeln!(out, "line too long")?,
             None => writeln!(out, "bad line")?,
         }
@@ -38,30 +35,46 @@ fn serve(rt: &(impl Input + Print + AllocGlobal)) -> io::Result<()> {
     out.flush()
 }
 
-// Runs a command and writes its reply.
-fn answer<W: Write>(intervals: &mut Intervals, command: Command, out: &mut W) -> io::Result<()> {
-    match command {
-        Command::Put(start, end, _) if end <= start => writeln!(out, "empty interval"),
-        Command::Put(start, end, value) => match intervals.put(start, end, value) {
+// Runs the command that a text spells, whose words stand apart by single spaces, and writes its reply.
+fn answer<W: Write>(map: &mut Intervals, text: &str, out: &mut W) -> io::Result<()> {
+    let (word, rest) = text.split_once(' ').unwrap_or((text, ""));
+    match (word, interval(rest), number(rest)) {
+        ("put", Some((start, end, _)), _) if end <= start => writeln!(out, "empty interval"),
+        ("put", Some((start, end, value)), _) => match put(map, start, end, value) {
             Ok(()) => writeln!(out, "ok"),
             Err(_) => writeln!(out, "out of memory"),
         },
-        Command::At(point) => match intervals.at(point) {
+        ("at", _, Some(point)) => match map.get(point) {
             Some(value) => writeln!(out, "{value}"),
             None => writeln!(out, "none"),
         },
-        Command::List => list(intervals, out),
+        _ if text == "list" => list(map, out),
+        _ => writeln!(out, "bad line"),
     }
 }
 
+// Three numbers: where an interval starts and ends, and the value of its points.
+fn interval(text: &str) -> Option<(u64, u64, u64)> {
+    let (start, rest) = text.split_once(' ')?;
+    let (end, value) = rest.split_once(' ')?;
+    Some((number(start)?, number(end)?, number(value)?))
+}
+
+// Gives all points from `start` up to, and without, `end` a value. Where memory was refused, the map is as it was.
+fn put(map: &mut Intervals, start: u64, end: u64, value: u64) -> Result<(), TryReserveError>
+    ensures inside { OnOk result ((p : ℕ) → start ≤ p → p < end → value_at_point nat_cmp map.new p ≡ Some value) }
+    ensures outside { OnOk result ((p : ℕ) → (p < start) ⊎ (end ≤ p) → value_at_point nat_cmp map.new p ≡ value_at_point nat_cmp map.old p) }
+    ensures unchanged { OnErr result (map.new ≡ map.old) }
+{
+    map.put(start..end, value)?;
+    Ok(())
+}
+
 // Writes how many intervals there are, and each, in order.
-fn list<W: Write>(intervals: &Intervals, out: &mut W) -> io::Result<()> {
-    let count = intervals.spans.len();
-    writeln!(out, "intervals: {count}")?;
-    for (start, span) in intervals.spans.iter() {
-        let end = span.end;
-        let value = span.value;
-        writeln!(out, "{start} {end} {value}")?;
+fn list<W: Write>(map: &Intervals, out: &mut W) -> io::Result<()> {
+    writeln!(out, "intervals: {}", map.len())?;
+    for (start, stretch) in map.iter() {
+        writeln!(out, "{start} {} {}", stretch.end, stretch.value)?;
     }
     Ok(())
 }

@@ -136,8 +136,8 @@ pub fn rewrite(
         release(held, start, end, owner);
         return Ok(());
     }
-    let mut room = held.try_room_for(1)?;
+    let mut reservation = held.try_reserve_nodes(1)?;
     release(held, start, end, owner);
-    held.insert_with(&mut room, kept, (end, owner));
+    held.insert_reserved(&mut reservation, kept, (end, owner));
     Ok(())
 }

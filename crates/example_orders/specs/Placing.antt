@@ -1,6 +1,6 @@
 -- The side of an order, and what becomes of it.
 use Rattle.std.specs.Prelude.{◌≡◌, ℕ, ◌+◌, ◌-◌, ◌^◌, ◌==◌, if◌then◌else◌}
-use Rattle.fallible_collections.specs.Words.{room_error}
+use Rattle.fallible_collections.specs.Words.{reservation_error}
 use Rattle.example_orders.specs.Orders.{Orders, total, after_fills, unfilled, with_rest}
 use Rattle.example_orders.specs.Sides.{Sides}
 use Rattle.example_orders.specs.declared.book.Side.{Side}
@@ -44,4 +44,4 @@ pub record IsPlaced (rank quantity : ℕ) (own others : Orders) (next : ℕ) (pl
 -- Why an order was not placed beside so many of its side: no number was left, or room was refused.
 abbrev pub IsRefused : NotPlaced → ℕ → ℕ → Type 0
 IsRefused NoNumber orders next = next ≡ 2 ^ 64 - 1
-IsRefused (Memory e) orders next = e ≡ room_error orders 1
+IsRefused (Memory e) orders next = e ≡ reservation_error orders 1

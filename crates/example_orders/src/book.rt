@@ -197,8 +197,8 @@ fn place<F: FnMut(Fill)>(
     if number == u64::MAX {
         return Err(NotPlaced::NoNumber);
     }
-    let mut room = match own.try_room() {
-        Ok(room) => room,
+    let mut reservation = match own.try_reserve_one() {
+        Ok(reservation) => reservation,
         Err(e) => return Err(NotPlaced::Memory(e)),
     };
     // Nothing can be refused from here on.
@@ -211,7 +211,7 @@ fn place<F: FnMut(Fill)>(
     if resting == 0 {
         return Ok(placed);
     }
-    own.rest(&mut room, (rank, number), resting);
+    own.rest(&mut reservation, (rank, number), resting);
     *next = number + 1;
     Ok(placed)
 }

@@ -1,12 +1,12 @@
 //! One side of a book: the orders that rest there, the best first.
 ghost use Rattle.std.specs.Prelude.{◌≡◌, ◌+◌, ◌<◌, ◌≤◌, [], length, All, IfSome, IfNone, IfOk, IfErr};
-ghost use Rattle.fallible_collections.specs.Words.{entries, put, cut, value_at, room_error, Places};
+ghost use Rattle.fallible_collections.specs.Words.{entries, put, cut, value_at, reservation_error, Places};
 ghost use Rattle.example_orders.specs.Orders.{key_cmp, after_fills, unfilled};
 ghost use Rattle.example_orders.specs.Fills.{best_fill, after_fill, fills_of, AreTold};
 
 use fallible_collections::TryReserveError;
 use fallible_collections::btree::BTreeMap;
-use fallible_collections::btree::map::{Iter, Room};
+use fallible_collections::btree::map::{Iter, Reservation};
 use std::alloc::Global;
 use std::marker::Model;
 
@@ -62,22 +62,22 @@ impl Ladder {
     ///
     /// # Errors
     /// `AllocError` where a request for memory was refused, or `CapacityOverflow` beside `usize::MAX` orders.
-    pub fn try_room(&self) -> Result<Room<Key, u64>, TryReserveError>
-        ensures place { IfOk result (λ room. 0 < room.places) }
-        ensures fits { IfOk result (λ room. length self.now < room.pairs) }
-        ensures error { IfErr result (λ e. e ≡ room_error (length self.now) 1) }
+    pub fn try_reserve_one(&self) -> Result<Reservation<Key, u64>, TryReserveError>
+        ensures place { IfOk result (λ reservation. 0 < reservation.places) }
+        ensures fits { IfOk result (λ reservation. length self.now < reservation.pairs) }
+        ensures error { IfErr result (λ e. e ≡ reservation_error (length self.now) 1) }
     {
-        self.orders.try_room_for(1)
+        self.orders.try_reserve_nodes(1)
     }
 
     /// Puts an order in.
-    pub fn rest(&mut self, room: &mut Room<Key, u64>, key: Key, quantity: u64)
-        requires place { 0 < room.old.places }
-        requires fits { length self.old < room.old.pairs }
+    pub fn rest(&mut self, reservation: &mut Reservation<Key, u64>, key: Key, quantity: u64)
+        requires place { 0 < reservation.old.places }
+        requires fits { length self.old < reservation.old.pairs }
         requires not_empty { 0 < quantity }
         ensures { self.new ≡ put key_cmp self.old key quantity }
     {
-        self.orders.insert_with(room, key, quantity);
+        self.orders.insert_reserved(reservation, key, quantity);
     }
 
     /// Takes an order out and answers what was left of it; `None` where there is none. It takes no memory.

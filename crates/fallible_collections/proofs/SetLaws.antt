@@ -7,13 +7,14 @@ use Rattle.std.specs.Option.{option_map, option_or}
 use Rattle.std.specs.Cmp.{IsTotalOrder}
 use Rattle.std.specs.Ordering.{is_eq}
 use Rattle.std.specs.declared.cmp.Ordering.{Ordering}
-use Rattle.std.specs.declared.cmp.Ordering.TheVariants.{Less, Equal, Greater}
+use Rattle.std.specs.declared.cmp.Ordering.TheVariants.{Less}
 use Rattle.fc_base.specs.Ascending.{IsAscending}
 use Rattle.fc_base.specs.Joined.{joined}
 use Rattle.fc_base.specs.Parts.{at}
 use Rattle.fc_base.specs.Query.{IsQueryOrder}
 use Rattle.fc_base.specs.Viewed.{own_order}
 use Rattle.fc_base.proofs.JoinedLaws.{ascending_joined}
+use Rattle.fc_base.proofs.AscendingFacts.{is_equal}
 use Rattle.fc_set.specs.Items.{item_at, AreAscending, joined_items}
 use Rattle.fc_set.specs.Operations.{difference, symmetric_difference, union}
 use Rattle.fc_set.proofs.ItemFacts.{keys, item_at_keys, joined_keys, ascending_keys}
@@ -57,11 +58,6 @@ found_among p q (x ∷ s) b same = go (p x) (q x) refl (same x) (found_among p q
     go true false e h i = i ∙ rw (sym (h refl)) refl
     go false true e h i = rw e i
     go false false e h i = i
-
-is_equal : (r : Ordering) → is_eq r ≡ true → r ≡ Equal
-is_equal Less h = absurd cc
-is_equal Equal h = refl
-is_equal Greater h = absurd cc
 
 module _ {T : Type 0} (cmp : T → T → Ordering) where
   pub pairs_ascend : (s : List T) → AreAscending cmp s → IsAscending cmp (pairs s)

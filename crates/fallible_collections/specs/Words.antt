@@ -20,7 +20,7 @@ pub use Rattle.fc_vec.specs.Items.{GivesAll, GivesFirst}
 pub use Rattle.fc_vec.specs.Vectors.{Vector, MayRefuse, resized, IsExtended, IsFilled, IsCopiedUpTo}
 pub use Rattle.fc_vec.specs.Joined.{joined as joined_parts}
 pub use Rattle.fc_vec.specs.Lends.{with_items, item_written, lends_slice, lends_walk, lends_item, lends_item_if, lends_drain, lends_slice_in, lends_walk_in, lends_item_in, lends_item_if_in, lends_drain_in}
-pub use Rattle.fc_read.specs.Reading.{front, IsMoved, IsWhole}
+pub use Rattle.fc_vec.specs.Reading.{front, IsMoved, IsWhole}
 -- hashed maps and sets
 pub use Rattle.fc_hash.specs.Pairs.{Hashed, IsMap, value_at as hashed_value_at, IsPut, IsTaken, AreCopies, agree_at, are_equal}
 pub use Rattle.fc_hash.specs.Lends.{with_value, lends_value, lends_value_in}
@@ -39,7 +39,7 @@ pub use Rattle.fc_map.specs.Full.{IsFullAt, TakesNode}
 pub use Rattle.fc_map.specs.Fewest.{fewest_moves, root_len, HasFewestMoves}
 pub use Rattle.fc_map.specs.Entry.{entry_map, entry_map_ref, entry_path, entry_key, entry_pair, entry_value, list_with, list_without, IsWritten, IsFirstOf, IsLastOf, IsFirstBehind, IsLastAhead, map_written, entry_lends_ok, occupied_lends, occupied_lends_whole, rests_if_none, rests_if_refused, entry_lends_ok_in, occupied_lends_in, occupied_lends_whole_in, rests_if_none_in, rests_if_refused_in}
 pub use Rattle.fc_map.specs.ReadyEntry.{ready_map_ref, ready_map, ready_key, ready_list_with, ready_lends, rests_if_not_ready, ready_lends_in, rests_if_not_ready_in}
-pub use Rattle.fc_map.specs.Room.{Places, room_error}
+pub use Rattle.fc_map.specs.Reservation.{Places, reservation_error}
 pub use Rattle.fc_map.specs.Walks.{deref_pair, keys_of, values_of}
 pub use Rattle.fc_map.specs.Writing.{Stretch, whole, starting, wrote_first, wrote_last, wrote, wrote_all, set_value}
 pub use Rattle.fc_map.specs.Stretches.{range_map_ref, stretch, iter_map_ref, iter_stretch, IsFirstValue, IsLastValue, IsFirstPair, IsLastPair, CalledAtPair, IsVisitedIn, range_lends_first, range_lends_last, iter_lends_first, iter_lends_last, range_lends_first_in, range_lends_last_in, iter_lends_first_in, iter_lends_last_in}

@@ -1,3 +1,3 @@
 //! Printing into a text whose room is taken first.
 
-pub use fc_format::try_format;
+pub use fc_vec::format::try_format;

@@ -17,7 +17,23 @@ use Rattle.std.specs.Cmp.{tied_itself}
 pub under_one : {K : Type 0} (cmp : K → K → Ordering) (total : IsTotalOrder cmp) (k y : K) → cmp y k ≡ Greater → cmp k y ≡ Less
 under_one cmp total k y h = total.antisymm k y ∙ ap ordering_reverse h
 
-all_filter : {X : Type 0} (P : X → Type 0) (p : X → Bool) (s : List X) → AllByRecursion P s → AllByRecursion P (filter p s)
+-- the one answer that is equal
+pub is_equal : (r : Ordering) → is_eq r ≡ true → r ≡ Equal
+is_equal Less h = absurd cc
+is_equal Equal h = refl
+is_equal Greater h = absurd cc
+
+-- a filter that keeps all, and one that keeps nothing
+module _ {X : Type 0} (p : X → Bool) where
+  pub kept : (s : List X) → AllByRecursion (λ x. p x ≡ true) s → filter p s ≡ s
+  kept [] a = refl
+  kept (x ∷ s) a = rw a.0 (ap (λ zs. x ∷ zs) (kept s a.1))
+
+  pub left_out : (s : List X) → AllByRecursion (λ x. p x ≡ false) s → filter p s ≡ []
+  left_out [] a = refl
+  left_out (x ∷ s) a = rw a.0 (left_out s a.1)
+
+pub all_filter : {X : Type 0} (P : X → Type 0) (p : X → Bool) (s : List X) → AllByRecursion P s → AllByRecursion P (filter p s)
 all_filter P p [] a = tt
 all_filter P p (e ∷ s) a = elim (p e) as (λ b. AllByRecursion P (cond b (e ∷ filter p s) (filter p s)))
     [ true ↦ (a.0, all_filter P p s a.1) | false ↦ all_filter P p s a.1 ]

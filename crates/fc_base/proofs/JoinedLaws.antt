@@ -1,6 +1,6 @@
 -- The laws of a list that is cut in two, and of two lists joined where all keys of the second lie beyond those of the first.
-use Rattle.std.proofs.Common.{◌≡◌, Bool, true, false, cond, List, [], ◌∷◌, ◌++◌, refl, sym, ap, ◌∙◌, subst, append-nil}
-use Rattle.std.specs.List.{AllByRecursion, filter}
+use Rattle.std.proofs.Common.{◌≡◌, cond, List, [], ◌∷◌, ◌++◌, refl, sym, ap, ◌∙◌, subst, append-nil}
+use Rattle.std.specs.List.{AllByRecursion}
 use Rattle.std.specs.Cmp.{IsTotalOrder}
 use Rattle.std.specs.Ordering.{is_lt, is_gt, is_ge}
 use Rattle.std.specs.declared.cmp.Ordering.{Ordering}
@@ -12,18 +12,8 @@ use Rattle.fc_base.specs.Halves.{not_below}
 use Rattle.fc_base.specs.Joined.{placed, joined}
 use Rattle.fc_base.specs.Parts.{below}
 use Rattle.fc_base.specs.Query.{IsQueryOrder}
-use Rattle.fc_base.proofs.AscendingFacts.{all_map, asc_put}
+use Rattle.fc_base.proofs.AscendingFacts.{all_map, asc_put, kept, left_out}
 use Rattle.fc_base.proofs.Laws.{smaller_ahead}
-
--- A filter that keeps all, and one that keeps nothing.
-module _ {X : Type 0} (p : X → Bool) where
-  pub kept : (s : List X) → AllByRecursion (λ x. p x ≡ true) s → filter p s ≡ s
-  kept [] a = refl
-  kept (x ∷ s) a = rw a.0 (ap (λ zs. x ∷ zs) (kept s a.1))
-
-  pub left_out : (s : List X) → AllByRecursion (λ x. p x ≡ false) s → filter p s ≡ []
-  left_out [] a = refl
-  left_out (x ∷ s) a = rw a.0 (left_out s a.1)
 
 module _ {K Q V : Type 0} (cmp : K → K → Ordering) (order : K → Q → Ordering) where
   -- An ascending list is what is below a query, and what is not.

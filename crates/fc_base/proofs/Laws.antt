@@ -23,25 +23,10 @@ use Rattle.fc_base.specs.Query.{IsQueryOrder}
 use Rattle.fc_base.specs.Viewed.{over_one, own_order}
 use Rattle.fc_base.specs.Ranges.{starts, stops, is_range, within}
 use Rattle.fc_base.proofs.Within.{between_tests, not_past}
-use Rattle.fc_base.proofs.AscendingFacts.{under_one, all_map, all_below, all_above, at_key, asc_filter, asc_cut, asc_put}
-
--- the one answer that is equal
-is_equal : (r : Ordering) → is_eq r ≡ true → r ≡ Equal
-is_equal Less h = absurd cc
-is_equal Equal h = refl
-is_equal Greater h = absurd cc
+use Rattle.fc_base.proofs.AscendingFacts.{under_one, all_map, all_below, all_above, at_key, asc_filter, asc_cut, asc_put, is_equal, kept, left_out}
 
 -- filters and searches by a test
 module _ {X : Type 0} (p : X → Bool) where
-  -- a filter that keeps all, one that keeps nothing, a search that finds nothing, and one in a filtered list
-  kept : (s : List X) → AllByRecursion (λ x. p x ≡ true) s → filter p s ≡ s
-  kept [] a = refl
-  kept (x ∷ s) a = rw a.0 (ap (λ zs. x ∷ zs) (kept s a.1))
-
-  left_out : (s : List X) → AllByRecursion (λ x. p x ≡ false) s → filter p s ≡ []
-  left_out [] a = refl
-  left_out (x ∷ s) a = rw a.0 (left_out s a.1)
-
   not_found : (s : List X) → AllByRecursion (λ x. p x ≡ false) s → find p s ≡ None
   not_found [] a = refl
   not_found (x ∷ s) a = rw a.0 (not_found s a.1)

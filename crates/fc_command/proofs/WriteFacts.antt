@@ -1,5 +1,5 @@
 -- One write of a walk that writes.
-use Rattle.std.proofs.Common.{◌≡◌, ℕ, ◌+◌, ◌-◌, ◌<◌, ◌≤◌, List, ◌∷◌, length, Bool, true, false, refl, ap, ◌∙◌, inl, inr, arith}
+use Rattle.std.proofs.Common.{◌≡◌, ℕ, ◌+◌, ◌-◌, ◌<◌, List, ◌∷◌, length, Bool, true, false, refl, ap, ◌∙◌, inl, inr, arith}
 use Rattle.std.specs.Prelude.{nat_lt, min, IsTrue, ◌↔◌}
 use Rattle.std.specs.Int.{from_bool}
 use Rattle.std.specs.declared.cmp.Ordering.{Ordering}
@@ -8,6 +8,7 @@ use Rattle.std.proofs.lemmas.Bool.{cases_lt}
 use Rattle.std.proofs.lemmas.Bool.Decides.{nat_tests}
 use Rattle.fc_base.specs.Ranges.{within}
 use Rattle.fc_map.specs.Writing.{starting, Stretch, wrote, wrote_all, wrote_first, wrote_last}
+use Rattle.fc_map.proofs.WritingFacts.{write_none}
 
 module _ {K V : Type 0} where
   pub wrote_front : (t : Stretch K V) (v : V) → t.front < t.back → wrote t (true, v) ≡ wrote_first t v
@@ -18,10 +19,6 @@ module _ {K V : Type 0} where
   unfolding wrote
   wrote_back t v l = let p : nat_lt t.front t.back ≡ true = grind (arith, nat_tests) in rw p refl
 
-  pub wrote_none : (t : Stretch K V) (w : Bool × V) → t.back ≤ t.front → wrote t w ≡ t
-  unfolding wrote
-  wrote_none t w l = let p : nat_lt t.front t.back ≡ false = grind (arith, nat_tests) in rw p refl
-
   -- the other writes give what all gave
   pub wrote_more : (t n : Stretch K V) (w : Bool × V) (ws : List (Bool × V)) (s : List (K × V)) → n ≡ wrote t w → (wrote_all t (w ∷ ws)).list ≡ s
       → (wrote_all n ws).list ≡ s
@@ -31,11 +28,11 @@ module _ {K V : Type 0} where
   left_wrote : (t : Stretch K V) (w : Bool × V) → (wrote t w).back - (wrote t w).front ≡ (t.back - t.front) - 1
   left_wrote t (true, v) = elim (cases_lt t.front t.back) [
     | inl l ↦ ap (λ t. t.back - t.front) (wrote_front t v l) ∙ (omega (arith, l))
-    | inr l ↦ ap (λ t. t.back - t.front) (wrote_none t (true, v) l) ∙ (omega (arith, l))
+    | inr l ↦ ap (λ t. t.back - t.front) (write_none t (true, v) l) ∙ (omega (arith, l))
   ]
   left_wrote t (false, v) = elim (cases_lt t.front t.back) [
     | inl l ↦ ap (λ t. t.back - t.front) (wrote_back t v l) ∙ (omega (arith, l))
-    | inr l ↦ ap (λ t. t.back - t.front) (wrote_none t (false, v) l) ∙ (omega (arith, l))
+    | inr l ↦ ap (λ t. t.back - t.front) (write_none t (false, v) l) ∙ (omega (arith, l))
   ]
 
   pub places_more : (t n : Stretch K V) (w : Bool × V) (y places : ℕ) → n ≡ wrote t w → t.back - t.front ≡ places - y → n.back - n.front ≡ places - (y + 1)

@@ -26,9 +26,17 @@ turned_least Less h = absurd cc
 turned_least Equal h = refl
 turned_least Greater h = refl
 
+turned_more : (r : Ordering) → is_le r ≡ false → is_lt (ordering_reverse r) ≡ true
+turned_more Less h = absurd cc
+turned_more Equal h = absurd cc
+turned_more Greater h = refl
+
 module _ {K : Type 0} {cmp : K → K → Ordering} (o : IsTotalOrder cmp) where
   pub le_from_not_lt : (x y : K) → is_lt (cmp x y) ≡ false → is_le (cmp y x) ≡ true
   le_from_not_lt x y h = ap is_le (o.antisymm y x) ∙ turned_at_most (cmp x y) h
+
+  pub lt_from_not_le : (x y : K) → is_le (cmp x y) ≡ false → is_lt (cmp y x) ≡ true
+  lt_from_not_le x y h = ap is_lt (o.antisymm y x) ∙ turned_more (cmp x y) h
 
   pub not_lt_from_le : (x y : K) → is_le (cmp x y) ≡ true → is_lt (cmp y x) ≡ false
   not_lt_from_le x y h = ap is_lt (o.antisymm y x) ∙ turned_not_less (cmp x y) h

@@ -195,7 +195,7 @@ module _ {K V : Type 0} (cmp : K → K → Ordering) (o : IsTotalOrder cmp) (s :
         let p = λ (x : K × Stretch K V). not (is_ge (cmp x.0 a) && is_lt (cmp x.0 b)) in
         omega (arith, ap length e, ap length f, front_length, length-filter p t, count_by-le-length p t)
 
-    module _ (b : K) (range : cmp a b ≡ Less) where
+    module _ (b : K) (upto : is_le (cmp a b) ≡ true) where
       pub cleared_is : outside cmp (Included a) (Excluded b) (ahead cmp s a ++ not_below cmp s a) ≡ ahead cmp s a ++ not_below cmp s b
       cleared_is =
           filter-append _ (ahead cmp s a) (not_below cmp s a)
@@ -206,7 +206,7 @@ module _ {K V : Type 0} (cmp : K → K → Ordering) (o : IsTotalOrder cmp) (s :
           (λ e. go e (cmp e.0 a) refl) s)
         where
           go : (e : K × Stretch K V) (r : Ordering) → cmp e.0 a ≡ r → (is_ge r && not (is_ge r && is_lt (cmp e.0 b))) ≡ is_ge (cmp e.0 b)
-          go e Less h = sym (ap is_ge (o.trans e.0 a b h range))
+          go e Less h = sym (ap is_ge (less_le o e.0 a b h upto))
           go e Equal h = not_less (cmp e.0 b)
           go e Greater h = not_less (cmp e.0 b)
 
@@ -214,14 +214,14 @@ module _ {K V : Type 0} (cmp : K → K → Ordering) (o : IsTotalOrder cmp) (s :
       pub put_rest : (y : K × Stretch K V) (r : Stretch K V) → last_item (below cmp s b) ≡ Some y → cmp b y.1.end ≡ Less
           → put cmp (ahead cmp s a ++ not_below cmp s b) b r ≡ ahead cmp s a ++ (b, r) ∷ not_below cmp s b
       put_rest y r last on = put_between cmp (ahead cmp s a) (not_below cmp s b) b r
-          (all_map _ _ (λ e l. o.trans e.0 a b l range) (ahead cmp s a) front_less) (behind_greater b y last on)
+          (all_map _ _ (λ e l. less_le o e.0 a b l upto) (ahead cmp s a) front_less) (behind_greater b y last on)
 
       module _ (same : V → V → Type 0) (rest : Option (Stretch K V)) (is_rest : IsRest cmp same s b rest) where
         abbrev back : List (K × Stretch K V)
         back = starting b rest ++ not_below cmp s b
 
         from_start : StartFrom cmp a back
-        from_start = all_map _ _ (λ e h. le_le o a b e.0 (ap is_le range) h) back (rest_from same b rest)
+        from_start = all_map _ _ (λ e h. le_le o a b e.0 upto h) back (rest_from same b rest)
 
         pub cut_apart : AreApart cmp (ahead cmp s a ++ back)
         cut_apart = apart_joined cmp o a (ahead cmp s a) back front front_ends (rest_apart same b rest is_rest) from_start
@@ -232,25 +232,25 @@ module _ {K V : Type 0} (cmp : K → K → Ordering) (o : IsTotalOrder cmp) (s :
               (found_behind _ (ahead cmp s a) back (past cmp o a p (ahead cmp s a) front_ends (and_left (is_le (cmp a p)) _ h))
               ∙ yet_to_come cmp o b p back (rest_from same b rest) (is_less _ (and_right (is_le (cmp a p)) _ h)));
           ahead = λ p l. ap (option_map (λ (x : K × Stretch K V). x.1.value))
-              (found_ahead _ (ahead cmp s a) back (yet_to_come cmp o b p back (rest_from same b rest) (o.trans p a b l range))) ∙ value_ahead p l;
+              (found_ahead _ (ahead cmp s a) back (yet_to_come cmp o b p back (rest_from same b rest) (less_le o p a b l upto))) ∙ value_ahead p l;
           behind = λ p l. subst (λ v. IsKept same (value_at_point cmp s p) v) (sym (ap (option_map (λ (x : K × Stretch K V). x.1.value))
-              (found_behind _ (ahead cmp s a) back (past cmp o a p (ahead cmp s a) front_ends (ap is_le (less_le o a b p range l))))))
+              (found_behind _ (ahead cmp s a) back (past cmp o a p (ahead cmp s a) front_ends (le_le o a b p upto l)))))
               (rest_value same b rest is_rest p l);
         }
 
-        module _ (v : V) where
+        module _ (range : cmp a b ≡ Less) (v : V) where
           abbrev given : K × Stretch K V
           given = (a, record { end = b; value = v })
 
-          pub put_given : put cmp (ahead cmp s a ++ back) a given.1 ≡ ahead cmp s a ++ given ∷ back
+          put_given : put cmp (ahead cmp s a ++ back) a given.1 ≡ ahead cmp s a ++ given ∷ back
           put_given = put_between cmp (ahead cmp s a) back a given.1 front_less
               (all_map _ _ (λ e h. over_one cmp o a e.0 (less_le o a b e.0 range h)) back (rest_from same b rest))
 
-          pub put_apart : AreApart cmp (ahead cmp s a ++ given ∷ back)
+          put_apart : AreApart cmp (ahead cmp s a ++ given ∷ back)
           put_apart = apart_joined cmp o a (ahead cmp s a) (given ∷ back) front front_ends (range, rest_from same b rest, rest_apart same b rest is_rest)
               (ap is_le (tied_itself o a), from_start)
 
-          pub put_written : IsWritten cmp same a b (Some v) s (ahead cmp s a ++ given ∷ back)
+          put_written : IsWritten cmp same a b (Some v) s (ahead cmp s a ++ given ∷ back)
           put_written = record {
             inside = λ p h. ap (option_map (λ (x : K × Stretch K V). x.1.value))
                 (found_behind _ (ahead cmp s a) (given ∷ back) (past cmp o a p (ahead cmp s a) front_ends (and_left (is_le (cmp a p)) _ h))
@@ -264,6 +264,12 @@ module _ {K V : Type 0} (cmp : K → K → Ordering) (o : IsTotalOrder cmp) (s :
                 ∙ ap (λ t. cond t (Some given) (stretch_at cmp back p)) (and_false (is_le (cmp a p))))))
                 (rest_value same b rest is_rest p l);
           }
+
+          pub put_all : (t u : List (K × Stretch K V)) → t ≡ ahead cmp s a ++ back → u ≡ put cmp t a given.1
+              → AreApart cmp u × IsWritten cmp same a b (Some v) s u
+          put_all t u e f =
+              let is : u ≡ ahead cmp s a ++ given ∷ back = f ∙ ap (λ l. put cmp l a given.1) e ∙ put_given in
+              (subst (AreApart cmp) (sym is) put_apart, subst (IsWritten cmp same a b (Some v) s) (sym is) put_written)
 
 -- what an empty range leaves as it is
 pub empty_written : {K V : Type 0} (cmp : K → K → Ordering) (o : IsTotalOrder cmp) (same : V → V → Type 0) (a b : K) (v : Option V)

@@ -2,6 +2,7 @@
 use Rattle.std.specs.Prelude.{◌≡◌, ℕ, true, false, cond, List, [], ◌∷◌, ◌++◌, Option, None, Some, map}
 use Rattle.std.specs.Ordering.{is_lt}
 use Rattle.std.specs.declared.cmp.Ordering.{Ordering}
+use Rattle.std.specs.declared.ops.Range.{Range}
 use Rattle.fc_base.specs.Halves.{not_below}
 use Rattle.fc_base.specs.Parts.{below}
 use Rattle.fc_laws.specs.Words.{last_item}
@@ -34,6 +35,21 @@ module _ {K V : Type 0} (cmp : K → K → Ordering) where
 abbrev pub starting : {K V : Type 0} → K → Option (Stretch K V) → List (K × Stretch K V)
 starting b None = []
 starting b (Some r) = (b, r) ∷ []
+
+-- The list after a range was cut out: what starts ahead of it, what goes on behind it, as a copy, and what starts behind it.
+pub record IsCut {K V : Type 0} (cmp : K → K → Ordering) (same : V → V → Type 0) (from to : K) (old new : List (K × Stretch K V)) : Type 0 where
+  pub rest : Option (Stretch K V)
+  pub is_rest : IsRest cmp same old to rest
+  pub is : new ≡ ahead cmp old from ++ (starting to rest ++ not_below cmp old to)
+
+-- The range in front of others, if it is not empty.
+abbrev pub with_range : {K : Type 0} → (K → K → Ordering) → K → K → List (Range K) → List (Range K)
+with_range cmp from to more = cond (is_lt (cmp from to)) ((record { start = from; end = to }) ∷ more) more
+
+-- The ranges from a point up to another that stretches between them do not cover.
+abbrev pub uncovered : {K V : Type 0} → (K → K → Ordering) → K → K → List (K × Stretch K V) → List (Range K)
+uncovered cmp from to [] = with_range cmp from to []
+uncovered cmp from to (e ∷ s) = with_range cmp from e.0 (uncovered cmp e.1.end to s)
 
 -- How many stretches that makes.
 abbrev pub rest_count : {K V : Type 0} → Option (Stretch K V) → ℕ

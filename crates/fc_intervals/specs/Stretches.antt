@@ -1,7 +1,7 @@
 -- Stretches of points in ascending order: each has its start, its end, which does not lie in it, and a value.
-use Rattle.std.specs.Prelude.{◌≡◌, ◌⊎◌, ℕ, ◌+◌, ◌≤◌, Bool, true, ◌&&◌, List, [], ◌∷◌, Option, find}
-use Rattle.std.specs.List.{AllByRecursion}
-use Rattle.std.specs.Option.{option_map}
+use Rattle.std.specs.Prelude.{◌≡◌, ◌⊎◌, ℕ, ◌+◌, ◌≤◌, Bool, true, ◌&&◌, List, [], ◌∷◌, Option, filter, find}
+use Rattle.std.specs.List.{AllByRecursion, list_any}
+use Rattle.std.specs.Option.{is_none, option_map}
 use Rattle.std.specs.Ordering.{is_lt, is_le}
 use Rattle.std.specs.Borrow.{Bor}
 use Rattle.std.specs.declared.cmp.Ordering.{Ordering}
@@ -17,6 +17,11 @@ module _ {K : Type 0} (cmp : K → K → Ordering) where
   abbrev pub lies : K → K → K → Bool
   lies from to p = is_le (cmp from p) && is_lt (cmp p to)
 
+  -- None of the ranges is empty, and each ends before the next one starts, with at least one point between them.
+  abbrev pub AreSeparate : List (Range K) → Type 0
+  AreSeparate [] = Unit {0}
+  AreSeparate (r ∷ more) = (cmp r.start r.end ≡ Less) × AllByRecursion (λ later. cmp r.end later.start ≡ Less) more × AreSeparate more
+
 module _ {K V : Type 0} (cmp : K → K → Ordering) where
   -- The stretch that covers the point, if one does.
   abbrev pub stretch_at : List (K × Stretch K V) → K → Option (K × Stretch K V)
@@ -25,6 +30,19 @@ module _ {K V : Type 0} (cmp : K → K → Ordering) where
   -- The value at the point: that of the stretch that covers it.
   abbrev pub value_at_point : List (K × Stretch K V) → K → Option V
   value_at_point s p = option_map (λ e. e.1.value) (stretch_at s p)
+
+  -- Whether the stretch has a point in common with the range from a start up to, and without, an end.
+  abbrev pub meets : K → K → K × Stretch K V → Bool
+  meets from to e = is_lt (cmp from to) && (is_lt (cmp from e.1.end) && is_lt (cmp e.0 to))
+
+  -- The stretches that have a point in common with the range, in order.
+  abbrev pub overlapping : List (K × Stretch K V) → K → K → List (K × Stretch K V)
+  overlapping s from to = filter (meets from to) s
+
+  -- The ranges hold just those points of a range that no stretch covers. Since they are separate, each is as long as can be.
+  pub record AreGaps (s : List (K × Stretch K V)) (from to : K) (gaps : List (Range K)) : Type 0 where
+    pub separate : AreSeparate cmp gaps
+    pub points : (p : K) → list_any (λ g. lies cmp g.start g.end p) gaps ≡ (lies cmp from to p && is_none (stretch_at s p))
 
   -- No stretch is empty, and each ends before those that follow start, or where one does.
   abbrev pub AreApart : List (K × Stretch K V) → Type 0

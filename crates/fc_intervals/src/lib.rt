@@ -1,10 +1,13 @@
 //! A map from points to values, by half-open stretches that do not overlap.
 #![tactic(auto)]
 
+mod debug;
+pub mod gaps;
 pub mod map;
 mod steps;
 pub mod stretch;
 
 pub use fc_base::{TryClone, TryReserveError};
+pub use gaps::Gaps;
 pub use map::IntervalMap;
 pub use stretch::Stretch;

@@ -1,14 +1,16 @@
 //! The map: stretches of points, by their starts.
-ghost use Rattle.std.specs.Prelude.{◌≡◌, ◌↔◌, ◌-◌, [], length, slice_get, false, IsTrue, IsOk, IfErr, OnOk, OnErr, None, Some};
-ghost use Rattle.std.specs.Ordering.{is_lt};
+ghost use Rattle.std.specs.Prelude.{◌≡◌, ◌↔◌, ◌-◌, [], length, slice_get, true, false, IsTrue, IsOk, IfErr, OnOk, OnErr, None, Some};
+ghost use Rattle.std.specs.Ordering.{is_lt, is_le};
 ghost use Rattle.std.specs.declared.cmp.Ordering.TheVariants.{Less};
 ghost use Rattle.fc_map.specs.Entries.{now_value};
-ghost use Rattle.fc_intervals.specs.Stretches.{AreApart, IsLookUp, IsWritten, now_stretch, stretch_at, value_at_point};
+ghost use Rattle.fc_intervals.specs.Steps.{IsCut};
+ghost use Rattle.fc_intervals.specs.Stretches.{AreApart, AreGaps, IsKept, IsLookUp, IsWritten, now_stretch, overlapping, stretch_at, value_at_point};
 
+use crate::gaps::Gaps;
 use crate::steps;
 use crate::stretch::Stretch;
 use fc_base::{Count, Handle, TryClone, TryReserveError};
-use fc_map::map::{BTreeMap, Iter};
+use fc_map::map::{self, BTreeMap, Iter};
 use std::alloc::Global;
 use std::marker::Model;
 use std::ops::Range;
@@ -122,6 +124,29 @@ impl<K: Ord + Copy, V, A: Handle> IntervalMap<K, V, A> {
     }
 }
 
+impl<K: Ord + Copy + Drop, V, A: Handle> IntervalMap<K, V, A> {
+    /// A walk over the stretches that have a point in common with a range, from both ends, in ascending order: each as its start, with
+    /// its end and its value, whole where it goes on across an end of the range. An empty range has no points, so none.
+    pub fn overlapping(&self, range: Range<K>) -> map::Range<'_, K, Stretch<K, V>, A>
+        ensures stretches { result ≡ overlapping K.cmp self.now range.start range.end }
+        ensures apart { AreApart K.cmp self.now }
+    {
+        let from = steps::start_within(&self.map, range.start, range.end, &mut Count::new());
+        self.map.range(from..range.end)
+    }
+
+    /// A walk over the parts of a range that no stretch covers, in ascending order, each as long as can be. It takes no memory.
+    pub fn gaps(&self, range: Range<K>) -> Gaps<'_, K, V, A>
+        ensures gaps { AreGaps K.cmp self.now range.start range.end result }
+    {
+        Gaps {
+            stretches: self.overlapping(range.start..range.end),
+            from: range.start,
+            end: range.end,
+        }
+    }
+}
+
 impl<K: Ord + Copy + Drop, V: TryClone, A: Handle> IntervalMap<K, V, A> {
     /// Gives all points of a range, from its start up to, and without, its end, a value. Stretches that lie within the range are
     /// dropped, those across its ends are cut, and one across both is split. What goes on behind the range has a copy of its value.
@@ -153,10 +178,10 @@ impl<K: Ord + Copy + Drop, V: TryClone, A: Handle> IntervalMap<K, V, A> {
         ensures back { IfErr result (λ e. e.0 ≡ value) }
     {
         match steps::prepare(&self.map, end, 1) {
-            Ok((rest, mut room)) => {
+            Ok((rest, mut reservation)) => {
                 let stretch = Stretch { end, value };
-                steps::clear(&mut self.map, &mut room, start, end, rest);
-                self.map.insert_with(&mut room, start, stretch);
+                steps::clear(&mut self.map, &mut reservation, start, end, rest);
+                self.map.insert_reserved(&mut reservation, start, stretch);
                 Ok(())
             }
             Err(error) => Err((value, error)),
@@ -183,15 +208,31 @@ impl<K: Ord + Copy + Drop, V: TryClone, A: Handle> IntervalMap<K, V, A> {
         }
     }
 
-    // `cut` of a range that is not empty.
+    /// Cuts the stretch that covers a point in two there, of which the second has a copy of its value: so no stretch goes on across the
+    /// point, and the values of all points stay. Where none goes on across it, nothing changes, and no memory is taken.
+    ///
+    /// # Errors
+    /// Where memory was refused: for the copy, by its own error; else for the nodes that the second stretch may need. All of it is taken
+    /// before the first change, so the map is as it was.
+    pub fn split_at(&mut self, at: K) -> Result<(), TryReserveError>
+        requires { V.can_clone }
+        ensures split { OnOk result (IsCut K.cmp V.same at at self.old self.new) }
+        ensures values { OnOk result ((p : K) → IsKept V.same (value_at_point K.cmp self.old p) (value_at_point K.cmp self.new p)) }
+        ensures unchanged { OnErr result (self.new ≡ self.old) }
+    {
+        self.cut_over(at, at)
+    }
+
+    // `cut` of a range that is not the wrong way round. An empty one is a point, at which stretches are cut.
     fn cut_over(&mut self, start: K, end: K) -> Result<(), TryReserveError>
         requires can { V.can_clone }
-        requires range { K.cmp start end ≡ Less }
+        requires range { is_le (K.cmp start end) ≡ true }
+        ensures cut { OnOk result (IsCut K.cmp V.same start end self.old self.new) }
         ensures written { OnOk result (IsWritten K.cmp V.same start end None self.old self.new) }
         ensures unchanged { OnErr result (self.new ≡ self.old) }
     {
-        let (rest, mut room) = steps::prepare(&self.map, end, 0)?;
-        steps::clear(&mut self.map, &mut room, start, end, rest);
+        let (rest, mut reservation) = steps::prepare(&self.map, end, 0)?;
+        steps::clear(&mut self.map, &mut reservation, start, end, rest);
         Ok(())
     }
 }

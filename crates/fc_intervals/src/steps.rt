@@ -1,14 +1,16 @@
 //! The steps of the calls, on the map that holds stretches by their starts.
-ghost use Rattle.std.specs.Prelude.{◌≡◌, ◌+◌, ◌≤◌, ◌++◌, length, IfOk};
-ghost use Rattle.std.specs.declared.cmp.Ordering.TheVariants.{Less};
+ghost use Rattle.std.specs.Prelude.{◌≡◌, ◌+◌, ◌≤◌, ◌++◌, true, length, IfOk};
+ghost use Rattle.std.specs.Ordering.{is_le};
+ghost use Rattle.std.specs.declared.ops.Bound.TheVariants.{Included, Excluded};
 ghost use Rattle.fc_base.specs.Halves.{not_below};
+ghost use Rattle.fc_base.specs.Ranges.{within};
 ghost use Rattle.fc_map.specs.Entries.{entries, now_pair};
-ghost use Rattle.fc_intervals.specs.Stretches.{AreApart, IsLookUp, stretch_at};
+ghost use Rattle.fc_intervals.specs.Stretches.{AreApart, IsLookUp, overlapping, stretch_at};
 ghost use Rattle.fc_intervals.specs.Steps.{ahead, IsRest, rest_count, starting};
 
 use crate::stretch::Stretch;
 use fc_base::{Count, Handle, TryClone, TryReserveError, compare};
-use fc_map::map::{BTreeMap, Room};
+use fc_map::map::{BTreeMap, Reservation};
 
 /// The stretch that covers a point, if one does.
 pub(crate) fn covering<'a, K: Ord, V, A: Handle>(
@@ -25,6 +27,25 @@ pub(crate) fn covering<'a, K: Ord, V, A: Handle>(
         Some((start, stretch))
     } else {
         None
+    }
+}
+
+/// Where the walk over the stretches that have a point in common with a range starts: at the stretch that covers its start, or there.
+pub(crate) fn start_within<K: Ord + Copy, V, A: Handle>(
+    map: &BTreeMap<K, Stretch<K, V>, A>,
+    from: K,
+    to: K,
+    count: &mut Count,
+) -> K
+    requires { AreApart K.cmp (entries map.now) }
+    ensures { within K.cmp (Included result) (Excluded to) (entries map.now) ≡ overlapping K.cmp (entries map.now) from to }
+{
+    if !compare(&from, &to, count).is_lt() {
+        return from;
+    }
+    match covering(map, &from, count) {
+        Some((start, _stretch)) => *start,
+        None => from,
     }
 }
 
@@ -65,7 +86,7 @@ pub(crate) fn prepare<K: Ord + Copy + Drop, V: TryClone, A: Handle>(
     map: &BTreeMap<K, Stretch<K, V>, A>,
     at: K,
     more: usize,
-) -> Result<(Option<Stretch<K, V>>, Room<K, Stretch<K, V>, A>), TryReserveError>
+) -> Result<(Option<Stretch<K, V>>, Reservation<K, Stretch<K, V>, A>), TryReserveError>
     requires can { V.can_clone }
     requires few { more ≤ 1 }
     ensures rest { IfOk result (λ ready. IsRest K.cmp V.same (entries map.now) at ready.0) }
@@ -73,8 +94,8 @@ pub(crate) fn prepare<K: Ord + Copy + Drop, V: TryClone, A: Handle>(
     ensures pairs { IfOk result (λ ready. ready.1.pairs ≡ length (entries map.now) + (rest_count ready.0 + more)) }
 {
     let rest = rest_behind(map, at)?;
-    let room = map.try_room_for(count_of(&rest) + more)?;
-    Ok((rest, room))
+    let reservation = map.try_reserve_nodes(count_of(&rest) + more)?;
+    Ok((rest, reservation))
 }
 
 /// Has the last stretch that starts before a point end there, where it goes on behind it.
@@ -93,25 +114,25 @@ pub(crate) fn end_at<K: Ord + Copy, V, A: Handle>(map: &mut BTreeMap<K, Stretch<
 /// there is one, starts there. The rest takes a place of the room.
 pub(crate) fn clear<K: Ord + Copy + Drop, V: TryClone, A: Handle>(
     map: &mut BTreeMap<K, Stretch<K, V>, A>,
-    room: &mut Room<K, Stretch<K, V>, A>,
+    reservation: &mut Reservation<K, Stretch<K, V>, A>,
     from: K,
     to: K,
     rest: Option<Stretch<K, V>>,
 )
     requires apart { AreApart K.cmp (entries map.old) }
-    requires range { K.cmp from to ≡ Less }
+    requires range { is_le (K.cmp from to) ≡ true }
     requires rest { IsRest K.cmp V.same (entries map.old) to rest }
-    requires place { rest_count rest ≤ room.old.places }
-    requires fits { length (entries map.old) + rest_count rest ≤ room.old.pairs }
+    requires place { rest_count rest ≤ reservation.old.places }
+    requires fits { length (entries map.old) + rest_count rest ≤ reservation.old.pairs }
     ensures cleared { entries map.new ≡ ahead K.cmp (entries map.old) from ++ (starting to rest ++ not_below K.cmp (entries map.old) to) }
-    ensures places { room.old.places ≤ room.new.places + rest_count rest }
-    ensures pairs { room.new.pairs ≡ room.old.pairs }
-    ensures fits { length (entries map.new) + room.new.places ≤ length (entries map.old) + room.old.places }
+    ensures places { reservation.old.places ≤ reservation.new.places + rest_count rest }
+    ensures pairs { reservation.new.pairs ≡ reservation.old.pairs }
+    ensures fits { length (entries map.new) + reservation.new.places ≤ length (entries map.old) + reservation.old.places }
 {
     end_at(map, from);
     map.remove_range(from..to);
     let Some(rest) = rest else {
         return;
     };
-    map.insert_with(room, to, rest);
+    map.insert_reserved(reservation, to, rest);
 }

@@ -22,7 +22,7 @@ use Rattle.fc_base.proofs.JoinedLaws.{ascending_joined}
 use Rattle.fc_laws.proofs.NeighbourLaws.{below_cut, above_cut}
 
 module _ {K Q V : Type 0} (cmp : K → K → Ordering) (order : K → Q → Ordering) (total : IsTotalOrder cmp) (fits : IsQueryOrder cmp order) (q : Q) where
-  -- nothing stands behind a pair at a query that is not above it
+  -- nothing stands after a pair at a query that is not above it
   none_behind : (e : K × V) (s : List (K × V)) → is_lt (order e.0 q) ≡ false → AllByRecursion (λ x. cmp e.0 x.0 ≡ Less) s → at order s q ≡ None
   none_behind e [] h a = refl
   none_behind e (x ∷ s) h a = rw (over (order e.0 q) refl h) (none_behind e s h a.1)

@@ -23,6 +23,7 @@ use Rattle.fc_base.proofs.AscendingFacts.{all_map, all_below, all_above, at_key,
 use Rattle.fc_base.proofs.Laws.{alike_query}
 use Rattle.fc_laws.proofs.ListFacts.{of_found, each_there}
 use Rattle.fc_tree_search.specs.Neighbours.{first_item, last_item, not_above}
+use Rattle.fc_tree_search.proofs.NeighbourFacts.{last_is}
 
 -- a test that another one is joined to which always passes
 and_true : (b : Bool) → (b && true) ≡ b
@@ -30,14 +31,14 @@ and_true true = refl
 and_true false = refl
 
 module _ {K V : Type 0} (cmp : K → K → Ordering) (s : List (K × V)) (k : K) where
-  -- The pairs from a key on, and those behind it, lie within a range that is open at its end.
+  -- The pairs from a key on, and those after it, lie within a range that is open at its end.
   pub within_from : within cmp (Included k) Unbounded s ≡ not_below cmp s k
   within_from = ap (λ (p : K × V → Bool). filter p s) (λ i e. and_true (is_ge (cmp e.0 k)) i)
 
   pub within_after : within cmp (Excluded k) Unbounded s ≡ above cmp s k
   within_after = ap (λ (p : K × V → Bool). filter p s) (λ i e. and_true (is_gt (cmp e.0 k)) i)
 
-  -- The pairs up to a key, and those ahead of it, lie within a range that is open at its start.
+  -- The pairs up to a key, and those before it, lie within a range that is open at its start.
   pub within_to : within cmp Unbounded (Included k) s ≡ not_above cmp s k
   within_to = refl
 
@@ -82,12 +83,6 @@ module _ {X : Type 0} where
   no_last [] e = refl
   no_last (y ∷ []) e = absurd cc
   no_last (y ∷ z ∷ s) e = absurd (let n : z ∷ s ≡ [] = no_last (z ∷ s) (sym (last_more y z s) ∙ e) in cc)
-
-  -- the last of a list that ends with an item
-  last_is : (s : List X) (x : X) → last_item (s ++ x ∷ []) ≡ Some x
-  last_is [] x = refl
-  last_is (y ∷ []) x = last_more y x []
-  last_is (y ∷ z ∷ s) x = last_more y z (s ++ x ∷ []) ∙ last_is (z ∷ s) x
 
   module _ (p : X → Bool) where
     -- what a test keeps passes it, and what holds of all holds of that
@@ -204,7 +199,7 @@ module _ {K Q V : Type 0} (cmp : K → Q → Ordering) (t : Ordering → Bool) (
       ) refl
 
 module _ {K Q V : Type 0} (cmp : K → Q → Ordering) (s : List (K × V)) (k : Q) where
-  -- A cut at a key leaves what is below it and what is above it; so the pairs from the key on are those behind it, and those up to it are those ahead of it.
+  -- A cut at a key leaves what is below it and what is above it; so the pairs from the key on are those after it, and those up to it are those before it.
   pub below_cut : below cmp (cut cmp s k) k ≡ below cmp s k
   below_cut = around cmp is_lt k s [] ∙ append-nil (below cmp s k)
 

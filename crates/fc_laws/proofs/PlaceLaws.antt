@@ -1,7 +1,7 @@
 -- The laws of what stands at a key: where a value stands, a pair does, which is one of the list; what stood at a key before one was put or cut; and how many
 -- pairs there are then.
 -- A caller names one on a function, as `#[tactic(auto, using(fc_laws::proofs::Laws::value_at_cut))]`, or cites it in an answer.
-use Rattle.std.proofs.Common.{◌≡◌, ◌+◌, ◌≤◌, ◌⊎◌, inl, inr, true, cond, List, [], ◌∷◌, ◌++◌, length, Option, Some, None, IsSome, refl, sym, ap, ◌∙◌}
+use Rattle.std.proofs.Common.{◌≡◌, ◌+◌, ◌≤◌, ◌⊎◌, inl, inr, cond, List, [], ◌∷◌, ◌++◌, length, Option, Some, None, IsSome, refl, sym, ap, ◌∙◌}
 use Rattle.std.proofs.Common.{subst, arith, length-append}
 use Rattle.std.specs.Prelude.{unwrap_or}
 use Rattle.std.specs.List.{Contains, filter}
@@ -16,12 +16,8 @@ use Rattle.fc_base.specs.OneKey.{put, put_by, cut}
 use Rattle.fc_base.specs.Parts.{below, above, at, value_at}
 use Rattle.fc_base.specs.Query.{IsQueryOrder}
 use Rattle.fc_base.proofs.Laws.{at_query, at_cut, put_by_query, value_at_put_equal, value_at_put_other, value_at_cut_other, value_at_equal, length_put_there}
+use Rattle.fc_base.proofs.AscendingFacts.{is_equal}
 use Rattle.fc_laws.proofs.ListFacts.{of_found, found_passes, each_there}
-
-is_equal : (r : Ordering) → is_eq r ≡ true → r ≡ Equal
-is_equal Less h = absurd cc
-is_equal Equal h = refl
-is_equal Greater h = absurd cc
 
 module _ {K Q V : Type 0} (order : K → Q → Ordering) (s : List (K × V)) (q : Q) where
   -- The key of the pair that stands at a query is equal to it.

@@ -5,11 +5,11 @@ use Rattle.std.specs.List.{AllByRecursion}
 use Rattle.std.specs.Ordering.{is_le, is_gt}
 use Rattle.std.specs.declared.cmp.Ordering.{Ordering}
 use Rattle.std.specs.declared.cmp.Ordering.TheVariants.{Less, Equal, Greater}
+use Rattle.std.proofs.lemmas.List.{nil_from_length}
 use Rattle.fc_base.specs.Ascending.{IsAscending}
 use Rattle.fc_base.specs.Parts.{above}
 use Rattle.fc_base.specs.Query.{IsQueryOrder}
-use Rattle.fc_base.proofs.AscendingFacts.{all_map}
-use Rattle.fc_base.proofs.JoinedLaws.{kept, left_out}
+use Rattle.fc_base.proofs.AscendingFacts.{all_map, kept, left_out}
 use Rattle.fc_tree_node.specs.Place.{before_pair, after_pair}
 use Rattle.fc_tree_node.specs.TreePlace.{IsPlaceIn, pair_in, before_pair_in, after_pair_in}
 use Rattle.fc_tree_node.proofs.Gaps.{place_pairs}
@@ -36,17 +36,10 @@ module _ {K Q V : Type 0} (cmp : K → K → Ordering) (order : K → Q → Orde
 
 -- Of two parts of a list, one is all or none of it.
 module _ {X : Type 0} where
-  no_items : (s : List X) → length s ≡ 0 → s ≡ []
-  no_items [] e = refl
-  no_items (x ∷ s) e = absurd (omega arith)
-
   pub none_behind : (ahead behind s : List X) → ahead ++ behind ≡ s → length ahead ≡ length s → behind ≡ []
   none_behind ahead behind s parts e =
       let all = sym (ap length parts) ∙ length-append ahead behind in
-      no_items behind (omega (arith, all, e))
-
-  pub none_ahead : (ahead : List X) → length ahead ≡ 0 → ahead ≡ []
-  none_ahead ahead e = no_items ahead e
+      nil_from_length behind (omega (arith, all, e))
 
 -- A pair at the seam of two parts of a map's list.
 module _ {K V Z : Type 0} (m : Map K V Z) (path : List ℕ) (ahead behind : List (K × V)) where

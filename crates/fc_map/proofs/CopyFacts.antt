@@ -1,11 +1,10 @@
 -- A copy of a map ascends as the map does, and its tree is as sound.
-use Rattle.std.proofs.Common.{◌≡◌, ◌^◌, ◌<◌, ◌≤◌, true, List, [], ◌∷◌, length, Some, refl, sym, ◌∙◌, arith, lit<}
+use Rattle.std.proofs.Common.{◌≡◌, ◌^◌, ◌<◌, ◌≤◌, List, [], ◌∷◌, length, Some, sym, ◌∙◌, arith, lit<}
 use Rattle.std.proofs.Math.Nat.{pow-le-pow_right}
 use Rattle.std.specs.List.{AllZip, AllByRecursion}
 use Rattle.std.specs.Cmp.{IsTotalOrder}
-use Rattle.std.specs.Ordering.{is_eq}
 use Rattle.std.specs.declared.cmp.Ordering.{Ordering}
-use Rattle.std.specs.declared.cmp.Ordering.TheVariants.{Less, Equal, Greater}
+use Rattle.std.specs.declared.cmp.Ordering.TheVariants.{Less, Equal}
 use Rattle.std.proofs.lemmas.List.Elements.{length_all_zip}
 use Rattle.fc_base.specs.Ascending.{IsAscending}
 use Rattle.fc_base.specs.Sizes.{least_children}
@@ -16,12 +15,6 @@ use Rattle.fc_tree_node.specs.Node.{own_pairs, pairs_of}
 use Rattle.fc_tree_node.proofs.DepthFacts.{deep_root}
 use Rattle.fc_tree_copy.specs.Copy.{AreSame, IsCopy}
 use Rattle.fc_map.specs.Entries.{IsSoundMap}
-
--- the one answer that is equal
-pub equal_answer : (r : Ordering) → is_eq r ≡ true → r ≡ Equal
-equal_answer Less h = absurd cc
-equal_answer Equal h = refl
-equal_answer Greater h = absurd cc
 
 module _ {K V : Type 0} (cmp : K → K → Ordering) (total : IsTotalOrder cmp) (same_key : K → K → Type 0) (same_value : V → V → Type 0)
     (equal : (a b : K) → same_key a b → cmp a b ≡ Equal) where

@@ -74,7 +74,7 @@ module _ {K V : Type 0} where
     steps_fit m path gone last sound gap e = let l = on_length path gone in
         subst (λ k. k ≤ capacity) (on_last path last gone e) (gap_small m (gone_on path gone) last sound gap (omega arith))
 
-    -- a gap of a leaf, and one ahead of it
+    -- a gap of a leaf, and one before it
     path_less : (gap : List ℕ) (n : Node K V Z) (k j : ℕ) → IsPath (gone_on gap k) n → j ≤ k → IsPath (gone_on gap j) n
     path_less [] n k j p le = p
     path_less (i ∷ []) n k j p le = (let f = p.0 in omega (arith, f, le), tt)

@@ -2,6 +2,7 @@
 use Rattle.std.proofs.Common.{◌≡◌, ℕ, zero, suc, ◌+◌, ◌<◌, ◌≤◌, ◌⊎◌, inl, inr, List, [], ◌∷◌, ◌++◌, length, Some, None, refl, sym, ap, subst, ◌∙◌, arith}
 use Rattle.std.proofs.Common.{append-nil, length-append}
 use Rattle.std.proofs.lemmas.Bool.{cases_lt}
+use Rattle.std.proofs.lemmas.List.{nil_from_length}
 use Rattle.fc_tree_node.specs.declared.node.Node.{Node}
 use Rattle.fc_tree_node.specs.Node.{own_pairs, children_of, child_at, IsLevelled}
 use Rattle.fc_tree_node.specs.Path.{IsPath, before_gap}
@@ -15,12 +16,8 @@ use Rattle.fc_tree_walk.proofs.GapFacts.{leaf_before_own}
 use Rattle.fc_map.specs.Entries.{Map, entries, IsSoundMap}
 use Rattle.fc_map.specs.Lends.{written_in}
 
-none_there : {X : Type 0} (s : List X) → length s ≡ 0 → s ≡ []
-none_there [] e = refl
-none_there (x ∷ s) e = absurd (omega arith)
-
 module _ {K V Z : Type 0} where
-  -- the gap of a leaf that no pair is before is the place of the pair behind it
+  -- the gap of a leaf that no pair is before is the place of the pair after it
   first_place : (path : List ℕ) (h : ℕ) (n : Node K V Z) → 1 ≤ length (own_pairs n) → IsLevelled h n → length path ≡ h + 1 → IsPath path n
       → length (before_gap path n) ≡ 0 → IsPlace path n × (length (before_pair path n) ≡ 0)
   first_place [] h n some l e p z = absurd (omega arith)
@@ -51,7 +48,7 @@ module _ {K V Z : Type 0} where
   first_at (Some root) gap sound g z some = let h = sound.0 in first_place gap h root sound.2.0 sound.2.1 (g.1 h sound.2.1) g.0 z
 
   module _ (m : Map K V Z) (path : List ℕ) where
-    -- what a pair that no other is before is to a map's list, and what one is that no other is behind
+    -- what a pair that no other is before is to a map's list, and what one is that no other is after
     abbrev IsFirst : Type 0
     IsFirst = (p : K × V) × (pair_in m path ≡ Some p) × (entries m ≡ p ∷ (before_pair_in m path ++ after_pair_in m path))
         × ((v : V) → entries (written_in m path v) ≡ (p.0, v) ∷ (before_pair_in m path ++ after_pair_in m path))
@@ -64,7 +61,7 @@ module _ {K V Z : Type 0} where
   first_is None path sound place z = absurd place
   first_is (Some root) path sound place z =
       let c = place_pairs path sound.0 root sound.2.1 place in
-      let none = none_there (before_pair path root) z in
+      let none = nil_from_length (before_pair path root) z in
       (c.pair, c.is, c.parts ∙ rw none refl, λ v. written_pairs path sound.0 root c.pair v sound.2.1 place c.is ∙ rw none refl)
 
   pub last_is : (m : Map K V Z) (path : List ℕ) → IsSoundMap m → IsPlaceIn m path → length (before_pair_in m path) + 1 ≡ length (entries m) → IsLast m path
@@ -72,7 +69,7 @@ module _ {K V Z : Type 0} where
   last_is (Some root) path sound place z =
       let c = place_pairs path sound.0 root sound.2.1 place in
       let all = ap length c.parts ∙ length-append (before_pair path root) (c.pair ∷ after_pair path root) in
-      let none = none_there (after_pair path root) (omega (arith, all, z)) in
+      let none = nil_from_length (after_pair path root) (omega (arith, all, z)) in
       let left = sym (append-nil (before_pair path root)) in (
         c.pair,
         c.is,
@@ -81,7 +78,7 @@ module _ {K V Z : Type 0} where
             ∙ rw none (ap (λ s. s ++ (c.pair.0, v) ∷ []) left),
       )
 
-  -- The gap ahead of all pairs leads to the first of them, where there is one.
+  -- The gap before all pairs leads to the first of them, where there is one.
   pub first_found : (m n : Map K V Z) (gap : List ℕ) (len : ℕ) → m ≡ n → IsSoundMap m → IsGapIn m gap → length (before_gap_in m gap) ≡ 0
       → len ≡ length (entries m) → (len ≡ 0 → ⊥) → IsPlaceIn n gap × IsFirst n gap
   first_found m n gap len is sound g z all some = subst (λ n. IsPlaceIn n gap × IsFirst n gap) is (go (length (entries m)) refl)

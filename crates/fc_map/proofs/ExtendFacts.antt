@@ -11,8 +11,7 @@ use Rattle.std.specs.List.{AllByRecursion}
 use Rattle.std.specs.Ordering.{is_lt, is_eq, is_gt}
 use Rattle.std.specs.declared.cmp.Ordering.TheVariants.{Less}
 use Rattle.fc_base.specs.Ascending.{IsAscending}
-use Rattle.fc_base.proofs.AscendingFacts.{all_map}
-use Rattle.fc_base.proofs.JoinedLaws.{kept, left_out}
+use Rattle.fc_base.proofs.AscendingFacts.{all_map, kept, left_out}
 use Rattle.fc_base.proofs.Laws.{ascending_put}
 use Rattle.fc_tree_node.proofs.Lists.{all_back}
 use Rattle.std.specs.declared.cmp.Ordering.{Ordering}
@@ -25,7 +24,7 @@ use Rattle.fc_base.specs.OneKey.{put}
 use Rattle.fc_base.specs.Parts.{below, above, at}
 use Rattle.fc_tree_build.specs.Built.{Grown, IsBehindLast}
 use Rattle.fc_map.specs.Entries.{Map, entries}
-use Rattle.fc_map.specs.Extension.{IsExtension}
+use Rattle.fc_map.specs.BulkInsert.{IsBulkInsert}
 
 module _ {K V : Type 0} (cmp : K → K → Ordering) where
   more : (s items : List (K × V)) (e : K × V) → put cmp (extended cmp s items) e.0 e.1 ≡ extended cmp s (items ++ e ∷ [])
@@ -50,7 +49,7 @@ module _ {K V : Type 0} (cmp : K → K → Ordering) where
     error = error;
   }
 
-  -- ---- a key behind all others
+  -- ---- a key after all others
 
   none_at : (s : List (K × V)) (k : K) → AllByRecursion (λ e. cmp e.0 k ≡ Less) s → at cmp s k ≡ None
   none_at [] k a = refl
@@ -84,13 +83,13 @@ module _ {K V : Type 0} (cmp : K → K → Ordering) where
   -- ---- a tree that is open, and a map beside it
 
   -- Where the tree has a pair, it has all.
-  pub none_beside : (t m front : List (K × V)) (last : K × V) → IsExtension cmp t m → t ≡ front ++ last ∷ [] → m ≡ []
+  pub none_beside : (t m front : List (K × V)) (last : K × V) → IsBulkInsert cmp t m → t ≡ front ++ last ∷ [] → m ≡ []
   none_beside t m front last (a, inl none) e = absurd (let n = length-append front (last ∷ []) in let z = ap length (sym none ∙ e) in omega arith)
   none_beside t m front last (a, inr none) e = none
 
-  -- A pair whose key is greater than the last one is put behind all.
-  pub put_last : (t m new : List (K × V)) (k : K) (v : V) → IsTotalOrder cmp → IsExtension cmp t m → IsBehindLast cmp t k → new ≡ t ++ (k, v) ∷ []
-      → (new ++ m ≡ put cmp (t ++ m) k v) × IsExtension cmp new m
+  -- A pair whose key is greater than the last one is put after all.
+  pub put_last : (t m new : List (K × V)) (k : K) (v : V) → IsTotalOrder cmp → IsBulkInsert cmp t m → IsBehindLast cmp t k → new ≡ t ++ (k, v) ∷ []
+      → (new ++ m ≡ put cmp (t ++ m) k v) × IsBulkInsert cmp new m
   put_last t m new k v total x b e =
       let none = none_beside t m b.0 b.1 x b.2 in
       let all = behind t b.0 b.1 k total b.2 x.0 b.3 in (
@@ -99,11 +98,11 @@ module _ {K V : Type 0} (cmp : K → K → Ordering) where
       )
 
   -- All pairs stand in the map once it has one,
-  none_open : (t m : List (K × V)) (b : Bool) → IsExtension cmp t m → b ≡ false → IsTrue b ↔ (m ≡ []) → t ≡ []
+  none_open : (t m : List (K × V)) (b : Bool) → IsBulkInsert cmp t m → b ≡ false → IsTrue b ↔ (m ≡ []) → t ≡ []
   none_open t m b (a, inl none) unset is = none
   none_open t m b (a, inr none) unset is = absurd (iff_false is unset none)
 
-  pub all_in_map : (t m s : List (K × V)) (b : Bool) → IsExtension cmp t m → t ++ m ≡ s → b ≡ false → IsTrue b ↔ (m ≡ []) → (t ≡ []) × (m ≡ s)
+  pub all_in_map : (t m s : List (K × V)) (b : Bool) → IsBulkInsert cmp t m → t ++ m ≡ s → b ≡ false → IsTrue b ↔ (m ≡ []) → (t ≡ []) × (m ≡ s)
   all_in_map t m s b x e unset is = let none = none_open t m b x unset is in (none, sym (ap (λ z. z ++ m) none) ∙ e)
 
 -- and in the tree where the map has none.

@@ -19,7 +19,7 @@ pub mod EndPairFacts
 pub mod BesideFacts
 pub mod WalkSizes
 pub mod OwnedFacts
-pub mod ExtensionSizes
+pub mod BulkInsertSizes
 pub mod RangeParts
 pub mod RangedFacts
 pub mod PopIfFacts

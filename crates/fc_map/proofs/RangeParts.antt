@@ -10,8 +10,7 @@ use Rattle.std.specs.declared.ops.Bound.TheVariants.{Included, Excluded, Unbound
 use Rattle.fc_base.specs.Ascending.{IsAscending}
 use Rattle.fc_base.specs.Query.{IsQueryOrder}
 use Rattle.fc_base.specs.Ranges.{starts, stops, within}
-use Rattle.fc_base.proofs.AscendingFacts.{all_map}
-use Rattle.fc_base.proofs.JoinedLaws.{left_out}
+use Rattle.fc_base.proofs.AscendingFacts.{all_map, left_out}
 use Rattle.fc_map.specs.Ranged.{in_front, behind, outside}
 
 module _ {K V : Type 0} (cmp : K → K → Ordering) (p u : K × V → Bool) (up : (x y : K × V) → cmp x.0 y.0 ≡ Less → p x ≡ true → p y ≡ true)
@@ -103,13 +102,13 @@ module _ {K Q : Type 0} {cmp : K → K → Ordering} {order : K → Q → Orderi
       go Greater h e = ap is_lt (fits.upper q x y l h)
   stops_down Unbounded x y l e = absurd cc
 
-  -- what is in front of a range, within it and behind it
+  -- what is before a range, within it and after it
   pub range_parts : {V : Type 0} (lo hi : Bound Q) (s : List (K × V)) → IsAscending cmp s
       → s ≡ in_front order lo s ++ (within order lo hi s ++ behind order lo hi s)
   range_parts lo hi s a =
       three_parts cmp (λ e. starts order lo e.0) (λ e. stops order hi e.0) (λ x y. starts_up lo x.0 y.0) (λ x y. stops_down hi x.0 y.0) s a
 
-  -- those in front of it and behind it are those outside
+  -- those before it and after it are those outside
   pub range_outside : {V : Type 0} (lo hi : Bound Q) (s : List (K × V)) → IsAscending cmp s
       → in_front order lo s ++ behind order lo hi s ≡ outside order lo hi s
   range_outside lo hi s a =

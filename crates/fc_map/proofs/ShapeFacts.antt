@@ -2,6 +2,8 @@
 use Rattle.std.proofs.Common.{◌≡◌, ℕ, zero, suc, ◌+◌, ◌<◌, ◌≤◌, List, [], ◌∷◌, ◌++◌, length, map, take, get_or, Some, None, refl, sym, ap, subst, ◌∙◌, arith}
 use Rattle.std.proofs.Common.{length-append, ◌⊎◌, inl, inr}
 use Rattle.std.specs.Prelude.{slice_set}
+use Rattle.std.proofs.lemmas.List.{get_or_default}
+use Rattle.std.proofs.lemmas.Bool.{cases_eq}
 use Rattle.fc_tree_node.specs.Weave.{before_list}
 use Rattle.fc_tree_node.specs.declared.node.Node.{Node}
 use Rattle.fc_tree_node.specs.Node.{own_pairs, children_of, child_at, pairs_of, IsLevelled}
@@ -9,22 +11,17 @@ use Rattle.fc_tree_node.specs.Path.{IsPath, before_gap}
 use Rattle.fc_tree_node.specs.Place.{before_child, IsPlace, before_pair, after_pair}
 use Rattle.fc_tree_search.specs.Written.{set_value, with_value, with_child, written}
 use Rattle.fc_tree_node.proofs.Pairs.{leaf_children, child_below}
-use Rattle.fc_tree_node.proofs.Gaps.{item_there, place_pairs}
-use Rattle.fc_tree_search.proofs.WrittenPairs.{value_own, value_children, child_own, child_children, length_value, written_levels, written_pairs}
+use Rattle.fc_tree_node.proofs.Gaps.{place_pairs}
+use Rattle.fc_tree_node.proofs.Lent.{replaced}
+use Rattle.fc_tree_search.proofs.WrittenPairs.{value_own, value_children, length_value, written_levels, written_pairs}
 use Rattle.fc_map.specs.Entries.{Map, entries, IsSoundMap}
 use Rattle.fc_tree_walk.specs.Gap.{IsGapIn}
 use Rattle.fc_tree_node.specs.TreePlace.{IsPlaceIn, before_gap_in, before_pair_in}
 use Rattle.fc_map.specs.Lends.{written_in}
-use Rattle.fc_tree_walk.proofs.GapFacts.{one_height}
+use Rattle.fc_tree_node.proofs.Formed.{one_height}
+use Rattle.fc_tree_node.proofs.Lists.{take_lengths}
 
 module _ {X : Type 0} where
-  taken : (i : ℕ) (xs ys : List X) → length xs ≡ length ys → length (take i xs) ≡ length (take i ys)
-  taken zero xs ys e = refl
-  taken (suc i) [] [] e = refl
-  taken (suc i) [] (y ∷ ys) e = absurd (omega arith)
-  taken (suc i) (x ∷ xs) [] e = absurd (omega arith)
-  taken (suc i) (x ∷ xs) (y ∷ ys) e = ap suc (taken i xs ys (omega arith))
-
   before_same : (cs : List (List X)) (ps qs : List X) → length ps ≡ length qs → length (before_list cs ps) ≡ length (before_list cs qs)
   before_same [] ps qs e = e
   before_same (c ∷ cs) [] [] e = refl
@@ -34,30 +31,12 @@ module _ {X : Type 0} where
       let i = before_same cs ps qs (omega arith) in
       length-append c (p ∷ before_list cs ps) ∙ ap (λ m. length c + suc m) i ∙ sym (length-append c (q ∷ before_list cs qs))
 
-  get_same : (xs : List X) (i : ℕ) (d e : X) → i < length xs → get_or xs i d ≡ get_or xs i e
-  get_same xs i d e h = let x = item_there xs i h in x.1 d ∙ sym (x.1 e)
-
-  get_set : (xs : List X) (i : ℕ) (x d : X) → i < length xs → get_or (slice_set xs i x) i d ≡ x
-  get_set [] i x d h = absurd (omega arith)
-  get_set (y ∷ xs) zero x d h = refl
-  get_set (y ∷ xs) (suc i) x d h = get_set xs i x d (omega arith)
-
   get_other : (xs : List X) (i j : ℕ) (x d e : X) → (i ≡ j → ⊥) → j < length xs → get_or (slice_set xs i x) j d ≡ get_or xs j e
   get_other [] i j x d e other h = absurd (omega arith)
   get_other (y ∷ xs) zero zero x d e other h = absurd (other refl)
-  get_other (y ∷ xs) zero (suc j) x d e other h = get_same xs j d e (omega arith)
+  get_other (y ∷ xs) zero (suc j) x d e other h = get_or_default xs j d e (omega arith)
   get_other (y ∷ xs) (suc i) zero x d e other h = refl
   get_other (y ∷ xs) (suc i) (suc j) x d e other h = get_other xs i j x d e (λ s. other (ap suc s)) (omega arith)
-
-same_or : (i j : ℕ) → (i ≡ j) ⊎ (i ≡ j → ⊥)
-same_or zero zero = inl refl
-same_or zero (suc j) = inr (λ e. omega arith)
-same_or (suc i) zero = inr (λ e. omega arith)
-same_or (suc i) (suc j) = next (same_or i j)
-  where
-    next : (i ≡ j) ⊎ (i ≡ j → ⊥) → (suc i ≡ suc j) ⊎ (suc i ≡ suc j → ⊥)
-    next (inl e) = inl (ap suc e)
-    next (inr f) = inr (λ e. f (omega arith))
 
 module _ {K V : Type 0} where
   module _ {Z : Type 0} where
@@ -91,7 +70,7 @@ module _ {K V : Type 0} where
         let m = with_value n i w in
         let own = ap length (value_own n i w) ∙ length_value (own_pairs n) i w in
         let lead : length (before_child m j) ≡ length (before_child n j) = ap (λ cs. length (before_list (map pairs_of (take j cs)) (take j (own_pairs m))))
-        (value_children n i w) ∙ before_same (map pairs_of (take j (children_of n))) _ _ (taken j _ _ own) in
+        (value_children n i w) ∙ before_same (map pairs_of (take j (children_of n))) _ _ (take_lengths j _ _ own) in
         let r = rest gap h l e p.1 in (
           (omega (arith, own, p.0), r.0),
           length-append (before_child m j) _
@@ -106,7 +85,7 @@ module _ {K V : Type 0} where
             let many : length (children_of n) ≡ length (own_pairs n) + 1 = l.1 in
             let le : j ≤ length (own_pairs n) = p.0 in
             let same : child_at (with_value n i w) j ≡ child_at n j = ap (λ cs. get_or cs j (with_value n i w)) (value_children n i w)
-            ∙ get_same (children_of n) j (with_value n i w) n (omega arith) in
+            ∙ get_or_default (children_of n) j (with_value n i w) n (omega arith) in
             (subst (IsPath (k ∷ gap)) (sym same) q, ap (λ c. length (before_gap (k ∷ gap) c)) same)
 
     kept_child : (gap : List ℕ) (h : ℕ) (n : Node K V Z) (i : ℕ) (c : Node K V Z) → IsLevelled (suc h) n → length gap ≡ h + 2 → IsPath gap n
@@ -115,12 +94,13 @@ module _ {K V : Type 0} where
     kept_child [] h n i c l e p k many inside = absurd (omega arith)
     kept_child (j ∷ gap) h n i c l e p k many inside =
         let m = with_child n i c in
-        let own = ap length (child_own n i c) in
+        let s = replaced n i c in
+        let own = s.size in
         let lead : length (before_child m j) ≡ length (before_child n j) =
-        ap (λ ps. length (before_list (map pairs_of (take j (children_of m))) (take j ps))) (child_own n i c)
-        ∙ ap (λ cs. length (before_list (map pairs_of (take j cs)) (take j (own_pairs n)))) (child_children n i c)
+        ap (λ ps. length (before_list (map pairs_of (take j (children_of m))) (take j ps))) s.same
+        ∙ ap (λ cs. length (before_list (map pairs_of (take j cs)) (take j (own_pairs n)))) s.child
         ∙ before_set (children_of n) i j c n (take j (own_pairs n)) many in
-        let r = below (same_or i j) in (
+        let r = below (cases_eq i j) in (
           (omega (arith, own, p.0), r.0),
           length-append (before_child m j) _
               ∙ (let a = r.1 in let b = length-append (before_child n j) (before_gap gap (child_at n j)) in omega (arith, a, b, lead)),
@@ -128,14 +108,13 @@ module _ {K V : Type 0} where
       where
         below : (i ≡ j) ⊎ (i ≡ j → ⊥) → IsKept gap (child_at (with_child n i c) j) (child_at n j)
         below (inl s) =
-            let same : child_at (with_child n i c) i ≡ c = ap (λ cs. get_or cs i (with_child n i c)) (child_children n i c)
-            ∙ get_set (children_of n) i c (with_child n i c) k in
+            let same = (replaced n i c).here k in
             let x = inside gap (omega arith) (subst (λ j. IsPath gap (child_at n j)) (sym s) p.1) in
             subst (λ j. IsKept gap (child_at (with_child n i c) j) (child_at n j)) s (subst (λ d. IsKept gap d (child_at n i)) (sym same) x)
         below (inr other) =
             let many : length (children_of n) ≡ length (own_pairs n) + 1 = l.1 in
             let le : j ≤ length (own_pairs n) = p.0 in
-            let same : child_at (with_child n i c) j ≡ child_at n j = ap (λ cs. get_or cs j (with_child n i c)) (child_children n i c)
+            let same : child_at (with_child n i c) j ≡ child_at n j = ap (λ cs. get_or cs j (with_child n i c)) (replaced n i c).child
             ∙ get_other (children_of n) i j c (with_child n i c) n other (omega arith) in
             (subst (IsPath gap) (sym same) p.1, ap (λ d. length (before_gap gap d)) same)
 

@@ -9,8 +9,7 @@ use Rattle.std.proofs.lemmas.List.Elements.{filter-append}
 use Rattle.fc_base.specs.Ascending.{IsAscending}
 use Rattle.fc_base.specs.Halves.{not_below}
 use Rattle.fc_base.specs.Parts.{below}
-use Rattle.fc_base.proofs.AscendingFacts.{all_map}
-use Rattle.fc_base.proofs.JoinedLaws.{kept, left_out}
+use Rattle.fc_base.proofs.AscendingFacts.{all_map, kept, left_out}
 use Rattle.fc_base.proofs.Laws.{ascending_front, ascending_back}
 use Rattle.fc_tree_border.specs.Cut.{IsCutPathIn, IsCutInTwo}
 use Rattle.fc_tree_node.proofs.Gaps.{gap_pairs, place_pairs}

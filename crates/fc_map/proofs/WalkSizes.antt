@@ -6,7 +6,7 @@ use denote.Param.{layout, copied}
 use prog.Memory.{size}
 use Rattle.std.specs.declared.alloc.Allocator.{Ghosts}
 use Rattle.std.specs.Mem.{type_size}
-use Rattle.fc_iter.specs.contracts.into_iter.IntoIter as walk
+use Rattle.fc_map_iter.specs.contracts.into_iter.IntoIter as walk
 use Rattle.fc_tree_drain.proofs.Sizes.{Shape, whole, part, front_shape, back_shape, bound_holds, below}
 
 abbrev pub walk_shape : Shape

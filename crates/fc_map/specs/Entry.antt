@@ -82,7 +82,7 @@ module _ {K V Z : Type 0} {g : ord.Ghosts K} {g' : eq.Ghosts K} {g'' : partial.G
   IsWritten old v new = (new.map.ghost_name ≡ old.map.ghost_name) × (new.map.now ≡ map_written old v) × (entry_key (Occupied new) ≡ entry_key (Occupied old)) × (entry_value (Occupied new) ≡ Some v)
       × ((w : V) → list_with (Occupied new) w ≡ list_with (Occupied old) w) × (list_without (Occupied new) ≡ list_without (Occupied old))
 
-  -- The entry is the first pair of the list: what is left without it, and what stands ahead of that with v in it.
+  -- The entry is the first pair of the list: what is left without it, and what stands before that with v in it.
   abbrev pub IsFirstOf : OccupiedEntry K V Z g g' g'' → List (K × V) → Type 0
   IsFirstOf o s = (p : K × V) × (entry_pair (Occupied o) ≡ Some p) × (s ≡ p ∷ list_without (Occupied o)) × ((v : V) → list_with (Occupied o) v ≡ (p.0, v) ∷ list_without (Occupied o))
 
@@ -90,12 +90,12 @@ module _ {K V Z : Type 0} {g : ord.Ghosts K} {g' : eq.Ghosts K} {g'' : partial.G
   abbrev pub IsLastOf : OccupiedEntry K V Z g g' g'' → List (K × V) → Type 0
   IsLastOf o s = (p : K × V) × (entry_pair (Occupied o) ≡ Some p) × (s ≡ list_without (Occupied o) ++ p ∷ []) × ((v : V) → list_with (Occupied o) v ≡ list_without (Occupied o) ++ (p.0, v) ∷ [])
 
-  -- The entry is the first pair behind those ahead: what is left without it, and what stands there with v in it.
+  -- The entry is the first pair after those ahead: what is left without it, and what stands there with v in it.
   abbrev pub IsFirstBehind : OccupiedEntry K V Z g g' g'' → List (K × V) → List (K × V) → Type 0
   IsFirstBehind o ahead behind = (p : K × V) × (rest : List (K × V)) × (entry_pair (Occupied o) ≡ Some p) × (behind ≡ p ∷ rest)
       × (list_without (Occupied o) ≡ ahead ++ rest) × ((v : V) → list_with (Occupied o) v ≡ ahead ++ (p.0, v) ∷ rest)
 
-  -- The entry is the last pair ahead of those behind.
+  -- The entry is the last pair before those after.
   abbrev pub IsLastAhead : OccupiedEntry K V Z g g' g'' → List (K × V) → List (K × V) → Type 0
   IsLastAhead o ahead behind = (p : K × V) × (lead : List (K × V)) × (entry_pair (Occupied o) ≡ Some p) × (ahead ≡ lead ++ p ∷ [])
       × (list_without (Occupied o) ≡ lead ++ behind) × ((v : V) → list_with (Occupied o) v ≡ lead ++ (p.0, v) ∷ behind)

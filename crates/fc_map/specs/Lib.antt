@@ -4,7 +4,7 @@ pub mod Place
 pub mod Lends
 pub mod LendsKey
 pub mod Full
-pub mod Room
+pub mod Reservation
 pub mod Fewest
 pub mod Unique
 pub mod Ready
@@ -16,6 +16,6 @@ pub mod Walks
 pub mod Stretches
 pub mod Compare
 pub mod CompareLaws
-pub mod Extension
+pub mod BulkInsert
 pub mod PopIf
 pub mod Ranged

@@ -6,11 +6,11 @@ use Rattle.fc_base.specs.Ranges.{starts, stops}
 
 -- The bounds are keys, or queries that keys stand to by an order.
 module _ {K Q : Type 0} (cmp : K → Q → Ordering) where
-  -- The pairs whose keys are in front of the start, in order.
+  -- The pairs whose keys are before the start, in order.
   abbrev pub in_front : {V : Type 0} → Bound Q → List (K × V) → List (K × V)
   in_front lo s = filter (λ e. not (starts cmp lo e.0)) s
 
-  -- The pairs whose keys are behind the end and not in front of the start, in order.
+  -- The pairs whose keys are after the end and not before the start, in order.
   abbrev pub behind : {V : Type 0} → Bound Q → Bound Q → List (K × V) → List (K × V)
   behind lo hi s = filter (λ e. starts cmp lo e.0 && not (stops cmp hi e.0)) s
 

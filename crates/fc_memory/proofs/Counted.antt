@@ -7,6 +7,7 @@ use Rattle.fc_tree_node.specs.declared.node.Node.{Node, out-Node, map-Node, fold
 use Rattle.fc_tree_node.specs.Node.{items_or_none, own_pairs, children_of, pairs_of, IsLeaf, IsSoundRoot}
 use Rattle.fc_tree_node.specs.Tree.{Map, entries, IsSoundMap}
 use Rattle.fc_tree_node.proofs.Pairs.{pairs_is, leaf_pairs, leaf_children, IsBelow}
+use Rattle.fc_tree_node.proofs.Lists.{all_each}
 use Rattle.fc_memory.specs.Held.{total, nodes_step, nodes_of, inner_step, inner_of, nodes_in, inner_in, bytes_in}
 use Rattle.fc_memory.specs.Held.{most_nodes, most_inner, most_bytes}
 
@@ -50,10 +51,6 @@ module _ {K V Z : Type 0} where
   woven_long [] ps a e = absurd (omega arith)
   woven_long (c ∷ cs) ps a e = let i = after_long cs ps a.1 (omega arith) in omega (arith, a.0, length-append (pairs_of c) (after_list ps (map pairs_of cs)))
 
-  each : (P Q : Node K V Z → Type 0) → ((c : Node K V Z) → P c → Q c) → (cs : List (Node K V Z)) → AllByRecursion P cs → AllByRecursion Q cs
-  each P Q f [] a = tt
-  each P Q f (c ∷ cs) a = (f c a.0, each P Q f cs a.1)
-
   in_node : (n : Node K V Z) → AllByRecursion (λ c. 7 * nodes_of c ≤ length (pairs_of c)) (children_of n) → length (children_of n) ≡ length (own_pairs n) + 1
       → 7 * total (map nodes_of (children_of n)) + length (own_pairs n) ≤ length (pairs_of n)
   in_node n a e = let p : length (pairs_of n) ≡ length (weave (map pairs_of (children_of n)) (own_pairs n)) = ap length (pairs_is n) in
@@ -68,7 +65,7 @@ module _ {K V Z : Type 0} where
       let e : length (pairs_of n) ≡ length (own_pairs n) = ap length (leaf_pairs n s.1.1) in
       let c = nodes_is n in let o = none n s.1.1 in let m = s.0 in omega arith
   nodes_sound (suc h) n s =
-      let w = in_node n (each (IsBelow h) (λ c. 7 * nodes_of c ≤ length (pairs_of c)) (λ c p. nodes_sound h c p) (children_of n) s.1.2) s.1.1 in
+      let w = in_node n (all_each (IsBelow h) (λ c. 7 * nodes_of c ≤ length (pairs_of c)) (λ c p. nodes_sound h c p) (children_of n) s.1.2) s.1.1 in
       let c = nodes_is n in let m = s.0 in omega arith
 
   pub nodes_root : (h : ℕ) (n : Node K V Z) → IsSoundRoot h n → 7 * nodes_of n ≤ length (pairs_of n) + 6
@@ -76,7 +73,7 @@ module _ {K V Z : Type 0} where
       let e : length (pairs_of n) ≡ length (own_pairs n) = ap length (leaf_pairs n s.1.1) in
       let c = nodes_is n in let o = none n s.1.1 in let m = s.0 in omega arith
   nodes_root (suc h) n s =
-      let w = in_node n (each (IsBelow h) (λ c. 7 * nodes_of c ≤ length (pairs_of c)) (λ c p. nodes_sound h c p) (children_of n) s.1.2) s.1.1 in
+      let w = in_node n (all_each (IsBelow h) (λ c. 7 * nodes_of c ≤ length (pairs_of c)) (λ c p. nodes_sound h c p) (children_of n) s.1.2) s.1.1 in
       let c = nodes_is n in let m = s.0 in omega arith
 
   pub nodes_map : (m : Map K V Z) → IsSoundMap m → 7 * nodes_in m ≤ length (entries m) + 6
@@ -92,13 +89,13 @@ module _ {K V Z : Type 0} where
   inner_sound : (h : ℕ) (n : Node K V Z) → IsBelow h n → 8 * inner_of n + 1 ≤ nodes_of n
   inner_sound zero n s = let c = nodes_is n in let o = leaf_inner n s.1.1 in omega arith
   inner_sound (suc h) n s =
-      let w = many_more (children_of n) (each (IsBelow h) (λ c. 8 * inner_of c + 1 ≤ nodes_of c) (λ c p. inner_sound h c p) (children_of n) s.1.2) in
+      let w = many_more (children_of n) (all_each (IsBelow h) (λ c. 8 * inner_of c + 1 ≤ nodes_of c) (λ c p. inner_sound h c p) (children_of n) s.1.2) in
       let c = nodes_is n in let i = inner_is n in let e : length (children_of n) ≡ length (own_pairs n) + 1 = s.1.1 in let m = s.0 in omega arith
 
   pub inner_root : (h : ℕ) (n : Node K V Z) → IsSoundRoot h n → 8 * inner_of n ≤ nodes_of n + 5
   inner_root zero n s = let c = nodes_is n in let o = leaf_inner n s.1.1 in omega arith
   inner_root (suc h) n s =
-      let w = many_more (children_of n) (each (IsBelow h) (λ c. 8 * inner_of c + 1 ≤ nodes_of c) (λ c p. inner_sound h c p) (children_of n) s.1.2) in
+      let w = many_more (children_of n) (all_each (IsBelow h) (λ c. 8 * inner_of c + 1 ≤ nodes_of c) (λ c p. inner_sound h c p) (children_of n) s.1.2) in
       let c = nodes_is n in let i = inner_is n in let e : length (children_of n) ≡ length (own_pairs n) + 1 = s.1.1 in let m = s.0 in omega arith
 
   pub inner_map : (m : Map K V Z) → IsSoundMap m → 8 * inner_in m ≤ nodes_in m + 5

@@ -1,12 +1,11 @@
 -- Copies of the items that a walk gives, made one after another.
-use Rattle.std.proofs.Common.{◌≡◌, ℕ, ◌+◌, ◌<◌, List, [], ◌∷◌, ◌++◌, map, length, Option, Some, None, true, Any, refl, sym, ap, ◌∙◌, subst, arith, append_assoc}
+use Rattle.std.proofs.Common.{◌≡◌, ℕ, ◌+◌, ◌<◌, List, [], ◌∷◌, ◌++◌, map, length, Option, Some, None, Any, refl, sym, ap, ◌∙◌, subst, arith, append_assoc}
 use Rattle.std.proofs.Common.{append-nil}
 use Rattle.std.specs.Iterator.{AlwaysYields, YieldsFirstRef}
 use Rattle.std.specs.List.{AllZip, AllByRecursion}
 use Rattle.std.specs.Cmp.{IsTotalOrder}
-use Rattle.std.specs.Ordering.{is_eq}
 use Rattle.std.specs.declared.cmp.Ordering.{Ordering}
-use Rattle.std.specs.declared.cmp.Ordering.TheVariants.{Less, Equal, Greater}
+use Rattle.std.specs.declared.cmp.Ordering.TheVariants.{Less, Equal}
 use Rattle.std.proofs.lemmas.List.{map-append}
 use Rattle.std.proofs.lemmas.List.Elements.{AllZip-push}
 use denote.Ref.{Bor}
@@ -120,12 +119,6 @@ module _ {S T : Type 0} (steps : S → Option (Bor T) → S → Type 0) (all : L
     -- Where an item comes, there is one.
     pub some_there : (made : List (T × V)) (s j : S) (x : Bor T) → IsCopiedSoFar same made s → steps s (Some x) j → 0 < length all
     some_there made s j x f h = let there = (any_next (λ y. Unit {0}) made s j x f h tt).2 in omega arith
-
--- the one answer that is equal
-pub equal_copy : (r : Ordering) → is_eq r ≡ true → r ≡ Equal
-equal_copy Less h = absurd cc
-equal_copy Equal h = refl
-equal_copy Greater h = absurd cc
 
 module _ {T : Type 0} (cmp : T → T → Ordering) (total : IsTotalOrder cmp) (same : T → T → Type 0) (equal : (a b : T) → same a b → cmp a b ≡ Equal) where
   -- An item stands to a later one as their copies stand.

@@ -15,7 +15,7 @@ module _ {T : Type 0} (cmp : T → T → Ordering) where
       → new ≡ extended_items cmp s (given ++ x ∷ [])
   extended_more s given old new x e f = f ∙ ap (λ l. with_item cmp l x) e ∙ more s given x
 
-  -- A new item was refused, and what stands behind it was not looked at.
+  -- A new item was refused, and what stands after it was not looked at.
   pub up_to : (s front new : List T) (x : T) (e : TryReserveError) → new ≡ extended_items cmp s front → item_at cmp new x ≡ None → MayGrowRefuse (length new) e
       → (rest : List T) → AreExtendedUpTo cmp s ((front ++ x ∷ []) ++ rest) new e
   up_to s front new x e is absent error rest = record {

@@ -20,7 +20,7 @@ use Rattle.fc_map.specs.Ranged.{in_front, behind, outside, replacing}
 use Rattle.fc_set.specs.Items.{item_at, smaller, greater, not_smaller, without, AreAscending, with_item, with_replaced, joined_items}
 use Rattle.fc_set.specs.Items.{items_within, items_outside, items_replacing}
 
--- What holds of some item of a list holds of some item behind another one too.
+-- What holds of some item of a list holds of some item after another one too.
 pub any_later : {T : Type 0} (P : T → Type 0) (x : T) (s : List T) → Any P s → Any P (x ∷ s)
 any_later P x s a = (suc a.0, a.1, omega (arith, a.2), a.3, a.4)
 
@@ -29,7 +29,7 @@ module _ {T V : Type 0} where
   abbrev pub keys : List (T × V) → List T
   keys s = map (λ e. e.0) s
 
-  filter_keys : (p : T → Bool) (s : List (T × V)) → filter p (keys s) ≡ keys (filter (λ e. p e.0) s)
+  pub filter_keys : (p : T → Bool) (s : List (T × V)) → filter p (keys s) ≡ keys (filter (λ e. p e.0) s)
   filter_keys p [] = refl
   filter_keys p (e ∷ s) =
       elim (p e.0) as (λ b. cond b (e.0 ∷ filter p (keys s)) (filter p (keys s)) ≡ keys (cond b (e ∷ filter (λ y. p y.0) s) (filter (λ y. p y.0) s)))

@@ -1,5 +1,5 @@
 -- The items next to a query are the keys of the pairs next to it.
-use Rattle.std.proofs.Common.{◌≡◌, ◌-◌, Bool, true, false, cond, List, [], ◌∷◌, filter, length, slice_get, refl, ap, ◌∙◌}
+use Rattle.std.proofs.Common.{◌≡◌, ◌-◌, List, length, slice_get, ap, ◌∙◌}
 use Rattle.std.specs.Option.{option_map}
 use Rattle.std.specs.Ordering.{is_le}
 use Rattle.std.specs.declared.cmp.Ordering.{Ordering}
@@ -8,15 +8,9 @@ use Rattle.fc_base.specs.Parts.{below, above}
 use Rattle.fc_tree_search.specs.Neighbours.{first_item, last_item, not_above}
 use Rattle.fc_set.specs.Items.{smaller, greater, not_smaller}
 use Rattle.fc_set.specs.Neighbours.{not_greater}
-use Rattle.fc_set.proofs.ItemFacts.{keys, key_get, keys_length, smaller_keys, greater_keys, not_smaller_keys}
+use Rattle.fc_set.proofs.ItemFacts.{keys, key_get, keys_length, smaller_keys, greater_keys, not_smaller_keys, filter_keys}
 
 module _ {T V : Type 0} where
-  kept_keys : (p : T → Bool) (s : List (T × V)) → filter p (keys s) ≡ keys (filter (λ e. p e.0) s)
-  kept_keys p [] = refl
-  kept_keys p (e ∷ s) =
-      elim (p e.0) as (λ b. cond b (e.0 ∷ filter p (keys s)) (filter p (keys s)) ≡ keys (cond b (e ∷ filter (λ y. p y.0) s) (filter (λ y. p y.0) s)))
-      [ true ↦ ap (λ l. e.0 ∷ l) (kept_keys p s) | false ↦ kept_keys p s ]
-
   last_key : (s : List (T × V)) → last_item (keys s) ≡ option_map (λ e. e.0) (last_item s)
   last_key s = ap (λ n. slice_get (keys s) (n - 1)) (keys_length s) ∙ key_get s (length s - 1)
 
@@ -28,7 +22,7 @@ module _ {T V : Type 0} where
     first_after_keys = ap first_item (greater_keys cmp s q) ∙ key_get (above cmp s q) 0
 
     pub last_to_keys : last_item (not_greater cmp (keys s) q) ≡ option_map (λ e. e.0) (last_item (not_above cmp s q))
-    last_to_keys = ap last_item (kept_keys (λ x. is_le (cmp x q)) s) ∙ last_key (not_above cmp s q)
+    last_to_keys = ap last_item (filter_keys (λ x. is_le (cmp x q)) s) ∙ last_key (not_above cmp s q)
 
     pub last_before_keys : last_item (smaller cmp (keys s) q) ≡ option_map (λ e. e.0) (last_item (below cmp s q))
     last_before_keys = ap last_item (smaller_keys cmp s q) ∙ last_key (below cmp s q)

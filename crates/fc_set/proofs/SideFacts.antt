@@ -7,8 +7,7 @@ use Rattle.std.specs.declared.cmp.Ordering.{Ordering}
 use Rattle.std.specs.declared.cmp.Ordering.TheVariants.{Less, Equal, Greater}
 use Rattle.std.proofs.lemmas.Cmp.{tied_itself}
 use Rattle.fc_base.specs.Viewed.{over_one}
-use Rattle.fc_base.proofs.AscendingFacts.{all_map}
-use Rattle.fc_base.proofs.JoinedLaws.{kept, left_out}
+use Rattle.fc_base.proofs.AscendingFacts.{all_map, all_filter, kept, left_out}
 use Rattle.fc_set.specs.Items.{item_at, smaller, greater, AreAscending, with_replaced, joined_items}
 use Rattle.fc_set.specs.Operations.{difference, common, symmetric_difference}
 use Rattle.fc_set.specs.Sides.{untaken}
@@ -18,11 +17,6 @@ filter_alike : {X : Type 0} (p q : X → Bool) (s : List X) → AllByRecursion (
 filter_alike p q [] a = refl
 filter_alike p q (x ∷ s) a = rw (a.0, filter_alike p q s a.1) refl
 
-pub all_kept : {X : Type 0} (P : X → Type 0) (p : X → Bool) (s : List X) → AllByRecursion P s → AllByRecursion P (filter p s)
-all_kept P p [] a = tt
-all_kept P p (x ∷ s) a = elim (p x) as (λ b. AllByRecursion P (cond b (x ∷ filter p s) (filter p s)))
-    [ true ↦ (a.0, all_kept P p s a.1) | false ↦ all_kept P p s a.1 ]
-
 module _ {T : Type 0} (cmp : T → T → Ordering) where
   -- The item is below all of the list.
   abbrev pub IsBelow : T → List T → Type 0
@@ -31,7 +25,7 @@ module _ {T : Type 0} (cmp : T → T → Ordering) where
   pub ascending_kept : (p : T → Bool) (s : List T) → AreAscending cmp s → AreAscending cmp (filter p s)
   ascending_kept p [] a = tt
   ascending_kept p (x ∷ s) a = elim (p x) as (λ b. AreAscending cmp (cond b (x ∷ filter p s) (filter p s)))
-      [ true ↦ (all_kept _ p s a.0, ascending_kept p s a.1) | false ↦ ascending_kept p s a.1 ]
+      [ true ↦ (all_filter _ p s a.0, ascending_kept p s a.1) | false ↦ ascending_kept p s a.1 ]
 
   -- the items of s that a test keeps by what is equal to them in t
   abbrev sifted : (Option T → Bool) → List T → List T → List T
@@ -122,22 +116,22 @@ module _ {T : Type 0} (cmp : T → T → Ordering) where
     -- Both sides of a symmetric difference, by the same three cases.
     pub symmetric_ours : (s t : List T) (x : T) → IsBelow x s → IsBelow x t → symmetric_difference cmp (x ∷ s) t ≡ x ∷ symmetric_difference cmp s t
     symmetric_ours s t x later below =
-        rw (difference_ours s t x below, difference_past t s x below) (joined_first (difference cmp t s) (difference cmp s t) x (all_kept _ _ t below))
+        rw (difference_ours s t x below, difference_past t s x below) (joined_first (difference cmp t s) (difference cmp s t) x (all_filter _ _ t below))
 
     pub symmetric_theirs : (s t : List T) (y : T) → IsBelow y s → IsBelow y t → symmetric_difference cmp s (y ∷ t) ≡ y ∷ symmetric_difference cmp s t
     symmetric_theirs s t y below later =
-        rw (difference_past s t y below, difference_ours t s y below) (joined_ours (difference cmp t s) (difference cmp s t) y (all_kept _ _ t later)
-        (all_kept _ _ s below))
+        rw (difference_past s t y below, difference_ours t s y below) (joined_ours (difference cmp t s) (difference cmp s t) y (all_filter _ _ t later)
+        (all_filter _ _ s below))
 
     pub symmetric_tied : (s t : List T) (x y : T) → cmp x y ≡ Equal → IsBelow x s → IsBelow y t
         → symmetric_difference cmp (x ∷ s) (y ∷ t) ≡ symmetric_difference cmp s t
     symmetric_tied s t x y same later below = rw (difference_tied s t x y same later, difference_tied t s y x (tied_back x y same) below) refl
 
-    -- What stands behind the first item is what is greater than it.
+    -- What stands after the first item is what is greater than it.
     pub after_first : (x : T) (s : List T) → IsBelow x s → greater cmp (x ∷ s) x ≡ s
     after_first x s below = rw (tied_itself total x) (greater_all x s below)
 
-  -- Behind an item that is smaller than all of those in question both lists go on alike.
+  -- After an item that is smaller than all of those in question both lists go on alike.
   abbrev pub AreAlike : List T → List T → List T → Type 0
   AreAlike over s s' = AllByRecursion (λ z. greater cmp s z ≡ greater cmp s' z) over
 

@@ -20,7 +20,7 @@ not_there b None h e = refl
 not_there b (Some x) h e = absurd (true≢false (sym (h.1 refl) ∙ e))
 
 module _ {T : Type 0} (cmp : T → T → Ordering) where
-  -- Behind what both have still to give they go on alike.
+  -- After what both have still to give they go on alike.
   abbrev pub BothAlike : List T → List T → List T → List T → Type 0
   BothAlike s t s' t' = (AreAlike cmp s s s' × AreAlike cmp s t t') × (AreAlike cmp t s s' × AreAlike cmp t t t')
 
@@ -56,7 +56,7 @@ module _ {T : Type 0} (cmp : T → T → Ordering) (total : IsTotalOrder cmp) wh
   firsts_tied s t left right x y e f l r a b same =
       (same, subst (IsBelow cmp x) (sym l) (subst (AreAscending cmp) e a).0, subst (IsBelow cmp y) (sym r) (subst (AreAscending cmp) f b).0)
 
-  -- An operation gave its next item and both sides are behind it, or nothing is left.
+  -- An operation gave its next item and both sides are after it, or nothing is left.
   abbrev pub IsStep : (List T → List T → List T) → Option (Bor T) → List T → List T → Sides T → Type 0
   IsStep operation r s t w = MatchOption r ((operation s t ≡ []) × (w.left ≡ []) × (w.right ≡ []))
       (λ x. (operation s t ≡ x.now ∷ operation w.left w.right) × (w.left ≡ greater cmp s x.now) × (w.right ≡ greater cmp t x.now))

@@ -33,7 +33,7 @@ module _ {T : Type 0} where
   sum_of_lengths w = if nat_lt (length w.left + length w.right) (2 ^ 64) then Some (length w.left + length w.right) else None
 
   module _ (cmp : T → T → Ordering) where
-    -- Each side from behind an item on.
+    -- Each side from after an item on.
     abbrev pub past_item : Sides T → T → Sides T
     past_item w x = record { left = greater cmp w.left x; right = greater cmp w.right x }
 
@@ -45,16 +45,16 @@ module _ {T : Type 0} where
     abbrev pub untaken : List T → List T → List T
     untaken s t = drop 1 (filter (λ x. is_none (find (λ y. is_ge (cmp y x)) t)) s)
 
-    -- A walk over both gave the next item that the second has not, and is behind it on both sides. Or it came to the end of the first.
+    -- A walk over both gave the next item that the second has not, and is after it on both sides. Or it came to the end of the first.
     abbrev pub GivesApart : List T → List T → Option (Bor T) → List T → List T → Type 0
     GivesApart s t r rest others = MatchOption r ((difference cmp s t ≡ []) × (rest ≡ []))
         (λ x. (difference cmp s t ≡ x.now ∷ difference cmp rest others) × (rest ≡ greater cmp s x.now) × (others ≡ greater cmp t x.now))
 
-    -- A walk gave the next item of an operation whose second side it looks items up in, and is behind it. Or it came to its end.
+    -- A walk gave the next item of an operation whose second side it looks items up in, and is after it. Or it came to its end.
     abbrev pub GivesLookedUp : (List T → List T → List T) → List T → List T → Option (Bor T) → List T → Type 0
     GivesLookedUp operation s t r rest = MatchOption r ((operation s t ≡ []) × (rest ≡ [])) (λ x. (operation s t ≡ x.now ∷ operation rest t) × (rest ≡ greater cmp s x.now))
 
-    -- A walk over both gave the next item that both hold, and is behind it on both sides. Or it came to the end of one.
+    -- A walk over both gave the next item that both hold, and is after it on both sides. Or it came to the end of one.
     abbrev pub GivesCommon : List T → List T → Option (Bor T) → List T → List T → Type 0
     GivesCommon s t r rest others = MatchOption r ((common cmp s t ≡ []) × (common cmp rest others ≡ []) × (rest ≡ untaken s t) × ((rest ≡ []) ⊎ (others ≡ [])))
         (λ x. (common cmp s t ≡ x.now ∷ common cmp rest others) × (rest ≡ greater cmp s x.now) × (others ≡ greater cmp t x.now))

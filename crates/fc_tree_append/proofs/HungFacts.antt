@@ -7,18 +7,16 @@ use Rattle.fc_tree_node.specs.declared.node.Node.{Node}
 use Rattle.fc_tree_node.specs.Node.{own_pairs, children_of, child_at, pairs_of, IsInner, IsLevelled, IsSound}
 use Rattle.fc_tree_node.specs.Bordered.{FirstThen, LastAfter, IsLeftBordered, IsRightBordered}
 use Rattle.fc_tree_node.specs.Place.{before_child, after_child}
-use Rattle.fc_tree_node.proofs.Lists.{length_take, set_is, set_put}
+use Rattle.fc_tree_node.proofs.Lists.{length_take, set_is, set_put, all_take, all_drop}
 use Rattle.fc_tree_node.proofs.Gaps.{drop_all, inner_gap, after_none}
-use Rattle.fc_tree_node.proofs.Made.{IsChildSet}
+use Rattle.fc_tree_node.proofs.Lent.{IsReplaced}
 use Rattle.fc_tree_node.proofs.Pairs.{child_below}
 use Rattle.fc_tree_border.specs.Border.{IsBordered, border_place}
 use Rattle.fc_tree_border.specs.declared.mending.Border.{Border}
 use Rattle.fc_tree_border.specs.declared.mending.Border.TheVariants.{Left, Right}
 use Rattle.fc_tree_border.proofs.Borders.{first_split, last_join, last_split, border_closed, levelled_bordered}
-use Rattle.fc_tree_border.proofs.Cuts.{all_take, all_drop}
 use Rattle.fc_tree_insertion.specs.Insertion.{Split, spread, own_pairs_after, children_after, IsHalved}
-use Rattle.fc_tree_insertion.proofs.InsertedPairs.{child_pairs, split_pairs}
-use Rattle.fc_tree_insertion.proofs.InsertedLevels.{inner_kept}
+use Rattle.fc_tree_insertion.proofs.InsertedPairs.{split_pairs}
 use Rattle.fc_tree_append.specs.Hung.{beside, AreHalves, IsHung, IsPlacedBeside}
 
 module _ {X : Type 0} where
@@ -51,7 +49,6 @@ module _ {K V Z : Type 0} where
 
   pub on_border : (s : Border) (g : ℕ) (n : Node K V Z) (i : ℕ) → IsLevelled (suc g) n → i ≡ border_place s n → IsOnBorder s g n i
   on_border s g n i l p =
-      let many : length (children_of n) ≡ length (own_pairs n) + 1 = l.1 in
       let le = place_le s n i p in
       record { place = p; levels = l; le = le; there = omega arith; child = child_below g n i l le }
 
@@ -101,31 +98,25 @@ module _ {K V Z : Type 0} where
   hung_of s g new None a i j m = bordered_of s g new m i a
   hung_of Left g new (Some (up, r)) a i j m =
       let t = first_split (IsLeftBordered g) (IsSound g) (children_of new) (children_of r) (some_child new i) a in
-      let x = m.0.1 in
-      let y = m.1.1 in
       ((omega arith, i, t.0), (m.1.0, (omega arith, j, t.1)))
   hung_of Right g new (Some (up, r)) a i j m =
       let t = last_split (IsRightBordered g) (IsSound g) (children_of new) (children_of r) (some_child r j) a in
-      let x = m.0.1 in
-      let y = m.1.1 in
       ((m.0.0, (omega arith, i, t.0)), (omega arith, j, t.1))
 
-  module _ (s : Border) (g : ℕ) (old mid c : Node K V Z) (i : ℕ) (on : IsOnBorder s g old i) (m : IsChildSet old mid i c) where
+  module _ (s : Border) (g : ℕ) (old mid c : Node K V Z) (i : ℕ) (on : IsOnBorder s g old i) (m : IsReplaced old mid i c) where
     -- the node, whose child on the border is now c
     pub stay_pairs : (p : K × V) (other : List (K × V)) → pairs_of c ≡ beside s (pairs_of (child_at old i)) p other
         → pairs_of mid ≡ beside s (pairs_of old) p other
     stay_pairs p other e =
-        child_pairs old i on.le on.levels.1 mid c m ∙ ap (λ zs. before_child old i ++ (zs ++ after_child old i)) e
+        m.pairs on.levels.1 on.le ∙ ap (λ zs. before_child old i ++ (zs ++ after_child old i)) e
         ∙ beside_around s (before_child old i) (pairs_of (child_at old i)) (after_child old i) p other (outer s old i on.place)
         ∙ ap (λ zs. beside s zs p other) (sym (inner_gap old i on.levels.1 on.le))
 
     pub stay_levels : IsBordered s g c → IsBordered s (suc g) mid
     stay_levels b =
         let cs = children_of old in
-        let n : length (own_pairs mid) ≡ length (own_pairs old) = ap length m.same in
-        let fits = on.levels.0 in
         let there = on.there in
-        border_closed s g mid c (take i cs) (drop (suc i) cs) (omega arith) (inner_kept old mid c i m on.levels.1) (m.child ∙ set_is cs i c there)
+        border_closed s g mid c (take i cs) (drop (suc i) cs) (omega arith) (m.inner on.levels.1) (m.child ∙ set_is cs i c there)
         (length_take i cs (omega arith) ∙ on.place ∙ sym (place_kept s old mid m.same)) (all_take (IsSound g) i cs on.levels.2) b
         (all_drop (IsSound g) (suc i) cs on.levels.2)
 
@@ -141,7 +132,7 @@ module _ {K V Z : Type 0} where
     around_outer : (t : Border) → i ≡ border_place t old → IsOuter t (take i (children_of old)) (drop (suc i) (children_of old))
     around_outer Left e = ap (λ k. take k (children_of old)) e
     around_outer Right e =
-        let q : i ≡ length (own_pairs old) = e in let n : length (children_of old) ≡ length (own_pairs old) + 1 = on.levels.1 in drop_all (children_of old)
+        let q : i ≡ length (own_pairs old) = e in drop_all (children_of old)
         (suc i) (omega arith)
 
     pub put_levels : (new r : Node K V Z) (t : Split K V Z) (up : K × V) → IsHung s g c (Some (up, r))

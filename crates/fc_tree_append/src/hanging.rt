@@ -10,6 +10,7 @@ use fc_base::{Count, Handle};
 use fc_tree_border::mending::{Border, border_child, mend};
 use fc_tree_insertion::insertion::{grow, put_inner};
 use fc_tree_insertion::spares::Spares;
+use fc_tree_node::lend::child_in;
 use fc_tree_node::node::Node;
 use std::mem;
 
@@ -62,13 +63,8 @@ fn hang_below<K: Drop, V: Drop, A: Handle>(
         return Some((pair, put_beside(node, side, other)));
     }
     let place = border_child(node, side);
-    let below = match &mut node.children {
-        None => unreachable!(),
-        Some(children) => {
-            let child: &mut Node<K, V, A> = children.get_mut(place);
-            hang_below(child, side, depth - 1, pair, other, spares)
-        }
-    };
+    let child = child_in(&mut node.children, place);
+    let below = hang_below(child, side, depth - 1, pair, other, spares);
     match below {
         None => None,
         Some((up, right)) => put_inner(node, place, up, right, spares, &mut Count::new()),

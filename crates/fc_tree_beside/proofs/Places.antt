@@ -22,7 +22,8 @@ use Rattle.fc_tree_search.specs.Neighbours.{not_above}
 use Rattle.fc_tree_search.proofs.NeighbourFacts.{gap_from, pair_from}
 use Rattle.fc_tree_search.proofs.SearchFacts.{child_there, found_at, gap_at}
 use Rattle.fc_tree_walk.specs.Gap.{GoesOn, EndsIn, LeadsTo}
-use Rattle.fc_tree_walk.proofs.GapFacts.{IsLast, leaf_before_own, next_before, one_height, place_back}
+use Rattle.fc_tree_walk.proofs.GapFacts.{IsLast, leaf_before_own, next_before, place_back}
+use Rattle.fc_tree_node.proofs.Formed.{one_height}
 use Rattle.fc_tree_walk.proofs.Ways.{end_set, leaf_node}
 use Rattle.fc_tree_beside.specs.Beside.{IsNextIn, IsLastIn}
 
@@ -64,8 +65,6 @@ module _ {K V Z : Type 0} where
   leaf_next (i ∷ j ∷ path) (suc last) (suc h) n l e s p k =
       let c = child_at n i in
       let r = leaf_next (j ∷ path) last h c (child_below h n i l p.0).1 (omega arith) (omega arith) p.1 k in
-      let all : length (children_of n) ≡ length (own_pairs n) + 1 = l.1 in
-      let within = p.0 in
       let a = length-append (before_child n i) (before_pair (j ∷ path) c) in
       let b = length-append (before_child n i) (before_gap (j ∷ path) c) in
       ((omega arith, r.0), (let same = r.1 in omega (arith, a, b, same)))
@@ -162,7 +161,6 @@ module _ {K V Z : Type 0} where
       let part = length-append (before_child n i) (before_gap lead c) in
       let count = r.1 in
       let deep = r.0.1 s.0 s.2 in
-      let down = s.1 in
       (((s.3, r.0.0), λ k m. let same = one_height k h n m l in omega arith), omega (arith, whole, part, count))
 
   pub gone : (path new : List ℕ) (root node : Node K V Z) (count : ℕ) → IsTree root → IsAtPair path root node

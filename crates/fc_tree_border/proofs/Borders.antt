@@ -2,6 +2,7 @@
 use Rattle.std.proofs.Common.{◌≡◌, ℕ, zero, suc, ◌+◌, ◌<◌, ◌≤◌, List, [], ◌∷◌, ◌++◌, length, get_or, take, drop, refl, sym, ap, subst, ◌∙◌, arith}
 use Rattle.std.proofs.Common.{length-append, inl, inr}
 use Rattle.std.specs.List.{AllByRecursion}
+use Rattle.std.proofs.lemmas.List.{nil_from_length}
 use Rattle.fc_base.specs.Sizes.{capacity}
 use Rattle.fc_tree_node.specs.declared.node.Node.{Node}
 use Rattle.fc_tree_node.specs.Node.{own_pairs, children_of, child_at, IsLeaf, IsInner, IsLevelled, IsSound}
@@ -49,10 +50,6 @@ module _ {X : Type 0} where
   at_end [] c D (suc i) d e = absurd (omega arith)
   at_end (a ∷ A) c D zero d e = absurd (omega arith)
   at_end (a ∷ A) c D (suc i) d e = at_end A c D i d (omega arith)
-
-  none : (xs : List X) → length xs ≡ 0 → xs ≡ []
-  none [] e = refl
-  none (x ∷ xs) e = absurd (omega arith)
 
 module _ {K V Z : Type 0} where
   -- what a node is, on the left and on the right of the two that the border and its sibling are
@@ -164,11 +161,11 @@ module _ {K V Z : Type 0} where
       → length A ≡ border_place s n
       → AllByRecursion (IsSound h) A → IsBordered s h c → AllByRecursion (IsSound h) D → IsBordered s (suc h) n
   border_closed Left h n c A D le i e k a b d =
-      (le, i, subst (FirstThen (IsLeftBordered h) (IsSound h)) (sym (e ∙ ap (λ zs. zs ++ c ∷ D) (none A k))) (b, d))
+      (le, i, subst (FirstThen (IsLeftBordered h) (IsSound h)) (sym (e ∙ ap (λ zs. zs ++ c ∷ D) (nil_from_length A k))) (b, d))
   border_closed Right h n c A D le i e k a b d =
       let m : length (children_of n) ≡ length (own_pairs n) + 1 = i in
       let t : length (children_of n) ≡ length A + suc (length D) = ap length e ∙ length-append A (c ∷ D) in
-      let z : D ≡ [] = none D (omega arith) in (
+      let z : D ≡ [] = nil_from_length D (omega arith) in (
         le,
         i,
         subst (LastAfter (IsRightBordered h) (IsSound h)) (sym (e ∙ ap (λ zs. A ++ c ∷ zs) z))

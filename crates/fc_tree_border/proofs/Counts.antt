@@ -44,7 +44,7 @@ module _ {K V Z : Type 0} where
       → (pairs_in (take (suc i) cs) ≡ pairs_in (take i cs) + length (pairs_of (get_or cs i d))) × (pairs_in (take (suc i) cs) ≤ pairs_in cs)
   next_in [] i d h = absurd (omega arith)
   next_in (c ∷ cs) zero d h = (omega arith, omega arith)
-  next_in (c ∷ cs) (suc i) d h = let r = next_in cs i d (omega arith) in let a = r.0 in let b = r.1 in (omega arith, omega arith)
+  next_in (c ∷ cs) (suc i) d h = let r = next_in cs i d (omega arith) in (omega arith, omega arith)
 
   pub counted_more : (cs : List (Node K V Z)) (i : ℕ) (d : Node K V Z) → i < length cs
       → (pairs_in (take (i + 1) cs) ≡ pairs_in (take i cs) + length (pairs_of (get_or cs i d))) × (pairs_in (take (i + 1) cs) ≤ pairs_in cs)
@@ -67,7 +67,6 @@ module _ {K V Z : Type 0} where
   pub next_child : (h : ℕ) (n : Node K V Z) (i : ℕ) → IsLevelled h n → i < length (children_of n) → IsNext n i
   next_child h n i l lt =
       let s = step_levels h n i l lt in
-      let e = s.1 in
       let x = levelled_height h n l in
       let y = levelled_height s.0 (child_at n i) s.2 in
       let m = counted_more (children_of n) i n lt in

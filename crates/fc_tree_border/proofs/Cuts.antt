@@ -6,17 +6,16 @@ use Rattle.std.specs.List.{AllByRecursion}
 use Rattle.std.proofs.lemmas.List.{length-drop}
 use Rattle.fc_base.specs.Sizes.{most_height}
 use Rattle.fc_tree_node.specs.Weave.{weave, before_list}
-use Rattle.fc_tree_node.specs.declared.node.Node.{Node, out-Node}
+use Rattle.fc_tree_node.specs.declared.node.Node.{Node}
 use Rattle.fc_tree_node.specs.Node.{own_pairs, children_of, child_at, pairs_of, IsLeaf, IsInner, IsLevelled, IsSound, IsSoundRoot, IsBlankLeaf}
 use Rattle.fc_tree_node.specs.Bordered.{FirstThen, IsLeftBordered, IsRightBordered}
 use Rattle.fc_tree_node.specs.Path.{IsPath, before_gap, after_gap}
 use Rattle.fc_tree_node.specs.Place.{before_child, after_child, after_own, IsPlace, place_pair, before_pair, after_pair}
 use Rattle.fc_tree_node.specs.Siblings.{AreAlike}
 use Rattle.fc_tree_node.specs.Tree.{Map, entries, IsSoundMap, IsSoundWithin}
-use Rattle.fc_tree_node.proofs.Lists.{take_nil, length_take, take_drop, all_front, all_back}
+use Rattle.fc_tree_node.proofs.Lists.{take_nil, length_take, all_take, all_drop}
 use Rattle.fc_tree_node.proofs.Pairs.{pairs_is, leaf_pairs, leaf_children, child_below}
-use Rattle.fc_tree_node.proofs.Made.{IsChildSet, inner_length}
-use Rattle.fc_tree_node.proofs.Shared.{listed_child}
+use Rattle.fc_tree_node.proofs.Lent.{lent_is, IsReplaced}
 use Rattle.fc_tree_node.proofs.Gaps.{take_item, after_child_pair, step_levels}
 use Rattle.fc_tree_node.proofs.PathSteps.{one_step, more_steps}
 use Rattle.fc_tree_node.proofs.Siblings.{around_one}
@@ -31,12 +30,6 @@ module _ {X : Type 0} where
   set_last [] i y h = absurd (omega arith)
   set_last (x ∷ xs) zero y h = refl
   set_last (x ∷ xs) (suc i) y h = ap (λ zs. x ∷ zs) (set_last xs i y (omega arith))
-
-  pub all_take : (P : X → Type 0) (i : ℕ) (xs : List X) → AllByRecursion P xs → AllByRecursion P (take i xs)
-  all_take P i xs a = all_front P (take i xs) (drop i xs) (subst (AllByRecursion P) (sym (take_drop i xs)) a)
-
-  pub all_drop : (P : X → Type 0) (i : ℕ) (xs : List X) → AllByRecursion P xs → AllByRecursion P (drop i xs)
-  all_drop P i xs a = all_back P (take i xs) (drop i xs) (subst (AllByRecursion P) (sym (take_drop i xs)) a)
 
 module _ {K V : Type 0} where
   module _ {Z : Type 0} where
@@ -68,7 +61,6 @@ module _ {K V : Type 0} where
     place_path (i ∷ j ∷ p) h n l w =
         let s = step_levels h n i l w.0 in
         let r = place_path (j ∷ p) s.0 (child_at n i) s.2 w.1 in
-        let e = s.1 in
         let short = r.short in
         record { some = omega arith; short = omega arith; path = (s.3, r.path) }
 
@@ -80,7 +72,7 @@ module _ {K V : Type 0} where
   there_is : (xs : List (K × V)) (i : ℕ) (x : K × V) → slice_get xs i ≡ Some x → (i < length xs) × (get_or xs i x ≡ x)
   there_is [] i x e = absurd (cc e)
   there_is (y ∷ xs) zero x e = (omega arith, cc e)
-  there_is (y ∷ xs) (suc i) x e = let r = there_is xs i x e in let lt = r.0 in (omega arith, r.1)
+  there_is (y ∷ xs) (suc i) x e = let r = there_is xs i x e in (omega arith, r.1)
 
   module _ {Z : Type 0} where
     place_rest : (p : List ℕ) (n : Node K V Z) (x : K × V) → place_pair p n ≡ Some x → after_gap p n ≡ x ∷ after_pair p n
@@ -128,12 +120,10 @@ module _ {K V : Type 0} where
       end_front_levels zero l e f a =
           let le = (subst (λ q. IsPath q n) (one_step p one) w).0 in
           let t = ap length e ∙ length_take last (own_pairs n) le in
-          let fits = l.0 in
           (omega arith, leaf_alike n new l.1 a)
       end_front_levels (suc h) l e f a =
           let le = (subst (λ q. IsPath q n) (one_step p one) w).0 in
           let t = ap length e ∙ length_take last (own_pairs n) le in
-          let fits = l.0 in
           levelled_bordered Right (suc h) new (
             omega arith,
             inner_alike n new l.1 a,
@@ -144,11 +134,9 @@ module _ {K V : Type 0} where
           → children_of other ≡ children_of r ++ drop (last + 1) (children_of n) → AreAlike n other → IsLeftBordered h other
       end_back_levels zero l b e f a =
           let t = ap length e ∙ ap (λ ps. length (ps ++ drop last (own_pairs n))) b.0 ∙ length-drop last (own_pairs n) in
-          let fits = l.0 in
           (omega arith, leaf_alike n other l.1 a)
       end_back_levels (suc h) l b e f a =
           let t = ap length e ∙ ap (λ ps. length (ps ++ drop last (own_pairs n))) b.0 ∙ length-drop last (own_pairs n) in
-          let fits = l.0 in
           let s : IsLeftBordered (suc h) r = blank_bordered (suc h) r b in
           let some : length (children_of r) ≡ 1 = ap length b.2 in (
             omega arith,
@@ -179,7 +167,7 @@ module _ {K V : Type 0} where
         → own_pairs left ≡ take (get_or p 0 0) (own_pairs n) → children_of left ≡ take (get_or p 0 0 + 1) (children_of n)
         → own_pairs right ≡ own_pairs r ++ drop (get_or p 0 0) (own_pairs n) → children_of right ≡ children_of r ++ drop (get_or p 0 0 + 1) (children_of n)
         → AreAlike n left → AreAlike left right → IsForked h p n left right
-    forked zero p n r left right more c l b e₁ f₁ e₂ f₂ a₁ a₂ = let s = c.some in let t = c.short in absurd (more (omega arith))
+    forked zero p n r left right more c l b e₁ f₁ e₂ f₂ a₁ a₂ = absurd (more (omega arith))
     forked (suc h) p n r left right more c l b e₁ f₁ e₂ f₂ a₁ a₂ =
         let some = c.some in
         let short = c.short in
@@ -188,7 +176,6 @@ module _ {K V : Type 0} where
         let long : length p ≡ suc (length (slice_range p 1 (length p))) = ap length is in
         let w = subst (λ q. IsPath q n) is c.path in
         let le = w.0 in
-        let k : length (children_of n) ≡ length (own_pairs n) + 1 = l.1 in
         let two : 1 < length p = several p some more in
         let there = f₁ ∙ ap (λ j. take j (children_of n)) (add-one i) in
         let inner = inner_alike n left l.1 a₁ in
@@ -224,7 +211,7 @@ module _ {K V : Type 0} where
       rest = slice_range p 1 (length p)
 
       there : step < length (children_of n)
-      there = let e : length (children_of n) ≡ length (own_pairs n) + 1 = f.levels.1 in let le = f.le in omega arith
+      there = omega arith
 
       before_on : (q : List ℕ) → 0 < length q → before_pair (step ∷ q) n ≡ before_child n step ++ before_pair q (child_at n step)
       before_on [] s = absurd (omega arith)
@@ -236,22 +223,19 @@ module _ {K V : Type 0} where
         pub levels : IsLevelled f.below child
         pub blank : IsBlank f.below other
 
-      pub forked_on : (cs ds : List (Node K V Z)) (child other : Node K V Z) → (out-Node K V Z left).children ≡ Some cs → child ≡ get_or cs step child
-          → (out-Node K V Z right).children ≡ Some ds → other ≡ get_or ds 0 other → IsForkedOn child other
-      forked_on cs ds child other e q e' q' =
-          let le = f.le in
-          let k = inner_length left cs e f.left_inner in
-          let k' = inner_length right ds e' f.right_inner in
-          let o = ap length f.left_own ∙ length_take step (own_pairs n) le in
-          let is = listed_child left 0 cs e step child (omega arith) q in
-          let top = listed_child right 0 ds e' 0 other (omega arith) q' ∙ ap (λ cs. get_or cs 0 right) f.right_children in
+      pub forked_on : (child other : Node K V Z) → child ≡ get_or (children_of left) step child → other ≡ get_or (children_of right) 0 other
+          → IsForkedOn child other
+      forked_on child other q q' =
+          let o = ap length f.left_own ∙ length_take step (own_pairs n) f.le in
+          let is = lent_is left step child f.left_inner (omega arith) q in
+          let top = lent_is right 0 other f.right_inner (omega arith) q' ∙ ap (λ cs. get_or cs 0 right) f.right_children in
           record {
             is = is;
             levels = subst (IsLevelled f.below) (sym (is ∙ f.left_child)) (child_below f.below n step f.levels f.le).1;
             blank = subst (IsBlank f.below) (sym top) f.blank;
           }
 
-      pub fork_front : (new child c : Node K V Z) → IsChildSet left new step c → child ≡ child_at left step → pairs_of c ≡ before_pair rest child
+      pub fork_front : (new child c : Node K V Z) → IsReplaced left new step c → child ≡ child_at left step → pairs_of c ≡ before_pair rest child
           → pairs_of new ≡ before_pair p n
       fork_front new child c m ci e =
           let le = f.le in
@@ -263,7 +247,7 @@ module _ {K V : Type 0} where
           ∙ ap (λ zs. before_child n step ++ zs) (append-nil (pairs_of c) ∙ e ∙ ap (before_pair rest) (ci ∙ f.left_child))
           ∙ sym (ap (λ q. before_pair q n) f.path_is ∙ before_on rest f.onward.some)
 
-      pub fork_back : (new child c : Node K V Z) → IsChildSet right new 0 c → child ≡ child_at left step → pairs_of c ≡ after_gap rest child
+      pub fork_back : (new child c : Node K V Z) → IsReplaced right new 0 c → child ≡ child_at left step → pairs_of c ≡ after_gap rest child
           → pairs_of new ≡ after_gap p n
       fork_back new child c m ci e =
           pairs_is new ∙ ap (λ cs. weave (map pairs_of cs) (own_pairs new)) (m.child ∙ ap (λ cs. slice_set cs 0 c) f.right_children)
@@ -271,12 +255,11 @@ module _ {K V : Type 0} where
           ∙ ap (λ zs. zs ++ after_child n step) (e ∙ ap (after_gap rest) (ci ∙ f.left_child))
           ∙ sym (ap (λ q. after_gap q n) f.path_is)
 
-      pub fork_front_levels : (new c : Node K V Z) → IsChildSet left new step c → IsRightBordered f.below c → IsRightBordered h new
+      pub fork_front_levels : (new c : Node K V Z) → IsReplaced left new step c → IsRightBordered f.below c → IsRightBordered h new
       fork_front_levels new c m b =
           let g = f.below in
           let le = f.le in
           let lt = there in
-          let fits = f.levels.0 in
           let is = m.child ∙ ap (λ cs. slice_set cs step c) f.left_children ∙ set_last (children_of n) step c there in
           let o = ap length (m.same ∙ f.left_own) ∙ length_take step (own_pairs n) le in
           let t = length_take step (children_of n) (omega arith) in
@@ -284,13 +267,10 @@ module _ {K V : Type 0} where
           subst (λ k. IsRightBordered k new) (sym f.height) (border_closed Right g new c (take step (children_of n)) [] (omega arith) (omega arith) is
           (omega arith) (all_take (IsSound g) step (children_of n) f.levels.2) b tt)
 
-      pub fork_back_levels : (new c : Node K V Z) → IsChildSet right new 0 c → IsLeftBordered f.below c → IsLeftBordered h new
+      pub fork_back_levels : (new c : Node K V Z) → IsReplaced right new 0 c → IsLeftBordered f.below c → IsLeftBordered h new
       fork_back_levels new c m b =
           let g = f.below in
-          let le = f.le in
           let lt = there in
-          let fits = f.levels.0 in
-          let e : length (children_of n) ≡ length (own_pairs n) + 1 = f.levels.1 in
           let is = m.child ∙ ap (λ cs. slice_set cs 0 c) f.right_children in
           let o = ap length (m.same ∙ f.right_own) ∙ length-drop step (own_pairs n) in
           let t = length-drop (suc step) (children_of n) in
@@ -300,7 +280,7 @@ module _ {K V : Type 0} where
 
     pub within_sound : (h : ℕ) (m : Map K V Z) → h ≤ most_height → IsSoundWithin h m → IsSoundMap m
     within_sound h None le w = tt
-    within_sound h (Some n) le w = let k = w.1 in (w.0, omega arith, w.2)
+    within_sound h (Some n) le w = (w.0, omega arith, w.2)
 
     -- the border that is made for a leaf, and for a node above one
     blank_leaf : (h : ℕ) (n top : Node K V Z) → IsLeaf n → IsBlankLeaf top → IsLevelled h n → IsBlank h top
@@ -330,7 +310,6 @@ module _ {K V : Type 0} where
         let b = (child_below h n 0 l (omega arith)).1 in
         let x = levelled_height (suc h) n l in
         let y = levelled_height h (child_at n 0) b in
-        let e : length (children_of n) ≡ length (own_pairs n) + 1 = l.1 in
         record { below = h; levels = b; lower = omega arith; there = omega arith }
 
     -- the root of a map

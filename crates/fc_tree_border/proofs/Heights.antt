@@ -54,12 +54,12 @@ module _ {K V Z : Type 0} where
 
   pub levelled_height : (h : ℕ) (n : Node K V Z) → IsLevelled h n → height_of n ≡ h
   levelled_height zero n l = no_children n (leaf_children n l.1)
-  levelled_height (suc h) n l = height_is n ∙ first_all h (IsSound h) (λ c s. levelled_height h c s.1) (children_of n) (let e = l.1 in omega arith) l.2
+  levelled_height (suc h) n l = height_is n ∙ first_all h (IsSound h) (λ c s. levelled_height h c s.1) (children_of n) (omega arith) l.2
 
   pub bordered_height : (side : Border) (h : ℕ) (n : Node K V Z) → IsBordered side h n → height_of n ≡ h
   bordered_height Left zero n l = no_children n (leaf_children n l.1)
   bordered_height Right zero n l = no_children n (leaf_children n l.1)
   bordered_height Left (suc h) n l = height_is n ∙ first_then h (IsBordered Left h) (IsSound h) (bordered_height Left h) (children_of n)
-      (let e = l.1 in omega arith) l.2
+      (omega arith) l.2
   bordered_height Right (suc h) n l = height_is n ∙ last_after h (IsBordered Right h) (IsSound h) (bordered_height Right h) (λ c s. levelled_height h c s.1)
-      (children_of n) (let e = l.1 in omega arith) l.2
+      (children_of n) (omega arith) l.2

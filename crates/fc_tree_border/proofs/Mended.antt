@@ -1,110 +1,63 @@
 -- A node whose child on the border was mended, and a root that gives way to its only child.
-use Rattle.std.proofs.Common.{◌≡◌, ℕ, zero, suc, ◌+◌, ◌<◌, ◌≤◌, List, [], ◌∷◌, ◌++◌, length, get_or, take, drop, map, refl, sym, ap, subst, ◌∙◌, arith}
+use Rattle.std.proofs.Common.{◌≡◌, ℕ, zero, suc, ◌+◌, ◌<◌, ◌≤◌, List, [], ◌∷◌, length, get_or, take, drop, map, refl, sym, ap, subst, ◌∙◌, arith}
 use Rattle.std.proofs.Common.{append-nil, Option, Some, None, MatchOption, inl, inr}
 use Rattle.std.specs.List.{AllByRecursion}
 use Rattle.fc_base.specs.Sizes.{min_len}
 use Rattle.fc_tree_node.specs.Weave.{weave}
 use Rattle.fc_tree_node.specs.declared.node.Node.{Node, out-Node}
-use Rattle.fc_tree_node.specs.Node.{own_pairs, children_of, child_at, pairs_of, IsLeaf, IsInner, IsLevelled, IsSound}
+use Rattle.fc_tree_node.specs.Node.{own_pairs, children_of, child_at, pairs_of, IsLeaf, IsLevelled, IsSound}
 use Rattle.fc_tree_node.specs.Bordered.{FirstThen, LastAfter, IsLeftBordered, IsRightBordered}
 use Rattle.fc_tree_node.specs.Siblings.{IsFormed}
 use Rattle.fc_tree_node.specs.Tree.{Map, entries, IsSoundWithin}
 use Rattle.fc_tree_node.proofs.Formed.{inner_opened}
-use Rattle.fc_tree_node.specs.Place.{before_child, after_child}
-use Rattle.fc_tree_node.proofs.Lists.{length_take, take_drop, set_is, length_set, all_both}
+use Rattle.fc_tree_node.proofs.Lists.{set_is, all_both}
 use Rattle.fc_tree_node.proofs.Pairs.{pairs_is, leaf_pairs, leaf_children}
-use Rattle.fc_tree_node.proofs.Made.{IsChildSet, children_in, inner_length}
-use Rattle.fc_tree_node.proofs.Shared.{listed_child}
-use Rattle.fc_tree_node.proofs.Gaps.{inner_gap}
-use Rattle.fc_tree_node.proofs.Siblings.{around_one}
+use Rattle.fc_tree_node.proofs.Made.{children_in, inner_length}
+use Rattle.fc_tree_node.proofs.Lent.{IsAbove, above, IsLent, lent, lent_is, IsReplaced}
 use Rattle.fc_tree_border.specs.Border.{IsBordered, border_place, IsStocked}
 use Rattle.fc_tree_node.specs.Shrunk.{IsShrunk}
-use Rattle.fc_tree_border.proofs.Borders.{IsOpened, border_opened}
+use Rattle.fc_tree_border.proofs.Borders.{border_opened}
 use Rattle.fc_tree_border.specs.declared.mending.Border.{Border}
 use Rattle.fc_tree_border.specs.declared.mending.Border.TheVariants.{Left, Right}
 
 module _ {K V : Type 0} where
   module _ {Z : Type 0} where
     -- a node above the leaves
-    pub record IsAbove (s : Border) (h : ℕ) (n : Node K V Z) : Type 0 where
-      pub below : ℕ
-      pub height : h ≡ suc below
-      pub bordered : IsBordered s (suc below) n
+    pub above_leaf : (s : Border) (h : ℕ) (n : Node K V Z) → (IsLeaf n → ⊥) → IsBordered s h n → IsAbove (IsBordered s) h n
+    above_leaf Left h n f = above (IsBordered Left) h n (λ b. f b.1)
+    above_leaf Right h n f = above (IsBordered Right) h n (λ b. f b.1)
 
-    pub above_leaf : (s : Border) (h : ℕ) (n : Node K V Z) → (IsLeaf n → ⊥) → IsBordered s h n → IsAbove s h n
-    above_leaf Left zero n f b = absurd (f b.1)
-    above_leaf Right zero n f b = absurd (f b.1)
-    above_leaf s (suc h) n f b = record { below = h; height = refl; bordered = b }
+    -- the node after it was stocked, one level above a child on its border that can spare a pair
+    abbrev pub IsStockedAbove : Border → Node K V Z → ℕ → Node K V Z → Type 0
+    IsStockedAbove s old zero mid = ⊥
+    IsStockedAbove s old (suc h) mid = IsStocked s h old mid
 
-    pub lent_bounds : (s : Border) (h : ℕ) (old mid : Node K V Z) (cs : List (Node K V Z)) (i : ℕ) → (out-Node K V Z mid).children ≡ Some cs
-        → IsStocked s h old mid → i ≡ border_place s mid → i < length cs
-    lent_bounds s h old mid cs i e st p =
-        let o = border_opened s h mid st.0 in
-        let there = o.there in
-        let inner : length (children_of mid) ≡ length (own_pairs mid) + 1 = o.inner in
-        let k = inner_length mid cs e o.inner in
-        omega arith
+    abbrev pub IsSpare : Border → ℕ → Node K V Z → Type 0
+    IsSpare s h c = IsBordered s h c × (min_len + 1 ≤ length (own_pairs c))
 
-    -- the node after it was stocked, with the child on its border lent out
-    pub record IsLent (s : Border) (h : ℕ) (old mid child : Node K V Z) (i : ℕ) : Type 0 where
-      pub below : ℕ
-      pub height : h ≡ suc below
-      pub stocked : IsStocked s below old mid
-      pub opened : IsOpened s below mid
-      pub place : i ≡ border_place s mid
-      pub is : child ≡ child_at mid i
-      pub bordered : IsBordered s below child
-      pub many : min_len + 1 ≤ length (own_pairs child)
-
-    pub lent : (s : Border) (h : ℕ) (old mid child : Node K V Z) (cs : List (Node K V Z)) (i : ℕ) → IsAbove s h old
-        → ((g : ℕ) → IsBordered s (suc g) old → IsStocked s g old mid)
-        → (out-Node K V Z mid).children ≡ Some cs → i ≡ border_place s mid → child ≡ get_or cs i child
-        → IsLent s h old mid child i
-    lent s h old mid child cs i a stocked e p q =
-        let st = stocked a.below a.bordered in
+    pub stocked_lent : (s : Border) (h : ℕ) (old mid child : Node K V Z) (i : ℕ) → IsAbove (IsBordered s) h old
+        → ((g : ℕ) → IsBordered s (suc g) old → IsStocked s g old mid) → i ≡ border_place s mid → child ≡ get_or (children_of mid) i child
+        → IsLent (IsStockedAbove s old) (IsSpare s) h mid child i
+    stocked_lent s h old mid child i a stocked p q =
+        let st = stocked a.below a.levels in
         let o = border_opened s a.below mid st.0 in
-        let is = listed_child mid i cs e i child (lent_bounds s a.below old mid cs i e st p) q in
-        let there = is ∙ ap (child_at mid) p in
-        record {
-          below = a.below;
-          height = a.height;
-          stocked = st;
-          opened = o;
-          place = p;
-          is = is;
-          bordered = subst (IsBordered s a.below) (sym there) o.child;
-          many = subst (λ n. min_len + 1 ≤ length (own_pairs n)) (sym there) st.1;
-        }
+        let le : i ≤ length (own_pairs mid) = omega (arith, o.there, o.inner, p) in
+        let on : IsAbove (IsStockedAbove s old) h mid = record { below = a.below; height = a.height; levels = st } in
+        lent on o.inner le (lent_is mid i child o.inner le q) (subst (λ j. IsSpare s a.below (child_at mid j)) (sym p) (o.child, st.1))
 
-    pub mended_pairs : (mid new child c : Node K V Z) (i : ℕ) → IsInner mid → i < length (children_of mid) → IsChildSet mid new i c → child ≡ child_at mid i
-        → pairs_of c ≡ pairs_of child → pairs_of new ≡ pairs_of mid
-    mended_pairs mid new child c i inner lt m ci e =
-        let k : length (children_of mid) ≡ length (own_pairs mid) + 1 = inner in
-        let le : i ≤ length (own_pairs mid) = omega arith in
-        around_one new c (take i (children_of mid)) (drop (suc i) (children_of mid)) (take i (own_pairs mid)) (drop i (own_pairs mid))
-        (m.child ∙ set_is (children_of mid) i c lt) (m.same ∙ sym (take_drop i (own_pairs mid)))
-        (length_take i (children_of mid) (omega arith) ∙ sym (length_take i (own_pairs mid) le))
-        ∙ ap (λ zs. before_child mid i ++ (zs ++ after_child mid i)) (e ∙ ap pairs_of ci) ∙ sym (inner_gap mid i inner le)
-
-    pub mended_levels : (s : Border) (h : ℕ) (old mid new child c : Node K V Z) (i : ℕ) (l : IsLent s h old mid child i) → IsChildSet mid new i c
+    pub mended_levels : (s : Border) (h : ℕ) (old mid new child c : Node K V Z) (i : ℕ)
+        (l : IsLent (IsStockedAbove s old) (IsSpare s) h mid child i) → i ≡ border_place s mid → IsReplaced mid new i c
         → IsShrunk l.below child c → IsShrunk h old new
-    mended_levels s h old mid new child c i l m sh =
+    mended_levels s h old mid new child c i l place m sh =
         let g = l.below in
-        let many = l.many in
-        let kept = sh.1.1 in
-        let o = l.opened in
-        let fits = o.fits in
-        let there = o.there in
-        let place = l.place in
-        let inner : length (children_of mid) ≡ length (own_pairs mid) + 1 = o.inner in
-        let same : length (own_pairs new) ≡ length (own_pairs mid) = ap length m.same in
-        let is = m.child ∙ set_is (children_of mid) i c (omega arith) in
-        let n : length (children_of new) ≡ length (children_of mid) = ap length m.child ∙ length_set (children_of mid) i c in
+        let o = border_opened s g mid l.levels.0 in
+        let there : i < length (children_of mid) = omega (arith, o.there, place) in
+        let is = m.child ∙ set_is (children_of mid) i c there in
         let before = subst (λ j. AllByRecursion (IsSound g) (take j (children_of mid))) (sym place) o.before in
         let after = subst (λ j. AllByRecursion (IsSound g) (drop (suc j) (children_of mid))) (sym place) o.after in
-        let all = subst (AllByRecursion (IsSound g)) (sym is) (all_both (IsSound g) (take i (children_of mid)) _ before ((omega arith, sh.0), after)) in
-        let few = l.stocked.2 in
-        subst (λ k. IsShrunk k old new) (sym l.height) ((omega arith, omega arith, all), (omega arith, omega arith))
+        let whole : IsSound g c = (omega (arith, l.child.1, sh.1.1), sh.0) in
+        let all = subst (AllByRecursion (IsSound g)) (sym is) (all_both (IsSound g) (take i (children_of mid)) _ before (whole, after)) in
+        subst (λ k. IsShrunk k old new) (sym l.height) ((omega (arith, m.size, o.fits), m.inner o.inner, all), (omega (arith, m.size), omega (arith, m.size)))
 
     pub bordered_formed : (s : Border) (h : ℕ) (n : Node K V Z) → IsBordered s h n → IsFormed n
     bordered_formed Left zero n b = inl b.1
@@ -150,12 +103,11 @@ module _ {K V : Type 0} where
         let o : length (children_of root) ≡ 1 = ap length e in absurd (omega arith)
     heir_levels (Some c) (suc h) root e l =
         let a = (subst (AllByRecursion (IsSound h)) e l.2).0 in
-        let many = a.0 in
         (h, omega arith, (omega arith, a.1))
 
     pub within_more : (g h : ℕ) (m : Map K V Z) → g ≤ h → IsSoundWithin g m → IsSoundWithin h m
     within_more g h None le w = tt
-    within_more g h (Some n) le w = let k = w.1 in (w.0, omega arith, w.2)
+    within_more g h (Some n) le w = (w.0, omega arith, w.2)
 
     -- the only child of a root is the one on the border
     pub record IsHeir (s : Border) (h : ℕ) (c : Node K V Z) : Type 0 where

@@ -48,13 +48,10 @@ module _ {K V Z : Type 0} where
 
   pub pair_opened : (s : Border) (h : ℕ) (n : Node K V Z) (j : ℕ) → 1 ≤ length (own_pairs n) → IsBordered s (suc h) n → j ≡ pair_place s n → IsPairAt s h n j
   pair_opened Left h n j some b e =
-      let k : length (children_of n) ≡ length (own_pairs n) + 1 = b.1 in
       let t = subst (FirstThen (IsLeftBordered h) (IsSound h)) (two_at (children_of n) 0 n (omega arith)) b.2 in
-      let m = t.1.0.0 in
       subst (λ i. IsPairAt Left h n i) (sym e)
       (record { place = refl; in_bounds = some; fits = b.0; inner = b.1; before = tt; left = t.0; right = t.1.0.1; after = t.1.1; many = omega arith })
   pair_opened Right h n j some b e =
-      let k : length (children_of n) ≡ length (own_pairs n) + 1 = b.1 in
       let D = drop (suc (suc j)) (children_of n) in
       let R = child_at n (j + 1) in
       let two = two_at (children_of n) j n (omega arith) in
@@ -63,7 +60,6 @@ module _ {K V Z : Type 0} where
       let parts = last_split (IsRightBordered h) (IsSound h) (take j (children_of n)) (child_at n j ∷ R ∷ D) (omega arith)
       (subst (LastAfter (IsRightBordered h) (IsSound h)) two b.2) in
       let ends = last_two h (child_at n j) R D (omega arith) parts.1 in
-      let m = ends.0.0 in
       record {
         place = e;
         in_bounds = omega arith;
@@ -92,10 +88,6 @@ module _ {K V Z : Type 0} where
   pub merged_stocked : (s : Border) (h : ℕ) (old new : Node K V Z) (j : ℕ) → IsPairAt s h old j
       → both_of old j < capacity → IsMerged j old new → IsStocked s h old new
   merged_stocked s h old new j p room m =
-      let lt = p.in_bounds in
-      let many = p.many in
-      let fits = p.fits in
-      let k : length (children_of old) ≡ length (own_pairs old) + 1 = p.inner in
       let d = (item_there (own_pairs old) j p.in_bounds).0 in
       let o : length (own_pairs new) + 1 ≡ length (own_pairs old) = ap (λ ps. length ps + 1) m.pairs ∙ length-remove (own_pairs old) j p.in_bounds in
       let w = ap length (m.own d) ∙ length-append (own_pairs (child_at old j)) (get_or (own_pairs old) j d ∷ own_pairs (child_at old (j + 1))) in
@@ -121,14 +113,11 @@ module _ {K V Z : Type 0} where
   traded : (s : Border) (h : ℕ) (old new : Node K V Z) (j : ℕ) → IsPairAt s h old j → capacity ≤ both_of old j → both_of old j ≤ capacity + (min_len + 1)
       → (k : ℕ) → k ≡ left_share s (both_of old j) → (m : IsShared j k old new) → IsTraded s h old new m.left m.right j
   traded s h old new j p lo hi n w m =
-      let lt = p.in_bounds in
       let fits = p.fits in
-      let k : length (children_of old) ≡ length (own_pairs old) + 1 = p.inner in
       let o : length (own_pairs new) ≡ length (own_pairs old) = ap length m.pairs ∙ length_set (own_pairs old) j m.between in
       let a = length-append (own_pairs m.left) (m.between ∷ own_pairs m.right) in
       let b = ap length (m.own m.between) ∙ length-append (own_pairs (child_at old j))
       (get_or (own_pairs old) j m.between ∷ own_pairs (child_at old (j + 1))) in
-      let size = m.size in
       let few = share_fits s (both_of old j) lo hi in
       record {
         own = o;
@@ -143,11 +132,8 @@ module _ {K V Z : Type 0} where
       → both_of old j ≤ capacity + (min_len + 1) → (k : ℕ) → k ≡ left_share s (both_of old j) → IsShared j k old new → IsStocked s h old new
   shared_stocked Left h old new j p lo hi n w m =
       let t = traded Left h old new j p lo hi n w m in
-      let lt = p.in_bounds in
-      let z = m.size in
       let front : length (take j (children_of old)) ≡ 0 = length_take j (children_of old) (omega arith) ∙ p.place in
-      let c = ap (λ n. length (own_pairs n)) (child_here new m.left _ _ 0 t.there front) in
-      let size = t.sizes in (
+      let c = ap (λ n. length (own_pairs n)) (child_here new m.left _ _ 0 t.there front) in (
         border_closed Left h new m.left _ _ t.fits (shared_inner old j p.inner p.in_bounds _ new m) t.there front p.before t.sides.0
             ((omega arith, t.sides.1), p.after),
         omega arith,
@@ -155,17 +141,12 @@ module _ {K V Z : Type 0} where
       )
   shared_stocked Right h old new j p lo hi n w m =
       let t = traded Right h old new j p lo hi n w m in
-      let lt = p.in_bounds in
-      let z = m.size in
       let A = take j (children_of old) in
-      let o = t.own in
       let there = t.there ∙ sym (append_assoc A (m.left ∷ []) (m.right ∷ drop (suc (suc j)) (children_of old))) in
-      let e = p.place in
       let a = length_take j (children_of old) (omega arith) in
       let b = length-append A (m.left ∷ []) in
       let front : length (A ++ m.left ∷ []) ≡ length (own_pairs new) = omega arith in
-      let c = ap (λ n. length (own_pairs n)) (child_here new m.right _ _ _ there front) in
-      let size = t.sizes in (
+      let c = ap (λ n. length (own_pairs n)) (child_here new m.right _ _ _ there front) in (
         border_closed Right h new m.right _ _ t.fits (shared_inner old j p.inner p.in_bounds _ new m) there front
             (all_both (IsSound h) A (m.left ∷ []) p.before ((omega arith, t.sides.0), tt)) t.sides.1 p.after,
         omega arith,

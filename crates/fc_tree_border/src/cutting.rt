@@ -10,6 +10,7 @@ ghost use Rattle.fc_tree_border.specs.Cut.{IsBlank, IsCutPath, IsCutPathIn, IsCu
 use crate::counting::count_in;
 use crate::mending::{mend_left, mend_right};
 use fc_base::{Count, Handle, TryReserveError};
+use fc_tree_node::lend::child_in;
 use fc_tree_node::node::Node;
 
 /// Cuts a tree of `len` pairs in two, as `try_split` does, and answers the right part with the number of its pairs. Only the part
@@ -136,14 +137,8 @@ fn cut_into<K: Drop, V: Drop, A: Handle>(
         return;
     }
     let rest = &path[1..];
-    let Some(children) = &mut node.children else {
-        unreachable!()
-    };
-    let Some(others) = &mut right.children else {
-        unreachable!()
-    };
-    let child: &mut Node<K, V, A> = children.get_mut(i);
-    let other: &mut Node<K, V, A> = others.get_mut(0);
+    let child = child_in(&mut node.children, i);
+    let other = child_in(&mut right.children, 0);
     cut_into(child, rest, other, count);
 }
 

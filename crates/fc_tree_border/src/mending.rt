@@ -9,6 +9,7 @@ ghost use Rattle.fc_tree_border.specs.Border.{IsBordered, border_place, IsStocke
 ghost use Rattle.fc_tree_node.specs.Shrunk.{IsShrunk};
 
 use fc_base::{Count, Handle};
+use fc_tree_node::lend::child_in;
 use fc_tree_node::node::{CAPACITY, MIN_LEN, Node};
 
 /// The border of a tree where nodes may hold too few pairs.
@@ -95,13 +96,7 @@ fn mend_below<K: Drop, V: Drop, A: Handle>(
     }
     stock(node, side, count);
     let place = border_child(node, side);
-    match &mut node.children {
-        None => unreachable!(),
-        Some(children) => {
-            let child: &mut Node<K, V, A> = children.get_mut(place);
-            mend_below(child, side, count);
-        }
-    }
+    mend_below(child_in(&mut node.children, place), side, count);
 }
 
 /// The place of the child on the border.

@@ -8,7 +8,7 @@ use Rattle.std.specs.declared.cmp.Ordering.TheVariants.{Less, Equal, Greater}
 use Rattle.std.specs.List.{AllByRecursion}
 use Rattle.std.proofs.lemmas.Bool.{false≢true}
 use Rattle.std.proofs.Math.Seq.{take-suc, take-length}
-use Rattle.std.proofs.lemmas.List.{length-map}
+use Rattle.std.proofs.lemmas.List.{length-map, nil_from_length}
 use Rattle.fc_base.specs.Sizes.{capacity}
 use Rattle.fc_tree_node.specs.declared.node.Node.{Node}
 use Rattle.fc_tree_node.specs.Node.{own_pairs, children_of, pairs_of, IsLeaf, IsSound, IsSoundRoot}
@@ -16,7 +16,7 @@ use Rattle.fc_tree_node.specs.Weave.{before_list}
 use Rattle.fc_tree_node.proofs.Lists.{all_front, all_back}
 use Rattle.fc_tree_node.proofs.Pairs.{leaf_children}
 use Rattle.fc_tree_drain.specs.Opened.{before_back_in, before_back, closing}
-use Rattle.fc_tree_drain.proofs.Opening.{no_item, whole_back, back_push, empty_back}
+use Rattle.fc_tree_drain.proofs.Opening.{whole_back, back_push, empty_back}
 use Rattle.fc_tree_build.specs.Spine.{IsOpenEnd, IsSpine, level_above}
 use Rattle.fc_tree_build.specs.Built.{IsBehindLast}
 
@@ -33,7 +33,7 @@ less_then Equal b e h = absurd (cc h)
 less_then Greater b e h = absurd (cc h)
 
 module _ {X : Type 0} where
-  last_same : (a b : List X) (x y : X) → a ++ x ∷ [] ≡ b ++ y ∷ [] → x ≡ y
+  pub last_same : (a b : List X) (x y : X) → a ++ x ∷ [] ≡ b ++ y ∷ [] → x ≡ y
   last_same [] [] x y e = cc e
   last_same [] (z ∷ b) x y e = absurd (let n = ap length e ∙ ap suc (length-append b (y ∷ [])) in omega arith)
   last_same (z ∷ a) [] x y e = absurd (let n = ap length e in let m = length-append a (x ∷ []) in omega arith)
@@ -85,7 +85,6 @@ module _ {K V Z : Type 0} where
   pub end_last : (s new : List (Node K V Z)) (b : Node K V Z) (k i : ℕ) (p : K × V) → new ≡ s ++ b ∷ [] → IsOpenEnd k b → i + 1 ≡ length (own_pairs b)
       → p ≡ slice_index_or (own_pairs b) i p → (front : List (K × V)) × (before_back new ≡ front ++ p ∷ [])
   end_last s new b k i p e o l f =
-      let same = o.2 in
       let n = length-map (children_of b) pairs_of in
       let none : length (own_pairs b) - length (children_of b) ≡ 0 = omega arith in
       let r = last_before i (own_pairs b) (map pairs_of (children_of b)) p (omega arith) l in (
@@ -98,15 +97,14 @@ module _ {K V Z : Type 0} where
   pub end_none : (s new : List (Node K V Z)) (b : Node K V Z) (k : ℕ) → new ≡ s ++ b ∷ [] → IsOpenEnd k b → length (own_pairs b) ≡ 0
       → before_back new ≡ before_back s
   end_none s new b k e o l =
-      let same = o.2 in
-      let none = no_item (children_of b) (omega arith) in
+      let none = nil_from_length (children_of b) (omega arith) in
       back_push s new b e ∙ sym (empty_back b s 0 (omega arith, λ j. absurd (omega arith), none) l)
 
   -- ---- a tree opened at its right edge
 
   pub bottom : (h : ℕ) (n : Node K V Z) → IsSoundRoot h n → length (children_of n) ≡ 0 → (h ≡ 0) × (length (own_pairs n) ≤ capacity) × IsLeaf n
   bottom zero n s e = (refl, s.1.0, s.1.1)
-  bottom (suc h) n s e = absurd (let i = s.1.1 in omega arith)
+  bottom (suc h) n s e = absurd (omega arith)
 
   -- a node n, which without its last child c is m
   pub record IsOpenedRight (h : ℕ) (n m c : Node K V Z) : Type 0 where
@@ -121,13 +119,10 @@ module _ {K V Z : Type 0} where
   opened_right zero n m c s l f e = absurd (let z = ap length (leaf_children n s.1.1) in omega arith)
   opened_right (suc h) n m c s l f e =
       let i = s.1.1 in
-      let some = s.0 in
-      let most = s.1.0 in
       let a = ap length e in
       let b = ap length f ∙ length-append (children_of m) (c ∷ []) in
       let all = subst (AllByRecursion (IsSound h)) f s.1.2 in
       let last = (all_back (IsSound h) (children_of m) (c ∷ []) all).0 in
-      let least = last.0 in
       record {
         level = h;
         above = refl;

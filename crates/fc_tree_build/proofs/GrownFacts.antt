@@ -51,12 +51,10 @@ module _ {K V Z : Type 0} where
       → n < 2 ^ 64 - 1 - 2 * capacity → IsBlankLeaf new → before_back s ≡ before_back old ++ (pairs_of leaf ++ p ∷ []) → IsSpine 0 s × (length s ≤ most_height)
       → IsGrown s (Some new) (n + (capacity + 1))
   hung_grown s old n leaf new p g full low blank e levels =
-      let few = g.0.0 in
       let own = ap length (leaf_pairs leaf g.0.1) in
       let l = ap length e ∙ length-append (before_back old) (pairs_of leaf ++ p ∷ []) in
       let m = length-append (pairs_of leaf) (p ∷ []) in
       let none = ap length blank.0 in
-      let before = g.1 in
       ((omega arith, blank.1, levels.0, levels.1), omega arith, omega arith)
 
   pub hung_pairs : (s old : List (Node K V Z)) (leaf new : Node K V Z) (p : K × V) (zs : List (K × V)) → IsLeaf leaf → IsBlankLeaf new
@@ -82,7 +80,7 @@ module _ {K V Z : Type 0} where
 
   pub closed_sound : (s : List (Node K V Z)) (o : Option (Node K V Z)) → length s ≤ most_height → IsSoundWithin (level_above 0 s) o → IsSoundMap o
   closed_sound s None low w = tt
-  closed_sound s (Some root) low w = let l = level_is s in let high = w.1 in (w.0, omega arith, w.2)
+  closed_sound s (Some root) low w = let l = level_is s in (w.0, omega arith, w.2)
 
   pub opened_grown : (s : List (Node K V Z)) (leaf : Node K V Z) (n len : ℕ) (zs : List (K × V)) → len ≡ length zs → len + capacity ≤ 2 ^ 64 - 1
       → before_back s ++ own_pairs leaf ≡ zs → n ≡ length (own_pairs leaf) → length (own_pairs leaf) ≤ capacity → IsLeaf leaf

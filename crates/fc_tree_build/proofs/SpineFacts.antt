@@ -29,13 +29,10 @@ tally_more a w n l k t = within (cases_lt k capacity) t
     within : (k < capacity) ⊎ (capacity ≤ k) → IsTally a w n l → IsTally (if nat_le capacity k then suc a else 0) (most_children * w + k) (n + k) (l + 1)
     within (inr full) (inl t) =
         let is = full_one a k full in
-        let all = t.0 in
-        let many = t.1 in
-        let pairs = t.2 in
         let more = pow-suc most_children l in
         let next : most_children ^ (l + 1) ≡ most_children ^ suc l = ap (λ j. most_children ^ j) (add-one l) in
         inl (omega arith, omega arith, omega arith)
-    within (inr full) (inr t) = let is = full_one a k full in let few = t.0 in let pairs = t.1 in inr (omega arith, omega arith)
+    within (inr full) (inr t) = let is = full_one a k full in inr (omega arith, omega arith)
     within (inl room) t = let is = room_one a k room in inr (omega arith, omega arith)
 
 module _ {K V Z : Type 0} where
@@ -97,7 +94,7 @@ module _ {K V Z : Type 0} where
   -- ---- a child at the end, and the pair that comes after it
 
   pub child_room : (h : ℕ) (n : Node K V Z) → IsOpenEnd h n → length (children_of n) ≤ capacity
-  child_room h n o = let a = o.0 in let b = o.2 in omega arith
+  child_room h n o = omega arith
 
   children_both : (h : ℕ) (n m c : Node K V Z) → IsOpenEnd h n → children_of m ≡ children_of n ++ c ∷ [] → IsSound h c
       → AllByRecursion (IsSound h) (children_of m)
@@ -111,13 +108,11 @@ module _ {K V Z : Type 0} where
       let b = ap length f ∙ length-append (children_of n) (c ∷ []) in
       let d = ap length q ∙ length-append (own_pairs m) (p ∷ []) in
       let g = ap length i in
-      let w = o.2 in
       (omega arith, k, omega arith, subst (AllByRecursion (IsSound h)) (sym i) (children_both h n m c o f s))
 
   pub end_pairs : (h : ℕ) (n m r c : Node K V Z) (p : K × V) → IsOpenEnd h n → own_pairs m ≡ own_pairs n → children_of m ≡ children_of n ++ c ∷ []
       → own_pairs r ≡ own_pairs m ++ p ∷ [] → children_of r ≡ children_of m → before_back_in r ≡ before_back_in n ++ (pairs_of c ++ p ∷ [])
   end_pairs h n m r c p o e f q i =
-      let w = o.2 in
       back_last r n p c (q ∙ ap (λ ps. ps ++ p ∷ []) e) (i ∙ f) (omega arith) (omega arith)
 
   -- the whole spine, once its last node n has become b
@@ -133,14 +128,12 @@ module _ {K V Z : Type 0} where
   closed_inner h n m c o e f =
       let a = ap length e in
       let b = ap length f ∙ length-append (children_of n) (c ∷ []) in
-      let w = o.2 in
       omega arith
 
   pub closed_sound : (h : ℕ) (n m c : Node K V Z) → IsOpenEnd h n → own_pairs m ≡ own_pairs n → children_of m ≡ children_of n ++ c ∷ []
       → capacity ≤ length (own_pairs m) → IsSound h c → IsSound (suc h) m
   closed_sound h n m c o e f l s =
       let a = ap length e in
-      let w = o.0 in
       (omega arith, (omega arith, closed_inner h n m c o e f, children_both h n m c o f s))
 
   pub closed_pairs : (h : ℕ) (n m c : Node K V Z) → IsOpenEnd h n → own_pairs m ≡ own_pairs n → children_of m ≡ children_of n ++ c ∷ []
@@ -155,8 +148,7 @@ module _ {K V Z : Type 0} where
   pub closed_bordered : (h : ℕ) (n m c : Node K V Z) → IsOpenEnd h n → own_pairs m ≡ own_pairs n → children_of m ≡ children_of n ++ c ∷ [] → IsRightBordered h c
       → IsRightBordered (suc h) m
   closed_bordered h n m c o e f r =
-      let a = ap length e in
-      let w = o.0 in (
+      let a = ap length e in (
         omega arith,
         closed_inner h n m c o e f,
         subst (LastAfter (IsRightBordered h) (IsSound h)) (sym f)
@@ -210,7 +202,6 @@ module _ {K V Z : Type 0} where
   digits_below : (h l w : ℕ) (s : List (Node K V Z)) → IsSpine h s → w < most_children ^ l → digits_after w s < most_children ^ (l + length s)
   digits_below h l w [] f b = subst (λ j. w < most_children ^ j) (let e : l ≡ l + 0 = omega arith in e) b
   digits_below h l w (n ∷ s) f b =
-      let few = f.0.0 in
       let more = pow-suc most_children l in
       let all = digits_below h (suc l) (most_children * w + length (own_pairs n)) s f.1 (omega arith) in
       subst (λ j. digits_after w (n ∷ s) < most_children ^ j) (let e : suc l + length s ≡ l + suc (length s) = omega arith in e) all
@@ -256,17 +247,14 @@ module _ {K V Z : Type 0} where
   enough_needed h i q s f some e = (
     let one = above_one h s f e.1 e.0 in
         let grows = above_grows most_levels (worth s + 1) (worth s + q) (omega arith) in
-        let all = e.3 in
         omega arith,
     within (tally 1 0 0 0 s (inl (omega arith, omega arith, omega arith))) (cases_lt (length s) most_height),
   )
     where
       within : IsTally (needed s) (worth s) (0 + own_count s) (0 + length s) → (length s < most_height) ⊎ (most_height ≤ length s) → needed s ≤ most_height
-      within (inr t) o = let a = t.0 in let l = e.0 in omega arith
-      within (inl t) (inl o) = let a = t.0 in omega arith
+      within (inr t) o = omega arith
+      within (inl t) (inl o) = omega arith
       within (inl t) (inr o) =
-          let many : most_children ^ (0 + length s) ≤ worth s + 1 = t.1 in
-          let less : worth s + q < most_children ^ most_height = e.2 in
           let big = more_digits most_height (0 + length s) (omega arith) in
           absurd (omega arith)
 
@@ -280,10 +268,8 @@ module _ {K V Z : Type 0} where
           let big = more_digits (length new) (length s) l in
           let short : most_children ^ length s ≤ most_children * worth s + 1 = i in
           omega arith
-      within (inr t) (inl all) = absurd (let a = t.0 in omega arith)
+      within (inr t) (inl all) = absurd (omega arith)
       within (inl t) (inl all) =
-          let a = t.0 in
-          let many : most_children ^ (0 + length s) ≤ worth s + 1 = t.1 in
           let l = f (suc (0 + length s)) (omega arith) (omega arith) in
           let big = more_digits (length new) (suc (0 + length s)) l in
           let more = pow-suc most_children (0 + length s) in
@@ -295,8 +281,6 @@ module _ {K V Z : Type 0} where
       let next = above_one h s f e.1 e.0 in
       let now = ap (inner_above most_levels) w in
       let last : inner_above most_levels (worth new + r) ≡ inner_above most_levels (worth s + q) = ap (inner_above most_levels) (omega arith) in
-      let all = e.3 in
-      let high = e.2 in
       (l, short_left s new e.1 w short, omega arith, omega arith)
 
   -- how many spare nodes one more subtree takes where the spine's last node has room, or where there is none

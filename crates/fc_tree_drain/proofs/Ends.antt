@@ -1,12 +1,13 @@
 -- The first pair that is left of a tree that is taken apart, and when none is.
 use Rattle.std.proofs.Common.{◌≡◌, ℕ, zero, suc, ◌+◌, ◌-◌, ◌<◌, List, [], ◌∷◌, ◌++◌, length, get_or, refl, sym, ap, ◌∙◌, arith, map, append_assoc}
 use Rattle.std.proofs.Common.{append-nil, length-append}
+use Rattle.std.proofs.lemmas.List.{nil_from_length}
 use Rattle.fc_base.specs.Sizes.{most_levels}
 use Rattle.fc_tree_node.specs.declared.node.Node.{Node}
 use Rattle.fc_tree_node.specs.Node.{own_pairs, children_of, pairs_of}
 use Rattle.fc_tree_node.specs.Weave.{before_list, after_list}
 use Rattle.fc_tree_drain.specs.Opened.{closing, IsFalling, after_front_in, before_back_in, after_front, before_back}
-use Rattle.fc_tree_drain.proofs.Opening.{no_item, front_push, top_some}
+use Rattle.fc_tree_drain.proofs.Opening.{front_push, top_some}
 
 module _ {X : Type 0} where
   -- a list with an item at its last place
@@ -42,11 +43,12 @@ module _ {X : Type 0} where
 
   -- What the front took over is all that the back had.
   pub refilled_front : (new rest old r front back : List X) → new ++ rest ≡ old → old ++ r ≡ back → length front ≡ 0 → new ++ (rest ++ r) ≡ front ++ back
-  refilled_front new rest old r front back e f h = sym (append_assoc new rest r) ∙ ap (λ zs. zs ++ r) e ∙ f ∙ ap (λ zs. zs ++ back) (sym (no_item front h))
+  refilled_front new rest old r front back e f h =
+      sym (append_assoc new rest r) ∙ ap (λ zs. zs ++ r) e ∙ f ∙ ap (λ zs. zs ++ back) (sym (nil_from_length front h))
 
   pub refilled_back : (r rest new old front back : List X) → rest ++ new ≡ old → r ++ old ≡ front → length back ≡ 0 → (r ++ rest) ++ new ≡ front ++ back
   refilled_back r rest new old front back e f h =
-      append_assoc r rest new ∙ ap (λ zs. r ++ zs) e ∙ f ∙ sym (append-nil front) ∙ ap (λ zs. front ++ zs) (sym (no_item back h))
+      append_assoc r rest new ∙ ap (λ zs. r ++ zs) e ∙ f ∙ sym (append-nil front) ∙ ap (λ zs. front ++ zs) (sym (nil_from_length back h))
 
 module _ {K V Z : Type 0} where
   pub front_some : (s : List (Node K V Z)) (low high : ℕ) → IsFalling low high s → 0 < length s → 0 < length (after_front s)
@@ -63,11 +65,11 @@ module _ {K V Z : Type 0} where
 
   -- Nothing is left just where no node is, and no pair of a leaf.
   pub none_front : (xs : List (K × V)) (s : List (Node K V Z)) → IsFalling 0 most_levels s → length (xs ++ after_front s) ≡ 0 → (xs ≡ []) × (length s ≡ 0)
-  none_front xs [] f e = let a = length-append xs (after_front {K = K} {V = V} {Z = Z} []) in (no_item xs (omega arith), refl)
+  none_front xs [] f e = let a = length-append xs (after_front {K = K} {V = V} {Z = Z} []) in (nil_from_length xs (omega arith), refl)
   none_front xs (b ∷ s) f e = let a = length-append xs (after_front (b ∷ s)) in let k = front_some (b ∷ s) 0 most_levels f (omega arith) in absurd (omega arith)
 
   pub none_back : (s : List (Node K V Z)) (xs : List (K × V)) → IsFalling 0 most_levels s → length (before_back s ++ xs) ≡ 0 → (xs ≡ []) × (length s ≡ 0)
-  none_back [] xs f e = (no_item xs e, refl)
+  none_back [] xs f e = (nil_from_length xs e, refl)
   none_back (b ∷ s) xs f e = let a = length-append (before_back (b ∷ s)) xs in let k = back_some (b ∷ s) 0 most_levels f (omega arith) in absurd (omega arith)
 
   -- What is left where no pair of a leaf is, is in nodes.

@@ -2,7 +2,7 @@
 use Rattle.std.proofs.Common.{◌≡◌, ℕ, zero, suc, ◌+◌, ◌-◌, ◌<◌, ◌≤◌, List, [], ◌∷◌, ◌++◌, length, map, refl, sym, ap, ◌∙◌, subst, arith, append_assoc}
 use Rattle.std.proofs.Common.{append-nil, length-append}
 use Rattle.std.specs.List.{AllByRecursion}
-use Rattle.std.proofs.lemmas.List.{length-map, map-append}
+use Rattle.std.proofs.lemmas.List.{length-map, map-append, nil_from_length}
 use Rattle.fc_base.specs.Sizes.{most_levels}
 use Rattle.fc_tree_node.specs.declared.node.Node.{Node}
 use Rattle.fc_tree_node.specs.Node.{own_pairs, children_of, pairs_of, IsInner, IsLevelled, IsSound, IsSoundRoot}
@@ -60,10 +60,6 @@ module _ {X : Type 0} where
   after_last (p ∷ q ∷ ps) [] c e = absurd (omega arith)
   after_last (p ∷ q ∷ ps) (b ∷ cs) c e =
       ap (λ zs. p ∷ (b ++ zs)) (after_last (q ∷ ps) cs c (omega arith)) ∙ ap (λ zs. p ∷ zs) (sym (append_assoc b (after_list (q ∷ ps) cs) c))
-
-  pub no_item : (xs : List X) → length xs ≡ 0 → xs ≡ []
-  no_item [] e = refl
-  no_item (x ∷ xs) e = absurd (omega arith)
 
 module _ {K V Z : Type 0} where
   lists : (cs : List (Node K V Z)) → length (map pairs_of cs) ≡ length cs
@@ -172,7 +168,7 @@ module _ {K V Z : Type 0} where
     pub others : AreBelow h cs
 
   root_of_sound : (h : ℕ) (c : Node K V Z) → IsSound h c → IsSoundRoot h c
-  root_of_sound h c s = let f = s.0 in (omega arith, s.1)
+  root_of_sound h c s = (omega arith, s.1)
 
   pub below_first : (h : ℕ) (cs ds : List (Node K V Z)) (c : Node K V Z) → cs ≡ c ∷ ds → AreBelow h cs → IsParted h c ds
   below_first zero cs ds c e b = absurd (let f = ap length (sym b ∙ e) in omega arith)
@@ -196,11 +192,11 @@ module _ {K V Z : Type 0} where
 
   falling_high : (low high more : ℕ) (s : List (Node K V Z)) → high ≤ more → IsFalling low high s → IsFalling low more s
   falling_high low high more [] h f = omega arith
-  falling_high low high more (b ∷ s) h f = let k = f.1 in (f.0, omega arith, f.2, f.3, f.4)
+  falling_high low high more (b ∷ s) h f = (f.0, omega arith, f.2, f.3, f.4)
 
   falling_room : (low high : ℕ) (s : List (Node K V Z)) → IsFalling low high s → length s + low ≤ high
   falling_room low high [] f = omega arith
-  falling_room low high (b ∷ s) f = let r = falling_room low f.0 s f.4 in let k = f.1 in omega arith
+  falling_room low high (b ∷ s) f = let r = falling_room low f.0 s f.4 in omega arith
 
   falling_push : (h high : ℕ) (s : List (Node K V Z)) (b : Node K V Z) → IsFalling (suc h) high s → 0 < length (own_pairs b) → IsOpened h b
       → IsFalling h high (s ++ b ∷ [])
@@ -215,7 +211,7 @@ module _ {K V Z : Type 0} where
     pub rest : IsFalling (suc level) high s
 
   falling_pop : (low high : ℕ) (s : List (Node K V Z)) (b : Node K V Z) → IsFalling low high (s ++ b ∷ []) → IsTop b s high
-  falling_pop low high [] b f = record { level = f.0; some = f.2; opened = f.3; rest = let k = f.1 in omega arith }
+  falling_pop low high [] b f = record { level = f.0; some = f.2; opened = f.3; rest = omega arith }
   falling_pop low high (x ∷ s) b f =
       let i = falling_pop low f.0 s b f.4 in
       record { level = i.level; some = i.some; opened = i.opened; rest = (f.0, f.1, f.2, f.3, i.rest) }
@@ -246,7 +242,6 @@ module _ {K V Z : Type 0} where
   under_parted n c s new b u p l e f =
       let i = levelled_inner u.0 n u.1.1 (omega arith) in
       let a = ap length e in
-      let k = u.1.0 in
       let o : IsOpened u.0 b = (omega arith, λ _. omega arith, p.others) in (
         p.level,
         p.child,
@@ -306,7 +301,6 @@ module _ {K V Z : Type 0} where
       let ld = ap length d in
       let li = ap length i in
       let lj = ap length j in
-      let o = t.opened.0 in
       let w = t.opened.1 (omega arith) in
       record { level = t.level; opened = (omega arith, λ _. omega arith, r.others); near = omega arith; rest = t.rest; parted = r }
 
@@ -320,7 +314,6 @@ module _ {K V Z : Type 0} where
       let ld = ap length d in
       let li = ap length i ∙ length-append (children_of m) (c ∷ []) in
       let lj = ap length j in
-      let o = t.opened.0 in
       let w = t.opened.1 (omega arith) in
       record { level = t.level; opened = (omega arith, λ _. omega arith, r.others); near = omega arith; rest = t.rest; parted = r }
 
@@ -346,14 +339,13 @@ module _ {K V Z : Type 0} where
 
   pub empty_front : (m : Node K V Z) (s : List (Node K V Z)) (h : ℕ) → IsOpened h m → length (own_pairs m) ≡ 0
       → after_front s ≡ after_front_in m ++ after_front s
-  empty_front m s h o e = ap (λ ps. after_list ps (map pairs_of (children_of m)) ++ after_front s) (sym (no_item (own_pairs m) e))
+  empty_front m s h o e = ap (λ ps. after_list ps (map pairs_of (children_of m)) ++ after_front s) (sym (nil_from_length (own_pairs m) e))
 
   pub empty_back : (m : Node K V Z) (s : List (Node K V Z)) (h : ℕ) → IsOpened h m → length (own_pairs m) ≡ 0
       → before_back s ≡ before_back s ++ before_back_in m
   empty_back m s h o e =
-      let l = o.0 in
       sym (append-nil (before_back s)) ∙ ap (λ zs. before_back s ++ zs)
-      (sym (no_item (own_pairs m) e) ∙ sym (back_own m (no_item (children_of m) (omega arith))))
+      (sym (nil_from_length (own_pairs m) e) ∙ sym (back_own m (nil_from_length (children_of m) (omega arith))))
 
   -- ---- the pairs that are left, once one is given out
 
@@ -367,7 +359,7 @@ module _ {K V Z : Type 0} where
   pub gave_first_alone : (old s new : List (Node K V Z)) (b n : Node K V Z) (p : K × V) → old ≡ s ++ b ∷ [] → own_pairs b ≡ p ∷ own_pairs n
       → children_of n ≡ children_of b → length (children_of n) ≡ 0 → after_front new ≡ after_front_in n ++ after_front s → after_front old ≡ p ∷ after_front new
   gave_first_alone old s new b n p e q d z k =
-      let f = no_item (children_of n) z in
+      let f = nil_from_length (children_of n) z in
       front_push s old b e ∙ ap (λ zs. zs ++ after_front s) (front_alone b n p q (sym d ∙ f) f) ∙ ap (λ zs. p ∷ zs) (sym k)
 
   pub gave_last : (old s mid : List (Node K V Z)) (new : List (K × V)) (b n m c : Node K V Z) (p : K × V) → IsGiven m c s → old ≡ s ++ b ∷ []
@@ -382,20 +374,20 @@ module _ {K V Z : Type 0} where
       → children_of n ≡ children_of b → length (children_of n) ≡ 0 → before_back new ≡ before_back s ++ before_back_in n
       → before_back old ≡ before_back new ++ p ∷ []
   gave_last_alone old s new b n p e q d z k =
-      let f = no_item (children_of n) z in
+      let f = nil_from_length (children_of n) z in
       back_push s old b e ∙ ap (λ zs. before_back s ++ zs) (back_alone b n p q (sym d ∙ f) f) ∙ sym (append_assoc (before_back s) (before_back_in n) (p ∷ []))
       ∙ ap (λ zs. zs ++ p ∷ []) (sym k)
 
   -- ---- the lowest node of one stack goes over to the other, which is empty
 
   pub bottom_rest : (old rest : List (Node K V Z)) (b : Node K V Z) → IsFalling 0 most_levels old → old ≡ b ∷ rest → IsFalling 0 most_levels rest
-  bottom_rest old rest b f e = let t = subst (IsFalling 0 most_levels) e f in let k = t.1 in falling_high 0 t.0 most_levels rest (omega arith) t.4
+  bottom_rest old rest b f e = let t = subst (IsFalling 0 most_levels) e f in falling_high 0 t.0 most_levels rest (omega arith) t.4
 
   pub bottom_over : (old rest target new : List (Node K V Z)) (b : Node K V Z) → IsFalling 0 most_levels old → old ≡ b ∷ rest → length target ≡ 0
       → new ≡ target ++ b ∷ [] → IsFalling 0 most_levels new
   bottom_over old rest target new b f e z i =
       let t = subst (IsFalling 0 most_levels) e f in
-      subst (IsFalling 0 most_levels) (sym (i ∙ ap (λ s. s ++ b ∷ []) (no_item target z))) (t.0, t.1, t.2, t.3, omega arith)
+      subst (IsFalling 0 most_levels) (sym (i ∙ ap (λ s. s ++ b ∷ []) (nil_from_length target z))) (t.0, t.1, t.2, t.3, omega arith)
 
   -- the node, which begins and ends with a child
   pub record IsEven (n : Node K V Z) : Type 0 where
@@ -405,7 +397,7 @@ module _ {K V Z : Type 0} where
   pub bottom_even : (old rest : List (Node K V Z)) (b : Node K V Z) → IsFalling 0 most_levels old → old ≡ b ∷ rest
       → length (own_pairs b) ≤ length (children_of b) → IsEven b
   bottom_even old rest b f e h =
-      let t = subst (IsFalling 0 most_levels) e f in let k = t.2 in let o = t.3.0 in record { same = omega arith; some = omega arith }
+      let t = subst (IsFalling 0 most_levels) e f in record { same = omega arith; some = omega arith }
 
   under_bottom : (h : ℕ) (target mid : List (Node K V Z)) (d c : Node K V Z) → h < most_levels → 0 < length (own_pairs d)
       → length (children_of d) + 1 ≡ length (own_pairs d) → IsParted h c (children_of d) → length target ≡ 0 → mid ≡ target ++ d ∷ [] → IsUnder c mid
@@ -413,7 +405,7 @@ module _ {K V Z : Type 0} where
     p.level,
     p.child,
     subst (λ j. IsFalling j most_levels mid) p.above
-        (subst (IsFalling h most_levels) (sym (i ∙ ap (λ s. s ++ d ∷ []) (no_item target z)))
+        (subst (IsFalling h most_levels) (sym (i ∙ ap (λ s. s ++ d ∷ []) (nil_from_length target z)))
         (h, l, k, (omega arith, λ _. omega arith, p.others), omega arith)),
   )
 
@@ -423,8 +415,6 @@ module _ {K V Z : Type 0} where
       let t = subst (IsFalling 0 most_levels) e f in
       let a = ap length i in
       let w = ap length j in
-      let y = v.same in
-      let x = t.2 in
       under_bottom t.0 target mid d c t.1 (omega arith) (omega arith) (below_first t.0 (children_of b) (children_of d) c i t.3.2) z k
 
   pub under_over_last : (old rest target mid : List (Node K V Z)) (b d c : Node K V Z) → IsFalling 0 most_levels old → old ≡ b ∷ rest → IsEven b
@@ -433,15 +423,13 @@ module _ {K V Z : Type 0} where
       let t = subst (IsFalling 0 most_levels) e f in
       let a = ap length i ∙ length-append (children_of d) (c ∷ []) in
       let w = ap length j in
-      let y = v.same in
-      let x = t.2 in
       under_bottom t.0 target mid d c t.1 (omega arith) (omega arith) (below_last t.0 (children_of b) (children_of d) c i t.3.2) z k
 
   front_none : (s : List (Node K V Z)) → length s ≡ 0 → after_front s ≡ []
-  front_none s z = ap after_front (no_item s z)
+  front_none s z = ap after_front (nil_from_length s z)
 
   back_none : (s : List (Node K V Z)) → length s ≡ 0 → before_back s ≡ []
-  back_none s z = ap before_back (no_item s z)
+  back_none s z = ap before_back (nil_from_length s z)
 
   -- what goes over with its pairs, to the front
   pub filled_front : (back rest : List (Node K V Z)) (new : List (K × V)) (b : Node K V Z) → back ≡ b ∷ rest → new ≡ before_back_in b

@@ -17,14 +17,14 @@ use Rattle.fc_tree_node.specs.Place.{before_child, before_own, IsPlace, before_p
 use Rattle.fc_tree_node.specs.Split.{left_length}
 use Rattle.fc_tree_insertion.specs.Insertion.{Split, own_pairs_after, children_after}
 use Rattle.fc_tree_insertion.specs.Arrival.{step_from, is_right, arrival, IsPutAt, IsSettled, kept_whole, HasArrived, path_after, steps_after}
-use Rattle.fc_tree_node.proofs.Lists.{take_nil, length_take, take_drop, set_is, set_put}
+use Rattle.fc_tree_node.proofs.Lists.{length_take, take_drop, set_is, set_put}
 use Rattle.fc_tree_node.proofs.Pairs.{IsBelow, child_below, pairs_is, leaf_children, leaf_pairs}
 use Rattle.fc_tree_node.proofs.Gaps.{place_pairs}
-use Rattle.fc_tree_node.proofs.Made.{IsChildSet}
+use Rattle.fc_tree_node.proofs.Lent.{IsReplaced}
 use Rattle.fc_tree_node.proofs.PathSteps.{IsStep}
 use Rattle.fc_tree_insertion.proofs.Cascades.{rest_of, IsCascadeStep, leaf_full, leaf_room, cascade_part, first_full, needed_whole, needed_part}
 use Rattle.fc_tree_insertion.proofs.InsertedLevels.{levelled_root}
-use Rattle.fc_tree_insertion.proofs.InsertedPairs.{put_root}
+use Rattle.fc_tree_insertion.proofs.InsertedPairs.{put_root, leaf_before}
 use Rattle.fc_tree_node.proofs.DepthFacts.{deep_root, deep_full, few_levels}
 use Rattle.fc_tree_insertion.specs.Cascade.{all_full, cascade, nodes_needed}
 
@@ -135,7 +135,6 @@ module _ {K V Z : Type 0} where
       let j : ℕ = t - (k + 1) in
       let m : length (children_of n) ≡ length (own_pairs n) + 1 = inner in
       let l = length-append (children_of n) (children_of r) in
-      let there = s.there in
       let lt : t - (k + 1) < length (children_of r) = omega arith in
       let at_children : t ≡ length (children_of n) + (t - (k + 1)) = omega arith in
       let at_pairs : t ≡ length (own_pairs n) + suc (t - (k + 1)) = omega arith in
@@ -169,7 +168,7 @@ module _ {K V Z : Type 0} where
         (length_take i (children_of old) (omega arith), length_take i (own_pairs old) le, omega arith)
 
     -- where the child was not split
-    settled_below : (mid c : Node K V Z) (b : Bool) (q : List ℕ) (f : List (K × V)) → IsChildSet old mid i c → IsSettled b q c None f
+    settled_below : (mid c : Node K V Z) (b : Bool) (q : List ℕ) (f : List (K × V)) → IsReplaced old mid i c → IsSettled b q c None f
         → IsSettled false (step_from i b ∷ q) mid None (before_child old i ++ f)
     settled_below mid c true q f m h = absurd h
     settled_below mid c false q f m h =
@@ -183,7 +182,7 @@ module _ {K V Z : Type 0} where
 
     -- where the child was split
     stepped_above : (mid c : Node K V Z) (b : Bool) (q : List ℕ) (f : List (K × V)) (up : K × V) (r : Node K V Z) (cs : List (Node K V Z)) (ps : List (K × V))
-        → IsChildSet old mid i c → ps ≡ insert (own_pairs mid) i up → cs ≡ insert (children_of mid) (i + 1) r
+        → IsReplaced old mid i c → ps ≡ insert (own_pairs mid) i up → cs ≡ insert (children_of mid) (i + 1) r
         → IsSettled b q c (Some (up, r)) f → HasStep q cs ps (step_from i b) (before_child old i ++ f)
     stepped_above mid c b q f up r cs ps m e k h =
         let t = taken in
@@ -202,14 +201,13 @@ module _ {K V Z : Type 0} where
             (drop i (own_pairs old)) c r up i f t.0 t.1 h.0 h.1
 
   -- below an inner node, where the child was not split
-  pub arrived_below : {p : List ℕ} {old mid c child : Node K V Z} → IsCascadeStep p old child → IsChildSet old mid (get_or p 0 0) c
+  pub arrived_below : {p : List ℕ} {old mid c child : Node K V Z} → IsCascadeStep p old child → IsReplaced old mid (get_or p 0 0) c
       → cascade (rest_of p) child < length (rest_of p) → HasArrived (rest_of p) child c None → HasArrived p old mid None
   arrived_below {p} {old} {mid} {c} {child} k m lt h =
       let s = k.step in
       let rest : List ℕ = rest_of p in
       let i : ℕ = get_or p 0 0 in
       let part = k.part lt in
-      let long = s.long in
       let w : kept_whole p old ≡ suc (kept_whole rest child) = omega arith in
       let b = settled_below old i s.le s.inner mid c _ _ (before_gap rest child) m h in
       by_steps p (i ∷ rest) old mid None (suc (kept_whole rest child)) s.path_is w
@@ -217,7 +215,7 @@ module _ {K V Z : Type 0} where
 
   -- below an inner node, where the child was split
   pub arrived_above : {p : List ℕ} {old mid c child : Node K V Z} (new : Node K V Z) (t : Split K V Z) (up : K × V) (r : Node K V Z)
-      → IsCascadeStep p old child → IsChildSet old mid (get_or p 0 0) c → cascade (rest_of p) child ≡ length (rest_of p)
+      → IsCascadeStep p old child → IsReplaced old mid (get_or p 0 0) c → cascade (rest_of p) child ≡ length (rest_of p)
       → MatchOption t (length (own_pairs old) < capacity) (λ _. length (own_pairs old) ≡ capacity)
       → own_pairs_after new t ≡ insert (own_pairs mid) (get_or p 0 0) up
       → children_after new t ≡ insert (children_of mid) (get_or p 0 0 + 1) r → IsInner new
@@ -239,8 +237,6 @@ module _ {K V Z : Type 0} where
       settled None room left st =
           let s = k.step in
           let part = k.room room in
-          let long = s.long in
-          let most = k.most in
           by_steps p (get_or p 0 0 ∷ rest_of p) old new None 1 s.path_is (omega arith) (step_in _ new _ _ st)
       settled (Some x) room left st =
           let full = k.full room (omega arith) in
@@ -251,10 +247,6 @@ module _ {K V Z : Type 0} where
   -- a leaf
   leaf_front : (n : Node K V Z) (i : ℕ) → IsLeaf n → before_own n i ≡ take i (own_pairs n)
   leaf_front n i e = ap (λ cs. weave (map pairs_of (take (suc i) cs)) (take i (own_pairs n))) (leaf_children n e)
-
-  leaf_before_child : (n : Node K V Z) (i : ℕ) → IsLeaf n → before_gap (i ∷ []) n ≡ take i (own_pairs n)
-  leaf_before_child n i e = append-nil _ ∙ ap (λ cs. before_list (map pairs_of (take i cs)) (take i (own_pairs n))) (leaf_children n e)
-      ∙ ap (λ cs. before_list (map pairs_of cs) (take i (own_pairs n))) (take_nil i)
 
   leaf_half : (n : Node K V Z) (up : K × V) (b : Node K V Z) (k i : ℕ) (f : List (K × V)) → IsLeaf n → IsLeaf b → length (own_pairs n) ≡ k → (i ≡ k → ⊥)
       → i < length (own_pairs n ++ up ∷ own_pairs b) → take i (own_pairs n ++ up ∷ own_pairs b) ≡ f
@@ -276,7 +268,7 @@ module _ {K V Z : Type 0} where
       → own_pairs new ≡ insert (own_pairs old) i pair → IsPlace (i ∷ []) new × (before_pair (i ∷ []) new ≡ before_gap (i ∷ []) old)
   leaf_place old new i pair l₁ l₂ le e =
       let n : length (own_pairs new) ≡ length (own_pairs old) + 1 = ap length e ∙ length-insert (own_pairs old) i pair le in
-      (omega arith, leaf_front new i l₂ ∙ ap (take i) e ∙ take_put (own_pairs old) i pair le ∙ sym (leaf_before_child old i l₁))
+      (omega arith, leaf_front new i l₂ ∙ ap (take i) e ∙ take_put (own_pairs old) i pair le ∙ sym (leaf_before old i l₁))
 
   leaf_settled : (old new : Node K V Z) (i : ℕ) (s : Split K V Z) (pair : K × V) → IsLeaf old → IsLeaf new → IfSome s (λ x. IsLeaf x.1)
       → i ≤ length (own_pairs old) → own_pairs_after new s ≡ insert (own_pairs old) i pair
@@ -290,7 +282,7 @@ module _ {K V Z : Type 0} where
       let n : length (own_pairs new ++ x.0 ∷ own_pairs x.1) ≡ length (own_pairs old) + 1 = ap length e ∙ length-insert (own_pairs old) i pair le in
       by_steps (i ∷ []) (i ∷ []) old new (Some x) 0 refl (omega arith)
       (leaf_half new x.0 x.1 (left_length i) i _ l₂ l₃ left (beside i) (omega arith)
-      (ap (take i) e ∙ take_put (own_pairs old) i pair le ∙ sym (leaf_before_child old i l₁)) (nat_lt (left_length i) i) refl)
+      (ap (take i) e ∙ take_put (own_pairs old) i pair le ∙ sym (leaf_before old i l₁)) (nat_lt (left_length i) i) refl)
 
   pub arrived_leaf : (p : List ℕ) (old new : Node K V Z) (s : Split K V Z) (pair : K × V) → p ≡ get_or p 0 0 ∷ [] → IsLeaf old → IsLeaf new
       → IfSome s (λ x. IsLeaf x.1) → get_or p 0 0 ≤ length (own_pairs old) → own_pairs_after new s ≡ insert (own_pairs old) (get_or p 0 0) pair
@@ -318,7 +310,7 @@ module _ {K V Z : Type 0} where
       (leaf_place old new (get_or p 0 0) pair l₁ l₂ le e))
 
   -- below an inner node that stays whole
-  pub put_in_room_below : (p : List ℕ) (old mid c child : Node K V Z) (pair : K × V) (h : ℕ) → IsStep p old → IsChildSet old mid (get_or p 0 0) c
+  pub put_in_room_below : (p : List ℕ) (old mid c child : Node K V Z) (pair : K × V) (h : ℕ) → IsStep p old → IsReplaced old mid (get_or p 0 0) c
       → child ≡ child_at old (get_or p 0 0) → IsLevelled h mid → pairs_of mid ≡ before_gap p old ++ pair ∷ after_gap p old
       → IsPutAt (slice_range p 1 (length p)) c pair (before_gap (slice_range p 1 (length p)) child) (after_gap (slice_range p 1 (length p)) child)
       → IsPutAt p mid pair (before_gap p old) (after_gap p old)
@@ -368,10 +360,10 @@ module _ {K V Z : Type 0} where
   -- no step of a path is above the most pairs of a node
   pub small_steps : (p : List ℕ) (h : ℕ) (n : Node K V Z) → length p ≡ h + 1 → IsPath p n → IsLevelled h n → AllByRecursion (λ i. i ≤ capacity) p
   small_steps [] h n e w l = tt
-  small_steps (i ∷ []) zero n e w l = (let a = w.0 in let b = l.0 in omega arith, tt)
+  small_steps (i ∷ []) zero n e w l = (omega arith, tt)
   small_steps (i ∷ j ∷ p) zero n e w l = absurd (omega arith)
   small_steps (i ∷ p) (suc h) n e w l = (
-    let a = w.0 in let b = l.0 in omega arith,
+    omega arith,
     small_steps p h (child_at n i) (omega arith) w.1 (child_below h n i l w.0).1,
   )
 

@@ -116,13 +116,12 @@ module _ {K V Z : Type 0} where
       let i : ℕ = get_or p 0 0 in
       let at : cascade p n ≡ cascade (i ∷ rest) n = ap (λ (q : List ℕ). cascade q n) s.path_is in
       let c : cascade rest child ≡ cascade rest (child_at n i) = ap (cascade rest) e in
-      let l = s.long in
       record {
         step = s;
         is = e;
         most = cascade_most rest child;
         more = (let w = cons_more i rest n in omega arith);
-        none = λ h. at ∙ cons_part i rest n (let t = s.height in omega arith) ∙ sym c ∙ h;
+        none = λ h. at ∙ cons_part i rest n (omega arith) ∙ sym c ∙ h;
         part = λ h. at ∙ cons_part i rest n (omega arith) ∙ sym c;
         room = λ h. at ∙ cons_room i rest n h ∙ sym c;
         full = λ q h. at ∙ cons_full i rest n q (omega arith) ∙ ap length (sym s.path_is);
@@ -131,7 +130,7 @@ module _ {K V Z : Type 0} where
   -- the spare leaf goes down with the path
   pub leaf_passed : (o : Option (Node K V Z)) {p : List ℕ} {n child : Node K V Z} → IsCascadeStep p n child → IsSpareLeaf o (cascade p n)
       → IsSpareLeaf o (cascade (rest_of p) child)
-  leaf_passed None k h = let more = k.more in omega arith
+  leaf_passed None k h = omega arith
   leaf_passed (Some b) k h = (positive _ _ k.none h.0, h.1)
 
   -- what a room holds, by the cascade
@@ -146,18 +145,18 @@ module _ {K V Z : Type 0} where
   pub above_halved : (o : Split K V Z) {p : List ℕ} {n child : Node K V Z} → IsCascadeStep p n child → cascade (rest_of p) child ≡ length (rest_of p)
       → MatchOption o (length (own_pairs n) < capacity) (λ _. length (own_pairs n) ≡ capacity)
       → MatchOption o (cascade p n < length p) (λ _. cascade p n ≡ length p)
-  above_halved None k h f = let e = k.room f in let long = k.step.long in omega arith
+  above_halved None k h f = let e = k.room f in omega arith
   above_halved (Some x) k h f = k.full f (omega arith)
 
   pub above_used : (o : Split K V Z) {p : List ℕ} {n child : Node K V Z} (a b d : ℕ) → IsCascadeStep p n child
       → cascade (rest_of p) child ≡ length (rest_of p) → MatchOption o (length (own_pairs n) < capacity) (λ _. length (own_pairs n) ≡ capacity)
       → b + (cascade (rest_of p) child - 1) ≡ a → MatchOption o (d ≡ b) (λ _. d + 1 ≡ b) → d + (cascade p n - 1) ≡ a
   above_used None a b d k h f u w = let e = k.room f in omega arith
-  above_used (Some x) a b d k h f u w = let e = k.full f (omega arith) in let long = k.step.long in let height = k.step.height in omega arith
+  above_used (Some x) a b d k h f u w = let e = k.full f (omega arith) in omega arith
 
   pub above_moves : (o : Split K V Z) {p : List ℕ} {n child : Node K V Z} (a b d : ℕ) → IsCascadeStep p n child
       → cascade (rest_of p) child ≡ length (rest_of p) → MatchOption o (length (own_pairs n) < capacity) (λ _. length (own_pairs n) ≡ capacity)
       → b ≤ a + most_split_moves * cascade (rest_of p) child → MatchOption o (d ≤ b + capacity) (λ _. d ≤ b + most_split_moves)
       → MatchOption o (d ≤ a + most_split_moves * cascade p n + capacity) (λ _. d ≤ a + most_split_moves * cascade p n)
   above_moves None a b d k h f u w = let e = k.room f in omega arith
-  above_moves (Some x) a b d k h f u w = let e = k.full f (omega arith) in let long = k.step.long in omega arith
+  above_moves (Some x) a b d k h f u w = let e = k.full f (omega arith) in omega arith

@@ -1,31 +1,16 @@
 -- The levels of a tree, after an insertion below a node.
-use Rattle.std.proofs.Common.{◌≡◌, ℕ, suc, ◌+◌, ◌≤◌, List, [], ◌∷◌, length, sym, ap, ◌∙◌, subst, arith, Some, None, IfSome, MatchOption}
+use Rattle.std.proofs.Common.{◌≡◌, ℕ, suc, ◌+◌, ◌≤◌, [], ◌∷◌, length, sym, ap, ◌∙◌, subst, arith, Some, None, IfSome, MatchOption}
 use Rattle.std.specs.List.{AllByRecursion, insert}
-use Rattle.fc_base.specs.Sizes.{capacity, min_len}
+use Rattle.fc_base.specs.Sizes.{capacity}
 use Rattle.fc_tree_node.specs.declared.node.Node.{Node}
 use Rattle.fc_tree_node.specs.Node.{own_pairs, children_of, IsInner, IsLevelled}
 use Rattle.fc_tree_insertion.specs.Insertion.{Split, own_pairs_after, children_after, IsHalved}
-use Rattle.fc_tree_node.proofs.Lists.{length_set, all_front, all_back, all_set, all_put}
+use Rattle.fc_tree_node.proofs.Lists.{all_front, all_back, all_set, all_put}
 use Rattle.fc_tree_node.proofs.Pairs.{IsBelow}
-use Rattle.fc_tree_node.proofs.Made.{IsChildSet}
+use Rattle.fc_tree_node.proofs.Lent.{IsReplaced}
 
 module _ {K V Z : Type 0} where
-  pub set_length : (old mid c : Node K V Z) (i : ℕ) → IsChildSet old mid i c → length (children_of mid) ≡ length (children_of old)
-  set_length old mid c i m = ap length m.child ∙ length_set (children_of old) i c
-
-  pub inner_kept : (old mid c : Node K V Z) (i : ℕ) → IsChildSet old mid i c → IsInner old → IsInner mid
-  inner_kept old mid c i m n = set_length old mid c i m ∙ n ∙ ap (λ ps. length ps + 1) (sym m.same)
-
-  pub levelled_stay : (h : ℕ) (old mid c : Node K V Z) (i : ℕ) → IsLevelled (suc h) old → IsChildSet old mid i c → IsBelow h c → IsLevelled (suc h) mid
-  levelled_stay h old mid c i l m b =
-      let P : List (K × V) → Type 0 = λ ps. length ps ≤ capacity in (
-        subst P (sym m.same) l.0,
-        inner_kept old mid c i m l.1,
-        subst (AllByRecursion (IsBelow h)) (sym m.child)
-            (all_set (IsBelow h) (children_of old) i c l.2 b),
-      )
-
-  all_below : (h : ℕ) (old mid c new r : Node K V Z) (i : ℕ) (s : Split K V Z) → IsLevelled (suc h) old → IsChildSet old mid i c → IsBelow h c → IsBelow h r
+  all_below : (h : ℕ) (old mid c new r : Node K V Z) (i : ℕ) (s : Split K V Z) → IsLevelled (suc h) old → IsReplaced old mid i c → IsBelow h c → IsBelow h r
       → children_after new s ≡ insert (children_of mid) (i + 1) r → AllByRecursion (IsBelow h) (children_after new s)
   all_below h old mid c new r i s l m b b₂ q =
       subst (AllByRecursion (IsBelow h)) (sym (q ∙ ap (λ cs. insert cs (i + 1) r) m.child))
@@ -35,14 +20,12 @@ module _ {K V Z : Type 0} where
       → IsInner new → IfSome s (λ x. IsInner x.1) → MatchOption s (length (own_pairs new) ≤ capacity) (λ x. IsHalved new × IsHalved x.1)
       → IsLevelled (suc h) new × IfSome s (λ x. IsLevelled (suc h) x.1)
   levelled_parts h new None all h₁ h₂ size = ((size, h₁, all), tt)
-  levelled_parts h new (Some (up, right)) all h₁ h₂ size =
-      let s₁ : length (own_pairs new) ≤ min_len + 1 = size.0.1 in
-      let s₂ : length (own_pairs right) ≤ min_len + 1 = size.1.1 in (
-        (omega arith, h₁, all_front (IsBelow h) (children_of new) (children_of right) all),
-        (omega arith, h₂, all_back (IsBelow h) (children_of new) (children_of right) all),
-      )
+  levelled_parts h new (Some (up, right)) all h₁ h₂ size = (
+    (omega arith, h₁, all_front (IsBelow h) (children_of new) (children_of right) all),
+    (omega arith, h₂, all_back (IsBelow h) (children_of new) (children_of right) all),
+  )
 
-  pub levelled_put : (h : ℕ) (old mid c new r : Node K V Z) (i : ℕ) (s : Split K V Z) → IsLevelled (suc h) old → IsChildSet old mid i c → IsBelow h c
+  pub levelled_put : (h : ℕ) (old mid c new r : Node K V Z) (i : ℕ) (s : Split K V Z) → IsLevelled (suc h) old → IsReplaced old mid i c → IsBelow h c
       → IsBelow h r
       → children_after new s ≡ insert (children_of mid) (i + 1) r → IsInner new → IfSome s (λ x. IsInner x.1)
       → MatchOption s (length (own_pairs new) ≤ capacity) (λ x. IsHalved new × IsHalved x.1)

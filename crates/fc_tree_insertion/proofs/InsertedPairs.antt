@@ -10,10 +10,10 @@ use Rattle.fc_tree_node.specs.Node.{own_pairs, children_of, child_at, pairs_of, 
 use Rattle.fc_tree_node.specs.Path.{before_gap, after_gap}
 use Rattle.fc_tree_node.specs.Place.{before_child, after_child}
 use Rattle.fc_tree_insertion.specs.Insertion.{Split, spread, own_pairs_after, children_after}
-use Rattle.fc_tree_node.proofs.Lists.{take_nil, length_take, take_drop, set_is, set_put}
+use Rattle.fc_tree_node.proofs.Lists.{take_nil, length_take, set_put}
 use Rattle.fc_tree_node.proofs.Weaves.{after_nil, weave_at, weave_parts}
 use Rattle.fc_tree_node.proofs.Pairs.{pairs_is, leaf_children, leaf_pairs}
-use Rattle.fc_tree_node.proofs.Made.{IsChildSet}
+use Rattle.fc_tree_node.proofs.Lent.{IsReplaced}
 use Rattle.fc_tree_node.proofs.PathSteps.{IsStep}
 
 module _ {X : Type 0} where
@@ -25,7 +25,7 @@ module _ {X : Type 0} where
   stays_around A C B L R p e = ap (λ zs. A ++ (zs ++ B)) e ∙ around A L R B p
 
 module _ {K V Z : Type 0} where
-  leaf_before : (n : Node K V Z) (i : ℕ) → IsLeaf n → before_gap (i ∷ []) n ≡ take i (own_pairs n)
+  pub leaf_before : (n : Node K V Z) (i : ℕ) → IsLeaf n → before_gap (i ∷ []) n ≡ take i (own_pairs n)
   leaf_before n i e = append-nil _ ∙ ap (λ cs. before_list (map pairs_of (take i cs)) (take i (own_pairs n))) (leaf_children n e)
       ∙ ap (λ cs. before_list (map pairs_of cs) (take i (own_pairs n))) (take_nil i)
 
@@ -75,17 +75,8 @@ module _ {K V Z : Type 0} where
     woven_at c ds qs = ap (λ cs. weave cs (take i (own_pairs old) ++ qs)) (map-append pairs_of (take i (children_of old)) (c ∷ ds))
         ∙ weave_at (map pairs_of (take i (children_of old))) (pairs_of c) (map pairs_of ds) (take i (own_pairs old)) qs lengths
 
-    -- the pairs of a node whose child has become c
-    pub child_pairs : (mid c : Node K V Z) → IsChildSet old mid i c → pairs_of mid ≡ before_child old i ++ (pairs_of c ++ after_child old i)
-    child_pairs mid c m =
-        let n : length (children_of old) ≡ length (own_pairs old) + 1 = inner in
-        let k : i < length (children_of old) = omega arith in
-        pairs_is mid ∙ ap (λ ps. weave (map pairs_of (children_of mid)) ps) (m.same ∙ sym (take_drop i (own_pairs old)))
-        ∙ ap (λ cs. weave (map pairs_of cs) (take i (own_pairs old) ++ drop i (own_pairs old))) (m.child ∙ set_is (children_of old) i c k)
-        ∙ woven_at c (drop (suc i) (children_of old)) (drop i (own_pairs old))
-
-    -- the same once it has taken the pair and the node that the child has handed out
-    pub split_pairs : (mid c new : Node K V Z) (s : Split K V Z) (up : K × V) (r : Node K V Z) → IsChildSet old mid i c
+    -- the pairs of a node whose child has become c, once it has taken the pair and the node that the child has handed out
+    pub split_pairs : (mid c new : Node K V Z) (s : Split K V Z) (up : K × V) (r : Node K V Z) → IsReplaced old mid i c
         → own_pairs_after new s ≡ insert (own_pairs mid) i up → children_after new s ≡ insert (children_of mid) (i + 1) r → IsInner new
         → IfSome s (λ x. IsInner x.1)
         → spread new s ≡ before_child old i ++ ((pairs_of c ++ up ∷ pairs_of r) ++ after_child old i)
@@ -97,12 +88,12 @@ module _ {K V Z : Type 0} where
         ∙ woven_at c (r ∷ drop (suc i) (children_of old)) (up ∷ drop i (own_pairs old))
         ∙ ap (λ zs. before_child old i ++ zs) (sym (append_assoc (pairs_of c) (up ∷ pairs_of r) (after_child old i)))
 
-    inner_stay : (path : List ℕ) (mid c : Node K V Z) (pair : K × V) → IsChildSet old mid i c
+    inner_stay : (path : List ℕ) (mid c : Node K V Z) (pair : K × V) → IsReplaced old mid i c
         → pairs_of c ≡ before_gap path (child_at old i) ++ pair ∷ after_gap path (child_at old i)
         → pairs_of mid ≡ before_gap (i ∷ path) old ++ pair ∷ after_gap (i ∷ path) old
-    inner_stay path mid c pair m e = child_pairs mid c m ∙ stays_around _ _ _ _ _ pair e
+    inner_stay path mid c pair m e = m.pairs inner le ∙ stays_around _ _ _ _ _ pair e
 
-    inner_put : (path : List ℕ) (mid c new : Node K V Z) (s : Split K V Z) (up pair : K × V) (r : Node K V Z) → IsChildSet old mid i c
+    inner_put : (path : List ℕ) (mid c new : Node K V Z) (s : Split K V Z) (up pair : K × V) (r : Node K V Z) → IsReplaced old mid i c
         → own_pairs_after new s ≡ insert (own_pairs mid) i up → children_after new s ≡ insert (children_of mid) (i + 1) r → IsInner new
         → IfSome s (λ x. IsInner x.1)
         → pairs_of c ++ up ∷ pairs_of r ≡ before_gap path (child_at old i) ++ pair ∷ after_gap path (child_at old i)
@@ -110,7 +101,7 @@ module _ {K V Z : Type 0} where
     inner_put path mid c new s up pair r m p q h₁ h₂ e = split_pairs mid c new s up r m p q h₁ h₂ ∙ stays_around _ _ _ _ _ pair e
 
   -- below an inner node, where the child was not split
-  pub put_below : (p : List ℕ) (old mid c child : Node K V Z) (pair : K × V) → IsStep p old → IsChildSet old mid (get_or p 0 0) c
+  pub put_below : (p : List ℕ) (old mid c child : Node K V Z) (pair : K × V) → IsStep p old → IsReplaced old mid (get_or p 0 0) c
       → child ≡ child_at old (get_or p 0 0)
       → pairs_of c ≡ before_gap (slice_range p 1 (length p)) child ++ pair ∷ after_gap (slice_range p 1 (length p)) child
       → pairs_of mid ≡ before_gap p old ++ pair ∷ after_gap p old
@@ -122,7 +113,7 @@ module _ {K V Z : Type 0} where
 
   -- below an inner node, where the child was split
   pub put_above : (p : List ℕ) (old mid c child new : Node K V Z) (t : Split K V Z) (up pair : K × V) (r : Node K V Z) → IsStep p old
-      → IsChildSet old mid (get_or p 0 0) c → child ≡ child_at old (get_or p 0 0)
+      → IsReplaced old mid (get_or p 0 0) c → child ≡ child_at old (get_or p 0 0)
       → own_pairs_after new t ≡ insert (own_pairs mid) (get_or p 0 0) up → children_after new t ≡ insert (children_of mid) (get_or p 0 0 + 1) r → IsInner new
       → IfSome t (λ x. IsInner x.1)
       → pairs_of c ++ up ∷ pairs_of r ≡ before_gap (slice_range p 1 (length p)) child ++ pair ∷ after_gap (slice_range p 1 (length p)) child

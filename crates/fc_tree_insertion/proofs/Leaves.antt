@@ -17,6 +17,5 @@ module _ {K V Z : Type 0} where
   pub leaf_below : (p : List ℕ) (n child : Node K V Z) → 2 ≤ length p → IsStep p n → child ≡ child_at n (get_or p 0 0)
       → leaf_at p n ≡ leaf_at (slice_range p 1 (length p)) child
   leaf_below p n child h s e =
-      let long = s.long in
       ap (λ q. leaf_at q n) s.path_is ∙ leaf_cons (get_or p 0 0) (slice_range p 1 (length p)) n (omega arith)
       ∙ ap (leaf_at (slice_range p 1 (length p))) (sym e)

@@ -5,4 +5,4 @@ pub mod ArrivalSteps
 pub mod Arrivals
 pub mod Leaves
 pub mod InsertedTrees
-pub mod Rooms
+pub mod Reservations

@@ -3,4 +3,4 @@ pub mod Chain
 pub mod NewNodes
 pub mod Insertion
 pub mod Arrival
-pub mod Room
+pub mod Reservation

@@ -15,6 +15,7 @@ use crate::new_nodes::NewNodes;
 use crate::ready::{insert_ready, try_nodes_at};
 use crate::spares::Spares;
 use fc_base::{Count, Handle, TryReserveError};
+use fc_tree_node::lend::child_in;
 use fc_tree_node::node::{CAPACITY, Node};
 use fc_tree_node::path::Path;
 use std::mem;
@@ -190,14 +191,8 @@ fn insert_below<K: Drop, V: Drop, A: Handle>(
     if path.len() == 1 {
         return put_leaf(node, i, pair, leaf, count);
     }
-    let rest = &path[1..];
-    let below = match &mut node.children {
-        None => unreachable!(),
-        Some(children) => {
-            let child: &mut Node<K, V, A> = children.get_mut(i);
-            insert_below(child, rest, pair, leaf, inner, count)
-        }
-    };
+    let child = child_in(&mut node.children, i);
+    let below = insert_below(child, &path[1..], pair, leaf, inner, count);
     match below {
         None => None,
         Some((up, right)) => put_inner(node, i, up, right, inner, count),

@@ -7,6 +7,7 @@ ghost use Rattle.fc_tree_insertion.specs.Arrival.{IsPutAt};
 ghost use Rattle.fc_tree_insertion.specs.Cascade.{leaf_at};
 
 use fc_base::{Count, Handle};
+use fc_tree_node::lend::child_in;
 use fc_tree_node::node::{CAPACITY, Node};
 
 /// Whether the leaf that the path ends in has room for a pair.
@@ -49,11 +50,5 @@ pub fn insert_in_leaf<K: Drop, V: Drop, A: Handle>(
     if path.len() == 1 {
         return node.insert_leaf(i, pair, count);
     }
-    match &mut node.children {
-        None => unreachable!(),
-        Some(children) => {
-            let child: &mut Node<K, V, A> = children.get_mut(i);
-            insert_in_leaf(child, &path[1..], pair, count);
-        }
-    }
+    insert_in_leaf(child_in(&mut node.children, i), &path[1..], pair, count);
 }

@@ -6,6 +6,6 @@ pub mod insertion;
 pub mod leaf;
 pub mod new_nodes;
 pub mod ready;
-pub mod room;
+pub mod reservation;
 pub mod spares;
 pub mod stock;

@@ -1,7 +1,7 @@
 -- A list that is cut in two at an item, which is taken out.
 use Rattle.std.proofs.Common.{◌≡◌, ℕ, suc, zero, ◌+◌, ◌-◌, ◌<◌, ◌≤◌, List, [], ◌∷◌, ◌++◌, length, get_or, take, drop, refl, sym, ap, ◌∙◌, arith, add-one}
 use Rattle.std.proofs.Common.{zero-add, append_assoc, length-append}
-use Rattle.std.proofs.lemmas.List.Edits.{insert-append_left, insert-append_right, length-remove}
+use Rattle.std.proofs.lemmas.List.Edits.{insert-append_left, insert-append_right, length-remove, insert_end}
 use Rattle.std.proofs.lemmas.List.{get_or_default}
 use Rattle.fc_tree_node.proofs.Lists.{length_take, take_drop}
 use Rattle.std.specs.List.{insert, remove}
@@ -56,10 +56,6 @@ module _ {T : Type 0} where
   last_out (y ∷ []) (suc k) x h e = absurd (omega arith)
   last_out (y ∷ z ∷ xs) zero x h e = absurd (omega arith)
   last_out (y ∷ z ∷ xs) (suc k) x h e = ap (λ ys. y ∷ ys) (last_out (z ∷ xs) k x (omega arith) e)
-
-  insert_end : (xs : List T) (x : T) → insert xs (length xs) x ≡ xs ++ x ∷ []
-  insert_end [] x = refl
-  insert_end (y ∷ xs) x = ap (λ zs. y ∷ zs) (insert_end xs x)
 
   -- an item taken out of the left part, which another one joins at the end, and its end moved to the right part
   pub back_shared : (ls rs : List T) (k : ℕ) (up down : T) → k < length ls → up ≡ get_or ls k up

@@ -12,6 +12,7 @@ use Rattle.fc_tree_node.specs.declared.node.Node.{Node}
 use Rattle.fc_tree_node.specs.Node.{own_pairs, children_of, pairs_of, IsLevelled, IsSoundRoot}
 use Rattle.fc_tree_node.specs.Depth.{IsDeep}
 use Rattle.fc_tree_node.proofs.Pairs.{pairs_is, leaf_pairs, IsBelow}
+use Rattle.fc_tree_node.proofs.Lists.{all_each}
 
 -- what so many nodes below, or twice as many, come to a level higher
 level_more : (b h k m : ℕ) → b ≤ k → k * b ^ h ≤ m → b ^ suc h ≤ m
@@ -30,7 +31,7 @@ module _ {X : Type 0} (b : ℕ) where
   long_after (p ∷ ps) [] a e = absurd (omega arith)
   long_after (p ∷ ps) (c ∷ cs) a e = let i = long_after ps cs a.1 (omega arith) in omega (arith, a.0, length-append c (after_list ps cs))
 
-  -- lists and items in turn, as long as that many lists with an item each
+  -- lists and items in turn, as long as that many lists with an item all_each
   long_weave : (cs : List (List X)) (ps : List X) → AllByRecursion IsLong cs → length cs ≡ length ps + 1 → length cs * b ≤ length (weave cs ps) + 1
   long_weave [] ps a e = omega arith
   long_weave (c ∷ cs) ps a e = let i = long_after ps cs a.1 (omega arith) in omega (arith, a.0, length-append c (after_list ps cs))
@@ -50,29 +51,25 @@ module _ {K V Z : Type 0} where
       lists [] a = tt
       lists (c ∷ cs) a = (a.0, lists cs a.1)
 
-  each : (P Q : Node K V Z → Type 0) → ((c : Node K V Z) → P c → Q c) → (cs : List (Node K V Z)) → AllByRecursion P cs → AllByRecursion Q cs
-  each P Q f [] a = tt
-  each P Q f (c ∷ cs) a = (f c a.0, each P Q f cs a.1)
-
   -- a node below the root
   many_below : (h : ℕ) (n : Node K V Z) → min_len ≤ length (own_pairs n) → IsLevelled h n → least_children ^ suc h ≤ length (pairs_of n) + 1
   many_below zero n m l = let e : length (pairs_of n) ≡ length (own_pairs n) = ap length (leaf_pairs n l.1) in omega arith
   many_below (suc h) n m l =
-      let s = many_in n (least_children ^ suc h) l.1 (each (IsBelow h) (λ c. least_children ^ suc h ≤ length (pairs_of c) + 1) (λ c p. many_below h c p.0 p.1)
-      (children_of n) l.2) in
-      let least : least_children ≤ length (children_of n) = let e : length (children_of n) ≡ length (own_pairs n) + 1 = l.1 in omega arith in
+      let s = many_in n (least_children ^ suc h) l.1
+      (all_each (IsBelow h) (λ c. least_children ^ suc h ≤ length (pairs_of c) + 1) (λ c p. many_below h c p.0 p.1) (children_of n) l.2) in
+      let least : least_children ≤ length (children_of n) = omega arith in
       level_more least_children (suc h) _ _ least s
 
   all_below : (h : ℕ) (n : Node K V Z) → IsLevelled (suc h) n → AllByRecursion (λ c. least_children ^ suc h ≤ length (pairs_of c) + 1) (children_of n)
-  all_below h n l = each (IsBelow h) (λ c. least_children ^ suc h ≤ length (pairs_of c) + 1) (λ c p. many_below h c p.0 p.1) (children_of n) l.2
+  all_below h n l = all_each (IsBelow h) (λ c. least_children ^ suc h ≤ length (pairs_of c) + 1) (λ c p. many_below h c p.0 p.1) (children_of n) l.2
 
   -- a sound root
   pub deep_root : (h : ℕ) (n : Node K V Z) → IsSoundRoot h n → IsDeep h (length (pairs_of n))
-  deep_root zero n s = let e : length (pairs_of n) ≡ length (own_pairs n) = ap length (leaf_pairs n s.1.1) in let m = s.0 in omega arith
+  deep_root zero n s = let e : length (pairs_of n) ≡ length (own_pairs n) = ap length (leaf_pairs n s.1.1) in omega arith
   deep_root (suc h) n s =
       let l = s.1 in
       let b = many_in n (least_children ^ suc h) l.1 (all_below h n l) in
-      let two : 2 ≤ length (children_of n) = let e : length (children_of n) ≡ length (own_pairs n) + 1 = l.1 in let m = s.0 in omega arith in
+      let two : 2 ≤ length (children_of n) = omega arith in
       le_trans (mul-le-mul_right (least_children ^ suc h) two) b
 
   -- a full root makes a tree of one level more where it is split
@@ -80,7 +77,7 @@ module _ {K V Z : Type 0} where
   deep_full zero n e l = let m : length (pairs_of n) ≡ length (own_pairs n) = ap length (leaf_pairs n l.1) in omega arith
   deep_full (suc h) n e l =
       let b = many_in n (least_children ^ suc h) l.1 (all_below h n l) in
-      let all : 2 * least_children ≤ length (children_of n) = let m : length (children_of n) ≡ length (own_pairs n) + 1 = l.1 in omega arith in
+      let all : 2 * least_children ≤ length (children_of n) = omega arith in
       two_more least_children (suc h) _ _ all b
 
 -- so that a tree whose pairs are counted in 64 bits is not too high

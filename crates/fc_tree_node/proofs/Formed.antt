@@ -1,10 +1,10 @@
 -- Nodes that are leaves or have one child more than pairs.
-use Rattle.std.proofs.Common.{◌≡◌, ◌+◌, List, [], length, ap, Some, inl, inr, arith}
+use Rattle.std.proofs.Common.{◌≡◌, ℕ, zero, suc, ◌+◌, List, [], length, refl, ap, Some, inl, inr, arith}
 use Rattle.fc_tree_node.specs.declared.node.Node.{Node, out-Node, roll-Node}
-use Rattle.fc_tree_node.specs.Node.{own_pairs, children_of, IsLeaf, IsInner}
+use Rattle.fc_tree_node.specs.Node.{own_pairs, children_of, child_at, IsLeaf, IsInner, IsLevelled}
 use Rattle.fc_tree_node.specs.Siblings.{IsFormed, AreAlike}
 use Rattle.fc_tree_node.proofs.Made.{inner_made, inner_length}
-use Rattle.fc_tree_node.proofs.Pairs.{leaf_children}
+use Rattle.fc_tree_node.proofs.Pairs.{leaf_children, child_below}
 
 module _ {K V Z : Type 0} where
   -- a node with a list of children is no leaf
@@ -26,6 +26,13 @@ module _ {K V Z : Type 0} where
       let e : length (children_of n) ≡ length (let ns : List (Node K V Z) = [] in ns) = ap length (leaf_children n leaf) in
       let i : length (children_of n) ≡ length (own_pairs n) + 1 = inner in
       omega arith
+
+  -- the leaves of a tree lie on one level
+  pub one_height : (h k : ℕ) (n : Node K V Z) → IsLevelled h n → IsLevelled k n → h ≡ k
+  one_height zero zero n l m = refl
+  one_height zero (suc k) n l m = absurd (leaf_or_inner n l.1 m.1)
+  one_height (suc h) zero n l m = absurd (leaf_or_inner n m.1 l.1)
+  one_height (suc h) (suc k) n l m = ap suc (one_height h k (child_at n 0) (child_below h n 0 l (omega arith)).1 (child_below k n 0 m (omega arith)).1)
 
   -- two nodes like a third are alike
   pub alike_both : (n m k : Node K V Z) → AreAlike n m → AreAlike n k → AreAlike m k

@@ -125,7 +125,6 @@ module _ {K V Z : Type 0} where
       (λ cs. weave (lists (take (suc i) cs)) (take i (own_pairs n)) ++ get_or (own_pairs n) i d ∷ []) (sym e)
   before_child_pair (suc h) n i d l k =
       let ps = own_pairs n in let cs = children_of n in
-      let e : length cs ≡ length ps + 1 = l.1 in
       let m : length (lists (take (suc i) cs)) ≡ length (take i ps) + 1 =
       lists_taken n (suc i) (omega arith) ∙ let t = length_take i ps (omega arith) in omega arith in
       ap (λ qs. before_list (lists (take (suc i) cs)) qs) (take_item ps i d k) ∙ before_item (lists (take (suc i) cs)) (take i ps) (get_or ps i d) m
@@ -145,7 +144,6 @@ module _ {K V Z : Type 0} where
       → (g : ℕ) × (h ≡ suc g) × IsLevelled g (child_at n i) × (i ≤ length (own_pairs n)) × IsInner n
   step_levels zero n i l k = absurd (let e : length (children_of n) ≡ 0 = ap length (leaf_children n l.1) in omega arith)
   step_levels (suc h) n i l k =
-      let e : length (children_of n) ≡ length (own_pairs n) + 1 = l.1 in
       let le : i ≤ length (own_pairs n) = omega arith in
       (h, refl, (child_below h n i l le).1, le, l.1)
 
@@ -156,7 +154,7 @@ module _ {K V Z : Type 0} where
   descent_levels (i ∷ path) h n l d =
       let s = step_levels h n i l d.0 in
       let r = descent_levels path s.0 (child_at n i) s.2 d.1 in
-      (r.0, (let a = r.1 in let b = s.1 in omega arith), r.2)
+      (r.0, (omega arith), r.2)
 
   -- a tree's pairs, cut at the node that a descent leads to
   pub descent_pairs : (path : List ℕ) (h : ℕ) (n : Node K V Z) → IsLevelled h n → IsDescent path n

@@ -11,3 +11,4 @@ pub mod Gaps
 pub mod DepthFacts
 pub mod PathSteps
 pub mod Sizes
+pub mod Lent

@@ -1,5 +1,5 @@
 -- Lists with an item set, put in or left out, and facts of each item.
-use Rattle.std.proofs.Common.{◌≡◌, ℕ, suc, zero, ◌+◌, ◌<◌, ◌≤◌, List, [], ◌∷◌, ◌++◌, length, get_or, take, drop, refl, ap, ◌∙◌, arith, add-one}
+use Rattle.std.proofs.Common.{◌≡◌, ℕ, suc, zero, ◌+◌, ◌<◌, ◌≤◌, List, [], ◌∷◌, ◌++◌, length, get_or, take, drop, refl, sym, ap, subst, ◌∙◌, arith, add-one}
 use Rattle.std.specs.Prelude.{slice_set}
 use Rattle.std.specs.List.{AllByRecursion, insert, remove}
 
@@ -63,6 +63,13 @@ module _ {X : Type 0} where
       → insert (slice_set (remove xs (i + 1)) i x) (i + 1) y ≡ slice_set (slice_set xs i x) (i + 1) y
   set_around xs i x y h = rw add-one (set_around_suc xs i x y (rw add-one at h))
 
+  pub take_lengths : (i : ℕ) (xs ys : List X) → length xs ≡ length ys → length (take i xs) ≡ length (take i ys)
+  take_lengths zero xs ys e = refl
+  take_lengths (suc i) [] [] e = refl
+  take_lengths (suc i) [] (y ∷ ys) e = absurd (omega arith)
+  take_lengths (suc i) (x ∷ xs) [] e = absurd (omega arith)
+  take_lengths (suc i) (x ∷ xs) (y ∷ ys) e = ap suc (take_lengths i xs ys (omega arith))
+
   -- some item of a list that has one
   pub item_in : (xs : List X) → 0 < length xs → X
   item_in [] h = absurd (omega arith)
@@ -70,6 +77,10 @@ module _ {X : Type 0} where
 
 -- a fact of each item
 module _ {X : Type 0} (P : X → Type 0) where
+  pub all_each : (Q : X → Type 0) → ((x : X) → P x → Q x) → (xs : List X) → AllByRecursion P xs → AllByRecursion Q xs
+  all_each Q f [] a = tt
+  all_each Q f (x ∷ xs) a = (f x a.0, all_each Q f xs a.1)
+
   pub all_front : (xs ys : List X) → AllByRecursion P (xs ++ ys) → AllByRecursion P xs
   all_front [] ys a = tt
   all_front (x ∷ xs) ys a = (a.0, all_front xs ys a.1)
@@ -81,6 +92,12 @@ module _ {X : Type 0} (P : X → Type 0) where
   pub all_both : (xs ys : List X) → AllByRecursion P xs → AllByRecursion P ys → AllByRecursion P (xs ++ ys)
   all_both [] ys a b = b
   all_both (x ∷ xs) ys a b = (a.0, all_both xs ys a.1 b)
+
+  pub all_take : (i : ℕ) (xs : List X) → AllByRecursion P xs → AllByRecursion P (take i xs)
+  all_take i xs a = all_front (take i xs) (drop i xs) (subst (AllByRecursion P) (sym (take_drop i xs)) a)
+
+  pub all_drop : (i : ℕ) (xs : List X) → AllByRecursion P xs → AllByRecursion P (drop i xs)
+  all_drop i xs a = all_back (take i xs) (drop i xs) (subst (AllByRecursion P) (sym (take_drop i xs)) a)
 
   pub all_set : (xs : List X) (i : ℕ) (x : X) → AllByRecursion P xs → P x → AllByRecursion P (slice_set xs i x)
   all_set [] i x a p = tt

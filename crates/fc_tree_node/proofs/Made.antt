@@ -1,7 +1,6 @@
 -- A node made of its parts.
 use Rattle.std.proofs.Common.{◌≡◌, ℕ, ◌+◌, List, [], ◌∷◌, ◌++◌, length, take, sym, ap, ◌∙◌, arith, Some, take_all, append_assoc}
 use Rattle.std.proofs.lemmas.List.Edits.{insert_end}
-use Rattle.std.specs.Prelude.{slice_set}
 use Rattle.std.specs.List.{insert}
 use Rattle.fc_tree_node.specs.declared.node.Node.{Node, Node-F, out-Node, roll-Node, out-roll-Node}
 use Rattle.fc_tree_node.specs.Node.{items_or_none, own_pairs, children_of, IsInner}
@@ -21,22 +20,6 @@ module _ {K V Z : Type 0} where
       let a : length (own_pairs (roll-Node K V Z f)) ≡ length f.pairs = ap length (own_made f) in
       let b : length (children_of (roll-Node K V Z f)) ≡ length (items_or_none f.children) = ap length (children_made f) in
       omega arith
-
-  pub inner_len : (n : Node K V Z) → IsInner n → length (items_or_none (out-Node K V Z n).children) ≡ length (own_pairs n) + 1
-  inner_len n h = h
-
-  -- the node with another child at a place
-  pub record IsChildSet (old mid : Node K V Z) (i : ℕ) (c : Node K V Z) : Type 0 where
-    pub same : own_pairs mid ≡ own_pairs old
-    pub child : children_of mid ≡ slice_set (children_of old) i c
-
-  -- the node whose child at a place was lent out and came back as b
-  pub child_set : (n : Node K V Z) (bs : List (Node K V Z)) (i : ℕ) (b : Node K V Z) → (out-Node K V Z n).children ≡ Some bs
-      → IsChildSet n (roll-Node K V Z (record { pairs = own_pairs n; children = Some (slice_set bs i b) })) i b
-  child_set n bs i b e = record {
-    same = own_made _;
-    child = children_made _ ∙ ap (λ o. slice_set (items_or_none o) i b) (sym e);
-  }
 
   -- the children in the list that a node has
   pub children_in : (n : Node K V Z) (bs : List (Node K V Z)) → (out-Node K V Z n).children ≡ Some bs → children_of n ≡ bs

@@ -1,5 +1,5 @@
 -- What the pairs of a node are, by its children and its own pairs.
-use Rattle.std.proofs.Common.{◌≡◌, ℕ, suc, ◌+◌, ◌≤◌, List, [], length, map, refl, ap, ◌∙◌, arith, Option, Some, None}
+use Rattle.std.proofs.Common.{◌≡◌, ℕ, suc, ◌≤◌, List, [], length, map, refl, ap, ◌∙◌, arith, Option, Some, None}
 use Rattle.fc_base.specs.Sizes.{min_len}
 use Rattle.fc_tree_node.specs.Weave.{weave}
 use Rattle.fc_tree_node.specs.declared.node.Node.{Node, out-Node, map-Node, fold_out-Node}
@@ -28,5 +28,4 @@ module _ {K V Z : Type 0} where
   -- each child of a levelled node is sound one level further down
   pub child_below : (h : ℕ) (n : Node K V Z) (i : ℕ) → IsLevelled (suc h) n → i ≤ length (own_pairs n) → IsBelow h (child_at n i)
   child_below h n i l le =
-      let e : length (children_of n) ≡ length (own_pairs n) + 1 = l.1 in
       all_at (IsBelow h) (children_of n) i n (omega arith) l.2

@@ -1,10 +1,8 @@
 -- A path of two or more places, as its first step and the rest.
-use Rattle.std.proofs.Common.{◌≡◌, ℕ, suc, zero, ◌+◌, ◌-◌, ◌<◌, ◌≤◌, List, [], ◌∷◌, length, get_or, take, refl, sym, ap, subst, arith, Option, Some, ◌∙◌}
+use Rattle.std.proofs.Common.{◌≡◌, ℕ, suc, zero, ◌+◌, ◌-◌, ◌<◌, ◌≤◌, List, [], ◌∷◌, length, get_or, take, refl, sym, ap, subst, arith}
 use Rattle.std.specs.Prelude.{slice_range}
-use Rattle.fc_tree_node.specs.declared.node.Node.{Node, out-Node}
-use Rattle.fc_tree_node.specs.Node.{items_or_none, own_pairs, child_at, IsLevelled, IsInner}
-use Rattle.std.proofs.lemmas.List.{get_or_default}
-use Rattle.fc_tree_node.proofs.Made.{inner_len}
+use Rattle.fc_tree_node.specs.declared.node.Node.{Node}
+use Rattle.fc_tree_node.specs.Node.{own_pairs, child_at, IsLevelled, IsInner}
 use Rattle.fc_tree_node.specs.Path.{IsPath}
 
 pub one_step : (p : List ℕ) → length p ≡ 1 → p ≡ get_or p 0 0 ∷ []
@@ -12,7 +10,7 @@ one_step [] e = absurd (omega arith)
 one_step (i ∷ []) e = refl
 one_step (i ∷ j ∷ p) e = absurd (omega arith)
 
-take_all : (p : List ℕ) (n : ℕ) → n ≡ length p → take n p ≡ p
+pub take_all : (p : List ℕ) (n : ℕ) → n ≡ length p → take n p ≡ p
 take_all [] zero e = refl
 take_all [] (suc n) e = refl
 take_all (i ∷ p) zero e = absurd (omega arith)
@@ -39,18 +37,3 @@ step_of {K} {V} p n h w l =
     let q = subst (λ (r : List ℕ). IsPath r n) e w in
     let v : IsLevelled (suc (length (slice_range p 1 (length p)) - 1)) n = subst (λ (m : ℕ). IsLevelled m n) s l in
     record { path_is = e; le = q.0; onward = q.1; long = omega arith; height = s; levels = v; inner = v.1 }
-
--- the child that the step leads to, lent out of the list
-module _ {K V Z : Type 0} where
-  pub child_there : (p : List ℕ) (n : Node K V Z) (bs : List (Node K V Z)) → IsStep p n → (out-Node K V Z n).children ≡ Some bs → get_or p 0 0 < length bs
-  child_there p n bs s e =
-      let long = inner_len n s.inner in
-      let same = ap (λ o. length (items_or_none o)) e in
-      let le = s.le in
-      omega arith
-
-  pub child_lent : (p : List ℕ) (n : Node K V Z) (cs : List (Node K V Z)) (c : Node K V Z) → IsStep p n → (out-Node K V Z n).children ≡ Some cs
-      → c ≡ get_or cs (get_or p 0 0) c → c ≡ child_at n (get_or p 0 0)
-  child_lent p n cs c s e f =
-      let there = child_there p n cs s e in
-      f ∙ get_or_default cs (get_or p 0 0) c n there ∙ ap (λ (o : Option (List (Node K V Z))). get_or (items_or_none o) (get_or p 0 0) n) (sym e)

@@ -64,7 +64,6 @@ module _ {K V Z : Type 0} where
       ∙ ap (λ cs. weave (map pairs_of cs) (own_pairs l ++ s ∷ own_pairs r)) (leaf_children r a.1))
   joined_pairs l r s (inr a) =
       let m : length (map pairs_of (children_of l)) ≡ length (own_pairs l) + 1 = length-map (children_of l) pairs_of ∙ a.0 in
-      let k₀ : length (children_of r) ≡ length (own_pairs r) + 1 = a.1 in
       let k₁ = length-map (children_of r) pairs_of in
       let k : 0 < length (map pairs_of (children_of r)) = omega arith in
       ap (λ ps. ps ++ s ∷ pairs_of r) (pairs_is l) ∙ ap (λ ps. weave (map pairs_of (children_of l)) (own_pairs l) ++ s ∷ ps) (pairs_is r)
@@ -184,7 +183,6 @@ module _ {K V Z : Type 0} where
         ap length (s.own s.between) in
         let a = length-append (own_pairs s.left) (s.between ∷ own_pairs s.right) in
         let b = length-append (own_pairs L) (get_or (own_pairs old) i s.between ∷ own_pairs R) in
-        let z = s.size in
         let c = both_levels k L R s.left s.right l r s.below s.alike_before s.alike (omega arith) (omega arith) in (
           omega arith,
           shared_inner n new s,

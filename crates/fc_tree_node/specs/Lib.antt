@@ -12,3 +12,4 @@ pub mod Leaf
 pub mod Depth
 pub mod Shrunk
 pub mod LeafGap
+pub mod Lends

@@ -31,5 +31,4 @@ module _ {K V Z : Type 0} where
   fewest_gone None root mid old new is paid none h s = absurd cc
   fewest_gone (Some r) root mid old new is paid none h s =
       let t = subst (IsSoundRoot h) (let same : r ≡ root = cc in same) s in
-      let some = t.0 in
       paid h t (omega arith)

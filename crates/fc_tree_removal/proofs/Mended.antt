@@ -40,11 +40,8 @@ module _ {K V Z : Type 0} where
   -- the short child and the sibling that it is mended with
   pub pair_short : (h : ℕ) (n : Node K V Z) (i j : ℕ) → j ≡ i - 1 → IsShortAt h n i → IsPairAt h n j
   pair_short h n zero j e s =
-      let k : length (children_of n) ≡ length (own_pairs n) + 1 = s.inner in
-      let some = s.some in
       let f : j ≡ 0 = omega arith in
       let r = all_next (IsSound h) (children_of n) 1 n (omega arith) s.after in
-      let r₀ = r.0.0 in
       subst (λ m. IsPairAt h n m) (sym f) (record {
         in_bounds = omega arith;
         fits = s.fits;
@@ -58,11 +55,8 @@ module _ {K V Z : Type 0} where
         after = r.1;
       })
   pair_short h n (suc i) j e s =
-      let k : length (children_of n) ≡ length (own_pairs n) + 1 = s.inner in
-      let le = s.place in
       let f : j ≡ i = omega arith in
       let r = all_last (IsSound h) (children_of n) i n (omega arith) s.before in
-      let r₀ = r.0.0 in
       subst (λ m. IsPairAt h n m) (sym f) (record {
         in_bounds = omega arith;
         fits = s.fits;
@@ -81,7 +75,6 @@ module _ {K V Z : Type 0} where
 
   pub merged_mended : (h : ℕ) (old new : Node K V Z) (i : ℕ) → IsPairAt h old i → together old i ≤ capacity → IsMerged i old new → IsShrunk (suc h) old new
   merged_mended h old new i p room m =
-      let l = p.left_length in
       let d = (item_there (own_pairs old) i p.in_bounds).0 in
       let o = ap length m.pairs in
       let o' = length-remove (own_pairs old) i p.in_bounds in
@@ -98,8 +91,6 @@ module _ {K V Z : Type 0} where
   -- the child was not short
   pub whole_levels : (h : ℕ) (n : Node K V Z) (i : ℕ) → IsShortAt h n i → min_len ≤ length (own_pairs (child_at n i)) → IsShrunk (suc h) n n
   whole_levels h n i s le =
-      let k : length (children_of n) ≡ length (own_pairs n) + 1 = s.inner in
-      let pl = s.place in
       let e = one_at (children_of n) i n (omega arith) in (
         (s.fits, s.inner, subst (AllByRecursion (IsSound h)) (sym e) (all_both (IsSound h) (take i (children_of n)) _ s.before ((le, s.levels), s.after))),
         (omega arith, omega arith),

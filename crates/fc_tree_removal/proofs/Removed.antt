@@ -5,74 +5,37 @@ use Rattle.std.specs.Prelude.{slice_set, slice_range, slice_get, ◌⊎◌}
 use Rattle.std.specs.List.{AllByRecursion, remove}
 use Rattle.std.proofs.lemmas.Bool.{cases_lt}
 use Rattle.std.proofs.lemmas.List.Edits.{length-remove}
-use Rattle.std.proofs.lemmas.List.{length-map, map-append}
+use Rattle.std.proofs.lemmas.List.{length-map, map-append, take-set, drop-set-lt, get_or-set_same, nil_from_length}
 use Rattle.fc_base.specs.Sizes.{capacity, min_len}
 use Rattle.fc_tree_node.specs.Weave.{weave}
-use Rattle.fc_tree_node.specs.declared.node.Node.{Node, out-Node, roll-Node}
+use Rattle.fc_tree_node.specs.declared.node.Node.{Node, out-Node}
 use Rattle.fc_tree_node.specs.Node.{own_pairs, children_of, child_at, pairs_of, IsLeaf, IsInner, IsLevelled, IsSound, IsSoundRoot}
 use Rattle.fc_tree_node.specs.Place.{before_child, after_child, before_own, after_own, IsPlace, place_pair, before_pair, after_pair}
 use Rattle.fc_tree_removal.specs.Mending.{IsShortAt}
 use Rattle.fc_tree_node.specs.Shrunk.{IsShrunk}
-use Rattle.fc_tree_node.proofs.Lists.{length_take, take_drop, set_is, length_set, all_front, all_back}
+use Rattle.fc_tree_node.proofs.Lists.{length_take, set_is, length_set, all_take, all_drop}
 use Rattle.fc_tree_node.proofs.Weaves.{weave_parts}
 use Rattle.fc_tree_node.proofs.Pairs.{pairs_is, leaf_children, leaf_pairs, child_below}
-use Rattle.fc_tree_node.proofs.Made.{own_made, IsChildSet, children_in, inner_length}
-use Rattle.fc_tree_node.proofs.Shared.{listed_child}
+use Rattle.fc_tree_node.proofs.Made.{children_in, inner_length}
+use Rattle.fc_tree_node.proofs.Lent.{IsAbove, above, above_child, IsLent, lent, lent_is, IsReplaced}
 use Rattle.fc_tree_node.proofs.Cuts.{last_out}
 use Rattle.fc_tree_node.proofs.Gaps.{drop_item, inner_gap, item_there, before_child_pair, after_none}
-use Rattle.fc_tree_node.proofs.Siblings.{around_one}
+use Rattle.fc_tree_node.proofs.PathSteps.{take_all}
 
 module _ {X : Type 0} where
-  pub take_set : (xs : List X) (i : ℕ) (y : X) → take i (slice_set xs i y) ≡ take i xs
-  take_set [] i y = refl
-  take_set (x ∷ xs) zero y = refl
-  take_set (x ∷ xs) (suc i) y = ap (λ zs. x ∷ zs) (take_set xs i y)
-
-  pub drop_set : (xs : List X) (i : ℕ) (y : X) → drop (suc i) (slice_set xs i y) ≡ drop (suc i) xs
-  drop_set [] i y = refl
-  drop_set (x ∷ xs) zero y = refl
-  drop_set (x ∷ xs) (suc i) y = drop_set xs i y
-
-  pub at_set : (xs : List X) (i : ℕ) (y d : X) → i < length xs → get_or (slice_set xs i y) i d ≡ y
-  at_set [] i y d h = absurd (omega arith)
-  at_set (x ∷ xs) zero y d h = refl
-  at_set (x ∷ xs) (suc i) y d h = at_set xs i y d (omega arith)
-
-  no_pairs : (xs : List X) → length xs ≡ 0 → xs ≡ []
-  no_pairs [] e = refl
-  no_pairs (x ∷ xs) e = absurd (omega arith)
-
   pub get_there : (xs : List X) (i : ℕ) (x : X) → i < length xs → x ≡ get_or xs i x → slice_get xs i ≡ Some x
   get_there xs i x h e = let t = item_there xs i h in t.2 ∙ ap Some (sym (t.1 x) ∙ sym e)
 
 module _ {K V Z : Type 0} where
   -- a node with children lies above the leaves
-  pub record IsAbove (h : ℕ) (n : Node K V Z) : Type 0 where
-    pub below : ℕ
-    pub height : h ≡ suc below
-    pub levels : IsLevelled (suc below) n
-    pub inner : IsInner n
-
-  pub some_above : (h : ℕ) (n : Node K V Z) (cs : List (Node K V Z)) → (out-Node K V Z n).children ≡ Some cs → IsLevelled h n → IsAbove h n
-  some_above zero n cs e l = absurd (let f = sym e ∙ l.1 in cc)
-  some_above (suc h) n cs e l = record { below = h; height = refl; levels = l; inner = l.1 }
-
-  -- the child that is read from the list that a node has
-  pub opened_child : (n : Node K V Z) (cs : List (Node K V Z)) (i : ℕ) (c : Node K V Z) → (out-Node K V Z n).children ≡ Some cs → IsInner n
-      → i ≤ length (own_pairs n) → c ≡ get_or cs i c → c ≡ child_at n i
-  opened_child n cs i c e inner h q = let k = inner_length n cs e inner in listed_child n i cs e i c (omega arith) q
+  pub some_above : (h : ℕ) (n : Node K V Z) (cs : List (Node K V Z)) → (out-Node K V Z n).children ≡ Some cs → IsLevelled h n → IsAbove IsLevelled h n
+  some_above h n cs e = above IsLevelled h n (λ l. let f = sym e ∙ l.1 in cc)
 
   pub none_leaf : (h : ℕ) (n : Node K V Z) → IsLeaf n → IsLevelled h n → h ≡ 0
   none_leaf zero n e l = refl
   none_leaf (suc h) n e l =
-      let k : length (children_of n) ≡ length (own_pairs n) + 1 = l.1 in
       let z : length (children_of n) ≡ 0 = ap length (leaf_children n e) in
       absurd (omega arith)
-
-  -- a node that was opened holds what it held
-  pub opened_length : (n : Node K V Z)
-      → length (own_pairs (roll-Node K V Z (record { pairs = own_pairs n; children = (out-Node K V Z n).children }))) ≡ length (own_pairs n)
-  opened_length n = ap length (own_made _)
 
   pub leaf_shrunk : (h : ℕ) (old new : Node K V Z) (i : ℕ) → IsLeaf old → IsLevelled h old → i < length (own_pairs old)
       → own_pairs new ≡ remove (own_pairs old) i → IsLeaf new → IsShrunk h old new
@@ -83,47 +46,23 @@ module _ {K V Z : Type 0} where
       let r = length-remove (own_pairs old) i lt in
       subst (λ k. IsShrunk k old new) (sym z) ((omega arith, e'), (omega arith, omega arith))
 
-  -- a child that was lent out of the list of a node above the leaves
-  pub record IsLent (h : ℕ) (n child : Node K V Z) (i : ℕ) : Type 0 where
-    pub below : ℕ
-    pub height : h ≡ suc below
-    pub levels : IsLevelled (suc below) n
-    pub inner : IsInner n
-    pub place : i ≤ length (own_pairs n)
-    pub is : child ≡ child_at n i
-    pub whole : IsSound below child
-    pub sound : IsSoundRoot below child
+  -- a child lent out of a node above the leaves
+  pub lent_sound : {h : ℕ} {n child : Node K V Z} {i : ℕ} (a : IsAbove IsLevelled h n) → i ≤ length (own_pairs n)
+      → child ≡ get_or (children_of n) i child → IsLent IsLevelled IsSound h n child i
+  lent_sound {n = n} {child = child} {i = i} a le q = lent a a.levels.1 le (lent_is n i child a.levels.1 le q) (child_below a.below n i a.levels le)
 
-  pub lent : (h : ℕ) (n child : Node K V Z) (cs : List (Node K V Z)) (i : ℕ) → (out-Node K V Z n).children ≡ Some cs → IsLevelled h n
-      → i ≤ length (own_pairs n) → child ≡ get_or cs i child → IsLent h n child i
-  lent h n child cs i e l le q =
-      let a = some_above h n cs e l in
-      let is = opened_child n cs i child e a.inner le q in
-      let whole : IsSound a.below child = subst (IsSound a.below) (sym is) (child_below a.below n i a.levels le) in
-      record {
-        below = a.below;
-        height = a.height;
-        levels = a.levels;
-        inner = a.inner;
-        place = le;
-        is = is;
-        whole = whole;
-        sound = (omega arith, whole.1);
-      }
+  module _ {h : ℕ} {old child : Node K V Z} {i : ℕ} (l : IsLent IsLevelled IsSound h old child i) where
+    pub sound : IsSoundRoot l.below child
+    sound = (omega (arith, l.child.0), l.child.1)
 
-  module _ {h : ℕ} {old child : Node K V Z} {i : ℕ} (l : IsLent h old child i) where
     -- it came back as c, and is short at most if it has lost a pair
     came_short : (mid c : Node K V Z) → 1 ≤ length (own_pairs old) → length (own_pairs mid) ≡ length (own_pairs old)
         → children_of mid ≡ slice_set (children_of old) i c → IsShrunk l.below child c → IsShortAt l.below mid i
     came_short mid c some same f s =
         let cs = children_of old in
-        let k : length cs ≡ length (own_pairs old) + 1 = l.inner in
         let n : length (children_of mid) ≡ length cs = ap length f ∙ length_set cs i c in
-        let le = l.place in
         let fits = l.levels.0 in
-        let least = l.whole.0 in
-        let fewer = s.1.1 in
-        let cm : child_at mid i ≡ c = ap (λ ds. get_or ds i mid) f ∙ at_set cs i c mid (omega arith) in
+        let cm : child_at mid i ≡ c = ap (λ ds. get_or ds i mid) f ∙ get_or-set_same cs i c mid (omega arith) in
         let cl : length (own_pairs (child_at mid i)) ≡ length (own_pairs c) = ap (λ x. length (own_pairs x)) cm in
         let All = AllByRecursion (IsSound l.below) in
         record {
@@ -131,18 +70,16 @@ module _ {K V Z : Type 0} where
           fits = omega arith;
           inner = omega arith;
           place = omega arith;
-          before = subst All (sym (ap (take i) f ∙ take_set cs i c))
-              (all_front (IsSound l.below) (take i cs) (drop i cs) (subst All (sym (take_drop i cs)) l.levels.2));
+          before = subst All (sym (ap (take i) f ∙ take-set cs i c)) (all_take (IsSound l.below) i cs l.levels.2);
           short = omega arith;
           levels = subst (IsLevelled l.below) (sym cm) s.0;
-          after = subst All (sym (ap (drop (suc i)) f ∙ drop_set cs i c))
-              (all_back (IsSound l.below) (take (suc i) cs) (drop (suc i) cs) (subst All (sym (take_drop (suc i) cs)) l.levels.2));
+          after = subst All (sym (ap (drop (suc i)) f ∙ drop-set-lt (suc i) cs i c (omega arith)))
+              (all_drop (IsSound l.below) (suc i) cs l.levels.2);
         }
 
     -- the node that had it was mended
     came_mended : (mid new : Node K V Z) → length (own_pairs mid) ≡ length (own_pairs old) → IsShrunk (suc l.below) mid new → IsShrunk h old new
     came_mended mid new same s =
-        let a = s.1.0 in let b = s.1.1 in
         subst (λ k. IsShrunk k old new) (sym l.height) (s.0, (omega arith, omega arith))
 
     -- a child that was not short leaves the node as it is: so where the node lost a pair, the child that came back did too, and is short
@@ -154,42 +91,30 @@ module _ {K V Z : Type 0} where
         found : (length (own_pairs (child_at mid i)) < min_len) ⊎ (min_len ≤ length (own_pairs (child_at mid i)))
             → (length (own_pairs c) < length (own_pairs child)) × (length (own_pairs (child_at mid i)) < min_len)
         found (inl short) =
-            let k : length (children_of old) ≡ length (own_pairs old) + 1 = l.inner in
-            let le = l.place in
-            let least = l.whole.0 in
-            let cm : child_at mid i ≡ c = ap (λ ds. get_or ds i mid) f ∙ at_set (children_of old) i c mid (omega arith) in
+            let cm : child_at mid i ≡ c = ap (λ ds. get_or ds i mid) f ∙ get_or-set_same (children_of old) i c mid (omega arith) in
             let cl : length (own_pairs (child_at mid i)) ≡ length (own_pairs c) = ap (λ x. length (own_pairs x)) cm in
             (omega arith, short)
         found (inr whole) = absurd (let e = ap (λ n. length (own_pairs n)) (stays whole) in omega arith)
 
-    pub lent_lost : {mid c : Node K V Z} (new : Node K V Z) → IsChildSet old mid i c → (min_len ≤ length (own_pairs (child_at mid i)) → new ≡ mid)
+    pub lent_lost : {mid c : Node K V Z} (new : Node K V Z) → IsReplaced old mid i c → (min_len ≤ length (own_pairs (child_at mid i)) → new ≡ mid)
         → length (own_pairs new) < length (own_pairs old)
         → (length (own_pairs c) < length (own_pairs child)) × (length (own_pairs (child_at mid i)) < min_len)
-    lent_lost new m stays lost = came_lost _ new _ (ap length m.same) m.child stays lost
+    lent_lost new m stays lost = came_lost _ new _ m.size m.child stays lost
 
-    pub lent_short : {mid c : Node K V Z} → 1 ≤ length (own_pairs old) → IsChildSet old mid i c → IsShrunk l.below child c → IsShortAt l.below mid i
-    lent_short some m s = came_short _ _ some (ap length m.same) m.child s
+    pub lent_short : {mid c : Node K V Z} → 1 ≤ length (own_pairs old) → IsReplaced old mid i c → IsShrunk l.below child c → IsShortAt l.below mid i
+    lent_short some m s = came_short _ _ some m.size m.child s
 
-    pub lent_mended : {mid c : Node K V Z} (new : Node K V Z) → 1 ≤ length (own_pairs old) → IsChildSet old mid i c → IsShrunk l.below child c
+    pub lent_mended : {mid c : Node K V Z} (new : Node K V Z) → 1 ≤ length (own_pairs old) → IsReplaced old mid i c → IsShrunk l.below child c
         → (IsShortAt l.below mid i → IsShrunk (suc l.below) mid new) → IsShrunk h old new
-    lent_mended new some m s f = came_mended _ new (ap length m.same) (f (lent_short some m s))
+    lent_mended new some m s f = came_mended _ new m.size (f (lent_short some m s))
 
-  -- the pairs of a node with another child
-  pub set_gap : (old mid c : Node K V Z) (i : ℕ) → IsInner old → i ≤ length (own_pairs old) → IsChildSet old mid i c
-      → pairs_of mid ≡ before_child old i ++ (pairs_of c ++ after_child old i)
-  set_gap old mid c i inner le m =
-      let k : length (children_of old) ≡ length (own_pairs old) + 1 = inner in
-      around_one mid c (take i (children_of old)) (drop (suc i) (children_of old)) (take i (own_pairs old)) (drop i (own_pairs old))
-      (m.child ∙ set_is (children_of old) i c (omega arith)) (m.same ∙ sym (take_drop i (own_pairs old)))
-      (length_take i (children_of old) (omega arith) ∙ sym (length_take i (own_pairs old) le))
-
-  pub first_removed : (old mid child c : Node K V Z) (x : K × V) → IsInner old → IsChildSet old mid 0 c → child ≡ child_at old 0
+  pub first_removed : (old mid child c : Node K V Z) (x : K × V) → IsInner old → IsReplaced old mid 0 c → child ≡ child_at old 0
       → pairs_of child ≡ x ∷ pairs_of c → pairs_of old ≡ x ∷ pairs_of mid
   first_removed old mid child c x inner m ci e =
       inner_gap old 0 inner (omega arith) ∙ ap (λ n. pairs_of n ++ after_child old 0) (sym ci) ∙ ap (λ zs. zs ++ after_child old 0) e
-      ∙ ap (λ zs. x ∷ zs) (sym (set_gap old mid c 0 inner (omega arith) m))
+      ∙ ap (λ zs. x ∷ zs) (sym (m.pairs inner (omega arith)))
 
-  pub last_removed : (old mid child c : Node K V Z) (i : ℕ) (x : K × V) → i ≡ length (own_pairs old) → IsInner old → IsChildSet old mid i c
+  pub last_removed : (old mid child c : Node K V Z) (i : ℕ) (x : K × V) → i ≡ length (own_pairs old) → IsInner old → IsReplaced old mid i c
       → child ≡ child_at old i → pairs_of child ≡ pairs_of c ++ x ∷ [] → pairs_of old ≡ pairs_of mid ++ x ∷ []
   last_removed old mid child c i x end inner m ci e =
       let lead = before_child old i in
@@ -197,7 +122,7 @@ module _ {K V Z : Type 0} where
       inner_gap old i inner (omega arith) ∙ ap (λ r. lead ++ (pairs_of (child_at old i) ++ r)) none
       ∙ ap (λ zs. lead ++ zs) (append-nil (pairs_of (child_at old i)) ∙ sym (ap pairs_of ci) ∙ e)
       ∙ sym (append_assoc lead (pairs_of c) (x ∷ []))
-      ∙ ap (λ zs. zs ++ x ∷ []) (sym (set_gap old mid c i inner (omega arith) m ∙ ap (λ r. lead ++ (pairs_of c ++ r)) none
+      ∙ ap (λ zs. zs ++ x ∷ []) (sym (m.pairs inner (omega arith) ∙ ap (λ r. lead ++ (pairs_of c ++ r)) none
       ∙ ap (λ zs. lead ++ zs) (append-nil (pairs_of c))))
 
   pub last_taken : (old new : Node K V Z) (i : ℕ) (x : K × V) → IsLeaf old → IsLeaf new → i + 1 ≡ length (own_pairs old) → x ≡ get_or (own_pairs old) i x
@@ -222,7 +147,7 @@ module _ {K V Z : Type 0} where
     pub pairs : own_pairs mid ≡ slice_set (own_pairs old) i next
     pub children : children_of mid ≡ slice_set (children_of old) (i + 1) c
 
-  pub own_set : (old mid new : Node K V Z) (i : ℕ) (next : K × V) (c : Node K V Z) → IsChildSet old mid (i + 1) c
+  pub own_set : (old mid new : Node K V Z) (i : ℕ) (next : K × V) (c : Node K V Z) → IsReplaced old mid (i + 1) c
       → own_pairs new ≡ slice_set (own_pairs mid) i next → children_of new ≡ children_of mid → IsOwnSet old new i next c
   own_set old mid new i next c m e f = record {
     pairs = e ∙ ap (λ ps. slice_set ps i next) m.same;
@@ -232,7 +157,7 @@ module _ {K V Z : Type 0} where
   own_kept : (old mid c : Node K V Z) (next : K × V) (i : ℕ) → IsOwnSet old mid i next c → length (own_pairs mid) ≡ length (own_pairs old)
   own_kept old mid c next i m = ap length m.pairs ∙ length_set (own_pairs old) i next
 
-  module _ {h : ℕ} {old child : Node K V Z} {i : ℕ} (l : IsLent h old child (i + 1)) where
+  module _ {h : ℕ} {old child : Node K V Z} {i : ℕ} (l : IsLent IsLevelled IsSound h old child (i + 1)) where
     pub own_short : {mid c : Node K V Z} {next : K × V} → 1 ≤ length (own_pairs old) → IsOwnSet old mid i next c → IsShrunk l.below child c
         → IsShortAt l.below mid (i + 1)
     own_short some m s = came_short l _ _ some (own_kept _ _ _ _ _ m) m.children s
@@ -247,14 +172,12 @@ module _ {K V Z : Type 0} where
     own_mended new some m s f = came_mended l _ new (own_kept _ _ _ _ _ m) (f (own_short some m s))
 
   -- the pairs of a node of which the first pair after one of its own has taken that one's place
-  pub own_replaced : {h : ℕ} (old mid child c : Node K V Z) (next : K × V) (i : ℕ) → IsLent h old child (i + 1) → IsOwnSet old mid i next c
+  pub own_replaced : {h : ℕ} (old mid child c : Node K V Z) (next : K × V) (i : ℕ) → IsLent IsLevelled IsSound h old child (i + 1) → IsOwnSet old mid i next c
       → pairs_of child ≡ next ∷ pairs_of c → pairs_of mid ≡ before_own old i ++ after_own old i
   own_replaced old mid child c next i l m q =
-      let le = l.place in
       let h : i < length (own_pairs old) = omega arith in
       let children_is : children_of mid ≡ slice_set (children_of old) (suc i) c = m.children ∙ ap (λ k. slice_set (children_of old) k c) (add-one i) in
       let next_is : child ≡ child_at old (suc i) = l.is ∙ ap (child_at old) (add-one i) in
-      let k : length (children_of old) ≡ length (own_pairs old) + 1 = l.inner in
       let cs = take (suc i) (children_of old) in let ds = drop (suc (suc i)) (children_of old) in
       let ps = take i (own_pairs old) in let qs = drop (suc i) (own_pairs old) in
       let n : length (map pairs_of cs) ≡ length ps + 1 = length-map cs pairs_of ∙ length_take (suc i) (children_of old) (omega arith)
@@ -269,7 +192,7 @@ module _ {K V Z : Type 0} where
 
 module _ {K V Z : Type 0} where
   pub empty_leaf : (root : Node K V Z) → IsLeaf root → length (own_pairs root) ≡ 0 → pairs_of root ≡ []
-  empty_leaf root l e = leaf_pairs root l ∙ no_pairs (own_pairs root) e
+  empty_leaf root l e = leaf_pairs root l ∙ nil_from_length (own_pairs root) e
 
   -- the only child of a root without pairs
   pub only_child : (root : Node K V Z) (cs : List (Node K V Z)) (c : Node K V Z) → (out-Node K V Z root).children ≡ Some cs → IsInner root
@@ -283,7 +206,7 @@ module _ {K V Z : Type 0} where
 
   pub only_pairs : (root c : Node K V Z) → length (own_pairs root) ≡ 0 → children_of root ≡ c ∷ [] → pairs_of c ≡ pairs_of root
   only_pairs root c h e =
-      sym (pairs_is root ∙ ap (λ ps. weave (map pairs_of (children_of root)) ps) (no_pairs (own_pairs root) h) ∙ ap (λ cs. weave (map pairs_of cs) []) e
+      sym (pairs_is root ∙ ap (λ ps. weave (map pairs_of (children_of root)) ps) (nil_from_length (own_pairs root) h) ∙ ap (λ cs. weave (map pairs_of cs) []) e
       ∙ append-nil (pairs_of c))
 
   pub one_lower : (h : ℕ) (root c : Node K V Z) (cs : List (Node K V Z)) → (out-Node K V Z root).children ≡ Some cs → children_of root ≡ c ∷ []
@@ -291,7 +214,6 @@ module _ {K V Z : Type 0} where
   one_lower zero root c cs e f l = absurd (let q = sym e ∙ l.1 in cc)
   one_lower (suc h) root c cs e f l =
       let a = (subst (AllByRecursion (IsSound h)) f l.2).0 in
-      let a₀ = a.0 in
       let k : h ≡ suc h - 1 = omega arith in
       inr (omega arith, subst (λ m. IsSoundRoot m c) k (omega arith, a.1))
 
@@ -302,12 +224,6 @@ pub record IsPlaceStep {K V Z : Type 0} (p : List ℕ) (n : Node K V Z) : Type 0
   pub pair : place_pair p n ≡ place_pair (slice_range p 1 (length p)) (child_at n (get_or p 0 0))
   pub before : before_pair p n ≡ before_child n (get_or p 0 0) ++ before_pair (slice_range p 1 (length p)) (child_at n (get_or p 0 0))
   pub after : after_pair p n ≡ after_pair (slice_range p 1 (length p)) (child_at n (get_or p 0 0)) ++ after_child n (get_or p 0 0)
-
-take_all : (p : List ℕ) (n : ℕ) → n ≡ length p → take n p ≡ p
-take_all [] zero e = refl
-take_all [] (suc n) e = refl
-take_all (i ∷ p) zero e = absurd (omega arith)
-take_all (i ∷ p) (suc n) e = ap (λ q. i ∷ q) (take_all p n (omega arith))
 
 pub place_step : {K V Z : Type 0} (p : List ℕ) (n : Node K V Z) → (length p ≡ 1 → ⊥) → IsPlace p n → IsPlaceStep p n
 place_step [] n h w = absurd w
@@ -324,25 +240,20 @@ place_step (i ∷ j ∷ p) n h w =
 
 module _ {K V Z : Type 0} where
   -- the child on the way to a pair
-  pub lent_onward : (h : ℕ) (p : List ℕ) (n child : Node K V Z) (cs : List (Node K V Z)) → IsPlaceStep p n → (out-Node K V Z n).children ≡ Some cs
-      → IsLevelled h n
-      → child ≡ get_or cs (get_or p 0 0) child → IsLent h n child (get_or p 0 0)
-  lent_onward h p n child cs s e l q =
-      let k : length (children_of n) ≡ length (own_pairs n) + 1 = (some_above h n cs e l).inner in
-      let lt = s.child in
-      lent h n child cs _ e l (omega arith) q
+  pub lent_onward : (h : ℕ) (p : List ℕ) (n child : Node K V Z) → IsPlaceStep p n → IsLevelled h n → child ≡ get_or (children_of n) (get_or p 0 0) child
+      → IsLent IsLevelled IsSound h n child (get_or p 0 0)
+  lent_onward h p n child s l q = let a = above_child h n _ s.child l in lent_sound a (omega (arith, a.levels.1, s.child)) q
 
   -- a pair was removed below a child
-  pub below_removed : (p : List ℕ) (old mid child c : Node K V Z) → IsPlaceStep p old → IsInner old → IsChildSet old mid (get_or p 0 0) c
+  pub below_removed : (p : List ℕ) (old mid child c : Node K V Z) → IsPlaceStep p old → IsInner old → IsReplaced old mid (get_or p 0 0) c
       → child ≡ child_at old (get_or p 0 0)
       → pairs_of c ≡ before_pair (slice_range p 1 (length p)) child ++ after_pair (slice_range p 1 (length p)) child
       → pairs_of mid ≡ before_pair p old ++ after_pair p old
   below_removed p old mid child c s inner m ci e =
       let i = get_or p 0 0 in let q = slice_range p 1 (length p) in
       let k : length (children_of old) ≡ length (own_pairs old) + 1 = inner in
-      let lt = s.child in
       let a = before_pair q (child_at old i) in let b = after_pair q (child_at old i) in
-      set_gap old mid c i inner (omega arith) m ∙ ap (λ zs. before_child old i ++ (zs ++ after_child old i))
+      m.pairs inner (omega arith) ∙ ap (λ zs. before_child old i ++ (zs ++ after_child old i))
       (e ∙ ap (λ n. before_pair q n ++ after_pair q n) ci)
       ∙ ap (λ zs. before_child old i ++ zs) (append_assoc a b (after_child old i)) ∙ sym (append_assoc (before_child old i) a (b ++ after_child old i))
       ∙ ap (λ zs. zs ++ (b ++ after_child old i)) (sym s.before) ∙ ap (λ zs. before_pair p old ++ zs) (sym s.after)

@@ -9,6 +9,7 @@ ghost use Rattle.fc_tree_node.specs.Shrunk.{IsShrunk};
 
 use crate::removal::{mend_child, remove_first, take_empty_root};
 use fc_base::{Count, Handle};
+use fc_tree_node::lend::child_in;
 use fc_tree_node::node::Node;
 
 /// Takes the first pair out of the tree, of which nothing is left where that was the only pair. It compares nothing and takes no memory.
@@ -75,13 +76,10 @@ pub fn remove_last<K: Drop, V: Drop, A: Handle>(
     ensures comparisons { count.new.comparisons ≡ count.old.comparisons }
 {
     let end = node.len();
-    let pair = match &mut node.children {
-        None => return node.remove_leaf(end - 1, count),
-        Some(children) => {
-            let child: &mut Node<K, V, A> = children.get_mut(end);
-            remove_last(child, count)
-        }
-    };
+    if node.is_leaf() {
+        return node.remove_leaf(end - 1, count);
+    }
+    let pair = remove_last(child_in(&mut node.children, end), count);
     mend_child(node, end, count);
     pair
 }

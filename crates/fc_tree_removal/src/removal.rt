@@ -12,6 +12,7 @@ ghost use Rattle.fc_tree_removal.specs.Removal.{IsSoundTree, IsTreeLeft};
 ghost use Rattle.fc_tree_node.specs.Shrunk.{IsShrunk};
 
 use fc_base::{Count, Handle};
+use fc_tree_node::lend::child_in;
 use fc_tree_node::node::{CAPACITY, MIN_LEN, Node};
 
 /// Takes the pair at the place out of the tree, of which nothing is left where that was the only pair. It compares nothing and takes
@@ -92,14 +93,7 @@ fn remove_at<K: Drop, V: Drop, A: Handle>(
     if path.len() == 1 {
         return remove_own(node, i, count);
     }
-    let rest = &path[1..];
-    let pair = match &mut node.children {
-        None => unreachable!(),
-        Some(children) => {
-            let child: &mut Node<K, V, A> = children.get_mut(i);
-            remove_at(child, rest, count)
-        }
-    };
+    let pair = remove_at(child_in(&mut node.children, i), &path[1..], count);
     mend_child(node, i, count);
     pair
 }
@@ -120,13 +114,10 @@ fn remove_own<K: Drop, V: Drop, A: Handle>(
     ensures fewest { (h : ℕ) → IsSoundRoot h node.old → length (own_pairs node.new) < length (own_pairs node.old) → count.old.moves + fewest_moves h ≤ count.new.moves }
     ensures comparisons { count.new.comparisons ≡ count.old.comparisons }
 {
-    let next = match &mut node.children {
-        None => return node.remove_leaf(index, count),
-        Some(children) => {
-            let child: &mut Node<K, V, A> = children.get_mut(index + 1);
-            remove_first(child, count)
-        }
-    };
+    if node.is_leaf() {
+        return node.remove_leaf(index, count);
+    }
+    let next = remove_first(child_in(&mut node.children, index + 1), count);
     let pair = node.replace_pair(index, next, count);
     mend_child(node, index + 1, count);
     pair
@@ -145,13 +136,10 @@ pub fn remove_first<K: Drop, V: Drop, A: Handle>(
     ensures fewest { (h : ℕ) → IsSoundRoot h node.old → length (own_pairs node.new) < length (own_pairs node.old) → count.old.moves + fewest_moves h ≤ count.new.moves }
     ensures comparisons { count.new.comparisons ≡ count.old.comparisons }
 {
-    let pair = match &mut node.children {
-        None => return node.remove_leaf(0, count),
-        Some(children) => {
-            let child: &mut Node<K, V, A> = children.get_mut(0);
-            remove_first(child, count)
-        }
-    };
+    if node.is_leaf() {
+        return node.remove_leaf(0, count);
+    }
+    let pair = remove_first(child_in(&mut node.children, 0), count);
     mend_child(node, 0, count);
     pair
 }

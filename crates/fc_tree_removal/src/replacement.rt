@@ -6,6 +6,7 @@ ghost use Rattle.fc_tree_node.specs.Place.{IsPlace, place_pair, before_pair, aft
 ghost use Rattle.fc_tree_node.specs.Tree.{IsSoundMap};
 
 use fc_base::{Count, Handle};
+use fc_tree_node::lend::child_in;
 use fc_tree_node::node::Node;
 use fc_tree_node::path::Path;
 
@@ -57,13 +58,7 @@ pub fn replace<K: Drop, V: Drop, A: Handle>(
     if path.len() == 1 {
         return replace_own(node, i, pair, count);
     }
-    match &mut node.children {
-        None => unreachable!(),
-        Some(children) => {
-            let child: &mut Node<K, V, A> = children.get_mut(i);
-            replace(child, &path[1..], pair, count)
-        }
-    }
+    replace(child_in(&mut node.children, i), &path[1..], pair, count)
 }
 
 // Puts `pair` in the place of the node's own pair at `index`.

@@ -5,7 +5,7 @@ use Rattle.std.specs.Prelude.{Bool, true, false, ⊤}
 use Rattle.std.specs.Bool.{MatchBool}
 use Rattle.std.specs.declared.cmp.Ordering.{Ordering}
 use Rattle.std.proofs.lemmas.Bool.{cases_lt}
-use Rattle.std.proofs.lemmas.List.{length-append}
+use Rattle.std.proofs.lemmas.List.{length-append, nil_from_length}
 use Rattle.fc_base.specs.Ascending.{IsAscending}
 use Rattle.fc_tree_node.specs.declared.node.Node.{Node}
 use Rattle.fc_tree_node.specs.LeafGap.{IsLeafGap}
@@ -24,7 +24,6 @@ use Rattle.fc_tree_retain.specs.Sifted.{SiftsPair}
 use Rattle.fc_tree_retain.specs.Stretch.{AreInOrder, IsEnd, IsStretchSifted}
 use Rattle.fc_tree_retain.proofs.Kept.{kept_ascending}
 use Rattle.fc_tree_retain.proofs.Lists.{take_place, drop_place, longer}
-use Rattle.fc_tree_retain.proofs.Stretching.{no_steps}
 use Rattle.fc_tree_retain.proofs.Turns.{retains_join, retains_as}
 
 module _ {K V Z : Type 0} where
@@ -47,7 +46,7 @@ module _ {K V Z : Type 0} where
   steps_order h n [] q l v w e f le = tt
   steps_order h n (i ∷ p) [] l v w e f le = tt
   steps_order zero n (i ∷ p) (j ∷ q) l v w e f le =
-      first_order zero n i j p q l v w (omega arith) le (λ _. subst (λ r. AreInOrder r q) (sym (no_steps p (omega arith))) tt)
+      first_order zero n i j p q l v w (omega arith) le (λ _. subst (λ r. AreInOrder r q) (sym (nil_from_length p (omega arith))) tt)
   steps_order (suc h) n (i ∷ p) (j ∷ q) l v w e f le =
       first_order (suc h) n i j p q l v w (omega arith) le (λ s.
       let x = subst (λ k. IsPath q (child_at n k)) (sym s) w.1 in

@@ -49,9 +49,6 @@ module _ {K V Z : Type 0} where
       start : (h : ℕ) → IsThinWithin h n first last → IsMendedTo (AreThinFirst h left) h at n
       start h t =
           let cs = children_of n in
-          let k : length cs ≡ length (own_pairs n) + 1 = t.inner in
-          let inside = t.last in
-          let order = t.order in
           let behind : suc at + left ≡ last + 1 = omega arith in
           record {
             fits = t.fits;
@@ -88,7 +85,6 @@ module _ {K V Z : Type 0} where
   pub bordering_seam : (old now : Node K V Z) (first last at left left' : ℕ) → IsBordering old now first last at left → left ≡ suc left'
       → (h : ℕ) → IsThinWithin h old first last → IsNextMended (AreThinFirst h left') h at now
   bordering_seam old now first last at left left' b e h t =
-      let inside = b.inside in
       next_two (AreThinFirst h left) (AreThinFirst h left') h at now b.inner (omega arith) (b.levels h t)
       (λ c cs q. (q.0.0, (q.0.1, subst (λ k. AllByRecursion (IsSound h) (drop k (c ∷ cs))) e q.1)))
 
@@ -98,7 +94,6 @@ module _ {K V Z : Type 0} where
   bordering_more g old now new first last at left left' j t b e np st =
       let x = bordering_seam old now first last at left left' b e g t in
       let z = settled_sizes g at j now new x.seam (st g x.seam) in
-      let sizes = z.0 in
       let inside = b.inside in
       record {
         pairs = np ∙ b.pairs;
@@ -113,7 +108,6 @@ module _ {K V Z : Type 0} where
       → (h : ℕ) → IsThinWithin h old first last → IsNextMended (AllByRecursion (IsSound h)) h at now × IsSound h (child_at now (at + 1))
   bordering_last old now first last at b lt h t =
       let cs = children_of now in
-      let k : length cs ≡ length (own_pairs now) + 1 = b.inner in
       let one : at + 1 ≡ suc at = omega arith in
       let m = b.levels h t in
       let all = subst (AllByRecursion (IsSound h)) (drop_item cs (suc at) now (omega arith)) m.after.1 in (
@@ -129,25 +123,20 @@ module _ {K V Z : Type 0} where
       sizes = settled_sizes h at j mid new x.seam st
 
       go : IsSettled h at j mid new → IsThin (suc h) new
-      go (inl (q, o)) =
-          let fits = x.seam.fits in
-          let own = o.own in (
-            omega arith,
-            sizes.1,
-            inl (subst (AllByRecursion (IsSound h)) (sym o.children) (all_both (IsSound h) (take at (children_of mid)) _ x.seam.before
-                (o.sound (inr sound), x.after))),
-          )
-      go (inr (q, o)) =
-          let fits = x.seam.fits in
-          let own = o.own in (
-            omega arith,
-            sizes.1,
-            inl (subst (AllByRecursion (IsSound h)) (sym o.children) (all_both (IsSound h) (take at (children_of mid)) _ x.seam.before
-                (o.sound.0, (o.sound.1, x.after)))),
-          )
+      go (inl (q, o)) = (
+        omega arith,
+        sizes.1,
+        inl (subst (AllByRecursion (IsSound h)) (sym o.children) (all_both (IsSound h) (take at (children_of mid)) _ x.seam.before
+            (o.sound (inr sound), x.after))),
+      )
+      go (inr (q, o)) = (
+        omega arith,
+        sizes.1,
+        inl (subst (AllByRecursion (IsSound h)) (sym o.children) (all_both (IsSound h) (take at (children_of mid)) _ x.seam.before
+            (o.sound.0, (o.sound.1, x.after)))),
+      )
 
   pub bordering_end : (old now : Node K V Z) (first last at : ℕ) → IsBordering old now first last at 0 → length (own_pairs now) ≤ at
       → (h : ℕ) → IsThinWithin h old first last → IsThin (suc h) now
   bordering_end old now first last at b le h t =
-      let inside = b.inside in
       mended_all (AreThinFirst h 0) h at now b.inner (omega arith) (b.levels h t)

@@ -1,28 +1,24 @@
 -- How high nodes are of which some hold few pairs.
-use Rattle.std.proofs.Common.{◌≡◌, ℕ, suc, zero, ◌+◌, ◌<◌, ◌≤◌, List, [], ◌∷◌, length, get_or, map, take, refl, sym, ap, subst, ◌∙◌, arith, inl, inr, Some}
+use Rattle.std.proofs.Common.{◌≡◌, ℕ, suc, zero, ◌+◌, ◌<◌, ◌≤◌, List, [], ◌∷◌, length, get_or, map, take, refl, ap, subst, ◌∙◌, arith, inl, inr}
 use Rattle.std.specs.List.{AllByRecursion, remove}
 use Rattle.std.proofs.lemmas.List.Edits.{length-remove}
 use Rattle.fc_base.specs.Sizes.{capacity, min_len}
-use Rattle.fc_tree_node.specs.declared.node.Node.{Node, out-Node}
+use Rattle.fc_tree_node.specs.declared.node.Node.{Node}
 use Rattle.fc_tree_node.specs.Node.{own_pairs, children_of, child_at, IsLeaf, IsInner, IsLevelled, IsSound, IsSoundRoot}
 use Rattle.fc_tree_node.specs.Shrunk.{IsShrunk}
 use Rattle.fc_tree_node.specs.Siblings.{AreAlike, IsFormed}
 use Rattle.fc_tree_node.proofs.Formed.{leaf_or_inner}
 use Rattle.fc_tree_node.proofs.Pairs.{leaf_children}
-use Rattle.fc_tree_node.proofs.Lists.{all_at}
-use Rattle.fc_tree_removal.proofs.Removed.{opened_child}
+use Rattle.fc_tree_node.proofs.Lists.{all_at, all_each}
+use Rattle.fc_tree_node.proofs.Lent.{IsAbove, above, IsLent, lent, lent_is}
 use Rattle.fc_tree_border.proofs.Heights.{above_first, height_of, height_is, no_children, first_all, levelled_height}
 use Rattle.fc_tree_retain.specs.Loose.{IsLoose}
 use Rattle.fc_tree_retain.specs.Mending.{IsThin, IsSeam}
 
 module _ {K V Z : Type 0} where
-  pub each : (P Q : Node K V Z → Type 0) → ((c : Node K V Z) → P c → Q c) → (cs : List (Node K V Z)) → AllByRecursion P cs → AllByRecursion Q cs
-  each P Q f [] a = tt
-  each P Q f (c ∷ cs) a = (f c a.0, each P Q f cs a.1)
-
   pub levelled_loose : (h : ℕ) (n : Node K V Z) → IsLevelled h n → IsLoose h n
   levelled_loose zero n l = l
-  levelled_loose (suc h) n l = (l.0, l.1, each (IsSound h) (IsLoose h) (λ c s. levelled_loose h c s.1) (children_of n) l.2)
+  levelled_loose (suc h) n l = (l.0, l.1, all_each (IsSound h) (IsLoose h) (λ c s. levelled_loose h c s.1) (children_of n) l.2)
 
   pub levelled_thin : (h : ℕ) (n : Node K V Z) → IsLevelled h n → IsThin h n
   levelled_thin zero n l = l
@@ -31,7 +27,7 @@ module _ {K V Z : Type 0} where
   pub thin_sound : (h : ℕ) (n : Node K V Z) → min_len ≤ length (own_pairs n) → IsThin h n → IsSound h n
   thin_sound zero n m t = (m, t)
   thin_sound (suc h) n m (f, i, inl a) = (m, (f, i, a))
-  thin_sound (suc h) n m (f, i, inr z) = let e = z.0 in absurd (omega arith)
+  thin_sound (suc h) n m (f, i, inr z) = absurd (omega arith)
 
   pub thin_fits : (h : ℕ) (n : Node K V Z) → IsThin h n → length (own_pairs n) ≤ capacity
   thin_fits zero n t = t.0
@@ -46,22 +42,19 @@ module _ {K V Z : Type 0} where
   thin_alike (suc h) n m t u = inr (t.1, u.1)
 
   -- a node that is no leaf lies above some
-  pub record IsAbove (h : ℕ) (n : Node K V Z) : Type 0 where
-    pub below : ℕ
-    pub height : h ≡ suc below
-    pub levels : IsLoose (suc below) n
+  pub loose_above : (h : ℕ) (n : Node K V Z) → (IsLeaf n → ⊥) → IsLoose h n → IsAbove IsLoose h n
+  loose_above h n f = above IsLoose h n (λ l. f l.1)
 
-  pub loose_above : (h : ℕ) (n : Node K V Z) → (IsLeaf n → ⊥) → IsLoose h n → IsAbove h n
-  loose_above zero n f l = absurd (f l.1)
-  loose_above (suc h) n f l = record { below = h; height = refl; levels = l }
+  pub inner_above : (h : ℕ) (n : Node K V Z) → IsInner n → IsLoose h n → IsAbove IsLoose h n
+  inner_above h n i = above IsLoose h n (λ l. leaf_or_inner n l.1 i)
 
   pub loose_child : (h : ℕ) (n : Node K V Z) (i : ℕ) → IsLoose (suc h) n → i ≤ length (own_pairs n) → IsLoose h (child_at n i)
-  loose_child h n i l le = let k : length (children_of n) ≡ length (own_pairs n) + 1 = l.1 in all_at (IsLoose h) (children_of n) i n (omega arith) l.2
+  loose_child h n i l le = all_at (IsLoose h) (children_of n) i n (omega arith) l.2
 
   pub loose_height : (h : ℕ) (n : Node K V Z) → IsLoose h n → height_of n ≡ h
   loose_height zero n l = no_children n (leaf_children n l.1)
   loose_height (suc h) n l = height_is n ∙ first_all h (IsLoose h) (loose_height h) (children_of n)
-      (let e : length (children_of n) ≡ length (own_pairs n) + 1 = l.1 in omega arith) l.2
+      (omega arith) l.2
 
   first_height : (cs : List (Node K V Z)) (d : Node K V Z) → 0 < length cs → above_first (map height_of cs) ≡ suc (height_of (get_or cs 0 d))
   first_height [] d h = absurd (omega arith)
@@ -84,7 +77,7 @@ module _ {K V Z : Type 0} where
   pub seam_height : (h : ℕ) (n : Node K V Z) (i : ℕ) → IsSeam h n i → height_of n ≡ suc h
   seam_height h n zero s = inner_height n s.inner ∙ ap suc (thin_height h (child_at n 0) s.left)
   seam_height h n (suc i) s =
-      let f = first_of h (children_of n) n i (let e : length (children_of n) ≡ length (own_pairs n) + 1 = s.inner in omega arith) s.before in
+      let f = first_of h (children_of n) n i (omega arith) s.before in
       inner_height n s.inner ∙ ap suc (levelled_height h (child_at n 0) f.1)
 
   pub leaf_fewer : (h : ℕ) (old new : Node K V Z) (i : ℕ) → i < length (own_pairs old) → IsLeaf new → IsLeaf old → own_pairs new ≡ remove (own_pairs old) i
@@ -92,36 +85,23 @@ module _ {K V Z : Type 0} where
   leaf_fewer zero old new i lt e f q l =
       let m : length (own_pairs new) ≡ length (remove (own_pairs old) i) = ap length q in
       let r = length-remove (own_pairs old) i lt in
-      let fits = l.0 in
       (omega arith, e)
   leaf_fewer (suc h) old new i lt e f q l = absurd (leaf_or_inner old f l.1)
 
   -- a child that is lent
-  pub record IsLent (h : ℕ) (n d : Node K V Z) (i : ℕ) : Type 0 where
-    pub below : ℕ
-    pub height : h ≡ suc below
-    pub levels : IsLoose (suc below) n
-    pub is : d ≡ child_at n i
-    pub loose : IsLoose below d
-    pub falls : height_of d < h
+  pub loose_lent : (h : ℕ) (n : Node K V Z) (i : ℕ) (d : Node K V Z) → IsInner n → IsLoose h n → i ≤ length (own_pairs n) → d ≡ get_or (children_of n) i d
+      → IsLent IsLoose IsLoose h n d i
+  loose_lent h n i d inner l le q =
+      let a = inner_above h n inner l in
+      lent a inner le (lent_is n i d inner le q) (loose_child a.below n i a.levels le)
 
-  pub lent : (h : ℕ) (n : Node K V Z) (cs : List (Node K V Z)) (i : ℕ) (d : Node K V Z) → (out-Node K V Z n).children ≡ Some cs → IsInner n
-      → IsLoose h n → i ≤ length (own_pairs n) → d ≡ get_or cs i d → IsLent h n d i
-  lent zero n cs i d e inner l le q = absurd (leaf_or_inner n l.1 inner)
-  lent (suc h) n cs i d e inner l le q =
-      let is = opened_child n cs i d e inner le q in
-      let lo = subst (IsLoose h) (sym is) (loose_child h n i l le) in
-      let x = loose_height h d lo in
-      record { below = h; height = refl; levels = l; is = is; loose = lo; falls = omega arith }
-
-  pub inner_above : (h : ℕ) (n : Node K V Z) → IsInner n → IsLoose h n → IsAbove h n
-  inner_above zero n i l = absurd (leaf_or_inner n l.1 i)
-  inner_above (suc h) n i l = record { below = h; height = refl; levels = l }
+  pub lent_falls : {h : ℕ} {n d : Node K V Z} {i : ℕ} → IsLent IsLoose IsLoose h n d i → height_of d < h
+  lent_falls {d = d} l = let x = loose_height l.below d l.child in omega (arith, l.height)
 
   pub thin_levelled : (h : ℕ) (n : Node K V Z) → 1 ≤ length (own_pairs n) → IsThin h n → IsLevelled h n
   thin_levelled zero n some t = t
   thin_levelled (suc h) n some (f, i, inl a) = (f, i, a)
-  thin_levelled (suc h) n some (f, i, inr z) = let e = z.0 in absurd (omega arith)
+  thin_levelled (suc h) n some (f, i, inr z) = absurd (omega arith)
 
   -- the only child of such a root without pairs
   pub record IsThinHeir (h : ℕ) (c : Node K V Z) : Type 0 where

@@ -132,7 +132,6 @@ module _ {K V Z : Type 0} where
   pub one_met : (h i : ℕ) (old new : Node K V Z) → IsSeam h old i → together old i ≤ capacity → IsMerged i old new → IsInner new
       → IsOneMet h i (length (own_pairs (child_at old i))) old new
   one_met h i old new s room m inner =
-      let k : length (children_of old) ≡ length (own_pairs old) + 1 = s.inner in
       let lt = s.in_bounds in
       let d = (item_there (own_pairs old) i lt).0 in
       let L = child_at old i in
@@ -172,7 +171,6 @@ module _ {K V Z : Type 0} where
       let a = length-append (own_pairs m.left) (m.between ∷ own_pairs m.right) in
       let b = ap length (m.own m.between) ∙ length-append (own_pairs (child_at old i))
       (get_or (own_pairs old) i m.between ∷ own_pairs (child_at old (i + 1))) in
-      let z = m.size in
       omega arith
 
   -- the left one took
@@ -181,8 +179,6 @@ module _ {K V Z : Type 0} where
       → length (own_pairs (child_at old (i + 1))) ≤ capacity
       → k ≡ min_len + 1 → IsShared i k old new → IsInner new → AreTwoMet h i i (length (own_pairs (child_at old i))) old new
   left_met h i k old new s many few fits q m inner =
-      let c : length (children_of old) ≡ length (own_pairs old) + 1 = s.inner in
-      let lt = s.in_bounds in
       let z = m.size in
       let t = sizes i k old new m in
       let both = go h s.left s.right m.alike_before m.alike in
@@ -199,20 +195,17 @@ module _ {K V Z : Type 0} where
     where
       go : (h : ℕ) → IsThin h (child_at old i) → IsThin h (child_at old (i + 1)) → AreAlike (child_at old i) m.left → AreAlike m.left m.right
           → IsMet h (length (own_pairs (child_at old i))) m.left × IsSound h m.right
-      go zero l r (inl x) (inl y) = let z = m.size in let t = sizes i k old new m in ((omega arith, x.1), (omega arith, (omega arith, y.1)))
+      go zero l r (inl x) (inl y) = let t = sizes i k old new m in ((omega arith, x.1), (omega arith, (omega arith, y.1)))
       go zero l r (inl x) (inr y) = absurd (leaf_or_inner m.left x.1 y.0)
       go zero l r (inr x) y = absurd (leaf_or_inner (child_at old i) l.1 x.0)
       go (suc g) l r (inl x) y = absurd (leaf_or_inner (child_at old i) x.0 l.1)
       go (suc g) l r (inr x) (inl y) = absurd (leaf_or_inner m.left y.0 x.1)
       go (suc g) l r (inr x) (inr y) =
-          let z = m.size in
           let t = sizes i k old new m in
           let L = child_at old i in
           let R = child_at old (i + 1) in
           let e = ending g L l in
           let b = beginning g R r in
-          let ln : length (children_of m.left) ≡ length (own_pairs m.left) + 1 = y.0 in
-          let es = e.size in
           let el = length-append e.before (e.last ∷ b.first ∷ []) in
           let p = longer (children_of m.left) (children_of m.right) (e.before ++ e.last ∷ b.first ∷ []) b.after
           (parted g L R m.left m.right e b m.below ∙ sym (append_assoc e.before (e.last ∷ b.first ∷ []) b.after)) (omega arith) in
@@ -229,8 +222,6 @@ module _ {K V Z : Type 0} where
       → k + (min_len + 1) ≡ length (own_pairs (child_at old i)) + length (own_pairs (child_at old (i + 1)))
       → j + length (own_pairs (child_at old (i + 1))) ≡ min_len → IsShared i k old new → IsInner new → AreTwoMet h i (i + 1) j old new
   right_met h i k j old new s many few fits q u m inner =
-      let c : length (children_of old) ≡ length (own_pairs old) + 1 = s.inner in
-      let lt = s.in_bounds in
       let t = sizes i k old new m in
       let both = go h s.left s.right m.alike_before m.alike in
       record {
@@ -246,20 +237,17 @@ module _ {K V Z : Type 0} where
     where
       go : (h : ℕ) → IsThin h (child_at old i) → IsThin h (child_at old (i + 1)) → AreAlike (child_at old i) m.left → AreAlike m.left m.right
           → IsMet h j m.right × IsSound h m.left
-      go zero l r (inl x) (inl y) = let z = m.size in let t = sizes i k old new m in ((omega arith, y.1), (omega arith, (omega arith, x.1)))
+      go zero l r (inl x) (inl y) = let t = sizes i k old new m in ((omega arith, y.1), (omega arith, (omega arith, x.1)))
       go zero l r (inl x) (inr y) = absurd (leaf_or_inner m.left x.1 y.0)
       go zero l r (inr x) y = absurd (leaf_or_inner (child_at old i) l.1 x.0)
       go (suc g) l r (inl x) y = absurd (leaf_or_inner (child_at old i) x.0 l.1)
       go (suc g) l r (inr x) (inl y) = absurd (leaf_or_inner m.left y.0 x.1)
       go (suc g) l r (inr x) (inr y) =
-          let z = m.size in
           let t = sizes i k old new m in
           let L = child_at old i in
           let R = child_at old (i + 1) in
           let e = ending g L l in
           let b = beginning g R r in
-          let ln : length (children_of m.left) ≡ length (own_pairs m.left) + 1 = y.0 in
-          let es = e.size in
           let p = longer e.before (e.last ∷ b.first ∷ b.after) (children_of m.left) (children_of m.right) (sym (parted g L R m.left m.right e b m.below))
           (omega arith) in
           let pl = ap length p.first ∙ length-append (children_of m.left) p.more in

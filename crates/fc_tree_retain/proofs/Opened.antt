@@ -38,14 +38,12 @@ module _ {K V Z : Type 0} where
     open_after =
         ap (λ ps. after_list ps (map pairs_of (drop (suc i) (children_of n)))) (ap (drop i) o.own ∙ drop_place P Q i o.own_before)
         ∙ ap (λ cs. after_list Q (map pairs_of cs)) (ap (drop (suc i)) (o.children ∙ sym (append_assoc A (c ∷ []) D))
-        ∙ drop_place (A ++ c ∷ []) D (suc i) (length-append A (c ∷ []) ∙ (let b = o.before in omega arith)))
+        ∙ drop_place (A ++ c ∷ []) D (suc i) (length-append A (c ∷ []) ∙ (omega arith)))
 
     pub open_inner : length D ≡ length Q → IsInner n
     open_inner e =
         let a = ap length o.children ∙ length-append A (c ∷ D) in
         let b = ap length o.own ∙ length-append P Q in
-        let p = o.before in
-        let q = o.own_before in
         omega arith
 
     -- the next child

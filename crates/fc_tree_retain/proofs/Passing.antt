@@ -5,19 +5,19 @@ use Rattle.std.specs.Prelude.{Bool, true, false, slice_set, ⊤}
 use Rattle.std.specs.List.{AllByRecursion, remove}
 use Rattle.std.specs.Option.{option_to_list}
 use Rattle.std.proofs.lemmas.List.{length-map, map-append, length-append}
-use Rattle.fc_tree_node.specs.Weave.{weave, before_list, after_list}
+use Rattle.fc_tree_node.specs.Weave.{weave, before_list}
 use Rattle.fc_tree_node.specs.declared.node.Node.{Node, out-Node}
 use Rattle.fc_tree_node.specs.Node.{own_pairs, children_of, child_at, pairs_of, IsInner}
 use Rattle.fc_tree_node.specs.Place.{before_child, after_child}
-use Rattle.fc_tree_node.proofs.Lists.{take_drop, length_set, all_both, all_front, all_back, all_set}
+use Rattle.fc_tree_node.proofs.Lists.{all_both, all_front, all_take, all_drop}
 use Rattle.fc_tree_node.proofs.Weaves.{weave_parts}
 use Rattle.fc_tree_node.proofs.Pairs.{pairs_is}
-use Rattle.fc_tree_node.proofs.Made.{IsChildSet, field_made}
+use Rattle.fc_tree_node.proofs.Made.{field_made}
+use Rattle.fc_tree_node.proofs.Lent.{replaced_all, IsReplaced}
 use Rattle.fc_tree_node.proofs.Formed.{leaf_or_inner}
 use Rattle.fc_tree_node.proofs.Gaps.{inner_gap, after_none}
 use Rattle.fc_tree_search.specs.Written.{set_value, with_value}
-use Rattle.fc_tree_search.proofs.WrittenPairs.{value_own, value_children, length_value}
-use Rattle.fc_tree_removal.proofs.Removed.{take_set, drop_set, at_set}
+use Rattle.fc_tree_search.proofs.WrittenPairs.{value_own, value_children, value_size}
 use Rattle.fc_tree_retain.specs.Loose.{IsLoose}
 use Rattle.fc_tree_retain.specs.Mending.{IsThin}
 use Rattle.fc_tree_retain.specs.Retained.{RetainsInTurn}
@@ -35,11 +35,6 @@ module _ {K V : Type 0} where
       go : (xs : List (K × V)) → set_value (xs ++ x ∷ ys) (length xs) w ≡ xs ++ (x.0, w) ∷ ys
       go [] = refl
       go (z ∷ xs) = ap (λ zs. z ∷ zs) (go xs)
-
-  pub value_at : (xs : List (K × V)) (i : ℕ) (w : V) (e d : K × V) → i < length xs → e ≡ get_or xs i e → get_or (set_value xs i w) i d ≡ (e.0, w)
-  value_at [] i w e d h q = absurd (omega arith)
-  value_at (x ∷ xs) zero w e d h q = ap (λ y. (y.0, w)) (sym q)
-  value_at (x ∷ xs) (suc i) w e d h q = value_at xs i w e d (omega arith) q
 
   empty_list : (xs : List (K × V)) → length xs ≡ 0 → xs ≡ []
   empty_list [] e = refl
@@ -67,7 +62,7 @@ module _ {K V Z : Type 0} where
   pub is_written : (old mid : Node K V Z) (i : ℕ) (w : V) → mid ≡ with_value old i w → IsWritten old mid i w
   is_written old mid i w n =
       let o : own_pairs mid ≡ set_value (own_pairs old) i w = ap own_pairs n ∙ value_own old i w in
-      let z : length (own_pairs mid) ≡ length (own_pairs old) = ap length o ∙ length_value (own_pairs old) i w in
+      let z : length (own_pairs mid) ≡ length (own_pairs old) = ap (λ m. length (own_pairs m)) n ∙ value_size old i w in
       let cs : children_of mid ≡ children_of old = ap children_of n ∙ value_children old i w in
       let m : length (children_of mid) ≡ length (children_of old) = ap length cs in
       record {
@@ -82,7 +77,7 @@ module _ {K V Z : Type 0} where
   pub written_leaf : (old mid : Node K V Z) (i : ℕ) (w : V) → IsLoose 0 old → mid ≡ with_value old i w → IsLoose 0 mid
   written_leaf old mid i w l n =
       let z = (is_written old mid i w n).size in
-      let fits = l.0 in (omega arith, ap (λ m. (out-Node K V Z m).children) n ∙ field_made _ ∙ l.1)
+      (omega arith, ap (λ m. (out-Node K V Z m).children) n ∙ field_made _ ∙ l.1)
 
   -- a node whose child at a place became another
   pub record IsChildLeft (old mid c : Node K V Z) (i : ℕ) : Type 0 where
@@ -93,25 +88,16 @@ module _ {K V Z : Type 0} where
     pub inner : IsInner mid
     pub levels : (h : ℕ) → IsLoose (suc h) old → IsLoose h c → IsLoose (suc h) mid
 
-  pub child_left : (old mid c : Node K V Z) (i : ℕ) → IsInner old → i ≤ length (own_pairs old) → IsChildSet old mid i c → IsChildLeft old mid c i
+  pub child_left : (old mid c : Node K V Z) (i : ℕ) → IsInner old → i ≤ length (own_pairs old) → IsReplaced old mid i c → IsChildLeft old mid c i
   child_left old mid c i inner le m =
-      let k : length (children_of old) ≡ length (own_pairs old) + 1 = inner in
-      let n : length (children_of mid) ≡ length (children_of old) = ap length m.child ∙ length_set (children_of old) i c in
-      let o : length (own_pairs mid) ≡ length (own_pairs old) = ap length m.same in
+      let lt : i < length (children_of old) = let k : length (children_of old) ≡ length (own_pairs old) + 1 = inner in omega arith in
       record {
-        before = ap (λ cs. before_list (map pairs_of cs) (take i (own_pairs mid))) (ap (take i) m.child ∙ take_set (children_of old) i c)
-            ∙ ap (λ ps. before_list (map pairs_of (take i (children_of old))) (take i ps)) m.same;
-        child = ap (λ cs. get_or cs i mid) m.child ∙ at_set (children_of old) i c mid (omega arith);
-        after = ap (λ cs. after_list (drop i (own_pairs mid)) (map pairs_of cs)) (ap (drop (suc i)) m.child ∙ drop_set (children_of old) i c)
-            ∙ ap (λ ps. after_list (drop i ps) (map pairs_of (drop (suc i) (children_of old)))) m.same;
+        before = m.before;
+        child = m.here lt;
+        after = m.after;
         own = m.same;
-        inner = omega arith;
-        levels = λ h l b. let f = l.0 in (
-          omega arith,
-          omega arith,
-          subst (AllByRecursion (IsLoose h)) (sym m.child)
-              (all_set (IsLoose h) (children_of old) i c l.2 b),
-        );
+        inner = m.inner inner;
+        levels = λ h l b. (omega (arith, m.size, l.0), m.inner inner, replaced_all (IsLoose h) m l.2 b);
       }
 
   -- a node with another value, and another child before it
@@ -122,9 +108,8 @@ module _ {K V Z : Type 0} where
     pub inner : IsInner mid
 
   pub turned : (old new mid : Node K V Z) (i : ℕ) (w : V) (c : Node K V Z) → IsInner old → i < length (own_pairs old) → IsWritten old new i w
-      → IsChildSet new mid i c → IsTurned old mid i w c
+      → IsReplaced new mid i c → IsTurned old mid i w c
   turned old new mid i w c inner lt n m =
-      let z = n.size in
       record {
         own = m.same ∙ n.own;
         size = ap length m.same ∙ n.size;
@@ -132,7 +117,7 @@ module _ {K V Z : Type 0} where
         inner = (child_left new mid c i (n.inner inner) (omega arith) m).inner;
       }
 
-  pub child_loose : (h : ℕ) (old mid d c : Node K V Z) (i : ℕ) → IsInner old → i ≤ length (own_pairs old) → d ≡ child_at old i → IsChildSet old mid i c
+  pub child_loose : (h : ℕ) (old mid d c : Node K V Z) (i : ℕ) → IsInner old → i ≤ length (own_pairs old) → d ≡ child_at old i → IsReplaced old mid i c
       → ((g : ℕ) → IsLoose g d → IsLoose g c) → IsLoose h old → IsLoose h mid
   child_loose zero old mid d c i inner le is m lo l = absurd (leaf_or_inner old l.1 inner)
   child_loose (suc h) old mid d c i inner le is m lo l = (child_left old mid c i inner le m).levels h l
@@ -149,10 +134,10 @@ module _ {K V Z : Type 0} where
     pub inner : IsInner old
     pub last : i ≡ length (own_pairs old)
     pub is : d ≡ child_at old i
-    pub set : IsChildSet old mid i c
+    pub set : IsReplaced old mid i c
 
   pub last_left : (old mid d c : Node K V Z) (i : ℕ) → IsLastLent old mid d c i → IsChildLeft old mid c i
-  last_left old mid d c i l = let e = l.last in child_left old mid c i l.inner (omega arith) l.set
+  last_left old mid d c i l = child_left old mid c i l.inner (omega arith) l.set
 
   -- the node's last pair taken out of its last child
   pub last_below : (old mid d c : Node K V Z) (i : ℕ) (r : Option (K × V)) → IsLastLent old mid d c i → pairs_of d ≡ pairs_of c ++ option_to_list r
@@ -168,7 +153,6 @@ module _ {K V Z : Type 0} where
 
   pub none_below : (old mid d c : Node K V Z) (i : ℕ) → IsLastLent old mid d c i → i ≡ 0 → pairs_of c ≡ [] → pairs_of mid ≡ []
   none_below old mid d c i l z p =
-      let e = l.last in
       let m = last_left old mid d c i l in
       let o : length (own_pairs mid) ≡ length (own_pairs old) = ap length m.own in
       last_pairs mid i m.inner (omega arith) ∙ ap (λ n. before_child mid i ++ pairs_of n) m.child ∙ ap (λ zs. before_child mid i ++ zs) p
@@ -180,15 +164,13 @@ module _ {K V Z : Type 0} where
       ap (λ j. pairs_of (child_at mid j)) (ap length m.own ∙ sym l.last) ∙ ap pairs_of m.child ∙ p
 
   pub last_loose : (h : ℕ) (old mid d c : Node K V Z) (i : ℕ) → IsLastLent old mid d c i → ((g : ℕ) → IsLoose g d → IsLoose g c) → IsLoose h old → IsLoose h mid
-  last_loose h old mid d c i l lo b = let e = l.last in child_loose h old mid d c i l.inner (omega arith) l.is l.set lo b
+  last_loose h old mid d c i l lo b = child_loose h old mid d c i l.inner (omega arith) l.is l.set lo b
 
   pub last_thin : (h : ℕ) (old mid d c : Node K V Z) → IsLastLent old mid d c 0 → ((g : ℕ) → IsThin g d → IsThin g c) → IsThin h old → IsThin h mid
   last_thin zero old mid d c l lo t = absurd (leaf_or_inner old t.1 l.inner)
   last_thin (suc h) old mid d c l lo t =
       let m = last_left old mid d c 0 l in
-      let none = l.last in
       let o : length (own_pairs mid) ≡ length (own_pairs old) = ap length m.own in
-      let f = t.0 in
       (omega arith, m.inner, inr (omega arith, subst (IsThin h) (sym m.child) (lo h (subst (IsThin h) (sym l.is) (only_thin h old t)))))
 
   -- the own last pair, and an empty child behind it
@@ -221,7 +203,6 @@ module _ {K V Z : Type 0} where
           let k : length (children_of old) ≡ length (own_pairs old) + 1 = inner in
           let a = ap length e ∙ length-append (own_pairs new) (x ∷ []) in
           let b = ap length f ∙ length-append (children_of new) (c ∷ []) in
-          let fits = l.0 in
           (omega arith, omega arith, all_front (IsLoose h) (children_of new) (c ∷ []) (subst (AllByRecursion (IsLoose h)) f l.2))
 
 module _ {S K V : Type 0} (R : S → K × V → S → V → Bool → Type 0) where
@@ -253,8 +234,6 @@ module _ {S K V : Type 0} (R : S → K × V → S → V → Bool → Type 0) whe
     pub leaf_room : (s t : S) (old now : List (K × V)) (at left : ℕ) → IsLeafSifted first last s t old now at left → 0 < left → at < length now
     leaf_room s t old now at left l some =
         let e = ap length l.now_is ∙ length-append (first ++ l.stay) l.rest in
-        let p = l.place in
-        let q = l.left_is in
         omega arith
 
     pub leaf_kept : (s t u : S) (old now new : List (K × V)) (at left left' : ℕ) (e : K × V) (w : V) → IsLeafSifted first last s t old now at left
@@ -323,7 +302,6 @@ module _ {S K V : Type 0} (R : S → K × V → S → V → Bool → Type 0) whe
   part_end i j last s t old now at le e l =
       let whole : old ≡ (take i old ++ l.seen) ++ l.rest = l.old_is ∙ sym (append_assoc (take i old) l.seen l.rest) in
       let sizes = ap length whole ∙ length-append (take i old ++ l.seen) l.rest in
-      let left = l.left_is in
       let rest : drop j old ≡ l.rest = ap (drop j) whole ∙ drop_place (take i old ++ l.seen) l.rest j (omega arith) in
       record {
         asked = l.seen;
@@ -366,9 +344,7 @@ module _ {S K V Z : Type 0} (R : S → K × V → S → V → Bool → Type 0) w
         let k : length (children_of old) ≡ length (own_pairs old) + 1 = inner in
         let a = ap length there.children ∙ length-append A (c ∷ d ∷ D) in
         let b = ap length there.own ∙ length-append P (e ∷ Q) in
-        let x = there.before in
-        let y = there.own_before in
-        omega arith
+        omega (arith, there.before, there.own_before)
 
     passed : (j : ℕ) (kept : List (Node K V Z)) (P' stay : List (K × V)) → IsOpenAt new j (A ++ kept) d D P' Q → RetainsInTurn R s (e ∷ []) t stay
         → before_list (map pairs_of (A ++ kept)) P' ≡ before_list (map pairs_of A) P ++ (pairs_of c ++ stay)
@@ -376,13 +352,10 @@ module _ {S K V Z : Type 0} (R : S → K × V → S → V → Bool → Type 0) w
     passed j kept P' stay o r b le lo =
         let a = ap length there.own ∙ length-append P (e ∷ Q) in
         let a' = ap length o.own ∙ length-append P' Q in
-        let y = there.own_before in
         let y' = o.own_before in
-        let x = there.before in
-        let x' = o.before in
         let k = length-append A kept in
         let rest : drop (suc i) (children_of old) ≡ d ∷ D = ap (drop (suc i)) (there.children ∙ sym (append_assoc A (c ∷ []) (d ∷ D)))
-        ∙ drop_place (A ++ c ∷ []) (d ∷ D) (suc i) (length-append A (c ∷ []) ∙ omega arith) in
+        ∙ drop_place (A ++ c ∷ []) (d ∷ D) (suc i) (length-append A (c ∷ []) ∙ omega (arith, there.before)) in
         record {
           asked = e;
           stay = stay;
@@ -393,11 +366,11 @@ module _ {S K V Z : Type 0} (R : S → K × V → S → V → Bool → Type 0) w
           here = open_after old i A c (d ∷ D) P (e ∷ Q) there ∙ ap (λ zs. e ∷ (pairs_of d ++ zs))
               (sym (open_after old (i + 1) (A ++ c ∷ []) d D (P ++ e ∷ []) Q next));
           after = open_after new j (A ++ kept) d D P' Q o ∙ sym (open_after old (i + 1) (A ++ c ∷ []) d D (P ++ e ∷ []) Q next);
-          left = omega arith;
+          left = omega (arith, there.before, there.own_before);
           inner = open_inner new j (A ++ kept) d D P' Q o even;
           few = le;
           kept = kept;
-          place = omega arith;
+          place = omega (arith, there.before, o.before);
           children = o.children ∙ append_assoc A kept (d ∷ D) ∙ ap (λ zs. A ++ (kept ++ zs)) (sym rest);
           levels = lo;
           own_kept = P';
@@ -451,12 +424,9 @@ module _ {S K V Z : Type 0} (R : S → K × V → S → V → Bool → Type 0) w
       → IsLoose h old → IsLoose h new
   passed_loose s t i j old new inner lt p zero l = absurd (leaf_or_inner old l.1 inner)
   passed_loose s t i j old new inner lt p (suc h) l =
-      let sizes = p.left in
-      let few = p.few in
-      let fits = l.0 in
       let cs = children_of old in
-      let front = all_front (IsLoose h) (take i cs) (drop i cs) (subst (AllByRecursion (IsLoose h)) (sym (take_drop i cs)) l.2) in
-      let back = all_back (IsLoose h) (take (suc i) cs) (drop (suc i) cs) (subst (AllByRecursion (IsLoose h)) (sym (take_drop (suc i) cs)) l.2) in (
+      let front = all_take (IsLoose h) i cs l.2 in
+      let back = all_drop (IsLoose h) (suc i) cs l.2 in (
         omega arith,
         p.inner,
         subst (AllByRecursion (IsLoose h)) (sym p.children) (all_both (IsLoose h) (take i cs) _ front (all_both (IsLoose h) p.kept _
@@ -484,13 +454,11 @@ module _ {S K V Z : Type 0} (R : S → K × V → S → V → Bool → Type 0) w
 
   -- a child, and the pair behind it
   pub sifting_more : (s t u v : S) (old now mid new dold dnew : Node K V Z) (at left left' j : ℕ) → IsSifting s t old now at left → left ≡ left' + 1
-      → dold ≡ child_at now at → IsChildSet now mid at dnew → RetainsInTurn R t (pairs_of dold) u (pairs_of dnew) → ((h : ℕ) → IsLoose h dold → IsLoose h dnew)
+      → dold ≡ child_at now at → IsReplaced now mid at dnew → RetainsInTurn R t (pairs_of dold) u (pairs_of dnew) → ((h : ℕ) → IsLoose h dold → IsLoose h dnew)
       → IsPassed IsLoose R u v at j mid new → IsSifting s v old new j left'
   sifting_more s t u v old now mid new dold dnew at left left' j g k is m r lo p =
-      let li = g.left_is in
       let c = child_left now mid dnew at g.inner (omega arith) m in
       let o : length (own_pairs mid) ≡ length (own_pairs now) = ap length m.same in
-      let pl = p.left in
       let here : after_child now at ≡ p.asked ∷ (pairs_of (child_at new j) ++ after_child new j) = sym c.after ∙ p.here
       ∙ ap (λ n. p.asked ∷ (pairs_of n ++ after_child mid (at + 1))) (sym p.child) ∙ ap (λ zs. p.asked ∷ (pairs_of (child_at new j) ++ zs)) (sym p.after) in
       let was : pairs_of old ≡ g.seen ++ (pairs_of dold ++ p.asked ∷ (pairs_of (child_at new j) ++ after_child new j)) =
@@ -511,7 +479,6 @@ module _ {S K V Z : Type 0} (R : S → K × V → S → V → Bool → Type 0) w
     where
       go : (h : ℕ) → IsLoose h old → IsLoose h new
       go h l =
-          let li = g.left_is in
           let c = child_left now mid dnew at g.inner (omega arith) m in
           let o : length (own_pairs mid) ≡ length (own_pairs now) = ap length m.same in
           passed_loose u v at j mid new c.inner (omega arith) p h (child_loose h now mid dold dnew at g.inner (omega arith) is m lo (g.levels h l))
@@ -521,10 +488,9 @@ module _ {S K V Z : Type 0} (R : S → K × V → S → V → Bool → Type 0) w
     pub levels : (h : ℕ) → IsLoose h old → IsLoose h new
 
   -- the last child
-  pub sifting_end : (s t u : S) (old now new dold dnew : Node K V Z) (at : ℕ) → IsSifting s t old now at 0 → dold ≡ child_at now at → IsChildSet now new at dnew
+  pub sifting_end : (s t u : S) (old now new dold dnew : Node K V Z) (at : ℕ) → IsSifting s t old now at 0 → dold ≡ child_at now at → IsReplaced now new at dnew
       → RetainsInTurn R t (pairs_of dold) u (pairs_of dnew) → ((h : ℕ) → IsLoose h dold → IsLoose h dnew) → IsAllSifted s u old new
   sifting_end s t u old now new dold dnew at g is m r lo =
-      let li = g.left_is in
       let c = child_left now new dnew at g.inner (omega arith) m in
       let o : length (own_pairs new) ≡ length (own_pairs now) = ap length m.same in
       let was : pairs_of old ≡ g.seen ++ pairs_of dold = g.old_is ∙ ap (λ n. g.seen ++ (pairs_of n ++ after_child now at)) (sym is)

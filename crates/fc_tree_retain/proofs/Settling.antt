@@ -1,18 +1,16 @@
 -- A node of which two children were mended, and one of which all were.
 use Rattle.std.proofs.Common.{◌≡◌, ℕ, suc, zero, ◌+◌, ◌<◌, ◌≤◌, List, [], ◌∷◌, ◌++◌, length, get_or, take, drop, refl, sym, ap, subst, ◌∙◌, arith, append_assoc}
-use Rattle.std.proofs.Common.{inl, inr, Some}
+use Rattle.std.proofs.Common.{inl, inr}
 use Rattle.std.specs.Prelude.{◌⊎◌, slice_set}
 use Rattle.std.specs.List.{AllByRecursion}
-use Rattle.std.proofs.lemmas.List.{length-append, length-drop}
+use Rattle.std.proofs.lemmas.List.{length-append, length-drop, drop-set-lt}
 use Rattle.fc_base.specs.Sizes.{capacity, min_len}
-use Rattle.fc_tree_node.specs.declared.node.Node.{Node, out-Node}
+use Rattle.fc_tree_node.specs.declared.node.Node.{Node}
 use Rattle.fc_tree_node.specs.Node.{own_pairs, children_of, child_at, pairs_of, IsLeaf, IsInner, IsSound}
 use Rattle.fc_tree_node.proofs.Lists.{length_take, length_set, all_both}
 use Rattle.fc_tree_node.proofs.Gaps.{drop_all}
 use Rattle.fc_tree_node.proofs.Siblings.{one_at, two_at}
-use Rattle.fc_tree_node.proofs.Made.{IsChildSet}
-use Rattle.fc_tree_border.proofs.Mended.{mended_pairs}
-use Rattle.fc_tree_removal.proofs.Removed.{drop_set, at_set, opened_child}
+use Rattle.fc_tree_node.proofs.Lent.{lent_is, replaced_same, IsReplaced}
 use Rattle.fc_tree_retain.specs.Loose.{IsLoose}
 use Rattle.fc_tree_retain.specs.Mending.{IsThin, IsSeam, IsMet, IsSettled, IsJoined, together}
 use Rattle.fc_tree_retain.proofs.Lists.{at_place, take_place, drop_place, set_place}
@@ -23,8 +21,6 @@ module _ {K V Z : Type 0} where
   pub whole_settled : (h i : ℕ) (n : Node K V Z) → IsSeam h n i → min_len ≤ length (own_pairs (child_at n i))
       → min_len ≤ length (own_pairs (child_at n (i + 1))) → IsSettled h i (i + 1) n n
   whole_settled h i n s l r =
-      let k : length (children_of n) ≡ length (own_pairs n) + 1 = s.inner in
-      let lt = s.in_bounds in
       inr (
         refl,
         record {
@@ -48,11 +44,8 @@ module _ {K V Z : Type 0} where
 
   met_child : (h i place seam last : ℕ) (old mid : Node K V Z) → IsSeam h old i → IsJoined h i place seam last old mid → IsMetChild h place seam mid
   met_child h i place seam last old mid s (inl (p, q, m)) =
-      let k : length (children_of old) ≡ length (own_pairs old) + 1 = s.inner in
-      let lt = s.in_bounds in
       let a = around (children_of old) i (omega arith) in
       let cl = ap length m.children ∙ length-append (take i (children_of old)) (m.whole ∷ drop (suc (suc i)) (children_of old)) in
-      let t₀ = a.0 in
       let is : child_at mid i ≡ m.whole = ap (λ cs. get_or cs i mid) m.children ∙ at_place (take i (children_of old)) _ m.whole mid i a.0 in
       subst (λ j. IsMetChild h j seam mid) (sym p) (record { bounds = omega arith; inner = m.inner; met = subst (IsMet h seam) (sym is) m.met })
   met_child h i place seam last old mid s (inr (q, m)) = go m.children
@@ -106,14 +99,13 @@ module _ {K V Z : Type 0} where
     pub height : h ≡ suc below
     pub met : IsMet (suc below) seam d
 
-  pub met_lent : (h i place seam last : ℕ) (old mid d : Node K V Z) (cs : List (Node K V Z)) → IsSeam h old i → IsJoined h i place seam last old mid
-      → (IsLeaf (child_at mid place) → ⊥) → (out-Node K V Z mid).children ≡ Some cs → d ≡ get_or cs place d → IsMetLent h place seam mid d
-  met_lent h i place seam last old mid d cs s j up e q =
+  pub met_lent : (h i place seam last : ℕ) (old mid d : Node K V Z) → IsSeam h old i → IsJoined h i place seam last old mid
+      → (IsLeaf (child_at mid place) → ⊥) → d ≡ get_or (children_of mid) place d → IsMetLent h place seam mid d
+  met_lent h i place seam last old mid d s j up q =
       let x = met_child h i place seam last old mid s j in
-      let k : length (children_of mid) ≡ length (own_pairs mid) + 1 = x.inner in
       let lt = x.bounds in
       let a = met_above h seam (child_at mid place) up x.met in
-      let is = opened_child mid cs place d e x.inner (omega arith) q in
+      let is = lent_is mid place d x.inner (omega arith) q in
       record { bounds = lt; inner = x.inner; is = is; below = a.below; height = a.height; met = subst (IsMet (suc a.below) seam) (sym is) a.met }
 
   -- once those that meet are settled, the child is whole but for how many pairs it has
@@ -126,9 +118,6 @@ module _ {K V Z : Type 0} where
     where
       go : (k : ℕ) → length (own_pairs c') ≡ k → IsMetLeft (suc g) c c'
       go zero z =
-          let k : length (children_of c) ≡ length (own_pairs c) + 1 = s.inner in
-          let lt = s.in_bounds in
-          let oo = o.own in
           let i0 : seam ≡ 0 = omega arith in
           let e : children_of c' ≡ o.whole ∷ [] = o.children ∙ ap (λ n. take n (children_of c) ++ o.whole ∷ drop (suc (suc n)) (children_of c)) i0
           ∙ ap (λ ds. o.whole ∷ ds) (drop_all (children_of c) 2 (omega arith)) in
@@ -136,13 +125,7 @@ module _ {K V Z : Type 0} where
           let is : child_at c' 0 ≡ o.whole = ap (λ cs. get_or cs 0 c') e in
           record { thin = (omega arith, omega arith, inr (z, subst (IsThin g) (sym is) o.thin)); kept = omega arith }
       go (suc m) z =
-          let k : length (children_of c) ≡ length (own_pairs c) + 1 = s.inner in
-          let lt = s.in_bounds in
-          let fits = s.fits in
-          let oo = o.own in
           let a = around (children_of c) seam (omega arith) in
-          let t₀ = a.0 in
-          let t₁ = a.1 in
           let n = ap length o.children ∙ length-append (take seam (children_of c)) (o.whole ∷ drop (suc (suc seam)) (children_of c)) in
           let w = o.sound (one (omega arith)) in
           record {
@@ -155,13 +138,7 @@ module _ {K V Z : Type 0} where
             kept = omega arith;
           }
   met_left g seam j c c' (s, after, one) (inr (q, t)) =
-      let k : length (children_of c) ≡ length (own_pairs c) + 1 = s.inner in
-      let lt = s.in_bounds in
-      let fits = s.fits in
-      let oo = t.own in
       let a = around (children_of c) seam (omega arith) in
-      let t₀ = a.0 in
-      let t₁ = a.1 in
       let n = ap length t.children ∙ length-append (take seam (children_of c)) (t.left ∷ t.right ∷ drop (suc (suc seam)) (children_of c)) in
       record {
         thin = (
@@ -178,17 +155,12 @@ module _ {K V Z : Type 0} where
       → children_of new ≡ slice_set (children_of mid) place c' → length (own_pairs new) ≡ length (own_pairs mid) → IsMetLeft h (child_at mid place) c'
       → IsSettled h i last old new
   joined_settled h i place seam last old mid new c' s (inl (p, q, m)) e o l =
-      let k : length (children_of old) ≡ length (own_pairs old) + 1 = s.inner in
-      let lt = s.in_bounds in
       let a = around (children_of old) i (omega arith) in
       let D = drop (suc (suc i)) (children_of old) in
       let is : child_at mid place ≡ m.whole = ap (child_at mid) p ∙ ap (λ cs. get_or cs i mid) m.children
       ∙ at_place (take i (children_of old)) D m.whole mid i a.0 in
       let cs : children_of new ≡ take i (children_of old) ++ c' ∷ D = e ∙ ap (λ j. slice_set (children_of mid) j c') p
       ∙ ap (λ xs. slice_set xs i c') m.children ∙ set_place (take i (children_of old)) D m.whole c' i a.0 in
-      let size = m.size in
-      let mo = m.own in
-      let kept = l.kept in
       let wl : length (own_pairs (child_at mid place)) ≡ length (own_pairs m.whole) = ap (λ x. length (own_pairs x)) is in
       inl (
         q,
@@ -202,21 +174,19 @@ module _ {K V Z : Type 0} where
       )
     where
       enough : IsSound h (child_at old i) ⊎ IsSound h (child_at old (i + 1)) → together old i ≤ length (own_pairs c') + 1 → min_len ≤ length (own_pairs c')
-      enough (inl a) t = let b = a.0 in omega arith
-      enough (inr a) t = let b = a.0 in omega arith
+      enough (inl a) t = omega arith
+      enough (inr a) t = omega arith
   joined_settled h i place seam last old mid new c' s (inr (q, m)) e o l = go m.children
     where
       D : List (Node K V Z)
       D = drop (suc (suc i)) (children_of old)
 
       front : length (take i (children_of old)) ≡ i
-      front = let k : length (children_of old) ≡ length (own_pairs old) + 1 = s.inner in let lt = s.in_bounds in length_take i (children_of old) (omega arith)
+      front = length_take i (children_of old) (omega arith)
 
       enough : child_at mid place ≡ m.grown → IsSound h c'
       enough is =
           let wl : length (own_pairs (child_at mid place)) ≡ length (own_pairs m.grown) = ap (λ x. length (own_pairs x)) is in
-          let size = m.size in
-          let kept = l.kept in
           thin_sound h c' (omega arith) l.thin
 
       go : ((place ≡ i) × (children_of mid ≡ take i (children_of old) ++ m.grown ∷ m.other ∷ D))
@@ -273,23 +243,23 @@ module _ {K V Z : Type 0} where
   all_from P [] (suc i) a = tt
   all_from P (c ∷ cs) (suc i) a = all_from P cs i a.1
 
-  pub mending_start : (old now d c : Node K V Z) (left : ℕ) → IsInner old → IsChildSet old now 0 c → d ≡ child_at old 0 → pairs_of c ≡ pairs_of d
+  pub mending_start : (old now d c : Node K V Z) (left : ℕ) → IsInner old → IsReplaced old now 0 c → d ≡ child_at old 0 → pairs_of c ≡ pairs_of d
       → ((h : ℕ) → IsLoose h d → IsThin h c) → length (own_pairs now) ≡ left → IsMending old now 0 left
   mending_start old now d c left inner m is p th e =
       let k : length (children_of old) ≡ length (own_pairs old) + 1 = inner in
       let n : length (children_of now) ≡ length (children_of old) = ap length m.child ∙ length_set (children_of old) 0 c in
       let o : length (own_pairs now) ≡ length (own_pairs old) = ap length m.same in
       record {
-        pairs = mended_pairs old now d c 0 inner (omega arith) m is p;
+        pairs = replaced_same m inner (omega arith) (p ∙ ap pairs_of is);
         left_is = omega arith;
         inner = omega arith;
         levels = λ h l. let fits = l.0 in record {
           fits = omega arith;
           before = tt;
-          thin = subst (IsThin h) (sym (ap (λ cs. get_or cs 0 now) m.child ∙ at_set (children_of old) 0 c now (omega arith)))
+          thin = subst (IsThin h) (sym (m.here (omega arith)))
               (th h (subst (IsLoose h) (sym is) (loose_child h old 0 l (omega arith))));
           sound = λ z. absurd (omega arith);
-          after = subst (AllByRecursion (IsLoose h)) (sym (ap (drop 1) m.child ∙ drop_set (children_of old) 0 c))
+          after = subst (AllByRecursion (IsLoose h)) (sym m.rest)
               (all_from (IsLoose h) (children_of old) 1 l.2);
         };
       }
@@ -331,7 +301,7 @@ module _ {K V Z : Type 0} where
 
   pub next_mended : (h at : ℕ) (now mid d c : Node K V Z) → IsInner now → at < length (own_pairs now)
       → IsMendedTo (AllByRecursion (IsLoose h)) h at now → d ≡ child_at now (at + 1)
-      → IsChildSet now mid (at + 1) c → ((g : ℕ) → IsLoose g d → IsThin g c) → IsNextMended (AllByRecursion (IsLoose h)) h at mid
+      → IsReplaced now mid (at + 1) c → ((g : ℕ) → IsLoose g d → IsThin g c) → IsNextMended (AllByRecursion (IsLoose h)) h at mid
   next_mended h at now mid d c inner lt g is m th =
       let k : length (children_of now) ≡ length (own_pairs now) + 1 = inner in
       let one : at + 1 ≡ suc at = omega arith in
@@ -340,8 +310,7 @@ module _ {K V Z : Type 0} where
       let o : length (own_pairs mid) ≡ length (own_pairs now) = ap length m.same in
       let fits = g.fits in
       let here : child_at mid at ≡ child_at now at = ap (λ cs. get_or cs at mid) e ∙ get_next (children_of now) at c mid now (omega arith) in
-      let there : child_at mid (at + 1) ≡ c = ap (child_at mid) one ∙ ap (λ cs. get_or cs (suc at) mid) e
-      ∙ at_set (children_of now) (suc at) c mid (omega arith) in
+      let there : child_at mid (at + 1) ≡ c = m.here (omega arith) in
       record {
         seam = record {
           in_bounds = omega arith;
@@ -352,7 +321,8 @@ module _ {K V Z : Type 0} where
           right = subst (IsThin h) (sym there) (th h (subst (IsLoose h) (sym is) (next_loose h at now inner lt g)));
         };
         sound = λ z. subst (IsSound h) (sym here) (g.sound z);
-        after = subst (AllByRecursion (IsLoose h)) (sym (ap (drop (suc (suc at))) e ∙ drop_set (children_of now) (suc at) c ∙ drop_one at (children_of now)))
+        after = subst (AllByRecursion (IsLoose h))
+            (sym (ap (drop (suc (suc at))) e ∙ drop-set-lt (suc (suc at)) (children_of now) (suc at) c (omega arith) ∙ drop_one at (children_of now)))
             (all_from (IsLoose h) (drop (suc at) (children_of now)) 1 g.after);
       }
 
@@ -361,10 +331,7 @@ module _ {K V Z : Type 0} where
       → IsMendedTo Q h j new
   settled_to Q h at j mid new x (inl (q, o)) =
       let s = x.seam in
-      let k : length (children_of mid) ≡ length (own_pairs mid) + 1 = s.inner in
-      let lt = s.in_bounds in
       let fits = s.fits in
-      let oo = o.own in
       let a = around (children_of mid) at (omega arith) in
       let A = take at (children_of mid) in
       let D = drop (suc (suc at)) (children_of mid) in
@@ -375,14 +342,11 @@ module _ {K V Z : Type 0} where
         thin = subst (IsThin h) (sym is) o.thin;
         sound = λ z. subst (IsSound h) (sym is) (o.sound (inl (x.sound z)));
         after = subst Q (sym (ap (drop (suc at)) (o.children ∙ sym (append_assoc A (o.whole ∷ []) D))
-            ∙ drop_place (A ++ o.whole ∷ []) D (suc at) (let t = length-append A (o.whole ∷ []) in let t₀ = a.0 in omega arith))) x.after;
+            ∙ drop_place (A ++ o.whole ∷ []) D (suc at) (let t = length-append A (o.whole ∷ []) in omega arith))) x.after;
       })
   settled_to Q h at j mid new x (inr (q, o)) =
       let s = x.seam in
-      let k : length (children_of mid) ≡ length (own_pairs mid) + 1 = s.inner in
-      let lt = s.in_bounds in
       let fits = s.fits in
-      let oo = o.own in
       let a = around (children_of mid) at (omega arith) in
       let t₀ = a.0 in
       let A = take at (children_of mid) in
@@ -404,36 +368,23 @@ module _ {K V Z : Type 0} where
   pub settled_sizes : (h at j : ℕ) (mid new : Node K V Z) → IsSeam h mid at → IsSettled h at j mid new
       → (length (own_pairs new) + (at + 1) ≡ length (own_pairs mid) + j) × IsInner new
   settled_sizes h at j mid new s (inl (q, o)) =
-      let k : length (children_of mid) ≡ length (own_pairs mid) + 1 = s.inner in
-      let lt = s.in_bounds in
-      let oo = o.own in
       let a = around (children_of mid) at (omega arith) in
-      let t₀ = a.0 in
-      let t₁ = a.1 in
       let n = ap length o.children ∙ length-append (take at (children_of mid)) (o.whole ∷ drop (suc (suc at)) (children_of mid)) in
       (omega arith, omega arith)
   settled_sizes h at j mid new s (inr (q, o)) =
-      let k : length (children_of mid) ≡ length (own_pairs mid) + 1 = s.inner in
-      let lt = s.in_bounds in
-      let oo = o.own in
       let a = around (children_of mid) at (omega arith) in
-      let t₀ = a.0 in
-      let t₁ = a.1 in
       let n = ap length o.children ∙ length-append (take at (children_of mid)) (o.left ∷ o.right ∷ drop (suc (suc at)) (children_of mid)) in
       (omega arith, omega arith)
 
   pub mending_more : (old now mid new d c : Node K V Z) (at left left' j g : ℕ) → IsMending old now at left → left ≡ left' + 1 → IsLoose (suc g) old
-      → d ≡ child_at now (at + 1) → IsChildSet now mid (at + 1) c → pairs_of c ≡ pairs_of d → ((h : ℕ) → IsLoose h d → IsThin h c)
+      → d ≡ child_at now (at + 1) → IsReplaced now mid (at + 1) c → pairs_of c ≡ pairs_of d → ((h : ℕ) → IsLoose h d → IsThin h c)
       → pairs_of new ≡ pairs_of mid → ((h : ℕ) → IsSeam h mid at → IsSettled h at j mid new) → IsMending old new j left'
   mending_more old now mid new d c at left left' j g x e l is m p th np st =
-      let li = x.left_is in
-      let k : length (children_of now) ≡ length (own_pairs now) + 1 = x.inner in
       let o : length (own_pairs mid) ≡ length (own_pairs now) = ap length m.same in
       let seam = (next_mended g at now mid d c x.inner (omega arith) (x.levels g l) is m th).seam in
       let z = settled_sizes g at j mid new seam (st g seam) in
-      let z₀ = z.0 in
       record {
-        pairs = np ∙ mended_pairs now mid d c (at + 1) x.inner (omega arith) m is p ∙ x.pairs;
+        pairs = np ∙ replaced_same m x.inner (omega arith) (p ∙ ap pairs_of is) ∙ x.pairs;
         left_is = omega arith;
         inner = z.1;
         levels = λ h b. let y = next_mended h at now mid d c x.inner (omega arith) (x.levels h b) is m th in
@@ -458,5 +409,4 @@ module _ {K V Z : Type 0} where
 
   pub mending_end : (old now : Node K V Z) (at : ℕ) → IsMending old now at 0 → (h : ℕ) → IsLoose (suc h) old → IsThin (suc h) now
   mending_end old now at x h l =
-      let li = x.left_is in
       mended_all (AllByRecursion (IsLoose h)) h at now x.inner (omega arith) (x.levels h l)

@@ -1,32 +1,28 @@
 -- A walk over the pairs of a node between two gaps, of which some do not stay.
-use Rattle.std.proofs.Common.{◌≡◌, ℕ, suc, zero, ◌+◌, ◌<◌, ◌≤◌, List, [], ◌∷◌, ◌++◌, length, get_or, map, take, drop, refl, sym, ap, subst, ◌∙◌, arith}
+use Rattle.std.proofs.Common.{◌≡◌, ℕ, suc, ◌+◌, ◌<◌, ◌≤◌, List, [], ◌∷◌, ◌++◌, length, get_or, map, take, drop, refl, sym, ap, subst, ◌∙◌, arith}
 use Rattle.std.proofs.Common.{append_assoc, append-nil, inl, inr, ◌⊎◌}
 use Rattle.std.specs.Prelude.{Bool}
 use Rattle.std.specs.List.{AllByRecursion}
-use Rattle.std.proofs.lemmas.List.{length-append, length-drop, drop-drop}
+use Rattle.std.proofs.lemmas.List.{length-append, length-drop, drop-drop, nil_from_length}
 use Rattle.fc_tree_node.specs.Weave.{before_list, after_list}
 use Rattle.fc_tree_node.specs.declared.node.Node.{Node}
 use Rattle.fc_tree_node.specs.Node.{own_pairs, children_of, child_at, pairs_of, IsLeaf, IsInner, IsLevelled, IsSound}
 use Rattle.fc_tree_node.specs.Path.{before_gap, after_gap}
 use Rattle.fc_tree_node.specs.Place.{before_child, after_child}
-use Rattle.fc_tree_node.proofs.Lists.{take_nil, drop_nil, length_take, take_drop, all_both, all_front, all_back}
+use Rattle.fc_tree_node.proofs.Lists.{take_nil, drop_nil, length_take, take_drop, all_both, all_front, all_drop, all_each}
 use Rattle.fc_tree_node.proofs.Pairs.{leaf_children, leaf_pairs, child_below}
-use Rattle.fc_tree_node.proofs.Made.{IsChildSet}
+use Rattle.fc_tree_node.proofs.Lent.{IsAbove, above, IsReplaced}
 use Rattle.fc_tree_node.proofs.Gaps.{drop_item, cut_item, drop_all, inner_gap, after_none}
-use Rattle.fc_tree_removal.proofs.Removed.{IsAbove, take_set, drop_set, none_leaf}
+use Rattle.fc_tree_removal.proofs.Removed.{none_leaf}
 use Rattle.fc_tree_retain.specs.Mending.{IsThin}
 use Rattle.fc_tree_retain.specs.Retained.{RetainsInTurn}
 use Rattle.fc_tree_retain.specs.Sifted.{IsPassed}
 use Rattle.fc_tree_retain.specs.Stretch.{AreInOrder, IsEnd, IsPartSifted, IsStretchSifted, IsThinWithin}
-use Rattle.fc_tree_retain.proofs.Levels.{each, levelled_thin}
+use Rattle.fc_tree_retain.proofs.Levels.{levelled_thin}
 use Rattle.fc_tree_retain.proofs.Lists.{take_place, drop_place}
 use Rattle.fc_tree_retain.proofs.Opened.{IsOpenAt, open_child, open_after, open_inner}
 use Rattle.fc_tree_retain.proofs.Passing.{IsChildLeft, child_left}
 use Rattle.fc_tree_retain.proofs.Turns.{retains_join, retains_none}
-
-pub no_steps : (path : List ℕ) → length path ≡ 0 → path ≡ []
-no_steps [] e = refl
-no_steps (i ∷ path) e = absurd (omega arith)
 
 after_nothing : {X : Type 0} (xs : List X) → after_list xs [] ≡ xs
 after_nothing [] = refl
@@ -53,13 +49,13 @@ module _ {K V Z : Type 0} where
   ends_order h [] back n e o = omega arith
   ends_order h (i ∷ front) [] n e o = e.0.0
   ends_order h (i ∷ front) (j ∷ back) n e (inl lt) = omega arith
-  ends_order h (i ∷ front) (j ∷ back) n e (inr o) = let s = o.0 in omega arith
+  ends_order h (i ∷ front) (j ∷ back) n e (inr o) = omega arith
 
   -- a path goes on in a child
   pub end_below : (h : ℕ) (path : List ℕ) (n : Node K V Z) (m : ℕ) → IsEnd (suc h) path n → IsEnd h (drop 1 path) (child_at n (get_or path 0 m))
   end_below h [] n m e = tt
-  end_below h (i ∷ []) n m e = absurd (let l = e.1 in omega arith)
-  end_below h (i ∷ j ∷ path) n m e = (e.0.1, let l = e.1 in omega arith)
+  end_below h (i ∷ []) n m e = absurd (omega arith)
+  end_below h (i ∷ j ∷ path) n m e = (e.0.1, omega arith)
 
   front_parts : (front : List ℕ) (n : Node K V Z)
       → before_gap front n ≡ before_child n (get_or front 0 0) ++ before_gap (drop 1 front) (child_at n (get_or front 0 0))
@@ -75,20 +71,19 @@ module _ {K V Z : Type 0} where
   leaf_before : (front : List ℕ) (n : Node K V Z) → IsLeaf n → IsEnd 0 front n → before_gap front n ≡ take (get_or front 0 0) (own_pairs n)
   leaf_before [] n l e = refl
   leaf_before (i ∷ front) n l e =
-      ap (λ p. before_child n i ++ before_gap p (child_at n i)) (no_steps front e.1) ∙ append-nil (before_child n i)
+      ap (λ p. before_child n i ++ before_gap p (child_at n i)) (nil_from_length front e.1) ∙ append-nil (before_child n i)
       ∙ ap (λ cs. before_list (map pairs_of cs) (take i (own_pairs n))) (ap (take i) (leaf_children n l) ∙ take_nil i)
 
   leaf_after : (back : List ℕ) (n : Node K V Z) → IsLeaf n → IsEnd 0 back n → after_gap back n ≡ drop (get_or back 0 (length (own_pairs n))) (own_pairs n)
   leaf_after [] n l e = sym (drop_all (own_pairs n) (length (own_pairs n)) (omega arith))
   leaf_after (j ∷ back) n l e =
-      ap (λ p. after_gap p (child_at n j) ++ after_child n j) (no_steps back e.1)
+      ap (λ p. after_gap p (child_at n j) ++ after_child n j) (nil_from_length back e.1)
       ∙ ap (λ cs. after_list (drop j (own_pairs n)) (map pairs_of cs)) (ap (drop (suc j)) (leaf_children n l) ∙ drop_nil (suc j))
       ∙ after_nothing (drop j (own_pairs n))
 
 module _ {K V Z : Type 0} where
-  pub level_above : (h : ℕ) (n : Node K V Z) → (IsLeaf n → ⊥) → IsLevelled h n → IsAbove h n
-  level_above zero n f l = absurd (f l.1)
-  level_above (suc h) n f l = record { below = h; height = refl; levels = l; inner = l.1 }
+  pub level_above : (h : ℕ) (n : Node K V Z) → (IsLeaf n → ⊥) → IsLevelled h n → IsAbove IsLevelled h n
+  level_above h n f = above IsLevelled h n (λ l. f l.1)
 
   -- two ends in a node with children, and the places where they begin
   pub record AreEnds (h : ℕ) (front back : List ℕ) (n : Node K V Z) (i j : ℕ) : Type 0 where
@@ -210,8 +205,6 @@ module _ {S K V Z : Type 0} (R : S → K × V → S → V → Bool → Type 0) w
 
     stretching_open : IsOpenAt now at A c D x.own_done (drop counter (own_pairs old))
     stretching_open =
-        let k : length (children_of old) ≡ length (own_pairs old) + 1 = x.inner in
-        let le = x.inside in
         record {
           children = x.children ∙ ap (λ ds. A ++ ds) (drop_item (children_of old) counter old (omega arith));
           own = x.own;
@@ -227,12 +220,9 @@ module _ {S K V Z : Type 0} (R : S → K × V → S → V → Bool → Type 0) w
 
     pub stretching_lent : IsLentNow
     stretching_lent =
-        let k : length (children_of old) ≡ length (own_pairs old) + 1 = x.inner in
-        let le = x.inside in
         let a = length-drop (suc counter) (children_of old) in
         let b = length-drop counter (own_pairs old) in
         let o = ap length x.own ∙ length-append x.own_done (drop counter (own_pairs old)) in
-        let p = x.own_place in
         record {
           inner = open_inner now at A c D x.own_done (drop counter (own_pairs old)) stretching_open (omega arith);
           bounds = omega arith;
@@ -270,7 +260,7 @@ module _ {S K V Z : Type 0} (R : S → K × V → S → V → Bool → Type 0) w
         (subst (λ i. IsEnd h (drop 1 back) (child_at old i)) (sym f) (end_below h back old m e))
 
     -- the child came back
-    module _ (mid dold dnew : Node K V Z) (is : dold ≡ child_at now at) (m : IsChildSet now mid at dnew)
+    module _ (mid dold dnew : Node K V Z) (is : dold ≡ child_at now at) (m : IsReplaced now mid at dnew)
         (thin : (h : ℕ) → IsLevelled h dold → IsThin h dnew) where
       here : dold ≡ c
       here = is ∙ stretching_lent.is
@@ -282,12 +272,11 @@ module _ {S K V Z : Type 0} (R : S → K × V → S → V → Bool → Type 0) w
       thin_here h l = thin h (subst (IsLevelled h) (sym here) (child_below h old counter l x.inside).1)
 
       taken : take at (children_of mid) ≡ A
-      taken = ap (take at) m.child ∙ take_set (children_of now) at dnew ∙ ap (take at) x.children ∙ take_place A (drop counter (children_of old)) at x.place
+      taken = m.lead ∙ ap (take at) x.children ∙ take_place A (drop counter (children_of old)) at x.place
 
       dropped : drop (suc at) (children_of mid) ≡ D
-      dropped = ap (drop (suc at)) m.child ∙ drop_set (children_of now) at dnew
-          ∙ ap (drop (suc at)) (stretching_open.children ∙ sym (append_assoc A (c ∷ []) D))
-          ∙ drop_place (A ++ c ∷ []) D (suc at) (length-append A (c ∷ []) ∙ (let p = x.place in omega arith))
+      dropped = m.rest ∙ ap (drop (suc at)) (stretching_open.children ∙ sym (append_assoc A (c ∷ []) D))
+          ∙ drop_place (A ++ c ∷ []) D (suc at) (length-append A (c ∷ []) ∙ (omega arith))
 
       pub back_thin : (h : ℕ) → IsLevelled (suc h) old → IsThin h (child_at mid at)
       back_thin h l = subst (IsThin h) (sym left.child) (thin_here h l)
@@ -295,9 +284,7 @@ module _ {S K V Z : Type 0} (R : S → K × V → S → V → Bool → Type 0) w
       pub back_sizes : IsInner mid × (at ≤ length (own_pairs mid)) × (length (own_pairs mid) + counter ≡ length (own_pairs old) + at)
       back_sizes =
           let o : length (own_pairs mid) ≡ length (own_pairs now) = ap length m.same in
-          let b = stretching_lent.bounds in
-          let z = stretching_lent.size in
-          (left.inner, omega arith, omega arith)
+          (left.inner, omega (arith, stretching_lent.bounds), omega (arith, stretching_lent.size))
 
       -- and the pair behind it was asked
       pub stretching_more : (u v : S) (new : Node K V Z) (j : ℕ) → counter < length (own_pairs old) → IsStretchSifted R t u ahead [] dold dnew
@@ -306,10 +293,8 @@ module _ {S K V Z : Type 0} (R : S → K × V → S → V → Bool → Type 0) w
           let one : counter + 1 ≡ suc counter = omega arith in
           let next : at + 1 ≡ suc at = omega arith in
           let before = x.later in
-          let fewer = x.few in
           let few = p.few in
           let place = p.place in
-          let put = x.place in
           let ps = own_pairs old in
           let cs : children_of new ≡ (take first (children_of old) ++ (x.done ++ p.kept)) ++ D = p.children
           ∙ ap (λ zs. zs ++ (p.kept ++ drop (suc at) (children_of mid))) taken ∙ ap (λ ds. A ++ (p.kept ++ ds)) dropped ∙ sym (append_assoc A p.kept D)
@@ -321,7 +306,6 @@ module _ {S K V Z : Type 0} (R : S → K × V → S → V → Bool → Type 0) w
           ∙ ap (λ qs. p.own_kept ++ qs) (drop-drop 1 counter ps) in
           let size : length (take first (children_of old) ++ (x.done ++ p.kept)) ≡ j =
           ap length (sym (append_assoc (take first (children_of old)) x.done p.kept)) ∙ length-append A p.kept ∙ omega arith in
-          let k : length (children_of old) ≡ length (own_pairs old) + 1 = x.inner in
           let o : IsOpenAt new j (take first (children_of old) ++ (x.done ++ p.kept)) (child_at old (counter + 1)) (drop (suc (counter + 1)) (children_of old))
           p.own_kept (drop (counter + 1) ps) = record {
             children = cs ∙ ap (λ i. (take first (children_of old) ++ (x.done ++ p.kept)) ++ drop i (children_of old)) (sym one)
@@ -412,14 +396,11 @@ module _ {S K V Z : Type 0} (R : S → K × V → S → V → Bool → Type 0) w
       stretching_thin h l =
           let cs = children_of old in
           let k : length cs ≡ length (own_pairs old) + 1 = x.inner in
-          let le = x.inside in
-          let fewer = x.few in
           let order = x.later in
           let fits = l.0 in
-          let size = back_sizes.2 in
           let sound = subst (AllByRecursion (IsSound h)) (sym (take_drop first cs)) l.2 in
           let front_sound = all_front (IsSound h) (take first cs) (drop first cs) sound in
-          let back_sound = all_back (IsSound h) (take (suc counter) cs) D (subst (AllByRecursion (IsSound h)) (sym (take_drop (suc counter) cs)) l.2) in
+          let back_sound = all_drop (IsSound h) (suc counter) cs l.2 in
           let n : length (children_of mid) ≡ length (own_pairs mid) + 1 = left.inner in
           let last = back_sizes.1 in
           let whole : children_of mid ≡ take first cs ++ (x.done ++ child_at mid at ∷ D) = cut_item (children_of mid) at mid (omega arith)
@@ -428,13 +409,13 @@ module _ {S K V Z : Type 0} (R : S → K × V → S → V → Bool → Type 0) w
           let one : at + 1 ≡ suc at = omega arith in
           let of_sound = λ (n : Node K V Z) (y : IsSound h n). levelled_thin h n y.1 in
           record {
-            fits = omega arith;
+            fits = omega (arith, back_sizes.2);
             inner = left.inner;
             order = order;
             last = last;
             before = subst (AllByRecursion (IsSound h)) (sym (ap (take first) whole
                 ∙ take_place (take first cs) (x.done ++ child_at mid at ∷ D) first (length_take first cs (omega arith)))) front_sound;
-            thin = subst (AllByRecursion (IsThin h)) (sym whole) (all_both (IsThin h) (take first cs) _ (each (IsSound h) (IsThin h) of_sound _ front_sound)
-                (all_both (IsThin h) x.done _ (x.levels h l) (back_thin h l, each (IsSound h) (IsThin h) of_sound _ back_sound)));
+            thin = subst (AllByRecursion (IsThin h)) (sym whole) (all_both (IsThin h) (take first cs) _ (all_each (IsSound h) (IsThin h) of_sound _ front_sound)
+                (all_both (IsThin h) x.done _ (x.levels h l) (back_thin h l, all_each (IsSound h) (IsThin h) of_sound _ back_sound)));
             after = subst (AllByRecursion (IsSound h)) (sym (ap (λ i. drop i (children_of mid)) one ∙ dropped)) back_sound;
           }

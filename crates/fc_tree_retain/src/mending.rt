@@ -9,8 +9,8 @@ ghost use Rattle.fc_tree_retain.specs.Mending.{IsThin, IsSeam, IsSettled, IsJoin
 ghost use Rattle.fc_tree_retain.specs.Stretch.{IsThinWithin};
 
 use fc_base::{Count, Handle};
+use fc_tree_node::lend::child_in;
 use fc_tree_node::node::{CAPACITY, MIN_LEN, Node};
-use fc_tree_search::lend::content;
 
 // Mends all below the node from the leaves up. The node itself may hold few pairs, none too.
 pub(crate) fn mend<K: Drop, V: Drop, A: Handle>(node: &mut Node<K, V, A>)
@@ -22,9 +22,9 @@ pub(crate) fn mend<K: Drop, V: Drop, A: Handle>(node: &mut Node<K, V, A>)
         return;
     }
     let mut at = 0;
-    mend(content(&mut node.children).get_mut(0));
+    mend(child_in(&mut node.children, 0));
     for _ in 0..node.len() {
-        mend(content(&mut node.children).get_mut(at + 1));
+        mend(child_in(&mut node.children, at + 1));
         at = settle(node, at);
     }
 }
@@ -43,7 +43,7 @@ fn settle<K: Drop, V: Drop, A: Handle>(node: &mut Node<K, V, A>, index: usize) -
     }
     let (place, seam, last) = join(node, index, left, right);
     if !node.child(place).is_leaf() {
-        settle(content(&mut node.children).get_mut(place), seam);
+        settle(child_in(&mut node.children, place), seam);
     }
     last
 }

@@ -10,8 +10,8 @@ ghost use Rattle.fc_tree_retain.specs.Sifted.{SiftsPair, IsOwnPassed, IsPassed, 
 
 use crate::sieve::Sieve;
 use fc_base::{Count, Handle};
+use fc_tree_node::lend::child_in;
 use fc_tree_node::node::Node;
-use fc_tree_search::lend::content;
 
 // Asks of each pair below the node, in order, and takes those out that are not to stay. No node is merged: one may be left with few
 // pairs, none too.
@@ -31,10 +31,10 @@ pub(crate) fn sift<K: Drop, V: Drop, S: Sieve<K, V>, A: Handle>(
     }
     let mut at = 0;
     for _ in 0..node.len() {
-        sift(content(&mut node.children).get_mut(at), sieve);
+        sift(child_in(&mut node.children, at), sieve);
         at = sift_between(node, at, sieve);
     }
-    sift(content(&mut node.children).get_mut(at), sieve);
+    sift(child_in(&mut node.children, at), sieve);
 }
 
 // Asks of each pair of a leaf.
@@ -103,7 +103,7 @@ fn sift_between<K: Drop, V: Drop, S: Sieve<K, V>, A: Handle>(
     if stays(node, at, sieve) {
         return at + 1;
     }
-    match take_last(content(&mut node.children).get_mut(at)) {
+    match take_last(child_in(&mut node.children, at)) {
         None => {
             sieve.take(remove_behind(node, at));
             at
@@ -148,7 +148,7 @@ fn take_last<K: Drop, V: Drop, A: Handle>(node: &mut Node<K, V, A>) -> Option<(K
         }
         return Some(node.remove_leaf(end - 1, &mut Count::new()));
     }
-    if let Some(pair) = take_last(content(&mut node.children).get_mut(end)) {
+    if let Some(pair) = take_last(child_in(&mut node.children, end)) {
         return Some(pair);
     }
     if end == 0 {

@@ -12,9 +12,9 @@ use crate::mending::settle_between;
 use crate::sieve::Sieve;
 use crate::sifting::{remove_behind, sift_own, stays};
 use fc_base::{Count, Handle};
+use fc_tree_node::lend::child_in;
 use fc_tree_node::node::Node;
 use fc_tree_removal::first_last::remove_last;
-use fc_tree_search::lend::content;
 
 // Asks of each pair below the node between two gaps, in order, takes those out that are not to stay, and mends what is below the node.
 // A path of no step stands for the end of the node on its side.
@@ -40,12 +40,12 @@ pub(crate) fn sift_within<K: Drop, V: Drop, S: Sieve<K, V>, A: Handle>(
     let mut ahead = rest_of(front);
     let mut at = start;
     for _ in start..end {
-        sift_within(content(&mut node.children).get_mut(at), ahead, &[], sieve);
+        sift_within(child_in(&mut node.children, at), ahead, &[], sieve);
         at = sift_behind(node, at, sieve);
         ahead = &[];
     }
     sift_within(
-        content(&mut node.children).get_mut(at),
+        child_in(&mut node.children, at),
         ahead,
         rest_of(back),
         sieve,
@@ -112,7 +112,7 @@ fn sift_behind<K: Drop, V: Drop, S: Sieve<K, V>, A: Handle>(
     if stays(node, at, sieve) {
         return at + 1;
     }
-    match take_last_of_thin(content(&mut node.children).get_mut(at)) {
+    match take_last_of_thin(child_in(&mut node.children, at)) {
         None => {
             sieve.take(remove_behind(node, at));
             at
@@ -137,5 +137,5 @@ fn take_last_of_thin<K: Drop, V: Drop, A: Handle>(node: &mut Node<K, V, A>) -> O
     if node.is_leaf() {
         return None;
     }
-    take_last_of_thin(content(&mut node.children).get_mut(0))
+    take_last_of_thin(child_in(&mut node.children, 0))
 }

@@ -49,8 +49,6 @@ module _ {K V Z : Type 0} where
   child_of zero n i s inner le = let no : false ≡ true = inner s.1.1 in absurd cc
   child_of (suc h) n i s inner le =
       let b = child_below h n i s.1 le in
-      let some = b.0 in
-      let count : length (children_of n) ≡ length (own_pairs n) + 1 = s.1.1 in
       record { height = h; inner = s.1.1; there = omega arith; sound = (omega arith, b.1) }
 
   pub first_start : (h : ℕ) (root : Node K V Z) → IsSoundRoot h root → IsFirst root root
@@ -68,7 +66,6 @@ module _ {K V Z : Type 0} where
   pub first_found : (root node : Node K V Z) (p : K × V) → IsFirst root node → IsLeaf node → p ≡ get_or (own_pairs node) 0 p
       → slice_get (pairs_of root) 0 ≡ Some p
   first_found root node p w l e =
-      let some = w.sound.0 in
       ap (λ s. slice_get s 0) (w.pairs ∙ ap (λ s. s ++ w.rest) (leaf_pairs node l)) ∙ first_there (own_pairs node) w.rest p (omega arith) e
 
   pub last_start : (h : ℕ) (root : Node K V Z) → IsSoundRoot h root → IsLast root root

@@ -1,6 +1,7 @@
 -- The first pair after a place of a tree and the last before it, and the parts of a list up to a key and from it on.
 use Rattle.std.proofs.Common.{◌≡◌, ℕ, zero, suc, ◌+◌, ◌-◌, ◌<◌, List, [], ◌∷◌, ◌++◌, length, get_or, slice_get, Some, refl, sym, ap, ◌∙◌, arith, add-one}
-use Rattle.std.proofs.Common.{append_assoc, append-nil, length-append}
+use Rattle.std.proofs.Common.{append_assoc, append-nil, length-append, Option}
+use Rattle.std.specs.Prelude.{Bool, true, false, if◌then◌else◌}
 use Rattle.std.specs.Ordering.{is_le, is_ge}
 use Rattle.std.specs.declared.cmp.Ordering.{Ordering}
 use Rattle.std.specs.declared.cmp.Ordering.TheVariants.{Equal}
@@ -174,6 +175,14 @@ module _ {K Q V Z : Type 0} {own : K → K → Ordering} {cmp : K → Q → Orde
     pub none_before : before_gap path root ++ before_child node i ≡ below cmp (pairs_of root) k
     none_before = before ∙ sym (gap_at cmp k (path ++ i ∷ []) on.levels.0 root on.levels.2 here).lower
 
+    pub none_first : (b : Bool) → after_child node i ++ after_gap path root ≡ (if b then not_below cmp (pairs_of root) k else above cmp (pairs_of root) k)
+    none_first true = none_from
+    none_first false = none_after
+
+    pub none_last : (b : Bool) → before_gap path root ++ before_child node i ≡ (if b then not_above cmp (pairs_of root) k else below cmp (pairs_of root) k)
+    none_last true = none_to
+    none_last false = none_before
+
   -- at a pair
   module _ (i : ℕ) (f : IsFoundAt cmp k (own_pairs node) i) where
     there : IsFound cmp k root (path ++ i ∷ [])
@@ -212,3 +221,15 @@ module _ {K Q V Z : Type 0} {own : K → K → Ordering} {cmp : K → Q → Orde
       pub found_to : Some p ≡ last_item (not_above cmp (pairs_of root) k)
       found_to = sym (ap (λ s. last_item (not_above cmp s k)) cut ∙ ap last_item (pair_from cmp k _ _ p there.before equal there.after).1
           ∙ last_is (before_pair (path ++ i ∷ []) root) p)
+
+    pub found_first : (b : Bool) (found next : Option (K × V)) → (b ≡ true → found ≡ slice_get (own_pairs node) i)
+        → (b ≡ false → (rest : List (K × V)) → next ≡ first_item rest → found ≡ first_item (after_own node i ++ rest)) → next ≡ first_item (after_gap path root)
+        → found ≡ first_item (if b then not_below cmp (pairs_of root) k else above cmp (pairs_of root) k)
+    found_first true found next equal past e = let x = item_there (own_pairs node) i f.0 in equal refl ∙ x.2 ∙ found_from x.0 (sym (x.1 x.0))
+    found_first false found next equal past e = past refl (after_gap path root) e ∙ ap first_item found_after
+
+    pub found_last : (b : Bool) (found last : Option (K × V)) → (b ≡ true → found ≡ slice_get (own_pairs node) i)
+        → (b ≡ false → (lead : List (K × V)) → last ≡ last_item lead → found ≡ last_item (lead ++ before_own node i)) → last ≡ last_item (before_gap path root)
+        → found ≡ last_item (if b then not_above cmp (pairs_of root) k else below cmp (pairs_of root) k)
+    found_last true found last equal past e = let x = item_there (own_pairs node) i f.0 in equal refl ∙ x.2 ∙ found_to x.0 (sym (x.1 x.0))
+    found_last false found last equal past e = past refl (before_gap path root) e ∙ ap last_item found_before

@@ -72,7 +72,7 @@ module _ {K Q V : Type 0} (cmp : K → Q → Ordering) (k : Q) where
       → passed_in (L ++ R) ns ≡ length L + stop_count cmp k R + slice_index ns (length L)
   passed_between L R ns a b =
       let n = upper_none R b in
-      let l : lower_count cmp k (L ++ R) ≡ length L = let x = past_lower L R ns a in let y = n.0 in omega arith in
+      let l : lower_count cmp k (L ++ R) ≡ length L = let x = past_lower L R ns a in omega arith in
       let s = past_stop L R a in
       let d : down_count cmp k (L ++ R) ns ≡ slice_index ns (length L) = rw (past_equal L R a) (rw n.1 (ap (λ i. slice_index ns i) l)) in
       omega arith
@@ -200,9 +200,8 @@ module _ {K Q V : Type 0} (cmp : K → Q → Ordering) (k : Q) where
     few_each P m f (c ∷ cs) a = (f c a.0, few_each P m f cs a.1)
 
     pub passed_bound : (h : ℕ) (n : Node K V Z) → IsLevelled h n → passed cmp k n ≤ level_comparisons * (h + 1)
-    passed_bound zero n l = let b = few_down n 0 (subst (AllByRecursion (λ c. passed cmp k c ≤ 0)) (sym (leaf_children n l.1)) tt) in let f = l.0 in omega arith
+    passed_bound zero n l = let b = few_down n 0 (subst (AllByRecursion (λ c. passed cmp k c ≤ 0)) (sym (leaf_children n l.1)) tt) in omega arith
     passed_bound (suc h) n l =
         let b = few_down n (level_comparisons * (h + 1)) (few_each (λ c. (min_len ≤ length (own_pairs c)) × IsLevelled h c) (level_comparisons * (h + 1))
         (λ c p. passed_bound h c p.1) (children_of n) l.2) in
-        let f = l.0 in
         omega arith

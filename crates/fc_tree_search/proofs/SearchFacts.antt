@@ -53,7 +53,7 @@ leaf_more (j ∷ k ∷ path) i n = leaf_more (k ∷ path) i (child_at n j)
 pub child_there : {K V Z : Type 0} (h : ℕ) (n : Node K V Z) (i : ℕ) → IsLevelled h n → (IsLeaf n → IsTrue false) → i ≤ length (own_pairs n)
     → i < length (children_of n)
 child_there zero n i l not_leaf le = let no : false ≡ true = not_leaf l.1 in absurd cc
-child_there (suc h) n i l not_leaf le = let e : length (children_of n) ≡ length (own_pairs n) + 1 = l.1 in omega arith
+child_there (suc h) n i l not_leaf le = omega arith
 
 -- a descent has come to the node, with smaller keys before it and greater keys after it
 pub record IsOnWay {K Q V Z : Type 0} (cmp : K → Q → Ordering) (k : Q) (root node : Node K V Z) (path : List ℕ) : Type 0 where
@@ -160,7 +160,6 @@ module _ {K Q V Z : Type 0} {own : K → K → Ordering} {cmp : K → Q → Orde
       last : (g j : ℕ) → length path + j ≡ g → IsLevelled j node → length (path ++ i ∷ []) ≡ g + 1
       last g zero e m = omega (arith, length-append path (i ∷ []))
       last g (suc j) e m =
-          let inner : length (children_of node) ≡ length (own_pairs node) + 1 = m.1 in
           let none : length (children_of node) ≡ 0 = ap length (leaf_children node leaf) in
           absurd (omega arith)
 

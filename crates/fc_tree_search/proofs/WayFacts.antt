@@ -46,7 +46,7 @@ module _ {K Q V : Type 0} (cmp : K → Q → Ordering) (k : Q) where
       → way_in (L ++ R) paths ≡ length L ∷ get_or paths (length L) []
   way_between L R paths a b =
       let n = upper_none cmp k R b in
-      let i : lower_count cmp k (L ++ R) ≡ length L = let x = past_lower cmp k L R [] a in let y = n.0 in omega arith in
+      let i : lower_count cmp k (L ++ R) ≡ length L = let x = past_lower cmp k L R [] a in omega arith in
       let d : onward cmp k (L ++ R) paths ≡ get_or paths (length L) [] = rw (past_equal cmp k L R a) (rw n.1 (ap (λ j. get_or paths j []) i)) in
       ap (λ q. lower_count cmp k (L ++ R) ∷ q) d ∙ ap (λ j. j ∷ get_or paths (length L) []) i
 

@@ -1,14 +1,11 @@
 -- A descent to the pair at a place, and what a tree is once a value is written there.
-use Rattle.std.proofs.Common.{◌≡◌, ℕ, zero, suc, ◌+◌, ◌-◌, ◌<◌, List, [], ◌∷◌, ◌++◌, length, take, drop, get_or, slice_get, slice_set, Option, Some, refl, sym}
+use Rattle.std.proofs.Common.{◌≡◌, ℕ, zero, suc, ◌+◌, ◌-◌, ◌<◌, List, [], ◌∷◌, ◌++◌, length, take, drop, get_or, slice_get, slice_set, Some, refl, sym}
 use Rattle.std.proofs.Common.{ap, subst, ◌∙◌, arith, add-one}
-use Rattle.std.specs.Option.{option_map}
 use Rattle.fc_tree_node.specs.declared.node.Node.{Node, out-Node, roll-Node}
 use Rattle.fc_tree_node.specs.Node.{own_pairs, children_of, child_at}
 use Rattle.fc_tree_node.specs.Place.{IsPlace, place_pair}
 use Rattle.fc_tree_search.specs.Written.{set_value, with_value, with_child, written}
 use Rattle.fc_tree_node.proofs.Gaps.{drop_item, drop_all, item_there}
-use Rattle.fc_tree_node.proofs.Made.{children_in}
-use Rattle.fc_tree_node.proofs.Shared.{listed_child}
 
 -- the rest of a path, as a slice of it
 after_is : (path : List ℕ) (i : ℕ) → take (length (i ∷ path) - 1) (drop 1 (i ∷ path)) ≡ path
@@ -108,27 +105,9 @@ module _ {K V : Type 0} where
         → roll-Node K V Z (record { pairs = slice_set (own_pairs n) i (e.0, w); children = (out-Node K V Z n).children }) ≡ with_value n i w
     own_written n i e w h r = ap (λ ps. roll-Node K V Z (record { pairs = ps; children = (out-Node K V Z n).children })) (set_is_value (own_pairs n) i e w h r)
 
-    -- the child that a way of more steps leads through, lent out of the list
-    pub child_in : (way : List ℕ) (p : ℕ) (n : Node K V Z) (cs : List (Node K V Z)) (c : Node K V Z) → (out-Node K V Z n).children ≡ Some cs
-        → (length way ≡ 0 → ⊥)
-        → c ≡ get_or cs (get_or way 0 0) c → IsPlace (way ++ p ∷ []) n → c ≡ child_at n (get_or way 0 0)
-    child_in way p n cs c is more at q =
-        listed_child n 0 cs is (get_or way 0 0) c (subst (λ ds. get_or way 0 0 < length ds) (children_in n cs is) (below_there way p n more q)) at
-
--- what a lent child leaves
-pub below_written : {K V Z : Type 0} (way : List ℕ) (p : ℕ) (n : Node K V Z) (cs : List (Node K V Z)) (c : Node K V Z) (w : V)
-    → (out-Node K V Z n).children ≡ Some cs
-    → (length way ≡ 0 → ⊥) → c ≡ get_or cs (get_or way 0 0) c → IsPlace (way ++ p ∷ []) n
-    → roll-Node K V Z (record {
-      pairs = own_pairs n;
-      children = Some (slice_set cs (get_or way 0 0) (written c (later_steps way ++ p ∷ []) w));
-    }) ≡ written n (way ++ p ∷ []) w
-below_written [] p n cs c w is more at q = absurd (more refl)
-below_written {K} {V} {Z} (i ∷ way) p n cs c w is more at q =
-    let same = child_in (i ∷ way) p n cs c is more at q in
-    let made : Node K V Z → Option (List (Node K V Z)) → Node K V Z = λ new o.
-    roll-Node K V Z (record { pairs = own_pairs n; children = option_map (λ ds. slice_set ds i new) o }) in
-    ap (λ r. made (written c (r ++ p ∷ []) w) (Some cs)) (after_is way i)
-    ∙ ap (λ m. made (written m (way ++ p ∷ []) w) (Some cs)) same
-    ∙ ap (made (written (child_at n i) (way ++ p ∷ []) w)) (sym is)
-    ∙ step_written i way p n w
+    -- what a lent child leaves
+    pub below_written : (way : List ℕ) (p : ℕ) (n c : Node K V Z) (w : V) → (length way ≡ 0 → ⊥) → c ≡ child_at n (get_or way 0 0)
+        → with_child n (get_or way 0 0) (written c (later_steps way ++ p ∷ []) w) ≡ written n (way ++ p ∷ []) w
+    below_written [] p n c w more is = absurd (more refl)
+    below_written (i ∷ way) p n c w more is = ap (λ r. with_child n i (written c (r ++ p ∷ []) w)) (after_is way i)
+        ∙ ap (λ m. with_child n i (written m (way ++ p ∷ []) w)) is ∙ step_written i way p n w

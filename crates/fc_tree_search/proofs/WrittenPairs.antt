@@ -1,5 +1,5 @@
 -- The tree in which a value is written at a place: its pairs, its levels, and what a search passes in it.
-use Rattle.std.proofs.Common.{◌≡◌, ℕ, zero, suc, ◌+◌, ◌<◌, ◌≤◌, List, [], ◌∷◌, ◌++◌, length, map, take, drop, get_or, slice_get, slice_set, Option, Some, None}
+use Rattle.std.proofs.Common.{◌≡◌, ℕ, zero, suc, ◌+◌, ◌<◌, ◌≤◌, List, [], ◌∷◌, ◌++◌, length, map, take, drop, get_or, slice_get, slice_set, Some}
 use Rattle.std.proofs.Common.{refl, sym, ap, subst, ◌∙◌, arith, cond}
 use Rattle.std.specs.Prelude.{Bool, true, false, unwrap_or, not, ◌||◌, slice_index}
 use Rattle.std.specs.List.{AllByRecursion, list_any}
@@ -10,45 +10,29 @@ use Rattle.std.specs.declared.cmp.Ordering.TheVariants.{Less}
 use Rattle.fc_base.specs.Ascending.{IsAscending}
 use Rattle.fc_base.specs.Parts.{below, at}
 use Rattle.fc_base.specs.OneKey.{put_by}
-use Rattle.fc_tree_node.specs.Weave.{weave, before_list, after_list}
-use Rattle.fc_tree_node.specs.declared.node.Node.{Node, out-Node}
-use Rattle.fc_tree_node.specs.Node.{items_or_none, own_pairs, children_of, child_at, pairs_of, IsLevelled}
+use Rattle.fc_tree_node.specs.Weave.{weave}
+use Rattle.fc_tree_node.specs.declared.node.Node.{Node}
+use Rattle.fc_tree_node.specs.Node.{own_pairs, children_of, child_at, pairs_of, IsLevelled}
 use Rattle.fc_tree_node.specs.Place.{before_child, after_child, IsPlace, place_pair, before_pair, after_pair}
 use Rattle.fc_tree_search.specs.Passed.{lower_count, stop_count, down_count, passed}
 use Rattle.fc_tree_node.specs.Node.{IsTree}
 use Rattle.fc_tree_search.specs.Found.{IsFound}
 use Rattle.fc_tree_search.specs.Written.{set_value, with_value, with_child, written}
-use Rattle.fc_tree_node.proofs.Lists.{length_set, all_set}
 use Rattle.fc_tree_node.proofs.Pairs.{IsBelow, child_below}
 use Rattle.fc_tree_node.proofs.Made.{own_made, children_made, field_made}
+use Rattle.fc_tree_node.proofs.Lent.{replaced, replaced_levels}
 use Rattle.fc_tree_node.proofs.Gaps.{item_there, step_levels, place_pairs}
 use Rattle.fc_tree_search.proofs.PassedFacts.{passed_in, passed_is}
 use Rattle.fc_tree_search.proofs.SearchFacts.{found_at}
 
-module _ {X : Type 0} where
-  take_set : (xs : List X) (i : ℕ) (x : X) → take i (slice_set xs i x) ≡ take i xs
-  take_set [] i x = refl
-  take_set (y ∷ xs) zero x = refl
-  take_set (y ∷ xs) (suc i) x = ap (λ zs. y ∷ zs) (take_set xs i x)
-
-  drop_set : (xs : List X) (i : ℕ) (x : X) → drop (suc i) (slice_set xs i x) ≡ drop (suc i) xs
-  drop_set [] i x = refl
-  drop_set (y ∷ xs) zero x = refl
-  drop_set (y ∷ xs) (suc i) x = drop_set xs i x
-
-  get_set : (xs : List X) (i : ℕ) (x d : X) → i < length xs → get_or (slice_set xs i x) i d ≡ x
-  get_set [] i x d h = absurd (omega arith)
-  get_set (y ∷ xs) zero x d h = refl
-  get_set (y ∷ xs) (suc i) x d h = get_set xs i x d (omega arith)
-
 -- a list of pairs with another value at a place
 module _ {K V : Type 0} where
-  take_value : (s : List (K × V)) (i : ℕ) (w : V) → take i (set_value s i w) ≡ take i s
+  pub take_value : (s : List (K × V)) (i : ℕ) (w : V) → take i (set_value s i w) ≡ take i s
   take_value [] i w = refl
   take_value (e ∷ s) zero w = refl
   take_value (e ∷ s) (suc i) w = ap (λ zs. e ∷ zs) (take_value s i w)
 
-  drop_value : (s : List (K × V)) (i : ℕ) (w : V) → drop (suc i) (set_value s i w) ≡ drop (suc i) s
+  pub drop_value : (s : List (K × V)) (i : ℕ) (w : V) → drop (suc i) (set_value s i w) ≡ drop (suc i) s
   drop_value [] i w = refl
   drop_value (e ∷ s) zero w = refl
   drop_value (e ∷ s) (suc i) w = drop_value s i w
@@ -57,6 +41,11 @@ module _ {K V : Type 0} where
   get_value [] i w p h = absurd cc
   get_value (e ∷ s) zero w p h = let q : e ≡ p = cc in ap (λ x. Some (x.0, w)) q
   get_value (e ∷ s) (suc i) w p h = get_value s i w p h
+
+  pub value_at : (s : List (K × V)) (i : ℕ) (w : V) (e d : K × V) → i < length s → e ≡ get_or s i e → get_or (set_value s i w) i d ≡ (e.0, w)
+  value_at [] i w e d h q = absurd (omega arith)
+  value_at (x ∷ s) zero w e d h q = ap (λ y. (y.0, w)) (sym q)
+  value_at (x ∷ s) (suc i) w e d h q = value_at s i w e d (omega arith) q
 
   pub length_value : (s : List (K × V)) (i : ℕ) (w : V) → length (set_value s i w) ≡ length s
   length_value [] i w = refl
@@ -71,49 +60,32 @@ module _ {K V : Type 0} where
     pub value_children : (n : Node K V Z) (i : ℕ) (w : V) → children_of (with_value n i w) ≡ children_of n
     value_children n i w = children_made _
 
-    pub child_own : (n : Node K V Z) (i : ℕ) (c : Node K V Z) → own_pairs (with_child n i c) ≡ own_pairs n
-    child_own n i c = own_made _
-
-    with_in : (o : Option (List (Node K V Z))) (i : ℕ) (c : Node K V Z)
-        → items_or_none (option_map (λ cs. slice_set cs i c) o) ≡ slice_set (items_or_none o) i c
-    with_in None i c = refl
-    with_in (Some cs) i c = refl
-
-    pub child_children : (n : Node K V Z) (i : ℕ) (c : Node K V Z) → children_of (with_child n i c) ≡ slice_set (children_of n) i c
-    child_children n i c = children_made _ ∙ with_in (out-Node K V Z n).children i c
+    pub value_size : (n : Node K V Z) (i : ℕ) (w : V) → length (own_pairs (with_value n i w)) ≡ length (own_pairs n)
+    value_size n i w = ap length (value_own n i w) ∙ length_value (own_pairs n) i w
 
     -- the levels stay
-    value_levels : (h : ℕ) (n : Node K V Z) (i : ℕ) (w : V) → IsLevelled h n → IsLevelled h (with_value n i w)
+    pub value_levels : (h : ℕ) (n : Node K V Z) (i : ℕ) (w : V) → IsLevelled h n → IsLevelled h (with_value n i w)
     value_levels zero n i w l =
-        let e : length (own_pairs (with_value n i w)) ≡ length (own_pairs n) = ap length (value_own n i w) ∙ length_value (own_pairs n) i w in
+        let e = value_size n i w in
         (omega (arith, l.0), field_made _ ∙ l.1)
     value_levels (suc h) n i w l =
-        let e : length (own_pairs (with_value n i w)) ≡ length (own_pairs n) = ap length (value_own n i w) ∙ length_value (own_pairs n) i w in
+        let e = value_size n i w in
         let f : length (children_of (with_value n i w)) ≡ length (children_of n) = ap length (value_children n i w) in
-        let g : length (children_of n) ≡ length (own_pairs n) + 1 = l.1 in
         (omega (arith, l.0), omega arith, subst (AllByRecursion (IsBelow h)) (sym (value_children n i w)) l.2)
-
-    child_levels : (h : ℕ) (n : Node K V Z) (i : ℕ) (c : Node K V Z) → IsLevelled (suc h) n → IsBelow h c → IsLevelled (suc h) (with_child n i c)
-    child_levels h n i c l b =
-        let e : length (own_pairs (with_child n i c)) ≡ length (own_pairs n) = ap length (child_own n i c) in
-        let f : length (children_of (with_child n i c)) ≡ length (children_of n) = ap length (child_children n i c) ∙ length_set (children_of n) i c in
-        let g : length (children_of n) ≡ length (own_pairs n) + 1 = l.1 in
-        (omega (arith, l.0), omega arith, subst (AllByRecursion (IsBelow h)) (sym (child_children n i c)) (all_set (IsBelow h) (children_of n) i c l.2 b))
 
     -- the levels of the tree in which a value is written
     pub written_levels : (path : List ℕ) (h : ℕ) (n : Node K V Z) (w : V) → IsLevelled h n → IsPlace path n
         → IsLevelled h (written n path w) × (length (own_pairs (written n path w)) ≡ length (own_pairs n))
     unfolding written
     written_levels [] h n w l q = absurd q
-    written_levels (i ∷ []) h n w l q = (value_levels h n i w l, ap length (value_own n i w) ∙ length_value (own_pairs n) i w)
-    written_levels (i ∷ j ∷ path) zero n w l q = absurd (let s = step_levels zero n i l q.0 in let f = s.1 in cc)
+    written_levels (i ∷ []) h n w l q = (value_levels h n i w l, value_size n i w)
+    written_levels (i ∷ j ∷ path) zero n w l q = absurd (let s = step_levels zero n i l q.0 in cc)
     written_levels (i ∷ j ∷ path) (suc h) n w l q =
-        let k : length (children_of n) ≡ length (own_pairs n) + 1 = l.1 in
-        let le : i ≤ length (own_pairs n) = let f = q.0 in omega arith in
+        let le : i ≤ length (own_pairs n) = omega arith in
         let b = child_below h n i l le in
         let c = written (child_at n i) (j ∷ path) w in
         let r = written_levels (j ∷ path) h (child_at n i) w b.1 q.1 in
-        (child_levels h n i c l (let f = b.0 in let g = r.1 in omega arith, r.0), ap length (child_own n i c))
+        (replaced_levels h (replaced n i c) l (omega arith, r.0), (replaced n i c).size)
 
     -- the place stays, with the value in its pair
     pub record IsWrittenAt (path : List ℕ) (n m : Node K V Z) (p : K × V) (w : V) : Type 0 where
@@ -127,7 +99,7 @@ module _ {K V : Type 0} where
     own_at n i p w lt e =
         let m = with_value n i w in
         let s = own_pairs n in
-        let f : length (own_pairs m) ≡ length s = ap length (value_own n i w) ∙ length_value s i w in
+        let f = value_size n i w in
         let part : List (Node K V Z) → List (K × V) → List (K × V) = λ cs ps. weave (map pairs_of cs) ps in
         record {
           place = omega arith;
@@ -144,24 +116,18 @@ module _ {K V : Type 0} where
     written_at [] n p w q e = absurd q
     written_at (i ∷ []) n p w q e = own_at n i p w q e
     written_at (i ∷ j ∷ path) n p w q e =
-        let cs = children_of n in
         let c = written (child_at n i) (j ∷ path) w in
         let m = with_child n i c in
         let r = written_at (j ∷ path) (child_at n i) p w q.1 e in
-        let all = child_children n i c in
-        let same : child_at m i ≡ c = ap (λ ds. get_or ds i m) all ∙ get_set cs i c m q.0 in
-        let lt : i < length (children_of m) = let f = q.0 in let g = length_set cs i c in
-        let k : length (children_of m) ≡ length (slice_set cs i c) = ap length all in omega arith in
-        let lead : before_child m i ≡ before_child n i = ap (λ ds. before_list (map pairs_of ds) (take i (own_pairs m))) (ap (take i) all ∙ take_set cs i c)
-        ∙ ap (λ ps. before_list (map pairs_of (take i cs)) (take i ps)) (child_own n i c) in
-        let rest : after_child m i ≡ after_child n i = ap (λ ds. after_list (drop i (own_pairs m)) (map pairs_of ds)) (ap (drop (suc i)) all ∙ drop_set cs i c)
-        ∙ ap (λ ps. after_list (drop i ps) (map pairs_of (drop (suc i) cs))) (child_own n i c) in
+        let s = replaced n i c in
+        let same = s.here q.0 in
+        let lt : i < length (children_of m) = omega (arith, s.many, q.0) in
         record {
           place = (lt, subst (IsPlace (j ∷ path)) (sym same) r.place);
           pair = ap (place_pair (j ∷ path)) same ∙ r.pair;
-          before = ap (λ d. before_child m i ++ before_pair (j ∷ path) d) same ∙ ap (λ zs. zs ++ before_pair (j ∷ path) c) lead
+          before = ap (λ d. before_child m i ++ before_pair (j ∷ path) d) same ∙ ap (λ zs. zs ++ before_pair (j ∷ path) c) s.before
               ∙ ap (λ zs. before_child n i ++ zs) r.before;
-          after = ap (λ d. after_pair (j ∷ path) d ++ after_child m i) same ∙ ap (λ zs. after_pair (j ∷ path) c ++ zs) rest
+          after = ap (λ d. after_pair (j ∷ path) d ++ after_child m i) same ∙ ap (λ zs. after_pair (j ∷ path) c ++ zs) s.after
               ∙ ap (λ zs. zs ++ after_child n i) r.after;
         }
 
@@ -252,9 +218,10 @@ module _ {K Q V : Type 0} (cmp : K → Q → Ordering) (k : Q) where
         ∙ value_passed (own_pairs n) (map (passed cmp k) (children_of n)) i w ∙ sym (passed_is cmp k n)
     written_passed (i ∷ j ∷ path) n w =
         let c = written (child_at n i) (j ∷ path) w in
-        passed_is cmp k (with_child n i c) ∙ ap (λ cs. passed_in cmp k (own_pairs (with_child n i c)) (map (passed cmp k) cs)) (child_children n i c)
+        let m = replaced n i c in
+        passed_is cmp k (with_child n i c) ∙ ap (λ cs. passed_in cmp k (own_pairs (with_child n i c)) (map (passed cmp k) cs)) m.child
         ∙ ap (λ ns. passed_in cmp k (own_pairs (with_child n i c)) ns) (counts_set (children_of n) i c n (written_passed (j ∷ path) (child_at n i) w))
-        ∙ ap (λ s. passed_in cmp k s (map (passed cmp k) (children_of n))) (child_own n i c) ∙ sym (passed_is cmp k n)
+        ∙ ap (λ s. passed_in cmp k s (map (passed cmp k) (children_of n))) m.same ∙ sym (passed_is cmp k n)
 
     -- a value written at the place of a key's pair is the value put at the key
     pub written_put : (path : List ℕ) (h : ℕ) (n : Node K V Z) (j : K) (w : V) → IsLevelled h n → IsFound cmp k n path

@@ -1,8 +1,7 @@
 -- What a tree is, once a value is written at a place.
-use Rattle.std.specs.Prelude.{ℕ, zero, suc, List, [], ◌∷◌, slice_set, Option, Some}
+use Rattle.std.specs.Prelude.{ℕ, zero, suc, List, [], ◌∷◌, slice_set}
 use Rattle.std.specs.Option.{option_map}
 use Rattle.std.specs.Borrow.{Fml, RattleType, MutBor, Lends}
-use Rattle.std.specs.contracts.option.Option as option
 use Rattle.core.specs.declared.alloc.Allocator.{Ghosts}
 use Rattle.fc_tree_node.specs.declared.node.Node.{Node, out-Node, roll-Node}
 use Rattle.fc_tree_node.specs.Node.{child_at}
@@ -28,10 +27,6 @@ module _ {K V Z : Type 0} where
   written n [] w = n
   written n (i ∷ []) w = with_value n i w
   written n (i ∷ j ∷ path) w = with_child n i (written (child_at n i) (j ∷ path) w)
-
--- Once the borrow r of what is in `Some` ends, it is there what was left after r.
-abbrev pub lends_content : (T : RattleType) → MutBor (Option T.Denot) → MutBor T.Denot → Fml
-lends_content T o r = Lends (option.the_row T) T o r Some
 
 module _ (K V Z : RattleType) (heap : Ghosts Z.Denot) where
   -- Once the borrow r of the own value at the place ends, the node has there what was written through r.

@@ -1,13 +1,14 @@
 //! The pair at a place of a tree, lent for reading, and its value for writing.
-ghost use Rattle.std.specs.Prelude.{◌≡◌, ℕ, suc, ◌<◌, ◌≤◌, [], ◌∷◌, ◌++◌, length, slice_get, IsSome};
+ghost use Rattle.std.specs.Prelude.{◌≡◌, ℕ, suc, ◌<◌, ◌≤◌, [], ◌∷◌, ◌++◌, length, slice_get};
 ghost use Rattle.std.specs.Option.{option_map};
 ghost use Rattle.std.specs.Borrow.{sem};
 ghost use Rattle.fc_base.specs.Sizes.{most_levels};
 ghost use Rattle.fc_tree_node.specs.Node.{own_pairs};
 ghost use Rattle.fc_tree_node.specs.Place.{IsPlace, place_pair};
-ghost use Rattle.fc_tree_search.specs.Written.{lends_content, lends_value, lends_at, written};
+ghost use Rattle.fc_tree_search.specs.Written.{lends_value, lends_at, written};
 
 use fc_base::Handle;
+use fc_tree_node::lend::child_in;
 use fc_tree_node::node::Node;
 use fc_tree_node::path::Path;
 use std::alloc::Allocator;
@@ -24,18 +25,6 @@ pub fn pair_at<'a, K, V, A: Handle>(root: &'a Node<K, V, A>, path: &Path) -> &'a
         node = node.child(path.step(i));
     }
     node.pair(path.step(last))
-}
-
-/// What is in `Some`.
-pub fn content<T>(holder: &mut Option<T>) -> &mut T
-    requires { IsSome holder.old }
-    ensures* writes_back { sem 𝓛 (lends_content T.row holder.entry result) }
-    ensures value { holder.old ≡ Some result.now }
-{
-    match holder {
-        None => unreachable!(),
-        Some(item) => item,
-    }
 }
 
 // The value of the node's own pair at `index`.
@@ -95,7 +84,7 @@ impl<D: Descend> Descend for Below<D> {
             own_value(node, place)
         } else {
             let step = way[0] as usize;
-            D::value_at(content(&mut node.children).get_mut(step), &way[1..], place)
+            D::value_at(child_in(&mut node.children, step), &way[1..], place)
         }
     }
 }

@@ -6,6 +6,7 @@
 use Rattle.std.proofs.Common.{◌≡◌, ℕ, zero, suc, ◌+◌, ◌-◌, ◌<◌, List, [], ◌∷◌, ◌++◌, map, length, take, drop, set, get_or, replicate, Option, Some, None, refl}
 use Rattle.std.proofs.Common.{sym, ap, ◌∙◌, arith, length-append, length-take, append_assoc, append-nil}
 use Rattle.std.specs.Prelude.{true, false}
+use Rattle.std.proofs.lemmas.List.{nil_from_length}
 use Rattle.fc_tree_slots.specs.Cells.{present, holds, IsPacked, row}
 
 module _ {X : Type 0} where
@@ -103,17 +104,13 @@ module _ {X : Type 0} where
             ∙ append-nil xs,
       )
 
-  empty : (xs : List X) → length xs ≡ 0 → xs ≡ []
-  empty [] e = refl
-  empty (x ∷ xs) e = absurd (omega arith)
-
   laid : (cs : List (Option X)) (k m : ℕ) → map holds cs ≡ replicate k true ++ replicate m false → (cs ≡ row (present cs) 0 [] m) × (length (present cs) ≡ k)
   laid [] zero zero e = (refl, refl)
   laid [] zero (suc m) e = cc
   laid [] (suc k) m e = cc
   laid (None ∷ cs) zero zero e = cc
   laid (None ∷ cs) zero (suc m) e = let rest : map holds cs ≡ replicate m false = cc in let on = laid cs zero m rest in
-      let none : present cs ≡ [] = empty (present cs) on.1 in
+      let none : present cs ≡ [] = nil_from_length (present cs) on.1 in
       (ap (λ l. None ∷ l) on.0 ∙ (λ i. None ∷ row (none i) 0 [] m) ∙ (λ i. row (sym none i) 0 [] (suc m)), on.1)
   laid (None ∷ cs) (suc k) m e = cc
   laid (Some x ∷ cs) zero zero e = cc
@@ -125,7 +122,7 @@ module _ {X : Type 0} where
   pub unpacks : (cs : List (Option X)) (k n : ℕ) → IsPacked cs k n → (cs ≡ row (present cs) 0 [] (n - k)) × (length (present cs) ≡ k)
   unpacks cs k n h = laid cs k (n - k) h.1
 
-  -- the place p is one of them, and empty
+  -- the place p is one of them, and nil_from_length
   abbrev pub IsFree : List (Option X) → ℕ → Type 0
   IsFree cs p = (p < length cs) × (get_or cs p None ≡ None)
 

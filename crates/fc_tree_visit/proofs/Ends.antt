@@ -8,7 +8,7 @@ use Rattle.fc_tree_node.specs.TreePlace.{before_gap_in}
 use Rattle.fc_tree_walk.specs.Gap.{IsGapIn}
 use Rattle.fc_tree_visit.specs.Shape.{IsSameAlong}
 use Rattle.fc_tree_visit.proofs.Shapes.{same_path, same_before}
-use Rattle.fc_tree_visit.proofs.Steps.{one_height}
+use Rattle.fc_tree_node.proofs.Formed.{one_height}
 
 pub gaps_stay : {K V Z : Type 0} (m : Option (Node K V Z)) (n n' : Node K V Z) → m ≡ Some n → IsSoundMap m → ((h : ℕ) → IsLevelled h n → IsLevelled h n')
     → ((path : List ℕ) → IsSameAlong path n n')

@@ -77,7 +77,7 @@ module _ {K V Z : Type 0} where
     pub all : (k : ℕ) → IsPath (gone_on gap k) n → k ≤ run
 
   after_at_leaf : (i : ℕ) (n : Node K V Z) → i ≤ length (own_pairs n) → AreAllBehind (i ∷ []) n (length (own_pairs n) - i)
-  after_at_leaf i n le = record { there = (omega arith, tt); all = λ k w. let u = w.0 in omega arith }
+  after_at_leaf i n le = record { there = (omega arith, tt); all = λ k w. omega arith }
 
   after_below : (i : ℕ) (rest : List ℕ) (n : Node K V Z) (run : ℕ) → 0 < length rest → i ≤ length (own_pairs n) → AreAllBehind rest (child_at n i) run
       → AreAllBehind (i ∷ rest) n run
@@ -91,7 +91,7 @@ module _ {K V Z : Type 0} where
 
   pub after_own_child : (gap : List ℕ) (n : Node K V Z) (run : ℕ) → 2 ≤ length gap → (s : IsStep gap n)
       → AreAllBehind (slice_range gap 1 (length gap)) (child_at n (get_or gap 0 0)) run → AreAllBehind gap n run
-  after_own_child gap n run more s x = let e = s.long in subst (λ g. AreAllBehind g n run) (sym s.path_is) (after_below _ _ n run (omega arith) s.le x)
+  after_own_child gap n run more s x = subst (λ g. AreAllBehind g n run) (sym s.path_is) (after_below _ _ n run (omega arith) s.le x)
 
   -- a gap of a leaf with a pair of the leaf after it, and the gap after that pair
   pub record IsNear (m : Map K V Z) (gap next : List ℕ) : Type 0 where
@@ -107,7 +107,6 @@ module _ {K V Z : Type 0} where
   near h n [] k l e w = absurd (omega arith)
   near (suc h) n (i ∷ []) k l e w = absurd (omega arith)
   near zero n (i ∷ []) k l e w =
-      let u = w.0 in
       let there : i < length (own_pairs n) = omega arith in
       let x = next_leaf (i ∷ []) n 1 refl (omega arith, tt) l (λ z. absurd (omega arith)) (λ _. (refl, there)) in
       let a = x.before (omega arith) in
@@ -119,10 +118,6 @@ module _ {K V Z : Type 0} where
       let r = near h (child_at n i) (j ∷ gap) k (child_below h n i l w.0).1 (omega arith) w.1 in
       let a = length-append (before_child n i) (before_pair (j ∷ gap) (child_at n i)) in
       let d = length-append (before_child n i) (before_gap (gone_on (j ∷ gap) 1) (child_at n i)) in
-      let f = l.1 in
-      let g = w.0 in
-      let p = r.2 in
-      let q = r.4 in
       ((w.0, r.0), (omega arith, r.1), omega arith, (w.0, r.3), omega arith)
 
   pub gap_near : (m : Map K V Z) (gap : List ℕ) (k : ℕ) → IsSoundMap m → 0 < length gap → IsGapIn m (gone_on gap (suc k)) → IsNear m gap (gone_on gap 1)

@@ -105,5 +105,5 @@ ends_order m n front back p q is i j sound ends =
     let l = s.2.1 in
     let all = ap length (gap_pairs back h n l (e.1.1 h l) e.1.0) in
     let cut = length-append (before_gap back n) (after_gap back n) in
-    let o : length (before_gap front n) + length (after_gap back n) ≤ length (pairs_of n) = (let f = e.2 in omega arith) in
+    let o : length (before_gap front n) + length (after_gap back n) ≤ length (pairs_of n) = (omega arith) in
     rw (i, j) o

@@ -1,20 +1,14 @@
--- The parts of a node, and what is left of them once a child or a value is written.
-use Rattle.std.proofs.Common.{◌≡◌, ℕ, zero, suc, ◌+◌, ◌<◌, ◌≤◌, List, [], ◌∷◌, ◌++◌, length, map, take, drop, get_or, slice_set, refl, sym, ap, subst, ◌∙◌}
-use Rattle.std.proofs.Common.{append_assoc, Some, arith, ◌⊎◌, inl, inr}
-use Rattle.std.specs.List.{AllByRecursion}
-use Rattle.std.specs.Option.{option_map}
-use Rattle.std.proofs.lemmas.List.{append_cancel_right, length-append, take-set, drop-set-lt, get_or-set_same}
-use Rattle.fc_tree_node.specs.Weave.{weave, before_list, after_list}
-use Rattle.fc_tree_node.specs.declared.node.Node.{Node, out-Node, roll-Node}
+-- The parts of a node, and what is left of them once a value is written.
+use Rattle.std.proofs.Common.{◌≡◌, ℕ, zero, suc, ◌+◌, ◌<◌, ◌≤◌, List, [], ◌∷◌, ◌++◌, length, map, take, drop, get_or, refl, sym, ap, subst, ◌∙◌}
+use Rattle.std.proofs.Common.{append_assoc, arith, ◌⊎◌, inl, inr}
+use Rattle.std.proofs.lemmas.List.{append_cancel_right, length-append, get_or_default}
+use Rattle.fc_tree_node.specs.Weave.{weave}
+use Rattle.fc_tree_node.specs.declared.node.Node.{Node}
 use Rattle.fc_tree_node.specs.Node.{own_pairs, children_of, child_at, pairs_of, IsLevelled}
 use Rattle.fc_tree_node.specs.Place.{before_child, after_child, before_own, after_own}
-use Rattle.fc_tree_search.specs.Written.{set_value, with_value, with_child}
-use Rattle.fc_tree_node.proofs.Lists.{length_set, all_set}
-use Rattle.fc_tree_node.proofs.Made.{children_in, field_made}
-use Rattle.fc_tree_node.proofs.Shared.{listed_child}
-use Rattle.fc_tree_node.proofs.Pairs.{IsBelow}
+use Rattle.fc_tree_search.specs.Written.{with_value}
 use Rattle.fc_tree_node.proofs.Gaps.{drop_item, item_there, leaf_gap, inner_gap, own_pair, before_child_pair, after_child_pair}
-use Rattle.fc_tree_search.proofs.WrittenPairs.{length_value, value_own, value_children, child_own, child_children}
+use Rattle.fc_tree_search.proofs.WrittenPairs.{take_value, drop_value, value_at, value_own, value_children}
 
 order : (i j : ℕ) → (i ≤ j) ⊎ (j < i)
 order zero j = inl (omega arith)
@@ -35,27 +29,12 @@ module _ {X : Type 0} where
   pub drop_next : (i : ℕ) (xs ys : List X) → drop i xs ≡ drop i ys → drop (suc i) xs ≡ drop (suc i) ys
   drop_next i xs ys e = drop_more i xs ∙ ap (drop 1) e ∙ sym (drop_more i ys)
 
-  get_any : (xs : List X) (i : ℕ) (d e : X) → i < length xs → get_or xs i d ≡ get_or xs i e
-  get_any xs i d e h = let x = item_there xs i h in x.1 d ∙ sym (x.1 e)
-
   pub drop_get : (xs ys : List X) (i : ℕ) (d e : X) → drop i xs ≡ drop i ys → i < length xs → i < length ys → get_or xs i d ≡ get_or ys i e
   drop_get xs ys i d e p h k =
       let a = drop_item xs i d h in
       let b = drop_item ys i d k in
-      let c = get_any ys i d e k in
+      let c = get_or_default ys i d e k in
       cc
-
-module _ {K V : Type 0} where
-  -- A value stands alone: what is before it and after it stays.
-  around_value : (s : List (K × V)) (i : ℕ) (w : V) → (take i (set_value s i w) ≡ take i s) × (drop (suc i) (set_value s i w) ≡ drop (suc i) s)
-  around_value [] i w = (refl, refl)
-  around_value (e ∷ s) zero w = (refl, refl)
-  around_value (e ∷ s) (suc i) w = let r = around_value s i w in (ap (λ zs. e ∷ zs) r.0, r.1)
-
-  get_value : (s : List (K × V)) (i : ℕ) (w : V) (e d : K × V) → i < length s → e ≡ get_or s i e → get_or (set_value s i w) i d ≡ (e.0, w)
-  get_value [] i w e d h p = absurd (omega arith)
-  get_value (x ∷ s) zero w e d h p = ap (λ y. (y.0, w)) (sym p)
-  get_value (x ∷ s) (suc i) w e d h p = get_value s i w e d (omega arith) p
 
 module _ {K V Z : Type 0} where
   -- what is before a pair ends with the child before it, or is what leads there
@@ -118,43 +97,6 @@ module _ {K V Z : Type 0} where
           let m = before_less h n j i l lt le in
           omega arith
 
-  -- the node with another child
-  module _ (n : Node K V Z) (i : ℕ) (c : Node K V Z) where
-    abbrev m : Node K V Z
-    m = with_child n i c
-
-    pub child_before : before_child m i ≡ before_child n i
-    child_before =
-        ap (λ ds. before_list (map pairs_of ds) (take i (own_pairs m))) (ap (take i) (child_children n i c) ∙ take-set (children_of n) i c)
-        ∙ ap (λ ps. before_list (map pairs_of (take i (children_of n))) (take i ps)) (child_own n i c)
-
-    pub child_after_child : after_child m i ≡ after_child n i
-    child_after_child =
-        ap (λ ds. after_list (drop i (own_pairs m)) (map pairs_of ds)) (ap (drop (suc i)) (child_children n i c)
-        ∙ drop-set-lt (suc i) (children_of n) i c (omega arith))
-        ∙ ap (λ ps. after_list (drop i ps) (map pairs_of (drop (suc i) (children_of n)))) (child_own n i c)
-
-    pub child_there : i < length (children_of n) → child_at m i ≡ c
-    child_there lt = ap (λ ds. get_or ds i m) (child_children n i c) ∙ get_or-set_same (children_of n) i c m lt
-
-    pub child_after : drop (suc i) (children_of m) ≡ drop (suc i) (children_of n)
-    child_after = ap (drop (suc i)) (child_children n i c) ∙ drop-set-lt (suc i) (children_of n) i c (omega arith)
-
-    pub child_levels : (h : ℕ) → IsLevelled (suc h) n → IsBelow h c → IsLevelled (suc h) m
-    child_levels h l b =
-        let e : length (own_pairs m) ≡ length (own_pairs n) = ap length (child_own n i c) in
-        let f : length (children_of m) ≡ length (children_of n) = ap length (child_children n i c) ∙ length_set (children_of n) i c in
-        let g : length (children_of n) ≡ length (own_pairs n) + 1 = l.1 in
-        (omega (arith, l.0), omega arith, subst (AllByRecursion (IsBelow h)) (sym (child_children n i c)) (all_set (IsBelow h) (children_of n) i c l.2 b))
-
-  -- a child that was lent, and came back as d
-  module _ (n : Node K V Z) (cs : List (Node K V Z)) (i : ℕ) (is : (out-Node K V Z n).children ≡ Some cs) where
-    pub child_lent : (c : Node K V Z) → c ≡ get_or cs i c → i < length (children_of n) → c ≡ child_at n i
-    child_lent c at h = listed_child n i cs is i c (subst (λ ds. i < length ds) (children_in n cs is) h) at
-
-    pub child_back : (d : Node K V Z) → roll-Node K V Z (record { pairs = own_pairs n; children = Some (slice_set cs i d) }) ≡ with_child n i d
-    child_back d = ap (λ o. roll-Node K V Z (record { pairs = own_pairs n; children = option_map (λ ds. slice_set ds i d) o })) (sym is)
-
   -- the node with another value
   module _ (n : Node K V Z) (i : ℕ) (w : V) where
     abbrev v : Node K V Z
@@ -163,21 +105,10 @@ module _ {K V Z : Type 0} where
     pub value_before : before_own v i ≡ before_own n i
     value_before =
         ap (λ cs. weave (map pairs_of (take (suc i) cs)) (take i (own_pairs v))) (value_children n i w)
-        ∙ ap (weave (map pairs_of (take (suc i) (children_of n)))) (ap (take i) (value_own n i w) ∙ (around_value (own_pairs n) i w).0)
+        ∙ ap (weave (map pairs_of (take (suc i) (children_of n)))) (ap (take i) (value_own n i w) ∙ take_value (own_pairs n) i w)
 
     pub value_there : (e d : K × V) → i < length (own_pairs n) → e ≡ get_or (own_pairs n) i e → get_or (own_pairs v) i d ≡ (e.0, w)
-    value_there e d lt p = ap (λ s. get_or s i d) (value_own n i w) ∙ get_value (own_pairs n) i w e d lt p
-
-    pub value_length : length (own_pairs v) ≡ length (own_pairs n)
-    value_length = ap length (value_own n i w) ∙ length_value (own_pairs n) i w
+    value_there e d lt p = ap (λ s. get_or s i d) (value_own n i w) ∙ value_at (own_pairs n) i w e d lt p
 
     pub value_after : drop (suc i) (own_pairs v) ≡ drop (suc i) (own_pairs n)
-    value_after = ap (drop (suc i)) (value_own n i w) ∙ (around_value (own_pairs n) i w).1
-
-    pub value_levels : (h : ℕ) → IsLevelled h n → IsLevelled h v
-    value_levels zero l = let e = value_length in (omega (arith, l.0), field_made _ ∙ l.1)
-    value_levels (suc h) l =
-        let e = value_length in
-        let f : length (children_of v) ≡ length (children_of n) = ap length (value_children n i w) in
-        let g : length (children_of n) ≡ length (own_pairs n) + 1 = l.1 in
-        (omega (arith, l.0), omega arith, subst (AllByRecursion (IsBelow h)) (sym (value_children n i w)) l.2)
+    value_after = ap (drop (suc i)) (value_own n i w) ∙ drop_value (own_pairs n) i w

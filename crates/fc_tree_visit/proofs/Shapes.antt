@@ -6,8 +6,10 @@ use Rattle.fc_tree_node.specs.declared.node.Node.{Node}
 use Rattle.fc_tree_node.specs.Node.{own_pairs, children_of, child_at, pairs_of}
 use Rattle.fc_tree_node.specs.Path.{IsPath, before_gap}
 use Rattle.fc_tree_node.specs.Place.{before_child}
+use Rattle.fc_tree_node.proofs.Lent.{replaced}
+use Rattle.fc_tree_node.proofs.Lists.{take_lengths}
 use Rattle.fc_tree_search.specs.Written.{with_value, with_child}
-use Rattle.fc_tree_search.proofs.WrittenPairs.{length_value, value_own, value_children, child_own, child_children}
+use Rattle.fc_tree_search.proofs.WrittenPairs.{value_size, value_children}
 use Rattle.fc_tree_visit.specs.Shape.{IsSameAlong}
 
 module _ {X : Type 0} where
@@ -27,13 +29,6 @@ module _ {X : Type 0} where
       let a = length-append c (p ∷ before_list cs ps) in
       let b = length-append d (q ∷ before_list ds qs) in
       omega arith
-
-  take_lengths : (j : ℕ) (xs ys : List X) → length xs ≡ length ys → length (take j xs) ≡ length (take j ys)
-  take_lengths zero xs ys e = refl
-  take_lengths (suc j) [] [] e = refl
-  take_lengths (suc j) [] (y ∷ ys) e = absurd (omega arith)
-  take_lengths (suc j) (x ∷ xs) [] e = absurd (omega arith)
-  take_lengths (suc j) (x ∷ xs) (y ∷ ys) e = ap suc (take_lengths j xs ys (omega arith))
 
   -- an item of a list, or what stands for none
   get_case : (xs : List X) (j : ℕ) (d e : X) → (get_or xs j d ≡ get_or xs j e) ⊎ ((get_or xs j d ≡ d) × (get_or xs j e ≡ e))
@@ -69,7 +64,7 @@ module _ {K V Z : Type 0} where
   value_same [] n i w = tt
   value_same (j ∷ path) n i w =
       let v = with_value n i w in
-      let e = sym (ap length (value_own n i w) ∙ length_value (own_pairs n) i w) in
+      let e = sym (value_size n i w) in
       let cs = children_of n in
       let lead : length (before_child n j) ≡ length (before_child v j) =
       before_length (map pairs_of (take j cs)) (map pairs_of (take j (children_of v))) (take j (own_pairs n)) (take j (own_pairs v))
@@ -88,13 +83,14 @@ module _ {K V Z : Type 0} where
   child_same [] n i c lt e s = tt
   child_same (j ∷ path) n i c lt e s =
       let m = with_child n i c in
-      let own = sym (ap length (child_own n i c)) in
+      let s' = replaced n i c in
+      let own = sym s'.size in
       let cs = children_of n in
       let lead : length (before_child n j) ≡ length (before_child m j) =
       before_length (map pairs_of (take j cs)) (map pairs_of (take j (children_of m))) (take j (own_pairs n)) (take j (own_pairs m))
-      (lengths_set cs i j c n e ∙ ap (λ ds. map length (map pairs_of (take j ds))) (sym (child_children n i c)))
+      (lengths_set cs i j c n e ∙ ap (λ ds. map length (map pairs_of (take j ds))) (sym s'.child))
       (take_lengths j (own_pairs n) (own_pairs m) own) in
-      let at : child_at m j ≡ get_or (slice_set cs i c) j m = ap (λ ds. get_or ds j m) (child_children n i c) in
+      let at : child_at m j ≡ get_or (slice_set cs i c) j m = ap (λ ds. get_or ds j m) s'.child in
       (own, lead, subst (λ x. IsSameAlong path (child_at n j) x) (sym at) (go (set_case cs i j c n m lt) (child_same path n i c lt e s)))
     where
       go : ((get_or (children_of n) j n ≡ get_or (children_of n) i n) × (get_or (slice_set (children_of n) i c) j (with_child n i c) ≡ c))
@@ -110,12 +106,11 @@ module _ {K V Z : Type 0} where
   -- a path stays one, and as many pairs are before its end
   pub same_path : (path : List ℕ) (n m : Node K V Z) → IsSameAlong path n m → IsPath path n → IsPath path m
   same_path [] n m s p = tt
-  same_path (i ∷ path) n m s p = ((let a = s.0 in let b = p.0 in omega arith), same_path path (child_at n i) (child_at m i) s.2 p.1)
+  same_path (i ∷ path) n m s p = ((omega arith), same_path path (child_at n i) (child_at m i) s.2 p.1)
 
   pub same_before : (path : List ℕ) (n m : Node K V Z) → IsSameAlong path n m → length (before_gap path m) ≡ length (before_gap path n)
   same_before [] n m s = refl
   same_before (i ∷ path) n m s =
-      let a = s.1 in
       let b = same_before path (child_at n i) (child_at m i) s.2 in
       let c = length-append (before_child n i) (before_gap path (child_at n i)) in
       let d = length-append (before_child m i) (before_gap path (child_at m i)) in

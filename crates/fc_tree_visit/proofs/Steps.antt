@@ -1,5 +1,5 @@
 -- A walk from one gap of a tree to another: its steps in a node.
-use Rattle.std.proofs.Common.{◌≡◌, ℕ, zero, suc, ◌+◌, ◌<◌, ◌≤◌, List, [], ◌∷◌, ◌++◌, length, map, drop, get_or, refl, sym, ap, subst, ◌∙◌, append_assoc}
+use Rattle.std.proofs.Common.{◌≡◌, ℕ, suc, ◌+◌, ◌<◌, ◌≤◌, List, [], ◌∷◌, ◌++◌, length, map, drop, get_or, refl, sym, ap, subst, ◌∙◌, append_assoc}
 use Rattle.std.proofs.Common.{append-nil, arith}
 use Rattle.std.proofs.lemmas.List.{length-append}
 use Rattle.fc_tree_node.specs.declared.node.Node.{Node}
@@ -8,17 +8,17 @@ use Rattle.fc_tree_node.specs.Node.{own_pairs, children_of, child_at, pairs_of, 
 use Rattle.fc_tree_node.specs.Path.{IsPath, before_gap, after_gap}
 use Rattle.fc_tree_node.specs.Place.{before_child, after_child, before_own}
 use Rattle.fc_tree_search.specs.Written.{with_value, with_child}
-use Rattle.fc_tree_node.proofs.Formed.{leaf_or_inner}
-use Rattle.fc_tree_node.proofs.Pairs.{IsBelow, child_below}
+use Rattle.fc_tree_node.proofs.Formed.{one_height}
+use Rattle.fc_tree_node.proofs.Pairs.{IsBelow}
 use Rattle.fc_tree_node.proofs.Gaps.{inner_gap, before_child_pair, after_none, gap_pairs}
-use Rattle.fc_tree_search.proofs.WrittenPairs.{value_children, child_own}
+use Rattle.fc_tree_node.proofs.Lent.{replaced, replaced_levels}
+use Rattle.fc_tree_search.proofs.WrittenPairs.{value_children, value_size, value_levels}
 use Rattle.fc_tree_visit.specs.Shape.{IsSameAlong}
 use Rattle.fc_tree_visit.specs.Visits.{IsVisited, IsEnd}
 use Rattle.fc_tree_visit.proofs.Turns.{Grown, grown_more, grown_end, visits_one}
 use Rattle.fc_tree_visit.proofs.Left.{visited_length}
 use Rattle.fc_tree_visit.proofs.Shapes.{same_refl, same_trans, value_same, child_same}
-use Rattle.fc_tree_visit.proofs.Parts.{drop_next, drop_get, before_own_child, child_before, child_after_child, child_there, child_after, child_levels}
-use Rattle.fc_tree_visit.proofs.Parts.{value_before, value_there, value_length, value_after, value_levels}
+use Rattle.fc_tree_visit.proofs.Parts.{drop_next, drop_get, before_own_child, value_before, value_there, value_after}
 
 module _ {K V Z : Type 0} where
   -- the first step of an end, or the one that stands for none
@@ -70,22 +70,12 @@ module _ {K V Z : Type 0} where
       → child_at now i ≡ child_at old i
   kept_child h old now i l k le =
       let m = k.levels (suc h) l in
-      let s = k.same in
-      let a : length (children_of now) ≡ length (own_pairs now) + 1 = m.1 in
-      let b : length (children_of old) ≡ length (own_pairs old) + 1 = l.1 in
       drop_get (children_of now) (children_of old) i now old k.below (omega arith) (omega arith)
 
   pub kept_rest : (old now : Node K V Z) (i : ℕ) → IsKept old now i i → after_child now i ≡ after_child old i
   kept_rest old now i k =
       ap (λ ps. after_list ps (map pairs_of (drop (suc i) (children_of now)))) k.own
       ∙ ap (λ cs. after_list (drop i (own_pairs old)) (map pairs_of cs)) (drop_next i (children_of now) (children_of old) k.below)
-
-  -- the leaves of a tree lie on one level
-  pub one_height : (h j : ℕ) (n : Node K V Z) → IsLevelled h n → IsLevelled j n → h ≡ j
-  one_height zero zero n l q = refl
-  one_height zero (suc j) n l q = absurd (leaf_or_inner n l.1 q.1)
-  one_height (suc h) zero n l q = absurd (leaf_or_inner n q.1 l.1)
-  one_height (suc h) (suc j) n l q = ap suc (one_height h j (child_at n 0) (child_below h n 0 l (omega arith)).1 (child_below j n 0 q (omega arith)).1)
 
 module _ {F K V Z : Type 0} (R : F → K × V → F → V → Type 0) where
   -- after the pair at a place
@@ -95,19 +85,19 @@ module _ {F K V Z : Type 0} (R : F → K × V → F → V → Type 0) where
   own_step h old n i e w first f g front l k lt grown r p =
       let s = k.same in
       let m = with_value n i w in
-      let vl = value_length n i w in
+      let vl = value_size n i w in
       let there : get_or (own_pairs old) i e ≡ e = sym (drop_get (own_pairs n) (own_pairs old) i e e k.own (omega arith) lt) ∙ sym p in (
         record {
           same = vl ∙ s;
           own = value_after n i w ∙ drop_next i (own_pairs n) (own_pairs old) k.own;
           below = ap (drop (suc i)) (value_children n i w) ∙ k.below;
-          levels = λ j q. value_levels n i w j (k.levels j q);
+          levels = λ j q. value_levels j n i w (k.levels j q);
           shape = λ q. same_trans q old n m (k.shape q) (value_same q n i w);
         },
         grown_more R first f g front (before_own old i) (before_own n i) (e ∷ []) ((e.0, w) ∷ []) (before_child old (suc i)) (before_child m (suc i)) grown
             (visits_one R e f g w r)
             (before_child_pair h old i e l lt ∙ ap (λ x. before_own old i ++ x ∷ []) there)
-            (before_child_pair h m i e (value_levels n i w h (k.levels h l)) (omega arith)
+            (before_child_pair h m i e (value_levels h n i w (k.levels h l)) (omega arith)
             ∙ ap (λ x. before_own m i ++ x ∷ []) (value_there n i w e e (omega arith) p) ∙ ap (λ zs. zs ++ (e.0, w) ∷ []) (value_before n i w)),
       )
 
@@ -116,9 +106,7 @@ module _ {F K V Z : Type 0} (R : F → K × V → F → V → Type 0) where
       → i ≤ length (own_pairs old) → c ≡ child_at n i → IsVisited R f g (before_gap rest c) (after_gap to c) (pairs_of c) (pairs_of c')
       → ((p : List ℕ) → IsSameAlong p c c') → (path : List ℕ) → IsSameAlong path old (with_child n i c')
   child_shape h old n c c' i rest to f g l k le is v s path =
-      let same = k.same in
       let ln = k.levels (suc h) l in
-      let many : length (children_of n) ≡ length (own_pairs n) + 1 = ln.1 in
       let e : length (pairs_of (child_at n i)) ≡ length (pairs_of c') = ap (λ x. length (pairs_of x)) (sym is)
       ∙ sym (visited_length R f g (before_gap rest c) (after_gap to c) (pairs_of c) (pairs_of c') v) in
       same_trans path old n (with_child n i c') (k.shape path) (child_same path n i c' (omega arith) e (λ p. subst (λ x. IsSameAlong p x c') is (s p)))
@@ -132,17 +120,15 @@ module _ {F K V Z : Type 0} (R : F → K × V → F → V → Type 0) where
   child_step h old n c c' i rest first f g front l k lt grown is v b shape =
       let s = k.same in
       let m = with_child n i c' in
+      let r = replaced n i c' in
       let ln = k.levels (suc h) l in
-      let own = child_own n i c' in
-      let ol = ap length own in
-      let many : length (children_of n) ≡ length (own_pairs n) + 1 = ln.1 in
       let was : c ≡ child_at old i = is ∙ kept_child h old n i l k (omega arith) in
       let B = before_gap rest (child_at old i) in
       let bs : before_gap rest c ≡ B = ap (before_gap rest) was in (
         record {
-          same = ol ∙ s;
-          own = ap (drop i) own ∙ k.own;
-          below = child_after n i c' ∙ drop_next i (children_of n) (children_of old) k.below;
+          same = r.size ∙ s;
+          own = ap (drop i) r.same ∙ k.own;
+          below = r.rest ∙ drop_next i (children_of n) (children_of old) k.below;
           levels = λ j q. kept_levels j q;
           shape = child_shape h old n c c' i rest [] f g l k (omega arith) is v shape;
         },
@@ -150,14 +136,15 @@ module _ {F K V Z : Type 0} (R : F → K × V → F → V → Type 0) where
             (before_own_child h old i l lt ∙ ap (λ d. before_child old i ++ pairs_of d) (sym was)
             ∙ ap (λ zs. before_child old i ++ zs) (v.old_is ∙ ap (λ zs. zs ++ (v.within ++ [])) bs ∙ ap (λ zs. B ++ zs) (append-nil v.within))
             ∙ sym (append_assoc (before_child old i) B v.within))
-            (before_own_child h m i (child_levels n i c' h ln b) (omega arith) ∙ ap (λ d. before_child m i ++ pairs_of d) (child_there n i c' (omega arith))
-            ∙ ap (λ zs. zs ++ pairs_of c') (child_before n i c')
+            (before_own_child h m i (replaced_levels h r ln b) (omega arith) ∙ ap (λ d. before_child m i ++ pairs_of d) (r.here (omega arith))
+            ∙ ap (λ zs. zs ++ pairs_of c') r.before
             ∙ ap (λ zs. before_child n i ++ zs) (v.new_is ∙ ap (λ zs. zs ++ (v.left ++ [])) bs ∙ ap (λ zs. B ++ zs) (append-nil v.left))
             ∙ sym (append_assoc (before_child n i) B v.left)),
       )
     where
       kept_levels : (j : ℕ) → IsLevelled j old → IsLevelled j (with_child n i c')
-      kept_levels j q = subst (λ x. IsLevelled x (with_child n i c')) (one_height (suc h) j old l q) (child_levels n i c' h (k.levels (suc h) l) b)
+      kept_levels j q = subst (λ x. IsLevelled x (with_child n i c')) (one_height (suc h) j old l q)
+          (replaced_levels h (replaced n i c') (k.levels (suc h) l) b)
 
   -- after the last child, which was visited between two ends
   pub child_end : (h : ℕ) (old n c c' : Node K V Z) (i : ℕ) (rest to : List ℕ) (first f g : F) (front : List (K × V)) → IsLevelled (suc h) old
@@ -166,13 +153,10 @@ module _ {F K V Z : Type 0} (R : F → K × V → F → V → Type 0) where
       → c ≡ child_at n i → IsVisited R f g (before_gap rest c) (after_gap to c) (pairs_of c) (pairs_of c') → IsBelow h c'
       → IsVisited R first g front (after_gap to (child_at old i) ++ after_child old i) (pairs_of old) (pairs_of (with_child n i c'))
   child_end h old n c c' i rest to first f g front l k le grown is v b =
-      let s = k.same in
       let m = with_child n i c' in
+      let r = replaced n i c' in
       let ln = k.levels (suc h) l in
-      let own = child_own n i c' in
-      let ol = ap length own in
-      let lm = child_levels n i c' h ln b in
-      let many : length (children_of n) ≡ length (own_pairs n) + 1 = ln.1 in
+      let lm = replaced_levels h r ln b in
       let was : c ≡ child_at old i = is ∙ kept_child h old n i l k le in
       let B = before_gap rest (child_at old i) in
       let A = after_gap to (child_at old i) in
@@ -186,9 +170,9 @@ module _ {F K V Z : Type 0} (R : F → K × V → F → V → Type 0) where
       ∙ ap (λ zs. before_child old i ++ (zs ++ after_child old i))
       (v.old_is ∙ ap (λ zs. zs ++ (v.within ++ after_gap to c)) bs ∙ ap (λ zs. B ++ (v.within ++ zs)) ends)
       ∙ regroup (before_child old i) B v.within A (after_child old i))
-      (inner_gap m i lm.1 (omega arith) ∙ ap (λ d. before_child m i ++ (pairs_of d ++ after_child m i)) (child_there n i c' (omega arith))
-      ∙ ap (λ zs. zs ++ (pairs_of c' ++ after_child m i)) (child_before n i c')
-      ∙ ap (λ zs. before_child n i ++ (pairs_of c' ++ zs)) (child_after_child n i c' ∙ kept_rest old n i k)
+      (inner_gap m i lm.1 (omega arith) ∙ ap (λ d. before_child m i ++ (pairs_of d ++ after_child m i)) (r.here (omega arith))
+      ∙ ap (λ zs. zs ++ (pairs_of c' ++ after_child m i)) r.before
+      ∙ ap (λ zs. before_child n i ++ (pairs_of c' ++ zs)) (r.after ∙ kept_rest old n i k)
       ∙ ap (λ zs. before_child n i ++ (zs ++ after_child old i)) (v.new_is ∙ ap (λ zs. zs ++ (v.left ++ after_gap to c)) bs
       ∙ ap (λ zs. B ++ (v.left ++ zs)) ends) ∙ regroup (before_child n i) B v.left A (after_child old i))
     where

@@ -1,22 +1,23 @@
 -- A walk from one gap of a tree to another: where it stands in a node.
-use Rattle.std.proofs.Common.{◌≡◌, ℕ, zero, suc, ◌+◌, ◌<◌, ◌≤◌, List, [], ◌∷◌, ◌++◌, length, drop, get_or, slice_set, refl, sym, ap, subst, ◌∙◌, append-nil}
-use Rattle.std.proofs.Common.{arith, Some}
-use Rattle.std.proofs.lemmas.List.{length-append}
+use Rattle.std.proofs.Common.{◌≡◌, ℕ, zero, suc, ◌+◌, ◌<◌, ◌≤◌, List, [], ◌∷◌, ◌++◌, length, drop, get_or, refl, sym, ap, subst, ◌∙◌, append-nil}
+use Rattle.std.proofs.Common.{arith}
+use Rattle.std.proofs.lemmas.List.{length-append, get_or_read}
 use Rattle.fc_base.specs.Sizes.{min_len}
-use Rattle.fc_tree_node.specs.declared.node.Node.{Node, out-Node, roll-Node}
+use Rattle.fc_tree_node.specs.declared.node.Node.{Node}
 use Rattle.fc_tree_node.specs.Node.{own_pairs, children_of, child_at, pairs_of, IsLevelled, IsLeaf}
 use Rattle.fc_tree_node.specs.Path.{before_gap, after_gap}
 use Rattle.fc_tree_node.specs.Place.{before_child, after_child, before_own}
 use Rattle.fc_tree_search.specs.Written.{with_value, with_child}
 use Rattle.fc_tree_search.proofs.Nodes.{nodes_of, fewer_nodes}
-use Rattle.fc_tree_node.proofs.Formed.{leaf_or_inner}
+use Rattle.fc_tree_node.proofs.Formed.{leaf_or_inner, one_height}
 use Rattle.fc_tree_node.proofs.Pairs.{IsBelow, child_below}
+use Rattle.fc_tree_node.proofs.Lent.{replaced, replaced_levels}
 use Rattle.fc_tree_node.proofs.Gaps.{inner_gap, leaf_gap}
 use Rattle.fc_tree_visit.specs.Shape.{IsSameAlong}
 use Rattle.fc_tree_visit.specs.Visits.{IsVisited, IsEnd}
 use Rattle.fc_tree_visit.proofs.Turns.{Grown, grown_start, grown_end}
-use Rattle.fc_tree_visit.proofs.Parts.{in_order, drop_next, before_leaf, child_levels, child_lent, child_back}
-use Rattle.fc_tree_visit.proofs.Steps.{IsFirstStep, from_step, to_step, after_within, before_within, IsKept, kept_all, kept_child, kept_rest, one_height}
+use Rattle.fc_tree_visit.proofs.Parts.{in_order, drop_next, before_leaf}
+use Rattle.fc_tree_visit.proofs.Steps.{IsFirstStep, from_step, to_step, after_within, before_within, IsKept, kept_all, kept_child, kept_rest}
 use Rattle.fc_tree_visit.proofs.Steps.{own_step, child_step, child_shape, child_end}
 
 none : (p : List ℕ) → (0 < length p → length p ≡ 0) → p ≡ []
@@ -149,9 +150,6 @@ module _ {F K V Z : Type 0} (R : F → K × V → F → V → Type 0) where
       → IsAt old now first f from i end rest back → i < length (children_of now)
   child_room {now = now} s at =
       let many : length (children_of now) ≡ length (own_pairs now) + 1 = (at.kept.levels (suc s.h) s.levels).1 in
-      let le = at.le in
-      let last = s.steps.last.le in
-      let same = at.kept.same in
       omega arith
 
   -- the child at the place of a walk, lent out of the node's list
@@ -161,26 +159,21 @@ module _ {F K V Z : Type 0} (R : F → K × V → F → V → Type 0) where
     pub fewer : nodes_of c < nodes_of old
 
   pub lent : {old now c : Node K V Z} {first f : F} {from to front back rest : List ℕ} {start i end : ℕ} (s : AreInner old from to start end front back)
-      → IsAt old now first f from i end rest back → (cs : List (Node K V Z)) → (out-Node K V Z now).children ≡ Some cs → c ≡ get_or cs i c
-      → IsLent s.h old now c i rest
-  lent {old = old} {now = now} {c = c} {first = first} {f = f} {from = from} {back = back} {rest = rest} {i = i} {end = end} s at cs e p =
-      let is = child_lent now cs i e c p (child_room s at) in
+      → IsAt old now first f from i end rest back → c ≡ get_or (children_of now) i c → IsLent s.h old now c i rest
+  lent {old = old} {now = now} {c = c} {first = first} {f = f} {from = from} {back = back} {rest = rest} {i = i} {end = end} s at p =
+      let is = get_or_read (children_of now) i c (child_room s at) p now in
       let r = reached s.h old now c first f from i end rest back s.levels s.steps.last.le at is in
-      let many : length (children_of old) ≡ length (own_pairs old) + 1 = s.levels.1 in
-      let le = at.le in
-      let last = s.steps.last.le in
       record { is = is; child = r; fewer = fewer_nodes old c i (omega arith) r.is }
 
   -- it comes back as sound as it was
   pub below_back : {h : ℕ} {old now c c' : Node K V Z} {i : ℕ} {rest : List ℕ} → IsLent h old now c i rest → length (own_pairs c') ≡ length (own_pairs c)
       → ((j : ℕ) → IsLevelled j c → IsLevelled j c') → IsBelow h c'
-  below_back {h = h} l size levels = let some = l.child.some in (omega arith, levels h l.child.levels)
+  below_back {h = h} l size levels = (omega arith, levels h l.child.levels)
 
   -- at the last child
   pub at_last : {old now : Node K V Z} {first f : F} {from to rest : List ℕ} {i end : ℕ} → IsAt old now first f from i end rest to → end ≤ i
       → IsAt old now first f from end end rest to
   at_last {old = old} {now = now} {first = first} {f = f} {from = from} {to = to} {rest = rest} {i = i} {end = end} at ge =
-      let le = at.le in
       let e : i ≡ end = omega arith in
       subst (λ j. IsAt old now first f from j end rest to) e at
 
@@ -226,20 +219,19 @@ module _ {F K V Z : Type 0} (R : F → K × V → F → V → Type 0) where
     pub visited : IsVisited R first g (before_gap from old) (after_gap to old) (pairs_of old) (pairs_of new)
 
   pub over : {old now c c' : Node K V Z} {first f g : F} {from to front back rest : List ℕ} {start end : ℕ} (s : AreInner old from to start end front back)
-      → IsAt old now first f from end end rest back → (cs : List (Node K V Z)) → (out-Node K V Z now).children ≡ Some cs → c ≡ get_or cs end c
+      → IsAt old now first f from end end rest back → c ≡ get_or (children_of now) end c
       → IsVisited R f g (before_gap rest c) (after_gap back c) (pairs_of c) (pairs_of c') → length (own_pairs c') ≡ length (own_pairs c)
-      → ((j : ℕ) → IsLevelled j c → IsLevelled j c') → ((p : List ℕ) → IsSameAlong p c c')
-      → IsOver old (roll-Node K V Z (record { pairs = own_pairs now; children = Some (slice_set cs end c') })) first g from to
+      → ((j : ℕ) → IsLevelled j c → IsLevelled j c') → ((p : List ℕ) → IsSameAlong p c c') → IsOver old (with_child now end c') first g from to
   over {old = old} {now = now} {c = c} {c' = c'} {first = first} {f = f} {g = g} {from = from} {to = to} {front = front} {back = back} {rest = rest}
-      {start = start} {end = end} s at cs e p v size levels shape =
-      let x = lent s at cs e p in
+      {start = start} {end = end} s at p v size levels shape =
+      let x = lent s at p in
       let b = below_back x size levels in
-      let kept = child_levels now end c' s.h (at.kept.levels (suc s.h) s.levels) b in
-      subst (λ y. IsOver old y first g from to) (sym (child_back now cs end e c')) (record {
+      let kept = replaced_levels s.h (replaced now end c') (at.kept.levels (suc s.h) s.levels) b in
+      record {
         levels = λ h l. subst (λ k. IsLevelled k (with_child now end c')) (one_height (suc s.h) h old s.levels l) kept;
         shape = child_shape R s.h old now c c' end rest back f g s.levels at.kept s.steps.last.le x.is v shape;
         visited = at_end s.h old now c c' first f g from to start end end front rest back s.levels s.steps at refl x.is v b;
-      })
+      }
 
   -- a leaf's pair
   pub leaf_step : (old n n' : Node K V Z) (i : ℕ) (e : K × V) (w : V) (first f g : F) (front : List (K × V)) → IsLevelled 0 old → IsKept old n i i
@@ -247,7 +239,6 @@ module _ {F K V Z : Type 0} (R : F → K × V → F → V → Type 0) where
       → n' ≡ with_value n i w
       → IsKept old n' (suc i) (suc i) × Grown R first g front (before_child old (suc i)) (before_child n' (suc i))
   leaf_step old n n' i e w first f g front l k lt grown r p is =
-      let s = k.same in
       let more : IsKept old n i (suc i) = record {
         same = k.same;
         own = k.own;

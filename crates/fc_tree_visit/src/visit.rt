@@ -9,8 +9,8 @@ ghost use Rattle.fc_tree_visit.specs.Shape.{IsSameAlong};
 ghost use Rattle.fc_tree_visit.specs.Visits.{CalledAtPair, IsVisited, IsEnd};
 
 use fc_base::Handle;
+use fc_tree_node::lend::child_in;
 use fc_tree_node::node::Node;
-use fc_tree_search::lend::content;
 
 /// Calls the closure at each pair below the node between two gaps, in order, with its value lent for writing. A path leads to each
 /// gap; one without steps stands for the end of the tree on its side. No memory is taken, and no node on the other side of a gap is
@@ -38,11 +38,11 @@ pub fn visit<K, V, F: FnMut(&K, &mut V), A: Handle>(
     }
     let mut rest = rest;
     for i in start..end {
-        visit(content(&mut node.children).get_mut(i), rest, &[], f);
+        visit(child_in(&mut node.children, i), rest, &[], f);
         visit_own(node, i, f);
         rest = &[];
     }
-    visit(content(&mut node.children).get_mut(end), rest, to_rest, f);
+    visit(child_in(&mut node.children, end), rest, to_rest, f);
 }
 
 // The first step of a path and those after it; where it has none, the step that stands for the end.

@@ -36,7 +36,7 @@ module _ {K V Z : Type 0} where
 
   pub around_gap : (h : ℕ) (n : Node K V Z) (i : ℕ) → IsLevelled h n → length (children_of n) ≤ i → i ≤ length (own_pairs n) → IsAround n i []
   around_gap zero n i l c le = leaf_gap n i l.1
-  around_gap (suc h) n i l c le = absurd (let e : length (children_of n) ≡ length (own_pairs n) + 1 = l.1 in omega arith)
+  around_gap (suc h) n i l c le = absurd (omega arith)
 
   pub around_child : (h : ℕ) (n c : Node K V Z) (i : ℕ) → IsLevelled h n → i < length (children_of n) → c ≡ child_at n i → IsAround n i (pairs_of c)
   around_child h n c i l k is = let s = step_levels h n i l k in subst (λ d. IsAround n i (pairs_of d)) (sym is) (inner_gap n i s.4 s.3)
@@ -125,7 +125,7 @@ module _ {K V Z : Type 0} where
   next_below : (i : ℕ) (rest : List ℕ) (h : ℕ) (n : Node K V Z) (steps : ℕ) → i ≤ length (own_pairs n) → IsLevelled (suc h) n → IsNext rest (child_at n i) steps
       → 0 < steps → IsNext (i ∷ rest) n (suc steps)
   next_below i rest h n zero le l x k = absurd (omega arith)
-  next_below i [] h n (suc steps) le l x k = absurd (let w : suc steps ≤ 0 = x.within in omega arith)
+  next_below i [] h n (suc steps) le l x k = absurd (omega arith)
   next_below i (j ∷ rest) h n (suc steps) le l x k =
       let e : length (children_of n) ≡ length (own_pairs n) + 1 = l.1 in
       record {
@@ -193,7 +193,7 @@ module _ {K V Z : Type 0} where
   last_below : (i : ℕ) (rest : List ℕ) (h : ℕ) (n : Node K V Z) (steps : ℕ) → i ≤ length (own_pairs n) → IsLevelled (suc h) n → IsLast rest (child_at n i) steps
       → 0 < steps → IsLast (i ∷ rest) n (suc steps)
   last_below i rest h n zero le l x k = absurd (omega arith)
-  last_below i [] h n (suc steps) le l x k = absurd (let w : suc steps ≤ 0 = x.within in omega arith)
+  last_below i [] h n (suc steps) le l x k = absurd (omega arith)
   last_below i (j ∷ rest) h n (suc steps) le l x k =
       let e : length (children_of n) ≡ length (own_pairs n) + 1 = l.1 in
       let p = x.place k in
@@ -244,8 +244,8 @@ module _ {K V Z : Type 0} where
     where
       one : (h : ℕ) → IsLevelled h n → 1 ≡ h + 1
       one zero m = refl
-      one (suc h) m = absurd (let e : length (children_of n) ≡ length (own_pairs n) + 1 = m.1 in omega arith)
-  goes_leaf old i (suc h) n l c le = absurd (let e : length (children_of n) ≡ length (own_pairs n) + 1 = l.1 in omega arith)
+      one (suc h) m = absurd (omega arith)
+  goes_leaf old i (suc h) n l c le = absurd (omega arith)
 
   -- and one that goes on below a child
   pub goes_child : (old new : List ℕ) (i h : ℕ) (n : Node K V Z) (count : ℕ) → IsLevelled (suc h) n → i ≤ length (own_pairs n)
@@ -260,7 +260,6 @@ module _ {K V Z : Type 0} where
     where
       deep : (k : ℕ) → IsLevelled k n → suc (length g.0) ≡ k + 1
       deep zero m =
-          let e : length (children_of n) ≡ length (own_pairs n) + 1 = l.1 in
           let f : length (children_of n) ≡ 0 = ap length (leaf_children n m.1) in
           absurd (omega arith)
       deep (suc k) m = let d = g.2.1 k (child_below k n i m le).1 in omega arith
@@ -301,8 +300,6 @@ module _ {K V Z : Type 0} where
       → ((h : ℕ) × IsLevelled h c × (length mid + h < most_levels)) × (length mid ≡ length old + 1) × (length mid < most_levels)
   step_down old mid i n c l k m is =
       let s = step_levels l.0 n i l.1 k in
-      let e = s.1 in
-      let f = l.2 in
       let p = ap length m ∙ length-append old (i ∷ []) in
       ((s.0, subst (IsLevelled s.0) (sym is) s.2, omega arith), p, omega arith)
 
@@ -358,19 +355,6 @@ module _ {K V Z : Type 0} where
   step_small (j ∷ gap) (suc i) zero n l e w k = absurd (omega arith)
   step_small (j ∷ gap) (suc i) (suc h) n l e w k = step_small gap i h (child_at n j) (child_below h n j l w.0).1 (omega arith) w.1 (omega arith)
 
-  -- the levels of a tree are of one height
-  pub one_height : (h k : ℕ) (n : Node K V Z) → IsLevelled h n → IsLevelled k n → h ≡ k
-  one_height zero zero n l m = refl
-  one_height zero (suc k) n l m =
-      let e : length (children_of n) ≡ 0 = ap length (leaf_children n l.1) in
-      let f : length (children_of n) ≡ length (own_pairs n) + 1 = m.1 in
-      absurd (omega arith)
-  one_height (suc h) zero n l m =
-      let e : length (children_of n) ≡ 0 = ap length (leaf_children n m.1) in
-      let f : length (children_of n) ≡ length (own_pairs n) + 1 = l.1 in
-      absurd (omega arith)
-  one_height (suc h) (suc k) n l m = ap suc (one_height h k (child_at n 0) (child_below h n 0 l (omega arith)).1 (child_below k n 0 m (omega arith)).1)
-
   -- the one step of a short path to a pair
   pub end_step : (place : List ℕ) (n : Node K V Z) → IsPlace place n → length place ≤ 1 → place ≡ get_or place 0 0 ∷ []
   end_step [] n p h = absurd p
@@ -387,7 +371,6 @@ module _ {K V Z : Type 0} where
   next_slot h n gap next last steps l g x e is =
       let s : steps ≡ suc last = sym e ∙ add-one last in
       let y = subst (IsNext gap n) s x in
-      let w : suc last ≤ length gap = y.within in
       let t = length_take last gap (omega arith) in
       let r = pair_after_gap gap last (length gap - last - 1) h n l (g.1 h l) g.0 (omega arith) (y.place (omega arith)) in
       let same : next ≡ take last gap ++ (get_or gap last 0 + 1) ∷ zeros (length gap - last - 1) = is
@@ -418,7 +401,6 @@ module _ {K V Z : Type 0} where
   place_back n gap place last steps x e is =
       let s : steps ≡ suc last = sym e ∙ add-one last in
       let y = subst (IsLast gap n) s x in
-      let w : suc last ≤ length gap = y.within in
       let same : one_back (take (suc last) gap) ≡ place = back_is gap last (omega arith) ∙ sym is in (
         subst (λ p. IsPlace p n) same (y.place (omega arith)),
         subst (λ p. length (before_pair p n) + 1 ≡ length (before_gap gap n)) same

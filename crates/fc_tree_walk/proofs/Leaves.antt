@@ -3,7 +3,7 @@ use Rattle.std.proofs.Common.{◌≡◌, ℕ, zero, suc, ◌+◌, ◌-◌, ◌<�
 use Rattle.std.proofs.Common.{Bool, true, false, IsTrue, Some, None, ◌⊎◌, inl, inr, length-append, append_assoc, append-nil}
 use Rattle.std.specs.Prelude.{◌↔◌, if◌then◌else◌, slice_range, slice_set}
 use Rattle.std.proofs.lemmas.Bool.{cases_lt}
-use Rattle.std.proofs.lemmas.List.{set-get_or, get_or-set_same}
+use Rattle.std.proofs.lemmas.List.{set-get_or, get_or-set_same, nil_from_length}
 use Rattle.fc_tree_node.specs.declared.node.Node.{Node}
 use Rattle.fc_tree_node.specs.Leaf.{leaf_at}
 use Rattle.fc_tree_node.specs.LeafGap.{IsLeafGap}
@@ -20,15 +20,11 @@ use Rattle.fc_tree_walk.specs.Span.{between}
 use Rattle.fc_tree_walk.proofs.Meetings.{earlier}
 use Rattle.fc_tree_walk.proofs.Slices.{slice_none, slice_length, slice_split, slice_inner}
 
-pub no_items : (q : List ℕ) → length q ≡ 0 → q ≡ []
-no_items [] e = refl
-no_items (x ∷ q) e = absurd (omega arith)
-
 -- A path with the last step of another one that leads to the same leaf is that one.
 same_set : (g q : List ℕ) (h : ℕ) → length g ≡ h + 1 → length q ≡ h + 1 → take h g ≡ take h q → slice_set g h (get_or q h 0) ≡ q
 same_set [] q h a b e = absurd (omega arith)
 same_set (x ∷ g) [] h a b e = absurd (omega arith)
-same_set (x ∷ g) (y ∷ q) zero a b e = ap (λ r. y ∷ r) (no_items g (omega arith) ∙ sym (no_items q (omega arith)))
+same_set (x ∷ g) (y ∷ q) zero a b e = ap (λ r. y ∷ r) (nil_from_length g (omega arith) ∙ sym (nil_from_length q (omega arith)))
 same_set (x ∷ g) (y ∷ q) (suc h) a b e =
     let s : x ≡ y = cc in
     let t : take h g ≡ take h q = cc in
@@ -36,7 +32,7 @@ same_set (x ∷ g) (y ∷ q) (suc h) a b e =
 
 -- A path with another last step.
 other_last : (g : List ℕ) (h j : ℕ) → length g ≡ h + 1 → slice_set g h j ≡ take h g ++ j ∷ []
-other_last g h j e = set_is g h j (omega arith) ∙ ap (λ r. take h g ++ j ∷ r) (no_items (drop (suc h) g) (dropped g h e))
+other_last g h j e = set_is g h j (omega arith) ∙ ap (λ r. take h g ++ j ∷ r) (nil_from_length (drop (suc h) g) (dropped g h e))
   where
     dropped : (g : List ℕ) (h : ℕ) → length g ≡ h + 1 → length (drop (suc h) g) ≡ 0
     dropped [] h e = refl
@@ -302,7 +298,6 @@ module _ {K V Z : Type 0} where
         let now = here front w in
         let s = (cut_of front w).count (get_or back h 0) o.0 in
         let same = o.1 in
-        let le = ends.2 in
         (front_took front back w (get_or back h 0) ends.1 (omega arith) o.0 (omega arith), slice_none (pairs_of n) _ _ (s ∙ sym same))
 
     front_leaves : (front back : List ℕ) → AreEndsIn (Some n) front back → (take h front ≡ take h back → ⊥)
@@ -324,7 +319,6 @@ module _ {K V Z : Type 0} where
         let now = here back w in
         let s = (cut_of back w).count (get_or front h 0) o.0 in
         let same = o.1 in
-        let le = ends.2 in
         (back_took front back w (get_or front h 0) ends.0 (omega arith) (omega arith), slice_none (pairs_of n) _ _ (same ∙ sym s))
 
     back_leaves : (front back : List ℕ) → AreEndsIn (Some n) front back → (take h back ≡ take h front → ⊥)

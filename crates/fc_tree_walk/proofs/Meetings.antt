@@ -1,7 +1,8 @@
 -- Two paths down one tree to gaps of leaves are the same where as many pairs are before the one as before the other.
-use Rattle.std.proofs.Common.{◌≡◌, ℕ, zero, suc, ◌+◌, ◌-◌, ◌<◌, ◌≤◌, List, [], ◌∷◌, ◌++◌, length, refl, sym, ap, subst, ◌∙◌, arith, ◌⊎◌, inl, inr}
+use Rattle.std.proofs.Common.{◌≡◌, ℕ, zero, suc, ◌+◌, ◌-◌, ◌<◌, ◌≤◌, List, [], ◌∷◌, ◌++◌, length, sym, ap, subst, ◌∙◌, arith, ◌⊎◌, inl, inr}
 use Rattle.std.proofs.Common.{length-append}
 use Rattle.std.proofs.lemmas.Bool.{cases_lt}
+use Rattle.std.proofs.lemmas.List.{nil_from_length}
 use Rattle.fc_tree_node.specs.declared.node.Node.{Node}
 use Rattle.fc_tree_node.specs.Node.{own_pairs, child_at, pairs_of, IsLevelled}
 use Rattle.fc_tree_node.specs.Path.{IsPath, before_gap}
@@ -84,11 +85,7 @@ module _ {K V Z : Type 0} where
   same_path h n (i ∷ p) [] l v w e f g = absurd (omega arith)
   same_path zero n (i ∷ p) (j ∷ q) l v w e f g =
       let s = first_step zero n i j p q l v w (omega arith) (omega arith) g in
-      ap (λ k. k ∷ p) s ∙ ap (λ r. j ∷ r) (no_items p (omega arith) ∙ sym (no_items q (omega arith)))
-    where
-      no_items : (q : List ℕ) → length q ≡ 0 → q ≡ []
-      no_items [] e = refl
-      no_items (x ∷ q) e = absurd (omega arith)
+      ap (λ k. k ∷ p) s ∙ ap (λ r. j ∷ r) (nil_from_length p (omega arith) ∙ sym (nil_from_length q (omega arith)))
   same_path (suc h) n (i ∷ p) (j ∷ q) l v w e f g =
       let s = first_step (suc h) n i j p q l v w (omega arith) (omega arith) g in
       let x = subst (λ k. IsPath q (child_at n k)) (sym s) w.1 in

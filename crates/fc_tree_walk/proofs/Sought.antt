@@ -28,7 +28,7 @@ module _ {K V Z : Type 0} where
 
   -- Found ends are ends, with the same pairs between.
   pub ends_found : (m : Map K V Z) (front back : List ℕ) → IsSoundMap m → AreEndsIn m front back → AreEndsSoughtIn m front back
-  ends_found m front back o e = let le = e.2 in let same = back_of_gap m back o e.1 in (inr e.0, inr e.1, omega arith)
+  ends_found m front back o e = let same = back_of_gap m back o e.1 in (inr e.0, inr e.1, omega arith)
 
   pub left_found : (m : Map K V Z) (front back : List ℕ) → IsSoundMap m → AreEndsIn m front back → between m front back ≡ left_between m front back
   left_found m front back o e = ap (slice_range (entries m) (length (before_gap_in m front))) (back_of_gap m back o e.1)

@@ -9,12 +9,11 @@ use Rattle.std.specs.declared.cmp.Ordering.TheVariants.{Less, Equal, Greater}
 use Rattle.std.specs.declared.ops.Bound.{Bound}
 use Rattle.std.specs.declared.ops.Bound.TheVariants.{Included, Excluded, Unbounded}
 use Rattle.std.proofs.lemmas.Bool.{cases_lt}
-use Rattle.std.proofs.lemmas.List.Elements.{filter-append}
+use Rattle.std.proofs.lemmas.List.Elements.{filter-append, filter_agree}
 use Rattle.fc_base.specs.Ascending.{IsAscending}
 use Rattle.fc_base.specs.Query.{IsQueryOrder}
 use Rattle.fc_base.specs.Ranges.{bound_by, starts, stops, within}
-use Rattle.fc_base.proofs.AscendingFacts.{all_map}
-use Rattle.fc_base.proofs.JoinedLaws.{kept, left_out}
+use Rattle.fc_base.proofs.AscendingFacts.{all_map, kept, left_out}
 use Rattle.fc_base.proofs.Laws.{ascending_back, smaller_ahead}
 use Rattle.fc_tree_node.specs.declared.node.Node.{Node}
 use Rattle.fc_tree_node.specs.Node.{own_pairs, children_of, child_at, pairs_of, IsLevelled}
@@ -57,10 +56,6 @@ module _ {X : Type 0} {t : X → Bool} {s : List X} where
   turn_later lt r = record { within = r.within; holds = λ k d ge le. r.holds k d (omega arith) le; fails = r.fails }
 
 module _ {X : Type 0} where
-  filter_same : (p q : X → Bool) → ((x : X) → p x ≡ q x) → (s : List X) → filter p s ≡ filter q s
-  filter_same p q e [] = refl
-  filter_same p q e (x ∷ s) = ap (λ b. cond b (x ∷ filter p s) (filter p s)) (e x) ∙ ap (λ zs. cond (q x) (x ∷ zs) zs) (filter_same p q e s)
-
   -- A list in three parts, of which the test holds at all of the first, or at none, and at none of the last.
   pub lead_and_inside : (t : X → Bool) (a c d : List X) → AllByRecursion (λ x. t x ≡ true) a → AllByRecursion (λ x. t x ≡ false) d
       → length (filter t (a ++ (c ++ d))) ≡ length a + length (filter t c)
@@ -177,7 +172,7 @@ module _ {K V : Type 0} (cmp : K → K → Ordering) where
       pub holds_before : (i : ℕ) → TurnsAt t (own_pairs n) i → AllByRecursion (λ y. t y ≡ true) (before_child n i)
       holds_before zero r = tt
       holds_before (suc j) r =
-          let k : j < length (own_pairs n) = (let le = r.within in omega arith) in
+          let k : j < length (own_pairs n) = (omega arith) in
           let x = (item_there (own_pairs n) j k).0 in
           let p = get_or (own_pairs n) j x in
           let e : t p ≡ true = r.holds j x (omega arith) (omega arith) in
@@ -250,7 +245,7 @@ module _ {K Q S : Type 0} {cmp : K → K → Ordering} {order : K → S → Orde
         → ahead order sought lo (pairs_of n) + amid order sought lo hi (pairs_of n)
         ≡ length (before_child n i) + (ahead order sought lo c + amid order sought lo hi c)
     both_at lo hi stop r v le =
-        let same : stop ≡ i = (let ge = v.later in omega arith) in
+        let same : stop ≡ i = (omega arith) in
         let turn = turn_first r in
         let a = ahead_at lo turn in
         let b = amid_at lo hi turn (subst (FailsAt (λ e. leads order sought hi e.0) (own_pairs n)) same v.fails) in
@@ -261,7 +256,7 @@ module _ {K Q S : Type 0} {cmp : K → K → Ordering} {order : K → S → Orde
       → TurnsAt (λ e. leads order sought lo e.0) (own_pairs n) start → IsTurn (λ e. leads order sought hi e.0) (own_pairs n) start stop
       → ahead order sought hi (pairs_of n) ≡ ahead order sought lo (pairs_of n) + amid order sought lo hi (pairs_of n)
   amid_parted h n l o lo hi start stop lt r v =
-      let k : start < length (own_pairs n) = (let le = v.within in omega arith) in
+      let k : start < length (own_pairs n) = (omega arith) in
       let x = (item_there (own_pairs n) start k).0 in
       let p = get_or (own_pairs n) start x in
       let is = own_pair h n start x l k in
@@ -296,12 +291,12 @@ module _ {K Q S : Type 0} {cmp : K → K → Ordering} {order : K → S → Orde
     start_counts : ahead order sought (start_cut lo) s + length (filter (λ e. starts order (bound_by sought lo) e.0) s) ≡ length s
     start_counts =
         ap (λ zs. ahead order sought (start_cut lo) s + length zs)
-        (sym (filter_same (λ e. not (leads order sought (start_cut lo) e.0)) (λ e. starts order (bound_by sought lo) e.0) (λ e. start_leads lo e.0) s))
+        (sym (filter_agree (λ e. not (leads order sought (start_cut lo) e.0)) (λ e. starts order (bound_by sought lo) e.0) (λ e. start_leads lo e.0) s))
         ∙ both_counts (λ e. leads order sought (start_cut lo) e.0) s
 
     within_is : filter (λ e. not (leads order sought (start_cut lo) e.0) && leads order sought (stop_cut hi) e.0) s
         ≡ within order (bound_by sought lo) (bound_by sought hi) s
-    within_is = filter_same _ _ (λ e. ap (λ b. b && leads order sought (stop_cut hi) e.0) (start_leads lo e.0)
+    within_is = filter_agree _ _ (λ e. ap (λ b. b && leads order sought (stop_cut hi) e.0) (start_leads lo e.0)
         ∙ ap (λ b. starts order (bound_by sought lo) e.0 && b) (stop_leads hi e.0)) s
 
     -- So many pairs lie in front of a range's start, and so many in front of its end.

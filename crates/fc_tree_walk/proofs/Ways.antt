@@ -20,13 +20,9 @@ use Rattle.fc_tree_node.proofs.Pairs.{child_below, leaf_children}
 use Rattle.fc_tree_walk.specs.Gap.{GoesOn, IsGapIn, LeadsTo, IsBeside, IsAbove}
 use Rattle.fc_tree_walk.proofs.Slices.{get_seam}
 use Rattle.fc_tree_walk.proofs.GapFacts.{IsAround, around_child, goes_here, goes_below, own_count, end_count, leaf_before_own, inner_length, inner_before}
-use Rattle.fc_tree_walk.proofs.GapFacts.{end_leaf, one_height, next_before}
-
-whole : (p : List ℕ) (m : ℕ) → m ≡ length p → take m p ≡ p
-whole [] zero e = refl
-whole [] (suc m) e = refl
-whole (x ∷ p) zero e = absurd (omega arith)
-whole (x ∷ p) (suc m) e = ap (λ q. x ∷ q) (whole p m (omega arith))
+use Rattle.fc_tree_node.proofs.Formed.{one_height}
+use Rattle.fc_tree_node.proofs.PathSteps.{take_all}
+use Rattle.fc_tree_walk.proofs.GapFacts.{end_leaf, next_before}
 
 -- A path with another step at a level, as far as there.
 pub prefix_set : (gap mid : List ℕ) (level step : ℕ) → level < length gap → mid ≡ slice_set gap level step → take (level + 1) mid ≡ take level gap ++ step ∷ []
@@ -38,7 +34,7 @@ set_length gap new level step e = ap length e ∙ length_set gap level step
 pub end_set : (gap new : List ℕ) (level step : ℕ) → level + 1 ≡ length gap → new ≡ slice_set gap level step → new ≡ take level gap ++ step ∷ []
 end_set gap new level step k e =
     let long = ap length e ∙ length_set gap level step in
-    sym (whole new (level + 1) (omega arith)) ∙ prefix_set gap new level step (omega arith) e
+    sym (take_all new (level + 1) (omega arith)) ∙ prefix_set gap new level step (omega arith) e
 
 module _ {K V : Type 0} where
   module _ {Z : Type 0} where
@@ -78,9 +74,7 @@ module _ {K V : Type 0} where
         → IsLevelled (length gap - level - 1) n
     way_levels gap h level root n l g w =
         let r = descent_levels (take level gap) h root l w.1 in
-        let k = w.0 in
         let t = length_take level gap (omega arith) in
-        let f = r.1 in
         let long = g.1 h l in
         let s : r.0 ≡ length gap - level - 1 = omega arith in
         subst (IsLevelled (length gap - level - 1)) (sym w.2) (subst (λ j. IsLevelled j (node_at (take level gap) root)) s r.2)
@@ -91,8 +85,6 @@ module _ {K V : Type 0} where
     upper_descent [] h (suc i) n l w e k = tt
     upper_descent (j ∷ gap) zero (suc i) n l w e k = absurd (omega arith)
     upper_descent (j ∷ gap) (suc h) (suc i) n l w e k =
-        let c : length (children_of n) ≡ length (own_pairs n) + 1 = l.1 in
-        let le = w.0 in
         (omega arith, upper_descent gap h i (child_at n j) (child_below h n j l w.0).1 w.1 (omega arith) (omega arith))
 
     step_within : (gap : List ℕ) (i : ℕ) (n : Node K V Z) → IsPath gap n → i < length gap → get_or gap i 0 ≤ length (own_pairs (node_at (take i gap) n))
@@ -116,7 +108,6 @@ module _ {K V : Type 0} where
         let d = upper_descent gap h i root l g.0 long (omega arith) in
         let r = descent_levels (take i gap) h root l d in
         let t = length_take i gap (omega arith) in
-        let f = r.1 in
         let s : r.0 ≡ length gap - i - 1 = omega arith in
         record {
           fits = k;
@@ -133,9 +124,7 @@ module _ {K V : Type 0} where
         → (get_or gap i 0 < length (children_of n)) × (child_at n (get_or gap i 0) ≡ node_at (take (i + 1) gap) root)
     down_child gap root n i d k =
         let s : length gap - i - 1 ≡ suc (length gap - i - 1 - 1) = omega arith in
-        let l = subst (λ j. IsLevelled j n) s d.levels in
-        let c : length (children_of n) ≡ length (own_pairs n) + 1 = l.1 in
-        let le = d.within in (
+        let l = subst (λ j. IsLevelled j n) s d.levels in (
           omega arith,
           ap (λ m. child_at m (get_or gap i 0)) d.node ∙ sym (node_more (take i gap) (get_or gap i 0) root)
               ∙ ap (λ p. node_at p root) (sym (take_more gap i 0 d.fits)),
@@ -216,7 +205,7 @@ module _ {K V : Type 0} where
         l = subst (λ j. IsLevelled j n) low d.levels
 
         lead : length (before_gap gap root) ≡ length (before_gap (take i gap) root) + length (before_child n (get_or gap i 0))
-        lead = ap (λ p. length (before_gap p root)) (sym (whole gap (i + 1) k)) ∙ ap length d.onward ∙ length-append (before_gap (take i gap) root) _
+        lead = ap (λ p. length (before_gap p root)) (sym (take_all gap (i + 1) k)) ∙ ap length d.onward ∙ length-append (before_gap (take i gap) root) _
 
         order : (get_or gap i 0 < length (own_pairs n)) ⊎ (length (own_pairs n) ≤ get_or gap i 0)
             → IsNextAt gap root best' place' (length (before_gap gap root))
@@ -301,7 +290,7 @@ module _ {K V : Type 0} where
         → (0 < get_or gap i 0 → (best' ≡ n) × (place' ≡ i)) → (get_or gap i 0 ≡ 0 → (best' ≡ best) × (place' ≡ place))
         → IsLastAt gap root best' place' (length (before_gap gap root))
     before_end gap root n best best' i place place' d k w some here above =
-        let same = ap (λ p. length (before_gap p root)) (whole gap (i + 1) k) in
+        let same = ap (λ p. length (before_gap p root)) (take_all gap (i + 1) k) in
         elim (further gap root n best best' i place place' d w.1 here above)
         [ inl x ↦ absurd (omega (arith, same, x, some)) | inr x ↦ subst (λ m. IsLastAt gap root best' place' m) same x ]
 
@@ -321,7 +310,7 @@ module _ {K V : Type 0} where
         let b = length-append (before_child root i) (before_gap s c) in
         let e = r.1 in
         let u = r.0.1 t.0 t.2 in
-        (((t.3, r.0.0), λ k m. let o = one_height k h root m l in let v = t.1 in omega arith), omega (arith, a, b, e))
+        (((t.3, r.0.0), λ k m. let o = one_height k h root m l in omega arith), omega (arith, a, b, e))
 
     -- The gap that goes on from a node on the way, in the map.
     went : (gap new : List ℕ) (h level count : ℕ) (root n : Node K V Z) → IsLevelled h root → LeadsTo gap root level n
@@ -379,7 +368,6 @@ module _ {K V : Type 0} where
         let l = subst (IsLevelled o.0) (sym same) o.2.1 in
         let w = went gap new o.0 place _ root best l n.way g in
         let a = n.before in
-        let b = w.1 in
         subst (λ d. IsPassed (Some d) gap new x) same (record {
           slot = w.0;
           step = omega arith;
@@ -400,10 +388,6 @@ module _ {K V : Type 0} where
         let same : root ≡ r = cc in
         let l = subst (IsLevelled o.0) (sym same) o.2.1 in
         let w = went gap new o.0 place _ root best l n.way g in
-        let a = n.before in
-        let b = w.1 in
-        let some = n.own.0 in
-        let le = n.own.1 in
         subst (λ d. IsPassedBack (Some d) gap new x) same (record {
           slot = w.0;
           step = omega arith;
@@ -447,7 +431,6 @@ module _ {K V : Type 0} where
     near None gap n o g a k = absurd (omega arith)
     near (Some root) gap n o g a k =
         let b = a root refl in
-        let first = b.0 in
         let d = down gap o.0 (length gap - 1 - 1) root n o.2.1 g (omega arith) b.1 in
         let c = down_child gap root n (length gap - 1 - 1) d (omega arith) in
         let low : length gap - (length gap - 1 - 1) - 1 ≡ 1 = omega arith in
@@ -477,7 +460,6 @@ module _ {K V : Type 0} where
         → last ≡ length gap - 1 → place ≡ get_or gap (last - 1) 0 → IsNearStep m gap n last place
     near_step m gap n last place o g a some e f =
         let x = near m gap n o g a some in
-        let long = x.long in
         let above : last - 1 ≡ x.level = omega arith in
         let step = f ∙ ap (λ k. get_or gap k 0) above in
         let within = x.way.within in
@@ -488,7 +470,7 @@ module _ {K V : Type 0} where
           + length (before_child (child_at n (get_or gap x.level 0)) (get_or gap (x.level + 1) 0))
       before_way =
           let a = ap length x.way.onward ∙ length-append (before_gap (take x.level gap) x.root) _ in
-          let b = ap (λ p. length (before_gap p x.root)) (sym (whole gap (x.level + 1 + 1) (let l = x.long in omega (arith, l)))) ∙ ap length x.leaf.onward
+          let b = ap (λ p. length (before_gap p x.root)) (sym (take_all gap (x.level + 1 + 1) (let l = x.long in omega (arith, l)))) ∙ ap length x.leaf.onward
           ∙ length-append (before_gap (take (x.level + 1) gap) x.root) _ in
           omega (arith, a, b)
 
@@ -530,7 +512,6 @@ module _ {K V : Type 0} where
           let i = get_or gap x.level 0 in
           let l = x.levels in
           let long = x.long in
-          let inner : length (children_of n) ≡ length (own_pairs n) + 1 = l.1 in
           let d = end_leaf (child_at n i) (get_or gap (x.level + 1) 0) (child_below 0 n i l x.way.within).1 end in
           let next = (child_below 0 n (i + 1) l (omega arith)).1 in
           let at : IsNextAt gap x.root n x.level (length (before_gap gap x.root)) = record {
@@ -557,7 +538,6 @@ module _ {K V : Type 0} where
           let l = x.levels in
           let long = x.long in
           let le = x.way.within in
-          let inner : length (children_of n) ≡ length (own_pairs n) + 1 = l.1 in
           let there : j < length (own_pairs n) = omega arith in
           let same : i ≡ j + 1 = omega arith in
           let b = ap (λ k. length (before_child n k)) same ∙ next_before 1 n j l there in

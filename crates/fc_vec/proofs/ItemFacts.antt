@@ -24,6 +24,6 @@ module _ {S A : Type 0} (steps : S → Option A → S → Type 0) (s : S) (all g
   pub all_given : Drains steps s given → given ≡ all
   all_given d = sym (map-id given) ∙ items_from_drains given (d.1.0, d.1.1, λ _. (d.0, d.1.2)) road
 
-  -- What was given before its end is in front of all that it gives.
+  -- What was given before its end is before all that it gives.
   pub front_given : (t : S) → Yields steps s given t → (rest : List A) × (given ++ rest ≡ all)
   front_given t y = leading steps s t all given road.runs y

@@ -1,4 +1,4 @@
--- The items of vectors of vectors, one behind the other.
+-- The items of vectors of vectors, one after the other.
 use Rattle.std.specs.Prelude.{List, [], ◌∷◌, ◌++◌}
 use Rattle.fc_vec.specs.Vectors.{Vector}
 

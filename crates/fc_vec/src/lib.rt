@@ -1,6 +1,8 @@
-//! Collections of items, made by calls that may be refused.
+//! Collections of items, made by calls that may be refused; bounded reading into a vector, and printing into a text.
 #![tactic(auto)]
 
+pub mod format;
+pub mod read;
 pub mod vec;
 
 pub use vec::{

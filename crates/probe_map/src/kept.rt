@@ -5,7 +5,7 @@ use crate::answer::{Answer, UNKNOWN, refused, whether};
 use crate::walks::is_pair;
 use crate::whole::is_fresh;
 use fc_base::TryReserveError;
-use fc_map::map::Room;
+use fc_map::map::Reservation;
 use probe_rows::items::{Item, Number, World};
 use probe_rows::row::Row;
 use probe_rows::stretch::{Stretch, stretch_in};
@@ -29,7 +29,7 @@ pub(crate) fn run<'a>(map: &mut Map<'a>, world: World<'a>, row: &Row) -> Answer 
     match row.place {
         0 => whether(is_made(map, world, all, rule.salt) && retains(map, world, all, rule)),
         1 => whether(is_made(map, world, all, rule.salt) && extracts(map, world, all, rule)),
-        2 => match puts_with_room(map, world, all, row.number(3), row.number(4)) {
+        2 => match puts_reserved(map, world, all, row.number(3), row.number(4)) {
             Ok(is_right) => whether(is_right),
             Err(e) => refused(e),
         },
@@ -133,25 +133,29 @@ fn extracts<'a>(map: &mut Map<'a>, world: World<'a>, all: Stretch, rule: Rule) -
 // Puts the number in with its tenfold by the room, where it serves the map: whether it did, and the number was new or not, as told.
 fn puts<'a>(
     map: &mut Map<'a>,
-    room: &mut Room<Item<'a>, Item<'a>>,
+    reservation: &mut Reservation<Item<'a>, Item<'a>>,
     world: World<'a>,
     number: u64,
     is_new: bool,
 ) -> bool {
-    if room.places() == 0 || map.len() >= room.pairs() {
+    if reservation.places() == 0 || map.len() >= reservation.pairs() {
         return false;
     }
-    let places = room.places();
+    let places = reservation.places();
     let value = number.wrapping_mul(10);
-    let old = map.insert_with(room, world.key(number, 0), world.value(number, value));
+    let old = map.insert_reserved(
+        reservation,
+        world.key(number, 0),
+        world.value(number, value),
+    );
     let used = usize::from(is_new);
     number_of(old.as_ref()) == if is_new { None } else { Some(value) }
-        && room.places().wrapping_add(used) == places
+        && reservation.places().wrapping_add(used) == places
 }
 
 // Whether room for so many new numbers, each one more than one of the numbers or of those behind them, serves them in an order that jumps by the
 // factor, and the numbers that are there beside them.
-fn puts_with_room<'a>(
+fn puts_reserved<'a>(
     map: &mut Map<'a>,
     world: World<'a>,
     all: Stretch,
@@ -159,23 +163,28 @@ fn puts_with_room<'a>(
     factor: u64,
 ) -> Result<bool, TryReserveError> {
     let is_made = is_made(map, world, all, factor);
-    let mut room = map.try_room_for(count as usize)?;
-    let mut right = is_made && room.places() as u64 == count;
+    let mut reservation = map.try_reserve_nodes(count as usize)?;
+    let mut right = is_made && reservation.places() as u64 == count;
     for turn in 0..count {
         let place = turn.wrapping_mul(factor) % count;
         if place < all.count {
-            right = right && puts(map, &mut room, world, all.number(place), false);
+            right = right && puts(map, &mut reservation, world, all.number(place), false);
         }
         right = right
             && puts(
                 map,
-                &mut room,
+                &mut reservation,
                 world,
                 all.number(place).wrapping_add(1),
                 true,
             );
     }
-    Ok(right && room.places() == 0 && room.pairs() == map.len() && has_both(map, all, count))
+    Ok(
+        right
+            && reservation.places() == 0
+            && reservation.pairs() == map.len()
+            && has_both(map, all, count),
+    )
 }
 
 // Whether the map has the numbers, and one more than each of so many from the first on.

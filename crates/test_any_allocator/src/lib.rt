@@ -33,7 +33,7 @@ mod operators;
 #[cfg(test)]
 mod others;
 #[cfg(test)]
-mod room;
+mod reservation;
 #[cfg(test)]
 mod sizes;
 #[cfg(test)]

@@ -3,10 +3,10 @@ use crate::least::all_but;
 use crate::sizes::AMPLE;
 use fc_base::{TryBox, TryClone, TryReserveError};
 use fc_budget::Budget;
-use fc_format::try_format;
 use fc_hash::TryHashMap;
-use fc_read::try_read_up_to;
 use fc_vec::TryVec;
+use fc_vec::format::try_format;
+use fc_vec::read::try_read_up_to;
 use std::alloc::Global;
 use std::test::Fail;
 

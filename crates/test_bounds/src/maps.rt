@@ -2,7 +2,7 @@
 use crate::traits::{compares, copies, crosses, prints};
 use fc_map::map::{
     BTreeMap, Entry, IntoIter, IntoKeys, IntoValues, Iter, IterMut, Keys, OccupiedEntry, Range,
-    RangeMut, ReadyEntry, Room, VacantEntry, Values, ValuesMut,
+    RangeMut, ReadyEntry, Reservation, VacantEntry, Values, ValuesMut,
 };
 use std::test::Fail;
 
@@ -14,7 +14,7 @@ fn maps_cross_threads(rt: HostRuntime) {
         crosses::<Map>()
             && crosses::<&Map>()
             && crosses::<&mut Map>()
-            && crosses::<Room<u64, u64>>()
+            && crosses::<Reservation<u64, u64>>()
     );
 }
 

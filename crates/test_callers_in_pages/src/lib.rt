@@ -10,4 +10,4 @@ mod idioms;
 #[cfg(test)]
 mod refusals;
 #[cfg(test)]
-mod set_room;
+mod set_reservation;

@@ -32,7 +32,7 @@ fn all_memory(alloc: Global) -> Result<Vec<Vec<u8>>, AllocError> {
 }
 
 #[test]
-fn an_insertion_without_memory_leaves_the_map(rt: HostRuntime) -> Result<(), Fail> {
+fn an_insertion_without_memory_leaves_the_map_not_in_a_trial(rt: HostRuntime) -> Result<(), Fail> {
     let mut map = BTreeMap::new(rt.alloc());
     for key in 0..LEAF {
         map.try_insert(key, key)?;
@@ -52,7 +52,7 @@ fn an_insertion_without_memory_leaves_the_map(rt: HostRuntime) -> Result<(), Fai
 }
 
 #[test]
-fn a_refused_word_comes_back_and_is_counted_once_there_is_room(
+fn a_refused_word_comes_back_and_is_counted_once_there_is_room_not_in_a_trial(
     rt: HostRuntime,
 ) -> Result<(), Fail> {
     let mut counts = BTreeMap::new(rt.alloc());

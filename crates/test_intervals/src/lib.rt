@@ -5,3 +5,7 @@
 mod numbers;
 #[cfg(test)]
 mod refusals;
+#[cfg(test)]
+mod row;
+#[cfg(test)]
+mod walks;

@@ -70,3 +70,28 @@ fn a_refused_cut_leaves_the_map(rt: HostRuntime) -> Result<(), Fail> {
     assert!(rt; map.cut(35..40).is_ok() && number_at(&map, 34) == 1 && number_at(&map, 35) == 0);
     Ok(())
 }
+
+#[test]
+fn a_refused_cut_in_two_leaves_the_map(rt: HostRuntime) -> Result<(), Fail> {
+    let mut map: Boxes = IntervalMap::new(rt.alloc());
+    let Ok(value) = Owned::try_new(rt.alloc(), 1) else {
+        return Ok(());
+    };
+    if map.put(10..40, value).is_err() {
+        return Ok(());
+    }
+    if map.split_at(20).is_err() {
+        assert!(rt; is_whole(&map, 1));
+        return Ok(());
+    }
+    assert!(rt;
+        map.len() == 2
+            && number_at(&map, 19) == 1
+            && number_at(&map, 20) == 1
+            && number_at(&map, 39) == 1
+    );
+    // No stretch goes on across a start or an end, so that no memory is asked for.
+    assert!(rt; map.split_at(10).is_ok() && map.split_at(20).is_ok() && map.split_at(40).is_ok());
+    assert!(rt; map.len() == 2);
+    Ok(())
+}

@@ -218,22 +218,22 @@ fn an_extension_and_a_made_set_that_are_refused_give_up_their_items(rt: HostRunt
 }
 
 // Takes room for two more in a full leaf, and puts so many in.
-fn has_room(alloc: Global, used: u64) -> Result<bool, TryReserveError> {
+fn has_reserved(alloc: Global, used: u64) -> Result<bool, TryReserveError> {
     let mut set = owners(alloc, 0, 15, 1)?;
-    let mut room = set.try_room_for(2)?;
+    let mut reservation = set.try_reserve_nodes(2)?;
     for number in 15..used.wrapping_add(15) {
         let item = Owned::try_new(alloc, number)?;
-        if room.places() > 0 && set.len() < room.pairs() {
-            set.insert_with(&mut room, item);
+        if reservation.places() > 0 && set.len() < reservation.pairs() {
+            set.insert_reserved(&mut reservation, item);
         }
     }
-    let left = room.places() as u64;
+    let left = reservation.places() as u64;
     Ok(set.len() as u64 == used.wrapping_add(15) && left.wrapping_add(used) == 2)
 }
 
 #[test]
-fn room_for_items_that_is_used_or_not_is_given_up(rt: HostRuntime) {
+fn a_reservation_for_items_that_is_used_or_not_is_given_up(rt: HostRuntime) {
     for used in [0, 1, 2] {
-        assert!(rt; is_right(has_room(rt.alloc(), used)));
+        assert!(rt; is_right(has_reserved(rt.alloc(), used)));
     }
 }

@@ -1,7 +1,7 @@
 //! Keys whose order reads one of three fields: which of two equal keys a call keeps, answers or hands back. A map has the letter a at each number
 //! and is asked by other letters.
 use fc_base::{TryClone, TryReserveError};
-use fc_map::map::{BTreeMap, Entry, Room, insert_both, is_range};
+use fc_map::map::{BTreeMap, Entry, Reservation, insert_both, is_range};
 use fc_vec::TryFromIterator;
 use std::alloc::Global;
 use std::ops::Bound;
@@ -310,27 +310,27 @@ fn two_insertions_keep_the_keys_that_are_there(rt: HostRuntime) -> Result<(), Fa
 }
 
 // Puts the number in where the room serves the map.
-fn put(map: &mut Map, room: &mut Room<Tagged, u64>, number: u64) {
-    if room.places() == 0 || map.len() >= room.pairs() {
+fn put(map: &mut Map, reservation: &mut Reservation<Tagged, u64>, number: u64) {
+    if reservation.places() == 0 || map.len() >= reservation.pairs() {
         return;
     }
-    map.insert_with(room, Tagged::new(number, 'b'), number);
+    map.insert_reserved(reservation, Tagged::new(number, 'b'), number);
 }
 
 // With room for a hundred insertions, equal keys stay and use none of it, and new ones go in.
-fn room_keeps_them(map: &mut Map) -> Result<bool, TryReserveError> {
-    let mut room = map.try_room_for(100)?;
+fn a_reservation_keeps_them(map: &mut Map) -> Result<bool, TryReserveError> {
+    let mut reservation = map.try_reserve_nodes(100)?;
     for number in 0..END.wrapping_add(100) {
-        put(map, &mut room, number);
+        put(map, &mut reservation, number);
     }
     let rest = map.split_off(&Tagged::new(END, 'c'))?;
     Ok(counts_up(map, 0, END, 'a') && counts_up(&rest, END, END.wrapping_add(100), 'b'))
 }
 
 #[test]
-fn room_leaves_the_keys_that_are_there(rt: HostRuntime) -> Result<(), Fail> {
+fn a_reservation_leaves_the_keys_that_are_there(rt: HostRuntime) -> Result<(), Fail> {
     let mut map = lettered(rt.alloc(), 'a', END)?;
-    assert!(rt; room_keeps_them(&mut map)?);
+    assert!(rt; a_reservation_keeps_them(&mut map)?);
     Ok(())
 }
 

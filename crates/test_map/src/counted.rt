@@ -43,13 +43,15 @@ fn counted_calls_do_as_those_without_a_count(rt: HostRuntime) -> Result<(), Fail
 }
 
 #[test]
-fn a_counted_insertion_takes_a_place_of_the_room(rt: HostRuntime) -> Result<(), Fail> {
+fn a_counted_insertion_takes_a_place_of_the_reservation(rt: HostRuntime) -> Result<(), Fail> {
     let mut map = multiples(rt.alloc(), 0, 3, 1)?;
-    let mut room = map.try_room_for(1)?;
-    if room.places() == 0 || map.len() >= room.pairs() {
+    let mut reservation = map.try_reserve_nodes(1)?;
+    if reservation.places() == 0 || map.len() >= reservation.pairs() {
         return Ok(());
     }
-    let before = map.insert_with_counted(&mut room, 3, 30, &mut Count::new());
-    assert!(rt; before.is_none() && room.places() == 0 && has(&map, 3, 30) && map.len() == 4);
+    let before = map.insert_reserved_counted(&mut reservation, 3, 30, &mut Count::new());
+    assert!(rt;
+        before.is_none() && reservation.places() == 0 && has(&map, 3, 30) && map.len() == 4
+    );
     Ok(())
 }

@@ -97,7 +97,7 @@ fn entries_at_both_ends_are_shown_written_and_taken(rt: HostRuntime) -> Result<(
 
 // Without any memory the ends of a map are written and taken.
 #[test]
-fn entries_at_the_ends_take_no_memory(rt: HostRuntime) -> Result<(), Fail> {
+fn entries_at_the_ends_take_no_memory_not_in_a_trial(rt: HostRuntime) -> Result<(), Fail> {
     let mut map = multiples(rt.alloc(), 0, 300, 3)?;
     let held = take_all_memory(rt.alloc())?;
     let is_right = !is_ample(rt.alloc())

@@ -176,7 +176,9 @@ fn has_a_full_leaf(map: &Numbers) -> bool {
 // There is memory for one leaf alone: that of a map that was dropped. The clause allows an empty map too, where a first item may be
 // refused. A run that gets its memory from elsewhere, as one without proof does, would show nothing, and fails.
 #[test]
-fn a_refused_extension_of_an_empty_map_keeps_a_leaf(rt: HostRuntime) -> Result<(), Fail> {
+fn a_refused_extension_of_an_empty_map_keeps_a_leaf_not_in_a_trial(
+    rt: HostRuntime,
+) -> Result<(), Fail> {
     let spare = multiples(rt.alloc(), 0, 1, 1)?;
     let items = pairs(rt.alloc(), 30, 1)?;
     let mut map = BTreeMap::new(rt.alloc());
@@ -202,7 +204,7 @@ fn three_pairs(alloc: Global) -> Result<Vec<(u64, u64)>, AllocError> {
 // The leaf has room for one pair, so the first of three goes in and the second, which is the first to take memory, is refused. A run that
 // gets its memory from elsewhere, as one without proof does, would show nothing, and fails.
 #[test]
-fn a_refused_extension_fills_the_leaf(rt: HostRuntime) -> Result<(), Fail> {
+fn a_refused_extension_fills_the_leaf_not_in_a_trial(rt: HostRuntime) -> Result<(), Fail> {
     let mut map = multiples(rt.alloc(), 1, CAPACITY as u64, 1)?;
     let items = three_pairs(rt.alloc())?;
     let held = take_all_memory(rt.alloc())?;

@@ -41,9 +41,9 @@ mod remove_range;
 #[cfg(test)]
 mod requests;
 #[cfg(test)]
-mod retain;
+mod reservation;
 #[cfg(test)]
-mod room;
+mod retain;
 #[cfg(test)]
 mod sizes;
 #[cfg(test)]

@@ -90,7 +90,9 @@ fn only_a_full_leaf_refuses(small: &mut Numbers, large: &mut Numbers) -> bool {
 
 // A run that gets its memory from elsewhere, as one without proof does, would show nothing, and fails.
 #[test]
-fn with_all_memory_refused_only_a_full_leaf_refuses(rt: HostRuntime) -> Result<(), Fail> {
+fn with_all_memory_refused_only_a_full_leaf_refuses_not_in_a_trial(
+    rt: HostRuntime,
+) -> Result<(), Fail> {
     let mut small = multiples(rt.alloc(), 1, CAPACITY as u64, 1)?;
     let mut large = multiples(rt.alloc(), 1, 151, 1)?;
     let held = take_all_memory(rt.alloc())?;

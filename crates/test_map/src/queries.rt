@@ -81,7 +81,7 @@ fn a_text_is_written_at_and_removed(rt: HostRuntime) -> Result<(), Fail> {
 
 // A run that gets its memory from elsewhere, as one without proof does, would show nothing, and fails.
 #[test]
-fn with_all_memory_refused_a_text_is_found(rt: HostRuntime) -> Result<(), Fail> {
+fn with_all_memory_refused_a_text_is_found_not_in_a_trial(rt: HostRuntime) -> Result<(), Fail> {
     let mut map = words(rt.alloc())?;
     let held = take_all_memory(rt.alloc())?;
     let is_right = !is_ample(rt.alloc())

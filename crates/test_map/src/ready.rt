@@ -201,7 +201,9 @@ fn is_put_without_memory(alloc: Global, map: &mut Numbers) -> Result<bool, TryRe
 }
 
 #[test]
-fn an_entry_that_was_made_ready_takes_no_memory(rt: HostRuntime) -> Result<(), Fail> {
+fn an_entry_that_was_made_ready_takes_no_memory_not_in_a_trial(
+    rt: HostRuntime,
+) -> Result<(), Fail> {
     let mut map = multiples(rt.alloc(), 1, BEYOND, 1)?;
     assert!(rt; is_put_without_memory(rt.alloc(), &mut map)? && has_up_to(&map, BEYOND));
     Ok(())
@@ -229,7 +231,7 @@ fn needs_no_memory(a: &mut Numbers, b: &mut Numbers) -> bool {
 }
 
 #[test]
-fn only_a_full_leaf_refuses_two_pairs(rt: HostRuntime) -> Result<(), Fail> {
+fn only_a_full_leaf_refuses_two_pairs_not_in_a_trial(rt: HostRuntime) -> Result<(), Fail> {
     let mut a = multiples(rt.alloc(), 1, CAPACITY as u64, 1)?;
     let mut b = multiples(rt.alloc(), 1, BEYOND, 1)?;
     let held = take_all_memory(rt.alloc())?;

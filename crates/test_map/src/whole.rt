@@ -122,7 +122,7 @@ fn only_one_with_pairs_is_refused(none: &mut Letters, other: &mut Letters) -> bo
 
 // A run that gets its memory from elsewhere, as one without proof does, would show nothing, and fails.
 #[test]
-fn with_all_memory_refused_only_pairs_are_joined_or_cut_in_vain(
+fn with_all_memory_refused_only_pairs_are_joined_or_cut_in_vain_not_in_a_trial(
     rt: HostRuntime,
 ) -> Result<(), Fail> {
     let mut map = letters(rt.alloc(), &[1, 2, 3], 'x', "abc")?;

@@ -1,8 +1,8 @@
 //! Reading and printing in a budget that refuses: nothing is read, what was there stays, and all bytes come back.
 use fc_budget::Budget;
-use fc_format::try_format;
-use fc_read::{TryRead, try_read_up_to};
 use fc_vec::TryVec;
+use fc_vec::format::try_format;
+use fc_vec::read::{TryRead, try_read_up_to};
 use std::alloc::Global;
 use std::io::{self, ErrorKind, Read};
 

@@ -1,6 +1,6 @@
 //! How a caller reads a length that came from the input itself.
-use fc_read::try_read_up_to;
 use fc_vec::TryVec;
+use fc_vec::read::try_read_up_to;
 use std::io::{self, Read};
 
 // How many bytes are asked for at a time.

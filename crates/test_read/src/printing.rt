@@ -1,6 +1,6 @@
 //! Printing into a text whose room is taken first.
 use fc_base::TryReserveError;
-use fc_format::try_format;
+use fc_vec::format::try_format;
 use std::fmt;
 use std::test::Fail;
 

@@ -1,7 +1,7 @@
 //! Reading up to a limit, from sources that give little at a time, end early or fail.
 use crate::pieces::read_in_steps;
 use fc_base::TryReserveError;
-use fc_read::{TryRead, try_read_up_to};
+use fc_vec::read::{TryRead, try_read_up_to};
 use fc_vec::{TryVec, try_from_elem};
 use std::alloc::Global;
 use std::io::{self, ErrorKind, Read, Take};

@@ -2,5 +2,5 @@
 
 pub use fc_map::map::{
     BTreeMap, Entry, IntoIter, IntoKeys, IntoValues, Iter, IterMut, Keys, OccupiedEntry, Range,
-    RangeMut, ReadyEntry, Room, VacantEntry, Values, ValuesMut, insert_both, is_range,
+    RangeMut, ReadyEntry, Reservation, VacantEntry, Values, ValuesMut, insert_both, is_range,
 };

@@ -1,3 +1,3 @@
 //! Reading at most so many bytes into a vector.
 
-pub use fc_read::{TryRead, try_read_up_to};
+pub use fc_vec::read::{TryRead, try_read_up_to};

@@ -43,7 +43,7 @@ fn try_cloned<K: Ord + Clone, V: Clone, A: Handle>(
     Ok(for_sets::from_grown(alloc, clones))
 }
 
-// Puts the pair behind the others; an error where its key doesn't lie behind theirs, or a node was refused.
+// Puts the pair after the others; an error where its key doesn't lie after theirs, or a node was refused.
 fn push_if_behind<K: Ord + Drop, V: Drop, A: Handle>(
     tree: &mut Growing<K, V, A>,
     key: K,
@@ -62,7 +62,7 @@ fn push_if_behind<K: Ord + Drop, V: Drop, A: Handle>(
     }
 }
 
-// Whether the key lies behind all keys of the tree: it is compared with the last one.
+// Whether the key lies after all keys of the tree: it is compared with the last one.
 fn is_behind_all<K: Ord, V, A: Handle>(tree: &Growing<K, V, A>, key: &K) -> bool
     requires { IsAscending K.cmp tree.now.pairs }
     ensures { IsTrue result → AllByRecursion (λ e. K.cmp e.0 key.now ≡ Less) tree.now.pairs }

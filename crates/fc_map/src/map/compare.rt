@@ -9,7 +9,7 @@ ghost use Rattle.fc_map.specs.Entries.{entries};
 
 use super::BTreeMap;
 use fc_base::Handle;
-use fc_iter::compare::{are_equal, order, partial_order};
+use fc_map_iter::compare::{are_equal, order, partial_order};
 use std::cmp::Ordering;
 use std::hash::{Hash, Hasher};
 

@@ -5,7 +5,7 @@ ghost use Rattle.fc_map.specs.Place.{IsOpenAt};
 ghost use Rattle.fc_map.specs.Unique.{open-prop, place-prop};
 
 mod beside;
-mod calls;
+mod entry_methods;
 mod first_last;
 mod occupied;
 mod ready;

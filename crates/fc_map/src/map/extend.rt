@@ -7,14 +7,14 @@ ghost use Rattle.fc_vec.specs.Items.{GivesAll, GivesFirst};
 ghost use Rattle.fc_map.specs.Entries.{entries, IsSoundMap};
 
 use super::BTreeMap;
-use super::extension::Extension;
+use super::bulk_insert::BulkInsert;
 use fc_base::{Handle, TryReserveError};
 use fc_vec::TryFromIterator;
 use std::alloc::Global;
 
 impl<K: Ord + Drop, V: Drop, A: Handle> BTreeMap<K, V, A> {
     /// Puts all items that the iterator gives into the map, in turn, each as `try_insert` does: where an equal key is there, that
-    /// key stays and the new value takes the place of the old one, which is dropped. An item behind all before it, those of the map too,
+    /// key stays and the new value takes the place of the old one, which is dropped. An item after all before it, those of the map too,
     /// takes one comparison, as long as each before it did. Upstream: `BTreeMap::extend`, which panics where this call answers an error.
     ///
     /// # Errors
@@ -30,17 +30,17 @@ impl<K: Ord + Drop, V: Drop, A: Handle> BTreeMap<K, V, A> {
         ensures ascending { IsAscending K.cmp (entries self.new) }
         ensures sound { IsSoundMap self.new }
     {
-        let mut extension = Extension::over(self);
+        let mut bulk_insert = BulkInsert::over(self);
         for (key, value) in items {
-            match extension.try_put(key, value) {
+            match bulk_insert.try_put(key, value) {
                 Ok(()) => (),
                 Err(error) => {
-                    *self = extension.finish();
+                    *self = bulk_insert.finish();
                     return Err(error);
                 }
             }
         }
-        *self = extension.finish();
+        *self = bulk_insert.finish();
         Ok(())
     }
 }

@@ -40,7 +40,7 @@ impl<K: Ord, V, A: Handle> BTreeMap<K, V, A> {
         range.gaps_in(&self.root)
     }
 
-    // Whether two gaps are the same, of which the first lies so many pairs of its leaf behind where its path leads.
+    // Whether two gaps are the same, of which the first lies so many pairs of its leaf after where its path leads.
     pub(crate) fn is_same_gap(&self, front: &Path, gone: usize, back: &Path) -> bool
         requires { IsGapIn self.now (gone_on front.now gone) × IsGapIn self.now back.now }
         ensures { IsTrue result ↔ (length (before_gap_in self.now (gone_on front.now gone)) ≡ length (before_gap_in self.now back.now)) }
@@ -53,7 +53,7 @@ impl<K: Ord, V, A: Handle> BTreeMap<K, V, A> {
     }
 
     // Calls the closure at each pair between two gaps, in order, with its value lent for writing. The first gap lies so many pairs
-    // of its leaf behind where its path leads.
+    // of its leaf after where its path leads.
     pub(crate) fn visit<F: FnMut(&K, &mut V)>(
         &mut self,
         front: &Path,
@@ -86,7 +86,7 @@ impl<K: Ord, V, A: Handle> BTreeMap<K, V, A> {
     }
 
     // Goes on past the pair after a gap, and answers where that pair is: so many steps of the path lead to its node, and the place in
-    // it. The gap lies `gone` pairs of its leaf behind where its path leads, and the leaf has pairs up to `full` behind there: within a
+    // it. The gap lies `gone` pairs of its leaf after where its path leads, and the leaf has pairs up to `full` after there: within a
     // leaf the one number alone changes.
     #[inline]
     pub(crate) fn step_to_next(

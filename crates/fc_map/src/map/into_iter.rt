@@ -7,7 +7,7 @@ ghost use Rattle.fc_map.specs.Entries.{entries};
 
 use super::BTreeMap;
 use fc_base::Handle;
-pub use fc_iter::into_iter::IntoIter;
+pub use fc_map_iter::into_iter::IntoIter;
 
 /// The pairs in ascending order of their keys. The walk takes no memory. Upstream: `BTreeMap::into_iter`.
 impl<K: Ord + Drop, V: Drop, A: Handle> IntoIterator for BTreeMap<K, V, A> {

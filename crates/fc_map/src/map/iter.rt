@@ -6,7 +6,7 @@ ghost use Rattle.fc_map.specs.Walks.{keys_of, values_of};
 
 use super::BTreeMap;
 use fc_base::Handle;
-pub use fc_iter::iter::{Iter, Keys, Values};
+pub use fc_map_iter::iter::{Iter, Keys, Values};
 
 impl<K: Ord, V, A: Handle> BTreeMap<K, V, A> {
     /// A walk over all pairs, in ascending order of their keys. Upstream: `BTreeMap::iter`.

@@ -5,8 +5,8 @@ ghost use Rattle.fc_tree_walk.specs.Gap.{AreEndsIn, IsGapIn};
 ghost use Rattle.fc_tree_node.specs.TreePlace.{before_gap_in};
 ghost use Rattle.fc_map.specs.Unique.{ends-prop, gap-prop};
 
-mod calls;
 mod debug;
+mod iter_mut_methods;
 
 use super::BTreeMap;
 use fc_base::Handle;
@@ -18,7 +18,7 @@ use std::alloc::Global;
 /// Upstream: `btree_map::IterMut`.
 pub struct IterMut<'a, K: Ord, V, A: Handle = Global> {
     pub(crate) map: &'a mut BTreeMap<K, V, A>,
-    // The front lies `gone` pairs of its leaf behind where its path leads, and `base` pairs of the map lie before there. As far as
+    // The front lies `gone` pairs of its leaf after where its path leads, and `base` pairs of the map lie before there. As far as
     // `full` the leaf has pairs, and the walk has not come to its end, before which `end` pairs lie: within a leaf `gone` alone changes.
     pub(crate) front: Path,
     pub(crate) base: usize,

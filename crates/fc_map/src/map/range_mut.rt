@@ -4,8 +4,8 @@ ghost use Rattle.fc_tree_visit.specs.Leaf.{gone_on};
 ghost use Rattle.fc_tree_walk.specs.Gap.{AreEndsIn, IsGapIn};
 ghost use Rattle.fc_map.specs.Unique.{ends-prop, gap-prop};
 
-mod calls;
 mod debug;
+mod range_mut_methods;
 
 use super::BTreeMap;
 use fc_base::Handle;
@@ -17,7 +17,7 @@ use std::alloc::Global;
 /// Upstream: `btree_map::RangeMut`.
 pub struct RangeMut<'a, K: Ord, V, A: Handle = Global> {
     pub(crate) map: &'a mut BTreeMap<K, V, A>,
-    // The front lies so many pairs of its leaf behind where its path leads, and the leaf has pairs as far as the other number.
+    // The front lies so many pairs of its leaf after where its path leads, and the leaf has pairs as far as the other number.
     pub(crate) front: Path,
     pub(crate) gone: usize,
     pub(crate) full: usize,

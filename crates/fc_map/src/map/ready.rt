@@ -1,4 +1,4 @@
-//! An insertion in two halves: its nodes are made, and then nothing refuses it.
+//! Two-phase insertion: allocate every node, then insert infallibly.
 ghost use Rattle.std.specs.Prelude.{◌≡◌, ◌+◌, ◌<◌, ◌∷◌, [], length, IsErr, IfOk, IfErr, OnErr, None};
 ghost use Rattle.fc_base.specs.Ascending.{IsAscending};
 ghost use Rattle.fc_base.specs.Growth.{MayGrowRefuse};

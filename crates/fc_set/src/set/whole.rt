@@ -10,7 +10,7 @@ ghost use Rattle.fc_set.specs.Items.{items, smaller, not_smaller, AreAscending, 
 
 use super::BTreeSet;
 use fc_base::{Count, Handle, Query, TryClone, TryReserveError};
-use fc_map::map::extension::Extension;
+use fc_map::map::bulk_insert::BulkInsert;
 use fc_vec::TryFromIterator;
 use std::alloc::Global;
 
@@ -80,11 +80,11 @@ impl<T: Ord + Drop, A: Handle> BTreeSet<T, A> {
     }
 
     /// Puts all items that the iterator gives into the set, in turn, each as `try_insert` does: an equal item that is there stays. An item
-    /// behind all before it, those of the set too, takes one comparison, as long as each before it did. Upstream: `BTreeSet::extend`, which panics where this call answers an error.
+    /// after all before it, those of the set too, takes one comparison, as long as each before it did. Upstream: `BTreeSet::extend`, which panics where this call answers an error.
     ///
     /// # Errors
     /// At the first item that `try_insert` refuses, which is new, with that error. The items before it stay in the set. It is dropped,
-    /// and so is the iterator with the items behind it.
+    /// and so is the iterator with the items after it.
     pub fn try_extend<I: IntoIterator<Item = T>>(&mut self, given: I) -> Result<(), TryReserveError>
         requires ends { IsFiniteIterable I.into_iter_gives I.IntoIter.can_next I.IntoIter.remaining given }
         ensures all { OnOk result ((all : List T) × GivesAll I.into_iter_gives I.IntoIter.next_gives given all × (items self.new ≡ extended_items T.cmp (items self.old) all)) }
@@ -92,17 +92,17 @@ impl<T: Ord + Drop, A: Handle> BTreeSet<T, A> {
         ensures ascending { AreAscending T.cmp (items self.new) }
         ensures sound { IsSoundMap self.new }
     {
-        let mut extension = Extension::over(&mut self.map);
+        let mut bulk_insert = BulkInsert::over(&mut self.map);
         for item in given {
-            match extension.try_put(item, ()) {
+            match bulk_insert.try_put(item, ()) {
                 Ok(()) => (),
                 Err(error) => {
-                    self.map = extension.finish();
+                    self.map = bulk_insert.finish();
                     return Err(error);
                 }
             }
         }
-        self.map = extension.finish();
+        self.map = bulk_insert.finish();
         Ok(())
     }
 }

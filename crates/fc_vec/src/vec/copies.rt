@@ -1,11 +1,11 @@
-//! Copies of items, put behind those of a vector.
+//! Copies of items, put after those of a vector.
 ghost use Rattle.std.specs.Prelude.{◌≡◌, ◌+◌, ◌-◌, ◌<◌, ◌≤◌, ◌⊎◌, [], length, replicate, IfOk, IfErr, OnOk, IsOk, vec_len, vec_capacity};
 ghost use Rattle.fc_vec.specs.Vectors.{IsExtended, IsFilled, IsCopiedUpTo};
 
 use super::fallible_vec::FallibleVec;
 use fc_base::{Handle, TryClone, TryReserveError};
 
-// Puts so many copies of the source behind the items, for which there is room.
+// Puts so many copies of the source after the items, for which there is room.
 pub(crate) fn push_repeated<T: TryClone, A: Handle>(
     v: &mut Vec<T, A>,
     source: &T,

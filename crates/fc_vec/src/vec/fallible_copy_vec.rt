@@ -23,7 +23,7 @@ pub trait FallibleCopyVec<T> {
         ensures shorter { new_len ≤ length (contents self.old) → IsOk result × (room self.new ≡ room self.old) }
         ensures error { IfErr result (λ e. (room self.old < new_len) × (e ≡ TryReserveError.AllocError) × (contents self.new ≡ contents self.old) × (room self.new ≡ room self.old)) };
 
-    /// Puts all items of `other` behind the own ones. Upstream: `FallibleVec::try_extend_from_slice`.
+    /// Puts all items of `other` after the own ones. Upstream: `FallibleVec::try_extend_from_slice`.
     ///
     /// # Errors
     /// As `try_reserve` for the length of `other`. The vector is then as before.

@@ -43,7 +43,7 @@ pub trait FallibleVec<T>: Sized {
         ensures none { capacity ≡ 0 → IsOk result }
         ensures error { IfErr result (λ e. e ≡ TryReserveError.AllocError) };
 
-    /// Puts the item behind the others. Upstream: `FallibleVec::try_push`.
+    /// Puts the item after the others. Upstream: `FallibleVec::try_push`.
     ///
     /// # Errors
     /// As `try_reserve` for one item. The vector is then as before, and the item is dropped.
@@ -55,7 +55,7 @@ pub trait FallibleVec<T>: Sized {
         ensures fits { length (contents self.old) < room self.old → IsOk result × (room self.new ≡ room self.old) }
         ensures error { IfErr result (λ e. MayRefuse (room self.old) (length (contents self.old)) 1 e × (contents self.new ≡ contents self.old) × (room self.new ≡ room self.old)) };
 
-    /// Puts the item behind the others. Upstream: `FallibleVec::try_push_give_back`.
+    /// Puts the item after the others. Upstream: `FallibleVec::try_push_give_back`.
     ///
     /// # Errors
     /// As `try_reserve` for one item. The vector is then as before, and the item comes back.
@@ -79,7 +79,7 @@ pub trait FallibleVec<T>: Sized {
         ensures given_back { IfErr result (λ e. e.0 ≡ element) }
         ensures error { IfErr result (λ e. MayRefuse (room self.old) (length (contents self.old)) 1 e.1 × (contents self.new ≡ contents self.old) × (room self.new ≡ room self.old)) };
 
-    /// Moves all items of `other` behind the own ones; `other` is then empty and keeps its room. Upstream:
+    /// Moves all items of `other` after the own ones; `other` is then empty and keeps its room. Upstream:
     /// `FallibleVec::try_append`.
     ///
     /// # Errors
@@ -128,7 +128,7 @@ pub trait FallibleVec<T>: Sized {
         ensures room { new_len ≤ room self.old → room self.new ≡ room self.old }
         ensures error { IfErr result (λ e. ((room self.old < new_len) × (e ≡ TryReserveError.AllocError) × (contents self.new ≡ contents self.old) × (room self.new ≡ room self.old)) ⊎ IsCopiedUpTo T.same T.may_refuse e (contents self.old) (replicate (new_len - length (contents self.old) - 1) value) (contents self.new)) };
 
-    /// Puts a copy of each item of `other`, by `try_clone`, behind the own ones. Upstream:
+    /// Puts a copy of each item of `other`, by `try_clone`, after the own ones. Upstream:
     /// `FallibleVec::try_extend_from_slice_no_copy`.
     ///
     /// # Errors
@@ -166,7 +166,7 @@ pub(crate) fn reserve<T, A: Handle>(
     Ok(())
 }
 
-// Puts what so many calls of `f` answer behind the items, for which there is room. std's own call does not say that the room stays.
+// Puts what so many calls of `f` answer after the items, for which there is room. std's own call does not say that the room stays.
 fn push_results<T, A: Handle, F: FnMut() -> T>(v: &mut Vec<T, A>, count: usize, mut f: F)
     requires called { F.IsAlwaysCallable f }
     requires room { vec_len v.old + count ≤ vec_capacity v.old }

@@ -116,7 +116,7 @@ impl<T, A: Handle> TryVec<T, A> {
         FallibleVec::try_reserve(&mut self.inner, additional)
     }
 
-    /// Puts the item behind the others; where there is room for it, that is `Ok` and takes no memory. Upstream:
+    /// Puts the item after the others; where there is room for it, that is `Ok` and takes no memory. Upstream:
     /// `TryVec::push`.
     ///
     /// # Errors
@@ -167,7 +167,7 @@ impl<T, A: Handle> TryVec<T, A> {
         self.inner.clear();
     }
 
-    /// Moves all items of `other` behind the own ones; `other` is then empty and keeps its room. Upstream: `TryVec::append`.
+    /// Moves all items of `other` after the own ones; `other` is then empty and keeps its room. Upstream: `TryVec::append`.
     ///
     /// # Errors
     /// As `reserve` for the length of `other`. Both vectors are then as before.
@@ -205,7 +205,7 @@ impl<T, A: Handle> TryVec<T, A> {
         FallibleVec::try_resize_with(&mut self.inner, new_len, f)
     }
 
-    /// Puts a copy of each item of `other`, by `try_clone`, behind the own ones. Upstream: `TryVec::extend_from_slice`.
+    /// Puts a copy of each item of `other`, by `try_clone`, after the own ones. Upstream: `TryVec::extend_from_slice`.
     ///
     /// # Errors
     /// As `reserve` for the length of `other`, before the first copy, and the vector is as before; or the error of a refused

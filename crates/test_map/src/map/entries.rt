@@ -200,7 +200,7 @@ fn tracked_up_to<'a>(alloc: Global, last: usize, kept: &'a Drops) -> Option<Trac
 
 // A run that gets its memory from elsewhere, as one without proof does, would show nothing, and fails.
 #[test]
-fn a_refused_entry_calls_its_closure_once_and_hands_its_value_back(
+fn a_refused_entry_calls_its_closure_once_and_hands_its_value_back_not_in_a_trial(
     rt: HostRuntime,
 ) -> Result<(), Fail> {
     let (kept, refused) = (no_drops(), no_drops());

@@ -89,7 +89,7 @@ fn entry_hands_the_default_back(map: &mut TaggedMap) -> bool {
 // The pairs fill a leaf, so that each new key takes memory. A run that gets its memory from elsewhere, as one without proof does, would
 // show nothing, and fails.
 #[test]
-fn each_refused_call_hands_its_pair_back(rt: HostRuntime) -> Result<(), Fail> {
+fn each_refused_call_hands_its_pair_back_not_in_a_trial(rt: HostRuntime) -> Result<(), Fail> {
     let mut map = tagged_below(rt.alloc(), BEYOND)?;
     let held = take_all_memory(rt.alloc())?;
     let is_right = !is_ample(rt.alloc())
@@ -116,7 +116,7 @@ fn hands_back(map: &mut Numbers, number: u64, given: u64) -> bool {
 
 // A run that gets its memory from elsewhere, as one without proof does, would show nothing, and fails.
 #[test]
-fn a_refused_pair_goes_in_once_memory_is_there(rt: HostRuntime) -> Result<(), Fail> {
+fn a_refused_pair_goes_in_once_memory_is_there_not_in_a_trial(rt: HostRuntime) -> Result<(), Fail> {
     let mut map = multiples(rt.alloc(), 1, BEYOND, 1)?;
     let held = take_all_memory(rt.alloc())?;
     let is_back = !is_ample(rt.alloc()) && hands_back(&mut map, BEYOND, 7);

@@ -117,30 +117,30 @@ fn a_map_that_is_made_or_refused_gives_up_each_item(rt: HostRuntime) {
 }
 
 // Takes room for four more in a map of so many, puts so many in, and drops the room and the map with what is left.
-fn has_room(alloc: Global, len: u64, used: u64) -> Result<bool, TryReserveError> {
+fn has_reserved(alloc: Global, len: u64, used: u64) -> Result<bool, TryReserveError> {
     let mut map = owners(alloc, 0, len, 1)?;
-    let mut room = map.try_room_for(4)?;
+    let mut reservation = map.try_reserve_nodes(4)?;
     for number in len..len.wrapping_add(used) {
         let (key, value) = pair(alloc, number)?;
-        if room.places() > 0 && map.len() < room.pairs() {
-            map.insert_with(&mut room, key, value);
+        if reservation.places() > 0 && map.len() < reservation.pairs() {
+            map.insert_reserved(&mut reservation, key, value);
         }
     }
-    let left = room.places() as u64;
+    let left = reservation.places() as u64;
     Ok(map.len() as u64 == len.wrapping_add(used) && left.wrapping_add(used) == 4)
 }
 
 #[test]
-fn room_that_is_used_or_not_is_given_up(rt: HostRuntime) {
+fn a_reservation_that_is_used_or_not_is_given_up(rt: HostRuntime) {
     for (len, used) in [(0, 0), (0, 1), (15, 0), (15, 1), (15, 4)] {
-        assert!(rt; is_right(has_room(rt.alloc(), len, used)));
+        assert!(rt; is_right(has_reserved(rt.alloc(), len, used)));
     }
 }
 
 // The root of a full path is split, for which three nodes of the room are taken.
 #[test]
-fn room_on_three_levels_is_given_up(rt: HostRuntime) {
+fn a_reservation_on_three_levels_is_given_up(rt: HostRuntime) {
     for used in 0..5 {
-        assert!(rt; is_right(has_room(rt.alloc(), 150, used)));
+        assert!(rt; is_right(has_reserved(rt.alloc(), 150, used)));
     }
 }

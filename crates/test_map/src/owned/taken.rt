@@ -202,18 +202,18 @@ fn two_pairs_go_in_or_come_back_with_each_node_given_up(rt: HostRuntime) {
 fn replaces_both(alloc: Global) -> Result<bool, TryReserveError> {
     let mut a = owners(alloc, 0, FEW, 1)?;
     let mut b = owners(alloc, 0, FEW, 1)?;
-    let mut room = a.try_room_for(1)?;
+    let mut reservation = a.try_reserve_nodes(1)?;
     let (first, value) = pair(alloc, 7)?;
     let (second, other) = pair(alloc, 8)?;
     let (old, other_old) = insert_both(&mut a, &mut b, first, value, second, other)?;
     let (key, value) = pair(alloc, 9)?;
-    let is_there = room.places() == 1
-        && a.len() < room.pairs()
-        && is_number(a.insert_with(&mut room, key, value), 9);
-    Ok(is_there && is_number(old, 7) && is_number(other_old, 8) && room.places() == 1)
+    let is_there = reservation.places() == 1
+        && a.len() < reservation.pairs()
+        && is_number(a.insert_reserved(&mut reservation, key, value), 9);
+    Ok(is_there && is_number(old, 7) && is_number(other_old, 8) && reservation.places() == 1)
 }
 
 #[test]
-fn keys_that_are_there_are_given_up_by_two_insertions_and_with_room(rt: HostRuntime) {
+fn keys_that_are_there_are_given_up_by_two_insertions_and_with_a_reservation(rt: HostRuntime) {
     assert!(rt; is_right(replaces_both(rt.alloc())));
 }

@@ -8,5 +8,5 @@ returns-then-kept-end-clause-rewritten c = rewritten_none (entries c.args.held.n
     c.args.owner c.requires.order.0 c.release.ensures.released c.requires.order.1 c.if-kept-end.true
 
 pub returns-clause-rewritten : goal.returns-clause-rewritten
-returns-clause-rewritten c = rw c.insert_with.ensures.put (rewritten (entries c.args.held.now) (entries c.release-2.new.held) c.args.start c.args.kept
+returns-clause-rewritten c = rw c.insert_reserved.ensures.put (rewritten (entries c.args.held.now) (entries c.release-2.new.held) c.args.start c.args.kept
     c.args.end c.args.owner c.requires.order.0 c.release-2.ensures.released (omega (arith, c.if-kept-end.false)) c.requires.free)

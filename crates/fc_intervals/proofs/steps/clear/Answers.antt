@@ -27,12 +27,12 @@ returns-in_default-clause-fits g c =
           (entries c.end_at.new.map) (entries c.remove_range.new.self) c.end_at.ensures.ended c.remove_range.ensures.rest,
     )
 
-pub insert_with-requires-clause-place : goal.insert_with-requires-clause-place
-insert_with-requires-clause-place g c =
+pub insert_reserved-requires-clause-place : goal.insert_reserved-requires-clause-place
+insert_reserved-requires-clause-place g c =
     omega (arith, ap rest_count c.in-Some.is, c.requires.place)
 
-pub insert_with-requires-clause-fits : goal.insert_with-requires-clause-fits
-insert_with-requires-clause-fits g c =
+pub insert_reserved-requires-clause-fits : goal.insert_reserved-requires-clause-fits
+insert_reserved-requires-clause-fits g c =
     omega (
       arith,
       ap rest_count c.in-Some.is,
@@ -51,13 +51,13 @@ returns-clause-cleared g c =
     let removed : entries c.remove_range.new.self ≡ ahead cmp s a ++ not_below cmp s b =
     c.remove_range.ensures.rest ∙ ap (outside cmp (Included a) (Excluded b)) c.end_at.ensures.ended
     ∙ cleared_is cmp g.met.K.Ord.total s c.requires.apart a b c.requires.range in
-    c.insert_with.ensures.put ∙ ap (λ t. put cmp t b c.in-Some.rest) removed
+    c.insert_reserved.ensures.put ∙ ap (λ t. put cmp t b c.in-Some.rest) removed
     ∙ put_rest cmp g.met.K.Ord.total s c.requires.apart a b c.requires.range rest.0 c.in-Some.rest rest.1 (is_less _ rest.2)
     ∙ ap (λ r. ahead cmp s a ++ (starting b r ++ not_below cmp s b)) (sym c.in-Some.is)
 
 pub returns-clause-places : goal.returns-clause-places
 returns-clause-places g c =
-    let p = places_after c.insert_with.result c.insert_with.new.room.places c.args.room.now.places c.insert_with.ensures.places in
+    let p = places_after c.insert_reserved.result c.insert_reserved.new.reservation.places c.args.reservation.now.places c.insert_reserved.ensures.places in
     omega (arith, ap rest_count c.in-Some.is, p)
 
 pub returns-clause-fits : goal.returns-clause-fits
@@ -66,5 +66,5 @@ returns-clause-fits g c =
       arith,
       cleared_length g.K.Ord.cmp g.met.K.Ord.total (entries c.args.map.now) c.requires.apart c.args.from c.args.to
           (entries c.end_at.new.map) (entries c.remove_range.new.self) c.end_at.ensures.ended c.remove_range.ensures.rest,
-      c.insert_with.ensures.total,
+      c.insert_reserved.ensures.total,
     )

@@ -2,8 +2,8 @@
 ghost use Rattle.std.specs.Prelude.{◌≡◌, ℕ};
 ghost use Rattle.fc_map.specs.Ready.{IsReadyAt, ready-prop};
 
-mod calls;
 mod debug;
+mod ready_entry_methods;
 mod try_ready;
 
 use super::super::BTreeMap;

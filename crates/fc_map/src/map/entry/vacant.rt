@@ -1,4 +1,4 @@
-//! The gap of a key that is not there.
+//! Vacant entries: the leaf edge, a gap between pairs, where an absent key would go.
 ghost use Rattle.std.specs.Prelude.{◌≡◌, ◌+◌, ◌<◌, length, IsErr, IfOk, IfErr, OnErr, OnOk, Some};
 ghost use Rattle.std.specs.Borrow.{sem};
 ghost use Rattle.fc_base.specs.Growth.{MayGrowRefuse};

@@ -14,7 +14,6 @@ first_pair-requires g c = let r = root_sound _ _ c.in-Some-theirs.is c.requires.
 
 pub returns-clause-beyond : goal.returns-clause-beyond
 returns-clause-beyond g c h =
-    let some = c.requires.some in
     let ours = entries c.args.ours.now in
     let theirs = entries c.args.theirs.now in
     let l : pairs_of c.in-Some.left ≡ ours = ap (λ o. entries o) (sym c.in-Some.is) in
@@ -26,7 +25,6 @@ returns-clause-beyond g c h =
 
 pub returns-clause-told : goal.returns-clause-told
 returns-clause-told g c a =
-    let some = c.requires.some in
     let ours = entries c.args.ours.now in
     let theirs = entries c.args.theirs.now in
     let l : pairs_of c.in-Some.left ≡ ours = ap (λ o. entries o) (sym c.in-Some.is) in

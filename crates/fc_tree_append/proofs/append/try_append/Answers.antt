@@ -1,9 +1,9 @@
 use Rattle.std.proofs.Common.{length, rules, sym, ap, subst, ◌∙◌, arith, length-append}
+use Rattle.std.proofs.lemmas.List.{nil_from_length}
 use denote.Param.{param}
 use Rattle.fc_base.specs.Ascending.{IsAscending}
 use Rattle.fc_base.specs.Joined.{joined}
 use Rattle.fc_tree_node.specs.Tree.{entries, IsSoundMap}
-use Rattle.fc_tree_drain.proofs.Opening.{no_item}
 use Rattle.fc_base.proofs.JoinedLaws.{joined_behind}
 use Rattle.fc_tree_build.proofs.StackSizes.{builder_fits}
 use Rattle.fc_tree_append.proofs.JoinFacts.{joined_none}
@@ -11,9 +11,7 @@ use Rattle.fc_tree_append.proofs.append.try_append.Goals as goal
 
 pub returns-then-our_len-eq0-clause-joined : goal.returns-then-our_len-eq0-clause-joined
 returns-then-our_len-eq0-clause-joined g c =
-    let l = c.requires.lens.0 in
-    let z = c.if-our_len-eq0.true in
-    let e = no_item (entries c.args.ours.now) (omega arith) in
+    let e = nil_from_length (entries c.args.ours.now) (omega arith) in
     let theirs = entries c.args.theirs.now in
     ap (λ r. entries r) c.swap.ensures.x_after ∙ sym (ap (λ xs. joined g.K.Ord.cmp xs theirs) e ∙ joined_none g.K.Ord.cmp theirs c.requires.order.1)
 
@@ -44,12 +42,6 @@ merge-root-requires g c =
     let y = c.take-2.ensures.value in
     let ours = ap (λ o. length (entries o)) x in
     let theirs = ap (λ o. length (entries o)) y in
-    let a = c.requires.lens.0 in
-    let b = c.requires.lens.1 in
-    let v = c.if-our_len-eq0.false in
-    let w = c.if-their_len-eq0.false in
-    let n = c.in-Some.ensures in
-    let r = c.in_ok-builder.ensures.ok.1 in
     let first = subst (λ o. IsAscending g.K.Ord.cmp (entries o)) (sym x) c.requires.order.0 in
     let second = subst (λ o. IsAscending g.K.Ord.cmp (entries o)) (sym y) c.requires.order.1 in (
       builder_fits (param 0 g.row.K) (param 1 g.row.V) g.row.A g.A.Allocator g.met.A.Handle.small,
@@ -57,7 +49,7 @@ merge-root-requires g c =
         (omega arith, omega arith),
         (
           (subst (λ o. IsSoundMap o) (sym x) c.requires.sound.0, subst (λ o. IsSoundMap o) (sym y) c.requires.sound.1),
-          ((first, second), (c.in_ok-builder.ensures.ok.0, omega arith)),
+          ((first, second), (c.in_ok-builder.ensures.ok.0, omega (arith, c.in_ok-builder.ensures.ok.1))),
         ),
       ),
     )
@@ -66,18 +58,10 @@ pub returns-clause-comparisons : goal.returns-clause-comparisons
 returns-clause-comparisons g c =
     let ours = ap (λ o. length (entries o)) c.take.ensures.value in
     let theirs = ap (λ o. length (entries o)) c.take-2.ensures.value in
-    let a = c.requires.lens.0 in
-    let b = c.requires.lens.1 in
-    let one = c.is_beyond.ensures.comparisons in
-    let all = c.merge-root.ensures.comparisons in
     omega arith
 
 pub returns-clause-merged : goal.returns-clause-merged
 returns-clause-merged g c behind =
     let ours = ap (λ o. length (entries o)) c.take.ensures.value in
     let theirs = ap (λ o. length (entries o)) c.take-2.ensures.value in
-    let a = c.requires.lens.0 in
-    let b = c.requires.lens.1 in
-    let one = c.is_beyond.ensures.comparisons in
-    let all = c.merge-root.ensures.least in
     omega arith

@@ -1,19 +1,16 @@
-use Rattle.std.proofs.Common.{◌≡◌, ℕ, suc, ◌+◌, ◌-◌, ◌<◌, ◌≤◌, length, rules, ap, sym, subst, arith, Some}
+use Rattle.std.proofs.Common.{◌≡◌, ℕ, suc, ◌+◌, ◌-◌, ◌<◌, ◌≤◌, length, rules, sym, subst, arith, Some}
 use Rattle.fc_base.specs.Sizes.{min_len}
 use Rattle.fc_tree_node.specs.Node.{own_pairs, child_at, pairs_of, IsLevelled, IsSound}
-use Rattle.fc_tree_node.proofs.Formed.{leaf_or_inner}
-use Rattle.fc_tree_node.proofs.Made.{child_set, inner_length}
-use Rattle.fc_tree_node.proofs.Shared.{listed_child}
-use Rattle.fc_tree_insertion.proofs.InsertedLevels.{inner_kept}
+use Rattle.fc_tree_node.proofs.Lent.{lent_is, replaced}
 use Rattle.fc_tree_append.specs.Hung.{IsHung}
 use Rattle.fc_tree_append.proofs.HungFacts.{placed_pairs, placed_levels, IsOnBorder, on_border, stay_pairs, stay_levels, put_pairs, put_levels, used_most}
 use Rattle.fc_tree_append.proofs.hanging.+hang_below.Given as given
 use Rattle.fc_tree_append.proofs.hanging.+hang_below.Goals as goal
-use Rattle.fc_tree_append.proofs.hanging.+hang_below.Goals.{After-border_child-place, After-get_mut-child}
+use Rattle.fc_tree_append.proofs.hanging.+hang_below.Goals.{After-border_child-place, After-child_in-child}
 
 -- the level of the node, and of its children
 deeper : (g : given.Over) (t : ℕ) (c : goal.After-border_child-place g t) (h : ℕ) → c.args.depth + h ≡ suc (c.args.depth - 1 + h)
-deeper g t c h = let z = c.if-depth-eq0.false in omega arith
+deeper g t c h = omega arith
 
 -- the child on the border of the node
 on : (g : given.Over) (t : ℕ) (c : goal.After-border_child-place g t) (h : ℕ) → IsLevelled (c.args.depth + h) c.args.node.now
@@ -21,13 +18,9 @@ on : (g : given.Over) (t : ℕ) (c : goal.After-border_child-place g t) (h : ℕ
 on g t c h l = on_border c.args.side _ _ _ (subst (λ k. IsLevelled k c.args.node.now) (deeper g t c h) l) c.border_child-place.ensures.value
 
 -- is what was lent out
-lent : (g : given.Over) (t : ℕ) (c : goal.After-get_mut-child g t) (b : ℕ) → IsOnBorder c.args.side b c.args.node.now c.border_child-place.result
-    → c.get_mut-child.result.now ≡ child_at c.args.node.now c.border_child-place.result
-lent g t c b on =
-    let many = inner_length c.args.node.now _ c.in-Some.is on.levels.1 in
-    let le = on.le in
-    let place = c.border_child-place.result in
-    listed_child c.args.node.now place _ c.in-Some.is place c.get_mut-child.result.now (omega arith) c.get_mut-child.ensures.value
+lent : (g : given.Over) (t : ℕ) (c : goal.After-child_in-child g t) (b : ℕ) → IsOnBorder c.args.side b c.args.node.now c.border_child-place.result
+    → c.child_in-child.result.now ≡ child_at c.args.node.now c.border_child-place.result
+lent g t c b on = lent_is c.args.node.now c.border_child-place.result _ on.levels.1 on.le c.child_in-child.ensures.value
 
 pub returns-then-depth-eq0-clause-pairs : goal.returns-then-depth-eq0-clause-pairs
 returns-then-depth-eq0-clause-pairs g t c =
@@ -35,32 +28,22 @@ returns-then-depth-eq0-clause-pairs g t c =
 
 pub returns-then-depth-eq0-clause-levels : goal.returns-then-depth-eq0-clause-levels
 returns-then-depth-eq0-clause-levels g t c h l o =
-    let z = c.if-depth-eq0.true in
     let none : c.args.depth ≡ 0 = omega arith in
     let same : c.args.depth + h ≡ h = omega arith in
     let sound : IsSound h c.args.node.now = (c.requires.some none, subst (λ k. IsLevelled k c.args.node.now) same l) in
     subst (λ k. IsHung c.args.side k c.put_beside.new.node (Some (c.args.pair, c.put_beside.result))) (sym same)
     (placed_levels c.args.side h c.args.node.now c.args.other c.put_beside.new.node c.put_beside.result c.put_beside.ensures sound o)
 
-pub unreachable-requires : goal.unreachable-requires
-unreachable-requires g t c =
-    let o = on g t (goal.at.unreachable-requires g t c).After-border_child-place c.requires.levels.0 c.requires.levels.1 in
-    leaf_or_inner c.args.node.now c.in-None.is o.levels.1
-
-pub get_mut-child-requires : goal.get_mut-child-requires
-get_mut-child-requires g t c =
-    let o = on g t (goal.at.get_mut-child-requires g t c).After-border_child-place c.requires.levels.0 c.requires.levels.1 in
-    let many = inner_length c.args.node.now _ c.in-Some.is o.levels.1 in
-    let le = o.le in
-    omega arith
+pub child_in-child-requires : goal.child_in-child-requires
+child_in-child-requires g t c =
+    let o = on g t (goal.at.child_in-child-requires g t c).After-border_child-place c.requires.levels.0 c.requires.levels.1 in
+    omega (arith, o.levels.1, o.le)
 
 pub hang_below-below-requires : goal.hang_below-below-requires
 hang_below-below-requires g t c κs within =
     let l = c.requires.levels in
     let o = on g t (goal.at.hang_below-below-requires g t c).After-border_child-place l.0 l.1 in
-    let ci = sym (lent g t (goal.at.hang_below-below-requires g t c).After-get_mut-child _ o) in
-    let z = c.if-depth-eq0.false in
-    let spares = c.requires.spares in
+    let ci = sym (lent g t (goal.at.hang_below-below-requires g t c).After-child_in-child _ o) in
     let falls : c.args.depth - 1 < c.args.depth = omega arith in
     let some = subst (λ k. min_len ≤ length (own_pairs k)) ci o.child.0 in
     (search rules, (search rules, (search rules, (search rules, ((l.0, subst (IsLevelled _) ci o.child.1, l.2), ((λ _. some), omega arith))))))
@@ -68,50 +51,43 @@ hang_below-below-requires g t c κs within =
 pub put_inner-requires : goal.put_inner-requires
 put_inner-requires g t c =
     let o = on g t (goal.at.put_inner-requires g t c).After-border_child-place c.requires.levels.0 c.requires.levels.1 in
-    let m = child_set c.args.node.now _ c.border_child-place.result c.hang_below-below.new.node c.in-Some.is in
-    let same = ap length m.same in
-    let le = o.le in
-    let z = c.if-depth-eq0.false in
-    let spares = c.requires.spares in
-    let left = c.hang_below-below.ensures.spares in
-    record { in_bounds = omega arith; inner = inner_kept c.args.node.now _ _ _ m o.levels.1; some = λ _. omega arith }
+    let m = replaced c.args.node.now c.border_child-place.result c.hang_below-below.new.node in
+    record { in_bounds = omega arith; inner = m.inner o.levels.1; some = λ _. omega arith }
 
-pub returns-in-None-below-clause-pairs : goal.returns-in-None-below-clause-pairs
-returns-in-None-below-clause-pairs g t c =
-    let o = on g t (goal.at.returns-in-None-below-clause-pairs g t c).After-border_child-place c.requires.levels.0 c.requires.levels.1 in
-    let ci = lent g t (goal.at.returns-in-None-below-clause-pairs g t c).After-get_mut-child _ o in
-    stay_pairs c.args.side _ _ _ c.hang_below-below.new.node _ o (child_set _ _ _ _ c.in-Some.is) c.args.pair (pairs_of c.args.other)
-    (rw ci at c.in-None-below.ensures.pairs)
+pub returns-in-None-clause-pairs : goal.returns-in-None-clause-pairs
+returns-in-None-clause-pairs g t c =
+    let o = on g t (goal.at.returns-in-None-clause-pairs g t c).After-border_child-place c.requires.levels.0 c.requires.levels.1 in
+    let ci = lent g t (goal.at.returns-in-None-clause-pairs g t c).After-child_in-child _ o in
+    stay_pairs c.args.side _ _ _ c.hang_below-below.new.node _ o (replaced _ _ _) c.args.pair (pairs_of c.args.other)
+    (rw ci at c.in-None.ensures.pairs)
 
-pub returns-in-None-below-clause-levels : goal.returns-in-None-below-clause-levels
-returns-in-None-below-clause-levels g t c h l k =
-    let b = (goal.at.returns-in-None-below-clause-levels g t c).After-border_child-place in
+pub returns-in-None-clause-levels : goal.returns-in-None-clause-levels
+returns-in-None-clause-levels g t c h l k =
+    let b = (goal.at.returns-in-None-clause-levels g t c).After-border_child-place in
     let o = on g t b h l in
-    let ci = lent g t (goal.at.returns-in-None-below-clause-levels g t c).After-get_mut-child _ o in
-    rw (deeper g t b h) (stay_levels c.args.side _ _ _ c.hang_below-below.new.node _ o (child_set _ _ _ _ c.in-Some.is)
-    (c.in-None-below.ensures.levels h (subst (IsLevelled _) (sym ci) o.child.1) k))
+    let ci = lent g t (goal.at.returns-in-None-clause-levels g t c).After-child_in-child _ o in
+    rw (deeper g t b h) (stay_levels c.args.side _ _ _ c.hang_below-below.new.node _ o (replaced _ _ _)
+    (c.in-None.ensures.levels h (subst (IsLevelled _) (sym ci) o.child.1) k))
 
-pub returns-in-Some-below-clause-pairs : goal.returns-in-Some-below-clause-pairs
-returns-in-Some-below-clause-pairs g t c =
-    let o = on g t (goal.at.returns-in-Some-below-clause-pairs g t c).After-border_child-place c.requires.levels.0 c.requires.levels.1 in
-    let ci = lent g t (goal.at.returns-in-Some-below-clause-pairs g t c).After-get_mut-child _ o in
+pub returns-in-Some-clause-pairs : goal.returns-in-Some-clause-pairs
+returns-in-Some-clause-pairs g t c =
+    let o = on g t (goal.at.returns-in-Some-clause-pairs g t c).After-border_child-place c.requires.levels.0 c.requires.levels.1 in
+    let ci = lent g t (goal.at.returns-in-Some-clause-pairs g t c).After-child_in-child _ o in
     let p = c.put_inner.ensures in
-    put_pairs c.args.side _ _ _ c.hang_below-below.new.node _ o (child_set _ _ _ _ c.in-Some.is) c.args.pair (pairs_of c.args.other) c.put_inner.new.node
-    c.in-Some-below.right c.put_inner.result c.in-Some-below.up p.pairs p.children p.inner.0 p.inner.1 (rw ci at c.in-Some-below.ensures.pairs)
+    put_pairs c.args.side _ _ _ c.hang_below-below.new.node _ o (replaced _ _ _) c.args.pair (pairs_of c.args.other) c.put_inner.new.node
+    c.in-Some.right c.put_inner.result c.in-Some.up p.pairs p.children p.inner.0 p.inner.1 (rw ci at c.in-Some.ensures.pairs)
 
-pub returns-in-Some-below-clause-levels : goal.returns-in-Some-below-clause-levels
-returns-in-Some-below-clause-levels g t c h l k =
-    let b = (goal.at.returns-in-Some-below-clause-levels g t c).After-border_child-place in
+pub returns-in-Some-clause-levels : goal.returns-in-Some-clause-levels
+returns-in-Some-clause-levels g t c h l k =
+    let b = (goal.at.returns-in-Some-clause-levels g t c).After-border_child-place in
     let o = on g t b h l in
-    let ci = lent g t (goal.at.returns-in-Some-below-clause-levels g t c).After-get_mut-child _ o in
-    let hung = c.in-Some-below.ensures.levels h (subst (IsLevelled _) (sym ci) o.child.1) k in
+    let ci = lent g t (goal.at.returns-in-Some-clause-levels g t c).After-child_in-child _ o in
+    let hung = c.in-Some.ensures.levels h (subst (IsLevelled _) (sym ci) o.child.1) k in
     let p = c.put_inner.ensures in
-    rw (deeper g t b h) (put_levels c.args.side _ _ _ c.hang_below-below.new.node _ o (child_set _ _ _ _ c.in-Some.is) c.put_inner.new.node
-    c.in-Some-below.right c.put_inner.result c.in-Some-below.up hung p.children p.inner.0 p.inner.1 p.size)
+    rw (deeper g t b h) (put_levels c.args.side _ _ _ c.hang_below-below.new.node _ o (replaced _ _ _) c.put_inner.new.node
+    c.in-Some.right c.put_inner.result c.in-Some.up hung p.children p.inner.0 p.inner.1 p.size)
 
-pub returns-in-Some-below-clause-spares : goal.returns-in-Some-below-clause-spares
-returns-in-Some-below-clause-spares g t c =
-    let z = c.if-depth-eq0.false in
-    let left = c.hang_below-below.ensures.spares in
+pub returns-in-Some-clause-spares : goal.returns-in-Some-clause-spares
+returns-in-Some-clause-spares g t c =
     let most = used_most c.put_inner.result _ _ c.put_inner.ensures.used in
     omega arith

@@ -12,9 +12,6 @@ pub height-requires : goal.height-requires
 height-requires g t c κs within =
     let r = first_below c.requires.0 c.args.node.now (λ l. false≢true (c.if-is_leaf.ensures.1 l)) c.requires.2 in
     let q = ap height_of c.child.ensures in
-    let lower = r.lower in
-    let height = r.height in
-    let fits = c.requires.1 in
     let falls : height_of c.child.result.now < height_of c.args.node.now = omega arith in
     (search rules, (search rules, (search rules, (search rules, (r.below, omega arith, subst (IsLevelled r.below) (sym c.child.ensures) r.levels)))))
 
@@ -22,13 +19,10 @@ pub overflow_add-result : goal.overflow_add-result
 overflow_add-result g t c =
     let r = first_below c.requires.0 c.args.node.now (λ l. false≢true (c.if-is_leaf.ensures.1 l)) c.requires.2 in
     let e = c.height.ensures r.below (subst (IsLevelled r.below) (sym c.child.ensures) r.levels) in
-    let height = r.height in
-    let fits = c.requires.1 in
     omega arith
 
 pub returns : goal.returns
 returns g t c h l =
     let r = first_below h c.args.node.now (λ k. false≢true (c.if-is_leaf.ensures.1 k)) l in
     let e = c.height.ensures r.below (subst (IsLevelled r.below) (sym c.child.ensures) r.levels) in
-    let height = r.height in
     omega arith

@@ -18,18 +18,12 @@ all g c = put_root c.grow.new.root c.args.left c.args.right c.args.pair c.grow.e
 pub merge-requires : goal.merge-requires
 merge-requires g c =
     let k = crowned g (goal.at.merge-requires g c).After-grow c.requires.levels.0 c.requires.levels.1 c.requires.levels.2 in
-    let x = c.len-ours.ensures.value in
-    let y = c.len-theirs.ensures.value in
-    let z = c.if-ours-theirs-lt-CAPACITY.true in
     let own = ap length k.own in
     record { in_bounds = omega arith; inner = crowned_inner k; alike = crowned_alike k; room = crowned_room k (omega arith) }
 
 pub mend-requires : goal.mend-requires
 mend-requires g c =
     let k = crowned g (goal.at.mend-requires g c).After-grow c.requires.levels.0 c.requires.levels.1 c.requires.levels.2 in
-    let x = c.len-ours.ensures.value in
-    let y = c.len-theirs.ensures.value in
-    let z = c.if-ours-theirs-lt-CAPACITY.true in
     (suc c.requires.levels.0, merged_right k c.merge.new.self (omega arith) c.merge.ensures.merged)
 
 pub returns-then-ours-theirs-lt-CAPACITY-clause-pairs : goal.returns-then-ours-theirs-lt-CAPACITY-clause-pairs
@@ -39,18 +33,11 @@ returns-then-ours-theirs-lt-CAPACITY-clause-pairs g c =
 pub returns-then-ours-theirs-lt-CAPACITY-clause-levels : goal.returns-then-ours-theirs-lt-CAPACITY-clause-levels
 returns-then-ours-theirs-lt-CAPACITY-clause-levels g c h a b =
     let k = crowned g (goal.at.returns-then-ours-theirs-lt-CAPACITY-clause-levels g c).After-grow h a b in
-    let x = c.len-ours.ensures.value in
-    let y = c.len-theirs.ensures.value in
-    let z = c.if-ours-theirs-lt-CAPACITY.true in
     c.mend.ensures.levels (suc h) (merged_right k c.merge.new.self (omega arith) c.merge.ensures.merged)
 
 pub mend-requires-then-ours-lt-MIN_LEN : goal.mend-requires-then-ours-lt-MIN_LEN
 mend-requires-then-ours-lt-MIN_LEN g c =
     let k = crowned g (goal.at.mend-requires-then-ours-lt-MIN_LEN g c).After-grow c.requires.levels.0 c.requires.levels.1 c.requires.levels.2 in
-    let x = c.len-ours.ensures.value in
-    let y = c.len-theirs.ensures.value in
-    let z = c.if-ours-theirs-lt-CAPACITY.false in
-    let w = c.if-ours-lt-MIN_LEN.true in
     (suc c.requires.levels.0, crowned_left k (omega arith))
 
 pub returns-then-ours-lt-MIN_LEN-clause-pairs : goal.returns-then-ours-lt-MIN_LEN-clause-pairs
@@ -60,17 +47,11 @@ returns-then-ours-lt-MIN_LEN-clause-pairs g c =
 pub returns-then-ours-lt-MIN_LEN-clause-levels : goal.returns-then-ours-lt-MIN_LEN-clause-levels
 returns-then-ours-lt-MIN_LEN-clause-levels g c h a b =
     let k = crowned g (goal.at.returns-then-ours-lt-MIN_LEN-clause-levels g c).After-grow h a b in
-    let x = c.len-ours.ensures.value in
-    let y = c.len-theirs.ensures.value in
-    let z = c.if-ours-theirs-lt-CAPACITY.false in
-    let w = c.if-ours-lt-MIN_LEN.true in
     c.mend-then-ours-lt-MIN_LEN.ensures.levels (suc h) (crowned_left k (omega arith))
 
 pub mend-requires-2 : goal.mend-requires-2
 mend-requires-2 g c =
     let k = crowned g (goal.at.mend-requires-2 g c).After-grow c.requires.levels.0 c.requires.levels.1 c.requires.levels.2 in
-    let x = c.len-ours.ensures.value in
-    let w = c.if-ours-lt-MIN_LEN.false in
     (suc c.requires.levels.0, crowned_right k (omega arith))
 
 pub returns-clause-pairs : goal.returns-clause-pairs
@@ -79,6 +60,4 @@ returns-clause-pairs g c = c.mend-2.ensures.pairs ∙ all g (goal.at.returns-cla
 pub returns-clause-levels : goal.returns-clause-levels
 returns-clause-levels g c h a b =
     let k = crowned g (goal.at.returns-clause-levels g c).After-grow h a b in
-    let x = c.len-ours.ensures.value in
-    let w = c.if-ours-lt-MIN_LEN.false in
     c.mend-2.ensures.levels (suc h) (crowned_right k (omega arith))

@@ -30,7 +30,6 @@ hang-requires g c =
     let f = heights g (goal.at.hang-requires g c).After-height-theirs in
     let l = c.requires.left in
     let r = c.requires.right in
-    let z = c.if-ours-theirs.true in
     let same : r.0 ≡ c.height-theirs.result - c.height-ours.result + l.0 = omega arith in
     let levels = rw same at r.2.1 in
     record { levels = (l.0, levels, (c.remove_last-pair.ensures.levels l.0 l.2).0); some = λ e. absurd (omega arith); spares = omega arith }
@@ -45,7 +44,6 @@ returns-then-ours-theirs-clause-levels g c =
     let f = heights g (goal.at.returns-then-ours-theirs-clause-levels g c).After-height-theirs in
     let l = c.requires.left in
     let r = c.requires.right in
-    let z = c.if-ours-theirs.true in
     let same : r.0 ≡ c.height-theirs.result - c.height-ours.result + l.0 = omega arith in
     let levels = rw same at r.2.1 in
     within_more _ most_levels _ (omega arith) (c.hang.ensures.levels l.0 levels (c.remove_last-pair.ensures.levels l.0 l.2).0)
@@ -58,7 +56,6 @@ hang-requires-then-ours-theirs-2 g c =
     let f = heights g (goal.at.hang-requires-then-ours-theirs-2 g c).After-height-theirs in
     let l = c.requires.left in
     let r = c.requires.right in
-    let z = c.if-ours-theirs-2.true in
     let same : l.0 ≡ c.height-ours.result - c.height-theirs.result + r.0 = omega arith in
     let levels = rw same at l.2.1 in
     record { levels = (r.0, levels, (c.remove_first-pair.ensures.levels r.0 r.2).0); some = λ e. absurd (omega arith); spares = omega arith }
@@ -72,7 +69,6 @@ returns-then-ours-theirs-2-clause-levels g c =
     let f = heights g (goal.at.returns-then-ours-theirs-2-clause-levels g c).After-height-theirs in
     let l = c.requires.left in
     let r = c.requires.right in
-    let z = c.if-ours-theirs-2.true in
     let same : l.0 ≡ c.height-ours.result - c.height-theirs.result + r.0 = omega arith in
     let levels = rw same at l.2.1 in
     within_more _ most_levels _ (omega arith) (c.hang-then-ours-theirs-2.ensures.levels r.0 levels (c.remove_first-pair.ensures.levels r.0 r.2).0)
@@ -85,8 +81,6 @@ crown-requires-clause-levels g c =
     let f = heights g (goal.at.crown-requires-clause-levels g c).After-height-theirs in
     let l = c.requires.left in
     let r = c.requires.right in
-    let z = c.if-ours-theirs.false in
-    let w = c.if-ours-theirs-2.false in
     let same : l.0 ≡ r.0 = omega arith in
     (r.0, rw same at l.2.1, (c.remove_first-pair.ensures.levels r.0 r.2).0)
 
@@ -98,8 +92,6 @@ returns-clause-levels g c =
     let f = heights g (goal.at.returns-clause-levels g c).After-height-theirs in
     let l = c.requires.left in
     let r = c.requires.right in
-    let z = c.if-ours-theirs.false in
-    let w = c.if-ours-theirs-2.false in
     let same : l.0 ≡ r.0 = omega arith in
     let levels = rw same at l.2.1 in
     within_more _ most_levels _ (omega arith) (c.crown.ensures.levels r.0 levels (c.remove_first-pair.ensures.levels r.0 r.2).0)

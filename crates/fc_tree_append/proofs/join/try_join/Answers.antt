@@ -22,9 +22,6 @@ try_spares-requires g c =
     let r = root_sound _ _ c.in-Some-theirs.is c.requires.sound.1 in
     let x = c.height.ensures l.0 l.2.1 in
     let y = c.height-2.ensures r.0 r.2.1 in
-    let a = l.1 in
-    let b = r.1 in
-    let d = c.abs_diff-levels.ensures in
     omega arith
 
 pub join-requires-clause-left : goal.join-requires-clause-left
@@ -39,9 +36,7 @@ join-requires-clause-spares g c a b l r =
     let right : c.in-Some-theirs.right ≡ c.in-Some-take-2.right = cc (c.in-Some-theirs.is, c.take-2.ensures.value, c.in-Some-take-2.is) in
     let x = c.height.ensures a (subst (IsLevelled a) (sym left) l.1) in
     let y = c.height-2.ensures b (subst (IsLevelled b) (sym right) r.1) in
-    let d = c.abs_diff-levels.ensures in
-    let s = c.in_ok-spares.ensures.len in
-    (omega arith, omega arith)
+    (omega (arith, c.abs_diff-levels.ensures, c.in_ok-spares.ensures.len), omega (arith, c.abs_diff-levels.ensures, c.in_ok-spares.ensures.len))
 
 pub returns-clause-pairs : goal.returns-clause-pairs
 returns-clause-pairs g c =
@@ -50,7 +45,6 @@ returns-clause-pairs g c =
 
 pub returns-clause-sound : goal.returns-clause-sound
 returns-clause-sound g c =
-    let fits = c.requires.fits in
     let e = c.join.ensures.pairs ∙ ap (λ o. entries o ++ pairs_of c.in-Some-take-2.right) (sym (sym c.take.ensures.value ∙ c.in-Some-take.is))
     ∙ ap (λ o. entries c.args.ours.now ++ entries o) (sym (sym c.take-2.ensures.value ∙ c.in-Some-take-2.is)) in
     let n = ap length e ∙ length-append (entries c.args.ours.now) (entries c.args.theirs.now) in

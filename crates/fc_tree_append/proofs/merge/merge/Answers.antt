@@ -1,9 +1,9 @@
 use Rattle.std.proofs.Common.{◌≡◌, ◌⊎◌, inl, inr, [], ◌++◌, length, refl, sym, ap, subst, ◌∙◌, arith, length-append}
+use Rattle.std.proofs.lemmas.List.{nil_from_length}
 use denote.Param.{param}
 use Rattle.fc_base.specs.Ascending.{IsAscending}
 use Rattle.fc_base.specs.Joined.{joined}
 use Rattle.fc_tree_node.specs.Tree.{entries}
-use Rattle.fc_tree_drain.proofs.Opening.{no_item}
 use Rattle.fc_tree_drain.proofs.Sizes.{front_fits}
 use Rattle.fc_tree_build.proofs.StackSizes.{items_fit, builder_fits}
 use Rattle.fc_tree_append.proofs.JoinFacts.{drained, some_left}
@@ -15,8 +15,8 @@ returns-clause-pairs g c =
     let l = c.loop-their_pairs in
     let i = l.invariant in
     let done : (l.our_pairs ≡ []) ⊎ (l.their_pairs ≡ []) = elim c.loop-their_pairs-test.branch [
-      | then-loop-their_pairs-test+else-not-is_empty w ↦ inr (no_item l.their_pairs (w.is_empty-in-loop-their_pairs.ensures.0 w.if-not-is_empty.false))
-      | else-loop-their_pairs-test w ↦ inl (no_item l.our_pairs (c.is_empty.ensures.0 w.loop-their_pairs-test.false))
+      | then-loop-their_pairs-test+else-not-is_empty w ↦ inr (nil_from_length l.their_pairs (w.is_empty-in-loop-their_pairs.ensures.0 w.if-not-is_empty.false))
+      | else-loop-their_pairs-test w ↦ inl (nil_from_length l.our_pairs (c.is_empty.ensures.0 w.loop-their_pairs-test.false))
     ] in
     c.finish.ensures.pairs ∙ c.push_all-2.ensures.pairs ∙ ap (λ zs. zs ++ l.their_pairs) c.push_all.ensures.pairs
     ∙ drained g.K.Ord.cmp l.builder.pairs l.our_pairs l.their_pairs done i.0.1
@@ -26,11 +26,8 @@ returns-clause-pairs g c =
 
 pub returns-clause-least : goal.returns-clause-least
 returns-clause-least g c =
-    let i = c.loop-their_pairs.invariant in
     let ours = ap length c.over-our_pairs.ensures in
     let theirs = ap length c.over-their_pairs.ensures in
-    let a = i.6 in
-    let b = i.7 in
     elim c.loop-their_pairs-test.branch [
       | then-loop-their_pairs-test+else-not-is_empty w ↦ (let none = w.is_empty-in-loop-their_pairs.ensures.0 w.if-not-is_empty.false in omega arith)
       | else-loop-their_pairs-test w ↦ (let none = c.is_empty.ensures.0 w.loop-their_pairs-test.false in omega arith)
@@ -48,8 +45,6 @@ loop-their_pairs-init g c =
     let second = subst (λ xs. IsAscending g.K.Ord.cmp xs) (sym c.over-their_pairs.ensures) c.requires.order.1 in
     let ours = ap length c.over-our_pairs.ensures in
     let theirs = ap length c.over-their_pairs.ensures in
-    let some = c.requires.some.0 in
-    let room = c.requires.room in
     ((first, second), omega arith, refl, refl, omega arith, omega arith, omega arith, omega arith, refl)
 
 pub is_empty-requires : goal.is_empty-requires
@@ -74,29 +69,19 @@ loop-their_pairs-preserved g c =
     let ours = some_left _ l.our_pairs c.is_empty.ensures c.loop-their_pairs-test.true in
     let theirs = some_left _ l.their_pairs c.is_empty-in-loop-their_pairs.ensures c.if-not-is_empty.true in
     let s = c.step.ensures in
-    let one = s.comparisons in
-    let fewer = s.fewer in
-    let a = s.taken.0 in
-    let b = s.taken.1 in
-    let all = i.5 in
-    let first = i.6 in
-    let second = i.7 in
     (s.order, s.room, s.pairs ∙ i.2, s.filled ∙ i.3, omega arith, omega arith, omega arith, omega arith, s.moves ∙ i.8)
 
 pub push_all-requires : goal.push_all-requires
-push_all-requires g c =
-    let room = c.loop-their_pairs.invariant.1 in (
-      front_fits (param 0 g.row.K) (param 1 g.row.V) g.row.A g.A.Allocator g.met.A.Handle.small,
-      (builder_fits (param 0 g.row.K) (param 1 g.row.V) g.row.A g.A.Allocator g.met.A.Handle.small, omega arith),
-    )
+push_all-requires g c = (
+  front_fits (param 0 g.row.K) (param 1 g.row.V) g.row.A g.A.Allocator g.met.A.Handle.small,
+  (builder_fits (param 0 g.row.K) (param 1 g.row.V) g.row.A g.A.Allocator g.met.A.Handle.small, omega arith),
+)
 
 pub push_all-requires-2 : goal.push_all-requires-2
 push_all-requires-2 g c =
     let l = c.loop-their_pairs in
     let small = g.met.A.Handle.small in
-    let room = l.invariant.1 in
-    let e = ap length c.push_all.ensures.pairs ∙ length-append l.builder.pairs l.our_pairs in
-    let filled = c.push_all.ensures.filled in (
+    let e = ap length c.push_all.ensures.pairs ∙ length-append l.builder.pairs l.our_pairs in (
       front_fits (param 0 g.row.K) (param 1 g.row.V) g.row.A g.A.Allocator small,
       (builder_fits (param 0 g.row.K) (param 1 g.row.V) g.row.A g.A.Allocator small, omega arith),
     )
@@ -109,18 +94,12 @@ array_drop-our_pairs-inside-requires g c = items_fit (param 0 g.row.K) (param 1 
 
 pub returns-clause-len : goal.returns-clause-len
 returns-clause-len g c =
-    let room = c.room-room.ensures in
-    let left = c.room.ensures in
     let all = ap length c.finish.ensures.pairs in
     let blank = ap length c.requires.blank in
-    let i = c.loop-their_pairs.invariant.3 in
-    let ours = c.push_all.ensures.filled in
-    let theirs = c.push_all-2.ensures.filled in
     omega arith
 
 pub returns-clause-comparisons : goal.returns-clause-comparisons
 returns-clause-comparisons g c =
     let ours = ap length c.over-our_pairs.ensures in
     let theirs = ap length c.over-their_pairs.ensures in
-    let few = c.loop-their_pairs.invariant.4 in
     omega arith

@@ -12,7 +12,6 @@ pub try_border-requires : goal.try_border-requires
 try_border-requires g t c κs within =
     let r = first_child c.requires.0 c.args.node.now (λ l. false≢true (c.if-is_leaf.ensures.1 l)) c.requires.1 in
     let q = ap height_of c.child.ensures in
-    let lower = r.lower in
     let falls : height_of c.child.result.now < height_of c.args.node.now = omega arith in
     (search rules, (search rules, (search rules, (search rules, (r.below, subst (IsLevelled r.below) (sym c.child.ensures) r.levels)))))
 

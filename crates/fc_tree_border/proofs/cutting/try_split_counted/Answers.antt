@@ -14,19 +14,16 @@ both g c = parts_length (entries c.try_split.new.root) _ _ (parts g c) ∙ sym c
 pub count_in-requires-clause-fits : goal.count_in-requires-clause-fits
 count_in-requires-clause-fits g c =
     let b = both g (goal.at.count_in-requires-clause-fits g c).In_ok-right in
-    let fits = c.ranges.len in
     omega arith
 
 pub overflow_sub-moved : goal.overflow_sub-moved
 overflow_sub-moved g c =
     let b = both g (goal.at.overflow_sub-moved g c).In_ok-right in
-    let v = c.count_in.ensures in
     omega arith
 
 pub count_in-moved-requires-clause-fits : goal.count_in-moved-requires-clause-fits
 count_in-moved-requires-clause-fits g c =
     let b = both g (goal.at.count_in-moved-requires-clause-fits g c).In_ok-right in
-    let fits = c.ranges.len in
     omega arith
 
 pub returns-clause-parts : goal.returns-clause-parts
@@ -36,8 +33,8 @@ pub returns-clause-moved : goal.returns-clause-moved
 returns-clause-moved g c =
     let b = both g (goal.at.returns-clause-moved g c).In_ok-right in
     elim c.if-is_left_smaller.branch as (λ _. c.if-is_left_smaller.moved ≡ length (entries c.in_ok-right.right)) [
-      | then-is_left_smaller w ↦ (let v = w.count_in.ensures in let m = w.moved-is in omega arith)
-      | else-is_left_smaller w ↦ (let v = w.count_in-moved.ensures in let m = w.moved-is in omega arith)
+      | then-is_left_smaller w ↦ (omega arith)
+      | else-is_left_smaller w ↦ (omega arith)
     ]
 
 pub returns-clause-kept : goal.returns-clause-kept

@@ -9,7 +9,6 @@ only_child-requires-clause-formed g t c = bordered_formed c.args.side _ _ c.requ
 pub mend-requires : goal.mend-requires
 mend-requires g t c κs within =
     let r = heir_bordered c.args.side _ c.args.root c.in-Some.child c.in-Some.ensures c.requires.1 in
-    let e = r.height in
     let x = bordered_height c.args.side _ c.args.root c.requires.1 in
     let y = bordered_height c.args.side _ c.in-Some.child r.bordered in
     let falls : height_of c.in-Some.child < height_of c.args.root = omega arith in
@@ -17,14 +16,11 @@ mend-requires g t c κs within =
 
 pub returns-in-Some-clause-pairs : goal.returns-in-Some-clause-pairs
 returns-in-Some-clause-pairs g t c =
-    let v = c.len.ensures.value in
-    let z = c.if-len-eq0.true in
     c.mend.ensures.pairs ∙ only_pairs c.args.root _ (omega arith) c.in-Some.ensures
 
 pub returns-in-Some-clause-levels : goal.returns-in-Some-clause-levels
 returns-in-Some-clause-levels g t c h b =
     let r = heir_bordered c.args.side h c.args.root c.in-Some.child c.in-Some.ensures b in
-    let e = r.height in
     within_more r.below h _ (omega arith) (c.mend.ensures.levels r.below r.bordered)
 
 pub only_child-requires-2-clause-formed : goal.only_child-requires-2-clause-formed
@@ -33,8 +29,6 @@ only_child-requires-2-clause-formed g t c =
 
 pub returns-clause-pairs : goal.returns-clause-pairs
 returns-clause-pairs g t c =
-    let v = c.len-2.ensures.value in
-    let z = c.if-len-gt0.false in
     heir_pairs _ c.mend_below.new.node (omega arith) c.only_child-2.ensures ∙ c.mend_below.ensures.pairs
 
 pub returns-clause-levels : goal.returns-clause-levels

@@ -24,8 +24,6 @@ both : (g : given.Over) (c : After-len-2 g) → both_of c.args.node.now c.satura
 both g c =
     let l = ap (λ m. length (own_pairs m)) c.child-2.ensures in
     let r = ap (λ m. length (own_pairs m)) c.child-3.ensures in
-    let x = c.len.ensures.value in
-    let y = c.len-2.ensures.value in
     omega arith
 
 pub merge-requires-clause-alike : goal.merge-requires-clause-alike
@@ -41,7 +39,6 @@ pub returns-then-len-lt-CAPACITY-clause-stocked : goal.returns-then-len-lt-CAPAC
 returns-then-len-lt-CAPACITY-clause-stocked g c h b =
     let a = goal.at.returns-then-len-lt-CAPACITY-clause-stocked g c in
     let size = both g a.After-len-2 in
-    let z = c.if-len-lt-CAPACITY.true in
     merged_stocked c.args.side h _ _ _ (pair_at g a.After-saturating_sub-place h b) (omega arith) c.merge.ensures.merged
 
 pub returns-in-Left-clause-stocked : goal.returns-in-Left-clause-stocked
@@ -51,13 +48,10 @@ returns-in-Left-clause-stocked g c h b =
     let place = c.saturating_sub-place.result in
     let p = pair_at g a.After-saturating_sub-place h b in
     let size = both g a.After-len-2 in
-    let z = c.if-len-lt-CAPACITY.false in
     let edge : c.border_child-edge.result ≡ 0 = c.border_child-edge.ensures.value ∙ ap (λ s. border_place s n) c.in-Left.is in
     let s = c.saturating_sub-place.ensures in
     let q : c.border_child-edge.result ≡ place = omega arith in
     let w = ap (λ m. length (own_pairs m)) (c.child.ensures ∙ ap (child_at n) q) in
-    let held = c.len-held.ensures.value in
-    let few = c.if-held-gt-MIN_LEN.false in
     let top = level_size h _ (subst (λ s. RightOf s h (child_at n (place + 1))) c.in-Left.is p.right) in
     let k : length (own_pairs (child_at n place)) + ((min_len + 1) - c.len-held.result) ≡ min_len + 1 = omega arith in
     shared_stocked c.args.side h n _ place p (omega arith) (omega arith) _ (k ∙ ap (λ s. left_share s (both_of n place)) (sym c.in-Left.is))
@@ -70,14 +64,10 @@ returns-in-Right-clause-stocked g c h b =
     let place = c.saturating_sub-place.result in
     let p = pair_at g a.After-saturating_sub-place h b in
     let size = both g a.After-len-2 in
-    let z = c.if-len-lt-CAPACITY.false in
     let edge : c.border_child-edge.result ≡ length (own_pairs n) = c.border_child-edge.ensures.value ∙ ap (λ s. border_place s n) c.in-Right.is in
     let s = c.saturating_sub-place.ensures in
-    let some = c.requires.some in
     let q : c.border_child-edge.result ≡ place + 1 = omega arith in
     let w = ap (λ m. length (own_pairs m)) (c.child.ensures ∙ ap (child_at n) q) in
-    let held = c.len-held.ensures.value in
-    let few = c.if-held-gt-MIN_LEN.false in
     let top = level_size h _ (subst (λ s. LeftOf s h (child_at n place)) c.in-Right.is p.left) in
     let k : length (own_pairs (child_at n place)) - ((min_len + 1) - c.len-held.result) ≡ both_of n place - (min_len + 1) = omega arith in
     shared_stocked c.args.side h n _ place p (omega arith) (omega arith) _ (k ∙ ap (λ s. left_share s (both_of n place)) (sym c.in-Right.is))

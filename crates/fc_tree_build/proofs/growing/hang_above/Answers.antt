@@ -6,10 +6,7 @@ use Rattle.fc_tree_build.proofs.growing.hang_above.Goals as goal
 
 pub attach-requires : goal.attach-requires
 attach-requires g c =
-    let n = c.needed.ensures in
-    let i = c.in-Ok.ensures.inner in
-    let few = i.2 in
-    let many = i.0 in (
+    let i = c.in-Ok.ensures.inner in (
       search rules,
       (
         (0, c.requires.levels.0, rw c.replace-leaf.ensures.value c.requires.levels.1),
@@ -18,13 +15,10 @@ attach-requires g c =
     )
 
 pub returns-in-Ok-clause-levels : goal.returns-in-Ok-clause-levels
-returns-in-Ok-clause-levels g c =
-    let n = c.needed.ensures in
-    let few = c.in-Ok.ensures.inner.2 in (
-      c.attach.ensures.levels 0 c.requires.levels.0 (rw c.replace-leaf.ensures.value c.requires.levels.1),
-      c.attach.ensures.short most_height c.requires.low
-          (omega arith),
-    )
+returns-in-Ok-clause-levels g c = (
+  c.attach.ensures.levels 0 c.requires.levels.0 (rw c.replace-leaf.ensures.value c.requires.levels.1),
+  c.attach.ensures.short most_height c.requires.low (omega (arith, c.needed.ensures, c.in-Ok.ensures.inner.2)),
+)
 
 pub returns-in-Ok-clause-pairs : goal.returns-in-Ok-clause-pairs
 returns-in-Ok-clause-pairs g c =

@@ -5,8 +5,6 @@ use Rattle.fc_tree_build.proofs.growing.is_behind.Goals as goal
 
 pub returns : goal.returns
 returns g c =
-    let v = c.len.ensures.value in
-    let some = c.requires in
     let own = own_pairs c.args.leaf.now in
     let i = c.len.result - 1 in
     let last : own ≡ take i own ++ c.pair.result.now ∷ [] = last_taken own i c.pair.result.now (omega arith) c.pair.ensures in (

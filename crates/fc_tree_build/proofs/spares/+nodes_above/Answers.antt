@@ -5,9 +5,8 @@ use Rattle.fc_tree_build.proofs.spares.+nodes_above.Goals as goal
 
 pub returns-then-subtrees-eq0-clause-value : goal.returns-then-subtrees-eq0-clause-value
 returns-then-subtrees-eq0-clause-value t c d l =
-    let z = c.if-subtrees-eq0.true in
     let e : c.args.subtrees ≡ 0 = omega arith in
     sym (ap (inner_above d) e ∙ above_none d)
 
 pub returns-clause-value : goal.returns-clause-value
-returns-clause-value t c d l = let some = c.if-subtrees-eq0.false in above_more d c.args.subtrees _ (omega arith) l c.nodes_above.ensures.value
+returns-clause-value t c d l = above_more d c.args.subtrees _ (omega arith) l c.nodes_above.ensures.value

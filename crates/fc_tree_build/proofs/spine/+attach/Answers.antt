@@ -25,7 +25,7 @@ full g t c z =
     (f, some, c.open_end-node.ensures.full some f, ap (λ v. length v.items) (c.open_end-node.ensures.kept some))
 
 pub open_end-node-requires : goal.open_end-node-requires
-open_end-node-requires g t c = let some = some_needed c.args.spine.now in let e = c.requires.enough in (search rules, (c.requires.blank, omega arith))
+open_end-node-requires g t c = let some = some_needed c.args.spine.now in (search rules, (c.requires.blank, omega arith))
 
 pub put_child-requires-clause-inner : goal.put_child-requires-clause-inner
 put_child-requires-clause-inner g t c leaf = (end g t (goal.at.put_child-requires-clause-inner g t c).After-open_end-node).1 leaf
@@ -35,9 +35,6 @@ put_child-requires-clause-room g t c = child_room c.requires.levels.0 _ (end g t
 
 pub push-requires : goal.push-requires
 push-requires g t c =
-    let x = c.open_end-node.ensures.shorter in
-    let low = c.requires.low.1 in
-    let long = c.requires.low.2 in
     (search rules, omega arith)
 
 pub returns-then-len-lt-CAPACITY-clause-pairs : goal.returns-then-len-lt-CAPACITY-clause-pairs
@@ -51,8 +48,6 @@ returns-then-len-lt-CAPACITY-clause-pairs g t c =
 pub returns-then-len-lt-CAPACITY-clause-levels : goal.returns-then-len-lt-CAPACITY-clause-levels
 returns-then-len-lt-CAPACITY-clause-levels g t c h s w =
     let o = c.open_end-node.ensures.levels h s in
-    let v = c.len.ensures.value in
-    let z = c.if-len-lt-CAPACITY.true in
     let less : length (own_pairs c.put_child.new.node) < capacity = omega arith in
     let grown = end_grown h c.open_end-node.result _ c.put_pair.new.node c.args.subtree c.args.pair o.0 c.put_child.ensures.pairs
     c.put_child.ensures.children c.put_pair.ensures.pairs c.put_pair.ensures.children
@@ -64,7 +59,6 @@ returns-then-len-lt-CAPACITY-clause-worth g t c =
     let e = ap length c.put_child.ensures.pairs in
     let q = ap length c.put_pair.ensures.pairs ∙ length-append (own_pairs c.put_child.new.node) (c.args.pair ∷ []) in
     let a = worth_pushed _ _ _ c.push.ensures in
-    let b = c.open_end-node.ensures.worth in
     omega arith
 
 pub returns-then-len-lt-CAPACITY-clause-left : goal.returns-then-len-lt-CAPACITY-clause-left
@@ -73,22 +67,18 @@ returns-then-len-lt-CAPACITY-clause-left g t c =
     let q = ap length c.put_pair.ensures.pairs ∙ length-append (own_pairs c.put_child.new.node) (c.args.pair ∷ []) in
     let a = count_pushed _ _ _ c.push.ensures in
     let l = length_pushed _ _ _ c.push.ensures in
-    let b = c.open_end-node.ensures.count in
-    let n = c.open_end-node.ensures.nodes in
     omega arith
 
 pub returns-then-len-lt-CAPACITY-clause-used : goal.returns-then-len-lt-CAPACITY-clause-used
 returns-then-len-lt-CAPACITY-clause-used g t c =
     let e = ap length c.put_child.ensures.pairs in
     let v = c.len.ensures.value in
-    let z = c.if-len-lt-CAPACITY.true in
     let o = c.open_end-node.ensures in
     used_here _ _ _ _ (λ some. ap (λ v. length v.items) (o.kept some)) (λ some. o.room some (omega arith)) o.nodes o.shorter
 
 pub returns-then-len-lt-CAPACITY-clause-short : goal.returns-then-len-lt-CAPACITY-clause-short
 returns-then-len-lt-CAPACITY-clause-short g t c d long few =
     let some = some_needed c.args.spine.now in
-    let x = c.open_end-node.ensures.shorter in
     let l = length_pushed _ _ _ c.push.ensures in
     omega arith
 
@@ -100,13 +90,8 @@ attach-requires g t c κs within =
     let e = c.put_child.ensures.pairs in
     let k = ap length e in
     let closed = closed_sound h _ _ _ o.0 e c.put_child.ensures.children (omega arith) c.requires.levels.2 in
-    let x = c.open_end-node.ensures.shorter in
     let blank = c.open_end-node.ensures.blank in
-    let enough = c.requires.enough in
     let d = c.requires.low.0 - 1 in
-    let low = c.requires.low.1 in
-    let long = c.requires.low.2 in
-    let few = c.requires.low.3 in
     let falls : length c.open_end-node.new.spine < length c.args.spine.now = omega arith in
     let s = c.open_end-node.new.spine in
     let short : (e : ℕ) × (e ≤ most_levels) × (length s ≤ e) × (needed s ≤ e) = (d, omega arith, omega arith, omega arith) in
@@ -115,17 +100,12 @@ attach-requires g t c κs within =
 pub take_spare-requires : goal.take_spare-requires
 take_spare-requires g t c =
     let f = full g t (goal.at.take_spare-requires g t c).After-len c.if-len-lt-CAPACITY.false in
-    let used = c.attach.ensures.used in
-    let enough = c.requires.enough in
     omega arith
 
 pub push-requires-2 : goal.push-requires-2
 push-requires-2 g t c =
     let f = full g t (goal.at.push-requires-2 g t c).After-len c.if-len-lt-CAPACITY.false in
-    let x = c.open_end-node.ensures.shorter in
     let low = c.requires.low.1 in
-    let long = c.requires.low.2 in
-    let few = c.requires.low.3 in
     let s = c.attach.ensures.short (c.requires.low.0 - 1) (omega arith) (omega arith) in
     (search rules, omega arith)
 
@@ -143,8 +123,6 @@ returns-clause-pairs g t c =
 pub returns-clause-levels : goal.returns-clause-levels
 returns-clause-levels g t c h s w =
     let o = c.open_end-node.ensures.levels h s in
-    let v = c.len.ensures.value in
-    let x = c.if-len-lt-CAPACITY.false in
     let z = blank g t (goal.at.returns-clause-levels g t c).After-take_spare in
     let closed = closed_sound h _ _ _ o.0 c.put_child.ensures.pairs c.put_child.ensures.children (omega arith) w in
     spine_pushed h _ _ _ c.push-2.ensures (c.attach.ensures.levels (suc h) o.1 closed) (blank_end h _ z)
@@ -156,40 +134,29 @@ pub returns-clause-worth : goal.returns-clause-worth
 returns-clause-worth g t c =
     let o = (end g t (goal.at.returns-clause-worth g t c).After-open_end-node).0 in
     let e = ap length c.put_child.ensures.pairs in
-    let v = c.len.ensures.value in
-    let x = c.if-len-lt-CAPACITY.false in
     let z = ap length (blank g t (goal.at.returns-clause-worth g t c).After-take_spare).0 in
     let a = worth_pushed _ _ _ c.push-2.ensures in
-    let b = c.attach.ensures.worth in
-    let k = c.open_end-node.ensures.worth in
     omega arith
 
 pub returns-clause-left : goal.returns-clause-left
 returns-clause-left g t c =
     let o = (end g t (goal.at.returns-clause-left g t c).After-open_end-node).0 in
     let e = ap length c.put_child.ensures.pairs in
-    let v = c.len.ensures.value in
-    let x = c.if-len-lt-CAPACITY.false in
     let z = ap length (blank g t (goal.at.returns-clause-left g t c).After-take_spare).0 in
     let a = count_pushed _ _ _ c.push-2.ensures in
     let l = length_pushed _ _ _ c.push-2.ensures in
     let i = length_pushed _ _ _ c.take_spare.ensures in
-    let b = c.attach.ensures.left in
-    let k = c.open_end-node.ensures.count in
-    let n = c.open_end-node.ensures.nodes in
     omega arith
 
 pub returns-clause-used : goal.returns-clause-used
 returns-clause-used g t c =
     let f = full g t (goal.at.returns-clause-used g t c).After-len c.if-len-lt-CAPACITY.false in
-    let used = c.attach.ensures.used in
     let l = length_pushed _ _ _ c.take_spare.ensures in
     omega arith
 
 pub returns-clause-short : goal.returns-clause-short
 returns-clause-short g t c b long few =
     let f = full g t (goal.at.returns-clause-short g t c).After-len c.if-len-lt-CAPACITY.false in
-    let x = c.open_end-node.ensures.shorter in
     let s = c.attach.ensures.short (b - 1) (omega arith) (omega arith) in
     let l = length_pushed _ _ _ c.push-2.ensures in
     omega arith

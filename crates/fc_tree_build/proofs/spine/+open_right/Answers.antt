@@ -13,14 +13,12 @@ use Rattle.fc_tree_build.proofs.spine.+open_right.Goals.{After-child_count, Afte
 -- a node with no child
 leaf : (g : given.Over) (t : ℕ) (c : goal.After-child_count g t) → c.child_count.result ≡ 0
     → (c.requires.levels.0 ≡ 0) × (length (own_pairs c.args.node) ≤ capacity) × IsLeaf c.args.node
-leaf g t c z = let v = c.child_count.ensures.value in bottom c.requires.levels.0 c.args.node c.requires.levels.1 (omega arith)
+leaf g t c z = bottom c.requires.levels.0 c.args.node c.requires.levels.1 (omega arith)
 
 -- and one without its last child
 opened : (g : given.Over) (t : ℕ) (c : goal.After-take_last_child-child g t)
     → IsOpenedRight c.requires.levels.0 c.args.node c.take_last_child-child.new.self c.take_last_child-child.result
 opened g t c =
-    let v = c.child_count.ensures.value in
-    let z = c.if-child_count-eq0.false in
     let child = c.take_last_child-child.ensures in
     opened_right c.requires.levels.0 c.args.node _ _ c.requires.levels.1 (omega arith) child.children child.pairs
 
@@ -37,14 +35,12 @@ returns-then-child_count-eq0-clause-leaf g t c =
 pub returns-then-child_count-eq0-clause-levels : goal.returns-then-child_count-eq0-clause-levels
 returns-then-child_count-eq0-clause-levels g t c =
     let b = leaf g t (goal.at.returns-then-child_count-eq0-clause-levels g t c).After-child_count c.if-child_count-eq0.true in
-    let fits = c.requires.levels.3 in
     (subst (λ h. IsSpine h c.args.spine.now) b.0 c.requires.levels.2, omega arith)
 
 pub open_right-requires : goal.open_right-requires
 open_right-requires g t c κs within =
     let o = opened g t (goal.at.open_right-requires g t c).After-take_last_child-child in
     let e = length_pushed _ _ _ c.push.ensures in
-    let fits = c.requires.levels.3 in
     let above = o.above in
     let falls : most_levels - length c.push.new.self < most_levels - length c.args.spine.now = omega arith in
     let spine = spine_pushed o.level _ _ _ c.push.ensures (subst (λ h. IsSpine h c.args.spine.now) o.above c.requires.levels.2) o.opened in

@@ -6,8 +6,5 @@ use Rattle.fc_tree_build.proofs.spine.has_room.Goals as goal
 
 pub returns-then-len-gt0 : goal.returns-then-len-gt0
 returns-then-len-gt0 g c room =
-    let some = c.if-len-gt0.true in
-    let n = c.len-len.ensures.value in
-    let v = c.len.ensures.value in
     let less = ltb-true _ _ room in
     needed_room _ _ _ (last_taken c.args.spine.now (c.len-len.result - 1) c.get.result.now (omega arith) c.get.ensures) (omega arith)

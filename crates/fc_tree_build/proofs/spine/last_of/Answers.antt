@@ -10,20 +10,17 @@ pub loop-i-preserved : goal.loop-i-preserved
 loop-i-preserved g c =
     let i = c.loop-i.invariant in
     let end = i.0 in
-    let here = c.loop-i-test.true in
     let e = taken c.args.spine.now c.loop-i.i c.get-node.result.now (omega arith) c.get-node.ensures in
-    let o = spine_at c.requires.0 c.args.spine.now c.loop-i.i c.get-node.result.now c.requires.1 (omega arith) c.get-node.ensures in
-    let v = c.len.ensures.value in (
+    let o = spine_at c.requires.0 c.args.spine.now c.loop-i.i c.get-node.result.now c.requires.1 (omega arith) c.get-node.ensures in (
       end,
       elim c.if-len-gt0.branch [
         | then-len-gt0 w ↦
-            (let some = w.if-len-gt0.true in
-            let n = w.len-then-len-gt0.ensures.value in
+            (
             let p = w.pair.ensures in
             subst (IsLastPair (before_back (take (c.loop-i.i + 1) c.args.spine.now))) (sym w.last-is)
             (end_last _ _ _ o.0 (w.len-then-len-gt0.result - 1) _ e o.1 (omega arith) p))
         | else-len-gt0 w ↦
-            (let none = w.if-len-gt0.false in
+            (
             subst (IsLastPair (before_back (take (c.loop-i.i + 1) c.args.spine.now))) (sym w.last-is)
             (subst (λ zs. IsLastPair zs c.loop-i.last) (sym (end_none _ _ _ o.0 e o.1 (omega arith))) i.1))
       ],

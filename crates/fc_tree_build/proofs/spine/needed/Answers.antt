@@ -10,14 +10,11 @@ pub loop-i-preserved : goal.loop-i-preserved
 loop-i-preserved g c =
     let i = c.loop-i.invariant in
     let end = i.0 in
-    let so_far = i.2 in
-    let here = c.loop-i-test.true in
     let e = taken c.args.spine.now c.loop-i.i c.get.result.now (omega arith) c.get.ensures in
-    let v = c.len.ensures.value in
     let more = ap (λ n. n + 1) i.1 in
     let one = c.if-len-lt-CAPACITY in
     let next : (one.count ≡ needed (take (c.loop-i.i + 1) c.args.spine.now)) × (one.count ≤ c.loop-i.i + 1 + 1) = elim one.branch [
-      | then-len-lt-CAPACITY w ↦ (let z = w.if-len-lt-CAPACITY.true in (w.count-is ∙ sym (needed_room _ _ _ e (omega arith)), omega arith))
-      | else-len-lt-CAPACITY w ↦ (let z = w.if-len-lt-CAPACITY.false in (w.count-is ∙ more ∙ sym (needed_full _ _ _ e (omega arith)), omega arith))
+      | then-len-lt-CAPACITY w ↦ ((w.count-is ∙ sym (needed_room _ _ _ e (omega arith)), omega arith))
+      | else-len-lt-CAPACITY w ↦ ((w.count-is ∙ more ∙ sym (needed_full _ _ _ e (omega arith)), omega arith))
     ] in
     (end, next.0, next.1)

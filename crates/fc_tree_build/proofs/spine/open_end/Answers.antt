@@ -1,5 +1,6 @@
 use Rattle.std.proofs.Common.{◌≡◌, suc, length, sym, ap, subst, arith}
-use Rattle.fc_tree_drain.proofs.Opening.{no_item, back_push}
+use Rattle.std.proofs.lemmas.List.{nil_from_length}
+use Rattle.fc_tree_drain.proofs.Opening.{back_push}
 use Rattle.fc_tree_build.specs.Spine.{IsSpine}
 use Rattle.fc_tree_build.specs.Spares.{worth}
 use Rattle.fc_tree_build.proofs.SpineFacts.{spare_taken, blank_back, blank_end, spine_popped, worth_pushed, count_pushed, needed_full, needed_room}
@@ -10,9 +11,7 @@ returns-then-len-eq0-clause-pairs g c = blank_back _ _ (spare_taken _ _ _ c.take
 
 pub returns-then-len-eq0-clause-levels : goal.returns-then-len-eq0-clause-levels
 returns-then-len-eq0-clause-levels g c h f =
-    let v = c.len.ensures.value in
-    let z = c.if-len-eq0.true in
-    let e = no_item c.args.spine.now (omega arith) in
+    let e = nil_from_length c.args.spine.now (omega arith) in
     (blank_end h _ (spare_taken _ _ _ c.take_spare.ensures c.requires.blank).0, subst (IsSpine (suc h)) (sym e) tt)
 
 pub returns-then-len-eq0-clause-blank : goal.returns-then-len-eq0-clause-blank
@@ -20,9 +19,7 @@ returns-then-len-eq0-clause-blank g c = (spare_taken _ _ _ c.take_spare.ensures 
 
 pub returns-then-len-eq0-clause-worth : goal.returns-then-len-eq0-clause-worth
 returns-then-len-eq0-clause-worth g c =
-    let v = c.len.ensures.value in
-    let z = c.if-len-eq0.true in
-    let w : worth c.args.spine.now ≡ 0 = ap worth (no_item c.args.spine.now (omega arith)) in
+    let w : worth c.args.spine.now ≡ 0 = ap worth (nil_from_length c.args.spine.now (omega arith)) in
     let a = ap length (spare_taken _ _ _ c.take_spare.ensures c.requires.blank).0.0 in
     omega arith
 

@@ -8,8 +8,6 @@ pub move_to_back-requires : goal.move_to_back-requires
 move_to_back-requires g c =
     let s = c.back.inside in
     let n = none_back s.nodes (items_or_none s.run) c.back.invariant (ap length c.back.view_is ∙ c.is_empty.ensures.0 c.if-not-is_empty.false) in
-    let l = c.len.ensures.value in
-    let f = c.if-len-eq0.false in
     (search rules, (n.1, (n.0, (omega arith, c.front.invariant))))
 
 pub returns-clause-pairs : goal.returns-clause-pairs
@@ -22,8 +20,6 @@ returns-then-len-eq0-clause-pairs g c =
     let s = c.front.inside in
     let b = c.back.inside in
     let n = none_back b.nodes (items_or_none b.run) c.back.invariant (ap length c.back.view_is ∙ c.is_empty.ensures.0 c.if-not-is_empty.false) in
-    let l = c.len.ensures.value in
-    let f = c.if-len-eq0.true in
     let e = exchanged (items_or_none s.run) (items_or_none b.run) s.nodes b.nodes (omega arith) n.1 (ap length n.0) in
     ap (λ r. (items_or_none r ++ after_front s.nodes) ++ (before_back b.nodes ++ items_or_none c.swap.new.x)) c.swap.ensures.y_after
     ∙ ap (λ r. (items_or_none b.run ++ after_front s.nodes) ++ (before_back b.nodes ++ items_or_none r)) c.swap.ensures.x_after ∙ e
@@ -32,10 +28,7 @@ returns-then-len-eq0-clause-pairs g c =
 pub returns-then-len-eq0-clause-some : goal.returns-then-len-eq0-clause-some
 returns-then-len-eq0-clause-some g c =
     let s = c.front.inside in
-    let l = c.len.ensures.value in
-    let f = c.if-len-eq0.true in
     let z = c.is_empty.ensures.0 c.if-not-is_empty.false in
-    let h = c.requires in
     let some : 0 < length c.args.front.now = omega (arith, length-append c.args.front.now c.args.back.now) in
     let k = front_run (items_or_none s.run) s.nodes c.args.front.now c.front.view_is some (omega arith) in
     let e = ap (λ r. length (items_or_none r)) c.swap.ensures.x_after in

@@ -8,8 +8,6 @@ pub move_to_front-requires : goal.move_to_front-requires
 move_to_front-requires g c =
     let s = c.front.inside in
     let n = none_front (items_or_none s.run) s.nodes c.front.invariant (ap length c.front.view_is ∙ c.is_empty.ensures.0 c.if-not-is_empty.false) in
-    let l = c.len.ensures.value in
-    let f = c.if-len-eq0.false in
     (search rules, (n.1, (n.0, (omega arith, c.back.invariant))))
 
 pub returns-clause-pairs : goal.returns-clause-pairs
@@ -22,8 +20,6 @@ returns-then-len-eq0-clause-pairs g c =
     let s = c.front.inside in
     let b = c.back.inside in
     let n = none_front (items_or_none s.run) s.nodes c.front.invariant (ap length c.front.view_is ∙ c.is_empty.ensures.0 c.if-not-is_empty.false) in
-    let l = c.len.ensures.value in
-    let f = c.if-len-eq0.true in
     let e = exchanged (items_or_none b.run) (items_or_none s.run) s.nodes b.nodes n.1 (omega arith) (ap length n.0) in
     ap (λ r. (items_or_none r ++ after_front s.nodes) ++ (before_back b.nodes ++ items_or_none c.swap.new.y)) c.swap.ensures.x_after
     ∙ ap (λ r. (items_or_none b.run ++ after_front s.nodes) ++ (before_back b.nodes ++ items_or_none r)) c.swap.ensures.y_after ∙ sym e
@@ -32,10 +28,7 @@ returns-then-len-eq0-clause-pairs g c =
 pub returns-then-len-eq0-clause-some : goal.returns-then-len-eq0-clause-some
 returns-then-len-eq0-clause-some g c =
     let b = c.back.inside in
-    let l = c.len.ensures.value in
-    let f = c.if-len-eq0.true in
     let z = c.is_empty.ensures.0 c.if-not-is_empty.false in
-    let h = c.requires in
     let some : 0 < length c.args.back.now = omega (arith, length-append c.args.front.now c.args.back.now) in
     let k = back_run b.nodes (items_or_none b.run) c.args.back.now c.back.view_is some (omega arith) in
     let e = ap (λ r. length (items_or_none r)) c.swap.ensures.x_after in

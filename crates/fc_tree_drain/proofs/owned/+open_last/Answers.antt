@@ -1,20 +1,19 @@
 use Rattle.std.proofs.Common.{rules, arith, ◌-◌, ◌<◌, ◌++◌, length, sym, ap, ◌∙◌, length-append}
+use Rattle.std.proofs.lemmas.List.{nil_from_length}
 use Rattle.fc_base.specs.Sizes.{most_levels}
 use Rattle.fc_tree_drain.specs.Opened.{before_back}
-use Rattle.fc_tree_drain.proofs.Opening.{no_item, under_room, under_levels, under_last, last_opened, leaf_own}
+use Rattle.fc_tree_drain.proofs.Opening.{under_room, under_levels, under_last, last_opened, leaf_own}
 use Rattle.fc_tree_drain.proofs.owned.+open_last.Goals as goal
 
 pub returns-then-child_count-eq0-clause-pairs : goal.returns-then-child_count-eq0-clause-pairs
 returns-then-child_count-eq0-clause-pairs g t c =
-    let v = c.child_count.ensures.value in
-    let z = c.if-child_count-eq0.true in
-    ap (λ zs. before_back c.args.stack.now ++ zs) (c.into_run.ensures ∙ sym (leaf_own c.args.node (no_item _ (omega arith))))
+    ap (λ zs. before_back c.args.stack.now ++ zs) (c.into_run.ensures ∙ sym (leaf_own c.args.node (nil_from_length _ (omega arith))))
 
 pub returns-then-child_count-eq0-clause-levels : goal.returns-then-child_count-eq0-clause-levels
 returns-then-child_count-eq0-clause-levels g t c = under_levels c.args.node _ c.requires
 
 pub returns-then-child_count-eq0-clause-some : goal.returns-then-child_count-eq0-clause-some
-returns-then-child_count-eq0-clause-some g t c = let k = c.requires.1.0 in let e = ap length c.into_run.ensures in omega arith
+returns-then-child_count-eq0-clause-some g t c = let e = ap length c.into_run.ensures in omega arith
 
 pub push-requires : goal.push-requires
 push-requires g t c = (search rules, under_room _ _ c.requires)

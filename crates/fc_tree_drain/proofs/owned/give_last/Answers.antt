@@ -18,14 +18,10 @@ take_last_pair-pair-requires g c = top_some _ _ _ c.requires.levels c.pop-node.e
 
 pub keep-requires : goal.keep-requires
 keep-requires g c =
-    let v = c.child_count.ensures.value in
-    let z = c.if-child_count-eq0.true in
     (search rules, given_leaf _ _ _ _ c.requires.levels c.pop-node.ensures c.take_last_pair-pair.ensures.children (omega arith))
 
 pub returns-then-child_count-eq0-clause-pairs : goal.returns-then-child_count-eq0-clause-pairs
 returns-then-child_count-eq0-clause-pairs g c =
-    let v = c.child_count.ensures.value in
-    let z = c.if-child_count-eq0.true in
     let pair = c.take_last_pair-pair.result in
     let p = c.take_last_pair-pair.ensures in
     gave_last_alone c.args.stack.now _ c.keep.new.stack _ _ pair c.pop-node.ensures p.pairs p.children (omega arith) c.keep.ensures.back
@@ -33,8 +29,6 @@ returns-then-child_count-eq0-clause-pairs g c =
 
 pub returns-then-child_count-eq0-clause-levels : goal.returns-then-child_count-eq0-clause-levels
 returns-then-child_count-eq0-clause-levels g c =
-    let v = c.child_count.ensures.value in
-    let z = c.if-child_count-eq0.true in
     let n = c.take_last_pair-pair.new.self in
     kept_levels n _ _ (given_leaf _ _ _ n c.requires.levels c.pop-node.ensures c.take_last_pair-pair.ensures.children (omega arith)) c.keep.ensures.levels
 

@@ -4,14 +4,10 @@ use Rattle.fc_tree_drain.proofs.owned.keep.Goals as goal
 
 pub returns-then-len-eq0-clause-front : goal.returns-then-len-eq0-clause-front
 returns-then-len-eq0-clause-front g c =
-    let v = c.len.ensures.value in
-    let z = c.if-len-eq0.true in
     empty_front c.args.node c.args.stack.now _ c.requires.1 (omega arith)
 
 pub returns-then-len-eq0-clause-back : goal.returns-then-len-eq0-clause-back
 returns-then-len-eq0-clause-back g c =
-    let v = c.len.ensures.value in
-    let z = c.if-len-eq0.true in
     empty_back c.args.node c.args.stack.now _ c.requires.1 (omega arith)
 
 pub returns-then-len-eq0-clause-levels : goal.returns-then-len-eq0-clause-levels
@@ -28,6 +24,4 @@ returns-clause-back g c = back_push _ _ _ c.push.ensures
 
 pub returns-clause-levels : goal.returns-clause-levels
 returns-clause-levels g c h o f =
-    let v = c.len.ensures.value in
-    let z = c.if-len-eq0.false in
     kept _ _ _ (omega arith) c.push.ensures h o f

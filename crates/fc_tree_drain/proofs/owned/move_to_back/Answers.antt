@@ -7,9 +7,6 @@ use Rattle.fc_tree_drain.proofs.owned.move_to_back.Goals as goal
 
 pub returns-then-child_count-len-clause-pairs : goal.returns-then-child_count-len-clause-pairs
 returns-then-child_count-len-clause-pairs g c =
-    let v = c.child_count.ensures.value in
-    let w = c.len.ensures.value in
-    let t = c.if-child_count-len.true in
     filled_back c.args.front.now _ _ c.take_bottom-node.result c.take_bottom-node.ensures
     (ap (λ zs. before_back c.push.new.self ++ zs) c.requires.used_up ∙ append-nil (before_back c.push.new.self)
     ∙ back_over c.args.back.now _ _ c.requires.none (omega arith) c.push.ensures)
@@ -30,9 +27,6 @@ returns-then-child_count-len-clause-some g c =
 
 pub open_last-requires : goal.open_last-requires
 open_last-requires g c =
-    let v = c.child_count.ensures.value in
-    let w = c.len.ensures.value in
-    let t = c.if-child_count-len.false in
     let e = bottom_even _ _ c.take_bottom-node.result c.requires.levels c.take_bottom-node.ensures (omega arith) in (
       search rules,
       under_over_last _ _ c.args.back.now _ c.take_bottom-node.result _ _ c.requires.levels c.take_bottom-node.ensures e c.requires.none
@@ -41,9 +35,6 @@ open_last-requires g c =
 
 pub returns-clause-pairs : goal.returns-clause-pairs
 returns-clause-pairs g c =
-    let v = c.child_count.ensures.value in
-    let w = c.len.ensures.value in
-    let t = c.if-child_count-len.false in
     let e = bottom_even _ _ c.take_bottom-node.result c.requires.levels c.take_bottom-node.ensures (omega arith) in
     let q = c.take_last_child-child.ensures in
     let p = back_parted c.args.back.now c.push-2.new.self _ _ _ _ c.requires.none e q.children q.pairs c.push-2.ensures c.open_last.ensures.pairs in
@@ -54,4 +45,4 @@ returns-clause-front g c = bottom_rest _ _ _ c.requires.levels c.take_bottom-nod
 
 pub returns-clause-some : goal.returns-clause-some
 returns-clause-some g c =
-    let k = c.open_last.ensures.some in let l = length-append (before_back c.open_last.new.stack) (items_or_none c.open_last.new.run) in omega arith
+    let l = length-append (before_back c.open_last.new.stack) (items_or_none c.open_last.new.run) in omega arith

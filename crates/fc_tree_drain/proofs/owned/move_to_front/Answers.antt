@@ -7,9 +7,6 @@ use Rattle.fc_tree_drain.proofs.owned.move_to_front.Goals as goal
 
 pub returns-then-child_count-len-clause-pairs : goal.returns-then-child_count-len-clause-pairs
 returns-then-child_count-len-clause-pairs g c =
-    let v = c.child_count.ensures.value in
-    let w = c.len.ensures.value in
-    let t = c.if-child_count-len.true in
     filled_front c.args.back.now _ _ c.take_bottom-node.result c.take_bottom-node.ensures
     (ap (λ zs. zs ++ after_front c.push.new.self) c.requires.used_up ∙ front_over c.args.front.now _ _ c.requires.none (omega arith) c.push.ensures)
 
@@ -29,9 +26,6 @@ returns-then-child_count-len-clause-some g c =
 
 pub open_first-requires : goal.open_first-requires
 open_first-requires g c =
-    let v = c.child_count.ensures.value in
-    let w = c.len.ensures.value in
-    let t = c.if-child_count-len.false in
     let e = bottom_even _ _ c.take_bottom-node.result c.requires.levels c.take_bottom-node.ensures (omega arith) in (
       search rules,
       under_over_first _ _ c.args.front.now _ c.take_bottom-node.result _ _ c.requires.levels c.take_bottom-node.ensures e c.requires.none
@@ -40,9 +34,6 @@ open_first-requires g c =
 
 pub returns-clause-pairs : goal.returns-clause-pairs
 returns-clause-pairs g c =
-    let v = c.child_count.ensures.value in
-    let w = c.len.ensures.value in
-    let t = c.if-child_count-len.false in
     let e = bottom_even _ _ c.take_bottom-node.result c.requires.levels c.take_bottom-node.ensures (omega arith) in
     let q = c.take_first_child-child.ensures in
     let p = front_parted c.args.front.now c.push-2.new.self _ _ _ _ c.requires.none e q.children q.pairs c.push-2.ensures c.open_first.ensures.pairs in
@@ -53,4 +44,4 @@ returns-clause-back g c = bottom_rest _ _ _ c.requires.levels c.take_bottom-node
 
 pub returns-clause-some : goal.returns-clause-some
 returns-clause-some g c =
-    let k = c.open_first.ensures.some in let l = length-append (items_or_none c.open_first.new.run) (after_front c.open_first.new.stack) in omega arith
+    let l = length-append (items_or_none c.open_first.new.run) (after_front c.open_first.new.stack) in omega arith

@@ -6,5 +6,4 @@ use Rattle.fc_tree_insertion.proofs.arrival.arrive.Goals as goal
 pub push_front-requires : goal.push_front-requires
 push_front-requires c =
     let n : length c.settle-right.new.place ≡ length c.args.path.now = ap length c.settle-right.ensures.steps ∙ length_arrival 0 c.args.path.now in
-    let s = c.requires.short in
     grind (arith, nat_tests)

@@ -19,27 +19,22 @@ insert_below-requires g c =
 
 pub take-blank-requires : goal.take-blank-requires
 take-blank-requires g c =
-    let halved = c.in-Some.ensures.halved in
-    let e = needed_whole c.args.path.now c.args.root.now (omega arith) in
-    omega arith
+    let e = needed_whole c.args.path.now c.args.root.now (omega (arith, c.in-Some.ensures.halved)) in
+    omega (arith, c.in-Some.ensures.halved)
 
 pub returns-in-None-clause-used_up : goal.returns-in-None-clause-used_up
 returns-in-None-clause-used_up g c =
-    let halved = c.in-None.ensures.halved in
-    let e = needed_part c.args.path.now c.args.root.now (omega arith) in
-    omega arith
+    let e = needed_part c.args.path.now c.args.root.now (omega (arith, c.in-None.ensures.halved)) in
+    omega (arith, c.in-None.ensures.halved)
 
 pub returns-in-None-clause-higher : goal.returns-in-None-clause-higher
 returns-in-None-clause-higher g c h =
-    let halved = c.in-None.ensures.halved in
-    absurd (let e = cascade_whole c.args.path.now c.args.root.now h in omega arith)
+    absurd (let e = cascade_whole c.args.path.now c.args.root.now h in omega (arith, c.in-None.ensures.halved))
 
 pub returns-in-None-clause-moves : goal.returns-in-None-clause-moves
 returns-in-None-clause-moves g c =
-    let halved = c.in-None.ensures.halved in
-    let moves = c.in-None.ensures.moves in
-    let e = moves_part c.args.path.now c.args.root.now (omega arith) in
-    omega arith
+    let e = moves_part c.args.path.now c.args.root.now (omega (arith, c.in-None.ensures.halved)) in
+    omega (arith, c.in-None.ensures.moves)
 
 pub returns-in-Some-clause-pairs : goal.returns-in-Some-clause-pairs
 returns-in-Some-clause-pairs g c =

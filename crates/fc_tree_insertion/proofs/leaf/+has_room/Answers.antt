@@ -15,8 +15,6 @@ returns-then-path-eq1 g t c =
 pub has_room-requires : goal.has_room-requires
 has_room-requires g t c κs within =
     let s = step_of c.args.path.now c.args.node.now (omega arith) c.requires.path c.requires.levels in
-    let long = s.long in
-    let height = s.height in
     let b = child_below _ c.args.node.now _ s.levels s.le in (
       search rules,
       (

@@ -1,16 +1,15 @@
 use Rattle.std.proofs.Common.{◌≡◌, ℕ, ◌-◌, length, get_or, None, rules, ap, sym, subst, arith}
 use Rattle.fc_tree_node.specs.Node.{own_pairs, child_at, IsLevelled}
 use Rattle.fc_tree_node.specs.Path.{IsPath}
-use Rattle.fc_tree_node.proofs.PathSteps.{one_step, IsStep, step_of, child_there, child_lent}
+use Rattle.fc_tree_node.proofs.PathSteps.{one_step, IsStep, step_of}
 use Rattle.fc_tree_node.proofs.Pairs.{child_below}
-use Rattle.fc_tree_node.proofs.Made.{child_set}
+use Rattle.fc_tree_node.proofs.Lent.{lent_is, replaced, replaced_levels}
 use Rattle.fc_tree_insertion.proofs.InsertedPairs.{put_in_leaf, put_below}
-use Rattle.fc_tree_insertion.proofs.InsertedLevels.{levelled_stay}
 use Rattle.fc_tree_insertion.proofs.Arrivals.{put_in_room, put_in_room_below}
 use Rattle.fc_tree_insertion.proofs.Leaves.{leaf_here, leaf_below}
 use Rattle.fc_tree_insertion.proofs.leaf.+insert_in_leaf.Given as given
 use Rattle.fc_tree_insertion.proofs.leaf.+insert_in_leaf.Goals as goal
-use Rattle.fc_tree_insertion.proofs.leaf.+insert_in_leaf.Goals.{After-get_mut-child}
+use Rattle.fc_tree_insertion.proofs.leaf.+insert_in_leaf.Goals.{After-child_in}
 
 pub returns-then-path-eq1-clause-pairs : goal.returns-then-path-eq1-clause-pairs
 returns-then-path-eq1-clause-pairs g t c =
@@ -29,26 +28,22 @@ returns-then-path-eq1-clause-place g t c =
     let room = ap (λ n. length (own_pairs n)) (leaf_here c.args.path.now c.args.node.now o) in
     put_in_room c.args.path.now _ c.insert_leaf.new.self c.args.pair o l.1 i.leaf (omega arith) w.0 i.pairs (returns-then-path-eq1-clause-pairs g t c)
 
-pub get_mut-child-requires : goal.get_mut-child-requires
-get_mut-child-requires g t c =
-    let s = step_of c.args.path.now c.args.node.now (omega arith) c.requires.path c.requires.levels in
-    child_there c.args.path.now c.args.node.now _ s c.in-Some.is
+pub child_in-requires : goal.child_in-requires
+child_in-requires g t c = let s = step_of c.args.path.now c.args.node.now (omega arith) c.requires.path c.requires.levels in omega (arith, s.inner, s.le)
 
 -- the child that the path leads to
-down : (g : given.Over) (t : ℕ) (c : After-get_mut-child g t)
-    → IsStep c.args.path.now c.args.node.now × (c.get_mut-child.result.now ≡ child_at c.args.node.now (get_or c.args.path.now 0 0))
+down : (g : given.Over) (t : ℕ) (c : After-child_in g t)
+    → IsStep c.args.path.now c.args.node.now × (c.child_in.result.now ≡ child_at c.args.node.now (get_or c.args.path.now 0 0))
 down g t c =
     let s = step_of c.args.path.now c.args.node.now (omega arith) c.requires.path c.requires.levels in
-    (s, child_lent c.args.path.now _ _ _ s c.in-Some.is c.get_mut-child.ensures.value)
+    (s, lent_is _ _ _ s.inner s.le c.child_in.ensures.value)
 
 pub insert_in_leaf-requires : goal.insert_in_leaf-requires
 insert_in_leaf-requires g t c κs within =
-    let d = down g t (goal.at.insert_in_leaf-requires g t c).After-get_mut-child in
+    let d = down g t (goal.at.insert_in_leaf-requires g t c).After-child_in in
     let s = d.0 in
     let b = child_below _ c.args.node.now _ s.levels s.le in
-    let e = ap (λ n. length (own_pairs n)) (leaf_below c.args.path.now _ _ (omega arith) s d.1) in
-    let long = s.long in
-    let height = s.height in (
+    let e = ap (λ n. length (own_pairs n)) (leaf_below c.args.path.now _ _ (omega arith) s d.1) in (
       search rules,
       (
         search rules,
@@ -64,21 +59,19 @@ insert_in_leaf-requires g t c κs within =
 
 pub returns-clause-pairs : goal.returns-clause-pairs
 returns-clause-pairs g t c =
-    let d = down g t (goal.at.returns-clause-pairs g t c).After-get_mut-child in
-    put_below c.args.path.now _ _ _ _ c.args.pair d.0 (child_set _ _ _ _ c.in-Some.is) d.1 c.insert_in_leaf.ensures.pairs
+    let d = down g t (goal.at.returns-clause-pairs g t c).After-child_in in
+    put_below c.args.path.now _ _ _ _ c.args.pair d.0 (replaced _ _ _) d.1 c.insert_in_leaf.ensures.pairs
 
 pub returns-clause-levels : goal.returns-clause-levels
 returns-clause-levels g t c =
-    let d = down g t (goal.at.returns-clause-levels g t c).After-get_mut-child in
+    let d = down g t (goal.at.returns-clause-levels g t c).After-child_in in
     let s = d.0 in
     let b = child_below _ c.args.node.now _ s.levels s.le in
     let q = ap (λ x. length (own_pairs x)) d.1 in
-    let least = b.0 in
-    let z = c.insert_in_leaf.ensures.size in
-    rw s.height (levelled_stay _ _ _ _ _ s.levels (child_set _ _ _ _ c.in-Some.is) (omega arith, c.insert_in_leaf.ensures.levels))
+    rw s.height (replaced_levels _ (replaced _ _ _) s.levels (omega arith, c.insert_in_leaf.ensures.levels))
 
 pub returns-clause-place : goal.returns-clause-place
 returns-clause-place g t c =
-    let d = down g t (goal.at.returns-clause-place g t c).After-get_mut-child in
-    put_in_room_below c.args.path.now _ _ _ _ c.args.pair _ d.0 (child_set _ _ _ _ c.in-Some.is) d.1 (returns-clause-levels g t c)
+    let d = down g t (goal.at.returns-clause-place g t c).After-child_in in
+    put_in_room_below c.args.path.now _ _ _ _ c.args.pair _ d.0 (replaced _ _ _) d.1 (returns-clause-levels g t c)
     (returns-clause-pairs g t c) c.insert_in_leaf.ensures.place

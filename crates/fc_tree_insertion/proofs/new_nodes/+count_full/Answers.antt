@@ -22,8 +22,6 @@ down g t c = cascade_step _ _ _ (step_of _ _ (omega arith) c.requires.path c.req
 pub count_full-below-requires : goal.count_full-below-requires
 count_full-below-requires g t c κs within =
     let s = (down g t (goal.at.count_full-below-requires g t c).After-child).step in
-    let long = s.long in
-    let height = s.height in
     let b = child_below _ c.args.node.now _ s.levels s.le in
     let path = subst (IsPath _) (sym c.child.ensures) s.onward in
     (search rules, (search rules, (search rules, (search rules, (omega arith, (path, subst (IsLevelled _) (sym c.child.ensures) b.1))))))
@@ -31,13 +29,11 @@ count_full-below-requires g t c κs within =
 pub returns-then-len-eq-CAPACITY-2 : goal.returns-then-len-eq-CAPACITY-2
 returns-then-len-eq-CAPACITY-2 g t c =
     let k = down g t (goal.at.returns-then-len-eq-CAPACITY-2 g t c).After-child in
-    let s = k.step in
     omega arith
 
 pub returns-else-below-rest : goal.returns-else-below-rest
 returns-else-below-rest g t c =
     let k = down g t (goal.at.returns-else-below-rest g t c).After-child in
-    let s = k.step in
     elim c.else-below-rest.branch [
       | else-below-rest-via-then-below-rest+else-len-eq-CAPACITY-2 w ↦ omega arith
       | else-below-rest-via-else-below-rest w ↦ omega arith

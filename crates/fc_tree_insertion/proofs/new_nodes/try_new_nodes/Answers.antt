@@ -8,7 +8,7 @@ on_err (Ok x) p = tt
 on_err (Err e) p = p
 
 pub returns-then-split-eq0-clause-ok : goal.returns-then-split-eq0-clause-ok
-returns-then-split-eq0-clause-ok g c = let e = needed_part c.args.path.now c.args.root.now (omega arith) in let z = c.new.ensures in omega arith
+returns-then-split-eq0-clause-ok g c = let e = needed_part c.args.path.now c.args.root.now (omega arith) in omega arith
 
 pub returns-in_err-leaf-clause-full : goal.returns-in_err-leaf-clause-full
 returns-in_err-leaf-clause-full g c = on_err _ (cascade_leaf c.args.path.now c.args.root.now (omega arith) (omega arith))
@@ -24,10 +24,9 @@ returns-in_err-inner-clause-full g c = on_err _ (cascade_leaf c.args.path.now c.
 pub returns-clause-ok : goal.returns-clause-ok
 returns-clause-ok g c =
     let most = cascade_most c.args.path.now c.args.root.now in
-    let len = c.in_ok-inner.ensures.len in
     elim c.if-split-path.branch [
-      | then-split-path w ↦ (let e = needed_whole c.args.path.now c.args.root.now (omega arith) in omega arith)
-      | else-split-path w ↦ (let e = needed_part c.args.path.now c.args.root.now (omega arith) in omega arith)
+      | then-split-path w ↦ (let e = needed_whole c.args.path.now c.args.root.now (omega arith) in omega (arith, c.in_ok-inner.ensures.len))
+      | else-split-path w ↦ (let e = needed_part c.args.path.now c.args.root.now (omega arith) in omega (arith, c.in_ok-inner.ensures.len))
     ]
 
 pub returns-in_err-leaf-clause-leaf_with_room : goal.returns-in_err-leaf-clause-leaf_with_room

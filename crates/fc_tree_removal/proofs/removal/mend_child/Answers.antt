@@ -6,13 +6,9 @@ use Rattle.fc_tree_removal.proofs.removal.mend_child.Goals as goal
 pub returns-then-len-ge-MIN_LEN-clause-levels : goal.returns-then-len-ge-MIN_LEN-clause-levels
 returns-then-len-ge-MIN_LEN-clause-levels g c h s =
     let a = ap (λ n. length (own_pairs n)) c.child.ensures in
-    let b = c.len.ensures.value in
-    let k = c.if-len-ge-MIN_LEN.true in
     whole_levels h c.args.node.now c.args.index s (omega arith)
 
 pub returns-then-len-ge-MIN_LEN-clause-least : goal.returns-then-len-ge-MIN_LEN-clause-least
 returns-then-len-ge-MIN_LEN-clause-least g c short =
     let a = ap (λ n. length (own_pairs n)) c.child.ensures in
-    let b = c.len.ensures.value in
-    let k = c.if-len-ge-MIN_LEN.true in
     absurd (omega arith)

@@ -62,10 +62,8 @@ returns-then-index-gt0-clause-levels g c h s =
     let at = goal.at.returns-then-index-gt0-clause-levels g c in
     let l = lengths g at.After-len-2 in
     let p = siblings g at.After-saturating_sub-place h s in
-    let e = c.saturating_sub-place.ensures in
     let i : c.args.index ≡ c.saturating_sub-place.result + 1 = omega arith in
     let short = ap (λ k. length (own_pairs (child_at c.args.node.now k))) i in
-    let q = p.right_length in
     let top = level_size h _ p.left in
     stolen_mended h _ _ _ _ p (omega arith) (omega arith) (omega arith) (omega arith) c.steal_left.ensures.shared
 
@@ -74,33 +72,22 @@ returns-else-index-gt0-clause-levels g c h s =
     let at = goal.at.returns-else-index-gt0-clause-levels g c in
     let l = lengths g at.After-len-2 in
     let p = siblings g at.After-saturating_sub-place h s in
-    let e = c.saturating_sub-place.ensures in
     let i : c.args.index ≡ c.saturating_sub-place.result = omega arith in
     let short = ap (λ k. length (own_pairs (child_at c.args.node.now k))) i in
-    let q = p.left_length in
     let top = level_size h _ p.right in
     stolen_mended h _ _ _ _ p (omega arith) (omega arith) (omega arith) (omega arith) c.steal_right.ensures.shared
 
 pub returns-then-len-lt-CAPACITY-clause-least : goal.returns-then-len-lt-CAPACITY-clause-least
 returns-then-len-lt-CAPACITY-clause-least g c =
     let p = siblings g (goal.at.returns-then-len-lt-CAPACITY-clause-least g c).After-saturating_sub-place _ c.requires.at.1 in
-    let some = p.in_bounds in
-    let right = p.right_length in
-    let m = c.merge.ensures.moves in
     omega arith
 
 pub returns-then-index-gt0-clause-least : goal.returns-then-index-gt0-clause-least
 returns-then-index-gt0-clause-least g c =
     let p = siblings g (goal.at.returns-then-index-gt0-clause-least g c).After-saturating_sub-place _ c.requires.at.1 in
-    let some = p.in_bounds in
-    let right = p.right_length in
-    let m = c.steal_left.ensures.moves in
     omega arith
 
 pub returns-else-index-gt0-clause-least : goal.returns-else-index-gt0-clause-least
 returns-else-index-gt0-clause-least g c =
     let p = siblings g (goal.at.returns-else-index-gt0-clause-least g c).After-saturating_sub-place _ c.requires.at.1 in
-    let some = p.in_bounds in
-    let right = p.right_length in
-    let m = c.steal_right.ensures.moves in
     omega arith

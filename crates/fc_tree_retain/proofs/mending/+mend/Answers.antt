@@ -1,43 +1,38 @@
-use Rattle.std.proofs.Common.{◌≡◌, ℕ, suc, ◌+◌, ◌-◌, ◌<◌, length, sym, subst, ◌∙◌, arith, rules}
+use Rattle.std.proofs.Common.{◌≡◌, ℕ, suc, ◌+◌, ◌-◌, ◌<◌, sym, subst, ◌∙◌, arith, rules}
 use Rattle.std.proofs.lemmas.Bool.{false≢true}
-use Rattle.fc_tree_node.specs.Node.{own_pairs, children_of, child_at}
-use Rattle.fc_tree_node.proofs.Made.{child_set}
-use Rattle.fc_tree_removal.proofs.Removed.{opened_child}
+use Rattle.fc_tree_node.specs.Node.{child_at}
+use Rattle.fc_tree_node.proofs.Lent.{IsAbove, replaced, lent_is}
 use Rattle.fc_tree_border.proofs.Heights.{height_of}
 use Rattle.fc_tree_retain.specs.Loose.{IsLoose}
 use Rattle.fc_tree_retain.specs.Mending.{IsThin}
-use Rattle.fc_tree_retain.proofs.Levels.{IsAbove, loose_above, loose_height}
+use Rattle.fc_tree_retain.proofs.Levels.{loose_above, loose_height}
 use Rattle.fc_tree_retain.proofs.Settling.{IsMending, mending_start, mending_more, mending_end, next_loose, next_mended}
 use Rattle.fc_tree_retain.proofs.mending.+mend.Given as given
 use Rattle.fc_tree_retain.proofs.mending.+mend.Goals as goal
-use Rattle.fc_tree_retain.proofs.mending.+mend.Goals.{Else-is_leaf, After-get_mut-in-loop}
+use Rattle.fc_tree_retain.proofs.mending.+mend.Goals.{Else-is_leaf, After-child_in-in-loop}
 
-above : (g : given.Over) (t : ℕ) (c : Else-is_leaf g t) (h : ℕ) → IsLoose h c.args.node.now → IsAbove h c.args.node.now
+above : (g : given.Over) (t : ℕ) (c : Else-is_leaf g t) (h : ℕ) → IsLoose h c.args.node.now → IsAbove IsLoose h c.args.node.now
 above g t c h l = loose_above h c.args.node.now (λ l. false≢true (c.if-is_leaf.ensures.1 l)) l
 
-lent : (g : given.Over) (t : ℕ) (c : After-get_mut-in-loop g t) → c.get_mut-in-loop.result.now ≡ child_at c.loop.node (c.loop.at + 1)
+lent : (g : given.Over) (t : ℕ) (c : After-child_in-in-loop g t) → c.child_in-in-loop.result.now ≡ child_at c.loop.node (c.loop.at + 1)
 lent g t c =
     let at = c.loop.invariant in
-    let li = at.left_is in
-    let test = c.loop-test.true in
-    opened_child c.loop.node _ (c.loop.at + 1) _ c.content-in-loop.ensures.value at.inner (omega arith) c.get_mut-in-loop.ensures.value
+    lent_is c.loop.node (c.loop.at + 1) _ at.inner (omega arith) c.child_in-in-loop.ensures.value
 
 pub loop-init : goal.loop-init
 loop-init g t c =
     let n = c.args.node.now in
     let a = above g t (goal.at.loop-init g t c).Else-is_leaf _ c.requires.loose.1 in
-    let k : length (children_of n) ≡ length (own_pairs n) + 1 = a.levels.1 in
-    let is = opened_child n _ 0 _ c.content.ensures.value a.levels.1 (omega arith) c.get_mut.ensures.value in
-    let m = child_set n _ 0 c.mend.new.node c.content.ensures.value in
+    let is = lent_is n 0 _ a.levels.1 (omega arith) c.child_in.ensures.value in
+    let m = replaced n 0 c.mend.new.node in
     let e = c.len-end.ensures.value in
     let z : c.len-end.result ≡ c.len-end.result - 0 = omega arith in
-    mending_start n _ c.get_mut.result.now c.mend.new.node (c.len-end.result - 0) a.levels.1 m is c.mend.ensures.pairs c.mend.ensures.levels (sym e ∙ z)
+    mending_start n _ c.child_in.result.now c.mend.new.node (c.len-end.result - 0) a.levels.1 m is c.mend.ensures.pairs c.mend.ensures.levels (sym e ∙ z)
 
 pub overflow_add-at : goal.overflow_add-at
 overflow_add-at g t c =
     let a = above g t (goal.at.overflow_add-at g t c).Else-is_leaf _ c.requires.loose.1 in
     let at = c.loop.invariant in
-    let li = at.left_is in
     let fits = (at.levels a.below a.levels).fits in
     omega arith
 
@@ -47,13 +42,11 @@ mend-requires-in-loop g t c κs within =
     let w = goal.at.mend-requires-in-loop g t c in
     let a = above g t w.Else-is_leaf _ c.requires.loose.1 in
     let at = c.loop.invariant in
-    let li = at.left_is in
-    let test = c.loop-test.true in
     let next = next_loose a.below c.loop.at c.loop.node at.inner (omega arith) (at.levels a.below a.levels) in
-    let b = subst (IsLoose a.below) (sym (lent g t w.After-get_mut-in-loop)) next in
+    let b = subst (IsLoose a.below) (sym (lent g t w.After-child_in-in-loop)) next in
     let x = loose_height (suc a.below) n a.levels in
-    let y = loose_height a.below c.get_mut-in-loop.result.now b in
-    let falls : height_of c.get_mut-in-loop.result.now < height_of n = omega arith in
+    let y = loose_height a.below c.child_in-in-loop.result.now b in
+    let falls : height_of c.child_in-in-loop.result.now < height_of n = omega arith in
     (omega (arith, falls, c.decreases), (search rules, (search rules, (search rules, (a.below, b)))))
 
 pub settle-at-requires : goal.settle-at-requires
@@ -61,22 +54,19 @@ settle-at-requires g t c =
     let w = goal.at.settle-at-requires g t c in
     let a = above g t w.Else-is_leaf _ c.requires.loose.1 in
     let at = c.loop.invariant in
-    let li = at.left_is in
-    let test = c.loop-test.true in
-    let m = child_set c.loop.node _ (c.loop.at + 1) c.mend-in-loop.new.node c.content-in-loop.ensures.value in
-    let next = next_mended a.below c.loop.at c.loop.node _ c.get_mut-in-loop.result.now c.mend-in-loop.new.node at.inner (omega arith)
-    (at.levels a.below a.levels) (lent g t w.After-get_mut-in-loop) m c.mend-in-loop.ensures.levels in
+    let m = replaced c.loop.node (c.loop.at + 1) c.mend-in-loop.new.node in
+    let next = next_mended a.below c.loop.at c.loop.node _ c.child_in-in-loop.result.now c.mend-in-loop.new.node at.inner (omega arith)
+    (at.levels a.below a.levels) (lent g t w.After-child_in-in-loop) m c.mend-in-loop.ensures.levels in
     (a.below, next.seam)
 
 pub loop-preserved : goal.loop-preserved
 loop-preserved g t c =
     let w = goal.at.loop-preserved g t c in
     let a = above g t w.Else-is_leaf _ c.requires.loose.1 in
-    let test = c.loop-test.true in
-    let m = child_set c.loop.node _ (c.loop.at + 1) c.mend-in-loop.new.node c.content-in-loop.ensures.value in
-    mending_more c.args.node.now c.loop.node _ c.settle-at.new.node c.get_mut-in-loop.result.now c.mend-in-loop.new.node c.loop.at
+    let m = replaced c.loop.node (c.loop.at + 1) c.mend-in-loop.new.node in
+    mending_more c.args.node.now c.loop.node _ c.settle-at.new.node c.child_in-in-loop.result.now c.mend-in-loop.new.node c.loop.at
     (c.len-end.result - c.loop.counter) (c.len-end.result - (c.loop.counter + 1)) c.settle-at.result a.below c.loop.invariant (omega arith) a.levels
-    (lent g t w.After-get_mut-in-loop) m c.mend-in-loop.ensures.pairs c.mend-in-loop.ensures.levels c.settle-at.ensures.pairs c.settle-at.ensures.settled
+    (lent g t w.After-child_in-in-loop) m c.mend-in-loop.ensures.pairs c.mend-in-loop.ensures.levels c.settle-at.ensures.pairs c.settle-at.ensures.settled
 
 pub returns-clause-pairs : goal.returns-clause-pairs
 returns-clause-pairs g t c = c.loop.invariant.pairs
@@ -85,7 +75,6 @@ pub returns-clause-levels : goal.returns-clause-levels
 returns-clause-levels g t c h l =
     let n = c.args.node.now in
     let a = above g t (goal.at.returns-clause-levels g t c).Else-is_leaf h l in
-    let test = c.loop-test.false in
     let z : c.len-end.result - c.loop.counter ≡ 0 = omega arith in
     let done = subst (λ j. IsMending n c.loop.node c.loop.at j) z c.loop.invariant in
     subst (λ i. IsThin i c.loop.node) (sym a.height) (mending_end n c.loop.node c.loop.at done a.below a.levels)

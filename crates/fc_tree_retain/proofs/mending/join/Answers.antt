@@ -17,8 +17,6 @@ bulk_steal_left-requires-clause-alike g c = let s = c.requires.seam.1 in thin_al
 pub returns-then-left-right-lt-CAPACITY-clause-joined : goal.returns-then-left-right-lt-CAPACITY-clause-joined
 returns-then-left-right-lt-CAPACITY-clause-joined g c h s =
     let l = c.requires.left in
-    let r = c.requires.right in
-    let z = c.if-left-right-lt-CAPACITY.true in
     let i = c.args.index in
     inl (
       refl,
@@ -30,9 +28,6 @@ returns-then-left-right-lt-CAPACITY-clause-joined g c h s =
 pub returns-then-left-lt-MIN_LEN-clause-joined : goal.returns-then-left-lt-MIN_LEN-clause-joined
 returns-then-left-lt-MIN_LEN-clause-joined g c h s =
     let l = c.requires.left in
-    let r = c.requires.right in
-    let z = c.if-left-right-lt-CAPACITY.false in
-    let few = c.if-left-lt-MIN_LEN.true in
     let i = c.args.index in
     let n = c.args.node.now in
     inr (
@@ -44,11 +39,6 @@ returns-then-left-lt-MIN_LEN-clause-joined g c h s =
 
 pub returns-clause-joined : goal.returns-clause-joined
 returns-clause-joined g c h s =
-    let l = c.requires.left in
-    let r = c.requires.right in
-    let z = c.if-left-right-lt-CAPACITY.false in
-    let few = c.if-left-lt-MIN_LEN.false in
-    let short = c.requires.short in
     let i = c.args.index in
     let n = c.args.node.now in
     let x = thin_fits h (child_at n i) s.left in

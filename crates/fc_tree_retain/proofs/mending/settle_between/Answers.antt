@@ -6,49 +6,39 @@ use Rattle.fc_tree_retain.proofs.mending.settle_between.Goals.{After-loop}
 
 pub loop-init : goal.loop-init
 loop-init g c =
-    let order = c.requires.1.order in
     bordering_start c.requires.0 c.args.node.now c.args.first c.args.last _ _ c.requires.1 c.saturating_sub-start.ensures (omega arith)
 
 pub settle-at-requires : goal.settle-at-requires
-settle-at-requires g c =
-    let test = c.loop-test.true in (
-      c.requires.0,
-      (bordering_seam c.args.node.now c.loop.node c.args.first c.args.last c.loop.at _ (c.args.last - (c.loop.counter + 1)) c.loop.invariant
-          (omega arith) c.requires.0 c.requires.1).seam,
-    )
+settle-at-requires g c = (
+  c.requires.0,
+  (bordering_seam c.args.node.now c.loop.node c.args.first c.args.last c.loop.at _ (c.args.last - (c.loop.counter + 1)) c.loop.invariant
+      (omega arith) c.requires.0 c.requires.1).seam,
+)
 
 pub loop-preserved : goal.loop-preserved
 loop-preserved g c =
-    let test = c.loop-test.true in
     bordering_more c.requires.0 c.args.node.now c.loop.node _ c.args.first c.args.last c.loop.at (c.args.last - c.loop.counter) _ _ c.requires.1
     c.loop.invariant (omega arith) c.settle-at.ensures.pairs c.settle-at.ensures.settled
 
 done : (g : given.Over) (c : After-loop g) → IsBordering c.args.node.now c.loop.node c.args.first c.args.last c.loop.at 0
 done g c =
-    let test = c.loop-test.false in
     let z : c.args.last - c.loop.counter ≡ 0 = omega arith in
     subst (λ k. IsBordering c.args.node.now c.loop.node c.args.first c.args.last c.loop.at k) z c.loop.invariant
 
 pub settle-requires : goal.settle-requires
-settle-requires g c =
-    let v = c.len.ensures.value in
-    let lt = c.if-at-len.true in (
-      c.requires.0,
-      (bordering_last c.args.node.now c.loop.node c.args.first c.args.last c.loop.at
-          (done g (goal.at.settle-requires g c).After-loop) (omega arith) c.requires.0 c.requires.1).0.seam,
-    )
+settle-requires g c = (
+  c.requires.0,
+  (bordering_last c.args.node.now c.loop.node c.args.first c.args.last c.loop.at
+      (done g (goal.at.settle-requires g c).After-loop) (omega arith) c.requires.0 c.requires.1).0.seam,
+)
 
 pub returns-then-at-len-clause-thin : goal.returns-then-at-len-clause-thin
 returns-then-at-len-clause-thin g c h t =
-    let v = c.len.ensures.value in
-    let lt = c.if-at-len.true in
     let x = bordering_last c.args.node.now c.loop.node c.args.first c.args.last c.loop.at (done g (goal.at.returns-then-at-len-clause-thin g c).After-loop)
     (omega arith) h t in
     bordering_settled h c.loop.at _ c.loop.node _ x.0 x.1 (c.settle.ensures.settled h x.0.seam)
 
 pub returns-else-at-len-clause-thin : goal.returns-else-at-len-clause-thin
 returns-else-at-len-clause-thin g c h t =
-    let v = c.len.ensures.value in
-    let ge = c.if-at-len.false in
     bordering_end c.args.node.now c.loop.node c.args.first c.args.last c.loop.at (done g (goal.at.returns-else-at-len-clause-thin g c).After-loop) (omega arith)
     h t

@@ -6,7 +6,6 @@ use Rattle.fc_tree_retain.proofs.retain.sift_tree.Goals as goal
 pub count_in-requires-clause-fits : goal.count_in-requires-clause-fits
 count_in-requires-clause-fits g c =
     let k = kept_length (SiftsPair g.S.Sieve.asked g.S.Sieve.given) _ _ _ _ c.sift_root.ensures.sifted in
-    let f = c.requires.fits in
     omega arith
 
 pub returns-clause-ascending : goal.returns-clause-ascending

@@ -1,99 +1,93 @@
 use Rattle.std.proofs.Common.{◌≡◌, ℕ, suc, ◌+◌, ◌-◌, ◌<◌, rules, arith, subst}
 use Rattle.std.proofs.lemmas.Bool.{false≢true}
 use Rattle.fc_tree_node.specs.declared.node.Node.{Node}
-use Rattle.fc_tree_node.proofs.Made.{IsChildSet, child_set}
+use Rattle.fc_tree_node.proofs.Lent.{IsLent, IsReplaced, replaced}
 use Rattle.fc_tree_border.proofs.Heights.{height_of}
+use Rattle.fc_tree_retain.specs.Loose.{IsLoose}
 use Rattle.fc_tree_retain.specs.Sifted.{SiftsPair}
-use Rattle.fc_tree_retain.proofs.Levels.{loose_above, loose_height, IsLent, lent}
+use Rattle.fc_tree_retain.proofs.Levels.{loose_above, loose_height, loose_lent, lent_falls}
 use Rattle.fc_tree_retain.proofs.Passing.{IsSifting, child_left, sifting_start, sifting_more, IsAllSifted, sifting_end}
 use Rattle.fc_tree_retain.proofs.sifting.+sift.Given as given
 use Rattle.fc_tree_retain.proofs.sifting.+sift.Goals as goal
-use Rattle.fc_tree_retain.proofs.sifting.+sift.Goals.{After-get_mut, After-get_mut-2, After-sift, After-sift-2}
+use Rattle.fc_tree_retain.proofs.sifting.+sift.Goals.{After-child_in, After-child_in-2, After-sift, After-sift-2}
 
-lent_at : (g : given.Over) (t : ℕ) (c : After-get_mut g t) → IsLent c.requires.loose.0 c.loop.node c.get_mut.result.now c.loop.at
+lent_at : (g : given.Over) (t : ℕ) (c : After-child_in g t) → IsLent IsLoose IsLoose c.requires.loose.0 c.loop.node c.child_in.result.now c.loop.at
 lent_at g t c =
     let at = c.loop.invariant.at in
-    let li = at.left_is in
-    lent _ c.loop.node _ c.loop.at _ c.content.ensures.value at.inner (at.levels _ c.requires.loose.1) (omega arith) c.get_mut.ensures.value
+    loose_lent _ c.loop.node c.loop.at _ at.inner (at.levels _ c.requires.loose.1) (omega arith) c.child_in.ensures.value
 
-lent_last : (g : given.Over) (t : ℕ) (c : After-get_mut-2 g t) → IsLent c.requires.loose.0 c.loop.node c.get_mut-2.result.now c.loop.at
+lent_last : (g : given.Over) (t : ℕ) (c : After-child_in-2 g t) → IsLent IsLoose IsLoose c.requires.loose.0 c.loop.node c.child_in-2.result.now c.loop.at
 lent_last g t c =
     let at = c.loop.invariant.at in
-    let li = at.left_is in
-    lent _ c.loop.node _ c.loop.at _ c.content-2.ensures.value at.inner (at.levels _ c.requires.loose.1) (omega arith) c.get_mut-2.ensures.value
+    loose_lent _ c.loop.node c.loop.at _ at.inner (at.levels _ c.requires.loose.1) (omega arith) c.child_in-2.ensures.value
 
 pub loop-init : goal.loop-init
 loop-init g t c =
     let n = c.args.node.now in
     let R = SiftsPair g.S.Sieve.asked g.S.Sieve.given in
     let a = loose_above _ n (λ l. false≢true (c.if-is_leaf.ensures.1 l)) c.requires.loose.1 in
-    let e = c.len-end.ensures.value in
     record { callable = c.requires.callable; at = sifting_start R c.args.sieve.now n (c.len-end.result - 0) a.levels.1 (omega arith) }
 
 pub sift-requires : goal.sift-requires
 sift-requires g t c κs within =
-    let l = lent_at g t (goal.at.sift-requires g t c).After-get_mut in
+    let l = lent_at g t (goal.at.sift-requires g t c).After-child_in in
     let x = loose_height c.requires.loose.0 c.args.node.now c.requires.loose.1 in
-    let y : height_of c.get_mut.result.now < c.requires.loose.0 = l.falls in
-    let falls : height_of c.get_mut.result.now < height_of c.args.node.now = omega arith in
-    (omega (arith, falls, c.decreases), (search rules, (search rules, (search rules, (search rules, ((l.below, l.loose), c.loop.invariant.callable))))))
+    let y : height_of c.child_in.result.now < c.requires.loose.0 = lent_falls l in
+    let falls : height_of c.child_in.result.now < height_of c.args.node.now = omega arith in
+    (omega (arith, falls, c.decreases), (search rules, (search rules, (search rules, (search rules, ((l.below, l.child), c.loop.invariant.callable))))))
 
 pub sift_between-at-requires-clause-loose : goal.sift_between-at-requires-clause-loose
 sift_between-at-requires-clause-loose g t c =
-    let l = lent_at g t (goal.at.sift_between-at-requires-clause-loose g t c).After-get_mut in
+    let l = lent_at g t (goal.at.sift_between-at-requires-clause-loose g t c).After-child_in in
     let at = c.loop.invariant.at in
-    let li = at.left_is in
-    let m = child_set c.loop.node _ c.loop.at c.sift.new.node c.content.ensures.value in
+    let m = replaced c.loop.node c.loop.at c.sift.new.node in
     let w = child_left c.loop.node _ c.sift.new.node c.loop.at at.inner (omega arith) m in
-    (suc l.below, w.levels l.below l.levels (c.sift.ensures.loose l.below l.loose))
+    (suc l.below, w.levels l.below l.levels (c.sift.ensures.loose l.below l.child))
 
 pub sift_between-at-requires-clause-inner : goal.sift_between-at-requires-clause-inner
 sift_between-at-requires-clause-inner g t c =
     let at = c.loop.invariant.at in
-    let li = at.left_is in
-    let m = child_set c.loop.node _ c.loop.at c.sift.new.node c.content.ensures.value in
+    let m = replaced c.loop.node c.loop.at c.sift.new.node in
     (child_left c.loop.node _ c.sift.new.node c.loop.at at.inner (omega arith) m).inner
 
 pub loop-preserved : goal.loop-preserved
 loop-preserved g t c =
     let R = SiftsPair g.S.Sieve.asked g.S.Sieve.given in
-    let test = c.loop-test.true in
-    let l = lent_at g t (goal.at.loop-preserved g t c).After-get_mut in
+    let l = lent_at g t (goal.at.loop-preserved g t c).After-child_in in
     record {
       callable = c.sift_between-at.ensures.callable;
       at = sifting_more R c.args.sieve.now c.loop.sieve c.sift.new.sieve c.sift_between-at.new.sieve c.args.node.now c.loop.node _ c.sift_between-at.new.node
-          c.get_mut.result.now c.sift.new.node c.loop.at (c.len-end.result - c.loop.counter) (c.len-end.result - (c.loop.counter + 1))
-          c.sift_between-at.result c.loop.invariant.at (omega arith) l.is (child_set c.loop.node _ c.loop.at c.sift.new.node c.content.ensures.value)
+          c.child_in.result.now c.sift.new.node c.loop.at (c.len-end.result - c.loop.counter) (c.len-end.result - (c.loop.counter + 1))
+          c.sift_between-at.result c.loop.invariant.at (omega arith) l.is (replaced c.loop.node c.loop.at c.sift.new.node)
           c.sift.ensures.sifted c.sift.ensures.loose c.sift_between-at.ensures.passed;
     }
 
 pub sift-requires-2 : goal.sift-requires-2
 sift-requires-2 g t c κs within =
-    let l = lent_last g t (goal.at.sift-requires-2 g t c).After-get_mut-2 in
+    let l = lent_last g t (goal.at.sift-requires-2 g t c).After-child_in-2 in
     let x = loose_height c.requires.loose.0 c.args.node.now c.requires.loose.1 in
-    let y : height_of c.get_mut-2.result.now < c.requires.loose.0 = l.falls in
-    let falls : height_of c.get_mut-2.result.now < height_of c.args.node.now = omega arith in
-    (omega (arith, falls, c.decreases), (search rules, (search rules, (search rules, (search rules, ((l.below, l.loose), c.loop.invariant.callable))))))
+    let y : height_of c.child_in-2.result.now < c.requires.loose.0 = lent_falls l in
+    let falls : height_of c.child_in-2.result.now < height_of c.args.node.now = omega arith in
+    (omega (arith, falls, c.decreases), (search rules, (search rules, (search rules, (search rules, ((l.below, l.child), c.loop.invariant.callable))))))
 
-ended : (g : given.Over) (t : ℕ) (c : After-sift-2 g t) (l : IsLent c.requires.loose.0 c.loop.node c.get_mut-2.result.now c.loop.at)
-    (new : Node g.row.K.Denot g.row.V.Denot g.row.A.Denot) → IsChildSet c.loop.node new c.loop.at c.sift-2.new.node
+ended : (g : given.Over) (t : ℕ) (c : After-sift-2 g t) (l : IsLent IsLoose IsLoose c.requires.loose.0 c.loop.node c.child_in-2.result.now c.loop.at)
+    (new : Node g.row.K.Denot g.row.V.Denot g.row.A.Denot) → IsReplaced c.loop.node new c.loop.at c.sift-2.new.node
     → IsAllSifted (SiftsPair g.S.Sieve.asked g.S.Sieve.given) c.args.sieve.now c.sift-2.new.sieve c.args.node.now new
 ended g t c l new m =
     let R = SiftsPair g.S.Sieve.asked g.S.Sieve.given in
-    let test = c.loop-test.false in
     let z : c.len-end.result - c.loop.counter ≡ 0 = omega arith in
     let all = subst (λ j. IsSifting R c.args.sieve.now c.loop.sieve c.args.node.now c.loop.node c.loop.at j) z c.loop.invariant.at in
-    sifting_end R c.args.sieve.now c.loop.sieve c.sift-2.new.sieve c.args.node.now c.loop.node new c.get_mut-2.result.now c.sift-2.new.node c.loop.at all
+    sifting_end R c.args.sieve.now c.loop.sieve c.sift-2.new.sieve c.args.node.now c.loop.node new c.child_in-2.result.now c.sift-2.new.node c.loop.at all
     l.is m c.sift-2.ensures.sifted c.sift-2.ensures.loose
 
 pub returns-clause-loose : goal.returns-clause-loose
 returns-clause-loose g t c k b =
     let w = goal.at.returns-clause-loose g t c in
-    let m = child_set c.loop.node _ c.loop.at c.sift-2.new.node c.content-2.ensures.value in
-    (ended g t w.After-sift-2 (lent_last g t w.After-get_mut-2) _ m).levels k b
+    let m = replaced c.loop.node c.loop.at c.sift-2.new.node in
+    (ended g t w.After-sift-2 (lent_last g t w.After-child_in-2) _ m).levels k b
 
 pub returns-clause-sifted : goal.returns-clause-sifted
 returns-clause-sifted g t c =
     let w = goal.at.returns-clause-sifted g t c in
-    let m = child_set c.loop.node _ c.loop.at c.sift-2.new.node c.content-2.ensures.value in
-    (ended g t w.After-sift-2 (lent_last g t w.After-get_mut-2) _ m).sifts
+    let m = replaced c.loop.node c.loop.at c.sift-2.new.node in
+    (ended g t w.After-sift-2 (lent_last g t w.After-child_in-2) _ m).sifts

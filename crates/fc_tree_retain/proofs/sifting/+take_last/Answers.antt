@@ -1,12 +1,11 @@
 use Rattle.std.proofs.Common.{ℕ, suc, ◌-◌, ◌<◌, Some, None, rules, arith, ◌∙◌, append-nil}
-use Rattle.std.specs.Prelude.{slice_set}
 use Rattle.std.proofs.lemmas.Bool.{false≢true}
-use Rattle.fc_tree_node.specs.declared.node.Node.{Node, roll-Node}
-use Rattle.fc_tree_node.specs.Node.{own_pairs}
-use Rattle.fc_tree_node.proofs.Made.{child_set}
-use Rattle.fc_tree_removal.proofs.Removed.{last_taken, opened_child}
+use Rattle.fc_tree_node.specs.declared.node.Node.{Node}
+use Rattle.fc_tree_search.specs.Written.{with_child}
+use Rattle.fc_tree_node.proofs.Lent.{replaced, lent_is}
+use Rattle.fc_tree_removal.proofs.Removed.{last_taken}
 use Rattle.fc_tree_border.proofs.Heights.{height_of}
-use Rattle.fc_tree_retain.proofs.Levels.{loose_above, loose_height, lent, leaf_fewer}
+use Rattle.fc_tree_retain.proofs.Levels.{loose_above, loose_height, loose_lent, lent_falls, leaf_fewer}
 use Rattle.fc_tree_retain.proofs.Passing.{IsLastLent, last_left, last_below, none_below, empty_last, last_loose}
 use Rattle.fc_tree_retain.proofs.sifting.+take_last.Given as given
 use Rattle.fc_tree_retain.proofs.sifting.+take_last.Goals as goal
@@ -15,10 +14,10 @@ use Rattle.fc_tree_retain.proofs.sifting.+take_last.Goals.{After-take_last}
 -- the node, whose last child came back
 abbrev left : (g : given.Over) (t : ℕ) → After-take_last g t → Node g.row.K.Denot g.row.V.Denot g.row.A.Denot
 left g t c =
-    roll-Node _ _ _ (record { pairs = own_pairs c.args.node.now; children = Some (slice_set c.content.result.now c.len-end.result c.take_last.new.node) })
+    with_child c.args.node.now c.len-end.result c.take_last.new.node
 
 last : (g : given.Over) (t : ℕ) (c : After-take_last g t)
-    → IsLastLent c.args.node.now (left g t c) c.get_mut.result.now c.take_last.new.node c.len-end.result
+    → IsLastLent c.args.node.now (left g t c) c.child_in.result.now c.take_last.new.node c.len-end.result
 last g t c =
     let n = c.args.node.now in
     let e = c.len-end.ensures.value in
@@ -26,34 +25,29 @@ last g t c =
     record {
       inner = a.levels.1;
       last = e;
-      is = opened_child n _ c.len-end.result _ c.content.ensures.value a.levels.1 (omega arith) c.get_mut.ensures.value;
-      set = child_set n _ c.len-end.result c.take_last.new.node c.content.ensures.value;
+      is = lent_is n c.len-end.result _ a.levels.1 (omega arith) c.child_in.ensures.value;
+      set = replaced n c.len-end.result c.take_last.new.node;
     }
 
 pub returns-then-is_leaf-clause-loose : goal.returns-then-is_leaf-clause-loose
 returns-then-is_leaf-clause-loose g t c h l =
-    let e = c.len-end.ensures.value in
-    let f = c.if-end-eq0.false in
     leaf_fewer h c.args.node.now _ (c.len-end.result - 1) (omega arith) c.remove_leaf.ensures.leaf (c.if-is_leaf.ensures.0 (search rules))
     c.remove_leaf.ensures.pairs l
 
 pub returns-then-is_leaf-clause-pairs : goal.returns-then-is_leaf-clause-pairs
 returns-then-is_leaf-clause-pairs g t c =
-    let e = c.len-end.ensures.value in
-    let f = c.if-end-eq0.false in
     last_taken c.args.node.now _ (c.len-end.result - 1) c.remove_leaf.result (c.if-is_leaf.ensures.0 (search rules)) c.remove_leaf.ensures.leaf
     (omega arith) c.remove_leaf.ensures.value c.remove_leaf.ensures.pairs
 
 pub take_last-requires : goal.take_last-requires
 take_last-requires g t c κs within =
     let n = c.args.node.now in
-    let e = c.len-end.ensures.value in
     let a = loose_above _ n (λ l. false≢true (c.if-is_leaf.ensures.1 l)) c.requires.loose.1 in
-    let l = lent (suc a.below) n _ c.len-end.result _ c.content.ensures.value a.levels.1 a.levels (omega arith) c.get_mut.ensures.value in
+    let l = loose_lent (suc a.below) n c.len-end.result _ a.levels.1 a.levels (omega arith) c.child_in.ensures.value in
     let x = loose_height (suc a.below) n a.levels in
-    let y : height_of c.get_mut.result.now < suc a.below = l.falls in
-    let falls : height_of c.get_mut.result.now < height_of n = omega arith in
-    (search rules, (search rules, (search rules, (search rules, (l.below, l.loose)))))
+    let y : height_of c.child_in.result.now < suc a.below = lent_falls l in
+    let falls : height_of c.child_in.result.now < height_of n = omega arith in
+    (search rules, (search rules, (search rules, (search rules, (l.below, l.child)))))
 
 pub returns-in-Some-clause-loose : goal.returns-in-Some-clause-loose
 returns-in-Some-clause-loose g t c h b =

@@ -1,16 +1,16 @@
-use Rattle.std.proofs.Common.{◌≡◌, [], get_or, arith, refl, sym, ap, subst, ◌∙◌, append-nil, Some}
-use Rattle.std.specs.Prelude.{slice_set}
-use Rattle.fc_tree_node.specs.declared.node.Node.{Node, roll-Node}
+use Rattle.std.proofs.Common.{◌≡◌, [], get_or, arith, refl, sym, ap, subst, ◌∙◌, append-nil}
+use Rattle.fc_tree_node.specs.declared.node.Node.{Node}
+use Rattle.fc_tree_search.specs.Written.{with_child}
 use Rattle.fc_tree_node.specs.Node.{own_pairs, pairs_of, child_at}
-use Rattle.fc_tree_node.proofs.Made.{child_set, inner_length}
-use Rattle.fc_tree_removal.proofs.Removed.{opened_child}
+use Rattle.fc_tree_node.proofs.Lent.{replaced, lent_is}
 use Rattle.fc_tree_retain.specs.Loose.{IsLoose}
 use Rattle.fc_tree_retain.specs.Sifted.{SiftsPair}
 use Rattle.fc_tree_retain.proofs.Levels.{loose_child, inner_above}
-use Rattle.fc_tree_retain.proofs.Passing.{IsWritten, is_written, IsTurned, turned, value_at, passed_kept, passed_moved, passed_gone}
+use Rattle.fc_tree_retain.proofs.Passing.{IsWritten, is_written, IsTurned, turned, passed_kept, passed_moved, passed_gone}
+use Rattle.fc_tree_search.proofs.WrittenPairs.{value_at}
 use Rattle.fc_tree_retain.proofs.sifting.sift_between.Given as given
 use Rattle.fc_tree_retain.proofs.sifting.sift_between.Goals as goal
-use Rattle.fc_tree_retain.proofs.sifting.sift_between.Goals.{Else-stays, After-get_mut, After-take_last}
+use Rattle.fc_tree_retain.proofs.sifting.sift_between.Goals.{Else-stays, After-child_in, After-take_last}
 
 pub returns-then-stays-clause-passed : goal.returns-then-stays-clause-passed
 returns-then-stays-clause-passed g c =
@@ -21,39 +21,33 @@ returns-then-stays-clause-passed g c =
 asked : (g : given.Over) (c : Else-stays g) → IsWritten c.args.node.now c.stays.new.node c.args.at c.if-stays.ensures.asked.1
 asked g c = is_written c.args.node.now c.stays.new.node c.args.at c.if-stays.ensures.asked.1 c.if-stays.ensures.asked.4
 
-lent : (g : given.Over) (c : After-get_mut g) → IsWritten c.args.node.now c.stays.new.node c.args.at c.if-stays.ensures.asked.1
-    → c.get_mut.result.now ≡ child_at c.args.node.now c.args.at
+lent : (g : given.Over) (c : After-child_in g) → IsWritten c.args.node.now c.stays.new.node c.args.at c.if-stays.ensures.asked.1
+    → c.child_in.result.now ≡ child_at c.args.node.now c.args.at
 lent g c w =
-    let z = w.size in
-    let lt = c.requires.inside in
-    opened_child c.stays.new.node _ c.args.at _ c.content.ensures.value (w.inner c.requires.inner) (omega arith) c.get_mut.ensures.value
+    lent_is c.stays.new.node c.args.at _ (w.inner c.requires.inner) (omega arith) c.child_in.ensures.value
     ∙ w.child c.requires.inner (omega arith)
 
 -- the node, whose child came back
 abbrev left : (g : given.Over) → After-take_last g → Node g.row.K.Denot g.row.V.Denot g.row.A.Denot
 left g c =
-    roll-Node _ _ _ (record { pairs = own_pairs c.stays.new.node; children = Some (slice_set c.content.result.now c.args.at c.take_last.new.node) })
+    with_child c.stays.new.node c.args.at c.take_last.new.node
 
 taken : (g : given.Over) (c : After-take_last g) → IsWritten c.args.node.now c.stays.new.node c.args.at c.if-stays.ensures.asked.1
     → IsTurned c.args.node.now (left g c) c.args.at c.if-stays.ensures.asked.1 c.take_last.new.node
 taken g c w =
     turned c.args.node.now c.stays.new.node _ c.args.at _ _ c.requires.inner c.requires.inside w
-    (child_set c.stays.new.node _ c.args.at c.take_last.new.node c.content.ensures.value)
+    (replaced c.stays.new.node c.args.at c.take_last.new.node)
 
-pub get_mut-requires : goal.get_mut-requires
-get_mut-requires g c =
-    let w = asked g (goal.at.get_mut-requires g c).Else-stays in
-    let k = inner_length c.stays.new.node _ c.content.ensures.value (w.inner c.requires.inner) in
-    let z = w.size in
-    let lt = c.requires.inside in
-    omega arith
+pub child_in-requires : goal.child_in-requires
+child_in-requires g c =
+    let w = asked g (goal.at.child_in-requires g c).Else-stays in
+    omega (arith, w.inner c.requires.inner, w.size, c.requires.inside)
 
 pub take_last-requires : goal.take_last-requires
 take_last-requires g c =
     let n = c.args.node.now in
     let w = goal.at.take_last-requires g c in
-    let is = lent g w.After-get_mut (asked g w.Else-stays) in
-    let lt = c.requires.inside in
+    let is = lent g w.After-child_in (asked g w.Else-stays) in
     let b = inner_above c.requires.loose.0 n c.requires.inner c.requires.loose.1 in
     record { loose = (b.below, subst (IsLoose b.below) (sym is) (loose_child b.below n c.args.at b.levels (omega arith))) }
 
@@ -61,7 +55,6 @@ pub remove_behind-requires-clause-inside : goal.remove_behind-requires-clause-in
 remove_behind-requires-clause-inside g c =
     let w = goal.at.remove_behind-requires-clause-inside g c in
     let z = (taken g w.After-take_last (asked g w.Else-stays)).size in
-    let lt = c.requires.inside in
     omega arith
 
 pub remove_behind-requires-clause-inner : goal.remove_behind-requires-clause-inner
@@ -73,7 +66,6 @@ pub replace_pair-requires : goal.replace_pair-requires
 replace_pair-requires g c =
     let w = goal.at.replace_pair-requires g c in
     let z = (taken g w.After-take_last (asked g w.Else-stays)).size in
-    let lt = c.requires.inside in
     record { in_bounds = omega arith }
 
 pub returns-in-None-clause-passed : goal.returns-in-None-clause-passed
@@ -83,7 +75,7 @@ returns-in-None-clause-passed g c =
     let n = c.args.node.now in
     let i = c.args.at in
     let lt = c.requires.inside in
-    let is = lent g w.After-get_mut (asked g w.Else-stays) in
+    let is = lent g w.After-child_in (asked g w.Else-stays) in
     let m = taken g w.After-take_last (asked g w.Else-stays) in
     let r = c.remove_behind.ensures in
     let x = c.remove_behind.result in
@@ -101,7 +93,7 @@ returns-in-Some-clause-passed g c =
     let n = c.args.node.now in
     let i = c.args.at in
     let lt = c.requires.inside in
-    let is = lent g w.After-get_mut (asked g w.Else-stays) in
+    let is = lent g w.After-child_in (asked g w.Else-stays) in
     let m = taken g w.After-take_last (asked g w.Else-stays) in
     let r = c.replace_pair.ensures in
     let x = c.replace_pair.result in

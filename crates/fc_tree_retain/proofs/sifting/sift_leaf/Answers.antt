@@ -6,7 +6,6 @@ use Rattle.fc_tree_retain.proofs.sifting.sift_leaf.Goals as goal
 
 pub loop-init : goal.loop-init
 loop-init g c =
-    let e = c.len-end.ensures.value in
     record {
       callable = c.requires.callable;
       loose = c.requires.leaf;
@@ -17,13 +16,11 @@ loop-init g c =
 
 pub sift_own-at-requires-clause-inside : goal.sift_own-at-requires-clause-inside
 sift_own-at-requires-clause-inside g c =
-    let test = c.loop-test.true in
     leaf_room (SiftsPair g.S.Sieve.asked g.S.Sieve.given) [] 0 c.args.sieve.now c.loop.sieve _ _ c.loop.at (c.len-end.result - c.loop.counter)
     c.loop.invariant.at (omega arith)
 
 pub loop-preserved : goal.loop-preserved
 loop-preserved g c =
-    let test = c.loop-test.true in
     record {
       callable = c.sift_own-at.ensures.callable;
       loose = c.sift_own-at.ensures.loose;
@@ -35,7 +32,6 @@ loop-preserved g c =
 pub returns-clause-sifted : goal.returns-clause-sifted
 returns-clause-sifted g c =
     let R = SiftsPair g.S.Sieve.asked g.S.Sieve.given in
-    let test = c.loop-test.false in
     let z : c.len-end.result - c.loop.counter ≡ 0 = omega arith in
     leaf_end R c.args.sieve.now c.loop.sieve (own_pairs c.args.node.now) (own_pairs c.loop.node) c.loop.at
     (subst (λ j. IsLeafSifted R [] 0 c.args.sieve.now c.loop.sieve (own_pairs c.args.node.now) (own_pairs c.loop.node) c.loop.at j) z c.loop.invariant.at)

@@ -3,7 +3,8 @@ use Rattle.std.specs.Prelude.{true, false}
 use Rattle.std.specs.List.{remove}
 use Rattle.std.proofs.lemmas.List.Edits.{length-remove}
 use Rattle.fc_tree_node.specs.Node.{own_pairs}
-use Rattle.fc_tree_retain.proofs.Passing.{is_written, written_leaf, value_at}
+use Rattle.fc_tree_retain.proofs.Passing.{is_written, written_leaf}
+use Rattle.fc_tree_search.proofs.WrittenPairs.{value_at}
 use Rattle.fc_tree_retain.proofs.sifting.sift_own.Goals as goal
 
 pub returns-then-stays-clause-loose : goal.returns-then-stays-clause-loose
@@ -20,7 +21,6 @@ pub remove_leaf-requires-clause-in_bounds : goal.remove_leaf-requires-clause-in_
 remove_leaf-requires-clause-in_bounds g c =
     let a = c.if-stays.ensures.asked in
     let z = (is_written c.args.node.now c.stays.new.node c.args.at a.1 a.4).size in
-    let lt = c.requires.inside in
     omega arith
 
 pub remove_leaf-requires-clause-leaf : goal.remove_leaf-requires-clause-leaf
@@ -32,8 +32,6 @@ pub returns-clause-loose : goal.returns-clause-loose
 returns-clause-loose g c =
     let a = c.if-stays.ensures.asked in
     let z = (is_written c.args.node.now c.stays.new.node c.args.at a.1 a.4).size in
-    let lt = c.requires.inside in
-    let fits = c.requires.leaf.0 in
     let s : length (own_pairs c.remove_leaf.new.self) ≡ length (remove (own_pairs c.stays.new.node) c.args.at) = ap length c.remove_leaf.ensures.pairs in
     let r = length-remove (own_pairs c.stays.new.node) c.args.at (omega arith) in
     (omega arith, c.remove_leaf.ensures.leaf)

@@ -34,6 +34,5 @@ returns-clause-count g c =
     let new = ap length e.2 ∙ length-append before (e.0 ++ after) in
     let x = length-append mid after in
     let y = length-append e.0 after in
-    let fits = c.requires.fits in
     let n = counted {T = Counted g.row.S.Denot} (λ s. s.sieve) (λ s. s.gone) g.S.Sieve.asked g.S.Sieve.given mid e.0 _ _ e.1 (omega arith) in
     omega arith

@@ -1,10 +1,10 @@
-use Rattle.std.proofs.Common.{◌≡◌, ℕ, suc, ◌+◌, ◌<◌, ◌≤◌, Some, length, get_or, rules, arith, sym, ap, subst, ◌∙◌}
-use Rattle.std.specs.Prelude.{slice_set}
+use Rattle.std.proofs.Common.{◌≡◌, ℕ, suc, ◌+◌, ◌<◌, ◌≤◌, length, get_or, rules, arith, sym, ap, subst, ◌∙◌}
 use Rattle.std.proofs.lemmas.Bool.{false≢true}
-use Rattle.fc_tree_node.specs.declared.node.Node.{Node, roll-Node}
+use Rattle.fc_tree_node.specs.declared.node.Node.{Node}
+use Rattle.fc_tree_search.specs.Written.{with_child}
 use Rattle.fc_tree_node.specs.Node.{own_pairs, child_at, IsInner, IsLeaf, IsLevelled}
-use Rattle.fc_tree_node.proofs.Made.{IsChildSet, child_set}
-use Rattle.fc_tree_removal.proofs.Removed.{none_leaf, opened_child}
+use Rattle.fc_tree_node.proofs.Lent.{IsReplaced, replaced, lent_is}
+use Rattle.fc_tree_removal.proofs.Removed.{none_leaf}
 use Rattle.fc_tree_border.proofs.Heights.{height_of, levelled_height}
 use Rattle.fc_tree_retain.specs.Mending.{IsThin}
 use Rattle.fc_tree_retain.specs.Sifted.{SiftsPair}
@@ -14,46 +14,44 @@ use Rattle.fc_tree_retain.proofs.Stretching.{stretching_start, stretching_lent, 
 use Rattle.fc_tree_retain.proofs.Stretching.{stretching_more, stretching_sifted, stretching_thin}
 use Rattle.fc_tree_retain.proofs.within.+sift_within.Given as given
 use Rattle.fc_tree_retain.proofs.within.+sift_within.Goals as goal
-use Rattle.fc_tree_retain.proofs.within.+sift_within.Goals.{Else-is_leaf, After-get_mut, After-sift_within, After-get_mut-2, After-sift_within-2, After-loop}
+use Rattle.fc_tree_retain.proofs.within.+sift_within.Goals.{Else-is_leaf, After-child_in, After-sift_within, After-child_in-2, After-sift_within-2, After-loop}
 
 ends : (g : given.Over) (t : ℕ) (c : Else-is_leaf g t)
     → AreEnds c.requires.ends.0 c.args.front.now c.args.back.now c.args.node.now c.first_step-start.result c.first_step-end.result
 ends g t c = ends_above c.requires.ends.0 c.args.front.now c.args.back.now c.args.node.now _ _ _ (λ l. false≢true (c.if-is_leaf.ensures.1 l))
     c.requires.ends.1 c.requires.ends.2 c.requires.ends.3 c.requires.order c.first_step-start.ensures c.first_step-end.ensures c.len.ensures.value
 
-lent : (g : given.Over) (t : ℕ) (c : After-get_mut g t) → c.get_mut.result.now ≡ child_at c.loop.node c.loop.at
+lent : (g : given.Over) (t : ℕ) (c : After-child_in g t) → c.child_in.result.now ≡ child_at c.loop.node c.loop.at
 lent g t c =
     let l = stretching_lent (SiftsPair g.S.Sieve.asked g.S.Sieve.given) _ _ _ _ _ _ _ _ _ c.loop.invariant.at in
-    opened_child c.loop.node _ c.loop.at _ c.content.ensures.value l.inner l.bounds c.get_mut.ensures.value
+    lent_is c.loop.node c.loop.at _ l.inner l.bounds c.child_in.ensures.value
 
-lent_last : (g : given.Over) (t : ℕ) (c : After-get_mut-2 g t) → c.get_mut-2.result.now ≡ child_at c.loop.node c.loop.at
+lent_last : (g : given.Over) (t : ℕ) (c : After-child_in-2 g t) → c.child_in-2.result.now ≡ child_at c.loop.node c.loop.at
 lent_last g t c =
     let l = stretching_lent (SiftsPair g.S.Sieve.asked g.S.Sieve.given) _ _ _ _ _ _ _ _ _ c.loop.invariant.at in
-    opened_child c.loop.node _ c.loop.at _ c.content-2.ensures.value l.inner l.bounds c.get_mut-2.ensures.value
+    lent_is c.loop.node c.loop.at _ l.inner l.bounds c.child_in-2.ensures.value
 
 -- the node, whose child came back
 abbrev left : (g : given.Over) (t : ℕ) → After-sift_within g t → Node g.row.K.Denot g.row.V.Denot g.row.A.Denot
-left g t c = roll-Node _ _ _ (record { pairs = own_pairs c.loop.node; children = Some (slice_set c.content.result.now c.loop.at c.sift_within.new.node) })
+left g t c = with_child c.loop.node c.loop.at c.sift_within.new.node
 
-came : (g : given.Over) (t : ℕ) (c : After-sift_within g t) → IsChildSet c.loop.node (left g t c) c.loop.at c.sift_within.new.node
-came g t c = child_set c.loop.node _ c.loop.at c.sift_within.new.node c.content.ensures.value
+came : (g : given.Over) (t : ℕ) (c : After-sift_within g t) → IsReplaced c.loop.node (left g t c) c.loop.at c.sift_within.new.node
+came g t c = replaced c.loop.node c.loop.at c.sift_within.new.node
 
 abbrev left_last : (g : given.Over) (t : ℕ) → After-sift_within-2 g t → Node g.row.K.Denot g.row.V.Denot g.row.A.Denot
 left_last g t c =
-    roll-Node _ _ _ (record { pairs = own_pairs c.loop.node; children = Some (slice_set c.content-2.result.now c.loop.at c.sift_within-2.new.node) })
+    with_child c.loop.node c.loop.at c.sift_within-2.new.node
 
-came_last : (g : given.Over) (t : ℕ) (c : After-sift_within-2 g t) → IsChildSet c.loop.node (left_last g t c) c.loop.at c.sift_within-2.new.node
-came_last g t c = child_set c.loop.node _ c.loop.at c.sift_within-2.new.node c.content-2.ensures.value
+came_last : (g : given.Over) (t : ℕ) (c : After-sift_within-2 g t) → IsReplaced c.loop.node (left_last g t c) c.loop.at c.sift_within-2.new.node
+came_last g t c = replaced c.loop.node c.loop.at c.sift_within-2.new.node
 
-sizes : (g : given.Over) (t : ℕ) (c : After-sift_within g t) → c.get_mut.result.now ≡ child_at c.loop.node c.loop.at → IsInner (left g t c)
+sizes : (g : given.Over) (t : ℕ) (c : After-sift_within g t) → c.child_in.result.now ≡ child_at c.loop.node c.loop.at → IsInner (left g t c)
     × (c.loop.at ≤ length (own_pairs (left g t c))) × (length (own_pairs (left g t c)) + c.loop.counter ≡ length (own_pairs c.args.node.now) + c.loop.at)
 sizes g t c l =
     back_sizes (SiftsPair g.S.Sieve.asked g.S.Sieve.given) _ _ _ _ _ _ _ _ _ c.loop.invariant.at _ _ _ l (came g t c) c.sift_within.ensures.thin
 
 at_end : (g : given.Over) (t : ℕ) (c : After-loop g t) → c.loop.counter ≡ c.first_step-end.result
 at_end g t c =
-    let test = c.loop-test.false in
-    let le = c.loop.invariant.end in
     omega arith
 
 pub loop-init : goal.loop-init
@@ -63,7 +61,6 @@ loop-init g t c =
     let i = c.first_step-start.result in
     let e = ends g t (goal.at.loop-init g t c).Else-is_leaf in
     let order = e.order in
-    let inside = e.inside in
     record {
       callable = c.requires.callable;
       end = e.order;
@@ -75,11 +72,11 @@ pub sift_within-requires : goal.sift_within-requires
 sift_within-requires g t c κs within =
     let w = goal.at.sift_within-requires g t c in
     let e = ends g t w.Else-is_leaf in
-    let o = stretching_onward (SiftsPair g.S.Sieve.asked g.S.Sieve.given) _ _ _ _ _ _ _ _ _ c.loop.invariant.at e.below c.get_mut.result.now e.levels
-    e.front_end e.first (lent g t w.After-get_mut) in
+    let o = stretching_onward (SiftsPair g.S.Sieve.asked g.S.Sieve.given) _ _ _ _ _ _ _ _ _ c.loop.invariant.at e.below c.child_in.result.now e.levels
+    e.front_end e.first (lent g t w.After-child_in) in
     let x = levelled_height (suc e.below) c.args.node.now e.levels in
-    let y = levelled_height e.below c.get_mut.result.now o.0 in
-    let falls : height_of c.get_mut.result.now < height_of c.args.node.now = omega arith in (
+    let y = levelled_height e.below c.child_in.result.now o.0 in
+    let falls : height_of c.child_in.result.now < height_of c.args.node.now = omega arith in (
       omega (arith, falls, c.decreases),
       (search rules, (search rules, (search rules, (search rules, ((e.below, o.0, o.1, tt), (order_open _, c.loop.invariant.callable)))))),
     )
@@ -89,39 +86,36 @@ sift_behind-at-requires-clause-thin g t c =
     let w = goal.at.sift_behind-at-requires-clause-thin g t c in
     let e = ends g t w.Else-is_leaf in
     let R = SiftsPair g.S.Sieve.asked g.S.Sieve.given in
-    let l = lent g t w.After-get_mut in
+    let l = lent g t w.After-child_in in
     (e.below, back_thin R _ _ _ _ _ _ _ _ _ c.loop.invariant.at _ _ _ l (came g t w.After-sift_within) c.sift_within.ensures.thin e.below e.levels)
 
 pub sift_behind-at-requires-clause-fits : goal.sift_behind-at-requires-clause-fits
 sift_behind-at-requires-clause-fits g t c =
     let w = goal.at.sift_behind-at-requires-clause-fits g t c in
     let fits = (ends g t w.Else-is_leaf).levels.0 in
-    let few = c.loop.invariant.at.few in
-    let z = (sizes g t w.After-sift_within (lent g t w.After-get_mut)).2 in
+    let z = (sizes g t w.After-sift_within (lent g t w.After-child_in)).2 in
     omega arith
 
 pub sift_behind-at-requires-clause-inside : goal.sift_behind-at-requires-clause-inside
 sift_behind-at-requires-clause-inside g t c =
     let w = goal.at.sift_behind-at-requires-clause-inside g t c in
     let inside = (ends g t w.Else-is_leaf).inside in
-    let test = c.loop-test.true in
-    let z = (sizes g t w.After-sift_within (lent g t w.After-get_mut)).2 in
+    let z = (sizes g t w.After-sift_within (lent g t w.After-child_in)).2 in
     omega arith
 
 pub sift_behind-at-requires-clause-inner : goal.sift_behind-at-requires-clause-inner
 sift_behind-at-requires-clause-inner g t c =
     let w = goal.at.sift_behind-at-requires-clause-inner g t c in
-    (sizes g t w.After-sift_within (lent g t w.After-get_mut)).0
+    (sizes g t w.After-sift_within (lent g t w.After-child_in)).0
 
 pub loop-preserved : goal.loop-preserved
 loop-preserved g t c =
     let w = goal.at.loop-preserved g t c in
     let inside = (ends g t w.Else-is_leaf).inside in
-    let test = c.loop-test.true in
     record {
       callable = c.sift_behind-at.ensures.callable;
       end = omega arith;
-      at = stretching_more (SiftsPair g.S.Sieve.asked g.S.Sieve.given) _ _ _ _ _ _ _ _ _ c.loop.invariant.at _ _ _ (lent g t w.After-get_mut)
+      at = stretching_more (SiftsPair g.S.Sieve.asked g.S.Sieve.given) _ _ _ _ _ _ _ _ _ c.loop.invariant.at _ _ _ (lent g t w.After-child_in)
           (came g t w.After-sift_within) c.sift_within.ensures.thin c.sift_within.new.sieve c.sift_behind-at.new.sieve c.sift_behind-at.new.node
           c.sift_behind-at.result (omega arith) c.sift_within.ensures.sifted c.sift_behind-at.ensures.passed;
     }
@@ -130,10 +124,10 @@ pub sift_within-requires-2 : goal.sift_within-requires-2
 sift_within-requires-2 g t c κs within =
     let R = SiftsPair g.S.Sieve.asked g.S.Sieve.given in
     let w = goal.at.sift_within-requires-2 g t c in
-    let d = c.get_mut-2.result.now in
+    let d = c.child_in-2.result.now in
     let back = c.args.back.now in
     let e = ends g t w.Else-is_leaf in
-    let l = lent_last g t w.After-get_mut-2 in
+    let l = lent_last g t w.After-child_in-2 in
     let m = at_end g t w.After-loop ∙ e.last in
     let o = stretching_onward R _ _ _ _ _ _ _ _ _ c.loop.invariant.at e.below d e.levels e.front_end e.first l in
     let b = stretching_back R _ _ _ _ _ _ _ _ _ c.loop.invariant.at e.below _ d back e.back_end m l in
@@ -153,7 +147,7 @@ settle_between-requires g t c =
     let e = ends g t w.Else-is_leaf in (
       e.below,
       stretching_thin (SiftsPair g.S.Sieve.asked g.S.Sieve.given) _ _ _ _ _ _ _ _ _ c.loop.invariant.at _ _ _
-          (lent_last g t w.After-get_mut-2) (came_last g t w.After-sift_within-2) c.sift_within-2.ensures.thin e.below e.levels,
+          (lent_last g t w.After-child_in-2) (came_last g t w.After-sift_within-2) c.sift_within-2.ensures.thin e.below e.levels,
     )
 
 pub returns-then-is_leaf-clause-thin : goal.returns-then-is_leaf-clause-thin
@@ -177,7 +171,6 @@ pub sift_part-requires-clause-order : goal.sift_part-requires-clause-order
 sift_part-requires-clause-order g t c =
     let n = c.args.node.now in
     let le = ends_order c.requires.ends.0 c.args.front.now c.args.back.now n c.requires.ends.2 c.requires.order in
-    let first = c.first_step-start.ensures in
     let last = c.first_step-end.ensures ∙ ap (get_or c.args.back.now 0) c.len.ensures.value in
     omega arith
 
@@ -194,7 +187,7 @@ returns-clause-thin g t c h l =
     let up : IsLeaf c.args.node.now → ⊥ = λ b. false≢true (c.if-is_leaf.ensures.1 b) in
     let a = level_above h c.args.node.now up l in
     let within = stretching_thin (SiftsPair g.S.Sieve.asked g.S.Sieve.given) _ _ _ _ _ _ _ _ _ c.loop.invariant.at _ _ _
-    (lent_last g t w.After-get_mut-2) (came_last g t w.After-sift_within-2) c.sift_within-2.ensures.thin a.below a.levels in
+    (lent_last g t w.After-child_in-2) (came_last g t w.After-sift_within-2) c.sift_within-2.ensures.thin a.below a.levels in
     subst (λ k. IsThin k c.settle_between.new.node) (sym a.height) (c.settle_between.ensures.thin a.below within)
 
 pub returns-clause-sifted : goal.returns-clause-sifted
@@ -204,9 +197,9 @@ returns-clause-sifted g t c =
     let back = c.args.back.now in
     let e = ends g t w.Else-is_leaf in
     let u = c.sift_within-2.new.sieve in
-    let sifted = subst (λ p. IsStretchSifted R c.loop.sieve u c.loop.ahead.now p c.get_mut-2.result.now c.sift_within-2.new.node) c.rest_of.ensures
+    let sifted = subst (λ p. IsStretchSifted R c.loop.sieve u c.loop.ahead.now p c.child_in-2.result.now c.sift_within-2.new.node) c.rest_of.ensures
     c.sift_within-2.ensures.sifted in
     let m = came_last g t w.After-sift_within-2 in
     settled_stretch R c.args.sieve.now u c.args.front.now back c.args.node.now _ c.settle_between.new.node
-    (stretching_sifted R _ _ _ _ _ _ _ _ _ c.loop.invariant.at _ _ _ (lent_last g t w.After-get_mut-2) m c.sift_within-2.ensures.thin u back
+    (stretching_sifted R _ _ _ _ _ _ _ _ _ c.loop.invariant.at _ _ _ (lent_last g t w.After-child_in-2) m c.sift_within-2.ensures.thin u back
     (at_end g t w.After-loop ∙ e.last) sifted) c.settle_between.ensures.pairs

@@ -1,17 +1,17 @@
-use Rattle.std.proofs.Common.{ℕ, ◌<◌, Some, refl, rules, arith, sym, subst}
-use Rattle.std.specs.Prelude.{slice_set}
+use Rattle.std.proofs.Common.{ℕ, ◌<◌, refl, rules, arith, sym, subst}
 use Rattle.std.proofs.lemmas.Bool.{false≢true}
-use Rattle.fc_tree_node.specs.declared.node.Node.{Node, roll-Node}
-use Rattle.fc_tree_node.specs.Node.{own_pairs, child_at, IsInner}
-use Rattle.fc_tree_node.proofs.Made.{child_set}
-use Rattle.fc_tree_removal.proofs.Removed.{empty_leaf, opened_child}
+use Rattle.fc_tree_node.specs.declared.node.Node.{Node}
+use Rattle.fc_tree_search.specs.Written.{with_child}
+use Rattle.fc_tree_node.specs.Node.{child_at, IsInner}
+use Rattle.fc_tree_node.proofs.Lent.{replaced, lent_is}
+use Rattle.fc_tree_removal.proofs.Removed.{empty_leaf}
 use Rattle.fc_tree_border.proofs.Heights.{height_of}
 use Rattle.fc_tree_retain.specs.Mending.{IsThin}
 use Rattle.fc_tree_retain.proofs.Levels.{IsThinHeir, thin_first, thin_height, thin_shrunk}
 use Rattle.fc_tree_retain.proofs.Passing.{IsLastLent, last_below, none_below, last_thin, if_none}
 use Rattle.fc_tree_retain.proofs.within.+take_last_of_thin.Given as given
 use Rattle.fc_tree_retain.proofs.within.+take_last_of_thin.Goals as goal
-use Rattle.fc_tree_retain.proofs.within.+take_last_of_thin.Goals.{Else-is_leaf, After-get_mut, After-take_last_of_thin}
+use Rattle.fc_tree_retain.proofs.within.+take_last_of_thin.Goals.{Else-is_leaf, After-child_in, After-take_last_of_thin}
 
 first : (g : given.Over) (t : ℕ) (c : Else-is_leaf g t) → IsInner c.args.node.now × IsThinHeir c.requires.thin.0 (child_at c.args.node.now 0)
 first g t c = thin_first _ c.args.node.now (λ l. false≢true (c.if-is_leaf.ensures.1 l)) c.requires.thin.1
@@ -19,43 +19,36 @@ first g t c = thin_first _ c.args.node.now (λ l. false≢true (c.if-is_leaf.ens
 -- the node, whose only child came back
 abbrev left : (g : given.Over) (t : ℕ) → After-take_last_of_thin g t → Node g.row.K.Denot g.row.V.Denot g.row.A.Denot
 left g t c =
-    roll-Node _ _ _ (record { pairs = own_pairs c.args.node.now; children = Some (slice_set c.content.result.now 0 c.take_last_of_thin.new.node) })
+    with_child c.args.node.now 0 c.take_last_of_thin.new.node
 
 last : (g : given.Over) (t : ℕ) (c : After-take_last_of_thin g t) → IsInner c.args.node.now
-    → IsLastLent c.args.node.now (left g t c) c.get_mut.result.now c.take_last_of_thin.new.node 0
+    → IsLastLent c.args.node.now (left g t c) c.child_in.result.now c.take_last_of_thin.new.node 0
 last g t c inner =
     let n = c.args.node.now in
-    let v = c.len.ensures.value in
-    let none = c.if-len-gt0.false in
     record {
       inner = inner;
       last = omega arith;
-      is = opened_child n _ 0 _ c.content.ensures.value inner (omega arith) c.get_mut.ensures.value;
-      set = child_set n _ 0 c.take_last_of_thin.new.node c.content.ensures.value;
+      is = lent_is n 0 _ inner (omega arith) c.child_in.ensures.value;
+      set = replaced n 0 c.take_last_of_thin.new.node;
     }
 
 pub returns-then-len-gt0-clause-thin : goal.returns-then-len-gt0-clause-thin
 returns-then-len-gt0-clause-thin g t c h b =
-    let v = c.len.ensures.value in
-    let some = c.if-len-gt0.true in
     thin_shrunk h c.args.node.now _ (omega arith) c.remove_last.ensures.levels b
 
 pub returns-then-is_leaf-clause-none : goal.returns-then-is_leaf-clause-none
 returns-then-is_leaf-clause-none g t c =
-    let v = c.len.ensures.value in
-    let none = c.if-len-gt0.false in
     empty_leaf c.args.node.now (c.if-is_leaf.ensures.0 (search rules)) (omega arith)
 
 pub take_last_of_thin-requires : goal.take_last_of_thin-requires
 take_last_of_thin-requires g t c κs within =
     let n = c.args.node.now in
     let f = first g t (goal.at.take_last_of_thin-requires g t c).Else-is_leaf in
-    let is = opened_child n _ 0 _ c.content.ensures.value f.0 (omega arith) c.get_mut.ensures.value in
+    let is = lent_is n 0 _ f.0 (omega arith) c.child_in.ensures.value in
     let b = subst (IsThin f.1.below) (sym is) f.1.thin in
-    let e = f.1.height in
     let x = thin_height c.requires.thin.0 n c.requires.thin.1 in
-    let y = thin_height f.1.below c.get_mut.result.now b in
-    let falls : height_of c.get_mut.result.now < height_of n = omega arith in
+    let y = thin_height f.1.below c.child_in.result.now b in
+    let falls : height_of c.child_in.result.now < height_of n = omega arith in
     (search rules, (search rules, (search rules, (search rules, (f.1.below, b)))))
 
 pub returns-clause-thin : goal.returns-clause-thin

@@ -9,8 +9,6 @@ use Rattle.fc_tree_retain.proofs.within.sift_part.Goals as goal
 pub loop-init : goal.loop-init
 loop-init g c =
     let xs = own_pairs c.args.node.now in
-    let order = c.requires.order in
-    let inside = c.requires.inside in
     let d = length-drop c.args.start xs in
     record {
       callable = c.requires.callable;
@@ -21,13 +19,11 @@ loop-init g c =
 
 pub sift_own-at-requires-clause-inside : goal.sift_own-at-requires-clause-inside
 sift_own-at-requires-clause-inside g c =
-    let test = c.loop-test.true in
     leaf_room (SiftsPair g.S.Sieve.asked g.S.Sieve.given) (take c.args.start (own_pairs c.args.node.now)) _ c.args.sieve.now c.loop.sieve _ _ c.loop.at
     (c.args.end - c.loop.counter) c.loop.invariant.at (omega arith)
 
 pub loop-preserved : goal.loop-preserved
 loop-preserved g c =
-    let test = c.loop-test.true in
     record {
       callable = c.sift_own-at.ensures.callable;
       loose = c.sift_own-at.ensures.loose;
@@ -40,9 +36,6 @@ pub returns-clause-sifted : goal.returns-clause-sifted
 returns-clause-sifted g c =
     let R = SiftsPair g.S.Sieve.asked g.S.Sieve.given in
     let xs = own_pairs c.args.node.now in
-    let order = c.requires.order in
-    let inside = c.requires.inside in
-    let test = c.loop-test.false in
     let z : c.args.end - c.loop.counter ≡ 0 = omega arith in
     part_end R c.args.start c.args.end (length xs - c.args.end) c.args.sieve.now c.loop.sieve xs (own_pairs c.loop.node) c.loop.at (omega arith) (omega arith)
     (subst (λ j. IsLeafSifted R (take c.args.start xs) (length xs - c.args.end) c.args.sieve.now c.loop.sieve xs (own_pairs c.loop.node) c.loop.at j) z

@@ -20,7 +20,7 @@ down-preserved g c =
     first_down c.args.root.now c.down.node.now c.child-node.result.now c.down.invariant w c.child-node.ensures
 
 pub pair-requires : goal.pair-requires
-pair-requires g c = let some = c.down.invariant.sound.0 in omega arith
+pair-requires g c = omega arith
 
 pub returns : goal.returns
 returns g c = first_found c.args.root.now c.down.node.now c.pair.result.now c.down.invariant (c.down-test.ensures.0 refl) c.pair.ensures

@@ -8,12 +8,10 @@ down-init g c = last_start c.requires.0 c.args.root.now c.requires.1
 
 pub child-node-requires : goal.child-node-requires
 child-node-requires g c =
-    let end = c.len.ensures.value in
     (child_of _ c.down.node.now c.len.result c.down.invariant.sound c.down-test.ensures.1 (omega arith)).there
 
 pub down-smaller : goal.down-smaller
 down-smaller g c =
-    let end = c.len.ensures.value in
     let w = child_of _ c.down.node.now c.len.result c.down.invariant.sound c.down-test.ensures.1 (omega arith) in
     fewer_nodes c.down.node.now c.child-node.result.now c.len.result w.there c.child-node.ensures
 
@@ -25,12 +23,8 @@ down-preserved g c =
 
 pub pair-requires : goal.pair-requires
 pair-requires g c =
-    let some = c.down.invariant.sound.0 in
-    let end = c.len-2.ensures.value in
     omega arith
 
 pub returns : goal.returns
 returns g c =
-    let some = c.down.invariant.sound.0 in
-    let end = c.len-2.ensures.value in
     last_found c.args.root.now c.down.node.now (c.len-2.result - 1) c.pair.result.now c.down.invariant (c.down-test.ensures.0 refl) (omega arith) c.pair.ensures

@@ -53,5 +53,4 @@ pub down-preserved : goal.down-preserved
 down-preserved g c =
     let s = searched g (goal.at.down-preserved g c).After-search_node in
     let next = goes_on s c.in-Err.gap c.child-node.result.now c.in-Err.ensures.gap c.if-is_leaf.ensures.1 c.child-node.ensures in
-    let p = next.passes in
     ((_, next.search.way), omega (arith, c.in-Err.ensures.comparisons), omega (arith, c.in-Err.ensures.moves))

@@ -9,16 +9,12 @@ use Rattle.fc_tree_visit.proofs.leaf.+lowest_after.Goals as goal
 pub returns-then-gap-eq1 : goal.returns-then-gap-eq1
 returns-then-gap-eq1 g t c =
     let e = c.lower-lowest.ensures in
-    let n = c.len.ensures.value in
     lowest_leaf c.args.gap.now c.args.node.now c.args.level _ _ _ _ (one_step _ c.if-gap-eq1.true) c.requires.path c.requires.levels (omega arith) refl refl
     e.other e.best
 
 pub lowest_after-requires : goal.lowest_after-requires
 lowest_after-requires g t c κs within =
     let s = step_of c.args.gap.now c.args.node.now (omega arith) c.requires.path c.requires.levels in
-    let long = s.long in
-    let height = s.height in
-    let fits = c.requires.fits in
     let b = child_below _ c.args.node.now _ s.levels s.le in (
       omega arith,
       (
@@ -42,7 +38,6 @@ lowest_after-requires g t c κs within =
 pub returns : goal.returns
 returns g t c =
     let e = c.lower-lowest.ensures in
-    let n = c.len.ensures.value in
     let s = step_of c.args.gap.now c.args.node.now (omega arith) c.requires.path c.requires.levels in
     lowest_above c.args.gap.now c.args.node.now c.args.level _ _ _ _ _ s c.requires.levels (omega arith) refl refl e.other e.best
     (rw c.child.ensures at c.lowest_after.ensures)

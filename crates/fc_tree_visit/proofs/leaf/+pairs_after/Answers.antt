@@ -9,8 +9,6 @@ use Rattle.fc_tree_visit.proofs.leaf.+pairs_after.Goals as goal
 pub pairs_after-requires : goal.pairs_after-requires
 pairs_after-requires g t c κs within =
     let s = step_of c.args.gap.now c.args.node.now (omega arith) c.requires.path c.requires.levels in
-    let long = s.long in
-    let height = s.height in
     let b = child_below _ c.args.node.now _ s.levels s.le in (
       omega arith,
       (

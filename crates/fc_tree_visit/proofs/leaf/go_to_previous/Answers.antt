@@ -7,8 +7,6 @@ use Rattle.fc_tree_visit.proofs.leaf.go_to_previous.Goals as goal
 pub returns : goal.returns
 returns c =
     let p = c.args.gap.now in
-    let n = c.len-last.ensures.value in
-    let some = c.requires.some in
     let last = c.len-last.result - 1 in
     let before = c.requires.before in
     let same : length p - 1 ≡ last = omega arith in

@@ -1,12 +1,9 @@
-use Rattle.std.proofs.Common.{◌≡◌, ℕ, ◌+◌, ◌≤◌, length, get_or, rules, arith, add-one, refl, sym, ap, subst, ◌∙◌, slice_set, Some}
+use Rattle.std.proofs.Common.{ℕ, ◌+◌, ◌≤◌, length, rules, arith, add-one, refl, sym, subst}
 use Rattle.std.proofs.lemmas.Bool.{false≢true}
-use Rattle.fc_tree_node.specs.declared.node.Node.{roll-Node}
-use Rattle.fc_tree_node.specs.Node.{own_pairs, pairs_of}
+use Rattle.fc_tree_node.specs.Node.{pairs_of}
 use Rattle.fc_tree_node.specs.Path.{before_gap, after_gap}
-use Rattle.fc_tree_node.proofs.Made.{children_in}
-use Rattle.fc_tree_search.specs.Written.{with_value, with_child}
+use Rattle.fc_tree_search.specs.Written.{with_child}
 use Rattle.fc_tree_visit.specs.Visits.{CalledAtPair, IsEnd}
-use Rattle.fc_tree_visit.proofs.Parts.{child_back}
 use Rattle.fc_tree_visit.proofs.Walking.{AreSteps, AreInner, leaf_steps, inner_steps, leaf_front, leaf_back, at_start, child_room, lent, below_back, at_next}
 use Rattle.fc_tree_visit.proofs.Walking.{at_last, end_below, IsOver, over}
 use Rattle.fc_tree_visit.proofs.visit.+visit.Given as given
@@ -51,20 +48,15 @@ loop-i-init g t c =
       at = at_start (CalledAtPair g.F.FnMut) s.h c.args.node.now c.args.f.now c.args.from.now c.args.to.now _ _ _ _ s.levels c.requires.order s.steps;
     }
 
-pub get_mut-requires : goal.get_mut-requires
-get_mut-requires g t c =
-    let s = inner g t (goal.at.get_mut-requires g t c).Else-is_leaf in
-    let same = ap length (children_in c.loop-i.node _ c.content.ensures.value) in
-    let room = child_room (CalledAtPair g.F.FnMut) s c.loop-i.invariant.at in
-    omega (arith, same, room)
+pub child_in-requires : goal.child_in-requires
+child_in-requires g t c = child_room (CalledAtPair g.F.FnMut) (inner g t (goal.at.child_in-requires g t c).Else-is_leaf) c.loop-i.invariant.at
 
 pub visit-requires : goal.visit-requires
 visit-requires g t c κs within =
     let s = inner g t (goal.at.visit-requires g t c).Else-is_leaf in
-    let x = lent (CalledAtPair g.F.FnMut) s c.loop-i.invariant.at _ c.content.ensures.value c.get_mut.ensures.value in
+    let x = lent (CalledAtPair g.F.FnMut) s c.loop-i.invariant.at c.child_in.ensures.value in
     let fewer = x.fewer in
-    let r = x.child in
-    let most = r.within in (
+    let r = x.child in (
       omega (arith, fewer, c.decreases),
       (
         search rules,
@@ -82,35 +74,26 @@ pub loop-i-preserved : goal.loop-i-preserved
 loop-i-preserved g t c =
     let R = CalledAtPair g.F.FnMut in
     let s = inner g t (goal.at.loop-i-preserved g t c).Else-is_leaf in
-    let now = c.loop-i.node in
     let at = c.loop-i.invariant.at in
-    let i = c.loop-i.i in
-    let d = c.visit.new.node in
-    let x = lent R s at _ c.content.ensures.value c.get_mut.ensures.value in
+    let x = lent R s at c.child_in.ensures.value in
     let b = below_back R x c.visit.ensures.size c.visit.ensures.levels in
-    let back = child_back now c.content.result.now i c.content.ensures.value d in
     let v = c.visit_own.ensures.visited in
-    let m = with_child now i d in
-    let p : v.0 ≡ get_or (own_pairs m) i v.0 = subst (λ y. v.0 ≡ get_or (own_pairs y) i v.0) back v.3 in
-    let new : c.visit_own.new.node ≡ with_value m i v.1 = v.4 ∙ ap (λ y. with_value y i v.1) back in
-    let next = at_next R s.h c.args.node.now now _ d c.args.f.now c.loop-i.f c.visit.new.f c.visit_own.new.f c.args.from.now i c.split-end.result.0
-    c.loop-i.rest.now c.split-end.result.1.now v.0 v.1 s.levels s.steps.last.le s.steps.last at c.loop-i-test.true x.is c.visit.ensures.visited b
-    c.visit.ensures.shape v.2 p in
-    record { callable = c.visit_own.ensures.callable; at = rw (add-one, new) next }
+    let next = at_next R s.h c.args.node.now c.loop-i.node _ c.visit.new.node c.args.f.now c.loop-i.f c.visit.new.f c.visit_own.new.f c.args.from.now
+    c.loop-i.i c.split-end.result.0 c.loop-i.rest.now c.split-end.result.1.now v.0 v.1 s.levels s.steps.last.le s.steps.last at c.loop-i-test.true x.is
+    c.visit.ensures.visited b c.visit.ensures.shape v.2 v.3 in
+    record { callable = c.visit_own.ensures.callable; at = rw (add-one, v.4) next }
 
-pub get_mut-requires-2 : goal.get_mut-requires-2
-get_mut-requires-2 g t c =
-    let s = inner g t (goal.at.get_mut-requires-2 g t c).Else-is_leaf in
-    let same = ap length (children_in c.loop-i.node _ c.content-2.ensures.value) in
-    let room = child_room (CalledAtPair g.F.FnMut) s c.loop-i.invariant.at in
-    omega (arith, same, room, c.loop-i-test.false)
+pub child_in-requires-2 : goal.child_in-requires-2
+child_in-requires-2 g t c =
+    let room = child_room (CalledAtPair g.F.FnMut) (inner g t (goal.at.child_in-requires-2 g t c).Else-is_leaf) c.loop-i.invariant.at in
+    omega (arith, c.loop-i-test.false)
 
 pub visit-requires-2 : goal.visit-requires-2
 visit-requires-2 g t c κs within =
     let R = CalledAtPair g.F.FnMut in
     let s = inner g t (goal.at.visit-requires-2 g t c).Else-is_leaf in
     let at = at_last R c.loop-i.invariant.at (omega (arith, c.loop-i-test.false)) in
-    let x = lent R s at _ c.content-2.ensures.value c.get_mut-2.ensures.value in
+    let x = lent R s at c.child_in-2.ensures.value in
     let fewer = x.fewer in
     let r = x.child in
     let rest = c.loop-i.rest.now in
@@ -133,14 +116,12 @@ visit-requires-2 g t c κs within =
 ended : (g : given.Over) (t : ℕ) (c : After-visit-2 g t)
     → AreInner (CalledAtPair g.F.FnMut) c.args.node.now c.args.from.now c.args.to.now c.split-start.result.0 c.split-end.result.0
     c.split-start.result.1.now c.split-end.result.1.now
-    → IsOver (CalledAtPair g.F.FnMut) c.args.node.now (roll-Node _ _ _ (record {
-      pairs = own_pairs c.loop-i.node;
-      children = Some (slice_set c.content-2.result.now c.split-end.result.0 c.visit-2.new.node);
-    })) c.args.f.now c.visit-2.new.f c.args.from.now c.args.to.now
+    → IsOver (CalledAtPair g.F.FnMut) c.args.node.now (with_child c.loop-i.node c.split-end.result.0 c.visit-2.new.node) c.args.f.now c.visit-2.new.f
+    c.args.from.now c.args.to.now
 ended g t c s =
     let R = CalledAtPair g.F.FnMut in
-    over R s (at_last R c.loop-i.invariant.at (omega (arith, c.loop-i-test.false))) _ c.content-2.ensures.value c.get_mut-2.ensures.value
-    c.visit-2.ensures.visited c.visit-2.ensures.size c.visit-2.ensures.levels c.visit-2.ensures.shape
+    over R s (at_last R c.loop-i.invariant.at (omega (arith, c.loop-i-test.false))) c.child_in-2.ensures.value c.visit-2.ensures.visited
+    c.visit-2.ensures.size c.visit-2.ensures.levels c.visit-2.ensures.shape
 
 pub returns-clause-levels : goal.returns-clause-levels
 returns-clause-levels g t c =

@@ -14,13 +14,13 @@ loop-i-preserved g c =
     let R = CalledAtPair g.F.FnMut in
     let first = c.args.f.now in
     let front = before_child c.args.node.now c.args.start in
-    let lt : at.i < length (own_pairs c.args.node.now) = (let o = c.requires.order in let t = c.loop-i-test.true in omega arith) in
+    let lt : at.i < length (own_pairs c.args.node.now) = (omega arith) in
     let s = leaf_step R c.args.node.now at.node c.visit_own.new.node at.i v.0 v.1 first at.f c.visit_own.new.f front c.requires.leaf at.invariant.kept lt
     at.invariant.grown v.2 v.3 v.4 in
     let one : suc at.i ≡ at.i + 1 = sym (add-one at.i) in
     record {
       callable = c.visit_own.ensures.callable;
-      le = (let t = c.loop-i-test.true in omega arith);
+      le = (omega arith);
       kept = subst (λ j. IsKept c.args.node.now c.visit_own.new.node j j) one s.0;
       grown = subst (λ j. Grown R first c.visit_own.new.f front (before_child c.args.node.now j) (before_child c.visit_own.new.node j)) one s.1;
     }
@@ -31,8 +31,6 @@ returns-clause-levels g c = c.loop-i.invariant.kept.levels 0 c.requires.leaf
 pub returns-clause-visited : goal.returns-clause-visited
 returns-clause-visited g c =
     let at = c.loop-i in
-    let le = at.invariant.le in
-    let done = c.loop-i-test.false in
     leaf_end (CalledAtPair g.F.FnMut) c.args.node.now at.node at.i c.args.end c.args.f.now at.f (before_child c.args.node.now c.args.start) c.requires.leaf
     at.invariant.kept (omega arith) at.invariant.grown
 

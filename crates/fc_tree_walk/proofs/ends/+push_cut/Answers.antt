@@ -23,8 +23,6 @@ push_cut-requires g t c κs within =
     let l = c.requires.levels in
     let k = child_there l.0 c.args.node.now c.args.place l.1 c.if-is_leaf.ensures.1 c.requires.place.within in
     let d = step_down c.args.gap.now _ _ c.args.node.now _ l k c.push.ensures c.child-child.ensures in
-    let long = d.1 in
-    let room = d.2 in
     let ordered = child_ascends g.K.Ord.cmp l.0 _ _ _ l.1 k c.child-child.ensures c.requires.order in
     (omega arith, (search rules, (search rules, (search rules, (search rules, (d.0, (ordered, turn_first c.place_in.ensures)))))))
 

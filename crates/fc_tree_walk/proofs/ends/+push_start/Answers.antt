@@ -17,7 +17,6 @@ returns-then-is_leaf g t c =
     let r = c.place_in-place.ensures in
     let le = r.within in
     let end = c.len-end.result in
-    let full = c.len-end.ensures.value in
     let low = c.if-is_leaf.ensures.0 refl in
     let none = ap length (leaf_children n low) in
     let all = ap length (leaf_pairs n low) in
@@ -37,9 +36,7 @@ pub push_start-requires : goal.push_start-requires
 push_start-requires g t c κs within =
     let l = c.requires.levels in
     let k = child_there l.0 c.args.node.now c.place_in-place.result l.1 c.if-is_leaf.ensures.1 c.place_in-place.ensures.within in
-    let d = step_down c.args.gap.now _ _ c.args.node.now _ l k c.push-2.ensures c.child.ensures in
-    let long = d.1 in
-    let room = d.2 in (
+    let d = step_down c.args.gap.now _ _ c.args.node.now _ l k c.push-2.ensures c.child.ensures in (
       omega arith,
       (
         search rules,
@@ -65,7 +62,6 @@ returns g t c =
     let e = c.push_start.ensures in
     let all = around_length n i _ is in
     let end = none_behind n i r.within in
-    let fits = e.run.1 in
     let full = c.len-end.ensures.value in
     record {
       gap = goes_below c.args.gap.now c.push-2.new.self c.push_start.new.gap i l.0 n _ _ _ l.1 k c.push-2.ensures c.child.ensures e.gap (omega arith);

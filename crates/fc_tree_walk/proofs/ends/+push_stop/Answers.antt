@@ -35,9 +35,7 @@ pub push_stop-requires : goal.push_stop-requires
 push_stop-requires g t c κs within =
     let l = c.requires.levels in
     let k = child_there l.0 c.args.node.now c.place_in-place.result l.1 c.if-is_leaf.ensures.1 c.place_in-place.ensures.within in
-    let d = step_down c.args.gap.now _ _ c.args.node.now _ l k c.push-2.ensures c.child.ensures in
-    let long = d.1 in
-    let room = d.2 in (
+    let d = step_down c.args.gap.now _ _ c.args.node.now _ l k c.push-2.ensures c.child.ensures in (
       omega arith,
       (
         search rules,
@@ -62,7 +60,6 @@ returns g t c =
     let a = ahead_at g.met.Q.Query.fits g.Q.Query.sought l.0 n l.1 c.requires.order i _ is c.args.cut.now (turn_first r) in
     let e = c.push_stop.ensures in
     let end = none_ahead n l.0 i l.1 r.within in
-    let long = e.run.2 in
     let held = ap length e.run.2 ∙ slice_length (pairs_of c.child.result.now) _ _ e.run.1 in
     record {
       gap = goes_below c.args.gap.now c.push-2.new.self c.push_stop.new.gap i l.0 n _ _ _ l.1 k c.push-2.ensures c.child.ensures e.gap (omega arith);

@@ -5,8 +5,6 @@ use Rattle.fc_tree_walk.proofs.gaps.+push_first.Goals as goal
 pub push_first-requires : goal.push_first-requires
 push_first-requires g t c κs within =
     let d = step_down c.args.gap.now _ _ c.args.node.now _ c.requires.levels (omega arith) c.push.ensures c.child.ensures in
-    let long = d.1 in
-    let room = d.2 in
     (omega arith, (search rules, (search rules, (search rules, d.0))))
 
 pub returns-then-child_count-gt0-clause-gap : goal.returns-then-child_count-gt0-clause-gap

@@ -6,14 +6,11 @@ use Rattle.fc_tree_walk.proofs.gaps.+push_last.Goals as goal
 pub push_last-requires : goal.push_last-requires
 push_last-requires g t c κs within =
     let d = step_down c.args.gap.now _ _ c.args.node.now _ c.requires.levels (omega arith) c.push.ensures c.child.ensures in
-    let long = d.1 in
-    let room = d.2 in
     (omega arith, (search rules, (search rules, (search rules, d.0))))
 
 pub returns-then-end-child_count-clause-gap : goal.returns-then-end-child_count-clause-gap
 returns-then-end-child_count-clause-gap g t c =
     let l = c.requires.levels in
-    let end = c.len-end.ensures.value in
     goes_below c.args.gap.now c.push.new.self c.push_last.new.gap c.len-end.result l.0 c.args.node.now c.child.result.now _ _ l.1 (omega arith) c.push.ensures
     c.child.ensures c.push_last.ensures.gap
     (end_count c.args.node.now c.len-end.result (pairs_of c.child.result.now) (omega arith)
@@ -22,7 +19,6 @@ returns-then-end-child_count-clause-gap g t c =
 pub returns-clause-gap : goal.returns-clause-gap
 returns-clause-gap g t c =
     let l = c.requires.levels in
-    let end = c.len-end.ensures.value in
     goes_here c.args.gap.now c.push.new.self c.len-end.result l.0 c.args.node.now _ _ l.1 (omega arith) (omega arith) c.push.ensures
     (end_count c.args.node.now c.len-end.result [] (omega arith) (around_gap l.0 c.args.node.now c.len-end.result l.1 (omega arith) (omega arith))) refl
 

@@ -37,8 +37,6 @@ returns-then-gap-eq1 g t c =
 pub steps_to_previous-below-requires : goal.steps_to_previous-below-requires
 steps_to_previous-below-requires g t c κs within =
     let s = first_step g t (goal.at.steps_to_previous-below-requires g t c).After-child in
-    let long = s.long in
-    let height = s.height in
     let b = child_below _ c.args.node.now _ s.levels s.le in
     let path = subst (IsPath _) (sym c.child.ensures) s.onward in
     (omega arith, (search rules, (search rules, (search rules, (omega arith, (path, subst (IsLevelled _) (sym c.child.ensures) b.1))))))

@@ -11,7 +11,6 @@ steps : (g : given.Over) (c : After-step-place g) → IsNearStep c.args.root.now
 steps g c =
     let m = c.args.root.now in
     let gap = c.args.gap.now in
-    let some = c.requires.some in
     near_step m gap c.in-Some.node.now _ _ c.requires.sound c.requires.gap (subst (λ a. IsAbove m gap (option_copied a)) c.in-Some.is c.requires.above)
     (omega arith) (ap (λ k. k - 1) c.len-last.ensures.value) c.step-place.ensures
 

@@ -51,8 +51,6 @@ pub loop-level-preserved : goal.loop-level-preserved
 loop-level-preserved g c =
     let at = (goal.at.loop-level-preserved g c).In-loop-level in
     let d = on_way g at in
-    let b = c.len.ensures.value in
-    let s = c.step-step.ensures in
     subst (λ n. AfterWay c.args.gap.now c.args.root.now n (c.loop-level.level + 1) c.lower.result.0.now c.lower.result.1)
     (sym (c.child-node.ensures ∙ ap (child_at c.loop-level.node.now) c.step-step.ensures))
     (after_step c.args.gap.now c.args.root.now c.loop-level.node.now c.loop-level.best.now c.lower.result.0.now c.loop-level.level c.loop-level.place
@@ -74,7 +72,6 @@ returns g c =
     let lv = last g at in
     let d = at_end g at in
     let e : c.step.result ≡ get_or c.args.gap.now c.loop-level.level 0 = c.step.ensures ∙ ap (λ i. get_or c.args.gap.now i 0) (sym lv) in
-    let b = c.len-2.ensures.value in
     let r = after_end c.args.gap.now c.args.root.now c.loop-level.node.now c.loop-level.best.now c.lower-2.result.0.now c.loop-level.level c.loop-level.place
     c.lower-2.result.1 d (whole g at) c.loop-level.invariant c.requires.some
     (λ z. let r = c.lower-2.ensures.other (omega arith) in (ap (λ x. x.0.now) r, ap (λ x. x.1) r ∙ sym lv))

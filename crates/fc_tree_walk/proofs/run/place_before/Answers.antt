@@ -46,7 +46,6 @@ pub loop-level-preserved : goal.loop-level-preserved
 loop-level-preserved g c =
     let at = (goal.at.loop-level-preserved g c).In-loop-level in
     let d = on_way g at in
-    let s = c.step-step.ensures in
     subst (λ n. BeforeWay c.args.gap.now c.args.root.now n (c.loop-level.level + 1) c.lower.result.0.now c.lower.result.1)
     (sym (c.child-node.ensures ∙ ap (child_at c.loop-level.node.now) c.step-step.ensures))
     (before_step c.args.gap.now c.args.root.now c.loop-level.node.now c.loop-level.best.now c.lower.result.0.now c.loop-level.level c.loop-level.place

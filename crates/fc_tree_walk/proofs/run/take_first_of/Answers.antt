@@ -27,8 +27,6 @@ set-requires-clause-small g c =
 pub part-requires : goal.part-requires
 part-requires g c =
     let r = taken g (goal.at.part-requires g c).After-len-last in
-    let o = r.0.order in
-    let i = c.step-start.ensures in
     record { order = omega arith; fits = r.0.fits }
 
 pub returns : goal.returns

@@ -20,7 +20,6 @@ taken g c =
 pub set-requires-clause-small : goal.set-requires-clause-small
 set-requires-clause-small g c =
     let r = taken g (goal.at.set-requires-clause-small g c).After-len-last in
-    let fits = r.0.fits in
     let order = r.0.order in
     let small = gap_small c.args.root.now c.args.back.now (c.len-last.result - 1) c.requires.sound c.requires.ends.1 (search rules) in
     omega (arith, order, small)
@@ -28,9 +27,6 @@ set-requires-clause-small g c =
 pub part-requires : goal.part-requires
 part-requires g c =
     let r = taken g (goal.at.part-requires g c).After-len-last in
-    let o = r.0.order in
-    let f = r.0.fits in
-    let i = c.step-end.ensures in
     record { order = omega arith; fits = omega arith }
 
 pub returns : goal.returns

@@ -107,7 +107,7 @@ fn total_len<T, B: Handle>(parts: &[TryVec<T, B>]) -> Option<usize>
     Some(total)
 }
 
-// Puts a copy of each item of each part behind the items, for which there is room.
+// Puts a copy of each item of each part after the items, for which there is room.
 fn push_parts<T: TryClone, A: Handle, B: Handle>(
     made: &mut Vec<T, A>,
     parts: &[TryVec<T, B>],

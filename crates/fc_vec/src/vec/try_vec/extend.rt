@@ -1,4 +1,4 @@
-//! What an iterator gives, put behind a vector's items.
+//! What an iterator gives, put after a vector's items.
 ghost use Rattle.std.specs.Prelude.{◌≡◌, ◌≤◌, List, [], ◌∷◌, ◌++◌, length, OnOk, IfErr, vec_capacity};
 ghost use Rattle.std.specs.Iterator.{IsFiniteIterable};
 ghost use Rattle.fc_vec.specs.Items.{GivesAll, GivesFirst};
@@ -9,7 +9,7 @@ use super::TryVec;
 use fc_base::{Handle, TryReserveError};
 
 impl<T: Drop, A: Handle> TryVec<T, A> {
-    /// Puts all items that the iterator gives behind the own ones, one after another. Not in upstream: it is that of std's vector.
+    /// Puts all items that the iterator gives after the own ones, one after another. Not in upstream: it is that of std's vector.
     ///
     /// # Errors
     /// At the first item that finds no room, as `push` of it. The items before it stay in the vector. It is dropped, and so is the iterator with the items

@@ -26,7 +26,7 @@ impl<T, A: Handle> TryVec<T, A> {
         self.inner.reverse();
     }
 
-    /// Moves the first `mid` items, which are no more than the length, behind the others. Upstream: `rotate_left` of the slice, which panics past the
+    /// Moves the first `mid` items, which are no more than the length, after the others. Upstream: `rotate_left` of the slice, which panics past the
     /// length.
     pub fn rotate_left(&mut self, mid: usize)
         requires { mid ≤ length self.old.items }
@@ -37,7 +37,7 @@ impl<T, A: Handle> TryVec<T, A> {
         self.inner.rotate_left(mid);
     }
 
-    /// Moves the last `count` items, which are no more than the length, ahead of the others. Upstream: `rotate_right` of the slice, which panics past
+    /// Moves the last `count` items, which are no more than the length, before the others. Upstream: `rotate_right` of the slice, which panics past
     /// the length.
     pub fn rotate_right(&mut self, count: usize)
         requires { count ≤ length self.old.items }

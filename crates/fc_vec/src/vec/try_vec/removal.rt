@@ -8,7 +8,7 @@ use super::TryVec;
 use fc_base::Handle;
 
 impl<T, A: Handle> TryVec<T, A> {
-    /// Keeps the first `len` items and drops those behind them; where there are no more, it does nothing. Not in upstream: it is
+    /// Keeps the first `len` items and drops those after them; where there are no more, it does nothing. Not in upstream: it is
     /// that of std's vector.
     pub fn truncate(&mut self, len: usize)
     where
@@ -19,7 +19,7 @@ impl<T, A: Handle> TryVec<T, A> {
         self.inner.truncate(len);
     }
 
-    /// Takes out the item at `index`, which is below the length; those behind it move down by one place. Not in upstream: it is that
+    /// Takes out the item at `index`, which is below the length; those after it move down by one place. Not in upstream: it is that
     /// of std's vector, which panics from the length on.
     pub fn remove(&mut self, index: usize) -> T
         requires { index < length self.old.items }
@@ -56,7 +56,7 @@ impl<T, A: Handle> TryVec<T, A> {
         self.inner.retain(keep);
     }
 
-    /// Drops each item that is equal to the last one kept ahead of it. Not in upstream: it is that of std's vector.
+    /// Drops each item that is equal to the last one kept before it. Not in upstream: it is that of std's vector.
     pub fn dedup(&mut self)
     where
         T: PartialEq + Drop,

@@ -45,7 +45,7 @@ impl<T, A: Handle> TryVec<T, A> {
         self.inner.as_slice().binary_search_by_key(key, key_of)
     }
 
-    /// The place of the first item at which `is_before` answers `false`, or the length, where all those at which it answers `true` stand ahead of the
+    /// The place of the first item at which `is_before` answers `false`, or the length, where all those at which it answers `true` stand before the
     /// others. Upstream: `partition_point` of the slice.
     pub fn partition_point<P: FnMut(&T) -> bool>(&self, is_before: P) -> usize
         requires { P.IsAlwaysCallable is_before }

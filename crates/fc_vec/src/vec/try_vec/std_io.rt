@@ -9,11 +9,11 @@ use super::TryVec;
 use fc_base::Handle;
 use std::io::{self, ErrorKind, Write};
 
-/// What is written stands behind the bytes that are there. Upstream: `Write` for `TryVec<u8>`, in `vec::std_io`.
+/// What is written stands after the bytes that are there. Upstream: `Write` for `TryVec<u8>`, in `vec::std_io`.
 impl<A: Handle> Write for TryVec<u8, A> {
     ghost contents = { λ v. Some v.items };
 
-    /// Puts all the bytes behind the own ones, and answers how many these are. Where they fit into the room that is there, as
+    /// Puts all the bytes after the own ones, and answers how many these are. Where they fit into the room that is there, as
     /// no bytes do, that is `Ok` and takes no memory.
     ///
     /// # Errors

@@ -20,7 +20,7 @@ impl<T, A: Handle> TryVec<T, A> {
         self.inner.retain_mut(keep);
     }
 
-    /// Drops each item whose key, which `key_of` tells, is equal to that of the last item kept ahead of it. Not in upstream: it is that of std's vector.
+    /// Drops each item whose key, which `key_of` tells, is equal to that of the last item kept before it. Not in upstream: it is that of std's vector.
     pub fn dedup_by_key<K: PartialEq + Drop, F: FnMut(&mut T) -> K>(&mut self, key_of: F)
     where
         T: Drop,
@@ -32,7 +32,7 @@ impl<T, A: Handle> TryVec<T, A> {
         self.inner.dedup_by_key(key_of);
     }
 
-    /// Drops each item that `is_same` calls the same as the last one kept ahead of it, which it gets second. Not in upstream: it is that of std's vector.
+    /// Drops each item that `is_same` calls the same as the last one kept before it, which it gets second. Not in upstream: it is that of std's vector.
     pub fn dedup_by<F: FnMut(&mut T, &mut T) -> bool>(&mut self, is_same: F)
     where
         T: Drop,

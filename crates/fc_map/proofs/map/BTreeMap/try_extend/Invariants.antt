@@ -6,4 +6,4 @@ use Rattle.fc_map.proofs.map.BTreeMap.try_extend.Given as goal
 abbrev pub invariant-loop-key : goal.invariant-loop-key
 invariant-loop-key g l = (goal.iterator-loop-key g).can_next l.key-iterator
     × (goal.iterator-loop-key g).is_finite l.key-iterator
-    × (l.extension ≡ extended g.K.Ord.cmp (entries l.fn.self) l.yielded)
+    × (l.bulk_insert ≡ extended g.K.Ord.cmp (entries l.fn.self) l.yielded)

@@ -9,8 +9,9 @@ use Rattle.fc_tree_build.proofs.StackSizes.{growing_fits}
 use Rattle.fc_set.specs.Copied.{Lends}
 use Rattle.fc_set.specs.Items.{AreAscending}
 use Rattle.fc_set.proofs.ItemFacts.{ascending_keys}
-use Rattle.fc_set.proofs.CopiedFacts.{filled_start, filled_more, filled_all, any_next, some_there, equal_copy, ascending_copies}
+use Rattle.fc_set.proofs.CopiedFacts.{filled_start, filled_more, filled_all, any_next, some_there, ascending_copies}
 use Rattle.fc_set.proofs.set.copied.try_filled.Goals as goal
+use Rattle.fc_base.proofs.AscendingFacts.{is_equal}
 
 pub loop-item-init : goal.loop-item-init
 loop-item-init g c =
@@ -47,7 +48,7 @@ from_grown-requires g c =
     let pairs = c.loop-item.builder.pairs in
     let copied = filled_all g.I.Iterator.next_gives gives.0 g.T.TryClone.same c.loop-item.builder.pairs c.loop-item.item-iterator c.next.new.self
     (c.loop-item.invariant.2 gives.0 gives.1) c.in-None.ensures.steps in
-    let equal = λ (a : g.row.T.Denot) (b : g.row.T.Denot) (s : g.T.TryClone.same a b). equal_copy (g.T.Ord.cmp a b)
+    let equal = λ (a : g.row.T.Denot) (b : g.row.T.Denot) (s : g.T.TryClone.same a b). is_equal (g.T.Ord.cmp a b)
     (sym (g.met.T.Ord.matches_eq a b) ∙ c.requires.equal a b s) in (
       growing_fits (param 0 g.row.T) unit g.row.A g.A.Allocator g.met.A.Handle.small,
       ascending_copies g.T.Ord.cmp g.met.T.Ord.total g.T.TryClone.same equal gives.0 pairs copied gives.2,
@@ -72,7 +73,7 @@ returns-clause-ascending g c =
     let pairs = c.loop-item.builder.pairs in
     let copied = filled_all g.I.Iterator.next_gives gives.0 g.T.TryClone.same c.loop-item.builder.pairs c.loop-item.item-iterator c.next.new.self
     (c.loop-item.invariant.2 gives.0 gives.1) c.in-None.ensures.steps in
-    let equal = λ (a : g.row.T.Denot) (b : g.row.T.Denot) (s : g.T.TryClone.same a b). equal_copy (g.T.Ord.cmp a b)
+    let equal = λ (a : g.row.T.Denot) (b : g.row.T.Denot) (s : g.T.TryClone.same a b). is_equal (g.T.Ord.cmp a b)
     (sym (g.met.T.Ord.matches_eq a b) ∙ c.requires.equal a b s) in
     let ascending = ascending_copies g.T.Ord.cmp g.met.T.Ord.total g.T.TryClone.same equal gives.0 pairs copied gives.2 in
     subst (λ s. AreAscending g.T.Ord.cmp (map (λ e. e.0) s)) (sym c.from_grown.ensures.pairs) (ascending_keys g.T.Ord.cmp pairs ascending)

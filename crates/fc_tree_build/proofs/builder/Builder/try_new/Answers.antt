@@ -13,7 +13,6 @@ pub invariant_of-result : goal.invariant_of-result
 invariant_of-result g c =
     let ok = c.in_ok-leaves.ensures.ok in
     let len = c.leaf_count.ensures in
-    let is = c.in_ok-leaves.leaves.ok.0 in
     let z : c.pop-last.result ≡ None → length c.in_ok-leaves.leaves.items ≡ 0 = λ e. (let w = (none_was _ _ c.pop-last.ensures.cases e).0 in omega arith) in
     let q = spare_leaves c.args.n c.in_ok-leaves.leaves.items c.pop-last.new.self.items c.pop-last.result c.pop-last.ensures.items (ok.0 ∙ len) z in
     let last = first_last c.args.n c.in_ok-leaves.leaves.items c.pop-last.new.self.items c.new.result c.pop-last.result c.new.ensures c.pop-last.ensures.items

@@ -1,9 +1,9 @@
 use Rattle.std.proofs.Common.{◌∷◌, [], ◌-◌, ◌++◌, sym, ap, ◌∙◌, subst, arith, append_assoc, append-nil}
 use Rattle.std.specs.Prelude.{take}
+use Rattle.std.proofs.lemmas.List.{nil_from_length}
 use Rattle.fc_tree_node.specs.Node.{own_pairs}
 use Rattle.fc_tree_drain.specs.Opened.{before_back}
 use Rattle.fc_tree_build.specs.Built.{last_pairs}
-use Rattle.fc_tree_drain.proofs.Opening.{no_item}
 use Rattle.fc_tree_build.specs.Spine.{IsLastPair}
 use Rattle.fc_tree_build.proofs.Ends.{last_taken}
 use Rattle.fc_tree_build.proofs.GrownFacts.{all_pairs}
@@ -11,9 +11,7 @@ use Rattle.fc_tree_build.proofs.growing.Growing.last.Goals as goal
 
 pub returns-then-len-gt0 : goal.returns-then-len-gt0
 returns-then-len-gt0 g c =
-    let some = c.if-len-gt0.true in
     let v = c.len.ensures.value in
-    let n = c.len-then-len-gt0.ensures.value in
     let i = c.len-then-len-gt0.result - 1 in
     let own = own_pairs c.in-Some.leaf in
     let p = c.pair.ensures in
@@ -26,9 +24,7 @@ returns-then-len-gt0 g c =
 
 pub returns : goal.returns
 returns g c =
-    let v = c.len.ensures.value in
-    let z = c.if-len-gt0.false in
     let s = before_back c.self.inside.spine in
-    let none = no_item (own_pairs c.in-Some.leaf) (omega arith) in
+    let none = nil_from_length (own_pairs c.in-Some.leaf) (omega arith) in
     let all = sym (append-nil s) ∙ ap (λ ps. s ++ ps) (sym none) ∙ all_pairs _ _ c.self.inside.spine _ c.in-Some.is c.self.view_is in
     subst (λ zs. IsLastPair zs c.last_of.result) all c.last_of.ensures

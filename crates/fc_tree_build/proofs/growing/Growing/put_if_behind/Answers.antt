@@ -30,11 +30,11 @@ returns-clause-taken g c some less behind =
     let pairs : s ++ own ≡ c.args.self.now.pairs = ap (λ o. s ++ last_pairs o) (sym c.in-Some.is) ∙ ap (λ v. v.pairs) c.self.view_is in
     let last = λ (some : 0 < length own). behind_leaf g.K.Ord.cmp s own c.args.self.now.pairs c.args.pair.0 pairs some behind in
     absurd (elim c.else-len-gt0.branch [
-      | else-len-gt0-via-else-len-gt0 w ↦ (let z = w.if-len-gt0.false in omega arith)
+      | else-len-gt0-via-else-len-gt0 w ↦ (omega arith)
       | else-len-gt0-via-then-len-gt0+else-len-lt-CAPACITY w ↦
-          (let z = w.if-len-lt-CAPACITY.false in let n = w.len-then-len-gt0.ensures.value in omega arith)
+          (omega arith)
       | else-len-gt0-via-then-len-gt0+then-len-lt-CAPACITY+else-is_behind w ↦
-          (let z = w.if-len-gt0.true in cc (w.if-is_behind.ensures.1 (last (omega arith))))
+          (cc (w.if-is_behind.ensures.1 (last (omega arith))))
     ])
 
 pub invariant_of-self-then-is_behind : goal.invariant_of-self-then-is_behind

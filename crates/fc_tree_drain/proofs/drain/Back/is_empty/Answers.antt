@@ -1,17 +1,16 @@
 use Rattle.std.proofs.Common.{length, sym, ap, ◌∙◌, arith, length-append}
 use Rattle.std.proofs.lemmas.Bool.{eqb-true, eq-eqb}
+use Rattle.std.proofs.lemmas.List.{nil_from_length}
 use Rattle.fc_tree_node.specs.Node.{items_or_none}
 use Rattle.fc_tree_drain.specs.Opened.{before_back}
 use Rattle.fc_tree_drain.proofs.Ends.{none_back}
-use Rattle.fc_tree_drain.proofs.Opening.{no_item}
 use Rattle.fc_tree_drain.proofs.drain.Back.is_empty.Goals as goal
 
 pub returns-then-run_len-eq0 : goal.returns-then-run_len-eq0
 returns-then-run_len-eq0 g c =
     let s = c.self.inside in
-    let size = ap length (sym c.self.view_is) ∙ length-append (before_back s.nodes) (items_or_none s.run) in
-    let r = c.run_len.ensures in let z = c.if-run_len-eq0.true in let l = c.len.ensures.value in (
-      λ t. let i = eqb-true _ _ t in let n = ap length (ap before_back (no_item s.nodes (omega arith))) in omega arith,
+    let size = ap length (sym c.self.view_is) ∙ length-append (before_back s.nodes) (items_or_none s.run) in (
+      λ t. let i = eqb-true _ _ t in let n = ap length (ap before_back (nil_from_length s.nodes (omega arith))) in omega arith,
       λ e. eq-eqb _ 0 (let n = (none_back s.nodes (items_or_none s.run) c.self.invariant (ap length c.self.view_is ∙ e)).1 in omega arith),
     )
 
@@ -19,4 +18,4 @@ pub returns-else-run_len-eq0 : goal.returns-else-run_len-eq0
 returns-else-run_len-eq0 g c =
     let s = c.self.inside in
     let size = ap length (sym c.self.view_is) ∙ length-append (before_back s.nodes) (items_or_none s.run) in
-    let r = c.run_len.ensures in let z = c.if-run_len-eq0.false in (λ t. absurd (z (eqb-true _ _ t)), λ e. absurd (omega arith))
+    let z = c.if-run_len-eq0.false in (λ t. absurd (z (eqb-true _ _ t)), λ e. absurd (omega arith))

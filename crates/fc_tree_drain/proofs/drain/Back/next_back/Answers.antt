@@ -1,22 +1,18 @@
 use Rattle.std.proofs.Common.{rules, arith, ◌++◌, sym, ap, ◌∙◌, append-nil}
+use Rattle.std.proofs.lemmas.List.{nil_from_length}
 use Rattle.fc_tree_node.specs.Node.{items_or_none}
 use Rattle.fc_tree_drain.specs.Opened.{before_back}
-use Rattle.fc_tree_drain.proofs.Opening.{no_item}
 use Rattle.fc_tree_drain.proofs.Ends.{nodes_there_back}
 use Rattle.fc_tree_drain.proofs.drain.Back.next_back.Goals as goal
 
 pub give_last-requires : goal.give_last-requires
 give_last-requires g c =
     let s = c.self.inside in
-    let r = c.run_len.ensures in
-    let f = c.if-run_len-gt0.false in
     let some = nodes_there_back s.nodes (items_or_none s.run) c.args.self.now c.self.view_is c.requires (omega arith) in
-    (search rules, (some, (c.self.invariant, no_item (items_or_none s.run) (omega arith))))
+    (search rules, (some, (c.self.invariant, nil_from_length (items_or_none s.run) (omega arith))))
 
 pub returns : goal.returns
 returns g c =
     let s = c.self.inside in
-    let r = c.run_len.ensures in
-    let f = c.if-run_len-gt0.false in
-    sym c.self.view_is ∙ ap (λ xs. before_back s.nodes ++ xs) (no_item (items_or_none s.run) (omega arith)) ∙ append-nil (before_back s.nodes)
+    sym c.self.view_is ∙ ap (λ xs. before_back s.nodes ++ xs) (nil_from_length (items_or_none s.run) (omega arith)) ∙ append-nil (before_back s.nodes)
     ∙ c.give_last.ensures.pairs

@@ -1,13 +1,11 @@
 use Rattle.std.proofs.Common.{rules, arith}
+use Rattle.std.proofs.lemmas.List.{nil_from_length}
 use Rattle.fc_tree_node.specs.Node.{items_or_none}
-use Rattle.fc_tree_drain.proofs.Opening.{no_item}
 use Rattle.fc_tree_drain.proofs.Ends.{nodes_there}
 use Rattle.fc_tree_drain.proofs.drain.Front.next.Goals as goal
 
 pub give_first-requires : goal.give_first-requires
 give_first-requires g c =
     let s = c.self.inside in
-    let r = c.run_len.ensures in
-    let f = c.if-run_len-gt0.false in
     let some = nodes_there (items_or_none s.run) s.nodes c.args.self.now c.self.view_is c.requires (omega arith) in
-    (search rules, (some, (c.self.invariant, no_item (items_or_none s.run) (omega arith))))
+    (search rules, (some, (c.self.invariant, nil_from_length (items_or_none s.run) (omega arith))))

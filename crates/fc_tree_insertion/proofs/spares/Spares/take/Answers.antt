@@ -29,5 +29,4 @@ take_below-requires g c = let l = lower g (goal.at.take_below-requires g c).In-S
 pub invariant_of-self : goal.invariant_of-self
 invariant_of-self g c =
     let l = lower g (goal.at.invariant_of-self g c).In-Some in
-    let above = c.take_below.ensures.below in
     (omega arith, subst (AreSpares _) (same_items l.0 c.take_below.result (cc)) l.2)

@@ -6,7 +6,7 @@ use Rattle.fc_tree_insertion.proofs.stock.Stock.take_new_nodes.Goals as goal
 use Rattle.fc_tree_insertion.proofs.stock.Stock.take_new_nodes.Goals.{After-take_leaf-leaf, then-split-path, else-split-path}
 
 pub returns-then-split-eq0-clause-taken : goal.returns-then-split-eq0-clause-taken
-returns-then-split-eq0-clause-taken g c = let e = needed_part c.args.path.now c.args.root.now (omega arith) in let z = c.new.ensures in omega arith
+returns-then-split-eq0-clause-taken g c = let e = needed_part c.args.path.now c.args.root.now (omega arith) in omega arith
 
 pub returns-then-split-eq0-clause-len : goal.returns-then-split-eq0-clause-len
 returns-then-split-eq0-clause-len g c = let e = needed_part c.args.path.now c.args.root.now (omega arith) in omega arith

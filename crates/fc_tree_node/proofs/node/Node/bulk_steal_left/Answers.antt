@@ -24,7 +24,6 @@ returns-clause-shared g c =
     let P : Node g.row.K.Denot g.row.V.Denot g.row.A.Denot → Node g.row.K.Denot g.row.V.Denot g.row.A.Denot → Type 0 =
     λ x y. IsBulkTrade (length (own_pairs x) - c.args.n) x y c.send_right.new.self c.send_right.new.right (get_or (own_pairs c.args.self.now) c.args.index)
     (get_or (own_pairs c.get_mut-left.result.now) (length (own_pairs c.get_mut-left.result.now) - c.args.n)) in
-    let z = c.send_right.ensures.size in
     bulk_made c.args.self.now c.args.index _ c.in-Some.is _ _ _ (get_or (own_pairs c.get_mut-left.result.now)
     (length (own_pairs c.get_mut-left.result.now) - c.args.n)) _ _ _ c.requires.in_bounds (omega arith) c.send_right.ensures.parent
     c.remove-right.ensures.items c.insert.ensures

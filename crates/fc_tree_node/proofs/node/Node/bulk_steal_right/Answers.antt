@@ -25,7 +25,6 @@ returns-clause-shared g c =
     let P : Node g.row.K.Denot g.row.V.Denot g.row.A.Denot → Node g.row.K.Denot g.row.V.Denot g.row.A.Denot → Type 0 =
     λ x y. IsBulkTrade (length (own_pairs x) + c.args.n) x y c.send_left.new.left c.send_left.new.self (get_or (own_pairs c.args.self.now) c.args.index)
     (get_or (own_pairs c.remove-right.result) (c.args.n - 1)) in
-    let z = c.send_left.ensures.size in
     bulk_made c.args.self.now c.args.index _ c.in-Some.is _ _ _ (get_or (own_pairs c.remove-right.result) (c.args.n - 1)) _ _ _ c.requires.in_bounds
     (omega arith) c.send_left.ensures.parent c.remove-right.ensures.items c.insert.ensures
     (subst (λ x. P x (child_at c.args.self.now (c.args.index + 1))) e.0 (subst (P c.get_mut-left.result.now) e.1

@@ -1,4 +1,4 @@
-use Rattle.std.proofs.Common.{◌≡◌, ◌+◌, ◌∷◌, ◌++◌, length, take, ap, ◌∙◌, arith, length-append, length-take}
+use Rattle.std.proofs.Common.{◌∷◌, length, take, ap, ◌∙◌, arith, length-append, length-take}
 use Rattle.fc_tree_node.specs.Node.{own_pairs}
 use Rattle.fc_tree_node.proofs.Made.{own_made, inner_length, joined_items}
 use Rattle.fc_tree_node.proofs.Formed.{alike_opened, alike_made}

@@ -5,7 +5,7 @@ use Rattle.fc_tree_slots.proofs.cells.Cells.carry.Goals as goal
 
 pub take_from-item-requires : goal.take_from-item-requires
 take_from-item-requires g c =
-    let r = c.requires.source_laid in let i = c.loop-i.i in let j = i - c.args.to in let t = c.loop-i-test.true in let h = c.loop-i.auto.i in (
+    let r = c.requires.source_laid in let i = c.loop-i.i in let j = i - c.args.to in (
       c.loop-i.invariant.4,
       (
         _,
@@ -16,8 +16,7 @@ take_from-item-requires g c =
 
 pub set_from-requires : goal.set_from-requires
 set_from-requires g c =
-    let r = c.requires.source_laid in let s = c.requires.target_laid in let i = c.loop-i.i in let j = i - c.args.to in let t = c.loop-i-test.true in
-    let h = c.loop-i.auto.i in
+    let r = c.requires.source_laid in let s = c.requires.target_laid in let i = c.loop-i.i in let j = i - c.args.to in
     let free = enter_free s.0 r.1 s.1 s.2 j (c.args.end - i) i c.loop-i.targets.held
     (c.loop-i.invariant.1 r.0 r.1 s.0 s.1 r.2 s.2 (c.self.view_is ∙ r.3) r.4 r.5 (c.target.view_is ∙ s.3) s.4)
     (omega (arith, r.5)) (omega arith) (omega (arith, s.4)) in
@@ -25,8 +24,7 @@ set_from-requires g c =
 
 pub loop-i-preserved : goal.loop-i-preserved
 loop-i-preserved g c =
-    let i = c.loop-i.i in let j = i - c.args.to in let t = c.loop-i-test.true in let h = c.loop-i.auto.i in let v = c.loop-i.invariant in
-    let o = c.requires.in_order in (
+    let i = c.loop-i.i in let j = i - c.args.to in let v = c.loop-i.invariant in (
       λ xs ys m e long fits. leave_done xs ys m j (c.args.from + (i - c.args.to)) c.loop-i.sources.held (v.0 xs ys m e long fits) (omega arith) (omega arith)
           c.take_from-item.new.self.held (i + 1 - c.args.to) c.take_from-item.ensures.1 (omega arith),
       λ xs ys us vs m w e long fits f wide.

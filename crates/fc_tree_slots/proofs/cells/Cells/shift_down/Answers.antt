@@ -4,7 +4,7 @@ use Rattle.fc_tree_slots.proofs.cells.Cells.shift_down.Goals as goal
 
 pub take_from-item-requires : goal.take_from-item-requires
 take_from-item-requires g c =
-    let r = c.requires.laid in let h = c.loop-i.auto.i in let o = c.requires.in_order in
+    let r = c.requires.laid in
     let is = c.loop-i.invariant.0 r.0 r.1 r.2 (c.self.view_is ∙ r.3) r.4 r.5 in let i = c.loop-i.i in let j = i - c.args.from in (
       c.loop-i.invariant.3,
       (
@@ -16,7 +16,7 @@ take_from-item-requires g c =
 
 pub set_from-requires : goal.set_from-requires
 set_from-requires g c =
-    let r = c.requires.laid in let h = c.loop-i.auto.i in let o = c.requires.in_order in
+    let r = c.requires.laid in
     let is = c.loop-i.invariant.0 r.0 r.1 r.2 (c.self.view_is ∙ r.3) r.4 r.5 in let i = c.loop-i.i in let j = i - c.args.from in
     let free = down_free r.0 r.1 c.args.by r.2 j i (i - c.args.by) c.loop-i.places.held is (omega (arith, r.5, c.loop-i-test.true)) (omega (arith, r.4))
     (omega (arith, r.4))
@@ -25,7 +25,7 @@ set_from-requires g c =
 
 pub loop-i-preserved : goal.loop-i-preserved
 loop-i-preserved g c =
-    let h = c.loop-i.auto.i in let o = c.requires.in_order in let i = c.loop-i.i in let j = i - c.args.from in let v = c.loop-i.invariant in (
+    let i = c.loop-i.i in let j = i - c.args.from in let v = c.loop-i.invariant in (
       λ xs ys m e long fits. down_done xs ys c.args.by m j i (i - c.args.by) c.loop-i.places.held (v.0 xs ys m e long fits) (omega (arith, c.loop-i-test.true))
           (omega arith) (omega arith)
           c.take_from-item.new.self.held c.set_from.new.self.held c.take_from-item.result (i + 1 - c.args.from) c.take_from-item.ensures.1

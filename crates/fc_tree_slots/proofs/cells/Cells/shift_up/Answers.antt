@@ -5,14 +5,14 @@ use Rattle.fc_tree_slots.proofs.cells.Cells.shift_up.Goals as goal
 
 pub take_from-item-requires : goal.take_from-item-requires
 take_from-item-requires g c =
-    let r = c.requires.laid in let t = c.loop-i-test.true in let j = c.loop-i.i - 1 in let o = c.requires.in_order in
+    let r = c.requires.laid in let j = c.loop-i.i - 1 in
     let next : c.loop-i.i ≡ suc j = omega arith in
     let is = c.loop-i.invariant.0 r.0 r.1 (c.self.view_is ∙ r.2) r.3 ∙ (λ d. row (take (next d) r.0) c.args.by (drop (next d) r.0) r.1) in
     (c.loop-i.invariant.4, (_, up_holds r.0 c.args.by r.1 j _ (j + c.args.by) c.loop-i.places.held is (omega (arith, r.3)) (omega arith) (omega arith)))
 
 pub set_from-requires : goal.set_from-requires
 set_from-requires g c =
-    let r = c.requires.laid in let t = c.loop-i-test.true in let j = c.loop-i.i - 1 in let o = c.requires.in_order in
+    let r = c.requires.laid in let j = c.loop-i.i - 1 in
     let next : c.loop-i.i ≡ suc j = omega arith in
     let is = c.loop-i.invariant.0 r.0 r.1 (c.self.view_is ∙ r.2) r.3 ∙ (λ d. row (take (next d) r.0) c.args.by (drop (next d) r.0) r.1) in
     let free = up_free r.0 c.args.by r.1 j j _ c.loop-i.places.held is (omega (arith, r.3)) (omega arith) (omega arith)
@@ -21,7 +21,7 @@ set_from-requires g c =
 
 pub loop-i-preserved : goal.loop-i-preserved
 loop-i-preserved g c =
-    let t = c.loop-i-test.true in let j = c.loop-i.i - 1 in let o = c.requires.in_order in let v = c.loop-i.invariant in
+    let j = c.loop-i.i - 1 in let v = c.loop-i.invariant in
     let next : c.loop-i.i ≡ suc j = omega arith in (
       λ zs m e long. up_done zs c.args.by m j j (j + c.args.by) c.loop-i.places.held
           (v.0 zs m e long ∙ (λ d. row (take (next d) zs) c.args.by (drop (next d) zs) m)) (omega arith) (omega arith) (omega arith)

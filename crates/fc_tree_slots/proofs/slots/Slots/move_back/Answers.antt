@@ -14,13 +14,12 @@ overflow_sub-from g c = omega (arith, (opened c.self.inside _ c.self.invariant c
 
 pub shift_up-requires-clause-laid : goal.shift_up-requires-clause-laid
 shift_up-requires-clause-laid g c =
-    let t = c.other.inside in let ys = c.args.other.now in let u = opened t ys c.other.invariant c.other.view_is in let r = c.requires.room in
-    let b = c.requires.in_bounds in
+    let t = c.other.inside in let ys = c.args.other.now in let u = opened t ys c.other.invariant c.other.view_is in
     let n = c.args.n in (ys, g.row.N - (t.len + n), u.is ∙ open_up ys n g.row.N t.len (omega (arith, u.long)), omega (arith, u.long))
 
 pub carry-requires-clause-source_laid : goal.carry-requires-clause-source_laid
 carry-requires-clause-source_laid g c =
-    let s = c.self.inside in let xs = c.args.self.now in let o = opened s xs c.self.invariant c.self.view_is in let r = c.requires.room in
+    let s = c.self.inside in let xs = c.args.self.now in let o = opened s xs c.self.invariant c.self.view_is in
     let b = c.requires.in_bounds in let m = g.row.N - s.len in
     let f = s.len - c.args.n in (
       take f xs,
@@ -33,8 +32,7 @@ carry-requires-clause-source_laid g c =
 
 pub carry-requires-clause-target_laid : goal.carry-requires-clause-target_laid
 carry-requires-clause-target_laid g c =
-    let t = c.other.inside in let ys = c.args.other.now in let u = opened t ys c.other.invariant c.other.view_is in let r = c.requires.room in
-    let b = c.requires.in_bounds in
+    let t = c.other.inside in let ys = c.args.other.now in let u = opened t ys c.other.invariant c.other.view_is in
     let n = c.args.n in let all : n ≡ n - 0 = omega arith in let w = g.row.N - (t.len + n) in (
       [],
       ys,
@@ -48,7 +46,7 @@ carry-requires-clause-target_laid g c =
 source : (g : given.Over) (c : goal.After-other-1 g) → IsPacked c.carry.new.source (c.self.inside.len - c.args.n) g.row.N
     × (present c.carry.new.source ≡ take (length c.args.self.now - c.args.n) c.args.self.now)
 source g c =
-    let s = c.self.inside in let xs = c.args.self.now in let o = opened s xs c.self.invariant c.self.view_is in let r = c.requires.room in
+    let s = c.self.inside in let xs = c.args.self.now in let o = opened s xs c.self.invariant c.self.view_is in
     let b = c.requires.in_bounds in let m = g.row.N - s.len in
     let n = c.args.n in let all : n ≡ n - 0 = omega arith in let f = s.len - n in
     let far : length (take f xs) ≡ f = omega (arith, o.long, length-take f xs) in
@@ -62,7 +60,7 @@ target : (g : given.Over) (c : goal.After-other-1 g) → IsPacked c.carry.new.ta
     × (present c.carry.new.target ≡ drop (length c.args.self.now - c.args.n) c.args.self.now ++ c.args.other.now)
 target g c =
     let s = c.self.inside in let xs = c.args.self.now in let o = opened s xs c.self.invariant c.self.view_is in let t = c.other.inside in
-    let ys = c.args.other.now in let u = opened t ys c.other.invariant c.other.view_is in let r = c.requires.room in let b = c.requires.in_bounds in
+    let ys = c.args.other.now in let u = opened t ys c.other.invariant c.other.view_is in let b = c.requires.in_bounds in
     let m = g.row.N - s.len in
     let n = c.args.n in let all : n ≡ n - 0 = omega arith in let f = s.len - n in let w = g.row.N - (t.len + n) in
     let far : length (take f xs) ≡ f = omega (arith, o.long, length-take f xs) in

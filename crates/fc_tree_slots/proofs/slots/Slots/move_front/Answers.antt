@@ -12,12 +12,11 @@ overflow_add-end g c = record { fits = omega (arith, (opened c.other.inside _ c.
 pub carry-requires-clause-source_laid : goal.carry-requires-clause-source_laid
 carry-requires-clause-source_laid g c =
     let s = c.self.inside in let xs = c.args.self.now in let o = opened s xs c.self.invariant c.self.view_is in
-    let r = c.requires.room in let b = c.requires.in_bounds in let m = g.row.N - s.len in ([], xs, m, o.is ∙ row_cut [] xs m, refl, omega (arith, b))
+    let b = c.requires.in_bounds in let m = g.row.N - s.len in ([], xs, m, o.is ∙ row_cut [] xs m, refl, omega (arith, b))
 
 pub carry-requires-clause-target_laid : goal.carry-requires-clause-target_laid
 carry-requires-clause-target_laid g c =
-    let t = c.other.inside in let ys = c.args.other.now in let u = opened t ys c.other.invariant c.other.view_is in let r = c.requires.room in
-    let b = c.requires.in_bounds in
+    let t = c.other.inside in let ys = c.args.other.now in let u = opened t ys c.other.invariant c.other.view_is in
     let q = t.len + c.args.n - t.len in (ys, [], g.row.N - (t.len + q), u.is ∙ open_up ys q g.row.N t.len (omega (arith, u.long)), u.long, omega arith)
 
 pub shift_down-requires-clause-in_order : goal.shift_down-requires-clause-in_order
@@ -43,7 +42,7 @@ source : (g : given.Over) (c : goal.After-other-1 g) → IsPacked c.shift_down.n
     × (present c.shift_down.new.cells ≡ drop c.args.n c.args.self.now)
 source g c =
     let s = c.self.inside in let xs = c.args.self.now in let o = opened s xs c.self.invariant c.self.view_is in let t = c.other.inside in
-    let r = c.requires.room in let b = c.requires.in_bounds in let m = g.row.N - s.len in
+    let b = c.requires.in_bounds in let m = g.row.N - s.len in
     let n = c.args.n in let same : t.len + n - t.len ≡ n = omega arith in let k = s.len - n in let zs = drop n xs in
     let size : length zs ≡ k = omega (arith, o.long, length-drop n xs) in let none : 0 ≡ n - n = omega arith in
     packed c.shift_down.new.cells zs n m k g.row.N
@@ -55,7 +54,7 @@ target : (g : given.Over) (c : goal.After-other-1 g) → IsPacked c.carry.new.ta
     × (present c.carry.new.target ≡ c.args.other.now ++ take c.args.n c.args.self.now)
 target g c =
     let s = c.self.inside in let xs = c.args.self.now in let o = opened s xs c.self.invariant c.self.view_is in let t = c.other.inside in
-    let ys = c.args.other.now in let u = opened t ys c.other.invariant c.other.view_is in let r = c.requires.room in let b = c.requires.in_bounds in
+    let ys = c.args.other.now in let u = opened t ys c.other.invariant c.other.view_is in let b = c.requires.in_bounds in
     let m = g.row.N - s.len in
     let n = c.args.n in let q = t.len + n - t.len in let same : q ≡ n = omega arith in let w = g.row.N - (t.len + q) in
     packed c.carry.new.target (ys ++ take n xs) 0 w (t.len + n) g.row.N

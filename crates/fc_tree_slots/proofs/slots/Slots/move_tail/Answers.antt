@@ -11,17 +11,17 @@ overflow_sub-end g c = omega (arith, (opened c.self.inside _ c.self.invariant c.
 pub overflow_add-end : goal.overflow_add-end
 overflow_add-end g c =
     let o = opened c.self.inside _ c.self.invariant c.self.view_is in let u = opened c.other.inside _ c.other.invariant c.other.view_is in
-    let b = c.requires.in_bounds in record { fits = omega (arith, o.long, u.long, c.requires.room, g.N.fits) }
+    record { fits = omega (arith, o.long, u.long, c.requires.room, g.N.fits) }
 
 pub carry-requires-clause-source_laid : goal.carry-requires-clause-source_laid
 carry-requires-clause-source_laid g c =
-    let s = c.self.inside in let xs = c.args.self.now in let o = opened s xs c.self.invariant c.self.view_is in let r = c.requires.room in
-    let b = c.requires.in_bounds in let m = g.row.N - s.len in
+    let s = c.self.inside in let xs = c.args.self.now in let o = opened s xs c.self.invariant c.self.view_is in
+    let m = g.row.N - s.len in
     let f = c.args.from in (take f xs, drop f xs, m, o.is ∙ cut_row xs f m, omega (arith, o.long, length-take f xs), omega (arith, o.long, length-drop f xs))
 
 pub carry-requires-clause-target_laid : goal.carry-requires-clause-target_laid
 carry-requires-clause-target_laid g c =
-    let s = c.self.inside in let o = opened s _ c.self.invariant c.self.view_is in let r = c.requires.room in let b = c.requires.in_bounds in
+    let s = c.self.inside in let o = opened s _ c.self.invariant c.self.view_is in
     let t = c.other.inside in let ys = c.args.other.now in let u = opened t ys c.other.invariant c.other.view_is in
     let q = t.len + (s.len - c.args.from) - t.len in
     (ys, [], g.row.N - (t.len + q), u.is ∙ open_up ys q g.row.N t.len (omega (arith, o.long, u.long)), u.long, omega arith)
@@ -30,7 +30,7 @@ source : (g : given.Over) (c : goal.After-other-1 g) → IsPacked c.carry.new.so
     × (present c.carry.new.source ≡ take c.args.from c.args.self.now)
 source g c =
     let s = c.self.inside in let xs = c.args.self.now in let o = opened s xs c.self.invariant c.self.view_is in let t = c.other.inside in
-    let r = c.requires.room in let b = c.requires.in_bounds in let m = g.row.N - s.len in
+    let m = g.row.N - s.len in
     let f = c.args.from in let q = t.len + (s.len - f) - t.len in
     let far : length (take f xs) ≡ f = omega (arith, o.long, length-take f xs) in let size : length (drop f xs) ≡ q = omega (arith, o.long, length-drop f xs) in
     packed c.carry.new.source (take f xs) q m f g.row.N
@@ -41,7 +41,7 @@ target : (g : given.Over) (c : goal.After-other-1 g) → IsPacked c.carry.new.ta
     × (present c.carry.new.target ≡ c.args.other.now ++ drop c.args.from c.args.self.now)
 target g c =
     let s = c.self.inside in let xs = c.args.self.now in let o = opened s xs c.self.invariant c.self.view_is in let t = c.other.inside in
-    let ys = c.args.other.now in let u = opened t ys c.other.invariant c.other.view_is in let r = c.requires.room in let b = c.requires.in_bounds in
+    let ys = c.args.other.now in let u = opened t ys c.other.invariant c.other.view_is in
     let m = g.row.N - s.len in
     let f = c.args.from in let q = t.len + (s.len - f) - t.len in let w = g.row.N - (t.len + q) in
     let far : length (take f xs) ≡ f = omega (arith, o.long, length-take f xs) in let size : length (drop f xs) ≡ q = omega (arith, o.long, length-drop f xs) in

@@ -3,10 +3,11 @@ use Rattle.std.proofs.lemmas.List.Elements.{length_all_zip}
 use Rattle.std.proofs.lemmas.Result.{err_from_is_err_and}
 use Rattle.fc_base.specs.Ascending.{IsAscending}
 use Rattle.fc_base.specs.Copies.{MayRefusePair}
+use Rattle.fc_base.proofs.AscendingFacts.{is_equal}
 use Rattle.fc_tree_node.specs.Node.{pairs_of}
 use Rattle.fc_tree_copy.specs.Copy.{AreSame, MayRefuseNodes}
 use Rattle.fc_map.specs.Entries.{entries, IsSoundMap}
-use Rattle.fc_map.proofs.CopyFacts.{equal_answer, ascending_copied, sound_copied, has_pair}
+use Rattle.fc_map.proofs.CopyFacts.{ascending_copied, sound_copied, has_pair}
 use Rattle.fc_map.proofs.map.copy.BTreeMapTryClone.try_clone.Goals as goal
 
 pub returns-in_err-copy-clause-copied : goal.returns-in_err-copy-clause-copied
@@ -29,7 +30,7 @@ invariant_of-result g c =
     let sound : IsSoundMap (Some source) = rw c.in-Some.is at c.self.invariant.1 in
     let len : c.self.inside.len ≡ length (pairs_of source) = c.self.invariant.2 ∙ ap (λ r. length (entries r)) c.in-Some.is in
     let equal = λ (a : g.row.K.Denot) (b : g.row.K.Denot) (s : g.K.TryClone.same a b).
-    equal_answer (g.K.Ord.cmp a b) (sym (g.met.K.Ord.matches_eq a b) ∙ c.requires.2 a b s) in (
+    is_equal (g.K.Ord.cmp a b) (sym (g.met.K.Ord.matches_eq a b) ∙ c.requires.2 a b s) in (
       ascending_copied g.K.Ord.cmp g.met.K.Ord.total g.K.TryClone.same g.V.TryClone.same equal (pairs_of source) (pairs_of copy) copied.pairs ascending,
       sound_copied same source copy copied sound,
       len ∙ length_all_zip same (pairs_of source) (pairs_of copy) copied.pairs,
@@ -42,7 +43,7 @@ returns-clause-ascending g c =
     let copied = c.in_ok-copy.ensures.copied in
     let ascending : IsAscending g.K.Ord.cmp (pairs_of source) = rw c.in-Some.is at c.self.invariant.0 in
     let equal = λ (a : g.row.K.Denot) (b : g.row.K.Denot) (s : g.K.TryClone.same a b).
-    equal_answer (g.K.Ord.cmp a b) (sym (g.met.K.Ord.matches_eq a b) ∙ c.requires.2 a b s) in
+    is_equal (g.K.Ord.cmp a b) (sym (g.met.K.Ord.matches_eq a b) ∙ c.requires.2 a b s) in
     ascending_copied g.K.Ord.cmp g.met.K.Ord.total g.K.TryClone.same g.V.TryClone.same equal (pairs_of source) (pairs_of copy) copied.pairs ascending
 
 pub returns-clause-sound : goal.returns-clause-sound

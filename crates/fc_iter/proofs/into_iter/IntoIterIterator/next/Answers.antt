@@ -1,9 +1,0 @@
-use Rattle.std.proofs.Common.{◌≡◌, length, arith}
-use denote.Param.{param}
-use Rattle.fc_tree_drain.proofs.Sizes.{drain_fits}
-use Rattle.fc_iter.proofs.into_iter.IntoIterIterator.next.Goals as goal
-
-pub next-requires : goal.next-requires
-next-requires g c =
-    let left : c.self.inside.left ≡ length c.self.inside.drain = c.self.invariant in
-    (drain_fits (param 0 g.row.K) (param 1 g.row.V) g.row.A g.A.Allocator g.met.A.Handle.small, omega arith)

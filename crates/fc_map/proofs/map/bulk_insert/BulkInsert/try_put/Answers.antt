@@ -1,0 +1,115 @@
+use Rattle.std.proofs.Common.{◌≡◌, [], ◌++◌, inl, inr, refl, sym, ap, subst, ◌∙◌}
+use denote.Param.{param}
+use Rattle.fc_base.specs.OneKey.{put}
+use Rattle.fc_map.specs.Entries.{entries}
+use Rattle.fc_base.specs.Ascending.{IsAscending}
+use Rattle.fc_tree_build.proofs.StackSizes.{growing_fits}
+use Rattle.fc_map.specs.BulkInsert.{IsBulkInsert}
+use Rattle.fc_map.proofs.ExtendFacts.{put_last, all_in_map, all_in_tree}
+use Rattle.fc_map.proofs.ExtendFacts.{put_in_tree, put_in_map, same_in_tree, same_in_map, still_new, same_refusal}
+use Rattle.fc_map.proofs.map.bulk_insert.BulkInsert.try_put.Given as given
+use Rattle.fc_map.proofs.map.bulk_insert.BulkInsert.try_put.Goals as goal
+use Rattle.fc_map.proofs.map.bulk_insert.BulkInsert.try_put.Goals.{then-is_empty, else-is_empty}
+
+pub invariant_of-self : goal.invariant_of-self
+invariant_of-self g c =
+    let behind = c.in_default.ensures.behind refl in
+    let put = c.in_default.ensures.put refl in
+    (put_last g.K.Ord.cmp c.self.inside.tree.pairs (entries c.self.inside.map) _ c.args.key c.args.value g.met.K.Ord.total c.self.invariant behind put).1
+
+pub returns-in_default-clause-put : goal.returns-in_default-clause-put
+returns-in_default-clause-put g c =
+    let behind = c.in_default.ensures.behind refl in
+    let last = c.in_default.ensures.put refl in
+    (put_last g.K.Ord.cmp c.self.inside.tree.pairs (entries c.self.inside.map) _ c.args.key c.args.value g.met.K.Ord.total c.self.invariant behind last).0
+    ∙ ap (λ s. put g.K.Ord.cmp s c.args.key c.args.value) c.self.view_is
+
+pub put_if_behind-requires : goal.put_if_behind-requires
+put_if_behind-requires g c = growing_fits (param 0 g.row.K) (param 1 g.row.V) g.row.A g.A.Allocator g.met.A.Handle.small
+
+pub is_behind-requires : goal.is_behind-requires
+is_behind-requires g c =
+    let kept = subst (λ t. IsBulkInsert g.K.Ord.cmp t.pairs (entries c.self.inside.map)) (sym c.in-Some.ensures.back.1) c.self.invariant in
+    (growing_fits (param 0 g.row.K) (param 1 g.row.V) g.row.A g.A.Allocator g.met.A.Handle.small, kept)
+
+pub push_behind-requires : goal.push_behind-requires
+push_behind-requires g c =
+    let order = subst (λ t. IsAscending g.K.Ord.cmp t.pairs) (sym c.in-Some.ensures.back.1) c.self.invariant.0 in
+    (growing_fits (param 0 g.row.K) (param 1 g.row.V) g.row.A g.A.Allocator g.met.A.Handle.small, (order, c.if-is_behind.ensures.behind refl))
+
+pub close-requires : goal.close-requires
+close-requires g c =
+    let order = subst (λ t. IsAscending g.K.Ord.cmp t.pairs) (sym c.in-Some.ensures.back.1) c.self.invariant.0 in
+    (growing_fits (param 0 g.row.K) (param 1 g.row.V) g.row.A g.A.Allocator g.met.A.Handle.small, order)
+
+pub invariant_of-self-then-is_behind : goal.invariant_of-self-then-is_behind
+invariant_of-self-then-is_behind g c = (c.push_behind.ensures.ascending, inr (c.if-is_behind.ensures.open refl))
+
+-- all pairs stand in the tree
+in_tree : (g : given.Over) (c : goal.After-push_behind g) → c.put_if_behind.new.self.pairs ≡ c.args.self.now
+in_tree g c =
+    ap (λ t. t.pairs) c.in-Some.ensures.back.1
+    ∙ all_in_tree c.self.inside.tree.pairs (entries c.self.inside.map) c.args.self.now c.self.view_is (c.if-is_behind.ensures.open refl)
+
+pub returns-then-is_behind-clause-put : goal.returns-then-is_behind-clause-put
+returns-then-is_behind-clause-put g c =
+    put_in_tree g.K.Ord.cmp c.push_behind.result c.args.self.now (c.args.key, c.args.value) (c.in-Some.key, c.in-Some.value)
+    c.put_if_behind.new.self.pairs (entries c.self.inside.map) c.push_behind.new.tree.pairs c.in-Some.ensures.back.0 (in_tree g c)
+    (c.if-is_behind.ensures.open refl) c.push_behind.ensures.put
+
+pub returns-then-is_behind-clause-unchanged : goal.returns-then-is_behind-clause-unchanged
+returns-then-is_behind-clause-unchanged g c =
+    same_in_tree g.K.Ord.cmp c.push_behind.result c.args.self.now (c.args.key, c.args.value) (c.in-Some.key, c.in-Some.value)
+    c.put_if_behind.new.self c.push_behind.new.tree (entries c.self.inside.map)
+    (ap (λ t. t.pairs ++ entries c.self.inside.map) c.in-Some.ensures.back.1 ∙ c.self.view_is) c.push_behind.ensures.unchanged
+
+pub returns-then-is_behind-clause-new_key : goal.returns-then-is_behind-clause-new_key
+returns-then-is_behind-clause-new_key g c =
+    still_new g.K.Ord.cmp c.push_behind.result c.args.self.now (c.args.key, c.args.value) (c.in-Some.key, c.in-Some.value)
+    c.put_if_behind.new.self.pairs c.in-Some.ensures.back.0 (in_tree g c) c.push_behind.ensures.new_key
+
+pub returns-then-is_behind-clause-error : goal.returns-then-is_behind-clause-error
+returns-then-is_behind-clause-error g c =
+    same_refusal g.K.Ord.cmp c.push_behind.result c.args.self.now (c.args.key, c.args.value) (c.in-Some.key, c.in-Some.value)
+    c.put_if_behind.new.self.pairs (in_tree g c) c.push_behind.ensures.error
+
+-- all pairs stand in the map
+in_map : (g : given.Over) (c : goal.After-put g) → (c.if-is_empty.self-inside.tree.pairs ≡ []) × (entries c.if-is_empty.self-inside.map ≡ c.args.self.now)
+in_map g c =
+    let tree = c.in-Some.ensures.back.1 in
+    let t = c.self.inside.tree.pairs in
+    let m = entries c.self.inside.map in
+    elim c.if-is_empty.branch [
+      | then-is_empty w ↦ subst (λ x. (x.tree.pairs ≡ []) × (entries x.map ≡ c.args.self.now)) (sym w.self-inside-is) (
+        w.close.ensures.closed,
+        w.close.ensures.pairs ∙ ap (λ z. z.pairs) tree
+            ∙ all_in_tree t m c.args.self.now c.self.view_is (c.is_empty.ensures.0 w.if-is_empty.true),
+      )
+      | else-is_empty w ↦
+          (let all = all_in_map g.K.Ord.cmp t m c.args.self.now c.is_empty.result c.self.invariant c.self.view_is w.if-is_empty.false c.is_empty.ensures in
+          subst (λ x. (x.tree.pairs ≡ []) × (entries x.map ≡ c.args.self.now)) (sym w.self-inside-is) (ap (λ z. z.pairs) tree ∙ all.0, all.1))
+    ]
+
+pub invariant_of-self-2 : goal.invariant_of-self-2
+invariant_of-self-2 g c = let none = (in_map g c).0 in (subst (λ t. IsAscending g.K.Ord.cmp t) (sym none) tt, inl none)
+
+pub returns-clause-put : goal.returns-clause-put
+returns-clause-put g c =
+    put_in_map g.K.Ord.cmp c.put.result c.args.self.now (c.args.key, c.args.value) (c.in-Some.key, c.in-Some.value)
+    c.if-is_empty.self-inside.tree.pairs (entries c.if-is_empty.self-inside.map) (entries c.put.new.self) c.in-Some.ensures.back.0 (in_map g c).1
+    (in_map g c).0 c.put.ensures.put
+
+pub returns-clause-unchanged : goal.returns-clause-unchanged
+returns-clause-unchanged g c =
+    same_in_map g.K.Ord.cmp c.put.result c.args.self.now (c.args.key, c.args.value) (c.in-Some.key, c.in-Some.value)
+    c.if-is_empty.self-inside.tree.pairs c.if-is_empty.self-inside.map c.put.new.self (in_map g c).0 (in_map g c).1 c.put.ensures.unchanged
+
+pub returns-clause-new_key : goal.returns-clause-new_key
+returns-clause-new_key g c =
+    still_new g.K.Ord.cmp c.put.result c.args.self.now (c.args.key, c.args.value) (c.in-Some.key, c.in-Some.value)
+    (entries c.if-is_empty.self-inside.map) c.in-Some.ensures.back.0 (in_map g c).1 c.put.ensures.new_key
+
+pub returns-clause-error : goal.returns-clause-error
+returns-clause-error g c =
+    same_refusal g.K.Ord.cmp c.put.result c.args.self.now (c.args.key, c.args.value) (c.in-Some.key, c.in-Some.value)
+    (entries c.if-is_empty.self-inside.map) (in_map g c).1 c.put.ensures.error

@@ -1,0 +1,149 @@
+//! Bulk insertion: items that ascend are pushed at the right edge of the map's tree.
+ghost use Rattle.std.specs.Prelude.{◌≡◌, ◌+◌, [], ◌∷◌, ◌++◌, length, IsTrue, IfOk, IfErr, None};
+ghost use Rattle.std.specs.List.{AllByRecursion};
+ghost use Rattle.std.specs.declared.cmp.Ordering.TheVariants.{Less};
+ghost use Rattle.fc_base.specs.Ascending.{IsAscending};
+ghost use Rattle.fc_base.specs.Growth.{MayGrowRefuse};
+ghost use Rattle.fc_base.specs.OneKey.{put};
+ghost use Rattle.fc_base.specs.Parts.{at};
+ghost use Rattle.fc_map.specs.Entries.{entries, IsSoundMap};
+ghost use Rattle.fc_map.specs.BulkInsert.{IsBulkInsert};
+
+use super::{BTreeMap, for_sets};
+use fc_base::{Count, Handle, TryReserveError};
+use fc_tree_build::growing::Growing;
+use fc_tree_node::node::CAPACITY;
+use std::alloc::Global;
+use std::marker::Model;
+use std::mem;
+
+/// A map while it is extended, seen as the list of its pairs: they stand in a tree that is open at its right edge, until an item comes that
+/// doesn't lie after the last one; then they stand in the map, and from there on each item is inserted from the root.
+#[derive(Drop)]
+pub struct BulkInsert<K: Ord, V, A: Handle = Global> {
+    tree: Growing<K, V, A>,
+    map: BTreeMap<K, V, A>,
+}
+
+impl<K: Ord, V, A: Handle> Model for BulkInsert<K, V, A> {
+    ghost use Rattle.std.specs.Prelude.{◌++◌, List};
+    ghost use Rattle.fc_map.specs.Entries.{entries};
+    ghost use Rattle.fc_map.specs.BulkInsert.{IsBulkInsert};
+
+    ghost Value = { List (K × V) };
+
+    ghost view = { λ e. e.tree.pairs ++ entries e.map };
+
+    ghost invariant = { λ e. IsBulkInsert K.cmp e.tree.pairs (entries e.map) };
+}
+
+impl<K: Ord + Drop, V: Drop, A: Handle> BulkInsert<K, V, A> {
+    /// The map's pairs, which are taken out of it. It takes no memory and compares nothing.
+    pub fn over(map: &mut BTreeMap<K, V, A>) -> BulkInsert<K, V, A>
+        ensures { result ≡ entries map.old }
+    {
+        let alloc = map.alloc;
+        let mut map = mem::replace(map, BTreeMap::new(alloc));
+        if map.len > usize::MAX - CAPACITY {
+            return BulkInsert {
+                tree: Growing::new(alloc),
+                map,
+            };
+        }
+        let len = mem::replace(&mut map.len, 0);
+        let root = map.root.take();
+        BulkInsert {
+            tree: Growing::over(alloc, root, len),
+            map,
+        }
+    }
+
+    /// Puts the item in, as `BTreeMap::try_insert`: by a comparison or two with the last key where all items so far came in ascending order.
+    ///
+    /// # Errors
+    /// As `BTreeMap::try_insert`. The item is dropped.
+    pub fn try_put(&mut self, key: K, value: V) -> Result<(), TryReserveError>
+        ensures put { IfOk result (λ _. self.new ≡ put K.cmp self.old key value) }
+        ensures unchanged { IfErr result (λ _. self.new ≡ self.old) }
+        ensures new_key { IfErr result (λ _. at K.cmp self.old key ≡ None) }
+        ensures error { IfErr result (λ e. MayGrowRefuse (length self.old) e) }
+    {
+        let Some((key, value)) = self.tree.put_if_behind((key, value)) else {
+            return Ok(());
+        };
+        if is_behind(&self.tree, &self.map, &key) {
+            return push_behind(&mut self.tree, key, value);
+        }
+        if self.map.is_empty() {
+            close(&mut self.tree, &mut self.map);
+        }
+        self.map.put(key, value, &mut Count::new())
+    }
+
+    /// The map of all pairs.
+    pub fn finish(self) -> BTreeMap<K, V, A>
+        ensures pairs { entries result ≡ self }
+        ensures ascending { IsAscending K.cmp (entries result) }
+        ensures sound { IsSoundMap result }
+    {
+        let BulkInsert { tree, map } = self;
+        if map.is_empty() {
+            return for_sets::from_grown(map.alloc, tree);
+        }
+        map
+    }
+}
+
+// Whether the map has no pair, and the key lies after all keys of the tree: it is compared with the last one.
+fn is_behind<K: Ord, V, A: Handle>(
+    tree: &Growing<K, V, A>,
+    map: &BTreeMap<K, V, A>,
+    key: &K,
+) -> bool
+    requires { IsBulkInsert K.cmp tree.now.pairs (entries map.now) }
+    ensures behind { IsTrue result → AllByRecursion (λ e. K.cmp e.0 key.now ≡ Less) tree.now.pairs }
+    ensures open { IsTrue result → entries map.now ≡ [] }
+{
+    match tree.last() {
+        None => map.is_empty(),
+        Some(last) => last.0.cmp(key).is_lt(),
+    }
+}
+
+// Puts a pair after all others. It is not inlined, since the pairs that a leaf has room for would then pay for its locals.
+#[inline(never)]
+fn push_behind<K: Ord + Drop, V: Drop, A: Handle>(
+    tree: &mut Growing<K, V, A>,
+    key: K,
+    value: V,
+) -> Result<(), TryReserveError>
+    requires ascending { IsAscending K.cmp tree.old.pairs }
+    requires behind { AllByRecursion (λ e. K.cmp e.0 key ≡ Less) tree.old.pairs }
+    ensures put { IfOk result (λ _. tree.new.pairs ≡ put K.cmp tree.old.pairs key value) }
+    ensures ascending { IsAscending K.cmp tree.new.pairs }
+    ensures unchanged { IfErr result (λ _. tree.new ≡ tree.old) }
+    ensures new_key { IfErr result (λ _. at K.cmp tree.old.pairs key ≡ None) }
+    ensures error { IfErr result (λ e. MayGrowRefuse (length tree.old.pairs) e) }
+{
+    if tree.len() == usize::MAX {
+        return Err(TryReserveError::CapacityOverflow);
+    }
+    match tree.push((key, value)) {
+        Ok(()) => Ok(()),
+        Err((_pair, error)) => Err(error),
+    }
+}
+
+// Moves the tree's pairs into the map, which has none.
+#[cold]
+fn close<K: Ord + Drop, V: Drop, A: Handle>(
+    tree: &mut Growing<K, V, A>,
+    map: &mut BTreeMap<K, V, A>,
+)
+    requires { IsAscending K.cmp tree.old.pairs }
+    ensures pairs { entries map.new ≡ tree.old.pairs }
+    ensures closed { tree.new.pairs ≡ [] }
+{
+    let grown = mem::replace(tree, Growing::new(map.alloc));
+    *map = for_sets::from_grown(map.alloc, grown);
+}

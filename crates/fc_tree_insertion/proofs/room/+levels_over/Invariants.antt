@@ -1,4 +1,0 @@
-use Rattle.fc_tree_insertion.proofs.room.+levels_over.Given as goal
-
-abbrev pub decreases-levels_over : goal.decreases-levels_over
-decreases-levels_over l = l.pairs

@@ -1,0 +1,616 @@
+#!/usr/bin/env python3
+"""Sends random lines of each kind through the built program and through sorted lists (tools/judge.py), and compares each reply.
+
+  tools/fuzz SECONDS [SEED] [--memory] [--runs N] [--jobs N] [--program PATH] [--tally]
+
+Each run draws its lines from a seed of its own: SEED (else the time), SEED + 1, and so on, so that a run is had again by its seed. At an even seed
+memory is ample, and each reply has to be the one that the lists give. At an odd seed requests for memory are refused, of which the run draws the numbers.
+A refusal that is told then has to be one that docs/COMMANDS.md and docs/PROMISES.md allow of that command in that state, and the replies after it have to
+be those of lists which it left as these pages say; as many refusals are told as there were requests refused; and `no memory` ends the run only where
+the first page says so. Some runs have a line that is not a command, after which nothing is run. Each block of memory is given back. Where memory is ample, the last
+copies of a run make no fewer and no more requests than those of sound trees of so many pairs can. Each fourth run fills a map or a set with thin nodes and takes
+most of its keys out, in each order in turn, with look-ups and lists of all that is left between.
+
+With --memory the program with a budget runs. At an even seed the bytes suffice by what tools/judge.py says of sound trees, so that nothing may be refused; at an
+odd one they are fewer, and each other of these runs has requests refused too. What stands never passes the budget, and it refuses only where it may be passed.
+
+It takes SECONDS. With --runs it goes on until there were N runs, and fails where a kind of line did not occur in them with each of its effects (of `remove`: the
+key is there, or not; a kind that may be refused: also that), or on a tree of some number of levels, or where no tree of three or of four levels lost most of its
+keys in each order. --tally prints how often each did. It takes all cores, or --jobs of them. --program has another program run than the one that tools/build built.
+
+Where a reply or an ending differs, lines are dropped for as long as it still differs, in at most 60 seconds, and it prints the run's seed, the lines that are
+left, which can be sent to ./fcrun, the requests that are refused with them, what was wanted and what was told (of long texts the front). The last line is 'N passed, M failed', and the
+status is 0 where M is 0. It needs a C compiler."""
+import argparse
+import collections
+import concurrent.futures
+import os
+import random
+import re
+import sys
+import tempfile
+import time
+from typing import NamedTuple
+
+sys.dont_write_bytecode = True
+import judge
+from judge import CAPACITY, GREATEST, LISTS, LONGEST, ON_MAPS, ON_SETS, STARTS, Case, bound, ends, items, number, pairs, writes
+
+SHRINKING = 60  # the most seconds of making a failure shorter
+SURVIVALS = 8  # how often the request is given whose refusal ended a run
+DEEP = 1 / 5  # how many of the runs have trees of four levels
+COPIES = 2  # of how many copies at the end of a run the requests are looked at
+NEAR = 12  # how many other requests of a line that became shorter are tried in the place of the one that was refused
+
+
+class Shrinking:
+    """Drops parts of a case for as long as it fails."""
+
+    def __init__(self, program, case, ran, fault):
+        self.program, self.case, self.ran, self.fault = program, case, ran, fault
+        self.places = None  # the lines in which a request is refused, each with how many requests into it; None: the numbers stay as they are
+        self.until = time.monotonic() + SHRINKING
+
+    def fails(self, lines, places, requests=None):
+        """Whether these lines fail with the requests at these places refused, or by these numbers. If so, that is the case to go on from."""
+        if time.monotonic() > self.until:
+            return False
+        if requests is None:
+            requests = self.case.requests if places is None else self.numbers(lines, places)
+        case = self.case._replace(lines=lines, requests=requests)
+        ran = self.program.run(case)
+        fault = fault_in(self.program, case, ran)
+        if fault:
+            self.case, self.ran, self.fault, self.places = case, ran, fault, places
+        return fault is not None
+
+    def numbers(self, lines, places):
+        """The numbers that the requests at these places have."""
+        numbers = ()
+        for at, depth in places:
+            numbers += (self.requests(lines[:at], numbers) + depth,)
+        return numbers
+
+    def requests(self, lines, refused):
+        """How many requests these lines make where some are refused."""
+        return self.program.run(self.case._replace(lines=lines, ended=True, requests=refused)).requests
+
+    def find_places(self):
+        """Finds the last refusals that it takes to fail, by the replies before the last line, which tell in which lines they are. Another one may be in that line."""
+        lines, numbers = self.case.lines, self.case.requests
+        replies = self.program.run(self.case._replace(lines=lines[:-1], ended=True)).replies
+        told = [at for at, reply in enumerate(replies) if reply.startswith("refused")] + [len(lines) - 1]
+        for many in (1, 2, 4, 8, 100):
+            last = list(enumerate(told[: len(numbers)]))[-many:]
+            if self.fails(lines, [(at, numbers[i] - self.requests(lines[:at], numbers[:i])) for i, at in last]):
+                return
+
+    def shrink(self):
+        """Drops refused requests, lines and the words of long lines, until there is nothing more to drop, and takes small numbers."""
+        self.cut()
+        if self.case.requests and not self.fails(self.case.lines, None, ()):
+            self.find_places()
+        before = None
+        while self.case != before and time.monotonic() < self.until:
+            before = self.case
+            self.cut()
+            dropped(self.places or [], lambda places: self.fails(self.case.lines, places))
+            self.drop_lines()
+            for at in range(len(self.case.lines)):
+                self.shorten(at, *parts_of(self.case.lines[at]))
+        self.cut()
+        self.fails(renumbered(self.case.lines), self.places)
+
+    def cut(self):
+        """Drops the lines behind the one whose reply differs, or at which the program fell: then replies that it had not yet written are lost."""
+        lines, keeps, falls = self.case.lines, 0, self.fault.at + 1
+        if self.has_fallen(self.ran):
+            falls = len(lines)
+            while falls - keeps > 1:
+                middle = (keeps + falls) // 2
+                if self.has_fallen(self.program.run(self.case._replace(lines=lines[:middle]))):
+                    falls = middle
+                else:
+                    keeps = middle
+        self.fails(lines[:falls], self.places and [it for it in self.places if it[0] < falls])
+
+    @staticmethod
+    def has_fallen(ran):
+        """Whether a run ended as none ends by itself."""
+        return ran.status not in (0, 1, 2)
+
+    def drop_lines(self):
+        lines, places = self.case.lines, self.places or []
+
+        def fails(kept):
+            moved = [(kept.index(at), depth) for at, depth in places if at in kept]
+            return self.fails([lines[i] for i in kept], moved if self.places is not None else None)
+
+        dropped([*range(len(lines))], fails)
+
+    def shorten(self, at, head, parts, glue):
+        """Drops parts of the line there, where it is long. A request that is refused in it is then one of the first at the most."""
+
+        def fails(rest):
+            lines = [*self.case.lines[:at], head + glue.join(rest), *self.case.lines[at + 1 :]]
+            depths = [depth for of, depth in self.places or [] if of == at]
+            moved = [[(of, less if of == at else depth) for of, depth in self.places] for less in range(1, depths[0])] if depths else []
+            return any(self.fails(lines, places) for places in [self.places, *moved[:NEAR]])
+
+        if len(parts) > 4:
+            dropped(parts, fails)
+
+
+def renumbered(lines):
+    """The lines with the least numbers that stand in the same order."""
+    numbers = sorted({int(word) for line in lines for word in re.findall(rb"\d+", line)})
+    return [re.sub(rb"\d+", lambda word: b"%d" % numbers.index(int(word[0])), line) for line in lines]
+
+
+def parts_of(line):
+    """What a line begins with, what of it may be dropped, and what stands between those parts: the letters of a walk, or the words behind the second."""
+    words = line.split(b" ")
+    if words[0] == b"walk":
+        return b" ".join(words[:-1]) + b" ", [words[-1][i : i + 1] for i in range(len(words[-1]))], b""
+    each = 2 if words[0] == b"extend" and words[1] in (b"a", b"b") else 1  # a pair stays a pair
+    return b" ".join(words[:2]) + b" ", [b" ".join(words[i : i + each]) for i in range(2, len(words), each)], b" "
+
+
+def dropped(parts, fails):
+    """Drops parts for as long as the rest fails: halves, then quarters, and so on to single ones."""
+    size = len(parts) // 2
+    while size > 0:
+        at = 0
+        while at < len(parts):
+            rest = parts[:at] + parts[at + size :]
+            if rest and fails(rest):
+                parts = rest
+            else:
+                at += size
+        size //= 2
+
+
+# Random lines.
+
+# The words of commands on maps and on sets: those that put in, those that take out or move many at once, and the others.
+GROWING = {"insert", "entry", "both", "extend", "add", "replace"}
+SWEEPING = {"clear", "append", "split", "copy", "keep diff", "keep sym", "keep inter", "keep union"}
+
+
+# Keys that come in descending order leave 8 pairs in each node that is not in front. So of the keys from the 16th on each ninth splits the first leaf, and of these splits from
+# the 16th on each ninth the first node above, and so on: from 16 + 9 * 15 keys on there are three levels, and from 16 + 9 * (15 + 9 * 15) on four. The same is so, the other way
+# round, where keys come in ascending order below one that stays the greatest.
+THIN = {3: 16 + 9 * 15, 4: 16 + 9 * (15 + 9 * 15)}
+ORDERS = {
+    "ascending": lambda draw, keys: keys,
+    "descending": lambda draw, keys: keys[::-1],
+    "from the middle": lambda draw, keys: sorted(keys, key=lambda key: abs(key - keys[len(keys) // 2])),
+    "at random": lambda draw, keys: draw.sample(keys, len(keys)),
+    "every other": lambda draw, keys: [*keys[::2], *keys[1::4], *keys[3::4]],
+}
+THINNINGS = [(levels, order) for order in ORDERS for levels in THIN]
+
+
+class Talk:
+    """Draws the lines of a run. How the keys lie and how often each word comes is drawn anew from time to time."""
+
+    def __init__(self, draw, refusing, thinning):
+        self.draw, self.refusing, self.thinning = draw, refusing, thinning
+        self.deep = draw.random() < DEEP  # whether there are trees of four levels, and each word comes as often
+        self.last, self.drawn = 0, [0]
+        self.thinned = 0  # how many lines there are up to the end of a thinning
+        self.turn()
+
+    def turn(self):
+        """Draws how the lines are from here on."""
+        draw = self.draw
+        self.spread = draw.choice([3, 20, 80, 400, 400, 3000, GREATEST + 1])
+        self.base = draw.choice([0, 0, 0, GREATEST + 1 - self.spread])
+        self.step = draw.choice([0, 0, 1, GREATEST])
+        self.again = draw.choice([0, 0.2, 0.6])
+        self.names = draw.choice(["ab", "st", "abst"] if self.deep else ["a", "s", "ab", "st", "aab", "sst", "abst", "abst"])
+        growing, listing = draw.choice([1, 3, 12]), draw.choice([0.05, 0.3, 1])
+        sweeping = draw.choice([0.2, 0.6, 1.5] if self.refusing else [0.05, 0.2, 0.6])
+        self.words = {}
+        for table in (ON_MAPS, ON_SETS):
+            weights = []
+            for word in table:
+                weight = draw.choice([0, 1, 1, 3]) * (growing if word in GROWING else sweeping if word in SWEEPING else 1)
+                weight = (0.2 if word in SWEEPING else 1) if self.deep else weight
+                weight *= 4 if self.refusing and word in judge.OPERATIONS else 1
+                weights.append(weight * (listing if word in ("extend", "walk", "write") and self.refusing else 1) + 0.001)
+            self.words[table is ON_SETS] = list(table), weights
+
+    def fill(self, name):
+        """Lines that extend a map or a set by many keys in some order, with gaps between them. Keys that are drawn then lie among them."""
+        draw = self.draw
+        keys = self.keys(draw.choice([4200, 5000] if self.deep else [16, 40, 160, 300, 300, 700]))
+        order = draw.choice(["up", "down", "any", "any"])
+        if order != "up":
+            keys.reverse() if order == "down" else draw.shuffle(keys)
+        return self.extend(name, keys, draw.choice([50, 400, 1000]))
+
+    def keys(self, size):
+        """So many keys in ascending order, with gaps between them."""
+        gap, first = self.draw.choice([1, 2, 3]), self.draw.choice([0, 1, 7, size])
+        self.spread, self.base, self.step = first + gap * size, 0, 0
+        return [first + gap * i for i in range(size)]
+
+    def thin(self, name, levels, order):
+        """Lines by which a map or a set gets many keys, which stand in thin nodes on so many levels, and loses most of them in this order."""
+        draw = self.draw
+        keys = self.keys(THIN[levels] + draw.choice([0, 100, 300, 500]))
+        out = ORDERS[order](draw, keys)
+        coming = keys[::-1] if draw.random() < 0.5 else [keys[-1], *keys[:-1]]
+        words, look_up = (("take", "drop"), "find") if name in "st" else (("remove", "evict"), "pair")
+        lines = [f"clear {name}", *self.extend(name, coming, 1000)]
+        for i, key in enumerate(out[: len(out) - draw.choice([0, 3, len(out) // 20, len(out) // 6])]):
+            lines.append(f"{draw.choice(words)} {name} {key}")
+            if i % 16 == 0:
+                lines.append(f"{look_up} {name} {draw.choice(out)}")
+            if i % (len(out) // 4) == 0:
+                lines.append(f"walk {name} * * {draw.choice('fb') * len(out)}")
+        return [*lines, f"walk {name} * * {draw.choice('fb') * len(out)}", f"len {name}"]
+
+    def extend(self, name, keys, most):
+        """Lines that extend a map or a set by these keys, so many by a line at the most, and tell how many it then has."""
+        keys, lines = keys[::-1], []
+        while keys:
+            line = f"extend {name}"
+            while keys and len(line) < LONGEST - 30 and line.count(" ") < 2 * most:
+                key = keys.pop()
+                line += f" {key}" if name in "st" else f" {key} {key % 10}"
+            lines += [line, f"len {name}"]
+        return lines
+
+    def key(self):
+        """A key that was drawn before, the one beside the last, or any in the range of this turn."""
+        chance = self.draw.random()
+        if chance < self.again:
+            return self.draw.choice(self.drawn)
+        if self.step and chance < 0.95:
+            self.last = (self.last + self.step) % (GREATEST + 1)
+        else:
+            self.last = self.base + self.draw.randrange(self.spread)
+        self.drawn = [*self.drawn[-200:], self.last]
+        return self.last
+
+    def number(self, value=None):
+        """A key, or this number, as it may be written."""
+        text = str(self.key() if value is None else value)
+        return text.zfill(self.draw.randint(1, 20)) if self.draw.random() < 0.03 else text
+
+    def value(self):
+        return self.number(self.draw.randrange(10) if self.draw.random() < 0.9 else self.draw.randint(0, GREATEST))
+
+    def bounds(self):
+        """Two bounds, of which many meet."""
+        low = self.key()
+        high = min(GREATEST, low + self.draw.choice([0, 0, 1, 2, self.draw.randrange(self.spread)]))
+        if self.draw.random() < 0.05:
+            low, high = high, low
+        kinds = self.draw.choices("*=!", k=2)
+        return " ".join("*" if kind == "*" else kind + self.number(key) for key, kind in zip((low, high), kinds))
+
+    def ends(self, most):
+        """The letters of a walk."""
+        letters = self.draw.choice(["f", "b", "fb", "fb", "ffb", "fbb"])
+        return "".join(self.draw.choices(letters, k=self.draw.randint(1, most)))
+
+    def list_of(self, item):
+        """One item or more, as many as a line takes."""
+        words = [item() for _ in range(self.draw.choice([1, 2, 5, 16, 40, 150, 800]))]
+        while len(" ".join(words)) > LONGEST - 20:
+            words = words[: len(words) // 2]
+        return " ".join(words)
+
+    def line(self, name, of=()):
+        """A command on this map or set, of these words where some are given."""
+        words, weights = self.words[name in "st"]
+        word = self.draw.choice([word for word in words if word in of]) if of else self.draw.choices(words, weights)[0]
+        if word == "both":
+            return " ".join([word, self.number(), self.value(), self.number(), self.value()])
+        readers = (ON_SETS if name in "st" else ON_MAPS)[word][0]
+        said = [self.bounds()] if bound in readers else []
+        for at, reader in enumerate(readers):
+            if reader is number:
+                said.append(self.value() if at else self.number())
+            elif reader is ends:
+                said.append(self.ends(self.draw.choice([1, 8, 8, 60, 600])))
+            elif reader in LISTS:
+                said.append(self.list_of(self.items()[reader]))
+        return " ".join([word, name, *said])
+
+    def items(self):
+        """How an item of each kind of list is drawn."""
+        return {items: self.number, pairs: lambda: f"{self.number()} {self.value()}", writes: lambda: f"{self.draw.choice('fb')}={self.value()}"}
+
+    def lines(self):
+        """The lines of a run, of which the last show all that is there."""
+        draw = self.draw
+        # The reply to so long a walk makes room for the text of those after it.
+        lines = ["walk a * * " + "f" * 4000] if self.refusing and draw.random() < 0.7 else []
+        lines += self.thin(draw.choice("abst"), *self.thinning) if self.thinning else []
+        self.thinned = len(lines)
+        most = 200 if self.deep else draw.choice([3, 30, 300, 300, 1000])
+        if self.deep or draw.random() < 0.5:
+            lines += [line for name in sorted({*self.names}) if draw.random() < 0.7 for line in self.fill(name)]
+        most += len(lines)
+        while len(lines) < most:
+            if draw.random() < 0.01:
+                self.turn()
+            line = self.line(draw.choice(self.names))
+            if self.refusing and line.startswith("both") and draw.random() < 0.5:
+                lines.append(f"insert a {line.split(' ')[1]} 0" if draw.random() < 0.5 else f"insert b {line.split(' ')[3]} 0")
+            lines.append(line)
+            if self.refusing and (line.startswith("extend") or draw.random() < 0.3):
+                lines.append("len " + (line.split(" ")[1] if line.startswith("extend") else draw.choice(self.names)))
+        for _ in range(2 if self.deep else 0):
+            name = draw.choice(self.names)
+            lines += [*self.fill(name), self.line(name, SWEEPING)]
+        last = draw.choice([60, 500, 4000])
+        lines += [f"walk {name} * * {draw.choice('fb') * last}" for name in "abst"]
+        return lines + [f"copy {name}" for name in draw.sample("abst", 2)]
+
+    def spoiled(self, line):
+        """The line with something put in, left out or changed, which makes most lines no command; or one that is just too long, or as long as can be."""
+        draw = self.draw
+        at, byte = draw.randint(0, len(line)), bytes([draw.choice(b" \t\r\0-+.*=!09afbst~\xff")])
+        kinds = [line[:at] + byte + line[at:], line[:at] + byte + line[at + 1 :], line[:at] + line[at + 1 :], line.upper(), line + b" ", b" " + line]
+        kinds += [b"", line + b" 1", line.rsplit(b" ", 1)[0], line.replace(b" ", b"  ", 1), b"get a %d" % (GREATEST + draw.randrange(3)), b"in s " + b"1" * 21]
+        return draw.choice(kinds + [b"walk a * * " + b"f" * (LONGEST - 11 + draw.randrange(2))])
+
+
+def requests_of(draw):
+    """The numbers of the requests that are refused, one by one or several in a row."""
+    gap, row = draw.choice([2, 8, 30, 100, 400]), draw.choice([1, 1, 1, 3, 10])
+    # The first are the program's own, and those up to some 20 the ones of a long walk's reply that lines() may begin with.
+    at, requests = draw.choice([0, STARTS, 20, 20, 60, 200, 500, 1500]), []
+    for _ in range(100):
+        at += draw.randint(1, 2 * gap)
+        for _ in range(draw.randint(1, row)):
+            requests.append(at)
+            at += 1
+    return requests
+
+
+def budget_of(draw, lines, is_short):
+    """The bytes that suffice for the lines, or fewer."""
+    room = judge.room_for(lines)
+    return draw.choice([0, draw.randrange(3000), int(room * draw.random()), int(room * draw.random() ** 2), int(room * draw.random() ** 4)]) if is_short else room
+
+
+def case_of(seed, has_budget):
+    """The run of this seed, the levels and the order where most keys of a tree go out in it, or None, and up to which line they do."""
+    draw = random.Random(seed)
+    refusing, thinning = seed % 2 == 1, THINNINGS[seed // 4 % len(THINNINGS)] if seed % 4 == 0 else None
+    talk = Talk(draw, refusing, thinning)
+    lines = [line.encode() for line in talk.lines()]
+    if draw.random() < 0.3:
+        at = draw.randint(max(talk.thinned, len(lines) * 9 // 10), len(lines) - 1)
+        lines[at] = talk.spoiled(lines[at])
+    case = Case(lines, draw.random() < 0.9, tuple(requests_of(draw)) if refusing and not (has_budget and seed % 4 == 1) else ())
+    return case._replace(budget=budget_of(draw, lines, refusing) if has_budget else None), thinning, talk.thinned
+
+
+# What occurred.
+
+
+def effect(command, m, o, reply):
+    """What a command met, in few words: of a key whether it was there, of others how the pairs m that it names, and the others o, were."""
+    word, said = command.word, command.said
+    refused = "refused" if reply.startswith("refused") else ""
+    if word == "both":
+        return f"{refused} {m.has(said[0]) + o.has(said[2])} keys there".strip()
+    if refused:
+        return refused
+    if word in ("walk", "write"):
+        return steps_met(m, *said)
+    if word == "extend":
+        there = sum(m.has(key) for key, _ in said[0])
+        return "new" if not there else "there" if there == len(said[0]) else "some there"
+    if word == "split":
+        return "to neither" if not len(m) else "all stay" if m.below(*said).keys == m.keys else "all go" if not len(m.below(*said)) else "in two"
+    if word == "append":
+        return "of nothing" if not len(o) else "to nothing" if not len(m) else beside(m, o)
+    if said:
+        return "there" if m.has(said[0]) else "new"
+    if word.split(" ")[-1] in judge.OPERATIONS:
+        return "some" if len(judge.combined(word.split(" ")[-1], m, o)) else "nothing"
+    return reply if word in ("disjoint", "subset", "superset", "cmp") else "some" if len(m) else "nothing"
+
+
+def steps_met(m, low, high, steps):
+    """What the steps of a walk met."""
+    if not judge.is_range(low, high):
+        return "bad range"
+    given = m.steps(low, high, [step if isinstance(step, str) else step[0] for step in steps])
+    ended = "ends met" if None in given else "some left"
+    return "nothing" if given.count(None) == len(given) else ended
+
+
+def beside(m, o):
+    """How the pairs of two maps lie."""
+    if m.keys[-1] < o.keys[0]:
+        return "beyond"
+    return "equal keys" if set(m.keys) & set(o.keys) else "before" if o.keys[-1] < m.keys[0] else "between"
+
+
+KEYED = {"there", "new"}
+WALKED = {"bad range", "nothing", "ends met", "some left"}
+PUTTING = KEYED | {"refused"}
+EFFECTS = {
+    **{word: KEYED for word in ("get", "pair", "has", "remove", "set", "evict", "take", "drop", "in", "find")},
+    **{word: PUTTING for word in ("insert", "entry", "add", "replace")},
+    **{word: {"some", "nothing"} for word in ("len", "clear")},
+    **{kept + word: {"some", "nothing", "refused"} for kept in ("", "keep ") for word in judge.OPERATIONS},
+    **{word: {"true", "false"} for word in ("disjoint", "subset", "superset")},
+    "cmp": {"less", "equal", "greater"},
+    "copy": {"some", "nothing", "refused"},
+    "both": {"0 keys there", "1 keys there", "2 keys there", "refused 0 keys there", "refused 1 keys there"},
+    "extend": {"new", "there", "some there", "refused"},
+    "walk": WALKED | {"refused"},
+    "write": WALKED,
+    "split": {"to neither", "all stay", "all go", "in two", "refused"},
+    "append": {"of nothing", "to nothing", "beyond", "before", "between", "equal keys", "refused"},
+}
+
+
+class Tally:
+    """How often each kind of line occurred, with each effect, and on trees of so many levels."""
+
+    def __init__(self):
+        self.effects, self.levels, self.ends, self.thinned = (collections.Counter() for _ in range(4))
+        self.copies = {}  # how many pairs were copied, by the places of the lines
+
+    def add(self, other):
+        self.effects += other.effects
+        self.levels += other.levels
+        self.ends += other.ends
+        self.thinned += other.thinned
+
+    def see(self, at, command, both, reply):
+        if command.word == "copy":
+            self.copies[at] = len(both[0])
+        kind = f"{command.word} {'C' if command.names[0] > 1 else 'M'}"
+        self.effects[kind, effect(command, *both, reply)] += 1
+        # So many levels at the least; a tree whose nodes are not full has one more at the most.
+        self.levels[kind, sum(len(both[0]) > most for most in (0, CAPACITY, 16**2 - 1, 16**3 - 1))] += 1
+
+    def missing(self):
+        """The kinds of line that did not occur with each of their effects, or on trees of some number of levels."""
+        kinds = [(f"{word} {name}", EFFECTS[word]) for name, table in (("M", ON_MAPS), ("C", ON_SETS)) for word in table]
+        lacking = [f"{kind}: {it}" for kind, effects in kinds for it in sorted(effects) if not self.effects[kind, it]]
+        lacking += [f"most keys out of a tree of {levels} levels, {order}" for levels, order in THINNINGS if not self.thinned[levels, order]]
+        return lacking + [f"{kind}: {n} levels" for kind, _ in kinds for n in range(5) if not self.levels[kind, n]]
+
+    def print(self):
+        for kind in sorted({kind for kind, _ in self.effects}):
+            met = ", ".join(f"{it} {n}" for (of, it), n in sorted(self.effects.items()) if of == kind)
+            print(f"  {kind}: {met}; by levels {' '.join(str(self.levels[kind, n]) for n in range(5))}")
+        print("  most keys out:", ", ".join(f"of {levels} levels {order} {self.thinned[levels, order]}" for levels, order in THINNINGS))
+        print("  runs:", ", ".join(f"{it} {n}" for it, n in sorted(self.ends.items())))
+
+
+# What is printed.
+
+
+def shown(line):
+    """The line, with each byte that isn't printed as \\0ooo."""
+    return "".join(chr(byte) if 32 <= byte < 127 and byte != 92 else f"\\0{byte:03o}" for byte in line)
+
+
+def report(shrinking):
+    """Tells what is wrong, and what shows it."""
+    case, fault = shrinking.case, shrinking.fault
+    lines = [shown(line) for line in case.lines]
+    text = f"Wrong is the reply to line {fault.at + 1} of the {len(lines)} that are left"
+    if shrinking.has_fallen(shrinking.ran):
+        text = f"Wrong is how the program ended at the {len(lines)} lines that are left"
+    if case.budget is not None:
+        text += f", in a budget by ./fcrun --memory {case.budget}"
+    if case.requests:
+        numbers = ",".join(map(str, case.requests))
+        text += f", with requests refused by {'REFUSE=' if len(case.requests) > 1 else './fcrun --refuse '}{numbers}"
+    text += "" if case.ended else ", without the last line feed"
+    text += ", with bytes as printf %b reads them" if any("\\" in line for line in lines) else ""
+    shortened = [line if len(line) <= 500 else f"{line[:500]}.. ({len(line)} bytes)" for line in lines]
+    if len(lines) > 40:
+        shortened[20:-20] = [f".. ({len(lines) - 40} lines)"]
+    print(text[:1000] + ":", *shortened, f"wanted: {fault.wanted[:1000]}", f"told:   {fault.told[:1000]}", sep="\n")
+
+
+class Tried(NamedTuple):
+    """What came of a seed: how many lines were replied to, how many requests were refused, or with a budget commands, what occurred, and the run that failed, or
+    None."""
+
+    seed: int
+    lines: int
+    refusals: int
+    tally: Tally
+    failed: object
+
+
+def fault_in(program, case, ran, tally=None):
+    """Where a run differs from what is wanted, or its last copies make other requests than those of sound trees, or None. What occurred is added to the tally."""
+    seen = tally or Tally()
+    fault = judge.fault_of(case, ran, seen.see)
+    if fault or case.requests or case.budget is not None:
+        return fault
+    requests = {len(case.lines): ran.requests}  # those of so many lines
+    for at in sorted(seen.copies)[-COPIES:]:
+        for lines in at, at + 1:
+            if lines not in requests:
+                requests[lines] = program.run(Case(case.lines[:lines])).requests
+        fault = fault or judge.fault_of_copy(at, seen.copies[at], requests[at + 1] - requests[at])
+    return fault
+
+
+def tried(work):
+    """Runs the case of a seed, and again with one refused request less where its refusal ended the run."""
+    program, seed, has_budget = work
+    (case, thinning, thinned), tally, refusals = case_of(seed, has_budget), Tally(), 0
+    for survivals in range(SURVIVALS + 1):
+        ran = program.run(case)
+        is_last = ran.status != 2 or survivals == SURVIVALS or not 0 < ran.refusals <= len(case.requests)
+        fault = fault_in(program, case, ran, tally if is_last else None)
+        refusals += sum(reply.startswith("refused") for reply in ran.replies) if has_budget else ran.refusals
+        if fault or is_last:
+            break
+        case = case._replace(requests=case.requests[: ran.refusals - 1] + case.requests[ran.refusals :])
+    tally.thinned[thinning] += thinning is not None and len(ran.replies) > thinned
+    tally.ends[ran.error.strip() or ("not a command" if ran.status else "whole")] += 1
+    return Tried(seed, len(ran.replies), refusals, tally, (case, ran, fault) if fault else None)
+
+
+def trials(program, words):
+    """What comes of one seed after another, for as long as it goes on, by some processes at once."""
+    until, seed = time.monotonic() + words.seconds, words.seed
+    with concurrent.futures.ProcessPoolExecutor(words.jobs) as pool:
+        while time.monotonic() < until or seed < words.seed + words.runs:
+            seeds = range(seed, seed + words.jobs)
+            yield from pool.map(tried, [(program, it, words.memory) for it in seeds])
+            seed = seeds.stop
+
+
+def fuzz(program, words):
+    """Tries one seed after another, and answers the status."""
+    passed, told, refused, tally = 0, 0, 0, Tally()
+    for it in trials(program, words):
+        if it.failed:
+            lines = len(it.failed[0].lines)
+            print(f"Found by `tools/fuzz 1 {it.seed}{' --memory' if words.memory else ''}`, in {lines} lines; lines and refused requests are dropped for as long as what is told is wrong.", flush=True)
+            shrinking = Shrinking(program, *it.failed)
+            shrinking.shrink()
+            report(shrinking)
+            print(f"{passed} passed, 1 failed")
+            return 1
+        passed, told, refused = passed + 1, told + it.lines, refused + it.refusals
+        tally.add(it.tally)
+    if words.tally:
+        tally.print()
+    lacking = tally.missing() if words.runs > 1 else []
+    if lacking:
+        print(f"in these runs did not occur: {', '.join(lacking)}")
+    print(f"seeds {words.seed} to {it.seed}: {told} lines, {refused} {'commands' if words.memory else 'requests for memory'} refused")
+    print(f"{passed} passed, {len(lacking)} failed")
+    return 1 if lacking else 0
+
+
+def main():
+    words = argparse.ArgumentParser(description=__doc__, formatter_class=argparse.RawDescriptionHelpFormatter)
+    words.add_argument("seconds", type=int)
+    words.add_argument("seed", type=int, nargs="?", default=int(time.time()))
+    words.add_argument("--runs", type=int, default=1)
+    words.add_argument("--jobs", type=int, default=len(os.sched_getaffinity(0)))
+    words.add_argument("--program")
+    words.add_argument("--tally", action="store_true")
+    words.add_argument("--memory", action="store_true")
+    words = words.parse_args()
+    name = "fcrun_memory" if words.memory else "fcrun"
+    with tempfile.TemporaryDirectory() as folder:
+        return fuzz(judge.Program(words.program or judge.top / f"crates/{name}/out/{name}", folder), words)
+
+
+if __name__ == "__main__":
+    sys.exit(main())

@@ -1,0 +1,164 @@
+#!/usr/bin/env python3
+"""What the gate costs.
+
+  tools/times ./test                  runs a command of the toolchain and tells the processor time that its checks took, crate by crate
+  tools/times --write ./test --anew   and writes it into docs/GATE.md and docs/USING.md, if the command proved all from nothing and ended well
+  tools/times --told LOG              what ./test says at its start, of the figures in docs/GATE.md
+
+It looks several times a second at the checks that descend from the command, and at no other on the machine, so each figure lacks a
+fraction of a second a check. What is no check of a crate (compilers, tests, the sweep) is told in one sum."""
+import ctypes
+import os
+import pathlib
+import re
+import resource
+import shutil
+import subprocess
+import sys
+import time
+
+TICKS = os.sysconf("SC_CLK_TCK")
+KINDS = ("proof", "tests", "seed", "edits")
+PAGE, USING = pathlib.Path("docs/GATE.md"), pathlib.Path("docs/USING.md")
+# Of Linux: a process whose parent ends becomes a child of this one, so that its ancestors still lead here.
+PR_SET_CHILD_SUBREAPER = 36
+
+
+def kind_of(words, where):
+    """Returns what a check is for: a seed is the proof once more, over which a crate's wrong bodies are tried."""
+    if "/rt-edit" in where:
+        return "seed" if "--incremental" in words and words[words.index("--incremental") + 1].endswith("/seed") else "edits"
+    return "tests" if "--test" in words else "proof"
+
+
+def fields_of(pid):
+    """Returns what stands in a process's line of state, behind its name."""
+    return pathlib.Path(f"/proc/{pid}/stat").read_text().rpartition(")")[2].split()
+
+
+def is_ours(pid):
+    """Says whether a process descends from this one."""
+    while int(pid) > 1 and int(pid) != os.getpid():
+        pid = fields_of(pid)[1]
+    return int(pid) == os.getpid()
+
+
+def look(seen):
+    """Notes the processor seconds of each check of the command that is running."""
+    for pid in filter(str.isdigit, os.listdir("/proc")):
+        try:
+            words = pathlib.Path(f"/proc/{pid}/cmdline").read_bytes().decode(errors="replace").split("\0")
+            if not words[0].endswith("/rattle") or "--crate-name" not in words or not is_ours(pid):
+                continue
+            fields = fields_of(pid)
+            where = os.readlink(f"/proc/{pid}/cwd")
+        except (OSError, IndexError):
+            continue
+        key = words[words.index("--crate-name") + 1], kind_of(words, where)
+        seen[pid, fields[19]] = key, (int(fields[11]) + int(fields[12])) / TICKS
+
+
+def watched(command):
+    """Runs the command; returns its status, the minutes it took, its processor minutes, and those of each crate's checks by kind."""
+    ctypes.CDLL(None).prctl(PR_SET_CHILD_SUBREAPER, 1, 0, 0, 0)
+    began, seen = time.time(), {}
+    running = subprocess.Popen(command)
+    while running.poll() is None:
+        look(seen)
+        time.sleep(0.2)
+    sums = {}
+    for key, seconds in seen.values():
+        sums[key] = sums.get(key, 0) + seconds / 60
+    used = resource.getrusage(resource.RUSAGE_CHILDREN)
+    return running.returncode, (time.time() - began) / 60, (used.ru_utime + used.ru_stime) / 60, sums
+
+
+def edits_of(crate):
+    return len([*pathlib.Path(f"crates/{crate}/must-fail").glob("*.edit")])
+
+
+def table(sums):
+    """Returns the table by crate, dearest first."""
+    of = lambda crate: [sums.get((crate, kind), 0) for kind in KINDS]
+    rows = ["| Crate | Proof | Tests | Wrong bodies | Seed | Their trials | All |", "|---|---|---|---|---|---|---|"]
+    for crate in sorted({it for it, _ in sums}, key=lambda it: (-sum(of(it)), it)):
+        proof, tests, seed, edits = (f"{it:.1f}" if it else "" for it in of(crate))
+        rows.append(f"| `{crate}` | {proof} | {tests} | {edits_of(crate) or ''} | {seed} | {edits} | {sum(of(crate)):.1f} |")
+    return rows
+
+
+def told(rows):
+    """Returns the one row of figures: of this commit, kit and machine."""
+    status, minutes, whole, sums = rows
+    by = [f"{sum(it for (_, kind), it in sums.items() if kind == one):.0f}" for one in KINDS]
+    git = lambda *words: subprocess.run(["git", *words], capture_output=True, text=True, check=False).stdout.strip()
+    kit = re.search(r"rattle-kit-\w+", subprocess.run(["rt", "version"], capture_output=True, text=True, check=False).stdout)
+    named = git("rev-parse", "--short", "HEAD"), kit[0] if kit else "", str(os.cpu_count())
+    return [
+        "| Commit | Kit | Cores | Minutes | Processor minutes | of these: proofs | tests | seeds | trials |",
+        "|---|---|---|---|---|---|---|---|---|",
+        f"| {' | '.join(named)} | {minutes:.0f} | {whole:.0f} | {' | '.join(by)} |",
+    ]
+
+
+def written(name, rows):
+    """Puts the rows between the page's two marks of that name."""
+    text, marks = PAGE.read_text(encoding="utf-8"), [f"<!-- {name} -->", f"<!-- end of {name} -->"]
+    before, _, rest = text.partition(marks[0])
+    PAGE.write_text(before + "\n".join([marks[0], *rows, marks[1]]) + rest.partition(marks[1])[2], encoding="utf-8")
+
+
+def first_checks(sums):
+    """Puts into docs/USING.md, for each crate that can be taken, how many come with it and the minutes of their proofs."""
+    lines = {it[1]: it[2].split() for it in re.finditer(r"^(\w+)[^:#\n]*:(.*)$", pathlib.Path("crates.txt").read_text(), re.M)}
+
+    def below(name):
+        return {name}.union(*(below(it) for it in lines[name] if it in lines))
+
+    def row(found):
+        if found[1] not in lines:
+            return found[0]
+        taken = below(found[1])
+        return f"| `{found[1]}` | {len(taken)} | {found[3]} | {sum(sums.get((it, 'proof'), 0) for it in taken):.1f} |"
+
+    text = USING.read_text(encoding="utf-8")
+    USING.write_text(re.sub(r"(?m)^\| `(\w+)` \| (\d+) \| (.*) \| [\d.]+ \|$", row, text), encoding="utf-8")
+
+
+def begin(log):
+    """Says what the gate will do, how long that takes, and what it needs."""
+    crates = re.findall(r"^(\w+)[^:#\n]*:", pathlib.Path("crates.txt").read_text(), re.M)
+    row = re.search(r"^\| (\w+) \| (\S+) \| (\d+) \| (\d+) \| (\d+) \|", PAGE.read_text(encoding="utf-8"), re.M)
+    two = re.search(r"on 2 cores (?:some )?(\d+) minutes", PAGE.read_text(encoding="utf-8"))
+    print(f"test: proves {len(crates)} crates and their tests, tries {sum(map(edits_of, crates))} wrong bodies, runs each test and program,")
+    print("test: then lines through the built program, its ends, and all with each request for memory refused in turn.")
+    if row:
+        on_two = f", some {two[1]} on 2 by a model" if two else ""
+        print(f"test: from nothing it takes {row[4]} minutes on {row[3]} cores{on_two} (docs/GATE.md); far less where this machine kept the proofs.")
+    free = shutil.disk_usage(".").free / 1e9
+    print(f"test: it needs rt, cc and python3, 8 GB of memory and 5 GB of disk ({free:.0f} are free); what rt ci says goes to {log}", flush=True)
+
+
+def main():
+    words = sys.argv[1:]
+    if words[:1] == ["--told"] and len(words) == 2:
+        return begin(words[1])
+    is_written = words[:1] == ["--write"]
+    if not words[is_written:]:
+        sys.exit(__doc__)
+    figures = status, minutes, whole, sums = watched(words[is_written:])
+    print("\n" + "\n".join([*told(figures), "", *table(sums)]))
+    print(f"\n{minutes:.1f} minutes on {os.cpu_count()} cores; {whole:.0f} processor minutes, {sum(sums.values()):.0f} of them in checks")
+    proved = {crate for crate, kind in sums if kind == "proof"}
+    lacking = [it for it in re.findall(r"^(\w+)[^:#\n]*:", pathlib.Path("crates.txt").read_text(), re.M) if it not in proved]
+    if is_written and not status and not lacking:
+        written("figures", told(figures))
+        written("by crate", table(sums))
+        first_checks(sums)
+        subprocess.run(["tools/pages", "--write"], check=False)  # pages that tell these minutes
+    elif is_written:
+        print(f"tools/times: {PAGE} is left as it is: " + (f"status {status}" if status else f"no proof was seen of {' '.join(lacking)}"))
+    return sys.exit(status)
+
+
+main()
