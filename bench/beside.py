@@ -1,5 +1,5 @@
 #!/usr/bin/env python3
-"""`bench/beside CHECKOUT [ROUNDS]`: what a change does to times, beside another checkout of this repository.
+"""`bench/beside.py CHECKOUT [ROUNDS]`: what a change does to times, beside another checkout of this repository.
 
 Builds the drivers of maps, walks, sets and whole maps in both, runs those of the other checkout and of this one in turn, five times
 or as often as is said, and prints for each row the medians of its multiples of std's time: before, then after. Each run measures std's in turn with

@@ -1,4 +1,4 @@
-//! Makes each job over a map in a budget, and over one at `Global`, once at a thousand pairs with the word `count`, for `bench/instructions`: what that calls
+//! Makes each job over a map in a budget, and over one at `Global`, once at a thousand pairs with the word `count`, for `bench/instructions.py`: what that calls
 //! std's is here ours at `Global`. Without the word it prints how many bytes the maps hold.
 mod harness;
 mod jobs;

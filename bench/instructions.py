@@ -1,8 +1,8 @@
 #!/usr/bin/env python3
 """Instructions a call, a pair or an item given, by the library's ordered map and set and by std's, as callgrind counts them; and how often a walk misses memory.
 
-  bench/instructions          prints rows 'NAME  OURS / STD'S (OURS AS A MULTIPLE OF STD'S)', which bench/table makes tables of
-  bench/instructions --unproved [DRIVER..]            the same in a minute over the unproved library (bench/unproved), so that a form of the code can be counted
+  bench/instructions.py          prints rows 'NAME  OURS / STD'S (OURS AS A MULTIPLE OF STD'S)', which bench/table.py makes tables of
+  bench/instructions.py --unproved [DRIVER..]            the same in a minute over the unproved library (bench/unproved.py), so that a form of the code can be counted
                               before it is proved. Of drivers as map_driver it prints their rows alone, and else all but the misses
 
 Instructions do not change from run to run, whatever else the machine does. A driver makes all its jobs in one run, and callgrind writes down what it has counted
@@ -39,7 +39,7 @@ def counted(work, driver, word, sums, options):
     command = ["valgrind", "--tool=callgrind", f"--callgrind-out-file={out}", "--dump-before=*phases::mark", *options, work / driver, word]
     run = subprocess.run(command, capture_output=True, text=True)
     if run.returncode != 0:
-        sys.exit(f"bench/instructions: {driver} failed\n{run.stderr[-2000:]}")
+        sys.exit(f"bench/instructions.py: {driver} failed\n{run.stderr[-2000:]}")
     rows = [{} for _ in sums]
     for number, line in enumerate(run.stdout.splitlines(), 1):
         if line == "-":
@@ -80,7 +80,7 @@ def main():
         sys.exit(__doc__)
     for tool in ("valgrind", "git"):
         if shutil.which(tool) is None:
-            sys.exit(f"bench/instructions: {tool} is not on the path")
+            sys.exit(f"bench/instructions.py: {tool} is not on the path")
     commit = subprocess.run(["git", "-C", BENCH, "describe", "--always", "--dirty"], capture_output=True, text=True).stdout.strip()
     print(f"instructions at {commit}{'' if proved else ', unproved'}: ours / std's", flush=True)
     with tempfile.TemporaryDirectory() as folder:
@@ -89,7 +89,7 @@ def main():
             if wanted and driver not in wanted:
                 continue
             library = [jobs] if proved else [jobs, work]
-            if not proved and not (work / f"lib{jobs}.a").exists() and subprocess.run([BENCH / "unproved", work, jobs]).returncode != 0:
+            if not proved and not (work / f"lib{jobs}.a").exists() and subprocess.run([BENCH / "unproved.py", work, jobs]).returncode != 0:
                 sys.exit(2)
             if subprocess.run([BENCH / "build", driver, work / driver, *library]).returncode != 0:
                 sys.exit(2)

@@ -3,7 +3,7 @@
 //! First all answers and lengths of the two are compared, call by call. Then each time is the best of some runs, the two maps in
 //! turn, of the time between two marks of a job (`harness/phases.rs`).
 //!
-//! With the word `count` each job runs once at a thousand pairs, and with `misses` the calls on one key over 200,000, for `bench/instructions`.
+//! With the word `count` each job runs once at a thousand pairs, and with `misses` the calls on one key over 200,000, for `bench/instructions.py`.
 mod harness;
 mod jobs;
 

@@ -1,5 +1,5 @@
 //! Asks the library's ordered map and std's `BTreeMap` for the pairs next to random keys, half of which are not there, and compares the
-//! answers. With the word `count` each call is made so at a thousand pairs and at a hundred thousand, for `bench/instructions`.
+//! answers. With the word `count` each call is made so at a thousand pairs and at a hundred thousand, for `bench/instructions.py`.
 mod harness;
 mod jobs;
 

@@ -1,7 +1,7 @@
 #!/usr/bin/env python3
 """The toolchain's own ordered map beside std's `BTreeMap`: instructions a call at a thousand pairs, and times at three sizes.
 
-  bench/own >bench/figures/own      prints rows 'NAME  ITS / STD'S (ITS AS A MULTIPLE OF STD'S)', which bench/table makes a table of"""
+  bench/own.py >bench/figures/own      prints rows 'NAME  ITS / STD'S (ITS AS A MULTIPLE OF STD'S)', which bench/table.py makes a table of"""
 import pathlib
 import subprocess
 import sys

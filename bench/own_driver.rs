@@ -1,6 +1,6 @@
 //! Times the toolchain's own ordered map beside std's `BTreeMap` on random keys, as `map_driver.rs` does the library's.
 //!
-//! With the word `count` each job runs once at a thousand pairs, for `bench/own`.
+//! With the word `count` each job runs once at a thousand pairs, for `bench/own.py`.
 mod harness;
 mod jobs;
 

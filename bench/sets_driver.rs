@@ -4,7 +4,7 @@
 //! A time is the best of some runs, the two sets in turn, of the time of a phase (`harness/phases.rs`); a multiple is the median of those that
 //! each round gave (`harness/rounds.rs`).
 //!
-//! With the word `count` each walk runs once over two sets of a thousand, for `bench/instructions`.
+//! With the word `count` each walk runs once over two sets of a thousand, for `bench/instructions.py`.
 mod harness;
 mod jobs;
 

@@ -1,12 +1,12 @@
 #!/usr/bin/env python3
 """Makes the tables of docs/PERFORMANCE.md out of what the scripts printed, so that nobody copies a number.
 
-  bench/instructions >bench/figures/instructions      (and so bench/own, and bench/run of walks, sets, map and whole: each into a file of its name)
-  bench/instructions --unproved budget_driver >bench/figures/instructions_budget
-  bench/table                 prints the tables
-  bench/table --write         writes them into the page
+  bench/instructions.py >bench/figures/instructions      (and so bench/own.py, and bench/run of walks, sets, map and whole: each into a file of its name)
+  bench/instructions.py --unproved budget_driver >bench/figures/instructions_budget
+  bench/table.py                 prints the tables
+  bench/table.py --write         writes them into the page
 
-A table stands on the page between the lines '<!-- table: NAME -->' and '<!-- end -->'. NAME is 'instructions TITLE', with a title that bench/instructions
+A table stands on the page between the lines '<!-- table: NAME -->' and '<!-- end -->'. NAME is 'instructions TITLE', with a title that bench/instructions.py
 prints: a row is then what it was before (figures/before, if it is there), what it is now, std's, and the most that was aimed at (figures/aims, lines 'MOST  TITLE: ROW');
 of maps in a budget it is theirs, that of the same jobs at `Global`, and what another title has as std's. Or NAME is a script, and maybe a unit: a column is then each of its
 titles that end in ': UNIT', and a cell ours, std's and the multiple that the script gave. Of a script with no file in figures/ the page stays as it is.

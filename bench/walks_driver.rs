@@ -3,7 +3,7 @@
 //! A time is the best of some runs, the two maps in turn, of the time that the walks of a job took (`harness/phases.rs`); a multiple is the median
 //! of those that each round gave (`harness/rounds.rs`). `into_iter` stands with the other calls that end a map, in `map_driver.rs`.
 //!
-//! With the word `count` each job runs once at a thousand pairs, and with `misses` a walk over 200,000, for `bench/instructions`.
+//! With the word `count` each job runs once at a thousand pairs, and with `misses` a walk over 200,000, for `bench/instructions.py`.
 mod harness;
 mod jobs;
 

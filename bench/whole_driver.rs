@@ -3,7 +3,7 @@
 //! A time is the best of some runs, the two maps in turn, of the time that the call took (`harness/phases.rs`); a multiple is the median of those
 //! that each round gave (`harness/rounds.rs`).
 //!
-//! With the word `count` each job runs once at a thousand pairs, for `bench/instructions`.
+//! With the word `count` each job runs once at a thousand pairs, for `bench/instructions.py`.
 mod harness;
 mod jobs;
 

@@ -18,7 +18,7 @@ function = re.compile(r"(?m)^ *(?:pub(?:\(\w+\))? )?(?:const )?fn ")
 
 
 def tell(text):
-    print(f"tools/build: {text}", file=sys.stderr, flush=True)
+    print(f"tools/build.py: {text}", file=sys.stderr, flush=True)
 
 
 def crates_below(name, uses):
@@ -71,7 +71,7 @@ def prove_all(crates):
         wrong = prove(crate, crate == crates[-1], lambda: tell(f"{crate} has taken {minutes(time.time() - begin)} so far, all {minutes(time.time() - start)}"))
         if wrong:
             print("\n".join(wrong), file=sys.stderr)
-            sys.exit(f"tools/build: {crate} could not be built")
+            sys.exit(f"tools/build.py: {crate} could not be built")
         now[crate] = time.time() - begin
         done += counts[crate]
         # A crate that was kept took almost no time, which says nothing of the next proof from nothing.
@@ -82,7 +82,7 @@ def prove_all(crates):
 
 def main():
     if not shutil.which("rt"):
-        sys.exit("tools/build: rt, the command of the Rattle toolchain, is not on the path")
+        sys.exit("tools/build.py: rt, the command of the Rattle toolchain, is not on the path")
     sources = subprocess.run([top / "tools/sources", name], stdout=subprocess.PIPE, text=True, check=True).stdout
     stamp = out / "sources"
     if (out / name).is_file() and stamp.is_file() and stamp.read_text() == sources:
@@ -102,4 +102,4 @@ def main():
 try:
     main()
 except KeyboardInterrupt:
-    sys.exit("tools/build: stopped; what is proved is kept")
+    sys.exit("tools/build.py: stopped; what is proved is kept")

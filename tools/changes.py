@@ -1,9 +1,9 @@
 #!/usr/bin/env python3
 """Compares the public surface at two commits: calls, what traits state of types, types, and the definitions and laws that callers' clauses and proofs name.
 
-  tools/changes [OLD [NEW]]   what was added, is gone, or has another signature or clause, with both texts, as CHANGELOG.md lists it; OLD: the commit of the
+  tools/changes.py [OLD [NEW]]   what was added, is gone, or has another signature or clause, with both texts, as CHANGELOG.md lists it; OLD: the commit of the
                               newest entry of CHANGELOG.md; NEW: the files that are here
-  tools/changes --check       (the gate) looks that each entry of CHANGELOG.md has its version and its commit, newest first, that the newest one's commit is behind
+  tools/changes.py --check       (the gate) looks that each entry of CHANGELOG.md has its version and its commit, newest first, that the newest one's commit is behind
                               this one, and that a section `## Unreleased` above it names all that is another since then. Where that commit is not in the
                               repository, or there is no repository, nothing is compared, which is told
 
@@ -68,7 +68,7 @@ def write_out(commit, folder):
     """Writes the sources of the library at a commit into a folder."""
     paths = [it for it in (git("ls-tree", "-r", "--name-only", commit, "crates/") or "").splitlines() if TAKEN.fullmatch(it)]
     if not paths:
-        sys.exit(f"tools/changes: {commit} is no commit that has the library")
+        sys.exit(f"tools/changes.py: {commit} is no commit that has the library")
     with tempfile.TemporaryFile() as archive:
         subprocess.run(["git", "-C", str(TOP), "archive", commit, *paths], stdout=archive, check=True)
         archive.seek(0)
@@ -173,7 +173,7 @@ def state(root):
     """What is public in the sources in a folder."""
     surface = Surface(root, ("fallible_collections", *BESIDE))
     if not (surface.top / "crates/fallible_collections/src").is_dir():
-        sys.exit("tools/changes: one of the commits has no crate fallible_collections")
+        sys.exit("tools/changes.py: one of the commits has no crate fallible_collections")
     items = items_of(surface)
     return State(items, definitions_of(surface, items), laws_of(surface))
 
@@ -330,7 +330,7 @@ def changelog():
     """The text of CHANGELOG.md."""
     file = TOP / "CHANGELOG.md"
     if not file.is_file():
-        sys.exit("tools/changes: CHANGELOG.md is not there")
+        sys.exit("tools/changes.py: CHANGELOG.md is not there")
     return file.read_text()
 
 
@@ -351,7 +351,7 @@ def check():
         return [], ""
     pieces = re.split(r"\n(?=- )|\n\n", text.partition("\n## Unreleased\n")[2].partition("\n## ")[0])
     missing = [it for it in names_changed(compared(state_at(commit), state_at(""))) if not is_named(it, pieces)]
-    return [f"CHANGELOG.md: `## Unreleased` does not name {name_of(it)}, which is another since {commit[:8]}: see tools/changes {commit[:8]}" for it in missing], ""
+    return [f"CHANGELOG.md: `## Unreleased` does not name {name_of(it)}, which is another since {commit[:8]}: see tools/changes.py {commit[:8]}" for it in missing], ""
 
 
 def main(words):
@@ -363,7 +363,7 @@ def main(words):
         return __doc__
     newest = COMMIT.search("" if words else changelog())
     if not words and not newest:
-        return "tools/changes: CHANGELOG.md has no entry"
+        return "tools/changes.py: CHANGELOG.md has no entry"
     print(report(compared(state_at(words[0] if words else newest[1]), state_at(words[1] if words[1:] else ""))))
     return None
 

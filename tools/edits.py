@@ -1,10 +1,10 @@
 #!/usr/bin/env python3
 """Wrong bodies that have no proof: crates/NAME/edits/*.edit, each of which the prover was seen to refuse, as the record tools/tried/NAME has it.
 
-  tools/edits                 (the gate) looks that every edit, of must-fail/ too, can still be applied, that each record holds the crate's edits
+  tools/edits.py                 (the gate) looks that every edit, of must-fail/ too, can still be applied, that each record holds the crate's edits
                               as they are, in the bodies as they are, over the clauses as they are, and that each long function and each call of users has an edit
-  tools/edits NAME..          tries the edits of these crates that their records do not hold, which are all once a clause changed, and writes the records
-  tools/edits --anew NAME..   tries all edits of these crates;  --all: of every crate
+  tools/edits.py NAME..          tries the edits of these crates that their records do not hold, which are all once a clause changed, and writes the records
+  tools/edits.py --anew NAME..   tries all edits of these crates;  --all: of every crate
   --by LOG NAME..             tries them by rt check --only of the functions that they change, which by LOG, of rt ci or rt check, were proved as they are:
                               the crate is not proved whole, which pays where few are left. It leaves out those that change more than bodies
   --jobs N                    is for rt check, which first proves the crate over what it kept
@@ -25,8 +25,8 @@ with what impls of std's traits state for them, traits, constants and definition
 Of each edit it holds a checksum of its text, one of the functions that it changes, without comments, gaps and what they ensure, and the function and the
 goal at which it was refused. A line is 'refused EDIT TEXT FUNCTIONS FUNCTION GOAL' or 'stated CRATE ITEM', sorted.
 No line says over which of the items its edit was tried: where two branches tried edits of a crate, each over clauses of its own, a merge of both records would
-say more than was tried. One branch's record is taken then, and tools/edits NAME tries what the other changed.
-WAITING beside the edits names edits that nobody has tried over the clauses as they are: the gate lets these wait, and tools/edits NAME tries them, and takes
+say more than was tried. One branch's record is taken then, and tools/edits.py NAME tries what the other changed.
+WAITING beside the edits names edits that nobody has tried over the clauses as they are: the gate lets these wait, and tools/edits.py NAME tries them, and takes
 out of WAITING those that were refused.
 """
 import hashlib
@@ -790,7 +790,7 @@ def not_tried(crate):
     wrong += [f"{len(untried)} of its {len(edits)} edits were not tried over what they, their functions and these call are: {listed(untried)}"] * bool(untried)
     missing = [name for name in refused if name not in edits]
     wrong += [f"its record has edits that are not there: {listed(missing)}"] * bool(missing)
-    return [f"{crate.name}: {it}: run tools/edits {crate.name}" for it in wrong]
+    return [f"{crate.name}: {it}: run tools/edits.py {crate.name}" for it in wrong]
 
 
 def main(words):

@@ -3,7 +3,7 @@
 enough, with none, and with words that are not one number; each example where its input fails; and talks to both programs as a person does, a line, its reply, and only
 then the next line: by pipes, and by a terminal.
 
-  tools/exits [PROGRAM [BYTES]]    looks at this one alone, in place of those that are built; with BYTES it is one that has a budget
+  tools/exits.py [PROGRAM [BYTES]]    looks at this one alone, in place of those that are built; with BYTES it is one that has a budget
 
 Its last line is 'N passed, M failed'."""
 import os

@@ -1,7 +1,7 @@
 #!/usr/bin/env python3
 """Sends random lines of each kind through the built program and through sorted lists (tools/judge.py), and compares each reply.
 
-  tools/fuzz SECONDS [SEED] [--memory] [--runs N] [--jobs N] [--program PATH] [--tally]
+  tools/fuzz.py SECONDS [SEED] [--memory] [--runs N] [--jobs N] [--program PATH] [--tally]
 
 Each run draws its lines from a seed of its own: SEED (else the time), SEED + 1, and so on, so that a run is had again by its seed. At an even seed
 memory is ample, and each reply has to be the one that the lists give. At an odd seed requests for memory are refused, of which the run draws the numbers.
@@ -16,7 +16,7 @@ odd one they are fewer, and each other of these runs has requests refused too. W
 
 It takes SECONDS. With --runs it goes on until there were N runs, and fails where a kind of line did not occur in them with each of its effects (of `remove`: the
 key is there, or not; a kind that may be refused: also that), or on a tree of some number of levels, or where no tree of three or of four levels lost most of its
-keys in each order. --tally prints how often each did. It takes all cores, or --jobs of them. --program has another program run than the one that tools/build built.
+keys in each order. --tally prints how often each did. It takes all cores, or --jobs of them. --program has another program run than the one that tools/build.py built.
 
 Where a reply or an ending differs, lines are dropped for as long as it still differs, in at most 60 seconds, and it prints the run's seed, the lines that are
 left, which can be sent to ./fcrun, the requests that are refused with them, what was wanted and what was told (of long texts the front). The last line is 'N passed, M failed', and the
@@ -579,7 +579,7 @@ def fuzz(program, words):
     for it in trials(program, words):
         if it.failed:
             lines = len(it.failed[0].lines)
-            print(f"Found by `tools/fuzz 1 {it.seed}{' --memory' if words.memory else ''}`, in {lines} lines; lines and refused requests are dropped for as long as what is told is wrong.", flush=True)
+            print(f"Found by `tools/fuzz.py 1 {it.seed}{' --memory' if words.memory else ''}`, in {lines} lines; lines and refused requests are dropped for as long as what is told is wrong.", flush=True)
             shrinking = Shrinking(program, *it.failed)
             shrinking.shrink()
             report(shrinking)

@@ -1,6 +1,6 @@
 """What the program is to do, by sorted lists: what each line makes of two maps and two sets, what may be refused, and what is wrong with a run.
 
-tools/fuzz and tools/refusals judge by it. It follows docs/COMMANDS.md, and shares no code with the program.
+tools/fuzz.py and tools/refusals.py judge by it. It follows docs/COMMANDS.md, and shares no code with the program.
 
 A refusal that is told is followed so: the command is one that may be refused there, the reply hands back what it was given, and what stood before it stands behind it.
 A refused extension alone leaves the pairs before one of those at which it may be refused; which one is told by the lines that follow.

@@ -1,7 +1,7 @@
 #!/usr/bin/env python3
 """Runs the built program, and both programs of rows, on maps and sets of 100,000 and of 1,000,000 items, beside sorted lists: none is refused.
 
-  tools/large [SIZE..]
+  tools/large.py [SIZE..]
 
 No clause says that a call with ample memory is done: one that refuses where there are more than 65,536 pairs is proved. So each call that takes memory is made at
 these sizes, by keys in ascending order and in one that jumps: what it replies, how many there are after it, and all that is there are as reasoning says. The texts of

@@ -59,7 +59,7 @@ def statements(path, names):
         shown.append("  " + " ".join(it.strip() for it in lines[at : end + 1]).removeprefix("pub "))
     for name in names:
         if name not in found:
-            sys.exit(f"tools/laws: {path} has no law {name}")
+            sys.exit(f"tools/laws.py: {path} has no law {name}")
     return shown
 
 
@@ -84,11 +84,11 @@ for file in ("proofs/Laws.antt", "specs/Words.antt"):
     shared = {crate for crate, _ in part}
     for module in {it for it in whole if it[0] in shared} | {*part}:
         if differing := {*whole.get(module, ())} ^ {*part.get(module, ())}:
-            sys.exit(f"tools/laws: one of fallible_collections and fc_laws hands on {', '.join(sorted(differing))} of {'.'.join(module)}, and the other does not")
+            sys.exit(f"tools/laws.py: one of fallible_collections and fc_laws hands on {', '.join(sorted(differing))} of {'.'.join(module)}, and the other does not")
 
 text = PAGE.read_text()
 new = re.sub(r"(?s)(<!-- laws -->\n).*?(<!-- end of laws -->)", lambda it: f"{it[1]}\n{lists()}\n{it[2]}", text)
 if new != text:
     if "--write" not in sys.argv:
-        sys.exit("docs/LAWS.md does not list the laws as the sources have them: tools/laws --write")
+        sys.exit("docs/LAWS.md does not list the laws as the sources have them: tools/laws.py --write")
     PAGE.write_text(new)

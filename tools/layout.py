@@ -1,5 +1,6 @@
 #!/usr/bin/env python3
-"""Looks that each source file is in the layout that `rt fmt` gives it, on a copy; the gate refuses a crate that is not, once it comes to it."""
+"""Looks that each source file is in the layout that `rt fmt` gives it, on a copy, and that no file is a link. The gate refuses a crate that is not, once it
+comes to it, and at once a tree that has a link: `rt ci` with names of crates does not look."""
 import filecmp
 import pathlib
 import shutil
@@ -8,7 +9,7 @@ import sys
 import tempfile
 
 top = pathlib.Path(__file__).resolve().parent.parent
-wrong = []
+wrong = [f"{it.relative_to(top)} is a link, which rt ci refuses" for it in top.rglob("*") if it.is_symlink() and it.relative_to(top).parts[0] != ".git"]
 with tempfile.TemporaryDirectory() as folder:
     room = pathlib.Path(folder)
     shutil.copy(top / "crates.txt", room)

@@ -17,7 +17,7 @@ A number ahead of '<!-- NAME -->' is one that `numbers` below counts. Between '<
 fallible_collections.specs.Words does not hand on, of 'stands' the crates below and above, of 'costs' what the proofs of the examples are, of 'crates' what
 the README of each crate of the library says first, of 'promises' what it says is proved, only tested or neither, of 'std' what stands for calls of std's collections, by tools/std.txt.
 docs/GALLERY.md leads to each example, whose READMEs have the same headings. A file's path starts at the top of the repository. An indented line of crates.txt is as it stands there. Paths that pages name or lead to are there. Rust stands on a page as a quotation, and the paragraph above
-an excerpt leads to the page, or the source, that has the whole; tools/pasted proves what is whole as it stands. And it looks that what docs/PROMISES.md names behind each wrong body, and behind each call that takes
+an excerpt leads to the page, or the source, that has the whole; tools/pasted.py proves what is whole as it stands. And it looks that what docs/PROMISES.md names behind each wrong body, and behind each call that takes
 memory, is there: an edit CRATE/edits/NAME or CRATE/must-fail/NAME, a test CRATE::NAME, a file lines/NAME or tools/NAME, or a text 'CRATE/FILE: TEXT'; and
 that it lists just those calls that take memory which are public: functions of the crates that `fallible_collections` hands on whose answer has an error of
 a refused request, under the name of their type or trait."""
@@ -41,7 +41,7 @@ def functions(path, names, keeps_clauses):
     for name in names:
         starts = [i for i, line in enumerate(lines) if (it := function.match(line.strip())) and it[1] == name]
         if len(starts) != 1:
-            sys.exit(f"tools/pages: {path} has {len(starts)} functions {name}")
+            sys.exit(f"tools/pages.py: {path} has {len(starts)} functions {name}")
         start = starts[0]
         indent = len(lines[start]) - len(lines[start].lstrip())
         end = next(i for i in range(start, len(lines)) if lines[i] == " " * indent + "}")
@@ -183,11 +183,11 @@ def clauses_of(path, name, wanted):
     lines = read(path)
     starts = [at for at, line in enumerate(lines) if (it := function.match(line.strip())) and it[1] == name]
     if len(starts) != 1:
-        sys.exit(f"tools/pages: {path} has {len(starts)} functions {name}")
+        sys.exit(f"tools/pages.py: {path} has {len(starts)} functions {name}")
     call, _ = call_at(lines, starts[0], "", name)
     named = {re.match(r"\w+\*? ?(\w*)", it)[1]: it for it in call.clauses}
     if lacking := [it for it in wanted if it not in named]:
-        sys.exit(f"tools/pages: {name} of {path} has no clause {lacking[0]}")
+        sys.exit(f"tools/pages.py: {name} of {path} has no clause {lacking[0]}")
     return "\n".join([call.line, *("    " + named[it] for it in wanted)])
 
 
@@ -195,7 +195,7 @@ def literal(path, name):
     """The text of a constant of this name, which has no escapes."""
     found = re.search(rf'const {name}: &str = "([^"\\]*)";', "\n".join(read(path)))
     if not found:
-        sys.exit(f"tools/pages: {path} has no constant {name}")
+        sys.exit(f"tools/pages.py: {path} has no constant {name}")
     return found[1].rstrip("\n")
 
 
@@ -290,7 +290,7 @@ def below(crate):
 
 
 def taken_with(crate):
-    """The crates that `tools/take` takes with one: all below it, and with the map the laws on maps."""
+    """The crates that `tools/take.py` takes with one: all below it, and with the map the laws on maps."""
     found = below(crate)
     return found | below("fc_laws") if "fc_map" in found and (top / "crates/fc_laws").exists() else found
 

@@ -1,10 +1,10 @@
 #!/usr/bin/env python3
 """Proves the code of the pages where a user pastes it, as it stands there.
 
-  tools/pasted [NAME..]      NAME: what is taken, fallible_collections or fc_map, and both without names
+  tools/pasted.py [NAME..]      NAME: what is taken, fallible_collections or fc_map, and both without names
 
-For each it makes a repository with `tools/take` in a temporary folder, and reads the pages that came along. Each of their links has to lead somewhere there,
-and each path that they name of the crates that were taken. Of what tools/pages quotes whole, `imports` with the `proved` below them are a file, and so is each
+For each it makes a repository with `tools/take.py` in a temporary folder, and reads the pages that came along. Each of their links has to lead somewhere there,
+and each path that they name of the crates that were taken. Of what tools/pages.py quotes whole, `imports` with the `proved` below them are a file, and so is each
 `caller`, of a crate whose line of crates.txt is the page's own, or else that of docs/USING.md; what has a `main` is a program. Of the map alone it takes the
 pages with imports from its own crates.
 `rt ci` there proves these crates: the library it takes over from what this machine kept when the gate proved it. A kit that keeps nothing would prove it
@@ -128,7 +128,7 @@ def tried(taken):
     """Proves the code of all pages that come with one taking. Answers how many functions are proved, and how much is wrong."""
     with tempfile.TemporaryDirectory() as folder:
         repository = pathlib.Path(folder)
-        took = subprocess.run([top / "tools/take", folder, taken], capture_output=True, text=True)
+        took = subprocess.run([top / "tools/take.py", folder, taken], capture_output=True, text=True)
         if took.returncode:
             print(f"{taken}: {took.stderr}")
             return 0, 1

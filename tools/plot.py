@@ -1,8 +1,8 @@
 #!/usr/bin/env python3
 """Draws figures of docs/PERFORMANCE.md as multiples of std's: docs/multiples.svg (instructions) and docs/times.svg (times by size).
 
-  tools/plot            fails where a drawing is not that of the tables
-  tools/plot --write    draws both"""
+  tools/plot.py            fails where a drawing is not that of the tables
+  tools/plot.py --write    draws both"""
 import pathlib
 import re
 import sys
@@ -26,7 +26,7 @@ def table(name):
     """The rows of a table of the page, as lists of cells, its head first."""
     found = re.search(rf"(?ms)^<!-- table: {re.escape(name)} -->\n(.*?)^<!-- end -->$", PAGE)
     if not found:
-        sys.exit(f"tools/plot: docs/PERFORMANCE.md has no table '{name}'")
+        sys.exit(f"tools/plot.py: docs/PERFORMANCE.md has no table '{name}'")
     rows = [[cell.strip().replace("`", "") for cell in re.split(r"(?<!\\)\|", line)[1:-1]] for line in found[1].splitlines()]
     return [rows[0], *rows[2:]]
 
@@ -110,7 +110,7 @@ for file, title, (groups, legend) in [
 ]:
     text, path = drawing(title, groups, legend), top / "docs" / file
     if not path.is_file() or path.read_text() != text:
-        wrong.append(f"docs/{file} is not drawn from docs/PERFORMANCE.md as it is: tools/plot --write")
+        wrong.append(f"docs/{file} is not drawn from docs/PERFORMANCE.md as it is: tools/plot.py --write")
         if "--write" in sys.argv:
             path.write_text(text)
 if wrong and "--write" not in sys.argv:

@@ -1,7 +1,7 @@
 #!/usr/bin/env python3
 """Shows how far `rt ci` is: a line for each crate that is done, and in full what failed. Its last line is that of `rt ci`.
 
-  rt ci 2>&1 | tools/progress LOG      LOG gets all that `rt ci` wrote"""
+  rt ci 2>&1 | tools/progress.py LOG      LOG gets all that `rt ci` wrote"""
 import pathlib
 import re
 import sys
@@ -41,6 +41,9 @@ def main():
             said = re.sub(r"^rt: |, and wrote what its file stdout has|: an earlier run .*", "", last)
             tests = f", tests of {done['tests']} of {wanted['tests']}" if done["tests"] else ""
             print(f"{minutes:3}:{seconds:02}  {said}  [{done['proved']} of {wanted['proved']} crates{tests}]", flush=True)
+    # What stopped it before it came to a crate.
+    if not any(done.values()):
+        print("\n".join(block[-20:-1]), flush=True)
     print(last)
 
 

@@ -1,7 +1,7 @@
 #!/usr/bin/env python3
 """Whether proofs are written as a reader likes them. It prints what is not, a line each, and then fails.
 
-  tools/proofs
+  tools/proofs.py
 
 No line of a proof is longer than 160 characters. In a file of answers no line of more than 60 characters stands three times: what several answers need is a
 lemma. And somebody cites each lemma, except those that stand for readers and callers: laws, worked examples, and what the sizes are to one another.

@@ -18,8 +18,8 @@ CRATES = sorted(pathlib.Path("crates").iterdir())
 # where they are built. One that passes in a trial has not looked at what it is to show.
 ONLY_BUILT = "_not_in_a_trial"
 LOOKS = (
-    *("tools/layout", "tools/counts", "tools/statements", "tools/pages", "tools/laws", "tools/words", "tools/plot", "tools/site", "tools/edits"),
-    "tools/release",
+    *("tools/layout.py", "tools/counts.py", "tools/statements.py", "tools/pages.py", "tools/laws.py", "tools/words.py", "tools/plot.py", "tools/site.py", "tools/edits.py"),
+    "tools/release.py",
 )
 
 

@@ -2,7 +2,7 @@
 """Runs lines of each kind that may be refused through the built program with each request for memory refused in turn, and judges each run by sorted lists
 (tools/judge.py).
 
-  tools/refusals [--program PATH] [--probe PATH] [--memory PATH]
+  tools/refusals.py [--program PATH] [--probe PATH] [--memory PATH]
 
 A case fills maps or sets, so that their trees have no, one, two, three or four levels, has one command, and then counts and lists all that is there. From the command's first
 request on each is refused in turn, and then all from that one on, and at last all behind the command's: the command has to be done or told as refused, what stands after it has

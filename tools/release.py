@@ -1,12 +1,12 @@
 #!/usr/bin/env python3
-"""Makes an archive of the library with what was proved of it, from which `tools/take --from` takes.
+"""Makes an archive of the library with what was proved of it, from which `tools/take.py --from` takes.
 
-  tools/release --write FOLDER [--gate LOG]   makes FOLDER/fallible_collections-VERSION-KIT.tar.zst, or .tar.xz where there is no zstd; LOG: what ./test printed
-  tools/release --over                        tells the commit and the kit, as ./test prints them
-  tools/release                               (the gate) looks that what comes from an archive is what comes from the checkout, and proves nothing
+  tools/release.py --write FOLDER [--gate LOG]   makes FOLDER/fallible_collections-VERSION-KIT.tar.zst, or .tar.xz where there is no zstd; LOG: what ./test printed
+  tools/release.py --over                        tells the commit and the kit, as ./test prints them
+  tools/release.py                               (the gate) looks that what comes from an archive is what comes from the checkout, and proves nothing
 
 VERSION is that of CHANGELOG.md's newest heading of a version, KIT the first word of `rt version`. The checkout has to be as its commit is, and its crates as
-in the commit that the heading's section names, if it names one. Archived are the crates of the library as `tools/take` takes them, with their pages, that
+in the commit that the heading's section names, if it names one. Archived are the crates of the library as `tools/take.py` takes them, with their pages, that
 script, and what is proved of them: `rt ci` takes over what this machine kept of the crates, as after ./test, and proves the others from nothing. `rt check`
 goes on from that once a stamp says what it was made of, which the kit's own code makes; a crate that names all of them is checked as a trial.
 RELEASE in it has the commit, the kit, what `rt ci` and the gate said (that it was not seen, where no LOG is given) and the checksum of each file."""
@@ -41,7 +41,7 @@ def command_of_kit():
 
 
 def stop(text):
-    sys.exit(f"tools/release: {text}")
+    sys.exit(f"tools/release.py: {text}")
 
 
 def git(*words):
@@ -96,7 +96,7 @@ def stage(folder):
     """Copies what the archive has but proofs. Answers the crates."""
     lines = take.lines_of(top)
     crates = take.library(lines)
-    files = [*take.sources(top, crates).values(), top / "tools/take", *top.glob("CHANGELOG.md")]
+    files = [*take.sources(top, crates).values(), top / "tools/take.py", *top.glob("CHANGELOG.md")]
     for file in files:
         to = folder / file.relative_to(top)
         to.parent.mkdir(parents=True, exist_ok=True)
@@ -190,7 +190,7 @@ def pack(folder, archive, level):
     def plain(it):
         it.uid = it.gid = 0
         it.uname = it.gname = ""
-        it.mtime, it.mode = seconds, 0o755 if it.name.endswith("/tools/take") else 0o644
+        it.mtime, it.mode = seconds, 0o755 if it.name.endswith("/tools/take.py") else 0o644
         return it
 
     with packing(archive, level) as tar:
@@ -236,7 +236,7 @@ def differing(room, archive, script, asked, keeps):
     own = other / "crates/own/out/rlib/stamp"
     own.parent.mkdir(parents=True)
     own.touch()
-    for words in ([top / "tools/take", one], [sys.executable, script, "--from", archive, other]):
+    for words in ([top / "tools/take.py", one], [sys.executable, script, "--from", archive, other]):
         is_well, said = ran(*words, *asked)
         if not is_well:
             return [said]
@@ -282,7 +282,7 @@ def check():
             archive = room / f"{asked[0]}.tar.{ending()}"
             seal(folder, {"commit": take.commit(top), "kit": kit, "gate": "not seen"})
             pack(folder, archive, FAST)
-            script.write_bytes(next(content for path, content in take.files_in(archive) if path == "tools/take"))
+            script.write_bytes(next(content for path, content in take.files_in(archive) if path == "tools/take.py"))
             wrong += differing(room, archive, script, asked, keeps=kit != "another")
         return wrong + refusals(room, folder, script)
 
@@ -292,7 +292,7 @@ def main(words):
         return print(over())
     if not words:
         wrong = check()
-        return sys.exit("\n".join([f"tools/release: {len(wrong)} differ or are wrong", *wrong[:20]]) if wrong else 0)
+        return sys.exit("\n".join([f"tools/release.py: {len(wrong)} differ or are wrong", *wrong[:20]]) if wrong else 0)
     if words[0] != "--write" or len(words) not in (2, 4) or words[2:3] not in ([], ["--gate"]):
         return sys.exit(__doc__)
     if not os.path.isdir(words[1]):

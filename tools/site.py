@@ -1,10 +1,10 @@
 #!/usr/bin/env python3
 """Makes a site of the library's calls, words and pages, as plain HTML that opens from a folder.
 
-  tools/site [--check]         makes it and writes nothing; it fails at a link that leads nowhere, a word of a contract without a definition, a public call
+  tools/site.py [--check]         makes it and writes nothing; it fails at a link that leads nowhere, a word of a contract without a definition, a public call
                                without a text, and HTML that is not well-formed
-  tools/site --write FOLDER    makes it in a folder, which is new, empty or of an earlier site
-  tools/site --browser FOLDER  opens each page of a site in headless chromium and looks for errors, and whether the search finds its way
+  tools/site.py --write FOLDER    makes it in a folder, which is new, empty or of an earlier site
+  tools/site.py --browser FOLDER  opens each page of a site in headless chromium and looks for errors, and whether the search finds its way
 
 What is public is read from what `fallible_collections` hands on, and from the crates beside it; texts and contracts from the sources, definitions from
 `specs/`, guides from the repository's pages. tools/site_pages/ has its parts, and toolchain.txt there what words of the toolchain mean."""
@@ -42,11 +42,11 @@ def made():
 def write(folder, site, pictures):
     """Puts the site into a folder, in the place of an earlier one."""
     if folder.exists() and not folder.is_dir():
-        sys.exit(f"tools/site: {folder} is no folder")
+        sys.exit(f"tools/site.py: {folder} is no folder")
     folder.mkdir(parents=True, exist_ok=True)
     there = [it.name for it in folder.iterdir()]
     if there and "search.js" not in there:
-        sys.exit(f"tools/site: {folder} has files that are of no earlier site")
+        sys.exit(f"tools/site.py: {folder} has files that are of no earlier site")
     for it in folder.glob("*.html"):
         it.unlink()
     for name, text in site.pages.items():
@@ -66,7 +66,7 @@ def main(asked):
         sys.exit(__doc__)
     site, pictures, wrong = made()
     if wrong:
-        sys.exit("\n".join(f"tools/site: {it}" for it in wrong))
+        sys.exit("\n".join(f"tools/site.py: {it}" for it in wrong))
     if asked[:1] == ["--write"]:
         write(pathlib.Path(asked[1]), site, pictures)
     calls = sum(it[3] == "call" for it in site.names)

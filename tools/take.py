@@ -1,9 +1,9 @@
 #!/usr/bin/env python3
 """Takes the library, or crates of it, into another repository, and brings what was taken before up to date.
 
-  tools/take FOLDER [CRATE..]     CRATE: fallible_collections (the default at the first time), one of the crates that it stands on, or of those beside it
-  tools/take --from ARCHIVE FOLDER [CRATE..]    the same from an archive that tools/release made, with what was proved of the crates
-  tools/take --check FOLDER       tells which files are not as they were taken
+  tools/take.py FOLDER [CRATE..]     CRATE: fallible_collections (the default at the first time), one of the crates that it stands on, or of those beside it
+  tools/take.py --from ARCHIVE FOLDER [CRATE..]    the same from an archive that tools/release.py made, with what was proved of the crates
+  tools/take.py --check FOLDER       tells which files are not as they were taken
 
 Each crate comes with all that it stands on: sources, definitions, proofs, pages and its line of crates.txt; without tests and wrong bodies. Budgets come
 with each, and with the map the laws on maps for callers and the bounds on a map's bytes. README.md, CHANGELOG.md and docs/ come as FOLDER/crates/fc_base/docs. In each page a link leads to where its page or file was taken to,
@@ -33,7 +33,7 @@ origin = f"*Taken with the library: what this page names and is not here stands 
 
 
 def stop(text):
-    sys.exit(f"tools/take: {text}")
+    sys.exit(f"tools/take.py: {text}")
 
 
 def checksum(content):
@@ -189,13 +189,13 @@ def take(top, to, asked):
     gone = [path for path in known_sums if path not in files]
     count, now = write(to, files, lines, gone, [known_lines[it] for it in known_lines if it not in lines]), commit(top)
     sums = "".join(f"{checksum(content)}  {path}\n" for path, content in files.items())
-    said = "# Taken by tools/take of fallible_collections for Rattle, as of the commit below. To see whether all is as it was taken, in crates/:\n"
+    said = "# Taken by tools/take.py of fallible_collections for Rattle, as of the commit below. To see whether all is as it was taken, in crates/:\n"
     said += f"#   sha256sum --quiet -c {home}/TAKEN\n# commit {now}\n" + "".join(f"# line {line}\n" for line in lines.values())
     (to / "crates" / home / "TAKEN").write_text(said + sums)
     before = f" (before: {known_commit})" if known_commit else ""
     print(f"took {len(crates)} crates of commit {now}{before}: {' '.join(crates)}")
     print(f"{count} of {len(files)} files were written, the others stood there as they are, and {len(gone)} were removed; crates.txt has a line for each crate")
-    print(f"to see that all is in place: tools/take --check {to}; crates/{home}/docs/USING.md there has the line of crates.txt for a crate of yours")
+    print(f"to see that all is in place: tools/take.py --check {to}; crates/{home}/docs/USING.md there has the line of crates.txt for a crate of yours")
     return crates
 
 
@@ -242,7 +242,7 @@ def files_in(archive, is_wanted=lambda path: True):
                     held(archive, path, content, sums)
                     yield path, content
     except (tarfile.TarError, lzma.LZMAError, EOFError, OSError, UnicodeDecodeError) as error:
-        stop(f"{archive} is damaged, or no archive of tools/release: {error}")
+        stop(f"{archive} is damaged, or no archive of tools/release.py: {error}")
 
 
 def unpack(archive, room):
@@ -253,7 +253,7 @@ def unpack(archive, room):
         (room / path).parent.mkdir(parents=True, exist_ok=True)
         (room / path).write_bytes(content)
     if not (room / "RELEASE").is_file():
-        stop(f"{archive} is no archive of tools/release: it has no RELEASE")
+        stop(f"{archive} is no archive of tools/release.py: it has no RELEASE")
     said, sums = release_of((room / "RELEASE").read_text())
     # (an archive that was cut may end between two files)
     stop_if_lacking(archive, {path for path in sums if not proof_of.match(path) and not (room / path).is_file()})

@@ -1,9 +1,9 @@
 #!/usr/bin/env python3
 """What the gate costs.
 
-  tools/times ./test                  runs a command of the toolchain and tells the processor time that its checks took, crate by crate
-  tools/times --write ./test --anew   and writes it into docs/GATE.md and docs/USING.md, if the command proved all from nothing and ended well
-  tools/times --told LOG              what ./test says at its start, of the figures in docs/GATE.md
+  tools/times.py ./test                  runs a command of the toolchain and tells the processor time that its checks took, crate by crate
+  tools/times.py --write ./test --anew   and writes it into docs/GATE.md and docs/USING.md, if the command proved all from nothing and ended well
+  tools/times.py --told LOG              what ./test says at its start, of the figures in docs/GATE.md
 
 It looks several times a second at the checks that descend from the command, and at no other on the machine, so each figure lacks a
 fraction of a second a check. What is no check of a crate (compilers, tests, the sweep) is told in one sum."""
@@ -155,9 +155,9 @@ def main():
         written("figures", told(figures))
         written("by crate", table(sums))
         first_checks(sums)
-        subprocess.run(["tools/pages", "--write"], check=False)  # pages that tell these minutes
+        subprocess.run(["tools/pages.py", "--write"], check=False)  # pages that tell these minutes
     elif is_written:
-        print(f"tools/times: {PAGE} is left as it is: " + (f"status {status}" if status else f"no proof was seen of {' '.join(lacking)}"))
+        print(f"tools/times.py: {PAGE} is left as it is: " + (f"status {status}" if status else f"no proof was seen of {' '.join(lacking)}"))
     return sys.exit(status)
 
 

@@ -2,7 +2,7 @@
 """Counts the words of README.md, CHANGELOG.md and docs/*.md that people write, and looks that they stay readable.
 
 It fails where all pages have more than 15,000 words together, where a line of prose has more than 100 characters, and where a cell of a table has more than 25 words.
-What scripts write counts nowhere: code that tools/pages quotes, and the tables between marks that another script fills. Blocks of code and addresses may be wide.
+What scripts write counts nowhere: code that tools/pages.py quotes, and the tables between marks that another script fills. Blocks of code and addresses may be wide.
 With --each it prints how many words each page has."""
 import pathlib
 import re
@@ -12,8 +12,8 @@ MOST_WORDS, MOST_CHARACTERS, MOST_IN_CELL = 15_000, 100, 25
 top = pathlib.Path(__file__).resolve().parent.parent
 QUOTED = re.compile(r"(?ms)^<!-- (?:code|body|proved|caller|imports|contracts|clauses|literal|lines|file): [^\n]+ -->\n```\w*\n.*?^```$")
 WRITTEN = re.compile(r"(?ms)^<!-- (figures|by crate|table: [^\n]+|stack|laws|costs|crates|promises|std|calls on one key|definitions below|definitions of proofs) -->\n.*?^<!-- end(?: of \1)? -->$")
-NUMBERED = re.compile(r"(?m)^\| \d+ \| (?=`crates/.* \| \d+ \|)")  # rows that tools/statements numbers
-COMPARED = re.compile(r"(?m)^ {6}(?:was |is  |new |gone) .*$")  # clauses that tools/changes lists
+NUMBERED = re.compile(r"(?m)^\| \d+ \| (?=`crates/.* \| \d+ \|)")  # rows that tools/statements.py numbers
+COMPARED = re.compile(r"(?m)^ {6}(?:was |is  |new |gone) .*$")  # clauses that tools/changes.py lists
 FENCED = re.compile(r"(?ms)^```.*?^```$")
 wrong, total = [], 0
 

@@ -1,4 +1,4 @@
-//! Jobs that run once, for `bench/instructions`, which counts what happens between their marks.
+//! Jobs that run once, for `bench/instructions.py`, which counts what happens between their marks.
 use super::phases::phases;
 use super::rounds::Runs;
 use std::hint::black_box;

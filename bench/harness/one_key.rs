@@ -98,7 +98,7 @@ pub fn print_times(rows: &[Row], keys: &Keys, rounds: usize, runs: [Run; 2]) {
     }
 }
 
-/// Makes the job of each row once on one side, for `bench/instructions`.
+/// Makes the job of each row once on one side, for `bench/instructions.py`.
 pub fn count(rows: &[Row], keys: &Keys, who: usize, run: Run) {
     for (end, rows) in by_end(rows) {
         let mut names = [("", 0); 4];

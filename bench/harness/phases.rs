@@ -65,7 +65,7 @@ fn now() -> f64 {
     time.seconds as f64 * 1e9 + time.nanoseconds as f64
 }
 
-/// Ends a phase. `bench/instructions` looks for calls of it.
+/// Ends a phase. `bench/instructions.py` looks for calls of it.
 #[inline(never)]
 pub fn mark() {
     let ended = now();

@@ -1,1 +1,1 @@
-"""What `tools/site` is made of: readers of sources and definitions, and writers of pages."""
+"""What `tools/site.py` is made of: readers of sources and definitions, and writers of pages."""

@@ -49,10 +49,10 @@ look().catch((wrong) => { document.getElementById("told").textContent = JSON.str
 def main(folder):
     program = next((it for it in map(shutil.which, ("chromium", "chromium-browser", "google-chrome")) if it), None)
     if program is None:
-        sys.exit("tools/site: chromium is not on the path (Debian has it as `chromium`)")
+        sys.exit("tools/site.py: chromium is not on the path (Debian has it as `chromium`)")
     pages = sorted(it.name for it in folder.glob("*.html"))
     if not pages:
-        sys.exit(f"tools/site: {folder} has no pages; tools/site --write {folder} makes them")
+        sys.exit(f"tools/site.py: {folder} has no pages; tools/site.py --write {folder} makes them")
     with tempfile.TemporaryDirectory() as inside:
         test = pathlib.Path(inside) / "test.html"
         test.write_text(TEST % (json.dumps(pages), json.dumps(WIDTHS), json.dumps(SOUGHT), json.dumps(folder.resolve().as_uri() + "/")))
@@ -62,5 +62,5 @@ def main(folder):
     wrong = json.loads(found[1]) if found and found[1] else ["the test did not end"]
     wrong += [f"the console: {it}" for it in re.findall(r"CONSOLE[^\n]*?\] (.*)", run.stderr)]
     if wrong:
-        sys.exit("\n".join(f"tools/site: {it}" for it in wrong))
+        sys.exit("\n".join(f"tools/site.py: {it}" for it in wrong))
     print(f"{len(pages)} pages open at {' and '.join(map(str, WIDTHS))} pixels without an error, and the search finds its way")

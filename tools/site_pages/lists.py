@@ -19,7 +19,7 @@ def first_page(site):
     page = markdown.Page(lead)
     opening = page.html(site.titled(readme[: readme.index("\nIts line of")], "README.md"))
     wants = re.search(r"(?ms)^## I want to\n(.*?)(?=^## )", readme)
-    wishes = [it for it in re.split(r"(?m)^(?=- )", wants[1] if wants else "") if "tools/site" not in it]  # who reads this has it
+    wishes = [it for it in re.split(r"(?m)^(?=- )", wants[1] if wants else "") if "tools/site.py" not in it]  # who reads this has it
     start = markdown.Page(lead).html(site.titled("".join(wishes), "README.md"))
     body = [opening, f'<p><a class="more" href="{site.guides["README.md"]}">How to try it, and what is proved</a></p>']
     body.append(f'<h2 id="start">I want to</h2>{start}')

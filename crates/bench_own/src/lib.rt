@@ -1,4 +1,4 @@
-//! The jobs of `bench_jobs` on one key, over the toolchain's own ordered map, for `bench/own`.
+//! The jobs of `bench_jobs` on one key, over the toolchain's own ordered map, for `bench/own.py`.
 #![tactic(auto)]
 
 use std::alloc::Global;
