@@ -19,7 +19,7 @@ UNCOUNTED = {
     "fc_base/src/count.rt": {"compare"},
     "fc_base/src/query.rt": {"order_of", "compare_slices"},
     # the searches for the ends of a range, and whether it is one
-    "fc_tree_walk/src/cuts.rt": {"first_not_below", "first_above"},
+    "fc_tree_cursor/src/cuts.rt": {"first_not_below", "first_above"},
     "fc_map/src/map/bounds.rt": {"is_range"},
     # items that ascend, put behind the last, whose comparisons no contract tells of
     "fc_tree_build/src/growing.rt": {"is_behind"},
@@ -46,13 +46,13 @@ OWN = {
     # pairs that come into nodes which no map holds yet
     "fc_tree_build/src/spine.rt": {"put_pair"},
     "fc_tree_copy/src/copy.rt": {"try_copy_pairs"},
-    # a whole tree is hung on another, whose moves nothing promises
-    "fc_tree_append/src/hanging.rt": {"hang", "hang_below"},
-    "fc_tree_append/src/join.rt": {"join", "crown"},
-    # pairs asked in turn, and the tree mended after, whose moves nothing promises
-    "fc_tree_retain/src/mending.rt": {"join"},
-    "fc_tree_retain/src/sifting.rt": {"sift_own", "sift_between", "remove_behind", "take_last"},
-    "fc_tree_retain/src/within.rt": {"sift_behind", "take_last_of_thin"},
+    # a whole tree is grafted on another, whose moves nothing promises
+    "fc_tree_append/src/grafting.rt": {"graft", "graft_below"},
+    "fc_tree_append/src/join.rt": {"join", "join_under_root"},
+    # pairs asked in turn, and the tree rebalanced after, whose moves nothing promises
+    "fc_tree_retain/src/rebalancing.rt": {"join"},
+    "fc_tree_retain/src/filtering.rt": {"filter_own", "filter_between", "remove_behind", "take_last"},
+    "fc_tree_retain/src/within.rt": {"filter_after", "take_last_of_thin"},
     # the set operations, whose comparisons of items of two sets nothing promises
     "fc_set/src/set.rt": {"order_of"},
 }

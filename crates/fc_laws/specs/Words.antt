@@ -33,7 +33,7 @@ pub use Rattle.fc_map.specs.Reservation.{Places, reservation_error}
 pub use Rattle.fc_map.specs.Walks.{deref_pair, keys_of, values_of}
 pub use Rattle.fc_map.specs.Writing.{Stretch, whole, starting, wrote_first, wrote_last, wrote, wrote_all, set_value}
 pub use Rattle.fc_map.specs.Stretches.{range_map_ref, stretch, iter_map_ref, iter_stretch, IsFirstValue, IsLastValue, IsFirstPair, IsLastPair, CalledAtPair, IsVisitedIn, range_lends_first, range_lends_last, iter_lends_first, iter_lends_last, range_lends_first_in, range_lends_last_in, iter_lends_first_in, iter_lends_last_in}
-pub use Rattle.fc_tree_visit.specs.Visits.{VisitsInTurn}
+pub use Rattle.fc_tree_for_each.specs.Visits.{VisitsInTurn}
 pub use Rattle.fc_tree_retain.specs.Retained.{RetainsInTurn, AskedAtPair, GivenPair, ExtractsBy}
 pub use Rattle.fc_map.specs.PopIf.{AskedOnceAtPair, IsFirstNotPicked, IsLastNotPicked}
 pub use Rattle.fc_map.specs.Ranged.{in_front, behind, outside, replacing}

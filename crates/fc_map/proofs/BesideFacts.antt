@@ -15,7 +15,7 @@ use Rattle.fc_tree_node.specs.TreePlace.{IsPlaceIn, pair_in, before_pair_in, aft
 use Rattle.fc_tree_node.proofs.Gaps.{place_pairs}
 use Rattle.fc_tree_search.specs.Neighbours.{not_above}
 use Rattle.fc_tree_search.proofs.WrittenPairs.{written_pairs}
-use Rattle.fc_tree_walk.proofs.Bounds.{same_cut}
+use Rattle.fc_tree_cursor.proofs.Bounds.{same_cut}
 use Rattle.fc_map.specs.Entries.{Map, entries, IsSoundMap}
 use Rattle.fc_map.specs.Lends.{written_in}
 

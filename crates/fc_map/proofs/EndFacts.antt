@@ -11,16 +11,16 @@ use Rattle.fc_tree_node.specs.Place.{IsPlace, before_pair, after_pair}
 use Rattle.fc_tree_node.proofs.Gaps.{gap_pairs, place_pairs, take_item}
 use Rattle.fc_tree_node.proofs.Lists.{length_take}
 use Rattle.fc_map.specs.Entries.{Map, entries, IsSoundMap}
-use Rattle.fc_tree_walk.specs.Gap.{IsGapIn, AreEndsIn, zeros}
+use Rattle.fc_tree_cursor.specs.Gap.{IsGapIn, AreEndsIn, zeros}
 use Rattle.fc_tree_search.specs.Written.{set_value}
 use Rattle.fc_map.specs.Writing.{Stretch, wrote_first, wrote_last}
 use Rattle.fc_map.proofs.ShapeFacts.{gap_stays, entries_written}
 use Rattle.fc_tree_node.specs.TreePlace.{IsPlaceIn, pair_in, before_gap_in, before_pair_in}
 use Rattle.fc_map.specs.Lends.{branch, written_in}
-use Rattle.fc_tree_visit.specs.Leaf.{gone_on}
-use Rattle.fc_tree_visit.proofs.LeafFacts.{on_length, on_none, on_again, on_last, on_parts, gap_near}
-use Rattle.fc_tree_walk.proofs.Meetings.{same_path}
-use Rattle.fc_tree_walk.proofs.GapFacts.{IsNext, gap_small, stepped_after}
+use Rattle.fc_tree_for_each.specs.Leaf.{advanced}
+use Rattle.fc_tree_for_each.proofs.LeafFacts.{on_length, on_none, on_again, on_last, on_parts, gap_near}
+use Rattle.fc_tree_cursor.proofs.Meetings.{same_path}
+use Rattle.fc_tree_cursor.proofs.GapFacts.{IsNext, gap_small, stepped_after}
 
 take_lead : (p ys : List ℕ) (k : ℕ) → k ≤ length p → take k (take k p ++ ys) ≡ take k p
 take_lead p ys zero h = refl
@@ -69,18 +69,18 @@ module _ {K V : Type 0} where
         let c = place_pairs path sound.0 root sound.2.1 place in
         ap (λ s. slice_get s (length (before_pair path root))) c.parts ∙ pair_at (before_pair path root) (after_pair path root) c.pair ∙ sym c.is
 
-    pub steps_fit : (m : Map K V Z) (path : List ℕ) (gone last : ℕ) → IsSoundMap m → IsGapIn m (gone_on path gone) → last + 1 ≡ length path
+    pub steps_fit : (m : Map K V Z) (path : List ℕ) (gone last : ℕ) → IsSoundMap m → IsGapIn m (advanced path gone) → last + 1 ≡ length path
         → get_or path last 0 + gone ≤ capacity
     steps_fit m path gone last sound gap e = let l = on_length path gone in
-        subst (λ k. k ≤ capacity) (on_last path last gone e) (gap_small m (gone_on path gone) last sound gap (omega arith))
+        subst (λ k. k ≤ capacity) (on_last path last gone e) (gap_small m (advanced path gone) last sound gap (omega arith))
 
     -- a gap of a leaf, and one before it
-    path_less : (gap : List ℕ) (n : Node K V Z) (k j : ℕ) → IsPath (gone_on gap k) n → j ≤ k → IsPath (gone_on gap j) n
+    path_less : (gap : List ℕ) (n : Node K V Z) (k j : ℕ) → IsPath (advanced gap k) n → j ≤ k → IsPath (advanced gap j) n
     path_less [] n k j p le = p
     path_less (i ∷ []) n k j p le = (let f = p.0 in omega (arith, f, le), tt)
     path_less (i ∷ l ∷ gap) n k j p le = (p.0, path_less (l ∷ gap) (child_at n i) k j p.1 le)
 
-    pub gap_less : (m : Map K V Z) (gap : List ℕ) (k j : ℕ) → IsGapIn m (gone_on gap k) → j ≤ k → IsGapIn m (gone_on gap j)
+    pub gap_less : (m : Map K V Z) (gap : List ℕ) (k j : ℕ) → IsGapIn m (advanced gap k) → j ≤ k → IsGapIn m (advanced gap j)
     gap_less None [] k j g le = refl
     gap_less None (i ∷ gap) k j g le = absurd (let e = ap length g in let l = on_length (i ∷ gap) k in omega arith)
     gap_less (Some root) gap k j g le = (path_less gap root k j g.0 le, λ h l. on_length gap j ∙ sym (on_length gap k) ∙ g.1 h l)
@@ -91,26 +91,26 @@ module _ {K V : Type 0} where
       pub small : place < 256
       pub place_is : IsPlaceIn m (branch path way place)
       pub before : length (before_pair_in m (branch path way place)) ≡ length (before_gap_in m old)
-      pub gap : IsGapIn m (gone_on path gone)
-      pub count : length (before_gap_in m (gone_on path gone)) ≡ length (before_gap_in m old) + 1
+      pub gap : IsGapIn m (advanced path gone)
+      pub count : length (before_gap_in m (advanced path gone)) ≡ length (before_gap_in m old) + 1
 
     -- within a leaf
-    pub in_leaf : (m : Map K V Z) (path : List ℕ) (gone : ℕ) (other : List ℕ) → IsSoundMap m → IsGapIn m (gone_on path (gone + 1))
-        → length (before_gap_in m (gone_on path gone)) < length (before_gap_in m other) → IsInLeaf path gone
+    pub in_leaf : (m : Map K V Z) (path : List ℕ) (gone : ℕ) (other : List ℕ) → IsSoundMap m → IsGapIn m (advanced path (gone + 1))
+        → length (before_gap_in m (advanced path gone)) < length (before_gap_in m other) → IsInLeaf path gone
     in_leaf m path gone other sound g k =
-        let s = gap_some m (gone_on path (gone + 1)) other sound g (omega (arith, k)) in
+        let s = gap_some m (advanced path (gone + 1)) other sound g (omega (arith, k)) in
         let l = on_length path (gone + 1) in
         record { some = omega arith; fits = λ last e. (let f = steps_fit m path (gone + 1) last sound g e in omega (arith, f)) }
 
     pub step_within : (m : Map K V Z) (path : List ℕ) (gone last place : ℕ) → IsSoundMap m → IsInLeaf path gone → last + 1 ≡ length path
-        → place ≡ get_or path last 0 + gone → IsGapIn m (gone_on path (gone + 1)) → IsStepOn m (gone_on path gone) path (gone + 1) last place
+        → place ≡ get_or path last 0 + gone → IsGapIn m (advanced path (gone + 1)) → IsStepOn m (advanced path gone) path (gone + 1) last place
     step_within m path gone last place sound inside e here r =
-        let gap = gone_on path gone in
+        let gap = advanced path gone in
         let is : gap ≡ branch path last place = on_parts path last gone e ∙ ap (λ i. take last path ++ i ∷ []) (sym here) in
         let l = on_length path gone in
         let fits = inside.fits last e in
         let x = gap_near m gap 0 sound (omega arith) (subst (IsGapIn m) (sym (on_again path gone 1)) r) in
-        let one : gone_on gap 1 ≡ gone_on path (gone + 1) = on_again path gone 1 in
+        let one : advanced gap 1 ≡ advanced path (gone + 1) = on_again path gone 1 in
         record {
           way_is = omega arith;
           small = omega (arith, fits, here);
@@ -151,10 +151,10 @@ module _ {K V : Type 0} where
       pub place_is : IsPlace (take last gap ++ place ∷ []) n
       pub before : length (before_pair (take last gap ++ place ∷ []) n) ≡ length (before_gap gap n)
       pub next_is : next ≡ take last gap ++ (place + 1) ∷ zeros (length gap - suc last)
-      pub run_is : IsPath (gone_on next run) n
+      pub run_is : IsPath (advanced next run) n
 
     step_out_root : (n : Node K V Z) (gap next : List ℕ) (last place run : ℕ) → IsSoundMap (Some n) → IsGapIn (Some n) gap → IsPassed gap next n last place run
-        → IsStepOn (Some n) gap next 0 last place × IsGapIn (Some n) (gone_on next run)
+        → IsStepOn (Some n) gap next 0 last place × IsGapIn (Some n) (advanced next run)
     step_out_root n gap next last place run sound g x =
         let h = sound.0 in
         let w = x.way_is in
@@ -188,9 +188,9 @@ module _ {K V : Type 0} where
         )
 
     pub step_out : (m : Map K V Z) (n : Node K V Z) (gap next : List ℕ) (last place run : ℕ) → m ≡ Some n → IsSoundMap m → IsGapIn m gap
-        → IsPassed gap next n last place run → IsStepOn m gap next 0 last place × IsGapIn m (gone_on next run)
+        → IsPassed gap next n last place run → IsStepOn m gap next 0 last place × IsGapIn m (advanced next run)
     step_out m n gap next last place run is sound g x =
-        subst (λ o. IsStepOn o gap next 0 last place × IsGapIn o (gone_on next run)) (sym is)
+        subst (λ o. IsStepOn o gap next 0 last place × IsGapIn o (advanced next run)) (sym is)
         (step_out_root n gap next last place run (subst IsSoundMap is sound) (subst (λ o. IsGapIn o gap) is g) x)
 
 pub text_same : (xs ys : List ℕ) (r : Bool) → r ≡ pointwise nat_eq xs ys → xs ≡ ys → r ≡ true

@@ -11,8 +11,8 @@ use Rattle.fc_tree_node.specs.TreePlace.{IsPlaceIn, pair_in, before_gap_in, befo
 use Rattle.fc_tree_node.proofs.Gaps.{leaf_gap, after_none, place_pairs}
 use Rattle.fc_tree_node.proofs.Pairs.{child_below, leaf_pairs}
 use Rattle.fc_tree_search.proofs.WrittenPairs.{written_pairs}
-use Rattle.fc_tree_walk.specs.Gap.{IsGapIn}
-use Rattle.fc_tree_walk.proofs.GapFacts.{leaf_before_own}
+use Rattle.fc_tree_cursor.specs.Gap.{IsGapIn}
+use Rattle.fc_tree_cursor.proofs.GapFacts.{leaf_before_own}
 use Rattle.fc_map.specs.Entries.{Map, entries, IsSoundMap}
 use Rattle.fc_map.specs.Lends.{written_in}
 

@@ -10,9 +10,9 @@ use Rattle.fc_base.specs.Query.{IsQueryOrder}
 use Rattle.fc_base.specs.Ranges.{starts, within}
 use Rattle.fc_tree_node.specs.TreePlace.{before_gap_in, after_gap_in}
 use Rattle.fc_tree_retain.proofs.Lists.{drop_place, take_place}
-use Rattle.fc_tree_walk.proofs.Bounds.{same_cut, gap_entries}
-use Rattle.fc_tree_walk.specs.Gap.{AreEndsIn}
-use Rattle.fc_tree_walk.specs.Span.{between}
+use Rattle.fc_tree_cursor.proofs.Bounds.{same_cut, gap_entries}
+use Rattle.fc_tree_cursor.specs.Gap.{AreEndsIn}
+use Rattle.fc_tree_cursor.specs.Span.{between}
 use Rattle.fc_map.proofs.RangeParts.{range_parts, range_outside}
 use Rattle.fc_map.specs.Entries.{Map, entries, IsSoundMap}
 use Rattle.fc_map.specs.Ranged.{in_front, behind, outside, replacing}

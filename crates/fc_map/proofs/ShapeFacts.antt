@@ -15,7 +15,7 @@ use Rattle.fc_tree_node.proofs.Gaps.{place_pairs}
 use Rattle.fc_tree_node.proofs.Lent.{replaced}
 use Rattle.fc_tree_search.proofs.WrittenPairs.{value_own, value_children, length_value, written_levels, written_pairs}
 use Rattle.fc_map.specs.Entries.{Map, entries, IsSoundMap}
-use Rattle.fc_tree_walk.specs.Gap.{IsGapIn}
+use Rattle.fc_tree_cursor.specs.Gap.{IsGapIn}
 use Rattle.fc_tree_node.specs.TreePlace.{IsPlaceIn, before_gap_in, before_pair_in}
 use Rattle.fc_map.specs.Lends.{written_in}
 use Rattle.fc_tree_node.proofs.Formed.{one_height}

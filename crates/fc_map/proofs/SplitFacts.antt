@@ -11,7 +11,7 @@ use Rattle.fc_base.specs.Halves.{not_below}
 use Rattle.fc_base.specs.Parts.{below}
 use Rattle.fc_base.proofs.AscendingFacts.{all_map, kept, left_out}
 use Rattle.fc_base.proofs.Laws.{ascending_front, ascending_back}
-use Rattle.fc_tree_border.specs.Cut.{IsCutPathIn, IsCutInTwo}
+use Rattle.fc_tree_split.specs.Cut.{IsCutPathIn, IsCutInTwo}
 use Rattle.fc_tree_node.proofs.Gaps.{gap_pairs, place_pairs}
 use Rattle.fc_tree_node.specs.Path.{before_gap, after_gap}
 use Rattle.fc_tree_node.specs.Place.{before_pair, after_pair}

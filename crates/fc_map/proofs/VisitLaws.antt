@@ -1,6 +1,6 @@
 -- Laws of `for_each`: what a closure that computes leaves of the list of a map.
 use Rattle.std.proofs.Common.{◌≡◌, List, [], ◌∷◌, ◌++◌, length, map, drop, refl, sym, ap, subst, ◌∙◌, append-nil}
-use Rattle.fc_tree_visit.specs.Visits.{VisitsInTurn}
+use Rattle.fc_tree_for_each.specs.Visits.{VisitsInTurn}
 use Rattle.fc_map.specs.Stretches.{IsVisitedIn}
 use Rattle.fc_map.specs.Writing.{Stretch, whole}
 

@@ -2,7 +2,7 @@
 use Rattle.std.specs.Prelude.{◌≡◌, ℕ, ◌<◌, ◌↔◌, Bool, List, [], length, IsTrue, IsFalse, Some, None}
 use Rattle.std.specs.declared.cmp.Ordering.{Ordering}
 use Rattle.fc_base.specs.Sizes.{capacity}
-use Rattle.fc_tree_insertion.specs.Arrival.{IsPutAt}
+use Rattle.fc_tree_insertion.specs.NewPair.{IsPutAt}
 use Rattle.fc_tree_node.specs.Leaf.{leaf_at}
 use Rattle.fc_tree_node.specs.Node.{own_pairs}
 use Rattle.fc_tree_search.specs.Found.{IsFound, IsGap}

@@ -10,8 +10,8 @@ use Rattle.std.specs.declared.cmp.Ord as ord
 use Rattle.std.specs.declared.cmp.PartialEq as eq
 use Rattle.std.specs.declared.cmp.PartialOrd as partial
 use mir.Syntax.{named}
-pub use Rattle.fc_tree_visit.specs.Visits.{CalledAtPair, IsVisited}
-use Rattle.fc_tree_visit.specs.Leaf.{gone_on}
+pub use Rattle.fc_tree_for_each.specs.Visits.{CalledAtPair, IsVisited}
+use Rattle.fc_tree_for_each.specs.Leaf.{advanced}
 use Rattle.fc_map.specs.Entries.{Map, entries}
 use Rattle.fc_tree_node.specs.TreePlace.{before_gap_in}
 use Rattle.fc_map.specs.Writing.{Stretch, wrote_first, wrote_last}
@@ -48,14 +48,14 @@ module _ {K V Z : Type 0} {g : ord.Ghosts K} {g' : eq.Ghosts K} {g'' : partial.G
 
   -- The map's list as it stands, and the places not yet lent.
   abbrev pub stretch : RangeMut K V Z g g' g'' → Stretch K V
-  stretch w = record { list = entries w.map.now; front = length (before_gap_in w.map.now (gone_on w.front w.gone)); back = length (before_gap_in w.map.now w.back) }
+  stretch w = record { list = entries w.map.now; front = length (before_gap_in w.map.now (advanced w.front w.gone)); back = length (before_gap_in w.map.now w.back) }
 
   -- The same of a walk over all values.
   abbrev pub iter_map_ref : IterMut K V Z g g' g'' → MutBor (Map K V Z)
   iter_map_ref w = w.map
 
   abbrev pub iter_stretch : IterMut K V Z g g' g'' → Stretch K V
-  iter_stretch w = record { list = entries w.map.now; front = length (before_gap_in w.map.now (gone_on w.front w.gone)); back = length (before_gap_in w.map.now w.back) }
+  iter_stretch w = record { list = entries w.map.now; front = length (before_gap_in w.map.now (advanced w.front w.gone)); back = length (before_gap_in w.map.now w.back) }
 
 module _ (K V Z : RattleType) {g : ord.Ghosts K.Denot} {g' : eq.Ghosts K.Denot} {g'' : partial.Ghosts K.Denot} (heap : Ghosts Z.Denot) where
   -- Once the borrow r ends, the first place has the last value written through r, and is lent; at `None` nothing changes. The

@@ -8,7 +8,7 @@ use Rattle.fc_tree_node.specs.Node.{child_at}
 use Rattle.fc_tree_node.specs.Path.{IsPath}
 use Rattle.fc_tree_node.specs.Place.{IsPlace}
 use Rattle.fc_map.specs.Entries.{Map}
-use Rattle.fc_tree_walk.specs.Gap.{IsGapIn, AreEndsIn}
+use Rattle.fc_tree_cursor.specs.Gap.{IsGapIn, AreEndsIn}
 use Rattle.fc_tree_node.specs.TreePlace.{IsPlaceIn}
 use Rattle.fc_map.specs.Place.{IsOpenAt}
 

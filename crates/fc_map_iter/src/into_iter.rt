@@ -7,7 +7,7 @@ ghost use Rattle.fc_tree_node.specs.Tree.{entries, IsSoundMap};
 mod debug;
 
 use fc_base::Handle;
-use fc_tree_drain::drain::Drain;
+use fc_tree_drain::drain::IntoPairs;
 use fc_tree_node::node::Node;
 use std::alloc::Global;
 use std::iter::FusedIterator;
@@ -16,7 +16,7 @@ use std::marker::Model;
 /// The pairs of a map by value, seen as the list of those that are left. It compares nothing, takes no memory, and drops what is
 /// left. Upstream: `btree_map::IntoIter`.
 pub struct IntoIter<K, V, A: Handle = Global> {
-    drain: Drain<K, V, A>,
+    drain: IntoPairs<K, V, A>,
     left: usize,
 }
 
@@ -55,7 +55,7 @@ impl<K: Drop, V: Drop, A: Handle> IntoIter<K, V, A> {
         ensures { result ≡ entries root }
     {
         IntoIter {
-            drain: Drain::over(root),
+            drain: IntoPairs::over(root),
             left: len,
         }
     }

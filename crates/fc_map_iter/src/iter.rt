@@ -7,8 +7,8 @@ mod keys;
 mod values;
 
 use fc_base::Handle;
+use fc_tree_cursor::span::Span;
 use fc_tree_node::node::Node;
-use fc_tree_walk::span::Span;
 pub use keys::Keys;
 use std::alloc::{AllocError, Global};
 use std::iter::FusedIterator;

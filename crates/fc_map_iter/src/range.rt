@@ -6,9 +6,9 @@ ghost use Rattle.fc_tree_node.specs.Tree.{entries, IsSoundMap};
 ghost use Rattle.std.specs.Iterator.{YieldsFirstBy, YieldsLastBy, item_count, UpTo, at_most};
 
 use fc_base::Handle;
+use fc_tree_cursor::key_range::KeyRange;
+use fc_tree_cursor::span::Span;
 use fc_tree_node::node::Node;
-use fc_tree_walk::key_range::KeyRange;
-use fc_tree_walk::span::Span;
 use std::alloc::{AllocError, Global};
 use std::iter::FusedIterator;
 use std::marker::Model;

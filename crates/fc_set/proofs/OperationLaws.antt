@@ -13,7 +13,7 @@ use Rattle.std.proofs.lemmas.List.Filters.{length-filter_both}
 use Rattle.fc_base.proofs.AscendingFacts.{under_one}
 use Rattle.fc_set.specs.Items.{AreAscending, joined_items}
 use Rattle.fc_set.specs.Operations.{difference, common, symmetric_difference, intersection, union}
-use Rattle.fc_set.specs.Sides.{begin_sifting, begin_with_shorter}
+use Rattle.fc_set.specs.Sides.{begin_filtering, begin_with_shorter}
 use Rattle.fc_set.proofs.SideFacts.{IsBelow, below_on, tied_back, common_of_none, common_ours, common_past, common_tied, joined_first, joined_ours, joined_tied}
 use Rattle.fc_set.proofs.SideFacts.{joined_to_none, ascending_kept}
 
@@ -124,7 +124,7 @@ longer_is_no_part cmp total s t a b longer = (
 pub common_by_length : {T : Type 0} (cmp : T → T → Ordering) (s t : List T) → let w = begin_with_shorter s t in common cmp w.left w.right ≡ intersection cmp s t
 common_by_length cmp s t = go (nat_le (length s) (length t))
   where
-    go : (p : Bool) → let w = cond p (begin_sifting s t) (begin_sifting t s) in common cmp w.left w.right ≡ cond p (common cmp s t) (common cmp t s)
+    go : (p : Bool) → let w = cond p (begin_filtering s t) (begin_filtering t s) in common cmp w.left w.right ≡ cond p (common cmp s t) (common cmp t s)
     go true = refl
     go false = refl
 

@@ -28,12 +28,12 @@ module _ {T : Type 0} (cmp : T → T → Ordering) where
       [ true ↦ (all_filter _ p s a.0, ascending_kept p s a.1) | false ↦ ascending_kept p s a.1 ]
 
   -- the items of s that a test keeps by what is equal to them in t
-  abbrev sifted : (Option T → Bool) → List T → List T → List T
-  sifted f s t = filter (λ x. f (item_at cmp t x)) s
+  abbrev filtered : (Option T → Bool) → List T → List T → List T
+  filtered f s t = filter (λ x. f (item_at cmp t x)) s
 
   -- An item below all of the other side passes nothing there.
-  sifted_past : (f : Option T → Bool) (s t : List T) (y : T) → IsBelow y s → sifted f s (y ∷ t) ≡ sifted f s t
-  sifted_past f s t y below = filter_alike _ _ s (all_map _ _ (λ x less. rw less refl) s below)
+  filtered_past : (f : Option T → Bool) (s t : List T) (y : T) → IsBelow y s → filtered f s (y ∷ t) ≡ filtered f s t
+  filtered_past f s t y below = filter_alike _ _ s (all_map _ _ (λ x less. rw less refl) s below)
 
   -- Two sides that hold nothing in common where one is empty.
   pub difference_of_none : (s : List T) → difference cmp s [] ≡ s
@@ -46,10 +46,10 @@ module _ {T : Type 0} (cmp : T → T → Ordering) where
 
   -- The second's first item is below all of the first.
   pub difference_past : (s t : List T) (y : T) → IsBelow y s → difference cmp s (y ∷ t) ≡ difference cmp s t
-  difference_past s t y below = sifted_past is_none s t y below
+  difference_past s t y below = filtered_past is_none s t y below
 
   pub common_past : (s t : List T) (y : T) → IsBelow y s → common cmp s (y ∷ t) ≡ common cmp s t
-  common_past s t y below = sifted_past is_some s t y below
+  common_past s t y below = filtered_past is_some s t y below
 
   pub joined_first : (s t : List T) (y : T) → IsBelow y s → joined_items cmp (y ∷ t) s ≡ y ∷ joined_items cmp t s
   joined_first [] t y below = refl

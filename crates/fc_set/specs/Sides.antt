@@ -14,19 +14,19 @@ pub record Sides (T : Type 0) : Type 0 where
   pub right : List T
 
 -- What a difference or an intersection has still to try, and what it holds that against: a set that it looks items up in, which stays as it is, or the rest of one that it walks too.
-pub record Sifting (T : Type 0) : Type 0 where
+pub record Filtering (T : Type 0) : Type 0 where
   pub left : List T
   pub right : List T
   pub looks_up : Bool
 
 module _ {T : Type 0} where
   -- The items of the first are looked up in a second that is at least sixteen times as long, by number, as it is no size of a node. Else both are walked.
-  abbrev pub begin_sifting : List T → List T → Sifting T
-  begin_sifting s t = record { left = s; right = t; looks_up = nat_le (length s) (length t / 16) }
+  abbrev pub begin_filtering : List T → List T → Filtering T
+  begin_filtering s t = record { left = s; right = t; looks_up = nat_le (length s) (length t / 16) }
 
   -- The items of the shorter are held against the other: those of the first where both are as long.
-  abbrev pub begin_with_shorter : List T → List T → Sifting T
-  begin_with_shorter s t = if nat_le (length s) (length t) then begin_sifting s t else begin_sifting t s
+  abbrev pub begin_with_shorter : List T → List T → Filtering T
+  begin_with_shorter s t = if nat_le (length s) (length t) then begin_filtering s t else begin_filtering t s
 
   -- How many items both sides have, where a `usize` holds it.
   abbrev pub sum_of_lengths : Sides T → Option ℕ
@@ -38,8 +38,8 @@ module _ {T : Type 0} where
     past_item w x = record { left = greater cmp w.left x; right = greater cmp w.right x }
 
     -- The same, where a set that is looked up in stays.
-    abbrev pub sifted_past : Sifting T → T → Sifting T
-    sifted_past w x = record { left = greater cmp w.left x; right = if w.looks_up then w.right else greater cmp w.right x; looks_up = w.looks_up }
+    abbrev pub filtered_past : Filtering T → T → Filtering T
+    filtered_past w x = record { left = greater cmp w.left x; right = if w.looks_up then w.right else greater cmp w.right x; looks_up = w.looks_up }
 
     -- What a walk over both leaves of the first where no item has an equal: it takes the first item that is greater than all of the second, or ends with the first.
     abbrev pub untaken : List T → List T → List T

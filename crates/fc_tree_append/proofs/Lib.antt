@@ -1,5 +1,5 @@
 pub mod JoinFacts
 pub mod Beyond
-pub mod HungFacts
-pub mod Crowned
+pub mod GraftedFacts
+pub mod UnderRoot
 pub mod Levels

@@ -1,1 +1,1 @@
-pub mod Hung
+pub mod Grafted

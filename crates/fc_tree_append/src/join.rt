@@ -1,18 +1,18 @@
-//! Two trees made one where all pairs of one lie before those of the other: the shorter one is hung on the taller one's border.
+//! Two trees made one where all pairs of one lie before those of the other: the shorter one is grafted on the taller one's border.
 ghost use Rattle.std.specs.Prelude.{◌≡◌, ℕ, suc, ◌+◌, ◌<◌, ◌≤◌, ◌∷◌, ◌++◌, length, None, IfOk, IfErr};
 ghost use Rattle.fc_base.specs.Sizes.{most_levels, most_height};
 ghost use Rattle.fc_tree_node.specs.Node.{pairs_of, IsBlankInner, IsLevelled, IsSoundRoot, IsTree};
 ghost use Rattle.fc_tree_node.specs.Tree.{entries, IsSoundMap, IsSoundWithin};
 
-use crate::hanging::hang;
+use crate::grafting::graft;
 use fc_base::{Count, Handle, TryReserveError};
-use fc_tree_border::mending::{Border, mend};
 use fc_tree_insertion::insertion::grow;
 use fc_tree_insertion::new_nodes::try_spares;
 use fc_tree_insertion::spares::Spares;
 use fc_tree_node::node::{CAPACITY, MIN_LEN, Node};
 use fc_tree_removal::first_last::remove_last;
 use fc_tree_removal::removal::remove_first;
+use fc_tree_split::rebalancing::{Border, rebalance};
 
 /// Puts the pairs of `theirs` after those of `ours`, in a few nodes of each level from the shorter tree's root up. It compares
 /// nothing.
@@ -77,18 +77,18 @@ fn join<K: Drop, V: Drop, A: Handle>(
     let theirs = height(&right);
     if ours < theirs {
         let pair = remove_last(&mut left, &mut Count::new());
-        return hang(right, Border::Left, theirs - ours, pair, left, spares);
+        return graft(right, Border::Left, theirs - ours, pair, left, spares);
     }
     let pair = remove_first(&mut right, &mut Count::new());
     if ours > theirs {
-        return hang(left, Border::Right, ours - theirs, pair, right, spares);
+        return graft(left, Border::Right, ours - theirs, pair, right, spares);
     }
     let mut spares = spares;
-    crown(left, pair, right, spares.take())
+    join_under_root(left, pair, right, spares.take())
 }
 
 // A tree of two others of one height, with the pair between them: both go below a new root, or become one node where they fit.
-fn crown<K: Drop, V: Drop, A: Handle>(
+fn join_under_root<K: Drop, V: Drop, A: Handle>(
     left: Node<K, V, A>,
     pair: (K, V),
     right: Node<K, V, A>,
@@ -106,10 +106,10 @@ fn crown<K: Drop, V: Drop, A: Handle>(
     grow(&mut root, pair, right, blank, count);
     if ours + theirs < CAPACITY {
         root.merge(0, count);
-        return mend(root, Border::Right, count);
+        return rebalance(root, Border::Right, count);
     }
     if ours < MIN_LEN {
-        return mend(root, Border::Left, count);
+        return rebalance(root, Border::Left, count);
     }
-    mend(root, Border::Right, count)
+    rebalance(root, Border::Right, count)
 }

@@ -1,8 +1,8 @@
-//! Two maps made one. Where all keys of one lie beyond those of the other, the shorter tree is hung on the taller one's border; else
+//! Two maps made one. Where all keys of one lie beyond those of the other, the shorter tree is grafted on the taller one's border; else
 //! both are taken apart pair by pair, and a third is built of their pairs.
 #![tactic(auto)]
 
 pub mod append;
-mod hanging;
+mod grafting;
 mod join;
 pub mod merge;

@@ -21,10 +21,10 @@ use Rattle.fc_tree_search.specs.Found.{IsFound, IsGap}
 use Rattle.fc_tree_search.specs.Neighbours.{not_above}
 use Rattle.fc_tree_search.proofs.NeighbourFacts.{gap_from, pair_from}
 use Rattle.fc_tree_search.proofs.SearchFacts.{child_there, found_at, gap_at}
-use Rattle.fc_tree_walk.specs.Gap.{GoesOn, EndsIn, LeadsTo}
-use Rattle.fc_tree_walk.proofs.GapFacts.{IsLast, leaf_before_own, next_before, place_back}
+use Rattle.fc_tree_cursor.specs.Gap.{GoesOn, EndsIn, LeadsTo}
+use Rattle.fc_tree_cursor.proofs.GapFacts.{IsLast, leaf_before_own, next_before, place_back}
 use Rattle.fc_tree_node.proofs.Formed.{one_height}
-use Rattle.fc_tree_walk.proofs.Ways.{end_set, leaf_node}
+use Rattle.fc_tree_cursor.proofs.Ways.{end_set, leaf_node}
 use Rattle.fc_tree_beside.specs.Beside.{IsNextIn, IsLastIn}
 
 -- A path is its last step and what leads there.

@@ -13,14 +13,14 @@ ghost use Rattle.fc_tree_node.specs.Path.{IsPath, before_gap};
 ghost use Rattle.fc_tree_node.specs.Place.{before_own, IsPlace, before_pair};
 ghost use Rattle.fc_tree_search.specs.Neighbours.{not_above};
 ghost use Rattle.fc_tree_search.specs.Passed.{passed};
-ghost use Rattle.fc_tree_walk.specs.Gap.{GoesOn, EndsIn};
+ghost use Rattle.fc_tree_cursor.specs.Gap.{GoesOn, EndsIn};
 ghost use Rattle.fc_tree_beside.specs.Beside.{IsNextIn, IsLastIn};
 
 use fc_base::{Count, Handle, Query};
+use fc_tree_cursor::gaps::{push_first, push_last, steps_to_previous};
 use fc_tree_node::node::Node;
 use fc_tree_node::path::Path;
 use fc_tree_search::search::descend;
-use fc_tree_walk::gaps::{push_first, push_last, steps_to_previous};
 
 // One step, to a pair of the node itself, where it has so many on that side; 0 where it has none.
 fn one_of(count: usize) -> usize

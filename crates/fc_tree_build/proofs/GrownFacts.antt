@@ -47,19 +47,19 @@ module _ {K V Z : Type 0} where
 
   -- ---- a blank leaf in the place of a full one
 
-  pub hung_grown : (s old : List (Node K V Z)) (n : ℕ) (leaf new : Node K V Z) (p : K × V) → IsGrown old (Some leaf) n → capacity ≤ length (own_pairs leaf)
+  pub grafted_grown : (s old : List (Node K V Z)) (n : ℕ) (leaf new : Node K V Z) (p : K × V) → IsGrown old (Some leaf) n → capacity ≤ length (own_pairs leaf)
       → n < 2 ^ 64 - 1 - 2 * capacity → IsBlankLeaf new → before_back s ≡ before_back old ++ (pairs_of leaf ++ p ∷ []) → IsSpine 0 s × (length s ≤ most_height)
       → IsGrown s (Some new) (n + (capacity + 1))
-  hung_grown s old n leaf new p g full low blank e levels =
+  grafted_grown s old n leaf new p g full low blank e levels =
       let own = ap length (leaf_pairs leaf g.0.1) in
       let l = ap length e ∙ length-append (before_back old) (pairs_of leaf ++ p ∷ []) in
       let m = length-append (pairs_of leaf) (p ∷ []) in
       let none = ap length blank.0 in
       ((omega arith, blank.1, levels.0, levels.1), omega arith, omega arith)
 
-  pub hung_pairs : (s old : List (Node K V Z)) (leaf new : Node K V Z) (p : K × V) (zs : List (K × V)) → IsLeaf leaf → IsBlankLeaf new
+  pub grafted_pairs : (s old : List (Node K V Z)) (leaf new : Node K V Z) (p : K × V) (zs : List (K × V)) → IsLeaf leaf → IsBlankLeaf new
       → before_back s ≡ before_back old ++ (pairs_of leaf ++ p ∷ []) → before_back old ++ own_pairs leaf ≡ zs → before_back s ++ own_pairs new ≡ zs ++ p ∷ []
-  hung_pairs s old leaf new p zs l blank e f =
+  grafted_pairs s old leaf new p zs l blank e f =
       ap (λ ps. before_back s ++ ps) blank.0 ∙ append-nil (before_back s) ∙ e ∙ ap (λ ps. before_back old ++ (ps ++ p ∷ [])) (leaf_pairs leaf l)
       ∙ sym (append_assoc (before_back old) (own_pairs leaf) (p ∷ [])) ∙ ap (λ ps. ps ++ p ∷ []) f
 

@@ -11,7 +11,7 @@ use Rattle.std.specs.Mem.{type_size}
 use Rattle.fc_tree_node.specs.contracts.node.Node as node
 use Rattle.fc_tree_drain.specs.contracts.stack.Stack as stack
 use Rattle.fc_tree_build.specs.contracts.builder.Builder as builder
-use Rattle.fc_tree_build.specs.contracts.growing.Growing as growing
+use Rattle.fc_tree_build.specs.contracts.growing.GrowingBuilder as growing
 use Rattle.fc_tree_drain.proofs.Sizes.{Shape, whole, most, part, maybe_shape, node_shape, nodes_shape, bound_holds, below, nodes_fit}
 
 -- The first field of a struct.
@@ -45,7 +45,7 @@ builder_fits K V A heap h =
     let low : type_size A ≤ 65536 = omega arith in
     below (bound_holds builder_shape (layout (builder.the_row K V (copied 2 A) heap)) (search (low, tt, lit≤) depth 40)) (lit< tt)
 
-pub growing_fits : (K V A : RattleType) (heap : Ghosts A.Denot) → type_size A < 65536 → size (layout (growing.the_row K V (copied 2 A) heap)) < 2 ^ 63
-growing_fits K V A heap h =
+pub growing_builder_fits : (K V A : RattleType) (heap : Ghosts A.Denot) → type_size A < 65536 → size (layout (growing.the_row K V (copied 2 A) heap)) < 2 ^ 63
+growing_builder_fits K V A heap h =
     let low : type_size A ≤ 65536 = omega arith in
     below (bound_holds growing_shape (layout (growing.the_row K V (copied 2 A) heap)) (search (low, tt, lit≤) depth 40)) (lit< tt)

@@ -5,9 +5,9 @@ ghost use Rattle.fc_tree_node.specs.Tree.{entries, IsSoundMap};
 use crate::spares::{inner_count, leaf_count, take_spare, try_inner_nodes, try_leaves};
 use crate::spine::{Spine, attach, close, put_pair};
 use fc_base::{Handle, TryReserveError};
-use fc_tree_border::mending::mend_right;
 use fc_tree_drain::stack::Stack;
 use fc_tree_node::node::{CAPACITY, Node};
+use fc_tree_split::rebalancing::rebalance_right;
 use std::alloc::Global;
 use std::marker::Model;
 use std::mem;
@@ -99,6 +99,6 @@ impl<K: Drop, V: Drop, A: Handle> Builder<K, V, A> {
         let Some(last) = last else {
             return None;
         };
-        mend_right(close(&mut spine, last))
+        rebalance_right(close(&mut spine, last))
     }
 }

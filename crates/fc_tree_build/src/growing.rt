@@ -13,10 +13,10 @@ use crate::spine::{
     Spine, attach, close, has_room, last_of, needed, open_right, put_in_room, put_pair,
 };
 use fc_base::{Handle, TryReserveError};
-use fc_tree_border::mending::mend_right;
 use fc_tree_drain::stack::Stack;
 use fc_tree_node::node::{CAPACITY, Node};
 use fc_tree_node::path::MAX_STEPS;
+use fc_tree_split::rebalancing::rebalance_right;
 use std::alloc::Global;
 use std::marker::Model;
 use std::mem;
@@ -24,7 +24,7 @@ use std::mem;
 /// A tree to whose end pairs are put. It asks for memory at its first pair and where its last leaf is full. A contract sees the pairs, and for
 /// how many more the last leaf has room.
 #[derive(Drop)]
-pub struct Growing<K, V, A: Handle = Global> {
+pub struct GrowingBuilder<K, V, A: Handle = Global> {
     spine: Spine<K, V, A>,
     last: Option<Node<K, V, A>>,
     // How many pairs stand before those of the last leaf, which can take as many more as it has room for.
@@ -32,7 +32,7 @@ pub struct Growing<K, V, A: Handle = Global> {
     alloc: A,
 }
 
-impl<K, V, A: Handle> Model for Growing<K, V, A> {
+impl<K, V, A: Handle> Model for GrowingBuilder<K, V, A> {
     ghost use Rattle.fc_tree_build.specs.Built.{Grown, grown, IsGrown};
 
     ghost Value = { Grown K V };
@@ -42,7 +42,7 @@ impl<K, V, A: Handle> Model for Growing<K, V, A> {
     ghost invariant = { λ g. IsGrown g.spine g.last g.before };
 }
 
-impl<K, V, A: Handle> Growing<K, V, A> {
+impl<K, V, A: Handle> GrowingBuilder<K, V, A> {
     /// The last pair; none where there is no pair.
     pub fn last(&self) -> Option<&(K, V)>
         ensures { IsLastPair self.now.pairs result }
@@ -67,7 +67,7 @@ impl<K, V, A: Handle> Growing<K, V, A> {
     }
 }
 
-impl<K: Ord + Drop, V: Drop, A: Handle> Growing<K, V, A> {
+impl<K: Ord + Drop, V: Drop, A: Handle> GrowingBuilder<K, V, A> {
     /// Puts the pair after the others where the last leaf has a pair and room for one more, and its last key is less; else the pair comes back.
     /// It takes no memory.
     #[inline(always)]
@@ -89,13 +89,13 @@ impl<K: Ord + Drop, V: Drop, A: Handle> Growing<K, V, A> {
     }
 }
 
-impl<K: Drop, V: Drop, A: Handle> Growing<K, V, A> {
+impl<K: Drop, V: Drop, A: Handle> GrowingBuilder<K, V, A> {
     /// A tree of no pair. It asks for nothing.
-    pub fn new(alloc: A) -> Growing<K, V, A>
+    pub fn new(alloc: A) -> GrowingBuilder<K, V, A>
         ensures pairs { result.pairs ≡ [] }
         ensures room { result.room ≡ 0 }
     {
-        Growing {
+        GrowingBuilder {
             spine: Stack::new(),
             last: None,
             before: 0,
@@ -104,19 +104,19 @@ impl<K: Drop, V: Drop, A: Handle> Growing<K, V, A> {
     }
 
     /// The tree at `root` of `len` pairs, taken apart at its right edge. It takes no memory, compares nothing and moves no pair.
-    pub fn over(alloc: A, root: Option<Node<K, V, A>>, len: usize) -> Growing<K, V, A>
+    pub fn over(alloc: A, root: Option<Node<K, V, A>>, len: usize) -> GrowingBuilder<K, V, A>
         requires sound { IsSoundMap root }
         requires len { len ≡ length (entries root) }
         requires room { len + capacity ≤ usize.MAX }
         ensures { result.pairs ≡ entries root }
     {
         let Some(root) = root else {
-            return Growing::new(alloc);
+            return GrowingBuilder::new(alloc);
         };
         let mut spine = Stack::new();
         let leaf = open_right(&mut spine, root);
         let before = len - leaf.len();
-        Growing {
+        GrowingBuilder {
             spine,
             last: Some(leaf),
             before,
@@ -193,7 +193,7 @@ impl<K: Drop, V: Drop, A: Handle> Growing<K, V, A> {
         if self.before >= usize::MAX - 2 * CAPACITY {
             return Err((pair, TryReserveError::AllocError));
         }
-        hang_full(self.alloc, &mut self.spine, last, pair)?;
+        graft_full(self.alloc, &mut self.spine, last, pair)?;
         self.before += CAPACITY + 1;
         Ok(())
     }
@@ -203,7 +203,7 @@ impl<K: Drop, V: Drop, A: Handle> Growing<K, V, A> {
         ensures pairs { entries result ≡ self.pairs }
         ensures sound { IsSoundMap result }
     {
-        let Growing {
+        let GrowingBuilder {
             mut spine,
             last,
             before: _,
@@ -212,7 +212,7 @@ impl<K: Drop, V: Drop, A: Handle> Growing<K, V, A> {
         let Some(last) = last else {
             return None;
         };
-        mend_right(close(&mut spine, last))
+        rebalance_right(close(&mut spine, last))
     }
 }
 
@@ -244,7 +244,7 @@ fn first_leaf<K: Drop, V: Drop, A: Handle>(
 
 // Puts the full last leaf and the pair after it at the spine's end, and a blank leaf in its place. Where the spine's last node has room,
 // that is the one node that is made.
-fn hang_full<K: Drop, V: Drop, A: Handle>(
+fn graft_full<K: Drop, V: Drop, A: Handle>(
     alloc: A,
     spine: &mut Spine<K, V, A>,
     last: &mut Node<K, V, A>,
@@ -259,7 +259,7 @@ fn hang_full<K: Drop, V: Drop, A: Handle>(
     ensures error { IfErr result (λ e. e.1 ≡ TryReserveError.AllocError) }
 {
     if !has_room(spine) {
-        return hang_above(alloc, spine, last, pair);
+        return graft_above(alloc, spine, last, pair);
     }
     match Node::try_leaf(alloc) {
         Ok(blank) => {
@@ -273,7 +273,7 @@ fn hang_full<K: Drop, V: Drop, A: Handle>(
 
 // The same by what makes inner nodes, whether they are needed or not.
 #[inline(never)]
-fn hang_above<K: Drop, V: Drop, A: Handle>(
+fn graft_above<K: Drop, V: Drop, A: Handle>(
     alloc: A,
     spine: &mut Spine<K, V, A>,
     last: &mut Node<K, V, A>,

@@ -14,7 +14,7 @@ use Rattle.fc_tree_node.specs.contracts.node.Node as node
 use Rattle.fc_tree_drain.specs.contracts.stack.Stack as stack
 use Rattle.fc_tree_drain.specs.contracts.drain.Front as front
 use Rattle.fc_tree_drain.specs.contracts.drain.Back as back
-use Rattle.fc_tree_drain.specs.contracts.drain.Drain as drain
+use Rattle.fc_tree_drain.specs.contracts.drain.IntoPairs as drain
 
 -- ---- alignments, and what is added for them
 

@@ -4,7 +4,9 @@ ghost use Rattle.fc_tree_node.specs.Node.{items_or_none};
 ghost use Rattle.fc_tree_node.specs.Tree.{entries, IsSoundMap};
 ghost use Rattle.fc_tree_drain.specs.Opened.{after_front, before_back};
 
-use crate::owned::{Nodes, Run, give_first, give_last, move_to_back, move_to_front, open_first};
+use crate::owned::{
+    Nodes, Run, move_to_back, move_to_front, open_first, pop_first_pair, pop_last_pair,
+};
 use crate::stack::Stack;
 use fc_base::Handle;
 use fc_tree_node::node::Node;
@@ -56,12 +58,12 @@ impl<K, V, A: Handle> Model for Back<K, V, A> {
 
 /// A tree that is taken apart from both ends, seen as the list of the pairs that are left. It takes no memory, and drops what is left.
 #[derive(Drop)]
-pub struct Drain<K, V, A: Handle = Global> {
+pub struct IntoPairs<K, V, A: Handle = Global> {
     front: Front<K, V, A>,
     back: Back<K, V, A>,
 }
 
-impl<K, V, A: Handle> Model for Drain<K, V, A> {
+impl<K, V, A: Handle> Model for IntoPairs<K, V, A> {
     ghost use Rattle.std.specs.Prelude.{◌++◌, List};
 
     ghost Value = { List (K × V) };
@@ -154,7 +156,7 @@ impl<K: Drop, V: Drop, A: Handle> Front<K, V, A> {
         if run_len(&self.run) > 0 {
             return take_first(&mut self.run);
         }
-        give_first(&mut self.nodes, &mut self.run)
+        pop_first_pair(&mut self.nodes, &mut self.run)
     }
 }
 
@@ -192,11 +194,11 @@ impl<K: Drop, V: Drop, A: Handle> Back<K, V, A> {
         if run_len(&self.run) > 0 {
             return take_last(&mut self.run);
         }
-        give_last(&mut self.nodes, &mut self.run)
+        pop_last_pair(&mut self.nodes, &mut self.run)
     }
 }
 
-impl<K, V, A: Handle> Drain<K, V, A> {
+impl<K, V, A: Handle> IntoPairs<K, V, A> {
     /// The front's parts and the back's: what is left of a leaf and the nodes above it, and the nodes and what is left of a leaf.
     pub fn parts(
         &self,
@@ -210,13 +212,13 @@ impl<K, V, A: Handle> Drain<K, V, A> {
     }
 }
 
-impl<K: Drop, V: Drop, A: Handle> Drain<K, V, A> {
+impl<K: Drop, V: Drop, A: Handle> IntoPairs<K, V, A> {
     /// The whole tree.
-    pub fn over(root: Option<Node<K, V, A>>) -> Drain<K, V, A>
+    pub fn over(root: Option<Node<K, V, A>>) -> IntoPairs<K, V, A>
         requires { IsSoundMap root }
         ensures { result ≡ entries root }
     {
-        Drain {
+        IntoPairs {
             front: Front::over(root),
             back: Back {
                 nodes: Stack::new(),

@@ -81,7 +81,7 @@ fn keep<K: Drop, V: Drop, A: Handle>(stack: &mut Nodes<K, V, A>, node: Node<K, V
 
 /// Gives the first pair out, and opens the child after it. It comes where the run is used up.
 #[inline(never)]
-pub fn give_first<K: Drop, V: Drop, A: Handle>(
+pub fn pop_first_pair<K: Drop, V: Drop, A: Handle>(
     stack: &mut Nodes<K, V, A>,
     run: &mut Run<K, V, A>,
 ) -> (K, V)
@@ -105,7 +105,7 @@ pub fn give_first<K: Drop, V: Drop, A: Handle>(
 
 /// Gives the last pair out, and opens the child before it. It comes where the run is used up.
 #[inline(never)]
-pub fn give_last<K: Drop, V: Drop, A: Handle>(
+pub fn pop_last_pair<K: Drop, V: Drop, A: Handle>(
     stack: &mut Nodes<K, V, A>,
     run: &mut Run<K, V, A>,
 ) -> (K, V)

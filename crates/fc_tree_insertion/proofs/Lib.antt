@@ -1,8 +1,8 @@
 pub mod InsertedPairs
 pub mod InsertedLevels
 pub mod Cascades
-pub mod ArrivalSteps
-pub mod Arrivals
+pub mod NewPairSteps
+pub mod NewPairs
 pub mod Leaves
 pub mod InsertedTrees
 pub mod Reservations

@@ -47,13 +47,13 @@ a_place zero levels some = absurd (omega arith)
 a_place (suc places) levels some = let e : suc places - 1 ≡ places = omega arith in rw e (omega arith)
 
 -- Where there is a place, the nodes of one insertion are there.
-pub place_enough : (places levels stock : ℕ) → 0 < places → places * levels ≤ stock → levels ≤ stock
-place_enough places levels stock some enough = let e = a_place places levels some in omega arith
+pub place_enough : (places levels pool : ℕ) → 0 < places → places * levels ≤ pool → levels ≤ pool
+place_enough places levels pool some enough = let e = a_place places levels some in omega arith
 
 -- What is left is enough for the places that are left.
-pub place_used : (places levels stock used left : ℕ) → 0 < places → places * levels ≤ stock → used ≤ levels → left + used ≡ stock
+pub place_used : (places levels pool used left : ℕ) → 0 < places → places * levels ≤ pool → used ≤ levels → left + used ≡ pool
     → (places - 1) * levels ≤ left
-place_used places levels stock used left some enough few is = let e = a_place places levels some in omega arith
+place_used places levels pool used left some enough few is = let e = a_place places levels some in omega arith
 
 -- As many pairs to each child of a node as so many levels need are enough for a level more.
 pub level_least : (n levels : ℕ) → 2 * least_children ≤ n → 1 ≤ levels → (1 < levels → 2 * least_children ^ (levels - 1) ≤ n / least_children)

@@ -2,5 +2,5 @@ pub mod Cascade
 pub mod Chain
 pub mod NewNodes
 pub mod Insertion
-pub mod Arrival
+pub mod NewPair
 pub mod Reservation

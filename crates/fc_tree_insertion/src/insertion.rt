@@ -8,12 +8,12 @@ ghost use Rattle.fc_tree_node.specs.Tree.{IsSoundMap};
 ghost use Rattle.fc_tree_insertion.specs.Cascade.{leaf_at, all_full, cascade, nodes_needed, insertion_moves, IsSpareLeaf};
 ghost use Rattle.fc_tree_insertion.specs.Insertion.{spread, own_pairs_after, children_after, IsHalved};
 ghost use Rattle.fc_tree_node.specs.Split.{left_length, split_moves};
-ghost use Rattle.fc_tree_insertion.specs.Arrival.{steps_after, path_after, IsPutAt, HasArrived};
+ghost use Rattle.fc_tree_insertion.specs.NewPair.{steps_after, path_after, IsPutAt, IsLedToNewPair};
 
-use crate::arrival::arrive;
 use crate::new_nodes::NewNodes;
 use crate::ready::{insert_ready, try_nodes_at};
 use crate::spares::Spares;
+use crate::steps_to_new_pair::lead_to_new_pair;
 use fc_base::{Count, Handle, TryReserveError};
 use fc_tree_node::lend::child_in;
 use fc_tree_node::node::{CAPACITY, Node};
@@ -94,7 +94,7 @@ pub fn insert<K: Drop, V: Drop, A: Handle>(
     let nodes = new_nodes.len();
     let NewNodes { leaf, mut inner } = new_nodes;
     insert_with(root, path.as_slice(), pair, leaf, &mut inner, count);
-    arrive(path, nodes);
+    lead_to_new_pair(path, nodes);
 }
 
 // Inserts with the nodes made ahead, and uses up all of them.
@@ -174,7 +174,7 @@ fn insert_below<K: Drop, V: Drop, A: Handle>(
     ensures pairs { spread node.new result ≡ before_gap path.now node.old ++ pair ∷ after_gap path.now node.old }
 
     // The new pair stands where the path leads it, in the node or in the one that is handed out.
-    ensures arrived { HasArrived path.now node.old node.new result }
+    ensures led { IsLedToNewPair path.now node.old node.new result }
 
     // The levels are as before, in each half of a node that was full.
     ensures levels { IsLevelled (length path.now - 1) node.new × IfSome result (λ s. IsLevelled (length path.now - 1) s.1) }

@@ -3,7 +3,7 @@ ghost use Rattle.std.specs.Prelude.{◌≡◌, ◌+◌, ◌-◌, ◌<◌, ◌≤
 ghost use Rattle.fc_base.specs.Sizes.{capacity};
 ghost use Rattle.fc_tree_node.specs.Node.{own_pairs, pairs_of, IsLevelled};
 ghost use Rattle.fc_tree_node.specs.Path.{IsPath, before_gap, after_gap};
-ghost use Rattle.fc_tree_insertion.specs.Arrival.{IsPutAt};
+ghost use Rattle.fc_tree_insertion.specs.NewPair.{IsPutAt};
 ghost use Rattle.fc_tree_insertion.specs.Cascade.{leaf_at};
 
 use fc_base::{Count, Handle};

@@ -5,7 +5,7 @@ ghost use Rattle.fc_tree_node.specs.Node.{own_pairs, pairs_of, IsLevelled, IsSou
 ghost use Rattle.fc_tree_node.specs.Depth.{HasFewMoves};
 ghost use Rattle.fc_tree_node.specs.Path.{IsPath, before_gap, after_gap};
 ghost use Rattle.fc_tree_node.specs.Tree.{IsSoundMap};
-ghost use Rattle.fc_tree_insertion.specs.Arrival.{IsPutAt};
+ghost use Rattle.fc_tree_insertion.specs.NewPair.{IsPutAt};
 ghost use Rattle.fc_tree_insertion.specs.Cascade.{leaf_at, nodes_needed};
 
 use crate::insertion::insert;

@@ -8,7 +8,7 @@ ghost use Rattle.fc_tree_insertion.specs.Cascade.{nodes_needed};
 ghost use Rattle.fc_tree_insertion.specs.Reservation.{IsOverDepth, reservation_error};
 
 use crate::new_nodes::NewNodes;
-use crate::stock::Stock;
+use crate::pool::NodePool;
 use fc_base::{Handle, TryReserveError};
 use fc_tree_node::node::{MIN_LEN, Node};
 use fc_tree_node::path::{MAX_STEPS, Path};
@@ -19,7 +19,7 @@ use std::marker::Model;
 /// insertions are left, `places`, and `pairs`, of which a map has to have fewer to be served. Dropped, it gives back the nodes that are left.
 #[derive(Drop)]
 pub struct Reservation<K, V, A: Handle = Global> {
-    stock: Stock<K, V, A>,
+    pool: NodePool<K, V, A>,
     places: usize,
     pairs: usize,
     // The most nodes that one insertion takes: one for each level that a tree of so many pairs can have.
@@ -34,7 +34,7 @@ impl<K, V, A: Handle> Model for Reservation<K, V, A> {
 
     ghost view = { λ r. record { places = r.places; pairs = r.pairs } };
 
-    ghost invariant = { λ r. (r.places * r.levels ≤ r.stock) × (1 ≤ r.levels) × IsOverDepth r.levels r.pairs };
+    ghost invariant = { λ r. (r.places * r.levels ≤ r.pool) × (1 ≤ r.levels) × IsOverDepth r.levels r.pairs };
 }
 
 impl<K, V, A: Handle> Reservation<K, V, A> {
@@ -75,9 +75,9 @@ impl<K: Drop, V: Drop, A: Handle> Reservation<K, V, A> {
         }
         let pairs = pairs + insertions;
         let levels = levels_over(pairs);
-        let stock = Stock::try_new(alloc, insertions * levels)?;
+        let pool = NodePool::try_new(alloc, insertions * levels)?;
         Ok(Reservation {
-            stock,
+            pool,
             places: insertions,
             pairs,
             levels,
@@ -98,7 +98,7 @@ impl<K: Drop, V: Drop, A: Handle> Reservation<K, V, A> {
         ensures pairs { self.new.pairs ≡ self.old.pairs }
     {
         self.places -= 1;
-        self.stock.take_new_nodes(root, path.as_slice())
+        self.pool.take_new_nodes(root, path.as_slice())
     }
 
     /// Takes out the one node that the first pair of a tree needs, and so uses a place up.
@@ -109,7 +109,7 @@ impl<K: Drop, V: Drop, A: Handle> Reservation<K, V, A> {
         ensures pairs { self.new.pairs ≡ self.old.pairs }
     {
         self.places -= 1;
-        self.stock.take_first()
+        self.pool.take_first()
     }
 }
 

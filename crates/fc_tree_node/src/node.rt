@@ -5,7 +5,7 @@
 //! taken when the node is made; a child lies in its parent's list, and the root where the map does, so no node has a block for itself.
 //!
 //! Between two calls on a map all leaves of its tree lie equally deep, and each node holds as many pairs as it should (`IsSoundRoot` in
-//! `specs/Node.antt`). A call on one node may leave it short: who calls it mends it. Nothing here compares keys or takes memory, but for the
+//! `specs/Node.antt`). A call on one node may leave it short: who calls it rebalances it. Nothing here compares keys or takes memory, but for the
 //! two calls that make a node.
 ghost use Rattle.std.specs.Prelude.{◌≡◌, ◌+◌, ◌<◌, ◌≤◌, [], length, slice_index_or, IfOk, IfErr, IsTrue, ◌↔◌};
 ghost use Rattle.fc_base.specs.Sizes.{capacity, most_children};

@@ -1,4 +1,4 @@
-pub mod Mended
+pub mod Rebalanced
 pub mod Removed
 pub mod FewestFacts
 pub mod Replaced

@@ -11,7 +11,7 @@ use Rattle.fc_tree_node.specs.Weave.{weave}
 use Rattle.fc_tree_node.specs.declared.node.Node.{Node, out-Node}
 use Rattle.fc_tree_node.specs.Node.{own_pairs, children_of, child_at, pairs_of, IsLeaf, IsInner, IsLevelled, IsSound, IsSoundRoot}
 use Rattle.fc_tree_node.specs.Place.{before_child, after_child, before_own, after_own, IsPlace, place_pair, before_pair, after_pair}
-use Rattle.fc_tree_removal.specs.Mending.{IsShortAt}
+use Rattle.fc_tree_removal.specs.Rebalancing.{IsShortAt}
 use Rattle.fc_tree_node.specs.Shrunk.{IsShrunk}
 use Rattle.fc_tree_node.proofs.Lists.{length_take, set_is, length_set, all_take, all_drop}
 use Rattle.fc_tree_node.proofs.Weaves.{weave_parts}
@@ -77,9 +77,9 @@ module _ {K V Z : Type 0} where
               (all_drop (IsSound l.below) (suc i) cs l.levels.2);
         }
 
-    -- the node that had it was mended
-    came_mended : (mid new : Node K V Z) → length (own_pairs mid) ≡ length (own_pairs old) → IsShrunk (suc l.below) mid new → IsShrunk h old new
-    came_mended mid new same s =
+    -- the node that had it was rebalanced
+    came_rebalanced : (mid new : Node K V Z) → length (own_pairs mid) ≡ length (own_pairs old) → IsShrunk (suc l.below) mid new → IsShrunk h old new
+    came_rebalanced mid new same s =
         subst (λ k. IsShrunk k old new) (sym l.height) (s.0, (omega arith, omega arith))
 
     -- a child that was not short leaves the node as it is: so where the node lost a pair, the child that came back did too, and is short
@@ -104,9 +104,9 @@ module _ {K V Z : Type 0} where
     pub lent_short : {mid c : Node K V Z} → 1 ≤ length (own_pairs old) → IsReplaced old mid i c → IsShrunk l.below child c → IsShortAt l.below mid i
     lent_short some m s = came_short _ _ some m.size m.child s
 
-    pub lent_mended : {mid c : Node K V Z} (new : Node K V Z) → 1 ≤ length (own_pairs old) → IsReplaced old mid i c → IsShrunk l.below child c
+    pub lent_rebalanced : {mid c : Node K V Z} (new : Node K V Z) → 1 ≤ length (own_pairs old) → IsReplaced old mid i c → IsShrunk l.below child c
         → (IsShortAt l.below mid i → IsShrunk (suc l.below) mid new) → IsShrunk h old new
-    lent_mended new some m s f = came_mended _ new m.size (f (lent_short some m s))
+    lent_rebalanced new some m s f = came_rebalanced _ new m.size (f (lent_short some m s))
 
   pub first_removed : (old mid child c : Node K V Z) (x : K × V) → IsInner old → IsReplaced old mid 0 c → child ≡ child_at old 0
       → pairs_of child ≡ x ∷ pairs_of c → pairs_of old ≡ x ∷ pairs_of mid
@@ -167,9 +167,9 @@ module _ {K V Z : Type 0} where
         → (length (own_pairs c) < length (own_pairs child)) × (length (own_pairs (child_at mid (i + 1))) < min_len)
     own_lost new m stays lost = came_lost l _ new _ (own_kept _ _ _ _ _ m) m.children stays lost
 
-    pub own_mended : {mid c : Node K V Z} {next : K × V} (new : Node K V Z) → 1 ≤ length (own_pairs old) → IsOwnSet old mid i next c
+    pub own_rebalanced : {mid c : Node K V Z} {next : K × V} (new : Node K V Z) → 1 ≤ length (own_pairs old) → IsOwnSet old mid i next c
         → IsShrunk l.below child c → (IsShortAt l.below mid (i + 1) → IsShrunk (suc l.below) mid new) → IsShrunk h old new
-    own_mended new some m s f = came_mended l _ new (own_kept _ _ _ _ _ m) (f (own_short some m s))
+    own_rebalanced new some m s f = came_rebalanced l _ new (own_kept _ _ _ _ _ m) (f (own_short some m s))
 
   -- the pairs of a node of which the first pair after one of its own has taken that one's place
   pub own_replaced : {h : ℕ} (old mid child c : Node K V Z) (next : K × V) (i : ℕ) → IsLent IsLevelled IsSound h old child (i + 1) → IsOwnSet old mid i next c

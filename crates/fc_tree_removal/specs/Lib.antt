@@ -1,3 +1,3 @@
-pub mod Mending
+pub mod Rebalancing
 pub mod Removal
 pub mod Fewest

@@ -1,4 +1,4 @@
-//! The first or the last pair of a tree taken out, with the nodes above it mended.
+//! The first or the last pair of a tree taken out, with the nodes above it rebalanced.
 ghost use Rattle.std.specs.Prelude.{◌≡◌, ℕ, ◌+◌, ◌*◌, ◌<◌, ◌≤◌, [], ◌∷◌, ◌++◌, length};
 ghost use Rattle.fc_base.specs.Sizes.{capacity, level_moves};
 ghost use Rattle.fc_tree_node.specs.Node.{own_pairs, pairs_of, IsSoundRoot};
@@ -7,7 +7,7 @@ ghost use Rattle.fc_tree_removal.specs.Fewest.{fewest_moves, HasFewestMoves};
 ghost use Rattle.fc_tree_removal.specs.Removal.{IsSoundTree, IsTreeLeft};
 ghost use Rattle.fc_tree_node.specs.Shrunk.{IsShrunk};
 
-use crate::removal::{mend_child, remove_first, take_empty_root};
+use crate::removal::{rebalance_child, remove_first, take_empty_root};
 use fc_base::{Count, Handle};
 use fc_tree_node::lend::child_in;
 use fc_tree_node::node::Node;
@@ -80,6 +80,6 @@ pub fn remove_last<K: Drop, V: Drop, A: Handle>(
         return node.remove_leaf(end - 1, count);
     }
     let pair = remove_last(child_in(&mut node.children, end), count);
-    mend_child(node, end, count);
+    rebalance_child(node, end, count);
     pair
 }

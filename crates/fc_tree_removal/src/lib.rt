@@ -1,4 +1,4 @@
-//! Removal at a place of a tree and at its ends, with the nodes above it mended, and replacement at a place.
+//! Removal at a place of a tree and at its ends, with the nodes above it rebalanced, and replacement at a place.
 #![tactic(auto)]
 
 pub mod first_last;

@@ -1,4 +1,4 @@
-//! Removal at a place, which mends the nodes above it on its way up.
+//! Removal at a place, which rebalances the nodes above it on its way up.
 ghost use Rattle.std.specs.Prelude.{◌≡◌, ℕ, suc, ◌+◌, ◌-◌, ◌*◌, ◌<◌, ◌≤◌, [], ◌∷◌, ◌++◌, length, Some};
 ghost use Rattle.fc_base.specs.Sizes.{capacity, min_len, level_moves};
 ghost use Rattle.fc_tree_node.specs.Node.{own_pairs, child_at, pairs_of, IsLevelled, IsSoundRoot};
@@ -6,8 +6,8 @@ ghost use Rattle.fc_tree_node.specs.Place.{IsPlace, place_pair, before_pair, aft
 ghost use Rattle.fc_tree_node.specs.Siblings.{IsMerged, IsShared};
 ghost use Rattle.fc_tree_node.specs.Tree.{entries};
 ghost use Rattle.fc_tree_node.specs.TreePlace.{IsPlaceIn, pair_in, before_pair_in, after_pair_in};
-ghost use Rattle.fc_tree_removal.specs.Fewest.{least_mending, fewest_moves, HasFewestMoves};
-ghost use Rattle.fc_tree_removal.specs.Mending.{together, IsShortAt};
+ghost use Rattle.fc_tree_removal.specs.Fewest.{least_rebalancing, fewest_moves, HasFewestMoves};
+ghost use Rattle.fc_tree_removal.specs.Rebalancing.{together, IsShortAt};
 ghost use Rattle.fc_tree_removal.specs.Removal.{IsSoundTree, IsTreeLeft};
 ghost use Rattle.fc_tree_node.specs.Shrunk.{IsShrunk};
 
@@ -73,7 +73,7 @@ fn without_empty_root<K: Drop, V: Drop, A: Handle>(root: Node<K, V, A>) -> Optio
     }
 }
 
-// Takes the pair at the place out, and mends the nodes below `node`.
+// Takes the pair at the place out, and rebalances the nodes below `node`.
 fn remove_at<K: Drop, V: Drop, A: Handle>(
     node: &mut Node<K, V, A>,
     path: &[u8],
@@ -94,7 +94,7 @@ fn remove_at<K: Drop, V: Drop, A: Handle>(
         return remove_own(node, i, count);
     }
     let pair = remove_at(child_in(&mut node.children, i), &path[1..], count);
-    mend_child(node, i, count);
+    rebalance_child(node, i, count);
     pair
 }
 
@@ -119,7 +119,7 @@ fn remove_own<K: Drop, V: Drop, A: Handle>(
     }
     let next = remove_first(child_in(&mut node.children, index + 1), count);
     let pair = node.replace_pair(index, next, count);
-    mend_child(node, index + 1, count);
+    rebalance_child(node, index + 1, count);
     pair
 }
 
@@ -140,13 +140,13 @@ pub fn remove_first<K: Drop, V: Drop, A: Handle>(
         return node.remove_leaf(0, count);
     }
     let pair = remove_first(child_in(&mut node.children, 0), count);
-    mend_child(node, 0, count);
+    rebalance_child(node, 0, count);
     pair
 }
 
-// Mends the child at `index` where it has fewer than `MIN_LEN` pairs.
+// Rebalances the child at `index` where it has fewer than `MIN_LEN` pairs.
 #[inline]
-pub(crate) fn mend_child<K: Drop, V: Drop, A: Handle>(
+pub(crate) fn rebalance_child<K: Drop, V: Drop, A: Handle>(
     node: &mut Node<K, V, A>,
     index: usize,
     count: &mut Count,
@@ -161,20 +161,20 @@ pub(crate) fn mend_child<K: Drop, V: Drop, A: Handle>(
     ensures pairs { pairs_of node.new ≡ pairs_of node.old }
     ensures levels { (h : ℕ) → IsShortAt h node.old index → IsShrunk (suc h) node.old node.new }
     ensures kept_moves { count.old.moves ≤ count.new.moves }
-    ensures least { length (own_pairs (child_at node.old index)) < min_len → count.old.moves + least_mending ≤ count.new.moves }
+    ensures least { length (own_pairs (child_at node.old index)) < min_len → count.old.moves + least_rebalancing ≤ count.new.moves }
     ensures moves { count.new.moves ≤ count.old.moves + level_moves }
     ensures comparisons { count.new.comparisons ≡ count.old.comparisons }
 {
     if node.child(index).len() >= MIN_LEN {
         return;
     }
-    mend_short(node, index, count);
+    rebalance_short(node, index, count);
 }
 
-// Mends the child at `index`, which has one fewer: with the child on its left where there is one, else with the one on its right.
+// Rebalances the child at `index`, which has one fewer: with the child on its left where there is one, else with the one on its right.
 // Where both and the pair between them fit in one node, they are merged, and else one pair is stolen.
 #[inline(never)]
-fn mend_short<K: Drop, V: Drop, A: Handle>(
+fn rebalance_short<K: Drop, V: Drop, A: Handle>(
     node: &mut Node<K, V, A>,
     index: usize,
     count: &mut Count,
@@ -190,7 +190,7 @@ fn mend_short<K: Drop, V: Drop, A: Handle>(
     ensures left_theft_moves { capacity < together node.old (index - 1) → 0 < index → count.new.moves ≡ count.old.moves + (length (own_pairs (child_at node.old (index - 1 + 1))) + 4) }
     ensures right_theft_moves { capacity < together node.old (index - 1) → index ≡ 0 → count.new.moves ≡ count.old.moves + (length (own_pairs (child_at node.old 1)) + 3) }
     ensures kept_moves { count.old.moves ≤ count.new.moves }
-    ensures least { count.old.moves + least_mending ≤ count.new.moves }
+    ensures least { count.old.moves + least_rebalancing ≤ count.new.moves }
     ensures moves { count.new.moves ≤ count.old.moves + level_moves }
     ensures theft_moves { capacity < together node.old (index - 1) → count.new.moves ≤ count.old.moves + (capacity + 3) }
     ensures comparisons { count.new.comparisons ≡ count.old.comparisons }

@@ -15,13 +15,13 @@ use Rattle.fc_tree_node.specs.Place.{before_child}
 use Rattle.fc_tree_node.specs.Tree.{Map, entries, IsSoundMap}
 use Rattle.fc_tree_node.specs.TreePlace.{before_gap_in, after_gap_in}
 use Rattle.fc_tree_node.proofs.Pairs.{child_below}
-use Rattle.fc_tree_walk.specs.Gap.{AreEndsIn}
-use Rattle.fc_tree_walk.specs.Span.{between}
-use Rattle.fc_tree_walk.proofs.Bounds.{gap_entries}
-use Rattle.fc_tree_walk.proofs.Meetings.{earlier}
+use Rattle.fc_tree_cursor.specs.Gap.{AreEndsIn}
+use Rattle.fc_tree_cursor.specs.Span.{between}
+use Rattle.fc_tree_cursor.proofs.Bounds.{gap_entries}
+use Rattle.fc_tree_cursor.proofs.Meetings.{earlier}
 use Rattle.fc_tree_retain.specs.Retained.{RetainsInTurn}
-use Rattle.fc_tree_retain.specs.Sifted.{SiftsPair}
-use Rattle.fc_tree_retain.specs.Stretch.{AreInOrder, IsEnd, IsStretchSifted}
+use Rattle.fc_tree_retain.specs.Filtered.{FiltersPair}
+use Rattle.fc_tree_retain.specs.Stretch.{AreInOrder, IsEnd, IsStretchFiltered}
 use Rattle.fc_tree_retain.proofs.Kept.{kept_ascending}
 use Rattle.fc_tree_retain.proofs.Lists.{take_place, drop_place, longer}
 use Rattle.fc_tree_retain.proofs.Turns.{retains_join, retains_as}
@@ -94,16 +94,16 @@ module _ {K V Z : Type 0} where
       ∙ append_assoc (before_gap_in m front) r.more (after_gap_in m back) in
       e ∙ ap (λ xs. before_gap_in m front ++ (xs ++ after_gap_in m back)) (sym (between_is m front back r.more b e))
 
-  -- the tree whose root was sifted
+  -- the tree whose root was filtered
   pub rooted : {S : Type 0} (R : S → K × V → S → V → Bool → Type 0) (s t : S) (front back : List ℕ) (m new : Map K V Z) (root mid : Node K V Z)
-      → m ≡ Some root → IsSoundMap m → AreEndsIn m front back → IsStretchSifted R s t front back root mid → entries new ≡ pairs_of mid
+      → m ≡ Some root → IsSoundMap m → AreEndsIn m front back → IsStretchFiltered R s t front back root mid → entries new ≡ pairs_of mid
       → (stay : List (K × V)) × RetainsInTurn R s (between m front back) t stay × (entries new ≡ before_gap_in m front ++ (stay ++ after_gap_in m back))
   rooted R s t front back None new root mid is sound ends e n = absurd cc
   rooted R s t front back (Some r) new root mid is sound ends e n =
       let same : root ≡ r = cc in
-      let x = subst (λ o. IsStretchSifted R s t front back o mid) same e in
+      let x = subst (λ o. IsStretchFiltered R s t front back o mid) same e in
       let b = between_is (Some r) front back x.asked (gap_entries (Some r) back sound ends.1) x.before in
-      (x.stay, subst (λ xs. RetainsInTurn R s xs t x.stay) (sym b) x.sifted, n ∙ x.after)
+      (x.stay, subst (λ xs. RetainsInTurn R s xs t x.stay) (sym b) x.filtered, n ∙ x.after)
 
   -- where none stays
   pub none_between : (m new : Map K V Z) (front back : List ℕ) (stay : List (K × V)) → stay ≡ []
@@ -129,7 +129,7 @@ module _ {K V : Type 0} where
       subst (IsAscending cmp) (sym f) (kept_ascending Any cmp _ _ tt tt whole (subst (IsAscending cmp) e a))
 
 -- none stays where each answer is that it does not
-pub none_stays : {S K V : Type 0} (xs ys : List (K × V)) (s t : S) → RetainsInTurn (SiftsPair (λ _ _ _ _ b. b ≡ false) (λ _ _ _. ⊤)) s xs t ys → ys ≡ []
+pub none_stays : {S K V : Type 0} (xs ys : List (K × V)) (s t : S) → RetainsInTurn (FiltersPair (λ _ _ _ _ b. b ≡ false) (λ _ _ _. ⊤)) s xs t ys → ys ≡ []
 none_stays [] ys s t r = r.1
 none_stays (e ∷ es) ys s t (u, w, b, zs, (v, a, m), rs, q) = q ∙ ap (λ c. cond c ((e.0, w) ∷ zs) zs) a ∙ none_stays es zs u t rs
 
@@ -141,7 +141,7 @@ module _ {T S K V : Type 0} (part : T → S) (gone : T → ℕ) (asked : S → K
   abbrev pub CountsGiven : T → K × V → T → Type 0
   CountsGiven s e t = given (part s) e (part t) × (gone s + 1 < 2 ^ 64 → gone t ≡ gone s + 1)
 
-  pub counted : (xs ys : List (K × V)) (s t : T) → RetainsInTurn (SiftsPair CountsAsked CountsGiven) s xs t ys → gone s + length xs < 2 ^ 64
+  pub counted : (xs ys : List (K × V)) (s t : T) → RetainsInTurn (FiltersPair CountsAsked CountsGiven) s xs t ys → gone s + length xs < 2 ^ 64
       → gone t + length ys ≡ gone s + length xs
   counted [] ys s t r le = let e = ap gone r.0 in let f = ap length r.1 in omega arith
   counted (e ∷ es) ys s t (u, w, b, zs, (v, a, m), rs, q) le = go b m (ap length q) a.1 (counted es zs u t rs)
@@ -152,10 +152,10 @@ module _ {T S K V : Type 0} (part : T → S) (gone : T → ℕ) (asked : S → K
       go false m l k f = let g = m.1 (omega arith) in let r = f (omega arith) in omega arith
 
   -- without it
-  pub uncounted : (xs ys : List (K × V)) (s t : T) → RetainsInTurn (SiftsPair CountsAsked CountsGiven) s xs t ys
-      → RetainsInTurn (SiftsPair asked given) (part s) xs (part t) ys
-  uncounted = retains_as (SiftsPair CountsAsked CountsGiven) (SiftsPair asked given) part step
+  pub uncounted : (xs ys : List (K × V)) (s t : T) → RetainsInTurn (FiltersPair CountsAsked CountsGiven) s xs t ys
+      → RetainsInTurn (FiltersPair asked given) (part s) xs (part t) ys
+  uncounted = retains_as (FiltersPair CountsAsked CountsGiven) (FiltersPair asked given) part step
     where
-      step : (s t : T) (e : K × V) (w : V) (b : Bool) → SiftsPair CountsAsked CountsGiven s e t w b → SiftsPair asked given (part s) e (part t) w b
+      step : (s t : T) (e : K × V) (w : V) (b : Bool) → FiltersPair CountsAsked CountsGiven s e t w b → FiltersPair asked given (part s) e (part t) w b
       step s t e w true (u, a, m) = (part u, a.0, ap part m)
       step s t e w false (u, a, m) = (part u, a.0, m.0)

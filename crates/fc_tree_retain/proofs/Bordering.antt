@@ -1,4 +1,4 @@
--- Children of which some beside each other may hold few pairs, mended.
+-- Children of which some beside each other may hold few pairs, rebalanced.
 use Rattle.std.proofs.Common.{◌≡◌, ℕ, suc, zero, ◌+◌, ◌-◌, ◌<◌, ◌≤◌, List, [], ◌∷◌, length, get_or, take, drop, refl, sym, ap, subst, ◌∙◌, arith, inl, inr}
 use Rattle.std.specs.List.{AllByRecursion}
 use Rattle.std.proofs.lemmas.List.{drop-drop}
@@ -6,9 +6,9 @@ use Rattle.fc_tree_node.specs.declared.node.Node.{Node}
 use Rattle.fc_tree_node.specs.Node.{own_pairs, children_of, child_at, pairs_of, IsInner, IsSound}
 use Rattle.fc_tree_node.proofs.Lists.{all_both, all_at}
 use Rattle.fc_tree_node.proofs.Gaps.{drop_item}
-use Rattle.fc_tree_retain.specs.Mending.{IsThin, IsSeam, IsSettled}
+use Rattle.fc_tree_retain.specs.Rebalancing.{IsThin, IsSeam, IsSeamRebalanced}
 use Rattle.fc_tree_retain.specs.Stretch.{IsThinWithin}
-use Rattle.fc_tree_retain.proofs.Settling.{IsMendedTo, IsNextMended, settled_to, settled_sizes, mended_all, all_from}
+use Rattle.fc_tree_retain.proofs.Settling.{IsRebalancedTo, IsNextRebalanced, seam_rebalanced_to, seam_sizes, rebalanced_all, all_from}
 
 module _ {X : Type 0} (P : X → Type 0) where
   -- fewer first items
@@ -33,7 +33,7 @@ module _ {K V Z : Type 0} where
     pub pairs : pairs_of now ≡ pairs_of old
     pub inner : IsInner now
     pub inside : at + left ≤ length (own_pairs now)
-    pub levels : (h : ℕ) → IsThinWithin h old first last → IsMendedTo (AreThinFirst h left) h at now
+    pub levels : (h : ℕ) → IsThinWithin h old first last → IsRebalancedTo (AreThinFirst h left) h at now
 
   pub bordering_start : (g : ℕ) (n : Node K V Z) (first last at left : ℕ) → IsThinWithin g n first last → at ≡ first - 1 → at + left ≡ last
       → IsBordering n n first last at left
@@ -46,7 +46,7 @@ module _ {K V Z : Type 0} where
         levels = start;
       }
     where
-      start : (h : ℕ) → IsThinWithin h n first last → IsMendedTo (AreThinFirst h left) h at n
+      start : (h : ℕ) → IsThinWithin h n first last → IsRebalancedTo (AreThinFirst h left) h at n
       start h t =
           let cs = children_of n in
           let behind : suc at + left ≡ last + 1 = omega arith in
@@ -62,8 +62,8 @@ module _ {K V Z : Type 0} where
           }
 
   -- the next two children meet
-  next_two : (Q Q' : List (Node K V Z) → Type 0) (h at : ℕ) (n : Node K V Z) → IsInner n → at < length (own_pairs n) → IsMendedTo Q h at n
-      → ((c : Node K V Z) (cs : List (Node K V Z)) → Q (c ∷ cs) → IsThin h c × Q' cs) → IsNextMended Q' h at n
+  next_two : (Q Q' : List (Node K V Z) → Type 0) (h at : ℕ) (n : Node K V Z) → IsInner n → at < length (own_pairs n) → IsRebalancedTo Q h at n
+      → ((c : Node K V Z) (cs : List (Node K V Z)) → Q (c ∷ cs) → IsThin h c × Q' cs) → IsNextRebalanced Q' h at n
   next_two Q Q' h at n inner lt g f =
       let cs = children_of n in
       let k : length cs ≡ length (own_pairs n) + 1 = inner in
@@ -83,29 +83,29 @@ module _ {K V Z : Type 0} where
       }
 
   pub bordering_seam : (old now : Node K V Z) (first last at left left' : ℕ) → IsBordering old now first last at left → left ≡ suc left'
-      → (h : ℕ) → IsThinWithin h old first last → IsNextMended (AreThinFirst h left') h at now
+      → (h : ℕ) → IsThinWithin h old first last → IsNextRebalanced (AreThinFirst h left') h at now
   bordering_seam old now first last at left left' b e h t =
       next_two (AreThinFirst h left) (AreThinFirst h left') h at now b.inner (omega arith) (b.levels h t)
       (λ c cs q. (q.0.0, (q.0.1, subst (λ k. AllByRecursion (IsSound h) (drop k (c ∷ cs))) e q.1)))
 
   pub bordering_more : (g : ℕ) (old now new : Node K V Z) (first last at left left' j : ℕ) → IsThinWithin g old first last
       → IsBordering old now first last at left → left ≡ suc left' → pairs_of new ≡ pairs_of now
-      → ((h : ℕ) → IsSeam h now at → IsSettled h at j now new) → IsBordering old new first last j left'
+      → ((h : ℕ) → IsSeam h now at → IsSeamRebalanced h at j now new) → IsBordering old new first last j left'
   bordering_more g old now new first last at left left' j t b e np st =
       let x = bordering_seam old now first last at left left' b e g t in
-      let z = settled_sizes g at j now new x.seam (st g x.seam) in
+      let z = seam_sizes g at j now new x.seam (st g x.seam) in
       let inside = b.inside in
       record {
         pairs = np ∙ b.pairs;
         inner = z.1;
         inside = omega arith;
         levels = λ h u. let y = bordering_seam old now first last at left left' b e h u in
-            settled_to (AreThinFirst h left') h at j now new y (st h y.seam);
+            seam_rebalanced_to (AreThinFirst h left') h at j now new y (st h y.seam);
       }
 
   -- the last of them meets one that is sound
   pub bordering_last : (old now : Node K V Z) (first last at : ℕ) → IsBordering old now first last at 0 → at < length (own_pairs now)
-      → (h : ℕ) → IsThinWithin h old first last → IsNextMended (AllByRecursion (IsSound h)) h at now × IsSound h (child_at now (at + 1))
+      → (h : ℕ) → IsThinWithin h old first last → IsNextRebalanced (AllByRecursion (IsSound h)) h at now × IsSound h (child_at now (at + 1))
   bordering_last old now first last at b lt h t =
       let cs = children_of now in
       let one : at + 1 ≡ suc at = omega arith in
@@ -115,14 +115,15 @@ module _ {K V Z : Type 0} where
         subst (λ i. IsSound h (child_at now i)) (sym one) all.0,
       )
 
-  pub bordering_settled : (h at j : ℕ) (mid new : Node K V Z) → IsNextMended (AllByRecursion (IsSound h)) h at mid → IsSound h (child_at mid (at + 1))
-      → IsSettled h at j mid new → IsThin (suc h) new
-  bordering_settled h at j mid new x sound st = go st
+  pub bordering_seam_rebalanced : (h at j : ℕ) (mid new : Node K V Z) → IsNextRebalanced (AllByRecursion (IsSound h)) h at mid → IsSound h
+  (child_at mid (at + 1))
+      → IsSeamRebalanced h at j mid new → IsThin (suc h) new
+  bordering_seam_rebalanced h at j mid new x sound st = go st
     where
       sizes : (length (own_pairs new) + (at + 1) ≡ length (own_pairs mid) + j) × IsInner new
-      sizes = settled_sizes h at j mid new x.seam st
+      sizes = seam_sizes h at j mid new x.seam st
 
-      go : IsSettled h at j mid new → IsThin (suc h) new
+      go : IsSeamRebalanced h at j mid new → IsThin (suc h) new
       go (inl (q, o)) = (
         omega arith,
         sizes.1,
@@ -139,4 +140,4 @@ module _ {K V Z : Type 0} where
   pub bordering_end : (old now : Node K V Z) (first last at : ℕ) → IsBordering old now first last at 0 → length (own_pairs now) ≤ at
       → (h : ℕ) → IsThinWithin h old first last → IsThin (suc h) now
   bordering_end old now first last at b le h t =
-      mended_all (AreThinFirst h 0) h at now b.inner (omega arith) (b.levels h t)
+      rebalanced_all (AreThinFirst h 0) h at now b.inner (omega arith) (b.levels h t)

@@ -7,7 +7,7 @@ use Rattle.std.specs.declared.cmp.Ordering.{Ordering}
 use Rattle.std.specs.declared.cmp.Ordering.TheVariants.{Less}
 use Rattle.fc_base.specs.Ascending.{IsAscending}
 use Rattle.fc_tree_retain.specs.Retained.{RetainsInTurn, ExtractsBy}
-use Rattle.fc_tree_retain.specs.Sifted.{SiftsPair}
+use Rattle.fc_tree_retain.specs.Filtered.{FiltersPair}
 use Rattle.fc_tree_retain.proofs.Turns.{retains_as}
 
 module _ {F K V : Type 0} (R : F → K × V → F → V → Bool → Type 0) where
@@ -43,24 +43,24 @@ module _ {S K V : Type 0} (asked : S → K × V → S → V → Bool → Type 0)
   -- where what does not stay is dropped
   pub as_retained : {F : Type 0} (Q : F → K × V → F → V → Bool → Type 0) (v : S → F)
       → ((s t : S) (e : K × V) (w : V) (b : Bool) → asked s e t w b → Q (v s) e (v t) w b) → ((s t : S) (e : K × V) → given s e t → v t ≡ v s)
-      → (xs ys : List (K × V)) (s t : S) → RetainsInTurn (SiftsPair asked given) s xs t ys → RetainsInTurn Q (v s) xs (v t) ys
-  as_retained {F} Q v ask give = retains_as (SiftsPair asked given) Q v step
+      → (xs ys : List (K × V)) (s t : S) → RetainsInTurn (FiltersPair asked given) s xs t ys → RetainsInTurn Q (v s) xs (v t) ys
+  as_retained {F} Q v ask give = retains_as (FiltersPair asked given) Q v step
     where
       kept : (s u t : S) (e : K × V) (w : V) (b : Bool) → MatchBool b (t ≡ u) (given u (e.0, w) t) → v u ≡ v t
       kept s u t e w true m = sym (ap v m)
       kept s u t e w false m = sym (give u t (e.0, w) m)
 
-      step : (s t : S) (e : K × V) (w : V) (b : Bool) → SiftsPair asked given s e t w b → Q (v s) e (v t) w b
+      step : (s t : S) (e : K × V) (w : V) (b : Bool) → FiltersPair asked given s e t w b → Q (v s) e (v t) w b
       step s t e w b (u, a, m) = subst (λ x. Q (v s) e x w b) (kept s u t e w b m) (ask s u e w b a)
 
   -- where it is given to a second closure
   pub as_extracted : {F E : Type 0} (Q : F → K × V → F → V → Bool → Type 0) (G : E → K × V → E → Type 0) (p : S → F) (q : S → E)
       → ((s t : S) (e : K × V) (w : V) (b : Bool) → asked s e t w b → (picked : Bool) × Q (p s) e (p t) w picked × (b ≡ not picked) × (q t ≡ q s))
       → ((s t : S) (e : K × V) → given s e t → G (q s) e (q t) × (p t ≡ p s))
-      → (xs ys : List (K × V)) (s t : S) → RetainsInTurn (SiftsPair asked given) s xs t ys → RetainsInTurn (ExtractsBy Q G) (p s, q s) xs (p t, q t) ys
-  as_extracted Q G p q ask give = retains_as (SiftsPair asked given) (ExtractsBy Q G) (λ s. (p s, q s)) step
+      → (xs ys : List (K × V)) (s t : S) → RetainsInTurn (FiltersPair asked given) s xs t ys → RetainsInTurn (ExtractsBy Q G) (p s, q s) xs (p t, q t) ys
+  as_extracted Q G p q ask give = retains_as (FiltersPair asked given) (ExtractsBy Q G) (λ s. (p s, q s)) step
     where
-      step : (s t : S) (e : K × V) (w : V) (b : Bool) → SiftsPair asked given s e t w b → ExtractsBy Q G (p s, q s) e (p t, q t) w b
+      step : (s t : S) (e : K × V) (w : V) (b : Bool) → FiltersPair asked given s e t w b → ExtractsBy Q G (p s, q s) e (p t, q t) w b
       step s t e w true (u, a, m) = let x = ask s u e w true a in (x.0, subst (λ y. Q (p s) e y w x.0) (sym (ap p m)) x.1, x.2, ap q m ∙ x.3)
       step s t e w false (u, a, m) =
           let x = ask s u e w false a in

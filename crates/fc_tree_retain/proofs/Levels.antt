@@ -11,9 +11,9 @@ use Rattle.fc_tree_node.proofs.Formed.{leaf_or_inner}
 use Rattle.fc_tree_node.proofs.Pairs.{leaf_children}
 use Rattle.fc_tree_node.proofs.Lists.{all_at, all_each}
 use Rattle.fc_tree_node.proofs.Lent.{IsAbove, above, IsLent, lent, lent_is}
-use Rattle.fc_tree_border.proofs.Heights.{above_first, height_of, height_is, no_children, first_all, levelled_height}
+use Rattle.fc_tree_split.proofs.Heights.{above_first, height_of, height_is, no_children, first_all, levelled_height}
 use Rattle.fc_tree_retain.specs.Loose.{IsLoose}
-use Rattle.fc_tree_retain.specs.Mending.{IsThin, IsSeam}
+use Rattle.fc_tree_retain.specs.Rebalancing.{IsThin, IsSeam}
 
 module _ {K V Z : Type 0} where
   pub levelled_loose : (h : ℕ) (n : Node K V Z) → IsLevelled h n → IsLoose h n

@@ -13,7 +13,7 @@ use Rattle.fc_tree_node.proofs.Formed.{leaf_or_inner}
 use Rattle.fc_tree_node.proofs.Lists.{length_take, length_set, all_front, all_back, all_at}
 use Rattle.fc_tree_node.proofs.Gaps.{item_there, drop_all}
 use Rattle.fc_tree_node.proofs.Siblings.{one_at, set_two, set_removed}
-use Rattle.fc_tree_retain.specs.Mending.{IsThin, IsSeam, IsMet, IsOneMet, AreTwoMet, together}
+use Rattle.fc_tree_retain.specs.Rebalancing.{IsThin, IsSeam, IsMet, IsOneMet, AreTwoMet, together}
 use Rattle.fc_tree_retain.proofs.Lists.{at_place, take_place, drop_place, longer}
 use Rattle.fc_tree_retain.proofs.Levels.{levelled_thin}
 

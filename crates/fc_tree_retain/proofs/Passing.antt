@@ -19,10 +19,10 @@ use Rattle.fc_tree_node.proofs.Gaps.{inner_gap, after_none}
 use Rattle.fc_tree_search.specs.Written.{set_value, with_value}
 use Rattle.fc_tree_search.proofs.WrittenPairs.{value_own, value_children, value_size}
 use Rattle.fc_tree_retain.specs.Loose.{IsLoose}
-use Rattle.fc_tree_retain.specs.Mending.{IsThin}
+use Rattle.fc_tree_retain.specs.Rebalancing.{IsThin}
 use Rattle.fc_tree_retain.specs.Retained.{RetainsInTurn}
-use Rattle.fc_tree_retain.specs.Sifted.{IsPassed, IsOwnPassed}
-use Rattle.fc_tree_retain.specs.Stretch.{IsPartSifted}
+use Rattle.fc_tree_retain.specs.Filtered.{IsPassed, IsOwnPassed}
+use Rattle.fc_tree_retain.specs.Stretch.{IsPartFiltered}
 use Rattle.fc_tree_retain.proofs.Levels.{loose_child, only_thin}
 use Rattle.fc_tree_retain.proofs.Lists.{at_place, drop_place, set_place, remove_place}
 use Rattle.fc_tree_retain.proofs.Turns.{retains_join, retains_one, retains_none}
@@ -207,7 +207,7 @@ module _ {K V Z : Type 0} where
 
 module _ {S K V : Type 0} (R : S → K × V → S → V → Bool → Type 0) where
   -- the pairs of a leaf before a place were asked, but for some first ones; so many last ones are not asked
-  pub record IsLeafSifted (first : List (K × V)) (last : ℕ) (s t : S) (old now : List (K × V)) (at left : ℕ) : Type 0 where
+  pub record IsLeafFiltered (first : List (K × V)) (last : ℕ) (s t : S) (old now : List (K × V)) (at left : ℕ) : Type 0 where
     pub seen : List (K × V)
     pub stay : List (K × V)
     pub rest : List (K × V)
@@ -215,10 +215,10 @@ module _ {S K V : Type 0} (R : S → K × V → S → V → Bool → Type 0) whe
     pub now_is : now ≡ (first ++ stay) ++ rest
     pub place : length (first ++ stay) ≡ at
     pub left_is : length rest ≡ last + left
-    pub sifts : RetainsInTurn R s seen t stay
+    pub filters : RetainsInTurn R s seen t stay
 
   pub leaf_start : (s : S) (xs first rest : List (K × V)) (at last left : ℕ) → xs ≡ first ++ rest → length first ≡ at → length rest ≡ last + left
-      → IsLeafSifted first last s s xs xs at left
+      → IsLeafFiltered first last s s xs xs at left
   leaf_start s xs first rest at last left is p e = record {
     seen = [];
     stay = [];
@@ -227,21 +227,21 @@ module _ {S K V : Type 0} (R : S → K × V → S → V → Bool → Type 0) whe
     now_is = is ∙ ap (λ zs. zs ++ rest) (sym (append-nil first));
     place = ap length (append-nil first) ∙ p;
     left_is = e;
-    sifts = retains_none R s;
+    filters = retains_none R s;
   }
 
   module _ (first : List (K × V)) (last : ℕ) where
-    pub leaf_room : (s t : S) (old now : List (K × V)) (at left : ℕ) → IsLeafSifted first last s t old now at left → 0 < left → at < length now
+    pub leaf_room : (s t : S) (old now : List (K × V)) (at left : ℕ) → IsLeafFiltered first last s t old now at left → 0 < left → at < length now
     leaf_room s t old now at left l some =
         let e = ap length l.now_is ∙ length-append (first ++ l.stay) l.rest in
         omega arith
 
-    pub leaf_kept : (s t u : S) (old now new : List (K × V)) (at left left' : ℕ) (e : K × V) (w : V) → IsLeafSifted first last s t old now at left
-        → left ≡ left' + 1 → R t e u w true → e ≡ get_or now at e → new ≡ set_value now at w → IsLeafSifted first last s u old new (at + 1) left'
+    pub leaf_kept : (s t u : S) (old now new : List (K × V)) (at left left' : ℕ) (e : K × V) (w : V) → IsLeafFiltered first last s t old now at left
+        → left ≡ left' + 1 → R t e u w true → e ≡ get_or now at e → new ≡ set_value now at w → IsLeafFiltered first last s u old new (at + 1) left'
     leaf_kept s t u old now new at left left' e w l k r q v = go l.rest l.left_is l.old_is l.now_is
       where
         go : (rest : List (K × V)) → length rest ≡ last + left → old ≡ first ++ (l.seen ++ rest) → now ≡ (first ++ l.stay) ++ rest
-            → IsLeafSifted first last s u old new (at + 1) left'
+            → IsLeafFiltered first last s u old new (at + 1) left'
         go [] z o n = absurd (omega arith)
         go (x ∷ rest) z o n =
             let is : e ≡ x = q ∙ ap (λ xs. get_or xs at e) n ∙ at_place (first ++ l.stay) rest x e at l.place in
@@ -256,15 +256,15 @@ module _ {S K V : Type 0} (R : S → K × V → S → V → Bool → Type 0) whe
                   ∙ ap (λ xs. xs ++ rest) more;
               place = ap length (sym more) ∙ length-append (first ++ l.stay) ((e.0, w) ∷ []) ∙ ap (λ k. k + 1) l.place;
               left_is = omega arith;
-              sifts = retains_join R l.seen (e ∷ []) l.stay ((e.0, w) ∷ []) s t u l.sifts (retains_one R e t u w true r);
+              filters = retains_join R l.seen (e ∷ []) l.stay ((e.0, w) ∷ []) s t u l.filters (retains_one R e t u w true r);
             }
 
-    pub leaf_gone : (s t u : S) (old now new : List (K × V)) (at left left' : ℕ) (e : K × V) (w : V) → IsLeafSifted first last s t old now at left
-        → left ≡ left' + 1 → R t e u w false → e ≡ get_or now at e → new ≡ remove (set_value now at w) at → IsLeafSifted first last s u old new at left'
+    pub leaf_gone : (s t u : S) (old now new : List (K × V)) (at left left' : ℕ) (e : K × V) (w : V) → IsLeafFiltered first last s t old now at left
+        → left ≡ left' + 1 → R t e u w false → e ≡ get_or now at e → new ≡ remove (set_value now at w) at → IsLeafFiltered first last s u old new at left'
     leaf_gone s t u old now new at left left' e w l k r q v = go l.rest l.left_is l.old_is l.now_is
       where
         go : (rest : List (K × V)) → length rest ≡ last + left → old ≡ first ++ (l.seen ++ rest) → now ≡ (first ++ l.stay) ++ rest
-            → IsLeafSifted first last s u old new at left'
+            → IsLeafFiltered first last s u old new at left'
         go [] z o n = absurd (omega arith)
         go (x ∷ rest) z o n =
             let is : e ≡ x = q ∙ ap (λ xs. get_or xs at e) n ∙ at_place (first ++ l.stay) rest x e at l.place in
@@ -277,28 +277,28 @@ module _ {S K V : Type 0} (R : S → K × V → S → V → Bool → Type 0) whe
                   ∙ ap (λ xs. remove xs at) (value_place (first ++ l.stay) rest e w at l.place) ∙ remove_place (first ++ l.stay) rest (e.0, w) at l.place;
               place = l.place;
               left_is = omega arith;
-              sifts = subst (λ zs. RetainsInTurn R s (l.seen ++ e ∷ []) u zs) (append-nil l.stay)
-                  (retains_join R l.seen (e ∷ []) l.stay [] s t u l.sifts (retains_one R e t u w false r));
+              filters = subst (λ zs. RetainsInTurn R s (l.seen ++ e ∷ []) u zs) (append-nil l.stay)
+                  (retains_join R l.seen (e ∷ []) l.stay [] s t u l.filters (retains_one R e t u w false r));
             }
 
-    pub leaf_passed : (s t u : S) (old now new : List (K × V)) (at left left' j : ℕ) → IsLeafSifted first last s t old now at left → left ≡ left' + 1
-        → IsOwnPassed R t u at j now new → IsLeafSifted first last s u old new j left'
+    pub leaf_passed : (s t u : S) (old now new : List (K × V)) (at left left' j : ℕ) → IsLeafFiltered first last s t old now at left → left ≡ left' + 1
+        → IsOwnPassed R t u at j now new → IsLeafFiltered first last s u old new j left'
     leaf_passed s t u old now new at left left' j l k (e, w, true, r, q, p) =
-        subst (λ i. IsLeafSifted first last s u old new i left') (sym p.0) (leaf_kept s t u old now new at left left' e w l k r q p.1)
+        subst (λ i. IsLeafFiltered first last s u old new i left') (sym p.0) (leaf_kept s t u old now new at left left' e w l k r q p.1)
     leaf_passed s t u old now new at left left' j l k (e, w, false, r, q, p) =
-        subst (λ i. IsLeafSifted first last s u old new i left') (sym p.0) (leaf_gone s t u old now new at left left' e w l k r q p.1)
+        subst (λ i. IsLeafFiltered first last s u old new i left') (sym p.0) (leaf_gone s t u old now new at left left' e w l k r q p.1)
 
   -- all of them were
-  pub leaf_end : (s t : S) (old now : List (K × V)) (at : ℕ) → IsLeafSifted [] 0 s t old now at 0 → RetainsInTurn R s old t now
+  pub leaf_end : (s t : S) (old now : List (K × V)) (at : ℕ) → IsLeafFiltered [] 0 s t old now at 0 → RetainsInTurn R s old t now
   leaf_end s t old now at l =
       let z = empty_list l.rest l.left_is in
       let o : old ≡ l.seen = l.old_is ∙ ap (λ r. l.seen ++ r) z ∙ append-nil l.seen in
       let n : now ≡ l.stay = l.now_is ∙ ap (λ r. l.stay ++ r) z ∙ append-nil l.stay in
-      subst (λ x. RetainsInTurn R s x t now) (sym o) (subst (λ x. RetainsInTurn R s l.seen t x) (sym n) l.sifts)
+      subst (λ x. RetainsInTurn R s x t now) (sym o) (subst (λ x. RetainsInTurn R s l.seen t x) (sym n) l.filters)
 
   -- those of a part were
   pub part_end : (i j last : ℕ) (s t : S) (old now : List (K × V)) (at : ℕ) → i ≤ length old → last + j ≡ length old
-      → IsLeafSifted (take i old) last s t old now at 0 → IsPartSifted R s t i j old now
+      → IsLeafFiltered (take i old) last s t old now at 0 → IsPartFiltered R s t i j old now
   part_end i j last s t old now at le e l =
       let whole : old ≡ (take i old ++ l.seen) ++ l.rest = l.old_is ∙ sym (append_assoc (take i old) l.seen l.rest) in
       let sizes = ap length whole ∙ length-append (take i old ++ l.seen) l.rest in
@@ -306,7 +306,7 @@ module _ {S K V : Type 0} (R : S → K × V → S → V → Bool → Type 0) whe
       record {
         asked = l.seen;
         stay = l.stay;
-        sifted = l.sifts;
+        filtered = l.filters;
         before = l.old_is ∙ ap (λ r. take i old ++ (l.seen ++ r)) (sym rest);
         after = l.now_is ∙ append_assoc (take i old) l.stay l.rest ∙ ap (λ r. take i old ++ (l.stay ++ r)) (sym rest);
       }
@@ -359,7 +359,7 @@ module _ {S K V Z : Type 0} (R : S → K × V → S → V → Bool → Type 0) w
         record {
           asked = e;
           stay = stay;
-          sifted = r;
+          filtered = r;
           before = open_before new j (A ++ kept) d D P' Q o ∙ b
               ∙ ap (λ zs. zs ++ (pairs_of c ++ stay)) (sym (open_before old i A c (d ∷ D) P (e ∷ Q) there));
           child = open_child new j (A ++ kept) d D P' Q o;
@@ -434,29 +434,29 @@ module _ {S K V Z : Type 0} (R : S → K × V → S → V → Bool → Type 0) w
       )
 
   -- the pairs before a child were asked
-  pub record IsSifting (s t : S) (old now : Node K V Z) (at left : ℕ) : Type 0 where
+  pub record IsFiltering (s t : S) (old now : Node K V Z) (at left : ℕ) : Type 0 where
     pub seen : List (K × V)
     pub old_is : pairs_of old ≡ seen ++ (pairs_of (child_at now at) ++ after_child now at)
-    pub sifts : RetainsInTurn R s seen t (before_child now at)
+    pub filters : RetainsInTurn R s seen t (before_child now at)
     pub left_is : length (own_pairs now) ≡ at + left
     pub inner : IsInner now
     pub levels : (h : ℕ) → IsLoose h old → IsLoose h now
 
-  pub sifting_start : (s : S) (n : Node K V Z) (left : ℕ) → IsInner n → length (own_pairs n) ≡ left → IsSifting s s n n 0 left
-  sifting_start s n left inner e = record {
+  pub filtering_start : (s : S) (n : Node K V Z) (left : ℕ) → IsInner n → length (own_pairs n) ≡ left → IsFiltering s s n n 0 left
+  filtering_start s n left inner e = record {
     seen = [];
     old_is = inner_gap n 0 inner (omega arith);
-    sifts = retains_none R s;
+    filters = retains_none R s;
     left_is = omega arith;
     inner = inner;
     levels = λ h l. l;
   }
 
   -- a child, and the pair behind it
-  pub sifting_more : (s t u v : S) (old now mid new dold dnew : Node K V Z) (at left left' j : ℕ) → IsSifting s t old now at left → left ≡ left' + 1
+  pub filtering_more : (s t u v : S) (old now mid new dold dnew : Node K V Z) (at left left' j : ℕ) → IsFiltering s t old now at left → left ≡ left' + 1
       → dold ≡ child_at now at → IsReplaced now mid at dnew → RetainsInTurn R t (pairs_of dold) u (pairs_of dnew) → ((h : ℕ) → IsLoose h dold → IsLoose h dnew)
-      → IsPassed IsLoose R u v at j mid new → IsSifting s v old new j left'
-  sifting_more s t u v old now mid new dold dnew at left left' j g k is m r lo p =
+      → IsPassed IsLoose R u v at j mid new → IsFiltering s v old new j left'
+  filtering_more s t u v old now mid new dold dnew at left left' j g k is m r lo p =
       let c = child_left now mid dnew at g.inner (omega arith) m in
       let o : length (own_pairs mid) ≡ length (own_pairs now) = ap length m.same in
       let here : after_child now at ≡ p.asked ∷ (pairs_of (child_at new j) ++ after_child new j) = sym c.after ∙ p.here
@@ -469,9 +469,9 @@ module _ {S K V Z : Type 0} (R : S → K × V → S → V → Bool → Type 0) w
         seen = g.seen ++ (pairs_of dold ++ p.asked ∷ []);
         old_is = was ∙ ap (λ zs. g.seen ++ zs) (sym (append_assoc (pairs_of dold) (p.asked ∷ []) (pairs_of (child_at new j) ++ after_child new j)))
             ∙ sym (append_assoc g.seen (pairs_of dold ++ p.asked ∷ []) (pairs_of (child_at new j) ++ after_child new j));
-        sifts = subst (λ zs. RetainsInTurn R s (g.seen ++ (pairs_of dold ++ p.asked ∷ [])) v zs) (sym front)
-            (retains_join R g.seen (pairs_of dold ++ p.asked ∷ []) (before_child now at) (pairs_of dnew ++ p.stay) s t v g.sifts
-            (retains_join R (pairs_of dold) (p.asked ∷ []) (pairs_of dnew) p.stay t u v r p.sifted));
+        filters = subst (λ zs. RetainsInTurn R s (g.seen ++ (pairs_of dold ++ p.asked ∷ [])) v zs) (sym front)
+            (retains_join R g.seen (pairs_of dold ++ p.asked ∷ []) (before_child now at) (pairs_of dnew ++ p.stay) s t v g.filters
+            (retains_join R (pairs_of dold) (p.asked ∷ []) (pairs_of dnew) p.stay t u v r p.filtered));
         left_is = omega arith;
         inner = p.inner;
         levels = go;
@@ -483,14 +483,15 @@ module _ {S K V Z : Type 0} (R : S → K × V → S → V → Bool → Type 0) w
           let o : length (own_pairs mid) ≡ length (own_pairs now) = ap length m.same in
           passed_loose u v at j mid new c.inner (omega arith) p h (child_loose h now mid dold dnew at g.inner (omega arith) is m lo (g.levels h l))
 
-  pub record IsAllSifted (s t : S) (old new : Node K V Z) : Type 0 where
-    pub sifts : RetainsInTurn R s (pairs_of old) t (pairs_of new)
+  pub record IsAllFiltered (s t : S) (old new : Node K V Z) : Type 0 where
+    pub filters : RetainsInTurn R s (pairs_of old) t (pairs_of new)
     pub levels : (h : ℕ) → IsLoose h old → IsLoose h new
 
   -- the last child
-  pub sifting_end : (s t u : S) (old now new dold dnew : Node K V Z) (at : ℕ) → IsSifting s t old now at 0 → dold ≡ child_at now at → IsReplaced now new at dnew
-      → RetainsInTurn R t (pairs_of dold) u (pairs_of dnew) → ((h : ℕ) → IsLoose h dold → IsLoose h dnew) → IsAllSifted s u old new
-  sifting_end s t u old now new dold dnew at g is m r lo =
+  pub filtering_end : (s t u : S) (old now new dold dnew : Node K V Z) (at : ℕ) → IsFiltering s t old now at 0 → dold ≡ child_at now at → IsReplaced now new
+  at dnew
+      → RetainsInTurn R t (pairs_of dold) u (pairs_of dnew) → ((h : ℕ) → IsLoose h dold → IsLoose h dnew) → IsAllFiltered s u old new
+  filtering_end s t u old now new dold dnew at g is m r lo =
       let c = child_left now new dnew at g.inner (omega arith) m in
       let o : length (own_pairs new) ≡ length (own_pairs now) = ap length m.same in
       let was : pairs_of old ≡ g.seen ++ pairs_of dold = g.old_is ∙ ap (λ n. g.seen ++ (pairs_of n ++ after_child now at)) (sym is)
@@ -498,8 +499,8 @@ module _ {S K V Z : Type 0} (R : S → K × V → S → V → Bool → Type 0) w
       let is' : pairs_of new ≡ before_child now at ++ pairs_of dnew = last_pairs new at c.inner (omega arith)
       ∙ ap (λ zs. zs ++ pairs_of (child_at new at)) c.before ∙ ap (λ n. before_child now at ++ pairs_of n) c.child in
       record {
-        sifts = subst (λ x. RetainsInTurn R s x u (pairs_of new)) (sym was)
+        filters = subst (λ x. RetainsInTurn R s x u (pairs_of new)) (sym was)
             (subst (λ x. RetainsInTurn R s (g.seen ++ pairs_of dold) u x) (sym is')
-            (retains_join R g.seen (pairs_of dold) (before_child now at) (pairs_of dnew) s t u g.sifts r));
+            (retains_join R g.seen (pairs_of dold) (before_child now at) (pairs_of dnew) s t u g.filters r));
         levels = λ h l. child_loose h now new dold dnew at g.inner (omega arith) is m lo (g.levels h l);
       }

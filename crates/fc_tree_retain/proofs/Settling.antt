@@ -1,4 +1,4 @@
--- A node of which two children were mended, and one of which all were.
+-- A node of which two children were rebalanced, and one of which all were.
 use Rattle.std.proofs.Common.{◌≡◌, ℕ, suc, zero, ◌+◌, ◌<◌, ◌≤◌, List, [], ◌∷◌, ◌++◌, length, get_or, take, drop, refl, sym, ap, subst, ◌∙◌, arith, append_assoc}
 use Rattle.std.proofs.Common.{inl, inr}
 use Rattle.std.specs.Prelude.{◌⊎◌, slice_set}
@@ -12,15 +12,15 @@ use Rattle.fc_tree_node.proofs.Gaps.{drop_all}
 use Rattle.fc_tree_node.proofs.Siblings.{one_at, two_at}
 use Rattle.fc_tree_node.proofs.Lent.{lent_is, replaced_same, IsReplaced}
 use Rattle.fc_tree_retain.specs.Loose.{IsLoose}
-use Rattle.fc_tree_retain.specs.Mending.{IsThin, IsSeam, IsMet, IsSettled, IsJoined, together}
+use Rattle.fc_tree_retain.specs.Rebalancing.{IsThin, IsSeam, IsMet, IsSeamRebalanced, IsJoined, together}
 use Rattle.fc_tree_retain.proofs.Lists.{at_place, take_place, drop_place, set_place}
 use Rattle.fc_tree_retain.proofs.Levels.{thin_sound, levelled_thin, loose_child}
 
 module _ {K V Z : Type 0} where
   -- neither of the two was short
-  pub whole_settled : (h i : ℕ) (n : Node K V Z) → IsSeam h n i → min_len ≤ length (own_pairs (child_at n i))
-      → min_len ≤ length (own_pairs (child_at n (i + 1))) → IsSettled h i (i + 1) n n
-  whole_settled h i n s l r =
+  pub whole_seam_rebalanced : (h i : ℕ) (n : Node K V Z) → IsSeam h n i → min_len ≤ length (own_pairs (child_at n i))
+      → min_len ≤ length (own_pairs (child_at n (i + 1))) → IsSeamRebalanced h i (i + 1) n n
+  whole_seam_rebalanced h i n s l r =
       inr (
         refl,
         record {
@@ -108,12 +108,12 @@ module _ {K V Z : Type 0} where
       let is = lent_is mid place d x.inner (omega arith) q in
       record { bounds = lt; inner = x.inner; is = is; below = a.below; height = a.height; met = subst (IsMet (suc a.below) seam) (sym is) a.met }
 
-  -- once those that meet are settled, the child is whole but for how many pairs it has
+  -- once those that meet are rebalanced, the child is whole but for how many pairs it has
   pub record IsMetLeft (h : ℕ) (c c' : Node K V Z) : Type 0 where
     pub thin : IsThin h c'
     pub kept : length (own_pairs c) ≤ length (own_pairs c') + 1
 
-  pub met_left : (g seam j : ℕ) (c c' : Node K V Z) → IsMet (suc g) seam c → IsSettled g seam j c c' → IsMetLeft (suc g) c c'
+  pub met_left : (g seam j : ℕ) (c c' : Node K V Z) → IsMet (suc g) seam c → IsSeamRebalanced g seam j c c' → IsMetLeft (suc g) c c'
   met_left g seam j c c' (s, after, one) (inl (q, o)) = go (length (own_pairs c')) refl
     where
       go : (k : ℕ) → length (own_pairs c') ≡ k → IsMetLeft (suc g) c c'
@@ -150,11 +150,11 @@ module _ {K V Z : Type 0} where
         kept = omega arith;
       }
 
-  -- so the two are settled
-  pub joined_settled : (h i place seam last : ℕ) (old mid new c' : Node K V Z) → IsSeam h old i → IsJoined h i place seam last old mid
+  -- so the two are rebalanced
+  pub joined_seam_rebalanced : (h i place seam last : ℕ) (old mid new c' : Node K V Z) → IsSeam h old i → IsJoined h i place seam last old mid
       → children_of new ≡ slice_set (children_of mid) place c' → length (own_pairs new) ≡ length (own_pairs mid) → IsMetLeft h (child_at mid place) c'
-      → IsSettled h i last old new
-  joined_settled h i place seam last old mid new c' s (inl (p, q, m)) e o l =
+      → IsSeamRebalanced h i last old new
+  joined_seam_rebalanced h i place seam last old mid new c' s (inl (p, q, m)) e o l =
       let a = around (children_of old) i (omega arith) in
       let D = drop (suc (suc i)) (children_of old) in
       let is : child_at mid place ≡ m.whole = ap (child_at mid) p ∙ ap (λ cs. get_or cs i mid) m.children
@@ -176,7 +176,7 @@ module _ {K V Z : Type 0} where
       enough : IsSound h (child_at old i) ⊎ IsSound h (child_at old (i + 1)) → together old i ≤ length (own_pairs c') + 1 → min_len ≤ length (own_pairs c')
       enough (inl a) t = omega arith
       enough (inr a) t = omega arith
-  joined_settled h i place seam last old mid new c' s (inr (q, m)) e o l = go m.children
+  joined_seam_rebalanced h i place seam last old mid new c' s (inr (q, m)) e o l = go m.children
     where
       D : List (Node K V Z)
       D = drop (suc (suc i)) (children_of old)
@@ -190,7 +190,7 @@ module _ {K V Z : Type 0} where
           thin_sound h c' (omega arith) l.thin
 
       go : ((place ≡ i) × (children_of mid ≡ take i (children_of old) ++ m.grown ∷ m.other ∷ D))
-          ⊎ ((place ≡ i + 1) × (children_of mid ≡ take i (children_of old) ++ m.other ∷ m.grown ∷ D)) → IsSettled h i last old new
+          ⊎ ((place ≡ i + 1) × (children_of mid ≡ take i (children_of old) ++ m.other ∷ m.grown ∷ D)) → IsSeamRebalanced h i last old new
       go (inl (p, f)) =
           let is : child_at mid place ≡ m.grown = ap (child_at mid) p ∙ ap (λ cs. get_or cs i mid) f
           ∙ at_place (take i (children_of old)) (m.other ∷ D) m.grown mid i front in
@@ -225,27 +225,27 @@ module _ {K V Z : Type 0} where
           )
 
   -- the children before a place are sound, the one there may hold few pairs where it is the first, and those after it are as Q says
-  pub record IsMendedTo (Q : List (Node K V Z) → Type 0) (h at : ℕ) (n : Node K V Z) : Type 0 where
+  pub record IsRebalancedTo (Q : List (Node K V Z) → Type 0) (h at : ℕ) (n : Node K V Z) : Type 0 where
     pub fits : length (own_pairs n) ≤ capacity
     pub before : AllByRecursion (IsSound h) (take at (children_of n))
     pub thin : IsThin h (child_at n at)
     pub sound : 0 < at → IsSound h (child_at n at)
     pub after : Q (drop (suc at) (children_of n))
 
-  pub record IsMending (old now : Node K V Z) (at left : ℕ) : Type 0 where
+  pub record IsRebalancing (old now : Node K V Z) (at left : ℕ) : Type 0 where
     pub pairs : pairs_of now ≡ pairs_of old
     pub left_is : length (own_pairs now) ≡ at + left
     pub inner : IsInner now
-    pub levels : (h : ℕ) → IsLoose (suc h) old → IsMendedTo (AllByRecursion (IsLoose h)) h at now
+    pub levels : (h : ℕ) → IsLoose (suc h) old → IsRebalancedTo (AllByRecursion (IsLoose h)) h at now
 
   pub all_from : (P : Node K V Z → Type 0) (cs : List (Node K V Z)) (i : ℕ) → AllByRecursion P cs → AllByRecursion P (drop i cs)
   all_from P cs zero a = a
   all_from P [] (suc i) a = tt
   all_from P (c ∷ cs) (suc i) a = all_from P cs i a.1
 
-  pub mending_start : (old now d c : Node K V Z) (left : ℕ) → IsInner old → IsReplaced old now 0 c → d ≡ child_at old 0 → pairs_of c ≡ pairs_of d
-      → ((h : ℕ) → IsLoose h d → IsThin h c) → length (own_pairs now) ≡ left → IsMending old now 0 left
-  mending_start old now d c left inner m is p th e =
+  pub rebalancing_start : (old now d c : Node K V Z) (left : ℕ) → IsInner old → IsReplaced old now 0 c → d ≡ child_at old 0 → pairs_of c ≡ pairs_of d
+      → ((h : ℕ) → IsLoose h d → IsThin h c) → length (own_pairs now) ≡ left → IsRebalancing old now 0 left
+  rebalancing_start old now d c left inner m is p th e =
       let k : length (children_of old) ≡ length (own_pairs old) + 1 = inner in
       let n : length (children_of now) ≡ length (children_of old) = ap length m.child ∙ length_set (children_of old) 0 c in
       let o : length (own_pairs now) ≡ length (own_pairs old) = ap length m.same in
@@ -264,8 +264,8 @@ module _ {K V Z : Type 0} where
         };
       }
 
-  -- the next child mended
-  pub record IsNextMended (Q : List (Node K V Z) → Type 0) (h at : ℕ) (mid : Node K V Z) : Type 0 where
+  -- the next child rebalanced
+  pub record IsNextRebalanced (Q : List (Node K V Z) → Type 0) (h at : ℕ) (mid : Node K V Z) : Type 0 where
     pub seam : IsSeam h mid at
     pub sound : 0 < at → IsSound h (child_at mid at)
     pub after : Q (drop (suc (suc at)) (children_of mid))
@@ -284,7 +284,7 @@ module _ {K V Z : Type 0} where
   head_of h [] d lt a = absurd (omega arith)
   head_of h (c ∷ cs) d lt a = a.0
 
-  pub next_loose : (h at : ℕ) (now : Node K V Z) → IsInner now → at < length (own_pairs now) → IsMendedTo (AllByRecursion (IsLoose h)) h at now
+  pub next_loose : (h at : ℕ) (now : Node K V Z) → IsInner now → at < length (own_pairs now) → IsRebalancedTo (AllByRecursion (IsLoose h)) h at now
       → IsLoose h (child_at now (at + 1))
   next_loose h at now inner lt g = go (children_of now) at (let k : length (children_of now) ≡ length (own_pairs now) + 1 = inner in omega arith) g.after
     where
@@ -299,10 +299,10 @@ module _ {K V Z : Type 0} where
   drop_one zero (x ∷ xs) = refl
   drop_one (suc i) (x ∷ xs) = drop_one i xs
 
-  pub next_mended : (h at : ℕ) (now mid d c : Node K V Z) → IsInner now → at < length (own_pairs now)
-      → IsMendedTo (AllByRecursion (IsLoose h)) h at now → d ≡ child_at now (at + 1)
-      → IsReplaced now mid (at + 1) c → ((g : ℕ) → IsLoose g d → IsThin g c) → IsNextMended (AllByRecursion (IsLoose h)) h at mid
-  next_mended h at now mid d c inner lt g is m th =
+  pub next_rebalanced : (h at : ℕ) (now mid d c : Node K V Z) → IsInner now → at < length (own_pairs now)
+      → IsRebalancedTo (AllByRecursion (IsLoose h)) h at now → d ≡ child_at now (at + 1)
+      → IsReplaced now mid (at + 1) c → ((g : ℕ) → IsLoose g d → IsThin g c) → IsNextRebalanced (AllByRecursion (IsLoose h)) h at mid
+  next_rebalanced h at now mid d c inner lt g is m th =
       let k : length (children_of now) ≡ length (own_pairs now) + 1 = inner in
       let one : at + 1 ≡ suc at = omega arith in
       let e : children_of mid ≡ slice_set (children_of now) (suc at) c = m.child ∙ ap (λ j. slice_set (children_of now) j c) one in
@@ -326,17 +326,17 @@ module _ {K V Z : Type 0} where
             (all_from (IsLoose h) (drop (suc at) (children_of now)) 1 g.after);
       }
 
-  -- and the two settled
-  pub settled_to : (Q : List (Node K V Z) → Type 0) (h at j : ℕ) (mid new : Node K V Z) → IsNextMended Q h at mid → IsSettled h at j mid new
-      → IsMendedTo Q h j new
-  settled_to Q h at j mid new x (inl (q, o)) =
+  -- and the two rebalanced
+  pub seam_rebalanced_to : (Q : List (Node K V Z) → Type 0) (h at j : ℕ) (mid new : Node K V Z) → IsNextRebalanced Q h at mid → IsSeamRebalanced h at j mid new
+      → IsRebalancedTo Q h j new
+  seam_rebalanced_to Q h at j mid new x (inl (q, o)) =
       let s = x.seam in
       let fits = s.fits in
       let a = around (children_of mid) at (omega arith) in
       let A = take at (children_of mid) in
       let D = drop (suc (suc at)) (children_of mid) in
       let is : child_at new at ≡ o.whole = ap (λ cs. get_or cs at new) o.children ∙ at_place A D o.whole new at a.0 in
-      subst (λ i. IsMendedTo Q h i new) (sym q) (record {
+      subst (λ i. IsRebalancedTo Q h i new) (sym q) (record {
         fits = omega arith;
         before = subst (AllByRecursion (IsSound h)) (sym (ap (take at) o.children ∙ take_place A (o.whole ∷ D) at a.0)) s.before;
         thin = subst (IsThin h) (sym is) o.thin;
@@ -344,7 +344,7 @@ module _ {K V Z : Type 0} where
         after = subst Q (sym (ap (drop (suc at)) (o.children ∙ sym (append_assoc A (o.whole ∷ []) D))
             ∙ drop_place (A ++ o.whole ∷ []) D (suc at) (let t = length-append A (o.whole ∷ []) in omega arith))) x.after;
       })
-  settled_to Q h at j mid new x (inr (q, o)) =
+  seam_rebalanced_to Q h at j mid new x (inr (q, o)) =
       let s = x.seam in
       let fits = s.fits in
       let a = around (children_of mid) at (omega arith) in
@@ -354,7 +354,7 @@ module _ {K V Z : Type 0} where
       let e : children_of new ≡ (A ++ o.left ∷ []) ++ o.right ∷ D = o.children ∙ sym (append_assoc A (o.left ∷ []) (o.right ∷ D)) in
       let z : length (A ++ o.left ∷ []) ≡ at + 1 = length-append A (o.left ∷ []) ∙ ap (λ i. i + 1) t₀ in
       let is : child_at new (at + 1) ≡ o.right = ap (λ cs. get_or cs (at + 1) new) e ∙ at_place (A ++ o.left ∷ []) D o.right new (at + 1) z in
-      subst (λ i. IsMendedTo Q h i new) (sym q) (record {
+      subst (λ i. IsRebalancedTo Q h i new) (sym q) (record {
         fits = omega arith;
         before = subst (AllByRecursion (IsSound h)) (sym (ap (take (at + 1)) e ∙ take_place (A ++ o.left ∷ []) (o.right ∷ D) (at + 1) z))
             (all_both (IsSound h) A (o.left ∷ []) s.before (o.sound.0, tt));
@@ -365,40 +365,40 @@ module _ {K V Z : Type 0} where
             x.after;
       })
 
-  pub settled_sizes : (h at j : ℕ) (mid new : Node K V Z) → IsSeam h mid at → IsSettled h at j mid new
+  pub seam_sizes : (h at j : ℕ) (mid new : Node K V Z) → IsSeam h mid at → IsSeamRebalanced h at j mid new
       → (length (own_pairs new) + (at + 1) ≡ length (own_pairs mid) + j) × IsInner new
-  settled_sizes h at j mid new s (inl (q, o)) =
+  seam_sizes h at j mid new s (inl (q, o)) =
       let a = around (children_of mid) at (omega arith) in
       let n = ap length o.children ∙ length-append (take at (children_of mid)) (o.whole ∷ drop (suc (suc at)) (children_of mid)) in
       (omega arith, omega arith)
-  settled_sizes h at j mid new s (inr (q, o)) =
+  seam_sizes h at j mid new s (inr (q, o)) =
       let a = around (children_of mid) at (omega arith) in
       let n = ap length o.children ∙ length-append (take at (children_of mid)) (o.left ∷ o.right ∷ drop (suc (suc at)) (children_of mid)) in
       (omega arith, omega arith)
 
-  pub mending_more : (old now mid new d c : Node K V Z) (at left left' j g : ℕ) → IsMending old now at left → left ≡ left' + 1 → IsLoose (suc g) old
+  pub rebalancing_more : (old now mid new d c : Node K V Z) (at left left' j g : ℕ) → IsRebalancing old now at left → left ≡ left' + 1 → IsLoose (suc g) old
       → d ≡ child_at now (at + 1) → IsReplaced now mid (at + 1) c → pairs_of c ≡ pairs_of d → ((h : ℕ) → IsLoose h d → IsThin h c)
-      → pairs_of new ≡ pairs_of mid → ((h : ℕ) → IsSeam h mid at → IsSettled h at j mid new) → IsMending old new j left'
-  mending_more old now mid new d c at left left' j g x e l is m p th np st =
+      → pairs_of new ≡ pairs_of mid → ((h : ℕ) → IsSeam h mid at → IsSeamRebalanced h at j mid new) → IsRebalancing old new j left'
+  rebalancing_more old now mid new d c at left left' j g x e l is m p th np st =
       let o : length (own_pairs mid) ≡ length (own_pairs now) = ap length m.same in
-      let seam = (next_mended g at now mid d c x.inner (omega arith) (x.levels g l) is m th).seam in
-      let z = settled_sizes g at j mid new seam (st g seam) in
+      let seam = (next_rebalanced g at now mid d c x.inner (omega arith) (x.levels g l) is m th).seam in
+      let z = seam_sizes g at j mid new seam (st g seam) in
       record {
         pairs = np ∙ replaced_same m x.inner (omega arith) (p ∙ ap pairs_of is) ∙ x.pairs;
         left_is = omega arith;
         inner = z.1;
-        levels = λ h b. let y = next_mended h at now mid d c x.inner (omega arith) (x.levels h b) is m th in
-            settled_to (AllByRecursion (IsLoose h)) h at j mid new y (st h y.seam);
+        levels = λ h b. let y = next_rebalanced h at now mid d c x.inner (omega arith) (x.levels h b) is m th in
+            seam_rebalanced_to (AllByRecursion (IsLoose h)) h at j mid new y (st h y.seam);
       }
 
-  -- all are mended
-  pub mended_all : (Q : List (Node K V Z) → Type 0) (h at : ℕ) (now : Node K V Z) → IsInner now → length (own_pairs now) ≡ at → IsMendedTo Q h at now
+  -- all are rebalanced
+  pub rebalanced_all : (Q : List (Node K V Z) → Type 0) (h at : ℕ) (now : Node K V Z) → IsInner now → length (own_pairs now) ≡ at → IsRebalancedTo Q h at now
       → IsThin (suc h) now
-  mended_all Q h at now inner li g =
+  rebalanced_all Q h at now inner li g =
       let k : length (children_of now) ≡ length (own_pairs now) + 1 = inner in
       (g.fits, inner, go at (omega arith) g)
     where
-      go : (at : ℕ) → length (children_of now) ≡ at + 1 → IsMendedTo Q h at now
+      go : (at : ℕ) → length (children_of now) ≡ at + 1 → IsRebalancedTo Q h at now
           → AllByRecursion (IsSound h) (children_of now) ⊎ ((length (own_pairs now) ≡ 0) × IsThin h (child_at now 0))
       go zero n g = let k : length (children_of now) ≡ length (own_pairs now) + 1 = inner in inr (omega arith, g.thin)
       go (suc at) n g =
@@ -407,6 +407,6 @@ module _ {K V Z : Type 0} where
           inl (subst (AllByRecursion (IsSound h)) (sym e) (all_both (IsSound h) (take (suc at) (children_of now)) (child_at now (suc at) ∷ []) g.before
           (g.sound (omega arith), tt)))
 
-  pub mending_end : (old now : Node K V Z) (at : ℕ) → IsMending old now at 0 → (h : ℕ) → IsLoose (suc h) old → IsThin (suc h) now
-  mending_end old now at x h l =
-      mended_all (AllByRecursion (IsLoose h)) h at now x.inner (omega arith) (x.levels h l)
+  pub rebalancing_end : (old now : Node K V Z) (at : ℕ) → IsRebalancing old now at 0 → (h : ℕ) → IsLoose (suc h) old → IsThin (suc h) now
+  rebalancing_end old now at x h l =
+      rebalanced_all (AllByRecursion (IsLoose h)) h at now x.inner (omega arith) (x.levels h l)

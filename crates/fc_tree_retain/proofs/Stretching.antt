@@ -14,10 +14,10 @@ use Rattle.fc_tree_node.proofs.Pairs.{leaf_children, leaf_pairs, child_below}
 use Rattle.fc_tree_node.proofs.Lent.{IsAbove, above, IsReplaced}
 use Rattle.fc_tree_node.proofs.Gaps.{drop_item, cut_item, drop_all, inner_gap, after_none}
 use Rattle.fc_tree_removal.proofs.Removed.{none_leaf}
-use Rattle.fc_tree_retain.specs.Mending.{IsThin}
+use Rattle.fc_tree_retain.specs.Rebalancing.{IsThin}
 use Rattle.fc_tree_retain.specs.Retained.{RetainsInTurn}
-use Rattle.fc_tree_retain.specs.Sifted.{IsPassed}
-use Rattle.fc_tree_retain.specs.Stretch.{AreInOrder, IsEnd, IsPartSifted, IsStretchSifted, IsThinWithin}
+use Rattle.fc_tree_retain.specs.Filtered.{IsPassed}
+use Rattle.fc_tree_retain.specs.Stretch.{AreInOrder, IsEnd, IsPartFiltered, IsStretchFiltered, IsThinWithin}
 use Rattle.fc_tree_retain.proofs.Levels.{levelled_thin}
 use Rattle.fc_tree_retain.proofs.Lists.{take_place, drop_place}
 use Rattle.fc_tree_retain.proofs.Opened.{IsOpenAt, open_child, open_after, open_inner}
@@ -117,14 +117,14 @@ module _ {K V Z : Type 0} where
       }
 
 module _ {S K V Z : Type 0} (R : S → K × V → S → V → Bool → Type 0) where
-  pub settled_stretch : (s t : S) (front back : List ℕ) (old mid new : Node K V Z) → IsStretchSifted R s t front back old mid → pairs_of new ≡ pairs_of mid
-      → IsStretchSifted R s t front back old new
-  settled_stretch s t front back old mid new e q =
-      record { asked = e.asked; stay = e.stay; sifted = e.sifted; before = e.before; after = q ∙ e.after }
+  pub seam_stretch : (s t : S) (front back : List ℕ) (old mid new : Node K V Z) → IsStretchFiltered R s t front back old mid → pairs_of new ≡ pairs_of mid
+      → IsStretchFiltered R s t front back old new
+  seam_stretch s t front back old mid new e q =
+      record { asked = e.asked; stay = e.stay; filtered = e.filtered; before = e.before; after = q ∙ e.after }
 
   pub leaf_stretch : (h : ℕ) (s t : S) (front back : List ℕ) (i j : ℕ) (old new : Node K V Z) → IsLeaf old → IsLeaf new → IsLevelled h old → IsEnd h front old
-      → IsEnd h back old → i ≡ get_or front 0 0 → j ≡ get_or back 0 (length (own_pairs old)) → IsPartSifted R s t i j (own_pairs old) (own_pairs new)
-      → IsStretchSifted R s t front back old new
+      → IsEnd h back old → i ≡ get_or front 0 0 → j ≡ get_or back 0 (length (own_pairs old)) → IsPartFiltered R s t i j (own_pairs old) (own_pairs new)
+      → IsStretchFiltered R s t front back old new
   leaf_stretch h s t front back i j old new l l' lev ef eb ei ej p =
       let z = none_leaf h old l lev in
       let f : take i (own_pairs old) ≡ before_gap front old = ap (λ k. take k (own_pairs old)) ei
@@ -134,7 +134,7 @@ module _ {S K V Z : Type 0} (R : S → K × V → S → V → Bool → Type 0) w
       record {
         asked = p.asked;
         stay = p.stay;
-        sifted = p.sifted;
+        filtered = p.filtered;
         before = leaf_pairs old l ∙ p.before ∙ ap (λ xs. xs ++ (p.asked ++ drop j (own_pairs old))) f ∙ ap (λ ys. before_gap front old ++ (p.asked ++ ys)) b;
         after = leaf_pairs new l' ∙ p.after ∙ ap (λ xs. xs ++ (p.stay ++ drop j (own_pairs old))) f ∙ ap (λ ys. before_gap front old ++ (p.stay ++ ys)) b;
       }
@@ -143,7 +143,7 @@ module _ {S K V Z : Type 0} (R : S → K × V → S → V → Bool → Type 0) w
   pub record IsStretching (s t : S) (front : List ℕ) (old now : Node K V Z) (ahead : List ℕ) (first counter at : ℕ) : Type 0 where
     pub seen : List (K × V)
     pub stay : List (K × V)
-    pub sifts : RetainsInTurn R s seen t stay
+    pub filters : RetainsInTurn R s seen t stay
     pub old_is : (ys : List (K × V)) → pairs_of (child_at old counter) ≡ before_gap ahead (child_at old counter) ++ ys
         → pairs_of old ≡ before_gap front old ++ (seen ++ (ys ++ after_child old counter))
     pub front_is : before_child now at ++ before_gap ahead (child_at old counter) ≡ before_gap front old ++ stay
@@ -172,7 +172,7 @@ module _ {S K V Z : Type 0} (R : S → K × V → S → V → Bool → Type 0) w
       record {
         seen = [];
         stay = [];
-        sifts = retains_none R s;
+        filters = retains_none R s;
         old_is = λ ys q. inner_gap old first inner le ∙ ap (λ zs. before_child old first ++ (zs ++ after_child old first)) q
             ∙ ap (λ zs. before_child old first ++ zs) (append_assoc (before_gap (drop 1 front) (child_at old first)) ys (after_child old first))
             ∙ sym (append_assoc (before_child old first) (before_gap (drop 1 front) (child_at old first)) (ys ++ after_child old first))
@@ -287,7 +287,7 @@ module _ {S K V Z : Type 0} (R : S → K × V → S → V → Bool → Type 0) w
           (left.inner, omega (arith, stretching_lent.bounds), omega (arith, stretching_lent.size))
 
       -- and the pair behind it was asked
-      pub stretching_more : (u v : S) (new : Node K V Z) (j : ℕ) → counter < length (own_pairs old) → IsStretchSifted R t u ahead [] dold dnew
+      pub stretching_more : (u v : S) (new : Node K V Z) (j : ℕ) → counter < length (own_pairs old) → IsStretchFiltered R t u ahead [] dold dnew
           → IsPassed IsThin R u v at j mid new → IsStretching s v front old new [] first (counter + 1) j
       stretching_more u v new j lt e p =
           let one : counter + 1 ≡ suc counter = omega arith in
@@ -327,8 +327,8 @@ module _ {S K V Z : Type 0} (R : S → K × V → S → V → Bool → Type 0) w
           record {
             seen = x.seen ++ (e.asked ++ p.asked ∷ []);
             stay = x.stay ++ (e.stay ++ p.stay);
-            sifts = retains_join R x.seen (e.asked ++ p.asked ∷ []) x.stay (e.stay ++ p.stay) s t v x.sifts
-                (retains_join R e.asked (p.asked ∷ []) e.stay p.stay t u v e.sifted p.sifted);
+            filters = retains_join R x.seen (e.asked ++ p.asked ∷ []) x.stay (e.stay ++ p.stay) s t v x.filters
+                (retains_join R e.asked (p.asked ∷ []) e.stay p.stay t u v e.filtered p.filtered);
             old_is = λ ys q. x.old_is e.asked asked ∙ ap (λ zs. before_gap front old ++ (x.seen ++ (e.asked ++ zs)))
                 (was ∙ ap (λ zs. p.asked ∷ (zs ++ after_child old (counter + 1))) q)
                 ∙ regroup (before_gap front old) x.seen e.asked p.asked (ys ++ after_child old (counter + 1));
@@ -357,9 +357,10 @@ module _ {S K V Z : Type 0} (R : S → K × V → S → V → Bool → Type 0) w
           regroup_front b g a z = simp append_assoc
 
       -- the last child
-      pub stretching_sifted : (u : S) (back : List ℕ) → counter ≡ get_or back 0 (length (own_pairs old)) → IsStretchSifted R t u ahead (drop 1 back) dold dnew
-          → IsStretchSifted R s u front back old mid
-      stretching_sifted u back g e =
+      pub stretching_filtered : (u : S) (back : List ℕ) → counter ≡ get_or back 0 (length (own_pairs old)) → IsStretchFiltered R t u ahead (drop 1 back) dold
+      dnew
+          → IsStretchFiltered R s u front back old mid
+      stretching_filtered u back g e =
           let b = back_parts back old counter g in
           let rest = after_gap (drop 1 back) c in
           let asked : pairs_of c ≡ before_gap ahead c ++ (e.asked ++ rest) = ap pairs_of (sym here) ∙ e.before
@@ -370,7 +371,7 @@ module _ {S K V Z : Type 0} (R : S → K × V → S → V → Bool → Type 0) w
           record {
             asked = x.seen ++ e.asked;
             stay = x.stay ++ e.stay;
-            sifted = retains_join R x.seen e.asked x.stay e.stay s t u x.sifts e.sifted;
+            filtered = retains_join R x.seen e.asked x.stay e.stay s t u x.filters e.filtered;
             before = x.old_is (e.asked ++ rest) asked ∙ regroup (before_gap front old) x.seen e.asked rest (after_child old counter)
                 ∙ ap (λ zs. before_gap front old ++ ((x.seen ++ e.asked) ++ zs)) b;
             after = inner_gap mid at left.inner back_sizes.1 ∙ ap (λ zs. zs ++ (pairs_of (child_at mid at) ++ after_child mid at)) left.before

@@ -5,7 +5,7 @@ use Rattle.fc_base.specs.Sizes.{capacity}
 use Rattle.fc_tree_node.specs.declared.node.Node.{Node}
 use Rattle.fc_tree_node.specs.Node.{own_pairs, children_of, pairs_of, IsInner, IsSound}
 use Rattle.fc_tree_node.specs.Path.{IsPath, before_gap, after_gap}
-use Rattle.fc_tree_retain.specs.Mending.{IsThin}
+use Rattle.fc_tree_retain.specs.Rebalancing.{IsThin}
 use Rattle.fc_tree_retain.specs.Retained.{RetainsInTurn}
 
 -- The first path leads to no later gap than the second; one without steps stands for the end on its side.
@@ -16,10 +16,10 @@ AreInOrder (i ∷ front) (j ∷ back) = (i < j) ⊎ ((i ≡ j) × AreInOrder fro
 
 module _ {S K V : Type 0} where
   -- The items from i up to j were asked, and those stay at which R said true.
-  pub record IsPartSifted (R : S → K × V → S → V → Bool → Type 0) (s t : S) (i j : ℕ) (old new : List (K × V)) : Type 0 where
+  pub record IsPartFiltered (R : S → K × V → S → V → Bool → Type 0) (s t : S) (i j : ℕ) (old new : List (K × V)) : Type 0 where
     pub asked : List (K × V)
     pub stay : List (K × V)
-    pub sifted : RetainsInTurn R s asked t stay
+    pub filtered : RetainsInTurn R s asked t stay
     pub before : old ≡ take i old ++ (asked ++ drop j old)
     pub after : new ≡ take i old ++ (stay ++ drop j old)
 
@@ -30,10 +30,10 @@ module _ {K V Z : Type 0} where
   IsEnd h (i ∷ path) n = IsPath (i ∷ path) n × (length path ≡ h)
 
   -- The pairs between two gaps were asked, and those stay at which R said true.
-  pub record IsStretchSifted {S : Type 0} (R : S → K × V → S → V → Bool → Type 0) (s t : S) (front back : List ℕ) (old new : Node K V Z) : Type 0 where
+  pub record IsStretchFiltered {S : Type 0} (R : S → K × V → S → V → Bool → Type 0) (s t : S) (front back : List ℕ) (old new : Node K V Z) : Type 0 where
     pub asked : List (K × V)
     pub stay : List (K × V)
-    pub sifted : RetainsInTurn R s asked t stay
+    pub filtered : RetainsInTurn R s asked t stay
     pub before : pairs_of old ≡ before_gap front old ++ (asked ++ after_gap back old)
     pub after : pairs_of new ≡ before_gap front old ++ (stay ++ after_gap back old)
 

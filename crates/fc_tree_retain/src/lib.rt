@@ -1,9 +1,9 @@
-//! A closure asked of each pair of a tree in turn, by which those stay at which it answers true, with the tree mended after.
+//! A closure asked of each pair of a tree in turn, by which those stay at which it answers true, with the tree rebalanced after.
 #![tactic(auto)]
 
-mod mending;
+mod filter;
+mod filtering;
+mod rebalancing;
 pub mod retain;
-mod sieve;
-mod sifting;
 pub mod stretch;
 mod within;

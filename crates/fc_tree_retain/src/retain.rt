@@ -4,14 +4,14 @@ ghost use Rattle.std.specs.declared.cmp.Ordering.{Ordering};
 ghost use Rattle.fc_base.specs.Ascending.{IsAscending};
 ghost use Rattle.fc_tree_node.specs.Tree.{entries, IsSoundMap};
 ghost use Rattle.fc_tree_retain.specs.Retained.{AskedAtKey, AskedAtPair, ExtractsBy, GivenKey, GivenPair, RetainsInTurn};
-ghost use Rattle.fc_tree_retain.specs.Sifted.{SiftsPair};
+ghost use Rattle.fc_tree_retain.specs.Filtered.{FiltersPair};
 
-use crate::mending::{mend, without_thin_roots};
-use crate::sieve::{Extracting, ExtractingKeys, Retaining, RetainingKeys, Sieve};
-use crate::sifting::sift;
+use crate::filter::{Extracting, ExtractingKeys, Filter, Retaining, RetainingKeys};
+use crate::filtering::filter_subtree;
+use crate::rebalancing::{rebalance, without_thin_roots};
 use fc_base::Handle;
-use fc_tree_border::counting::count_in;
 use fc_tree_node::node::Node;
+use fc_tree_split::counting::count_in;
 
 /// Calls the closure at each pair of the tree, in order, with its value lent for writing, and drops those pairs at which it answers
 /// false. It answers how many stay. No memory is taken, and nothing is compared.
@@ -27,7 +27,7 @@ pub fn retain<K: Drop, V: Drop, F: FnMut(&K, &mut V) -> bool, A: Handle>(
     ensures ascending { (cmp : K → K → Ordering) → IsAscending cmp (entries tree.old) → IsAscending cmp (entries tree.new) }
     ensures length { result ≡ length (entries tree.new) }
 {
-    sift_tree(tree, &mut Retaining { keep: f })
+    filter_tree(tree, &mut Retaining { keep: f })
 }
 
 /// Calls `pick` at each pair of the tree, in order, with its value lent for writing, takes those pairs out at which it answers true,
@@ -45,7 +45,7 @@ pub fn extract_if<K: Drop, V: Drop, F: FnMut(&K, &mut V) -> bool, E: FnMut(K, V)
     ensures ascending { (cmp : K → K → Ordering) → IsAscending cmp (entries tree.old) → IsAscending cmp (entries tree.new) }
     ensures length { result ≡ length (entries tree.new) }
 {
-    sift_tree(tree, &mut Extracting { pick, each })
+    filter_tree(tree, &mut Extracting { pick, each })
 }
 
 /// `retain` by the key alone. The values stay as they are.
@@ -61,7 +61,7 @@ pub fn retain_keys<K: Drop, V: Drop, F: FnMut(&K) -> bool, A: Handle>(
     ensures ascending { (cmp : K → K → Ordering) → IsAscending cmp (entries tree.old) → IsAscending cmp (entries tree.new) }
     ensures length { result ≡ length (entries tree.new) }
 {
-    sift_tree(tree, &mut RetainingKeys { keep: f })
+    filter_tree(tree, &mut RetainingKeys { keep: f })
 }
 
 /// `extract_if` by the key alone: `each` is called with the keys, and the values are dropped.
@@ -78,40 +78,40 @@ pub fn extract_keys_if<K: Drop, V: Drop, F: FnMut(&K) -> bool, E: FnMut(K), A: H
     ensures ascending { (cmp : K → K → Ordering) → IsAscending cmp (entries tree.old) → IsAscending cmp (entries tree.new) }
     ensures length { result ≡ length (entries tree.new) }
 {
-    sift_tree(tree, &mut ExtractingKeys { pick, each })
+    filter_tree(tree, &mut ExtractingKeys { pick, each })
 }
 
-// Asks of each pair of the tree, which is mended after, and answers how many stay.
-fn sift_tree<K: Drop, V: Drop, S: Sieve<K, V>, A: Handle>(
+// Asks of each pair of the tree, which is rebalanced after, and answers how many stay.
+fn filter_tree<K: Drop, V: Drop, S: Filter<K, V>, A: Handle>(
     tree: &mut Option<Node<K, V, A>>,
-    sieve: &mut S,
+    filter: &mut S,
 ) -> usize
     requires sound { IsSoundMap tree.old }
     requires fits { length (entries tree.old) ≤ usize.MAX }
-    requires callable { S.callable sieve.old }
+    requires callable { S.callable filter.old }
     ensures sound { IsSoundMap tree.new }
-    ensures sifted { RetainsInTurn (SiftsPair S.asked S.given) sieve.old (entries tree.old) sieve.new (entries tree.new) }
+    ensures filtered { RetainsInTurn (FiltersPair S.asked S.given) filter.old (entries tree.old) filter.new (entries tree.new) }
     ensures ascending { (cmp : K → K → Ordering) → IsAscending cmp (entries tree.old) → IsAscending cmp (entries tree.new) }
     ensures length { result ≡ length (entries tree.new) }
 {
-    sift_root(tree, sieve);
+    filter_root(tree, filter);
     count_in(tree)
 }
 
-// Asks of each pair of the tree, which is mended after.
-fn sift_root<K: Drop, V: Drop, S: Sieve<K, V>, A: Handle>(
+// Asks of each pair of the tree, which is rebalanced after.
+fn filter_root<K: Drop, V: Drop, S: Filter<K, V>, A: Handle>(
     tree: &mut Option<Node<K, V, A>>,
-    sieve: &mut S,
+    filter: &mut S,
 )
     requires sound { IsSoundMap tree.old }
-    requires callable { S.callable sieve.old }
+    requires callable { S.callable filter.old }
     ensures sound { IsSoundMap tree.new }
-    ensures sifted { RetainsInTurn (SiftsPair S.asked S.given) sieve.old (entries tree.old) sieve.new (entries tree.new) }
+    ensures filtered { RetainsInTurn (FiltersPair S.asked S.given) filter.old (entries tree.old) filter.new (entries tree.new) }
 {
     if let Some(mut root) = tree.take() {
         let node: &mut Node<K, V, A> = &mut root;
-        sift(node, sieve);
-        mend(node);
+        filter_subtree(node, filter);
+        rebalance(node);
         *tree = without_thin_roots(root);
     }
 }

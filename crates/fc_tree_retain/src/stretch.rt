@@ -1,20 +1,20 @@
 //! The pairs of a tree between two gaps that stay, and those that are taken out. No node outside the two paths and what is between them
-//! is seen, but those beside a node that is mended.
+//! is seen, but those beside a node that is rebalanced.
 ghost use Rattle.std.specs.Prelude.{◌≡◌, ℕ, ◌+◌, ◌≤◌, ◌++◌, List, length};
 ghost use Rattle.std.specs.declared.cmp.Ordering.{Ordering};
 ghost use Rattle.fc_base.specs.Ascending.{IsAscending};
 ghost use Rattle.fc_tree_node.specs.Tree.{entries, IsSoundMap};
 ghost use Rattle.fc_tree_node.specs.TreePlace.{before_gap_in, after_gap_in};
-ghost use Rattle.fc_tree_walk.specs.Gap.{AreEndsIn};
-ghost use Rattle.fc_tree_walk.specs.Span.{between};
+ghost use Rattle.fc_tree_cursor.specs.Gap.{AreEndsIn};
+ghost use Rattle.fc_tree_cursor.specs.Span.{between};
 ghost use Rattle.fc_tree_retain.specs.Retained.{AskedAtKey, AskedAtPair, ExtractsBy, GivenKey, GivenPair, RetainsInTurn};
-ghost use Rattle.fc_tree_retain.specs.Sifted.{SiftsPair};
+ghost use Rattle.fc_tree_retain.specs.Filtered.{FiltersPair};
 
-use crate::mending::without_thin_roots;
-use crate::sieve::{
-    Counted, Dropping, Extracting, ExtractingKeys, Retaining, RetainingKeys, Sieve,
+use crate::filter::{
+    Counted, Dropping, Extracting, ExtractingKeys, Filter, Retaining, RetainingKeys,
 };
-use crate::within::sift_within;
+use crate::rebalancing::without_thin_roots;
+use crate::within::filter_within;
 use fc_base::Handle;
 use fc_tree_node::node::Node;
 use fc_tree_node::path::Path;
@@ -37,7 +37,7 @@ pub fn retain_between<K: Drop, V: Drop, F: FnMut(&K, &mut V) -> bool, A: Handle>
     ensures ascending { (cmp : K → K → Ordering) → IsAscending cmp (entries tree.old) → IsAscending cmp (entries tree.new) }
     ensures count { result + length (entries tree.new) ≡ length (entries tree.old) }
 {
-    sift_stretch(tree, front, back, Retaining { keep: f })
+    filter_stretch(tree, front, back, Retaining { keep: f })
 }
 
 /// `extract_if` of the pairs between two gaps, of which the first is not behind the second: `pick` is called at each of these, in order,
@@ -59,7 +59,7 @@ pub fn extract_between<K: Drop, V: Drop, F: FnMut(&K, &mut V) -> bool, E: FnMut(
     ensures ascending { (cmp : K → K → Ordering) → IsAscending cmp (entries tree.old) → IsAscending cmp (entries tree.new) }
     ensures count { result + length (entries tree.new) ≡ length (entries tree.old) }
 {
-    sift_stretch(tree, front, back, Extracting { pick, each })
+    filter_stretch(tree, front, back, Extracting { pick, each })
 }
 
 /// Drops all pairs between two gaps, of which the first is not behind the second, in order, and answers how many these were. No memory
@@ -77,7 +77,7 @@ pub fn remove_between<K: Drop, V: Drop, A: Handle>(
     ensures ascending { (cmp : K → K → Ordering) → IsAscending cmp (entries tree.old) → IsAscending cmp (entries tree.new) }
     ensures count { result + length (entries tree.new) ≡ length (entries tree.old) }
 {
-    sift_stretch(tree, front, back, Dropping {})
+    filter_stretch(tree, front, back, Dropping {})
 }
 
 /// `retain_between` by the key alone. The values stay as they are.
@@ -96,7 +96,7 @@ pub fn retain_keys_between<K: Drop, V: Drop, F: FnMut(&K) -> bool, A: Handle>(
     ensures ascending { (cmp : K → K → Ordering) → IsAscending cmp (entries tree.old) → IsAscending cmp (entries tree.new) }
     ensures count { result + length (entries tree.new) ≡ length (entries tree.old) }
 {
-    sift_stretch(tree, front, back, RetainingKeys { keep: f })
+    filter_stretch(tree, front, back, RetainingKeys { keep: f })
 }
 
 /// `extract_between` by the key alone: `each` is called with the keys, and the values are dropped.
@@ -116,46 +116,46 @@ pub fn extract_keys_between<K: Drop, V: Drop, F: FnMut(&K) -> bool, E: FnMut(K),
     ensures ascending { (cmp : K → K → Ordering) → IsAscending cmp (entries tree.old) → IsAscending cmp (entries tree.new) }
     ensures count { result + length (entries tree.new) ≡ length (entries tree.old) }
 {
-    sift_stretch(tree, front, back, ExtractingKeys { pick, each })
+    filter_stretch(tree, front, back, ExtractingKeys { pick, each })
 }
 
-// Asks of each pair between two gaps of the tree, which is mended after, and answers how many went.
-fn sift_stretch<K: Drop, V: Drop, S: Sieve<K, V> + Drop, A: Handle>(
+// Asks of each pair between two gaps of the tree, which is rebalanced after, and answers how many went.
+fn filter_stretch<K: Drop, V: Drop, S: Filter<K, V> + Drop, A: Handle>(
     tree: &mut Option<Node<K, V, A>>,
     front: &Path,
     back: &Path,
-    sieve: S,
+    filter: S,
 ) -> usize
     requires sound { IsSoundMap tree.old }
     requires fits { length (entries tree.old) ≤ usize.MAX }
     requires ends { AreEndsIn tree.old front.now back.now }
-    requires callable { S.callable sieve }
+    requires callable { S.callable filter }
     ensures sound { IsSoundMap tree.new }
-    ensures sifted { (last : S) × (stay : List (K × V)) × RetainsInTurn (SiftsPair S.asked S.given) sieve (between tree.old front.now back.now) last stay × (entries tree.new ≡ before_gap_in tree.old front.now ++ (stay ++ after_gap_in tree.old back.now)) }
+    ensures filtered { (last : S) × (stay : List (K × V)) × RetainsInTurn (FiltersPair S.asked S.given) filter (between tree.old front.now back.now) last stay × (entries tree.new ≡ before_gap_in tree.old front.now ++ (stay ++ after_gap_in tree.old back.now)) }
     ensures ascending { (cmp : K → K → Ordering) → IsAscending cmp (entries tree.old) → IsAscending cmp (entries tree.new) }
     ensures count { result + length (entries tree.new) ≡ length (entries tree.old) }
 {
-    let mut counted = Counted { sieve, gone: 0 };
-    sift_between_gaps(tree, front, back, &mut counted);
+    let mut counted = Counted { filter, gone: 0 };
+    filter_between_gaps(tree, front, back, &mut counted);
     counted.gone
 }
 
-// Asks of each pair between two gaps of the tree, which is mended after.
-fn sift_between_gaps<K: Drop, V: Drop, S: Sieve<K, V>, A: Handle>(
+// Asks of each pair between two gaps of the tree, which is rebalanced after.
+fn filter_between_gaps<K: Drop, V: Drop, S: Filter<K, V>, A: Handle>(
     tree: &mut Option<Node<K, V, A>>,
     front: &Path,
     back: &Path,
-    sieve: &mut S,
+    filter: &mut S,
 )
     requires sound { IsSoundMap tree.old }
     requires ends { AreEndsIn tree.old front.now back.now }
-    requires callable { S.callable sieve.old }
+    requires callable { S.callable filter.old }
     ensures sound { IsSoundMap tree.new }
-    ensures sifted { (stay : List (K × V)) × RetainsInTurn (SiftsPair S.asked S.given) sieve.old (between tree.old front.now back.now) sieve.new stay × (entries tree.new ≡ before_gap_in tree.old front.now ++ (stay ++ after_gap_in tree.old back.now)) }
+    ensures filtered { (stay : List (K × V)) × RetainsInTurn (FiltersPair S.asked S.given) filter.old (between tree.old front.now back.now) filter.new stay × (entries tree.new ≡ before_gap_in tree.old front.now ++ (stay ++ after_gap_in tree.old back.now)) }
 {
     if let Some(mut root) = tree.take() {
         let node: &mut Node<K, V, A> = &mut root;
-        sift_within(node, front.as_slice(), back.as_slice(), sieve);
+        filter_within(node, front.as_slice(), back.as_slice(), filter);
         *tree = without_thin_roots(root);
     }
 }

@@ -1,56 +1,56 @@
-//! The pairs between two gaps that are not to stay taken out of a tree, of which only the nodes between these are seen, and mended.
+//! The pairs between two gaps that are not to stay taken out of a tree, of which only the nodes between these are seen, and rebalanced.
 ghost use Rattle.std.specs.Prelude.{◌≡◌, ℕ, ◌+◌, ◌<◌, ◌≤◌, [], ◌++◌, length, drop, slice_index_or, MatchOption, ⊤};
 ghost use Rattle.std.specs.Option.{option_to_list};
 ghost use Rattle.fc_base.specs.Sizes.{capacity};
 ghost use Rattle.fc_tree_node.specs.Node.{own_pairs, child_at, pairs_of, IsInner, IsLevelled};
 ghost use Rattle.fc_tree_retain.specs.Loose.{IsLoose};
-ghost use Rattle.fc_tree_retain.specs.Mending.{IsThin};
-ghost use Rattle.fc_tree_retain.specs.Sifted.{SiftsPair, IsPassed};
-ghost use Rattle.fc_tree_retain.specs.Stretch.{AreInOrder, IsEnd, IsPartSifted, IsStretchSifted};
+ghost use Rattle.fc_tree_retain.specs.Rebalancing.{IsThin};
+ghost use Rattle.fc_tree_retain.specs.Filtered.{FiltersPair, IsPassed};
+ghost use Rattle.fc_tree_retain.specs.Stretch.{AreInOrder, IsEnd, IsPartFiltered, IsStretchFiltered};
 
-use crate::mending::settle_between;
-use crate::sieve::Sieve;
-use crate::sifting::{remove_behind, sift_own, stays};
+use crate::filter::Filter;
+use crate::filtering::{filter_own, remove_behind, stays};
+use crate::rebalancing::rebalance_between;
 use fc_base::{Count, Handle};
 use fc_tree_node::lend::child_in;
 use fc_tree_node::node::Node;
 use fc_tree_removal::first_last::remove_last;
 
-// Asks of each pair below the node between two gaps, in order, takes those out that are not to stay, and mends what is below the node.
+// Asks of each pair below the node between two gaps, in order, takes those out that are not to stay, and rebalances what is below the node.
 // A path of no step stands for the end of the node on its side.
-pub(crate) fn sift_within<K: Drop, V: Drop, S: Sieve<K, V>, A: Handle>(
+pub(crate) fn filter_within<K: Drop, V: Drop, S: Filter<K, V>, A: Handle>(
     node: &mut Node<K, V, A>,
     front: &[u8],
     back: &[u8],
-    sieve: &mut S,
+    filter: &mut S,
 )
     requires ends { (h : ℕ) × IsLevelled h node.old × IsEnd h front.now node.old × IsEnd h back.now node.old }
     requires order { AreInOrder front.now back.now }
-    requires callable { S.callable sieve.old }
-    ensures callable { S.callable sieve.new }
+    requires callable { S.callable filter.old }
+    ensures callable { S.callable filter.new }
     ensures thin { (h : ℕ) → IsLevelled h node.old → IsThin h node.new }
-    ensures sifted { IsStretchSifted (SiftsPair S.asked S.given) sieve.old sieve.new front.now back.now node.old node.new }
+    ensures filtered { IsStretchFiltered (FiltersPair S.asked S.given) filter.old filter.new front.now back.now node.old node.new }
 {
     let start = first_step(front, 0);
     let end = first_step(back, node.len());
     if node.is_leaf() {
-        sift_part(node, start, end, sieve);
+        filter_part(node, start, end, filter);
         return;
     }
     let mut ahead = rest_of(front);
     let mut at = start;
     for _ in start..end {
-        sift_within(child_in(&mut node.children, at), ahead, &[], sieve);
-        at = sift_behind(node, at, sieve);
+        filter_within(child_in(&mut node.children, at), ahead, &[], filter);
+        at = filter_after(node, at, filter);
         ahead = &[];
     }
-    sift_within(
+    filter_within(
         child_in(&mut node.children, at),
         ahead,
         rest_of(back),
-        sieve,
+        filter,
     );
-    settle_between(node, start, at);
+    rebalance_between(node, start, at);
 }
 
 // The first step of a path, or what stands for it where the path has none.
@@ -74,57 +74,57 @@ fn rest_of(path: &[u8]) -> &[u8]
 }
 
 // Asks of the pairs of a leaf from one place up to another.
-fn sift_part<K: Drop, V: Drop, S: Sieve<K, V>, A: Handle>(
+fn filter_part<K: Drop, V: Drop, S: Filter<K, V>, A: Handle>(
     node: &mut Node<K, V, A>,
     start: usize,
     end: usize,
-    sieve: &mut S,
+    filter: &mut S,
 )
     requires leaf { IsLoose 0 node.old }
     requires order { start ≤ end }
     requires inside { end ≤ length (own_pairs node.old) }
-    requires callable { S.callable sieve.old }
-    ensures callable { S.callable sieve.new }
+    requires callable { S.callable filter.old }
+    ensures callable { S.callable filter.new }
     ensures loose { IsLoose 0 node.new }
-    ensures sifted { IsPartSifted (SiftsPair S.asked S.given) sieve.old sieve.new start end (own_pairs node.old) (own_pairs node.new) }
+    ensures filtered { IsPartFiltered (FiltersPair S.asked S.given) filter.old filter.new start end (own_pairs node.old) (own_pairs node.new) }
 {
     let mut at = start;
     for _ in start..end {
-        at = sift_own(node, at, sieve);
+        at = filter_own(node, at, filter);
     }
 }
 
 // Asks of the pair behind a child that is done, and answers which child is next. Where the pair is not to stay, the last one below the
-// child takes its place, and the child is mended; a child without pairs goes with it.
-fn sift_behind<K: Drop, V: Drop, S: Sieve<K, V>, A: Handle>(
+// child takes its place, and the child is rebalanced; a child without pairs goes with it.
+fn filter_after<K: Drop, V: Drop, S: Filter<K, V>, A: Handle>(
     node: &mut Node<K, V, A>,
     at: usize,
-    sieve: &mut S,
+    filter: &mut S,
 ) -> usize
     requires thin { (h : ℕ) × IsThin h (child_at node.old at) }
     requires fits { length (own_pairs node.old) ≤ capacity }
     requires inside { at < length (own_pairs node.old) }
     requires inner { IsInner node.old }
-    requires callable { S.callable sieve.old }
-    ensures callable { S.callable sieve.new }
-    ensures passed { IsPassed IsThin (SiftsPair S.asked S.given) sieve.old sieve.new at result node.old node.new }
+    requires callable { S.callable filter.old }
+    ensures callable { S.callable filter.new }
+    ensures passed { IsPassed IsThin (FiltersPair S.asked S.given) filter.old filter.new at result node.old node.new }
 {
-    if stays(node, at, sieve) {
+    if stays(node, at, filter) {
         return at + 1;
     }
     match take_last_of_thin(child_in(&mut node.children, at)) {
         None => {
-            sieve.take(remove_behind(node, at));
+            filter.take(remove_behind(node, at));
             at
         }
         Some(pair) => {
-            sieve.take(node.replace_pair(at, pair, &mut Count::new()));
+            filter.take(node.replace_pair(at, pair, &mut Count::new()));
             at + 1
         }
     }
 }
 
-// Takes the last pair below a node that may hold none itself out, if there is one, and mends what is below the node.
+// Takes the last pair below a node that may hold none itself out, if there is one, and rebalances what is below the node.
 fn take_last_of_thin<K: Drop, V: Drop, A: Handle>(node: &mut Node<K, V, A>) -> Option<(K, V)>
     requires thin { (h : ℕ) × IsThin h node.old }
     ensures thin { (h : ℕ) → IsThin h node.old → IsThin h node.new }

@@ -2,8 +2,8 @@
 ghost use Rattle.std.specs.Prelude.{◌≤◌};
 
 use crate::trees::{LEAST_CHILDREN, is_levelled, is_pair_of, is_place, join, least_inner};
-use fc_tree_border::cutting::try_split;
 use fc_tree_node::node::Node;
+use fc_tree_split::cutting::try_split;
 use std::alloc::Global;
 use std::process::Abort;
 use std::test::Fail;

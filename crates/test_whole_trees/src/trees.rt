@@ -6,11 +6,11 @@ ghost use Rattle.fc_tree_node.specs.Place.{IsPlace};
 ghost use Rattle.fc_tree_node.specs.Tree.{IsSoundMap};
 
 use fc_base::TryReserveError;
-use fc_tree_border::cutting::try_split;
 use fc_tree_build::builder::Builder;
-use fc_tree_build::growing::Growing;
+use fc_tree_build::growing::GrowingBuilder;
 use fc_tree_node::node::{CAPACITY, MIN_LEN, Node};
 use fc_tree_node::path::{MAX_STEPS, Path};
+use fc_tree_split::cutting::try_split;
 use std::alloc::Global;
 use std::test::Fail;
 
@@ -100,7 +100,7 @@ fn a_full_tree_of_three_levels_asks_for_its_nodes_alone(rt: HostRuntime) -> Resu
 }
 
 // Whether the last key is this one behind all below it; none where it is 0.
-fn ends_before(tree: &Growing<u64, u64>, key: u64) -> bool {
+fn ends_before(tree: &GrowingBuilder<u64, u64>, key: u64) -> bool {
     match tree.last() {
         None => key == 0,
         Some(last) => last.0.wrapping_add(1) == key && last.1 == last.0,
@@ -108,7 +108,11 @@ fn ends_before(tree: &Growing<u64, u64>, key: u64) -> bool {
 }
 
 // Puts the keys from `start` to `end` behind the others, each with itself.
-fn grows(tree: &mut Growing<u64, u64>, start: u64, end: u64) -> Result<bool, TryReserveError> {
+fn grows(
+    tree: &mut GrowingBuilder<u64, u64>,
+    start: u64,
+    end: u64,
+) -> Result<bool, TryReserveError> {
     for key in start..end {
         if !ends_before(tree, key) {
             return Ok(false);
@@ -123,7 +127,7 @@ fn grows(tree: &mut Growing<u64, u64>, start: u64, end: u64) -> Result<bool, Try
 
 // Whether a tree that grows to n keys is sound, and one that grows on from there, opened at its right edge.
 fn is_grown(alloc: Global, n: u64, end: u64) -> Result<bool, TryReserveError> {
-    let mut tree = Growing::new(alloc);
+    let mut tree = GrowingBuilder::new(alloc);
     if !grows(&mut tree, 0, n)? {
         return Ok(false);
     }
@@ -131,7 +135,7 @@ fn is_grown(alloc: Global, n: u64, end: u64) -> Result<bool, TryReserveError> {
     if len as u64 != n || len > 1_000_000 {
         return Ok(false);
     }
-    let mut again = Growing::over(alloc, tree.finish(), len);
+    let mut again = GrowingBuilder::over(alloc, tree.finish(), len);
     if !grows(&mut again, n, end)? || again.len() as u64 != end {
         return Ok(false);
     }

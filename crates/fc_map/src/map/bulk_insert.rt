@@ -11,7 +11,7 @@ ghost use Rattle.fc_map.specs.BulkInsert.{IsBulkInsert};
 
 use super::{BTreeMap, for_sets};
 use fc_base::{Count, Handle, TryReserveError};
-use fc_tree_build::growing::Growing;
+use fc_tree_build::growing::GrowingBuilder;
 use fc_tree_node::node::CAPACITY;
 use std::alloc::Global;
 use std::marker::Model;
@@ -21,7 +21,7 @@ use std::mem;
 /// doesn't lie after the last one; then they stand in the map, and from there on each item is inserted from the root.
 #[derive(Drop)]
 pub struct BulkInsert<K: Ord, V, A: Handle = Global> {
-    tree: Growing<K, V, A>,
+    tree: GrowingBuilder<K, V, A>,
     map: BTreeMap<K, V, A>,
 }
 
@@ -46,14 +46,14 @@ impl<K: Ord + Drop, V: Drop, A: Handle> BulkInsert<K, V, A> {
         let mut map = mem::replace(map, BTreeMap::new(alloc));
         if map.len > usize::MAX - CAPACITY {
             return BulkInsert {
-                tree: Growing::new(alloc),
+                tree: GrowingBuilder::new(alloc),
                 map,
             };
         }
         let len = mem::replace(&mut map.len, 0);
         let root = map.root.take();
         BulkInsert {
-            tree: Growing::over(alloc, root, len),
+            tree: GrowingBuilder::over(alloc, root, len),
             map,
         }
     }
@@ -96,7 +96,7 @@ impl<K: Ord + Drop, V: Drop, A: Handle> BulkInsert<K, V, A> {
 
 // Whether the map has no pair, and the key lies after all keys of the tree: it is compared with the last one.
 fn is_behind<K: Ord, V, A: Handle>(
-    tree: &Growing<K, V, A>,
+    tree: &GrowingBuilder<K, V, A>,
     map: &BTreeMap<K, V, A>,
     key: &K,
 ) -> bool
@@ -113,7 +113,7 @@ fn is_behind<K: Ord, V, A: Handle>(
 // Puts a pair after all others. It is not inlined, since the pairs that a leaf has room for would then pay for its locals.
 #[inline(never)]
 fn push_behind<K: Ord + Drop, V: Drop, A: Handle>(
-    tree: &mut Growing<K, V, A>,
+    tree: &mut GrowingBuilder<K, V, A>,
     key: K,
     value: V,
 ) -> Result<(), TryReserveError>
@@ -137,13 +137,13 @@ fn push_behind<K: Ord + Drop, V: Drop, A: Handle>(
 // Moves the tree's pairs into the map, which has none.
 #[cold]
 fn close<K: Ord + Drop, V: Drop, A: Handle>(
-    tree: &mut Growing<K, V, A>,
+    tree: &mut GrowingBuilder<K, V, A>,
     map: &mut BTreeMap<K, V, A>,
 )
     requires { IsAscending K.cmp tree.old.pairs }
     ensures pairs { entries map.new ≡ tree.old.pairs }
     ensures closed { tree.new.pairs ≡ [] }
 {
-    let grown = mem::replace(tree, Growing::new(map.alloc));
+    let grown = mem::replace(tree, GrowingBuilder::new(map.alloc));
     *map = for_sets::from_grown(map.alloc, grown);
 }

@@ -9,7 +9,7 @@ ghost use Rattle.fc_map.specs.Entries.{entries, IsSoundMap};
 use super::iter::Iter;
 use super::{BTreeMap, for_sets};
 use fc_base::Handle;
-use fc_tree_build::growing::Growing;
+use fc_tree_build::growing::GrowingBuilder;
 use std::alloc::AllocError;
 
 /// A map of a clone of each pair, in order, which takes its memory where the map does. It is for maps whose keys and values have std's
@@ -34,7 +34,7 @@ fn try_cloned<K: Ord + Clone, V: Clone, A: Handle>(
     ensures cloned { IfOk result (λ made. AllZip (AreSame K.is_clone V.is_clone) pairs.entry (entries made)) }
     ensures sound { IfOk result (λ made. IsSoundMap made) }
 {
-    let mut clones = Growing::new(alloc);
+    let mut clones = GrowingBuilder::new(alloc);
     for (key, value) in pairs {
         let key = key.clone()?;
         let value = value.clone()?;
@@ -45,7 +45,7 @@ fn try_cloned<K: Ord + Clone, V: Clone, A: Handle>(
 
 // Puts the pair after the others; an error where its key doesn't lie after theirs, or a node was refused.
 fn push_if_behind<K: Ord + Drop, V: Drop, A: Handle>(
-    tree: &mut Growing<K, V, A>,
+    tree: &mut GrowingBuilder<K, V, A>,
     key: K,
     value: V,
 ) -> Result<(), AllocError>
@@ -63,7 +63,7 @@ fn push_if_behind<K: Ord + Drop, V: Drop, A: Handle>(
 }
 
 // Whether the key lies after all keys of the tree: it is compared with the last one.
-fn is_behind_all<K: Ord, V, A: Handle>(tree: &Growing<K, V, A>, key: &K) -> bool
+fn is_behind_all<K: Ord, V, A: Handle>(tree: &GrowingBuilder<K, V, A>, key: &K) -> bool
     requires { IsAscending K.cmp tree.now.pairs }
     ensures { IsTrue result → AllByRecursion (λ e. K.cmp e.0 key.now ≡ Less) tree.now.pairs }
 {

@@ -18,11 +18,11 @@ ghost use Rattle.fc_tree_retain.specs.Retained.{AskedAtKey, ExtractsBy, GivenKey
 
 use super::BTreeMap;
 use fc_base::{Count, Handle, Query, TryReserveError};
-use fc_tree_build::growing::Growing;
+use fc_tree_build::growing::GrowingBuilder;
+use fc_tree_cursor::key_range::KeyRange;
 use fc_tree_node::path::Path;
 use fc_tree_removal::replacement::exchange;
 use fc_tree_retain::{retain, stretch};
-use fc_tree_walk::key_range::KeyRange;
 
 /// Takes the pair with an equal key out and answers it. `None` where there is none, and the map is as it was. It takes no memory. To
 /// the count it adds exactly the comparisons of the keys that a search from the left passes, and where there is an equal key the
@@ -96,7 +96,7 @@ pub fn allocator<K: Ord, V, A: Handle>(map: &BTreeMap<K, V, A>) -> A {
 /// A map of the pairs of the tree, which ascend. It takes no memory, compares nothing and moves no pair.
 pub fn from_grown<K: Ord + Drop, V: Drop, A: Handle>(
     alloc: A,
-    tree: Growing<K, V, A>,
+    tree: GrowingBuilder<K, V, A>,
 ) -> BTreeMap<K, V, A>
     requires { IsAscending K.cmp tree.pairs }
     ensures pairs { entries result ≡ tree.pairs }

@@ -4,22 +4,22 @@
 //! pairs of the leaf that it went past: within a leaf a step on changes that number alone, and only at a leaf's end it looks at the tree.
 ghost use Rattle.std.specs.Prelude.{◌≡◌, ◌+◌, ◌<◌, ◌≤◌, ◌↔◌, List, ℕ, length, take, drop, IsTrue};
 ghost use Rattle.fc_tree_node.specs.TreePlace.{before_pair_in, before_gap_in, IsPlaceIn};
-ghost use Rattle.fc_tree_visit.specs.Leaf.{gone_on};
-ghost use Rattle.fc_tree_visit.specs.Visits.{CalledAtPair, IsVisited};
-ghost use Rattle.fc_tree_walk.specs.Gap.{IsGapIn, AreEndsIn};
+ghost use Rattle.fc_tree_for_each.specs.Leaf.{advanced};
+ghost use Rattle.fc_tree_for_each.specs.Visits.{CalledAtPair, IsVisited};
+ghost use Rattle.fc_tree_cursor.specs.Gap.{IsGapIn, AreEndsIn};
 ghost use Rattle.fc_map.specs.Entries.{entries, IsSoundMap};
 ghost use Rattle.fc_map.specs.Lends.{branch};
 ghost use Rattle.fc_map.specs.Writing.{starting};
 
 use super::BTreeMap;
 use fc_base::Handle;
+use fc_tree_cursor::ends::{first_gap_in, last_gap_in};
+use fc_tree_cursor::gaps::{push_gap_before, steps_to_previous};
+use fc_tree_cursor::key_range::KeyRange;
+use fc_tree_for_each::leaf::{advance, go_to_previous, pairs_after, pass_next};
+use fc_tree_for_each::tree::visit_tree;
 use fc_tree_node::node::Node;
 use fc_tree_node::path::Path;
-use fc_tree_visit::leaf::{go_on, go_to_previous, pairs_after, pass_next};
-use fc_tree_visit::tree::visit_tree;
-use fc_tree_walk::ends::{first_gap_in, last_gap_in};
-use fc_tree_walk::gaps::{push_gap_before, steps_to_previous};
-use fc_tree_walk::key_range::KeyRange;
 
 impl<K: Ord, V, A: Handle> BTreeMap<K, V, A> {
     // The gaps before all pairs and after them.
@@ -42,13 +42,13 @@ impl<K: Ord, V, A: Handle> BTreeMap<K, V, A> {
 
     // Whether two gaps are the same, of which the first lies so many pairs of its leaf after where its path leads.
     pub(crate) fn is_same_gap(&self, front: &Path, gone: usize, back: &Path) -> bool
-        requires { IsGapIn self.now (gone_on front.now gone) × IsGapIn self.now back.now }
-        ensures { IsTrue result ↔ (length (before_gap_in self.now (gone_on front.now gone)) ≡ length (before_gap_in self.now back.now)) }
+        requires { IsGapIn self.now (advanced front.now gone) × IsGapIn self.now back.now }
+        ensures { IsTrue result ↔ (length (before_gap_in self.now (advanced front.now gone)) ≡ length (before_gap_in self.now back.now)) }
     {
         // Read for the proof alone: it shows that the tree is sound.
         let _ = &self.root;
         let mut gap = *front;
-        go_on(&mut gap, gone);
+        advance(&mut gap, gone);
         gap.as_slice() == back.as_slice()
     }
 
@@ -61,23 +61,23 @@ impl<K: Ord, V, A: Handle> BTreeMap<K, V, A> {
         back: &Path,
         f: F,
     )
-        requires ends { AreEndsIn self.old (gone_on front.now gone) back.now }
+        requires ends { AreEndsIn self.old (advanced front.now gone) back.now }
         requires callable { F.IsAlwaysCallable f }
         ensures gaps { (path : List ℕ) → IsGapIn self.old path → IsGapIn self.new path × (length (before_gap_in self.new path) ≡ length (before_gap_in self.old path)) }
-        ensures visited { (last : F) × IsVisited (CalledAtPair F.FnMut) f last (take (length (before_gap_in self.old (gone_on front.now gone))) (entries self.old)) (drop (length (before_gap_in self.old back.now)) (entries self.old)) (entries self.old) (entries self.new) }
+        ensures visited { (last : F) × IsVisited (CalledAtPair F.FnMut) f last (take (length (before_gap_in self.old (advanced front.now gone))) (entries self.old)) (drop (length (before_gap_in self.old back.now)) (entries self.old)) (entries self.old) (entries self.new) }
     {
         // Read for the proof alone: it shows that the tree is sound.
         let _ = &self.root;
         let mut gap = *front;
-        go_on(&mut gap, gone);
+        advance(&mut gap, gone);
         visit_tree(&mut self.root, &gap, back, f);
     }
 
     // How many pairs of its leaf lie after a gap; none where there is no leaf.
     pub(crate) fn run_after(&self, gap: &Path) -> usize
         requires { IsGapIn self.now gap.now }
-        ensures run { IsGapIn self.now (gone_on gap.now result) }
-        ensures all { (k : ℕ) → IsGapIn self.now (gone_on gap.now k) → 0 < length gap.now → k ≤ result }
+        ensures run { IsGapIn self.now (advanced gap.now result) }
+        ensures all { (k : ℕ) → IsGapIn self.now (advanced gap.now k) → 0 < length gap.now → k ≤ result }
     {
         match &self.root {
             None => 0,
@@ -95,35 +95,35 @@ impl<K: Ord, V, A: Handle> BTreeMap<K, V, A> {
         gone: &mut usize,
         full: &mut usize,
     ) -> (usize, usize)
-        requires gap { IsGapIn self.now (gone_on path.old gone.old) }
-        requires full { IsGapIn self.now (gone_on path.old full.old) }
-        requires some { (other : List ℕ) × IsGapIn self.now other × (length (before_gap_in self.now (gone_on path.old gone.old)) < length (before_gap_in self.now other)) }
+        requires gap { IsGapIn self.now (advanced path.old gone.old) }
+        requires full { IsGapIn self.now (advanced path.old full.old) }
+        requires some { (other : List ℕ) × IsGapIn self.now other × (length (before_gap_in self.now (advanced path.old gone.old)) < length (before_gap_in self.now other)) }
         ensures way { result.0 < length path.new }
         ensures small { result.1 < 256 }
         ensures place { IsPlaceIn self.now (branch path.new result.0 result.1) }
-        ensures before { length (before_pair_in self.now (branch path.new result.0 result.1)) ≡ length (before_gap_in self.now (gone_on path.old gone.old)) }
-        ensures gap { IsGapIn self.now (gone_on path.new gone.new) }
-        ensures full { IsGapIn self.now (gone_on path.new full.new) }
-        ensures step { length (before_gap_in self.now (gone_on path.new gone.new)) ≡ length (before_gap_in self.now (gone_on path.old gone.old)) + 1 }
+        ensures before { length (before_pair_in self.now (branch path.new result.0 result.1)) ≡ length (before_gap_in self.now (advanced path.old gone.old)) }
+        ensures gap { IsGapIn self.now (advanced path.new gone.new) }
+        ensures full { IsGapIn self.now (advanced path.new full.new) }
+        ensures step { length (before_gap_in self.now (advanced path.new gone.new)) ≡ length (before_gap_in self.now (advanced path.old gone.old)) + 1 }
         ensures sound { IsSoundMap self.now }
     {
         if *gone < *full {
             return self.step_in_leaf(path, gone);
         }
-        self.leave_to_next(path, gone, full)
+        self.cross_to_next_leaf(path, gone, full)
     }
 
     // The same where the leaf of the gap has a pair after it.
     #[inline]
     pub(crate) fn step_in_leaf(&self, path: &Path, gone: &mut usize) -> (usize, usize)
-        requires gap { IsGapIn self.now (gone_on path.now (gone.old + 1)) }
-        requires some { (other : List ℕ) × IsGapIn self.now other × (length (before_gap_in self.now (gone_on path.now gone.old)) < length (before_gap_in self.now other)) }
+        requires gap { IsGapIn self.now (advanced path.now (gone.old + 1)) }
+        requires some { (other : List ℕ) × IsGapIn self.now other × (length (before_gap_in self.now (advanced path.now gone.old)) < length (before_gap_in self.now other)) }
         ensures way { result.0 < length path.now }
         ensures small { result.1 < 256 }
         ensures place { IsPlaceIn self.now (branch path.now result.0 result.1) }
-        ensures before { length (before_pair_in self.now (branch path.now result.0 result.1)) ≡ length (before_gap_in self.now (gone_on path.now gone.old)) }
+        ensures before { length (before_pair_in self.now (branch path.now result.0 result.1)) ≡ length (before_gap_in self.now (advanced path.now gone.old)) }
         ensures gone { gone.new ≡ gone.old + 1 }
-        ensures step { length (before_gap_in self.now (gone_on path.now gone.new)) ≡ length (before_gap_in self.now (gone_on path.now gone.old)) + 1 }
+        ensures step { length (before_gap_in self.now (advanced path.now gone.new)) ≡ length (before_gap_in self.now (advanced path.now gone.old)) + 1 }
         ensures sound { IsSoundMap self.now }
     {
         // Read for the proof alone: it shows that the tree is sound.
@@ -136,30 +136,30 @@ impl<K: Ord, V, A: Handle> BTreeMap<K, V, A> {
 
     // The same by a way down from the root, whether the leaf ends at the gap or not.
     #[inline(never)]
-    pub(crate) fn leave_to_next(
+    pub(crate) fn cross_to_next_leaf(
         &self,
         path: &mut Path,
         gone: &mut usize,
         full: &mut usize,
     ) -> (usize, usize)
-        requires gap { IsGapIn self.now (gone_on path.old gone.old) }
-        requires some { (other : List ℕ) × IsGapIn self.now other × (length (before_gap_in self.now (gone_on path.old gone.old)) < length (before_gap_in self.now other)) }
+        requires gap { IsGapIn self.now (advanced path.old gone.old) }
+        requires some { (other : List ℕ) × IsGapIn self.now other × (length (before_gap_in self.now (advanced path.old gone.old)) < length (before_gap_in self.now other)) }
         ensures way { result.0 < length path.new }
         ensures small { result.1 < 256 }
         ensures place { IsPlaceIn self.now (branch path.new result.0 result.1) }
-        ensures before { length (before_pair_in self.now (branch path.new result.0 result.1)) ≡ length (before_gap_in self.now (gone_on path.old gone.old)) }
+        ensures before { length (before_pair_in self.now (branch path.new result.0 result.1)) ≡ length (before_gap_in self.now (advanced path.old gone.old)) }
         ensures gone { gone.new ≡ 0 }
-        ensures gap { IsGapIn self.now (gone_on path.new gone.new) }
-        ensures full { IsGapIn self.now (gone_on path.new full.new) }
-        ensures all { (k : ℕ) → IsGapIn self.now (gone_on path.new k) → k ≤ full.new }
-        ensures step { length (before_gap_in self.now (gone_on path.new gone.new)) ≡ length (before_gap_in self.now (gone_on path.old gone.old)) + 1 }
+        ensures gap { IsGapIn self.now (advanced path.new gone.new) }
+        ensures full { IsGapIn self.now (advanced path.new full.new) }
+        ensures all { (k : ℕ) → IsGapIn self.now (advanced path.new k) → k ≤ full.new }
+        ensures step { length (before_gap_in self.now (advanced path.new gone.new)) ≡ length (before_gap_in self.now (advanced path.old gone.old)) + 1 }
         ensures sound { IsSoundMap self.now }
     {
         let Some(root) = &self.root else {
             unreachable!()
         };
         let root: &Node<K, V, A> = root;
-        go_on(path, *gone);
+        advance(path, *gone);
         let (last, place, run) = pass_next(root, path);
         *gone = 0;
         *full = run;
@@ -178,7 +178,7 @@ impl<K: Ord, V, A: Handle> BTreeMap<K, V, A> {
         ensures sound { IsSoundMap self.now }
     {
         if gap.step(gap.len() - 1) == 0 {
-            let (place, next) = self.leave_to_previous(gap);
+            let (place, next) = self.cross_to_previous_leaf(gap);
             *gap = next;
             return place;
         }
@@ -190,7 +190,7 @@ impl<K: Ord, V, A: Handle> BTreeMap<K, V, A> {
 
     // The place of the pair before a gap, and the gap before that pair, by a way down from the root.
     #[inline(never)]
-    fn leave_to_previous(&self, gap: &Path) -> (Path, Path)
+    fn cross_to_previous_leaf(&self, gap: &Path) -> (Path, Path)
         requires gap { IsGapIn self.now gap.now }
         requires some { 0 < length (before_gap_in self.now gap.now) }
         ensures place { IsPlaceIn self.now result.0 }

@@ -1,7 +1,7 @@
 //! Writing walks over all values of a map, from both ends.
 ghost use Rattle.std.specs.Prelude.{◌≡◌, ◌+◌, ◌≤◌, length};
-ghost use Rattle.fc_tree_visit.specs.Leaf.{gone_on};
-ghost use Rattle.fc_tree_walk.specs.Gap.{AreEndsIn, IsGapIn};
+ghost use Rattle.fc_tree_for_each.specs.Leaf.{advanced};
+ghost use Rattle.fc_tree_cursor.specs.Gap.{AreEndsIn, IsGapIn};
 ghost use Rattle.fc_tree_node.specs.TreePlace.{before_gap_in};
 ghost use Rattle.fc_map.specs.Unique.{ends-prop, gap-prop};
 
@@ -26,9 +26,9 @@ pub struct IterMut<'a, K: Ord, V, A: Handle = Global> {
     pub(crate) full: usize,
     pub(crate) back: Path,
     pub(crate) end: usize,
-    ghost ends: { AreEndsIn map.now (gone_on front gone) back } by { ends-prop map.now (gone_on front gone) back },
-    ghost run_is: { IsGapIn map.now (gone_on front full) } by { gap-prop map.now (gone_on front full) },
-    ghost front_counted: { base + gone ≡ length (before_gap_in map.now (gone_on front gone)) },
+    ghost ends: { AreEndsIn map.now (advanced front gone) back } by { ends-prop map.now (advanced front gone) back },
+    ghost run_is: { IsGapIn map.now (advanced front full) } by { gap-prop map.now (advanced front full) },
+    ghost front_counted: { base + gone ≡ length (before_gap_in map.now (advanced front gone)) },
     ghost back_counted: { end ≡ length (before_gap_in map.now back) },
     ghost within: { base + full ≤ end },
 }

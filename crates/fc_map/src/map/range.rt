@@ -4,7 +4,7 @@ ghost use Rattle.std.specs.Prelude.{◌≡◌, ◌≤◌, length};
 use super::BTreeMap;
 use fc_base::Handle;
 pub use fc_map_iter::range::Range;
-use fc_tree_walk::key_range::KeyRange;
+use fc_tree_cursor::key_range::KeyRange;
 
 impl<K: Ord, V, A: Handle> BTreeMap<K, V, A> {
     ghost use Rattle.fc_base.specs.Ascending.{IsAscending};

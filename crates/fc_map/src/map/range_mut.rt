@@ -1,7 +1,7 @@
 //! Writing walks over the pairs of a map within two bounds, from both ends.
 ghost use Rattle.std.specs.Prelude.{◌≡◌};
-ghost use Rattle.fc_tree_visit.specs.Leaf.{gone_on};
-ghost use Rattle.fc_tree_walk.specs.Gap.{AreEndsIn, IsGapIn};
+ghost use Rattle.fc_tree_for_each.specs.Leaf.{advanced};
+ghost use Rattle.fc_tree_cursor.specs.Gap.{AreEndsIn, IsGapIn};
 ghost use Rattle.fc_map.specs.Unique.{ends-prop, gap-prop};
 
 mod debug;
@@ -22,8 +22,8 @@ pub struct RangeMut<'a, K: Ord, V, A: Handle = Global> {
     pub(crate) gone: usize,
     pub(crate) full: usize,
     pub(crate) back: Path,
-    ghost ends: { AreEndsIn map.now (gone_on front gone) back } by { ends-prop map.now (gone_on front gone) back },
-    ghost run_is: { IsGapIn map.now (gone_on front full) } by { gap-prop map.now (gone_on front full) },
+    ghost ends: { AreEndsIn map.now (advanced front gone) back } by { ends-prop map.now (advanced front gone) back },
+    ghost run_is: { IsGapIn map.now (advanced front full) } by { gap-prop map.now (advanced front full) },
 }
 
 // Dropped, a walk leaves the map with what was written: a derived `drop` would not say so.

@@ -8,8 +8,8 @@ ghost use Rattle.fc_tree_retain.specs.Retained.{AskedAtPair, ExtractsBy, GivenPa
 
 use super::BTreeMap;
 use fc_base::Handle;
+use fc_tree_cursor::key_range::KeyRange;
 use fc_tree_retain::stretch::{extract_between, remove_between, retain_between};
-use fc_tree_walk::key_range::KeyRange;
 
 impl<K: Ord + Drop, V: Drop, A: Handle> BTreeMap<K, V, A> {
     /// Calls the closure once at each pair whose key lies within the range, in ascending order of the keys, with the value lent for

@@ -3,13 +3,13 @@ ghost use Rattle.std.specs.Prelude.{◌≡◌, ◌<◌, length, IfOk, IfErr};
 ghost use Rattle.fc_base.specs.Ascending.{IsAscending};
 ghost use Rattle.fc_base.specs.Halves.{not_below};
 ghost use Rattle.fc_base.specs.Parts.{below};
-ghost use Rattle.fc_tree_border.specs.Cut.{IsCutPathIn, IsCutInTwo};
+ghost use Rattle.fc_tree_split.specs.Cut.{IsCutPathIn, IsCutInTwo};
 ghost use Rattle.fc_map.specs.Entries.{entries, IsSoundMap};
 
 use super::BTreeMap;
 use fc_base::{Count, Handle, Query, TryReserveError};
-use fc_tree_border::cutting::try_split_counted;
 use fc_tree_node::path::Path;
+use fc_tree_split::cutting::try_split_counted;
 
 impl<K: Ord + Drop, V: Drop, A: Handle> BTreeMap<K, V, A> {
     /// Takes the pairs whose keys are not smaller than the key, which is a `Query`, out into a map of their own. The pairs with

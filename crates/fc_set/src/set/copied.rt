@@ -9,7 +9,7 @@ ghost use Rattle.fc_set.specs.Items.{items, AreAscending};
 use super::BTreeSet;
 use fc_base::{Handle, TryClone, TryReserveError};
 use fc_map::map::for_sets;
-use fc_tree_build::growing::Growing;
+use fc_tree_build::growing::GrowingBuilder;
 
 // A set of copies of the items that the walk lends, which ascend, and the call is told whether they are known to be at most `usize::MAX`.
 // Where they are not, a second walk counts them first.
@@ -69,7 +69,7 @@ fn try_filled<'a, T: Ord + TryClone + 'a, I: Iterator<Item = &'a T> + Drop, A: H
     ensures ascending { IfOk result (λ made. AreAscending T.cmp (items made)) }
     ensures sound { IfOk result (λ made. IsSoundMap made) }
 {
-    let mut builder = Growing::new(alloc);
+    let mut builder = GrowingBuilder::new(alloc);
     for item in walk {
         let copy = item.try_clone()?;
         match builder.push((copy, ())) {

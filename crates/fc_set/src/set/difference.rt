@@ -4,7 +4,7 @@ ghost use Rattle.std.specs.Iterator.{YieldsFirstRef, UpTo, at_most, item_count};
 ghost use Rattle.std.specs.Iterator.SizeHint.{IsWithinCount};
 ghost use Rattle.fc_set.specs.Items.{items, AreAscending};
 ghost use Rattle.fc_set.specs.Operations.{difference};
-ghost use Rattle.fc_set.specs.Sides.{Sifting, begin_sifting, sifted_past, GivesApart, GivesLookedUp};
+ghost use Rattle.fc_set.specs.Sides.{Filtering, begin_filtering, filtered_past, GivesApart, GivesLookedUp};
 
 use super::peeked::Peeked;
 use super::{BTreeSet, Iter, order_of};
@@ -27,9 +27,9 @@ pub struct Difference<'a, T: Ord, A: Handle = Global> {
 impl<'a, T: Ord, A: Handle> Model for Difference<'a, T, A> {
     ghost use Rattle.std.specs.Prelude.{is_none, unwrap_or};
     ghost use Rattle.fc_set.specs.Items.{items, AreAscending};
-    ghost use Rattle.fc_set.specs.Sides.{Sifting};
+    ghost use Rattle.fc_set.specs.Sides.{Filtering};
 
-    ghost Value = { Sifting T };
+    ghost Value = { Filtering T };
 
     ghost view = { λ w. record { left = w.ours; right = unwrap_or w.theirs (items w.other.now); looks_up = is_none w.theirs } };
 
@@ -60,7 +60,7 @@ impl<'a, T: Ord, A: Handle> Difference<'a, T, A> {
     /// of both sides. Upstream: `Difference::next`.
     pub fn next(&mut self) -> Option<&'a T>
         ensures steps { YieldsFirstRef (λ w. difference T.cmp w.left w.right) self.old result self.new }
-        ensures past { MatchOption result (self.new.left ≡ []) (λ x. self.new ≡ sifted_past T.cmp self.old x.now) }
+        ensures past { MatchOption result (self.new.left ≡ []) (λ x. self.new ≡ filtered_past T.cmp self.old x.now) }
     {
         match &mut self.theirs {
             Some(theirs) => next_apart(&mut self.ours, theirs),
@@ -152,7 +152,7 @@ fn next_absent<'a, T: Ord, A: Handle>(
 impl<T: Ord, A: Handle> BTreeSet<T, A> {
     /// A walk over the items of this set that have no equal in the other, in ascending order. Upstream: `BTreeSet::difference`.
     pub fn difference<'a>(&'a self, other: &'a Self) -> Difference<'a, T, A>
-        ensures sides { result ≡ begin_sifting (items self.now) (items other.now) }
+        ensures sides { result ≡ begin_filtering (items self.now) (items other.now) }
         ensures ascending { AreAscending T.cmp (items self.now) × AreAscending T.cmp (items other.now) }
     {
         // A sixteenth, by number: it is no size of a node.

@@ -4,7 +4,7 @@ ghost use Rattle.std.specs.Iterator.{YieldsFirstRef, UpTo, at_most, item_count};
 ghost use Rattle.std.specs.Iterator.SizeHint.{IsWithinCount};
 ghost use Rattle.fc_set.specs.Items.{items, AreAscending};
 ghost use Rattle.fc_set.specs.Operations.{common, intersection};
-ghost use Rattle.fc_set.specs.Sides.{Sifting, begin_sifting, begin_with_shorter, untaken, sifted_past, GivesCommon, GivesLookedUp};
+ghost use Rattle.fc_set.specs.Sides.{Filtering, begin_filtering, begin_with_shorter, untaken, filtered_past, GivesCommon, GivesLookedUp};
 
 use super::{BTreeSet, Iter, order_of};
 use fc_base::Handle;
@@ -26,9 +26,9 @@ pub struct Intersection<'a, T: Ord, A: Handle = Global> {
 impl<'a, T: Ord, A: Handle> Model for Intersection<'a, T, A> {
     ghost use Rattle.std.specs.Prelude.{is_none, unwrap_or};
     ghost use Rattle.fc_set.specs.Items.{items, AreAscending};
-    ghost use Rattle.fc_set.specs.Sides.{Sifting};
+    ghost use Rattle.fc_set.specs.Sides.{Filtering};
 
-    ghost Value = { Sifting T };
+    ghost Value = { Filtering T };
 
     ghost view = { λ w. record { left = w.ours; right = unwrap_or w.theirs (items w.other.now); looks_up = is_none w.theirs } };
 
@@ -60,7 +60,7 @@ impl<'a, T: Ord, A: Handle> Intersection<'a, T, A> {
     pub fn next(&mut self) -> Option<&'a T>
         ensures steps { YieldsFirstRef (λ w. common T.cmp w.left w.right) self.old result self.new }
         ensures ended { IfNone result ((self.new.left ≡ []) ⊎ (self.new.right ≡ [])) }
-        ensures past { MatchOption result (self.new.left ≡ (if self.old.looks_up then [] else untaken T.cmp self.old.left self.old.right)) (λ x. self.new ≡ sifted_past T.cmp self.old x.now) }
+        ensures past { MatchOption result (self.new.left ≡ (if self.old.looks_up then [] else untaken T.cmp self.old.left self.old.right)) (λ x. self.new ≡ filtered_past T.cmp self.old x.now) }
     {
         match &mut self.theirs {
             Some(theirs) => next_common(&mut self.ours, theirs),
@@ -154,7 +154,7 @@ fn in_longer<'a, T: Ord, A: Handle>(
     shorter: &'a BTreeSet<T, A>,
     longer: &'a BTreeSet<T, A>,
 ) -> Intersection<'a, T, A>
-    ensures { result ≡ begin_sifting (items shorter.now) (items longer.now) }
+    ensures { result ≡ begin_filtering (items shorter.now) (items longer.now) }
 {
     // A sixteenth, by number: it is no size of a node.
     let walks_both = shorter.len() > longer.len() / 16;

@@ -1,4 +1,4 @@
-//! Pairs and children taken out of a node at its ends, with nothing mended: for a walk that takes a tree apart.
+//! Pairs and children taken out of a node at its ends, with nothing rebalanced: for a walk that takes a tree apart.
 ghost use Rattle.std.specs.Prelude.{◌≡◌, ◌<◌, [], ◌∷◌, ◌++◌, length};
 ghost use Rattle.fc_tree_node.specs.Node.{own_pairs, children_of};
 

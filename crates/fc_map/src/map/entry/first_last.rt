@@ -8,7 +8,7 @@ ghost use Rattle.fc_map.specs.Entry.{Occupied, entry_map, entry_map_ref, rests_i
 use super::super::BTreeMap;
 use super::OccupiedEntry;
 use fc_base::Handle;
-use fc_tree_walk::ends::{first_gap_in, last_gap_in};
+use fc_tree_cursor::ends::{first_gap_in, last_gap_in};
 
 impl<K: Ord, V, A: Handle> BTreeMap<K, V, A> {
     /// The pair with the smallest key, to be looked at and then taken or written without another search, or `None` where the map is

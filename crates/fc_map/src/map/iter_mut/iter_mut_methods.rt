@@ -160,7 +160,7 @@ impl<'a, K: Ord, V, A: Handle> IterMut<'a, K, V, A> {
         }
         let place = self
             .map
-            .leave_to_next(&mut self.front, &mut self.gone, &mut self.full);
+            .cross_to_next_leaf(&mut self.front, &mut self.gone, &mut self.full);
         self.base = at + 1;
         self.full = no_more_than(self.end - self.base, self.full);
         Some(place)

@@ -10,8 +10,8 @@ ghost use Rattle.fc_map.specs.Writing.{starting};
 use super::super::BTreeMap;
 use super::RangeMut;
 use fc_base::Handle;
+use fc_tree_cursor::key_range::KeyRange;
 use fc_tree_node::path::Path;
-use fc_tree_walk::key_range::KeyRange;
 
 impl<K: Ord, V, A: Handle> BTreeMap<K, V, A> {
     /// A writing walk over the pairs whose keys lie within the range, which is given as in `range`. Both ends are found in one

@@ -1,7 +1,7 @@
 use Rattle.std.proofs.Common.{◌≡◌, ◌-◌, length, slice_get, Some, sym, ap, subst, ◌∙◌, arith}
 use Rattle.fc_tree_node.specs.Node.{pairs_of}
 use Rattle.fc_tree_node.specs.Tree.{entries}
-use Rattle.fc_tree_border.proofs.Cuts.{root_sound}
+use Rattle.fc_tree_split.proofs.Cuts.{root_sound}
 use Rattle.fc_tree_build.proofs.Ends.{less_if, less_then}
 use Rattle.fc_tree_append.proofs.Beyond.{both_ascend, last_before}
 use Rattle.fc_tree_append.proofs.append.is_beyond.Goals as goal

@@ -2,8 +2,8 @@ use Rattle.std.proofs.Common.{◌≡◌, ◌++◌, length, sym, ap, subst, ◌�
 use Rattle.fc_base.specs.Sizes.{most_levels}
 use Rattle.fc_tree_node.specs.Node.{pairs_of, IsLevelled}
 use Rattle.fc_tree_node.specs.Tree.{entries}
-use Rattle.fc_tree_border.proofs.Cuts.{root_sound}
-use Rattle.fc_tree_append.proofs.Crowned.{within_few}
+use Rattle.fc_tree_split.proofs.Cuts.{root_sound}
+use Rattle.fc_tree_append.proofs.UnderRoot.{within_few}
 use Rattle.fc_tree_append.proofs.join.try_join.Goals as goal
 
 pub height-requires : goal.height-requires

@@ -5,7 +5,7 @@ use Rattle.fc_tree_node.specs.Path.{IsPath, before_gap}
 use Rattle.fc_tree_node.specs.Place.{IsPlace, before_pair}
 use Rattle.fc_tree_node.proofs.PathSteps.{IsStep, one_step, step_of}
 use Rattle.fc_tree_node.proofs.Pairs.{child_below}
-use Rattle.fc_tree_walk.proofs.GapFacts.{IsNext, next_leaf, next_own, next_child}
+use Rattle.fc_tree_cursor.proofs.GapFacts.{IsNext, next_leaf, next_own, next_child}
 use Rattle.fc_tree_beside.proofs.beside.+steps_to_next.Given as given
 use Rattle.fc_tree_beside.proofs.beside.+steps_to_next.Goals as goal
 use Rattle.fc_tree_beside.proofs.beside.+steps_to_next.Goals.{After-child}

@@ -4,7 +4,7 @@ use Rattle.fc_tree_node.proofs.Gaps.{leaf_gap}
 use Rattle.fc_tree_node.proofs.Lists.{length_take}
 use Rattle.fc_tree_node.proofs.Pairs.{leaf_children}
 use Rattle.fc_tree_search.proofs.SearchFacts.{child_there}
-use Rattle.fc_tree_walk.proofs.GapFacts.{around_child, goes_here, goes_below, own_count, step_down}
+use Rattle.fc_tree_cursor.proofs.GapFacts.{around_child, goes_here, goes_below, own_count, step_down}
 use Rattle.fc_tree_beside.proofs.Places.{parted}
 use Rattle.fc_tree_beside.proofs.beside.go_ahead_of.Goals as goal
 

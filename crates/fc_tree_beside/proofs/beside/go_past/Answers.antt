@@ -2,7 +2,7 @@ use Rattle.std.proofs.Common.{◌+◌, ◌-◌, length, take, get_or, refl, ap, 
 use Rattle.std.specs.Prelude.{slice_set}
 use Rattle.fc_tree_node.proofs.Lists.{length_take}
 use Rattle.fc_tree_node.proofs.Pairs.{leaf_children}
-use Rattle.fc_tree_walk.proofs.GapFacts.{goes_here, goes_below, step_down, ends_below}
+use Rattle.fc_tree_cursor.proofs.GapFacts.{goes_here, goes_below, step_down, ends_below}
 use Rattle.fc_tree_beside.proofs.Places.{IsPast, past}
 use Rattle.fc_tree_beside.proofs.beside.go_past.Given as given
 use Rattle.fc_tree_beside.proofs.beside.go_past.Goals as goal

@@ -1,5 +1,5 @@
 use Rattle.std.proofs.Common.{◌≡◌, ◌-◌, ◌∷◌, ◌++◌, [], take, get_or, ap, ◌∙◌, arith}
-use Rattle.fc_tree_walk.proofs.GapFacts.{IsLast}
+use Rattle.fc_tree_cursor.proofs.GapFacts.{IsLast}
 use Rattle.fc_tree_beside.proofs.Places.{turned_back}
 use Rattle.fc_tree_beside.proofs.beside.turn_to_previous.Goals as goal
 

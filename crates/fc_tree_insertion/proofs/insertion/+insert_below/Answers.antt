@@ -10,7 +10,7 @@ use Rattle.fc_tree_node.proofs.Lent.{lent_is, replaced, replaced_levels}
 use Rattle.fc_tree_insertion.proofs.InsertedPairs.{put_in_leaf, put_below, put_above}
 use Rattle.fc_tree_insertion.proofs.InsertedLevels.{levelled_put, grown}
 use Rattle.fc_tree_insertion.proofs.Cascades.{IsCascadeStep, cascade_step, leaf_passed, above_halved, above_used, above_moves}
-use Rattle.fc_tree_insertion.proofs.Arrivals.{arrived_below, arrived_above, arrived_leaf}
+use Rattle.fc_tree_insertion.proofs.NewPairs.{led_below, led_above, led_leaf}
 use Rattle.fc_tree_insertion.proofs.insertion.+insert_below.Given as given
 use Rattle.fc_tree_insertion.proofs.insertion.+insert_below.Goals as goal
 use Rattle.fc_tree_insertion.proofs.insertion.+insert_below.Goals.{After-child_in-child, After-put_inner}
@@ -23,14 +23,14 @@ returns-then-path-eq1-clause-pairs g t c =
     let o = one_step _ c.if-path-eq1.true in
     put_in_leaf c.args.path.now _ c.put_leaf.new.node c.put_leaf.result c.args.pair o l.1 i.leaf.0 i.leaf.1 i.pairs
 
-pub returns-then-path-eq1-clause-arrived : goal.returns-then-path-eq1-clause-arrived
-returns-then-path-eq1-clause-arrived g t c =
+pub returns-then-path-eq1-clause-led : goal.returns-then-path-eq1-clause-led
+returns-then-path-eq1-clause-led g t c =
     let e : length c.args.path.now - 1 ≡ 0 = omega arith in
     let l = subst (λ h. IsLevelled h c.args.node.now) e c.requires.levels in
     let o = one_step _ c.if-path-eq1.true in
     let w = subst (λ p. IsPath p c.args.node.now) o c.requires.path in
     let i = c.put_leaf.ensures in
-    arrived_leaf c.args.path.now _ c.put_leaf.new.node c.put_leaf.result c.args.pair o l.1 i.leaf.0 i.leaf.1 w.0 i.pairs i.halved i.left
+    led_leaf c.args.path.now _ c.put_leaf.new.node c.put_leaf.result c.args.pair o l.1 i.leaf.0 i.leaf.1 w.0 i.pairs i.halved i.left
 
 pub child_in-child-requires : goal.child_in-child-requires
 child_in-child-requires g t c = let s = step_of c.args.path.now c.args.node.now (omega arith) c.requires.path c.requires.levels in omega (arith, s.inner, s.le)
@@ -75,7 +75,7 @@ returns-in-None g t c =
     let part = k.part e.halved in
     record {
       pairs = put_below c.args.path.now _ _ _ _ c.args.pair k.step m k.is e.pairs;
-      arrived = arrived_below k m e.halved e.arrived;
+      led = led_below k m e.halved e.led;
       levels = rw k.step.height (replaced_levels _ m k.step.levels (omega arith, e.levels.0), tt);
       size = omega (arith, m.size);
       halved = omega arith;
@@ -104,7 +104,7 @@ returns-in-Some g t c =
     record {
       pairs = put_above c.args.path.now _ _ _ _ c.put_inner.new.node up c.in-Some.up c.args.pair c.in-Some.right s m k.is i.pairs i.children
           i.inner.0 i.inner.1 e.pairs;
-      arrived = arrived_above c.put_inner.new.node up _ _ k m e.halved h i.pairs i.children i.inner.0 i.left e.arrived;
+      led = led_above c.put_inner.new.node up _ _ k m e.halved h i.pairs i.children i.inner.0 i.left e.led;
       levels = rw s.height (levelled_put _ c.args.node.now _ c.insert_below-below.new.node c.put_inner.new.node c.in-Some.right _ up s.levels m
           (e.size.0.0, e.levels.0) (e.size.1.0, e.levels.1) i.children i.inner.0 i.inner.1 i.size);
       size = grown c.put_inner.new.node up _ (ap length i.pairs ∙ length-insert _ _ c.in-Some.up (omega (arith, m.size)) ∙ ap (λ n. n + 1) m.size) i.size;

@@ -2,8 +2,8 @@ use Rattle.std.proofs.Common.{◌≡◌, ◌+◌, ◌-◌, length, sym, ap, subs
 use Rattle.fc_tree_node.specs.Node.{IsSoundRoot}
 use Rattle.fc_tree_node.specs.Path.{IsPath, before_gap, after_gap}
 use Rattle.fc_tree_insertion.specs.Cascade.{cascade, nodes_needed, IsSpareLeaf}
-use Rattle.fc_tree_insertion.specs.Arrival.{path_after, IsPutAt}
-use Rattle.fc_tree_insertion.proofs.Arrivals.{small_steps, steps_fit}
+use Rattle.fc_tree_insertion.specs.NewPair.{path_after, IsPutAt}
+use Rattle.fc_tree_insertion.proofs.NewPairs.{small_steps, steps_fit}
 use Rattle.fc_tree_insertion.proofs.Cascades.{new_nodes_given}
 use Rattle.fc_tree_insertion.proofs.insertion.insert.Goals as goal
 
@@ -28,8 +28,8 @@ insert_with-requires-clause-inner g c =
     c.new_nodes.invariant c.requires.some in
     subst (λ p. c.new_nodes.inside.inner ≡ nodes_needed p c.args.root.now - 1) (sym c.as_slice.ensures.value) r.1
 
-pub arrive-requires : goal.arrive-requires
-arrive-requires g c =
+pub lead_to_new_pair-requires : goal.lead_to_new_pair-requires
+lead_to_new_pair-requires g c =
     let h : length c.args.path.now ≡ (length c.args.path.now - 1) + 1 = omega arith in
     record {
       steps = small_steps c.args.path.now _ c.args.root.now h c.requires.path c.requires.sound.1;
@@ -44,4 +44,4 @@ returns-clause-place g c =
     let put = subst (λ p. IsPutAt (path_after (nodes_needed p old) p) root c.args.pair (before_gap p old) (after_gap p old)) c.as_slice.ensures.value
     c.insert_with.ensures.place in
     subst (λ p. IsPutAt p root c.args.pair (before_gap c.args.path.now old) (after_gap c.args.path.now old))
-    (sym (c.arrive.ensures ∙ ap (λ n. path_after n c.args.path.now) nodes)) put
+    (sym (c.lead_to_new_pair.ensures ∙ ap (λ n. path_after n c.args.path.now) nodes)) put

@@ -1,6 +1,6 @@
 use Rattle.std.proofs.Common.{◌≡◌, suc, ◌-◌, length, ap, subst, ◌∙◌, arith}
 use Rattle.fc_tree_node.specs.Node.{IsLevelled}
-use Rattle.fc_tree_insertion.proofs.Arrivals.{put_same, put_higher}
+use Rattle.fc_tree_insertion.proofs.NewPairs.{put_same, put_higher}
 use Rattle.fc_tree_insertion.proofs.InsertedLevels.{levelled_root}
 use Rattle.fc_tree_insertion.proofs.InsertedPairs.{put_root}
 use Rattle.fc_tree_insertion.proofs.Cascades.{cascade_whole, needed_least, needed_whole, needed_part, moves_part}
@@ -52,10 +52,10 @@ returns-in-Some-clause-higher g c h =
 pub returns-in-None-clause-place : goal.returns-in-None-clause-place
 returns-in-None-clause-place g c =
     let e = c.in-None.ensures in
-    put_same c.args.path.now c.args.root.now c.insert_below.new.node c.args.pair (length c.args.path.now - 1) e.halved e.levels.0 e.pairs e.arrived
+    put_same c.args.path.now c.args.root.now c.insert_below.new.node c.args.pair (length c.args.path.now - 1) e.halved e.levels.0 e.pairs e.led
 
 pub returns-in-Some-clause-place : goal.returns-in-Some-clause-place
 returns-in-Some-clause-place g c =
     let e = c.in-Some.ensures in
     put_higher c.args.path.now c.args.root.now c.grow.new.root c.insert_below.new.node c.in-Some.right c.in-Some.up c.args.pair
-    (length c.args.path.now - 1) e.halved c.grow.ensures.pairs c.grow.ensures.children (e.size.0.0, e.levels.0) (e.size.1.0, e.levels.1) e.pairs e.arrived
+    (length c.args.path.now - 1) e.halved c.grow.ensures.pairs c.grow.ensures.children (e.size.0.0, e.levels.0) (e.size.1.0, e.levels.1) e.pairs e.led

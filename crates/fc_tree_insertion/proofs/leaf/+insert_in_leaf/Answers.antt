@@ -5,7 +5,7 @@ use Rattle.fc_tree_node.proofs.PathSteps.{one_step, IsStep, step_of}
 use Rattle.fc_tree_node.proofs.Pairs.{child_below}
 use Rattle.fc_tree_node.proofs.Lent.{lent_is, replaced, replaced_levels}
 use Rattle.fc_tree_insertion.proofs.InsertedPairs.{put_in_leaf, put_below}
-use Rattle.fc_tree_insertion.proofs.Arrivals.{put_in_room, put_in_room_below}
+use Rattle.fc_tree_insertion.proofs.NewPairs.{put_in_room, put_in_room_below}
 use Rattle.fc_tree_insertion.proofs.Leaves.{leaf_here, leaf_below}
 use Rattle.fc_tree_insertion.proofs.leaf.+insert_in_leaf.Given as given
 use Rattle.fc_tree_insertion.proofs.leaf.+insert_in_leaf.Goals as goal

@@ -1,6 +1,6 @@
 use Rattle.std.proofs.Common.{◌≡◌, ◌+◌, ◌<◌, ◌^◌, length, arith}
 use Rattle.fc_tree_node.specs.Node.{pairs_of}
-use Rattle.fc_tree_insertion.proofs.Arrivals.{steps_few}
+use Rattle.fc_tree_insertion.proofs.NewPairs.{steps_few}
 use Rattle.fc_tree_insertion.proofs.InsertedTrees.{gap_sound, length_in, sound_in, moves_in}
 use Rattle.fc_tree_insertion.proofs.ready.insert_ready.Given as given
 use Rattle.fc_tree_insertion.proofs.ready.insert_ready.Goals as goal

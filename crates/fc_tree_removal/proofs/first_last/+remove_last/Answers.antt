@@ -2,7 +2,7 @@ use Rattle.std.proofs.Common.{refl, ℕ, ◌++◌, ◌∷◌, [], ◌-◌, ◌<�
 use Rattle.std.proofs.lemmas.Bool.{false≢true}
 use Rattle.fc_tree_node.specs.Node.{pairs_of, IsLevelled, IsSound}
 use Rattle.fc_tree_node.proofs.Lent.{above, IsLent, replaced}
-use Rattle.fc_tree_removal.proofs.Removed.{leaf_shrunk, none_leaf, lent_sound, sound, lent_short, lent_lost, lent_mended}
+use Rattle.fc_tree_removal.proofs.Removed.{leaf_shrunk, none_leaf, lent_sound, sound, lent_short, lent_lost, lent_rebalanced}
 use Rattle.fc_tree_removal.proofs.Removed.{last_removed, last_taken, fewer_last}
 use Rattle.fc_tree_removal.proofs.first_last.+remove_last.Given as given
 use Rattle.fc_tree_removal.proofs.first_last.+remove_last.Goals as goal
@@ -34,21 +34,21 @@ remove_last-pair-requires g t c κs within =
     fewer_last l.below _ _ c.len-end.result l.levels c.requires.sound.1.0 c.len-end.ensures.value l.is in
     (search rules, (search rules, (search rules, (search rules, (l.below, sound l)))))
 
-pub mend_child-requires : goal.mend_child-requires
-mend_child-requires g t c =
-    let l = child g t (goal.at.mend_child-requires g t c).After-child_in _ c.requires.sound.1.1 in
+pub rebalance_child-requires : goal.rebalance_child-requires
+rebalance_child-requires g t c =
+    let l = child g t (goal.at.rebalance_child-requires g t c).After-child_in _ c.requires.sound.1.1 in
     (l.below, lent_short l c.requires.sound.1.0 (replaced _ _ _) (c.remove_last-pair.ensures.levels l.below (sound l)))
 
 pub returns-clause-pairs : goal.returns-clause-pairs
 returns-clause-pairs g t c =
     let l = child g t (goal.at.returns-clause-pairs g t c).After-child_in _ c.requires.sound.1.1 in
     last_removed _ _ _ _ _ _ c.len-end.ensures.value l.inner (replaced _ _ _) l.is c.remove_last-pair.ensures.pairs
-    ∙ ap (λ zs. zs ++ c.remove_last-pair.result ∷ []) (sym c.mend_child.ensures.pairs)
+    ∙ ap (λ zs. zs ++ c.remove_last-pair.result ∷ []) (sym c.rebalance_child.ensures.pairs)
 
 pub returns-clause-levels : goal.returns-clause-levels
 returns-clause-levels g t c h s =
     let l = child g t (goal.at.returns-clause-levels g t c).After-child_in h s.1 in
-    lent_mended l _ s.0 (replaced _ _ _) (c.remove_last-pair.ensures.levels l.below (sound l)) (c.mend_child.ensures.levels l.below)
+    lent_rebalanced l _ s.0 (replaced _ _ _) (c.remove_last-pair.ensures.levels l.below (sound l)) (c.rebalance_child.ensures.levels l.below)
 
 pub returns-clause-moves : goal.returns-clause-moves
 returns-clause-moves g t c h s =
@@ -64,7 +64,7 @@ returns-then-is_leaf-clause-fewest g t c h s lost =
 pub returns-clause-fewest : goal.returns-clause-fewest
 returns-clause-fewest g t c h s lost =
     let l = child g t (goal.at.returns-clause-fewest g t c).After-child_in h s.1 in
-    let came = lent_lost l _ (replaced _ _ _) c.mend_child.ensures.whole lost in
+    let came = lent_lost l _ (replaced _ _ _) c.rebalance_child.ensures.whole lost in
     let x = c.remove_last-pair.ensures.fewest l.below (sound l) came.0 in
-    let y = c.mend_child.ensures.least came.1 in
+    let y = c.rebalance_child.ensures.least came.1 in
     omega arith

@@ -2,7 +2,7 @@ use Rattle.std.proofs.Common.{refl, ℕ, ◌∷◌, ap, sym, ◌∙◌, arith}
 use Rattle.std.proofs.lemmas.Bool.{false≢true}
 use Rattle.fc_tree_node.specs.Node.{IsLevelled, IsSound}
 use Rattle.fc_tree_node.proofs.Lent.{above, IsLent, replaced}
-use Rattle.fc_tree_removal.proofs.Removed.{none_leaf, lent_sound, sound, lent_short, lent_lost, lent_mended, first_removed}
+use Rattle.fc_tree_removal.proofs.Removed.{none_leaf, lent_sound, sound, lent_short, lent_lost, lent_rebalanced, first_removed}
 use Rattle.fc_tree_removal.proofs.removal.+remove_first.Given as given
 use Rattle.fc_tree_removal.proofs.removal.+remove_first.Goals as goal
 use Rattle.fc_tree_removal.proofs.removal.+remove_first.Goals.{After-child_in}
@@ -14,21 +14,21 @@ child : (g : given.Over) (t : ℕ) (c : After-child_in g t) (h : ℕ) → IsLeve
     → IsLent IsLevelled IsSound h c.args.node.now c.child_in.result.now 0
 child g t c h l = lent_sound (above IsLevelled h _ (λ z. false≢true (c.if-is_leaf.ensures.1 z.1)) l) (omega arith) c.child_in.ensures.value
 
-pub mend_child-requires : goal.mend_child-requires
-mend_child-requires g t c =
-    let l = child g t (goal.at.mend_child-requires g t c).After-child_in _ c.requires.sound.1.1 in
+pub rebalance_child-requires : goal.rebalance_child-requires
+rebalance_child-requires g t c =
+    let l = child g t (goal.at.rebalance_child-requires g t c).After-child_in _ c.requires.sound.1.1 in
     (l.below, lent_short l c.requires.sound.1.0 (replaced _ _ _) (c.remove_first-pair.ensures.levels l.below (sound l)))
 
 pub returns-clause-pairs : goal.returns-clause-pairs
 returns-clause-pairs g t c =
     let l = child g t (goal.at.returns-clause-pairs g t c).After-child_in _ c.requires.sound.1.1 in
     first_removed _ _ _ _ _ l.inner (replaced _ _ _) l.is c.remove_first-pair.ensures.pairs
-    ∙ ap (λ zs. c.remove_first-pair.result ∷ zs) (sym c.mend_child.ensures.pairs)
+    ∙ ap (λ zs. c.remove_first-pair.result ∷ zs) (sym c.rebalance_child.ensures.pairs)
 
 pub returns-clause-levels : goal.returns-clause-levels
 returns-clause-levels g t c h s =
     let l = child g t (goal.at.returns-clause-levels g t c).After-child_in h s.1 in
-    lent_mended l _ s.0 (replaced _ _ _) (c.remove_first-pair.ensures.levels l.below (sound l)) (c.mend_child.ensures.levels l.below)
+    lent_rebalanced l _ s.0 (replaced _ _ _) (c.remove_first-pair.ensures.levels l.below (sound l)) (c.rebalance_child.ensures.levels l.below)
 
 pub returns-clause-moves : goal.returns-clause-moves
 returns-clause-moves g t c h s =
@@ -44,7 +44,7 @@ returns-then-is_leaf-clause-fewest g t c h s lost =
 pub returns-clause-fewest : goal.returns-clause-fewest
 returns-clause-fewest g t c h s lost =
     let l = child g t (goal.at.returns-clause-fewest g t c).After-child_in h s.1 in
-    let came = lent_lost l _ (replaced _ _ _) c.mend_child.ensures.whole lost in
+    let came = lent_lost l _ (replaced _ _ _) c.rebalance_child.ensures.whole lost in
     let x = c.remove_first-pair.ensures.fewest l.below (sound l) came.0 in
-    let y = c.mend_child.ensures.least came.1 in
+    let y = c.rebalance_child.ensures.least came.1 in
     omega arith

@@ -3,7 +3,7 @@ use Rattle.std.proofs.lemmas.Bool.{false≢true}
 use Rattle.fc_tree_node.specs.Node.{IsLevelled, IsSound}
 use Rattle.fc_tree_node.proofs.Lent.{above, IsLent, replaced}
 use Rattle.fc_tree_removal.proofs.Removed.{leaf_shrunk, none_leaf, get_there, lent_sound, sound, IsOwnSet, own_set}
-use Rattle.fc_tree_removal.proofs.Removed.{own_short, own_lost, own_mended, own_replaced}
+use Rattle.fc_tree_removal.proofs.Removed.{own_short, own_lost, own_rebalanced, own_replaced}
 use Rattle.fc_tree_removal.proofs.removal.remove_own.Given as given
 use Rattle.fc_tree_removal.proofs.removal.remove_own.Goals as goal
 use Rattle.fc_tree_removal.proofs.removal.remove_own.Goals.{After-child_in, After-replace_pair-pair}
@@ -33,9 +33,9 @@ remove_first-next-requires g c =
     let l = next g (goal.at.remove_first-next-requires g c).After-child_in _ c.requires.sound.1.1 in
     record { sound = (l.below, sound l) }
 
-pub mend_child-requires : goal.mend_child-requires
-mend_child-requires g c =
-    let at = goal.at.mend_child-requires g c in
+pub rebalance_child-requires : goal.rebalance_child-requires
+rebalance_child-requires g c =
+    let at = goal.at.rebalance_child-requires g c in
     let l = next g at.After-child_in _ c.requires.sound.1.1 in
     (l.below, own_short l c.requires.sound.1.0 (set g at.After-replace_pair-pair) (c.remove_first-next.ensures.levels l.below (sound l)))
 
@@ -48,13 +48,13 @@ pub returns-clause-pairs : goal.returns-clause-pairs
 returns-clause-pairs g c =
     let at = goal.at.returns-clause-pairs g c in
     let l = next g at.After-child_in _ c.requires.sound.1.1 in
-    c.mend_child.ensures.pairs ∙ own_replaced _ _ _ _ _ _ l (set g at.After-replace_pair-pair) c.remove_first-next.ensures.pairs
+    c.rebalance_child.ensures.pairs ∙ own_replaced _ _ _ _ _ _ l (set g at.After-replace_pair-pair) c.remove_first-next.ensures.pairs
 
 pub returns-clause-levels : goal.returns-clause-levels
 returns-clause-levels g c h s =
     let at = goal.at.returns-clause-levels g c in
     let l = next g at.After-child_in h s.1 in
-    own_mended l _ s.0 (set g at.After-replace_pair-pair) (c.remove_first-next.ensures.levels l.below (sound l)) (c.mend_child.ensures.levels l.below)
+    own_rebalanced l _ s.0 (set g at.After-replace_pair-pair) (c.remove_first-next.ensures.levels l.below (sound l)) (c.rebalance_child.ensures.levels l.below)
 
 pub returns-clause-moves : goal.returns-clause-moves
 returns-clause-moves g c h s =
@@ -71,7 +71,7 @@ pub returns-clause-fewest : goal.returns-clause-fewest
 returns-clause-fewest g c h s lost =
     let at = goal.at.returns-clause-fewest g c in
     let l = next g at.After-child_in h s.1 in
-    let came = own_lost l _ (set g at.After-replace_pair-pair) c.mend_child.ensures.whole lost in
+    let came = own_lost l _ (set g at.After-replace_pair-pair) c.rebalance_child.ensures.whole lost in
     let x = c.remove_first-next.ensures.fewest l.below (sound l) came.0 in
-    let y = c.mend_child.ensures.least came.1 in
+    let y = c.rebalance_child.ensures.least came.1 in
     omega arith

@@ -4,7 +4,7 @@ use Rattle.fc_tree_retain.proofs.retain.retain.Goals as goal
 
 pub returns-clause-retained : goal.returns-clause-retained
 returns-clause-retained g c = (
-  c.sift_tree.new.sieve.keep,
+  c.filter_tree.new.filter.keep,
   as_retained _ _ (AskedAtPair g.F.FnMut) (λ s. s.keep) (λ s t e w b a. a) (λ s t e q. q) _ _ _ _
-      c.sift_tree.ensures.sifted,
+      c.filter_tree.ensures.filtered,
 )

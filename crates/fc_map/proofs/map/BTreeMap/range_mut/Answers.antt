@@ -1,6 +1,6 @@
 use Rattle.std.proofs.Common.{length, refl, sym, ap, subst, ◌∙◌}
-use Rattle.fc_tree_visit.proofs.LeafFacts.{on_none}
-use Rattle.fc_tree_walk.specs.Gap.{AreEndsIn}
+use Rattle.fc_tree_for_each.proofs.LeafFacts.{on_none}
+use Rattle.fc_tree_cursor.specs.Gap.{AreEndsIn}
 use Rattle.fc_tree_node.specs.TreePlace.{before_gap_in}
 use Rattle.fc_map.proofs.EndFacts.{state_is}
 use Rattle.fc_map.proofs.map.BTreeMap.range_mut.Goals as goal

@@ -1,6 +1,6 @@
 use Rattle.std.proofs.Common.{◌+◌, arith, subst, sym}
-use Rattle.fc_tree_visit.specs.Leaf.{gone_on}
-use Rattle.fc_tree_walk.specs.Gap.{IsGapIn}
+use Rattle.fc_tree_for_each.specs.Leaf.{advanced}
+use Rattle.fc_tree_cursor.specs.Gap.{IsGapIn}
 use Rattle.fc_map.proofs.EndFacts.{gap_less}
 use Rattle.fc_map.proofs.map.BTreeMap.step_to_next.Goals as goal
 
@@ -18,7 +18,7 @@ returns-then-gone-full g c =
       small = e.small;
       place = e.place;
       before = e.before;
-      gap = subst (λ k. IsGapIn m (gone_on path k)) (sym e.gone) gap;
+      gap = subst (λ k. IsGapIn m (advanced path k)) (sym e.gone) gap;
       full =
           c.requires.full;
       step = e.step;

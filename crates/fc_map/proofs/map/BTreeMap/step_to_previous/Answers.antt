@@ -1,8 +1,8 @@
 use Rattle.std.proofs.Common.{◌-◌, ◌≤◌, length, get_or, sym, ap, subst, ◌∙◌, arith}
 use Rattle.fc_base.specs.Sizes.{capacity}
-use Rattle.fc_tree_walk.specs.Gap.{IsGapIn}
-use Rattle.fc_tree_walk.proofs.GapFacts.{gap_small}
-use Rattle.fc_tree_visit.proofs.LeafFacts.{on_length, gap_near}
+use Rattle.fc_tree_cursor.specs.Gap.{IsGapIn}
+use Rattle.fc_tree_cursor.proofs.GapFacts.{gap_small}
+use Rattle.fc_tree_for_each.proofs.LeafFacts.{on_length, gap_near}
 use Rattle.fc_map.proofs.EndFacts.{gap_some}
 use Rattle.fc_map.proofs.map.BTreeMap.step_to_previous.Goals as goal
 

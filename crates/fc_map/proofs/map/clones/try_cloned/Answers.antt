@@ -3,12 +3,12 @@ use denote.Param.{param}
 use Rattle.std.specs.List.{AllZip}
 use Rattle.fc_base.specs.Ascending.{IsAscending}
 use Rattle.fc_tree_copy.specs.Copy.{AreSame}
-use Rattle.fc_tree_build.proofs.StackSizes.{growing_fits}
+use Rattle.fc_tree_build.proofs.StackSizes.{growing_builder_fits}
 use Rattle.fc_map.proofs.CloneFacts.{none_cloned, one_cloned, all_cloned}
 use Rattle.fc_map.proofs.map.clones.try_cloned.Goals as goal
 
 pub new-clones-requires : goal.new-clones-requires
-new-clones-requires g c = growing_fits (param 0 g.row.K) (param 1 g.row.V) g.row.A g.A.Allocator g.met.A.Handle.small
+new-clones-requires g c = growing_builder_fits (param 0 g.row.K) (param 1 g.row.V) g.row.A g.A.Allocator g.met.A.Handle.small
 
 pub loop-key-init : goal.loop-key-init
 loop-key-init g c = (
@@ -20,7 +20,7 @@ loop-key-init g c = (
 )
 
 pub push_if_behind-requires : goal.push_if_behind-requires
-push_if_behind-requires g c = (growing_fits (param 0 g.row.K) (param 1 g.row.V) g.row.A g.A.Allocator g.met.A.Handle.small, c.loop-key.invariant.2)
+push_if_behind-requires g c = (growing_builder_fits (param 0 g.row.K) (param 1 g.row.V) g.row.A g.A.Allocator g.met.A.Handle.small, c.loop-key.invariant.2)
 
 pub loop-key-preserved : goal.loop-key-preserved
 loop-key-preserved g c = (
@@ -33,7 +33,7 @@ loop-key-preserved g c = (
 )
 
 pub from_grown-requires : goal.from_grown-requires
-from_grown-requires g c = (growing_fits (param 0 g.row.K) (param 1 g.row.V) g.row.A g.A.Allocator g.met.A.Handle.small, c.loop-key.invariant.2)
+from_grown-requires g c = (growing_builder_fits (param 0 g.row.K) (param 1 g.row.V) g.row.A g.A.Allocator g.met.A.Handle.small, c.loop-key.invariant.2)
 
 pub returns-clause-cloned : goal.returns-clause-cloned
 returns-clause-cloned g c = subst (AllZip (AreSame g.K.Clone.is_clone g.V.Clone.is_clone) c.args.pairs) (sym c.from_grown.ensures.pairs)

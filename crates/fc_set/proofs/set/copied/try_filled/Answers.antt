@@ -5,7 +5,7 @@ use Rattle.std.proofs.lemmas.List.Elements.{length_all_zip}
 use Rattle.std.proofs.lemmas.Result.{err_from_is_err_and}
 use denote.Builtin.{unit}
 use denote.Param.{param}
-use Rattle.fc_tree_build.proofs.StackSizes.{growing_fits}
+use Rattle.fc_tree_build.proofs.StackSizes.{growing_builder_fits}
 use Rattle.fc_set.specs.Copied.{Lends}
 use Rattle.fc_set.specs.Items.{AreAscending}
 use Rattle.fc_set.proofs.ItemFacts.{ascending_keys}
@@ -32,10 +32,10 @@ loop-item-preserved g c = (
 )
 
 pub new-builder-requires : goal.new-builder-requires
-new-builder-requires g c = growing_fits (param 0 g.row.T) unit g.row.A g.A.Allocator g.met.A.Handle.small
+new-builder-requires g c = growing_builder_fits (param 0 g.row.T) unit g.row.A g.A.Allocator g.met.A.Handle.small
 
 pub push-requires : goal.push-requires
-push-requires g c = growing_fits (param 0 g.row.T) unit g.row.A g.A.Allocator g.met.A.Handle.small
+push-requires g c = growing_builder_fits (param 0 g.row.T) unit g.row.A g.A.Allocator g.met.A.Handle.small
 
 pub returns-in_err-copy-clause-some : goal.returns-in_err-copy-clause-some
 returns-in_err-copy-clause-some g c = λ refused all lends.
@@ -50,7 +50,7 @@ from_grown-requires g c =
     (c.loop-item.invariant.2 gives.0 gives.1) c.in-None.ensures.steps in
     let equal = λ (a : g.row.T.Denot) (b : g.row.T.Denot) (s : g.T.TryClone.same a b). is_equal (g.T.Ord.cmp a b)
     (sym (g.met.T.Ord.matches_eq a b) ∙ c.requires.equal a b s) in (
-      growing_fits (param 0 g.row.T) unit g.row.A g.A.Allocator g.met.A.Handle.small,
+      growing_builder_fits (param 0 g.row.T) unit g.row.A g.A.Allocator g.met.A.Handle.small,
       ascending_copies g.T.Ord.cmp g.met.T.Ord.total g.T.TryClone.same equal gives.0 pairs copied gives.2,
     )
 

@@ -13,7 +13,7 @@ take_new_nodes-requires-clause-enough g c =
     let places = ap (λ (r : Places). r.places) c.self.view_is in
     let pairs = ap (λ (r : Places). r.pairs) c.self.view_is in
     let few = needed_most root path c.requires.sound steps reservation.levels reservation.pairs (omega arith) c.self.invariant.2 in
-    let enough = place_enough reservation.places reservation.levels reservation.stock (omega arith) c.self.invariant.0 in
+    let enough = place_enough reservation.places reservation.levels reservation.pool (omega arith) c.self.invariant.0 in
     rw c.as_slice.ensures.value (omega arith)
 
 pub invariant_of-self : goal.invariant_of-self
@@ -27,4 +27,4 @@ invariant_of-self g c =
     let few : nodes_needed path root ≤ reservation.levels = needed_most root path c.requires.sound steps reservation.levels reservation.pairs (omega arith)
     c.self.invariant.2 in
     let len = rw c.as_slice.ensures.value at c.take_new_nodes.ensures.len in
-    (place_used reservation.places reservation.levels reservation.stock _ _ (omega arith) c.self.invariant.0 few len, c.self.invariant.1, c.self.invariant.2)
+    (place_used reservation.places reservation.levels reservation.pool _ _ (omega arith) c.self.invariant.0 few len, c.self.invariant.1, c.self.invariant.2)

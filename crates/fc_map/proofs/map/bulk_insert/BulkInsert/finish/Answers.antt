@@ -1,13 +1,13 @@
 use Rattle.std.proofs.Common.{◌∙◌}
 use denote.Param.{param}
-use Rattle.fc_tree_build.proofs.StackSizes.{growing_fits, items_fit}
+use Rattle.fc_tree_build.proofs.StackSizes.{growing_builder_fits, items_fit}
 use Rattle.fc_map.specs.Entries.{entries}
 use Rattle.fc_map.proofs.ExtendFacts.{all_in_map, all_in_tree}
 use Rattle.fc_map.proofs.BulkInsertSizes.{list_fits}
 use Rattle.fc_map.proofs.map.bulk_insert.BulkInsert.finish.Goals as goal
 
 pub from_grown-requires : goal.from_grown-requires
-from_grown-requires g c = (growing_fits (param 0 g.row.K) (param 1 g.row.V) g.row.A g.A.Allocator g.met.A.Handle.small, c.self.invariant.0)
+from_grown-requires g c = (growing_builder_fits (param 0 g.row.K) (param 1 g.row.V) g.row.A g.A.Allocator g.met.A.Handle.small, c.self.invariant.0)
 
 pub drop-map-inside-requires : goal.drop-map-inside-requires
 drop-map-inside-requires g c = list_fits (param 0 g.row.K) (param 1 g.row.V) g.row.A g.A.Allocator g.met.A.Handle.small

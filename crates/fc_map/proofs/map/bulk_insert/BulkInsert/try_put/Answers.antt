@@ -3,7 +3,7 @@ use denote.Param.{param}
 use Rattle.fc_base.specs.OneKey.{put}
 use Rattle.fc_map.specs.Entries.{entries}
 use Rattle.fc_base.specs.Ascending.{IsAscending}
-use Rattle.fc_tree_build.proofs.StackSizes.{growing_fits}
+use Rattle.fc_tree_build.proofs.StackSizes.{growing_builder_fits}
 use Rattle.fc_map.specs.BulkInsert.{IsBulkInsert}
 use Rattle.fc_map.proofs.ExtendFacts.{put_last, all_in_map, all_in_tree}
 use Rattle.fc_map.proofs.ExtendFacts.{put_in_tree, put_in_map, same_in_tree, same_in_map, still_new, same_refusal}
@@ -25,22 +25,22 @@ returns-in_default-clause-put g c =
     ∙ ap (λ s. put g.K.Ord.cmp s c.args.key c.args.value) c.self.view_is
 
 pub put_if_behind-requires : goal.put_if_behind-requires
-put_if_behind-requires g c = growing_fits (param 0 g.row.K) (param 1 g.row.V) g.row.A g.A.Allocator g.met.A.Handle.small
+put_if_behind-requires g c = growing_builder_fits (param 0 g.row.K) (param 1 g.row.V) g.row.A g.A.Allocator g.met.A.Handle.small
 
 pub is_behind-requires : goal.is_behind-requires
 is_behind-requires g c =
     let kept = subst (λ t. IsBulkInsert g.K.Ord.cmp t.pairs (entries c.self.inside.map)) (sym c.in-Some.ensures.back.1) c.self.invariant in
-    (growing_fits (param 0 g.row.K) (param 1 g.row.V) g.row.A g.A.Allocator g.met.A.Handle.small, kept)
+    (growing_builder_fits (param 0 g.row.K) (param 1 g.row.V) g.row.A g.A.Allocator g.met.A.Handle.small, kept)
 
 pub push_behind-requires : goal.push_behind-requires
 push_behind-requires g c =
     let order = subst (λ t. IsAscending g.K.Ord.cmp t.pairs) (sym c.in-Some.ensures.back.1) c.self.invariant.0 in
-    (growing_fits (param 0 g.row.K) (param 1 g.row.V) g.row.A g.A.Allocator g.met.A.Handle.small, (order, c.if-is_behind.ensures.behind refl))
+    (growing_builder_fits (param 0 g.row.K) (param 1 g.row.V) g.row.A g.A.Allocator g.met.A.Handle.small, (order, c.if-is_behind.ensures.behind refl))
 
 pub close-requires : goal.close-requires
 close-requires g c =
     let order = subst (λ t. IsAscending g.K.Ord.cmp t.pairs) (sym c.in-Some.ensures.back.1) c.self.invariant.0 in
-    (growing_fits (param 0 g.row.K) (param 1 g.row.V) g.row.A g.A.Allocator g.met.A.Handle.small, order)
+    (growing_builder_fits (param 0 g.row.K) (param 1 g.row.V) g.row.A g.A.Allocator g.met.A.Handle.small, order)
 
 pub invariant_of-self-then-is_behind : goal.invariant_of-self-then-is_behind
 invariant_of-self-then-is_behind g c = (c.push_behind.ensures.ascending, inr (c.if-is_behind.ensures.open refl))

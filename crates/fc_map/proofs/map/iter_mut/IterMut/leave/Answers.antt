@@ -5,7 +5,7 @@ use Rattle.fc_map.proofs.map.iter_mut.IterMut.leave.Goals as goal
 pub invariant_of-self : goal.invariant_of-self
 invariant_of-self g c =
     let w = c.args.self.now in
-    let t = c.leave_to_next-place in
+    let t = c.cross_to_next_leaf-place in
     let step = t.ensures.step in
     let gone = t.ensures.gone in
     let front = w.front_counted in

@@ -1,6 +1,6 @@
 use Rattle.std.proofs.Common.{◌+◌, arith, sym, subst}
-use Rattle.fc_tree_visit.specs.Leaf.{gone_on}
-use Rattle.fc_tree_walk.specs.Gap.{IsGapIn}
+use Rattle.fc_tree_for_each.specs.Leaf.{advanced}
+use Rattle.fc_tree_cursor.specs.Gap.{IsGapIn}
 use Rattle.fc_map.proofs.EndFacts.{gap_less}
 use Rattle.fc_map.proofs.map.iter_mut.IterMut.step.Goals as goal
 
@@ -19,7 +19,7 @@ invariant_of-self g c =
     let back = w.back_counted in
     let within = w.within in
     record {
-      ends = (subst (λ k. IsGapIn w.map.now (gone_on w.front k)) (sym gone) gap, w.ends.1, omega (arith, step, front, back, within, less));
+      ends = (subst (λ k. IsGapIn w.map.now (advanced w.front k)) (sym gone) gap, w.ends.1, omega (arith, step, front, back, within, less));
       run_is = w.run_is;
       front_counted = omega (arith, step, gone, front);
       back_counted = back;

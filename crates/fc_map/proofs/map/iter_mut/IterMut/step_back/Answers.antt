@@ -1,5 +1,5 @@
 use Rattle.std.proofs.Common.{◌<◌, length, arith}
-use Rattle.fc_tree_visit.specs.Leaf.{gone_on}
+use Rattle.fc_tree_for_each.specs.Leaf.{advanced}
 use Rattle.fc_tree_node.specs.TreePlace.{before_gap_in}
 use Rattle.fc_map.proofs.EndFacts.{gap_less}
 use Rattle.fc_map.proofs.map.iter_mut.IterMut.step_back.Goals as goal
@@ -10,7 +10,7 @@ invariant_of-self g c =
     let m = w.map.now in
     let t = c.step_to_previous-place in
     let is = c.if-is_done.false in
-    let apart : length (before_gap_in m (gone_on w.front w.gone)) < length (before_gap_in m w.back) = grind (arith, c.is_done.ensures.1, is) in
+    let apart : length (before_gap_in m (advanced w.front w.gone)) < length (before_gap_in m w.back) = grind (arith, c.is_done.ensures.1, is) in
     let step = t.ensures.step in
     let front = w.front_counted in
     let back = w.back_counted in

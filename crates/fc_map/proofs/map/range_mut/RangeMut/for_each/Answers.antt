@@ -1,13 +1,13 @@
 use Rattle.std.proofs.Common.{arith}
-use Rattle.fc_tree_visit.specs.Leaf.{gone_on}
+use Rattle.fc_tree_for_each.specs.Leaf.{advanced}
 use Rattle.fc_map.proofs.map.range_mut.RangeMut.for_each.Goals as goal
 
 pub invariant_of-self : goal.invariant_of-self
 invariant_of-self g c =
     let ends = c.args.self.ends in
-    let front = c.visit.ensures.gaps (gone_on c.args.self.front c.args.self.gone) ends.0 in
+    let front = c.visit.ensures.gaps (advanced c.args.self.front c.args.self.gone) ends.0 in
     let back = c.visit.ensures.gaps c.args.self.back ends.1 in
-    let run = c.visit.ensures.gaps (gone_on c.args.self.front c.args.self.full) c.args.self.run_is in
+    let run = c.visit.ensures.gaps (advanced c.args.self.front c.args.self.full) c.args.self.run_is in
     let f = front.1 in
     let b = back.1 in
     let o = ends.2 in

@@ -1,7 +1,7 @@
 use Rattle.std.proofs.Common.{refl, ap}
 use Rattle.fc_map.specs.Entries.{entries}
 use Rattle.fc_map.specs.Lends.{branch}
-use Rattle.fc_tree_visit.specs.Leaf.{gone_on}
+use Rattle.fc_tree_for_each.specs.Leaf.{advanced}
 use Rattle.fc_map.specs.Stretches.{stretch}
 use Rattle.fc_map.proofs.EndFacts.{ends_stay, place_on, lent_first}
 use Rattle.fc_map.proofs.ShapeFacts.{gap_stays}
@@ -15,7 +15,7 @@ invariant_of-self-lent g c = λ w.
     let path = branch c.as_slice.result.now c.in-Some.way c.in-Some.place in
     let there = (place_on m n.front _ _ _ _ c.as_slice.ensures.value s.1 s.2).0 in
     let sound = c.value_at.ensures.sound in
-    (ends_stay m path (gone_on n.front n.gone) n.back w sound there n.ends, ((gap_stays m path (gone_on n.front n.full) w sound there n.run_is).slot, tt))
+    (ends_stay m path (advanced n.front n.gone) n.back w sound there n.ends, ((gap_stays m path (advanced n.front n.full) w sound there n.run_is).slot, tt))
 
 pub returns-in-Some : goal.returns-in-Some
 returns-in-Some g c =
@@ -24,6 +24,6 @@ returns-in-Some g c =
     let s = e.step in
     let list = ap (λ m. entries m.now) e.same_map in
     let place = place_on n.map.now n.front _ _ _ _ c.as_slice.ensures.value s.1 s.2 in
-    let lent = lent_first n.map.now _ (gone_on n.front n.gone) n.back _ (stretch c.args.self.now) c.value_at.ensures.sound n.ends list place s.4 s.5
+    let lent = lent_first n.map.now _ (advanced n.front n.gone) n.back _ (stretch c.args.self.now) c.value_at.ensures.sound n.ends list place s.4 s.5
     c.value_at.ensures.value in
     ((refl, (λ w. (ap (λ m. m.ghost_name) e.same_map, lent.0 w)), tt), record { writes_back = tt; value = (s.3, lent.1) })

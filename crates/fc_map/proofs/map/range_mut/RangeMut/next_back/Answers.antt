@@ -1,6 +1,6 @@
 use Rattle.std.proofs.Common.{refl, ap}
 use Rattle.fc_map.specs.Entries.{entries}
-use Rattle.fc_tree_visit.specs.Leaf.{gone_on}
+use Rattle.fc_tree_for_each.specs.Leaf.{advanced}
 use Rattle.fc_map.specs.Stretches.{stretch}
 use Rattle.fc_map.proofs.EndFacts.{ends_stay, lent_last}
 use Rattle.fc_map.proofs.ShapeFacts.{gap_stays}
@@ -9,8 +9,8 @@ use Rattle.fc_map.proofs.map.range_mut.RangeMut.next_back.Goals as goal
 pub invariant_of-self-lent : goal.invariant_of-self-lent
 invariant_of-self-lent g c = λ w.
     let n = c.step_back.new.self in (
-      ends_stay n.map.now c.in-Some.place (gone_on n.front n.gone) n.back w c.value_mut.ensures.sound c.in-Some.ensures.step.0 n.ends,
-      ((gap_stays n.map.now c.in-Some.place (gone_on n.front n.full) w c.value_mut.ensures.sound c.in-Some.ensures.step.0 n.run_is).slot, tt),
+      ends_stay n.map.now c.in-Some.place (advanced n.front n.gone) n.back w c.value_mut.ensures.sound c.in-Some.ensures.step.0 n.ends,
+      ((gap_stays n.map.now c.in-Some.place (advanced n.front n.full) w c.value_mut.ensures.sound c.in-Some.ensures.step.0 n.run_is).slot, tt),
     )
 
 pub returns-in-Some : goal.returns-in-Some
@@ -19,6 +19,6 @@ returns-in-Some g c =
     let e = c.in-Some.ensures in
     let s = e.step in
     let list = ap (λ m. entries m.now) e.same_map in
-    let lent = lent_last n.map.now _ (gone_on n.front n.gone) n.back _ (stretch c.args.self.now) c.value_mut.ensures.sound n.ends list s.0 s.1 s.3 s.4
+    let lent = lent_last n.map.now _ (advanced n.front n.gone) n.back _ (stretch c.args.self.now) c.value_mut.ensures.sound n.ends list s.0 s.1 s.3 s.4
     c.value_mut.ensures.value in
     ((refl, (λ w. (ap (λ m. m.ghost_name) e.same_map, lent.0 w)), tt), record { writes_back = tt; value = (s.2, lent.1) })

@@ -1,5 +1,0 @@
-use Rattle.fc_tree_border.proofs.Heights.{height_of}
-use Rattle.fc_tree_border.proofs.cutting.+try_border.Given as goal
-
-abbrev pub decreases-try_border : goal.decreases-try_border
-decreases-try_border g l = height_of l.node.now

@@ -1,0 +1,109 @@
+//! Where the keys of a tree are cut by a bound of a range, and the place of a cut in a node.
+ghost use Rattle.std.specs.Prelude.{◌≡◌, ◌≤◌, ◌⊎◌, length, IsTrue};
+ghost use Rattle.std.specs.Ordering.{is_lt, is_le};
+ghost use Rattle.fc_tree_node.specs.Node.{own_pairs};
+ghost use Rattle.fc_tree_cursor.specs.Cut.{start_cut, stop_cut, leads, IsTurn};
+
+use fc_base::{Handle, Query};
+use fc_tree_node::node::Node;
+use std::ops::Bound;
+
+/// A cut between ascending keys, by what they are searched by.
+#[derive(Clone, Copy)]
+pub enum Cut<Q> {
+    /// In front of all keys.
+    First,
+    /// Behind the keys below what is sought.
+    Before(Q),
+    /// Behind the keys that are not above what is sought.
+    After(Q),
+    /// Behind all keys.
+    Last,
+}
+
+/// The cut at the start of a range.
+pub(crate) fn start_of<Q: Copy>(lo: &Bound<Q>) -> Cut<Q>
+    ensures { result ≡ start_cut lo.now }
+{
+    match lo {
+        Bound::Included(key) => Cut::Before(*key),
+        Bound::Excluded(key) => Cut::After(*key),
+        Bound::Unbounded => Cut::First,
+    }
+}
+
+/// The cut at the end of a range.
+pub(crate) fn stop_of<Q: Copy>(hi: &Bound<Q>) -> Cut<Q>
+    ensures { result ≡ stop_cut hi.now }
+{
+    match hi {
+        Bound::Included(key) => Cut::After(*key),
+        Bound::Excluded(key) => Cut::Before(*key),
+        Bound::Unbounded => Cut::Last,
+    }
+}
+
+/// Whether one of the two ends of a range has no bound.
+pub(crate) fn is_open<Q: Copy>(start: &Cut<Q>, stop: &Cut<Q>) -> bool
+    ensures { IsTrue result → (start.now ≡ Cut.First) ⊎ (stop.now ≡ Cut.Last) }
+{
+    match (start, stop) {
+        (Cut::First, _) | (_, Cut::Last) => true,
+        _ => false,
+    }
+}
+
+/// The first of the node's own pairs from a place on that is not in front of the cut, or their end.
+pub(crate) fn place_in<K: Ord, V, Q: Query<K>, A: Handle>(
+    node: &Node<K, V, A>,
+    cut: &Cut<Q>,
+    from: usize,
+) -> usize
+    requires { from ≤ length (own_pairs node.now) }
+    ensures { IsTurn (λ e. leads Q.order Q.sought cut.now e.0) (own_pairs node.now) from result }
+{
+    match cut {
+        Cut::First => from,
+        Cut::Before(key) => first_not_below(node, *key, from),
+        Cut::After(key) => first_above(node, *key, from),
+        Cut::Last => node.len(),
+    }
+}
+
+// The first of the node's own pairs from a place on whose key is not below what is sought, or their end.
+#[tactic(auto, using(crate::proofs::Turns::held_on, crate::proofs::Turns::not_there))]
+fn first_not_below<K: Ord, V, Q: Query<K>, A: Handle>(
+    node: &Node<K, V, A>,
+    key: Q,
+    from: usize,
+) -> usize
+    requires { from ≤ length (own_pairs node.now) }
+    ensures { IsTurn (λ e. is_lt (Q.order e.0 (Q.sought key))) (own_pairs node.now) from result }
+{
+    let n = node.len();
+    for i in from..n {
+        if !key.order_of(&node.pair(i).0).is_lt() {
+            return i;
+        }
+    }
+    n
+}
+
+// The first of the node's own pairs from a place on whose key is above what is sought, or their end.
+#[tactic(auto, using(crate::proofs::Turns::held_on, crate::proofs::Turns::not_there))]
+fn first_above<K: Ord, V, Q: Query<K>, A: Handle>(
+    node: &Node<K, V, A>,
+    key: Q,
+    from: usize,
+) -> usize
+    requires { from ≤ length (own_pairs node.now) }
+    ensures { IsTurn (λ e. is_le (Q.order e.0 (Q.sought key))) (own_pairs node.now) from result }
+{
+    let n = node.len();
+    for i in from..n {
+        if !key.order_of(&node.pair(i).0).is_le() {
+            return i;
+        }
+    }
+    n
+}

@@ -1,0 +1,33 @@
+use Rattle.std.proofs.Common.{◌<◌, arith}
+use Rattle.fc_base.specs.Sizes.{capacity}
+use Rattle.fc_tree_for_each.specs.Leaf.{IsHolder}
+use Rattle.fc_tree_for_each.proofs.LeafFacts.{lowest_is, own_small, past}
+use Rattle.fc_tree_for_each.proofs.leaf.pass_next.Given as given
+use Rattle.fc_tree_for_each.proofs.leaf.pass_next.Goals as goal
+use Rattle.fc_tree_for_each.proofs.leaf.pass_next.Goals.{After-step-place}
+
+holder : (g : given.Over) (c : After-step-place g)
+    → IsHolder c.args.gap.now c.args.root.now c.lowest_with_next-last.result.1 c.lowest_with_next-last.result.0.now
+holder g c =
+    lowest_is c.args.gap.now c.args.root.now _ c.lowest_with_next-last.result (rw c.as_slice.ensures.value at c.lowest_with_next-last.ensures) c.requires.later
+
+small : (g : given.Over) (c : After-step-place g) → c.step-place.result < capacity
+small g c =
+    let found = c.lowest_with_next-last.result in
+    let s = own_small c.args.gap.now c.args.root.now found.1 found.0.now (holder g c) in
+    omega (arith, s, c.step-place.ensures)
+
+pub overflow_add-place : goal.overflow_add-place
+overflow_add-place g c = omega (arith, small g (goal.at.overflow_add-place g c).After-step-place)
+
+pub set-requires-clause-small : goal.set-requires-clause-small
+set-requires-clause-small g c = omega (arith, small g (goal.at.set-requires-clause-small g c).After-step-place)
+
+pub returns : goal.returns
+returns g c =
+    let found = c.lowest_with_next-last.result in
+    let h = holder g (goal.at.returns g c).After-step-place in
+    let e = c.go_down-run.ensures in
+    let r = past c.args.gap.now c.set.new.self c.go_down-run.new.gap c.args.root.now found.0.now found.1 c.step-place.result c.go_down-run.result
+    c.requires.path h c.step-place.ensures c.set.ensures (record { gap_is = e.gap; run_is = e.run; run_all = e.all }) in
+    record { way = h.0; own = c.step-place.ensures; place = r.place_is; before = r.before; gap = r.gap_is; run = r.run_is; all = r.run_all }

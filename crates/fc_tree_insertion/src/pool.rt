@@ -1,0 +1,151 @@
+//! Nodes made ahead for several insertions.
+ghost use Rattle.std.specs.Prelude.{◌≡◌, ◌+◌, ◌-◌, ◌<◌, ◌≤◌, length, IfOk, IfErr, IsOk};
+ghost use Rattle.fc_base.specs.Sizes.{most_levels};
+ghost use Rattle.fc_tree_node.specs.Node.{IsLevelled, IsBlankLeaf, IsBlankInner};
+ghost use Rattle.fc_tree_node.specs.Path.{IsPath};
+ghost use Rattle.fc_tree_insertion.specs.Cascade.{nodes_needed};
+
+use crate::new_nodes::{NewNodes, count_full};
+use crate::spares::Spares;
+use fc_base::{Handle, TryReserveError};
+use fc_tree_node::node::Node;
+use std::alloc::Global;
+use std::marker::Model;
+
+/// Inner nodes that hold nothing, each of which serves as a leaf too, once its room for children is dropped. They stand in a list,
+/// since a chain of as many would be dropped by as deep a recursion. A contract sees how many there are.
+#[derive(Drop)]
+pub struct NodePool<K, V, A: Handle = Global> {
+    nodes: Vec<Node<K, V, A>, A>,
+}
+
+impl<K, V, A: Handle> Model for NodePool<K, V, A> {
+    ghost use Rattle.std.specs.Prelude.{ℕ, length};
+    ghost use Rattle.std.specs.List.{AllByRecursion};
+    ghost use Rattle.std.specs.Coded.{coded_ℕ};
+    ghost use Rattle.fc_tree_node.specs.Node.{IsBlankInner};
+
+    ghost Value = { ℕ };
+
+    ghost coded = { coded_ℕ };
+
+    ghost view = { λ s. length s.nodes.items };
+
+    ghost invariant = { λ s. AllByRecursion (λ b. IsBlankInner b) s.nodes.items };
+}
+
+impl<K: Drop, V: Drop, A: Handle> NodePool<K, V, A> {
+    /// As many nodes. None of them takes no memory.
+    ///
+    /// # Errors
+    /// `AllocError` if the list or a node is refused. Nothing is then left after.
+    pub fn try_new(alloc: A, count: usize) -> Result<NodePool<K, V, A>, TryReserveError>
+        ensures len { IfOk result (λ pool. pool ≡ count) }
+        ensures none { count ≡ 0 → IsOk result }
+        ensures error { IfErr result (λ e. e ≡ TryReserveError.AllocError) }
+    {
+        if count == 0 {
+            let nodes = Vec::new(alloc);
+            return Ok(NodePool { nodes });
+        }
+        let mut pool = NodePool {
+            nodes: Vec::with_capacity(alloc, count)?,
+        };
+        for _i in 0..count {
+            let node = Node::try_inner(alloc)?;
+            pool.try_put(node)?;
+        }
+        Ok(pool)
+    }
+
+    // Adds a node.
+    fn try_put(&mut self, node: Node<K, V, A>) -> Result<(), TryReserveError>
+        requires { IsBlankInner node }
+        ensures len { IfOk result (λ _. self.new ≡ self.old + 1) }
+        ensures error { IfErr result (λ e. e ≡ TryReserveError.AllocError) }
+    {
+        self.nodes.push(node)?;
+        Ok(())
+    }
+
+    // Takes a node out.
+    fn take(&mut self) -> Node<K, V, A>
+        requires { 0 < self.old }
+        ensures blank { IsBlankInner result }
+        ensures len { self.new + 1 ≡ self.old }
+    {
+        match self.nodes.pop() {
+            Some(node) => node,
+            None => unreachable!(),
+        }
+    }
+
+    // Takes a node out to be a leaf.
+    fn take_leaf(&mut self) -> Node<K, V, A>
+        requires { 0 < self.old }
+        ensures blank { IsBlankLeaf result }
+        ensures len { self.new + 1 ≡ self.old }
+    {
+        let mut node = self.take();
+        node.children = None;
+        node
+    }
+
+    // Takes so many nodes out to be inner nodes.
+    fn take_spares(&mut self, count: usize) -> Spares<K, V, A>
+        requires few { count ≤ most_levels }
+        requires enough { count ≤ self.old }
+        ensures spares { result ≡ count }
+        ensures len { self.new + count ≡ self.old }
+    {
+        let mut spares = Spares::new();
+        for _i in 0..count {
+            let node = self.take();
+            spares.push(node);
+        }
+        spares
+    }
+
+    /// Takes out the one node that the first pair of a tree needs: a leaf.
+    pub fn take_first(&mut self) -> NewNodes<K, V, A>
+        requires { 0 < self.old }
+        ensures taken { result ≡ 1 }
+        ensures len { self.new + 1 ≡ self.old }
+    {
+        let leaf = self.take_leaf();
+        NewNodes {
+            leaf: Some(leaf),
+            inner: Spares::new(),
+        }
+    }
+
+    /// Takes out the nodes that an insertion at the path needs. The tree is only read.
+    pub fn take_new_nodes(&mut self, root: &Node<K, V, A>, path: &[u8]) -> NewNodes<K, V, A>
+        requires some { 0 < length path.now }
+        requires short { length path.now ≤ most_levels }
+        requires path { IsPath path.now root.now }
+        requires levels { IsLevelled (length path.now - 1) root.now }
+        requires enough { nodes_needed path.now root.now ≤ self.old }
+        ensures taken { result ≡ nodes_needed path.now root.now }
+        ensures len { self.new + nodes_needed path.now root.now ≡ self.old }
+    {
+        let split = count_full(root, path);
+        if split == 0 {
+            return NewNodes {
+                leaf: None,
+                inner: Spares::new(),
+            };
+        }
+        let above = if split == path.len() {
+            split
+        } else {
+            split - 1
+        };
+        let leaf = self.take_leaf();
+        let inner = self.take_spares(above);
+        NewNodes {
+            leaf: Some(leaf),
+            inner,
+        }
+    }
+}

@@ -1,0 +1,34 @@
+use Rattle.std.proofs.Common.{◌<◌, rules, arith, sym, ◌∙◌}
+use Rattle.fc_tree_split.proofs.Heights.{height_of}
+use Rattle.fc_tree_split.proofs.Rebalanced.{within_more, only_pairs}
+use Rattle.fc_tree_removal.proofs.Removed.{empty_leaf}
+use Rattle.fc_tree_retain.proofs.Levels.{thin_formed, thin_height, thin_levelled, thin_heir}
+use Rattle.fc_tree_retain.proofs.rebalancing.+without_thin_roots.Goals as goal
+
+pub returns-then-len-gt0-clause-levels : goal.returns-then-len-gt0-clause-levels
+returns-then-len-gt0-clause-levels g t c h b =
+    (h, omega arith, (omega arith, thin_levelled h c.args.root (omega arith) b))
+
+pub only_child-requires-clause-formed : goal.only_child-requires-clause-formed
+only_child-requires-clause-formed g t c = thin_formed _ c.args.root c.requires.1
+
+pub without_thin_roots-requires : goal.without_thin_roots-requires
+without_thin_roots-requires g t c κs within =
+    let r = thin_heir c.requires.0 c.args.root c.in-Some.child c.in-Some.ensures (omega arith) c.requires.1 in
+    let x = thin_height c.requires.0 c.args.root c.requires.1 in
+    let y = thin_height r.below c.in-Some.child r.thin in
+    let falls : height_of c.in-Some.child < height_of c.args.root = omega arith in
+    (search rules, (search rules, (search rules, (search rules, (r.below, r.thin)))))
+
+pub returns-in-None-clause-pairs : goal.returns-in-None-clause-pairs
+returns-in-None-clause-pairs g t c =
+    sym (empty_leaf c.args.root c.in-None.ensures (omega arith))
+
+pub returns-in-Some-clause-pairs : goal.returns-in-Some-clause-pairs
+returns-in-Some-clause-pairs g t c =
+    c.without_thin_roots.ensures.pairs ∙ only_pairs c.args.root _ (omega arith) c.in-Some.ensures
+
+pub returns-in-Some-clause-levels : goal.returns-in-Some-clause-levels
+returns-in-Some-clause-levels g t c h b =
+    let r = thin_heir h c.args.root c.in-Some.child c.in-Some.ensures (omega arith) b in
+    within_more r.below h _ (omega arith) (c.without_thin_roots.ensures.levels r.below r.thin)

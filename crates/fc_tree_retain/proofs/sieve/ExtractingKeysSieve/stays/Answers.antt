@@ -1,5 +1,0 @@
-use Rattle.std.proofs.Common.{refl}
-use Rattle.fc_tree_retain.proofs.sieve.ExtractingKeysSieve.stays.Goals as goal
-
-pub returns-clause-asked : goal.returns-clause-asked
-returns-clause-asked g c = (c.pick.result, (record { shown = _; shows = refl; called = c.pick.ensures }, refl), refl, refl)

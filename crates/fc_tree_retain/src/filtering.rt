@@ -1,0 +1,173 @@
+//! The pairs that are not to stay taken out of a tree, whose nodes may then hold any number of pairs.
+ghost use Rattle.std.specs.Prelude.{◌≡◌, ℕ, ◌+◌, ◌<◌, ◌≤◌, [], ◌∷◌, ◌++◌, length, remove, slice_index_or, MatchOption, ⊤};
+ghost use Rattle.std.specs.Option.{option_to_list};
+ghost use Rattle.fc_tree_node.specs.Node.{own_pairs, children_of, child_at, pairs_of, IsLeaf, IsInner};
+ghost use Rattle.fc_tree_node.specs.Place.{before_child, after_child};
+ghost use Rattle.fc_tree_search.specs.Written.{with_value};
+ghost use Rattle.fc_tree_retain.specs.Loose.{IsLoose};
+ghost use Rattle.fc_tree_retain.specs.Retained.{RetainsInTurn};
+ghost use Rattle.fc_tree_retain.specs.Filtered.{FiltersPair, IsOwnPassed, IsPassed, IsAsked};
+
+use crate::filter::Filter;
+use fc_base::{Count, Handle};
+use fc_tree_node::lend::child_in;
+use fc_tree_node::node::Node;
+
+// Asks of each pair below the node, in order, and takes those out that are not to stay. No node is merged: one may be left with few
+// pairs, none too.
+pub(crate) fn filter_subtree<K: Drop, V: Drop, S: Filter<K, V>, A: Handle>(
+    node: &mut Node<K, V, A>,
+    filter: &mut S,
+)
+    requires loose { (h : ℕ) × IsLoose h node.old }
+    requires callable { S.callable filter.old }
+    ensures callable { S.callable filter.new }
+    ensures loose { (h : ℕ) → IsLoose h node.old → IsLoose h node.new }
+    ensures filtered { RetainsInTurn (FiltersPair S.asked S.given) filter.old (pairs_of node.old) filter.new (pairs_of node.new) }
+{
+    if node.is_leaf() {
+        filter_leaf(node, filter);
+        return;
+    }
+    let mut at = 0;
+    for _ in 0..node.len() {
+        filter_subtree(child_in(&mut node.children, at), filter);
+        at = filter_between(node, at, filter);
+    }
+    filter_subtree(child_in(&mut node.children, at), filter);
+}
+
+// Asks of each pair of a leaf.
+fn filter_leaf<K: Drop, V: Drop, S: Filter<K, V>, A: Handle>(
+    node: &mut Node<K, V, A>,
+    filter: &mut S,
+)
+    requires leaf { IsLoose 0 node.old }
+    requires callable { S.callable filter.old }
+    ensures callable { S.callable filter.new }
+    ensures loose { IsLoose 0 node.new }
+    ensures filtered { RetainsInTurn (FiltersPair S.asked S.given) filter.old (own_pairs node.old) filter.new (own_pairs node.new) }
+{
+    let mut at = 0;
+    for _ in 0..node.len() {
+        at = filter_own(node, at, filter);
+    }
+}
+
+// Asks of a leaf's pair at `at`, and answers the place of the next one.
+pub(crate) fn filter_own<K: Drop, V: Drop, S: Filter<K, V>, A: Handle>(
+    node: &mut Node<K, V, A>,
+    at: usize,
+    filter: &mut S,
+) -> usize
+    requires leaf { IsLoose 0 node.old }
+    requires inside { at < length (own_pairs node.old) }
+    requires callable { S.callable filter.old }
+    ensures callable { S.callable filter.new }
+    ensures loose { IsLoose 0 node.new }
+    ensures passed { IsOwnPassed (FiltersPair S.asked S.given) filter.old filter.new at result (own_pairs node.old) (own_pairs node.new) }
+{
+    if stays(node, at, filter) {
+        return at + 1;
+    }
+    filter.take(node.remove_leaf(at, &mut Count::new()));
+    at
+}
+
+// Whether the node's own pair at `index` is to stay.
+pub(crate) fn stays<K, V, S: Filter<K, V>, A: Handle>(
+    node: &mut Node<K, V, A>,
+    index: usize,
+    filter: &mut S,
+) -> bool
+    requires inside { index < length (own_pairs node.old) }
+    requires callable { S.callable filter.old }
+    ensures callable { S.callable filter.new }
+    ensures asked { IsAsked S.asked filter.old filter.new index node.old node.new result }
+{
+    let pair = node.pairs.get_mut(index);
+    filter.stays(&pair.0, &mut pair.1)
+}
+
+// Asks of the pair behind a child that is done, and answers which child is next. Where the pair is not to stay, the last one below the
+// child takes its place; a child without pairs goes with it.
+fn filter_between<K: Drop, V: Drop, S: Filter<K, V>, A: Handle>(
+    node: &mut Node<K, V, A>,
+    at: usize,
+    filter: &mut S,
+) -> usize
+    requires loose { (h : ℕ) × IsLoose h node.old }
+    requires inside { at < length (own_pairs node.old) }
+    requires inner { IsInner node.old }
+    requires callable { S.callable filter.old }
+    ensures callable { S.callable filter.new }
+    ensures passed { IsPassed IsLoose (FiltersPair S.asked S.given) filter.old filter.new at result node.old node.new }
+{
+    if stays(node, at, filter) {
+        return at + 1;
+    }
+    match take_last(child_in(&mut node.children, at)) {
+        None => {
+            filter.take(remove_behind(node, at));
+            at
+        }
+        Some(pair) => {
+            filter.take(node.replace_pair(at, pair, &mut Count::new()));
+            at + 1
+        }
+    }
+}
+
+// Takes the child at `index` out, and the pair behind it.
+pub(crate) fn remove_behind<K: Drop, V: Drop, A: Handle>(
+    node: &mut Node<K, V, A>,
+    index: usize,
+) -> (K, V)
+    requires inside { index < length (own_pairs node.old) }
+    requires inner { IsInner node.old }
+    ensures value { result ≡ slice_index_or (own_pairs node.old) index result }
+    ensures pairs { own_pairs node.new ≡ remove (own_pairs node.old) index }
+    ensures children { children_of node.new ≡ remove (children_of node.old) index }
+{
+    let Node { pairs, children } = node;
+    let Some(children) = children else {
+        unreachable!()
+    };
+    children.remove(index);
+    pairs.remove(index, &mut Count::new())
+}
+
+// Takes the last pair below the node out, if there is one.
+fn take_last<K: Drop, V: Drop, A: Handle>(node: &mut Node<K, V, A>) -> Option<(K, V)>
+    requires loose { (h : ℕ) × IsLoose h node.old }
+    ensures loose { (h : ℕ) → IsLoose h node.old → IsLoose h node.new }
+    ensures pairs { pairs_of node.old ≡ pairs_of node.new ++ option_to_list result }
+    ensures none { MatchOption result (pairs_of node.new ≡ []) (λ _. ⊤) }
+{
+    let end = node.len();
+    if node.is_leaf() {
+        if end == 0 {
+            return None;
+        }
+        return Some(node.remove_leaf(end - 1, &mut Count::new()));
+    }
+    if let Some(pair) = take_last(child_in(&mut node.children, end)) {
+        return Some(pair);
+    }
+    if end == 0 {
+        return None;
+    }
+    Some(take_own_last(node))
+}
+
+// Takes the own last pair of a node with children out, and the child behind it, which has no pairs.
+fn take_own_last<K: Drop, V: Drop, A: Handle>(node: &mut Node<K, V, A>) -> (K, V)
+    requires inner { IsInner node.old }
+    requires some { 0 < length (own_pairs node.old) }
+    requires empty { pairs_of (child_at node.old (length (own_pairs node.old))) ≡ [] }
+    ensures loose { (h : ℕ) → IsLoose h node.old → IsLoose h node.new }
+    ensures pairs { pairs_of node.old ≡ pairs_of node.new ++ result ∷ [] }
+{
+    drop(node.take_last_child());
+    node.take_last_pair()
+}

@@ -1,9 +1,0 @@
-use Rattle.std.proofs.Common.{◌+◌, ◌-◌, ap, ◌∙◌, arith}
-use Rattle.std.specs.Prelude.{slice_set}
-use Rattle.fc_tree_visit.proofs.LeafFacts.{set_last}
-use Rattle.fc_tree_visit.proofs.leaf.go_on.Goals as goal
-
-pub returns : goal.returns
-returns c =
-    let last = c.len-last.result - 1 in
-    c.set.ensures ∙ ap (λ k. slice_set c.args.gap.now last (k + c.args.count)) c.step.ensures ∙ set_last c.args.gap.now last c.args.count (omega arith)

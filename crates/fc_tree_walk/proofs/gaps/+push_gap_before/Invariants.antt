@@ -1,5 +1,0 @@
-use Rattle.std.proofs.Common.{length}
-use Rattle.fc_tree_walk.proofs.gaps.+push_gap_before.Given as goal
-
-abbrev pub decreases-push_gap_before : goal.decreases-push_gap_before
-decreases-push_gap_before g l = length l.place.now

@@ -1,5 +1,0 @@
-use Rattle.fc_tree_walk.proofs.Ways.{AfterWay}
-use Rattle.fc_tree_walk.proofs.run.place_after.Given as goal
-
-abbrev pub invariant-loop-level : goal.invariant-loop-level
-invariant-loop-level g l = AfterWay l.gap l.root l.node l.level l.best l.place

@@ -1,5 +1,0 @@
-use Rattle.fc_tree_walk.proofs.Ways.{BeforeWay}
-use Rattle.fc_tree_walk.proofs.run.place_before.Given as goal
-
-abbrev pub invariant-loop-level : goal.invariant-loop-level
-invariant-loop-level g l = BeforeWay l.gap l.root l.node l.level l.best l.place
