@@ -17,8 +17,8 @@ use Rattle.fc_map.specs.Writing.{Stretch, wrote_first, wrote_last}
 use Rattle.fc_map.proofs.ShapeFacts.{gap_stays, entries_written}
 use Rattle.fc_tree_node.specs.TreePlace.{IsPlaceIn, pair_in, before_gap_in, before_pair_in}
 use Rattle.fc_map.specs.Lends.{branch, written_in}
-use Rattle.fc_tree_for_each.specs.Leaf.{advanced}
-use Rattle.fc_tree_for_each.proofs.LeafFacts.{on_length, on_none, on_again, on_last, on_parts, gap_near}
+use Rattle.fc_tree_cursor.specs.Leaf.{advanced}
+use Rattle.fc_tree_cursor.proofs.LeafFacts.{on_length, on_none, on_again, on_last, on_parts, gap_near}
 use Rattle.fc_tree_cursor.proofs.Meetings.{same_path}
 use Rattle.fc_tree_cursor.proofs.GapFacts.{IsNext, gap_small, stepped_after}
 

@@ -9,3 +9,4 @@ pub mod Betweens
 pub mod Ways
 pub mod Outer
 pub mod Sought
+pub mod LeafFacts

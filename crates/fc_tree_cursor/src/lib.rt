@@ -5,5 +5,6 @@ pub mod cuts;
 pub mod ends;
 pub mod gaps;
 pub mod key_range;
+pub mod leaf;
 mod run;
 pub mod span;

@@ -125,8 +125,8 @@ pub fn take_last_of<'a, K, V, A: Handle>(
     (part(leaf, start, end), has_met)
 }
 
-// The one node and its level, or the other where it has a pair.
-fn lower<'a, K, V, A: Handle>(
+// The other node and its level where it has pairs, or else the best so far.
+pub(crate) fn lower<'a, K, V, A: Handle>(
     best: (&'a Node<K, V, A>, usize),
     other: (&'a Node<K, V, A>, usize),
     pairs: usize,

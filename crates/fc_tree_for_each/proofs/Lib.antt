@@ -5,4 +5,3 @@ pub mod Shapes
 pub mod Steps
 pub mod Walking
 pub mod Ends
-pub mod LeafFacts

@@ -1,6 +1,5 @@
-//! What writing walks need of a tree: a closure called at each pair, with its value lent for writing, and the gaps of one leaf.
+//! A closure called at each pair between two gaps, with its value lent for writing.
 #![tactic(auto)]
 
-pub mod leaf;
 pub mod tree;
 pub mod visit;

@@ -116,7 +116,7 @@ module _ {K V Z : Type 0} where
       )
 
   pub bordering_seam_rebalanced : (h at j : ℕ) (mid new : Node K V Z) → IsNextRebalanced (AllByRecursion (IsSound h)) h at mid → IsSound h
-  (child_at mid (at + 1))
+      (child_at mid (at + 1))
       → IsSeamRebalanced h at j mid new → IsThin (suc h) new
   bordering_seam_rebalanced h at j mid new x sound st = go st
     where

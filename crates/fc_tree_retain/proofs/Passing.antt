@@ -489,7 +489,7 @@ module _ {S K V Z : Type 0} (R : S → K × V → S → V → Bool → Type 0) w
 
   -- the last child
   pub filtering_end : (s t u : S) (old now new dold dnew : Node K V Z) (at : ℕ) → IsFiltering s t old now at 0 → dold ≡ child_at now at → IsReplaced now new
-  at dnew
+      at dnew
       → RetainsInTurn R t (pairs_of dold) u (pairs_of dnew) → ((h : ℕ) → IsLoose h dold → IsLoose h dnew) → IsAllFiltered s u old new
   filtering_end s t u old now new dold dnew at g is m r lo =
       let c = child_left now new dnew at g.inner (omega arith) m in

@@ -358,7 +358,7 @@ module _ {S K V Z : Type 0} (R : S → K × V → S → V → Bool → Type 0) w
 
       -- the last child
       pub stretching_filtered : (u : S) (back : List ℕ) → counter ≡ get_or back 0 (length (own_pairs old)) → IsStretchFiltered R t u ahead (drop 1 back) dold
-      dnew
+          dnew
           → IsStretchFiltered R s u front back old mid
       stretching_filtered u back g e =
           let b = back_parts back old counter g in

@@ -4,7 +4,7 @@
 //! pairs of the leaf that it went past: within a leaf a step on changes that number alone, and only at a leaf's end it looks at the tree.
 ghost use Rattle.std.specs.Prelude.{◌≡◌, ◌+◌, ◌<◌, ◌≤◌, ◌↔◌, List, ℕ, length, take, drop, IsTrue};
 ghost use Rattle.fc_tree_node.specs.TreePlace.{before_pair_in, before_gap_in, IsPlaceIn};
-ghost use Rattle.fc_tree_for_each.specs.Leaf.{advanced};
+ghost use Rattle.fc_tree_cursor.specs.Leaf.{advanced};
 ghost use Rattle.fc_tree_for_each.specs.Visits.{CalledAtPair, IsVisited};
 ghost use Rattle.fc_tree_cursor.specs.Gap.{IsGapIn, AreEndsIn};
 ghost use Rattle.fc_map.specs.Entries.{entries, IsSoundMap};
@@ -16,7 +16,7 @@ use fc_base::Handle;
 use fc_tree_cursor::ends::{first_gap_in, last_gap_in};
 use fc_tree_cursor::gaps::{push_gap_before, steps_to_previous};
 use fc_tree_cursor::key_range::KeyRange;
-use fc_tree_for_each::leaf::{advance, go_to_previous, pairs_after, pass_next};
+use fc_tree_cursor::leaf::{advance, go_to_previous, pairs_after, pass_next};
 use fc_tree_for_each::tree::visit_tree;
 use fc_tree_node::node::Node;
 use fc_tree_node::path::Path;

@@ -1,6 +1,6 @@
 //! Writing walks over all values of a map, from both ends.
 ghost use Rattle.std.specs.Prelude.{◌≡◌, ◌+◌, ◌≤◌, length};
-ghost use Rattle.fc_tree_for_each.specs.Leaf.{advanced};
+ghost use Rattle.fc_tree_cursor.specs.Leaf.{advanced};
 ghost use Rattle.fc_tree_cursor.specs.Gap.{AreEndsIn, IsGapIn};
 ghost use Rattle.fc_tree_node.specs.TreePlace.{before_gap_in};
 ghost use Rattle.fc_map.specs.Unique.{ends-prop, gap-prop};

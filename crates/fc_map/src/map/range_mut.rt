@@ -1,6 +1,6 @@
 //! Writing walks over the pairs of a map within two bounds, from both ends.
 ghost use Rattle.std.specs.Prelude.{◌≡◌};
-ghost use Rattle.fc_tree_for_each.specs.Leaf.{advanced};
+ghost use Rattle.fc_tree_cursor.specs.Leaf.{advanced};
 ghost use Rattle.fc_tree_cursor.specs.Gap.{AreEndsIn, IsGapIn};
 ghost use Rattle.fc_map.specs.Unique.{ends-prop, gap-prop};
 

@@ -1,7 +1,7 @@
 use Rattle.std.proofs.Common.{◌-◌, ◌<◌, length, arith, refl, sym, subst, ◌∙◌}
 use Rattle.fc_tree_cursor.specs.Gap.{IsGapIn}
 use Rattle.fc_tree_node.specs.TreePlace.{before_gap_in}
-use Rattle.fc_tree_for_each.specs.Leaf.{advanced}
+use Rattle.fc_tree_cursor.specs.Leaf.{advanced}
 use Rattle.fc_map.proofs.EndFacts.{steps_fit, on_tree, step_out, IsStepOn}
 use Rattle.fc_map.proofs.map.BTreeMap.cross_to_next_leaf.Goals as goal
 

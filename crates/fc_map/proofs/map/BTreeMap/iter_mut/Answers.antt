@@ -1,7 +1,7 @@
 use Rattle.std.proofs.Common.{◌≡◌, length, sym, ap, subst, ◌∙◌, arith}
 use Rattle.fc_map.specs.Entries.{entries}
-use Rattle.fc_tree_for_each.specs.Leaf.{advanced}
-use Rattle.fc_tree_for_each.proofs.LeafFacts.{on_none}
+use Rattle.fc_tree_cursor.specs.Leaf.{advanced}
+use Rattle.fc_tree_cursor.proofs.LeafFacts.{on_none}
 use Rattle.fc_tree_cursor.specs.Gap.{AreEndsIn}
 use Rattle.fc_tree_node.specs.TreePlace.{before_gap_in}
 use Rattle.fc_map.proofs.EndFacts.{gap_less}

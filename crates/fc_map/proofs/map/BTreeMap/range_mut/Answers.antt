@@ -1,5 +1,5 @@
 use Rattle.std.proofs.Common.{length, refl, sym, ap, subst, ◌∙◌}
-use Rattle.fc_tree_for_each.proofs.LeafFacts.{on_none}
+use Rattle.fc_tree_cursor.proofs.LeafFacts.{on_none}
 use Rattle.fc_tree_cursor.specs.Gap.{AreEndsIn}
 use Rattle.fc_tree_node.specs.TreePlace.{before_gap_in}
 use Rattle.fc_map.proofs.EndFacts.{state_is}

@@ -1,6 +1,6 @@
 use Rattle.std.proofs.Common.{sym, subst, ◌∙◌}
-use Rattle.fc_tree_for_each.specs.Leaf.{advanced}
-use Rattle.fc_tree_for_each.proofs.LeafFacts.{on_length}
+use Rattle.fc_tree_cursor.specs.Leaf.{advanced}
+use Rattle.fc_tree_cursor.proofs.LeafFacts.{on_length}
 use Rattle.fc_tree_cursor.specs.Gap.{IsGapIn}
 use Rattle.fc_map.proofs.map.BTreeMap.run_after.Goals as goal
 

@@ -1,5 +1,5 @@
 use Rattle.std.proofs.Common.{◌+◌, arith, subst, sym}
-use Rattle.fc_tree_for_each.specs.Leaf.{advanced}
+use Rattle.fc_tree_cursor.specs.Leaf.{advanced}
 use Rattle.fc_tree_cursor.specs.Gap.{IsGapIn}
 use Rattle.fc_map.proofs.EndFacts.{gap_less}
 use Rattle.fc_map.proofs.map.BTreeMap.step_to_next.Goals as goal

@@ -2,7 +2,7 @@ use Rattle.std.proofs.Common.{◌-◌, ◌≤◌, length, get_or, sym, ap, subst
 use Rattle.fc_base.specs.Sizes.{capacity}
 use Rattle.fc_tree_cursor.specs.Gap.{IsGapIn}
 use Rattle.fc_tree_cursor.proofs.GapFacts.{gap_small}
-use Rattle.fc_tree_for_each.proofs.LeafFacts.{on_length, gap_near}
+use Rattle.fc_tree_cursor.proofs.LeafFacts.{on_length, gap_near}
 use Rattle.fc_map.proofs.EndFacts.{gap_some}
 use Rattle.fc_map.proofs.map.BTreeMap.step_to_previous.Goals as goal
 

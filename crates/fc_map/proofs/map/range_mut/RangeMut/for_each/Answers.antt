@@ -1,5 +1,5 @@
 use Rattle.std.proofs.Common.{arith}
-use Rattle.fc_tree_for_each.specs.Leaf.{advanced}
+use Rattle.fc_tree_cursor.specs.Leaf.{advanced}
 use Rattle.fc_map.proofs.map.range_mut.RangeMut.for_each.Goals as goal
 
 pub invariant_of-self : goal.invariant_of-self

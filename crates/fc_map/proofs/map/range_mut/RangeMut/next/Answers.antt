@@ -1,7 +1,7 @@
 use Rattle.std.proofs.Common.{refl, ap}
 use Rattle.fc_map.specs.Entries.{entries}
 use Rattle.fc_map.specs.Lends.{branch}
-use Rattle.fc_tree_for_each.specs.Leaf.{advanced}
+use Rattle.fc_tree_cursor.specs.Leaf.{advanced}
 use Rattle.fc_map.specs.Stretches.{stretch}
 use Rattle.fc_map.proofs.EndFacts.{ends_stay, place_on, lent_first}
 use Rattle.fc_map.proofs.ShapeFacts.{gap_stays}

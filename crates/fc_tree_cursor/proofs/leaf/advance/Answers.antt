@@ -1,7 +1,7 @@
 use Rattle.std.proofs.Common.{◌+◌, ◌-◌, ap, ◌∙◌, arith}
 use Rattle.std.specs.Prelude.{slice_set}
-use Rattle.fc_tree_for_each.proofs.LeafFacts.{set_last}
-use Rattle.fc_tree_for_each.proofs.leaf.advance.Goals as goal
+use Rattle.fc_tree_cursor.proofs.LeafFacts.{set_last}
+use Rattle.fc_tree_cursor.proofs.leaf.advance.Goals as goal
 
 pub returns : goal.returns
 returns c =

@@ -1,10 +1,10 @@
 use Rattle.std.proofs.Common.{◌<◌, arith}
 use Rattle.fc_base.specs.Sizes.{capacity}
-use Rattle.fc_tree_for_each.specs.Leaf.{IsHolder}
-use Rattle.fc_tree_for_each.proofs.LeafFacts.{lowest_is, own_small, past}
-use Rattle.fc_tree_for_each.proofs.leaf.pass_next.Given as given
-use Rattle.fc_tree_for_each.proofs.leaf.pass_next.Goals as goal
-use Rattle.fc_tree_for_each.proofs.leaf.pass_next.Goals.{After-step-place}
+use Rattle.fc_tree_cursor.specs.Leaf.{IsHolder}
+use Rattle.fc_tree_cursor.proofs.LeafFacts.{lowest_is, own_small, past}
+use Rattle.fc_tree_cursor.proofs.leaf.pass_next.Given as given
+use Rattle.fc_tree_cursor.proofs.leaf.pass_next.Goals as goal
+use Rattle.fc_tree_cursor.proofs.leaf.pass_next.Goals.{After-step-place}
 
 holder : (g : given.Over) (c : After-step-place g)
     → IsHolder c.args.gap.now c.args.root.now c.lowest_with_next-last.result.1 c.lowest_with_next-last.result.0.now

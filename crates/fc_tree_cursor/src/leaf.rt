@@ -7,11 +7,13 @@ ghost use Rattle.fc_tree_node.specs.Node.{own_pairs, pairs_of, IsLevelled};
 ghost use Rattle.fc_tree_node.specs.Path.{IsPath, before_gap};
 ghost use Rattle.fc_tree_node.specs.Place.{IsPlace, before_pair};
 ghost use Rattle.fc_tree_cursor.specs.Gap.{zeros};
-ghost use Rattle.fc_tree_for_each.specs.Leaf.{advanced, IsLowest};
+ghost use Rattle.fc_tree_cursor.specs.Leaf.{advanced, IsLowest};
 
 use fc_base::Handle;
 use fc_tree_node::node::Node;
 use fc_tree_node::path::Path;
+
+use crate::run::lower;
 
 /// How many pairs of its leaf lie after a gap.
 pub fn pairs_after<K, V, A: Handle>(node: &Node<K, V, A>, gap: &[u8]) -> usize
@@ -40,18 +42,6 @@ pub fn advance(gap: &mut Path, count: usize)
     }
     let last = gap.len() - 1;
     gap.set(last, gap.step(last) + count);
-}
-
-// The one node and its level, or the other where it has a pair.
-fn lower<'a, K, V, A: Handle>(
-    best: (&'a Node<K, V, A>, usize),
-    other: (&'a Node<K, V, A>, usize),
-    pairs: usize,
-) -> (&'a Node<K, V, A>, usize)
-    ensures other { 0 < pairs → result ≡ other.entry }
-    ensures best { pairs ≡ 0 → result ≡ best.entry }
-{
-    if 0 < pairs { other } else { best }
 }
 
 // The lowest node on the way to a gap that has a pair after it, and its level; the best so far where there is none.

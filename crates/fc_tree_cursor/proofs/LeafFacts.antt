@@ -18,7 +18,7 @@ use Rattle.fc_tree_node.specs.Tree.{Map, IsSoundMap}
 use Rattle.fc_tree_node.specs.TreePlace.{IsPlaceIn, before_gap_in, before_pair_in}
 use Rattle.fc_tree_cursor.specs.Gap.{IsGapIn, zeros}
 use Rattle.fc_tree_cursor.proofs.GapFacts.{IsNext, next_leaf, next_own, next_child, pair_after_gap}
-use Rattle.fc_tree_for_each.specs.Leaf.{advanced, IsHolder, IsLowest}
+use Rattle.fc_tree_cursor.specs.Leaf.{advanced, IsHolder, IsLowest}
 
 pub on_length : (gap : List ℕ) (k : ℕ) → length (advanced gap k) ≡ length gap
 on_length [] k = refl

@@ -1,8 +1,8 @@
 use Rattle.std.proofs.Common.{◌≡◌, ◌-◌, ◌<◌, length, get_or, ap, subst, ◌∙◌, arith}
 use Rattle.std.specs.Prelude.{slice_set}
-use Rattle.fc_tree_for_each.specs.Leaf.{advanced}
-use Rattle.fc_tree_for_each.proofs.LeafFacts.{set_back}
-use Rattle.fc_tree_for_each.proofs.leaf.go_to_previous.Goals as goal
+use Rattle.fc_tree_cursor.specs.Leaf.{advanced}
+use Rattle.fc_tree_cursor.proofs.LeafFacts.{set_back}
+use Rattle.fc_tree_cursor.proofs.leaf.go_to_previous.Goals as goal
 
 pub returns : goal.returns
 returns c =

@@ -1,5 +1,5 @@
 use Rattle.std.proofs.Common.{◌-◌, length}
-use Rattle.fc_tree_for_each.proofs.leaf.+go_down.Given as goal
+use Rattle.fc_tree_cursor.proofs.leaf.+go_down.Given as goal
 
 abbrev pub decreases-go_down : goal.decreases-go_down
 decreases-go_down g l = length l.gap.now - l.level

@@ -2,9 +2,9 @@ use Rattle.std.proofs.Common.{◌≡◌, ◌+◌, ◌-◌, ◌≤◌, ◌∷◌,
 use Rattle.fc_tree_node.specs.Node.{own_pairs, child_at}
 use Rattle.fc_tree_node.specs.Path.{IsPath}
 use Rattle.fc_tree_cursor.specs.Gap.{zeros}
-use Rattle.fc_tree_for_each.specs.Leaf.{advanced}
-use Rattle.fc_tree_for_each.proofs.LeafFacts.{down_leaf, down_child}
-use Rattle.fc_tree_for_each.proofs.leaf.+go_down.Goals as goal
+use Rattle.fc_tree_cursor.specs.Leaf.{advanced}
+use Rattle.fc_tree_cursor.proofs.LeafFacts.{down_leaf, down_child}
+use Rattle.fc_tree_cursor.proofs.leaf.+go_down.Goals as goal
 
 pub returns-then-level-len : goal.returns-then-level-len
 returns-then-level-len g t c =

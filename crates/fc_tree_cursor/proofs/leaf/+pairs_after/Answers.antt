@@ -3,8 +3,8 @@ use Rattle.fc_tree_node.specs.Node.{IsLevelled}
 use Rattle.fc_tree_node.specs.Path.{IsPath}
 use Rattle.fc_tree_node.proofs.PathSteps.{one_step, step_of}
 use Rattle.fc_tree_node.proofs.Pairs.{child_below}
-use Rattle.fc_tree_for_each.proofs.LeafFacts.{after_leaf, after_own_child}
-use Rattle.fc_tree_for_each.proofs.leaf.+pairs_after.Goals as goal
+use Rattle.fc_tree_cursor.proofs.LeafFacts.{after_leaf, after_own_child}
+use Rattle.fc_tree_cursor.proofs.leaf.+pairs_after.Goals as goal
 
 pub pairs_after-requires : goal.pairs_after-requires
 pairs_after-requires g t c κs within =

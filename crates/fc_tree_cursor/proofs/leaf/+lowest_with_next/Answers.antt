@@ -3,8 +3,8 @@ use Rattle.fc_tree_node.specs.Node.{IsLevelled}
 use Rattle.fc_tree_node.specs.Path.{IsPath}
 use Rattle.fc_tree_node.proofs.PathSteps.{one_step, step_of}
 use Rattle.fc_tree_node.proofs.Pairs.{child_below}
-use Rattle.fc_tree_for_each.proofs.LeafFacts.{lowest_leaf, lowest_above}
-use Rattle.fc_tree_for_each.proofs.leaf.+lowest_with_next.Goals as goal
+use Rattle.fc_tree_cursor.proofs.LeafFacts.{lowest_leaf, lowest_above}
+use Rattle.fc_tree_cursor.proofs.leaf.+lowest_with_next.Goals as goal
 
 pub returns-then-gap-eq1 : goal.returns-then-gap-eq1
 returns-then-gap-eq1 g t c =
