@@ -1,15 +1,16 @@
 -- From a gap of a leaf to its neighbours in the leaf.
-use Rattle.std.proofs.Common.{◌≡◌, ℕ, zero, suc, ◌+◌, ◌-◌, ◌<◌, ◌≤◌, inl, inr, List, [], ◌∷◌, ◌++◌, length, take, get_or, refl, sym, ap, subst, ◌∙◌, arith}
+use Rattle.std.proofs.Common.{◌≡◌, ℕ, zero, suc, ◌+◌, ◌-◌, ◌<◌, ◌≤◌, List, [], ◌∷◌, ◌++◌, length, take, get_or, refl, sym, ap, subst, ◌∙◌, arith}
 use Rattle.std.proofs.Common.{add-one, Some, None, length-append, append-nil, append_assoc}
-use Rattle.std.specs.Borrow.{Bor}
 use Rattle.std.proofs.lemmas.List.{take_all, take_more_set, get_or-set_same}
 use Rattle.std.specs.Prelude.{slice_range, slice_set}
 use Rattle.fc_base.specs.Sizes.{capacity}
 use Rattle.fc_tree_node.specs.declared.node.Node.{Node}
 use Rattle.fc_tree_node.specs.Node.{own_pairs, child_at, pairs_of, IsLevelled}
+use Rattle.fc_tree_node.specs.LeafGap.{IsLeafGap}
 use Rattle.fc_tree_node.specs.Path.{IsPath, before_gap}
-use Rattle.fc_tree_node.specs.Place.{before_child, IsPlace, before_pair, node_at}
-use Rattle.fc_tree_node.proofs.Gaps.{take_item}
+use Rattle.fc_tree_node.specs.Place.{before_child, before_own, IsPlace, before_pair, node_at}
+use Rattle.fc_tree_node.proofs.Formed.{one_height}
+use Rattle.fc_tree_node.proofs.Gaps.{take_item, place_more, before_own_more}
 use Rattle.fc_tree_node.proofs.Lists.{length_set}
 use Rattle.fc_tree_node.proofs.Sizes.{level_size}
 use Rattle.fc_tree_node.proofs.Pairs.{child_below}
@@ -17,8 +18,9 @@ use Rattle.fc_tree_node.proofs.PathSteps.{IsStep}
 use Rattle.fc_tree_node.specs.Tree.{Map, IsSoundMap}
 use Rattle.fc_tree_node.specs.TreePlace.{IsPlaceIn, before_gap_in, before_pair_in}
 use Rattle.fc_tree_cursor.specs.Gap.{IsGapIn, zeros}
-use Rattle.fc_tree_cursor.proofs.GapFacts.{IsNext, next_leaf, next_own, next_child, pair_after_gap}
-use Rattle.fc_tree_cursor.specs.Leaf.{advanced, IsHolder, IsLowest}
+use Rattle.fc_tree_cursor.proofs.GapFacts.{next_leaf, pair_after_gap}
+use Rattle.fc_tree_cursor.proofs.Ways.{IsNextAt, way_levels}
+use Rattle.fc_tree_cursor.specs.Leaf.{advanced, IsHolder}
 
 pub on_length : (gap : List ℕ) (k : ℕ) → length (advanced gap k) ≡ length gap
 on_length [] k = refl
@@ -130,78 +132,29 @@ module _ {K V Z : Type 0} where
       let r = near h root gap k l (omega arith) w.0 in
       record { start = (r.0, λ j o. sym long ∙ w.1 j o); place = r.1; before = r.2; slot = (r.3, λ j o. on_length gap 1 ∙ sym long ∙ w.1 j o); count = r.4 }
 
+  pub is_leaf_gap : (gap : List ℕ) (root : Node K V Z) → IsLevelled (length gap - 1) root → IsPath gap root → 0 < length gap → IsLeafGap gap root
+  is_leaf_gap gap root l p some = (p, λ h k. omega (arith, one_height h (length gap - 1) root k l))
+
   -- the node of the pair after a gap
-  holds_here : (gap : List ℕ) (n : Node K V Z) (level : ℕ) (other found : Bor (Node K V Z) × ℕ) → IsNext gap n 1 → other.0.now ≡ n → other.1 ≡ level
-      → found ≡ other → get_or gap 0 0 < length (own_pairs n) → IsLevelled (length gap - 1) n
-      → (way : ℕ) × (found.1 ≡ level + way) × IsHolder gap n way found.0.now
-  holds_here gap n level other found x node at is there l =
-      let same : found.0.now ≡ n = ap (λ r. r.0.now) is ∙ node in
-      let w = x.within in (
-        0,
-        ap (λ r. r.1) is ∙ at ∙ omega arith,
-        (
-          omega (arith, w),
-          x.place (omega arith),
-          x.before (omega arith),
-          same,
-          subst (λ d. get_or gap 0 0 < length (own_pairs d)) (sym same) there,
-          subst (IsLevelled (length gap - 1)) (sym same) l,
-        ),
+  pub is_holder : (gap : List ℕ) (root n : Node K V Z) (level : ℕ) → IsLevelled (length gap - 1) root → IsLeafGap gap root
+      → IsNextAt gap root n level (length (before_gap gap root)) → IsHolder gap root level n
+  is_holder gap root n level l g x =
+      let s = take level gap in
+      let i = get_or gap level 0 in
+      let w = x.way in
+      let own : i < length (own_pairs (node_at s root)) = subst (λ d. i < length (own_pairs d)) w.2 x.own in
+      let here : take (suc level) gap ≡ s ++ i ∷ [] = take_item gap level 0 w.0 in
+      let a = length-append (before_gap s root) (before_own (node_at s root) i) in
+      let o = ap (λ d. length (before_own d i)) w.2 in
+      let b = x.before in
+      let deep : length gap - level - 1 ≡ length gap - suc level = omega arith in (
+        w.0,
+        subst (λ q. IsPlace q root) (sym here) (place_more s i root w.1 own),
+        ap (λ q. length (before_pair q root)) here ∙ ap length (before_own_more s i root) ∙ omega (arith, a, o, b),
+        w.2,
+        x.own,
+        subst (λ k. IsLevelled k n) deep (way_levels gap (length gap - 1) level root n l g w),
       )
-
-  lowest_here : (gap : List ℕ) (n : Node K V Z) (level own : ℕ) (best other found : Bor (Node K V Z) × ℕ) → own ≡ length (own_pairs n) - get_or gap 0 0
-      → other.0.now ≡ n → other.1 ≡ level → (0 < own → found ≡ other) → (own ≡ 0 → found ≡ best) → IsLevelled (length gap - 1) n
-      → ((c : ℕ) → (c ≡ 0 → length (own_pairs n) ≤ get_or gap 0 0) → (0 < c → (c ≡ 1) × (get_or gap 0 0 < length (own_pairs n))) → IsNext gap n c)
-      → IsLowest gap n level best found
-  lowest_here gap n level zero best other found o node at has lacks l x = inl ((x 0 (λ _. omega (arith, o)) (λ k. absurd (omega arith))).none refl, lacks refl)
-  lowest_here gap n level (suc own) best other found o node at has lacks l x =
-      let there : get_or gap 0 0 < length (own_pairs n) = omega (arith, o) in
-      inr (holds_here gap n level other found (x 1 (λ k. absurd (omega arith)) (λ _. (refl, there))) node at (has (omega arith)) there l)
-
-  pub lowest_leaf : (gap : List ℕ) (n : Node K V Z) (level own : ℕ) (best other found : Bor (Node K V Z) × ℕ) → gap ≡ get_or gap 0 0 ∷ [] → IsPath gap n
-      → IsLevelled (length gap - 1) n
-      → own ≡ length (own_pairs n) - get_or gap 0 0 → other.0.now ≡ n → other.1 ≡ level → (0 < own → found ≡ other) → (own ≡ 0 → found ≡ best)
-      → IsLowest gap n level best found
-  lowest_leaf gap n level own best other found e p l o node at has lacks =
-      let long = ap length e in
-      let h : length gap - 1 ≡ 0 = omega (arith, long) in
-      lowest_here gap n level own best other found o node at has lacks l (λ c. next_leaf gap n c e p (subst (λ k. IsLevelled k n) h l))
-
-  -- the same above a child
-  pub lowest_above : (gap : List ℕ) (n : Node K V Z) (level own : ℕ) (best other mid found : Bor (Node K V Z) × ℕ) (s : IsStep gap n)
-      → IsLevelled (length gap - 1) n
-      → own ≡ length (own_pairs n) - get_or gap 0 0 → other.0.now ≡ n → other.1 ≡ level → (0 < own → mid ≡ other) → (own ≡ 0 → mid ≡ best)
-      → IsLowest (slice_range gap 1 (length gap)) (child_at n (get_or gap 0 0)) (level + 1) mid found → IsLowest gap n level best found
-  lowest_above gap n level own best other mid found s l o node at has lacks (inl (e, is)) =
-      lowest_here gap n level own best other found o node at (λ k. is ∙ has k) (λ k. is ∙ lacks k) l (λ c. next_own gap n c s e)
-  lowest_above gap n level own best other mid found s l o node at has lacks (inr (w, a, h)) =
-      let rest = slice_range gap 1 (length gap) in
-      let c = child_at n (get_or gap 0 0) in
-      let y : IsNext rest c (suc w) = record { within = omega (arith, h.0); none = λ e. absurd (omega arith); place = λ _. h.1; before = λ _. h.2 } in
-      let x : IsNext gap n (suc (suc w)) = rw add-one at (next_child gap n (suc w) s y (omega arith)) in
-      let long = s.long in
-      let within = x.within in
-      let deep : length rest - suc w ≡ length gap - suc (suc w) = omega (arith, long) in
-      let is = ap (λ g. node_at (take (suc w) g) n) s.path_is in
-      let step = ap (λ g. get_or g (suc w) 0) s.path_is in
-      inr (
-        suc w,
-        omega (arith, a),
-        (
-          omega (arith, within),
-          x.place (omega arith),
-          x.before (omega arith),
-          h.3
-              ∙ sym is,
-          subst (λ k. k < length (own_pairs found.0.now)) (sym step) h.4,
-          subst (λ k. IsLevelled k found.0.now) deep h.5,
-        ),
-      )
-
-  pub lowest_is : (gap : List ℕ) (n : Node K V Z) (best found : Bor (Node K V Z) × ℕ) → IsLowest gap n 0 best found
-      → length (before_gap gap n) < length (pairs_of n) → IsHolder gap n found.1 found.0.now
-  lowest_is gap n best found (inl (e, is)) k = absurd (omega (arith, e, k))
-  lowest_is gap n best found (inr (w, a, h)) k = let same : w ≡ found.1 = omega (arith, a) in subst (λ i. IsHolder gap n i found.0.now) same h
 
   pub own_small : (gap : List ℕ) (root : Node K V Z) (way : ℕ) (n : Node K V Z) → IsHolder gap root way n → get_or gap way 0 < capacity
   own_small gap root way n x = let k = x.4 in let f = level_size (length gap - suc way) n x.5 in omega (arith, k, f)
@@ -239,7 +192,7 @@ module _ {K V Z : Type 0} where
         gap_is = d.gap_is ∙ ap (λ p. p ++ zeros m) prefix ∙ append_assoc (take (suc level) gap) (0 ∷ []) (zeros m)
             ∙ ap (λ k. take (suc level) gap ++ zeros k) more;
         run_is = subst (λ k. IsPath (advanced (get_or gap level 0 ∷ zeros k) run) n) more
-        (le, subst (λ i. IsPath (advanced (i ∷ zeros m) run) c) first d.run_is);
+            (le, subst (λ i. IsPath (advanced (i ∷ zeros m) run) c) first d.run_is);
         run_all = λ k w. d.run_all k (subst (λ i. IsPath (advanced (i ∷ zeros m) k) c) (sym first)
             (subst (λ j. IsPath (advanced (get_or gap level 0 ∷ zeros j) k) n) (sym more) w).1);
       }

@@ -16,7 +16,3 @@ module _ {K V Z : Type 0} where
   -- The pair after a gap is a pair of the node that so many steps of the gap's path lead to.
   abbrev pub IsHolder : List ℕ → Node K V Z → ℕ → Node K V Z → Type 0
   IsHolder gap root way n = (way < length gap) × IsPlace (take (suc way) gap) root × (length (before_pair (take (suc way) gap) root) ≡ length (before_gap gap root)) × (n ≡ node_at (take way gap) root) × (slice_index gap way < length (own_pairs n)) × IsLevelled (length gap - suc way) n
-
-  -- No pair lies after a gap, and found is best; or found is the node of the pair after it, with its level, where the root has one.
-  abbrev pub IsLowest : List ℕ → Node K V Z → ℕ → Bor (Node K V Z) × ℕ → Bor (Node K V Z) × ℕ → Type 0
-  IsLowest gap root level best found = ((length (before_gap gap root) ≡ length (pairs_of root)) × (found ≡ best)) ⊎ ((way : ℕ) × (found.1 ≡ level + way) × IsHolder gap root way found.0.now)

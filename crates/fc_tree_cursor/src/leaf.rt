@@ -1,19 +1,17 @@
-//! Gaps of one leaf: how many pairs of it lie after one, its neighbours, and the way on to the next leaf.
+//! Steps from gap to gap where values are written: within a leaf, and on to the next one.
 //!
-//! A walk that keeps that number goes from pair to pair of a leaf without a look at the tree.
+//! A walk that keeps how many pairs of its leaf lie ahead goes from pair to pair there without a look at the tree.
 ghost use Rattle.std.specs.Prelude.{◌≡◌, ℕ, suc, ◌+◌, ◌-◌, ◌<◌, ◌≤◌, [], ◌∷◌, ◌++◌, length, slice_index, take};
-ghost use Rattle.fc_base.specs.Sizes.{most_levels};
 ghost use Rattle.fc_tree_node.specs.Node.{own_pairs, pairs_of, IsLevelled};
 ghost use Rattle.fc_tree_node.specs.Path.{IsPath, before_gap};
 ghost use Rattle.fc_tree_node.specs.Place.{IsPlace, before_pair};
 ghost use Rattle.fc_tree_cursor.specs.Gap.{zeros};
-ghost use Rattle.fc_tree_cursor.specs.Leaf.{advanced, IsLowest};
+ghost use Rattle.fc_tree_cursor.specs.Leaf.{advanced};
 
+use crate::run::lowest_with_next;
 use fc_base::Handle;
 use fc_tree_node::node::Node;
 use fc_tree_node::path::Path;
-
-use crate::run::lower;
 
 /// How many pairs of its leaf lie after a gap.
 pub fn pairs_after<K, V, A: Handle>(node: &Node<K, V, A>, gap: &[u8]) -> usize
@@ -42,27 +40,6 @@ pub fn advance(gap: &mut Path, count: usize)
     }
     let last = gap.len() - 1;
     gap.set(last, gap.step(last) + count);
-}
-
-// The lowest node on the way to a gap that has a pair after it, and its level; the best so far where there is none.
-fn lowest_with_next<'a, K, V, A: Handle>(
-    node: &'a Node<K, V, A>,
-    gap: &[u8],
-    level: usize,
-    best: (&'a Node<K, V, A>, usize),
-) -> (&'a Node<K, V, A>, usize)
-    requires some { 0 < length gap.now }
-    requires path { IsPath gap.now node.now }
-    requires levels { IsLevelled (length gap.now - 1) node.now }
-    requires fits { level + length gap.now ≤ most_levels }
-    ensures { IsLowest gap.now node.now level best.entry result }
-{
-    let step = gap[0] as usize;
-    let lowest = lower(best, (node, level), node.len() - step);
-    if gap.len() == 1 {
-        return lowest;
-    }
-    lowest_with_next(node.child(step), &gap[1..], level + 1, lowest)
 }
 
 // Goes down from a node at a level of a path, by the path's step there and then by first children, and answers how many pairs of the
@@ -100,11 +77,11 @@ pub fn pass_next<K, V, A: Handle>(root: &Node<K, V, A>, gap: &mut Path) -> (usiz
     ensures run { IsPath (advanced gap.new result.2) root.now }
     ensures all { (k : ℕ) → IsPath (advanced gap.new k) root.now → k ≤ result.2 }
 {
-    let (holder, last) = lowest_with_next(root, gap.as_slice(), 0, (root, 0));
-    let place = gap.step(last);
-    gap.set(last, place + 1);
-    let run = go_down(holder, gap, last);
-    (last, place, run)
+    let (holder, level) = lowest_with_next(root, gap);
+    let place = gap.step(level);
+    gap.set(level, place + 1);
+    let run = go_down(holder, gap, level);
+    (level, place, run)
 }
 
 /// Goes back to the gap before the pair before it in the leaf.

@@ -126,7 +126,7 @@ pub fn take_last_of<'a, K, V, A: Handle>(
 }
 
 // The other node and its level where it has pairs, or else the best so far.
-pub(crate) fn lower<'a, K, V, A: Handle>(
+fn lower<'a, K, V, A: Handle>(
     best: (&'a Node<K, V, A>, usize),
     other: (&'a Node<K, V, A>, usize),
     pairs: usize,
@@ -138,7 +138,7 @@ pub(crate) fn lower<'a, K, V, A: Handle>(
 }
 
 // The lowest node on the way to a gap that has a pair after it, and its level.
-fn lowest_with_next<'a, K, V, A: Handle>(
+pub(crate) fn lowest_with_next<'a, K, V, A: Handle>(
     root: &'a Node<K, V, A>,
     gap: &Path,
 ) -> (&'a Node<K, V, A>, usize)

@@ -1,19 +1,25 @@
 use Rattle.std.proofs.Common.{◌<◌, arith}
 use Rattle.fc_base.specs.Sizes.{capacity}
 use Rattle.fc_tree_cursor.specs.Leaf.{IsHolder}
-use Rattle.fc_tree_cursor.proofs.LeafFacts.{lowest_is, own_small, past}
+use Rattle.fc_tree_cursor.proofs.LeafFacts.{is_leaf_gap, is_holder, own_small, past}
 use Rattle.fc_tree_cursor.proofs.leaf.pass_next.Given as given
 use Rattle.fc_tree_cursor.proofs.leaf.pass_next.Goals as goal
 use Rattle.fc_tree_cursor.proofs.leaf.pass_next.Goals.{After-step-place}
 
+pub lowest_with_next-requires-clause-gap : goal.lowest_with_next-requires-clause-gap
+lowest_with_next-requires-clause-gap g c = is_leaf_gap c.args.gap.now c.args.root.now c.requires.levels c.requires.path c.requires.some
+
 holder : (g : given.Over) (c : After-step-place g)
-    → IsHolder c.args.gap.now c.args.root.now c.lowest_with_next-last.result.1 c.lowest_with_next-last.result.0.now
+    → IsHolder c.args.gap.now c.args.root.now c.lowest_with_next-level.result.1 c.lowest_with_next-level.result.0.now
 holder g c =
-    lowest_is c.args.gap.now c.args.root.now _ c.lowest_with_next-last.result (rw c.as_slice.ensures.value at c.lowest_with_next-last.ensures) c.requires.later
+    let gap = is_leaf_gap c.args.gap.now c.args.root.now c.requires.levels c.requires.path c.requires.some in
+    let e = c.lowest_with_next-level.ensures in
+    is_holder c.args.gap.now c.args.root.now c.lowest_with_next-level.result.0.now c.lowest_with_next-level.result.1 c.requires.levels gap
+    (record { way = e.way; own = e.own; before = e.before })
 
 small : (g : given.Over) (c : After-step-place g) → c.step-place.result < capacity
 small g c =
-    let found = c.lowest_with_next-last.result in
+    let found = c.lowest_with_next-level.result in
     let s = own_small c.args.gap.now c.args.root.now found.1 found.0.now (holder g c) in
     omega (arith, s, c.step-place.ensures)
 
@@ -25,7 +31,7 @@ set-requires-clause-small g c = omega (arith, small g (goal.at.set-requires-clau
 
 pub returns : goal.returns
 returns g c =
-    let found = c.lowest_with_next-last.result in
+    let found = c.lowest_with_next-level.result in
     let h = holder g (goal.at.returns g c).After-step-place in
     let e = c.go_down-run.ensures in
     let r = past c.args.gap.now c.set.new.self c.go_down-run.new.gap c.args.root.now found.0.now found.1 c.step-place.result c.go_down-run.result
