@@ -5,7 +5,8 @@ use Rattle.std.specs.Option.{option_map}
 use Rattle.std.specs.Cmp.Lexicographic.{pointwise, other_text}
 use Rattle.fc_base.specs.Sizes.{capacity}
 use Rattle.fc_tree_node.specs.declared.node.Node.{Node}
-use Rattle.fc_tree_node.specs.Node.{child_at, pairs_of, IsLevelled}
+use Rattle.fc_tree_node.specs.Node.{child_at, pairs_of, IsTree}
+use Rattle.fc_tree_node.specs.LeafGap.{IsLeafGap}
 use Rattle.fc_tree_node.specs.Path.{IsPath, before_gap, after_gap}
 use Rattle.fc_tree_node.specs.Place.{IsPlace, before_pair, after_pair}
 use Rattle.fc_tree_node.proofs.Gaps.{gap_pairs, place_pairs, take_item}
@@ -122,9 +123,8 @@ module _ {K V : Type 0} where
 
     -- a gap in the tree at the root, with a pair after it
     pub record IsOnTree (gap : List ℕ) (n : Node K V Z) : Type 0 where
-      pub some : 0 < length gap
-      pub way : IsPath gap n
-      pub levels : IsLevelled (length gap - 1) n
+      pub levels : IsTree n
+      pub slot : IsLeafGap gap n
       pub later : length (before_gap gap n) < length (pairs_of n)
 
     pub on_tree : (m : Map K V Z) (n : Node K V Z) (gap other : List ℕ) → m ≡ Some n → IsSoundMap m → IsGapIn m gap → IsGapIn m other
@@ -133,15 +133,10 @@ module _ {K V : Type 0} where
         let w = gap_within m other sound o in
         let later : length (before_gap_in m gap) < length (entries m) = omega (arith, w, k) in
         let s = subst IsSoundMap is sound in
-        let x = subst (λ o. IsGapIn o gap) is g in
-        let e = x.1 s.0 s.2.1 in
-        let h : s.0 ≡ length gap - 1 = omega arith in
         record {
-          some = omega arith;
-          way = x.0;
-          levels = subst (λ k. IsLevelled k n) h s.2.1;
-          later =
-              subst (λ o. length (before_gap_in o gap) < length (entries o)) is later;
+          levels = (s.0, s.1, s.2.1);
+          slot = subst (λ o. IsGapIn o gap) is g;
+          later = subst (λ o. length (before_gap_in o gap) < length (entries o)) is later;
         }
 
     -- past a pair at the root of the tree

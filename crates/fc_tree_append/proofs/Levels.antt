@@ -4,7 +4,8 @@ use Rattle.fc_tree_node.specs.declared.node.Node.{Node}
 use Rattle.fc_tree_node.specs.Node.{child_at, IsLeaf, IsLevelled}
 use Rattle.fc_tree_node.proofs.Formed.{leaf_or_inner}
 use Rattle.fc_tree_node.proofs.Pairs.{child_below}
-use Rattle.fc_tree_split.proofs.Heights.{height_of, levelled_height}
+use Rattle.fc_tree_node.specs.Measures.{height_of}
+use Rattle.fc_tree_node.proofs.MeasureFacts.{levelled_height}
 
 module _ {K V Z : Type 0} where
   pub leaf_height : (h : ℕ) (n : Node K V Z) → IsLeaf n → IsLevelled h n → 0 ≡ h

@@ -132,13 +132,10 @@ module _ {K V Z : Type 0} where
       let r = near h root gap k l (omega arith) w.0 in
       record { start = (r.0, λ j o. sym long ∙ w.1 j o); place = r.1; before = r.2; slot = (r.3, λ j o. on_length gap 1 ∙ sym long ∙ w.1 j o); count = r.4 }
 
-  pub is_leaf_gap : (gap : List ℕ) (root : Node K V Z) → IsLevelled (length gap - 1) root → IsPath gap root → 0 < length gap → IsLeafGap gap root
-  is_leaf_gap gap root l p some = (p, λ h k. omega (arith, one_height h (length gap - 1) root k l))
-
   -- the node of the pair after a gap
-  pub is_holder : (gap : List ℕ) (root n : Node K V Z) (level : ℕ) → IsLevelled (length gap - 1) root → IsLeafGap gap root
+  pub is_holder : (gap : List ℕ) (root n : Node K V Z) (h level : ℕ) → IsLevelled h root → IsLeafGap gap root
       → IsNextAt gap root n level (length (before_gap gap root)) → IsHolder gap root level n
-  is_holder gap root n level l g x =
+  is_holder gap root n h level l g x =
       let s = take level gap in
       let i = get_or gap level 0 in
       let w = x.way in
@@ -153,7 +150,7 @@ module _ {K V Z : Type 0} where
         ap (λ q. length (before_pair q root)) here ∙ ap length (before_own_more s i root) ∙ omega (arith, a, o, b),
         w.2,
         x.own,
-        subst (λ k. IsLevelled k n) deep (way_levels gap (length gap - 1) level root n l g w),
+        subst (λ k. IsLevelled k n) deep (way_levels gap h level root n l g w),
       )
 
   pub own_small : (gap : List ℕ) (root : Node K V Z) (way : ℕ) (n : Node K V Z) → IsHolder gap root way n → get_or gap way 0 < capacity

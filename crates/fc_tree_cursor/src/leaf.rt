@@ -2,7 +2,8 @@
 //!
 //! A walk that keeps how many pairs of its leaf lie ahead goes from pair to pair there without a look at the tree.
 ghost use Rattle.std.specs.Prelude.{◌≡◌, ℕ, suc, ◌+◌, ◌-◌, ◌<◌, ◌≤◌, [], ◌∷◌, ◌++◌, length, slice_index, take};
-ghost use Rattle.fc_tree_node.specs.Node.{own_pairs, pairs_of, IsLevelled};
+ghost use Rattle.fc_tree_node.specs.Node.{own_pairs, pairs_of, IsLevelled, IsTree};
+ghost use Rattle.fc_tree_node.specs.LeafGap.{IsLeafGap};
 ghost use Rattle.fc_tree_node.specs.Path.{IsPath, before_gap};
 ghost use Rattle.fc_tree_node.specs.Place.{IsPlace, before_pair};
 ghost use Rattle.fc_tree_cursor.specs.Gap.{zeros};
@@ -65,9 +66,8 @@ fn go_down<K, V, A: Handle>(node: &Node<K, V, A>, gap: &mut Path, level: usize) 
 /// the leaf lie after the gap where the path then leads.
 #[inline]
 pub fn pass_next<K, V, A: Handle>(root: &Node<K, V, A>, gap: &mut Path) -> (usize, usize, usize)
-    requires some { 0 < length gap.old }
-    requires path { IsPath gap.old root.now }
-    requires levels { IsLevelled (length gap.old - 1) root.now }
+    requires levels { IsTree root.now }
+    requires gap { IsLeafGap gap.old root.now }
     requires later { length (before_gap gap.old root.now) < length (pairs_of root.now) }
     ensures way { result.0 < length gap.old }
     ensures own { result.1 ≡ slice_index gap.old result.0 }

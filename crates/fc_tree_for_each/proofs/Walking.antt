@@ -8,7 +8,8 @@ use Rattle.fc_tree_node.specs.Node.{own_pairs, children_of, child_at, pairs_of, 
 use Rattle.fc_tree_node.specs.Path.{before_gap, after_gap}
 use Rattle.fc_tree_node.specs.Place.{before_child, after_child, before_own}
 use Rattle.fc_tree_search.specs.Written.{with_value, with_child}
-use Rattle.fc_tree_search.proofs.Nodes.{nodes_of, fewer_nodes}
+use Rattle.fc_tree_node.specs.Measures.{nodes_of}
+use Rattle.fc_tree_node.proofs.MeasureFacts.{fewer_nodes}
 use Rattle.fc_tree_node.proofs.Formed.{leaf_or_inner, one_height}
 use Rattle.fc_tree_node.proofs.Pairs.{IsBelow, child_below}
 use Rattle.fc_tree_node.proofs.Lent.{replaced, replaced_levels}

@@ -1,5 +1,6 @@
 pub mod Weave
 pub mod Node
+pub mod Measures
 pub mod Tree
 pub mod TreePlace
 pub mod Path

@@ -11,7 +11,8 @@ use Rattle.fc_tree_node.proofs.Formed.{leaf_or_inner}
 use Rattle.fc_tree_node.proofs.Pairs.{leaf_children}
 use Rattle.fc_tree_node.proofs.Lists.{all_at, all_each}
 use Rattle.fc_tree_node.proofs.Lent.{IsAbove, above, IsLent, lent, lent_is}
-use Rattle.fc_tree_split.proofs.Heights.{above_first, height_of, height_is, no_children, first_all, levelled_height}
+use Rattle.fc_tree_node.specs.Measures.{above_first, height_of}
+use Rattle.fc_tree_node.proofs.MeasureFacts.{height_is, no_children, first_all, levelled_height}
 use Rattle.fc_tree_retain.specs.Loose.{IsLoose}
 use Rattle.fc_tree_retain.specs.Rebalancing.{IsThin, IsSeam}
 

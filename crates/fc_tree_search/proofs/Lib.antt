@@ -1,7 +1,6 @@
 pub mod Ordered
 pub mod SearchFacts
 pub mod PassedFacts
-pub mod Nodes
 pub mod SearchSteps
 pub mod WrittenFacts
 pub mod WrittenPairs

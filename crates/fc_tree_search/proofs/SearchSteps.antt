@@ -9,7 +9,8 @@ use Rattle.fc_tree_search.specs.Found.{IsFoundAt, IsGapAt}
 use Rattle.fc_tree_search.specs.Passed.{passed}
 use Rattle.fc_tree_search.proofs.SearchFacts.{IsSearch, child_there, way_levels, way_ascending, way_more}
 use Rattle.fc_tree_search.proofs.PassedFacts.{passed_found, passed_down, passed_leaf}
-use Rattle.fc_tree_search.proofs.Nodes.{nodes_of, fewer_nodes}
+use Rattle.fc_tree_node.specs.Measures.{nodes_of}
+use Rattle.fc_tree_node.proofs.MeasureFacts.{fewer_nodes}
 
 -- a search goes on from a gap of the node in the child there
 pub record GoesOn {K Q V Z : Type 0} (own : K → K → Ordering) (cmp : K → Q → Ordering) (k : Q) (root node child : Node K V Z) (path : List ℕ)

@@ -5,7 +5,8 @@ use Rattle.fc_tree_node.specs.Weave.{weave, after_list}
 use Rattle.fc_tree_node.specs.declared.node.Node.{Node}
 use Rattle.fc_tree_node.specs.Node.{own_pairs, children_of, child_at, pairs_of, IsLevelled}
 use Rattle.fc_tree_node.proofs.Gaps.{step_levels}
-use Rattle.fc_tree_split.proofs.Heights.{height_of, levelled_height}
+use Rattle.fc_tree_node.specs.Measures.{height_of}
+use Rattle.fc_tree_node.proofs.MeasureFacts.{levelled_height}
 use Rattle.fc_tree_node.proofs.Pairs.{pairs_is, leaf_pairs, leaf_children}
 
 module _ {X : Type 0} where

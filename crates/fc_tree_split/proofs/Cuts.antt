@@ -21,7 +21,8 @@ use Rattle.fc_tree_node.proofs.PathSteps.{one_step, more_steps}
 use Rattle.fc_tree_node.proofs.Siblings.{around_one}
 use Rattle.fc_tree_split.specs.Cut.{IsBlank, IsCutPath, IsCutInTwo}
 use Rattle.fc_tree_node.proofs.Formed.{leaf_or_inner}
-use Rattle.fc_tree_split.proofs.Heights.{height_of, levelled_height}
+use Rattle.fc_tree_node.specs.Measures.{height_of}
+use Rattle.fc_tree_node.proofs.MeasureFacts.{levelled_height}
 use Rattle.fc_tree_split.proofs.Borders.{leaf_alike, inner_alike, first_join, border_closed, child_here, levelled_bordered}
 use Rattle.fc_tree_split.specs.declared.rebalancing.Border.TheVariants.{Left, Right}
 

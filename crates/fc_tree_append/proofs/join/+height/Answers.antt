@@ -1,7 +1,7 @@
 use Rattle.std.proofs.Common.{◌<◌, rules, ap, sym, subst, arith}
 use Rattle.std.proofs.lemmas.Bool.{false≢true}
 use Rattle.fc_tree_node.specs.Node.{IsLevelled}
-use Rattle.fc_tree_split.proofs.Heights.{height_of}
+use Rattle.fc_tree_node.specs.Measures.{height_of}
 use Rattle.fc_tree_append.proofs.Levels.{leaf_height, first_below}
 use Rattle.fc_tree_append.proofs.join.+height.Goals as goal
 

@@ -1,5 +1,5 @@
 use Rattle.std.proofs.Common.{rules, arith}
-use Rattle.fc_tree_search.proofs.Nodes.{fewer_nodes}
+use Rattle.fc_tree_node.proofs.MeasureFacts.{fewer_nodes}
 use Rattle.std.proofs.lemmas.Result.{err_from_is_err_and}
 use Rattle.fc_base.specs.Copies.{MayRefusePair}
 use Rattle.fc_tree_copy.specs.Copy.{AreSame}

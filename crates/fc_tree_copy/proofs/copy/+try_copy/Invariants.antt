@@ -1,6 +1,6 @@
 use Rattle.std.proofs.Common.{◌≡◌, length}
 use Rattle.fc_tree_node.specs.Node.{children_of}
-use Rattle.fc_tree_search.proofs.Nodes.{nodes_of}
+use Rattle.fc_tree_node.specs.Measures.{nodes_of}
 use Rattle.fc_tree_copy.specs.Copy.{AreSame, IsCopyUpTo}
 use Rattle.fc_tree_copy.proofs.copy.+try_copy.Given as goal
 

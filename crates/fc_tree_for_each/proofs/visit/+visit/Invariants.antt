@@ -1,4 +1,4 @@
-use Rattle.fc_tree_search.proofs.Nodes.{nodes_of}
+use Rattle.fc_tree_node.specs.Measures.{nodes_of}
 use Rattle.fc_tree_for_each.specs.Visits.{CalledAtPair}
 use Rattle.fc_tree_for_each.proofs.Walking.{IsAt}
 use Rattle.fc_tree_for_each.proofs.visit.+visit.Given as goal

@@ -2,7 +2,7 @@ use Rattle.std.proofs.Common.{◌≡◌, ℕ, suc, ◌+◌, ◌-◌, ◌<◌, ru
 use Rattle.std.proofs.lemmas.Bool.{false≢true}
 use Rattle.fc_tree_node.specs.declared.node.Node.{Node}
 use Rattle.fc_tree_node.proofs.Lent.{IsLent, IsReplaced, replaced}
-use Rattle.fc_tree_split.proofs.Heights.{height_of}
+use Rattle.fc_tree_node.specs.Measures.{height_of}
 use Rattle.fc_tree_retain.specs.Loose.{IsLoose}
 use Rattle.fc_tree_retain.specs.Filtered.{FiltersPair}
 use Rattle.fc_tree_retain.proofs.Levels.{loose_above, loose_height, loose_lent, lent_falls}
@@ -57,7 +57,7 @@ loop-preserved g t c =
     record {
       callable = c.filter_between-at.ensures.callable;
       at = filtering_more R c.args.filter.now c.loop.filter c.filter_subtree.new.filter c.filter_between-at.new.filter c.args.node.now c.loop.node _
-      c.filter_between-at.new.node
+          c.filter_between-at.new.node
           c.child_in.result.now c.filter_subtree.new.node c.loop.at (c.len-end.result - c.loop.counter) (c.len-end.result - (c.loop.counter + 1))
           c.filter_between-at.result c.loop.invariant.at (omega arith) l.is (replaced c.loop.node c.loop.at c.filter_subtree.new.node)
           c.filter_subtree.ensures.filtered c.filter_subtree.ensures.loose c.filter_between-at.ensures.passed;

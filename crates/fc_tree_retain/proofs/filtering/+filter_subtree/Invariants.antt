@@ -1,5 +1,5 @@
 use Rattle.std.proofs.Common.{◌-◌}
-use Rattle.fc_tree_split.proofs.Heights.{height_of}
+use Rattle.fc_tree_node.specs.Measures.{height_of}
 use Rattle.fc_tree_retain.specs.Filtered.{FiltersPair}
 use Rattle.fc_tree_retain.proofs.Passing.{IsFiltering}
 use Rattle.fc_tree_retain.proofs.filtering.+filter_subtree.Given as goal

@@ -4,7 +4,7 @@ use Rattle.fc_tree_node.specs.declared.node.Node.{Node}
 use Rattle.fc_tree_search.specs.Written.{with_child}
 use Rattle.fc_tree_node.proofs.Lent.{replaced, lent_is}
 use Rattle.fc_tree_removal.proofs.Removed.{last_taken}
-use Rattle.fc_tree_split.proofs.Heights.{height_of}
+use Rattle.fc_tree_node.specs.Measures.{height_of}
 use Rattle.fc_tree_retain.proofs.Levels.{loose_above, loose_height, loose_lent, lent_falls, leaf_fewer}
 use Rattle.fc_tree_retain.proofs.Passing.{IsLastLent, last_left, last_below, none_below, empty_last, last_loose}
 use Rattle.fc_tree_retain.proofs.filtering.+take_last.Given as given

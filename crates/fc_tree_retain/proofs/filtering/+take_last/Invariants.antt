@@ -1,4 +1,4 @@
-use Rattle.fc_tree_split.proofs.Heights.{height_of}
+use Rattle.fc_tree_node.specs.Measures.{height_of}
 use Rattle.fc_tree_retain.proofs.filtering.+take_last.Given as goal
 
 abbrev pub decreases-take_last : goal.decreases-take_last

@@ -2,7 +2,7 @@ use Rattle.std.proofs.Common.{◌≡◌, ℕ, suc, ◌+◌, ◌-◌, ◌<◌, sy
 use Rattle.std.proofs.lemmas.Bool.{false≢true}
 use Rattle.fc_tree_node.specs.Node.{child_at}
 use Rattle.fc_tree_node.proofs.Lent.{IsAbove, replaced, lent_is}
-use Rattle.fc_tree_split.proofs.Heights.{height_of}
+use Rattle.fc_tree_node.specs.Measures.{height_of}
 use Rattle.fc_tree_retain.specs.Loose.{IsLoose}
 use Rattle.fc_tree_retain.specs.Rebalancing.{IsThin}
 use Rattle.fc_tree_retain.proofs.Levels.{loose_above, loose_height}

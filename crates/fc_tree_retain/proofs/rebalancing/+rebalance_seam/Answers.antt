@@ -2,7 +2,7 @@ use Rattle.std.proofs.Common.{ℕ, suc, ◌<◌, ◌≤◌, length, sym, ap, sub
 use Rattle.std.proofs.lemmas.Bool.{false≢true}
 use Rattle.fc_tree_node.specs.Node.{own_pairs, child_at, pairs_of, IsLeaf}
 use Rattle.fc_tree_node.proofs.Lent.{replaced_same, replaced}
-use Rattle.fc_tree_split.proofs.Heights.{height_of}
+use Rattle.fc_tree_node.specs.Measures.{height_of}
 use Rattle.fc_tree_retain.specs.Rebalancing.{IsSeam}
 use Rattle.fc_tree_retain.proofs.Levels.{seam_height}
 use Rattle.fc_tree_retain.proofs.Settling.{IsMetLeft, whole_seam_rebalanced, IsMetLent, met_lent, met_left, joined_seam_rebalanced}

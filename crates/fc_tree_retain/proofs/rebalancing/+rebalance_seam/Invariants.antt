@@ -1,4 +1,4 @@
-use Rattle.fc_tree_split.proofs.Heights.{height_of}
+use Rattle.fc_tree_node.specs.Measures.{height_of}
 use Rattle.fc_tree_retain.proofs.rebalancing.+rebalance_seam.Given as goal
 
 abbrev pub decreases-rebalance_seam : goal.decreases-rebalance_seam

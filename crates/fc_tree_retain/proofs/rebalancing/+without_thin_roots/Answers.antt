@@ -1,5 +1,5 @@
 use Rattle.std.proofs.Common.{◌<◌, rules, arith, sym, ◌∙◌}
-use Rattle.fc_tree_split.proofs.Heights.{height_of}
+use Rattle.fc_tree_node.specs.Measures.{height_of}
 use Rattle.fc_tree_split.proofs.Rebalanced.{within_more, only_pairs}
 use Rattle.fc_tree_removal.proofs.Removed.{empty_leaf}
 use Rattle.fc_tree_retain.proofs.Levels.{thin_formed, thin_height, thin_levelled, thin_heir}

@@ -5,7 +5,8 @@ use Rattle.fc_tree_search.specs.Written.{with_child}
 use Rattle.fc_tree_node.specs.Node.{own_pairs, child_at, IsInner, IsLeaf, IsLevelled}
 use Rattle.fc_tree_node.proofs.Lent.{IsReplaced, replaced, lent_is}
 use Rattle.fc_tree_removal.proofs.Removed.{none_leaf}
-use Rattle.fc_tree_split.proofs.Heights.{height_of, levelled_height}
+use Rattle.fc_tree_node.specs.Measures.{height_of}
+use Rattle.fc_tree_node.proofs.MeasureFacts.{levelled_height}
 use Rattle.fc_tree_retain.specs.Rebalancing.{IsThin}
 use Rattle.fc_tree_retain.specs.Filtered.{FiltersPair}
 use Rattle.fc_tree_retain.specs.Stretch.{AreInOrder, IsEnd, IsStretchFiltered}

@@ -1,5 +1,5 @@
 use Rattle.std.proofs.Common.{◌≤◌}
-use Rattle.fc_tree_split.proofs.Heights.{height_of}
+use Rattle.fc_tree_node.specs.Measures.{height_of}
 use Rattle.fc_tree_retain.specs.Filtered.{FiltersPair}
 use Rattle.fc_tree_retain.proofs.Stretching.{IsStretching}
 use Rattle.fc_tree_retain.proofs.within.+filter_within.Given as goal

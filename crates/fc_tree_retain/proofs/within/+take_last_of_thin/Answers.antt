@@ -5,7 +5,7 @@ use Rattle.fc_tree_search.specs.Written.{with_child}
 use Rattle.fc_tree_node.specs.Node.{child_at, IsInner}
 use Rattle.fc_tree_node.proofs.Lent.{replaced, lent_is}
 use Rattle.fc_tree_removal.proofs.Removed.{empty_leaf}
-use Rattle.fc_tree_split.proofs.Heights.{height_of}
+use Rattle.fc_tree_node.specs.Measures.{height_of}
 use Rattle.fc_tree_retain.specs.Rebalancing.{IsThin}
 use Rattle.fc_tree_retain.proofs.Levels.{IsThinHeir, thin_first, thin_height, thin_shrunk}
 use Rattle.fc_tree_retain.proofs.Passing.{IsLastLent, last_below, none_below, last_thin, if_none}

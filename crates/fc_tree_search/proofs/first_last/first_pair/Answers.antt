@@ -1,5 +1,5 @@
 use Rattle.std.proofs.Common.{refl, arith}
-use Rattle.fc_tree_search.proofs.Nodes.{fewer_nodes}
+use Rattle.fc_tree_node.proofs.MeasureFacts.{fewer_nodes}
 use Rattle.fc_tree_search.proofs.EndFacts.{child_of, first_start, first_down, first_found}
 use Rattle.fc_tree_search.proofs.first_last.first_pair.Goals as goal
 

@@ -1,5 +1,5 @@
 use Rattle.fc_tree_search.proofs.EndFacts.{IsLast}
-use Rattle.fc_tree_search.proofs.Nodes.{nodes_of}
+use Rattle.fc_tree_node.specs.Measures.{nodes_of}
 use Rattle.fc_tree_search.proofs.first_last.last_pair.Given as goal
 
 abbrev pub invariant-down : goal.invariant-down

@@ -4,7 +4,7 @@ use Rattle.fc_tree_node.specs.Path.{after_gap}
 use Rattle.fc_tree_search.specs.Neighbours.{first_item}
 use Rattle.fc_tree_search.specs.Passed.{passed}
 use Rattle.fc_tree_search.proofs.SearchFacts.{IsOnWay}
-use Rattle.fc_tree_search.proofs.Nodes.{nodes_of}
+use Rattle.fc_tree_node.specs.Measures.{nodes_of}
 use Rattle.fc_tree_search.proofs.neighbours.first_behind.Given as goal
 
 abbrev pub invariant-down : goal.invariant-down

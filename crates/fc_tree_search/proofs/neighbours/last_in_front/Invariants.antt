@@ -4,7 +4,7 @@ use Rattle.fc_tree_node.specs.Path.{before_gap}
 use Rattle.fc_tree_search.specs.Neighbours.{last_item}
 use Rattle.fc_tree_search.specs.Passed.{passed}
 use Rattle.fc_tree_search.proofs.SearchFacts.{IsOnWay}
-use Rattle.fc_tree_search.proofs.Nodes.{nodes_of}
+use Rattle.fc_tree_node.specs.Measures.{nodes_of}
 use Rattle.fc_tree_search.proofs.neighbours.last_in_front.Given as goal
 
 abbrev pub invariant-down : goal.invariant-down

@@ -1,7 +1,7 @@
 use Rattle.std.proofs.Common.{◌≡◌, ℕ, ◌+◌, List}
 use Rattle.fc_tree_search.specs.Passed.{passed}
 use Rattle.fc_tree_search.proofs.SearchFacts.{IsOnWay}
-use Rattle.fc_tree_search.proofs.Nodes.{nodes_of}
+use Rattle.fc_tree_node.specs.Measures.{nodes_of}
 use Rattle.fc_tree_search.proofs.search.get.Given as goal
 
 abbrev pub invariant-down : goal.invariant-down

@@ -1,6 +1,6 @@
 use Rattle.std.proofs.Common.{ℕ, ◌<◌, length, rules, ap, sym, subst, arith}
 use Rattle.fc_tree_node.specs.Node.{pairs_of, children_of, IsLevelled}
-use Rattle.fc_tree_split.proofs.Heights.{height_of}
+use Rattle.fc_tree_node.specs.Measures.{height_of}
 use Rattle.fc_tree_split.proofs.Counts.{IsNext, counted, counted_all, next_child}
 use Rattle.fc_tree_split.proofs.counting.+count_pairs.Given as given
 use Rattle.fc_tree_split.proofs.counting.+count_pairs.Goals as goal

@@ -1,6 +1,6 @@
 use Rattle.std.proofs.Common.{◌≡◌, ◌+◌, length, take}
 use Rattle.fc_tree_node.specs.Node.{own_pairs, children_of}
-use Rattle.fc_tree_split.proofs.Heights.{height_of}
+use Rattle.fc_tree_node.specs.Measures.{height_of}
 use Rattle.fc_tree_split.proofs.Counts.{pairs_in}
 use Rattle.fc_tree_split.proofs.counting.+count_pairs.Given as goal
 

@@ -7,7 +7,7 @@ use Rattle.fc_tree_node.proofs.PathSteps.{more_steps}
 use Rattle.fc_tree_node.proofs.Lent.{replaced}
 use Rattle.fc_tree_node.proofs.Formed.{alike_both, alike_back}
 use Rattle.fc_tree_split.specs.Cut.{IsBlank}
-use Rattle.fc_tree_split.proofs.Heights.{levelled_height}
+use Rattle.fc_tree_node.proofs.MeasureFacts.{levelled_height}
 use Rattle.fc_tree_split.proofs.Cuts.{IsForked, forked, IsForkedOn, forked_on, end_front, end_back, end_front_levels, end_back_levels, fork_front, fork_back}
 use Rattle.fc_tree_split.proofs.Cuts.{fork_front_levels, fork_back_levels}
 use Rattle.fc_tree_split.proofs.cutting.+cut_into.Given as given

@@ -1,7 +1,7 @@
 use Rattle.std.proofs.Common.{◌<◌, rules, ap, sym, subst, arith}
 use Rattle.std.proofs.lemmas.Bool.{false≢true}
 use Rattle.fc_tree_node.specs.Node.{IsLevelled}
-use Rattle.fc_tree_split.proofs.Heights.{height_of}
+use Rattle.fc_tree_node.specs.Measures.{height_of}
 use Rattle.fc_tree_split.proofs.Cuts.{blank_made, blank_above, first_child}
 use Rattle.fc_tree_split.proofs.cutting.+try_border.Goals as goal
 

@@ -1,4 +1,4 @@
-use Rattle.fc_tree_split.proofs.Heights.{height_of}
+use Rattle.fc_tree_node.specs.Measures.{height_of}
 use Rattle.fc_tree_split.proofs.cutting.+try_border.Given as goal
 
 abbrev pub decreases-try_border : goal.decreases-try_border

@@ -1,5 +1,6 @@
 use Rattle.std.proofs.Common.{◌<◌, rules, arith, ◌∙◌}
-use Rattle.fc_tree_split.proofs.Heights.{height_of, bordered_height}
+use Rattle.fc_tree_node.specs.Measures.{height_of}
+use Rattle.fc_tree_split.proofs.Heights.{bordered_height}
 use Rattle.fc_tree_split.proofs.Rebalanced.{bordered_formed, levelled_formed, only_pairs, heir_pairs, heir_levels, within_more, heir_bordered}
 use Rattle.fc_tree_split.proofs.rebalancing.+rebalance.Goals as goal
 

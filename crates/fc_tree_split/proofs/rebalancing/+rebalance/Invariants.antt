@@ -1,4 +1,4 @@
-use Rattle.fc_tree_split.proofs.Heights.{height_of}
+use Rattle.fc_tree_node.specs.Measures.{height_of}
 use Rattle.fc_tree_split.proofs.rebalancing.+rebalance.Given as goal
 
 abbrev pub decreases-rebalance : goal.decreases-rebalance

@@ -4,7 +4,8 @@ use Rattle.fc_tree_node.proofs.Lent.{IsAbove, IsLent, replaced, replaced_same}
 use Rattle.fc_tree_node.specs.Node.{pairs_of}
 use Rattle.fc_tree_split.specs.Border.{IsBordered}
 use Rattle.fc_tree_split.proofs.Borders.{border_opened}
-use Rattle.fc_tree_split.proofs.Heights.{height_of, bordered_height}
+use Rattle.fc_tree_node.specs.Measures.{height_of}
+use Rattle.fc_tree_split.proofs.Heights.{bordered_height}
 use Rattle.fc_tree_split.proofs.Rebalanced.{above_leaf, HasSparePairAbove, IsSpare, with_spare_lent, rebalanced_levels}
 use Rattle.fc_tree_split.proofs.rebalancing.+rebalance_below.Given as given
 use Rattle.fc_tree_split.proofs.rebalancing.+rebalance_below.Goals as goal

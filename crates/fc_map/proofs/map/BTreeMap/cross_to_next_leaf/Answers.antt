@@ -24,7 +24,7 @@ pass_next-last-requires g c =
     let o = c.requires.some in
     let later = subst (λ p. length (before_gap_in m p) < length (before_gap_in m o.0)) (sym c.advance.ensures) o.2 in
     let t = on_tree m n q o.0 is sound slot o.1 later in
-    record { some = t.some; path = t.way; levels = t.levels; later = t.later }
+    record { levels = t.levels; gap = t.slot; later = t.later }
 
 pub returns : goal.returns
 returns g c =

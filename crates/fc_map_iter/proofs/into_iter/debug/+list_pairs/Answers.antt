@@ -1,5 +1,6 @@
 use Rattle.std.proofs.Common.{◌<◌, arith, rules}
-use Rattle.fc_tree_search.proofs.Nodes.{nodes_of, fewer_nodes}
+use Rattle.fc_tree_node.specs.Measures.{nodes_of}
+use Rattle.fc_tree_node.proofs.MeasureFacts.{fewer_nodes}
 use Rattle.fc_map_iter.proofs.into_iter.debug.+list_pairs.Goals as goal
 
 pub list_pairs-requires : goal.list_pairs-requires

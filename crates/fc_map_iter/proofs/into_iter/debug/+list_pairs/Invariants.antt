@@ -1,6 +1,6 @@
 use Rattle.std.proofs.Common.{◌≡◌, ◌+◌, length}
 use Rattle.fc_tree_node.specs.Node.{own_pairs}
-use Rattle.fc_tree_search.proofs.Nodes.{nodes_of}
+use Rattle.fc_tree_node.specs.Measures.{nodes_of}
 use Rattle.fc_map_iter.proofs.into_iter.debug.+list_pairs.Given as goal
 
 abbrev pub decreases-list_pairs : goal.decreases-list_pairs
